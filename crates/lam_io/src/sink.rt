@@ -1,0 +1,26 @@
+// What takes pieces of text.
+ghost use Rattle.std.specs.Prelude.{◌≡◌, ℕ, ◌≤◌, Option, [], IsOk, OnOk, OnErr};
+ghost use Rattle.lam_io.specs.Io.{Bytes, Appends, AppendsPrefix, Rose};
+
+/// A put failed: the sink counted a fault in this call, and took a front of the piece.
+#[derive(Clone, Copy, Debug, PartialEq, Eq)]
+pub struct PutFault;
+
+/// Takes pieces of text, one after another.
+pub trait Sink {
+    // The bytes put so far, where the sink tells them.
+    ghost told: { Self → Option Bytes };
+
+    // How often a fault was met so far. It stands still at 2 ^ 64 - 1.
+    ghost faults: { Self → ℕ };
+
+    /// Appends the piece. At a fault a front of it was appended. An empty piece is no put: the
+    /// sink answers `Ok` and does nothing.
+    fn put(&mut self, piece: &[u8]) -> Result<(), PutFault>
+        ensures ok { OnOk result (Appends (told self.old) (told self.new) piece.now) }
+        ensures err { OnErr result (AppendsPrefix (told self.old) (told self.new) piece.now) }
+        ensures fault { OnErr result (Rose (faults self.old) (faults self.new)) }
+        ensures counts { faults self.old ≤ faults self.new }
+        ensures empty { piece.now ≡ [] →
+            IsOk result × (told self.new ≡ told self.old) × (faults self.new ≡ faults self.old) };
+}
