@@ -1,0 +1,67 @@
+//! Lists as fields: an own type over a `Vec`, which contracts see as the list of its elements, so that a struct or
+//! an enum with such a field is compared by what its lists hold and not by where they lie in memory. What the layer
+//! above uses: the list stays, from `from_vec` through `as_slice` to `into_vec`. No call takes memory or refuses.
+#![tactic(auto)]
+
+ghost use Rattle.std.specs.Prelude.{◌≡◌};
+
+use std::marker::Model;
+
+/// A list of elements, made from a `Vec` and given back as one.
+#[derive(Debug, Drop)]
+pub struct Seq<T> {
+    elements: Vec<T>,
+}
+
+impl<T> Model for Seq<T> {
+    ghost use Rattle.std.specs.Prelude.{List};
+
+    ghost Value = { List T };
+
+    ghost view = { λ s. s.elements.items };
+}
+
+impl<T> Seq<T> {
+    /// The list of the elements of `elements`.
+    pub fn from_vec(elements: Vec<T>) -> Seq<T>
+        ensures { result ≡ elements.items }
+    {
+        Seq { elements }
+    }
+
+    /// Gives the elements back.
+    pub fn into_vec(self) -> Vec<T>
+        ensures { result.items ≡ self }
+    {
+        let Seq { elements } = self;
+        elements
+    }
+
+    /// Lends the elements.
+    pub fn as_slice(&self) -> &[T]
+        ensures { result.now ≡ self.now }
+    {
+        self.elements.as_slice()
+    }
+}
+
+#[cfg(test)]
+mod tests {
+    use super::*;
+    use std::test::Fail;
+
+    fn crosses_threads<T: Send + Sync>(_value: &T) {}
+
+    #[test]
+    fn the_elements_stay_in_order(rt: HostRuntime) -> Result<(), Fail> {
+        let list = Seq::from_vec([3u8, 1, 2].to_vec(rt.alloc())?);
+        assert_eq!(rt; list.as_slice(), [3, 1, 2].as_slice());
+        assert_eq!(rt; list.into_vec().as_slice(), [3, 1, 2].as_slice());
+        Ok(())
+    }
+
+    #[test]
+    fn a_list_may_cross_and_be_shared_between_threads(rt: HostRuntime) {
+        crosses_threads(&Seq::from_vec(Vec::<u64>::new(rt.alloc())));
+    }
+}
