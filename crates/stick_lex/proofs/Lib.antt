@@ -1,0 +1,3 @@
+pub mod Words
+pub mod Loop
+pub mod Slices
