@@ -1,0 +1,63 @@
+-- What the numbers of a technology meet, fact by fact.
+use Rattle.std.specs.Prelude.{◌≡◌, ℤ, pos, ◌+ℤ◌, ◌*ℤ◌, ◌≤ℤ◌, ◌<ℤ◌, int_div}
+use Rattle.rule_table.specs.Spacing.{pad_in}
+use Rattle.rule_table.specs.declared.keys.Numbers.{Numbers}
+
+-- a number from 0 to 4096
+abbrev pub IsLength : ℤ → Type 0
+IsLength z = (pos 0 ≤ℤ z) × (z ≤ℤ pos 4096)
+
+-- an even number from 2 to 4096: twice its half
+pub record IsSize (z : ℤ) : Type 0 where
+  pub low : pos 2 ≤ℤ z
+  pub high : z ≤ℤ pos 4096
+  pub even : (pos 2 *ℤ int_div z (pos 2)) ≡ z
+
+-- each number is from 0 to 4096
+pub record IsInRange (n : Numbers) : Type 0 where
+  pub version : IsLength n.version
+  pub unit : IsLength n.unit
+  pub width_diffusion : IsLength n.width_diffusion
+  pub width_poly : IsLength n.width_poly
+  pub width_metal : IsLength n.width_metal
+  pub spacing_diffusion : IsLength n.spacing_diffusion
+  pub spacing_poly : IsLength n.spacing_poly
+  pub spacing_metal : IsLength n.spacing_metal
+  pub spacing_poly_diffusion : IsLength n.spacing_poly_diffusion
+  pub spacing_cut : IsLength n.spacing_cut
+  pub spacing_cut_channel : IsLength n.spacing_cut_channel
+  pub spacing_implant_channel : IsLength n.spacing_implant_channel
+  pub extension_poly : IsLength n.extension_poly
+  pub extension_diffusion : IsLength n.extension_diffusion
+  pub extension_implant : IsLength n.extension_implant
+  pub cut_size : IsLength n.cut_size
+  pub cut_enclosure : IsLength n.cut_enclosure
+
+-- each spacing is at least 1
+pub record HasSpacings (n : Numbers) : Type 0 where
+  pub diffusion : pos 1 ≤ℤ n.spacing_diffusion
+  pub poly : pos 1 ≤ℤ n.spacing_poly
+  pub metal : pos 1 ≤ℤ n.spacing_metal
+  pub poly_diffusion : pos 1 ≤ℤ n.spacing_poly_diffusion
+  pub cut : pos 1 ≤ℤ n.spacing_cut
+  pub cut_channel : pos 1 ≤ℤ n.spacing_cut_channel
+  pub implant_channel : pos 1 ≤ℤ n.spacing_implant_channel
+
+-- all that the numbers of a technology meet
+pub record IsSound (n : Numbers) : Type 0 where
+  pub in_range : IsInRange n
+  pub version : n.version ≡ pos 1
+  pub unit : IsSize n.unit
+  pub width_diffusion : IsSize n.width_diffusion
+  pub width_poly : IsSize n.width_poly
+  pub width_metal : IsSize n.width_metal
+  pub cut_size : IsSize n.cut_size
+  pub spacings : HasSpacings n
+  pub channel : n.spacing_diffusion ≤ℤ (n.width_poly +ℤ n.spacing_poly_diffusion)
+  pub gate_reaches : n.spacing_poly_diffusion <ℤ n.extension_poly
+  pub diffusion_reaches : n.spacing_poly_diffusion <ℤ n.extension_diffusion
+  pub fet_poly : n.width_poly ≤ℤ (n.width_diffusion +ℤ (pos 2 *ℤ n.extension_poly))
+  pub fet_diffusion : n.width_diffusion ≤ℤ (n.width_poly +ℤ (pos 2 *ℤ n.extension_diffusion))
+  pub pad_diffusion : n.width_diffusion ≤ℤ pad_in n
+  pub pad_poly : n.width_poly ≤ℤ pad_in n
+  pub pad_metal : n.width_metal ≤ℤ pad_in n

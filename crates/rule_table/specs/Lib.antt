@@ -1,0 +1,5 @@
+pub mod Keys
+pub mod Spacing
+pub mod Faults
+pub mod Bounds
+pub mod Technology

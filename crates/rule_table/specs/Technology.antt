@@ -1,0 +1,48 @@
+-- What a technology shows of its numbers.
+use Rattle.std.specs.Prelude.{ℤ, pos, Option}
+use Rattle.rule_table.specs.Spacing.{spacing_in, margin_in, widest_in, width_in, pad_in}
+use Rattle.rule_table.specs.declared.keys.Numbers.{Numbers}
+use Rattle.rule_table.specs.declared.classes.Rule.{Rule}
+use Rattle.rule_table.specs.declared.classes.Class.{Class}
+use Rattle.rule_table.specs.declared.classes.Layer.{Layer}
+use Rattle.rule_table.specs.declared.technology.Tech.{Tech}
+
+abbrev pub numbers_of : Tech → Numbers
+numbers_of t = t.numbers
+
+abbrev pub spacing_of : Tech → Class → Class → Option Rule
+spacing_of t = spacing_in (numbers_of t)
+
+abbrev pub margin_of : Tech → Class → ℤ
+margin_of t = margin_in (numbers_of t)
+
+abbrev pub widest_of : Tech → ℤ
+widest_of t = widest_in (numbers_of t)
+
+abbrev pub width_of : Tech → Layer → ℤ
+width_of t = width_in (numbers_of t)
+
+abbrev pub pad_of : Tech → ℤ
+pad_of t = pad_in (numbers_of t)
+
+-- the numbers that the program ships with
+abbrev pub shipped_numbers : Numbers
+shipped_numbers = record {
+  version = pos 1;
+  unit = pos 150;
+  width_diffusion = pos 4;
+  width_poly = pos 4;
+  width_metal = pos 6;
+  spacing_diffusion = pos 6;
+  spacing_poly = pos 4;
+  spacing_metal = pos 6;
+  spacing_poly_diffusion = pos 2;
+  spacing_cut = pos 4;
+  spacing_cut_channel = pos 4;
+  spacing_implant_channel = pos 3;
+  extension_poly = pos 4;
+  extension_diffusion = pos 4;
+  extension_implant = pos 3;
+  cut_size = pos 4;
+  cut_enclosure = pos 2;
+}

@@ -1,0 +1,117 @@
+//! The numbers of a technology in the order of their keys.
+ghost use Rattle.std.specs.Prelude.{◌≡◌};
+ghost use Rattle.rule_table.specs.Keys.{all_numbers, sizes, spacings, is_outside, is_no_size, is_zero, first_key};
+
+/// The seventeen numbers of a technology file, in the order of its keys. Lengths are in u, the grid unit, and `unit` is
+/// u in hundredths of a micron.
+#[derive(Clone, Copy, Debug, PartialEq, Eq)]
+pub struct Numbers {
+    /// Key 0, `version`: the version of the file's format.
+    pub version: i64,
+    /// Key 1, `unit`: the grid unit in hundredths of a micron.
+    pub unit: i64,
+    /// Key 2, `width.diffusion`.
+    pub width_diffusion: i64,
+    /// Key 3, `width.poly`.
+    pub width_poly: i64,
+    /// Key 4, `width.metal`.
+    pub width_metal: i64,
+    /// Key 5, `spacing.diffusion`.
+    pub spacing_diffusion: i64,
+    /// Key 6, `spacing.poly`.
+    pub spacing_poly: i64,
+    /// Key 7, `spacing.metal`.
+    pub spacing_metal: i64,
+    /// Key 8, `spacing.poly_diffusion`.
+    pub spacing_poly_diffusion: i64,
+    /// Key 9, `spacing.cut`.
+    pub spacing_cut: i64,
+    /// Key 10, `spacing.cut_channel`.
+    pub spacing_cut_channel: i64,
+    /// Key 11, `spacing.implant_channel`.
+    pub spacing_implant_channel: i64,
+    /// Key 12, `extension.poly`: how far the gate's poly goes on past the channel.
+    pub extension_poly: i64,
+    /// Key 13, `extension.diffusion`: how far the diffusion goes on past the channel.
+    pub extension_diffusion: i64,
+    /// Key 14, `extension.implant`: how far the implant goes on past the channel.
+    pub extension_implant: i64,
+    /// Key 15, `cut.size`: the side of a contact cut.
+    pub cut_size: i64,
+    /// Key 16, `cut.enclosure`: how far a contact's pad goes on past its cut.
+    pub cut_enclosure: i64,
+}
+
+/// The greatest number that a technology may have.
+const GREATEST: i64 = 4096;
+
+impl Numbers {
+    /// The first number below 0 or above `GREATEST`.
+    #[tactic(auto, unfolding(crate::specs::Keys::first_key))]
+    pub(crate) fn first_outside(&self) -> Option<u8>
+        ensures { result ≡ first_key is_outside (all_numbers self.now) }
+    {
+        let numbers = [
+            (0, self.version),
+            (1, self.unit),
+            (2, self.width_diffusion),
+            (3, self.width_poly),
+            (4, self.width_metal),
+            (5, self.spacing_diffusion),
+            (6, self.spacing_poly),
+            (7, self.spacing_metal),
+            (8, self.spacing_poly_diffusion),
+            (9, self.spacing_cut),
+            (10, self.spacing_cut_channel),
+            (11, self.spacing_implant_channel),
+            (12, self.extension_poly),
+            (13, self.extension_diffusion),
+            (14, self.extension_implant),
+            (15, self.cut_size),
+            (16, self.cut_enclosure),
+        ];
+        numbers
+            .iter()
+            .find(|n| n.1 < 0 || n.1 > GREATEST)
+            .map(|n| n.0)
+    }
+
+    /// The first width, or the cut's size, that is odd or 0.
+    #[tactic(auto, unfolding(crate::specs::Keys::first_key))]
+    pub(crate) fn first_bad_size(&self) -> Option<u8>
+        ensures { result ≡ first_key is_no_size (sizes self.now) }
+    {
+        let sizes = [
+            (2, self.width_diffusion),
+            (3, self.width_poly),
+            (4, self.width_metal),
+            (15, self.cut_size),
+        ];
+        sizes.iter().find(|n| is_no_size(n.1)).map(|n| n.0)
+    }
+
+    /// The first spacing that is 0.
+    #[tactic(auto, unfolding(crate::specs::Keys::first_key))]
+    pub(crate) fn first_zero_spacing(&self) -> Option<u8>
+        ensures { result ≡ first_key is_zero (spacings self.now) }
+    {
+        let spacings = [
+            (5, self.spacing_diffusion),
+            (6, self.spacing_poly),
+            (7, self.spacing_metal),
+            (8, self.spacing_poly_diffusion),
+            (9, self.spacing_cut),
+            (10, self.spacing_cut_channel),
+            (11, self.spacing_implant_channel),
+        ];
+        spacings.iter().find(|n| n.1 == 0).map(|n| n.0)
+    }
+}
+
+/// Whether a number is odd or 0, so that no box centred on the grid has this size.
+#[tactic(auto, unfolding(crate::specs::Keys::is_no_size))]
+pub(crate) fn is_no_size(z: i64) -> bool
+    ensures { result ≡ is_no_size z }
+{
+    z % 2 != 0 || z == 0
+}

@@ -1,0 +1,19 @@
+//! The numbers of a technology, and the design rules that follow from them.
+//!
+//! A `Tech` holds seventeen numbers that meet the eight conditions of `Tech::new`. For the layer above: the spacing of
+//! two classes of boxes is a row of one table, the same for either order, and `margin`, `widest`, `width` and `pad` are
+//! what their formulas make of the numbers. No call takes memory.
+#![tactic(auto)]
+
+mod classes;
+mod faults;
+mod keys;
+mod table;
+mod technology;
+#[cfg(test)]
+mod tests;
+
+pub use classes::{Class, Layer, Rule};
+pub use faults::TechFault;
+pub use keys::Numbers;
+pub use technology::Tech;
