@@ -1,0 +1,41 @@
+-- The technology that a text is, or the first of its faults.
+use Rattle.std.specs.Prelude.{◌≡◌, ℕ, if◌then◌else◌, List, Option, Some, None, option_map, Result, Ok, Err}
+use Rattle.std.specs.Option.{ok_or}
+use Rattle.std.specs.Str.{is_utf8}
+use Rattle.toml.specs.Data.{Members}
+use Rattle.toml.specs.Parse.{parse_document}
+use Rattle.rule_table.specs.declared.keys.Numbers.{Numbers}
+use Rattle.rule_table.specs.Faults.{fault_of}
+use Rattle.tech_file.specs.declared.faults.TechFileFault.{TechFileFault}
+use Rattle.tech_file.specs.declared.faults.TechFileFault.TheVariants.{NotToml, Unknown, Numbers as Unfit}
+use Rattle.tech_file.specs.declared.faults.ReadTechFault.{ReadTechFault}
+use Rattle.tech_file.specs.declared.faults.ReadTechFault.TheVariants.{File, OutOfMemory}
+use Rattle.tech_file.specs.Numbers.{◌>>=◌, numbers_in}
+use Rattle.tech_file.specs.Unknown.{unknown_keys, least}
+
+-- the table that a text is: UTF-8, and TOML
+unfoldable pub table_of : List ℕ → Result Members TechFileFault
+table_of text = ok_or (if is_utf8 text then parse_document text else None) NotToml
+
+-- the numbers, unless there is a fault
+unfoldable pub unless : Option TechFileFault → Numbers → Result Numbers TechFileFault
+unless None n = Ok n
+unless (Some fault) n = Err fault
+
+-- the numbers of the technology that a table is, or its first fault
+unfoldable pub technology_in : Members → Result Numbers TechFileFault
+technology_in top = do
+  n ← numbers_in top
+  known ← unless (option_map Unknown (least (unknown_keys top))) n
+  unless (option_map Unfit (fault_of n)) n
+
+-- the numbers of the technology that a text is, or its first fault
+unfoldable pub technology_of : List ℕ → Result Numbers TechFileFault
+technology_of text = do
+  top ← table_of text
+  technology_in top
+
+-- A refusal is the fault of what was read, unless memory ran out.
+abbrev pub Refuses : {A : Type 0} → ReadTechFault → Result A TechFileFault → Type 0
+Refuses (File fault) read = read ≡ Err fault
+Refuses OutOfMemory read = Unit {0}
