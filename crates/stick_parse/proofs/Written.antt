@@ -1,0 +1,350 @@
+-- What is read is made of names, paths and numbers that are not too large.
+use Rattle.std.proofs.Common.{◌≡◌, ℕ, zero, suc, ◌+◌, ◌<◌, ◌≤◌, ℤ, pos, negsuc, neg_ℤ, Bool, true, false, cond, eqb, leb, List, [], ◌∷◌, length, map, Option, Some, None, Result, Ok, Err, refl, sym, subst, arith, codes}
+use Rattle.std.specs.List.{AllByRecursion}
+use Rattle.std.specs.Str.{bytes_eq}
+use Rattle.stick_lex.specs.declared.token.Token.{Token}
+use Rattle.stick_lex.specs.declared.token.TokenKind.TheVariants as kinds
+use Rattle.stick_lex.specs.declared.token.LexFault.{LexFault}
+use Rattle.stick_lex.specs.declared.token.LexFault.TheVariants as lex_faults
+use Rattle.stick_lex.specs.Tokens.{is_name, is_path, is_number, is_minus, magnitude, value_of, spanning, token_of, text_of, tokens_of, IsTokenOf}
+use Rattle.stick_lex.proofs.Slices.{tokens_are_slices}
+use Rattle.stick_parse.specs.declared.fault.StickKind.{StickKind}
+use Rattle.stick_parse.specs.declared.fault.StickKind.TheVariants.{BadLine}
+use Rattle.stick_parse.specs.declared.design.Layer.TheVariants.{Diffusion, Poly}
+use Rattle.stick_parse.specs.Reading.{◌>>=◌, Gives}
+use Rattle.stick_parse.specs.Words.{Word, Path, Number, AtMost, AtLeast, word_by, word_of, path_at, name_at, number_at, count_of, count_at, optional_count_at, at_most_at, layer_named, layer_at, lower_named, lower_at, side_named, side_at, second_of, either_at, ended}
+use Rattle.stick_parse.specs.Forms.{joint_of, contact_of, fet_of, port_of, use_of, wire_of, limit_of, version_of, cell_of, names_of, row_of, alone, form_named, item_named, statement_named, statement_of}
+use Rattle.stick_parse.specs.Lines.{tokens_or_kind, said_by_words, said_by, Entry, with_entry, entries}
+use Rattle.stick_parse.specs.Order.{Place, AtHead, Behind, InCell, InGrid, AtEnd, place_after, Rest, with_line, at_line, at_end, rest_from, last_line, design_of}
+use Rattle.std.specs.Str.Lines.{lines}
+use Rattle.std.specs.Prelude.{IfOk, ◌≢◌}
+use Rattle.stick_parse.specs.declared.fault.StickKind.TheVariants.{TooManyCells}
+use Rattle.stick_parse.specs.declared.fault.ParseFault.{ParseFault}
+use Rattle.stick_parse.specs.declared.design.CellText.{CellText}
+use Rattle.stick_parse.specs.declared.design.Design.{Design}
+use Rattle.stick_parse.specs.declared.design.Statement.{Statement}
+use Rattle.stick_parse.specs.declared.design.Statement.TheVariants.{Version, Cell, Item, Grid, Row, End}
+use Rattle.stick_parse.specs.Writable.{IsName, IsPath, IsCount, IsNumber, IsWidth, IsLower, IsForm, IsLine, IsRow, IsCell, IsWritable}
+
+-- P holds of what was read, if anything was
+abbrev pub Holds : {A E : Type 0} → (A → Type 0) → Result A E → Type 0
+Holds P (Ok x) = P x
+Holds P (Err e) = Unit {0}
+
+pub then_holds : {A B E : Type 0} (P : A → Type 0) (Q : B → Type 0) (r : Result A E) (f : A → Result B E) → Holds P r → ((x : A) → P x → Holds Q (f x)) → Holds Q (r >>= f)
+then_holds P Q (Ok x) f h k = k x h
+then_holds P Q (Err e) f h k = tt
+
+-- ---- words
+
+abbrev pub IsWord : Word → Type 0
+IsWord (Path text) = IsPath text
+IsWord (Number n) = IsNumber n
+IsWord AtMost = Unit {0}
+IsWord AtLeast = Unit {0}
+
+abbrev pub AreWords : List Word → Type 0
+AreWords words = AllByRecursion IsWord words
+
+neg_small : (m : ℕ) → m ≤ 1000000 → IsNumber (neg_ℤ (pos m))
+neg_small zero h = omega arith
+neg_small (suc m) h = omega arith
+
+signed_small : (b : Bool) (m : ℕ) → m ≤ 1000000 → IsNumber (cond b (neg_ℤ (pos m)) (pos m))
+signed_small true m h = neg_small m h
+signed_small false m h = h
+
+value_small : (text : List ℕ) → magnitude text ≤ 1000000 → IsNumber (value_of text)
+value_small [] h = omega arith
+value_small (b ∷ bs) h = signed_small (is_minus b) (magnitude (b ∷ bs)) h
+
+abbrev made : Token → Result Token LexFault
+made t = Ok t
+
+same_token : (s t : Token) → made s ≡ made t → s ≡ t
+same_token s t e = cc
+
+abbrev SaysWord : List ℕ → Token → Type 0
+SaysWord text t = IsWord (word_by t.kind text t.value)
+
+by_tests : (a b m c d : Bool) (text : List ℕ) (lo : ℕ) (t : Token) → is_path text ≡ a → leb (magnitude text) 1000000 ≡ m
+    → cond a (Ok (spanning kinds.Path (pos 0) (record { lo = lo; text = text }))) (cond b (cond m (Ok (spanning kinds.Number (value_of text) (record { lo = lo; text = text }))) (Err (lex_faults.NumberTooLarge lo))) (cond c (Ok (spanning kinds.AtMost (pos 0) (record { lo = lo; text = text }))) (cond d (Ok (spanning kinds.AtLeast (pos 0) (record { lo = lo; text = text }))) (Err (lex_faults.BadByte lo))))) ≡ Ok t
+    → SaysWord text t
+by_tests true b m c d text lo t path small e = subst (SaysWord text) (same_token (spanning kinds.Path (pos 0) (record { lo = lo; text = text })) t e) path
+by_tests false true true c d text lo t path small e = subst (SaysWord text) (same_token (spanning kinds.Number (value_of text) (record { lo = lo; text = text })) t e) (value_small text (borrow.Author.Tests.leb-true _ _ small))
+by_tests false true false c d text lo t path small e = absurd cc
+by_tests false false m true d text lo t path small e = subst (SaysWord text) (same_token (spanning kinds.AtMost (pos 0) (record { lo = lo; text = text })) t e) tt
+by_tests false false m false true text lo t path small e = subst (SaysWord text) (same_token (spanning kinds.AtLeast (pos 0) (record { lo = lo; text = text })) t e) tt
+by_tests false false m false false text lo t path small e = absurd cc
+
+token_word : (line : List ℕ) (t : Token) → IsTokenOf line t → IsWord (word_of line t)
+unfolding token_of
+token_word line t h =
+    let text : List ℕ = text_of line t in
+    by_tests (is_path text) (is_number text) (leb (magnitude text) 1000000) (bytes_eq text (codes "<=")) (bytes_eq text (codes ">=")) text t.lo t refl refl h.slice
+
+pub token_words : (line : List ℕ) (ts : List Token) → AllByRecursion (IsTokenOf line) ts → AreWords (map (word_of line) ts)
+token_words line [] h = tt
+token_words line (t ∷ ts) h = (token_word line t h.0, token_words line ts h.1)
+
+-- ---- readers
+
+abbrev Taken : {A : Type 0} → (A → Type 0) → A × List Word → Type 0
+Taken P x = P x.0 × AreWords x.1
+
+abbrev Any : {A : Type 0} → A → Type 0
+Any x = Unit {0}
+
+path_holds : (ws : List Word) → AreWords ws → Holds (Taken IsPath) (path_at ws)
+unfolding path_at
+path_holds [] h = tt
+path_holds (Path text ∷ rest) h = h
+path_holds (Number n ∷ rest) h = tt
+path_holds (AtMost ∷ rest) h = tt
+path_holds (AtLeast ∷ rest) h = tt
+
+number_holds : (ws : List Word) → AreWords ws → Holds (Taken IsNumber) (number_at ws)
+unfolding number_at
+number_holds [] h = tt
+number_holds (Path text ∷ rest) h = tt
+number_holds (Number n ∷ rest) h = h
+number_holds (AtMost ∷ rest) h = tt
+number_holds (AtLeast ∷ rest) h = tt
+
+if_holds : {A : Type 0} (P : A → Type 0) (b : Bool) (x : A) → (b ≡ true → P x) → Holds {E = StickKind} P (cond b (Ok x) (Err BadLine))
+if_holds P true x h = h refl
+if_holds P false x h = tt
+
+name_holds : (ws : List Word) → AreWords ws → Holds (Taken IsName) (name_at ws)
+unfolding name_at
+name_holds ws h = then_holds (Taken IsPath) (Taken IsName) (path_at ws) (λ path. cond (is_name path.0) (Ok path) (Err BadLine)) (path_holds ws h) (λ path k. if_holds (Taken IsName) (is_name path.0) path (λ e. (e, k.1)))
+
+count_of_holds : (z : ℤ) (rest : List Word) → AreWords rest → Holds (Taken IsCount) (count_of z rest)
+count_of_holds (pos n) rest h = if_holds (Taken IsCount) (leb n 1000000) (n, rest) (λ e. (borrow.Author.Tests.leb-true _ _ e, h))
+count_of_holds (negsuc n) rest h = tt
+
+count_holds : (ws : List Word) → AreWords ws → Holds (Taken IsCount) (count_at ws)
+unfolding count_at
+count_holds ws h = then_holds (Taken IsNumber) (Taken IsCount) (number_at ws) (λ number. count_of number.0 number.1) (number_holds ws h) (λ number k. count_of_holds number.0 number.1 k.1)
+
+width_holds : (ws : List Word) → AreWords ws → Holds (Taken IsWidth) (optional_count_at ws)
+unfolding optional_count_at
+width_holds [] h = (tt, tt)
+width_holds (w ∷ ws) h = then_holds (Taken IsCount) (Taken IsWidth) (count_at (w ∷ ws)) (λ count. Ok (Some count.0, count.1)) (count_holds (w ∷ ws) h) (λ count k. k)
+
+at_most_holds : (ws : List Word) → AreWords ws → Holds (Taken Any) (at_most_at ws)
+unfolding at_most_at
+at_most_holds [] h = tt
+at_most_holds (Path text ∷ rest) h = tt
+at_most_holds (Number n ∷ rest) h = tt
+at_most_holds (AtMost ∷ rest) h = (tt, h.1)
+at_most_holds (AtLeast ∷ rest) h = (tt, h.1)
+
+any_holds : {A E : Type 0} (r : Result A E) → Holds Any r
+any_holds (Ok x) = tt
+any_holds (Err e) = tt
+
+layer_holds : (ws : List Word) → AreWords ws → Holds (Taken Any) (layer_at ws)
+unfolding layer_at
+layer_holds ws h = then_holds (Taken IsPath) (Taken Any) (path_at ws) (λ path. layer_named path.0 >>= λ layer. Ok (layer, path.1)) (path_holds ws h) (λ path k. then_holds Any (Taken Any) (layer_named path.0) (λ layer. Ok (layer, path.1)) (any_holds (layer_named path.0)) (λ layer u. (tt, k.1)))
+
+-- ---- forms
+
+joint_holds : (ws : List Word) → AreWords ws → Holds IsForm (joint_of ws)
+unfolding joint_of
+joint_holds ws h = then_holds (Taken IsName) IsForm (name_at ws) _ (name_holds ws h) (λ name hn. then_holds (Taken Any) IsForm (layer_at name.1) _ (layer_holds name.1 hn.1) (λ layer hl. then_holds (Taken IsCount) IsForm (count_at layer.1) _ (count_holds layer.1 hl.1) (λ col hc. then_holds (Taken IsCount) IsForm (count_at col.1) _ (count_holds col.1 hc.1) (λ row hr. then_holds (Taken IsWidth) IsForm (optional_count_at row.1) _ (width_holds row.1 hr.1) (λ width hw. then_holds Any IsForm (ended width.1) _ (any_holds (ended width.1)) (λ done u. (hn.0, hc.0, hr.0, hw.0)))))))
+
+lower_named_holds : (a b : Bool) → Holds {E = StickKind} IsLower (cond a (Ok Diffusion) (cond b (Ok Poly) (Err BadLine)))
+lower_named_holds true b = tt
+lower_named_holds false true = tt
+lower_named_holds false false = tt
+
+lower_holds : (ws : List Word) → AreWords ws → Holds (Taken IsLower) (lower_at ws)
+unfolding lower_at
+lower_holds ws h = then_holds (Taken IsPath) (Taken IsLower) (path_at ws) _ (path_holds ws h) (λ path k. then_holds IsLower (Taken IsLower) (lower_named path.0) _ (lower_named_holds (bytes_eq path.0 (codes "diff")) (bytes_eq path.0 (codes "poly"))) (λ layer u. (u, k.1)))
+
+side_holds : (ws : List Word) → AreWords ws → Holds (Taken Any) (side_at ws)
+unfolding side_at
+side_holds ws h = then_holds (Taken IsPath) (Taken Any) (path_at ws) _ (path_holds ws h) (λ path k. then_holds Any (Taken Any) (side_named path.0) _ (any_holds (side_named path.0)) (λ side u. (tt, k.1)))
+
+either_holds : (first second : List ℕ) (ws : List Word) → AreWords ws → Holds (Taken Any) (either_at first second ws)
+unfolding either_at
+either_holds first second ws h = then_holds (Taken IsPath) (Taken Any) (path_at ws) _ (path_holds ws h) (λ path k. then_holds Any (Taken Any) (second_of first second path.0) _ (any_holds (second_of first second path.0)) (λ choice u. (tt, k.1)))
+
+contact_holds : (ws : List Word) → AreWords ws → Holds IsForm (contact_of ws)
+unfolding contact_of
+contact_holds ws h = then_holds (Taken IsName) IsForm (name_at ws) _ (name_holds ws h) (λ name hn. then_holds (Taken IsLower) IsForm (lower_at name.1) _ (lower_holds name.1 hn.1) (λ lower hl. then_holds (Taken IsCount) IsForm (count_at lower.1) _ (count_holds lower.1 hl.1) (λ col hc. then_holds (Taken IsCount) IsForm (count_at col.1) _ (count_holds col.1 hc.1) (λ row hr. then_holds Any IsForm (ended row.1) _ (any_holds (ended row.1)) (λ done u. (hn.0, hl.0, hc.0, hr.0))))))
+
+fet_holds : (ws : List Word) → AreWords ws → Holds IsForm (fet_of ws)
+unfolding fet_of
+fet_holds ws h = then_holds (Taken IsName) IsForm (name_at ws) _ (name_holds ws h) (λ name hn. then_holds (Taken Any) IsForm (either_at (codes "enh") (codes "dep") name.1) _ (either_holds (codes "enh") (codes "dep") name.1 hn.1) (λ depletion hd. then_holds (Taken Any) IsForm (either_at (codes "h") (codes "v") depletion.1) _ (either_holds (codes "h") (codes "v") depletion.1 hd.1) (λ vertical hv. then_holds (Taken IsCount) IsForm (count_at vertical.1) _ (count_holds vertical.1 hv.1) (λ col hc. then_holds (Taken IsCount) IsForm (count_at col.1) _ (count_holds col.1 hc.1) (λ row hr. then_holds (Taken IsCount) IsForm (count_at row.1) _ (count_holds row.1 hr.1) (λ w hw. then_holds (Taken IsCount) IsForm (count_at w.1) _ (count_holds w.1 hw.1) (λ l hl. then_holds Any IsForm (ended l.1) _ (any_holds (ended l.1)) (λ done u. (hn.0, hc.0, hr.0, hw.0, hl.0)))))))))
+
+port_holds : (ws : List Word) → AreWords ws → Holds IsForm (port_of ws)
+unfolding port_of
+port_holds ws h = then_holds (Taken IsName) IsForm (name_at ws) _ (name_holds ws h) (λ name hn. then_holds (Taken Any) IsForm (side_at name.1) _ (side_holds name.1 hn.1) (λ side hs. then_holds (Taken Any) IsForm (layer_at side.1) _ (layer_holds side.1 hs.1) (λ layer hl. then_holds (Taken IsCount) IsForm (count_at layer.1) _ (count_holds layer.1 hl.1) (λ place hp. then_holds Any IsForm (ended place.1) _ (any_holds (ended place.1)) (λ done u. (hn.0, hp.0))))))
+
+use_holds : (ws : List Word) → AreWords ws → Holds IsForm (use_of ws)
+unfolding use_of
+use_holds ws h = then_holds (Taken IsName) IsForm (name_at ws) _ (name_holds ws h) (λ name hn. then_holds (Taken IsName) IsForm (name_at name.1) _ (name_holds name.1 hn.1) (λ cell hl. then_holds (Taken IsCount) IsForm (count_at cell.1) _ (count_holds cell.1 hl.1) (λ col hc. then_holds (Taken IsCount) IsForm (count_at col.1) _ (count_holds col.1 hc.1) (λ row hr. then_holds Any IsForm (ended row.1) _ (any_holds (ended row.1)) (λ done u. (hn.0, hl.0, hc.0, hr.0))))))
+
+wire_holds : (ws : List Word) → AreWords ws → Holds IsForm (wire_of ws)
+unfolding wire_of
+wire_holds ws h = then_holds (Taken Any) IsForm (layer_at ws) _ (layer_holds ws h) (λ layer hl. then_holds (Taken IsPath) IsForm (path_at layer.1) _ (path_holds layer.1 hl.1) (λ a ha. then_holds (Taken IsPath) IsForm (path_at a.1) _ (path_holds a.1 ha.1) (λ b hb. then_holds (Taken IsWidth) IsForm (optional_count_at b.1) _ (width_holds b.1 hb.1) (λ width hw. then_holds Any IsForm (ended width.1) _ (any_holds (ended width.1)) (λ done u. (ha.0, hb.0, hw.0))))))
+
+limit_holds : (ws : List Word) → AreWords ws → Holds IsForm (limit_of ws)
+unfolding limit_of
+limit_holds ws h = then_holds (Taken Any) IsForm (either_at (codes "x") (codes "y") ws) _ (either_holds (codes "x") (codes "y") ws h) (λ vertical hv. then_holds (Taken IsPath) IsForm (path_at vertical.1) _ (path_holds vertical.1 hv.1) (λ a ha. then_holds (Taken IsPath) IsForm (path_at a.1) _ (path_holds a.1 ha.1) (λ b hb. then_holds (Taken Any) IsForm (at_most_at b.1) _ (at_most_holds b.1 hb.1) (λ at_most hm. then_holds (Taken IsNumber) IsForm (number_at at_most.1) _ (number_holds at_most.1 hm.1) (λ n hn. then_holds Any IsForm (ended n.1) _ (any_holds (ended n.1)) (λ done u. (ha.0, hb.0, hn.0)))))))
+
+-- ---- statements
+
+abbrev pub IsStatement : Statement → Type 0
+IsStatement Version = Unit {0}
+IsStatement (Cell name) = IsName name
+IsStatement (Item form) = IsForm form
+IsStatement Grid = Unit {0}
+IsStatement (Row row) = IsRow row
+IsStatement End = Unit {0}
+
+choose : {A E : Type 0} (P : A → Type 0) (b : Bool) (r s : Result A E) → Holds P r → Holds P s → Holds P (cond b r s)
+choose P true r s h k = h
+choose P false r s h k = k
+
+names_hold : (ws : List Word) → AreWords ws → Holds (AllByRecursion IsName) (names_of ws)
+unfolding names_of
+names_hold [] h = tt
+names_hold (w ∷ ws) h = then_holds (Taken IsName) (AllByRecursion IsName) (name_at (w ∷ ws)) _ (name_holds (w ∷ ws) h) (λ name hn. then_holds (AllByRecursion IsName) (AllByRecursion IsName) (names_of ws) _ (names_hold ws h.1) (λ names hs. (hn.0, hs)))
+
+some_names : (w : Word) (ws : List Word) → AreWords (w ∷ ws) → Holds (λ names. (0 < length names) × AllByRecursion IsName names) (names_of (w ∷ ws))
+unfolding names_of
+some_names w ws h = then_holds (Taken IsName) (λ names. (0 < length names) × AllByRecursion IsName names) (name_at (w ∷ ws)) _ (name_holds (w ∷ ws) h) (λ name hn. then_holds (AllByRecursion IsName) (λ names. (0 < length names) × AllByRecursion IsName names) (names_of ws) _ (names_hold ws h.1) (λ names hs. (omega arith, (hn.0, hs))))
+
+row_holds : (ws : List Word) → AreWords ws → Holds IsStatement (row_of ws)
+unfolding row_of
+row_holds [] h = tt
+row_holds (w ∷ ws) h = then_holds (λ names. (0 < length names) × AllByRecursion IsName names) IsStatement (names_of (w ∷ ws)) _ (some_names w ws h) (λ names hs. hs)
+
+version_holds : (ws : List Word) → Holds IsStatement (version_of ws)
+unfolding version_of
+version_holds ws = then_holds Any IsStatement (count_at ws) _ (any_holds (count_at ws)) (λ version u. then_holds Any IsStatement (ended version.1) _ (any_holds (ended version.1)) (λ done v. if_holds IsStatement (eqb version.0 1) Version (λ e. tt)))
+
+cell_holds : (ws : List Word) → AreWords ws → Holds IsStatement (cell_of ws)
+unfolding cell_of
+cell_holds ws h = then_holds (Taken IsName) IsStatement (name_at ws) _ (name_holds ws h) (λ name hn. then_holds Any IsStatement (ended name.1) _ (any_holds (ended name.1)) (λ done u. hn.0))
+
+alone_holds : (s : Statement) (ws : List Word) → IsStatement s → Holds IsStatement (alone s ws)
+unfolding alone
+alone_holds s ws h = then_holds Any IsStatement (ended ws) _ (any_holds (ended ws)) (λ done u. h)
+
+form_named_holds : (keyword : List ℕ) (ws : List Word) → AreWords ws → Holds IsForm (form_named keyword ws)
+unfolding form_named
+form_named_holds keyword ws h =
+    choose IsForm (bytes_eq keyword (codes "joint")) _ _ (joint_holds ws h) (choose IsForm (bytes_eq keyword (codes "contact")) _ _ (contact_holds ws h) (choose IsForm (bytes_eq keyword (codes "fet")) _ _ (fet_holds ws h) (choose IsForm (bytes_eq keyword (codes "port")) _ _ (port_holds ws h) (choose IsForm (bytes_eq keyword (codes "use")) _ _ (use_holds ws h) (choose IsForm (bytes_eq keyword (codes "wire")) _ _ (wire_holds ws h) (choose IsForm (bytes_eq keyword (codes "limit")) _ _ (limit_holds ws h) tt))))))
+
+item_holds : (keyword : List ℕ) (ws : List Word) → AreWords ws → Holds IsStatement (item_named keyword ws)
+unfolding item_named
+item_holds keyword ws h = then_holds IsForm IsStatement (form_named keyword ws) _ (form_named_holds keyword ws h) (λ form k. k)
+
+named_holds : (keyword : List ℕ) (ws : List Word) → AreWords ws → Holds IsStatement (statement_named keyword ws)
+unfolding statement_named
+named_holds keyword ws h =
+    choose IsStatement (bytes_eq keyword (codes "sticks")) _ _ (version_holds ws) (choose IsStatement (bytes_eq keyword (codes "cell")) _ _ (cell_holds ws h) (choose IsStatement (bytes_eq keyword (codes "end")) _ _ (alone_holds End ws tt) (choose IsStatement (bytes_eq keyword (codes "grid")) _ _ (alone_holds Grid ws tt) (choose IsStatement (bytes_eq keyword (codes "row")) _ _ (row_holds ws h) (item_holds keyword ws h)))))
+
+statement_holds : (ws : List Word) → AreWords ws → Holds IsStatement (statement_of ws)
+unfolding statement_of
+statement_holds ws h = then_holds (Taken IsPath) IsStatement (path_at ws) _ (path_holds ws h) (λ keyword k. named_holds keyword.0 keyword.1 k.1)
+
+-- ---- lines
+
+abbrev IsSaid : Option Statement → Type 0
+IsSaid None = Unit {0}
+IsSaid (Some s) = IsStatement s
+
+by_words_holds : (ws : List Word) → AreWords ws → Holds IsSaid (said_by_words ws)
+unfolding said_by_words
+by_words_holds [] h = tt
+by_words_holds (w ∷ ws) h = then_holds IsStatement IsSaid (statement_of (w ∷ ws)) _ (statement_holds (w ∷ ws) h) (λ s k. k)
+
+tokens_hold : (line : List ℕ) (r : Result (List Token) LexFault) → tokens_of line ≡ r → Holds (AllByRecursion (IsTokenOf line)) (tokens_or_kind r)
+tokens_hold line (Ok ts) e = tokens_are_slices line ts e
+tokens_hold line (Err f) e = tt
+
+said_holds : (line : List ℕ) → Holds IsSaid (said_by line)
+unfolding said_by
+said_holds line = then_holds (AllByRecursion (IsTokenOf line)) IsSaid (tokens_or_kind (tokens_of line)) _ (tokens_hold line (tokens_of line) refl) (λ ts k. by_words_holds (map (word_of line) ts) (token_words line ts k))
+
+abbrev IsEntry : Entry → Type 0
+IsEntry e = Holds IsStatement e.said
+
+with_entry_holds : (n : ℕ) (r : Result (Option Statement) StickKind) (es : List Entry) → Holds IsSaid r → AllByRecursion IsEntry es → AllByRecursion IsEntry (with_entry n r es)
+with_entry_holds n (Ok None) es h k = k
+with_entry_holds n (Ok (Some s)) es h k = (h, k)
+with_entry_holds n (Err kind) es h k = (tt, k)
+
+entries_hold : (n : ℕ) (ls : List (List ℕ)) → AllByRecursion IsEntry (entries n ls)
+entries_hold n [] = tt
+entries_hold n (l ∷ ls) = with_entry_holds n (said_by l) (entries (n + 1) ls) (said_holds l) (entries_hold (n + 1) ls)
+
+-- ---- the order of the lines
+
+-- no more cells than a text may have
+abbrev Valid : Place → Type 0
+Valid AtHead = Unit {0}
+Valid (Behind n) = n ≤ 256
+Valid (InCell n) = n ≤ 256
+Valid InGrid = Unit {0}
+Valid AtEnd = Unit {0}
+
+abbrev Room : Place → List CellText → Type 0
+Room AtHead cells = length cells ≤ 256
+Room (Behind n) cells = n + length cells ≤ 256
+Room (InCell n) cells = n + length cells ≤ 256
+Room InGrid cells = length cells ≡ 0
+Room AtEnd cells = length cells ≡ 0
+
+abbrev Fits : Place → Rest → Type 0
+Fits place rest = AllByRecursion IsLine rest.lines × AllByRecursion IsCell rest.cells × AllByRecursion IsRow rest.rows × Room place rest.cells
+
+abbrev Leads : Place → Statement → ℕ → Place → Type 0
+Leads place s number next = Valid next × ((rest : Rest) → Fits next rest → Fits place (with_line number s rest))
+
+cell_leads : (b : Bool) (n : ℕ) (name : List ℕ) (number : ℕ) → n ≤ 256 → IsName name → (b ≡ false → n ≢ 256) → Holds {E = StickKind} (Leads (Behind n) (Cell name) number) (cond b (Err TooManyCells) (Ok (InCell (n + 1))))
+cell_leads true n name number v h differs = tt
+cell_leads false n name number v h differs =
+    let other : n ≢ 256 = differs refl in
+    (omega arith, λ rest f. (tt, ((h, f.0), f.1), f.2, omega (arith, f.3)))
+
+leads : (place : Place) (s : Statement) (number : ℕ) → Valid place → IsStatement s → Holds (Leads place s number) (place_after place s)
+leads AtHead Version number v h = (omega arith, λ rest f. (f.0, f.1, f.2, omega (arith, f.3)))
+leads (Behind n) (Cell name) number v h = cell_leads (eqb n 256) n name number v h (λ e. borrow.Author.Tests.false-eqb _ _ (sym e))
+leads (InCell n) (Item form) number v h = (v, λ rest f. ((h, f.0), f.1, f.2, f.3))
+leads (InCell n) End number v h = (v, λ rest f. (tt, f.1, f.2, f.3))
+leads (Behind n) Grid number v h = (tt, λ rest f. (f.0, f.1, f.2, omega (arith, f.3)))
+leads InGrid (Row row) number v h = (tt, λ rest f. (f.0, f.1, (h, f.2), f.3))
+leads InGrid End number v h = (tt, λ rest f. (tt, f.1, f.2, f.3))
+leads place s number v h = tt
+
+at_line_holds : {A : Type 0} (P : A → Type 0) (n : ℕ) (r : Result A StickKind) → Holds P r → Holds P (at_line n r)
+at_line_holds P n (Ok x) h = h
+at_line_holds P n (Err kind) h = tt
+
+end_holds : (last : ℕ) (place : Place) → Holds (Fits place) (at_end last place)
+end_holds last AtHead = tt
+end_holds last (Behind n) = tt
+end_holds last (InCell n) = tt
+end_holds last InGrid = tt
+end_holds last AtEnd = (tt, tt, tt, refl)
+
+rest_holds : (last : ℕ) (place : Place) (es : List Entry) → Valid place → AllByRecursion IsEntry es → Holds (Fits place) (rest_from last place es)
+rest_holds last place [] v h = end_holds last place
+rest_holds last place (e ∷ es) v h =
+    then_holds IsStatement (Fits place) (at_line e.number e.said) _ (at_line_holds IsStatement e.number e.said h.0) (λ s hs.
+    then_holds (Leads place s e.number) (Fits place) (at_line e.number (place_after place s)) _ (at_line_holds (Leads place s e.number) e.number (place_after place s) (leads place s e.number v hs)) (λ next hn.
+    then_holds (Fits next) (Fits place) (rest_from last next es) _ (rest_holds last next es hn.0 h.1) (λ rest f. hn.1 rest f)))
+
+design_holds : (text : List ℕ) → Holds IsWritable (design_of text)
+unfolding design_of
+design_holds text = then_holds (Fits AtHead) IsWritable (rest_from (last_line text) AtHead (entries 1 (lines text))) _ (rest_holds (last_line text) AtHead (entries 1 (lines text)) tt (entries_hold 1 (lines text))) (λ rest f. record { cells = f.1; few_cells = f.3; rows = f.2 })
+
+pub read_is_writable : (text : List ℕ) (r : Result Design ParseFault) → Gives (λ design. design) r (design_of text) → IfOk r IsWritable
+read_is_writable text (Ok design) e = subst (Holds IsWritable) e (design_holds text)
+read_is_writable text (Err fault) e = tt

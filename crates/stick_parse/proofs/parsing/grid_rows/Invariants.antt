@@ -1,0 +1,14 @@
+use Rattle.std.proofs.Common.{◌≡◌, length}
+use Rattle.stick_parse.specs.Order.{InGrid}
+use Rattle.stick_parse.specs.LinesLeft.{last_of}
+use Rattle.stick_parse.specs.Parts.{rest_at, with_rows}
+use Rattle.stick_parse.proofs.parsing.grid_rows.Given as goal
+
+abbrev pub invariant-lines : goal.invariant-lines
+invariant-lines l = record {
+  so_far : with_rows l.rows.items (rest_at InGrid l.lines) ≡ rest_at InGrid l.initial.lines;
+  same_last : last_of l.lines ≡ last_of l.initial.lines;
+}
+
+abbrev pub decreases-lines : goal.decreases-lines
+decreases-lines l = length l.lines.rest.now

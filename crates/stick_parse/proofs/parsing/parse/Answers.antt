@@ -1,0 +1,5 @@
+use Rattle.stick_parse.proofs.Written.{read_is_writable}
+use Rattle.stick_parse.proofs.parsing.parse.Goals as goal
+
+pub returns-clause-writable : goal.returns-clause-writable
+returns-clause-writable c = read_is_writable c.args.text.now c.design_of.result c.design_of.ensures

@@ -1,0 +1,10 @@
+pub mod Reading
+pub mod Words
+pub mod WordViews
+pub mod Forms
+pub mod Lines
+pub mod Order
+pub mod Writable
+pub mod LinesLeft
+pub mod Lexing
+pub mod Parts

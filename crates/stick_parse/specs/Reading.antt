@@ -1,0 +1,31 @@
+-- Reading step by step, up to the first fault.
+use Rattle.std.specs.Prelude.{◌≡◌, Result, Ok, Err}
+use Rattle.stick_parse.specs.declared.fault.StickKind.{StickKind}
+use Rattle.stick_parse.specs.declared.fault.StickFault.{StickFault}
+use Rattle.stick_parse.specs.declared.fault.LineFault.{LineFault}
+use Rattle.stick_parse.specs.declared.fault.LineFault.TheVariants as line_faults
+use Rattle.stick_parse.specs.declared.fault.ParseFault.{ParseFault}
+use Rattle.stick_parse.specs.declared.fault.ParseFault.TheVariants as faults
+
+infixl 10 ◌>>=◌
+abbrev pub ◌>>=◌ : {A B E : Type 0} → Result A E → (A → Result B E) → Result B E
+(Ok x) >>= f = f x
+(Err e) >>= f = Err e
+
+-- What a function returned, seen by view, is what the definition says, unless memory ran out: of a line
+abbrev pub FailsLine : {Y : Type 0} → LineFault → Result Y StickKind → Type 0
+FailsLine line_faults.OutOfMemory read = Unit {0}
+FailsLine (line_faults.Kind kind) read = read ≡ Err kind
+
+abbrev pub GivesLine : {X Y : Type 0} → (X → Y) → Result X LineFault → Result Y StickKind → Type 0
+GivesLine view (Ok x) read = read ≡ Ok (view x)
+GivesLine view (Err e) read = FailsLine e read
+
+-- and of a text
+abbrev pub Fails : {Y : Type 0} → ParseFault → Result Y StickFault → Type 0
+Fails faults.OutOfMemory read = Unit {0}
+Fails (faults.Stick fault) read = read ≡ Err fault
+
+abbrev pub Gives : {X Y : Type 0} → (X → Y) → Result X ParseFault → Result Y StickFault → Type 0
+Gives view (Ok x) read = read ≡ Ok (view x)
+Gives view (Err e) read = Fails e read

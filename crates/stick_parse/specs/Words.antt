@@ -1,0 +1,133 @@
+-- The words of a line, and what stands at the front of some words.
+use Rattle.std.specs.Prelude.{ℕ, ℤ, pos, negsuc, Bool, true, false, nat_le, if◌then◌else◌, List, [], ◌∷◌, Option, Some, None, Result, Ok, Err, codes}
+use Rattle.std.specs.Str.{bytes_eq}
+use Rattle.stick_lex.specs.declared.token.Token.{Token}
+use Rattle.stick_lex.specs.declared.token.TokenKind.{TokenKind}
+use Rattle.stick_lex.specs.declared.token.TokenKind.TheVariants as kinds
+use Rattle.stick_lex.specs.Tokens.{text_of, is_name}
+use Rattle.stick_parse.specs.declared.fault.StickKind.{StickKind}
+use Rattle.stick_parse.specs.declared.fault.StickKind.TheVariants.{BadLine}
+use Rattle.stick_parse.specs.declared.design.Layer.{Layer}
+use Rattle.stick_parse.specs.declared.design.Layer.TheVariants.{Diffusion, Poly, Metal}
+use Rattle.stick_parse.specs.declared.design.Side.{Side}
+use Rattle.stick_parse.specs.declared.design.Side.TheVariants.{Left, Right, Bottom, Top}
+use Rattle.stick_parse.specs.Reading.{◌>>=◌}
+
+pub data Word : Type 0 where
+  Path : List ℕ → Word
+  Number : ℤ → Word
+  AtMost : Word
+  AtLeast : Word
+
+-- what a token of the line says
+abbrev pub word_by : TokenKind → List ℕ → ℤ → Word
+word_by kinds.Path text value = Path text
+word_by kinds.Number text value = Number value
+word_by kinds.AtMost text value = AtMost
+word_by kinds.AtLeast text value = AtLeast
+
+abbrev pub word_of : List ℕ → Token → Word
+word_of line token = word_by token.kind (text_of line token) token.value
+
+-- ---- what stands in front, and the words behind it
+
+abbrev pub Front : Type 0 → Type 0
+Front A = Result (A × List Word) StickKind
+
+unfoldable pub path_at : List Word → Front (List ℕ)
+path_at [] = Err BadLine
+path_at (Path text ∷ rest) = Ok (text, rest)
+path_at (Number n ∷ rest) = Err BadLine
+path_at (AtMost ∷ rest) = Err BadLine
+path_at (AtLeast ∷ rest) = Err BadLine
+
+-- a path that is one name
+unfoldable pub name_at : List Word → Front (List ℕ)
+name_at words = do
+  path ← path_at words
+  if is_name path.0 then Ok path else Err BadLine
+
+unfoldable pub number_at : List Word → Front ℤ
+number_at [] = Err BadLine
+number_at (Path text ∷ rest) = Err BadLine
+number_at (Number n ∷ rest) = Ok (n, rest)
+number_at (AtMost ∷ rest) = Err BadLine
+number_at (AtLeast ∷ rest) = Err BadLine
+
+-- a number that is not negative, nor past what a number may be
+abbrev pub count_of : ℤ → List Word → Front ℕ
+count_of (pos n) rest = if nat_le n 1000000 then Ok (n, rest) else Err BadLine
+count_of (negsuc n) rest = Err BadLine
+
+unfoldable pub count_at : List Word → Front ℕ
+count_at words = do
+  number ← number_at words
+  count_of number.0 number.1
+
+-- a number where words are left
+unfoldable pub optional_count_at : List Word → Front (Option ℕ)
+optional_count_at [] = Ok (None, [])
+optional_count_at (word ∷ rest) = do
+  count ← count_at (word ∷ rest)
+  Ok (Some count.0, count.1)
+
+-- true for `<=`
+unfoldable pub at_most_at : List Word → Front Bool
+at_most_at [] = Err BadLine
+at_most_at (Path text ∷ rest) = Err BadLine
+at_most_at (Number n ∷ rest) = Err BadLine
+at_most_at (AtMost ∷ rest) = Ok (true, rest)
+at_most_at (AtLeast ∷ rest) = Ok (false, rest)
+
+-- ---- a word out of a few
+
+-- the value of a name that stands for one
+abbrev pub layer_named : List ℕ → Result Layer StickKind
+layer_named text = if bytes_eq text (codes "diff") then Ok Diffusion
+    else (if bytes_eq text (codes "poly") then Ok Poly
+    else (if bytes_eq text (codes "metal") then Ok Metal else Err BadLine))
+
+unfoldable pub layer_at : List Word → Front Layer
+layer_at words = do
+  path ← path_at words
+  layer ← layer_named path.0
+  Ok (layer, path.1)
+
+-- the lower layer of a contact
+abbrev pub lower_named : List ℕ → Result Layer StickKind
+lower_named text = if bytes_eq text (codes "diff") then Ok Diffusion
+    else (if bytes_eq text (codes "poly") then Ok Poly else Err BadLine)
+
+unfoldable pub lower_at : List Word → Front Layer
+lower_at words = do
+  path ← path_at words
+  layer ← lower_named path.0
+  Ok (layer, path.1)
+
+abbrev pub side_named : List ℕ → Result Side StickKind
+side_named text = if bytes_eq text (codes "left") then Ok Left
+    else (if bytes_eq text (codes "right") then Ok Right
+    else (if bytes_eq text (codes "bottom") then Ok Bottom
+    else (if bytes_eq text (codes "top") then Ok Top else Err BadLine)))
+
+unfoldable pub side_at : List Word → Front Side
+side_at words = do
+  path ← path_at words
+  side ← side_named path.0
+  Ok (side, path.1)
+
+-- one of two words: false for the first, true for the second
+abbrev pub second_of : List ℕ → List ℕ → List ℕ → Result Bool StickKind
+second_of first second text = if bytes_eq text first then Ok false
+    else (if bytes_eq text second then Ok true else Err BadLine)
+
+unfoldable pub either_at : List ℕ → List ℕ → List Word → Front Bool
+either_at first second words = do
+  path ← path_at words
+  choice ← second_of first second path.0
+  Ok (choice, path.1)
+
+-- no word is left
+unfoldable pub ended : List Word → Result (Unit {0}) StickKind
+ended [] = Ok tt
+ended (word ∷ rest) = Err BadLine

@@ -1,0 +1,58 @@
+-- What a design is made of: names, paths, and numbers that are not too large.
+use Rattle.std.specs.Prelude.{ℕ, ◌≤◌, ◌<◌, ℤ, pos, negsuc, List, length, Option, Some, None, IsTrue}
+use Rattle.std.specs.List.{AllByRecursion}
+use Rattle.stick_lex.specs.Tokens.{is_name, is_path}
+use Rattle.stick_parse.specs.declared.design.Layer.{Layer}
+use Rattle.stick_parse.specs.declared.design.Layer.TheVariants.{Diffusion, Poly, Metal}
+use Rattle.stick_parse.specs.declared.design.Form.{Form}
+use Rattle.stick_parse.specs.declared.design.Form.TheVariants.{Joint, Contact, Fet, Port, Inst, Wire, Limit}
+use Rattle.stick_parse.specs.declared.design.Line.{Line}
+use Rattle.stick_parse.specs.declared.design.CellText.{CellText}
+use Rattle.stick_parse.specs.declared.design.RowText.{RowText}
+use Rattle.stick_parse.specs.declared.design.Design.{Design}
+
+abbrev pub IsName : List ℕ → Type 0
+IsName text = IsTrue (is_name text)
+
+abbrev pub IsPath : List ℕ → Type 0
+IsPath text = IsTrue (is_path text)
+
+abbrev pub IsCount : ℕ → Type 0
+IsCount n = n ≤ 1000000
+
+abbrev pub IsNumber : ℤ → Type 0
+IsNumber (pos n) = n ≤ 1000000
+IsNumber (negsuc n) = n < 1000000
+
+abbrev pub IsWidth : Option ℕ → Type 0
+IsWidth None = Unit {0}
+IsWidth (Some width) = IsCount width
+
+abbrev pub IsLower : Layer → Type 0
+IsLower Diffusion = Unit {0}
+IsLower Poly = Unit {0}
+IsLower Metal = ⊥
+
+abbrev pub IsForm : Form → Type 0
+IsForm (Joint name layer col row width) = IsName name × IsCount col × IsCount row × IsWidth width
+IsForm (Contact name lower col row) = IsName name × IsLower lower × IsCount col × IsCount row
+IsForm (Fet name depletion vertical col row w l) = IsName name × IsCount col × IsCount row × IsCount w × IsCount l
+IsForm (Port name side layer place) = IsName name × IsCount place
+IsForm (Inst name cell col row) = IsName name × IsName cell × IsCount col × IsCount row
+IsForm (Wire layer a b width) = IsPath a × IsPath b × IsWidth width
+IsForm (Limit vertical a b at_most n) = IsPath a × IsPath b × IsNumber n
+
+abbrev pub IsLine : Line → Type 0
+IsLine line = IsForm line.form
+
+abbrev pub IsRow : RowText → Type 0
+IsRow row = (0 < length row.names) × AllByRecursion IsName row.names
+
+abbrev pub IsCell : CellText → Type 0
+IsCell cell = IsName cell.name × AllByRecursion IsLine cell.lines
+
+-- the design has a text
+pub record IsWritable (design : Design) : Type 0 where
+  pub cells : AllByRecursion IsCell design.cells
+  pub few_cells : length design.cells ≤ 256
+  pub rows : AllByRecursion IsRow design.grid

@@ -1,0 +1,125 @@
+//! What a stick text says, as values.
+use lam_list::Seq;
+use stick_lex::Text;
+
+/// A layer of conductors.
+#[derive(Clone, Copy, Debug, PartialEq, Eq)]
+pub enum Layer {
+    Diffusion,
+    Poly,
+    Metal,
+}
+
+/// A side of a cell.
+#[derive(Clone, Copy, Debug, PartialEq, Eq)]
+pub enum Side {
+    Left,
+    Right,
+    Bottom,
+    Top,
+}
+
+/// What stands in a cell, one form a line. Columns, rows and places are coarse coordinates; sizes are in u.
+#[derive(Debug, Drop)]
+pub enum Form {
+    /// A square pad. Without a width it has its layer's.
+    Joint {
+        name: Text,
+        layer: Layer,
+        col: u32,
+        row: u32,
+        width: Option<u32>,
+    },
+    /// Metal to the lower layer, which is diffusion or poly.
+    Contact {
+        name: Text,
+        lower: Layer,
+        col: u32,
+        row: u32,
+    },
+    /// A transistor, an enhancement or a depletion one, whose gate runs up or across.
+    Fet {
+        name: Text,
+        depletion: bool,
+        vertical: bool,
+        col: u32,
+        row: u32,
+        w: u32,
+        l: u32,
+    },
+    /// A terminal on a side of the cell, at a row (left and right) or a column (bottom and top).
+    Port {
+        name: Text,
+        side: Side,
+        layer: Layer,
+        place: u32,
+    },
+    /// A copy of an earlier cell, shifted.
+    Inst {
+        name: Text,
+        cell: Text,
+        col: u32,
+        row: u32,
+    },
+    /// A straight wire between two terminals, given by paths. Without a width it has its layer's.
+    Wire {
+        layer: Layer,
+        a: Text,
+        b: Text,
+        width: Option<u32>,
+    },
+    /// A bound on the coordinate of `b` less that of `a`, on y where it is vertical and else on x.
+    Limit {
+        vertical: bool,
+        a: Text,
+        b: Text,
+        at_most: bool,
+        n: i64,
+    },
+}
+
+/// A form, and the number of its line in the text, from 1.
+#[derive(Debug, Drop)]
+pub struct Line {
+    pub number: u32,
+    pub form: Form,
+}
+
+/// A cell: the lines between its first line and its `end`, with the numbers of these two.
+#[derive(Debug, Drop)]
+pub struct CellText {
+    pub name: Text,
+    pub line: u32,
+    pub end_line: u32,
+    pub lines: Seq<Line>,
+}
+
+/// A row of the grid: names of cells, from the left.
+#[derive(Debug, Drop)]
+pub struct RowText {
+    pub names: Seq<Text>,
+}
+
+/// A design: its cells, and the rows of its grid from the bottom.
+#[derive(Debug, Drop)]
+pub struct Design {
+    pub cells: Seq<CellText>,
+    pub grid: Seq<RowText>,
+}
+
+/// What one line of stick text says.
+#[derive(Debug, Drop)]
+pub enum Statement {
+    /// `sticks 1`
+    Version,
+    /// `cell NAME`
+    Cell(Text),
+    /// A line of a cell.
+    Item(Form),
+    /// `grid`
+    Grid,
+    /// `row NAME NAME ..`
+    Row(RowText),
+    /// `end`
+    End,
+}

@@ -1,0 +1,108 @@
+//! Why a text is no design.
+ghost use Rattle.std.specs.Prelude.{◌≡◌};
+ghost use Rattle.stick_parse.specs.declared.fault.LineFault.TheVariants as line_faults;
+ghost use Rattle.stick_parse.specs.declared.fault.ParseFault.TheVariants as faults;
+
+use std::alloc::{AllocError, AllocFailed};
+use stick_lex::LexFault;
+
+/// The kinds of faults of a stick text, numbered from 1 in this order. The first five are faults of syntax, which
+/// `parse` tells; the others are faults of names and sizes.
+#[derive(Clone, Copy, Debug, PartialEq, Eq)]
+pub enum StickKind {
+    /// A run of bytes that is no token.
+    BadByte = 1,
+    /// A number past 1,000,000 either side of 0.
+    NumberTooLarge,
+    /// The tokens form no line that may stand here.
+    BadLine,
+    /// The text ends before the grid's `end`. It is told at the last line, or at line 1 of an empty text.
+    Unended,
+    /// The 257th `cell` line.
+    TooManyCells,
+    RepeatedName,
+    UnknownName,
+    UseCycle,
+    UseDepth,
+    UsedPorts,
+    FarPlace,
+    BadSize,
+    NarrowWire,
+    WrongTerminal,
+    NotStraight,
+    WrongLayer,
+    WrongSide,
+    WideWire,
+    PortWires,
+    BadLimit,
+}
+
+/// A fault, and the number of its line, from 1.
+#[derive(Clone, Copy, Debug, PartialEq, Eq)]
+pub struct StickFault {
+    pub line: u32,
+    pub kind: StickKind,
+}
+
+/// Why `parse` gave no design.
+#[derive(Clone, Copy, Debug, PartialEq, Eq)]
+pub enum ParseFault {
+    /// The text is no design: its first fault.
+    Stick(StickFault),
+    /// Memory ran out.
+    OutOfMemory,
+}
+
+impl From<AllocError> for ParseFault {
+    ghost from_gives = { λ _ e. e ≡ faults.OutOfMemory };
+
+    fn from(_e: AllocError) -> ParseFault {
+        ParseFault::OutOfMemory
+    }
+}
+
+impl<T: Drop> From<AllocFailed<T>> for ParseFault {
+    ghost from_gives = { λ _ e. e ≡ faults.OutOfMemory };
+
+    fn from(_e: AllocFailed<T>) -> ParseFault {
+        ParseFault::OutOfMemory
+    }
+}
+
+/// Why one line says nothing.
+#[derive(Clone, Copy, Debug, PartialEq, Eq)]
+pub enum LineFault {
+    Kind(StickKind),
+    OutOfMemory,
+}
+
+impl From<AllocError> for LineFault {
+    ghost from_gives = { λ _ e. e ≡ line_faults.OutOfMemory };
+
+    fn from(_e: AllocError) -> LineFault {
+        LineFault::OutOfMemory
+    }
+}
+
+impl<T: Drop> From<AllocFailed<T>> for LineFault {
+    ghost from_gives = { λ _ e. e ≡ line_faults.OutOfMemory };
+
+    fn from(_e: AllocFailed<T>) -> LineFault {
+        LineFault::OutOfMemory
+    }
+}
+
+impl From<LexFault> for LineFault {
+    ghost use Rattle.std.specs.Prelude.{◌≡◌};
+    ghost use Rattle.stick_parse.specs.Lexing.{line_fault_of};
+
+    ghost from_gives = { λ fault e. e ≡ line_fault_of fault };
+
+    fn from(fault: LexFault) -> LineFault {
+        match fault {
+            LexFault::BadByte(_) => LineFault::Kind(StickKind::BadByte),
+            LexFault::NumberTooLarge(_) => LineFault::Kind(StickKind::NumberTooLarge),
+            LexFault::OutOfMemory => LineFault::OutOfMemory,
+        }
+    }
+}

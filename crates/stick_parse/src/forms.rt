@@ -1,0 +1,263 @@
+//! What a line of words says.
+ghost use Rattle.std.specs.Prelude.{◌≡◌};
+ghost use Rattle.stick_parse.specs.Reading.{GivesLine};
+ghost use Rattle.stick_parse.specs.WordViews.{views};
+ghost use Rattle.stick_parse.specs.Forms.{joint_of, contact_of, fet_of, port_of, use_of, wire_of, limit_of, version_of, cell_of, names_of, row_of, alone, form_named, item_named, statement_named, statement_of};
+
+use crate::design::{Form, RowText, Statement};
+use crate::fault::{LineFault, StickKind};
+use crate::words::{
+    Word, at_most_at, count_at, either_at, ended, layer_at, lower_at, name_at, number_at,
+    optional_count_at, path_at, side_at,
+};
+use lam_list::Seq;
+use std::alloc::Global;
+use stick_lex::Text;
+
+const BAD_LINE: LineFault = LineFault::Kind(StickKind::BadLine);
+
+#[tactic(auto, unfolding(crate::specs::Forms::joint_of))]
+fn joint_of(alloc: Global, words: &[Word]) -> Result<Form, LineFault>
+    ensures { GivesLine (λ x. x) result (joint_of (views words.now)) }
+{
+    let (name, rest) = name_at(words)?;
+    let (layer, rest) = layer_at(rest)?;
+    let (col, rest) = count_at(rest)?;
+    let (row, rest) = count_at(rest)?;
+    let (width, rest) = optional_count_at(rest)?;
+    ended(rest)?;
+    let name = Text::new(alloc, name)?;
+    Ok(Form::Joint {
+        name,
+        layer,
+        col,
+        row,
+        width,
+    })
+}
+
+#[tactic(auto, unfolding(crate::specs::Forms::contact_of))]
+fn contact_of(alloc: Global, words: &[Word]) -> Result<Form, LineFault>
+    ensures { GivesLine (λ x. x) result (contact_of (views words.now)) }
+{
+    let (name, rest) = name_at(words)?;
+    let (lower, rest) = lower_at(rest)?;
+    let (col, rest) = count_at(rest)?;
+    let (row, rest) = count_at(rest)?;
+    ended(rest)?;
+    let name = Text::new(alloc, name)?;
+    Ok(Form::Contact {
+        name,
+        lower,
+        col,
+        row,
+    })
+}
+
+#[tactic(auto, unfolding(crate::specs::Forms::fet_of))]
+fn fet_of(alloc: Global, words: &[Word]) -> Result<Form, LineFault>
+    ensures { GivesLine (λ x. x) result (fet_of (views words.now)) }
+{
+    let (name, rest) = name_at(words)?;
+    let (depletion, rest) = either_at(b"enh", b"dep", rest)?;
+    let (vertical, rest) = either_at(b"h", b"v", rest)?;
+    let (col, rest) = count_at(rest)?;
+    let (row, rest) = count_at(rest)?;
+    let (w, rest) = count_at(rest)?;
+    let (l, rest) = count_at(rest)?;
+    ended(rest)?;
+    let name = Text::new(alloc, name)?;
+    Ok(Form::Fet {
+        name,
+        depletion,
+        vertical,
+        col,
+        row,
+        w,
+        l,
+    })
+}
+
+#[tactic(auto, unfolding(crate::specs::Forms::port_of))]
+fn port_of(alloc: Global, words: &[Word]) -> Result<Form, LineFault>
+    ensures { GivesLine (λ x. x) result (port_of (views words.now)) }
+{
+    let (name, rest) = name_at(words)?;
+    let (side, rest) = side_at(rest)?;
+    let (layer, rest) = layer_at(rest)?;
+    let (place, rest) = count_at(rest)?;
+    ended(rest)?;
+    let name = Text::new(alloc, name)?;
+    Ok(Form::Port {
+        name,
+        side,
+        layer,
+        place,
+    })
+}
+
+#[tactic(auto, unfolding(crate::specs::Forms::use_of))]
+fn use_of(alloc: Global, words: &[Word]) -> Result<Form, LineFault>
+    ensures { GivesLine (λ x. x) result (use_of (views words.now)) }
+{
+    let (name, rest) = name_at(words)?;
+    let (cell, rest) = name_at(rest)?;
+    let (col, rest) = count_at(rest)?;
+    let (row, rest) = count_at(rest)?;
+    ended(rest)?;
+    let name = Text::new(alloc, name)?;
+    let cell = Text::new(alloc, cell)?;
+    Ok(Form::Inst {
+        name,
+        cell,
+        col,
+        row,
+    })
+}
+
+#[tactic(auto, unfolding(crate::specs::Forms::wire_of))]
+fn wire_of(alloc: Global, words: &[Word]) -> Result<Form, LineFault>
+    ensures { GivesLine (λ x. x) result (wire_of (views words.now)) }
+{
+    let (layer, rest) = layer_at(words)?;
+    let (a, rest) = path_at(rest)?;
+    let (b, rest) = path_at(rest)?;
+    let (width, rest) = optional_count_at(rest)?;
+    ended(rest)?;
+    let a = Text::new(alloc, a)?;
+    let b = Text::new(alloc, b)?;
+    Ok(Form::Wire { layer, a, b, width })
+}
+
+#[tactic(auto, unfolding(crate::specs::Forms::limit_of))]
+fn limit_of(alloc: Global, words: &[Word]) -> Result<Form, LineFault>
+    ensures { GivesLine (λ x. x) result (limit_of (views words.now)) }
+{
+    let (vertical, rest) = either_at(b"x", b"y", words)?;
+    let (a, rest) = path_at(rest)?;
+    let (b, rest) = path_at(rest)?;
+    let (at_most, rest) = at_most_at(rest)?;
+    let (n, rest) = number_at(rest)?;
+    ended(rest)?;
+    let a = Text::new(alloc, a)?;
+    let b = Text::new(alloc, b)?;
+    Ok(Form::Limit {
+        vertical,
+        a,
+        b,
+        at_most,
+        n,
+    })
+}
+
+#[tactic(auto, unfolding(crate::specs::Forms::version_of))]
+fn version_of(words: &[Word]) -> Result<Statement, LineFault>
+    ensures { GivesLine (λ x. x) result (version_of (views words.now)) }
+{
+    let (version, rest) = count_at(words)?;
+    ended(rest)?;
+    if version == 1 {
+        Ok(Statement::Version)
+    } else {
+        Err(BAD_LINE)
+    }
+}
+
+#[tactic(auto, unfolding(crate::specs::Forms::cell_of))]
+fn cell_of(alloc: Global, words: &[Word]) -> Result<Statement, LineFault>
+    ensures { GivesLine (λ x. x) result (cell_of (views words.now)) }
+{
+    let (name, rest) = name_at(words)?;
+    ended(rest)?;
+    let name = Text::new(alloc, name)?;
+    Ok(Statement::Cell(name))
+}
+
+fn names_of(alloc: Global, words: &[Word]) -> Result<Seq<Text>, LineFault>
+    ensures { GivesLine (λ x. x) result (names_of (views words.now)) }
+{
+    let mut names = Vec::new(alloc);
+    for i in 0..words.len() {
+        let (name, _) = name_at(&words[i..])?;
+        names.push(Text::new(alloc, name)?)?;
+    }
+    Ok(Seq::from_vec(names))
+}
+
+#[tactic(auto, unfolding(crate::specs::Forms::row_of))]
+fn row_of(alloc: Global, words: &[Word]) -> Result<Statement, LineFault>
+    ensures { GivesLine (λ x. x) result (row_of (views words.now)) }
+{
+    if words.is_empty() {
+        return Err(BAD_LINE);
+    }
+    let names = names_of(alloc, words)?;
+    Ok(Statement::Row(RowText { names }))
+}
+
+#[tactic(auto, unfolding(crate::specs::Forms::alone))]
+fn alone(statement: Statement, words: &[Word]) -> Result<Statement, LineFault>
+    ensures { GivesLine (λ x. x) result (alone statement (views words.now)) }
+{
+    ended(words)?;
+    Ok(statement)
+}
+
+#[tactic(auto, unfolding(crate::specs::Forms::form_named))]
+fn form_named(alloc: Global, keyword: &[u8], words: &[Word]) -> Result<Form, LineFault>
+    ensures { GivesLine (λ x. x) result (form_named keyword.now (views words.now)) }
+{
+    if keyword == b"joint".as_slice() {
+        joint_of(alloc, words)
+    } else if keyword == b"contact".as_slice() {
+        contact_of(alloc, words)
+    } else if keyword == b"fet".as_slice() {
+        fet_of(alloc, words)
+    } else if keyword == b"port".as_slice() {
+        port_of(alloc, words)
+    } else if keyword == b"use".as_slice() {
+        use_of(alloc, words)
+    } else if keyword == b"wire".as_slice() {
+        wire_of(alloc, words)
+    } else if keyword == b"limit".as_slice() {
+        limit_of(alloc, words)
+    } else {
+        Err(BAD_LINE)
+    }
+}
+
+#[tactic(auto, unfolding(crate::specs::Forms::item_named))]
+fn item_named(alloc: Global, keyword: &[u8], words: &[Word]) -> Result<Statement, LineFault>
+    ensures { GivesLine (λ x. x) result (item_named keyword.now (views words.now)) }
+{
+    let form = form_named(alloc, keyword, words)?;
+    Ok(Statement::Item(form))
+}
+
+#[tactic(auto, unfolding(crate::specs::Forms::statement_named))]
+fn statement_named(alloc: Global, keyword: &[u8], words: &[Word]) -> Result<Statement, LineFault>
+    ensures { GivesLine (λ x. x) result (statement_named keyword.now (views words.now)) }
+{
+    if keyword == b"sticks".as_slice() {
+        version_of(words)
+    } else if keyword == b"cell".as_slice() {
+        cell_of(alloc, words)
+    } else if keyword == b"end".as_slice() {
+        alone(Statement::End, words)
+    } else if keyword == b"grid".as_slice() {
+        alone(Statement::Grid, words)
+    } else if keyword == b"row".as_slice() {
+        row_of(alloc, words)
+    } else {
+        item_named(alloc, keyword, words)
+    }
+}
+
+/// What a line of words says, or that its words form no line.
+#[tactic(auto, unfolding(crate::specs::Forms::statement_of))]
+pub fn statement_of(alloc: Global, words: &[Word]) -> Result<Statement, LineFault>
+    ensures { GivesLine (λ x. x) result (statement_of (views words.now)) }
+{
+    let (keyword, rest) = path_at(words)?;
+    statement_named(alloc, keyword, rest)
+}
