@@ -1,0 +1,4 @@
+pub mod Split
+pub mod Spelled
+pub mod Statements
+pub mod Whole

@@ -1,0 +1,192 @@
+-- The whole canonical text says the design again, line numbers aside.
+use Rattle.std.proofs.Common.{◌≡◌, ℕ, ◌+◌, ◌-◌, ◌<◌, ◌≤◌, Bool, true, false, cond, eqb, List, [], ◌∷◌, ◌++◌, length, get_or, take, map, Option, Result, Ok, Err, refl, sym, ap, ◌∙◌, append_assoc, arith}
+use Rattle.std.specs.List.{slice_split, flat_map, AllByRecursion}
+use Rattle.std.specs.Str.Lines.{lines, lines_of_parts, strip_carriage_return}
+use Rattle.std.proofs.lemmas.List.Elements.{All-from_recursion}
+use Rattle.std.proofs.lemmas.List.Splits.{slice_split_at, length-slice_split}
+use Rattle.std.proofs.lemmas.List.{length-append}
+use Rattle.std.proofs.lemmas.Bool.Decides.{nat_tests}
+use Rattle.stick_parse.specs.declared.fault.StickKind.{StickKind}
+use Rattle.stick_parse.specs.declared.fault.StickKind.TheVariants.{TooManyCells}
+use Rattle.stick_parse.specs.declared.fault.StickFault.{StickFault}
+use Rattle.stick_parse.specs.declared.design.Line.{Line}
+use Rattle.stick_parse.specs.declared.design.CellText.{CellText}
+use Rattle.stick_parse.specs.declared.design.RowText.{RowText}
+use Rattle.stick_parse.specs.declared.design.Design.{Design}
+use Rattle.stick_parse.specs.declared.design.Statement.{Statement}
+use Rattle.stick_parse.specs.declared.design.Statement.TheVariants.{Version, Cell, Item, Grid, Row, End}
+use Rattle.stick_parse.specs.Reading.{◌>>=◌}
+use Rattle.stick_parse.specs.Lines.{Entry, with_entry, entries}
+use Rattle.stick_parse.specs.Order.{Place, AtHead, Behind, InCell, InGrid, Rest, with_line, at_line, rest_from, last_line, design_of}
+use Rattle.stick_parse.specs.Writable.{IsLine, IsRow, IsCell, IsWritable}
+use Rattle.stick_print.specs.Canonical.{keyword_of, words_of, spaced, line_of, item_line, row_line, cell_lines, canonical}
+use Rattle.stick_print.specs.ReadBack.{without_number, without_numbers, ReadsAs}
+use Rattle.stick_print.proofs.Split.{IsInner, inner_line, inner_at}
+use Rattle.stick_print.proofs.Statements.{IsStatement, body, line_again, plain_words, plain_keyword, some_keyword}
+
+-- ---- the lines of the text
+
+inner_body : (s : Statement) → IsStatement s → AllByRecursion IsInner (body s)
+inner_body s h = inner_line (keyword_of s) (words_of s) (plain_keyword s) (plain_words s h)
+
+no_end : (b : ℕ) → IsInner b → eqb b 10 ≡ false
+no_end b h = let low : 32 ≤ b = h.0 in grind (arith, nat_tests)
+
+no_ends : (bs : List ℕ) → AllByRecursion IsInner bs → AllByRecursion (λ b. eqb b 10 ≡ false) bs
+no_ends [] h = tt
+no_ends (b ∷ bs) h = (no_end b h.0, no_ends bs h.1)
+
+no_return : (b : ℕ) → IsInner b → eqb b 13 ≡ false
+no_return b h = let low : 32 ≤ b = h.0 in grind (arith, nat_tests)
+
+else_branch : {A : Type 0} (b : Bool) (x y : A) → b ≡ false → cond b x y ≡ y
+else_branch true x y e = absurd cc
+else_branch false x y e = refl
+
+kept_whole : (line : List ℕ) → 0 < length line → AllByRecursion IsInner line → strip_carriage_return line ≡ line
+kept_whole line some h = else_branch (eqb (get_or line (length line - 1) 0) 13) (take (length line - 1) line) line (no_return (get_or line (length line - 1) 0) (inner_at line (length line - 1) h (omega arith)))
+
+line_in_front : (part : List ℕ) (parts : List (List ℕ)) → 0 < length parts → lines_of_parts (part ∷ parts) ≡ strip_carriage_return part ∷ lines_of_parts parts
+line_in_front part [] h = absurd (omega arith)
+line_in_front part (p ∷ parts) h = refl
+
+body_line : (s : Statement) (rest : List ℕ) → line_of s ++ rest ≡ body s ++ 10 ∷ rest
+unfolding line_of
+body_line s rest = append_assoc (keyword_of s) (spaced (words_of s) ++ 10 ∷ []) rest ∙ ap (λ (x : List ℕ). keyword_of s ++ x) (append_assoc (spaced (words_of s)) (10 ∷ []) rest) ∙ sym (append_assoc (keyword_of s) (spaced (words_of s)) (10 ∷ rest))
+
+some_body : (s : Statement) → 0 < length (body s)
+some_body s = omega (arith, some_keyword s, length-append (keyword_of s) (spaced (words_of s)))
+
+lines_again : (ss : List Statement) → AllByRecursion IsStatement ss → lines (flat_map line_of ss) ≡ map body ss
+lines_again [] h = refl
+lines_again (s ∷ ss) h =
+    let rest : List ℕ = flat_map line_of ss in
+    let inner = inner_body s h.0 in
+    let split : slice_split (λ b. eqb b 10) (body s ++ 10 ∷ rest) ≡ body s ∷ slice_split (λ b. eqb b 10) rest = slice_split_at (λ b. eqb b 10) (body s) 10 rest (All-from_recursion (λ b. eqb b 10 ≡ false) (body s) (no_ends (body s) inner)) refl in
+    ap lines (body_line s rest) ∙ ap lines_of_parts split ∙ line_in_front (body s) (slice_split (λ b. eqb b 10) rest) (omega (arith, length-slice_split (λ b. eqb b 10) rest))
+    ∙ ap (λ (l : List ℕ). l ∷ lines rest) (kept_whole (body s) (some_body s) inner)
+    ∙ ap (λ (ls : List (List ℕ)). body s ∷ ls) (lines_again ss h.1)
+
+-- ---- the entries
+
+abbrev numbered : ℕ → List Statement → List Entry
+numbered k [] = []
+numbered k (s ∷ ss) = record { number = k; said = Ok s } ∷ numbered (k + 1) ss
+
+entries_again : (k : ℕ) (ss : List Statement) → AllByRecursion IsStatement ss → entries k (map body ss) ≡ numbered k ss
+entries_again k [] h = refl
+entries_again k (s ∷ ss) h =
+    ap (λ (r : Result (Option Statement) StickKind). with_entry k r (entries (k + 1) (map body ss))) (line_again s h.0)
+    ∙ ap (λ (es : List Entry). record { number = k; said = Ok s } ∷ es) (entries_again (k + 1) ss h.1)
+
+-- ---- the statements of a design
+
+abbrev after_lines : List Line → List Statement → List Statement
+after_lines [] rest = rest
+after_lines (l ∷ ls) rest = Item l.form ∷ after_lines ls rest
+
+abbrev after_cells : List CellText → List Statement → List Statement
+after_cells [] rest = rest
+after_cells (c ∷ cs) rest = Cell c.name ∷ after_lines c.lines (End ∷ after_cells cs rest)
+
+abbrev grid_rows : List RowText → List Statement
+grid_rows [] = End ∷ []
+grid_rows (r ∷ rs) = Row r ∷ grid_rows rs
+
+abbrev statements : Design → List Statement
+statements d = Version ∷ after_cells d.cells (Grid ∷ grid_rows d.grid)
+
+text_of_lines : (ls : List Line) (rest : List Statement) → flat_map line_of (after_lines ls rest) ≡ flat_map item_line ls ++ flat_map line_of rest
+text_of_lines [] rest = refl
+text_of_lines (l ∷ ls) rest = ap (λ (t : List ℕ). item_line l ++ t) (text_of_lines ls rest) ∙ sym (append_assoc (item_line l) (flat_map item_line ls) (flat_map line_of rest))
+
+text_of_cells : (cs : List CellText) (rest : List Statement) → flat_map line_of (after_cells cs rest) ≡ flat_map cell_lines cs ++ flat_map line_of rest
+unfolding cell_lines
+text_of_cells [] rest = refl
+text_of_cells (c ∷ cs) rest =
+    let name = line_of (Cell c.name) in
+    let items = flat_map item_line c.lines in
+    let others = flat_map line_of (after_cells cs rest) in
+    ap (λ (t : List ℕ). name ++ t) (text_of_lines c.lines (End ∷ after_cells cs rest))
+    ∙ ap (λ (t : List ℕ). name ++ (items ++ (line_of End ++ t))) (text_of_cells cs rest)
+    ∙ ap (λ (t : List ℕ). name ++ t) (sym (append_assoc items (line_of End) (flat_map cell_lines cs ++ flat_map line_of rest)))
+    ∙ sym (append_assoc name (items ++ line_of End) (flat_map cell_lines cs ++ flat_map line_of rest))
+    ∙ sym (append_assoc (name ++ (items ++ line_of End)) (flat_map cell_lines cs) (flat_map line_of rest))
+
+text_of_rows : (rs : List RowText) → flat_map line_of (grid_rows rs) ≡ flat_map row_line rs ++ line_of End
+text_of_rows [] = Rattle.std.proofs.lemmas.List.append-nil (line_of End)
+text_of_rows (r ∷ rs) = ap (λ (t : List ℕ). row_line r ++ t) (text_of_rows rs) ∙ sym (append_assoc (row_line r) (flat_map row_line rs) (line_of End))
+
+text_of_design : (d : Design) → flat_map line_of (statements d) ≡ canonical d
+unfolding canonical
+text_of_design d = ap (λ (t : List ℕ). line_of Version ++ t) (text_of_cells d.cells (Grid ∷ grid_rows d.grid) ∙ ap (λ (t : List ℕ). flat_map cell_lines d.cells ++ (line_of Grid ++ t)) (text_of_rows d.grid))
+
+are_lines : (ls : List Line) (rest : List Statement) → AllByRecursion IsLine ls → AllByRecursion IsStatement rest → AllByRecursion IsStatement (after_lines ls rest)
+are_lines [] rest h k = k
+are_lines (l ∷ ls) rest h k = (h.0, are_lines ls rest h.1 k)
+
+are_cells : (cs : List CellText) (rest : List Statement) → AllByRecursion IsCell cs → AllByRecursion IsStatement rest → AllByRecursion IsStatement (after_cells cs rest)
+are_cells [] rest h k = k
+are_cells (c ∷ cs) rest h k = (h.0.0, are_lines c.lines (End ∷ after_cells cs rest) h.0.1 (tt, are_cells cs rest h.1 k))
+
+are_rows : (rs : List RowText) → AllByRecursion IsRow rs → AllByRecursion IsStatement (grid_rows rs)
+are_rows [] h = (tt, tt)
+are_rows (r ∷ rs) h = (h.0, are_rows rs h.1)
+
+are_statements : (d : Design) → IsWritable d → AllByRecursion IsStatement (statements d)
+are_statements d h = (tt, are_cells d.cells (Grid ∷ grid_rows d.grid) h.cells (tt, are_rows d.grid h.rows))
+
+-- ---- the design that the statements give
+
+abbrev then_line : ℕ → Statement → Result Rest StickFault → Result Rest StickFault
+then_line k s read = read >>= λ rest. Ok (with_line k s rest)
+
+rows_again : (last k : ℕ) (rs : List RowText) → (end : ℕ) × (rest_from last InGrid (numbered k (grid_rows rs)) ≡ Ok (record { lines = []; end_line = end; cells = []; rows = rs }))
+rows_again last k [] = (k, refl)
+rows_again last k (r ∷ rs) = let others = rows_again last (k + 1) rs in (others.0, ap (then_line k (Row r)) others.1)
+
+-- what stands behind a cell gives these cells and rows, wherever it begins
+abbrev Behind_gives : ℕ → ℕ → List Statement → List CellText → List RowText → Type 0
+Behind_gives last n ss cs rs = (k : ℕ) → (rest : Rest) × (rest_from last (Behind n) (numbered k ss) ≡ Ok rest) × (map without_numbers rest.cells ≡ map without_numbers cs) × (rest.rows ≡ rs)
+
+lines_give : (last n k : ℕ) (ls : List Line) (ss : List Statement) (cs : List CellText) (rs : List RowText) → Behind_gives last n ss cs rs
+    → (rest : Rest) × (rest_from last (InCell n) (numbered k (after_lines ls (End ∷ ss))) ≡ Ok rest) × (map without_number rest.lines ≡ map without_number ls) × (map without_numbers rest.cells ≡ map without_numbers cs) × (rest.rows ≡ rs)
+lines_give last n k [] ss cs rs behind =
+    let r = behind (k + 1) in
+    (record r.0 { lines = []; end_line = k }, ap (then_line k End) r.1, refl, r.2, r.3)
+lines_give last n k (l ∷ ls) ss cs rs behind =
+    let r = lines_give last n (k + 1) ls ss cs rs behind in
+    (record r.0 { lines = record { number = k; form = l.form } ∷ r.0.lines }, ap (then_line k (Item l.form)) r.1, ap (λ (x : List Line). without_number l ∷ x) r.2, r.3, r.4)
+
+not_all : (n : ℕ) → n < 256 → eqb n 256 ≡ false
+not_all n h = grind (arith, nat_tests)
+
+cells_give : (last n : ℕ) (cs : List CellText) (rs : List RowText) → n + length cs ≤ 256 → Behind_gives last n (after_cells cs (Grid ∷ grid_rows rs)) cs rs
+cells_give last n [] rs few k =
+    let r = rows_again last (k + 1) rs in
+    (record { lines = []; end_line = r.0; cells = []; rows = rs }, ap (then_line k Grid) r.1, refl, refl)
+cells_give last n (c ∷ cs) rs few k =
+    let ss = after_lines c.lines (End ∷ after_cells cs (Grid ∷ grid_rows rs)) in
+    let r = lines_give last (n + 1) (k + 1) c.lines (after_cells cs (Grid ∷ grid_rows rs)) cs rs (cells_give last (n + 1) cs rs (omega arith)) in
+    let made : CellText = record { name = c.name; line = k; end_line = r.0.end_line; lines = r.0.lines } in
+    let may : cond (eqb n 256) (Err TooManyCells) (Ok (InCell (n + 1))) ≡ Ok (InCell (n + 1)) = else_branch (eqb n 256) (Err TooManyCells) (Ok (InCell (n + 1))) (not_all n (omega arith)) in (
+      record r.0 { lines = []; end_line = 0; cells = made ∷ r.0.cells },
+      ap (λ (next : Result Place StickKind). at_line k next >>= λ p. then_line k (Cell c.name) (rest_from last p (numbered (k + 1) ss))) may ∙ ap (then_line k (Cell c.name)) r.1,
+      ap (λ (x : List Line). record { name = c.name; line = 0; end_line = 0; lines = x } ∷ map without_numbers r.0.cells) r.2 ∙ ap (λ (x : List CellText). without_numbers c ∷ x) r.3,
+      r.4,
+    )
+
+pub reads_back : (d : Design) → IsWritable d → ReadsAs (canonical d) d
+unfolding design_of
+reads_back d h =
+    let ss = statements d in
+    let text = canonical d in
+    let all = are_statements d h in
+    let given = cells_give (last_line text) 0 d.cells d.grid (omega (arith, h.few_cells)) 2 in
+    let in_lines : lines text ≡ map body ss = ap lines (sym (text_of_design d)) ∙ lines_again ss all in
+    let in_entries : entries 1 (lines text) ≡ numbered 1 ss = ap (entries 1) in_lines ∙ entries_again 1 ss all in
+    let whole : rest_from (last_line text) AtHead (entries 1 (lines text)) ≡ Ok given.0 = ap (rest_from (last_line text) AtHead) in_entries ∙ ap (then_line 1 Version) given.1 in (
+      record { cells = given.0.cells; grid = given.0.rows },
+      ap (λ (r : Result Rest StickFault). r >>= λ rest. Ok (record { cells = rest.cells; grid = rest.rows })) whole,
+      ap (λ (x : List CellText). record { cells = x; grid = given.0.rows }) given.2 ∙ ap (λ (x : List RowText). record { cells = map without_numbers d.cells; grid = x }) given.3,
+    )

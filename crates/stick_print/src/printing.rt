@@ -1,0 +1,74 @@
+//! Cells and the grid.
+ghost use Rattle.std.specs.Prelude.{◌≡◌, ◌++◌, IfOk, OnOk};
+ghost use Rattle.stick_parse.specs.declared.design.Statement.TheVariants.{Cell, Row};
+ghost use Rattle.stick_parse.specs.Writable.{IsWritable};
+ghost use Rattle.stick_print.specs.ReadBack.{ReadsAs};
+ghost use Rattle.stick_print.specs.Canonical.{line_of, row_line, cell_lines, canonical};
+
+use crate::lines::put_form;
+use crate::words::put_word;
+use std::alloc::{AllocError, Global};
+use stick_lex::Text;
+use stick_parse::{CellText, Design, RowText};
+
+#[tactic(auto, unfolding(crate::specs::Canonical::line_of))]
+fn put_cell_name(out: &mut Vec<u8>, name: &Text) -> Result<(), AllocError>
+    ensures { OnOk result (out.new.items ≡ out.old.items ++ line_of (Cell name.now)) }
+{
+    out.extend_from_slice(b"cell")?;
+    put_word(out, name.bytes())?;
+    out.push(b'\n')?;
+    Ok(())
+}
+
+#[tactic(auto, unfolding(crate::specs::Canonical::line_of, crate::specs::Canonical::cell_lines))]
+fn put_cell(alloc: Global, out: &mut Vec<u8>, cell: &CellText) -> Result<(), AllocError>
+    ensures { OnOk result (out.new.items ≡ out.old.items ++ cell_lines cell.now) }
+{
+    put_cell_name(out, &cell.name)?;
+    for line in cell.lines.as_slice() {
+        put_form(alloc, out, &line.form)?;
+    }
+    out.extend_from_slice(b"end\n")?;
+    Ok(())
+}
+
+#[tactic(auto, unfolding(crate::specs::Canonical::line_of))]
+fn put_row(out: &mut Vec<u8>, row: &RowText) -> Result<(), AllocError>
+    ensures { OnOk result (out.new.items ≡ out.old.items ++ row_line row.now) }
+{
+    out.extend_from_slice(b"row")?;
+    for name in row.names.as_slice() {
+        put_word(out, name.bytes())?;
+    }
+    out.push(b'\n')?;
+    Ok(())
+}
+
+#[tactic(auto, unfolding(crate::specs::Canonical::line_of, crate::specs::Canonical::canonical))]
+fn canonical_text(alloc: Global, design: &Design) -> Result<Vec<u8>, AllocError>
+    ensures { IfOk result (λ text. text.items ≡ canonical design.now) }
+{
+    let mut out = Vec::new(alloc);
+    out.extend_from_slice(b"sticks 1\n")?;
+    for cell in design.cells.as_slice() {
+        put_cell(alloc, &mut out, cell)?;
+    }
+    out.extend_from_slice(b"grid\n")?;
+    for row in design.grid.as_slice() {
+        put_row(&mut out, row)?;
+    }
+    out.extend_from_slice(b"end\n")?;
+    Ok(out)
+}
+
+/// The canonical text of a design: one space between words, a line feed behind each line, no comments, no empty
+/// lines, no leading zeros, and a width where one stands in the design. The only refusal is want of memory.
+pub fn print(alloc: Global, design: &Design) -> Result<Vec<u8>, AllocError>
+    ensures text { IfOk result (λ text. text.items ≡ canonical design.now) }
+
+    // The text says the same design, line numbers aside.
+    ensures reads_back { IfOk result (λ text. IsWritable design.now → ReadsAs text.items design.now) }
+{
+    canonical_text(alloc, design)
+}

@@ -1,0 +1,95 @@
+//! The words of a line.
+ghost use Rattle.std.specs.Prelude.{◌≡◌, ◌++◌, ◌∷◌, [], decimal, OnOk};
+ghost use Rattle.std.specs.Fmt.{signed_decimal};
+ghost use Rattle.stick_print.specs.Canonical.{layer_word, side_word, kind_word, direction_word, axis_word, bound_word, width_words, spaced};
+
+use std::alloc::{AllocError, Global};
+use stick_parse::{Layer, Side};
+
+pub fn layer_word(layer: Layer) -> &'static [u8]
+    ensures { result.now ≡ layer_word layer }
+{
+    match layer {
+        Layer::Diffusion => b"diff",
+        Layer::Poly => b"poly",
+        Layer::Metal => b"metal",
+    }
+}
+
+pub fn side_word(side: Side) -> &'static [u8]
+    ensures { result.now ≡ side_word side }
+{
+    match side {
+        Side::Left => b"left",
+        Side::Right => b"right",
+        Side::Bottom => b"bottom",
+        Side::Top => b"top",
+    }
+}
+
+pub fn kind_word(depletion: bool) -> &'static [u8]
+    ensures { result.now ≡ kind_word depletion }
+{
+    if depletion { b"dep" } else { b"enh" }
+}
+
+pub fn direction_word(vertical: bool) -> &'static [u8]
+    ensures { result.now ≡ direction_word vertical }
+{
+    if vertical { b"v" } else { b"h" }
+}
+
+pub fn axis_word(vertical: bool) -> &'static [u8]
+    ensures { result.now ≡ axis_word vertical }
+{
+    if vertical { b"y" } else { b"x" }
+}
+
+pub fn bound_word(at_most: bool) -> &'static [u8]
+    ensures { result.now ≡ bound_word at_most }
+{
+    if at_most { b"<=" } else { b">=" }
+}
+
+/// Adds a space and a word.
+pub fn put_word(out: &mut Vec<u8>, word: &[u8]) -> Result<(), AllocError>
+    ensures { OnOk result (out.new.items ≡ out.old.items ++ 32 ∷ word.now) }
+{
+    out.push(b' ')?;
+    out.extend_from_slice(word)?;
+    Ok(())
+}
+
+/// Adds a space and a number.
+pub fn put_number(alloc: Global, out: &mut Vec<u8>, n: i64) -> Result<(), AllocError>
+    ensures { OnOk result (out.new.items ≡ out.old.items ++ 32 ∷ signed_decimal n) }
+{
+    let digits = n.to_string(alloc)?;
+    put_word(out, digits.as_bytes())
+}
+
+/// Adds a space and a number that is not negative.
+pub fn put_count(alloc: Global, out: &mut Vec<u8>, n: u32) -> Result<(), AllocError>
+    ensures { OnOk result (out.new.items ≡ out.old.items ++ 32 ∷ decimal n) }
+{
+    let digits = n.to_string(alloc)?;
+    put_word(out, digits.as_bytes())
+}
+
+/// Adds a width where there is one.
+pub fn put_width(alloc: Global, out: &mut Vec<u8>, width: Option<u32>) -> Result<(), AllocError>
+    ensures { OnOk result (out.new.items ≡ out.old.items ++ spaced (width_words width)) }
+{
+    if let Some(width) = width {
+        put_count(alloc, out, width)?;
+    }
+    Ok(())
+}
+
+/// Adds two numbers that are not negative: a column and a row, or two sizes.
+pub fn put_pair(alloc: Global, out: &mut Vec<u8>, pair: (u32, u32)) -> Result<(), AllocError>
+    ensures { OnOk result (out.new.items ≡ out.old.items ++ spaced (decimal pair.0 ∷ decimal pair.1 ∷ [])) }
+{
+    put_count(alloc, out, pair.0)?;
+    put_count(alloc, out, pair.1)
+}
