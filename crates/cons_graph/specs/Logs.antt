@@ -1,0 +1,54 @@
+use Rattle.std.specs.Prelude.{◌≡◌, ℕ, ◌≤◌, ◌-◌, ◌<◌, true, pos, Some, List, [], ◌∷◌, length, reverse, drop, slice_index}
+use Rattle.cons_graph.specs.declared.log.Entry.{Entry}
+use Rattle.cons_graph.specs.declared.log.Log.{Log}
+use Rattle.cons_graph.specs.declared.edges.Edge.{Edge}
+use Rattle.cons_graph.specs.Constraints.{Constraints}
+use Rattle.cons_graph.specs.Looks.{latest, raise_of, comes_back, edge_at}
+use Rattle.cons_graph.specs.Orders.{IsOrder}
+use Rattle.cons_graph.specs.Rounds.{plan_of, EndsInRound}
+
+-- entry 0, which stands for the origin
+abbrev pub origin_entry : Entry
+origin_entry = record { var = 0; value = pos 0; edge = 0; prev = 0 }
+
+-- the raises of a log, the newest first
+abbrev pub raises_in : Log → List Entry
+raises_in log = reverse (drop 1 log.entries)
+
+-- each raise is of one of the variables and comes from an older entry
+abbrev pub ComeFromOlder : ℕ → List Entry → Type 0
+ComeFromOlder vars [] = Unit {0}
+ComeFromOlder vars (r ∷ rs) = (r.var < vars) × (r.prev ≤ length rs) × ComeFromOlder vars rs
+
+-- the log has these raises, and `last` has each variable's latest entry
+pub record HoldsRaises (vars : ℕ) (log : Log) (raises : List Entry) : Type 0 where
+  pub entries_are : log.entries ≡ origin_entry ∷ reverse raises
+  pub one_last_each : length log.last ≡ vars
+  pub last_are : (v : ℕ) → v < vars → slice_index log.last v ≡ latest raises v
+
+-- a log that the rounds of a graph in some order of its variables leave when they end without a cycle
+pub record IsEndedLog (g : Constraints) (log : Log) : Type 0 where
+  pub order : List ℕ
+  pub rounds : ℕ
+  pub is_order : IsOrder g.vars order
+  pub holds : HoldsRaises g.vars log (raises_in log)
+  pub ended : EndsInRound (plan_of g.edges order) rounds (raises_in log)
+
+-- each raise is the one that a look at its edge makes on the log before it
+abbrev pub IsMadeByLooks : (ℕ → Edge) → ℕ → List Entry → Type 0
+IsMadeByLooks edge m [] = Unit {0}
+IsMadeByLooks edge m (r ∷ rs) = (r.edge < m) × (raise_of edge rs r.edge ≡ Some r) × IsMadeByLooks edge m rs
+
+-- a log that looks at the edges of a graph leave
+pub record IsLogOfLooks (g : Constraints) (log : Log) : Type 0 where
+  pub holds : HoldsRaises g.vars log (raises_in log)
+  pub made : IsMadeByLooks (edge_at g.edges) (length g.edges) (raises_in log)
+
+-- the raises up to the entry with a number, that entry on top
+abbrev pub up_to_entry : List Entry → ℕ → List Entry
+up_to_entry raises n = drop (length raises - n) raises
+
+-- the newest raise has its variable earlier in its own chain
+abbrev pub NewestComesBack : List Entry → Type 0
+NewestComesBack [] = ⊥
+NewestComesBack (r ∷ rs) = comes_back rs r ≡ true

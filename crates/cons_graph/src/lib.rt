@@ -1,0 +1,18 @@
+// The longest-path view of difference constraints: an edge says that the value of its head is at least the value
+// of its tail plus its length.
+// The contract for the layers above: a graph is its list of edges, and `holds` is the test of all their inequalities.
+#![tactic(auto)]
+
+pub mod constraint_graph;
+mod edge_index;
+pub mod edges;
+pub mod lines;
+pub mod log;
+pub mod names;
+mod walks;
+
+pub use constraint_graph::{Graph, GraphFault};
+pub use edges::{Edge, Why};
+pub use lines::edge_lines;
+pub use log::{Entry, Log};
+pub use names::Names;
