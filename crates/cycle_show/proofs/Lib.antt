@@ -1,0 +1,3 @@
+pub mod Paths
+pub mod Logged
+pub mod Pair

@@ -1,0 +1,12 @@
+use Rattle.std.specs.Prelude.{◌≡◌, ℕ, List, ◌∷◌, reverse, drop}
+use Rattle.cons_graph.specs.declared.log.Entry.{Entry}
+use Rattle.cons_graph.specs.Logs.{origin_entry, ComeFromOlder}
+
+-- the raises in a list of entries, newest first
+abbrev pub raises_of : List Entry → List Entry
+raises_of entries = reverse (drop 1 entries)
+
+-- entries of a log: the origin's, and then raises of these variables that each come from an older entry
+pub record AreEntries (vars : ℕ) (entries : List Entry) : Type 0 where
+  pub entries_are : entries ≡ origin_entry ∷ reverse (raises_of entries)
+  pub older : ComeFromOlder vars (raises_of entries)
