@@ -1,0 +1,73 @@
+-- A walk read out of a log that the rounds leave when they end.
+use Rattle.std.proofs.Common.{◌≡◌, ℕ, ◌<◌, ◌≤◌, Bool, Some, List, [], ◌∷◌, ◌++◌, reverse, length, get_or, refl, sym, ap, subst, ◌∙◌, arith, append_assoc, append-nil}
+use Rattle.cons_graph.specs.declared.log.Entry.{Entry}
+use Rattle.cons_graph.specs.declared.log.Log.{Log}
+use Rattle.cons_graph.specs.Constraints.{Constraints, IsConstraintGraph}
+use Rattle.cons_graph.specs.SimpleWalks.{heads_of, length_of, HasNoRepeat, WalksFromTo}
+use Rattle.cons_graph.specs.Looks.{edge_at, label, latest, chain}
+use Rattle.cons_graph.specs.Logs.{raises_in, ComeFromOlder, IsEndedLog}
+use Rattle.cons_graph.specs.WalksBack.{walk_of}
+use Rattle.cons_graph.proofs.Raises.{latest_in_log}
+use Rattle.cons_graph.proofs.Chains.{chain-zero}
+use Rattle.cons_graph.proofs.Parts.{IsLog}
+use Rattle.cons_graph.proofs.Least.{edge_among, label_value, labelled}
+use Rattle.cons_graph.proofs.Ends.{back_of, numbers, walk_is, walk_no_repeat}
+use Rattle.cons_graph.proofs.Outcomes.{IsEnded, ended_from_rounds, ended_least}
+use Rattle.cons_graph.proofs.Entries.{array_of, IsChainStep, chain_step}
+
+ended : (g : Constraints) (log : Log) → IsConstraintGraph g → (h : IsEndedLog g log) → IsEnded g h.order (raises_in log)
+ended g log s h = ended_from_rounds g h.order s h.is_order.names h.rounds (raises_in log) h.ended
+
+-- each raise of a log is of one of the variables and comes from an older entry
+log_older : (g : Constraints) (back : ℕ → Bool) (rs : List Entry) → IsConstraintGraph g → IsLog (edge_at g.edges) back (length g.edges) rs → ComeFromOlder g.vars rs
+log_older g back [] s l = tt
+log_older g back (r ∷ rs) s l =
+    let var : r.var ≡ (edge_at g.edges r.edge).to = l.0.raise.var_is in
+    let prev : r.prev ≡ latest rs (edge_at g.edges r.edge).from = l.0.raise.prev_is in
+    let inside = (edge_among g s r.edge l.0.among).to_in_range in
+    (omega (arith, var, inside), omega (arith, prev, latest_in_log rs (edge_at g.edges r.edge).from), log_older g back rs s l.1)
+
+-- one entry further back
+pub record IsNextBack (log : Log) (var n : ℕ) (walk : List ℕ) (e : Entry) : Type 0 where
+  pub older : e.prev < n
+  pub left : (walk ++ e.edge ∷ []) ++ numbers (chain (raises_in log) e.prev) ≡ numbers (chain (raises_in log) (latest (raises_in log) var))
+
+pub next_back : (g : Constraints) (log : Log) (var n : ℕ) (walk : List ℕ) (d : Entry) → IsConstraintGraph g → IsEndedLog g log → 1 ≤ n → n ≤ length (raises_in log) → walk ++ numbers (chain (raises_in log) n) ≡ numbers (chain (raises_in log) (latest (raises_in log) var)) → IsNextBack log var n walk (get_or log.entries n d)
+next_back g log var n walk d s h some le left =
+    let rs : List Entry = raises_in log in
+    let P : Entry → Type 0 = λ x. IsNextBack log var n walk x in
+    let e : Entry = get_or (array_of rs) n d in
+    let b : IsChainStep rs n e = chain_step g.vars rs n d (log_older g (back_of g h.order) rs s (ended g log s h).log) some le in
+    subst P (ap (λ l. get_or l n d) (sym h.holds.entries_are)) (record {
+      older = b.older;
+      left = append_assoc walk (e.edge ∷ []) (numbers (chain rs e.prev)) ∙ sym (ap (λ l. walk ++ numbers l) b.chain_is) ∙ left;
+    })
+
+-- the walk of a variable after rounds that have ended
+pub record IsCriticalWalk (g : Constraints) (log : Log) (var : ℕ) (walk : List ℕ) : Type 0 where
+  pub value : walk ≡ walk_of (raises_in log) var
+  pub passes : WalksFromTo g.edges 0 walk var
+  pub simple : HasNoRepeat (0 ∷ heads_of g.edges walk)
+  pub as_long : label (raises_in log) var ≡ Some (length_of g.edges walk)
+
+walk_ends : (g : Constraints) (log : Log) (var : ℕ) → IsConstraintGraph g → IsEndedLog g log → var < g.vars → IsCriticalWalk g log var (walk_of (raises_in log) var)
+walk_ends g log var s h lt =
+    let rs : List Entry = raises_in log in
+    let end : IsEnded g h.order rs = ended g log s h in
+    let has = labelled g (back_of g h.order) rs s end.log end.quiet var lt in
+    let w = walk_is g (back_of g h.order) rs end.log var has.0 has.1 in
+    record {
+      value = refl;
+      passes = w.0;
+      simple = walk_no_repeat g (back_of g h.order) rs s end.log (label_value rs) (ended_least g h.order rs s end).solves var has.0 has.1;
+      as_long = has.1 ∙ ap Some (sym w.1);
+    }
+
+-- the edges met on the way back, in reverse
+pub back_at_origin : (g : Constraints) (log : Log) (var n : ℕ) (walk : List ℕ) → IsConstraintGraph g → IsEndedLog g log → var < g.vars → n ≤ 0 → walk ++ numbers (chain (raises_in log) n) ≡ numbers (chain (raises_in log) (latest (raises_in log) var)) → IsCriticalWalk g log var (reverse walk)
+back_at_origin g log var n walk s h lt none left =
+    let rs : List Entry = raises_in log in
+    let P : List ℕ → Type 0 = λ w. IsCriticalWalk g log var w in
+    let start : n ≡ 0 = omega arith in
+    let all : walk ≡ numbers (chain rs (latest rs var)) = sym (append-nil walk) ∙ ap (λ l. walk ++ numbers l) (sym (ap (chain rs) start ∙ chain-zero rs)) ∙ left in
+    subst P (ap reverse (sym all)) (walk_ends g log var s h lt)
