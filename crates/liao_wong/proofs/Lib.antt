@@ -1,0 +1,6 @@
+pub mod Arrays
+pub mod Steps
+pub mod Course
+pub mod Outputs
+pub mod InOrder
+pub mod WorkedGraphs

@@ -1,0 +1,108 @@
+-- What is read out of a log of ended rounds, or of one that a raise has stopped.
+use Rattle.std.proofs.Common.{◌≡◌, ℕ, zero, suc, ◌+◌, ◌<◌, ◌≤◌, ℤ, pos, Bool, true, false, not, Some, List, [], ◌∷◌, ◌++◌, length, get_or, unwrap_or, refl, sym, ap, subst, ◌∙◌, arith, length-append}
+use Rattle.std.specs.List.{filter, range_with_len}
+use Rattle.std.proofs.lemmas.Bool.{cond-true, cond-false, not_from_true, not_from_false}
+use Rattle.std.proofs.lemmas.List.Elements.{filter-append, All-from_get_or}
+use Rattle.cons_graph.specs.declared.edges.Edge.{Edge}
+use Rattle.cons_graph.specs.declared.log.Entry.{Entry}
+use Rattle.cons_graph.specs.declared.log.Log.{Log}
+use Rattle.cons_graph.specs.Constraints.{Constraints, IsConstraintGraph}
+use Rattle.cons_graph.specs.Logs.{HoldsRaises, IsMadeByLooks, IsLogOfLooks, raises_in}
+use Rattle.cons_graph.specs.Looks.{label, edge_at, is_forward}
+use Rattle.cons_graph.specs.Orders.{NamesEachOnce}
+use Rattle.cons_graph.specs.Rounds.{plan_of, EndsInRound}
+use Rattle.cons_graph.specs.Solutions.{value_of}
+use Rattle.cons_graph.proofs.Raises.{raise_of-from}
+use Rattle.cons_graph.proofs.Members.{length_of_distinct, length-range, In-range}
+use Rattle.cons_graph.proofs.Parts.{IsLog, IsStopAt}
+use Rattle.cons_graph.proofs.Least.{labelled, label_value, label_value-is, least_same}
+use Rattle.cons_graph.proofs.Planned.{In-from_contains, IsDistinct-from_pairs}
+use Rattle.cons_graph.proofs.Ends.{back_of, order_length, label_small}
+use Rattle.cons_graph.proofs.Outcomes.{IsEnded, ended_from_rounds, ended_least, every_variable}
+use Rattle.liao_wong.proofs.Course.{filter_le}
+use Rattle.liao_wong.specs.declared.solving.Unsolved.{Unsolved}
+use Rattle.liao_wong.specs.declared.solving.Unsolved.TheVariants.{Cycle, OutOfMemory}
+use Rattle.liao_wong.specs.Answers.{IfCycle, IsWithinLimit}
+use Rattle.liao_wong.specs.Going.{backward_of}
+use Rattle.liao_wong.specs.Held.{Held}
+use Rattle.liao_wong.specs.Running.{IsEndedHeld, IsReadOut}
+
+-- an order has as many places as there are variables
+pub order_is_long : (vars : ℕ) (order : List ℕ) → NamesEachOnce vars order → length order ≡ vars
+order_is_long vars order o =
+    let low = length_of_distinct (range_with_len 0 vars) order (IsDistinct-from_pairs (range_with_len 0 vars) (every_variable vars).once) (λ v i. In-from_contains order v (o.each v (let h = In-range v 0 vars i in let lt = h.1 in omega (arith, lt)))) in
+    omega (arith, low, length-range 0 vars, order_length order vars o)
+
+-- ---- counting the backward edges
+
+pub range_more : (a n : ℕ) → range_with_len a (suc n) ≡ range_with_len a n ++ (a + n) ∷ []
+range_more a zero = ap (λ x. x ∷ []) (let e : a ≡ a + 0 = omega arith in e)
+range_more a (suc n) = ap (λ l. a ∷ l) (range_more (a + 1) n ∙ ap (λ x. range_with_len (a + 1) n ++ x ∷ []) (let e : (a + 1) + n ≡ a + suc n = omega arith in e))
+
+backward_more : (edges : List Edge) (order : List ℕ) (i : ℕ) → backward_of edges order (range_with_len 0 (i + 1)) ≡ backward_of edges order (range_with_len 0 i) ++ backward_of edges order (i ∷ [])
+backward_more edges order i =
+    let test = λ (k : ℕ). not (is_forward order (edge_at edges k)) in
+    ap (λ n. filter test (range_with_len 0 n)) (let e : i + 1 ≡ suc i = omega arith in e) ∙ ap (filter test) (range_more 0 i ∙ ap (λ x. range_with_len 0 i ++ x ∷ []) (let e : 0 + i ≡ i = omega arith in e)) ∙ filter-append test (range_with_len 0 i) (i ∷ [])
+
+pub count_one : (edges : List Edge) (order : List ℕ) (i : ℕ) → is_forward order (edge_at edges i) ≡ false → length (backward_of edges order (range_with_len 0 (i + 1))) ≡ length (backward_of edges order (range_with_len 0 i)) + 1
+count_one edges order i down =
+    let last : length (backward_of edges order (i ∷ [])) ≡ 1 = ap length (cond-true (not (is_forward order (edge_at edges i))) (i ∷ []) [] (not_from_false (is_forward order (edge_at edges i)) down)) in
+    omega (arith, ap length (backward_more edges order i), length-append (backward_of edges order (range_with_len 0 i)) (backward_of edges order (i ∷ [])), last)
+
+pub count_none : (edges : List Edge) (order : List ℕ) (i : ℕ) → is_forward order (edge_at edges i) ≡ true → length (backward_of edges order (range_with_len 0 (i + 1))) ≡ length (backward_of edges order (range_with_len 0 i))
+count_none edges order i up =
+    let last : length (backward_of edges order (i ∷ [])) ≡ 0 = ap length (cond-false (not (is_forward order (edge_at edges i))) (i ∷ []) [] (not_from_true (is_forward order (edge_at edges i)) up)) in
+    omega (arith, ap length (backward_more edges order i), length-append (backward_of edges order (range_with_len 0 i)) (backward_of edges order (i ∷ [])), last)
+
+pub count_low : (edges : List Edge) (order : List ℕ) (i : ℕ) → length (backward_of edges order (range_with_len 0 i)) ≤ i
+count_low edges order i = omega (arith, filter_le (λ k. not (is_forward order (edge_at edges k))) (range_with_len 0 i), length-range 0 i)
+
+-- ---- a log that a raise has stopped is one of looks
+
+log_made : (edge : ℕ → Edge) (back : ℕ → Bool) (m : ℕ) (rs : List Entry) → IsLog edge back m rs → IsMadeByLooks edge m rs
+log_made edge back m [] h = tt
+log_made edge back m (r ∷ rs) h = (h.0.among, raise_of-from edge rs r.edge r h.0.raise, log_made edge back m rs h.1)
+
+pub stop_made : (edge : ℕ → Edge) (back : ℕ → Bool) (m : ℕ) (raises : List Entry) → IsStopAt edge back m raises → IsMadeByLooks edge m raises
+stop_made edge back m raises s =
+    let P : List Entry → Type 0 = λ rs. IsMadeByLooks edge m rs in
+    subst P (sym s.is) (s.among, raise_of-from edge s.older s.newest.edge s.newest s.raise, log_made edge back m s.older s.log)
+
+pub stop_looks : (g : Constraints) (order : List ℕ) (held : Held) (log : Log) → held.vars ≡ g.vars → IsStopAt (edge_at g.edges) (back_of g order) (length g.edges) held.raises → raises_in log ≡ held.raises → HoldsRaises held.vars log held.raises → IsLogOfLooks g log
+stop_looks g order held log v s e h =
+    let P : List Entry → Type 0 = λ rs. HoldsRaises g.vars log rs in
+    let Q : ℕ → Type 0 = λ n. HoldsRaises n log held.raises in
+    let R : List Entry → Type 0 = λ rs. IsMadeByLooks (edge_at g.edges) (length g.edges) rs in
+    record { holds = subst P (sym e) (subst Q v h); made = subst R (sym e) (stop_made (edge_at g.edges) (back_of g order) (length g.edges) held.raises s) }
+
+-- ---- the solution
+
+pub read_is : (g : Constraints) (order : List ℕ) (backward rounds : ℕ) (held : Held) (x : List ℤ) (log : Log) → IsEndedHeld g order rounds held → length x ≡ held.vars → ((v : ℕ) → v < held.vars → get_or x v (pos 0) ≡ unwrap_or (label held.raises v) (pos 0)) → raises_in log ≡ held.raises → HoldsRaises held.vars log held.raises → IsReadOut g order backward rounds x backward rounds log
+read_is g order backward rounds held x log e l a r h =
+    let rs : List Entry = held.raises in
+    let s : IsConstraintGraph g = e.shape in
+    let end : IsEnded g order rs = ended_from_rounds g order s e.names rounds rs e.ended in
+    let vars : held.vars ≡ g.vars = e.vars in
+    let same : (v : ℕ) → v < g.vars → value_of x v ≡ label_value rs v = λ v lt. a v (omega arith) in
+    let at' = labelled g (back_of g order) rs s end.log end.quiet in
+    let P : List Entry → Type 0 = λ q. HoldsRaises g.vars log q in
+    let Q : ℕ → Type 0 = λ n. HoldsRaises n log rs in
+    let W : ℤ → Type 0 = λ z. IsWithinLimit z in
+    let L : List Entry → Type 0 = λ q. (v : ℕ) → v < g.vars → label q v ≡ Some (value_of x v) in
+    let R : List Entry → Type 0 = λ q. EndsInRound (plan_of g.edges order) rounds q in
+    record {
+      same_backward = refl;
+      same_rounds = refl;
+      one_each = l ∙ vars;
+      holds = subst P (sym r) (subst Q vars h);
+      ended = subst R (sym r) e.ended;
+      labels = subst L (sym r) (λ v lt. let w = at' v lt in w.1 ∙ ap (λ z. Some z) (sym (same v lt ∙ label_value-is rs v w.0 w.1)));
+      small = All-from_get_or IsWithinLimit x (pos 0) (λ v lt. let inside : v < g.vars = omega arith in let w = at' v inside in subst W (sym (same v inside ∙ label_value-is rs v w.0 w.1)) (label_small g order rs s e.names end.log v w.0 inside w.1));
+      least = least_same g (label_value rs) (value_of x) s (ended_least g order rs s end) same;
+    }
+
+-- ---- answers
+
+pub IfCycle-map : (u : Unsolved) (P Q : List ℕ → Type 0) → ((c : List ℕ) → P c → Q c) → IfCycle u P → IfCycle u Q
+IfCycle-map (Cycle c) P Q f h = f c h
+IfCycle-map OutOfMemory P Q f h = tt

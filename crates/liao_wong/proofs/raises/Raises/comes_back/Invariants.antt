@@ -1,0 +1,14 @@
+use Rattle.std.proofs.Common.{◌≡◌, ◌≤◌, ◌==◌, length}
+use Rattle.std.specs.List.{list_any}
+use Rattle.cons_graph.specs.Looks.{chain}
+use Rattle.liao_wong.proofs.raises.Raises.comes_back.Given as goal
+
+abbrev pub invariant-loop-n : goal.invariant-loop-n
+invariant-loop-n l = record {
+  in_log : l.n ≤ length l.self.raises;
+  left : list_any (λ q. q.var == l.raise.var) (chain l.self.raises l.n)
+      ≡ list_any (λ q. q.var == l.raise.var) (chain l.self.raises l.raise.prev);
+}
+
+abbrev pub decreases-loop-n : goal.decreases-loop-n
+decreases-loop-n l = l.n

@@ -1,0 +1,13 @@
+use Rattle.std.proofs.Common.{◌≡◌, ◌-◌, length}
+use Rattle.std.specs.List.{range_with_len}
+use Rattle.cons_graph.specs.Looks.{edge_at, backward_numbers}
+use Rattle.cons_graph.specs.Rounds.{backward_part}
+use Rattle.liao_wong.specs.Going.{IsReady, backward_of}
+use Rattle.liao_wong.proofs.rounds.look_backward.Given as goal
+
+abbrev pub invariant-loop-k : goal.invariant-loop-k
+invariant-loop-k l = record {
+  ready : IsReady l.g.vars l.g.edges l.order.variables.now l.order.places.items l.raises;
+  left : backward_part (edge_at l.g.edges) (backward_of l.g.edges l.order.variables.now (range_with_len l.k (length l.g.edges - l.k))) l.raises.raises
+      ≡ backward_part (edge_at l.g.edges) (backward_numbers l.g.edges l.order.variables.now) l.initial.raises.raises;
+}

@@ -1,0 +1,13 @@
+use Rattle.std.proofs.Common.{◌≡◌, drop, fold}
+use Rattle.std.specs.List.{flat_map}
+use Rattle.cons_graph.specs.Looks.{look, edge_at}
+use Rattle.cons_graph.specs.Rounds.{forward_part, plan_of}
+use Rattle.liao_wong.specs.Going.{IsReady, group_of}
+use Rattle.liao_wong.proofs.rounds.look_forward.Given as goal
+
+abbrev pub invariant-loop-v : goal.invariant-loop-v
+invariant-loop-v l = record {
+  ready : IsReady l.g.vars l.g.edges l.order.variables.now l.order.places.items l.raises;
+  left : fold (look (edge_at l.g.edges)) l.raises.raises (flat_map (group_of l.g.edges l.order.variables.now) (drop l.v-index l.order.variables.now))
+      ≡ forward_part (plan_of l.g.edges l.order.variables.now) l.initial.raises.raises;
+}

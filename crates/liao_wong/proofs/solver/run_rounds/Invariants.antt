@@ -1,0 +1,10 @@
+use Rattle.std.proofs.Common.{◌-◌, suc, length}
+use Rattle.cons_graph.specs.Looks.{backward_numbers}
+use Rattle.liao_wong.specs.Running.{HasCome}
+use Rattle.liao_wong.proofs.solver.run_rounds.Given as goal
+
+abbrev pub invariant-rounds : goal.invariant-rounds
+invariant-rounds l = HasCome l.g l.order.variables.now l.rounds l.raises
+
+abbrev pub decreases-rounds : goal.decreases-rounds
+decreases-rounds l = suc (length (backward_numbers l.g.edges l.order.variables.now)) - l.rounds

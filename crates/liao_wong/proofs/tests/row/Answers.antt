@@ -1,0 +1,10 @@
+use Rattle.std.proofs.Common.{List, subst, sym}
+use Rattle.cons_graph.specs.declared.edges.Edge.{Edge}
+use Rattle.cons_graph.specs.Constraints.{IsConstraintGraph}
+use Rattle.liao_wong.proofs.WorkedGraphs.{row_is_graph}
+use Rattle.liao_wong.proofs.tests.row.Goals as goal
+
+pub new-requires : goal.new-requires
+new-requires c =
+    let P : List Edge → Type 0 = λ es. IsConstraintGraph (record { vars = 5; edges = es }) in
+    subst P (sym c.in-Ok.ensures) row_is_graph

@@ -1,0 +1,32 @@
+use Rattle.std.specs.Prelude.{◌≡◌, ℕ, ◌^◌, ◌<◌, ◌≤◌, ℤ, pos, neg_ℤ, ◌≤ℤ◌, Some, List, ◌∷◌, length, reverse, drop, slice_index}
+use Rattle.cons_graph.specs.declared.log.Entry.{Entry}
+use Rattle.cons_graph.specs.Looks.{label, latest, place_in}
+use Rattle.cons_graph.specs.Logs.{origin_entry, ComeFromOlder}
+
+-- what the working log shows: how many variables it is for, and its raises, the newest first
+pub record Held : Type 0 where
+  pub vars : ℕ
+  pub raises : List Entry
+
+-- the arrays of a working log: the origin's entry, then the raises from the oldest on, and each variable's latest entry
+pub record AreArraysOf (vars : ℕ) (entries : List Entry) (last : List ℕ) (raises : List Entry) : Type 0 where
+  pub entries_are : entries ≡ origin_entry ∷ reverse raises
+  pub one_last_each : length last ≡ vars
+  pub last_are : (v : ℕ) → v < vars → slice_index last v ≡ latest raises v
+  pub older : ComeFromOlder vars raises
+
+-- the raises in an array of entries, the newest first
+abbrev pub raises_of : List Entry → List Entry
+raises_of entries = reverse (drop 1 entries)
+
+-- each label is within 2^55 of 0
+abbrev pub HasSmallLabels : Held → Type 0
+HasSmallLabels h = (v : ℕ) (a : ℤ) → v < h.vars → label h.raises v ≡ Some a → (neg_ℤ (pos (2 ^ 55)) ≤ℤ a) × (a ≤ℤ pos (2 ^ 55))
+
+-- a raise that may be put on top of the log
+abbrev pub IsPushable : Held → Entry → Type 0
+IsPushable h r = (r.var < h.vars) × (r.prev ≤ length h.raises)
+
+-- where each variable stands in an order
+abbrev pub ArePlaces : List ℕ → ℕ → List ℕ → Type 0
+ArePlaces order vars places = (length places ≡ vars) × ((v : ℕ) → v < vars → slice_index places v ≡ place_in order v)

@@ -1,0 +1,6 @@
+pub mod Held
+pub mod Going
+pub mod Answers
+pub mod Running
+pub mod Sorted
+pub mod Worked

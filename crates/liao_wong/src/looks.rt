@@ -1,0 +1,59 @@
+ghost use Rattle.std.specs.Prelude.{◌≡◌, ℕ, ◌^◌, ◌<◌, ◌≤◌, ℤ, pos, neg_ℤ, ◌≤ℤ◌, length, All, IfSome, List};
+ghost use Rattle.cons_graph.specs.Constraints.{IsEdgeAmong};
+ghost use Rattle.cons_graph.specs.Looks.{raise_by, raise_of, edge_at, is_forward};
+ghost use Rattle.liao_wong.specs.Held.{HasSmallLabels, IsPushable, ArePlaces};
+
+use crate::raises::Raises;
+use cons_graph::{Edge, Entry};
+
+// The raise that a look at an edge makes, if it makes one.
+pub fn raise_at(raises: &Raises, edges: &[Edge], number: u32) -> Option<Entry>
+    requires in_range { number < length edges.now }
+    requires among { All (IsEdgeAmong raises.now.vars) edges.now }
+    requires small { HasSmallLabels raises.now }
+    ensures value { result ≡ raise_of (edge_at edges.now) raises.now.raises number }
+    ensures pushable { IfSome result (IsPushable raises.now) }
+{
+    let edge = edges[number as usize];
+    let tail = raises.label(edge.from)?;
+    raise_from(
+        &edge,
+        number,
+        raises.latest(edge.from),
+        tail,
+        raises.label(edge.to),
+    )
+}
+
+// The raise that an edge makes whose tail has a label.
+fn raise_from(edge: &Edge, number: u32, prev: u64, tail: i64, head: Option<i64>) -> Option<Entry>
+    requires tail_low { neg_ℤ (pos (2 ^ 55)) ≤ℤ tail }
+    requires tail_high { tail ≤ℤ pos (2 ^ 55) }
+    requires length_low { neg_ℤ (pos (2 ^ 21)) ≤ℤ edge.now.len }
+    requires length_high { edge.now.len ≤ℤ pos (2 ^ 21) }
+    ensures value { result ≡ raise_by edge.now number prev (Some tail) head }
+    ensures head { IfSome result (λ r. r.var ≡ edge.now.to) }
+    ensures prev { IfSome result (λ r. r.prev ≡ prev) }
+{
+    let raise = Entry {
+        var: edge.to,
+        value: tail + edge.len,
+        edge: number,
+        prev,
+    };
+    match head {
+        None => Some(raise),
+        Some(label) if label < raise.value => Some(raise),
+        Some(_) => None,
+    }
+}
+
+// Whether an edge goes up in the order whose places these are.
+pub fn goes_up(edge: &Edge, places: &[u32]) -> bool
+    requires from_in_range { edge.now.from < length places.now }
+    requires to_in_range { edge.now.to < length places.now }
+    ensures { (order : List ℕ) → ArePlaces order (length places.now) places.now
+        → result ≡ is_forward order edge.now }
+{
+    places[edge.from as usize] < places[edge.to as usize]
+}

@@ -1,0 +1,71 @@
+ghost use Rattle.std.specs.Prelude.{◌≡◌, ◌+◌, ◌^◌, ◌<◌, ◌≤◌, length, All, IfOk, IfSome, IfNone};
+ghost use Rattle.cons_graph.specs.Orders.{NamesEachOnce};
+ghost use Rattle.cons_graph.specs.Looks.{backward_numbers};
+ghost use Rattle.cons_graph.specs.Rounds.{plan_of, EndsInRound};
+ghost use Rattle.liao_wong.specs.Held.{ArePlaces};
+ghost use Rattle.liao_wong.specs.Running.{IsStoppedLog, StartsEmpty};
+
+use crate::looks::goes_up;
+use crate::raises::Raises;
+use crate::rounds::{Order, look_backward, look_forward};
+use cons_graph::{Edge, Graph};
+use std::alloc::{AllocError, Global};
+
+// The place of each variable in an order of them.
+pub fn places_of(alloc: Global, order: &[u32]) -> Result<Vec<u32>, AllocError>
+    requires names { NamesEachOnce (length order.now) order.now }
+    requires few { length order.now ≤ 2 ^ 17 }
+    ensures { IfOk result (λ places. ArePlaces order.now (length order.now) places.items) }
+{
+    let mut places = vec![in alloc; 0u32; order.len()]?;
+    for (i, v) in order.iter().enumerate() {
+        places[*v as usize] = i as u32;
+    }
+    Ok(places)
+}
+
+// Runs the rounds from the log without a raise until they end, and gives the number of the last one; or until a raise
+// stops them, and gives None.
+pub fn run_rounds(raises: &mut Raises, g: &Graph, order: &Order) -> Result<Option<u32>, AllocError>
+    requires start { StartsEmpty g.now raises.old }
+    requires few { length g.now.edges ≤ 4194304 }
+    requires names { NamesEachOnce g.now.vars order.now.variables.now }
+    requires places { ArePlaces order.now.variables.now g.now.vars order.now.places.items }
+    ensures vars { IfOk result (λ _. raises.new.vars ≡ g.now.vars) }
+    ensures ended { IfOk result (λ o. IfSome o (λ rounds.
+        EndsInRound (plan_of g.now.edges order.now.variables.now) rounds raises.new.raises)) }
+    ensures not_many { IfOk result (λ o. IfSome o (λ rounds.
+        rounds ≤ length (backward_numbers g.now.edges order.now.variables.now) + 1)) }
+    ensures stopped { IfOk result (λ o. IfNone o
+        (IsStoppedLog g.now order.now.variables.now raises.new.raises)) }
+{
+    let mut rounds = 0u32;
+    'rounds: loop {
+        look_forward(raises, g, order)?;
+        let before = raises.len();
+        if look_backward(raises, g, order)? {
+            return Ok(None);
+        }
+        rounds += 1;
+        if raises.len() == before {
+            return Ok(Some(rounds));
+        }
+    }
+}
+
+// How many edges do not go up in the order.
+pub fn backward_count(edges: &[Edge], order: &Order) -> u32
+    requires places { ArePlaces order.now.variables.now (length order.now.places.items) order.now.places.items }
+    requires in_range { All (λ e. (e.from < length order.now.places.items)
+        × (e.to < length order.now.places.items)) edges.now }
+    requires few { length edges.now < 2 ^ 32 }
+    ensures { result ≡ length (backward_numbers edges.now order.now.variables.now) }
+{
+    let mut count = 0u32;
+    for edge in edges {
+        if !goes_up(edge, &order.places) {
+            count += 1;
+        }
+    }
+    count
+}

@@ -1,0 +1,119 @@
+ghost use Rattle.std.specs.Prelude.{◌≡◌, ℕ, ◌+◌, ◌<◌, ◌≤◌, length, All, Some, IfOk, IfErr};
+ghost use Rattle.cons_graph.specs.Looks.{label, backward_numbers};
+ghost use Rattle.cons_graph.specs.Logs.{HoldsRaises, raises_in};
+ghost use Rattle.cons_graph.specs.Orders.{IsOrder};
+ghost use Rattle.cons_graph.specs.Rounds.{plan_of, EndsInRound};
+ghost use Rattle.cons_graph.specs.SimpleWalks.{IsSimplePositiveCycle};
+ghost use Rattle.cons_graph.specs.Solutions.{IsLeastSolution, value_of};
+ghost use Rattle.cons_graph.specs.Walks.{HasPositiveCycle};
+ghost use Rattle.liao_wong.specs.Answers.{IfCycle, IsCycleOf, IsWithinLimit};
+ghost use Rattle.liao_wong.specs.Running.{IsEndedHeld, IsStoppedLog, IsReadOut};
+
+use crate::raises::Raises;
+use crate::rounds::Order;
+use crate::solver::{backward_count, places_of, run_rounds};
+use cons_graph::{Graph, Log};
+use cycle_show::cycle_of;
+use lam_list::Seq;
+use std::alloc::{AllocError, Global};
+
+/// What the rounds leave when they end without a cycle.
+#[derive(Debug, Drop)]
+pub struct Solved {
+    /// The least solution: a value for each variable.
+    pub x: Seq<i64>,
+    /// How many edges are backward in the order.
+    pub backward: u32,
+    /// The number of the first round whose backward part raises nothing.
+    pub rounds: u32,
+    /// Every raise, in order.
+    pub log: Log,
+}
+
+/// Why there is no solution.
+#[derive(Debug, Drop)]
+pub enum Unsolved {
+    /// The edges of a positive cycle: it meets no variable twice and begins at its variable of least number. Comes
+    /// exactly where the graph has a positive cycle.
+    Cycle(Seq<u32>),
+    OutOfMemory,
+}
+
+/// The least solution of a graph's inequalities, by Liao and Wong's rounds (1983) over an order of the variables; or
+/// the positive cycle at which they stop.
+pub fn solve(alloc: Global, g: &Graph, order: &[u32]) -> Result<Solved, Unsolved>
+    requires { IsOrder g.now.vars order.now }
+    ensures least { IfOk result (λ s. IsLeastSolution g.now.vars g.now.edges (value_of s.x)) }
+    ensures one_each { IfOk result (λ s. length s.x ≡ g.now.vars) }
+    ensures small { IfOk result (λ s. All IsWithinLimit s.x) }
+    ensures backward { IfOk result (λ s. s.backward ≡ length (backward_numbers g.now.edges order.now)) }
+    ensures rounds { IfOk result (λ s. s.rounds ≤ s.backward + 1) }
+    ensures log { IfOk result (λ s. HoldsRaises g.now.vars s.log (raises_in s.log)) }
+    ensures ended { IfOk result
+        (λ s. EndsInRound (plan_of g.now.edges order.now) s.rounds (raises_in s.log)) }
+    ensures labels { IfOk result (λ s. (v : ℕ) → v < g.now.vars
+        → label (raises_in s.log) v ≡ Some (value_of s.x v)) }
+    ensures no_cycle { IfOk result (λ _. HasPositiveCycle g.now.edges → ⊥) }
+
+    ensures cyclic { IfErr result (λ e. IfCycle e (λ _. HasPositiveCycle g.now.edges)) }
+    ensures cycle { IfErr result (λ e. IfCycle e (IsSimplePositiveCycle g.now.edges)) }
+    ensures stopped { IfErr result (λ e. IfCycle e (IsCycleOf g.now.edges order.now)) }
+{
+    let edges = g.edges();
+    let Ok(places) = places_of(alloc, order) else {
+        return Err(Unsolved::OutOfMemory);
+    };
+    let order = Order {
+        variables: order,
+        places,
+    };
+    let backward = backward_count(edges, &order);
+    let Ok(mut raises) = Raises::new(alloc, g.vars()) else {
+        return Err(Unsolved::OutOfMemory);
+    };
+    match run_rounds(&mut raises, g, &order) {
+        Err(AllocError) => Err(Unsolved::OutOfMemory),
+        Ok(None) => Err(cycle_at(alloc, g, &order, raises)),
+        Ok(Some(rounds)) => match read_out(alloc, g, &order, raises, backward, rounds) {
+            Ok(solved) => Ok(solved),
+            Err(AllocError) => Err(Unsolved::OutOfMemory),
+        },
+    }
+}
+
+// The solution that a log of ended rounds has.
+fn read_out(
+    alloc: Global,
+    g: &Graph,
+    order: &Order,
+    raises: Raises,
+    backward: u32,
+    rounds: u32,
+) -> Result<Solved, AllocError>
+    requires { IsEndedHeld g.now order.now.variables.now rounds raises }
+    ensures { IfOk result (λ s. IsReadOut g.now order.now.variables.now backward rounds
+        s.x s.backward s.rounds s.log) }
+{
+    let x = raises.labels(alloc)?;
+    Ok(Solved {
+        x: Seq::from_vec(x),
+        backward,
+        rounds,
+        log: raises.into_log(),
+    })
+}
+
+// The cycle of a log at which the rounds have stopped.
+fn cycle_at(alloc: Global, g: &Graph, order: &Order, raises: Raises) -> Unsolved
+    requires vars { raises.vars ≡ g.now.vars }
+    requires stopped { IsStoppedLog g.now order.now.variables.now raises.raises }
+    ensures cycle { IfCycle result (IsSimplePositiveCycle g.now.edges) }
+    ensures stopped { IfCycle result (IsCycleOf g.now.edges order.now.variables.now) }
+{
+    let entry = raises.len() as u64;
+    let log = raises.into_log();
+    match cycle_of(alloc, g, &log, entry) {
+        Ok(cycle) => Unsolved::Cycle(Seq::from_vec(cycle)),
+        Err(AllocError) => Unsolved::OutOfMemory,
+    }
+}
