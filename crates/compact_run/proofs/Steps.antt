@@ -1,0 +1,67 @@
+-- What the steps of a command give, the command gives.
+use Rattle.std.proofs.Common.{◌≡◌, ℕ, List, [], ◌∷◌, Option, Some, None, Result, Ok, Err, IfOk, IfErr, inl, inr, ap, subst, ◌∙◌, option_map}
+use Rattle.std.specs.Prelude.{IsErrOf}
+use Rattle.lam_io.specs.Io.{Bytes, Files, Telling, with_asked, Asks}
+use Rattle.rule_table.specs.declared.technology.Tech.{Tech}
+use Rattle.compact_run.specs.declared.output.Output.{Output}
+use Rattle.compact_run.specs.declared.refusal.Refusal.{Refusal}
+use Rattle.compact_run.specs.declared.refusal.Refusal.TheVariants as refusal
+use Rattle.compact_run.specs.declared.status.File.{File}
+use Rattle.compact_run.specs.declared.status.File.TheVariants.{Design, Technology}
+use Rattle.compact_run.specs.Words.{Command, compact, files_of}
+use Rattle.compact_run.specs.Fetches.{AsksInOrder, AsksForFiles, OnUnread}
+use Rattle.compact_run.specs.Answers.{IsTechnology, RefusesCompact, IsGiven, text_of}
+use Rattle.compact_run.specs.Steps.{WritesMasks, RefusesDesign}
+
+design_refuses : (technology : Tech) (design tech : Bytes) (files : Files) (r : Refusal) → IsTechnology files tech technology
+    → RefusesDesign technology design files r → RefusesCompact design tech files r
+design_refuses technology design tech files refusal.OutOfMemory is why = tt
+design_refuses technology design tech files refusal.Usage is why = absurd why
+design_refuses technology design tech files (refusal.Unread file) is why = tt
+design_refuses technology design tech files (refusal.TooLong Design) is why = record { technology = technology; is_technology = is; long = why }
+design_refuses technology design tech files (refusal.TooLong Technology) is why = absurd why
+design_refuses technology design tech files (refusal.BadTech fault line) is why = absurd why
+design_refuses technology design tech files (refusal.BadSticks fault line) is why = absurd why
+design_refuses technology design tech files refusal.NotInFirstForm is why =
+    record { technology = technology; is_technology = is; text = why.text; file = why.file; cause = why.cause }
+design_refuses technology design tech files (refusal.TooLarge what) is why =
+    record { technology = technology; is_technology = is; text = why.text; file = why.file; cause = why.cause }
+design_refuses technology design tech files (refusal.Clash a b line) is why =
+    record { technology = technology; is_technology = is; text = why.text; file = why.file; cause = why.cause }
+
+-- the technology first, and then the design
+pub given_by_steps : (design tech : Bytes) (old between : Option Telling) (t : Telling) (technology : Tech) (r : Result Output Refusal) → old ≡ Some t
+    → Asks old between tech → ((u : Telling) → old ≡ Some u → IsTechnology u.files tech technology)
+    → IfOk r (λ o. (u : Telling) → between ≡ Some u → WritesMasks technology design u.files (text_of o))
+    → IfErr r (λ e. (u : Telling) → between ≡ Some u → RefusesDesign technology design u.files e)
+    → IsGiven (Some (compact design tech)) t.files r
+given_by_steps design tech old between t technology (Ok o) e asks is done refused =
+    let told : between ≡ Some (with_asked tech t) = asks ∙ ap (option_map (with_asked tech)) e in
+    let masks : WritesMasks technology design t.files (text_of o) = done (with_asked tech t) told in
+    record { technology = technology; is_technology = is t e; text = masks.text; file = masks.file; masks = masks.masks }
+given_by_steps design tech old between t technology (Err r) e asks is done refused =
+    let told : between ≡ Some (with_asked tech t) = asks ∙ ap (option_map (with_asked tech)) e in
+    let why : RefusesDesign technology design t.files r = refused (with_asked tech t) told in
+    design_refuses technology design tech t.files r (is t e) why
+
+-- a step over a file is never refused for the words
+pub never_usage : (file : File) (old new : ℕ) (r : Refusal) → OnUnread file old new r → r ≡ refusal.Usage → ⊥
+never_usage file old new r why e = let P : Refusal → Type 0 = λ s. OnUnread file old new s in subst P e why
+
+asks_weaker : {P Q : Type 0} → (P → Q) → (names : List Bytes) (old new : Option Telling) → AsksInOrder P names old new → AsksInOrder Q names old new
+asks_weaker f [] old new h = h
+asks_weaker f (name ∷ names) old new (inl p) = inl (f p.0, p.1)
+asks_weaker f (name ∷ names) old new (inr p) = inr (p.0, p.1, asks_weaker f names p.0 new p.2)
+
+-- what stops the questions may be said in other words
+pub asks_for_files_weaker : {P Q : Type 0} → (P → Q) → (c : Option Command) (old new : Option Telling) → AsksForFiles P c old new → AsksForFiles Q c old new
+asks_for_files_weaker f None old new h = h
+asks_for_files_weaker f (Some c) old new h = asks_weaker f (files_of c) old new h
+
+pub never_usage_result : {A : Type 0} (file : File) (old new : ℕ) (r : Result A Refusal) → IfErr r (OnUnread file old new) → IsErrOf r refusal.Usage → ⊥
+never_usage_result file old new (Ok x) h e = cc
+never_usage_result file old new (Err r) h e = let same : r ≡ refusal.Usage = cc in never_usage file old new r h same
+
+-- the same where the refusal is handed on
+pub never_usage_handed_on : {A : Type 0} (file : File) (old new : ℕ) (d y : Refusal) (r : Result A Refusal) → OnUnread file old new d → r ≡ Err y → y ≡ d → IsErrOf r refusal.Usage → ⊥
+never_usage_handed_on file old new d y r h p q e = let same : d ≡ refusal.Usage = cc in never_usage file old new d h same

@@ -1,0 +1,20 @@
+use Rattle.std.proofs.Common.{inl, inr}
+use Rattle.std.proofs.lemmas.Result.{err_from_is_err_and}
+use Rattle.compact_run.specs.declared.status.File.TheVariants.{Design, Technology}
+use Rattle.compact_run.proofs.Steps.{given_by_steps, never_usage_result, never_usage_handed_on}
+use Rattle.compact_run.proofs.command.compact_files.Goals as goal
+
+pub returns-in_err-technology-clause-a_command : goal.returns-in_err-technology-clause-a_command
+returns-in_err-technology-clause-a_command g c =
+    let p = err_from_is_err_and c.from_residual.result c.from_residual.ensures.1 in
+    λ e. never_usage_handed_on Technology _ _ _ _ c.from_residual.result c.in_err-technology.ensures.unread p.1 p.2 e
+
+pub returns-clause-given : goal.returns-clause-given
+returns-clause-given g c = λ t told.
+    elim c.in_ok-technology.ensures.asked [
+      | inl asks ↦ given_by_steps c.args.design.now c.args.tech.now _ _ t c.in_ok-technology.technology c.masks_of_design.result told asks c.in_ok-technology.ensures.technology c.masks_of_design.ensures.done c.masks_of_design.ensures.refused
+      | inr stopped ↦ let e = stopped.0 in cc
+    ]
+
+pub returns-clause-a_command : goal.returns-clause-a_command
+returns-clause-a_command g c = λ e. never_usage_result Design _ _ c.masks_of_design.result c.masks_of_design.ensures.unread e

@@ -1,0 +1,16 @@
+use Rattle.std.proofs.Common.{map, ap}
+use Rattle.compact_run.specs.Answers.{text_of}
+use Rattle.compact_run.proofs.Steps.{asks_for_files_weaker}
+use Rattle.compact_run.proofs.Endings.{ends_written, ends_refused}
+use Rattle.compact_run.proofs.top.run.Goals as goal
+
+pub returns-in-Ok-clause-answer : goal.returns-in-Ok-clause-answer
+returns-in-Ok-clause-answer g c = λ t told.
+    ends_written (map (λ word. word.now) c.args.words.now) t.files c.write.result _ _ _ _ _ _ (text_of c.in-Ok.output) c.write.ensures.answer c.write.ensures.done (λ e. ap g.R.Sink.told (c.write.ensures.silent e)) c.write.ensures.prefix c.write.ensures.line (c.in-Ok.ensures.given t told)
+
+pub returns-in-Err-clause-answer : goal.returns-in-Err-clause-answer
+returns-in-Err-clause-answer g c = λ t told.
+    ends_refused (map (λ word. word.now) c.args.words.now) t.files c.refuse.result c.in-Err.refusal _ _ _ _ _ c.refuse.ensures.status (c.in-Err.ensures.given t told) c.refuse.ensures.line
+
+pub returns-in-Err-clause-asked : goal.returns-in-Err-clause-asked
+returns-in-Err-clause-asked g c = asks_for_files_weaker (λ _. (c.in-Err.refusal, c.refuse.ensures.status)) _ _ _ c.in-Err.ensures.asked

@@ -1,0 +1,65 @@
+-- The lines that say what is wrong with a technology or with a design.
+use Rattle.std.specs.Prelude.{ℕ, List, [], ◌∷◌, ◌++◌, codes, decimal, slice_index_or}
+use Rattle.stick_parse.specs.declared.fault.StickKind.{StickKind}
+use Rattle.stick_parse.specs.declared.fault.StickKind.TheVariants as kinds
+use Rattle.stick_parse.specs.declared.fault.StickFault.{StickFault}
+use Rattle.rule_table.specs.declared.faults.TechFault.{TechFault}
+use Rattle.rule_table.specs.declared.faults.TechFault.TheVariants as numbers
+use Rattle.tech_file.specs.declared.faults.TechFileFault.{TechFileFault}
+use Rattle.tech_file.specs.declared.faults.TechFileFault.TheVariants as faults
+
+-- the dotted keys of a technology, by their numbers
+abbrev pub keys : List (List ℕ)
+keys = codes "version" ∷ codes "unit" ∷ codes "width.diffusion" ∷ codes "width.poly" ∷ codes "width.metal"
+    ∷ codes "spacing.diffusion" ∷ codes "spacing.poly" ∷ codes "spacing.metal" ∷ codes "spacing.poly_diffusion"
+    ∷ codes "spacing.cut" ∷ codes "spacing.cut_channel" ∷ codes "spacing.implant_channel"
+    ∷ codes "extension.poly" ∷ codes "extension.diffusion" ∷ codes "extension.implant" ∷ codes "cut.size" ∷ codes "cut.enclosure" ∷ []
+
+unfoldable pub key_of : ℕ → List ℕ
+key_of number = slice_index_or keys number []
+
+-- the fault's name, and its key where it has one
+abbrev pub numbers_words : TechFault → List ℕ
+numbers_words (numbers.OutOfRange key) = codes "OutOfRange " ++ key_of key
+numbers_words numbers.OddGrid = codes "OddGrid"
+numbers_words (numbers.OddWidth key) = codes "OddWidth " ++ key_of key
+numbers_words (numbers.ZeroSpacing key) = codes "ZeroSpacing " ++ key_of key
+numbers_words numbers.ShortChannel = codes "ShortChannel"
+numbers_words numbers.ShortExtension = codes "ShortExtension"
+numbers_words numbers.NarrowFet = codes "NarrowFet"
+numbers_words numbers.PadTooSmall = codes "PadTooSmall"
+
+abbrev pub tech_words : TechFileFault → List ℕ
+tech_words faults.NotToml = codes "NotToml"
+tech_words (faults.Missing key) = codes "Missing " ++ key_of key
+tech_words (faults.WrongType key) = codes "WrongType " ++ key_of key
+tech_words (faults.Unknown key) = codes "Unknown " ++ key
+tech_words (faults.Numbers fault) = numbers_words fault
+
+abbrev pub tech_line : TechFileFault → List ℕ
+tech_line fault = codes "sticks: technology: " ++ (tech_words fault ++ (10 ∷ []))
+
+abbrev pub kind_word : StickKind → List ℕ
+kind_word kinds.BadByte = codes "BadByte"
+kind_word kinds.NumberTooLarge = codes "NumberTooLarge"
+kind_word kinds.BadLine = codes "BadLine"
+kind_word kinds.Unended = codes "Unended"
+kind_word kinds.TooManyCells = codes "TooManyCells"
+kind_word kinds.RepeatedName = codes "RepeatedName"
+kind_word kinds.UnknownName = codes "UnknownName"
+kind_word kinds.UseCycle = codes "UseCycle"
+kind_word kinds.UseDepth = codes "UseDepth"
+kind_word kinds.UsedPorts = codes "UsedPorts"
+kind_word kinds.FarPlace = codes "FarPlace"
+kind_word kinds.BadSize = codes "BadSize"
+kind_word kinds.NarrowWire = codes "NarrowWire"
+kind_word kinds.WrongTerminal = codes "WrongTerminal"
+kind_word kinds.NotStraight = codes "NotStraight"
+kind_word kinds.WrongLayer = codes "WrongLayer"
+kind_word kinds.WrongSide = codes "WrongSide"
+kind_word kinds.WideWire = codes "WideWire"
+kind_word kinds.PortWires = codes "PortWires"
+kind_word kinds.BadLimit = codes "BadLimit"
+
+abbrev pub stick_line : StickFault → List ℕ
+stick_line fault = codes "sticks: line " ++ (decimal fault.line ++ (codes ": " ++ (kind_word fault.kind ++ (10 ∷ []))))

@@ -1,0 +1,17 @@
+-- The numbers with which the program ends.
+use Rattle.std.specs.Prelude.{ℕ}
+use Rattle.compact_run.specs.declared.status.Status.{Status}
+use Rattle.compact_run.specs.declared.status.Status.TheVariants.{Done, OutOfMemory, Usage, ReadFault, WriteFault, TooLong, BadTech, BadSticks, NotInFirstForm, TooLarge, Clash}
+
+abbrev pub code_of : Status → ℕ
+code_of Done = 0
+code_of OutOfMemory = 1
+code_of Usage = 2
+code_of (ReadFault file) = 3
+code_of (WriteFault side) = 4
+code_of (TooLong file) = 5
+code_of (BadTech fault) = 6
+code_of (BadSticks fault) = 7
+code_of NotInFirstForm = 7
+code_of (TooLarge what) = 9
+code_of (Clash cell a b) = 10

@@ -1,0 +1,60 @@
+//! Writing what a command answers: all texts are there before the first put.
+
+ghost use Rattle.std.specs.Prelude.{◌≡◌, ◌≤◌, ◌⊎◌, OnOk, OnErr};
+ghost use Rattle.lam_io.specs.Io.{Appends, AppendsPrefix, Rose};
+ghost use Rattle.compact_run.specs.Refusal.{status_of, line_of};
+ghost use Rattle.compact_run.specs.Answers.{Reports, write_fault_line, text_of};
+
+use crate::output::Output;
+use crate::refusal::{Refusal, line, status};
+use crate::status::{Side2, Status};
+use lam_io::{PutFault, Sink};
+
+// Puts a line into the report; a fault there changes no status.
+fn tell<R: Sink>(report: &mut R, text: &[u8])
+    ensures line { Reports (R.told report.old) (R.told report.new) (R.faults report.old) (R.faults report.new) text.now }
+    ensures counts { R.faults report.old ≤ R.faults report.new }
+{
+    let _ = report.put(text);
+}
+
+// A text in two pieces, of which the second may be empty.
+fn put_both<C: Sink>(out: &mut C, output: &Output) -> Result<(), PutFault>
+    ensures ok { OnOk result (Appends (C.told out.old) (C.told out.new) (text_of output.now)) }
+    ensures err { OnErr result (AppendsPrefix (C.told out.old) (C.told out.new) (text_of output.now)) }
+    ensures fault { OnErr result (Rose (C.faults out.old) (C.faults out.new)) }
+    ensures counts { C.faults out.old ≤ C.faults out.new }
+{
+    out.put(&output.first)?;
+    out.put(output.rest)
+}
+
+/// Writes the output of a command.
+pub fn write<C: Sink, R: Sink>(out: &mut C, report: &mut R, output: &Output) -> Status
+    ensures answer { (result ≡ Status.Done) ⊎ (result ≡ Status.WriteFault Side2.Output) }
+    ensures done { result ≡ Status.Done → Appends (C.told out.old) (C.told out.new) (text_of output.now) }
+    ensures silent { result ≡ Status.Done → report.new ≡ report.old }
+    ensures prefix { result ≡ Status.WriteFault Side2.Output → AppendsPrefix (C.told out.old) (C.told out.new) (text_of output.now) }
+    ensures fault { result ≡ Status.WriteFault Side2.Output → Rose (C.faults out.old) (C.faults out.new) }
+    ensures line { result ≡ Status.WriteFault Side2.Output → Reports (R.told report.old) (R.told report.new) (R.faults report.old) (R.faults report.new) write_fault_line }
+    ensures counts { C.faults out.old ≤ C.faults out.new }
+    ensures report_counts { R.faults report.old ≤ R.faults report.new }
+{
+    match put_both(out, output) {
+        Ok(()) => Status::Done,
+        Err(_) => {
+            tell(report, b"sticks: cannot write output\n");
+            Status::WriteFault(Side2::Output)
+        }
+    }
+}
+
+/// Says why a command is refused.
+pub fn refuse<R: Sink>(report: &mut R, refusal: Refusal) -> Status
+    ensures status { result ≡ status_of refusal }
+    ensures line { Reports (R.told report.old) (R.told report.new) (R.faults report.old) (R.faults report.new) (line_of refusal) }
+    ensures counts { R.faults report.old ≤ R.faults report.new }
+{
+    tell(report, line(&refusal));
+    status(refusal)
+}

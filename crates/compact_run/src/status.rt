@@ -1,0 +1,84 @@
+//! What the program answers.
+
+ghost use Rattle.std.specs.Prelude.{◌≡◌};
+ghost use Rattle.compact_run.specs.Status.{code_of};
+
+use stick_parse::StickFault;
+use tech_file::TechFileFault;
+
+/// A file of the command.
+#[derive(Clone, Copy, Debug, PartialEq, Eq)]
+pub enum File {
+    /// The design.
+    Design,
+    /// The technology.
+    Technology,
+}
+
+/// A stream that the program writes.
+#[derive(Clone, Copy, Debug, PartialEq, Eq)]
+pub enum Side2 {
+    /// The masks, or the text of a design.
+    Output,
+}
+
+/// What there is too much of.
+#[derive(Clone, Copy, Debug, PartialEq, Eq)]
+pub enum What {
+    /// The width or the height of the cell.
+    Extent,
+}
+
+/// How a call ended.
+#[derive(Debug, Drop)]
+pub enum Status {
+    /// The whole output was written.
+    Done,
+    /// Memory ran out. This may come at any call.
+    OutOfMemory,
+    /// The words are no command.
+    Usage,
+    /// A file could not be read: the shelf counted a fault in this call.
+    ReadFault(File),
+    /// A stream could not be written: its sink counted a fault in this call.
+    WriteFault(Side2),
+    /// A file has more bytes than it may have.
+    TooLong(File),
+    /// The technology's text is no technology: its first fault.
+    BadTech(TechFileFault),
+    /// The design's text is no design: its first fault.
+    BadSticks(StickFault),
+    /// The design's text is not in the first form.
+    NotInFirstForm,
+    /// There is too much of something.
+    TooLarge(What),
+    /// Two items are too near in the start layout: the least pair, by their numbers among the items of the cell.
+    Clash {
+        /// The cell's number among the masters.
+        cell: u32,
+        /// The lesser item.
+        a: u32,
+        /// The greater item.
+        b: u32,
+    },
+}
+
+impl Status {
+    /// The number with which the program ends.
+    pub fn code(&self) -> u8
+        ensures { result ≡ code_of self.now }
+    {
+        match self {
+            Status::Done => 0,
+            Status::OutOfMemory => 1,
+            Status::Usage => 2,
+            Status::ReadFault(_) => 3,
+            Status::WriteFault(_) => 4,
+            Status::TooLong(_) => 5,
+            Status::BadTech(_) => 6,
+            Status::BadSticks(_) | Status::NotInFirstForm => 7,
+            Status::TooLarge(_) => 9,
+            Status::Clash { .. } => 10,
+        }
+    }
+}
