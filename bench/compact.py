@@ -1,0 +1,75 @@
+#!/usr/bin/env python3
+"""Times `compact` and `fmt` on generated designs of growing size: compact.py [PROGRAM]
+
+Each design is one cell of metal at the limit of 1,000 lines or a fraction of it:
+  row     joints side by side, so that every two of them face each other (the most inequalities)
+  ladder  columns tied by a wire, with single joints between them in turns
+  chain   one column of joints whose wires are listed from the top, and a row beside it
+  grid    joints on a square grid
+  text    `fmt` of a design of up to 1,048,576 bytes
+"""
+import os, subprocess, sys, tempfile, time
+
+HERE = os.path.dirname(os.path.abspath(__file__))
+TECH = os.path.join(HERE, "..", "examples", "nmos.toml")
+PROGRAM = os.path.abspath(sys.argv[1]) if len(sys.argv) > 1 else os.path.join(HERE, "..", "crates", "sticks", "out", "sticks")
+
+
+def design(lines):
+    return "sticks 1\ncell t\n" + "".join(line + "\n" for line in lines) + "end\ngrid\nrow t\nend\n"
+
+
+def row(n):
+    return ["joint j%d metal %d 0" % (i, i) for i in range(n)]
+
+
+def ladder(n):
+    joints, wires = [], []
+    for c in range(n // 4):
+        joints += ["joint a%d metal %d 0" % (c, 2 * c), "joint b%d metal %d 2" % (c, 2 * c),
+                   "joint m%d metal %d %d" % (c, 2 * c + 1, 2 * (c % 2))]
+        wires.append("wire metal a%d b%d" % (c, c))
+    return joints + wires
+
+
+def chain(n):
+    k = n // 6
+    return (["joint r%d metal %d 0" % (i, i + 1) for i in range(n - 2 * k)]
+            + ["joint c%d metal 0 %d" % (i, 2 * i) for i in range(k)]
+            + ["wire metal c%d c%d" % (i, i + 1) for i in reversed(range(k - 1))])
+
+
+def grid(n):
+    side = int(n ** 0.5)
+    return ["joint j%d_%d metal %d %d" % (i, j, i, j) for i in range(side) for j in range(side)]
+
+
+def run(name, size, words):
+    begin = time.time()
+    status = subprocess.run([PROGRAM] + words, stdout=subprocess.DEVNULL).returncode
+    print("%-7s %8s  %6.3f s  status %d" % (name, size, time.time() - begin, status))
+
+
+def text(bytes_wanted):
+    head, tail = "sticks 1\ncell t\n", "end\ngrid\nrow t\nend\n"
+    line = "joint abcdefgh metal 1000 2000\n"
+    count = (bytes_wanted - len(head) - len(tail)) // len(line)
+    return head + line * count + tail
+
+
+def main():
+    with tempfile.TemporaryDirectory() as folder:
+        path = os.path.join(folder, "d")
+        for name, make in (("row", row), ("ladder", ladder), ("chain", chain), ("grid", grid)):
+            for n in (250, 500, 1000):
+                with open(path, "w") as f:
+                    f.write(design(make(n)))
+                run(name, "%d lines" % n, ["compact", path, "--tech", TECH])
+        for k in (16, 18, 20):
+            with open(path, "w") as f:
+                f.write(text(2 ** k))
+            run("text", "2^%d" % k, ["fmt", path])
+
+
+if __name__ == "__main__":
+    main()
