@@ -1,15 +1,12 @@
--- Graphs, orders and logs that are typed in: what they have to be is a test that computes.
-use Rattle.std.proofs.Common.{◌≡◌, ℕ, ◌-◌, ◌<◌, ◌^◌, ℤ, pos, neg_ℤ, ◌≤ℤ◌, Bool, true, not, ◌&&◌, eqb, ltb, leb, Some, List, [], ◌∷◌, reverse, inl, inr, length, refl, sym, ap, ◌∙◌, arith}
-use Rattle.std.specs.Prelude.{int_lt, slice_index, slice_get}
+-- Graphs and orders that are typed in: what they have to be is a test that computes.
+use Rattle.std.proofs.Common.{◌≡◌, ℕ, ◌-◌, ◌<◌, ◌^◌, ℤ, pos, neg_ℤ, ◌≤ℤ◌, Bool, true, not, ◌&&◌, eqb, ltb, leb, Some, List, [], ◌∷◌, inl, inr, refl, sym, ap, ◌∙◌, arith}
+use Rattle.std.specs.Prelude.{int_lt, slice_get}
 use Rattle.std.specs.List.{range_with_len, list_any, list_all}
 use Rattle.std.proofs.lemmas.Bool.{and_parts, ltb-true, leb-true, eqb-true, eqb-false, not-true}
 use Rattle.std.proofs.lemmas.Int.{ints}
 use Rattle.cons_graph.specs.declared.edges.Edge.{Edge}
-use Rattle.cons_graph.specs.declared.log.Log.{Log}
 use Rattle.cons_graph.specs.Constraints.{Constraints, IsConstraintGraph, IsEdgeAmong}
 use Rattle.cons_graph.specs.Orders.{IsOrder}
-use Rattle.cons_graph.specs.Looks.{latest}
-use Rattle.cons_graph.specs.Logs.{origin_entry, raises_in, HoldsRaises}
 use Rattle.cons_graph.proofs.Chains.{In}
 use Rattle.cons_graph.proofs.Members.{In-range-from, list_any-false, list_any-true, IsDistinct}
 use Rattle.cons_graph.proofs.Planned.{place_of_In}
@@ -110,12 +107,3 @@ order_typed vars order h first =
       };
       origin_first = first;
     }
-
--- ---- logs
-
-pub raises_typed : (vars : ℕ) (log : Log) → log.entries ≡ origin_entry ∷ reverse (raises_in log) → length log.last ≡ vars → list_all (λ v. eqb (slice_index log.last v) (latest (raises_in log) v)) (range_with_len 0 vars) ≡ true → HoldsRaises vars log (raises_in log)
-raises_typed vars log entries each last = record {
-  entries_are = entries;
-  one_last_each = each;
-  last_are = λ v lt. eqb-true (slice_index log.last v) (latest (raises_in log) v) (list_all-In (λ u. eqb (slice_index log.last u) (latest (raises_in log) u)) (range_with_len 0 vars) v last (In-range-from v 0 vars (omega arith) (omega arith)));
-}

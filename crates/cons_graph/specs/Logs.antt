@@ -11,9 +11,12 @@ use Rattle.cons_graph.specs.Rounds.{plan_of, EndsInRound}
 abbrev pub origin_entry : Entry
 origin_entry = record { var = 0; value = pos 0; edge = 0; prev = 0 }
 
--- the raises of a log, the newest first
+-- the raises among the entries of a log, the newest first
+abbrev pub raises_of : List Entry → List Entry
+raises_of entries = reverse (drop 1 entries)
+
 abbrev pub raises_in : Log → List Entry
-raises_in log = reverse (drop 1 log.entries)
+raises_in log = raises_of log.entries
 
 -- each raise is of one of the variables and comes from an older entry
 abbrev pub ComeFromOlder : ℕ → List Entry → Type 0

@@ -3,15 +3,15 @@
 // The contract for the layers above: a graph is its list of edges, and `holds` is the test of all their inequalities.
 #![tactic(auto)]
 
-pub mod constraint_graph;
+mod constraint_graph;
 mod edge_index;
-pub mod edges;
-pub mod lines;
-pub mod log;
-pub mod names;
+mod edges;
+mod lines;
+mod log;
+mod names;
 mod walks;
 
-pub use constraint_graph::{Graph, GraphFault};
+pub use constraint_graph::{Graph, GraphFault, MAX_EDGES};
 pub use edges::{Edge, Why};
 pub use lines::edge_lines;
 pub use log::{Entry, Log};

@@ -7,6 +7,3 @@
 mod walk;
 
 pub use walk::{walk_lines, walk_to};
-
-#[cfg(test)]
-mod tests;

@@ -1,3 +1,2 @@
 pub mod Paths
 pub mod Logged
-pub mod Pair

@@ -14,7 +14,8 @@ use Rattle.cons_graph.proofs.Cycles.{least_place_least, least_place_in_range, li
 use Rattle.cons_graph.proofs.Walking.{reverse-cons}
 use Rattle.cons_graph.proofs.Tests.{length-tails}
 use Rattle.cons_graph.proofs.Entries.{IsChainStep, chain_step, entry_var}
-use Rattle.cycle_show.specs.Entries.{AreEntries, raises_of}
+use Rattle.cycle_show.specs.Entries.{AreEntries}
+use Rattle.cons_graph.specs.Logs.{raises_of}
 
 -- ---- the path: the raises met so far, whose latest one of each variable is marked
 

@@ -1,10 +1,6 @@
-use Rattle.std.specs.Prelude.{◌≡◌, ℕ, List, ◌∷◌, reverse, drop}
+use Rattle.std.specs.Prelude.{◌≡◌, ℕ, List, ◌∷◌, reverse}
 use Rattle.cons_graph.specs.declared.log.Entry.{Entry}
-use Rattle.cons_graph.specs.Logs.{origin_entry, ComeFromOlder}
-
--- the raises in a list of entries, newest first
-abbrev pub raises_of : List Entry → List Entry
-raises_of entries = reverse (drop 1 entries)
+use Rattle.cons_graph.specs.Logs.{origin_entry, raises_of, ComeFromOlder}
 
 -- entries of a log: the origin's, and then raises of these variables that each come from an older entry
 pub record AreEntries (vars : ℕ) (entries : List Entry) : Type 0 where

@@ -10,6 +10,3 @@ mod walking_back;
 
 pub use cycles::cycle_of;
 pub use lines::cycle_lines;
-
-#[cfg(test)]
-mod tests;

@@ -1,7 +1,8 @@
 ghost use Rattle.std.specs.Prelude.{◌≡◌, [], ◌≤◌, length, map, reverse, drop, IfOk};
 ghost use Rattle.cons_graph.specs.Looks.{chain};
 ghost use Rattle.cons_graph.specs.WalksBack.{loop_back};
-ghost use Rattle.cycle_show.specs.Entries.{AreEntries, raises_of};
+ghost use Rattle.cycle_show.specs.Entries.{AreEntries};
+ghost use Rattle.cons_graph.specs.Logs.{raises_of};
 
 use cons_graph::Entry;
 use std::alloc::{AllocError, Global};

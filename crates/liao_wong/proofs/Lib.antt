@@ -3,4 +3,3 @@ pub mod Steps
 pub mod Course
 pub mod Outputs
 pub mod InOrder
-pub mod WorkedGraphs

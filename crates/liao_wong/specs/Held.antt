@@ -1,4 +1,4 @@
-use Rattle.std.specs.Prelude.{◌≡◌, ℕ, ◌^◌, ◌<◌, ◌≤◌, ℤ, pos, neg_ℤ, ◌≤ℤ◌, Some, List, ◌∷◌, length, reverse, drop, slice_index}
+use Rattle.std.specs.Prelude.{◌≡◌, ℕ, ◌^◌, ◌<◌, ◌≤◌, ℤ, pos, neg_ℤ, ◌≤ℤ◌, Some, List, ◌∷◌, length, reverse, slice_index}
 use Rattle.cons_graph.specs.declared.log.Entry.{Entry}
 use Rattle.cons_graph.specs.Looks.{label, latest, place_in}
 use Rattle.cons_graph.specs.Logs.{origin_entry, ComeFromOlder}
@@ -14,10 +14,6 @@ pub record AreArraysOf (vars : ℕ) (entries : List Entry) (last : List ℕ) (ra
   pub one_last_each : length last ≡ vars
   pub last_are : (v : ℕ) → v < vars → slice_index last v ≡ latest raises v
   pub older : ComeFromOlder vars raises
-
--- the raises in an array of entries, the newest first
-abbrev pub raises_of : List Entry → List Entry
-raises_of entries = reverse (drop 1 entries)
 
 -- each label is within 2^55 of 0
 abbrev pub HasSmallLabels : Held → Type 0

@@ -3,4 +3,3 @@ pub mod Going
 pub mod Answers
 pub mod Running
 pub mod Sorted
-pub mod Worked

@@ -17,7 +17,8 @@ pub struct Raises {
 
 impl Model for Raises {
     ghost use Rattle.std.specs.Prelude.{length};
-    ghost use Rattle.liao_wong.specs.Held.{Held, AreArraysOf, raises_of};
+    ghost use Rattle.liao_wong.specs.Held.{Held, AreArraysOf};
+    ghost use Rattle.cons_graph.specs.Logs.{raises_of};
 
     ghost Value = { Held };
 

@@ -7,7 +7,8 @@ use Rattle.cons_graph.specs.Looks.{chain}
 use Rattle.cons_graph.specs.Logs.{raises_in, up_to_entry}
 use Rattle.cons_graph.specs.SimpleWalks.{IsSimplePositiveCycle}
 use Rattle.cons_graph.specs.WalksBack as back
-use Rattle.cycle_show.specs.Entries.{AreEntries, raises_of}
+use Rattle.cycle_show.specs.Entries.{AreEntries}
+use Rattle.cons_graph.specs.Logs.{raises_of}
 use Rattle.cycle_show.proofs.Logged.{entries_are, cycle_is, loop_in_range, cycle_simple}
 use Rattle.cycle_show.proofs.cycles.cycle_of.Goals as goal
 

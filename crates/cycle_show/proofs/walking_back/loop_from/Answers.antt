@@ -5,7 +5,7 @@ use Rattle.cons_graph.specs.declared.log.Entry.{Entry}
 use Rattle.cons_graph.specs.Looks.{chain, latest}
 use Rattle.cons_graph.specs.WalksBack.{loop_back}
 use Rattle.cons_graph.proofs.Chains.{chain-zero}
-use Rattle.cycle_show.specs.Entries.{raises_of}
+use Rattle.cons_graph.specs.Logs.{raises_of}
 use Rattle.cycle_show.proofs.Paths.{IsBack, back_at, marks_more, mark_low, loop_at_mark, loop_past}
 use Rattle.cycle_show.proofs.walking_back.loop_from.Goals as goal
 

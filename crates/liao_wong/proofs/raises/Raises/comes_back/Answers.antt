@@ -3,7 +3,8 @@ use Rattle.std.specs.List.{list_any}
 use Rattle.cons_graph.specs.declared.log.Entry.{Entry}
 use Rattle.cons_graph.specs.Looks.{chain}
 use Rattle.cons_graph.proofs.Chains.{chain-zero}
-use Rattle.liao_wong.specs.Held.{Held, AreArraysOf, raises_of}
+use Rattle.liao_wong.specs.Held.{Held, AreArraysOf}
+use Rattle.cons_graph.specs.Logs.{raises_of}
 use Rattle.cons_graph.proofs.Entries.{IsChainStep}
 use Rattle.liao_wong.proofs.Arrays.{chain_read, found_in_chain, not_found_yet}
 use Rattle.liao_wong.proofs.raises.Raises.comes_back.Goals as goal

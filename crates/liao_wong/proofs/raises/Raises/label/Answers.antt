@@ -2,7 +2,7 @@ use Rattle.std.proofs.Common.{◌≡◌, List, w64, FitsSigned, Some, None, leng
 use Rattle.std.proofs.lemmas.Int.{to_z-of_z}
 use Rattle.cons_graph.specs.declared.log.Entry.{Entry}
 use Rattle.cons_graph.specs.Looks.{label}
-use Rattle.liao_wong.specs.Held.{raises_of}
+use Rattle.cons_graph.specs.Logs.{raises_of}
 use Rattle.liao_wong.proofs.Arrays.{latest_low, in_entries, label_missing, label_found}
 use Rattle.liao_wong.proofs.raises.Raises.label.Goals as goal
 use Rattle.liao_wong.proofs.raises.Raises.label.Goals.{else-n-eq0-via-then-n-eq0+else-v-ne0, else-n-eq0-via-else-n-eq0}

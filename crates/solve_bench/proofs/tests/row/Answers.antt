@@ -1,8 +1,8 @@
 use Rattle.std.proofs.Common.{List, subst, sym}
 use Rattle.cons_graph.specs.declared.edges.Edge.{Edge}
 use Rattle.cons_graph.specs.Constraints.{IsConstraintGraph}
-use Rattle.liao_wong.proofs.WorkedGraphs.{row_is_graph}
-use Rattle.liao_wong.proofs.tests.row.Goals as goal
+use Rattle.solve_bench.proofs.WorkedGraphs.{row_is_graph}
+use Rattle.solve_bench.proofs.tests.row.Goals as goal
 
 pub new-requires : goal.new-requires
 new-requires c =

@@ -3,7 +3,7 @@ use Rattle.std.proofs.Common.{◌≡◌, ℕ, ℤ, pos, neg_ℤ, [], ◌∷◌, 
 use Rattle.cons_graph.specs.Constraints.{Constraints, IsConstraintGraph}
 use Rattle.cons_graph.specs.Orders.{IsOrder}
 use Rattle.cons_graph.proofs.TypedIn.{graph_typed, order_typed}
-use Rattle.liao_wong.specs.Worked.{pair_graph, row_graph}
+use Rattle.solve_bench.specs.Worked.{pair_graph, row_graph}
 
 pub wide_is_graph : IsConstraintGraph (pair_graph (neg_ℤ (pos 12)))
 wide_is_graph = graph_typed (pair_graph (neg_ℤ (pos 12))) refl
