@@ -92,6 +92,14 @@ impl<T: Drop> From<AllocFailed<T>> for LineFault {
     }
 }
 
+impl From<StickKind> for LineFault {
+    ghost from_gives = { λ kind e. e ≡ line_faults.Kind kind };
+
+    fn from(kind: StickKind) -> LineFault {
+        LineFault::Kind(kind)
+    }
+}
+
 impl From<LexFault> for LineFault {
     ghost use Rattle.std.specs.Prelude.{◌≡◌};
     ghost use Rattle.stick_parse.specs.Lexing.{line_fault_of};

@@ -13,7 +13,7 @@ mod parsing;
 mod words;
 
 pub use design::{CellText, Design, Form, Layer, Line, RowText, Side};
-pub use fault::{ParseFault, StickFault, StickKind};
+pub use fault::{LineFault, ParseFault, StickFault, StickKind};
 pub use parsing::parse;
 
 #[cfg(test)]
