@@ -1,0 +1,59 @@
+-- The cells of a design, one by one.
+use Rattle.std.proofs.Common.{◌≡◌, ℕ, zero, suc, ◌+◌, ◌<◌, ◌≤◌, List, [], ◌∷◌, ◌++◌, length, get_or, drop, Result, Ok, Err, refl, sym, ap, subst, ◌∙◌, add-one, arith}
+use Rattle.std.specs.List.{AllByRecursion}
+use Rattle.rule_table.specs.declared.technology.Tech.{Tech}
+use Rattle.stick_parse.specs.declared.fault.StickFault.{StickFault}
+use Rattle.stick_parse.specs.declared.fault.ParseFault.{ParseFault}
+use Rattle.stick_parse.specs.declared.fault.ParseFault.TheVariants.{Stick, OutOfMemory}
+use Rattle.stick_parse.specs.declared.design.CellText.{CellText}
+use Rattle.stick_parse.specs.Reading.{◌>>=◌, Fails}
+use Rattle.stick_parse.specs.Writable.{IsCell}
+use Rattle.stick_cell.specs.declared.table.Table.{Table}
+use Rattle.stick_cell.specs.Known.{Known}
+use Rattle.stick_cell.specs.Lines.{after_cell, cells_after}
+use Rattle.stick_cell.specs.Tables.{IsTableOf, AreTables}
+
+cells_from : (tech : Tech) (cells : List Known) (texts : List CellText) (i : ℕ) (text : CellText) → i < length texts → text ≡ get_or texts i text
+    → cells_after tech cells (drop i texts) ≡ (after_cell tech cells text >>= (λ known. cells_after tech (cells ++ known ∷ []) (drop (suc i) texts)))
+cells_from tech cells [] i text lt e = absurd (omega arith)
+cells_from tech cells (first ∷ texts) zero text lt e = ap (λ (one : CellText). after_cell tech cells one >>= (λ known. cells_after tech (cells ++ known ∷ []) texts)) (sym e)
+cells_from tech cells (first ∷ texts) (suc i) text lt e = cells_from tech cells texts i text (omega arith) e
+
+-- the cells from one on: that cell, and the cells behind it
+cells_at : (tech : Tech) (cells : List Known) (texts : List CellText) (i : ℕ) (text : CellText) (r : Result Known StickFault) → i < length texts → text ≡ get_or texts i text
+    → after_cell tech cells text ≡ r → cells_after tech cells (drop i texts) ≡ (r >>= (λ known. cells_after tech (cells ++ known ∷ []) (drop (i + 1) texts)))
+cells_at tech cells texts i text r lt e is =
+    cells_from tech cells texts i text lt e
+    ∙ ap (λ n. after_cell tech cells text >>= (λ known. cells_after tech (cells ++ known ∷ []) (drop n texts))) (sym (add-one i))
+    ∙ ap (λ r. r >>= (λ known. cells_after tech (cells ++ known ∷ []) (drop (i + 1) texts))) is
+
+-- a cell that is known
+pub cells-next : (tech : Tech) (cells : List Known) (texts : List CellText) (i : ℕ) (text : CellText) (known : Known) → i < length texts → text ≡ get_or texts i text
+    → after_cell tech cells text ≡ Ok known → cells_after tech cells (drop i texts) ≡ cells_after tech (cells ++ known ∷ []) (drop (i + 1) texts)
+cells-next tech cells texts i text known lt e is = cells_at tech cells texts i text (Ok known) lt e is
+
+-- a cell that is refused
+pub cells-refused : (tech : Tech) (cells : List Known) (texts : List CellText) (i : ℕ) (text : CellText) (fault : ParseFault) (whole : Result (List Known) StickFault)
+    → i < length texts → text ≡ get_or texts i text → Fails fault (after_cell tech cells text) → cells_after tech cells (drop i texts) ≡ whole → Fails fault whole
+cells-refused tech cells texts i text (Stick fault) whole lt e fails same = sym same ∙ cells_at tech cells texts i text (Err fault) lt e fails
+cells-refused tech cells texts i text OutOfMemory whole lt e fails same = tt
+
+-- no cell is left
+pub cells-end : (tech : Tech) (cells : List Known) (texts : List CellText) (i : ℕ) → length texts ≤ i → cells_after tech cells (drop i texts) ≡ Ok cells
+cells-end tech cells [] zero le = refl
+cells-end tech cells [] (suc i) le = refl
+cells-end tech cells (text ∷ texts) zero le = absurd (omega arith)
+cells-end tech cells (text ∷ texts) (suc i) le = cells-end tech cells texts i (omega arith)
+
+-- each text is a cell
+pub cell-at : (texts : List CellText) (i : ℕ) (text : CellText) → AllByRecursion IsCell texts → i < length texts → text ≡ get_or texts i text → IsCell text
+cell-at [] i text all lt e = absurd (omega arith)
+cell-at (first ∷ texts) zero text all lt e = subst IsCell (sym e) all.0
+cell-at (first ∷ texts) (suc i) text all lt e = cell-at texts i text all.1 (omega arith) e
+
+-- the tables with one more
+pub tables-push : (cells : List Known) (tables : List Table) (known : Known) (table : Table) → AreTables cells tables → IsTableOf known table → AreTables (cells ++ known ∷ []) (tables ++ table ∷ [])
+tables-push [] [] known table are is = (is, tt)
+tables-push [] (first ∷ tables) known table are is = absurd are
+tables-push (first ∷ cells) [] known table are is = absurd are
+tables-push (first ∷ cells) (one ∷ tables) known table are is = (are.0, tables-push cells tables known table are.1 is)

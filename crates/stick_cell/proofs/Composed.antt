@@ -1,0 +1,80 @@
+-- Paths walked name by name, over what the code keeps of the names.
+use Rattle.std.proofs.Common.{◌≡◌, ℕ, ◌+◌, ◌<◌, ◌==◌, min, List, [], ◌∷◌, length, Option, Some, None, option_map, option_and_then, refl, sym, ap, ◌∙◌, arith}
+use Rattle.std.proofs.lemmas.List.Splits.{length-slice_split}
+use Rattle.stick_lex.specs.Tokens.{names}
+use Rattle.stick_cell.specs.declared.names.Spot.{Spot}
+use Rattle.stick_cell.specs.declared.names.Pin.{Pin}
+use Rattle.stick_cell.specs.declared.names.Copied.{Copied}
+use Rattle.stick_cell.specs.declared.names.Thing.{Thing}
+use Rattle.stick_cell.specs.declared.names.Thing.TheVariants as things
+use Rattle.stick_cell.specs.declared.names.Terminal.TheVariants as terminals
+use Rattle.stick_cell.specs.declared.names.Found.{Found}
+use Rattle.stick_cell.specs.declared.names.Found.TheVariants.{At, AtCopy, Through}
+use Rattle.stick_cell.specs.Counts.{capped}
+use Rattle.stick_cell.specs.Paths.{Names, named, names_at, seen_through, behind, walk}
+use Rattle.stick_cell.specs.Kept.{ended, kept_found}
+
+-- a path has a first name
+has_name : (path : List ℕ) → 0 < length (names path)
+has_name path = omega (arith, length-slice_split (λ b. b == 46) path)
+
+-- the walk goes by what the first name stands for
+walk_from : (tables : List Names) (scope : Names) (parts : List (List ℕ)) (name : List ℕ) (rest : List (List ℕ)) (thing : Thing) → parts ≡ name ∷ rest → named scope name ≡ Some thing → walk tables scope parts ≡ behind thing rest (λ k. walk tables (names_at tables k) rest)
+walk_from tables scope parts name rest thing e is =
+    ap (walk tables scope) e ∙ ap (option_and_then (λ (t : Thing). behind t rest (λ k. walk tables (names_at tables k) rest))) is
+
+-- a cell with no names
+pub walk_nothing : (tables : List Names) (parts : List (List ℕ)) → walk tables [] parts ≡ None
+walk_nothing tables [] = refl
+walk_nothing tables (name ∷ rest) = refl
+
+behind_node : (spot : Spot) (rest : List (List ℕ)) (inner : ℕ → Option Found) → 0 < length rest → behind (things.Node spot) rest inner ≡ Some Through
+behind_node spot [] inner h = absurd (omega arith)
+behind_node spot (name ∷ rest) inner h = refl
+
+behind_port : (pin : Pin) (rest : List (List ℕ)) (inner : ℕ → Option Found) → 0 < length rest → behind (things.Port pin) rest inner ≡ Some Through
+behind_port pin [] inner h = absurd (omega arith)
+behind_port pin (name ∷ rest) inner h = refl
+
+behind_copy : (copy : Copied) (rest : List (List ℕ)) (inner : ℕ → Option Found) → 0 < length rest → behind (things.Copy copy) rest inner ≡ option_map (seen_through copy) (inner copy.cell)
+behind_copy copy [] inner h = absurd (omega arith)
+behind_copy copy (name ∷ rest) inner h = refl
+
+-- capping what is added to a capped number
+min_min : (a b m : ℕ) → min (a + min b m) m ≡ min (a + b) m
+min_min a b m = omega arith
+
+-- what the code keeps of what is found tells what it keeps of it seen through a copy
+kept_through : (copy : Copied) (found : Found) → kept_found (seen_through copy (kept_found found)) ≡ kept_found (seen_through copy found)
+kept_through copy (At (terminals.Node spot)) =
+    let number : capped (copy.first + capped spot.number) ≡ capped (copy.first + spot.number) = min_min copy.first spot.number 65537 in
+    let col : ended (copy.col + ended spot.col) ≡ ended (copy.col + spot.col) = min_min copy.col spot.col 4294967295 in
+    let row : ended (copy.row + ended spot.row) ≡ ended (copy.row + spot.row) = min_min copy.row spot.row 4294967295 in
+    cc
+kept_through copy (At (terminals.Port pin)) = refl
+kept_through copy AtCopy = refl
+kept_through copy Through = refl
+
+pub kept_all_through : (copy : Copied) (found : Option Found) → option_map (λ f. kept_found (seen_through copy f)) (option_map kept_found found) ≡ option_map kept_found (option_map (seen_through copy) found)
+kept_all_through copy None = refl
+kept_all_through copy (Some found) = ap Some (kept_through copy found)
+
+-- a path into a copy, from what the rest of it comes to in the copied cell
+pub found_in_copy : (tables : List Names) (scope inner : Names) (path rest name : List ℕ) (copy : Copied) (found : Option Found) → names path ≡ name ∷ names rest → named scope name ≡ Some (things.Copy copy) → names_at tables copy.cell ≡ inner → found ≡ option_map kept_found (walk tables inner (names rest)) → option_map (λ f. kept_found (seen_through copy f)) found ≡ option_map kept_found (walk tables scope (names path))
+found_in_copy tables scope inner path rest name copy found parts is same kept =
+    let through = λ (f : Found). kept_found (seen_through copy f) in
+    let walks : walk tables scope (names path) ≡ option_map (seen_through copy) (walk tables (names_at tables copy.cell) (names rest)) =
+    walk_from tables scope (names path) name (names rest) (things.Copy copy) parts is ∙ behind_copy copy (names rest) _ (has_name rest) in
+    ap (option_map through) kept
+    ∙ kept_all_through copy (walk tables inner (names rest))
+    ∙ ap (λ (table : Names). option_map kept_found (option_map (seen_through copy) (walk tables table (names rest)))) (sym same)
+    ∙ ap (option_map kept_found) (sym walks)
+
+-- a path that goes on behind a node or a port
+pub found_behind_node : (tables : List Names) (scope : Names) (path rest name : List ℕ) (spot : Spot) → names path ≡ name ∷ names rest → named scope name ≡ Some (things.Node spot) → Some Through ≡ option_map kept_found (walk tables scope (names path))
+found_behind_node tables scope path rest name spot parts is =
+    ap (option_map kept_found) (sym (walk_from tables scope (names path) name (names rest) (things.Node spot) parts is ∙ behind_node spot (names rest) _ (has_name rest)))
+
+pub found_behind_port : (tables : List Names) (scope : Names) (path rest name : List ℕ) (pin : Pin) → names path ≡ name ∷ names rest → named scope name ≡ Some (things.Port pin) → Some Through ≡ option_map kept_found (walk tables scope (names path))
+found_behind_port tables scope path rest name pin parts is =
+    ap (option_map kept_found) (sym (walk_from tables scope (names path) name (names rest) (things.Port pin) parts is ∙ behind_port pin (names rest) _ (has_name rest)))

@@ -1,0 +1,160 @@
+-- How counts change with a line.
+use Rattle.std.proofs.Common.{◌≡◌, ℕ, ◌+◌, ◌<◌, max, ◌==◌, Bool, false, if◌then◌else◌, List, [], ◌∷◌, ◌++◌, length, map, fold, sum_by, refl, sym, ap, ◌∙◌, arith}
+use Rattle.std.proofs.lemmas.List.{length_push, length-append, length-map, append-nil}
+use Rattle.std.proofs.lemmas.List.Sums.{sum_by_push, sum_by-append, sum_by-cons, fold-append}
+use Rattle.std.proofs.lemmas.Bool.Decides.{nat_tests}
+use Rattle.stick_parse.specs.declared.design.Side.{Side}
+use Rattle.rule_table.specs.declared.classes.Layer.{Layer}
+use Rattle.stick_cell.specs.declared.cell.NodeKind.{NodeKind}
+use Rattle.stick_cell.specs.declared.cell.Node.{Node}
+use Rattle.stick_cell.specs.declared.cell.Wire.{Wire}
+use Rattle.stick_cell.specs.declared.cell.Limit.{Limit}
+use Rattle.stick_cell.specs.Known.{Known, with_node, with_port, with_copy, with_wire, with_limit, greatest_col, greatest_row, copied_node, copied_wire, copied_limit}
+use Rattle.stick_cell.specs.Counts.{weight_of, boxes_of, capped, node_items, wire_items, node_boxes, layer_items, kind_items, kind_boxes}
+
+-- a capped sum of capped counts
+pub capped-sum : (a b : ℕ) → capped (capped a + b) ≡ capped (a + b)
+capped-sum a b = omega arith
+
+pub capped-sums : (a b : ℕ) → capped (capped a + capped b) ≡ capped (a + b)
+capped-sums a b = omega arith
+
+-- one more node
+pub weight-with_node : (known : Known) (name : List ℕ) (kind : NodeKind) (col row : ℕ) → weight_of (with_node known name kind col row) ≡ weight_of known + kind_items kind
+unfolding weight_of
+weight-with_node known name kind col row =
+    let node : Node = record { name = name; kind = kind; col = col; row = row } in
+    omega (arith, sum_by_push node_items known.nodes node)
+
+pub boxes-with_node : (known : Known) (name : List ℕ) (kind : NodeKind) (col row : ℕ) → boxes_of (with_node known name kind col row) ≡ boxes_of known + kind_boxes kind
+unfolding boxes_of
+boxes-with_node known name kind col row =
+    let node : Node = record { name = name; kind = kind; col = col; row = row } in
+    omega (arith, sum_by_push node_boxes known.nodes node)
+
+-- a port is no item and no box
+pub weight-with_port : (known : Known) (name : List ℕ) (side : Side) (layer : Layer) (place : ℕ) → weight_of (with_port known name side layer place) ≡ weight_of known
+unfolding weight_of
+weight-with_port known name side layer place = refl
+
+pub boxes-with_port : (known : Known) (name : List ℕ) (side : Side) (layer : Layer) (place : ℕ) → boxes_of (with_port known name side layer place) ≡ boxes_of known
+unfolding boxes_of
+boxes-with_port known name side layer place = refl
+
+-- the greatest column and row with one more node
+pub greatest_col-push : (nodes : List Node) (node : Node) → greatest_col (nodes ++ node ∷ []) ≡ max (greatest_col nodes) node.col
+greatest_col-push nodes node = fold-append (λ most node. max most node.col) 0 nodes (node ∷ [])
+
+pub greatest_row-push : (nodes : List Node) (node : Node) → greatest_row (nodes ++ node ∷ []) ≡ max (greatest_row nodes) node.row
+greatest_row-push nodes node = fold-append (λ most node. max most node.row) 0 nodes (node ∷ [])
+
+-- a count with what is added
+pub counted : (kept known added result next : ℕ) → kept ≡ capped known → result ≡ capped (kept + added) → next ≡ known + added → result ≡ capped next
+counted kept known added result next is sum more = omega arith
+
+-- ---- a copy of a cell
+
+-- copies of nodes count as they do
+sum_by-copied_node : (count : Node → ℕ) → ((name : List ℕ) (col row : ℕ) (node : Node) → count (copied_node name col row node) ≡ count node) → (name : List ℕ) (col row : ℕ) (nodes : List Node)
+    → sum_by count (map (copied_node name col row) nodes) ≡ sum_by count nodes
+sum_by-copied_node count same name col row [] = refl
+sum_by-copied_node count same name col row (node ∷ nodes) =
+    omega (arith, sum_by-cons count (copied_node name col row node) (map (copied_node name col row) nodes), sum_by-cons count node nodes, same name col row node, sum_by-copied_node count same name col row nodes)
+
+sum_by-copied_wire : (first : ℕ) (wires : List Wire) → sum_by wire_items (map (copied_wire first) wires) ≡ sum_by wire_items wires
+sum_by-copied_wire first [] = refl
+sum_by-copied_wire first (wire ∷ wires) =
+    omega (arith, sum_by-cons wire_items (copied_wire first wire) (map (copied_wire first) wires), sum_by-cons wire_items wire wires, sum_by-copied_wire first wires)
+
+-- a copy adds what its cell has, and one use
+pub weight-with_copy : (known : Known) (name : List ℕ) (k : ℕ) (copied : Known) (col row : ℕ) → weight_of (with_copy known name k copied col row) ≡ weight_of known + (weight_of copied + 1)
+unfolding weight_of
+weight-with_copy known name k copied col row =
+    let first = length known.nodes in
+    omega (
+      arith,
+      sum_by-append node_items known.nodes (map (copied_node name col row) copied.nodes),
+      sum_by-copied_node node_items (λ name col row node. refl) name col row copied.nodes,
+      sum_by-append wire_items known.wires (map (copied_wire first) copied.wires),
+      sum_by-copied_wire first copied.wires,
+      length-append known.limits (map (copied_limit first) copied.limits),
+      length-map copied.limits (copied_limit first),
+    )
+
+pub boxes-with_copy : (known : Known) (name : List ℕ) (k : ℕ) (copied : Known) (col row : ℕ) → boxes_of (with_copy known name k copied col row) ≡ boxes_of known + boxes_of copied
+unfolding boxes_of
+boxes-with_copy known name k copied col row =
+    let first = length known.nodes in
+    omega (
+      arith,
+      sum_by-append node_boxes known.nodes (map (copied_node name col row) copied.nodes),
+      sum_by-copied_node node_boxes (λ name col row node. refl) name col row copied.nodes,
+      length-append known.wires (map (copied_wire first) copied.wires),
+      length-map copied.wires (copied_wire first),
+    )
+
+-- the greatest column and row with the copy's nodes
+fold_max : (most : ℕ) (name : List ℕ) (col row : ℕ) (so_far other : ℕ) (nodes : List Node) → so_far ≡ max most (col + other)
+    → fold (λ most node. max most node.col) so_far (map (copied_node name col row) nodes) ≡ max most (col + fold (λ most node. max most node.col) other nodes)
+fold_max most name col row so_far other [] e = e
+fold_max most name col row so_far other (node ∷ nodes) e = fold_max most name col row (max so_far (col + node.col)) (max other node.col) nodes (omega arith)
+
+pub greatest_col-copies : (before : List Node) (name : List ℕ) (col row : ℕ) (node : Node) (nodes : List Node)
+    → greatest_col (before ++ map (copied_node name col row) (node ∷ nodes)) ≡ max (greatest_col before) (col + greatest_col (node ∷ nodes))
+greatest_col-copies before name col row node nodes =
+    fold-append (λ most node. max most node.col) 0 before (map (copied_node name col row) (node ∷ nodes))
+    ∙ fold_max (greatest_col before) name col row (max (greatest_col before) (col + node.col)) (max 0 node.col) nodes (omega arith)
+
+fold_max_row : (most : ℕ) (name : List ℕ) (col row : ℕ) (so_far other : ℕ) (nodes : List Node) → so_far ≡ max most (row + other)
+    → fold (λ most node. max most node.row) so_far (map (copied_node name col row) nodes) ≡ max most (row + fold (λ most node. max most node.row) other nodes)
+fold_max_row most name col row so_far other [] e = e
+fold_max_row most name col row so_far other (node ∷ nodes) e = fold_max_row most name col row (max so_far (row + node.row)) (max other node.row) nodes (omega arith)
+
+pub greatest_row-copies : (before : List Node) (name : List ℕ) (col row : ℕ) (node : Node) (nodes : List Node)
+    → greatest_row (before ++ map (copied_node name col row) (node ∷ nodes)) ≡ max (greatest_row before) (row + greatest_row (node ∷ nodes))
+greatest_row-copies before name col row node nodes =
+    fold-append (λ most node. max most node.row) 0 before (map (copied_node name col row) (node ∷ nodes))
+    ∙ fold_max_row (greatest_row before) name col row (max (greatest_row before) (row + node.row)) (max 0 node.row) nodes (omega arith)
+
+not_zero : (n : ℕ) → 0 < n → (n == 0) ≡ false
+not_zero n h = grind (arith, nat_tests)
+
+-- as the code finds it: where the copied cell has no node it does not rise
+pub most_col-copies : (before nodes : List Node) (name : List ℕ) (col row most count copied : ℕ) → most ≡ greatest_col before → count ≡ capped (length nodes) → copied ≡ greatest_col nodes
+    → (if count == 0 then most else max most (col + copied)) ≡ greatest_col (before ++ map (copied_node name col row) nodes)
+most_col-copies before [] name col row most count copied is counted same =
+    ap (λ (n : ℕ). if n == 0 then most else max most (col + copied)) counted ∙ is ∙ ap greatest_col (sym (append-nil before))
+most_col-copies before (node ∷ nodes) name col row most count copied is counted same =
+    ap (λ (b : Bool). if b then most else max most (col + copied)) (not_zero count (omega arith))
+    ∙ ap (λ (n : ℕ). max n (col + copied)) is ∙ ap (λ (n : ℕ). max (greatest_col before) (col + n)) same ∙ sym (greatest_col-copies before name col row node nodes)
+
+pub most_row-copies : (before nodes : List Node) (name : List ℕ) (col row most count copied : ℕ) → most ≡ greatest_row before → count ≡ capped (length nodes) → copied ≡ greatest_row nodes
+    → (if count == 0 then most else max most (row + copied)) ≡ greatest_row (before ++ map (copied_node name col row) nodes)
+most_row-copies before [] name col row most count copied is counted same =
+    ap (λ (n : ℕ). if n == 0 then most else max most (row + copied)) counted ∙ is ∙ ap greatest_row (sym (append-nil before))
+most_row-copies before (node ∷ nodes) name col row most count copied is counted same =
+    ap (λ (b : Bool). if b then most else max most (row + copied)) (not_zero count (omega arith))
+    ∙ ap (λ (n : ℕ). max n (row + copied)) is ∙ ap (λ (n : ℕ). max (greatest_row before) (row + n)) same ∙ sym (greatest_row-copies before name col row node nodes)
+
+-- a capped count with a capped count
+pub counted_copy : (kept known more added result next : ℕ) → kept ≡ capped known → more ≡ capped added → result ≡ capped (kept + more) → next ≡ known + added → result ≡ capped next
+counted_copy kept known more added result next is also sum adds = omega arith
+
+-- ---- a wire
+
+pub weight-with_wire : (known : Known) (wire : Wire) → weight_of (with_wire known wire) ≡ weight_of known + layer_items wire.layer
+unfolding weight_of
+weight-with_wire known wire = omega (arith, sum_by_push wire_items known.wires wire)
+
+pub boxes-with_wire : (known : Known) (wire : Wire) → boxes_of (with_wire known wire) ≡ boxes_of known + 1
+unfolding boxes_of
+boxes-with_wire known wire = omega (arith, length_push known.wires wire)
+
+-- a limit
+pub weight-with_limit : (known : Known) (limit : Limit) → weight_of (with_limit known limit) ≡ weight_of known + 1
+unfolding weight_of
+weight-with_limit known limit = omega (arith, length_push known.limits limit)
+
+pub boxes-with_limit : (known : Known) (limit : Limit) → boxes_of (with_limit known limit) ≡ boxes_of known
+unfolding boxes_of
+boxes-with_limit known limit = refl

@@ -1,0 +1,198 @@
+-- A cell keeps what it has with each line, and each cell of a design is sound.
+use Rattle.std.proofs.Common.{◌≡◌, ℕ, ◌+◌, ◌<◌, ◌≤◌, ◌≢◌, true, List, [], ◌∷◌, ◌++◌, length, take, Some, Result, Ok, sym, subst, inl, inr, arith}
+use Rattle.std.specs.Prelude.{IsTrue, ◌⊎◌, fold, sum_by}
+use Rattle.std.specs.List.{AllByRecursion}
+use Rattle.std.proofs.lemmas.List.{length-append, length-map, get_or_push, get_or_append_left, take_at, take-append-le}
+use Rattle.std.proofs.lemmas.Bool.{cases_eq}
+use Rattle.rule_table.specs.declared.technology.Tech.{Tech}
+use Rattle.rule_table.specs.declared.classes.Layer.{Layer}
+use Rattle.rule_table.specs.declared.classes.Layer.TheVariants as layers
+use Rattle.stick_parse.specs.declared.fault.StickKind.TheVariants.{RepeatedName, PortWires}
+use Rattle.stick_parse.specs.declared.fault.StickFault.{StickFault}
+use Rattle.stick_parse.specs.declared.design.Form.{Form}
+use Rattle.stick_parse.specs.declared.design.Form.TheVariants as forms
+use Rattle.stick_parse.specs.declared.design.Line.{Line}
+use Rattle.stick_parse.specs.declared.design.CellText.{CellText}
+use Rattle.stick_parse.specs.Writable.{IsForm, IsLine, IsCell, IsPath}
+use Rattle.stick_parse.specs.Reading.{◌>>=◌}
+use Rattle.stick_parse.specs.Order.{at_line}
+use Rattle.stick_cell.specs.declared.cell.NodeKind.{NodeKind}
+use Rattle.stick_cell.specs.declared.cell.NodeKind.TheVariants as kinds
+use Rattle.stick_cell.specs.declared.cell.Node.{Node}
+use Rattle.stick_cell.specs.declared.cell.Wire.{Wire}
+use Rattle.stick_cell.specs.declared.names.Spot.{Spot}
+use Rattle.stick_cell.specs.declared.names.Terminal.TheVariants.{Node as NodeEnd}
+use Rattle.stick_cell.specs.declared.names.Found.TheVariants.{At}
+use Rattle.stick_cell.specs.Known.{Known, Plug, begun, cell_of, known_at, plug_at}
+use Rattle.stick_cell.specs.Paths.{found_at}
+use Rattle.stick_cell.specs.Checks.{demand}
+use Rattle.stick_cell.specs.Lines.{after_form, after_lines, after_cell, is_new_cell, cells_after, is_wired, known_cells}
+use Rattle.stick_cell.specs.Counts.{weight_of, layer_items, kind_items, node_items, wire_items}
+use Rattle.stick_cell.specs.Sound.{node_at, port_at, IsPort, IsSound, IsLight}
+use Rattle.stick_cell.specs.Grown.{IsSpot, IsPlug, IsGrown, AreGrown}
+use Rattle.stick_cell.proofs.Accepted.{bound, two_bound, ok_same, at_line_ok, true_from_demand}
+use Rattle.stick_cell.proofs.GrownNames.{at_end_of}
+use Rattle.stick_cell.proofs.GrownWires.{port_of_plug}
+use Rattle.stick_cell.proofs.GrownForms.{joint_grown, contact_grown, fet_grown, port_grown, use_grown, wire_grown, limit_grown}
+use Rattle.stick_cell.proofs.GrownPlugs.{all_wired}
+
+-- a cell before its first line
+pub grown-begun : (tech : Tech) (cells : List Known) (name : List ℕ) → IsGrown tech cells (begun name)
+grown-begun tech cells name = record { nodes = tt; wires = tt; plugs = λ k lt. absurd (omega arith); limits = tt; names = tt; own_depth = omega arith; depth = omega arith }
+
+-- one more line
+pub grown-after_form : (tech : Tech) (cells : List Known) (known : Known) (form : Form) (next : Known) → AreGrown tech cells → IsForm form
+    → IsGrown tech cells known → after_form tech cells known form ≡ Ok next → IsGrown tech cells next
+grown-after_form tech cells known (forms.Joint name layer col row width) next are is grown e = joint_grown tech cells known name layer col row width next grown e
+grown-after_form tech cells known (forms.Contact name lower col row) next are is grown e = contact_grown tech cells known name lower col row next is.1 grown e
+grown-after_form tech cells known (forms.Fet name depletion vertical col row w l) next are is grown e = fet_grown tech cells known name depletion vertical col row w l next grown e
+grown-after_form tech cells known (forms.Port name side layer place) next are is grown e = port_grown tech cells known name side layer place next grown e
+grown-after_form tech cells known (forms.Inst name cell col row) next are is grown e = use_grown tech cells known name cell col row next are grown e
+grown-after_form tech cells known (forms.Wire layer a b width) next are is grown e = wire_grown tech cells known layer a b width next are grown e
+grown-after_form tech cells known (forms.Limit vertical a b at_most n) next are is grown e = limit_grown tech cells known vertical a b at_most n next are is.2 grown e
+
+-- a path that comes to a node is the node's name
+pub spot-found_at : (tech : Tech) (cells : List Known) (known : Known) (path : List ℕ) (spot : Spot) → AreGrown tech cells → IsPath path
+    → IsGrown tech cells known → found_at cells known path ≡ Some (At (NodeEnd spot))
+    → (spot.number < length known.nodes) × (node_at known.nodes spot.number ≡ record { name = path; kind = spot.kind; col = spot.col; row = spot.row })
+spot-found_at tech cells known path spot are is grown e =
+    let here : IsSpot known.nodes path spot = at_end_of tech cells known path (NodeEnd spot) are grown.names e in
+    (here.within, here.node)
+
+-- no cells
+pub are_grown-none : (tech : Tech) → AreGrown tech []
+are_grown-none tech = record { grown = λ k lt. absurd (omega arith); wired = λ k lt. absurd (omega arith) }
+
+-- ---- one more cell
+
+-- a number of one of the cells
+k_within : (cells : List Known) (known : Known) (k : ℕ) → k < length (cells ++ known ∷ []) → k ≤ length cells
+k_within cells known k lt = omega (arith, lt, length-append cells (known ∷ []))
+
+-- a cell before the last
+known_before : (cells : List Known) (known : Known) (k : ℕ) → k < length cells → known_at (cells ++ known ∷ []) k ≡ known_at cells k
+known_before cells known k lt = get_or_append_left cells (known ∷ []) (begun []) k lt
+
+-- the last cell
+known_last : (cells : List Known) (known : Known) (k : ℕ) → k ≡ length cells → known_at (cells ++ known ∷ []) k ≡ known
+known_last cells known k e = get_or_push cells known (begun []) k (sym e)
+
+-- each cell over those before it
+grown_at : (tech : Tech) (cells : List Known) (known : Known) → AreGrown tech cells → IsGrown tech cells known → (k : ℕ) → k ≤ length cells → (k ≡ length cells) ⊎ (k ≢ length cells)
+    → IsGrown tech (take k (cells ++ known ∷ [])) (known_at (cells ++ known ∷ []) k)
+grown_at tech cells known are grown k le (inl e) =
+    subst (λ (before : List Known). IsGrown tech before (known_at (cells ++ known ∷ []) k)) (sym (take_at cells (known ∷ []) k (sym e))) (subst (IsGrown tech cells) (sym (known_last cells known k e)) grown)
+grown_at tech cells known are grown k le (inr ne) =
+    let lt : k < length cells = omega (arith, le, ne) in
+    subst (λ (before : List Known). IsGrown tech before (known_at (cells ++ known ∷ []) k)) (sym (take-append-le k cells (known ∷ []) le))
+    (subst (IsGrown tech (take k cells)) (sym (known_before cells known k lt)) (are.grown k lt))
+
+-- each cell with its ports wired
+wired_at : (tech : Tech) (cells : List Known) (known : Known) → AreGrown tech cells → IsTrue (is_wired known) → (k : ℕ) → k ≤ length cells → (k ≡ length cells) ⊎ (k ≢ length cells)
+    → IsTrue (is_wired (known_at (cells ++ known ∷ []) k))
+wired_at tech cells known are wired k le (inl e) = subst (λ (cell : Known). IsTrue (is_wired cell)) (sym (known_last cells known k e)) wired
+wired_at tech cells known are wired k le (inr ne) =
+    let lt : k < length cells = omega (arith, le, ne) in subst (λ (cell : Known). IsTrue (is_wired cell)) (sym (known_before cells known k lt)) (are.wired k lt)
+
+-- one more cell
+pub are_grown-append : (tech : Tech) (cells : List Known) (known : Known) → AreGrown tech cells → IsGrown tech cells known → IsTrue (is_wired known)
+    → AreGrown tech (cells ++ known ∷ [])
+are_grown-append tech cells known are grown wired =
+    record {
+      grown = λ k lt. grown_at tech cells known are grown k (k_within cells known k lt) (cases_eq k (length cells));
+      wired = λ k lt. wired_at tech cells known are wired k (k_within cells known k lt) (cases_eq k (length cells));
+    }
+
+-- ---- the lines of a cell, and the cells of a design
+
+-- the lines of a cell
+pub grown-after_lines : (tech : Tech) (cells : List Known) (known : Known) (lines : List Line) (last : Known) → AreGrown tech cells → AllByRecursion IsLine lines → IsGrown tech cells known
+    → after_lines tech cells known lines ≡ Ok last → IsGrown tech cells last
+grown-after_lines tech cells known [] last are is grown e = subst (IsGrown tech cells) (ok_same known last e) grown
+grown-after_lines tech cells known (line ∷ lines) last are is grown e =
+    let first : (next : Known) × (at_line line.number (after_form tech cells known line.form) ≡ Ok next) × (after_lines tech cells next lines ≡ Ok last) =
+    bound (at_line line.number (after_form tech cells known line.form)) (λ next. after_lines tech cells next lines) last e in
+    grown-after_lines tech cells first.0 lines last are is.1
+    (grown-after_form tech cells known line.form first.0 are is.0 grown (at_line_ok line.number (after_form tech cells known line.form) first.0 first.1))
+    first.2
+
+-- a whole cell
+pub grown-after_cell : (tech : Tech) (cells : List Known) (text : CellText) (known : Known) → AreGrown tech cells → IsCell text → after_cell tech cells text ≡ Ok known
+    → IsGrown tech cells known × IsTrue (is_wired known)
+unfolding after_cell
+grown-after_cell tech cells text known are is e =
+    let ended : Known → Result Known StickFault = λ last. at_line text.end_line (demand (is_wired last) PortWires) >>= λ wired. Ok last in
+    let read : (u : Unit {0}) × (last : Known) × (at_line text.line (demand (is_new_cell cells text.name) RepeatedName) ≡ Ok u) × (after_lines tech cells (begun text.name) text.lines ≡ Ok last) × (ended last ≡ Ok known) =
+    two_bound (at_line text.line (demand (is_new_cell cells text.name) RepeatedName)) (after_lines tech cells (begun text.name) text.lines) (λ fresh last. ended last) known e in
+    let last : Known = read.1 in
+    let closed : (u : Unit {0}) × (at_line text.end_line (demand (is_wired last) PortWires) ≡ Ok u) × (◌≡◌ {A = Result Known StickFault} (Ok last) (Ok known)) =
+    bound (at_line text.end_line (demand (is_wired last) PortWires)) (λ wired. Ok last) known read.4 in
+    subst (λ (cell : Known). IsGrown tech cells cell × IsTrue (is_wired cell)) (ok_same last known closed.2) (
+      grown-after_lines tech cells (begun text.name) text.lines last are is.1 (grown-begun tech cells text.name) read.3,
+      true_from_demand (is_wired last) PortWires closed.0 (at_line_ok text.end_line (demand (is_wired last) PortWires) closed.0 closed.1),
+    )
+
+-- more cells
+are_grown-cells_after : (tech : Tech) (cells : List Known) (texts : List CellText) (all : List Known) → AreGrown tech cells → AllByRecursion IsCell texts → cells_after tech cells texts ≡ Ok all → AreGrown tech all
+are_grown-cells_after tech cells [] all are is e = subst (AreGrown tech) (ok_same cells all e) are
+are_grown-cells_after tech cells (text ∷ texts) all are is e =
+    let first : (known : Known) × (after_cell tech cells text ≡ Ok known) × (cells_after tech (cells ++ known ∷ []) texts ≡ Ok all) =
+    bound (after_cell tech cells text) (λ known. cells_after tech (cells ++ known ∷ []) texts) all e in
+    let grown : IsGrown tech cells first.0 × IsTrue (is_wired first.0) = grown-after_cell tech cells text first.0 are is.0 first.1 in
+    are_grown-cells_after tech (cells ++ first.0 ∷ []) texts all (are_grown-append tech cells first.0 are grown.0 grown.1) is.1 first.2
+
+-- the cells of a design
+pub are_grown-known_cells : (tech : Tech) (texts : List CellText) (cells : List Known) → AllByRecursion IsCell texts → known_cells tech texts ≡ Ok cells → AreGrown tech cells
+unfolding known_cells
+are_grown-known_cells tech texts cells is e = are_grown-cells_after tech [] texts cells (are_grown-none tech) is e
+
+-- ---- sound cells
+
+-- a port at which a wire ends
+port_of_wired : (tech : Tech) (cells : List Known) (known : Known) → IsGrown tech cells known → IsTrue (is_wired known) → (k : ℕ) → k < length (cell_of known).ports
+    → IsPort (cell_of known) k (port_at (cell_of known).ports k)
+port_of_wired tech cells known grown wired k lt =
+    let within : k < length known.plugs = omega (arith, lt, length-map known.plugs (λ (plug : Plug). plug.port)) in
+    let is : IsPlug known.wires k (plug_at known.plugs k) = grown.plugs k within in
+    let here : (plug_at known.plugs k).wired ≡ true = all_wired known.plugs k wired within in
+    subst (IsPort (cell_of known) k) (sym (port_of_plug known.plugs k)) (record { place = is.place; wire = is.wire here; wired = is.ends_there here; only = is.only here })
+
+-- a cell with all its ports wired is sound
+pub sound-grown : (tech : Tech) (cells : List Known) (known : Known) → IsGrown tech cells known → IsTrue (is_wired known) → IsSound tech (cell_of known)
+sound-grown tech cells known grown wired = record { nodes = grown.nodes; wires = grown.wires; ports = port_of_wired tech cells known grown wired; limits = grown.limits }
+
+-- a cell of a design is sound
+pub sound-known_at : (tech : Tech) (cells : List Known) (k : ℕ) → AreGrown tech cells → k < length cells → IsSound tech (cell_of (known_at cells k))
+sound-known_at tech cells k are lt = sound-grown tech (take k cells) (known_at cells k) (are.grown k lt) (are.wired k lt)
+
+-- ---- few parts
+
+-- a sum of numbers that are not 0
+fewer_than : {X : Type 0} (f : X → ℕ) (some : (x : X) → 1 ≤ f x) (xs : List X) (sum : ℕ) → sum + length xs ≤ fold (λ a x. a + f x) sum xs
+fewer_than f some [] sum = omega arith
+fewer_than f some (x ∷ xs) sum = omega (arith, fewer_than f some xs (sum + f x), some x)
+
+-- a layer has an item
+some_layer_items : (layer : Layer) → 1 ≤ layer_items layer
+some_layer_items layers.Diffusion = omega arith
+some_layer_items layers.Poly = omega arith
+some_layer_items layers.Metal = omega arith
+
+-- a node has an item
+some_kind_items : (kind : NodeKind) → 1 ≤ kind_items kind
+some_kind_items (kinds.Joint layer width) = some_layer_items layer
+some_kind_items (kinds.Contact lower) = omega arith
+some_kind_items (kinds.Fet depletion gate w l) = omega arith
+
+-- each node has at least one item
+pub fewer_nodes : (nodes : List Node) → length nodes ≤ sum_by node_items nodes
+fewer_nodes nodes = omega (arith, fewer_than node_items (λ (node : Node). some_kind_items node.kind) nodes 0)
+
+-- and each wire
+pub fewer_wires : (wires : List Wire) → length wires ≤ sum_by wire_items wires
+fewer_wires wires = omega (arith, fewer_than wire_items (λ (wire : Wire). some_layer_items wire.layer) wires 0)
+
+-- a cell that may be inlined has few parts
+pub light-cell_of : (known : Known) → weight_of known ≤ 65536 → IsLight (cell_of known)
+unfolding weight_of
+light-cell_of known h = omega (arith, h, fewer_nodes known.nodes, fewer_wires known.wires)

@@ -1,0 +1,457 @@
+-- A wire that was accepted runs straight between two terminals that take it, and ends at no port that had a wire.
+use Rattle.std.proofs.Common.{◌≡◌, ℕ, ◌<◌, ℤ, Bool, true, false, List, length, map, Option, Some, None, Result, Ok, refl, sym, ap, subst, ◌∙◌, inl, inr, arith}
+use Rattle.std.specs.Prelude.{IsTrue, ◌≤ℤ◌, not, ◌&&◌, ◌||◌, ◌==◌, nat_lt, if◌then◌else◌}
+use Rattle.std.proofs.lemmas.List.{length-map}
+use Rattle.std.proofs.lemmas.Bool.{not-true}
+use Rattle.std.proofs.Math.ListN.{get_or-map}
+use Rattle.rule_table.specs.Bounds.{IsSize}
+use Rattle.rule_table.specs.Technology.{width_of}
+use Rattle.rule_table.specs.declared.technology.Tech.{Tech}
+use Rattle.rule_table.specs.declared.classes.Layer.{Layer}
+use Rattle.stick_parse.specs.declared.fault.StickKind.{StickKind}
+use Rattle.stick_parse.specs.declared.fault.StickKind.TheVariants.{WrongLayer, WrongSide, PortWires, WideWire}
+use Rattle.stick_parse.specs.declared.design.Side.{Side}
+use Rattle.stick_parse.specs.Reading.{◌>>=◌}
+use Rattle.stick_cell.specs.declared.cell.Axis2.{Axis2}
+use Rattle.stick_cell.specs.declared.cell.Axis2.TheVariants.{Across, Up}
+use Rattle.stick_cell.specs.declared.cell.NodeKind.{NodeKind}
+use Rattle.stick_cell.specs.declared.cell.Node.{Node}
+use Rattle.stick_cell.specs.declared.cell.WireEnd.{WireEnd}
+use Rattle.stick_cell.specs.declared.cell.WireEnd.TheVariants as ends
+use Rattle.stick_cell.specs.declared.cell.Wire.{Wire}
+use Rattle.stick_cell.specs.declared.cell.Port.{Port}
+use Rattle.stick_cell.specs.declared.cell.Cell.{Cell}
+use Rattle.stick_cell.specs.declared.names.Spot.{Spot}
+use Rattle.stick_cell.specs.declared.names.Pin.{Pin}
+use Rattle.stick_cell.specs.declared.names.Terminal.{Terminal}
+use Rattle.stick_cell.specs.declared.names.Terminal.TheVariants as terminals
+use Rattle.stick_cell.specs.declared.names.Found.{Found}
+use Rattle.stick_cell.specs.declared.names.Found.TheVariants.{At}
+use Rattle.stick_cell.specs.declared.names.Run.{Run}
+use Rattle.stick_cell.specs.Known.{Known, Plug, cell_of, no_plug, plug_at}
+use Rattle.stick_cell.specs.Checks.{demand, sized}
+use Rattle.stick_cell.specs.Wires.{terminal, is_same_axis, axis_of, is_low_side, line_of, run_along, run_between, straight, is_same_layer, node_takes, takes_layer, node_takes_along, takes_along, is_free, node_pad, is_within_pad, end_of, at_both, wire_between}
+use Rattle.stick_cell.specs.Sound.{node_at, port_at, IsEnd, Takes, IsOnLowSide, IsOnHighSide, line_at, IsInOrder, IsWithinPad, IsWire, EndsAt}
+use Rattle.stick_cell.proofs.Accepted.{bound, two_bound, demanded, two_demanded, both, terminal_ok, straight_ok, ok_same, eq_from_test, less_from_test, more_from_test, le_from_test}
+use Rattle.stick_cell.proofs.GrownNames.{IsAt}
+use Rattle.stick_cell.proofs.GrownWires.{port_of_plug}
+use Rattle.stick_cell.proofs.GrownSizes.{size_of_sized}
+
+-- ---- terminals
+
+-- the spot tells what and where the node of its number is
+pub record IsNodeOf (cell : Cell) (spot : Spot) : Type 0 where
+  pub within : spot.number < length cell.nodes
+  pub kind : (node_at cell.nodes spot.number).kind ≡ spot.kind
+  pub col : (node_at cell.nodes spot.number).col ≡ spot.col
+  pub row : (node_at cell.nodes spot.number).row ≡ spot.row
+
+pub record IsPortOf (cell : Cell) (pin : Pin) : Type 0 where
+  pub within : pin.number < length cell.ports
+  pub side : (port_at cell.ports pin.number).side ≡ pin.side
+  pub layer : (port_at cell.ports pin.number).layer ≡ pin.layer
+  pub place : (port_at cell.ports pin.number).place ≡ pin.place
+
+-- the terminal is the one of its number
+abbrev pub IsTerminalOf : Cell → Terminal → Type 0
+IsTerminalOf cell (terminals.Node spot) = IsNodeOf cell spot
+IsTerminalOf cell (terminals.Port pin) = IsPortOf cell pin
+
+-- a terminal of that name
+pub terminal_of : (known : Known) (name : List ℕ) (t : Terminal) → IsAt known.nodes known.plugs name t → IsTerminalOf (cell_of known) t
+terminal_of known name (terminals.Node spot) is =
+    record {
+      within = is.within;
+      kind = ap (λ (node : Node). node.kind) is.node;
+      col = ap (λ (node : Node). node.col) is.node;
+      row = ap (λ (node : Node). node.row) is.node;
+    }
+terminal_of known name (terminals.Port pin) is =
+    record {
+      within = omega (arith, is.within, length-map known.plugs (λ (plug : Plug). plug.port));
+      side = ap (λ (port : Port). port.side) (port_of_plug known.plugs pin.number) ∙ is.side;
+      layer = ap (λ (port : Port). port.layer) (port_of_plug known.plugs pin.number) ∙ is.layer;
+      place = ap (λ (port : Port). port.place) (port_of_plug known.plugs pin.number) ∙ is.place;
+    }
+
+-- ---- runs
+
+-- a port is reached along this axis
+abbrev pub IsReached : Axis2 → Terminal → Type 0
+IsReached along (terminals.Node spot) = Unit {0}
+IsReached along (terminals.Port pin) = axis_of pin.side ≡ along
+
+-- the run goes straight from its low terminal to its high one
+pub record IsRun (cell : Cell) (run : Run) : Type 0 where
+  pub low : IsTerminalOf cell run.low
+  pub high : IsTerminalOf cell run.high
+  pub reaches_low : IsReached run.along run.low
+  pub reaches_high : IsReached run.along run.high
+  pub low_side : IsOnLowSide cell (end_of run.low)
+  pub high_side : IsOnHighSide cell (end_of run.high)
+  pub straight : line_at cell run.along (end_of run.low) ≡ line_at cell run.along (end_of run.high)
+  pub ordered : IsInOrder cell run.along (end_of run.low) (end_of run.high)
+
+-- the line of a spot is that of its node, and so for a port
+node_line : (cell : Cell) (along : Axis2) (spot : Spot) → IsNodeOf cell spot → line_at cell along (ends.Node spot.number) ≡ line_of along spot
+node_line cell Across spot is = is.row
+node_line cell Up spot is = is.col
+
+-- and of a port
+port_line : (cell : Cell) (along : Axis2) (pin : Pin) → IsPortOf cell pin → line_at cell along (ends.Port pin.number) ≡ pin.place
+port_line cell Across pin is = is.place
+port_line cell Up pin is = is.place
+
+-- a port on a low side
+on_low : (cell : Cell) (pin : Pin) → IsPortOf cell pin → IsTrue (is_low_side pin.side) → IsOnLowSide cell (ends.Port pin.number)
+on_low cell pin is low = subst (λ (side : Side). IsTrue (is_low_side side)) (sym is.side) low
+
+-- a port on a high side
+on_high : (cell : Cell) (pin : Pin) → IsPortOf cell pin → IsTrue (not (is_low_side pin.side)) → IsOnHighSide cell (ends.Port pin.number)
+on_high cell pin is high = subst (λ (side : Side). IsTrue (not (is_low_side side))) (sym is.side) high
+
+-- the order asks nothing where an end is a port
+order_to_port : (cell : Cell) (along : Axis2) (j k : ℕ) → IsInOrder cell along (ends.Node j) (ends.Port k)
+order_to_port cell Across j k = tt
+order_to_port cell Up j k = tt
+
+-- and so from a port
+order_from_port : (cell : Cell) (along : Axis2) (j : ℕ) (high : WireEnd) → IsInOrder cell along (ends.Port j) high
+order_from_port cell Across j (ends.Node k) = tt
+order_from_port cell Across j (ends.Port k) = tt
+order_from_port cell Up j (ends.Node k) = tt
+order_from_port cell Up j (ends.Port k) = tt
+
+-- one answer
+some_same : {A : Type 0} (x y : A) → ◌≡◌ {A = Option A} (Some x) (Some y) → x ≡ y
+some_same x y e = cc
+
+-- two nodes in a row
+across : (cell : Cell) (a b : Spot) (is_low : Bool) → IsNodeOf cell a → IsNodeOf cell b → a.row ≡ b.row → (is_low ≡ true → a.col < b.col) → (is_low ≡ false → b.col < a.col)
+    → IsRun cell (run_along Across is_low (terminals.Node a) (terminals.Node b))
+across cell a b true ia ib line less more =
+    record {
+      low = ia;
+      high = ib;
+      reaches_low = tt;
+      reaches_high = tt;
+      low_side = tt;
+      high_side = tt;
+      straight = ia.row ∙ line ∙ sym ib.row;
+      ordered = omega (arith, less refl, ia.col, ib.col);
+    }
+across cell a b false ia ib line less more =
+    record {
+      low = ib;
+      high = ia;
+      reaches_low = tt;
+      reaches_high = tt;
+      low_side = tt;
+      high_side = tt;
+      straight = ib.row ∙ sym line ∙ sym ia.row;
+      ordered = omega (arith, more refl, ia.col, ib.col);
+    }
+
+-- two nodes in a column
+up : (cell : Cell) (a b : Spot) (is_low : Bool) → IsNodeOf cell a → IsNodeOf cell b → a.col ≡ b.col → (is_low ≡ true → a.row < b.row) → (is_low ≡ false → b.row < a.row)
+    → IsRun cell (run_along Up is_low (terminals.Node a) (terminals.Node b))
+up cell a b true ia ib line less more =
+    record {
+      low = ia;
+      high = ib;
+      reaches_low = tt;
+      reaches_high = tt;
+      low_side = tt;
+      high_side = tt;
+      straight = ia.col ∙ line ∙ sym ib.col;
+      ordered = omega (arith, less refl, ia.row, ib.row);
+    }
+up cell a b false ia ib line less more =
+    record {
+      low = ib;
+      high = ia;
+      reaches_low = tt;
+      reaches_high = tt;
+      low_side = tt;
+      high_side = tt;
+      straight = ib.col ∙ sym line ∙ sym ia.col;
+      ordered = omega (arith, more refl, ia.row, ib.row);
+    }
+
+-- between two nodes, by the two tests
+nodes_run : (cell : Cell) (a b : Spot) (row col : Bool) (run : Run) → IsNodeOf cell a → IsNodeOf cell b
+    → (a.row == b.row) && not (a.col == b.col) ≡ row → (a.col == b.col) && not (a.row == b.row) ≡ col
+    → (if row then Some (run_along Across (nat_lt a.col b.col) (terminals.Node a) (terminals.Node b))
+    else (if col then Some (run_along Up (nat_lt a.row b.row) (terminals.Node a) (terminals.Node b)) else None)) ≡ Some run
+    → IsRun cell run
+nodes_run cell a b true col run ia ib on_row on_col e =
+    let parts : IsTrue (a.row == b.row) × IsTrue (not (a.col == b.col)) = both (a.row == b.row) (not (a.col == b.col)) on_row in
+    let same : run_along Across (nat_lt a.col b.col) (terminals.Node a) (terminals.Node b) ≡ run = some_same (run_along Across (nat_lt a.col b.col) (terminals.Node a) (terminals.Node b)) run e in
+    subst (IsRun cell) same
+    (across cell a b (nat_lt a.col b.col) ia ib (eq_from_test a.row b.row parts.0) (less_from_test a.col b.col) (more_from_test a.col b.col parts.1))
+nodes_run cell a b false true run ia ib on_row on_col e =
+    let parts : IsTrue (a.col == b.col) × IsTrue (not (a.row == b.row)) = both (a.col == b.col) (not (a.row == b.row)) on_col in
+    let same : run_along Up (nat_lt a.row b.row) (terminals.Node a) (terminals.Node b) ≡ run = some_same (run_along Up (nat_lt a.row b.row) (terminals.Node a) (terminals.Node b)) run e in
+    subst (IsRun cell) same
+    (up cell a b (nat_lt a.row b.row) ia ib (eq_from_test a.col b.col parts.0) (less_from_test a.row b.row) (more_from_test a.row b.row parts.1))
+nodes_run cell a b false false run ia ib on_row on_col e = absurd (cc)
+
+-- between a node and a port on a side, by whether the node is the low end
+node_to_port : (cell : Cell) (a : Spot) (q : Pin) (low : Bool) → IsNodeOf cell a → IsPortOf cell q → line_of (axis_of q.side) a ≡ q.place → is_low_side q.side ≡ low
+    → IsRun cell (run_along (axis_of q.side) (not low) (terminals.Node a) (terminals.Port q))
+node_to_port cell a q true ia iq line side =
+    record {
+      low = iq;
+      high = ia;
+      reaches_low = refl;
+      reaches_high = tt;
+      low_side = on_low cell q iq side;
+      high_side = tt;
+      straight = port_line cell (axis_of q.side) q iq ∙ sym line ∙ sym (node_line cell (axis_of q.side) a ia);
+      ordered = order_from_port cell (axis_of q.side) q.number (ends.Node a.number);
+    }
+node_to_port cell a q false ia iq line side =
+    record {
+      low = ia;
+      high = iq;
+      reaches_low = tt;
+      reaches_high = refl;
+      low_side = tt;
+      high_side = on_high cell q iq (ap not side);
+      straight = node_line cell (axis_of q.side) a ia ∙ line ∙ sym (port_line cell (axis_of q.side) q iq);
+      ordered = order_to_port cell (axis_of q.side) a.number q.number;
+    }
+
+-- between a port and a node
+port_to_node : (cell : Cell) (p : Pin) (b : Spot) (low : Bool) → IsPortOf cell p → IsNodeOf cell b → line_of (axis_of p.side) b ≡ p.place → is_low_side p.side ≡ low
+    → IsRun cell (run_along (axis_of p.side) low (terminals.Port p) (terminals.Node b))
+port_to_node cell p b true ip ib line side =
+    record {
+      low = ip;
+      high = ib;
+      reaches_low = refl;
+      reaches_high = tt;
+      low_side = on_low cell p ip side;
+      high_side = tt;
+      straight = port_line cell (axis_of p.side) p ip ∙ sym line ∙ sym (node_line cell (axis_of p.side) b ib);
+      ordered = order_from_port cell (axis_of p.side) p.number (ends.Node b.number);
+    }
+port_to_node cell p b false ip ib line side =
+    record {
+      low = ib;
+      high = ip;
+      reaches_low = tt;
+      reaches_high = refl;
+      low_side = tt;
+      high_side = on_high cell p ip (ap not side);
+      straight = node_line cell (axis_of p.side) b ib ∙ line ∙ sym (port_line cell (axis_of p.side) p ip);
+      ordered = order_to_port cell (axis_of p.side) b.number p.number;
+    }
+
+-- between two ports that lie opposite each other
+port_to_port : (cell : Cell) (p q : Pin) (low : Bool) → IsPortOf cell p → IsPortOf cell q → axis_of q.side ≡ axis_of p.side → p.place ≡ q.place → is_low_side p.side ≡ low → is_low_side q.side ≡ not low
+    → IsRun cell (run_along (axis_of p.side) low (terminals.Port p) (terminals.Port q))
+port_to_port cell p q true ip iq axis place side other =
+    record {
+      low = ip;
+      high = iq;
+      reaches_low = refl;
+      reaches_high = axis;
+      low_side = on_low cell p ip side;
+      high_side = on_high cell q iq (ap not other);
+      straight = port_line cell (axis_of p.side) p ip ∙ place ∙ sym (port_line cell (axis_of p.side) q iq);
+      ordered = order_from_port cell (axis_of p.side) p.number (ends.Port q.number);
+    }
+port_to_port cell p q false ip iq axis place side other =
+    record {
+      low = iq;
+      high = ip;
+      reaches_low = axis;
+      reaches_high = refl;
+      low_side = on_low cell q iq other;
+      high_side = on_high cell p ip (ap not side);
+      straight = port_line cell (axis_of p.side) q iq ∙ sym place ∙ sym (port_line cell (axis_of p.side) p ip);
+      ordered = order_from_port cell (axis_of p.side) q.number (ends.Port p.number);
+    }
+
+-- one axis
+same_axis : (a b : Axis2) → IsTrue (is_same_axis a b) → b ≡ a
+same_axis Across Across h = refl
+same_axis Across Up h = absurd (cc)
+same_axis Up Across h = absurd (cc)
+same_axis Up Up h = refl
+
+-- exactly one of two
+opposite : (a b : Bool) → IsTrue (not a && b || a && not b) → b ≡ not a
+opposite true true h = absurd (cc)
+opposite true false h = refl
+opposite false true h = refl
+opposite false false h = absurd (cc)
+
+-- what an answer by a test gives
+if_some : {A : Type 0} (b : Bool) (x y : A) → (if b then Some x else None) ≡ Some y → IsTrue b × (x ≡ y)
+if_some true x y e = (refl, some_same x y e)
+if_some false x y e = absurd (cc)
+
+-- a run between two terminals is one
+pub is_run : (cell : Cell) (a b : Terminal) (run : Run) → IsTerminalOf cell a → IsTerminalOf cell b → run_between a b ≡ Some run → IsRun cell run
+is_run cell (terminals.Node a) (terminals.Node b) run ia ib e =
+    nodes_run cell a b ((a.row == b.row) && not (a.col == b.col)) ((a.col == b.col) && not (a.row == b.row)) run ia ib refl refl e
+is_run cell (terminals.Node a) (terminals.Port q) run ia iq e =
+    let h : IsTrue (line_of (axis_of q.side) a == q.place) × (run_along (axis_of q.side) (not (is_low_side q.side)) (terminals.Node a) (terminals.Port q) ≡ run) =
+    if_some (line_of (axis_of q.side) a == q.place) (run_along (axis_of q.side) (not (is_low_side q.side)) (terminals.Node a) (terminals.Port q)) run e in
+    subst (IsRun cell) h.1 (node_to_port cell a q (is_low_side q.side) ia iq (eq_from_test (line_of (axis_of q.side) a) q.place h.0) refl)
+is_run cell (terminals.Port p) (terminals.Node b) run ip ib e =
+    let h : IsTrue (line_of (axis_of p.side) b == p.place) × (run_along (axis_of p.side) (is_low_side p.side) (terminals.Port p) (terminals.Node b) ≡ run) =
+    if_some (line_of (axis_of p.side) b == p.place) (run_along (axis_of p.side) (is_low_side p.side) (terminals.Port p) (terminals.Node b)) run e in
+    subst (IsRun cell) h.1 (port_to_node cell p b (is_low_side p.side) ip ib (eq_from_test (line_of (axis_of p.side) b) p.place h.0) refl)
+is_run cell (terminals.Port p) (terminals.Port q) run ip iq e =
+    let sides : Bool = not (is_low_side p.side) && is_low_side q.side || is_low_side p.side && not (is_low_side q.side) in
+    let h : IsTrue (is_same_axis (axis_of p.side) (axis_of q.side) && sides && (p.place == q.place)) × (run_along (axis_of p.side) (is_low_side p.side) (terminals.Port p) (terminals.Port q) ≡ run) =
+    if_some (is_same_axis (axis_of p.side) (axis_of q.side) && sides && (p.place == q.place)) (run_along (axis_of p.side) (is_low_side p.side) (terminals.Port p) (terminals.Port q)) run e in
+    let outer : IsTrue (is_same_axis (axis_of p.side) (axis_of q.side) && sides) × IsTrue (p.place == q.place) = both (is_same_axis (axis_of p.side) (axis_of q.side) && sides) (p.place == q.place) h.0 in
+    let inner : IsTrue (is_same_axis (axis_of p.side) (axis_of q.side)) × IsTrue sides = both (is_same_axis (axis_of p.side) (axis_of q.side)) sides outer.0 in
+    subst (IsRun cell) h.1
+    (port_to_port cell p q (is_low_side p.side) ip iq (same_axis (axis_of p.side) (axis_of q.side) inner.0) (eq_from_test p.place q.place outer.1) refl
+    (opposite (is_low_side p.side) (is_low_side q.side) inner.1))
+
+-- ---- wires
+
+-- a terminal takes the wire that was accepted
+takes : (cell : Cell) (layer : Layer) (along : Axis2) (t : Terminal) → IsTerminalOf cell t → IsReached along t → IsTrue (takes_layer layer t) → IsTrue (takes_along layer along t)
+    → Takes cell layer along (end_of t)
+takes cell layer along (terminals.Node spot) is reached layers sides =
+    (subst (λ (kind : NodeKind). IsTrue (node_takes kind layer)) (sym is.kind) layers, subst (λ (kind : NodeKind). IsTrue (node_takes_along kind layer along)) (sym is.kind) sides)
+takes cell layer along (terminals.Port pin) is reached layers sides =
+    (subst (λ (own : Layer). IsTrue (is_same_layer own layer)) (sym is.layer) layers, ap axis_of is.side ∙ reached)
+
+-- a terminal is an end
+end_within : (cell : Cell) (t : Terminal) → IsTerminalOf cell t → IsEnd cell (end_of t)
+end_within cell (terminals.Node spot) is = is.within
+end_within cell (terminals.Port pin) is = is.within
+
+-- a wire of an accepted width is within a terminal's pad
+within_pad : (tech : Tech) (cell : Cell) (wire : Wire) (t : Terminal) → IsTerminalOf cell t → IsTrue (is_within_pad tech wire.layer wire.width t) → IsWithinPad tech cell wire (end_of t)
+within_pad tech cell wire (terminals.Node spot) is test =
+    subst (λ (kind : NodeKind). wire.width ≤ℤ node_pad tech wire.layer kind) (sym is.kind) (le_from_test wire.width (node_pad tech wire.layer spot.kind) test)
+within_pad tech cell wire (terminals.Port pin) is test = tt
+
+-- the wire along a run, if its width and ends meet the checks
+abbrev checked_wire : Tech → List Bool → Layer → Option ℕ → Run → Result Wire StickKind
+checked_wire tech wired layer width run = do
+  layers ← demand (at_both (takes_layer layer) run) WrongLayer
+  sides ← demand (at_both (takes_along layer run.along) run) WrongSide
+  free ← demand (at_both (is_free wired) run) PortWires
+  size ← sized tech layer width
+  pads ← demand (at_both (is_within_pad tech layer size) run) WideWire
+  Ok (record { layer = layer; width = size; low = end_of run.low; high = end_of run.high; along = run.along })
+
+-- the wire of a layer and a width along a run
+abbrev wire_along : Layer → Run → ℤ → Wire
+wire_along layer run size = record { layer = layer; width = size; low = end_of run.low; high = end_of run.high; along = run.along }
+
+-- the wire along a run, if its width and pads meet the checks
+abbrev sized_wire : Tech → Layer → Option ℕ → Run → Result Wire StickKind
+sized_wire tech layer width run = do
+  size ← sized tech layer width
+  pads ← demand (at_both (is_within_pad tech layer size) run) WideWire
+  Ok (wire_along layer run size)
+
+-- what the checks say of a wire along a run
+record IsChecked (tech : Tech) (wired : List Bool) (layer : Layer) (run : Run) (wire : Wire) : Type 0 where
+  pub layers : IsTrue (takes_layer layer run.low) × IsTrue (takes_layer layer run.high)
+  pub sides : IsTrue (takes_along layer run.along run.low) × IsTrue (takes_along layer run.along run.high)
+  pub free : IsTrue (is_free wired run.low) × IsTrue (is_free wired run.high)
+  pub size : IsSize wire.width × (width_of tech layer ≤ℤ wire.width)
+  pub pads : IsTrue (is_within_pad tech layer wire.width run.low) × IsTrue (is_within_pad tech layer wire.width run.high)
+  pub same : wire_along layer run wire.width ≡ wire
+
+-- a wire that was accepted meets the checks
+checks_met : (tech : Tech) (wired : List Bool) (layer : Layer) (width : Option ℕ) (run : Run) (wire : Wire) → checked_wire tech wired layer width run ≡ Ok wire → IsChecked tech wired layer run wire
+checks_met tech wired layer width run wire e =
+    let met : IsTrue (at_both (takes_layer layer) run) × IsTrue (at_both (takes_along layer run.along) run) × ((demand (at_both (is_free wired) run) PortWires >>= λ u. sized_wire tech layer width run) ≡ Ok wire) =
+    two_demanded (at_both (takes_layer layer) run) (at_both (takes_along layer run.along) run) WrongLayer WrongSide (demand (at_both (is_free wired) run) PortWires >>= λ u. sized_wire tech layer width run) wire e in
+    let free : IsTrue (at_both (is_free wired) run) × (sized_wire tech layer width run ≡ Ok wire) = demanded (at_both (is_free wired) run) PortWires (sized_wire tech layer width run) wire met.2 in
+    let size : (z : ℤ) × (sized tech layer width ≡ Ok z) × ((demand (at_both (is_within_pad tech layer z) run) WideWire >>= λ u. Ok (wire_along layer run z)) ≡ Ok wire) =
+    bound (sized tech layer width) (λ z. demand (at_both (is_within_pad tech layer z) run) WideWire >>= λ u. Ok (wire_along layer run z)) wire free.1 in
+    let pads : IsTrue (at_both (is_within_pad tech layer size.0) run) × (◌≡◌ {A = Result Wire StickKind} (Ok (wire_along layer run size.0)) (Ok wire)) = demanded (at_both (is_within_pad tech layer size.0) run) WideWire (Ok (wire_along layer run size.0)) wire size.2 in
+    subst (IsChecked tech wired layer run) (ok_same (wire_along layer run size.0) wire pads.1) (record {
+      layers = both (takes_layer layer run.low) (takes_layer layer run.high) met.0;
+      sides = both (takes_along layer run.along run.low) (takes_along layer run.along run.high) met.1;
+      free = both (is_free wired run.low) (is_free wired run.high) free.0;
+      size = size_of_sized tech layer width size.0 size.1;
+      pads = both (is_within_pad tech layer size.0 run.low) (is_within_pad tech layer size.0 run.high) pads.0;
+      same = refl;
+    })
+
+-- a wire that meets the checks is one
+wire_of_checked : (tech : Tech) (cell : Cell) (wired : List Bool) (layer : Layer) (run : Run) (wire : Wire) → IsRun cell run → IsChecked tech wired layer run wire
+    → IsWire tech cell wire
+wire_of_checked tech cell wired layer run wire is met =
+    subst (IsWire tech cell) met.same (record {
+      low = end_within cell run.low is.low;
+      high = end_within cell run.high is.high;
+      takes_low = takes cell layer run.along run.low is.low is.reaches_low met.layers.0 met.sides.0;
+      takes_high = takes cell layer run.along run.high is.high is.reaches_high met.layers.1 met.sides.1;
+      low_side = is.low_side;
+      high_side = is.high_side;
+      straight = is.straight;
+      ordered = is.ordered;
+      size = met.size.0;
+      wide = met.size.1;
+      low_pad = within_pad tech cell (wire_along layer run wire.width) run.low is.low met.pads.0;
+      high_pad = within_pad tech cell (wire_along layer run wire.width) run.high is.high met.pads.1;
+    })
+
+-- the run of a wire that was accepted, between the terminals of the two ends
+accepted_run : (tech : Tech) (wired : List Bool) (layer : Layer) (from to : Found) (width : Option ℕ) (wire : Wire) → wire_between tech wired layer from to width ≡ Ok wire
+    → (s : Terminal) × (t : Terminal) × (run : Run) × (from ≡ At s) × (to ≡ At t) × (run_between s t ≡ Some run) × IsChecked tech wired layer run wire
+unfolding wire_between
+accepted_run tech wired layer from to width wire e =
+    let ends_at : (s : Terminal) × (t : Terminal) × (terminal from ≡ Ok s) × (terminal to ≡ Ok t) × ((straight (run_between s t) >>= λ run. checked_wire tech wired layer width run) ≡ Ok wire) =
+    two_bound (terminal from) (terminal to) (λ s t. straight (run_between s t) >>= λ run. checked_wire tech wired layer width run) wire e in
+    let along : (run : Run) × (straight (run_between ends_at.0 ends_at.1) ≡ Ok run) × (checked_wire tech wired layer width run ≡ Ok wire) =
+    bound (straight (run_between ends_at.0 ends_at.1)) (λ run. checked_wire tech wired layer width run) wire ends_at.4 in (
+      ends_at.0,
+      ends_at.1,
+      along.0,
+      terminal_ok from ends_at.0 ends_at.2,
+      terminal_ok to ends_at.1 ends_at.3,
+      straight_ok (run_between ends_at.0 ends_at.1) along.0 along.1,
+      checks_met tech wired layer width along.0 wire along.2,
+    )
+
+-- a wire that was accepted between the ends of two paths
+pub is_wire : (tech : Tech) (known : Known) (wired : List Bool) (layer : Layer) (a b : List ℕ) (from to : Found) (width : Option ℕ) (wire : Wire)
+    → ((t : Terminal) → from ≡ At t → IsAt known.nodes known.plugs a t) → ((t : Terminal) → to ≡ At t → IsAt known.nodes known.plugs b t) → wire_between tech wired layer from to width ≡ Ok wire
+    → IsWire tech (cell_of known) wire
+is_wire tech known wired layer a b from to width wire at_from at_to e =
+    let (s, t, run, from_at, to_at, between, met) = accepted_run tech wired layer from to width wire e in
+    wire_of_checked tech (cell_of known) wired layer run wire
+    (is_run (cell_of known) s t run (terminal_of known a s (at_from s from_at)) (terminal_of known b t (at_to t to_at)) between)
+    met
+
+-- ---- free ports
+
+-- no wire ends yet at the ports at which this one does
+abbrev pub EndsFree : List Plug → Wire → Type 0
+EndsFree plugs wire = (k : ℕ) → EndsAt (ends.Port k) wire → (plug_at plugs k).wired ≡ false
+
+-- a terminal that is free
+free_end : (plugs : List Plug) (t : Terminal) (k : ℕ) → IsTrue (is_free (map (λ plug. plug.wired) plugs) t) → end_of t ≡ ends.Port k → (plug_at plugs k).wired ≡ false
+free_end plugs (terminals.Node spot) k free e = absurd (cc)
+free_end plugs (terminals.Port pin) k free e =
+    let same : pin.number ≡ k = cc in
+    subst (λ (n : ℕ). (plug_at plugs n).wired ≡ false) same
+    (not-true (plug_at plugs pin.number).wired (subst (λ (wired : Bool). IsTrue (not wired)) (get_or-map (λ (plug : Plug). plug.wired) plugs pin.number no_plug) free))
+
+-- the ends of a wire that was accepted are free
+pub ends_free : (tech : Tech) (plugs : List Plug) (layer : Layer) (from to : Found) (width : Option ℕ) (wire : Wire) → wire_between tech (map (λ plug. plug.wired) plugs) layer from to width ≡ Ok wire
+    → EndsFree plugs wire
+ends_free tech plugs layer from to width wire e k at_end =
+    let (s, t, run, from_at, to_at, between, met) = accepted_run tech (map (λ plug. plug.wired) plugs) layer from to width wire e in
+    by_end run met (subst (EndsAt (ends.Port k)) (sym met.same) at_end)
+  where
+    by_end : (run : Run) → IsChecked tech (map (λ plug. plug.wired) plugs) layer run wire → EndsAt (ends.Port k) (wire_along layer run wire.width) → (plug_at plugs k).wired ≡ false
+    by_end run met (inl low) = free_end plugs run.low k met.free.0 low
+    by_end run met (inr high) = free_end plugs run.high k met.free.1 high

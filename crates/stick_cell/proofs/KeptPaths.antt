@@ -1,0 +1,109 @@
+-- Paths walked over what the code keeps of the names: what they come to is what they come to over the names themselves, as far as the code keeps it.
+use Rattle.std.proofs.Common.{◌≡◌, ℕ, ◌+◌, Bool, true, false, cond, List, [], ◌∷◌, map, Option, Some, None, option_map, option_and_then, refl, sym, ap, ◌∙◌, arith}
+use Rattle.std.specs.Str.{bytes_eq}
+use Rattle.std.proofs.Math.ListN.{get_or-map}
+use Rattle.stick_lex.specs.Tokens.{names}
+use Rattle.stick_cell.specs.declared.names.Copied.{Copied}
+use Rattle.stick_cell.specs.declared.names.Thing.{Thing}
+use Rattle.stick_cell.specs.declared.names.Thing.TheVariants as things
+use Rattle.stick_cell.specs.declared.names.Terminal.TheVariants as terminals
+use Rattle.stick_cell.specs.declared.names.Found.{Found}
+use Rattle.stick_cell.specs.declared.names.Found.TheVariants.{At, AtCopy, Through}
+use Rattle.stick_cell.specs.declared.table.Table.{Table}
+use Rattle.stick_cell.specs.Known.{Known}
+use Rattle.stick_cell.specs.Counts.{capped}
+use Rattle.stick_cell.specs.Paths.{Names, named, names_at, seen_through, behind, walk, found_at}
+use Rattle.stick_cell.specs.Kept.{capped_thing, capped_names, ended, kept_found}
+use Rattle.stick_cell.specs.NameEntries.{entries_of}
+use Rattle.stick_cell.specs.Tables.{AreTables}
+use Rattle.stick_cell.proofs.Composed.{kept_all_through}
+
+-- ---- what a name stands for
+
+cond_capped : (b : Bool) (thing : Thing) (rest : Option Thing) → cond b (Some (capped_thing thing)) (option_map capped_thing rest) ≡ option_map capped_thing (cond b (Some thing) rest)
+cond_capped true thing rest = refl
+cond_capped false thing rest = refl
+
+-- a name stands for the same thing, with its number capped
+named-capped : (scope : Names) (name : List ℕ) → named (capped_names scope) name ≡ option_map capped_thing (named scope name)
+named-capped [] name = refl
+named-capped (entry ∷ scope) name =
+    ap (λ (found : Option Thing). cond (bytes_eq name entry.0) (Some (capped_thing entry.1)) found) (named-capped scope name)
+    ∙ cond_capped (bytes_eq name entry.0) entry.1 (named scope name)
+
+-- ---- what a path comes to
+
+-- a number that is capped before it is added to and capped again
+capped_first : (first number : ℕ) → capped (capped first + number) ≡ capped (first + number)
+capped_first first number = omega arith
+
+-- what is kept of what is found, seen through a copy whose first number is capped
+kept_through_capped : (copy : Copied) (found : Found) → kept_found (seen_through (record copy { first = capped copy.first }) found) ≡ kept_found (seen_through copy found)
+kept_through_capped copy (At (terminals.Node spot)) =
+    let number : capped (capped copy.first + spot.number) ≡ capped (copy.first + spot.number) = capped_first copy.first spot.number in
+    cc
+kept_through_capped copy (At (terminals.Port pin)) = refl
+kept_through_capped copy AtCopy = refl
+kept_through_capped copy Through = refl
+
+all_through_capped : (copy : Copied) (found : Option Found) → option_map kept_found (option_map (seen_through (record copy { first = capped copy.first })) found) ≡ option_map kept_found (option_map (seen_through copy) found)
+all_through_capped copy None = refl
+all_through_capped copy (Some found) = ap Some (kept_through_capped copy found)
+
+capped_twice : (n : ℕ) → capped (capped n) ≡ capped n
+capped_twice n = omega arith
+
+-- through a copy, from what the rest of the path comes to in the copied cell
+copy-capped : (copy : Copied) (inside inner : Option Found) → option_map kept_found inside ≡ option_map kept_found inner
+    → option_map kept_found (option_map (seen_through (record copy { first = capped copy.first })) inside) ≡ option_map kept_found (option_map (seen_through copy) inner)
+copy-capped copy inside inner same =
+    all_through_capped copy inside
+    ∙ sym (kept_all_through copy inside)
+    ∙ ap (option_map (λ f. kept_found (seen_through copy f))) same
+    ∙ kept_all_through copy inner
+
+behind-capped : (thing : Thing) (path : List (List ℕ)) (inside inner : ℕ → Option Found) → ((k : ℕ) → option_map kept_found (inside k) ≡ option_map kept_found (inner k))
+    → option_map kept_found (behind (capped_thing thing) path inside) ≡ option_map kept_found (behind thing path inner)
+behind-capped (things.Node spot) [] inside inner same =
+    ap (λ (n : ℕ). Some (At (terminals.Node (record { number = n; kind = spot.kind; col = ended spot.col; row = ended spot.row })))) (capped_twice spot.number)
+behind-capped (things.Node spot) (name ∷ path) inside inner same = refl
+behind-capped (things.Port pin) [] inside inner same = refl
+behind-capped (things.Port pin) (name ∷ path) inside inner same = refl
+behind-capped (things.Copy copy) [] inside inner same = refl
+behind-capped (things.Copy copy) (name ∷ path) inside inner same = copy-capped copy (inside copy.cell) (inner copy.cell) (same copy.cell)
+
+and_then-capped : (found : Option Thing) (path : List (List ℕ)) (inside inner : ℕ → Option Found) → ((k : ℕ) → option_map kept_found (inside k) ≡ option_map kept_found (inner k))
+    → option_map kept_found (option_and_then (λ thing. behind thing path inside) (option_map capped_thing found)) ≡ option_map kept_found (option_and_then (λ thing. behind thing path inner) found)
+and_then-capped None path inside inner same = refl
+and_then-capped (Some thing) path inside inner same = behind-capped thing path inside inner same
+
+-- what a path comes to over names whose numbers are capped
+pub walk-capped : (tables : List Names) (scope : Names) (parts : List (List ℕ)) → option_map kept_found (walk (map capped_names tables) (capped_names scope) parts) ≡ option_map kept_found (walk tables scope parts)
+walk-capped tables scope [] = refl
+walk-capped tables scope (name ∷ path) =
+    let inside = λ (k : ℕ). walk (map capped_names tables) (names_at (map capped_names tables) k) path in
+    let inner = λ (k : ℕ). walk tables (names_at tables k) path in
+    ap (λ (found : Option Thing). option_map kept_found (option_and_then (λ thing. behind thing path inside) found)) (named-capped scope name)
+    ∙ and_then-capped (named scope name) path inside inner (λ k.
+    ap (λ (table : Names). option_map kept_found (walk (map capped_names tables) table path)) (get_or-map capped_names tables k [])
+    ∙ walk-capped tables (names_at tables k) path)
+
+-- ---- over the tables of cells
+
+tables-capped : (cells : List Known) (tables : List Table) → AreTables cells tables → map (λ table. entries_of table.names) tables ≡ map capped_names (map (λ cell. cell.names) cells)
+tables-capped [] [] are = refl
+tables-capped [] (table ∷ tables) are = absurd are
+tables-capped (known ∷ cells) [] are = absurd are
+tables-capped (known ∷ cells) (table ∷ tables) are =
+    let first = are.0.names in
+    let rest = tables-capped cells tables are.1 in
+    cc
+
+-- what the code finds at a path is what the path comes to, as far as the code keeps it
+pub found_at-kept : (cells : List Known) (tables : List Table) (known : Known) (scope : Names) (path : List ℕ) → AreTables cells tables → scope ≡ capped_names known.names
+    → option_map kept_found (walk (map (λ table. entries_of table.names) tables) scope (names path)) ≡ option_map kept_found (found_at cells known path)
+unfolding found_at
+found_at-kept cells tables known scope path are same =
+    ap (λ (all : List Names). option_map kept_found (walk all scope (names path))) (tables-capped cells tables are)
+    ∙ ap (λ (own : Names). option_map kept_found (walk (map capped_names (map (λ cell. cell.names) cells)) own (names path))) same
+    ∙ walk-capped (map (λ cell. cell.names) cells) known.names (names path)

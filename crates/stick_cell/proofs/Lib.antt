@@ -1,0 +1,35 @@
+pub mod Accepted
+mod Counting
+mod Entries
+pub mod FirstName
+mod CellLoop
+pub mod Composed
+mod Finishing
+mod Forgetting
+pub mod KeptWires
+pub mod KeptPaths
+pub mod FoundNodes
+pub mod GrownLists
+pub mod GrownNames
+pub mod GrownWires
+pub mod GrownSizes
+pub mod GrownRuns
+pub mod GrownPlugs
+pub mod GrownForms
+pub mod Grown
+pub mod Attachments
+pub mod Chains
+pub mod Determined
+pub mod Marks
+mod LineLoop
+mod LineSteps
+pub mod TableReads
+mod UseSteps
+mod WireSteps
+pub mod FormSteps
+pub mod Extends
+pub mod CellsBefore
+pub mod FoundInCell
+pub mod LinesInlined
+pub mod UsesInlined
+pub mod WholeInlined

@@ -1,0 +1,106 @@
+-- The lines of a cell, one by one.
+use Rattle.std.proofs.Common.{◌≡◌, ℕ, zero, suc, ◌+◌, ◌<◌, ◌≤◌, Bool, true, not, is_none, is_some, List, [], ◌∷◌, length, get_or, drop, Option, Some, None, Result, Ok, Err, refl, sym, ap, subst, ◌∙◌, add-one, arith}
+use Rattle.std.specs.Prelude.{bytes_eq, position}
+use Rattle.std.specs.List.{AllByRecursion}
+use Rattle.std.specs.Result.{IsErrAnd}
+use Rattle.rule_table.specs.declared.technology.Tech.{Tech}
+use Rattle.stick_parse.specs.declared.fault.StickFault.{StickFault}
+use Rattle.stick_parse.specs.declared.fault.LineFault.{LineFault}
+use Rattle.stick_parse.specs.declared.fault.LineFault.TheVariants as line_faults
+use Rattle.stick_parse.specs.declared.fault.ParseFault.{ParseFault}
+use Rattle.stick_parse.specs.declared.fault.ParseFault.TheVariants.{Stick, OutOfMemory}
+use Rattle.stick_parse.specs.declared.fault.StickKind.TheVariants.{RepeatedName, PortWires}
+use Rattle.stick_parse.specs.declared.design.Line.{Line}
+use Rattle.stick_parse.specs.declared.design.CellText.{CellText}
+use Rattle.stick_parse.specs.Reading.{◌>>=◌, Fails, FailsLine}
+use Rattle.stick_parse.specs.Order.{at_line}
+use Rattle.stick_parse.specs.Writable.{IsForm, IsLine}
+use Rattle.stick_cell.specs.Known.{Known, begun}
+use Rattle.stick_cell.specs.Lines.{after_form, after_lines, is_wired, is_new_cell, after_cell}
+use Rattle.stick_cell.specs.Checks.{demand}
+use Rattle.stick_cell.specs.declared.table.Table.{Table}
+use Rattle.stick_cell.specs.Tables.{AreTables}
+use Rattle.stick_cell.specs.Resolving.{fault_at_line, TellsTable}
+use Rattle.stick_cell.proofs.TableReads.{position-name}
+
+lines_from : (tech : Tech) (cells : List Known) (known : Known) (lines : List Line) (i : ℕ) (line : Line) → i < length lines → line ≡ get_or lines i line
+    → after_lines tech cells known (drop i lines) ≡ (at_line line.number (after_form tech cells known line.form) >>= (λ next. after_lines tech cells next (drop (suc i) lines)))
+lines_from tech cells known [] i line lt e = absurd (omega arith)
+lines_from tech cells known (first ∷ lines) zero line lt e = ap (λ (one : Line). at_line one.number (after_form tech cells known one.form) >>= (λ next. after_lines tech cells next lines)) (sym e)
+lines_from tech cells known (first ∷ lines) (suc i) line lt e = lines_from tech cells known lines i line (omega arith) e
+
+-- the lines from one on: that line, and the lines behind it
+pub lines-at : (tech : Tech) (cells : List Known) (known : Known) (lines : List Line) (i : ℕ) (line : Line) → i < length lines → line ≡ get_or lines i line
+    → after_lines tech cells known (drop i lines) ≡ (at_line line.number (after_form tech cells known line.form) >>= (λ next. after_lines tech cells next (drop (i + 1) lines)))
+lines-at tech cells known lines i line lt e =
+    lines_from tech cells known lines i line lt e
+    ∙ ap (λ n. at_line line.number (after_form tech cells known line.form) >>= (λ next. after_lines tech cells next (drop n lines))) (sym (add-one i))
+
+-- a line that gives what is known next
+pub lines-next : (tech : Tech) (cells : List Known) (known next : Known) (lines : List Line) (i : ℕ) (line : Line) → i < length lines → line ≡ get_or lines i line
+    → after_form tech cells known line.form ≡ Ok next → after_lines tech cells known (drop i lines) ≡ after_lines tech cells next (drop (i + 1) lines)
+lines-next tech cells known next lines i line lt e ok =
+    lines-at tech cells known lines i line lt e ∙ ap (λ r. at_line line.number r >>= (λ next. after_lines tech cells next (drop (i + 1) lines))) ok
+
+-- a line that is refused
+pub lines-refused : (tech : Tech) (cells : List Known) (known : Known) (lines : List Line) (i : ℕ) (line : Line) (fault : LineFault) (r : ParseFault) (whole : Result Known StickFault)
+    → i < length lines → line ≡ get_or lines i line → FailsLine fault (after_form tech cells known line.form) → r ≡ fault_at_line line.number fault
+    → after_lines tech cells known (drop i lines) ≡ whole → Fails r whole
+lines-refused tech cells known lines i line fault r whole lt e fails is same =
+    let P : ParseFault → Type 0 = λ fault. Fails fault whole in
+    subst P (sym is) (by fault fails)
+  where
+    by : (fault : LineFault) → FailsLine fault (after_form tech cells known line.form) → Fails (fault_at_line line.number fault) whole
+    by (line_faults.Kind kind) refused = sym same ∙ lines-at tech cells known lines i line lt e ∙ ap (λ r. at_line line.number r >>= (λ next. after_lines tech cells next (drop (i + 1) lines))) refused
+    by line_faults.OutOfMemory refused = tt
+
+-- no line is left
+pub lines-end : (tech : Tech) (cells : List Known) (known : Known) (lines : List Line) (i : ℕ) → length lines ≤ i → after_lines tech cells known (drop i lines) ≡ Ok known
+lines-end tech cells known [] zero le = refl
+lines-end tech cells known [] (suc i) le = refl
+lines-end tech cells known (line ∷ lines) zero le = absurd (omega arith)
+lines-end tech cells known (line ∷ lines) (suc i) le = lines-end tech cells known lines i (omega arith)
+
+-- each line's form is one
+pub form-at : (lines : List Line) (i : ℕ) (line : Line) → AllByRecursion IsLine lines → i < length lines → line ≡ get_or lines i line → IsForm line.form
+form-at [] i line all lt e = absurd (omega arith)
+form-at (first ∷ lines) zero line all lt e = let P : Line → Type 0 = λ one. IsForm one.form in subst P (sym e) all.0
+form-at (first ∷ lines) (suc i) line all lt e = form-at lines i line all.1 (omega arith) e
+
+-- ---- a cell
+
+-- a cell by whether its name is new, and what its lines give
+pub cell-by : (tech : Tech) (cells : List Known) (text : CellText) (fresh : Bool) (r : Result Known StickFault)
+    → is_new_cell cells text.name ≡ fresh → after_lines tech cells (begun text.name) text.lines ≡ r
+    → after_cell tech cells text
+    ≡ (at_line text.line (demand fresh RepeatedName) >>= (λ _. r >>= (λ known. at_line text.end_line (demand (is_wired known) PortWires) >>= (λ _. Ok known))))
+unfolding after_cell
+cell-by tech cells text fresh r is_new lines =
+    ap (λ b. at_line text.line (demand b RepeatedName) >>= (λ _. after_lines tech cells (begun text.name) text.lines >>= (λ known. at_line text.end_line (demand (is_wired known) PortWires) >>= (λ _. Ok known)))) is_new
+    ∙ ap (λ r. at_line text.line (demand fresh RepeatedName) >>= (λ _. r >>= (λ known. at_line text.end_line (demand (is_wired known) PortWires) >>= (λ _. Ok known)))) lines
+
+not_some : (o : Option ℕ) → is_none o ≡ not (is_some o)
+not_some None = refl
+not_some (Some k) = refl
+
+-- a cell's name is new where no table has it
+pub new-cell : (cells : List Known) (tables : List Table) (name lent : List ℕ) (place : Option ℕ) (found : Bool) → AreTables cells tables → lent ≡ name
+    → place ≡ position (λ (table : Table). bytes_eq lent table.name.now) tables → found ≡ is_some place → is_new_cell cells name ≡ not found
+new-cell cells tables name lent place found are same e is =
+    ap is_none (sym (position-name cells tables name are) ∙ ap (λ text. position (λ (table : Table). bytes_eq text table.name.now) tables) (sym same) ∙ sym e)
+    ∙ not_some place ∙ ap not (sym is)
+
+-- a fault that is told
+pub fails-at : (r : ParseFault) (fault : StickFault) (whole : Result Known StickFault) → r ≡ Stick fault → whole ≡ Err fault → Fails r whole
+fails-at r fault whole is e = let P : ParseFault → Type 0 = λ fault. Fails fault whole in subst P (sym is) e
+
+-- the fault of a cell's lines is the cell's
+pub fails-lines : (tech : Tech) (cells : List Known) (text : CellText) (fault : ParseFault) → is_new_cell cells text.name ≡ true
+    → Fails fault (after_lines tech cells (begun text.name) text.lines) → Fails fault (after_cell tech cells text)
+fails-lines tech cells text (Stick fault) fresh e = cell-by tech cells text true (Err fault) fresh e
+fails-lines tech cells text OutOfMemory fresh e = tt
+
+-- the fault of a cell, passed on
+pub tells-residual : (result : Result Table ParseFault) (fault : ParseFault) (read : Result Known StickFault) → IsErrAnd result (λ e. e ≡ fault) → Fails fault read → TellsTable result read
+tells-residual (Ok table) fault read is fails = absurd is
+tells-residual (Err e) fault read is fails = let P : ParseFault → Type 0 = λ f. Fails f read in subst P (sym is) fails

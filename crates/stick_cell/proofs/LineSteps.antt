@@ -1,0 +1,150 @@
+-- What is kept of a cell while it grows is that of its lines.
+use Rattle.std.proofs.Common.{◌≡◌, ℕ, ◌≤◌, Bool, true, false, ◌&&◌, cond, is_none, IsTrue, List, [], ◌∷◌, ◌++◌, Option, Some, None, option_map, Result, Ok, Err, refl, sym, ap, subst, ◌∙◌, arith}
+use Rattle.std.specs.List.{AllByRecursion}
+use Rattle.std.specs.Result.{IsErrAnd}
+use Rattle.std.specs.Str.{bytes_eq}
+use Rattle.stick_parse.specs.declared.fault.StickKind.{StickKind}
+use Rattle.stick_parse.specs.declared.fault.StickKind.TheVariants.{RepeatedName, FarPlace, BadSize}
+use Rattle.stick_parse.specs.declared.fault.LineFault.{LineFault}
+use Rattle.stick_parse.specs.declared.fault.LineFault.TheVariants.{Kind}
+use Rattle.stick_parse.specs.Reading.{◌>>=◌, FailsLine}
+use Rattle.stick_cell.specs.declared.growing.Growing.{Growing}
+use Rattle.stick_cell.specs.declared.names.Thing.{Thing}
+use Rattle.std.specs.Prelude.{ℤ, pos}
+use Rattle.rule_table.specs.declared.technology.Tech.{Tech}
+use Rattle.stick_parse.specs.declared.design.Layer.{Layer as DrawnLayer}
+use Rattle.stick_parse.specs.declared.design.Side.{Side}
+use Rattle.stick_cell.specs.declared.cell.NodeKind.TheVariants as kinds
+use Rattle.stick_cell.specs.Checks.{demand, is_fresh, is_place, layer_of, sized, is_channel}
+use Rattle.stick_cell.specs.Known.{Known, Plug, with_node, with_port}
+use Rattle.stick_cell.specs.Lines.{axis_where, after_joint, after_contact, after_fet, after_port}
+use Rattle.stick_cell.specs.Paths.{Names, named}
+use Rattle.stick_cell.specs.Kept.{capped_thing, capped_names}
+use Rattle.stick_cell.specs.Growing.{Grows, IsWiredBelow, placed}
+
+-- two steps and a third
+pub bind_assoc : {A B C E : Type 0} (m : Result A E) (f : A → Result B E) (g : B → Result C E) → ((m >>= f) >>= g) ≡ (m >>= (λ x. f x >>= g))
+bind_assoc (Ok x) f g = refl
+bind_assoc (Err e) f g = refl
+
+-- what a name stands for, with numbers capped
+pub named-capped : (names : Names) (name : List ℕ) → named (capped_names names) name ≡ option_map capped_thing (named names name)
+named-capped [] name = refl
+named-capped (e ∷ names) name = by_test (bytes_eq name e.0) (named-capped names name)
+  where
+    by_test : (b : Bool) → named (capped_names names) name ≡ option_map capped_thing (named names name)
+        → cond b (Some (capped_thing e.1)) (named (capped_names names) name) ≡ option_map capped_thing (cond b (Some e.1) (named names name))
+    by_test true rest = refl
+    by_test false rest = rest
+
+is_none-option_map : {A B : Type 0} (f : A → B) (o : Option A) → is_none (option_map f o) ≡ is_none o
+is_none-option_map f None = refl
+is_none-option_map f (Some x) = refl
+
+-- a name is new among names whose numbers are capped exactly where it is among the names
+pub is_fresh-capped : (names : Names) (name : List ℕ) → is_fresh (capped_names names) name ≡ is_fresh names name
+is_fresh-capped names name = ap is_none (named-capped names name) ∙ is_none-option_map capped_thing (named names name)
+
+pub placed-capped : (names : Names) (name : List ℕ) (col row : ℕ) → placed (capped_names names) name col row ≡ placed names name col row
+unfolding placed
+placed-capped names name col row = ap (λ fresh. demand fresh RepeatedName >>= (λ _. demand (is_place col && is_place row) FarPlace)) (is_fresh-capped names name)
+
+-- the tests of a name and a place, and what follows them
+pub placed-then : {B : Type 0} (names : Names) (name : List ℕ) (col row : ℕ) (g : Unit {0} → Result B StickKind)
+    → (placed names name col row >>= g) ≡ (demand (is_fresh names name) RepeatedName >>= (λ _. demand (is_place col && is_place row) FarPlace >>= g))
+unfolding placed
+placed-then names name col row g = bind_assoc (demand (is_fresh names name) RepeatedName) (λ _. demand (is_place col && is_place row) FarPlace) g
+
+-- where these tests pass the name is new
+pub fresh-placed : (names : Names) (name : List ℕ) (col row : ℕ) → placed names name col row ≡ Ok tt → IsTrue (is_fresh names name)
+unfolding placed
+fresh-placed names name col row e = by_test (is_fresh names name) e
+  where
+    by_test : (b : Bool) → (demand b RepeatedName >>= (λ _. demand (is_place col && is_place row) FarPlace)) ≡ Ok tt → IsTrue b
+    by_test true e = refl
+    by_test false e = absurd cc
+
+-- a test that fails refuses the line
+pub grows-refused : {X : Type 0} (result : Result X LineFault) (growing : Growing) (read : Result Known StickKind) (kind : StickKind)
+    → result ≡ Err (Kind kind) → read ≡ Err kind → Grows result growing read
+grows-refused result growing read kind is refused = let P : Result _ LineFault → Type 0 = λ r. Grows r growing read in subst P (sym is) refused
+
+-- one more name
+pub capped_names-push : (names : Names) (name : List ℕ) (thing : Thing) → capped_names (names ++ (name, thing) ∷ []) ≡ capped_names names ++ (name, capped_thing thing) ∷ []
+capped_names-push [] name thing = refl
+capped_names-push (e ∷ names) name thing = ap (λ rest. (e.0, capped_thing e.1) ∷ rest) (capped_names-push names name thing)
+
+-- one more port, which has no wire
+pub below-push : (count : ℕ) (plugs : List Plug) (plug : Plug) → AllByRecursion (IsWiredBelow count) plugs → IsWiredBelow count plug → AllByRecursion (IsWiredBelow count) (plugs ++ plug ∷ [])
+below-push count [] plug all one = (one, tt)
+below-push count (p ∷ plugs) plug all one = (all.0, below-push count plugs plug all.1 one)
+
+-- more wires
+pub below-more : (count more : ℕ) (plugs : List Plug) → count ≤ more → AllByRecursion (IsWiredBelow count) plugs → AllByRecursion (IsWiredBelow more) plugs
+below-more count more [] le all = tt
+below-more count more (p ∷ plugs) le all = (omega (arith, all.0), below-more count more plugs le all.1)
+
+-- the names with one more
+pub names-push : (old new names : Names) (name : List ℕ) (kept thing : Thing) → new ≡ old ++ (name, kept) ∷ [] → old ≡ capped_names names → kept ≡ capped_thing thing
+    → new ≡ capped_names (names ++ (name, thing) ∷ [])
+names-push old new names name kept thing more is same =
+    more ∙ ap (λ entries. entries ++ (name, kept) ∷ []) is ∙ ap (λ one. capped_names names ++ (name, one) ∷ []) same ∙ sym (capped_names-push names name thing)
+
+-- the names that are kept pass these tests where the names do
+pub placed-kept : (kept names : Names) (name : List ℕ) (col row : ℕ) (r : Result (Unit {0}) StickKind) → kept ≡ capped_names names → r ≡ placed kept name col row
+    → placed names name col row ≡ r
+placed-kept kept names name col row r is e = sym (e ∙ ap (λ entries. placed entries name col row) is ∙ placed-capped names name col row)
+
+pub fresh-kept : (kept : Names) (name : List ℕ) (col row : ℕ) (r : Result (Unit {0}) StickKind) → r ≡ placed kept name col row → r ≡ Ok tt → IsTrue (is_fresh kept name)
+fresh-kept kept name col row r e ok = fresh-placed kept name col row (sym e ∙ ok)
+
+pub fresh-names : (kept names : Names) (name : List ℕ) → kept ≡ capped_names names → IsTrue (is_fresh kept name) → IsTrue (is_fresh names name)
+fresh-names kept names name is fresh = sym (is_fresh-capped names name) ∙ ap (λ entries. is_fresh entries name) (sym is) ∙ fresh
+
+-- ---- each form, by what its tests give
+
+pub joint-by : (tech : Tech) (known : Known) (name : List ℕ) (layer : DrawnLayer) (col row : ℕ) (width : Option ℕ) (r : Result (Unit {0}) StickKind) (s : Result ℤ StickKind)
+    → placed known.names name col row ≡ r → sized tech (layer_of layer) width ≡ s
+    → after_joint tech known name layer col row width ≡ (r >>= (λ _. s >>= (λ size. Ok (with_node known name (kinds.Joint (layer_of layer) size) col row))))
+unfolding after_joint
+joint-by tech known name layer col row width r s is sizes =
+    sym (placed-then known.names name col row (λ _. sized tech (layer_of layer) width >>= (λ size. Ok (with_node known name (kinds.Joint (layer_of layer) size) col row))))
+    ∙ ap (λ r. r >>= (λ _. sized tech (layer_of layer) width >>= (λ size. Ok (with_node known name (kinds.Joint (layer_of layer) size) col row)))) is
+    ∙ ap (λ s. r >>= (λ _. s >>= (λ size. Ok (with_node known name (kinds.Joint (layer_of layer) size) col row)))) sizes
+
+pub contact-by : (known : Known) (name : List ℕ) (lower : DrawnLayer) (col row : ℕ) (r : Result (Unit {0}) StickKind)
+    → placed known.names name col row ≡ r
+    → after_contact known name lower col row ≡ (r >>= (λ _. Ok (with_node known name (kinds.Contact (layer_of lower)) col row)))
+unfolding after_contact
+contact-by known name lower col row r is =
+    sym (placed-then known.names name col row (λ _. Ok (with_node known name (kinds.Contact (layer_of lower)) col row)))
+    ∙ ap (λ r. r >>= (λ _. Ok (with_node known name (kinds.Contact (layer_of lower)) col row))) is
+
+pub fet-by : (tech : Tech) (known : Known) (name : List ℕ) (depletion vertical : Bool) (col row w l : ℕ) (r : Result (Unit {0}) StickKind) (b : Bool)
+    → placed known.names name col row ≡ r → is_channel tech w l ≡ b
+    → after_fet tech known name depletion vertical col row w l ≡ (r >>= (λ _. demand b BadSize >>= (λ _. Ok (with_node known name (kinds.Fet depletion (axis_where vertical) (pos w) (pos l)) col row))))
+unfolding after_fet
+fet-by tech known name depletion vertical col row w l r b is channel =
+    sym (placed-then known.names name col row (λ _. demand (is_channel tech w l) BadSize >>= (λ _. Ok (with_node known name (kinds.Fet depletion (axis_where vertical) (pos w) (pos l)) col row))))
+    ∙ ap (λ r. r >>= (λ _. demand (is_channel tech w l) BadSize >>= (λ _. Ok (with_node known name (kinds.Fet depletion (axis_where vertical) (pos w) (pos l)) col row)))) is
+    ∙ ap (λ b. r >>= (λ _. demand b BadSize >>= (λ _. Ok (with_node known name (kinds.Fet depletion (axis_where vertical) (pos w) (pos l)) col row)))) channel
+
+and_true : (b : Bool) → (b && true) ≡ b
+and_true true = refl
+and_true false = refl
+
+-- a port's place stands for a column, with row 0
+pub port-by : (known : Known) (name : List ℕ) (side : Side) (layer : DrawnLayer) (place : ℕ) (r : Result (Unit {0}) StickKind)
+    → placed known.names name place 0 ≡ r
+    → after_port known name side layer place ≡ (r >>= (λ _. Ok (with_port known name side (layer_of layer) place)))
+unfolding after_port
+port-by known name side layer place r is =
+    ap (λ near. demand (is_fresh known.names name) RepeatedName >>= (λ _. demand near FarPlace >>= (λ _. Ok (with_port known name side (layer_of layer) place)))) (sym (and_true (is_place place)))
+    ∙ sym (placed-then known.names name place 0 (λ _. Ok (with_port known name side (layer_of layer) place)))
+    ∙ ap (λ r. r >>= (λ _. Ok (with_port known name side (layer_of layer) place))) is
+
+-- the same, where the fault is made from the kind
+pub grows-residual : {X : Type 0} (result : Result X LineFault) (growing : Growing) (read : Result Known StickKind) (kind : StickKind)
+    → IsErrAnd result (λ e. e ≡ Kind kind) → read ≡ Err kind → Grows result growing read
+grows-residual (Ok x) growing read kind is refused = absurd is
+grows-residual (Err e) growing read kind is refused = let P : LineFault → Type 0 = λ f. FailsLine f read in subst P (sym is) refused

@@ -1,0 +1,86 @@
+-- What the line of a use gives, by its tests.
+use Rattle.std.proofs.Common.{◌≡◌, ℕ, ◌+◌, ◌<◌, ◌≤◌, nat_lt, Bool, true, false, not, ◌&&◌, ◌==◌, List, length, get_or, Option, Some, Result, Ok, refl, sym, ap, ◌∙◌, arith}
+use Rattle.std.specs.Prelude.{bytes_eq, position}
+use Rattle.std.proofs.lemmas.List.{length-map}
+use Rattle.std.proofs.lemmas.Bool.Decides.{nat_tests}
+use Rattle.stick_parse.specs.declared.fault.StickKind.{StickKind}
+use Rattle.stick_parse.specs.declared.fault.StickKind.TheVariants.{RepeatedName, UseCycle, UseDepth, UsedPorts, FarPlace}
+use Rattle.stick_parse.specs.Reading.{◌>>=◌}
+use Rattle.stick_cell.specs.declared.growing.Growing.{Growing}
+use Rattle.stick_cell.specs.declared.table.Table.{Table}
+use Rattle.stick_cell.specs.Checks.{demand, is_fresh, is_place}
+use Rattle.stick_cell.specs.Known.{Known, known_at, with_copy, greatest_col, greatest_row}
+use Rattle.stick_cell.specs.Lines.{number_of, known_number, is_empty, with_use, after_use}
+use Rattle.stick_cell.specs.Ports.{port_of, is_light}
+use Rattle.stick_cell.specs.Tables.{IsTableOf, AreTables}
+use Rattle.stick_cell.specs.NameEntries.{entries_of}
+use Rattle.stick_cell.specs.Growing.{IsGrowing, usable}
+use Rattle.stick_cell.proofs.TableReads.{table_at, position-name, number-lt}
+use Rattle.stick_cell.proofs.LineSteps.{is_fresh-capped}
+
+-- a use by what its first three tests give
+pub use-by : (cells : List Known) (known : Known) (name cell : List ℕ) (col row : ℕ) (fresh other : Bool) (number : Option ℕ)
+    → is_fresh known.names name ≡ fresh → not (bytes_eq cell known.name) ≡ other → number_of cells cell ≡ number
+    → after_use cells known name cell col row
+    ≡ (demand fresh RepeatedName >>= (λ _. demand other UseCycle >>= (λ _. known_number number >>= (λ k. with_use known name k (known_at cells k) col row))))
+unfolding after_use
+use-by cells known name cell col row fresh other number is_new is_other is_number =
+    ap (λ b. demand b RepeatedName >>= (λ _. demand (not (bytes_eq cell known.name)) UseCycle >>= (λ _. known_number (number_of cells cell) >>= (λ k. with_use known name k (known_at cells k) col row)))) is_new
+    ∙ ap (λ b. demand fresh RepeatedName >>= (λ _. demand b UseCycle >>= (λ _. known_number (number_of cells cell) >>= (λ k. with_use known name k (known_at cells k) col row)))) is_other
+    ∙ ap (λ n. demand fresh RepeatedName >>= (λ _. demand other UseCycle >>= (λ _. known_number n >>= (λ k. with_use known name k (known_at cells k) col row)))) is_number
+
+three_demands : {A : Type 0} (a b c : Bool) (j k l : StickKind) (x : A)
+    → (demand a j >>= (λ _. demand b k >>= (λ _. demand c l >>= (λ _. Ok x)))) ≡ ((demand a j >>= (λ _. demand b k >>= (λ _. demand c l))) >>= (λ _. Ok x))
+three_demands true true c j k l x = refl
+three_demands true false c j k l x = refl
+three_demands false b c j k l x = refl
+
+-- and by the tests of the used cell
+pub with_use-by : (known : Known) (name : List ℕ) (k : ℕ) (used : Known) (col row : ℕ) (r : Result (Unit {0}) StickKind)
+    → r ≡ usable (is_empty used.plugs) used.depth (col + greatest_col used.nodes) (row + greatest_row used.nodes)
+    → with_use known name k used col row ≡ (r >>= (λ _. Ok (with_copy known name k used col row)))
+unfolding with_use usable
+with_use-by known name k used col row r is =
+    three_demands (is_empty used.plugs) (nat_lt used.depth 16) (is_place (col + greatest_col used.nodes) && is_place (row + greatest_row used.nodes)) UsedPorts UseDepth FarPlace (with_copy known name k used col row)
+    ∙ ap (λ r. r >>= (λ _. Ok (with_copy known name k used col row))) (sym is)
+
+-- the tests of the used cell, from its table
+pub usable-table : (used : Known) (table : Table) (col row : ℕ) → IsTableOf used table
+    → usable (length table.ports.items == 0) table.depth (col + table.most_col) (row + table.most_row)
+    ≡ usable (is_empty used.plugs) used.depth (col + greatest_col used.nodes) (row + greatest_row used.nodes)
+usable-table used table col row is =
+    let ports : length table.ports.items ≡ length used.plugs = ap length is.ports ∙ length-map used.plugs (port_of (is_light used)) in
+    ap (λ (n : ℕ). usable (n == 0) table.depth (col + table.most_col) (row + table.most_row)) ports
+    ∙ ap (λ (n : ℕ). usable (is_empty used.plugs) n (col + table.most_col) (row + table.most_row)) is.depth
+    ∙ ap (λ (n : ℕ). usable (is_empty used.plugs) used.depth (col + n) (row + table.most_row)) is.most_col
+    ∙ ap (λ (n : ℕ). usable (is_empty used.plugs) used.depth (col + greatest_col used.nodes) (row + n)) is.most_row
+
+near_from : (col row : ℕ) → (is_place col && is_place row) ≡ true → (col ≤ 4095) × (row ≤ 4095)
+near_from col row e = (grind (arith, nat_tests), grind (arith, nat_tests))
+
+-- where a cell may be used it is not too deep, and lies near
+pub usable-ok : (is_closed : Bool) (depth col row : ℕ) → usable is_closed depth col row ≡ Ok tt → (depth < 16) × (col ≤ 4095) × (row ≤ 4095)
+unfolding usable
+usable-ok is_closed depth col row e = by is_closed (nat_lt depth 16) (is_place col && is_place row) refl refl e
+  where
+    by : (a b c : Bool) → nat_lt depth 16 ≡ b → (is_place col && is_place row) ≡ c → (demand a UsedPorts >>= (λ _. demand b UseDepth >>= (λ _. demand c FarPlace))) ≡ Ok tt → (depth < 16) × (col ≤ 4095) × (row ≤ 4095)
+    by true true true deep near e = let n = near_from col row near in (grind (arith, nat_tests), n.0, n.1)
+    by true true false deep near e = absurd cc
+    by true false c deep near e = absurd cc
+    by false b c deep near e = absurd cc
+
+-- the use of a cell that is there, by the tests of its table
+pub use-found : (cells : List Known) (known : Known) (tables : List Table) (growing : Growing) (name cell : List ℕ) (col row place : ℕ) (table : Table) (r : Result (Unit {0}) StickKind)
+    → AreTables cells tables → IsGrowing known growing → is_fresh (entries_of growing.table.names) name ≡ true → not (bytes_eq cell growing.table.name.now) ≡ true
+    → position (λ (table : Table). bytes_eq cell table.name.now) tables ≡ Some place → table ≡ get_or tables place table
+    → r ≡ usable (length table.ports.items == 0) table.depth (col + table.most_col) (row + table.most_row)
+    → (after_use cells known name cell col row ≡ (r >>= (λ _. Ok (with_copy known name place (known_at cells place) col row)))) × IsTableOf (known_at cells place) table
+use-found cells known tables growing name cell col row place table r are grown fresh other found at checked =
+    let number : number_of cells cell ≡ Some place = sym (position-name cells tables cell are) ∙ found in
+    let is : IsTableOf (known_at cells place) table = table_at cells tables place table are (number-lt cells cell place number) at in (
+      use-by cells known name cell col row true true (Some place)
+          (sym (is_fresh-capped known.names name) ∙ ap (λ names. is_fresh names name) (sym grown.names) ∙ fresh)
+          (ap (λ text. not (bytes_eq cell text)) (sym grown.name) ∙ other) number
+          ∙ with_use-by known name place (known_at cells place) col row r (checked ∙ usable-table (known_at cells place) table col row is),
+      is,
+    )

@@ -1,0 +1,206 @@
+-- What the lines of wires and limits give, by what their paths come to.
+use Rattle.std.proofs.Common.{◌≡◌, ℕ, zero, suc, ◌≤◌, ℤ, Bool, true, not, ◌==◌, List, [], ◌∷◌, map, get_or, set, Option, Some, None, option_map, Result, Ok, Err, refl, sym, ap, ◌∙◌}
+use Rattle.std.specs.Prelude.{bytes_eq}
+use Rattle.std.specs.List.{AllByRecursion}
+use Rattle.std.specs.Option.{ok_or}
+use Rattle.std.proofs.lemmas.List.{map-set}
+use Rattle.stick_parse.specs.declared.fault.StickKind.{StickKind}
+use Rattle.stick_parse.specs.declared.fault.StickKind.TheVariants.{UnknownName, BadLimit}
+use Rattle.stick_cell.specs.declared.cell.Wire.{Wire}
+use Rattle.stick_cell.specs.declared.cell.WireEnd.{WireEnd}
+use Rattle.stick_cell.specs.declared.cell.WireEnd.TheVariants as ends
+use Rattle.stick_cell.specs.declared.cell.CellPort.{CellPort}
+use Rattle.stick_cell.specs.declared.names.Found.{Found}
+use Rattle.rule_table.specs.declared.technology.Tech.{Tech}
+use Rattle.stick_parse.specs.declared.design.Layer.{Layer as DrawnLayer}
+use Rattle.stick_parse.specs.Reading.{◌>>=◌}
+use Rattle.stick_parse.specs.Writable.{IsPath}
+use Rattle.stick_cell.specs.declared.names.Found.TheVariants.{At}
+use Rattle.stick_cell.specs.declared.names.Terminal.TheVariants.{Node}
+use Rattle.stick_cell.specs.declared.names.Spot.{Spot}
+use Rattle.stick_cell.specs.declared.growing.Growing.{Growing}
+use Rattle.stick_cell.specs.declared.cell.Limit.{Limit}
+use Rattle.stick_cell.specs.Checks.{demand, layer_of}
+use Rattle.stick_cell.specs.Wires.{known_name, wire_between, limited}
+use Rattle.stick_cell.specs.Paths.{found_at}
+use Rattle.stick_cell.specs.Lines.{axis_where, wired_of, after_wire, after_limit}
+use Rattle.stick_cell.specs.Grown.{IsGrown, AreGrown}
+use Rattle.stick_cell.proofs.Accepted.{limited_ok}
+use Rattle.stick_cell.proofs.Grown.{spot-found_at}
+use Rattle.stick_cell.proofs.FoundNodes.{IsNodeOf, near-found, same_number}
+use Rattle.stick_cell.proofs.KeptWires.{result_map, wire_between-kept, limited-kept}
+use Rattle.stick_cell.specs.Known.{with_wire, with_limit}
+use Rattle.stick_cell.specs.Known.{Known, Plug, no_plug, plug_at, plugged}
+use Rattle.stick_cell.specs.Counts.{capped}
+use Rattle.stick_cell.specs.Kept.{kept_found, capped_end, capped_wire, capped_spot, IsNearFound}
+use Rattle.stick_cell.specs.Growing.{IsGrowing, port_so_far, IsWiredBelow, plugged_ports, plugged_marks, found_or_unknown}
+
+-- what a path comes to, or that its name is unknown
+pub found-known : (found : Option Found) (kept : Option Found) (r : Result Found StickKind) → r ≡ ok_or kept UnknownName → kept ≡ option_map kept_found found → r ≡ found_or_unknown found
+found-known None kept r e is = e ∙ ap (λ o. ok_or o UnknownName) is
+found-known (Some found) kept r e is = e ∙ ap (λ o. ok_or o UnknownName) is
+
+so_far_at : (plugs : List Plug) (k : ℕ) → get_or (map port_so_far plugs) k (port_so_far no_plug) ≡ port_so_far (plug_at plugs k)
+so_far_at [] k = refl
+so_far_at (plug ∷ plugs) zero = refl
+so_far_at (plug ∷ plugs) (suc k) = so_far_at plugs k
+
+-- the ports after a wire has ended at one of them
+pub plugged-so_far : (number : ℕ) (width : ℤ) (plugs : List Plug) (end : WireEnd)
+    → plugged_ports (capped number) width (map port_so_far plugs) (capped_end end) ≡ map port_so_far (plugged number width plugs end)
+plugged-so_far number width plugs (ends.Node k) = refl
+plugged-so_far number width plugs (ends.Port k) =
+    ap (λ (port : CellPort). set (map port_so_far plugs) k (record port { width = width; wire = capped number })) (so_far_at plugs k)
+    ∙ sym (map-set port_so_far plugs k (record { port = record (plug_at plugs k).port { wire = number }; width = width; wired = true }))
+
+pub marked-so_far : (number : ℕ) (width : ℤ) (plugs : List Plug) (end : WireEnd)
+    → plugged_marks (map (λ (plug : Plug). plug.wired) plugs) (capped_end end) ≡ map (λ (plug : Plug). plug.wired) (plugged number width plugs end)
+marked-so_far number width plugs (ends.Node k) = refl
+marked-so_far number width plugs (ends.Port k) = sym (map-set (λ (plug : Plug). plug.wired) plugs k (record { port = record (plug_at plugs k).port { wire = number }; width = width; wired = true }))
+
+below-set : (count : ℕ) (plugs : List Plug) (k : ℕ) (plug : Plug) → AllByRecursion (IsWiredBelow count) plugs → IsWiredBelow count plug → AllByRecursion (IsWiredBelow count) (set plugs k plug)
+below-set count [] k plug all one = tt
+below-set count (p ∷ plugs) zero plug all one = (one, all.1)
+below-set count (p ∷ plugs) (suc k) plug all one = (all.0, below-set count plugs k plug all.1 one)
+
+pub below-plugged : (count number : ℕ) (width : ℤ) (plugs : List Plug) (end : WireEnd) → number ≤ count → AllByRecursion (IsWiredBelow count) plugs → AllByRecursion (IsWiredBelow count) (plugged number width plugs end)
+below-plugged count number width plugs (ends.Node k) le all = all
+below-plugged count number width plugs (ends.Port k) le all = below-set count plugs k (record { port = record (plug_at plugs k).port { wire = number }; width = width; wired = true }) all le
+
+-- a wire that ends at one of them, by what is kept of it
+pub plug-step : (number kept : ℕ) (width held : ℤ) (plugs : List Plug) (end at : WireEnd) (before after : List CellPort) → kept ≡ capped number → held ≡ width → at ≡ capped_end end
+    → before ≡ map port_so_far plugs → after ≡ plugged_ports kept held before at → after ≡ map port_so_far (plugged number width plugs end)
+plug-step number kept width held plugs end at before after numbered wide ends_at so_far e =
+    e ∙ ap (λ n. plugged_ports n held before at) numbered ∙ ap (λ w. plugged_ports (capped number) w before at) wide ∙ ap (λ ports. plugged_ports (capped number) width ports at) so_far
+    ∙ ap (λ to. plugged_ports (capped number) width (map port_so_far plugs) to) ends_at ∙ plugged-so_far number width plugs end
+
+pub mark-step : (number : ℕ) (width : ℤ) (plugs : List Plug) (end at : WireEnd) (before after : List Bool) → at ≡ capped_end end
+    → before ≡ map (λ (plug : Plug). plug.wired) plugs → after ≡ plugged_marks before at → after ≡ map (λ (plug : Plug). plug.wired) (plugged number width plugs end)
+mark-step number width plugs end at before after ends_at so_far e =
+    e ∙ ap (λ marks. plugged_marks marks at) so_far ∙ ap (λ to. plugged_marks (map (λ (plug : Plug). plug.wired) plugs) to) ends_at ∙ marked-so_far number width plugs end
+
+-- ---- what paths come to
+
+-- a path that is known, or not
+pub unknown_from : (found : Option Found) (kind : StickKind) → found_or_unknown found ≡ Err kind → known_name found ≡ Err kind
+unknown_from None kind e = cc
+unknown_from (Some found) kind e = absurd cc
+
+pub known_from : (found : Option Found) (kept : Found) → found_or_unknown found ≡ Ok kept → (it : Found) × (found ≡ Some it) × (kept ≡ kept_found it)
+known_from None kept e = absurd cc
+known_from (Some found) kept e = (found, refl, cc)
+
+pub node_found : (tech : Tech) (cells : List Known) (known : Known) (path : List ℕ) (found : Found) → AreGrown tech cells → IsPath path → IsGrown tech cells known
+    → found_at cells known path ≡ Some found → (spot : Spot) → found ≡ At (Node spot) → IsNodeOf known.nodes path spot
+node_found tech cells known path found are is grown e spot at =
+    let law = spot-found_at tech cells known path spot are is grown (e ∙ ap Some at) in
+    record { within = law.0; is = law.1 }
+
+-- what a path comes to lies near
+pub near_path : (tech : Tech) (cells : List Known) (known : Known) (path : List ℕ) (found : Found) → AreGrown tech cells → IsPath path → IsGrown tech cells known
+    → found_at cells known path ≡ Some found → IsNearFound found
+near_path tech cells known path found are is grown e = near-found tech known.nodes path found grown.nodes (node_found tech cells known path found are is grown e)
+
+-- ---- wires
+
+pub wire-unknown : (tech : Tech) (cells : List Known) (known : Known) (layer : DrawnLayer) (a b : List ℕ) (width : Option ℕ) (kind : StickKind)
+    → found_or_unknown (found_at cells known a) ≡ Err kind → after_wire tech cells known layer a b width ≡ Err kind
+unfolding after_wire
+wire-unknown tech cells known layer a b width kind e =
+    ap (λ r. r >>= (λ from. known_name (found_at cells known b) >>= (λ to. wire_between tech (wired_of known) (layer_of layer) from to width >>= (λ wire. Ok (with_wire known wire)))))
+    (unknown_from (found_at cells known a) kind e)
+
+wire-by : (tech : Tech) (cells : List Known) (known : Known) (layer : DrawnLayer) (a b : List ℕ) (width : Option ℕ) (from : Found) (r : Result Found StickKind)
+    → found_at cells known a ≡ Some from → known_name (found_at cells known b) ≡ r
+    → after_wire tech cells known layer a b width ≡ (r >>= (λ to. wire_between tech (wired_of known) (layer_of layer) from to width >>= (λ wire. Ok (with_wire known wire))))
+unfolding after_wire
+wire-by tech cells known layer a b width from r found e =
+    ap (λ f. known_name f >>= (λ from. known_name (found_at cells known b) >>= (λ to. wire_between tech (wired_of known) (layer_of layer) from to width >>= (λ wire. Ok (with_wire known wire))))) found
+    ∙ ap (λ r. r >>= (λ to. wire_between tech (wired_of known) (layer_of layer) from to width >>= (λ wire. Ok (with_wire known wire)))) e
+
+pub wire-unknown_end : (tech : Tech) (cells : List Known) (known : Known) (layer : DrawnLayer) (a b : List ℕ) (width : Option ℕ) (kept : Found) (kind : StickKind)
+    → found_or_unknown (found_at cells known a) ≡ Ok kept → found_or_unknown (found_at cells known b) ≡ Err kind → after_wire tech cells known layer a b width ≡ Err kind
+wire-unknown_end tech cells known layer a b width kept kind known_a e =
+    let from = known_from (found_at cells known a) kept known_a in
+    wire-by tech cells known layer a b width from.0 (Err kind) from.1 (unknown_from (found_at cells known b) kind e)
+
+-- the wire between two things, from what is kept of them
+pub wire-between : (tech : Tech) (cells : List Known) (known : Known) (growing : Growing) (layer : DrawnLayer) (a b : List ℕ) (width : Option ℕ) (from to : Found) (r : Result Wire StickKind)
+    → AreGrown tech cells → IsPath a → IsPath b → IsGrown tech cells known → IsGrowing known growing
+    → found_or_unknown (found_at cells known a) ≡ Ok from → found_or_unknown (found_at cells known b) ≡ Ok to
+    → r ≡ wire_between tech growing.wired.items (layer_of layer) from to width
+    → (read : Result Wire StickKind) × (after_wire tech cells known layer a b width ≡ (read >>= (λ wire. Ok (with_wire known wire)))) × (r ≡ result_map capped_wire read)
+wire-between tech cells known growing layer a b width from to r are path_a path_b grown is known_a known_b e =
+    let low = known_from (found_at cells known a) from known_a in
+    let high = known_from (found_at cells known b) to known_b in
+    let near_a = near_path tech cells known a low.0 are path_a grown low.1 in
+    let near_b = near_path tech cells known b high.0 are path_b grown high.1 in (
+      wire_between tech (wired_of known) (layer_of layer) low.0 high.0 width,
+      wire-by tech cells known layer a b width low.0 (Ok high.0) low.1 (ap known_name high.1),
+      e ∙ ap (λ wired. wire_between tech wired (layer_of layer) from to width) is.wired
+          ∙ ap (λ f. wire_between tech (wired_of known) (layer_of layer) f to width) low.2
+          ∙ ap (λ f. wire_between tech (wired_of known) (layer_of layer) (kept_found low.0) f width) high.2
+          ∙ wire_between-kept tech (wired_of known) (layer_of layer) low.0 high.0 width near_a near_b,
+    )
+
+-- an `Ok` or an `Err` that is seen by view
+pub result_map-err : {A B E : Type 0} (view : A → B) (read : Result A E) (kind : E) → result_map view read ≡ Err kind → read ≡ Err kind
+result_map-err view (Ok x) kind e = absurd cc
+result_map-err view (Err k) kind e = cc
+
+pub result_map-ok : {A B E : Type 0} (view : A → B) (read : Result A E) (seen : B) → result_map view read ≡ Ok seen → (x : A) × (read ≡ Ok x) × (seen ≡ view x)
+result_map-ok view (Ok x) seen e = (x, refl, cc)
+result_map-ok view (Err k) seen e = absurd cc
+
+-- ---- limits
+
+abbrev pub limit_of : Bool → Bool → ℤ → Spot → Spot → Limit
+limit_of vertical at_most n low high = record { axis = axis_where vertical; a = low.number; b = high.number; at_most = at_most; n = n }
+
+abbrev pub limits_of : Known → Bool → Bool → ℤ → Spot → Spot → Result Known StickKind
+limits_of known vertical at_most n low high = demand (not (low.number == high.number)) BadLimit >>= (λ _. Ok (with_limit known (limit_of vertical at_most n low high)))
+
+pub limit-unknown : (cells : List Known) (known : Known) (vertical : Bool) (a b : List ℕ) (at_most : Bool) (n : ℤ) (kind : StickKind)
+    → found_or_unknown (found_at cells known a) ≡ Err kind → after_limit cells known vertical a b at_most n ≡ Err kind
+unfolding after_limit
+limit-unknown cells known vertical a b at_most n kind e =
+    ap (λ r. r >>= (λ from. known_name (found_at cells known b) >>= (λ to. limited from >>= (λ low. limited to >>= (λ high. limits_of known vertical at_most n low high)))))
+    (unknown_from (found_at cells known a) kind e)
+
+limit-by : (cells : List Known) (known : Known) (vertical : Bool) (a b : List ℕ) (at_most : Bool) (n : ℤ) (from : Found) (r : Result Found StickKind)
+    → found_at cells known a ≡ Some from → known_name (found_at cells known b) ≡ r
+    → after_limit cells known vertical a b at_most n ≡ (r >>= (λ to. limited from >>= (λ low. limited to >>= (λ high. limits_of known vertical at_most n low high))))
+unfolding after_limit
+limit-by cells known vertical a b at_most n from r found e =
+    ap (λ f. known_name f >>= (λ from. known_name (found_at cells known b) >>= (λ to. limited from >>= (λ low. limited to >>= (λ high. limits_of known vertical at_most n low high))))) found
+    ∙ ap (λ r. r >>= (λ to. limited from >>= (λ low. limited to >>= (λ high. limits_of known vertical at_most n low high)))) e
+
+pub limit-unknown_end : (cells : List Known) (known : Known) (vertical : Bool) (a b : List ℕ) (at_most : Bool) (n : ℤ) (kept : Found) (kind : StickKind)
+    → found_or_unknown (found_at cells known a) ≡ Ok kept → found_or_unknown (found_at cells known b) ≡ Err kind → after_limit cells known vertical a b at_most n ≡ Err kind
+limit-unknown_end cells known vertical a b at_most n kept kind known_a e =
+    let from = known_from (found_at cells known a) kept known_a in
+    limit-by cells known vertical a b at_most n from.0 (Err kind) from.1 (unknown_from (found_at cells known b) kind e)
+
+-- the limit between two things, from what is kept of the first and the second
+pub limit-ends : (tech : Tech) (cells : List Known) (known : Known) (vertical : Bool) (a b : List ℕ) (at_most : Bool) (n : ℤ) (from to : Found) (r s : Result Spot StickKind)
+    → AreGrown tech cells → IsPath a → IsPath b → IsGrown tech cells known
+    → found_or_unknown (found_at cells known a) ≡ Ok from → found_or_unknown (found_at cells known b) ≡ Ok to → r ≡ limited from → s ≡ limited to
+    → (low high : Result Spot StickKind) × (after_limit cells known vertical a b at_most n ≡ (low >>= (λ low. high >>= (λ high. limits_of known vertical at_most n low high))))
+    × (r ≡ result_map capped_spot low) × (s ≡ result_map capped_spot high)
+    × ((p q : Spot) → low ≡ Ok p → high ≡ Ok q → (p.number == q.number) ≡ bytes_eq a b)
+limit-ends tech cells known vertical a b at_most n from to r s are path_a path_b grown known_a known_b e f =
+    let low = known_from (found_at cells known a) from known_a in
+    let high = known_from (found_at cells known b) to known_b in
+    let near_a = near_path tech cells known a low.0 are path_a grown low.1 in
+    let near_b = near_path tech cells known b high.0 are path_b grown high.1 in (
+      limited low.0,
+      limited high.0,
+      limit-by cells known vertical a b at_most n low.0 (Ok high.0) low.1 (ap known_name high.1),
+      e ∙ ap limited low.2 ∙ limited-kept low.0 near_a,
+      f ∙ ap limited high.2 ∙ limited-kept high.0 near_b,
+      λ p q is_p is_q.
+          let at_p = limited_ok low.0 p is_p in
+          let at_q = limited_ok high.0 q is_q in
+          same_number known.nodes a b p q (node_found tech cells known a low.0 are path_a grown low.1 p at_p) (node_found tech cells known b high.0 are path_b grown high.1 q at_q)
+          (λ same. let one : Some (At (Node p)) ≡ Some (At (Node q)) = sym (low.1 ∙ ap Some at_p) ∙ ap (found_at cells known) same ∙ high.1 ∙ ap Some at_q in cc),
+    )

@@ -1,0 +1,37 @@
+use Rattle.std.proofs.Common.{◌≡◌, ℕ, ◌+◌, map, length, refl, ap, ◌∙◌, arith}
+use Rattle.std.proofs.lemmas.List.{length-append, length-map}
+use Rattle.stick_cell.specs.declared.names.Thing.{Thing}
+use Rattle.stick_cell.specs.declared.names.Thing.TheVariants as things
+use Rattle.stick_cell.specs.Known.{with_copy, copied_node, copied_wire}
+use Rattle.stick_cell.specs.Counts.{weight_of, boxes_of}
+use Rattle.stick_cell.specs.NameEntries.{entries_of}
+use Rattle.stick_cell.proofs.Counting.{counted, counted_copy, weight-with_copy, boxes-with_copy, most_col-copies, most_row-copies}
+use Rattle.stick_cell.proofs.LineSteps.{names-push, below-more}
+use Rattle.stick_cell.proofs.growing.Growing.add_copy.Goals as goal
+
+pub returns : goal.returns
+returns c = λ known other grown is.
+    let a = c.args in
+    let name = a.name.now in
+    let table = a.self.now.table in
+    let used = a.used.now in
+    let next = with_copy known name a.cell other a.col a.row in
+    let thing : ℕ → Thing = λ first. things.Copy (record { cell = a.cell; first = first; col = a.col; row = a.row }) in
+    let nodes : length next.nodes ≡ length known.nodes + length other.nodes = omega (arith, length-append known.nodes (map (copied_node name a.col a.row) other.nodes), length-map other.nodes (copied_node name a.col a.row)) in
+    let wires : length next.wires ≡ length known.wires + length other.wires = omega (arith, length-append known.wires (map (copied_wire (length known.nodes)) other.wires), length-map other.wires (copied_wire (length known.nodes))) in
+    record {
+      name = grown.name;
+      names = names-push (entries_of table.names) (entries_of c.add.new.self) known.names name (thing table.nodes) (thing (length known.nodes)) c.in_ok-add.ensures grown.names (ap thing grown.nodes);
+      ports = grown.ports;
+      wired = grown.wired;
+      nodes = counted_copy table.nodes (length known.nodes) used.nodes (length other.nodes) c.capped_sum-self.result (length next.nodes) grown.nodes is.nodes c.capped_sum-self.ensures nodes;
+      wires = counted_copy table.wires (length known.wires) used.wires (length other.wires) c.capped_sum-self-2.result (length next.wires) grown.wires is.wires c.capped_sum-self-2.ensures wires;
+      weight = counted c.capped_sum.result (weight_of known + weight_of other) 1 c.capped_sum-self-3.result (weight_of next)
+          (counted_copy table.weight (weight_of known) used.weight (weight_of other) c.capped_sum.result (weight_of known + weight_of other) grown.weight is.weight c.capped_sum.ensures refl)
+          c.capped_sum-self-3.ensures (omega (arith, weight-with_copy known name a.cell other a.col a.row));
+      boxes = counted_copy table.boxes (boxes_of known) used.boxes (boxes_of other) c.capped_sum-self-4.result (boxes_of next) grown.boxes is.boxes c.capped_sum-self-4.ensures (boxes-with_copy known name a.cell other a.col a.row);
+      most_col = c.most_with_copy-self.ensures ∙ most_col-copies known.nodes other.nodes name a.col a.row table.most_col used.nodes used.most_col grown.most_col is.nodes is.most_col;
+      most_row = c.most_with_copy-self-2.ensures ∙ most_row-copies known.nodes other.nodes name a.col a.row table.most_row used.nodes used.most_row grown.most_row is.nodes is.most_row;
+      depth = omega (arith, c.max-self.ensures, grown.depth, is.depth);
+      below = below-more (length known.wires) (length next.wires) known.plugs (omega arith) grown.below;
+    }

@@ -1,0 +1,33 @@
+use Rattle.std.proofs.Common.{ℕ, ◌+◌, max, length, sym, ap, ◌∙◌}
+use Rattle.std.proofs.lemmas.List.{length_push}
+use Rattle.stick_cell.specs.declared.cell.Node.{Node}
+use Rattle.stick_cell.specs.declared.names.Thing.{Thing}
+use Rattle.stick_cell.specs.declared.names.Thing.TheVariants as things
+use Rattle.stick_cell.specs.Known.{with_node}
+use Rattle.stick_cell.specs.Counts.{weight_of, boxes_of, capped, kind_items, kind_boxes}
+use Rattle.stick_cell.specs.NameEntries.{entries_of}
+use Rattle.stick_cell.proofs.Counting.{counted, weight-with_node, boxes-with_node, greatest_col-push, greatest_row-push}
+use Rattle.stick_cell.proofs.LineSteps.{names-push}
+use Rattle.stick_cell.proofs.growing.Growing.add_node.Goals as goal
+
+pub returns : goal.returns
+returns c = λ known grown.
+    let name = c.args.name.now in
+    let table = c.args.self.now.table in
+    let node : Node = record { name = name; kind = c.args.kind; col = c.args.col; row = c.args.row } in
+    let next = with_node known name c.args.kind c.args.col c.args.row in
+    let thing : ℕ → Thing = λ number. things.Node (record { number = number; kind = c.args.kind; col = c.args.col; row = c.args.row }) in
+    record {
+      name = grown.name;
+      names = names-push (entries_of table.names) (entries_of c.add.new.self) known.names name (thing table.nodes) (thing (length known.nodes)) c.in_ok-add.ensures grown.names (ap thing grown.nodes);
+      ports = grown.ports;
+      wired = grown.wired;
+      nodes = counted table.nodes (length known.nodes) 1 c.capped_sum-self.result (length next.nodes) grown.nodes c.capped_sum-self.ensures (length_push known.nodes node);
+      wires = grown.wires;
+      weight = counted table.weight (weight_of known) (kind_items c.args.kind) c.capped_sum-self-2.result (weight_of next) grown.weight (c.capped_sum-self-2.ensures ∙ ap (λ (n : ℕ). capped (table.weight + n)) c.kind_items.ensures) (weight-with_node known name c.args.kind c.args.col c.args.row);
+      boxes = counted table.boxes (boxes_of known) (kind_boxes c.args.kind) c.capped_sum-self-3.result (boxes_of next) grown.boxes (c.capped_sum-self-3.ensures ∙ ap (λ (n : ℕ). capped (table.boxes + n)) c.kind_boxes.ensures) (boxes-with_node known name c.args.kind c.args.col c.args.row);
+      most_col = c.max-self.ensures ∙ ap (λ (n : ℕ). max n c.args.col) grown.most_col ∙ sym (greatest_col-push known.nodes node);
+      most_row = c.max-self-2.ensures ∙ ap (λ (n : ℕ). max n c.args.row) grown.most_row ∙ sym (greatest_row-push known.nodes node);
+      depth = grown.depth;
+      below = grown.below;
+    }

@@ -1,0 +1,34 @@
+use Rattle.std.proofs.Common.{◌≡◌, ℕ, [], ◌∷◌, ◌++◌, false, length, sym, ap, ◌∙◌, arith}
+use Rattle.std.specs.Prelude.{pos}
+use Rattle.std.proofs.lemmas.List.{map-append, length-map}
+use Rattle.stick_cell.specs.declared.names.Thing.{Thing}
+use Rattle.stick_cell.specs.declared.names.Thing.TheVariants as things
+use Rattle.stick_cell.specs.Known.{Plug}
+use Rattle.stick_cell.specs.Counts.{capped}
+use Rattle.stick_cell.specs.NameEntries.{entries_of}
+use Rattle.stick_cell.specs.Growing.{port_so_far}
+use Rattle.stick_cell.proofs.Counting.{weight-with_port, boxes-with_port}
+use Rattle.stick_cell.proofs.LineSteps.{names-push, below-push}
+use Rattle.stick_cell.proofs.growing.Growing.add_port.Goals as goal
+
+pub returns : goal.returns
+returns c = λ known grown.
+    let name = c.args.name.now in
+    let table = c.args.self.now.table in
+    let plug : Plug = record { port = record { name = name; side = c.args.side; layer = c.args.layer; place = c.args.place; wire = 0 }; width = pos 0; wired = false } in
+    let thing : ℕ → Thing = λ number. things.Port (record { number = number; side = c.args.side; layer = c.args.layer; place = c.args.place }) in
+    let number_is : c.in-Ok.number ≡ length known.plugs = omega (arith, c.in-Ok.ensures.1, c.len.ensures, c.args.self.now.wired.ok.0, ap length grown.wired, length-map known.plugs (λ plug. plug.wired)) in
+    record {
+      name = grown.name;
+      names = names-push (entries_of table.names) (entries_of c.add.new.self) known.names name (thing c.in-Ok.number) (thing (length known.plugs)) c.in_ok-add.ensures grown.names (ap thing number_is);
+      ports = c.in_ok-push.ensures.items ∙ ap (λ ports. ports ++ port_so_far plug ∷ []) grown.ports ∙ sym (map-append port_so_far known.plugs (plug ∷ []));
+      wired = c.in_ok-push-2.ensures.items ∙ ap (λ wired. wired ++ false ∷ []) grown.wired ∙ sym (map-append (λ (plug : Plug). plug.wired) known.plugs (plug ∷ []));
+      nodes = grown.nodes;
+      wires = grown.wires;
+      weight = grown.weight ∙ ap capped (sym (weight-with_port known name c.args.side c.args.layer c.args.place));
+      boxes = grown.boxes ∙ ap capped (sym (boxes-with_port known name c.args.side c.args.layer c.args.place));
+      most_col = grown.most_col;
+      most_row = grown.most_row;
+      depth = grown.depth;
+      below = below-push (length known.wires) known.plugs plug grown.below (omega arith);
+    }

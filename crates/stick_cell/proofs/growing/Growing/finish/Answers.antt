@@ -1,0 +1,39 @@
+use Rattle.std.proofs.Common.{sym, subst}
+use Rattle.stick_cell.specs.declared.table.Table.{Table}
+use Rattle.stick_cell.specs.Tables.{IsTableOf}
+use Rattle.stick_cell.proofs.Finishing.{ports-forgotten, ports-told}
+use Rattle.stick_cell.proofs.growing.Growing.finish.Goals as goal
+use Rattle.stick_cell.proofs.growing.Growing.finish.Goals.{then-table-gt-MOST_ITEMS, else-table-gt-MOST_ITEMS}
+
+pub returns : goal.returns
+returns c = λ known is.
+    let growing = c.args.self in
+    let P : Table → Type 0 = λ table. IsTableOf known table in
+    elim c.if-table-gt-MOST_ITEMS.branch [
+      | then-table-gt-MOST_ITEMS w ↦
+          subst P (sym w.table-is) (record {
+            name = is.name;
+            names = is.names;
+            ports = ports-forgotten known growing w.forget_wires.new.ports.items is w.if-table-gt-MOST_ITEMS.true w.forget_wires.ensures;
+            nodes = is.nodes;
+            wires = is.wires;
+            weight = is.weight;
+            boxes = is.boxes;
+            most_col = is.most_col;
+            most_row = is.most_row;
+            depth = is.depth;
+          })
+      | else-table-gt-MOST_ITEMS w ↦
+          subst P (sym w.table-is) (record {
+            name = is.name;
+            names = is.names;
+            ports = ports-told known growing is w.if-table-gt-MOST_ITEMS.false;
+            nodes = is.nodes;
+            wires = is.wires;
+            weight = is.weight;
+            boxes = is.boxes;
+            most_col = is.most_col;
+            most_row = is.most_row;
+            depth = is.depth;
+          })
+    ]

@@ -1,0 +1,20 @@
+use Rattle.std.proofs.Common.{refl}
+use Rattle.stick_cell.specs.Counts.{weight_of, boxes_of}
+use Rattle.stick_cell.proofs.growing.Growing.new.Goals as goal
+
+pub returns : goal.returns
+unfolding weight_of boxes_of
+returns c = record {
+  name = refl;
+  names = c.new.ensures;
+  ports = c.new-2.ensures.items;
+  wired = c.new-3.ensures.items;
+  nodes = refl;
+  wires = refl;
+  weight = refl;
+  boxes = refl;
+  most_col = refl;
+  most_row = refl;
+  depth = refl;
+  below = tt;
+}

@@ -1,0 +1,13 @@
+use Rattle.std.proofs.Common.{◌≡◌, List, drop}
+use Rattle.stick_cell.specs.Known.{Known, begun}
+use Rattle.stick_cell.specs.Lines.{after_lines}
+use Rattle.stick_cell.specs.Grown.{IsGrown, AreGrown}
+use Rattle.stick_cell.specs.Tables.{AreTables}
+use Rattle.stick_cell.specs.Growing.{IsGrowing}
+use Rattle.stick_cell.proofs.resolving.read_lines.Given as goal
+
+abbrev pub invariant-loop-line : goal.invariant-loop-line
+invariant-loop-line l =
+    (cells : List Known) → AreGrown l.tech cells → AreTables cells l.tables
+    → (known : Known) × IsGrowing known l.growing × IsGrown l.tech cells known
+    × (after_lines l.tech cells known (drop l.line-index l.text.lines) ≡ after_lines l.tech cells (begun l.text.name) l.text.lines)

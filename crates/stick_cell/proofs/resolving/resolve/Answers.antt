@@ -1,0 +1,38 @@
+use Rattle.std.proofs.Common.{◌≡◌, ◌<◌, List, [], ◌∷◌, ◌++◌, length, get_or, refl, sym, ap, subst, ◌∙◌, arith}
+use Rattle.std.proofs.lemmas.List.{length_push}
+use Rattle.stick_cell.specs.declared.table.Table.{Table}
+use Rattle.stick_cell.specs.Known.{Known}
+use Rattle.stick_cell.specs.Lines.{known_cells}
+use Rattle.stick_cell.specs.Tables.{AreTables}
+use Rattle.stick_cell.proofs.Grown.{are_grown-none, are_grown-append, grown-after_cell}
+use Rattle.stick_cell.proofs.CellLoop.{cells-next, cell-at, tables-push}
+use Rattle.stick_cell.proofs.resolving.resolve.Goals as goal
+
+pub loop-text-init : goal.loop-text-init
+unfolding known_cells
+loop-text-init c =
+    let P : List Table → Type 0 = λ tables. AreTables [] tables in
+    ([], subst P (sym c.new-tables.ensures.items) tt, are_grown-none c.args.tech.now, refl, ap length c.new-tables.ensures.items)
+
+pub loop-text-preserved : goal.loop-text-preserved
+loop-text-preserved c =
+    let tech = c.args.tech.now in
+    let texts = c.args.design.now.cells in
+    let i = c.loop-text.text-index in
+    let text = c.text-item.result in
+    let table = c.in_ok-table.table in
+    let so_far = c.loop-text.invariant in
+    let lt : i < length texts = omega (arith, c.loop-text-test.true, ap length c.as_slice-text-items.ensures) in
+    let at : text ≡ get_or texts i text = c.text-item.is ∙ ap (λ xs. get_or xs i text) c.as_slice-text-items.ensures in
+    let tables : AreTables so_far.0 c.as_slice.result.now = let P : List Table → Type 0 = λ tables. AreTables so_far.0 tables in subst P (sym c.as_slice.ensures.value) so_far.1 in
+    let cell = c.in_ok-table.ensures so_far.0 so_far.2 tables in
+    let is = grown-after_cell tech so_far.0 text cell.0 so_far.2 (cell-at texts i text c.requires.cells lt at) cell.1 in
+    let cells : List Known = so_far.0 ++ cell.0 ∷ [] in
+    let pushed = c.in_ok-push.ensures.items in
+    let P : List Table → Type 0 = λ tables. AreTables cells tables in (
+      cells,
+      subst P (sym pushed) (tables-push so_far.0 c.loop-text.tables.items cell.0 table so_far.1 cell.2),
+      are_grown-append tech so_far.0 cell.0 so_far.2 is.0 is.1,
+      sym (cells-next tech so_far.0 texts i text cell.0 lt at cell.1) ∙ so_far.3,
+      ap length pushed ∙ omega (arith, length_push c.loop-text.tables.items table, so_far.4),
+    )

@@ -1,0 +1,12 @@
+use Rattle.std.proofs.Common.{◌≡◌, List, length, drop}
+use Rattle.stick_cell.specs.Known.{Known}
+use Rattle.stick_cell.specs.Lines.{cells_after, known_cells}
+use Rattle.stick_cell.specs.Grown.{AreGrown}
+use Rattle.stick_cell.specs.Tables.{AreTables}
+use Rattle.stick_cell.proofs.resolving.resolve.Given as goal
+
+abbrev pub invariant-loop-text : goal.invariant-loop-text
+invariant-loop-text l =
+    (cells : List Known) × AreTables cells l.tables.items × AreGrown l.tech cells
+    × (cells_after l.tech cells (drop l.text-index l.design.cells) ≡ known_cells l.tech l.design.cells)
+    × (length l.tables.items ≡ l.text-index)

@@ -1,0 +1,79 @@
+-- What the code keeps of a cell while its lines are read.
+use Rattle.std.specs.Prelude.{◌≡◌, ℕ, ◌≤◌, nat_lt, ℤ, Bool, true, ◌&&◌, List, length, map, slice_index_or, slice_set, Option, None, Some, Result, Ok, Err}
+use Rattle.std.specs.List.{AllByRecursion}
+use Rattle.stick_parse.specs.declared.fault.StickKind.{StickKind}
+use Rattle.stick_parse.specs.declared.fault.StickKind.TheVariants.{RepeatedName, UnknownName, UseDepth, UsedPorts, FarPlace}
+use Rattle.stick_parse.specs.declared.fault.LineFault.{LineFault}
+use Rattle.stick_parse.specs.Reading.{◌>>=◌, FailsLine}
+use Rattle.stick_cell.specs.declared.cell.CellPort.{CellPort}
+use Rattle.stick_cell.specs.declared.cell.WireEnd.{WireEnd}
+use Rattle.stick_cell.specs.declared.cell.WireEnd.TheVariants as ends
+use Rattle.stick_cell.specs.declared.names.Found.{Found}
+use Rattle.stick_cell.specs.declared.growing.Growing.{Growing}
+use Rattle.stick_cell.specs.Checks.{demand, is_fresh, is_place}
+use Rattle.stick_cell.specs.Known.{Known, Plug, no_plug, greatest_col, greatest_row}
+use Rattle.stick_cell.specs.Paths.{Names}
+use Rattle.stick_cell.specs.Lines.{wired_of}
+use Rattle.stick_cell.specs.Counts.{weight_of, boxes_of, capped}
+use Rattle.stick_cell.specs.Kept.{capped_names, kept_found}
+use Rattle.stick_cell.specs.NameEntries.{entries_of}
+
+-- a port before the last line of its cell: the number of its wire is capped
+abbrev pub port_so_far : Plug → CellPort
+port_so_far plug = record { side = plug.port.side; layer = plug.port.layer; place = plug.port.place; width = plug.width; wire = capped plug.port.wire }
+
+-- the port's wire is one of so many, or none
+abbrev pub IsWiredBelow : ℕ → Plug → Type 0
+IsWiredBelow count plug = plug.port.wire ≤ count
+
+-- what is kept is that of the lines so far
+pub record IsGrowing (known : Known) (growing : Growing) : Type 0 where
+  pub name : growing.table.name.now ≡ known.name
+  pub names : entries_of growing.table.names ≡ capped_names known.names
+  pub ports : growing.table.ports.items ≡ map port_so_far known.plugs
+  pub wired : growing.wired.items ≡ wired_of known
+  pub nodes : growing.table.nodes ≡ capped (length known.nodes)
+  pub wires : growing.table.wires ≡ capped (length known.wires)
+  pub weight : growing.table.weight ≡ capped (weight_of known)
+  pub boxes : growing.table.boxes ≡ capped (boxes_of known)
+  pub most_col : growing.table.most_col ≡ greatest_col known.nodes
+  pub most_row : growing.table.most_row ≡ greatest_row known.nodes
+  pub depth : growing.table.depth ≡ known.depth
+  pub below : AllByRecursion (IsWiredBelow (length known.wires)) known.plugs
+
+-- A line that is read gives what the definition says is known after it; one that is refused, the same kind. Nothing is said where memory
+-- ran out.
+abbrev pub Grows : {X : Type 0} → Result X LineFault → Growing → Result Known StickKind → Type 0
+Grows (Ok x) growing read = (next : Known) × (read ≡ Ok next) × IsGrowing next growing
+Grows (Err fault) growing read = FailsLine fault read
+
+-- a new name, and a column and a row that are not too far out
+unfoldable pub placed : Names → List ℕ → ℕ → ℕ → Result (Unit {0}) StickKind
+placed table name col row = do
+  fresh ← demand (is_fresh table name) RepeatedName
+  demand (is_place col && is_place row) FarPlace
+
+-- of a used cell: it has no ports, it is not too deep, and its nodes do not come to lie too far out
+unfoldable pub usable : Bool → ℕ → ℕ → ℕ → Result (Unit {0}) StickKind
+usable is_closed depth col row = do
+  closed ← demand is_closed UsedPorts
+  shallow ← demand (nat_lt depth 16) UseDepth
+  demand (is_place col && is_place row) FarPlace
+
+-- the ports after a wire of this number and width has ended at one of them, or at a node
+abbrev pub plugged_ports : ℕ → ℤ → List CellPort → WireEnd → List CellPort
+plugged_ports number width ports (ends.Node k) = ports
+plugged_ports number width ports (ends.Port k) = slice_set ports k (record (slice_index_or ports k (port_so_far no_plug)) { width = width; wire = number })
+
+abbrev pub plugged_marks : List Bool → WireEnd → List Bool
+plugged_marks wired (ends.Node k) = wired
+plugged_marks wired (ends.Port k) = slice_set wired k true
+
+-- what is kept of what a path comes to
+abbrev pub found_or_unknown : Option Found → Result Found StickKind
+found_or_unknown None = Err UnknownName
+found_or_unknown (Some found) = Ok (kept_found found)
+
+-- a port without the number of its wire
+abbrev pub without_wire : CellPort → CellPort
+without_wire port = record port { wire = 0 }

@@ -1,0 +1,64 @@
+-- What each cell has while its lines are read: its nodes lie near, its wires and limits end within it, and each of its names stands for
+-- what it says.
+use Rattle.std.specs.Prelude.{◌≡◌, ℕ, ◌+◌, ◌<◌, ◌≤◌, true, false, List, [], length, take, IsTrue}
+use Rattle.std.specs.List.{AllByRecursion}
+use Rattle.rule_table.specs.declared.technology.Tech.{Tech}
+use Rattle.stick_cell.specs.declared.cell.Node.{Node}
+use Rattle.stick_cell.specs.declared.cell.WireEnd.TheVariants as ends
+use Rattle.stick_cell.specs.declared.cell.Wire.{Wire}
+use Rattle.stick_cell.specs.declared.names.Thing.{Thing}
+use Rattle.stick_cell.specs.declared.names.Thing.TheVariants as things
+use Rattle.stick_cell.specs.declared.names.Spot.{Spot}
+use Rattle.stick_cell.specs.declared.names.Pin.{Pin}
+use Rattle.stick_cell.specs.declared.names.Copied.{Copied}
+use Rattle.stick_cell.specs.Known.{Known, Plug, cell_of, known_at, plug_at, copied_node}
+use Rattle.stick_cell.specs.Lines.{is_wired}
+use Rattle.stick_cell.specs.Sound.{node_at, wire_at, IsNode, IsWire, IsLimit, EndsAt}
+
+-- the node of this number has the name, and is what the spot says
+pub record IsSpot (nodes : List Node) (name : List ℕ) (spot : Spot) : Type 0 where
+  pub within : spot.number < length nodes
+  pub node : node_at nodes spot.number ≡ record { name = name; kind = spot.kind; col = spot.col; row = spot.row }
+
+-- the port of this number is what the pin says
+pub record IsPin (plugs : List Plug) (pin : Pin) : Type 0 where
+  pub within : pin.number < length plugs
+  pub side : (plug_at plugs pin.number).port.side ≡ pin.side
+  pub layer : (plug_at plugs pin.number).port.layer ≡ pin.layer
+  pub place : (plug_at plugs pin.number).port.place ≡ pin.place
+
+-- an earlier cell without ports, whose nodes stand shifted from the copy's first on
+pub record IsCopy (cells : List Known) (nodes : List Node) (name : List ℕ) (copy : Copied) : Type 0 where
+  pub earlier : copy.cell < length cells
+  pub closed : (known_at cells copy.cell).plugs ≡ []
+  pub within : copy.first + length (known_at cells copy.cell).nodes ≤ length nodes
+  pub node : (j : ℕ) → j < length (known_at cells copy.cell).nodes → node_at nodes (copy.first + j) ≡ copied_node name copy.col copy.row (node_at (known_at cells copy.cell).nodes j)
+
+-- the name stands for what is there
+abbrev pub IsRight : List Known → List Node → List Plug → List ℕ → Thing → Type 0
+IsRight cells nodes plugs name (things.Node spot) = IsSpot nodes name spot
+IsRight cells nodes plugs name (things.Port pin) = IsPin plugs pin
+IsRight cells nodes plugs name (things.Copy copy) = IsCopy cells nodes name copy
+
+-- port k lies near, and once a wire ends at it, the wire of its number does, and no other
+pub record IsPlug (wires : List Wire) (k : ℕ) (plug : Plug) : Type 0 where
+  pub place : plug.port.place ≤ 4095
+  pub wire : plug.wired ≡ true → plug.port.wire < length wires
+  pub ends_there : plug.wired ≡ true → EndsAt (ends.Port k) (wire_at wires plug.port.wire)
+  pub only : plug.wired ≡ true → (j : ℕ) → j < length wires → EndsAt (ends.Port k) (wire_at wires j) → j ≡ plug.port.wire
+  pub free : plug.wired ≡ false → (j : ℕ) → j < length wires → EndsAt (ends.Port k) (wire_at wires j) → ⊥
+
+-- a cell after some of its lines, over the cells before it
+pub record IsGrown (tech : Tech) (cells : List Known) (known : Known) : Type 0 where
+  pub nodes : AllByRecursion (IsNode tech) known.nodes
+  pub wires : AllByRecursion (IsWire tech (cell_of known)) known.wires
+  pub plugs : (k : ℕ) → k < length known.plugs → IsPlug known.wires k (plug_at known.plugs k)
+  pub limits : AllByRecursion (IsLimit (cell_of known)) known.limits
+  pub names : AllByRecursion (λ entry. IsRight cells known.nodes known.plugs entry.0 entry.1) known.names
+  pub own_depth : 1 ≤ known.depth
+  pub depth : known.depth ≤ 16
+
+-- each cell is grown over the cells before it, and a wire ends at each of its ports
+pub record AreGrown (tech : Tech) (cells : List Known) : Type 0 where
+  pub grown : (k : ℕ) → k < length cells → IsGrown tech (take k cells) (known_at cells k)
+  pub wired : (k : ℕ) → k < length cells → IsTrue (is_wired (known_at cells k))

@@ -1,0 +1,17 @@
+pub mod Known
+pub mod Paths
+pub mod Checks
+pub mod Wires
+pub mod Lines
+pub mod Counts
+pub mod Kept
+pub mod Ports
+pub mod Sound
+pub mod Netting
+pub mod Search
+pub mod NameEntries
+pub mod Tables
+pub mod Growing
+pub mod Resolving
+pub mod Grown
+pub mod Inlining

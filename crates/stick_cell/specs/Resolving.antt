@@ -1,0 +1,28 @@
+-- What the code tells of a cell's lines, and of the whole cell.
+use Rattle.std.specs.Prelude.{◌≡◌, ℕ, Result, Ok, Err}
+use Rattle.stick_parse.specs.declared.fault.StickFault.{StickFault}
+use Rattle.stick_parse.specs.declared.fault.LineFault.{LineFault}
+use Rattle.stick_parse.specs.declared.fault.LineFault.TheVariants as line_faults
+use Rattle.stick_parse.specs.declared.fault.ParseFault.{ParseFault}
+use Rattle.stick_parse.specs.declared.fault.ParseFault.TheVariants.{Stick, OutOfMemory}
+use Rattle.stick_parse.specs.Reading.{Fails}
+use Rattle.stick_cell.specs.declared.growing.Growing.{Growing}
+use Rattle.stick_cell.specs.declared.table.Table.{Table}
+use Rattle.stick_cell.specs.Known.{Known}
+use Rattle.stick_cell.specs.Tables.{IsTableOf}
+use Rattle.stick_cell.specs.Growing.{IsGrowing}
+
+-- the fault of a line, with the line's number
+abbrev pub fault_at_line : ℕ → LineFault → ParseFault
+fault_at_line line (line_faults.Kind kind) = Stick (record { line = line; kind = kind })
+fault_at_line line line_faults.OutOfMemory = OutOfMemory
+
+-- what is kept after the lines of a cell, or their fault; nothing is said where memory ran out
+abbrev pub GrowsTo : Result Growing ParseFault → Result Known StickFault → Type 0
+GrowsTo (Ok growing) read = (known : Known) × (read ≡ Ok known) × IsGrowing known growing
+GrowsTo (Err fault) read = Fails fault read
+
+-- the table of a cell, or its fault
+abbrev pub TellsTable : Result Table ParseFault → Result Known StickFault → Type 0
+TellsTable (Ok table) read = (known : Known) × (read ≡ Ok known) × IsTableOf known table
+TellsTable (Err fault) read = Fails fault read

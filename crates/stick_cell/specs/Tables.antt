@@ -1,0 +1,45 @@
+-- What the code keeps of the cells of a design: a table for each, which tells of the cell what later lines and cells ask for. Numbers of
+-- nodes are exact in a cell that may be inlined.
+use Rattle.std.specs.Prelude.{◌≡◌, List, [], ◌∷◌, length, Result, Ok, Err}
+use Rattle.stick_parse.specs.declared.fault.StickFault.{StickFault}
+use Rattle.stick_parse.specs.Writable.{IsWritable}
+use Rattle.stick_cell.specs.declared.table.Table.{Table}
+use Rattle.stick_cell.specs.declared.cells.Cells.{Cells}
+use Rattle.stick_cell.specs.Known.{Known, greatest_col, greatest_row}
+use Rattle.stick_cell.specs.Lines.{known_cells}
+use Rattle.stick_cell.specs.Counts.{weight_of, boxes_of, capped}
+use Rattle.stick_cell.specs.Kept.{capped_names}
+use Rattle.stick_cell.specs.Ports.{ports_of}
+use Rattle.stick_cell.specs.NameEntries.{entries_of}
+
+pub record IsTableOf (known : Known) (table : Table) : Type 0 where
+  pub name : table.name.now ≡ known.name
+  pub names : entries_of table.names ≡ capped_names known.names
+  pub ports : table.ports.items ≡ ports_of known
+  pub nodes : table.nodes ≡ capped (length known.nodes)
+  pub wires : table.wires ≡ capped (length known.wires)
+  pub weight : table.weight ≡ capped (weight_of known)
+  pub boxes : table.boxes ≡ capped (boxes_of known)
+  pub most_col : table.most_col ≡ greatest_col known.nodes
+  pub most_row : table.most_row ≡ greatest_row known.nodes
+  pub depth : table.depth ≡ known.depth
+
+abbrev pub AreTables : List Known → List Table → Type 0
+AreTables [] [] = Unit {0}
+AreTables [] (table ∷ tables) = ⊥
+AreTables (known ∷ cells) [] = ⊥
+AreTables (known ∷ cells) (table ∷ tables) = IsTableOf known table × AreTables cells tables
+
+abbrev pub cells_or_none : Result (List Known) StickFault → List Known
+cells_or_none (Ok cells) = cells
+cells_or_none (Err fault) = []
+
+-- what is known of the cells of a design
+abbrev pub known_of : Cells → List Known
+known_of cells = cells_or_none (known_cells cells.tech cells.design.now.cells)
+
+-- the cells are those of their design, which has a text and no fault
+pub record IsResolved (cells : Cells) : Type 0 where
+  pub writable : IsWritable cells.design.now
+  pub read : known_cells cells.tech cells.design.now.cells ≡ Ok (known_of cells)
+  pub tables : AreTables (known_of cells) cells.tables.items

@@ -1,0 +1,158 @@
+-- Where wires run, and which terminals take them.
+use Rattle.std.specs.Prelude.{ℕ, ◌==◌, ◌&&◌, ◌||◌, not, Bool, true, false, nat_lt, ℤ, int_le, List, slice_index_or, Option, Some, None, Result, Ok, Err, if◌then◌else◌}
+use Rattle.rule_table.specs.declared.technology.Tech.{Tech}
+use Rattle.rule_table.specs.declared.classes.Layer.{Layer}
+use Rattle.rule_table.specs.declared.classes.Layer.TheVariants.{Diffusion, Poly, Metal}
+use Rattle.rule_table.specs.Technology.{pad_of}
+use Rattle.stick_parse.specs.declared.fault.StickKind.{StickKind}
+use Rattle.stick_parse.specs.declared.fault.StickKind.TheVariants.{UnknownName, WrongTerminal, NotStraight, WrongLayer, WrongSide, PortWires, WideWire, BadLimit}
+use Rattle.stick_parse.specs.declared.design.Side.{Side}
+use Rattle.stick_parse.specs.declared.design.Side.TheVariants.{Left, Right, Bottom, Top}
+use Rattle.stick_parse.specs.Reading.{◌>>=◌}
+use Rattle.stick_cell.specs.declared.cell.Axis2.{Axis2}
+use Rattle.stick_cell.specs.declared.cell.Axis2.TheVariants.{Across, Up}
+use Rattle.stick_cell.specs.declared.cell.NodeKind.{NodeKind}
+use Rattle.stick_cell.specs.declared.cell.NodeKind.TheVariants.{Joint, Contact, Fet}
+use Rattle.stick_cell.specs.declared.cell.WireEnd.{WireEnd}
+use Rattle.stick_cell.specs.declared.cell.WireEnd.TheVariants as ends
+use Rattle.stick_cell.specs.declared.cell.Wire.{Wire}
+use Rattle.stick_cell.specs.declared.names.Spot.{Spot}
+use Rattle.stick_cell.specs.declared.names.Terminal.{Terminal}
+use Rattle.stick_cell.specs.declared.names.Terminal.TheVariants.{Node, Port}
+use Rattle.stick_cell.specs.declared.names.Found.{Found}
+use Rattle.stick_cell.specs.declared.names.Found.TheVariants.{At, AtCopy, Through}
+use Rattle.stick_cell.specs.declared.names.Run.{Run}
+use Rattle.stick_cell.specs.Checks.{demand, sized}
+
+abbrev pub known_name : Option Found → Result Found StickKind
+known_name None = Err UnknownName
+known_name (Some found) = Ok found
+
+abbrev pub terminal : Found → Result Terminal StickKind
+terminal (At end) = Ok end
+terminal AtCopy = Err WrongTerminal
+terminal Through = Err WrongTerminal
+
+-- ---- straight runs
+
+abbrev pub is_same_axis : Axis2 → Axis2 → Bool
+is_same_axis Across Across = true
+is_same_axis Across Up = false
+is_same_axis Up Across = false
+is_same_axis Up Up = true
+
+-- the axis on which a wire reaches a side
+abbrev pub axis_of : Side → Axis2
+axis_of Left = Across
+axis_of Right = Across
+axis_of Bottom = Up
+axis_of Top = Up
+
+abbrev pub is_low_side : Side → Bool
+is_low_side Left = true
+is_low_side Right = false
+is_low_side Bottom = true
+is_low_side Top = false
+
+-- the row of a node for a wire that runs across, its column for one that runs up
+abbrev pub line_of : Axis2 → Spot → ℕ
+line_of Across spot = spot.row
+line_of Up spot = spot.col
+
+-- the run along an axis between two terminals of which the first is the low one, or the high one
+abbrev pub run_along : Axis2 → Bool → Terminal → Terminal → Run
+run_along along is_low a b = if is_low then record { along = along; low = a; high = b } else record { along = along; low = b; high = a }
+
+-- Two nodes share exactly one of column and row. A left or right port lies in the row of a node, a bottom or top port in its column.
+-- Two ports lie opposite each other.
+abbrev pub run_between : Terminal → Terminal → Option Run
+run_between (Node a) (Node b) =
+    if (a.row == b.row) && not (a.col == b.col) then Some (run_along Across (nat_lt a.col b.col) (Node a) (Node b))
+    else (if (a.col == b.col) && not (a.row == b.row) then Some (run_along Up (nat_lt a.row b.row) (Node a) (Node b)) else None)
+run_between (Node a) (Port q) =
+    if line_of (axis_of q.side) a == q.place then Some (run_along (axis_of q.side) (not (is_low_side q.side)) (Node a) (Port q)) else None
+run_between (Port p) (Node b) =
+    if line_of (axis_of p.side) b == p.place then Some (run_along (axis_of p.side) (is_low_side p.side) (Port p) (Node b)) else None
+run_between (Port p) (Port q) =
+    if is_same_axis (axis_of p.side) (axis_of q.side) && (not (is_low_side p.side) && is_low_side q.side || is_low_side p.side && not (is_low_side q.side)) && (p.place == q.place)
+    then Some (run_along (axis_of p.side) (is_low_side p.side) (Port p) (Port q)) else None
+
+abbrev pub straight : Option Run → Result Run StickKind
+straight None = Err NotStraight
+straight (Some run) = Ok run
+
+-- ---- which terminals take which wires
+
+abbrev pub is_same_layer : Layer → Layer → Bool
+is_same_layer Diffusion Diffusion = true
+is_same_layer Poly Poly = true
+is_same_layer Metal Metal = true
+is_same_layer a b = false
+
+-- a joint takes its own layer, a contact metal and its lower layer, a transistor poly and diffusion
+abbrev pub node_takes : NodeKind → Layer → Bool
+node_takes (Joint own width) layer = is_same_layer own layer
+node_takes (Contact lower) layer = is_same_layer Metal layer || is_same_layer lower layer
+node_takes (Fet depletion gate w l) layer = not (is_same_layer Metal layer)
+
+abbrev pub takes_layer : Layer → Terminal → Bool
+takes_layer layer (Node spot) = node_takes spot.kind layer
+takes_layer layer (Port pin) = is_same_layer pin.layer layer
+
+-- at a transistor a poly wire runs along the gate, and a diffusion wire across it
+abbrev pub node_takes_along : NodeKind → Layer → Axis2 → Bool
+node_takes_along (Joint own width) layer along = true
+node_takes_along (Contact lower) layer along = true
+node_takes_along (Fet depletion gate w l) Poly along = is_same_axis gate along
+node_takes_along (Fet depletion gate w l) Diffusion along = not (is_same_axis gate along)
+node_takes_along (Fet depletion gate w l) Metal along = true
+
+abbrev pub takes_along : Layer → Axis2 → Terminal → Bool
+takes_along layer along (Node spot) = node_takes_along spot.kind layer along
+takes_along layer along (Port pin) = true
+
+-- no wire ends at the port yet; wired tells of each port whether one does
+abbrev pub is_free : List Bool → Terminal → Bool
+is_free wired (Node spot) = true
+is_free wired (Port pin) = not (slice_index_or wired pin.number false)
+
+-- The pad on which a wire of this layer ends: a joint's width, a contact's square, a transistor's channel. A port has none.
+abbrev pub node_pad : Tech → Layer → NodeKind → ℤ
+node_pad tech layer (Joint own width) = width
+node_pad tech layer (Contact lower) = pad_of tech
+node_pad tech Poly (Fet depletion gate w l) = l
+node_pad tech Diffusion (Fet depletion gate w l) = w
+node_pad tech Metal (Fet depletion gate w l) = w
+
+abbrev pub is_within_pad : Tech → Layer → ℤ → Terminal → Bool
+is_within_pad tech layer width (Node spot) = int_le width (node_pad tech layer spot.kind)
+is_within_pad tech layer width (Port pin) = true
+
+abbrev pub end_of : Terminal → WireEnd
+end_of (Node spot) = ends.Node spot.number
+end_of (Port pin) = ends.Port pin.number
+
+abbrev pub at_both : (Terminal → Bool) → Run → Bool
+at_both test run = test run.low && test run.high
+
+-- the wire of a layer between the things that two paths have come to
+unfoldable pub wire_between : Tech → List Bool → Layer → Found → Found → Option ℕ → Result Wire StickKind
+wire_between tech wired layer a b width = do
+  from ← terminal a
+  to ← terminal b
+  run ← straight (run_between from to)
+  layers ← demand (at_both (takes_layer layer) run) WrongLayer
+  sides ← demand (at_both (takes_along layer run.along) run) WrongSide
+  free ← demand (at_both (is_free wired) run) PortWires
+  size ← sized tech layer width
+  pads ← demand (at_both (is_within_pad tech layer size) run) WideWire
+  Ok (record { layer = layer; width = size; low = end_of run.low; high = end_of run.high; along = run.along })
+
+-- ---- limits
+
+-- a limit's end is a node
+abbrev pub limited : Found → Result Spot StickKind
+limited (At (Node spot)) = Ok spot
+limited (At (Port pin)) = Err BadLimit
+limited AtCopy = Err BadLimit
+limited Through = Err BadLimit

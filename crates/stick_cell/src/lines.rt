@@ -1,0 +1,77 @@
+//! The lines of a cell.
+ghost use Rattle.std.specs.Prelude.{◌≤◌, List, length};
+ghost use Rattle.stick_parse.specs.Writable.{IsForm};
+ghost use Rattle.stick_cell.specs.Known.{Known};
+ghost use Rattle.stick_cell.specs.Lines.{after_form};
+ghost use Rattle.stick_cell.specs.Grown.{IsGrown, AreGrown};
+ghost use Rattle.stick_cell.specs.Tables.{AreTables};
+ghost use Rattle.stick_cell.specs.Growing.{IsGrowing, Grows};
+
+use crate::growing::Growing;
+use crate::table::Table;
+use rule_table::Tech;
+use stick_parse::{Form, LineFault};
+
+impl<'a> Growing<'a> {
+    /// One more line, given the tables of the cells before. It is refused with the kind of its first fault.
+    pub fn line(
+        &mut self,
+        tech: &Tech,
+        tables: &[Table<'a>],
+        form: &'a Form,
+    ) -> Result<(), LineFault>
+        requires { length tables.now ≤ 256 }
+        ensures { (cells : List Known) (known : Known) → AreGrown tech.now cells → AreTables cells tables.now → IsForm form.now
+            → IsGrown tech.now cells known → IsGrowing known self.old → Grows result self.new (after_form tech.now cells known form.now) }
+    {
+        match form {
+            Form::Joint {
+                name,
+                layer,
+                col,
+                row,
+                width,
+            } => self.joint(tech, name.bytes(), *layer, *col, *row, *width),
+            Form::Contact {
+                name,
+                lower,
+                col,
+                row,
+            } => self.contact(name.bytes(), *lower, *col, *row),
+            Form::Fet {
+                name,
+                depletion,
+                vertical,
+                col,
+                row,
+                w,
+                l,
+            } => self.fet(
+                tech,
+                name.bytes(),
+                *depletion,
+                *vertical,
+                *col,
+                *row,
+                *w,
+                *l,
+            ),
+            Form::Port {
+                name,
+                side,
+                layer,
+                place,
+            } => self.port(name.bytes(), *side, *layer, *place),
+            Form::Inst {
+                name,
+                cell,
+                col,
+                row,
+            } => self.copy(tables, name.bytes(), cell.bytes(), *col, *row),
+            Form::Wire { layer, a, b, width } => {
+                self.wire(tech, tables, *layer, a.bytes(), b.bytes(), *width)
+            }
+            Form::Limit { a, b, .. } => self.limit(tables, a.bytes(), b.bytes()),
+        }
+    }
+}

@@ -1,0 +1,65 @@
+//! What the names of a cell stand for.
+use crate::cell::NodeKind;
+use rule_table::Layer;
+use stick_parse::Side;
+
+/// A node as a name or a path tells it: its number in the inlined cell, what it is, and where it lies.
+#[derive(Clone, Copy, Debug)]
+pub struct Spot {
+    pub number: u32,
+    pub kind: NodeKind,
+    pub col: u32,
+    pub row: u32,
+}
+
+/// A port as a name tells it, with its number.
+#[derive(Clone, Copy, Debug)]
+pub struct Pin {
+    pub number: u32,
+    pub side: Side,
+    pub layer: Layer,
+    pub place: u32,
+}
+
+/// A copy of an earlier cell: that cell's number, the number of the copy's first node, and its shift.
+#[derive(Clone, Copy, Debug)]
+pub struct Copied {
+    pub cell: u32,
+    pub first: u32,
+    pub col: u32,
+    pub row: u32,
+}
+
+/// What a name of a cell stands for.
+#[derive(Clone, Copy, Debug)]
+pub enum Thing {
+    Node(Spot),
+    Port(Pin),
+    Copy(Copied),
+}
+
+/// Where a wire may end.
+#[derive(Clone, Copy, Debug)]
+pub enum Terminal {
+    Node(Spot),
+    Port(Pin),
+}
+
+/// What a path comes to.
+#[derive(Clone, Copy, Debug)]
+pub enum Found {
+    /// A terminal.
+    At(Terminal),
+    /// A use.
+    AtCopy,
+    /// It goes on behind something that is no use.
+    Through,
+}
+
+/// A straight run from its low terminal to its high one.
+#[derive(Clone, Copy, Debug)]
+pub struct Run {
+    pub along: crate::cell::Axis2,
+    pub low: Terminal,
+    pub high: Terminal,
+}

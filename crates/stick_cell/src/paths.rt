@@ -1,0 +1,73 @@
+//! What a path comes to.
+ghost use Rattle.std.specs.Prelude.{◌≡◌, ◌∷◌, ◌<◌, [], length, map, option_map, option_copied, IfSome, Some, None};
+ghost use Rattle.stick_lex.specs.Tokens.{names};
+ghost use Rattle.stick_cell.specs.NameEntries.{entries_of};
+ghost use Rattle.stick_cell.specs.Paths.{walk, behind, seen_through, names_behind};
+ghost use Rattle.stick_cell.specs.Kept.{kept_found};
+
+use crate::counts::{TOO_MANY, capped_sum};
+use crate::names::{Copied, Found, Spot, Terminal, Thing};
+use crate::table::{NameMap, Table};
+
+/// What a path comes to among the names of a cell, given the tables of the cells before it; `None` where one of its names
+/// is unknown. The number of a node past 65,536 is 65,537, and columns and rows end at the greatest `u32`. It takes no
+/// memory.
+pub fn found_at(tables: &[Table], scope: &NameMap, path: &[u8]) -> Option<Found>
+    ensures { result ≡ option_map kept_found (walk (map (λ table. entries_of table.names) tables.now) (entries_of scope.now) (names path.now)) }
+{
+    let (name, behind) = split_first(path);
+    let thing = scope.find(name)?;
+    let Some(rest) = behind else {
+        return Some(end_at(thing));
+    };
+    match thing {
+        Thing::Node(_) | Thing::Port(_) => Some(Found::Through),
+        Thing::Copy(copy) => {
+            let table = tables.get(copy.cell as usize)?;
+            let found = found_at(tables, &table.names, rest)?;
+            Some(seen_through(copy, found))
+        }
+    }
+}
+
+// The first name of a path, and what stands behind its dot, if there is one.
+fn split_first(path: &[u8]) -> (&[u8], Option<&[u8]>)
+    ensures names { names path.now ≡ result.0.now ∷ names_behind (option_copied result.1) }
+    ensures shorter { IfSome result.1 (λ rest. length rest.now < length path.now) }
+{
+    match path.iter().position(|b| *b == b'.') {
+        None => (path, None),
+        Some(at) => (&path[..at], Some(&path[at + 1..])),
+    }
+}
+
+// What a thing comes to with no name behind it.
+fn end_at(thing: Thing) -> Found
+    ensures { Some result ≡ option_map kept_found (behind thing [] (λ k. None)) }
+{
+    match thing {
+        Thing::Node(spot) => Found::At(Terminal::Node(Spot {
+            number: spot.number.min(TOO_MANY),
+            ..spot
+        })),
+        Thing::Port(pin) => Found::At(Terminal::Port(pin)),
+        Thing::Copy(_) => Found::AtCopy,
+    }
+}
+
+// What is found in a copy, seen from the cell that holds the copy.
+fn seen_through(copy: Copied, found: Found) -> Found
+    ensures { result ≡ kept_found (seen_through copy found) }
+{
+    match found {
+        Found::At(Terminal::Node(spot)) => Found::At(Terminal::Node(Spot {
+            number: capped_sum(copy.first, spot.number),
+            kind: spot.kind,
+            col: copy.col.saturating_add(spot.col),
+            row: copy.row.saturating_add(spot.row),
+        })),
+        Found::At(Terminal::Port(pin)) => Found::At(Terminal::Port(pin)),
+        Found::AtCopy => Found::AtCopy,
+        Found::Through => Found::Through,
+    }
+}

@@ -1,0 +1,102 @@
+//! The checks on the names and sizes of a design.
+ghost use Rattle.std.specs.Prelude.{◌≡◌, ◌≤◌, List, length, IfOk};
+ghost use Rattle.stick_parse.specs.declared.fault.ParseFault.TheVariants.{Stick};
+ghost use Rattle.stick_parse.specs.Reading.{Gives};
+ghost use Rattle.stick_parse.specs.Writable.{IsCell, IsWritable};
+ghost use Rattle.stick_cell.specs.Known.{Known, begun};
+ghost use Rattle.stick_cell.specs.Lines.{after_lines, after_cell, known_cells};
+ghost use Rattle.stick_cell.specs.Grown.{AreGrown};
+ghost use Rattle.stick_cell.specs.Tables.{AreTables, known_of, IsResolved};
+ghost use Rattle.stick_cell.specs.Resolving.{fault_at_line, GrowsTo, TellsTable};
+
+use crate::cells::{Cells, place_of};
+use crate::growing::Growing;
+use crate::table::Table;
+use rule_table::Tech;
+use std::alloc::Global;
+use stick_parse::{CellText, Design, LineFault, ParseFault as ResolveFault, StickFault, StickKind};
+
+/// The cells of a design, whose names and sizes meet the checks, line by line against the lines before.
+///
+/// A design that does not meet them is refused with its first fault: the line, and the kind, one of the sixth to the
+/// twentieth. Want of memory is `OutOfMemory`.
+pub fn resolve<'a>(
+    alloc: Global,
+    design: &'a Design,
+    tech: &Tech,
+) -> Result<Cells<'a>, ResolveFault>
+    requires { IsWritable design.now }
+    ensures cells { Gives known_of result (known_cells tech.now design.now.cells) }
+    ensures resolved { IfOk result IsResolved }
+    ensures of { IfOk result (λ cells. (cells.tech ≡ tech.now) × (cells.design.now ≡ design.now)) }
+{
+    let mut tables = Vec::new(alloc);
+    for text in design.cells.as_slice() {
+        let table = resolve_cell(alloc, tech, tables.as_slice(), text)?;
+        tables.push(table)?;
+    }
+    Ok(Cells {
+        design,
+        tech: *tech,
+        tables,
+    })
+}
+
+/// The table of a cell, given those of the cells before it.
+fn resolve_cell<'a>(
+    alloc: Global,
+    tech: &Tech,
+    tables: &[Table<'a>],
+    text: &'a CellText,
+) -> Result<Table<'a>, ResolveFault>
+    requires few { length tables.now ≤ 256 }
+    requires is_cell { IsCell text.now }
+    ensures { (cells : List Known) → AreGrown tech.now cells → AreTables cells tables.now → TellsTable result (after_cell tech.now cells text.now) }
+{
+    if place_of(tables, text.name.bytes()).is_some() {
+        return Err(refused(text.line, StickKind::RepeatedName));
+    }
+    let growing = read_lines(alloc, tech, tables, text)?;
+    if !growing.is_wired() {
+        return Err(refused(text.end_line, StickKind::PortWires));
+    }
+    Ok(growing.finish())
+}
+
+/// A cell after its lines.
+fn read_lines<'a>(
+    alloc: Global,
+    tech: &Tech,
+    tables: &[Table<'a>],
+    text: &'a CellText,
+) -> Result<Growing<'a>, ResolveFault>
+    requires few { length tables.now ≤ 256 }
+    requires is_cell { IsCell text.now }
+    ensures { (cells : List Known) → AreGrown tech.now cells → AreTables cells tables.now
+        → GrowsTo result (after_lines tech.now cells (begun text.now.name) text.now.lines) }
+{
+    let mut growing = Growing::new(alloc, text.name.bytes());
+    for line in text.lines.as_slice() {
+        match growing.line(tech, tables, &line.form) {
+            Ok(()) => {}
+            Err(fault) => return Err(at_line(line.number, fault)),
+        }
+    }
+    Ok(growing)
+}
+
+/// The fault of a line, with the line's number.
+fn at_line(line: u32, fault: LineFault) -> ResolveFault
+    ensures { result ≡ fault_at_line line fault }
+{
+    match fault {
+        LineFault::Kind(kind) => refused(line, kind),
+        LineFault::OutOfMemory => ResolveFault::OutOfMemory,
+    }
+}
+
+fn refused(line: u32, kind: StickKind) -> ResolveFault
+    ensures { result ≡ Stick (record { line = line; kind = kind }) }
+{
+    ResolveFault::Stick(StickFault { line, kind })
+}

@@ -1,0 +1,67 @@
+//! What is kept of a cell for later lines and cells.
+use crate::cell::CellPort;
+use crate::names::Thing;
+use indexmap::IndexMap;
+use std::alloc::{AllocError, Global};
+
+/// The names of a cell in order of their lines, with what they stand for.
+#[derive(Drop)]
+pub struct NameMap<'a> {
+    pub things: IndexMap<&'a [u8], Thing>,
+}
+
+impl<'a> NameMap<'a> {
+    ghost use Rattle.std.specs.Prelude.{◌≡◌, [], ◌∷◌, ◌++◌, IsTrue, OnOk};
+    ghost use Rattle.stick_cell.specs.Checks.{is_fresh};
+    ghost use Rattle.stick_cell.specs.NameEntries.{entries_of};
+    ghost use Rattle.stick_cell.specs.Paths.{named};
+
+    /// A map without names.
+    pub fn new(alloc: Global) -> NameMap<'a>
+        ensures { entries_of result ≡ [] }
+    {
+        NameMap {
+            things: IndexMap::new(alloc),
+        }
+    }
+
+    /// What the name stands for. It takes no memory.
+    pub fn find(&self, name: &[u8]) -> Option<Thing>
+        ensures { result ≡ named (entries_of self.now) name.now }
+    {
+        self.things.get(name).copied()
+    }
+
+    /// Whether the name is not among these. It takes no memory.
+    pub fn is_fresh(&self, name: &[u8]) -> bool
+        ensures { result ≡ is_fresh (entries_of self.now) name.now }
+    {
+        self.find(name).is_none()
+    }
+
+    /// Adds a name that is not among these. The only refusal is want of memory.
+    pub fn add(&mut self, name: &'a [u8], thing: Thing) -> Result<(), AllocError>
+        requires { IsTrue (is_fresh (entries_of self.old) name.now) }
+        ensures { OnOk result (entries_of self.new ≡ entries_of self.old ++ (name.entry.now, thing) ∷ []) }
+    {
+        self.things.insert(name, thing)?;
+        Ok(())
+    }
+}
+
+/// A cell as later lines and cells ask for it. Counts are those of the inlined cell, and what is past 65,536 is 65,537.
+#[derive(Drop)]
+pub struct Table<'a> {
+    pub name: &'a [u8],
+    pub names: NameMap<'a>,
+    pub ports: Vec<CellPort>,
+    pub nodes: u32,
+    pub wires: u32,
+    pub weight: u32,
+    pub boxes: u32,
+    /// The greatest column of a node, 0 where there is none.
+    pub most_col: u32,
+    /// The greatest row of a node, 0 where there is none.
+    pub most_row: u32,
+    pub depth: u32,
+}

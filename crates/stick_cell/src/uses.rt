@@ -1,0 +1,119 @@
+//! The uses of a cell.
+ghost use Rattle.std.specs.Prelude.{◌≡◌, ◌+◌, ◌<◌, ◌≤◌, ◌==◌, max, if◌then◌else◌, List, length, IsTrue, OnOk};
+ghost use Rattle.stick_cell.specs.Checks.{is_fresh, is_place};
+ghost use Rattle.stick_cell.specs.NameEntries.{entries_of};
+ghost use Rattle.stick_cell.specs.Known.{Known, with_copy};
+ghost use Rattle.stick_cell.specs.Lines.{after_use};
+ghost use Rattle.stick_cell.specs.Tables.{IsTableOf, AreTables};
+ghost use Rattle.stick_cell.specs.Growing.{IsGrowing, Grows, usable};
+
+use crate::cells::place_of;
+use crate::counts::capped_sum;
+use crate::growing::Growing;
+use crate::names::{Copied, Thing};
+use crate::table::Table;
+use std::alloc::AllocError;
+use stick_parse::{LineFault, StickKind};
+
+/// The greatest depth of uses.
+const MOST_DEEP: u32 = 16;
+
+/// Whether a column or a row, shifted, is not too far out.
+fn is_near(place: u32, shift: u32) -> bool
+    ensures { result ≡ is_place (shift + place) }
+{
+    u64::from(shift) + u64::from(place) <= 4095
+}
+
+/// Refuses the use of a cell that has ports or is too deep, and of one whose nodes would lie too far out.
+#[tactic(auto, unfolding(crate::specs::Growing::usable))]
+fn check_use(used: &Table, col: u32, row: u32) -> Result<(), StickKind>
+    ensures { result ≡ usable (length used.now.ports.items == 0) used.now.depth (col + used.now.most_col) (row + used.now.most_row) }
+{
+    if !used.ports.is_empty() {
+        return Err(StickKind::UsedPorts);
+    }
+    if used.depth >= MOST_DEEP {
+        return Err(StickKind::UseDepth);
+    }
+    if !is_near(used.most_col, col) || !is_near(used.most_row, row) {
+        return Err(StickKind::FarPlace);
+    }
+    Ok(())
+}
+
+/// The greatest column or row of a cell with a copy whose greatest one is shifted.
+fn most_with_copy(most: u32, nodes: u32, copied: u32, shift: u32) -> u32
+    requires { shift + copied ≤ 4095 }
+    ensures { result ≡ (if nodes == 0 then most else max most (shift + copied)) }
+{
+    if nodes == 0 {
+        most
+    } else {
+        most.max(shift + copied)
+    }
+}
+
+impl<'a> Growing<'a> {
+    /// A copy of an earlier cell, shifted by coarse columns and rows.
+    pub fn copy(
+        &mut self,
+        tables: &[Table<'a>],
+        name: &'a [u8],
+        cell: &[u8],
+        col: u32,
+        row: u32,
+    ) -> Result<(), LineFault>
+        requires { length tables.now ≤ 256 }
+        ensures { (cells : List Known) (known : Known) → AreTables cells tables.now → IsGrowing known self.old
+            → Grows result self.new (after_use cells known name.now cell.now col row) }
+    {
+        if !self.table.names.is_fresh(name) {
+            return Err(LineFault::Kind(StickKind::RepeatedName));
+        }
+        if cell == self.table.name {
+            return Err(LineFault::Kind(StickKind::UseCycle));
+        }
+        let Some(place) = place_of(tables, cell) else {
+            return Err(LineFault::Kind(StickKind::UnknownName));
+        };
+        let used = &tables[place];
+        check_use(used, col, row)?;
+        self.add_copy(name, place as u32, used, col, row)?;
+        Ok(())
+    }
+
+    /// Adds a copy whose name is new.
+    fn add_copy(
+        &mut self,
+        name: &'a [u8],
+        cell: u32,
+        used: &Table,
+        col: u32,
+        row: u32,
+    ) -> Result<(), AllocError>
+        requires fresh { IsTrue (is_fresh (entries_of self.old.table.names) name.now) }
+        requires shallow { used.now.depth < 16 }
+        requires near_col { col + used.now.most_col ≤ 4095 }
+        requires near_row { row + used.now.most_row ≤ 4095 }
+        ensures { OnOk result ((known other : Known) → IsGrowing known self.old → IsTableOf other used.now
+            → IsGrowing (with_copy known name.now cell other col row) self.new) }
+    {
+        let first = self.table.nodes;
+        let copy = Copied {
+            cell,
+            first,
+            col,
+            row,
+        };
+        self.table.names.add(name, Thing::Copy(copy))?;
+        self.table.nodes = capped_sum(first, used.nodes);
+        self.table.wires = capped_sum(self.table.wires, used.wires);
+        self.table.weight = capped_sum(capped_sum(self.table.weight, used.weight), 1);
+        self.table.boxes = capped_sum(self.table.boxes, used.boxes);
+        self.table.most_col = most_with_copy(self.table.most_col, used.nodes, used.most_col, col);
+        self.table.most_row = most_with_copy(self.table.most_row, used.nodes, used.most_row, row);
+        self.table.depth = self.table.depth.max(used.depth + 1);
+        Ok(())
+    }
+}

@@ -1,0 +1,121 @@
+//! The wires and limits of a cell.
+ghost use Rattle.std.specs.Prelude.{◌≡◌, ℤ, Bool, List};
+ghost use Rattle.rule_table.specs.declared.technology.Tech.{Tech};
+ghost use Rattle.stick_parse.specs.Writable.{IsPath};
+ghost use Rattle.stick_cell.specs.declared.cell.Wire.{Wire};
+ghost use Rattle.stick_cell.specs.Known.{Known, with_wire};
+ghost use Rattle.stick_cell.specs.Paths.{found_at};
+ghost use Rattle.stick_cell.specs.Lines.{after_wire, after_limit};
+ghost use Rattle.stick_cell.specs.Kept.{capped_wire};
+ghost use Rattle.stick_cell.specs.Grown.{IsGrown, AreGrown};
+ghost use Rattle.stick_cell.specs.Tables.{AreTables};
+ghost use Rattle.stick_cell.specs.Growing.{IsGrowing, Grows, plugged_ports, plugged_marks, found_or_unknown};
+
+use crate::cell::{CellPort, Wire, WireEnd};
+use crate::checks::layer_of;
+use crate::counts::{capped_sum, layer_items};
+use crate::growing::Growing;
+use crate::names::Found;
+use crate::paths::found_at;
+use crate::table::Table;
+use crate::wires::{limited, wire_between};
+use rule_table::Tech;
+use stick_parse::{Layer as DrawnLayer, LineFault, StickKind};
+
+/// Notes at the port at an end, where the end is a port, the number and the width of the wire that ends there.
+fn plug(ports: &mut Vec<CellPort>, end: WireEnd, number: u32, width: i64)
+    ensures { ports.new.items ≡ plugged_ports number width ports.old.items end }
+{
+    if let WireEnd::Port(k) = end {
+        let k = k as usize;
+        if k < ports.len() {
+            ports[k] = CellPort {
+                width,
+                wire: number,
+                ..ports[k]
+            };
+        }
+    }
+}
+
+/// Notes that a wire ends at the port at an end, where the end is a port.
+fn mark(wired: &mut Vec<bool>, end: WireEnd)
+    ensures { wired.new.items ≡ plugged_marks wired.old.items end }
+{
+    if let WireEnd::Port(k) = end {
+        let k = k as usize;
+        if k < wired.len() {
+            wired[k] = true;
+        }
+    }
+}
+
+impl<'a> Growing<'a> {
+    /// A wire between two terminals that paths name. Its width is in u.
+    pub fn wire(
+        &mut self,
+        tech: &Tech,
+        tables: &[Table],
+        layer: DrawnLayer,
+        a: &[u8],
+        b: &[u8],
+        width: Option<u32>,
+    ) -> Result<(), LineFault>
+        ensures { (cells : List Known) (known : Known) → AreGrown tech.now cells → AreTables cells tables.now → IsPath a.now → IsPath b.now
+            → IsGrown tech.now cells known → IsGrowing known self.old → Grows result self.new (after_wire tech.now cells known layer a.now b.now width) }
+    {
+        let from = self.found(tables, a)?;
+        let to = self.found(tables, b)?;
+        let wire = wire_between(
+            tech,
+            self.wired.as_slice(),
+            layer_of(layer),
+            from,
+            to,
+            width,
+        )?;
+        self.add_wire(wire);
+        Ok(())
+    }
+
+    /// A bound on how far two nodes that paths name lie apart.
+    pub fn limit(&mut self, tables: &[Table], a: &[u8], b: &[u8]) -> Result<(), LineFault>
+        ensures { (tech : Tech) (cells : List Known) (known : Known) (vertical at_most : Bool) (n : ℤ) → AreGrown tech cells → AreTables cells tables.now
+            → IsPath a.now → IsPath b.now → IsGrown tech cells known → IsGrowing known self.old
+            → Grows result self.new (after_limit cells known vertical a.now b.now at_most n) }
+    {
+        let from = self.found(tables, a)?;
+        let to = self.found(tables, b)?;
+        limited(from)?;
+        limited(to)?;
+
+        // Two paths come to one node only where they are the same.
+        if a == b {
+            return Err(LineFault::Kind(StickKind::BadLimit));
+        }
+        self.table.weight = capped_sum(self.table.weight, 1);
+        Ok(())
+    }
+
+    /// What a path comes to.
+    fn found(&self, tables: &[Table], path: &[u8]) -> Result<Found, StickKind>
+        ensures { (cells : List Known) (known : Known) → AreTables cells tables.now → IsGrowing known self.now
+            → result ≡ found_or_unknown (found_at cells known path.now) }
+    {
+        found_at(tables, &self.table.names, path).ok_or(StickKind::UnknownName)
+    }
+
+    /// Adds a wire, which ends at the ports that it names.
+    fn add_wire(&mut self, wire: Wire)
+        ensures { (known : Known) (next : Wire) → IsGrowing known self.old → wire ≡ capped_wire next → IsGrowing (with_wire known next) self.new }
+    {
+        let number = self.table.wires;
+        plug(&mut self.table.ports, wire.low, number, wire.width);
+        plug(&mut self.table.ports, wire.high, number, wire.width);
+        mark(&mut self.wired, wire.low);
+        mark(&mut self.wired, wire.high);
+        self.table.wires = capped_sum(number, 1);
+        self.table.weight = capped_sum(self.table.weight, layer_items(wire.layer));
+        self.table.boxes = capped_sum(self.table.boxes, 1);
+    }
+}

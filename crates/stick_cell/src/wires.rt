@@ -1,0 +1,323 @@
+//! Where wires run, and which terminals take them.
+ghost use Rattle.std.specs.Prelude.{◌≡◌};
+ghost use Rattle.stick_cell.specs.Wires.{wire_between, terminal, is_same_axis, axis_of, is_low_side, line_of, run_along, run_between, is_same_layer, node_takes, takes_layer, node_takes_along, takes_along, is_free, node_pad, is_within_pad, end_of, at_both, limited};
+
+use crate::cell::{Axis2, NodeKind, Wire, WireEnd};
+use crate::checks::sized;
+use crate::names::{Found, Pin, Run, Spot, Terminal};
+use rule_table::{Layer, Tech};
+use stick_parse::{Side, StickKind};
+
+/// The wire of a layer between the things that two paths have come to; `wired` tells of each port of the cell whether a
+/// wire ends at it. The width is in u, and where none is given it is the layer's.
+///
+/// Refused, in this order: an end that is a use, or behind a node or a port, as `WrongTerminal`; ends that no straight
+/// wire joins as `NotStraight`; an end that takes no wire of the layer as `WrongLayer`, or not along this axis as
+/// `WrongSide`; a port that has a wire as `PortWires`; a width as `BadSize`, `NarrowWire` or, where it is wider than the
+/// pad at an end, `WideWire`.
+#[tactic(auto, unfolding(crate::specs::Wires::wire_between))]
+pub fn wire_between(
+    tech: &Tech,
+    wired: &[bool],
+    layer: Layer,
+    a: Found,
+    b: Found,
+    width: Option<u32>,
+) -> Result<Wire, StickKind>
+    ensures { result ≡ wire_between tech.now wired.now layer a b width }
+{
+    let from = terminal(a)?;
+    let to = terminal(b)?;
+    let run = run_between(from, to).ok_or(StickKind::NotStraight)?;
+    if !both_take_layer(layer, run) {
+        return Err(StickKind::WrongLayer);
+    }
+    if !both_take_along(layer, run) {
+        return Err(StickKind::WrongSide);
+    }
+    if !both_are_free(wired, run) {
+        return Err(StickKind::PortWires);
+    }
+    let size = sized(tech, layer, width)?;
+    if !is_within_pads(tech, layer, size, run) {
+        return Err(StickKind::WideWire);
+    }
+    Ok(Wire {
+        layer,
+        width: size,
+        low: end_of(run.low),
+        high: end_of(run.high),
+        along: run.along,
+    })
+}
+
+/// The node that a limit names; a port, a use and what lies behind a node or a port are refused with `BadLimit`.
+pub fn limited(found: Found) -> Result<Spot, StickKind>
+    ensures { result ≡ limited found }
+{
+    match found {
+        Found::At(Terminal::Node(spot)) => Ok(spot),
+        Found::At(Terminal::Port(_)) | Found::AtCopy | Found::Through => Err(StickKind::BadLimit),
+    }
+}
+
+// The terminal that a path has come to; a use and what lies behind a node or a port are refused.
+fn terminal(found: Found) -> Result<Terminal, StickKind>
+    ensures { result ≡ terminal found }
+{
+    match found {
+        Found::At(end) => Ok(end),
+        Found::AtCopy | Found::Through => Err(StickKind::WrongTerminal),
+    }
+}
+
+// ---- straight runs
+
+// The axis on which a wire reaches a side.
+fn axis_of(side: Side) -> Axis2
+    ensures { result ≡ axis_of side }
+{
+    match side {
+        Side::Left | Side::Right => Axis2::Across,
+        Side::Bottom | Side::Top => Axis2::Up,
+    }
+}
+
+fn is_low_side(side: Side) -> bool
+    ensures { result ≡ is_low_side side }
+{
+    match side {
+        Side::Left | Side::Bottom => true,
+        Side::Right | Side::Top => false,
+    }
+}
+
+fn is_same_axis(a: Axis2, b: Axis2) -> bool
+    ensures { result ≡ is_same_axis a b }
+{
+    a == b
+}
+
+// The row of a node for a wire that runs across, its column for one that runs up.
+fn line_of(along: Axis2, spot: Spot) -> u32
+    ensures { result ≡ line_of along spot }
+{
+    match along {
+        Axis2::Across => spot.row,
+        Axis2::Up => spot.col,
+    }
+}
+
+// The run along an axis between two terminals of which the first is the low one, or the high one.
+fn run_along(along: Axis2, is_low: bool, a: Terminal, b: Terminal) -> Run
+    ensures { result ≡ run_along along is_low a b }
+{
+    if is_low {
+        Run {
+            along,
+            low: a,
+            high: b,
+        }
+    } else {
+        Run {
+            along,
+            low: b,
+            high: a,
+        }
+    }
+}
+
+// The straight run between two terminals, if there is one.
+fn run_between(a: Terminal, b: Terminal) -> Option<Run>
+    ensures { result ≡ run_between a b }
+{
+    match (a, b) {
+        (Terminal::Node(from), Terminal::Node(to)) => run_between_nodes(from, to),
+        (Terminal::Node(node), Terminal::Port(port)) => run_to_port(node, port),
+        (Terminal::Port(port), Terminal::Node(node)) => run_from_port(port, node),
+        (Terminal::Port(from), Terminal::Port(to)) => run_between_ports(from, to),
+    }
+}
+
+// Two nodes share exactly one of column and row.
+fn run_between_nodes(a: Spot, b: Spot) -> Option<Run>
+    ensures { result ≡ run_between (Terminal.Node a) (Terminal.Node b) }
+{
+    let from = Terminal::Node(a);
+    let to = Terminal::Node(b);
+    if a.row == b.row && a.col != b.col {
+        Some(run_along(Axis2::Across, a.col < b.col, from, to))
+    } else if a.col == b.col && a.row != b.row {
+        Some(run_along(Axis2::Up, a.row < b.row, from, to))
+    } else {
+        None
+    }
+}
+
+// A left or right port lies in the row of the node, a bottom or top port in its column.
+fn run_to_port(a: Spot, q: Pin) -> Option<Run>
+    ensures { result ≡ run_between (Terminal.Node a) (Terminal.Port q) }
+{
+    let along = axis_of(q.side);
+    if line_of(along, a) == q.place {
+        Some(run_along(
+            along,
+            !is_low_side(q.side),
+            Terminal::Node(a),
+            Terminal::Port(q),
+        ))
+    } else {
+        None
+    }
+}
+
+fn run_from_port(p: Pin, b: Spot) -> Option<Run>
+    ensures { result ≡ run_between (Terminal.Port p) (Terminal.Node b) }
+{
+    let along = axis_of(p.side);
+    if line_of(along, b) == p.place {
+        Some(run_along(
+            along,
+            is_low_side(p.side),
+            Terminal::Port(p),
+            Terminal::Node(b),
+        ))
+    } else {
+        None
+    }
+}
+
+// Two ports lie opposite each other.
+fn run_between_ports(p: Pin, q: Pin) -> Option<Run>
+    ensures { result ≡ run_between (Terminal.Port p) (Terminal.Port q) }
+{
+    let along = axis_of(p.side);
+    let is_low = is_low_side(p.side);
+    if is_same_axis(along, axis_of(q.side)) && is_low != is_low_side(q.side) && p.place == q.place {
+        Some(run_along(along, is_low, Terminal::Port(p), Terminal::Port(q)))
+    } else {
+        None
+    }
+}
+
+// ---- which terminals take which wires
+
+fn is_same_layer(a: Layer, b: Layer) -> bool
+    ensures { result ≡ is_same_layer a b }
+{
+    a == b
+}
+
+// A joint takes its own layer, a contact metal and its lower layer, a transistor poly and diffusion.
+fn node_takes(kind: NodeKind, layer: Layer) -> bool
+    ensures { result ≡ node_takes kind layer }
+{
+    match kind {
+        NodeKind::Joint { layer: own, .. } => is_same_layer(own, layer),
+        NodeKind::Contact { lower } => {
+            is_same_layer(Layer::Metal, layer) || is_same_layer(lower, layer)
+        }
+        NodeKind::Fet { .. } => !is_same_layer(Layer::Metal, layer),
+    }
+}
+
+fn takes_layer(layer: Layer, end: Terminal) -> bool
+    ensures { result ≡ takes_layer layer end }
+{
+    match end {
+        Terminal::Node(spot) => node_takes(spot.kind, layer),
+        Terminal::Port(pin) => is_same_layer(pin.layer, layer),
+    }
+}
+
+// At a transistor a poly wire runs along the gate, and a diffusion wire across it.
+fn node_takes_along(kind: NodeKind, layer: Layer, along: Axis2) -> bool
+    ensures { result ≡ node_takes_along kind layer along }
+{
+    match kind {
+        NodeKind::Joint { .. } | NodeKind::Contact { .. } => true,
+        NodeKind::Fet { gate, .. } => match layer {
+            Layer::Poly => is_same_axis(gate, along),
+            Layer::Diffusion => !is_same_axis(gate, along),
+            Layer::Metal => true,
+        },
+    }
+}
+
+fn takes_along(layer: Layer, along: Axis2, end: Terminal) -> bool
+    ensures { result ≡ takes_along layer along end }
+{
+    match end {
+        Terminal::Node(spot) => node_takes_along(spot.kind, layer, along),
+        Terminal::Port(_) => true,
+    }
+}
+
+// Whether no wire ends at the port yet.
+fn is_free(wired: &[bool], end: Terminal) -> bool
+    ensures { result ≡ is_free wired.now end }
+{
+    match end {
+        Terminal::Node(_) => true,
+        Terminal::Port(pin) => !wired.get(pin.number as usize).copied().unwrap_or(false),
+    }
+}
+
+// The pad on which a wire of this layer ends: a joint's width, a contact's square, a transistor's channel. In u.
+fn node_pad(tech: &Tech, layer: Layer, kind: NodeKind) -> i64
+    ensures { result ≡ node_pad tech.now layer kind }
+{
+    match kind {
+        NodeKind::Joint { width, .. } => width,
+        NodeKind::Contact { .. } => tech.pad(),
+        NodeKind::Fet { w, l, .. } => match layer {
+            Layer::Poly => l,
+            Layer::Diffusion | Layer::Metal => w,
+        },
+    }
+}
+
+// Whether the wire is no wider than the pad at its end. A port has none.
+fn is_within_pad(tech: &Tech, layer: Layer, width: i64, end: Terminal) -> bool
+    ensures { result ≡ is_within_pad tech.now layer width end }
+{
+    match end {
+        Terminal::Node(spot) => width <= node_pad(tech, layer, spot.kind),
+        Terminal::Port(_) => true,
+    }
+}
+
+fn end_of(end: Terminal) -> WireEnd
+    ensures { result ≡ end_of end }
+{
+    match end {
+        Terminal::Node(spot) => WireEnd::Node(spot.number),
+        Terminal::Port(pin) => WireEnd::Port(pin.number),
+    }
+}
+
+// ---- both ends of a run
+
+fn both_take_layer(layer: Layer, run: Run) -> bool
+    ensures { result ≡ at_both (takes_layer layer) run }
+{
+    takes_layer(layer, run.low) && takes_layer(layer, run.high)
+}
+
+fn both_take_along(layer: Layer, run: Run) -> bool
+    ensures { result ≡ at_both (takes_along layer run.along) run }
+{
+    takes_along(layer, run.along, run.low) && takes_along(layer, run.along, run.high)
+}
+
+fn both_are_free(wired: &[bool], run: Run) -> bool
+    ensures { result ≡ at_both (is_free wired.now) run }
+{
+    is_free(wired, run.low) && is_free(wired, run.high)
+}
+
+fn is_within_pads(tech: &Tech, layer: Layer, width: i64, run: Run) -> bool
+    ensures { result ≡ at_both (is_within_pad tech.now layer width) run }
+{
+    is_within_pad(tech, layer, width, run.low) && is_within_pad(tech, layer, width, run.high)
+}
