@@ -1,0 +1,5 @@
+pub mod Values
+pub mod Sides
+pub mod Boxes
+pub mod Transposed
+pub mod Worked

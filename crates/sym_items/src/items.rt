@@ -1,0 +1,49 @@
+//! Items, their ends, and the coordinates of a layout.
+
+use lam_list::Seq;
+use rule_table::Class;
+
+/// An end of an item on one axis: a variable of that axis, and how far past its value the end lies, in u.
+#[derive(Clone, Copy, Debug, PartialEq, Eq)]
+pub struct End {
+    pub var: u32,
+    pub off: i64,
+}
+
+/// A box of a cell by the ends of its two spans. Ends on x lie on variables of the x axis, ends on y on those of y.
+#[derive(Clone, Copy, Debug, PartialEq, Eq)]
+pub struct Item {
+    /// What the box is for the spacing table.
+    pub class: Class,
+    /// The net of the part that it belongs to.
+    pub net: u32,
+    /// The part that it belongs to: items of one owner keep no spacing to each other.
+    pub owner: u32,
+    /// The left end.
+    pub xl: End,
+    /// The right end.
+    pub xh: End,
+    /// The lower end.
+    pub yl: End,
+    /// The upper end.
+    pub yh: End,
+    /// The least width, in u.
+    pub least_x: i64,
+    /// The least height, in u.
+    pub least_y: i64,
+}
+
+/// The items of a cell, and how many variables there are on each axis.
+#[derive(Debug, Drop)]
+pub struct Items {
+    pub list: Seq<Item>,
+    pub x_vars: u32,
+    pub y_vars: u32,
+}
+
+/// A layout: the value of each variable of x and of each variable of y, in u.
+#[derive(Debug, Drop)]
+pub struct Coords {
+    pub x: Seq<i64>,
+    pub y: Seq<i64>,
+}

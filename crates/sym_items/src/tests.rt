@@ -1,0 +1,72 @@
+ghost use Rattle.std.specs.Prelude.{◌≡◌, IfOk};
+ghost use Rattle.sym_items.specs.Worked as worked;
+
+use crate::{Coords, End, Item, Items, at, box_of};
+use lam_geom::{BoxXY, Span};
+use lam_list::Seq;
+use rule_table::Class;
+use std::alloc::{AllocError, Global};
+use std::test::Fail;
+
+// A metal wire from a joint at x variable 2 to one at 3, along y variable 2; each joint is 6 wide.
+fn wire() -> Item
+    ensures { result ≡ worked.wire }
+{
+    Item {
+        class: Class::M,
+        net: 0,
+        owner: 2,
+        xl: End { var: 2, off: -3 },
+        xh: End { var: 3, off: 3 },
+        yl: End { var: 2, off: -3 },
+        yh: End { var: 2, off: 3 },
+        least_x: 6,
+        least_y: 6,
+    }
+}
+
+// Two columns and one row of a grid whose pitch is 12.
+fn start(alloc: Global) -> Result<Coords, AllocError>
+    ensures { IfOk result (λ c. c ≡ worked.start) }
+{
+    Ok(Coords {
+        x: Seq::from_vec([0i64, 48, 12, 24].to_vec(alloc)?),
+        y: Seq::from_vec([0i64, 24, 12].to_vec(alloc)?),
+    })
+}
+
+#[test]
+fn a_wire_reaches_past_its_joints(rt: HostRuntime) -> Result<(), Fail> {
+    let coords = start(rt.alloc())?;
+    assert_eq!(rt;
+        box_of(&wire(), &coords),
+        BoxXY {
+            x: Span { lo: 9, hi: 27 },
+            y: Span { lo: 9, hi: 15 },
+        }
+    );
+    Ok(())
+}
+
+#[test]
+fn an_end_lies_past_its_variable(rt: HostRuntime) {
+    let values = [0, 40];
+    assert_eq!(rt; at(End { var: 1, off: -5 }, &values), 35);
+    assert_eq!(rt; at(End { var: 0, off: 7 }, &values), 7);
+}
+
+fn is_shared<T: Send + Sync>(_value: &T) -> bool {
+    true
+}
+
+#[test]
+fn items_and_coordinates_may_be_shared_by_threads(rt: HostRuntime) -> Result<(), Fail> {
+    let items = Items {
+        list: Seq::from_vec([wire()].to_vec(rt.alloc())?),
+        x_vars: 4,
+        y_vars: 3,
+    };
+    let coords = start(rt.alloc())?;
+    assert!(rt; is_shared(&wire()) && is_shared(&items) && is_shared(&coords));
+    Ok(())
+}
