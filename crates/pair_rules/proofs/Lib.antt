@@ -1,0 +1,7 @@
+pub mod EitherOrder
+pub mod Turned
+pub mod Pieces
+pub mod Staying
+pub mod CleanPairs
+pub mod FacingItems
+mod WorkedPairs

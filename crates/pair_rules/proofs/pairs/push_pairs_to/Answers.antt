@@ -1,0 +1,36 @@
+use mir.Val.{SFits}
+use Rattle.std.proofs.Common.{◌≡◌, ℕ, ℤ, ◌∙◌, ◌++◌, [], ◌∷◌, refl, ap, sym, to_z, of_z, w64, Option, Some, None, rules}
+use Rattle.std.proofs.lemmas.Int.{to_z-of_z}
+use Rattle.std.proofs.lemmas.List.{append-nil}
+use Rattle.pair_rules.specs.declared.pairs.Pair.{Pair}
+use Rattle.pair_rules.specs.Candidates.{pair_with, pairs_at}
+use Rattle.pair_rules.proofs.Pieces.{piece_added}
+use Rattle.pair_rules.proofs.pairs.push_pairs_to.Goals.{in-Some+in_ok-push, in_default}
+use Rattle.pair_rules.proofs.pairs.push_pairs_to.Goals as goal
+
+one_pair : (o : Option ℤ) (s z : ℤ) (i j : ℕ) → o ≡ Some z → s ≡ z → let p : Pair = record { i = i; j = j; s = s } in pair_with o i j ≡ p ∷ []
+one_pair o s z i j e f = rw (e, f) refl
+
+no_pair : (o : Option ℤ) (i j : ℕ) → o ≡ None → pair_with o i j ≡ []
+no_pair o i j e = rw e refl
+
+pub loop-i-preserved : goal.loop-i-preserved
+loop-i-preserved c =
+    let axis = c.args.axis in
+    let t = c.args.tech.now in
+    let k = c.args.coords.now in
+    let items = c.args.items.now in
+    let next = piece_added (pairs_at axis t k items c.args.j) c.loop-i.i c.args.pairs.now.items c.loop-i.pairs.items c.match-spacing.pairs.items c.loop-i.invariant in
+    let is = c.facing_spacing-spacing.ensures in
+    elim c.match-spacing.branch [
+      | in-Some+in_ok-push w ↦
+          let s = to_z w64 (of_z w64 w.in-Some.s) in
+          let fits : SFits w64 w.in-Some.s = search rules in
+          let same : s ≡ w.in-Some.s = to_z-of_z w64 w.in-Some.s fits in
+          let p : Pair = record { i = c.loop-i.i; j = c.args.j; s = s } in
+          let there : pairs_at axis t k items c.args.j c.loop-i.i ≡ p ∷ [] = one_pair _ _ _ c.loop-i.i c.args.j (sym is ∙ w.in-Some.is) same in
+          next (ap (λ v. v.items) w.pairs-is ∙ (w.in_ok-push.ensures.items ∙ ap (λ zs. c.loop-i.pairs.items ++ zs) (sym there)))
+      | in_default w ↦
+          let none : pairs_at axis t k items c.args.j c.loop-i.i ≡ [] = no_pair _ c.loop-i.i c.args.j (sym is ∙ w.in_default.is) in
+          next (ap (λ v. v.items) w.pairs-is ∙ (sym (append-nil c.loop-i.pairs.items) ∙ ap (λ zs. c.loop-i.pairs.items ++ zs) (sym none)))
+    ]

@@ -1,0 +1,69 @@
+-- Candidates: bound items that face each other along an axis, and what they keep. All is said of axis x; axis y is axis x of
+-- the transposed items in the transposed layout.
+use Rattle.std.specs.Prelude.{ℕ, ℤ, ◌+ℤ◌, ◌-ℤ◌, ◌≤ℤ◌, Bool, ◌&&◌, int_lt, int_le, if◌then◌else◌, Option, Some, None, is_some, List, [], ◌∷◌, length, flat_map}
+use Rattle.std.specs.List.{range_with_len}
+use Rattle.lam_geom.specs.declared.boxes.Axis.{Axis}
+use Rattle.rule_table.specs.declared.technology.Tech.{Tech}
+use Rattle.sym_items.specs.declared.items.End.{End}
+use Rattle.sym_items.specs.declared.items.Item.{Item}
+use Rattle.sym_items.specs.declared.items.Coords.{Coords}
+use Rattle.sym_items.specs.Values.{end_under}
+use Rattle.sym_items.specs.Sides.{Sides, sides_in, gap_on_y}
+use Rattle.sym_items.specs.Transposed.{item_along, coords_along}
+use Rattle.pair_rules.specs.declared.pairs.Pair.{Pair}
+use Rattle.pair_rules.specs.Bound.{item_at, bound_spacing}
+
+-- one box is nearer to another than the spacing on y, and ends at least the spacing before it on x
+abbrev pub is_before : ℤ → Sides → Sides → Bool
+is_before s a b = int_lt (gap_on_y a b) s && int_le (a.right +ℤ s) b.left
+
+-- the spacing, where the one box stands before the other
+abbrev pub spacing_before : Option ℤ → Sides → Sides → Option ℤ
+spacing_before None a b = None
+spacing_before (Some s) a b = if is_before s a b then Some s else None
+
+-- the spacing of the candidate (a, b) of axis x; none where it is no candidate
+unfoldable pub facing_on_x : Tech → Coords → Item → Item → Option ℤ
+facing_on_x t c a b = spacing_before (bound_spacing t a b) (sides_in c a) (sides_in c b)
+
+-- the same of either axis
+abbrev pub facing_spacing : Axis → Tech → Coords → Item → Item → Option ℤ
+facing_spacing axis t c a b = facing_on_x t (coords_along axis c) (item_along axis a) (item_along axis b)
+
+-- the same of the items number i and j, and whether they are a candidate
+abbrev pub spacing_at : Axis → Tech → Coords → List Item → ℕ → ℕ → Option ℤ
+spacing_at axis t c items i j = facing_spacing axis t c (item_at items i) (item_at items j)
+
+abbrev pub is_facing : Axis → Tech → Coords → List Item → ℕ → ℕ → Bool
+is_facing axis t c items i j = is_some (spacing_at axis t c items i j)
+
+-- the pair of items number i and j, with its spacing
+abbrev pub pair_with : Option ℤ → ℕ → ℕ → List Pair
+pair_with None i j = []
+pair_with (Some s) i j = record { i = i; j = j; s = s } ∷ []
+
+abbrev pub pairs_at : Axis → Tech → Coords → List Item → ℕ → ℕ → List Pair
+pairs_at axis t c items j i = pair_with (spacing_at axis t c items i j) i j
+
+-- the numbers of the items
+abbrev pub item_numbers : List Item → List ℕ
+item_numbers items = range_with_len 0 (length items)
+
+-- the candidates that end at item j, in order of i
+abbrev pub candidates_to : Axis → Tech → Coords → List Item → ℕ → List Pair
+candidates_to axis t c items j = flat_map (pairs_at axis t c items j) (item_numbers items)
+
+-- all candidates of an axis, in order of (j, i)
+abbrev pub candidates_of : Axis → Tech → Coords → List Item → List Pair
+candidates_of axis t c items = flat_map (candidates_to axis t c items) (item_numbers items)
+
+-- the ends that a pair (i, j) keeps apart: the high end of i, and the low end of j
+abbrev pub high_end : Axis → List Item → ℕ → End
+high_end axis items i = (item_along axis (item_at items i)).xh
+
+abbrev pub low_end : Axis → List Item → ℕ → End
+low_end axis items j = (item_along axis (item_at items j)).xl
+
+-- the inequality of a pair under some values of the axis' variables: the low end of j less the high end of i is at least the spacing
+abbrev pub Keeps : Axis → (ℕ → ℤ) → List Item → Pair → Type 0
+Keeps axis x items p = p.s ≤ℤ (end_under x (low_end axis items p.j) -ℤ end_under x (high_end axis items p.i))

@@ -1,0 +1,6 @@
+pub mod Bound
+pub mod Clean
+pub mod Candidates
+pub mod Kept
+pub mod Laws
+pub mod Worked

@@ -1,0 +1,77 @@
+//! Items that face each other along an axis.
+
+ghost use Rattle.std.specs.Prelude.{◌≡◌, ◌<◌, ◌^◌, pos, ◌≤ℤ◌, int_le, length, All};
+ghost use Rattle.lam_geom.specs.Places.{IsPlacedBox};
+ghost use Rattle.sym_items.specs.Sides.{sides_of};
+ghost use Rattle.sym_items.specs.Boxes.{HasBox};
+ghost use Rattle.sym_items.specs.Transposed.{sides_along};
+ghost use Rattle.pair_rules.specs.Candidates.{is_before, facing_spacing, is_facing};
+
+use crate::bound::is_bound;
+use lam_geom::{Axis, BoxXY, gap, transpose};
+use rule_table::Tech;
+use sym_items::{Coords, Item, box_of};
+
+// The box turned so that the axis lies where x lay.
+fn turned(axis: Axis, area: BoxXY) -> BoxXY
+    requires { IsPlacedBox area }
+    ensures sides { sides_of result ≡ sides_along axis (sides_of area) }
+    ensures placed { IsPlacedBox result }
+{
+    match axis {
+        Axis::X => area,
+        Axis::Y => transpose(&area),
+    }
+}
+
+// Whether a box is nearer to another than the spacing on y, and ends at least the spacing before it on x.
+fn is_before(spacing: i64, a: &BoxXY, b: &BoxXY) -> bool
+    requires first { IsPlacedBox a.now }
+    requires second { IsPlacedBox b.now }
+    requires not_negative { pos 0 ≤ℤ spacing }
+    requires within_limit { spacing ≤ℤ pos (2 ^ 30) }
+    ensures { result ≡ is_before spacing (sides_of a.now) (sides_of b.now) }
+{
+    gap(a.y, b.y) < spacing && is_at_most(a.x.hi + spacing, b.x.lo)
+}
+
+// One comparison of signed numbers, with its exact meaning.
+fn is_at_most(a: i64, b: i64) -> bool
+    ensures { result ≡ int_le a b }
+{
+    a <= b
+}
+
+/// The spacing, in u, by which one item faces another along an axis, or `None` where it does not. They face where they are
+/// bound, their gap across the axis is below their spacing, and the first ends at least the spacing before the second begins.
+pub(crate) fn facing_spacing(
+    axis: Axis,
+    tech: &Tech,
+    coords: &Coords,
+    a: &Item,
+    b: &Item,
+) -> Option<i64>
+    requires first { HasBox coords.now a.now }
+    requires second { HasBox coords.now b.now }
+    ensures { result ≡ facing_spacing axis tech.now coords.now a.now b.now }
+{
+    let spacing = is_bound(tech, a, b)?;
+    let from = turned(axis, box_of(a, coords));
+    let to = turned(axis, box_of(b, coords));
+    if is_before(spacing, &from, &to) {
+        Some(spacing)
+    } else {
+        None
+    }
+}
+
+/// Whether the items number `i` and `j` are a candidate of an axis: `i` and `j` are bound, their gap across the axis is
+/// below their spacing, and `i` ends at least the spacing before `j` begins. It takes no memory.
+pub fn facing(axis: Axis, tech: &Tech, items: &[Item], coords: &Coords, i: u32, j: u32) -> bool
+    requires boxes { All (HasBox coords.now) items.now }
+    requires i_among { i < length items.now }
+    requires j_among { j < length items.now }
+    ensures { result ≡ is_facing axis tech.now coords.now items.now i j }
+{
+    facing_spacing(axis, tech, coords, &items[i as usize], &items[j as usize]).is_some()
+}

@@ -1,0 +1,194 @@
+ghost use Rattle.std.specs.Prelude.{◌≡◌, ◌<◌, IfOk};
+ghost use Rattle.sym_items.specs.Transposed.{transposed_coords};
+ghost use Rattle.pair_rules.specs.Worked as worked;
+
+use crate::{Pair, all_pairs, facing, is_bound};
+use lam_geom::Axis;
+use lam_list::Seq;
+use rule_table::{Class, Tech};
+use std::alloc::{AllocError, Global};
+use std::test::Fail;
+use sym_items::{Coords, End, Item};
+
+// A metal box 6 wide along two variables of x and two of y.
+fn metal(owner: u32, net: u32, x: (u32, u32), y: (u32, u32)) -> Item
+    ensures { result ≡ worked.metal owner net x.0 x.1 y.0 y.1 }
+{
+    Item {
+        class: Class::M,
+        net,
+        owner,
+        xl: End { var: x.0, off: -3 },
+        xh: End { var: x.1, off: 3 },
+        yl: End { var: y.0, off: -3 },
+        yh: End { var: y.1, off: 3 },
+        least_x: 6,
+        least_y: 6,
+    }
+}
+
+// The joint with this number.
+fn joint(owner: u32, net: u32) -> Item
+    requires { owner < 100 }
+    ensures { result ≡ worked.joint owner net }
+{
+    let centre = 2 + owner;
+    metal(owner, net, (centre, centre), (centre, centre))
+}
+
+// Three joints in a row, and where they start.
+fn row_of_three() -> [Item; 3]
+    ensures { result ≡ worked.row_of_three }
+{
+    [joint(0, 0), joint(1, 1), joint(2, 2)]
+}
+
+fn row_start(alloc: Global) -> Result<Coords, AllocError>
+    ensures { IfOk result (λ c. c ≡ worked.row_start) }
+{
+    Ok(Coords {
+        x: Seq::from_vec([0i64, 48, 12, 24, 36].to_vec(alloc)?),
+        y: Seq::from_vec([0i64, 24, 12, 12, 12].to_vec(alloc)?),
+    })
+}
+
+// The same row turned to a column.
+fn column_start(alloc: Global) -> Result<Coords, AllocError>
+    ensures { IfOk result (λ c. c ≡ transposed_coords worked.row_start) }
+{
+    let row = row_start(alloc)?;
+    Ok(Coords { x: row.y, y: row.x })
+}
+
+// Two columns of two joints, with a wire up each, and where they start.
+fn two_columns() -> [Item; 6]
+    ensures { result ≡ worked.two_columns }
+{
+    [
+        joint(0, 0),
+        joint(1, 0),
+        joint(2, 1),
+        joint(3, 1),
+        metal(4, 0, (6, 6), (2, 3)),
+        metal(5, 1, (7, 7), (4, 5)),
+    ]
+}
+
+fn columns_start(alloc: Global) -> Result<Coords, AllocError>
+    ensures { IfOk result (λ c. c ≡ worked.columns_start) }
+{
+    Ok(Coords {
+        x: Seq::from_vec([0i64, 36, 12, 12, 24, 24, 12, 24].to_vec(alloc)?),
+        y: Seq::from_vec([0i64, 36, 12, 24, 12, 24].to_vec(alloc)?),
+    })
+}
+
+// Two items the spacing of metal apart.
+fn apart(i: u32, j: u32) -> Pair {
+    Pair { i, j, s: 6 }
+}
+
+#[test]
+fn three_joints_in_a_row_face_each_other(rt: HostRuntime) -> Result<(), Fail> {
+    let items = row_of_three();
+    let coords = row_start(rt.alloc())?;
+    let pairs = all_pairs(rt.alloc(), Axis::X, &Tech::shipped(), &items, &coords)?;
+    assert_eq!(rt;
+        pairs.as_slice(),
+        [apart(0, 1), apart(0, 2), apart(1, 2)].as_slice()
+    );
+    let upwards = all_pairs(rt.alloc(), Axis::Y, &Tech::shipped(), &items, &coords)?;
+    assert!(rt; upwards.is_empty());
+    Ok(())
+}
+
+#[test]
+fn three_joints_in_a_column_face_each_other(rt: HostRuntime) -> Result<(), Fail> {
+    let items = row_of_three();
+    let coords = column_start(rt.alloc())?;
+    let pairs = all_pairs(rt.alloc(), Axis::Y, &Tech::shipped(), &items, &coords)?;
+    assert_eq!(rt;
+        pairs.as_slice(),
+        [apart(0, 1), apart(0, 2), apart(1, 2)].as_slice()
+    );
+    Ok(())
+}
+
+#[test]
+fn the_boxes_of_two_columns_face_each_other(rt: HostRuntime) -> Result<(), Fail> {
+    let items = two_columns();
+    let coords = columns_start(rt.alloc())?;
+    let pairs = all_pairs(rt.alloc(), Axis::X, &Tech::shipped(), &items, &coords)?;
+    assert_eq!(rt;
+        pairs.as_slice(),
+        [
+            apart(0, 2),
+            apart(4, 2),
+            apart(1, 3),
+            apart(4, 3),
+            apart(0, 5),
+            apart(1, 5),
+            apart(4, 5),
+        ]
+        .as_slice()
+    );
+    Ok(())
+}
+
+#[test]
+fn the_one_before_faces_the_one_behind(rt: HostRuntime) -> Result<(), Fail> {
+    let items = row_of_three();
+    let coords = row_start(rt.alloc())?;
+    let tech = Tech::shipped();
+    assert!(rt; facing(Axis::X, &tech, &items, &coords, 0, 2));
+    assert!(rt; !facing(Axis::X, &tech, &items, &coords, 2, 0));
+    assert!(rt; !facing(Axis::Y, &tech, &items, &coords, 0, 2));
+    Ok(())
+}
+
+#[test]
+fn items_are_bound_by_classes_owners_and_nets(rt: HostRuntime) {
+    let tech = Tech::shipped();
+    let item = joint(0, 0);
+    assert_eq!(rt;
+        is_bound(
+            &tech,
+            &item,
+            &Item {
+                owner: 1,
+                net: 1,
+                ..item
+            }
+        ),
+        Some(6)
+    );
+    assert_eq!(rt; is_bound(&tech, &item, &Item { owner: 1, ..item }), None);
+    assert_eq!(rt; is_bound(&tech, &item, &Item { net: 1, ..item }), None);
+    let cut = Item {
+        class: Class::C,
+        ..item
+    };
+    assert_eq!(rt; is_bound(&tech, &item, &Item { owner: 1, ..cut }), None);
+    assert_eq!(rt; is_bound(&tech, &cut, &Item { owner: 1, ..cut }), Some(4));
+    assert_eq!(rt;
+        is_bound(
+            &tech,
+            &cut,
+            &Item {
+                class: Class::G,
+                owner: 1,
+                ..cut
+            }
+        ),
+        Some(4)
+    );
+}
+
+fn is_shared<T: Send + Sync>(_value: &T) -> bool {
+    true
+}
+
+#[test]
+fn pairs_may_be_shared_by_threads(rt: HostRuntime) {
+    assert!(rt; is_shared(&apart(0, 1)));
+}
