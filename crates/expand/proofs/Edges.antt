@@ -1,0 +1,58 @@
+-- The inequalities of one item, wire or limit, as the code adds them.
+use Rattle.std.proofs.Common.{◌≡◌, ℕ, ℤ, true, false, List, [], ◌∷◌, ◌++◌, length, refl, ap, ◌∙◌, append_assoc}
+use Rattle.std.specs.List.{flat_map, range_with_len}
+use Rattle.lam_geom.specs.declared.boxes.Axis.{Axis}
+use Rattle.rule_table.specs.declared.technology.Tech.{Tech}
+use Rattle.rule_table.specs.Technology.{margin_of}
+use Rattle.sym_items.specs.declared.items.Item.{Item}
+use Rattle.cons_graph.specs.declared.edges.Edge.{Edge}
+use Rattle.cons_graph.specs.declared.edges.Why.TheVariants.{Margin}
+use Rattle.stick_cell.specs.declared.cell.Wire.{Wire}
+use Rattle.stick_cell.specs.declared.cell.Limit.{Limit}
+use Rattle.stick_cell.specs.declared.cell.Cell.{Cell}
+use Rattle.stick_cell.specs.Sound.{wire_at}
+use Rattle.expand.specs.Variables.{cross_of, at_origin, at_far_border}
+use Rattle.sym_items.specs.Transposed.{item_along}
+use Rattle.expand.specs.Structure.{between, extent_edges, margin_edges, wire_edges, overlap_edges, is_limit_of, limit_edge, limit_edges, size_edge, structure_of}
+
+pub margin_pushed : (tech : Tech) (i turned : Item) (margin : ℤ) (xs one two : List Edge) → turned ≡ i → margin ≡ margin_of tech turned.class
+    → one ≡ xs ++ between at_origin turned.xl margin Margin → two ≡ one ++ between turned.xh at_far_border margin Margin
+    → two ≡ xs ++ margin_edges tech i
+margin_pushed tech i turned margin xs one two e m f g =
+    g ∙ ap (λ (es : List Edge). es ++ between turned.xh at_far_border margin Margin) f ∙ append_assoc xs (between at_origin turned.xl margin Margin) (between turned.xh at_far_border margin Margin)
+    ∙ ap (λ (z : ℤ). xs ++ (between at_origin turned.xl z Margin ++ between turned.xh at_far_border z Margin)) m
+    ∙ ap (λ (t : Item). xs ++ margin_edges tech t) e
+
+pub overlap_pushed : (axis : Axis) (tech : Tech) (cell : Cell) (k cross : ℕ) (wire : Wire) (now next : List Edge)
+    → next ≡ now ++ wire_edges axis tech cell wire cross → cross ≡ cross_of cell k → wire ≡ wire_at cell.wires k → next ≡ now ++ overlap_edges axis tech cell k
+overlap_pushed axis tech cell k cross wire now next e ec ew =
+    e ∙ ap (λ (x : ℕ). now ++ wire_edges axis tech cell wire x) ec ∙ ap (λ (w : Wire). now ++ wire_edges axis tech cell w (cross_of cell k)) ew
+
+pub limit_kept : (axis : Axis) (limit : Limit) → is_limit_of axis limit.axis ≡ true → limit_edges axis limit ≡ limit_edge limit ∷ []
+limit_kept axis limit e = rw e refl
+
+pub limit_dropped : (axis : Axis) (limit : Limit) → is_limit_of axis limit.axis ≡ false → limit_edges axis limit ≡ []
+limit_dropped axis limit e = rw e refl
+
+-- the five parts, one after another
+pub structure_pushed : (axis : Axis) (tech : Tech) (cell : Cell) (read list : List Item) (size : Edge) (none one two three four five : List Edge) → read ≡ list → size ≡ size_edge tech
+    → none ≡ [] → one ≡ none ++ size ∷ []
+    → two ≡ one ++ flat_map (λ (i : Item). extent_edges (item_along axis i)) read
+    → three ≡ two ++ flat_map (overlap_edges axis tech cell) (range_with_len 0 (length cell.wires))
+    → four ≡ three ++ flat_map (λ (i : Item). margin_edges tech (item_along axis i)) read
+    → five ≡ four ++ flat_map (limit_edges axis) cell.limits
+    → five ≡ structure_of axis tech cell list
+unfolding structure_of
+structure_pushed axis tech cell read list size none one two three four five el es e0 e1 e2 e3 e4 e5 =
+    let extents : List Item → List Edge = flat_map (λ (i : Item). extent_edges (item_along axis i)) in
+    let overlaps : List Edge = flat_map (overlap_edges axis tech cell) (range_with_len 0 (length cell.wires)) in
+    let margins : List Item → List Edge = flat_map (λ (i : Item). margin_edges tech (item_along axis i)) in
+    let limits : List Edge = flat_map (limit_edges axis) cell.limits in
+    let f1 : one ≡ size ∷ [] = e1 ∙ ap (λ (es : List Edge). es ++ size ∷ []) e0 in
+    let f2 : two ≡ size ∷ extents read = e2 ∙ ap (λ (es : List Edge). es ++ extents read) f1 in
+    let f3 : three ≡ size ∷ (extents read ++ overlaps) = e3 ∙ ap (λ (es : List Edge). es ++ overlaps) f2 in
+    let f4 : four ≡ size ∷ (extents read ++ (overlaps ++ margins read)) = e4 ∙ ap (λ (es : List Edge). es ++ margins read) f3 ∙ ap (λ (es : List Edge). size ∷ es) (append_assoc (extents read) overlaps (margins read)) in
+    let f5 : five ≡ size ∷ (extents read ++ (overlaps ++ (margins read ++ limits))) =
+    e5 ∙ ap (λ (es : List Edge). es ++ limits) f4
+    ∙ ap (λ (es : List Edge). size ∷ es) (append_assoc (extents read) (overlaps ++ margins read) limits ∙ ap (λ (es : List Edge). extents read ++ es) (append_assoc overlaps (margins read) limits)) in
+    f5 ∙ ap (λ (is : List Item). size ∷ (extents is ++ (overlaps ++ (margins is ++ limits)))) el ∙ ap (λ (e : Edge). e ∷ (extents list ++ (overlaps ++ (margins list ++ limits)))) es

@@ -1,0 +1,11 @@
+pub mod WorkedItems
+pub mod Channels
+pub mod Cells
+pub mod Crosses
+pub mod Pieces
+pub mod NetsRead
+pub mod ItemsRead
+pub mod Edges
+pub mod Among
+pub mod Reached
+pub mod GraphEdges

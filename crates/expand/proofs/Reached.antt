@@ -1,0 +1,192 @@
+-- From each variable but the borders some item begins: from a centre one of its node, from a cross coordinate one of its wire. So a margin
+-- leads from the origin to it.
+use Rattle.std.proofs.Common.{◌≡◌, ℕ, zero, suc, ◌+◌, ◌-◌, ◌<◌, ◌≤◌, ℤ, Bool, true, false, List, [], ◌∷◌, ◌++◌, length, take, cond, refl, sym, ap, ◌∙◌, subst, arith, inl, inr, length-append}
+use Rattle.std.specs.Prelude.{slice_index}
+use Rattle.std.specs.List.{flat_map, range_with_len, Any}
+use Rattle.std.proofs.lemmas.Bool.{cases_lt}
+use Rattle.std.proofs.lemmas.List.{get_or_append_left}
+use Rattle.std.proofs.lemmas.List.Sums.{sum_by-cons}
+use Rattle.lam_geom.specs.declared.boxes.Axis.{Axis}
+use Rattle.lam_geom.specs.declared.boxes.Axis.TheVariants.{X, Y}
+use Rattle.rule_table.specs.declared.technology.Tech.{Tech}
+use Rattle.rule_table.specs.declared.classes.Class.TheVariants.{M}
+use Rattle.rule_table.specs.declared.classes.Layer.{Layer}
+use Rattle.rule_table.specs.declared.classes.Layer.TheVariants.{Diffusion, Poly, Metal}
+use Rattle.sym_items.specs.declared.items.Item.{Item}
+use Rattle.sym_items.specs.declared.items.End.{End}
+use Rattle.sym_items.specs.Transposed.{item_along}
+use Rattle.stick_cell.specs.declared.cell.Axis2.{Axis2}
+use Rattle.stick_cell.specs.declared.cell.Axis2.TheVariants.{Across, Up}
+use Rattle.stick_cell.specs.declared.cell.NodeKind.{NodeKind}
+use Rattle.stick_cell.specs.declared.cell.NodeKind.TheVariants.{Joint, Contact, Fet}
+use Rattle.stick_cell.specs.declared.cell.NodeNets.{NodeNets}
+use Rattle.stick_cell.specs.declared.cell.Wire.{Wire}
+use Rattle.stick_cell.specs.declared.cell.Nets.{Nets}
+use Rattle.stick_cell.specs.declared.cell.Cell.{Cell}
+use Rattle.stick_cell.specs.Wires.{is_same_axis}
+use Rattle.stick_cell.specs.Sound.{node_at, wire_at}
+use Rattle.expand.specs.Variables.{half, centre, running, cross_of, crossing, variables_of}
+use Rattle.expand.specs.NodeItems.{item_running, on_layer, square_round, kind_items}
+use Rattle.expand.specs.WireItems.{low_end_of, high_end_of, run_item, wire_items}
+use Rattle.expand.specs.Items.{nets_at, items_of_node, items_of_wire, item_list}
+
+-- ---- some element of a list
+
+pub any_here : {X : Type 0} (P : X → Type 0) (x : X) (xs : List X) → P x → Any P (x ∷ xs)
+any_here P x xs h = (0, x, omega arith, refl, h)
+
+pub any_there : {X : Type 0} (P : X → Type 0) (x : X) (xs : List X) → Any P xs → Any P (x ∷ xs)
+any_there P x xs h = (suc h.0, h.1, omega (arith, h.2), h.3, h.4)
+
+pub any_left : {X : Type 0} (P : X → Type 0) (xs ys : List X) → Any P xs → Any P (xs ++ ys)
+any_left P xs ys h = (h.0, h.1, omega (arith, h.2, length-append xs ys), get_or_append_left xs ys h.1 h.0 h.2 ∙ h.3, h.4)
+
+pub any_right : {X : Type 0} (P : X → Type 0) (xs ys : List X) → Any P ys → Any P (xs ++ ys)
+any_right P [] ys h = h
+any_right P (x ∷ xs) ys h = any_there P x (xs ++ ys) (any_right P xs ys h)
+
+-- where some element has a piece with a fact, the joined list has it
+pub any_flat_map : {X Y : Type 0} (P : X → Type 0) (Q : Y → Type 0) (f : X → List Y) (xs : List X) → ((x : X) → P x → Any Q (f x)) → Any P xs → Any Q (flat_map f xs)
+any_flat_map P Q f [] step h = absurd (omega (arith, h.2))
+any_flat_map P Q f (x ∷ xs) step (zero, y, lt, e, h) = any_left Q (f x) (flat_map f xs) (step x (subst P (sym e) h))
+any_flat_map P Q f (x ∷ xs) step (suc k, y, lt, e, h) = any_right Q (f x) (flat_map f xs) (any_flat_map P Q f xs step (k, y, omega arith, e, h))
+
+any_range : (P : ℕ → Type 0) (a n k : ℕ) → a ≤ k → k < a + n → P k → Any P (range_with_len a n)
+any_range P a zero k le lt h = absurd (omega arith)
+any_range P a (suc n) k le lt h = elim (cases_lt a k) [
+  | inl more ↦ any_there P a (range_with_len (a + 1) n) (any_range P (a + 1) n k (omega arith) (omega arith) h)
+  | inr less ↦ any_here P a (range_with_len (a + 1) n) (let e : k ≡ a = omega arith in subst P e h)
+]
+
+-- ---- items that begin at a variable
+
+abbrev pub BeginsAt : Axis → ℕ → Item → Type 0
+BeginsAt axis v i = (item_along axis i).xl.var ≡ v
+
+-- the first of some items has a fact
+abbrev FirstHas : (Item → Type 0) → List Item → Type 0
+FirstHas P [] = ⊥
+FirstHas P (i ∷ is) = P i
+
+first_of_any : (P : Item → Type 0) (is : List Item) → FirstHas P is → Any P is
+first_of_any P [] h = absurd h
+first_of_any P (i ∷ is) h = any_here P i is h
+
+layer_begins : (axis : Axis) (v : ℕ) (layer : Layer) (i : Item) → BeginsAt axis v i → Any (BeginsAt axis v) (on_layer layer i)
+layer_begins X v Metal i h = first_of_any (BeginsAt X v) (on_layer Metal i) h
+layer_begins X v Poly i h = first_of_any (BeginsAt X v) (on_layer Poly i) h
+layer_begins X v Diffusion i h = first_of_any (BeginsAt X v) (on_layer Diffusion i) h
+layer_begins Y v Metal i h = first_of_any (BeginsAt Y v) (on_layer Metal i) h
+layer_begins Y v Poly i h = first_of_any (BeginsAt Y v) (on_layer Poly i) h
+layer_begins Y v Diffusion i h = first_of_any (BeginsAt Y v) (on_layer Diffusion i) h
+
+kind_begins : (axis : Axis) (tech : Tech) (k : ℕ) (kind : NodeKind) (nets : NodeNets) → Any (BeginsAt axis (centre k)) (kind_items tech k kind nets)
+kind_begins X tech k (Joint layer width) nets = layer_begins X (centre k) layer (square_round k M nets.main (half width)) refl
+kind_begins Y tech k (Joint layer width) nets = layer_begins Y (centre k) layer (square_round k M nets.main (half width)) refl
+kind_begins X tech k (Contact lower) nets = first_of_any (BeginsAt X (centre k)) (kind_items tech k (Contact lower) nets) refl
+kind_begins Y tech k (Contact lower) nets = first_of_any (BeginsAt Y (centre k)) (kind_items tech k (Contact lower) nets) refl
+kind_begins X tech k (Fet depletion Across w l) nets = first_of_any (BeginsAt X (centre k)) (kind_items tech k (Fet depletion Across w l) nets) refl
+kind_begins X tech k (Fet depletion Up w l) nets = first_of_any (BeginsAt X (centre k)) (kind_items tech k (Fet depletion Up w l) nets) refl
+kind_begins Y tech k (Fet depletion Across w l) nets = first_of_any (BeginsAt Y (centre k)) (kind_items tech k (Fet depletion Across w l) nets) refl
+kind_begins Y tech k (Fet depletion Up w l) nets = first_of_any (BeginsAt Y (centre k)) (kind_items tech k (Fet depletion Up w l) nets) refl
+
+run_begins : (axis : Axis) (along : Axis2) (owner net cross : ℕ) (width : ℤ) (low high : End) → along ≡ crossing axis → BeginsAt axis cross (item_running along (run_item owner net cross width low high))
+run_begins X Up owner net cross width low high e = refl
+run_begins Y Across owner net cross width low high e = refl
+run_begins X Across owner net cross width low high e = absurd cc
+run_begins Y Up owner net cross width low high e = absurd cc
+
+-- ---- which wire has a cross coordinate
+
+pub same_is : (a b : Axis2) → is_same_axis a b ≡ true → a ≡ b
+same_is Across Across e = refl
+same_is Up Up e = refl
+same_is Across Up e = absurd cc
+same_is Up Across e = absurd cc
+
+-- wire k runs along an axis, after j others
+pub record IsWireAfter (along : Axis2) (wires : List Wire) (j k : ℕ) : Type 0 where
+  pub among : k < length wires
+  pub along_is : (wire_at wires k).along ≡ along
+  pub before : running along (take k wires) ≡ j
+
+-- 1 for a wire along the axis, 0 for another
+abbrev pub counted : Axis2 → Wire → ℕ
+counted along wire = cond (is_same_axis wire.along along) 1 0
+
+after_more : (along : Axis2) (w : Wire) (ws : List Wire) (j k c : ℕ) → counted along w ≡ c → IsWireAfter along ws j k → IsWireAfter along (w ∷ ws) (c + j) (suc k)
+after_more along w ws j k c e h =
+    let f : Wire → ℕ = counted along in
+    let a : running along (take (suc k) (w ∷ ws)) ≡ f w + running along (take k ws) = sum_by-cons f w (take k ws) in
+    let b = h.before in
+    let n = h.among in
+    record { among = omega arith; along_is = h.along_is; before = omega arith }
+
+by_test : {P : Type 0} (b : Bool) → (b ≡ true → P) → (b ≡ false → P) → P
+by_test true if_so if_not = if_so refl
+by_test false if_so if_not = if_not refl
+
+later_after : (along : Axis2) (w : Wire) (ws : List Wire) (j k : ℕ) → counted along w ≡ 0 → IsWireAfter along ws j k → IsWireAfter along (w ∷ ws) j (suc k)
+later_after along w ws j k e h =
+    let P : ℕ → Type 0 = λ i. IsWireAfter along (w ∷ ws) i (suc k) in
+    let same : 0 + j ≡ j = omega arith in
+    subst P same (after_more along w ws j k 0 e h)
+
+counted_after : (along : Axis2) (w : Wire) (ws : List Wire) (j : ℕ) → is_same_axis w.along along ≡ true → j < suc (running along ws) → ((i : ℕ) → i < running along ws → (k : ℕ) × IsWireAfter along ws i k) → (k : ℕ) × IsWireAfter along (w ∷ ws) j k
+counted_after along w ws zero e lt rest = (0, record { among = omega arith; along_is = same_is w.along along e; before = refl })
+counted_after along w ws (suc i) e lt rest =
+    let r = rest i (omega arith) in
+    let one : counted along w ≡ 1 = ap (λ (t : Bool). cond t 1 0) e in
+    let P : ℕ → Type 0 = λ n. IsWireAfter along (w ∷ ws) n (suc r.0) in
+    let same : 1 + i ≡ suc i = omega arith in
+    (suc r.0, subst P same (after_more along w ws i r.0 1 one r.1))
+
+wire_after : (along : Axis2) (wires : List Wire) (j : ℕ) → j < running along wires → (k : ℕ) × IsWireAfter along wires j k
+wire_after along [] j lt = absurd (omega arith)
+wire_after along (w ∷ ws) j lt =
+    let f : Wire → ℕ = counted along in
+    let b : running along (w ∷ ws) ≡ f w + running along ws = sum_by-cons f w ws in
+    by_test (is_same_axis w.along along)
+    (λ e. let one : f w ≡ 1 = ap (λ (t : Bool). cond t 1 0) e in counted_after along w ws j e (omega arith) (λ i l. wire_after along ws i l))
+    (λ e. let none : f w ≡ 0 = ap (λ (t : Bool). cond t 1 0) e in let r = wire_after along ws j (omega arith) in (suc r.0, later_after along w ws j r.0 none r.1))
+
+-- ---- all items
+
+wire_begins : (axis : Axis) (tech : Tech) (cell : Cell) (owner net cross : ℕ) (wire : Wire) → wire.along ≡ crossing axis → Any (BeginsAt axis cross) (wire_items tech cell owner net cross wire)
+wire_begins axis tech cell owner net cross wire e =
+    layer_begins axis cross wire.layer _ (run_begins axis wire.along owner net cross wire.width (low_end_of tech cell wire wire.low) (high_end_of tech cell wire wire.high) e)
+
+node_found : (axis : Axis) (tech : Tech) (cell : Cell) (nets : Nets) (k : ℕ) → k < length cell.nodes → Any (BeginsAt axis (centre k)) (flat_map (items_of_node tech cell nets) (range_with_len 0 (length cell.nodes)))
+node_found axis tech cell nets k lt =
+    let IsK : ℕ → Type 0 = λ i. i ≡ k in
+    let P : ℕ → Type 0 = λ i. Any (BeginsAt axis (centre k)) (items_of_node tech cell nets i) in
+    any_flat_map IsK (BeginsAt axis (centre k)) (items_of_node tech cell nets) (range_with_len 0 (length cell.nodes))
+    (λ i e. subst P (sym e) (kind_begins axis tech k (node_at cell.nodes k).kind (nets_at nets.node k)))
+    (any_range IsK 0 (length cell.nodes) k (omega arith) (omega arith) refl)
+
+wire_found : (axis : Axis) (tech : Tech) (cell : Cell) (nets : Nets) (k : ℕ) → k < length cell.wires → (wire_at cell.wires k).along ≡ crossing axis
+    → Any (BeginsAt axis (cross_of cell k)) (flat_map (items_of_wire tech cell nets) (range_with_len 0 (length cell.wires)))
+wire_found axis tech cell nets k lt along =
+    let IsK : ℕ → Type 0 = λ i. i ≡ k in
+    let P : ℕ → Type 0 = λ i. Any (BeginsAt axis (cross_of cell k)) (items_of_wire tech cell nets i) in
+    any_flat_map IsK (BeginsAt axis (cross_of cell k)) (items_of_wire tech cell nets) (range_with_len 0 (length cell.wires))
+    (λ i e. subst P (sym e) (wire_begins axis tech cell (length cell.nodes + k) (slice_index nets.wire k) (cross_of cell k) (wire_at cell.wires k) along))
+    (any_range IsK 0 (length cell.wires) k (omega arith) (omega arith) refl)
+
+-- some item begins at each variable but the borders
+pub items_begin : (axis : Axis) (tech : Tech) (cell : Cell) (nets : Nets) (v : ℕ) → 2 ≤ v → v < variables_of axis cell → Any (BeginsAt axis v) (item_list tech cell nets)
+unfolding item_list
+items_begin axis tech cell nets v from lt =
+    let nodes : List Item = flat_map (items_of_node tech cell nets) (range_with_len 0 (length cell.nodes)) in
+    let wires : List Item = flat_map (items_of_wire tech cell nets) (range_with_len 0 (length cell.wires)) in
+    let P : ℕ → Type 0 = λ u. Any (BeginsAt axis u) (nodes ++ wires) in
+    elim (cases_lt v (2 + length cell.nodes)) [
+      | inl less ↦ (let same : centre (v - 2) ≡ v = omega arith in subst P same (any_left (BeginsAt axis (centre (v - 2))) nodes wires (node_found axis tech cell nets (v - 2) (omega arith))))
+      | inr more ↦
+          let r = wire_after (crossing axis) cell.wires (v - (2 + length cell.nodes)) (omega arith) in
+          let a = r.1.along_is in
+          let b = r.1.before in
+          let run : running (wire_at cell.wires r.0).along (take r.0 cell.wires) ≡ running (crossing axis) (take r.0 cell.wires) = ap (λ (x : Axis2). running x (take r.0 cell.wires)) a in
+          let same : cross_of cell r.0 ≡ v = omega arith in
+          subst P same (any_right (BeginsAt axis (cross_of cell r.0)) nodes wires (wire_found axis tech cell nets r.0 r.1.among a))
+    ]

@@ -1,0 +1,7 @@
+use Rattle.std.proofs.Common.{◌≡◌, ◌++◌}
+use Rattle.std.specs.List.{flat_map, range_with_len}
+use Rattle.expand.specs.Items.{items_of_node}
+use Rattle.expand.proofs.items.push_nodes.Given as goal
+
+abbrev pub invariant-loop-k : goal.invariant-loop-k
+invariant-loop-k l = l.list.items ≡ l.initial.list.items ++ flat_map (items_of_node l.tech l.cell l.nets) (range_with_len 0 l.k)

@@ -1,0 +1,5 @@
+use Rattle.expand.proofs.Crosses.{CrossesSoFar}
+use Rattle.expand.proofs.variables.crosses.Given as goal
+
+abbrev pub invariant-loop-wire : goal.invariant-loop-wire
+invariant-loop-wire l = CrossesSoFar l.cell l.wire-index l.across l.up l.crosses.items

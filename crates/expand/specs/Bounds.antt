@@ -1,0 +1,55 @@
+-- Where the items of a cell lie among its variables, and how small their lengths are.
+use Rattle.std.specs.Prelude.{◌≡◌, ℕ, ◌<◌, ◌^◌, ℤ, pos, neg_ℤ, ◌≤ℤ◌, List, length, slice_index}
+use Rattle.sym_items.specs.declared.items.End.{End}
+use Rattle.sym_items.specs.declared.items.Item.{Item}
+use Rattle.stick_cell.specs.declared.cell.Cell.{Cell}
+use Rattle.expand.specs.Variables.{cross_of}
+
+-- a length from 0 to 2^14, and one that far either side of 0
+pub record IsSmall (z : ℤ) : Type 0 where
+  pub low : pos 0 ≤ℤ z
+  pub high : z ≤ℤ pos (2 ^ 14)
+
+pub record IsNear (z : ℤ) : Type 0 where
+  pub low : neg_ℤ (pos (2 ^ 14)) ≤ℤ z
+  pub high : z ≤ℤ pos (2 ^ 14)
+
+-- an end near one of so many variables
+pub record IsEndAmong (vars : ℕ) (e : End) : Type 0 where
+  pub among : e.var < vars
+  pub near : IsNear e.off
+
+-- a low end and a high end on an axis: no low end lies on the far border, and no high end on the origin; an end that lies on a border is the border
+pub record IsSpanAmong (vars : ℕ) (low high : End) : Type 0 where
+  pub low_among : IsEndAmong vars low
+  pub high_among : IsEndAmong vars high
+  pub before_far : low.var ≡ 1 → ⊥
+  pub after_origin : high.var ≡ 0 → ⊥
+  pub at_origin : low.var ≡ 0 → low.off ≡ pos 0
+  pub at_far_border : high.var ≡ 1 → high.off ≡ pos 0
+
+-- an item lies among the variables of both axes
+pub record IsItemAmong (x_vars y_vars : ℕ) (i : Item) : Type 0 where
+  pub x : IsSpanAmong x_vars i.xl i.xh
+  pub y : IsSpanAmong y_vars i.yl i.yh
+  pub least_x : IsSmall i.least_x
+  pub least_y : IsSmall i.least_y
+
+-- the half size of a channel, or what extends past it
+pub record IsHalfSize (z : ℤ) : Type 0 where
+  pub low : pos 0 ≤ℤ z
+  pub high : z ≤ℤ pos 4096
+
+-- the cross coordinates of the first wires
+pub record AreCrosses (cell : Cell) (count : ℕ) (crosses : List ℕ) : Type 0 where
+  pub counted : length crosses ≡ count
+  pub each : (k : ℕ) → k < count → slice_index crosses k ≡ cross_of cell k
+
+-- the lengths of an item are small
+pub record IsNearItem (i : Item) : Type 0 where
+  pub xl : IsNear i.xl.off
+  pub xh : IsNear i.xh.off
+  pub yl : IsNear i.yl.off
+  pub yh : IsNear i.yh.off
+  pub least_x : IsSmall i.least_x
+  pub least_y : IsSmall i.least_y

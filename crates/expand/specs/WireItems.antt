@@ -1,0 +1,57 @@
+-- The items of a wire. All is said of a wire that runs across; one that runs up is the transposed of it.
+use Rattle.std.specs.Prelude.{ℕ, ℤ, ◌+ℤ◌, neg_ℤ, List, if◌then◌else◌}
+use Rattle.rule_table.specs.declared.technology.Tech.{Tech}
+use Rattle.rule_table.specs.declared.classes.Class.TheVariants.{M}
+use Rattle.rule_table.specs.Technology.{numbers_of}
+use Rattle.sym_items.specs.declared.items.End.{End}
+use Rattle.sym_items.specs.declared.items.Item.{Item}
+use Rattle.stick_cell.specs.declared.cell.Axis2.{Axis2}
+use Rattle.stick_cell.specs.declared.cell.NodeKind.{NodeKind}
+use Rattle.stick_cell.specs.declared.cell.NodeKind.TheVariants.{Joint, Contact, Fet}
+use Rattle.stick_cell.specs.declared.cell.WireEnd.{WireEnd}
+use Rattle.stick_cell.specs.declared.cell.WireEnd.TheVariants as ends
+use Rattle.stick_cell.specs.declared.cell.Wire.{Wire}
+use Rattle.stick_cell.specs.declared.cell.Cell.{Cell}
+use Rattle.stick_cell.specs.Wires.{is_same_axis}
+use Rattle.stick_cell.specs.Sound.{node_at}
+use Rattle.expand.specs.Variables.{half, centre, past, at_origin, at_far_border}
+use Rattle.expand.specs.NodeItems.{item_running, on_layer}
+
+-- the half size of a channel on an axis: W runs along the gate, L across it
+abbrev pub half_channel : Axis2 → ℤ → ℤ → Axis2 → ℤ
+half_channel gate w l along = if is_same_axis gate along then half w else half l
+
+-- How far past the centre of a node a wire goes that ends there: by half its width at a joint or contact. At a transistor it stops short of
+-- the centre, outside the channel by the spacing of poly and diffusion.
+abbrev pub reach : Tech → NodeKind → ℤ → Axis2 → ℤ
+reach tech (Joint layer own) width along = half width
+reach tech (Contact lower) width along = half width
+reach tech (Fet depletion gate w l) width along = neg_ℤ (half_channel gate w l along +ℤ (numbers_of tech).spacing_poly_diffusion)
+
+-- where a wire begins and where it ends; at a port that is on the border
+abbrev pub low_end_of : Tech → Cell → Wire → WireEnd → End
+low_end_of tech cell wire (ends.Node j) = past (centre j) (neg_ℤ (reach tech (node_at cell.nodes j).kind wire.width wire.along))
+low_end_of tech cell wire (ends.Port j) = at_origin
+
+abbrev pub high_end_of : Tech → Cell → Wire → WireEnd → End
+high_end_of tech cell wire (ends.Node j) = past (centre j) (reach tech (node_at cell.nodes j).kind wire.width wire.along)
+high_end_of tech cell wire (ends.Port j) = at_far_border
+
+-- a box that runs across between two ends, so wide round the cross coordinate; it is at least as long as it is wide
+abbrev pub run_item : ℕ → ℕ → ℕ → ℤ → End → End → Item
+run_item owner net cross width low high = record {
+  class = M;
+  net = net;
+  owner = owner;
+  xl = low;
+  xh = high;
+  yl = past cross (neg_ℤ (half width));
+  yh = past cross (half width);
+  least_x = width;
+  least_y = width;
+}
+
+-- the items of a wire with this owner, net and cross coordinate
+abbrev pub wire_items : Tech → Cell → ℕ → ℕ → ℕ → Wire → List Item
+wire_items tech cell owner net cross wire =
+    on_layer wire.layer (item_running wire.along (run_item owner net cross wire.width (low_end_of tech cell wire wire.low) (high_end_of tech cell wire wire.high)))

@@ -1,0 +1,53 @@
+-- Cells typed in, with the technology that the program ships with: a transistor alone, a metal wire from a joint to a port, and one from
+-- side to side; and the ends of their items.
+use Rattle.std.specs.Prelude.{ℕ, pos, false, [], ◌∷◌}
+use Rattle.rule_table.specs.declared.classes.Layer.TheVariants.{Diffusion, Poly, Metal}
+use Rattle.stick_parse.specs.declared.design.Side.TheVariants.{Left, Right}
+use Rattle.stick_cell.specs.declared.cell.Axis2.TheVariants.{Across, Up}
+use Rattle.stick_cell.specs.declared.cell.NodeKind.{NodeKind}
+use Rattle.stick_cell.specs.declared.cell.NodeKind.TheVariants.{Joint, Contact, Fet}
+use Rattle.stick_cell.specs.declared.cell.Node.{Node}
+use Rattle.stick_cell.specs.declared.cell.WireEnd.TheVariants as ends
+use Rattle.stick_cell.specs.declared.cell.Cell.{Cell}
+
+abbrev pub node : NodeKind → ℕ → ℕ → Node
+node kind col row = record { name = []; kind = kind; col = col; row = row }
+
+-- a transistor alone: fet f enh h 0 0 4 4
+abbrev pub transistor : Cell
+transistor = record { name = []; nodes = node (Fet false Across (pos 4) (pos 4)) 0 0 ∷ []; wires = []; ports = []; limits = [] }
+
+-- two metal joints in a column and the wire between them
+abbrev pub column : Cell
+column = record {
+  name = [];
+  nodes = node (Joint Metal (pos 6)) 0 0 ∷ node (Joint Metal (pos 8)) 0 1 ∷ [];
+  wires = (record { layer = Metal; width = pos 6; low = ends.Node 0; high = ends.Node 1; along = Up }) ∷ [];
+  ports = [];
+  limits = [];
+}
+
+-- a poly wire from the left side to the right
+abbrev pub through : Cell
+through = record {
+  name = [];
+  nodes = [];
+  wires = (record { layer = Poly; width = pos 4; low = ends.Port 0; high = ends.Port 1; along = Across }) ∷ [];
+  ports = (record { name = []; side = Left; layer = Poly; place = 0; wire = 0 }) ∷ (record { name = []; side = Right; layer = Poly; place = 0; wire = 0 }) ∷ [];
+  limits = [];
+}
+
+-- the first nodes and wires of an inverter: a diffusion contact below a transistor whose gate runs across, and a depletion one above
+abbrev pub inverter : Cell
+inverter = record {
+  name = [];
+  nodes = node (Contact Diffusion) 0 0 ∷ node (Fet false Across (pos 8) (pos 4)) 0 1 ∷ node (Contact Diffusion) 0 2 ∷ node (Contact Poly) 1 3 ∷ [];
+  wires =
+      (record { layer = Metal; width = pos 6; low = ends.Port 0; high = ends.Node 0; along = Across })
+      ∷ (record { layer = Diffusion; width = pos 4; low = ends.Node 0; high = ends.Node 1; along = Up })
+      ∷ (record { layer = Diffusion; width = pos 4; low = ends.Node 1; high = ends.Node 2; along = Up })
+      ∷ (record { layer = Poly; width = pos 4; low = ends.Port 1; high = ends.Node 1; along = Across })
+      ∷ [];
+  ports = (record { name = []; side = Left; layer = Metal; place = 0; wire = 0 }) ∷ (record { name = []; side = Left; layer = Poly; place = 1; wire = 3 }) ∷ [];
+  limits = [];
+}

@@ -1,0 +1,11 @@
+//! A cell with its items.
+
+use stick_cell::Cell;
+use sym_items::Items;
+
+/// A cell that a grid names, and the items of that cell.
+#[derive(Debug, Drop)]
+pub struct Master {
+    pub cell: Cell,
+    pub items: Items,
+}

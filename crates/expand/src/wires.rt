@@ -1,0 +1,151 @@
+//! The items of a wire.
+
+ghost use Rattle.std.specs.Prelude.{◌≡◌, ◌<◌, ◌++◌, length, neg_ℤ, ◌+ℤ◌, OnOk};
+ghost use Rattle.rule_table.specs.Bounds.{IsSize};
+ghost use Rattle.rule_table.specs.Technology.{numbers_of};
+ghost use Rattle.stick_cell.specs.Wires.{is_same_axis};
+ghost use Rattle.stick_cell.specs.Sound.{IsKind, IsEnd, IsWire, IsSound, IsLight, node_at};
+ghost use Rattle.expand.specs.Bounds.{IsHalfSize, IsNear};
+ghost use Rattle.expand.specs.WireItems.{half_channel, reach, low_end_of, high_end_of, run_item, wire_items};
+
+use crate::boxes::{centre, extended, half, item_running, negated, push_on_layer};
+use rule_table::{Class, Tech};
+use std::alloc::AllocError;
+use stick_cell::{Axis2, Cell, NodeKind, Wire, WireEnd};
+use sym_items::{End, Item};
+
+/// Whether two axes are one.
+pub fn is_same_axis(a: Axis2, b: Axis2) -> bool
+    ensures { result ≡ is_same_axis a b }
+{
+    match (a, b) {
+        (Axis2::Across, Axis2::Across) | (Axis2::Up, Axis2::Up) => true,
+        (Axis2::Across, Axis2::Up) | (Axis2::Up, Axis2::Across) => false,
+    }
+}
+
+// The half size, in u, of a channel along an axis.
+fn half_channel(gate: Axis2, w: i64, l: i64, along: Axis2) -> i64
+    requires w { IsSize w }
+    requires l { IsSize l }
+    ensures value { result ≡ half_channel gate w l along }
+    ensures bounds { IsHalfSize result }
+{
+    if is_same_axis(gate, along) {
+        half(w)
+    } else {
+        half(l)
+    }
+}
+
+// How far a wire stays outside a channel, in u.
+fn clearance(tech: &Tech) -> i64
+    ensures value { result ≡ (numbers_of tech.now).spacing_poly_diffusion }
+    ensures bounds { IsHalfSize result }
+{
+    tech.numbers().spacing_poly_diffusion
+}
+
+// How far past the centre of a node a wire goes that ends there, in u: short of it at a transistor.
+fn reach(tech: &Tech, kind: NodeKind, width: i64, along: Axis2) -> i64
+    requires kind { IsKind tech.now kind }
+    requires width { IsSize width }
+    ensures value { result ≡ reach tech.now kind width along }
+    ensures near { IsNear result }
+{
+    match kind {
+        NodeKind::Joint { .. } | NodeKind::Contact { .. } => half(width),
+        NodeKind::Fet { gate, w, l, .. } => {
+            negated(extended(half_channel(gate, w, l, along), clearance(tech)))
+        }
+    }
+}
+
+/// What a node is.
+pub fn kind_at(cell: &Cell, node: u32) -> NodeKind
+    requires { node < length cell.now.nodes }
+    ensures { result ≡ (node_at cell.now.nodes node).kind }
+{
+    cell.nodes.as_slice()[node as usize].kind
+}
+
+// Where a wire begins.
+fn low_end(tech: &Tech, cell: &Cell, wire: &Wire, end: WireEnd) -> End
+    requires sound { IsSound tech.now cell.now }
+    requires light { IsLight cell.now }
+    requires size { IsSize wire.now.width }
+    requires end { IsEnd cell.now end }
+    ensures { result ≡ low_end_of tech.now cell.now wire.now end }
+{
+    match end {
+        WireEnd::Node(node) => End {
+            var: centre(node),
+            off: negated(reach(tech, kind_at(cell, node), wire.width, wire.along)),
+        },
+        WireEnd::Port(_) => End { var: 0, off: 0 },
+    }
+}
+
+// Where a wire ends.
+fn high_end(tech: &Tech, cell: &Cell, wire: &Wire, end: WireEnd) -> End
+    requires sound { IsSound tech.now cell.now }
+    requires light { IsLight cell.now }
+    requires size { IsSize wire.now.width }
+    requires end { IsEnd cell.now end }
+    ensures { result ≡ high_end_of tech.now cell.now wire.now end }
+{
+    match end {
+        WireEnd::Node(node) => End {
+            var: centre(node),
+            off: reach(tech, kind_at(cell, node), wire.width, wire.along),
+        },
+        WireEnd::Port(_) => End { var: 1, off: 0 },
+    }
+}
+
+// A box that runs across between two ends, so wide round the cross coordinate.
+fn run_item(owner: u32, net: u32, cross: u32, width: i64, low: End, high: End) -> Item
+    requires { IsSize width }
+    ensures { result ≡ run_item owner net cross width low high }
+{
+    let half_width = half(width);
+    Item {
+        class: Class::M,
+        net,
+        owner,
+        xl: low,
+        xh: high,
+        yl: End {
+            var: cross,
+            off: negated(half_width),
+        },
+        yh: End {
+            var: cross,
+            off: half_width,
+        },
+        least_x: width,
+        least_y: width,
+    }
+}
+
+/// Adds the items of a wire with this owner, net and cross coordinate.
+pub fn push_wire(
+    list: &mut Vec<Item>,
+    tech: &Tech,
+    cell: &Cell,
+    owner: u32,
+    net: u32,
+    cross: u32,
+    wire: &Wire,
+) -> Result<(), AllocError>
+    requires sound { IsSound tech.now cell.now }
+    requires light { IsLight cell.now }
+    requires wire { IsWire tech.now cell.now wire.now }
+    ensures { OnOk result (list.new.items ≡ list.old.items ++ wire_items tech.now cell.now owner net cross wire.now) }
+{
+    let low = low_end(tech, cell, wire, wire.low);
+    let high = high_end(tech, cell, wire, wire.high);
+    let run = run_item(owner, net, cross, wire.width, low, high);
+    push_on_layer(list, wire.layer, item_running(wire.along, run))?;
+    Ok(())
+}
