@@ -1,0 +1,60 @@
+-- Folds and lists over some elements, as loops make them.
+use Rattle.std.proofs.Common.{◌≡◌, ℕ, ◌+◌, ◌<◌, ◌≤◌, List, [], ◌∷◌, ◌++◌, length, map, fold, get_or, take, sym, ap, ◌∙◌, subst, append_assoc}
+use Rattle.std.specs.List.{flat_map}
+use Rattle.std.proofs.lemmas.List.{take_all, take_more, map_more, append-nil}
+use Rattle.std.proofs.lemmas.List.Sums.{fold-append}
+use Rattle.std.proofs.lemmas.List.Concat.{flat_map-append}
+
+-- a fold that goes on over one more piece
+pub fold_on : {A Z : Type 0} (f : Z → A → Z) (a : Z) (front done piece : List A) (now next : Z)
+    → now ≡ fold f a (front ++ done) → next ≡ fold f now piece → next ≡ fold f a (front ++ (done ++ piece))
+fold_on f a front done piece now next was is =
+    is ∙ (ap (λ z. fold f z piece) was ∙ (sym (fold-append f a (front ++ done) piece) ∙ ap (fold f a) (append_assoc front done piece)))
+
+-- one more element, read by a loop, in a map and in joined pieces
+pub map_read : {X Y : Type 0} (g : X → Y) (read xs : List X) (i : ℕ) (d : X) → read ≡ xs → i < length read
+    → map g (take (i + 1) xs) ≡ map g (take i xs) ++ g (get_or read i d) ∷ []
+map_read {X} g read xs i d e lt =
+    let P : List X → Type 0 = λ zs. map g (take (i + 1) zs) ≡ map g (take i zs) ++ g (get_or read i d) ∷ [] in
+    subst P e (map_more g read i d lt)
+
+pub flat_read : {X Y : Type 0} (g : X → List Y) (read xs : List X) (i : ℕ) (d : X) → read ≡ xs → i < length read
+    → flat_map g (take (i + 1) xs) ≡ flat_map g (take i xs) ++ g (get_or read i d)
+flat_read {X} g read xs i d e lt =
+    let P : List X → Type 0 = λ zs. flat_map g (take (i + 1) zs) ≡ flat_map g (take i zs) ++ g (get_or read i d) in
+    subst P e (ap (flat_map g) (take_more read i d lt)
+    ∙ (flat_map-append g (take i read) (get_or read i d ∷ []) ∙ ap (λ zs. flat_map g (take i read) ++ zs) (append-nil (g (get_or read i d)))))
+
+-- all of it, once the loop has ended
+pub all_read : {X : Type 0} (read xs : List X) (i : ℕ) → read ≡ xs → length read ≤ i → take i xs ≡ xs
+all_read {X} read xs i e le =
+    let P : List X → Type 0 = λ zs. take i zs ≡ zs in
+    subst P e (take_all i read le)
+
+-- the same steps of a fold
+pub fold_map_on : {A X Z : Type 0} (f : Z → A → Z) (a : Z) (g : X → A) (front : List A) (read xs : List X) (i : ℕ) (d : X) (now next : Z)
+    → read ≡ xs → i < length read → now ≡ fold f a (front ++ map g (take i xs)) → next ≡ f now (g (get_or read i d))
+    → next ≡ fold f a (front ++ map g (take (i + 1) xs))
+fold_map_on f a g front read xs i d now next e lt was is =
+    fold_on f a front (map g (take i xs)) (g (get_or read i d) ∷ []) now next was is ∙ ap (λ zs. fold f a (front ++ zs)) (sym (map_read g read xs i d e lt))
+
+pub fold_flat_on : {A X Z : Type 0} (f : Z → A → Z) (a : Z) (g : X → List A) (front : List A) (read xs : List X) (i : ℕ) (d : X) (now next : Z)
+    → read ≡ xs → i < length read → now ≡ fold f a (front ++ flat_map g (take i xs)) → next ≡ fold f now (g (get_or read i d))
+    → next ≡ fold f a (front ++ flat_map g (take (i + 1) xs))
+fold_flat_on f a g front read xs i d now next e lt was is =
+    fold_on f a front (flat_map g (take i xs)) (g (get_or read i d)) now next was is ∙ ap (λ zs. fold f a (front ++ zs)) (sym (flat_read g read xs i d e lt))
+
+-- and of a list that grows at its end
+pub list_flat_on : {X Y : Type 0} (g : X → List Y) (front : List Y) (read xs : List X) (i : ℕ) (d : X) (now next : List Y)
+    → read ≡ xs → i < length read → now ≡ front ++ flat_map g (take i xs) → next ≡ now ++ g (get_or read i d)
+    → next ≡ front ++ flat_map g (take (i + 1) xs)
+list_flat_on g front read xs i d now next e lt was is =
+    is ∙ (ap (λ zs. zs ++ g (get_or read i d)) was
+    ∙ (append_assoc front (flat_map g (take i xs)) (g (get_or read i d)) ∙ ap (λ zs. front ++ zs) (sym (flat_read g read xs i d e lt))))
+
+pub list_map_on : {X Y : Type 0} (g : X → Y) (front : List Y) (read xs : List X) (i : ℕ) (d : X) (now next : List Y)
+    → read ≡ xs → i < length read → now ≡ front ++ map g (take i xs) → next ≡ now ++ g (get_or read i d) ∷ []
+    → next ≡ front ++ map g (take (i + 1) xs)
+list_map_on g front read xs i d now next e lt was is =
+    is ∙ (ap (λ zs. zs ++ g (get_or read i d) ∷ []) was
+    ∙ (append_assoc front (map g (take i xs)) (g (get_or read i d) ∷ []) ∙ ap (λ zs. front ++ zs) (sym (map_read g read xs i d e lt))))

@@ -1,0 +1,14 @@
+pub mod Elements
+pub mod Folds
+pub mod Extents
+pub mod Lines
+pub mod Nears
+pub mod Starts
+pub mod Reaches
+pub mod Grid
+pub mod Lookups
+pub mod NodesLaid
+pub mod Laid
+pub mod WiresLaid
+pub mod ItemsLaid
+pub mod WorkedStarts

@@ -1,0 +1,7 @@
+pub mod Extent
+pub mod Start
+pub mod Near
+pub mod Clash
+pub mod Ranges
+pub mod Laws
+pub mod Worked
