@@ -1,0 +1,94 @@
+//! The names of the variables of x.
+
+ghost use Rattle.std.specs.Prelude.{◌≡◌, ◌++◌, ◌∷◌, [], codes, map, flat_map, length, OnOk, IfOk};
+ghost use Rattle.std.specs.List.{range_with_len};
+ghost use Rattle.lam_geom.specs.declared.boxes.Axis.TheVariants.{X};
+ghost use Rattle.stick_cell.specs.declared.cell.Node.{Node};
+ghost use Rattle.stick_cell.specs.Sound.{IsLight};
+ghost use Rattle.pass_run.specs.System.{within_cell, cross_name_along, cross_name, names_of};
+
+use cons_graph::Names;
+use std::alloc::{AllocError, Global};
+use stick_cell::{Axis2, Cell};
+
+// Adds the name of the far border.
+fn push_border(names: &mut Names, alloc: Global, cell: &Cell) -> Result<(), AllocError>
+    ensures { OnOk result (names.new ≡ names.old ++ (cell.now.name ++ codes "|") ∷ []) }
+{
+    let mut name = Vec::new(alloc);
+    name.extend_from_slice(cell.name.bytes())?;
+    name.push(b'|')?;
+    names.push(&name)
+}
+
+// Adds the name of something in the cell.
+fn push_within(
+    names: &mut Names,
+    alloc: Global,
+    cell: &Cell,
+    inner: &[u8],
+) -> Result<(), AllocError>
+    ensures { OnOk result (names.new ≡ names.old ++ within_cell cell.now inner.now ∷ []) }
+{
+    let mut name = Vec::new(alloc);
+    name.extend_from_slice(cell.name.bytes())?;
+    name.push(b':')?;
+    name.extend_from_slice(inner)?;
+    names.push(&name)
+}
+
+// Adds the names of the centres of the nodes.
+fn push_nodes(names: &mut Names, alloc: Global, cell: &Cell) -> Result<(), AllocError>
+    ensures { OnOk result (names.new ≡ names.old ++ map (λ (node : Node). within_cell cell.now node.name) cell.now.nodes) }
+{
+    for node in cell.nodes.as_slice() {
+        push_within(names, alloc, cell, node.name.bytes())?;
+    }
+    Ok(())
+}
+
+// Adds the name of the cross coordinate of wire `k`, if it runs up.
+fn push_wire(
+    names: &mut Names,
+    alloc: Global,
+    cell: &Cell,
+    k: u32,
+    along: Axis2,
+) -> Result<(), AllocError>
+    ensures { OnOk result (names.new ≡ names.old ++ cross_name_along X cell.now k along) }
+{
+    if along != Axis2::Up {
+        return Ok(());
+    }
+    let number = k.to_string(alloc)?;
+    let mut inner = Vec::new(alloc);
+    inner.push(b'#')?;
+    inner.extend_from_slice(number.as_bytes())?;
+    push_within(names, alloc, cell, &inner)
+}
+
+// Adds the names of the cross coordinates of the wires that run up.
+fn push_wires(names: &mut Names, alloc: Global, cell: &Cell) -> Result<(), AllocError>
+    requires { IsLight cell.now }
+    ensures { OnOk result (names.new ≡ names.old ++ flat_map (cross_name X cell.now) (range_with_len 0 (length cell.now.wires))) }
+{
+    let wires = cell.wires.as_slice();
+    for k in 0..wires.len() as u32 {
+        push_wire(names, alloc, cell, k, wires[k as usize].along)?;
+    }
+    Ok(())
+}
+
+/// The names of the variables of x, in their order: the origin, the far border, the nodes, and the wires that run up.
+/// The only refusal is want of memory.
+pub fn names(alloc: Global, cell: &Cell) -> Result<Names, AllocError>
+    requires { IsLight cell.now }
+    ensures { IfOk result (λ names. names ≡ names_of X cell.now) }
+{
+    let mut names = Names::new(alloc);
+    names.push(b"0")?;
+    push_border(&mut names, alloc, cell)?;
+    push_nodes(&mut names, alloc, cell)?;
+    push_wires(&mut names, alloc, cell)?;
+    Ok(names)
+}
