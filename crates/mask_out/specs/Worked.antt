@@ -1,0 +1,23 @@
+-- The items and the layout that the tests type in: a diffusion contact, and a metal joint to the right of it.
+use Rattle.std.specs.Prelude.{ℕ, pos, neg_ℤ, List, [], ◌∷◌}
+use Rattle.rule_table.specs.declared.classes.Class.{Class}
+use Rattle.rule_table.specs.declared.classes.Class.TheVariants.{M, C, Dm, Dc}
+use Rattle.sym_items.specs.declared.items.End.{End}
+use Rattle.sym_items.specs.declared.items.Item.{Item}
+use Rattle.sym_items.specs.declared.items.Coords.{Coords}
+
+abbrev pub below : ℕ → ℕ → End
+below v half = record { var = v; off = neg_ℤ (pos half) }
+
+abbrev pub above : ℕ → ℕ → End
+above v half = record { var = v; off = pos half }
+
+-- a square on an x variable and y variable 2
+abbrev pub square : Class → ℕ → ℕ → Item
+square class v half = record { class = class; net = 0; owner = 0; xl = below v half; xh = above v half; yl = below 2 half; yh = above 2 half; least_x = pos 4; least_y = pos 4 }
+
+abbrev pub contact_and_joint : List Item
+contact_and_joint = square M 2 4 ∷ square C 2 2 ∷ square Dm 2 4 ∷ square Dc 2 4 ∷ square M 3 3 ∷ []
+
+abbrev pub layout : Coords
+layout = record { x = pos 0 ∷ pos 48 ∷ pos 12 ∷ pos 30 ∷ []; y = pos 0 ∷ pos 24 ∷ pos 12 ∷ [] }

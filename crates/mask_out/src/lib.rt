@@ -1,0 +1,13 @@
+//! Masks of a cell: the boxes that are written for it.
+//!
+//! What the layer above uses: `symbol_of` gives the cell's name and its mask boxes, layer by layer in the order ND, NP, NC,
+//! NM, NI and on each layer in the order of the items. Lengths are in u, the grid unit.
+#![tactic(auto)]
+
+mod picture;
+mod symbols;
+#[cfg(test)]
+mod tests;
+
+pub use picture::Symbol;
+pub use symbols::symbol_of;

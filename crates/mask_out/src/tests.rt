@@ -1,0 +1,98 @@
+ghost use Rattle.std.specs.Prelude.{◌≡◌, IfOk};
+ghost use Rattle.mask_out.specs.Worked as worked;
+
+use crate::symbol_of;
+use expand::Master;
+use lam_geom::{BoxXY, MaskBox, MaskLayer, Span};
+use lam_list::Seq;
+use rule_table::Class;
+use std::alloc::{AllocError, Global};
+use std::test::Fail;
+use stick_cell::Cell;
+use stick_lex::Text;
+use sym_items::{Coords, End, Item, Items};
+
+// A square on an x variable and y variable 2.
+fn square(class: Class, var: u32, half: u8) -> Item
+    ensures { result ≡ worked.square class var half }
+{
+    let half = i64::from(half);
+    Item {
+        class,
+        net: 0,
+        owner: 0,
+        xl: End { var, off: -half },
+        xh: End { var, off: half },
+        yl: End { var: 2, off: -half },
+        yh: End { var: 2, off: half },
+        least_x: 4,
+        least_y: 4,
+    }
+}
+
+// A diffusion contact, whose conducting piece is no box, and a metal joint.
+fn contact_and_joint(alloc: Global) -> Result<Seq<Item>, AllocError>
+    ensures { IfOk result (λ items. items ≡ worked.contact_and_joint) }
+{
+    let items = [
+        square(Class::M, 2, 4),
+        square(Class::C, 2, 2),
+        square(Class::Dm, 2, 4),
+        square(Class::Dc, 2, 4),
+        square(Class::M, 3, 3),
+    ];
+    Ok(Seq::from_vec(items.to_vec(alloc)?))
+}
+
+fn layout(alloc: Global) -> Result<Coords, AllocError>
+    ensures { IfOk result (λ c. c ≡ worked.layout) }
+{
+    Ok(Coords {
+        x: Seq::from_vec([0i64, 48, 12, 30].to_vec(alloc)?),
+        y: Seq::from_vec([0i64, 24, 12].to_vec(alloc)?),
+    })
+}
+
+// The masks read neither nodes nor wires.
+fn cell(alloc: Global) -> Result<Cell, AllocError> {
+    Ok(Cell {
+        name: Text::new(alloc, b"c")?,
+        nodes: Seq::from_vec(Vec::new(alloc)),
+        wires: Seq::from_vec(Vec::new(alloc)),
+        ports: Seq::from_vec(Vec::new(alloc)),
+        limits: Seq::from_vec(Vec::new(alloc)),
+    })
+}
+
+#[test]
+fn boxes_come_layer_by_layer(rt: HostRuntime) -> Result<(), Fail> {
+    let alloc = rt.alloc();
+    let master = Master {
+        cell: cell(alloc)?,
+        items: Items {
+            list: contact_and_joint(alloc)?,
+            x_vars: 4,
+            y_vars: 3,
+        },
+    };
+    let symbol = symbol_of(alloc, &master, &layout(alloc)?)?;
+    let pad = Span { lo: 8, hi: 16 };
+    let cut = Span { lo: 10, hi: 14 };
+    let joint = BoxXY {
+        x: Span { lo: 27, hi: 33 },
+        y: Span { lo: 9, hi: 15 },
+    };
+    let drawn = |layer, area| MaskBox { layer, area };
+    assert_eq!(rt; symbol.name.bytes(), b"c".as_slice());
+    assert_eq!(rt;
+        symbol.boxes.as_slice(),
+        [
+            drawn(MaskLayer::ND, BoxXY { x: pad, y: pad }),
+            drawn(MaskLayer::NC, BoxXY { x: cut, y: cut }),
+            drawn(MaskLayer::NM, BoxXY { x: pad, y: pad }),
+            drawn(MaskLayer::NM, joint),
+        ]
+        .as_slice()
+    );
+    Ok(())
+}
