@@ -1,0 +1,51 @@
+use crate::symbol_text;
+use lam_geom::{BoxXY, MaskBox, MaskLayer, Span};
+use lam_list::Seq;
+use mask_out::Symbol;
+use rule_table::Tech;
+use std::test::Fail;
+use stick_lex::Text;
+
+// The masks of a transistor alone, whose channel is 4 by 4 and whose gate runs across, in a cell 20 wide and 24 high.
+#[test]
+fn a_transistor_is_written_in_halves_of_u(rt: HostRuntime) -> Result<(), Fail> {
+    let alloc = rt.alloc();
+    let boxes = [
+        MaskBox {
+            layer: MaskLayer::ND,
+            area: BoxXY {
+                x: Span { lo: 8, hi: 12 },
+                y: Span { lo: 6, hi: 18 },
+            },
+        },
+        MaskBox {
+            layer: MaskLayer::NP,
+            area: BoxXY {
+                x: Span { lo: 4, hi: 16 },
+                y: Span { lo: 10, hi: 14 },
+            },
+        },
+    ];
+    let symbol = Symbol {
+        name: Text::new(alloc, b"f")?,
+        boxes: Seq::from_vec(boxes.to_vec(alloc)?),
+    };
+    let text = symbol_text(alloc, &Tech::shipped(), 1, &symbol)?;
+    assert_eq!(rt;
+        text.as_slice(),
+        b"DS 1 75 1;\n9 f;\nL ND;\nB 8 24 20 24;\nL NP;\nB 24 8 20 24;\nDF;\n".as_slice()
+    );
+    Ok(())
+}
+
+#[test]
+fn a_symbol_without_boxes_names_no_layer(rt: HostRuntime) -> Result<(), Fail> {
+    let alloc = rt.alloc();
+    let symbol = Symbol {
+        name: Text::new(alloc, b"empty")?,
+        boxes: Seq::from_vec(Vec::new(alloc)),
+    };
+    let text = symbol_text(alloc, &Tech::shipped(), 12, &symbol)?;
+    assert_eq!(rt; text.as_slice(), b"DS 12 75 1;\n9 empty;\nDF;\n".as_slice());
+    Ok(())
+}
