@@ -43,8 +43,9 @@ writes_nothing (refusal.TooLong file) out = appends_nothing out out refl
 writes_nothing (refusal.BadTech fault line) out = appends_nothing out out refl
 writes_nothing (refusal.BadSticks fault line) out = appends_nothing out out refl
 writes_nothing (refusal.TooLarge what) out = appends_nothing out out refl
-writes_nothing refusal.NotInFirstForm out = appends_nothing out out refl
+writes_nothing refusal.NotBuilt out = appends_nothing out out refl
 writes_nothing (refusal.Clash a b line) out = appends_nothing out out refl
+writes_nothing (refusal.Unsatisfiable report) out = appends_nothing out out refl
 
 pub ends_refused : (words : List Bytes) (files : Files) (ended : Status) (r : Refusal) (out told_old told_new : Option Bytes) (faults_old faults_new : ℕ)
     → ended ≡ status_of r → RefusesWords (command_of words) files r → Reports told_old told_new faults_old faults_new (line_of r)
@@ -61,8 +62,9 @@ untouched_by (refusal.TooLong file) out = refl
 untouched_by (refusal.BadTech fault line) out = refl
 untouched_by (refusal.BadSticks fault line) out = refl
 untouched_by (refusal.TooLarge what) out = refl
-untouched_by refusal.NotInFirstForm out = refl
+untouched_by refusal.NotBuilt out = refl
 untouched_by (refusal.Clash a b line) out = refl
+untouched_by (refusal.Unsatisfiable report) out = refl
 
 pub untouched : {A : Type 0} (ended : Status) (r : Refusal) (out : A) → ended ≡ status_of r → IsUntouched ended out out
 untouched {A} ended r out e = let P : Status → Type 0 = λ s. IsUntouched s out out in subst P (sym e) (untouched_by r out)

@@ -3,14 +3,17 @@ use Rattle.std.proofs.Common.{◌≡◌, ℕ, List, [], ◌∷◌, Option, Some,
 use Rattle.std.specs.Prelude.{IsErrOf}
 use Rattle.lam_io.specs.Io.{Bytes, Files, Telling, with_asked, Asks}
 use Rattle.rule_table.specs.declared.technology.Tech.{Tech}
+use Rattle.stick_parse.specs.declared.design.Design.{Design as Sticks}
+use Rattle.stick_parse.specs.Order.{design_of}
+use Rattle.stick_cell.specs.Lines.{known_cells}
 use Rattle.compact_run.specs.declared.output.Output.{Output}
 use Rattle.compact_run.specs.declared.refusal.Refusal.{Refusal}
 use Rattle.compact_run.specs.declared.refusal.Refusal.TheVariants as refusal
 use Rattle.compact_run.specs.declared.status.File.{File}
 use Rattle.compact_run.specs.declared.status.File.TheVariants.{Design, Technology}
 use Rattle.compact_run.specs.Words.{Command, compact, files_of}
-use Rattle.compact_run.specs.Fetches.{AsksInOrder, AsksForFiles, OnUnread}
-use Rattle.compact_run.specs.Answers.{IsTechnology, RefusesCompact, IsGiven, text_of}
+use Rattle.compact_run.specs.Fetches.{HasFile, IsRead, AsksInOrder, AsksForFiles, OnUnread}
+use Rattle.compact_run.specs.Answers.{of_names, IsTechnology, RefusesFault, RefusesText, RefusesCompact, IsGiven, text_of}
 use Rattle.compact_run.specs.Steps.{WritesMasks, RefusesDesign}
 
 design_refuses : (technology : Tech) (design tech : Bytes) (files : Files) (r : Refusal) → IsTechnology files tech technology
@@ -21,13 +24,47 @@ design_refuses technology design tech files (refusal.Unread file) is why = tt
 design_refuses technology design tech files (refusal.TooLong Design) is why = record { technology = technology; is_technology = is; long = why }
 design_refuses technology design tech files (refusal.TooLong Technology) is why = absurd why
 design_refuses technology design tech files (refusal.BadTech fault line) is why = absurd why
-design_refuses technology design tech files (refusal.BadSticks fault line) is why = absurd why
-design_refuses technology design tech files refusal.NotInFirstForm is why =
+design_refuses technology design tech files (refusal.BadSticks fault line) is why =
+    record { technology = technology; is_technology = is; text = why.text; file = why.file; cause = why.cause }
+design_refuses technology design tech files refusal.NotBuilt is why =
     record { technology = technology; is_technology = is; text = why.text; file = why.file; cause = why.cause }
 design_refuses technology design tech files (refusal.TooLarge what) is why =
     record { technology = technology; is_technology = is; text = why.text; file = why.file; cause = why.cause }
 design_refuses technology design tech files (refusal.Clash a b line) is why =
     record { technology = technology; is_technology = is; text = why.text; file = why.file; cause = why.cause }
+design_refuses technology design tech files (refusal.Unsatisfiable report) is why =
+    record { technology = technology; is_technology = is; text = why.text; file = why.file; cause = why.cause }
+
+-- a text whose names or sizes have a fault
+pub names_refuse : (tech : Tech) (text : Bytes) (design : Sticks) (r : Refusal) → design_of text ≡ Ok design → RefusesFault (known_cells tech design.cells) r → RefusesText tech text r
+names_refuse tech text design refusal.OutOfMemory read why = tt
+names_refuse tech text design refusal.Usage read why = absurd why
+names_refuse tech text design (refusal.Unread file) read why = absurd why
+names_refuse tech text design (refusal.TooLong file) read why = absurd why
+names_refuse tech text design (refusal.BadTech fault line) read why = absurd why
+names_refuse tech text design (refusal.BadSticks fault line) read why = (of_names design read why.0, why.1)
+names_refuse tech text design refusal.NotBuilt read why = absurd why
+names_refuse tech text design (refusal.TooLarge what) read why = absurd why
+names_refuse tech text design (refusal.Clash a b line) read why = absurd why
+names_refuse tech text design (refusal.Unsatisfiable report) read why = absurd why
+
+-- a text of the shelf that is refused
+text_refuses : (tech : Tech) (name : Bytes) (files : Files) (text : Bytes) (r : Refusal) → HasFile files Design name text → RefusesText tech text r → RefusesDesign tech name files r
+text_refuses tech name files text refusal.OutOfMemory file why = tt
+text_refuses tech name files text refusal.Usage file why = absurd why
+text_refuses tech name files text (refusal.Unread f) file why = absurd why
+text_refuses tech name files text (refusal.TooLong f) file why = absurd why
+text_refuses tech name files text (refusal.BadTech fault line) file why = absurd why
+text_refuses tech name files text (refusal.BadSticks fault line) file why = record { text = text; file = file; cause = why }
+text_refuses tech name files text refusal.NotBuilt file why = record { text = text; file = file; cause = why }
+text_refuses tech name files text (refusal.TooLarge what) file why = record { text = text; file = file; cause = why }
+text_refuses tech name files text (refusal.Clash a b line) file why = record { text = text; file = file; cause = why }
+text_refuses tech name files text (refusal.Unsatisfiable report) file why = record { text = text; file = file; cause = why }
+
+pub text_refused : {A : Type 0} (tech : Tech) (name : Bytes) (told : Option Telling) (text : Bytes) (r : Result A Refusal) → IsRead told Design name text → IfErr r (RefusesText tech text)
+    → IfErr r (λ e. (t : Telling) → told ≡ Some t → RefusesDesign tech name t.files e)
+text_refused tech name told text (Ok x) read why = tt
+text_refused tech name told text (Err r) read why = λ t e. text_refuses tech name t.files text r (read t e) why
 
 -- the technology first, and then the design
 pub given_by_steps : (design tech : Bytes) (old between : Option Telling) (t : Telling) (technology : Tech) (r : Result Output Refusal) → old ≡ Some t

@@ -1,11 +1,11 @@
 -- What the program answers: the status, the output and the report, from the words of the command line and the files that they name.
-use Rattle.std.specs.Prelude.{◌≡◌, ℕ, ◌^◌, pos, ◌*ℤ◌, ◌≤ℤ◌, ◌<ℤ◌, All, ◌⊎◌, ℤ, Option, Some, None, Result, Ok, Err, List, [], ◌++◌, length, map, codes}
+use Rattle.std.specs.Prelude.{◌≡◌, ℕ, ◌^◌, ◌<◌, ◌≤◌, pos, ◌*ℤ◌, ◌≤ℤ◌, ◌<ℤ◌, ◌⊎◌, ℤ, Option, Some, None, Result, Ok, Err, List, [], ◌++◌, length, codes}
 use Rattle.lam_io.specs.Io.{Bytes, Files, Appends, AppendsPrefix, Rose}
 use Rattle.rule_table.specs.declared.technology.Tech.{Tech}
 use Rattle.rule_table.specs.Technology.{numbers_of}
 use Rattle.tech_file.specs.declared.faults.TechFileFault.{TechFileFault}
 use Rattle.tech_file.specs.Technology.{technology_of}
-use Rattle.cons_graph.specs.Solutions.{IsLeastSolution, value_of}
+use Rattle.cons_graph.specs.Solutions.{value_of}
 use Rattle.stick_parse.specs.declared.design.Design.{Design as Sticks}
 use Rattle.stick_parse.specs.Order.{design_of}
 use Rattle.stick_print.specs.Canonical.{canonical}
@@ -14,29 +14,49 @@ use Rattle.compact_run.specs.declared.refusal.Refusal.{Refusal}
 use Rattle.compact_run.specs.declared.refusal.Refusal.TheVariants as refusal
 use Rattle.compact_run.specs.declared.status.File.TheVariants.{Design, Technology}
 use Rattle.compact_run.specs.declared.status.Side2.TheVariants as side
-use Rattle.compact_run.specs.declared.status.What.TheVariants.{Extent}
+use Rattle.compact_run.specs.declared.status.What.TheVariants.{Items, Edges, Extent}
 use Rattle.compact_run.specs.declared.status.Status.{Status}
 use Rattle.compact_run.specs.declared.status.Status.TheVariants as status
-use Rattle.compact_run.specs.declared.metal.Metal.{Metal}
-use Rattle.compact_run.specs.Metal.{AreMetalOf, unit_of}
-use Rattle.compact_run.specs.Stick.{Sketch}
-use Rattle.compact_run.specs.Cell.{Parts, IsFirstForm, cell_of}
-use Rattle.compact_run.specs.Items.{items_of, start_of, rect_of, height_of}
-use Rattle.compact_run.specs.Nets.{AreNets}
-use Rattle.compact_run.specs.System.{IsClean, IsFirstClash, system_of}
-use Rattle.compact_run.specs.Rules.{IsWide, IsSpaced}
+use Rattle.stick_parse.specs.declared.fault.StickFault.{StickFault}
+use Rattle.stick_cell.specs.Known.{Known, cell_of, known_at}
+use Rattle.stick_cell.specs.Lines.{known_cells}
+use Rattle.stick_cell.specs.Counts.{weight_of}
+use Rattle.stick_cell.specs.declared.cell.Cell.{Cell}
+use Rattle.stick_cell.specs.declared.cell.Nets.{Nets}
+use Rattle.stick_cell.specs.Netting.{AreNets}
+use Rattle.expand.specs.Items.{item_list}
+use Rattle.pair_rules.specs.Bound.{item_at}
+use Rattle.coarse_grid.specs.Start.{start_of}
+use Rattle.coarse_grid.specs.Clash.{IsFirstClash}
+use Rattle.pass_run.specs.System.{IsLeastLayout, IsWellPlaced, HasManyEdges, IsUnsatisfiable, placed}
+use Rattle.mask_out.specs.Masks.{masks_in}
+use Rattle.compact_run.specs.Built.{built_cell}
 use Rattle.compact_run.specs.Masks.{cif_text, clash_text}
 use Rattle.compact_run.specs.Words.{Command, compact, fmt, command_of}
 use Rattle.compact_run.specs.Fetches.{HasFile, IsLongFile}
 use Rattle.compact_run.specs.FaultLines.{stick_line, tech_line}
 use Rattle.compact_run.specs.Refusal.{status_of, line_of}
 
--- The text is in the first form, and this is its cell.
-pub record IsCellOf (text : Bytes) (p : Parts) : Type 0 where
-  pub sketch : Sketch
-  pub first_form : IsFirstForm text sketch
-  pub cell : p ≡ cell_of sketch
-  pub only : (s : Sketch) → IsFirstForm text s → p ≡ cell_of s
+-- The text's design has no fault and is built, and this is what is known of the cell that is its grid.
+pub record IsGridCell (tech : Tech) (text : Bytes) (known : Known) : Type 0 where
+  pub design : Sticks
+  pub read : design_of text ≡ Ok design
+  pub cells : List Known
+  pub resolved : known_cells tech design.cells ≡ Ok cells
+  pub number : ℕ
+  pub built : built_cell design cells ≡ Some number
+  pub is : known ≡ known_at cells number
+
+-- That cell has not too many items, and this is it with each use replaced by what it stands for.
+pub record IsCellOf (tech : Tech) (text : Bytes) (cell : Cell) : Type 0 where
+  pub known : Known
+  pub grid_cell : IsGridCell tech text known
+  pub light : weight_of known ≤ 65536
+  pub inlined : cell ≡ cell_of known
+
+-- u in hundredths of a micron
+abbrev pub unit_of : Tech → ℤ
+unit_of tech = (numbers_of tech).unit
 
 -- a width or height is at most 2^30 hundredths of a micron
 abbrev pub IsWithinExtent : Tech → ℤ → Type 0
@@ -45,78 +65,80 @@ IsWithinExtent tech length = (length *ℤ unit_of tech) ≤ℤ pos (2 ^ 30)
 abbrev pub IsPastExtent : Tech → ℤ → Type 0
 IsPastExtent tech length = pos (2 ^ 30) <ℤ (length *ℤ unit_of tech)
 
--- The least layout of a cell. Its start layout is clean. Every x is the least that any solution of its system has, and every y stays
--- that of the start layout.
-pub record IsLeastLayout (tech : Tech) (p : Parts) (m : Metal) (nets : List ℕ) (x : List ℤ) : Type 0 where
-  pub are_metal : AreMetalOf tech m
-  pub are_nets : AreNets p nets
-  pub clean : IsClean m (start_of m p) (items_of m nets p)
-  pub one_each : length x ≡ length (start_of m p)
-  pub least : IsLeastSolution (length (start_of m p)) (system_of m p nets) (value_of x)
+-- the height of a cell: that of its start layout
+abbrev pub height_of : Tech → Cell → ℤ
+height_of tech cell = value_of (start_of tech cell).y 1
 
--- The masks of a cell, of its least layout, which is not too large. Each box is at least as wide as metal on both axes, and boxes
--- that no chain of touching boxes joins keep the spacing of metal.
-pub record IsCompaction (tech : Tech) (p : Parts) (output : Bytes) : Type 0 where
-  pub metal : Metal
-  pub nets : List ℕ
+-- The masks of a cell: those of its least layout, which is not too large. Theorems of the layout say that each item has a box in it that
+-- is as long as it has to be, and that all bound items keep their spacing.
+pub record IsCompaction (tech : Tech) (cell : Cell) (output : Bytes) : Type 0 where
+  pub nets : Nets
   pub x : List ℤ
-  pub layout : IsLeastLayout tech p metal nets x
+  pub layout : IsLeastLayout tech cell nets x
+  pub well_placed : IsWellPlaced tech (placed tech cell x) (item_list tech cell nets)
   pub width : IsWithinExtent tech (value_of x 1)
-  pub height : IsWithinExtent tech (height_of metal p.nodes)
-  pub wide : All (IsWide metal) (map (rect_of metal x) (items_of metal nets p))
-  pub spaced : IsSpaced metal (map (rect_of metal x) (items_of metal nets p))
-  pub written : output ≡ cif_text (unit_of tech) p.name (map (rect_of metal x) (items_of metal nets p))
+  pub height : IsWithinExtent tech (height_of tech cell)
+  pub written : output ≡ cif_text (unit_of tech) cell.name (masks_in (placed tech cell x) (item_list tech cell nets))
 
 -- The masks of the cell of a text.
 pub record CompactsTo (tech : Tech) (text output : Bytes) : Type 0 where
-  pub cell : Parts
-  pub read : IsCellOf text cell
+  pub cell : Cell
+  pub read : IsCellOf tech text cell
   pub compaction : IsCompaction tech cell output
 
 -- The least layout of a cell is too large: too wide or too high.
-pub record HasLargeExtent (tech : Tech) (p : Parts) : Type 0 where
-  pub metal : Metal
-  pub nets : List ℕ
+pub record HasLargeExtent (tech : Tech) (cell : Cell) : Type 0 where
+  pub nets : Nets
   pub x : List ℤ
-  pub layout : IsLeastLayout tech p metal nets x
-  pub past : IsPastExtent tech (value_of x 1) ⊎ IsPastExtent tech (height_of metal p.nodes)
+  pub layout : IsLeastLayout tech cell nets x
+  pub past : IsPastExtent tech (value_of x 1) ⊎ IsPastExtent tech (height_of tech cell)
 
--- The same of the cell of a text.
-pub record ExtendsTooFar (tech : Tech) (text : Bytes) : Type 0 where
-  pub cell : Parts
-  pub read : IsCellOf text cell
-  pub extent : HasLargeExtent tech cell
+-- The first pair of items that clashes in the start layout of a cell, and the line that names their owners.
+pub record HasClash (tech : Tech) (cell : Cell) (a b : ℕ) (line : Bytes) : Type 0 where
+  pub nets : Nets
+  pub are_nets : AreNets cell nets
+  pub first : IsFirstClash tech (start_of tech cell) (item_list tech cell nets) a b
+  pub says : line ≡ clash_text cell (item_at (item_list tech cell nets) a).owner (item_at (item_list tech cell nets) b).owner
 
--- The first pair of items that clashes in a cell, and the line that says so.
-pub record HasClash (tech : Tech) (p : Parts) (a b : ℕ) (line : Bytes) : Type 0 where
-  pub metal : Metal
-  pub are_metal : AreMetalOf tech metal
-  pub nets : List ℕ
-  pub are_nets : AreNets p nets
-  pub first : IsFirstClash metal (start_of metal p) (items_of metal nets p) a b
-  pub says : line ≡ clash_text p a b
+-- why a cell has no masks
+abbrev pub RefusesCell : Tech → Cell → Refusal → Type 0
+RefusesCell tech cell refusal.OutOfMemory = Unit {0}
+RefusesCell tech cell refusal.Usage = ⊥
+RefusesCell tech cell (refusal.Unread file) = ⊥
+RefusesCell tech cell (refusal.TooLong file) = ⊥
+RefusesCell tech cell (refusal.BadTech fault line) = ⊥
+RefusesCell tech cell (refusal.BadSticks fault line) = ⊥
+RefusesCell tech cell refusal.NotBuilt = ⊥
+RefusesCell tech cell (refusal.TooLarge Items) = ⊥
+RefusesCell tech cell (refusal.TooLarge Edges) = HasManyEdges tech cell
+RefusesCell tech cell (refusal.TooLarge Extent) = HasLargeExtent tech cell
+RefusesCell tech cell (refusal.Clash a b line) = HasClash tech cell a b line.items
+RefusesCell tech cell (refusal.Unsatisfiable text) = IsUnsatisfiable tech cell text.items
 
--- The same of the cell of a text.
-pub record Clashes (tech : Tech) (text : Bytes) (a b : ℕ) (line : Bytes) : Type 0 where
-  pub cell : Parts
-  pub read : IsCellOf text cell
-  pub clash : HasClash tech cell a b line
+-- The cell of a text has no masks for this cause.
+pub record CellRefuses (tech : Tech) (text : Bytes) (r : Refusal) : Type 0 where
+  pub cell : Cell
+  pub read : IsCellOf tech text cell
+  pub cause : RefusesCell tech cell r
 
--- the text is in no way in the first form
-abbrev pub IsNoFirstForm : Bytes → Type 0
-IsNoFirstForm text = (s : Sketch) → IsFirstForm text s → ⊥
+-- The cell of a text has too many items.
+pub record ExceedsItems (tech : Tech) (text : Bytes) : Type 0 where
+  pub known : Known
+  pub grid_cell : IsGridCell tech text known
+  pub heavy : 65536 < weight_of known
 
--- why the cell of a text has no masks
-abbrev pub RefusesCell : Tech → Parts → Refusal → Type 0
-RefusesCell tech p refusal.OutOfMemory = Unit {0}
-RefusesCell tech p refusal.Usage = ⊥
-RefusesCell tech p (refusal.Unread file) = ⊥
-RefusesCell tech p (refusal.TooLong file) = ⊥
-RefusesCell tech p (refusal.BadTech fault line) = ⊥
-RefusesCell tech p (refusal.BadSticks fault line) = ⊥
-RefusesCell tech p refusal.NotInFirstForm = ⊥
-RefusesCell tech p (refusal.TooLarge Extent) = HasLargeExtent tech p
-RefusesCell tech p (refusal.Clash a b line) = HasClash tech p a b line.items
+-- The text's design has no fault, and is not built.
+pub record IsNotBuilt (tech : Tech) (text : Bytes) : Type 0 where
+  pub design : Sticks
+  pub read : design_of text ≡ Ok design
+  pub cells : List Known
+  pub resolved : known_cells tech design.cells ≡ Ok cells
+  pub not_built : built_cell design cells ≡ None
+
+-- The first fault of a text: of its syntax, or else of its names and sizes.
+pub data IsFaultOf (tech : Tech) (text : Bytes) (fault : StickFault) : Type 0 where
+  of_syntax : design_of text ≡ Err fault → IsFaultOf tech text fault
+  of_names : (design : Sticks) → design_of text ≡ Ok design → known_cells tech design.cells ≡ Err fault → IsFaultOf tech text fault
 
 -- why a text has no masks
 abbrev pub RefusesText : Tech → Bytes → Refusal → Type 0
@@ -125,10 +147,13 @@ RefusesText tech text refusal.Usage = ⊥
 RefusesText tech text (refusal.Unread file) = ⊥
 RefusesText tech text (refusal.TooLong file) = ⊥
 RefusesText tech text (refusal.BadTech fault line) = ⊥
-RefusesText tech text (refusal.BadSticks fault line) = ⊥
-RefusesText tech text refusal.NotInFirstForm = IsNoFirstForm text
-RefusesText tech text (refusal.TooLarge Extent) = ExtendsTooFar tech text
-RefusesText tech text (refusal.Clash a b line) = Clashes tech text a b line.items
+RefusesText tech text (refusal.BadSticks fault line) = IsFaultOf tech text fault × (line.items ≡ stick_line fault)
+RefusesText tech text refusal.NotBuilt = IsNotBuilt tech text
+RefusesText tech text (refusal.TooLarge Items) = ExceedsItems tech text
+RefusesText tech text (refusal.TooLarge Edges) = CellRefuses tech text (refusal.TooLarge Edges)
+RefusesText tech text (refusal.TooLarge Extent) = CellRefuses tech text (refusal.TooLarge Extent)
+RefusesText tech text (refusal.Clash a b line) = CellRefuses tech text (refusal.Clash a b line)
+RefusesText tech text (refusal.Unsatisfiable report) = CellRefuses tech text (refusal.Unsatisfiable report)
 
 -- the output is the canonical text of the design of a text
 pub record IsFormatted (text output : Bytes) : Type 0 where
@@ -136,17 +161,22 @@ pub record IsFormatted (text output : Bytes) : Type 0 where
   pub read : design_of text ≡ Ok design
   pub written : output ≡ canonical design
 
+-- a refusal for the fault of a reading of the design
+abbrev pub RefusesFault : {A : Type 0} → Result A StickFault → Refusal → Type 0
+RefusesFault read refusal.OutOfMemory = Unit {0}
+RefusesFault read refusal.Usage = ⊥
+RefusesFault read (refusal.Unread file) = ⊥
+RefusesFault read (refusal.TooLong file) = ⊥
+RefusesFault read (refusal.BadTech fault line) = ⊥
+RefusesFault read (refusal.BadSticks fault line) = (read ≡ Err fault) × (line.items ≡ stick_line fault)
+RefusesFault read refusal.NotBuilt = ⊥
+RefusesFault read (refusal.TooLarge what) = ⊥
+RefusesFault read (refusal.Clash a b line) = ⊥
+RefusesFault read (refusal.Unsatisfiable report) = ⊥
+
 -- why a text has no canonical form
 abbrev pub RefusesSticks : Bytes → Refusal → Type 0
-RefusesSticks text refusal.OutOfMemory = Unit {0}
-RefusesSticks text refusal.Usage = ⊥
-RefusesSticks text (refusal.Unread file) = ⊥
-RefusesSticks text (refusal.TooLong file) = ⊥
-RefusesSticks text (refusal.BadTech fault line) = ⊥
-RefusesSticks text (refusal.BadSticks fault line) = (design_of text ≡ Err fault) × (line.items ≡ stick_line fault)
-RefusesSticks text refusal.NotInFirstForm = ⊥
-RefusesSticks text (refusal.TooLarge what) = ⊥
-RefusesSticks text (refusal.Clash a b line) = ⊥
+RefusesSticks text r = RefusesFault (design_of text) r
 
 -- A file of the shelf is this technology.
 pub record IsTechnology (files : Files) (name : Bytes) (tech : Tech) : Type 0 where
@@ -192,10 +222,11 @@ RefusesCompact design tech files (refusal.Unread file) = Unit {0}
 RefusesCompact design tech files (refusal.TooLong Technology) = IsLongFile files Technology tech
 RefusesCompact design tech files (refusal.TooLong Design) = IsLongDesign design tech files
 RefusesCompact design tech files (refusal.BadTech fault line) = IsNoTechnology files tech fault line.items
-RefusesCompact design tech files (refusal.BadSticks fault line) = ⊥
-RefusesCompact design tech files refusal.NotInFirstForm = HasCause design tech files refusal.NotInFirstForm
+RefusesCompact design tech files (refusal.BadSticks fault line) = HasCause design tech files (refusal.BadSticks fault line)
+RefusesCompact design tech files refusal.NotBuilt = HasCause design tech files refusal.NotBuilt
 RefusesCompact design tech files (refusal.TooLarge what) = HasCause design tech files (refusal.TooLarge what)
 RefusesCompact design tech files (refusal.Clash a b line) = HasCause design tech files (refusal.Clash a b line)
+RefusesCompact design tech files (refusal.Unsatisfiable report) = HasCause design tech files (refusal.Unsatisfiable report)
 
 -- The output of `fmt`, over the files of the shelf.
 pub record IsFmt (design : Bytes) (files : Files) (output : Bytes) : Type 0 where
@@ -218,9 +249,10 @@ RefusesFmt design files (refusal.TooLong Technology) = ⊥
 RefusesFmt design files (refusal.TooLong Design) = IsLongFile files Design design
 RefusesFmt design files (refusal.BadTech fault line) = ⊥
 RefusesFmt design files (refusal.BadSticks fault line) = HasFault design files (refusal.BadSticks fault line)
-RefusesFmt design files refusal.NotInFirstForm = ⊥
+RefusesFmt design files refusal.NotBuilt = ⊥
 RefusesFmt design files (refusal.TooLarge what) = ⊥
 RefusesFmt design files (refusal.Clash a b line) = ⊥
+RefusesFmt design files (refusal.Unsatisfiable report) = ⊥
 
 -- Why the words are refused: they are no command, or their command is refused.
 abbrev pub RefusesWords : Option Command → Files → Refusal → Type 0
@@ -264,8 +296,9 @@ Writes (status.TooLong file) old new output = Appends old new output
 Writes (status.BadTech fault) old new output = Appends old new output
 Writes (status.BadSticks fault) old new output = Appends old new output
 Writes (status.TooLarge what) old new output = Appends old new output
-Writes status.NotInFirstForm old new output = Appends old new output
+Writes status.NotBuilt old new output = Appends old new output
 Writes (status.Clash cell a b) old new output = Appends old new output
+Writes (status.Unsatisfiable pass) old new output = Appends old new output
 
 -- the report grew by the text, or by a front of it where the report's count of faults rose
 abbrev pub Reports : Option Bytes → Option Bytes → ℕ → ℕ → Bytes → Type 0
@@ -282,8 +315,9 @@ IsUntouched (status.TooLong file) old new = new ≡ old
 IsUntouched (status.BadTech fault) old new = new ≡ old
 IsUntouched (status.BadSticks fault) old new = new ≡ old
 IsUntouched (status.TooLarge what) old new = new ≡ old
-IsUntouched status.NotInFirstForm old new = new ≡ old
+IsUntouched status.NotBuilt old new = new ≡ old
 IsUntouched (status.Clash cell a b) old new = new ≡ old
+IsUntouched (status.Unsatisfiable pass) old new = new ≡ old
 
 -- the call was refused before anything was written
 abbrev pub IsRefused : Status → Type 0

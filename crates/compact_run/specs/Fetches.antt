@@ -36,9 +36,10 @@ FailsToRead told old new file name (refusal.Unread f) = (f ≡ file) × Rose old
 FailsToRead told old new file name (refusal.TooLong f) = (f ≡ file) × ((t : Telling) → told ≡ Some t → IsLongFile t.files file name)
 FailsToRead told old new file name (refusal.BadTech fault line) = ⊥
 FailsToRead told old new file name (refusal.BadSticks fault line) = ⊥
-FailsToRead told old new file name refusal.NotInFirstForm = ⊥
+FailsToRead told old new file name refusal.NotBuilt = ⊥
 FailsToRead told old new file name (refusal.TooLarge what) = ⊥
 FailsToRead told old new file name (refusal.Clash a b line) = ⊥
+FailsToRead told old new file name (refusal.Unsatisfiable report) = ⊥
 
 -- the shelf's files are as they were, and it was asked for the name, unless memory ran out before
 abbrev pub AsksOnce : Type 0 → Option Telling → Option Telling → Bytes → Type 0
@@ -71,9 +72,10 @@ IsUnread command faults_old faults_new old new refusal.Usage = Unit {0}
 IsUnread command faults_old faults_new old new (refusal.TooLong file) = Unit {0}
 IsUnread command faults_old faults_new old new (refusal.BadTech fault line) = Unit {0}
 IsUnread command faults_old faults_new old new (refusal.BadSticks fault line) = Unit {0}
-IsUnread command faults_old faults_new old new refusal.NotInFirstForm = Unit {0}
+IsUnread command faults_old faults_new old new refusal.NotBuilt = Unit {0}
 IsUnread command faults_old faults_new old new (refusal.TooLarge what) = Unit {0}
 IsUnread command faults_old faults_new old new (refusal.Clash a b line) = Unit {0}
+IsUnread command faults_old faults_new old new (refusal.Unsatisfiable report) = Unit {0}
 
 -- A step over one file is refused: where the file was not read, the shelf's count of faults rose. It is never for the words.
 abbrev pub OnUnread : File → ℕ → ℕ → Refusal → Type 0
@@ -83,6 +85,7 @@ OnUnread file faults_old faults_new refusal.Usage = ⊥
 OnUnread file faults_old faults_new (refusal.TooLong f) = Unit {0}
 OnUnread file faults_old faults_new (refusal.BadTech fault line) = Unit {0}
 OnUnread file faults_old faults_new (refusal.BadSticks fault line) = Unit {0}
-OnUnread file faults_old faults_new refusal.NotInFirstForm = Unit {0}
+OnUnread file faults_old faults_new refusal.NotBuilt = Unit {0}
 OnUnread file faults_old faults_new (refusal.TooLarge what) = Unit {0}
 OnUnread file faults_old faults_new (refusal.Clash a b line) = Unit {0}
+OnUnread file faults_old faults_new (refusal.Unsatisfiable report) = Unit {0}

@@ -17,9 +17,10 @@ RefusesTechnology name files (refusal.TooLong Technology) = IsLongFile files Tec
 RefusesTechnology name files (refusal.TooLong Design) = ⊥
 RefusesTechnology name files (refusal.BadTech fault line) = IsNoTechnology files name fault line.items
 RefusesTechnology name files (refusal.BadSticks fault line) = ⊥
-RefusesTechnology name files refusal.NotInFirstForm = ⊥
+RefusesTechnology name files refusal.NotBuilt = ⊥
 RefusesTechnology name files (refusal.TooLarge what) = ⊥
 RefusesTechnology name files (refusal.Clash a b line) = ⊥
+RefusesTechnology name files (refusal.Unsatisfiable report) = ⊥
 
 -- the masks of a file of the shelf under a technology
 pub record WritesMasks (tech : Tech) (name : Bytes) (files : Files) (output : Bytes) : Type 0 where
@@ -42,7 +43,8 @@ RefusesDesign tech name files (refusal.Unread Technology) = ⊥
 RefusesDesign tech name files (refusal.TooLong Design) = IsLongFile files Design name
 RefusesDesign tech name files (refusal.TooLong Technology) = ⊥
 RefusesDesign tech name files (refusal.BadTech fault line) = ⊥
-RefusesDesign tech name files (refusal.BadSticks fault line) = ⊥
-RefusesDesign tech name files refusal.NotInFirstForm = TextRefuses tech name files refusal.NotInFirstForm
+RefusesDesign tech name files (refusal.BadSticks fault line) = TextRefuses tech name files (refusal.BadSticks fault line)
+RefusesDesign tech name files refusal.NotBuilt = TextRefuses tech name files refusal.NotBuilt
 RefusesDesign tech name files (refusal.TooLarge what) = TextRefuses tech name files (refusal.TooLarge what)
 RefusesDesign tech name files (refusal.Clash a b line) = TextRefuses tech name files (refusal.Clash a b line)
+RefusesDesign tech name files (refusal.Unsatisfiable report) = TextRefuses tech name files (refusal.Unsatisfiable report)

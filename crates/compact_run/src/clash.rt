@@ -1,36 +1,36 @@
 //! The line of a clash.
 
-ghost use Rattle.std.specs.Prelude.{◌≡◌, ◌+◌, ◌<◌, ◌++◌, vec_len, OnOk, IfOk};
-ghost use Rattle.compact_run.specs.Sketch.{parts_of};
-ghost use Rattle.compact_run.specs.Masks.{owner_text, clash_text};
+ghost use Rattle.std.specs.Prelude.{◌≡◌, ◌++◌, OnOk, IfOk};
+ghost use Rattle.compact_run.specs.Masks.{part_text, clash_text};
 
-use crate::sketch::Cell;
-use crate::spelling::push_number;
+use crate::digits::push_number;
 use std::alloc::{AllocError, Global};
+use stick_cell::Cell;
 
-// The owner of an item: a node by its name, a wire by its number.
-fn push_owner(out: &mut Vec<u8>, alloc: Global, cell: &Cell, item: u32) -> Result<(), AllocError>
-    ensures { OnOk result (out.new.items ≡ out.old.items ++ owner_text (parts_of cell.now) item) }
+// A part of a cell: a node by the path to it, a wire by its number.
+fn push_part(out: &mut Vec<u8>, alloc: Global, cell: &Cell, part: u32) -> Result<(), AllocError>
+    ensures { OnOk result (out.new.items ≡ out.old.items ++ part_text cell.now part) }
 {
-    match cell.nodes.get(item as usize) {
-        Some(node) => out.extend_from_slice(node.name),
+    let nodes = cell.nodes.as_slice();
+    match nodes.get(part as usize) {
+        Some(node) => out.extend_from_slice(node.name.bytes()),
         None => {
             out.push(b'#')?;
-            push_number(out, alloc, item - cell.nodes.len() as u32)
+            push_number(out, alloc, part - nodes.len() as u32)
         }
     }
 }
 
-/// The line that says which two items clash.
+/// The line that says which two parts of a cell clash.
 pub fn clash_line(alloc: Global, cell: &Cell, a: u32, b: u32) -> Result<Vec<u8>, AllocError>
-    ensures { IfOk result (λ line. line.items ≡ clash_text (parts_of cell.now) a b) }
+    ensures { IfOk result (λ line. line.items ≡ clash_text cell.now a b) }
 {
     let mut out = Vec::from_slice(alloc, b"sticks: clash in ")?;
-    out.extend_from_slice(cell.name)?;
+    out.extend_from_slice(cell.name.bytes())?;
     out.extend_from_slice(b" between ")?;
-    push_owner(&mut out, alloc, cell, a)?;
+    push_part(&mut out, alloc, cell, a)?;
     out.extend_from_slice(b" and ")?;
-    push_owner(&mut out, alloc, cell, b)?;
+    push_part(&mut out, alloc, cell, b)?;
     out.push(b'\n')?;
     Ok(out)
 }

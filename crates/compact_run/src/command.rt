@@ -8,16 +8,16 @@ ghost use Rattle.compact_run.specs.Answers.{CompactsTo, IsFormatted, RefusesText
 ghost use Rattle.compact_run.specs.Steps.{RefusesTechnology, WritesMasks, RefusesDesign};
 
 use crate::compact::compact;
-use crate::fault_lines::{stick_line, tech_line};
+use crate::fault_lines::tech_line;
 use crate::fetch::fetch;
 use crate::output::Output;
+use crate::reading::read_design;
 use crate::refusal::Refusal;
 use crate::status::File;
 use crate::words::{Command, read_words};
 use lam_io::Shelf;
 use rule_table::Tech;
 use std::alloc::Global;
-use stick_parse::{ParseFault, parse};
 use stick_print::print;
 use tech_file::{ReadTechFault, read_tech};
 
@@ -42,6 +42,7 @@ fn technology<S: Shelf>(alloc: Global, shelf: &mut S, name: &str) -> Result<Tech
 
 // The masks of a text: the symbol in one piece, and its call with the end in another.
 fn masks(alloc: Global, tech: &Tech, text: &[u8]) -> Result<Output, Refusal>
+    requires { length text.now ≤ 1048576 }
     ensures done { IfOk result (λ output. CompactsTo tech.now text.now (text_of output)) }
     ensures refused { IfErr result (RefusesText tech.now text.now) }
 {
@@ -92,17 +93,9 @@ fn formatted(alloc: Global, text: &[u8]) -> Result<Output, Refusal>
     ensures done { IfOk result (λ output. IsFormatted text.now (text_of output)) }
     ensures refused { IfErr result (RefusesSticks text.now) }
 {
-    match parse(alloc, text) {
-        Ok(design) => {
-            let first = print(alloc, &design)?;
-            Ok(Output { first, rest: b"" })
-        }
-        Err(ParseFault::Stick(fault)) => {
-            let line = stick_line(alloc, fault)?;
-            Err(Refusal::BadSticks(fault, line))
-        }
-        Err(ParseFault::OutOfMemory) => Err(Refusal::OutOfMemory),
-    }
+    let design = read_design(alloc, text)?;
+    let first = print(alloc, &design)?;
+    Ok(Output { first, rest: b"" })
 }
 
 // What `fmt` writes, or why it writes nothing.

@@ -3,7 +3,7 @@
 ghost use Rattle.std.specs.Prelude.{◌≡◌, ◌++◌, OnOk, IfOk};
 ghost use Rattle.compact_run.specs.FaultLines.{key_of, numbers_words, tech_words, tech_line, kind_word, stick_line};
 
-use crate::spelling::push_number;
+use crate::digits::push_number;
 use rule_table::TechFault;
 use std::alloc::{AllocError, Global};
 use stick_parse::{StickFault, StickKind};

@@ -2,28 +2,20 @@
 // Its one contract for the layer above is that of `run`.
 #![tactic(auto)]
 
+mod built;
 mod clash;
 mod command;
 mod compact;
 mod delivery;
+mod digits;
+mod extent;
 mod fault_lines;
 mod fetch;
-mod first_form;
-mod items;
-mod layout;
-mod least;
 mod masks;
-mod metal;
-mod nets;
 mod output;
-mod reader;
+mod reading;
 mod refusal;
-mod resolve;
-mod sketch;
-mod spacing;
-mod spelling;
 mod status;
-mod system;
 #[cfg(test)]
 mod tests;
 mod top;

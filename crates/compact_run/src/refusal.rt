@@ -1,4 +1,4 @@
-//! Why a command is refused, and the line that says so.
+//! Why a command is refused, and the text that says so.
 
 ghost use Rattle.std.specs.Prelude.{◌≡◌};
 ghost use Rattle.compact_run.specs.declared.refusal.Refusal.TheVariants.{OutOfMemory};
@@ -9,7 +9,7 @@ use std::alloc::{AllocError, AllocFailed};
 use stick_parse::StickFault;
 use tech_file::TechFileFault;
 
-/// Why a command is refused before anything is written. A line that is not the same for all stands beside its cause.
+/// Why a command is refused before anything is written. A text that is not the same for all stands beside its cause.
 #[derive(Debug, Drop)]
 pub enum Refusal {
     /// Memory ran out.
@@ -24,12 +24,14 @@ pub enum Refusal {
     BadTech(TechFileFault, Vec<u8>),
     /// The design's text is no design.
     BadSticks(StickFault, Vec<u8>),
-    /// The design's text is not in the first form.
-    NotInFirstForm,
-    /// The cell is too wide or too high.
+    /// The grid of the design is not built yet.
+    NotBuilt,
+    /// There is too much of something.
     TooLarge(What),
     /// Two items are too near in the start layout.
     Clash(u32, u32, Vec<u8>),
+    /// The inequalities of the first pass have a positive cycle.
+    Unsatisfiable(Vec<u8>),
 }
 
 impl From<AllocError> for Refusal {
@@ -59,13 +61,14 @@ pub fn status(refusal: Refusal) -> Status
         Refusal::TooLong(file) => Status::TooLong(file),
         Refusal::BadTech(fault, _) => Status::BadTech(fault),
         Refusal::BadSticks(fault, _) => Status::BadSticks(fault),
-        Refusal::NotInFirstForm => Status::NotInFirstForm,
+        Refusal::NotBuilt => Status::NotBuilt,
         Refusal::TooLarge(what) => Status::TooLarge(what),
         Refusal::Clash(a, b, _) => Status::Clash { cell: 0, a, b },
+        Refusal::Unsatisfiable(_) => Status::Unsatisfiable { pass: 1 },
     }
 }
 
-/// The line of a refused command.
+/// The text of a refused command: a line, or the lines of a cycle.
 pub fn line(refusal: &Refusal) -> &[u8]
     ensures { result.now ≡ line_of refusal.now }
 {
@@ -78,8 +81,11 @@ pub fn line(refusal: &Refusal) -> &[u8]
         Refusal::TooLong(File::Technology) => b"sticks: too long: technology\n",
         Refusal::BadTech(_, line) => line,
         Refusal::BadSticks(_, line) => line,
-        Refusal::NotInFirstForm => b"sticks: not in the first form\n",
+        Refusal::NotBuilt => b"sticks: not built\n",
+        Refusal::TooLarge(What::Items) => b"sticks: too large: items\n",
+        Refusal::TooLarge(What::Edges) => b"sticks: too large: edges\n",
         Refusal::TooLarge(What::Extent) => b"sticks: too large: extent\n",
         Refusal::Clash(_, _, line) => line,
+        Refusal::Unsatisfiable(text) => text,
     }
 }

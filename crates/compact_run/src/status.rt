@@ -25,6 +25,10 @@ pub enum Side2 {
 /// What there is too much of.
 #[derive(Clone, Copy, Debug, PartialEq, Eq)]
 pub enum What {
+    /// Items of the cell, with its uses inlined.
+    Items,
+    /// Inequalities of the cell's layout.
+    Edges,
     /// The width or the height of the cell.
     Extent,
 }
@@ -48,8 +52,6 @@ pub enum Status {
     BadTech(TechFileFault),
     /// The design's text is no design: its first fault.
     BadSticks(StickFault),
-    /// The design's text is not in the first form.
-    NotInFirstForm,
     /// There is too much of something.
     TooLarge(What),
     /// Two items are too near in the start layout: the least pair, by their numbers among the items of the cell.
@@ -61,6 +63,13 @@ pub enum Status {
         /// The greater item.
         b: u32,
     },
+    /// The inequalities of a pass have a positive cycle.
+    Unsatisfiable {
+        /// The pass, counted from 1.
+        pass: u32,
+    },
+    /// The grid of the design is not built yet.
+    NotBuilt,
 }
 
 impl Status {
@@ -76,9 +85,11 @@ impl Status {
             Status::WriteFault(_) => 4,
             Status::TooLong(_) => 5,
             Status::BadTech(_) => 6,
-            Status::BadSticks(_) | Status::NotInFirstForm => 7,
+            Status::BadSticks(_) => 7,
             Status::TooLarge(_) => 9,
             Status::Clash { .. } => 10,
+            Status::Unsatisfiable { .. } => 11,
+            Status::NotBuilt => 15,
         }
     }
 }

@@ -13,9 +13,9 @@ use crate::status::{Side2, Status};
 use lam_io::{Shelf, Sink};
 use std::alloc::Global;
 
-/// Does what the words say. `compact DESIGN --tech FILE` fetches the technology and then the design, a text in the first
-/// form, and puts the masks of its cell into `out`; `fmt DESIGN` puts the canonical text of a design there. A refusal puts
-/// one line into `report`, and nothing into `out`.
+/// Does what the words say. `compact DESIGN --tech FILE` fetches the technology and then the design, and
+/// puts the masks of the cell that is its grid into `out`; `fmt DESIGN` puts the canonical text of a design there. A refusal puts
+/// its text into `report`, one line or the lines of a cycle, and nothing into `out`.
 pub fn run<'a, S: Shelf, C: Sink, R: Sink>(
     alloc: Global,
     words: &'a [&'a str],

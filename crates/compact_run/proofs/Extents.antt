@@ -1,0 +1,64 @@
+-- A width or height against the most that it may be.
+use Rattle.std.proofs.Common.{◌≡◌, ℕ, suc, ◌*◌, ◌<◌, ◌≤◌, true, false, ℤ, pos, negsuc, ◌⊎◌, inl, inr, sym, ◌∙◌, arith, int_lt}
+use Rattle.std.specs.Prelude.{◌≤ℤ◌, ◌<ℤ◌, ◌||◌, ◌*ℤ◌, ◌/◌, neg_ℤ}
+use Rattle.std.proofs.Math.IntN.{pos-*ℤ-pos, negsuc-*ℤ-pos}
+use Rattle.std.proofs.lemmas.Int.{ints}
+use Rattle.std.proofs.lemmas.Nat.{div_below, le-div}
+use Rattle.std.proofs.lemmas.Bool.{cases_lt}
+
+int_lt_cases : (a b : ℤ) → ((int_lt a b ≡ true) × (a <ℤ b)) ⊎ ((int_lt a b ≡ false) × (b ≤ℤ a))
+int_lt_cases a b = grind (arith, ints)
+
+false_true : false ≡ true → ⊥
+false_true e = cc
+
+-- two tests are equal that say the same
+same_tests : (a b c d : ℤ) → (a <ℤ b → c <ℤ d) → (b ≤ℤ a → d ≤ℤ c) → int_lt a b ≡ int_lt c d
+same_tests a b c d up down = elim (int_lt_cases a b) [
+  | inl (t, lt) ↦ elim (int_lt_cases c d) [
+    | inl (u, _) ↦ t ∙ sym u
+    | inr (_, le) ↦ absurd (let more : c <ℤ d = up lt in omega (arith, ints, more, le))
+  ]
+  | inr (f, le) ↦ elim (int_lt_cases c d) [
+    | inl (_, lt) ↦ absurd (let less : d ≤ℤ c = down le in omega (arith, ints, less, lt))
+    | inr (g, _) ↦ f ∙ sym g
+  ]
+]
+
+-- a number is past a quotient exactly where its product is past the dividend
+pub past_quotient : (n k : ℕ) (l : ℤ) → 0 < k → int_lt (pos (n / k)) l ≡ int_lt (pos n) (l *ℤ pos k)
+past_quotient n k (pos a) some =
+    let product : pos a *ℤ pos k ≡ pos (a * k) = pos-*ℤ-pos a k in
+    same_tests (pos (n / k)) (pos a) (pos n) (pos a *ℤ pos k)
+    (λ lt. rw product (elim (cases_lt n (a * k)) [
+      | inl h ↦ omega (arith, ints, h)
+      | inr h ↦ absurd (let le : a ≤ n / k = le-div a n k some h in omega (arith, ints, le, lt))
+    ]))
+    (λ le. rw product (elim (cases_lt n (a * k)) [
+      | inl h ↦ absurd (let lt : n / k < a = div_below n k a some h in omega (arith, ints, lt, le))
+      | inr h ↦ omega (arith, ints, h)
+    ]))
+past_quotient n k (negsuc a) some =
+    let product : negsuc a *ℤ pos k ≡ neg_ℤ (pos (suc a * k)) = negsuc-*ℤ-pos a k in
+    same_tests (pos (n / k)) (negsuc a) (pos n) (negsuc a *ℤ pos k)
+    (λ lt. absurd (omega (arith, ints, lt)))
+    (λ le. rw product (omega (arith, ints)))
+
+-- none of two numbers is above the most, or one is
+pub none_above : (most a b : ℤ) → (int_lt most a || int_lt most b) ≡ false → (a ≤ℤ most) × (b ≤ℤ most)
+none_above most a b h = elim (int_lt_cases most a) [
+  | inl (t, _) ↦ absurd (false_true (sym (rw t at h)))
+  | inr (f, le) ↦ elim (int_lt_cases most b) [
+    | inl (t, _) ↦ absurd (false_true (sym (rw (f, t) at h)))
+    | inr (_, le') ↦ (le, le')
+  ]
+]
+
+pub some_above : (most a b : ℤ) → (int_lt most a || int_lt most b) ≡ true → (most <ℤ a) ⊎ (most <ℤ b)
+some_above most a b h = elim (int_lt_cases most a) [
+  | inl (_, lt) ↦ inl lt
+  | inr (f, _) ↦ elim (int_lt_cases most b) [
+    | inl (_, lt) ↦ inr lt
+    | inr (g, _) ↦ absurd (false_true (rw (f, g) at h))
+  ]
+]
