@@ -1,11 +1,13 @@
 #!/usr/bin/env python3
 """Times `compact` and `fmt` on generated designs of growing size: compact.py [PROGRAM]
 
-Each design is one cell of metal at the limit of 1,000 lines or a fraction of it:
+Each design is one cell of metal:
   row     joints side by side, so that every two of them face each other (the most inequalities)
   ladder  columns tied by a wire, with single joints between them in turns
   chain   one column of joints whose wires are listed from the top, and a row beside it
   grid    joints on a square grid
+  uses    rows of joints, doubled by uses inside uses up to nearly 65,536 items; all pairs of items are looked at
+  names   13,000 wires between two joints that lie sixteen uses deep
   text    `fmt` of a design of up to 1,048,576 bytes
 """
 import os, subprocess, sys, tempfile, time
@@ -44,6 +46,22 @@ def grid(n):
     return ["joint j%d_%d metal %d %d" % (i, j, i, j) for i in range(side) for j in range(side)]
 
 
+def uses(levels, columns):
+    cells = ["cell u0\n" + "".join("joint j%d metal %d 0\n" % (i, i) for i in range(columns)) + "end\n"]
+    for k in range(1, levels + 1):
+        cells.append("cell u%d\nuse a u%d 0 0\nuse b u%d 0 %d\nend\n" % (k, k - 1, k - 1, 2 ** (k - 1)))
+    return "sticks 1\n" + "".join(cells) + "grid\nrow u%d\nend\n" % levels
+
+
+def names(wires):
+    cells = ["cell u0\njoint p metal 0 0\njoint q metal 1 0\nend\n"]
+    for k in range(1, 15):
+        cells.append("cell u%d\nuse a u%d 0 0\nend\n" % (k, k - 1))
+    path = "a." * 15
+    cells.append("cell t\nuse a u14 0 0\n" + ("wire metal %sp %sq\n" % (path, path)) * wires + "end\n")
+    return "sticks 1\n" + "".join(cells) + "grid\nrow t\nend\n"
+
+
 def run(name, size, words):
     begin = time.time()
     status = subprocess.run([PROGRAM] + words, stdout=subprocess.DEVNULL).returncode
@@ -61,10 +79,17 @@ def main():
     with tempfile.TemporaryDirectory() as folder:
         path = os.path.join(folder, "d")
         for name, make in (("row", row), ("ladder", ladder), ("chain", chain), ("grid", grid)):
-            for n in (250, 500, 1000):
+            for n in (250, 500, 1000, 2000):
                 with open(path, "w") as f:
                     f.write(design(make(n)))
                 run(name, "%d lines" % n, ["compact", path, "--tech", TECH])
+        for levels, columns in ((6, 14), (8, 14), (10, 14), (12, 14)):
+            with open(path, "w") as f:
+                f.write(uses(levels, columns))
+            run("uses", "%d items" % (columns << levels), ["compact", path, "--tech", TECH])
+        with open(path, "w") as f:
+            f.write(names(13000))
+        run("names", "13000", ["compact", path, "--tech", TECH])
         for k in (16, 18, 20):
             with open(path, "w") as f:
                 f.write(text(2 ** k))
