@@ -194,6 +194,25 @@ fn limits_are_kept(rt: HostRuntime) -> Result<(), Fail> {
             report: "pass 1 x unsatisfiable length 8\nt:a -> t:b 12 space\nt:b -> t:a -4 limit\n",
             ..COMPACT
         },
+        // A million to the right makes the cell wide: at 9 and 1,000,009.
+        Case {
+            text: "sticks 1\ncell t\njoint a metal 0 0\njoint b metal 1 0\nlimit x a b >= 1000000\nend\ngrid\nrow t\nend\n",
+            output: "DS 1 75 1;\n9 t;\nL NM;\nB 12 12 18 24;\nB 12 12 2000018 24;\nDF;\nC 1 T 0 0;\nE\n",
+            ..COMPACT
+        },
+        // A million to the left of what has to stand on its right.
+        Case {
+            text: "sticks 1\ncell t\njoint a metal 0 0\njoint b metal 1 0\nlimit x a b <= -1000000\nend\ngrid\nrow t\nend\n",
+            code: 11,
+            report: "pass 1 x unsatisfiable length 1000012\nt:a -> t:b 12 space\nt:b -> t:a 1000000 limit\n",
+            ..COMPACT
+        },
+        // Limits one after the other, the first inside a use: at 9, 24 and 54.
+        Case {
+            text: "sticks 1\ncell s\njoint p metal 0 0\njoint q metal 1 0\nlimit x p q >= 15\nend\ncell t\nuse u s 0 0\njoint r metal 2 0\nlimit x u.q r >= 30\nend\ngrid\nrow t\nend\n",
+            output: "DS 1 75 1;\n9 t;\nL NM;\nB 12 12 18 24;\nB 12 12 48 24;\nB 12 12 108 24;\nDF;\nC 1 T 0 0;\nE\n",
+            ..COMPACT
+        },
     ];
     expect(&rt, rt.alloc(), &cases)
 }
