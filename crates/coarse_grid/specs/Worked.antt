@@ -53,7 +53,7 @@ long_transistor = cell_of (node (fet true (pos 4) (pos 12)) 3 0 ∷ []) [] []
 abbrev pub empty : Cell
 empty = cell_of [] [] []
 
--- a metal wire from side to side, in the row 2
+-- a metal wire from side to side, on its third row
 abbrev pub port : Side → Port
 port side = record { name = []; side = side; layer = Metal; place = 2; wire = 0 }
 

@@ -116,7 +116,7 @@ fn joints(alloc: Global) -> Result<Cell, AllocError>
     )
 }
 
-// A metal wire from side to side, in the row 2.
+// A metal wire from side to side, on its third row.
 fn side_to_side(alloc: Global) -> Result<Cell, AllocError>
     ensures { IfOk result (λ cell. cell ≡ worked.side_to_side) }
 {

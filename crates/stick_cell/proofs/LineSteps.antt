@@ -133,7 +133,7 @@ and_true : (b : Bool) → (b && true) ≡ b
 and_true true = refl
 and_true false = refl
 
--- a port's place stands for a column, with row 0
+-- a port's place is tested as a column is, and the row beside it is the first
 pub port-by : (known : Known) (name : List ℕ) (side : Side) (layer : DrawnLayer) (place : ℕ) (r : Result (Unit {0}) StickKind)
     → placed known.names name place 0 ≡ r
     → after_port known name side layer place ≡ (r >>= (λ _. Ok (with_port known name side (layer_of layer) place)))
