@@ -15,6 +15,6 @@ mod pairs;
 mod tests;
 
 pub use bound::is_bound;
-pub use candidates::facing;
+pub use candidates::{facing, facing_spacing};
 pub use laws::stays_clean;
-pub use pairs::{Pair, all_pairs};
+pub use pairs::{Pair, all_pairs, push_pairs_to};

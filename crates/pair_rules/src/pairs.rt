@@ -18,8 +18,8 @@ pub struct Pair {
     pub s: i64,
 }
 
-// Adds the candidates that end at item `j`, in order of `i`.
-fn push_pairs_to(
+/// Adds the candidates of an axis that end at item `j`, in order of `i`. It looks at each item.
+pub fn push_pairs_to(
     pairs: &mut Vec<Pair>,
     axis: Axis,
     tech: &Tech,
