@@ -1,0 +1,10 @@
+use Rattle.std.proofs.Common.{sym, ◌∙◌, arith}
+use Rattle.std.proofs.lemmas.Int.{ints}
+use Rattle.pair_rules.specs.Bound.{item_at}
+use Rattle.shadow_prune.proofs.Spacings.{facing_bounds}
+use Rattle.shadow_prune.proofs.keeping.is_shadowed_by.Goals as goal
+
+pub reaches-requires-clause-before : goal.reaches-requires-clause-before
+reaches-requires-clause-before c =
+    let bounds = facing_bounds c.args.axis c.args.tech.now c.args.coords.now (item_at c.args.items.now c.args.pair.i) (item_at c.args.items.now c.args.behind.i) c.in-Some.before (sym c.facing_spacing.ensures ∙ c.in-Some.is) in
+    (omega (arith, ints, bounds), omega (arith, ints, bounds))

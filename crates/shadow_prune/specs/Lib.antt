@@ -1,0 +1,3 @@
+pub mod KeptFaults
+pub mod Pruning
+pub mod Near

@@ -1,0 +1,197 @@
+//! The kept pairs of a layout.
+
+ghost use Rattle.std.specs.Prelude.{◌≡◌, ◌<◌, ◌≤◌, ◌^◌, ◌+◌, ◌++◌, pos, ◌≤ℤ◌, ◌+ℤ◌, int_le, Some, length, filter, All, OnOk, IfOk, IfErr};
+ghost use Rattle.std.specs.List.{list_any, Contains};
+ghost use Rattle.sym_items.specs.Boxes.{HasBox};
+ghost use Rattle.sym_items.specs.Transposed.{item_along};
+ghost use Rattle.pair_rules.specs.Candidates.{spacing_at, item_numbers, candidates_to};
+ghost use Rattle.pair_rules.specs.Clean.{IsClean};
+ghost use Rattle.pair_rules.specs.Kept.{least_of, reaches, shadows, is_constant, is_kept, kept_of};
+ghost use Rattle.shadow_prune.specs.declared.keeping.KeptFault.TheVariants.{OutOfMemory};
+ghost use Rattle.shadow_prune.specs.KeptFaults.{RefusesKept};
+ghost use Rattle.shadow_prune.specs.Near.{EndsIn, AreAllNear};
+
+use lam_geom::Axis;
+use pair_rules::{Pair, facing_spacing, push_pairs_to};
+use rule_table::Tech;
+use std::alloc::{AllocError, AllocFailed, Global};
+use sym_items::{Coords, Item};
+use thiserror::Error;
+
+/// Why there is no list of kept pairs.
+#[derive(Debug, Drop, Error)]
+pub enum KeptFault {
+    /// There are more kept pairs than the limit.
+    #[error("too many kept pairs")]
+    TooMany,
+    #[error("out of memory")]
+    OutOfMemory,
+}
+
+impl From<AllocError> for KeptFault {
+    ghost from_gives = { λ _ fault. fault ≡ OutOfMemory };
+
+    fn from(_error: AllocError) -> KeptFault {
+        KeptFault::OutOfMemory
+    }
+}
+
+impl<T: Drop> From<AllocFailed<T>> for KeptFault {
+    ghost from_gives = { λ _ fault. fault ≡ OutOfMemory };
+
+    fn from(_failed: AllocFailed<T>) -> KeptFault {
+        KeptFault::OutOfMemory
+    }
+}
+
+// The least extent of an item along an axis.
+fn least(axis: Axis, item: &Item) -> i64
+    ensures { result ≡ (item_along axis item.now).least_x }
+{
+    match axis {
+        Axis::X => item.least_x,
+        Axis::Y => item.least_y,
+    }
+}
+
+// Whether a spacing, an extent and a second spacing together are at least the third. No extent makes a sum that wraps.
+fn reaches(s: i64, before: i64, least: i64, after: i64) -> bool
+    requires s { (pos 1 ≤ℤ s) × (s ≤ℤ pos 4096) }
+    requires before { (pos 1 ≤ℤ before) × (before ≤ℤ pos 4096) }
+    requires after { (pos 1 ≤ℤ after) × (after ≤ℤ pos 4096) }
+    ensures { result ≡ int_le s ((before +ℤ least) +ℤ after) }
+{
+    s - before - after <= least
+}
+
+// Whether the item k of a candidate (k, j) shadows the candidate (i, j).
+fn is_shadowed_by(
+    axis: Axis,
+    tech: &Tech,
+    items: &[Item],
+    coords: &Coords,
+    pair: Pair,
+    behind: Pair,
+) -> bool
+    requires boxes { All (HasBox coords.now) items.now }
+    requires pair_among { pair.i < length items.now }
+    requires pair_spacing { (pos 1 ≤ℤ pair.s) × (pair.s ≤ℤ pos 4096) }
+    requires behind_among { behind.i < length items.now }
+    requires behind_spacing { (pos 1 ≤ℤ behind.s) × (behind.s ≤ℤ pos 4096) }
+    ensures { result ≡ reaches pair.s (spacing_at axis tech.now coords.now items.now pair.i behind.i) (least_of axis items.now behind.i) (Some behind.s) }
+{
+    let between = &items[behind.i as usize];
+    match facing_spacing(axis, tech, coords, &items[pair.i as usize], between) {
+        Some(before) => reaches(pair.s, before, least(axis, between), behind.s),
+        None => false,
+    }
+}
+
+// Whether some item shadows a candidate, by all candidates that end where it ends. It begins with the last of them: in a
+// design that is drawn from left to right an item that shadows is then found at once.
+fn is_shadowed(
+    axis: Axis,
+    tech: &Tech,
+    items: &[Item],
+    coords: &Coords,
+    pair: Pair,
+    near: &[Pair],
+) -> bool
+    requires boxes { All (HasBox coords.now) items.now }
+    requires near { near.now ≡ candidates_to axis tech.now coords.now items.now pair.j }
+    requires among { Contains near.now pair }
+    ensures { result ≡ list_any (shadows axis tech.now coords.now items.now pair) (item_numbers items.now) }
+{
+    for behind in near.iter().rev() {
+        if is_shadowed_by(axis, tech, items, coords, pair, *behind) {
+            return true;
+        }
+    }
+    false
+}
+
+// Whether the ends of a pair lie on one variable.
+fn is_constant(axis: Axis, items: &[Item], pair: Pair) -> bool
+    requires i_among { pair.i < length items.now }
+    requires j_among { pair.j < length items.now }
+    ensures { result ≡ is_constant axis items.now pair }
+{
+    let first = &items[pair.i as usize];
+    let second = &items[pair.j as usize];
+    match axis {
+        Axis::X => first.xh.var == second.xl.var,
+        Axis::Y => first.yh.var == second.yl.var,
+    }
+}
+
+// Whether a candidate is kept, by all candidates that end where it ends.
+fn is_kept(
+    axis: Axis,
+    tech: &Tech,
+    items: &[Item],
+    coords: &Coords,
+    pair: Pair,
+    near: &[Pair],
+) -> bool
+    requires boxes { All (HasBox coords.now) items.now }
+    requires near { EndsIn axis tech.now coords.now items.now near.now pair }
+    requires among { Contains near.now pair }
+    ensures { result ≡ is_kept axis tech.now coords.now items.now pair }
+{
+    !is_constant(axis, items, pair) && !is_shadowed(axis, tech, items, coords, pair, near)
+}
+
+// Adds the kept pairs among all candidates that end at an item, if there is room for them.
+fn push_kept(
+    kept: &mut Vec<Pair>,
+    limit: u32,
+    axis: Axis,
+    tech: &Tech,
+    items: &[Item],
+    coords: &Coords,
+    near: &[Pair],
+) -> Result<(), KeptFault>
+    requires boxes { All (HasBox coords.now) items.now }
+    requires near { AreAllNear axis tech.now coords.now items.now near.now }
+    requires room { length kept.old.items ≤ limit }
+    ensures pushed { OnOk result (kept.new.items ≡ kept.old.items ++ filter (is_kept axis tech.now coords.now items.now) near.now) }
+    ensures few { OnOk result (length kept.new.items ≤ limit) }
+    ensures fault { IfErr result (RefusesKept limit (length kept.old.items + length (filter (is_kept axis tech.now coords.now items.now) near.now))) }
+{
+    for pair in near {
+        if is_kept(axis, tech, items, coords, *pair, near) {
+            if kept.len() >= limit as usize {
+                return Err(KeptFault::TooMany);
+            }
+            kept.push(*pair)?;
+        }
+    }
+    Ok(())
+}
+
+/// The kept pairs of an axis in a clean layout, in order of (j, i), if there are at most `limit`. It looks at each pair of
+/// items, and for each candidate at the other candidates that end where it ends.
+pub fn kept(
+    alloc: Global,
+    axis: Axis,
+    tech: &Tech,
+    items: &[Item],
+    coords: &Coords,
+    limit: u32,
+) -> Result<Vec<Pair>, KeptFault>
+    requires few { length items.now < 2 ^ 32 }
+    requires boxes { All (HasBox coords.now) items.now }
+    requires clean { IsClean tech.now coords.now items.now }
+    ensures value { IfOk result (λ pairs. pairs.items ≡ kept_of axis tech.now coords.now items.now) }
+    ensures few { IfOk result (λ pairs. length pairs.items ≤ limit) }
+    ensures fault { IfErr result (RefusesKept limit (length (kept_of axis tech.now coords.now items.now))) }
+{
+    let mut kept = Vec::new(alloc);
+    let mut near = Vec::new(alloc);
+    for j in 0..items.len() as u32 {
+        near.clear();
+        push_pairs_to(&mut near, axis, tech, items, coords, j)?;
+        push_kept(&mut kept, limit, axis, tech, items, coords, near.as_slice())?;
+    }
+    Ok(kept)
+}

@@ -1,0 +1,13 @@
+//! Pruning loses nothing.
+
+ghost use Rattle.shadow_prune.specs.Pruning.{LosesNothing};
+
+use lam_geom::Axis;
+use rule_table::Tech;
+use sym_items::{Coords, Item};
+
+/// A law, with nothing to run: in a layout that gives each item a box, values that give each item its least extent on an
+/// axis and keep its kept pairs apart keep all its candidates apart.
+pub fn pruning_loses_nothing(axis: Axis, tech: &Tech, items: &[Item], coords: &Coords)
+    ensures { LosesNothing axis tech.now coords.now items.now }
+{}
