@@ -50,7 +50,8 @@ fit_laid tech cell nets pitch extent k s c lt =
       high = all_at (λ (wire : Wire). half wire.width ≤ℤ extent) cell.wires no_wire k c.wires lt;
     }) lt
 
-items_laid : (tech : Tech) (cell : Cell) (nets : Nets) → IsSound tech cell → AllByRecursion (IsLaid cell (pitch_of tech cell) (half_extent_of tech cell)) (item_list tech cell nets)
+-- each item of a cell is laid in the start layout within what its part reaches
+pub items_laid : (tech : Tech) (cell : Cell) (nets : Nets) → IsSound tech cell → AllByRecursion (IsLaid cell (pitch_of tech cell) (half_extent_of tech cell)) (item_list tech cell nets)
 unfolding item_list
 items_laid tech cell nets s =
     let P : Item → Type 0 = IsLaid cell (pitch_of tech cell) (half_extent_of tech cell) in

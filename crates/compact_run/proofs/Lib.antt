@@ -1,5 +1,5 @@
 pub mod Puts
 pub mod Endings
 pub mod Extents
-pub mod Counting
+pub mod Compactions
 pub mod Steps

@@ -1,5 +1,7 @@
 -- What the program answers: the status, the output and the report, from the words of the command line and the files that they name.
 use Rattle.std.specs.Prelude.{◌≡◌, ℕ, ◌^◌, ◌<◌, ◌≤◌, pos, ◌*ℤ◌, ◌≤ℤ◌, ◌<ℤ◌, ◌⊎◌, ℤ, Option, Some, None, Result, Ok, Err, List, [], ◌++◌, length, codes}
+use Rattle.lam_geom.specs.declared.boxes.Axis.{Axis}
+use Rattle.sym_items.specs.declared.items.Coords.{Coords}
 use Rattle.lam_io.specs.Io.{Bytes, Files, Appends, AppendsPrefix, Rose}
 use Rattle.rule_table.specs.declared.technology.Tech.{Tech}
 use Rattle.rule_table.specs.Technology.{numbers_of}
@@ -28,7 +30,14 @@ use Rattle.expand.specs.Items.{item_list}
 use Rattle.pair_rules.specs.Bound.{item_at}
 use Rattle.coarse_grid.specs.Start.{start_of}
 use Rattle.coarse_grid.specs.Clash.{IsFirstClash}
-use Rattle.pass_run.specs.System.{IsLeastLayout, IsWellPlaced, HasManyEdges, IsUnsatisfiable, placed}
+use Rattle.pair_rules.specs.Clean.{IsClean}
+use Rattle.pass_run.specs.declared.step.Step.{Step}
+use Rattle.pass_run.specs.declared.passes.PassFault.{PassFault}
+use Rattle.pass_run.specs.declared.passes.PassFault.TheVariants as stop
+use Rattle.pass_run.specs.Passes.{layout_after, ArePasses, axes_of}
+use Rattle.pass_run.specs.Report.{report_of}
+use Rattle.pass_run.specs.Theorems.{IsWellPlaced, AreSound}
+use Rattle.pass_run.specs.PassFaults.{RefusesPasses}
 use Rattle.mask_out.specs.Masks.{masks_in}
 use Rattle.compact_run.specs.Built.{built_cell}
 use Rattle.compact_run.specs.Masks.{cif_text, clash_text}
@@ -65,33 +74,53 @@ IsWithinExtent tech length = (length *ℤ unit_of tech) ≤ℤ pos (2 ^ 30)
 abbrev pub IsPastExtent : Tech → ℤ → Type 0
 IsPastExtent tech length = pos (2 ^ 30) <ℤ (length *ℤ unit_of tech)
 
--- the height of a cell: that of its start layout
-abbrev pub height_of : Tech → Cell → ℤ
-height_of tech cell = value_of (start_of tech cell).y 1
+-- Nets of a cell, and the start layout is clean.
+pub record IsReady (tech : Tech) (cell : Cell) (nets : Nets) : Type 0 where
+  pub are_nets : AreNets cell nets
+  pub clean : IsClean tech (start_of tech cell) (item_list tech cell nets)
 
--- The masks of a cell: those of its least layout, which is not too large. Theorems of the layout say that each item has a box in it that
--- is as long as it has to be, and that all bound items keep their spacing.
-pub record IsCompaction (tech : Tech) (cell : Cell) (output : Bytes) : Type 0 where
+-- The passes of a cell on these axes, from its start layout on: each gives its axis the least values that any solution of its system has.
+pub record ArePassesOn (tech : Tech) (cell : Cell) (nets : Nets) (axes : List Axis) (steps : List Step) : Type 0 where
+  pub ready : IsReady tech cell nets
+  pub on_axes : axes_of steps ≡ axes
+  pub passes : ArePasses tech cell (item_list tech cell nets) (start_of tech cell) steps
+
+-- the layout that they leave
+abbrev pub last_layout : Tech → Cell → List Step → Coords
+last_layout tech cell steps = layout_after (start_of tech cell) steps
+
+-- The masks of a cell and the report: those of its passes, whose last layout is not too large. Theorems say that the walks of each pass are
+-- critical paths, that no pass on an axis that has had one makes a value grow, and that after each pass every item has a box that is as
+-- long as it has to be, and all bound items keep their spacing.
+pub record IsCompaction (tech : Tech) (cell : Cell) (axes : List Axis) (output report : Bytes) : Type 0 where
   pub nets : Nets
-  pub x : List ℤ
-  pub layout : IsLeastLayout tech cell nets x
-  pub well_placed : IsWellPlaced tech (placed tech cell x) (item_list tech cell nets)
-  pub width : IsWithinExtent tech (value_of x 1)
-  pub height : IsWithinExtent tech (height_of tech cell)
-  pub written : output ≡ cif_text (unit_of tech) cell.name (masks_in (placed tech cell x) (item_list tech cell nets))
+  pub steps : List Step
+  pub made : ArePassesOn tech cell nets axes steps
+  pub sound : AreSound tech cell (item_list tech cell nets) [] (start_of tech cell) steps
+  pub well_placed : IsWellPlaced tech (last_layout tech cell steps) (item_list tech cell nets) axes
+  pub width : IsWithinExtent tech (value_of (last_layout tech cell steps).x 1)
+  pub height : IsWithinExtent tech (value_of (last_layout tech cell steps).y 1)
+  pub written : output ≡ cif_text (unit_of tech) cell.name (masks_in (last_layout tech cell steps) (item_list tech cell nets))
+  pub reported : report ≡ report_of tech cell (item_list tech cell nets) (start_of tech cell) steps
 
 -- The masks of the cell of a text.
-pub record CompactsTo (tech : Tech) (text output : Bytes) : Type 0 where
+pub record CompactsTo (tech : Tech) (axes : List Axis) (text output report : Bytes) : Type 0 where
   pub cell : Cell
   pub read : IsCellOf tech text cell
-  pub compaction : IsCompaction tech cell output
+  pub compaction : IsCompaction tech cell axes output report
 
--- The least layout of a cell is too large: too wide or too high.
-pub record HasLargeExtent (tech : Tech) (cell : Cell) : Type 0 where
+-- The last layout of a cell is too large: too wide or too high.
+pub record HasLargeExtent (tech : Tech) (cell : Cell) (axes : List Axis) : Type 0 where
   pub nets : Nets
-  pub x : List ℤ
-  pub layout : IsLeastLayout tech cell nets x
-  pub past : IsPastExtent tech (value_of x 1) ⊎ IsPastExtent tech (height_of tech cell)
+  pub steps : List Step
+  pub made : ArePassesOn tech cell nets axes steps
+  pub past : IsPastExtent tech (value_of (last_layout tech cell steps).x 1) ⊎ IsPastExtent tech (value_of (last_layout tech cell steps).y 1)
+
+-- A pass is the first that is refused, for this cause.
+pub record IsStopped (tech : Tech) (cell : Cell) (axes : List Axis) (cause : PassFault) : Type 0 where
+  pub nets : Nets
+  pub ready : IsReady tech cell nets
+  pub why : RefusesPasses tech cell (item_list tech cell nets) axes cause
 
 -- The first pair of items that clashes in the start layout of a cell, and the line that names their owners.
 pub record HasClash (tech : Tech) (cell : Cell) (a b : ℕ) (line : Bytes) : Type 0 where
@@ -101,25 +130,25 @@ pub record HasClash (tech : Tech) (cell : Cell) (a b : ℕ) (line : Bytes) : Typ
   pub says : line ≡ clash_text cell (item_at (item_list tech cell nets) a).owner (item_at (item_list tech cell nets) b).owner
 
 -- why a cell has no masks
-abbrev pub RefusesCell : Tech → Cell → Refusal → Type 0
-RefusesCell tech cell refusal.OutOfMemory = Unit {0}
-RefusesCell tech cell refusal.Usage = ⊥
-RefusesCell tech cell (refusal.Unread file) = ⊥
-RefusesCell tech cell (refusal.TooLong file) = ⊥
-RefusesCell tech cell (refusal.BadTech fault line) = ⊥
-RefusesCell tech cell (refusal.BadSticks fault line) = ⊥
-RefusesCell tech cell refusal.NotBuilt = ⊥
-RefusesCell tech cell (refusal.TooLarge Items) = ⊥
-RefusesCell tech cell (refusal.TooLarge Edges) = HasManyEdges tech cell
-RefusesCell tech cell (refusal.TooLarge Extent) = HasLargeExtent tech cell
-RefusesCell tech cell (refusal.Clash a b line) = HasClash tech cell a b line.items
-RefusesCell tech cell (refusal.Unsatisfiable text) = IsUnsatisfiable tech cell text.items
+abbrev pub RefusesCell : Tech → Cell → List Axis → Refusal → Type 0
+RefusesCell tech cell axes refusal.OutOfMemory = Unit {0}
+RefusesCell tech cell axes refusal.Usage = ⊥
+RefusesCell tech cell axes (refusal.Unread file) = ⊥
+RefusesCell tech cell axes (refusal.TooLong file) = ⊥
+RefusesCell tech cell axes (refusal.BadTech fault line) = ⊥
+RefusesCell tech cell axes (refusal.BadSticks fault line) = ⊥
+RefusesCell tech cell axes refusal.NotBuilt = ⊥
+RefusesCell tech cell axes (refusal.TooLarge Items) = ⊥
+RefusesCell tech cell axes (refusal.TooLarge Edges) = (pass : ℕ) × IsStopped tech cell axes (stop.TooManyEdges pass)
+RefusesCell tech cell axes (refusal.TooLarge Extent) = HasLargeExtent tech cell axes
+RefusesCell tech cell axes (refusal.Clash a b line) = HasClash tech cell a b line.items
+RefusesCell tech cell axes (refusal.Unsatisfiable pass report) = IsStopped tech cell axes (stop.Unsatisfiable pass report)
 
 -- The cell of a text has no masks for this cause.
-pub record CellRefuses (tech : Tech) (text : Bytes) (r : Refusal) : Type 0 where
+pub record CellRefuses (tech : Tech) (axes : List Axis) (text : Bytes) (r : Refusal) : Type 0 where
   pub cell : Cell
   pub read : IsCellOf tech text cell
-  pub cause : RefusesCell tech cell r
+  pub cause : RefusesCell tech cell axes r
 
 -- The cell of a text has too many items.
 pub record ExceedsItems (tech : Tech) (text : Bytes) : Type 0 where
@@ -141,19 +170,19 @@ pub data IsFaultOf (tech : Tech) (text : Bytes) (fault : StickFault) : Type 0 wh
   of_names : (design : Sticks) → design_of text ≡ Ok design → known_cells tech design.cells ≡ Err fault → IsFaultOf tech text fault
 
 -- why a text has no masks
-abbrev pub RefusesText : Tech → Bytes → Refusal → Type 0
-RefusesText tech text refusal.OutOfMemory = Unit {0}
-RefusesText tech text refusal.Usage = ⊥
-RefusesText tech text (refusal.Unread file) = ⊥
-RefusesText tech text (refusal.TooLong file) = ⊥
-RefusesText tech text (refusal.BadTech fault line) = ⊥
-RefusesText tech text (refusal.BadSticks fault line) = IsFaultOf tech text fault × (line.items ≡ stick_line fault)
-RefusesText tech text refusal.NotBuilt = IsNotBuilt tech text
-RefusesText tech text (refusal.TooLarge Items) = ExceedsItems tech text
-RefusesText tech text (refusal.TooLarge Edges) = CellRefuses tech text (refusal.TooLarge Edges)
-RefusesText tech text (refusal.TooLarge Extent) = CellRefuses tech text (refusal.TooLarge Extent)
-RefusesText tech text (refusal.Clash a b line) = CellRefuses tech text (refusal.Clash a b line)
-RefusesText tech text (refusal.Unsatisfiable report) = CellRefuses tech text (refusal.Unsatisfiable report)
+abbrev pub RefusesText : Tech → List Axis → Bytes → Refusal → Type 0
+RefusesText tech axes text refusal.OutOfMemory = Unit {0}
+RefusesText tech axes text refusal.Usage = ⊥
+RefusesText tech axes text (refusal.Unread file) = ⊥
+RefusesText tech axes text (refusal.TooLong file) = ⊥
+RefusesText tech axes text (refusal.BadTech fault line) = ⊥
+RefusesText tech axes text (refusal.BadSticks fault line) = IsFaultOf tech text fault × (line.items ≡ stick_line fault)
+RefusesText tech axes text refusal.NotBuilt = IsNotBuilt tech text
+RefusesText tech axes text (refusal.TooLarge Items) = ExceedsItems tech text
+RefusesText tech axes text (refusal.TooLarge Edges) = CellRefuses tech axes text (refusal.TooLarge Edges)
+RefusesText tech axes text (refusal.TooLarge Extent) = CellRefuses tech axes text (refusal.TooLarge Extent)
+RefusesText tech axes text (refusal.Clash a b line) = CellRefuses tech axes text (refusal.Clash a b line)
+RefusesText tech axes text (refusal.Unsatisfiable pass report) = CellRefuses tech axes text (refusal.Unsatisfiable pass report)
 
 -- the output is the canonical text of the design of a text
 pub record IsFormatted (text output : Bytes) : Type 0 where
@@ -172,7 +201,7 @@ RefusesFault read (refusal.BadSticks fault line) = (read ≡ Err fault) × (line
 RefusesFault read refusal.NotBuilt = ⊥
 RefusesFault read (refusal.TooLarge what) = ⊥
 RefusesFault read (refusal.Clash a b line) = ⊥
-RefusesFault read (refusal.Unsatisfiable report) = ⊥
+RefusesFault read (refusal.Unsatisfiable pass report) = ⊥
 
 -- why a text has no canonical form
 abbrev pub RefusesSticks : Bytes → Refusal → Type 0
@@ -191,21 +220,29 @@ pub record IsNoTechnology (files : Files) (name : Bytes) (fault : TechFileFault)
   pub read : technology_of text ≡ Err fault
   pub says : line ≡ tech_line fault
 
--- The output of `compact`, over the files of the shelf.
-pub record IsCompacted (design tech : Bytes) (files : Files) (output : Bytes) : Type 0 where
+-- The masks and the report of a file of the shelf under a technology.
+pub record WritesMasks (tech : Tech) (axes : List Axis) (name : Bytes) (files : Files) (output report : Bytes) : Type 0 where
+  pub text : Bytes
+  pub file : HasFile files Design name text
+  pub masks : CompactsTo tech axes text output report
+
+-- The cause of a refusal that the text of a file has under a technology.
+pub record TextRefuses (tech : Tech) (axes : List Axis) (name : Bytes) (files : Files) (r : Refusal) : Type 0 where
+  pub text : Bytes
+  pub file : HasFile files Design name text
+  pub cause : RefusesText tech axes text r
+
+-- The output and the report of `compact`, over the files of the shelf.
+pub record IsCompacted (design tech : Bytes) (axes : List Axis) (files : Files) (output report : Bytes) : Type 0 where
   pub technology : Tech
   pub is_technology : IsTechnology files tech technology
-  pub text : Bytes
-  pub file : HasFile files Design design text
-  pub masks : CompactsTo technology text output
+  pub writes : WritesMasks technology axes design files output report
 
 -- The cause of a refusal that the design has under the technology.
-pub record HasCause (design tech : Bytes) (files : Files) (r : Refusal) : Type 0 where
+pub record HasCause (design tech : Bytes) (axes : List Axis) (files : Files) (r : Refusal) : Type 0 where
   pub technology : Tech
   pub is_technology : IsTechnology files tech technology
-  pub text : Bytes
-  pub file : HasFile files Design design text
-  pub cause : RefusesText technology text r
+  pub refuses : TextRefuses technology axes design files r
 
 -- The design is too long, and the technology is one.
 pub record IsLongDesign (design tech : Bytes) (files : Files) : Type 0 where
@@ -215,18 +252,18 @@ pub record IsLongDesign (design tech : Bytes) (files : Files) : Type 0 where
 
 -- Why `compact` is refused. That a file is not read or that memory runs out may come whatever the files are: clauses of their own say
 -- when.
-abbrev pub RefusesCompact : Bytes → Bytes → Files → Refusal → Type 0
-RefusesCompact design tech files refusal.OutOfMemory = Unit {0}
-RefusesCompact design tech files refusal.Usage = ⊥
-RefusesCompact design tech files (refusal.Unread file) = Unit {0}
-RefusesCompact design tech files (refusal.TooLong Technology) = IsLongFile files Technology tech
-RefusesCompact design tech files (refusal.TooLong Design) = IsLongDesign design tech files
-RefusesCompact design tech files (refusal.BadTech fault line) = IsNoTechnology files tech fault line.items
-RefusesCompact design tech files (refusal.BadSticks fault line) = HasCause design tech files (refusal.BadSticks fault line)
-RefusesCompact design tech files refusal.NotBuilt = HasCause design tech files refusal.NotBuilt
-RefusesCompact design tech files (refusal.TooLarge what) = HasCause design tech files (refusal.TooLarge what)
-RefusesCompact design tech files (refusal.Clash a b line) = HasCause design tech files (refusal.Clash a b line)
-RefusesCompact design tech files (refusal.Unsatisfiable report) = HasCause design tech files (refusal.Unsatisfiable report)
+abbrev pub RefusesCompact : Bytes → Bytes → List Axis → Files → Refusal → Type 0
+RefusesCompact design tech axes files refusal.OutOfMemory = Unit {0}
+RefusesCompact design tech axes files refusal.Usage = ⊥
+RefusesCompact design tech axes files (refusal.Unread file) = Unit {0}
+RefusesCompact design tech axes files (refusal.TooLong Technology) = IsLongFile files Technology tech
+RefusesCompact design tech axes files (refusal.TooLong Design) = IsLongDesign design tech files
+RefusesCompact design tech axes files (refusal.BadTech fault line) = IsNoTechnology files tech fault line.items
+RefusesCompact design tech axes files (refusal.BadSticks fault line) = HasCause design tech axes files (refusal.BadSticks fault line)
+RefusesCompact design tech axes files refusal.NotBuilt = HasCause design tech axes files refusal.NotBuilt
+RefusesCompact design tech axes files (refusal.TooLarge what) = HasCause design tech axes files (refusal.TooLarge what)
+RefusesCompact design tech axes files (refusal.Clash a b line) = HasCause design tech axes files (refusal.Clash a b line)
+RefusesCompact design tech axes files (refusal.Unsatisfiable pass report) = HasCause design tech axes files (refusal.Unsatisfiable pass report)
 
 -- The output of `fmt`, over the files of the shelf.
 pub record IsFmt (design : Bytes) (files : Files) (output : Bytes) : Type 0 where
@@ -252,19 +289,19 @@ RefusesFmt design files (refusal.BadSticks fault line) = HasFault design files (
 RefusesFmt design files refusal.NotBuilt = ⊥
 RefusesFmt design files (refusal.TooLarge what) = ⊥
 RefusesFmt design files (refusal.Clash a b line) = ⊥
-RefusesFmt design files (refusal.Unsatisfiable report) = ⊥
+RefusesFmt design files (refusal.Unsatisfiable pass report) = ⊥
 
 -- Why the words are refused: they are no command, or their command is refused.
 abbrev pub RefusesWords : Option Command → Files → Refusal → Type 0
 RefusesWords None files r = r ≡ refusal.Usage
-RefusesWords (Some (compact design tech)) files r = RefusesCompact design tech files r
+RefusesWords (Some (compact design tech axes)) files r = RefusesCompact design tech axes files r
 RefusesWords (Some (fmt design)) files r = RefusesFmt design files r
 
--- what the words write
-abbrev pub WordsWrite : Option Command → Files → Bytes → Type 0
-WordsWrite None files output = ⊥
-WordsWrite (Some (compact design tech)) files output = IsCompacted design tech files output
-WordsWrite (Some (fmt design)) files output = IsFmt design files output
+-- what the words write into the output and into the report
+abbrev pub WordsWrite : Option Command → Files → Bytes → Bytes → Type 0
+WordsWrite None files output report = ⊥
+WordsWrite (Some (compact design tech axes)) files output report = IsCompacted design tech axes files output report
+WordsWrite (Some (fmt design)) files output report = IsFmt design files output × (report ≡ [])
 
 -- the text that an output holds in two pieces
 abbrev pub text_of : Output → Bytes
@@ -272,7 +309,7 @@ text_of output = output.first.items ++ output.rest.now
 
 -- The answer to the words before anything is written: an output, or a refusal.
 abbrev pub IsGiven : Option Command → Files → Result Output Refusal → Type 0
-IsGiven command files (Ok output) = WordsWrite command files (text_of output)
+IsGiven command files (Ok output) = WordsWrite command files (text_of output) output.report
 IsGiven command files (Err r) = RefusesWords command files r
 
 abbrev pub write_fault_line : Bytes
@@ -281,13 +318,15 @@ write_fault_line = codes "sticks: cannot write output\n"
 -- The answer to the words, over these files: the status, the whole output and the whole report.
 abbrev pub IsAnswer : List Bytes → Files → Status → Bytes → Bytes → Type 0
 IsAnswer words files ended output report =
-    ((ended ≡ status.Done) × WordsWrite (command_of words) files output × (report ≡ []))
-    ⊎ (((ended ≡ status.WriteFault side.Output) × WordsWrite (command_of words) files output × (report ≡ write_fault_line))
-    ⊎ ((r : Refusal) × (ended ≡ status_of r) × RefusesWords (command_of words) files r × (output ≡ []) × (report ≡ line_of r)))
+    ((ended ≡ status.Done) × WordsWrite (command_of words) files output report)
+    ⊎ (((ended ≡ status.WriteFault side.Output) × ((told : Bytes) × WordsWrite (command_of words) files output told) × (report ≡ write_fault_line))
+    ⊎ (((ended ≡ status.WriteFault side.Report) × WordsWrite (command_of words) files output report)
+    ⊎ ((r : Refusal) × (ended ≡ status_of r) × RefusesWords (command_of words) files r × (output ≡ []) × (report ≡ line_of r))))
 
 -- the output grew by the whole text, or by a front of it where its put failed
 abbrev pub Writes : Status → Option Bytes → Option Bytes → Bytes → Type 0
-Writes (status.WriteFault file) old new output = AppendsPrefix old new output
+Writes (status.WriteFault side.Output) old new output = AppendsPrefix old new output
+Writes (status.WriteFault side.Report) old new output = Appends old new output
 Writes status.Done old new output = Appends old new output
 Writes status.OutOfMemory old new output = Appends old new output
 Writes status.Usage old new output = Appends old new output
@@ -303,6 +342,23 @@ Writes (status.Unsatisfiable pass) old new output = Appends old new output
 -- the report grew by the text, or by a front of it where the report's count of faults rose
 abbrev pub Reports : Option Bytes → Option Bytes → ℕ → ℕ → Bytes → Type 0
 Reports old new faults_old faults_new text = Appends old new text ⊎ (AppendsPrefix old new text × Rose faults_old faults_new)
+
+-- The report grew by the whole text of a command that was done, and by a front of it where its put failed. The line of a refusal may fail
+-- without a change of the status.
+abbrev pub Tells : Status → Option Bytes → Option Bytes → ℕ → ℕ → Bytes → Type 0
+Tells status.Done old new faults_old faults_new text = Appends old new text
+Tells (status.WriteFault side.Report) old new faults_old faults_new text = AppendsPrefix old new text × Rose faults_old faults_new
+Tells (status.WriteFault side.Output) old new faults_old faults_new text = Reports old new faults_old faults_new text
+Tells status.OutOfMemory old new faults_old faults_new text = Reports old new faults_old faults_new text
+Tells status.Usage old new faults_old faults_new text = Reports old new faults_old faults_new text
+Tells (status.ReadFault file) old new faults_old faults_new text = Reports old new faults_old faults_new text
+Tells (status.TooLong file) old new faults_old faults_new text = Reports old new faults_old faults_new text
+Tells (status.BadTech fault) old new faults_old faults_new text = Reports old new faults_old faults_new text
+Tells (status.BadSticks fault) old new faults_old faults_new text = Reports old new faults_old faults_new text
+Tells (status.TooLarge what) old new faults_old faults_new text = Reports old new faults_old faults_new text
+Tells status.NotBuilt old new faults_old faults_new text = Reports old new faults_old faults_new text
+Tells (status.Clash cell a b) old new faults_old faults_new text = Reports old new faults_old faults_new text
+Tells (status.Unsatisfiable pass) old new faults_old faults_new text = Reports old new faults_old faults_new text
 
 -- the output's sink is as it was, unless its put was tried
 abbrev pub IsUntouched : {A : Type 0} → Status → A → A → Type 0

@@ -39,7 +39,7 @@ FailsToRead told old new file name (refusal.BadSticks fault line) = ⊥
 FailsToRead told old new file name refusal.NotBuilt = ⊥
 FailsToRead told old new file name (refusal.TooLarge what) = ⊥
 FailsToRead told old new file name (refusal.Clash a b line) = ⊥
-FailsToRead told old new file name (refusal.Unsatisfiable report) = ⊥
+FailsToRead told old new file name (refusal.Unsatisfiable pass report) = ⊥
 
 -- the shelf's files are as they were, and it was asked for the name, unless memory ran out before
 abbrev pub AsksOnce : Type 0 → Option Telling → Option Telling → Bytes → Type 0
@@ -59,8 +59,8 @@ AsksForFiles stopped (Some command) old new = AsksInOrder stopped (files_of comm
 -- the files of a command were asked for, up to this one and no further
 abbrev pub AsksThrough : Option Command → File → Option Telling → Option Telling → Type 0
 AsksThrough None file old new = ⊥
-AsksThrough (Some (compact design tech)) Technology old new = Asks old new tech
-AsksThrough (Some (compact design tech)) Design old new = (between : Option Telling) × Asks old between tech × Asks between new design
+AsksThrough (Some (compact design tech axes)) Technology old new = Asks old new tech
+AsksThrough (Some (compact design tech axes)) Design old new = (between : Option Telling) × Asks old between tech × Asks between new design
 AsksThrough (Some (fmt design)) Technology old new = ⊥
 AsksThrough (Some (fmt design)) Design old new = Asks old new design
 
@@ -75,7 +75,7 @@ IsUnread command faults_old faults_new old new (refusal.BadSticks fault line) = 
 IsUnread command faults_old faults_new old new refusal.NotBuilt = Unit {0}
 IsUnread command faults_old faults_new old new (refusal.TooLarge what) = Unit {0}
 IsUnread command faults_old faults_new old new (refusal.Clash a b line) = Unit {0}
-IsUnread command faults_old faults_new old new (refusal.Unsatisfiable report) = Unit {0}
+IsUnread command faults_old faults_new old new (refusal.Unsatisfiable pass report) = Unit {0}
 
 -- A step over one file is refused: where the file was not read, the shelf's count of faults rose. It is never for the words.
 abbrev pub OnUnread : File → ℕ → ℕ → Refusal → Type 0
@@ -88,4 +88,4 @@ OnUnread file faults_old faults_new (refusal.BadSticks fault line) = Unit {0}
 OnUnread file faults_old faults_new refusal.NotBuilt = Unit {0}
 OnUnread file faults_old faults_new (refusal.TooLarge what) = Unit {0}
 OnUnread file faults_old faults_new (refusal.Clash a b line) = Unit {0}
-OnUnread file faults_old faults_new (refusal.Unsatisfiable report) = Unit {0}
+OnUnread file faults_old faults_new (refusal.Unsatisfiable pass report) = Unit {0}

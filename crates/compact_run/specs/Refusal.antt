@@ -1,4 +1,4 @@
--- The status of a refused command, and the text that says so: a line, or the lines of a cycle.
+-- The status of a refused command, and the text that says so: a line, or the passes before a cycle and the cycle.
 use Rattle.std.specs.Prelude.{ℕ, List, codes}
 use Rattle.compact_run.specs.declared.refusal.Refusal.{Refusal}
 use Rattle.compact_run.specs.declared.refusal.Refusal.TheVariants as refusal
@@ -18,7 +18,7 @@ status_of (refusal.BadSticks fault line) = status.BadSticks fault
 status_of refusal.NotBuilt = status.NotBuilt
 status_of (refusal.TooLarge what) = status.TooLarge what
 status_of (refusal.Clash a b line) = status.Clash 0 a b
-status_of (refusal.Unsatisfiable text) = status.Unsatisfiable 1
+status_of (refusal.Unsatisfiable pass report) = status.Unsatisfiable pass
 
 abbrev pub read_fault_line : File → List ℕ
 read_fault_line Design = codes "sticks: cannot read design\n"
@@ -40,4 +40,4 @@ line_of (refusal.TooLarge Items) = codes "sticks: too large: items\n"
 line_of (refusal.TooLarge Edges) = codes "sticks: too large: edges\n"
 line_of (refusal.TooLarge Extent) = codes "sticks: too large: extent\n"
 line_of (refusal.Clash a b line) = line.items
-line_of (refusal.Unsatisfiable text) = text.items
+line_of (refusal.Unsatisfiable pass report) = report

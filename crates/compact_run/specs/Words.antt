@@ -1,9 +1,12 @@
 -- The words of the command line.
-use Rattle.std.specs.Prelude.{ℕ, Bool, false, not, ◌&&◌, ◌==◌, List, [], ◌∷◌, Option, Some, None, codes, bytes_eq, if◌then◌else◌}
+use Rattle.std.specs.Prelude.{ℕ, Bool, false, not, ◌&&◌, ◌||◌, ◌==◌, nat_le, List, [], ◌∷◌, length, map, Option, Some, None, codes, bytes_eq, if◌then◌else◌}
+use Rattle.std.specs.List.{list_any, list_all}
+use Rattle.lam_geom.specs.declared.boxes.Axis.{Axis}
+use Rattle.lam_geom.specs.declared.boxes.Axis.TheVariants.{X, Y}
 
--- a command: `compact DESIGN --tech FILE` with the names of the two files, or `fmt DESIGN`
+-- a command: `compact DESIGN --tech FILE` with the names of the two files and the axes of the passes, or `fmt DESIGN`
 pub data Command : Type 0 where
-  compact : List ℕ → List ℕ → Command
+  compact : List ℕ → List ℕ → List Axis → Command
   fmt : List ℕ → Command
 
 abbrev pub begins_with_dash : List ℕ → Bool
@@ -14,10 +17,35 @@ begins_with_dash (b ∷ bs) = b == 45
 abbrev pub is_file_name : List ℕ → Bool
 is_file_name name = not (begins_with_dash name)
 
+-- a list of passes: one to sixteen letters x and y, with both of them
+abbrev pub is_x : ℕ → Bool
+is_x b = b == 120
+
+abbrev pub is_y : ℕ → Bool
+is_y b = b == 121
+
+abbrev pub is_pass_list : List ℕ → Bool
+is_pass_list list = nat_le (length list) 16 && (list_all (λ b. is_x b || is_y b) list && (list_any is_x list && list_any is_y list))
+
+-- the axes of its letters
+abbrev pub axis_of : ℕ → Axis
+axis_of b = if is_x b then X else Y
+
+abbrev pub axes_in : List ℕ → List Axis
+axes_in list = map axis_of list
+
+-- `compact` with this list of passes
+abbrev pub compact_with : List ℕ → List ℕ → List ℕ → List ℕ → Option Command
+compact_with design option tech list =
+    if bytes_eq option (codes "--tech") && (is_file_name design && is_file_name tech) then Some (compact design tech (axes_in list)) else None
+
+-- without a list there is one pass on x, and then one on y
 abbrev pub compact_of : List (List ℕ) → Option Command
-compact_of (design ∷ option ∷ tech ∷ []) =
-    if bytes_eq option (codes "--tech") && (is_file_name design && is_file_name tech) then Some (compact design tech) else None
-compact_of (design ∷ option ∷ tech ∷ other ∷ others) = None
+compact_of (design ∷ option ∷ tech ∷ []) = compact_with design option tech (codes "xy")
+compact_of (design ∷ option ∷ tech ∷ passes ∷ list ∷ []) =
+    if bytes_eq passes (codes "--passes") && is_pass_list list then compact_with design option tech list else None
+compact_of (design ∷ option ∷ tech ∷ passes ∷ list ∷ other ∷ others) = None
+compact_of (design ∷ option ∷ tech ∷ passes ∷ []) = None
 compact_of (design ∷ option ∷ []) = None
 compact_of (design ∷ []) = None
 compact_of [] = None
@@ -35,5 +63,5 @@ command_of (word ∷ words) =
 
 -- the files of a command, in the order in which they are fetched
 abbrev pub files_of : Command → List (List ℕ)
-files_of (compact design tech) = tech ∷ design ∷ []
+files_of (compact design tech axes) = tech ∷ design ∷ []
 files_of (fmt design) = design ∷ []

@@ -1,53 +1,52 @@
 //! The compaction of a cell: from its text to the text of its masks.
 
-ghost use Rattle.std.specs.Prelude.{◌≡◌, ◌++◌, ◌≤◌, length, IfOk, IfErr};
+ghost use Rattle.std.specs.Prelude.{◌≡◌, ◌≤◌, List, length, IfOk, IfErr};
+ghost use Rattle.lam_geom.specs.declared.boxes.Axis.{Axis as SomeAxis};
 ghost use Rattle.stick_cell.specs.Sound.{IsSound, IsLight};
 ghost use Rattle.stick_cell.specs.Netting.{AreNets};
 ghost use Rattle.expand.specs.Items.{items_of};
 ghost use Rattle.coarse_grid.specs.Start.{start_of};
-ghost use Rattle.pass_run.specs.System.{IsReady, IsLeastLayout, IsWellPlaced, placed};
-ghost use Rattle.compact_run.specs.Masks.{call_text};
-ghost use Rattle.compact_run.specs.Answers.{IsCompaction, CompactsTo, RefusesCell, RefusesText};
+ghost use Rattle.compact_run.specs.Answers.{IsReady, IsCompaction, CompactsTo, RefusesCell, RefusesText, text_of};
 
 use crate::built::built_cell;
 use crate::clash::clash_line;
 use crate::extent::is_too_large;
-use crate::masks::text_of;
+use crate::masks::text_of as text_of_masks;
+use crate::output::Output;
 use crate::reading::{read_cells, read_design};
 use crate::refusal::Refusal;
 use crate::status::What;
 use coarse_grid::{find_clash, start, start_gives_boxes};
 use expand::{Master, items_of};
-use lam_list::Seq;
-use pass_run::{PassFault, least_x};
+use lam_geom::Axis;
+use pass_run::{PassFault, run_passes};
 use rule_table::Tech;
 use std::alloc::Global;
 use stick_cell::{Cell, Nets, nets};
-use sym_items::{Coords, Items};
+use sym_items::Items;
 
 /// The greatest weight of a cell that is laid out: its items and the uses in it.
 const MAX_ITEMS: u64 = 65_536;
 
-// Sees that the start layout of a cell is clean.
+// Sees that the start layout of a cell is clean, whatever passes follow.
 fn judge_start(
     alloc: Global,
     tech: &Tech,
     cell: &Cell,
     nets: &Nets,
     items: &Items,
-    start: &Coords,
 ) -> Result<(), Refusal>
     requires sound { IsSound tech.now cell.now }
     requires light { IsLight cell.now }
     requires nets { AreNets cell.now nets.now }
     requires items { items.now ≡ items_of tech.now cell.now nets.now }
-    requires start { start.now ≡ start_of tech.now cell.now }
     ensures ready { IfOk result (λ done. IsReady tech.now cell.now nets.now) }
-    ensures refused { IfErr result (RefusesCell tech.now cell.now) }
+    ensures refused { IfErr result (λ r. (axes : List SomeAxis) → RefusesCell tech.now cell.now axes r) }
 {
+    let start = start(alloc, tech, cell)?;
     start_gives_boxes(tech, cell, nets);
     let list = items.list.as_slice();
-    match find_clash(tech, list, start) {
+    match find_clash(tech, list, &start) {
         None => Ok(()),
         Some((a, b)) => {
             let line = clash_line(alloc, cell, list[a as usize].owner, list[b as usize].owner)?;
@@ -56,62 +55,45 @@ fn judge_start(
     }
 }
 
-// The least x of every variable of a cell whose start layout is clean.
-fn place(
-    alloc: Global,
-    tech: &Tech,
-    cell: &Cell,
-    nets: &Nets,
-    items: &Items,
-    start: &Coords,
-) -> Result<Vec<i64>, Refusal>
-    requires sound { IsSound tech.now cell.now }
-    requires light { IsLight cell.now }
-    requires ready { IsReady tech.now cell.now nets.now }
-    requires items { items.now ≡ items_of tech.now cell.now nets.now }
-    requires start { start.now ≡ start_of tech.now cell.now }
-    ensures least { IfOk result (λ x. IsLeastLayout tech.now cell.now nets.now x.items) }
-    ensures placed { IfOk result (λ x. IsWellPlaced tech.now (placed tech.now cell.now x.items) items.now.list) }
-    ensures refused { IfErr result (RefusesCell tech.now cell.now) }
-{
-    let _nets = nets;
-    match least_x(alloc, tech, cell, items, start) {
-        Ok(x) => Ok(x),
-        Err(PassFault::TooManyEdges) => Err(Refusal::TooLarge(What::Edges)),
-        Err(PassFault::Unsatisfiable(text)) => Err(Refusal::Unsatisfiable(text)),
-        Err(PassFault::OutOfMemory) => Err(Refusal::OutOfMemory),
-    }
-}
-
-// The symbol of a cell whose uses are inlined.
-fn compact_cell(alloc: Global, tech: &Tech, cell: Cell) -> Result<Vec<u8>, Refusal>
+// The masks of a cell whose uses are inlined, by passes on these axes, and the report of the passes.
+fn compact_cell(alloc: Global, tech: &Tech, cell: Cell, axes: &[Axis]) -> Result<Output, Refusal>
     requires sound { IsSound tech.now cell }
     requires light { IsLight cell }
-    ensures done { IfOk result (λ symbol. IsCompaction tech.now cell (symbol.items ++ call_text)) }
-    ensures refused { IfErr result (RefusesCell tech.now cell) }
+    requires few { length axes.now ≤ 16 }
+    ensures done { IfOk result (λ output. IsCompaction tech.now cell axes.now (text_of output) output.report) }
+    ensures refused { IfErr result (RefusesCell tech.now cell axes.now) }
 {
     let nets = nets(alloc, &cell)?;
     let items = items_of(alloc, tech, &cell, &nets)?;
-    let start = start(alloc, tech, &cell)?;
-    judge_start(alloc, tech, &cell, &nets, &items, &start)?;
-    let x = place(alloc, tech, &cell, &nets, &items, &start)?;
-    if is_too_large(tech, &x, start.y.as_slice()) {
+    judge_start(alloc, tech, &cell, &nets, &items)?;
+    let master = Master { cell, items };
+    let passes = match run_passes(alloc, tech, &master, axes) {
+        Ok(passes) => passes,
+        Err(PassFault::TooManyEdges { pass: _ }) => return Err(Refusal::TooLarge(What::Edges)),
+        Err(PassFault::Unsatisfiable { pass, report }) => {
+            return Err(Refusal::Unsatisfiable(pass, report));
+        }
+        Err(PassFault::OutOfMemory) => return Err(Refusal::OutOfMemory),
+    };
+    let layout = &passes.coords.as_slice()[0];
+    if is_too_large(tech, layout) {
         return Err(Refusal::TooLarge(What::Extent));
     }
-    let master = Master { cell, items };
-    let layout = Coords {
-        x: Seq::from_vec(x),
-        y: start.y,
-    };
-    let text = text_of(alloc, tech, &master, &layout)?;
-    Ok(text)
+    let first = text_of_masks(alloc, tech, &master, layout)?;
+    Ok(Output {
+        first,
+        rest: b"C 1 T 0 0;\nE\n",
+        report: passes.report,
+    })
 }
 
-/// The symbol of the cell that is the grid of a text's design, by the numbers of a technology.
-pub fn compact(alloc: Global, tech: &Tech, text: &[u8]) -> Result<Vec<u8>, Refusal>
-    requires { length text.now ≤ 1048576 }
-    ensures done { IfOk result (λ symbol. CompactsTo tech.now text.now (symbol.items ++ call_text)) }
-    ensures refused { IfErr result (RefusesText tech.now text.now) }
+/// The masks of the cell that is the grid of a text's design, by the numbers of a technology and passes on these axes, and
+/// the report of the passes. The masks are the symbol in one piece, and its call with the end in another.
+pub fn compact(alloc: Global, tech: &Tech, text: &[u8], axes: &[Axis]) -> Result<Output, Refusal>
+    requires short { length text.now ≤ 1048576 }
+    requires few { length axes.now ≤ 16 }
+    ensures done { IfOk result (λ output. CompactsTo tech.now axes.now text.now (text_of output) output.report) }
+    ensures refused { IfErr result (RefusesText tech.now axes.now text.now) }
 {
     let design = read_design(alloc, text)?;
     let cells = read_cells(alloc, tech, &design)?;
@@ -122,7 +104,7 @@ pub fn compact(alloc: Global, tech: &Tech, text: &[u8]) -> Result<Vec<u8>, Refus
                 return Err(Refusal::TooLarge(What::Items));
             }
             let cell = cells.inline(alloc, number)?;
-            compact_cell(alloc, tech, cell)
+            compact_cell(alloc, tech, cell, axes)
         }
     }
 }

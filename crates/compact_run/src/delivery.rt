@@ -29,19 +29,24 @@ fn put_both<C: Sink>(out: &mut C, output: &Output) -> Result<(), PutFault>
     out.put(output.rest)
 }
 
-/// Writes the output of a command.
+/// Writes the output of a command, and then its report.
 pub fn write<C: Sink, R: Sink>(out: &mut C, report: &mut R, output: &Output) -> Status
-    ensures answer { (result ≡ Status.Done) ⊎ (result ≡ Status.WriteFault Side2.Output) }
-    ensures done { result ≡ Status.Done → Appends (C.told out.old) (C.told out.new) (text_of output.now) }
-    ensures silent { result ≡ Status.Done → report.new ≡ report.old }
+    ensures answer { (result ≡ Status.Done) ⊎ ((result ≡ Status.WriteFault Side2.Output) ⊎ (result ≡ Status.WriteFault Side2.Report)) }
+    ensures written { (result ≡ Status.WriteFault Side2.Output → ⊥) → Appends (C.told out.old) (C.told out.new) (text_of output.now) }
+    ensures told { result ≡ Status.Done → Appends (R.told report.old) (R.told report.new) output.now.report }
     ensures prefix { result ≡ Status.WriteFault Side2.Output → AppendsPrefix (C.told out.old) (C.told out.new) (text_of output.now) }
     ensures fault { result ≡ Status.WriteFault Side2.Output → Rose (C.faults out.old) (C.faults out.new) }
     ensures line { result ≡ Status.WriteFault Side2.Output → Reports (R.told report.old) (R.told report.new) (R.faults report.old) (R.faults report.new) write_fault_line }
+    ensures report_prefix { result ≡ Status.WriteFault Side2.Report → AppendsPrefix (R.told report.old) (R.told report.new) output.now.report }
+    ensures report_fault { result ≡ Status.WriteFault Side2.Report → Rose (R.faults report.old) (R.faults report.new) }
     ensures counts { C.faults out.old ≤ C.faults out.new }
     ensures report_counts { R.faults report.old ≤ R.faults report.new }
 {
     match put_both(out, output) {
-        Ok(()) => Status::Done,
+        Ok(()) => match report.put(output.report.bytes()) {
+            Ok(()) => Status::Done,
+            Err(_) => Status::WriteFault(Side2::Report),
+        },
         Err(_) => {
             tell(report, b"sticks: cannot write output\n");
             Status::WriteFault(Side2::Output)

@@ -6,6 +6,7 @@ ghost use Rattle.compact_run.specs.Refusal.{status_of, line_of};
 
 use crate::status::{File, Status, What};
 use std::alloc::{AllocError, AllocFailed};
+use stick_lex::Text;
 use stick_parse::StickFault;
 use tech_file::TechFileFault;
 
@@ -30,8 +31,8 @@ pub enum Refusal {
     TooLarge(What),
     /// Two items are too near in the start layout.
     Clash(u32, u32, Vec<u8>),
-    /// The inequalities of the first pass have a positive cycle.
-    Unsatisfiable(Vec<u8>),
+    /// The inequalities of a pass, counted from 1, have a positive cycle. The text has the passes before it, and the cycle.
+    Unsatisfiable(u32, Text),
 }
 
 impl From<AllocError> for Refusal {
@@ -64,11 +65,11 @@ pub fn status(refusal: Refusal) -> Status
         Refusal::NotBuilt => Status::NotBuilt,
         Refusal::TooLarge(what) => Status::TooLarge(what),
         Refusal::Clash(a, b, _) => Status::Clash { cell: 0, a, b },
-        Refusal::Unsatisfiable(_) => Status::Unsatisfiable { pass: 1 },
+        Refusal::Unsatisfiable(pass, _) => Status::Unsatisfiable { pass },
     }
 }
 
-/// The text of a refused command: a line, or the lines of a cycle.
+/// The text of a refused command: a line, or the passes before a cycle and the cycle.
 pub fn line(refusal: &Refusal) -> &[u8]
     ensures { result.now ≡ line_of refusal.now }
 {
@@ -86,6 +87,6 @@ pub fn line(refusal: &Refusal) -> &[u8]
         Refusal::TooLarge(What::Edges) => b"sticks: too large: edges\n",
         Refusal::TooLarge(What::Extent) => b"sticks: too large: extent\n",
         Refusal::Clash(_, _, line) => line,
-        Refusal::Unsatisfiable(text) => text,
+        Refusal::Unsatisfiable(_, report) => report.bytes(),
     }
 }

@@ -20,6 +20,8 @@ pub enum File {
 pub enum Side2 {
     /// The masks, or the text of a design.
     Output,
+    /// What is told of the passes, or of a refusal.
+    Report,
 }
 
 /// What there is too much of.
@@ -36,7 +38,7 @@ pub enum What {
 /// How a call ended.
 #[derive(Debug, Drop)]
 pub enum Status {
-    /// The whole output was written.
+    /// The whole output was written, and then the whole report.
     Done,
     /// Memory ran out. This may come at any call.
     OutOfMemory,

@@ -1,4 +1,6 @@
-//! Answers of the top call, whole, with a shelf and sinks in memory.
+//! Answers of the top call, whole, with a shelf and sinks in memory: refusals, and `fmt`.
+
+mod passes;
 
 use crate::{Status, run};
 use lam_io::{FailPlan, MemShelf, MemSink};
@@ -26,10 +28,6 @@ const SHIPPED: &str =
 const WIDE: &str =
     "version = 1\nunit = 150\n[width]\ndiffusion = 4\npoly = 4\nmetal = 8\n[spacing]\ndiffusion = 6\npoly = 4\nmetal = 6\npoly_diffusion = 2\ncut = 4\ncut_channel = 4\nimplant_channel = 3\n[extension]\npoly = 4\ndiffusion = 4\nimplant = 3\n[cut]\nsize = 4\nenclosure = 2\n";
 
-// Metal 4096 apart.
-const FAR: &str =
-    "version = 1\nunit = 150\n[width]\ndiffusion = 4\npoly = 4\nmetal = 6\n[spacing]\ndiffusion = 6\npoly = 4\nmetal = 4096\npoly_diffusion = 2\ncut = 4\ncut_channel = 4\nimplant_channel = 3\n[extension]\npoly = 4\ndiffusion = 4\nimplant = 3\n[cut]\nsize = 4\nenclosure = 2\n";
-
 const COMPACT: Case = Case {
     words: &["compact", "d", "--tech", "t"],
     tech: SHIPPED,
@@ -41,6 +39,14 @@ const COMPACT: Case = Case {
     report: "",
 };
 
+// The words are no command.
+const USAGE: Case = Case {
+    text: UPRIGHT,
+    code: 2,
+    report: "sticks: usage\n",
+    ..COMPACT
+};
+
 const UPRIGHT: &str =
     "sticks 1\ncell a\njoint p metal 0 0\njoint q metal 0 1\nwire metal p q\nend\ngrid\nrow a\nend\n";
 
@@ -49,8 +55,8 @@ fn answer(alloc: Global, case: &Case) -> Result<(Status, MemSink, MemSink), Allo
     let mut shelf = MemShelf::new(alloc, FailPlan::none(alloc));
     shelf.add("t", case.tech.as_bytes())?;
     shelf.add("d", case.text.as_bytes())?;
-    let mut out = MemSink::new(alloc, 1000, FailPlan::new(alloc, case.output_faults)?)?;
-    let mut report = MemSink::new(alloc, 1000, FailPlan::new(alloc, case.report_faults)?)?;
+    let mut out = MemSink::new(alloc, 4000, FailPlan::new(alloc, case.output_faults)?)?;
+    let mut report = MemSink::new(alloc, 4000, FailPlan::new(alloc, case.report_faults)?)?;
     let status = run(alloc, case.words, &mut shelf, &mut out, &mut report);
     Ok((status, out, report))
 }
@@ -64,157 +70,6 @@ fn expect(rt: &impl Abort, alloc: Global, cases: &[Case]) -> Result<(), Fail> {
         assert_eq!(rt; report.bytes(), case.report.as_bytes(), "{}", case.text);
     }
     Ok(())
-}
-
-#[test]
-fn masks_are_written(rt: HostRuntime) -> Result<(), Fail> {
-    let cases = [
-        // A wire up a column.
-        Case {
-            text: UPRIGHT,
-            output: "DS 1 75 1;\n9 a;\nL NM;\nB 12 12 18 24;\nB 12 12 18 48;\nB 12 36 18 36;\nDF;\nC 1 T 0 0;\nE\n",
-            ..COMPACT
-        },
-        // Three joints in a row.
-        Case {
-            text: "sticks 1\ncell t\njoint a metal 0 0\njoint b metal 1 0\njoint c metal 2 0\nend\ngrid\nrow t\nend\n",
-            output: "DS 1 75 1;\n9 t;\nL NM;\nB 12 12 18 24;\nB 12 12 42 24;\nB 12 12 66 24;\nDF;\nC 1 T 0 0;\nE\n",
-            ..COMPACT
-        },
-        // The free column between two joints goes: they stand at 9 and 21.
-        Case {
-            text: "sticks 1\ncell t\njoint a metal 0 0\njoint b metal 2 0\nend\ngrid\nrow t\nend\n",
-            output: "DS 1 75 1;\n9 t;\nL NM;\nB 12 12 18 24;\nB 12 12 42 24;\nDF;\nC 1 T 0 0;\nE\n",
-            ..COMPACT
-        },
-        // A cell without boxes.
-        Case {
-            text: "sticks 1\ncell e\nend\ngrid\nrow e\nend\n",
-            output: "DS 1 75 1;\n9 e;\nDF;\nC 1 T 0 0;\nE\n",
-            ..COMPACT
-        },
-        Case {
-            text: "sticks 1\ncell t\njoint a metal 0 0\njoint c metal 2 0\njoint b metal 1 1\nwire metal a c\nend\ngrid\nrow t\nend\n",
-            output: "DS 1 75 1;\n9 t;\nL NM;\nB 12 12 18 24;\nB 12 12 18 24;\nB 12 12 18 48;\nB 12 12 18 24;\nDF;\nC 1 T 0 0;\nE\n",
-            ..COMPACT
-        },
-    ];
-    expect(&rt, rt.alloc(), &cases)
-}
-
-#[test]
-fn uses_are_laid_out_as_what_they_stand_for(rt: HostRuntime) -> Result<(), Fail> {
-    let cases = [
-        // Two copies of a wire up a column, side by side: at 9 and 21.
-        Case {
-            text: "sticks 1\ncell a\njoint p metal 0 0\njoint q metal 0 1\nwire metal p q\nend\ncell b\nuse u a 0 0\nuse v a 1 0\nend\ngrid\nrow b\nend\n",
-            output: "DS 1 75 1;\n9 b;\nL NM;\nB 12 12 18 24;\nB 12 12 18 48;\nB 12 12 42 24;\nB 12 12 42 48;\nB 12 36 18 36;\nB 12 36 42 36;\nDF;\nC 1 T 0 0;\nE\n",
-            ..COMPACT
-        },
-        // A text that is not canonical, with a cell that the grid does not name.
-        Case {
-            text: "sticks 1\n\ncell b # unused\njoint p metal 0 0\nend\ncell a\njoint p metal 0  0\nend\ngrid\nrow a\nend",
-            output: "DS 1 75 1;\n9 a;\nL NM;\nB 12 12 18 24;\nDF;\nC 1 T 0 0;\nE\n",
-            ..COMPACT
-        },
-        // A joint on a joint of a copy.
-        Case {
-            text: "sticks 1\ncell a\njoint p metal 0 0\nend\ncell b\nuse u a 0 0\njoint q metal 0 0\nend\ngrid\nrow b\nend\n",
-            code: 10,
-            report: "sticks: clash in b between u.p and q\n",
-            ..COMPACT
-        },
-    ];
-    expect(&rt, rt.alloc(), &cases)
-}
-
-#[test]
-fn masks_of_all_layers_are_written(rt: HostRuntime) -> Result<(), Fail> {
-    let cases = [
-        // A transistor with its gate across, and a poly joint on it: at 10 and 16.
-        Case {
-            text: "sticks 1\ncell t\nfet f enh h 0 1 4 12\njoint j poly 1 1\nwire poly f j\nend\ngrid\nrow t\nend\n",
-            output: "DS 1 75 1;\n9 t;\nL ND;\nB 8 40 20 104;\nL NP;\nB 24 24 20 104;\nB 8 8 32 104;\nB 8 8 32 104;\nDF;\nC 1 T 0 0;\nE\n",
-            ..COMPACT
-        },
-        // A wide joint in the row below, held off the transistor by a limit: at 24.
-        Case {
-            text: "sticks 1\ncell t\nfet f enh h 0 1 4 12\njoint j poly 1 1\nwire poly f j\njoint k poly 1 0 8\nlimit x f k >= 14\nend\ngrid\nrow t\nend\n",
-            output: "DS 1 75 1;\n9 t;\nL ND;\nB 8 40 20 104;\nL NP;\nB 24 24 20 104;\nB 8 8 32 104;\nB 16 16 48 52;\nB 8 8 32 104;\nDF;\nC 1 T 0 0;\nE\n",
-            ..COMPACT
-        },
-        // A transistor alone.
-        Case {
-            text: "sticks 1\ncell t\nfet f enh h 0 0 4 4\nend\ngrid\nrow t\nend\n",
-            output: "DS 1 75 1;\n9 t;\nL ND;\nB 8 24 20 36;\nL NP;\nB 24 8 20 36;\nDF;\nC 1 T 0 0;\nE\n",
-            ..COMPACT
-        },
-        // An inverter: contacts, transistors of both kinds, ports.
-        Case {
-            text: "sticks 1\ncell inv\ncontact g diff 0 0\nfet d enh h 0 1 8 4\ncontact o diff 0 2\nfet l dep h 0 3 4 8\ncontact v diff 0 4\ncontact p poly 1 3\njoint m metal 1 2\ncontact q poly 1 1\nport gl left metal 0\nport gr right metal 0\nport in left poly 1\nport out right poly 1\nport vl left metal 4\nport vr right metal 4\nwire metal gl g\nwire metal g gr\nwire diff g d\nwire diff d o\nwire diff o l\nwire diff l v\nwire metal vl v\nwire metal v vr\nwire poly in d\nwire poly l p\nwire metal o m\nwire metal m p\nwire poly q out\nwire metal m q\nend\ngrid\nrow inv\nend\n",
-            output: "DS 1 75 1;\n9 inv;\nL ND;\nB 16 16 20 44;\nB 16 24 24 88;\nB 16 16 20 132;\nB 8 32 20 176;\nB 16 16 20 220;\nB 8 40 20 60;\nB 8 40 20 116;\nB 8 36 20 146;\nB 8 36 20 206;\nL NP;\nB 32 8 24 88;\nB 24 16 20 176;\nB 16 16 52 176;\nB 16 16 56 88;\nB 12 8 6 88;\nB 28 8 42 176;\nB 24 8 64 88;\nL NC;\nB 8 8 20 44;\nB 8 8 20 132;\nB 8 8 20 220;\nB 8 8 52 176;\nB 8 8 56 88;\nL NM;\nB 16 16 20 44;\nB 16 16 20 132;\nB 16 16 20 220;\nB 16 16 52 176;\nB 12 12 54 132;\nB 16 16 56 88;\nB 26 12 13 44;\nB 62 12 45 44;\nB 26 12 13 220;\nB 62 12 45 220;\nB 46 12 37 132;\nB 12 56 54 154;\nB 12 56 54 110;\nL NI;\nB 20 28 20 176;\nDF;\nC 1 T 0 0;\nE\n",
-            ..COMPACT
-        },
-        // A poly joint under a metal wire.
-        Case {
-            text: "sticks 1\ncell t\njoint a metal 0 0\njoint c metal 2 0\njoint b poly 1 0\nwire metal a c\nend\ngrid\nrow t\nend\n",
-            output: "DS 1 75 1;\n9 t;\nL NP;\nB 8 8 12 24;\nL NM;\nB 12 12 18 24;\nB 12 12 18 24;\nB 12 12 18 24;\nDF;\nC 1 T 0 0;\nE\n",
-            ..COMPACT
-        },
-    ];
-    expect(&rt, rt.alloc(), &cases)
-}
-
-#[test]
-fn limits_are_kept(rt: HostRuntime) -> Result<(), Fail> {
-    let cases = [
-        // A limit that is met: at 9 and 21.
-        Case {
-            text: "sticks 1\ncell t\njoint a metal 0 0\njoint b metal 1 0\nlimit x a b <= 12\nend\ngrid\nrow t\nend\n",
-            output: "DS 1 75 1;\n9 t;\nL NM;\nB 12 12 18 24;\nB 12 12 42 24;\nDF;\nC 1 T 0 0;\nE\n",
-            ..COMPACT
-        },
-        // A limit from above holds a joint near another that has to stand off: at 9, 19 and 21.
-        Case {
-            text: "sticks 1\ncell t\njoint a metal 0 0\njoint b metal 0 1\njoint c metal 1 0\nlimit x b c <= 2\nend\ngrid\nrow t\nend\n",
-            output: "DS 1 75 1;\n9 t;\nL NM;\nB 12 12 18 24;\nB 12 12 38 48;\nB 12 12 42 24;\nDF;\nC 1 T 0 0;\nE\n",
-            ..COMPACT
-        },
-        // No layout: the limit is short by 1.
-        Case {
-            text: "sticks 1\ncell t\njoint a metal 0 0\njoint b metal 1 0\nlimit x a b <= 11\nend\ngrid\nrow t\nend\n",
-            code: 11,
-            report: "pass 1 x unsatisfiable length 1\nt:a -> t:b 12 space\nt:b -> t:a -11 limit\n",
-            ..COMPACT
-        },
-        // Short by 8.
-        Case {
-            text: "sticks 1\ncell t\njoint a metal 0 0\njoint b metal 1 0\nlimit x a b <= 4\nend\ngrid\nrow t\nend\n",
-            code: 11,
-            report: "pass 1 x unsatisfiable length 8\nt:a -> t:b 12 space\nt:b -> t:a -4 limit\n",
-            ..COMPACT
-        },
-        // A million to the right makes the cell wide: at 9 and 1,000,009.
-        Case {
-            text: "sticks 1\ncell t\njoint a metal 0 0\njoint b metal 1 0\nlimit x a b >= 1000000\nend\ngrid\nrow t\nend\n",
-            output: "DS 1 75 1;\n9 t;\nL NM;\nB 12 12 18 24;\nB 12 12 2000018 24;\nDF;\nC 1 T 0 0;\nE\n",
-            ..COMPACT
-        },
-        // A million to the left of what has to stand on its right.
-        Case {
-            text: "sticks 1\ncell t\njoint a metal 0 0\njoint b metal 1 0\nlimit x a b <= -1000000\nend\ngrid\nrow t\nend\n",
-            code: 11,
-            report: "pass 1 x unsatisfiable length 1000012\nt:a -> t:b 12 space\nt:b -> t:a 1000000 limit\n",
-            ..COMPACT
-        },
-        // Limits one after the other, the first inside a use: at 9, 24 and 54.
-        Case {
-            text: "sticks 1\ncell s\njoint p metal 0 0\njoint q metal 1 0\nlimit x p q >= 15\nend\ncell t\nuse u s 0 0\njoint r metal 2 0\nlimit x u.q r >= 30\nend\ngrid\nrow t\nend\n",
-            output: "DS 1 75 1;\n9 t;\nL NM;\nB 12 12 18 24;\nB 12 12 48 24;\nB 12 12 108 24;\nDF;\nC 1 T 0 0;\nE\n",
-            ..COMPACT
-        },
-    ];
-    expect(&rt, rt.alloc(), &cases)
 }
 
 #[test]
@@ -279,13 +134,75 @@ fn a_refusal_puts_its_line(rt: HostRuntime) -> Result<(), Fail> {
             report: "sticks: line",
             ..COMPACT
         },
-        // Words that are no command.
+    ];
+    expect(&rt, rt.alloc(), &cases)
+}
+
+#[test]
+fn words_that_are_no_command_are_refused(rt: HostRuntime) -> Result<(), Fail> {
+    let cases = [
         Case {
             words: &[],
-            text: UPRIGHT,
-            code: 2,
-            report: "sticks: usage\n",
-            ..COMPACT
+            ..USAGE
+        },
+        Case {
+            words: &["compact", "d"],
+            ..USAGE
+        },
+        Case {
+            words: &["compact", "-d", "--tech", "t"],
+            ..USAGE
+        },
+        Case {
+            words: &["check", "d"],
+            ..USAGE
+        },
+        // Lists of passes: on one axis alone, with another letter, too long, and none.
+        Case {
+            words: &["compact", "d", "--tech", "t", "--passes", "x"],
+            ..USAGE
+        },
+        Case {
+            words: &["compact", "d", "--tech", "t", "--passes", "yy"],
+            ..USAGE
+        },
+        Case {
+            words: &["compact", "d", "--tech", "t", "--passes", "xyz"],
+            ..USAGE
+        },
+        Case {
+            words: &[
+                "compact",
+                "d",
+                "--tech",
+                "t",
+                "--passes",
+                "xyxyxyxyxyxyxyxyx",
+            ],
+            ..USAGE
+        },
+        Case {
+            words: &["compact", "d", "--tech", "t", "--passes", ""],
+            ..USAGE
+        },
+        // A list is missing, or more follows it, or its option is another one, or stands twice.
+        Case {
+            words: &["compact", "d", "--tech", "t", "--passes"],
+            ..USAGE
+        },
+        Case {
+            words: &["compact", "d", "--tech", "t", "--passes", "xy", "z"],
+            ..USAGE
+        },
+        Case {
+            words: &["compact", "d", "--tech", "t", "passes", "xy"],
+            ..USAGE
+        },
+        Case {
+            words: &[
+                "compact", "d", "--tech", "t", "--passes", "xy", "--passes", "xy",
+            ],
+            ..USAGE
         },
     ];
     expect(&rt, rt.alloc(), &cases)
@@ -294,27 +211,6 @@ fn a_refusal_puts_its_line(rt: HostRuntime) -> Result<(), Fail> {
 #[test]
 fn a_failing_command_says_so(rt: HostRuntime) -> Result<(), Fail> {
     let cases = [
-        Case {
-            words: &["compact", "d"],
-            text: UPRIGHT,
-            code: 2,
-            report: "sticks: usage\n",
-            ..COMPACT
-        },
-        Case {
-            words: &["compact", "-d", "--tech", "t"],
-            text: UPRIGHT,
-            code: 2,
-            report: "sticks: usage\n",
-            ..COMPACT
-        },
-        Case {
-            words: &["check", "d"],
-            text: UPRIGHT,
-            code: 2,
-            report: "sticks: usage\n",
-            ..COMPACT
-        },
         // No such file.
         Case {
             words: &["compact", "e", "--tech", "t"],
@@ -328,7 +224,7 @@ fn a_failing_command_says_so(rt: HostRuntime) -> Result<(), Fail> {
             text: UPRIGHT,
             output_faults: &[0],
             code: 4,
-            output: "DS 1 75 1;\n9 a;\nL NM;\nB 12 12 18 24",
+            output: "DS 1 75 1;\n9 a;\nL NM;\nB 12 12 18 18",
             report: "sticks: cannot write output\n",
             ..COMPACT
         },
@@ -336,7 +232,7 @@ fn a_failing_command_says_so(rt: HostRuntime) -> Result<(), Fail> {
             text: UPRIGHT,
             output_faults: &[1],
             code: 4,
-            output: "DS 1 75 1;\n9 a;\nL NM;\nB 12 12 18 24;\nB 12 12 18 48;\nB 12 36 18 36;\nDF;\nC 1 T ",
+            output: "DS 1 75 1;\n9 a;\nL NM;\nB 12 12 18 18;\nB 12 12 18 18;\nB 12 12 18 18;\nDF;\nC 1 T ",
             report: "sticks: cannot write output\n",
             ..COMPACT
         },
@@ -351,15 +247,8 @@ fn a_technology_is_judged_first(rt: HostRuntime) -> Result<(), Fail> {
         Case {
             tech: WIDE,
             text: "sticks 1\ncell t\njoint p metal 0 0\nend\ngrid\nrow t\nend\n",
-            output: "DS 1 75 1;\n9 t;\nL NM;\nB 16 16 20 28;\nDF;\nC 1 T 0 0;\nE\n",
-            ..COMPACT
-        },
-        // A row too high for the masks.
-        Case {
-            tech: FAR,
-            text: "sticks 1\ncell t\njoint p metal 0 4095\nend\ngrid\nrow t\nend\n",
-            code: 9,
-            report: "sticks: too large: extent\n",
+            output: "DS 1 75 1;\n9 t;\nL NM;\nB 16 16 20 20;\nDF;\nC 1 T 0 0;\nE\n",
+            report: "pass 1 x edges 3 backward 0 rounds 1\ncell t size 20 kept 0\n0 -> t:p 10 margin\nt:p -> t| 10 margin\npass 2 y edges 3 backward 0 rounds 1\ncell t size 20 kept 0\n0 -> t:p 10 margin\nt:p -> t| 10 margin\n",
             ..COMPACT
         },
         // No technologies: no such file, no TOML, and a further key. The design is not looked at.
@@ -404,6 +293,14 @@ fn a_design_is_written_in_its_canonical_form(rt: HostRuntime) -> Result<(), Fail
         Case {
             words: &["fmt", "d"],
             text: "sticks 1\n\ncell e # empty\nend\ngrid\nrow  e\nend",
+            output: "sticks 1\ncell e\nend\ngrid\nrow e\nend\n",
+            ..COMPACT
+        },
+        // It has no report, so nothing fails there.
+        Case {
+            words: &["fmt", "d"],
+            text: "sticks 1\ncell e\nend\ngrid\nrow e\nend\n",
+            report_faults: &[0],
             output: "sticks 1\ncell e\nend\ngrid\nrow e\nend\n",
             ..COMPACT
         },
@@ -467,43 +364,37 @@ fn copies(alloc: Global) -> Result<Vec<u8>, AllocError> {
     Ok(text)
 }
 
-// A row of 54 times 54 joints, of which each faces all on its right.
-fn long_row(alloc: Global) -> Result<Vec<u8>, AllocError> {
-    let mut text = Vec::from_slice(alloc, b"sticks 1\ncell a\n")?;
-    for k in 0..54u32 {
-        let joint = format!(in alloc; "joint j{k} metal {k} 0\n")?;
-        text.extend_from_slice(joint.as_bytes())?;
-    }
-    text.extend_from_slice(b"end\ncell b\n")?;
-    for k in 0..54u32 {
-        let col = 54 * k;
-        let copy = format!(in alloc; "use u{k} a {col} 0\n")?;
-        text.extend_from_slice(copy.as_bytes())?;
-    }
-    text.extend_from_slice(b"end\ngrid\nrow b\nend\n")?;
-    Ok(text)
-}
-
 #[test]
-fn a_cell_past_its_limits_is_too_large(rt: HostRuntime) -> Result<(), Fail> {
+fn a_cell_of_too_many_items_is_too_large(rt: HostRuntime) -> Result<(), Fail> {
     let alloc = rt.alloc();
     let mut shelf = MemShelf::new(alloc, FailPlan::none(alloc));
     shelf.add("t", SHIPPED.as_bytes())?;
     shelf.add("copies", &copies(alloc)?)?;
-    shelf.add("row", &long_row(alloc)?)?;
     let mut out = MemSink::new(alloc, 100, FailPlan::none(alloc))?;
     let mut report = MemSink::new(alloc, 1000, FailPlan::none(alloc))?;
-    let cases: [&[&str]; 2] = [
-        &["compact", "copies", "--tech", "t"],
-        &["compact", "row", "--tech", "t"],
-    ];
-    for words in cases {
-        let _ = run(alloc, words, &mut shelf, &mut out, &mut report);
-    }
+    let words: &[&str] = &["compact", "copies", "--tech", "t"];
+    let _ = run(alloc, words, &mut shelf, &mut out, &mut report);
     assert_eq!(rt; out.bytes(), b"".as_slice());
-    assert_eq!(rt;
-        report.bytes(),
-        b"sticks: too large: items\nsticks: too large: edges\n".as_slice()
-    );
+    assert_eq!(rt; report.bytes(), b"sticks: too large: items\n".as_slice());
     Ok(())
+}
+
+#[test]
+fn masks_past_their_extent_are_too_large(rt: HostRuntime) -> Result<(), Fail> {
+    let cases = [
+        // One more than may be: on x, and on y.
+        Case {
+            text: "sticks 1\ncell t\njoint a0 metal 0 0\njoint a1 metal 1 0\njoint a2 metal 2 0\njoint a3 metal 3 0\njoint a4 metal 4 0\njoint a5 metal 5 0\njoint a6 metal 6 0\njoint a7 metal 7 0\njoint a8 metal 8 0\nlimit x a0 a1 >= 1000000\nlimit x a1 a2 >= 1000000\nlimit x a2 a3 >= 1000000\nlimit x a3 a4 >= 1000000\nlimit x a4 a5 >= 1000000\nlimit x a5 a6 >= 1000000\nlimit x a6 a7 >= 1000000\nlimit x a7 a8 >= 158261\nend\ngrid\nrow t\nend\n",
+            code: 9,
+            report: "sticks: too large: extent\n",
+            ..COMPACT
+        },
+        Case {
+            text: "sticks 1\ncell t\njoint a0 metal 0 0\njoint a1 metal 0 1\njoint a2 metal 0 2\njoint a3 metal 0 3\njoint a4 metal 0 4\njoint a5 metal 0 5\njoint a6 metal 0 6\njoint a7 metal 0 7\njoint a8 metal 0 8\nlimit y a0 a1 >= 1000000\nlimit y a1 a2 >= 1000000\nlimit y a2 a3 >= 1000000\nlimit y a3 a4 >= 1000000\nlimit y a4 a5 >= 1000000\nlimit y a5 a6 >= 1000000\nlimit y a6 a7 >= 1000000\nlimit y a7 a8 >= 158261\nend\ngrid\nrow t\nend\n",
+            code: 9,
+            report: "sticks: too large: extent\n",
+            ..COMPACT
+        },
+    ];
+    expect(&rt, rt.alloc(), &cases)
 }

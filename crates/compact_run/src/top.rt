@@ -5,7 +5,7 @@ ghost use Rattle.lam_io.specs.Io.{Telling, Rose};
 ghost use Rattle.compact_run.specs.declared.status.File.{File};
 ghost use Rattle.compact_run.specs.Words.{command_of};
 ghost use Rattle.compact_run.specs.Fetches.{AsksForFiles, AsksThrough};
-ghost use Rattle.compact_run.specs.Answers.{IsAnswer, Writes, Reports, IsUntouched, IsRefused};
+ghost use Rattle.compact_run.specs.Answers.{IsAnswer, Writes, Tells, IsUntouched, IsRefused};
 
 use crate::command::answer;
 use crate::delivery::{refuse, write};
@@ -13,9 +13,10 @@ use crate::status::{Side2, Status};
 use lam_io::{Shelf, Sink};
 use std::alloc::Global;
 
-/// Does what the words say. `compact DESIGN --tech FILE` fetches the technology and then the design, and
-/// puts the masks of the cell that is its grid into `out`; `fmt DESIGN` puts the canonical text of a design there. A refusal puts
-/// its text into `report`, one line or the lines of a cycle, and nothing into `out`.
+/// Does what the words say. `compact DESIGN --tech FILE [--passes LIST]` fetches the technology and then the design, makes
+/// a pass on the axis of each letter of the list, `xy` if there is none, and puts the masks of the cell that is its grid into
+/// `out` and then what it tells of the passes into `report`; `fmt DESIGN` puts the canonical text of a design into `out`. A
+/// refusal puts its text into `report`, one line or the passes before a cycle and the cycle, and nothing into `out`.
 pub fn run<'a, S: Shelf, C: Sink, R: Sink>(
     alloc: Global,
     words: &'a [&'a str],
@@ -27,15 +28,15 @@ pub fn run<'a, S: Shelf, C: Sink, R: Sink>(
     ensures answer { (t : Telling) → S.told shelf.old ≡ Some t →
         (output : List ℕ) × (line : List ℕ) × IsAnswer (map (λ word. word.now) words.now) t.files result output line
         × Writes result (C.told out.old) (C.told out.new) output
-        × Reports (R.told report.old) (R.told report.new) (R.faults report.old) (R.faults report.new) line }
+        × Tells result (R.told report.old) (R.told report.new) (R.faults report.old) (R.faults report.new) line }
     // A refused call has written nothing.
     ensures untouched { IsUntouched result out.old out.new }
-    ensures quiet { result ≡ Status.Done → report.new ≡ report.old }
 
     ensures usage { (result ≡ Status.Usage) ↔ (command_of (map (λ word. word.now) words.now) ≡ None) }
     // A file that was not read is the last that was asked for, and the shelf's count rose.
     ensures read_fault { (f : File) → result ≡ Status.ReadFault f → Rose (S.faults shelf.old) (S.faults shelf.new) × AsksThrough (command_of (map (λ word. word.now) words.now)) f (S.told shelf.old) (S.told shelf.new) }
     ensures write_fault { result ≡ Status.WriteFault Side2.Output → Rose (C.faults out.old) (C.faults out.new) }
+    ensures report_fault { result ≡ Status.WriteFault Side2.Report → Rose (R.faults report.old) (R.faults report.new) }
     // The files are as they were, and those of the command were asked for, each once, in order, up to where it was refused.
     ensures asked { AsksForFiles (IsRefused result) (command_of (map (λ word. word.now) words.now)) (S.told shelf.old) (S.told shelf.new) }
 

@@ -1,18 +1,23 @@
 //! The words of the command line.
 
-ghost use Rattle.std.specs.Prelude.{◌≡◌, map, option_map};
-ghost use Rattle.compact_run.specs.Words.{is_file_name, compact_of, fmt_of, command_of};
-ghost use Rattle.compact_run.specs.Commands.{command_from};
+ghost use Rattle.std.specs.Prelude.{◌≡◌, map, option_map, IfOk, IfSome};
+ghost use Rattle.compact_run.specs.Words.{is_file_name, is_pass_list, axes_in, compact_with, compact_of, fmt_of, command_of};
+ghost use Rattle.compact_run.specs.Commands.{command_from, HasFewPasses};
+
+use lam_geom::Axis;
+use std::alloc::{AllocError, Global};
 
 /// A command, with the names of its files.
 #[derive(Clone, Copy)]
 pub enum Command<'a> {
-    /// `compact DESIGN --tech FILE`: the masks of a design under a technology.
+    /// `compact DESIGN --tech FILE [--passes LIST]`: the masks of a design under a technology.
     Compact {
         /// The design's file.
         design: &'a str,
         /// The technology's file.
         tech: &'a str,
+        /// A letter for each pass: `x` or `y`.
+        passes: &'a str,
     },
     /// `fmt DESIGN`: the canonical text of a design.
     Fmt {
@@ -27,13 +32,43 @@ fn is_file_name(word: &str) -> bool
     !word.as_bytes().starts_with(b"-")
 }
 
+// Whether a word is a list of passes: one to sixteen letters x and y, with both of them.
+fn is_pass_list(word: &str) -> bool
+    ensures { result ≡ is_pass_list word.now }
+{
+    let letters = word.as_bytes();
+    letters.len() <= 16
+        && (letters.iter().all(|b| *b == b'x' || *b == b'y')
+            && (letters.iter().any(|b| *b == b'x') && letters.iter().any(|b| *b == b'y')))
+}
+
+fn compact_with<'a>(
+    design: &'a str,
+    option: &'a str,
+    tech: &'a str,
+    passes: &'a str,
+) -> Option<Command<'a>>
+    ensures { option_map command_from result ≡ compact_with design.now option.now tech.now passes.now }
+{
+    if option == "--tech" && (is_file_name(design) && is_file_name(tech)) {
+        Some(Command::Compact {
+            design,
+            tech,
+            passes,
+        })
+    } else {
+        None
+    }
+}
+
 fn read_compact<'a>(words: &'a [&'a str]) -> Option<Command<'a>>
     ensures { option_map command_from result ≡ compact_of (map (λ word. word.now) words.now) }
 {
     match words {
-        [design, option, tech] => {
-            if *option == "--tech" && (is_file_name(design) && is_file_name(tech)) {
-                Some(Command::Compact { design, tech })
+        [design, option, tech] => compact_with(design, option, tech, "xy"),
+        [design, option, tech, passes, list] => {
+            if *passes == "--passes" && is_pass_list(list) {
+                compact_with(design, option, tech, list)
             } else {
                 None
             }
@@ -57,9 +92,21 @@ fn read_fmt<'a>(words: &'a [&'a str]) -> Option<Command<'a>>
     }
 }
 
+/// The axes of the letters of a list of passes. The only refusal is want of memory.
+pub fn axes(alloc: Global, passes: &str) -> Result<Vec<Axis>, AllocError>
+    ensures { IfOk result (λ axes. axes.items ≡ axes_in passes.now) }
+{
+    let mut axes = Vec::new(alloc);
+    for b in passes.as_bytes() {
+        axes.push(if *b == b'x' { Axis::X } else { Axis::Y })?;
+    }
+    Ok(axes)
+}
+
 /// The command that the words are, if they are one.
 pub fn read_words<'a>(words: &'a [&'a str]) -> Option<Command<'a>>
-    ensures { option_map command_from result ≡ command_of (map (λ word. word.now) words.now) }
+    ensures value { option_map command_from result ≡ command_of (map (λ word. word.now) words.now) }
+    ensures few { IfSome result HasFewPasses }
 {
     match words {
         [command, rest @ ..] => {

@@ -3,6 +3,8 @@ use Rattle.std.proofs.Common.{◌≡◌, ℕ, ◌+◌, Bool, true, false, ℤ, p
 use Rattle.std.specs.Prelude.{neg_ℤ, slice_index}
 use Rattle.std.specs.List.{AllByRecursion, flat_map, range_with_len}
 use Rattle.std.proofs.lemmas.Int.{ints}
+use Rattle.lam_geom.specs.declared.boxes.Axis.{Axis}
+use Rattle.lam_geom.specs.declared.boxes.Axis.TheVariants.{X, Y}
 use Rattle.rule_table.specs.declared.technology.Tech.{Tech}
 use Rattle.rule_table.specs.declared.classes.Class.{Class}
 use Rattle.rule_table.specs.declared.classes.Class.TheVariants.{M, P, Dc, Dm, C, I, G}
@@ -11,6 +13,7 @@ use Rattle.rule_table.specs.declared.classes.Layer.TheVariants.{Diffusion, Poly,
 use Rattle.rule_table.specs.Technology.{numbers_of, pad_of}
 use Rattle.sym_items.specs.declared.items.End.{End}
 use Rattle.sym_items.specs.declared.items.Item.{Item}
+use Rattle.sym_items.specs.Transposed.{item_along}
 use Rattle.stick_cell.specs.declared.cell.Axis2.{Axis2}
 use Rattle.stick_cell.specs.declared.cell.Axis2.TheVariants.{Across, Up}
 use Rattle.stick_cell.specs.declared.cell.NodeKind.{NodeKind}
@@ -36,6 +39,10 @@ FitsOn low high least = low.var ≡ high.var → (low.off +ℤ least) ≤ℤ hig
 pub record DoesFit (i : Item) : Type 0 where
   pub x : FitsOn i.xl i.xh i.least_x
   pub y : FitsOn i.yl i.yh i.least_y
+
+pub fits_along : (axis : Axis) (i : Item) → DoesFit i → FitsOn (item_along axis i).xl (item_along axis i).xh (item_along axis i).least_x
+fits_along X i h = h.x
+fits_along Y i h = h.y
 
 box_fits : (k : ℕ) (class : Class) (net : ℕ) (left right bottom top : ℤ) → DoesFit (box_at k class net left right bottom top)
 box_fits k class net left right bottom top = record { x = λ e. omega (arith, ints); y = λ e. omega (arith, ints) }

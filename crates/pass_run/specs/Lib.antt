@@ -1,3 +1,12 @@
 pub mod System
-pub mod SystemFaults
+pub mod ListFaults
+pub mod Names
+pub mod Passes
+pub mod Report
+pub mod Theorems
 pub mod PassFaults
+pub mod Laid
+pub mod Pruning
+pub mod OnePass
+pub mod OneStep
+pub mod Going

@@ -1,52 +1,57 @@
-//! The inequalities of the pass on x, and the constraint graph of them.
+//! The inequalities of a pass, and the constraint graph of them.
 
-ghost use Rattle.std.specs.Prelude.{◌≡◌, ◌+◌, ◌<◌, ◌≤◌, ◌^◌, ◌++◌, pos, ◌≤ℤ◌, ◌-ℤ◌, ◌+ℤ◌, length, flat_map, All, OnOk, IfOk, IfErr};
-ghost use Rattle.lam_geom.specs.declared.boxes.Axis.TheVariants.{X};
-ghost use Rattle.cons_graph.specs.declared.edges.Why.TheVariants.{Space};
+ghost use Rattle.std.specs.Prelude.{◌≡◌, ◌+◌, ◌<◌, ◌≤◌, ◌++◌, pos, ◌≤ℤ◌, ◌-ℤ◌, ◌+ℤ◌, length, map, All, OnOk, IfOk, IfErr};
+ghost use Rattle.lam_geom.specs.declared.boxes.Axis.TheVariants.{X, Y};
 ghost use Rattle.cons_graph.specs.Constraints.{IsConstraintGraph};
-ghost use Rattle.sym_items.specs.Boxes.{HasBox};
+ghost use Rattle.sym_items.specs.Transposed.{item_along};
 ghost use Rattle.stick_cell.specs.Sound.{IsSound, IsLight};
 ghost use Rattle.expand.specs.Bounds.{IsNear, IsNearItem};
 ghost use Rattle.expand.specs.Items.{AreItems};
-ghost use Rattle.expand.specs.Structure.{between};
 ghost use Rattle.expand.specs.Variables.{variables_of};
-ghost use Rattle.pair_rules.specs.Candidates.{item_numbers};
-ghost use Rattle.coarse_grid.specs.Start.{start_of};
-ghost use Rattle.pass_run.specs.declared.edges.SystemFault.TheVariants.{OutOfMemory};
-ghost use Rattle.pass_run.specs.System.{space_edges_at, space_edges_to, spaces_of, system_over};
-ghost use Rattle.pass_run.specs.SystemFaults.{IsForCount};
+ghost use Rattle.pair_rules.specs.Kept.{kept_of};
+ghost use Rattle.pass_run.specs.declared.edges.ListFault.TheVariants.{OutOfMemory};
+ghost use Rattle.pass_run.specs.System.{space_edge, list_over, most_edges};
+ghost use Rattle.pass_run.specs.ListFaults.{RefusesList};
+ghost use Rattle.pass_run.specs.Laid.{IsLaidOut};
 
 use cons_graph::{Edge, Graph, GraphFault, MAX_EDGES, Why};
-use expand::structure;
+use expand::{Master, structure};
 use lam_geom::Axis;
-use pair_rules::{facing, is_bound};
+use pair_rules::Pair;
 use rule_table::Tech;
+use shadow_prune::{KeptFault, kept};
 use std::alloc::{AllocError, AllocFailed, Global};
-use stick_cell::Cell;
 use sym_items::{Coords, End, Item, Items};
 
-/// Why there is no system of a pass.
+/// Why there is no list of a pass.
 #[derive(Debug, Drop)]
-pub enum SystemFault {
+pub enum ListFault {
     /// There are more than 4,194,304 inequalities.
     TooManyEdges,
     OutOfMemory,
 }
 
-impl From<AllocError> for SystemFault {
+impl From<AllocError> for ListFault {
     ghost from_gives = { λ _ fault. fault ≡ OutOfMemory };
 
-    fn from(_error: AllocError) -> SystemFault {
-        SystemFault::OutOfMemory
+    fn from(_error: AllocError) -> ListFault {
+        ListFault::OutOfMemory
     }
 }
 
-impl<T: Drop> From<AllocFailed<T>> for SystemFault {
+impl<T: Drop> From<AllocFailed<T>> for ListFault {
     ghost from_gives = { λ _ fault. fault ≡ OutOfMemory };
 
-    fn from(_failed: AllocFailed<T>) -> SystemFault {
-        SystemFault::OutOfMemory
+    fn from(_failed: AllocFailed<T>) -> ListFault {
+        ListFault::OutOfMemory
     }
+}
+
+/// The list of a pass: its constraint graph, and how many of the inequalities are of kept pairs.
+#[derive(Drop)]
+pub struct Listed {
+    pub graph: Graph,
+    pub kept: u32,
 }
 
 // The length between two variables that keeps a spacing between ends that lie past them.
@@ -60,147 +65,113 @@ fn between_variables(spacing: i64, before: i64, after: i64) -> i64
     spacing - after + before
 }
 
-// Adds that one end lies the spacing before another, if there is room for one more inequality. Where both lie on one
-// variable there is none.
-fn push_space(
-    edges: &mut Vec<Edge>,
-    before: End,
-    after: End,
-    spacing: i64,
-) -> Result<(), SystemFault>
-    requires low { pos 1 ≤ℤ spacing }
-    requires high { spacing ≤ℤ pos 4096 }
-    requires before { IsNear before.off }
-    requires after { IsNear after.off }
-    ensures pushed { OnOk result (edges.new.items ≡ edges.old.items ++ between before after spacing Space) }
-    ensures fault { IfErr result (IsForCount (length edges.old.items + length (between before after spacing Space))) }
+// The high end of an item on an axis.
+fn high_end(axis: Axis, item: &Item) -> End
+    requires { IsNearItem item.now }
+    ensures value { result ≡ (item_along axis item.now).xh }
+    ensures near { IsNear result.off }
 {
-    if before.var == after.var {
-        return Ok(());
+    match axis {
+        Axis::X => item.xh,
+        Axis::Y => item.yh,
     }
-    if edges.len() >= MAX_EDGES {
-        return Err(SystemFault::TooManyEdges);
+}
+
+// The low end of an item on an axis.
+fn low_end(axis: Axis, item: &Item) -> End
+    requires { IsNearItem item.now }
+    ensures value { result ≡ (item_along axis item.now).xl }
+    ensures near { IsNear result.off }
+{
+    match axis {
+        Axis::X => item.xl,
+        Axis::Y => item.yl,
     }
-    edges.push(Edge {
+}
+
+// The inequality of a kept pair: the low end of the second item lies the spacing past the high end of the first.
+fn space_edge(axis: Axis, items: &[Item], pair: &Pair) -> Edge
+    requires near { All IsNearItem items.now }
+    requires i_among { pair.now.i < length items.now }
+    requires j_among { pair.now.j < length items.now }
+    requires low { pos 1 ≤ℤ pair.now.s }
+    requires high { pair.now.s ≤ℤ pos 4096 }
+    ensures { result ≡ space_edge axis items.now pair.now }
+{
+    let before = high_end(axis, &items[pair.i as usize]);
+    let after = low_end(axis, &items[pair.j as usize]);
+    Edge {
         from: before.var,
         to: after.var,
-        len: between_variables(spacing, before.off, after.off),
+        len: between_variables(pair.s, before.off, after.off),
         why: Why::Space,
-    })?;
-    Ok(())
-}
-
-// Adds that items number `i` and `j` keep their spacing, if they are a candidate.
-fn push_pair(
-    edges: &mut Vec<Edge>,
-    tech: &Tech,
-    items: &[Item],
-    start: &Coords,
-    i: u32,
-    j: u32,
-) -> Result<(), SystemFault>
-    requires boxes { All (HasBox start.now) items.now }
-    requires near { All IsNearItem items.now }
-    requires i_among { i < length items.now }
-    requires j_among { j < length items.now }
-    ensures pushed { OnOk result (edges.new.items ≡ edges.old.items ++ space_edges_at X tech.now start.now items.now j i) }
-    ensures fault { IfErr result (IsForCount (length edges.old.items + length (space_edges_at X tech.now start.now items.now j i))) }
-{
-    if !facing(Axis::X, tech, items, start, i, j) {
-        return Ok(());
-    }
-    let before = &items[i as usize];
-    let after = &items[j as usize];
-    match is_bound(tech, before, after) {
-        Some(spacing) => push_space(edges, before.xh, after.xl, spacing),
-        None => Ok(()),
     }
 }
 
-// Adds that each candidate that ends at item `j` keeps its spacing, in order of `i`.
-fn push_spaces_to(
-    edges: &mut Vec<Edge>,
-    tech: &Tech,
-    items: &[Item],
-    start: &Coords,
-    j: u32,
-) -> Result<(), SystemFault>
-    requires few { length items.now < 2 ^ 32 }
-    requires boxes { All (HasBox start.now) items.now }
-    requires near { All IsNearItem items.now }
-    requires j_among { j < length items.now }
-    ensures pushed { OnOk result (edges.new.items ≡ edges.old.items ++ space_edges_to X tech.now start.now items.now j) }
-    ensures fault { IfErr result (IsForCount (length edges.old.items + length (space_edges_to X tech.now start.now items.now j))) }
-{
-    for i in 0..items.len() as u32 {
-        push_pair(edges, tech, items, start, i, j)?;
-    }
-    Ok(())
-}
-
-// Adds that each candidate of a layout keeps its spacing, in order of (j, i). It looks at each pair of items.
+// Adds the inequality of each kept pair, in order.
 fn push_spaces(
     edges: &mut Vec<Edge>,
-    tech: &Tech,
+    axis: Axis,
     items: &[Item],
-    start: &Coords,
-) -> Result<(), SystemFault>
-    requires few { length items.now < 2 ^ 32 }
-    requires boxes { All (HasBox start.now) items.now }
+    pairs: &[Pair],
+) -> Result<(), AllocError>
     requires near { All IsNearItem items.now }
-    ensures pushed { OnOk result (edges.new.items ≡ edges.old.items ++ flat_map (space_edges_to X tech.now start.now items.now) (item_numbers items.now)) }
-    ensures fault { IfErr result (IsForCount (length edges.old.items + length (flat_map (space_edges_to X tech.now start.now items.now) (item_numbers items.now)))) }
+    requires among { All (λ p. (p.i < length items.now) × (p.j < length items.now)) pairs.now }
+    requires spaced { All (λ p. (pos 1 ≤ℤ p.s) × (p.s ≤ℤ pos 4096)) pairs.now }
+    ensures { OnOk result (edges.new.items ≡ edges.old.items ++ map (space_edge axis items.now) pairs.now) }
 {
-    for j in 0..items.len() as u32 {
-        push_spaces_to(edges, tech, items, start, j)?;
+    for pair in pairs {
+        edges.push(space_edge(axis, items, pair))?;
     }
     Ok(())
 }
 
-// The inequalities of the pass: the structure of the cell, and those of all candidates of its start layout. It takes no
-// memory for more candidates than there is room for.
-fn edges(
-    alloc: Global,
-    tech: &Tech,
-    cell: &Cell,
-    items: &Items,
-    start: &Coords,
-) -> Result<Vec<Edge>, SystemFault>
-    requires sound { IsSound tech.now cell.now }
-    requires light { IsLight cell.now }
-    requires items { AreItems tech.now cell.now items.now }
-    requires start { start.now ≡ start_of tech.now cell.now }
-    ensures value { IfOk result (λ edges. edges.items ≡ system_over X tech.now cell.now items.now.list start.now) }
-    ensures fault { IfErr result (IsForCount (length (system_over X tech.now cell.now items.now.list start.now))) }
+// How many variables an axis has.
+fn vars_of(axis: Axis, items: &Items) -> u32
+    ensures x { axis ≡ X → result ≡ items.now.x_vars }
+    ensures y { axis ≡ Y → result ≡ items.now.y_vars }
 {
-    let mut edges = structure(alloc, Axis::X, tech, cell, items)?;
-    push_spaces(&mut edges, tech, items.list.as_slice(), start)?;
-    Ok(edges)
+    match axis {
+        Axis::X => items.x_vars,
+        Axis::Y => items.y_vars,
+    }
 }
 
-/// The constraint graph of the pass: the inequalities of a cell and of all candidates of its start layout, over the
-/// variables of x.
-pub fn graph(
+/// The list of a pass over a layout: the structure of the cell on the axis, and the inequalities of the kept pairs.
+pub fn list(
     alloc: Global,
+    axis: Axis,
     tech: &Tech,
-    cell: &Cell,
-    items: &Items,
-    start: &Coords,
-) -> Result<Graph, SystemFault>
-    requires sound { IsSound tech.now cell.now }
-    requires light { IsLight cell.now }
-    requires items { AreItems tech.now cell.now items.now }
-    requires start { start.now ≡ start_of tech.now cell.now }
-    ensures vars { IfOk result (λ g. g.vars ≡ variables_of X cell.now) }
-    ensures edges { IfOk result (λ g. g.edges ≡ system_over X tech.now cell.now items.now.list start.now) }
-    ensures few { IfOk result (λ g. length g.edges ≤ 4194304) }
-    ensures shape { IfOk result (λ g. IsConstraintGraph g) }
-    ensures fault { IfErr result (IsForCount (length (system_over X tech.now cell.now items.now.list start.now))) }
+    master: &Master,
+    layout: &Coords,
+) -> Result<Listed, ListFault>
+    requires sound { IsSound tech.now master.now.cell }
+    requires light { IsLight master.now.cell }
+    requires items { AreItems tech.now master.now.cell master.now.items }
+    requires laid { IsLaidOut tech.now master.now.cell master.now.items.list layout.now }
+    ensures vars { IfOk result (λ l. l.graph.vars ≡ variables_of axis master.now.cell) }
+    ensures edges { IfOk result (λ l. l.graph.edges ≡ list_over axis tech.now master.now.cell master.now.items.list layout.now) }
+    ensures few { IfOk result (λ l. length l.graph.edges ≤ most_edges) }
+    ensures shape { IfOk result (λ l. IsConstraintGraph l.graph) }
+    ensures kept { IfOk result (λ l. l.kept ≡ length (kept_of axis tech.now layout.now master.now.items.list)) }
+    ensures fault { IfErr result (RefusesList (length (list_over axis tech.now master.now.cell master.now.items.list layout.now))) }
 {
-    let edges = edges(alloc, tech, cell, items, start)?;
-    match Graph::new(alloc, items.x_vars, edges) {
-        Ok(graph) => Ok(graph),
-        Err(GraphFault::TooManyEdges) => Err(SystemFault::TooManyEdges),
-        Err(GraphFault::OutOfMemory) => Err(SystemFault::OutOfMemory),
+    let items = master.items.list.as_slice();
+    let mut edges = structure(alloc, axis, tech, &master.cell, &master.items)?;
+    if edges.len() > MAX_EDGES {
+        return Err(ListFault::TooManyEdges);
+    }
+    let room = (MAX_EDGES - edges.len()) as u32;
+    let pairs = match kept(alloc, axis, tech, items, layout, room) {
+        Ok(pairs) => pairs,
+        Err(KeptFault::TooMany) => return Err(ListFault::TooManyEdges),
+        Err(KeptFault::OutOfMemory) => return Err(ListFault::OutOfMemory),
+    };
+    push_spaces(&mut edges, axis, items, &pairs)?;
+    let count = pairs.len() as u32;
+    match Graph::new(alloc, vars_of(axis, &master.items), edges) {
+        Ok(graph) => Ok(Listed { graph, kept: count }),
+        Err(GraphFault::TooManyEdges) => Err(ListFault::TooManyEdges),
+        Err(GraphFault::OutOfMemory) => Err(ListFault::OutOfMemory),
     }
 }

@@ -1,14 +1,18 @@
-//! The pass of a cell: its least layout on an axis.
+//! The passes of a cell: its least layout on one axis after another.
 //!
-//! What the layer above uses: `least_x` gives the least values on x that meet the structure of a cell and keep every
-//! candidate of its start layout apart, or the text of a positive cycle exactly where there is one. Lengths are in u.
+//! What the layer above uses: `run_passes` gives after each pass the least values of its axis that meet the structure of a
+//! cell and keep every candidate of the layout before it apart, with the critical path of the cell's size, or the text of a
+//! positive cycle exactly where there is one. Lengths are in u.
 #![tactic(auto)]
 
-mod cycle;
 mod edges;
 mod names;
 mod pass;
+mod passes;
+mod step;
 #[cfg(test)]
 mod tests;
+mod text;
 
-pub use pass::{PassFault, least_x};
+pub use passes::{PassFault, Passes, run_passes};
+pub use step::{Step, Walk};

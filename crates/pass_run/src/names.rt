@@ -1,13 +1,14 @@
-//! The names of the variables of x.
+//! The names of the variables of an axis.
 
 ghost use Rattle.std.specs.Prelude.{◌≡◌, ◌++◌, ◌∷◌, [], codes, map, flat_map, length, OnOk, IfOk};
 ghost use Rattle.std.specs.List.{range_with_len};
-ghost use Rattle.lam_geom.specs.declared.boxes.Axis.TheVariants.{X};
 ghost use Rattle.stick_cell.specs.declared.cell.Node.{Node};
 ghost use Rattle.stick_cell.specs.Sound.{IsLight};
-ghost use Rattle.pass_run.specs.System.{within_cell, cross_name_along, cross_name, names_of};
+ghost use Rattle.expand.specs.Variables.{crossing};
+ghost use Rattle.pass_run.specs.Names.{within_cell, cross_name_along, cross_name, names_of};
 
 use cons_graph::Names;
+use lam_geom::Axis;
 use std::alloc::{AllocError, Global};
 use stick_cell::{Axis2, Cell};
 
@@ -47,17 +48,28 @@ fn push_nodes(names: &mut Names, alloc: Global, cell: &Cell) -> Result<(), Alloc
     Ok(())
 }
 
-// Adds the name of the cross coordinate of wire `k`, if it runs up.
+// How a wire runs that has its cross coordinate on an axis.
+fn crossing(axis: Axis) -> Axis2
+    ensures { result ≡ crossing axis }
+{
+    match axis {
+        Axis::X => Axis2::Up,
+        Axis::Y => Axis2::Across,
+    }
+}
+
+// Adds the name of the cross coordinate of wire `k`, if it has it on the axis.
 fn push_wire(
     names: &mut Names,
     alloc: Global,
+    axis: Axis,
     cell: &Cell,
     k: u32,
     along: Axis2,
 ) -> Result<(), AllocError>
-    ensures { OnOk result (names.new ≡ names.old ++ cross_name_along X cell.now k along) }
+    ensures { OnOk result (names.new ≡ names.old ++ cross_name_along axis cell.now k along) }
 {
-    if along != Axis2::Up {
+    if along != crossing(axis) {
         return Ok(());
     }
     let number = k.to_string(alloc)?;
@@ -67,28 +79,28 @@ fn push_wire(
     push_within(names, alloc, cell, &inner)
 }
 
-// Adds the names of the cross coordinates of the wires that run up.
-fn push_wires(names: &mut Names, alloc: Global, cell: &Cell) -> Result<(), AllocError>
+// Adds the names of the cross coordinates of the wires that have them on an axis.
+fn push_wires(names: &mut Names, alloc: Global, axis: Axis, cell: &Cell) -> Result<(), AllocError>
     requires { IsLight cell.now }
-    ensures { OnOk result (names.new ≡ names.old ++ flat_map (cross_name X cell.now) (range_with_len 0 (length cell.now.wires))) }
+    ensures { OnOk result (names.new ≡ names.old ++ flat_map (cross_name axis cell.now) (range_with_len 0 (length cell.now.wires))) }
 {
     let wires = cell.wires.as_slice();
     for k in 0..wires.len() as u32 {
-        push_wire(names, alloc, cell, k, wires[k as usize].along)?;
+        push_wire(names, alloc, axis, cell, k, wires[k as usize].along)?;
     }
     Ok(())
 }
 
-/// The names of the variables of x, in their order: the origin, the far border, the nodes, and the wires that run up.
-/// The only refusal is want of memory.
-pub fn names(alloc: Global, cell: &Cell) -> Result<Names, AllocError>
+/// The names of the variables of an axis, in their order: the origin, the far border, the nodes, and the wires that run
+/// along the other axis. The only refusal is want of memory.
+pub fn names(alloc: Global, axis: Axis, cell: &Cell) -> Result<Names, AllocError>
     requires { IsLight cell.now }
-    ensures { IfOk result (λ names. names ≡ names_of X cell.now) }
+    ensures { IfOk result (λ names. names ≡ names_of axis cell.now) }
 {
     let mut names = Names::new(alloc);
     names.push(b"0")?;
     push_border(&mut names, alloc, cell)?;
     push_nodes(&mut names, alloc, cell)?;
-    push_wires(&mut names, alloc, cell)?;
+    push_wires(&mut names, alloc, axis, cell)?;
     Ok(names)
 }

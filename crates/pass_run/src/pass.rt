@@ -1,67 +1,178 @@
-//! The pass of a cell on x: its least layout.
+//! One pass over a layout.
 
-ghost use Rattle.std.specs.Prelude.{◌≡◌, ◌^◌, pos, neg_ℤ, ◌≤ℤ◌, All, IfOk, IfErr};
-ghost use Rattle.stick_cell.specs.declared.cell.Nets.{Nets};
+ghost use Rattle.std.specs.Prelude.{◌≡◌, ◌<◌, ◌≤◌, ◌^◌, ◌∷◌, [], List, length, IfOk, IfErr};
+ghost use Rattle.lam_geom.specs.declared.boxes.Axis.{Axis as SomeAxis};
+ghost use Rattle.cons_graph.specs.Logs.{IsEndedLog};
+ghost use Rattle.cons_graph.specs.Orders.{NamesEachOnce};
+ghost use Rattle.cons_graph.specs.Solutions.{value_of};
+ghost use Rattle.liao_wong.specs.Sorted.{IsInOrderOf};
 ghost use Rattle.stick_cell.specs.Sound.{IsSound, IsLight};
-ghost use Rattle.expand.specs.Items.{AreItems, item_list};
-ghost use Rattle.coarse_grid.specs.Start.{start_of};
-ghost use Rattle.liao_wong.specs.Answers.{IsWithinLimit};
-ghost use Rattle.pass_run.specs.System.{placed, IsReady, IsLeastLayout, IsWellPlaced};
-ghost use Rattle.pass_run.specs.PassFaults.{RefusesPass};
+ghost use Rattle.expand.specs.Items.{AreItems};
+ghost use Rattle.expand.specs.Variables.{variables_of};
+ghost use Rattle.pass_run.specs.declared.pass.Stop.TheVariants.{OutOfMemory};
+ghost use Rattle.pass_run.specs.System.{list_over};
+ghost use Rattle.pass_run.specs.Passes.{values_on, moved_by, IsLeastPass, IsRecorded};
+ghost use Rattle.pass_run.specs.Report.{pass_text};
+ghost use Rattle.pass_run.specs.Theorems.{IsSoundPass};
+ghost use Rattle.pass_run.specs.Laid.{IsLaidOut, IsSettled};
+ghost use Rattle.pass_run.specs.OnePass.{StopsPass, IsFirstOn};
+ghost use Rattle.pass_run.specs.OneStep.{step_of, HasPath, stop_of};
 
-use crate::cycle::cycle_text;
-use crate::edges::{SystemFault, graph};
-use liao_wong::{Unsolved, solve, sort_order};
+use crate::edges::{ListFault, Listed, list};
+use crate::step::{Step, Walk};
+use crate::text::{cycle_text, pass_text};
+use crit_path::walk_to;
+use expand::Master;
+use lam_geom::Axis;
+use lam_list::Seq;
+use liao_wong::{Solved, Unsolved, solve, sort_order};
 use rule_table::Tech;
 use std::alloc::{AllocError, Global};
 use stick_cell::Cell;
-use sym_items::{Coords, Items};
+use sym_items::Coords;
 
-/// Why a pass gives no layout.
+/// A pass that was made, and its text in the report.
 #[derive(Debug, Drop)]
-pub enum PassFault {
-    /// There are more than 4,194,304 inequalities.
+pub struct Made {
+    pub step: Step,
+    pub text: Vec<u8>,
+}
+
+/// Why a pass is not made.
+#[derive(Debug, Drop)]
+pub enum Stop {
+    /// There are more than 4,194,304 inequalities in its list.
     TooManyEdges,
-    /// The inequalities have a positive cycle. The text has its length and its lines.
-    Unsatisfiable(Vec<u8>),
+    /// Its inequalities have a positive cycle, of which this is the text.
+    Cycle(Vec<u8>),
     OutOfMemory,
 }
 
-/// The least x of every variable of a cell whose start layout is clean: the least values that meet the structure of the
-/// cell and keep all its candidates apart.
-pub fn least_x(
+impl From<AllocError> for Stop {
+    ghost from_gives = { λ _ stop. stop ≡ OutOfMemory };
+
+    fn from(_error: AllocError) -> Stop {
+        Stop::OutOfMemory
+    }
+}
+
+impl From<ListFault> for Stop {
+    ghost from_gives = { λ fault stop. stop ≡ stop_of fault };
+
+    fn from(fault: ListFault) -> Stop {
+        match fault {
+            ListFault::TooManyEdges => Stop::TooManyEdges,
+            ListFault::OutOfMemory => Stop::OutOfMemory,
+        }
+    }
+}
+
+// The values of an axis.
+fn values_along(axis: Axis, layout: &Coords) -> &[i64]
+    ensures { result.now ≡ values_on axis layout.now }
+{
+    match axis {
+        Axis::X => layout.x.as_slice(),
+        Axis::Y => layout.y.as_slice(),
+    }
+}
+
+// The variables of an axis in order of their values in the layout.
+fn order_along(alloc: Global, axis: Axis, layout: &Coords) -> Result<Vec<u32>, AllocError>
+    requires few { length (values_on axis layout.now) < 2 ^ 32 }
+    ensures names { IfOk result (λ order. NamesEachOnce (length (values_on axis layout.now)) order.items) }
+    ensures in_order { IfOk result (λ order. IsInOrderOf (value_of (values_on axis layout.now)) order.items) }
+{
+    sort_order(alloc, values_along(axis, layout))
+}
+
+// A list of one element.
+fn one<T: Drop>(alloc: Global, element: T) -> Result<Seq<T>, AllocError>
+    ensures { IfOk result (λ list. list ≡ element ∷ []) }
+{
+    let mut elements = Vec::new(alloc);
+    elements.push(element)?;
+    Ok(Seq::from_vec(elements))
+}
+
+// The step of a solved pass: what the rounds give, and the walk that their log has to the far border, which is variable 1.
+fn step_from(alloc: Global, axis: Axis, listed: &Listed, solved: Solved) -> Result<Step, AllocError>
+    requires ended { IsEndedLog listed.now.graph solved.log }
+    requires far { 1 < listed.now.graph.vars }
+    ensures value { IfOk result (λ s. s ≡ step_of axis listed.now solved) }
+    ensures path { IfOk result (λ _. HasPath listed.now.graph.edges solved.log) }
+{
+    let edges = walk_to(alloc, &listed.graph, &solved.log, 1)?;
+    let walk = Walk {
+        edges: Seq::from_vec(edges),
+    };
+    Ok(Step {
+        axis,
+        x: solved.x,
+        kept: one(alloc, listed.kept)?,
+        edges: listed.graph.edges().len() as u32,
+        backward: solved.backward,
+        rounds: solved.rounds,
+        walks: one(alloc, walk)?,
+    })
+}
+
+// A solved pass, and its text.
+fn with_text(
+    alloc: Global,
+    cell: &Cell,
+    pass: u32,
+    axis: Axis,
+    listed: &Listed,
+    solved: Solved,
+) -> Result<Made, AllocError>
+    requires light { IsLight cell.now }
+    requires vars { listed.now.graph.vars ≡ variables_of axis cell.now }
+    requires ended { IsEndedLog listed.now.graph solved.log }
+    ensures step { IfOk result (λ m. m.step ≡ step_of axis listed.now solved) }
+    ensures path { IfOk result (λ _. HasPath listed.now.graph.edges solved.log) }
+    ensures text { IfOk result (λ m. m.text.items ≡ pass_text cell.now listed.now.graph.edges pass m.step) }
+{
+    let step = step_from(alloc, axis, listed, solved)?;
+    let text = pass_text(alloc, cell, &listed.graph, pass, &step)?;
+    Ok(Made { step, text })
+}
+
+/// The pass with this number on an axis, over the layout before it: the least values of the axis, by Liao and Wong's
+/// rounds over the listed inequalities in order of the values before.
+pub fn one_pass(
     alloc: Global,
     tech: &Tech,
-    cell: &Cell,
-    items: &Items,
-    start: &Coords,
-) -> Result<Vec<i64>, PassFault>
-    requires sound { IsSound tech.now cell.now }
-    requires light { IsLight cell.now }
-    requires items { AreItems tech.now cell.now items.now }
-    requires start { start.now ≡ start_of tech.now cell.now }
-    ensures least { IfOk result (λ x. (nets : Nets) → items.now.list ≡ item_list tech.now cell.now nets → IsReady tech.now cell.now nets
-        → IsLeastLayout tech.now cell.now nets x.items) }
-    ensures placed { IfOk result (λ x. (nets : Nets) → items.now.list ≡ item_list tech.now cell.now nets → IsReady tech.now cell.now nets
-        → IsWellPlaced tech.now (placed tech.now cell.now x.items) items.now.list) }
-    ensures small { IfOk result (λ x. All IsWithinLimit x.items) }
-    ensures refused { IfErr result (λ fault. (nets : Nets) → items.now.list ≡ item_list tech.now cell.now nets → IsReady tech.now cell.now nets
-        → RefusesPass tech.now cell.now fault) }
+    master: &Master,
+    pass: u32,
+    axis: Axis,
+    layout: &Coords,
+) -> Result<Made, Stop>
+    requires sound { IsSound tech.now master.now.cell }
+    requires light { IsLight master.now.cell }
+    requires items { AreItems tech.now master.now.cell master.now.items }
+    requires laid { IsLaidOut tech.now master.now.cell master.now.items.list layout.now }
+    ensures axis { IfOk result (λ m. m.step.axis ≡ axis) }
+    ensures least { IfOk result (λ m. IsLeastPass tech.now master.now.cell master.now.items.list layout.now m.step) }
+    ensures recorded { IfOk result (λ m. IsRecorded tech.now master.now.cell master.now.items.list layout.now m.step) }
+    ensures sound_pass { IfOk result (λ m. (had : List SomeAxis) → IsSettled tech.now master.now.cell master.now.items.list had layout.now
+        → IsSoundPass tech.now master.now.cell master.now.items.list had layout.now m.step) }
+    ensures laid { IfOk result (λ m. IsLaidOut tech.now master.now.cell master.now.items.list (moved_by layout.now m.step)) }
+    ensures settled { IfOk result (λ m. (had : List SomeAxis) → IsSettled tech.now master.now.cell master.now.items.list had layout.now
+        → IsSettled tech.now master.now.cell master.now.items.list (axis ∷ had) (moved_by layout.now m.step)) }
+    ensures text { IfOk result (λ m. m.text.items ≡ pass_text master.now.cell (list_over axis tech.now master.now.cell master.now.items.list layout.now) pass m.step) }
+    ensures stopped { IfErr result (StopsPass tech.now master.now.cell master.now.items.list layout.now pass axis) }
+    ensures first { IfErr result (IsFirstOn tech.now master.now.cell master.now.items.list layout.now axis) }
 {
-    let graph = match graph(alloc, tech, cell, items, start) {
-        Ok(graph) => graph,
-        Err(SystemFault::TooManyEdges) => return Err(PassFault::TooManyEdges),
-        Err(SystemFault::OutOfMemory) => return Err(PassFault::OutOfMemory),
-    };
-    let Ok(order) = sort_order(alloc, start.x.as_slice()) else {
-        return Err(PassFault::OutOfMemory);
-    };
-    match solve(alloc, &graph, &order) {
-        Ok(solved) => Ok(solved.x.into_vec()),
-        Err(Unsolved::OutOfMemory) => Err(PassFault::OutOfMemory),
-        Err(Unsolved::Cycle(cycle)) => match cycle_text(alloc, cell, &graph, cycle.as_slice()) {
-            Ok(text) => Err(PassFault::Unsatisfiable(text)),
-            Err(AllocError) => Err(PassFault::OutOfMemory),
-        },
+    let listed = list(alloc, axis, tech, master, layout)?;
+    let order = order_along(alloc, axis, layout)?;
+    match solve(alloc, &listed.graph, &order) {
+        Ok(solved) => Ok(with_text(alloc, &master.cell, pass, axis, &listed, solved)?),
+        Err(Unsolved::Cycle(cycle)) => {
+            let cycle = cycle.as_slice();
+            let text = cycle_text(alloc, &master.cell, &listed.graph, pass, axis, cycle)?;
+            Err(Stop::Cycle(text))
+        }
+        Err(Unsolved::OutOfMemory) => Err(Stop::OutOfMemory),
     }
 }

@@ -1,4 +1,4 @@
-use Rattle.std.proofs.Common.{map, ap}
+use Rattle.std.proofs.Common.{map}
 use Rattle.compact_run.specs.Answers.{text_of}
 use Rattle.compact_run.proofs.Steps.{asks_for_files_weaker}
 use Rattle.compact_run.proofs.Endings.{ends_written, ends_refused}
@@ -6,7 +6,8 @@ use Rattle.compact_run.proofs.top.run.Goals as goal
 
 pub returns-in-Ok-clause-answer : goal.returns-in-Ok-clause-answer
 returns-in-Ok-clause-answer g c = λ t told.
-    ends_written (map (λ word. word.now) c.args.words.now) t.files c.write.result _ _ _ _ _ _ (text_of c.in-Ok.output) c.write.ensures.answer c.write.ensures.done (λ e. ap g.R.Sink.told (c.write.ensures.silent e)) c.write.ensures.prefix c.write.ensures.line (c.in-Ok.ensures.given t told)
+    ends_written (map (λ word. word.now) c.args.words.now) t.files c.write.result _ _ _ _ _ _ (text_of c.in-Ok.output) c.in-Ok.output.report
+    c.write.ensures.answer c.write.ensures.written c.write.ensures.told c.write.ensures.prefix c.write.ensures.line c.write.ensures.report_prefix c.write.ensures.report_fault (c.in-Ok.ensures.given t told)
 
 pub returns-in-Err-clause-answer : goal.returns-in-Err-clause-answer
 returns-in-Err-clause-answer g c = λ t told.

@@ -1,6 +1,6 @@
 use Rattle.std.proofs.Common.{◌≡◌, ◌++◌, map, take}
 use Rattle.stick_cell.specs.declared.cell.Node.{Node}
-use Rattle.pass_run.specs.System.{within_cell}
+use Rattle.pass_run.specs.Names.{within_cell}
 use Rattle.pass_run.proofs.names.push_nodes.Given as goal
 
 abbrev pub invariant-loop-node : goal.invariant-loop-node

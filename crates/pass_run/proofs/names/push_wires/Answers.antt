@@ -1,9 +1,8 @@
 use Rattle.std.proofs.Common.{List, ◌++◌, length, ap, ◌∙◌, arith}
-use Rattle.lam_geom.specs.declared.boxes.Axis.TheVariants.{X}
 use Rattle.stick_cell.specs.declared.cell.Wire.{Wire}
 use Rattle.expand.proofs.Crosses.{wire_read}
 use Rattle.expand.proofs.Pieces.{piece_added}
-use Rattle.pass_run.specs.System.{cross_name_along, cross_name}
+use Rattle.pass_run.specs.Names.{cross_name_along, cross_name}
 use Rattle.pass_run.proofs.names.push_wires.Goals as goal
 
 pub loop-k-preserved : goal.loop-k-preserved
@@ -13,5 +12,5 @@ loop-k-preserved c =
     let e = ap (λ (ns : List Wire). length ns) c.as_slice-wires.ensures in
     let light = c.requires in
     let test = c.loop-k-test.true in
-    piece_added (cross_name X cell) k c.args.names.now c.loop-k.names c.push_wire.new.names c.loop-k.invariant
-    (c.in_ok-push_wire.ensures ∙ ap (λ (w : Wire). c.loop-k.names ++ cross_name_along X cell k w.along) (wire_read _ _ k _ c.as_slice-wires.ensures (omega arith)))
+    piece_added (cross_name c.args.axis cell) k c.args.names.now c.loop-k.names c.push_wire.new.names c.loop-k.invariant
+    (c.in_ok-push_wire.ensures ∙ ap (λ (w : Wire). c.loop-k.names ++ cross_name_along c.args.axis cell k w.along) (wire_read _ _ k _ c.as_slice-wires.ensures (omega arith)))

@@ -1,0 +1,84 @@
+-- Passes may be made over the start layout of a cell.
+use Rattle.std.proofs.Common.{◌≡◌, ℤ, pos, ◌≤ℤ◌, List, [], length, refl, sym, ap, subst, arith}
+use Rattle.std.specs.List.{AllByRecursion, All}
+use Rattle.std.proofs.lemmas.Int.{ints}
+use Rattle.lam_geom.specs.declared.boxes.Axis.{Axis}
+use Rattle.lam_geom.specs.declared.boxes.Axis.TheVariants.{X, Y}
+use Rattle.rule_table.specs.declared.technology.Tech.{Tech}
+use Rattle.cons_graph.specs.Solutions.{value_of}
+use Rattle.sym_items.specs.declared.items.Item.{Item}
+use Rattle.sym_items.specs.declared.items.Items.{Items}
+use Rattle.sym_items.specs.declared.items.Coords.{Coords}
+use Rattle.sym_items.specs.Boxes.{HasBox}
+use Rattle.stick_cell.specs.declared.cell.Axis2.TheVariants.{Across, Up}
+use Rattle.stick_cell.specs.declared.cell.Cell.{Cell}
+use Rattle.stick_cell.specs.Sound.{IsSound}
+use Rattle.stick_cell.proofs.GrownLists.{all_weaker}
+use Rattle.expand.specs.Items.{AreItems, item_list}
+use Rattle.expand.specs.Variables.{variables_of}
+use Rattle.pair_rules.specs.Clean.{IsClean}
+use Rattle.coarse_grid.specs.Near.{IsNear}
+use Rattle.coarse_grid.specs.Extent.{half_extent_of, pitch_of}
+use Rattle.coarse_grid.specs.Start.{start_values, start_of}
+use Rattle.coarse_grid.proofs.Lines.{near_lines}
+use Rattle.coarse_grid.proofs.Reaches.{coarse, coarse_pitch}
+use Rattle.coarse_grid.proofs.Starts.{start_near, counted_x, counted_y}
+use Rattle.coarse_grid.proofs.Elements.{all_of}
+use Rattle.coarse_grid.proofs.Laid.{IsLaid}
+use Rattle.coarse_grid.proofs.ItemsLaid.{items_laid, has_boxes}
+use Rattle.pass_run.specs.Passes.{values_on}
+use Rattle.pass_run.specs.Laid.{IsAbove, IsLaidOut, IsSettled}
+use Rattle.pass_run.proofs.Chain.{none_among}
+
+counted : (tech : Tech) (cell : Cell) (axis : Axis) → length (values_on axis (start_of tech cell)) ≡ variables_of axis cell
+counted tech cell X = counted_x (pitch_of tech cell) cell
+counted tech cell Y = counted_y (pitch_of tech cell) cell
+
+origin : (tech : Tech) (cell : Cell) (axis : Axis) → value_of (values_on axis (start_of tech cell)) 0 ≡ pos 0
+origin tech cell X = refl
+origin tech cell Y = refl
+
+-- no value lies below the origin
+above : (values : List ℤ) → AllByRecursion IsNear values → All (λ z. pos 0 ≤ℤ z) values
+above values near = all_of (λ z. pos 0 ≤ℤ z) values (all_weaker IsNear (λ z. pos 0 ≤ℤ z) (λ z h. h.0) values near)
+
+values_above : (tech : Tech) (cell : Cell) → IsSound tech cell → (axis : Axis) → All (λ z. pos 0 ≤ℤ z) (values_on axis (start_of tech cell))
+values_above tech cell s X =
+    let pitch = coarse_pitch tech cell (pitch_of tech cell) (half_extent_of tech cell) (coarse tech cell s) in
+    above (start_values (pitch_of tech cell) Across cell) (start_near (pitch_of tech cell) Across cell pitch (near_lines tech cell s))
+values_above tech cell s Y =
+    let pitch = coarse_pitch tech cell (pitch_of tech cell) (half_extent_of tech cell) (coarse tech cell s) in
+    above (start_values (pitch_of tech cell) Up cell) (start_near (pitch_of tech cell) Up cell pitch (near_lines tech cell s))
+
+-- nor does the high end of an item
+end_above : (tech : Tech) (cell : Cell) (axis : Axis) (item : Item) → IsLaid cell (pitch_of tech cell) (half_extent_of tech cell) item → IsAbove axis (start_of tech cell) item
+end_above tech cell X item l =
+    let low = l.x.low_inside in
+    let ordered = l.x.ordered in
+    omega (arith, ints, low, ordered)
+end_above tech cell Y item l =
+    let low = l.y.low_inside in
+    let ordered = l.y.ordered in
+    omega (arith, ints, low, ordered)
+
+pub start_laid : (tech : Tech) (cell : Cell) (items : Items) → IsSound tech cell → AreItems tech cell items → IsClean tech (start_of tech cell) items.list → IsLaidOut tech cell items.list (start_of tech cell)
+start_laid tech cell items s are clean =
+    let c : Coords = start_of tech cell in
+    let list : List Item = item_list tech cell are.nets in
+    let is : items.list ≡ list = ap (λ (i : Items). i.list) are.are in
+    let laid = items_laid tech cell are.nets s in
+    let A : List Item → Type 0 = λ zs. (axis : Axis) → All (IsAbove axis c) zs in
+    let B : List Item → Type 0 = λ zs. All (HasBox c) zs in
+    record {
+      counted = counted tech cell;
+      origin = origin tech cell;
+      values_above = values_above tech cell s;
+      ends_above = subst A (sym is) (λ axis. all_of (IsAbove axis c) list
+          (all_weaker (IsLaid cell (pitch_of tech cell) (half_extent_of tech cell)) (IsAbove axis c) (end_above tech cell axis) list laid));
+      boxes = subst B (sym is) (has_boxes tech cell are.nets s);
+      clean = clean;
+    }
+
+-- on no axis is anything settled
+pub none_settled : (tech : Tech) (cell : Cell) (items : List Item) (layout : Coords) → IsSettled tech cell items [] layout
+none_settled tech cell items layout = record { solved = λ axis h. absurd (none_among axis h); long = λ axis h. absurd (none_among axis h) }

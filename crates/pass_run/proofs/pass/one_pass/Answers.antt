@@ -1,0 +1,127 @@
+use Rattle.std.proofs.Common.{◌≡◌, ℕ, List, ◌∷◌, length, sym, ap, ◌∙◌, subst}
+use Rattle.lam_geom.specs.declared.boxes.Axis.{Axis}
+use Rattle.cons_graph.specs.Orders.{IsOrder}
+use Rattle.cons_graph.specs.Looks.{backward_numbers}
+use Rattle.cons_graph.specs.Logs.{raises_in}
+use Rattle.cons_graph.specs.Rounds.{plan_of, EndsInRound}
+use Rattle.cons_graph.specs.SimpleWalks.{IsSimplePositiveCycle}
+use Rattle.cons_graph.specs.Walks.{HasPositiveCycle}
+use Rattle.liao_wong.specs.declared.solving.Unsolved.{Unsolved}
+use Rattle.liao_wong.specs.Answers.{IfCycle, IsCycleOf}
+use Rattle.pass_run.specs.declared.step.Step.{Step}
+use Rattle.pass_run.specs.Passes.{moved_by, IsLeastPass, IsRecorded}
+use Rattle.pass_run.specs.Report.{pass_text, cycle_text}
+use Rattle.pass_run.specs.Theorems.{IsSoundPass}
+use Rattle.pass_run.specs.Laid.{IsLaidOut, IsSettled}
+use Rattle.pass_run.specs.OneStep.{step_of}
+use Rattle.pass_run.proofs.Solved.{IsSolvedPass, IsStoppedPass, order_of, cycle_few, least_pass, recorded, sound_pass, laid_next, settled_next, stopped, stopped_first}
+use Rattle.pass_run.proofs.pass.one_pass.Goals as goal
+
+pub solve-requires : goal.solve-requires
+solve-requires c =
+    let O : List ℕ → Type 0 = λ ns. IsOrder c.in_ok-listed.listed.graph.vars ns in
+    subst O (sym c.deref.ensures.value)
+    (order_of c.args.axis c.args.tech.now c.args.master.now.cell c.args.master.now.items.list c.args.layout.now c.in_ok-listed.listed.graph.vars c.in_ok-order.order.items c.requires.laid c.in_ok-listed.ensures.vars
+    c.in_ok-order.ensures.names c.in_ok-order.ensures.in_order)
+
+pub with_text-requires-clause-ended : goal.with_text-requires-clause-ended
+with_text-requires-clause-ended c =
+    let O : List ℕ → Type 0 = λ ns. IsOrder c.in_ok-listed.listed.graph.vars ns in
+    record {
+      order = c.deref.result.now;
+      rounds = c.in-Ok.solved.rounds;
+      is_order = subst O (sym c.deref.ensures.value)
+          (order_of c.args.axis c.args.tech.now c.args.master.now.cell c.args.master.now.items.list c.args.layout.now c.in_ok-listed.listed.graph.vars c.in_ok-order.order.items c.requires.laid
+          c.in_ok-listed.ensures.vars c.in_ok-order.ensures.names c.in_ok-order.ensures.in_order);
+      holds = c.in-Ok.ensures.log;
+      ended = c.in-Ok.ensures.ended;
+    }
+
+pub returns-in-Ok : goal.returns-in-Ok
+returns-in-Ok c =
+    let tech = c.args.tech.now in
+    let cell = c.args.master.now.cell in
+    let items = c.args.master.now.items in
+    let layout = c.args.layout.now in
+    let axis = c.args.axis in
+    let listed = c.in_ok-listed.listed in
+    let solved = c.in-Ok.solved in
+    let order = c.in_ok-order.order.items in
+    let step = c.in_ok-with_text-in-Ok.field-0.step in
+    let B : List ℕ → Type 0 = λ ns. solved.backward ≡ length (backward_numbers listed.graph.edges ns) in
+    let E : List ℕ → Type 0 = λ ns. EndsInRound (plan_of listed.graph.edges ns) solved.rounds (raises_in solved.log) in
+    let run : IsSolvedPass axis tech cell items.list layout listed order solved = record {
+      vars = c.in_ok-listed.ensures.vars;
+      edges = c.in_ok-listed.ensures.edges;
+      few = c.in_ok-listed.ensures.few;
+      kept = c.in_ok-listed.ensures.kept;
+      names = c.in_ok-order.ensures.names;
+      in_order = c.in_ok-order.ensures.in_order;
+      least = c.in-Ok.ensures.least;
+      one_each = c.in-Ok.ensures.one_each;
+      small = c.in-Ok.ensures.small;
+      backward = subst B c.deref.ensures.value c.in-Ok.ensures.backward;
+      ended = subst E c.deref.ensures.value c.in-Ok.ensures.ended;
+      labels = c.in-Ok.ensures.labels;
+      path = c.in_ok-with_text-in-Ok.ensures.path;
+    } in
+    let is : step_of axis listed solved ≡ step = sym c.in_ok-with_text-in-Ok.ensures.step in
+    let L : Step → Type 0 = λ s. IsLeastPass tech cell items.list layout s in
+    let R : Step → Type 0 = λ s. IsRecorded tech cell items.list layout s in
+    let S : Step → Type 0 = λ s. (had : List Axis) → IsSettled tech cell items.list had layout → IsSoundPass tech cell items.list had layout s in
+    let O : Step → Type 0 = λ s. IsLaidOut tech cell items.list (moved_by layout s) in
+    let T : Step → Type 0 = λ s. (had : List Axis) → IsSettled tech cell items.list had layout → IsSettled tech cell items.list (axis ∷ had) (moved_by layout s) in
+    record {
+      axis = ap (λ (s : Step). s.axis) (sym is);
+      least = subst L is (least_pass axis tech cell items layout listed order solved c.requires.sound c.requires.items c.requires.laid run);
+      recorded = subst R is (recorded axis tech cell items.list layout listed order solved c.requires.laid run);
+      sound_pass = subst S is (sound_pass axis tech cell items layout listed order solved c.requires.sound c.requires.items c.requires.laid run);
+      laid = subst O is (laid_next axis tech cell items layout listed order solved c.requires.sound c.requires.items c.requires.laid run);
+      settled = subst T is (settled_next axis tech cell items layout listed order solved c.requires.sound c.requires.items c.requires.laid run);
+      text = c.in_ok-with_text-in-Ok.ensures.text ∙ ap (λ es. pass_text cell es c.args.pass step) c.in_ok-listed.ensures.edges;
+      stopped = tt;
+      first = tt;
+    }
+
+pub cycle_text-requires-clause-few : goal.cycle_text-requires-clause-few
+cycle_text-requires-clause-few c =
+    let g = c.in_ok-listed.listed.graph in
+    let P : List ℕ → Type 0 = λ ns. IsSimplePositiveCycle g.edges ns in
+    let I : Unsolved → Type 0 = λ u. IfCycle u P in
+    cycle_few g c.as_slice-cycle.result.now c.in_ok-listed.ensures.shape (subst P (sym c.as_slice-cycle.ensures) (subst I c.in-Err-Cycle.field-0-is c.in-Err-Cycle.ensures.cycle))
+
+pub returns-in-Err-Cycle : goal.returns-in-Err-Cycle
+returns-in-Err-Cycle c =
+    let tech = c.args.tech.now in
+    let cell = c.args.master.now.cell in
+    let items = c.args.master.now.items.list in
+    let layout = c.args.layout.now in
+    let axis = c.args.axis in
+    let listed = c.in_ok-listed.listed in
+    let order = c.in_ok-order.order.items in
+    let cycle = c.in-Err-Cycle.cycle in
+    let H : Unsolved → Type 0 = λ u. IfCycle u (λ (ns : List ℕ). HasPositiveCycle listed.graph.edges) in
+    let I : Unsolved → Type 0 = λ u. IfCycle u (λ (ns : List ℕ). IsSimplePositiveCycle listed.graph.edges ns) in
+    let J : Unsolved → Type 0 = λ u. IfCycle u (IsCycleOf listed.graph.edges c.deref.result.now) in
+    let S : List ℕ → Type 0 = λ ns. IsCycleOf listed.graph.edges ns cycle in
+    let run : IsStoppedPass axis tech cell items layout listed order cycle = record {
+      edges = c.in_ok-listed.ensures.edges;
+      few = c.in_ok-listed.ensures.few;
+      names = c.in_ok-order.ensures.names;
+      in_order = c.in_ok-order.ensures.in_order;
+      cyclic = subst H c.in-Err-Cycle.field-0-is c.in-Err-Cycle.ensures.cyclic;
+      simple = subst I c.in-Err-Cycle.field-0-is c.in-Err-Cycle.ensures.cycle;
+      stops = subst S c.deref.ensures.value (subst J c.in-Err-Cycle.field-0-is c.in-Err-Cycle.ensures.stopped);
+    } in
+    record {
+      axis = tt;
+      least = tt;
+      recorded = tt;
+      sound_pass = tt;
+      laid = tt;
+      settled = tt;
+      text = tt;
+      stopped = stopped axis tech cell items layout listed order cycle c.args.pass c.in_ok-text-in-Err-Cycle.text.items c.requires.laid run
+          (c.in_ok-text-in-Err-Cycle.ensures ∙ ap (λ ns. cycle_text cell listed.graph.edges c.args.pass axis ns) c.as_slice-cycle.ensures);
+      first = stopped_first axis tech cell items layout listed order cycle c.requires.laid run;
+    }

@@ -1,0 +1,50 @@
+use Rattle.std.proofs.Common.{◌≡◌, suc, List, length, drop, sym, ap, ◌∙◌, subst, arith}
+use Rattle.std.proofs.lemmas.List.{length-take-le, take_all}
+use Rattle.std.proofs.lemmas.Result.{err_from_is_err_and}
+use Rattle.lam_geom.specs.declared.boxes.Axis.{Axis}
+use Rattle.lam_geom.specs.declared.boxes.Axis.TheVariants.{X}
+use Rattle.coarse_grid.specs.Start.{start_of}
+use Rattle.pass_run.specs.declared.step.Step.{Step}
+use Rattle.pass_run.specs.Passes.{layout_after, axes_of}
+use Rattle.pass_run.specs.Theorems.{IsWellPlaced}
+use Rattle.pass_run.proofs.Chain.{axes_counted}
+use Rattle.pass_run.proofs.Going.{going_placed, refused_there}
+use Rattle.pass_run.proofs.Cycles.{pruning}
+use Rattle.pass_run.proofs.passes.run_passes.Goals as goal
+
+pub go_on-requires-clause-few : goal.go_on-requires-clause-few
+go_on-requires-clause-few c =
+    let counted = axes_counted c.loop-axis.so_far.steps.items in
+    let axes = ap (λ (axes : List Axis). length axes) c.loop-axis.invariant.axes in
+    let few = c.requires.few in
+    let test = c.loop-axis-test.true in
+    let shorter = length-take-le c.loop-axis.axis-index c.args.axes.now (omega arith) in
+    omega arith
+
+pub returns-in_err-so_far-2-clause-refused : goal.returns-in_err-so_far-2-clause-refused
+returns-in_err-so_far-2-clause-refused c =
+    let p = err_from_is_err_and c.from_residual-in_err-so_far-2.result c.from_residual-in_err-so_far-2.ensures.1 in
+    let r = c.in_err-so_far-2.ensures.refused (drop (suc c.loop-axis.axis-index) c.args.axes.now) in
+    rw (p.1, p.2)
+    (refused_there c.args.tech.now c.args.master.now.cell c.args.master.now.items.list c.args.axes.now (axes_of c.loop-axis.so_far.steps.items) c.loop-axis.axis-index X _
+    (omega arith) c.loop-axis.invariant.axes r)
+
+pub returns-clause-placed : goal.returns-clause-placed
+returns-clause-placed c =
+    let S : List Step → Type 0 = λ steps. IsWellPlaced c.args.tech.now (layout_after (start_of c.args.tech.now c.args.master.now.cell) steps) c.args.master.now.items.list c.args.axes.now in
+    let test = c.loop-axis-test.false in
+    let all : axes_of c.loop-axis.so_far.steps.items ≡ c.args.axes.now = c.loop-axis.invariant.axes ∙ take_all c.loop-axis.axis-index c.args.axes.now (omega arith) in
+    subst S (sym c.in_ok-given.ensures.steps)
+    (going_placed c.args.tech.now c.args.master.now.cell c.args.master.now.items.list c.loop-axis.so_far c.args.axes.now c.loop-axis.invariant.going all)
+
+pub returns-in_err-so_far-clause-pruning : goal.returns-in_err-so_far-clause-pruning
+returns-in_err-so_far-clause-pruning c = pruning c.args.tech.now c.args.master.now.cell c.args.master.now.items c.requires.sound c.requires.light c.requires.items
+
+pub returns-in_err-so_far-2-clause-pruning : goal.returns-in_err-so_far-2-clause-pruning
+returns-in_err-so_far-2-clause-pruning c = pruning c.args.tech.now c.args.master.now.cell c.args.master.now.items c.requires.sound c.requires.light c.requires.items
+
+pub returns-in_err-given-clause-pruning : goal.returns-in_err-given-clause-pruning
+returns-in_err-given-clause-pruning c = pruning c.args.tech.now c.args.master.now.cell c.args.master.now.items c.requires.sound c.requires.light c.requires.items
+
+pub returns-clause-pruning : goal.returns-clause-pruning
+returns-clause-pruning c = pruning c.args.tech.now c.args.master.now.cell c.args.master.now.items c.requires.sound c.requires.light c.requires.items
