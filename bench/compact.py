@@ -1,8 +1,9 @@
 #!/usr/bin/env python3
 """Times `compact` and `fmt` on generated designs of growing size: compact.py [PROGRAM]
 
-Each design is one cell of metal:
-  row     joints side by side, so that every two of them face each other (the most inequalities)
+After the time it prints what the report says of the first pass. `inverter` is the example. Each other design is one cell of metal:
+  row     joints side by side, so that every two of them face each other, and all but neighbours are shadowed
+  nets    two rows of joints, each tied by wires to one net, so that no item of a row shadows another of it
   ladder  columns tied by a wire, with single joints between them in turns
   chain   one column of joints whose wires are listed from the top, and a row beside it
   grid    joints on a square grid
@@ -23,6 +24,12 @@ def design(lines):
 
 def row(n):
     return ["joint j%d metal %d 0" % (i, i) for i in range(n)]
+
+
+def nets(n):
+    k = n // 4
+    return (["joint a%d metal %d 0" % (i, i) for i in range(k)] + ["joint b%d metal %d 0" % (i, k + i) for i in range(k)]
+            + ["wire metal %s%d %s%d" % (r, i, r, i + 1) for r in "ab" for i in range(k - 1)])
 
 
 def ladder(n):
@@ -64,8 +71,10 @@ def names(wires):
 
 def run(name, size, words):
     begin = time.time()
-    status = subprocess.run([PROGRAM] + words, stdout=subprocess.DEVNULL).returncode
-    print("%-7s %8s  %6.3f s  status %d" % (name, size, time.time() - begin, status))
+    done = subprocess.run([PROGRAM] + words, stdout=subprocess.DEVNULL, stderr=subprocess.PIPE, text=True)
+    took = time.time() - begin
+    told = done.stderr.splitlines()
+    print("%-8s %11s  %6.3f s  status %d  %s" % (name, size, took, done.returncode, told[0] if told else ""))
 
 
 def text(bytes_wanted):
@@ -78,7 +87,8 @@ def text(bytes_wanted):
 def main():
     with tempfile.TemporaryDirectory() as folder:
         path = os.path.join(folder, "d")
-        for name, make in (("row", row), ("ladder", ladder), ("chain", chain), ("grid", grid)):
+        run("inverter", "", ["compact", os.path.join(HERE, "..", "examples", "inverter.sticks"), "--tech", TECH])
+        for name, make in (("row", row), ("nets", nets), ("ladder", ladder), ("chain", chain), ("grid", grid)):
             for n in (250, 500, 1000, 2000):
                 with open(path, "w") as f:
                     f.write(design(make(n)))
