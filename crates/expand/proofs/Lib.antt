@@ -2,7 +2,6 @@ pub mod WorkedItems
 pub mod Channels
 pub mod Cells
 pub mod Crosses
-pub mod Pieces
 pub mod NetsRead
 pub mod ItemsRead
 pub mod Edges

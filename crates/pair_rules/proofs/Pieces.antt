@@ -1,29 +1,10 @@
--- Lists of the pieces of the first numbers.
-use Rattle.std.proofs.Common.{◌≡◌, ℕ, zero, suc, ◌+◌, ◌<◌, ℤ, List, [], ◌∷◌, ◌++◌, length, get_or, Option, Some, refl, sym, ap, ◌∙◌, subst, add-zero, zero-add, arith}
+-- What lists of the pieces of the first numbers contain.
+use Rattle.std.proofs.Common.{◌≡◌, ℕ, zero, suc, ◌<◌, ℤ, List, [], ◌∷◌, length, get_or, Option, Some, refl, sym, ◌∙◌, subst, zero-add, arith}
 use Rattle.std.specs.List.{flat_map, range_with_len, Contains}
-use Rattle.std.proofs.lemmas.List.{flat_map_more}
 use Rattle.std.proofs.lemmas.List.FromFn.{length-range_with_len, get_or-range_with_len}
 use Rattle.std.proofs.lemmas.List.Elements.{Contains-append_left, Contains-append_right}
 use Rattle.pair_rules.specs.declared.pairs.Pair.{Pair}
 use Rattle.pair_rules.specs.Candidates.{pair_with}
-
--- one more number
-range_more_from : (a n : ℕ) → range_with_len a (suc n) ≡ range_with_len a n ++ (a + n) ∷ []
-range_more_from a zero = ap (λ k. k ∷ []) (sym (add-zero a))
-range_more_from a (suc n) =
-    let step : (a + 1) + n ≡ a + suc n = omega arith in
-    ap (λ ks. a ∷ ks) (range_more_from (a + 1) n ∙ ap (λ k. range_with_len (a + 1) n ++ k ∷ []) step)
-
-range_more : (n : ℕ) → range_with_len 0 (n + 1) ≡ range_with_len 0 n ++ n ∷ []
-range_more n =
-    let next : n + 1 ≡ suc n = omega arith in
-    ap (range_with_len 0) next ∙ (range_more_from 0 n ∙ ap (λ k. range_with_len 0 n ++ k ∷ []) (zero-add n))
-
--- the piece of one more number is added
-pub piece_added : {A : Type 0} (f : ℕ → List A) (n : ℕ) (front now next : List A)
-    → now ≡ front ++ flat_map f (range_with_len 0 n) → next ≡ now ++ f n → next ≡ front ++ flat_map f (range_with_len 0 (n + 1))
-piece_added f n front now next was is =
-    is ∙ (ap (λ zs. zs ++ f n) was ∙ (flat_map_more f front (range_with_len 0 n) n ∙ ap (λ ks. front ++ flat_map f ks) (sym (range_more n))))
 
 -- what a piece contains, the whole contains
 contains_piece : {X A : Type 0} (f : X → List A) (xs : List X) (k : ℕ) (d : X) (y : A) → k < length xs → Contains (f (get_or xs k d)) y → Contains (flat_map f xs) y

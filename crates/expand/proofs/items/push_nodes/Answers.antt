@@ -4,7 +4,7 @@ use Rattle.stick_cell.specs.declared.cell.NodeNets.{NodeNets}
 use Rattle.expand.specs.Items.{items_of_node}
 use Rattle.expand.proofs.NetsRead.{node_nets_count, nets_read}
 use Rattle.expand.proofs.ItemsRead.{node_pushed}
-use Rattle.expand.proofs.Pieces.{piece_added}
+use Rattle.sym_items.proofs.Pieces.{piece_added}
 use Rattle.expand.proofs.items.push_nodes.Goals as goal
 
 pub bounds-as_slice-k : goal.bounds-as_slice-k

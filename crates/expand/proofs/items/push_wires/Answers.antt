@@ -4,7 +4,7 @@ use Rattle.stick_cell.specs.declared.cell.Wire.{Wire}
 use Rattle.expand.specs.Items.{items_of_wire}
 use Rattle.expand.proofs.Crosses.{wire_read}
 use Rattle.expand.proofs.ItemsRead.{wire_pushed}
-use Rattle.expand.proofs.Pieces.{piece_added}
+use Rattle.sym_items.proofs.Pieces.{piece_added}
 use Rattle.expand.proofs.items.push_wires.Goals as goal
 
 pub loop-k-preserved : goal.loop-k-preserved
