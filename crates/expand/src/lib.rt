@@ -20,3 +20,4 @@ mod wires;
 pub use inequalities::structure;
 pub use items::items_of;
 pub use master::Master;
+pub use variables::crossing;

@@ -4,10 +4,10 @@ ghost use Rattle.std.specs.Prelude.{◌≡◌, ◌++◌, ◌∷◌, [], codes, m
 ghost use Rattle.std.specs.List.{range_with_len};
 ghost use Rattle.stick_cell.specs.declared.cell.Node.{Node};
 ghost use Rattle.stick_cell.specs.Sound.{IsLight};
-ghost use Rattle.expand.specs.Variables.{crossing};
 ghost use Rattle.pass_run.specs.Names.{within_cell, cross_name_along, cross_name, names_of};
 
 use cons_graph::Names;
+use expand::crossing;
 use lam_geom::Axis;
 use std::alloc::{AllocError, Global};
 use stick_cell::{Axis2, Cell};
@@ -46,16 +46,6 @@ fn push_nodes(names: &mut Names, alloc: Global, cell: &Cell) -> Result<(), Alloc
         push_within(names, alloc, cell, node.name.bytes())?;
     }
     Ok(())
-}
-
-// How a wire runs that has its cross coordinate on an axis.
-fn crossing(axis: Axis) -> Axis2
-    ensures { result ≡ crossing axis }
-{
-    match axis {
-        Axis::X => Axis2::Up,
-        Axis::Y => Axis2::Across,
-    }
 }
 
 // Adds the name of the cross coordinate of wire `k`, if it has it on the axis.
