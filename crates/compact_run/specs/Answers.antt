@@ -132,17 +132,11 @@ pub record HasClash (tech : Tech) (cell : Cell) (a b : ℕ) (line : Bytes) : Typ
 -- why a cell has no masks
 abbrev pub RefusesCell : Tech → Cell → List Axis → Refusal → Type 0
 RefusesCell tech cell axes refusal.OutOfMemory = Unit {0}
-RefusesCell tech cell axes refusal.Usage = ⊥
-RefusesCell tech cell axes (refusal.Unread file) = ⊥
-RefusesCell tech cell axes (refusal.TooLong file) = ⊥
-RefusesCell tech cell axes (refusal.BadTech fault line) = ⊥
-RefusesCell tech cell axes (refusal.BadSticks fault line) = ⊥
-RefusesCell tech cell axes refusal.NotBuilt = ⊥
-RefusesCell tech cell axes (refusal.TooLarge Items) = ⊥
 RefusesCell tech cell axes (refusal.TooLarge Edges) = (pass : ℕ) × IsStopped tech cell axes (stop.TooManyEdges pass)
 RefusesCell tech cell axes (refusal.TooLarge Extent) = HasLargeExtent tech cell axes
 RefusesCell tech cell axes (refusal.Clash a b line) = HasClash tech cell a b line.items
 RefusesCell tech cell axes (refusal.Unsatisfiable pass report) = IsStopped tech cell axes (stop.Unsatisfiable pass report)
+RefusesCell tech cell axes other = ⊥
 
 -- The cell of a text has no masks for this cause.
 pub record CellRefuses (tech : Tech) (axes : List Axis) (text : Bytes) (r : Refusal) : Type 0 where
@@ -172,10 +166,6 @@ pub data IsFaultOf (tech : Tech) (text : Bytes) (fault : StickFault) : Type 0 wh
 -- why a text has no masks
 abbrev pub RefusesText : Tech → List Axis → Bytes → Refusal → Type 0
 RefusesText tech axes text refusal.OutOfMemory = Unit {0}
-RefusesText tech axes text refusal.Usage = ⊥
-RefusesText tech axes text (refusal.Unread file) = ⊥
-RefusesText tech axes text (refusal.TooLong file) = ⊥
-RefusesText tech axes text (refusal.BadTech fault line) = ⊥
 RefusesText tech axes text (refusal.BadSticks fault line) = IsFaultOf tech text fault × (line.items ≡ stick_line fault)
 RefusesText tech axes text refusal.NotBuilt = IsNotBuilt tech text
 RefusesText tech axes text (refusal.TooLarge Items) = ExceedsItems tech text
@@ -183,6 +173,7 @@ RefusesText tech axes text (refusal.TooLarge Edges) = CellRefuses tech axes text
 RefusesText tech axes text (refusal.TooLarge Extent) = CellRefuses tech axes text (refusal.TooLarge Extent)
 RefusesText tech axes text (refusal.Clash a b line) = CellRefuses tech axes text (refusal.Clash a b line)
 RefusesText tech axes text (refusal.Unsatisfiable pass report) = CellRefuses tech axes text (refusal.Unsatisfiable pass report)
+RefusesText tech axes text other = ⊥
 
 -- the output is the canonical text of the design of a text
 pub record IsFormatted (text output : Bytes) : Type 0 where
@@ -193,15 +184,8 @@ pub record IsFormatted (text output : Bytes) : Type 0 where
 -- a refusal for the fault of a reading of the design
 abbrev pub RefusesFault : {A : Type 0} → Result A StickFault → Refusal → Type 0
 RefusesFault read refusal.OutOfMemory = Unit {0}
-RefusesFault read refusal.Usage = ⊥
-RefusesFault read (refusal.Unread file) = ⊥
-RefusesFault read (refusal.TooLong file) = ⊥
-RefusesFault read (refusal.BadTech fault line) = ⊥
 RefusesFault read (refusal.BadSticks fault line) = (read ≡ Err fault) × (line.items ≡ stick_line fault)
-RefusesFault read refusal.NotBuilt = ⊥
-RefusesFault read (refusal.TooLarge what) = ⊥
-RefusesFault read (refusal.Clash a b line) = ⊥
-RefusesFault read (refusal.Unsatisfiable pass report) = ⊥
+RefusesFault read other = ⊥
 
 -- why a text has no canonical form
 abbrev pub RefusesSticks : Bytes → Refusal → Type 0
@@ -259,11 +243,7 @@ RefusesCompact design tech axes files (refusal.Unread file) = Unit {0}
 RefusesCompact design tech axes files (refusal.TooLong Technology) = IsLongFile files Technology tech
 RefusesCompact design tech axes files (refusal.TooLong Design) = IsLongDesign design tech files
 RefusesCompact design tech axes files (refusal.BadTech fault line) = IsNoTechnology files tech fault line.items
-RefusesCompact design tech axes files (refusal.BadSticks fault line) = HasCause design tech axes files (refusal.BadSticks fault line)
-RefusesCompact design tech axes files refusal.NotBuilt = HasCause design tech axes files refusal.NotBuilt
-RefusesCompact design tech axes files (refusal.TooLarge what) = HasCause design tech axes files (refusal.TooLarge what)
-RefusesCompact design tech axes files (refusal.Clash a b line) = HasCause design tech axes files (refusal.Clash a b line)
-RefusesCompact design tech axes files (refusal.Unsatisfiable pass report) = HasCause design tech axes files (refusal.Unsatisfiable pass report)
+RefusesCompact design tech axes files other = HasCause design tech axes files other
 
 -- The output of `fmt`, over the files of the shelf.
 pub record IsFmt (design : Bytes) (files : Files) (output : Bytes) : Type 0 where
@@ -280,16 +260,10 @@ pub record HasFault (design : Bytes) (files : Files) (r : Refusal) : Type 0 wher
 -- Why `fmt` is refused.
 abbrev pub RefusesFmt : Bytes → Files → Refusal → Type 0
 RefusesFmt design files refusal.OutOfMemory = Unit {0}
-RefusesFmt design files refusal.Usage = ⊥
 RefusesFmt design files (refusal.Unread file) = Unit {0}
-RefusesFmt design files (refusal.TooLong Technology) = ⊥
 RefusesFmt design files (refusal.TooLong Design) = IsLongFile files Design design
-RefusesFmt design files (refusal.BadTech fault line) = ⊥
 RefusesFmt design files (refusal.BadSticks fault line) = HasFault design files (refusal.BadSticks fault line)
-RefusesFmt design files refusal.NotBuilt = ⊥
-RefusesFmt design files (refusal.TooLarge what) = ⊥
-RefusesFmt design files (refusal.Clash a b line) = ⊥
-RefusesFmt design files (refusal.Unsatisfiable pass report) = ⊥
+RefusesFmt design files other = ⊥
 
 -- Why the words are refused: they are no command, or their command is refused.
 abbrev pub RefusesWords : Option Command → Files → Refusal → Type 0
@@ -326,18 +300,7 @@ IsAnswer words files ended output report =
 -- the output grew by the whole text, or by a front of it where its put failed
 abbrev pub Writes : Status → Option Bytes → Option Bytes → Bytes → Type 0
 Writes (status.WriteFault side.Output) old new output = AppendsPrefix old new output
-Writes (status.WriteFault side.Report) old new output = Appends old new output
-Writes status.Done old new output = Appends old new output
-Writes status.OutOfMemory old new output = Appends old new output
-Writes status.Usage old new output = Appends old new output
-Writes (status.ReadFault file) old new output = Appends old new output
-Writes (status.TooLong file) old new output = Appends old new output
-Writes (status.BadTech fault) old new output = Appends old new output
-Writes (status.BadSticks fault) old new output = Appends old new output
-Writes (status.TooLarge what) old new output = Appends old new output
-Writes status.NotBuilt old new output = Appends old new output
-Writes (status.Clash cell a b) old new output = Appends old new output
-Writes (status.Unsatisfiable pass) old new output = Appends old new output
+Writes other old new output = Appends old new output
 
 -- the report grew by the text, or by a front of it where the report's count of faults rose
 abbrev pub Reports : Option Bytes → Option Bytes → ℕ → ℕ → Bytes → Type 0
@@ -348,32 +311,13 @@ Reports old new faults_old faults_new text = Appends old new text ⊎ (AppendsPr
 abbrev pub Tells : Status → Option Bytes → Option Bytes → ℕ → ℕ → Bytes → Type 0
 Tells status.Done old new faults_old faults_new text = Appends old new text
 Tells (status.WriteFault side.Report) old new faults_old faults_new text = AppendsPrefix old new text × Rose faults_old faults_new
-Tells (status.WriteFault side.Output) old new faults_old faults_new text = Reports old new faults_old faults_new text
-Tells status.OutOfMemory old new faults_old faults_new text = Reports old new faults_old faults_new text
-Tells status.Usage old new faults_old faults_new text = Reports old new faults_old faults_new text
-Tells (status.ReadFault file) old new faults_old faults_new text = Reports old new faults_old faults_new text
-Tells (status.TooLong file) old new faults_old faults_new text = Reports old new faults_old faults_new text
-Tells (status.BadTech fault) old new faults_old faults_new text = Reports old new faults_old faults_new text
-Tells (status.BadSticks fault) old new faults_old faults_new text = Reports old new faults_old faults_new text
-Tells (status.TooLarge what) old new faults_old faults_new text = Reports old new faults_old faults_new text
-Tells status.NotBuilt old new faults_old faults_new text = Reports old new faults_old faults_new text
-Tells (status.Clash cell a b) old new faults_old faults_new text = Reports old new faults_old faults_new text
-Tells (status.Unsatisfiable pass) old new faults_old faults_new text = Reports old new faults_old faults_new text
+Tells other old new faults_old faults_new text = Reports old new faults_old faults_new text
 
 -- the output's sink is as it was, unless its put was tried
 abbrev pub IsUntouched : {A : Type 0} → Status → A → A → Type 0
 IsUntouched status.Done old new = Unit {0}
 IsUntouched (status.WriteFault file) old new = Unit {0}
-IsUntouched status.OutOfMemory old new = new ≡ old
-IsUntouched status.Usage old new = new ≡ old
-IsUntouched (status.ReadFault file) old new = new ≡ old
-IsUntouched (status.TooLong file) old new = new ≡ old
-IsUntouched (status.BadTech fault) old new = new ≡ old
-IsUntouched (status.BadSticks fault) old new = new ≡ old
-IsUntouched (status.TooLarge what) old new = new ≡ old
-IsUntouched status.NotBuilt old new = new ≡ old
-IsUntouched (status.Clash cell a b) old new = new ≡ old
-IsUntouched (status.Unsatisfiable pass) old new = new ≡ old
+IsUntouched other old new = new ≡ old
 
 -- the call was refused before anything was written
 abbrev pub IsRefused : Status → Type 0

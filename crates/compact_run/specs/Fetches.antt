@@ -31,15 +31,9 @@ IsRead told file name text = (t : Telling) → told ≡ Some t → HasFile t.fil
 -- why a file is not given
 abbrev pub FailsToRead : Option Telling → ℕ → ℕ → File → Bytes → Refusal → Type 0
 FailsToRead told old new file name refusal.OutOfMemory = Unit {0}
-FailsToRead told old new file name refusal.Usage = ⊥
 FailsToRead told old new file name (refusal.Unread f) = (f ≡ file) × Rose old new
 FailsToRead told old new file name (refusal.TooLong f) = (f ≡ file) × ((t : Telling) → told ≡ Some t → IsLongFile t.files file name)
-FailsToRead told old new file name (refusal.BadTech fault line) = ⊥
-FailsToRead told old new file name (refusal.BadSticks fault line) = ⊥
-FailsToRead told old new file name refusal.NotBuilt = ⊥
-FailsToRead told old new file name (refusal.TooLarge what) = ⊥
-FailsToRead told old new file name (refusal.Clash a b line) = ⊥
-FailsToRead told old new file name (refusal.Unsatisfiable pass report) = ⊥
+FailsToRead told old new file name other = ⊥
 
 -- the shelf's files are as they were, and it was asked for the name, unless memory ran out before
 abbrev pub AsksOnce : Type 0 → Option Telling → Option Telling → Bytes → Type 0
@@ -67,25 +61,10 @@ AsksThrough (Some (fmt design)) Design old new = Asks old new design
 -- where a file was not read, the shelf's count of faults rose, and that file was the last that was asked for
 abbrev pub IsUnread : Option Command → ℕ → ℕ → Option Telling → Option Telling → Refusal → Type 0
 IsUnread command faults_old faults_new old new (refusal.Unread file) = Rose faults_old faults_new × AsksThrough command file old new
-IsUnread command faults_old faults_new old new refusal.OutOfMemory = Unit {0}
-IsUnread command faults_old faults_new old new refusal.Usage = Unit {0}
-IsUnread command faults_old faults_new old new (refusal.TooLong file) = Unit {0}
-IsUnread command faults_old faults_new old new (refusal.BadTech fault line) = Unit {0}
-IsUnread command faults_old faults_new old new (refusal.BadSticks fault line) = Unit {0}
-IsUnread command faults_old faults_new old new refusal.NotBuilt = Unit {0}
-IsUnread command faults_old faults_new old new (refusal.TooLarge what) = Unit {0}
-IsUnread command faults_old faults_new old new (refusal.Clash a b line) = Unit {0}
-IsUnread command faults_old faults_new old new (refusal.Unsatisfiable pass report) = Unit {0}
+IsUnread command faults_old faults_new old new other = Unit {0}
 
 -- A step over one file is refused: where the file was not read, the shelf's count of faults rose. It is never for the words.
 abbrev pub OnUnread : File → ℕ → ℕ → Refusal → Type 0
 OnUnread file faults_old faults_new (refusal.Unread f) = (f ≡ file) × Rose faults_old faults_new
-OnUnread file faults_old faults_new refusal.OutOfMemory = Unit {0}
 OnUnread file faults_old faults_new refusal.Usage = ⊥
-OnUnread file faults_old faults_new (refusal.TooLong f) = Unit {0}
-OnUnread file faults_old faults_new (refusal.BadTech fault line) = Unit {0}
-OnUnread file faults_old faults_new (refusal.BadSticks fault line) = Unit {0}
-OnUnread file faults_old faults_new refusal.NotBuilt = Unit {0}
-OnUnread file faults_old faults_new (refusal.TooLarge what) = Unit {0}
-OnUnread file faults_old faults_new (refusal.Clash a b line) = Unit {0}
-OnUnread file faults_old faults_new (refusal.Unsatisfiable pass report) = Unit {0}
+OnUnread file faults_old faults_new other = Unit {0}

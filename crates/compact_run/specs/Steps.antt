@@ -12,29 +12,19 @@ use Rattle.compact_run.specs.Answers.{IsNoTechnology, TextRefuses}
 -- why there is no technology
 abbrev pub RefusesTechnology : Bytes → Files → Refusal → Type 0
 RefusesTechnology name files refusal.OutOfMemory = Unit {0}
-RefusesTechnology name files refusal.Usage = ⊥
 RefusesTechnology name files (refusal.Unread Technology) = Unit {0}
-RefusesTechnology name files (refusal.Unread Design) = ⊥
 RefusesTechnology name files (refusal.TooLong Technology) = IsLongFile files Technology name
-RefusesTechnology name files (refusal.TooLong Design) = ⊥
 RefusesTechnology name files (refusal.BadTech fault line) = IsNoTechnology files name fault line.items
-RefusesTechnology name files (refusal.BadSticks fault line) = ⊥
-RefusesTechnology name files refusal.NotBuilt = ⊥
-RefusesTechnology name files (refusal.TooLarge what) = ⊥
-RefusesTechnology name files (refusal.Clash a b line) = ⊥
-RefusesTechnology name files (refusal.Unsatisfiable pass report) = ⊥
+RefusesTechnology name files other = ⊥
 
 -- why there are no masks
 abbrev pub RefusesDesign : Tech → List Axis → Bytes → Files → Refusal → Type 0
 RefusesDesign tech axes name files refusal.OutOfMemory = Unit {0}
-RefusesDesign tech axes name files refusal.Usage = ⊥
 RefusesDesign tech axes name files (refusal.Unread Design) = Unit {0}
-RefusesDesign tech axes name files (refusal.Unread Technology) = ⊥
 RefusesDesign tech axes name files (refusal.TooLong Design) = IsLongFile files Design name
-RefusesDesign tech axes name files (refusal.TooLong Technology) = ⊥
-RefusesDesign tech axes name files (refusal.BadTech fault line) = ⊥
 RefusesDesign tech axes name files (refusal.BadSticks fault line) = TextRefuses tech axes name files (refusal.BadSticks fault line)
 RefusesDesign tech axes name files refusal.NotBuilt = TextRefuses tech axes name files refusal.NotBuilt
 RefusesDesign tech axes name files (refusal.TooLarge what) = TextRefuses tech axes name files (refusal.TooLarge what)
 RefusesDesign tech axes name files (refusal.Clash a b line) = TextRefuses tech axes name files (refusal.Clash a b line)
 RefusesDesign tech axes name files (refusal.Unsatisfiable pass report) = TextRefuses tech axes name files (refusal.Unsatisfiable pass report)
+RefusesDesign tech axes name files other = ⊥
