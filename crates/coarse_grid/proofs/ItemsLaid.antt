@@ -8,13 +8,13 @@ use Rattle.sym_items.specs.declared.items.Item.{Item}
 use Rattle.sym_items.specs.Sides.{Sides, sides_in, gap_of_sides, gap_in}
 use Rattle.sym_items.specs.Boxes.{HasBox}
 use Rattle.pair_rules.specs.Bound.{item_at, no_item}
-use Rattle.stick_cell.specs.declared.cell.Axis2.TheVariants.{Across, Up}
-use Rattle.stick_cell.specs.declared.cell.Node.{Node}
-use Rattle.stick_cell.specs.declared.cell.Wire.{Wire}
-use Rattle.stick_cell.specs.declared.cell.Cell.{Cell}
-use Rattle.stick_cell.specs.declared.cell.Nets.{Nets}
-use Rattle.stick_cell.specs.Sound.{IsNode, IsWire, IsSound, node_at, no_node, wire_at, no_wire}
-use Rattle.stick_cell.proofs.GrownLists.{all_weaker, all_at, all_append}
+use Rattle.cell_model.specs.declared.cell.Axis2.TheVariants.{Across, Up}
+use Rattle.cell_model.specs.declared.cell.Node.{Node}
+use Rattle.cell_model.specs.declared.cell.Wire.{Wire}
+use Rattle.cell_model.specs.declared.cell.Cell.{Cell}
+use Rattle.cell_model.specs.declared.cell.Nets.{Nets}
+use Rattle.cell_model.specs.Sound.{IsNode, IsWire, IsSound, node_at, no_node, wire_at, no_wire}
+use Rattle.list_facts.proofs.Elements.{all_weaker, all_at, all_append}
 use Rattle.expand.specs.Variables.{half}
 use Rattle.expand.specs.Items.{nets_at, items_of_node, items_of_wire, item_list}
 use Rattle.coarse_grid.specs.Extent.{reach_of, half_extent_of, pitch_of}
@@ -22,7 +22,7 @@ use Rattle.coarse_grid.specs.Start.{last_line, start_values, start_of}
 use Rattle.coarse_grid.specs.Ranges.{Lines, lines_of, AreApart}
 use Rattle.coarse_grid.specs.Laws.{HasBoxes, KeepsApart}
 use Rattle.coarse_grid.proofs.Nears.{by_lt}
-use Rattle.coarse_grid.proofs.Elements.{all_flat, all_numbers, all_of}
+use Rattle.list_facts.proofs.Elements.{all_flat, all_numbers, all_of}
 use Rattle.coarse_grid.proofs.Lines.{near_lines}
 use Rattle.coarse_grid.proofs.Reaches.{IsCoarse, coarse}
 use Rattle.coarse_grid.proofs.Grid.{span_has, spans_apart}

@@ -9,15 +9,15 @@ use Rattle.rule_table.specs.declared.classes.Layer.{Layer}
 use Rattle.rule_table.specs.declared.classes.Layer.TheVariants.{Diffusion, Poly, Metal}
 use Rattle.sym_items.specs.declared.items.Item.{Item}
 use Rattle.sym_items.specs.declared.items.End.{End}
-use Rattle.stick_cell.specs.declared.cell.Axis2.{Axis2}
-use Rattle.stick_cell.specs.declared.cell.Axis2.TheVariants.{Across, Up}
-use Rattle.stick_cell.specs.declared.cell.Node.{Node}
-use Rattle.stick_cell.specs.declared.cell.Port.{Port}
-use Rattle.stick_cell.specs.declared.cell.Cell.{Cell}
-use Rattle.stick_cell.specs.Wires.{is_same_axis, axis_of}
-use Rattle.stick_cell.specs.Known.{no_plug}
-use Rattle.stick_cell.specs.Sound.{node_at, no_node, wire_at, port_at}
-use Rattle.stick_cell.proofs.GrownLists.{all_at}
+use Rattle.cell_model.specs.declared.cell.Axis2.{Axis2}
+use Rattle.cell_model.specs.declared.cell.Axis2.TheVariants.{Across, Up}
+use Rattle.cell_model.specs.declared.cell.Node.{Node}
+use Rattle.cell_model.specs.declared.cell.Port.{Port}
+use Rattle.cell_model.specs.declared.cell.Cell.{Cell}
+use Rattle.cell_model.specs.Wiring.{is_same_axis, axis_of}
+use Rattle.cell_model.specs.Sound.{no_port}
+use Rattle.cell_model.specs.Sound.{node_at, no_node, wire_at, port_at}
+use Rattle.list_facts.proofs.Elements.{all_at}
 use Rattle.expand.specs.Variables.{centre}
 use Rattle.expand.specs.NodeItems.{on_layer}
 use Rattle.coarse_grid.specs.Near.{AreLinesNear}
@@ -25,7 +25,7 @@ use Rattle.coarse_grid.specs.Start.{node_line, port_lines, last_line, start_valu
 use Rattle.coarse_grid.specs.Ranges.{Lines, only, wire_lines, lines_of}
 use Rattle.coarse_grid.proofs.Lines.{last_near, all_most}
 use Rattle.coarse_grid.proofs.Lookups.{centre_value}
-use Rattle.coarse_grid.proofs.Elements.{all_parts, all_unmap, all_pieces}
+use Rattle.list_facts.proofs.Elements.{all_parts, all_unmap, all_pieces}
 use Rattle.coarse_grid.proofs.Reaches.{IsCoarse, coarse_pitch}
 use Rattle.coarse_grid.proofs.Grid.{IsWide, IsSpan, IsRoundOn, round_span}
 use Rattle.coarse_grid.proofs.NodesLaid.{IsRound}
@@ -67,7 +67,7 @@ place_within axis port last e h =
 pub port_within : (axis : Axis2) (cell : Cell) (k : ℕ) → k < length cell.ports → is_same_axis axis (axis_of (port_at cell.ports k).side) ≡ false → (port_at cell.ports k).place ≤ last_line axis cell
 port_within axis cell k lt e =
     place_within axis (port_at cell.ports k) (last_line axis cell) e
-    (all_at (λ (port : Port). AllByRecursion (λ line. line ≤ last_line axis cell) (port_lines axis port)) cell.ports no_plug.port k
+    (all_at (λ (port : Port). AllByRecursion (λ line. line ≤ last_line axis cell) (port_lines axis port)) cell.ports no_port k
     (all_pieces (λ line. line ≤ last_line axis cell) (port_lines axis) cell.ports (lines_within axis cell).1) lt)
 
 -- the lines of an owner that is a node, and of one that is a wire

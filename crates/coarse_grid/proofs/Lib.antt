@@ -1,4 +1,3 @@
-pub mod Elements
 pub mod Folds
 pub mod Extents
 pub mod Lines

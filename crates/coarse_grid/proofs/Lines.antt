@@ -3,17 +3,17 @@ use Rattle.std.proofs.Common.{◌≡◌, ℕ, ◌<◌, ◌≤◌, max, true, fal
 use Rattle.std.specs.List.{AllByRecursion, flat_map}
 use Rattle.rule_table.specs.Bounds.{IsSize}
 use Rattle.rule_table.specs.declared.technology.Tech.{Tech}
-use Rattle.stick_cell.specs.declared.cell.Axis2.{Axis2}
-use Rattle.stick_cell.specs.declared.cell.Axis2.TheVariants.{Across, Up}
-use Rattle.stick_cell.specs.declared.cell.Node.{Node}
-use Rattle.stick_cell.specs.declared.cell.Port.{Port}
-use Rattle.stick_cell.specs.declared.cell.Wire.{Wire}
-use Rattle.stick_cell.specs.declared.cell.Cell.{Cell}
-use Rattle.stick_cell.specs.Wires.{is_same_axis, axis_of}
-use Rattle.stick_cell.specs.Sound.{IsNode, IsWire, IsSound, port_at}
-use Rattle.stick_cell.specs.Known.{no_plug}
-use Rattle.stick_cell.proofs.GrownLists.{all_weaker, all_at, all_append, all_map}
-use Rattle.coarse_grid.proofs.Elements.{by_number, all_flat}
+use Rattle.cell_model.specs.declared.cell.Axis2.{Axis2}
+use Rattle.cell_model.specs.declared.cell.Axis2.TheVariants.{Across, Up}
+use Rattle.cell_model.specs.declared.cell.Node.{Node}
+use Rattle.cell_model.specs.declared.cell.Port.{Port}
+use Rattle.cell_model.specs.declared.cell.Wire.{Wire}
+use Rattle.cell_model.specs.declared.cell.Cell.{Cell}
+use Rattle.cell_model.specs.Wiring.{is_same_axis, axis_of}
+use Rattle.cell_model.specs.Sound.{IsNode, IsWire, IsSound, port_at}
+use Rattle.cell_model.specs.Sound.{no_port}
+use Rattle.list_facts.proofs.Elements.{all_weaker, all_at, all_append, all_map}
+use Rattle.list_facts.proofs.Elements.{by_number, all_flat}
 use Rattle.coarse_grid.specs.Near.{HasLines, StartsIn, AreLinesNear}
 use Rattle.coarse_grid.specs.Start.{node_line, port_lines, last_line}
 
@@ -60,4 +60,4 @@ last_near axis cell h =
     (all_append (λ line. line ≤ 4095) (map (node_line axis) cell.nodes) (flat_map (port_lines axis) cell.ports)
     (all_map (λ line. line ≤ 4095) (node_line axis) cell.nodes (all_weaker HasLines (λ (node : Node). node_line axis node ≤ 4095) (line_near axis) cell.nodes h.nodes))
     (all_flat (λ line. line ≤ 4095) (port_lines axis) cell.ports
-    (by_number (λ (port : Port). AllByRecursion (λ line. line ≤ 4095) (port_lines axis port)) cell.ports no_plug.port (λ k lt. ports_near axis (port_at cell.ports k) (h.ports k lt)))))
+    (by_number (λ (port : Port). AllByRecursion (λ line. line ≤ 4095) (port_lines axis port)) cell.ports no_port (λ k lt. ports_near axis (port_at cell.ports k) (h.ports k lt)))))

@@ -14,13 +14,13 @@ use Rattle.rule_table.specs.Technology.{numbers_of, pad_of}
 use Rattle.rule_table.proofs.Sound.{sound}
 use Rattle.rule_table.proofs.Widths.{pad_bounds}
 use Rattle.sym_items.specs.declared.items.Item.{Item}
-use Rattle.stick_cell.specs.declared.cell.Axis2.{Axis2}
-use Rattle.stick_cell.specs.declared.cell.Axis2.TheVariants.{Across, Up}
-use Rattle.stick_cell.specs.declared.cell.NodeKind.{NodeKind}
-use Rattle.stick_cell.specs.declared.cell.NodeKind.TheVariants.{Joint, Contact, Fet}
-use Rattle.stick_cell.specs.declared.cell.NodeNets.{NodeNets}
-use Rattle.stick_cell.specs.Sound.{IsKind}
-use Rattle.stick_cell.proofs.GrownLists.{all_weaker, all_map}
+use Rattle.cell_model.specs.declared.cell.Axis2.{Axis2}
+use Rattle.cell_model.specs.declared.cell.Axis2.TheVariants.{Across, Up}
+use Rattle.cell_model.specs.declared.cell.NodeKind.{NodeKind}
+use Rattle.cell_model.specs.declared.cell.NodeKind.TheVariants.{Joint, Contact, Fet}
+use Rattle.cell_model.specs.declared.cell.NodeNets.{NodeNets}
+use Rattle.cell_model.specs.Sound.{IsKind}
+use Rattle.list_facts.proofs.Elements.{all_weaker, all_map}
 use Rattle.expand.specs.Variables.{half, centre}
 use Rattle.expand.specs.NodeItems.{item_running, on_layer, box_at, box_round, square_round, channel_items, kind_items}
 use Rattle.coarse_grid.specs.Extent.{implant_past, fet_reach, reach_of}

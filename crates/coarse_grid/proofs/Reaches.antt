@@ -9,17 +9,17 @@ use Rattle.rule_table.specs.declared.technology.Tech.{Tech}
 use Rattle.rule_table.proofs.Sound.{sound}
 use Rattle.rule_table.proofs.Margins.{widest_positive, widest_below}
 use Rattle.rule_table.proofs.Widths.{pad_bounds}
-use Rattle.stick_cell.specs.declared.cell.NodeKind.{NodeKind}
-use Rattle.stick_cell.specs.declared.cell.NodeKind.TheVariants.{Joint, Contact, Fet}
-use Rattle.stick_cell.specs.declared.cell.Node.{Node}
-use Rattle.stick_cell.specs.declared.cell.Wire.{Wire}
-use Rattle.stick_cell.specs.declared.cell.Cell.{Cell}
-use Rattle.stick_cell.specs.Sound.{IsKind, IsNode, IsWire, IsSound}
-use Rattle.stick_cell.proofs.GrownLists.{all_weaker, all_append, all_map}
+use Rattle.cell_model.specs.declared.cell.NodeKind.{NodeKind}
+use Rattle.cell_model.specs.declared.cell.NodeKind.TheVariants.{Joint, Contact, Fet}
+use Rattle.cell_model.specs.declared.cell.Node.{Node}
+use Rattle.cell_model.specs.declared.cell.Wire.{Wire}
+use Rattle.cell_model.specs.declared.cell.Cell.{Cell}
+use Rattle.cell_model.specs.Sound.{IsKind, IsNode, IsWire, IsSound}
+use Rattle.list_facts.proofs.Elements.{all_weaker, all_append, all_map}
 use Rattle.expand.specs.Variables.{half}
 use Rattle.coarse_grid.specs.Extent.{implant_past, reach_of, half_extent_of, pitch_of}
 use Rattle.coarse_grid.specs.Near.{IsPitch}
-use Rattle.coarse_grid.proofs.Elements.{all_parts, all_unmap}
+use Rattle.list_facts.proofs.Elements.{all_parts, all_unmap}
 use Rattle.coarse_grid.proofs.Extents.{half_bounds}
 
 from_greatest : (a : ℤ) (zs : List ℤ) → a ≤ℤ fold int_max a zs

@@ -8,20 +8,20 @@ use Rattle.std.proofs.lemmas.List.Sums.{sum_by-cons}
 use Rattle.std.proofs.lemmas.List.{length-append, length-map}
 use Rattle.std.proofs.Math.Nat.{mul-le-mul}
 use Rattle.lam_geom.specs.declared.boxes.Axis.TheVariants.{X, Y}
-use Rattle.stick_cell.specs.declared.cell.Axis2.{Axis2}
-use Rattle.stick_cell.specs.declared.cell.Axis2.TheVariants.{Across, Up}
-use Rattle.stick_cell.specs.declared.cell.Node.{Node}
-use Rattle.stick_cell.specs.declared.cell.Wire.{Wire}
-use Rattle.stick_cell.specs.declared.cell.WireEnd.{WireEnd}
-use Rattle.stick_cell.specs.declared.cell.WireEnd.TheVariants as ends
-use Rattle.stick_cell.specs.declared.cell.Cell.{Cell}
-use Rattle.stick_cell.specs.Wires.{is_same_axis}
-use Rattle.stick_cell.specs.Sound.{IsEnd, no_node, line_at}
-use Rattle.stick_cell.proofs.GrownLists.{all_weaker, all_at, all_append, all_map}
+use Rattle.cell_model.specs.declared.cell.Axis2.{Axis2}
+use Rattle.cell_model.specs.declared.cell.Axis2.TheVariants.{Across, Up}
+use Rattle.cell_model.specs.declared.cell.Node.{Node}
+use Rattle.cell_model.specs.declared.cell.Wire.{Wire}
+use Rattle.cell_model.specs.declared.cell.WireEnd.{WireEnd}
+use Rattle.cell_model.specs.declared.cell.WireEnd.TheVariants as ends
+use Rattle.cell_model.specs.declared.cell.Cell.{Cell}
+use Rattle.cell_model.specs.Wiring.{is_same_axis}
+use Rattle.cell_model.specs.Sound.{IsEnd, no_node, line_at}
+use Rattle.list_facts.proofs.Elements.{all_weaker, all_at, all_append, all_map}
 use Rattle.expand.specs.Variables.{running, variables_of}
 use Rattle.coarse_grid.specs.Near.{HasLines, StartsIn, AreLinesNear, IsNear, IsPitch}
 use Rattle.coarse_grid.specs.Start.{node_line, last_line, place, cross_places, start_values}
-use Rattle.coarse_grid.proofs.Elements.{all_flat}
+use Rattle.list_facts.proofs.Elements.{all_flat}
 use Rattle.coarse_grid.proofs.Lines.{line_near, last_near}
 
 -- a near number, as 64 bits hold it

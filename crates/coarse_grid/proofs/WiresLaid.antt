@@ -8,18 +8,18 @@ use Rattle.rule_table.specs.Technology.{numbers_of, widest_of}
 use Rattle.rule_table.proofs.Sound.{sound}
 use Rattle.sym_items.specs.declared.items.Item.{Item}
 use Rattle.sym_items.specs.Values.{value_of, value_at}
-use Rattle.stick_cell.specs.declared.cell.Axis2.{Axis2}
-use Rattle.stick_cell.specs.declared.cell.Axis2.TheVariants.{Across, Up}
-use Rattle.stick_cell.specs.declared.cell.NodeKind.{NodeKind}
-use Rattle.stick_cell.specs.declared.cell.NodeKind.TheVariants.{Joint, Contact, Fet}
-use Rattle.stick_cell.specs.declared.cell.Node.{Node}
-use Rattle.stick_cell.specs.declared.cell.WireEnd.{WireEnd}
-use Rattle.stick_cell.specs.declared.cell.WireEnd.TheVariants as ends
-use Rattle.stick_cell.specs.declared.cell.Wire.{Wire}
-use Rattle.stick_cell.specs.declared.cell.Cell.{Cell}
-use Rattle.stick_cell.specs.Wires.{is_same_axis}
-use Rattle.stick_cell.specs.Sound.{IsKind, IsNode, IsWire, IsSound, IsEnd, IsInOrder, Takes, node_at, no_node, wire_at, line_at}
-use Rattle.stick_cell.proofs.GrownLists.{all_at}
+use Rattle.cell_model.specs.declared.cell.Axis2.{Axis2}
+use Rattle.cell_model.specs.declared.cell.Axis2.TheVariants.{Across, Up}
+use Rattle.cell_model.specs.declared.cell.NodeKind.{NodeKind}
+use Rattle.cell_model.specs.declared.cell.NodeKind.TheVariants.{Joint, Contact, Fet}
+use Rattle.cell_model.specs.declared.cell.Node.{Node}
+use Rattle.cell_model.specs.declared.cell.WireEnd.{WireEnd}
+use Rattle.cell_model.specs.declared.cell.WireEnd.TheVariants as ends
+use Rattle.cell_model.specs.declared.cell.Wire.{Wire}
+use Rattle.cell_model.specs.declared.cell.Cell.{Cell}
+use Rattle.cell_model.specs.Wiring.{is_same_axis}
+use Rattle.cell_model.specs.Sound.{IsKind, IsNode, IsWire, IsSound, IsEnd, IsInOrder, Takes, node_at, no_node, wire_at, line_at}
+use Rattle.list_facts.proofs.Elements.{all_at}
 use Rattle.expand.specs.Variables.{half, centre, past, cross_of}
 use Rattle.expand.specs.NodeItems.{item_running}
 use Rattle.expand.specs.WireItems.{half_channel, reach, low_end_of, high_end_of, run_item, wire_items}

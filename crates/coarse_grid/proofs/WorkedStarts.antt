@@ -13,14 +13,14 @@ use Rattle.sym_items.specs.declared.items.End.{End}
 use Rattle.sym_items.specs.declared.items.Coords.{Coords}
 use Rattle.sym_items.specs.Values.{value_at}
 use Rattle.sym_items.specs.Boxes.{IsPlacedEnd, HasSpan, HasBox}
-use Rattle.stick_cell.specs.declared.cell.Axis2.TheVariants.{Across, Up}
-use Rattle.stick_cell.specs.declared.cell.Cell.{Cell}
-use Rattle.stick_cell.specs.declared.cell.NodeKind.TheVariants.{Contact}
-use Rattle.stick_cell.specs.Sound.{IsKind, IsPort, port_at}
+use Rattle.cell_model.specs.declared.cell.Axis2.TheVariants.{Across, Up}
+use Rattle.cell_model.specs.declared.cell.Cell.{Cell}
+use Rattle.cell_model.specs.declared.cell.NodeKind.TheVariants.{Contact}
+use Rattle.cell_model.specs.Sound.{IsKind, IsPort, port_at}
 use Rattle.coarse_grid.specs.Extent.{half_extent_of, pitch_of}
 use Rattle.coarse_grid.specs.Start.{last_line, place, far_border, start_of}
 use Rattle.coarse_grid.specs.Worked.{IsShipped, joints, transistor, long_transistor, empty, side_to_side, inverter, bare_inverter, below, above, three, close, spaced}
-use Rattle.coarse_grid.proofs.Elements.{all_of}
+use Rattle.list_facts.proofs.Elements.{all_of}
 
 -- ---- pitches and layouts
 

@@ -6,8 +6,8 @@ use Rattle.rule_table.specs.Technology.{widest_of}
 use Rattle.sym_items.specs.Sides.{gap_in}
 use Rattle.sym_items.specs.Boxes.{HasBox}
 use Rattle.pair_rules.specs.Bound.{item_at}
-use Rattle.stick_cell.specs.declared.cell.Cell.{Cell}
-use Rattle.stick_cell.specs.declared.cell.Nets.{Nets}
+use Rattle.cell_model.specs.declared.cell.Cell.{Cell}
+use Rattle.cell_model.specs.declared.cell.Nets.{Nets}
 use Rattle.expand.specs.Items.{item_list}
 use Rattle.coarse_grid.specs.Start.{start_of}
 use Rattle.coarse_grid.specs.Ranges.{AreApart}

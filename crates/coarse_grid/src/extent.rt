@@ -1,13 +1,13 @@
 //! How far the parts of a cell reach, and the pitch of its coarse grid.
 
 ghost use Rattle.std.specs.Prelude.{◌≡◌, pos, ◌*ℤ◌, ◌≤ℤ◌};
-ghost use Rattle.stick_cell.specs.Sound.{IsKind, IsSound};
+ghost use Rattle.cell_model.specs.Sound.{IsKind, IsSound};
 ghost use Rattle.rule_table.specs.Bounds.{IsSize};
 ghost use Rattle.expand.specs.Variables.{half};
 ghost use Rattle.coarse_grid.specs.Extent.{implant_past, fet_reach, reach_of, half_extent_of, pitch_of};
 
 use rule_table::Tech;
-use stick_cell::{Cell, NodeKind};
+use cell_model::{Cell, NodeKind};
 
 /// The pitch of a cell's coarse grid, in u: twice its half extent and the widest spacing. The half extent is the greatest
 /// half size of an item at a node on either axis, and half width of a wire; 0 for an empty cell. It takes no memory.

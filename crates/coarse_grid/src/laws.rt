@@ -1,10 +1,10 @@
 //! What holds of the items of a cell in its start layout.
 
-ghost use Rattle.stick_cell.specs.Sound.{IsSound};
+ghost use Rattle.cell_model.specs.Sound.{IsSound};
 ghost use Rattle.coarse_grid.specs.Laws.{HasBoxes, KeepsApart};
 
 use rule_table::Tech;
-use stick_cell::{Cell, Nets};
+use cell_model::{Cell, Nets};
 
 /// A law, with nothing to run: the start layout gives each item of a cell a box, whatever the items' nets are.
 pub fn start_gives_boxes(tech: &Tech, cell: &Cell, nets: &Nets)

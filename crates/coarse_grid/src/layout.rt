@@ -1,8 +1,8 @@
 //! The start layout of a cell.
 
 ghost use Rattle.std.specs.Prelude.{◌≡◌, ◌≤◌, IfOk, All, length};
-ghost use Rattle.stick_cell.specs.Sound.{IsSound, IsEnd, line_at};
-ghost use Rattle.stick_cell.specs.Wires.{is_same_axis, axis_of};
+ghost use Rattle.cell_model.specs.Sound.{IsSound, IsEnd, line_at};
+ghost use Rattle.cell_model.specs.Wiring.{is_same_axis, axis_of};
 ghost use Rattle.coarse_grid.specs.Start.{node_line, last_line, place, start_values, start_of};
 ghost use Rattle.coarse_grid.specs.Near.{IsNear, IsPitch, AreLinesNear};
 ghost use Rattle.expand.specs.Variables.{variables_of};
@@ -12,8 +12,8 @@ use crate::extent::pitch;
 use lam_list::Seq;
 use rule_table::Tech;
 use std::alloc::{AllocError, Global};
-use stick_cell::{Axis2, Cell, Node, WireEnd};
-use stick_parse::Side;
+use cell_model::{Axis2, Cell, Node, WireEnd};
+use lam_geom::Side;
 use sym_items::Coords;
 
 /// The start layout of a cell: on each axis the origin, the far border, each node's centre, and the cross coordinate of

@@ -7,9 +7,9 @@ use rule_table::{Class, Layer, Tech};
 use std::alloc::{AllocError, Global};
 use std::process::Abort;
 use std::test::Fail;
-use stick_cell::{Axis2, Cell, Node, NodeKind, Port, Wire, WireEnd};
+use cell_model::{Axis2, Cell, Node, NodeKind, Port, Wire, WireEnd};
 use stick_lex::Text;
-use stick_parse::Side;
+use lam_geom::Side;
 use sym_items::{Coords, End, Item};
 
 const JOINT: NodeKind = NodeKind::Joint {

@@ -9,8 +9,8 @@ use Rattle.cif_text.specs.Cif.{symbol_text}
 use Rattle.sym_items.specs.declared.items.Item.{Item}
 use Rattle.sym_items.specs.declared.items.Items.{Items}
 use Rattle.sym_items.specs.declared.items.Coords.{Coords}
-use Rattle.stick_cell.specs.declared.cell.Cell.{Cell}
-use Rattle.stick_cell.specs.declared.cell.Nets.{Nets}
+use Rattle.cell_model.specs.declared.cell.Cell.{Cell}
+use Rattle.cell_model.specs.declared.cell.Nets.{Nets}
 use Rattle.expand.specs.Items.{items_of, item_list}
 use Rattle.coarse_grid.specs.Start.{start_of}
 use Rattle.mask_out.specs.Masks.{masks_in}

@@ -23,9 +23,9 @@ use Rattle.stick_parse.specs.declared.fault.StickFault.{StickFault}
 use Rattle.stick_cell.specs.Known.{Known, cell_of, known_at}
 use Rattle.stick_cell.specs.Lines.{known_cells}
 use Rattle.stick_cell.specs.Counts.{weight_of}
-use Rattle.stick_cell.specs.declared.cell.Cell.{Cell}
-use Rattle.stick_cell.specs.declared.cell.Nets.{Nets}
-use Rattle.stick_cell.specs.Netting.{AreNets}
+use Rattle.cell_model.specs.declared.cell.Cell.{Cell}
+use Rattle.cell_model.specs.declared.cell.Nets.{Nets}
+use Rattle.cell_model.specs.Nets.{AreNets}
 use Rattle.expand.specs.Items.{item_list}
 use Rattle.pair_rules.specs.Bound.{item_at}
 use Rattle.coarse_grid.specs.Start.{start_of}

@@ -1,7 +1,7 @@
 -- The one call of a symbol, and the line of a clash.
 use Rattle.std.specs.Prelude.{ℕ, ◌-◌, ℤ, List, [], ◌∷◌, ◌++◌, length, codes, decimal, nat_lt, if◌then◌else◌}
-use Rattle.stick_cell.specs.declared.cell.Cell.{Cell}
-use Rattle.stick_cell.specs.Sound.{node_at}
+use Rattle.cell_model.specs.declared.cell.Cell.{Cell}
+use Rattle.cell_model.specs.Sound.{node_at}
 use Rattle.mask_out.specs.Masks.{Mask}
 use Rattle.cif_text.specs.Cif.{symbol_text}
 

@@ -2,8 +2,8 @@
 
 ghost use Rattle.std.specs.Prelude.{◌≡◌, ◌≤◌, List, length, IfOk, IfErr};
 ghost use Rattle.lam_geom.specs.declared.boxes.Axis.{Axis as SomeAxis};
-ghost use Rattle.stick_cell.specs.Sound.{IsSound, IsLight};
-ghost use Rattle.stick_cell.specs.Netting.{AreNets};
+ghost use Rattle.cell_model.specs.Sound.{IsSound, IsLight};
+ghost use Rattle.cell_model.specs.Nets.{AreNets};
 ghost use Rattle.expand.specs.Items.{items_of};
 ghost use Rattle.coarse_grid.specs.Start.{start_of};
 ghost use Rattle.compact_run.specs.Answers.{IsReady, IsCompaction, CompactsTo, RefusesCell, RefusesText, text_of};

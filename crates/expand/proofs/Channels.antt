@@ -6,9 +6,9 @@ use Rattle.rule_table.specs.declared.classes.Class.TheVariants.{M, P, Dc, Dm, C,
 use Rattle.rule_table.specs.declared.classes.Layer.{Layer}
 use Rattle.rule_table.specs.Technology.{numbers_of, pad_of}
 use Rattle.sym_items.specs.declared.items.Item.{Item}
-use Rattle.stick_cell.specs.declared.cell.Axis2.{Axis2}
-use Rattle.stick_cell.specs.declared.cell.NodeNets.{NodeNets}
-use Rattle.stick_cell.specs.declared.cell.NodeKind.TheVariants.{Contact}
+use Rattle.cell_model.specs.declared.cell.Axis2.{Axis2}
+use Rattle.cell_model.specs.declared.cell.NodeNets.{NodeNets}
+use Rattle.cell_model.specs.declared.cell.NodeKind.TheVariants.{Contact}
 use Rattle.expand.specs.Variables.{half}
 use Rattle.expand.specs.NodeItems.{item_running, on_layer, box_at, box_round, square_round, channel_items, kind_items}
 

@@ -7,10 +7,10 @@ use Rattle.rule_table.specs.Technology.{margin_of}
 use Rattle.sym_items.specs.declared.items.Item.{Item}
 use Rattle.cons_graph.specs.declared.edges.Edge.{Edge}
 use Rattle.cons_graph.specs.declared.edges.Why.TheVariants.{Margin}
-use Rattle.stick_cell.specs.declared.cell.Wire.{Wire}
-use Rattle.stick_cell.specs.declared.cell.Limit.{Limit}
-use Rattle.stick_cell.specs.declared.cell.Cell.{Cell}
-use Rattle.stick_cell.specs.Sound.{wire_at}
+use Rattle.cell_model.specs.declared.cell.Wire.{Wire}
+use Rattle.cell_model.specs.declared.cell.Limit.{Limit}
+use Rattle.cell_model.specs.declared.cell.Cell.{Cell}
+use Rattle.cell_model.specs.Sound.{wire_at}
 use Rattle.expand.specs.Variables.{cross_of, at_origin, at_far_border}
 use Rattle.sym_items.specs.Transposed.{item_along}
 use Rattle.expand.specs.Structure.{between, extent_edges, margin_edges, wire_edges, overlap_edges, is_limit_of, limit_edge, limit_edges, size_edge, structure_of}

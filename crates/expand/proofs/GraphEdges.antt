@@ -25,18 +25,18 @@ use Rattle.cons_graph.specs.declared.edges.Edge.{Edge}
 use Rattle.cons_graph.specs.declared.edges.Why.{Why}
 use Rattle.cons_graph.specs.declared.edges.Why.TheVariants.{Extent, Margin, Limit as Limit_}
 use Rattle.cons_graph.specs.Constraints.{IsEdgeAmong, LeadsFromOrigin, IsConstraintGraph}
-use Rattle.stick_parse.specs.Writable.{IsNumber}
-use Rattle.stick_cell.specs.declared.cell.Axis2.{Axis2}
-use Rattle.stick_cell.specs.declared.cell.NodeKind.{NodeKind}
-use Rattle.stick_cell.specs.declared.cell.NodeKind.TheVariants.{Joint, Contact, Fet}
-use Rattle.stick_cell.specs.declared.cell.WireEnd.{WireEnd}
-use Rattle.stick_cell.specs.declared.cell.WireEnd.TheVariants as ends
-use Rattle.stick_cell.specs.declared.cell.Wire.{Wire}
-use Rattle.stick_cell.specs.declared.cell.Limit.{Limit}
-use Rattle.stick_cell.specs.declared.cell.Nets.{Nets}
-use Rattle.stick_cell.specs.declared.cell.Cell.{Cell}
-use Rattle.stick_cell.specs.Wires.{is_same_axis, node_pad}
-use Rattle.stick_cell.specs.Sound.{IsKind, IsEnd, IsWithinPad, IsWire, IsLimit, IsSound, IsLight, node_at, wire_at}
+use Rattle.stick_lex.specs.Numbers.{IsNumber}
+use Rattle.cell_model.specs.declared.cell.Axis2.{Axis2}
+use Rattle.cell_model.specs.declared.cell.NodeKind.{NodeKind}
+use Rattle.cell_model.specs.declared.cell.NodeKind.TheVariants.{Joint, Contact, Fet}
+use Rattle.cell_model.specs.declared.cell.WireEnd.{WireEnd}
+use Rattle.cell_model.specs.declared.cell.WireEnd.TheVariants as ends
+use Rattle.cell_model.specs.declared.cell.Wire.{Wire}
+use Rattle.cell_model.specs.declared.cell.Limit.{Limit}
+use Rattle.cell_model.specs.declared.cell.Nets.{Nets}
+use Rattle.cell_model.specs.declared.cell.Cell.{Cell}
+use Rattle.cell_model.specs.Wiring.{is_same_axis, node_pad}
+use Rattle.cell_model.specs.Sound.{IsKind, IsEnd, IsWithinPad, IsWire, IsLimit, IsSound, IsLight, node_at, wire_at}
 use Rattle.expand.specs.Variables.{half, centre, running, cross_of, crossing, variables_of, at_origin, at_far_border}
 use Rattle.expand.specs.Items.{item_list, AreItems}
 use Rattle.expand.specs.Structure.{at_least, between, extent_edges, margin_edges, tied, end_edges, wire_edges, overlap_edges, is_limit_of, limit_edge, limit_edges, size_edge, structure_of}

@@ -1,11 +1,11 @@
 -- How many nets a cell has of each kind, and the nets that a loop reads.
 use Rattle.std.proofs.Common.{◌≡◌, ℕ, ◌+◌, ◌<◌, List, [], ◌∷◌, length, get_or, refl, ap, ◌∙◌, arith, length-drop}
 use Rattle.std.proofs.lemmas.List.{get_or_default}
-use Rattle.stick_cell.specs.declared.cell.Node.{Node}
-use Rattle.stick_cell.specs.declared.cell.NodeNets.{NodeNets}
-use Rattle.stick_cell.specs.declared.cell.Nets.{Nets}
-use Rattle.stick_cell.specs.declared.cell.Cell.{Cell}
-use Rattle.stick_cell.specs.Netting.{kind_parts, node_parts, nets_of_nodes, AreNets}
+use Rattle.cell_model.specs.declared.cell.Node.{Node}
+use Rattle.cell_model.specs.declared.cell.NodeNets.{NodeNets}
+use Rattle.cell_model.specs.declared.cell.Nets.{Nets}
+use Rattle.cell_model.specs.declared.cell.Cell.{Cell}
+use Rattle.cell_model.specs.Nets.{kind_parts, node_parts, nets_of_nodes, AreNets}
 use Rattle.expand.specs.Items.{no_nets, nets_at}
 
 nets_of_nodes_count : (numbers : List ℕ) (k : ℕ) (nodes : List Node) → length (nets_of_nodes numbers k nodes) ≡ length nodes

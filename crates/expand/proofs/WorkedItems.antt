@@ -13,7 +13,7 @@ use Rattle.sym_items.specs.declared.items.Item.{Item}
 use Rattle.cons_graph.specs.declared.edges.Edge.{Edge}
 use Rattle.cons_graph.specs.declared.edges.Why.{Why}
 use Rattle.cons_graph.specs.declared.edges.Why.TheVariants.{Size, Extent, Overlap, Margin}
-use Rattle.stick_cell.specs.declared.cell.Nets.{Nets}
+use Rattle.cell_model.specs.declared.cell.Nets.{Nets}
 use Rattle.expand.specs.Variables.{past, variables_of}
 use Rattle.expand.specs.Items.{items_of_node, items_of_wire, item_list}
 use Rattle.expand.specs.Structure.{structure_of}

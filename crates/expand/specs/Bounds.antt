@@ -2,7 +2,7 @@
 use Rattle.std.specs.Prelude.{◌≡◌, ℕ, ◌<◌, ◌^◌, ℤ, pos, neg_ℤ, ◌≤ℤ◌, List, length, slice_index}
 use Rattle.sym_items.specs.declared.items.End.{End}
 use Rattle.sym_items.specs.declared.items.Item.{Item}
-use Rattle.stick_cell.specs.declared.cell.Cell.{Cell}
+use Rattle.cell_model.specs.declared.cell.Cell.{Cell}
 use Rattle.expand.specs.Variables.{cross_of}
 
 -- a length from 0 to 2^14, and one that far either side of 0

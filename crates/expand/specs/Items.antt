@@ -5,11 +5,11 @@ use Rattle.lam_geom.specs.declared.boxes.Axis.TheVariants.{X, Y}
 use Rattle.rule_table.specs.declared.technology.Tech.{Tech}
 use Rattle.sym_items.specs.declared.items.Item.{Item}
 use Rattle.sym_items.specs.declared.items.Items.{Items}
-use Rattle.stick_cell.specs.declared.cell.NodeNets.{NodeNets}
-use Rattle.stick_cell.specs.declared.cell.Nets.{Nets}
-use Rattle.stick_cell.specs.declared.cell.Cell.{Cell}
-use Rattle.stick_cell.specs.Sound.{node_at, wire_at}
-use Rattle.stick_cell.specs.Netting.{AreNets}
+use Rattle.cell_model.specs.declared.cell.NodeNets.{NodeNets}
+use Rattle.cell_model.specs.declared.cell.Nets.{Nets}
+use Rattle.cell_model.specs.declared.cell.Cell.{Cell}
+use Rattle.cell_model.specs.Sound.{node_at, wire_at}
+use Rattle.cell_model.specs.Nets.{AreNets}
 use Rattle.expand.specs.Variables.{cross_of, variables_of}
 use Rattle.expand.specs.NodeItems.{kind_items}
 use Rattle.expand.specs.WireItems.{wire_items}

@@ -5,12 +5,12 @@ use Rattle.std.specs.List.{count_by}
 use Rattle.lam_geom.specs.declared.boxes.Axis.{Axis}
 use Rattle.lam_geom.specs.declared.boxes.Axis.TheVariants.{X, Y}
 use Rattle.sym_items.specs.declared.items.End.{End}
-use Rattle.stick_cell.specs.declared.cell.Axis2.{Axis2}
-use Rattle.stick_cell.specs.declared.cell.Axis2.TheVariants.{Across, Up}
-use Rattle.stick_cell.specs.declared.cell.Wire.{Wire}
-use Rattle.stick_cell.specs.declared.cell.Cell.{Cell}
-use Rattle.stick_cell.specs.Wires.{is_same_axis}
-use Rattle.stick_cell.specs.Sound.{wire_at}
+use Rattle.cell_model.specs.declared.cell.Axis2.{Axis2}
+use Rattle.cell_model.specs.declared.cell.Axis2.TheVariants.{Across, Up}
+use Rattle.cell_model.specs.declared.cell.Wire.{Wire}
+use Rattle.cell_model.specs.declared.cell.Cell.{Cell}
+use Rattle.cell_model.specs.Wiring.{is_same_axis}
+use Rattle.cell_model.specs.Sound.{wire_at}
 
 -- half of a length
 abbrev pub half : ℤ → ℤ

@@ -5,15 +5,15 @@ use Rattle.rule_table.specs.declared.classes.Class.TheVariants.{M}
 use Rattle.rule_table.specs.Technology.{numbers_of}
 use Rattle.sym_items.specs.declared.items.End.{End}
 use Rattle.sym_items.specs.declared.items.Item.{Item}
-use Rattle.stick_cell.specs.declared.cell.Axis2.{Axis2}
-use Rattle.stick_cell.specs.declared.cell.NodeKind.{NodeKind}
-use Rattle.stick_cell.specs.declared.cell.NodeKind.TheVariants.{Joint, Contact, Fet}
-use Rattle.stick_cell.specs.declared.cell.WireEnd.{WireEnd}
-use Rattle.stick_cell.specs.declared.cell.WireEnd.TheVariants as ends
-use Rattle.stick_cell.specs.declared.cell.Wire.{Wire}
-use Rattle.stick_cell.specs.declared.cell.Cell.{Cell}
-use Rattle.stick_cell.specs.Wires.{is_same_axis}
-use Rattle.stick_cell.specs.Sound.{node_at}
+use Rattle.cell_model.specs.declared.cell.Axis2.{Axis2}
+use Rattle.cell_model.specs.declared.cell.NodeKind.{NodeKind}
+use Rattle.cell_model.specs.declared.cell.NodeKind.TheVariants.{Joint, Contact, Fet}
+use Rattle.cell_model.specs.declared.cell.WireEnd.{WireEnd}
+use Rattle.cell_model.specs.declared.cell.WireEnd.TheVariants as ends
+use Rattle.cell_model.specs.declared.cell.Wire.{Wire}
+use Rattle.cell_model.specs.declared.cell.Cell.{Cell}
+use Rattle.cell_model.specs.Wiring.{is_same_axis}
+use Rattle.cell_model.specs.Sound.{node_at}
 use Rattle.expand.specs.Variables.{half, centre, past, at_origin, at_far_border}
 use Rattle.expand.specs.NodeItems.{item_running, on_layer}
 

@@ -2,13 +2,13 @@
 -- side to side; and the ends of their items.
 use Rattle.std.specs.Prelude.{ℕ, pos, false, [], ◌∷◌}
 use Rattle.rule_table.specs.declared.classes.Layer.TheVariants.{Diffusion, Poly, Metal}
-use Rattle.stick_parse.specs.declared.design.Side.TheVariants.{Left, Right}
-use Rattle.stick_cell.specs.declared.cell.Axis2.TheVariants.{Across, Up}
-use Rattle.stick_cell.specs.declared.cell.NodeKind.{NodeKind}
-use Rattle.stick_cell.specs.declared.cell.NodeKind.TheVariants.{Joint, Contact, Fet}
-use Rattle.stick_cell.specs.declared.cell.Node.{Node}
-use Rattle.stick_cell.specs.declared.cell.WireEnd.TheVariants as ends
-use Rattle.stick_cell.specs.declared.cell.Cell.{Cell}
+use Rattle.lam_geom.specs.declared.boxes.Side.TheVariants.{Left, Right}
+use Rattle.cell_model.specs.declared.cell.Axis2.TheVariants.{Across, Up}
+use Rattle.cell_model.specs.declared.cell.NodeKind.{NodeKind}
+use Rattle.cell_model.specs.declared.cell.NodeKind.TheVariants.{Joint, Contact, Fet}
+use Rattle.cell_model.specs.declared.cell.Node.{Node}
+use Rattle.cell_model.specs.declared.cell.WireEnd.TheVariants as ends
+use Rattle.cell_model.specs.declared.cell.Cell.{Cell}
 
 abbrev pub node : NodeKind → ℕ → ℕ → Node
 node kind col row = record { name = []; kind = kind; col = col; row = row }

@@ -7,7 +7,7 @@ ghost use Rattle.expand.specs.NodeItems.{item_running, on_layer, box_at, box_rou
 
 use rule_table::{Class, Layer};
 use std::alloc::AllocError;
-use stick_cell::Axis2;
+use cell_model::Axis2;
 use sym_items::{End, Item};
 
 /// Half of a length.

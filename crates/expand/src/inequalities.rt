@@ -3,9 +3,9 @@
 ghost use Rattle.std.specs.Prelude.{◌≡◌, ◌<◌, ◌^◌, ◌++◌, ◌∷◌, [], length, flat_map, All, pos, neg_ℤ, ◌+ℤ◌, ◌-ℤ◌, ◌≤ℤ◌, OnOk, IfOk};
 ghost use Rattle.std.specs.List.{range_with_len, AllByRecursion};
 ghost use Rattle.sym_items.specs.Transposed.{item_along};
-ghost use Rattle.stick_parse.specs.Writable.{IsNumber};
-ghost use Rattle.stick_cell.specs.Wires.{node_pad};
-ghost use Rattle.stick_cell.specs.Sound.{IsKind, IsEnd, IsWithinPad, IsWire, IsLimit, IsSound, IsLight, node_at};
+ghost use Rattle.stick_lex.specs.Numbers.{IsNumber};
+ghost use Rattle.cell_model.specs.Wiring.{node_pad};
+ghost use Rattle.cell_model.specs.Sound.{IsKind, IsEnd, IsWithinPad, IsWire, IsLimit, IsSound, IsLight, node_at};
 ghost use Rattle.cons_graph.specs.Constraints.{IsConstraintGraph};
 ghost use Rattle.expand.specs.Variables.{half, variables_of};
 ghost use Rattle.expand.specs.Items.{AreItems};
@@ -19,7 +19,7 @@ use cons_graph::{Edge, Why};
 use lam_geom::Axis;
 use rule_table::{Layer, Tech};
 use std::alloc::{AllocError, Global};
-use stick_cell::{Axis2, Cell, Limit, NodeKind, Wire, WireEnd};
+use cell_model::{Axis2, Cell, Limit, NodeKind, Wire, WireEnd};
 use sym_items::{End, Item, Items};
 
 // The item turned so that the axis lies where x lay.

@@ -2,8 +2,8 @@
 
 ghost use Rattle.std.specs.Prelude.{◌≡◌, ◌≤◌, ◌++◌, length, flat_map, All, OnOk, IfOk};
 ghost use Rattle.std.specs.List.{range_with_len};
-ghost use Rattle.stick_cell.specs.Sound.{IsSound, IsLight};
-ghost use Rattle.stick_cell.specs.Netting.{AreNets};
+ghost use Rattle.cell_model.specs.Sound.{IsSound, IsLight};
+ghost use Rattle.cell_model.specs.Nets.{AreNets};
 ghost use Rattle.expand.specs.Items.{items_of_node, items_of_wire, items_of};
 ghost use Rattle.expand.specs.Bounds.{AreCrosses, IsItemAmong};
 
@@ -14,7 +14,7 @@ use lam_geom::Axis;
 use lam_list::Seq;
 use rule_table::Tech;
 use std::alloc::{AllocError, Global};
-use stick_cell::{Cell, Nets};
+use cell_model::{Cell, Nets};
 use sym_items::{Item, Items};
 
 // Adds the items of the nodes.

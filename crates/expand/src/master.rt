@@ -1,6 +1,6 @@
 //! A cell with its items.
 
-use stick_cell::Cell;
+use cell_model::Cell;
 use sym_items::Items;
 
 /// A cell that a grid names, and the items of that cell.

@@ -1,8 +1,8 @@
 //! The items of a node.
 
 ghost use Rattle.std.specs.Prelude.{◌≡◌, ◌<◌, ◌^◌, ◌++◌, map, OnOk};
-ghost use Rattle.stick_cell.specs.declared.cell.NodeKind.TheVariants.{Contact};
-ghost use Rattle.stick_cell.specs.Sound.{IsKind};
+ghost use Rattle.cell_model.specs.declared.cell.NodeKind.TheVariants.{Contact};
+ghost use Rattle.cell_model.specs.Sound.{IsKind};
 ghost use Rattle.expand.specs.Bounds.{IsHalfSize};
 ghost use Rattle.rule_table.specs.declared.classes.Class.TheVariants.{M, C};
 ghost use Rattle.rule_table.specs.Technology.{numbers_of, pad_of};
@@ -13,7 +13,7 @@ use crate::boxes::{half, item_running, push_on_layer, square_round};
 use crate::channel::{channel, gate_poly, high_piece, implant, low_piece, mask_diffusion};
 use rule_table::{Class, Layer, Tech};
 use std::alloc::AllocError;
-use stick_cell::{Axis2, NodeKind, NodeNets};
+use cell_model::{Axis2, NodeKind, NodeNets};
 use sym_items::Item;
 
 /// Adds the items of a node with these nets.

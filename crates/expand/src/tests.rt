@@ -1,7 +1,7 @@
 use crate::Master;
 use lam_list::Seq;
 use std::test::Fail;
-use stick_cell::Cell;
+use cell_model::Cell;
 use stick_lex::Text;
 use sym_items::Items;
 

@@ -1,16 +1,16 @@
 //! The variables of a cell on its axes.
 
 ghost use Rattle.std.specs.Prelude.{◌≡◌, ◌≤◌, length, cond, IfOk};
-ghost use Rattle.stick_cell.specs.Sound.{IsLight};
-ghost use Rattle.stick_cell.specs.Wires.{is_same_axis};
+ghost use Rattle.cell_model.specs.Sound.{IsLight};
+ghost use Rattle.cell_model.specs.Wiring.{is_same_axis};
 ghost use Rattle.expand.specs.Variables.{running, crossing, variables_of};
-ghost use Rattle.stick_cell.specs.declared.cell.Axis2.TheVariants.{Across, Up};
+ghost use Rattle.cell_model.specs.declared.cell.Axis2.TheVariants.{Across, Up};
 ghost use Rattle.expand.specs.Bounds.{AreCrosses};
 
 use crate::wires::is_same_axis;
 use lam_geom::Axis;
 use std::alloc::{AllocError, Global};
-use stick_cell::{Axis2, Cell, Wire};
+use cell_model::{Axis2, Cell, Wire};
 
 // 1 where the two axes are one, 0 where they are not.
 fn counted(along: Axis2, other: Axis2) -> u32

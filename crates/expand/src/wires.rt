@@ -3,15 +3,15 @@
 ghost use Rattle.std.specs.Prelude.{◌≡◌, ◌<◌, ◌++◌, length, neg_ℤ, ◌+ℤ◌, OnOk};
 ghost use Rattle.rule_table.specs.Bounds.{IsSize};
 ghost use Rattle.rule_table.specs.Technology.{numbers_of};
-ghost use Rattle.stick_cell.specs.Wires.{is_same_axis};
-ghost use Rattle.stick_cell.specs.Sound.{IsKind, IsEnd, IsWire, IsSound, IsLight, node_at};
+ghost use Rattle.cell_model.specs.Wiring.{is_same_axis};
+ghost use Rattle.cell_model.specs.Sound.{IsKind, IsEnd, IsWire, IsSound, IsLight, node_at};
 ghost use Rattle.expand.specs.Bounds.{IsHalfSize, IsNear};
 ghost use Rattle.expand.specs.WireItems.{half_channel, reach, low_end_of, high_end_of, run_item, wire_items};
 
 use crate::boxes::{centre, extended, half, item_running, negated, push_on_layer};
 use rule_table::{Class, Tech};
 use std::alloc::AllocError;
-use stick_cell::{Axis2, Cell, NodeKind, Wire, WireEnd};
+use cell_model::{Axis2, Cell, NodeKind, Wire, WireEnd};
 use sym_items::{End, Item};
 
 /// Whether two axes are one.

@@ -22,6 +22,15 @@ pub enum Axis {
     Y,
 }
 
+/// A side of a box, or of a cell.
+#[derive(Clone, Copy, Debug, PartialEq, Eq)]
+pub enum Side {
+    Left,
+    Right,
+    Bottom,
+    Top,
+}
+
 /// A mask layer of the nMOS process, by its CIF name: diffusion, poly, contact cut, metal, implant.
 #[derive(Clone, Copy, Debug, PartialEq, Eq, PartialOrd, Ord)]
 pub enum MaskLayer {

@@ -6,5 +6,5 @@
 pub mod boxes;
 pub mod gaps;
 
-pub use boxes::{Axis, BoxXY, MaskBox, MaskLayer, Span};
+pub use boxes::{Axis, BoxXY, MaskBox, MaskLayer, Side, Span};
 pub use gaps::{contains_by, gap, gap_box, overlaps, span_of, touches, transpose};

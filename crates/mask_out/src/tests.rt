@@ -8,7 +8,7 @@ use lam_list::Seq;
 use rule_table::Class;
 use std::alloc::{AllocError, Global};
 use std::test::Fail;
-use stick_cell::Cell;
+use cell_model::Cell;
 use stick_lex::Text;
 use sym_items::{Coords, End, Item, Items};
 

@@ -23,17 +23,17 @@ use Rattle.sym_items.specs.declared.items.End.{End}
 use Rattle.sym_items.specs.declared.items.Item.{Item}
 use Rattle.sym_items.specs.Transposed.{item_along}
 use Rattle.sym_items.specs.Values.{end_under}
-use Rattle.stick_cell.specs.declared.cell.Axis2.{Axis2}
-use Rattle.stick_cell.specs.declared.cell.Axis2.TheVariants.{Across, Up}
-use Rattle.stick_cell.specs.declared.cell.NodeKind.{NodeKind}
-use Rattle.stick_cell.specs.declared.cell.NodeKind.TheVariants.{Joint, Contact, Fet}
-use Rattle.stick_cell.specs.declared.cell.NodeNets.{NodeNets}
-use Rattle.stick_cell.specs.declared.cell.WireEnd.{WireEnd}
-use Rattle.stick_cell.specs.declared.cell.WireEnd.TheVariants as ends
-use Rattle.stick_cell.specs.declared.cell.Wire.{Wire}
-use Rattle.stick_cell.specs.declared.cell.Nets.{Nets}
-use Rattle.stick_cell.specs.declared.cell.Cell.{Cell}
-use Rattle.stick_cell.specs.Sound.{IsKind, IsEnd, IsWire, IsSound, node_at, wire_at}
+use Rattle.cell_model.specs.declared.cell.Axis2.{Axis2}
+use Rattle.cell_model.specs.declared.cell.Axis2.TheVariants.{Across, Up}
+use Rattle.cell_model.specs.declared.cell.NodeKind.{NodeKind}
+use Rattle.cell_model.specs.declared.cell.NodeKind.TheVariants.{Joint, Contact, Fet}
+use Rattle.cell_model.specs.declared.cell.NodeNets.{NodeNets}
+use Rattle.cell_model.specs.declared.cell.WireEnd.{WireEnd}
+use Rattle.cell_model.specs.declared.cell.WireEnd.TheVariants as ends
+use Rattle.cell_model.specs.declared.cell.Wire.{Wire}
+use Rattle.cell_model.specs.declared.cell.Nets.{Nets}
+use Rattle.cell_model.specs.declared.cell.Cell.{Cell}
+use Rattle.cell_model.specs.Sound.{IsKind, IsEnd, IsWire, IsSound, node_at, wire_at}
 use Rattle.expand.specs.Variables.{half, centre, cross_of, at_origin, at_far_border, variables_of}
 use Rattle.expand.specs.NodeItems.{item_running, on_layer, box_at, square_round, channel_items, kind_items}
 use Rattle.expand.specs.WireItems.{low_end_of, high_end_of, run_item, wire_items}
@@ -43,7 +43,7 @@ use Rattle.expand.specs.Bounds.{IsSpanAmong, IsItemAmong}
 use Rattle.expand.proofs.Cells.{node_sound, wire_sound}
 use Rattle.expand.proofs.Among.{all_append, all_pieces, all_range, sound_numbers, items_among}
 use Rattle.expand.proofs.Reached.{any_here, any_left, any_there, any_flat_map, BeginsAt, items_begin}
-use Rattle.coarse_grid.proofs.Elements.{all_parts, all_pieces as pieces_of_all}
+use Rattle.list_facts.proofs.Elements.{all_parts, all_pieces as pieces_of_all}
 
 -- ---- an item of a node begins on its centre or before it
 

@@ -10,8 +10,8 @@ use Rattle.cons_graph.proofs.Least.{positive_cycle_excludes}
 use Rattle.cons_graph.proofs.Outcomes.{solution_or_cycle}
 use Rattle.sym_items.specs.declared.items.Items.{Items}
 use Rattle.sym_items.specs.declared.items.Coords.{Coords}
-use Rattle.stick_cell.specs.declared.cell.Cell.{Cell}
-use Rattle.stick_cell.specs.Sound.{IsSound, IsLight}
+use Rattle.cell_model.specs.declared.cell.Cell.{Cell}
+use Rattle.cell_model.specs.Sound.{IsSound, IsLight}
 use Rattle.expand.specs.Items.{AreItems}
 use Rattle.expand.specs.Structure.{structure_of}
 use Rattle.expand.specs.Variables.{variables_of}

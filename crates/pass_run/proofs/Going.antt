@@ -5,8 +5,8 @@ use Rattle.rule_table.specs.declared.technology.Tech.{Tech}
 use Rattle.sym_items.specs.declared.items.Item.{Item}
 use Rattle.sym_items.specs.declared.items.Items.{Items}
 use Rattle.sym_items.specs.declared.items.Coords.{Coords}
-use Rattle.stick_cell.specs.declared.cell.Cell.{Cell}
-use Rattle.stick_cell.specs.Sound.{IsSound}
+use Rattle.cell_model.specs.declared.cell.Cell.{Cell}
+use Rattle.cell_model.specs.Sound.{IsSound}
 use Rattle.expand.specs.Items.{AreItems}
 use Rattle.pair_rules.specs.Clean.{IsClean}
 use Rattle.coarse_grid.specs.Start.{start_of}

@@ -17,9 +17,9 @@ use Rattle.sym_items.specs.declared.items.Coords.{Coords}
 use Rattle.sym_items.specs.Boxes.{IsPlacedEnd, HasSpan, HasBox}
 use Rattle.sym_items.specs.Transposed.{item_along}
 use Rattle.sym_items.specs.Values.{value_at}
-use Rattle.stick_cell.specs.declared.cell.Cell.{Cell}
-use Rattle.stick_cell.specs.declared.cell.Nets.{Nets}
-use Rattle.stick_cell.specs.Sound.{IsSound}
+use Rattle.cell_model.specs.declared.cell.Cell.{Cell}
+use Rattle.cell_model.specs.declared.cell.Nets.{Nets}
+use Rattle.cell_model.specs.Sound.{IsSound}
 use Rattle.expand.specs.Variables.{variables_of}
 use Rattle.expand.specs.Bounds.{IsEndAmong, IsSpanAmong, IsSmall, IsItemAmong}
 use Rattle.expand.specs.Items.{item_list}
@@ -27,7 +27,7 @@ use Rattle.expand.specs.Structure.{structure_of}
 use Rattle.expand.proofs.Among.{items_among}
 use Rattle.pair_rules.specs.Laws.{moved}
 use Rattle.pair_rules.proofs.Staying.{stays_clean}
-use Rattle.coarse_grid.proofs.Elements.{all_of}
+use Rattle.list_facts.proofs.Elements.{all_of}
 use Rattle.shadow_prune.proofs.Pruning.{candidates_apart}
 use Rattle.pass_run.specs.System.{spaces_of, system_over}
 use Rattle.pass_run.specs.Passes.{values_on}

@@ -18,16 +18,16 @@ use Rattle.sym_items.specs.declared.items.Coords.{Coords}
 use Rattle.sym_items.specs.Boxes.{HasBox}
 use Rattle.sym_items.specs.Transposed.{item_along, coords_along}
 use Rattle.sym_items.specs.Values.{value_of, end_under}
-use Rattle.stick_cell.specs.declared.cell.Cell.{Cell}
-use Rattle.stick_cell.specs.declared.cell.Nets.{Nets}
-use Rattle.stick_cell.specs.Sound.{IsSound}
+use Rattle.cell_model.specs.declared.cell.Cell.{Cell}
+use Rattle.cell_model.specs.declared.cell.Nets.{Nets}
+use Rattle.cell_model.specs.Sound.{IsSound}
 use Rattle.expand.specs.Items.{AreItems, item_list}
 use Rattle.expand.specs.Structure.{at_least, between, extent_edges, structure_of}
 use Rattle.expand.proofs.Among.{all_pieces}
 use Rattle.pair_rules.specs.declared.pairs.Pair.{Pair}
 use Rattle.pair_rules.specs.Candidates.{candidates_of, high_end, low_end, Keeps}
 use Rattle.pair_rules.specs.Kept.{kept_of}
-use Rattle.coarse_grid.proofs.Elements.{all_of, all_parts, all_unmap, all_pieces as all_of_pieces}
+use Rattle.list_facts.proofs.Elements.{all_of, all_parts, all_unmap, all_pieces as all_of_pieces}
 use Rattle.shadow_prune.specs.Pruning.{HasExtent}
 use Rattle.shadow_prune.proofs.Pruning.{pruning_loses_nothing, kept_among, kept_differs, candidates_apart}
 use Rattle.pass_run.specs.System.{space_edges, spaces_of, system_over, space_edge, list_over, HaveSameSolutions}

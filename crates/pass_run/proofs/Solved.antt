@@ -22,8 +22,8 @@ use Rattle.liao_wong.proofs.InOrder.{sorted_is_order}
 use Rattle.sym_items.specs.declared.items.Item.{Item}
 use Rattle.sym_items.specs.declared.items.Items.{Items}
 use Rattle.sym_items.specs.declared.items.Coords.{Coords}
-use Rattle.stick_cell.specs.declared.cell.Cell.{Cell}
-use Rattle.stick_cell.specs.Sound.{IsSound}
+use Rattle.cell_model.specs.declared.cell.Cell.{Cell}
+use Rattle.cell_model.specs.Sound.{IsSound}
 use Rattle.expand.specs.Variables.{variables_of}
 use Rattle.expand.specs.Items.{AreItems}
 use Rattle.pair_rules.specs.Kept.{kept_of}

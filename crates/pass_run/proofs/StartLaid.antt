@@ -10,10 +10,10 @@ use Rattle.sym_items.specs.declared.items.Item.{Item}
 use Rattle.sym_items.specs.declared.items.Items.{Items}
 use Rattle.sym_items.specs.declared.items.Coords.{Coords}
 use Rattle.sym_items.specs.Boxes.{HasBox}
-use Rattle.stick_cell.specs.declared.cell.Axis2.TheVariants.{Across, Up}
-use Rattle.stick_cell.specs.declared.cell.Cell.{Cell}
-use Rattle.stick_cell.specs.Sound.{IsSound}
-use Rattle.stick_cell.proofs.GrownLists.{all_weaker}
+use Rattle.cell_model.specs.declared.cell.Axis2.TheVariants.{Across, Up}
+use Rattle.cell_model.specs.declared.cell.Cell.{Cell}
+use Rattle.cell_model.specs.Sound.{IsSound}
+use Rattle.list_facts.proofs.Elements.{all_weaker}
 use Rattle.expand.specs.Items.{AreItems, item_list}
 use Rattle.expand.specs.Variables.{variables_of}
 use Rattle.pair_rules.specs.Clean.{IsClean}
@@ -23,7 +23,7 @@ use Rattle.coarse_grid.specs.Start.{start_values, start_of}
 use Rattle.coarse_grid.proofs.Lines.{near_lines}
 use Rattle.coarse_grid.proofs.Reaches.{coarse, coarse_pitch}
 use Rattle.coarse_grid.proofs.Starts.{start_near, counted_x, counted_y}
-use Rattle.coarse_grid.proofs.Elements.{all_of}
+use Rattle.list_facts.proofs.Elements.{all_of}
 use Rattle.coarse_grid.proofs.Laid.{IsLaid}
 use Rattle.coarse_grid.proofs.ItemsLaid.{items_laid, has_boxes}
 use Rattle.pass_run.specs.Passes.{values_on}

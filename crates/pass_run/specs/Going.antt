@@ -2,7 +2,7 @@
 use Rattle.std.specs.Prelude.{◌≡◌, List, []}
 use Rattle.rule_table.specs.declared.technology.Tech.{Tech}
 use Rattle.sym_items.specs.declared.items.Item.{Item}
-use Rattle.stick_cell.specs.declared.cell.Cell.{Cell}
+use Rattle.cell_model.specs.declared.cell.Cell.{Cell}
 use Rattle.coarse_grid.specs.Start.{start_of}
 use Rattle.pass_run.specs.declared.passes.SoFar.{SoFar}
 use Rattle.pass_run.specs.Passes.{layout_after, ArePasses, axes_of}

@@ -8,7 +8,7 @@ use Rattle.sym_items.specs.declared.items.Coords.{Coords}
 use Rattle.sym_items.specs.Boxes.{HasBox}
 use Rattle.sym_items.specs.Transposed.{item_along}
 use Rattle.sym_items.specs.Values.{value_at}
-use Rattle.stick_cell.specs.declared.cell.Cell.{Cell}
+use Rattle.cell_model.specs.declared.cell.Cell.{Cell}
 use Rattle.expand.specs.Structure.{structure_of}
 use Rattle.expand.specs.Variables.{variables_of}
 use Rattle.pair_rules.specs.Clean.{IsClean}

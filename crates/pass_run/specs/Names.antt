@@ -2,11 +2,11 @@
 use Rattle.std.specs.Prelude.{ℕ, List, [], ◌∷◌, ◌++◌, length, map, codes, decimal, flat_map, if◌then◌else◌}
 use Rattle.std.specs.List.{range_with_len}
 use Rattle.lam_geom.specs.declared.boxes.Axis.{Axis}
-use Rattle.stick_cell.specs.declared.cell.Cell.{Cell}
-use Rattle.stick_cell.specs.declared.cell.Node.{Node}
-use Rattle.stick_cell.specs.declared.cell.Axis2.{Axis2}
-use Rattle.stick_cell.specs.Wires.{is_same_axis}
-use Rattle.stick_cell.specs.Sound.{wire_at}
+use Rattle.cell_model.specs.declared.cell.Cell.{Cell}
+use Rattle.cell_model.specs.declared.cell.Node.{Node}
+use Rattle.cell_model.specs.declared.cell.Axis2.{Axis2}
+use Rattle.cell_model.specs.Wiring.{is_same_axis}
+use Rattle.cell_model.specs.Sound.{wire_at}
 use Rattle.expand.specs.Variables.{crossing}
 
 -- a cell's name, a colon, and a name in it

@@ -4,7 +4,7 @@ use Rattle.lam_geom.specs.declared.boxes.Axis.{Axis}
 use Rattle.rule_table.specs.declared.technology.Tech.{Tech}
 use Rattle.sym_items.specs.declared.items.Item.{Item}
 use Rattle.sym_items.specs.declared.items.Coords.{Coords}
-use Rattle.stick_cell.specs.declared.cell.Cell.{Cell}
+use Rattle.cell_model.specs.declared.cell.Cell.{Cell}
 use Rattle.pass_run.specs.declared.pass.Stop.{Stop}
 use Rattle.pass_run.specs.declared.pass.Stop.TheVariants.{TooManyEdges, Cycle, OutOfMemory}
 use Rattle.pass_run.specs.System.{list_over, most_edges}

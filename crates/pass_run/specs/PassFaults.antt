@@ -10,7 +10,7 @@ use Rattle.liao_wong.specs.Answers.{IsCycleOf}
 use Rattle.liao_wong.specs.Sorted.{IsInOrderOf}
 use Rattle.sym_items.specs.declared.items.Item.{Item}
 use Rattle.sym_items.specs.declared.items.Coords.{Coords}
-use Rattle.stick_cell.specs.declared.cell.Cell.{Cell}
+use Rattle.cell_model.specs.declared.cell.Cell.{Cell}
 use Rattle.expand.specs.Variables.{variables_of}
 use Rattle.coarse_grid.specs.Start.{start_of}
 use Rattle.pass_run.specs.declared.passes.PassFault.{PassFault}

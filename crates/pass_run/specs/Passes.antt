@@ -12,7 +12,7 @@ use Rattle.liao_wong.specs.Sorted.{IsInOrderOf}
 use Rattle.sym_items.specs.declared.items.Item.{Item}
 use Rattle.sym_items.specs.declared.items.Coords.{Coords}
 use Rattle.sym_items.specs.Transposed.{coords_along}
-use Rattle.stick_cell.specs.declared.cell.Cell.{Cell}
+use Rattle.cell_model.specs.declared.cell.Cell.{Cell}
 use Rattle.expand.specs.Variables.{variables_of}
 use Rattle.pair_rules.specs.Kept.{kept_of}
 use Rattle.pair_rules.specs.Laws.{moved}

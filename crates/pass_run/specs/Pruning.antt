@@ -5,7 +5,7 @@ use Rattle.rule_table.specs.declared.technology.Tech.{Tech}
 use Rattle.sym_items.specs.declared.items.Item.{Item}
 use Rattle.sym_items.specs.declared.items.Coords.{Coords}
 use Rattle.sym_items.specs.Boxes.{HasBox}
-use Rattle.stick_cell.specs.declared.cell.Cell.{Cell}
+use Rattle.cell_model.specs.declared.cell.Cell.{Cell}
 use Rattle.pass_run.specs.System.{system_over, list_over, HaveSameSolutions, HaveCyclesAlike}
 use Rattle.pass_run.specs.Laid.{IsLaidOut}
 

@@ -10,7 +10,7 @@ use Rattle.cons_graph.specs.SimpleWalks.{length_of}
 use Rattle.cons_graph.specs.Solutions.{value_of}
 use Rattle.sym_items.specs.declared.items.Item.{Item}
 use Rattle.sym_items.specs.declared.items.Coords.{Coords}
-use Rattle.stick_cell.specs.declared.cell.Cell.{Cell}
+use Rattle.cell_model.specs.declared.cell.Cell.{Cell}
 use Rattle.pass_run.specs.declared.step.Step.{Step}
 use Rattle.pass_run.specs.Names.{names_of}
 use Rattle.pass_run.specs.Passes.{moved_by}

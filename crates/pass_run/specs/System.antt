@@ -8,7 +8,7 @@ use Rattle.cons_graph.specs.Solutions.{IsSolution}
 use Rattle.cons_graph.specs.Walks.{HasPositiveCycle}
 use Rattle.sym_items.specs.declared.items.Item.{Item}
 use Rattle.sym_items.specs.declared.items.Coords.{Coords}
-use Rattle.stick_cell.specs.declared.cell.Cell.{Cell}
+use Rattle.cell_model.specs.declared.cell.Cell.{Cell}
 use Rattle.expand.specs.Structure.{at_least, between, structure_of}
 use Rattle.pair_rules.specs.declared.pairs.Pair.{Pair}
 use Rattle.pair_rules.specs.Candidates.{candidates_of, high_end, low_end}

@@ -8,7 +8,7 @@ use Rattle.cons_graph.specs.Solutions.{IsSolution, value_of}
 use Rattle.sym_items.specs.declared.items.Item.{Item}
 use Rattle.sym_items.specs.declared.items.Coords.{Coords}
 use Rattle.sym_items.specs.Boxes.{HasBox}
-use Rattle.stick_cell.specs.declared.cell.Cell.{Cell}
+use Rattle.cell_model.specs.declared.cell.Cell.{Cell}
 use Rattle.expand.specs.Variables.{variables_of}
 use Rattle.pair_rules.specs.Clean.{IsClean}
 use Rattle.shadow_prune.specs.Pruning.{HasExtent}

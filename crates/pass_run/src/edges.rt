@@ -4,7 +4,7 @@ ghost use Rattle.std.specs.Prelude.{◌≡◌, ◌+◌, ◌<◌, ◌≤◌, ◌+
 ghost use Rattle.lam_geom.specs.declared.boxes.Axis.TheVariants.{X, Y};
 ghost use Rattle.cons_graph.specs.Constraints.{IsConstraintGraph};
 ghost use Rattle.sym_items.specs.Transposed.{item_along};
-ghost use Rattle.stick_cell.specs.Sound.{IsSound, IsLight};
+ghost use Rattle.cell_model.specs.Sound.{IsSound, IsLight};
 ghost use Rattle.expand.specs.Bounds.{IsNear, IsNearItem};
 ghost use Rattle.expand.specs.Items.{AreItems};
 ghost use Rattle.expand.specs.Variables.{variables_of};

@@ -2,15 +2,15 @@
 
 ghost use Rattle.std.specs.Prelude.{◌≡◌, ◌++◌, ◌∷◌, [], codes, map, flat_map, length, OnOk, IfOk};
 ghost use Rattle.std.specs.List.{range_with_len};
-ghost use Rattle.stick_cell.specs.declared.cell.Node.{Node};
-ghost use Rattle.stick_cell.specs.Sound.{IsLight};
+ghost use Rattle.cell_model.specs.declared.cell.Node.{Node};
+ghost use Rattle.cell_model.specs.Sound.{IsLight};
 ghost use Rattle.pass_run.specs.Names.{within_cell, cross_name_along, cross_name, names_of};
 
 use cons_graph::Names;
 use expand::crossing;
 use lam_geom::Axis;
 use std::alloc::{AllocError, Global};
-use stick_cell::{Axis2, Cell};
+use cell_model::{Axis2, Cell};
 
 // Adds the name of the far border.
 fn push_border(names: &mut Names, alloc: Global, cell: &Cell) -> Result<(), AllocError>

@@ -6,7 +6,7 @@ ghost use Rattle.cons_graph.specs.Logs.{IsEndedLog};
 ghost use Rattle.cons_graph.specs.Orders.{NamesEachOnce};
 ghost use Rattle.cons_graph.specs.Solutions.{value_of};
 ghost use Rattle.liao_wong.specs.Sorted.{IsInOrderOf};
-ghost use Rattle.stick_cell.specs.Sound.{IsSound, IsLight};
+ghost use Rattle.cell_model.specs.Sound.{IsSound, IsLight};
 ghost use Rattle.expand.specs.Items.{AreItems};
 ghost use Rattle.expand.specs.Variables.{variables_of};
 ghost use Rattle.pass_run.specs.declared.pass.Stop.TheVariants.{OutOfMemory};
@@ -28,7 +28,7 @@ use lam_list::Seq;
 use liao_wong::{Solved, Unsolved, solve, sort_order};
 use rule_table::Tech;
 use std::alloc::{AllocError, Global};
-use stick_cell::Cell;
+use cell_model::Cell;
 use sym_items::Coords;
 
 /// A pass that was made, and its text in the report.

@@ -2,7 +2,7 @@
 
 ghost use Rattle.std.specs.Prelude.{◌≡◌, ◌<◌, ◌≤◌, ◌∷◌, ◌++◌, [], List, length, IfOk, IfErr};
 ghost use Rattle.lam_geom.specs.declared.boxes.Axis.{Axis as SomeAxis};
-ghost use Rattle.stick_cell.specs.Sound.{IsSound, IsLight};
+ghost use Rattle.cell_model.specs.Sound.{IsSound, IsLight};
 ghost use Rattle.expand.specs.Items.{AreItems};
 ghost use Rattle.pair_rules.specs.Clean.{IsClean};
 ghost use Rattle.pair_rules.specs.Laws.{moved};

@@ -1,7 +1,7 @@
 //! What no clause says: that memory is there, the kept pairs of worked and of generated cells, and the passes of worked ones.
 ghost use Rattle.std.specs.Prelude.{◌≡◌, ◌<◌, ◌^◌, All, IfOk, length};
 ghost use Rattle.sym_items.specs.Boxes.{HasBox};
-ghost use Rattle.stick_cell.specs.Sound.{IsSound, IsLight};
+ghost use Rattle.cell_model.specs.Sound.{IsSound, IsLight};
 ghost use Rattle.expand.specs.Items.{AreItems};
 ghost use Rattle.pair_rules.specs.Clean.{IsClean};
 ghost use Rattle.coarse_grid.specs.Start.{start_of};
@@ -16,7 +16,7 @@ use shadow_prune::{KeptFault, kept};
 use std::alloc::Global;
 use std::process::Abort;
 use std::test::Fail;
-use stick_cell::{Cell, nets, resolve};
+use cell_model::{Cell, nets, resolve};
 use stick_parse::parse;
 use sym_items::{Coords, Item};
 

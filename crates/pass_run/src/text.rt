@@ -4,7 +4,7 @@ ghost use Rattle.std.specs.Prelude.{◌≡◌, ◌<◌, ◌≤◌, ◌^◌, ◌+
 ghost use Rattle.std.specs.Fmt.{signed_decimal};
 ghost use Rattle.cons_graph.specs.SimpleWalks.{IsSimplePositiveCycle};
 ghost use Rattle.cons_graph.specs.Solutions.{value_of};
-ghost use Rattle.stick_cell.specs.Sound.{IsLight};
+ghost use Rattle.cell_model.specs.Sound.{IsLight};
 ghost use Rattle.expand.specs.Variables.{variables_of};
 ghost use Rattle.pass_run.specs.Report.{letter, pass_head, count_line, size_line, walk_in, pass_text, cycle_text};
 
@@ -15,7 +15,7 @@ use crit_path::walk_lines;
 use cycle_show::cycle_lines;
 use lam_geom::Axis;
 use std::alloc::{AllocError, Global};
-use stick_cell::Cell;
+use cell_model::Cell;
 
 // Adds a word and the number that comes after it.
 fn push_count(text: &mut Vec<u8>, alloc: Global, word: &[u8], count: u32) -> Result<(), AllocError>

@@ -4,7 +4,7 @@ use Rattle.std.specs.List.{filter, flat_map, range_with_len}
 use Rattle.std.proofs.lemmas.List.{length-append, take-append-drop}
 use Rattle.std.proofs.lemmas.List.Elements.{filter-append}
 use Rattle.std.proofs.lemmas.List.Filters.{length-filter_more}
-use Rattle.sym_items.proofs.Pieces.{piece_added}
+use Rattle.list_facts.proofs.Pieces.{piece_added}
 use Rattle.shadow_prune.specs.declared.keeping.KeptFault.{KeptFault}
 use Rattle.shadow_prune.specs.declared.keeping.KeptFault.TheVariants.{TooMany, OutOfMemory}
 use Rattle.shadow_prune.specs.KeptFaults.{RefusesKept}

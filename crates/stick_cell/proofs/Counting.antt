@@ -3,14 +3,15 @@ use Rattle.std.proofs.Common.{◌≡◌, ℕ, ◌+◌, ◌<◌, max, ◌==◌, B
 use Rattle.std.proofs.lemmas.List.{length_push, length-append, length-map, append-nil}
 use Rattle.std.proofs.lemmas.List.Sums.{sum_by_push, sum_by-append, sum_by-cons, fold-append}
 use Rattle.std.proofs.lemmas.Bool.Decides.{nat_tests}
-use Rattle.stick_parse.specs.declared.design.Side.{Side}
+use Rattle.lam_geom.specs.declared.boxes.Side.{Side}
 use Rattle.rule_table.specs.declared.classes.Layer.{Layer}
-use Rattle.stick_cell.specs.declared.cell.NodeKind.{NodeKind}
-use Rattle.stick_cell.specs.declared.cell.Node.{Node}
-use Rattle.stick_cell.specs.declared.cell.Wire.{Wire}
-use Rattle.stick_cell.specs.declared.cell.Limit.{Limit}
+use Rattle.cell_model.specs.declared.cell.NodeKind.{NodeKind}
+use Rattle.cell_model.specs.declared.cell.Node.{Node}
+use Rattle.cell_model.specs.declared.cell.Wire.{Wire}
+use Rattle.cell_model.specs.declared.cell.Limit.{Limit}
 use Rattle.stick_cell.specs.Known.{Known, with_node, with_port, with_copy, with_wire, with_limit, greatest_col, greatest_row, copied_node, copied_wire, copied_limit}
-use Rattle.stick_cell.specs.Counts.{weight_of, boxes_of, capped, node_items, wire_items, node_boxes, layer_items, kind_items, kind_boxes}
+use Rattle.stick_cell.specs.Counts.{weight_of, boxes_of, capped}
+use Rattle.cell_model.specs.Counts.{node_items, wire_items, node_boxes, layer_items, kind_items, kind_boxes}
 
 -- a capped sum of capped counts
 pub capped-sum : (a b : ℕ) → capped (capped a + b) ≡ capped (a + b)

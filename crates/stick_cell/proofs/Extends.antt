@@ -6,23 +6,24 @@ use Rattle.std.proofs.lemmas.List.Sums.{sum_by-append, sum_by-cons}
 use Rattle.rule_table.specs.declared.technology.Tech.{Tech}
 use Rattle.rule_table.specs.declared.classes.Layer.{Layer}
 use Rattle.stick_parse.specs.declared.fault.StickFault.{StickFault}
-use Rattle.stick_parse.specs.declared.design.Side.{Side}
+use Rattle.lam_geom.specs.declared.boxes.Side.{Side}
 use Rattle.stick_parse.specs.declared.design.Form.{Form}
 use Rattle.stick_parse.specs.declared.design.Form.TheVariants as forms
 use Rattle.stick_parse.specs.declared.design.Line.{Line}
 use Rattle.stick_parse.specs.Order.{at_line}
 use Rattle.stick_lex.specs.Tokens.{names}
-use Rattle.stick_cell.specs.declared.cell.NodeKind.{NodeKind}
-use Rattle.stick_cell.specs.declared.cell.NodeKind.TheVariants as kinds
-use Rattle.stick_cell.specs.declared.cell.Node.{Node}
-use Rattle.stick_cell.specs.declared.cell.Wire.{Wire}
-use Rattle.stick_cell.specs.declared.cell.Limit.{Limit}
+use Rattle.cell_model.specs.declared.cell.NodeKind.{NodeKind}
+use Rattle.cell_model.specs.declared.cell.NodeKind.TheVariants as kinds
+use Rattle.cell_model.specs.declared.cell.Node.{Node}
+use Rattle.cell_model.specs.declared.cell.Wire.{Wire}
+use Rattle.cell_model.specs.declared.cell.Limit.{Limit}
 use Rattle.stick_cell.specs.declared.names.Thing.{Thing}
 use Rattle.stick_cell.specs.declared.names.Found.{Found}
 use Rattle.stick_cell.specs.Known.{Known, known_at, with_node, with_port, with_wire, with_limit, with_copy, copied_node, copied_wire, copied_limit}
 use Rattle.stick_cell.specs.Paths.{Names, named, names_at, behind, walk, found_at}
 use Rattle.stick_cell.specs.Checks.{layer_of}
-use Rattle.stick_cell.specs.Counts.{weight_of, node_items, wire_items}
+use Rattle.stick_cell.specs.Counts.{weight_of}
+use Rattle.cell_model.specs.Counts.{node_items, wire_items}
 use Rattle.stick_cell.specs.Lines.{after_form, after_lines}
 use Rattle.stick_cell.proofs.Accepted.{bound, ok_same, at_line_ok}
 use Rattle.stick_cell.proofs.FormSteps.{joint_step, contact_step, fet_step, port_step, use_step, wire_step, limit_step}

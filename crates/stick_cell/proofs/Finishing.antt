@@ -5,11 +5,12 @@ use Rattle.std.proofs.lemmas.Bool.Decides.{nat_tests}
 use Rattle.std.proofs.lemmas.List.Sums.{sum_by-cons}
 use Rattle.rule_table.specs.declared.classes.Layer.{Layer}
 use Rattle.rule_table.specs.declared.classes.Layer.TheVariants.{Diffusion, Poly, Metal}
-use Rattle.stick_cell.specs.declared.cell.Wire.{Wire}
+use Rattle.cell_model.specs.declared.cell.Wire.{Wire}
 use Rattle.stick_cell.specs.declared.growing.Growing.{Growing}
-use Rattle.stick_cell.specs.declared.cell.CellPort.{CellPort}
+use Rattle.cell_model.specs.declared.cell.CellPort.{CellPort}
 use Rattle.stick_cell.specs.Known.{Known, Plug}
-use Rattle.stick_cell.specs.Counts.{weight_of, capped, layer_items, wire_items}
+use Rattle.stick_cell.specs.Counts.{weight_of, capped}
+use Rattle.cell_model.specs.Counts.{layer_items, wire_items}
 use Rattle.stick_cell.specs.Ports.{port_of, ports_of, is_light}
 use Rattle.stick_cell.specs.Growing.{IsGrowing, IsWiredBelow, port_so_far, without_wire}
 

@@ -1,7 +1,7 @@
 -- Ports whose wires' numbers are put to 0 one by one.
 use Rattle.std.proofs.Common.{◌≡◌, ℕ, zero, suc, ◌+◌, ◌<◌, ◌≤◌, List, [], ◌∷◌, ◌++◌, map, length, get_or, set, take, drop, refl, sym, ap, ◌∙◌, add-one, arith}
 use Rattle.std.proofs.lemmas.List.{take_all, drop_all, append-nil, length-map}
-use Rattle.stick_cell.specs.declared.cell.CellPort.{CellPort}
+use Rattle.cell_model.specs.declared.cell.CellPort.{CellPort}
 use Rattle.stick_cell.specs.Growing.{without_wire}
 
 -- the first so many

@@ -13,11 +13,11 @@ use Rattle.stick_cell.specs.Paths.{walk, found_at}
 use Rattle.stick_cell.specs.Counts.{weight_of, capped}
 use Rattle.stick_cell.specs.Kept.{ended, kept_found}
 use Rattle.stick_cell.specs.NameEntries.{entries_of}
-use Rattle.stick_cell.specs.Sound.{no_node, node_at, IsNode}
+use Rattle.cell_model.specs.Sound.{no_node, node_at, IsNode}
 use Rattle.stick_cell.specs.Tables.{IsTableOf, known_of, IsResolved}
 use Rattle.stick_cell.specs.Grown.{IsGrown, AreGrown}
 use Rattle.stick_cell.specs.Inlining.{cells_before, IsSoFar}
-use Rattle.stick_cell.proofs.GrownLists.{all_at}
+use Rattle.list_facts.proofs.Elements.{all_at}
 use Rattle.stick_cell.proofs.Grown.{spot-found_at, light-cell_of}
 use Rattle.stick_cell.proofs.KeptPaths.{found_at-kept}
 use Rattle.stick_cell.proofs.Extends.{extends-after_lines, found_at-extends}

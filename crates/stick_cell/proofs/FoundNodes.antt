@@ -5,13 +5,13 @@ use Rattle.std.specs.Str.{bytes_eq}
 use Rattle.std.proofs.lemmas.Bool.Decides.{same_from_decides, Decides-eqb}
 use Rattle.std.proofs.lemmas.Slice.Eq.{bytes_eq-Decides}
 use Rattle.rule_table.specs.declared.technology.Tech.{Tech}
-use Rattle.stick_cell.specs.declared.cell.Node.{Node as CellNode}
+use Rattle.cell_model.specs.declared.cell.Node.{Node as CellNode}
 use Rattle.stick_cell.specs.declared.names.Spot.{Spot}
 use Rattle.stick_cell.specs.declared.names.Terminal.TheVariants.{Node, Port}
 use Rattle.stick_cell.specs.declared.names.Found.{Found}
 use Rattle.stick_cell.specs.declared.names.Found.TheVariants.{At, AtCopy, Through}
 use Rattle.stick_cell.specs.Kept.{IsNearFound}
-use Rattle.stick_cell.specs.Sound.{IsNode, node_at}
+use Rattle.cell_model.specs.Sound.{IsNode, node_at}
 
 -- the node of this name at this spot is the spot's number among the nodes
 pub record IsNodeOf (nodes : List CellNode) (path : List ℕ) (spot : Spot) : Type 0 where

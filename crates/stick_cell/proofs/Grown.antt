@@ -16,10 +16,10 @@ use Rattle.stick_parse.specs.declared.design.CellText.{CellText}
 use Rattle.stick_parse.specs.Writable.{IsForm, IsLine, IsCell, IsPath}
 use Rattle.stick_parse.specs.Reading.{◌>>=◌}
 use Rattle.stick_parse.specs.Order.{at_line}
-use Rattle.stick_cell.specs.declared.cell.NodeKind.{NodeKind}
-use Rattle.stick_cell.specs.declared.cell.NodeKind.TheVariants as kinds
-use Rattle.stick_cell.specs.declared.cell.Node.{Node}
-use Rattle.stick_cell.specs.declared.cell.Wire.{Wire}
+use Rattle.cell_model.specs.declared.cell.NodeKind.{NodeKind}
+use Rattle.cell_model.specs.declared.cell.NodeKind.TheVariants as kinds
+use Rattle.cell_model.specs.declared.cell.Node.{Node}
+use Rattle.cell_model.specs.declared.cell.Wire.{Wire}
 use Rattle.stick_cell.specs.declared.names.Spot.{Spot}
 use Rattle.stick_cell.specs.declared.names.Terminal.TheVariants.{Node as NodeEnd}
 use Rattle.stick_cell.specs.declared.names.Found.TheVariants.{At}
@@ -27,8 +27,9 @@ use Rattle.stick_cell.specs.Known.{Known, Plug, begun, cell_of, known_at, plug_a
 use Rattle.stick_cell.specs.Paths.{found_at}
 use Rattle.stick_cell.specs.Checks.{demand}
 use Rattle.stick_cell.specs.Lines.{after_form, after_lines, after_cell, is_new_cell, cells_after, is_wired, known_cells}
-use Rattle.stick_cell.specs.Counts.{weight_of, layer_items, kind_items, node_items, wire_items}
-use Rattle.stick_cell.specs.Sound.{node_at, port_at, IsPort, IsSound, IsLight}
+use Rattle.stick_cell.specs.Counts.{weight_of}
+use Rattle.cell_model.specs.Counts.{layer_items, kind_items, node_items, wire_items}
+use Rattle.cell_model.specs.Sound.{node_at, port_at, IsPort, IsSound, IsLight}
 use Rattle.stick_cell.specs.Grown.{IsSpot, IsPlug, IsGrown, AreGrown}
 use Rattle.stick_cell.proofs.Accepted.{bound, two_bound, ok_same, at_line_ok, true_from_demand}
 use Rattle.stick_cell.proofs.GrownNames.{at_end_of}

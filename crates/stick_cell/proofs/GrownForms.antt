@@ -11,14 +11,15 @@ use Rattle.stick_parse.specs.declared.fault.StickKind.{StickKind}
 use Rattle.stick_parse.specs.declared.fault.StickKind.TheVariants.{RepeatedName, UseCycle, UseDepth, UsedPorts, FarPlace, BadSize, BadLimit}
 use Rattle.stick_parse.specs.declared.design.Layer.{Layer as DrawnLayer}
 use Rattle.stick_parse.specs.declared.design.Layer.TheVariants as drawn
-use Rattle.stick_parse.specs.declared.design.Side.{Side}
-use Rattle.stick_parse.specs.Writable.{IsNumber, IsLower}
+use Rattle.lam_geom.specs.declared.boxes.Side.{Side}
+use Rattle.stick_lex.specs.Numbers.{IsNumber}
+use Rattle.stick_parse.specs.Writable.{IsLower}
 use Rattle.stick_parse.specs.Reading.{◌>>=◌}
-use Rattle.stick_cell.specs.declared.cell.NodeKind.{NodeKind}
-use Rattle.stick_cell.specs.declared.cell.NodeKind.TheVariants as kinds
-use Rattle.stick_cell.specs.declared.cell.Node.{Node}
-use Rattle.stick_cell.specs.declared.cell.Wire.{Wire}
-use Rattle.stick_cell.specs.declared.cell.Limit.{Limit}
+use Rattle.cell_model.specs.declared.cell.NodeKind.{NodeKind}
+use Rattle.cell_model.specs.declared.cell.NodeKind.TheVariants as kinds
+use Rattle.cell_model.specs.declared.cell.Node.{Node}
+use Rattle.cell_model.specs.declared.cell.Wire.{Wire}
+use Rattle.cell_model.specs.declared.cell.Limit.{Limit}
 use Rattle.stick_cell.specs.declared.names.Spot.{Spot}
 use Rattle.stick_cell.specs.declared.names.Copied.{Copied}
 use Rattle.stick_cell.specs.declared.names.Thing.{Thing}
@@ -32,10 +33,11 @@ use Rattle.stick_cell.specs.Paths.{Names, found_at}
 use Rattle.stick_cell.specs.Checks.{demand, layer_of, is_fresh, is_place, is_channel, sized}
 use Rattle.stick_cell.specs.Wires.{known_name, wire_between, limited}
 use Rattle.stick_cell.specs.Lines.{axis_where, number_of, known_number, is_empty, wired_of, after_joint, after_contact, after_fet, after_port, with_use, after_use, after_wire, after_limit}
-use Rattle.stick_cell.specs.Sound.{node_at, no_node, IsNode, IsKind, IsWire, IsLimit}
+use Rattle.cell_model.specs.Sound.{node_at, no_node, IsNode, IsKind, IsWire, IsLimit}
 use Rattle.stick_cell.specs.Grown.{IsSpot, IsCopy, IsRight, IsGrown, AreGrown}
 use Rattle.stick_cell.proofs.Accepted.{bound, two_bound, demanded, two_demanded, both, ok_same, known_name_ok, known_number_ok, limited_ok, less_from_test, apart_from_test, place_from_test}
-use Rattle.stick_cell.proofs.GrownLists.{all_append, all_weaker, all_map, within_greatest_col, within_greatest_row}
+use Rattle.list_facts.proofs.Elements.{all_append, all_weaker, all_map}
+use Rattle.stick_cell.proofs.GrownLists.{within_greatest_col, within_greatest_row}
 use Rattle.stick_cell.proofs.GrownNames.{MoreNodes, MorePlugs, same_nodes, more_nodes, same_plugs, more_plugs, same_cells, copy_of_same, AreRight, all_right_kept, at_end_of}
 use Rattle.stick_cell.proofs.GrownWires.{Holds, more_of, wire_kept, limit_kept, wire_copied, limit_copied, NoneEndsAt, none_past_ports, none_of_copies}
 use Rattle.stick_cell.proofs.GrownSizes.{size_of_sized, sizes_of_channel}

@@ -8,7 +8,7 @@ use Rattle.std.proofs.lemmas.List.Splits.{join_with_byte-slice_split}
 use Rattle.std.proofs.lemmas.Slice.Eq.{bytes_eq-Decides}
 use Rattle.rule_table.specs.declared.technology.Tech.{Tech}
 use Rattle.stick_lex.specs.Tokens.{names}
-use Rattle.stick_cell.specs.declared.cell.Node.{Node}
+use Rattle.cell_model.specs.declared.cell.Node.{Node}
 use Rattle.stick_cell.specs.declared.names.Thing.{Thing}
 use Rattle.stick_cell.specs.declared.names.Thing.TheVariants as things
 use Rattle.stick_cell.specs.declared.names.Terminal.{Terminal}
@@ -20,7 +20,7 @@ use Rattle.stick_cell.specs.declared.names.Pin.{Pin}
 use Rattle.stick_cell.specs.declared.names.Copied.{Copied}
 use Rattle.stick_cell.specs.Known.{Known, Plug, known_at, plug_at, begun, prefixed, copied_node}
 use Rattle.stick_cell.specs.Paths.{Names, named, names_at, spot_in_copy, seen_through, behind, walk, found_at}
-use Rattle.stick_cell.specs.Sound.{node_at, no_node}
+use Rattle.cell_model.specs.Sound.{node_at, no_node}
 use Rattle.stick_cell.specs.Grown.{IsSpot, IsPin, IsCopy, IsRight, AreGrown}
 
 -- ---- more nodes and ports

@@ -4,11 +4,11 @@ use Rattle.std.specs.Prelude.{IsTrue, ◌⊎◌}
 use Rattle.std.specs.List.{list_all}
 use Rattle.std.proofs.lemmas.List.{length-set, length-append, get_or_append_left, get_or-append_right, get_or-set_same, get_or-set_other, get_or_push}
 use Rattle.std.proofs.lemmas.Bool.{cases_eq, cases_lt}
-use Rattle.stick_cell.specs.declared.cell.WireEnd.{WireEnd}
-use Rattle.stick_cell.specs.declared.cell.WireEnd.TheVariants as ends
-use Rattle.stick_cell.specs.declared.cell.Wire.{Wire}
+use Rattle.cell_model.specs.declared.cell.WireEnd.{WireEnd}
+use Rattle.cell_model.specs.declared.cell.WireEnd.TheVariants as ends
+use Rattle.cell_model.specs.declared.cell.Wire.{Wire}
 use Rattle.stick_cell.specs.Known.{Plug, no_plug, plug_at, plugged}
-use Rattle.stick_cell.specs.Sound.{wire_at, no_wire, EndsAt}
+use Rattle.cell_model.specs.Sound.{wire_at, no_wire, EndsAt}
 use Rattle.stick_cell.specs.Grown.{IsPlug}
 use Rattle.stick_cell.proofs.Accepted.{both}
 use Rattle.stick_cell.proofs.GrownNames.{MorePlugs}

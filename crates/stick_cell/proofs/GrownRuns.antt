@@ -10,17 +10,17 @@ use Rattle.rule_table.specs.declared.technology.Tech.{Tech}
 use Rattle.rule_table.specs.declared.classes.Layer.{Layer}
 use Rattle.stick_parse.specs.declared.fault.StickKind.{StickKind}
 use Rattle.stick_parse.specs.declared.fault.StickKind.TheVariants.{WrongLayer, WrongSide, PortWires, WideWire}
-use Rattle.stick_parse.specs.declared.design.Side.{Side}
+use Rattle.lam_geom.specs.declared.boxes.Side.{Side}
 use Rattle.stick_parse.specs.Reading.{◌>>=◌}
-use Rattle.stick_cell.specs.declared.cell.Axis2.{Axis2}
-use Rattle.stick_cell.specs.declared.cell.Axis2.TheVariants.{Across, Up}
-use Rattle.stick_cell.specs.declared.cell.NodeKind.{NodeKind}
-use Rattle.stick_cell.specs.declared.cell.Node.{Node}
-use Rattle.stick_cell.specs.declared.cell.WireEnd.{WireEnd}
-use Rattle.stick_cell.specs.declared.cell.WireEnd.TheVariants as ends
-use Rattle.stick_cell.specs.declared.cell.Wire.{Wire}
-use Rattle.stick_cell.specs.declared.cell.Port.{Port}
-use Rattle.stick_cell.specs.declared.cell.Cell.{Cell}
+use Rattle.cell_model.specs.declared.cell.Axis2.{Axis2}
+use Rattle.cell_model.specs.declared.cell.Axis2.TheVariants.{Across, Up}
+use Rattle.cell_model.specs.declared.cell.NodeKind.{NodeKind}
+use Rattle.cell_model.specs.declared.cell.Node.{Node}
+use Rattle.cell_model.specs.declared.cell.WireEnd.{WireEnd}
+use Rattle.cell_model.specs.declared.cell.WireEnd.TheVariants as ends
+use Rattle.cell_model.specs.declared.cell.Wire.{Wire}
+use Rattle.cell_model.specs.declared.cell.Port.{Port}
+use Rattle.cell_model.specs.declared.cell.Cell.{Cell}
 use Rattle.stick_cell.specs.declared.names.Spot.{Spot}
 use Rattle.stick_cell.specs.declared.names.Pin.{Pin}
 use Rattle.stick_cell.specs.declared.names.Terminal.{Terminal}
@@ -30,8 +30,9 @@ use Rattle.stick_cell.specs.declared.names.Found.TheVariants.{At}
 use Rattle.stick_cell.specs.declared.names.Run.{Run}
 use Rattle.stick_cell.specs.Known.{Known, Plug, cell_of, no_plug, plug_at}
 use Rattle.stick_cell.specs.Checks.{demand, sized}
-use Rattle.stick_cell.specs.Wires.{terminal, is_same_axis, axis_of, is_low_side, line_of, run_along, run_between, straight, is_same_layer, node_takes, takes_layer, node_takes_along, takes_along, is_free, node_pad, is_within_pad, end_of, at_both, wire_between}
-use Rattle.stick_cell.specs.Sound.{node_at, port_at, IsEnd, Takes, IsOnLowSide, IsOnHighSide, line_at, IsInOrder, IsWithinPad, IsWire, EndsAt}
+use Rattle.stick_cell.specs.Wires.{terminal, line_of, run_along, run_between, straight, takes_layer, takes_along, is_free, is_within_pad, end_of, at_both, wire_between}
+use Rattle.cell_model.specs.Wiring.{is_same_axis, axis_of, is_low_side, is_same_layer, node_takes, node_takes_along, node_pad}
+use Rattle.cell_model.specs.Sound.{node_at, port_at, IsEnd, Takes, IsOnLowSide, IsOnHighSide, line_at, IsInOrder, IsWithinPad, IsWire, EndsAt}
 use Rattle.stick_cell.proofs.Accepted.{bound, two_bound, demanded, two_demanded, both, terminal_ok, straight_ok, ok_same, eq_from_test, less_from_test, more_from_test, le_from_test}
 use Rattle.stick_cell.proofs.GrownNames.{IsAt}
 use Rattle.stick_cell.proofs.GrownWires.{port_of_plug}

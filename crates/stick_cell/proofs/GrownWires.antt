@@ -6,20 +6,20 @@ use Rattle.std.proofs.lemmas.List.{length-map}
 use Rattle.std.proofs.Math.ListN.{get_or-map}
 use Rattle.rule_table.specs.declared.technology.Tech.{Tech}
 use Rattle.rule_table.specs.declared.classes.Layer.{Layer}
-use Rattle.stick_parse.specs.declared.design.Side.{Side}
-use Rattle.stick_cell.specs.declared.cell.Axis2.{Axis2}
-use Rattle.stick_cell.specs.declared.cell.Axis2.TheVariants.{Across, Up}
-use Rattle.stick_cell.specs.declared.cell.Node.{Node}
-use Rattle.stick_cell.specs.declared.cell.WireEnd.{WireEnd}
-use Rattle.stick_cell.specs.declared.cell.WireEnd.TheVariants as ends
-use Rattle.stick_cell.specs.declared.cell.Wire.{Wire}
-use Rattle.stick_cell.specs.declared.cell.Port.{Port}
-use Rattle.stick_cell.specs.declared.cell.Limit.{Limit}
-use Rattle.stick_cell.specs.declared.cell.Cell.{Cell}
+use Rattle.lam_geom.specs.declared.boxes.Side.{Side}
+use Rattle.cell_model.specs.declared.cell.Axis2.{Axis2}
+use Rattle.cell_model.specs.declared.cell.Axis2.TheVariants.{Across, Up}
+use Rattle.cell_model.specs.declared.cell.Node.{Node}
+use Rattle.cell_model.specs.declared.cell.WireEnd.{WireEnd}
+use Rattle.cell_model.specs.declared.cell.WireEnd.TheVariants as ends
+use Rattle.cell_model.specs.declared.cell.Wire.{Wire}
+use Rattle.cell_model.specs.declared.cell.Port.{Port}
+use Rattle.cell_model.specs.declared.cell.Limit.{Limit}
+use Rattle.cell_model.specs.declared.cell.Cell.{Cell}
 use Rattle.stick_cell.specs.Known.{Known, Plug, cell_of, no_plug, plug_at, copied_node, copied_end, copied_wire, copied_limit}
-use Rattle.stick_cell.specs.Wires.{axis_of, is_low_side, node_takes, node_takes_along, node_pad, is_same_layer}
-use Rattle.stick_cell.specs.Sound.{node_at, port_at, wire_at, no_wire, IsEnd, Takes, IsOnLowSide, IsOnHighSide, line_at, IsInOrder, IsWithinPad, IsWire, EndsAt, IsLimit}
-use Rattle.stick_cell.proofs.GrownLists.{all_map, all_weaker, all_at}
+use Rattle.cell_model.specs.Wiring.{axis_of, is_low_side, node_takes, node_takes_along, node_pad, is_same_layer}
+use Rattle.cell_model.specs.Sound.{node_at, port_at, wire_at, no_wire, IsEnd, Takes, IsOnLowSide, IsOnHighSide, line_at, IsInOrder, IsWithinPad, IsWire, EndsAt, IsLimit}
+use Rattle.list_facts.proofs.Elements.{all_map, all_weaker, all_at}
 use Rattle.stick_cell.proofs.GrownNames.{MoreNodes, MorePlugs}
 
 -- ---- a cell with more nodes and ports

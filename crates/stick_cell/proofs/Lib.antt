@@ -17,10 +17,6 @@ pub mod GrownRuns
 pub mod GrownPlugs
 pub mod GrownForms
 pub mod Grown
-pub mod Attachments
-pub mod Chains
-pub mod Determined
-pub mod Marks
 mod LineLoop
 mod LineSteps
 pub mod TableReads

@@ -13,8 +13,8 @@ use Rattle.stick_cell.specs.declared.names.Thing.{Thing}
 use Rattle.std.specs.Prelude.{ℤ, pos}
 use Rattle.rule_table.specs.declared.technology.Tech.{Tech}
 use Rattle.stick_parse.specs.declared.design.Layer.{Layer as DrawnLayer}
-use Rattle.stick_parse.specs.declared.design.Side.{Side}
-use Rattle.stick_cell.specs.declared.cell.NodeKind.TheVariants as kinds
+use Rattle.lam_geom.specs.declared.boxes.Side.{Side}
+use Rattle.cell_model.specs.declared.cell.NodeKind.TheVariants as kinds
 use Rattle.stick_cell.specs.Checks.{demand, is_fresh, is_place, layer_of, sized, is_channel}
 use Rattle.stick_cell.specs.Known.{Known, Plug, with_node, with_port}
 use Rattle.stick_cell.specs.Lines.{axis_where, after_joint, after_contact, after_fet, after_port}

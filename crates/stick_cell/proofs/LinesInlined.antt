@@ -8,15 +8,15 @@ use Rattle.rule_table.specs.declared.classes.Layer.{Layer}
 use Rattle.stick_parse.specs.declared.fault.StickKind.{StickKind}
 use Rattle.stick_parse.specs.declared.fault.StickKind.TheVariants.{WrongLayer, WrongSide, PortWires, WideWire}
 use Rattle.stick_parse.specs.declared.design.Layer.{Layer as DrawnLayer}
-use Rattle.stick_parse.specs.declared.design.Side.{Side}
+use Rattle.lam_geom.specs.declared.boxes.Side.{Side}
 use Rattle.stick_parse.specs.declared.design.Form.{Form}
-use Rattle.stick_parse.specs.Writable.{IsNumber}
+use Rattle.stick_lex.specs.Numbers.{IsNumber}
 use Rattle.stick_parse.specs.Reading.{◌>>=◌}
-use Rattle.stick_cell.specs.declared.cell.Axis2.{Axis2}
-use Rattle.stick_cell.specs.declared.cell.NodeKind.{NodeKind}
-use Rattle.stick_cell.specs.declared.cell.NodeKind.TheVariants as kinds
-use Rattle.stick_cell.specs.declared.cell.Wire.{Wire}
-use Rattle.stick_cell.specs.declared.cell.Limit.{Limit}
+use Rattle.cell_model.specs.declared.cell.Axis2.{Axis2}
+use Rattle.cell_model.specs.declared.cell.NodeKind.{NodeKind}
+use Rattle.cell_model.specs.declared.cell.NodeKind.TheVariants as kinds
+use Rattle.cell_model.specs.declared.cell.Wire.{Wire}
+use Rattle.cell_model.specs.declared.cell.Limit.{Limit}
 use Rattle.stick_cell.specs.declared.names.Spot.{Spot}
 use Rattle.stick_cell.specs.declared.names.Terminal.{Terminal}
 use Rattle.stick_cell.specs.declared.names.Terminal.TheVariants as terminals
@@ -29,7 +29,7 @@ use Rattle.stick_cell.specs.Checks.{demand, layer_of, sized}
 use Rattle.stick_cell.specs.Wires.{terminal, run_between, straight, takes_layer, takes_along, is_free, is_within_pad, end_of, at_both, wire_between}
 use Rattle.stick_cell.specs.Lines.{axis_where, wired_of, after_joint}
 use Rattle.stick_cell.specs.Counts.{weight_of}
-use Rattle.stick_cell.specs.Sound.{IsLight}
+use Rattle.cell_model.specs.Sound.{IsLight}
 use Rattle.stick_cell.specs.Tables.{known_of}
 use Rattle.stick_cell.specs.Inlining.{IsSoFar, IsLineOf, cells_before, ArePartsOf}
 use Rattle.stick_cell.proofs.Accepted.{ok_same}

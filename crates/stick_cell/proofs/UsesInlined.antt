@@ -6,9 +6,9 @@ use Rattle.std.proofs.lemmas.List.{length-take-le, get_or-take}
 use Rattle.std.proofs.lemmas.Bool.Decides.{nat_tests}
 use Rattle.rule_table.specs.declared.technology.Tech.{Tech}
 use Rattle.stick_parse.specs.declared.design.Form.TheVariants as forms
-use Rattle.stick_cell.specs.declared.cell.WireEnd.{WireEnd}
-use Rattle.stick_cell.specs.declared.cell.WireEnd.TheVariants as ends
-use Rattle.stick_cell.specs.declared.cell.Cell.{Cell}
+use Rattle.cell_model.specs.declared.cell.WireEnd.{WireEnd}
+use Rattle.cell_model.specs.declared.cell.WireEnd.TheVariants as ends
+use Rattle.cell_model.specs.declared.cell.Cell.{Cell}
 use Rattle.stick_cell.specs.declared.table.Table.{Table}
 use Rattle.stick_cell.specs.declared.cells.Cells.{Cells}
 use Rattle.stick_cell.specs.declared.parts.Parts.{Parts}
@@ -16,10 +16,10 @@ use Rattle.stick_cell.specs.Known.{Known, begun, known_at, cell_of, with_copy, g
 use Rattle.stick_cell.specs.Checks.{is_place}
 use Rattle.stick_cell.specs.Lines.{number_of}
 use Rattle.stick_cell.specs.Counts.{weight_of}
-use Rattle.stick_cell.specs.Sound.{IsNode, IsEnd, IsWire, IsLimit, IsSound}
+use Rattle.cell_model.specs.Sound.{IsNode, IsEnd, IsWire, IsLimit, IsSound}
 use Rattle.stick_cell.specs.Tables.{known_of, IsResolved}
 use Rattle.stick_cell.specs.Inlining.{ArePartsOf, IsLineOf, cells_before, HasPlace, HasNumber, HasNumbers, LimitsNumbers}
-use Rattle.stick_cell.proofs.GrownLists.{all_weaker}
+use Rattle.list_facts.proofs.Elements.{all_weaker}
 use Rattle.stick_cell.proofs.TableReads.{number_found, number-lt}
 use Rattle.stick_cell.proofs.FormSteps.{use_step}
 use Rattle.stick_cell.proofs.Extends.{extends-after_lines, weight-copied, length-copied}

@@ -5,7 +5,7 @@ use Rattle.std.proofs.lemmas.List.{drop_more, drop_all}
 use Rattle.stick_parse.specs.Writable.{IsLine, IsCell}
 use Rattle.stick_parse.specs.declared.design.Line.{Line}
 use Rattle.stick_parse.specs.declared.design.CellText.{CellText}
-use Rattle.stick_cell.specs.declared.cell.Cell.{Cell}
+use Rattle.cell_model.specs.declared.cell.Cell.{Cell}
 use Rattle.stick_cell.specs.declared.cells.Cells.{Cells}
 use Rattle.stick_cell.specs.declared.parts.Parts.{Parts}
 use Rattle.stick_cell.specs.Known.{Known, begun, known_at, cell_of}
@@ -13,7 +13,7 @@ use Rattle.stick_cell.specs.Lines.{after_lines}
 use Rattle.stick_cell.specs.Tables.{known_of, IsResolved}
 use Rattle.stick_cell.specs.Inlining.{ArePartsOf, IsLineOf, IsAtLine, HasRead, cells_before}
 use Rattle.stick_cell.proofs.Accepted.{ok_same}
-use Rattle.stick_cell.proofs.GrownLists.{all_at}
+use Rattle.list_facts.proofs.Elements.{all_at}
 use Rattle.stick_cell.proofs.TableReads.{length-known_cells}
 use Rattle.stick_cell.proofs.Extends.{extends-after_lines, line_read}
 use Rattle.stick_cell.proofs.CellsBefore.{lines_of_cell}

@@ -6,10 +6,10 @@ use Rattle.std.specs.Option.{ok_or}
 use Rattle.std.proofs.lemmas.List.{map-set}
 use Rattle.stick_parse.specs.declared.fault.StickKind.{StickKind}
 use Rattle.stick_parse.specs.declared.fault.StickKind.TheVariants.{UnknownName, BadLimit}
-use Rattle.stick_cell.specs.declared.cell.Wire.{Wire}
-use Rattle.stick_cell.specs.declared.cell.WireEnd.{WireEnd}
-use Rattle.stick_cell.specs.declared.cell.WireEnd.TheVariants as ends
-use Rattle.stick_cell.specs.declared.cell.CellPort.{CellPort}
+use Rattle.cell_model.specs.declared.cell.Wire.{Wire}
+use Rattle.cell_model.specs.declared.cell.WireEnd.{WireEnd}
+use Rattle.cell_model.specs.declared.cell.WireEnd.TheVariants as ends
+use Rattle.cell_model.specs.declared.cell.CellPort.{CellPort}
 use Rattle.stick_cell.specs.declared.names.Found.{Found}
 use Rattle.rule_table.specs.declared.technology.Tech.{Tech}
 use Rattle.stick_parse.specs.declared.design.Layer.{Layer as DrawnLayer}
@@ -19,7 +19,7 @@ use Rattle.stick_cell.specs.declared.names.Found.TheVariants.{At}
 use Rattle.stick_cell.specs.declared.names.Terminal.TheVariants.{Node}
 use Rattle.stick_cell.specs.declared.names.Spot.{Spot}
 use Rattle.stick_cell.specs.declared.growing.Growing.{Growing}
-use Rattle.stick_cell.specs.declared.cell.Limit.{Limit}
+use Rattle.cell_model.specs.declared.cell.Limit.{Limit}
 use Rattle.stick_cell.specs.Checks.{demand, layer_of}
 use Rattle.stick_cell.specs.Wires.{known_name, wire_between, limited}
 use Rattle.stick_cell.specs.Paths.{found_at}

@@ -5,9 +5,9 @@ use Rattle.stick_parse.specs.declared.fault.StickKind.{StickKind}
 use Rattle.stick_parse.specs.declared.fault.StickKind.TheVariants.{RepeatedName, UnknownName, UseDepth, UsedPorts, FarPlace}
 use Rattle.stick_parse.specs.declared.fault.LineFault.{LineFault}
 use Rattle.stick_parse.specs.Reading.{◌>>=◌, FailsLine}
-use Rattle.stick_cell.specs.declared.cell.CellPort.{CellPort}
-use Rattle.stick_cell.specs.declared.cell.WireEnd.{WireEnd}
-use Rattle.stick_cell.specs.declared.cell.WireEnd.TheVariants as ends
+use Rattle.cell_model.specs.declared.cell.CellPort.{CellPort}
+use Rattle.cell_model.specs.declared.cell.WireEnd.{WireEnd}
+use Rattle.cell_model.specs.declared.cell.WireEnd.TheVariants as ends
 use Rattle.stick_cell.specs.declared.names.Found.{Found}
 use Rattle.stick_cell.specs.declared.growing.Growing.{Growing}
 use Rattle.stick_cell.specs.Checks.{demand, is_fresh, is_place}

@@ -1,9 +1,9 @@
 -- What the code keeps of names and of what paths come to: numbers of nodes are capped, and columns and rows end at 32 bits. In a cell that
 -- may be inlined, and whose nodes lie near, this is the thing itself.
 use Rattle.std.specs.Prelude.{ℕ, ◌≤◌, min, map}
-use Rattle.stick_cell.specs.declared.cell.WireEnd.{WireEnd}
-use Rattle.stick_cell.specs.declared.cell.WireEnd.TheVariants as ends
-use Rattle.stick_cell.specs.declared.cell.Wire.{Wire}
+use Rattle.cell_model.specs.declared.cell.WireEnd.{WireEnd}
+use Rattle.cell_model.specs.declared.cell.WireEnd.TheVariants as ends
+use Rattle.cell_model.specs.declared.cell.Wire.{Wire}
 use Rattle.stick_cell.specs.declared.names.Spot.{Spot}
 use Rattle.stick_cell.specs.declared.names.Thing.{Thing}
 use Rattle.stick_cell.specs.declared.names.Thing.TheVariants as things

@@ -1,17 +1,16 @@
 -- What is known of a cell after its lines so far: its names, and its content with each use replaced by what it stands for.
 use Rattle.std.specs.Prelude.{ℕ, ◌+◌, max, ℤ, pos, Bool, true, false, List, [], ◌∷◌, ◌++◌, length, map, fold, slice_set, slice_index_or}
 use Rattle.rule_table.specs.declared.classes.Layer.{Layer}
-use Rattle.rule_table.specs.declared.classes.Layer.TheVariants.{Metal}
-use Rattle.stick_parse.specs.declared.design.Side.{Side}
-use Rattle.stick_parse.specs.declared.design.Side.TheVariants.{Left}
-use Rattle.stick_cell.specs.declared.cell.NodeKind.{NodeKind}
-use Rattle.stick_cell.specs.declared.cell.Node.{Node}
-use Rattle.stick_cell.specs.declared.cell.WireEnd.{WireEnd}
-use Rattle.stick_cell.specs.declared.cell.WireEnd.TheVariants as ends
-use Rattle.stick_cell.specs.declared.cell.Wire.{Wire}
-use Rattle.stick_cell.specs.declared.cell.Port.{Port}
-use Rattle.stick_cell.specs.declared.cell.Limit.{Limit}
-use Rattle.stick_cell.specs.declared.cell.Cell.{Cell}
+use Rattle.lam_geom.specs.declared.boxes.Side.{Side}
+use Rattle.cell_model.specs.declared.cell.NodeKind.{NodeKind}
+use Rattle.cell_model.specs.declared.cell.Node.{Node}
+use Rattle.cell_model.specs.declared.cell.WireEnd.{WireEnd}
+use Rattle.cell_model.specs.declared.cell.WireEnd.TheVariants as ends
+use Rattle.cell_model.specs.declared.cell.Wire.{Wire}
+use Rattle.cell_model.specs.declared.cell.Port.{Port}
+use Rattle.cell_model.specs.declared.cell.Limit.{Limit}
+use Rattle.cell_model.specs.declared.cell.Cell.{Cell}
+use Rattle.cell_model.specs.Sound.{no_port}
 use Rattle.stick_cell.specs.declared.names.Thing.{Thing}
 use Rattle.stick_cell.specs.declared.names.Thing.TheVariants as things
 
@@ -58,7 +57,7 @@ with_port known name side layer place = record known {
 }
 
 abbrev pub no_plug : Plug
-no_plug = record { port = record { name = []; side = Left; layer = Metal; place = 0; wire = 0 }; width = pos 0; wired = false }
+no_plug = record { port = no_port; width = pos 0; wired = false }
 
 abbrev pub plug_at : List Plug → ℕ → Plug
 plug_at plugs k = slice_index_or plugs k no_plug

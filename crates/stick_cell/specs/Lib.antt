@@ -6,9 +6,6 @@ pub mod Lines
 pub mod Counts
 pub mod Kept
 pub mod Ports
-pub mod Sound
-pub mod Netting
-pub mod Search
 pub mod NameEntries
 pub mod Tables
 pub mod Growing

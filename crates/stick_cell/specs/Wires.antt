@@ -6,16 +6,16 @@ use Rattle.rule_table.specs.declared.classes.Layer.TheVariants.{Diffusion, Poly,
 use Rattle.rule_table.specs.Technology.{pad_of}
 use Rattle.stick_parse.specs.declared.fault.StickKind.{StickKind}
 use Rattle.stick_parse.specs.declared.fault.StickKind.TheVariants.{UnknownName, WrongTerminal, NotStraight, WrongLayer, WrongSide, PortWires, WideWire, BadLimit}
-use Rattle.stick_parse.specs.declared.design.Side.{Side}
-use Rattle.stick_parse.specs.declared.design.Side.TheVariants.{Left, Right, Bottom, Top}
+use Rattle.lam_geom.specs.declared.boxes.Side.{Side}
+use Rattle.lam_geom.specs.declared.boxes.Side.TheVariants.{Left, Right, Bottom, Top}
 use Rattle.stick_parse.specs.Reading.{◌>>=◌}
-use Rattle.stick_cell.specs.declared.cell.Axis2.{Axis2}
-use Rattle.stick_cell.specs.declared.cell.Axis2.TheVariants.{Across, Up}
-use Rattle.stick_cell.specs.declared.cell.NodeKind.{NodeKind}
-use Rattle.stick_cell.specs.declared.cell.NodeKind.TheVariants.{Joint, Contact, Fet}
-use Rattle.stick_cell.specs.declared.cell.WireEnd.{WireEnd}
-use Rattle.stick_cell.specs.declared.cell.WireEnd.TheVariants as ends
-use Rattle.stick_cell.specs.declared.cell.Wire.{Wire}
+use Rattle.cell_model.specs.declared.cell.Axis2.{Axis2}
+use Rattle.cell_model.specs.declared.cell.Axis2.TheVariants.{Across, Up}
+use Rattle.cell_model.specs.declared.cell.NodeKind.{NodeKind}
+use Rattle.cell_model.specs.declared.cell.NodeKind.TheVariants.{Joint, Contact, Fet}
+use Rattle.cell_model.specs.declared.cell.WireEnd.{WireEnd}
+use Rattle.cell_model.specs.declared.cell.WireEnd.TheVariants as ends
+use Rattle.cell_model.specs.declared.cell.Wire.{Wire}
 use Rattle.stick_cell.specs.declared.names.Spot.{Spot}
 use Rattle.stick_cell.specs.declared.names.Terminal.{Terminal}
 use Rattle.stick_cell.specs.declared.names.Terminal.TheVariants.{Node, Port}
@@ -34,25 +34,6 @@ terminal AtCopy = Err WrongTerminal
 terminal Through = Err WrongTerminal
 
 -- ---- straight runs
-
-abbrev pub is_same_axis : Axis2 → Axis2 → Bool
-is_same_axis Across Across = true
-is_same_axis Across Up = false
-is_same_axis Up Across = false
-is_same_axis Up Up = true
-
--- the axis on which a wire reaches a side
-abbrev pub axis_of : Side → Axis2
-axis_of Left = Across
-axis_of Right = Across
-axis_of Bottom = Up
-axis_of Top = Up
-
-abbrev pub is_low_side : Side → Bool
-is_low_side Left = true
-is_low_side Right = false
-is_low_side Bottom = true
-is_low_side Top = false
 
 -- the row of a node for a wire that runs across, its column for one that runs up
 abbrev pub line_of : Axis2 → Spot → ℕ
@@ -83,29 +64,9 @@ straight (Some run) = Ok run
 
 -- ---- which terminals take which wires
 
-abbrev pub is_same_layer : Layer → Layer → Bool
-is_same_layer Diffusion Diffusion = true
-is_same_layer Poly Poly = true
-is_same_layer Metal Metal = true
-is_same_layer a b = false
-
--- a joint takes its own layer, a contact metal and its lower layer, a transistor poly and diffusion
-abbrev pub node_takes : NodeKind → Layer → Bool
-node_takes (Joint own width) layer = is_same_layer own layer
-node_takes (Contact lower) layer = is_same_layer Metal layer || is_same_layer lower layer
-node_takes (Fet depletion gate w l) layer = not (is_same_layer Metal layer)
-
 abbrev pub takes_layer : Layer → Terminal → Bool
 takes_layer layer (Node spot) = node_takes spot.kind layer
 takes_layer layer (Port pin) = is_same_layer pin.layer layer
-
--- at a transistor a poly wire runs along the gate, and a diffusion wire across it
-abbrev pub node_takes_along : NodeKind → Layer → Axis2 → Bool
-node_takes_along (Joint own width) layer along = true
-node_takes_along (Contact lower) layer along = true
-node_takes_along (Fet depletion gate w l) Poly along = is_same_axis gate along
-node_takes_along (Fet depletion gate w l) Diffusion along = not (is_same_axis gate along)
-node_takes_along (Fet depletion gate w l) Metal along = true
 
 abbrev pub takes_along : Layer → Axis2 → Terminal → Bool
 takes_along layer along (Node spot) = node_takes_along spot.kind layer along
@@ -115,14 +76,6 @@ takes_along layer along (Port pin) = true
 abbrev pub is_free : List Bool → Terminal → Bool
 is_free wired (Node spot) = true
 is_free wired (Port pin) = not (slice_index_or wired pin.number false)
-
--- The pad on which a wire of this layer ends: a joint's width, a contact's square, a transistor's channel. A port has none.
-abbrev pub node_pad : Tech → Layer → NodeKind → ℤ
-node_pad tech layer (Joint own width) = width
-node_pad tech layer (Contact lower) = pad_of tech
-node_pad tech Poly (Fet depletion gate w l) = l
-node_pad tech Diffusion (Fet depletion gate w l) = w
-node_pad tech Metal (Fet depletion gate w l) = w
 
 abbrev pub is_within_pad : Tech → Layer → ℤ → Terminal → Bool
 is_within_pad tech layer width (Node spot) = int_le width (node_pad tech layer spot.kind)

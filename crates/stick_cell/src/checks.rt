@@ -3,7 +3,7 @@ ghost use Rattle.std.specs.Prelude.{◌≡◌};
 ghost use Rattle.stick_cell.specs.Checks.{layer_of, is_place, is_even_size, sized, is_channel};
 ghost use Rattle.stick_cell.specs.Lines.{axis_where};
 
-use crate::cell::Axis2;
+use cell_model::Axis2;
 use rule_table::{Layer, Tech};
 use stick_parse::{Layer as DrawnLayer, StickKind};
 

@@ -1,8 +1,9 @@
 //! How many items and mask boxes nodes and wires have.
 ghost use Rattle.std.specs.Prelude.{◌≡◌, ◌+◌};
-ghost use Rattle.stick_cell.specs.Counts.{layer_items, kind_items, kind_boxes, capped};
+ghost use Rattle.cell_model.specs.Counts.{layer_items, kind_items, kind_boxes};
+ghost use Rattle.stick_cell.specs.Counts.{capped};
 
-use crate::cell::NodeKind;
+use cell_model::NodeKind;
 use rule_table::Layer;
 
 /// What counts as too many: one more than the greatest number of items that a cell may have.

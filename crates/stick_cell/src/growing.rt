@@ -8,7 +8,7 @@ ghost use Rattle.std.specs.List.{list_all};
 ghost use Rattle.stick_cell.specs.Tables.{IsTableOf};
 ghost use Rattle.stick_cell.specs.Growing.{IsGrowing, Grows, placed, without_wire};
 
-use crate::cell::{CellPort, NodeKind};
+use cell_model::{CellPort, NodeKind};
 use crate::checks::{axis_where, is_channel, is_place, layer_of, sized};
 use crate::counts::{capped_sum, kind_boxes, kind_items};
 use crate::names::{Pin, Spot, Thing};

@@ -9,11 +9,11 @@ ghost use Rattle.stick_cell.specs.declared.names.Found.TheVariants.{At};
 ghost use Rattle.stick_cell.specs.Paths.{found_at};
 ghost use Rattle.stick_cell.specs.Known.{Known, known_at, cell_of};
 ghost use Rattle.stick_cell.specs.Counts.{weight_of};
-ghost use Rattle.stick_cell.specs.Sound.{IsSound, IsLight};
+ghost use Rattle.cell_model.specs.Sound.{IsSound, IsLight};
 ghost use Rattle.stick_cell.specs.Tables.{known_of, IsResolved};
 ghost use Rattle.stick_cell.specs.Inlining.{ArePartsOf, IsSoFar, IsLineOf, IsAtLine, cells_before};
 
-use crate::cell::{Cell, Limit, NodeKind};
+use cell_model::{Cell, Limit, NodeKind};
 use crate::cells::{Cells, place_of};
 use crate::checks::{axis_where, layer_of, sized};
 use crate::names::{Found, Spot};

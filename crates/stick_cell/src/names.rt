@@ -1,5 +1,5 @@
 //! What the names of a cell stand for.
-use crate::cell::NodeKind;
+use cell_model::NodeKind;
 use rule_table::Layer;
 use stick_parse::Side;
 
@@ -59,7 +59,7 @@ pub enum Found {
 /// A straight run from its low terminal to its high one.
 #[derive(Clone, Copy, Debug)]
 pub struct Run {
-    pub along: crate::cell::Axis2,
+    pub along: cell_model::Axis2,
     pub low: Terminal,
     pub high: Terminal,
 }

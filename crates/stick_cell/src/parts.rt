@@ -4,7 +4,7 @@ ghost use Rattle.std.specs.List.{AllByRecursion};
 ghost use Rattle.stick_cell.specs.Known.{Known, Plug, begun, cell_of, with_node, with_port, with_wire, with_limit, with_copy, plugged, prefixed, copied_node, copied_end, copied_wire, copied_limit};
 ghost use Rattle.stick_cell.specs.Inlining.{ArePartsOf, HasPlace, HasNumber, HasNumbers, LimitsNumbers};
 
-use crate::cell::{Cell, Limit, Node, NodeKind, Port, Wire, WireEnd};
+use cell_model::{Cell, Limit, Node, NodeKind, Port, Wire, WireEnd};
 use lam_list::Seq;
 use rule_table::Layer;
 use std::alloc::{AllocError, Global};

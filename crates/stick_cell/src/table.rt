@@ -1,5 +1,5 @@
 //! What is kept of a cell for later lines and cells.
-use crate::cell::CellPort;
+use cell_model::CellPort;
 use crate::names::Thing;
 use indexmap::IndexMap;
 use std::alloc::{AllocError, Global};

@@ -2,8 +2,8 @@
 ghost use Rattle.std.specs.Prelude.{IfOk};
 ghost use Rattle.std.specs.List.{AllByRecursion};
 ghost use Rattle.stick_parse.specs.Writable.{IsWritable};
-ghost use Rattle.stick_cell.specs.Sound.{IsLight};
-ghost use Rattle.stick_cell.specs.Netting.{HasEnds};
+ghost use Rattle.cell_model.specs.Sound.{IsLight};
+ghost use Rattle.cell_model.specs.Nets.{HasEnds};
 ghost use Rattle.stick_cell.specs.Tables.{IsResolved};
 
 use crate::{Axis2, Cell, CellPort, Cells, ResolveFault, WireEnd, nets, resolve};

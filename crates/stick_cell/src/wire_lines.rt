@@ -2,7 +2,7 @@
 ghost use Rattle.std.specs.Prelude.{◌≡◌, ℤ, Bool, List};
 ghost use Rattle.rule_table.specs.declared.technology.Tech.{Tech};
 ghost use Rattle.stick_parse.specs.Writable.{IsPath};
-ghost use Rattle.stick_cell.specs.declared.cell.Wire.{Wire};
+ghost use Rattle.cell_model.specs.declared.cell.Wire.{Wire};
 ghost use Rattle.stick_cell.specs.Known.{Known, with_wire};
 ghost use Rattle.stick_cell.specs.Paths.{found_at};
 ghost use Rattle.stick_cell.specs.Lines.{after_wire, after_limit};
@@ -11,7 +11,7 @@ ghost use Rattle.stick_cell.specs.Grown.{IsGrown, AreGrown};
 ghost use Rattle.stick_cell.specs.Tables.{AreTables};
 ghost use Rattle.stick_cell.specs.Growing.{IsGrowing, Grows, plugged_ports, plugged_marks, found_or_unknown};
 
-use crate::cell::{CellPort, Wire, WireEnd};
+use cell_model::{CellPort, Wire, WireEnd};
 use crate::checks::layer_of;
 use crate::counts::{capped_sum, layer_items};
 use crate::growing::Growing;

@@ -1,8 +1,9 @@
 //! Where wires run, and which terminals take them.
 ghost use Rattle.std.specs.Prelude.{◌≡◌};
-ghost use Rattle.stick_cell.specs.Wires.{wire_between, terminal, is_same_axis, axis_of, is_low_side, line_of, run_along, run_between, is_same_layer, node_takes, takes_layer, node_takes_along, takes_along, is_free, node_pad, is_within_pad, end_of, at_both, limited};
+ghost use Rattle.stick_cell.specs.Wires.{wire_between, terminal, line_of, run_along, run_between, takes_layer, takes_along, is_free, is_within_pad, end_of, at_both, limited};
+ghost use Rattle.cell_model.specs.Wiring.{is_same_axis, axis_of, is_low_side, is_same_layer, node_takes, node_takes_along, node_pad};
 
-use crate::cell::{Axis2, NodeKind, Wire, WireEnd};
+use cell_model::{Axis2, NodeKind, Wire, WireEnd};
 use crate::checks::sized;
 use crate::names::{Found, Pin, Run, Spot, Terminal};
 use rule_table::{Layer, Tech};

@@ -24,7 +24,8 @@ use Rattle.stick_parse.specs.declared.design.CellText.{CellText}
 use Rattle.stick_parse.specs.declared.design.Design.{Design}
 use Rattle.stick_parse.specs.declared.design.Statement.{Statement}
 use Rattle.stick_parse.specs.declared.design.Statement.TheVariants.{Version, Cell, Item, Grid, Row, End}
-use Rattle.stick_parse.specs.Writable.{IsName, IsPath, IsCount, IsNumber, IsWidth, IsLower, IsForm, IsLine, IsRow, IsCell, IsWritable}
+use Rattle.stick_parse.specs.Writable.{IsName, IsPath, IsCount, IsWidth, IsLower, IsForm, IsLine, IsRow, IsCell, IsWritable}
+use Rattle.stick_lex.specs.Numbers.{IsNumber}
 
 -- P holds of what was read, if anything was
 abbrev pub Holds : {A E : Type 0} → (A → Type 0) → Result A E → Type 0

@@ -9,8 +9,8 @@ use Rattle.stick_parse.specs.declared.fault.StickKind.{StickKind}
 use Rattle.stick_parse.specs.declared.fault.StickKind.TheVariants.{BadLine}
 use Rattle.stick_parse.specs.declared.design.Layer.{Layer}
 use Rattle.stick_parse.specs.declared.design.Layer.TheVariants.{Diffusion, Poly, Metal}
-use Rattle.stick_parse.specs.declared.design.Side.{Side}
-use Rattle.stick_parse.specs.declared.design.Side.TheVariants.{Left, Right, Bottom, Top}
+use Rattle.lam_geom.specs.declared.boxes.Side.{Side}
+use Rattle.lam_geom.specs.declared.boxes.Side.TheVariants.{Left, Right, Bottom, Top}
 use Rattle.stick_parse.specs.Reading.{◌>>=◌}
 
 pub data Word : Type 0 where

@@ -10,6 +10,7 @@ use Rattle.stick_parse.specs.declared.design.Line.{Line}
 use Rattle.stick_parse.specs.declared.design.CellText.{CellText}
 use Rattle.stick_parse.specs.declared.design.RowText.{RowText}
 use Rattle.stick_parse.specs.declared.design.Design.{Design}
+use Rattle.stick_lex.specs.Numbers.{IsNumber}
 
 abbrev pub IsName : List ℕ → Type 0
 IsName text = IsTrue (is_name text)
@@ -19,10 +20,6 @@ IsPath text = IsTrue (is_path text)
 
 abbrev pub IsCount : ℕ → Type 0
 IsCount n = n ≤ 1000000
-
-abbrev pub IsNumber : ℤ → Type 0
-IsNumber (pos n) = n ≤ 1000000
-IsNumber (negsuc n) = n < 1000000
 
 abbrev pub IsWidth : Option ℕ → Type 0
 IsWidth None = Unit {0}

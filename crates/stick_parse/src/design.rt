@@ -1,4 +1,5 @@
 //! What a stick text says, as values.
+use lam_geom::Side;
 use lam_list::Seq;
 use stick_lex::Text;
 
@@ -8,15 +9,6 @@ pub enum Layer {
     Diffusion,
     Poly,
     Metal,
-}
-
-/// A side of a cell.
-#[derive(Clone, Copy, Debug, PartialEq, Eq)]
-pub enum Side {
-    Left,
-    Right,
-    Bottom,
-    Top,
 }
 
 /// What stands in a cell, one form a line. Columns, rows and places are coarse coordinates; sizes are in u.

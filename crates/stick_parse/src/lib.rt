@@ -12,8 +12,9 @@ mod lines;
 mod parsing;
 mod words;
 
-pub use design::{CellText, Design, Form, Layer, Line, RowText, Side};
+pub use design::{CellText, Design, Form, Layer, Line, RowText};
 pub use fault::{LineFault, ParseFault, StickFault, StickKind};
+pub use lam_geom::Side;
 pub use parsing::parse;
 
 #[cfg(test)]

@@ -6,9 +6,10 @@ ghost use Rattle.stick_parse.specs.Reading.{GivesLine};
 ghost use Rattle.stick_parse.specs.Words.{word_of, path_at, name_at, number_at, count_of, count_at, optional_count_at, at_most_at, layer_named, layer_at, lower_named, lower_at, side_named, side_at, second_of, either_at, ended};
 ghost use Rattle.stick_parse.specs.WordViews.{view, views};
 
-use crate::design::{Layer, Side};
+use crate::design::Layer;
 use crate::fault::{LineFault, StickKind};
 use std::alloc::{AllocError, Global};
+use lam_geom::Side;
 use stick_lex::{LARGEST, Token, TokenKind, is_name};
 
 /// A word of a line.

@@ -4,8 +4,8 @@ use Rattle.std.specs.Fmt.{signed_decimal}
 use Rattle.std.specs.List.{flat_map}
 use Rattle.stick_parse.specs.declared.design.Layer.{Layer}
 use Rattle.stick_parse.specs.declared.design.Layer.TheVariants.{Diffusion, Poly, Metal}
-use Rattle.stick_parse.specs.declared.design.Side.{Side}
-use Rattle.stick_parse.specs.declared.design.Side.TheVariants.{Left, Right, Bottom, Top}
+use Rattle.lam_geom.specs.declared.boxes.Side.{Side}
+use Rattle.lam_geom.specs.declared.boxes.Side.TheVariants.{Left, Right, Bottom, Top}
 use Rattle.stick_parse.specs.declared.design.Form.{Form}
 use Rattle.stick_parse.specs.declared.design.Form.TheVariants.{Joint, Contact, Fet, Port, Inst, Wire, Limit}
 use Rattle.stick_parse.specs.declared.design.Line.{Line}

@@ -1,17 +1,18 @@
 -- What exchanges x and y, so that what is said of axis x is said of axis y too.
-use Rattle.std.specs.Prelude.{◌≡◌, ◌↔◌}
+use Rattle.std.specs.Prelude.{◌≡◌, ◌↔◌, ℕ, ℤ, List}
 use Rattle.lam_geom.specs.declared.boxes.BoxXY.{BoxXY}
 use Rattle.lam_geom.specs.declared.boxes.Axis.{Axis}
 use Rattle.lam_geom.specs.declared.boxes.Axis.TheVariants.{X, Y}
 use Rattle.lam_geom.specs.Gaps.{transposed}
 use Rattle.sym_items.specs.declared.items.Item.{Item}
+use Rattle.sym_items.specs.declared.items.Items.{Items}
 use Rattle.sym_items.specs.declared.items.Coords.{Coords}
 use Rattle.sym_items.specs.Sides.{Sides, sides_of, sides_in}
 use Rattle.sym_items.specs.Boxes.{HasBox}
 
 -- an item, a layout and the sides of a box with x and y exchanged
 abbrev pub transposed_item : Item → Item
-transposed_item i = record { class = i.class; net = i.net; owner = i.owner; xl = i.yl; xh = i.yh; yl = i.xl; yh = i.xh; least_x = i.least_y; least_y = i.least_x }
+transposed_item i = record i { xl = i.yl; xh = i.yh; yl = i.xl; yh = i.xh; least_x = i.least_y; least_y = i.least_x }
 
 abbrev pub transposed_coords : Coords → Coords
 transposed_coords c = record { x = c.y; y = c.x }
@@ -31,6 +32,14 @@ coords_along Y c = transposed_coords c
 abbrev pub sides_along : Axis → Sides → Sides
 sides_along X s = s
 sides_along Y s = transposed_sides s
+
+-- the values of an axis in a layout, and how many variables an axis has
+abbrev pub values_along : Axis → Coords → List ℤ
+values_along axis c = (coords_along axis c).x
+
+abbrev pub vars_along : Axis → Items → ℕ
+vars_along X items = items.x_vars
+vars_along Y items = items.y_vars
 
 -- b is the box of an item in a layout
 abbrev pub IsBoxOf : Coords → Item → BoxXY → Type 0

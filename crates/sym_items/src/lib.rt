@@ -5,6 +5,7 @@
 //! are in u, the grid unit. No call takes memory.
 #![tactic(auto)]
 
+mod axes;
 mod boxes;
 mod items;
 #[cfg(test)]

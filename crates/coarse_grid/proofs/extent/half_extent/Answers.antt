@@ -1,7 +1,7 @@
 use Rattle.std.proofs.Common.{◌∙◌, ◌++◌, ap, map, fold, pos}
 use Rattle.std.specs.Int.{int_max}
-use Rattle.stick_cell.specs.declared.cell.Node.{Node}
-use Rattle.stick_cell.specs.declared.cell.Wire.{Wire}
+use Rattle.cell_model.specs.declared.cell.Node.{Node}
+use Rattle.cell_model.specs.declared.cell.Wire.{Wire}
 use Rattle.expand.specs.Variables.{half}
 use Rattle.coarse_grid.specs.Extent.{reach_of, half_extent_of}
 use Rattle.coarse_grid.proofs.Extents.{widened}

@@ -2,11 +2,11 @@ use Rattle.std.proofs.Common.{List, ℤ, ◌≡◌, ◌∙◌, ◌++◌, ◌∷�
 use Rattle.std.specs.List.{flat_map}
 use Rattle.std.proofs.lemmas.List.{append-nil}
 use Rattle.rule_table.specs.declared.classes.Layer.TheVariants.{Diffusion}
-use Rattle.stick_cell.specs.declared.cell.Axis2.TheVariants.{Across}
-use Rattle.stick_cell.specs.declared.cell.Node.{Node}
-use Rattle.stick_cell.specs.declared.cell.Wire.{Wire}
-use Rattle.stick_cell.specs.declared.cell.WireEnd.TheVariants as ends
-use Rattle.stick_cell.specs.Wires.{is_same_axis}
+use Rattle.cell_model.specs.declared.cell.Axis2.TheVariants.{Across}
+use Rattle.cell_model.specs.declared.cell.Node.{Node}
+use Rattle.cell_model.specs.declared.cell.Wire.{Wire}
+use Rattle.cell_model.specs.declared.cell.WireEnd.TheVariants as ends
+use Rattle.cell_model.specs.Wiring.{is_same_axis}
 use Rattle.coarse_grid.specs.Start.{node_line, place, far_border, cross_places, start_values}
 use Rattle.coarse_grid.proofs.Folds.{all_read, list_map_on, list_flat_on}
 use Rattle.coarse_grid.proofs.Starts.{holds_near, holds_pitch, cross_there, cross_missing}

@@ -1,9 +1,9 @@
 use Rattle.std.proofs.Common.{◌<◌, List, length, ap, arith}
-use Rattle.stick_cell.specs.declared.cell.Wire.{Wire}
+use Rattle.cell_model.specs.declared.cell.Wire.{Wire}
 use Rattle.expand.specs.Structure.{overlap_edges}
 use Rattle.expand.proofs.Crosses.{wire_read}
 use Rattle.expand.proofs.Edges.{overlap_pushed}
-use Rattle.sym_items.proofs.Pieces.{piece_added}
+use Rattle.list_facts.proofs.Pieces.{piece_added}
 use Rattle.expand.proofs.inequalities.push_overlaps.Goals as goal
 
 pub loop-k-preserved : goal.loop-k-preserved

@@ -1,10 +1,10 @@
 use Rattle.std.proofs.Common.{◌<◌, List, length, ap, arith}
-use Rattle.stick_cell.specs.declared.cell.Node.{Node}
-use Rattle.stick_cell.specs.declared.cell.NodeNets.{NodeNets}
+use Rattle.cell_model.specs.declared.cell.Node.{Node}
+use Rattle.cell_model.specs.declared.cell.NodeNets.{NodeNets}
 use Rattle.expand.specs.Items.{items_of_node}
 use Rattle.expand.proofs.NetsRead.{node_nets_count, nets_read}
 use Rattle.expand.proofs.ItemsRead.{node_pushed}
-use Rattle.sym_items.proofs.Pieces.{piece_added}
+use Rattle.list_facts.proofs.Pieces.{piece_added}
 use Rattle.expand.proofs.items.push_nodes.Goals as goal
 
 pub bounds-as_slice-k : goal.bounds-as_slice-k

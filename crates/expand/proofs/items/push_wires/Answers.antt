@@ -1,10 +1,10 @@
 use Rattle.std.proofs.Common.{ℕ, ◌<◌, List, length, get_or, ap, arith}
-use Rattle.stick_cell.specs.declared.cell.Node.{Node}
-use Rattle.stick_cell.specs.declared.cell.Wire.{Wire}
+use Rattle.cell_model.specs.declared.cell.Node.{Node}
+use Rattle.cell_model.specs.declared.cell.Wire.{Wire}
 use Rattle.expand.specs.Items.{items_of_wire}
 use Rattle.expand.proofs.Crosses.{wire_read}
 use Rattle.expand.proofs.ItemsRead.{wire_pushed}
-use Rattle.sym_items.proofs.Pieces.{piece_added}
+use Rattle.list_facts.proofs.Pieces.{piece_added}
 use Rattle.expand.proofs.items.push_wires.Goals as goal
 
 pub loop-k-preserved : goal.loop-k-preserved

@@ -1,5 +1,5 @@
 use Rattle.std.proofs.Common.{◌<◌, List, length, ap, arith}
-use Rattle.stick_cell.specs.declared.cell.Wire.{Wire}
+use Rattle.cell_model.specs.declared.cell.Wire.{Wire}
 use Rattle.expand.proofs.Crosses.{crosses_more, along_read}
 use Rattle.expand.proofs.variables.crosses.Goals as goal
 

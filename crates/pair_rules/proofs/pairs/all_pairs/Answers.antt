@@ -1,6 +1,6 @@
 use Rattle.std.proofs.Common.{[]}
 use Rattle.pair_rules.specs.Candidates.{candidates_to}
-use Rattle.sym_items.proofs.Pieces.{piece_added}
+use Rattle.list_facts.proofs.Pieces.{piece_added}
 use Rattle.pair_rules.proofs.pairs.all_pairs.Goals as goal
 
 pub loop-j-preserved : goal.loop-j-preserved

@@ -4,7 +4,7 @@ use Rattle.std.proofs.lemmas.Int.{to_z-of_z}
 use Rattle.std.proofs.lemmas.List.{append-nil}
 use Rattle.pair_rules.specs.declared.pairs.Pair.{Pair}
 use Rattle.pair_rules.specs.Candidates.{pair_with, pairs_at}
-use Rattle.sym_items.proofs.Pieces.{piece_added}
+use Rattle.list_facts.proofs.Pieces.{piece_added}
 use Rattle.pair_rules.proofs.pairs.push_pairs_to.Goals.{in-Some+in_ok-push, in_default}
 use Rattle.pair_rules.proofs.pairs.push_pairs_to.Goals as goal
 

@@ -1,5 +1,5 @@
 use Rattle.std.proofs.Common.{◌≡◌, ◌++◌, map, take}
-use Rattle.stick_cell.specs.declared.cell.Node.{Node}
+use Rattle.cell_model.specs.declared.cell.Node.{Node}
 use Rattle.pass_run.specs.Names.{within_cell}
 use Rattle.pass_run.proofs.names.push_nodes.Given as goal
 

@@ -1,7 +1,7 @@
 use Rattle.std.proofs.Common.{List, ◌++◌, length, ap, ◌∙◌, arith}
-use Rattle.stick_cell.specs.declared.cell.Wire.{Wire}
+use Rattle.cell_model.specs.declared.cell.Wire.{Wire}
 use Rattle.expand.proofs.Crosses.{wire_read}
-use Rattle.sym_items.proofs.Pieces.{piece_added}
+use Rattle.list_facts.proofs.Pieces.{piece_added}
 use Rattle.pass_run.specs.Names.{cross_name_along, cross_name}
 use Rattle.pass_run.proofs.names.push_wires.Goals as goal
 

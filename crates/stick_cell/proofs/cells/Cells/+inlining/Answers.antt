@@ -1,11 +1,11 @@
 use Rattle.std.proofs.Common.{◌≡◌, ℕ, pos, w64, to_z, of_z, List, length, vec_len, sym, ap, subst, ◌∙◌, arith}
 use Rattle.std.proofs.lemmas.List.{length-take-le}
-use Rattle.stick_cell.specs.declared.cell.NodeKind.TheVariants as kinds
+use Rattle.cell_model.specs.declared.cell.NodeKind.TheVariants as kinds
 use Rattle.stick_parse.specs.declared.design.Form.TheVariants as forms
 use Rattle.stick_cell.specs.Known.{known_at, cell_of, with_copy}
 use Rattle.stick_cell.specs.Lines.{axis_where}
 use Rattle.stick_cell.specs.Checks.{layer_of}
-use Rattle.stick_cell.specs.Sound.{IsSound, IsLight}
+use Rattle.cell_model.specs.Sound.{IsSound, IsLight}
 use Rattle.stick_cell.specs.Tables.{known_of}
 use Rattle.stick_cell.specs.Inlining.{cells_before}
 use Rattle.stick_cell.proofs.Grown.{sound-known_at, light-cell_of}

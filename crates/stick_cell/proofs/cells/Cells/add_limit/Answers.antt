@@ -1,7 +1,7 @@
 use Rattle.std.proofs.Common.{◌≡◌, ℤ, w64, to_z, of_z, subst, arith}
 use Rattle.std.specs.Prelude.{OnOk}
 use Rattle.std.proofs.lemmas.Int.{ints}
-use Rattle.stick_cell.specs.declared.cell.Limit.{Limit}
+use Rattle.cell_model.specs.declared.cell.Limit.{Limit}
 use Rattle.stick_cell.specs.Known.{with_limit}
 use Rattle.stick_cell.specs.Inlining.{ArePartsOf, cells_before}
 use Rattle.stick_cell.proofs.FormSteps.{limit_step}

@@ -1,8 +1,9 @@
 use Rattle.std.proofs.Common.{◌≡◌, ℕ, ◌+◌, ◌≤◌, length, ap, ◌∙◌, rules, arith, w64, to_z, of_z}
 use Rattle.std.proofs.lemmas.List.{length_push}
-use Rattle.stick_cell.specs.declared.cell.Wire.{Wire}
+use Rattle.cell_model.specs.declared.cell.Wire.{Wire}
 use Rattle.stick_cell.specs.Known.{plugged, with_wire}
-use Rattle.stick_cell.specs.Counts.{weight_of, boxes_of, capped, layer_items}
+use Rattle.stick_cell.specs.Counts.{weight_of, boxes_of, capped}
+use Rattle.cell_model.specs.Counts.{layer_items}
 use Rattle.stick_cell.specs.Kept.{capped_end}
 use Rattle.stick_cell.proofs.Counting.{counted, weight-with_wire, boxes-with_wire}
 use Rattle.stick_cell.proofs.LineSteps.{below-more}

@@ -1,7 +1,7 @@
 use Rattle.std.proofs.Common.{◌≡◌, true, false, Ok, Err, refl, sym, ap, subst, ◌∙◌, rules, w64, to_z, of_z}
 use Rattle.std.specs.Prelude.{pos}
-use Rattle.stick_cell.specs.declared.cell.NodeKind.{NodeKind}
-use Rattle.stick_cell.specs.declared.cell.NodeKind.TheVariants as kinds
+use Rattle.cell_model.specs.declared.cell.NodeKind.{NodeKind}
+use Rattle.cell_model.specs.declared.cell.NodeKind.TheVariants as kinds
 use Rattle.stick_cell.specs.Growing.{IsGrowing}
 use Rattle.stick_cell.specs.Checks.{is_channel}
 use Rattle.stick_cell.specs.Lines.{axis_where}

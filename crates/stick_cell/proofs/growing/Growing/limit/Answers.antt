@@ -2,7 +2,7 @@ use Rattle.std.proofs.Common.{◌≡◌, true, false, not, Ok, refl, sym, ap, �
 use Rattle.std.specs.Prelude.{bytes_eq}
 use Rattle.stick_parse.specs.declared.fault.StickKind.TheVariants.{BadLimit}
 use Rattle.stick_parse.specs.Reading.{◌>>=◌}
-use Rattle.stick_cell.specs.declared.cell.Limit.{Limit}
+use Rattle.cell_model.specs.declared.cell.Limit.{Limit}
 use Rattle.stick_cell.specs.Checks.{demand}
 use Rattle.stick_cell.specs.Wires.{limited}
 use Rattle.stick_cell.specs.Known.{with_limit}

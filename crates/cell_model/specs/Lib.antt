@@ -1,0 +1,4 @@
+pub mod Wiring
+pub mod Sound
+pub mod Counts
+pub mod Nets

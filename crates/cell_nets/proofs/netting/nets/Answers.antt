@@ -1,0 +1,44 @@
+use Rattle.std.proofs.Common.{◌≡◌, ℕ, ◌-◌, List, length, drop, sym, ◌∙◌, ap, subst, arith}
+use Rattle.smallvec.specs.SmallVec.{SmallVec}
+use Rattle.std.proofs.lemmas.List.{take_rest}
+use Rattle.cell_model.specs.declared.cell.Wire.{Wire}
+use Rattle.cell_model.specs.Nets.{node_parts, parts_of, attachments_of, nets_of_nodes}
+use Rattle.graph_search.specs.Netting.{IsNetting}
+use Rattle.graph_search.specs.Search.{AreMutual, AreNumbers}
+use Rattle.cell_nets.proofs.Attachments.{node_parts_few, mutual_neighbours, netting_numbers}
+use Rattle.cell_nets.proofs.netting.nets.Goals as goal
+
+pub numbers-requires-clause-both_ways : goal.numbers-requires-clause-both_ways
+numbers-requires-clause-both_ways c =
+    let P : List (SmallVec ℕ) → Type 0 = AreMutual in
+    subst P (sym c.as_slice.ensures.value) (mutual_neighbours (parts_of c.args.cell.now) (attachments_of c.args.cell.now) c.in_ok-lists.lists.items c.in_ok-lists.ensures)
+
+pub numbers-requires-clause-few : goal.numbers-requires-clause-few
+numbers-requires-clause-few c =
+    let f = node_parts_few c.args.cell.now.nodes in
+    let n = c.in_ok-lists.ensures.counted in
+    let l = c.requires.light in
+    let e = ap (λ (xs : List (SmallVec ℕ)). length xs) c.as_slice.ensures.value in
+    omega arith
+
+pub returns : goal.returns
+returns c =
+    let cell = c.args.cell.now in
+    let parts = c.in_ok-parts.parts.items in
+    let lists = c.in_ok-lists.lists.items in
+    let P : List (SmallVec ℕ) → Type 0 = λ ls. AreNumbers ls parts in
+    let numbers : AreNumbers lists parts = subst P c.as_slice.ensures.value c.in_ok-parts.ensures.numbers in
+    let netting : IsNetting (parts_of cell) (attachments_of cell) parts = netting_numbers (parts_of cell) (attachments_of cell) lists parts c.in_ok-lists.ensures numbers in
+    let first : ℕ = c.len.result - length c.as_slice-4.result.now in
+    let rest : first ≡ node_parts cell.nodes = (let n = netting.counted in let w : length c.as_slice-4.result.now ≡ length cell.wires = ap (λ (ws : List Wire). length ws) c.as_slice-4.ensures in let l = c.len.ensures in omega arith) in
+    record {
+      numbers = parts;
+      netting = netting;
+      in_order = numbers.in_order;
+      nodes = c.from_vec.ensures ∙ c.in_ok-node.ensures
+          ∙ ap (λ (ps : List ℕ). nets_of_nodes ps 0 c.as_slice-3.result.now) c.as_slice-2.ensures.value
+          ∙ ap (nets_of_nodes parts 0) c.as_slice-3.ensures;
+      wires = c.from_vec-2.ensures ∙ c.in_ok-wire.ensures.items ∙ take_rest c.deref.result.now first ∙ ap (drop first) c.deref.ensures.value
+          ∙ ap (λ (k : ℕ). drop k parts) rest;
+      count = c.in_ok-parts.ensures.count;
+    }

@@ -1,0 +1,35 @@
+use Rattle.std.proofs.Common.{ℕ, ◌<◌, List, length, get_or, ◌∙◌, ap, subst, arith, Contains}
+use Rattle.std.proofs.lemmas.List.Elements.{Contains-get_or}
+use Rattle.graph_search.specs.Search.{neighbours_of, AreVisited}
+use Rattle.graph_search.proofs.Marks.{spreading_more, spreading_done, read_list, read_queue}
+use Rattle.graph_search.proofs.search.spread.Goals as goal
+
+pub bounds-neighbours-part : goal.bounds-neighbours-part
+bounds-neighbours-part c = (read_queue _ _ _ _ _ _ _ c.index-part.result.now c.requires.counted c.loop-passed.invariant (omega arith) c.index-part.ensures).1
+
+pub visit-requires : goal.visit-requires
+visit-requires c =
+    let lists = c.args.neighbours.now in
+    let q = read_queue _ _ _ _ _ _ _ c.index-part.result.now c.requires.counted c.loop-passed.invariant (omega arith) c.index-part.ensures in
+    let e = c.as_slice.ensures ∙ read_list lists c.index-part.result.now c.index-neighbours-part.result q.1 c.index-neighbours-part.is in
+    λ k d lt.
+    let P : List ℕ → Type 0 = λ xs. Contains xs (get_or c.as_slice.result.now k d) in
+    let n = c.loop-passed.invariant.counted in
+    let m = c.requires.counted in
+    let w = c.requires.both_ways.within c.index-part.result.now (get_or c.as_slice.result.now k d) (subst P e (Contains-get_or c.as_slice.result.now k d lt)) in
+    omega arith
+
+pub loop-passed-preserved : goal.loop-passed-preserved
+loop-passed-preserved c =
+    let lists = c.args.neighbours.now in
+    let old = c.loop-passed.marks.items in
+    let queue = c.loop-passed.reached.items in
+    let lt : c.loop-passed.passed < length queue = omega arith in
+    let q = read_queue _ _ _ _ _ _ _ c.index-part.result.now c.requires.counted c.loop-passed.invariant lt c.index-part.ensures in
+    let e = c.as_slice.ensures ∙ read_list lists c.index-part.result.now c.index-neighbours-part.result q.1 c.index-neighbours-part.is in
+    let P : List ℕ → Type 0 = λ xs. AreVisited xs c.args.net old c.visit.new.marks.items queue c.visit.new.reached.items in
+    spreading_more lists c.args.start c.args.net c.args.marks.now.items old c.visit.new.marks.items queue c.visit.new.reached.items c.loop-passed.passed lt c.loop-passed.invariant
+    (subst P (e ∙ ap (neighbours_of lists) q.0) c.in_ok-visit.ensures)
+
+pub returns : goal.returns
+returns c = spreading_done c.args.neighbours.now c.args.start c.args.net c.args.marks.now.items c.loop-passed.marks.items c.loop-passed.reached.items c.loop-passed.passed (omega arith) c.loop-passed.invariant
