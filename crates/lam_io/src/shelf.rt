@@ -4,13 +4,16 @@ ghost use Rattle.lam_io.specs.declared.shelf.Fetch.TheVariants.{OutOfMemory};
 ghost use Rattle.lam_io.specs.Io.{Telling, Asks, IsFetched, Rose};
 
 use std::alloc::{AllocError, AllocFailed, Global};
+use thiserror::Error;
 
 /// Why a fetch gave nothing.
-#[derive(Clone, Copy, Debug, PartialEq, Eq)]
+#[derive(Clone, Copy, Debug, PartialEq, Eq, Error)]
 pub enum Fetch {
     /// The file is not there or could not be read. The shelf counted a fault in this call.
+    #[error("the file could not be read")]
     Fault,
     /// Memory ran out.
+    #[error("out of memory")]
     OutOfMemory,
 }
 

@@ -2,8 +2,11 @@
 ghost use Rattle.std.specs.Prelude.{◌≡◌, ℕ, ◌≤◌, Option, [], IsOk, OnOk, OnErr};
 ghost use Rattle.lam_io.specs.Io.{Bytes, Appends, AppendsPrefix, Rose};
 
+use thiserror::Error;
+
 /// A put failed: the sink counted a fault in this call, and took a front of the piece.
-#[derive(Clone, Copy, Debug, PartialEq, Eq)]
+#[derive(Clone, Copy, Debug, PartialEq, Eq, Error)]
+#[error("the text could not be put whole")]
 pub struct PutFault;
 
 /// Takes pieces of text, one after another.

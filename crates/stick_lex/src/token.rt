@@ -3,6 +3,7 @@ ghost use Rattle.std.specs.Prelude.{◌≡◌};
 ghost use Rattle.stick_lex.specs.declared.token.LexFault.TheVariants.{OutOfMemory};
 
 use std::alloc::{AllocError, AllocFailed};
+use thiserror::Error;
 
 /// What a token is.
 #[derive(Clone, Copy, Debug, PartialEq, Eq)]
@@ -28,13 +29,16 @@ pub struct Token {
 }
 
 /// Why a line has no tokens.
-#[derive(Clone, Copy, Debug, PartialEq, Eq)]
+#[derive(Clone, Copy, Debug, PartialEq, Eq, Error)]
 pub enum LexFault {
     /// The run that begins here is no token.
+    #[error("not a token")]
     BadByte(u32),
     /// The number that begins here is past 1,000,000 either side of 0.
+    #[error("a number is too large")]
     NumberTooLarge(u32),
     /// Memory ran out.
+    #[error("out of memory")]
     OutOfMemory,
 }
 
