@@ -13,6 +13,27 @@ fn a_text_holds_its_bytes(rt: HostRuntime) -> Result<(), Fail> {
     Ok(())
 }
 
+#[test]
+fn numbers_are_appended_in_digits(rt: HostRuntime) -> Result<(), Fail> {
+    let mut text = Vec::new(rt.alloc());
+    push_decimal(&mut text, 0)?;
+    push_decimal(&mut text, u64::MAX)?;
+    push_signed_decimal(&mut text, i64::MIN)?;
+    push_signed_decimal(&mut text, 12)?;
+    assert_eq!(rt;
+        text.as_slice(),
+        b"018446744073709551615-922337203685477580812".as_slice()
+    );
+    Ok(())
+}
+
+#[test]
+fn tokens_and_faults_cross_threads(rt: HostRuntime) -> Result<(), Fail> {
+    crosses_threads(&lex_line(rt.alloc(), b"a")?);
+    crosses_threads(&LexFault::OutOfMemory);
+    Ok(())
+}
+
 /// The tokens of a line, or the first fault, as text: a letter for each kind, then its place and value.
 fn told(rt: &HostRuntime, line: &[u8]) -> Result<String, Fail>
     requires { length line.now ≤ 2 ^ 20 }
