@@ -8,13 +8,12 @@ use crate::words::{
     axis_word, bound_word, direction_word, kind_word, layer_word, put_count, put_number, put_pair,
     put_width, put_word, side_word,
 };
-use std::alloc::{AllocError, Global};
+use std::alloc::AllocError;
 use stick_lex::Text;
 use stick_parse::{Form, Layer, Side};
 
 #[tactic(auto, unfolding(crate::specs::Canonical::line_of))]
 fn put_joint(
-    alloc: Global,
     out: &mut Vec<u8>,
     name: &Text,
     layer: Layer,
@@ -27,16 +26,15 @@ fn put_joint(
     out.extend_from_slice(b"joint")?;
     put_word(out, name.bytes())?;
     put_word(out, layer_word(layer))?;
-    put_count(alloc, out, col)?;
-    put_count(alloc, out, row)?;
-    put_width(alloc, out, width)?;
+    put_count(out, col)?;
+    put_count(out, row)?;
+    put_width(out, width)?;
     out.push(b'\n')?;
     Ok(())
 }
 
 #[tactic(auto, unfolding(crate::specs::Canonical::line_of))]
 fn put_contact(
-    alloc: Global,
     out: &mut Vec<u8>,
     name: &Text,
     lower: Layer,
@@ -48,15 +46,14 @@ fn put_contact(
     out.extend_from_slice(b"contact")?;
     put_word(out, name.bytes())?;
     put_word(out, layer_word(lower))?;
-    put_count(alloc, out, col)?;
-    put_count(alloc, out, row)?;
+    put_count(out, col)?;
+    put_count(out, row)?;
     out.push(b'\n')?;
     Ok(())
 }
 
 #[tactic(auto, unfolding(crate::specs::Canonical::line_of))]
 fn put_fet(
-    alloc: Global,
     out: &mut Vec<u8>,
     name: &Text,
     ways: (bool, bool),
@@ -70,15 +67,14 @@ fn put_fet(
     put_word(out, name.bytes())?;
     put_word(out, kind_word(ways.0))?;
     put_word(out, direction_word(ways.1))?;
-    put_pair(alloc, out, place)?;
-    put_pair(alloc, out, size)?;
+    put_pair(out, place)?;
+    put_pair(out, size)?;
     out.push(b'\n')?;
     Ok(())
 }
 
 #[tactic(auto, unfolding(crate::specs::Canonical::line_of))]
 fn put_port(
-    alloc: Global,
     out: &mut Vec<u8>,
     name: &Text,
     side: Side,
@@ -91,14 +87,13 @@ fn put_port(
     put_word(out, name.bytes())?;
     put_word(out, side_word(side))?;
     put_word(out, layer_word(layer))?;
-    put_count(alloc, out, place)?;
+    put_count(out, place)?;
     out.push(b'\n')?;
     Ok(())
 }
 
 #[tactic(auto, unfolding(crate::specs::Canonical::line_of))]
 fn put_use(
-    alloc: Global,
     out: &mut Vec<u8>,
     name: &Text,
     cell: &Text,
@@ -110,15 +105,14 @@ fn put_use(
     out.extend_from_slice(b"use")?;
     put_word(out, name.bytes())?;
     put_word(out, cell.bytes())?;
-    put_count(alloc, out, col)?;
-    put_count(alloc, out, row)?;
+    put_count(out, col)?;
+    put_count(out, row)?;
     out.push(b'\n')?;
     Ok(())
 }
 
 #[tactic(auto, unfolding(crate::specs::Canonical::line_of))]
 fn put_wire(
-    alloc: Global,
     out: &mut Vec<u8>,
     layer: Layer,
     a: &Text,
@@ -131,14 +125,13 @@ fn put_wire(
     put_word(out, layer_word(layer))?;
     put_word(out, a.bytes())?;
     put_word(out, b.bytes())?;
-    put_width(alloc, out, width)?;
+    put_width(out, width)?;
     out.push(b'\n')?;
     Ok(())
 }
 
 #[tactic(auto, unfolding(crate::specs::Canonical::line_of))]
 fn put_limit(
-    alloc: Global,
     out: &mut Vec<u8>,
     vertical: bool,
     a: &Text,
@@ -153,13 +146,13 @@ fn put_limit(
     put_word(out, a.bytes())?;
     put_word(out, b.bytes())?;
     put_word(out, bound_word(at_most))?;
-    put_number(alloc, out, n)?;
+    put_number(out, n)?;
     out.push(b'\n')?;
     Ok(())
 }
 
 /// Adds the line of a form.
-pub fn put_form(alloc: Global, out: &mut Vec<u8>, form: &Form) -> Result<(), AllocError>
+pub fn put_form(out: &mut Vec<u8>, form: &Form) -> Result<(), AllocError>
     ensures { OnOk result (out.new.items ≡ out.old.items ++ line_of (Item form.now)) }
 {
     match form {
@@ -169,13 +162,13 @@ pub fn put_form(alloc: Global, out: &mut Vec<u8>, form: &Form) -> Result<(), All
             col,
             row,
             width,
-        } => { put_joint(alloc, out, name, *layer, *col, *row, *width) }
+        } => { put_joint(out, name, *layer, *col, *row, *width) }
         Form::Contact {
             name,
             lower,
             col,
             row,
-        } => put_contact(alloc, out, name, *lower, *col, *row),
+        } => put_contact(out, name, *lower, *col, *row),
         Form::Fet {
             name,
             depletion,
@@ -184,35 +177,26 @@ pub fn put_form(alloc: Global, out: &mut Vec<u8>, form: &Form) -> Result<(), All
             row,
             w,
             l,
-        } => {
-            put_fet(
-                alloc,
-                out,
-                name,
-                (*depletion, *vertical),
-                (*col, *row),
-                (*w, *l),
-            )
-        }
+        } => { put_fet(out, name, (*depletion, *vertical), (*col, *row), (*w, *l)) }
         Form::Port {
             name,
             side,
             layer,
             place,
-        } => put_port(alloc, out, name, *side, *layer, *place),
+        } => put_port(out, name, *side, *layer, *place),
         Form::Inst {
             name,
             cell,
             col,
             row,
-        } => put_use(alloc, out, name, cell, *col, *row),
-        Form::Wire { layer, a, b, width } => put_wire(alloc, out, *layer, a, b, *width),
+        } => put_use(out, name, cell, *col, *row),
+        Form::Wire { layer, a, b, width } => put_wire(out, *layer, a, b, *width),
         Form::Limit {
             vertical,
             a,
             b,
             at_most,
             n,
-        } => { put_limit(alloc, out, *vertical, a, b, *at_most, *n) }
+        } => { put_limit(out, *vertical, a, b, *at_most, *n) }
     }
 }

@@ -22,12 +22,12 @@ fn put_cell_name(out: &mut Vec<u8>, name: &Text) -> Result<(), AllocError>
 }
 
 #[tactic(auto, unfolding(crate::specs::Canonical::line_of, crate::specs::Canonical::cell_lines))]
-fn put_cell(alloc: Global, out: &mut Vec<u8>, cell: &CellText) -> Result<(), AllocError>
+fn put_cell(out: &mut Vec<u8>, cell: &CellText) -> Result<(), AllocError>
     ensures { OnOk result (out.new.items ≡ out.old.items ++ cell_lines cell.now) }
 {
     put_cell_name(out, &cell.name)?;
     for line in cell.lines.as_slice() {
-        put_form(alloc, out, &line.form)?;
+        put_form(out, &line.form)?;
     }
     out.extend_from_slice(b"end\n")?;
     Ok(())
@@ -52,7 +52,7 @@ fn canonical_text(alloc: Global, design: &Design) -> Result<Vec<u8>, AllocError>
     let mut out = Vec::new(alloc);
     out.extend_from_slice(b"sticks 1\n")?;
     for cell in design.cells.as_slice() {
-        put_cell(alloc, &mut out, cell)?;
+        put_cell(&mut out, cell)?;
     }
     out.extend_from_slice(b"grid\n")?;
     for row in design.grid.as_slice() {

@@ -3,7 +3,8 @@ ghost use Rattle.std.specs.Prelude.{◌≡◌, ◌++◌, ◌∷◌, [], decimal,
 ghost use Rattle.std.specs.Fmt.{signed_decimal};
 ghost use Rattle.stick_print.specs.Canonical.{layer_word, side_word, kind_word, direction_word, axis_word, bound_word, width_words, spaced};
 
-use std::alloc::{AllocError, Global};
+use std::alloc::AllocError;
+use stick_lex::{push_decimal, push_signed_decimal};
 use stick_parse::{Layer, Side};
 
 pub fn layer_word(layer: Layer) -> &'static [u8]
@@ -61,35 +62,35 @@ pub fn put_word(out: &mut Vec<u8>, word: &[u8]) -> Result<(), AllocError>
 }
 
 /// Adds a space and a number.
-pub fn put_number(alloc: Global, out: &mut Vec<u8>, n: i64) -> Result<(), AllocError>
+pub fn put_number(out: &mut Vec<u8>, n: i64) -> Result<(), AllocError>
     ensures { OnOk result (out.new.items ≡ out.old.items ++ 32 ∷ signed_decimal n) }
 {
-    let digits = n.to_string(alloc)?;
-    put_word(out, digits.as_bytes())
+    out.push(b' ')?;
+    push_signed_decimal(out, n)
 }
 
 /// Adds a space and a number that is not negative.
-pub fn put_count(alloc: Global, out: &mut Vec<u8>, n: u32) -> Result<(), AllocError>
+pub fn put_count(out: &mut Vec<u8>, n: u32) -> Result<(), AllocError>
     ensures { OnOk result (out.new.items ≡ out.old.items ++ 32 ∷ decimal n) }
 {
-    let digits = n.to_string(alloc)?;
-    put_word(out, digits.as_bytes())
+    out.push(b' ')?;
+    push_decimal(out, u64::from(n))
 }
 
 /// Adds a width where there is one.
-pub fn put_width(alloc: Global, out: &mut Vec<u8>, width: Option<u32>) -> Result<(), AllocError>
+pub fn put_width(out: &mut Vec<u8>, width: Option<u32>) -> Result<(), AllocError>
     ensures { OnOk result (out.new.items ≡ out.old.items ++ spaced (width_words width)) }
 {
     if let Some(width) = width {
-        put_count(alloc, out, width)?;
+        put_count(out, width)?;
     }
     Ok(())
 }
 
 /// Adds two numbers that are not negative: a column and a row, or two sizes.
-pub fn put_pair(alloc: Global, out: &mut Vec<u8>, pair: (u32, u32)) -> Result<(), AllocError>
+pub fn put_pair(out: &mut Vec<u8>, pair: (u32, u32)) -> Result<(), AllocError>
     ensures { OnOk result (out.new.items ≡ out.old.items ++ spaced (decimal pair.0 ∷ decimal pair.1 ∷ [])) }
 {
-    put_count(alloc, out, pair.0)?;
-    put_count(alloc, out, pair.1)
+    put_count(out, pair.0)?;
+    put_count(out, pair.1)
 }
