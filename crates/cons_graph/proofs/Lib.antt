@@ -15,6 +15,5 @@ pub mod Outcomes
 pub mod Runs
 pub mod Tests
 pub mod CycleTest
-pub mod LinePieces
 pub mod TypedIn
 pub mod Entries

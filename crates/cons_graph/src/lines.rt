@@ -5,7 +5,7 @@ use crate::constraint_graph::Graph;
 use crate::edges::{Edge, Why};
 use crate::names::Names;
 use std::alloc::{AllocError, Global};
-use stick_lex::Text;
+use stick_lex::{Text, push_signed_decimal};
 
 /// The lines of the edges with these numbers, in their order: `FROM -> TO LEN WHY` and a line end each, with the names
 /// of the two variables, the length in u and the word of the reason. The only refusal is want of memory.
@@ -22,23 +22,22 @@ pub fn edge_lines(
     let edges = g.edges();
     let mut out = Vec::new(alloc);
     for k in numbers {
-        push_line(&mut out, alloc, names, &edges[*k as usize])?;
+        push_line(&mut out, names, &edges[*k as usize])?;
     }
     Text::new(alloc, &out)
 }
 
 // Adds the line of one edge.
-fn push_line(out: &mut Vec<u8>, alloc: Global, names: &Names, edge: &Edge) -> Result<(), AllocError>
+fn push_line(out: &mut Vec<u8>, names: &Names, edge: &Edge) -> Result<(), AllocError>
     requires tail_named { edge.now.from < length names.now }
     requires head_named { edge.now.to < length names.now }
     ensures { OnOk result (out.new.items ≡ out.old.items ++ line_of names.now edge.now) }
 {
-    let len = edge.len.to_string(alloc)?;
     out.extend_from_slice(names.get(edge.from))?;
     out.extend_from_slice(b" -> ")?;
     out.extend_from_slice(names.get(edge.to))?;
     out.push(b' ')?;
-    out.extend_from_slice(len.as_bytes())?;
+    push_signed_decimal(out, edge.len)?;
     out.push(b' ')?;
     out.extend_from_slice(word(edge.why))?;
     out.push(b'\n')?;

@@ -41,6 +41,17 @@ pub enum MaskLayer {
     NI,
 }
 
+impl MaskLayer {
+    /// The layers in the order in which a symbol lists its boxes.
+    pub const ALL: [MaskLayer; 5] = [
+        MaskLayer::ND,
+        MaskLayer::NP,
+        MaskLayer::NC,
+        MaskLayer::NM,
+        MaskLayer::NI,
+    ];
+}
+
 /// A box on a mask layer.
 #[derive(Clone, Copy, Debug, PartialEq, Eq)]
 pub struct MaskBox {
