@@ -1,25 +1,21 @@
 -- The lists of neighbours that the wires of a cell make, and the nets of its parts.
 use Rattle.std.proofs.Common.{◌≡◌, ℕ, ◌+◌, ◌*◌, ◌<◌, ◌≤◌, List, [], ◌∷◌, ◌++◌, length, take, get_or, Contains, ◌⊎◌, inl, inr, refl, sym, ◌∙◌, ap, subst, arith, append_assoc}
 use Rattle.std.specs.Prelude.{true, false}
-use Rattle.std.specs.List.{AllByRecursion}
-use Rattle.cell_model.specs.declared.cell.Cell.{Cell}
-use Rattle.cell_model.specs.Sound.{IsWire, IsSound}
-use Rattle.std.proofs.lemmas.List.{take_more, take_all, length_push, get_or_append_left, get_or_push, get_or_past, get_or_read, append-nil, take-append-le, length-take-le}
-use Rattle.std.proofs.lemmas.List.Elements.{Contains-append_left, Contains-push, Contains-push_cases, All-from_recursion, recursion_from_All, All-weaker}
+use Rattle.std.proofs.lemmas.List.{take_more, take_all, length_push, get_or_append_left, get_or_push, get_or_read, append-nil, take-append-le, length-take-le}
+use Rattle.std.proofs.lemmas.List.Elements.{Contains-append_left, Contains-push, Contains-push_cases}
 use Rattle.std.proofs.lemmas.List.Sums.{sum_by-cons, sum_by_push, sum_by-le}
-use Rattle.std.proofs.lemmas.Bool.{cases_eq, cases_lt, cases_order}
+use Rattle.std.proofs.lemmas.Bool.{cases_eq, cases_order}
 use Rattle.smallvec.specs.SmallVec.{SmallVec}
-use Rattle.rule_table.specs.declared.technology.Tech.{Tech}
 use Rattle.cell_model.specs.declared.cell.NodeKind.{NodeKind}
 use Rattle.cell_model.specs.declared.cell.NodeKind.TheVariants.{Joint, Contact, Fet}
 use Rattle.cell_model.specs.declared.cell.Node.{Node}
 use Rattle.cell_model.specs.declared.cell.Wire.{Wire}
 use Rattle.cell_model.specs.declared.cell.NodeNets.{NodeNets}
-use Rattle.cell_model.specs.Nets.{kind_parts, node_parts, first_part, end_parts, with_each, attachments, nets_of_kind, nets_of_nodes, HasEnds}
-use Rattle.graph_search.specs.Netting.{Attached, IsNetting}
-use Rattle.graph_search.specs.Search.{no_neighbours, neighbours_of, IsBeside, AreMutual, AreNeighbours, AreNumbers}
+use Rattle.cell_model.specs.Nets.{kind_parts, node_parts, first_part, end_parts, with_each, attachments, nets_of_kind, nets_of_nodes}
+use Rattle.graph_search.specs.Netting.{Attached}
+use Rattle.graph_search.specs.Search.{no_neighbours, neighbours_of, IsBeside, AreNeighbours}
 use Rattle.cell_nets.specs.Attaching.{AreAttached, IsAdded, AreFirstParts}
-use Rattle.graph_search.proofs.Chains.{reaches_weaker, reaches_same}
+use Rattle.graph_search.proofs.Neighbours.{none_in_empty, beside_within, attached_back}
 
 -- ---- parts
 
@@ -70,17 +66,6 @@ first_parts_end nodes of at firsts n same h there read =
 
 -- ---- lists
 
--- an empty list has nothing in it
-none_in_empty : (k : ℕ) (xs : List ℕ) → xs ≡ [] → Contains xs k → ⊥
-none_in_empty k xs e c = let P : List ℕ → Type 0 = λ ys. Contains ys k in let d : Contains [] k = subst P e c in (let lt = d.1 in omega arith)
-
--- a part with a neighbour has a list
-beside_within : (lists : List (SmallVec ℕ)) (a b : ℕ) → IsBeside lists a b → a < length lists
-beside_within lists a b c = elim (cases_lt a (length lists)) [
-  | inl lt ↦ lt
-  | inr le ↦ absurd (none_in_empty b (neighbours_of lists a) (ap (λ (v : SmallVec ℕ). v.items) (get_or_past lists a no_neighbours le)) c)
-]
-
 -- no lists
 pub empty_none : AreNeighbours 0 [] []
 empty_none = record {
@@ -128,10 +113,6 @@ added_keeps a b old new x y h c = elim (cases_eq x a) [
 -- what one put puts
 added_new : (a b : ℕ) (old new : List (SmallVec ℕ)) → IsAdded a b old new → IsBeside new a b
 added_new a b old new h = let P : List ℕ → Type 0 = λ xs. Contains xs b in subst P (sym h.grown) (Contains-push (neighbours_of old a) b)
-
--- links attach both ways
-attached_back : (links : List (ℕ × ℕ)) (a b : ℕ) → Attached links a b → Attached links b a
-attached_back links a b h = elim h [ inl c ↦ inr c | inr c ↦ inl c ]
 
 -- what some links attach, more attach
 attached_left : (links more : List (ℕ × ℕ)) (a b : ℕ) → Attached links a b → Attached (links ++ more) a b
@@ -228,34 +209,7 @@ neighbours_read nodes wires of n i d low high old middle new count lt same first
     let Q : ℕ → Type 0 = λ m. AreNeighbours count (attachments nodes m (take i of)) old → AreNeighbours count (attachments nodes m (take (i + 1) of)) new in
     subst P same (subst Q first (λ h. neighbours_wire nodes n of i d low high old middle new count lt el eh a b h))
 
--- ---- ends
-
--- the wires of a sound cell end at its nodes and ports
-pub ends-sound : (tech : Tech) (cell : Cell) → IsSound tech cell → AllByRecursion (HasEnds cell) cell.wires
-ends-sound tech cell sound = recursion_from_All (HasEnds cell) cell.wires
-    (All-weaker (IsWire tech cell) (HasEnds cell) (λ wire w. record { low = w.low; high = w.high }) cell.wires (All-from_recursion (IsWire tech cell) cell.wires sound.wires))
-
 -- ---- the nets
-
--- lists of neighbours tell of both sides
-pub mutual_neighbours : (count : ℕ) (links : List (ℕ × ℕ)) (lists : List (SmallVec ℕ)) → AreNeighbours count links lists → AreMutual lists
-mutual_neighbours count links lists h =
-    let back : (a b : ℕ) → IsBeside lists a b → IsBeside lists b a = λ a b c. h.beside b a (attached_back links a b (h.attached a b c)) in
-    record {
-      within = λ a b c. beside_within lists b a (back a b c);
-      back = back;
-    }
-
--- numbers by neighbours are a netting by links
-pub netting_numbers : (count : ℕ) (links : List (ℕ × ℕ)) (lists : List (SmallVec ℕ)) (nets : List ℕ) → AreNeighbours count links lists → AreNumbers lists nets → IsNetting count links nets
-netting_numbers count links lists nets h n =
-    let c = h.counted in
-    record {
-      counted = n.counted ∙ h.counted;
-      joined = λ a b la lb e. reaches_weaker (IsBeside lists) (Attached links) h.attached a b (n.joined a b (omega arith) (omega arith) e);
-      same = λ a b la lb r. reaches_same (Attached links) (λ k. get_or nets k 0)
-          (λ x y s. (let beside : IsBeside lists x y = h.beside x y s in n.beside x y (beside_within lists x y beside) beside)) a b r;
-    }
 
 -- the nets of one more node
 pub nets_of_nodes_push : (parts : List ℕ) (k : ℕ) (nodes : List Node) (node : Node)

@@ -1,2 +1,4 @@
 pub mod Chains
 pub mod Marks
+pub mod Determined
+pub mod Neighbours

@@ -3,6 +3,8 @@
 //! What the layer above uses: `numbers` over a list of neighbours for each part. It knows nothing of what the parts are.
 #![tactic(auto)]
 
+mod laws;
 mod search;
 
+pub use laws::netting_is_determined;
 pub use search::numbers;

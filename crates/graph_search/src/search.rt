@@ -1,8 +1,8 @@
 //! Breadth-first search over the lists of neighbours of parts: a number for each part, the same for all that it reaches.
 //! Linear in the parts and the lengths of the lists.
-ghost use Rattle.std.specs.Prelude.{◌≡◌, ◌+◌, ◌^◌, ◌<◌, ◌≤◌, max, All, None, Some, IfOk, OnOk, length, slice_index_or};
-ghost use Rattle.graph_search.specs.Netting.{next_net};
-ghost use Rattle.graph_search.specs.Search.{neighbours_of, AreMutual, mark_of, AreKept, AreVisited, IsSpread, AreWhole, AreNumbers};
+ghost use Rattle.std.specs.Prelude.{◌≡◌, ℕ, ◌+◌, ◌^◌, ◌<◌, ◌≤◌, max, All, None, Some, IfOk, OnOk, length, slice_index_or, List};
+ghost use Rattle.graph_search.specs.Netting.{next_net, IsNetting};
+ghost use Rattle.graph_search.specs.Search.{AreMutual, AreNeighbours, mark_of, AreKept, AreVisited, IsSpread, AreWhole, AreNumbers};
 
 use smallvec::SmallVec;
 use std::alloc::{AllocError, Global};
@@ -16,6 +16,8 @@ pub fn numbers(
     requires both_ways { AreMutual neighbours.now }
     requires few { length neighbours.now < 2 ^ 31 }
     ensures numbers { IfOk result (λ found. AreNumbers neighbours.now found.0.items) }
+    // where the lists are those of some links, the numbers are their netting
+    ensures netting { IfOk result (λ found. (links : List (ℕ × ℕ)) → AreNeighbours (length neighbours.now) links neighbours.now → IsNetting (length neighbours.now) links found.0.items) }
     ensures count { IfOk result (λ found. found.1 ≡ next_net found.0.items) }
 {
     let mut marks = vec![in alloc; None; neighbours.len()]?;

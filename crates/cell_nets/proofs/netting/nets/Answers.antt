@@ -4,8 +4,9 @@ use Rattle.std.proofs.lemmas.List.{take_rest}
 use Rattle.cell_model.specs.declared.cell.Wire.{Wire}
 use Rattle.cell_model.specs.Nets.{node_parts, parts_of, attachments_of, nets_of_nodes}
 use Rattle.graph_search.specs.Netting.{IsNetting}
-use Rattle.graph_search.specs.Search.{AreMutual, AreNumbers}
-use Rattle.cell_nets.proofs.Attachments.{node_parts_few, mutual_neighbours, netting_numbers}
+use Rattle.graph_search.specs.Search.{AreMutual, AreNeighbours}
+use Rattle.graph_search.proofs.Neighbours.{mutual_neighbours}
+use Rattle.cell_nets.proofs.Attachments.{node_parts_few}
 use Rattle.cell_nets.proofs.netting.nets.Goals as goal
 
 pub numbers-requires-clause-both_ways : goal.numbers-requires-clause-both_ways
@@ -26,15 +27,19 @@ returns c =
     let cell = c.args.cell.now in
     let parts = c.in_ok-parts.parts.items in
     let lists = c.in_ok-lists.lists.items in
-    let P : List (SmallVec ℕ) → Type 0 = λ ls. AreNumbers ls parts in
-    let numbers : AreNumbers lists parts = subst P c.as_slice.ensures.value c.in_ok-parts.ensures.numbers in
-    let netting : IsNetting (parts_of cell) (attachments_of cell) parts = netting_numbers (parts_of cell) (attachments_of cell) lists parts c.in_ok-lists.ensures numbers in
+    let count = parts_of cell in
+    let same : length lists ≡ count = c.in_ok-lists.ensures.counted in
+    let N : List (SmallVec ℕ) → Type 0 = λ ls. AreNeighbours (length ls) (attachments_of cell) ls → IsNetting (length ls) (attachments_of cell) parts in
+    let K : ℕ → Type 0 = λ n. AreNeighbours n (attachments_of cell) lists → IsNetting n (attachments_of cell) parts in
+    let ours : AreNeighbours (length lists) (attachments_of cell) lists → IsNetting (length lists) (attachments_of cell) parts =
+    subst N c.as_slice.ensures.value (c.in_ok-parts.ensures.netting (attachments_of cell)) in
+    let netting : IsNetting count (attachments_of cell) parts = subst K same ours c.in_ok-lists.ensures in
     let first : ℕ = c.len.result - length c.as_slice-4.result.now in
     let rest : first ≡ node_parts cell.nodes = (let n = netting.counted in let w : length c.as_slice-4.result.now ≡ length cell.wires = ap (λ (ws : List Wire). length ws) c.as_slice-4.ensures in let l = c.len.ensures in omega arith) in
     record {
       numbers = parts;
       netting = netting;
-      in_order = numbers.in_order;
+      in_order = c.in_ok-parts.ensures.numbers.in_order;
       nodes = c.from_vec.ensures ∙ c.in_ok-node.ensures
           ∙ ap (λ (ps : List ℕ). nets_of_nodes ps 0 c.as_slice-3.result.now) c.as_slice-2.ensures.value
           ∙ ap (nets_of_nodes parts 0) c.as_slice-3.ensures;

@@ -1,0 +1,43 @@
+-- Lists of neighbours that some links make, and the netting that their numbers are.
+use Rattle.std.proofs.Common.{◌≡◌, ℕ, ◌<◌, List, [], length, get_or, Contains, inl, inr, ◌∙◌, ap, subst, arith}
+use Rattle.std.proofs.lemmas.List.{get_or_past}
+use Rattle.std.proofs.lemmas.Bool.{cases_lt}
+use Rattle.smallvec.specs.SmallVec.{SmallVec}
+use Rattle.graph_search.specs.Netting.{Attached, IsNetting}
+use Rattle.graph_search.specs.Search.{no_neighbours, neighbours_of, IsBeside, AreMutual, AreNeighbours, AreNumbers}
+use Rattle.graph_search.proofs.Chains.{reaches_weaker, reaches_same}
+
+-- an empty list has nothing in it
+pub none_in_empty : (k : ℕ) (xs : List ℕ) → xs ≡ [] → Contains xs k → ⊥
+none_in_empty k xs e c = let P : List ℕ → Type 0 = λ ys. Contains ys k in let d : Contains [] k = subst P e c in (let lt = d.1 in omega arith)
+
+-- a part with a neighbour has a list
+pub beside_within : (lists : List (SmallVec ℕ)) (a b : ℕ) → IsBeside lists a b → a < length lists
+beside_within lists a b c = elim (cases_lt a (length lists)) [
+  | inl lt ↦ lt
+  | inr le ↦ absurd (none_in_empty b (neighbours_of lists a) (ap (λ (v : SmallVec ℕ). v.items) (get_or_past lists a no_neighbours le)) c)
+]
+
+-- links attach both ways
+pub attached_back : (links : List (ℕ × ℕ)) (a b : ℕ) → Attached links a b → Attached links b a
+attached_back links a b h = elim h [ inl c ↦ inr c | inr c ↦ inl c ]
+
+-- lists of neighbours tell of both sides
+pub mutual_neighbours : (count : ℕ) (links : List (ℕ × ℕ)) (lists : List (SmallVec ℕ)) → AreNeighbours count links lists → AreMutual lists
+mutual_neighbours count links lists h =
+    let back : (a b : ℕ) → IsBeside lists a b → IsBeside lists b a = λ a b c. h.beside b a (attached_back links a b (h.attached a b c)) in
+    record {
+      within = λ a b c. beside_within lists b a (back a b c);
+      back = back;
+    }
+
+-- numbers by neighbours are a netting by links
+pub netting_numbers : (count : ℕ) (links : List (ℕ × ℕ)) (lists : List (SmallVec ℕ)) (nets : List ℕ) → AreNeighbours count links lists → AreNumbers lists nets → IsNetting count links nets
+netting_numbers count links lists nets h n =
+    let c = h.counted in
+    record {
+      counted = n.counted ∙ h.counted;
+      joined = λ a b la lb e. reaches_weaker (IsBeside lists) (Attached links) h.attached a b (n.joined a b (omega arith) (omega arith) e);
+      same = λ a b la lb r. reaches_same (Attached links) (λ k. get_or nets k 0)
+          (λ x y s. (let beside : IsBeside lists x y = h.beside x y s in n.beside x y (beside_within lists x y beside) beside)) a b r;
+    }
