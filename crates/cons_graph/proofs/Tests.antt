@@ -1,5 +1,5 @@
 -- The tests of walks and cycles, as they go along a list.
-use Rattle.std.proofs.Common.{◌≡◌, ℕ, zero, suc, ◌+◌, ◌<◌, ◌≤◌, ◌+ℤ◌, Bool, true, eqb, ltb, ◌&&◌, List, [], ◌∷◌, ◌⊎◌, inl, inr, length, get_or, take, drop, refl, sym, ap, ◌∙◌, arith, eq-eqb}
+use Rattle.std.proofs.Common.{◌≡◌, ℕ, zero, suc, ◌+◌, ◌<◌, ◌≤◌, ◌+ℤ◌, Bool, true, eqb, ltb, ◌&&◌, List, [], ◌∷◌, ◌++◌, ◌⊎◌, inl, inr, length, get_or, take, drop, refl, sym, ap, ◌∙◌, arith, eq-eqb}
 use Rattle.std.specs.List.{All, Contains}
 use Rattle.std.proofs.lemmas.Int.{ints}
 use Rattle.std.proofs.lemmas.Bool.{cases_eq, and_parts, and_from, eqb-true, ltb-true, lt-ltb}
@@ -7,9 +7,8 @@ use Rattle.std.proofs.lemmas.List.{get_or_default, length-map, take_more, map-ap
 use Rattle.std.proofs.lemmas.List.Elements.{All-cons, All-head, All-tail, All-nil, All-from_get_or}
 use Rattle.cons_graph.specs.declared.edges.Edge.{Edge}
 use Rattle.cons_graph.specs.Walks.{walk_length}
-use Rattle.cons_graph.specs.Looks.{edge_at}
+use Rattle.cons_graph.specs.EdgeNumbers.{edge_at}
 use Rattle.cons_graph.specs.SimpleWalks.{edges_of, length_of, tails_of, WalksFromTo, HasNoRepeat}
-use Rattle.cons_graph.proofs.Walking.{walk_length-append}
 
 -- ---- whether edges lead from one variable to another
 
@@ -33,6 +32,10 @@ leads_by-from edges start (k ∷ ks) end w =
     (leads_by-from edges (edge_at edges k).to ks end (record { in_range = All-tail (λ j. j < length edges) k ks w.in_range; follows = w.follows.1 }))
 
 -- ---- the sum so far
+
+pub walk_length-append : (xs ys : List Edge) → walk_length (xs ++ ys) ≡ walk_length xs +ℤ walk_length ys
+walk_length-append [] ys = omega (arith, ints)
+walk_length-append (x ∷ xs) ys = let e = walk_length-append xs ys in omega (arith, ints, e)
 
 pub length_of-more : (edges : List Edge) (walk : List ℕ) (i : ℕ) → i < length walk → length_of edges (take (i + 1) walk) ≡ length_of edges (take i walk) +ℤ (edge_at edges (get_or walk i 0)).len
 length_of-more edges walk i lt =

@@ -1,11 +1,7 @@
 pub mod Constraints
 pub mod Solutions
 pub mod Walks
-pub mod Orders
-pub mod Looks
+pub mod EdgeNumbers
 pub mod Index
-pub mod Rounds
-pub mod Logs
-pub mod WalksBack
 pub mod SimpleWalks
 pub mod Lines

@@ -3,7 +3,7 @@ use Rattle.std.specs.Fmt.{signed_decimal}
 use Rattle.cons_graph.specs.declared.edges.Edge.{Edge}
 use Rattle.cons_graph.specs.declared.edges.Why.{Why}
 use Rattle.cons_graph.specs.declared.edges.Why.TheVariants.{Size, Extent, Overlap, Margin, Limit, Pitch, Port, Space}
-use Rattle.cons_graph.specs.Looks.{edge_at}
+use Rattle.cons_graph.specs.EdgeNumbers.{edge_at}
 
 -- the word of a reason
 abbrev pub word_of : Why → List ℕ

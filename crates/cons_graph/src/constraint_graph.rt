@@ -1,7 +1,7 @@
 ghost use Rattle.std.specs.Prelude.{◌≡◌, ◌↔◌, ℕ, ◌^◌, ◌<◌, ◌≤◌, ℤ, pos, neg_ℤ, ◌≤ℤ◌, length, All, IsTrue, IfOk, vec_len};
 ghost use Rattle.cons_graph.specs.Constraints.{Constraints, IsConstraintGraph, IsEdgeAmong};
 ghost use Rattle.cons_graph.specs.Solutions.{Meets, value_of};
-ghost use Rattle.cons_graph.specs.Looks.{leaving};
+ghost use Rattle.cons_graph.specs.EdgeNumbers.{leaving};
 ghost use Rattle.cons_graph.specs.SimpleWalks.{length_of, WalksFromTo, IsSimplePositiveCycle};
 
 use crate::edge_index::{EdgeIndex, index_of};

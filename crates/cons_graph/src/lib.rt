@@ -7,12 +7,10 @@ mod constraint_graph;
 mod edge_index;
 mod edges;
 mod lines;
-mod log;
 mod names;
 mod walks;
 
 pub use constraint_graph::{Graph, GraphFault, MAX_EDGES};
 pub use edges::{Edge, Why};
 pub use lines::edge_lines;
-pub use log::{Entry, Log};
 pub use names::Names;

@@ -1,19 +1,20 @@
 -- A walk read out of a log that the rounds leave when they end.
 use Rattle.std.proofs.Common.{◌≡◌, ℕ, ◌<◌, ◌≤◌, Bool, Some, List, [], ◌∷◌, ◌++◌, reverse, length, get_or, refl, sym, ap, subst, ◌∙◌, arith, append_assoc, append-nil}
-use Rattle.cons_graph.specs.declared.log.Entry.{Entry}
-use Rattle.cons_graph.specs.declared.log.Log.{Log}
+use Rattle.round_log.specs.declared.log.Entry.{Entry}
+use Rattle.round_log.specs.declared.log.Log.{Log}
 use Rattle.cons_graph.specs.Constraints.{Constraints, IsConstraintGraph}
 use Rattle.cons_graph.specs.SimpleWalks.{heads_of, length_of, HasNoRepeat, WalksFromTo}
-use Rattle.cons_graph.specs.Looks.{edge_at, label, latest, chain}
-use Rattle.cons_graph.specs.Logs.{raises_in, ComeFromOlder, IsEndedLog}
-use Rattle.cons_graph.specs.WalksBack.{walk_of}
-use Rattle.cons_graph.proofs.Raises.{latest_in_log}
-use Rattle.cons_graph.proofs.Chains.{chain-zero}
-use Rattle.cons_graph.proofs.Parts.{IsLog}
-use Rattle.cons_graph.proofs.Least.{edge_among, label_value, labelled}
-use Rattle.cons_graph.proofs.Ends.{back_of, numbers, walk_is, walk_no_repeat}
-use Rattle.cons_graph.proofs.Outcomes.{IsEnded, ended_from_rounds, ended_least}
-use Rattle.cons_graph.proofs.Entries.{array_of, IsChainStep, chain_step}
+use Rattle.cons_graph.specs.EdgeNumbers.{edge_at}
+use Rattle.round_log.specs.Looks.{label, latest, chain}
+use Rattle.round_log.specs.Logs.{raises_in, ComeFromOlder, IsEndedLog}
+use Rattle.round_log.specs.WalksBack.{walk_of}
+use Rattle.round_log.proofs.Raises.{latest_in_log}
+use Rattle.round_log.proofs.Chains.{chain-zero}
+use Rattle.round_log.proofs.Parts.{IsLog}
+use Rattle.round_log.proofs.Least.{edge_among, label_value, labelled}
+use Rattle.round_log.proofs.Ends.{back_of, numbers, walk_is, walk_no_repeat}
+use Rattle.round_log.proofs.Outcomes.{IsEnded, ended_from_rounds, ended_least}
+use Rattle.round_log.proofs.Entries.{array_of, IsChainStep, chain_step}
 
 ended : (g : Constraints) (log : Log) → IsConstraintGraph g → (h : IsEndedLog g log) → IsEnded g h.order (raises_in log)
 ended g log s h = ended_from_rounds g h.order s h.is_order.names h.rounds (raises_in log) h.ended

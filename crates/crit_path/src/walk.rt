@@ -1,11 +1,12 @@
 ghost use Rattle.std.specs.Prelude.{◌≡◌, ◌<◌, ◌≤◌, ◌∷◌, length, All, IfOk, Some};
-ghost use Rattle.cons_graph.specs.Looks.{label};
-ghost use Rattle.cons_graph.specs.Logs.{raises_in, IsEndedLog};
-ghost use Rattle.cons_graph.specs.WalksBack.{walk_of};
+ghost use Rattle.round_log.specs.Looks.{label};
+ghost use Rattle.round_log.specs.Logs.{raises_in, IsEndedLog};
+ghost use Rattle.round_log.specs.WalksBack.{walk_of};
 ghost use Rattle.cons_graph.specs.SimpleWalks.{heads_of, length_of, HasNoRepeat, WalksFromTo};
 ghost use Rattle.cons_graph.specs.Lines.{lines_of};
 
-use cons_graph::{Graph, Log, Names, edge_lines};
+use cons_graph::{Graph, Names, edge_lines};
+use round_log::Log;
 use std::alloc::{AllocError, Global};
 use stick_lex::Text;
 

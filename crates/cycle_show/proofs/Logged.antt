@@ -3,20 +3,21 @@ use Rattle.std.proofs.Common.{◌≡◌, ℕ, zero, suc, ◌-◌, ◌<◌, ◌�
 use Rattle.std.specs.List.{All}
 use Rattle.std.proofs.lemmas.List.{take-append-drop, length-drop}
 use Rattle.cons_graph.specs.declared.edges.Edge.{Edge}
-use Rattle.cons_graph.specs.declared.log.Entry.{Entry}
-use Rattle.cons_graph.specs.declared.log.Log.{Log}
+use Rattle.round_log.specs.declared.log.Entry.{Entry}
+use Rattle.round_log.specs.declared.log.Log.{Log}
 use Rattle.cons_graph.specs.Constraints.{Constraints, IsConstraintGraph}
-use Rattle.cons_graph.specs.Looks.{chain, edge_at, raise_of, latest}
-use Rattle.cons_graph.specs.Logs.{IsLogOfLooks, IsMadeByLooks, raises_in, up_to_entry, NewestComesBack, ComeFromOlder}
+use Rattle.round_log.specs.Looks.{chain, raise_of, latest}
+use Rattle.cons_graph.specs.EdgeNumbers.{edge_at}
+use Rattle.round_log.specs.Logs.{IsLogOfLooks, IsMadeByLooks, raises_in, up_to_entry, NewestComesBack, ComeFromOlder}
 use Rattle.cons_graph.specs.SimpleWalks.{IsSimplePositiveCycle}
-use Rattle.cons_graph.specs.WalksBack as back
-use Rattle.cons_graph.proofs.Raises.{IsRaise, IsJustified, raise_of-is, latest_in_log}
-use Rattle.cons_graph.proofs.Chains.{In, In-chain, chain-append, chain-newest, raise_linked, raise_rising}
-use Rattle.cons_graph.proofs.Ends.{map-map, In-map-back, numbers}
-use Rattle.cons_graph.proofs.Cycles.{IsLoop, loop_of_raise}
-use Rattle.cons_graph.proofs.Outcomes.{simple_from_loop, In-loop_back}
-use Rattle.cons_graph.proofs.Least.{edge_among}
-use Rattle.cons_graph.proofs.Planned.{In-at}
+use Rattle.round_log.specs.WalksBack as back
+use Rattle.round_log.proofs.Raises.{IsRaise, IsJustified, raise_of-is, latest_in_log}
+use Rattle.round_log.proofs.Chains.{In, In-chain, chain-append, chain-newest, raise_linked, raise_rising}
+use Rattle.round_log.proofs.Ends.{map-map, In-map-back, numbers}
+use Rattle.round_log.proofs.Cycles.{IsLoop, loop_of_raise}
+use Rattle.round_log.proofs.Outcomes.{simple_from_loop, In-loop_back}
+use Rattle.round_log.proofs.Least.{edge_among}
+use Rattle.round_log.proofs.Planned.{In-at}
 use Rattle.cycle_show.specs.Entries.{AreEntries}
 
 -- a raise of a log of looks, as a raise by its own edge

@@ -4,18 +4,18 @@ use Rattle.std.specs.List.{list_any, list_all}
 use Rattle.std.proofs.lemmas.Bool.{cases_eq, cases_order, cond-true, cond-false, ne_eqb, or_left, or_from, cases_Bool}
 use Rattle.std.proofs.lemmas.List.{length-reverse, reverse-reverse, drop-append-le, reverse-append, drop_at, get_or-set_same, get_or-set_other}
 use Rattle.cons_graph.specs.declared.edges.Edge.{Edge}
-use Rattle.cons_graph.specs.declared.log.Entry.{Entry}
-use Rattle.cons_graph.specs.Looks.{chain, latest}
+use Rattle.round_log.specs.declared.log.Entry.{Entry}
+use Rattle.round_log.specs.Looks.{chain, latest}
 use Rattle.cons_graph.specs.SimpleWalks.{tails_of}
-use Rattle.cons_graph.specs.WalksBack.{up_to, loop_back, least_place}
-use Rattle.cons_graph.proofs.Raises.{latest-same, latest-other, latest_in_log}
-use Rattle.cons_graph.proofs.Planned.{In-at}
-use Rattle.cons_graph.proofs.Cycles.{least_place_least, least_place_in_range, list_all-false}
-use Rattle.cons_graph.proofs.Walking.{reverse-cons}
+use Rattle.round_log.specs.WalksBack.{up_to, loop_back, least_place}
+use Rattle.round_log.proofs.Raises.{latest-same, latest-other, latest_in_log}
+use Rattle.round_log.proofs.Planned.{In-at}
+use Rattle.round_log.proofs.Cycles.{least_place_least, least_place_in_range, list_all-false}
+use Rattle.round_log.proofs.Walking.{reverse-cons}
 use Rattle.cons_graph.proofs.Tests.{length-tails}
-use Rattle.cons_graph.proofs.Entries.{IsChainStep, chain_step, entry_var}
+use Rattle.round_log.proofs.Entries.{IsChainStep, chain_step, entry_var}
 use Rattle.cycle_show.specs.Entries.{AreEntries}
-use Rattle.cons_graph.specs.Logs.{raises_of}
+use Rattle.round_log.specs.Logs.{raises_of}
 
 -- ---- the path: the raises met so far, whose latest one of each variable is marked
 

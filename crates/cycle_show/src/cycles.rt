@@ -1,11 +1,12 @@
 ghost use Rattle.std.specs.Prelude.{◌≡◌, ◌≤◌, length, IfOk};
-ghost use Rattle.cons_graph.specs.Logs.{IsLogOfLooks, raises_in, up_to_entry, NewestComesBack};
+ghost use Rattle.round_log.specs.Logs.{IsLogOfLooks, raises_in, up_to_entry, NewestComesBack};
 ghost use Rattle.cons_graph.specs.SimpleWalks.{IsSimplePositiveCycle};
-ghost use Rattle.cons_graph.specs.WalksBack as back;
+ghost use Rattle.round_log.specs.WalksBack as back;
 
 use crate::turning::turned;
 use crate::walking_back::loop_from;
-use cons_graph::{Graph, Log};
+use cons_graph::Graph;
+use round_log::Log;
 use std::alloc::{AllocError, Global};
 
 /// The cycle that an entry closes whose variable stands earlier in its chain: going back along the chain, the first

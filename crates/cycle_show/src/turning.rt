@@ -1,6 +1,6 @@
 ghost use Rattle.std.specs.Prelude.{◌≡◌, ◌<◌, ◌≤◌, length, All, IfOk};
 ghost use Rattle.cons_graph.specs.SimpleWalks.{tails_of};
-ghost use Rattle.cons_graph.specs.WalksBack.{turned, least_place};
+ghost use Rattle.round_log.specs.WalksBack.{turned, least_place};
 
 use cons_graph::Edge;
 use std::alloc::{AllocError, Global};

@@ -1,10 +1,10 @@
 ghost use Rattle.std.specs.Prelude.{◌≡◌, [], ◌≤◌, length, map, reverse, drop, IfOk};
-ghost use Rattle.cons_graph.specs.Looks.{chain};
-ghost use Rattle.cons_graph.specs.WalksBack.{loop_back};
+ghost use Rattle.round_log.specs.Looks.{chain};
+ghost use Rattle.round_log.specs.WalksBack.{loop_back};
 ghost use Rattle.cycle_show.specs.Entries.{AreEntries};
-ghost use Rattle.cons_graph.specs.Logs.{raises_of};
+ghost use Rattle.round_log.specs.Logs.{raises_of};
 
-use cons_graph::Entry;
+use round_log::Entry;
 use std::alloc::{AllocError, Global};
 
 // Goes back along the chain of an entry to the first variable that is met a second time, and gives the edges between,

@@ -3,11 +3,11 @@ use Rattle.std.proofs.Common.{◌≡◌, ℕ, ◌<◌, ◌≤◌, pos, true, eqb
 use Rattle.std.specs.List.{list_any}
 use Rattle.std.proofs.lemmas.Bool.{cases_eq, cond-true, cond-false, ne_eqb, eq-eqb, or_left}
 use Rattle.std.proofs.lemmas.List.{get_or_read}
-use Rattle.cons_graph.specs.declared.log.Entry.{Entry}
-use Rattle.cons_graph.specs.Looks.{label, latest, chain}
-use Rattle.cons_graph.specs.Logs.{origin_entry}
-use Rattle.cons_graph.proofs.Raises.{latest_in_log}
-use Rattle.cons_graph.proofs.Entries.{array_of, length-array, label_by_latest, label_without_latest, IsChainStep, chain_step}
+use Rattle.round_log.specs.declared.log.Entry.{Entry}
+use Rattle.round_log.specs.Looks.{label, latest, chain}
+use Rattle.round_log.specs.Logs.{origin_entry}
+use Rattle.round_log.proofs.Raises.{latest_in_log}
+use Rattle.round_log.proofs.Entries.{array_of, length-array, label_by_latest, label_without_latest, IsChainStep, chain_step}
 use Rattle.liao_wong.specs.Held.{AreArraysOf}
 
 -- ---- what reading the arrays gives

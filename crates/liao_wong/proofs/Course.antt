@@ -4,17 +4,18 @@ use Rattle.std.specs.List.{filter, range_with_len}
 use Rattle.std.proofs.lemmas.Bool.{cond-true, cond-false, cases_eq, cond_both, ne_eqb, true≢false}
 use Rattle.std.proofs.lemmas.List.{nil_from_length}
 use Rattle.cons_graph.specs.declared.edges.Edge.{Edge}
-use Rattle.cons_graph.specs.declared.log.Entry.{Entry}
+use Rattle.round_log.specs.declared.log.Entry.{Entry}
 use Rattle.cons_graph.specs.Constraints.{Constraints, IsConstraintGraph}
-use Rattle.cons_graph.specs.Orders.{NamesEachOnce}
-use Rattle.cons_graph.specs.Looks.{edge_at, place_in, is_forward, backward_numbers}
-use Rattle.cons_graph.specs.Rounds.{Progress, Plan, plan_of, forward_part, round, one_more, after_rounds, IsQuietAfter, EndsInRound}
-use Rattle.cons_graph.proofs.Chains.{In}
-use Rattle.cons_graph.proofs.Members.{IsDistinct, length-range}
-use Rattle.cons_graph.proofs.Parts.{Keeps}
-use Rattle.cons_graph.proofs.RoundSteps.{going_start, forward_next, round_gives, RoundGives, IsRoundOn, busy_bound}
-use Rattle.cons_graph.proofs.Planned.{planned, In-at, place_of_In, In-from_contains, IsDistinct-from_pairs}
-use Rattle.cons_graph.proofs.Ends.{GoingOf, back_of}
+use Rattle.round_log.specs.Orders.{NamesEachOnce}
+use Rattle.cons_graph.specs.EdgeNumbers.{edge_at}
+use Rattle.round_log.specs.Looks.{place_in, is_forward, backward_numbers}
+use Rattle.round_log.specs.Rounds.{Progress, Plan, plan_of, forward_part, round, one_more, after_rounds, IsQuietAfter, EndsInRound}
+use Rattle.round_log.proofs.Chains.{In}
+use Rattle.round_log.proofs.Members.{IsDistinct, length-range}
+use Rattle.round_log.proofs.Parts.{Keeps}
+use Rattle.round_log.proofs.RoundSteps.{going_start, forward_next, round_gives, RoundGives, IsRoundOn, busy_bound}
+use Rattle.round_log.proofs.Planned.{planned, In-at, place_of_In, In-from_contains, IsDistinct-from_pairs}
+use Rattle.round_log.proofs.Ends.{GoingOf, back_of}
 use Rattle.liao_wong.specs.Held.{Held, ArePlaces}
 use Rattle.liao_wong.specs.Going.{IsReady}
 use Rattle.liao_wong.specs.Running.{StartsEmpty, IsStoppedLog, HasCome}

@@ -15,9 +15,9 @@ use Rattle.std.proofs.lemmas.List.MinMax.{ranks_by}
 use Rattle.std.proofs.lemmas.List.Sorted.{sorted_far, All-permutation, Contains-permutation}
 use Rattle.std.proofs.lemmas.Map.Keys.{IsDistinct-IsPermutation}
 use Rattle.std.proofs.lemmas.Map.Made.{AllPairs-from_IsDistinct, IsDistinct-from_AllPairs}
-use Rattle.cons_graph.specs.Orders.{NamesEachOnce, IsOrder}
+use Rattle.round_log.specs.Orders.{NamesEachOnce, IsOrder}
 use Rattle.cons_graph.specs.Solutions.{value_of}
-use Rattle.cons_graph.proofs.Outcomes.{every_variable}
+use Rattle.round_log.proofs.Outcomes.{every_variable}
 use Rattle.liao_wong.proofs.Outputs.{range_more}
 use Rattle.liao_wong.specs.Sorted.{Precedes, IsInOrderOf}
 

@@ -4,21 +4,22 @@ use Rattle.std.specs.List.{filter, range_with_len}
 use Rattle.std.proofs.lemmas.Bool.{cond-true, cond-false, not_from_true, not_from_false}
 use Rattle.std.proofs.lemmas.List.Elements.{filter-append, All-from_get_or}
 use Rattle.cons_graph.specs.declared.edges.Edge.{Edge}
-use Rattle.cons_graph.specs.declared.log.Entry.{Entry}
-use Rattle.cons_graph.specs.declared.log.Log.{Log}
+use Rattle.round_log.specs.declared.log.Entry.{Entry}
+use Rattle.round_log.specs.declared.log.Log.{Log}
 use Rattle.cons_graph.specs.Constraints.{Constraints, IsConstraintGraph}
-use Rattle.cons_graph.specs.Logs.{HoldsRaises, IsMadeByLooks, IsLogOfLooks, raises_in}
-use Rattle.cons_graph.specs.Looks.{label, edge_at, is_forward}
-use Rattle.cons_graph.specs.Orders.{NamesEachOnce}
-use Rattle.cons_graph.specs.Rounds.{plan_of, EndsInRound}
+use Rattle.round_log.specs.Logs.{HoldsRaises, IsMadeByLooks, IsLogOfLooks, raises_in}
+use Rattle.round_log.specs.Looks.{label, is_forward}
+use Rattle.cons_graph.specs.EdgeNumbers.{edge_at}
+use Rattle.round_log.specs.Orders.{NamesEachOnce}
+use Rattle.round_log.specs.Rounds.{plan_of, EndsInRound}
 use Rattle.cons_graph.specs.Solutions.{value_of}
-use Rattle.cons_graph.proofs.Raises.{raise_of-from}
-use Rattle.cons_graph.proofs.Members.{length_of_distinct, length-range, In-range}
-use Rattle.cons_graph.proofs.Parts.{IsLog, IsStopAt}
-use Rattle.cons_graph.proofs.Least.{labelled, label_value, label_value-is, least_same}
-use Rattle.cons_graph.proofs.Planned.{In-from_contains, IsDistinct-from_pairs}
-use Rattle.cons_graph.proofs.Ends.{back_of, order_length, label_small}
-use Rattle.cons_graph.proofs.Outcomes.{IsEnded, ended_from_rounds, ended_least, every_variable}
+use Rattle.round_log.proofs.Raises.{raise_of-from}
+use Rattle.round_log.proofs.Members.{length_of_distinct, length-range, In-range}
+use Rattle.round_log.proofs.Parts.{IsLog, IsStopAt}
+use Rattle.round_log.proofs.Least.{labelled, label_value, label_value-is, least_same}
+use Rattle.round_log.proofs.Planned.{In-from_contains, IsDistinct-from_pairs}
+use Rattle.round_log.proofs.Ends.{back_of, order_length, label_small}
+use Rattle.round_log.proofs.Outcomes.{IsEnded, ended_from_rounds, ended_least, every_variable}
 use Rattle.liao_wong.proofs.Course.{filter_le}
 use Rattle.liao_wong.specs.declared.solving.Unsolved.{Unsolved}
 use Rattle.liao_wong.specs.declared.solving.Unsolved.TheVariants.{Cycle, OutOfMemory}

@@ -4,16 +4,17 @@ use Rattle.std.specs.List.{range_with_len, flat_map, All}
 use Rattle.std.proofs.lemmas.Bool.{cond-true, cond-false, not_from_true, not_from_false, true≢false}
 use Rattle.std.proofs.lemmas.List.{drop_more}
 use Rattle.cons_graph.specs.declared.edges.Edge.{Edge}
-use Rattle.cons_graph.specs.declared.log.Entry.{Entry}
+use Rattle.round_log.specs.declared.log.Entry.{Entry}
 use Rattle.cons_graph.specs.Constraints.{Constraints}
-use Rattle.cons_graph.specs.Looks.{edge_at, look, raise_of, with_raise, comes_back, is_forward, leaving}
-use Rattle.cons_graph.specs.Rounds.{Progress, after_look, backward_part}
-use Rattle.cons_graph.proofs.Chains.{In}
-use Rattle.cons_graph.proofs.Members.{In-filter, In-range}
-use Rattle.cons_graph.proofs.Parts.{IsForwardEdge, IsBackwardEdge, Keeps, forward_keeps, BackwardGives, backward_gives}
-use Rattle.cons_graph.proofs.Least.{edge_among}
-use Rattle.cons_graph.proofs.Planned.{In-at, place_of_In}
-use Rattle.cons_graph.proofs.Ends.{LogOf, back_of, label_small}
+use Rattle.cons_graph.specs.EdgeNumbers.{edge_at, leaving}
+use Rattle.round_log.specs.Looks.{look, raise_of, with_raise, comes_back, is_forward}
+use Rattle.round_log.specs.Rounds.{Progress, after_look, backward_part}
+use Rattle.round_log.proofs.Chains.{In}
+use Rattle.round_log.proofs.Members.{In-filter, In-range}
+use Rattle.round_log.proofs.Parts.{IsForwardEdge, IsBackwardEdge, Keeps, forward_keeps, BackwardGives, backward_gives}
+use Rattle.round_log.proofs.Least.{edge_among}
+use Rattle.round_log.proofs.Planned.{In-at, place_of_In}
+use Rattle.round_log.proofs.Ends.{LogOf, back_of, label_small}
 use Rattle.liao_wong.specs.Held.{Held, HasSmallLabels, ArePlaces}
 use Rattle.liao_wong.specs.Going.{IsReady, forward_of, backward_of}
 

@@ -1,8 +1,8 @@
 use Rattle.std.specs.Prelude.{◌≡◌, ℕ, ◌^◌, ℤ, pos, neg_ℤ, ◌≤ℤ◌, List}
 use Rattle.cons_graph.specs.declared.edges.Edge.{Edge}
-use Rattle.cons_graph.specs.declared.log.Entry.{Entry}
-use Rattle.cons_graph.specs.Rounds.{plan_of, Stops}
-use Rattle.cons_graph.specs.WalksBack.{cycle_of}
+use Rattle.round_log.specs.declared.log.Entry.{Entry}
+use Rattle.round_log.specs.Rounds.{plan_of, Stops}
+use Rattle.round_log.specs.WalksBack.{cycle_of}
 use Rattle.liao_wong.specs.declared.solving.Unsolved.{Unsolved}
 use Rattle.liao_wong.specs.declared.solving.Unsolved.TheVariants.{Cycle, OutOfMemory}
 

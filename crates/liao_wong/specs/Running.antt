@@ -1,14 +1,15 @@
 use Rattle.std.specs.Prelude.{◌≡◌, ℕ, ◌<◌, ◌≤◌, false, ℤ, Some, List, [], length, All}
-use Rattle.cons_graph.specs.declared.log.Entry.{Entry}
+use Rattle.round_log.specs.declared.log.Entry.{Entry}
 use Rattle.cons_graph.specs.Constraints.{Constraints, IsConstraintGraph}
-use Rattle.cons_graph.specs.declared.log.Log.{Log}
-use Rattle.cons_graph.specs.Logs.{HoldsRaises, raises_in}
-use Rattle.cons_graph.specs.Orders.{NamesEachOnce}
+use Rattle.round_log.specs.declared.log.Log.{Log}
+use Rattle.round_log.specs.Logs.{HoldsRaises, raises_in}
+use Rattle.round_log.specs.Orders.{NamesEachOnce}
 use Rattle.cons_graph.specs.Solutions.{IsLeastSolution, value_of}
-use Rattle.cons_graph.specs.Rounds.{plan_of, after_rounds, IsQuietAfter, Stops, EndsInRound}
-use Rattle.cons_graph.specs.Looks.{label, edge_at, backward_numbers}
-use Rattle.cons_graph.proofs.Parts.{IsStopAt}
-use Rattle.cons_graph.proofs.Ends.{GoingOf, back_of}
+use Rattle.round_log.specs.Rounds.{plan_of, after_rounds, IsQuietAfter, Stops, EndsInRound}
+use Rattle.round_log.specs.Looks.{label, backward_numbers}
+use Rattle.cons_graph.specs.EdgeNumbers.{edge_at}
+use Rattle.round_log.proofs.Parts.{IsStopAt}
+use Rattle.round_log.proofs.Ends.{GoingOf, back_of}
 use Rattle.liao_wong.specs.Held.{Held}
 use Rattle.liao_wong.specs.Answers.{IsWithinLimit}
 

@@ -1,10 +1,12 @@
 ghost use Rattle.std.specs.Prelude.{◌≡◌, ℕ, ◌^◌, ◌<◌, ◌≤◌, ℤ, pos, neg_ℤ, ◌≤ℤ◌, length, All, IfSome, List};
 ghost use Rattle.cons_graph.specs.Constraints.{IsEdgeAmong};
-ghost use Rattle.cons_graph.specs.Looks.{raise_by, raise_of, edge_at, is_forward};
+ghost use Rattle.round_log.specs.Looks.{raise_by, raise_of, is_forward};
+ghost use Rattle.cons_graph.specs.EdgeNumbers.{edge_at};
 ghost use Rattle.liao_wong.specs.Held.{HasSmallLabels, IsPushable, ArePlaces};
 
 use crate::raises::Raises;
-use cons_graph::{Edge, Entry};
+use cons_graph::Edge;
+use round_log::Entry;
 
 // The raise that a look at an edge makes, if it makes one.
 pub fn raise_at(raises: &Raises, edges: &[Edge], number: u32) -> Option<Entry>

@@ -1,9 +1,9 @@
 ghost use Rattle.std.specs.Prelude.{◌≡◌, ℕ, ◌^◌, ◌<◌, ◌≤◌, pos, [], ◌∷◌, length, unwrap_or, IfOk, OnOk, OnErr, slice_index_or};
-ghost use Rattle.cons_graph.specs.Looks.{label, latest, comes_back};
-ghost use Rattle.cons_graph.specs.Logs.{HoldsRaises, raises_in};
+ghost use Rattle.round_log.specs.Looks.{label, latest, comes_back};
+ghost use Rattle.round_log.specs.Logs.{HoldsRaises, raises_in};
 
-use cons_graph::{Entry, Log};
 use lam_list::Seq;
+use round_log::{Entry, Log};
 use std::alloc::{AllocError, Global};
 use std::marker::Model;
 
@@ -18,7 +18,7 @@ pub struct Raises {
 impl Model for Raises {
     ghost use Rattle.std.specs.Prelude.{length};
     ghost use Rattle.liao_wong.specs.Held.{Held, AreArraysOf};
-    ghost use Rattle.cons_graph.specs.Logs.{raises_of};
+    ghost use Rattle.round_log.specs.Logs.{raises_of};
 
     ghost Value = { Held };
 

@@ -1,6 +1,7 @@
 ghost use Rattle.std.specs.Prelude.{◌≡◌, ◌<◌, length, fold, All, IfOk, OnOk};
-ghost use Rattle.cons_graph.specs.Looks.{look, edge_at, backward_numbers};
-ghost use Rattle.cons_graph.specs.Rounds.{plan_of, forward_part, backward_part};
+ghost use Rattle.round_log.specs.Looks.{look, backward_numbers};
+ghost use Rattle.cons_graph.specs.EdgeNumbers.{edge_at};
+ghost use Rattle.round_log.specs.Rounds.{plan_of, forward_part, backward_part};
 ghost use Rattle.liao_wong.specs.Going.{IsReady, forward_of};
 
 use crate::looks::{goes_up, raise_at};

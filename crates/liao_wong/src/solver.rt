@@ -1,7 +1,7 @@
 ghost use Rattle.std.specs.Prelude.{◌≡◌, ◌+◌, ◌^◌, ◌<◌, ◌≤◌, length, All, IfOk, IfSome, IfNone};
-ghost use Rattle.cons_graph.specs.Orders.{NamesEachOnce};
-ghost use Rattle.cons_graph.specs.Looks.{backward_numbers};
-ghost use Rattle.cons_graph.specs.Rounds.{plan_of, EndsInRound};
+ghost use Rattle.round_log.specs.Orders.{NamesEachOnce};
+ghost use Rattle.round_log.specs.Looks.{backward_numbers};
+ghost use Rattle.round_log.specs.Rounds.{plan_of, EndsInRound};
 ghost use Rattle.liao_wong.specs.Held.{ArePlaces};
 ghost use Rattle.liao_wong.specs.Running.{IsStoppedLog, StartsEmpty};
 

@@ -1,8 +1,8 @@
 ghost use Rattle.std.specs.Prelude.{◌≡◌, ℕ, ◌+◌, ◌<◌, ◌≤◌, length, All, Some, IfOk, IfErr};
-ghost use Rattle.cons_graph.specs.Looks.{label, backward_numbers};
-ghost use Rattle.cons_graph.specs.Logs.{HoldsRaises, raises_in};
-ghost use Rattle.cons_graph.specs.Orders.{IsOrder};
-ghost use Rattle.cons_graph.specs.Rounds.{plan_of, EndsInRound};
+ghost use Rattle.round_log.specs.Looks.{label, backward_numbers};
+ghost use Rattle.round_log.specs.Logs.{HoldsRaises, raises_in};
+ghost use Rattle.round_log.specs.Orders.{IsOrder};
+ghost use Rattle.round_log.specs.Rounds.{plan_of, EndsInRound};
 ghost use Rattle.cons_graph.specs.SimpleWalks.{IsSimplePositiveCycle};
 ghost use Rattle.cons_graph.specs.Solutions.{IsLeastSolution, value_of};
 ghost use Rattle.cons_graph.specs.Walks.{HasPositiveCycle};
@@ -12,9 +12,10 @@ ghost use Rattle.liao_wong.specs.Running.{IsEndedHeld, IsStoppedLog, IsReadOut};
 use crate::raises::Raises;
 use crate::rounds::Order;
 use crate::solver::{backward_count, places_of, run_rounds};
-use cons_graph::{Graph, Log};
+use cons_graph::Graph;
 use cycle_show::cycle_of;
 use lam_list::Seq;
+use round_log::Log;
 use std::alloc::{AllocError, Global};
 
 /// What the rounds leave when they end without a cycle.

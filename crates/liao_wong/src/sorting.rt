@@ -1,5 +1,5 @@
 ghost use Rattle.std.specs.Prelude.{◌≡◌, ◌^◌, ◌<◌, length, IfOk};
-ghost use Rattle.cons_graph.specs.Orders.{NamesEachOnce};
+ghost use Rattle.round_log.specs.Orders.{NamesEachOnce};
 ghost use Rattle.cons_graph.specs.Solutions.{value_of};
 ghost use Rattle.liao_wong.specs.Sorted.{IsInOrderOf};
 

@@ -6,8 +6,8 @@ use Rattle.cons_graph.specs.declared.edges.Edge.{Edge}
 use Rattle.cons_graph.specs.Constraints.{IsConstraintGraph}
 use Rattle.cons_graph.specs.Solutions.{IsSolution}
 use Rattle.cons_graph.specs.Walks.{HasPositiveCycle}
-use Rattle.cons_graph.proofs.Least.{positive_cycle_excludes}
-use Rattle.cons_graph.proofs.Outcomes.{solution_or_cycle}
+use Rattle.round_log.proofs.Least.{positive_cycle_excludes}
+use Rattle.round_log.proofs.Outcomes.{solution_or_cycle}
 use Rattle.sym_items.specs.declared.items.Items.{Items}
 use Rattle.sym_items.specs.declared.items.Coords.{Coords}
 use Rattle.cell_model.specs.declared.cell.Cell.{Cell}

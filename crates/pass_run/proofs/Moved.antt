@@ -9,7 +9,7 @@ use Rattle.lam_geom.specs.declared.boxes.Axis.TheVariants.{X, Y}
 use Rattle.rule_table.specs.declared.technology.Tech.{Tech}
 use Rattle.cons_graph.specs.Solutions.{Meets, IsSolution, value_of}
 use Rattle.cons_graph.specs.Walks.{HasPositiveCycle}
-use Rattle.cons_graph.proofs.Least.{positive_cycle_excludes}
+use Rattle.round_log.proofs.Least.{positive_cycle_excludes}
 use Rattle.liao_wong.specs.Answers.{IsWithinLimit}
 use Rattle.sym_items.specs.declared.items.End.{End}
 use Rattle.sym_items.specs.declared.items.Item.{Item}

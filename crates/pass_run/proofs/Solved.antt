@@ -7,10 +7,11 @@ use Rattle.lam_geom.specs.declared.boxes.Axis.{Axis}
 use Rattle.rule_table.specs.declared.technology.Tech.{Tech}
 use Rattle.cons_graph.specs.declared.edges.Edge.{Edge}
 use Rattle.cons_graph.specs.Constraints.{Constraints, IsConstraintGraph}
-use Rattle.cons_graph.specs.Logs.{raises_in}
-use Rattle.cons_graph.specs.Looks.{label, backward_numbers, edge_at}
-use Rattle.cons_graph.specs.Orders.{NamesEachOnce, IsOrder}
-use Rattle.cons_graph.specs.Rounds.{plan_of, EndsInRound}
+use Rattle.round_log.specs.Logs.{raises_in}
+use Rattle.round_log.specs.Looks.{label, backward_numbers}
+use Rattle.cons_graph.specs.EdgeNumbers.{edge_at}
+use Rattle.round_log.specs.Orders.{NamesEachOnce, IsOrder}
+use Rattle.round_log.specs.Rounds.{plan_of, EndsInRound}
 use Rattle.cons_graph.specs.SimpleWalks.{edges_of, IsSimplePositiveCycle}
 use Rattle.cons_graph.specs.Solutions.{IsLeastSolution, value_of}
 use Rattle.cons_graph.specs.Walks.{HasPositiveCycle}

@@ -2,11 +2,11 @@
 use Rattle.std.specs.Prelude.{◌≡◌, ℕ, Some, List, [], ◌∷◌, length}
 use Rattle.lam_geom.specs.declared.boxes.Axis.{Axis}
 use Rattle.cons_graph.specs.declared.edges.Edge.{Edge}
-use Rattle.cons_graph.specs.declared.log.Log.{Log}
-use Rattle.cons_graph.specs.Logs.{raises_in}
-use Rattle.cons_graph.specs.Looks.{label}
+use Rattle.round_log.specs.declared.log.Log.{Log}
+use Rattle.round_log.specs.Logs.{raises_in}
+use Rattle.round_log.specs.Looks.{label}
 use Rattle.cons_graph.specs.SimpleWalks.{heads_of, length_of, HasNoRepeat, WalksFromTo}
-use Rattle.cons_graph.specs.WalksBack.{walk_of}
+use Rattle.round_log.specs.WalksBack.{walk_of}
 use Rattle.liao_wong.specs.declared.solving.Solved.{Solved}
 use Rattle.pass_run.specs.declared.edges.Listed.{Listed}
 use Rattle.pass_run.specs.declared.edges.ListFault.{ListFault}

@@ -2,7 +2,7 @@
 use Rattle.std.specs.Prelude.{◌≡◌, ℕ, suc, ◌<◌, ◌≤◌, All, Contains, List, ◌∷◌, ◌++◌, length}
 use Rattle.lam_geom.specs.declared.boxes.Axis.{Axis}
 use Rattle.rule_table.specs.declared.technology.Tech.{Tech}
-use Rattle.cons_graph.specs.Orders.{NamesEachOnce}
+use Rattle.round_log.specs.Orders.{NamesEachOnce}
 use Rattle.cons_graph.specs.SimpleWalks.{edges_of, IsSimplePositiveCycle}
 use Rattle.cons_graph.specs.Solutions.{value_of}
 use Rattle.cons_graph.specs.Walks.{HasPositiveCycle}

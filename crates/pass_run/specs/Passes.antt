@@ -2,12 +2,12 @@
 use Rattle.std.specs.Prelude.{◌≡◌, ℕ, ◌≤◌, ℤ, List, [], ◌∷◌, length, fold}
 use Rattle.lam_geom.specs.declared.boxes.Axis.{Axis}
 use Rattle.rule_table.specs.declared.technology.Tech.{Tech}
-use Rattle.cons_graph.specs.declared.log.Entry.{Entry}
-use Rattle.cons_graph.specs.Looks.{backward_numbers}
-use Rattle.cons_graph.specs.Orders.{NamesEachOnce}
-use Rattle.cons_graph.specs.Rounds.{plan_of, EndsInRound}
+use Rattle.round_log.specs.declared.log.Entry.{Entry}
+use Rattle.round_log.specs.Looks.{backward_numbers}
+use Rattle.round_log.specs.Orders.{NamesEachOnce}
+use Rattle.round_log.specs.Rounds.{plan_of, EndsInRound}
 use Rattle.cons_graph.specs.Solutions.{IsLeastSolution, value_of}
-use Rattle.cons_graph.specs.WalksBack.{walk_of}
+use Rattle.round_log.specs.WalksBack.{walk_of}
 use Rattle.liao_wong.specs.Sorted.{IsInOrderOf}
 use Rattle.sym_items.specs.declared.items.Item.{Item}
 use Rattle.sym_items.specs.declared.items.Coords.{Coords}

@@ -6,11 +6,11 @@ ghost use Rattle.cell_model.specs.declared.cell.Node.{Node};
 ghost use Rattle.cell_model.specs.Sound.{IsLight};
 ghost use Rattle.pass_run.specs.Names.{within_cell, cross_name_along, cross_name, names_of};
 
+use cell_model::{Axis2, Cell};
 use cons_graph::Names;
 use expand::crossing;
 use lam_geom::Axis;
 use std::alloc::{AllocError, Global};
-use cell_model::{Axis2, Cell};
 
 // Adds the name of the far border.
 fn push_border(names: &mut Names, alloc: Global, cell: &Cell) -> Result<(), AllocError>

@@ -2,8 +2,8 @@
 
 ghost use Rattle.std.specs.Prelude.{◌≡◌, ◌<◌, ◌≤◌, ◌^◌, ◌∷◌, [], List, length, IfOk, IfErr};
 ghost use Rattle.lam_geom.specs.declared.boxes.Axis.{Axis as SomeAxis};
-ghost use Rattle.cons_graph.specs.Logs.{IsEndedLog};
-ghost use Rattle.cons_graph.specs.Orders.{NamesEachOnce};
+ghost use Rattle.round_log.specs.Logs.{IsEndedLog};
+ghost use Rattle.round_log.specs.Orders.{NamesEachOnce};
 ghost use Rattle.cons_graph.specs.Solutions.{value_of};
 ghost use Rattle.liao_wong.specs.Sorted.{IsInOrderOf};
 ghost use Rattle.cell_model.specs.Sound.{IsSound, IsLight};
@@ -21,6 +21,7 @@ ghost use Rattle.pass_run.specs.OneStep.{step_of, HasPath, stop_of};
 use crate::edges::{ListFault, Listed, list};
 use crate::step::{Step, Walk};
 use crate::text::{cycle_text, pass_text};
+use cell_model::Cell;
 use crit_path::walk_to;
 use expand::Master;
 use lam_geom::Axis;
@@ -28,7 +29,6 @@ use lam_list::Seq;
 use liao_wong::{Solved, Unsolved, solve, sort_order};
 use rule_table::Tech;
 use std::alloc::{AllocError, Global};
-use cell_model::Cell;
 use sym_items::Coords;
 
 /// A pass that was made, and its text in the report.

@@ -7,6 +7,7 @@ ghost use Rattle.pair_rules.specs.Clean.{IsClean};
 ghost use Rattle.coarse_grid.specs.Start.{start_of};
 
 use crate::{PassFault, Passes, run_passes};
+use cell_model::{Cell, nets, resolve};
 use coarse_grid::{find_clash, start, start_gives_boxes};
 use expand::{Master, items_of};
 use lam_geom::Axis;
@@ -16,7 +17,6 @@ use shadow_prune::{KeptFault, kept};
 use std::alloc::Global;
 use std::process::Abort;
 use std::test::Fail;
-use cell_model::{Cell, nets, resolve};
 use stick_parse::parse;
 use sym_items::{Coords, Item};
 

@@ -10,12 +10,12 @@ ghost use Rattle.pass_run.specs.Report.{letter, pass_head, count_line, size_line
 
 use crate::names::names;
 use crate::step::Step;
+use cell_model::Cell;
 use cons_graph::Graph;
 use crit_path::walk_lines;
 use cycle_show::cycle_lines;
 use lam_geom::Axis;
 use std::alloc::{AllocError, Global};
-use cell_model::Cell;
 
 // Adds a word and the number that comes after it.
 fn push_count(text: &mut Vec<u8>, alloc: Global, word: &[u8], count: u32) -> Result<(), AllocError>

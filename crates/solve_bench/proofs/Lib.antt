@@ -1,2 +1,3 @@
+pub mod TypedIn
 pub mod Reaching
 pub mod WorkedGraphs

@@ -8,8 +8,8 @@ use Rattle.std.proofs.lemmas.List.Elements.{All-nil, All-cons, All-append}
 use Rattle.std.proofs.lemmas.List.Quantifiers.{Any-push}
 use Rattle.cons_graph.specs.declared.edges.Edge.{Edge}
 use Rattle.cons_graph.specs.Constraints.{IsConstraintGraph, IsEdgeAmong, LeadsFromOrigin}
-use Rattle.cons_graph.specs.Orders.{IsOrder}
-use Rattle.cons_graph.proofs.Outcomes.{every_variable}
+use Rattle.round_log.specs.Orders.{IsOrder}
+use Rattle.round_log.proofs.Outcomes.{every_variable}
 
 any_left : {X : Type 0} (P : X → Type 0) (xs ys : List X) → Any P xs → Any P (xs ++ ys)
 any_left P xs ys h = (h.0, h.1, omega (arith, h.2, length-append xs ys), get_or_append_left xs ys h.1 h.0 h.2 ∙ h.3, h.4)

@@ -1,8 +1,8 @@
 -- The tests' graphs are constraint graphs, and their orders name each variable once.
 use Rattle.std.proofs.Common.{◌≡◌, ℕ, ℤ, pos, neg_ℤ, [], ◌∷◌, refl, sym, ap, subst}
 use Rattle.cons_graph.specs.Constraints.{Constraints, IsConstraintGraph}
-use Rattle.cons_graph.specs.Orders.{IsOrder}
-use Rattle.cons_graph.proofs.TypedIn.{graph_typed, order_typed}
+use Rattle.round_log.specs.Orders.{IsOrder}
+use Rattle.solve_bench.proofs.TypedIn.{graph_typed, order_typed}
 use Rattle.solve_bench.specs.Worked.{pair_graph, row_graph}
 
 pub wide_is_graph : IsConstraintGraph (pair_graph (neg_ℤ (pos 12)))

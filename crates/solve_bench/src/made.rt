@@ -1,6 +1,6 @@
 ghost use Rattle.std.specs.Prelude.{◌≡◌, ◌+◌, ◌<◌, ◌≤◌, IfOk, OnOk};
 ghost use Rattle.cons_graph.specs.Constraints.{IsConstraintGraph, IsEdgeAmong};
-ghost use Rattle.cons_graph.specs.Orders.{IsOrder};
+ghost use Rattle.round_log.specs.Orders.{IsOrder};
 
 use crate::size::Size;
 use cons_graph::{Edge, Graph, GraphFault, Why};

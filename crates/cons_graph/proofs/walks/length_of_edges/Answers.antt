@@ -1,7 +1,7 @@
 use Rattle.std.proofs.Common.{◌≡◌, ℕ, ◌+◌, ◌*◌, ◌<◌, ◌≤◌, w64, to_z, of_z, ℤ, pos, neg_ℤ, ◌+ℤ◌, ◌≤ℤ◌, ◌^◌, length, get_or, sym, ap, subst, ◌∙◌, arith}
 use Rattle.std.proofs.lemmas.Int.{ints}
 use Rattle.cons_graph.specs.Constraints.{IsShort}
-use Rattle.cons_graph.specs.Looks.{edge_at}
+use Rattle.cons_graph.specs.EdgeNumbers.{edge_at}
 use Rattle.cons_graph.specs.declared.edges.Why.TheVariants.{Size}
 use Rattle.cons_graph.proofs.Tests.{length_of-more}
 use Rattle.cons_graph.proofs.walks.length_of_edges.Goals as goal

@@ -1,9 +1,9 @@
 use Rattle.std.proofs.Common.{◌≡◌, ℕ, ◌<◌, List, ◌++◌, slice_index_or, get_or, sym, ap, subst, ◌∙◌, arith}
-use Rattle.cons_graph.specs.declared.log.Entry.{Entry}
-use Rattle.cons_graph.specs.Looks.{latest, chain}
-use Rattle.cons_graph.specs.Logs.{raises_in, origin_entry}
-use Rattle.cons_graph.proofs.Raises.{latest_in_log}
-use Rattle.cons_graph.proofs.Ends.{numbers}
+use Rattle.round_log.specs.declared.log.Entry.{Entry}
+use Rattle.round_log.specs.Looks.{latest, chain}
+use Rattle.round_log.specs.Logs.{raises_in, origin_entry}
+use Rattle.round_log.proofs.Raises.{latest_in_log}
+use Rattle.round_log.proofs.Ends.{numbers}
 use Rattle.crit_path.proofs.Walks.{IsNextBack, next_back, IsCriticalWalk, back_at_origin}
 use Rattle.crit_path.proofs.walk.walk_to.Goals as goal
 

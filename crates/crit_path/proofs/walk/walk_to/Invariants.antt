@@ -1,7 +1,7 @@
 use Rattle.std.proofs.Common.{◌≡◌, ◌≤◌, ◌++◌, length}
-use Rattle.cons_graph.specs.Looks.{chain, latest}
-use Rattle.cons_graph.specs.Logs.{raises_in}
-use Rattle.cons_graph.proofs.Ends.{numbers}
+use Rattle.round_log.specs.Looks.{chain, latest}
+use Rattle.round_log.specs.Logs.{raises_in}
+use Rattle.round_log.proofs.Ends.{numbers}
 use Rattle.crit_path.proofs.walk.walk_to.Given as goal
 
 abbrev pub invariant-loop-n : goal.invariant-loop-n

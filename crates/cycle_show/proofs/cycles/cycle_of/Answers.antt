@@ -2,13 +2,13 @@ use Rattle.std.proofs.Common.{Vec, Global, Result, Ok, Err, ◌≡◌, ℕ, ◌<
 use Rattle.std.specs.List.{All}
 use Rattle.std.specs.Result.{IfOk}
 use Rattle.cons_graph.specs.declared.edges.Edge.{Edge}
-use Rattle.cons_graph.specs.declared.log.Entry.{Entry}
-use Rattle.cons_graph.specs.Looks.{chain}
-use Rattle.cons_graph.specs.Logs.{raises_in, up_to_entry}
+use Rattle.round_log.specs.declared.log.Entry.{Entry}
+use Rattle.round_log.specs.Looks.{chain}
+use Rattle.round_log.specs.Logs.{raises_in, up_to_entry}
 use Rattle.cons_graph.specs.SimpleWalks.{IsSimplePositiveCycle}
-use Rattle.cons_graph.specs.WalksBack as back
+use Rattle.round_log.specs.WalksBack as back
 use Rattle.cycle_show.specs.Entries.{AreEntries}
-use Rattle.cons_graph.specs.Logs.{raises_of}
+use Rattle.round_log.specs.Logs.{raises_of}
 use Rattle.cycle_show.proofs.Logged.{entries_are, cycle_is, loop_in_range, cycle_simple}
 use Rattle.cycle_show.proofs.cycles.cycle_of.Goals as goal
 

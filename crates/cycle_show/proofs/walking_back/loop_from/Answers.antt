@@ -1,11 +1,11 @@
 use Rattle.std.proofs.Common.{◌≡◌, ℕ, ◌+◌, ◌-◌, ◌<◌, ◌≤◌, pos, List, [], ◌∷◌, ◌++◌, map, reverse, length, get_or, set, drop, sym, ap, subst, ◌∙◌, arith}
 use Rattle.std.specs.Result.{IfOk}
 use Rattle.std.proofs.lemmas.List.{length-set, get_or_read}
-use Rattle.cons_graph.specs.declared.log.Entry.{Entry}
-use Rattle.cons_graph.specs.Looks.{chain, latest}
-use Rattle.cons_graph.specs.WalksBack.{loop_back}
-use Rattle.cons_graph.proofs.Chains.{chain-zero}
-use Rattle.cons_graph.specs.Logs.{raises_of}
+use Rattle.round_log.specs.declared.log.Entry.{Entry}
+use Rattle.round_log.specs.Looks.{chain, latest}
+use Rattle.round_log.specs.WalksBack.{loop_back}
+use Rattle.round_log.proofs.Chains.{chain-zero}
+use Rattle.round_log.specs.Logs.{raises_of}
 use Rattle.cycle_show.proofs.Paths.{IsBack, back_at, marks_more, mark_low, loop_at_mark, loop_past}
 use Rattle.cycle_show.proofs.walking_back.loop_from.Goals as goal
 

@@ -1,8 +1,9 @@
 use Rattle.std.proofs.Common.{◌≡◌, ℕ, ◌+◌, ◌<◌, true, false, Some, None, List, ◌∷◌, drop, fold, get_or, length, sym, ap, subst, ◌∙◌, inl, inr}
 use Rattle.cons_graph.specs.declared.edges.Edge.{Edge}
-use Rattle.cons_graph.specs.declared.log.Entry.{Entry}
-use Rattle.cons_graph.specs.Looks.{look, edge_at, is_forward, raise_of}
-use Rattle.cons_graph.proofs.Members.{cases_option}
+use Rattle.round_log.specs.declared.log.Entry.{Entry}
+use Rattle.round_log.specs.Looks.{look, is_forward, raise_of}
+use Rattle.cons_graph.specs.EdgeNumbers.{edge_at}
+use Rattle.round_log.proofs.Members.{cases_option}
 use Rattle.liao_wong.specs.Held.{Held, ArePlaces}
 use Rattle.liao_wong.specs.Going.{IsReady, forward_of}
 use Rattle.liao_wong.proofs.Steps.{ready_small, places_by_length, ready_forward, left_look, left_skip, look_raises, look_leaves}

@@ -1,5 +1,6 @@
 use Rattle.std.proofs.Common.{◌≡◌, drop, fold}
-use Rattle.cons_graph.specs.Looks.{look, edge_at}
+use Rattle.round_log.specs.Looks.{look}
+use Rattle.cons_graph.specs.EdgeNumbers.{edge_at}
 use Rattle.liao_wong.specs.Going.{IsReady, forward_of}
 use Rattle.liao_wong.proofs.rounds.look_at_forward.Given as goal
 

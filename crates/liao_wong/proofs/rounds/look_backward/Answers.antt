@@ -1,10 +1,11 @@
 use Rattle.std.proofs.Common.{◌≡◌, ℕ, ◌+◌, ◌-◌, ◌<◌, true, false, Some, None, List, ◌∷◌, length, sym, ap, subst, ◌∙◌, inl, inr, arith}
 use Rattle.std.specs.List.{range_with_len}
 use Rattle.cons_graph.specs.declared.edges.Edge.{Edge}
-use Rattle.cons_graph.specs.declared.log.Entry.{Entry}
-use Rattle.cons_graph.specs.Looks.{edge_at, is_forward, raise_of, comes_back, backward_numbers}
-use Rattle.cons_graph.specs.Rounds.{backward_part}
-use Rattle.cons_graph.proofs.Members.{cases_option}
+use Rattle.round_log.specs.declared.log.Entry.{Entry}
+use Rattle.cons_graph.specs.EdgeNumbers.{edge_at}
+use Rattle.round_log.specs.Looks.{is_forward, raise_of, comes_back, backward_numbers}
+use Rattle.round_log.specs.Rounds.{backward_part}
+use Rattle.round_log.proofs.Members.{cases_option}
 use Rattle.liao_wong.specs.Held.{Held, ArePlaces}
 use Rattle.liao_wong.specs.Going.{IsReady, backward_of}
 use Rattle.liao_wong.proofs.Steps.{ready_small, places_by_length, ready_backward, back_skip, back_leaves, back_raises, back_stops}

@@ -1,7 +1,8 @@
 use Rattle.std.proofs.Common.{◌≡◌, ◌-◌, length}
 use Rattle.std.specs.List.{range_with_len}
-use Rattle.cons_graph.specs.Looks.{edge_at, backward_numbers}
-use Rattle.cons_graph.specs.Rounds.{backward_part}
+use Rattle.cons_graph.specs.EdgeNumbers.{edge_at}
+use Rattle.round_log.specs.Looks.{backward_numbers}
+use Rattle.round_log.specs.Rounds.{backward_part}
 use Rattle.liao_wong.specs.Going.{IsReady, backward_of}
 use Rattle.liao_wong.proofs.rounds.look_backward.Given as goal
 

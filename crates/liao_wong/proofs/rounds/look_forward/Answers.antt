@@ -1,8 +1,9 @@
 use Rattle.std.proofs.Common.{◌≡◌, ℕ, ◌+◌, ◌<◌, List, drop, fold, get_or, length, sym, ap, subst, ◌∙◌}
 use Rattle.std.specs.List.{All, flat_map}
 use Rattle.cons_graph.specs.declared.edges.Edge.{Edge}
-use Rattle.cons_graph.specs.Looks.{look, edge_at, leaving}
-use Rattle.cons_graph.specs.Rounds.{forward_part, plan_of}
+use Rattle.round_log.specs.Looks.{look}
+use Rattle.cons_graph.specs.EdgeNumbers.{edge_at, leaving}
+use Rattle.round_log.specs.Rounds.{forward_part, plan_of}
 use Rattle.liao_wong.specs.Held.{Held}
 use Rattle.liao_wong.specs.Going.{IsReady, forward_of, group_of}
 use Rattle.liao_wong.proofs.Steps.{ready_looks, left_group, leaving_in_range}

@@ -1,7 +1,8 @@
 use Rattle.std.proofs.Common.{◌≡◌, drop, fold}
 use Rattle.std.specs.List.{flat_map}
-use Rattle.cons_graph.specs.Looks.{look, edge_at}
-use Rattle.cons_graph.specs.Rounds.{forward_part, plan_of}
+use Rattle.round_log.specs.Looks.{look}
+use Rattle.cons_graph.specs.EdgeNumbers.{edge_at}
+use Rattle.round_log.specs.Rounds.{forward_part, plan_of}
 use Rattle.liao_wong.specs.Going.{IsReady, group_of}
 use Rattle.liao_wong.proofs.rounds.look_forward.Given as goal
 

@@ -1,8 +1,9 @@
 use Rattle.std.proofs.Common.{◌≡◌, ℕ, Bool, true, false, List, length, sym, ap, subst, ◌∙◌, arith}
-use Rattle.cons_graph.specs.declared.log.Entry.{Entry}
+use Rattle.round_log.specs.declared.log.Entry.{Entry}
 use Rattle.cons_graph.specs.Constraints.{Constraints}
-use Rattle.cons_graph.specs.Rounds.{Progress, Plan, forward_part, plan_of, round, backward_part}
-use Rattle.cons_graph.specs.Looks.{edge_at, backward_numbers}
+use Rattle.round_log.specs.Rounds.{Progress, Plan, forward_part, plan_of, round, backward_part}
+use Rattle.cons_graph.specs.EdgeNumbers.{edge_at}
+use Rattle.round_log.specs.Looks.{backward_numbers}
 use Rattle.liao_wong.specs.Held.{Held}
 use Rattle.liao_wong.specs.Going.{IsReady}
 use Rattle.liao_wong.proofs.Course.{ready_between, stopped_here, ended_here, goes_on, few_backward}

@@ -1,5 +1,5 @@
 use Rattle.std.proofs.Common.{◌-◌, suc, length}
-use Rattle.cons_graph.specs.Looks.{backward_numbers}
+use Rattle.round_log.specs.Looks.{backward_numbers}
 use Rattle.liao_wong.specs.Running.{HasCome}
 use Rattle.liao_wong.proofs.solver.run_rounds.Given as goal
 

@@ -1,11 +1,11 @@
 use Rattle.std.proofs.Common.{ℕ, ◌<◌, List, length, sym, subst, arith}
 use Rattle.std.specs.List.{All}
 use Rattle.cons_graph.specs.declared.edges.Edge.{Edge}
-use Rattle.cons_graph.specs.Orders.{NamesEachOnce}
+use Rattle.round_log.specs.Orders.{NamesEachOnce}
 use Rattle.cons_graph.specs.SimpleWalks.{IsSimplePositiveCycle}
 use Rattle.cons_graph.specs.Walks.{HasPositiveCycle}
-use Rattle.cons_graph.proofs.Least.{positive_cycle_excludes}
-use Rattle.cons_graph.proofs.Outcomes.{has_cycle}
+use Rattle.round_log.proofs.Least.{positive_cycle_excludes}
+use Rattle.round_log.proofs.Outcomes.{has_cycle}
 use Rattle.liao_wong.specs.Held.{ArePlaces}
 use Rattle.liao_wong.proofs.Outputs.{order_is_long, IfCycle-map}
 use Rattle.liao_wong.proofs.solving.solve.Goals as goal

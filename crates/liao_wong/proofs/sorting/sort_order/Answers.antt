@@ -2,7 +2,7 @@ use Rattle.std.proofs.Common.{◌≡◌, ℕ, List, length, ap, subst, ◌∙◌
 use Rattle.std.specs.List.{range_with_len}
 use Rattle.std.specs.List.Sorted.{IsPermutation}
 use Rattle.std.proofs.lemmas.Fn.{always_returns_same}
-use Rattle.cons_graph.specs.Orders.{NamesEachOnce}
+use Rattle.round_log.specs.Orders.{NamesEachOnce}
 use Rattle.liao_wong.proofs.InOrder.{key_of, in_order, names_sorted, range_ends}
 use Rattle.liao_wong.proofs.sorting.sort_order.Goals as goal
 

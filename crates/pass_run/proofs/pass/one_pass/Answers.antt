@@ -1,9 +1,9 @@
 use Rattle.std.proofs.Common.{◌≡◌, ℕ, List, ◌∷◌, length, sym, ap, ◌∙◌, subst}
 use Rattle.lam_geom.specs.declared.boxes.Axis.{Axis}
-use Rattle.cons_graph.specs.Orders.{IsOrder}
-use Rattle.cons_graph.specs.Looks.{backward_numbers}
-use Rattle.cons_graph.specs.Logs.{raises_in}
-use Rattle.cons_graph.specs.Rounds.{plan_of, EndsInRound}
+use Rattle.round_log.specs.Orders.{IsOrder}
+use Rattle.round_log.specs.Looks.{backward_numbers}
+use Rattle.round_log.specs.Logs.{raises_in}
+use Rattle.round_log.specs.Rounds.{plan_of, EndsInRound}
 use Rattle.cons_graph.specs.SimpleWalks.{IsSimplePositiveCycle}
 use Rattle.cons_graph.specs.Walks.{HasPositiveCycle}
 use Rattle.liao_wong.specs.declared.solving.Unsolved.{Unsolved}

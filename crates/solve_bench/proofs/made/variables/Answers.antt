@@ -1,6 +1,6 @@
 use Rattle.std.proofs.Common.{◌≡◌, ℕ, List, sym, ap, subst, ◌∙◌, arith}
 use Rattle.std.specs.List.{range_with_len}
-use Rattle.cons_graph.specs.Orders.{IsOrder}
+use Rattle.round_log.specs.Orders.{IsOrder}
 use Rattle.liao_wong.proofs.InOrder.{range_ends}
 use Rattle.solve_bench.proofs.Reaching.{numbers_order}
 use Rattle.solve_bench.proofs.made.variables.Goals as goal

@@ -5,7 +5,7 @@ use Rattle.std.specs.List.{All}
 use Rattle.std.proofs.lemmas.List.{get_or_read}
 use Rattle.cons_graph.specs.declared.edges.Why.TheVariants.{Size}
 use Rattle.cons_graph.specs.declared.edges.Edge.{Edge}
-use Rattle.cons_graph.specs.Looks.{edge_at}
+use Rattle.cons_graph.specs.EdgeNumbers.{edge_at}
 use Rattle.cons_graph.specs.SimpleWalks.{tails_of, length_of, HasNoRepeat, WalksFromTo, IsSimplePositiveCycle}
 use Rattle.cons_graph.proofs.CycleTest.{few_without_repeat, cycle_says}
 use Rattle.cons_graph.proofs.constraint_graph.Graph.check_cycle.Goals as goal

@@ -1,11 +1,11 @@
 use Rattle.std.proofs.Common.{◌≡◌, ℕ, ◌<◌, ◌≤◌, Bool, ◌==◌, List, length, get_or, sym, ap, subst, ◌∙◌, arith}
 use Rattle.std.specs.List.{list_any}
-use Rattle.cons_graph.specs.declared.log.Entry.{Entry}
-use Rattle.cons_graph.specs.Looks.{chain}
-use Rattle.cons_graph.proofs.Chains.{chain-zero}
+use Rattle.round_log.specs.declared.log.Entry.{Entry}
+use Rattle.round_log.specs.Looks.{chain}
+use Rattle.round_log.proofs.Chains.{chain-zero}
 use Rattle.liao_wong.specs.Held.{Held, AreArraysOf}
-use Rattle.cons_graph.specs.Logs.{raises_of}
-use Rattle.cons_graph.proofs.Entries.{IsChainStep}
+use Rattle.round_log.specs.Logs.{raises_of}
+use Rattle.round_log.proofs.Entries.{IsChainStep}
 use Rattle.liao_wong.proofs.Arrays.{chain_read, found_in_chain, not_found_yet}
 use Rattle.liao_wong.proofs.raises.Raises.comes_back.Goals as goal
 

@@ -1,6 +1,6 @@
 use Rattle.std.proofs.Common.{◌≡◌, ◌≤◌, ◌==◌, length}
 use Rattle.std.specs.List.{list_any}
-use Rattle.cons_graph.specs.Looks.{chain}
+use Rattle.round_log.specs.Looks.{chain}
 use Rattle.liao_wong.proofs.raises.Raises.comes_back.Given as goal
 
 abbrev pub invariant-loop-n : goal.invariant-loop-n

@@ -1,5 +1,5 @@
 use Rattle.std.proofs.Common.{◌≡◌, ℕ, ◌<◌, pos, length, get_or, unwrap_or}
-use Rattle.cons_graph.specs.Looks.{label}
+use Rattle.round_log.specs.Looks.{label}
 use Rattle.liao_wong.proofs.raises.Raises.labels.Given as goal
 
 abbrev pub invariant-loop-v : goal.invariant-loop-v

@@ -5,13 +5,14 @@ use Rattle.std.proofs.lemmas.Int.{ints}
 use Rattle.std.proofs.lemmas.Bool.{cond-true, cond-false, cases_Bool, cases_eq, true≢false, eqb-true, ne_eqb, leb-true, leb-false, and_parts, and_cases}
 use Rattle.std.proofs.lemmas.List.{map-append, take-append-drop}
 use Rattle.cons_graph.specs.declared.edges.Edge.{Edge}
-use Rattle.cons_graph.specs.declared.log.Entry.{Entry}
+use Rattle.round_log.specs.declared.log.Entry.{Entry}
 use Rattle.cons_graph.specs.Walks.{IsWalk, walk_length}
-use Rattle.cons_graph.specs.Looks.{chain, comes_back}
-use Rattle.cons_graph.specs.WalksBack.{up_to, loop_back, least_place}
-use Rattle.cons_graph.proofs.Chains.{In, IsLinked, IsRising, top_var, top_value}
-use Rattle.cons_graph.proofs.Members.{IsDistinct, list_any-true, list_any-false}
-use Rattle.cons_graph.proofs.Walking.{IsWalk-append, IsWalk-split, walk_length-append, entry_edges, vars_of, IsDistinct-turned}
+use Rattle.round_log.specs.Looks.{chain, comes_back}
+use Rattle.round_log.specs.WalksBack.{up_to, loop_back, least_place}
+use Rattle.round_log.proofs.Chains.{In, IsLinked, IsRising, top_var, top_value}
+use Rattle.round_log.proofs.Members.{IsDistinct, list_any-true, list_any-false}
+use Rattle.round_log.proofs.Walking.{IsWalk-append, IsWalk-split, entry_edges, vars_of, IsDistinct-turned}
+use Rattle.cons_graph.proofs.Tests.{walk_length-append}
 
 -- ---- the raises met going back, as a path in walking order
 

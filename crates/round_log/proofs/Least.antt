@@ -7,13 +7,14 @@ use Rattle.std.proofs.lemmas.List.{get_or_default}
 use Rattle.std.proofs.lemmas.List.Elements.{All-from_get_or, All-contains, All-head, All-tail}
 use Rattle.cons_graph.specs.declared.edges.Edge.{Edge}
 use Rattle.cons_graph.specs.declared.edges.Why.TheVariants.{Size}
-use Rattle.cons_graph.specs.declared.log.Entry.{Entry}
+use Rattle.round_log.specs.declared.log.Entry.{Entry}
 use Rattle.cons_graph.specs.Constraints.{Constraints, IsConstraintGraph, IsEdgeAmong}
 use Rattle.cons_graph.specs.Solutions.{Meets, IsSolution, IsLeastSolution}
 use Rattle.cons_graph.specs.Walks.{IsWalk, walk_length, IsCycle, IsPositiveCycle}
-use Rattle.cons_graph.specs.Looks.{label, edge_at}
-use Rattle.cons_graph.proofs.Raises.{IsRaise, IsQuiet, label-same, label-other}
-use Rattle.cons_graph.proofs.Parts.{IsLog}
+use Rattle.round_log.specs.Looks.{label}
+use Rattle.cons_graph.specs.EdgeNumbers.{edge_at}
+use Rattle.round_log.proofs.Raises.{IsRaise, IsQuiet, label-same, label-other}
+use Rattle.round_log.proofs.Parts.{IsLog}
 
 -- the edge of a number in range, and the edge from the origin to a variable
 pub edge_among : (g : Constraints) → IsConstraintGraph g → (k : ℕ) → k < length g.edges → IsEdgeAmong g.vars (edge_at g.edges k)

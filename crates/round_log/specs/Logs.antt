@@ -1,11 +1,12 @@
 use Rattle.std.specs.Prelude.{◌≡◌, ℕ, ◌≤◌, ◌-◌, ◌<◌, true, pos, Some, List, [], ◌∷◌, length, reverse, drop, slice_index}
-use Rattle.cons_graph.specs.declared.log.Entry.{Entry}
-use Rattle.cons_graph.specs.declared.log.Log.{Log}
+use Rattle.round_log.specs.declared.log.Entry.{Entry}
+use Rattle.round_log.specs.declared.log.Log.{Log}
 use Rattle.cons_graph.specs.declared.edges.Edge.{Edge}
 use Rattle.cons_graph.specs.Constraints.{Constraints}
-use Rattle.cons_graph.specs.Looks.{latest, raise_of, comes_back, edge_at}
-use Rattle.cons_graph.specs.Orders.{IsOrder}
-use Rattle.cons_graph.specs.Rounds.{plan_of, EndsInRound}
+use Rattle.round_log.specs.Looks.{latest, raise_of, comes_back}
+use Rattle.cons_graph.specs.EdgeNumbers.{edge_at}
+use Rattle.round_log.specs.Orders.{IsOrder}
+use Rattle.round_log.specs.Rounds.{plan_of, EndsInRound}
 
 -- entry 0, which stands for the origin
 abbrev pub origin_entry : Entry

@@ -4,12 +4,13 @@ use Rattle.std.specs.List.{AllPairs}
 use Rattle.std.proofs.lemmas.Int.{ints}
 use Rattle.std.proofs.lemmas.List.{reverse-append}
 use Rattle.cons_graph.specs.declared.edges.Edge.{Edge}
-use Rattle.cons_graph.specs.declared.log.Entry.{Entry}
+use Rattle.round_log.specs.declared.log.Entry.{Entry}
 use Rattle.cons_graph.specs.Solutions.{Meets}
 use Rattle.cons_graph.specs.Walks.{IsWalk, walk_length}
-use Rattle.cons_graph.proofs.Chains.{In, IsLinked, IsRising, top_var, top_value}
-use Rattle.cons_graph.proofs.Planned.{In-at}
-use Rattle.cons_graph.proofs.Members.{IsDistinct, In-append, In-append-left, In-append-right}
+use Rattle.cons_graph.proofs.Tests.{walk_length-append}
+use Rattle.round_log.proofs.Chains.{In, IsLinked, IsRising, top_var, top_value}
+use Rattle.round_log.proofs.Planned.{In-at}
+use Rattle.round_log.proofs.Members.{IsDistinct, In-append, In-append-left, In-append-right}
 
 pub IsWalk-append : (a : ℕ) (xs : List Edge) (b : ℕ) (ys : List Edge) (c : ℕ) → IsWalk a xs b → IsWalk b ys c → IsWalk a (xs ++ ys) c
 IsWalk-append a [] b ys c p q = let P : ℕ → Type 0 = λ x. IsWalk x ys c in subst P (sym p) q
@@ -18,10 +19,6 @@ IsWalk-append a (x ∷ xs) b ys c p q = (p.0, IsWalk-append x.to xs b ys c p.1 q
 pub IsWalk-split : (a : ℕ) (xs ys : List Edge) (c : ℕ) → IsWalk a (xs ++ ys) c → (b : ℕ) × (IsWalk a xs b) × (IsWalk b ys c)
 IsWalk-split a [] ys c p = (a, refl, p)
 IsWalk-split a (x ∷ xs) ys c p = let w = IsWalk-split x.to xs ys c p.1 in (w.0, (p.0, w.1), w.2)
-
-pub walk_length-append : (xs ys : List Edge) → walk_length (xs ++ ys) ≡ walk_length xs +ℤ walk_length ys
-walk_length-append [] ys = omega (arith, ints)
-walk_length-append (x ∷ xs) ys = let e = walk_length-append xs ys in omega (arith, ints, e)
 
 pub reverse-cons : {X : Type 0} (x : X) (xs : List X) → reverse (x ∷ xs) ≡ reverse xs ++ x ∷ []
 reverse-cons x xs = reverse-append (x ∷ []) xs

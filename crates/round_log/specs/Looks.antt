@@ -1,12 +1,8 @@
-use Rattle.std.specs.Prelude.{ℕ, suc, ℤ, pos, ◌+ℤ◌, Bool, not, if◌then◌else◌, ◌==◌, nat_lt, Option, Some, None, List, [], ◌∷◌, length, filter, slice_index_or, int_lt}
-use Rattle.std.specs.List.{range_with_len, flat_map, list_any}
+use Rattle.std.specs.Prelude.{ℕ, suc, ℤ, pos, ◌+ℤ◌, Bool, not, if◌then◌else◌, ◌==◌, nat_lt, Option, Some, None, List, [], ◌∷◌, length, filter, int_lt}
+use Rattle.std.specs.List.{flat_map, list_any}
 use Rattle.cons_graph.specs.declared.edges.Edge.{Edge}
-use Rattle.cons_graph.specs.declared.edges.Why.TheVariants.{Size}
-use Rattle.cons_graph.specs.declared.log.Entry.{Entry}
-
--- the edge with a number; past the end of the list an edge that nothing looks at
-abbrev pub edge_at : List Edge → ℕ → Edge
-edge_at edges k = slice_index_or edges k (record { from = 0; to = 0; len = pos 0; why = Size })
+use Rattle.cons_graph.specs.EdgeNumbers.{edge_at, all_numbers, leaving}
+use Rattle.round_log.specs.declared.log.Entry.{Entry}
 
 -- A log is kept as the list of its raises, the newest first. A raise's number is how many raises there are up to it,
 -- itself included; 0 is the number of the origin, which is no raise.
@@ -58,14 +54,6 @@ place_in (u ∷ us) v = if u == v then 0 else suc (place_in us v)
 -- an edge is forward where it goes up in the order, else backward
 abbrev pub is_forward : List ℕ → Edge → Bool
 is_forward order e = nat_lt (place_in order e.from) (place_in order e.to)
-
--- the numbers of all edges, in list order
-abbrev pub all_numbers : List Edge → List ℕ
-all_numbers edges = range_with_len 0 (length edges)
-
--- the numbers of the edges that leave a variable, in list order
-abbrev pub leaving : List Edge → ℕ → List ℕ
-leaving edges v = filter (λ k. (edge_at edges k).from == v) (all_numbers edges)
 
 -- the forward edges in order of their tails, those of one tail in list order
 abbrev pub forward_numbers : List Edge → List ℕ → List ℕ

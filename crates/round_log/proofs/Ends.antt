@@ -4,25 +4,26 @@ use Rattle.std.specs.List.{All, range_with_len}
 use Rattle.std.proofs.lemmas.Bool.{ltb-true, not-false}
 use Rattle.std.proofs.lemmas.List.{map-append}
 use Rattle.cons_graph.specs.declared.edges.Edge.{Edge}
-use Rattle.cons_graph.specs.declared.log.Entry.{Entry}
+use Rattle.round_log.specs.declared.log.Entry.{Entry}
 use Rattle.cons_graph.specs.Constraints.{Constraints, IsConstraintGraph}
 use Rattle.cons_graph.specs.Solutions.{IsSolution}
 use Rattle.cons_graph.specs.Walks.{IsWalk, walk_length}
 use Rattle.cons_graph.specs.SimpleWalks.{edges_of, length_of, heads_of, HasNoRepeat, WalksFromTo}
-use Rattle.cons_graph.specs.WalksBack.{walk_of}
-use Rattle.cons_graph.specs.Orders.{NamesEachOnce}
-use Rattle.cons_graph.specs.Looks.{edge_at, label, latest, place_in, is_forward}
-use Rattle.cons_graph.specs.Rounds.{plan_of}
-use Rattle.cons_graph.proofs.Raises.{IsJustified}
-use Rattle.cons_graph.proofs.Chains.{In, In-chain, IsLinked, IsTraced, trace, trace_is, chain_rising}
-use Rattle.cons_graph.proofs.Members.{In-append, In-range-from, length-range, IsDistinct, length_of_distinct}
-use Rattle.cons_graph.proofs.Parts.{IsLog, log_justified, depth_at_most}
-use Rattle.cons_graph.proofs.RoundSteps.{IsGoing}
-use Rattle.cons_graph.proofs.Least.{edge_among, meets_at}
-use Rattle.cons_graph.proofs.Depths.{depth}
-use Rattle.cons_graph.proofs.Sizes.{label_within, length_by_depth, small}
-use Rattle.cons_graph.proofs.Planned.{is_backward, IsDistinct-from_pairs, In-at, In-from_contains, place_of_In, place_in_range}
-use Rattle.cons_graph.proofs.Walking.{entry_edges, vars_of, chain_walk, chain_length, chain_distinct, IsDistinct-reverse, pairs_from_IsDistinct, reverse-cons}
+use Rattle.round_log.specs.WalksBack.{walk_of}
+use Rattle.round_log.specs.Orders.{NamesEachOnce}
+use Rattle.cons_graph.specs.EdgeNumbers.{edge_at}
+use Rattle.round_log.specs.Looks.{label, latest, place_in, is_forward}
+use Rattle.round_log.specs.Rounds.{plan_of}
+use Rattle.round_log.proofs.Raises.{IsJustified}
+use Rattle.round_log.proofs.Chains.{In, In-chain, IsLinked, IsTraced, trace, trace_is, chain_rising}
+use Rattle.round_log.proofs.Members.{In-append, In-range-from, length-range, IsDistinct, length_of_distinct}
+use Rattle.round_log.proofs.Parts.{IsLog, log_justified, depth_at_most}
+use Rattle.round_log.proofs.RoundSteps.{IsGoing}
+use Rattle.round_log.proofs.Least.{edge_among, meets_at}
+use Rattle.round_log.proofs.Depths.{depth}
+use Rattle.round_log.proofs.Sizes.{label_within, length_by_depth, small}
+use Rattle.round_log.proofs.Planned.{is_backward, IsDistinct-from_pairs, In-at, In-from_contains, place_of_In, place_in_range}
+use Rattle.round_log.proofs.Walking.{entry_edges, vars_of, chain_walk, chain_length, chain_distinct, IsDistinct-reverse, pairs_from_IsDistinct, reverse-cons}
 
 -- the rounds of a graph and an order, by their parts
 abbrev pub back_of : Constraints → List ℕ → ℕ → Bool

@@ -5,25 +5,27 @@ use Rattle.std.proofs.lemmas.Bool.{true≢false, cond_both}
 use Rattle.std.proofs.lemmas.List.{map-append, take-map, get_or-drop, get_or_append_left, length-drop, take-append-drop, get_or_default, nil_from_length, length-append}
 use Rattle.cons_graph.specs.declared.edges.Edge.{Edge}
 use Rattle.cons_graph.specs.declared.edges.Why.TheVariants.{Size}
-use Rattle.cons_graph.specs.declared.log.Entry.{Entry}
+use Rattle.round_log.specs.declared.log.Entry.{Entry}
 use Rattle.cons_graph.specs.Constraints.{Constraints, IsConstraintGraph}
 use Rattle.cons_graph.specs.Solutions.{IsSolution, IsLeastSolution}
-use Rattle.cons_graph.specs.Walks.{IsWalk, walk_length, IsCycle, HasPositiveCycle}
+use Rattle.cons_graph.proofs.CycleTest.{cycle_from_walk}
+use Rattle.cons_graph.specs.Walks.{walk_length, IsCycle, HasPositiveCycle}
 use Rattle.cons_graph.specs.SimpleWalks.{edges_of, tails_of, IsSimplePositiveCycle}
-use Rattle.cons_graph.specs.WalksBack.{up_to, loop_back, turned, cycle_of, least_place}
-use Rattle.cons_graph.specs.Orders.{NamesEachOnce}
-use Rattle.cons_graph.specs.Looks.{edge_at, chain}
-use Rattle.cons_graph.specs.Rounds.{Progress, Plan, plan_of, forward_part, round, one_more, after_rounds, EndsInRound}
-use Rattle.cons_graph.proofs.Raises.{IsQuiet, IsJustified}
-use Rattle.cons_graph.proofs.Chains.{In, In-chain, raise_linked, raise_rising}
-use Rattle.cons_graph.proofs.Members.{In-append, In-append-left, In-append-right, In-range-from, In-range, IsDistinct}
-use Rattle.cons_graph.proofs.Parts.{IsStopAt, log_justified, Keeps}
-use Rattle.cons_graph.proofs.RoundSteps.{IsPlanned, going_start, forward_next, rounds_give, one_more_going, one_more_stopped, all_quiet, round_gives, busy_bound}
-use Rattle.cons_graph.proofs.Least.{label_value, quiet_least}
-use Rattle.cons_graph.proofs.Planned.{planned, place_of_In}
-use Rattle.cons_graph.proofs.Walking.{pairs_from_IsDistinct}
-use Rattle.cons_graph.proofs.Cycles.{tails, IsLoop, loop_of_raise, turned_loop, least_place_in_range, least_place_least}
-use Rattle.cons_graph.proofs.Ends.{LogOf, GoingOf, back_of, numbers, map-map, All-from_In, In-map-back, log_entry}
+use Rattle.round_log.specs.WalksBack.{up_to, loop_back, turned, cycle_of, least_place}
+use Rattle.round_log.specs.Orders.{NamesEachOnce}
+use Rattle.cons_graph.specs.EdgeNumbers.{edge_at}
+use Rattle.round_log.specs.Looks.{chain}
+use Rattle.round_log.specs.Rounds.{Progress, Plan, plan_of, forward_part, round, one_more, after_rounds, EndsInRound}
+use Rattle.round_log.proofs.Raises.{IsQuiet, IsJustified}
+use Rattle.round_log.proofs.Chains.{In, In-chain, raise_linked, raise_rising}
+use Rattle.round_log.proofs.Members.{In-append, In-append-left, In-append-right, In-range-from, In-range, IsDistinct}
+use Rattle.round_log.proofs.Parts.{IsStopAt, log_justified, Keeps}
+use Rattle.round_log.proofs.RoundSteps.{IsPlanned, going_start, forward_next, rounds_give, one_more_going, one_more_stopped, all_quiet, round_gives, busy_bound}
+use Rattle.round_log.proofs.Least.{label_value, quiet_least}
+use Rattle.round_log.proofs.Planned.{planned, place_of_In}
+use Rattle.round_log.proofs.Walking.{pairs_from_IsDistinct}
+use Rattle.round_log.proofs.Cycles.{tails, IsLoop, loop_of_raise, turned_loop, least_place_in_range, least_place_least}
+use Rattle.round_log.proofs.Ends.{LogOf, GoingOf, back_of, numbers, map-map, All-from_In, In-map-back, log_entry}
 
 -- ---- a turned loop as numbers of edges
 
@@ -42,10 +44,6 @@ In-turned {X} x p xs i =
 
 map-turned : {X Y : Type 0} (f : X → Y) (p : ℕ) (xs : List X) → map f (drop p xs ++ take p xs) ≡ drop p (map f xs) ++ take p (map f xs)
 map-turned f p xs = map-append f (drop p xs) (take p xs) ∙ ap (λ l. l ++ map f (take p xs)) (map-drop f p xs) ∙ ap (λ l. drop p (map f xs) ++ l) (sym (take-map f p xs))
-
-pub cycle_from_walk : (v : ℕ) (es : List Edge) → IsWalk v es v → (es ≡ [] → ⊥) → IsCycle es
-cycle_from_walk v [] w n = absurd (n refl)
-cycle_from_walk v (e ∷ es) w n = let P : ℕ → Type 0 = λ u. IsWalk e.to es u in subst P (sym w.0) w.1
 
 first_of_turned : (p : ℕ) (xs : List ℕ) → p < length xs → get_or (drop p xs ++ take p xs) 0 0 ≡ get_or xs p 0
 first_of_turned p xs lt =

@@ -3,9 +3,9 @@ use Rattle.std.proofs.Common.{◌≡◌, ℕ, ◌≤◌, ℤ, pos, ◌+ℤ◌, �
 use Rattle.std.proofs.lemmas.Int.{ints}
 use Rattle.std.proofs.lemmas.Bool.{cases_eq, ne_eqb, cond-true, cond-false}
 use Rattle.cons_graph.specs.declared.edges.Edge.{Edge}
-use Rattle.cons_graph.specs.declared.log.Entry.{Entry}
-use Rattle.cons_graph.specs.Looks.{label, latest, chain}
-use Rattle.cons_graph.proofs.Raises.{IsRaise, IsAtLeast, IsJustified, label_grows, label-same, label-other, latest-same, latest-other, latest_in_log}
+use Rattle.round_log.specs.declared.log.Entry.{Entry}
+use Rattle.round_log.specs.Looks.{label, latest, chain}
+use Rattle.round_log.proofs.Raises.{IsRaise, IsAtLeast, IsJustified, label_grows, label-same, label-other, latest-same, latest-other, latest_in_log}
 
 -- x is an element of the list
 abbrev pub In : {X : Type 0} → X → List X → Type 0

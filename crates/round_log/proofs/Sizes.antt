@@ -4,13 +4,13 @@ use Rattle.std.proofs.Math.Nat.{mul-le-mul_left, mul-le-mul_right}
 use Rattle.std.proofs.lemmas.Int.{ints}
 use Rattle.std.proofs.lemmas.Bool.{cond-true, cond-false, cases_Bool, cases_eq, eqb-true}
 use Rattle.cons_graph.specs.declared.edges.Edge.{Edge}
-use Rattle.cons_graph.specs.declared.log.Entry.{Entry}
+use Rattle.round_log.specs.declared.log.Entry.{Entry}
 use Rattle.cons_graph.specs.Constraints.{IsEdgeAmong}
-use Rattle.cons_graph.specs.Looks.{label, chain}
-use Rattle.cons_graph.proofs.Raises.{IsRaise, label-same, label-other}
-use Rattle.cons_graph.proofs.Chains.{trace, trace-same, trace-other, chain_is_trace}
-use Rattle.cons_graph.proofs.Depths.{depth, depth_of, depth_back, depth_grows}
-use Rattle.cons_graph.proofs.Parts.{IsLog}
+use Rattle.round_log.specs.Looks.{label, chain}
+use Rattle.round_log.proofs.Raises.{IsRaise, label-same, label-other}
+use Rattle.round_log.proofs.Chains.{trace, trace-same, trace-other, chain_is_trace}
+use Rattle.round_log.proofs.Depths.{depth, depth_of, depth_back, depth_grows}
+use Rattle.round_log.proofs.Parts.{IsLog}
 
 -- a number within n times the greatest length of 0
 pub record IsWithin (n : ℕ) (a : ℤ) : Type 0 where

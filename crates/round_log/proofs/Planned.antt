@@ -4,14 +4,15 @@ use Rattle.std.specs.List.{AllPairs, Contains, filter, flat_map}
 use Rattle.std.proofs.lemmas.Bool.{cond-true, cond-false, cases_eq, eqb-true, ne_eqb, ltb-true, not-false, not_from_true}
 use Rattle.cons_graph.specs.declared.edges.Edge.{Edge}
 use Rattle.cons_graph.specs.Constraints.{Constraints, IsConstraintGraph}
-use Rattle.cons_graph.specs.Orders.{NamesEachOnce}
-use Rattle.cons_graph.specs.Looks.{edge_at, place_in, is_forward, all_numbers, leaving}
-use Rattle.cons_graph.specs.Rounds.{plan_of}
-use Rattle.cons_graph.proofs.Chains.{In}
-use Rattle.cons_graph.proofs.Members.{In-append, In-filter, In-filter-from, In-range, In-range-from, In-flat_map, In-flat_map-back, IsDistinct}
-use Rattle.cons_graph.proofs.Parts.{IsInOrder}
-use Rattle.cons_graph.proofs.RoundSteps.{IsPlanned}
-use Rattle.cons_graph.proofs.Least.{edge_among}
+use Rattle.round_log.specs.Orders.{NamesEachOnce}
+use Rattle.cons_graph.specs.EdgeNumbers.{edge_at, all_numbers, leaving}
+use Rattle.round_log.specs.Looks.{place_in, is_forward}
+use Rattle.round_log.specs.Rounds.{plan_of}
+use Rattle.round_log.proofs.Chains.{In}
+use Rattle.round_log.proofs.Members.{In-append, In-filter, In-filter-from, In-range, In-range-from, In-flat_map, In-flat_map-back, IsDistinct}
+use Rattle.round_log.proofs.Parts.{IsInOrder}
+use Rattle.round_log.proofs.RoundSteps.{IsPlanned}
+use Rattle.round_log.proofs.Least.{edge_among}
 
 -- ---- members by their places
 

@@ -3,12 +3,12 @@
 use Rattle.std.proofs.Common.{◌≡◌, ℕ, suc, ◌<◌, ◌≤◌, Some, List, [], ◌∷◌, ◌++◌, reverse, inl, inr, length, get_or, refl, sym, ap, subst, ◌∙◌, arith}
 use Rattle.std.proofs.lemmas.Bool.{cases_eq}
 use Rattle.std.proofs.lemmas.List.{length-reverse, get_or_append_left, get_or_push}
-use Rattle.cons_graph.specs.declared.log.Entry.{Entry}
-use Rattle.cons_graph.specs.Looks.{label, latest, chain}
-use Rattle.cons_graph.specs.Logs.{origin_entry, ComeFromOlder}
-use Rattle.cons_graph.proofs.Raises.{label-same, label-other, latest-same, latest-other, latest_in_log}
-use Rattle.cons_graph.proofs.Chains.{chain-newest, chain-older}
-use Rattle.cons_graph.proofs.Walking.{reverse-cons}
+use Rattle.round_log.specs.declared.log.Entry.{Entry}
+use Rattle.round_log.specs.Looks.{label, latest, chain}
+use Rattle.round_log.specs.Logs.{origin_entry, ComeFromOlder}
+use Rattle.round_log.proofs.Raises.{label-same, label-other, latest-same, latest-other, latest_in_log}
+use Rattle.round_log.proofs.Chains.{chain-newest, chain-older}
+use Rattle.round_log.proofs.Walking.{reverse-cons}
 
 -- the array of a log: the origin's entry and the raises from the oldest on
 abbrev pub array_of : List Entry → List Entry

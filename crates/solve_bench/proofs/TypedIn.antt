@@ -6,12 +6,12 @@ use Rattle.std.proofs.lemmas.Bool.{and_parts, ltb-true, leb-true, eqb-true, eqb-
 use Rattle.std.proofs.lemmas.Int.{ints}
 use Rattle.cons_graph.specs.declared.edges.Edge.{Edge}
 use Rattle.cons_graph.specs.Constraints.{Constraints, IsConstraintGraph, IsEdgeAmong}
-use Rattle.cons_graph.specs.Orders.{IsOrder}
-use Rattle.cons_graph.proofs.Chains.{In}
-use Rattle.cons_graph.proofs.Members.{In-range-from, list_any-false, list_any-true, IsDistinct}
-use Rattle.cons_graph.proofs.Planned.{place_of_In}
-use Rattle.cons_graph.proofs.Walking.{pairs_from_IsDistinct}
-use Rattle.cons_graph.proofs.Ends.{All-from_In}
+use Rattle.round_log.specs.Orders.{IsOrder}
+use Rattle.round_log.proofs.Chains.{In}
+use Rattle.round_log.proofs.Members.{In-range-from, list_any-false, list_any-true, IsDistinct}
+use Rattle.round_log.proofs.Planned.{place_of_In}
+use Rattle.round_log.proofs.Walking.{pairs_from_IsDistinct}
+use Rattle.round_log.proofs.Ends.{All-from_In}
 
 list_all-In : {X : Type 0} (p : X → Bool) (xs : List X) (x : X) → list_all p xs ≡ true → In x xs → p x ≡ true
 list_all-In p [] x h i = absurd i

@@ -3,10 +3,10 @@ use Rattle.std.proofs.Common.{◌≡◌, ℕ, suc, ◌≤◌, ℤ, ◌+ℤ◌, �
 use Rattle.std.proofs.lemmas.Int.{ints}
 use Rattle.std.proofs.lemmas.Bool.{cases_eq, cond-true, cond_both}
 use Rattle.cons_graph.specs.declared.edges.Edge.{Edge}
-use Rattle.cons_graph.specs.declared.log.Entry.{Entry}
-use Rattle.cons_graph.specs.Looks.{label, chain}
-use Rattle.cons_graph.proofs.Raises.{IsRaise, IsQuiet, IsAtLeast, IsJustified, label_grows, label-other}
-use Rattle.cons_graph.proofs.Chains.{trace, trace-same, trace-other}
+use Rattle.round_log.specs.declared.log.Entry.{Entry}
+use Rattle.round_log.specs.Looks.{label, chain}
+use Rattle.round_log.proofs.Raises.{IsRaise, IsQuiet, IsAtLeast, IsJustified, label_grows, label-other}
+use Rattle.round_log.proofs.Chains.{trace, trace-same, trace-other}
 
 -- the variables that backward edges raised, along a chain
 abbrev pub heads : (ℕ → Bool) → List Entry → List ℕ

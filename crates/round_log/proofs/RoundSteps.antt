@@ -3,14 +3,14 @@ use Rattle.std.proofs.Common.{◌≡◌, ℕ, zero, suc, ◌<◌, ◌≤◌, Boo
 use Rattle.std.proofs.lemmas.Bool.{cond-true, cond-false, cases_Bool}
 use Rattle.std.proofs.lemmas.List.{length-map}
 use Rattle.cons_graph.specs.declared.edges.Edge.{Edge}
-use Rattle.cons_graph.specs.declared.log.Entry.{Entry}
-use Rattle.cons_graph.specs.Looks.{comes_back, raise_of}
-use Rattle.cons_graph.specs.Rounds.{Progress, after_look, backward_part, Plan, forward_part, round, one_more, after_rounds}
-use Rattle.cons_graph.proofs.Raises.{IsQuiet, raise_of-quiet}
-use Rattle.cons_graph.proofs.Chains.{In}
-use Rattle.cons_graph.proofs.Members.{cases_option, In-map}
-use Rattle.cons_graph.proofs.Depths.{depth_of, IsDeep, Extends, Since, since_later}
-use Rattle.cons_graph.proofs.Parts.{IsLog, IsForwardEdge, IsBackwardEdge, IsInOrder, Keeps, forward_keeps, forward_quiet, backward_gives, IsStopAt, depth_of_at_most}
+use Rattle.round_log.specs.declared.log.Entry.{Entry}
+use Rattle.round_log.specs.Looks.{comes_back, raise_of}
+use Rattle.round_log.specs.Rounds.{Progress, after_look, backward_part, Plan, forward_part, round, one_more, after_rounds}
+use Rattle.round_log.proofs.Raises.{IsQuiet, raise_of-quiet}
+use Rattle.round_log.proofs.Chains.{In}
+use Rattle.round_log.proofs.Members.{cases_option, In-map}
+use Rattle.round_log.proofs.Depths.{depth_of, IsDeep, Extends, Since, since_later}
+use Rattle.round_log.proofs.Parts.{IsLog, IsForwardEdge, IsBackwardEdge, IsInOrder, Keeps, forward_keeps, forward_quiet, backward_gives, IsStopAt, depth_of_at_most}
 
 -- what the rounds need to know of their edges: each is in one of the parts, by whether it is backward, its ends differ,
 -- and no later forward edge leads into the tail of an earlier one

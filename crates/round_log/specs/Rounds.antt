@@ -1,7 +1,8 @@
 use Rattle.std.specs.Prelude.{◌≡◌, ℕ, zero, suc, ◌<◌, Bool, true, false, if◌then◌else◌, Option, Some, None, List, [], ◌∷◌, fold}
 use Rattle.cons_graph.specs.declared.edges.Edge.{Edge}
-use Rattle.cons_graph.specs.declared.log.Entry.{Entry}
-use Rattle.cons_graph.specs.Looks.{look, raise_of, comes_back, edge_at, forward_numbers, backward_numbers}
+use Rattle.round_log.specs.declared.log.Entry.{Entry}
+use Rattle.round_log.specs.Looks.{look, raise_of, comes_back, forward_numbers, backward_numbers}
+use Rattle.cons_graph.specs.EdgeNumbers.{edge_at}
 
 -- how far the rounds have come: the raises so far, newest first, and whether a raise has stopped them
 pub record Progress : Type 0 where

@@ -1,0 +1,14 @@
+pub mod Raises
+pub mod Chains
+pub mod Depths
+pub mod Members
+pub mod Parts
+pub mod RoundSteps
+pub mod Least
+pub mod Sizes
+pub mod Planned
+pub mod Walking
+pub mod Cycles
+pub mod Ends
+pub mod Outcomes
+pub mod Entries

@@ -1,0 +1,5 @@
+pub mod Orders
+pub mod Looks
+pub mod Rounds
+pub mod Logs
+pub mod WalksBack
