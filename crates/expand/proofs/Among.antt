@@ -10,7 +10,7 @@ use Rattle.rule_table.specs.declared.technology.Tech.{Tech}
 use Rattle.rule_table.specs.declared.classes.Class.{Class}
 use Rattle.rule_table.specs.declared.classes.Layer.{Layer}
 use Rattle.rule_table.specs.declared.classes.Layer.TheVariants.{Diffusion, Poly, Metal}
-use Rattle.rule_table.specs.Bounds.{IsSize, IsSound as IsSoundTech}
+use Rattle.rule_table.specs.Bounds.{IsSize, IsTechnology}
 use Rattle.rule_table.specs.Technology.{numbers_of, pad_of}
 use Rattle.rule_table.proofs.Sound.{sound}
 use Rattle.rule_table.proofs.Widths.{pad_bounds, pad_even}
@@ -62,7 +62,7 @@ half_size z h =
     let even : (pos 2 *ℤ half z) ≡ z = h.even in
     (omega (arith, ints), omega (arith, ints))
 
-pub sound_numbers : (tech : Tech) → IsSoundTech (numbers_of tech)
+pub sound_numbers : (tech : Tech) → IsTechnology (numbers_of tech)
 sound_numbers tech = sound (numbers_of tech) tech.sound
 
 half_pad : (tech : Tech) → (pos 0 ≤ℤ half (pad_of tech)) × (half (pad_of tech) ≤ℤ pos 6144)

@@ -2,3 +2,4 @@ pub mod Ranges
 pub mod Sound
 pub mod Margins
 pub mod Widths
+pub mod Complete

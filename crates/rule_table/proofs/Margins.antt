@@ -4,7 +4,7 @@ use Rattle.std.specs.Prelude.{IfSome, fold}
 use Rattle.std.specs.Int.{int_max}
 use Rattle.std.proofs.lemmas.Int.{ints, clamps}
 use Rattle.rule_table.specs.Spacing.{row, either, spacing_in, gap_of, all_classes, greatest, margin_in, widest_in}
-use Rattle.rule_table.specs.Bounds.{IsSound}
+use Rattle.rule_table.specs.Bounds.{IsTechnology}
 use Rattle.rule_table.specs.declared.keys.Numbers.{Numbers}
 use Rattle.rule_table.specs.declared.classes.Rule.{Rule}
 use Rattle.rule_table.specs.declared.classes.Class.{Class}
@@ -14,7 +14,7 @@ use Rattle.rule_table.specs.declared.classes.Class.TheVariants.{M, P, Dc, Dm, C,
 abbrev pub IsSpacing : Rule → Type 0
 IsSpacing r = (pos 1 ≤ℤ r.s) × (r.s ≤ℤ pos 4096)
 
-row_bounds : (n : Numbers) → IsSound n → (a b : Class) → IfSome (row n a b) IsSpacing
+row_bounds : (n : Numbers) → IsTechnology n → (a b : Class) → IfSome (row n a b) IsSpacing
 row_bounds n h M M = (h.spacings.metal, h.in_range.spacing_metal.1)
 row_bounds n h P P = (h.spacings.poly, h.in_range.spacing_poly.1)
 row_bounds n h Dc Dc = (h.spacings.diffusion, h.in_range.spacing_diffusion.1)
@@ -28,7 +28,7 @@ either_bounds : (p q : Option Rule) → IfSome p IsSpacing → IfSome q IsSpacin
 either_bounds None q h k = k
 either_bounds (Some r) q h k = h
 
-pub spacing_bounds : (n : Numbers) → IsSound n → (a b : Class) → IfSome (spacing_in n a b) IsSpacing
+pub spacing_bounds : (n : Numbers) → IsTechnology n → (a b : Class) → IfSome (spacing_in n a b) IsSpacing
 unfolding spacing_in
 spacing_bounds n h a b = either_bounds _ _ (row_bounds n h a b) (row_bounds n h b a)
 
@@ -105,7 +105,7 @@ pub margin_above : (n : Numbers) (a b : Class) → IfSome (spacing_in n a b) (λ
 unfolding margin_in
 margin_above n a b = gap_within _ _ (greatest_above (λ c. gap_of (spacing_in n a c)) b)
 
-pub margin_below : (n : Numbers) → IsSound n → (a : Class) → margin_in n a ≤ℤ pos 4096
+pub margin_below : (n : Numbers) → IsTechnology n → (a : Class) → margin_in n a ≤ℤ pos 4096
 unfolding margin_in
 margin_below n h a =
     greatest_below (λ b. gap_of (spacing_in n a b)) (pos 4096) (omega (arith, ints)) (λ b. (gap_bounds _ (spacing_bounds n h a b)).1)
@@ -115,7 +115,7 @@ pub widest_above : (n : Numbers) (a : Class) → margin_in n a ≤ℤ widest_in 
 unfolding widest_in
 widest_above n a = greatest_above (margin_in n) a
 
-pub widest_below : (n : Numbers) → IsSound n → widest_in n ≤ℤ pos 4096
+pub widest_below : (n : Numbers) → IsTechnology n → widest_in n ≤ℤ pos 4096
 unfolding widest_in
 widest_below n h = greatest_below (margin_in n) (pos 4096) (omega (arith, ints)) (margin_below n h)
 
@@ -129,7 +129,7 @@ within_margins n a b =
     both _ _ (spacing_in n a b) (margin_above n a b) other
 
 -- each class has a row
-pub margin_positive : (n : Numbers) → IsSound n → (a : Class) → pos 1 ≤ℤ margin_in n a
+pub margin_positive : (n : Numbers) → IsTechnology n → (a : Class) → pos 1 ≤ℤ margin_in n a
 unfolding margin_in spacing_in
 margin_positive n h M = omega (arith, ints, greatest_above (λ c. gap_of (spacing_in n M c)) M)
 margin_positive n h P = omega (arith, ints, greatest_above (λ c. gap_of (spacing_in n P c)) P)
@@ -139,7 +139,7 @@ margin_positive n h C = omega (arith, ints, greatest_above (λ c. gap_of (spacin
 margin_positive n h I = omega (arith, ints, greatest_above (λ c. gap_of (spacing_in n I c)) G)
 margin_positive n h G = omega (arith, ints, greatest_above (λ c. gap_of (spacing_in n G c)) I)
 
-pub widest_positive : (n : Numbers) → IsSound n → pos 1 ≤ℤ widest_in n
+pub widest_positive : (n : Numbers) → IsTechnology n → pos 1 ≤ℤ widest_in n
 widest_positive n h =
     let one : pos 1 ≤ℤ margin_in n M = margin_positive n h M in
     let more : margin_in n M ≤ℤ widest_in n = widest_above n M in

@@ -4,7 +4,7 @@ use Rattle.std.specs.Ordering.{int_eq}
 use Rattle.std.proofs.lemmas.Int.{ints}
 use Rattle.std.proofs.lemmas.Bool.{cases_Bool}
 use Rattle.rule_table.specs.Faults.{first_fault, fault_if, tests, fault_of, range_fault, has_short_channel, has_short_extension, has_narrow_fet, has_small_pad, gate_length, diffusion_length}
-use Rattle.rule_table.specs.Bounds.{IsInRange, IsSound}
+use Rattle.rule_table.specs.Bounds.{IsInRange, IsTechnology}
 use Rattle.rule_table.specs.Spacing.{pad_in}
 use Rattle.rule_table.specs.declared.keys.Numbers.{Numbers}
 use Rattle.rule_table.specs.declared.faults.TechFault.{TechFault}
@@ -52,7 +52,7 @@ pads : (n : Numbers) → has_small_pad n ≡ false → (n.width_diffusion ≤ℤ
 unfolding has_small_pad
 pads n e = (grind (arith, ints), grind (arith, ints), grind (arith, ints))
 
-pub sound : (n : Numbers) → fault_of n ≡ None → IsSound n
+pub sound : (n : Numbers) → fault_of n ≡ None → IsTechnology n
 unfolding fault_of gate_length diffusion_length
 sound n e =
     let h = all_none (tests n) e in

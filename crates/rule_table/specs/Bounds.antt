@@ -43,21 +43,29 @@ pub record HasSpacings (n : Numbers) : Type 0 where
   pub cut_channel : pos 1 ≤ℤ n.spacing_cut_channel
   pub implant_channel : pos 1 ≤ℤ n.spacing_implant_channel
 
--- all that the numbers of a technology meet
-pub record IsSound (n : Numbers) : Type 0 where
+-- the numbers are those of a technology
+pub record IsTechnology (n : Numbers) : Type 0 where
+  -- each number is in range, and the version is 1
   pub in_range : IsInRange n
   pub version : n.version ≡ pos 1
+  -- the unit is even and not 0
   pub unit : IsSize n.unit
+  -- the widths and the size of a cut are even and not 0
   pub width_diffusion : IsSize n.width_diffusion
   pub width_poly : IsSize n.width_poly
   pub width_metal : IsSize n.width_metal
   pub cut_size : IsSize n.cut_size
+  -- no spacing is 0
   pub spacings : HasSpacings n
+  -- diffusion on both sides of the shortest channel keeps its spacing
   pub channel : n.spacing_diffusion ≤ℤ (n.width_poly +ℤ n.spacing_poly_diffusion)
+  -- the poly and the diffusion of a transistor reach past what keeps off its channel
   pub gate_reaches : n.spacing_poly_diffusion <ℤ n.extension_poly
   pub diffusion_reaches : n.spacing_poly_diffusion <ℤ n.extension_diffusion
+  -- no box of the least transistor is narrower than its layer allows
   pub fet_poly : n.width_poly ≤ℤ (n.width_diffusion +ℤ (pos 2 *ℤ n.extension_poly))
   pub fet_diffusion : n.width_diffusion ≤ℤ (n.width_poly +ℤ (pos 2 *ℤ n.extension_diffusion))
+  -- the pad of a contact is no narrower than a layer allows
   pub pad_diffusion : n.width_diffusion ≤ℤ pad_in n
   pub pad_poly : n.width_poly ≤ℤ pad_in n
   pub pad_metal : n.width_metal ≤ℤ pad_in n

@@ -31,12 +31,13 @@ first_key fails numbers = option_map (λ k. k.0) (find (λ k. fails k.1) numbers
 abbrev pub is_outside : ℤ → Bool
 is_outside z = int_lt z (pos 0) || int_lt (pos 4096) z
 
--- 0, or not a multiple of 2
 abbrev pub is_zero : ℤ → Bool
 is_zero z = int_eq z (pos 0)
 
+-- no multiple of 2
 abbrev pub is_odd : ℤ → Bool
 is_odd z = not (int_eq (int_rem z (pos 2)) (pos 0))
 
+-- odd or 0
 unfoldable pub is_no_size : ℤ → Bool
 is_no_size z = is_odd z || is_zero z

@@ -14,8 +14,8 @@ pub struct Tech {
 }
 
 impl Tech {
-    ghost use Rattle.std.specs.Prelude.{◌≡◌, Some, None, pos, ◌≤ℤ◌, ◌+ℤ◌, ◌*ℤ◌, int_div, IfOk, IfErr, IfSome};
-    ghost use Rattle.rule_table.specs.Bounds.{IsSize, IsSound};
+    ghost use Rattle.std.specs.Prelude.{◌≡◌, Some, None, pos, ◌≤ℤ◌, ◌+ℤ◌, ◌*ℤ◌, int_div, ◌↔◌, IsOk, IfOk, IfErr, IfSome};
+    ghost use Rattle.rule_table.specs.Bounds.{IsSize, IsTechnology};
     ghost use Rattle.rule_table.specs.Faults.{fault_of};
     ghost use Rattle.rule_table.specs.Technology.{numbers_of, spacing_of, margin_of, widest_of, width_of, pad_of, shipped_numbers};
     ghost use Rattle.rule_table.specs.declared.classes.Class.{Class};
@@ -26,6 +26,9 @@ impl Tech {
         ensures ok { IfOk result (λ t. numbers_of t ≡ numbers) }
         ensures accepted { IfOk result (λ _. fault_of numbers ≡ None) }
         ensures refused { IfErr result (λ fault. fault_of numbers ≡ Some fault) }
+
+        // The eight conditions, in words, are met by exactly the numbers that have no fault.
+        ensures exactly { IsOk result ↔ IsTechnology numbers }
     {
         match numbers.fault() {
             Some(fault) => Err(fault),
@@ -63,7 +66,7 @@ impl Tech {
     /// The numbers that the technology was made of.
     pub fn numbers(&self) -> Numbers
         ensures value { result ≡ numbers_of self.now }
-        ensures sound { IsSound result }
+        ensures sound { IsTechnology result }
     {
         self.numbers
     }
