@@ -15,6 +15,10 @@ pub record IsLeastSolution (vars : ℕ) (edges : List Edge) (x : ℕ → ℤ) : 
   pub solves : IsSolution edges x
   pub below : (y : ℕ → ℤ) → IsSolution edges y → (v : ℕ) → v < vars → x v ≤ℤ y v
 
+-- two least solutions agree on the variables
+abbrev pub HasOneLeast : ℕ → List Edge → Type 0
+HasOneLeast vars edges = (x y : ℕ → ℤ) → IsLeastSolution vars edges x → IsLeastSolution vars edges y → (v : ℕ) → v < vars → x v ≡ y v
+
 -- the map from variables to values that a list of values stands for
 abbrev pub value_of : List ℤ → ℕ → ℤ
 value_of values v = slice_index_or values v (pos 0)

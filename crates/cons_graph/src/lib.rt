@@ -6,11 +6,13 @@
 mod constraint_graph;
 mod edge_index;
 mod edges;
+mod laws;
 mod lines;
 mod names;
 mod walks;
 
 pub use constraint_graph::{Graph, GraphFault, MAX_EDGES};
 pub use edges::{Edge, Why};
+pub use laws::one_least_solution;
 pub use lines::edge_lines;
 pub use names::Names;

@@ -3,3 +3,4 @@ pub mod Steps
 pub mod Course
 pub mod Outputs
 pub mod InOrder
+pub mod OneOrder

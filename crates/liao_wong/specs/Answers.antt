@@ -20,3 +20,7 @@ pub record IsCycleOf (edges : List Edge) (order cycle : List ℕ) : Type 0 where
   pub raises : List Entry
   pub stops : Stops (plan_of edges order) raises
   pub is : cycle ≡ cycle_of edges raises
+
+-- the rounds stop at one cycle
+abbrev pub HasOneCycle : List Edge → List ℕ → Type 0
+HasOneCycle edges order = (c d : List ℕ) → IsCycleOf edges order c → IsCycleOf edges order d → c ≡ d

@@ -17,6 +17,7 @@ use cycle_show::cycle_of;
 use lam_list::Seq;
 use round_log::Log;
 use std::alloc::{AllocError, Global};
+use thiserror::Error;
 
 /// What the rounds leave when they end without a cycle.
 #[derive(Debug, Drop)]
@@ -32,11 +33,13 @@ pub struct Solved {
 }
 
 /// Why there is no solution.
-#[derive(Debug, Drop)]
+#[derive(Debug, Drop, Error)]
 pub enum Unsolved {
     /// The edges of a positive cycle: it meets no variable twice and begins at its variable of least number. Comes
     /// exactly where the graph has a positive cycle.
+    #[error("a cycle of positive length")]
     Cycle(Seq<u32>),
+    #[error("out of memory")]
     OutOfMemory,
 }
 

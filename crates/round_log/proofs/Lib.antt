@@ -12,3 +12,5 @@ pub mod Cycles
 pub mod Ends
 pub mod Outcomes
 pub mod Entries
+pub mod OneOutcome
+pub mod Implied

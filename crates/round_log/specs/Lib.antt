@@ -3,3 +3,5 @@ pub mod Looks
 pub mod Rounds
 pub mod Logs
 pub mod WalksBack
+pub mod Outcomes
+pub mod Implied

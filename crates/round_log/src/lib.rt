@@ -2,6 +2,8 @@
 //! and a longest walk to each variable, at a stop a cycle of positive length.
 #![tactic(auto)]
 
+mod laws;
 mod log;
 
+pub use laws::{implied_edges_change_no_cycle, rounds_come_out_one_way, rounds_end_or_stop};
 pub use log::{Entry, Log};

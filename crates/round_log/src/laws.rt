@@ -1,0 +1,25 @@
+ghost use Rattle.cons_graph.specs.Constraints.{IsConstraintGraph};
+ghost use Rattle.round_log.specs.Implied.{HaveCyclesAlike};
+ghost use Rattle.round_log.specs.Orders.{NamesEachOnce};
+ghost use Rattle.round_log.specs.Outcomes.{EndInOneWay, StopInOneWay, DoNotEndAndStop};
+ghost use Rattle.round_log.specs.Rounds.{plan_of};
+
+use cons_graph::Edge;
+
+/// A law, with nothing to run: the rounds over a list of edges and an order have one end, or one stop.
+pub fn rounds_come_out_one_way(edges: &[Edge], order: &[u32])
+    ensures one_end { EndInOneWay (plan_of edges.now order.now) }
+    ensures one_stop { StopInOneWay (plan_of edges.now order.now) }
+{}
+
+/// A law, with nothing to run: the rounds over a constraint graph do not both end and stop.
+pub fn rounds_end_or_stop(vars: u32, edges: &[Edge], order: &[u32])
+    requires shape { IsConstraintGraph (record { vars = vars; edges = edges.now }) }
+    requires names { NamesEachOnce vars order.now }
+    ensures { DoNotEndAndStop (plan_of edges.now order.now) }
+{}
+
+/// A law, with nothing to run: edges that the others imply may be left out, and no positive cycle comes or goes.
+pub fn implied_edges_change_no_cycle(some: &[Edge], all: &[Edge])
+    ensures { HaveCyclesAlike some.now all.now }
+{}
