@@ -182,4 +182,18 @@ mod tests {
         assert_eq!(rt; shelf.faults, 3);
         Ok(())
     }
+
+    #[test]
+    fn the_file_of_exactly_that_name_is_opened(rt: HostRuntime) -> Result<(), Fail> {
+        fs::write(&rt, " nmos.toml ", b"abc")?;
+        let mut shelf = FileShelf::new(&rt);
+        assert_eq!(rt;
+            shelf.fetch(rt.alloc(), " nmos.toml ", 4)?.as_slice(),
+            b"abc".as_slice()
+        );
+        for other in ["nmos.toml ", " nmos.toml", "nmos.toml"] {
+            assert!(rt; shelf.fetch(rt.alloc(), other, 4) == Err(Fetch::Fault));
+        }
+        Ok(fs::remove_file(&rt, " nmos.toml ")?)
+    }
 }
