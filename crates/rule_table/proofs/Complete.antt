@@ -26,10 +26,26 @@ unfolding range_fault first_key
 in_range n h =
     let r = h.in_range in
     let one : int_eq n.version (pos 1) ≡ true = grind (arith, ints, h.version) in
-    rw (one, inside _ r.version, inside _ r.unit, inside _ r.width_diffusion, inside _ r.width_poly, inside _ r.width_metal,
-    inside _ r.spacing_diffusion, inside _ r.spacing_poly, inside _ r.spacing_metal, inside _ r.spacing_poly_diffusion, inside _ r.spacing_cut,
-    inside _ r.spacing_cut_channel, inside _ r.spacing_implant_channel, inside _ r.extension_poly, inside _ r.extension_diffusion,
-    inside _ r.extension_implant, inside _ r.cut_size, inside _ r.cut_enclosure) refl
+    rw (
+      one,
+      inside _ r.version,
+      inside _ r.unit,
+      inside _ r.width_diffusion,
+      inside _ r.width_poly,
+      inside _ r.width_metal,
+      inside _ r.spacing_diffusion,
+      inside _ r.spacing_poly,
+      inside _ r.spacing_metal,
+      inside _ r.spacing_poly_diffusion,
+      inside _ r.spacing_cut,
+      inside _ r.spacing_cut_channel,
+      inside _ r.spacing_implant_channel,
+      inside _ r.extension_poly,
+      inside _ r.extension_diffusion,
+      inside _ r.extension_implant,
+      inside _ r.cut_size,
+      inside _ r.cut_enclosure,
+    ) refl
 
 even_sizes : (n : Numbers) → IsTechnology n → first_key is_no_size (sizes n) ≡ None
 unfolding first_key
@@ -39,8 +55,15 @@ some_spacings : (n : Numbers) → IsTechnology n → first_key is_zero (spacings
 unfolding first_key
 some_spacings n h =
     let s = h.spacings in
-    rw (no_zero _ s.diffusion, no_zero _ s.poly, no_zero _ s.metal, no_zero _ s.poly_diffusion, no_zero _ s.cut, no_zero _ s.cut_channel,
-    no_zero _ s.implant_channel) refl
+    rw (
+      no_zero _ s.diffusion,
+      no_zero _ s.poly,
+      no_zero _ s.metal,
+      no_zero _ s.poly_diffusion,
+      no_zero _ s.cut,
+      no_zero _ s.cut_channel,
+      no_zero _ s.implant_channel,
+    ) refl
 
 long_channel : (n : Numbers) → IsTechnology n → has_short_channel n ≡ false
 unfolding has_short_channel

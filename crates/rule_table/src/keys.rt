@@ -46,12 +46,11 @@ pub struct Numbers {
 const GREATEST: i64 = 4096;
 
 impl Numbers {
-    /// The first number below 0 or above `GREATEST`.
-    #[tactic(auto, unfolding(crate::specs::Keys::first_key))]
-    pub(crate) fn first_outside(&self) -> Option<u8>
-        ensures { result ≡ first_key is_outside (all_numbers self.now) }
+    /// The numbers in the order of their keys, each behind the place of its key.
+    fn in_order(&self) -> [(u8, i64); 17]
+        ensures { result ≡ all_numbers self.now }
     {
-        let numbers = [
+        [
             (0, self.version),
             (1, self.unit),
             (2, self.width_diffusion),
@@ -69,8 +68,15 @@ impl Numbers {
             (14, self.extension_implant),
             (15, self.cut_size),
             (16, self.cut_enclosure),
-        ];
-        numbers
+        ]
+    }
+
+    /// The first number below 0 or above `GREATEST`.
+    #[tactic(auto, unfolding(crate::specs::Keys::first_key))]
+    pub(crate) fn first_outside(&self) -> Option<u8>
+        ensures { result ≡ first_key is_outside (all_numbers self.now) }
+    {
+        self.in_order()
             .iter()
             .find(|n| n.1 < 0 || n.1 > GREATEST)
             .map(|n| n.0)
@@ -81,13 +87,11 @@ impl Numbers {
     pub(crate) fn first_bad_size(&self) -> Option<u8>
         ensures { result ≡ first_key is_no_size (sizes self.now) }
     {
-        let sizes = [
-            (2, self.width_diffusion),
-            (3, self.width_poly),
-            (4, self.width_metal),
-            (15, self.cut_size),
-        ];
-        sizes.iter().find(|n| is_no_size(n.1)).map(|n| n.0)
+        let [_, _, diffusion, poly, metal, .., cut, _] = self.in_order();
+        [diffusion, poly, metal, cut]
+            .iter()
+            .find(|n| is_no_size(n.1))
+            .map(|n| n.0)
     }
 
     /// The first spacing that is 0.
@@ -95,16 +99,10 @@ impl Numbers {
     pub(crate) fn first_zero_spacing(&self) -> Option<u8>
         ensures { result ≡ first_key is_zero (spacings self.now) }
     {
-        let spacings = [
-            (5, self.spacing_diffusion),
-            (6, self.spacing_poly),
-            (7, self.spacing_metal),
-            (8, self.spacing_poly_diffusion),
-            (9, self.spacing_cut),
-            (10, self.spacing_cut_channel),
-            (11, self.spacing_implant_channel),
-        ];
-        spacings.iter().find(|n| n.1 == 0).map(|n| n.0)
+        self.in_order()[5..12]
+            .iter()
+            .find(|n| n.1 == 0)
+            .map(|n| n.0)
     }
 }
 
