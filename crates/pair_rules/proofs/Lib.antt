@@ -1,5 +1,4 @@
 pub mod EitherOrder
-pub mod Turned
 pub mod Pieces
 pub mod Staying
 pub mod CleanPairs

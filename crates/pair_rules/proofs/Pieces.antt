@@ -1,10 +1,10 @@
 -- What lists of the pieces of the first numbers contain.
-use Rattle.std.proofs.Common.{◌≡◌, ℕ, zero, suc, ◌<◌, ℤ, List, [], ◌∷◌, length, get_or, Option, Some, refl, sym, ◌∙◌, subst, zero-add, arith}
+use Rattle.std.proofs.Common.{◌≡◌, ℕ, zero, suc, ◌+◌, ◌<◌, ◌≤◌, ℤ, List, [], ◌∷◌, ◌++◌, length, get_or, Option, Some, refl, sym, ap, ◌∙◌, subst, append_assoc, zero-add, arith}
 use Rattle.std.specs.List.{flat_map, range_with_len, Contains}
 use Rattle.std.proofs.lemmas.List.FromFn.{length-range_with_len, get_or-range_with_len}
 use Rattle.std.proofs.lemmas.List.Elements.{Contains-append_left, Contains-append_right}
 use Rattle.pair_rules.specs.declared.pairs.Pair.{Pair}
-use Rattle.pair_rules.specs.Candidates.{pair_with}
+use Rattle.pair_rules.specs.Candidates.{AddsFirst, pair_with}
 
 -- what a piece contains, the whole contains
 contains_piece : {X A : Type 0} (f : X → List A) (xs : List X) (k : ℕ) (d : X) (y : A) → k < length xs → Contains (f (get_or xs k d)) y → Contains (flat_map f xs) y
@@ -23,3 +23,16 @@ contains_pair o s i j e =
     let p : Pair = record { i = i; j = j; s = s } in
     let here : Contains (p ∷ []) p = (0, omega arith, refl) in
     subst (λ (q : Option ℤ). Contains (pair_with q i j) p) (sym e) here
+
+-- the pieces of the first of some numbers come first
+front_from : {A : Type 0} (f : ℕ → List A) (a m n : ℕ) → m ≤ n → (rest : List A) × (flat_map f (range_with_len a n) ≡ flat_map f (range_with_len a m) ++ rest)
+front_from f a zero n le = (flat_map f (range_with_len a n), refl)
+front_from f a (suc m) zero le = absurd (omega arith)
+front_from f a (suc m) (suc n) le =
+    let w = front_from f (a + 1) m n (omega arith) in
+    (w.0, ap (λ zs. f a ++ zs) w.1 ∙ sym (append_assoc (f a) (flat_map f (range_with_len (a + 1) m)) w.0))
+
+pub first_pieces : (f : ℕ → List Pair) (m n : ℕ) (old now : List Pair) → m ≤ n → now ≡ old ++ flat_map f (range_with_len 0 m) → AddsFirst (flat_map f (range_with_len 0 n)) old now
+first_pieces f m n old now le is =
+    let w = front_from f 0 m n le in
+    record { first = flat_map f (range_with_len 0 m); rest = w.0; in_order = w.1; added = is }

@@ -9,27 +9,23 @@ use Rattle.rule_table.specs.declared.technology.Tech.{Tech}
 use Rattle.sym_items.specs.declared.items.Item.{Item}
 use Rattle.sym_items.specs.declared.items.Coords.{Coords}
 use Rattle.sym_items.specs.Values.{value_of, value_at}
-use Rattle.sym_items.specs.Sides.{Sides, sides_in, gap_on_y, gap_of_sides, gap_in}
-use Rattle.sym_items.specs.Transposed.{item_along, coords_along}
+use Rattle.sym_items.specs.Sides.{Sides, gap_on_y, gap_of_sides, gap_in}
+use Rattle.sym_items.specs.Transposed.{item_along}
 use Rattle.pair_rules.specs.declared.pairs.Pair.{Pair}
 use Rattle.pair_rules.specs.Bound.{item_at, bound_spacing}
-use Rattle.pair_rules.specs.Candidates.{is_before, facing_on_x, spacing_at, pairs_at, candidates_to, candidates_of, Keeps}
+use Rattle.pair_rules.specs.Candidates.{IsCandidate, sides_at, spacing_at, pairs_at, candidates_to, candidates_of, Keeps}
 use Rattle.pair_rules.specs.Laws.{moved, StaysClean}
 use Rattle.pair_rules.proofs.EitherOrder.{bound_symmetric}
-use Rattle.pair_rules.proofs.Turned.{turned_bound, turned_gap}
+use Rattle.pair_rules.proofs.FacingItems.{candidate_faces}
 use Rattle.pair_rules.proofs.Pieces.{contains_piece_of, contains_pair}
 
--- one box stands before the other
-stands_before : (s : ℤ) (a b : Sides) → gap_on_y a b <ℤ s → (a.right +ℤ s) ≤ℤ b.left → is_before s a b ≡ true
-stands_before s a b near far = grind (arith, ints)
-
 -- boxes that lie so far apart: on y, or the one stands before the other, or the other before the one
-by_cases : {P : Type 0} (s : ℤ) (a b : Sides) → s ≤ℤ gap_of_sides a b → (s ≤ℤ gap_on_y a b → P) → (is_before s a b ≡ true → P) → (is_before s b a ≡ true → P) → P
+by_cases : {P : Type 0} (s : ℤ) (a b : Sides) → s ≤ℤ gap_of_sides a b → (s ≤ℤ gap_on_y a b → P) → (gap_on_y a b <ℤ s → (a.right +ℤ s) ≤ℤ b.left → P) → (gap_on_y b a <ℤ s → (b.right +ℤ s) ≤ℤ a.left → P) → P
 by_cases s a b apart across first second =
     by_lt_z (gap_on_y a b) s
     (λ near. by_lt_z (b.left -ℤ a.right) s
-    (λ below. second (stands_before s b a (omega (arith, ints, clamps, near)) (omega (arith, ints, clamps, near, below, apart))))
-    (λ above. first (stands_before s a b near (omega (arith, ints, above)))))
+    (λ below. second (omega (arith, ints, clamps, near)) (omega (arith, ints, clamps, near, below, apart)))
+    (λ above. first near (omega (arith, ints, above))))
     across
 
 -- the gap where each pair keeps its spacing on one of the axes
@@ -42,24 +38,33 @@ across_x_back s a b h = omega (arith, ints, clamps, h)
 across_y : (s : ℤ) (a b : Sides) → s ≤ℤ gap_on_y a b → s ≤ℤ gap_of_sides a b
 across_y s a b h = omega (arith, ints, clamps, h)
 
--- a bound item stands before another
-faces_x : (t : Tech) (c : Coords) (a b : Item) (s : ℤ) → bound_spacing t a b ≡ Some s → is_before s (sides_in c a) (sides_in c b) ≡ true → facing_on_x t c a b ≡ Some s
-unfolding facing_on_x
-faces_x t c a b s e h = rw e (rw h refl)
+-- the sides of an item along an axis once the axis has other values
+abbrev with_ends : Axis → List ℤ → Item → Sides → Sides
+with_ends axis values a s = record s { left = value_at (item_along axis a).xl values; right = value_at (item_along axis a).xh values }
 
--- two bound items that keep their spacing keep it where they face each other on x, if they do, and stay on y
-stay_apart : (t : Tech) (c : Coords) (a b : Item) (s : ℤ) (values : List ℤ) → bound_spacing t a b ≡ Some s → s ≤ℤ gap_in c a b
-    → (facing_on_x t c a b ≡ Some s → s ≤ℤ (value_at b.xl values -ℤ value_at a.xh values))
-    → (facing_on_x t c b a ≡ Some s → s ≤ℤ (value_at a.xl values -ℤ value_at b.xh values))
-    → s ≤ℤ gap_in (record { x = values; y = c.y }) a b
-stay_apart t c a b s values bound apart first second =
-    let after : Coords = record { x = values; y = c.y } in
-    let u = sides_in after a in
-    let v = sides_in after b in
-    by_cases s (sides_in c a) (sides_in c b) apart
+moved_gap : (axis : Axis) (c : Coords) (values : List ℤ) (a b : Item)
+    → gap_of_sides (with_ends axis values a (sides_at axis c a)) (with_ends axis values b (sides_at axis c b)) ≡ gap_in (moved axis c values) a b
+moved_gap X c values a b = refl
+moved_gap Y c values a b = omega (arith, ints, clamps)
+
+turned_gap : (axis : Axis) (c : Coords) (a b : Item) → gap_of_sides (sides_at axis c a) (sides_at axis c b) ≡ gap_in c a b
+turned_gap X c a b = refl
+turned_gap Y c a b = omega (arith, ints, clamps)
+
+-- two bound items that keep their spacing keep it where they are a candidate, if they are, and across the axis
+stay_apart : (axis : Axis) (t : Tech) (c : Coords) (a b : Item) (s : ℤ) (values : List ℤ) → bound_spacing t a b ≡ Some s → s ≤ℤ gap_in c a b
+    → (IsCandidate axis t c a b s → s ≤ℤ (value_at (item_along axis b).xl values -ℤ value_at (item_along axis a).xh values))
+    → (IsCandidate axis t c b a s → s ≤ℤ (value_at (item_along axis a).xl values -ℤ value_at (item_along axis b).xh values))
+    → s ≤ℤ gap_in (moved axis c values) a b
+stay_apart axis t c a b s values bound apart first second =
+    let G : ℤ → Type 0 = λ z. s ≤ℤ z in
+    let u = with_ends axis values a (sides_at axis c a) in
+    let v = with_ends axis values b (sides_at axis c b) in
+    subst G (moved_gap axis c values a b)
+    (by_cases s (sides_at axis c a) (sides_at axis c b) (subst G (sym (turned_gap axis c a b)) apart)
     (λ far. across_y s u v far)
-    (λ before. across_x s u v (first (faces_x t c a b s bound before)))
-    (λ before. across_x_back s u v (second (faces_x t c b a s (bound_symmetric t b a ∙ bound) before)))
+    (λ near before. across_x s u v (first (record { bound = bound; near_across = near; apart = before })))
+    (λ near before. across_x_back s u v (second (record { bound = bound_symmetric t b a ∙ bound; near_across = near; apart = before }))))
 
 -- the inequality of a candidate, out of those of all
 kept_at : (axis : Axis) (t : Tech) (c : Coords) (items : List Item) (values : List ℤ) (i j : ℕ) (s : ℤ)
@@ -70,11 +75,6 @@ kept_at axis t c items values i j s keeps i_among j_among faces =
     let of_j : Contains (candidates_to axis t c items j) p = contains_piece_of (pairs_at axis t c items j) (length items) i p i_among (contains_pair (spacing_at axis t c items i j) s i j faces) in
     All-contains (Keeps axis (value_of values) items) (candidates_of axis t c items) p keeps
     (contains_piece_of (candidates_to axis t c items) (length items) j p j_among of_j)
-
--- a moved layout, turned
-moved_along : (axis : Axis) (c : Coords) (values : List ℤ) → let after : Coords = record { x = values; y = (coords_along axis c).y } in after ≡ coords_along axis (moved axis c values)
-moved_along X c values = refl
-moved_along Y c values = refl
 
 at_some : (o : Option ℤ) (P : ℤ → Type 0) (s : ℤ) → o ≡ Some s → IfSome o P → P s
 at_some o P s e h = let Q : Option ℤ → Type 0 = λ q. IfSome q P in subst Q e h
@@ -91,14 +91,9 @@ pair_stays : (axis : Axis) (t : Tech) (c : Coords) (items : List Item) (values :
 pair_stays axis t c items values i j s keeps i_among j_among bound apart =
     let a = item_at items i in
     let b = item_at items j in
-    let G : ℤ → Type 0 = λ z. s ≤ℤ z in
-    let M : Coords → Type 0 = λ m. s ≤ℤ gap_in m (item_along axis a) (item_along axis b) in
-    subst G (turned_gap axis (moved axis c values) a b)
-    (subst M (moved_along axis c values)
-    (stay_apart t (coords_along axis c) (item_along axis a) (item_along axis b) s values (turned_bound axis t a b ∙ bound)
-    (subst G (sym (turned_gap axis c a b)) apart)
-    (λ faces. kept_at axis t c items values i j s keeps i_among j_among faces)
-    (λ faces. kept_at axis t c items values j i s keeps j_among i_among faces)))
+    stay_apart axis t c a b s values bound apart
+    (λ faces. kept_at axis t c items values i j s keeps i_among j_among (candidate_faces axis t c a b s faces))
+    (λ faces. kept_at axis t c items values j i s keeps j_among i_among (candidate_faces axis t c b a s faces))
 
 pub stays_clean : (axis : Axis) (t : Tech) (c : Coords) (items : List Item) → StaysClean axis t c items
 stays_clean axis t c items values clean keeps i j i_among j_among =

@@ -1,6 +1,6 @@
--- Candidates: bound items that face each other along an axis, and what they keep. All is said of axis x; axis y is axis x of
--- the transposed items in the transposed layout.
-use Rattle.std.specs.Prelude.{ℕ, ℤ, ◌+ℤ◌, ◌-ℤ◌, ◌≤ℤ◌, Bool, ◌&&◌, int_lt, int_le, if◌then◌else◌, Option, Some, None, is_some, List, [], ◌∷◌, length, flat_map}
+-- Candidates: bound items that face each other along an axis, and what they keep.
+use Rattle.std.specs.Prelude.{◌≡◌, ℕ, ℤ, ◌+ℤ◌, ◌-ℤ◌, ◌≤ℤ◌, ◌<ℤ◌, Bool, ◌&&◌, int_lt, int_le, Option, Some, None, is_some, List, [], ◌∷◌, ◌++◌, length, flat_map}
+use Rattle.std.specs.Bool.{then_some}
 use Rattle.std.specs.List.{range_with_len}
 use Rattle.lam_geom.specs.declared.boxes.Axis.{Axis}
 use Rattle.rule_table.specs.declared.technology.Tech.{Tech}
@@ -9,26 +9,32 @@ use Rattle.sym_items.specs.declared.items.Item.{Item}
 use Rattle.sym_items.specs.declared.items.Coords.{Coords}
 use Rattle.sym_items.specs.Values.{end_under}
 use Rattle.sym_items.specs.Sides.{Sides, sides_in, gap_on_y}
-use Rattle.sym_items.specs.Transposed.{item_along, coords_along}
+use Rattle.sym_items.specs.Transposed.{item_along, sides_along}
 use Rattle.pair_rules.specs.declared.pairs.Pair.{Pair}
 use Rattle.pair_rules.specs.Bound.{item_at, bound_spacing}
 
--- one box is nearer to another than the spacing on y, and ends at least the spacing before it on x
+-- the sides of an item in a layout, turned so that an axis runs from left to right
+abbrev pub sides_at : Axis → Coords → Item → Sides
+sides_at axis c a = sides_along axis (sides_in c a)
+
+-- A candidate (a, b) of an axis with a spacing: the items are bound with it, their gap across the axis is below it, and the first
+-- ends at least so far before the second begins.
+pub record IsCandidate (axis : Axis) (t : Tech) (c : Coords) (a b : Item) (s : ℤ) : Type 0 where
+  pub bound : bound_spacing t a b ≡ Some s
+  pub near_across : gap_on_y (sides_at axis c a) (sides_at axis c b) <ℤ s
+  pub apart : ((sides_at axis c a).right +ℤ s) ≤ℤ (sides_at axis c b).left
+
+-- The same, computed: one box is nearer to another than the spacing on y, and ends at least the spacing before it on x; the spacing,
+-- where it stands so; and the spacing of the candidate (a, b), none where it is no candidate.
 abbrev pub is_before : ℤ → Sides → Sides → Bool
 is_before s a b = int_lt (gap_on_y a b) s && int_le (a.right +ℤ s) b.left
 
--- the spacing, where the one box stands before the other
 abbrev pub spacing_before : Option ℤ → Sides → Sides → Option ℤ
 spacing_before None a b = None
-spacing_before (Some s) a b = if is_before s a b then Some s else None
+spacing_before (Some s) a b = then_some (is_before s a b) s
 
--- the spacing of the candidate (a, b) of axis x; none where it is no candidate
-unfoldable pub facing_on_x : Tech → Coords → Item → Item → Option ℤ
-facing_on_x t c a b = spacing_before (bound_spacing t a b) (sides_in c a) (sides_in c b)
-
--- the same of either axis
-abbrev pub facing_spacing : Axis → Tech → Coords → Item → Item → Option ℤ
-facing_spacing axis t c a b = facing_on_x t (coords_along axis c) (item_along axis a) (item_along axis b)
+unfoldable pub facing_spacing : Axis → Tech → Coords → Item → Item → Option ℤ
+facing_spacing axis t c a b = spacing_before (bound_spacing t a b) (sides_at axis c a) (sides_at axis c b)
 
 -- the same of the items number i and j, and whether they are a candidate
 abbrev pub spacing_at : Axis → Tech → Coords → List Item → ℕ → ℕ → Option ℤ
@@ -52,6 +58,13 @@ item_numbers items = range_with_len 0 (length items)
 -- the candidates that end at item j, in order of i
 abbrev pub candidates_to : Axis → Tech → Coords → List Item → ℕ → List Pair
 candidates_to axis t c items j = flat_map (pairs_at axis t c items j) (item_numbers items)
+
+-- some pairs, the first of a list, were added behind others
+pub record AddsFirst (all old new : List Pair) : Type 0 where
+  pub first : List Pair
+  pub rest : List Pair
+  pub in_order : all ≡ first ++ rest
+  pub added : new ≡ old ++ first
 
 -- all candidates of an axis, in order of (j, i)
 abbrev pub candidates_of : Axis → Tech → Coords → List Item → List Pair

@@ -1,28 +1,16 @@
 //! Items that face each other along an axis.
 
-ghost use Rattle.std.specs.Prelude.{◌≡◌, ◌<◌, ◌^◌, pos, ◌≤ℤ◌, int_le, length, All};
+ghost use Rattle.std.specs.Prelude.{◌≡◌, ◌↔◌, ◌<◌, ◌^◌, ℤ, pos, ◌≤ℤ◌, int_le, length, All, Some, IsTrue};
 ghost use Rattle.lam_geom.specs.Places.{IsPlacedBox};
 ghost use Rattle.sym_items.specs.Sides.{sides_of};
 ghost use Rattle.sym_items.specs.Boxes.{HasBox};
-ghost use Rattle.sym_items.specs.Transposed.{sides_along};
-ghost use Rattle.pair_rules.specs.Candidates.{is_before, facing_spacing, is_facing};
+ghost use Rattle.pair_rules.specs.Bound.{item_at};
+ghost use Rattle.pair_rules.specs.Candidates.{IsCandidate, is_before, facing_spacing, is_facing};
 
 use crate::bound::is_bound;
-use lam_geom::{Axis, BoxXY, gap, transpose};
+use lam_geom::{Axis, BoxXY, gap};
 use rule_table::Tech;
-use sym_items::{Coords, Item, box_of};
-
-// The box turned so that the axis lies where x lay.
-fn turned(axis: Axis, area: BoxXY) -> BoxXY
-    requires { IsPlacedBox area }
-    ensures sides { sides_of result ≡ sides_along axis (sides_of area) }
-    ensures placed { IsPlacedBox result }
-{
-    match axis {
-        Axis::X => area,
-        Axis::Y => transpose(&area),
-    }
-}
+use sym_items::{Coords, Item, box_along};
 
 // Whether a box is nearer to another than the spacing on y, and ends at least the spacing before it on x.
 fn is_before(spacing: i64, a: &BoxXY, b: &BoxXY) -> bool
@@ -47,16 +35,13 @@ fn is_at_most(a: i64, b: i64) -> bool
 pub fn facing_spacing(axis: Axis, tech: &Tech, coords: &Coords, a: &Item, b: &Item) -> Option<i64>
     requires first { HasBox coords.now a.now }
     requires second { HasBox coords.now b.now }
-    ensures { result ≡ facing_spacing axis tech.now coords.now a.now b.now }
+    ensures value { result ≡ facing_spacing axis tech.now coords.now a.now b.now }
+    ensures candidate { (s : ℤ) → (result ≡ Some s) ↔ IsCandidate axis tech.now coords.now a.now b.now s }
 {
     let spacing = is_bound(tech, a, b)?;
-    let from = turned(axis, box_of(a, coords));
-    let to = turned(axis, box_of(b, coords));
-    if is_before(spacing, &from, &to) {
-        Some(spacing)
-    } else {
-        None
-    }
+    let from = box_along(axis, a, coords);
+    let to = box_along(axis, b, coords);
+    is_before(spacing, &from, &to).then_some(spacing)
 }
 
 /// Whether the items number `i` and `j` are a candidate of an axis: `i` and `j` are bound, their gap across the axis is
@@ -65,7 +50,8 @@ pub fn facing(axis: Axis, tech: &Tech, items: &[Item], coords: &Coords, i: u32, 
     requires boxes { All (HasBox coords.now) items.now }
     requires i_among { i < length items.now }
     requires j_among { j < length items.now }
-    ensures { result ≡ is_facing axis tech.now coords.now items.now i j }
+    ensures value { result ≡ is_facing axis tech.now coords.now items.now i j }
+    ensures candidate { IsTrue result ↔ ((s : ℤ) × IsCandidate axis tech.now coords.now (item_at items.now i) (item_at items.now j) s) }
 {
     facing_spacing(axis, tech, coords, &items[i as usize], &items[j as usize]).is_some()
 }

@@ -1,8 +1,8 @@
 //! All pairs of items that face each other along an axis.
 
-ghost use Rattle.std.specs.Prelude.{◌≡◌, ◌<◌, ◌^◌, ◌++◌, length, All, OnOk, IfOk};
+ghost use Rattle.std.specs.Prelude.{◌≡◌, ◌<◌, ◌^◌, ◌++◌, length, All, OnOk, OnErr, IfOk};
 ghost use Rattle.sym_items.specs.Boxes.{HasBox};
-ghost use Rattle.pair_rules.specs.Candidates.{candidates_to, candidates_of};
+ghost use Rattle.pair_rules.specs.Candidates.{AddsFirst, candidates_to, candidates_of};
 
 use crate::candidates::facing_spacing;
 use lam_geom::Axis;
@@ -18,7 +18,8 @@ pub struct Pair {
     pub s: i64,
 }
 
-/// Adds the candidates of an axis that end at item `j`, in order of `i`. It looks at each item.
+/// Adds the candidates of an axis that end at item `j`, in order of `i`. It looks at each item. After a refusal the first of
+/// them are there.
 pub fn push_pairs_to(
     pairs: &mut Vec<Pair>,
     axis: Axis,
@@ -30,7 +31,8 @@ pub fn push_pairs_to(
     requires few { length items.now < 2 ^ 32 }
     requires boxes { All (HasBox coords.now) items.now }
     requires j_among { j < length items.now }
-    ensures { OnOk result (pairs.new.items ≡ pairs.old.items ++ candidates_to axis tech.now coords.now items.now j) }
+    ensures ok { OnOk result (pairs.new.items ≡ pairs.old.items ++ candidates_to axis tech.now coords.now items.now j) }
+    ensures err { OnErr result (AddsFirst (candidates_to axis tech.now coords.now items.now j) pairs.old.items pairs.new.items) }
 {
     for i in 0..items.len() as u32 {
         let spacing = facing_spacing(axis, tech, coords, &items[i as usize], &items[j as usize]);

@@ -5,10 +5,10 @@ ghost use Rattle.lam_geom.specs.Places.{IsPlacedBox};
 ghost use Rattle.sym_items.specs.Values.{value_at};
 ghost use Rattle.sym_items.specs.Sides.{sides_of, sides_in};
 ghost use Rattle.sym_items.specs.Boxes.{IsPlacedEnd, HasBox};
-ghost use Rattle.sym_items.specs.Transposed.{TransposesBoxes};
+ghost use Rattle.sym_items.specs.Transposed.{TransposesBoxes, sides_along};
 
 use crate::items::{Coords, End, Item};
-use lam_geom::{BoxXY, Span};
+use lam_geom::{Axis, BoxXY, Span, transpose};
 
 /// Where an end lies, in u, where `c` has the value of each variable of its axis.
 pub fn at(e: End, c: &[i64]) -> i64
@@ -33,6 +33,19 @@ pub fn box_of(item: &Item, c: &Coords) -> BoxXY
         hi: at(item.yh, c.y.as_slice()),
     };
     BoxXY { x, y }
+}
+
+/// The box of an item in a layout, in u, turned so that the axis lies where x lay: as it is for x, with x and y exchanged for y.
+pub fn box_along(axis: Axis, item: &Item, c: &Coords) -> BoxXY
+    requires { HasBox c.now item.now }
+    ensures sides { sides_of result ≡ sides_along axis (sides_in c.now item.now) }
+    ensures placed { IsPlacedBox result }
+{
+    let area = box_of(item, c);
+    match axis {
+        Axis::X => area,
+        Axis::Y => transpose(&area),
+    }
 }
 
 /// A law, with nothing to run: an item and a layout with x and y exchanged give the item's box with x and y exchanged,

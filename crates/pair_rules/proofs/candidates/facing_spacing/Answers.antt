@@ -1,30 +1,31 @@
-use Rattle.std.proofs.Common.{◌≡◌, Some, sym, ap, ◌∙◌, to_z, of_z, w64, arith}
+use Rattle.std.proofs.Common.{◌≡◌, sym, ap, ◌∙◌, to_z, of_z, w64, arith}
+use Rattle.std.specs.Bool.{then_some}
 use Rattle.std.proofs.lemmas.Int.{ints}
 use Rattle.sym_items.specs.Sides.{sides_of}
-use Rattle.sym_items.specs.Transposed.{sides_along}
-use Rattle.pair_rules.specs.Candidates.{is_before}
-use Rattle.pair_rules.proofs.Turned.{not_bound, does_face, does_not_face}
+use Rattle.pair_rules.specs.Candidates.{is_before, facing_spacing}
+use Rattle.pair_rules.proofs.FacingItems.{faces_exactly, facing_by, not_bound}
+use Rattle.pair_rules.proofs.candidates.facing_spacing.Goals.{After-then_some}
 use Rattle.pair_rules.proofs.candidates.facing_spacing.Goals as goal
 
-pub returns-in_err-spacing : goal.returns-in_err-spacing
-returns-in_err-spacing c =
+pub returns-in_err-spacing-clause-value : goal.returns-in_err-spacing-clause-value
+returns-in_err-spacing-clause-value c =
     rw c.from_residual.ensures (sym (not_bound c.args.axis c.args.tech.now c.args.coords.now c.args.a.now c.args.b.now c.in_err-spacing.ensures.value))
 
-pub returns-then-is_before : goal.returns-then-is_before
-returns-then-is_before c =
+told : (c : After-then_some) → c.then_some.result ≡ facing_spacing c.args.axis c.args.tech.now c.args.coords.now c.args.a.now c.args.b.now
+told c =
+    let s = c.in_ok-spacing.spacing in
     let small = c.in_ok-spacing.ensures.bounds in
-    let same : to_z w64 (of_z w64 c.in_ok-spacing.spacing) ≡ c.in_ok-spacing.spacing = omega (arith, ints, small) in
-    let from = c.turned-from.ensures.sides ∙ ap (sides_along c.args.axis) c.box_of.ensures.sides in
-    let to = c.turned-to.ensures.sides ∙ ap (sides_along c.args.axis) c.box_of-2.ensures.sides in
-    let stands = ap (λ z. is_before z (sides_of c.turned-from.result) (sides_of c.turned-to.result)) (sym same) ∙ (sym c.is_before.ensures ∙ c.if-is_before.true) in
-    ap Some same
-    ∙ sym (does_face c.args.axis c.args.tech.now c.args.coords.now c.args.a.now c.args.b.now c.in_ok-spacing.spacing (sides_of c.turned-from.result) (sides_of c.turned-to.result) c.in_ok-spacing.ensures.value from to stands)
+    let same : to_z w64 (of_z w64 s) ≡ s = omega (arith, ints, small) in
+    let u = sides_of c.box_along-from.result in
+    let v = sides_of c.box_along-to.result in
+    c.then_some.ensures
+    ∙ (ap (λ q. then_some q (to_z w64 (of_z w64 s))) c.is_before.ensures
+    ∙ (ap (λ z. then_some (is_before z u v) z) same
+    ∙ sym (facing_by c.args.axis c.args.tech.now c.args.coords.now c.args.a.now c.args.b.now s u v c.in_ok-spacing.ensures.value c.box_along-from.ensures.sides c.box_along-to.ensures.sides)))
 
-pub returns-else-is_before : goal.returns-else-is_before
-returns-else-is_before c =
-    let small = c.in_ok-spacing.ensures.bounds in
-    let same : to_z w64 (of_z w64 c.in_ok-spacing.spacing) ≡ c.in_ok-spacing.spacing = omega (arith, ints, small) in
-    let from = c.turned-from.ensures.sides ∙ ap (sides_along c.args.axis) c.box_of.ensures.sides in
-    let to = c.turned-to.ensures.sides ∙ ap (sides_along c.args.axis) c.box_of-2.ensures.sides in
-    let stands = ap (λ z. is_before z (sides_of c.turned-from.result) (sides_of c.turned-to.result)) (sym same) ∙ (sym c.is_before.ensures ∙ c.if-is_before.false) in
-    sym (does_not_face c.args.axis c.args.tech.now c.args.coords.now c.args.a.now c.args.b.now c.in_ok-spacing.spacing (sides_of c.turned-from.result) (sides_of c.turned-to.result) c.in_ok-spacing.ensures.value from to stands)
+pub returns-clause-value : goal.returns-clause-value
+returns-clause-value c = told (goal.at.returns-clause-value c).After-then_some
+
+pub returns-clause-candidate : goal.returns-clause-candidate
+returns-clause-candidate c =
+    faces_exactly c.args.axis c.args.tech.now c.args.coords.now c.args.a.now c.args.b.now c.then_some.result (told (goal.at.returns-clause-candidate c).After-then_some)
