@@ -1,11 +1,10 @@
 -- The least unknown key, part by part.
 use Rattle.std.proofs.Common.{◌≡◌, ℕ, suc, Bool, true, false, List, [], ◌∷◌, Option, Some, None, Ordering, Less, Equal, Greater, nat_cmp, is_lt, fold, codes, refl, sym, inl, inr, ◌⊎◌, arith}
 use Rattle.std.specs.Prelude.{Contains, All}
-use Rattle.std.specs.List.{AllByRecursion}
 use Rattle.std.specs.Ordering.{ordering_reverse}
 use Rattle.std.specs.Cmp.Lexicographic.{slice_cmp}
 use Rattle.std.proofs.lemmas.Bool.{cases_Bool}
-use Rattle.std.proofs.lemmas.List.Elements.{All-cons}
+use Rattle.std.proofs.lemmas.List.Elements.{All-nil, All-cons}
 use Rattle.std.proofs.lemmas.Cmp.{nat_list_cmp_total}
 use Rattle.std.proofs.lemmas.List.Sums.{fold-append}
 use Rattle.toml.specs.Data.{Data, Members, get_member}
@@ -58,12 +57,15 @@ through x y z Greater h a b =
 not_before_trans : (x y z : List ℕ) → before x y ≡ false → before y z ≡ false → before x z ≡ false
 not_before_trans x y z a b = through x y z (R y z) refl a b
 
+abbrev NotBefore : List ℕ → List ℕ → Type 0
+NotBefore key k = before k key ≡ false
+
 record From (a : List ℕ) (keys : List (List ℕ)) : Type 0 where
   key : List ℕ
   found : fold lesser (Some a) keys ≡ Some key
   among : (key ≡ a) ⊎ Contains keys key
   start : before a key ≡ false
-  rest : AllByRecursion (λ k. before k key ≡ false) keys
+  rest : All (NotBefore key) keys
 
 there : (k : List ℕ) (ks : List (List ℕ)) (m : List ℕ) → (m ≡ k) ⊎ Contains ks m → Contains (k ∷ ks) m
 there k ks m (inl e) = (0, omega arith, sym e)
@@ -75,7 +77,7 @@ over k ks a m (inr c) = inr (there k ks m (inr c))
 
 from : (a : List ℕ) (keys : List (List ℕ)) → From a keys
 unfolding lesser
-from a [] = record { key = a; found = refl; among = inl refl; start = irreflexive a; rest = tt }
+from a [] = record { key = a; found = refl; among = inl refl; start = irreflexive a; rest = All-nil _ }
 from a (k ∷ ks) =
     elim (cases_Bool (before k a)) [
       | inl t ↦
@@ -85,7 +87,7 @@ from a (k ∷ ks) =
             found = rw t f.found;
             among = inr (there k ks f.key f.among);
             start = not_before_trans a k f.key (asymmetric k a t) f.start;
-            rest = (f.start, f.rest);
+            rest = All-cons (NotBefore f.key) k ks f.start f.rest;
           }
       | inr n ↦
           let f = from a ks in
@@ -94,13 +96,9 @@ from a (k ∷ ks) =
             found = rw n f.found;
             among = over k ks a f.key f.among;
             start = f.start;
-            rest = (not_before_trans k a f.key n f.start, f.rest);
+            rest = All-cons (NotBefore f.key) k ks (not_before_trans k a f.key n f.start) f.rest;
           }
     ]
-
-All-from_recursion : {X : Type 0} (P : X → Type 0) (xs : List X) → AllByRecursion P xs → All P xs
-All-from_recursion P [] h = λ k d lt. absurd (omega arith)
-All-from_recursion P (x ∷ xs) h = All-cons P x xs h.0 (All-from_recursion P xs h.1)
 
 -- the least of some keys is one of them, and there is none only where there are no keys
 pub least-is_least : (keys : List (List ℕ)) → NamesLeast (least keys) keys
@@ -108,7 +106,7 @@ unfolding lesser
 least-is_least [] = refl
 least-is_least (k ∷ ks) =
     let f = from k ks in
-    rw f.found (record { among = there k ks f.key f.among; first = All-from_recursion _ (k ∷ ks) (f.start, f.rest) })
+    rw f.found (record { among = there k ks f.key f.among; first = All-cons (NotBefore f.key) k ks f.start f.rest })
 
 pub names_least : (o : Option (List ℕ)) (keys : List (List ℕ)) → o ≡ least keys → NamesLeast o keys
 names_least o keys e = rw e (least-is_least keys)
