@@ -65,9 +65,10 @@ some_there (Some s) e = (s, refl)
 
 -- so two items face each other exactly where there is such a spacing
 pub is_facing_exactly : (axis : Axis) (t : Tech) (c : Coords) (a b : Item) (r : Bool) → r ≡ is_some (facing_spacing axis t c a b) → IsTrue r ↔ ((s : ℤ) × IsCandidate axis t c a b s)
-is_facing_exactly axis t c a b r is =
-    (λ yes. let w = some_there (facing_spacing axis t c a b) (sym is ∙ yes) in (w.0, out_of_facing axis t c a b w.0 w.1),
-    λ w. is ∙ ap is_some (candidate_faces axis t c a b w.0 w.1))
+is_facing_exactly axis t c a b r is = (
+  λ yes. let w = some_there (facing_spacing axis t c a b) (sym is ∙ yes) in (w.0, out_of_facing axis t c a b w.0 w.1),
+  λ w. is ∙ ap is_some (candidate_faces axis t c a b w.0 w.1),
+)
 
 -- what is computed of a spacing that two items are bound with, and of none
 pub facing_by : (axis : Axis) (t : Tech) (c : Coords) (a b : Item) (s : ℤ) (u v : Sides) → Some s ≡ bound_spacing t a b → u ≡ sides_at axis c a → v ≡ sides_at axis c b

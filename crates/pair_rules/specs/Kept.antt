@@ -1,5 +1,5 @@
 -- Kept pairs: the candidates whose inequality does not follow from those of two others.
-use Rattle.std.specs.Prelude.{ℕ, ℤ, ◌+ℤ◌, Bool, false, not, ◌&&◌, ◌==◌, int_le, Option, Some, List, filter}
+use Rattle.std.specs.Prelude.{ℕ, ◌<◌, ◌≢◌, ℤ, ◌+ℤ◌, ◌≤ℤ◌, Bool, false, not, ◌&&◌, ◌==◌, int_le, Option, Some, List, length, filter}
 use Rattle.std.specs.List.{list_any}
 use Rattle.lam_geom.specs.declared.boxes.Axis.{Axis}
 use Rattle.rule_table.specs.declared.technology.Tech.{Tech}
@@ -8,26 +8,41 @@ use Rattle.sym_items.specs.declared.items.Coords.{Coords}
 use Rattle.sym_items.specs.Transposed.{item_along}
 use Rattle.pair_rules.specs.declared.pairs.Pair.{Pair}
 use Rattle.pair_rules.specs.Bound.{item_at}
-use Rattle.pair_rules.specs.Candidates.{spacing_at, item_numbers, candidates_of, high_end, low_end}
+use Rattle.pair_rules.specs.Candidates.{IsCandidate, spacing_at, item_numbers, candidates_of, high_end, low_end}
 
 -- the least extent of item k on an axis
 abbrev pub least_of : Axis → List Item → ℕ → ℤ
 least_of axis items k = (item_along axis (item_at items k)).least_x
 
--- two spacings that are there, with an extent between them, reach as far as the third
+-- item k shadows a pair (i, j): (i, k) and (k, j) are candidates, and their spacings with the least extent of k are at least that of (i, j)
+pub record Shadows (axis : Axis) (t : Tech) (c : Coords) (items : List Item) (p : Pair) (k : ℕ) : Type 0 where
+  pub before : ℤ
+  pub after : ℤ
+  pub first : IsCandidate axis t c (item_at items p.i) (item_at items k) before
+  pub second : IsCandidate axis t c (item_at items k) (item_at items p.j) after
+  pub reaches : p.s ≤ℤ ((before +ℤ least_of axis items k) +ℤ after)
+
+-- A kept pair: two of the items that are a candidate with its spacing, whose ends lie on different variables, and that no item
+-- shadows.
+pub record IsKept (axis : Axis) (t : Tech) (c : Coords) (items : List Item) (p : Pair) : Type 0 where
+  pub i_among : p.i < length items
+  pub j_among : p.j < length items
+  pub candidate : IsCandidate axis t c (item_at items p.i) (item_at items p.j) p.s
+  pub varies : (high_end axis items p.i).var ≢ (low_end axis items p.j).var
+  pub unshadowed : (k : ℕ) → k < length items → ¬ Shadows axis t c items p k
+
+-- The same, computed: two spacings that are there, with an extent between them, reach as far as the third; so an item shadows a pair;
+-- the ends of a pair lie on one variable, so its inequality compares constants; and a candidate is kept.
 abbrev pub reaches : ℤ → Option ℤ → ℤ → Option ℤ → Bool
 reaches s (Some before) least (Some after) = int_le s ((before +ℤ least) +ℤ after)
 reaches s _ least _ = false
 
--- item k shadows a pair (i, j): (i, k) and (k, j) are candidates, and their spacings with the least extent of k are at least that of (i, j)
 abbrev pub shadows : Axis → Tech → Coords → List Item → Pair → ℕ → Bool
 shadows axis t c items p k = reaches p.s (spacing_at axis t c items p.i k) (least_of axis items k) (spacing_at axis t c items k p.j)
 
--- the ends of a pair lie on one variable, so its inequality compares constants
 abbrev pub is_constant : Axis → List Item → Pair → Bool
 is_constant axis items p = (high_end axis items p.i).var == (low_end axis items p.j).var
 
--- a candidate is kept where its ends lie on different variables and no item shadows it
 abbrev pub is_kept : Axis → Tech → Coords → List Item → Pair → Bool
 is_kept axis t c items p = not (is_constant axis items p) && not (list_any (shadows axis t c items p) (item_numbers items))
 

@@ -1,5 +1,7 @@
 pub mod Spacings
 pub mod PairLists
 pub mod Pruning
+pub mod KeptPairs
+pub mod Chains
 pub mod Near
 pub mod KeptSoFar

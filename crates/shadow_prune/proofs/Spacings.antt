@@ -33,4 +33,4 @@ bound_bounds tech a b s e =
 
 -- and so is that of a candidate
 pub facing_bounds : (axis : Axis) (tech : Tech) (c : Coords) (a b : Item) (s : ℤ) → facing_spacing axis tech c a b ≡ Some s → (pos 1 ≤ℤ s) × (s ≤ℤ pos 4096)
-facing_bounds axis tech c a b s e = bound_bounds tech a b s (out_of_facing axis tech c a b s e).0
+facing_bounds axis tech c a b s e = bound_bounds tech a b s (out_of_facing axis tech c a b s e).bound

@@ -1,3 +1,4 @@
 pub mod KeptFaults
 pub mod Pruning
 pub mod Near
+pub mod Chains

@@ -3,10 +3,12 @@
 ghost use Rattle.std.specs.Prelude.{◌≡◌, ◌<◌, ◌≤◌, ◌^◌, ◌+◌, ◌++◌, pos, ◌≤ℤ◌, ◌+ℤ◌, int_le, Some, length, filter, All, OnOk, IfOk, IfErr};
 ghost use Rattle.std.specs.List.{list_any, Contains};
 ghost use Rattle.sym_items.specs.Boxes.{HasBox};
-ghost use Rattle.sym_items.specs.Transposed.{item_along};
-ghost use Rattle.pair_rules.specs.Candidates.{spacing_at, item_numbers, candidates_to};
+ghost use Rattle.sym_items.specs.Values.{value_of};
+ghost use Rattle.sym_items.specs.Transposed.{values_along};
+ghost use Rattle.pair_rules.specs.declared.pairs.Pair.{Pair};
+ghost use Rattle.pair_rules.specs.Candidates.{spacing_at, item_numbers, candidates_to, Keeps};
 ghost use Rattle.pair_rules.specs.Clean.{IsClean};
-ghost use Rattle.pair_rules.specs.Kept.{least_of, reaches, shadows, is_constant, is_kept, kept_of};
+ghost use Rattle.pair_rules.specs.Kept.{IsKept, least_of, reaches, shadows, is_constant, is_kept, kept_of};
 ghost use Rattle.shadow_prune.specs.declared.keeping.KeptFault.TheVariants.{OutOfMemory};
 ghost use Rattle.shadow_prune.specs.KeptFaults.{RefusesKept};
 ghost use Rattle.shadow_prune.specs.Near.{EndsIn, AreAllNear};
@@ -44,16 +46,6 @@ impl<T: Drop> From<AllocFailed<T>> for KeptFault {
     }
 }
 
-// The least extent of an item along an axis.
-fn least(axis: Axis, item: &Item) -> i64
-    ensures { result ≡ (item_along axis item.now).least_x }
-{
-    match axis {
-        Axis::X => item.least_x,
-        Axis::Y => item.least_y,
-    }
-}
-
 // Whether a spacing, an extent and a second spacing together are at least the third. No extent makes a sum that wraps.
 fn reaches(s: i64, before: i64, least: i64, after: i64) -> bool
     requires s { (pos 1 ≤ℤ s) × (s ≤ℤ pos 4096) }
@@ -82,7 +74,7 @@ fn is_shadowed_by(
 {
     let between = &items[behind.i as usize];
     match facing_spacing(axis, tech, coords, &items[pair.i as usize], between) {
-        Some(before) => reaches(pair.s, before, least(axis, between), behind.s),
+        Some(before) => reaches(pair.s, before, between.least(axis), behind.s),
         None => false,
     }
 }
@@ -118,10 +110,7 @@ fn is_constant(axis: Axis, items: &[Item], pair: Pair) -> bool
 {
     let first = &items[pair.i as usize];
     let second = &items[pair.j as usize];
-    match axis {
-        Axis::X => first.xh.var == second.xl.var,
-        Axis::Y => first.yh.var == second.yl.var,
-    }
+    first.high(axis).var == second.low(axis).var
 }
 
 // Whether a candidate is kept, by all candidates that end where it ends.
@@ -184,6 +173,10 @@ pub fn kept(
     requires clean { IsClean tech.now coords.now items.now }
     ensures value { IfOk result (λ pairs. pairs.items ≡ kept_of axis tech.now coords.now items.now) }
     ensures few { IfOk result (λ pairs. length pairs.items ≤ limit) }
+    ensures each { IfOk result (λ pairs. All (IsKept axis tech.now coords.now items.now) pairs.items) }
+    ensures all { IfOk result (λ pairs. (p : Pair) → IsKept axis tech.now coords.now items.now p → Contains pairs.items p) }
+    ensures spacings { IfOk result (λ pairs. All (λ p. (pos 1 ≤ℤ p.s) × (p.s ≤ℤ pos 4096)) pairs.items) }
+    ensures apart { IfOk result (λ pairs. All (Keeps axis (value_of (values_along axis coords.now)) items.now) pairs.items) }
     ensures fault { IfErr result (RefusesKept limit (length (kept_of axis tech.now coords.now items.now))) }
 {
     let mut kept = Vec::new(alloc);

@@ -1,5 +1,6 @@
 //! Pruning loses nothing.
 
+ghost use Rattle.shadow_prune.specs.Chains.{LeavesChains};
 ghost use Rattle.shadow_prune.specs.Pruning.{LosesNothing};
 
 use lam_geom::Axis;
@@ -10,4 +11,11 @@ use sym_items::{Coords, Item};
 /// axis and keep its kept pairs apart keep all its candidates apart.
 pub fn pruning_loses_nothing(axis: Axis, tech: &Tech, items: &[Item], coords: &Coords)
     ensures { LosesNothing axis tech.now coords.now items.now }
+{}
+
+/// A law, with nothing to run: in a layout that gives each item a box, a chain of kept pairs, and of candidates whose ends lie on
+/// one variable, leads along each candidate and reaches, with the least extents of the items between, at least its spacing. So
+/// the pairs left out add no walk that is longer than all others.
+pub fn chains_stand_for_candidates(axis: Axis, tech: &Tech, items: &[Item], coords: &Coords)
+    ensures { LeavesChains axis tech.now coords.now items.now }
 {}

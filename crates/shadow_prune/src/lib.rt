@@ -10,4 +10,4 @@ mod keeping;
 mod laws;
 
 pub use keeping::{KeptFault, kept};
-pub use laws::pruning_loses_nothing;
+pub use laws::{chains_stand_for_candidates, pruning_loses_nothing};

@@ -1,19 +1,20 @@
 use Rattle.std.proofs.Common.{◌≡◌, ℕ, Bool, ◌+◌, ◌++◌, List, length, ap, ◌∙◌, arith}
-use Rattle.std.specs.List.{filter}
+use Rattle.std.specs.List.{filter, flat_map, range_with_len}
 use Rattle.std.proofs.lemmas.Result.{err_from_is_err_and}
 use Rattle.pair_rules.specs.declared.pairs.Pair.{Pair}
 use Rattle.pair_rules.specs.Candidates.{candidates_to}
 use Rattle.pair_rules.specs.Kept.{is_kept, kept_of}
 use Rattle.shadow_prune.proofs.Near.{are_all_near}
+use Rattle.shadow_prune.proofs.KeptPairs.{AreKept, are_kept}
 use Rattle.shadow_prune.proofs.KeptSoFar.{more_for, kept_added, kept_so_far}
-use Rattle.shadow_prune.proofs.keeping.kept.Goals.{After-as_slice}
+use Rattle.shadow_prune.proofs.keeping.kept.Goals.{After-as_slice, After-drop-near-2}
 use Rattle.shadow_prune.proofs.keeping.kept.Goals as goal
 
 -- the candidates that end at item j
 near_is : (c : After-as_slice) → c.as_slice.result.now ≡ candidates_to c.args.axis c.args.tech.now c.args.coords.now c.args.items.now c.loop-j.j
 near_is c =
     let ends = candidates_to c.args.axis c.args.tech.now c.args.coords.now c.args.items.now c.loop-j.j in
-    c.as_slice.ensures.value ∙ (c.in_ok-push_pairs_to.ensures ∙ ap (λ ps. ps ++ ends) c.clear.ensures.items)
+    c.as_slice.ensures.value ∙ (c.in_ok-push_pairs_to.ensures.ok ∙ ap (λ ps. ps ++ ends) c.clear.ensures.items)
 
 pub push_kept-requires-clause-near : goal.push_kept-requires-clause-near
 push_kept-requires-clause-near c =
@@ -41,3 +42,24 @@ loop-j-preserved c =
           (c.in_ok-push_kept.ensures.pushed ∙ ap (λ ps. c.loop-j.kept.items ++ filter test ps) (near_is (goal.at.loop-j-preserved c).After-as_slice));
       few = c.in_ok-push_kept.ensures.few;
     }
+
+-- the list is that of the definition
+told : (c : After-drop-near-2) → AreKept c.args.axis c.args.tech.now c.args.coords.now c.args.items.now c.loop-j.kept.items
+told c =
+    let f : ℕ → List Pair = candidates_to c.args.axis c.args.tech.now c.args.coords.now c.args.items.now in
+    let test : Pair → Bool = is_kept c.args.axis c.args.tech.now c.args.coords.now c.args.items.now in
+    let all : c.loop-j.j ≡ length c.args.items.now = omega (arith, c.requires.few, c.loop-j-test.false, c.loop-j.auto.j-end) in
+    are_kept c.args.axis c.args.tech.now c.args.coords.now c.args.items.now c.loop-j.kept.items
+    (c.loop-j.invariant.pushed ∙ ap (λ n. filter test (flat_map f (range_with_len 0 n))) all)
+
+pub returns-clause-each : goal.returns-clause-each
+returns-clause-each c = (told (goal.at.returns-clause-each c).After-drop-near-2).each
+
+pub returns-clause-all : goal.returns-clause-all
+returns-clause-all c = (told (goal.at.returns-clause-all c).After-drop-near-2).all
+
+pub returns-clause-spacings : goal.returns-clause-spacings
+returns-clause-spacings c = (told (goal.at.returns-clause-spacings c).After-drop-near-2).spacings
+
+pub returns-clause-apart : goal.returns-clause-apart
+returns-clause-apart c = (told (goal.at.returns-clause-apart c).After-drop-near-2).apart
