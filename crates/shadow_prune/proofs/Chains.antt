@@ -1,5 +1,5 @@
 -- A chain of kept and of rigid pairs stands for each candidate.
-use Rattle.std.proofs.Common.{◌≡◌, ℕ, ◌<◌, Bool, true, ℤ, pos, ◌+ℤ◌, ◌≤ℤ◌, List, [], ◌∷◌, ◌++◌, length, All, Option, Some, refl, sym, subst, inl, inr, arith}
+use Rattle.std.proofs.Common.{◌≡◌, ℕ, ℤ, ◌+ℤ◌, ◌≤ℤ◌, List, [], ◌∷◌, ◌++◌, refl, sym, subst, inl, inr, arith}
 use Rattle.std.proofs.lemmas.Int.{ints}
 use Rattle.std.proofs.lemmas.Bool.{eqb-true}
 use Rattle.std.proofs.lemmas.List.Elements.{All-nil, All-cons, All-append}
@@ -9,8 +9,8 @@ use Rattle.sym_items.specs.declared.items.Item.{Item}
 use Rattle.sym_items.specs.declared.items.Coords.{Coords}
 use Rattle.pair_rules.specs.declared.pairs.Pair.{Pair}
 use Rattle.pair_rules.specs.Bound.{item_at}
-use Rattle.pair_rules.specs.Candidates.{spacing_at, high_end, low_end}
-use Rattle.pair_rules.specs.Kept.{least_of, is_constant}
+use Rattle.pair_rules.specs.Candidates.{high_end, low_end}
+use Rattle.pair_rules.specs.Kept.{least_of}
 use Rattle.pair_rules.proofs.FacingItems.{out_of_facing}
 use Rattle.shadow_prune.specs.Chains.{IsLink, LeadsTo, reach_of, IsChained, LeavesChains}
 use Rattle.shadow_prune.proofs.PairLists.{all_candidates}

@@ -5,3 +5,4 @@ pub mod KeptPairs
 pub mod Chains
 pub mod Near
 pub mod KeptSoFar
+pub mod WorkedRow

@@ -8,6 +8,8 @@
 
 mod keeping;
 mod laws;
+#[cfg(test)]
+mod tests;
 
 pub use keeping::{KeptFault, kept};
 pub use laws::{chains_stand_for_candidates, pruning_loses_nothing};
