@@ -135,14 +135,20 @@ fn the_boxes_of_two_columns_face_each_other(rt: HostRuntime) -> Result<(), Fail>
     Ok(())
 }
 
+// Whether one joint of the row faces another.
+fn faces_in_row(alloc: Global, axis: Axis, i: u32, j: u32) -> Result<bool, AllocError>
+    requires first { i < 3 }
+    requires second { j < 3 }
+{
+    let coords = row_start(alloc)?;
+    Ok(facing(axis, &Tech::shipped(), &row_of_three(), &coords, i, j))
+}
+
 #[test]
 fn the_one_before_faces_the_one_behind(rt: HostRuntime) -> Result<(), Fail> {
-    let items = row_of_three();
-    let coords = row_start(rt.alloc())?;
-    let tech = Tech::shipped();
-    assert!(rt; facing(Axis::X, &tech, &items, &coords, 0, 2));
-    assert!(rt; !facing(Axis::X, &tech, &items, &coords, 2, 0));
-    assert!(rt; !facing(Axis::Y, &tech, &items, &coords, 0, 2));
+    assert!(rt; faces_in_row(rt.alloc(), Axis::X, 0, 2)?);
+    assert!(rt; !faces_in_row(rt.alloc(), Axis::X, 2, 0)?);
+    assert!(rt; !faces_in_row(rt.alloc(), Axis::Y, 0, 2)?);
     Ok(())
 }
 
