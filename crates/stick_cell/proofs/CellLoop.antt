@@ -1,6 +1,9 @@
 -- The cells of a design, one by one.
-use Rattle.std.proofs.Common.{◌≡◌, ℕ, zero, suc, ◌+◌, ◌<◌, ◌≤◌, List, [], ◌∷◌, ◌++◌, length, get_or, drop, Result, Ok, Err, refl, sym, ap, subst, ◌∙◌, add-one, arith}
+use Rattle.std.proofs.Common.{◌≡◌, ℕ, zero, suc, ◌+◌, ◌<◌, ◌≤◌, ◌≢◌, List, [], ◌∷◌, ◌++◌, length, map, take, get_or, drop, Result, Ok, Err, refl, sym, ap, subst, inl, inr, ◌∙◌, add-one, arith}
+use Rattle.std.specs.Prelude.{◌⊎◌}
 use Rattle.std.specs.List.{AllByRecursion}
+use Rattle.std.proofs.lemmas.List.{map-append, length-map, get_or_push, get_or_append_left, take_at, take-append-le}
+use Rattle.std.proofs.lemmas.Bool.{cases_eq}
 use Rattle.rule_table.specs.declared.technology.Tech.{Tech}
 use Rattle.stick_parse.specs.declared.fault.StickFault.{StickFault}
 use Rattle.stick_parse.specs.declared.fault.ParseFault.{ParseFault}
@@ -9,9 +12,13 @@ use Rattle.stick_parse.specs.declared.design.CellText.{CellText}
 use Rattle.stick_parse.specs.Reading.{◌>>=◌, Fails}
 use Rattle.stick_parse.specs.Writable.{IsCell}
 use Rattle.stick_cell.specs.declared.table.Table.{Table}
-use Rattle.stick_cell.specs.Known.{Known}
+use Rattle.stick_cell.specs.declared.steps.Step.{Step}
+use Rattle.stick_cell.specs.Known.{Known, known_at}
+use Rattle.stick_cell.specs.Steps.{AreStepsOf}
 use Rattle.stick_cell.specs.Lines.{after_cell, cells_after}
-use Rattle.stick_cell.specs.Tables.{IsTableOf, AreTables}
+use Rattle.stick_cell.specs.Tables.{IsTableOf, AreTables, steps_at, HaveSteps}
+use Rattle.stick_cell.proofs.TableReads.{length-tables}
+use Rattle.stick_cell.proofs.Grown.{k_within, known_before, known_last}
 
 cells_from : (tech : Tech) (cells : List Known) (texts : List CellText) (i : ℕ) (text : CellText) → i < length texts → text ≡ get_or texts i text
     → cells_after tech cells (drop i texts) ≡ (after_cell tech cells text >>= (λ known. cells_after tech (cells ++ known ∷ []) (drop (suc i) texts)))
@@ -57,3 +64,41 @@ tables-push [] [] known table are is = (is, tt)
 tables-push [] (first ∷ tables) known table are is = absurd are
 tables-push (first ∷ cells) [] known table are is = absurd are
 tables-push (first ∷ cells) (one ∷ tables) known table are is = (are.0, tables-push cells tables known table are.1 is)
+
+-- ---- the steps that are kept
+
+-- the same steps of the same cell
+same_steps : (a b : List Known) (known other : Known) (one two : List Step) → a ≡ b → known ≡ other → one ≡ two → AreStepsOf b other two → AreStepsOf a known one
+same_steps a b known other one two e f g are =
+    subst (λ (l : List Known). AreStepsOf l known one) (sym e) (subst (λ (k : Known). AreStepsOf b k one) (sym f) (subst (AreStepsOf b other) (sym g) are))
+
+steps_of : Table → List Step
+steps_of table = table.steps.items
+
+steps_before : (tables : List Table) (table : Table) (k : ℕ) → k < length tables → steps_at (tables ++ table ∷ []) k ≡ steps_at tables k
+unfolding steps_of
+steps_before tables table k lt =
+    ap (λ (l : List (List Step)). get_or l k []) (map-append steps_of tables (table ∷ []))
+    ∙ get_or_append_left (map steps_of tables) (steps_of table ∷ []) [] k (omega (arith, lt, length-map tables steps_of))
+
+steps_last : (tables : List Table) (table : Table) (k : ℕ) → k ≡ length tables → steps_at (tables ++ table ∷ []) k ≡ table.steps.items
+unfolding steps_of
+steps_last tables table k e =
+    ap (λ (l : List (List Step)). get_or l k []) (map-append steps_of tables (table ∷ []))
+    ∙ get_or_push (map steps_of tables) (steps_of table) [] k (length-map tables steps_of ∙ sym e)
+
+steps_each : (cells : List Known) (tables : List Table) (known : Known) (table : Table) → length tables ≡ length cells → HaveSteps cells tables → AreStepsOf cells known table.steps.items
+    → (k : ℕ) → k ≤ length cells → (k ≡ length cells) ⊎ (k ≢ length cells) → AreStepsOf (take k (cells ++ known ∷ [])) (known_at (cells ++ known ∷ []) k) (steps_at (tables ++ table ∷ []) k)
+steps_each cells tables known table many have are k le (inl e) =
+    same_steps (take k (cells ++ known ∷ [])) cells (known_at (cells ++ known ∷ []) k) known (steps_at (tables ++ table ∷ []) k) table.steps.items
+    (take_at cells (known ∷ []) k (sym e)) (known_last cells known k e) (steps_last tables table k (e ∙ sym many)) are
+steps_each cells tables known table many have are k le (inr ne) =
+    let lt : k < length cells = omega (arith, le, ne) in
+    same_steps (take k (cells ++ known ∷ [])) (take k cells) (known_at (cells ++ known ∷ []) k) (known_at cells k) (steps_at (tables ++ table ∷ []) k) (steps_at tables k)
+    (take-append-le k cells (known ∷ []) le) (known_before cells known k lt) (steps_before tables table k (omega (arith, lt, many))) (have k lt)
+
+-- the steps with those of one more cell
+pub have_steps-push : (cells : List Known) (tables : List Table) (known : Known) (table : Table) → AreTables cells tables → HaveSteps cells tables → AreStepsOf cells known table.steps.items
+    → HaveSteps (cells ++ known ∷ []) (tables ++ table ∷ [])
+have_steps-push cells tables known table tell have are =
+    λ k lt. steps_each cells tables known table (length-tables cells tables tell) have are k (k_within cells known k lt) (cases_eq k (length cells))

@@ -67,15 +67,15 @@ are_grown-none tech = record { grown = λ k lt. absurd (omega arith); wired = λ
 -- ---- one more cell
 
 -- a number of one of the cells
-k_within : (cells : List Known) (known : Known) (k : ℕ) → k < length (cells ++ known ∷ []) → k ≤ length cells
+pub k_within : (cells : List Known) (known : Known) (k : ℕ) → k < length (cells ++ known ∷ []) → k ≤ length cells
 k_within cells known k lt = omega (arith, lt, length-append cells (known ∷ []))
 
 -- a cell before the last
-known_before : (cells : List Known) (known : Known) (k : ℕ) → k < length cells → known_at (cells ++ known ∷ []) k ≡ known_at cells k
+pub known_before : (cells : List Known) (known : Known) (k : ℕ) → k < length cells → known_at (cells ++ known ∷ []) k ≡ known_at cells k
 known_before cells known k lt = get_or_append_left cells (known ∷ []) (begun []) k lt
 
 -- the last cell
-known_last : (cells : List Known) (known : Known) (k : ℕ) → k ≡ length cells → known_at (cells ++ known ∷ []) k ≡ known
+pub known_last : (cells : List Known) (known : Known) (k : ℕ) → k ≡ length cells → known_at (cells ++ known ∷ []) k ≡ known
 known_last cells known k e = get_or_push cells known (begun []) k (sym e)
 
 -- each cell over those before it

@@ -22,10 +22,5 @@ mod LineSteps
 pub mod TableReads
 mod UseSteps
 mod WireSteps
-pub mod FormSteps
-pub mod Extends
-pub mod CellsBefore
-pub mod FoundInCell
-pub mod LinesInlined
-pub mod UsesInlined
-pub mod WholeInlined
+pub mod Stepping
+pub mod StepsInlined

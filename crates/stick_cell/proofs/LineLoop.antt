@@ -101,6 +101,6 @@ fails-lines tech cells text (Stick fault) fresh e = cell-by tech cells text true
 fails-lines tech cells text OutOfMemory fresh e = tt
 
 -- the fault of a cell, passed on
-pub tells-residual : (result : Result Table ParseFault) (fault : ParseFault) (read : Result Known StickFault) → IsErrAnd result (λ e. e ≡ fault) → Fails fault read → TellsTable result read
-tells-residual (Ok table) fault read is fails = absurd is
-tells-residual (Err e) fault read is fails = let P : ParseFault → Type 0 = λ f. Fails f read in subst P (sym is) fails
+pub tells-residual : (cells : List Known) (result : Result Table ParseFault) (fault : ParseFault) (read : Result Known StickFault) → IsErrAnd result (λ e. e ≡ fault) → Fails fault read → TellsTable cells result read
+tells-residual cells (Ok table) fault read is fails = absurd is
+tells-residual cells (Err e) fault read is fails = let P : ParseFault → Type 0 = λ f. Fails f read in subst P (sym is) fails

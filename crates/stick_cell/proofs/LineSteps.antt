@@ -65,9 +65,9 @@ fresh-placed names name col row e = by_test (is_fresh names name) e
     by_test false e = absurd cc
 
 -- a test that fails refuses the line
-pub grows-refused : {X : Type 0} (result : Result X LineFault) (growing : Growing) (read : Result Known StickKind) (kind : StickKind)
-    → result ≡ Err (Kind kind) → read ≡ Err kind → Grows result growing read
-grows-refused result growing read kind is refused = let P : Result _ LineFault → Type 0 = λ r. Grows r growing read in subst P (sym is) refused
+pub grows-refused : {X : Type 0} (cells : List Known) (result : Result X LineFault) (growing : Growing) (read : Result Known StickKind) (kind : StickKind)
+    → result ≡ Err (Kind kind) → read ≡ Err kind → Grows cells result growing read
+grows-refused cells result growing read kind is refused = let P : Result _ LineFault → Type 0 = λ r. Grows cells r growing read in subst P (sym is) refused
 
 -- one more name
 pub capped_names-push : (names : Names) (name : List ℕ) (thing : Thing) → capped_names (names ++ (name, thing) ∷ []) ≡ capped_names names ++ (name, capped_thing thing) ∷ []
@@ -144,7 +144,7 @@ port-by known name side layer place r is =
     ∙ ap (λ r. r >>= (λ _. Ok (with_port known name side (layer_of layer) place))) is
 
 -- the same, where the fault is made from the kind
-pub grows-residual : {X : Type 0} (result : Result X LineFault) (growing : Growing) (read : Result Known StickKind) (kind : StickKind)
-    → IsErrAnd result (λ e. e ≡ Kind kind) → read ≡ Err kind → Grows result growing read
-grows-residual (Ok x) growing read kind is refused = absurd is
-grows-residual (Err e) growing read kind is refused = let P : LineFault → Type 0 = λ f. FailsLine f read in subst P (sym is) refused
+pub grows-residual : {X : Type 0} (cells : List Known) (result : Result X LineFault) (growing : Growing) (read : Result Known StickKind) (kind : StickKind)
+    → IsErrAnd result (λ e. e ≡ Kind kind) → read ≡ Err kind → Grows cells result growing read
+grows-residual cells (Ok x) growing read kind is refused = absurd is
+grows-residual cells (Err e) growing read kind is refused = let P : LineFault → Type 0 = λ f. FailsLine f read in subst P (sym is) refused

@@ -71,10 +71,10 @@ usable-ok is_closed depth col row e = by is_closed (nat_lt depth 16) (is_place c
 
 -- the use of a cell that is there, by the tests of its table
 pub use-found : (cells : List Known) (known : Known) (tables : List Table) (growing : Growing) (name cell : List ℕ) (col row place : ℕ) (table : Table) (r : Result (Unit {0}) StickKind)
-    → AreTables cells tables → IsGrowing known growing → is_fresh (entries_of growing.table.names) name ≡ true → not (bytes_eq cell growing.table.name.now) ≡ true
+    → AreTables cells tables → IsGrowing cells known growing → is_fresh (entries_of growing.table.names) name ≡ true → not (bytes_eq cell growing.table.name.now) ≡ true
     → position (λ (table : Table). bytes_eq cell table.name.now) tables ≡ Some place → table ≡ get_or tables place table
     → r ≡ usable (length table.ports.items == 0) table.depth (col + table.most_col) (row + table.most_row)
-    → (after_use cells known name cell col row ≡ (r >>= (λ _. Ok (with_copy known name place (known_at cells place) col row)))) × IsTableOf (known_at cells place) table
+    → (after_use cells known name cell col row ≡ (r >>= (λ _. Ok (with_copy known name place (known_at cells place) col row)))) × IsTableOf (known_at cells place) table × (place < length cells)
 use-found cells known tables growing name cell col row place table r are grown fresh other found at checked =
     let number : number_of cells cell ≡ Some place = sym (position-name cells tables cell are) ∙ found in
     let is : IsTableOf (known_at cells place) table = table_at cells tables place table are (number-lt cells cell place number) at in (
@@ -83,4 +83,5 @@ use-found cells known tables growing name cell col row place table r are grown f
           (ap (λ text. not (bytes_eq cell text)) (sym grown.name) ∙ other) number
           ∙ with_use-by known name place (known_at cells place) col row r (checked ∙ usable-table (known_at cells place) table col row is),
       is,
+      number-lt cells cell place number,
     )

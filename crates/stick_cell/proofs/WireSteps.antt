@@ -1,5 +1,5 @@
 -- What the lines of wires and limits give, by what their paths come to.
-use Rattle.std.proofs.Common.{◌≡◌, ℕ, zero, suc, ◌≤◌, ℤ, Bool, true, not, ◌==◌, List, [], ◌∷◌, map, get_or, set, Option, Some, None, option_map, Result, Ok, Err, refl, sym, ap, ◌∙◌}
+use Rattle.std.proofs.Common.{◌≡◌, ℕ, zero, suc, ◌<◌, ◌≤◌, ℤ, Bool, true, not, ◌==◌, List, [], ◌∷◌, length, map, get_or, set, Option, Some, None, option_map, Result, Ok, Err, refl, sym, ap, ◌∙◌, ◌++◌, arith}
 use Rattle.std.specs.Prelude.{bytes_eq}
 use Rattle.std.specs.List.{AllByRecursion}
 use Rattle.std.specs.Option.{ok_or}
@@ -26,12 +26,16 @@ use Rattle.stick_cell.specs.Paths.{found_at}
 use Rattle.stick_cell.specs.Lines.{axis_where, wired_of, after_wire, after_limit}
 use Rattle.stick_cell.specs.Grown.{IsGrown, AreGrown}
 use Rattle.stick_cell.proofs.Accepted.{limited_ok}
-use Rattle.stick_cell.proofs.Grown.{spot-found_at}
+use Rattle.cell_model.specs.declared.cell.Axis2.{Axis2}
+use Rattle.cell_model.specs.declared.cell.Cell.{Cell}
+use Rattle.cell_model.specs.Sound.{IsEnd, IsWire}
+use Rattle.cell_model.specs.Nets.{HasEnds}
+use Rattle.list_facts.proofs.Elements.{all_parts}
+use Rattle.stick_cell.proofs.Grown.{spot-found_at, light-cell_of}
 use Rattle.stick_cell.proofs.FoundNodes.{IsNodeOf, near-found, same_number}
 use Rattle.stick_cell.proofs.KeptWires.{result_map, wire_between-kept, limited-kept}
-use Rattle.stick_cell.specs.Known.{with_wire, with_limit}
-use Rattle.stick_cell.specs.Known.{Known, Plug, no_plug, plug_at, plugged}
-use Rattle.stick_cell.specs.Counts.{capped}
+use Rattle.stick_cell.specs.Known.{Known, Plug, cell_of, no_plug, plug_at, plugged, with_wire, with_limit}
+use Rattle.stick_cell.specs.Counts.{weight_of, capped}
 use Rattle.stick_cell.specs.Kept.{kept_found, capped_end, capped_wire, capped_spot, IsNearFound}
 use Rattle.stick_cell.specs.Growing.{IsGrowing, port_so_far, IsWiredBelow, plugged_ports, plugged_marks, found_or_unknown}
 
@@ -126,7 +130,7 @@ wire-unknown_end tech cells known layer a b width kept kind known_a e =
 
 -- the wire between two things, from what is kept of them
 pub wire-between : (tech : Tech) (cells : List Known) (known : Known) (growing : Growing) (layer : DrawnLayer) (a b : List ℕ) (width : Option ℕ) (from to : Found) (r : Result Wire StickKind)
-    → AreGrown tech cells → IsPath a → IsPath b → IsGrown tech cells known → IsGrowing known growing
+    → AreGrown tech cells → IsPath a → IsPath b → IsGrown tech cells known → IsGrowing cells known growing
     → found_or_unknown (found_at cells known a) ≡ Ok from → found_or_unknown (found_at cells known b) ≡ Ok to
     → r ≡ wire_between tech growing.wired.items (layer_of layer) from to width
     → (read : Result Wire StickKind) × (after_wire tech cells known layer a b width ≡ (read >>= (λ wire. Ok (with_wire known wire)))) × (r ≡ result_map capped_wire read)
@@ -188,6 +192,7 @@ pub limit-ends : (tech : Tech) (cells : List Known) (known : Known) (vertical : 
     → (low high : Result Spot StickKind) × (after_limit cells known vertical a b at_most n ≡ (low >>= (λ low. high >>= (λ high. limits_of known vertical at_most n low high))))
     × (r ≡ result_map capped_spot low) × (s ≡ result_map capped_spot high)
     × ((p q : Spot) → low ≡ Ok p → high ≡ Ok q → (p.number == q.number) ≡ bytes_eq a b)
+    × ((p : Spot) → low ≡ Ok p → p.number < length known.nodes) × ((q : Spot) → high ≡ Ok q → q.number < length known.nodes)
 limit-ends tech cells known vertical a b at_most n from to r s are path_a path_b grown known_a known_b e f =
     let low = known_from (found_at cells known a) from known_a in
     let high = known_from (found_at cells known b) to known_b in
@@ -203,4 +208,40 @@ limit-ends tech cells known vertical a b at_most n from to r s are path_a path_b
           let at_q = limited_ok high.0 q is_q in
           same_number known.nodes a b p q (node_found tech cells known a low.0 are path_a grown low.1 p at_p) (node_found tech cells known b high.0 are path_b grown high.1 q at_q)
           (λ same. let one : Some (At (Node p)) ≡ Some (At (Node q)) = sym (low.1 ∙ ap Some at_p) ∙ ap (found_at cells known) same ∙ high.1 ∙ ap Some at_q in cc),
+      λ p is. (node_found tech cells known a low.0 are path_a grown low.1 p (limited_ok low.0 p is)).within,
+      λ q is. (node_found tech cells known b high.0 are path_b grown high.1 q (limited_ok high.0 q is)).within,
     )
+
+-- ---- what is kept of wires and limits is the thing itself, where the cell may be inlined
+
+few_nodes : (known : Known) → weight_of known ≤ 65536 → length known.nodes ≤ 65536
+few_nodes known light = omega (arith, light-cell_of known light)
+
+exact_end : (cell : Cell) (end : WireEnd) → length cell.nodes ≤ 65536 → IsEnd cell end → capped_end end ≡ end
+exact_end cell (ends.Node k) few is = ap ends.Node (omega (arith, few, is))
+exact_end cell (ends.Port k) few is = refl
+
+pub exact_wire : (known : Known) (wire : Wire) → weight_of known ≤ 65536 → HasEnds (cell_of known) wire → capped_wire wire ≡ wire
+exact_wire known wire light is =
+    let low = exact_end (cell_of known) wire.low (few_nodes known light) is.low in
+    let high = exact_end (cell_of known) wire.high (few_nodes known light) is.high in
+    ap (λ (end : WireEnd). record wire { low = end; high = capped_end wire.high }) low ∙ ap (λ (end : WireEnd). record wire { low = wire.low; high = end }) high
+
+-- the ends of a wire that is added
+pub ends_of_added : (tech : Tech) (cells : List Known) (known : Known) (wire : Wire) → IsGrown tech cells (with_wire known wire) → HasEnds (cell_of (with_wire known wire)) wire
+ends_of_added tech cells known wire grown =
+    let is : IsWire tech (cell_of (with_wire known wire)) wire = (all_parts (IsWire tech (cell_of (with_wire known wire))) known.wires (wire ∷ []) grown.wires).1.0 in
+    record { low = is.low; high = is.high }
+
+pub limit-exact : (known next : Known) (p q low high : Spot) (vertical at_most : Bool) (n held : ℤ) (axis : Axis2) → weight_of next ≤ 65536 → next ≡ with_limit known (limit_of vertical at_most n p q)
+    → p.number < length known.nodes → q.number < length known.nodes → low ≡ capped_spot p → high ≡ capped_spot q → axis ≡ axis_where vertical → held ≡ n
+    → with_limit known (record { axis = axis; a = low.number; b = high.number; at_most = at_most; n = held }) ≡ next
+limit-exact known next p q low high vertical at_most n held axis light is within there same_low same_high along whole =
+    let few : length known.nodes ≤ 65536 = omega (arith, few_nodes next light, ap (λ (k : Known). length k.nodes) is) in
+    let a : low.number ≡ p.number = ap (λ (s : Spot). s.number) same_low ∙ omega (arith, few, within) in
+    let b : high.number ≡ q.number = ap (λ (s : Spot). s.number) same_high ∙ omega (arith, few, there) in
+    ap (λ x. with_limit known (record { axis = x; a = low.number; b = high.number; at_most = at_most; n = held })) along
+    ∙ ap (λ x. with_limit known (record { axis = axis_where vertical; a = x; b = high.number; at_most = at_most; n = held })) a
+    ∙ ap (λ x. with_limit known (record { axis = axis_where vertical; a = p.number; b = x; at_most = at_most; n = held })) b
+    ∙ ap (λ x. with_limit known (record { axis = axis_where vertical; a = p.number; b = q.number; at_most = at_most; n = x })) whole
+    ∙ sym is

@@ -1,11 +1,6 @@
 -- How many items and mask boxes a cell has, with its uses inlined.
-use Rattle.std.specs.Prelude.{ℕ, ◌+◌, min, Bool, true, false, length, sum_by}
-use Rattle.rule_table.specs.declared.classes.Layer.{Layer}
-use Rattle.rule_table.specs.declared.classes.Layer.TheVariants.{Diffusion, Poly, Metal}
-use Rattle.cell_model.specs.declared.cell.NodeKind.{NodeKind}
-use Rattle.cell_model.specs.declared.cell.NodeKind.TheVariants.{Joint, Contact, Fet}
-use Rattle.cell_model.specs.declared.cell.Node.{Node}
-use Rattle.cell_model.specs.declared.cell.Wire.{Wire}
+use Rattle.std.specs.Prelude.{ℕ, ◌+◌, min, length, sum_by}
+use Rattle.cell_model.specs.Counts.{node_items, wire_items, node_boxes}
 use Rattle.stick_cell.specs.Known.{Known}
 
 -- items, limits, and the uses that were replaced on all levels

@@ -17,6 +17,7 @@ use Rattle.stick_cell.specs.Lines.{wired_of}
 use Rattle.stick_cell.specs.Counts.{weight_of, boxes_of, capped}
 use Rattle.stick_cell.specs.Kept.{capped_names, kept_found}
 use Rattle.stick_cell.specs.NameEntries.{entries_of}
+use Rattle.stick_cell.specs.Steps.{AreStepsOf}
 
 -- a port before the last line of its cell: the number of its wire is capped
 abbrev pub port_so_far : Plug → CellPort
@@ -27,7 +28,7 @@ abbrev pub IsWiredBelow : ℕ → Plug → Type 0
 IsWiredBelow count plug = plug.port.wire ≤ count
 
 -- what is kept is that of the lines so far
-pub record IsGrowing (known : Known) (growing : Growing) : Type 0 where
+pub record IsGrowing (cells : List Known) (known : Known) (growing : Growing) : Type 0 where
   pub name : growing.table.name.now ≡ known.name
   pub names : entries_of growing.table.names ≡ capped_names known.names
   pub ports : growing.table.ports.items ≡ map port_so_far known.plugs
@@ -39,13 +40,14 @@ pub record IsGrowing (known : Known) (growing : Growing) : Type 0 where
   pub most_col : growing.table.most_col ≡ greatest_col known.nodes
   pub most_row : growing.table.most_row ≡ greatest_row known.nodes
   pub depth : growing.table.depth ≡ known.depth
+  pub steps : AreStepsOf cells known growing.table.steps.items
   pub below : AllByRecursion (IsWiredBelow (length known.wires)) known.plugs
 
 -- A line that is read gives what the definition says is known after it; one that is refused, the same kind. Nothing is said where memory
 -- ran out.
-abbrev pub Grows : {X : Type 0} → Result X LineFault → Growing → Result Known StickKind → Type 0
-Grows (Ok x) growing read = (next : Known) × (read ≡ Ok next) × IsGrowing next growing
-Grows (Err fault) growing read = FailsLine fault read
+abbrev pub Grows : {X : Type 0} → List Known → Result X LineFault → Growing → Result Known StickKind → Type 0
+Grows cells (Ok x) growing read = (next : Known) × (read ≡ Ok next) × IsGrowing cells next growing
+Grows cells (Err fault) growing read = FailsLine fault read
 
 -- a new name, and a column and a row that are not too far out
 unfoldable pub placed : Names → List ℕ → ℕ → ℕ → Result (Unit {0}) StickKind

@@ -7,6 +7,7 @@ pub mod Counts
 pub mod Kept
 pub mod Ports
 pub mod NameEntries
+pub mod Steps
 pub mod Tables
 pub mod Growing
 pub mod Resolving

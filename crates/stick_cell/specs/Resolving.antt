@@ -1,5 +1,5 @@
 -- What the code tells of a cell's lines, and of the whole cell.
-use Rattle.std.specs.Prelude.{◌≡◌, ℕ, Result, Ok, Err}
+use Rattle.std.specs.Prelude.{◌≡◌, ℕ, List, Result, Ok, Err}
 use Rattle.stick_parse.specs.declared.fault.StickFault.{StickFault}
 use Rattle.stick_parse.specs.declared.fault.LineFault.{LineFault}
 use Rattle.stick_parse.specs.declared.fault.LineFault.TheVariants as line_faults
@@ -9,6 +9,7 @@ use Rattle.stick_parse.specs.Reading.{Fails}
 use Rattle.stick_cell.specs.declared.growing.Growing.{Growing}
 use Rattle.stick_cell.specs.declared.table.Table.{Table}
 use Rattle.stick_cell.specs.Known.{Known}
+use Rattle.stick_cell.specs.Steps.{AreStepsOf}
 use Rattle.stick_cell.specs.Tables.{IsTableOf}
 use Rattle.stick_cell.specs.Growing.{IsGrowing}
 
@@ -18,11 +19,11 @@ fault_at_line line (line_faults.Kind kind) = Stick (record { line = line; kind =
 fault_at_line line line_faults.OutOfMemory = OutOfMemory
 
 -- what is kept after the lines of a cell, or their fault; nothing is said where memory ran out
-abbrev pub GrowsTo : Result Growing ParseFault → Result Known StickFault → Type 0
-GrowsTo (Ok growing) read = (known : Known) × (read ≡ Ok known) × IsGrowing known growing
-GrowsTo (Err fault) read = Fails fault read
+abbrev pub GrowsTo : List Known → Result Growing ParseFault → Result Known StickFault → Type 0
+GrowsTo cells (Ok growing) read = (known : Known) × (read ≡ Ok known) × IsGrowing cells known growing
+GrowsTo cells (Err fault) read = Fails fault read
 
 -- the table of a cell, or its fault
-abbrev pub TellsTable : Result Table ParseFault → Result Known StickFault → Type 0
-TellsTable (Ok table) read = (known : Known) × (read ≡ Ok known) × IsTableOf known table
-TellsTable (Err fault) read = Fails fault read
+abbrev pub TellsTable : List Known → Result Table ParseFault → Result Known StickFault → Type 0
+TellsTable cells (Ok table) read = (known : Known) × (read ≡ Ok known) × IsTableOf known table × AreStepsOf cells known table.steps.items
+TellsTable cells (Err fault) read = Fails fault read

@@ -1,16 +1,18 @@
 -- What the code keeps of the cells of a design: a table for each, which tells of the cell what later lines and cells ask for. Numbers of
 -- nodes are exact in a cell that may be inlined.
-use Rattle.std.specs.Prelude.{◌≡◌, List, [], ◌∷◌, length, Result, Ok, Err}
+use Rattle.std.specs.Prelude.{◌≡◌, ℕ, ◌<◌, List, [], ◌∷◌, length, map, take, slice_index_or, Result, Ok, Err}
 use Rattle.stick_parse.specs.declared.fault.StickFault.{StickFault}
 use Rattle.stick_parse.specs.Writable.{IsWritable}
 use Rattle.stick_cell.specs.declared.table.Table.{Table}
 use Rattle.stick_cell.specs.declared.cells.Cells.{Cells}
-use Rattle.stick_cell.specs.Known.{Known, greatest_col, greatest_row}
+use Rattle.stick_cell.specs.Known.{Known, known_at, greatest_col, greatest_row}
 use Rattle.stick_cell.specs.Lines.{known_cells}
 use Rattle.stick_cell.specs.Counts.{weight_of, boxes_of, capped}
 use Rattle.stick_cell.specs.Kept.{capped_names}
 use Rattle.stick_cell.specs.Ports.{ports_of}
 use Rattle.stick_cell.specs.NameEntries.{entries_of}
+use Rattle.stick_cell.specs.declared.steps.Step.{Step}
+use Rattle.stick_cell.specs.Steps.{AreStepsOf}
 
 pub record IsTableOf (known : Known) (table : Table) : Type 0 where
   pub name : table.name.now ≡ known.name
@@ -30,6 +32,14 @@ AreTables [] (table ∷ tables) = ⊥
 AreTables (known ∷ cells) [] = ⊥
 AreTables (known ∷ cells) (table ∷ tables) = IsTableOf known table × AreTables cells tables
 
+-- the steps of table number k, where there is one
+abbrev pub steps_at : List Table → ℕ → List Step
+steps_at tables k = slice_index_or (map (λ table. table.steps.items) tables) k []
+
+-- the steps that are kept of each cell make it, given the cells before it
+abbrev pub HaveSteps : List Known → List Table → Type 0
+HaveSteps cells tables = (k : ℕ) → k < length cells → AreStepsOf (take k cells) (known_at cells k) (steps_at tables k)
+
 abbrev pub cells_or_none : Result (List Known) StickFault → List Known
 cells_or_none (Ok cells) = cells
 cells_or_none (Err fault) = []
@@ -43,3 +53,4 @@ pub record IsResolved (cells : Cells) : Type 0 where
   pub writable : IsWritable cells.design.now
   pub read : known_cells cells.tech cells.design.now.cells ≡ Ok (known_of cells)
   pub tables : AreTables (known_of cells) cells.tables.items
+  pub steps : HaveSteps (known_of cells) cells.tables.items

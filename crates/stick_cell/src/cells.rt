@@ -6,8 +6,8 @@ ghost use Rattle.stick_cell.specs.Counts.{weight_of, boxes_of, capped};
 ghost use Rattle.stick_cell.specs.Ports.{ports_of};
 ghost use Rattle.stick_cell.specs.Tables.{known_of, IsResolved};
 
-use cell_model::CellPort;
 use crate::table::Table;
+use cell_model::CellPort;
 use rule_table::Tech;
 use stick_parse::Design;
 

@@ -1,18 +1,20 @@
 //! A cell while its lines are read.
-ghost use Rattle.std.specs.Prelude.{◌≡◌, map, IsTrue, OnOk};
+ghost use Rattle.std.specs.Prelude.{◌≡◌, List, map, IsTrue, OnOk};
 ghost use Rattle.stick_cell.specs.Checks.{is_fresh};
 ghost use Rattle.stick_cell.specs.NameEntries.{entries_of};
 ghost use Rattle.stick_cell.specs.Known.{Known, begun, with_node, with_port};
 ghost use Rattle.stick_cell.specs.Lines.{is_wired, after_joint, after_contact, after_fet, after_port};
 ghost use Rattle.std.specs.List.{list_all};
+ghost use Rattle.stick_cell.specs.Steps.{AreStepsOf};
 ghost use Rattle.stick_cell.specs.Tables.{IsTableOf};
 ghost use Rattle.stick_cell.specs.Growing.{IsGrowing, Grows, placed, without_wire};
 
-use cell_model::{CellPort, NodeKind};
 use crate::checks::{axis_where, is_channel, is_place, layer_of, sized};
 use crate::counts::{capped_sum, kind_boxes, kind_items};
 use crate::names::{Pin, Spot, Thing};
+use crate::steps::Step;
 use crate::table::{NameMap, Table};
+use cell_model::{CellPort, NodeKind};
 use rule_table::{Layer, Tech};
 use std::alloc::{AllocError, Global};
 use stick_parse::{Layer as DrawnLayer, LineFault, Side, StickKind};
@@ -30,11 +32,12 @@ pub struct Growing<'a> {
 impl<'a> Growing<'a> {
     /// A cell before its first line.
     pub fn new(alloc: Global, name: &'a [u8]) -> Growing<'a>
-        ensures { IsGrowing (begun name.now) result }
+        ensures { (cells : List Known) → IsGrowing cells (begun name.now) result }
     {
         let table = Table {
             name,
             names: NameMap::new(alloc),
+            steps: Vec::new(alloc),
             ports: Vec::new(alloc),
             nodes: 0,
             wires: 0,
@@ -60,7 +63,7 @@ impl<'a> Growing<'a> {
         row: u32,
         width: Option<u32>,
     ) -> Result<(), LineFault>
-        ensures { (known : Known) → IsGrowing known self.old → Grows result self.new (after_joint tech.now known name.now layer col row width) }
+        ensures { (cells : List Known) (known : Known) → IsGrowing cells known self.old → Grows cells result self.new (after_joint tech.now known name.now layer col row width) }
     {
         self.check_place(name, col, row)?;
         let layer = layer_of(layer);
@@ -77,7 +80,7 @@ impl<'a> Growing<'a> {
         col: u32,
         row: u32,
     ) -> Result<(), LineFault>
-        ensures { (known : Known) → IsGrowing known self.old → Grows result self.new (after_contact known name.now lower col row) }
+        ensures { (cells : List Known) (known : Known) → IsGrowing cells known self.old → Grows cells result self.new (after_contact known name.now lower col row) }
     {
         self.check_place(name, col, row)?;
         let lower = layer_of(lower);
@@ -97,7 +100,7 @@ impl<'a> Growing<'a> {
         w: u32,
         l: u32,
     ) -> Result<(), LineFault>
-        ensures { (known : Known) → IsGrowing known self.old → Grows result self.new (after_fet tech.now known name.now depletion vertical col row w l) }
+        ensures { (cells : List Known) (known : Known) → IsGrowing cells known self.old → Grows cells result self.new (after_fet tech.now known name.now depletion vertical col row w l) }
     {
         self.check_place(name, col, row)?;
         if !is_channel(tech, w, l) {
@@ -121,7 +124,7 @@ impl<'a> Growing<'a> {
         layer: DrawnLayer,
         place: u32,
     ) -> Result<(), LineFault>
-        ensures { (known : Known) → IsGrowing known self.old → Grows result self.new (after_port known name.now side layer place) }
+        ensures { (cells : List Known) (known : Known) → IsGrowing cells known self.old → Grows cells result self.new (after_port known name.now side layer place) }
     {
         self.check_place(name, place, 0)?;
         self.add_port(name, side, layer_of(layer), place)?;
@@ -151,7 +154,7 @@ impl<'a> Growing<'a> {
         row: u32,
     ) -> Result<(), AllocError>
         requires { IsTrue (is_fresh (entries_of self.old.table.names) name.now) }
-        ensures { OnOk result ((known : Known) → IsGrowing known self.old → IsGrowing (with_node known name.now kind col row) self.new) }
+        ensures { OnOk result ((cells : List Known) (known : Known) → IsGrowing cells known self.old → IsGrowing cells (with_node known name.now kind col row) self.new) }
     {
         let number = self.table.nodes;
         let spot = Spot {
@@ -161,6 +164,12 @@ impl<'a> Growing<'a> {
             row,
         };
         self.table.names.add(name, Thing::Node(spot))?;
+        self.table.steps.push(Step::Node {
+            name,
+            kind,
+            col,
+            row,
+        })?;
         self.table.nodes = capped_sum(number, 1);
         self.table.weight = capped_sum(self.table.weight, kind_items(kind));
         self.table.boxes = capped_sum(self.table.boxes, kind_boxes(kind));
@@ -178,7 +187,7 @@ impl<'a> Growing<'a> {
         place: u32,
     ) -> Result<(), AllocError>
         requires { IsTrue (is_fresh (entries_of self.old.table.names) name.now) }
-        ensures { OnOk result ((known : Known) → IsGrowing known self.old → IsGrowing (with_port known name.now side layer place) self.new) }
+        ensures { OnOk result ((cells : List Known) (known : Known) → IsGrowing cells known self.old → IsGrowing cells (with_port known name.now side layer place) self.new) }
     {
         let Ok(number) = u32::try_from(self.wired.len()) else {
             return Err(AllocError);
@@ -190,6 +199,12 @@ impl<'a> Growing<'a> {
             place,
         };
         self.table.names.add(name, Thing::Port(pin))?;
+        self.table.steps.push(Step::Port {
+            name,
+            side,
+            layer,
+            place,
+        })?;
         self.table.ports.push(CellPort {
             side,
             layer,
@@ -203,14 +218,15 @@ impl<'a> Growing<'a> {
 
     /// Whether a wire ends at each port.
     pub fn is_wired(&self) -> bool
-        ensures { (known : Known) → IsGrowing known self.now → result ≡ is_wired known }
+        ensures { (cells : List Known) (known : Known) → IsGrowing cells known self.now → result ≡ is_wired known }
     {
         all_marked(self.wired.as_slice())
     }
 
     /// The table, with the numbers of the wires at its ports where the cell may be inlined, and else with 0.
     pub fn finish(self) -> Table<'a>
-        ensures { (known : Known) → IsGrowing known self.entry → IsTableOf known result }
+        ensures table { (cells : List Known) (known : Known) → IsGrowing cells known self.entry → IsTableOf known result }
+        ensures steps { (cells : List Known) (known : Known) → IsGrowing cells known self.entry → AreStepsOf cells known result.steps.items }
     {
         let Growing {
             mut table,

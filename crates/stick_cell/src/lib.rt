@@ -7,6 +7,8 @@
 //! unit.
 #![tactic(auto)]
 
+#[cfg(test)]
+mod cell_tests;
 mod cells;
 mod checks;
 mod counts;
@@ -17,6 +19,7 @@ mod names;
 mod parts;
 mod paths;
 mod resolving;
+mod steps;
 mod table;
 #[cfg(test)]
 mod tests;
@@ -24,7 +27,9 @@ mod uses;
 mod wire_lines;
 mod wires;
 
-pub use cell_model::{Axis2, Cell, CellPort, Limit, Nets, Node, NodeKind, NodeNets, Port, Wire, WireEnd};
+pub use cell_model::{
+    Axis2, Cell, CellPort, Limit, Nets, Node, NodeKind, NodeNets, Port, Wire, WireEnd,
+};
 pub use cells::Cells;
 pub use resolving::resolve;
 pub use stick_parse::ParseFault as ResolveFault;

@@ -22,7 +22,7 @@ impl<'a> Growing<'a> {
     ) -> Result<(), LineFault>
         requires { length tables.now ≤ 256 }
         ensures { (cells : List Known) (known : Known) → AreGrown tech.now cells → AreTables cells tables.now → IsForm form.now
-            → IsGrown tech.now cells known → IsGrowing known self.old → Grows result self.new (after_form tech.now cells known form.now) }
+            → IsGrown tech.now cells known → IsGrowing cells known self.old → Grows cells result self.new (after_form tech.now cells known form.now) }
     {
         match form {
             Form::Joint {
@@ -71,7 +71,13 @@ impl<'a> Growing<'a> {
             Form::Wire { layer, a, b, width } => {
                 self.wire(tech, tables, *layer, a.bytes(), b.bytes(), *width)
             }
-            Form::Limit { a, b, .. } => self.limit(tables, a.bytes(), b.bytes()),
+            Form::Limit {
+                vertical,
+                a,
+                b,
+                at_most,
+                n,
+            } => self.limit(tables, *vertical, a.bytes(), b.bytes(), *at_most, *n),
         }
     }
 }

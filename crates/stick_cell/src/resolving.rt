@@ -51,7 +51,7 @@ fn resolve_cell<'a>(
 ) -> Result<Table<'a>, ResolveFault>
     requires few { length tables.now ≤ 256 }
     requires is_cell { IsCell text.now }
-    ensures { (cells : List Known) → AreGrown tech.now cells → AreTables cells tables.now → TellsTable result (after_cell tech.now cells text.now) }
+    ensures { (cells : List Known) → AreGrown tech.now cells → AreTables cells tables.now → TellsTable cells result (after_cell tech.now cells text.now) }
 {
     if place_of(tables, text.name.bytes()).is_some() {
         return Err(refused(text.line, StickKind::RepeatedName));
@@ -73,7 +73,7 @@ fn read_lines<'a>(
     requires few { length tables.now ≤ 256 }
     requires is_cell { IsCell text.now }
     ensures { (cells : List Known) → AreGrown tech.now cells → AreTables cells tables.now
-        → GrowsTo result (after_lines tech.now cells (begun text.now.name) text.now.lines) }
+        → GrowsTo cells result (after_lines tech.now cells (begun text.now.name) text.now.lines) }
 {
     let mut growing = Growing::new(alloc, text.name.bytes());
     for line in text.lines.as_slice() {

@@ -1,6 +1,7 @@
 //! What is kept of a cell for later lines and cells.
-use cell_model::CellPort;
 use crate::names::Thing;
+use crate::steps::Step;
+use cell_model::CellPort;
 use indexmap::IndexMap;
 use std::alloc::{AllocError, Global};
 
@@ -54,6 +55,8 @@ impl<'a> NameMap<'a> {
 pub struct Table<'a> {
     pub name: &'a [u8],
     pub names: NameMap<'a>,
+    /// What its lines add to it. In a cell that may be inlined the numbers of nodes are exact.
+    pub steps: Vec<Step<'a>>,
     pub ports: Vec<CellPort>,
     pub nodes: u32,
     pub wires: u32,

@@ -2,7 +2,7 @@
 ghost use Rattle.std.specs.Prelude.{◌≡◌, ◌+◌, ◌<◌, ◌≤◌, ◌==◌, max, if◌then◌else◌, List, length, IsTrue, OnOk};
 ghost use Rattle.stick_cell.specs.Checks.{is_fresh, is_place};
 ghost use Rattle.stick_cell.specs.NameEntries.{entries_of};
-ghost use Rattle.stick_cell.specs.Known.{Known, with_copy};
+ghost use Rattle.stick_cell.specs.Known.{Known, known_at, with_copy};
 ghost use Rattle.stick_cell.specs.Lines.{after_use};
 ghost use Rattle.stick_cell.specs.Tables.{IsTableOf, AreTables};
 ghost use Rattle.stick_cell.specs.Growing.{IsGrowing, Grows, usable};
@@ -11,6 +11,7 @@ use crate::cells::place_of;
 use crate::counts::capped_sum;
 use crate::growing::Growing;
 use crate::names::{Copied, Thing};
+use crate::steps::Step;
 use crate::table::Table;
 use std::alloc::AllocError;
 use stick_parse::{LineFault, StickKind};
@@ -65,8 +66,8 @@ impl<'a> Growing<'a> {
         row: u32,
     ) -> Result<(), LineFault>
         requires { length tables.now ≤ 256 }
-        ensures { (cells : List Known) (known : Known) → AreTables cells tables.now → IsGrowing known self.old
-            → Grows result self.new (after_use cells known name.now cell.now col row) }
+        ensures { (cells : List Known) (known : Known) → AreTables cells tables.now → IsGrowing cells known self.old
+            → Grows cells result self.new (after_use cells known name.now cell.now col row) }
     {
         if !self.table.names.is_fresh(name) {
             return Err(LineFault::Kind(StickKind::RepeatedName));
@@ -96,8 +97,8 @@ impl<'a> Growing<'a> {
         requires shallow { used.now.depth < 16 }
         requires near_col { col + used.now.most_col ≤ 4095 }
         requires near_row { row + used.now.most_row ≤ 4095 }
-        ensures { OnOk result ((known other : Known) → IsGrowing known self.old → IsTableOf other used.now
-            → IsGrowing (with_copy known name.now cell other col row) self.new) }
+        ensures { OnOk result ((cells : List Known) (known : Known) → IsGrowing cells known self.old → cell < length cells → IsTableOf (known_at cells cell) used.now
+            → IsGrowing cells (with_copy known name.now cell (known_at cells cell) col row) self.new) }
     {
         let first = self.table.nodes;
         let copy = Copied {
@@ -107,6 +108,12 @@ impl<'a> Growing<'a> {
             row,
         };
         self.table.names.add(name, Thing::Copy(copy))?;
+        self.table.steps.push(Step::Copy {
+            name,
+            cell,
+            col,
+            row,
+        })?;
         self.table.nodes = capped_sum(first, used.nodes);
         self.table.wires = capped_sum(self.table.wires, used.wires);
         self.table.weight = capped_sum(capped_sum(self.table.weight, used.weight), 1);

@@ -1,9 +1,10 @@
 //! The wires and limits of a cell.
-ghost use Rattle.std.specs.Prelude.{◌≡◌, ℤ, Bool, List};
+ghost use Rattle.std.specs.Prelude.{◌≡◌, List, OnOk};
 ghost use Rattle.rule_table.specs.declared.technology.Tech.{Tech};
 ghost use Rattle.stick_parse.specs.Writable.{IsPath};
 ghost use Rattle.cell_model.specs.declared.cell.Wire.{Wire};
-ghost use Rattle.stick_cell.specs.Known.{Known, with_wire};
+ghost use Rattle.cell_model.specs.Nets.{HasEnds};
+ghost use Rattle.stick_cell.specs.Known.{Known, cell_of, with_wire};
 ghost use Rattle.stick_cell.specs.Paths.{found_at};
 ghost use Rattle.stick_cell.specs.Lines.{after_wire, after_limit};
 ghost use Rattle.stick_cell.specs.Kept.{capped_wire};
@@ -11,15 +12,17 @@ ghost use Rattle.stick_cell.specs.Grown.{IsGrown, AreGrown};
 ghost use Rattle.stick_cell.specs.Tables.{AreTables};
 ghost use Rattle.stick_cell.specs.Growing.{IsGrowing, Grows, plugged_ports, plugged_marks, found_or_unknown};
 
-use cell_model::{CellPort, Wire, WireEnd};
-use crate::checks::layer_of;
+use crate::checks::{axis_where, layer_of};
 use crate::counts::{capped_sum, layer_items};
 use crate::growing::Growing;
 use crate::names::Found;
 use crate::paths::found_at;
+use crate::steps::Step;
 use crate::table::Table;
 use crate::wires::{limited, wire_between};
+use cell_model::{CellPort, Limit, Wire, WireEnd};
 use rule_table::Tech;
+use std::alloc::AllocError;
 use stick_parse::{Layer as DrawnLayer, LineFault, StickKind};
 
 /// Notes at the port at an end, where the end is a port, the number and the width of the wire that ends there.
@@ -62,7 +65,7 @@ impl<'a> Growing<'a> {
         width: Option<u32>,
     ) -> Result<(), LineFault>
         ensures { (cells : List Known) (known : Known) → AreGrown tech.now cells → AreTables cells tables.now → IsPath a.now → IsPath b.now
-            → IsGrown tech.now cells known → IsGrowing known self.old → Grows result self.new (after_wire tech.now cells known layer a.now b.now width) }
+            → IsGrown tech.now cells known → IsGrowing cells known self.old → Grows cells result self.new (after_wire tech.now cells known layer a.now b.now width) }
     {
         let from = self.found(tables, a)?;
         let to = self.found(tables, b)?;
@@ -74,41 +77,58 @@ impl<'a> Growing<'a> {
             to,
             width,
         )?;
-        self.add_wire(wire);
+        self.add_wire(wire)?;
         Ok(())
     }
 
     /// A bound on how far two nodes that paths name lie apart.
-    pub fn limit(&mut self, tables: &[Table], a: &[u8], b: &[u8]) -> Result<(), LineFault>
-        ensures { (tech : Tech) (cells : List Known) (known : Known) (vertical at_most : Bool) (n : ℤ) → AreGrown tech cells → AreTables cells tables.now
-            → IsPath a.now → IsPath b.now → IsGrown tech cells known → IsGrowing known self.old
-            → Grows result self.new (after_limit cells known vertical a.now b.now at_most n) }
+    pub fn limit(
+        &mut self,
+        tables: &[Table],
+        vertical: bool,
+        a: &[u8],
+        b: &[u8],
+        at_most: bool,
+        n: i64,
+    ) -> Result<(), LineFault>
+        ensures { (tech : Tech) (cells : List Known) (known : Known) → AreGrown tech cells → AreTables cells tables.now
+            → IsPath a.now → IsPath b.now → IsGrown tech cells known → IsGrowing cells known self.old
+            → Grows cells result self.new (after_limit cells known vertical a.now b.now at_most n) }
     {
         let from = self.found(tables, a)?;
         let to = self.found(tables, b)?;
-        limited(from)?;
-        limited(to)?;
+        let low = limited(from)?;
+        let high = limited(to)?;
 
         // Two paths come to one node only where they are the same.
         if a == b {
             return Err(LineFault::Kind(StickKind::BadLimit));
         }
+        self.table.steps.push(Step::Limit(Limit {
+            axis: axis_where(vertical),
+            a: low.number,
+            b: high.number,
+            at_most,
+            n,
+        }))?;
         self.table.weight = capped_sum(self.table.weight, 1);
         Ok(())
     }
 
     /// What a path comes to.
     fn found(&self, tables: &[Table], path: &[u8]) -> Result<Found, StickKind>
-        ensures { (cells : List Known) (known : Known) → AreTables cells tables.now → IsGrowing known self.now
+        ensures { (cells : List Known) (known : Known) → AreTables cells tables.now → IsGrowing cells known self.now
             → result ≡ found_or_unknown (found_at cells known path.now) }
     {
         found_at(tables, &self.table.names, path).ok_or(StickKind::UnknownName)
     }
 
-    /// Adds a wire, which ends at the ports that it names.
-    fn add_wire(&mut self, wire: Wire)
-        ensures { (known : Known) (next : Wire) → IsGrowing known self.old → wire ≡ capped_wire next → IsGrowing (with_wire known next) self.new }
+    /// Adds a wire, which ends at the ports that it names. The only refusal is want of memory.
+    fn add_wire(&mut self, wire: Wire) -> Result<(), AllocError>
+        ensures { OnOk result ((cells : List Known) (known : Known) (next : Wire) → IsGrowing cells known self.old → HasEnds (cell_of (with_wire known next)) next → wire ≡ capped_wire next
+            → IsGrowing cells (with_wire known next) self.new) }
     {
+        self.table.steps.push(Step::Wire(wire))?;
         let number = self.table.wires;
         plug(&mut self.table.ports, wire.low, number, wire.width);
         plug(&mut self.table.ports, wire.high, number, wire.width);
@@ -117,5 +137,6 @@ impl<'a> Growing<'a> {
         self.table.wires = capped_sum(number, 1);
         self.table.weight = capped_sum(self.table.weight, layer_items(wire.layer));
         self.table.boxes = capped_sum(self.table.boxes, 1);
+        Ok(())
     }
 }

@@ -1,13 +1,12 @@
 //! Where wires run, and which terminals take them.
 ghost use Rattle.std.specs.Prelude.{◌≡◌};
 ghost use Rattle.stick_cell.specs.Wires.{wire_between, terminal, line_of, run_along, run_between, takes_layer, takes_along, is_free, is_within_pad, end_of, at_both, limited};
-ghost use Rattle.cell_model.specs.Wiring.{is_same_axis, axis_of, is_low_side, is_same_layer, node_takes, node_takes_along, node_pad};
 
-use cell_model::{Axis2, NodeKind, Wire, WireEnd};
 use crate::checks::sized;
 use crate::names::{Found, Pin, Run, Spot, Terminal};
+use cell_model::{Axis2, Wire, WireEnd, is_low_side, is_same_layer};
 use rule_table::{Layer, Tech};
-use stick_parse::{Side, StickKind};
+use stick_parse::StickKind;
 
 /// The wire of a layer between the things that two paths have come to; `wired` tells of each port of the cell whether a
 /// wire ends at it. The width is in u, and where none is given it is the layer's.
@@ -74,31 +73,6 @@ fn terminal(found: Found) -> Result<Terminal, StickKind>
 
 // ---- straight runs
 
-// The axis on which a wire reaches a side.
-fn axis_of(side: Side) -> Axis2
-    ensures { result ≡ axis_of side }
-{
-    match side {
-        Side::Left | Side::Right => Axis2::Across,
-        Side::Bottom | Side::Top => Axis2::Up,
-    }
-}
-
-fn is_low_side(side: Side) -> bool
-    ensures { result ≡ is_low_side side }
-{
-    match side {
-        Side::Left | Side::Bottom => true,
-        Side::Right | Side::Top => false,
-    }
-}
-
-fn is_same_axis(a: Axis2, b: Axis2) -> bool
-    ensures { result ≡ is_same_axis a b }
-{
-    a == b
-}
-
 // The row of a node for a wire that runs across, its column for one that runs up.
 fn line_of(along: Axis2, spot: Spot) -> u32
     ensures { result ≡ line_of along spot }
@@ -159,7 +133,7 @@ fn run_between_nodes(a: Spot, b: Spot) -> Option<Run>
 fn run_to_port(a: Spot, q: Pin) -> Option<Run>
     ensures { result ≡ run_between (Terminal.Node a) (Terminal.Port q) }
 {
-    let along = axis_of(q.side);
+    let along = Axis2::of_side(q.side);
     if line_of(along, a) == q.place {
         Some(run_along(
             along,
@@ -175,7 +149,7 @@ fn run_to_port(a: Spot, q: Pin) -> Option<Run>
 fn run_from_port(p: Pin, b: Spot) -> Option<Run>
     ensures { result ≡ run_between (Terminal.Port p) (Terminal.Node b) }
 {
-    let along = axis_of(p.side);
+    let along = Axis2::of_side(p.side);
     if line_of(along, b) == p.place {
         Some(run_along(
             along,
@@ -192,9 +166,12 @@ fn run_from_port(p: Pin, b: Spot) -> Option<Run>
 fn run_between_ports(p: Pin, q: Pin) -> Option<Run>
     ensures { result ≡ run_between (Terminal.Port p) (Terminal.Port q) }
 {
-    let along = axis_of(p.side);
+    let along = Axis2::of_side(p.side);
     let is_low = is_low_side(p.side);
-    if is_same_axis(along, axis_of(q.side)) && is_low != is_low_side(q.side) && p.place == q.place {
+    if along.is_same(Axis2::of_side(q.side))
+        && is_low != is_low_side(q.side)
+        && p.place == q.place
+    {
         Some(run_along(along, is_low, Terminal::Port(p), Terminal::Port(q)))
     } else {
         None
@@ -203,45 +180,12 @@ fn run_between_ports(p: Pin, q: Pin) -> Option<Run>
 
 // ---- which terminals take which wires
 
-fn is_same_layer(a: Layer, b: Layer) -> bool
-    ensures { result ≡ is_same_layer a b }
-{
-    a == b
-}
-
-// A joint takes its own layer, a contact metal and its lower layer, a transistor poly and diffusion.
-fn node_takes(kind: NodeKind, layer: Layer) -> bool
-    ensures { result ≡ node_takes kind layer }
-{
-    match kind {
-        NodeKind::Joint { layer: own, .. } => is_same_layer(own, layer),
-        NodeKind::Contact { lower } => {
-            is_same_layer(Layer::Metal, layer) || is_same_layer(lower, layer)
-        }
-        NodeKind::Fet { .. } => !is_same_layer(Layer::Metal, layer),
-    }
-}
-
 fn takes_layer(layer: Layer, end: Terminal) -> bool
     ensures { result ≡ takes_layer layer end }
 {
     match end {
-        Terminal::Node(spot) => node_takes(spot.kind, layer),
+        Terminal::Node(spot) => spot.kind.takes(layer),
         Terminal::Port(pin) => is_same_layer(pin.layer, layer),
-    }
-}
-
-// At a transistor a poly wire runs along the gate, and a diffusion wire across it.
-fn node_takes_along(kind: NodeKind, layer: Layer, along: Axis2) -> bool
-    ensures { result ≡ node_takes_along kind layer along }
-{
-    match kind {
-        NodeKind::Joint { .. } | NodeKind::Contact { .. } => true,
-        NodeKind::Fet { gate, .. } => match layer {
-            Layer::Poly => is_same_axis(gate, along),
-            Layer::Diffusion => !is_same_axis(gate, along),
-            Layer::Metal => true,
-        },
     }
 }
 
@@ -249,7 +193,7 @@ fn takes_along(layer: Layer, along: Axis2, end: Terminal) -> bool
     ensures { result ≡ takes_along layer along end }
 {
     match end {
-        Terminal::Node(spot) => node_takes_along(spot.kind, layer, along),
+        Terminal::Node(spot) => spot.kind.takes_along(layer, along),
         Terminal::Port(_) => true,
     }
 }
@@ -264,26 +208,12 @@ fn is_free(wired: &[bool], end: Terminal) -> bool
     }
 }
 
-// The pad on which a wire of this layer ends: a joint's width, a contact's square, a transistor's channel. In u.
-fn node_pad(tech: &Tech, layer: Layer, kind: NodeKind) -> i64
-    ensures { result ≡ node_pad tech.now layer kind }
-{
-    match kind {
-        NodeKind::Joint { width, .. } => width,
-        NodeKind::Contact { .. } => tech.pad(),
-        NodeKind::Fet { w, l, .. } => match layer {
-            Layer::Poly => l,
-            Layer::Diffusion | Layer::Metal => w,
-        },
-    }
-}
-
 // Whether the wire is no wider than the pad at its end. A port has none.
 fn is_within_pad(tech: &Tech, layer: Layer, width: i64, end: Terminal) -> bool
     ensures { result ≡ is_within_pad tech.now layer width end }
 {
     match end {
-        Terminal::Node(spot) => width <= node_pad(tech, layer, spot.kind),
+        Terminal::Node(spot) => width <= spot.kind.pad(tech, layer),
         Terminal::Port(_) => true,
     }
 }

@@ -20,8 +20,8 @@ returns-in-Err c = λ cells are tables.
 pub loop-line-init : goal.loop-line-init
 loop-line-init c = λ cells are tables.
     let name = c.args.text.now.name in
-    let P : List ℕ → Type 0 = λ text. IsGrowing (begun text) c.new-growing.result in
-    (begun name, subst P c.bytes.ensures c.new-growing.ensures, grown-begun c.args.tech.now cells name, refl)
+    let P : List ℕ → Type 0 = λ text. IsGrowing cells (begun text) c.new-growing.result in
+    (begun name, subst P c.bytes.ensures (c.new-growing.ensures cells), grown-begun c.args.tech.now cells name, refl)
 
 pub loop-line-preserved : goal.loop-line-preserved
 loop-line-preserved c = λ cells are tables.

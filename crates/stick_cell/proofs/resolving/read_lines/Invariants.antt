@@ -9,5 +9,5 @@ use Rattle.stick_cell.proofs.resolving.read_lines.Given as goal
 abbrev pub invariant-loop-line : goal.invariant-loop-line
 invariant-loop-line l =
     (cells : List Known) → AreGrown l.tech cells → AreTables cells l.tables
-    → (known : Known) × IsGrowing known l.growing × IsGrown l.tech cells known
+    → (known : Known) × IsGrowing cells known l.growing × IsGrown l.tech cells known
     × (after_lines l.tech cells known (drop l.line-index l.text.lines) ≡ after_lines l.tech cells (begun l.text.name) l.text.lines)

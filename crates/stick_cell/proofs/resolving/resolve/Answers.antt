@@ -3,16 +3,16 @@ use Rattle.std.proofs.lemmas.List.{length_push}
 use Rattle.stick_cell.specs.declared.table.Table.{Table}
 use Rattle.stick_cell.specs.Known.{Known}
 use Rattle.stick_cell.specs.Lines.{known_cells}
-use Rattle.stick_cell.specs.Tables.{AreTables}
+use Rattle.stick_cell.specs.Tables.{AreTables, HaveSteps}
 use Rattle.stick_cell.proofs.Grown.{are_grown-none, are_grown-append, grown-after_cell}
-use Rattle.stick_cell.proofs.CellLoop.{cells-next, cell-at, tables-push}
+use Rattle.stick_cell.proofs.CellLoop.{cells-next, cell-at, tables-push, have_steps-push}
 use Rattle.stick_cell.proofs.resolving.resolve.Goals as goal
 
 pub loop-text-init : goal.loop-text-init
 unfolding known_cells
 loop-text-init c =
     let P : List Table → Type 0 = λ tables. AreTables [] tables in
-    ([], subst P (sym c.new-tables.ensures.items) tt, are_grown-none c.args.tech.now, refl, ap length c.new-tables.ensures.items)
+    ([], subst P (sym c.new-tables.ensures.items) tt, are_grown-none c.args.tech.now, refl, ap length c.new-tables.ensures.items, λ k lt. absurd (omega arith))
 
 pub loop-text-preserved : goal.loop-text-preserved
 loop-text-preserved c =
@@ -35,4 +35,5 @@ loop-text-preserved c =
       are_grown-append tech so_far.0 cell.0 so_far.2 is.0 is.1,
       sym (cells-next tech so_far.0 texts i text cell.0 lt at cell.1) ∙ so_far.3,
       ap length pushed ∙ omega (arith, length_push c.loop-text.tables.items table, so_far.4),
+      subst (HaveSteps cells) (sym pushed) (have_steps-push so_far.0 c.loop-text.tables.items cell.0 table so_far.1 so_far.5 cell.3),
     )

@@ -2,7 +2,7 @@ use Rattle.std.proofs.Common.{◌≡◌, List, length, drop}
 use Rattle.stick_cell.specs.Known.{Known}
 use Rattle.stick_cell.specs.Lines.{cells_after, known_cells}
 use Rattle.stick_cell.specs.Grown.{AreGrown}
-use Rattle.stick_cell.specs.Tables.{AreTables}
+use Rattle.stick_cell.specs.Tables.{AreTables, HaveSteps}
 use Rattle.stick_cell.proofs.resolving.resolve.Given as goal
 
 abbrev pub invariant-loop-text : goal.invariant-loop-text
@@ -10,3 +10,4 @@ invariant-loop-text l =
     (cells : List Known) × AreTables cells l.tables.items × AreGrown l.tech cells
     × (cells_after l.tech cells (drop l.text-index l.design.cells) ≡ known_cells l.tech l.design.cells)
     × (length l.tables.items ≡ l.text-index)
+    × HaveSteps cells l.tables.items

@@ -18,7 +18,7 @@ returns-in_err-growing c = λ cells are tables.
     let text = c.args.text.now in
     let fresh : is_new_cell cells text.name ≡ true = new-cell cells c.args.tables.now text.name c.bytes.result.now c.place_of.result false tables c.bytes.ensures c.place_of.ensures (sym c.if-is_some.false ∙ c.is_some.ensures) in
     let fault = c.in_err-growing.field-0.0 in
-    tells-residual c.from_residual.result fault _ c.from_residual.ensures.1 (fails-lines c.args.tech.now cells text fault fresh (c.in_err-growing.ensures cells are tables))
+    tells-residual cells c.from_residual.result fault _ c.from_residual.ensures.1 (fails-lines c.args.tech.now cells text fault fresh (c.in_err-growing.ensures cells are tables))
 
 pub returns-then-not-is_wired : goal.returns-then-not-is_wired
 returns-then-not-is_wired c = λ cells are tables.
@@ -28,7 +28,7 @@ returns-then-not-is_wired c = λ cells are tables.
     let unwired : c.is_wired.result ≡ false = search rules in
     fails-at c.refused-then-not-is_wired.result (record { line = text.end_line; kind = PortWires }) _ c.refused-then-not-is_wired.ensures
     (cell-by c.args.tech.now cells text true (Ok after.0) fresh after.1
-    ∙ ap (λ b. at_line text.end_line (demand b PortWires) >>= (λ _. Ok after.0)) (sym (c.is_wired.ensures after.0 after.2) ∙ unwired))
+    ∙ ap (λ b. at_line text.end_line (demand b PortWires) >>= (λ _. Ok after.0)) (sym (c.is_wired.ensures cells after.0 after.2) ∙ unwired))
 
 pub returns : goal.returns
 returns c = λ cells are tables.
@@ -38,6 +38,7 @@ returns c = λ cells are tables.
     let wired : c.is_wired.result ≡ true = search rules in (
       after.0,
       cell-by c.args.tech.now cells text true (Ok after.0) fresh after.1
-          ∙ ap (λ b. at_line text.end_line (demand b PortWires) >>= (λ _. Ok after.0)) (sym (c.is_wired.ensures after.0 after.2) ∙ wired),
-      c.finish.ensures after.0 after.2,
+          ∙ ap (λ b. at_line text.end_line (demand b PortWires) >>= (λ _. Ok after.0)) (sym (c.is_wired.ensures cells after.0 after.2) ∙ wired),
+      c.finish.ensures.table cells after.0 after.2,
+      c.finish.ensures.steps cells after.0 after.2,
     )

@@ -2,19 +2,21 @@ use Rattle.std.proofs.Common.{◌≡◌, ℕ, ◌+◌, map, length, refl, ap, �
 use Rattle.std.proofs.lemmas.List.{length-append, length-map}
 use Rattle.stick_cell.specs.declared.names.Thing.{Thing}
 use Rattle.stick_cell.specs.declared.names.Thing.TheVariants as things
-use Rattle.stick_cell.specs.Known.{with_copy, copied_node, copied_wire}
+use Rattle.stick_cell.specs.Known.{known_at, with_copy, copied_node, copied_wire}
 use Rattle.stick_cell.specs.Counts.{weight_of, boxes_of}
 use Rattle.stick_cell.specs.NameEntries.{entries_of}
 use Rattle.stick_cell.proofs.Counting.{counted, counted_copy, weight-with_copy, boxes-with_copy, most_col-copies, most_row-copies}
 use Rattle.stick_cell.proofs.LineSteps.{names-push, below-more}
+use Rattle.stick_cell.proofs.Stepping.{steps-push}
 use Rattle.stick_cell.proofs.growing.Growing.add_copy.Goals as goal
 
 pub returns : goal.returns
-returns c = λ known other grown is.
+returns c = λ cells known grown earlier is.
     let a = c.args in
     let name = a.name.now in
     let table = a.self.now.table in
     let used = a.used.now in
+    let other = known_at cells a.cell in
     let next = with_copy known name a.cell other a.col a.row in
     let thing : ℕ → Thing = λ first. things.Copy (record { cell = a.cell; first = first; col = a.col; row = a.row }) in
     let nodes : length next.nodes ≡ length known.nodes + length other.nodes = omega (arith, length-append known.nodes (map (copied_node name a.col a.row) other.nodes), length-map other.nodes (copied_node name a.col a.row)) in
@@ -33,5 +35,6 @@ returns c = λ known other grown is.
       most_col = c.most_with_copy-self.ensures ∙ most_col-copies known.nodes other.nodes name a.col a.row table.most_col used.nodes used.most_col grown.most_col is.nodes is.most_col;
       most_row = c.most_with_copy-self-2.ensures ∙ most_row-copies known.nodes other.nodes name a.col a.row table.most_row used.nodes used.most_row grown.most_row is.nodes is.most_row;
       depth = omega (arith, c.max-self.ensures, grown.depth, is.depth);
+      steps = steps-push cells known next table.steps.items _ _ grown.steps c.in_ok-push.ensures.items (earlier, omega (arith, c.requires.near_col), omega (arith, c.requires.near_row)) refl (omega (arith, weight-with_copy known name a.cell other a.col a.row)) (λ light. refl);
       below = below-more (length known.wires) (length next.wires) known.plugs (omega arith) grown.below;
     }

@@ -1,4 +1,4 @@
-use Rattle.std.proofs.Common.{ℕ, ◌+◌, max, length, sym, ap, ◌∙◌}
+use Rattle.std.proofs.Common.{ℕ, ◌+◌, max, length, refl, sym, ap, ◌∙◌, arith}
 use Rattle.std.proofs.lemmas.List.{length_push}
 use Rattle.cell_model.specs.declared.cell.Node.{Node}
 use Rattle.stick_cell.specs.declared.names.Thing.{Thing}
@@ -9,10 +9,11 @@ use Rattle.cell_model.specs.Counts.{kind_items, kind_boxes}
 use Rattle.stick_cell.specs.NameEntries.{entries_of}
 use Rattle.stick_cell.proofs.Counting.{counted, weight-with_node, boxes-with_node, greatest_col-push, greatest_row-push}
 use Rattle.stick_cell.proofs.LineSteps.{names-push}
+use Rattle.stick_cell.proofs.Stepping.{steps-push}
 use Rattle.stick_cell.proofs.growing.Growing.add_node.Goals as goal
 
 pub returns : goal.returns
-returns c = λ known grown.
+returns c = λ cells known grown.
     let name = c.args.name.now in
     let table = c.args.self.now.table in
     let node : Node = record { name = name; kind = c.args.kind; col = c.args.col; row = c.args.row } in
@@ -30,5 +31,6 @@ returns c = λ known grown.
       most_col = c.max-self.ensures ∙ ap (λ (n : ℕ). max n c.args.col) grown.most_col ∙ sym (greatest_col-push known.nodes node);
       most_row = c.max-self-2.ensures ∙ ap (λ (n : ℕ). max n c.args.row) grown.most_row ∙ sym (greatest_row-push known.nodes node);
       depth = grown.depth;
+      steps = steps-push cells known next table.steps.items _ _ grown.steps c.in_ok-push.ensures.items tt refl (omega (arith, weight-with_node known name c.args.kind c.args.col c.args.row)) (λ light. refl);
       below = grown.below;
     }

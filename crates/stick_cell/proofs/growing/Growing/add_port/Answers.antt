@@ -1,18 +1,19 @@
-use Rattle.std.proofs.Common.{◌≡◌, ℕ, [], ◌∷◌, ◌++◌, false, length, sym, ap, ◌∙◌, arith}
+use Rattle.std.proofs.Common.{◌≡◌, ℕ, [], ◌∷◌, ◌++◌, false, length, refl, sym, ap, ◌∙◌, arith}
 use Rattle.std.specs.Prelude.{pos}
 use Rattle.std.proofs.lemmas.List.{map-append, length-map}
 use Rattle.stick_cell.specs.declared.names.Thing.{Thing}
 use Rattle.stick_cell.specs.declared.names.Thing.TheVariants as things
-use Rattle.stick_cell.specs.Known.{Plug}
+use Rattle.stick_cell.specs.Known.{Plug, with_port}
 use Rattle.stick_cell.specs.Counts.{capped}
 use Rattle.stick_cell.specs.NameEntries.{entries_of}
 use Rattle.stick_cell.specs.Growing.{port_so_far}
 use Rattle.stick_cell.proofs.Counting.{weight-with_port, boxes-with_port}
 use Rattle.stick_cell.proofs.LineSteps.{names-push, below-push}
+use Rattle.stick_cell.proofs.Stepping.{steps-push}
 use Rattle.stick_cell.proofs.growing.Growing.add_port.Goals as goal
 
 pub returns : goal.returns
-returns c = λ known grown.
+returns c = λ cells known grown.
     let name = c.args.name.now in
     let table = c.args.self.now.table in
     let plug : Plug = record { port = record { name = name; side = c.args.side; layer = c.args.layer; place = c.args.place; wire = 0 }; width = pos 0; wired = false } in
@@ -21,8 +22,8 @@ returns c = λ known grown.
     record {
       name = grown.name;
       names = names-push (entries_of table.names) (entries_of c.add.new.self) known.names name (thing c.in-Ok.number) (thing (length known.plugs)) c.in_ok-add.ensures grown.names (ap thing number_is);
-      ports = c.in_ok-push.ensures.items ∙ ap (λ ports. ports ++ port_so_far plug ∷ []) grown.ports ∙ sym (map-append port_so_far known.plugs (plug ∷ []));
-      wired = c.in_ok-push-2.ensures.items ∙ ap (λ wired. wired ++ false ∷ []) grown.wired ∙ sym (map-append (λ (plug : Plug). plug.wired) known.plugs (plug ∷ []));
+      ports = c.in_ok-push-2.ensures.items ∙ ap (λ ports. ports ++ port_so_far plug ∷ []) grown.ports ∙ sym (map-append port_so_far known.plugs (plug ∷ []));
+      wired = c.in_ok-push-3.ensures.items ∙ ap (λ wired. wired ++ false ∷ []) grown.wired ∙ sym (map-append (λ (plug : Plug). plug.wired) known.plugs (plug ∷ []));
       nodes = grown.nodes;
       wires = grown.wires;
       weight = grown.weight ∙ ap capped (sym (weight-with_port known name c.args.side c.args.layer c.args.place));
@@ -30,5 +31,6 @@ returns c = λ known grown.
       most_col = grown.most_col;
       most_row = grown.most_row;
       depth = grown.depth;
+      steps = steps-push cells known (with_port known name c.args.side c.args.layer c.args.place) table.steps.items _ _ grown.steps c.in_ok-push.ensures.items tt refl (omega (arith, weight-with_port known name c.args.side c.args.layer c.args.place)) (λ light. refl);
       below = below-push (length known.wires) known.plugs plug grown.below (omega arith);
     }

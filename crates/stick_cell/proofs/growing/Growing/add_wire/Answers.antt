@@ -1,4 +1,4 @@
-use Rattle.std.proofs.Common.{◌≡◌, ℕ, ◌+◌, ◌≤◌, length, ap, ◌∙◌, rules, arith, w64, to_z, of_z}
+use Rattle.std.proofs.Common.{◌≡◌, ℕ, ◌+◌, ◌≤◌, length, refl, ap, ◌∙◌, rules, arith, w64, to_z, of_z}
 use Rattle.std.proofs.lemmas.List.{length_push}
 use Rattle.cell_model.specs.declared.cell.Wire.{Wire}
 use Rattle.stick_cell.specs.Known.{plugged, with_wire}
@@ -7,11 +7,12 @@ use Rattle.cell_model.specs.Counts.{layer_items}
 use Rattle.stick_cell.specs.Kept.{capped_end}
 use Rattle.stick_cell.proofs.Counting.{counted, weight-with_wire, boxes-with_wire}
 use Rattle.stick_cell.proofs.LineSteps.{below-more}
-use Rattle.stick_cell.proofs.WireSteps.{plug-step, mark-step, below-plugged}
+use Rattle.stick_cell.proofs.WireSteps.{plug-step, mark-step, below-plugged, exact_wire}
+use Rattle.stick_cell.proofs.Stepping.{steps-push}
 use Rattle.stick_cell.proofs.growing.Growing.add_wire.Goals as goal
 
 pub returns : goal.returns
-returns c = λ known wire grown is.
+returns c = λ cells known wire grown ends is.
     let a = c.args in
     let table = a.self.now.table in
     let next = with_wire known wire in
@@ -37,6 +38,8 @@ returns c = λ known wire grown is.
       most_col = grown.most_col;
       most_row = grown.most_row;
       depth = grown.depth;
+      steps = steps-push cells known next table.steps.items _ _ grown.steps c.in_ok-push.ensures.items tt refl (omega (arith, weight-with_wire known wire))
+          (λ light. ap (with_wire known) (is ∙ exact_wire next wire light ends));
       below =
           let more : n ≤ length next.wires = omega (arith, length_push known.wires wire) in
           below-plugged (length next.wires) n wire.width one wire.high more (below-plugged (length next.wires) n wire.width known.plugs wire.low more (below-more n (length next.wires) known.plugs more grown.below));

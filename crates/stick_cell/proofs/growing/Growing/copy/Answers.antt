@@ -42,7 +42,7 @@ returns-in_err-check_use c = λ cells known are grown.
     let fresh : is_fresh (entries_of a.self.now.table.names) a.name.now ≡ true = search rules in
     let other : not (bytes_eq a.cell.now a.self.now.table.name.now) ≡ true = search rules in
     let k = c.in_err-check_use.field-0.0 in
-    grows-residual c.from_residual.result a.self.now _ k c.from_residual.ensures.1
+    grows-residual cells c.from_residual.result a.self.now _ k c.from_residual.ensures.1
     (use-found cells known a.tables.now a.self.now a.name.now a.cell.now a.col a.row c.in-Some.place c.index-tables-place.result (Err k) are grown fresh other
     (sym c.in-Some.ensures) c.index-tables-place.is (sym c.in_err-check_use.was ∙ c.check_use.ensures)).0
 
@@ -72,4 +72,4 @@ returns c = λ cells known are grown.
     let place = c.in-Some.place in
     let found = use-found cells known a.tables.now a.self.now a.name.now a.cell.now a.col a.row place c.index-tables-place.result (Ok tt) are grown fresh other
     (sym c.in-Some.ensures) c.index-tables-place.is (sym c.in_ok-check_use.was ∙ c.check_use.ensures) in
-    (with_copy known a.name.now place (known_at cells place) a.col a.row, found.0, c.in_ok-add_copy.ensures known (known_at cells place) grown found.1)
+    (with_copy known a.name.now place (known_at cells place) a.col a.row, found.0, c.in_ok-add_copy.ensures cells known grown found.2 found.1)

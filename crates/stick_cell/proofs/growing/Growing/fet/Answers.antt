@@ -11,14 +11,14 @@ use Rattle.stick_cell.proofs.LineSteps.{grows-residual, placed-kept, fresh-kept,
 use Rattle.stick_cell.proofs.growing.Growing.fet.Goals as goal
 
 pub returns-in_err-check_place : goal.returns-in_err-check_place
-returns-in_err-check_place c = λ known grown.
+returns-in_err-check_place c = λ cells known grown.
     let a = c.args in
-    grows-residual c.from_residual.result a.self.now _ c.in_err-check_place.field-0.0 c.from_residual.ensures.1
+    grows-residual cells c.from_residual.result a.self.now _ c.in_err-check_place.field-0.0 c.from_residual.ensures.1
     (fet-by a.tech.now known a.name.now a.depletion a.vertical a.col a.row a.w a.l (Err c.in_err-check_place.field-0.0) (is_channel a.tech.now a.w a.l)
     (placed-kept (entries_of a.self.now.table.names) known.names a.name.now a.col a.row _ grown.names (sym c.in_err-check_place.was ∙ c.check_place.ensures)) refl)
 
 pub returns-then-not-is_channel : goal.returns-then-not-is_channel
-returns-then-not-is_channel c = λ known grown.
+returns-then-not-is_channel c = λ cells known grown.
     let a = c.args in
     let b : is_channel a.tech.now a.w a.l ≡ false = search rules in
     fet-by a.tech.now known a.name.now a.depletion a.vertical a.col a.row a.w a.l (Ok tt) false
@@ -30,7 +30,7 @@ add_node-requires c =
     fresh-kept (entries_of a.self.now.table.names) a.name.now a.col a.row c.check_place.result c.check_place.ensures c.in_ok-check_place.was
 
 pub returns : goal.returns
-returns c = λ known grown.
+returns c = λ cells known grown.
     let a = c.args in
     let b : is_channel a.tech.now a.w a.l ≡ true = search rules in
     let w : to_z w64 (of_z w64 c.from.result) ≡ pos a.w = search rules in
@@ -39,9 +39,9 @@ returns c = λ known grown.
     ap (λ gate. kinds.Fet a.depletion gate (to_z w64 (of_z w64 c.from.result)) (to_z w64 (of_z w64 c.from-2.result))) c.axis_where.ensures
     ∙ ap (λ w. kinds.Fet a.depletion (axis_where a.vertical) w (to_z w64 (of_z w64 c.from-2.result))) w
     ∙ ap (λ l. kinds.Fet a.depletion (axis_where a.vertical) (pos a.w) l) l in
-    let P : NodeKind → Type 0 = λ kind. IsGrowing (with_node known a.name.now kind a.col a.row) c.add_node.new.self in (
+    let P : NodeKind → Type 0 = λ kind. IsGrowing cells (with_node known a.name.now kind a.col a.row) c.add_node.new.self in (
       with_node known a.name.now (kinds.Fet a.depletion (axis_where a.vertical) (pos a.w) (pos a.l)) a.col a.row,
       fet-by a.tech.now known a.name.now a.depletion a.vertical a.col a.row a.w a.l (Ok tt) true
           (placed-kept (entries_of a.self.now.table.names) known.names a.name.now a.col a.row _ grown.names (sym c.in_ok-check_place.was ∙ c.check_place.ensures)) b,
-      subst P kind (c.in_ok-add_node.ensures known grown),
+      subst P kind (c.in_ok-add_node.ensures cells known grown),
     )

@@ -1,12 +1,13 @@
 use Rattle.std.proofs.Common.{sym, subst}
 use Rattle.stick_cell.specs.declared.table.Table.{Table}
+use Rattle.stick_cell.specs.Steps.{AreStepsOf}
 use Rattle.stick_cell.specs.Tables.{IsTableOf}
 use Rattle.stick_cell.proofs.Finishing.{ports-forgotten, ports-told}
 use Rattle.stick_cell.proofs.growing.Growing.finish.Goals as goal
 use Rattle.stick_cell.proofs.growing.Growing.finish.Goals.{then-table-gt-MOST_ITEMS, else-table-gt-MOST_ITEMS}
 
-pub returns : goal.returns
-returns c = λ known is.
+pub returns-clause-table : goal.returns-clause-table
+returns-clause-table c = λ cells known is.
     let growing = c.args.self in
     let P : Table → Type 0 = λ table. IsTableOf known table in
     elim c.if-table-gt-MOST_ITEMS.branch [
@@ -14,7 +15,7 @@ returns c = λ known is.
           subst P (sym w.table-is) (record {
             name = is.name;
             names = is.names;
-            ports = ports-forgotten known growing w.forget_wires.new.ports.items is w.if-table-gt-MOST_ITEMS.true w.forget_wires.ensures;
+            ports = ports-forgotten cells known growing w.forget_wires.new.ports.items is w.if-table-gt-MOST_ITEMS.true w.forget_wires.ensures;
             nodes = is.nodes;
             wires = is.wires;
             weight = is.weight;
@@ -27,7 +28,7 @@ returns c = λ known is.
           subst P (sym w.table-is) (record {
             name = is.name;
             names = is.names;
-            ports = ports-told known growing is w.if-table-gt-MOST_ITEMS.false;
+            ports = ports-told cells known growing is w.if-table-gt-MOST_ITEMS.false;
             nodes = is.nodes;
             wires = is.wires;
             weight = is.weight;
@@ -36,4 +37,12 @@ returns c = λ known is.
             most_row = is.most_row;
             depth = is.depth;
           })
+    ]
+
+pub returns-clause-steps : goal.returns-clause-steps
+returns-clause-steps c = λ cells known is.
+    let P : Table → Type 0 = λ table. AreStepsOf cells known table.steps.items in
+    elim c.if-table-gt-MOST_ITEMS.branch [
+      | then-table-gt-MOST_ITEMS w ↦ subst P (sym w.table-is) is.steps
+      | else-table-gt-MOST_ITEMS w ↦ subst P (sym w.table-is) is.steps
     ]

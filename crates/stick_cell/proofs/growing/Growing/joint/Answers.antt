@@ -9,17 +9,17 @@ use Rattle.stick_cell.proofs.LineSteps.{grows-residual, placed-kept, fresh-kept,
 use Rattle.stick_cell.proofs.growing.Growing.joint.Goals as goal
 
 pub returns-in_err-check_place : goal.returns-in_err-check_place
-returns-in_err-check_place c = λ known grown.
+returns-in_err-check_place c = λ cells known grown.
     let a = c.args in
-    grows-residual c.from_residual.result a.self.now _ c.in_err-check_place.field-0.0 c.from_residual.ensures.1
+    grows-residual cells c.from_residual.result a.self.now _ c.in_err-check_place.field-0.0 c.from_residual.ensures.1
     (joint-by a.tech.now known a.name.now a.layer a.col a.row a.width (Err c.in_err-check_place.field-0.0) (sized a.tech.now (layer_of a.layer) a.width)
     (placed-kept (entries_of a.self.now.table.names) known.names a.name.now a.col a.row _ grown.names (sym c.in_err-check_place.was ∙ c.check_place.ensures)) refl)
 
 pub returns-in_err-width : goal.returns-in_err-width
-returns-in_err-width c = λ known grown.
+returns-in_err-width c = λ cells known grown.
     let a = c.args in
     let k = c.in_err-width.field-0.0 in
-    grows-residual c.from_residual-in_err-width.result a.self.now _ k c.from_residual-in_err-width.ensures.1
+    grows-residual cells c.from_residual-in_err-width.result a.self.now _ k c.from_residual-in_err-width.ensures.1
     (joint-by a.tech.now known a.name.now a.layer a.col a.row a.width (Ok tt) (Err k)
     (placed-kept (entries_of a.self.now.table.names) known.names a.name.now a.col a.row _ grown.names (sym c.in_ok-check_place.was ∙ c.check_place.ensures))
     (ap (λ layer. sized a.tech.now layer a.width) (sym c.layer_of-layer.ensures) ∙ sym c.sized.ensures ∙ c.in_err-width.was))
@@ -30,16 +30,16 @@ add_node-requires c =
     fresh-kept (entries_of a.self.now.table.names) a.name.now a.col a.row c.check_place.result c.check_place.ensures c.in_ok-check_place.was
 
 pub returns : goal.returns
-returns c = λ known grown.
+returns c = λ cells known grown.
     let a = c.args in
     let width = c.in_ok-width.width in
     let held : to_z w64 (of_z w64 width) ≡ width = search rules in
     let kind : kinds.Joint c.layer_of-layer.result (to_z w64 (of_z w64 width)) ≡ kinds.Joint (layer_of a.layer) width =
     ap (λ layer. kinds.Joint layer (to_z w64 (of_z w64 width))) c.layer_of-layer.ensures ∙ ap (λ size. kinds.Joint (layer_of a.layer) size) held in
-    let P : NodeKind → Type 0 = λ kind. IsGrowing (with_node known a.name.now kind a.col a.row) c.add_node.new.self in (
+    let P : NodeKind → Type 0 = λ kind. IsGrowing cells (with_node known a.name.now kind a.col a.row) c.add_node.new.self in (
       with_node known a.name.now (kinds.Joint (layer_of a.layer) width) a.col a.row,
       joint-by a.tech.now known a.name.now a.layer a.col a.row a.width (Ok tt) (Ok width)
           (placed-kept (entries_of a.self.now.table.names) known.names a.name.now a.col a.row _ grown.names (sym c.in_ok-check_place.was ∙ c.check_place.ensures))
           (ap (λ layer. sized a.tech.now layer a.width) (sym c.layer_of-layer.ensures) ∙ sym c.sized.ensures ∙ c.in_ok-width.was),
-      subst P kind (c.in_ok-add_node.ensures known grown),
+      subst P kind (c.in_ok-add_node.ensures cells known grown),
     )

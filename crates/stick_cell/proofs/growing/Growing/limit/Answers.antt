@@ -1,4 +1,4 @@
-use Rattle.std.proofs.Common.{◌≡◌, true, false, not, Ok, refl, sym, ap, ◌∙◌, rules}
+use Rattle.std.proofs.Common.{◌≡◌, true, false, not, Ok, refl, sym, ap, ◌∙◌, arith, rules}
 use Rattle.std.specs.Prelude.{bytes_eq}
 use Rattle.stick_parse.specs.declared.fault.StickKind.TheVariants.{BadLimit}
 use Rattle.stick_parse.specs.Reading.{◌>>=◌}
@@ -10,71 +10,72 @@ use Rattle.stick_cell.specs.Kept.{capped_spot}
 use Rattle.stick_cell.specs.Counts.{weight_of, capped}
 use Rattle.stick_cell.proofs.Counting.{counted, weight-with_limit, boxes-with_limit}
 use Rattle.stick_cell.proofs.LineSteps.{grows-residual}
-use Rattle.stick_cell.proofs.WireSteps.{limit-unknown, limit-unknown_end, limit-ends, limit_of, limits_of, result_map-err, result_map-ok}
+use Rattle.stick_cell.proofs.WireSteps.{limit-unknown, limit-unknown_end, limit-ends, limit_of, limits_of, limit-exact, result_map-err, result_map-ok}
+use Rattle.stick_cell.proofs.Stepping.{steps-push}
 use Rattle.stick_cell.proofs.growing.Growing.limit.Goals as goal
 
 pub returns-in_err-from : goal.returns-in_err-from
-returns-in_err-from c = λ tech cells known vertical at_most n are tables path_a path_b grown is.
+returns-in_err-from c = λ tech cells known are tables path_a path_b grown is.
     let a = c.args in
     let k = c.in_err-from.field-0.0 in
-    grows-residual c.from_residual.result a.self.now _ k c.from_residual.ensures.1
-    (limit-unknown cells known vertical a.a.now a.b.now at_most n k (sym (c.found.ensures cells known tables is) ∙ c.in_err-from.was))
+    grows-residual cells c.from_residual.result a.self.now _ k c.from_residual.ensures.1
+    (limit-unknown cells known a.vertical a.a.now a.b.now a.at_most a.n k (sym (c.found.ensures cells known tables is) ∙ c.in_err-from.was))
 
 pub returns-in_err-to : goal.returns-in_err-to
-returns-in_err-to c = λ tech cells known vertical at_most n are tables path_a path_b grown is.
+returns-in_err-to c = λ tech cells known are tables path_a path_b grown is.
     let a = c.args in
     let k = c.in_err-to.field-0.0 in
-    grows-residual c.from_residual-in_err-to.result a.self.now _ k c.from_residual-in_err-to.ensures.1
-    (limit-unknown_end cells known vertical a.a.now a.b.now at_most n c.in_ok-from.from k
+    grows-residual cells c.from_residual-in_err-to.result a.self.now _ k c.from_residual-in_err-to.ensures.1
+    (limit-unknown_end cells known a.vertical a.a.now a.b.now a.at_most a.n c.in_ok-from.from k
     (sym (c.found.ensures cells known tables is) ∙ c.in_ok-from.was) (sym (c.found-2.ensures cells known tables is) ∙ c.in_err-to.was))
 
-pub returns-in_err-limited : goal.returns-in_err-limited
-returns-in_err-limited c = λ tech cells known vertical at_most n are tables path_a path_b grown is.
+pub returns-in_err-low : goal.returns-in_err-low
+returns-in_err-low c = λ tech cells known are tables path_a path_b grown is.
     let a = c.args in
-    let k = c.in_err-limited.field-0.0 in
-    let found = limit-ends tech cells known vertical a.a.now a.b.now at_most n c.in_ok-from.from c.in_ok-to.to c.limited.result (limited c.in_ok-to.to) are path_a path_b grown
+    let k = c.in_err-low.field-0.0 in
+    let found = limit-ends tech cells known a.vertical a.a.now a.b.now a.at_most a.n c.in_ok-from.from c.in_ok-to.to c.limited.result (limited c.in_ok-to.to) are path_a path_b grown
     (sym (c.found.ensures cells known tables is) ∙ c.in_ok-from.was) (sym (c.found-2.ensures cells known tables is) ∙ c.in_ok-to.was) c.limited.ensures refl in
-    grows-residual c.from_residual-in_err-limited.result a.self.now _ k c.from_residual-in_err-limited.ensures.1
-    (found.2 ∙ ap (λ low. low >>= (λ low. found.1 >>= (λ high. limits_of known vertical at_most n low high))) (result_map-err capped_spot found.0 k (sym found.3 ∙ c.in_err-limited.was)))
+    grows-residual cells c.from_residual-in_err-low.result a.self.now _ k c.from_residual-in_err-low.ensures.1
+    (found.2 ∙ ap (λ low. low >>= (λ low. found.1 >>= (λ high. limits_of known a.vertical a.at_most a.n low high))) (result_map-err capped_spot found.0 k (sym found.3 ∙ c.in_err-low.was)))
 
-pub returns-in_err-limited-2 : goal.returns-in_err-limited-2
-returns-in_err-limited-2 c = λ tech cells known vertical at_most n are tables path_a path_b grown is.
+pub returns-in_err-high : goal.returns-in_err-high
+returns-in_err-high c = λ tech cells known are tables path_a path_b grown is.
     let a = c.args in
-    let k = c.in_err-limited-2.field-0.0 in
-    let found = limit-ends tech cells known vertical a.a.now a.b.now at_most n c.in_ok-from.from c.in_ok-to.to c.limited.result c.limited-2.result are path_a path_b grown
+    let k = c.in_err-high.field-0.0 in
+    let found = limit-ends tech cells known a.vertical a.a.now a.b.now a.at_most a.n c.in_ok-from.from c.in_ok-to.to c.limited.result c.limited-2.result are path_a path_b grown
     (sym (c.found.ensures cells known tables is) ∙ c.in_ok-from.was) (sym (c.found-2.ensures cells known tables is) ∙ c.in_ok-to.was) c.limited.ensures c.limited-2.ensures in
-    let low = result_map-ok capped_spot found.0 c.in_ok-limited.field-0 (sym found.3 ∙ c.in_ok-limited.was) in
-    grows-residual c.from_residual-in_err-limited-2.result a.self.now _ k c.from_residual-in_err-limited-2.ensures.1
-    (found.2 ∙ ap (λ low. low >>= (λ low. found.1 >>= (λ high. limits_of known vertical at_most n low high))) low.1
-    ∙ ap (λ high. high >>= (λ high. limits_of known vertical at_most n low.0 high)) (result_map-err capped_spot found.1 k (sym found.4 ∙ c.in_err-limited-2.was)))
+    let low = result_map-ok capped_spot found.0 c.in_ok-low.low (sym found.3 ∙ c.in_ok-low.was) in
+    grows-residual cells c.from_residual-in_err-high.result a.self.now _ k c.from_residual-in_err-high.ensures.1
+    (found.2 ∙ ap (λ low. low >>= (λ low. found.1 >>= (λ high. limits_of known a.vertical a.at_most a.n low high))) low.1
+    ∙ ap (λ high. high >>= (λ high. limits_of known a.vertical a.at_most a.n low.0 high)) (result_map-err capped_spot found.1 k (sym found.4 ∙ c.in_err-high.was)))
 
 pub returns-then-eq : goal.returns-then-eq
-returns-then-eq c = λ tech cells known vertical at_most n are tables path_a path_b grown is.
+returns-then-eq c = λ tech cells known are tables path_a path_b grown is.
     let a = c.args in
-    let found = limit-ends tech cells known vertical a.a.now a.b.now at_most n c.in_ok-from.from c.in_ok-to.to c.limited.result c.limited-2.result are path_a path_b grown
+    let found = limit-ends tech cells known a.vertical a.a.now a.b.now a.at_most a.n c.in_ok-from.from c.in_ok-to.to c.limited.result c.limited-2.result are path_a path_b grown
     (sym (c.found.ensures cells known tables is) ∙ c.in_ok-from.was) (sym (c.found-2.ensures cells known tables is) ∙ c.in_ok-to.was) c.limited.ensures c.limited-2.ensures in
-    let low = result_map-ok capped_spot found.0 c.in_ok-limited.field-0 (sym found.3 ∙ c.in_ok-limited.was) in
-    let high = result_map-ok capped_spot found.1 c.in_ok-limited-2.field-0 (sym found.4 ∙ c.in_ok-limited-2.was) in
+    let low = result_map-ok capped_spot found.0 c.in_ok-low.low (sym found.3 ∙ c.in_ok-low.was) in
+    let high = result_map-ok capped_spot found.1 c.in_ok-high.high (sym found.4 ∙ c.in_ok-high.was) in
     let same : bytes_eq a.a.now a.b.now ≡ true = search rules in
-    found.2 ∙ ap (λ low. low >>= (λ low. found.1 >>= (λ high. limits_of known vertical at_most n low high))) low.1
-    ∙ ap (λ high. high >>= (λ high. limits_of known vertical at_most n low.0 high)) high.1
-    ∙ ap (λ b. demand (not b) BadLimit >>= (λ _. Ok (with_limit known (limit_of vertical at_most n low.0 high.0)))) (found.5 low.0 high.0 low.1 high.1 ∙ same)
+    found.2 ∙ ap (λ low. low >>= (λ low. found.1 >>= (λ high. limits_of known a.vertical a.at_most a.n low high))) low.1
+    ∙ ap (λ high. high >>= (λ high. limits_of known a.vertical a.at_most a.n low.0 high)) high.1
+    ∙ ap (λ b. demand (not b) BadLimit >>= (λ _. Ok (with_limit known (limit_of a.vertical a.at_most a.n low.0 high.0)))) (found.5 low.0 high.0 low.1 high.1 ∙ same)
 
 pub returns : goal.returns
-returns c = λ tech cells known vertical at_most n are tables path_a path_b grown is.
+returns c = λ tech cells known are tables path_a path_b grown is.
     let a = c.args in
     let table = a.self.now.table in
-    let found = limit-ends tech cells known vertical a.a.now a.b.now at_most n c.in_ok-from.from c.in_ok-to.to c.limited.result c.limited-2.result are path_a path_b grown
+    let found = limit-ends tech cells known a.vertical a.a.now a.b.now a.at_most a.n c.in_ok-from.from c.in_ok-to.to c.limited.result c.limited-2.result are path_a path_b grown
     (sym (c.found.ensures cells known tables is) ∙ c.in_ok-from.was) (sym (c.found-2.ensures cells known tables is) ∙ c.in_ok-to.was) c.limited.ensures c.limited-2.ensures in
-    let low = result_map-ok capped_spot found.0 c.in_ok-limited.field-0 (sym found.3 ∙ c.in_ok-limited.was) in
-    let high = result_map-ok capped_spot found.1 c.in_ok-limited-2.field-0 (sym found.4 ∙ c.in_ok-limited-2.was) in
+    let low = result_map-ok capped_spot found.0 c.in_ok-low.low (sym found.3 ∙ c.in_ok-low.was) in
+    let high = result_map-ok capped_spot found.1 c.in_ok-high.high (sym found.4 ∙ c.in_ok-high.was) in
     let other : bytes_eq a.a.now a.b.now ≡ false = search rules in
-    let limit : Limit = limit_of vertical at_most n low.0 high.0 in
+    let limit : Limit = limit_of a.vertical a.at_most a.n low.0 high.0 in
     let next = with_limit known limit in (
       next,
-      found.2 ∙ ap (λ low. low >>= (λ low. found.1 >>= (λ high. limits_of known vertical at_most n low high))) low.1
-          ∙ ap (λ high. high >>= (λ high. limits_of known vertical at_most n low.0 high)) high.1
-          ∙ ap (λ b. demand (not b) BadLimit >>= (λ _. Ok (with_limit known (limit_of vertical at_most n low.0 high.0)))) (found.5 low.0 high.0 low.1 high.1 ∙ other),
+      found.2 ∙ ap (λ low. low >>= (λ low. found.1 >>= (λ high. limits_of known a.vertical a.at_most a.n low high))) low.1
+          ∙ ap (λ high. high >>= (λ high. limits_of known a.vertical a.at_most a.n low.0 high)) high.1
+          ∙ ap (λ b. demand (not b) BadLimit >>= (λ _. Ok (with_limit known (limit_of a.vertical a.at_most a.n low.0 high.0)))) (found.5 low.0 high.0 low.1 high.1 ∙ other),
       record {
         name = is.name;
         names = is.names;
@@ -87,6 +88,8 @@ returns c = λ tech cells known vertical at_most n are tables path_a path_b grow
         most_col = is.most_col;
         most_row = is.most_row;
         depth = is.depth;
+        steps = steps-push cells known next table.steps.items _ _ is.steps c.in_ok-push.ensures.items tt refl (omega (arith, weight-with_limit known limit))
+            (λ light. limit-exact known next low.0 high.0 c.in_ok-low.low c.in_ok-high.high a.vertical a.at_most a.n _ c.axis_where.result light refl (found.6 low.0 low.1) (found.7 high.0 high.1) low.2 high.2 c.axis_where.ensures (search rules));
         below = is.below;
       },
     )

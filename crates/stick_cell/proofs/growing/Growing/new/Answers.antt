@@ -1,14 +1,15 @@
 use Rattle.std.proofs.Common.{refl}
 use Rattle.stick_cell.specs.Counts.{weight_of, boxes_of}
+use Rattle.stick_cell.proofs.Stepping.{steps-none}
 use Rattle.stick_cell.proofs.growing.Growing.new.Goals as goal
 
 pub returns : goal.returns
 unfolding weight_of boxes_of
-returns c = record {
+returns c = λ cells. record {
   name = refl;
   names = c.new.ensures;
-  ports = c.new-2.ensures.items;
-  wired = c.new-3.ensures.items;
+  ports = c.new-3.ensures.items;
+  wired = c.new-4.ensures.items;
   nodes = refl;
   wires = refl;
   weight = refl;
@@ -16,5 +17,6 @@ returns c = record {
   most_col = refl;
   most_row = refl;
   depth = refl;
+  steps = steps-none cells c.args.name.now _ c.new-2.ensures.items;
   below = tt;
 }

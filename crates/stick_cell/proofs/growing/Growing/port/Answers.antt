@@ -8,9 +8,9 @@ use Rattle.stick_cell.proofs.LineSteps.{grows-residual, placed-kept, fresh-kept,
 use Rattle.stick_cell.proofs.growing.Growing.port.Goals as goal
 
 pub returns-in_err-check_place : goal.returns-in_err-check_place
-returns-in_err-check_place c = λ known grown.
+returns-in_err-check_place c = λ cells known grown.
     let a = c.args in
-    grows-residual c.from_residual.result a.self.now _ c.in_err-check_place.field-0.0 c.from_residual.ensures.1
+    grows-residual cells c.from_residual.result a.self.now _ c.in_err-check_place.field-0.0 c.from_residual.ensures.1
     (port-by known a.name.now a.side a.layer a.place (Err c.in_err-check_place.field-0.0)
     (placed-kept (entries_of a.self.now.table.names) known.names a.name.now a.place 0 _ grown.names (sym c.in_err-check_place.was ∙ c.check_place.ensures)))
 
@@ -20,11 +20,11 @@ add_port-requires c =
     fresh-kept (entries_of a.self.now.table.names) a.name.now a.place 0 c.check_place.result c.check_place.ensures c.in_ok-check_place.was
 
 pub returns : goal.returns
-returns c = λ known grown.
+returns c = λ cells known grown.
     let a = c.args in
-    let P : Layer → Type 0 = λ layer. IsGrowing (with_port known a.name.now a.side layer a.place) c.add_port.new.self in (
+    let P : Layer → Type 0 = λ layer. IsGrowing cells (with_port known a.name.now a.side layer a.place) c.add_port.new.self in (
       with_port known a.name.now a.side (layer_of a.layer) a.place,
       port-by known a.name.now a.side a.layer a.place (Ok tt)
           (placed-kept (entries_of a.self.now.table.names) known.names a.name.now a.place 0 _ grown.names (sym c.in_ok-check_place.was ∙ c.check_place.ensures)),
-      subst P c.layer_of.ensures (c.in_ok-add_port.ensures known grown),
+      subst P c.layer_of.ensures (c.in_ok-add_port.ensures cells known grown),
     )
