@@ -1,10 +1,11 @@
 -- The items of a cell lie among its variables, and their lengths are small.
-use Rattle.std.proofs.Common.{◌≡◌, ℕ, zero, suc, ◌+◌, ◌<◌, ◌≤◌, ℤ, pos, ◌+ℤ◌, ◌-ℤ◌, ◌*ℤ◌, ◌≤ℤ◌, Bool, true, false, List, [], ◌∷◌, ◌++◌, length, map, take, All, cond, refl, sym, ap, ◌∙◌, subst, arith}
+use Rattle.std.proofs.Common.{◌≡◌, ℕ, zero, suc, ◌+◌, ◌<◌, ◌≤◌, ℤ, pos, ◌+ℤ◌, ◌-ℤ◌, ◌*ℤ◌, ◌≤ℤ◌, Bool, true, false, List, [], ◌∷◌, length, map, take, All, cond, refl, sym, ap, ◌∙◌, subst, arith}
 use Rattle.std.specs.Prelude.{neg_ℤ, slice_index}
 use Rattle.std.specs.List.{flat_map, range_with_len, AllByRecursion}
 use Rattle.std.proofs.lemmas.Int.{ints}
 use Rattle.std.proofs.lemmas.List.Elements.{All-from_recursion}
 use Rattle.std.proofs.lemmas.List.Sums.{sum_by-cons}
+use Rattle.lam_geom.specs.declared.boxes.Axis.{Axis}
 use Rattle.lam_geom.specs.declared.boxes.Axis.TheVariants.{X, Y}
 use Rattle.rule_table.specs.declared.technology.Tech.{Tech}
 use Rattle.rule_table.specs.declared.classes.Class.{Class}
@@ -29,33 +30,20 @@ use Rattle.cell_model.specs.declared.cell.Wire.{Wire}
 use Rattle.cell_model.specs.declared.cell.Nets.{Nets}
 use Rattle.cell_model.specs.declared.cell.Cell.{Cell}
 use Rattle.cell_model.specs.Wiring.{is_same_axis}
-use Rattle.cell_model.specs.Sound.{IsKind, IsEnd, IsWire, IsSound, node_at, wire_at}
+use Rattle.cell_model.specs.Sound.{IsInOrder, IsKind, IsEnd, IsWire, IsSound, node_at, wire_at}
 use Rattle.expand.specs.Variables.{half, centre, past, running, cross_of, variables_of}
 use Rattle.expand.specs.NodeItems.{item_running, on_layer, box_at, box_round, channel_items, kind_items}
 use Rattle.expand.specs.WireItems.{half_channel, reach, low_end_of, high_end_of, run_item, wire_items}
 use Rattle.expand.specs.Items.{items_of_node, items_of_wire, item_list, AreItems}
-use Rattle.expand.specs.Bounds.{IsSmall, IsNear, IsEndAmong, IsSpanAmong, IsItemAmong, IsNearItem}
+use Rattle.expand.specs.Bounds.{IsSmall, IsNear, IsEndAmong, IsSpanAmong, IsItemAmong, LiesAlong, IsNearAlong}
+use Rattle.list_facts.proofs.Elements.{all_append, all_flat, all_numbers, all_of, all_weaker}
 use Rattle.expand.proofs.Cells.{node_sound, wire_sound}
 use Rattle.expand.proofs.Crosses.{running_more}
-
--- ---- lists
-
-pub all_append : {X : Type 0} (P : X → Type 0) (xs ys : List X) → AllByRecursion P xs → AllByRecursion P ys → AllByRecursion P (xs ++ ys)
-all_append P [] ys h k = k
-all_append P (x ∷ xs) ys h k = (h.0, all_append P xs ys h.1 k)
-
-pub all_pieces : {X A : Type 0} (P : A → Type 0) (f : X → List A) (xs : List X) → AllByRecursion (λ x. AllByRecursion P (f x)) xs → AllByRecursion P (flat_map f xs)
-all_pieces P f [] h = tt
-all_pieces P f (x ∷ xs) h = all_append P (f x) (flat_map f xs) h.0 (all_pieces P f xs h.1)
-
-pub all_range : (P : ℕ → Type 0) (a n : ℕ) → ((k : ℕ) → a ≤ k → k < a + n → P k) → AllByRecursion P (range_with_len a n)
-all_range P a zero h = tt
-all_range P a (suc n) h = (h a (omega arith) (omega arith), all_range P (a + 1) n (λ k le lt. h k (omega arith) (omega arith)))
 
 -- ---- lengths
 
 -- half a size, and half the pad
-half_size : (z : ℤ) → IsSize z → (pos 0 ≤ℤ half z) × (half z ≤ℤ pos 2048)
+pub half_size : (z : ℤ) → IsSize z → (pos 0 ≤ℤ half z) × (half z ≤ℤ pos 2048)
 half_size z h =
     let low = h.low in
     let high = h.high in
@@ -65,7 +53,7 @@ half_size z h =
 pub sound_numbers : (tech : Tech) → IsTechnology (numbers_of tech)
 sound_numbers tech = sound (numbers_of tech) tech.sound
 
-half_pad : (tech : Tech) → (pos 0 ≤ℤ half (pad_of tech)) × (half (pad_of tech) ≤ℤ pos 6144)
+pub half_pad : (tech : Tech) → (pos 0 ≤ℤ half (pad_of tech)) × (half (pad_of tech) ≤ℤ pos 6144)
 half_pad tech =
     let b = pad_bounds (numbers_of tech) (sound_numbers tech) in
     let even : (pos 2 *ℤ half (pad_of tech)) ≡ pad_of tech = pad_even (numbers_of tech) (sound_numbers tech) in
@@ -75,19 +63,24 @@ half_pad tech =
 
 -- ---- boxes of nodes
 
-centre_span : (vars k : ℕ) (low high : ℤ) → centre k < vars → IsNear low → IsNear high → IsSpanAmong vars (past (centre k) low) (past (centre k) high)
-centre_span vars k low high lt l h = record {
+centre_span : (vars k : ℕ) (low high least : ℤ) → centre k < vars → IsNear low → IsNear high → IsSmall least → (low +ℤ least) ≤ℤ high → IsSpanAmong vars (past (centre k) low) (past (centre k) high) least
+centre_span vars k low high least lt l h small fits = record {
   low_among = record { among = lt; near = l };
   high_among = record { among = lt; near = h };
   before_far = λ e. omega arith;
   after_origin = λ e. omega arith;
   at_origin = λ e. absurd (let f : 2 + k ≡ 0 = e in omega arith);
   at_far_border = λ e. absurd (let f : 2 + k ≡ 1 = e in omega arith);
+  small = small;
+  fits = λ e. fits;
 }
 
 box_among : (xv yv k : ℕ) (class : Class) (net : ℕ) (left right bottom top : ℤ) → centre k < xv → centre k < yv → IsNear left → IsNear right → IsNear bottom → IsNear top
     → IsSmall (right -ℤ left) → IsSmall (top -ℤ bottom) → IsItemAmong xv yv (box_at k class net left right bottom top)
-box_among xv yv k class net left right bottom top lx ly l r b t w h = record { x = centre_span xv k left right lx l r; y = centre_span yv k bottom top ly b t; least_x = w; least_y = h }
+box_among xv yv k class net left right bottom top lx ly l r b t w h = record {
+  x = centre_span xv k left right (right -ℤ left) lx l r w (omega (arith, ints));
+  y = centre_span yv k bottom top (top -ℤ bottom) ly b t h (omega (arith, ints));
+}
 
 -- a half size
 pub record IsHalf (z : ℤ) : Type 0 where
@@ -109,13 +102,13 @@ round_among xv yv k class net x y lx ly hx hy =
 
 -- the class of an item does not matter
 layer_among : (xv yv : ℕ) (layer : Layer) (i : Item) → IsItemAmong xv yv i → AllByRecursion (IsItemAmong xv yv) (on_layer layer i)
-layer_among xv yv Metal i h = (record { x = h.x; y = h.y; least_x = h.least_x; least_y = h.least_y }, tt)
-layer_among xv yv Poly i h = (record { x = h.x; y = h.y; least_x = h.least_x; least_y = h.least_y }, tt)
-layer_among xv yv Diffusion i h = (record { x = h.x; y = h.y; least_x = h.least_x; least_y = h.least_y }, (record { x = h.x; y = h.y; least_x = h.least_x; least_y = h.least_y }, tt))
+layer_among xv yv Metal i h = (record { x = h.x; y = h.y }, tt)
+layer_among xv yv Poly i h = (record { x = h.x; y = h.y }, tt)
+layer_among xv yv Diffusion i h = (record { x = h.x; y = h.y }, (record { x = h.x; y = h.y }, tt))
 
 -- x and y exchanged
 transposed_among : (xv yv : ℕ) (i : Item) → IsItemAmong yv xv i → IsItemAmong xv yv (transposed_item i)
-transposed_among xv yv i h = record { x = h.y; y = h.x; least_x = h.least_y; least_y = h.least_x }
+transposed_among xv yv i h = record { x = h.y; y = h.x }
 
 running_among : (xv yv : ℕ) (gate : Axis2) (is : List Item) → AllByRecursion (IsItemAmong xv yv) is → AllByRecursion (IsItemAmong yv xv) is → AllByRecursion (IsItemAmong xv yv) (map (item_running gate) is)
 running_among xv yv gate [] h k = tt
@@ -224,9 +217,23 @@ high_at_far : (tech : Tech) (cell : Cell) (wire : Wire) (end : WireEnd) → (hig
 high_at_far tech cell wire (ends.Node j) e = absurd (let f : 2 + j ≡ 1 = e in omega arith)
 high_at_far tech cell wire (ends.Port j) e = refl
 
+-- a wire does not end at the terminal at which it begins
+in_order_differ : (cell : Cell) (along : Axis2) (j k : ℕ) → IsInOrder cell along (ends.Node j) (ends.Node k) → j ≡ k → ⊥
+in_order_differ cell Across j k h e = let f = ap (λ (n : ℕ). (node_at cell.nodes n).col) e in omega (arith, f, h)
+in_order_differ cell Up j k h e = let f = ap (λ (n : ℕ). (node_at cell.nodes n).row) e in omega (arith, f, h)
+
+ends_differ : (tech : Tech) (cell : Cell) (wire : Wire) (low high : WireEnd) → IsInOrder cell wire.along low high → (low_end_of tech cell wire low).var ≡ (high_end_of tech cell wire high).var → ⊥
+ends_differ tech cell wire (ends.Node j) (ends.Node k) h e = in_order_differ cell wire.along j k h (let f : 2 + j ≡ 2 + k = e in omega arith)
+ends_differ tech cell wire (ends.Node j) (ends.Port k) h e = let f : 2 + j ≡ 1 = e in omega arith
+ends_differ tech cell wire (ends.Port j) (ends.Node k) h e = let f : 0 ≡ 2 + k = e in omega arith
+ends_differ tech cell wire (ends.Port j) (ends.Port k) h e = let f : ◌≡◌ {A = ℕ} 0 1 = e in omega arith
+
+small_size : (z : ℤ) → IsSize z → IsSmall z
+small_size z s = let l = s.low in let h = s.high in record { low = omega (arith, ints); high = omega (arith, ints) }
+
 -- the ends of a wire among the variables of the axis of its run
 run_span : (vars : ℕ) (tech : Tech) (cell : Cell) (wire : Wire) → IsSound tech cell → IsWire tech cell wire → 2 + length cell.nodes ≤ vars
-    → IsSpanAmong vars (low_end_of tech cell wire wire.low) (high_end_of tech cell wire wire.high)
+    → IsSpanAmong vars (low_end_of tech cell wire wire.low) (high_end_of tech cell wire wire.high) wire.width
 run_span vars tech cell wire s w le = record {
   low_among = low_among vars tech cell wire wire.low s w.size le w.low;
   high_among = high_among vars tech cell wire wire.high s w.size le w.high;
@@ -234,15 +241,15 @@ run_span vars tech cell wire s w le = record {
   after_origin = high_after_origin tech cell wire wire.high;
   at_origin = low_at_origin tech cell wire wire.low;
   at_far_border = high_at_far tech cell wire wire.high;
+  small = small_size wire.width w.size;
+  fits = λ e. absurd (ends_differ tech cell wire wire.low wire.high w.ordered e);
 }
 
-run_among : (av cv : ℕ) (owner net v : ℕ) (width : ℤ) (low high : End) → IsSize width → IsSpanAmong av low high → 2 + v < cv → IsItemAmong av cv (run_item owner net (2 + v) width low high)
+run_among : (av cv : ℕ) (owner net v : ℕ) (width : ℤ) (low high : End) → IsSize width → IsSpanAmong av low high width → 2 + v < cv → IsItemAmong av cv (run_item owner net (2 + v) width low high)
 run_among av cv owner net v width low high s span lt =
     let b = shorter _ (half_size width s) in
-    let l = s.low in
-    let h = s.high in
-    let small : IsSmall width = record { low = omega (arith, ints); high = omega (arith, ints) } in
-    record { x = span; y = centre_span cv v _ _ lt (near_low _ b) (near_high _ b); least_x = small; least_y = small }
+    let even : (pos 2 *ℤ half width) ≡ width = s.even in
+    record { x = span; y = centre_span cv v _ _ _ lt (near_low _ b) (near_high _ b) (small_size width s) (omega (arith, ints)) }
 
 -- the first wires that run along an axis are no more than all
 running_take : (along : Axis2) (k : ℕ) (wires : List Wire) → running along (take k wires) ≤ running along wires
@@ -307,19 +314,36 @@ items_among tech cell nets s =
     let P : Item → Type 0 = IsItemAmong xv yv in
     let n : ℕ = length cell.nodes in
     all_append P (flat_map (items_of_node tech cell nets) (range_with_len 0 n)) (flat_map (items_of_wire tech cell nets) (range_with_len 0 (length cell.wires)))
-    (all_pieces P (items_of_node tech cell nets) (range_with_len 0 n)
-    (all_range (λ k. AllByRecursion P (items_of_node tech cell nets k)) 0 n (λ k le lt. kind_among xv yv tech k _ _ (omega arith) (omega arith) (node_sound tech cell k s (omega arith)).kind)))
-    (all_pieces P (items_of_wire tech cell nets) (range_with_len 0 (length cell.wires))
-    (all_range (λ k. AllByRecursion P (items_of_wire tech cell nets k)) 0 (length cell.wires) (λ k le lt. numbered_among tech cell nets k s (omega arith))))
+    (all_flat P (items_of_node tech cell nets) (range_with_len 0 n)
+    (all_numbers (λ k. AllByRecursion P (items_of_node tech cell nets k)) 0 n (λ k le lt. kind_among xv yv tech k _ _ (omega arith) (omega arith) (node_sound tech cell k s (omega arith)).kind)))
+    (all_flat P (items_of_wire tech cell nets) (range_with_len 0 (length cell.wires))
+    (all_numbers (λ k. AllByRecursion P (items_of_wire tech cell nets k)) 0 (length cell.wires) (λ k le lt. numbered_among tech cell nets k s (omega arith))))
+
+-- along an axis
+pub list_lies : (tech : Tech) (cell : Cell) (nets : Nets) → IsSound tech cell → (axis : Axis) → All (LiesAlong axis cell) (item_list tech cell nets)
+list_lies tech cell nets s axis =
+    let I : Item → Type 0 = IsItemAmong (variables_of X cell) (variables_of Y cell) in
+    all_of (LiesAlong axis cell) (item_list tech cell nets) (all_weaker I (LiesAlong axis cell) (along axis cell) (item_list tech cell nets) (items_among tech cell nets s))
+  where
+    along : (axis : Axis) (cell : Cell) (i : Item) → IsItemAmong (variables_of X cell) (variables_of Y cell) i → LiesAlong axis cell i
+    along X cell i h = h.x
+    along Y cell i h = h.y
+
+pub small_near : (z : ℤ) → IsSmall z → IsNear z
+small_near z h = let a = h.low in let b = h.high in record { low = omega (arith, ints); high = omega (arith, ints) }
+
+-- the same of items as the code has them
+pub items_lie : (tech : Tech) (cell : Cell) (items : Items) → IsSound tech cell → AreItems tech cell items → (axis : Axis) → All (LiesAlong axis cell) items.list
+items_lie tech cell items s are axis =
+    let P : Items → Type 0 = λ i. All (LiesAlong axis cell) i.list in
+    subst P (sym are.are) (list_lies tech cell are.nets s axis)
 
 -- the items are near their variables
-pub items_near : (tech : Tech) (cell : Cell) (items : Items) (list : List Item) → IsSound tech cell → AreItems tech cell items → list ≡ items.list → All IsNearItem list
-items_near tech cell items list s are e =
-    let P : List Item → Type 0 = All IsNearItem in
-    subst P (sym (e ∙ ap (λ (i : Items). i.list) are.are))
-    (λ k d lt.
-    let h = All-from_recursion (IsItemAmong (variables_of X cell) (variables_of Y cell)) (item_list tech cell are.nets) (items_among tech cell are.nets s) k d lt in
-    record { xl = h.x.low_among.near; xh = h.x.high_among.near; yl = h.y.low_among.near; yh = h.y.high_among.near; least_x = h.least_x; least_y = h.least_y })
+pub items_near : (axis : Axis) (tech : Tech) (cell : Cell) (items : Items) (list : List Item) → IsSound tech cell → AreItems tech cell items → list ≡ items.list → All (IsNearAlong axis) list
+items_near axis tech cell items list s are e =
+    let P : List Item → Type 0 = All (IsNearAlong axis) in
+    let lie = items_lie tech cell items s are axis in
+    subst P (sym e) (λ k d lt. let h = lie k d lt in record { low = h.low_among.near; high = h.high_among.near; least = small_near _ h.small })
 
 -- the same of a list and of counts that are known to be those of the cell
 pub among_of : (tech : Tech) (cell : Cell) (nets : Nets) (list : List Item) (xv yv : ℕ) → IsSound tech cell → list ≡ item_list tech cell nets → xv ≡ variables_of X cell → yv ≡ variables_of Y cell → All (IsItemAmong xv yv) list

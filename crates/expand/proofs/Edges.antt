@@ -1,9 +1,11 @@
 -- The inequalities of one item, wire or limit, as the code adds them.
-use Rattle.std.proofs.Common.{◌≡◌, ℕ, ℤ, true, false, List, [], ◌∷◌, ◌++◌, length, refl, ap, ◌∙◌, append_assoc}
+use Rattle.std.proofs.Common.{◌≡◌, ℕ, ℤ, true, false, List, [], ◌∷◌, ◌++◌, length, refl, sym, ap, ◌∙◌, append_assoc}
 use Rattle.std.specs.List.{flat_map, range_with_len}
 use Rattle.lam_geom.specs.declared.boxes.Axis.{Axis}
+use Rattle.lam_geom.specs.declared.boxes.Axis.TheVariants.{X, Y}
 use Rattle.rule_table.specs.declared.technology.Tech.{Tech}
 use Rattle.rule_table.specs.Technology.{margin_of}
+use Rattle.sym_items.specs.declared.items.End.{End}
 use Rattle.sym_items.specs.declared.items.Item.{Item}
 use Rattle.cons_graph.specs.declared.edges.Edge.{Edge}
 use Rattle.cons_graph.specs.declared.edges.Why.TheVariants.{Margin}
@@ -15,13 +17,18 @@ use Rattle.expand.specs.Variables.{cross_of, at_origin, at_far_border}
 use Rattle.sym_items.specs.Transposed.{item_along}
 use Rattle.expand.specs.Structure.{between, extent_edges, margin_edges, wire_edges, overlap_edges, is_limit_of, limit_edge, limit_edges, size_edge, structure_of}
 
-pub margin_pushed : (tech : Tech) (i turned : Item) (margin : ℤ) (xs one two : List Edge) → turned ≡ i → margin ≡ margin_of tech turned.class
-    → one ≡ xs ++ between at_origin turned.xl margin Margin → two ≡ one ++ between turned.xh at_far_border margin Margin
-    → two ≡ xs ++ margin_edges tech i
-margin_pushed tech i turned margin xs one two e m f g =
-    g ∙ ap (λ (es : List Edge). es ++ between turned.xh at_far_border margin Margin) f ∙ append_assoc xs (between at_origin turned.xl margin Margin) (between turned.xh at_far_border margin Margin)
-    ∙ ap (λ (z : ℤ). xs ++ (between at_origin turned.xl z Margin ++ between turned.xh at_far_border z Margin)) m
-    ∙ ap (λ (t : Item). xs ++ margin_edges tech t) e
+pub margin_pushed : (axis : Axis) (tech : Tech) (i : Item) (low high : End) (margin : ℤ) (xs one two : List Edge) → low ≡ (item_along axis i).xl → high ≡ (item_along axis i).xh → margin ≡ margin_of tech i.class
+    → one ≡ xs ++ between at_origin low margin Margin → two ≡ one ++ between high at_far_border margin Margin
+    → two ≡ xs ++ margin_edges tech (item_along axis i)
+margin_pushed axis tech i low high margin xs one two l h m f g =
+    let far : List Edge = between high at_far_border margin Margin in
+    let edges : End → End → ℤ → List Edge = λ a b z. xs ++ (between at_origin a z Margin ++ between b at_far_border z Margin) in
+    g ∙ ap (λ (es : List Edge). es ++ far) f ∙ append_assoc xs (between at_origin low margin Margin) far
+    ∙ (ap (λ a. edges a high margin) l ∙ ap (λ b. edges (item_along axis i).xl b margin) h ∙ ap (λ z. edges (item_along axis i).xl (item_along axis i).xh z) (m ∙ sym (ap (margin_of tech) (class_along axis i))))
+  where
+    class_along : (axis : Axis) (i : Item) → (item_along axis i).class ≡ i.class
+    class_along X i = refl
+    class_along Y i = refl
 
 pub overlap_pushed : (axis : Axis) (tech : Tech) (cell : Cell) (k cross : ℕ) (wire : Wire) (now next : List Edge)
     → next ≡ now ++ wire_edges axis tech cell wire cross → cross ≡ cross_of cell k → wire ≡ wire_at cell.wires k → next ≡ now ++ overlap_edges axis tech cell k

@@ -1,14 +1,13 @@
 -- A constraint graph can be made of the structure of a cell.
-use Rattle.std.proofs.Common.{◌≡◌, ◌≢◌, ℕ, ◌+◌, ◌<◌, ◌≤◌, Bool, true, false, eqb, ℤ, pos, negsuc, ◌+ℤ◌, ◌-ℤ◌, ◌≤ℤ◌, List, [], ◌∷◌, ◌++◌, length, refl, sym, ap, ◌∙◌, subst, arith, ◌⊎◌, inl, inr}
+use Rattle.std.proofs.Common.{◌≡◌, ◌≢◌, ℕ, ◌+◌, ◌<◌, ◌≤◌, false, eqb, ℤ, pos, negsuc, ◌+ℤ◌, ◌-ℤ◌, ◌≤ℤ◌, List, [], ◌∷◌, ◌++◌, length, refl, sym, ap, ◌∙◌, subst, arith, ◌⊎◌, inl, inr}
 use Rattle.std.specs.Prelude.{neg_ℤ}
 use Rattle.std.specs.List.{flat_map, range_with_len, AllByRecursion, Any}
 use Rattle.std.proofs.lemmas.Bool.{eq-eqb}
 use Rattle.std.proofs.lemmas.Bool.Decides.{nat_tests}
 use Rattle.std.proofs.lemmas.List.Sums.{count_by-le-length}
 use Rattle.std.proofs.lemmas.Int.{ints}
-use Rattle.std.proofs.lemmas.List.Elements.{All-from_recursion}
+use Rattle.std.proofs.lemmas.List.Elements.{All-from_recursion, recursion_from_All}
 use Rattle.lam_geom.specs.declared.boxes.Axis.{Axis}
-use Rattle.lam_geom.specs.declared.boxes.Axis.TheVariants.{X, Y}
 use Rattle.rule_table.specs.declared.technology.Tech.{Tech}
 use Rattle.rule_table.specs.declared.classes.Class.{Class}
 use Rattle.rule_table.specs.declared.classes.Layer.{Layer}
@@ -40,14 +39,11 @@ use Rattle.cell_model.specs.Sound.{IsKind, IsEnd, IsWithinPad, IsWire, IsLimit, 
 use Rattle.expand.specs.Variables.{half, centre, running, cross_of, crossing, variables_of, at_origin, at_far_border}
 use Rattle.expand.specs.Items.{item_list, AreItems}
 use Rattle.expand.specs.Structure.{at_least, between, extent_edges, margin_edges, tied, end_edges, wire_edges, overlap_edges, is_limit_of, limit_edge, limit_edges, size_edge, structure_of}
-use Rattle.expand.specs.Bounds.{IsSmall, IsNear, IsSpanAmong, IsItemAmong}
+use Rattle.expand.specs.Bounds.{IsSmall, IsNear, IsSpanAmong, LiesAlong}
 use Rattle.expand.proofs.Cells.{node_sound, wire_sound}
-use Rattle.expand.proofs.Among.{all_append, all_pieces, all_range, sound_numbers, items_among, cross_among}
-use Rattle.expand.proofs.Reached.{any_here, any_there, any_left, any_right, any_flat_map, BeginsAt, items_begin, same_is}
-
-by_test : {P : Type 0} (b : Bool) → (b ≡ true → P) → (b ≡ false → P) → P
-by_test true if_so if_not = if_so refl
-by_test false if_so if_not = if_not refl
+use Rattle.list_facts.proofs.Elements.{all_append, all_flat, all_numbers, all_weaker}
+use Rattle.expand.proofs.Among.{sound_numbers, list_lies, small_near, cross_among}
+use Rattle.expand.proofs.Reached.{by_test, any_here, any_there, any_left, any_right, any_flat_map, BeginsBefore, items_begin, same_is}
 
 -- ---- inequalities between ends
 
@@ -79,9 +75,6 @@ between_among vars low high len why l h nl nh nn origin =
       tt,
     ))
 
-small_near : (z : ℤ) → IsSmall z → IsNear z
-small_near z h = let a = h.low in let b = h.high in record { low = omega (arith, ints); high = omega (arith, ints) }
-
 zero_near : IsNear (pos 0)
 zero_near = record { low = omega (arith, ints); high = omega (arith, ints) }
 
@@ -93,23 +86,12 @@ margin_near tech class =
     let d : margin_of tech class ≤ℤ pos 4096 = b in
     record { low = omega (arith, ints); high = omega (arith, ints) }
 
--- an item turned along an axis
-pub record IsAlong (vars : ℕ) (i : Item) : Type 0 where
-  pub span : IsSpanAmong vars i.xl i.xh
-  pub least : IsSmall i.least_x
+extent_among : (vars : ℕ) (i : Item) → IsSpanAmong vars i.xl i.xh i.least_x → AllByRecursion (IsEdgeAmong vars) (extent_edges i)
+extent_among vars i s =
+    between_among vars i.xl i.xh i.least_x Extent s.low_among.among s.high_among.among s.low_among.near s.high_among.near (small_near _ s.small) (λ o. absurd (s.after_origin o))
 
-along_among : (axis : Axis) (cell : Cell) (i : Item) → IsItemAmong (variables_of X cell) (variables_of Y cell) i → IsAlong (variables_of axis cell) (item_along axis i)
-along_among X cell i h = record { span = h.x; least = h.least_x }
-along_among Y cell i h = record { span = h.y; least = h.least_y }
-
-extent_among : (vars : ℕ) (i : Item) → IsAlong vars i → AllByRecursion (IsEdgeAmong vars) (extent_edges i)
-extent_among vars i h =
-    let s = h.span in
-    between_among vars i.xl i.xh i.least_x Extent s.low_among.among s.high_among.among s.low_among.near s.high_among.near (small_near _ h.least) (λ o. absurd (s.after_origin o))
-
-margin_among : (vars : ℕ) (tech : Tech) (i : Item) → 2 ≤ vars → IsAlong vars i → AllByRecursion (IsEdgeAmong vars) (margin_edges tech i)
-margin_among vars tech i two h =
-    let s = h.span in
+margin_among : (vars : ℕ) (tech : Tech) (i : Item) → 2 ≤ vars → IsSpanAmong vars i.xl i.xh i.least_x → AllByRecursion (IsEdgeAmong vars) (margin_edges tech i)
+margin_among vars tech i two s =
     let m = margin_near tech i.class in
     all_append (IsEdgeAmong vars) (between at_origin i.xl (margin_of tech i.class) Margin) (between i.xh at_far_border (margin_of tech i.class) Margin)
     (between_among vars at_origin i.xl (margin_of tech i.class) Margin (omega arith) s.low_among.among zero_near s.low_among.near m (λ o. sym o))
@@ -198,10 +180,6 @@ limit_among vars axis cell limit h le =
 
 -- ---- the structure
 
-all_weaker : {X : Type 0} (P Q : X → Type 0) (xs : List X) → ((x : X) → P x → Q x) → AllByRecursion P xs → AllByRecursion Q xs
-all_weaker P Q [] w h = tt
-all_weaker P Q (x ∷ xs) w h = (w x h.0, all_weaker P Q xs w h.1)
-
 size_among : (vars : ℕ) (tech : Tech) → 2 ≤ vars → IsEdgeAmong vars (size_edge tech)
 size_among vars tech two =
     let a : pos 1 ≤ℤ widest_of tech = widest_positive (numbers_of tech) (sound_numbers tech) in
@@ -218,16 +196,16 @@ structure_among axis tech cell nets s =
     let overlaps : List Edge = flat_map (overlap_edges axis tech cell) (range_with_len 0 (length cell.wires)) in
     let margins : List Edge = flat_map (λ (i : Item). margin_edges tech (item_along axis i)) items in
     let limits : List Edge = flat_map (limit_edges axis) cell.limits in
-    let I : Item → Type 0 = IsItemAmong (variables_of X cell) (variables_of Y cell) in
-    let among = items_among tech cell nets s in (
+    let I : Item → Type 0 = LiesAlong axis cell in
+    let among = recursion_from_All I items (list_lies tech cell nets s axis) in (
       size_among vars tech (omega arith),
       all_append E extents (overlaps ++ (margins ++ limits))
-          (all_pieces E (λ (i : Item). extent_edges (item_along axis i)) items (all_weaker I (λ i. AllByRecursion E (extent_edges (item_along axis i))) items (λ i h. extent_among vars (item_along axis i) (along_among axis cell i h)) among))
+          (all_flat E (λ (i : Item). extent_edges (item_along axis i)) items (all_weaker I (λ i. AllByRecursion E (extent_edges (item_along axis i))) (λ i h. extent_among vars (item_along axis i) h) items among))
           (all_append E overlaps (margins ++ limits)
-          (all_pieces E (overlap_edges axis tech cell) (range_with_len 0 (length cell.wires)) (all_range (λ k. AllByRecursion E (overlap_edges axis tech cell k)) 0 (length cell.wires) (λ k le lt. overlap_among axis tech cell k s (omega arith))))
+          (all_flat E (overlap_edges axis tech cell) (range_with_len 0 (length cell.wires)) (all_numbers (λ k. AllByRecursion E (overlap_edges axis tech cell k)) 0 (length cell.wires) (λ k le lt. overlap_among axis tech cell k s (omega arith))))
           (all_append E margins limits
-          (all_pieces E (λ (i : Item). margin_edges tech (item_along axis i)) items (all_weaker I (λ i. AllByRecursion E (margin_edges tech (item_along axis i))) items (λ i h. margin_among vars tech (item_along axis i) (omega arith) (along_among axis cell i h)) among))
-          (all_pieces E (limit_edges axis) cell.limits (all_weaker (IsLimit cell) (λ l. AllByRecursion E (limit_edges axis l)) cell.limits (λ l h. limit_among vars axis cell l h (omega arith)) s.limits)))),
+          (all_flat E (λ (i : Item). margin_edges tech (item_along axis i)) items (all_weaker I (λ i. AllByRecursion E (margin_edges tech (item_along axis i))) (λ i h. margin_among vars tech (item_along axis i) (omega arith) h) items among))
+          (all_flat E (limit_edges axis) cell.limits (all_weaker (IsLimit cell) (λ l. AllByRecursion E (limit_edges axis l)) (λ l h. limit_among vars axis cell l h (omega arith)) cell.limits s.limits)))),
     )
 
 -- a variable that is not the origin is the far border, or comes after it
@@ -246,9 +224,9 @@ margin_leads tech v i from e =
     any_left (LeadsFromOrigin v) low high (subst P (sym is) (any_here (LeadsFromOrigin v) edge [] (refl, e)))
 
 -- an inequality leads from the origin to each other variable
-structure_leads : (axis : Axis) (tech : Tech) (cell : Cell) (nets : Nets) (v : ℕ) → 1 ≤ v → v < variables_of axis cell → Any (LeadsFromOrigin v) (structure_of axis tech cell (item_list tech cell nets))
+structure_leads : (axis : Axis) (tech : Tech) (cell : Cell) (nets : Nets) (v : ℕ) → IsSound tech cell → 1 ≤ v → v < variables_of axis cell → Any (LeadsFromOrigin v) (structure_of axis tech cell (item_list tech cell nets))
 unfolding structure_of
-structure_leads axis tech cell nets v from lt =
+structure_leads axis tech cell nets v s from lt =
     let L : Edge → Type 0 = LeadsFromOrigin v in
     let items : List Item = item_list tech cell nets in
     let extents : List Edge = flat_map (λ (i : Item). extent_edges (item_along axis i)) items in
@@ -259,8 +237,8 @@ structure_leads axis tech cell nets v from lt =
     elim (after_origin_cases v from) [
       | inl far ↦ any_here L (size_edge tech) rest (refl, sym far)
       | inr more ↦ any_there L (size_edge tech) rest (any_right L extents (overlaps ++ (margins ++ limits)) (any_right L overlaps (margins ++ limits) (any_left L margins limits
-          (any_flat_map (BeginsAt axis v) L (λ (i : Item). margin_edges tech (item_along axis i)) items (λ i begins. margin_leads tech v (item_along axis i) more begins)
-          (items_begin axis tech cell nets v more lt)))))
+          (any_flat_map (BeginsBefore axis v) L (λ (i : Item). margin_edges tech (item_along axis i)) items (λ i begins. margin_leads tech v (item_along axis i) more begins.on)
+          (items_begin axis tech cell nets v s more lt)))))
     ]
 
 -- a constraint graph can be made of the structure of a cell
@@ -273,7 +251,7 @@ structure_shape axis tech cell nets s light =
       has_origin = omega arith;
       few_vars = omega arith;
       edges_among = All-from_recursion (IsEdgeAmong (variables_of axis cell)) (structure_of axis tech cell (item_list tech cell nets)) (structure_among axis tech cell nets s);
-      all_from_origin = structure_leads axis tech cell nets;
+      all_from_origin = λ v from lt. structure_leads axis tech cell nets v s from lt;
     }
 
 -- the same of edges and items that are known to be those of the cell

@@ -8,3 +8,5 @@ pub mod Edges
 pub mod Among
 pub mod Reached
 pub mod GraphEdges
+pub mod Counted
+pub mod Standing

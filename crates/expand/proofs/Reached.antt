@@ -1,14 +1,18 @@
 -- From each variable but the borders some item begins: from a centre one of its node, from a cross coordinate one of its wire. So a margin
 -- leads from the origin to it.
-use Rattle.std.proofs.Common.{◌≡◌, ℕ, zero, suc, ◌+◌, ◌-◌, ◌<◌, ◌≤◌, ℤ, Bool, true, false, List, [], ◌∷◌, ◌++◌, length, take, cond, refl, sym, ap, ◌∙◌, subst, arith, inl, inr, length-append}
-use Rattle.std.specs.Prelude.{slice_index}
+use Rattle.std.proofs.Common.{◌≡◌, ℕ, zero, suc, ◌+◌, ◌-◌, ◌<◌, ◌≤◌, ℤ, pos, ◌+ℤ◌, ◌≤ℤ◌, Bool, true, false, List, [], ◌∷◌, ◌++◌, length, take, cond, refl, sym, ap, ◌∙◌, subst, arith, inl, inr, length-append}
+use Rattle.std.specs.Prelude.{neg_ℤ, slice_index}
 use Rattle.std.specs.List.{flat_map, range_with_len, Any}
 use Rattle.std.proofs.lemmas.Bool.{cases_lt}
+use Rattle.std.proofs.lemmas.Int.{ints}
 use Rattle.std.proofs.lemmas.List.{get_or_append_left}
 use Rattle.std.proofs.lemmas.List.Sums.{sum_by-cons}
 use Rattle.lam_geom.specs.declared.boxes.Axis.{Axis}
 use Rattle.lam_geom.specs.declared.boxes.Axis.TheVariants.{X, Y}
 use Rattle.rule_table.specs.declared.technology.Tech.{Tech}
+use Rattle.rule_table.specs.Bounds.{IsSize}
+use Rattle.rule_table.specs.Technology.{numbers_of, pad_of}
+use Rattle.rule_table.specs.declared.classes.Class.{Class}
 use Rattle.rule_table.specs.declared.classes.Class.TheVariants.{M}
 use Rattle.rule_table.specs.declared.classes.Layer.{Layer}
 use Rattle.rule_table.specs.declared.classes.Layer.TheVariants.{Diffusion, Poly, Metal}
@@ -24,11 +28,13 @@ use Rattle.cell_model.specs.declared.cell.Wire.{Wire}
 use Rattle.cell_model.specs.declared.cell.Nets.{Nets}
 use Rattle.cell_model.specs.declared.cell.Cell.{Cell}
 use Rattle.cell_model.specs.Wiring.{is_same_axis}
-use Rattle.cell_model.specs.Sound.{node_at, wire_at}
+use Rattle.cell_model.specs.Sound.{IsKind, IsSound, node_at, wire_at}
 use Rattle.expand.specs.Variables.{half, centre, running, cross_of, crossing, variables_of}
 use Rattle.expand.specs.NodeItems.{item_running, on_layer, square_round, kind_items}
 use Rattle.expand.specs.WireItems.{low_end_of, high_end_of, run_item, wire_items}
 use Rattle.expand.specs.Items.{nets_at, items_of_node, items_of_wire, item_list}
+use Rattle.expand.proofs.Cells.{node_sound, wire_sound}
+use Rattle.expand.proofs.Among.{half_size, half_pad, sound_numbers}
 
 -- ---- some element of a list
 
@@ -60,8 +66,10 @@ any_range P a (suc n) k le lt h = elim (cases_lt a k) [
 
 -- ---- items that begin at a variable
 
-abbrev pub BeginsAt : Axis → ℕ → Item → Type 0
-BeginsAt axis v i = (item_along axis i).xl.var ≡ v
+-- the low end of an item lies on a variable or before it
+pub record BeginsBefore (axis : Axis) (v : ℕ) (i : Item) : Type 0 where
+  pub on : (item_along axis i).xl.var ≡ v
+  pub before : (item_along axis i).xl.off ≤ℤ pos 0
 
 -- the first of some items has a fact
 abbrev FirstHas : (Item → Type 0) → List Item → Type 0
@@ -72,29 +80,45 @@ first_of_any : (P : Item → Type 0) (is : List Item) → FirstHas P is → Any 
 first_of_any P [] h = absurd h
 first_of_any P (i ∷ is) h = any_here P i is h
 
-layer_begins : (axis : Axis) (v : ℕ) (layer : Layer) (i : Item) → BeginsAt axis v i → Any (BeginsAt axis v) (on_layer layer i)
-layer_begins X v Metal i h = first_of_any (BeginsAt X v) (on_layer Metal i) h
-layer_begins X v Poly i h = first_of_any (BeginsAt X v) (on_layer Poly i) h
-layer_begins X v Diffusion i h = first_of_any (BeginsAt X v) (on_layer Diffusion i) h
-layer_begins Y v Metal i h = first_of_any (BeginsAt Y v) (on_layer Metal i) h
-layer_begins Y v Poly i h = first_of_any (BeginsAt Y v) (on_layer Poly i) h
-layer_begins Y v Diffusion i h = first_of_any (BeginsAt Y v) (on_layer Diffusion i) h
+layer_begins : (axis : Axis) (v : ℕ) (layer : Layer) (i : Item) → BeginsBefore axis v i → Any (BeginsBefore axis v) (on_layer layer i)
+layer_begins X v Metal i h = first_of_any (BeginsBefore X v) (on_layer Metal i) (record { on = h.on; before = h.before })
+layer_begins X v Poly i h = first_of_any (BeginsBefore X v) (on_layer Poly i) (record { on = h.on; before = h.before })
+layer_begins X v Diffusion i h = first_of_any (BeginsBefore X v) (on_layer Diffusion i) (record { on = h.on; before = h.before })
+layer_begins Y v Metal i h = first_of_any (BeginsBefore Y v) (on_layer Metal i) (record { on = h.on; before = h.before })
+layer_begins Y v Poly i h = first_of_any (BeginsBefore Y v) (on_layer Poly i) (record { on = h.on; before = h.before })
+layer_begins Y v Diffusion i h = first_of_any (BeginsBefore Y v) (on_layer Diffusion i) (record { on = h.on; before = h.before })
 
-kind_begins : (axis : Axis) (tech : Tech) (k : ℕ) (kind : NodeKind) (nets : NodeNets) → Any (BeginsAt axis (centre k)) (kind_items tech k kind nets)
-kind_begins X tech k (Joint layer width) nets = layer_begins X (centre k) layer (square_round k M nets.main (half width)) refl
-kind_begins Y tech k (Joint layer width) nets = layer_begins Y (centre k) layer (square_round k M nets.main (half width)) refl
-kind_begins X tech k (Contact lower) nets = first_of_any (BeginsAt X (centre k)) (kind_items tech k (Contact lower) nets) refl
-kind_begins Y tech k (Contact lower) nets = first_of_any (BeginsAt Y (centre k)) (kind_items tech k (Contact lower) nets) refl
-kind_begins X tech k (Fet depletion Across w l) nets = first_of_any (BeginsAt X (centre k)) (kind_items tech k (Fet depletion Across w l) nets) refl
-kind_begins X tech k (Fet depletion Up w l) nets = first_of_any (BeginsAt X (centre k)) (kind_items tech k (Fet depletion Up w l) nets) refl
-kind_begins Y tech k (Fet depletion Across w l) nets = first_of_any (BeginsAt Y (centre k)) (kind_items tech k (Fet depletion Across w l) nets) refl
-kind_begins Y tech k (Fet depletion Up w l) nets = first_of_any (BeginsAt Y (centre k)) (kind_items tech k (Fet depletion Up w l) nets) refl
+before : (z : ℤ) → pos 0 ≤ℤ z → neg_ℤ z ≤ℤ pos 0
+before z h = omega (arith, ints)
 
-run_begins : (axis : Axis) (along : Axis2) (owner net cross : ℕ) (width : ℤ) (low high : End) → along ≡ crossing axis → BeginsAt axis cross (item_running along (run_item owner net cross width low high))
-run_begins X Up owner net cross width low high e = refl
-run_begins Y Across owner net cross width low high e = refl
-run_begins X Across owner net cross width low high e = absurd cc
-run_begins Y Up owner net cross width low high e = absurd cc
+half_before : (z : ℤ) → IsSize z → neg_ℤ (half z) ≤ℤ pos 0
+half_before z h = before (half z) (half_size z h).0
+
+-- the gate's poly reaches past the channel
+gate_before : (tech : Tech) (z : ℤ) → IsSize z → neg_ℤ (half z +ℤ (numbers_of tech).extension_poly) ≤ℤ pos 0
+gate_before tech z h =
+    let extends = (sound_numbers tech).in_range.extension_poly.0 in
+    let low = half_before z h in
+    omega (arith, ints)
+
+round_begins : (axis : Axis) (k net : ℕ) (class : Class) (z : ℤ) → neg_ℤ z ≤ℤ pos 0 → BeginsBefore axis (centre k) (square_round k class net z)
+round_begins X k net class z h = record { on = refl; before = h }
+round_begins Y k net class z h = record { on = refl; before = h }
+
+kind_begins : (axis : Axis) (tech : Tech) (k : ℕ) (kind : NodeKind) (nets : NodeNets) → IsKind tech kind → Any (BeginsBefore axis (centre k)) (kind_items tech k kind nets)
+kind_begins axis tech k (Joint layer width) nets h = layer_begins axis (centre k) layer (square_round k M nets.main (half width)) (round_begins axis k nets.main M (half width) (half_before width h.0))
+kind_begins axis tech k (Contact lower) nets h =
+    first_of_any (BeginsBefore axis (centre k)) (kind_items tech k (Contact lower) nets) (round_begins axis k nets.main M (half (pad_of tech)) (before (half (pad_of tech)) (half_pad tech).0))
+kind_begins X tech k (Fet depletion Across w l) nets h = first_of_any (BeginsBefore X (centre k)) (kind_items tech k (Fet depletion Across w l) nets) (record { on = refl; before = gate_before tech w h.0 })
+kind_begins X tech k (Fet depletion Up w l) nets h = first_of_any (BeginsBefore X (centre k)) (kind_items tech k (Fet depletion Up w l) nets) (record { on = refl; before = half_before l h.1 })
+kind_begins Y tech k (Fet depletion Across w l) nets h = first_of_any (BeginsBefore Y (centre k)) (kind_items tech k (Fet depletion Across w l) nets) (record { on = refl; before = half_before l h.1 })
+kind_begins Y tech k (Fet depletion Up w l) nets h = first_of_any (BeginsBefore Y (centre k)) (kind_items tech k (Fet depletion Up w l) nets) (record { on = refl; before = gate_before tech w h.0 })
+
+run_begins : (axis : Axis) (along : Axis2) (owner net cross : ℕ) (width : ℤ) (low high : End) → IsSize width → along ≡ crossing axis → BeginsBefore axis cross (item_running along (run_item owner net cross width low high))
+run_begins X Up owner net cross width low high s e = record { on = refl; before = half_before width s }
+run_begins Y Across owner net cross width low high s e = record { on = refl; before = half_before width s }
+run_begins X Across owner net cross width low high s e = absurd cc
+run_begins Y Up owner net cross width low high s e = absurd cc
 
 -- ---- which wire has a cross coordinate
 
@@ -122,7 +146,7 @@ after_more along w ws j k c e h =
     let n = h.among in
     record { among = omega arith; along_is = h.along_is; before = omega arith }
 
-by_test : {P : Type 0} (b : Bool) → (b ≡ true → P) → (b ≡ false → P) → P
+pub by_test : {P : Type 0} (b : Bool) → (b ≡ true → P) → (b ≡ false → P) → P
 by_test true if_so if_not = if_so refl
 by_test false if_so if_not = if_not refl
 
@@ -152,41 +176,41 @@ wire_after along (w ∷ ws) j lt =
 
 -- ---- all items
 
-wire_begins : (axis : Axis) (tech : Tech) (cell : Cell) (owner net cross : ℕ) (wire : Wire) → wire.along ≡ crossing axis → Any (BeginsAt axis cross) (wire_items tech cell owner net cross wire)
-wire_begins axis tech cell owner net cross wire e =
-    layer_begins axis cross wire.layer _ (run_begins axis wire.along owner net cross wire.width (low_end_of tech cell wire wire.low) (high_end_of tech cell wire wire.high) e)
+wire_begins : (axis : Axis) (tech : Tech) (cell : Cell) (owner net cross : ℕ) (wire : Wire) → IsSize wire.width → wire.along ≡ crossing axis → Any (BeginsBefore axis cross) (wire_items tech cell owner net cross wire)
+wire_begins axis tech cell owner net cross wire s e =
+    layer_begins axis cross wire.layer _ (run_begins axis wire.along owner net cross wire.width (low_end_of tech cell wire wire.low) (high_end_of tech cell wire wire.high) s e)
 
-node_found : (axis : Axis) (tech : Tech) (cell : Cell) (nets : Nets) (k : ℕ) → k < length cell.nodes → Any (BeginsAt axis (centre k)) (flat_map (items_of_node tech cell nets) (range_with_len 0 (length cell.nodes)))
-node_found axis tech cell nets k lt =
+node_found : (axis : Axis) (tech : Tech) (cell : Cell) (nets : Nets) (k : ℕ) → IsSound tech cell → k < length cell.nodes → Any (BeginsBefore axis (centre k)) (flat_map (items_of_node tech cell nets) (range_with_len 0 (length cell.nodes)))
+node_found axis tech cell nets k s lt =
     let IsK : ℕ → Type 0 = λ i. i ≡ k in
-    let P : ℕ → Type 0 = λ i. Any (BeginsAt axis (centre k)) (items_of_node tech cell nets i) in
-    any_flat_map IsK (BeginsAt axis (centre k)) (items_of_node tech cell nets) (range_with_len 0 (length cell.nodes))
-    (λ i e. subst P (sym e) (kind_begins axis tech k (node_at cell.nodes k).kind (nets_at nets.node k)))
+    let P : ℕ → Type 0 = λ i. Any (BeginsBefore axis (centre k)) (items_of_node tech cell nets i) in
+    any_flat_map IsK (BeginsBefore axis (centre k)) (items_of_node tech cell nets) (range_with_len 0 (length cell.nodes))
+    (λ i e. subst P (sym e) (kind_begins axis tech k (node_at cell.nodes k).kind (nets_at nets.node k) (node_sound tech cell k s lt).kind))
     (any_range IsK 0 (length cell.nodes) k (omega arith) (omega arith) refl)
 
-wire_found : (axis : Axis) (tech : Tech) (cell : Cell) (nets : Nets) (k : ℕ) → k < length cell.wires → (wire_at cell.wires k).along ≡ crossing axis
-    → Any (BeginsAt axis (cross_of cell k)) (flat_map (items_of_wire tech cell nets) (range_with_len 0 (length cell.wires)))
-wire_found axis tech cell nets k lt along =
+wire_found : (axis : Axis) (tech : Tech) (cell : Cell) (nets : Nets) (k : ℕ) → IsSound tech cell → k < length cell.wires → (wire_at cell.wires k).along ≡ crossing axis
+    → Any (BeginsBefore axis (cross_of cell k)) (flat_map (items_of_wire tech cell nets) (range_with_len 0 (length cell.wires)))
+wire_found axis tech cell nets k s lt along =
     let IsK : ℕ → Type 0 = λ i. i ≡ k in
-    let P : ℕ → Type 0 = λ i. Any (BeginsAt axis (cross_of cell k)) (items_of_wire tech cell nets i) in
-    any_flat_map IsK (BeginsAt axis (cross_of cell k)) (items_of_wire tech cell nets) (range_with_len 0 (length cell.wires))
-    (λ i e. subst P (sym e) (wire_begins axis tech cell (length cell.nodes + k) (slice_index nets.wire k) (cross_of cell k) (wire_at cell.wires k) along))
+    let P : ℕ → Type 0 = λ i. Any (BeginsBefore axis (cross_of cell k)) (items_of_wire tech cell nets i) in
+    any_flat_map IsK (BeginsBefore axis (cross_of cell k)) (items_of_wire tech cell nets) (range_with_len 0 (length cell.wires))
+    (λ i e. subst P (sym e) (wire_begins axis tech cell (length cell.nodes + k) (slice_index nets.wire k) (cross_of cell k) (wire_at cell.wires k) (wire_sound tech cell k s lt).size along))
     (any_range IsK 0 (length cell.wires) k (omega arith) (omega arith) refl)
 
--- some item begins at each variable but the borders
-pub items_begin : (axis : Axis) (tech : Tech) (cell : Cell) (nets : Nets) (v : ℕ) → 2 ≤ v → v < variables_of axis cell → Any (BeginsAt axis v) (item_list tech cell nets)
+-- some item begins at each variable but the borders, or before it
+pub items_begin : (axis : Axis) (tech : Tech) (cell : Cell) (nets : Nets) (v : ℕ) → IsSound tech cell → 2 ≤ v → v < variables_of axis cell → Any (BeginsBefore axis v) (item_list tech cell nets)
 unfolding item_list
-items_begin axis tech cell nets v from lt =
+items_begin axis tech cell nets v s from lt =
     let nodes : List Item = flat_map (items_of_node tech cell nets) (range_with_len 0 (length cell.nodes)) in
     let wires : List Item = flat_map (items_of_wire tech cell nets) (range_with_len 0 (length cell.wires)) in
-    let P : ℕ → Type 0 = λ u. Any (BeginsAt axis u) (nodes ++ wires) in
+    let P : ℕ → Type 0 = λ u. Any (BeginsBefore axis u) (nodes ++ wires) in
     elim (cases_lt v (2 + length cell.nodes)) [
-      | inl less ↦ (let same : centre (v - 2) ≡ v = omega arith in subst P same (any_left (BeginsAt axis (centre (v - 2))) nodes wires (node_found axis tech cell nets (v - 2) (omega arith))))
+      | inl less ↦ (let same : centre (v - 2) ≡ v = omega arith in subst P same (any_left (BeginsBefore axis (centre (v - 2))) nodes wires (node_found axis tech cell nets (v - 2) s (omega arith))))
       | inr more ↦
           let r = wire_after (crossing axis) cell.wires (v - (2 + length cell.nodes)) (omega arith) in
           let a = r.1.along_is in
           let b = r.1.before in
           let run : running (wire_at cell.wires r.0).along (take r.0 cell.wires) ≡ running (crossing axis) (take r.0 cell.wires) = ap (λ (x : Axis2). running x (take r.0 cell.wires)) a in
           let same : cross_of cell r.0 ≡ v = omega arith in
-          subst P same (any_right (BeginsAt axis (cross_of cell r.0)) nodes wires (wire_found axis tech cell nets r.0 r.1.among a))
+          subst P same (any_right (BeginsBefore axis (cross_of cell r.0)) nodes wires (wire_found axis tech cell nets r.0 s r.1.among a))
     ]

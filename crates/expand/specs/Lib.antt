@@ -4,4 +4,6 @@ pub mod WireItems
 pub mod Items
 pub mod Structure
 pub mod Bounds
+pub mod Masters
+pub mod Laws
 pub mod Worked

@@ -5,9 +5,9 @@ ghost use Rattle.expand.specs.Bounds.{IsHalfSize, IsSmall, IsNear};
 ghost use Rattle.expand.specs.Variables.{half, centre, past};
 ghost use Rattle.expand.specs.NodeItems.{item_running, on_layer, box_at, box_round, square_round};
 
+use cell_model::Axis2;
 use rule_table::{Class, Layer};
 use std::alloc::AllocError;
-use cell_model::Axis2;
 use sym_items::{End, Item};
 
 /// Half of a length.

@@ -4,35 +4,23 @@ ghost use Rattle.std.specs.Prelude.{◌≡◌, ◌<◌, ◌^◌, ◌++◌, ◌�
 ghost use Rattle.std.specs.List.{range_with_len, AllByRecursion};
 ghost use Rattle.sym_items.specs.Transposed.{item_along};
 ghost use Rattle.stick_lex.specs.Numbers.{IsNumber};
-ghost use Rattle.cell_model.specs.Wiring.{node_pad};
-ghost use Rattle.cell_model.specs.Sound.{IsKind, IsEnd, IsWithinPad, IsWire, IsLimit, IsSound, IsLight, node_at};
+ghost use Rattle.cell_model.specs.Sound.{IsEnd, IsWithinPad, IsWire, IsLimit, IsSound, IsLight, node_at};
 ghost use Rattle.cons_graph.specs.Constraints.{IsConstraintGraph};
 ghost use Rattle.expand.specs.Variables.{half, variables_of};
-ghost use Rattle.expand.specs.Items.{AreItems};
+ghost use Rattle.expand.specs.Masters.{IsMaster};
 ghost use Rattle.expand.specs.Structure.{between, extent_edges, margin_edges, tied, end_edges, wire_edges, overlap_edges, limit_edge, limit_edges, is_limit_of, size_edge, structure_of};
-ghost use Rattle.expand.specs.Bounds.{IsSmall, IsNear, IsNearItem, AreCrosses};
+ghost use Rattle.expand.specs.Bounds.{IsSmall, IsNear, IsNearAlong, AreCrosses};
 
-use crate::boxes::{centre, half, item_running, negated};
+use crate::boxes::{centre, half, negated};
+use crate::master::Master;
 use crate::variables::{crosses, crossing};
-use crate::wires::{is_same_axis, kind_at};
+use crate::wires::kind_at;
+use cell_model::{Axis2, Cell, Limit, Wire, WireEnd};
 use cons_graph::{Edge, Why};
 use lam_geom::Axis;
-use rule_table::{Layer, Tech};
+use rule_table::Tech;
 use std::alloc::{AllocError, Global};
-use cell_model::{Axis2, Cell, Limit, NodeKind, Wire, WireEnd};
-use sym_items::{End, Item, Items};
-
-// The item turned so that the axis lies where x lay.
-fn item_along(axis: Axis, item: Item) -> Item
-    requires { IsNearItem item }
-    ensures value { result ≡ item_along axis item }
-    ensures near { IsNearItem result }
-{
-    match axis {
-        Axis::X => item,
-        Axis::Y => item_running(Axis2::Up, item),
-    }
-}
+use sym_items::{End, Item};
 
 // The length between two variables that keeps so much between ends that lie past them.
 fn between_variables(len: i64, low_off: i64, high_off: i64) -> i64
@@ -44,8 +32,8 @@ fn between_variables(len: i64, low_off: i64, high_off: i64) -> i64
     len - high_off + low_off
 }
 
-// Adds that the high end lies at least so much past the low end, unless both lie on one variable.
-fn push_between(
+/// Adds that the high end lies at least so much past the low end, in u, unless both lie on one variable.
+pub fn push_between(
     edges: &mut Vec<Edge>,
     low: End,
     high: End,
@@ -70,35 +58,40 @@ fn push_between(
 }
 
 // Adds that an item has its least extent.
-fn push_extent(edges: &mut Vec<Edge>, axis: Axis, item: Item) -> Result<(), AllocError>
-    requires { IsNearItem item }
-    ensures { OnOk result (edges.new.items ≡ edges.old.items ++ extent_edges (item_along axis item)) }
+fn push_extent(edges: &mut Vec<Edge>, axis: Axis, item: &Item) -> Result<(), AllocError>
+    requires { IsNearAlong axis item.now }
+    ensures { OnOk result (edges.new.items ≡ edges.old.items ++ extent_edges (item_along axis item.now)) }
 {
-    let turned = item_along(axis, item);
-    push_between(edges, turned.xl, turned.xh, turned.least_x, Why::Extent)
+    let low = item.low(axis);
+    let high = item.high(axis);
+    push_between(edges, low, high, item.least(axis), Why::Extent)
 }
 
 // Adds that an item keeps its margins to both borders.
-fn push_margin(edges: &mut Vec<Edge>, axis: Axis, tech: &Tech, item: Item) -> Result<(), AllocError>
-    requires { IsNearItem item }
-    ensures { OnOk result (edges.new.items ≡ edges.old.items ++ margin_edges tech.now (item_along axis item)) }
+fn push_margin(
+    edges: &mut Vec<Edge>,
+    axis: Axis,
+    tech: &Tech,
+    item: &Item,
+) -> Result<(), AllocError>
+    requires { IsNearAlong axis item.now }
+    ensures { OnOk result (edges.new.items ≡ edges.old.items ++ margin_edges tech.now (item_along axis item.now)) }
 {
-    let turned = item_along(axis, item);
-    let margin = tech.margin(turned.class);
+    let margin = tech.margin(item.class);
     let origin = End { var: 0, off: 0 };
     let far = End { var: 1, off: 0 };
-    push_between(edges, origin, turned.xl, margin, Why::Margin)?;
-    push_between(edges, turned.xh, far, margin, Why::Margin)?;
+    push_between(edges, origin, item.low(axis), margin, Why::Margin)?;
+    push_between(edges, item.high(axis), far, margin, Why::Margin)?;
     Ok(())
 }
 
 // Adds that each item has its least extent.
 fn push_extents(edges: &mut Vec<Edge>, axis: Axis, items: &[Item]) -> Result<(), AllocError>
-    requires { All IsNearItem items.now }
+    requires { All (IsNearAlong axis) items.now }
     ensures { OnOk result (edges.new.items ≡ edges.old.items ++ flat_map (λ i. extent_edges (item_along axis i)) items.now) }
 {
     for item in items {
-        push_extent(edges, axis, *item)?;
+        push_extent(edges, axis, item)?;
     }
     Ok(())
 }
@@ -110,30 +103,13 @@ fn push_margins(
     tech: &Tech,
     items: &[Item],
 ) -> Result<(), AllocError>
-    requires { All IsNearItem items.now }
+    requires { All (IsNearAlong axis) items.now }
     ensures { OnOk result (edges.new.items ≡ edges.old.items ++ flat_map (λ i. margin_edges tech.now (item_along axis i)) items.now) }
 {
     for item in items {
-        push_margin(edges, axis, tech, *item)?;
+        push_margin(edges, axis, tech, item)?;
     }
     Ok(())
-}
-
-// The side of the pad on which a wire of a layer ends, in u.
-fn node_pad(tech: &Tech, layer: Layer, kind: NodeKind) -> i64
-    requires { IsKind tech.now kind }
-    ensures value { result ≡ node_pad tech.now layer kind }
-    ensures low { pos 0 ≤ℤ result }
-    ensures high { result ≤ℤ pos 12288 }
-{
-    match kind {
-        NodeKind::Joint { width, .. } => width,
-        NodeKind::Contact { .. } => tech.pad(),
-        NodeKind::Fet { w, l, .. } => match layer {
-            Layer::Poly => l,
-            Layer::Diffusion | Layer::Metal => w,
-        },
-    }
 }
 
 // Half of what a pad is wider than a wire, in u.
@@ -186,7 +162,7 @@ fn push_end(
 {
     match end {
         WireEnd::Node(node) => {
-            let pad = node_pad(tech, wire.layer, kind_at(cell, node));
+            let pad = kind_at(cell, node).pad(tech, wire.layer);
             push_tie(edges, centre(node), cross, slack(pad, wire.width))
         }
         WireEnd::Port(_) => Ok(()),
@@ -207,7 +183,7 @@ fn push_wire_edges(
     requires wire { IsWire tech.now cell.now wire.now }
     ensures { OnOk result (edges.new.items ≡ edges.old.items ++ wire_edges axis tech.now cell.now wire.now cross) }
 {
-    if !is_same_axis(wire.along, crossing(axis)) {
+    if !wire.along.is_same(crossing(axis)) {
         return Ok(());
     }
     push_end(edges, tech, cell, wire, cross, wire.low)?;
@@ -241,8 +217,8 @@ fn is_limit_of(axis: Axis, along: Axis2) -> bool
     ensures { result ≡ is_limit_of axis along }
 {
     match axis {
-        Axis::X => is_same_axis(along, Axis2::Across),
-        Axis::Y => is_same_axis(along, Axis2::Up),
+        Axis::X => along.is_same(Axis2::Across),
+        Axis::Y => along.is_same(Axis2::Up),
     }
 }
 
@@ -304,30 +280,27 @@ fn size_edge(tech: &Tech) -> Edge
     }
 }
 
-/// The inequalities of a cell on an axis, over the local variables of that axis: its size, the items' least extents,
+/// The inequalities of a master on an axis, over the local variables of that axis: its size, the items' least extents,
 /// the wires on the pads at their ends, the items' margins to the borders, and the limits. The only refusal is want of
 /// memory.
 pub fn structure(
     alloc: Global,
     axis: Axis,
     tech: &Tech,
-    cell: &Cell,
-    items: &Items,
+    master: &Master,
 ) -> Result<Vec<Edge>, AllocError>
-    requires sound { IsSound tech.now cell.now }
-    requires light { IsLight cell.now }
-    requires items { AreItems tech.now cell.now items.now }
-    ensures value { IfOk result (λ edges. edges.items ≡ structure_of axis tech.now cell.now items.now.list) }
+    requires { IsMaster tech.now master.now }
+    ensures value { IfOk result (λ edges. edges.items ≡ structure_of axis tech.now master.now.cell master.now.items.list) }
     // a constraint graph can be made of them
-    ensures shape { IfOk result (λ edges. IsConstraintGraph (record { vars = variables_of axis cell.now; edges = edges.items })) }
+    ensures shape { IfOk result (λ edges. IsConstraintGraph (record { vars = variables_of axis master.now.cell; edges = edges.items })) }
 {
-    let crosses = crosses(alloc, cell)?;
-    let list = items.list.as_slice();
+    let crosses = crosses(alloc, &master.cell)?;
+    let list = master.items.list.as_slice();
     let mut edges = Vec::new(alloc);
     edges.push(size_edge(tech))?;
     push_extents(&mut edges, axis, list)?;
-    push_overlaps(&mut edges, axis, tech, cell, &crosses)?;
+    push_overlaps(&mut edges, axis, tech, &master.cell, &crosses)?;
     push_margins(&mut edges, axis, tech, list)?;
-    push_limits(&mut edges, axis, cell)?;
+    push_limits(&mut edges, axis, &master.cell)?;
     Ok(edges)
 }

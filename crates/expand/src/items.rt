@@ -1,20 +1,21 @@
 //! The items of a cell.
 
-ghost use Rattle.std.specs.Prelude.{◌≡◌, ◌≤◌, ◌++◌, length, flat_map, All, OnOk, IfOk};
+ghost use Rattle.std.specs.Prelude.{◌≡◌, ◌≤◌, ◌<◌, ◌^◌, ◌++◌, length, flat_map, All, OnOk, IfOk};
 ghost use Rattle.std.specs.List.{range_with_len};
 ghost use Rattle.cell_model.specs.Sound.{IsSound, IsLight};
 ghost use Rattle.cell_model.specs.Nets.{AreNets};
+ghost use Rattle.cell_model.specs.Counts.{items_in};
 ghost use Rattle.expand.specs.Items.{items_of_node, items_of_wire, items_of};
 ghost use Rattle.expand.specs.Bounds.{AreCrosses, IsItemAmong};
 
 use crate::nodes::push_kind;
 use crate::variables::{crosses, variables};
 use crate::wires::{kind_at, push_wire};
+use cell_model::{Cell, Nets};
 use lam_geom::Axis;
 use lam_list::Seq;
 use rule_table::Tech;
 use std::alloc::{AllocError, Global};
-use cell_model::{Cell, Nets};
 use sym_items::{Item, Items};
 
 // Adds the items of the nodes.
@@ -65,6 +66,9 @@ pub fn items_of(alloc: Global, tech: &Tech, cell: &Cell, nets: &Nets) -> Result<
     ensures value { IfOk result (λ items. items ≡ items_of tech.now cell.now nets.now) }
     // each lies among the variables of its axes, with small lengths
     ensures among { IfOk result (λ items. All (IsItemAmong items.x_vars items.y_vars) items.list) }
+    // there are as many as the cell's parts have
+    ensures count { IfOk result (λ items. length items.list ≡ items_in cell.now) }
+    ensures few { IfOk result (λ items. length items.list < 2 ^ 32) }
 {
     let crosses = crosses(alloc, cell)?;
     let mut list = Vec::new(alloc);

@@ -10,6 +10,7 @@ mod boxes;
 mod channel;
 mod inequalities;
 mod items;
+mod laws;
 mod master;
 mod nodes;
 #[cfg(test)]
@@ -17,7 +18,8 @@ mod tests;
 mod variables;
 mod wires;
 
-pub use inequalities::structure;
+pub use inequalities::{push_between, structure};
 pub use items::items_of;
+pub use laws::master_is_lawful;
 pub use master::Master;
 pub use variables::crossing;

@@ -1,7 +1,7 @@
 use crate::Master;
+use cell_model::Cell;
 use lam_list::Seq;
 use std::test::Fail;
-use cell_model::Cell;
 use stick_lex::Text;
 use sym_items::Items;
 

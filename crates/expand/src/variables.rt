@@ -7,17 +7,16 @@ ghost use Rattle.expand.specs.Variables.{running, crossing, variables_of};
 ghost use Rattle.cell_model.specs.declared.cell.Axis2.TheVariants.{Across, Up};
 ghost use Rattle.expand.specs.Bounds.{AreCrosses};
 
-use crate::wires::is_same_axis;
+use cell_model::{Axis2, Cell, Wire};
 use lam_geom::Axis;
 use std::alloc::{AllocError, Global};
-use cell_model::{Axis2, Cell, Wire};
 
 // 1 where the two axes are one, 0 where they are not.
 fn counted(along: Axis2, other: Axis2) -> u32
     ensures value { result ≡ cond (is_same_axis along other) 1 0 }
     ensures few { result ≤ 1 }
 {
-    if is_same_axis(along, other) { 1 } else { 0 }
+    if along.is_same(other) { 1 } else { 0 }
 }
 
 // How many wires run along an axis.

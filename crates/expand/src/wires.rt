@@ -3,26 +3,15 @@
 ghost use Rattle.std.specs.Prelude.{◌≡◌, ◌<◌, ◌++◌, length, neg_ℤ, ◌+ℤ◌, OnOk};
 ghost use Rattle.rule_table.specs.Bounds.{IsSize};
 ghost use Rattle.rule_table.specs.Technology.{numbers_of};
-ghost use Rattle.cell_model.specs.Wiring.{is_same_axis};
 ghost use Rattle.cell_model.specs.Sound.{IsKind, IsEnd, IsWire, IsSound, IsLight, node_at};
 ghost use Rattle.expand.specs.Bounds.{IsHalfSize, IsNear};
 ghost use Rattle.expand.specs.WireItems.{half_channel, reach, low_end_of, high_end_of, run_item, wire_items};
 
 use crate::boxes::{centre, extended, half, item_running, negated, push_on_layer};
+use cell_model::{Axis2, Cell, NodeKind, Wire, WireEnd};
 use rule_table::{Class, Tech};
 use std::alloc::AllocError;
-use cell_model::{Axis2, Cell, NodeKind, Wire, WireEnd};
 use sym_items::{End, Item};
-
-/// Whether two axes are one.
-pub fn is_same_axis(a: Axis2, b: Axis2) -> bool
-    ensures { result ≡ is_same_axis a b }
-{
-    match (a, b) {
-        (Axis2::Across, Axis2::Across) | (Axis2::Up, Axis2::Up) => true,
-        (Axis2::Across, Axis2::Up) | (Axis2::Up, Axis2::Across) => false,
-    }
-}
 
 // The half size, in u, of a channel along an axis.
 fn half_channel(gate: Axis2, w: i64, l: i64, along: Axis2) -> i64
@@ -31,7 +20,7 @@ fn half_channel(gate: Axis2, w: i64, l: i64, along: Axis2) -> i64
     ensures value { result ≡ half_channel gate w l along }
     ensures bounds { IsHalfSize result }
 {
-    if is_same_axis(gate, along) {
+    if gate.is_same(along) {
         half(w)
     } else {
         half(l)

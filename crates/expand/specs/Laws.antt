@@ -1,0 +1,42 @@
+-- What holds of every master: of its items, and of all values that meet its structure.
+use Rattle.std.specs.Prelude.{◌≡◌, ℕ, ◌<◌, ◌^◌, ℤ, pos, ◌+ℤ◌, ◌≤ℤ◌, All, length}
+use Rattle.lam_geom.specs.declared.boxes.Axis.{Axis}
+use Rattle.rule_table.specs.declared.technology.Tech.{Tech}
+use Rattle.sym_items.specs.declared.items.Item.{Item}
+use Rattle.sym_items.specs.Transposed.{item_along, vars_along}
+use Rattle.sym_items.specs.Values.{end_under}
+use Rattle.cons_graph.specs.Constraints.{IsConstraintGraph}
+use Rattle.cons_graph.specs.Solutions.{Meets}
+use Rattle.cell_model.specs.Counts.{items_in}
+use Rattle.expand.specs.declared.master.Master.{Master}
+use Rattle.expand.specs.Variables.{variables_of}
+use Rattle.expand.specs.Structure.{structure_of}
+use Rattle.expand.specs.Bounds.{LiesAlong}
+
+-- under some values of the variables of an axis the high end of an item lies at or above the origin, and the item is at least as long as it
+-- has to be
+abbrev pub EndsAbove : Axis → (ℕ → ℤ) → Item → Type 0
+EndsAbove axis x item = pos 0 ≤ℤ end_under x (item_along axis item).xh
+
+abbrev pub IsLongUnder : Axis → (ℕ → ℤ) → Item → Type 0
+IsLongUnder axis x item = (end_under x (item_along axis item).xl +ℤ (item_along axis item).least_x) ≤ℤ end_under x (item_along axis item).xh
+
+-- the values of an axis keep a master above the origin
+pub record StandsOn (axis : Axis) (master : Master) (x : ℕ → ℤ) : Type 0 where
+  pub values_above : (v : ℕ) → v < variables_of axis master.cell → pos 0 ≤ℤ x v
+  pub ends_above : All (EndsAbove axis x) master.items.list
+  pub long : All (IsLongUnder axis x) master.items.list
+
+-- values of an axis that meet the structure of a master, with the origin at 0
+pub record MeetsStructure (axis : Axis) (tech : Tech) (master : Master) (x : ℕ → ℤ) : Type 0 where
+  pub origin : x 0 ≡ pos 0
+  pub meets : All (Meets x) (structure_of axis tech master.cell master.items.list)
+
+-- what holds of a master
+pub record IsLawful (tech : Tech) (master : Master) : Type 0 where
+  pub count : length master.items.list ≡ items_in master.cell
+  pub few : length master.items.list < 2 ^ 32
+  pub vars : (axis : Axis) → vars_along axis master.items ≡ variables_of axis master.cell
+  pub lie : (axis : Axis) → All (LiesAlong axis master.cell) master.items.list
+  pub shape : (axis : Axis) → IsConstraintGraph (record { vars = variables_of axis master.cell; edges = structure_of axis tech master.cell master.items.list })
+  pub stands : (axis : Axis) (x : ℕ → ℤ) → MeetsStructure axis tech master x → StandsOn axis master x
