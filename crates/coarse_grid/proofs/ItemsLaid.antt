@@ -1,5 +1,5 @@
 -- The items of a cell in its start layout: each has a box, and those of parts whose coarse ranges share no grid point lie apart.
-use Rattle.std.proofs.Common.{ℕ, ◌<◌, ◌≤◌, max, ℤ, ◌-ℤ◌, ◌≤ℤ◌, length, arith}
+use Rattle.std.proofs.Common.{ℕ, ◌<◌, ◌≤◌, max, ℤ, ◌-ℤ◌, ◌≤ℤ◌, length, sym, subst, arith}
 use Rattle.std.specs.List.{AllByRecursion, flat_map, range_with_len}
 use Rattle.std.proofs.lemmas.Int.{ints, clamps}
 use Rattle.rule_table.specs.declared.technology.Tech.{Tech}
@@ -16,12 +16,15 @@ use Rattle.cell_model.specs.declared.cell.Nets.{Nets}
 use Rattle.cell_model.specs.Sound.{IsNode, IsWire, IsSound, node_at, no_node, wire_at, no_wire}
 use Rattle.list_facts.proofs.Elements.{all_weaker, all_at, all_append}
 use Rattle.expand.specs.Variables.{half}
-use Rattle.expand.specs.Items.{nets_at, items_of_node, items_of_wire, item_list}
+use Rattle.sym_items.specs.declared.items.Items.{Items}
+use Rattle.expand.specs.declared.master.Master.{Master}
+use Rattle.expand.specs.Items.{nets_at, items_of_node, items_of_wire, items_of, item_list}
+use Rattle.expand.specs.Masters.{IsMaster}
 use Rattle.coarse_grid.specs.Extent.{reach_of, half_extent_of, pitch_of}
 use Rattle.coarse_grid.specs.Start.{last_line, start_values, start_of}
-use Rattle.coarse_grid.specs.Ranges.{Lines, lines_of, AreApart}
-use Rattle.coarse_grid.specs.Laws.{HasBoxes, KeepsApart}
-use Rattle.coarse_grid.proofs.Nears.{by_lt}
+use Rattle.coarse_grid.specs.Ranges.{Lines, lines_of, Covers}
+use Rattle.coarse_grid.specs.Laws.{HasBoxes, KeepsApart, NearShareAPoint}
+use Rattle.coarse_grid.proofs.Nears.{by_lt, near_not_wide}
 use Rattle.list_facts.proofs.Elements.{all_flat, all_numbers, all_of}
 use Rattle.coarse_grid.proofs.Lines.{near_lines}
 use Rattle.coarse_grid.proofs.Reaches.{IsCoarse, coarse}
@@ -88,36 +91,51 @@ gap_above s a b h = omega (arith, ints, clamps, h)
 gap_below : (s : ℤ) (a b : Sides) → s ≤ℤ (a.bottom -ℤ b.top) → s ≤ℤ gap_of_sides a b
 gap_below s a b h = omega (arith, ints, clamps, h)
 
--- ranges that share no grid point are apart on one of the axes
-on_an_axis : {P : Type 0} (cell : Cell) (a b : ℕ) → AreApart cell a b
+-- ranges are apart on one of the axes, or they share a grid point
+on_an_axis : {P : Type 0} (cell : Cell) (a b : ℕ) → ((col row : ℕ) → Covers cell a col row → Covers cell b col row → P)
     → (lines_of Across cell a).first ≤ (lines_of Across cell a).last → (lines_of Across cell b).first ≤ (lines_of Across cell b).last
     → (lines_of Up cell a).first ≤ (lines_of Up cell a).last → (lines_of Up cell b).first ≤ (lines_of Up cell b).last
     → ((lines_of Across cell a).last < (lines_of Across cell b).first → P) → ((lines_of Across cell b).last < (lines_of Across cell a).first → P)
     → ((lines_of Up cell a).last < (lines_of Up cell b).first → P) → ((lines_of Up cell b).last < (lines_of Up cell a).first → P) → P
-on_an_axis cell a b apart ax bx ay by right left above below =
+on_an_axis cell a b shared ax bx ay by right left above below =
     let x : Lines = lines_of Across cell a in
     let x2 : Lines = lines_of Across cell b in
     let y : Lines = lines_of Up cell a in
     let y2 : Lines = lines_of Up cell b in
     by_lt x.last x2.first right (λ no_right. by_lt x2.last x.first left (λ no_left. by_lt y.last y2.first above (λ no_above. by_lt y2.last y.first below (λ no_below.
-    absurd (apart (max x.first x2.first) (max y.first y2.first) ((omega arith, omega arith), (omega arith, omega arith)) ((omega arith, omega arith), (omega arith, omega arith)))))))
+    shared (max x.first x2.first) (max y.first y2.first) ((omega arith, omega arith), (omega arith, omega arith)) ((omega arith, omega arith), (omega arith, omega arith))))))
 
-pair_apart : (tech : Tech) (cell : Cell) (a b : Item) → IsSound tech cell → IsLaid cell (pitch_of tech cell) (half_extent_of tech cell) a → IsLaid cell (pitch_of tech cell) (half_extent_of tech cell) b
-    → AreApart cell a.owner b.owner → widest_of tech ≤ℤ gap_in (start_of tech cell) a b
-pair_apart tech cell a b s la lb apart =
+-- two items lie the widest spacing apart, or their owners' ranges share a grid point
+apart_or_shared : {P : Type 0} (tech : Tech) (cell : Cell) (a b : Item) → IsSound tech cell → IsLaid cell (pitch_of tech cell) (half_extent_of tech cell) a → IsLaid cell (pitch_of tech cell) (half_extent_of tech cell) b
+    → (widest_of tech ≤ℤ gap_in (start_of tech cell) a b → P) → ((col row : ℕ) → Covers cell a.owner col row → Covers cell b.owner col row → P) → P
+apart_or_shared tech cell a b s la lb apart shared =
     let pitch = pitch_of tech cell in
     let extent = half_extent_of tech cell in
     let c = start_of tech cell in
     let w = wide tech cell pitch extent (coarse tech cell s) in
-    on_an_axis cell a.owner b.owner apart la.x.proper lb.x.proper la.y.proper lb.y.proper
-    (λ lt. gap_right (widest_of tech) (sides_in c a) (sides_in c b) (spans_apart pitch extent (widest_of tech) (start_values pitch Across cell) (last_line Across cell) _ _ a.xl a.xh b.xl b.xh w la.x lb.x lt))
-    (λ lt. gap_left (widest_of tech) (sides_in c a) (sides_in c b) (spans_apart pitch extent (widest_of tech) (start_values pitch Across cell) (last_line Across cell) _ _ b.xl b.xh a.xl a.xh w lb.x la.x lt))
-    (λ lt. gap_above (widest_of tech) (sides_in c a) (sides_in c b) (spans_apart pitch extent (widest_of tech) (start_values pitch Up cell) (last_line Up cell) _ _ a.yl a.yh b.yl b.yh w la.y lb.y lt))
-    (λ lt. gap_below (widest_of tech) (sides_in c a) (sides_in c b) (spans_apart pitch extent (widest_of tech) (start_values pitch Up cell) (last_line Up cell) _ _ b.yl b.yh a.yl a.yh w lb.y la.y lt))
+    on_an_axis cell a.owner b.owner shared la.x.proper lb.x.proper la.y.proper lb.y.proper
+    (λ lt. apart (gap_right (widest_of tech) (sides_in c a) (sides_in c b) (spans_apart pitch extent (widest_of tech) (start_values pitch Across cell) (last_line Across cell) _ _ a.xl a.xh b.xl b.xh w la.x lb.x lt)))
+    (λ lt. apart (gap_left (widest_of tech) (sides_in c a) (sides_in c b) (spans_apart pitch extent (widest_of tech) (start_values pitch Across cell) (last_line Across cell) _ _ b.xl b.xh a.xl a.xh w lb.x la.x lt)))
+    (λ lt. apart (gap_above (widest_of tech) (sides_in c a) (sides_in c b) (spans_apart pitch extent (widest_of tech) (start_values pitch Up cell) (last_line Up cell) _ _ a.yl a.yh b.yl b.yh w la.y lb.y lt)))
+    (λ lt. apart (gap_below (widest_of tech) (sides_in c a) (sides_in c b) (spans_apart pitch extent (widest_of tech) (start_values pitch Up cell) (last_line Up cell) _ _ b.yl b.yh a.yl a.yh w lb.y la.y lt)))
 
 pub keeps_apart : (tech : Tech) (cell : Cell) (nets : Nets) → IsSound tech cell → KeepsApart tech cell nets
 keeps_apart tech cell nets s i j i_among j_among apart =
     let items = item_list tech cell nets in
     let laid = items_laid tech cell nets s in
     let P : Item → Type 0 = IsLaid cell (pitch_of tech cell) (half_extent_of tech cell) in
-    pair_apart tech cell (item_at items i) (item_at items j) s (all_at P items no_item i laid i_among) (all_at P items no_item j laid j_among) apart
+    apart_or_shared tech cell (item_at items i) (item_at items j) s (all_at P items no_item i laid i_among) (all_at P items no_item j laid j_among) (λ wide. wide) (λ col row a b. absurd (apart col row a b))
+
+-- items that are too near one another lie less than the widest spacing apart
+pub near_share : (tech : Tech) (master : Master) → IsMaster tech master → NearShareAPoint tech master
+near_share tech master m =
+    let N : Items → Type 0 = λ is. NearShareAPoint tech (record { cell = master.cell; items = is }) in
+    subst N (sym m.items.are) (list_share tech master.cell m.items.nets m.sound)
+  where
+    list_share : (tech : Tech) (cell : Cell) (nets : Nets) → IsSound tech cell → NearShareAPoint tech (record { cell = cell; items = items_of tech cell nets })
+    list_share tech cell nets s i j i_among j_among near =
+        let items = item_list tech cell nets in
+        let laid = items_laid tech cell nets s in
+        let P : Item → Type 0 = IsLaid cell (pitch_of tech cell) (half_extent_of tech cell) in
+        apart_or_shared tech cell (item_at items i) (item_at items j) s (all_at P items no_item i laid i_among) (all_at P items no_item j laid j_among)
+        (λ wide. absurd (near_not_wide tech (start_of tech cell) (item_at items i) (item_at items j) near wide)) (λ col row a b. (col, row, (a, b)))

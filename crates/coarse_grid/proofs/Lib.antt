@@ -10,4 +10,5 @@ pub mod NodesLaid
 pub mod Laid
 pub mod WiresLaid
 pub mod ItemsLaid
+pub mod StartLaid
 pub mod WorkedStarts

@@ -51,3 +51,7 @@ Covers cell owner col row = IsAmong (lines_of Across cell owner) col × IsAmong 
 -- two owners' coarse ranges share no grid point
 abbrev pub AreApart : Cell → ℕ → ℕ → Type 0
 AreApart cell a b = (col row : ℕ) → Covers cell a col row → Covers cell b col row → ⊥
+
+-- two owners' coarse ranges share a grid point
+abbrev pub ShareAPoint : Cell → ℕ → ℕ → Type 0
+ShareAPoint cell a b = (col : ℕ) × (row : ℕ) × (Covers cell a col row × Covers cell b col row)

@@ -6,8 +6,8 @@ ghost use Rattle.rule_table.specs.Bounds.{IsSize};
 ghost use Rattle.expand.specs.Variables.{half};
 ghost use Rattle.coarse_grid.specs.Extent.{implant_past, fet_reach, reach_of, half_extent_of, pitch_of};
 
-use rule_table::Tech;
 use cell_model::{Cell, NodeKind};
+use rule_table::Tech;
 
 /// The pitch of a cell's coarse grid, in u: twice its half extent and the widest spacing. The half extent is the greatest
 /// half size of an item at a node on either axis, and half width of a wire; 0 for an empty cell. It takes no memory.

@@ -2,18 +2,16 @@
 
 ghost use Rattle.std.specs.Prelude.{◌≡◌, ◌≤◌, IfOk, All, length};
 ghost use Rattle.cell_model.specs.Sound.{IsSound, IsEnd, line_at};
-ghost use Rattle.cell_model.specs.Wiring.{is_same_axis, axis_of};
 ghost use Rattle.coarse_grid.specs.Start.{node_line, last_line, place, start_values, start_of};
 ghost use Rattle.coarse_grid.specs.Near.{IsNear, IsPitch, AreLinesNear};
 ghost use Rattle.expand.specs.Variables.{variables_of};
 ghost use Rattle.lam_geom.specs.declared.boxes.Axis.TheVariants.{X, Y};
 
 use crate::extent::pitch;
+use cell_model::{Axis2, Cell, Node, WireEnd};
 use lam_list::Seq;
 use rule_table::Tech;
 use std::alloc::{AllocError, Global};
-use cell_model::{Axis2, Cell, Node, WireEnd};
-use lam_geom::Side;
 use sym_items::Coords;
 
 /// The start layout of a cell: on each axis the origin, the far border, each node's centre, and the cross coordinate of
@@ -49,7 +47,7 @@ fn values(alloc: Global, cell: &Cell, pitch: i64, axis: Axis2) -> Result<Vec<i64
         values.push(place(pitch, node_line(axis, node)))?;
     }
     for wire in cell.wires.as_slice() {
-        if !is_same_axis(axis, wire.along) {
+        if !axis.is_same(wire.along) {
             values.push(place(pitch, line(cell, wire.along, wire.low)))?;
         }
     }
@@ -78,7 +76,7 @@ fn last_line(axis: Axis2, cell: &Cell) -> u32
         last = last.max(node_line(axis, node));
     }
     for port in cell.ports.as_slice() {
-        if !is_same_axis(axis, axis_of(port.side)) {
+        if !axis.is_same(Axis2::of_side(port.side)) {
             last = last.max(port.place);
         }
     }
@@ -112,20 +110,4 @@ fn line(cell: &Cell, along: Axis2, end: WireEnd) -> u32
             }
         }
     }
-}
-
-// The axis on which a wire reaches a side.
-fn axis_of(side: Side) -> Axis2
-    ensures { result ≡ axis_of side }
-{
-    match side {
-        Side::Left | Side::Right => Axis2::Across,
-        Side::Bottom | Side::Top => Axis2::Up,
-    }
-}
-
-fn is_same_axis(a: Axis2, b: Axis2) -> bool
-    ensures { result ≡ is_same_axis a b }
-{
-    a == b
 }

@@ -15,5 +15,5 @@ mod tests;
 
 pub use clash::find_clash;
 pub use extent::pitch;
-pub use laws::{start_gives_boxes, start_keeps_apart};
+pub use laws::{near_share_a_point, start_gives_boxes, start_is_a_layout, start_keeps_apart};
 pub use layout::start;

@@ -2,14 +2,14 @@ ghost use Rattle.std.specs.Prelude.{◌≡◌, ◌<◌, [], ◌∷◌, IfOk};
 ghost use Rattle.coarse_grid.specs.Worked as worked;
 
 use crate::{find_clash, pitch, start};
+use cell_model::{Axis2, Cell, Node, NodeKind, Port, Wire, WireEnd};
+use lam_geom::Side;
 use lam_list::Seq;
 use rule_table::{Class, Layer, Tech};
 use std::alloc::{AllocError, Global};
 use std::process::Abort;
 use std::test::Fail;
-use cell_model::{Axis2, Cell, Node, NodeKind, Port, Wire, WireEnd};
 use stick_lex::Text;
-use lam_geom::Side;
 use sym_items::{Coords, End, Item};
 
 const JOINT: NodeKind = NodeKind::Joint {

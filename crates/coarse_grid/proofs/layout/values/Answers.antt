@@ -10,7 +10,7 @@ use Rattle.cell_model.specs.Wiring.{is_same_axis}
 use Rattle.coarse_grid.specs.Start.{node_line, place, far_border, cross_places, start_values}
 use Rattle.coarse_grid.proofs.Folds.{all_read, list_map_on, list_flat_on}
 use Rattle.coarse_grid.proofs.Starts.{holds_near, holds_pitch, cross_there, cross_missing}
-use Rattle.coarse_grid.proofs.layout.values.Goals.{then-not-is_same_axis+in_ok-push-4, else-not-is_same_axis}
+use Rattle.coarse_grid.proofs.layout.values.Goals.{then-not-is_same+in_ok-push-4, else-not-is_same}
 use Rattle.coarse_grid.proofs.layout.values.Goals as goal
 
 -- what a wire past the end would be read as
@@ -35,15 +35,15 @@ loop-wire-preserved c =
     let wire : Wire = get_or read c.loop-wire.wire-index read_wire in
     let now = c.loop-wire.values.items in
     let next = list_flat_on (cross_places pitch c.args.axis cell) (pos 0 ∷ far_border pitch c.args.axis cell ∷ map (λ (node : Node). place pitch (node_line c.args.axis node)) cell.nodes) read cell.wires
-    c.loop-wire.wire-index read_wire now c.if-not-is_same_axis.values.items c.as_slice-wire-items.ensures c.loop-wire-test.true c.loop-wire.invariant in
-    elim c.if-not-is_same_axis.branch [
-      | then-not-is_same_axis+in_ok-push-4 w ↦
-          let apart : is_same_axis c.args.axis wire.along ≡ false = sym c.is_same_axis.ensures ∙ w.if-not-is_same_axis.true in
-          let at = w.place-then-not-is_same_axis in
+    c.loop-wire.wire-index read_wire now c.if-not-is_same.values.items c.as_slice-wire-items.ensures c.loop-wire-test.true c.loop-wire.invariant in
+    elim c.if-not-is_same.branch [
+      | then-not-is_same+in_ok-push-4 w ↦
+          let apart : is_same_axis c.args.axis wire.along ≡ false = sym c.is_same.ensures ∙ w.if-not-is_same.true in
+          let at = w.place-then-not-is_same in
           let value = holds_near at.result at.ensures.near ∙ (at.ensures.value ∙ ap (place pitch) w.line.ensures.value) in
           next (ap (λ v. v.items) w.values-is ∙ (w.in_ok-push-4.ensures.items ∙ ap (λ zs. now ++ zs) (ap (λ z. z ∷ []) value ∙ sym (cross_there pitch c.args.axis cell wire apart))))
-      | else-not-is_same_axis w ↦
-          let same : is_same_axis c.args.axis wire.along ≡ true = sym c.is_same_axis.ensures ∙ w.if-not-is_same_axis.false in
+      | else-not-is_same w ↦
+          let same : is_same_axis c.args.axis wire.along ≡ true = sym c.is_same.ensures ∙ w.if-not-is_same.false in
           next (ap (λ v. v.items) w.values-is ∙ (sym (append-nil now) ∙ ap (λ zs. now ++ zs) (sym (cross_missing pitch c.args.axis cell wire same))))
     ]
 
