@@ -324,7 +324,7 @@ leads InGrid (Row row) number v h = (tt, λ rest f. (f.0, f.1, (h, f.2), f.3))
 leads InGrid End number v h = (tt, λ rest f. (tt, f.1, f.2, f.3))
 leads place s number v h = tt
 
-at_line_holds : {A : Type 0} (P : A → Type 0) (n : ℕ) (r : Result A StickKind) → Holds P r → Holds P (at_line n r)
+pub at_line_holds : {A : Type 0} (P : A → Type 0) (n : ℕ) (r : Result A StickKind) → Holds P r → Holds P (at_line n r)
 at_line_holds P n (Ok x) h = h
 at_line_holds P n (Err kind) h = tt
 
@@ -342,7 +342,7 @@ rest_holds last place (e ∷ es) v h =
     then_holds (Leads place s e.number) (Fits place) (at_line e.number (place_after place s)) _ (at_line_holds (Leads place s e.number) e.number (place_after place s) (leads place s e.number v hs)) (λ next hn.
     then_holds (Fits next) (Fits place) (rest_from last next es) _ (rest_holds last next es hn.0 h.1) (λ rest f. hn.1 rest f)))
 
-design_holds : (text : List ℕ) → Holds IsWritable (design_of text)
+pub design_holds : (text : List ℕ) → Holds IsWritable (design_of text)
 unfolding design_of
 design_holds text = then_holds (Fits AtHead) IsWritable (rest_from (last_line text) AtHead (entries 1 (lines text))) _ (rest_holds (last_line text) AtHead (entries 1 (lines text)) tt (entries_hold 1 (lines text))) (λ rest f. record { cells = f.1; few_cells = f.3; rows = f.2 })
 

@@ -4,6 +4,9 @@ pub mod WordViews
 pub mod Forms
 pub mod Lines
 pub mod Order
+pub mod Says
+pub mod FirstFault
+pub mod Laws
 pub mod Writable
 pub mod LinesLeft
 pub mod Lexing

@@ -1,5 +1,5 @@
 -- What a design is made of: names, paths, and numbers that are not too large.
-use Rattle.std.specs.Prelude.{ℕ, ◌≤◌, ◌<◌, ℤ, pos, negsuc, List, length, Option, Some, None, IsTrue}
+use Rattle.std.specs.Prelude.{ℕ, ◌≤◌, ◌<◌, List, length, Option, Some, None, IsTrue}
 use Rattle.std.specs.List.{AllByRecursion}
 use Rattle.stick_lex.specs.Tokens.{is_name, is_path}
 use Rattle.stick_parse.specs.declared.design.Layer.{Layer}

@@ -5,51 +5,75 @@ ghost use Rattle.stick_parse.specs.declared.fault.ParseFault.TheVariants as faul
 
 use std::alloc::{AllocError, AllocFailed};
 use stick_lex::LexFault;
+use thiserror::Error;
 
 /// The kinds of faults of a stick text, numbered from 1 in this order. The first five are faults of syntax, which
 /// `parse` tells; the others are faults of names and sizes.
-#[derive(Clone, Copy, Debug, PartialEq, Eq)]
+#[derive(Clone, Copy, Debug, PartialEq, Eq, Error)]
 pub enum StickKind {
     /// A run of bytes that is no token.
+    #[error("not a token")]
     BadByte = 1,
     /// A number past 1,000,000 either side of 0.
+    #[error("a number is too large")]
     NumberTooLarge,
     /// The tokens form no line that may stand here.
+    #[error("no line that may stand here")]
     BadLine,
     /// The text ends before the grid's `end`. It is told at the last line, or at line 1 of an empty text.
+    #[error("the text ends before the grid does")]
     Unended,
     /// The 257th `cell` line.
+    #[error("too many cells")]
     TooManyCells,
+    #[error("a name is repeated")]
     RepeatedName,
+    #[error("a name is unknown")]
     UnknownName,
+    #[error("a cell uses itself")]
     UseCycle,
+    #[error("uses are nested too deep")]
     UseDepth,
+    #[error("a cell with ports is used")]
     UsedPorts,
+    #[error("a place is too far out")]
     FarPlace,
+    #[error("a size is wrong")]
     BadSize,
+    #[error("narrower than its layer allows")]
     NarrowWire,
+    #[error("a path ends at no terminal")]
     WrongTerminal,
+    #[error("a wire is not straight")]
     NotStraight,
+    #[error("a terminal is on another layer")]
     WrongLayer,
+    #[error("a wire meets a transistor from the wrong side")]
     WrongSide,
+    #[error("a wire is wider than a pad")]
     WideWire,
+    #[error("a port has no wire or several")]
     PortWires,
+    #[error("a limit between wrong ends")]
     BadLimit,
 }
 
 /// A fault, and the number of its line, from 1.
-#[derive(Clone, Copy, Debug, PartialEq, Eq)]
+#[derive(Clone, Copy, Debug, PartialEq, Eq, Error)]
+#[error("a line of the stick text is wrong")]
 pub struct StickFault {
     pub line: u32,
     pub kind: StickKind,
 }
 
 /// Why `parse` gave no design.
-#[derive(Clone, Copy, Debug, PartialEq, Eq)]
+#[derive(Clone, Copy, Debug, PartialEq, Eq, Error)]
 pub enum ParseFault {
     /// The text is no design: its first fault.
+    #[error("the stick text is no design")]
     Stick(StickFault),
     /// Memory ran out.
+    #[error("out of memory")]
     OutOfMemory,
 }
 
@@ -70,9 +94,11 @@ impl<T: Drop> From<AllocFailed<T>> for ParseFault {
 }
 
 /// Why one line says nothing.
-#[derive(Clone, Copy, Debug, PartialEq, Eq)]
+#[derive(Clone, Copy, Debug, PartialEq, Eq, Error)]
 pub enum LineFault {
+    #[error("the line says nothing")]
     Kind(StickKind),
+    #[error("out of memory")]
     OutOfMemory,
 }
 

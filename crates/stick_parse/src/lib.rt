@@ -1,13 +1,15 @@
 //! Stick text as a design: cells of joints, contacts, transistors, ports, uses, wires and limits, and a grid of cells.
-//! What the layer above uses: `parse` gives exactly the design that `specs/Order.antt` says of the text, or its first
-//! fault. There the whole text is cut into lines first, each line into words, each line of words is one form
-//! (`specs/Forms.antt`), and the forms stand in order; the code walks the text once.
+//! What the layer above uses: `parse` gives the design that the text says (`specs/Says.antt`: the lines that a design has,
+//! one behind the other), or the text's first fault (`specs/FirstFault.antt`: the first line behind which no design can
+//! begin so). What one line says is in `specs/Forms.antt`. `design_of` (`specs/Order.antt`) is the same as a function of
+//! the text, which the layers above compute with; laws say that they agree. The code walks the text once.
 #![tactic(auto)]
 
 mod cursor;
 mod design;
 mod fault;
 mod forms;
+mod laws;
 mod lines;
 mod parsing;
 mod words;
@@ -15,6 +17,7 @@ mod words;
 pub use design::{CellText, Design, Form, Layer, Line, RowText};
 pub use fault::{LineFault, ParseFault, StickFault, StickKind};
 pub use lam_geom::Side;
+pub use laws::{has_one_answer, reads_what_is_said, refuses_first_fault};
 pub use parsing::parse;
 
 #[cfg(test)]

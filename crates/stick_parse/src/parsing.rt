@@ -4,6 +4,7 @@ ghost use Rattle.stick_parse.specs.declared.fault.ParseFault.TheVariants.{Stick}
 ghost use Rattle.stick_parse.specs.declared.fault.StickKind.TheVariants.{Unended};
 ghost use Rattle.stick_parse.specs.Reading.{Gives, Fails};
 ghost use Rattle.stick_parse.specs.Order.{AtHead, Behind, InCell, InGrid, design_of};
+ghost use Rattle.stick_parse.specs.FirstFault.{Tells};
 ghost use Rattle.stick_parse.specs.Writable.{IsWritable};
 ghost use Rattle.stick_parse.specs.LinesLeft.{last_of};
 ghost use Rattle.stick_parse.specs.Parts.{rest_at, with_cell_lines, with_cells, GivesRows};
@@ -137,6 +138,9 @@ fn design_of(alloc: Global, text: &[u8]) -> Result<Design, ParseFault>
 pub fn parse(alloc: Global, text: &[u8]) -> Result<Design, ParseFault>
     requires { length text.now ≤ 2 ^ 20 }
     ensures design { Gives (λ design. design) result (design_of text.now) }
+
+    // The design has the lines of the text, and the fault is the text's first.
+    ensures says { Tells text.now result }
 
     // A design that is read can be printed and read again.
     ensures writable { IfOk result IsWritable }

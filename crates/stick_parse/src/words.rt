@@ -8,8 +8,8 @@ ghost use Rattle.stick_parse.specs.WordViews.{view, views};
 
 use crate::design::Layer;
 use crate::fault::{LineFault, StickKind};
-use std::alloc::{AllocError, Global};
 use lam_geom::Side;
+use std::alloc::{AllocError, Global};
 use stick_lex::{LARGEST, Token, TokenKind, is_name};
 
 /// A word of a line.

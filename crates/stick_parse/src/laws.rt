@@ -1,0 +1,19 @@
+//! What the definitions of a text's design and of its first fault say of each other.
+
+ghost use Rattle.stick_parse.specs.Laws.{ReadsWhatIsSaid, RefusesFirstFault, HasOneAnswer};
+
+/// A law, with nothing to run: what is read of a text is the design whose lines, in order, the text has.
+pub fn reads_what_is_said(text: &[u8])
+    ensures { ReadsWhatIsSaid text.now }
+{}
+
+/// A law, with nothing to run: a text is refused with its first fault: the first line that can't be read, that no design
+/// has there or that is the 257th `cell` line, or its last line where it ends too early.
+pub fn refuses_first_fault(text: &[u8])
+    ensures { RefusesFirstFault text.now }
+{}
+
+/// A law, with nothing to run: a text says one design or has one first fault, and never both.
+pub fn has_one_answer(text: &[u8])
+    ensures { HasOneAnswer text.now }
+{}
