@@ -14,6 +14,7 @@ use Rattle.std.proofs.lemmas.Bool.{le-leb}
 use Rattle.std.proofs.lemmas.Bool.Decides.{nat_tests}
 use Rattle.stick_lex.specs.declared.token.TokenKind.TheVariants as kinds
 use Rattle.stick_lex.specs.Tokens.{is_name_byte, is_name, names, is_path, is_numeral, is_minus, digits_of_number, is_number, magnitude, value_of, spanning, token_of}
+use Rattle.stick_lex.specs.Numbers.{IsNumber}
 use Rattle.stick_parse.specs.Words.{Path, Number, AtMost, AtLeast}
 use Rattle.stick_print.proofs.Split.{IsPlain, Says}
 
@@ -170,7 +171,7 @@ says_negative (d ∷ ds) m some all value small = record {
   said = refl;
 }
 
-pub says_number : (z : ℤ) → Rattle.stick_parse.specs.Writable.IsNumber z → Says (signed_decimal z) (Number z)
+pub says_number : (z : ℤ) → IsNumber z → Says (signed_decimal z) (Number z)
 says_number (pos n) small = says_count n small
 says_number (negsuc m) small =
     let d = decimal_is_IsNumeral (suc m) (small_power (suc m) (omega arith)) in

@@ -1,5 +1,5 @@
--- The whole canonical text says the design again, line numbers aside.
-use Rattle.std.proofs.Common.{◌≡◌, ℕ, ◌+◌, ◌-◌, ◌<◌, ◌≤◌, Bool, true, false, cond, eqb, List, [], ◌∷◌, ◌++◌, length, get_or, take, map, Option, Result, Ok, Err, refl, sym, ap, ◌∙◌, append_assoc, arith}
+-- The whole canonical text says the design again, each line behind the one before it.
+use Rattle.std.proofs.Common.{◌≡◌, ℕ, suc, ◌+◌, ◌-◌, ◌<◌, ◌≤◌, Bool, true, false, cond, eqb, List, [], ◌∷◌, ◌++◌, length, get_or, take, map, Option, Result, Ok, refl, sym, ap, subst, ◌∙◌, append_assoc, arith}
 use Rattle.std.specs.List.{slice_split, flat_map, AllByRecursion}
 use Rattle.std.specs.Str.Lines.{lines, lines_of_parts, strip_carriage_return}
 use Rattle.std.proofs.lemmas.List.Elements.{All-from_recursion}
@@ -7,20 +7,18 @@ use Rattle.std.proofs.lemmas.List.Splits.{slice_split_at, length-slice_split}
 use Rattle.std.proofs.lemmas.List.{length-append}
 use Rattle.std.proofs.lemmas.Bool.Decides.{nat_tests}
 use Rattle.stick_parse.specs.declared.fault.StickKind.{StickKind}
-use Rattle.stick_parse.specs.declared.fault.StickKind.TheVariants.{TooManyCells}
-use Rattle.stick_parse.specs.declared.fault.StickFault.{StickFault}
 use Rattle.stick_parse.specs.declared.design.Line.{Line}
 use Rattle.stick_parse.specs.declared.design.CellText.{CellText}
 use Rattle.stick_parse.specs.declared.design.RowText.{RowText}
 use Rattle.stick_parse.specs.declared.design.Design.{Design}
 use Rattle.stick_parse.specs.declared.design.Statement.{Statement}
 use Rattle.stick_parse.specs.declared.design.Statement.TheVariants.{Version, Cell, Item, Grid, Row, End}
-use Rattle.stick_parse.specs.Reading.{◌>>=◌}
 use Rattle.stick_parse.specs.Lines.{Entry, with_entry, entries}
-use Rattle.stick_parse.specs.Order.{Place, AtHead, Behind, InCell, InGrid, Rest, with_line, at_line, rest_from, last_line, design_of}
+use Rattle.stick_parse.specs.Says.{saying, form_line, cell_part, AreLinesOf, said_lines, SaysDesign}
+use Rattle.stick_parse.proofs.Shapes.{regroup, design_read}
 use Rattle.stick_parse.specs.Writable.{IsLine, IsRow, IsCell, IsWritable}
 use Rattle.stick_print.specs.Canonical.{keyword_of, words_of, spaced, line_of, item_line, row_line, cell_lines, canonical}
-use Rattle.stick_print.specs.ReadBack.{without_number, without_numbers, ReadsAs}
+use Rattle.stick_print.specs.ReadBack.{without_number, without_numbers, lines_from, cells_from, laid_out, ReadsAs}
 use Rattle.stick_print.proofs.Split.{IsInner, inner_line, inner_at}
 use Rattle.stick_print.proofs.Statements.{IsStatement, body, line_again, plain_words, plain_keyword, some_keyword}
 
@@ -136,57 +134,67 @@ are_rows (r ∷ rs) h = (h.0, are_rows rs h.1)
 are_statements : (d : Design) → IsWritable d → AllByRecursion IsStatement (statements d)
 are_statements d h = (tt, are_cells d.cells (Grid ∷ grid_rows d.grid) h.cells (tt, are_rows d.grid h.rows))
 
--- ---- the design that the statements give
+-- ---- the design that the statements are lines of
 
-abbrev then_line : ℕ → Statement → Result Rest StickFault → Result Rest StickFault
-then_line k s read = read >>= λ rest. Ok (with_line k s rest)
+lines_shape : (k : ℕ) (ls : List Line) (rest : List Statement) → numbered k (after_lines ls rest) ≡ map form_line (lines_from k ls) ++ numbered (k + length ls) rest
+lines_shape k [] rest = ap (λ (n : ℕ). numbered n rest) (omega arith)
+lines_shape k (l ∷ ls) rest =
+    let on : k + 1 + length ls ≡ k + length (l ∷ ls) = omega arith in
+    ap (λ (es : List Entry). saying k (Item l.form) ∷ es) (lines_shape (k + 1) ls rest ∙ ap (λ (n : ℕ). map form_line (lines_from (k + 1) ls) ++ numbered n rest) on)
 
-rows_again : (last k : ℕ) (rs : List RowText) → (end : ℕ) × (rest_from last InGrid (numbered k (grid_rows rs)) ≡ Ok (record { lines = []; end_line = end; cells = []; rows = rs }))
-rows_again last k [] = (k, refl)
-rows_again last k (r ∷ rs) = let others = rows_again last (k + 1) rs in (others.0, ap (then_line k (Row r)) others.1)
-
--- what stands behind a cell gives these cells and rows, wherever it begins
-abbrev Behind_gives : ℕ → ℕ → List Statement → List CellText → List RowText → Type 0
-Behind_gives last n ss cs rs = (k : ℕ) → (rest : Rest) × (rest_from last (Behind n) (numbered k ss) ≡ Ok rest) × (map without_numbers rest.cells ≡ map without_numbers cs) × (rest.rows ≡ rs)
-
-lines_give : (last n k : ℕ) (ls : List Line) (ss : List Statement) (cs : List CellText) (rs : List RowText) → Behind_gives last n ss cs rs
-    → (rest : Rest) × (rest_from last (InCell n) (numbered k (after_lines ls (End ∷ ss))) ≡ Ok rest) × (map without_number rest.lines ≡ map without_number ls) × (map without_numbers rest.cells ≡ map without_numbers cs) × (rest.rows ≡ rs)
-lines_give last n k [] ss cs rs behind =
-    let r = behind (k + 1) in
-    (record r.0 { lines = []; end_line = k }, ap (then_line k End) r.1, refl, r.2, r.3)
-lines_give last n k (l ∷ ls) ss cs rs behind =
-    let r = lines_give last n (k + 1) ls ss cs rs behind in
-    (record r.0 { lines = record { number = k; form = l.form } ∷ r.0.lines }, ap (then_line k (Item l.form)) r.1, ap (λ (x : List Line). without_number l ∷ x) r.2, r.3, r.4)
-
-not_all : (n : ℕ) → n < 256 → eqb n 256 ≡ false
-not_all n h = grind (arith, nat_tests)
-
-cells_give : (last n : ℕ) (cs : List CellText) (rs : List RowText) → n + length cs ≤ 256 → Behind_gives last n (after_cells cs (Grid ∷ grid_rows rs)) cs rs
-cells_give last n [] rs few k =
-    let r = rows_again last (k + 1) rs in
-    (record { lines = []; end_line = r.0; cells = []; rows = rs }, ap (then_line k Grid) r.1, refl, refl)
-cells_give last n (c ∷ cs) rs few k =
-    let ss = after_lines c.lines (End ∷ after_cells cs (Grid ∷ grid_rows rs)) in
-    let r = lines_give last (n + 1) (k + 1) c.lines (after_cells cs (Grid ∷ grid_rows rs)) cs rs (cells_give last (n + 1) cs rs (omega arith)) in
-    let made : CellText = record { name = c.name; line = k; end_line = r.0.end_line; lines = r.0.lines } in
-    let may : cond (eqb n 256) (Err TooManyCells) (Ok (InCell (n + 1))) ≡ Ok (InCell (n + 1)) = else_branch (eqb n 256) (Err TooManyCells) (Ok (InCell (n + 1))) (not_all n (omega arith)) in (
-      record r.0 { lines = []; end_line = 0; cells = made ∷ r.0.cells },
-      ap (λ (next : Result Place StickKind). at_line k next >>= λ p. then_line k (Cell c.name) (rest_from last p (numbered (k + 1) ss))) may ∙ ap (then_line k (Cell c.name)) r.1,
-      ap (λ (x : List Line). record { name = c.name; line = 0; end_line = 0; lines = x } ∷ map without_numbers r.0.cells) r.2 ∙ ap (λ (x : List CellText). without_numbers c ∷ x) r.3,
-      r.4,
+-- behind the cells stands the rest, from some line on
+cells_shape : (k : ℕ) (cs : List CellText) (rest : List Statement) → (next : ℕ) × (numbered k (after_cells cs rest) ≡ flat_map cell_part (cells_from k cs) ++ numbered next rest)
+cells_shape k [] rest = (k, refl)
+cells_shape k (c ∷ cs) rest =
+    let end : ℕ = k + 1 + length c.lines in
+    let made : CellText = record { name = c.name; line = k; end_line = end; lines = lines_from (k + 1) c.lines } in
+    let others = cells_shape (end + 1) cs rest in (
+      others.0,
+      ap (λ (es : List Entry). saying k (Cell c.name) ∷ es) (lines_shape (k + 1) c.lines (End ∷ after_cells cs rest)
+          ∙ ap (λ (es : List Entry). map form_line (lines_from (k + 1) c.lines) ++ saying end End ∷ es) others.1)
+          ∙ sym (regroup made (flat_map cell_part (cells_from (end + 1) cs)) (numbered others.0 rest)),
     )
+
+rows_shape : (k : ℕ) (rs : List RowText) → (inner : List Entry) × (last : ℕ) × (numbered k (grid_rows rs) ≡ inner ++ saying last End ∷ []) × (map (λ entry. entry.said) inner ≡ map (λ row. Ok (Row row)) rs)
+rows_shape k [] = ([], k, refl, refl)
+rows_shape k (r ∷ rs) =
+    let others = rows_shape (k + 1) rs in
+    (saying k (Row r) ∷ others.0, others.1, ap (λ (es : List Entry). saying k (Row r) ∷ es) others.2, ap (λ (said : List (Result Statement StickKind)). Ok (Row r) ∷ said) others.3)
+
+design_shape : (d : Design) → AreLinesOf (laid_out d) (numbered 1 (statements d))
+design_shape d =
+    let cells = cells_shape 2 d.cells (Grid ∷ grid_rows d.grid) in
+    let rows = rows_shape (cells.0 + 1) d.grid in
+    record {
+      first = 1;
+      grid = numbered cells.0 (Grid ∷ grid_rows d.grid);
+      parts = ap (λ (es : List Entry). saying 1 Version ∷ es) cells.1;
+      grid_part = record { first = cells.0; inner = rows.0; last = rows.1; parts = ap (λ (es : List Entry). saying cells.0 Grid ∷ es) rows.2; each = rows.3 };
+    }
+
+same_count : (k : ℕ) (cs : List CellText) → length (cells_from k cs) ≡ length cs
+same_count k [] = refl
+same_count k (c ∷ cs) = ap suc (same_count (k + 1 + length c.lines + 1) cs)
+
+pub said_by_canonical : (d : Design) → IsWritable d → SaysDesign (canonical d) (laid_out d)
+said_by_canonical d h =
+    let ss = statements d in
+    let all = are_statements d h in
+    let in_lines : lines (canonical d) ≡ map body ss = ap lines (sym (text_of_design d)) ∙ lines_again ss all in
+    let in_entries : said_lines (canonical d) ≡ numbered 1 ss = ap (entries 1) in_lines ∙ entries_again 1 ss all in
+    record { has_lines = subst (AreLinesOf (laid_out d)) (sym in_entries) (design_shape d); few_cells = omega (arith, same_count 2 d.cells, h.few_cells) }
+
+-- ---- line numbers aside
+
+same_lines : (k : ℕ) (ls : List Line) → map without_number (lines_from k ls) ≡ map without_number ls
+same_lines k [] = refl
+same_lines k (l ∷ ls) = ap (λ (x : List Line). without_number l ∷ x) (same_lines (k + 1) ls)
+
+same_cells : (k : ℕ) (cs : List CellText) → map without_numbers (cells_from k cs) ≡ map without_numbers cs
+same_cells k [] = refl
+same_cells k (c ∷ cs) =
+    let next : ℕ = k + 1 + length c.lines + 1 in
+    ap (λ (x : List Line). record { name = c.name; line = 0; end_line = 0; lines = x } ∷ map without_numbers (cells_from next cs)) (same_lines (k + 1) c.lines) ∙ ap (λ (x : List CellText). without_numbers c ∷ x) (same_cells next cs)
 
 pub reads_back : (d : Design) → IsWritable d → ReadsAs (canonical d) d
-unfolding design_of
-reads_back d h =
-    let ss = statements d in
-    let text = canonical d in
-    let all = are_statements d h in
-    let given = cells_give (last_line text) 0 d.cells d.grid (omega (arith, h.few_cells)) 2 in
-    let in_lines : lines text ≡ map body ss = ap lines (sym (text_of_design d)) ∙ lines_again ss all in
-    let in_entries : entries 1 (lines text) ≡ numbered 1 ss = ap (entries 1) in_lines ∙ entries_again 1 ss all in
-    let whole : rest_from (last_line text) AtHead (entries 1 (lines text)) ≡ Ok given.0 = ap (rest_from (last_line text) AtHead) in_entries ∙ ap (then_line 1 Version) given.1 in (
-      record { cells = given.0.cells; grid = given.0.rows },
-      ap (λ (r : Result Rest StickFault). r >>= λ rest. Ok (record { cells = rest.cells; grid = rest.rows })) whole,
-      ap (λ (x : List CellText). record { cells = x; grid = given.0.rows }) given.2 ∙ ap (λ (x : List RowText). record { cells = map without_numbers d.cells; grid = x }) given.3,
-    )
+reads_back d h = (laid_out d, design_read (canonical d) (laid_out d) (said_by_canonical d h), ap (λ (x : List CellText). record { cells = x; grid = d.grid }) (same_cells 2 d.cells))

@@ -1,9 +1,14 @@
--- The same design, line numbers aside.
-use Rattle.std.specs.Prelude.{◌≡◌, ℕ, List, map, Ok}
+-- The design that the canonical text of a design says.
+use Rattle.std.specs.Prelude.{◌≡◌, ℕ, ◌+◌, List, [], ◌∷◌, map, length, Ok}
 use Rattle.stick_parse.specs.declared.design.Line.{Line}
 use Rattle.stick_parse.specs.declared.design.CellText.{CellText}
 use Rattle.stick_parse.specs.declared.design.Design.{Design}
 use Rattle.stick_parse.specs.Order.{design_of}
+use Rattle.stick_parse.specs.Says.{SaysDesign}
+use Rattle.stick_parse.specs.Writable.{IsWritable}
+use Rattle.stick_print.specs.Canonical.{canonical}
+
+-- ---- the same design, line numbers aside
 
 abbrev pub without_number : Line → Line
 without_number line = record { number = 0; form = line.form }
@@ -17,3 +22,25 @@ unnumbered design = record { cells = map without_numbers design.cells; grid = de
 -- the text says this design, line numbers aside
 abbrev pub ReadsAs : List ℕ → Design → Type 0
 ReadsAs text design = (read : Design) × (design_of text ≡ Ok read) × (unnumbered read ≡ unnumbered design)
+
+-- ---- the same design on lines that follow one another
+
+-- the first of these lines has this number, and each other one the next
+abbrev pub lines_from : ℕ → List Line → List Line
+lines_from number [] = []
+lines_from number (line ∷ lines) = record { number = number; form = line.form } ∷ lines_from (number + 1) lines
+
+-- the first of these cells begins at this line, and each other one behind the `end` of the one before it
+abbrev pub cells_from : ℕ → List CellText → List CellText
+cells_from number [] = []
+cells_from number (cell ∷ cells) =
+    let end = number + 1 + length cell.lines in
+    record { name = cell.name; line = number; end_line = end; lines = lines_from (number + 1) cell.lines } ∷ cells_from (end + 1) cells
+
+-- behind `sticks 1`, each line on the line behind the one before it
+abbrev pub laid_out : Design → Design
+laid_out design = record { cells = cells_from 2 design.cells; grid = design.grid }
+
+-- a design that has a text is what its canonical text says, line by line
+abbrev pub IsSaidByCanonical : Design → Type 0
+IsSaidByCanonical design = IsWritable design → SaysDesign (canonical design) (laid_out design)
