@@ -4,7 +4,7 @@ use Rattle.std.specs.List.{AllByRecursion}
 use Rattle.std.proofs.lemmas.List.Sums.{fold-append}
 use Rattle.stick_cell.specs.declared.steps.Step.{Step}
 use Rattle.stick_cell.specs.declared.steps.Step.TheVariants as steps
-use Rattle.stick_cell.specs.Known.{Known, begun, known_at, with_copy}
+use Rattle.stick_cell.specs.Known.{Known, begun, known_at}
 use Rattle.stick_cell.specs.Counts.{weight_of}
 use Rattle.stick_cell.specs.Steps.{apply, made_by, IsStep, AreStepsOf}
 use Rattle.list_facts.proofs.Elements.{all_append}
