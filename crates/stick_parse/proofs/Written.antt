@@ -6,7 +6,9 @@ use Rattle.stick_lex.specs.declared.token.Token.{Token}
 use Rattle.stick_lex.specs.declared.token.TokenKind.TheVariants as kinds
 use Rattle.stick_lex.specs.declared.token.LexFault.{LexFault}
 use Rattle.stick_lex.specs.declared.token.LexFault.TheVariants as lex_faults
-use Rattle.stick_lex.specs.Tokens.{is_name, is_path, is_number, is_minus, magnitude, value_of, spanning, token_of, text_of, tokens_of, IsTokenOf}
+use Rattle.stick_lex.specs.Runs.{Run, runs}
+use Rattle.stick_lex.specs.Tokens as Lexed
+use Rattle.stick_lex.specs.Tokens.{tokens_of_runs, is_name, is_path, is_number, is_minus, magnitude, value_of, spanning, token_of, text_of, tokens_of, IsTokenOf}
 use Rattle.stick_lex.proofs.Slices.{tokens_are_slices}
 use Rattle.stick_parse.specs.declared.fault.StickKind.{StickKind}
 use Rattle.stick_parse.specs.declared.fault.StickKind.TheVariants.{BadLine}
@@ -24,6 +26,7 @@ use Rattle.stick_parse.specs.declared.design.CellText.{CellText}
 use Rattle.stick_parse.specs.declared.design.Design.{Design}
 use Rattle.stick_parse.specs.declared.design.Statement.{Statement}
 use Rattle.stick_parse.specs.declared.design.Statement.TheVariants.{Version, Cell, Item, Grid, Row, End}
+use Rattle.stick_parse.specs.Laws.{IsWord}
 use Rattle.stick_parse.specs.Writable.{IsName, IsPath, IsCount, IsWidth, IsLower, IsForm, IsLine, IsRow, IsCell, IsWritable}
 use Rattle.stick_lex.specs.Numbers.{IsNumber}
 
@@ -37,12 +40,6 @@ then_holds P Q (Ok x) f h k = k x h
 then_holds P Q (Err e) f h k = tt
 
 -- ---- words
-
-abbrev pub IsWord : Word → Type 0
-IsWord (Path text) = IsPath text
-IsWord (Number n) = IsNumber n
-IsWord AtMost = Unit {0}
-IsWord AtLeast = Unit {0}
 
 abbrev pub AreWords : List Word → Type 0
 AreWords words = AllByRecursion IsWord words
@@ -87,6 +84,36 @@ token_word line t h =
 pub token_words : (line : List ℕ) (ts : List Token) → AllByRecursion (IsTokenOf line) ts → AreWords (map (word_of line) ts)
 token_words line [] h = tt
 token_words line (t ∷ ts) h = (token_word line t h.0, token_words line ts h.1)
+
+-- ---- faults
+
+third_by : (a b m c d : Bool) (run : Run) → cond a (Ok (spanning kinds.Path (pos 0) run)) (cond b (cond m (Ok (spanning kinds.Number (value_of run.text) run)) (Err (lex_faults.NumberTooLarge run.lo))) (cond c (Ok (spanning kinds.AtMost (pos 0) run)) (cond d (Ok (spanning kinds.AtLeast (pos 0) run)) (Err (lex_faults.BadByte run.lo))))) ≡ Err lex_faults.OutOfMemory → ⊥
+third_by true b m c d run e = absurd cc
+third_by false true true c d run e = absurd cc
+third_by false true false c d run e = absurd cc
+third_by false false m true d run e = absurd cc
+third_by false false m false true run e = absurd cc
+third_by false false m false false run e = absurd cc
+
+no_third_token : (run : Run) → token_of run ≡ Err lex_faults.OutOfMemory → ⊥
+unfolding token_of
+no_third_token run e = third_by (is_path run.text) (is_number run.text) (leb (magnitude run.text) 1000000) (bytes_eq run.text (codes "<=")) (bytes_eq run.text (codes ">=")) run e
+
+third_first : (first : Result Token LexFault) (rest : Result (List Token) LexFault) → (first ≡ Err lex_faults.OutOfMemory → ⊥) → (rest ≡ Err lex_faults.OutOfMemory → ⊥) → Lexed.◌>>=◌ first (λ token. Lexed.◌>>=◌ rest (λ tokens. Ok (token ∷ tokens))) ≡ Err lex_faults.OutOfMemory → ⊥
+third_first (Ok t) (Ok ts) h k e = absurd cc
+third_first (Ok t) (Err f) h k e = k cc
+third_first (Err f) rest h k e = h cc
+
+no_third : (rs : List Run) → tokens_of_runs rs ≡ Err lex_faults.OutOfMemory → ⊥
+no_third [] e = absurd cc
+no_third (run ∷ rs) e = third_first (token_of run) (tokens_of_runs rs) (no_third_token run) (no_third rs) e
+
+pub no_third_fault : (line : List ℕ) → ¬ (tokens_of line ≡ Err lex_faults.OutOfMemory)
+unfolding tokens_of
+no_third_fault line e = no_third (runs line) e
+
+pub words_in_range : (line : List ℕ) (ts : List Token) → tokens_of line ≡ Ok ts → AreWords (map (word_of line) ts)
+words_in_range line ts e = token_words line ts (tokens_are_slices line ts e)
 
 -- ---- readers
 

@@ -1,8 +1,15 @@
--- What the definitions of a text's design and of its first fault say of each other.
-use Rattle.std.specs.Prelude.{◌≡◌, ◌⊎◌, ℕ, List, Ok, Err}
+-- What the definitions of a text's design, of its first fault and of a line's words say of each other.
+use Rattle.std.specs.Prelude.{◌≡◌, ◌⊎◌, ℕ, List, map, Ok, Err}
+use Rattle.std.specs.List.{AllByRecursion}
+use Rattle.stick_lex.specs.declared.token.Token.{Token}
+use Rattle.stick_lex.specs.declared.token.LexFault.TheVariants as lex_faults
+use Rattle.stick_lex.specs.Numbers.{IsNumber}
+use Rattle.stick_lex.specs.Tokens.{tokens_of}
 use Rattle.stick_parse.specs.declared.fault.StickFault.{StickFault}
 use Rattle.stick_parse.specs.declared.design.Design.{Design}
+use Rattle.stick_parse.specs.Words.{Word, Path, Number, AtMost, AtLeast, word_of}
 use Rattle.stick_parse.specs.Order.{design_of}
+use Rattle.stick_parse.specs.Writable.{IsPath}
 use Rattle.stick_parse.specs.Says.{SaysDesign}
 use Rattle.stick_parse.specs.FirstFault.{IsFirstFault}
 
@@ -22,3 +29,15 @@ pub record HasOneAnswer (text : List ℕ) : Type 0 where
   pub one_design : (a b : Design) → SaysDesign text a → SaysDesign text b → a ≡ b
   pub one_fault : (a b : StickFault) → IsFirstFault text a → IsFirstFault text b → a ≡ b
   pub not_both : (design : Design) (fault : StickFault) → SaysDesign text design → ¬ IsFirstFault text fault
+
+-- what a word of a line can be: its path is one, and its number is at most a million from 0
+abbrev pub IsWord : Word → Type 0
+IsWord (Path text) = IsPath text
+IsWord (Number n) = IsNumber n
+IsWord AtMost = Unit {0}
+IsWord AtLeast = Unit {0}
+
+-- a line has such words, or a run that is no token, or a number that is too large, and no other fault
+pub record HasWordsInRange (line : List ℕ) : Type 0 where
+  pub words : (tokens : List Token) → tokens_of line ≡ Ok tokens → AllByRecursion IsWord (map (word_of line) tokens)
+  pub faults : ¬ (tokens_of line ≡ Err lex_faults.OutOfMemory)

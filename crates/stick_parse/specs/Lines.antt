@@ -11,7 +11,7 @@ use Rattle.stick_parse.specs.Reading.{◌>>=◌}
 use Rattle.stick_parse.specs.Words.{Word, word_of}
 use Rattle.stick_parse.specs.Forms.{statement_of}
 
--- a fault of a line's tokens as a fault of the text
+-- a fault of a line's tokens as a fault of the text; a law says that tokens have no third fault
 abbrev pub kind_of : LexFault → StickKind
 kind_of (lex_faults.BadByte lo) = BadByte
 kind_of (lex_faults.NumberTooLarge lo) = NumberTooLarge

@@ -54,7 +54,7 @@ number_at (Number n ∷ rest) = Ok (n, rest)
 number_at (AtMost ∷ rest) = Err BadLine
 number_at (AtLeast ∷ rest) = Err BadLine
 
--- a number that is not negative, nor past what a number may be
+-- a number that is not negative; past a million no word of a line has one, by a law, since its token is too large
 abbrev pub count_of : ℤ → List Word → Front ℕ
 count_of (pos n) rest = if nat_le n 1000000 then Ok (n, rest) else Err BadLine
 count_of (negsuc n) rest = Err BadLine

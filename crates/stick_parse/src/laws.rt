@@ -1,6 +1,6 @@
-//! What the definitions of a text's design and of its first fault say of each other.
+//! What the definitions of a text's design, of its first fault and of a line's words say of each other.
 
-ghost use Rattle.stick_parse.specs.Laws.{ReadsWhatIsSaid, RefusesFirstFault, HasOneAnswer};
+ghost use Rattle.stick_parse.specs.Laws.{ReadsWhatIsSaid, RefusesFirstFault, HasOneAnswer, HasWordsInRange};
 
 /// A law, with nothing to run: what is read of a text is the design whose lines, in order, the text has.
 pub fn reads_what_is_said(text: &[u8])
@@ -16,4 +16,10 @@ pub fn refuses_first_fault(text: &[u8])
 /// A law, with nothing to run: a text says one design or has one first fault, and never both.
 pub fn has_one_answer(text: &[u8])
     ensures { HasOneAnswer text.now }
+{}
+
+/// A law, with nothing to run: the words of a line are paths, numbers at most a million from 0, `<=` and `>=`; and the
+/// only faults of a line's tokens are a run that is no token and a number that is too large.
+pub fn has_words_in_range(line: &[u8])
+    ensures { HasWordsInRange line.now }
 {}

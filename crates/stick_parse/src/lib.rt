@@ -17,7 +17,7 @@ mod words;
 pub use design::{CellText, Design, Form, Layer, Line, RowText};
 pub use fault::{LineFault, ParseFault, StickFault, StickKind};
 pub use lam_geom::Side;
-pub use laws::{has_one_answer, reads_what_is_said, refuses_first_fault};
+pub use laws::{has_one_answer, has_words_in_range, reads_what_is_said, refuses_first_fault};
 pub use parsing::parse;
 
 #[cfg(test)]
