@@ -1,5 +1,5 @@
 -- The numbers of a technology file's table, or the first key at which there is none.
-use Rattle.std.specs.Prelude.{ℕ, ℤ, List, codes, Option, Some, None, Result, Ok, Err}
+use Rattle.std.specs.Prelude.{ℕ, ◌+◌, ℤ, List, codes, Option, Some, None, Result, Ok, Err}
 use Rattle.toml.specs.Data.{Data, Members, integer, table, get_member}
 use Rattle.rule_table.specs.declared.keys.Numbers.{Numbers}
 use Rattle.tech_file.specs.declared.faults.TechFileFault.{TechFileFault}
@@ -22,52 +22,26 @@ integer_in key name None = Err (Missing key)
 integer_in key name (Some (table ms)) = integer_at key (get_member name ms)
 integer_in key name (Some _) = Err (WrongType key)
 
--- the numbers of one table, in the order of their keys; the spacings in two parts
-unfoldable pub widths : Option Data → Result (ℤ × ℤ × ℤ) TechFileFault
-widths t = do
-  diffusion ← integer_in 2 (codes "diffusion") t
-  poly ← integer_in 3 (codes "poly") t
-  metal ← integer_in 4 (codes "metal") t
-  Ok (diffusion, poly, metal)
-
-unfoldable pub layer_spacings : Option Data → Result (ℤ × ℤ × ℤ × ℤ) TechFileFault
-layer_spacings t = do
-  diffusion ← integer_in 5 (codes "diffusion") t
-  poly ← integer_in 6 (codes "poly") t
-  metal ← integer_in 7 (codes "metal") t
-  poly_diffusion ← integer_in 8 (codes "poly_diffusion") t
-  Ok (diffusion, poly, metal, poly_diffusion)
-
-unfoldable pub cut_spacings : Option Data → Result (ℤ × ℤ × ℤ) TechFileFault
-cut_spacings t = do
-  cut ← integer_in 9 (codes "cut") t
-  cut_channel ← integer_in 10 (codes "cut_channel") t
-  implant_channel ← integer_in 11 (codes "implant_channel") t
-  Ok (cut, cut_channel, implant_channel)
-
-unfoldable pub extensions : Option Data → Result (ℤ × ℤ × ℤ) TechFileFault
-extensions t = do
-  poly ← integer_in 12 (codes "poly") t
-  diffusion ← integer_in 13 (codes "diffusion") t
-  implant ← integer_in 14 (codes "implant") t
-  Ok (poly, diffusion, implant)
-
-unfoldable pub cuts : Option Data → Result (ℤ × ℤ) TechFileFault
-cuts t = do
-  size ← integer_in 15 (codes "size") t
-  enclosure ← integer_in 16 (codes "enclosure") t
-  Ok (size, enclosure)
+-- the integers at three names in the table that stands there, whose keys follow one another
+unfoldable pub three_in : ℕ → List ℕ → List ℕ → List ℕ → Option Data → Result (ℤ × ℤ × ℤ) TechFileFault
+three_in first a b c t = do
+  x ← integer_in first a t
+  y ← integer_in (first + 1) b t
+  z ← integer_in (first + 2) c t
+  Ok (x, y, z)
 
 -- all numbers, or the first fault of a key
 unfoldable pub numbers_in : Members → Result Numbers TechFileFault
 numbers_in top = do
   version ← integer_at 0 (get_member (codes "version") top)
   unit ← integer_at 1 (get_member (codes "unit") top)
-  width ← widths (get_member (codes "width") top)
-  spacing ← layer_spacings (get_member (codes "spacing") top)
-  cut_spacing ← cut_spacings (get_member (codes "spacing") top)
-  extension ← extensions (get_member (codes "extension") top)
-  cut ← cuts (get_member (codes "cut") top)
+  width ← three_in 2 (codes "diffusion") (codes "poly") (codes "metal") (get_member (codes "width") top)
+  spacing ← three_in 5 (codes "diffusion") (codes "poly") (codes "metal") (get_member (codes "spacing") top)
+  poly_diffusion ← integer_in 8 (codes "poly_diffusion") (get_member (codes "spacing") top)
+  cut_spacing ← three_in 9 (codes "cut") (codes "cut_channel") (codes "implant_channel") (get_member (codes "spacing") top)
+  extension ← three_in 12 (codes "poly") (codes "diffusion") (codes "implant") (get_member (codes "extension") top)
+  cut_size ← integer_in 15 (codes "size") (get_member (codes "cut") top)
+  cut_enclosure ← integer_in 16 (codes "enclosure") (get_member (codes "cut") top)
   Ok (record {
     version = version;
     unit = unit;
@@ -77,13 +51,13 @@ numbers_in top = do
     spacing_diffusion = spacing.0;
     spacing_poly = spacing.1;
     spacing_metal = spacing.2;
-    spacing_poly_diffusion = spacing.3;
+    spacing_poly_diffusion = poly_diffusion;
     spacing_cut = cut_spacing.0;
     spacing_cut_channel = cut_spacing.1;
     spacing_implant_channel = cut_spacing.2;
     extension_poly = extension.0;
     extension_diffusion = extension.1;
     extension_implant = extension.2;
-    cut_size = cut.0;
-    cut_enclosure = cut.1;
+    cut_size = cut_size;
+    cut_enclosure = cut_enclosure;
   })

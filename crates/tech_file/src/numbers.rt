@@ -1,8 +1,8 @@
 //! The numbers of a technology file's table.
-ghost use Rattle.std.specs.Prelude.{◌≡◌, option_map};
+ghost use Rattle.std.specs.Prelude.{◌≡◌, ◌<◌, option_map};
 ghost use Rattle.toml.specs.Data.{get_member};
 ghost use Rattle.toml.specs.View.{view, table_view};
-ghost use Rattle.tech_file.specs.Numbers.{integer_at, integer_in, widths, layer_spacings, cut_spacings, extensions, cuts, numbers_in};
+ghost use Rattle.tech_file.specs.Numbers.{integer_at, integer_in, three_in, numbers_in};
 
 use crate::faults::TechFileFault;
 use rule_table::Numbers;
@@ -15,11 +15,17 @@ pub(crate) fn numbers(top: &Table) -> Result<Numbers, TechFileFault>
 {
     let version = integer_at(0, found(top, "version"))?;
     let unit = integer_at(1, found(top, "unit"))?;
-    let width = widths(found(top, "width"))?;
-    let spacing = layer_spacings(found(top, "spacing"))?;
-    let cut_spacing = cut_spacings(found(top, "spacing"))?;
-    let extension = extensions(found(top, "extension"))?;
-    let cut = cuts(found(top, "cut"))?;
+    let widths = found(top, "width");
+    let width = three_in(2, "diffusion", "poly", "metal", widths)?;
+    let spacings = found(top, "spacing");
+    let spacing = three_in(5, "diffusion", "poly", "metal", spacings)?;
+    let spacing_poly_diffusion = integer_in(8, "poly_diffusion", spacings)?;
+    let cut_spacing = three_in(9, "cut", "cut_channel", "implant_channel", spacings)?;
+    let extensions = found(top, "extension");
+    let extension = three_in(12, "poly", "diffusion", "implant", extensions)?;
+    let cut = found(top, "cut");
+    let cut_size = integer_in(15, "size", cut)?;
+    let cut_enclosure = integer_in(16, "enclosure", cut)?;
     Ok(Numbers {
         version,
         unit,
@@ -29,15 +35,15 @@ pub(crate) fn numbers(top: &Table) -> Result<Numbers, TechFileFault>
         spacing_diffusion: spacing.0,
         spacing_poly: spacing.1,
         spacing_metal: spacing.2,
-        spacing_poly_diffusion: spacing.3,
+        spacing_poly_diffusion,
         spacing_cut: cut_spacing.0,
         spacing_cut_channel: cut_spacing.1,
         spacing_implant_channel: cut_spacing.2,
         extension_poly: extension.0,
         extension_diffusion: extension.1,
         extension_implant: extension.2,
-        cut_size: cut.0,
-        cut_enclosure: cut.1,
+        cut_size,
+        cut_enclosure,
     })
 }
 
@@ -50,54 +56,22 @@ pub(crate) fn found<'a>(table: &'a Table, name: &str) -> Option<&'a Value>
 
 type Found<'a> = Option<&'a Value>;
 
-#[tactic(auto, unfolding(crate::specs::Numbers::widths))]
-fn widths(table: Found) -> Result<(i64, i64, i64), TechFileFault>
-    ensures { result ≡ widths (option_map (λ v. view v.now) table.entry) }
+/// The integers at three names in the table that was found, whose keys follow one another.
+#[tactic(auto, unfolding(crate::specs::Numbers::three_in))]
+fn three_in(
+    first: u8,
+    a: &str,
+    b: &str,
+    c: &str,
+    table: Found,
+) -> Result<(i64, i64, i64), TechFileFault>
+    requires { first < 254 }
+    ensures { result ≡ three_in first a.now b.now c.now (option_map (λ v. view v.now) table.entry) }
 {
-    let diffusion = integer_in(2, "diffusion", table)?;
-    let poly = integer_in(3, "poly", table)?;
-    let metal = integer_in(4, "metal", table)?;
-    Ok((diffusion, poly, metal))
-}
-
-#[tactic(auto, unfolding(crate::specs::Numbers::layer_spacings))]
-fn layer_spacings(table: Found) -> Result<(i64, i64, i64, i64), TechFileFault>
-    ensures { result ≡ layer_spacings (option_map (λ v. view v.now) table.entry) }
-{
-    let diffusion = integer_in(5, "diffusion", table)?;
-    let poly = integer_in(6, "poly", table)?;
-    let metal = integer_in(7, "metal", table)?;
-    let poly_diffusion = integer_in(8, "poly_diffusion", table)?;
-    Ok((diffusion, poly, metal, poly_diffusion))
-}
-
-#[tactic(auto, unfolding(crate::specs::Numbers::cut_spacings))]
-fn cut_spacings(table: Found) -> Result<(i64, i64, i64), TechFileFault>
-    ensures { result ≡ cut_spacings (option_map (λ v. view v.now) table.entry) }
-{
-    let cut = integer_in(9, "cut", table)?;
-    let cut_channel = integer_in(10, "cut_channel", table)?;
-    let implant_channel = integer_in(11, "implant_channel", table)?;
-    Ok((cut, cut_channel, implant_channel))
-}
-
-#[tactic(auto, unfolding(crate::specs::Numbers::extensions))]
-fn extensions(table: Found) -> Result<(i64, i64, i64), TechFileFault>
-    ensures { result ≡ extensions (option_map (λ v. view v.now) table.entry) }
-{
-    let poly = integer_in(12, "poly", table)?;
-    let diffusion = integer_in(13, "diffusion", table)?;
-    let implant = integer_in(14, "implant", table)?;
-    Ok((poly, diffusion, implant))
-}
-
-#[tactic(auto, unfolding(crate::specs::Numbers::cuts))]
-fn cuts(table: Found) -> Result<(i64, i64), TechFileFault>
-    ensures { result ≡ cuts (option_map (λ v. view v.now) table.entry) }
-{
-    let size = integer_in(15, "size", table)?;
-    let enclosure = integer_in(16, "enclosure", table)?;
-    Ok((size, enclosure))
+    let x = integer_in(first, a, table)?;
+    let y = integer_in(first + 1, b, table)?;
+    let z = integer_in(first + 2, c, table)?;
+    Ok((x, y, z))
 }
 
 /// The integer at a name in the table that was found.
