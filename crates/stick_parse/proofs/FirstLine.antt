@@ -18,7 +18,7 @@ pub not_found : (b : Bool) (n : ℕ) → cond b (Some n) None ≡ None → b ≡
 not_found true n e = absurd cc
 not_found false n e = refl
 
-line_of_parts : (part : List ℕ) (parts : List (List ℕ)) → 0 < length parts → lines_of_parts (part ∷ parts) ≡ strip_carriage_return part ∷ lines_of_parts parts
+pub line_of_parts : (part : List ℕ) (parts : List (List ℕ)) → 0 < length parts → lines_of_parts (part ∷ parts) ≡ strip_carriage_return part ∷ lines_of_parts parts
 line_of_parts part [] h = absurd (omega arith)
 line_of_parts part (p ∷ parts) h = refl
 

@@ -77,7 +77,7 @@ path_some : (w : List ℕ) → is_path w ≡ true → 0 < length w
 path_some [] h = absurd cc
 path_some (b ∷ bs) h = omega arith
 
-first_branch : {A : Type 0} (b : Bool) (x y : A) → b ≡ true → cond b x y ≡ x
+pub first_branch : {A : Type 0} (b : Bool) (x y : A) → b ≡ true → cond b x y ≡ x
 first_branch true x y e = refl
 first_branch false x y e = absurd cc
 
@@ -131,7 +131,7 @@ no_path c cs h dots = ap (list_all is_name) (one_name (c ∷ cs) dots) ∙ ap (�
 no_minus : (c : ℕ) → 48 ≤ c → is_minus c ≡ false
 no_minus c h = grind (arith, nat_tests)
 
-else_branch : {A : Type 0} (b : Bool) (x y : A) → b ≡ false → cond b x y ≡ y
+pub else_branch : {A : Type 0} (b : Bool) (x y : A) → b ≡ false → cond b x y ≡ y
 else_branch true x y e = absurd cc
 else_branch false x y e = refl
 

@@ -1,5 +1,5 @@
 -- A printed line says what it was printed from.
-use Rattle.std.proofs.Common.{◌≡◌, ℕ, ◌<◌, ◌≤◌, ℤ, pos, Bool, true, false, cond, leb, List, [], ◌∷◌, ◌++◌, length, map, Option, Some, None, Result, Ok, refl, ap, ◌∙◌, arith, codes, lit<, lit≤}
+use Rattle.std.proofs.Common.{◌≡◌, ℕ, ◌<◌, ◌≤◌, ℤ, pos, Bool, true, false, leb, List, [], ◌∷◌, ◌++◌, length, map, Option, Some, None, Result, Ok, refl, ap, ◌∙◌, arith, codes, lit<, lit≤}
 use Rattle.std.specs.List.{AllByRecursion}
 use Rattle.std.proofs.lemmas.Bool.{le-leb}
 use Rattle.stick_lex.specs.declared.token.Token.{Token}
@@ -20,8 +20,8 @@ use Rattle.stick_parse.specs.Forms.{joint_of, contact_of, fet_of, port_of, use_o
 use Rattle.stick_parse.specs.Lines.{tokens_or_kind, said_by_words, said_by}
 use Rattle.stick_parse.specs.Writable.{IsName, IsWidth, IsLower, IsForm, IsRow}
 use Rattle.stick_print.specs.Canonical.{layer_word, side_word, kind_word, direction_word, axis_word, bound_word, width_words, form_keyword, form_words, keyword_of, words_of, spaced}
-use Rattle.stick_print.proofs.Split.{Says, AllSay, words_again}
-use Rattle.stick_print.proofs.Spelled.{says_name, says_path, says_count, says_number, says_at_most, says_at_least, says_digits}
+use Rattle.stick_print.proofs.Split.{IsPlain, Says, AllSay, plain_texts, words_again}
+use Rattle.stick_print.proofs.Spelled.{first_branch, says_name, says_path, says_count, says_number, says_at_most, says_at_least, says_digits}
 
 -- ---- what the words behind the keyword say
 
@@ -134,10 +134,6 @@ keyword_path (Row row) = refl
 keyword_path End = refl
 
 -- ---- each reader finds it
-
-first_branch : {A : Type 0} (b : Bool) (x y : A) → b ≡ true → cond b x y ≡ x
-first_branch true x y e = refl
-first_branch false x y e = absurd cc
 
 name_again : (w : List ℕ) (rest : List Word) → is_name w ≡ true → name_at (Path w ∷ rest) ≡ Ok (w, rest)
 unfolding name_at path_at
@@ -315,10 +311,10 @@ line_again statement h =
     ∙ by_words (said statement) statement (Path (keyword_of statement)) (statement_again statement h)
 
 -- a line has no line end in it
-pub plain_words : (statement : Statement) → IsStatement statement → AllByRecursion (AllByRecursion Rattle.stick_print.proofs.Split.IsPlain) (words_of statement)
-plain_words statement h = Rattle.stick_print.proofs.Split.plain_texts (words_of statement) (said statement) (says_words statement h)
+pub plain_words : (statement : Statement) → IsStatement statement → AllByRecursion (AllByRecursion IsPlain) (words_of statement)
+plain_words statement h = plain_texts (words_of statement) (said statement) (says_words statement h)
 
-pub plain_keyword : (statement : Statement) → AllByRecursion Rattle.stick_print.proofs.Split.IsPlain (keyword_of statement)
+pub plain_keyword : (statement : Statement) → AllByRecursion IsPlain (keyword_of statement)
 plain_keyword statement = (says_path (keyword_of statement) (keyword_path statement)).plain
 
 pub some_keyword : (statement : Statement) → 0 < length (keyword_of statement)

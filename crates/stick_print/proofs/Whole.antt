@@ -1,10 +1,10 @@
 -- The whole canonical text says the design again, each line behind the one before it.
-use Rattle.std.proofs.Common.{◌≡◌, ℕ, suc, ◌+◌, ◌-◌, ◌<◌, ◌≤◌, Bool, true, false, cond, eqb, List, [], ◌∷◌, ◌++◌, length, get_or, take, map, Option, Result, Ok, refl, sym, ap, subst, ◌∙◌, append_assoc, arith}
+use Rattle.std.proofs.Common.{◌≡◌, ℕ, suc, ◌+◌, ◌-◌, ◌<◌, ◌≤◌, false, eqb, List, [], ◌∷◌, ◌++◌, length, get_or, take, map, Option, Result, Ok, refl, sym, ap, subst, ◌∙◌, append_assoc, arith}
 use Rattle.std.specs.List.{slice_split, flat_map, AllByRecursion}
 use Rattle.std.specs.Str.Lines.{lines, lines_of_parts, strip_carriage_return}
 use Rattle.std.proofs.lemmas.List.Elements.{All-from_recursion}
 use Rattle.std.proofs.lemmas.List.Splits.{slice_split_at, length-slice_split}
-use Rattle.std.proofs.lemmas.List.{length-append}
+use Rattle.std.proofs.lemmas.List.{append-nil, length-append}
 use Rattle.std.proofs.lemmas.Bool.Decides.{nat_tests}
 use Rattle.stick_parse.specs.declared.fault.StickKind.{StickKind}
 use Rattle.stick_parse.specs.declared.design.Line.{Line}
@@ -15,10 +15,12 @@ use Rattle.stick_parse.specs.declared.design.Statement.{Statement}
 use Rattle.stick_parse.specs.declared.design.Statement.TheVariants.{Version, Cell, Item, Grid, Row, End}
 use Rattle.stick_parse.specs.Lines.{Entry, with_entry, entries}
 use Rattle.stick_parse.specs.Says.{saying, form_line, cell_part, AreLinesOf, said_lines, SaysDesign}
+use Rattle.stick_parse.proofs.FirstLine.{line_of_parts}
 use Rattle.stick_parse.proofs.Shapes.{regroup, design_read}
 use Rattle.stick_parse.specs.Writable.{IsLine, IsRow, IsCell, IsWritable}
 use Rattle.stick_print.specs.Canonical.{keyword_of, words_of, spaced, line_of, item_line, row_line, cell_lines, canonical}
 use Rattle.stick_print.specs.ReadBack.{without_number, without_numbers, lines_from, cells_from, laid_out, ReadsAs}
+use Rattle.stick_print.proofs.Spelled.{else_branch}
 use Rattle.stick_print.proofs.Split.{IsInner, inner_line, inner_at}
 use Rattle.stick_print.proofs.Statements.{IsStatement, body, line_again, plain_words, plain_keyword, some_keyword}
 
@@ -37,16 +39,8 @@ no_ends (b ∷ bs) h = (no_end b h.0, no_ends bs h.1)
 no_return : (b : ℕ) → IsInner b → eqb b 13 ≡ false
 no_return b h = let low : 32 ≤ b = h.0 in grind (arith, nat_tests)
 
-else_branch : {A : Type 0} (b : Bool) (x y : A) → b ≡ false → cond b x y ≡ y
-else_branch true x y e = absurd cc
-else_branch false x y e = refl
-
 kept_whole : (line : List ℕ) → 0 < length line → AllByRecursion IsInner line → strip_carriage_return line ≡ line
 kept_whole line some h = else_branch (eqb (get_or line (length line - 1) 0) 13) (take (length line - 1) line) line (no_return (get_or line (length line - 1) 0) (inner_at line (length line - 1) h (omega arith)))
-
-line_in_front : (part : List ℕ) (parts : List (List ℕ)) → 0 < length parts → lines_of_parts (part ∷ parts) ≡ strip_carriage_return part ∷ lines_of_parts parts
-line_in_front part [] h = absurd (omega arith)
-line_in_front part (p ∷ parts) h = refl
 
 body_line : (s : Statement) (rest : List ℕ) → line_of s ++ rest ≡ body s ++ 10 ∷ rest
 unfolding line_of
@@ -61,7 +55,7 @@ lines_again (s ∷ ss) h =
     let rest : List ℕ = flat_map line_of ss in
     let inner = inner_body s h.0 in
     let split : slice_split (λ b. eqb b 10) (body s ++ 10 ∷ rest) ≡ body s ∷ slice_split (λ b. eqb b 10) rest = slice_split_at (λ b. eqb b 10) (body s) 10 rest (All-from_recursion (λ b. eqb b 10 ≡ false) (body s) (no_ends (body s) inner)) refl in
-    ap lines (body_line s rest) ∙ ap lines_of_parts split ∙ line_in_front (body s) (slice_split (λ b. eqb b 10) rest) (omega (arith, length-slice_split (λ b. eqb b 10) rest))
+    ap lines (body_line s rest) ∙ ap lines_of_parts split ∙ line_of_parts (body s) (slice_split (λ b. eqb b 10) rest) (omega (arith, length-slice_split (λ b. eqb b 10) rest))
     ∙ ap (λ (l : List ℕ). l ∷ lines rest) (kept_whole (body s) (some_body s) inner)
     ∙ ap (λ (ls : List (List ℕ)). body s ∷ ls) (lines_again ss h.1)
 
@@ -112,7 +106,7 @@ text_of_cells (c ∷ cs) rest =
     ∙ sym (append_assoc (name ++ (items ++ line_of End)) (flat_map cell_lines cs) (flat_map line_of rest))
 
 text_of_rows : (rs : List RowText) → flat_map line_of (grid_rows rs) ≡ flat_map row_line rs ++ line_of End
-text_of_rows [] = Rattle.std.proofs.lemmas.List.append-nil (line_of End)
+text_of_rows [] = append-nil (line_of End)
 text_of_rows (r ∷ rs) = ap (λ (t : List ℕ). row_line r ++ t) (text_of_rows rs) ∙ sym (append_assoc (row_line r) (flat_map row_line rs) (line_of End))
 
 text_of_design : (d : Design) → flat_map line_of (statements d) ≡ canonical d
