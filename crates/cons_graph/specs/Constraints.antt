@@ -1,4 +1,4 @@
-use Rattle.std.specs.Prelude.{◌≡◌, ◌≢◌, ℕ, ◌^◌, ◌<◌, ◌≤◌, pos, neg_ℤ, ◌≤ℤ◌, List, All, Any}
+use Rattle.std.specs.Prelude.{◌≡◌, ◌≢◌, ℕ, ◌^◌, ◌<◌, ◌≤◌, pos, neg_ℤ, ◌≤ℤ◌, List, All, Any, length}
 use Rattle.cons_graph.specs.declared.edges.Edge.{Edge}
 
 -- what a graph is to its callers: how many variables it has, and the list of its edges
@@ -31,3 +31,8 @@ pub record IsConstraintGraph (g : Constraints) : Type 0 where
   pub few_vars : g.vars ≤ 2 ^ 17
   pub edges_among : All (IsEdgeAmong g.vars) g.edges
   pub all_from_origin : (v : ℕ) → 1 ≤ v → v < g.vars → Any (LeadsFromOrigin v) g.edges
+
+-- a constraint graph of at most 4,194,304 edges
+pub record IsSmallGraph (g : Constraints) : Type 0 where
+  pub shape : IsConstraintGraph g
+  pub few : length g.edges ≤ 4194304

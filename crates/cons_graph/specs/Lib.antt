@@ -2,6 +2,5 @@ pub mod Constraints
 pub mod Solutions
 pub mod Walks
 pub mod EdgeNumbers
-pub mod Index
 pub mod SimpleWalks
 pub mod Lines

@@ -1,13 +1,10 @@
 ghost use Rattle.std.specs.Prelude.{◌≡◌, ◌↔◌, ℕ, ◌^◌, ◌<◌, ◌≤◌, ℤ, pos, neg_ℤ, ◌≤ℤ◌, length, All, IsTrue, IfOk, vec_len};
 ghost use Rattle.cons_graph.specs.Constraints.{Constraints, IsConstraintGraph, IsEdgeAmong};
 ghost use Rattle.cons_graph.specs.Solutions.{Meets, value_of};
-ghost use Rattle.cons_graph.specs.EdgeNumbers.{leaving};
 ghost use Rattle.cons_graph.specs.SimpleWalks.{length_of, WalksFromTo, IsSimplePositiveCycle};
 
-use crate::edge_index::{EdgeIndex, index_of};
 use crate::edges::Edge;
 use crate::walks::{leads, length_of_edges, no_tail_below, no_tail_twice};
-use std::alloc::{AllocError, Global};
 use std::marker::Model;
 use thiserror::Error;
 
@@ -20,8 +17,6 @@ pub enum GraphFault {
     /// There are more than 4,194,304 edges.
     #[error("too many edges")]
     TooManyEdges,
-    #[error("out of memory")]
-    OutOfMemory,
 }
 
 /// A constraint graph: variables 0, the origin, to `vars - 1`, and a list of edges among them.
@@ -29,26 +24,23 @@ pub enum GraphFault {
 pub struct Graph {
     vars: u32,
     edges: Vec<Edge>,
-    index: EdgeIndex,
 }
 
 impl Model for Graph {
-    ghost use Rattle.cons_graph.specs.Constraints.{Constraints};
-    ghost use Rattle.cons_graph.specs.Index.{IsIndexedGraph};
+    ghost use Rattle.cons_graph.specs.Constraints.{Constraints, IsSmallGraph};
 
     ghost Value = { Constraints };
 
     ghost view = { λ g. record { vars = g.vars; edges = g.edges.items } };
 
-    ghost invariant = { λ g. IsIndexedGraph g.vars g.edges.items g.index.starts.items
-        g.index.ends.items g.index.numbers.items };
+    ghost invariant = { λ g. IsSmallGraph (record { vars = g.vars; edges = g.edges.items }) };
 }
 
 impl Graph {
-    /// Makes a graph of a list of edges, which it keeps as it is, and finds out which edges leave each variable.
+    /// Makes a graph of a list of edges, which it keeps as it is. Takes no memory.
     ///
     /// `TooManyEdges` comes exactly where there are more than 4,194,304 edges.
-    pub fn new(alloc: Global, vars: u32, edges: Vec<Edge>) -> Result<Graph, GraphFault>
+    pub fn new(vars: u32, edges: Vec<Edge>) -> Result<Graph, GraphFault>
         requires { IsConstraintGraph (record { vars = vars; edges = edges.items }) }
         ensures too_many { (result ≡ Err GraphFault.TooManyEdges) ↔ (4194304 < vec_len edges) }
         ensures ok { IfOk result (λ g. g ≡ record { vars = vars; edges = edges.items }) }
@@ -56,10 +48,7 @@ impl Graph {
         if edges.len() > MAX_EDGES {
             return Err(GraphFault::TooManyEdges);
         }
-        let Ok(index) = index_of(alloc, vars, &edges) else {
-            return Err(GraphFault::OutOfMemory);
-        };
-        Ok(Graph { vars, edges, index })
+        Ok(Graph { vars, edges })
     }
 
     /// The list of edges, as it was given. Takes no memory.
@@ -77,15 +66,6 @@ impl Graph {
         ensures shape { IsConstraintGraph self.now }
     {
         self.vars
-    }
-
-    /// The numbers of the edges that leave a variable, in order of the list. Takes no memory.
-    pub fn out_of(&self, v: u32) -> &[u32]
-        requires { v < self.now.vars }
-        ensures { result.now ≡ leaving self.now.edges v }
-    {
-        let v = v as usize;
-        &self.index.numbers[self.index.starts[v] as usize..self.index.ends[v] as usize]
     }
 
     /// Whether the values, one for each variable, make every edge's inequality true. Takes no memory.

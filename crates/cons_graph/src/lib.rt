@@ -4,7 +4,6 @@
 #![tactic(auto)]
 
 mod constraint_graph;
-mod edge_index;
 mod edges;
 mod laws;
 mod lines;

@@ -2,11 +2,13 @@ ghost use Rattle.std.specs.Prelude.{◌≡◌, ◌<◌, length, fold, All, IfOk,
 ghost use Rattle.round_log.specs.Looks.{look, backward_numbers};
 ghost use Rattle.cons_graph.specs.EdgeNumbers.{edge_at};
 ghost use Rattle.round_log.specs.Rounds.{plan_of, forward_part, backward_part};
+ghost use Rattle.edge_index.specs.Runs.{IsIndexOf};
 ghost use Rattle.liao_wong.specs.Going.{IsReady, forward_of};
 
 use crate::looks::{goes_up, raise_at};
 use crate::raises::Raises;
 use cons_graph::{Edge, Graph};
+use edge_index::EdgeIndex;
 use std::alloc::AllocError;
 
 // An order of the variables, and the place of each in it.
@@ -17,15 +19,22 @@ pub struct Order<'a> {
 }
 
 // The forward part of a round: looks at the forward edges, by their tails in order.
-pub fn look_forward(raises: &mut Raises, g: &Graph, order: &Order) -> Result<(), AllocError>
-    requires { IsReady g.now.vars g.now.edges order.now.variables.now order.now.places.items raises.old }
+pub fn look_forward(
+    raises: &mut Raises,
+    g: &Graph,
+    index: &EdgeIndex,
+    order: &Order,
+) -> Result<(), AllocError>
+    requires ready { IsReady g.now.vars g.now.edges order.now.variables.now
+        order.now.places.items raises.old }
+    requires index { IsIndexOf g.now index.now }
     ensures { OnOk result (raises.new ≡ record {
       vars = g.now.vars;
       raises = forward_part (plan_of g.now.edges order.now.variables.now) raises.old.raises;
     }) }
 {
     for v in order.variables {
-        look_at_forward(raises, g.edges(), g.out_of(*v), order)?;
+        look_at_forward(raises, g.edges(), index.out_of(*v), order)?;
     }
     Ok(())
 }

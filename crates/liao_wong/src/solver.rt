@@ -9,6 +9,7 @@ use crate::looks::goes_up;
 use crate::raises::Raises;
 use crate::rounds::{Order, look_backward, look_forward};
 use cons_graph::{Edge, Graph};
+use edge_index::EdgeIndex;
 use std::alloc::{AllocError, Global};
 
 // The place of each variable in an order of them.
@@ -26,7 +27,12 @@ pub fn places_of(alloc: Global, order: &[u32]) -> Result<Vec<u32>, AllocError>
 
 // Runs the rounds from the log without a raise until they end, and gives the number of the last one; or until a raise
 // stops them, and gives None.
-pub fn run_rounds(raises: &mut Raises, g: &Graph, order: &Order) -> Result<Option<u32>, AllocError>
+pub fn run_rounds(
+    alloc: Global,
+    raises: &mut Raises,
+    g: &Graph,
+    order: &Order,
+) -> Result<Option<u32>, AllocError>
     requires start { StartsEmpty g.now raises.old }
     requires few { length g.now.edges ≤ 4194304 }
     requires names { NamesEachOnce g.now.vars order.now.variables.now }
@@ -39,9 +45,10 @@ pub fn run_rounds(raises: &mut Raises, g: &Graph, order: &Order) -> Result<Optio
     ensures stopped { IfOk result (λ o. IfNone o
         (IsStoppedLog g.now order.now.variables.now raises.new.raises)) }
 {
+    let index = EdgeIndex::new(alloc, g)?;
     let mut rounds = 0u32;
     'rounds: loop {
-        look_forward(raises, g, order)?;
+        look_forward(raises, g, &index, order)?;
         let before = raises.len();
         if look_backward(raises, g, order)? {
             return Ok(None);

@@ -75,7 +75,7 @@ pub fn solve(alloc: Global, g: &Graph, order: &[u32]) -> Result<Solved, Unsolved
     let Ok(mut raises) = Raises::new(alloc, g.vars()) else {
         return Err(Unsolved::OutOfMemory);
     };
-    match run_rounds(&mut raises, g, &order) {
+    match run_rounds(alloc, &mut raises, g, &order) {
         Err(AllocError) => Err(Unsolved::OutOfMemory),
         Ok(None) => Err(cycle_at(alloc, g, &order, raises)),
         Ok(Some(rounds)) => match read_out(alloc, g, &order, raises, backward, rounds) {

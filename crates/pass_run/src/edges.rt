@@ -169,9 +169,8 @@ pub fn list(
     };
     push_spaces(&mut edges, axis, items, &pairs)?;
     let count = pairs.len() as u32;
-    match Graph::new(alloc, vars_of(axis, &master.items), edges) {
+    match Graph::new(vars_of(axis, &master.items), edges) {
         Ok(graph) => Ok(Listed { graph, kept: count }),
         Err(GraphFault::TooManyEdges) => Err(ListFault::TooManyEdges),
-        Err(GraphFault::OutOfMemory) => Err(ListFault::OutOfMemory),
     }
 }

@@ -1,4 +1,4 @@
-ghost use Rattle.std.specs.Prelude.{◌≡◌, ◌+◌, ◌<◌, ◌≤◌, IfOk, OnOk};
+ghost use Rattle.std.specs.Prelude.{◌≡◌, ◌+◌, ◌<◌, ◌≤◌, IfOk, OnOk, IfSome};
 ghost use Rattle.cons_graph.specs.Constraints.{IsConstraintGraph, IsEdgeAmong};
 ghost use Rattle.round_log.specs.Orders.{IsOrder};
 
@@ -93,13 +93,16 @@ fn edges_of(alloc: Global, size: &Size) -> Result<Vec<Edge>, AllocError>
     Ok(edges)
 }
 
-/// The graph of the given size.
-pub fn graph_of(alloc: Global, size: &Size) -> Result<Graph, GraphFault>
-    ensures { IfOk result (λ g. g.vars ≡ size.now.vars) }
+/// The graph of the given size, or None where there is no memory for it.
+pub fn graph_of(alloc: Global, size: &Size) -> Option<Graph>
+    ensures { IfSome result (λ g. g.vars ≡ size.now.vars) }
 {
-    match edges_of(alloc, size) {
-        Ok(edges) => Graph::new(alloc, size.vars, edges),
-        Err(AllocError) => Err(GraphFault::OutOfMemory),
+    let Ok(edges) = edges_of(alloc, size) else {
+        return None;
+    };
+    match Graph::new(size.vars, edges) {
+        Ok(graph) => Some(graph),
+        Err(GraphFault::TooManyEdges) => None,
     }
 }
 

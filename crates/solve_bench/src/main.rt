@@ -30,7 +30,7 @@ fn answer(alloc: Global, words: &[String]) -> Result<String, &'static str> {
     let Some(size) = size_of(words) else {
         return Err("give VARS EDGES BACK, as 65536 1000000 1000");
     };
-    let Ok(graph) = graph_of(alloc, &size) else {
+    let Some(graph) = graph_of(alloc, &size) else {
         return Err("no graph");
     };
     let Ok(order) = variables(alloc, graph.vars()) else {

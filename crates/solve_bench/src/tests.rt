@@ -4,7 +4,7 @@ ghost use Rattle.cons_graph.specs.Constraints.{IsConstraintGraph};
 ghost use Rattle.cons_graph.specs.SimpleWalks.{IsSimplePositiveCycle};
 ghost use Rattle.solve_bench.specs.Worked.{pair_graph, row_graph};
 
-use cons_graph::{Edge, Graph, GraphFault, Names, Why};
+use cons_graph::{Edge, Graph, Names, Why};
 use crit_path::{walk_lines, walk_to};
 use cycle_show::cycle_lines;
 use lam_list::Seq;
@@ -19,7 +19,7 @@ fn edge(from: u32, to: u32, len: i64, why: Why) -> Edge
 }
 
 // Two joints a and b in a row, at least 12 u apart by their spacing, and a limit on how far.
-fn pair(alloc: Global, limit: i64) -> Result<Graph, GraphFault>
+fn pair(alloc: Global, limit: i64) -> Result<Graph, Fail>
     requires { IsConstraintGraph (pair_graph limit) }
     ensures { IfOk result (λ g. g ≡ pair_graph limit) }
 {
@@ -32,10 +32,8 @@ fn pair(alloc: Global, limit: i64) -> Result<Graph, GraphFault>
         edge(3, 2, limit, Why::Limit),
         edge(2, 3, 12, Why::Space),
     ];
-    let Ok(edges) = Vec::from_slice(alloc, &edges) else {
-        return Err(GraphFault::OutOfMemory);
-    };
-    Graph::new(alloc, 4, edges)
+    let edges = Vec::from_slice(alloc, &edges)?;
+    Ok(Graph::new(4, edges)?)
 }
 
 // Three joints a, b and c, a and c in a row and b apart from it, with c at most 2 u to the right of b.
@@ -56,13 +54,11 @@ fn edges_of_row(alloc: Global) -> Result<Vec<Edge>, AllocError>
     Vec::from_slice(alloc, &edges)
 }
 
-fn row(alloc: Global) -> Result<Graph, GraphFault>
+fn row(alloc: Global) -> Result<Graph, Fail>
     ensures { IfOk result (λ g. g ≡ row_graph) }
 {
-    let Ok(edges) = edges_of_row(alloc) else {
-        return Err(GraphFault::OutOfMemory);
-    };
-    Graph::new(alloc, 5, edges)
+    let edges = edges_of_row(alloc)?;
+    Ok(Graph::new(5, edges)?)
 }
 
 // The names of the origin, the far border and some joints of a cell `t`.

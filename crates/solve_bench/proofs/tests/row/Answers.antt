@@ -7,4 +7,4 @@ use Rattle.solve_bench.proofs.tests.row.Goals as goal
 pub new-requires : goal.new-requires
 new-requires c =
     let P : List Edge → Type 0 = λ es. IsConstraintGraph (record { vars = 5; edges = es }) in
-    subst P (sym c.in-Ok.ensures) row_is_graph
+    subst P (sym c.in_ok-edges.ensures) row_is_graph
