@@ -11,7 +11,7 @@ use Rattle.cell_model.specs.declared.cell.Wire.{Wire}
 use Rattle.cell_model.specs.declared.cell.Limit.{Limit}
 use Rattle.stick_cell.specs.Known.{Known, with_node, with_port, with_copy, with_wire, with_limit, greatest_col, greatest_row, copied_node, copied_wire, copied_limit}
 use Rattle.stick_cell.specs.Counts.{weight_of, boxes_of, capped}
-use Rattle.cell_model.specs.Counts.{node_items, wire_items, node_boxes, layer_items, kind_items, kind_boxes}
+use Rattle.cell_model.specs.Counts.{items_in, boxes_in, node_items, wire_items, node_boxes, layer_items, kind_items, kind_boxes}
 
 -- a capped sum of capped counts
 pub capped-sum : (a b : ℕ) → capped (capped a + b) ≡ capped (a + b)
@@ -22,24 +22,24 @@ capped-sums a b = omega arith
 
 -- one more node
 pub weight-with_node : (known : Known) (name : List ℕ) (kind : NodeKind) (col row : ℕ) → weight_of (with_node known name kind col row) ≡ weight_of known + kind_items kind
-unfolding weight_of
+unfolding weight_of items_in
 weight-with_node known name kind col row =
     let node : Node = record { name = name; kind = kind; col = col; row = row } in
     omega (arith, sum_by_push node_items known.nodes node)
 
 pub boxes-with_node : (known : Known) (name : List ℕ) (kind : NodeKind) (col row : ℕ) → boxes_of (with_node known name kind col row) ≡ boxes_of known + kind_boxes kind
-unfolding boxes_of
+unfolding boxes_of boxes_in
 boxes-with_node known name kind col row =
     let node : Node = record { name = name; kind = kind; col = col; row = row } in
     omega (arith, sum_by_push node_boxes known.nodes node)
 
 -- a port is no item and no box
 pub weight-with_port : (known : Known) (name : List ℕ) (side : Side) (layer : Layer) (place : ℕ) → weight_of (with_port known name side layer place) ≡ weight_of known
-unfolding weight_of
+unfolding weight_of items_in
 weight-with_port known name side layer place = refl
 
 pub boxes-with_port : (known : Known) (name : List ℕ) (side : Side) (layer : Layer) (place : ℕ) → boxes_of (with_port known name side layer place) ≡ boxes_of known
-unfolding boxes_of
+unfolding boxes_of boxes_in
 boxes-with_port known name side layer place = refl
 
 -- the greatest column and row with one more node
@@ -69,7 +69,7 @@ sum_by-copied_wire first (wire ∷ wires) =
 
 -- a copy adds what its cell has, and one use
 pub weight-with_copy : (known : Known) (name : List ℕ) (k : ℕ) (copied : Known) (col row : ℕ) → weight_of (with_copy known name k copied col row) ≡ weight_of known + (weight_of copied + 1)
-unfolding weight_of
+unfolding weight_of items_in
 weight-with_copy known name k copied col row =
     let first = length known.nodes in
     omega (
@@ -83,7 +83,7 @@ weight-with_copy known name k copied col row =
     )
 
 pub boxes-with_copy : (known : Known) (name : List ℕ) (k : ℕ) (copied : Known) (col row : ℕ) → boxes_of (with_copy known name k copied col row) ≡ boxes_of known + boxes_of copied
-unfolding boxes_of
+unfolding boxes_of boxes_in
 boxes-with_copy known name k copied col row =
     let first = length known.nodes in
     omega (
@@ -144,18 +144,18 @@ counted_copy kept known more added result next is also sum adds = omega arith
 -- ---- a wire
 
 pub weight-with_wire : (known : Known) (wire : Wire) → weight_of (with_wire known wire) ≡ weight_of known + layer_items wire.layer
-unfolding weight_of
+unfolding weight_of items_in
 weight-with_wire known wire = omega (arith, sum_by_push wire_items known.wires wire)
 
 pub boxes-with_wire : (known : Known) (wire : Wire) → boxes_of (with_wire known wire) ≡ boxes_of known + 1
-unfolding boxes_of
+unfolding boxes_of boxes_in
 boxes-with_wire known wire = omega (arith, length_push known.wires wire)
 
 -- a limit
 pub weight-with_limit : (known : Known) (limit : Limit) → weight_of (with_limit known limit) ≡ weight_of known + 1
-unfolding weight_of
+unfolding weight_of items_in
 weight-with_limit known limit = omega (arith, length_push known.limits limit)
 
 pub boxes-with_limit : (known : Known) (limit : Limit) → boxes_of (with_limit known limit) ≡ boxes_of known
-unfolding boxes_of
+unfolding boxes_of boxes_in
 boxes-with_limit known limit = refl

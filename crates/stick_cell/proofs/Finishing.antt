@@ -9,6 +9,7 @@ use Rattle.cell_model.specs.declared.cell.Wire.{Wire}
 use Rattle.stick_cell.specs.declared.growing.Growing.{Growing}
 use Rattle.cell_model.specs.declared.cell.CellPort.{CellPort}
 use Rattle.stick_cell.specs.Known.{Known, Plug}
+use Rattle.cell_model.specs.Counts.{items_in}
 use Rattle.stick_cell.specs.Counts.{weight_of, capped}
 use Rattle.cell_model.specs.Counts.{layer_items, wire_items}
 use Rattle.stick_cell.specs.Ports.{port_of, ports_of, is_light}
@@ -42,7 +43,7 @@ items_of_wires (wire ∷ wires) = omega (arith, sum_by-cons wire_items wire wire
 
 -- a cell has no more wires than its weight
 wires_below : (known : Known) → length known.wires ≤ weight_of known
-unfolding weight_of
+unfolding weight_of items_in
 wires_below known = omega (arith, items_of_wires known.wires)
 
 -- where the cell may not be inlined they have no numbers of wires

@@ -28,7 +28,7 @@ use Rattle.stick_cell.specs.Paths.{found_at}
 use Rattle.stick_cell.specs.Checks.{demand}
 use Rattle.stick_cell.specs.Lines.{after_form, after_lines, after_cell, is_new_cell, cells_after, is_wired, known_cells}
 use Rattle.stick_cell.specs.Counts.{weight_of}
-use Rattle.cell_model.specs.Counts.{layer_items, kind_items, node_items, wire_items}
+use Rattle.cell_model.specs.Counts.{items_in, layer_items, kind_items, node_items, wire_items}
 use Rattle.cell_model.specs.Sound.{node_at, port_at, IsPort, IsSound, IsLight}
 use Rattle.stick_cell.specs.Grown.{IsSpot, IsPlug, IsGrown, AreGrown}
 use Rattle.stick_cell.proofs.Accepted.{bound, two_bound, ok_same, at_line_ok, true_from_demand}
@@ -195,5 +195,5 @@ fewer_wires wires = omega (arith, fewer_than wire_items (λ (wire : Wire). some_
 
 -- a cell that may be inlined has few parts
 pub light-cell_of : (known : Known) → weight_of known ≤ 65536 → IsLight (cell_of known)
-unfolding weight_of
+unfolding weight_of items_in
 light-cell_of known h = omega (arith, h, fewer_nodes known.nodes, fewer_wires known.wires)

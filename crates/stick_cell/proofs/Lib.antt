@@ -22,5 +22,6 @@ mod LineSteps
 pub mod TableReads
 mod UseSteps
 mod WireSteps
+mod Refused
 pub mod Stepping
 pub mod StepsInlined

@@ -1,14 +1,14 @@
--- How many items and mask boxes a cell has, with its uses inlined.
-use Rattle.std.specs.Prelude.{ℕ, ◌+◌, min, length, sum_by}
-use Rattle.cell_model.specs.Counts.{node_items, wire_items, node_boxes}
-use Rattle.stick_cell.specs.Known.{Known}
+-- What a cell weighs, and how many mask boxes it has, with its uses inlined.
+use Rattle.std.specs.Prelude.{ℕ, ◌+◌, min, length}
+use Rattle.cell_model.specs.Counts.{items_in, boxes_in}
+use Rattle.stick_cell.specs.Known.{Known, cell_of}
 
 -- items, limits, and the uses that were replaced on all levels
 unfoldable pub weight_of : Known → ℕ
-weight_of known = sum_by node_items known.nodes + sum_by wire_items known.wires + length known.limits + known.copies
+weight_of known = items_in (cell_of known) + length known.limits + known.copies
 
 unfoldable pub boxes_of : Known → ℕ
-boxes_of known = sum_by node_boxes known.nodes + length known.wires
+boxes_of known = boxes_in (cell_of known)
 
 -- what is past 65,536 counts as 65,537
 abbrev pub capped : ℕ → ℕ

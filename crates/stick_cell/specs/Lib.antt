@@ -2,6 +2,7 @@ pub mod Known
 pub mod Paths
 pub mod Checks
 pub mod Wires
+pub mod Refusals
 pub mod Lines
 pub mod Counts
 pub mod Kept

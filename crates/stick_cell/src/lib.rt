@@ -33,3 +33,4 @@ pub use cell_model::{
 pub use cells::Cells;
 pub use resolving::resolve;
 pub use stick_parse::ParseFault as ResolveFault;
+pub use wires::a_refused_wire_breaks_a_rule;

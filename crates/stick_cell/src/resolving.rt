@@ -1,9 +1,10 @@
 //! The checks on the names and sizes of a design.
-ghost use Rattle.std.specs.Prelude.{◌≡◌, ◌≤◌, List, length, IfOk};
+ghost use Rattle.std.specs.Prelude.{◌≡◌, ◌≤◌, List, length, All, IfOk};
 ghost use Rattle.stick_parse.specs.declared.fault.ParseFault.TheVariants.{Stick};
 ghost use Rattle.stick_parse.specs.Reading.{Gives};
 ghost use Rattle.stick_parse.specs.Writable.{IsCell, IsWritable};
-ghost use Rattle.stick_cell.specs.Known.{Known, begun};
+ghost use Rattle.cell_model.specs.Sound.{IsSound};
+ghost use Rattle.stick_cell.specs.Known.{Known, begun, cell_of};
 ghost use Rattle.stick_cell.specs.Lines.{after_lines, after_cell, known_cells};
 ghost use Rattle.stick_cell.specs.Grown.{AreGrown};
 ghost use Rattle.stick_cell.specs.Tables.{AreTables, known_of, IsResolved};
@@ -19,7 +20,7 @@ use stick_parse::{CellText, Design, LineFault, ParseFault as ResolveFault, Stick
 /// The cells of a design, whose names and sizes meet the checks, line by line against the lines before.
 ///
 /// A design that does not meet them is refused with its first fault: the line, and the kind, one of the sixth to the
-/// twentieth. Want of memory is `OutOfMemory`.
+/// twentieth. Want of memory is `OutOfMemory`. Each cell is sound, also one that is too heavy to be inlined.
 pub fn resolve<'a>(
     alloc: Global,
     design: &'a Design,
@@ -27,6 +28,8 @@ pub fn resolve<'a>(
 ) -> Result<Cells<'a>, ResolveFault>
     requires { IsWritable design.now }
     ensures cells { Gives known_of result (known_cells tech.now design.now.cells) }
+    ensures number { IfOk result (λ cells. length (known_of cells) ≡ length design.now.cells) }
+    ensures sound { IfOk result (λ cells. All (λ known. IsSound tech.now (cell_of known)) (known_of cells)) }
     ensures resolved { IfOk result IsResolved }
     ensures of { IfOk result (λ cells. (cells.tech ≡ tech.now) × (cells.design.now ≡ design.now)) }
 {

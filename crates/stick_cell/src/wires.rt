@@ -1,5 +1,10 @@
 //! Where wires run, and which terminals take them.
-ghost use Rattle.std.specs.Prelude.{◌≡◌};
+ghost use Rattle.std.specs.Prelude.{◌≡◌, ℕ, Bool, List, Option, Err};
+ghost use Rattle.rule_table.specs.declared.technology.Tech.{Tech};
+ghost use Rattle.rule_table.specs.declared.classes.Layer.{Layer};
+ghost use Rattle.stick_parse.specs.declared.fault.StickKind.{StickKind};
+ghost use Rattle.stick_cell.specs.declared.names.Found.{Found};
+ghost use Rattle.stick_cell.specs.Refusals.{IsRefusedWire};
 ghost use Rattle.stick_cell.specs.Wires.{wire_between, terminal, line_of, run_along, run_between, takes_layer, takes_along, is_free, is_within_pad, end_of, at_both, limited};
 
 use crate::checks::sized;
@@ -50,6 +55,12 @@ pub fn wire_between(
         along: run.along,
     })
 }
+
+/// A wire that is refused breaks the rule of the kind that it is refused with.
+pub fn a_refused_wire_breaks_a_rule()
+    ensures { (tech : Tech) (wired : List Bool) (layer : Layer) (a b : Found) (width : Option ℕ) (kind : StickKind) → wire_between tech wired layer a b width ≡ Err kind
+        → IsRefusedWire tech wired layer a b width kind }
+{}
 
 /// The node that a limit names; a port, a use and what lies behind a node or a port are refused with `BadLimit`.
 pub fn limited(found: Found) -> Result<Spot, StickKind>

@@ -1,11 +1,15 @@
-use Rattle.std.proofs.Common.{◌≡◌, ◌<◌, List, [], ◌∷◌, ◌++◌, length, get_or, refl, sym, ap, subst, ◌∙◌, arith}
+use Rattle.std.proofs.Common.{◌≡◌, ◌<◌, Ok, List, [], ◌∷◌, ◌++◌, length, get_or, refl, sym, ap, subst, ◌∙◌, arith}
 use Rattle.std.proofs.lemmas.List.{length_push}
 use Rattle.stick_cell.specs.declared.table.Table.{Table}
-use Rattle.stick_cell.specs.Known.{Known}
+use Rattle.std.specs.Prelude.{All}
+use Rattle.cell_model.specs.Sound.{IsSound}
+use Rattle.list_facts.proofs.Elements.{all_of, by_number}
+use Rattle.stick_cell.specs.Known.{Known, begun, cell_of}
 use Rattle.stick_cell.specs.Lines.{known_cells}
-use Rattle.stick_cell.specs.Tables.{AreTables, HaveSteps}
-use Rattle.stick_cell.proofs.Grown.{are_grown-none, are_grown-append, grown-after_cell}
-use Rattle.stick_cell.proofs.CellLoop.{cells-next, cell-at, tables-push, have_steps-push}
+use Rattle.stick_cell.specs.Tables.{AreTables, HaveSteps, cells_or_none}
+use Rattle.stick_cell.proofs.Grown.{are_grown-none, are_grown-append, grown-after_cell, sound-known_at}
+use Rattle.stick_cell.proofs.TableReads.{length-known_cells}
+use Rattle.stick_cell.proofs.CellLoop.{cells-next, cells-end, cell-at, tables-push, have_steps-push}
 use Rattle.stick_cell.proofs.resolving.resolve.Goals as goal
 
 pub loop-text-init : goal.loop-text-init
@@ -37,3 +41,21 @@ loop-text-preserved c =
       ap length pushed ∙ omega (arith, length_push c.loop-text.tables.items table, so_far.4),
       subst (HaveSteps cells) (sym pushed) (have_steps-push so_far.0 c.loop-text.tables.items cell.0 table so_far.1 so_far.5 cell.3),
     )
+
+pub returns-clause-number : goal.returns-clause-number
+returns-clause-number c =
+    let so_far = c.loop-text.invariant in
+    let texts = c.args.design.now.cells in
+    let read : known_cells c.args.tech.now texts ≡ Ok so_far.0 =
+    sym so_far.3 ∙ cells-end c.args.tech.now so_far.0 texts c.loop-text.text-index (omega (arith, c.loop-text-test.false, ap length c.as_slice-text-items.ensures)) in
+    ap (λ read. length (cells_or_none read)) read ∙ length-known_cells c.args.tech.now texts so_far.0 read
+
+pub returns-clause-sound : goal.returns-clause-sound
+returns-clause-sound c =
+    let so_far = c.loop-text.invariant in
+    let texts = c.args.design.now.cells in
+    let tech = c.args.tech.now in
+    let read : known_cells tech texts ≡ Ok so_far.0 =
+    sym so_far.3 ∙ cells-end tech so_far.0 texts c.loop-text.text-index (omega (arith, c.loop-text-test.false, ap length c.as_slice-text-items.ensures)) in
+    let P : Known → Type 0 = λ known. IsSound tech (cell_of known) in
+    subst (λ read. All P (cells_or_none read)) (sym read) (all_of P so_far.0 (by_number P so_far.0 (begun []) (λ k lt. sound-known_at tech so_far.0 k so_far.2 lt)))

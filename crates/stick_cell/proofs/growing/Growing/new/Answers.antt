@@ -1,10 +1,11 @@
 use Rattle.std.proofs.Common.{refl}
+use Rattle.cell_model.specs.Counts.{items_in, boxes_in}
 use Rattle.stick_cell.specs.Counts.{weight_of, boxes_of}
 use Rattle.stick_cell.proofs.Stepping.{steps-none}
 use Rattle.stick_cell.proofs.growing.Growing.new.Goals as goal
 
 pub returns : goal.returns
-unfolding weight_of boxes_of
+unfolding weight_of boxes_of items_in boxes_in
 returns c = λ cells. record {
   name = refl;
   names = c.new.ensures;
