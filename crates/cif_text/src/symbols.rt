@@ -115,13 +115,7 @@ fn push_layers(out: &mut Vec<u8>, alloc: Global, boxes: &[MaskBox]) -> Result<()
     requires { All (λ box. IsPlacedBox box.area) boxes.now }
     ensures { OnOk result (out.new.items ≡ out.old.items ++ layers_text (map mask_of boxes.now)) }
 {
-    for layer in [
-        MaskLayer::ND,
-        MaskLayer::NP,
-        MaskLayer::NC,
-        MaskLayer::NM,
-        MaskLayer::NI,
-    ] {
+    for layer in MaskLayer::ALL {
         push_layer(out, alloc, layer, boxes)?;
     }
     Ok(())

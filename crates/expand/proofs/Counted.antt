@@ -39,7 +39,7 @@ wire_counted tech cell owner net cross wire =
     layer_counted wire.layer (item_running wire.along (run_item owner net cross wire.width (low_end_of tech cell wire wire.low) (high_end_of tech cell wire wire.high)))
 
 -- the pieces of numbered elements, each with its count
-pieces_counted : {X Y : Type 0} (f : ℕ → List Y) (count : X → ℕ) (d : X) (a : ℕ) (xs : List X) → ((k : ℕ) → k < length xs → length (f (a + k)) ≡ count (get_or xs k d)) → length (flat_map f (range_with_len a (length xs))) ≡ sum_by count xs
+pub pieces_counted : {X Y : Type 0} (f : ℕ → List Y) (count : X → ℕ) (d : X) (a : ℕ) (xs : List X) → ((k : ℕ) → k < length xs → length (f (a + k)) ≡ count (get_or xs k d)) → length (flat_map f (range_with_len a (length xs))) ≡ sum_by count xs
 pieces_counted f count d a [] each = refl
 pieces_counted f count d a (x ∷ xs) each =
     let at : a + 0 ≡ a = omega arith in

@@ -8,7 +8,7 @@ use Rattle.lam_geom.specs.declared.boxes.MaskBox.{MaskBox}
 use Rattle.sym_items.specs.declared.items.Item.{Item}
 use Rattle.sym_items.specs.declared.items.Coords.{Coords}
 use Rattle.sym_items.specs.Sides.{sides_of, sides_in}
-use Rattle.mask_out.specs.Masks.{Mask, mask_of, class_of, is_same_class, masks_on}
+use Rattle.mask_out.specs.Masks.{Mask, mask_of, is_drawn, masks_on}
 
 -- the mask of an item on a layer
 abbrev mask_in : Coords → MaskLayer → Item → Mask
@@ -17,15 +17,15 @@ mask_in c layer i = record { layer = layer; sides = sides_in c i }
 -- the masks of one item more
 masks_more : (c : Coords) (items : List Item) (layer : MaskLayer) (i : ℕ) (d : Item) → i < length items
     → masks_on c (take (i + 1) items) layer ≡ masks_on c (take i items) layer
-    ++ map (mask_in c layer) (cond (is_same_class (class_of layer) (get_or items i d).class) (get_or items i d ∷ []) [])
+    ++ map (mask_in c layer) (cond (is_drawn layer (get_or items i d).class) (get_or items i d ∷ []) [])
 masks_more c items layer i d lt =
-    let p = λ (k : Item). is_same_class (class_of layer) k.class in
+    let p = λ (k : Item). is_drawn layer k.class in
     let f = mask_in c layer in
     ap (map f) (filter_more p items i d lt) ∙ map-append f (filter p (take i items)) (cond (p (get_or items i d)) (get_or items i d ∷ []) [])
 
 -- an item that is drawn
 pub item_drawn : (c : Coords) (items : List Item) (layer : MaskLayer) (i : ℕ) (d : Item) (box : MaskBox) (before now next : List MaskBox) → i < length items
-    → is_same_class (class_of layer) (get_or items i d).class ≡ true
+    → is_drawn layer (get_or items i d).class ≡ true
     → box.layer ≡ layer → sides_of box.area ≡ sides_in c (get_or items i d)
     → map mask_of now ≡ map mask_of before ++ masks_on c (take i items) layer → next ≡ now ++ (box ∷ [])
     → map mask_of next ≡ map mask_of before ++ masks_on c (take (i + 1) items) layer
@@ -42,7 +42,7 @@ item_drawn c items layer i d box before now next lt drawn on sides was is =
 
 -- an item that is not
 pub item_passed : (c : Coords) (items : List Item) (layer : MaskLayer) (i : ℕ) (d : Item) (before now : List MaskBox) → i < length items
-    → is_same_class (class_of layer) (get_or items i d).class ≡ false
+    → is_drawn layer (get_or items i d).class ≡ false
     → map mask_of now ≡ map mask_of before ++ masks_on c (take i items) layer
     → map mask_of now ≡ map mask_of before ++ masks_on c (take (i + 1) items) layer
 item_passed c items layer i d before now lt passed was =

@@ -4,7 +4,7 @@ use Rattle.lam_geom.specs.declared.boxes.MaskLayer.{MaskLayer}
 use Rattle.lam_geom.specs.declared.boxes.MaskLayer.TheVariants.{ND, NP, NC, NM, NI}
 use Rattle.lam_geom.specs.declared.boxes.MaskBox.{MaskBox}
 use Rattle.rule_table.specs.declared.classes.Class.{Class}
-use Rattle.rule_table.specs.declared.classes.Class.TheVariants.{M, P, Dc, Dm, C, I, G}
+use Rattle.rule_table.specs.declared.classes.Class.TheVariants.{M, P, Dm, C, I}
 use Rattle.sym_items.specs.declared.items.Item.{Item}
 use Rattle.sym_items.specs.declared.items.Coords.{Coords}
 use Rattle.sym_items.specs.Sides.{Sides, sides_of, sides_in}
@@ -17,26 +17,17 @@ pub record Mask : Type 0 where
 abbrev pub mask_of : MaskBox → Mask
 mask_of box = record { layer = box.layer; sides = sides_of box.area }
 
--- the class of the items that a layer's boxes are: conducting pieces of diffusion and channels are no boxes
-abbrev pub class_of : MaskLayer → Class
-class_of ND = Dm
-class_of NP = P
-class_of NC = C
-class_of NM = M
-class_of NI = I
-
-abbrev pub is_same_class : Class → Class → Bool
-is_same_class M M = true
-is_same_class P P = true
-is_same_class Dc Dc = true
-is_same_class Dm Dm = true
-is_same_class C C = true
-is_same_class I I = true
-is_same_class G G = true
-is_same_class a b = false
+-- whether items of a class are boxes of a layer: conducting pieces of diffusion and channels are boxes of none
+abbrev pub is_drawn : MaskLayer → Class → Bool
+is_drawn ND Dm = true
+is_drawn NP P = true
+is_drawn NC C = true
+is_drawn NM M = true
+is_drawn NI I = true
+is_drawn layer class = false
 
 abbrev pub masks_on : Coords → List Item → MaskLayer → List Mask
-masks_on c items layer = map (λ (i : Item). record { layer = layer; sides = sides_in c i }) (filter (λ (i : Item). is_same_class (class_of layer) i.class) items)
+masks_on c items layer = map (λ (i : Item). record { layer = layer; sides = sides_in c i }) (filter (λ (i : Item). is_drawn layer i.class) items)
 
 -- the layers in the order in which a symbol has them
 abbrev pub mask_layers : List MaskLayer

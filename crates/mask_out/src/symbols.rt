@@ -2,7 +2,7 @@
 ghost use Rattle.std.specs.Prelude.{◌≡◌, ◌++◌, All, map, OnOk, IfOk};
 ghost use Rattle.lam_geom.specs.Places.{IsPlacedBox};
 ghost use Rattle.sym_items.specs.Boxes.{HasBox};
-ghost use Rattle.mask_out.specs.Masks.{mask_of, class_of, is_same_class, masks_on, masks_in};
+ghost use Rattle.mask_out.specs.Masks.{mask_of, is_drawn, masks_on, masks_in};
 
 use crate::picture::Symbol;
 use expand::Master;
@@ -15,7 +15,7 @@ use sym_items::{Coords, Item, box_of};
 
 // Whether items of a class are boxes of a layer. Conducting pieces of diffusion and channels are boxes of none.
 fn is_drawn(layer: MaskLayer, class: Class) -> bool
-    ensures { result ≡ is_same_class (class_of layer) class }
+    ensures { result ≡ is_drawn layer class }
 {
     match layer {
         MaskLayer::ND => matches!(class, Class::Dm),
@@ -57,13 +57,7 @@ pub fn symbol_of(alloc: Global, master: &Master, coords: &Coords) -> Result<Symb
     let name = Text::new(alloc, master.cell.name.bytes())?;
     let items = master.items.list.as_slice();
     let mut boxes = Vec::new(alloc);
-    for layer in [
-        MaskLayer::ND,
-        MaskLayer::NP,
-        MaskLayer::NC,
-        MaskLayer::NM,
-        MaskLayer::NI,
-    ] {
+    for layer in MaskLayer::ALL {
         push_layer(&mut boxes, items, coords, layer)?;
     }
     Ok(Symbol {

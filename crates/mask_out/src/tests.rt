@@ -2,13 +2,13 @@ ghost use Rattle.std.specs.Prelude.{◌≡◌, IfOk};
 ghost use Rattle.mask_out.specs.Worked as worked;
 
 use crate::symbol_of;
+use cell_model::Cell;
 use expand::Master;
 use lam_geom::{BoxXY, MaskBox, MaskLayer, Span};
 use lam_list::Seq;
 use rule_table::Class;
 use std::alloc::{AllocError, Global};
 use std::test::Fail;
-use cell_model::Cell;
 use stick_lex::Text;
 use sym_items::{Coords, End, Item, Items};
 
