@@ -1,8 +1,8 @@
 -- The cells of a design, one by one.
-use Rattle.std.proofs.Common.{◌≡◌, ℕ, zero, suc, ◌+◌, ◌<◌, ◌≤◌, ◌≢◌, List, [], ◌∷◌, ◌++◌, length, map, take, get_or, drop, Result, Ok, Err, refl, sym, ap, subst, inl, inr, ◌∙◌, add-one, arith}
+use Rattle.std.proofs.Common.{◌≡◌, ℕ, ◌+◌, ◌<◌, ◌≤◌, ◌≢◌, List, [], ◌∷◌, ◌++◌, length, map, take, get_or, drop, Result, Ok, Err, sym, ap, subst, inl, inr, ◌∙◌, arith}
 use Rattle.std.specs.Prelude.{◌⊎◌}
 use Rattle.std.specs.List.{AllByRecursion}
-use Rattle.std.proofs.lemmas.List.{map-append, length-map, get_or_push, get_or_append_left, take_at, take-append-le}
+use Rattle.std.proofs.lemmas.List.{drop_more, drop_all, map-append, length-map, get_or_push, get_or_append_left, take_at, take-append-le}
 use Rattle.std.proofs.lemmas.Bool.{cases_eq}
 use Rattle.rule_table.specs.declared.technology.Tech.{Tech}
 use Rattle.stick_parse.specs.declared.fault.StickFault.{StickFault}
@@ -11,6 +11,7 @@ use Rattle.stick_parse.specs.declared.fault.ParseFault.TheVariants.{Stick, OutOf
 use Rattle.stick_parse.specs.declared.design.CellText.{CellText}
 use Rattle.stick_parse.specs.Reading.{◌>>=◌, Fails}
 use Rattle.stick_parse.specs.Writable.{IsCell}
+use Rattle.list_facts.proofs.Elements.{all_at}
 use Rattle.stick_cell.specs.declared.table.Table.{Table}
 use Rattle.stick_cell.specs.declared.steps.Step.{Step}
 use Rattle.stick_cell.specs.Known.{Known, known_at}
@@ -20,18 +21,11 @@ use Rattle.stick_cell.specs.Tables.{IsTableOf, AreTables, steps_at, HaveSteps}
 use Rattle.stick_cell.proofs.TableReads.{length-tables}
 use Rattle.stick_cell.proofs.Grown.{k_within, known_before, known_last}
 
-cells_from : (tech : Tech) (cells : List Known) (texts : List CellText) (i : ℕ) (text : CellText) → i < length texts → text ≡ get_or texts i text
-    → cells_after tech cells (drop i texts) ≡ (after_cell tech cells text >>= (λ known. cells_after tech (cells ++ known ∷ []) (drop (suc i) texts)))
-cells_from tech cells [] i text lt e = absurd (omega arith)
-cells_from tech cells (first ∷ texts) zero text lt e = ap (λ (one : CellText). after_cell tech cells one >>= (λ known. cells_after tech (cells ++ known ∷ []) texts)) (sym e)
-cells_from tech cells (first ∷ texts) (suc i) text lt e = cells_from tech cells texts i text (omega arith) e
-
 -- the cells from one on: that cell, and the cells behind it
 cells_at : (tech : Tech) (cells : List Known) (texts : List CellText) (i : ℕ) (text : CellText) (r : Result Known StickFault) → i < length texts → text ≡ get_or texts i text
     → after_cell tech cells text ≡ r → cells_after tech cells (drop i texts) ≡ (r >>= (λ known. cells_after tech (cells ++ known ∷ []) (drop (i + 1) texts)))
 cells_at tech cells texts i text r lt e is =
-    cells_from tech cells texts i text lt e
-    ∙ ap (λ n. after_cell tech cells text >>= (λ known. cells_after tech (cells ++ known ∷ []) (drop n texts))) (sym (add-one i))
+    ap (cells_after tech cells) (drop_more texts i text lt ∙ ap (λ (one : CellText). one ∷ drop (i + 1) texts) (sym e))
     ∙ ap (λ r. r >>= (λ known. cells_after tech (cells ++ known ∷ []) (drop (i + 1) texts))) is
 
 -- a cell that is known
@@ -47,16 +41,11 @@ cells-refused tech cells texts i text OutOfMemory whole lt e fails same = tt
 
 -- no cell is left
 pub cells-end : (tech : Tech) (cells : List Known) (texts : List CellText) (i : ℕ) → length texts ≤ i → cells_after tech cells (drop i texts) ≡ Ok cells
-cells-end tech cells [] zero le = refl
-cells-end tech cells [] (suc i) le = refl
-cells-end tech cells (text ∷ texts) zero le = absurd (omega arith)
-cells-end tech cells (text ∷ texts) (suc i) le = cells-end tech cells texts i (omega arith)
+cells-end tech cells texts i le = ap (cells_after tech cells) (drop_all i texts le)
 
 -- each text is a cell
 pub cell-at : (texts : List CellText) (i : ℕ) (text : CellText) → AllByRecursion IsCell texts → i < length texts → text ≡ get_or texts i text → IsCell text
-cell-at [] i text all lt e = absurd (omega arith)
-cell-at (first ∷ texts) zero text all lt e = subst IsCell (sym e) all.0
-cell-at (first ∷ texts) (suc i) text all lt e = cell-at texts i text all.1 (omega arith) e
+cell-at texts i text all lt e = subst IsCell (sym e) (all_at IsCell texts text i all lt)
 
 -- the tables with one more
 pub tables-push : (cells : List Known) (tables : List Table) (known : Known) (table : Table) → AreTables cells tables → IsTableOf known table → AreTables (cells ++ known ∷ []) (tables ++ table ∷ [])

@@ -13,13 +13,6 @@ use Rattle.stick_cell.specs.Known.{Known, with_node, with_port, with_copy, with_
 use Rattle.stick_cell.specs.Counts.{weight_of, boxes_of, capped}
 use Rattle.cell_model.specs.Counts.{items_in, boxes_in, node_items, wire_items, node_boxes, layer_items, kind_items, kind_boxes}
 
--- a capped sum of capped counts
-pub capped-sum : (a b : ℕ) → capped (capped a + b) ≡ capped (a + b)
-capped-sum a b = omega arith
-
-pub capped-sums : (a b : ℕ) → capped (capped a + capped b) ≡ capped (a + b)
-capped-sums a b = omega arith
-
 -- one more node
 pub weight-with_node : (known : Known) (name : List ℕ) (kind : NodeKind) (col row : ℕ) → weight_of (with_node known name kind col row) ≡ weight_of known + kind_items kind
 unfolding weight_of items_in

@@ -49,10 +49,10 @@ wires_below known = omega (arith, items_of_wires known.wires)
 -- where the cell may not be inlined they have no numbers of wires
 pub ports-forgotten : (cells : List Known) (known : Known) (growing : Growing) (ports : List CellPort) → IsGrowing cells known growing → 65536 < growing.table.weight → ports ≡ map without_wire growing.table.ports.items → ports ≡ ports_of known
 ports-forgotten cells known growing ports is lt e =
-    e ∙ ap (map without_wire) is.ports ∙ forgotten_plugs known.plugs ∙ ap (λ light. map (port_of light) known.plugs) (sym (is_heavy known growing.table.weight is.weight lt))
+    e ∙ ap (map without_wire) is.ports ∙ forgotten_plugs known.plugs ∙ ap (λ light. map (port_of light) known.plugs) (sym (is_heavy known growing.table.weight is.tells.weight lt))
 
 -- and else they have
 pub ports-told : (cells : List Known) (known : Known) (growing : Growing) → IsGrowing cells known growing → growing.table.weight ≤ 65536 → growing.table.ports.items ≡ ports_of known
 ports-told cells known growing is le =
-    let few : length known.wires ≤ 65536 = omega (arith, wires_below known, is.weight) in
-    is.ports ∙ told_plugs (length known.wires) known.plugs few is.below ∙ ap (λ light. map (port_of light) known.plugs) (sym (light_from known growing.table.weight is.weight le))
+    let few : length known.wires ≤ 65536 = omega (arith, wires_below known, is.tells.weight) in
+    is.ports ∙ told_plugs (length known.wires) known.plugs few is.below ∙ ap (λ light. map (port_of light) known.plugs) (sym (light_from known growing.table.weight is.tells.weight le))

@@ -1,5 +1,5 @@
 -- What the law of what is found tells of nodes that paths come to: that they lie near, and that different paths come to different nodes.
-use Rattle.std.proofs.Common.{◌≡◌, ℕ, zero, suc, ◌<◌, ◌==◌, List, [], ◌∷◌, length, refl, sym, ap, ◌∙◌, arith}
+use Rattle.std.proofs.Common.{◌≡◌, ℕ, ◌<◌, ◌==◌, List, length, refl, sym, ap, ◌∙◌, arith}
 use Rattle.std.specs.List.{AllByRecursion}
 use Rattle.std.specs.Str.{bytes_eq}
 use Rattle.std.proofs.lemmas.Bool.Decides.{same_from_decides, Decides-eqb}
@@ -10,24 +10,20 @@ use Rattle.stick_cell.specs.declared.names.Spot.{Spot}
 use Rattle.stick_cell.specs.declared.names.Terminal.TheVariants.{Node, Port}
 use Rattle.stick_cell.specs.declared.names.Found.{Found}
 use Rattle.stick_cell.specs.declared.names.Found.TheVariants.{At, AtCopy, Through}
+use Rattle.list_facts.proofs.Elements.{all_at}
 use Rattle.stick_cell.specs.Kept.{IsNearFound}
-use Rattle.cell_model.specs.Sound.{IsNode, node_at}
+use Rattle.cell_model.specs.Sound.{IsNode, node_at, no_node}
 
 -- the node of this name at this spot is the spot's number among the nodes
 pub record IsNodeOf (nodes : List CellNode) (path : List ℕ) (spot : Spot) : Type 0 where
   pub within : spot.number < length nodes
   pub is : node_at nodes spot.number ≡ record { name = path; kind = spot.kind; col = spot.col; row = spot.row }
 
-all_at : (P : CellNode → Type 0) (nodes : List CellNode) (k : ℕ) → AllByRecursion P nodes → k < length nodes → P (node_at nodes k)
-all_at P [] k all lt = absurd (omega arith)
-all_at P (node ∷ nodes) zero all lt = all.0
-all_at P (node ∷ nodes) (suc k) all lt = all_at P nodes k all.1 (omega arith)
-
 -- a node that is found lies near where the cell's nodes do
 pub near-found : (tech : Tech) (nodes : List CellNode) (path : List ℕ) (found : Found) → AllByRecursion (IsNode tech) nodes → ((spot : Spot) → found ≡ At (Node spot) → IsNodeOf nodes path spot) → IsNearFound found
 near-found tech nodes path (At (Node spot)) all of =
     let o = of spot refl in
-    let node = all_at (IsNode tech) nodes spot.number all o.within in
+    let node = all_at (IsNode tech) nodes no_node spot.number all o.within in
     let col : (node_at nodes spot.number).col ≡ spot.col = ap (λ (n : CellNode). n.col) o.is in
     let row : (node_at nodes spot.number).row ≡ spot.row = ap (λ (n : CellNode). n.row) o.is in
     (omega (arith, node.col, col), omega (arith, node.row, row))

@@ -1,6 +1,5 @@
 -- Paths walked over what the code keeps of the names: what they come to is what they come to over the names themselves, as far as the code keeps it.
-use Rattle.std.proofs.Common.{◌≡◌, ℕ, ◌+◌, Bool, true, false, cond, List, [], ◌∷◌, map, Option, Some, None, option_map, option_and_then, refl, sym, ap, ◌∙◌, arith}
-use Rattle.std.specs.Str.{bytes_eq}
+use Rattle.std.proofs.Common.{◌≡◌, ℕ, ◌+◌, List, [], ◌∷◌, map, Option, Some, None, option_map, option_and_then, refl, sym, ap, ◌∙◌, arith}
 use Rattle.std.proofs.Math.ListN.{get_or-map}
 use Rattle.stick_lex.specs.Tokens.{names}
 use Rattle.stick_cell.specs.declared.names.Copied.{Copied}
@@ -16,20 +15,8 @@ use Rattle.stick_cell.specs.Paths.{Names, named, names_at, seen_through, behind,
 use Rattle.stick_cell.specs.Kept.{capped_thing, capped_names, ended, kept_found}
 use Rattle.stick_cell.specs.NameEntries.{entries_of}
 use Rattle.stick_cell.specs.Tables.{AreTables}
+use Rattle.stick_cell.proofs.LineSteps.{named-capped}
 use Rattle.stick_cell.proofs.Composed.{kept_all_through}
-
--- ---- what a name stands for
-
-cond_capped : (b : Bool) (thing : Thing) (rest : Option Thing) → cond b (Some (capped_thing thing)) (option_map capped_thing rest) ≡ option_map capped_thing (cond b (Some thing) rest)
-cond_capped true thing rest = refl
-cond_capped false thing rest = refl
-
--- a name stands for the same thing, with its number capped
-named-capped : (scope : Names) (name : List ℕ) → named (capped_names scope) name ≡ option_map capped_thing (named scope name)
-named-capped [] name = refl
-named-capped (entry ∷ scope) name =
-    ap (λ (found : Option Thing). cond (bytes_eq name entry.0) (Some (capped_thing entry.1)) found) (named-capped scope name)
-    ∙ cond_capped (bytes_eq name entry.0) entry.1 (named scope name)
 
 -- ---- what a path comes to
 
@@ -95,7 +82,7 @@ tables-capped [] [] are = refl
 tables-capped [] (table ∷ tables) are = absurd are
 tables-capped (known ∷ cells) [] are = absurd are
 tables-capped (known ∷ cells) (table ∷ tables) are =
-    let first = are.0.names in
+    let first = are.0.tells.names in
     let rest = tables-capped cells tables are.1 in
     cc
 

@@ -16,7 +16,7 @@ use Rattle.stick_cell.specs.declared.names.Found.{Found}
 use Rattle.stick_cell.specs.declared.names.Found.TheVariants.{At, AtCopy, Through}
 use Rattle.stick_cell.specs.declared.names.Run.{Run}
 use Rattle.stick_cell.specs.Checks.{demand, sized}
-use Rattle.stick_cell.specs.Wires.{known_name, terminal, line_of, run_along, run_between, straight, takes_layer, takes_along, is_free, is_within_pad, end_of, at_both, wire_between, limited}
+use Rattle.stick_cell.specs.Wires.{terminal, line_of, run_along, run_between, straight, takes_layer, takes_along, is_free, is_within_pad, end_of, at_both, wire_between, limited}
 use Rattle.cell_model.specs.Wiring.{axis_of, is_low_side, is_same_axis}
 use Rattle.stick_cell.specs.Kept.{ended, kept_spot, kept_found, capped_spot, capped_end, capped_wire, IsNearFound}
 
@@ -51,11 +51,6 @@ kept_found-near AtCopy near = refl
 kept_found-near Through near = refl
 
 -- ---- names and limits
-
--- a name is known where what is kept of it is
-pub known_name-kept : (found : Option Found) → known_name (option_map kept_found found) ≡ result_map kept_found (known_name found)
-known_name-kept None = refl
-known_name-kept (Some found) = refl
 
 -- a limit's end, from what is kept of it
 pub limited-kept : (found : Found) → IsNearFound found → limited (kept_found found) ≡ result_map capped_spot (limited found)

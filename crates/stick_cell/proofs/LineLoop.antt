@@ -1,7 +1,8 @@
 -- The lines of a cell, one by one.
-use Rattle.std.proofs.Common.{◌≡◌, ℕ, zero, suc, ◌+◌, ◌<◌, ◌≤◌, Bool, true, not, is_none, is_some, List, [], ◌∷◌, length, get_or, drop, Option, Some, None, Result, Ok, Err, refl, sym, ap, subst, ◌∙◌, add-one, arith}
+use Rattle.std.proofs.Common.{◌≡◌, ℕ, ◌+◌, ◌<◌, ◌≤◌, Bool, true, not, is_none, is_some, List, ◌∷◌, length, get_or, drop, Option, Some, None, Result, Ok, Err, refl, sym, ap, subst, ◌∙◌}
 use Rattle.std.specs.Prelude.{bytes_eq, position}
 use Rattle.std.specs.List.{AllByRecursion}
+use Rattle.std.proofs.lemmas.List.{drop_more, drop_all}
 use Rattle.std.specs.Result.{IsErrAnd}
 use Rattle.rule_table.specs.declared.technology.Tech.{Tech}
 use Rattle.stick_parse.specs.declared.fault.StickFault.{StickFault}
@@ -15,6 +16,7 @@ use Rattle.stick_parse.specs.declared.design.CellText.{CellText}
 use Rattle.stick_parse.specs.Reading.{◌>>=◌, Fails, FailsLine}
 use Rattle.stick_parse.specs.Order.{at_line}
 use Rattle.stick_parse.specs.Writable.{IsForm, IsLine}
+use Rattle.list_facts.proofs.Elements.{all_at}
 use Rattle.stick_cell.specs.Known.{Known, begun}
 use Rattle.stick_cell.specs.Lines.{after_form, after_lines, is_wired, is_new_cell, after_cell}
 use Rattle.stick_cell.specs.Checks.{demand}
@@ -23,18 +25,10 @@ use Rattle.stick_cell.specs.Tables.{AreTables}
 use Rattle.stick_cell.specs.Resolving.{fault_at_line, TellsTable}
 use Rattle.stick_cell.proofs.TableReads.{position-name}
 
-lines_from : (tech : Tech) (cells : List Known) (known : Known) (lines : List Line) (i : ℕ) (line : Line) → i < length lines → line ≡ get_or lines i line
-    → after_lines tech cells known (drop i lines) ≡ (at_line line.number (after_form tech cells known line.form) >>= (λ next. after_lines tech cells next (drop (suc i) lines)))
-lines_from tech cells known [] i line lt e = absurd (omega arith)
-lines_from tech cells known (first ∷ lines) zero line lt e = ap (λ (one : Line). at_line one.number (after_form tech cells known one.form) >>= (λ next. after_lines tech cells next lines)) (sym e)
-lines_from tech cells known (first ∷ lines) (suc i) line lt e = lines_from tech cells known lines i line (omega arith) e
-
 -- the lines from one on: that line, and the lines behind it
 pub lines-at : (tech : Tech) (cells : List Known) (known : Known) (lines : List Line) (i : ℕ) (line : Line) → i < length lines → line ≡ get_or lines i line
     → after_lines tech cells known (drop i lines) ≡ (at_line line.number (after_form tech cells known line.form) >>= (λ next. after_lines tech cells next (drop (i + 1) lines)))
-lines-at tech cells known lines i line lt e =
-    lines_from tech cells known lines i line lt e
-    ∙ ap (λ n. at_line line.number (after_form tech cells known line.form) >>= (λ next. after_lines tech cells next (drop n lines))) (sym (add-one i))
+lines-at tech cells known lines i line lt e = ap (after_lines tech cells known) (drop_more lines i line lt ∙ ap (λ (one : Line). one ∷ drop (i + 1) lines) (sym e))
 
 -- a line that gives what is known next
 pub lines-next : (tech : Tech) (cells : List Known) (known next : Known) (lines : List Line) (i : ℕ) (line : Line) → i < length lines → line ≡ get_or lines i line
@@ -56,16 +50,11 @@ lines-refused tech cells known lines i line fault r whole lt e fails is same =
 
 -- no line is left
 pub lines-end : (tech : Tech) (cells : List Known) (known : Known) (lines : List Line) (i : ℕ) → length lines ≤ i → after_lines tech cells known (drop i lines) ≡ Ok known
-lines-end tech cells known [] zero le = refl
-lines-end tech cells known [] (suc i) le = refl
-lines-end tech cells known (line ∷ lines) zero le = absurd (omega arith)
-lines-end tech cells known (line ∷ lines) (suc i) le = lines-end tech cells known lines i (omega arith)
+lines-end tech cells known lines i le = ap (after_lines tech cells known) (drop_all i lines le)
 
 -- each line's form is one
 pub form-at : (lines : List Line) (i : ℕ) (line : Line) → AllByRecursion IsLine lines → i < length lines → line ≡ get_or lines i line → IsForm line.form
-form-at [] i line all lt e = absurd (omega arith)
-form-at (first ∷ lines) zero line all lt e = let P : Line → Type 0 = λ one. IsForm one.form in subst P (sym e) all.0
-form-at (first ∷ lines) (suc i) line all lt e = form-at lines i line all.1 (omega arith) e
+form-at lines i line all lt e = subst IsLine (sym e) (all_at IsLine lines line i all lt)
 
 -- ---- a cell
 

@@ -64,11 +64,6 @@ fresh-placed names name col row e = by_test (is_fresh names name) e
     by_test true e = refl
     by_test false e = absurd cc
 
--- a test that fails refuses the line
-pub grows-refused : {X : Type 0} (cells : List Known) (result : Result X LineFault) (growing : Growing) (read : Result Known StickKind) (kind : StickKind)
-    → result ≡ Err (Kind kind) → read ≡ Err kind → Grows cells result growing read
-grows-refused cells result growing read kind is refused = let P : Result _ LineFault → Type 0 = λ r. Grows cells r growing read in subst P (sym is) refused
-
 -- one more name
 pub capped_names-push : (names : Names) (name : List ℕ) (thing : Thing) → capped_names (names ++ (name, thing) ∷ []) ≡ capped_names names ++ (name, capped_thing thing) ∷ []
 capped_names-push [] name thing = refl
@@ -97,9 +92,6 @@ placed-kept kept names name col row r is e = sym (e ∙ ap (λ entries. placed e
 
 pub fresh-kept : (kept : Names) (name : List ℕ) (col row : ℕ) (r : Result (Unit {0}) StickKind) → r ≡ placed kept name col row → r ≡ Ok tt → IsTrue (is_fresh kept name)
 fresh-kept kept name col row r e ok = fresh-placed kept name col row (sym e ∙ ok)
-
-pub fresh-names : (kept names : Names) (name : List ℕ) → kept ≡ capped_names names → IsTrue (is_fresh kept name) → IsTrue (is_fresh names name)
-fresh-names kept names name is fresh = sym (is_fresh-capped names name) ∙ ap (λ entries. is_fresh entries name) (sym is) ∙ fresh
 
 -- ---- each form, by what its tests give
 

@@ -32,7 +32,7 @@ same_place [] (table ∷ tables) name are = absurd are
 same_place (known ∷ cells) [] name are = absurd are
 same_place (known ∷ cells) (table ∷ tables) name are =
     let rest : position_or_len (λ (other : Table). bytes_eq name other.name.now) tables ≡ position_or_len (λ (cell : Known). bytes_eq name cell.name) cells = same_place cells tables name are.1 in
-    ap (λ n. cond (not (bytes_eq name table.name.now)) (1 + n) 0) rest ∙ ap (λ text. cond (not (bytes_eq name text)) (1 + position_or_len (λ (cell : Known). bytes_eq name cell.name) cells) 0) are.0.name
+    ap (λ n. cond (not (bytes_eq name table.name.now)) (1 + n) 0) rest ∙ ap (λ text. cond (not (bytes_eq name text)) (1 + position_or_len (λ (cell : Known). bytes_eq name cell.name) cells) 0) are.0.tells.name
 
 -- the first table with a name has the number of the cell with this name
 pub position-name : (cells : List Known) (tables : List Table) (name : List ℕ) → AreTables cells tables → position (λ table. bytes_eq name table.name.now) tables ≡ number_of cells name

@@ -51,9 +51,9 @@ pub usable-table : (used : Known) (table : Table) (col row : ℕ) → IsTableOf 
 usable-table used table col row is =
     let ports : length table.ports.items ≡ length used.plugs = ap length is.ports ∙ length-map used.plugs (port_of (is_light used)) in
     ap (λ (n : ℕ). usable (n == 0) table.depth (col + table.most_col) (row + table.most_row)) ports
-    ∙ ap (λ (n : ℕ). usable (is_empty used.plugs) n (col + table.most_col) (row + table.most_row)) is.depth
-    ∙ ap (λ (n : ℕ). usable (is_empty used.plugs) used.depth (col + n) (row + table.most_row)) is.most_col
-    ∙ ap (λ (n : ℕ). usable (is_empty used.plugs) used.depth (col + greatest_col used.nodes) (row + n)) is.most_row
+    ∙ ap (λ (n : ℕ). usable (is_empty used.plugs) n (col + table.most_col) (row + table.most_row)) is.tells.depth
+    ∙ ap (λ (n : ℕ). usable (is_empty used.plugs) used.depth (col + n) (row + table.most_row)) is.tells.most_col
+    ∙ ap (λ (n : ℕ). usable (is_empty used.plugs) used.depth (col + greatest_col used.nodes) (row + n)) is.tells.most_row
 
 near_from : (col row : ℕ) → (is_place col && is_place row) ≡ true → (col ≤ 4095) × (row ≤ 4095)
 near_from col row e = (grind (arith, nat_tests), grind (arith, nat_tests))
@@ -79,8 +79,8 @@ use-found cells known tables growing name cell col row place table r are grown f
     let number : number_of cells cell ≡ Some place = sym (position-name cells tables cell are) ∙ found in
     let is : IsTableOf (known_at cells place) table = table_at cells tables place table are (number-lt cells cell place number) at in (
       use-by cells known name cell col row true true (Some place)
-          (sym (is_fresh-capped known.names name) ∙ ap (λ names. is_fresh names name) (sym grown.names) ∙ fresh)
-          (ap (λ text. not (bytes_eq cell text)) (sym grown.name) ∙ other) number
+          (sym (is_fresh-capped known.names name) ∙ ap (λ names. is_fresh names name) (sym grown.tells.names) ∙ fresh)
+          (ap (λ text. not (bytes_eq cell text)) (sym grown.tells.name) ∙ other) number
           ∙ with_use-by known name place (known_at cells place) col row r (checked ∙ usable-table (known_at cells place) table col row is),
       is,
       number-lt cells cell place number,

@@ -11,13 +11,13 @@ use Rattle.cell_model.specs.declared.cell.WireEnd.TheVariants as ends
 use Rattle.stick_cell.specs.declared.names.Found.{Found}
 use Rattle.stick_cell.specs.declared.growing.Growing.{Growing}
 use Rattle.stick_cell.specs.Checks.{demand, is_fresh, is_place}
-use Rattle.stick_cell.specs.Known.{Known, Plug, no_plug, greatest_col, greatest_row}
+use Rattle.stick_cell.specs.Known.{Known, Plug, no_plug}
 use Rattle.stick_cell.specs.Paths.{Names}
 use Rattle.stick_cell.specs.Lines.{wired_of}
-use Rattle.stick_cell.specs.Counts.{weight_of, boxes_of, capped}
-use Rattle.stick_cell.specs.Kept.{capped_names, kept_found}
-use Rattle.stick_cell.specs.NameEntries.{entries_of}
+use Rattle.stick_cell.specs.Counts.{capped}
+use Rattle.stick_cell.specs.Kept.{kept_found}
 use Rattle.stick_cell.specs.Steps.{AreStepsOf}
+use Rattle.stick_cell.specs.Tables.{Tells}
 
 -- a port before the last line of its cell: the number of its wire is capped
 abbrev pub port_so_far : Plug → CellPort
@@ -29,17 +29,9 @@ IsWiredBelow count plug = plug.port.wire ≤ count
 
 -- what is kept is that of the lines so far
 pub record IsGrowing (cells : List Known) (known : Known) (growing : Growing) : Type 0 where
-  pub name : growing.table.name.now ≡ known.name
-  pub names : entries_of growing.table.names ≡ capped_names known.names
+  pub tells : Tells known growing.table
   pub ports : growing.table.ports.items ≡ map port_so_far known.plugs
   pub wired : growing.wired.items ≡ wired_of known
-  pub nodes : growing.table.nodes ≡ capped (length known.nodes)
-  pub wires : growing.table.wires ≡ capped (length known.wires)
-  pub weight : growing.table.weight ≡ capped (weight_of known)
-  pub boxes : growing.table.boxes ≡ capped (boxes_of known)
-  pub most_col : growing.table.most_col ≡ greatest_col known.nodes
-  pub most_row : growing.table.most_row ≡ greatest_row known.nodes
-  pub depth : growing.table.depth ≡ known.depth
   pub steps : AreStepsOf cells known growing.table.steps.items
   pub below : AllByRecursion (IsWiredBelow (length known.wires)) known.plugs
 

@@ -14,10 +14,10 @@ use Rattle.stick_cell.specs.NameEntries.{entries_of}
 use Rattle.stick_cell.specs.declared.steps.Step.{Step}
 use Rattle.stick_cell.specs.Steps.{AreStepsOf}
 
-pub record IsTableOf (known : Known) (table : Table) : Type 0 where
+-- the table tells of the cell what its lines and its ports do not
+pub record Tells (known : Known) (table : Table) : Type 0 where
   pub name : table.name.now ≡ known.name
   pub names : entries_of table.names ≡ capped_names known.names
-  pub ports : table.ports.items ≡ ports_of known
   pub nodes : table.nodes ≡ capped (length known.nodes)
   pub wires : table.wires ≡ capped (length known.wires)
   pub weight : table.weight ≡ capped (weight_of known)
@@ -25,6 +25,10 @@ pub record IsTableOf (known : Known) (table : Table) : Type 0 where
   pub most_col : table.most_col ≡ greatest_col known.nodes
   pub most_row : table.most_row ≡ greatest_row known.nodes
   pub depth : table.depth ≡ known.depth
+
+pub record IsTableOf (known : Known) (table : Table) : Type 0 where
+  pub tells : Tells known table
+  pub ports : table.ports.items ≡ ports_of known
 
 abbrev pub AreTables : List Known → List Table → Type 0
 AreTables [] [] = Unit {0}

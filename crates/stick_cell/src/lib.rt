@@ -2,9 +2,9 @@
 //! stand for.
 //!
 //! What the layer above uses: `resolve` gives the cells exactly where the definition of the checks (`specs/Lines.antt`)
-//! finds no fault, and else its first one; `Cells::inline` is exactly the inlined cell of that definition, `weight` and
-//! `boxes` count it without building it. Columns, rows and places are coarse coordinates; widths and sizes are in u, the grid
-//! unit.
+//! finds no fault, each of them sound, and else the first fault; `Cells::inline` is exactly the inlined cell of that
+//! definition, `weight` and `boxes` count it without building it. A wire is refused by the rules of `specs/Refusals.antt`.
+//! Columns, rows and places are coarse coordinates; widths and sizes are in u, the grid unit.
 #![tactic(auto)]
 
 #[cfg(test)]

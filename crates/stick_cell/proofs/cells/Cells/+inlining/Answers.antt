@@ -86,7 +86,7 @@ inline-loop-step-preserved t c =
 whole : (t : ℕ) (c : goal.inline-After-into_cell t) → c.into_cell.result ≡ cell_of (known_at (known_of c.args.self.now) c.args.cell)
 whole t c =
     all_read c.args.self.now c.args.cell c.as_slice-step-items.result.now c.loop-step.step-index c.loop-step.parts c.in_ok-name.name c.into_cell.result (omega arith) c.loop-step.invariant
-    (c.in_ok-name.ensures ∙ (table_read c.args.self.now c.args.cell c.index-table.result.now c.requires.resolved c.requires.within c.index-table.ensures).name) c.into_cell.ensures
+    (c.in_ok-name.ensures ∙ (table_read c.args.self.now c.args.cell c.index-table.result.now c.requires.resolved c.requires.within c.index-table.ensures).tells.name) c.into_cell.ensures
 
 -- and the cell is sound
 sound : (t : ℕ) (c : goal.inline-After-into_cell t) → IsSound c.args.self.now.tech c.into_cell.result

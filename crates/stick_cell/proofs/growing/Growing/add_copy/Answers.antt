@@ -22,19 +22,21 @@ returns c = λ cells known grown earlier is.
     let nodes : length next.nodes ≡ length known.nodes + length other.nodes = omega (arith, length-append known.nodes (map (copied_node name a.col a.row) other.nodes), length-map other.nodes (copied_node name a.col a.row)) in
     let wires : length next.wires ≡ length known.wires + length other.wires = omega (arith, length-append known.wires (map (copied_wire (length known.nodes)) other.wires), length-map other.wires (copied_wire (length known.nodes))) in
     record {
-      name = grown.name;
-      names = names-push (entries_of table.names) (entries_of c.add.new.self) known.names name (thing table.nodes) (thing (length known.nodes)) c.in_ok-add.ensures grown.names (ap thing grown.nodes);
+      tells = record {
+        name = grown.tells.name;
+        names = names-push (entries_of table.names) (entries_of c.add.new.self) known.names name (thing table.nodes) (thing (length known.nodes)) c.in_ok-add.ensures grown.tells.names (ap thing grown.tells.nodes);
+        nodes = counted_copy table.nodes (length known.nodes) used.nodes (length other.nodes) c.capped_sum-self.result (length next.nodes) grown.tells.nodes is.tells.nodes c.capped_sum-self.ensures nodes;
+        wires = counted_copy table.wires (length known.wires) used.wires (length other.wires) c.capped_sum-self-2.result (length next.wires) grown.tells.wires is.tells.wires c.capped_sum-self-2.ensures wires;
+        weight = counted c.capped_sum.result (weight_of known + weight_of other) 1 c.capped_sum-self-3.result (weight_of next)
+            (counted_copy table.weight (weight_of known) used.weight (weight_of other) c.capped_sum.result (weight_of known + weight_of other) grown.tells.weight is.tells.weight c.capped_sum.ensures refl)
+            c.capped_sum-self-3.ensures (omega (arith, weight-with_copy known name a.cell other a.col a.row));
+        boxes = counted_copy table.boxes (boxes_of known) used.boxes (boxes_of other) c.capped_sum-self-4.result (boxes_of next) grown.tells.boxes is.tells.boxes c.capped_sum-self-4.ensures (boxes-with_copy known name a.cell other a.col a.row);
+        most_col = c.most_with_copy-self.ensures ∙ most_col-copies known.nodes other.nodes name a.col a.row table.most_col used.nodes used.most_col grown.tells.most_col is.tells.nodes is.tells.most_col;
+        most_row = c.most_with_copy-self-2.ensures ∙ most_row-copies known.nodes other.nodes name a.col a.row table.most_row used.nodes used.most_row grown.tells.most_row is.tells.nodes is.tells.most_row;
+        depth = omega (arith, c.max-self.ensures, grown.tells.depth, is.tells.depth);
+      };
       ports = grown.ports;
       wired = grown.wired;
-      nodes = counted_copy table.nodes (length known.nodes) used.nodes (length other.nodes) c.capped_sum-self.result (length next.nodes) grown.nodes is.nodes c.capped_sum-self.ensures nodes;
-      wires = counted_copy table.wires (length known.wires) used.wires (length other.wires) c.capped_sum-self-2.result (length next.wires) grown.wires is.wires c.capped_sum-self-2.ensures wires;
-      weight = counted c.capped_sum.result (weight_of known + weight_of other) 1 c.capped_sum-self-3.result (weight_of next)
-          (counted_copy table.weight (weight_of known) used.weight (weight_of other) c.capped_sum.result (weight_of known + weight_of other) grown.weight is.weight c.capped_sum.ensures refl)
-          c.capped_sum-self-3.ensures (omega (arith, weight-with_copy known name a.cell other a.col a.row));
-      boxes = counted_copy table.boxes (boxes_of known) used.boxes (boxes_of other) c.capped_sum-self-4.result (boxes_of next) grown.boxes is.boxes c.capped_sum-self-4.ensures (boxes-with_copy known name a.cell other a.col a.row);
-      most_col = c.most_with_copy-self.ensures ∙ most_col-copies known.nodes other.nodes name a.col a.row table.most_col used.nodes used.most_col grown.most_col is.nodes is.most_col;
-      most_row = c.most_with_copy-self-2.ensures ∙ most_row-copies known.nodes other.nodes name a.col a.row table.most_row used.nodes used.most_row grown.most_row is.nodes is.most_row;
-      depth = omega (arith, c.max-self.ensures, grown.depth, is.depth);
       steps = steps-push cells known next table.steps.items _ _ grown.steps c.in_ok-push.ensures.items (earlier, omega (arith, c.requires.near_col), omega (arith, c.requires.near_row)) refl (omega (arith, weight-with_copy known name a.cell other a.col a.row)) (λ light. refl);
       below = below-more (length known.wires) (length next.wires) known.plugs (omega arith) grown.below;
     }

@@ -20,17 +20,19 @@ returns c = λ cells known grown.
     let thing : ℕ → Thing = λ number. things.Port (record { number = number; side = c.args.side; layer = c.args.layer; place = c.args.place }) in
     let number_is : c.in-Ok.number ≡ length known.plugs = omega (arith, c.in-Ok.ensures.1, c.len.ensures, c.args.self.now.wired.ok.0, ap length grown.wired, length-map known.plugs (λ plug. plug.wired)) in
     record {
-      name = grown.name;
-      names = names-push (entries_of table.names) (entries_of c.add.new.self) known.names name (thing c.in-Ok.number) (thing (length known.plugs)) c.in_ok-add.ensures grown.names (ap thing number_is);
+      tells = record {
+        name = grown.tells.name;
+        names = names-push (entries_of table.names) (entries_of c.add.new.self) known.names name (thing c.in-Ok.number) (thing (length known.plugs)) c.in_ok-add.ensures grown.tells.names (ap thing number_is);
+        nodes = grown.tells.nodes;
+        wires = grown.tells.wires;
+        weight = grown.tells.weight ∙ ap capped (sym (weight-with_port known name c.args.side c.args.layer c.args.place));
+        boxes = grown.tells.boxes ∙ ap capped (sym (boxes-with_port known name c.args.side c.args.layer c.args.place));
+        most_col = grown.tells.most_col;
+        most_row = grown.tells.most_row;
+        depth = grown.tells.depth;
+      };
       ports = c.in_ok-push-2.ensures.items ∙ ap (λ ports. ports ++ port_so_far plug ∷ []) grown.ports ∙ sym (map-append port_so_far known.plugs (plug ∷ []));
       wired = c.in_ok-push-3.ensures.items ∙ ap (λ wired. wired ++ false ∷ []) grown.wired ∙ sym (map-append (λ (plug : Plug). plug.wired) known.plugs (plug ∷ []));
-      nodes = grown.nodes;
-      wires = grown.wires;
-      weight = grown.weight ∙ ap capped (sym (weight-with_port known name c.args.side c.args.layer c.args.place));
-      boxes = grown.boxes ∙ ap capped (sym (boxes-with_port known name c.args.side c.args.layer c.args.place));
-      most_col = grown.most_col;
-      most_row = grown.most_row;
-      depth = grown.depth;
       steps = steps-push cells known (with_port known name c.args.side c.args.layer c.args.place) table.steps.items _ _ grown.steps c.in_ok-push.ensures.items tt refl (omega (arith, weight-with_port known name c.args.side c.args.layer c.args.place)) (λ light. refl);
       below = below-push (length known.wires) known.plugs plug grown.below (omega arith);
     }

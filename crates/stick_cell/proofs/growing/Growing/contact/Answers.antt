@@ -13,7 +13,7 @@ returns-in_err-check_place c = λ cells known grown.
     let a = c.args in
     grows-residual cells c.from_residual.result a.self.now _ c.in_err-check_place.field-0.0 c.from_residual.ensures.1
     (contact-by known a.name.now a.lower a.col a.row (Err c.in_err-check_place.field-0.0)
-    (placed-kept (entries_of a.self.now.table.names) known.names a.name.now a.col a.row _ grown.names (sym c.in_err-check_place.was ∙ c.check_place.ensures)))
+    (placed-kept (entries_of a.self.now.table.names) known.names a.name.now a.col a.row _ grown.tells.names (sym c.in_err-check_place.was ∙ c.check_place.ensures)))
 
 pub add_node-requires : goal.add_node-requires
 add_node-requires c =
@@ -26,6 +26,6 @@ returns c = λ cells known grown.
     let P : NodeKind → Type 0 = λ kind. IsGrowing cells (with_node known a.name.now kind a.col a.row) c.add_node.new.self in (
       with_node known a.name.now (kinds.Contact (layer_of a.lower)) a.col a.row,
       contact-by known a.name.now a.lower a.col a.row (Ok tt)
-          (placed-kept (entries_of a.self.now.table.names) known.names a.name.now a.col a.row _ grown.names (sym c.in_ok-check_place.was ∙ c.check_place.ensures)),
+          (placed-kept (entries_of a.self.now.table.names) known.names a.name.now a.col a.row _ grown.tells.names (sym c.in_ok-check_place.was ∙ c.check_place.ensures)),
       subst P (ap kinds.Contact c.layer_of-lower.ensures) (c.in_ok-add_node.ensures cells known grown),
     )

@@ -14,7 +14,7 @@ returns-then-not-is_fresh c = λ cells known are grown.
     let a = c.args in
     let fresh : is_fresh (entries_of a.self.now.table.names) a.name.now ≡ false = search rules in
     use-by cells known a.name.now a.cell.now a.col a.row false (not (bytes_eq a.cell.now known.name)) (number_of cells a.cell.now)
-    (sym (is_fresh-capped known.names a.name.now) ∙ ap (λ names. is_fresh names a.name.now) (sym grown.names) ∙ fresh) refl refl
+    (sym (is_fresh-capped known.names a.name.now) ∙ ap (λ names. is_fresh names a.name.now) (sym grown.tells.names) ∙ fresh) refl refl
 
 pub returns-then-eq : goal.returns-then-eq
 returns-then-eq c = λ cells known are grown.
@@ -22,8 +22,8 @@ returns-then-eq c = λ cells known are grown.
     let fresh : is_fresh (entries_of a.self.now.table.names) a.name.now ≡ true = search rules in
     let same : not (bytes_eq a.cell.now a.self.now.table.name.now) ≡ false = search rules in
     use-by cells known a.name.now a.cell.now a.col a.row true false (number_of cells a.cell.now)
-    (sym (is_fresh-capped known.names a.name.now) ∙ ap (λ names. is_fresh names a.name.now) (sym grown.names) ∙ fresh)
-    (ap (λ name. not (bytes_eq a.cell.now name)) (sym grown.name) ∙ same) refl
+    (sym (is_fresh-capped known.names a.name.now) ∙ ap (λ names. is_fresh names a.name.now) (sym grown.tells.names) ∙ fresh)
+    (ap (λ name. not (bytes_eq a.cell.now name)) (sym grown.tells.name) ∙ same) refl
 
 pub returns-in_default : goal.returns-in_default
 returns-in_default c = λ cells known are grown.
@@ -32,8 +32,8 @@ returns-in_default c = λ cells known are grown.
     let other : not (bytes_eq a.cell.now a.self.now.table.name.now) ≡ true = search rules in
     let none : c.place_of.result ≡ None = search rules in
     use-by cells known a.name.now a.cell.now a.col a.row true true None
-    (sym (is_fresh-capped known.names a.name.now) ∙ ap (λ names. is_fresh names a.name.now) (sym grown.names) ∙ fresh)
-    (ap (λ name. not (bytes_eq a.cell.now name)) (sym grown.name) ∙ other)
+    (sym (is_fresh-capped known.names a.name.now) ∙ ap (λ names. is_fresh names a.name.now) (sym grown.tells.names) ∙ fresh)
+    (ap (λ name. not (bytes_eq a.cell.now name)) (sym grown.tells.name) ∙ other)
     (sym (position-name cells a.tables.now a.cell.now are) ∙ sym c.place_of.ensures ∙ none)
 
 pub returns-in_err-check_use : goal.returns-in_err-check_use

@@ -13,30 +13,21 @@ returns-clause-table c = λ cells known is.
     elim c.if-table-gt-MOST_ITEMS.branch [
       | then-table-gt-MOST_ITEMS w ↦
           subst P (sym w.table-is) (record {
-            name = is.name;
-            names = is.names;
+            tells = record {
+              name = is.tells.name;
+              names = is.tells.names;
+              nodes = is.tells.nodes;
+              wires = is.tells.wires;
+              weight = is.tells.weight;
+              boxes = is.tells.boxes;
+              most_col = is.tells.most_col;
+              most_row = is.tells.most_row;
+              depth = is.tells.depth;
+            };
             ports = ports-forgotten cells known growing w.forget_wires.new.ports.items is w.if-table-gt-MOST_ITEMS.true w.forget_wires.ensures;
-            nodes = is.nodes;
-            wires = is.wires;
-            weight = is.weight;
-            boxes = is.boxes;
-            most_col = is.most_col;
-            most_row = is.most_row;
-            depth = is.depth;
           })
       | else-table-gt-MOST_ITEMS w ↦
-          subst P (sym w.table-is) (record {
-            name = is.name;
-            names = is.names;
-            ports = ports-told cells known growing is w.if-table-gt-MOST_ITEMS.false;
-            nodes = is.nodes;
-            wires = is.wires;
-            weight = is.weight;
-            boxes = is.boxes;
-            most_col = is.most_col;
-            most_row = is.most_row;
-            depth = is.depth;
-          })
+          subst P (sym w.table-is) (record { tells = is.tells; ports = ports-told cells known growing is w.if-table-gt-MOST_ITEMS.false })
     ]
 
 pub returns-clause-steps : goal.returns-clause-steps

@@ -9,4 +9,4 @@ pub returns : goal.returns
 returns c = λ cells known are grown.
     let a = c.args in
     found-known (found_at cells known a.path.now) c.found_at.result c.ok_or.result c.ok_or.ensures.value
-    (c.found_at.ensures ∙ found_at-kept cells a.tables.now known (entries_of a.self.now.table.names) a.path.now are grown.names)
+    (c.found_at.ensures ∙ found_at-kept cells a.tables.now known (entries_of a.self.now.table.names) a.path.now are grown.tells.names)

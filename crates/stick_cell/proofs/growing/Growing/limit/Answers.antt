@@ -77,17 +77,19 @@ returns c = λ tech cells known are tables path_a path_b grown is.
           ∙ ap (λ high. high >>= (λ high. limits_of known a.vertical a.at_most a.n low.0 high)) high.1
           ∙ ap (λ b. demand (not b) BadLimit >>= (λ _. Ok (with_limit known (limit_of a.vertical a.at_most a.n low.0 high.0)))) (found.5 low.0 high.0 low.1 high.1 ∙ other),
       record {
-        name = is.name;
-        names = is.names;
+        tells = record {
+          name = is.tells.name;
+          names = is.tells.names;
+          nodes = is.tells.nodes;
+          wires = is.tells.wires;
+          weight = counted table.weight (weight_of known) 1 c.capped_sum-self.result (weight_of next) is.tells.weight c.capped_sum-self.ensures (weight-with_limit known limit);
+          boxes = is.tells.boxes ∙ ap capped (sym (boxes-with_limit known limit));
+          most_col = is.tells.most_col;
+          most_row = is.tells.most_row;
+          depth = is.tells.depth;
+        };
         ports = is.ports;
         wired = is.wired;
-        nodes = is.nodes;
-        wires = is.wires;
-        weight = counted table.weight (weight_of known) 1 c.capped_sum-self.result (weight_of next) is.weight c.capped_sum-self.ensures (weight-with_limit known limit);
-        boxes = is.boxes ∙ ap capped (sym (boxes-with_limit known limit));
-        most_col = is.most_col;
-        most_row = is.most_row;
-        depth = is.depth;
         steps = steps-push cells known next table.steps.items _ _ is.steps c.in_ok-push.ensures.items tt refl (omega (arith, weight-with_limit known limit))
             (λ light. limit-exact known next low.0 high.0 c.in_ok-low.low c.in_ok-high.high a.vertical a.at_most a.n _ c.axis_where.result light refl (found.6 low.0 low.1) (found.7 high.0 high.1) low.2 high.2 c.axis_where.ensures (search rules));
         below = is.below;

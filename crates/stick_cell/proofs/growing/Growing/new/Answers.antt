@@ -7,17 +7,19 @@ use Rattle.stick_cell.proofs.growing.Growing.new.Goals as goal
 pub returns : goal.returns
 unfolding weight_of boxes_of items_in boxes_in
 returns c = λ cells. record {
-  name = refl;
-  names = c.new.ensures;
+  tells = record {
+    name = refl;
+    names = c.new.ensures;
+    nodes = refl;
+    wires = refl;
+    weight = refl;
+    boxes = refl;
+    most_col = refl;
+    most_row = refl;
+    depth = refl;
+  };
   ports = c.new-3.ensures.items;
   wired = c.new-4.ensures.items;
-  nodes = refl;
-  wires = refl;
-  weight = refl;
-  boxes = refl;
-  most_col = refl;
-  most_row = refl;
-  depth = refl;
   steps = steps-none cells c.args.name.now _ c.new-2.ensures.items;
   below = tt;
 }
