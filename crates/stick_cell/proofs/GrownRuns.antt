@@ -30,7 +30,7 @@ use Rattle.stick_cell.specs.declared.names.Found.TheVariants.{At}
 use Rattle.stick_cell.specs.declared.names.Run.{Run}
 use Rattle.stick_cell.specs.Known.{Known, Plug, cell_of, no_plug, plug_at}
 use Rattle.stick_cell.specs.Checks.{demand, sized}
-use Rattle.stick_cell.specs.Wires.{terminal, line_of, run_along, run_between, straight, takes_layer, takes_along, is_free, is_within_pad, end_of, at_both, wire_between}
+use Rattle.stick_cell.specs.Wires.{terminal, line_of, run_along, run_between, straight, takes_layer, takes_along, is_free, is_within_pad, end_of, at_both, wire_along, wire_on, wire_between}
 use Rattle.cell_model.specs.Wiring.{is_same_axis, axis_of, is_low_side, is_same_layer, node_takes, node_takes_along, node_pad}
 use Rattle.cell_model.specs.Sound.{node_at, port_at, IsEnd, Takes, IsOnLowSide, IsOnHighSide, line_at, IsInOrder, IsWithinPad, IsWire, EndsAt}
 use Rattle.stick_cell.proofs.Accepted.{bound, two_bound, demanded, two_demanded, both, terminal_ok, straight_ok, ok_same, eq_from_test, less_from_test, more_from_test, le_from_test}
@@ -127,57 +127,32 @@ order_from_port cell Up j (ends.Port k) = tt
 some_same : {A : Type 0} (x y : A) → ◌≡◌ {A = Option A} (Some x) (Some y) → x ≡ y
 some_same x y e = cc
 
+-- between two nodes on one line
+between : (cell : Cell) (along : Axis2) (low high : Spot) → IsNodeOf cell low → IsNodeOf cell high → line_of along low ≡ line_of along high → IsInOrder cell along (ends.Node low.number) (ends.Node high.number)
+    → IsRun cell (record { along = along; low = terminals.Node low; high = terminals.Node high })
+between cell along low high is_low is_high line ordered =
+    record {
+      low = is_low;
+      high = is_high;
+      reaches_low = tt;
+      reaches_high = tt;
+      low_side = tt;
+      high_side = tt;
+      straight = node_line cell along low is_low ∙ line ∙ sym (node_line cell along high is_high);
+      ordered = ordered;
+    }
+
 -- two nodes in a row
 across : (cell : Cell) (a b : Spot) (is_low : Bool) → IsNodeOf cell a → IsNodeOf cell b → a.row ≡ b.row → (is_low ≡ true → a.col < b.col) → (is_low ≡ false → b.col < a.col)
     → IsRun cell (run_along Across is_low (terminals.Node a) (terminals.Node b))
-across cell a b true ia ib line less more =
-    record {
-      low = ia;
-      high = ib;
-      reaches_low = tt;
-      reaches_high = tt;
-      low_side = tt;
-      high_side = tt;
-      straight = ia.row ∙ line ∙ sym ib.row;
-      ordered = omega (arith, less refl, ia.col, ib.col);
-    }
-across cell a b false ia ib line less more =
-    record {
-      low = ib;
-      high = ia;
-      reaches_low = tt;
-      reaches_high = tt;
-      low_side = tt;
-      high_side = tt;
-      straight = ib.row ∙ sym line ∙ sym ia.row;
-      ordered = omega (arith, more refl, ia.col, ib.col);
-    }
+across cell a b true ia ib line less more = between cell Across a b ia ib line (omega (arith, less refl, ia.col, ib.col))
+across cell a b false ia ib line less more = between cell Across b a ib ia (sym line) (omega (arith, more refl, ia.col, ib.col))
 
 -- two nodes in a column
 up : (cell : Cell) (a b : Spot) (is_low : Bool) → IsNodeOf cell a → IsNodeOf cell b → a.col ≡ b.col → (is_low ≡ true → a.row < b.row) → (is_low ≡ false → b.row < a.row)
     → IsRun cell (run_along Up is_low (terminals.Node a) (terminals.Node b))
-up cell a b true ia ib line less more =
-    record {
-      low = ia;
-      high = ib;
-      reaches_low = tt;
-      reaches_high = tt;
-      low_side = tt;
-      high_side = tt;
-      straight = ia.col ∙ line ∙ sym ib.col;
-      ordered = omega (arith, less refl, ia.row, ib.row);
-    }
-up cell a b false ia ib line less more =
-    record {
-      low = ib;
-      high = ia;
-      reaches_low = tt;
-      reaches_high = tt;
-      low_side = tt;
-      high_side = tt;
-      straight = ib.col ∙ sym line ∙ sym ia.col;
-      ordered = omega (arith, more refl, ia.row, ib.row);
-    }
+up cell a b true ia ib line less more = between cell Up a b ia ib line (omega (arith, less refl, ia.row, ib.row))
+up cell a b false ia ib line less more = between cell Up b a ib ia (sym line) (omega (arith, more refl, ia.row, ib.row))
 
 -- between two nodes, by the two tests
 nodes_run : (cell : Cell) (a b : Spot) (row col : Bool) (run : Run) → IsNodeOf cell a → IsNodeOf cell b
@@ -197,33 +172,7 @@ nodes_run cell a b false true run ia ib on_row on_col e =
     (up cell a b (nat_lt a.row b.row) ia ib (eq_from_test a.col b.col parts.0) (less_from_test a.row b.row) (more_from_test a.row b.row parts.1))
 nodes_run cell a b false false run ia ib on_row on_col e = absurd (cc)
 
--- between a node and a port on a side, by whether the node is the low end
-node_to_port : (cell : Cell) (a : Spot) (q : Pin) (low : Bool) → IsNodeOf cell a → IsPortOf cell q → line_of (axis_of q.side) a ≡ q.place → is_low_side q.side ≡ low
-    → IsRun cell (run_along (axis_of q.side) (not low) (terminals.Node a) (terminals.Port q))
-node_to_port cell a q true ia iq line side =
-    record {
-      low = iq;
-      high = ia;
-      reaches_low = refl;
-      reaches_high = tt;
-      low_side = on_low cell q iq side;
-      high_side = tt;
-      straight = port_line cell (axis_of q.side) q iq ∙ sym line ∙ sym (node_line cell (axis_of q.side) a ia);
-      ordered = order_from_port cell (axis_of q.side) q.number (ends.Node a.number);
-    }
-node_to_port cell a q false ia iq line side =
-    record {
-      low = ia;
-      high = iq;
-      reaches_low = tt;
-      reaches_high = refl;
-      low_side = tt;
-      high_side = on_high cell q iq (ap not side);
-      straight = node_line cell (axis_of q.side) a ia ∙ line ∙ sym (port_line cell (axis_of q.side) q iq);
-      ordered = order_to_port cell (axis_of q.side) a.number q.number;
-    }
-
--- between a port and a node
+-- between a port on a side and a node, by whether the port is the low end
 port_to_node : (cell : Cell) (p : Pin) (b : Spot) (low : Bool) → IsPortOf cell p → IsNodeOf cell b → line_of (axis_of p.side) b ≡ p.place → is_low_side p.side ≡ low
     → IsRun cell (run_along (axis_of p.side) low (terminals.Port p) (terminals.Node b))
 port_to_node cell p b true ip ib line side =
@@ -248,6 +197,12 @@ port_to_node cell p b false ip ib line side =
       straight = node_line cell (axis_of p.side) b ib ∙ line ∙ sym (port_line cell (axis_of p.side) p ip);
       ordered = order_to_port cell (axis_of p.side) b.number p.number;
     }
+
+-- between a node and a port
+node_to_port : (cell : Cell) (a : Spot) (q : Pin) (low : Bool) → IsNodeOf cell a → IsPortOf cell q → line_of (axis_of q.side) a ≡ q.place → is_low_side q.side ≡ low
+    → IsRun cell (run_along (axis_of q.side) (not low) (terminals.Node a) (terminals.Port q))
+node_to_port cell a q true ia iq line side = port_to_node cell q a true iq ia line side
+node_to_port cell a q false ia iq line side = port_to_node cell q a false iq ia line side
 
 -- between two ports that lie opposite each other
 port_to_port : (cell : Cell) (p q : Pin) (low : Bool) → IsPortOf cell p → IsPortOf cell q → axis_of q.side ≡ axis_of p.side → p.place ≡ q.place → is_low_side p.side ≡ low → is_low_side q.side ≡ not low
@@ -337,20 +292,6 @@ within_pad tech cell wire (terminals.Node spot) is test =
     subst (λ (kind : NodeKind). wire.width ≤ℤ node_pad tech wire.layer kind) (sym is.kind) (le_from_test wire.width (node_pad tech wire.layer spot.kind) test)
 within_pad tech cell wire (terminals.Port pin) is test = tt
 
--- the wire along a run, if its width and ends meet the checks
-abbrev checked_wire : Tech → List Bool → Layer → Option ℕ → Run → Result Wire StickKind
-checked_wire tech wired layer width run = do
-  layers ← demand (at_both (takes_layer layer) run) WrongLayer
-  sides ← demand (at_both (takes_along layer run.along) run) WrongSide
-  free ← demand (at_both (is_free wired) run) PortWires
-  size ← sized tech layer width
-  pads ← demand (at_both (is_within_pad tech layer size) run) WideWire
-  Ok (record { layer = layer; width = size; low = end_of run.low; high = end_of run.high; along = run.along })
-
--- the wire of a layer and a width along a run
-abbrev wire_along : Layer → Run → ℤ → Wire
-wire_along layer run size = record { layer = layer; width = size; low = end_of run.low; high = end_of run.high; along = run.along }
-
 -- the wire along a run, if its width and pads meet the checks
 abbrev sized_wire : Tech → Layer → Option ℕ → Run → Result Wire StickKind
 sized_wire tech layer width run = do
@@ -368,7 +309,7 @@ record IsChecked (tech : Tech) (wired : List Bool) (layer : Layer) (run : Run) (
   pub same : wire_along layer run wire.width ≡ wire
 
 -- a wire that was accepted meets the checks
-checks_met : (tech : Tech) (wired : List Bool) (layer : Layer) (width : Option ℕ) (run : Run) (wire : Wire) → checked_wire tech wired layer width run ≡ Ok wire → IsChecked tech wired layer run wire
+checks_met : (tech : Tech) (wired : List Bool) (layer : Layer) (width : Option ℕ) (run : Run) (wire : Wire) → wire_on tech wired layer width run ≡ Ok wire → IsChecked tech wired layer run wire
 checks_met tech wired layer width run wire e =
     let met : IsTrue (at_both (takes_layer layer) run) × IsTrue (at_both (takes_along layer run.along) run) × ((demand (at_both (is_free wired) run) PortWires >>= λ u. sized_wire tech layer width run) ≡ Ok wire) =
     two_demanded (at_both (takes_layer layer) run) (at_both (takes_along layer run.along) run) WrongLayer WrongSide (demand (at_both (is_free wired) run) PortWires >>= λ u. sized_wire tech layer width run) wire e in
@@ -409,10 +350,10 @@ accepted_run : (tech : Tech) (wired : List Bool) (layer : Layer) (from to : Foun
     → (s : Terminal) × (t : Terminal) × (run : Run) × (from ≡ At s) × (to ≡ At t) × (run_between s t ≡ Some run) × IsChecked tech wired layer run wire
 unfolding wire_between
 accepted_run tech wired layer from to width wire e =
-    let ends_at : (s : Terminal) × (t : Terminal) × (terminal from ≡ Ok s) × (terminal to ≡ Ok t) × ((straight (run_between s t) >>= λ run. checked_wire tech wired layer width run) ≡ Ok wire) =
-    two_bound (terminal from) (terminal to) (λ s t. straight (run_between s t) >>= λ run. checked_wire tech wired layer width run) wire e in
-    let along : (run : Run) × (straight (run_between ends_at.0 ends_at.1) ≡ Ok run) × (checked_wire tech wired layer width run ≡ Ok wire) =
-    bound (straight (run_between ends_at.0 ends_at.1)) (λ run. checked_wire tech wired layer width run) wire ends_at.4 in (
+    let ends_at : (s : Terminal) × (t : Terminal) × (terminal from ≡ Ok s) × (terminal to ≡ Ok t) × ((straight (run_between s t) >>= λ run. wire_on tech wired layer width run) ≡ Ok wire) =
+    two_bound (terminal from) (terminal to) (λ s t. straight (run_between s t) >>= λ run. wire_on tech wired layer width run) wire e in
+    let along : (run : Run) × (straight (run_between ends_at.0 ends_at.1) ≡ Ok run) × (wire_on tech wired layer width run ≡ Ok wire) =
+    bound (straight (run_between ends_at.0 ends_at.1)) (λ run. wire_on tech wired layer width run) wire ends_at.4 in (
       ends_at.0,
       ends_at.1,
       along.0,

@@ -16,7 +16,7 @@ use Rattle.stick_cell.specs.declared.names.Found.{Found}
 use Rattle.stick_cell.specs.declared.names.Found.TheVariants.{At, AtCopy, Through}
 use Rattle.stick_cell.specs.declared.names.Run.{Run}
 use Rattle.stick_cell.specs.Checks.{demand, sized}
-use Rattle.stick_cell.specs.Wires.{terminal, line_of, run_along, run_between, straight, takes_layer, takes_along, is_free, is_within_pad, end_of, at_both, wire_between, limited}
+use Rattle.stick_cell.specs.Wires.{terminal, line_of, run_along, run_between, straight, takes_layer, takes_along, is_free, is_within_pad, end_of, at_both, wire_along, wire_between, limited}
 use Rattle.cell_model.specs.Wiring.{axis_of, is_low_side, is_same_axis}
 use Rattle.stick_cell.specs.Kept.{ended, kept_spot, kept_found, capped_spot, capped_end, capped_wire, IsNearFound}
 
@@ -159,9 +159,6 @@ tested-capped true true false width pads others make made same_pads same_wires =
 tested-capped true true true (Err kind) pads others make made same_pads same_wires = refl
 tested-capped true true true (Ok n) pads others make made same_pads same_wires =
     ap (λ (b : Bool). demand b WideWire >>= (λ pad. Ok (made n))) (same_pads n) ∙ within_pads (pads n) (make n) (made n) (same_wires n)
-
-abbrev wire_along : Layer → Run → ℤ → Wire
-wire_along layer run size = record { layer = layer; width = size; low = end_of run.low; high = end_of run.high; along = run.along }
 
 abbrev wire_of : Tech → List Bool → Layer → Option ℕ → Run → Result Wire StickKind
 wire_of tech wired layer width run =

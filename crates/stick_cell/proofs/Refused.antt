@@ -19,7 +19,7 @@ use Rattle.stick_cell.specs.declared.names.Found.{Found}
 use Rattle.stick_cell.specs.declared.names.Found.TheVariants.{At, AtCopy, Through}
 use Rattle.stick_cell.specs.declared.names.Run.{Run}
 use Rattle.stick_cell.specs.Checks.{demand, is_even_size, sized}
-use Rattle.stick_cell.specs.Wires.{line_of, run_between, straight, takes_layer, takes_along, is_free, is_within_pad, end_of, at_both, wire_between}
+use Rattle.stick_cell.specs.Wires.{line_of, run_between, straight, takes_layer, takes_along, is_free, is_within_pad, at_both, wire_along, wire_on, wire_between}
 use Rattle.stick_cell.specs.Refusals.{IsOpposite, IsNotStraight, IsRefusedAtEnd, IsWrongWire, IsRefusedWire}
 use Rattle.stick_cell.proofs.Accepted.{eq_from_test, apart_from_test}
 
@@ -113,11 +113,8 @@ wrong_sized tech wired layer a b (Some w) kind e = even (or_refused (is_even_siz
 at_end : (test : Terminal → Bool) (run : Run) → at_both test run ≡ false → IsRefusedAtEnd test run
 at_end test run e = both_false (test run.low) (test run.high) e
 
-abbrev wire_of : Layer → Run → ℤ → Wire
-wire_of layer run size = record { layer = layer; width = size; low = end_of run.low; high = end_of run.high; along = run.along }
-
 abbrev pads_then : Tech → Layer → Run → ℤ → Result Wire StickKind
-pads_then tech layer run size = demand (at_both (is_within_pad tech layer size) run) WideWire >>= λ pads. Ok (wire_of layer run size)
+pads_then tech layer run size = demand (at_both (is_within_pad tech layer size) run) WideWire >>= λ pads. Ok (wire_along layer run size)
 
 abbrev free_then : Tech → List Bool → Layer → Option ℕ → Run → Result Wire StickKind
 free_then tech wired layer width run = demand (at_both (is_free wired) run) PortWires >>= λ free. sized tech layer width >>= pads_then tech layer run
@@ -125,20 +122,17 @@ free_then tech wired layer width run = demand (at_both (is_free wired) run) Port
 abbrev sides_then : Tech → List Bool → Layer → Option ℕ → Run → Result Wire StickKind
 sides_then tech wired layer width run = demand (at_both (takes_along layer run.along) run) WrongSide >>= λ sides. free_then tech wired layer width run
 
-abbrev layers_then : Tech → List Bool → Layer → Option ℕ → Run → Result Wire StickKind
-layers_then tech wired layer width run = demand (at_both (takes_layer layer) run) WrongLayer >>= λ layers. sides_then tech wired layer width run
-
-wrong_run : (tech : Tech) (wired : List Bool) (layer : Layer) (a b : Terminal) (width : Option ℕ) (kind : StickKind) (run : Run) → run_between a b ≡ Some run → layers_then tech wired layer width run ≡ Err kind
+wrong_run : (tech : Tech) (wired : List Bool) (layer : Layer) (a b : Terminal) (width : Option ℕ) (kind : StickKind) (run : Run) → run_between a b ≡ Some run → wire_on tech wired layer width run ≡ Err kind
     → IsWrongWire tech wired layer a b width kind
 wrong_run tech wired layer a b width kind run is e = layers (or_refused (at_both (takes_layer layer) run) WrongLayer kind (sides_then tech wired layer width run) e)
   where
-    pads : (size : ℤ) → sized tech layer width ≡ Ok size → ((at_both (is_within_pad tech layer size) run ≡ false) × (WideWire ≡ kind)) ⊎ (◌≡◌ {A = Result Wire StickKind} (Ok (wire_of layer run size)) (Err kind)) → IsWrongWire tech wired layer a b width kind
+    pads : (size : ℤ) → sized tech layer width ≡ Ok size → ((at_both (is_within_pad tech layer size) run ≡ false) × (WideWire ≡ kind)) ⊎ (◌≡◌ {A = Result Wire StickKind} (Ok (wire_along layer run size)) (Err kind)) → IsWrongWire tech wired layer a b width kind
     pads size of (inl (wide, same)) = subst (IsWrongWire tech wired layer a b width) same (run, size, is, of, at_end (is_within_pad tech layer size) run wide)
     pads size of (inr e) = absurd (cc)
 
     sizes : (r : Result ℤ StickKind) → sized tech layer width ≡ r → (r >>= pads_then tech layer run) ≡ Err kind → IsWrongWire tech wired layer a b width kind
     sizes (Err k) of e = wrong_sized tech wired layer a b width kind (of ∙ ap Err (same_kind {A = Wire} k kind e))
-    sizes (Ok size) of e = pads size of (or_refused (at_both (is_within_pad tech layer size) run) WideWire kind (Ok (wire_of layer run size)) e)
+    sizes (Ok size) of e = pads size of (or_refused (at_both (is_within_pad tech layer size) run) WideWire kind (Ok (wire_along layer run size)) e)
 
     free : ((at_both (is_free wired) run ≡ false) × (PortWires ≡ kind)) ⊎ ((sized tech layer width >>= pads_then tech layer run) ≡ Err kind) → IsWrongWire tech wired layer a b width kind
     free (inl (taken, same)) = subst (IsWrongWire tech wired layer a b width) same (run, is, at_end (is_free wired) run taken)
@@ -160,6 +154,6 @@ refused_wire tech wired layer (At a) AtCopy width kind e = sym (same_kind {A = W
 refused_wire tech wired layer (At a) Through width kind e = sym (same_kind {A = Wire} WrongTerminal kind e)
 refused_wire tech wired layer (At a) (At b) width kind e = by (run_between a b) refl e
   where
-    by : (r : Option Run) → run_between a b ≡ r → (straight r >>= layers_then tech wired layer width) ≡ Err kind → IsWrongWire tech wired layer a b width kind
+    by : (r : Option Run) → run_between a b ≡ r → (straight r >>= wire_on tech wired layer width) ≡ Err kind → IsWrongWire tech wired layer a b width kind
     by None is e = subst (IsWrongWire tech wired layer a b width) (same_kind {A = Wire} NotStraight kind e) (no_run a b is)
     by (Some run) is e = wrong_run tech wired layer a b width kind run is e

@@ -83,18 +83,27 @@ end_of (Port pin) = ends.Port pin.number
 abbrev pub at_both : (Terminal → Bool) → Run → Bool
 at_both test run = test run.low && test run.high
 
+-- the wire of a layer and a width along a run
+abbrev pub wire_along : Layer → Run → ℤ → Wire
+wire_along layer run size = record { layer = layer; width = size; low = end_of run.low; high = end_of run.high; along = run.along }
+
+-- and whether the ends of the run take it
+abbrev pub wire_on : Tech → List Bool → Layer → Option ℕ → Run → Result Wire StickKind
+wire_on tech wired layer width run = do
+  layers ← demand (at_both (takes_layer layer) run) WrongLayer
+  sides ← demand (at_both (takes_along layer run.along) run) WrongSide
+  free ← demand (at_both (is_free wired) run) PortWires
+  size ← sized tech layer width
+  pads ← demand (at_both (is_within_pad tech layer size) run) WideWire
+  Ok (wire_along layer run size)
+
 -- the wire of a layer between the things that two paths have come to
 unfoldable pub wire_between : Tech → List Bool → Layer → Found → Found → Option ℕ → Result Wire StickKind
 wire_between tech wired layer a b width = do
   from ← terminal a
   to ← terminal b
   run ← straight (run_between from to)
-  layers ← demand (at_both (takes_layer layer) run) WrongLayer
-  sides ← demand (at_both (takes_along layer run.along) run) WrongSide
-  free ← demand (at_both (is_free wired) run) PortWires
-  size ← sized tech layer width
-  pads ← demand (at_both (is_within_pad tech layer size) run) WideWire
-  Ok (record { layer = layer; width = size; low = end_of run.low; high = end_of run.high; along = run.along })
+  wire_on tech wired layer width run
 
 -- ---- limits
 
