@@ -7,7 +7,7 @@ use Rattle.mask_out.specs.Masks.{Mask, mask_layers}
 
 -- a box of CIF: its extents on x and y, and its centre
 abbrev pub box_line : ℤ → ℤ → ℤ → ℤ → List ℕ
-box_line width height x y = codes "B " ++ (signed_decimal width ++ (32 ∷ (signed_decimal height ++ (32 ∷ (signed_decimal x ++ (32 ∷ (signed_decimal y ++ (59 ∷ 10 ∷ []))))))))
+box_line width height x y = codes "B " ++ (signed_decimal width ++ (codes " " ++ (signed_decimal height ++ (codes " " ++ (signed_decimal x ++ (codes " " ++ (signed_decimal y ++ codes ";\n")))))))
 
 -- in units of half of u, so nothing is rounded
 abbrev pub box_text : Mask → List ℕ
@@ -39,7 +39,7 @@ layers_text masks = flat_map (λ layer. layer_text layer (filter (λ (m : Mask).
 
 -- the symbol's number and scale
 abbrev pub scale_line : ℕ → ℤ → List ℕ
-scale_line number unit = codes "DS " ++ (decimal number ++ (32 ∷ (signed_decimal (int_div unit (pos 2)) ++ codes " 1;\n")))
+scale_line number unit = codes "DS " ++ (decimal number ++ (codes " " ++ (signed_decimal (int_div unit (pos 2)) ++ codes " 1;\n")))
 
 -- the symbol, in units of half of u, of which the unit tells how many hundredths of a micron it has
 unfoldable pub symbol_text : ℕ → ℤ → List ℕ → List Mask → List ℕ
