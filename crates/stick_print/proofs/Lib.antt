@@ -2,3 +2,4 @@ pub mod Split
 pub mod Spelled
 pub mod Statements
 pub mod Whole
+pub mod Taken

@@ -15,49 +15,14 @@ use Rattle.stick_parse.specs.declared.design.Form.TheVariants.{Joint, Contact, F
 use Rattle.stick_parse.specs.declared.design.Statement.{Statement}
 use Rattle.stick_parse.specs.declared.design.Statement.TheVariants.{Version, Cell, Item, Grid, Row, End}
 use Rattle.stick_parse.specs.Reading.{◌>>=◌}
-use Rattle.stick_parse.specs.Words.{Word, Path, Number, AtMost, AtLeast, word_of, path_at, name_at, number_at, count_at, optional_count_at, at_most_at, layer_at, lower_at, side_at, either_at, ended}
+use Rattle.stick_parse.specs.Words.{Word, Path, Number, word_of, path_at, name_at, number_at, count_at, optional_count_at, at_most_at, layer_at, lower_at, side_at, either_at, ended}
 use Rattle.stick_parse.specs.Forms.{joint_of, contact_of, fet_of, port_of, use_of, wire_of, limit_of, version_of, cell_of, names_of, row_of, alone, form_named, item_named, statement_named, statement_of}
 use Rattle.stick_parse.specs.Lines.{tokens_or_kind, said_by_words, said_by}
-use Rattle.stick_parse.specs.Writable.{IsName, IsWidth, IsLower, IsForm, IsRow}
+use Rattle.stick_parse.specs.Writable.{IsName, IsWidth, IsLower, IsForm}
 use Rattle.stick_print.specs.Canonical.{layer_word, side_word, kind_word, direction_word, axis_word, bound_word, width_words, form_keyword, form_words, keyword_of, words_of, spaced}
+use Rattle.stick_print.specs.Said.{width_said, bound_said, form_said, said, IsStatement}
 use Rattle.stick_print.proofs.Split.{IsPlain, Says, AllSay, plain_texts, words_again}
 use Rattle.stick_print.proofs.Spelled.{first_branch, says_name, says_path, says_count, says_number, says_at_most, says_at_least, says_digits}
-
--- ---- what the words behind the keyword say
-
-abbrev width_said : Option ℕ → List Word
-width_said None = []
-width_said (Some width) = Number (pos width) ∷ []
-
-abbrev bound_said : Bool → Word
-bound_said true = AtMost
-bound_said false = AtLeast
-
-abbrev form_said : Form → List Word
-form_said (Joint name layer col row width) = Path name ∷ Path (layer_word layer) ∷ Number (pos col) ∷ Number (pos row) ∷ width_said width
-form_said (Contact name lower col row) = Path name ∷ Path (layer_word lower) ∷ Number (pos col) ∷ Number (pos row) ∷ []
-form_said (Fet name depletion vertical col row w l) =
-    Path name ∷ Path (kind_word depletion) ∷ Path (direction_word vertical) ∷ Number (pos col) ∷ Number (pos row) ∷ Number (pos w) ∷ Number (pos l) ∷ []
-form_said (Port name side layer place) = Path name ∷ Path (side_word side) ∷ Path (layer_word layer) ∷ Number (pos place) ∷ []
-form_said (Inst name cell col row) = Path name ∷ Path cell ∷ Number (pos col) ∷ Number (pos row) ∷ []
-form_said (Wire layer a b width) = Path (layer_word layer) ∷ Path a ∷ Path b ∷ width_said width
-form_said (Limit vertical a b at_most n) = Path (axis_word vertical) ∷ Path a ∷ Path b ∷ bound_said at_most ∷ Number n ∷ []
-
-abbrev said : Statement → List Word
-said Version = Number (pos 1) ∷ []
-said (Cell name) = Path name ∷ []
-said (Item form) = form_said form
-said Grid = []
-said (Row row) = map (λ name. Path name) row.names
-said End = []
-
-abbrev pub IsStatement : Statement → Type 0
-IsStatement Version = Unit {0}
-IsStatement (Cell name) = IsName name
-IsStatement (Item form) = IsForm form
-IsStatement Grid = Unit {0}
-IsStatement (Row row) = IsRow row
-IsStatement End = Unit {0}
 
 -- ---- each word says it
 
@@ -288,7 +253,7 @@ named_again Grid h = alone_again Grid
 named_again (Row row) h = row_again row.names h.0 h.1
 named_again End h = alone_again End
 
-statement_again : (statement : Statement) → IsStatement statement → statement_of (Path (keyword_of statement) ∷ said statement) ≡ Ok statement
+pub statement_again : (statement : Statement) → IsStatement statement → statement_of (Path (keyword_of statement) ∷ said statement) ≡ Ok statement
 unfolding statement_of path_at
 statement_again statement h = named_again statement h
 

@@ -22,7 +22,8 @@ use Rattle.stick_print.specs.Canonical.{keyword_of, words_of, spaced, line_of, i
 use Rattle.stick_print.specs.ReadBack.{without_number, without_numbers, lines_from, cells_from, laid_out, ReadsAs}
 use Rattle.stick_print.proofs.Spelled.{else_branch}
 use Rattle.stick_print.proofs.Split.{IsInner, inner_line, inner_at}
-use Rattle.stick_print.proofs.Statements.{IsStatement, body, line_again, plain_words, plain_keyword, some_keyword}
+use Rattle.stick_print.specs.Said.{IsStatement}
+use Rattle.stick_print.proofs.Statements.{body, line_again, plain_words, plain_keyword, some_keyword}
 
 -- ---- the lines of the text
 

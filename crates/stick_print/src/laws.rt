@@ -1,6 +1,7 @@
-//! What the definition of the canonical text promises.
+//! What the definitions of lines and of the canonical text promise.
 
 ghost use Rattle.stick_print.specs.ReadBack.{IsSaidByCanonical};
+ghost use Rattle.stick_print.specs.Said.{EachHasItsWords};
 
 use stick_parse::Design;
 
@@ -8,4 +9,10 @@ use stick_parse::Design;
 /// before it.
 pub fn canonical_says_its_design(design: &Design)
     ensures { IsSaidByCanonical design.now }
+{}
+
+/// A law, with nothing to run: a line says something exactly where its words are the keyword and the fields that the table
+/// in `specs/Said.antt` has for it.
+pub fn each_statement_has_its_words()
+    ensures { EachHasItsWords }
 {}

@@ -7,7 +7,7 @@ mod lines;
 mod printing;
 mod words;
 
-pub use laws::canonical_says_its_design;
+pub use laws::{canonical_says_its_design, each_statement_has_its_words};
 pub use printing::print;
 
 #[cfg(test)]

@@ -1,0 +1,323 @@
+-- A line that says something has the words that say it.
+use Rattle.std.proofs.Common.{◌≡◌, ℕ, ℤ, pos, negsuc, Bool, true, false, cond, eqb, leb, List, [], ◌∷◌, ◌++◌, map, Option, Some, None, Result, Ok, Err, refl, sym, ap, subst, ◌∙◌, codes}
+use Rattle.std.specs.Str.{bytes_eq}
+use Rattle.std.proofs.lemmas.Slice.Eq.{bytes_eq-Decides}
+use Rattle.stick_lex.specs.Tokens.{is_name}
+use Rattle.stick_parse.specs.declared.fault.StickKind.{StickKind}
+use Rattle.stick_parse.specs.declared.fault.StickKind.TheVariants.{BadLine}
+use Rattle.stick_parse.specs.declared.design.Layer.{Layer}
+use Rattle.stick_parse.specs.declared.design.Layer.TheVariants.{Diffusion, Poly, Metal}
+use Rattle.lam_geom.specs.declared.boxes.Side.{Side}
+use Rattle.lam_geom.specs.declared.boxes.Side.TheVariants.{Left, Right, Bottom, Top}
+use Rattle.stick_parse.specs.declared.design.Form.{Form}
+use Rattle.stick_parse.specs.declared.design.Form.TheVariants.{Joint, Contact, Fet, Port, Inst, Wire, Limit}
+use Rattle.stick_parse.specs.declared.design.Statement.{Statement}
+use Rattle.stick_parse.specs.declared.design.Statement.TheVariants.{Version, Cell, Item, Grid, Row, End}
+use Rattle.stick_parse.specs.Words.{Word, Path, Number, AtMost, AtLeast, path_at, name_at, number_at, count_of, count_at, optional_count_at, at_most_at, layer_named, layer_at, lower_named, lower_at, side_named, side_at, second_of, either_at, ended}
+use Rattle.stick_parse.specs.Forms.{joint_of, contact_of, fet_of, port_of, use_of, wire_of, limit_of, version_of, cell_of, names_of, row_of, alone, form_named, item_named, statement_named, statement_of}
+use Rattle.stick_parse.proofs.Written.{Holds, then_holds}
+use Rattle.stick_print.specs.Canonical.{layer_word, side_word, form_keyword, keyword_of}
+use Rattle.stick_print.specs.Said.{width_said, bound_said, form_said, said}
+
+-- ---- what a reader took stood in front
+
+abbrev Paths : List Word → List ℕ × List Word → Type 0
+Paths ws x = ws ≡ Path x.0 ∷ x.1
+
+abbrev Numbers : List Word → ℤ × List Word → Type 0
+Numbers ws x = ws ≡ Number x.0 ∷ x.1
+
+abbrev Counts : List Word → ℕ × List Word → Type 0
+Counts ws x = ws ≡ Number (pos x.0) ∷ x.1
+
+abbrev Widths : List Word → Option ℕ × List Word → Type 0
+Widths ws x = ws ≡ width_said x.0 ++ x.1
+
+abbrev Bounds : List Word → Bool × List Word → Type 0
+Bounds ws x = ws ≡ bound_said x.0 ∷ x.1
+
+abbrev Layers : List Word → Layer × List Word → Type 0
+Layers ws x = ws ≡ Path (layer_word x.0) ∷ x.1
+
+abbrev Sides : List Word → Side × List Word → Type 0
+Sides ws x = ws ≡ Path (side_word x.0) ∷ x.1
+
+abbrev Eithers : List ℕ → List ℕ → List Word → Bool × List Word → Type 0
+Eithers first second ws x = ws ≡ Path (cond x.0 second first) ∷ x.1
+
+abbrev Ended : List Word → Unit {0} → Type 0
+Ended ws u = ws ≡ []
+
+if_read : {A : Type 0} (P : A → Type 0) (b : Bool) (x : A) (other : Result A StickKind) → (b ≡ true → P x) → Holds P other → Holds P (cond b (Ok x) other)
+if_read P true x other h k = h refl
+if_read P false x other h k = k
+
+choose : {A : Type 0} (P : A → Type 0) (b : Bool) (x y : Result A StickKind) → (b ≡ true → Holds P x) → Holds P y → Holds P (cond b x y)
+choose P true x y h k = h refl
+choose P false x y h k = k
+
+same : (text word : List ℕ) → bytes_eq text word ≡ true → text ≡ word
+same text word e = (bytes_eq-Decides text word).0 e
+
+path_from : (ws : List Word) → Holds (Paths ws) (path_at ws)
+unfolding path_at
+path_from [] = tt
+path_from (Path text ∷ rest) = refl
+path_from (Number n ∷ rest) = tt
+path_from (AtMost ∷ rest) = tt
+path_from (AtLeast ∷ rest) = tt
+
+name_from : (ws : List Word) → Holds (Paths ws) (name_at ws)
+unfolding name_at
+name_from ws = then_holds (Paths ws) (Paths ws) (path_at ws) _ (path_from ws) (λ path k. if_read (Paths ws) (is_name path.0) path (Err BadLine) (λ e. k) tt)
+
+number_from : (ws : List Word) → Holds (Numbers ws) (number_at ws)
+unfolding number_at
+number_from [] = tt
+number_from (Path text ∷ rest) = tt
+number_from (Number n ∷ rest) = refl
+number_from (AtMost ∷ rest) = tt
+number_from (AtLeast ∷ rest) = tt
+
+count_by : (z : ℤ) (ws rest : List Word) → ws ≡ Number z ∷ rest → Holds (Counts ws) (count_of z rest)
+count_by (pos n) ws rest e = if_read (Counts ws) (leb n 1000000) (n, rest) (Err BadLine) (λ small. e) tt
+count_by (negsuc n) ws rest e = tt
+
+count_from : (ws : List Word) → Holds (Counts ws) (count_at ws)
+unfolding count_at
+count_from ws = then_holds (Numbers ws) (Counts ws) (number_at ws) _ (number_from ws) (λ number k. count_by number.0 ws number.1 k)
+
+width_from : (ws : List Word) → Holds (Widths ws) (optional_count_at ws)
+unfolding optional_count_at
+width_from [] = refl
+width_from (w ∷ ws) = then_holds (Counts (w ∷ ws)) (Widths (w ∷ ws)) (count_at (w ∷ ws)) (λ count. Ok (Some count.0, count.1)) (count_from (w ∷ ws)) (λ count k. k)
+
+bound_from : (ws : List Word) → Holds (Bounds ws) (at_most_at ws)
+unfolding at_most_at
+bound_from [] = tt
+bound_from (Path text ∷ rest) = tt
+bound_from (Number n ∷ rest) = tt
+bound_from (AtMost ∷ rest) = refl
+bound_from (AtLeast ∷ rest) = refl
+
+ended_from : (ws : List Word) → Holds (Ended ws) (ended ws)
+unfolding ended
+ended_from [] = refl
+ended_from (w ∷ ws) = tt
+
+abbrev IsLayer : List ℕ → Layer → Type 0
+IsLayer text layer = text ≡ layer_word layer
+
+layer_word_from : (text : List ℕ) → Holds (IsLayer text) (layer_named text)
+layer_word_from text =
+    if_read (IsLayer text) (bytes_eq text (codes "diff")) Diffusion _ (same text (codes "diff"))
+    (if_read (IsLayer text) (bytes_eq text (codes "poly")) Poly _ (same text (codes "poly"))
+    (if_read (IsLayer text) (bytes_eq text (codes "metal")) Metal (Err BadLine) (same text (codes "metal")) tt))
+
+lower_word_from : (text : List ℕ) → Holds (IsLayer text) (lower_named text)
+lower_word_from text =
+    if_read (IsLayer text) (bytes_eq text (codes "diff")) Diffusion _ (same text (codes "diff"))
+    (if_read (IsLayer text) (bytes_eq text (codes "poly")) Poly (Err BadLine) (same text (codes "poly")) tt)
+
+abbrev IsSide : List ℕ → Side → Type 0
+IsSide text side = text ≡ side_word side
+
+side_word_from : (text : List ℕ) → Holds (IsSide text) (side_named text)
+side_word_from text =
+    if_read (IsSide text) (bytes_eq text (codes "left")) Left _ (same text (codes "left"))
+    (if_read (IsSide text) (bytes_eq text (codes "right")) Right _ (same text (codes "right"))
+    (if_read (IsSide text) (bytes_eq text (codes "bottom")) Bottom _ (same text (codes "bottom"))
+    (if_read (IsSide text) (bytes_eq text (codes "top")) Top (Err BadLine) (same text (codes "top")) tt)))
+
+abbrev IsEither : List ℕ → List ℕ → List ℕ → Bool → Type 0
+IsEither first second text b = text ≡ cond b second first
+
+either_word_from : (first second text : List ℕ) → Holds (IsEither first second text) (second_of first second text)
+either_word_from first second text =
+    if_read (IsEither first second text) (bytes_eq text first) false _ (same text first)
+    (if_read (IsEither first second text) (bytes_eq text second) true (Err BadLine) (same text second) tt)
+
+in_front : (ws : List Word) (text word : List ℕ) (rest : List Word) → ws ≡ Path text ∷ rest → text ≡ word → ws ≡ Path word ∷ rest
+in_front ws text word rest e k = e ∙ ap (λ (t : List ℕ). Path t ∷ rest) k
+
+layer_from : (ws : List Word) → Holds (Layers ws) (layer_at ws)
+unfolding layer_at
+layer_from ws = then_holds (Paths ws) (Layers ws) (path_at ws) _ (path_from ws) (λ path k.
+    then_holds (IsLayer path.0) (Layers ws) (layer_named path.0) (λ layer. Ok (layer, path.1)) (layer_word_from path.0) (λ layer e. in_front ws path.0 (layer_word layer) path.1 k e))
+
+lower_from : (ws : List Word) → Holds (Layers ws) (lower_at ws)
+unfolding lower_at
+lower_from ws = then_holds (Paths ws) (Layers ws) (path_at ws) _ (path_from ws) (λ path k.
+    then_holds (IsLayer path.0) (Layers ws) (lower_named path.0) (λ layer. Ok (layer, path.1)) (lower_word_from path.0) (λ layer e. in_front ws path.0 (layer_word layer) path.1 k e))
+
+side_from : (ws : List Word) → Holds (Sides ws) (side_at ws)
+unfolding side_at
+side_from ws = then_holds (Paths ws) (Sides ws) (path_at ws) _ (path_from ws) (λ path k.
+    then_holds (IsSide path.0) (Sides ws) (side_named path.0) (λ side. Ok (side, path.1)) (side_word_from path.0) (λ side e. in_front ws path.0 (side_word side) path.1 k e))
+
+either_from : (first second : List ℕ) (ws : List Word) → Holds (Eithers first second ws) (either_at first second ws)
+unfolding either_at
+either_from first second ws = then_holds (Paths ws) (Eithers first second ws) (path_at ws) _ (path_from ws) (λ path k.
+    then_holds (IsEither first second path.0) (Eithers first second ws) (second_of first second path.0) (λ choice. Ok (choice, path.1)) (either_word_from first second path.0) (λ b e. in_front ws path.0 (cond b second first) path.1 k e))
+
+-- a width where nothing stands behind it
+width_last : (width : Option ℕ) (ws rest : List Word) → ws ≡ width_said width ++ rest → rest ≡ [] → ws ≡ width_said width
+width_last None ws rest e k = e ∙ k
+width_last (Some n) ws rest e k = e ∙ ap (λ (r : List Word). Number (pos n) ∷ r) k
+
+-- ---- each form
+
+abbrev Says : List ℕ → List Word → Form → Type 0
+Says keyword ws form = (keyword ≡ form_keyword form) × (ws ≡ form_said form)
+
+joint_from : (word : List ℕ) (ws : List Word) → word ≡ codes "joint" → Holds (Says word ws) (joint_of ws)
+unfolding joint_of
+joint_from word ws is =
+    then_holds (Paths ws) (Says word ws) (name_at ws) _ (name_from ws) (λ name a.
+    then_holds (Layers name.1) (Says word ws) (layer_at name.1) _ (layer_from name.1) (λ layer b.
+    then_holds (Counts layer.1) (Says word ws) (count_at layer.1) _ (count_from layer.1) (λ col c.
+    then_holds (Counts col.1) (Says word ws) (count_at col.1) _ (count_from col.1) (λ row d.
+    then_holds (Widths row.1) (Says word ws) (optional_count_at row.1) _ (width_from row.1) (λ width e.
+    then_holds (Ended width.1) (Says word ws) (ended width.1) (λ done. Ok (Joint name.0 layer.0 col.0 row.0 width.0)) (ended_from width.1) (λ done f.
+    let last : row.1 ≡ width_said width.0 = width_last width.0 row.1 width.1 e f in
+    (is, cc)))))))
+
+contact_from : (word : List ℕ) (ws : List Word) → word ≡ codes "contact" → Holds (Says word ws) (contact_of ws)
+unfolding contact_of
+contact_from word ws is =
+    then_holds (Paths ws) (Says word ws) (name_at ws) _ (name_from ws) (λ name a.
+    then_holds (Layers name.1) (Says word ws) (lower_at name.1) _ (lower_from name.1) (λ lower b.
+    then_holds (Counts lower.1) (Says word ws) (count_at lower.1) _ (count_from lower.1) (λ col c.
+    then_holds (Counts col.1) (Says word ws) (count_at col.1) _ (count_from col.1) (λ row d.
+    then_holds (Ended row.1) (Says word ws) (ended row.1) (λ done. Ok (Contact name.0 lower.0 col.0 row.0)) (ended_from row.1) (λ done f. (is, cc))))))
+
+fet_from : (word : List ℕ) (ws : List Word) → word ≡ codes "fet" → Holds (Says word ws) (fet_of ws)
+unfolding fet_of
+fet_from word ws is =
+    then_holds (Paths ws) (Says word ws) (name_at ws) _ (name_from ws) (λ name a.
+    then_holds (Eithers (codes "enh") (codes "dep") name.1) (Says word ws) (either_at (codes "enh") (codes "dep") name.1) _ (either_from (codes "enh") (codes "dep") name.1) (λ depletion b.
+    then_holds (Eithers (codes "h") (codes "v") depletion.1) (Says word ws) (either_at (codes "h") (codes "v") depletion.1) _ (either_from (codes "h") (codes "v") depletion.1) (λ vertical c.
+    then_holds (Counts vertical.1) (Says word ws) (count_at vertical.1) _ (count_from vertical.1) (λ col d.
+    then_holds (Counts col.1) (Says word ws) (count_at col.1) _ (count_from col.1) (λ row e.
+    then_holds (Counts row.1) (Says word ws) (count_at row.1) _ (count_from row.1) (λ w f.
+    then_holds (Counts w.1) (Says word ws) (count_at w.1) _ (count_from w.1) (λ l g.
+    then_holds (Ended l.1) (Says word ws) (ended l.1) (λ done. Ok (Fet name.0 depletion.0 vertical.0 col.0 row.0 w.0 l.0)) (ended_from l.1) (λ done h. (is, cc)))))))))
+
+port_from : (word : List ℕ) (ws : List Word) → word ≡ codes "port" → Holds (Says word ws) (port_of ws)
+unfolding port_of
+port_from word ws is =
+    then_holds (Paths ws) (Says word ws) (name_at ws) _ (name_from ws) (λ name a.
+    then_holds (Sides name.1) (Says word ws) (side_at name.1) _ (side_from name.1) (λ side b.
+    then_holds (Layers side.1) (Says word ws) (layer_at side.1) _ (layer_from side.1) (λ layer c.
+    then_holds (Counts layer.1) (Says word ws) (count_at layer.1) _ (count_from layer.1) (λ place d.
+    then_holds (Ended place.1) (Says word ws) (ended place.1) (λ done. Ok (Port name.0 side.0 layer.0 place.0)) (ended_from place.1) (λ done f. (is, cc))))))
+
+use_from : (word : List ℕ) (ws : List Word) → word ≡ codes "use" → Holds (Says word ws) (use_of ws)
+unfolding use_of
+use_from word ws is =
+    then_holds (Paths ws) (Says word ws) (name_at ws) _ (name_from ws) (λ name a.
+    then_holds (Paths name.1) (Says word ws) (name_at name.1) _ (name_from name.1) (λ cell b.
+    then_holds (Counts cell.1) (Says word ws) (count_at cell.1) _ (count_from cell.1) (λ col c.
+    then_holds (Counts col.1) (Says word ws) (count_at col.1) _ (count_from col.1) (λ row d.
+    then_holds (Ended row.1) (Says word ws) (ended row.1) (λ done. Ok (Inst name.0 cell.0 col.0 row.0)) (ended_from row.1) (λ done f. (is, cc))))))
+
+wire_from : (word : List ℕ) (ws : List Word) → word ≡ codes "wire" → Holds (Says word ws) (wire_of ws)
+unfolding wire_of
+wire_from word ws is =
+    then_holds (Layers ws) (Says word ws) (layer_at ws) _ (layer_from ws) (λ layer a.
+    then_holds (Paths layer.1) (Says word ws) (path_at layer.1) _ (path_from layer.1) (λ low b.
+    then_holds (Paths low.1) (Says word ws) (path_at low.1) _ (path_from low.1) (λ high c.
+    then_holds (Widths high.1) (Says word ws) (optional_count_at high.1) _ (width_from high.1) (λ width d.
+    then_holds (Ended width.1) (Says word ws) (ended width.1) (λ done. Ok (Wire layer.0 low.0 high.0 width.0)) (ended_from width.1) (λ done f.
+    let last : high.1 ≡ width_said width.0 = width_last width.0 high.1 width.1 d f in
+    (is, cc))))))
+
+limit_from : (word : List ℕ) (ws : List Word) → word ≡ codes "limit" → Holds (Says word ws) (limit_of ws)
+unfolding limit_of
+limit_from word ws is =
+    then_holds (Eithers (codes "x") (codes "y") ws) (Says word ws) (either_at (codes "x") (codes "y") ws) _ (either_from (codes "x") (codes "y") ws) (λ vertical a.
+    then_holds (Paths vertical.1) (Says word ws) (path_at vertical.1) _ (path_from vertical.1) (λ low b.
+    then_holds (Paths low.1) (Says word ws) (path_at low.1) _ (path_from low.1) (λ high c.
+    then_holds (Bounds high.1) (Says word ws) (at_most_at high.1) _ (bound_from high.1) (λ at_most d.
+    then_holds (Numbers at_most.1) (Says word ws) (number_at at_most.1) _ (number_from at_most.1) (λ n e.
+    then_holds (Ended n.1) (Says word ws) (ended n.1) (λ done. Ok (Limit vertical.0 low.0 high.0 at_most.0 n.0)) (ended_from n.1) (λ done f. (is, cc)))))))
+
+form_from : (word : List ℕ) (ws : List Word) → Holds (Says word ws) (form_named word ws)
+unfolding form_named
+form_from word ws =
+    choose (Says word ws) (bytes_eq word (codes "joint")) _ _ (λ e. joint_from word ws (same word (codes "joint") e))
+    (choose (Says word ws) (bytes_eq word (codes "contact")) _ _ (λ e. contact_from word ws (same word (codes "contact") e))
+    (choose (Says word ws) (bytes_eq word (codes "fet")) _ _ (λ e. fet_from word ws (same word (codes "fet") e))
+    (choose (Says word ws) (bytes_eq word (codes "port")) _ _ (λ e. port_from word ws (same word (codes "port") e))
+    (choose (Says word ws) (bytes_eq word (codes "use")) _ _ (λ e. use_from word ws (same word (codes "use") e))
+    (choose (Says word ws) (bytes_eq word (codes "wire")) _ _ (λ e. wire_from word ws (same word (codes "wire") e))
+    (choose (Says word ws) (bytes_eq word (codes "limit")) _ _ (λ e. limit_from word ws (same word (codes "limit") e)) tt))))))
+
+-- ---- each statement
+
+abbrev Tells : List ℕ → List Word → Statement → Type 0
+Tells keyword ws statement = (keyword ≡ keyword_of statement) × (ws ≡ said statement)
+
+item_from : (word : List ℕ) (ws : List Word) → Holds (Tells word ws) (item_named word ws)
+unfolding item_named
+item_from word ws = then_holds (Says word ws) (Tells word ws) (form_named word ws) (λ form. Ok (Item form)) (form_from word ws) (λ form h. h)
+
+version_from : (word : List ℕ) (ws : List Word) → word ≡ codes "sticks" → Holds (Tells word ws) (version_of ws)
+unfolding version_of
+version_from word ws is =
+    then_holds (Counts ws) (Tells word ws) (count_at ws) _ (count_from ws) (λ version a.
+    then_holds (Ended version.1) (Tells word ws) (ended version.1) (λ done. cond (eqb version.0 1) (Ok Version) (Err BadLine)) (ended_from version.1) (λ done b.
+    if_read (Tells word ws) (eqb version.0 1) Version (Err BadLine) (λ e. let one : version.0 ≡ 1 = borrow.Author.Tests.eqb-true _ _ e in (is, cc)) tt))
+
+cell_from : (word : List ℕ) (ws : List Word) → word ≡ codes "cell" → Holds (Tells word ws) (cell_of ws)
+unfolding cell_of
+cell_from word ws is =
+    then_holds (Paths ws) (Tells word ws) (name_at ws) _ (name_from ws) (λ name a.
+    then_holds (Ended name.1) (Tells word ws) (ended name.1) (λ done. Ok (Cell name.0)) (ended_from name.1) (λ done b. (is, cc)))
+
+abbrev Names : List Word → List (List ℕ) → Type 0
+Names ws names = ws ≡ map (λ name. Path name) names
+
+first_word : (w : Word) (ws : List Word) (name : List ℕ) (rest : List Word) → w ∷ ws ≡ Path name ∷ rest → w ≡ Path name
+first_word w ws name rest e = cc
+
+names_from : (ws : List Word) → Holds (Names ws) (names_of ws)
+unfolding names_of
+names_from [] = refl
+names_from (w ∷ ws) =
+    then_holds (Paths (w ∷ ws)) (Names (w ∷ ws)) (name_at (w ∷ ws)) _ (name_from (w ∷ ws)) (λ name a.
+    then_holds (Names ws) (Names (w ∷ ws)) (names_of ws) (λ names. Ok (name.0 ∷ names)) (names_from ws) (λ names b.
+    ap (λ (v : Word). v ∷ ws) (first_word w ws name.0 name.1 a) ∙ ap (λ (vs : List Word). Path name.0 ∷ vs) b))
+
+row_from : (word : List ℕ) (ws : List Word) → word ≡ codes "row" → Holds (Tells word ws) (row_of ws)
+unfolding row_of
+row_from word [] is = tt
+row_from word (w ∷ ws) is = then_holds (Names (w ∷ ws)) (Tells word (w ∷ ws)) (names_of (w ∷ ws)) (λ names. Ok (Row (record { names = names }))) (names_from (w ∷ ws)) (λ names a. (is, a))
+
+alone_from : (s : Statement) (word : List ℕ) (ws : List Word) → said s ≡ [] → word ≡ keyword_of s → Holds (Tells word ws) (alone s ws)
+unfolding alone
+alone_from s word ws none is = then_holds (Ended ws) (Tells word ws) (ended ws) (λ done. Ok s) (ended_from ws) (λ done a. (is, a ∙ sym none))
+
+named_from : (word : List ℕ) (ws : List Word) → Holds (Tells word ws) (statement_named word ws)
+unfolding statement_named
+named_from word ws =
+    choose (Tells word ws) (bytes_eq word (codes "sticks")) _ _ (λ e. version_from word ws (same word (codes "sticks") e))
+    (choose (Tells word ws) (bytes_eq word (codes "cell")) _ _ (λ e. cell_from word ws (same word (codes "cell") e))
+    (choose (Tells word ws) (bytes_eq word (codes "end")) _ _ (λ e. alone_from End word ws refl (same word (codes "end") e))
+    (choose (Tells word ws) (bytes_eq word (codes "grid")) _ _ (λ e. alone_from Grid word ws refl (same word (codes "grid") e))
+    (choose (Tells word ws) (bytes_eq word (codes "row")) _ _ (λ e. row_from word ws (same word (codes "row") e)) (item_from word ws)))))
+
+abbrev Whole : List Word → Statement → Type 0
+Whole ws statement = ws ≡ Path (keyword_of statement) ∷ said statement
+
+then_whole : (ws : List Word) (word : List ℕ) (rest : List Word) → ws ≡ Path word ∷ rest → (r : Result Statement StickKind) → Holds (Tells word rest) r → Holds (Whole ws) r
+then_whole ws word rest e (Ok s) h = e ∙ ap (λ (w : List ℕ). Path w ∷ rest) h.0 ∙ ap (λ (vs : List Word). Path (keyword_of s) ∷ vs) h.1
+then_whole ws word rest e (Err kind) h = tt
+
+statement_from : (ws : List Word) → Holds (Whole ws) (statement_of ws)
+unfolding statement_of
+statement_from ws = then_holds (Paths ws) (Whole ws) (path_at ws) _ (path_from ws) (λ keyword a.
+    then_whole ws keyword.0 keyword.1 a (statement_named keyword.0 keyword.1) (named_from keyword.0 keyword.1))
+
+pub only_words : (statement : Statement) (ws : List Word) → statement_of ws ≡ Ok statement → ws ≡ Path (keyword_of statement) ∷ said statement
+only_words statement ws e = subst (Holds (Whole ws)) e (statement_from ws)

@@ -1,0 +1,6 @@
+use Rattle.stick_print.proofs.Statements.{statement_again}
+use Rattle.stick_print.proofs.Taken.{only_words}
+use Rattle.stick_print.proofs.laws.each_statement_has_its_words.Goals as goal
+
+pub returns : goal.returns
+returns c = λ statement. record { read = statement_again statement; only = only_words statement }
