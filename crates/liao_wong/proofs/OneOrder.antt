@@ -1,5 +1,5 @@
 -- What values and edges determine: the order by (value, number), and the cycle at which the rounds stop.
-use Rattle.std.proofs.Common.{◌≡◌, ℕ, suc, ◌<◌, ◌⊎◌, ℤ, ◌<ℤ◌, List, [], ◌∷◌, inl, inr, length, refl, sym, ap, subst, ◌∙◌, arith}
+use Rattle.std.proofs.Common.{◌≡◌, ℕ, suc, ◌<◌, ℤ, List, [], ◌∷◌, inl, inr, refl, sym, ap, subst, ◌∙◌, arith}
 use Rattle.std.specs.List.{AllPairs}
 use Rattle.std.proofs.lemmas.Int.{ints}
 use Rattle.cons_graph.specs.declared.edges.Edge.{Edge}
@@ -10,7 +10,7 @@ use Rattle.round_log.proofs.Chains.{In}
 use Rattle.round_log.proofs.OneOutcome.{one_stop}
 use Rattle.round_log.proofs.Planned.{In-from_contains, place_of_In}
 use Rattle.liao_wong.specs.Answers.{HasOneCycle}
-use Rattle.liao_wong.specs.Sorted.{Precedes, IsInOrderOf, HasOneOrder}
+use Rattle.liao_wong.specs.Sorted.{Precedes, HasOneOrder}
 
 -- ---- a list in which each element comes before all later ones is determined by its elements
 

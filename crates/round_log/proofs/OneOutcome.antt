@@ -1,5 +1,5 @@
 -- The rounds of a plan come out in one way.
-use Rattle.std.proofs.Common.{◌≡◌, ℕ, zero, suc, ◌<◌, ◌≤◌, true, List, length, inl, inr, refl, sym, ap, ◌∙◌, arith}
+use Rattle.std.proofs.Common.{◌≡◌, ℕ, zero, suc, ◌≤◌, true, List, length, inl, inr, sym, ap, ◌∙◌, arith}
 use Rattle.std.proofs.lemmas.Bool.{true≢false, cases_eq, cases_lt, cases_order}
 use Rattle.cons_graph.specs.Constraints.{Constraints, IsConstraintGraph}
 use Rattle.round_log.specs.declared.log.Entry.{Entry}

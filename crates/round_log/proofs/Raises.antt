@@ -89,14 +89,6 @@ raise_of-is edge rs k r q = raise_by-is (edge k) k (latest rs (edge k).from) (la
 pub raise_of-quiet : (edge : ℕ → Edge) (rs : List Entry) (k : ℕ) → raise_of edge rs k ≡ None → IsQuiet edge rs k
 raise_of-quiet edge rs k q = raise_by-quiet (edge k) k (latest rs (edge k).from) (label rs (edge k).from) (label rs (edge k).to) q
 
--- a quiet edge raises nothing
-pub quiet_no_raise : (edge : ℕ → Edge) (rs : List Entry) (k : ℕ) (r : Entry) → IsQuiet edge rs k → IsRaise edge rs k r → ⊥
-quiet_no_raise edge rs k r q m =
-    let le : (m.tail +ℤ (edge k).len) ≤ℤ q.head_for m.tail m.tail_is = q.enough m.tail m.tail_is in
-    let lt : q.head_for m.tail m.tail_is <ℤ r.value = m.higher _ (q.head_is m.tail m.tail_is) in
-    let v : r.value ≡ m.tail +ℤ (edge k).len = m.value_is in
-    omega (arith, ints)
-
 -- after its own raise an edge with different ends is quiet
 pub quiet_after_raise : (edge : ℕ → Edge) (rs : List Entry) (k : ℕ) (r : Entry) → (edge k).from ≢ (edge k).to → IsRaise edge rs k r → IsQuiet edge (r ∷ rs) k
 quiet_after_raise edge rs k r ne m =

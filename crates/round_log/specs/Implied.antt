@@ -1,5 +1,5 @@
 -- Edges that others imply.
-use Rattle.std.specs.Prelude.{ℤ, ◌≤ℤ◌, ◌↔◌, List, All, Contains}
+use Rattle.std.specs.Prelude.{◌≤ℤ◌, ◌↔◌, List, All, Contains}
 use Rattle.cons_graph.specs.declared.edges.Edge.{Edge}
 use Rattle.cons_graph.specs.Walks.{IsWalk, walk_length, HasPositiveCycle}
 
