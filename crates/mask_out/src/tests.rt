@@ -64,6 +64,10 @@ fn cell(alloc: Global) -> Result<Cell, AllocError> {
     })
 }
 
+fn is_shared<T: Send + Sync>(_value: &T) -> bool {
+    true
+}
+
 #[test]
 fn boxes_come_layer_by_layer(rt: HostRuntime) -> Result<(), Fail> {
     let alloc = rt.alloc();
@@ -83,6 +87,7 @@ fn boxes_come_layer_by_layer(rt: HostRuntime) -> Result<(), Fail> {
         y: Span { lo: 9, hi: 15 },
     };
     let drawn = |layer, area| MaskBox { layer, area };
+    assert!(rt; is_shared(&symbol));
     assert_eq!(rt; symbol.name.bytes(), b"c".as_slice());
     assert_eq!(rt;
         symbol.boxes.as_slice(),

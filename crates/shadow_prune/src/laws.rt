@@ -14,8 +14,7 @@ pub fn pruning_loses_nothing(axis: Axis, tech: &Tech, items: &[Item], coords: &C
 {}
 
 /// A law, with nothing to run: in a layout that gives each item a box, a chain of kept pairs, and of candidates whose ends lie on
-/// one variable, leads along each candidate and reaches, with the least extents of the items between, at least its spacing. So
-/// the pairs left out add no walk that is longer than all others.
+/// one variable, leads along each candidate and reaches, with the least extents of the items between, at least its spacing.
 pub fn chains_stand_for_candidates(axis: Axis, tech: &Tech, items: &[Item], coords: &Coords)
     ensures { LeavesChains axis tech.now coords.now items.now }
 {}
