@@ -16,7 +16,6 @@ use Rattle.cell_model.specs.declared.cell.Axis2.{Axis2}
 use Rattle.cell_model.specs.declared.cell.Axis2.TheVariants.{Across, Up}
 use Rattle.cell_model.specs.declared.cell.NodeKind.{NodeKind}
 use Rattle.cell_model.specs.declared.cell.Node.{Node}
-use Rattle.cell_model.specs.declared.cell.WireEnd.{WireEnd}
 use Rattle.cell_model.specs.declared.cell.WireEnd.TheVariants as ends
 use Rattle.cell_model.specs.declared.cell.Wire.{Wire}
 use Rattle.cell_model.specs.declared.cell.Port.{Port}
@@ -35,7 +34,7 @@ use Rattle.cell_model.specs.Wiring.{is_same_axis, axis_of, is_low_side, is_same_
 use Rattle.cell_model.specs.Sound.{node_at, port_at, IsEnd, Takes, IsOnLowSide, IsOnHighSide, line_at, IsInOrder, IsWithinPad, IsWire, EndsAt}
 use Rattle.stick_cell.proofs.Accepted.{bound, two_bound, demanded, two_demanded, both, terminal_ok, straight_ok, ok_same, eq_from_test, less_from_test, more_from_test, le_from_test}
 use Rattle.stick_cell.proofs.GrownNames.{IsAt}
-use Rattle.stick_cell.proofs.GrownWires.{port_of_plug}
+use Rattle.stick_cell.proofs.GrownWires.{order_to_port, order_from_port, port_of_plug}
 use Rattle.stick_cell.proofs.GrownSizes.{size_of_sized}
 
 -- ---- terminals
@@ -110,18 +109,6 @@ on_low cell pin is low = subst (λ (side : Side). IsTrue (is_low_side side)) (sy
 -- a port on a high side
 on_high : (cell : Cell) (pin : Pin) → IsPortOf cell pin → IsTrue (not (is_low_side pin.side)) → IsOnHighSide cell (ends.Port pin.number)
 on_high cell pin is high = subst (λ (side : Side). IsTrue (not (is_low_side side))) (sym is.side) high
-
--- the order asks nothing where an end is a port
-order_to_port : (cell : Cell) (along : Axis2) (j k : ℕ) → IsInOrder cell along (ends.Node j) (ends.Port k)
-order_to_port cell Across j k = tt
-order_to_port cell Up j k = tt
-
--- and so from a port
-order_from_port : (cell : Cell) (along : Axis2) (j : ℕ) (high : WireEnd) → IsInOrder cell along (ends.Port j) high
-order_from_port cell Across j (ends.Node k) = tt
-order_from_port cell Across j (ends.Port k) = tt
-order_from_port cell Up j (ends.Node k) = tt
-order_from_port cell Up j (ends.Port k) = tt
 
 -- one answer
 some_same : {A : Type 0} (x y : A) → ◌≡◌ {A = Option A} (Some x) (Some y) → x ≡ y

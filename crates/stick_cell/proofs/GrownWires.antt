@@ -1,5 +1,5 @@
 -- Wires and limits end where they did where there is more, and in a copy; no wire of a copy ends at a port.
-use Rattle.std.proofs.Common.{◌≡◌, ℕ, ◌+◌, ◌<◌, ◌≤◌, List, [], length, map, sym, ap, subst, ◌∙◌, inl, inr, arith}
+use Rattle.std.proofs.Common.{◌≡◌, ℕ, ◌+◌, ◌<◌, ◌≤◌, List, [], length, map, refl, sym, ap, subst, ◌∙◌, inl, inr, arith}
 use Rattle.std.specs.Prelude.{IsTrue, not, ◌≤ℤ◌}
 use Rattle.std.specs.List.{AllByRecursion}
 use Rattle.std.proofs.lemmas.List.{length-map}
@@ -9,6 +9,7 @@ use Rattle.rule_table.specs.declared.classes.Layer.{Layer}
 use Rattle.lam_geom.specs.declared.boxes.Side.{Side}
 use Rattle.cell_model.specs.declared.cell.Axis2.{Axis2}
 use Rattle.cell_model.specs.declared.cell.Axis2.TheVariants.{Across, Up}
+use Rattle.cell_model.specs.declared.cell.NodeKind.{NodeKind}
 use Rattle.cell_model.specs.declared.cell.Node.{Node}
 use Rattle.cell_model.specs.declared.cell.WireEnd.{WireEnd}
 use Rattle.cell_model.specs.declared.cell.WireEnd.TheVariants as ends
@@ -21,6 +22,105 @@ use Rattle.cell_model.specs.Wiring.{axis_of, is_low_side, node_takes, node_takes
 use Rattle.cell_model.specs.Sound.{node_at, port_at, wire_at, no_wire, IsEnd, Takes, IsOnLowSide, IsOnHighSide, line_at, IsInOrder, IsWithinPad, IsWire, EndsAt, IsLimit}
 use Rattle.list_facts.proofs.Elements.{all_map, all_weaker, all_at}
 use Rattle.stick_cell.proofs.GrownNames.{MoreNodes, MorePlugs}
+
+-- ---- ends that are seen in another cell
+
+-- the order asks nothing where an end is a port
+pub order_to_port : (cell : Cell) (along : Axis2) (j k : ℕ) → IsInOrder cell along (ends.Node j) (ends.Port k)
+order_to_port cell Across j k = tt
+order_to_port cell Up j k = tt
+
+-- and so from a port
+pub order_from_port : (cell : Cell) (along : Axis2) (j : ℕ) (high : WireEnd) → IsInOrder cell along (ends.Port j) high
+order_from_port cell Across j (ends.Node k) = tt
+order_from_port cell Across j (ends.Port k) = tt
+order_from_port cell Up j (ends.Node k) = tt
+order_from_port cell Up j (ends.Port k) = tt
+
+-- an end of the old cell is this one of the new cell: the same node, shifted by columns and rows, or the same port, not shifted
+abbrev IsSeenAs : Cell → Cell → ℕ → ℕ → WireEnd → WireEnd → Type 0
+IsSeenAs old new col row (ends.Node k) (ends.Node j) =
+    (j < length new.nodes) × ((node_at new.nodes j).kind ≡ (node_at old.nodes k).kind) × ((node_at new.nodes j).col ≡ col + (node_at old.nodes k).col) × ((node_at new.nodes j).row ≡ row + (node_at old.nodes k).row)
+IsSeenAs old new col row (ends.Port k) (ends.Port j) =
+    (j < length new.ports) × ((port_at new.ports j).side ≡ (port_at old.ports k).side) × ((port_at new.ports j).layer ≡ (port_at old.ports k).layer) × ((port_at new.ports j).place ≡ (port_at old.ports k).place) × (col ≡ 0) × (row ≡ 0)
+IsSeenAs old new col row end other = ⊥
+
+within_seen : (old new : Cell) (col row : ℕ) (end to : WireEnd) → IsSeenAs old new col row end to → IsEnd new to
+within_seen old new col row (ends.Node k) (ends.Node j) is = is.0
+within_seen old new col row (ends.Port k) (ends.Port j) is = is.0
+within_seen old new col row (ends.Node k) (ends.Port j) is = absurd is
+within_seen old new col row (ends.Port k) (ends.Node j) is = absurd is
+
+-- it takes the same wires
+takes_seen : (old new : Cell) (col row : ℕ) (layer : Layer) (along : Axis2) (end to : WireEnd) → IsSeenAs old new col row end to → Takes old layer along end → Takes new layer along to
+takes_seen old new col row layer along (ends.Node k) (ends.Node j) is takes = subst (λ (kind : NodeKind). IsTrue (node_takes kind layer) × IsTrue (node_takes_along kind layer along)) (sym is.1) takes
+takes_seen old new col row layer along (ends.Port k) (ends.Port j) is takes = (subst (λ (own : Layer). IsTrue (is_same_layer own layer)) (sym is.2) takes.0, ap axis_of is.1 ∙ takes.1)
+takes_seen old new col row layer along (ends.Node k) (ends.Port j) is takes = absurd is
+takes_seen old new col row layer along (ends.Port k) (ends.Node j) is takes = absurd is
+
+-- it lies on the same side
+low_seen : (old new : Cell) (col row : ℕ) (end to : WireEnd) → IsSeenAs old new col row end to → IsOnLowSide old end → IsOnLowSide new to
+low_seen old new col row (ends.Node k) (ends.Node j) is low = tt
+low_seen old new col row (ends.Port k) (ends.Port j) is low = subst (λ (side : Side). IsTrue (is_low_side side)) (sym is.1) low
+low_seen old new col row (ends.Node k) (ends.Port j) is low = absurd is
+low_seen old new col row (ends.Port k) (ends.Node j) is low = absurd is
+
+high_seen : (old new : Cell) (col row : ℕ) (end to : WireEnd) → IsSeenAs old new col row end to → IsOnHighSide old end → IsOnHighSide new to
+high_seen old new col row (ends.Node k) (ends.Node j) is high = tt
+high_seen old new col row (ends.Port k) (ends.Port j) is high = subst (λ (side : Side). IsTrue (not (is_low_side side))) (sym is.1) high
+high_seen old new col row (ends.Node k) (ends.Port j) is high = absurd is
+high_seen old new col row (ends.Port k) (ends.Node j) is high = absurd is
+
+-- how far lines along an axis are shifted
+abbrev shift_of : Axis2 → ℕ → ℕ → ℕ
+shift_of Across col row = row
+shift_of Up col row = col
+
+-- it lies on the shifted line
+line_seen : (old new : Cell) (col row : ℕ) (along : Axis2) (end to : WireEnd) → IsSeenAs old new col row end to → line_at new along to ≡ shift_of along col row + line_at old along end
+line_seen old new col row Across (ends.Node k) (ends.Node j) is = is.3
+line_seen old new col row Up (ends.Node k) (ends.Node j) is = is.2
+line_seen old new col row Across (ends.Port k) (ends.Port j) is = omega (arith, is.3, is.5)
+line_seen old new col row Up (ends.Port k) (ends.Port j) is = omega (arith, is.3, is.4)
+line_seen old new col row along (ends.Node k) (ends.Port j) is = absurd is
+line_seen old new col row along (ends.Port k) (ends.Node j) is = absurd is
+
+-- two ends are in the same order
+order_seen : (old new : Cell) (col row : ℕ) (along : Axis2) (low from high to : WireEnd) → IsSeenAs old new col row low from → IsSeenAs old new col row high to → IsInOrder old along low high → IsInOrder new along from to
+order_seen old new col row Across (ends.Node i) (ends.Node j) (ends.Node k) (ends.Node l) is it order = omega (arith, order, is.2, it.2)
+order_seen old new col row Up (ends.Node i) (ends.Node j) (ends.Node k) (ends.Node l) is it order = omega (arith, order, is.3, it.3)
+order_seen old new col row along (ends.Node i) (ends.Node j) (ends.Port k) (ends.Port l) is it order = order_to_port new along j l
+order_seen old new col row along (ends.Node i) (ends.Node j) (ends.Node k) (ends.Port l) is it order = absurd it
+order_seen old new col row along (ends.Node i) (ends.Node j) (ends.Port k) (ends.Node l) is it order = absurd it
+order_seen old new col row along (ends.Port i) (ends.Port j) high to is it order = order_from_port new along j to
+order_seen old new col row along (ends.Node i) (ends.Port j) high to is it order = absurd is
+order_seen old new col row along (ends.Port i) (ends.Node j) high to is it order = absurd is
+
+-- a wire is within the same pad
+pad_seen : (tech : Tech) (old new : Cell) (col row : ℕ) (wire : Wire) (low high end to : WireEnd) → IsSeenAs old new col row end to → IsWithinPad tech old wire end → IsWithinPad tech new (record wire { low = low; high = high }) to
+pad_seen tech old new col row wire low high (ends.Node k) (ends.Node j) is pad = subst (λ (kind : NodeKind). wire.width ≤ℤ node_pad tech wire.layer kind) (sym is.1) pad
+pad_seen tech old new col row wire low high (ends.Port k) (ends.Port j) is pad = tt
+pad_seen tech old new col row wire low high (ends.Node k) (ends.Port j) is pad = absurd is
+pad_seen tech old new col row wire low high (ends.Port k) (ends.Node j) is pad = absurd is
+
+-- a wire of the old cell is one of the new cell between the ends that its ends are seen as
+wire_seen : (tech : Tech) (old new : Cell) (col row : ℕ) (wire : Wire) (low high : WireEnd) → IsSeenAs old new col row wire.low low → IsSeenAs old new col row wire.high high → IsWire tech old wire
+    → IsWire tech new (record wire { low = low; high = high })
+wire_seen tech old new col row wire low high from to is =
+    record {
+      low = within_seen old new col row wire.low low from;
+      high = within_seen old new col row wire.high high to;
+      takes_low = takes_seen old new col row wire.layer wire.along wire.low low from is.takes_low;
+      takes_high = takes_seen old new col row wire.layer wire.along wire.high high to is.takes_high;
+      low_side = low_seen old new col row wire.low low from is.low_side;
+      high_side = high_seen old new col row wire.high high to is.high_side;
+      straight = line_seen old new col row wire.along wire.low low from ∙ ap (λ (n : ℕ). shift_of wire.along col row + n) is.straight ∙ sym (line_seen old new col row wire.along wire.high high to);
+      ordered = order_seen old new col row wire.along wire.low low wire.high high from to is.ordered;
+      size = is.size;
+      wide = is.wide;
+      low_pad = pad_seen tech old new col row wire low high wire.low low from is.low_pad;
+      high_pad = pad_seen tech old new col row wire low high wire.high high to is.high_pad;
+    }
 
 -- ---- a cell with more nodes and ports
 
@@ -48,70 +148,16 @@ more_of old new nodes plugs =
       place = λ k lt. ap (λ (port : Port). port.place) (port_of_plug new.plugs k) ∙ plugs.place k (fewer k lt) ∙ sym (ap (λ (port : Port). port.place) (port_of_plug old.plugs k));
     }
 
--- an end is still one
-end_kept : (old new : Cell) (end : WireEnd) → MoreOf old new → IsEnd old end → IsEnd new end
-end_kept old new (ends.Node k) more is = omega (arith, more.nodes.long, is)
-end_kept old new (ends.Port k) more is = omega (arith, more.long, is)
-
--- it takes the same wires
-takes_kept : (old new : Cell) (layer : Layer) (along : Axis2) (end : WireEnd) → MoreOf old new → IsEnd old end → Takes old layer along end → Takes new layer along end
-takes_kept old new layer along (ends.Node k) more is takes =
-    subst (λ (node : Node). IsTrue (node_takes node.kind layer) × IsTrue (node_takes_along node.kind layer along)) (sym (more.nodes.same k is)) takes
-takes_kept old new layer along (ends.Port k) more is takes =
-    (subst (λ (own : Layer). IsTrue (is_same_layer own layer)) (sym (more.layer k is)) takes.0, ap axis_of (more.side k is) ∙ takes.1)
-
--- it lies on the same side
-low_kept : (old new : Cell) (end : WireEnd) → MoreOf old new → IsEnd old end → IsOnLowSide old end → IsOnLowSide new end
-low_kept old new (ends.Node k) more is low = tt
-low_kept old new (ends.Port k) more is low = subst (λ (side : Side). IsTrue (is_low_side side)) (sym (more.side k is)) low
-
--- and so on the other side
-high_kept : (old new : Cell) (end : WireEnd) → MoreOf old new → IsEnd old end → IsOnHighSide old end → IsOnHighSide new end
-high_kept old new (ends.Node k) more is high = tt
-high_kept old new (ends.Port k) more is high = subst (λ (side : Side). IsTrue (not (is_low_side side))) (sym (more.side k is)) high
-
--- it lies on the same line
-line_kept : (old new : Cell) (along : Axis2) (end : WireEnd) → MoreOf old new → IsEnd old end → line_at new along end ≡ line_at old along end
-line_kept old new Across (ends.Node k) more is = ap (λ (node : Node). node.row) (more.nodes.same k is)
-line_kept old new Up (ends.Node k) more is = ap (λ (node : Node). node.col) (more.nodes.same k is)
-line_kept old new Across (ends.Port k) more is = more.place k is
-line_kept old new Up (ends.Port k) more is = more.place k is
-
--- two ends are in the same order
-order_kept : (old new : Cell) (along : Axis2) (low high : WireEnd) → MoreOf old new → IsEnd old low → IsEnd old high → IsInOrder old along low high → IsInOrder new along low high
-order_kept old new Across (ends.Node j) (ends.Node k) more low high order =
-    omega (arith, order, ap (λ (node : Node). node.col) (more.nodes.same j low), ap (λ (node : Node). node.col) (more.nodes.same k high))
-order_kept old new Up (ends.Node j) (ends.Node k) more low high order =
-    omega (arith, order, ap (λ (node : Node). node.row) (more.nodes.same j low), ap (λ (node : Node). node.row) (more.nodes.same k high))
-order_kept old new Across (ends.Node j) (ends.Port k) more low high order = tt
-order_kept old new Up (ends.Node j) (ends.Port k) more low high order = tt
-order_kept old new Across (ends.Port j) (ends.Node k) more low high order = tt
-order_kept old new Up (ends.Port j) (ends.Node k) more low high order = tt
-order_kept old new Across (ends.Port j) (ends.Port k) more low high order = tt
-order_kept old new Up (ends.Port j) (ends.Port k) more low high order = tt
-
--- a wire is within the same pad
-pad_kept : (tech : Tech) (old new : Cell) (wire : Wire) (end : WireEnd) → MoreOf old new → IsEnd old end → IsWithinPad tech old wire end → IsWithinPad tech new wire end
-pad_kept tech old new wire (ends.Node k) more is pad = subst (λ (node : Node). wire.width ≤ℤ node_pad tech wire.layer node.kind) (sym (more.nodes.same k is)) pad
-pad_kept tech old new wire (ends.Port k) more is pad = tt
+-- an end stays what it is where there is more
+seen_more : (old new : Cell) (end : WireEnd) → MoreOf old new → IsEnd old end → IsSeenAs old new 0 0 end end
+seen_more old new (ends.Node k) more is =
+    let same = more.nodes.same k is in
+    (omega (arith, more.nodes.long, is), ap (λ (node : Node). node.kind) same, omega (arith, ap (λ (node : Node). node.col) same), omega (arith, ap (λ (node : Node). node.row) same))
+seen_more old new (ends.Port k) more is = (omega (arith, more.long, is), more.side k is, more.layer k is, more.place k is, refl, refl)
 
 -- a wire of the old cell is one of the new cell
 pub wire_kept : (tech : Tech) (old new : Cell) → MoreOf old new → (wire : Wire) → IsWire tech old wire → IsWire tech new wire
-wire_kept tech old new more wire is =
-    record {
-      low = end_kept old new wire.low more is.low;
-      high = end_kept old new wire.high more is.high;
-      takes_low = takes_kept old new wire.layer wire.along wire.low more is.low is.takes_low;
-      takes_high = takes_kept old new wire.layer wire.along wire.high more is.high is.takes_high;
-      low_side = low_kept old new wire.low more is.low is.low_side;
-      high_side = high_kept old new wire.high more is.high is.high_side;
-      straight = line_kept old new wire.along wire.low more is.low ∙ is.straight ∙ sym (line_kept old new wire.along wire.high more is.high);
-      ordered = order_kept old new wire.along wire.low wire.high more is.low is.high is.ordered;
-      size = is.size;
-      wide = is.wide;
-      low_pad = pad_kept tech old new wire wire.low more is.low is.low_pad;
-      high_pad = pad_kept tech old new wire wire.high more is.high is.high_pad;
-    }
+wire_kept tech old new more wire is = wire_seen tech old new 0 0 wire wire.low wire.high (seen_more old new wire.low more is.low) (seen_more old new wire.high more is.high) is
 
 -- and so is a limit
 pub limit_kept : (old new : Cell) → MoreOf old new → (limit : Limit) → IsLimit old limit → IsLimit new limit
@@ -130,75 +176,16 @@ no_port {ℓ} : {X : Type ℓ} (used : Cell) (k : ℕ) → used.ports ≡ [] →
 no_port used k e lt = absurd (omega (arith, lt, ap {B = ℕ} (λ (ports : List Port). length ports) e))
 
 -- an end is copied to one
-end_copied : (used new : Cell) (name : List ℕ) (first col row : ℕ) (end : WireEnd) → Holds used new name first col row → IsEnd used end → IsEnd new (copied_end first end)
-end_copied used new name first col row (ends.Node k) holds is = omega (arith, holds.within, is)
-end_copied used new name first col row (ends.Port k) holds is = no_port used k holds.closed is
-
--- the copy takes the same wires
-takes_copied : (used new : Cell) (name : List ℕ) (first col row : ℕ) (layer : Layer) (along : Axis2) (end : WireEnd) → Holds used new name first col row → IsEnd used end → Takes used layer along end
-    → Takes new layer along (copied_end first end)
-takes_copied used new name first col row layer along (ends.Node k) holds is takes =
-    subst (λ (node : Node). IsTrue (node_takes node.kind layer) × IsTrue (node_takes_along node.kind layer along)) (sym (holds.node k is)) takes
-takes_copied used new name first col row layer along (ends.Port k) holds is takes = no_port used k holds.closed is
-
--- the copy is no port, on a low side
-low_copied : (used new : Cell) (name : List ℕ) (first col row : ℕ) (end : WireEnd) → Holds used new name first col row → IsEnd used end → IsOnLowSide new (copied_end first end)
-low_copied used new name first col row (ends.Node k) holds is = tt
-low_copied used new name first col row (ends.Port k) holds is = no_port used k holds.closed is
-
--- or on a high one
-high_copied : (used new : Cell) (name : List ℕ) (first col row : ℕ) (end : WireEnd) → Holds used new name first col row → IsEnd used end → IsOnHighSide new (copied_end first end)
-high_copied used new name first col row (ends.Node k) holds is = tt
-high_copied used new name first col row (ends.Port k) holds is = no_port used k holds.closed is
-
--- how far lines along an axis are shifted
-abbrev shift_of : Axis2 → ℕ → ℕ → ℕ
-shift_of Across col row = row
-shift_of Up col row = col
-
--- the copy lies on the shifted line
-line_copied : (used new : Cell) (name : List ℕ) (first col row : ℕ) (along : Axis2) (end : WireEnd) → Holds used new name first col row → IsEnd used end
-    → line_at new along (copied_end first end) ≡ shift_of along col row + line_at used along end
-line_copied used new name first col row Across (ends.Node k) holds is = ap (λ (node : Node). node.row) (holds.node k is)
-line_copied used new name first col row Up (ends.Node k) holds is = ap (λ (node : Node). node.col) (holds.node k is)
-line_copied used new name first col row Across (ends.Port k) holds is = no_port used k holds.closed is
-line_copied used new name first col row Up (ends.Port k) holds is = no_port used k holds.closed is
-
--- the copies of two ends are in the same order
-order_copied : (used new : Cell) (name : List ℕ) (first col row : ℕ) (along : Axis2) (low high : WireEnd) → Holds used new name first col row → IsEnd used low → IsEnd used high → IsInOrder used along low high
-    → IsInOrder new along (copied_end first low) (copied_end first high)
-order_copied used new name first col row Across (ends.Node j) (ends.Node k) holds low high order =
-    omega (arith, order, ap (λ (node : Node). node.col) (holds.node j low), ap (λ (node : Node). node.col) (holds.node k high))
-order_copied used new name first col row Up (ends.Node j) (ends.Node k) holds low high order =
-    omega (arith, order, ap (λ (node : Node). node.row) (holds.node j low), ap (λ (node : Node). node.row) (holds.node k high))
-order_copied used new name first col row along (ends.Node j) (ends.Port k) holds low high order = no_port used k holds.closed high
-order_copied used new name first col row along (ends.Port j) high holds low end order = no_port used j holds.closed low
-
--- the copy of a wire is within the same pad
-pad_copied : (tech : Tech) (used new : Cell) (name : List ℕ) (first col row : ℕ) (wire : Wire) (end : WireEnd) → Holds used new name first col row → IsEnd used end → IsWithinPad tech used wire end
-    → IsWithinPad tech new (copied_wire first wire) (copied_end first end)
-pad_copied tech used new name first col row wire (ends.Node k) holds is pad =
-    subst (λ (node : Node). wire.width ≤ℤ node_pad tech wire.layer node.kind) (sym (holds.node k is)) pad
-pad_copied tech used new name first col row wire (ends.Port k) holds is pad = no_port used k holds.closed is
+seen_copied : (used new : Cell) (name : List ℕ) (first col row : ℕ) (end : WireEnd) → Holds used new name first col row → IsEnd used end → IsSeenAs used new col row end (copied_end first end)
+seen_copied used new name first col row (ends.Node k) holds is =
+    let same = holds.node k is in
+    (omega (arith, holds.within, is), ap (λ (node : Node). node.kind) same, ap (λ (node : Node). node.col) same, ap (λ (node : Node). node.row) same)
+seen_copied used new name first col row (ends.Port k) holds is = no_port used k holds.closed is
 
 -- a wire of the used cell is copied to one of the new cell
 pub wire_copied : (tech : Tech) (used new : Cell) (name : List ℕ) (first col row : ℕ) → Holds used new name first col row → (wire : Wire) → IsWire tech used wire → IsWire tech new (copied_wire first wire)
 wire_copied tech used new name first col row holds wire is =
-    record {
-      low = end_copied used new name first col row wire.low holds is.low;
-      high = end_copied used new name first col row wire.high holds is.high;
-      takes_low = takes_copied used new name first col row wire.layer wire.along wire.low holds is.low is.takes_low;
-      takes_high = takes_copied used new name first col row wire.layer wire.along wire.high holds is.high is.takes_high;
-      low_side = low_copied used new name first col row wire.low holds is.low;
-      high_side = high_copied used new name first col row wire.high holds is.high;
-      straight = line_copied used new name first col row wire.along wire.low holds is.low ∙ ap (λ (n : ℕ). shift_of wire.along col row + n) is.straight
-          ∙ sym (line_copied used new name first col row wire.along wire.high holds is.high);
-      ordered = order_copied used new name first col row wire.along wire.low wire.high holds is.low is.high is.ordered;
-      size = is.size;
-      wide = is.wide;
-      low_pad = pad_copied tech used new name first col row wire wire.low holds is.low is.low_pad;
-      high_pad = pad_copied tech used new name first col row wire wire.high holds is.high is.high_pad;
-    }
+    wire_seen tech used new col row wire (copied_end first wire.low) (copied_end first wire.high) (seen_copied used new name first col row wire.low holds is.low) (seen_copied used new name first col row wire.high holds is.high) is
 
 -- and so is a limit
 pub limit_copied : (used new : Cell) (name : List ℕ) (first col row : ℕ) → Holds used new name first col row → (limit : Limit) → IsLimit used limit → IsLimit new (copied_limit first limit)
