@@ -43,7 +43,8 @@ use Rattle.expand.specs.Bounds.{IsSmall, IsNear, IsSpanAmong, LiesAlong}
 use Rattle.expand.proofs.Cells.{node_sound, wire_sound}
 use Rattle.list_facts.proofs.Elements.{all_append, all_flat, all_numbers, all_weaker}
 use Rattle.expand.proofs.Among.{sound_numbers, list_lies, small_near, cross_among}
-use Rattle.expand.proofs.Reached.{by_test, any_here, any_there, any_left, any_right, any_flat_map, BeginsBefore, items_begin, same_is}
+use Rattle.list_facts.proofs.Some.{any_here, any_there, any_left, any_right, any_flat_map}
+use Rattle.expand.proofs.Reached.{by_test, BeginsBefore, items_begin, same_is}
 
 -- ---- inequalities between ends
 

@@ -9,4 +9,5 @@ pub mod Among
 pub mod Reached
 pub mod GraphEdges
 pub mod Counted
+pub mod Between
 pub mod Standing

@@ -1,18 +1,16 @@
 -- Values that meet the structure of a cell keep its variables and the high ends of its items at or above the origin, and its items long enough.
-use Rattle.std.proofs.Common.{◌≡◌, ◌≢◌, ℕ, ◌<◌, eqb, ℤ, pos, ◌+ℤ◌, ◌-ℤ◌, ◌≤ℤ◌, List, [], ◌∷◌, ◌++◌, length, get_or, refl, sym, ap, ◌∙◌, subst, arith, inl, inr}
+use Rattle.std.proofs.Common.{◌≡◌, ◌≢◌, ℕ, ◌<◌, ℤ, pos, ◌+ℤ◌, ◌-ℤ◌, ◌≤ℤ◌, List, ◌++◌, length, get_or, sym, ap, ◌∙◌, subst, arith, inl, inr}
 use Rattle.std.specs.List.{AllByRecursion, All, Any, flat_map, range_with_len}
 use Rattle.std.proofs.lemmas.Int.{ints}
-use Rattle.std.proofs.lemmas.Bool.{cases_Bool, cases_eq, eqb-true}
+use Rattle.std.proofs.lemmas.Bool.{cases_eq}
 use Rattle.std.proofs.lemmas.List.Elements.{recursion_from_All}
 use Rattle.lam_geom.specs.declared.boxes.Axis.{Axis}
 use Rattle.rule_table.specs.declared.technology.Tech.{Tech}
 use Rattle.rule_table.specs.Technology.{numbers_of, margin_of, widest_of}
 use Rattle.rule_table.proofs.Margins.{margin_positive, widest_positive}
 use Rattle.cons_graph.specs.declared.edges.Edge.{Edge}
-use Rattle.cons_graph.specs.declared.edges.Why.{Why}
 use Rattle.cons_graph.specs.declared.edges.Why.TheVariants.{Extent, Margin}
 use Rattle.cons_graph.specs.Solutions.{Meets}
-use Rattle.sym_items.specs.declared.items.End.{End}
 use Rattle.sym_items.specs.declared.items.Item.{Item}
 use Rattle.sym_items.specs.Transposed.{item_along}
 use Rattle.sym_items.specs.Values.{end_under}
@@ -20,28 +18,13 @@ use Rattle.cell_model.specs.declared.cell.Cell.{Cell}
 use Rattle.list_facts.proofs.Elements.{all_of, all_parts, all_pieces}
 use Rattle.expand.specs.declared.master.Master.{Master}
 use Rattle.expand.specs.Variables.{variables_of, at_origin, at_far_border}
-use Rattle.expand.specs.Structure.{at_least, between, extent_edges, margin_edges, overlap_edges, limit_edges, structure_of}
-use Rattle.expand.specs.Bounds.{FitsOn, LiesAlong}
+use Rattle.expand.specs.Structure.{between, extent_edges, margin_edges, overlap_edges, limit_edges, structure_of}
+use Rattle.expand.specs.Bounds.{LiesAlong}
 use Rattle.expand.specs.Masters.{IsMaster}
 use Rattle.expand.specs.Laws.{EndsAbove, IsLongUnder, MeetsStructure, StandsOn}
+use Rattle.expand.proofs.Between.{between_holds}
 use Rattle.expand.proofs.Among.{sound_numbers, items_lie}
 use Rattle.expand.proofs.Reached.{BeginsBefore, items_begin}
-
--- an inequality between two ends, or of constants, holds
-between_holds : (x : ℕ → ℤ) (low high : End) (len : ℤ) (why : Why) → AllByRecursion (Meets x) (between low high len why) → FitsOn low high len → (end_under x low +ℤ len) ≤ℤ end_under x high
-between_holds x low high len why meets fits =
-    elim (cases_Bool (eqb low.var high.var)) [
-      | inl t ↦
-          let same : low.var ≡ high.var = eqb-true low.var high.var t in
-          let at : x low.var ≡ x high.var = ap x same in
-          let h = fits same in
-          omega (arith, ints, at, h)
-      | inr f ↦
-          let M : List Edge → Type 0 = AllByRecursion (Meets x) in
-          let is : between low high len why ≡ at_least low.var high.var ((len -ℤ high.off) +ℤ low.off) why ∷ [] = rw f refl in
-          let h = (subst M is meets).0 in
-          omega (arith, ints, h)
-    ]
 
 -- an item keeps its margins
 abbrev KeepsMargins : Axis → Tech → (ℕ → ℤ) → Item → Type 0

@@ -1,17 +1,25 @@
 -- What holds of every master: of its items, and of all values that meet its structure.
-use Rattle.std.specs.Prelude.{◌≡◌, ℕ, ◌<◌, ◌^◌, ℤ, pos, ◌+ℤ◌, ◌≤ℤ◌, All, length}
+use Rattle.std.specs.Prelude.{◌≡◌, ◌≢◌, ◌↔◌, ℕ, ◌<◌, ◌^◌, ℤ, pos, ◌+ℤ◌, ◌≤ℤ◌, All, length}
 use Rattle.lam_geom.specs.declared.boxes.Axis.{Axis}
 use Rattle.rule_table.specs.declared.technology.Tech.{Tech}
+use Rattle.std.specs.List.{AllByRecursion}
+use Rattle.sym_items.specs.declared.items.End.{End}
 use Rattle.sym_items.specs.declared.items.Item.{Item}
 use Rattle.sym_items.specs.Transposed.{item_along, vars_along}
 use Rattle.sym_items.specs.Values.{end_under}
 use Rattle.cons_graph.specs.Constraints.{IsConstraintGraph}
+use Rattle.cons_graph.specs.declared.edges.Why.{Why}
 use Rattle.cons_graph.specs.Solutions.{Meets}
 use Rattle.cell_model.specs.Counts.{items_in}
 use Rattle.expand.specs.declared.master.Master.{Master}
 use Rattle.expand.specs.Variables.{variables_of}
-use Rattle.expand.specs.Structure.{structure_of}
+use Rattle.expand.specs.Structure.{between, structure_of}
 use Rattle.expand.specs.Bounds.{LiesAlong}
+
+-- The inequality between two ends is met exactly where they lie so far apart, unless both lie on one variable: then there is none.
+abbrev pub BetweenMeans : End → End → ℤ → Why → Type 0
+BetweenMeans low high len why =
+    (x : ℕ → ℤ) → AllByRecursion (Meets x) (between low high len why) ↔ (low.var ≢ high.var → (end_under x low +ℤ len) ≤ℤ end_under x high)
 
 -- under some values of the variables of an axis the high end of an item lies at or above the origin, and the item is at least as long as it
 -- has to be

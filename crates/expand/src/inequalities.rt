@@ -22,8 +22,8 @@ use rule_table::Tech;
 use std::alloc::{AllocError, Global};
 use sym_items::{End, Item};
 
-// The length between two variables that keeps so much between ends that lie past them.
-fn between_variables(len: i64, low_off: i64, high_off: i64) -> i64
+/// The length between two variables, in u, that keeps so much between ends that lie past them.
+pub fn between_variables(len: i64, low_off: i64, high_off: i64) -> i64
     requires len { IsNear len }
     requires low { IsNear low_off }
     requires high { IsNear high_off }

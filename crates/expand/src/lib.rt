@@ -18,8 +18,8 @@ mod tests;
 mod variables;
 mod wires;
 
-pub use inequalities::{push_between, structure};
+pub use inequalities::{between_variables, push_between, structure};
 pub use items::items_of;
-pub use laws::master_is_lawful;
+pub use laws::{between_means, master_is_lawful};
 pub use master::Master;
 pub use variables::crossing;
