@@ -8,6 +8,7 @@ use Rattle.rule_table.specs.declared.technology.Tech.{Tech}
 use Rattle.sym_items.specs.declared.items.Item.{Item}
 use Rattle.sym_items.specs.declared.items.Coords.{Coords}
 use Rattle.cell_model.specs.declared.cell.Cell.{Cell}
+use Rattle.expand.specs.declared.master.Master.{Master}
 use Rattle.pass_run.specs.declared.step.Step.{Step}
 use Rattle.pass_run.specs.System.{list_over}
 use Rattle.pass_run.specs.Passes.{moved_by, layout_after, IsLeastPass, IsRecorded, ArePasses, axes_of}
@@ -65,7 +66,7 @@ had_among had (s ∷ steps) axis h =
       | inr later ↦ inr (Contains-append_right (s.axis ∷ []) (axes_of steps) axis later)
     ]
 
-pub none_among : (axis : Axis) → Contains [] axis → ⊥
+none_among : (axis : Axis) → Contains [] axis → ⊥
 none_among axis h = let lt = h.1 in omega arith
 
 pub had_first : (steps : List Step) (axis : Axis) → Contains (had_after [] steps) axis → Contains (axes_of steps) axis
@@ -78,10 +79,14 @@ last_first axes last axis h =
       | inr own ↦ Contains-append_left (last ∷ []) axes axis own
     ]
 
+-- on no axis is anything settled
+pub none_settled : (tech : Tech) (master : Master) (layout : Coords) → IsSettled tech master [] layout
+none_settled tech master layout = record { solved = λ axis h. absurd (none_among axis h); long = λ axis h. absurd (none_among axis h) }
+
 -- what is settled on some axes is so on fewer
-pub settled_less : (tech : Tech) (cell : Cell) (items : List Item) (more less : List Axis) (layout : Coords) → ((axis : Axis) → Contains less axis → Contains more axis)
-    → IsSettled tech cell items more layout → IsSettled tech cell items less layout
-settled_less tech cell items more less layout among s = record {
+pub settled_less : (tech : Tech) (master : Master) (more less : List Axis) (layout : Coords) → ((axis : Axis) → Contains less axis → Contains more axis)
+    → IsSettled tech master more layout → IsSettled tech master less layout
+settled_less tech master more less layout among s = record {
   solved = λ axis h. s.solved axis (among axis h);
   long = λ axis h. s.long axis (among axis h);
 }

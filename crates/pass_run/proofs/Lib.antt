@@ -1,12 +1,9 @@
 pub mod NamesCounted
-pub mod Cover
-pub mod Laid
 pub mod Shape
-pub mod Fits
-pub mod Pruned
+pub mod Meeting
 pub mod Moved
 pub mod Solved
 pub mod Chain
-pub mod StartLaid
 pub mod Going
 pub mod Cycles
+pub mod Determined

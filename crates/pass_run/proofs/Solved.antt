@@ -13,7 +13,7 @@ use Rattle.cons_graph.specs.EdgeNumbers.{edge_at}
 use Rattle.round_log.specs.Orders.{NamesEachOnce, IsOrder}
 use Rattle.round_log.specs.Rounds.{plan_of, EndsInRound}
 use Rattle.cons_graph.specs.SimpleWalks.{edges_of, IsSimplePositiveCycle}
-use Rattle.cons_graph.specs.Solutions.{IsLeastSolution, value_of}
+use Rattle.cons_graph.specs.Solutions.{IsSolution, IsLeastSolution, value_of}
 use Rattle.cons_graph.specs.Walks.{HasPositiveCycle}
 use Rattle.cons_graph.proofs.CycleTest.{few_without_repeat}
 use Rattle.liao_wong.specs.declared.solving.Solved.{Solved}
@@ -21,36 +21,36 @@ use Rattle.liao_wong.specs.Answers.{IsWithinLimit, IsCycleOf}
 use Rattle.liao_wong.specs.Sorted.{IsInOrderOf}
 use Rattle.liao_wong.proofs.InOrder.{sorted_is_order}
 use Rattle.sym_items.specs.declared.items.Item.{Item}
-use Rattle.sym_items.specs.declared.items.Items.{Items}
 use Rattle.sym_items.specs.declared.items.Coords.{Coords}
 use Rattle.cell_model.specs.declared.cell.Cell.{Cell}
-use Rattle.cell_model.specs.Sound.{IsSound}
 use Rattle.expand.specs.Variables.{variables_of}
-use Rattle.expand.specs.Items.{AreItems}
+use Rattle.sym_items.specs.Transposed.{values_along}
+use Rattle.expand.specs.declared.master.Master.{Master}
+use Rattle.expand.specs.Laws.{IsLawful}
 use Rattle.pair_rules.specs.Kept.{kept_of}
-use Rattle.pair_rules.specs.Laws.{moved}
 use Rattle.pass_run.specs.declared.edges.Listed.{Listed}
 use Rattle.pass_run.specs.declared.step.Walk.{Walk}
 use Rattle.pass_run.specs.System.{system_over, list_over, most_edges, HaveSameSolutions}
-use Rattle.pass_run.specs.Passes.{values_on, moved_by, IsLeastPass, IsRecorded}
+use Rattle.pass_run.specs.Passes.{moved_by, IsLeastPass, IsRecorded}
 use Rattle.pass_run.specs.PassFaults.{IsCyclicOver}
 use Rattle.pass_run.specs.Report.{cycle_text}
 use Rattle.pass_run.specs.Theorems.{IsCriticalPath, IsSoundPass}
 use Rattle.pass_run.specs.Laid.{IsLaidOut, IsSettled}
 use Rattle.pass_run.specs.OneStep.{far_walk, step_of, HasPath}
-use Rattle.pass_run.proofs.Pruned.{listed_among, solutions_kept}
-use Rattle.pass_run.proofs.Moved.{IsNext, laid_after, settled_after, placed_after, stays_solved, no_cycle_again}
+use Rattle.pass_run.proofs.Meeting.{listed_among, meeting_solves, solutions_kept}
+use Rattle.pass_run.specs.Meeting.{IsNextFor}
+use Rattle.pass_run.proofs.Moved.{stays, settled_after, stays_solved, no_cycle_again}
 
 -- ---- the order
 
 -- the variables sorted by their values are an order, as no value is below the origin's
-pub order_of : (axis : Axis) (tech : Tech) (cell : Cell) (items : List Item) (c : Coords) (vars : ℕ) (order : List ℕ) → IsLaidOut tech cell items c → vars ≡ variables_of axis cell
-    → NamesEachOnce (length (values_on axis c)) order → IsInOrderOf (value_of (values_on axis c)) order → IsOrder vars order
-order_of axis tech cell items c vars order laid v names up =
-    let values : List ℤ = values_on axis c in
-    let count : length values ≡ vars = laid.counted axis ∙ sym v in
+pub order_of : (axis : Axis) (tech : Tech) (master : Master) (c : Coords) (vars : ℕ) (order : List ℕ) → IsLaidOut tech master c → vars ≡ variables_of axis master.cell
+    → NamesEachOnce (length (values_along axis c)) order → IsInOrderOf (value_of (values_along axis c)) order → IsOrder vars order
+order_of axis tech master c vars order laid v names up =
+    let values : List ℤ = values_along axis c in
+    let count : length values ≡ vars = laid.of_master.counted axis ∙ sym v in
     let N : ℕ → Type 0 = λ n. NamesEachOnce n order in
-    sorted_is_order vars (value_of values) order (omega (arith, v)) (subst N count names) up (laid.origin axis) (λ k lt. laid.values_above axis k (pos 0) (omega (arith, count, lt)))
+    sorted_is_order vars (value_of values) order (omega (arith, v)) (subst N count names) up (laid.of_master.origin axis) (λ k lt. laid.of_master.values_above axis k (pos 0) (omega (arith, count, lt)))
 
 -- ---- walks
 
@@ -84,13 +84,13 @@ cycle_few g cycle shape passes =
 -- ---- solved passes
 
 -- The rounds over the list of a pass, in this order, have ended with a solution.
-pub record IsSolvedPass (axis : Axis) (tech : Tech) (cell : Cell) (items : List Item) (c : Coords) (listed : Listed) (order : List ℕ) (solved : Solved) : Type 0 where
-  pub vars : listed.graph.vars ≡ variables_of axis cell
-  pub edges : listed.graph.edges ≡ list_over axis tech cell items c
+pub record IsSolvedPass (axis : Axis) (tech : Tech) (master : Master) (c : Coords) (listed : Listed) (order : List ℕ) (solved : Solved) : Type 0 where
+  pub vars : listed.graph.vars ≡ variables_of axis master.cell
+  pub edges : listed.graph.edges ≡ list_over axis tech master.cell master.items.list c
   pub few : length listed.graph.edges ≤ most_edges
-  pub kept : listed.kept ≡ length (kept_of axis tech c items)
-  pub names : NamesEachOnce (length (values_on axis c)) order
-  pub in_order : IsInOrderOf (value_of (values_on axis c)) order
+  pub kept : listed.kept ≡ length (kept_of axis tech c master.items.list)
+  pub names : NamesEachOnce (length (values_along axis c)) order
+  pub in_order : IsInOrderOf (value_of (values_along axis c)) order
   pub least : IsLeastSolution listed.graph.vars listed.graph.edges (value_of solved.x)
   pub one_each : length solved.x ≡ listed.graph.vars
   pub small : All IsWithinLimit solved.x
@@ -106,26 +106,26 @@ least_of_system vars listed system x same least = record {
   below = λ y solves v lt. least.below y ((same y).1 solves) v lt;
 }
 
-solved_least : (axis : Axis) (tech : Tech) (cell : Cell) (items : Items) (c : Coords) (listed : Listed) (order : List ℕ) (solved : Solved) → IsSound tech cell → AreItems tech cell items
-    → IsLaidOut tech cell items.list c → IsSolvedPass axis tech cell items.list c listed order solved
-    → IsLeastSolution (variables_of axis cell) (system_over axis tech cell items.list c) (value_of solved.x)
-solved_least axis tech cell items c listed order solved s are laid run =
+solved_least : (axis : Axis) (tech : Tech) (master : Master) (c : Coords) (listed : Listed) (order : List ℕ) (solved : Solved) → IsLawful tech master
+    → IsLaidOut tech master c → IsSolvedPass axis tech master c listed order solved
+    → IsLeastSolution (variables_of axis master.cell) (system_over axis tech master.cell master.items.list c) (value_of solved.x)
+solved_least axis tech master c listed order solved lawful laid run =
     let x : ℕ → ℤ = value_of solved.x in
     let V : ℕ → Type 0 = λ n. IsLeastSolution n listed.graph.edges x in
-    let E : List Edge → Type 0 = λ es. IsLeastSolution (variables_of axis cell) es x in
-    least_of_system (variables_of axis cell) (list_over axis tech cell items.list c) (system_over axis tech cell items.list c) x (solutions_kept tech cell items s are axis c laid.boxes)
+    let E : List Edge → Type 0 = λ es. IsLeastSolution (variables_of axis master.cell) es x in
+    least_of_system (variables_of axis master.cell) (list_over axis tech master.cell master.items.list c) (system_over axis tech master.cell master.items.list c) x (solutions_kept tech master lawful axis c laid.of_master.boxes)
     (subst E run.edges (subst V run.vars run.least))
 
-pub least_pass : (axis : Axis) (tech : Tech) (cell : Cell) (items : Items) (c : Coords) (listed : Listed) (order : List ℕ) (solved : Solved) → IsSound tech cell → AreItems tech cell items
-    → IsLaidOut tech cell items.list c → IsSolvedPass axis tech cell items.list c listed order solved → IsLeastPass tech cell items.list c (step_of axis listed solved)
-least_pass axis tech cell items c listed order solved s are laid run = record {
+pub least_pass : (axis : Axis) (tech : Tech) (master : Master) (c : Coords) (listed : Listed) (order : List ℕ) (solved : Solved) → IsLawful tech master
+    → IsLaidOut tech master c → IsSolvedPass axis tech master c listed order solved → IsLeastPass tech master.cell master.items.list c (step_of axis listed solved)
+least_pass axis tech master c listed order solved lawful laid run = record {
   one_each = run.one_each ∙ run.vars;
-  least = solved_least axis tech cell items c listed order solved s are laid run;
+  least = solved_least axis tech master c listed order solved lawful laid run;
 }
 
-pub recorded : (axis : Axis) (tech : Tech) (cell : Cell) (items : List Item) (c : Coords) (listed : Listed) (order : List ℕ) (solved : Solved) → IsLaidOut tech cell items c
-    → IsSolvedPass axis tech cell items c listed order solved → IsRecorded tech cell items c (step_of axis listed solved)
-recorded axis tech cell items c listed order solved laid run =
+pub recorded : (axis : Axis) (tech : Tech) (master : Master) (c : Coords) (listed : Listed) (order : List ℕ) (solved : Solved) → IsLaidOut tech master c
+    → IsSolvedPass axis tech master c listed order solved → IsRecorded tech master.cell master.items.list c (step_of axis listed solved)
+recorded axis tech master c listed order solved laid run =
     let N : ℕ → Type 0 = λ n. NamesEachOnce n order in
     let P : List Edge → Type 0 = λ es. EndsInRound (plan_of es order) solved.rounds (raises_in solved.log) in
     record {
@@ -133,7 +133,7 @@ recorded axis tech cell items c listed order solved laid run =
       edges = ap length run.edges;
       few = run.few;
       order = order;
-      each_once = subst N (laid.counted axis) run.names;
+      each_once = subst N (laid.of_master.counted axis) run.names;
       in_order = run.in_order;
       backward = run.backward ∙ ap (λ es. length (backward_numbers es order)) run.edges;
       raises = raises_in solved.log;
@@ -141,96 +141,93 @@ recorded axis tech cell items c listed order solved laid run =
       walk = refl;
     }
 
--- the values after the pass are a next layout
-next_of : (axis : Axis) (tech : Tech) (cell : Cell) (items : Items) (c : Coords) (listed : Listed) (order : List ℕ) (solved : Solved) → IsSound tech cell → AreItems tech cell items
-    → IsLaidOut tech cell items.list c → IsSolvedPass axis tech cell items.list c listed order solved → IsNext axis tech cell items.list c solved.x
-next_of axis tech cell items c listed order solved s are laid run = record {
-  counted = run.one_each ∙ run.vars;
-  small = run.small;
-  solves = (solved_least axis tech cell items c listed order solved s are laid run).solves;
-}
+-- the values after the pass meet the master
+next_of : (axis : Axis) (tech : Tech) (master : Master) (c : Coords) (listed : Listed) (order : List ℕ) (solved : Solved) → IsLawful tech master
+    → IsSolvedPass axis tech master c listed order solved → IsNextFor axis tech master c solved.x
+next_of axis tech master c listed order solved lawful run =
+    let S : List Edge → Type 0 = λ es. IsSolution es (value_of solved.x) in
+    record {
+      counted = run.one_each ∙ run.vars;
+      small = run.small;
+      meets = ((meeting_solves tech master lawful).of_list axis c (value_of solved.x)).0 (subst S run.edges run.least.solves);
+    }
 
-pub laid_next : (axis : Axis) (tech : Tech) (cell : Cell) (items : Items) (c : Coords) (listed : Listed) (order : List ℕ) (solved : Solved) → IsSound tech cell → AreItems tech cell items
-    → IsLaidOut tech cell items.list c → IsSolvedPass axis tech cell items.list c listed order solved → IsLaidOut tech cell items.list (moved_by c (step_of axis listed solved))
-laid_next axis tech cell items c listed order solved s are laid run =
-    let P : Items → Type 0 = λ i. IsLaidOut tech cell i.list c → IsNext axis tech cell i.list c solved.x → IsLaidOut tech cell i.list (moved axis c solved.x) in
-    subst P (sym are.are) (laid_after axis tech cell are.nets c solved.x s) laid (next_of axis tech cell items c listed order solved s are laid run)
+pub laid_next : (axis : Axis) (tech : Tech) (master : Master) (c : Coords) (listed : Listed) (order : List ℕ) (solved : Solved) → IsLawful tech master
+    → IsLaidOut tech master c → IsSolvedPass axis tech master c listed order solved → IsLaidOut tech master (moved_by c (step_of axis listed solved))
+laid_next axis tech master c listed order solved lawful laid run = (stays axis tech master c solved.x lawful laid (next_of axis tech master c listed order solved lawful run)).laid
 
-pub settled_next : (axis : Axis) (tech : Tech) (cell : Cell) (items : Items) (c : Coords) (listed : Listed) (order : List ℕ) (solved : Solved) → IsSound tech cell → AreItems tech cell items
-    → IsLaidOut tech cell items.list c → IsSolvedPass axis tech cell items.list c listed order solved → (had : List Axis) → IsSettled tech cell items.list had c
-    → IsSettled tech cell items.list (axis ∷ had) (moved_by c (step_of axis listed solved))
-settled_next axis tech cell items c listed order solved s are laid run had settled =
-    let P : Items → Type 0 = λ i. IsSettled tech cell i.list had c → IsNext axis tech cell i.list c solved.x → IsSettled tech cell i.list (axis ∷ had) (moved axis c solved.x) in
-    subst P (sym are.are) (settled_after axis tech cell are.nets had c solved.x s) settled (next_of axis tech cell items c listed order solved s are laid run)
+pub settled_next : (axis : Axis) (tech : Tech) (master : Master) (c : Coords) (listed : Listed) (order : List ℕ) (solved : Solved) → IsLawful tech master
+    → IsSolvedPass axis tech master c listed order solved → (had : List Axis) → IsSettled tech master had c → IsSettled tech master (axis ∷ had) (moved_by c (step_of axis listed solved))
+settled_next axis tech master c listed order solved lawful run had settled =
+    settled_after axis tech master had c solved.x lawful settled (next_of axis tech master c listed order solved lawful run).meets
 
-critical : (axis : Axis) (tech : Tech) (cell : Cell) (items : List Item) (c : Coords) (listed : Listed) (order : List ℕ) (solved : Solved) → IsSolvedPass axis tech cell items c listed order solved
-    → IsCriticalPath (list_over axis tech cell items c) (system_over axis tech cell items c) (record { edges = far_walk solved.log }) (value_of solved.x 1)
-critical axis tech cell items c listed order solved run =
+critical : (axis : Axis) (tech : Tech) (master : Master) (c : Coords) (listed : Listed) (order : List ℕ) (solved : Solved) → IsSolvedPass axis tech master c listed order solved
+    → IsCriticalPath (list_over axis tech master.cell master.items.list c) (system_over axis tech master.cell master.items.list c) (record { edges = far_walk solved.log }) (value_of solved.x 1)
+critical axis tech master c listed order solved run =
     let H : List Edge → Type 0 = λ es. HasPath es solved.log in
-    let path : HasPath (list_over axis tech cell items c) solved.log = subst H run.edges run.path in
+    let path : HasPath (list_over axis tech master.cell master.items.list c) solved.log = subst H run.edges run.path in
     let at = path.as_long in
     let there : label (raises_in solved.log) 1 ≡ Some (value_of solved.x 1) = run.labels 1 (let e = run.vars in omega arith) in
     record {
       passes = path.passes;
-      of_system = walk_among axis tech cell items c (far_walk solved.log) path.passes.in_range;
+      of_system = walk_among axis tech master.cell master.items.list c (far_walk solved.log) path.passes.in_range;
       simple = path.simple;
       as_long = cc;
     }
 
-pub sound_pass : (axis : Axis) (tech : Tech) (cell : Cell) (items : Items) (c : Coords) (listed : Listed) (order : List ℕ) (solved : Solved) → IsSound tech cell → AreItems tech cell items
-    → IsLaidOut tech cell items.list c → IsSolvedPass axis tech cell items.list c listed order solved → (had : List Axis) → IsSettled tech cell items.list had c
-    → IsSoundPass tech cell items.list had c (step_of axis listed solved)
-sound_pass axis tech cell items c listed order solved s are laid run had settled =
-    let list : List Item = items.list in
-    let W : Walk → Type 0 = λ walk. IsCriticalPath (list_over axis tech cell list c) (system_over axis tech cell list c) walk (value_of solved.x 1) in
-    let least = solved_least axis tech cell items c listed order solved s are laid run in
+pub sound_pass : (axis : Axis) (tech : Tech) (master : Master) (c : Coords) (listed : Listed) (order : List ℕ) (solved : Solved) → IsLawful tech master
+    → IsLaidOut tech master c → IsSolvedPass axis tech master c listed order solved → (had : List Axis) → IsSettled tech master had c
+    → IsSoundPass tech master.cell master.items.list had c (step_of axis listed solved)
+sound_pass axis tech master c listed order solved lawful laid run had settled =
+    let W : Walk → Type 0 = λ walk. IsCriticalPath (list_over axis tech master.cell master.items.list c) (system_over axis tech master.cell master.items.list c) walk (value_of solved.x 1) in
+    let least = solved_least axis tech master c listed order solved lawful laid run in
+    let after = laid_next axis tech master c listed order solved lawful laid run in
     record {
-      solved_before = λ among. stays_solved axis tech cell list had c laid settled among;
-      paths = All-cons W (record { edges = far_walk solved.log }) [] (critical axis tech cell list c listed order solved run) (All-nil W);
-      none_grows = λ among v lt. least.below (value_of (values_on axis c)) (stays_solved axis tech cell list had c laid settled among) v lt;
-      placed = placed_after tech cell list (axis ∷ had) (moved axis c solved.x) (laid_next axis tech cell items c listed order solved s are laid run)
-          (settled_next axis tech cell items c listed order solved s are laid run had settled);
+      solved_before = λ among. stays_solved axis tech master had c settled among;
+      paths = All-cons W (record { edges = far_walk solved.log }) [] (critical axis tech master c listed order solved run) (All-nil W);
+      none_grows = λ among v lt. least.below (value_of (values_along axis c)) (stays_solved axis tech master had c settled among) v lt;
+      placed = record { boxes = after.of_master.boxes; long = (settled_next axis tech master c listed order solved lawful run had settled).long; clean = after.clean };
     }
 
 -- ---- passes without a solution
 
 -- The rounds over the list of a pass, in this order, have stopped at a cycle.
-pub record IsStoppedPass (axis : Axis) (tech : Tech) (cell : Cell) (items : List Item) (c : Coords) (listed : Listed) (order cycle : List ℕ) : Type 0 where
-  pub edges : listed.graph.edges ≡ list_over axis tech cell items c
+pub record IsStoppedPass (axis : Axis) (tech : Tech) (master : Master) (c : Coords) (listed : Listed) (order cycle : List ℕ) : Type 0 where
+  pub edges : listed.graph.edges ≡ list_over axis tech master.cell master.items.list c
   pub few : length listed.graph.edges ≤ most_edges
-  pub names : NamesEachOnce (length (values_on axis c)) order
-  pub in_order : IsInOrderOf (value_of (values_on axis c)) order
+  pub names : NamesEachOnce (length (values_along axis c)) order
+  pub in_order : IsInOrderOf (value_of (values_along axis c)) order
   pub cyclic : HasPositiveCycle listed.graph.edges
   pub simple : IsSimplePositiveCycle listed.graph.edges cycle
   pub stops : IsCycleOf listed.graph.edges order cycle
 
-stopped_cycle : (axis : Axis) (tech : Tech) (cell : Cell) (items : List Item) (c : Coords) (listed : Listed) (order cycle : List ℕ) → IsStoppedPass axis tech cell items c listed order cycle
-    → HasPositiveCycle (system_over axis tech cell items c)
-stopped_cycle axis tech cell items c listed order cycle run = cycle_among axis tech cell items c (subst HasPositiveCycle run.edges run.cyclic)
+stopped_cycle : (axis : Axis) (tech : Tech) (master : Master) (c : Coords) (listed : Listed) (order cycle : List ℕ) → IsStoppedPass axis tech master c listed order cycle
+    → HasPositiveCycle (system_over axis tech master.cell master.items.list c)
+stopped_cycle axis tech master c listed order cycle run = cycle_among axis tech master.cell master.items.list c (subst HasPositiveCycle run.edges run.cyclic)
 
-pub stopped : (axis : Axis) (tech : Tech) (cell : Cell) (items : List Item) (c : Coords) (listed : Listed) (order cycle : List ℕ) (pass : ℕ) (text : List ℕ) → IsLaidOut tech cell items c
-    → IsStoppedPass axis tech cell items c listed order cycle → text ≡ cycle_text cell listed.graph.edges pass axis cycle → IsCyclicOver tech cell items c pass axis text
-stopped axis tech cell items c listed order cycle pass text laid run says =
+pub stopped : (axis : Axis) (tech : Tech) (master : Master) (c : Coords) (listed : Listed) (order cycle : List ℕ) (pass : ℕ) (text : List ℕ) → IsLaidOut tech master c
+    → IsStoppedPass axis tech master c listed order cycle → text ≡ cycle_text master.cell listed.graph.edges pass axis cycle → IsCyclicOver tech master.cell master.items.list c pass axis text
+stopped axis tech master c listed order cycle pass text laid run says =
     let N : ℕ → Type 0 = λ n. NamesEachOnce n order in
     let F : List Edge → Type 0 = λ es. length es ≤ most_edges in
     let O : List Edge → Type 0 = λ es. IsCycleOf es order cycle in
     let S : List Edge → Type 0 = λ es. IsSimplePositiveCycle es cycle in
-    let simple : IsSimplePositiveCycle (list_over axis tech cell items c) cycle = subst S run.edges run.simple in
+    let simple : IsSimplePositiveCycle (list_over axis tech master.cell master.items.list c) cycle = subst S run.edges run.simple in
     record {
       few = subst F run.edges run.few;
-      cyclic = stopped_cycle axis tech cell items c listed order cycle run;
+      cyclic = stopped_cycle axis tech master c listed order cycle run;
       order = order;
-      each_once = subst N (laid.counted axis) run.names;
+      each_once = subst N (laid.of_master.counted axis) run.names;
       in_order = run.in_order;
       cycle = cycle;
       stops = subst O run.edges run.stops;
       simple = simple;
-      of_system = walk_among axis tech cell items c cycle simple.in_range;
-      says = says ∙ ap (λ es. cycle_text cell es pass axis cycle) run.edges;
+      of_system = walk_among axis tech master.cell master.items.list c cycle simple.in_range;
+      says = says ∙ ap (λ es. cycle_text master.cell es pass axis cycle) run.edges;
     }
 
 -- this comes only where the axis has had no pass
-pub stopped_first : (axis : Axis) (tech : Tech) (cell : Cell) (items : List Item) (c : Coords) (listed : Listed) (order cycle : List ℕ) → IsLaidOut tech cell items c
-    → IsStoppedPass axis tech cell items c listed order cycle → (had : List Axis) → IsSettled tech cell items had c → Contains had axis → ⊥
-stopped_first axis tech cell items c listed order cycle laid run had settled among =
-    no_cycle_again axis tech cell items had c laid (stopped_cycle axis tech cell items c listed order cycle run) settled among
+pub stopped_first : (axis : Axis) (tech : Tech) (master : Master) (c : Coords) (listed : Listed) (order cycle : List ℕ) → IsLaidOut tech master c
+    → IsStoppedPass axis tech master c listed order cycle → (had : List Axis) → IsSettled tech master had c → Contains had axis → ⊥
+stopped_first axis tech master c listed order cycle laid run had settled among =
+    no_cycle_again axis tech master had c (stopped_cycle axis tech master c listed order cycle run) settled among

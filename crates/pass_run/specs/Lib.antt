@@ -6,6 +6,7 @@ pub mod Report
 pub mod Theorems
 pub mod PassFaults
 pub mod Laid
+pub mod Meeting
 pub mod Pruning
 pub mod OnePass
 pub mod OneStep

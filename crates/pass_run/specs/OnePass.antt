@@ -5,6 +5,7 @@ use Rattle.rule_table.specs.declared.technology.Tech.{Tech}
 use Rattle.sym_items.specs.declared.items.Item.{Item}
 use Rattle.sym_items.specs.declared.items.Coords.{Coords}
 use Rattle.cell_model.specs.declared.cell.Cell.{Cell}
+use Rattle.expand.specs.declared.master.Master.{Master}
 use Rattle.pass_run.specs.declared.pass.Stop.{Stop}
 use Rattle.pass_run.specs.declared.pass.Stop.TheVariants.{TooManyEdges, Cycle, OutOfMemory}
 use Rattle.pass_run.specs.System.{list_over, most_edges}
@@ -17,7 +18,7 @@ StopsPass tech cell items layout pass axis (Cycle text) = IsCyclicOver tech cell
 StopsPass tech cell items layout pass axis OutOfMemory = Unit {0}
 
 -- a cycle comes only where the axis has had no pass
-abbrev pub IsFirstOn : Tech → Cell → List Item → Coords → Axis → Stop → Type 0
-IsFirstOn tech cell items layout axis TooManyEdges = Unit {0}
-IsFirstOn tech cell items layout axis (Cycle text) = (had : List Axis) → IsSettled tech cell items had layout → Contains had axis → ⊥
-IsFirstOn tech cell items layout axis OutOfMemory = Unit {0}
+abbrev pub IsFirstOn : Tech → Master → Coords → Axis → Stop → Type 0
+IsFirstOn tech master layout axis TooManyEdges = Unit {0}
+IsFirstOn tech master layout axis (Cycle text) = (had : List Axis) → IsSettled tech master had layout → Contains had axis → ⊥
+IsFirstOn tech master layout axis OutOfMemory = Unit {0}

@@ -17,7 +17,8 @@ use Rattle.pass_run.specs.declared.passes.PassFault.{PassFault}
 use Rattle.pass_run.specs.declared.passes.PassFault.TheVariants.{TooManyEdges, Unsatisfiable, OutOfMemory}
 use Rattle.pass_run.specs.declared.step.Step.{Step}
 use Rattle.pass_run.specs.System.{system_over, list_over, most_edges}
-use Rattle.pass_run.specs.Passes.{values_on, layout_after, ArePasses, axes_of}
+use Rattle.sym_items.specs.Transposed.{values_along}
+use Rattle.pass_run.specs.Passes.{layout_after, ArePasses, axes_of}
 use Rattle.pass_run.specs.Report.{report_of, cycle_text}
 
 -- The passes before this one are made, and its axis comes next. Passes are counted from 1.
@@ -42,7 +43,7 @@ pub record IsCyclicOver (tech : Tech) (cell : Cell) (items : List Item) (layout 
   pub cyclic : HasPositiveCycle (system_over axis tech cell items layout)
   pub order : List ℕ
   pub each_once : NamesEachOnce (variables_of axis cell) order
-  pub in_order : IsInOrderOf (value_of (values_on axis layout)) order
+  pub in_order : IsInOrderOf (value_of (values_along axis layout)) order
   pub cycle : List ℕ
   pub stops : IsCycleOf (list_over axis tech cell items layout) order cycle
   pub simple : IsSimplePositiveCycle (list_over axis tech cell items layout) cycle

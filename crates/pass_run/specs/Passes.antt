@@ -1,5 +1,5 @@
 -- The passes of a cell, one after another: each gives one axis the least layout over the layout before it, and keeps the other axis.
-use Rattle.std.specs.Prelude.{◌≡◌, ℕ, ◌≤◌, ℤ, List, [], ◌∷◌, length, fold}
+use Rattle.std.specs.Prelude.{◌≡◌, ℕ, ◌≤◌, List, [], ◌∷◌, length, fold}
 use Rattle.lam_geom.specs.declared.boxes.Axis.{Axis}
 use Rattle.rule_table.specs.declared.technology.Tech.{Tech}
 use Rattle.round_log.specs.declared.log.Entry.{Entry}
@@ -11,17 +11,13 @@ use Rattle.round_log.specs.WalksBack.{walk_of}
 use Rattle.liao_wong.specs.Sorted.{IsInOrderOf}
 use Rattle.sym_items.specs.declared.items.Item.{Item}
 use Rattle.sym_items.specs.declared.items.Coords.{Coords}
-use Rattle.sym_items.specs.Transposed.{coords_along}
+use Rattle.sym_items.specs.Transposed.{values_along}
 use Rattle.cell_model.specs.declared.cell.Cell.{Cell}
 use Rattle.expand.specs.Variables.{variables_of}
 use Rattle.pair_rules.specs.Kept.{kept_of}
 use Rattle.pair_rules.specs.Laws.{moved}
 use Rattle.pass_run.specs.declared.step.Step.{Step}
 use Rattle.pass_run.specs.System.{system_over, list_over, most_edges}
-
--- the values of an axis in a layout
-abbrev pub values_on : Axis → Coords → List ℤ
-values_on axis layout = (coords_along axis layout).x
 
 -- the layout after a pass, and the one after some passes
 abbrev pub moved_by : Coords → Step → Coords
@@ -43,7 +39,7 @@ pub record IsRecorded (tech : Tech) (cell : Cell) (items : List Item) (before : 
   pub few : step.edges ≤ most_edges
   pub order : List ℕ
   pub each_once : NamesEachOnce (variables_of step.axis cell) order
-  pub in_order : IsInOrderOf (value_of (values_on step.axis before)) order
+  pub in_order : IsInOrderOf (value_of (values_along step.axis before)) order
   pub backward : step.backward ≡ length (backward_numbers (list_over step.axis tech cell items before) order)
   pub raises : List Entry
   pub ended : EndsInRound (plan_of (list_over step.axis tech cell items before) order) step.rounds raises
@@ -59,3 +55,7 @@ ArePasses tech cell items before (step ∷ steps) =
 abbrev pub axes_of : List Step → List Axis
 axes_of [] = []
 axes_of (step ∷ steps) = step.axis ∷ axes_of steps
+
+-- passes over a layout are determined by their axes
+abbrev pub AreDetermined : Tech → Cell → List Item → Coords → Type 0
+AreDetermined tech cell items before = (a b : List Step) → ArePasses tech cell items before a → ArePasses tech cell items before b → axes_of a ≡ axes_of b → a ≡ b

@@ -15,11 +15,12 @@ use Rattle.shadow_prune.specs.Pruning.{HasExtent}
 use Rattle.pass_run.specs.declared.step.Step.{Step}
 use Rattle.pass_run.specs.declared.step.Walk.{Walk}
 use Rattle.pass_run.specs.System.{system_over, list_over}
-use Rattle.pass_run.specs.Passes.{values_on, moved_by}
+use Rattle.sym_items.specs.Transposed.{values_along}
+use Rattle.pass_run.specs.Passes.{moved_by}
 
 -- an item is at least as long on an axis as it has to be
 abbrev pub IsLong : Axis → Coords → Item → Type 0
-IsLong axis layout item = HasExtent axis (value_of (values_on axis layout)) item
+IsLong axis layout item = HasExtent axis (value_of (values_along axis layout)) item
 
 -- A layout of some items: each has a box, and is as long as it has to be on these axes, and all bound items keep their spacing.
 pub record IsWellPlaced (tech : Tech) (layout : Coords) (items : List Item) (axes : List Axis) : Type 0 where
@@ -39,8 +40,8 @@ pub record IsCriticalPath (listed system : List Edge) (walk : Walk) (size : ℤ)
 -- pass, the values before it solve its system, and none of them grows; and the layout after it is well placed.
 pub record IsSoundPass (tech : Tech) (cell : Cell) (items : List Item) (had : List Axis) (before : Coords) (step : Step) : Type 0 where
   pub paths : All (λ walk. IsCriticalPath (list_over step.axis tech cell items before) (system_over step.axis tech cell items before) walk (value_of step.x 1)) step.walks
-  pub solved_before : Contains had step.axis → IsSolution (system_over step.axis tech cell items before) (value_of (values_on step.axis before))
-  pub none_grows : Contains had step.axis → (v : ℕ) → v < variables_of step.axis cell → value_of step.x v ≤ℤ value_of (values_on step.axis before) v
+  pub solved_before : Contains had step.axis → IsSolution (system_over step.axis tech cell items before) (value_of (values_along step.axis before))
+  pub none_grows : Contains had step.axis → (v : ℕ) → v < variables_of step.axis cell → value_of step.x v ≤ℤ value_of (values_along step.axis before) v
   pub placed : IsWellPlaced tech (moved_by before step) items (step.axis ∷ had)
 
 -- so it is with each of some passes

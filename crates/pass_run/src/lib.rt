@@ -6,13 +6,13 @@
 #![tactic(auto)]
 
 mod edges;
+mod laws;
 mod names;
 mod pass;
 mod passes;
 mod step;
-#[cfg(test)]
-mod tests;
 mod text;
 
+pub use laws::{meeting_is_solving, meeting_stays_laid_out, passes_are_determined};
 pub use passes::{PassFault, Passes, run_passes};
 pub use step::{Step, Walk};

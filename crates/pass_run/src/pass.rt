@@ -6,12 +6,13 @@ ghost use Rattle.round_log.specs.Logs.{IsEndedLog};
 ghost use Rattle.round_log.specs.Orders.{NamesEachOnce};
 ghost use Rattle.cons_graph.specs.Solutions.{value_of};
 ghost use Rattle.liao_wong.specs.Sorted.{IsInOrderOf};
-ghost use Rattle.cell_model.specs.Sound.{IsSound, IsLight};
-ghost use Rattle.expand.specs.Items.{AreItems};
+ghost use Rattle.cell_model.specs.Sound.{IsLight};
+ghost use Rattle.expand.specs.Masters.{IsMaster};
 ghost use Rattle.expand.specs.Variables.{variables_of};
+ghost use Rattle.sym_items.specs.Transposed.{values_along};
 ghost use Rattle.pass_run.specs.declared.pass.Stop.TheVariants.{OutOfMemory};
 ghost use Rattle.pass_run.specs.System.{list_over};
-ghost use Rattle.pass_run.specs.Passes.{values_on, moved_by, IsLeastPass, IsRecorded};
+ghost use Rattle.pass_run.specs.Passes.{moved_by, IsLeastPass, IsRecorded};
 ghost use Rattle.pass_run.specs.Report.{pass_text};
 ghost use Rattle.pass_run.specs.Theorems.{IsSoundPass};
 ghost use Rattle.pass_run.specs.Laid.{IsLaidOut, IsSettled};
@@ -23,7 +24,7 @@ use crate::step::{Step, Walk};
 use crate::text::{cycle_text, pass_text};
 use cell_model::Cell;
 use crit_path::walk_to;
-use expand::Master;
+use expand::{Master, master_is_lawful};
 use lam_geom::Axis;
 use lam_list::Seq;
 use liao_wong::{Solved, Unsolved, solve, sort_order};
@@ -67,23 +68,13 @@ impl From<ListFault> for Stop {
     }
 }
 
-// The values of an axis.
-fn values_along(axis: Axis, layout: &Coords) -> &[i64]
-    ensures { result.now ≡ values_on axis layout.now }
-{
-    match axis {
-        Axis::X => layout.x.as_slice(),
-        Axis::Y => layout.y.as_slice(),
-    }
-}
-
 // The variables of an axis in order of their values in the layout.
 fn order_along(alloc: Global, axis: Axis, layout: &Coords) -> Result<Vec<u32>, AllocError>
-    requires few { length (values_on axis layout.now) < 2 ^ 32 }
-    ensures names { IfOk result (λ order. NamesEachOnce (length (values_on axis layout.now)) order.items) }
-    ensures in_order { IfOk result (λ order. IsInOrderOf (value_of (values_on axis layout.now)) order.items) }
+    requires few { length (values_along axis layout.now) < 2 ^ 32 }
+    ensures names { IfOk result (λ order. NamesEachOnce (length (values_along axis layout.now)) order.items) }
+    ensures in_order { IfOk result (λ order. IsInOrderOf (value_of (values_along axis layout.now)) order.items) }
 {
-    sort_order(alloc, values_along(axis, layout))
+    sort_order(alloc, layout.values(axis))
 }
 
 // A list of one element.
@@ -148,22 +139,21 @@ pub fn one_pass(
     axis: Axis,
     layout: &Coords,
 ) -> Result<Made, Stop>
-    requires sound { IsSound tech.now master.now.cell }
-    requires light { IsLight master.now.cell }
-    requires items { AreItems tech.now master.now.cell master.now.items }
-    requires laid { IsLaidOut tech.now master.now.cell master.now.items.list layout.now }
+    requires master { IsMaster tech.now master.now }
+    requires laid { IsLaidOut tech.now master.now layout.now }
     ensures axis { IfOk result (λ m. m.step.axis ≡ axis) }
     ensures least { IfOk result (λ m. IsLeastPass tech.now master.now.cell master.now.items.list layout.now m.step) }
     ensures recorded { IfOk result (λ m. IsRecorded tech.now master.now.cell master.now.items.list layout.now m.step) }
-    ensures sound_pass { IfOk result (λ m. (had : List SomeAxis) → IsSettled tech.now master.now.cell master.now.items.list had layout.now
+    ensures sound_pass { IfOk result (λ m. (had : List SomeAxis) → IsSettled tech.now master.now had layout.now
         → IsSoundPass tech.now master.now.cell master.now.items.list had layout.now m.step) }
-    ensures laid { IfOk result (λ m. IsLaidOut tech.now master.now.cell master.now.items.list (moved_by layout.now m.step)) }
-    ensures settled { IfOk result (λ m. (had : List SomeAxis) → IsSettled tech.now master.now.cell master.now.items.list had layout.now
-        → IsSettled tech.now master.now.cell master.now.items.list (axis ∷ had) (moved_by layout.now m.step)) }
+    ensures laid { IfOk result (λ m. IsLaidOut tech.now master.now (moved_by layout.now m.step)) }
+    ensures settled { IfOk result (λ m. (had : List SomeAxis) → IsSettled tech.now master.now had layout.now
+        → IsSettled tech.now master.now (axis ∷ had) (moved_by layout.now m.step)) }
     ensures text { IfOk result (λ m. m.text.items ≡ pass_text master.now.cell (list_over axis tech.now master.now.cell master.now.items.list layout.now) pass m.step) }
     ensures stopped { IfErr result (StopsPass tech.now master.now.cell master.now.items.list layout.now pass axis) }
-    ensures first { IfErr result (IsFirstOn tech.now master.now.cell master.now.items.list layout.now axis) }
+    ensures first { IfErr result (IsFirstOn tech.now master.now layout.now axis) }
 {
+    master_is_lawful(tech, master);
     let listed = list(alloc, axis, tech, master, layout)?;
     let order = order_along(alloc, axis, layout)?;
     match solve(alloc, &listed.graph, &order) {

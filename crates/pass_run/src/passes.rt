@@ -2,8 +2,7 @@
 
 ghost use Rattle.std.specs.Prelude.{◌≡◌, ◌<◌, ◌≤◌, ◌∷◌, ◌++◌, [], List, length, IfOk, IfErr};
 ghost use Rattle.lam_geom.specs.declared.boxes.Axis.{Axis as SomeAxis};
-ghost use Rattle.cell_model.specs.Sound.{IsSound, IsLight};
-ghost use Rattle.expand.specs.Items.{AreItems};
+ghost use Rattle.expand.specs.Masters.{IsMaster};
 ghost use Rattle.pair_rules.specs.Clean.{IsClean};
 ghost use Rattle.pair_rules.specs.Laws.{moved};
 ghost use Rattle.coarse_grid.specs.Start.{start_of};
@@ -17,8 +16,8 @@ ghost use Rattle.pass_run.specs.declared.passes.PassFault.TheVariants.{OutOfMemo
 
 use crate::pass::{Made, Stop, one_pass};
 use crate::step::Step;
-use coarse_grid::start;
-use expand::Master;
+use coarse_grid::{start, start_is_a_layout};
+use expand::{Master, master_is_lawful};
 use lam_geom::Axis;
 use lam_list::Seq;
 use rule_table::Tech;
@@ -78,12 +77,12 @@ struct SoFar {
 
 // No passes, over the start layout.
 fn none_yet(alloc: Global, tech: &Tech, master: &Master) -> Result<SoFar, AllocError>
-    requires sound { IsSound tech.now master.now.cell }
-    requires items { AreItems tech.now master.now.cell master.now.items }
+    requires master { IsMaster tech.now master.now }
     requires clean { IsClean tech.now (start_of tech.now master.now.cell) master.now.items.list }
-    ensures going { IfOk result (IsGoing tech.now master.now.cell master.now.items.list) }
+    ensures going { IfOk result (IsGoing tech.now master.now) }
     ensures none { IfOk result (λ s. s.steps.items ≡ []) }
 {
+    start_is_a_layout(tech, master);
     let layout = start(alloc, tech, &master.cell)?;
     Ok(SoFar {
         layout,
@@ -143,12 +142,10 @@ fn go_on(
     axis: Axis,
     so_far: SoFar,
 ) -> Result<SoFar, PassFault>
-    requires sound { IsSound tech.now master.now.cell }
-    requires light { IsLight master.now.cell }
-    requires items { AreItems tech.now master.now.cell master.now.items }
-    requires going { IsGoing tech.now master.now.cell master.now.items.list so_far }
+    requires master { IsMaster tech.now master.now }
+    requires going { IsGoing tech.now master.now so_far }
     requires few { length so_far.steps.items < 16 }
-    ensures going { IfOk result (IsGoing tech.now master.now.cell master.now.items.list) }
+    ensures going { IfOk result (IsGoing tech.now master.now) }
     ensures axes { IfOk result (λ s. axes_of s.steps.items ≡ axes_of so_far.steps.items ++ axis ∷ []) }
     ensures refused { IfErr result (λ fault. (later : List SomeAxis) → RefusesPasses tech.now master.now.cell master.now.items.list (axes_of so_far.steps.items ++ axis ∷ later) fault) }
 {
@@ -193,9 +190,7 @@ pub fn run_passes(
     master: &Master,
     axes: &[Axis],
 ) -> Result<Passes, PassFault>
-    requires sound { IsSound tech.now master.now.cell }
-    requires light { IsLight master.now.cell }
-    requires items { AreItems tech.now master.now.cell master.now.items }
+    requires master { IsMaster tech.now master.now }
     requires clean { IsClean tech.now (start_of tech.now master.now.cell) master.now.items.list }
     requires few { length axes.now ≤ 16 }
     ensures axes { IfOk result (λ p. axes_of p.steps ≡ axes.now) }
@@ -206,9 +201,10 @@ pub fn run_passes(
     ensures sound_passes { IfOk result (λ p. AreSound tech.now master.now.cell master.now.items.list [] (start_of tech.now master.now.cell) p.steps) }
     ensures placed { IfOk result (λ p. IsWellPlaced tech.now (layout_after (start_of tech.now master.now.cell) p.steps) master.now.items.list axes.now) }
     // pruning loses nothing, whatever the answer
-    ensures pruning { PruningLosesNothing tech.now master.now.cell master.now.items.list }
+    ensures pruning { PruningLosesNothing tech.now master.now }
     ensures refused { IfErr result (RefusesPasses tech.now master.now.cell master.now.items.list axes.now) }
 {
+    master_is_lawful(tech, master);
     let mut so_far = none_yet(alloc, tech, master)?;
     for axis in axes {
         so_far = go_on(alloc, tech, master, *axis, so_far)?;

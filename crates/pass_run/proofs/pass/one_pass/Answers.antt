@@ -21,7 +21,7 @@ pub solve-requires : goal.solve-requires
 solve-requires c =
     let O : List ℕ → Type 0 = λ ns. IsOrder c.in_ok-listed.listed.graph.vars ns in
     subst O (sym c.deref.ensures.value)
-    (order_of c.args.axis c.args.tech.now c.args.master.now.cell c.args.master.now.items.list c.args.layout.now c.in_ok-listed.listed.graph.vars c.in_ok-order.order.items c.requires.laid c.in_ok-listed.ensures.vars
+    (order_of c.args.axis c.args.tech.now c.args.master.now c.args.layout.now c.in_ok-listed.listed.graph.vars c.in_ok-order.order.items c.requires.laid c.in_ok-listed.ensures.vars
     c.in_ok-order.ensures.names c.in_ok-order.ensures.in_order)
 
 pub with_text-requires-clause-ended : goal.with_text-requires-clause-ended
@@ -31,7 +31,7 @@ with_text-requires-clause-ended c =
       order = c.deref.result.now;
       rounds = c.in-Ok.solved.rounds;
       is_order = subst O (sym c.deref.ensures.value)
-          (order_of c.args.axis c.args.tech.now c.args.master.now.cell c.args.master.now.items.list c.args.layout.now c.in_ok-listed.listed.graph.vars c.in_ok-order.order.items c.requires.laid
+          (order_of c.args.axis c.args.tech.now c.args.master.now c.args.layout.now c.in_ok-listed.listed.graph.vars c.in_ok-order.order.items c.requires.laid
           c.in_ok-listed.ensures.vars c.in_ok-order.ensures.names c.in_ok-order.ensures.in_order);
       holds = c.in-Ok.ensures.log;
       ended = c.in-Ok.ensures.ended;
@@ -40,8 +40,8 @@ with_text-requires-clause-ended c =
 pub returns-in-Ok : goal.returns-in-Ok
 returns-in-Ok c =
     let tech = c.args.tech.now in
-    let cell = c.args.master.now.cell in
-    let items = c.args.master.now.items in
+    let master = c.args.master.now in
+    let lawful = c.master_is_lawful.ensures in
     let layout = c.args.layout.now in
     let axis = c.args.axis in
     let listed = c.in_ok-listed.listed in
@@ -50,7 +50,7 @@ returns-in-Ok c =
     let step = c.in_ok-with_text-in-Ok.field-0.step in
     let B : List ℕ → Type 0 = λ ns. solved.backward ≡ length (backward_numbers listed.graph.edges ns) in
     let E : List ℕ → Type 0 = λ ns. EndsInRound (plan_of listed.graph.edges ns) solved.rounds (raises_in solved.log) in
-    let run : IsSolvedPass axis tech cell items.list layout listed order solved = record {
+    let run : IsSolvedPass axis tech master layout listed order solved = record {
       vars = c.in_ok-listed.ensures.vars;
       edges = c.in_ok-listed.ensures.edges;
       few = c.in_ok-listed.ensures.few;
@@ -66,19 +66,19 @@ returns-in-Ok c =
       path = c.in_ok-with_text-in-Ok.ensures.path;
     } in
     let is : step_of axis listed solved ≡ step = sym c.in_ok-with_text-in-Ok.ensures.step in
-    let L : Step → Type 0 = λ s. IsLeastPass tech cell items.list layout s in
-    let R : Step → Type 0 = λ s. IsRecorded tech cell items.list layout s in
-    let S : Step → Type 0 = λ s. (had : List Axis) → IsSettled tech cell items.list had layout → IsSoundPass tech cell items.list had layout s in
-    let O : Step → Type 0 = λ s. IsLaidOut tech cell items.list (moved_by layout s) in
-    let T : Step → Type 0 = λ s. (had : List Axis) → IsSettled tech cell items.list had layout → IsSettled tech cell items.list (axis ∷ had) (moved_by layout s) in
+    let L : Step → Type 0 = λ s. IsLeastPass tech master.cell master.items.list layout s in
+    let R : Step → Type 0 = λ s. IsRecorded tech master.cell master.items.list layout s in
+    let S : Step → Type 0 = λ s. (had : List Axis) → IsSettled tech master had layout → IsSoundPass tech master.cell master.items.list had layout s in
+    let O : Step → Type 0 = λ s. IsLaidOut tech master (moved_by layout s) in
+    let T : Step → Type 0 = λ s. (had : List Axis) → IsSettled tech master had layout → IsSettled tech master (axis ∷ had) (moved_by layout s) in
     record {
       axis = ap (λ (s : Step). s.axis) (sym is);
-      least = subst L is (least_pass axis tech cell items layout listed order solved c.requires.sound c.requires.items c.requires.laid run);
-      recorded = subst R is (recorded axis tech cell items.list layout listed order solved c.requires.laid run);
-      sound_pass = subst S is (sound_pass axis tech cell items layout listed order solved c.requires.sound c.requires.items c.requires.laid run);
-      laid = subst O is (laid_next axis tech cell items layout listed order solved c.requires.sound c.requires.items c.requires.laid run);
-      settled = subst T is (settled_next axis tech cell items layout listed order solved c.requires.sound c.requires.items c.requires.laid run);
-      text = c.in_ok-with_text-in-Ok.ensures.text ∙ ap (λ es. pass_text cell es c.args.pass step) c.in_ok-listed.ensures.edges;
+      least = subst L is (least_pass axis tech master layout listed order solved lawful c.requires.laid run);
+      recorded = subst R is (recorded axis tech master layout listed order solved c.requires.laid run);
+      sound_pass = subst S is (sound_pass axis tech master layout listed order solved lawful c.requires.laid run);
+      laid = subst O is (laid_next axis tech master layout listed order solved lawful c.requires.laid run);
+      settled = subst T is (settled_next axis tech master layout listed order solved lawful run);
+      text = c.in_ok-with_text-in-Ok.ensures.text ∙ ap (λ es. pass_text master.cell es c.args.pass step) c.in_ok-listed.ensures.edges;
       stopped = tt;
       first = tt;
     }
@@ -93,8 +93,7 @@ cycle_text-requires-clause-few c =
 pub returns-in-Err-Cycle : goal.returns-in-Err-Cycle
 returns-in-Err-Cycle c =
     let tech = c.args.tech.now in
-    let cell = c.args.master.now.cell in
-    let items = c.args.master.now.items.list in
+    let master = c.args.master.now in
     let layout = c.args.layout.now in
     let axis = c.args.axis in
     let listed = c.in_ok-listed.listed in
@@ -104,7 +103,7 @@ returns-in-Err-Cycle c =
     let I : Unsolved → Type 0 = λ u. IfCycle u (λ (ns : List ℕ). IsSimplePositiveCycle listed.graph.edges ns) in
     let J : Unsolved → Type 0 = λ u. IfCycle u (IsCycleOf listed.graph.edges c.deref.result.now) in
     let S : List ℕ → Type 0 = λ ns. IsCycleOf listed.graph.edges ns cycle in
-    let run : IsStoppedPass axis tech cell items layout listed order cycle = record {
+    let run : IsStoppedPass axis tech master layout listed order cycle = record {
       edges = c.in_ok-listed.ensures.edges;
       few = c.in_ok-listed.ensures.few;
       names = c.in_ok-order.ensures.names;
@@ -121,7 +120,7 @@ returns-in-Err-Cycle c =
       laid = tt;
       settled = tt;
       text = tt;
-      stopped = stopped axis tech cell items layout listed order cycle c.args.pass c.in_ok-text-in-Err-Cycle.text.items c.requires.laid run
-          (c.in_ok-text-in-Err-Cycle.ensures ∙ ap (λ ns. cycle_text cell listed.graph.edges c.args.pass axis ns) c.as_slice-cycle.ensures);
-      first = stopped_first axis tech cell items layout listed order cycle c.requires.laid run;
+      stopped = stopped axis tech master layout listed order cycle c.args.pass c.in_ok-text-in-Err-Cycle.text.items c.requires.laid run
+          (c.in_ok-text-in-Err-Cycle.ensures ∙ ap (λ ns. cycle_text master.cell listed.graph.edges c.args.pass axis ns) c.as_slice-cycle.ensures);
+      first = stopped_first axis tech master layout listed order cycle c.requires.laid run;
     }

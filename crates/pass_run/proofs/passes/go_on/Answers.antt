@@ -10,7 +10,7 @@ pub returns-in-Ok-clause-going : goal.returns-in-Ok-clause-going
 returns-in-Ok-clause-going c =
     let m = c.in-Ok.ensures in
     let w = c.in_ok-with_pass-in-Ok.ensures in
-    going_more c.args.tech.now c.args.master.now.cell c.args.master.now.items.list c.args.so_far c.in_ok-with_pass-in-Ok.field-0 c.in-Ok.made.step _ _ c.args.axis c.requires.going
+    going_more c.args.tech.now c.args.master.now c.args.so_far c.in_ok-with_pass-in-Ok.field-0 c.in-Ok.made.step _ _ c.args.axis c.requires.going
     (omega arith) m.axis m.least m.recorded m.sound_pass m.laid m.settled m.text w.layout w.steps w.report
 
 pub returns-in-Ok-clause-axes : goal.returns-in-Ok-clause-axes

@@ -35,16 +35,16 @@ returns-clause-placed c =
     let test = c.loop-axis-test.false in
     let all : axes_of c.loop-axis.so_far.steps.items ≡ c.args.axes.now = c.loop-axis.invariant.axes ∙ take_all c.loop-axis.axis-index c.args.axes.now (omega arith) in
     subst S (sym c.in_ok-given.ensures.steps)
-    (going_placed c.args.tech.now c.args.master.now.cell c.args.master.now.items.list c.loop-axis.so_far c.args.axes.now c.loop-axis.invariant.going all)
+    (going_placed c.args.tech.now c.args.master.now c.loop-axis.so_far c.args.axes.now c.loop-axis.invariant.going all)
 
 pub returns-in_err-so_far-clause-pruning : goal.returns-in_err-so_far-clause-pruning
-returns-in_err-so_far-clause-pruning c = pruning c.args.tech.now c.args.master.now.cell c.args.master.now.items c.requires.sound c.requires.light c.requires.items
+returns-in_err-so_far-clause-pruning c = pruning c.args.tech.now c.args.master.now c.master_is_lawful.ensures
 
 pub returns-in_err-so_far-2-clause-pruning : goal.returns-in_err-so_far-2-clause-pruning
-returns-in_err-so_far-2-clause-pruning c = pruning c.args.tech.now c.args.master.now.cell c.args.master.now.items c.requires.sound c.requires.light c.requires.items
+returns-in_err-so_far-2-clause-pruning c = pruning c.args.tech.now c.args.master.now c.master_is_lawful.ensures
 
 pub returns-in_err-given-clause-pruning : goal.returns-in_err-given-clause-pruning
-returns-in_err-given-clause-pruning c = pruning c.args.tech.now c.args.master.now.cell c.args.master.now.items c.requires.sound c.requires.light c.requires.items
+returns-in_err-given-clause-pruning c = pruning c.args.tech.now c.args.master.now c.master_is_lawful.ensures
 
 pub returns-clause-pruning : goal.returns-clause-pruning
-returns-clause-pruning c = pruning c.args.tech.now c.args.master.now.cell c.args.master.now.items c.requires.sound c.requires.light c.requires.items
+returns-clause-pruning c = pruning c.args.tech.now c.args.master.now c.master_is_lawful.ensures
