@@ -1,30 +1,40 @@
 -- What stands once an answer has been delivered.
 use Rattle.std.proofs.Common.{◌≡◌, ℕ, List, [], Option, Some, None, ◌⊎◌, inl, inr, refl, sym, ap, subst, ◌∙◌}
 use Rattle.std.proofs.lemmas.List.{append-nil}
-use Rattle.lam_io.specs.Io.{Bytes, Files, Appends, AppendsPrefix, Rose}
-use Rattle.compact_run.specs.declared.refusal.Refusal.{Refusal}
-use Rattle.compact_run.specs.declared.refusal.Refusal.TheVariants as refusal
+use Rattle.lam_io.specs.Io.{Bytes, Files, Telling, Appends, AppendsPrefix, Rose}
+use Rattle.compact_run.specs.declared.status.File.TheVariants.{Design}
+use Rattle.compact_run.specs.declared.status.File.{File}
+use Rattle.compact_run.specs.declared.status.Side2.{Side2}
+use Rattle.compact_run.specs.declared.status.Side2.TheVariants as side
 use Rattle.compact_run.specs.declared.status.Side2.TheVariants.{Output, Report}
 use Rattle.compact_run.specs.declared.status.Status.{Status}
 use Rattle.compact_run.specs.declared.status.Status.TheVariants as status
-use Rattle.compact_run.specs.Words.{command_of}
-use Rattle.compact_run.specs.Refusal.{status_of, line_of}
-use Rattle.compact_run.specs.Answers.{IsAnswer, WordsWrite, RefusesWords, Writes, Reports, Tells, IsUntouched, write_fault_line}
+use Rattle.compact_run.specs.Words.{Command, compact, fmt, command_of}
+use Rattle.compact_run.specs.Refusal.{line_of}
+use Rattle.compact_run.specs.Fetches.{IsRefusal, AsksFor, AsksThrough, file_of}
+use Rattle.compact_run.specs.Answers.{IsAnswer, compacted, formatted, refused, output_failed, report_failed, WordsWrite, RefusesWords, Writes, Reports, Tells, IsUntouched, write_fault_line}
 
 -- an answer, and what it left of the output and the report
 abbrev pub Answered : List Bytes → Files → Status → Option Bytes → Option Bytes → Option Bytes → Option Bytes → ℕ → ℕ → Type 0
 Answered words files ended out_old out_new told_old told_new faults_old faults_new =
     (output : List ℕ) × (line : List ℕ) × IsAnswer words files ended output line × Writes ended out_old out_new output × Tells ended told_old told_new faults_old faults_new line
 
-appends_nothing : (old new : Option Bytes) → new ≡ old → Appends old new []
-appends_nothing None new e = e
-appends_nothing (Some bytes) new e = e ∙ ap Some (sym (append-nil bytes))
+appends_nothing : (old : Option Bytes) → Appends old old []
+appends_nothing None = refl
+appends_nothing (Some bytes) = ap Some (sym (append-nil bytes))
 
 done_is_not : (ended : Status) → ended ≡ status.Done → ended ≡ status.WriteFault Output → ⊥
 done_is_not ended e f = cc
 
 report_is_not : (ended : Status) → ended ≡ status.WriteFault Report → ended ≡ status.WriteFault Output → ⊥
 report_is_not ended e f = cc
+
+-- what the words write is what their command does
+done_by : (words : List Bytes) (files : Files) (ended : Status) (output report : Bytes) (c : Option Command) → command_of words ≡ c → ended ≡ status.Done
+    → WordsWrite c files output report → IsAnswer words files ended output report
+done_by words files ended output report None is e writes = absurd writes
+done_by words files ended output report (Some (compact design tech axes)) is e writes = compacted design tech axes is e writes
+done_by words files ended output report (Some (fmt design)) is e writes = formatted design is e writes.0 writes.1
 
 pub ends_written : (words : List Bytes) (files : Files) (ended : Status) (out_old out_new told_old told_new : Option Bytes) (faults_old faults_new : ℕ) (output report : Bytes)
     → (ended ≡ status.Done) ⊎ ((ended ≡ status.WriteFault Output) ⊎ (ended ≡ status.WriteFault Report))
@@ -39,61 +49,54 @@ pub ends_written : (words : List Bytes) (files : Files) (ended : Status) (out_ol
 ends_written words files ended out_old out_new told_old told_new faults_old faults_new output report (inl e) written told prefix says cut rose writes =
     let P : Status → Type 0 = λ s. Writes s out_old out_new output in
     let Q : Status → Type 0 = λ s. Tells s told_old told_new faults_old faults_new report in
-    (output, report, inl (e, writes), subst P (sym e) (written (done_is_not ended e)), subst Q (sym e) (told e))
+    (output, report, done_by words files ended output report (command_of words) refl e writes, subst P (sym e) (written (done_is_not ended e)), subst Q (sym e) (told e))
 ends_written words files ended out_old out_new told_old told_new faults_old faults_new output report (inr (inl e)) written told prefix says cut rose writes =
     let P : Status → Type 0 = λ s. Writes s out_old out_new output in
     let Q : Status → Type 0 = λ s. Tells s told_old told_new faults_old faults_new write_fault_line in
-    (output, write_fault_line, inr (inl (e, (report, writes), refl)), subst P (sym e) (prefix e), subst Q (sym e) (says e))
+    (output, write_fault_line, output_failed report e writes refl, subst P (sym e) (prefix e), subst Q (sym e) (says e))
 ends_written words files ended out_old out_new told_old told_new faults_old faults_new output report (inr (inr e)) written told prefix says cut rose writes =
     let P : Status → Type 0 = λ s. Writes s out_old out_new output in
     let Q : Status → Type 0 = λ s. Tells s told_old told_new faults_old faults_new report in
-    (output, report, inr (inr (inl (e, writes))), subst P (sym e) (written (report_is_not ended e)), subst Q (sym e) (cut e, rose e))
+    (output, report, report_failed e writes, subst P (sym e) (written (report_is_not ended e)), subst Q (sym e) (cut e, rose e))
 
-writes_nothing : (r : Refusal) (out : Option Bytes) → Writes (status_of r) out out []
-writes_nothing refusal.OutOfMemory out = appends_nothing out out refl
-writes_nothing refusal.Usage out = appends_nothing out out refl
-writes_nothing (refusal.Unread file) out = appends_nothing out out refl
-writes_nothing (refusal.TooLong file) out = appends_nothing out out refl
-writes_nothing (refusal.BadTech fault line) out = appends_nothing out out refl
-writes_nothing (refusal.BadSticks fault line) out = appends_nothing out out refl
-writes_nothing (refusal.TooLarge what) out = appends_nothing out out refl
-writes_nothing refusal.NotBuilt out = appends_nothing out out refl
-writes_nothing (refusal.Clash a b line) out = appends_nothing out out refl
-writes_nothing (refusal.Unsatisfiable pass report) out = appends_nothing out out refl
+-- a refusal leaves the output as it was
+writes_nothing : (ended : Status) (out : Option Bytes) → Writes ended out out []
+writes_nothing (status.WriteFault side.Output) out = ([], [], refl, appends_nothing out)
+writes_nothing other out = appends_nothing out
 
-tells_line : (r : Refusal) (old new : Option Bytes) (faults_old faults_new : ℕ) (text : Bytes) → Reports old new faults_old faults_new text
-    → Tells (status_of r) old new faults_old faults_new text
-tells_line refusal.OutOfMemory old new faults_old faults_new text says = says
-tells_line refusal.Usage old new faults_old faults_new text says = says
-tells_line (refusal.Unread file) old new faults_old faults_new text says = says
-tells_line (refusal.TooLong file) old new faults_old faults_new text says = says
-tells_line (refusal.BadTech fault line) old new faults_old faults_new text says = says
-tells_line (refusal.BadSticks fault line) old new faults_old faults_new text says = says
-tells_line (refusal.TooLarge what) old new faults_old faults_new text says = says
-tells_line refusal.NotBuilt old new faults_old faults_new text says = says
-tells_line (refusal.Clash a b line) old new faults_old faults_new text says = says
-tells_line (refusal.Unsatisfiable pass report) old new faults_old faults_new text says = says
+pub untouched : {A : Type 0} (ended : Status) (out : A) → IsUntouched ended out out
+untouched status.Done out = tt
+untouched (status.WriteFault stream) out = tt
+untouched other out = refl
 
-pub ends_refused : (words : List Bytes) (files : Files) (ended : Status) (r : Refusal) (out told_old told_new : Option Bytes) (faults_old faults_new : ℕ)
-    → ended ≡ status_of r → RefusesWords (command_of words) files r → Reports told_old told_new faults_old faults_new (line_of r)
+tells_line : (ended : Status) (old new : Option Bytes) (faults_old faults_new : ℕ) (text : Bytes) → IsRefusal ended → Reports old new faults_old faults_new text
+    → Tells ended old new faults_old faults_new text
+tells_line status.Done old new faults_old faults_new text is says = absurd is
+tells_line (status.WriteFault stream) old new faults_old faults_new text is says = absurd is
+tells_line other old new faults_old faults_new text is says = says
+
+pub ends_refused : (words : List Bytes) (files : Files) (ended : Status) (own : Bytes) (out told_old told_new : Option Bytes) (faults_old faults_new : ℕ)
+    → IsRefusal ended → RefusesWords (command_of words) files ended own → Reports told_old told_new faults_old faults_new (line_of ended own)
     → Answered words files ended out out told_old told_new faults_old faults_new
-ends_refused words files ended r out told_old told_new faults_old faults_new e why says =
-    let P : Status → Type 0 = λ s. Writes s out out [] in
-    let Q : Status → Type 0 = λ s. Tells s told_old told_new faults_old faults_new (line_of r) in
-    let told = tells_line r told_old told_new faults_old faults_new (line_of r) says in
-    ([], line_of r, inr (inr (inr (r, e, why, refl, refl))), subst P (sym e) (writes_nothing r out), subst Q (sym e) told)
+ends_refused words files ended own out told_old told_new faults_old faults_new is why says =
+    ([], line_of ended own, refused own why refl refl, writes_nothing ended out, tells_line ended told_old told_new faults_old faults_new (line_of ended own) is says)
 
-untouched_by : {A : Type 0} (r : Refusal) (out : A) → IsUntouched (status_of r) out out
-untouched_by refusal.OutOfMemory out = refl
-untouched_by refusal.Usage out = refl
-untouched_by (refusal.Unread file) out = refl
-untouched_by (refusal.TooLong file) out = refl
-untouched_by (refusal.BadTech fault line) out = refl
-untouched_by (refusal.BadSticks fault line) out = refl
-untouched_by (refusal.TooLarge what) out = refl
-untouched_by refusal.NotBuilt out = refl
-untouched_by (refusal.Clash a b line) out = refl
-untouched_by (refusal.Unsatisfiable pass report) out = refl
+-- a refusal is not for a stream
+pub refuses_no_stream : (ended : Status) (stream : Side2) → IsRefusal ended → ended ≡ status.WriteFault stream → ⊥
+refuses_no_stream ended stream is e = let P : Status → Type 0 = λ s. IsRefusal s in subst P e is
 
-pub untouched : {A : Type 0} (ended : Status) (r : Refusal) (out : A) → ended ≡ status_of r → IsUntouched ended out out
-untouched {A} ended r out e = let P : Status → Type 0 = λ s. IsUntouched s out out in subst P (sym e) (untouched_by r out)
+-- a command that has written has asked for all its files
+through_design : (ended : Status) → (ended ≡ status.Done) ⊎ ((ended ≡ status.WriteFault Output) ⊎ (ended ≡ status.WriteFault Report)) → file_of ended ≡ Some Design
+through_design ended (inl e) = ap file_of e
+through_design ended (inr (inl e)) = ap file_of e
+through_design ended (inr (inr e)) = ap file_of e
+
+done_has_memory : status.Done ≡ status.OutOfMemory → ⊥
+done_has_memory e = cc
+
+pub asks_for_all : (c : Option Command) (ended : Status) (old new : Option Telling) → (ended ≡ status.Done) ⊎ ((ended ≡ status.WriteFault Output) ⊎ (ended ≡ status.WriteFault Report))
+    → AsksFor c status.Done old new → AsksFor c ended old new
+asks_for_all None ended old new how asks = asks
+asks_for_all (Some c) ended old new how (inl through) =
+    let P : Option File → Type 0 = λ file. AsksThrough file c old new in inl (subst P (sym (through_design ended how)) through)
+asks_for_all (Some c) ended old new how (inr p) = absurd (done_has_memory p.0)

@@ -1,5 +1,6 @@
 pub mod Puts
 pub mod Endings
 pub mod Extents
-pub mod Compactions
+pub mod Layouts
+pub mod Cells
 pub mod Steps

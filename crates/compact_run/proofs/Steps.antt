@@ -1,107 +1,120 @@
--- What the steps of a command give, the command gives.
-use Rattle.std.proofs.Common.{◌≡◌, ℕ, List, [], ◌∷◌, Option, Some, None, Result, Ok, Err, IfOk, IfErr, inl, inr, ap, subst, ◌∙◌, option_map}
-use Rattle.std.specs.Prelude.{IsErrOf}
+-- What the steps of a command ask of the shelf, and why they are refused.
+use Rattle.std.proofs.Common.{◌≡◌, ℕ, List, [], ◌∷◌, Option, Some, None, Result, Ok, Err, IfOk, IfErr, ◌⊎◌, inl, inr, refl, sym, ap, subst, ◌∙◌, option_map}
 use Rattle.lam_geom.specs.declared.boxes.Axis.{Axis}
 use Rattle.lam_io.specs.Io.{Bytes, Files, Telling, with_asked, Asks}
 use Rattle.rule_table.specs.declared.technology.Tech.{Tech}
 use Rattle.stick_parse.specs.declared.design.Design.{Design as Sticks}
-use Rattle.stick_parse.specs.Order.{design_of}
-use Rattle.stick_cell.specs.Lines.{known_cells}
+use Rattle.expand.specs.declared.master.Master.{Master}
 use Rattle.compact_run.specs.declared.output.Output.{Output}
 use Rattle.compact_run.specs.declared.refusal.Refusal.{Refusal}
-use Rattle.compact_run.specs.declared.refusal.Refusal.TheVariants as refusal
 use Rattle.compact_run.specs.declared.status.File.{File}
 use Rattle.compact_run.specs.declared.status.File.TheVariants.{Design, Technology}
-use Rattle.compact_run.specs.Words.{Command, compact, files_of}
-use Rattle.compact_run.specs.Fetches.{HasFile, IsRead, AsksInOrder, AsksForFiles, OnUnread}
-use Rattle.compact_run.specs.Answers.{of_names, IsTechnology, RefusesFault, RefusesText, RefusesCompact, IsGiven, text_of, WritesMasks}
-use Rattle.compact_run.specs.Steps.{RefusesDesign}
+use Rattle.compact_run.specs.declared.status.What.TheVariants.{Items, Edges, Extent}
+use Rattle.compact_run.specs.declared.status.Status.{Status}
+use Rattle.compact_run.specs.declared.status.Status.TheVariants as status
+use Rattle.compact_run.specs.Words.{Command, compact, fmt}
+use Rattle.compact_run.specs.Fetches.{AsksOnce, AsksThrough, AsksFor, EndsOver, IsRefusal, IsCounted, file_of}
+use Rattle.compact_run.specs.Refusal.{own_text}
+use Rattle.compact_run.specs.Refusals.{Refused, ending_of}
+use Rattle.compact_run.specs.Answers as answers
+use Rattle.compact_run.specs.Answers.{IsTechnology, IsDesign, IsGiven, text_of}
+use Rattle.compact_run.specs.Designs.{RefusesCells, RefusesMaster, RefusesDesign, CompactsTo, no_cell, no_masks}
 
-design_refuses : (technology : Tech) (axes : List Axis) (design tech : Bytes) (files : Files) (r : Refusal) → IsTechnology files tech technology
-    → RefusesDesign technology axes design files r → RefusesCompact design tech axes files r
-design_refuses technology axes design tech files refusal.OutOfMemory is why = tt
-design_refuses technology axes design tech files refusal.Usage is why = absurd why
-design_refuses technology axes design tech files (refusal.Unread file) is why = tt
-design_refuses technology axes design tech files (refusal.TooLong Design) is why = record { technology = technology; is_technology = is; long = why }
-design_refuses technology axes design tech files (refusal.TooLong Technology) is why = absurd why
-design_refuses technology axes design tech files (refusal.BadTech fault line) is why = absurd why
-design_refuses technology axes design tech files (refusal.BadSticks fault line) is why =
-    record { technology = technology; is_technology = is; refuses = why }
-design_refuses technology axes design tech files refusal.NotBuilt is why =
-    record { technology = technology; is_technology = is; refuses = why }
-design_refuses technology axes design tech files (refusal.TooLarge what) is why =
-    record { technology = technology; is_technology = is; refuses = why }
-design_refuses technology axes design tech files (refusal.Clash a b line) is why =
-    record { technology = technology; is_technology = is; refuses = why }
-design_refuses technology axes design tech files (refusal.Unsatisfiable pass report) is why =
-    record { technology = technology; is_technology = is; refuses = why }
+-- a command that is refused over its design once its files are read
+abbrev pub IsOfDesign : Status → Type 0
+IsOfDesign ended = IsRefusal ended × ((ended ≡ status.OutOfMemory) ⊎ (file_of ended ≡ Some Design)) × ((f : File) → ended ≡ status.ReadFault f → ⊥)
 
--- a text whose names or sizes have a fault
-pub names_refuse : (tech : Tech) (axes : List Axis) (text : Bytes) (design : Sticks) (r : Refusal) → design_of text ≡ Ok design → RefusesFault (known_cells tech design.cells) r
-    → RefusesText tech axes text r
-names_refuse tech axes text design refusal.OutOfMemory read why = tt
-names_refuse tech axes text design refusal.Usage read why = absurd why
-names_refuse tech axes text design (refusal.Unread file) read why = absurd why
-names_refuse tech axes text design (refusal.TooLong file) read why = absurd why
-names_refuse tech axes text design (refusal.BadTech fault line) read why = absurd why
-names_refuse tech axes text design (refusal.BadSticks fault line) read why = (of_names design read why.0, why.1)
-names_refuse tech axes text design refusal.NotBuilt read why = absurd why
-names_refuse tech axes text design (refusal.TooLarge what) read why = absurd why
-names_refuse tech axes text design (refusal.Clash a b line) read why = absurd why
-names_refuse tech axes text design (refusal.Unsatisfiable pass report) read why = absurd why
+done_is_not : status.Done ≡ status.OutOfMemory → ⊥
+done_is_not e = cc
 
--- a text of the shelf that is refused
-text_refuses : (tech : Tech) (axes : List Axis) (name : Bytes) (files : Files) (text : Bytes) (r : Refusal) → HasFile files Design name text → RefusesText tech axes text r
-    → RefusesDesign tech axes name files r
-text_refuses tech axes name files text refusal.OutOfMemory file why = tt
-text_refuses tech axes name files text refusal.Usage file why = absurd why
-text_refuses tech axes name files text (refusal.Unread f) file why = absurd why
-text_refuses tech axes name files text (refusal.TooLong f) file why = absurd why
-text_refuses tech axes name files text (refusal.BadTech fault line) file why = absurd why
-text_refuses tech axes name files text (refusal.BadSticks fault line) file why = record { text = text; file = file; cause = why }
-text_refuses tech axes name files text refusal.NotBuilt file why = record { text = text; file = file; cause = why }
-text_refuses tech axes name files text (refusal.TooLarge what) file why = record { text = text; file = file; cause = why }
-text_refuses tech axes name files text (refusal.Clash a b line) file why = record { text = text; file = file; cause = why }
-text_refuses tech axes name files text (refusal.Unsatisfiable pass report) file why = record { text = text; file = file; cause = why }
+done_is_read : (f : File) → status.Done ≡ status.ReadFault f → ⊥
+done_is_read f e = cc
 
-pub text_refused : {A : Type 0} (tech : Tech) (axes : List Axis) (name : Bytes) (told : Option Telling) (text : Bytes) (r : Result A Refusal) → IsRead told Design name text
-    → IfErr r (RefusesText tech axes text) → IfErr r (λ e. (t : Telling) → told ≡ Some t → RefusesDesign tech axes name t.files e)
-text_refused tech axes name told text (Ok x) read why = tt
-text_refused tech axes name told text (Err r) read why = λ t e. text_refuses tech axes name t.files text r (read t e) why
+-- what a step that gave its file has asked
+pub asked : (old new : Option Telling) (name : Bytes) → AsksOnce status.Done old new name → Asks old new name
+asked old new name (inl asks) = asks
+asked old new name (inr p) = absurd (done_is_not p.0)
 
--- the technology first, and then the design
-pub given_by_steps : (axes : List Axis) (design tech : Bytes) (old between : Option Telling) (t : Telling) (technology : Tech) (r : Result Output Refusal) → old ≡ Some t
-    → Asks old between tech → ((u : Telling) → old ≡ Some u → IsTechnology u.files tech technology)
-    → IfOk r (λ o. (u : Telling) → between ≡ Some u → WritesMasks technology axes design u.files (text_of o) o.report)
-    → IfErr r (λ e. (u : Telling) → between ≡ Some u → RefusesDesign technology axes design u.files e)
-    → IsGiven (Some (compact design tech axes)) t.files r
-given_by_steps axes design tech old between t technology (Ok o) e asks is done refused =
-    let told : between ≡ Some (with_asked tech t) = asks ∙ ap (option_map (with_asked tech)) e in
-    let masks : WritesMasks technology axes design t.files (text_of o) o.report = done (with_asked tech t) told in
-    record { technology = technology; is_technology = is t e; writes = masks }
-given_by_steps axes design tech old between t technology (Err r) e asks is done refused =
-    let told : between ≡ Some (with_asked tech t) = asks ∙ ap (option_map (with_asked tech)) e in
-    let why : RefusesDesign technology axes design t.files r = refused (with_asked tech t) told in
-    design_refuses technology axes design tech t.files r (is t e) why
+-- and what the shelf tells then
+pub telling_after : (old new : Option Telling) (name : Bytes) (t : Telling) → old ≡ Some t → Asks old new name → new ≡ Some (with_asked name t)
+telling_after old new name t e asks = asks ∙ ap (option_map (with_asked name)) e
 
--- a step over a file is never refused for the words
-pub never_usage : (file : File) (old new : ℕ) (r : Refusal) → OnUnread file old new r → r ≡ refusal.Usage → ⊥
-never_usage file old new r why e = let P : Refusal → Type 0 = λ s. OnUnread file old new s in subst P e why
+-- the technology was refused
+pub asks_technology : (design tech : Bytes) (axes : List Axis) (ended : Status) (old new : Option Telling) → EndsOver Technology ended → AsksOnce ended old new tech
+    → AsksFor (Some (compact design tech axes)) ended old new
+asks_technology design tech axes ended old new (is, over) (inr (e, same)) = inr (e, inl same)
+asks_technology design tech axes ended old new (is, inl e) (inl asks) = inr (e, inr (inl asks))
+asks_technology design tech axes ended old new (is, inr f) (inl asks) =
+    let P : Option File → Type 0 = λ file. AsksThrough file (compact design tech axes) old new in inl (subst P (sym f) asks)
 
-asks_weaker : {P Q : Type 0} → (P → Q) → (names : List Bytes) (old new : Option Telling) → AsksInOrder P names old new → AsksInOrder Q names old new
-asks_weaker f [] old new h = h
-asks_weaker f (name ∷ names) old new (inl p) = inl (f p.0, p.1)
-asks_weaker f (name ∷ names) old new (inr p) = inr (p.0, p.1, asks_weaker f names p.0 new p.2)
+-- the design was read or refused, after the technology
+pub asks_design : (design tech : Bytes) (axes : List Axis) (ended : Status) (old between new : Option Telling) → (ended ≡ status.OutOfMemory) ⊎ (file_of ended ≡ Some Design)
+    → Asks old between tech → AsksOnce ended between new design → AsksFor (Some (compact design tech axes)) ended old new
+asks_design design tech axes ended old between new over first (inr (e, same)) = inr (e, inr (inl (same ∙ first)))
+asks_design design tech axes ended old between new (inl e) first (inl asks) = inr (e, inr (inr (asks ∙ ap (option_map (with_asked design)) first)))
+asks_design design tech axes ended old between new (inr f) first (inl asks) =
+    let P : Option File → Type 0 = λ file. AsksThrough file (compact design tech axes) old new in
+    inl (subst P (sym f) (asks ∙ ap (option_map (with_asked design)) first))
 
--- what stops the questions may be said in other words
-pub asks_for_files_weaker : {P Q : Type 0} → (P → Q) → (c : Option Command) (old new : Option Telling) → AsksForFiles P c old new → AsksForFiles Q c old new
-asks_for_files_weaker f None old new h = h
-asks_for_files_weaker f (Some c) old new h = asks_weaker f (files_of c) old new h
+pub asks_fmt : (design : Bytes) (ended : Status) (old new : Option Telling) → (ended ≡ status.OutOfMemory) ⊎ (file_of ended ≡ Some Design) → AsksOnce ended old new design
+    → AsksFor (Some (fmt design)) ended old new
+asks_fmt design ended old new over (inr (e, same)) = inr (e, inl same)
+asks_fmt design ended old new (inl e) (inl asks) = inr (e, inr asks)
+asks_fmt design ended old new (inr f) (inl asks) = let P : Option File → Type 0 = λ file. AsksThrough file (fmt design) old new in inl (subst P (sym f) asks)
 
-pub never_usage_result : {A : Type 0} (file : File) (old new : ℕ) (r : Result A Refusal) → IfErr r (OnUnread file old new) → IsErrOf r refusal.Usage → ⊥
-never_usage_result file old new (Ok x) h e = cc
-never_usage_result file old new (Err r) h e = let same : r ≡ refusal.Usage = cc in never_usage file old new r h same
+-- a command never ends as if its words were none
+pub no_usage : (c : Command) (ended : Status) (old new : Option Telling) → AsksFor (Some c) ended old new → ended ≡ status.Usage → ⊥
+no_usage c ended old new (inl through) e = let P : Status → Type 0 = λ s. AsksThrough (file_of s) c old new in subst P e through
+no_usage c ended old new (inr p) e = let same : status.Usage ≡ status.OutOfMemory = sym e ∙ p.0 in cc
 
--- the same where the refusal is handed on
-pub never_usage_handed_on : {A : Type 0} (file : File) (old new : ℕ) (d y : Refusal) (r : Result A Refusal) → OnUnread file old new d → r ≡ Err y → y ≡ d → IsErrOf r refusal.Usage → ⊥
-never_usage_handed_on file old new d y r h p q e = let same : d ≡ refusal.Usage = cc in never_usage file old new d h same
+-- why a design has no cell that is laid out, and why its master is refused, are causes of the design's
+cells_over : (tech : Tech) (design : Sticks) (ended : Status) (own : Bytes) → RefusesCells tech design ended own → IsOfDesign ended
+cells_over tech design status.OutOfMemory own why = (tt, inl refl, λ f e. cc)
+cells_over tech design (status.BadSticks fault) own why = (tt, inr refl, λ f e. cc)
+cells_over tech design status.NotBuilt own why = (tt, inr refl, λ f e. cc)
+cells_over tech design (status.TooLarge Items) own why = (tt, inr refl, λ f e. cc)
+cells_over tech design other own why = absurd why
+
+master_over : (tech : Tech) (master : Master) (axes : List Axis) (ended : Status) (own : Bytes) → RefusesMaster tech master axes ended own → IsOfDesign ended
+master_over tech master axes status.OutOfMemory own why = (tt, inl refl, λ f e. cc)
+master_over tech master axes (status.TooLarge Edges) own why = (tt, inr refl, λ f e. cc)
+master_over tech master axes (status.TooLarge Extent) own why = (tt, inr refl, λ f e. cc)
+master_over tech master axes (status.Clash number a b) own why = (tt, inr refl, λ f e. cc)
+master_over tech master axes (status.Unsatisfiable pass) own why = (tt, inr refl, λ f e. cc)
+master_over tech master axes other own why = absurd why
+
+pub design_over : (tech : Tech) (axes : List Axis) (design : Sticks) (ended : Status) (own : Bytes) → RefusesDesign tech axes design ended own → IsOfDesign ended
+design_over tech axes design ended own (no_cell why) = cells_over tech design ended own why
+design_over tech axes design ended own (no_masks master is why) = master_over tech master axes ended own why
+
+-- what a step over the design gives says how it ends
+pub over_design : {A : Type 0} (r : Result A Refusal) → IfErr r (λ e. EndsOver Design e.status) → (ending_of r ≡ status.OutOfMemory) ⊎ (file_of (ending_of r) ≡ Some Design)
+over_design (Ok x) h = inr refl
+over_design (Err e) h = h.1
+
+-- a design that was read is refused for the design
+pub design_refused : {A : Type 0} (tech : Tech) (axes : List Axis) (design : Sticks) (r : Result A Refusal) → IfErr r (Refused (RefusesDesign tech axes design))
+    → IfErr r (λ e. IsOfDesign e.status)
+design_refused tech axes design (Ok x) why = tt
+design_refused tech axes design (Err e) why = design_over tech axes design e.status (own_text e.line) why
+
+pub of_design_over : {A : Type 0} (r : Result A Refusal) → IfErr r (λ e. IsOfDesign e.status) → (ending_of r ≡ status.OutOfMemory) ⊎ (file_of (ending_of r) ≡ Some Design)
+of_design_over (Ok x) h = inr refl
+of_design_over (Err e) h = h.1
+
+pub of_design_refuses : {A : Type 0} (r : Result A Refusal) → IfErr r (λ e. IsOfDesign e.status) → IfErr r (λ e. IsRefusal e.status)
+of_design_refuses (Ok x) h = tt
+of_design_refuses (Err e) h = h.0
+
+-- and no file was then unread
+pub of_design_counted : {A : Type 0} (old new : ℕ) (r : Result A Refusal) → IfErr r (λ e. IsOfDesign e.status) → IsCounted old new (ending_of r)
+of_design_counted old new (Ok x) h = λ f e. absurd (done_is_read f e)
+of_design_counted old new (Err e) h = λ f is. absurd (h.2 f is)
+
+-- the design compacts, or is refused, and so does the command
+pub given : (design tech : Bytes) (axes : List Axis) (files : Files) (technology : Tech) (sticks : Sticks) (r : Result Output Refusal) → IsTechnology files tech technology
+    → IsDesign files design sticks → IfOk r (λ o. CompactsTo technology axes sticks (text_of o) o.report) → IfErr r (Refused (RefusesDesign technology axes sticks))
+    → IsGiven (Some (compact design tech axes)) files r
+given design tech axes files technology sticks (Ok o) is_technology is_design done refused =
+    record { technology = technology; is_technology = is_technology; sticks = sticks; is_design = is_design; compacts = done }
+given design tech axes files technology sticks (Err e) is_technology is_design done refused = answers.no_masks technology sticks is_technology is_design refused

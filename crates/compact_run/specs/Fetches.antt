@@ -1,17 +1,18 @@
 -- What a fetch of one of the command's files gives, and what was asked of the shelf.
-use Rattle.std.specs.Prelude.{◌≡◌, ℕ, ◌<◌, ◌≤◌, ◌⊎◌, Option, Some, None, List, [], ◌∷◌, length}
+use Rattle.std.specs.Prelude.{◌≡◌, ℕ, ◌<◌, ◌≤◌, ◌⊎◌, Option, Some, None, List, [], ◌∷◌, length, option_map}
 use Rattle.std.specs.FinMap.{get}
-use Rattle.lam_io.specs.Io.{Bytes, Files, Telling, Asks, Rose}
+use Rattle.lam_io.specs.Io.{Bytes, Files, Telling, Asks, Rose, with_asked}
 use Rattle.compact_run.specs.Words.{Command, compact, fmt, files_of}
-use Rattle.compact_run.specs.declared.refusal.Refusal.{Refusal}
-use Rattle.compact_run.specs.declared.refusal.Refusal.TheVariants as refusal
+use Rattle.compact_run.specs.Limits.{most_design_bytes, most_technology_bytes}
 use Rattle.compact_run.specs.declared.status.File.{File}
 use Rattle.compact_run.specs.declared.status.File.TheVariants.{Design, Technology}
+use Rattle.compact_run.specs.declared.status.Status.{Status}
+use Rattle.compact_run.specs.declared.status.Status.TheVariants as status
 
 -- the most bytes that a file may have
 abbrev pub limit_of : File → ℕ
-limit_of Design = 1048576
-limit_of Technology = 65536
+limit_of Design = most_design_bytes
+limit_of Technology = most_technology_bytes
 
 -- a file of the shelf, within its limit
 pub record HasFile (files : Files) (file : File) (name text : Bytes) : Type 0 where
@@ -28,43 +29,56 @@ pub record IsLongFile (files : Files) (file : File) (name : Bytes) : Type 0 wher
 abbrev pub IsRead : Option Telling → File → Bytes → Bytes → Type 0
 IsRead told file name text = (t : Telling) → told ≡ Some t → HasFile t.files file name text
 
--- why a file is not given
-abbrev pub FailsToRead : Option Telling → ℕ → ℕ → File → Bytes → Refusal → Type 0
-FailsToRead told old new file name refusal.OutOfMemory = Unit {0}
-FailsToRead told old new file name (refusal.Unread f) = (f ≡ file) × Rose old new
-FailsToRead told old new file name (refusal.TooLong f) = (f ≡ file) × ((t : Telling) → told ≡ Some t → IsLongFile t.files file name)
-FailsToRead told old new file name other = ⊥
+-- why a file is not given, where the shelf tells its files
+abbrev pub FailsToRead : Files → File → Bytes → Status → Type 0
+FailsToRead files file name status.OutOfMemory = Unit {0}
+FailsToRead files file name (status.ReadFault f) = f ≡ file
+FailsToRead files file name (status.TooLong f) = (f ≡ file) × IsLongFile files file name
+FailsToRead files file name other = ⊥
+
+-- where a file could not be read, the shelf's count of faults rose
+abbrev pub IsCounted : ℕ → ℕ → Status → Type 0
+IsCounted old new ended = (f : File) → ended ≡ status.ReadFault f → Rose old new
+
+-- the file over which a command ends so, the last that it fetches: none where the words are no command or memory runs out
+abbrev pub file_of : Status → Option File
+file_of status.OutOfMemory = None
+file_of status.Usage = None
+file_of (status.ReadFault file) = Some file
+file_of (status.TooLong file) = Some file
+file_of (status.BadTech fault) = Some Technology
+file_of other = Some Design
+
+-- a command is refused so: it is not done, and no stream was tried
+abbrev pub IsRefusal : Status → Type 0
+IsRefusal status.Done = ⊥
+IsRefusal (status.WriteFault stream) = ⊥
+IsRefusal other = Unit {0}
+
+-- a step over this file is refused so
+abbrev pub EndsOver : File → Status → Type 0
+EndsOver file ended = IsRefusal ended × ((ended ≡ status.OutOfMemory) ⊎ (file_of ended ≡ Some file))
 
 -- the shelf's files are as they were, and it was asked for the name, unless memory ran out before
-abbrev pub AsksOnce : Type 0 → Option Telling → Option Telling → Bytes → Type 0
-AsksOnce ran_out old new name = Asks old new name ⊎ (ran_out × (new ≡ old))
+abbrev pub AsksOnce : Status → Option Telling → Option Telling → Bytes → Type 0
+AsksOnce ended old new name = Asks old new name ⊎ ((ended ≡ status.OutOfMemory) × (new ≡ old))
 
--- The shelf's files are as they were. These names were asked for, each once, in order, up to where the call was stopped.
-abbrev pub AsksInOrder : Type 0 → List Bytes → Option Telling → Option Telling → Type 0
-AsksInOrder stopped [] old new = new ≡ old
-AsksInOrder stopped (name ∷ names) old new =
-    (stopped × (new ≡ old)) ⊎ ((between : Option Telling) × Asks old between name × AsksInOrder stopped names between new)
+-- the shelf's files are as they were, and it was asked for a front of these names, each once, in order
+abbrev pub AsksForFront : List Bytes → Option Telling → Option Telling → Type 0
+AsksForFront [] old new = new ≡ old
+AsksForFront (name ∷ names) old new = (new ≡ old) ⊎ AsksForFront names (option_map (with_asked name) old) new
 
--- the same of the words, whose command has its files in order
-abbrev pub AsksForFiles : Type 0 → Option Command → Option Telling → Option Telling → Type 0
-AsksForFiles stopped None old new = new ≡ old
-AsksForFiles stopped (Some command) old new = AsksInOrder stopped (files_of command) old new
+-- it was asked for the files of a command up to this one, each once, in order
+abbrev pub AsksThrough : Option File → Command → Option Telling → Option Telling → Type 0
+AsksThrough None command old new = ⊥
+AsksThrough (Some Technology) (compact design tech axes) old new = Asks old new tech
+AsksThrough (Some Design) (compact design tech axes) old new = Asks (option_map (with_asked tech) old) new design
+AsksThrough (Some Technology) (fmt design) old new = ⊥
+AsksThrough (Some Design) (fmt design) old new = Asks old new design
 
--- the files of a command were asked for, up to this one and no further
-abbrev pub AsksThrough : Option Command → File → Option Telling → Option Telling → Type 0
-AsksThrough None file old new = ⊥
-AsksThrough (Some (compact design tech axes)) Technology old new = Asks old new tech
-AsksThrough (Some (compact design tech axes)) Design old new = (between : Option Telling) × Asks old between tech × Asks between new design
-AsksThrough (Some (fmt design)) Technology old new = ⊥
-AsksThrough (Some (fmt design)) Design old new = Asks old new design
-
--- where a file was not read, the shelf's count of faults rose, and that file was the last that was asked for
-abbrev pub IsUnread : Option Command → ℕ → ℕ → Option Telling → Option Telling → Refusal → Type 0
-IsUnread command faults_old faults_new old new (refusal.Unread file) = Rose faults_old faults_new × AsksThrough command file old new
-IsUnread command faults_old faults_new old new other = Unit {0}
-
--- A step over one file is refused: where the file was not read, the shelf's count of faults rose. It is never for the words.
-abbrev pub OnUnread : File → ℕ → ℕ → Refusal → Type 0
-OnUnread file faults_old faults_new (refusal.Unread f) = (f ≡ file) × Rose faults_old faults_new
-OnUnread file faults_old faults_new refusal.Usage = ⊥
-OnUnread file faults_old faults_new other = Unit {0}
+-- The shelf's files are as they were, and it was asked for those of the words' command: up to the one over which the command ended, or for a
+-- front of them where memory ran out.
+abbrev pub AsksFor : Option Command → Status → Option Telling → Option Telling → Type 0
+AsksFor None ended old new = new ≡ old
+AsksFor (Some command) ended old new =
+    AsksThrough (file_of ended) command old new ⊎ ((ended ≡ status.OutOfMemory) × AsksForFront (files_of command) old new)

@@ -1,10 +1,12 @@
+pub mod Limits
 pub mod Built
 pub mod Masks
 pub mod Words
 pub mod Status
 pub mod Refusal
+pub mod Refusals
+pub mod Designs
 pub mod Answers
 pub mod Commands
 pub mod FaultLines
 pub mod Fetches
-pub mod Steps

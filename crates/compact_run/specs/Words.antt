@@ -1,6 +1,7 @@
 -- The words of the command line.
 use Rattle.std.specs.Prelude.{ℕ, Bool, false, not, ◌&&◌, ◌||◌, ◌==◌, nat_le, List, [], ◌∷◌, length, map, Option, Some, None, codes, bytes_eq, if◌then◌else◌}
 use Rattle.std.specs.List.{list_any, list_all}
+use Rattle.std.specs.Borrow.{Bor}
 use Rattle.lam_geom.specs.declared.boxes.Axis.{Axis}
 use Rattle.lam_geom.specs.declared.boxes.Axis.TheVariants.{X, Y}
 
@@ -65,3 +66,7 @@ command_of (word ∷ words) =
 abbrev pub files_of : Command → List (List ℕ)
 files_of (compact design tech axes) = tech ∷ design ∷ []
 files_of (fmt design) = design ∷ []
+
+-- the bytes of words
+abbrev pub texts_of : List (Bor (List ℕ)) → List (List ℕ)
+texts_of words = map (λ word. word.now) words

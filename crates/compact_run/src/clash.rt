@@ -4,8 +4,9 @@ ghost use Rattle.std.specs.Prelude.{◌≡◌, ◌++◌, OnOk, IfOk};
 ghost use Rattle.compact_run.specs.Masks.{part_text, clash_text};
 
 use crate::digits::push_number;
+use cell_model::Cell;
 use std::alloc::{AllocError, Global};
-use stick_cell::Cell;
+use stick_lex::Text;
 
 // A part of a cell: a node by the path to it, a wire by its number.
 fn push_part(out: &mut Vec<u8>, alloc: Global, cell: &Cell, part: u32) -> Result<(), AllocError>
@@ -22,8 +23,8 @@ fn push_part(out: &mut Vec<u8>, alloc: Global, cell: &Cell, part: u32) -> Result
 }
 
 /// The line that says which two parts of a cell clash.
-pub fn clash_line(alloc: Global, cell: &Cell, a: u32, b: u32) -> Result<Vec<u8>, AllocError>
-    ensures { IfOk result (λ line. line.items ≡ clash_text cell.now a b) }
+pub fn clash_line(alloc: Global, cell: &Cell, a: u32, b: u32) -> Result<Text, AllocError>
+    ensures { IfOk result (λ line. line ≡ clash_text cell.now a b) }
 {
     let mut out = Vec::from_slice(alloc, b"sticks: clash in ")?;
     out.extend_from_slice(cell.name.bytes())?;
@@ -32,5 +33,5 @@ pub fn clash_line(alloc: Global, cell: &Cell, a: u32, b: u32) -> Result<Vec<u8>,
     out.extend_from_slice(b" and ")?;
     push_part(&mut out, alloc, cell, b)?;
     out.push(b'\n')?;
-    Ok(out)
+    Text::new(alloc, &out)
 }

@@ -1,12 +1,12 @@
 //! Writing what a command answers: all texts are there before the first put.
 
-ghost use Rattle.std.specs.Prelude.{◌≡◌, ◌≤◌, ◌⊎◌, OnOk, OnErr};
+ghost use Rattle.std.specs.Prelude.{◌≡◌, ◌≤◌, ◌⊎◌, OnOk, OnErr, flat_map};
 ghost use Rattle.lam_io.specs.Io.{Appends, AppendsPrefix, Rose};
-ghost use Rattle.compact_run.specs.Refusal.{status_of, line_of};
+ghost use Rattle.compact_run.specs.Refusal.{line_of, own_text};
 ghost use Rattle.compact_run.specs.Answers.{Reports, write_fault_line, text_of};
 
 use crate::output::Output;
-use crate::refusal::{Refusal, line, status};
+use crate::refusal::Refusal;
 use crate::status::{Side2, Status};
 use lam_io::{PutFault, Sink};
 
@@ -18,15 +18,17 @@ fn tell<R: Sink>(report: &mut R, text: &[u8])
     let _ = report.put(text);
 }
 
-// A text in two pieces, of which the second may be empty.
-fn put_both<C: Sink>(out: &mut C, output: &Output) -> Result<(), PutFault>
-    ensures ok { OnOk result (Appends (C.told out.old) (C.told out.new) (text_of output.now)) }
-    ensures err { OnErr result (AppendsPrefix (C.told out.old) (C.told out.new) (text_of output.now)) }
+// Puts the pieces of a text, one after another.
+fn put_all<C: Sink>(out: &mut C, pieces: &[Vec<u8>]) -> Result<(), PutFault>
+    ensures ok { OnOk result (Appends (C.told out.old) (C.told out.new) (flat_map (λ piece. piece.items) pieces.now)) }
+    ensures err { OnErr result (AppendsPrefix (C.told out.old) (C.told out.new) (flat_map (λ piece. piece.items) pieces.now)) }
     ensures fault { OnErr result (Rose (C.faults out.old) (C.faults out.new)) }
     ensures counts { C.faults out.old ≤ C.faults out.new }
 {
-    out.put(&output.first)?;
-    out.put(output.rest)
+    for piece in pieces {
+        out.put(piece)?;
+    }
+    Ok(())
 }
 
 /// Writes the output of a command, and then its report.
@@ -42,7 +44,7 @@ pub fn write<C: Sink, R: Sink>(out: &mut C, report: &mut R, output: &Output) -> 
     ensures counts { C.faults out.old ≤ C.faults out.new }
     ensures report_counts { R.faults report.old ≤ R.faults report.new }
 {
-    match put_both(out, output) {
+    match put_all(out, &output.pieces) {
         Ok(()) => match report.put(output.report.bytes()) {
             Ok(()) => Status::Done,
             Err(_) => Status::WriteFault(Side2::Report),
@@ -56,10 +58,10 @@ pub fn write<C: Sink, R: Sink>(out: &mut C, report: &mut R, output: &Output) -> 
 
 /// Says why a command is refused.
 pub fn refuse<R: Sink>(report: &mut R, refusal: Refusal) -> Status
-    ensures status { result ≡ status_of refusal }
-    ensures line { Reports (R.told report.old) (R.told report.new) (R.faults report.old) (R.faults report.new) (line_of refusal) }
+    ensures status { result ≡ refusal.status }
+    ensures line { Reports (R.told report.old) (R.told report.new) (R.faults report.old) (R.faults report.new) (line_of refusal.status (own_text refusal.line)) }
     ensures counts { R.faults report.old ≤ R.faults report.new }
 {
-    tell(report, line(&refusal));
-    status(refusal)
+    tell(report, refusal.text());
+    refusal.status
 }

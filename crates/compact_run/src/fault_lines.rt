@@ -6,6 +6,7 @@ ghost use Rattle.compact_run.specs.FaultLines.{key_of, numbers_words, tech_words
 use crate::digits::push_number;
 use rule_table::TechFault;
 use std::alloc::{AllocError, Global};
+use stick_lex::Text;
 use stick_parse::{StickFault, StickKind};
 use tech_file::TechFileFault;
 
@@ -72,13 +73,13 @@ fn push_tech_fault(out: &mut Vec<u8>, fault: &TechFileFault) -> Result<(), Alloc
 }
 
 /// The line that says what is wrong with a technology.
-pub fn tech_line(alloc: Global, fault: &TechFileFault) -> Result<Vec<u8>, AllocError>
-    ensures { IfOk result (λ line. line.items ≡ tech_line fault.now) }
+pub fn tech_line(alloc: Global, fault: &TechFileFault) -> Result<Text, AllocError>
+    ensures { IfOk result (λ line. line ≡ tech_line fault.now) }
 {
     let mut out = Vec::from_slice(alloc, b"sticks: technology: ")?;
     push_tech_fault(&mut out, fault)?;
     out.push(b'\n')?;
-    Ok(out)
+    Text::new(alloc, &out)
 }
 
 fn kind_word(kind: StickKind) -> &'static [u8]
@@ -109,13 +110,13 @@ fn kind_word(kind: StickKind) -> &'static [u8]
 }
 
 /// The line that says what is wrong with a design, and where.
-pub fn stick_line(alloc: Global, fault: StickFault) -> Result<Vec<u8>, AllocError>
-    ensures { IfOk result (λ line. line.items ≡ stick_line fault) }
+pub fn stick_line(alloc: Global, fault: StickFault) -> Result<Text, AllocError>
+    ensures { IfOk result (λ line. line ≡ stick_line fault) }
 {
     let mut out = Vec::from_slice(alloc, b"sticks: line ")?;
     push_number(&mut out, alloc, fault.line)?;
     out.extend_from_slice(b": ")?;
     out.extend_from_slice(kind_word(fault.kind))?;
     out.push(b'\n')?;
-    Ok(out)
+    Text::new(alloc, &out)
 }

@@ -1,10 +1,12 @@
 //! Fetching the files of a command.
 
-ghost use Rattle.std.specs.Prelude.{◌≡◌, ◌≤◌, length, IfOk, IfErr, IsErrOf};
-ghost use Rattle.compact_run.specs.Fetches.{limit_of, IsRead, FailsToRead, AsksOnce};
+ghost use Rattle.std.specs.Prelude.{◌≡◌, ◌≤◌, length, IfOk, IfErr};
+ghost use Rattle.lam_io.specs.Io.{Telling};
+ghost use Rattle.compact_run.specs.Refusals.{ending_of};
+ghost use Rattle.compact_run.specs.Fetches.{limit_of, IsRead, FailsToRead, IsCounted, EndsOver, AsksOnce};
 
 use crate::refusal::Refusal;
-use crate::status::File;
+use crate::status::{File, Status};
 use lam_io::{Fetch, Shelf};
 use std::alloc::Global;
 
@@ -27,19 +29,21 @@ pub fn fetch<S: Shelf>(
 ) -> Result<Vec<u8>, Refusal>
     ensures read { IfOk result (λ text. IsRead (S.told shelf.old) file name.now text.items) }
     ensures short { IfOk result (λ text. length text.items ≤ limit_of file) }
-    ensures asked { AsksOnce (IsErrOf result Refusal.OutOfMemory) (S.told shelf.old) (S.told shelf.new) name.now }
-    ensures refused { IfErr result (FailsToRead (S.told shelf.old) (S.faults shelf.old) (S.faults shelf.new) file name.now) }
+    ensures asked { AsksOnce (ending_of result) (S.told shelf.old) (S.told shelf.new) name.now }
+    ensures refused { IfErr result (λ r. (t : Telling) → S.told shelf.old ≡ Some t → FailsToRead t.files file name.now r.status) }
+    ensures over { IfErr result (λ r. EndsOver file r.status) }
+    ensures counted { IsCounted (S.faults shelf.old) (S.faults shelf.new) (ending_of result) }
     ensures counts { S.faults shelf.old ≤ S.faults shelf.new }
 {
     let limit = limit_of(file);
     match shelf.fetch(alloc, name, limit) {
         Ok(text) => {
             if text.len() as u64 > limit {
-                return Err(Refusal::TooLong(file));
+                return Err(Refusal::from(Status::TooLong(file)));
             }
             Ok(text)
         }
-        Err(Fetch::Fault) => Err(Refusal::Unread(file)),
-        Err(Fetch::OutOfMemory) => Err(Refusal::OutOfMemory),
+        Err(Fetch::Fault) => Err(Refusal::from(Status::ReadFault(file))),
+        Err(Fetch::OutOfMemory) => Err(Refusal::from(Status::OutOfMemory)),
     }
 }

@@ -2,7 +2,6 @@
 // Its one contract for the layer above is that of `run`.
 #![tactic(auto)]
 
-mod built;
 mod clash;
 mod command;
 mod compact;
@@ -11,7 +10,9 @@ mod digits;
 mod extent;
 mod fault_lines;
 mod fetch;
+mod layout;
 mod masks;
+mod master;
 mod output;
 mod reading;
 mod refusal;

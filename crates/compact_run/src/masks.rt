@@ -4,7 +4,7 @@ ghost use Rattle.std.specs.Prelude.{◌≡◌, All, IfOk};
 ghost use Rattle.sym_items.specs.Boxes.{HasBox};
 ghost use Rattle.mask_out.specs.Masks.{masks_in};
 ghost use Rattle.cif_text.specs.Cif.{symbol_text};
-ghost use Rattle.compact_run.specs.Answers.{unit_of};
+ghost use Rattle.compact_run.specs.Designs.{unit_of};
 
 use cif_text::symbol_text;
 use expand::Master;
@@ -14,7 +14,7 @@ use std::alloc::{AllocError, Global};
 use sym_items::Coords;
 
 /// The text of the one symbol of a cell in a layout.
-pub fn text_of(
+pub fn symbol_text_of(
     alloc: Global,
     tech: &Tech,
     master: &Master,

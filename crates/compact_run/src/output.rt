@@ -2,13 +2,11 @@
 
 use stick_lex::Text;
 
-/// A text to be put in two pieces, of which the second may be empty, and what is told beside it.
+/// A text to be put piece by piece, and what is told beside it.
 #[derive(Debug, Drop)]
 pub struct Output {
-    /// The first piece.
-    pub first: Vec<u8>,
-    /// The second piece.
-    pub rest: &'static [u8],
+    /// The pieces of the text, in order.
+    pub pieces: Vec<Vec<u8>>,
     /// The report, which may be empty.
     pub report: Text,
 }

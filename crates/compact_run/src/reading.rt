@@ -1,50 +1,66 @@
-//! Reading a design, and the checks on its names and sizes.
+//! Reading a technology and a design, each from its file.
 
-ghost use Rattle.std.specs.Prelude.{◌≡◌, ◌≤◌, Ok, length, IfOk, IfErr};
-ghost use Rattle.stick_parse.specs.Order.{design_of};
+ghost use Rattle.std.specs.Prelude.{◌≡◌, ◌≤◌, Some, IfOk, IfErr};
+ghost use Rattle.lam_io.specs.Io.{Telling};
 ghost use Rattle.stick_parse.specs.Writable.{IsWritable};
-ghost use Rattle.stick_cell.specs.Lines.{known_cells};
-ghost use Rattle.stick_cell.specs.Tables.{known_of, IsResolved};
-ghost use Rattle.compact_run.specs.Answers.{RefusesFault};
+ghost use Rattle.compact_run.specs.declared.status.File.TheVariants as file;
+ghost use Rattle.compact_run.specs.Fetches.{IsCounted, EndsOver, AsksOnce};
+ghost use Rattle.compact_run.specs.Refusals.{Refused, ending_of};
+ghost use Rattle.compact_run.specs.Answers.{IsTechnology, RefusesTechnology, IsDesign, RefusesSticks};
 
-use crate::fault_lines::stick_line;
+use crate::fault_lines::{stick_line, tech_line};
+use crate::fetch::fetch;
 use crate::refusal::Refusal;
+use crate::status::{File, Status};
+use lam_io::Shelf;
 use rule_table::Tech;
 use std::alloc::Global;
-use stick_cell::{Cells, resolve};
 use stick_parse::{Design, ParseFault, parse};
+use tech_file::{ReadTechFault, read_tech};
 
-/// The design of a text.
-pub fn read_design(alloc: Global, text: &[u8]) -> Result<Design, Refusal>
-    requires { length text.now ≤ 1048576 }
-    ensures read { IfOk result (λ design. design_of text.now ≡ Ok design) }
-    ensures writable { IfOk result IsWritable }
-    ensures refused { IfErr result (RefusesFault (design_of text.now)) }
+/// The technology of a file.
+pub fn read_technology<S: Shelf>(alloc: Global, shelf: &mut S, name: &str) -> Result<Tech, Refusal>
+    ensures technology { IfOk result (λ tech. (t : Telling) → S.told shelf.old ≡ Some t → IsTechnology t.files name.now tech) }
+    ensures refused { IfErr result (λ r. (t : Telling) → S.told shelf.old ≡ Some t → Refused (RefusesTechnology name.now t.files) r) }
+    ensures over { IfErr result (λ r. EndsOver file.Technology r.status) }
+    ensures counted { IsCounted (S.faults shelf.old) (S.faults shelf.new) (ending_of result) }
+    ensures asked { AsksOnce (ending_of result) (S.told shelf.old) (S.told shelf.new) name.now }
+    ensures counts { S.faults shelf.old ≤ S.faults shelf.new }
 {
-    match parse(alloc, text) {
-        Ok(design) => Ok(design),
-        Err(ParseFault::Stick(fault)) => {
-            let line = stick_line(alloc, fault)?;
-            Err(Refusal::BadSticks(fault, line))
+    let text = fetch(alloc, shelf, File::Technology, name)?;
+    match read_tech(alloc, &text) {
+        Ok(tech) => Ok(tech),
+        Err(ReadTechFault::File(fault)) => {
+            let line = tech_line(alloc, &fault)?;
+            Err(Refusal {
+                status: Status::BadTech(fault),
+                line: Some(line),
+            })
         }
-        Err(ParseFault::OutOfMemory) => Err(Refusal::OutOfMemory),
+        Err(ReadTechFault::OutOfMemory) => Err(Refusal::from(Status::OutOfMemory)),
     }
 }
 
-/// The cells of a design.
-pub fn read_cells<'a>(alloc: Global, tech: &Tech, design: &'a Design) -> Result<Cells<'a>, Refusal>
-    requires { IsWritable design.now }
-    ensures read { IfOk result (λ cells. known_cells tech.now design.now.cells ≡ Ok (known_of cells)) }
-    ensures resolved { IfOk result IsResolved }
-    ensures technology { IfOk result (λ cells. cells.tech ≡ tech.now) }
-    ensures refused { IfErr result (RefusesFault (known_cells tech.now design.now.cells)) }
+/// The design of a file.
+pub fn read_design<S: Shelf>(alloc: Global, shelf: &mut S, name: &str) -> Result<Design, Refusal>
+    ensures design { IfOk result (λ design. (t : Telling) → S.told shelf.old ≡ Some t → IsDesign t.files name.now design) }
+    ensures writable { IfOk result IsWritable }
+    ensures refused { IfErr result (λ r. (t : Telling) → S.told shelf.old ≡ Some t → Refused (RefusesSticks name.now t.files) r) }
+    ensures over { IfErr result (λ r. EndsOver file.Design r.status) }
+    ensures counted { IsCounted (S.faults shelf.old) (S.faults shelf.new) (ending_of result) }
+    ensures asked { AsksOnce (ending_of result) (S.told shelf.old) (S.told shelf.new) name.now }
+    ensures counts { S.faults shelf.old ≤ S.faults shelf.new }
 {
-    match resolve(alloc, design, tech) {
-        Ok(cells) => Ok(cells),
+    let text = fetch(alloc, shelf, File::Design, name)?;
+    match parse(alloc, &text) {
+        Ok(design) => Ok(design),
         Err(ParseFault::Stick(fault)) => {
             let line = stick_line(alloc, fault)?;
-            Err(Refusal::BadSticks(fault, line))
+            Err(Refusal {
+                status: Status::BadSticks(fault),
+                line: Some(line),
+            })
         }
-        Err(ParseFault::OutOfMemory) => Err(Refusal::OutOfMemory),
+        Err(ParseFault::OutOfMemory) => Err(Refusal::from(Status::OutOfMemory)),
     }
 }

@@ -1,92 +1,90 @@
 //! Why a command is refused, and the text that says so.
 
 ghost use Rattle.std.specs.Prelude.{◌≡◌};
-ghost use Rattle.compact_run.specs.declared.refusal.Refusal.TheVariants.{OutOfMemory};
-ghost use Rattle.compact_run.specs.Refusal.{status_of, line_of};
+ghost use Rattle.compact_run.specs.declared.status.Status.TheVariants.{OutOfMemory};
+ghost use Rattle.compact_run.specs.Refusal.{line_of, own_text};
+ghost use Rattle.compact_run.specs.Refusals.{plain, refusal_of};
 
 use crate::status::{File, Status, What};
+use pass_run::PassFault;
 use std::alloc::{AllocError, AllocFailed};
 use stick_lex::Text;
-use stick_parse::StickFault;
-use tech_file::TechFileFault;
 
-/// Why a command is refused before anything is written. A text that is not the same for all stands beside its cause.
+/// Why a command is refused before anything is written.
 #[derive(Debug, Drop)]
-pub enum Refusal {
-    /// Memory ran out.
-    OutOfMemory,
-    /// The words are no command.
-    Usage,
-    /// The file could not be read.
-    Unread(File),
-    /// The file has more bytes than it may have.
-    TooLong(File),
-    /// The technology's text is no technology.
-    BadTech(TechFileFault, Vec<u8>),
-    /// The design's text is no design.
-    BadSticks(StickFault, Vec<u8>),
-    /// The grid of the design is not built yet.
-    NotBuilt,
-    /// There is too much of something.
-    TooLarge(What),
-    /// Two items are too near in the start layout.
-    Clash(u32, u32, Vec<u8>),
-    /// The inequalities of a pass, counted from 1, have a positive cycle. The text has the passes before it, and the cycle.
-    Unsatisfiable(u32, Text),
+pub struct Refusal {
+    /// The cause.
+    pub status: Status,
+    /// What is said of the cause, where that is not the same for all of its status.
+    pub line: Option<Text>,
+}
+
+impl From<Status> for Refusal {
+    ghost from_gives = { λ ended r. r ≡ plain ended };
+
+    fn from(status: Status) -> Refusal {
+        Refusal { status, line: None }
+    }
 }
 
 impl From<AllocError> for Refusal {
-    ghost from_gives = { λ _ r. r ≡ OutOfMemory };
+    ghost from_gives = { λ _ r. r ≡ plain OutOfMemory };
 
     fn from(_error: AllocError) -> Refusal {
-        Refusal::OutOfMemory
+        Refusal::from(Status::OutOfMemory)
     }
 }
 
 impl<T: Drop> From<AllocFailed<T>> for Refusal {
-    ghost from_gives = { λ _ r. r ≡ OutOfMemory };
+    ghost from_gives = { λ _ r. r ≡ plain OutOfMemory };
 
     fn from(_failed: AllocFailed<T>) -> Refusal {
-        Refusal::OutOfMemory
+        Refusal::from(Status::OutOfMemory)
     }
 }
 
-/// The status of a refused command.
-pub fn status(refusal: Refusal) -> Status
-    ensures { result ≡ status_of refusal }
-{
-    match refusal {
-        Refusal::OutOfMemory => Status::OutOfMemory,
-        Refusal::Usage => Status::Usage,
-        Refusal::Unread(file) => Status::ReadFault(file),
-        Refusal::TooLong(file) => Status::TooLong(file),
-        Refusal::BadTech(fault, _) => Status::BadTech(fault),
-        Refusal::BadSticks(fault, _) => Status::BadSticks(fault),
-        Refusal::NotBuilt => Status::NotBuilt,
-        Refusal::TooLarge(what) => Status::TooLarge(what),
-        Refusal::Clash(a, b, _) => Status::Clash { cell: 0, a, b },
-        Refusal::Unsatisfiable(pass, _) => Status::Unsatisfiable { pass },
+impl From<PassFault> for Refusal {
+    ghost from_gives = { λ fault r. r ≡ refusal_of fault };
+
+    fn from(fault: PassFault) -> Refusal {
+        match fault {
+            PassFault::TooManyEdges { pass: _ } => Refusal::from(Status::TooLarge(What::Edges)),
+            PassFault::Unsatisfiable { pass, report } => Refusal {
+                status: Status::Unsatisfiable { pass },
+                line: Some(report),
+            },
+            PassFault::OutOfMemory => Refusal::from(Status::OutOfMemory),
+        }
     }
 }
 
-/// The text of a refused command: a line, or the passes before a cycle and the cycle.
-pub fn line(refusal: &Refusal) -> &[u8]
-    ensures { result.now ≡ line_of refusal.now }
-{
-    match refusal {
-        Refusal::OutOfMemory => b"sticks: out of memory\n",
-        Refusal::Usage => b"sticks: usage\n",
-        Refusal::Unread(File::Design) => b"sticks: cannot read design\n",
-        Refusal::Unread(File::Technology) => b"sticks: cannot read technology\n",
-        Refusal::TooLong(File::Design) => b"sticks: too long: design\n",
-        Refusal::TooLong(File::Technology) => b"sticks: too long: technology\n",
-        Refusal::BadTech(_, line) => line,
-        Refusal::BadSticks(_, line) => line,
-        Refusal::NotBuilt => b"sticks: not built\n",
-        Refusal::TooLarge(What::Items) => b"sticks: too large: items\n",
-        Refusal::TooLarge(What::Edges) => b"sticks: too large: edges\n",
-        Refusal::TooLarge(What::Extent) => b"sticks: too large: extent\n",
-        Refusal::Clash(_, _, line) => line,
-        Refusal::Unsatisfiable(_, report) => report.bytes(),
+impl Refusal {
+    // The text that was made for the refusal.
+    fn own(&self) -> &[u8]
+        ensures { result.now ≡ own_text self.now.line }
+    {
+        match &self.line {
+            Some(text) => text.bytes(),
+            None => b"",
+        }
+    }
+
+    /// The text of a refused command: a line, or the passes before a cycle and the cycle.
+    pub fn text(&self) -> &[u8]
+        ensures { result.now ≡ line_of self.now.status (own_text self.now.line) }
+    {
+        match &self.status {
+            Status::OutOfMemory => b"sticks: out of memory\n",
+            Status::Usage => b"sticks: usage\n",
+            Status::ReadFault(File::Design) => b"sticks: cannot read design\n",
+            Status::ReadFault(File::Technology) => b"sticks: cannot read technology\n",
+            Status::TooLong(File::Design) => b"sticks: too long: design\n",
+            Status::TooLong(File::Technology) => b"sticks: too long: technology\n",
+            Status::NotBuilt => b"sticks: not built\n",
+            Status::TooLarge(What::Items) => b"sticks: too large: items\n",
+            Status::TooLarge(What::Edges) => b"sticks: too large: edges\n",
+            Status::TooLarge(What::Extent) => b"sticks: too large: extent\n",
+            _ => self.own(),
+        }
     }
 }

@@ -1,11 +1,11 @@
 //! The top call.
 
-ghost use Rattle.std.specs.Prelude.{◌≡◌, ℕ, ◌↔◌, ◌≤◌, List, None, Some, map};
+ghost use Rattle.std.specs.Prelude.{◌≡◌, ℕ, ◌↔◌, ◌≤◌, List, None, Some};
 ghost use Rattle.lam_io.specs.Io.{Telling, Rose};
 ghost use Rattle.compact_run.specs.declared.status.File.{File};
-ghost use Rattle.compact_run.specs.Words.{command_of};
-ghost use Rattle.compact_run.specs.Fetches.{AsksForFiles, AsksThrough};
-ghost use Rattle.compact_run.specs.Answers.{IsAnswer, Writes, Tells, IsUntouched, IsRefused};
+ghost use Rattle.compact_run.specs.Words.{command_of, texts_of};
+ghost use Rattle.compact_run.specs.Fetches.{AsksFor};
+ghost use Rattle.compact_run.specs.Answers.{IsAnswer, Writes, Tells, IsUntouched};
 
 use crate::command::answer;
 use crate::delivery::{refuse, write};
@@ -26,19 +26,20 @@ pub fn run<'a, S: Shelf, C: Sink, R: Sink>(
 ) -> Status
     // Where the shelf tells its files, the status, the output and the report are the answer to the words and the files.
     ensures answer { (t : Telling) → S.told shelf.old ≡ Some t →
-        (output : List ℕ) × (line : List ℕ) × IsAnswer (map (λ word. word.now) words.now) t.files result output line
+        (output : List ℕ) × (line : List ℕ) × IsAnswer (texts_of words.now) t.files result output line
         × Writes result (C.told out.old) (C.told out.new) output
         × Tells result (R.told report.old) (R.told report.new) (R.faults report.old) (R.faults report.new) line }
     // A refused call has written nothing.
     ensures untouched { IsUntouched result out.old out.new }
 
-    ensures usage { (result ≡ Status.Usage) ↔ (command_of (map (λ word. word.now) words.now) ≡ None) }
-    // A file that was not read is the last that was asked for, and the shelf's count rose.
-    ensures read_fault { (f : File) → result ≡ Status.ReadFault f → Rose (S.faults shelf.old) (S.faults shelf.new) × AsksThrough (command_of (map (λ word. word.now) words.now)) f (S.told shelf.old) (S.told shelf.new) }
+    ensures usage { (result ≡ Status.Usage) ↔ (command_of (texts_of words.now) ≡ None) }
+    // Where a file could not be read, the shelf's count rose.
+    ensures read_fault { (f : File) → result ≡ Status.ReadFault f → Rose (S.faults shelf.old) (S.faults shelf.new) }
     ensures write_fault { result ≡ Status.WriteFault Side2.Output → Rose (C.faults out.old) (C.faults out.new) }
     ensures report_fault { result ≡ Status.WriteFault Side2.Report → Rose (R.faults report.old) (R.faults report.new) }
-    // The files are as they were, and those of the command were asked for, each once, in order, up to where it was refused.
-    ensures asked { AsksForFiles (IsRefused result) (command_of (map (λ word. word.now) words.now)) (S.told shelf.old) (S.told shelf.new) }
+    // The files are as they were, and those of the command were asked for, each once, in order: the technology alone where that was refused,
+    // else all; a front of them where memory ran out.
+    ensures asked { AsksFor (command_of (texts_of words.now)) result (S.told shelf.old) (S.told shelf.new) }
 
     // The counts of faults never fall.
     ensures shelf_counts { S.faults shelf.old ≤ S.faults shelf.new }

@@ -1,24 +1,33 @@
-use Rattle.std.proofs.Common.{List, Some, inl, inr, subst, ◌∙◌}
+use Rattle.std.proofs.Common.{Some, subst, ap, ◌∙◌, List}
 use Rattle.std.proofs.lemmas.Result.{err_from_is_err_and}
-use Rattle.compact_run.specs.declared.status.File.TheVariants.{Design, Technology}
 use Rattle.lam_geom.specs.declared.boxes.Axis.{Axis}
 use Rattle.compact_run.specs.Words.{compact}
-use Rattle.compact_run.specs.Answers.{IsGiven}
-use Rattle.compact_run.proofs.Steps.{given_by_steps, never_usage_result, never_usage_handed_on}
+use Rattle.compact_run.specs.Fetches.{AsksFor}
+use Rattle.compact_run.specs.Refusals.{ending_of}
+use Rattle.compact_run.specs.Answers.{IsGiven, no_technology, no_design}
+use Rattle.compact_run.proofs.Steps.{asked, telling_after, given, asks_design, of_design_over, design_refused}
 use Rattle.compact_run.proofs.command.compact_files.Goals as goal
 
-pub returns-in_err-technology-clause-a_command : goal.returns-in_err-technology-clause-a_command
-returns-in_err-technology-clause-a_command g c =
+pub returns-in_err-axes-clause-given : goal.returns-in_err-axes-clause-given
+returns-in_err-axes-clause-given g c = λ t told.
+    let p = err_from_is_err_and c.from_residual.result c.from_residual.ensures.1 in
+    rw p.1 (rw p.2 (no_technology tt))
+
+pub returns-in_err-technology-clause-given : goal.returns-in_err-technology-clause-given
+returns-in_err-technology-clause-given g c = λ t told.
     let p = err_from_is_err_and c.from_residual-in_err-technology.result c.from_residual-in_err-technology.ensures.1 in
-    λ e. never_usage_handed_on Technology _ _ _ _ c.from_residual-in_err-technology.result c.in_err-technology.ensures.unread p.1 p.2 e
+    rw p.1 (rw p.2 (no_technology (c.in_err-technology.ensures.refused t told)))
+
+pub returns-in_err-sticks-clause-given : goal.returns-in_err-sticks-clause-given
+returns-in_err-sticks-clause-given g c = λ t told.
+    let p = err_from_is_err_and c.from_residual-in_err-sticks.result c.from_residual-in_err-sticks.ensures.1 in
+    let then = telling_after _ _ _ t told (asked _ _ _ c.in_ok-technology.ensures.asked) in
+    rw p.1 (rw p.2 (no_design c.in_ok-technology.technology (c.in_ok-technology.ensures.technology t told) (c.in_err-sticks.ensures.refused _ then)))
 
 pub returns-clause-given : goal.returns-clause-given
 returns-clause-given g c = λ t told.
-    let P : List Axis → Type 0 = λ axes. IsGiven (Some (compact c.args.design.now c.args.tech.now axes)) t.files c.masks_of_design.result in
-    elim c.in_ok-technology.ensures.asked [
-      | inl asks ↦ subst P (c.deref.ensures.value ∙ c.in_ok-axes.ensures) (given_by_steps c.deref.result.now c.args.design.now c.args.tech.now _ _ t c.in_ok-technology.technology c.masks_of_design.result told asks c.in_ok-technology.ensures.technology c.masks_of_design.ensures.done c.masks_of_design.ensures.refused)
-      | inr stopped ↦ let e = stopped.0 in cc
-    ]
-
-pub returns-clause-a_command : goal.returns-clause-a_command
-returns-clause-a_command g c = λ e. never_usage_result Design _ _ c.masks_of_design.result c.masks_of_design.ensures.unread e
+    let then = telling_after _ _ _ t told (asked _ _ _ c.in_ok-technology.ensures.asked) in
+    let P : List Axis → Type 0 = λ axes. IsGiven (Some (compact c.args.design.now c.args.tech.now axes)) t.files c.compact.result in
+    subst P (c.deref.ensures.value ∙ c.in_ok-axes.ensures)
+    (given c.args.design.now c.args.tech.now c.deref.result.now t.files c.in_ok-technology.technology c.in_ok-sticks.sticks c.compact.result
+    (c.in_ok-technology.ensures.technology t told) (c.in_ok-sticks.ensures.design _ then) c.compact.ensures.done c.compact.ensures.refused)

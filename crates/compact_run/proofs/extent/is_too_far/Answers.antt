@@ -2,7 +2,7 @@ use Rattle.std.proofs.Common.{◌≡◌, ℕ, ℤ, pos, ◌∙◌, ap, arith, to
 use Rattle.std.specs.Prelude.{int_lt, int_div, ◌*ℤ◌}
 use Rattle.std.proofs.lemmas.Int.{ints, quot_fits, to_z-of_z}
 use Rattle.rule_table.specs.declared.keys.Numbers.{Numbers}
-use Rattle.compact_run.specs.Answers.{unit_of}
+use Rattle.compact_run.specs.Designs.{unit_of}
 use Rattle.compact_run.proofs.Extents.{past_quotient}
 use Rattle.compact_run.proofs.extent.is_too_far.Goals as goal
 

@@ -1,17 +1,20 @@
-use Rattle.std.proofs.Common.{map}
 use Rattle.compact_run.specs.Answers.{text_of}
-use Rattle.compact_run.proofs.Steps.{asks_for_files_weaker}
-use Rattle.compact_run.proofs.Endings.{ends_written, ends_refused}
+use Rattle.compact_run.specs.Words.{command_of, texts_of}
+use Rattle.compact_run.specs.Refusal.{own_text}
+use Rattle.compact_run.proofs.Endings.{ends_written, ends_refused, asks_for_all, untouched}
 use Rattle.compact_run.proofs.top.run.Goals as goal
 
 pub returns-in-Ok-clause-answer : goal.returns-in-Ok-clause-answer
 returns-in-Ok-clause-answer g c = λ t told.
-    ends_written (map (λ word. word.now) c.args.words.now) t.files c.write.result _ _ _ _ _ _ (text_of c.in-Ok.output) c.in-Ok.output.report
+    ends_written (texts_of c.args.words.now) t.files c.write.result _ _ _ _ _ _ (text_of c.in-Ok.output) c.in-Ok.output.report
     c.write.ensures.answer c.write.ensures.written c.write.ensures.told c.write.ensures.prefix c.write.ensures.line c.write.ensures.report_prefix c.write.ensures.report_fault (c.in-Ok.ensures.given t told)
+
+pub returns-in-Ok-clause-asked : goal.returns-in-Ok-clause-asked
+returns-in-Ok-clause-asked g c = asks_for_all (command_of (texts_of c.args.words.now)) c.write.result _ _ c.write.ensures.answer c.in-Ok.ensures.asked
 
 pub returns-in-Err-clause-answer : goal.returns-in-Err-clause-answer
 returns-in-Err-clause-answer g c = λ t told.
-    ends_refused (map (λ word. word.now) c.args.words.now) t.files c.refuse.result c.in-Err.refusal _ _ _ _ _ c.refuse.ensures.status (c.in-Err.ensures.given t told) c.refuse.ensures.line
+    rw c.refuse.ensures.status (ends_refused (texts_of c.args.words.now) t.files c.in-Err.refusal.status (own_text c.in-Err.refusal.line) _ _ _ _ _ c.in-Err.ensures.refusal (c.in-Err.ensures.given t told) c.refuse.ensures.line)
 
-pub returns-in-Err-clause-asked : goal.returns-in-Err-clause-asked
-returns-in-Err-clause-asked g c = asks_for_files_weaker (λ _. (c.in-Err.refusal, c.refuse.ensures.status)) _ _ _ c.in-Err.ensures.asked
+pub returns-in-Err-clause-untouched : goal.returns-in-Err-clause-untouched
+returns-in-Err-clause-untouched g c = untouched c.refuse.result _

@@ -1,0 +1,32 @@
+-- What refusals come from.
+use Rattle.std.specs.Prelude.{List, ℕ, Option, Some, None, Result, Ok, Err}
+use Rattle.pass_run.specs.declared.passes.PassFault.{PassFault}
+use Rattle.pass_run.specs.declared.passes.PassFault.TheVariants as stop
+use Rattle.compact_run.specs.declared.refusal.Refusal.{Refusal}
+use Rattle.compact_run.specs.declared.status.What.TheVariants.{Edges}
+use Rattle.compact_run.specs.declared.status.Status.{Status}
+use Rattle.compact_run.specs.declared.status.Status.TheVariants as status
+use Rattle.compact_run.specs.Refusal.{own_text}
+
+-- with no text of its own
+abbrev pub plain : Status → Refusal
+plain ended = record { status = ended; line = None }
+
+-- with a text of its own
+abbrev pub told : Status → List ℕ → Refusal
+told ended text = record { status = ended; line = Some text }
+
+-- why the passes of a cell end
+abbrev pub refusal_of : PassFault → Refusal
+refusal_of (stop.TooManyEdges pass) = plain (status.TooLarge Edges)
+refusal_of (stop.Unsatisfiable pass report) = told (status.Unsatisfiable pass) report
+refusal_of stop.OutOfMemory = plain status.OutOfMemory
+
+-- a refusal with such a status and such a text of its own
+abbrev pub Refused : (Status → List ℕ → Type 0) → Refusal → Type 0
+Refused Why r = Why r.status (own_text r.line)
+
+-- how a step ended
+abbrev pub ending_of : {A : Type 0} → Result A Refusal → Status
+ending_of (Ok x) = status.Done
+ending_of (Err r) = r.status
