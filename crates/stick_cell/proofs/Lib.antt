@@ -23,5 +23,6 @@ pub mod TableReads
 mod UseSteps
 mod WireSteps
 mod Refused
+mod RefusedUses
 pub mod Stepping
 pub mod StepsInlined

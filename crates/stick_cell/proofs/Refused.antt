@@ -25,14 +25,14 @@ use Rattle.stick_cell.proofs.Accepted.{eq_from_test, apart_from_test}
 
 -- ---- tests that follow each other
 
-same_kind : {A : Type 0} (k kind : StickKind) → ◌≡◌ {A = Result A StickKind} (Err k) (Err kind) → k ≡ kind
+pub same_kind : {A : Type 0} (k kind : StickKind) → ◌≡◌ {A = Result A StickKind} (Err k) (Err kind) → k ≡ kind
 same_kind k kind e = cc
 
-or_refused : {A : Type 0} (b : Bool) (k kind : StickKind) (rest : Result A StickKind) → (demand b k >>= λ u. rest) ≡ Err kind → ((b ≡ false) × (k ≡ kind)) ⊎ (rest ≡ Err kind)
+pub or_refused : {A : Type 0} (b : Bool) (k kind : StickKind) (rest : Result A StickKind) → (demand b k >>= λ u. rest) ≡ Err kind → ((b ≡ false) × (k ≡ kind)) ⊎ (rest ≡ Err kind)
 or_refused true k kind rest e = inr e
 or_refused false k kind rest e = inl (refl, same_kind k kind e)
 
-both_false : (x y : Bool) → (x && y) ≡ false → IsTrue (not x) ⊎ IsTrue (not y)
+pub both_false : (x y : Bool) → (x && y) ≡ false → IsTrue (not x) ⊎ IsTrue (not y)
 both_false true true e = absurd (cc)
 both_false true false e = inr refl
 both_false false y e = inl refl

@@ -2,8 +2,8 @@ pub mod Known
 pub mod Paths
 pub mod Checks
 pub mod Wires
-pub mod Refusals
 pub mod Lines
+pub mod Refusals
 pub mod Counts
 pub mod Kept
 pub mod Ports

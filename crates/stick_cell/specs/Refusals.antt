@@ -1,19 +1,21 @@
--- Why a wire is refused, in the words of the rules.
-use Rattle.std.specs.Prelude.{◌≡◌, ◌≢◌, ℕ, ◌<◌, ◌%◌, ℤ, pos, ◌<ℤ◌, Bool, not, IsTrue, ◌⊎◌, List, Option, Some, Ok}
+-- Why a wire or a use is refused, in the words of the rules.
+use Rattle.std.specs.Prelude.{◌≡◌, ◌≢◌, ℕ, ◌+◌, ◌<◌, ◌≤◌, ◌%◌, ℤ, pos, ◌<ℤ◌, Bool, not, IsTrue, bytes_eq, ◌⊎◌, List, [], Option, Some, None, Ok}
 use Rattle.rule_table.specs.declared.technology.Tech.{Tech}
 use Rattle.rule_table.specs.declared.classes.Layer.{Layer}
 use Rattle.rule_table.specs.Technology.{width_of}
 use Rattle.lam_geom.specs.declared.boxes.Side.{Side}
 use Rattle.lam_geom.specs.declared.boxes.Side.TheVariants.{Left, Right, Bottom, Top}
 use Rattle.stick_parse.specs.declared.fault.StickKind.{StickKind}
-use Rattle.stick_parse.specs.declared.fault.StickKind.TheVariants.{WrongTerminal, NotStraight, WrongLayer, WrongSide, PortWires, BadSize, NarrowWire, WideWire}
+use Rattle.stick_parse.specs.declared.fault.StickKind.TheVariants.{WrongTerminal, NotStraight, WrongLayer, WrongSide, PortWires, BadSize, NarrowWire, WideWire, RepeatedName, UnknownName, UseCycle, UseDepth, UsedPorts, FarPlace}
 use Rattle.cell_model.specs.Wiring.{axis_of}
 use Rattle.stick_cell.specs.declared.names.Terminal.{Terminal}
 use Rattle.stick_cell.specs.declared.names.Terminal.TheVariants.{Node, Port}
 use Rattle.stick_cell.specs.declared.names.Found.{Found}
 use Rattle.stick_cell.specs.declared.names.Found.TheVariants.{At}
 use Rattle.stick_cell.specs.declared.names.Run.{Run}
-use Rattle.stick_cell.specs.Checks.{sized}
+use Rattle.stick_cell.specs.Known.{Known, known_at, greatest_col, greatest_row}
+use Rattle.stick_cell.specs.Checks.{is_fresh, sized}
+use Rattle.stick_cell.specs.Lines.{number_of}
 use Rattle.stick_cell.specs.Wires.{line_of, run_between, takes_layer, takes_along, is_free, is_within_pad}
 
 abbrev pub IsOpposite : Side → Side → Type 0
@@ -50,3 +52,14 @@ IsWrongWire tech wired layer a b width other = ⊥
 abbrev pub IsRefusedWire : Tech → List Bool → Layer → Found → Found → Option ℕ → StickKind → Type 0
 IsRefusedWire tech wired layer (At a) (At b) width kind = IsWrongWire tech wired layer a b width kind
 IsRefusedWire tech wired layer a b width kind = kind ≡ WrongTerminal
+
+-- what is wrong with the use of a cell, shifted by columns and rows, that is refused with this kind
+abbrev pub IsWrongUse : List Known → Known → List ℕ → List ℕ → ℕ → ℕ → StickKind → Type 0
+IsWrongUse cells known name cell col row RepeatedName = IsTrue (not (is_fresh known.names name))
+IsWrongUse cells known name cell col row UseCycle = IsTrue (bytes_eq cell known.name)
+IsWrongUse cells known name cell col row UnknownName = number_of cells cell ≡ None
+IsWrongUse cells known name cell col row UsedPorts = (k : ℕ) × (number_of cells cell ≡ Some k) × ((known_at cells k).plugs ≢ [])
+IsWrongUse cells known name cell col row UseDepth = (k : ℕ) × (number_of cells cell ≡ Some k) × (16 ≤ (known_at cells k).depth)
+IsWrongUse cells known name cell col row FarPlace =
+    (k : ℕ) × (number_of cells cell ≡ Some k) × ((4095 < col + greatest_col (known_at cells k).nodes) ⊎ (4095 < row + greatest_row (known_at cells k).nodes))
+IsWrongUse cells known name cell col row other = ⊥

@@ -3,7 +3,7 @@
 //!
 //! What the layer above uses: `resolve` gives the cells exactly where the definition of the checks (`specs/Lines.antt`)
 //! finds no fault, each of them sound, and else the first fault; `Cells::inline` is exactly the inlined cell of that
-//! definition, `weight` and `boxes` count it without building it. A wire is refused by the rules of `specs/Refusals.antt`.
+//! definition, `weight` and `boxes` count it without building it. Wires and uses are refused by the rules of `specs/Refusals.antt`.
 //! Columns, rows and places are coarse coordinates; widths and sizes are in u, the grid unit.
 #![tactic(auto)]
 
@@ -33,4 +33,5 @@ pub use cell_model::{
 pub use cells::Cells;
 pub use resolving::resolve;
 pub use stick_parse::ParseFault as ResolveFault;
+pub use uses::a_refused_use_breaks_a_rule;
 pub use wires::a_refused_wire_breaks_a_rule;
