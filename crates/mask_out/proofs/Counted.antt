@@ -1,6 +1,5 @@
 -- How many mask boxes the items of a cell are.
-use Rattle.std.proofs.Common.{◌≡◌, ℕ, suc, ◌+◌, Bool, true, false, cond, List, [], ◌∷◌, ◌++◌, length, zero-add, refl, sym, ap, ◌∙◌, arith}
-use Rattle.std.specs.Prelude.{slice_index}
+use Rattle.std.proofs.Common.{◌≡◌, ℕ, ◌+◌, Bool, true, false, cond, List, [], ◌∷◌, ◌++◌, length, zero-add, refl, ap, ◌∙◌, arith}
 use Rattle.std.specs.List.{filter, flat_map, range_with_len, sum_by}
 use Rattle.std.proofs.lemmas.List.{length-append, length-map}
 use Rattle.std.proofs.lemmas.List.Elements.{filter-append}
@@ -24,9 +23,8 @@ use Rattle.cell_model.specs.declared.cell.Nets.{Nets}
 use Rattle.cell_model.specs.declared.cell.Cell.{Cell}
 use Rattle.cell_model.specs.Counts.{kind_boxes, node_boxes, boxes_in}
 use Rattle.cell_model.specs.Sound.{node_at, no_node, wire_at, no_wire}
-use Rattle.expand.specs.Variables.{half, cross_of}
-use Rattle.expand.specs.NodeItems.{item_running, on_layer, square_round, kind_items}
-use Rattle.expand.specs.WireItems.{low_end_of, high_end_of, run_item}
+use Rattle.expand.specs.Variables.{half}
+use Rattle.expand.specs.NodeItems.{on_layer, square_round, kind_items}
 use Rattle.expand.specs.Items.{nets_at, items_of_node, items_of_wire, item_list}
 use Rattle.expand.proofs.Counted.{pieces_counted}
 use Rattle.mask_out.specs.Masks.{Mask, is_drawn, masks_on, masks_in}
