@@ -13,7 +13,8 @@ use Rattle.cons_graph.specs.SimpleWalks.{IsSimplePositiveCycle}
 use Rattle.round_log.specs.WalksBack as back
 use Rattle.round_log.proofs.Raises.{IsRaise, IsJustified, raise_of-is, latest_in_log}
 use Rattle.round_log.proofs.Chains.{In, In-chain, chain-append, chain-newest, raise_linked, raise_rising}
-use Rattle.round_log.proofs.Ends.{map-map, In-map-back, numbers}
+use Rattle.round_log.proofs.Ends.{map-map, numbers}
+use Rattle.round_log.proofs.Members.{In-map-back}
 use Rattle.round_log.proofs.Cycles.{IsLoop, loop_of_raise}
 use Rattle.round_log.proofs.Outcomes.{simple_from_loop, In-loop_back}
 use Rattle.round_log.proofs.Least.{edge_among}

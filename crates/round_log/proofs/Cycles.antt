@@ -10,7 +10,7 @@ use Rattle.cons_graph.specs.Walks.{IsWalk, walk_length}
 use Rattle.round_log.specs.Looks.{chain, comes_back}
 use Rattle.round_log.specs.WalksBack.{up_to, loop_back, least_place}
 use Rattle.round_log.proofs.Chains.{In, IsLinked, IsRising, top_var, top_value}
-use Rattle.round_log.proofs.Members.{IsDistinct, list_any-true, list_any-false}
+use Rattle.round_log.proofs.Members.{In-map-back, IsDistinct, list_any-true, list_any-false}
 use Rattle.round_log.proofs.Walking.{IsWalk-append, IsWalk-split, entry_edges, vars_of, IsDistinct-turned}
 use Rattle.cons_graph.proofs.Tests.{walk_length-append}
 
@@ -113,11 +113,6 @@ abbrev Repeats : List Entry → List Entry → Type 0
 Repeats met [] = ⊥
 Repeats met (c ∷ cs) = ((q : Entry) × In q met × (q.var ≡ c.var)) ⊎ Repeats (c ∷ met) cs
 
-In-vars_of : (met : List Entry) (v : ℕ) → In v (vars_of met) → (q : Entry) × In q met × (q.var ≡ v)
-In-vars_of [] v i = absurd i
-In-vars_of (c ∷ cs) v i =
-    elim i as (λ _. (q : Entry) × In q (c ∷ cs) × (q.var ≡ v)) [ inl e ↦ (c, inl refl, e) | inr h ↦ let w = In-vars_of cs v h in (w.0, inr w.1, w.2) ]
-
 pub loop_is : (edge : ℕ → Edge) (met rest : List Entry) → IsPath edge (top_var rest) (top_value rest) met → IsLinked edge rest → IsRising rest → IsDistinct (vars_of met) → ((s q : Entry) → In s met → In q rest → q.var ≡ s.var → q.value <ℤ s.value) → Repeats met rest → (v : ℕ) × IsLoop edge v (entry_edges edge (loop_back met rest))
 loop_is edge met [] p l r d h t = absurd t
 loop_is edge met (c ∷ cs) p l r d h t =
@@ -142,7 +137,7 @@ loop_is edge met (c ∷ cs) p l r d h t =
       | inr no' ↦
           subst L (sym (cond-false test (up_to c.var met) (loop_back (c ∷ met) cs) no')) (loop_is edge (c ∷ met) cs
           (record { tail_is = l.0.tail_is; head_is = l.0.head_is; value_is = l.0.value_is }, p) l.1 r.1
-          (λ i. let w = In-vars_of met c.var i in true≢false (sym (eq-eqb w.0.var c.var w.2) ∙ list_any-false (λ q. eqb q.var c.var) met w.0 no' w.1), d)
+          (λ i. let w = In-map-back (λ (q : Entry). q.var) c.var met i in true≢false (sym (eq-eqb w.0.var c.var w.2) ∙ list_any-false (λ q. eqb q.var c.var) met w.0 no' w.1), d)
           (λ s q i j e. elim i as (λ _. q.value <ℤ s.value) [
             | inl same ↦ (let P : Entry → Type 0 = λ z. q.value <ℤ z.value in subst P same (r.0 q j (e ∙ ap (λ z. z.var) (sym same))))
             | inr i' ↦ h s q i' (inr j) e

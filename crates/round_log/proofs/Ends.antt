@@ -3,6 +3,7 @@ use Rattle.std.proofs.Common.{◌≡◌, ℕ, ◌+◌, ◌-◌, ◌<◌, ◌≤�
 use Rattle.std.specs.List.{All, range_with_len}
 use Rattle.std.proofs.lemmas.Bool.{ltb-true, not-false}
 use Rattle.std.proofs.lemmas.List.{map-append}
+use Rattle.std.proofs.lemmas.List.FromFn.{length-range_with_len}
 use Rattle.cons_graph.specs.declared.edges.Edge.{Edge}
 use Rattle.round_log.specs.declared.log.Entry.{Entry}
 use Rattle.cons_graph.specs.Constraints.{Constraints, IsConstraintGraph}
@@ -16,14 +17,14 @@ use Rattle.round_log.specs.Looks.{label, latest, place_in, is_forward}
 use Rattle.round_log.specs.Rounds.{plan_of}
 use Rattle.round_log.proofs.Raises.{IsJustified}
 use Rattle.round_log.proofs.Chains.{In, In-chain, IsLinked, IsTraced, trace, trace_is, chain_rising}
-use Rattle.round_log.proofs.Members.{In-append, In-range-from, length-range, IsDistinct, length_of_distinct}
+use Rattle.round_log.proofs.Members.{In-map-back, In-range-from, IsDistinct, length_of_distinct}
 use Rattle.round_log.proofs.Parts.{IsLog, log_justified, depth_at_most}
 use Rattle.round_log.proofs.RoundSteps.{IsGoing}
 use Rattle.round_log.proofs.Least.{edge_among, meets_at}
 use Rattle.round_log.proofs.Depths.{depth}
 use Rattle.round_log.proofs.Sizes.{label_within, length_by_depth, small}
 use Rattle.round_log.proofs.Planned.{is_backward, IsDistinct-from_pairs, In-at, In-from_contains, place_of_In, place_in_range}
-use Rattle.round_log.proofs.Walking.{entry_edges, vars_of, chain_walk, chain_length, chain_distinct, IsDistinct-reverse, pairs_from_IsDistinct, reverse-cons}
+use Rattle.round_log.proofs.Walking.{entry_edges, vars_of, chain_walk, chain_length, chain_distinct, In-reverse, IsDistinct-reverse, pairs_from_IsDistinct, reverse-cons}
 
 -- the rounds of a graph and an order, by their parts
 abbrev pub back_of : Constraints → List ℕ → ℕ → Bool
@@ -44,7 +45,7 @@ pub order_length : (order : List ℕ) (vars : ℕ) → NamesEachOnce vars order 
 order_length order vars o =
     let h : (v : ℕ) → In v order → In v (range_with_len 0 vars) = λ v i. let w = place_of_In order v i in let lt = o.in_range w.0 v w.1 in In-range-from v 0 vars (omega arith) (let P : ℕ → Type 0 = λ x. x < 0 + vars in subst P (w.2 v) (omega (arith, lt))) in
     let le = length_of_distinct order (range_with_len 0 vars) (IsDistinct-from_pairs order o.once) h in
-    omega (arith, le, length-range 0 vars)
+    omega (arith, le, length-range_with_len 0 vars)
 
 place_below : (order : List ℕ) (vars v : ℕ) → NamesEachOnce vars order → v < vars → place_in order v < vars
 place_below order vars v o lt = let p = place_in_range order v (In-variables order vars v o lt) in let q = order_length order vars o in omega (arith, p, q)
@@ -54,7 +55,7 @@ label_small g order rs s o l v a lt e =
     let among = edge_among g s in
     let vs : List ℕ = range_with_len 1 (g.vars - 1) in
     let deep = depth_at_most (edge_at g.edges) (back_of g order) (length g.edges) rs (latest rs v) vs l (λ k a b. let h = among k a in let t = h.to_in_range in let z = h.not_into_origin in In-range-from (edge_at g.edges k).to 1 (g.vars - 1) (omega (arith, z)) (omega (arith, t))) in
-    let few = length-range 1 (g.vars - 1) in
+    let few = length-range_with_len 1 (g.vars - 1) in
     let long = length_by_depth (edge_at g.edges) (back_of g order) (place_in order) (length g.edges) g.vars rs l (λ k a. place_below order g.vars (edge_at g.edges k).from o (among k a).from_in_range) (λ k a b. ltb-true (place_in order (edge_at g.edges k).from) (place_in order (edge_at g.edges k).to) (not-false (is_forward order (edge_at g.edges k)) b)) v in
     small g.vars (depth (back_of g order) (trace rs v)) (place_in order v) (length (trace rs v)) a s.few_vars s.has_origin (omega (arith, deep, few)) (place_below order g.vars v o lt) long (label_within (edge_at g.edges) (back_of g order) (length g.edges) g.vars rs l among v a e)
 
@@ -70,17 +71,6 @@ map-reverse f (x ∷ xs) = ap (map f) (reverse-cons x xs) ∙ map-append f (reve
 
 pub All-from_In : {X : Type 0} (P : X → Type 0) (xs : List X) → ((x : X) → In x xs → P x) → All P xs
 All-from_In P xs h = λ k d lt. h (get_or xs k d) (In-at xs k d lt)
-
-pub In-map-back : {X Y : Type 0} (f : X → Y) (y : Y) (xs : List X) → In y (map f xs) → (x : X) × In x xs × (f x ≡ y)
-In-map-back f y [] i = absurd i
-In-map-back {X} f y (x ∷ xs) i =
-    elim i as (λ _. (z : X) × In z (x ∷ xs) × (f z ≡ y)) [ inl e ↦ (x, inl refl, e) | inr h ↦ let w = In-map-back f y xs h in (w.0, inr w.1, w.2) ]
-
-pub In-reverse-back : {X : Type 0} (x : X) (xs : List X) → In x (reverse xs) → In x xs
-In-reverse-back x [] i = i
-In-reverse-back {X} x (y ∷ xs) i =
-    let P : List X → Type 0 = λ l. In x l in
-    elim (In-append x (reverse xs) (y ∷ []) (subst P (reverse-cons y xs) i)) as (λ _. (y ≡ x) ⊎ In x xs) [ inl h ↦ inr (In-reverse-back x xs h) | inr h ↦ elim h as (λ _. (y ≡ x) ⊎ In x xs) [ inl e ↦ inl e | inr b ↦ absurd b ] ]
 
 -- each raise of a log is by an edge in range, into the raise's variable, which is not the origin
 pub log_entry : (g : Constraints) (back : ℕ → Bool) (rs : List Entry) (q : Entry) → IsLog (edge_at g.edges) back (length g.edges) rs → In q rs → (q.edge < length g.edges) × (q.var ≡ (edge_at g.edges q.edge).to)
@@ -113,7 +103,7 @@ walk_is g back rs l v a e =
     let T : ℕ → Type 0 = λ u. IsWalk 0 (reverse (entry_edges (edge_at g.edges) cs)) u in (
       record {
         in_range = All-from_In (λ k. k < length g.edges) (walk_of rs v) (λ k i.
-            let w = In-map-back (λ (c : Entry). c.edge) k cs (In-reverse-back k (numbers cs) i) in
+            let w = In-map-back (λ (c : Entry). c.edge) k cs (In-reverse k (numbers cs) i) in
             let h = log_entry g back rs w.0 l (In-chain w.0 rs (latest rs v) w.1) in
             (let p = h.0 in let q = w.2 in omega (arith, p, q)));
         follows = subst W (sym (walk_edges g.edges cs)) (subst T t.var_is (chain_walk (edge_at g.edges) cs t.linked));
@@ -133,4 +123,4 @@ walk_no_repeat g back rs s l x sol v a e =
     let h = log_entry g back rs w.0 l (In-chain w.0 rs (latest rs v) w.1) in
     (edge_among g s w.0.edge h.0).not_into_origin (sym h.1 ∙ w.2) in
     let D : List ℕ → Type 0 = λ vs. IsDistinct (0 ∷ vs) in
-    pairs_from_IsDistinct (0 ∷ heads_of g.edges (walk_of rs v)) (subst D (sym (walk_heads g.edges cs t.linked)) (λ i. no_origin (In-reverse-back 0 (vars_of cs) i), IsDistinct-reverse (vars_of cs) apart))
+    pairs_from_IsDistinct (0 ∷ heads_of g.edges (walk_of rs v)) (subst D (sym (walk_heads g.edges cs t.linked)) (λ i. no_origin (In-reverse 0 (vars_of cs) i), IsDistinct-reverse (vars_of cs) apart))

@@ -26,6 +26,11 @@ pub In-map : {X Y : Type 0} (f : X → Y) (x : X) (xs : List X) → In x xs → 
 In-map f x [] h = h
 In-map f x (z ∷ xs) h = elim h as (λ _. (f z ≡ f x) ⊎ In (f x) (map f xs)) [ inl e ↦ inl (ap f e) | inr i ↦ inr (In-map f x xs i) ]
 
+pub In-map-back : {X Y : Type 0} (f : X → Y) (y : Y) (xs : List X) → In y (map f xs) → (x : X) × In x xs × (f x ≡ y)
+In-map-back f y [] i = absurd i
+In-map-back {X} f y (x ∷ xs) i =
+    elim i as (λ _. (z : X) × In z (x ∷ xs) × (f z ≡ y)) [ inl e ↦ (x, inl refl, e) | inr h ↦ let w = In-map-back f y xs h in (w.0, inr w.1, w.2) ]
+
 pub In-filter : (p : ℕ → Bool) (x : ℕ) (xs : List ℕ) → In x (filter p xs) → In x xs × (p x ≡ true)
 In-filter p x [] h = absurd h
 In-filter p x (z ∷ xs) h =
@@ -121,7 +126,3 @@ length_of_distinct (x ∷ xs) ys d h =
     let shorter : length xs ≤ length (without x ys) = length_of_distinct xs (without x ys) d.1 (λ z i. In-without x z ys (h z (inr i)) (λ e. d.0 (let P : ℕ → Type 0 = λ w. In w xs in subst P e i))) in
     let one_less : suc (length (without x ys)) ≡ length ys = length-without x ys (h x (inl refl)) in
     omega arith
-
-pub length-range : (a n : ℕ) → length (range_with_len a n) ≡ n
-length-range a zero = refl
-length-range a (suc n) = ap suc (length-range (a + 1) n)

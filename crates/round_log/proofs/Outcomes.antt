@@ -18,14 +18,14 @@ use Rattle.round_log.specs.Looks.{chain}
 use Rattle.round_log.specs.Rounds.{Progress, Plan, plan_of, forward_part, round, one_more, after_rounds, EndsInRound}
 use Rattle.round_log.proofs.Raises.{IsQuiet, IsJustified}
 use Rattle.round_log.proofs.Chains.{In, In-chain, raise_linked, raise_rising}
-use Rattle.round_log.proofs.Members.{In-append, In-append-left, In-append-right, In-range-from, In-range, IsDistinct}
+use Rattle.round_log.proofs.Members.{In-map-back, In-append, In-append-left, In-append-right, In-range-from, In-range, IsDistinct}
 use Rattle.round_log.proofs.Parts.{IsStopAt, log_justified, Keeps}
 use Rattle.round_log.proofs.RoundSteps.{IsPlanned, going_start, forward_next, rounds_give, one_more_going, one_more_stopped, all_quiet, round_gives, busy_bound}
 use Rattle.round_log.proofs.Least.{label_value, quiet_least}
 use Rattle.round_log.proofs.Planned.{planned, place_of_In}
 use Rattle.round_log.proofs.Walking.{pairs_from_IsDistinct}
 use Rattle.round_log.proofs.Cycles.{tails, IsLoop, loop_of_raise, turned_loop, least_place_in_range, least_place_least}
-use Rattle.round_log.proofs.Ends.{LogOf, GoingOf, back_of, numbers, map-map, All-from_In, In-map-back, log_entry}
+use Rattle.round_log.proofs.Ends.{LogOf, GoingOf, back_of, numbers, map-map, All-from_In, log_entry}
 
 -- ---- a turned loop as numbers of edges
 

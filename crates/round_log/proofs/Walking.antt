@@ -10,7 +10,7 @@ use Rattle.cons_graph.specs.Walks.{IsWalk, walk_length}
 use Rattle.cons_graph.proofs.Tests.{walk_length-append}
 use Rattle.round_log.proofs.Chains.{In, IsLinked, IsRising, top_var, top_value}
 use Rattle.round_log.proofs.Planned.{In-at}
-use Rattle.round_log.proofs.Members.{IsDistinct, In-append, In-append-left, In-append-right}
+use Rattle.round_log.proofs.Members.{In-map-back, IsDistinct, In-append, In-append-left, In-append-right}
 
 pub IsWalk-append : (a : ℕ) (xs : List Edge) (b : ℕ) (ys : List Edge) (c : ℕ) → IsWalk a xs b → IsWalk b ys c → IsWalk a (xs ++ ys) c
 IsWalk-append a [] b ys c p q = let P : ℕ → Type 0 = λ x. IsWalk x ys c in subst P (sym p) q
@@ -63,16 +63,11 @@ chain_slack edge x (c ∷ cs) q l m i =
 abbrev pub vars_of : List Entry → List ℕ
 vars_of cs = map (λ c. c.var) cs
 
-In-vars : (cs : List Entry) (v : ℕ) → In v (vars_of cs) → (q : Entry) × In q cs × (q.var ≡ v)
-In-vars [] v i = absurd i
-In-vars (c ∷ cs) v i =
-    elim i as (λ _. (q : Entry) × In q (c ∷ cs) × (q.var ≡ v)) [ inl e ↦ (c, inl refl, e) | inr h ↦ let w = In-vars cs v h in (w.0, inr w.1, w.2) ]
-
 pub chain_distinct : (edge : ℕ → Edge) (x : ℕ → ℤ) (cs : List Entry) → IsLinked edge cs → IsRising cs → ((c : Entry) → In c cs → Meets x (edge c.edge)) → IsDistinct (vars_of cs)
 chain_distinct edge x [] l r m = tt
 chain_distinct edge x (c ∷ cs) l r m = (
   λ i.
-      let w = In-vars cs c.var i in
+      let w = In-map-back (λ (q : Entry). q.var) c.var cs i in
       let q : Entry = w.0 in
       let slack : (x q.var -ℤ q.value) ≤ℤ (x c.var -ℤ c.value) = chain_slack edge x (c ∷ cs) q l m (inr w.1) in
       let lower : q.value <ℤ c.value = r.0 q w.1 w.2 in
@@ -97,10 +92,11 @@ IsDistinct-parts (x ∷ xs) ys d =
 pub IsDistinct-turned : (xs ys : List ℕ) → IsDistinct (xs ++ ys) → IsDistinct (ys ++ xs)
 IsDistinct-turned xs ys d = let w = IsDistinct-parts xs ys d in IsDistinct-append ys xs w.1 w.0 (λ v i j. w.2 v j i)
 
-In-reverse : (v : ℕ) (xs : List ℕ) → In v (reverse xs) → In v xs
-In-reverse v [] i = i
-In-reverse v (x ∷ xs) i =
-    elim (In-append v (reverse xs) (x ∷ []) (let P : List ℕ → Type 0 = λ l. In v l in subst P (reverse-cons x xs) i)) as (λ _. (x ≡ v) ⊎ In v xs) [ inl h ↦ inr (In-reverse v xs h) | inr h ↦ elim h as (λ _. (x ≡ v) ⊎ In v xs) [ inl e ↦ inl e | inr b ↦ absurd b ] ]
+pub In-reverse : {X : Type 0} (x : X) (xs : List X) → In x (reverse xs) → In x xs
+In-reverse x [] i = i
+In-reverse {X} x (y ∷ xs) i =
+    let P : List X → Type 0 = λ l. In x l in
+    elim (In-append x (reverse xs) (y ∷ []) (subst P (reverse-cons y xs) i)) as (λ _. (y ≡ x) ⊎ In x xs) [ inl h ↦ inr (In-reverse x xs h) | inr h ↦ elim h as (λ _. (y ≡ x) ⊎ In x xs) [ inl e ↦ inl e | inr b ↦ absurd b ] ]
 
 pub IsDistinct-reverse : (xs : List ℕ) → IsDistinct xs → IsDistinct (reverse xs)
 IsDistinct-reverse [] d = tt
