@@ -4,6 +4,7 @@ use Rattle.std.specs.List.{filter, range_with_len}
 use Rattle.std.proofs.lemmas.Bool.{cond-true, cond-false, cases_eq, cond_both, ne_eqb, true≢false}
 use Rattle.std.proofs.lemmas.List.{nil_from_length}
 use Rattle.cons_graph.specs.declared.edges.Edge.{Edge}
+use Rattle.std.proofs.lemmas.List.FromFn.{length-range_with_len}
 use Rattle.round_log.specs.declared.log.Entry.{Entry}
 use Rattle.cons_graph.specs.Constraints.{Constraints, IsConstraintGraph}
 use Rattle.round_log.specs.Orders.{NamesEachOnce}
@@ -11,7 +12,7 @@ use Rattle.cons_graph.specs.EdgeNumbers.{edge_at}
 use Rattle.round_log.specs.Looks.{place_in, is_forward, backward_numbers}
 use Rattle.round_log.specs.Rounds.{Progress, Plan, plan_of, forward_part, round, one_more, after_rounds, IsQuietAfter, EndsInRound}
 use Rattle.round_log.proofs.Chains.{In}
-use Rattle.round_log.proofs.Members.{IsDistinct, length-range}
+use Rattle.round_log.proofs.Members.{IsDistinct}
 use Rattle.round_log.proofs.Parts.{Keeps}
 use Rattle.round_log.proofs.RoundSteps.{going_start, forward_next, round_gives, RoundGives, IsRoundOn, busy_bound}
 use Rattle.round_log.proofs.Planned.{planned, In-at, place_of_In, In-from_contains, IsDistinct-from_pairs}
@@ -108,7 +109,7 @@ filter_le p [] = omega arith
 filter_le p (x ∷ xs) = cond_both (p x) (x ∷ filter p xs) (filter p xs) (λ l. length l ≤ suc (length xs)) (λ _. (let k = filter_le p xs in omega (arith, k))) (λ _. (let k = filter_le p xs in omega (arith, k)))
 
 pub few_backward : (edges : List Edge) (order : List ℕ) → length (backward_numbers edges order) ≤ length edges
-few_backward edges order = omega (arith, filter_le (λ k. not (is_forward order (edge_at edges k))) (range_with_len 0 (length edges)), length-range 0 (length edges))
+few_backward edges order = omega (arith, filter_le (λ k. not (is_forward order (edge_at edges k))) (range_with_len 0 (length edges)), length-range_with_len 0 (length edges))
 
 -- ---- places
 

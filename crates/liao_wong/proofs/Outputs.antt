@@ -4,6 +4,7 @@ use Rattle.std.specs.List.{filter, range_with_len}
 use Rattle.std.proofs.lemmas.Bool.{cond-true, cond-false, not_from_true, not_from_false}
 use Rattle.std.proofs.lemmas.List.Elements.{filter-append, All-from_get_or}
 use Rattle.cons_graph.specs.declared.edges.Edge.{Edge}
+use Rattle.std.proofs.lemmas.List.FromFn.{length-range_with_len}
 use Rattle.round_log.specs.declared.log.Entry.{Entry}
 use Rattle.round_log.specs.declared.log.Log.{Log}
 use Rattle.cons_graph.specs.Constraints.{Constraints, IsConstraintGraph}
@@ -14,7 +15,7 @@ use Rattle.round_log.specs.Orders.{NamesEachOnce}
 use Rattle.round_log.specs.Rounds.{plan_of, EndsInRound}
 use Rattle.cons_graph.specs.Solutions.{value_of}
 use Rattle.round_log.proofs.Raises.{raise_of-from}
-use Rattle.round_log.proofs.Members.{length_of_distinct, length-range, In-range}
+use Rattle.round_log.proofs.Members.{length_of_distinct, In-range}
 use Rattle.round_log.proofs.Parts.{IsLog, IsStopAt}
 use Rattle.round_log.proofs.Least.{labelled, label_value, label_value-is, least_same}
 use Rattle.round_log.proofs.Planned.{In-from_contains, IsDistinct-from_pairs}
@@ -32,7 +33,7 @@ use Rattle.liao_wong.specs.Running.{IsEndedHeld, IsReadOut}
 pub order_is_long : (vars : ℕ) (order : List ℕ) → NamesEachOnce vars order → length order ≡ vars
 order_is_long vars order o =
     let low = length_of_distinct (range_with_len 0 vars) order (IsDistinct-from_pairs (range_with_len 0 vars) (every_variable vars).once) (λ v i. In-from_contains order v (o.each v (let h = In-range v 0 vars i in let lt = h.1 in omega (arith, lt)))) in
-    omega (arith, low, length-range 0 vars, order_length order vars o)
+    omega (arith, low, length-range_with_len 0 vars, order_length order vars o)
 
 -- ---- counting the backward edges
 
@@ -56,7 +57,7 @@ count_none edges order i up =
     omega (arith, ap length (backward_more edges order i), length-append (backward_of edges order (range_with_len 0 i)) (backward_of edges order (i ∷ [])), last)
 
 pub count_low : (edges : List Edge) (order : List ℕ) (i : ℕ) → length (backward_of edges order (range_with_len 0 i)) ≤ i
-count_low edges order i = omega (arith, filter_le (λ k. not (is_forward order (edge_at edges k))) (range_with_len 0 i), length-range 0 i)
+count_low edges order i = omega (arith, filter_le (λ k. not (is_forward order (edge_at edges k))) (range_with_len 0 i), length-range_with_len 0 i)
 
 -- ---- a log that a raise has stopped is one of looks
 
