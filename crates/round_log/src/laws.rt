@@ -13,7 +13,7 @@ pub fn rounds_come_out_one_way(edges: &[Edge], order: &[u32])
 {}
 
 /// A law, with nothing to run: the rounds over a constraint graph do not both end and stop.
-pub fn rounds_end_or_stop(vars: u32, edges: &[Edge], order: &[u32])
+pub fn rounds_do_not_end_and_stop(vars: u32, edges: &[Edge], order: &[u32])
     requires shape { IsConstraintGraph (record { vars = vars; edges = edges.now }) }
     requires names { NamesEachOnce vars order.now }
     ensures { DoNotEndAndStop (plan_of edges.now order.now) }

@@ -5,5 +5,7 @@
 mod laws;
 mod log;
 
-pub use laws::{implied_edges_change_no_cycle, rounds_come_out_one_way, rounds_end_or_stop};
+pub use laws::{
+    implied_edges_change_no_cycle, rounds_come_out_one_way, rounds_do_not_end_and_stop,
+};
 pub use log::{Entry, Log};

@@ -3,8 +3,8 @@
 //!
 //! What the layer above uses: `resolve` gives the cells exactly where the definition of the checks (`specs/Lines.antt`)
 //! finds no fault, each of them sound, and else the first fault; `Cells::inline` is exactly the inlined cell of that
-//! definition, `weight` and `boxes` count it without building it. Wires and uses are refused by the rules of `specs/Refusals.antt`.
-//! Columns, rows and places are coarse coordinates; widths and sizes are in u, the grid unit.
+//! definition, `weight` and `boxes` count it without building it. A wire or a use that is refused breaks the rule of its kind in
+//! `specs/Refusals.antt`. Columns, rows and places are coarse coordinates; widths and sizes are in u, the grid unit.
 #![tactic(auto)]
 
 #[cfg(test)]
@@ -30,6 +30,7 @@ mod wires;
 pub use cell_model::{
     Axis2, Cell, CellPort, Limit, Nets, Node, NodeKind, NodeNets, Port, Wire, WireEnd,
 };
+pub use cell_nets::{nets, nets_are_determined};
 pub use cells::Cells;
 pub use resolving::resolve;
 pub use stick_parse::ParseFault as ResolveFault;
