@@ -1,6 +1,7 @@
 //! Answers of the top call, whole, with shelves and sinks in memory.
 
 mod cases;
+mod kept_pairs;
 
 use crate::{Status, run};
 use cases::{CASES, SHIPPED};

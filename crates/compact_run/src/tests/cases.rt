@@ -480,8 +480,7 @@ pub const CASES: [Case; 67] = [
         status: "Unsatisfiable { pass: 1 }",
         ..COMPACT
     },
-    // A report that is cut leaves the masks.
-    // The report is one piece, of which the first half stands.
+    // A report that is cut leaves the masks. It is one piece, of which the first half stands.
     Case {
         text: "sticks 1\ncell a\njoint p metal 0 0\njoint q metal 0 1\nwire metal p q\nend\ngrid\nrow a\nend\n",
         report_faults: &[0],
