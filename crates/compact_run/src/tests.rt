@@ -2,10 +2,14 @@
 
 mod cases;
 mod kept_pairs;
+mod layouts;
 
 use crate::{Status, run};
-use cases::{CASES, SHIPPED};
+use cases::{
+    EXTENTS, FAILURES, GRIDS, LISTS, REFUSALS, REPORTS, SHIPPED, TECHNOLOGIES, TEXTS, WORDS,
+};
 use lam_io::{FailPlan, Fetch, MemShelf, MemSink, Shelf};
+use layouts::{CYCLES, FALLS, LAYERS, LIMITS, ORDERS, USES};
 use std::alloc::{AllocError, Global};
 use std::process::Abort;
 use std::test::Fail;
@@ -35,10 +39,9 @@ fn answer(alloc: Global, case: &Case) -> Result<(Status, MemSink, MemSink), Allo
     Ok((status, out, report))
 }
 
-#[test]
-fn each_case_is_answered_as_it_says(rt: HostRuntime) -> Result<(), Fail> {
-    let alloc = rt.alloc();
-    for case in &CASES {
+// Each of the cases is answered as it says.
+fn assert_answers<A: Abort>(rt: &A, alloc: Global, cases: &[Case]) -> Result<(), Fail> {
+    for case in cases {
         let (status, out, report) = answer(alloc, case)?;
         let told = format!(in alloc; "{status:?}")?;
         assert_eq!(rt; told.as_str(), case.status, "{}", case.text);
@@ -46,6 +49,81 @@ fn each_case_is_answered_as_it_says(rt: HostRuntime) -> Result<(), Fail> {
         assert_eq!(rt; report.bytes(), case.report.as_bytes(), "{}", case.text);
     }
     Ok(())
+}
+
+#[test]
+fn a_grid_that_is_not_one_cell_is_refused(rt: HostRuntime) -> Result<(), Fail> {
+    assert_answers(&rt, rt.alloc(), &GRIDS)
+}
+
+#[test]
+fn a_refusal_puts_its_line(rt: HostRuntime) -> Result<(), Fail> {
+    assert_answers(&rt, rt.alloc(), &REFUSALS)
+}
+
+#[test]
+fn words_that_are_no_command_are_refused(rt: HostRuntime) -> Result<(), Fail> {
+    assert_answers(&rt, rt.alloc(), &WORDS)
+}
+
+#[test]
+fn a_list_of_passes_has_both_axes(rt: HostRuntime) -> Result<(), Fail> {
+    assert_answers(&rt, rt.alloc(), &LISTS)
+}
+
+#[test]
+fn what_fails_says_so(rt: HostRuntime) -> Result<(), Fail> {
+    assert_answers(&rt, rt.alloc(), &FAILURES)
+}
+
+#[test]
+fn a_technology_is_judged_first(rt: HostRuntime) -> Result<(), Fail> {
+    assert_answers(&rt, rt.alloc(), &TECHNOLOGIES)
+}
+
+#[test]
+fn fmt_writes_the_canonical_form(rt: HostRuntime) -> Result<(), Fail> {
+    assert_answers(&rt, rt.alloc(), &TEXTS)
+}
+
+#[test]
+fn masks_past_their_extent_are_too_large(rt: HostRuntime) -> Result<(), Fail> {
+    assert_answers(&rt, rt.alloc(), &EXTENTS)
+}
+
+#[test]
+fn parts_fall_as_low_as_they_may(rt: HostRuntime) -> Result<(), Fail> {
+    assert_answers(&rt, rt.alloc(), &FALLS)
+}
+
+#[test]
+fn masks_have_all_layers(rt: HostRuntime) -> Result<(), Fail> {
+    assert_answers(&rt, rt.alloc(), &LAYERS)
+}
+
+#[test]
+fn uses_are_laid_out_as_what_they_stand_for(rt: HostRuntime) -> Result<(), Fail> {
+    assert_answers(&rt, rt.alloc(), &USES)
+}
+
+#[test]
+fn passes_are_made_in_the_order_of_their_list(rt: HostRuntime) -> Result<(), Fail> {
+    assert_answers(&rt, rt.alloc(), &ORDERS)
+}
+
+#[test]
+fn limits_are_kept(rt: HostRuntime) -> Result<(), Fail> {
+    assert_answers(&rt, rt.alloc(), &LIMITS)
+}
+
+#[test]
+fn a_cycle_is_told_after_the_passes_before_it(rt: HostRuntime) -> Result<(), Fail> {
+    assert_answers(&rt, rt.alloc(), &CYCLES)
+}
+
+#[test]
+fn a_report_that_is_cut_leaves_the_masks(rt: HostRuntime) -> Result<(), Fail> {
+    assert_answers(&rt, rt.alloc(), &REPORTS)
 }
 
 // A shelf that keeps the names that it is asked for, each with a blank behind it.

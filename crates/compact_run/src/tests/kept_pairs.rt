@@ -1,6 +1,7 @@
 //! The kept pairs of worked and of generated cells.
 ghost use Rattle.std.specs.Prelude.{◌≡◌, ◌<◌, ◌^◌, All, IfOk, length};
 ghost use Rattle.sym_items.specs.Boxes.{HasBox};
+ghost use Rattle.expand.specs.Masters.{IsMaster};
 ghost use Rattle.pair_rules.specs.Clean.{IsClean};
 
 use crate::master::master_of;
@@ -23,6 +24,23 @@ struct Laid {
     start: Coords,
 }
 
+// The start layout of a master, where it is clean.
+fn clean_start(alloc: Global, tech: &Tech, master: &Master) -> Result<Coords, Fail>
+    requires { IsMaster tech.now master.now }
+    ensures few { IfOk result (λ _. length master.now.items.list < 2 ^ 32) }
+    ensures boxes { IfOk result (λ layout. All (HasBox layout) master.now.items.list) }
+    ensures clean { IfOk result (λ layout. IsClean tech.now layout master.now.items.list) }
+{
+    let start = start(alloc, tech, &master.cell)?;
+    master_is_lawful(tech, master);
+    start_is_a_layout(tech, master);
+    let list = master.items.list.as_slice();
+    match find_clash(tech, list, &start) {
+        None => Ok(start),
+        Some(_) => Err("a clash")?,
+    }
+}
+
 // Cell `a` of a design that has these lines in it.
 fn laid_out(alloc: Global, tech: &Tech, lines: &str) -> Result<Laid, Fail>
     ensures few { IfOk result (λ l. length l.master.items.list < 2 ^ 32) }
@@ -33,14 +51,13 @@ fn laid_out(alloc: Global, tech: &Tech, lines: &str) -> Result<Laid, Fail>
     if text.len() > 1 << 20 {
         return Err("too long")?;
     }
-    let design = parse(alloc, text.as_bytes()).ok().ok_or("a design")?;
-    let master = master_of(alloc, tech, &design).ok().ok_or("a master")?;
-    let start = start(alloc, tech, &master.cell)?;
-    master_is_lawful(tech, &master);
-    start_is_a_layout(tech, &master);
-    if find_clash(tech, master.items.list.as_slice(), &start).is_some() {
-        return Err("a clash")?;
-    }
+    let Ok(design) = parse(alloc, text.as_bytes()) else {
+        return Err("no design")?;
+    };
+    let Ok(master) = master_of(alloc, tech, &design) else {
+        return Err("no master")?;
+    };
+    let start = clean_start(alloc, tech, &master)?;
     Ok(Laid { master, start })
 }
 
