@@ -1,40 +1,168 @@
--- The list of a pass has a positive cycle exactly where its system has, and so pruning loses nothing.
-use Rattle.std.proofs.Common.{◌⊎◌, ℕ, ℤ, List, inl, inr}
+-- The list of a pass has a positive cycle exactly where its system has, and so pruning loses nothing: a walk along inequalities of kept pairs,
+-- and along extents of the items between, implies the inequality of each candidate.
+use Rattle.std.proofs.Common.{◌≡◌, ℕ, ◌<◌, Bool, true, false, cond, eqb, ℤ, ◌+ℤ◌, ◌-ℤ◌, ◌≤ℤ◌, List, [], ◌∷◌, ◌++◌, length, map, Some, refl, ap, inl, inr, arith}
+use Rattle.std.specs.List.{AllByRecursion, All, Contains, flat_map, range_with_len}
+use Rattle.std.proofs.lemmas.Int.{ints}
+use Rattle.std.proofs.lemmas.Bool.{cases_eq, ne_eqb, eqb-true}
+use Rattle.std.proofs.lemmas.List.Elements.{All-nil, All-cons, All-append, All-weaker, All-contains, All-contains_itself, recursion_from_All}
 use Rattle.lam_geom.specs.declared.boxes.Axis.{Axis}
 use Rattle.rule_table.specs.declared.technology.Tech.{Tech}
 use Rattle.cons_graph.specs.declared.edges.Edge.{Edge}
-use Rattle.cons_graph.specs.Solutions.{IsSolution}
-use Rattle.cons_graph.specs.Walks.{HasPositiveCycle}
-use Rattle.round_log.proofs.Least.{positive_cycle_excludes}
-use Rattle.round_log.proofs.Outcomes.{solution_or_cycle}
+use Rattle.cons_graph.specs.declared.edges.Why.{Why}
+use Rattle.cons_graph.specs.declared.edges.Why.TheVariants.{Extent, Space}
+use Rattle.cons_graph.specs.Walks.{IsWalk, walk_length}
+use Rattle.cons_graph.proofs.Tests.{walk_length-append}
+use Rattle.round_log.specs.Implied.{IsImpliedBy}
+use Rattle.round_log.proofs.Implied.{cycles_alike, implied_by_itself}
+use Rattle.round_log.proofs.Walking.{IsWalk-append}
+use Rattle.sym_items.specs.declared.items.End.{End}
+use Rattle.sym_items.specs.declared.items.Item.{Item}
 use Rattle.sym_items.specs.declared.items.Coords.{Coords}
-use Rattle.expand.specs.Variables.{variables_of}
+use Rattle.sym_items.specs.Boxes.{HasBox}
+use Rattle.sym_items.specs.Transposed.{item_along, values_along}
+use Rattle.sym_items.specs.Values.{value_of, end_under}
+use Rattle.cell_model.specs.declared.cell.Cell.{Cell}
+use Rattle.list_facts.proofs.Elements.{all_of, all_parts, all_unmap, all_flat, all_pieces}
 use Rattle.expand.specs.declared.master.Master.{Master}
+use Rattle.expand.specs.Structure.{at_least, between, extent_edges, margin_edges, overlap_edges, limit_edges, structure_of}
+use Rattle.expand.specs.Bounds.{FitsOn}
 use Rattle.expand.specs.Laws.{IsLawful}
-use Rattle.pass_run.specs.Laid.{IsLaidOut}
+use Rattle.pair_rules.specs.declared.pairs.Pair.{Pair}
+use Rattle.pair_rules.specs.Bound.{item_at, no_item}
+use Rattle.pair_rules.specs.Candidates.{spacing_at, candidates_of, high_end, low_end, Keeps}
+use Rattle.pair_rules.specs.Kept.{is_kept, kept_of}
+use Rattle.shadow_prune.proofs.PairLists.{of_filtered, all_candidates, is_candidate}
+use Rattle.shadow_prune.proofs.Pruning.{shows_of_candidates, candidates_apart}
 use Rattle.pass_run.specs.Pruning.{PruningLosesNothing}
-use Rattle.pass_run.specs.System.{system_over, list_over, HaveSameSolutions, HaveCyclesAlike}
-use Rattle.pass_run.proofs.Meeting.{solutions_kept}
-use Rattle.pass_run.proofs.Shape.{listed_shape}
-use Rattle.pass_run.proofs.Solved.{cycle_among}
+use Rattle.pass_run.specs.System.{space_edges, space_edge, spaces_of, system_over, list_over}
+use Rattle.pass_run.proofs.Meeting.{listed_among, solutions_kept}
 
--- where two lists have the same solutions, and one has a solution or a positive cycle, a positive cycle of the other is one of it
-cycle_there : (es fs : List Edge) → HaveSameSolutions es fs → ((x : ℕ → ℤ) × IsSolution es x) ⊎ HasPositiveCycle es → HasPositiveCycle fs → HasPositiveCycle es
-cycle_there es fs same (inl solved) cycle = absurd (positive_cycle_excludes fs cycle.0 solved.0 cycle.1 ((same solved.0).0 solved.1))
-cycle_there es fs same (inr found) cycle = found
+-- ---- walks between ends
 
-same_cycles : (axis : Axis) (tech : Tech) (master : Master) (c : Coords) → IsLawful tech master → IsLaidOut tech master c
-    → HaveSameSolutions (list_over axis tech master.cell master.items.list c) (system_over axis tech master.cell master.items.list c)
-    → HaveCyclesAlike (list_over axis tech master.cell master.items.list c) (system_over axis tech master.cell master.items.list c)
-same_cycles axis tech master c lawful laid same = (
-  cycle_among axis tech master.cell master.items.list c,
-  cycle_there (list_over axis tech master.cell master.items.list c) (system_over axis tech master.cell master.items.list c) same
-      (solution_or_cycle (record { vars = variables_of axis master.cell; edges = list_over axis tech master.cell master.items.list c }) (listed_shape axis tech master c lawful laid)),
-)
+-- a walk among some inequalities keeps one end at least so far below another; it is empty where both lie on one variable, so far apart
+record IsKeptApart (edges : List Edge) (low high : End) (len : ℤ) : Type 0 where
+  pub walk : List Edge
+  pub of_these : All (Contains edges) walk
+  pub leads : IsWalk low.var walk high.var
+  pub long : (len +ℤ low.off) ≤ℤ (walk_length walk +ℤ high.off)
+
+on_one_variable : (edges : List Edge) (low high : End) (len : ℤ) → low.var ≡ high.var → (low.off +ℤ len) ≤ℤ high.off → IsKeptApart edges low high len
+on_one_variable edges low high len same fits = record { walk = []; of_these = All-nil (Contains edges); leads = same; long = omega (arith, ints, fits) }
+
+by_inequality : (edges : List Edge) (low high : End) (len : ℤ) (why : Why) → (let e : Edge = at_least low.var high.var ((len -ℤ high.off) +ℤ low.off) why in Contains edges e) → IsKeptApart edges low high len
+by_inequality edges low high len why among =
+    let e : Edge = at_least low.var high.var ((len -ℤ high.off) +ℤ low.off) why in
+    record { walk = e ∷ []; of_these = All-cons (Contains edges) e [] among (All-nil (Contains edges)); leads = (refl, refl); long = omega (arith, ints) }
+
+-- two walks, one behind the other
+joined : (edges : List Edge) (a b c : End) (first second both : ℤ) → IsKeptApart edges a b first → IsKeptApart edges b c second → both ≤ℤ (first +ℤ second) → IsKeptApart edges a c both
+joined edges a b c first second both u v far =
+    let u_long = u.long in
+    let v_long = v.long in
+    let sum = walk_length-append u.walk v.walk in
+    record {
+      walk = u.walk ++ v.walk;
+      of_these = All-append (Contains edges) u.walk v.walk u.of_these v.of_these;
+      leads = IsWalk-append a.var u.walk b.var v.walk c.var u.leads v.leads;
+      long = omega (arith, ints, u_long, v_long, sum, far);
+    }
+
+-- what holds of the inequality between two ends, which is there where they lie on different variables alone
+the_one : (P : Edge → Type 0) (same : Bool) (e : Edge) → AllByRecursion P (cond same [] (e ∷ [])) → same ≡ false → P e
+the_one P true e h differ = cc
+the_one P false e h differ = h.0
+
+at_most_one : (P : Edge → Type 0) (same : Bool) (e : Edge) → P e → AllByRecursion P (cond same [] (e ∷ []))
+at_most_one P true e h = tt
+at_most_one P false e h = (h, tt)
+
+-- a walk stands for the inequality between two ends, and it for a walk
+by_between : (edges : List Edge) (low high : End) (len : ℤ) (why : Why) → AllByRecursion (Contains edges) (between low high len why) → FitsOn low high len → IsKeptApart edges low high len
+by_between edges low high len why among fits =
+    elim (cases_eq low.var high.var) [
+      | inl same ↦ on_one_variable edges low high len same (fits same)
+      | inr differ ↦ by_inequality edges low high len why (the_one (Contains edges) (eqb low.var high.var) _ among (ne_eqb low.var high.var differ))
+    ]
+
+implies_between : (edges : List Edge) (low high : End) (len : ℤ) (why : Why) → IsKeptApart edges low high len → AllByRecursion (IsImpliedBy edges) (between low high len why)
+implies_between edges low high len why w =
+    let long = w.long in
+    at_most_one (IsImpliedBy edges) (eqb low.var high.var) _ (record { walk = w.walk; of_these = w.of_these; leads = w.leads; long = omega (arith, ints, long) })
+
+-- ---- the list and the system
+
+-- what holds of each edge of the structure holds of the extents
+extents_of : (P : Edge → Type 0) (axis : Axis) (tech : Tech) (cell : Cell) (items : List Item) → AllByRecursion P (structure_of axis tech cell items)
+    → All (λ (i : Item). AllByRecursion P (extent_edges (item_along axis i))) items
+unfolding structure_of
+extents_of P axis tech cell items h =
+    let extents : List Edge = flat_map (λ (i : Item). extent_edges (item_along axis i)) items in
+    let others : List Edge =
+    flat_map (overlap_edges axis tech cell) (range_with_len 0 (length cell.wires)) ++ (flat_map (λ (i : Item). margin_edges tech (item_along axis i)) items ++ flat_map (limit_edges axis) cell.limits) in
+    all_of _ items (all_pieces P (λ (i : Item). extent_edges (item_along axis i)) items (all_parts P extents others h.1).0)
+
+-- What some inequalities have of a pass: walks that keep the ends of each item apart, and the inequalities of the kept pairs.
+record HasItsWalks (axis : Axis) (tech : Tech) (c : Coords) (items : List Item) (edges : List Edge) : Type 0 where
+  pub long : All (λ (i : Item). IsKeptApart edges (item_along axis i).xl (item_along axis i).xh (item_along axis i).least_x) items
+  pub spaces : All (λ (p : Pair). Contains edges (space_edge axis items p)) (kept_of axis tech c items)
+
+has_its_walks : (axis : Axis) (tech : Tech) (master : Master) (c : Coords) → IsLawful tech master
+    → HasItsWalks axis tech c master.items.list (list_over axis tech master.cell master.items.list c)
+has_its_walks axis tech master c lawful =
+    let items : List Item = master.items.list in
+    let edges : List Edge = list_over axis tech master.cell items c in
+    let kept : List Pair = kept_of axis tech c items in
+    let L : Edge → Type 0 = Contains edges in
+    let parts = all_parts L (structure_of axis tech master.cell items) (map (space_edge axis items) kept) (recursion_from_All L edges (All-contains_itself edges)) in
+    let extents = extents_of L axis tech master.cell items parts.0 in
+    record { long = λ k d lt. by_between edges _ _ _ Extent (extents k d lt) (lawful.lie axis k d lt).fits; spaces = all_of _ kept (all_unmap L (space_edge axis items) kept parts.1) }
+
+-- ends on one variable are as far apart as under any values
+constants_apart : (x : ℕ → ℤ) (high low : End) (s : ℤ) → high.var ≡ low.var → s ≤ℤ (end_under x low -ℤ end_under x high) → (high.off +ℤ s) ≤ℤ low.off
+constants_apart x high low s same apart = let at : x high.var ≡ x low.var = ap x same in omega (arith, ints, at, apart)
+
+-- a walk keeps the ends of each candidate apart
+candidate_walk : (axis : Axis) (tech : Tech) (c : Coords) (items : List Item) (edges : List Edge) → All (HasBox c) items → HasItsWalks axis tech c items edges → (i j : ℕ) (s : ℤ) → i < length items
+    → j < length items → spacing_at axis tech c items i j ≡ Some s → IsKeptApart edges (high_end axis items i) (low_end axis items j) s
+candidate_walk axis tech c items edges boxes walks =
+    let x : ℕ → ℤ = value_of (values_along axis c) in
+    let pairs : List Pair = candidates_of axis tech c items in
+    let high : ℕ → End = high_end axis items in
+    let low : ℕ → End = low_end axis items in
+    let S : Pair → Type 0 = λ p. Contains edges (space_edge axis items p) in
+    let K : Pair → Type 0 = λ p. is_kept axis tech c items p ≡ true → S p in
+    shows_of_candidates axis tech c items (λ i j s. IsKeptApart edges (high i) (low j) s) boxes
+    (λ i k j a b s k_lt first second far.
+    let item : Item = item_along axis (item_at items k) in
+    joined edges (high i) item.xh (low j) (a +ℤ item.least_x) b s
+    (joined edges (high i) item.xl item.xh a item.least_x (a +ℤ item.least_x) first (walks.long k no_item k_lt) (omega (arith, ints))) second far)
+    (λ i j s i_lt j_lt e constant.
+    let same = eqb-true (high i).var (low j).var constant in
+    let apart = All-contains (Keeps axis x items) pairs (record { i = i; j = j; s = s }) (candidates_apart axis tech c items) (is_candidate axis tech c items i j s i_lt j_lt e) in
+    on_one_variable edges (high i) (low j) s same (constants_apart x (high i) (low j) s same apart))
+    (λ i j s i_lt j_lt e is. by_inequality edges (high i) (low j) s Space
+    (All-contains K pairs (record { i = i; j = j; s = s }) (of_filtered S (is_kept axis tech c items) pairs walks.spaces) (is_candidate axis tech c items i j s i_lt j_lt e) is))
+
+-- so the list implies each inequality of the system
+system_implied : (axis : Axis) (tech : Tech) (master : Master) (c : Coords) → IsLawful tech master → All (HasBox c) master.items.list
+    → All (IsImpliedBy (list_over axis tech master.cell master.items.list c)) (system_over axis tech master.cell master.items.list c)
+system_implied axis tech master c lawful boxes =
+    let items : List Item = master.items.list in
+    let structure : List Edge = structure_of axis tech master.cell items in
+    let edges : List Edge = list_over axis tech master.cell items c in
+    let pairs : List Pair = candidates_of axis tech c items in
+    let I : Edge → Type 0 = IsImpliedBy edges in
+    let P : Pair → Type 0 = λ p. AllByRecursion I (space_edges axis items p) in
+    let listed : All I edges = All-weaker (Contains edges) I (implied_by_itself edges) edges (All-contains_itself edges) in
+    let parts = all_parts I structure (map (space_edge axis items) (kept_of axis tech c items)) (recursion_from_All I edges listed) in
+    let implied : All P pairs = all_candidates axis tech c items P (λ i j s i_lt j_lt e.
+    implies_between edges (high_end axis items i) (low_end axis items j) s Space (candidate_walk axis tech c items edges boxes (has_its_walks axis tech master c lawful) i j s i_lt j_lt e)) in
+    All-append I structure (spaces_of axis tech c items) (all_of I structure parts.0)
+    (all_of I (spaces_of axis tech c items) (all_flat I (space_edges axis items) pairs (recursion_from_All P pairs implied)))
 
 -- pruning loses nothing
 pub pruning : (tech : Tech) (master : Master) → IsLawful tech master → PruningLosesNothing tech master
 pruning tech master lawful = record {
   same_solutions = solutions_kept tech master lawful;
-  same_cycles = λ axis c laid. same_cycles axis tech master c lawful laid (solutions_kept tech master lawful axis c laid.of_master.boxes);
+  same_cycles = λ axis c boxes. cycles_alike _ _ (listed_among axis tech master.cell master.items.list c) (system_implied axis tech master c lawful boxes);
 }
