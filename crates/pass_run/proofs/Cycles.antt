@@ -1,7 +1,7 @@
 -- The list of a pass has a positive cycle exactly where its system has, and so pruning loses nothing: a walk along inequalities of kept pairs,
 -- and along extents of the items between, implies the inequality of each candidate.
 use Rattle.std.proofs.Common.{◌≡◌, ℕ, ◌<◌, Bool, true, false, cond, eqb, ℤ, ◌+ℤ◌, ◌-ℤ◌, ◌≤ℤ◌, List, [], ◌∷◌, ◌++◌, length, map, Some, refl, ap, inl, inr, arith}
-use Rattle.std.specs.List.{AllByRecursion, All, Contains, flat_map, range_with_len}
+use Rattle.std.specs.List.{AllByRecursion, All, Contains, flat_map}
 use Rattle.std.proofs.lemmas.Int.{ints}
 use Rattle.std.proofs.lemmas.Bool.{cases_eq, ne_eqb, eqb-true}
 use Rattle.std.proofs.lemmas.List.Elements.{All-nil, All-cons, All-append, All-weaker, All-contains, All-contains_itself, recursion_from_All}
@@ -24,7 +24,7 @@ use Rattle.sym_items.specs.Values.{value_of, end_under}
 use Rattle.cell_model.specs.declared.cell.Cell.{Cell}
 use Rattle.list_facts.proofs.Elements.{all_of, all_parts, all_unmap, all_flat, all_pieces}
 use Rattle.expand.specs.declared.master.Master.{Master}
-use Rattle.expand.specs.Structure.{at_least, between, extent_edges, margin_edges, overlap_edges, limit_edges, structure_of}
+use Rattle.expand.specs.Structure.{at_least, between, extent_edges, structure_of}
 use Rattle.expand.specs.Bounds.{FitsOn}
 use Rattle.expand.specs.Laws.{IsLawful}
 use Rattle.pair_rules.specs.declared.pairs.Pair.{Pair}
@@ -35,11 +35,11 @@ use Rattle.shadow_prune.proofs.PairLists.{of_filtered, all_candidates, is_candid
 use Rattle.shadow_prune.proofs.Pruning.{shows_of_candidates, candidates_apart}
 use Rattle.pass_run.specs.Pruning.{PruningLosesNothing}
 use Rattle.pass_run.specs.System.{space_edges, space_edge, spaces_of, system_over, list_over}
-use Rattle.pass_run.proofs.Meeting.{listed_among, solutions_kept}
+use Rattle.pass_run.proofs.Meeting.{the_one, listed_among, solutions_kept}
 
 -- ---- walks between ends
 
--- a walk among some inequalities keeps one end at least so far below another; it is empty where both lie on one variable, so far apart
+-- A walk among some inequalities keeps one end at least so far below another. It may be empty, where both lie on one variable.
 record IsKeptApart (edges : List Edge) (low high : End) (len : ℤ) : Type 0 where
   pub walk : List Edge
   pub of_these : All (Contains edges) walk
@@ -67,11 +67,7 @@ joined edges a b c first second both u v far =
       long = omega (arith, ints, u_long, v_long, sum, far);
     }
 
--- what holds of the inequality between two ends, which is there where they lie on different variables alone
-the_one : (P : Edge → Type 0) (same : Bool) (e : Edge) → AllByRecursion P (cond same [] (e ∷ [])) → same ≡ false → P e
-the_one P true e h differ = cc
-the_one P false e h differ = h.0
-
+-- what holds of the inequality between two ends, if there is one
 at_most_one : (P : Edge → Type 0) (same : Bool) (e : Edge) → P e → AllByRecursion P (cond same [] (e ∷ []))
 at_most_one P true e h = tt
 at_most_one P false e h = (h, tt)
@@ -91,15 +87,13 @@ implies_between edges low high len why w =
 
 -- ---- the list and the system
 
--- what holds of each edge of the structure holds of the extents
-extents_of : (P : Edge → Type 0) (axis : Axis) (tech : Tech) (cell : Cell) (items : List Item) → AllByRecursion P (structure_of axis tech cell items)
-    → All (λ (i : Item). AllByRecursion P (extent_edges (item_along axis i))) items
+-- the extents are part of the structure
+extents_of : (edges : List Edge) (axis : Axis) (tech : Tech) (cell : Cell) (items : List Item) → AllByRecursion (Contains edges) (structure_of axis tech cell items)
+    → All (λ (i : Item). AllByRecursion (Contains edges) (extent_edges (item_along axis i))) items
 unfolding structure_of
-extents_of P axis tech cell items h =
-    let extents : List Edge = flat_map (λ (i : Item). extent_edges (item_along axis i)) items in
-    let others : List Edge =
-    flat_map (overlap_edges axis tech cell) (range_with_len 0 (length cell.wires)) ++ (flat_map (λ (i : Item). margin_edges tech (item_along axis i)) items ++ flat_map (limit_edges axis) cell.limits) in
-    all_of _ items (all_pieces P (λ (i : Item). extent_edges (item_along axis i)) items (all_parts P extents others h.1).0)
+extents_of edges axis tech cell items h =
+    let f : Item → List Edge = λ i. extent_edges (item_along axis i) in
+    all_of _ items (all_pieces (Contains edges) f items (all_parts (Contains edges) (flat_map f items) _ h.1).0)
 
 -- What some inequalities have of a pass: walks that keep the ends of each item apart, and the inequalities of the kept pairs.
 record HasItsWalks (axis : Axis) (tech : Tech) (c : Coords) (items : List Item) (edges : List Edge) : Type 0 where
@@ -114,7 +108,7 @@ has_its_walks axis tech master c lawful =
     let kept : List Pair = kept_of axis tech c items in
     let L : Edge → Type 0 = Contains edges in
     let parts = all_parts L (structure_of axis tech master.cell items) (map (space_edge axis items) kept) (recursion_from_All L edges (All-contains_itself edges)) in
-    let extents = extents_of L axis tech master.cell items parts.0 in
+    let extents = extents_of edges axis tech master.cell items parts.0 in
     record { long = λ k d lt. by_between edges _ _ _ Extent (extents k d lt) (lawful.lie axis k d lt).fits; spaces = all_of _ kept (all_unmap L (space_edge axis items) kept parts.1) }
 
 -- ends on one variable are as far apart as under any values

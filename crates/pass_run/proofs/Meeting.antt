@@ -1,5 +1,5 @@
 -- Values that meet a master are the solutions of the list of a pass and of its system.
-use Rattle.std.proofs.Common.{◌≡◌, ◌≢◌, ℕ, false, eqb, ℤ, List, [], ◌∷◌, map, inl, inr, refl, ap, subst, arith}
+use Rattle.std.proofs.Common.{◌≡◌, ℕ, Bool, true, false, cond, ℤ, List, [], ◌∷◌, map, inl, inr, ap, arith}
 use Rattle.std.specs.Prelude.{Contains}
 use Rattle.std.specs.List.{AllByRecursion, All}
 use Rattle.std.proofs.lemmas.Int.{ints}
@@ -73,6 +73,11 @@ candidates_keep axis x tech c items meets =
 
 -- ---- the list and the system
 
+-- what holds of the inequality between two ends, which is there where they lie on different variables alone
+pub the_one : (P : Edge → Type 0) (same : Bool) (e : Edge) → AllByRecursion P (cond same [] (e ∷ [])) → same ≡ false → P e
+the_one P true e h differ = cc
+the_one P false e h differ = h.0
+
 -- what holds of the two parts
 system_parts : (P : Edge → Type 0) (axis : Axis) (tech : Tech) (cell : Cell) (items : List Item) (c : Coords) → All P (system_over axis tech cell items c)
     → AllByRecursion P (structure_of axis tech cell items) × AllByRecursion P (spaces_of axis tech c items)
@@ -95,14 +100,7 @@ listed_of_system P axis tech cell items c h =
     let of_kept : All Q kept = kept_among axis tech c items Q (all_of Q pairs (all_pieces P (space_edges axis items) pairs parts.1)) in
     let differ = kept_differs axis tech c items in
     All-append P (structure_of axis tech cell items) (map (space_edge axis items) kept) (all_of P (structure_of axis tech cell items) parts.0)
-    (All-map P (space_edge axis items) kept (λ k d lt. one P axis items _ (differ k d lt) (of_kept k d lt)))
-  where
-    one : (P : Edge → Type 0) (axis : Axis) (items : List Item) (p : Pair) → (high_end axis items p.i).var ≢ (low_end axis items p.j).var → AllByRecursion P (space_edges axis items p) → P (space_edge axis items p)
-    one P axis items p differ h =
-        let L : List Edge → Type 0 = AllByRecursion P in
-        let test : eqb (high_end axis items p.i).var (low_end axis items p.j).var ≡ false = ne_eqb _ _ differ in
-        let is : space_edges axis items p ≡ space_edge axis items p ∷ [] = rw test refl in
-        (subst L is h).0
+    (All-map P (space_edge axis items) kept (λ k d lt. the_one P _ _ (of_kept k d lt) (ne_eqb _ _ (differ k d lt))))
 
 -- each listed inequality is one of the system's
 pub listed_among : (axis : Axis) (tech : Tech) (cell : Cell) (items : List Item) (c : Coords) → All (Contains (system_over axis tech cell items c)) (list_over axis tech cell items c)
