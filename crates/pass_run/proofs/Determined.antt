@@ -33,7 +33,7 @@ one_least vars system x y n m a b = ext_get_or (pos 0) x y (n ∙ sym m) (λ v l
     omega (arith, ints, below, above))
 
 -- two passes on one axis over one layout are one
-one_pass : (tech : Tech) (cell : Cell) (items : List Item) (c : Coords) (s t : Step) → t.axis ≡ s.axis → IsLeastPass tech cell items c s → IsLeastPass tech cell items c t
+pub one_pass : (tech : Tech) (cell : Cell) (items : List Item) (c : Coords) (s t : Step) → t.axis ≡ s.axis → IsLeastPass tech cell items c s → IsLeastPass tech cell items c t
     → IsRecorded tech cell items c s → IsRecorded tech cell items c t → s ≡ t
 one_pass tech cell items c s t e least_s least_t rec_s rec_t =
     let vars : Axis → ℕ = λ a. variables_of a cell in

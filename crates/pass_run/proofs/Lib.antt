@@ -7,3 +7,4 @@ pub mod Chain
 pub mod Going
 pub mod Cycles
 pub mod Determined
+pub mod OneRefusal

@@ -1,7 +1,10 @@
 //! What it says of a master that values of an axis meet its structure and its kept pairs.
 
 ghost use Rattle.expand.specs.Masters.{IsMaster};
+ghost use Rattle.lam_geom.specs.declared.boxes.Axis.{Axis as SomeAxis};
 ghost use Rattle.pass_run.specs.Passes.{AreDetermined};
+ghost use Rattle.pass_run.specs.PassFaults.{AreRefusedInOneWay};
+ghost use Rattle.std.specs.Prelude.{List};
 ghost use Rattle.pass_run.specs.Meeting.{MeetingIsSolving, MeetingStays};
 
 use cell_model::Cell;
@@ -29,4 +32,10 @@ pub fn meeting_stays_laid_out(tech: &Tech, master: &Master)
 /// A law, with nothing to run: passes over a layout are determined by their axes, with all that is recorded of them.
 pub fn passes_are_determined(tech: &Tech, cell: &Cell, items: &[Item], before: &Coords)
     ensures { AreDetermined tech.now cell.now items.now before.now }
+{}
+
+/// A law, with nothing to run: passes on these axes are refused in one way at most, with one report, and not at all where
+/// they are made. That memory runs out may come besides.
+pub fn refusals_are_determined(tech: &Tech, cell: &Cell, items: &[Item])
+    ensures { (axes : List SomeAxis) → AreRefusedInOneWay tech.now cell.now items.now axes }
 {}

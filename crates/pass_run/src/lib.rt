@@ -13,6 +13,8 @@ mod passes;
 mod step;
 mod text;
 
-pub use laws::{meeting_is_solving, meeting_stays_laid_out, passes_are_determined};
+pub use laws::{
+    meeting_is_solving, meeting_stays_laid_out, passes_are_determined, refusals_are_determined,
+};
 pub use passes::{PassFault, Passes, run_passes};
 pub use step::{Step, Walk};

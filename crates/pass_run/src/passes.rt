@@ -10,10 +10,11 @@ ghost use Rattle.pass_run.specs.Passes.{layout_after, ArePasses, axes_of};
 ghost use Rattle.pass_run.specs.Report.{report_of};
 ghost use Rattle.pass_run.specs.Theorems.{IsWellPlaced, AreSound};
 ghost use Rattle.pass_run.specs.Pruning.{PruningLosesNothing};
-ghost use Rattle.pass_run.specs.PassFaults.{RefusesPasses};
+ghost use Rattle.pass_run.specs.PassFaults.{AreRefusedInOneWay, AreSolvable, RefusesPasses, StopsAtFirst};
 ghost use Rattle.pass_run.specs.Going.{IsGoing};
 ghost use Rattle.pass_run.specs.declared.passes.PassFault.TheVariants.{OutOfMemory};
 
+use crate::laws::refusals_are_determined;
 use crate::pass::{Made, Stop, one_pass};
 use crate::step::Step;
 use coarse_grid::{start, start_is_a_layout};
@@ -203,8 +204,13 @@ pub fn run_passes(
     // pruning loses nothing, whatever the answer
     ensures pruning { PruningLosesNothing tech.now master.now }
     ensures refused { IfErr result (RefusesPasses tech.now master.now.cell master.now.items.list axes.now) }
+    // Passes are made exactly where each has values, and a refusal names the first that has none. No other refusal fits these axes.
+    ensures solvable { IfOk result (λ p. AreSolvable tech.now master.now.cell master.now.items.list (start_of tech.now master.now.cell) p.steps) }
+    ensures first { IfErr result (StopsAtFirst tech.now master.now.cell master.now.items.list axes.now) }
+    ensures in_one_way { AreRefusedInOneWay tech.now master.now.cell master.now.items.list axes.now }
 {
     master_is_lawful(tech, master);
+    refusals_are_determined(tech, &master.cell, master.items.list.as_slice());
     let mut so_far = none_yet(alloc, tech, master)?;
     for axis in axes {
         so_far = go_on(alloc, tech, master, *axis, so_far)?;

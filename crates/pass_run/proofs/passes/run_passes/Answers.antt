@@ -7,9 +7,11 @@ use Rattle.coarse_grid.specs.Start.{start_of}
 use Rattle.pass_run.specs.declared.step.Step.{Step}
 use Rattle.pass_run.specs.Passes.{layout_after, axes_of}
 use Rattle.pass_run.specs.Theorems.{IsWellPlaced}
+use Rattle.pass_run.specs.PassFaults.{AreSolvable}
 use Rattle.pass_run.proofs.Chain.{axes_counted}
 use Rattle.pass_run.proofs.Going.{going_placed, refused_there}
 use Rattle.pass_run.proofs.Cycles.{pruning}
+use Rattle.pass_run.proofs.OneRefusal.{passes_solvable, stops_at_first}
 use Rattle.pass_run.proofs.passes.run_passes.Goals as goal
 
 pub go_on-requires-clause-few : goal.go_on-requires-clause-few
@@ -48,3 +50,17 @@ returns-in_err-given-clause-pruning c = pruning c.args.tech.now c.args.master.no
 
 pub returns-clause-pruning : goal.returns-clause-pruning
 returns-clause-pruning c = pruning c.args.tech.now c.args.master.now c.master_is_lawful.ensures
+
+pub returns-clause-solvable : goal.returns-clause-solvable
+returns-clause-solvable c =
+    let S : List Step → Type 0 = λ steps. AreSolvable c.args.tech.now c.args.master.now.cell c.args.master.now.items.list (start_of c.args.tech.now c.args.master.now.cell) steps in
+    subst S (sym c.in_ok-given.ensures.steps) (passes_solvable c.args.tech.now c.args.master.now.cell c.args.master.now.items.list _ _ c.loop-axis.invariant.going.made)
+
+pub returns-in_err-so_far-2-clause-first : goal.returns-in_err-so_far-2-clause-first
+returns-in_err-so_far-2-clause-first c =
+    let p = err_from_is_err_and c.from_residual-in_err-so_far-2.result c.from_residual-in_err-so_far-2.ensures.1 in
+    let r = c.in_err-so_far-2.ensures.refused (drop (suc c.loop-axis.axis-index) c.args.axes.now) in
+    rw (p.1, p.2)
+    (stops_at_first c.args.tech.now c.args.master.now.cell c.args.master.now.items.list c.args.axes.now _
+    (refused_there c.args.tech.now c.args.master.now.cell c.args.master.now.items.list c.args.axes.now (axes_of c.loop-axis.so_far.steps.items) c.loop-axis.axis-index X _
+    (omega arith) c.loop-axis.invariant.axes r))
