@@ -22,7 +22,7 @@ mod LineSteps
 pub mod TableReads
 mod UseSteps
 mod WireSteps
+mod Judged
 mod Refused
-mod RefusedUses
 pub mod Stepping
 pub mod StepsInlined

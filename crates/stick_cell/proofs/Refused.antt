@@ -1,159 +1,247 @@
--- A wire that is refused breaks the rule of its kind.
-use Rattle.std.proofs.Common.{◌≡◌, ◌≢◌, ℕ, ◌<◌, ◌==◌, ◌%◌, nat_lt, nat_le, Bool, true, false, not, ◌&&◌, ◌||◌, cond, ℤ, pos, List, Option, Some, None, Result, Ok, Err, IsTrue, refl, sym, ap, subst, ◌∙◌, inl, inr, arith}
-use Rattle.std.specs.Prelude.{◌⊎◌, int_le, ◌<ℤ◌}
-use Rattle.std.proofs.lemmas.Bool.Decides.{nat_tests}
-use Rattle.std.proofs.lemmas.Int.{ints}
+-- A line or a cell that is refused breaks the rule of its kind, and one that is not refused breaks none.
+use Rattle.std.proofs.Common.{◌≡◌, ◌≢◌, ℕ, ◌+◌, ◌==◌, ◌%◌, nat_lt, nat_le, Bool, true, false, not, ◌&&◌, ◌||◌, cond, ℤ, pos, List, [], ◌∷◌, ◌++◌, Option, Some, None, Result, Ok, Err, refl, sym, ap, subst, ◌∙◌, inl, inr}
+use Rattle.std.specs.Prelude.{◌⊎◌, int_le, ◌<ℤ◌, bytes_eq}
 use Rattle.rule_table.specs.declared.technology.Tech.{Tech}
 use Rattle.rule_table.specs.declared.classes.Layer.{Layer}
+use Rattle.rule_table.specs.declared.classes.Layer.TheVariants.{Diffusion, Poly}
 use Rattle.rule_table.specs.Technology.{width_of}
 use Rattle.lam_geom.specs.declared.boxes.Side.{Side}
 use Rattle.lam_geom.specs.declared.boxes.Side.TheVariants.{Left, Right, Bottom, Top}
 use Rattle.stick_parse.specs.declared.fault.StickKind.{StickKind}
-use Rattle.stick_parse.specs.declared.fault.StickKind.TheVariants.{WrongTerminal, NotStraight, WrongLayer, WrongSide, PortWires, BadSize, NarrowWire, WideWire}
+use Rattle.stick_parse.specs.declared.fault.StickKind.TheVariants.{WrongTerminal, NotStraight, WrongLayer, WrongSide, PortWires, BadSize, NarrowWire, WideWire, RepeatedName, UnknownName, UseCycle, UseDepth, UsedPorts, FarPlace, BadLimit}
+use Rattle.stick_parse.specs.declared.fault.StickFault.{StickFault}
+use Rattle.stick_parse.specs.declared.design.Form.{Form}
+use Rattle.stick_parse.specs.declared.design.Form.TheVariants as forms
+use Rattle.stick_parse.specs.declared.design.Line.{Line}
+use Rattle.stick_parse.specs.declared.design.CellText.{CellText}
 use Rattle.stick_parse.specs.Reading.{◌>>=◌}
-use Rattle.cell_model.specs.declared.cell.Wire.{Wire}
+use Rattle.stick_parse.specs.Order.{at_line}
 use Rattle.cell_model.specs.Wiring.{axis_of, is_low_side, is_same_axis}
+use Rattle.stick_cell.specs.declared.names.Spot.{Spot}
 use Rattle.stick_cell.specs.declared.names.Terminal.{Terminal}
 use Rattle.stick_cell.specs.declared.names.Terminal.TheVariants.{Node, Port}
 use Rattle.stick_cell.specs.declared.names.Found.{Found}
 use Rattle.stick_cell.specs.declared.names.Found.TheVariants.{At, AtCopy, Through}
 use Rattle.stick_cell.specs.declared.names.Run.{Run}
-use Rattle.stick_cell.specs.Checks.{demand, is_even_size, sized}
-use Rattle.stick_cell.specs.Wires.{line_of, run_between, straight, takes_layer, takes_along, is_free, is_within_pad, at_both, wire_along, wire_on, wire_between}
-use Rattle.stick_cell.specs.Refusals.{IsOpposite, IsNotStraight, IsRefusedAtEnd, IsWrongWire, IsRefusedWire}
-use Rattle.stick_cell.proofs.Accepted.{eq_from_test, apart_from_test}
+use Rattle.stick_cell.specs.Known.{Known, begun, known_at, greatest_col, greatest_row}
+use Rattle.stick_cell.specs.Paths.{found_at}
+use Rattle.stick_cell.specs.Checks.{demand, is_fresh, is_place, is_even_size, is_channel, layer_of, sized}
+use Rattle.stick_cell.specs.Wires.{known_name, line_of, run_between, straight, takes_layer, takes_along, is_free, is_within_pad, at_both, wire_on, wire_between, limited}
+use Rattle.stick_cell.specs.Lines.{number_of, known_number, is_empty, wired_of, is_wired, is_new_cell, with_use, after_joint, after_contact, after_fet, after_port, after_use, after_wire, after_limit, after_form, after_lines, after_cell}
+use Rattle.stick_cell.specs.Refusals.{IsTaken, IsFar, IsOddOrLarge, IsWrongWidth, IsWrongChannel, IsOpposite, IsNotStraight, IsRefusedAtEnd, IsWrongRun, IsRefusedWire, IsWrongLimit, IsWrongCopy, IsWrongUse, IsWrongBetween, IsWrongLine, IsAt, IsWrongAmong, IsWrongCell}
+use Rattle.stick_cell.proofs.Accepted.{bound, ok_same, at_line_ok, eq_from_test, apart_from_test, known_number_ok, straight_ok}
+use Rattle.stick_cell.proofs.Judged.{Denies, Judges, both_deny, test_denies, not_denies, even_denies, at_most_denies, below_denies, some_denies, apart_denies, wide_denies, empty_denies, fails, passes, tested, then, then_with, last}
 
--- ---- tests that follow each other
+-- ---- names, places and sizes
 
-pub same_kind : {A : Type 0} (k kind : StickKind) → ◌≡◌ {A = Result A StickKind} (Err k) (Err kind) → k ≡ kind
-same_kind k kind e = cc
+fresh : (known : Known) (name : List ℕ) → Judges (demand (is_fresh known.names name) RepeatedName) (IsTaken known name)
+fresh known name = tested (is_fresh known.names name) RepeatedName (test_denies (is_fresh known.names name))
 
-pub or_refused : {A : Type 0} (b : Bool) (k kind : StickKind) (rest : Result A StickKind) → (demand b k >>= λ u. rest) ≡ Err kind → ((b ≡ false) × (k ≡ kind)) ⊎ (rest ≡ Err kind)
-or_refused true k kind rest e = inr e
-or_refused false k kind rest e = inl (refl, same_kind k kind e)
+near : (col row : ℕ) → Judges (demand (is_place col && is_place row) FarPlace) (IsFar col row)
+near col row = tested (is_place col && is_place row) FarPlace (both_deny (is_place col) (is_place row) (at_most_denies col 4095) (at_most_denies row 4095))
 
-pub both_false : (x y : Bool) → (x && y) ≡ false → IsTrue (not x) ⊎ IsTrue (not y)
-both_false true true e = absurd (cc)
-both_false true false e = inr refl
-both_false false y e = inl refl
+even_size : (n : ℕ) → Denies (is_even_size n) (IsOddOrLarge n)
+even_size n = both_deny (n % 2 == 0) (nat_le n 4096) (even_denies n) (at_most_denies n 4096)
 
--- ---- straight runs
+channel : (tech : Tech) (w l : ℕ) → Judges (demand (is_channel tech w l) BadSize) (IsWrongChannel tech w l)
+channel tech w l = tested (is_channel tech w l) BadSize (both_deny (is_even_size w && is_even_size l) (int_le (width_of tech Diffusion) (pos w) && int_le (width_of tech Poly) (pos l))
+    (both_deny (is_even_size w) (is_even_size l) (even_size w) (even_size l))
+    (both_deny (int_le (width_of tech Diffusion) (pos w)) (int_le (width_of tech Poly) (pos l)) (wide_denies (width_of tech Diffusion) (pos w)) (wide_denies (width_of tech Poly) (pos l))))
 
-if_none : (m n : ℕ) (run : Run) → cond (m == n) (Some run) None ≡ None → m ≢ n
-if_none m n run e = by (m == n) refl e
-  where
-    by : (b : Bool) → (m == n) ≡ b → cond b (Some run) None ≡ None → m ≢ n
-    by true is none = absurd (cc)
-    by false is none = apart_from_test m n (ap not is)
+some_same : (m n : ℕ) → Some m ≡ Some n → m ≡ n
+some_same m n e = cc
 
-no_nodes : (a b c d : ℕ) (across up : Run) → cond ((c == d) && not (a == b)) (Some across) (cond ((a == b) && not (c == d)) (Some up) None) ≡ None → ((a ≡ b) × (c ≡ d)) ⊎ ((a ≢ b) × (c ≢ d))
-no_nodes a b c d across up e = by (a == b) (c == d) refl refl e
-  where
-    by : (x y : Bool) → (a == b) ≡ x → (c == d) ≡ y → cond (y && not x) (Some across) (cond (x && not y) (Some up) None) ≡ None → ((a ≡ b) × (c ≡ d)) ⊎ ((a ≢ b) × (c ≢ d))
-    by true true x y none = inl (eq_from_test a b x, eq_from_test c d y)
-    by false false x y none = inr (apart_from_test a b (ap not x), apart_from_test c d (ap not y))
-    by true false x y none = absurd (cc)
-    by false true x y none = absurd (cc)
-
-no_ports : (s t : Side) (m n : ℕ) (run : Run) → cond (is_same_axis (axis_of s) (axis_of t) && (not (is_low_side s) && is_low_side t || is_low_side s && not (is_low_side t)) && (m == n)) (Some run) None ≡ None → IsOpposite s t → m ≢ n
-no_ports Left Right m n run e is = if_none m n run e
-no_ports Right Left m n run e is = if_none m n run e
-no_ports Bottom Top m n run e is = if_none m n run e
-no_ports Top Bottom m n run e is = if_none m n run e
-no_ports Left Left m n run e is = absurd is
-no_ports Left Bottom m n run e is = absurd is
-no_ports Left Top m n run e is = absurd is
-no_ports Right Right m n run e is = absurd is
-no_ports Right Bottom m n run e is = absurd is
-no_ports Right Top m n run e is = absurd is
-no_ports Bottom Left m n run e is = absurd is
-no_ports Bottom Right m n run e is = absurd is
-no_ports Bottom Bottom m n run e is = absurd is
-no_ports Top Left m n run e is = absurd is
-no_ports Top Right m n run e is = absurd is
-no_ports Top Top m n run e is = absurd is
-
-no_run : (a b : Terminal) → run_between a b ≡ None → IsNotStraight a b
-no_run (Node a) (Node b) e = no_nodes a.col b.col a.row b.row _ _ e
-no_run (Node a) (Port q) e = if_none (line_of (axis_of q.side) a) q.place _ e
-no_run (Port p) (Node b) e = if_none (line_of (axis_of p.side) b) p.place _ e
-no_run (Port p) (Port q) e = no_ports p.side q.side p.place q.place _ e
-
--- ---- sizes
-
-less : (a b : ℤ) → int_le a b ≡ false → b <ℤ a
-less a b e = grind (arith, ints)
-
-wrong_size : (w : ℕ) → (is_even_size w && nat_lt 0 w) ≡ false → (w ≡ 0) ⊎ (w % 2 ≢ 0) ⊎ (4096 < w)
-wrong_size w e = by (w % 2 == 0) (nat_le w 4096) (nat_lt 0 w) refl refl refl e
-  where
-    by : (x y z : Bool) → (w % 2 == 0) ≡ x → nat_le w 4096 ≡ y → nat_lt 0 w ≡ z → ((x && y) && z) ≡ false → (w ≡ 0) ⊎ (w % 2 ≢ 0) ⊎ (4096 < w)
-    by true true true even small some none = absurd (cc)
-    by true true false even small some none = inl (grind (arith, nat_tests))
-    by true false z even small some none = inr (inr (grind (arith, nat_tests)))
-    by false y z even small some none = inr (inl (apart_from_test (w % 2) 0 (ap not even)))
-
--- what is wrong with a size that is refused
-wrong_sized : (tech : Tech) (wired : List Bool) (layer : Layer) (a b : Terminal) (width : Option ℕ) (kind : StickKind) → sized tech layer width ≡ Err kind → IsWrongWire tech wired layer a b width kind
+width : (tech : Tech) (layer : Layer) (given : Option ℕ) → Judges (sized tech layer given) (IsWrongWidth tech layer given)
 unfolding sized
-wrong_sized tech wired layer a b None kind e = absurd (cc)
-wrong_sized tech wired layer a b (Some w) kind e = even (or_refused (is_even_size w && nat_lt 0 w) BadSize kind (demand (int_le (width_of tech layer) (pos w)) NarrowWire >>= λ u. Ok (pos w)) e)
+width tech layer None = passes (width_of tech layer) (λ kind wrong. absurd (cc))
+width tech layer (Some w) = record { refused = λ kind is. (w, refl, given.refused kind is); accepted = λ size is kind wrong. same_width size kind is wrong }
   where
-    wide : ((int_le (width_of tech layer) (pos w) ≡ false) × (NarrowWire ≡ kind)) ⊎ (◌≡◌ {A = Result ℤ StickKind} (Ok (pos w)) (Err kind)) → IsWrongWire tech wired layer a b (Some w) kind
-    wide (inl (is, same)) = subst (IsWrongWire tech wired layer a b (Some w)) same (w, refl, less (width_of tech layer) (pos w) is)
-    wide (inr e) = absurd (cc)
+    given : Judges (sized tech layer (Some w)) (λ kind. ((kind ≡ BadSize) × (IsOddOrLarge w ⊎ (w ≡ 0))) ⊎ ((kind ≡ NarrowWire) × (pos w <ℤ width_of tech layer)))
+    given = then (demand (is_even_size w && nat_lt 0 w) BadSize) _ (tested (is_even_size w && nat_lt 0 w) BadSize (both_deny (is_even_size w) (nat_lt 0 w) (even_size w) (some_denies w))) λ u.
+        last (demand (int_le (width_of tech layer) (pos w)) NarrowWire) _ (tested (int_le (width_of tech layer) (pos w)) NarrowWire (wide_denies (width_of tech layer) (pos w)))
 
-    even : (((is_even_size w && nat_lt 0 w) ≡ false) × (BadSize ≡ kind)) ⊎ ((demand (int_le (width_of tech layer) (pos w)) NarrowWire >>= λ u. Ok (pos w)) ≡ Err kind) → IsWrongWire tech wired layer a b (Some w) kind
-    even (inl (is, same)) = subst (IsWrongWire tech wired layer a b (Some w)) same (w, refl, wrong_size w is)
-    even (inr e) = wide (or_refused (int_le (width_of tech layer) (pos w)) NarrowWire kind (Ok (pos w)) e)
+    same_width : (size : ℤ) (kind : StickKind) → sized tech layer (Some w) ≡ Ok size → IsWrongWidth tech layer (Some w) kind → ⊥
+    same_width size kind is (n, same, wrong) = given.accepted size is kind (subst (λ m. ((kind ≡ BadSize) × (IsOddOrLarge m ⊎ (m ≡ 0))) ⊎ ((kind ≡ NarrowWire) × (pos m <ℤ width_of tech layer))) (sym (some_same w n same)) wrong)
 
--- ---- the tests of a run, one after the other
+-- ---- wires
 
--- a test at both ends that is not passed
-at_end : (test : Terminal → Bool) (run : Run) → at_both test run ≡ false → IsRefusedAtEnd test run
-at_end test run e = both_false (test run.low) (test run.high) e
-
-abbrev pads_then : Tech → Layer → Run → ℤ → Result Wire StickKind
-pads_then tech layer run size = demand (at_both (is_within_pad tech layer size) run) WideWire >>= λ pads. Ok (wire_along layer run size)
-
-abbrev free_then : Tech → List Bool → Layer → Option ℕ → Run → Result Wire StickKind
-free_then tech wired layer width run = demand (at_both (is_free wired) run) PortWires >>= λ free. sized tech layer width >>= pads_then tech layer run
-
-abbrev sides_then : Tech → List Bool → Layer → Option ℕ → Run → Result Wire StickKind
-sides_then tech wired layer width run = demand (at_both (takes_along layer run.along) run) WrongSide >>= λ sides. free_then tech wired layer width run
-
-wrong_run : (tech : Tech) (wired : List Bool) (layer : Layer) (a b : Terminal) (width : Option ℕ) (kind : StickKind) (run : Run) → run_between a b ≡ Some run → wire_on tech wired layer width run ≡ Err kind
-    → IsWrongWire tech wired layer a b width kind
-wrong_run tech wired layer a b width kind run is e = layers (or_refused (at_both (takes_layer layer) run) WrongLayer kind (sides_then tech wired layer width run) e)
+-- equal numbers make a run
+if_same : {Wrong : Type 0} (m n : ℕ) (run : Run) → (m ≢ n → Wrong) → (m ≡ n → Wrong → ⊥) → Judges (straight (cond (m == n) (Some run) None)) (λ kind. (kind ≡ NotStraight) × Wrong)
+if_same {Wrong = Wrong} m n run bad good = by (m == n) refl
   where
-    pads : (size : ℤ) → sized tech layer width ≡ Ok size → ((at_both (is_within_pad tech layer size) run ≡ false) × (WideWire ≡ kind)) ⊎ (◌≡◌ {A = Result Wire StickKind} (Ok (wire_along layer run size)) (Err kind)) → IsWrongWire tech wired layer a b width kind
-    pads size of (inl (wide, same)) = subst (IsWrongWire tech wired layer a b width) same (run, size, is, of, at_end (is_within_pad tech layer size) run wide)
-    pads size of (inr e) = absurd (cc)
+    by : (b : Bool) → (m == n) ≡ b → Judges (straight (cond b (Some run) None)) (λ kind. (kind ≡ NotStraight) × Wrong)
+    by true is = passes run (λ kind wrong. good (eq_from_test m n is) wrong.1)
+    by false is = fails NotStraight (refl, bad (apart_from_test m n (ap not is)))
 
-    sizes : (r : Result ℤ StickKind) → sized tech layer width ≡ r → (r >>= pads_then tech layer run) ≡ Err kind → IsWrongWire tech wired layer a b width kind
-    sizes (Err k) of e = wrong_sized tech wired layer a b width kind (of ∙ ap Err (same_kind {A = Wire} k kind e))
-    sizes (Ok size) of e = pads size of (or_refused (at_both (is_within_pad tech layer size) run) WideWire kind (Ok (wire_along layer run size)) e)
+of_line : (m n : ℕ) (run : Run) → Judges (straight (cond (m == n) (Some run) None)) (λ kind. (kind ≡ NotStraight) × (m ≢ n))
+of_line m n run = if_same m n run (λ apart. apart) (λ same apart. apart same)
 
-    free : ((at_both (is_free wired) run ≡ false) × (PortWires ≡ kind)) ⊎ ((sized tech layer width >>= pads_then tech layer run) ≡ Err kind) → IsWrongWire tech wired layer a b width kind
-    free (inl (taken, same)) = subst (IsWrongWire tech wired layer a b width) same (run, is, at_end (is_free wired) run taken)
-    free (inr e) = sizes (sized tech layer width) refl e
+of_nodes : (a b c d : ℕ) (across up : Run) → Judges (straight (cond ((c == d) && not (a == b)) (Some across) (cond ((a == b) && not (c == d)) (Some up) None))) (λ kind. (kind ≡ NotStraight) × (((a ≡ b) × (c ≡ d)) ⊎ ((a ≢ b) × (c ≢ d))))
+of_nodes a b c d across up = by (a == b) (c == d) refl refl
+  where
+    by : (x y : Bool) → (a == b) ≡ x → (c == d) ≡ y → Judges (straight (cond (y && not x) (Some across) (cond (x && not y) (Some up) None))) (λ kind. (kind ≡ NotStraight) × (((a ≡ b) × (c ≡ d)) ⊎ ((a ≢ b) × (c ≢ d))))
+    by true true x y = fails NotStraight (refl, inl (eq_from_test a b x, eq_from_test c d y))
+    by false false x y = fails NotStraight (refl, inr (apart_from_test a b (ap not x), apart_from_test c d (ap not y)))
+    by true false x y = passes up (λ kind wrong. one (apart_from_test c d (ap not y)) wrong.1)
+      where
+        one : c ≢ d → ((a ≡ b) × (c ≡ d)) ⊎ ((a ≢ b) × (c ≢ d)) → ⊥
+        one apart (inl both) = apart both.1
+        one apart (inr neither) = neither.0 (eq_from_test a b x)
+    by false true x y = passes across (λ kind wrong. one (apart_from_test a b (ap not x)) wrong.1)
+      where
+        one : a ≢ b → ((a ≡ b) × (c ≡ d)) ⊎ ((a ≢ b) × (c ≢ d)) → ⊥
+        one apart (inl both) = apart both.0
+        one apart (inr neither) = neither.1 (eq_from_test c d y)
 
-    sides : ((at_both (takes_along layer run.along) run ≡ false) × (WrongSide ≡ kind)) ⊎ (free_then tech wired layer width run ≡ Err kind) → IsWrongWire tech wired layer a b width kind
-    sides (inl (across, same)) = subst (IsWrongWire tech wired layer a b width) same (run, is, at_end (takes_along layer run.along) run across)
-    sides (inr e) = free (or_refused (at_both (is_free wired) run) PortWires kind (sized tech layer width >>= pads_then tech layer run) e)
+of_opposite : (m n : ℕ) (run : Run) → Judges (straight (cond (m == n) (Some run) None)) (λ kind. (kind ≡ NotStraight) × (Unit {0} → m ≢ n))
+of_opposite m n run = if_same m n run (λ apart is. apart) (λ same wrong. wrong tt same)
 
-    layers : ((at_both (takes_layer layer) run ≡ false) × (WrongLayer ≡ kind)) ⊎ (sides_then tech wired layer width run ≡ Err kind) → IsWrongWire tech wired layer a b width kind
-    layers (inl (other, same)) = subst (IsWrongWire tech wired layer a b width) same (run, is, at_end (takes_layer layer) run other)
-    layers (inr e) = sides (or_refused (at_both (takes_along layer run.along) run) WrongSide kind (free_then tech wired layer width run) e)
+of_ports : (s t : Side) (m n : ℕ) (run : Run) → Judges (straight (cond (is_same_axis (axis_of s) (axis_of t) && (not (is_low_side s) && is_low_side t || is_low_side s && not (is_low_side t)) && (m == n)) (Some run) None))
+    (λ kind. (kind ≡ NotStraight) × (IsOpposite s t → m ≢ n))
+of_ports Left Right m n run = of_opposite m n run
+of_ports Right Left m n run = of_opposite m n run
+of_ports Bottom Top m n run = of_opposite m n run
+of_ports Top Bottom m n run = of_opposite m n run
+of_ports Left Left m n run = fails NotStraight (refl, λ is. absurd is)
+of_ports Left Bottom m n run = fails NotStraight (refl, λ is. absurd is)
+of_ports Left Top m n run = fails NotStraight (refl, λ is. absurd is)
+of_ports Right Right m n run = fails NotStraight (refl, λ is. absurd is)
+of_ports Right Bottom m n run = fails NotStraight (refl, λ is. absurd is)
+of_ports Right Top m n run = fails NotStraight (refl, λ is. absurd is)
+of_ports Bottom Left m n run = fails NotStraight (refl, λ is. absurd is)
+of_ports Bottom Right m n run = fails NotStraight (refl, λ is. absurd is)
+of_ports Bottom Bottom m n run = fails NotStraight (refl, λ is. absurd is)
+of_ports Top Left m n run = fails NotStraight (refl, λ is. absurd is)
+of_ports Top Right m n run = fails NotStraight (refl, λ is. absurd is)
+of_ports Top Top m n run = fails NotStraight (refl, λ is. absurd is)
 
-pub refused_wire : (tech : Tech) (wired : List Bool) (layer : Layer) (a b : Found) (width : Option ℕ) (kind : StickKind) → wire_between tech wired layer a b width ≡ Err kind → IsRefusedWire tech wired layer a b width kind
+of_run : (a b : Terminal) → Judges (straight (run_between a b)) (λ kind. (kind ≡ NotStraight) × IsNotStraight a b)
+of_run (Node a) (Node b) = of_nodes a.col b.col a.row b.row _ _
+of_run (Node a) (Port q) = of_line (line_of (axis_of q.side) a) q.place _
+of_run (Port p) (Node b) = of_line (line_of (axis_of p.side) b) p.place _
+of_run (Port p) (Port q) = of_ports p.side q.side p.place q.place _
+
+at_ends : (test : Terminal → Bool) (run : Run) (kind : StickKind) → Judges (demand (at_both test run) kind) (λ k. (k ≡ kind) × IsRefusedAtEnd test run)
+at_ends test run kind = tested (at_both test run) kind (both_deny (test run.low) (test run.high) (test_denies (test run.low)) (test_denies (test run.high)))
+
+along_run : (tech : Tech) (wired : List Bool) (layer : Layer) (given : Option ℕ) (run : Run) → Judges (wire_on tech wired layer given run) (IsWrongRun tech wired layer given run)
+along_run tech wired layer given run =
+    then (demand (at_both (takes_layer layer) run) WrongLayer) _ (at_ends (takes_layer layer) run WrongLayer) λ u.
+    then (demand (at_both (takes_along layer run.along) run) WrongSide) _ (at_ends (takes_along layer run.along) run WrongSide) λ u.
+    then (demand (at_both (is_free wired) run) PortWires) _ (at_ends (is_free wired) run PortWires) λ u.
+    then_with (sized tech layer given) _ (width tech layer given) (λ size is. is) (λ size is. is) λ size is.
+    last (demand (at_both (is_within_pad tech layer size) run) WideWire) _ (at_ends (is_within_pad tech layer size) run WideWire)
+
+pub wire : (tech : Tech) (wired : List Bool) (layer : Layer) (a b : Found) (given : Option ℕ) → Judges (wire_between tech wired layer a b given) (IsRefusedWire tech wired layer a b given)
 unfolding wire_between
-refused_wire tech wired layer AtCopy b width kind e = sym (same_kind {A = Wire} WrongTerminal kind e)
-refused_wire tech wired layer Through b width kind e = sym (same_kind {A = Wire} WrongTerminal kind e)
-refused_wire tech wired layer (At a) AtCopy width kind e = sym (same_kind {A = Wire} WrongTerminal kind e)
-refused_wire tech wired layer (At a) Through width kind e = sym (same_kind {A = Wire} WrongTerminal kind e)
-refused_wire tech wired layer (At a) (At b) width kind e = by (run_between a b) refl e
+wire tech wired layer AtCopy b given = fails WrongTerminal refl
+wire tech wired layer Through b given = fails WrongTerminal refl
+wire tech wired layer (At a) AtCopy given = fails WrongTerminal refl
+wire tech wired layer (At a) Through given = fails WrongTerminal refl
+wire tech wired layer (At a) (At b) given = then_with (straight (run_between a b)) (wire_on tech wired layer given) (of_run a b)
+    (λ run is. straight_ok (run_between a b) run is) (λ run is. ap straight is) (λ run is. along_run tech wired layer given run)
+
+-- ---- uses
+
+copy : (known : Known) (name : List ℕ) (k : ℕ) (used : Known) (col row : ℕ) → Judges (with_use known name k used col row) (IsWrongCopy used col row)
+unfolding with_use
+copy known name k used col row =
+    then (demand (is_empty used.plugs) UsedPorts) _ (tested (is_empty used.plugs) UsedPorts (empty_denies used.plugs)) λ u.
+    then (demand (nat_lt used.depth 16) UseDepth) _ (tested (nat_lt used.depth 16) UseDepth (below_denies used.depth 16)) λ u.
+    last (demand (is_place (col + greatest_col used.nodes) && is_place (row + greatest_row used.nodes)) FarPlace) _ (near (col + greatest_col used.nodes) (row + greatest_row used.nodes))
+
+numbered : (found : Option ℕ) → Judges (known_number found) (λ kind. (kind ≡ UnknownName) × (found ≡ None))
+numbered None = fails UnknownName (refl, refl)
+numbered (Some k) = passes k (λ kind wrong. absurd (cc))
+
+pub use_of : (cells : List Known) (known : Known) (name cell : List ℕ) (col row : ℕ) → Judges (after_use cells known name cell col row) (IsWrongUse cells known name cell col row)
+unfolding after_use
+use_of cells known name cell col row =
+    then (demand (is_fresh known.names name) RepeatedName) _ (fresh known name) λ u.
+    then (demand (not (bytes_eq cell known.name)) UseCycle) _ (tested (not (bytes_eq cell known.name)) UseCycle (not_denies (bytes_eq cell known.name))) λ u.
+    then_with (known_number (number_of cells cell)) _ (numbered (number_of cells cell)) (λ k is. known_number_ok (number_of cells cell) k is) (λ k is. ap known_number is)
+    λ k is. copy known name k (known_at cells k) col row
+
+-- ---- lines
+
+between : {A : Type 0} {Wrong : Found → Found → StickKind → Type 0} (a b : Option Found) (f : Found → Found → Result A StickKind) → ((from to : Found) → Judges (f from to) (Wrong from to))
+    → Judges (known_name a >>= λ from. known_name b >>= λ to. f from to) (IsWrongBetween a b Wrong)
+between None b f judged = fails UnknownName refl
+between (Some from) None f judged = fails UnknownName refl
+between (Some from) (Some to) f judged = judged from to
+
+limit : {A : Type 0} (a b : Found) (f : Spot → Spot → A) → Judges (limited a >>= λ first. limited b >>= λ second. demand (not (first.number == second.number)) BadLimit >>= λ u. Ok (f first second)) (IsWrongLimit a b)
+limit (At (Node a)) (At (Node b)) f = last (demand (not (a.number == b.number)) BadLimit) _ (tested (not (a.number == b.number)) BadLimit (apart_denies a.number b.number))
+limit (At (Node a)) (At (Port q)) f = fails BadLimit refl
+limit (At (Node a)) AtCopy f = fails BadLimit refl
+limit (At (Node a)) Through f = fails BadLimit refl
+limit (At (Port p)) b f = fails BadLimit refl
+limit AtCopy b f = fails BadLimit refl
+limit Through b f = fails BadLimit refl
+
+pub line : (tech : Tech) (cells : List Known) (known : Known) (form : Form) → Judges (after_form tech cells known form) (IsWrongLine tech cells known form)
+unfolding after_joint after_contact after_fet after_port after_wire after_limit
+line tech cells known (forms.Joint name layer col row given) =
+    then (demand (is_fresh known.names name) RepeatedName) _ (fresh known name) λ u.
+    then (demand (is_place col && is_place row) FarPlace) _ (near col row) λ u.
+    last (sized tech (layer_of layer) given) _ (width tech (layer_of layer) given)
+line tech cells known (forms.Contact name lower col row) =
+    then (demand (is_fresh known.names name) RepeatedName) _ (fresh known name) λ u. last (demand (is_place col && is_place row) FarPlace) _ (near col row)
+line tech cells known (forms.Fet name depletion vertical col row w l) =
+    then (demand (is_fresh known.names name) RepeatedName) _ (fresh known name) λ u.
+    then (demand (is_place col && is_place row) FarPlace) _ (near col row) λ u.
+    last (demand (is_channel tech w l) BadSize) _ (channel tech w l)
+line tech cells known (forms.Port name side layer place) =
+    then (demand (is_fresh known.names name) RepeatedName) _ (fresh known name) λ u. last (demand (is_place place) FarPlace) _ (tested (is_place place) FarPlace (at_most_denies place 4095))
+line tech cells known (forms.Inst name cell col row) = use_of cells known name cell col row
+line tech cells known (forms.Wire layer a b given) = between (found_at cells known a) (found_at cells known b) _ (λ from to. last (wire_between tech (wired_of known) (layer_of layer) from to given) _ (wire tech (wired_of known) (layer_of layer) from to given))
+line tech cells known (forms.Limit vertical a b at_most n) = between (found_at cells known a) (found_at cells known b) _ (λ from to. limit from to _)
+
+-- ---- cells
+
+located : {A : Type 0} {Wrong : StickKind → Type 0} (number : ℕ) (r : Result A StickKind) → Judges r Wrong → Judges (at_line number r) (IsAt number Wrong)
+located number (Ok x) judged = passes x (λ fault wrong. judged.accepted x refl fault.kind wrong.1)
+located number (Err kind) judged = fails (record { line = number; kind = kind }) (refl, judged.refused kind refl)
+
+err_same : {A E : Type 0} (x y : E) → ◌≡◌ {A = Result A E} (Err x) (Err y) → x ≡ y
+err_same x y e = cc
+
+-- the line behind some lines that are read is read too
+read_behind : (tech : Tech) (cells : List Known) (known : Known) (before : List Line) (line : Line) (behind : List Line) (next last : Known) → after_lines tech cells known before ≡ Ok next
+    → after_lines tech cells known (before ++ line ∷ behind) ≡ Ok last → (m : Known) × (after_form tech cells next line.form ≡ Ok m)
+read_behind tech cells known [] line behind next last is all =
+    let step = bound (at_line line.number (after_form tech cells known line.form)) (λ m. after_lines tech cells m behind) last all in
+    (step.0, ap (λ k. after_form tech cells k line.form) (sym (ok_same known next is)) ∙ at_line_ok line.number (after_form tech cells known line.form) step.0 step.1)
+read_behind tech cells known (first ∷ before) line behind next last is all =
+    let step = bound (at_line first.number (after_form tech cells known first.form)) (λ m. after_lines tech cells m before) next is in
+    read_behind tech cells step.0 before line behind next last step.2
+    (sym (ap (λ r. r >>= λ m. after_lines tech cells m (before ++ line ∷ behind)) step.1) ∙ all)
+
+refused_among : (tech : Tech) (cells : List Known) (known : Known) (lines : List Line) (fault : StickFault) → after_lines tech cells known lines ≡ Err fault → IsWrongAmong tech cells known lines fault
+refused_among tech cells known [] fault is = absurd (cc)
+refused_among tech cells known (one ∷ lines) fault is = by (after_form tech cells known one.form) refl (λ m. refused_among tech cells m lines fault) is
   where
-    by : (r : Option Run) → run_between a b ≡ r → (straight r >>= wire_on tech wired layer width) ≡ Err kind → IsWrongWire tech wired layer a b width kind
-    by None is e = subst (IsWrongWire tech wired layer a b width) (same_kind {A = Wire} NotStraight kind e) (no_run a b is)
-    by (Some run) is e = wrong_run tech wired layer a b width kind run is e
+    then_lines : Result Known StickKind → Result Known StickFault
+    then_lines r = at_line one.number r >>= λ m. after_lines tech cells m lines
+
+    by : (r : Result Known StickKind) → after_form tech cells known one.form ≡ r → ((m : Known) → after_lines tech cells m lines ≡ Err fault → IsWrongAmong tech cells m lines fault) → then_lines r ≡ Err fault → IsWrongAmong tech cells known (one ∷ lines) fault
+    by (Err kind) at inner is = subst (IsWrongAmong tech cells known (one ∷ lines)) (err_same (record { line = one.number; kind = kind }) fault is)
+        ([], one, lines, known, refl, refl, (refl, (line tech cells known one.form).refused kind at))
+    by (Ok m) at inner is =
+        let (before, wrong, behind, next, split, after, there) = inner m is in
+        (one ∷ before, wrong, behind, next, ap (λ ls. one ∷ ls) split, ap (λ r. at_line one.number r >>= λ m. after_lines tech cells m before) at ∙ after, there)
+
+among : (tech : Tech) (cells : List Known) (known : Known) (lines : List Line) → Judges (after_lines tech cells known lines) (IsWrongAmong tech cells known lines)
+among tech cells known lines = record { refused = refused_among tech cells known lines; accepted = none }
+  where
+    none : (last : Known) → after_lines tech cells known lines ≡ Ok last → (fault : StickFault) → IsWrongAmong tech cells known lines fault → ⊥
+    none last is fault (before, wrong, behind, next, split, after, there) =
+        let read = read_behind tech cells known before wrong behind next last after (sym (ap (after_lines tech cells known) split) ∙ is) in
+        (line tech cells next wrong.form).accepted read.0 read.1 fault.kind there.1
+
+pub cell : (tech : Tech) (cells : List Known) (text : CellText) → Judges (after_cell tech cells text) (IsWrongCell tech cells text)
+unfolding after_cell
+cell tech cells text =
+    then (at_line text.line (demand (is_new_cell cells text.name) RepeatedName)) _ (located text.line _ (tested (is_new_cell cells text.name) RepeatedName (test_denies (is_new_cell cells text.name)))) λ u.
+    then_with (after_lines tech cells (begun text.name) text.lines) _ (among tech cells (begun text.name) text.lines) (λ known is. is) (λ known is. is) λ known is.
+    last (at_line text.end_line (demand (is_wired known) PortWires)) _ (located text.end_line _ (tested (is_wired known) PortWires (test_denies (is_wired known))))

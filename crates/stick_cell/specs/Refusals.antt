@@ -1,22 +1,51 @@
--- Why a wire or a use is refused, in the words of the rules.
-use Rattle.std.specs.Prelude.{◌≡◌, ◌≢◌, ℕ, ◌+◌, ◌<◌, ◌≤◌, ◌%◌, ℤ, pos, ◌<ℤ◌, Bool, not, IsTrue, bytes_eq, ◌⊎◌, List, [], Option, Some, None, Ok}
+-- Why a line or a cell is refused, in the words of the rules: what is broken where a line is refused with a kind.
+use Rattle.std.specs.Prelude.{◌≡◌, ◌≢◌, ℕ, ◌+◌, ◌<◌, ◌≤◌, ◌%◌, ℤ, pos, ◌<ℤ◌, Bool, not, IsTrue, bytes_eq, ◌⊎◌, List, [], ◌∷◌, ◌++◌, Option, Some, None, Ok}
 use Rattle.rule_table.specs.declared.technology.Tech.{Tech}
 use Rattle.rule_table.specs.declared.classes.Layer.{Layer}
+use Rattle.rule_table.specs.declared.classes.Layer.TheVariants.{Diffusion, Poly}
 use Rattle.rule_table.specs.Technology.{width_of}
 use Rattle.lam_geom.specs.declared.boxes.Side.{Side}
 use Rattle.lam_geom.specs.declared.boxes.Side.TheVariants.{Left, Right, Bottom, Top}
 use Rattle.stick_parse.specs.declared.fault.StickKind.{StickKind}
-use Rattle.stick_parse.specs.declared.fault.StickKind.TheVariants.{WrongTerminal, NotStraight, WrongLayer, WrongSide, PortWires, BadSize, NarrowWire, WideWire, RepeatedName, UnknownName, UseCycle, UseDepth, UsedPorts, FarPlace}
+use Rattle.stick_parse.specs.declared.fault.StickKind.TheVariants.{WrongTerminal, NotStraight, WrongLayer, WrongSide, PortWires, BadSize, NarrowWire, WideWire, RepeatedName, UnknownName, UseCycle, UseDepth, UsedPorts, FarPlace, BadLimit}
+use Rattle.stick_parse.specs.declared.fault.StickFault.{StickFault}
+use Rattle.stick_parse.specs.declared.design.Form.{Form}
+use Rattle.stick_parse.specs.declared.design.Form.TheVariants as forms
+use Rattle.stick_parse.specs.declared.design.Line.{Line}
+use Rattle.stick_parse.specs.declared.design.CellText.{CellText}
 use Rattle.cell_model.specs.Wiring.{axis_of}
 use Rattle.stick_cell.specs.declared.names.Terminal.{Terminal}
 use Rattle.stick_cell.specs.declared.names.Terminal.TheVariants.{Node, Port}
 use Rattle.stick_cell.specs.declared.names.Found.{Found}
 use Rattle.stick_cell.specs.declared.names.Found.TheVariants.{At}
 use Rattle.stick_cell.specs.declared.names.Run.{Run}
-use Rattle.stick_cell.specs.Known.{Known, known_at, greatest_col, greatest_row}
-use Rattle.stick_cell.specs.Checks.{is_fresh, sized}
-use Rattle.stick_cell.specs.Lines.{number_of}
+use Rattle.stick_cell.specs.Known.{Known, begun, known_at, greatest_col, greatest_row}
+use Rattle.stick_cell.specs.Paths.{found_at}
+use Rattle.stick_cell.specs.Checks.{is_fresh, layer_of, sized}
+use Rattle.stick_cell.specs.Lines.{number_of, wired_of, is_wired, is_new_cell, after_lines}
 use Rattle.stick_cell.specs.Wires.{line_of, run_between, takes_layer, takes_along, is_free, is_within_pad}
+
+-- ---- names, places and sizes
+
+abbrev pub IsTaken : Known → List ℕ → StickKind → Type 0
+IsTaken known name kind = (kind ≡ RepeatedName) × IsTrue (not (is_fresh known.names name))
+
+abbrev pub IsFar : ℕ → ℕ → StickKind → Type 0
+IsFar col row kind = (kind ≡ FarPlace) × ((4095 < col) ⊎ (4095 < row))
+
+-- a size is odd or too large
+abbrev pub IsOddOrLarge : ℕ → Type 0
+IsOddOrLarge n = (n % 2 ≢ 0) ⊎ (4096 < n)
+
+-- a width that is given is odd, too large, 0, or less than the layer's
+abbrev pub IsWrongWidth : Tech → Layer → Option ℕ → StickKind → Type 0
+IsWrongWidth tech layer width kind = (w : ℕ) × (width ≡ Some w) × (((kind ≡ BadSize) × (IsOddOrLarge w ⊎ (w ≡ 0))) ⊎ ((kind ≡ NarrowWire) × (pos w <ℤ width_of tech layer)))
+
+-- a size of a transistor is odd or too large, or less than the width of diffusion or of poly
+abbrev pub IsWrongChannel : Tech → ℕ → ℕ → StickKind → Type 0
+IsWrongChannel tech w l kind = (kind ≡ BadSize) × ((IsOddOrLarge w ⊎ IsOddOrLarge l) ⊎ ((pos w <ℤ width_of tech Diffusion) ⊎ (pos l <ℤ width_of tech Poly)))
+
+-- ---- wires
 
 abbrev pub IsOpposite : Side → Side → Type 0
 IsOpposite Left Right = Unit {0}
@@ -37,29 +66,86 @@ IsNotStraight (Port p) (Port q) = IsOpposite p.side q.side → p.place ≢ q.pla
 abbrev pub IsRefusedAtEnd : (Terminal → Bool) → Run → Type 0
 IsRefusedAtEnd test run = IsTrue (not (test run.low)) ⊎ IsTrue (not (test run.high))
 
--- what is wrong with a wire between two terminals that is refused with this kind
+-- what is wrong with a wire along a run
+abbrev pub IsWrongRun : Tech → List Bool → Layer → Option ℕ → Run → StickKind → Type 0
+IsWrongRun tech wired layer width run kind =
+    ((kind ≡ WrongLayer) × IsRefusedAtEnd (takes_layer layer) run)
+    ⊎ ((kind ≡ WrongSide) × IsRefusedAtEnd (takes_along layer run.along) run)
+    ⊎ ((kind ≡ PortWires) × IsRefusedAtEnd (is_free wired) run)
+    ⊎ IsWrongWidth tech layer width kind
+    ⊎ ((size : ℤ) × (sized tech layer width ≡ Ok size) × ((kind ≡ WideWire) × IsRefusedAtEnd (is_within_pad tech layer size) run))
+
+-- what is wrong with a wire between two terminals
 abbrev pub IsWrongWire : Tech → List Bool → Layer → Terminal → Terminal → Option ℕ → StickKind → Type 0
-IsWrongWire tech wired layer a b width NotStraight = IsNotStraight a b
-IsWrongWire tech wired layer a b width WrongLayer = (run : Run) × (run_between a b ≡ Some run) × IsRefusedAtEnd (takes_layer layer) run
-IsWrongWire tech wired layer a b width WrongSide = (run : Run) × (run_between a b ≡ Some run) × IsRefusedAtEnd (takes_along layer run.along) run
-IsWrongWire tech wired layer a b width PortWires = (run : Run) × (run_between a b ≡ Some run) × IsRefusedAtEnd (is_free wired) run
-IsWrongWire tech wired layer a b width BadSize = (w : ℕ) × (width ≡ Some w) × ((w ≡ 0) ⊎ (w % 2 ≢ 0) ⊎ (4096 < w))
-IsWrongWire tech wired layer a b width NarrowWire = (w : ℕ) × (width ≡ Some w) × (pos w <ℤ width_of tech layer)
-IsWrongWire tech wired layer a b width WideWire = (run : Run) × (size : ℤ) × (run_between a b ≡ Some run) × (sized tech layer width ≡ Ok size) × IsRefusedAtEnd (is_within_pad tech layer size) run
-IsWrongWire tech wired layer a b width other = ⊥
+IsWrongWire tech wired layer a b width kind = ((kind ≡ NotStraight) × IsNotStraight a b) ⊎ ((run : Run) × (run_between a b ≡ Some run) × IsWrongRun tech wired layer width run kind)
 
 -- a use, and what lies behind a node or a port, is no terminal
 abbrev pub IsRefusedWire : Tech → List Bool → Layer → Found → Found → Option ℕ → StickKind → Type 0
 IsRefusedWire tech wired layer (At a) (At b) width kind = IsWrongWire tech wired layer a b width kind
 IsRefusedWire tech wired layer a b width kind = kind ≡ WrongTerminal
 
--- what is wrong with the use of a cell, shifted by columns and rows, that is refused with this kind
+-- ---- limits
+
+-- an end is no node, or both ends are one node
+abbrev pub IsWrongLimit : Found → Found → StickKind → Type 0
+IsWrongLimit (At (Node a)) (At (Node b)) kind = (kind ≡ BadLimit) × (a.number ≡ b.number)
+IsWrongLimit a b kind = kind ≡ BadLimit
+
+-- ---- uses
+
+-- what is wrong with the use of this cell, shifted by columns and rows
+abbrev pub IsWrongCopy : Known → ℕ → ℕ → StickKind → Type 0
+IsWrongCopy used col row kind =
+    ((kind ≡ UsedPorts) × (used.plugs ≢ []))
+    ⊎ ((kind ≡ UseDepth) × (16 ≤ used.depth))
+    ⊎ IsFar (col + greatest_col used.nodes) (row + greatest_row used.nodes) kind
+
+-- and of the cell with this name
 abbrev pub IsWrongUse : List Known → Known → List ℕ → List ℕ → ℕ → ℕ → StickKind → Type 0
-IsWrongUse cells known name cell col row RepeatedName = IsTrue (not (is_fresh known.names name))
-IsWrongUse cells known name cell col row UseCycle = IsTrue (bytes_eq cell known.name)
-IsWrongUse cells known name cell col row UnknownName = number_of cells cell ≡ None
-IsWrongUse cells known name cell col row UsedPorts = (k : ℕ) × (number_of cells cell ≡ Some k) × ((known_at cells k).plugs ≢ [])
-IsWrongUse cells known name cell col row UseDepth = (k : ℕ) × (number_of cells cell ≡ Some k) × (16 ≤ (known_at cells k).depth)
-IsWrongUse cells known name cell col row FarPlace =
-    (k : ℕ) × (number_of cells cell ≡ Some k) × ((4095 < col + greatest_col (known_at cells k).nodes) ⊎ (4095 < row + greatest_row (known_at cells k).nodes))
-IsWrongUse cells known name cell col row other = ⊥
+IsWrongUse cells known name cell col row kind =
+    IsTaken known name kind
+    ⊎ ((kind ≡ UseCycle) × IsTrue (bytes_eq cell known.name))
+    ⊎ ((kind ≡ UnknownName) × (number_of cells cell ≡ None))
+    ⊎ ((k : ℕ) × (number_of cells cell ≡ Some k) × IsWrongCopy (known_at cells k) col row kind)
+
+-- ---- lines
+
+-- a path comes to nothing, or what the two come to is wrong
+abbrev pub IsWrongBetween : Option Found → Option Found → (Found → Found → StickKind → Type 0) → StickKind → Type 0
+IsWrongBetween (Some a) (Some b) IsWrong kind = IsWrong a b kind
+IsWrongBetween a b IsWrong kind = kind ≡ UnknownName
+
+abbrev pub IsWrongLine : Tech → List Known → Known → Form → StickKind → Type 0
+IsWrongLine tech cells known (forms.Joint name layer col row width) kind = IsTaken known name kind ⊎ IsFar col row kind ⊎ IsWrongWidth tech (layer_of layer) width kind
+IsWrongLine tech cells known (forms.Contact name lower col row) kind = IsTaken known name kind ⊎ IsFar col row kind
+IsWrongLine tech cells known (forms.Fet name depletion vertical col row w l) kind = IsTaken known name kind ⊎ IsFar col row kind ⊎ IsWrongChannel tech w l kind
+IsWrongLine tech cells known (forms.Port name side layer place) kind = IsTaken known name kind ⊎ ((kind ≡ FarPlace) × (4095 < place))
+IsWrongLine tech cells known (forms.Inst name cell col row) kind = IsWrongUse cells known name cell col row kind
+IsWrongLine tech cells known (forms.Wire layer a b width) kind =
+    IsWrongBetween (found_at cells known a) (found_at cells known b) (λ from to. IsRefusedWire tech (wired_of known) (layer_of layer) from to width) kind
+IsWrongLine tech cells known (forms.Limit vertical a b at_most n) kind = IsWrongBetween (found_at cells known a) (found_at cells known b) IsWrongLimit kind
+
+-- ---- cells
+
+-- the fault is of the line of this number, and wrong there
+abbrev pub IsAt : ℕ → (StickKind → Type 0) → StickFault → Type 0
+IsAt number IsWrong fault = (fault.line ≡ number) × IsWrong fault.kind
+
+-- one of the lines is wrong after those before it
+abbrev pub IsWrongAmong : Tech → List Known → Known → List Line → StickFault → Type 0
+IsWrongAmong tech cells known lines fault =
+    (before : List Line) × (line : Line) × (behind : List Line) × (next : Known) × (lines ≡ before ++ line ∷ behind) × (after_lines tech cells known before ≡ Ok next)
+    × IsAt line.number (IsWrongLine tech cells next line.form) fault
+
+abbrev pub IsTakenCell : List Known → List ℕ → StickKind → Type 0
+IsTakenCell cells name kind = (kind ≡ RepeatedName) × IsTrue (not (is_new_cell cells name))
+
+abbrev pub IsUnwired : Known → StickKind → Type 0
+IsUnwired known kind = (kind ≡ PortWires) × IsTrue (not (is_wired known))
+
+-- the cell's name is taken, one of its lines is wrong, or at its end a port has no wire
+abbrev pub IsWrongCell : Tech → List Known → CellText → StickFault → Type 0
+IsWrongCell tech cells text fault =
+    IsAt text.line (IsTakenCell cells text.name) fault
+    ⊎ IsWrongAmong tech cells (begun text.name) text.lines fault
+    ⊎ ((known : Known) × (after_lines tech cells (begun text.name) text.lines ≡ Ok known) × IsAt text.end_line (IsUnwired known) fault)

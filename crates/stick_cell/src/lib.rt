@@ -3,7 +3,7 @@
 //!
 //! What the layer above uses: `resolve` gives the cells exactly where the definition of the checks (`specs/Lines.antt`)
 //! finds no fault, each of them sound, and else the first fault; `Cells::inline` is exactly the inlined cell of that
-//! definition, `weight` and `boxes` count it without building it. A wire or a use that is refused breaks the rule of its kind in
+//! definition, `weight` and `boxes` count it without building it. A line or a cell that is refused breaks the rule of its kind in
 //! `specs/Refusals.antt`. Columns, rows and places are coarse coordinates; widths and sizes are in u, the grid unit.
 #![tactic(auto)]
 
@@ -18,6 +18,7 @@ mod lines;
 mod names;
 mod parts;
 mod paths;
+mod refusals;
 mod resolving;
 mod steps;
 mod table;
@@ -32,7 +33,7 @@ pub use cell_model::{
 };
 pub use cell_nets::{nets, nets_are_determined};
 pub use cells::Cells;
+pub use refusals::{a_refused_cell_breaks_a_rule, a_refused_line_breaks_a_rule};
 pub use resolving::resolve;
 pub use stick_parse::ParseFault as ResolveFault;
-pub use uses::a_refused_use_breaks_a_rule;
 pub use wires::a_refused_wire_breaks_a_rule;

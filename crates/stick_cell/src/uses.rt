@@ -1,11 +1,9 @@
 //! The uses of a cell.
-ghost use Rattle.std.specs.Prelude.{◌≡◌, ℕ, Err, ◌+◌, ◌<◌, ◌≤◌, ◌==◌, max, if◌then◌else◌, List, length, IsTrue, OnOk};
+ghost use Rattle.std.specs.Prelude.{◌≡◌, ◌+◌, ◌<◌, ◌≤◌, ◌==◌, max, if◌then◌else◌, List, length, IsTrue, OnOk};
 ghost use Rattle.stick_cell.specs.Checks.{is_fresh, is_place};
 ghost use Rattle.stick_cell.specs.NameEntries.{entries_of};
 ghost use Rattle.stick_cell.specs.Known.{Known, known_at, with_copy};
-ghost use Rattle.stick_parse.specs.declared.fault.StickKind.{StickKind};
 ghost use Rattle.stick_cell.specs.Lines.{after_use};
-ghost use Rattle.stick_cell.specs.Refusals.{IsWrongUse};
 ghost use Rattle.stick_cell.specs.Tables.{IsTableOf, AreTables};
 ghost use Rattle.stick_cell.specs.Growing.{IsGrowing, Grows, usable};
 
@@ -56,12 +54,6 @@ fn most_with_copy(most: u32, nodes: u32, copied: u32, shift: u32) -> u32
         most.max(shift + copied)
     }
 }
-
-/// A use that is refused breaks the rule of the kind that it is refused with.
-pub fn a_refused_use_breaks_a_rule()
-    ensures { (cells : List Known) (known : Known) (name cell : List ℕ) (col row : ℕ) (kind : StickKind) → after_use cells known name cell col row ≡ Err kind
-        → IsWrongUse cells known name cell col row kind }
-{}
 
 impl<'a> Growing<'a> {
     /// A copy of an earlier cell, shifted by coarse columns and rows.

@@ -56,10 +56,12 @@ pub fn wire_between(
     })
 }
 
-/// A wire that is refused breaks the rule of the kind that it is refused with.
+/// A wire that is refused breaks the rule of the kind that it is refused with, and one that breaks a rule is refused.
 pub fn a_refused_wire_breaks_a_rule()
-    ensures { (tech : Tech) (wired : List Bool) (layer : Layer) (a b : Found) (width : Option ℕ) (kind : StickKind) → wire_between tech wired layer a b width ≡ Err kind
+    ensures refused { (tech : Tech) (wired : List Bool) (layer : Layer) (a b : Found) (width : Option ℕ) (kind : StickKind) → wire_between tech wired layer a b width ≡ Err kind
         → IsRefusedWire tech wired layer a b width kind }
+    ensures broken { (tech : Tech) (wired : List Bool) (layer : Layer) (a b : Found) (width : Option ℕ) (kind : StickKind) → IsRefusedWire tech wired layer a b width kind
+        → (first : StickKind) × (wire_between tech wired layer a b width ≡ Err first) }
 {}
 
 /// The node that a limit names; a port, a use and what lies behind a node or a port are refused with `BadLimit`.
