@@ -1,5 +1,5 @@
 -- What stands once an answer has been delivered.
-use Rattle.std.proofs.Common.{◌≡◌, ℕ, List, [], Option, Some, None, ◌⊎◌, inl, inr, refl, sym, ap, subst, ◌∙◌}
+use Rattle.std.proofs.Common.{◌≡◌, ℕ, List, [], Option, Some, None, ◌⊎◌, inl, inr, refl, sym, ap, subst}
 use Rattle.std.proofs.lemmas.List.{append-nil}
 use Rattle.lam_io.specs.Io.{Bytes, Files, Telling, Appends, AppendsPrefix, Rose}
 use Rattle.compact_run.specs.declared.status.File.TheVariants.{Design}

@@ -4,3 +4,6 @@ pub mod Extents
 pub mod Layouts
 pub mod Cells
 pub mod Steps
+mod OneFile
+mod OneMaster
+mod OneAnswer

@@ -1,5 +1,5 @@
 -- What a sink tells after the pieces of a text.
-use Rattle.std.proofs.Common.{◌≡◌, ℕ, suc, ◌<◌, List, [], ◌∷◌, ◌++◌, Option, Some, None, sym, ap, subst, ◌∙◌, append_assoc, take, drop, length, get_or, flat_map}
+use Rattle.std.proofs.Common.{◌≡◌, ℕ, suc, ◌<◌, List, [], ◌∷◌, ◌++◌, Option, Some, None, sym, ap, ◌∙◌, append_assoc, take, drop, length, get_or, flat_map}
 use Rattle.std.proofs.Common.{zero, arith}
 use Rattle.std.proofs.lemmas.List.Concat.{flat_map-cons}
 use Rattle.lam_io.specs.Io.{Bytes, Appends, AppendsPrefix}

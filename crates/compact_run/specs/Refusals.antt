@@ -1,5 +1,5 @@
 -- What refusals come from.
-use Rattle.std.specs.Prelude.{List, ℕ, Option, Some, None, Result, Ok, Err}
+use Rattle.std.specs.Prelude.{List, ℕ, Some, None, Result, Ok, Err}
 use Rattle.pass_run.specs.declared.passes.PassFault.{PassFault}
 use Rattle.pass_run.specs.declared.passes.PassFault.TheVariants as stop
 use Rattle.compact_run.specs.declared.refusal.Refusal.{Refusal}

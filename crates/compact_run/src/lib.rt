@@ -1,5 +1,5 @@
 // The top call of the program: from the words of a command line and the files that they name to masks, a report and a status.
-// Its one contract for the layer above is that of `run`.
+// Its contract for the layer above is that of `run`; `answers_are_determined` says that no two answers fit.
 #![tactic(auto)]
 
 mod clash;
@@ -10,6 +10,7 @@ mod digits;
 mod extent;
 mod fault_lines;
 mod fetch;
+mod laws;
 mod layout;
 mod masks;
 mod master;
@@ -22,5 +23,6 @@ mod tests;
 mod top;
 mod words;
 
+pub use laws::answers_are_determined;
 pub use status::{File, Side2, Status, What};
 pub use top::run;

@@ -1,11 +1,9 @@
-use Rattle.std.proofs.Common.{Some, subst, ap, ◌∙◌, List}
+use Rattle.std.proofs.Common.{Some, subst, ◌∙◌, List}
 use Rattle.std.proofs.lemmas.Result.{err_from_is_err_and}
 use Rattle.lam_geom.specs.declared.boxes.Axis.{Axis}
 use Rattle.compact_run.specs.Words.{compact}
-use Rattle.compact_run.specs.Fetches.{AsksFor}
-use Rattle.compact_run.specs.Refusals.{ending_of}
 use Rattle.compact_run.specs.Answers.{IsGiven, no_technology, no_design}
-use Rattle.compact_run.proofs.Steps.{asked, telling_after, given, asks_design, of_design_over, design_refused}
+use Rattle.compact_run.proofs.Steps.{asked, telling_after, given}
 use Rattle.compact_run.proofs.command.compact_files.Goals as goal
 
 pub returns-in_err-axes-clause-given : goal.returns-in_err-axes-clause-given

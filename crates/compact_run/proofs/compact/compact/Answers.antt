@@ -1,4 +1,4 @@
-use Rattle.std.proofs.Common.{◌≡◌, subst, sym, ◌∙◌}
+use Rattle.std.proofs.Common.{subst, sym, ◌∙◌}
 use Rattle.std.proofs.lemmas.Result.{err_from_is_err_and}
 use Rattle.expand.specs.declared.master.Master.{Master}
 use Rattle.compact_run.specs.Designs.{IsMasterOf, no_cell, no_masks}

@@ -1,0 +1,201 @@
+-- The answer to some words, over files that decide it, is determined.
+use Rattle.std.proofs.Common.{◌≡◌, ℕ, List, [], Option, Some, None, Result, Ok, Err, refl, sym, ap, ◌∙◌, subst}
+use Rattle.lam_geom.specs.declared.boxes.Axis.{Axis}
+use Rattle.lam_io.specs.Io.{Bytes, Files}
+use Rattle.rule_table.specs.declared.technology.Tech.{Tech}
+use Rattle.rule_table.specs.Technology.{numbers_of}
+use Rattle.tech_file.specs.Technology.{technology_of}
+use Rattle.stick_parse.specs.declared.design.Design.{Design as Sticks}
+use Rattle.stick_parse.specs.declared.fault.StickFault.{StickFault}
+use Rattle.stick_parse.specs.Order.{design_of}
+use Rattle.stick_print.specs.Canonical.{canonical}
+use Rattle.stick_cell.specs.Known.{Known}
+use Rattle.stick_cell.specs.Lines.{known_cells}
+use Rattle.expand.specs.declared.master.Master.{Master}
+use Rattle.compact_run.specs.declared.status.File.TheVariants.{Design, Technology}
+use Rattle.compact_run.specs.declared.status.What.TheVariants.{Items}
+use Rattle.compact_run.specs.declared.status.Side2.TheVariants as side
+use Rattle.compact_run.specs.declared.status.Status.{Status}
+use Rattle.compact_run.specs.declared.status.Status.TheVariants as status
+use Rattle.compact_run.specs.Words.{Command, compact, fmt, command_of}
+use Rattle.compact_run.specs.FaultLines.{stick_line, tech_line}
+use Rattle.compact_run.specs.Refusal.{line_of}
+use Rattle.compact_run.specs.Built.{cell_number}
+use Rattle.compact_run.specs.Designs.{CompactsTo, RefusesDesign, RefusesCells, IsMasterOf, no_cell, no_masks as no_master}
+use Rattle.compact_run.specs.Answers.{IsTechnology, IsDesign, RefusesTechnology, RefusesSticks, IsCompacted, RefusesCompact, no_technology, no_design, no_masks, RefusesWords, IsAnswer, compacted, formatted, refused, output_failed, report_failed}
+use Rattle.compact_run.specs.OneAnswer.{IsDecided, HasOneAnswer}
+use Rattle.compact_run.proofs.OneFile.{IsReadAs, IsNotRead, long, faulty, read_once, not_both, refused_once}
+use Rattle.compact_run.proofs.OneMaster.{same_tech, one_master, Comes, laid_out, comes_refused, comes_once, AreSame}
+
+-- ---- the files
+
+abbrev IsTech : Files → Bytes → Tech → Type 0
+IsTech files name tech = IsReadAs technology_of files Technology name (numbers_of tech)
+
+abbrev NoTech : Files → Bytes → Status → Bytes → Type 0
+NoTech files name ended line = IsNotRead technology_of (λ fault. status.BadTech fault) tech_line files Technology name ended line
+
+abbrev AreSticks : Files → Bytes → Sticks → Type 0
+AreSticks files name sticks = IsReadAs design_of files Design name sticks
+
+abbrev NoSticks : Files → Bytes → Status → Bytes → Type 0
+NoSticks files name ended line = IsNotRead design_of (λ fault. status.BadSticks fault) stick_line files Design name ended line
+
+tech_read : (files : Files) (name : Bytes) (tech : Tech) → IsTechnology files name tech → IsTech files name tech
+tech_read files name tech t = record { text = t.text; there = t.file; is = t.read }
+
+sticks_read : (files : Files) (name : Bytes) (sticks : Sticks) → IsDesign files name sticks → AreSticks files name sticks
+sticks_read files name sticks t = record { text = t.text; there = t.file; is = t.read }
+
+tech_refused : (files : Files) (name : Bytes) (ended : Status) (own : Bytes) → RefusesTechnology name files ended own → IsDecided ended → NoTech files name ended (line_of ended own)
+tech_refused files name status.OutOfMemory own why d = absurd d
+tech_refused files name (status.ReadFault file) own why d = absurd d
+tech_refused files name (status.TooLong Technology) own why d = long why refl refl
+tech_refused files name (status.BadTech fault) own why d = faulty why.0.text fault why.0.file why.0.read refl why.1
+tech_refused files name other own why d = absurd why
+
+sticks_refused : (files : Files) (name : Bytes) (ended : Status) (own : Bytes) → RefusesSticks name files ended own → IsDecided ended → NoSticks files name ended (line_of ended own)
+sticks_refused files name status.OutOfMemory own why d = absurd d
+sticks_refused files name (status.ReadFault file) own why d = absurd d
+sticks_refused files name (status.TooLong Design) own why d = long why refl refl
+sticks_refused files name (status.BadSticks fault) own why d = faulty why.0.text fault why.0.file why.0.read refl why.1
+sticks_refused files name other own why d = absurd why
+
+-- ---- the cell of a design
+
+-- why a design has no cell, and the line of it
+abbrev cell_of_known : Sticks → Result (List Known) StickFault → Result ℕ Status
+cell_of_known sticks (Err fault) = Err (status.BadSticks fault)
+cell_of_known sticks (Ok cells) = cell_number sticks cells
+
+abbrev cell_at : Tech → Sticks → Result ℕ Status
+cell_at tech sticks = cell_of_known sticks (known_cells tech sticks.cells)
+
+abbrev line_alone : Status → Bytes
+line_alone (status.BadSticks fault) = stick_line fault
+line_alone other = line_of other []
+
+-- A design has no cell, or its master comes to something.
+data Ends (tech : Tech) (axes : List Axis) (sticks : Sticks) (ended : Status) (output report : Bytes) : Type 0 where
+  without : cell_at tech sticks ≡ Err ended → output ≡ [] → report ≡ line_alone ended → Ends tech axes sticks ended output report
+  from : (master : Master) → IsMasterOf tech sticks master → Comes tech master axes ended output report → Ends tech axes sticks ended output report
+
+has_cell : (tech : Tech) (sticks : Sticks) (master : Master) (ended : Status) → IsMasterOf tech sticks master → cell_at tech sticks ≡ Err ended → ⊥
+has_cell tech sticks master ended m e =
+    let p = sym (ap (cell_of_known sticks) m.is_cell.resolved ∙ m.is_cell.chosen) ∙ e in cc
+
+ends_once : (tech : Tech) (axes : List Axis) (sticks : Sticks) (e f : Status) (o p r s : Bytes) → Ends tech axes sticks e o r → Ends tech axes sticks f p s → AreSame e f o p r s
+ends_once tech axes sticks e f o p r s (without c co cr) (without d do_ dr) =
+    let same : e ≡ f = err_same e f (sym c ∙ d) in (same, co ∙ sym do_, cr ∙ (ap line_alone same ∙ sym dr))
+  where
+    err_same : (x y : Status) → (let a : Result ℕ Status = Err x in a) ≡ Err y → x ≡ y
+    err_same x y e = cc
+ends_once tech axes sticks e f o p r s (without c co cr) (from m is comes) = absurd (has_cell tech sticks m e is c)
+ends_once tech axes sticks e f o p r s (from m is comes) (without c co cr) = absurd (has_cell tech sticks m f is c)
+ends_once tech axes sticks e f o p r s (from m is comes) (from n are come) =
+    let C : Master → Type 0 = λ z. Comes tech z axes f p s in
+    comes_once tech m axes e f o p r s comes (subst C (sym (one_master tech sticks m n is are)) come)
+
+no_cells : (tech : Tech) (axes : List Axis) (sticks : Sticks) (ended : Status) (own : Bytes) → RefusesCells tech sticks ended own → IsDecided ended → Ends tech axes sticks ended [] (line_of ended own)
+no_cells tech axes sticks status.OutOfMemory own why d = absurd d
+no_cells tech axes sticks (status.BadSticks fault) own why d = without (ap (cell_of_known sticks) why.0) refl why.1
+no_cells tech axes sticks status.NotBuilt own why d = without (ap (cell_of_known sticks) why.resolved ∙ why.none) refl refl
+no_cells tech axes sticks (status.TooLarge Items) own why d = without (ap (cell_of_known sticks) why.resolved ∙ why.none) refl refl
+no_cells tech axes sticks other own why d = absurd why
+
+ends_refused : (tech : Tech) (axes : List Axis) (sticks : Sticks) (ended : Status) (own : Bytes) → RefusesDesign tech axes sticks ended own → IsDecided ended → Ends tech axes sticks ended [] (line_of ended own)
+ends_refused tech axes sticks ended own (no_cell why) d = no_cells tech axes sticks ended own why d
+ends_refused tech axes sticks ended own (no_master master is why) d = from master is (comes_refused tech master axes ended own why d)
+
+ends_compacted : (tech : Tech) (axes : List Axis) (sticks : Sticks) (ended : Status) (output report : Bytes) → ended ≡ status.Done → CompactsTo tech axes sticks output report → Ends tech axes sticks ended output report
+ends_compacted tech axes sticks ended output report e c = from c.master c.is_master (laid_out c.steps c.laid_out.made c.laid_out.within e c.written c.reported)
+
+-- ---- `compact`
+
+data Compacts (design tech : Bytes) (axes : List Axis) (files : Files) (ended : Status) (output report : Bytes) : Type 0 where
+  no_tech : NoTech files tech ended report → output ≡ [] → Compacts design tech axes files ended output report
+  no_sticks : (technology : Tech) → IsTech files tech technology → NoSticks files design ended report → output ≡ [] → Compacts design tech axes files ended output report
+  over : (technology : Tech) (sticks : Sticks) → IsTech files tech technology → AreSticks files design sticks → Ends technology axes sticks ended output report
+      → Compacts design tech axes files ended output report
+
+compacts_once : (design tech : Bytes) (axes : List Axis) (files : Files) (e f : Status) (o p r s : Bytes) → Compacts design tech axes files e o r → Compacts design tech axes files f p s → AreSame e f o p r s
+compacts_once design tech axes files e f o p r s (no_tech c co) (no_tech d do_) =
+    let same = refused_once technology_of (λ fault. status.BadTech fault) tech_line files Technology tech e f r s c d in (same.0, co ∙ sym do_, same.1)
+compacts_once design tech axes files e f o p r s (no_tech c co) (no_sticks u is d do_) = absurd (not_both technology_of (λ fault. status.BadTech fault) tech_line files Technology tech (numbers_of u) e r is c)
+compacts_once design tech axes files e f o p r s (no_tech c co) (over u v is are d) = absurd (not_both technology_of (λ fault. status.BadTech fault) tech_line files Technology tech (numbers_of u) e r is c)
+compacts_once design tech axes files e f o p r s (no_sticks u is d do_) (no_tech c co) = absurd (not_both technology_of (λ fault. status.BadTech fault) tech_line files Technology tech (numbers_of u) f s is c)
+compacts_once design tech axes files e f o p r s (over u v is are d) (no_tech c co) = absurd (not_both technology_of (λ fault. status.BadTech fault) tech_line files Technology tech (numbers_of u) f s is c)
+compacts_once design tech axes files e f o p r s (no_sticks t is c co) (no_sticks u are d do_) =
+    let same = refused_once design_of (λ fault. status.BadSticks fault) stick_line files Design design e f r s c d in (same.0, co ∙ sym do_, same.1)
+compacts_once design tech axes files e f o p r s (no_sticks t is c co) (over u v are there d) = absurd (not_both design_of (λ fault. status.BadSticks fault) stick_line files Design design v e r there c)
+compacts_once design tech axes files e f o p r s (over u v are there d) (no_sticks t is c co) = absurd (not_both design_of (λ fault. status.BadSticks fault) stick_line files Design design v f s there c)
+compacts_once design tech axes files e f o p r s (over t x is there c) (over u y are here d) =
+    let techs : t ≡ u = same_tech t u (read_once technology_of files Technology tech (numbers_of t) (numbers_of u) is are) in
+    let sticks : x ≡ y = read_once design_of files Design design x y there here in
+    let T : Tech → Type 0 = λ z. Ends z axes y f p s in
+    let S : Sticks → Type 0 = λ z. Ends t axes z f p s in
+    ends_once t axes x e f o p r s c (subst S (sym sticks) (subst T (sym techs) d))
+
+compacts_refused : (design tech : Bytes) (axes : List Axis) (files : Files) (ended : Status) (own : Bytes) → RefusesCompact design tech axes files ended own → IsDecided ended
+    → Compacts design tech axes files ended [] (line_of ended own)
+compacts_refused design tech axes files ended own (no_technology why) d = no_tech (tech_refused files tech ended own why d) refl
+compacts_refused design tech axes files ended own (no_design t is why) d = no_sticks t (tech_read files tech t is) (sticks_refused files design ended own why d) refl
+compacts_refused design tech axes files ended own (no_masks t x is there why) d = over t x (tech_read files tech t is) (sticks_read files design x there) (ends_refused t axes x ended own why d)
+
+compacts_done : (design tech : Bytes) (axes : List Axis) (files : Files) (ended : Status) (output report : Bytes) → ended ≡ status.Done → IsCompacted design tech axes files output report
+    → Compacts design tech axes files ended output report
+compacts_done design tech axes files ended output report e c =
+    over c.technology c.sticks (tech_read files tech c.technology c.is_technology) (sticks_read files design c.sticks c.is_design) (ends_compacted c.technology axes c.sticks ended output report e c.compacts)
+
+-- ---- `fmt`
+
+data Formats (design : Bytes) (files : Files) (ended : Status) (output report : Bytes) : Type 0 where
+  not_read : NoSticks files design ended report → output ≡ [] → Formats design files ended output report
+  is_read : (sticks : Sticks) → AreSticks files design sticks → ended ≡ status.Done → output ≡ canonical sticks → report ≡ [] → Formats design files ended output report
+
+formats_once : (design : Bytes) (files : Files) (e f : Status) (o p r s : Bytes) → Formats design files e o r → Formats design files f p s → AreSame e f o p r s
+formats_once design files e f o p r s (not_read c co) (not_read d do_) =
+    let same = refused_once design_of (λ fault. status.BadSticks fault) stick_line files Design design e f r s c d in (same.0, co ∙ sym do_, same.1)
+formats_once design files e f o p r s (not_read c co) (is_read y there de do_ dr) = absurd (not_both design_of (λ fault. status.BadSticks fault) stick_line files Design design y e r there c)
+formats_once design files e f o p r s (is_read y there de do_ dr) (not_read c co) = absurd (not_both design_of (λ fault. status.BadSticks fault) stick_line files Design design y f s there c)
+formats_once design files e f o p r s (is_read x there ce co cr) (is_read y here de do_ dr) =
+    (ce ∙ sym de, co ∙ (ap (λ (z : Sticks). canonical z) (read_once design_of files Design design x y there here) ∙ sym do_), cr ∙ sym dr)
+
+-- ---- the words
+
+-- what a command comes to
+abbrev Does : Option Command → Files → Status → Bytes → Bytes → Type 0
+Does None files ended output report = (ended ≡ status.Usage) × (output ≡ []) × (report ≡ line_of status.Usage [])
+Does (Some (compact design tech axes)) files ended output report = Compacts design tech axes files ended output report
+Does (Some (fmt design)) files ended output report = Formats design files ended output report
+
+does_once : (c : Option Command) (files : Files) (e f : Status) (o p r s : Bytes) → Does c files e o r → Does c files f p s → AreSame e f o p r s
+does_once None files e f o p r s a b = (a.0 ∙ sym b.0, a.1 ∙ sym b.1, a.2 ∙ sym b.2)
+does_once (Some (compact design tech axes)) files e f o p r s a b = compacts_once design tech axes files e f o p r s a b
+does_once (Some (fmt design)) files e f o p r s a b = formats_once design files e f o p r s a b
+
+does_refused : (c : Option Command) (files : Files) (ended : Status) (own : Bytes) → RefusesWords c files ended own → IsDecided ended → Does c files ended [] (line_of ended own)
+does_refused None files ended own why d = (why, refl, ap (λ (z : Status). line_of z own) why)
+does_refused (Some (compact design tech axes)) files ended own why d = compacts_refused design tech axes files ended own why d
+does_refused (Some (fmt design)) files ended own why d = not_read (sticks_refused files design ended own why d) refl
+
+-- a status that is decided is not that of a failed stream
+decided : (ended other : Status) → ended ≡ other → IsDecided ended → IsDecided other
+decided ended other e d = subst IsDecided e d
+
+does_answer : (words : List Bytes) (files : Files) (e : Status) (o r : Bytes) → IsAnswer words files e o r → IsDecided e → Does (command_of words) files e o r
+does_answer words files e o r (compacted design tech axes is done c) d =
+    let D : Option Command → Type 0 = λ c. Does c files e o r in
+    subst D (sym is) (compacts_done design tech axes files e o r done c)
+does_answer words files e o r (formatted design is done c none) d =
+    let D : Option Command → Type 0 = λ c. Does c files e o r in
+    subst D (sym is) (is_read c.sticks (sticks_read files design c.sticks c.is_design) done c.written none)
+does_answer words files e o r (refused own why out line) d =
+    let O : Bytes → Type 0 = λ z. Does (command_of words) files e z r in
+    let R : Bytes → Type 0 = λ z. Does (command_of words) files e [] z in
+    subst O (sym out) (subst R (sym line) (does_refused (command_of words) files e own why d))
+does_answer words files e o r (output_failed unsaid is writes line) d = absurd (decided e (status.WriteFault side.Output) is d)
+does_answer words files e o r (report_failed is writes) d = absurd (decided e (status.WriteFault side.Report) is d)
+
+pub has_one_answer : (words : List Bytes) (files : Files) → HasOneAnswer words files
+has_one_answer words files e f o p r s a b de df = does_once (command_of words) files e f o p r s (does_answer words files e o r a de) (does_answer words files f p s b df)
