@@ -3,13 +3,12 @@
 ghost use Rattle.std.specs.Prelude.{◌≡◌, ◌++◌, OnOk, IfOk};
 ghost use Rattle.compact_run.specs.Masks.{part_text, clash_text};
 
-use crate::digits::push_number;
 use cell_model::Cell;
 use std::alloc::{AllocError, Global};
-use stick_lex::Text;
+use stick_lex::{Text, push_decimal};
 
 // A part of a cell: a node by the path to it, a wire by its number.
-fn push_part(out: &mut Vec<u8>, alloc: Global, cell: &Cell, part: u32) -> Result<(), AllocError>
+fn push_part(out: &mut Vec<u8>, cell: &Cell, part: u32) -> Result<(), AllocError>
     ensures { OnOk result (out.new.items ≡ out.old.items ++ part_text cell.now part) }
 {
     let nodes = cell.nodes.as_slice();
@@ -17,7 +16,7 @@ fn push_part(out: &mut Vec<u8>, alloc: Global, cell: &Cell, part: u32) -> Result
         Some(node) => out.extend_from_slice(node.name.bytes()),
         None => {
             out.push(b'#')?;
-            push_number(out, alloc, part - nodes.len() as u32)
+            push_decimal(out, u64::from(part - nodes.len() as u32))
         }
     }
 }
@@ -29,9 +28,9 @@ pub fn clash_line(alloc: Global, cell: &Cell, a: u32, b: u32) -> Result<Text, Al
     let mut out = Vec::from_slice(alloc, b"sticks: clash in ")?;
     out.extend_from_slice(cell.name.bytes())?;
     out.extend_from_slice(b" between ")?;
-    push_part(&mut out, alloc, cell, a)?;
+    push_part(&mut out, cell, a)?;
     out.extend_from_slice(b" and ")?;
-    push_part(&mut out, alloc, cell, b)?;
+    push_part(&mut out, cell, b)?;
     out.push(b'\n')?;
     Text::new(alloc, &out)
 }

@@ -3,10 +3,9 @@
 ghost use Rattle.std.specs.Prelude.{◌≡◌, ◌++◌, OnOk, IfOk};
 ghost use Rattle.compact_run.specs.FaultLines.{key_of, numbers_words, tech_words, tech_line, kind_word, stick_line};
 
-use crate::digits::push_number;
 use rule_table::TechFault;
 use std::alloc::{AllocError, Global};
-use stick_lex::Text;
+use stick_lex::{Text, push_decimal};
 use stick_parse::{StickFault, StickKind};
 use tech_file::TechFileFault;
 
@@ -114,7 +113,7 @@ pub fn stick_line(alloc: Global, fault: StickFault) -> Result<Text, AllocError>
     ensures { IfOk result (λ line. line ≡ stick_line fault) }
 {
     let mut out = Vec::from_slice(alloc, b"sticks: line ")?;
-    push_number(&mut out, alloc, fault.line)?;
+    push_decimal(&mut out, u64::from(fault.line))?;
     out.extend_from_slice(b": ")?;
     out.extend_from_slice(kind_word(fault.kind))?;
     out.push(b'\n')?;

@@ -6,7 +6,6 @@ mod clash;
 mod command;
 mod compact;
 mod delivery;
-mod digits;
 mod extent;
 mod fault_lines;
 mod fetch;

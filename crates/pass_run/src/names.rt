@@ -11,6 +11,7 @@ use cons_graph::Names;
 use expand::crossing;
 use lam_geom::Axis;
 use std::alloc::{AllocError, Global};
+use stick_lex::push_decimal;
 
 // Adds the name of the far border.
 fn push_border(names: &mut Names, alloc: Global, cell: &Cell) -> Result<(), AllocError>
@@ -62,10 +63,9 @@ fn push_wire(
     if along != crossing(axis) {
         return Ok(());
     }
-    let number = k.to_string(alloc)?;
     let mut inner = Vec::new(alloc);
     inner.push(b'#')?;
-    inner.extend_from_slice(number.as_bytes())?;
+    push_decimal(&mut inner, u64::from(k))?;
     push_within(names, alloc, cell, &inner)
 }
 

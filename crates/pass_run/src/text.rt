@@ -16,25 +16,22 @@ use crit_path::walk_lines;
 use cycle_show::cycle_lines;
 use lam_geom::Axis;
 use std::alloc::{AllocError, Global};
+use stick_lex::{push_decimal, push_signed_decimal};
 
 // Adds a word and the number that comes after it.
-fn push_count(text: &mut Vec<u8>, alloc: Global, word: &[u8], count: u32) -> Result<(), AllocError>
+fn push_count(text: &mut Vec<u8>, word: &[u8], count: u32) -> Result<(), AllocError>
     ensures { OnOk result (text.new.items ≡ text.old.items ++ (word.now ++ decimal count)) }
 {
-    let digits = count.to_string(alloc)?;
     text.extend_from_slice(word)?;
-    text.extend_from_slice(digits.as_bytes())?;
-    Ok(())
+    push_decimal(text, u64::from(count))
 }
 
 // Adds a word and the length that comes after it, in u.
-fn push_len(text: &mut Vec<u8>, alloc: Global, word: &[u8], len: i64) -> Result<(), AllocError>
+fn push_len(text: &mut Vec<u8>, word: &[u8], len: i64) -> Result<(), AllocError>
     ensures { OnOk result (text.new.items ≡ text.old.items ++ (word.now ++ signed_decimal len)) }
 {
-    let digits = len.to_string(alloc)?;
     text.extend_from_slice(word)?;
-    text.extend_from_slice(digits.as_bytes())?;
-    Ok(())
+    push_signed_decimal(text, len)
 }
 
 // The letter of an axis.
@@ -48,46 +45,34 @@ fn letter(axis: Axis) -> u8
 }
 
 // Adds what each line of a pass begins with: its number and its axis.
-fn push_head(text: &mut Vec<u8>, alloc: Global, pass: u32, axis: Axis) -> Result<(), AllocError>
+fn push_head(text: &mut Vec<u8>, pass: u32, axis: Axis) -> Result<(), AllocError>
     ensures { OnOk result (text.new.items ≡ text.old.items ++ pass_head pass axis) }
 {
-    push_count(text, alloc, b"pass ", pass)?;
+    push_count(text, b"pass ", pass)?;
     text.push(b' ')?;
     text.push(letter(axis))?;
     Ok(())
 }
 
 // Adds the numbers of a pass, to the end of their line.
-fn push_counts(
-    text: &mut Vec<u8>,
-    alloc: Global,
-    edges: u32,
-    backward: u32,
-    rounds: u32,
-) -> Result<(), AllocError>
+fn push_counts(text: &mut Vec<u8>, edges: u32, backward: u32, rounds: u32) -> Result<(), AllocError>
     ensures { OnOk result (text.new.items ≡ text.old.items ++ count_line edges backward rounds) }
 {
-    push_count(text, alloc, b" edges ", edges)?;
-    push_count(text, alloc, b" backward ", backward)?;
-    push_count(text, alloc, b" rounds ", rounds)?;
+    push_count(text, b" edges ", edges)?;
+    push_count(text, b" backward ", backward)?;
+    push_count(text, b" rounds ", rounds)?;
     text.push(b'\n')?;
     Ok(())
 }
 
 // Adds the line of the size of a cell, in u, and its number of kept pairs.
-fn push_size(
-    text: &mut Vec<u8>,
-    alloc: Global,
-    cell: &Cell,
-    size: i64,
-    kept: u32,
-) -> Result<(), AllocError>
+fn push_size(text: &mut Vec<u8>, cell: &Cell, size: i64, kept: u32) -> Result<(), AllocError>
     ensures { OnOk result (text.new.items ≡ text.old.items ++ size_line cell.now size kept) }
 {
     text.extend_from_slice(b"cell ")?;
     text.extend_from_slice(cell.name.bytes())?;
-    push_len(text, alloc, b" size ", size)?;
-    push_count(text, alloc, b" kept ", kept)?;
+    push_len(text, b" size ", size)?;
+    push_count(text, b" kept ", kept)?;
     text.push(b'\n')?;
     Ok(())
 }
@@ -139,9 +124,9 @@ pub fn pass_text(
     let names = names(alloc, step.axis, cell)?;
     let lines = walk_lines(alloc, graph, &names, walk_in(step))?;
     let mut text = Vec::new(alloc);
-    push_head(&mut text, alloc, pass, step.axis)?;
-    push_counts(&mut text, alloc, step.edges, step.backward, step.rounds)?;
-    push_size(&mut text, alloc, cell, size(step), kept(step))?;
+    push_head(&mut text, pass, step.axis)?;
+    push_counts(&mut text, step.edges, step.backward, step.rounds)?;
+    push_size(&mut text, cell, size(step), kept(step))?;
     text.extend_from_slice(lines.bytes())?;
     Ok(text)
 }
@@ -165,13 +150,8 @@ pub fn cycle_text(
     let names = names(alloc, axis, cell)?;
     let lines = cycle_lines(alloc, graph, &names, cycle)?;
     let mut text = Vec::new(alloc);
-    push_head(&mut text, alloc, pass, axis)?;
-    push_len(
-        &mut text,
-        alloc,
-        b" unsatisfiable length ",
-        graph.walk_len(cycle),
-    )?;
+    push_head(&mut text, pass, axis)?;
+    push_len(&mut text, b" unsatisfiable length ", graph.walk_len(cycle))?;
     text.push(b'\n')?;
     text.extend_from_slice(lines.bytes())?;
     Ok(text)
