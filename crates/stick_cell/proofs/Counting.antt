@@ -87,48 +87,32 @@ boxes-with_copy known name k copied col row =
       length-map copied.wires (copied_wire first),
     )
 
--- the greatest column and row with the copy's nodes
-fold_max : (most : ℕ) (name : List ℕ) (col row : ℕ) (so_far other : ℕ) (nodes : List Node) → so_far ≡ max most (col + other)
-    → fold (λ most node. max most node.col) so_far (map (copied_node name col row) nodes) ≡ max most (col + fold (λ most node. max most node.col) other nodes)
-fold_max most name col row so_far other [] e = e
-fold_max most name col row so_far other (node ∷ nodes) e = fold_max most name col row (max so_far (col + node.col)) (max other node.col) nodes (omega arith)
+-- the greatest column, or row, with the copy's nodes
+abbrev greatest : (Node → ℕ) → ℕ → List Node → ℕ
+greatest of most nodes = fold (λ most node. max most (of node)) most nodes
 
-pub greatest_col-copies : (before : List Node) (name : List ℕ) (col row : ℕ) (node : Node) (nodes : List Node)
-    → greatest_col (before ++ map (copied_node name col row) (node ∷ nodes)) ≡ max (greatest_col before) (col + greatest_col (node ∷ nodes))
-greatest_col-copies before name col row node nodes =
-    fold-append (λ most node. max most node.col) 0 before (map (copied_node name col row) (node ∷ nodes))
-    ∙ fold_max (greatest_col before) name col row (max (greatest_col before) (col + node.col)) (max 0 node.col) nodes (omega arith)
+fold_max : (of : Node → ℕ) (shift : ℕ) (copy : Node → Node) → ((node : Node) → of (copy node) ≡ shift + of node) → (most so_far other : ℕ) (nodes : List Node) → so_far ≡ max most (shift + other)
+    → greatest of so_far (map copy nodes) ≡ max most (shift + greatest of other nodes)
+fold_max of shift copy moved most so_far other [] e = e
+fold_max of shift copy moved most so_far other (node ∷ nodes) e = fold_max of shift copy moved most (max so_far (of (copy node))) (max other (of node)) nodes (omega (arith, e, moved node))
 
-fold_max_row : (most : ℕ) (name : List ℕ) (col row : ℕ) (so_far other : ℕ) (nodes : List Node) → so_far ≡ max most (row + other)
-    → fold (λ most node. max most node.row) so_far (map (copied_node name col row) nodes) ≡ max most (row + fold (λ most node. max most node.row) other nodes)
-fold_max_row most name col row so_far other [] e = e
-fold_max_row most name col row so_far other (node ∷ nodes) e = fold_max_row most name col row (max so_far (row + node.row)) (max other node.row) nodes (omega arith)
-
-pub greatest_row-copies : (before : List Node) (name : List ℕ) (col row : ℕ) (node : Node) (nodes : List Node)
-    → greatest_row (before ++ map (copied_node name col row) (node ∷ nodes)) ≡ max (greatest_row before) (row + greatest_row (node ∷ nodes))
-greatest_row-copies before name col row node nodes =
-    fold-append (λ most node. max most node.row) 0 before (map (copied_node name col row) (node ∷ nodes))
-    ∙ fold_max_row (greatest_row before) name col row (max (greatest_row before) (row + node.row)) (max 0 node.row) nodes (omega arith)
+greatest-copies : (of : Node → ℕ) (shift : ℕ) (copy : Node → Node) → ((node : Node) → of (copy node) ≡ shift + of node) → (before : List Node) (node : Node) (nodes : List Node)
+    → greatest of 0 (before ++ map copy (node ∷ nodes)) ≡ max (greatest of 0 before) (shift + greatest of 0 (node ∷ nodes))
+greatest-copies of shift copy moved before node nodes =
+    fold-append (λ most node. max most (of node)) 0 before (map copy (node ∷ nodes))
+    ∙ fold_max of shift copy moved (greatest of 0 before) (max (greatest of 0 before) (of (copy node))) (max 0 (of node)) nodes (omega (arith, moved node))
 
 not_zero : (n : ℕ) → 0 < n → (n == 0) ≡ false
 not_zero n h = grind (arith, nat_tests)
 
 -- as the code finds it: where the copied cell has no node it does not rise
-pub most_col-copies : (before nodes : List Node) (name : List ℕ) (col row most count copied : ℕ) → most ≡ greatest_col before → count ≡ capped (length nodes) → copied ≡ greatest_col nodes
-    → (if count == 0 then most else max most (col + copied)) ≡ greatest_col (before ++ map (copied_node name col row) nodes)
-most_col-copies before [] name col row most count copied is counted same =
-    ap (λ (n : ℕ). if n == 0 then most else max most (col + copied)) counted ∙ is ∙ ap greatest_col (sym (append-nil before))
-most_col-copies before (node ∷ nodes) name col row most count copied is counted same =
-    ap (λ (b : Bool). if b then most else max most (col + copied)) (not_zero count (omega arith))
-    ∙ ap (λ (n : ℕ). max n (col + copied)) is ∙ ap (λ (n : ℕ). max (greatest_col before) (col + n)) same ∙ sym (greatest_col-copies before name col row node nodes)
-
-pub most_row-copies : (before nodes : List Node) (name : List ℕ) (col row most count copied : ℕ) → most ≡ greatest_row before → count ≡ capped (length nodes) → copied ≡ greatest_row nodes
-    → (if count == 0 then most else max most (row + copied)) ≡ greatest_row (before ++ map (copied_node name col row) nodes)
-most_row-copies before [] name col row most count copied is counted same =
-    ap (λ (n : ℕ). if n == 0 then most else max most (row + copied)) counted ∙ is ∙ ap greatest_row (sym (append-nil before))
-most_row-copies before (node ∷ nodes) name col row most count copied is counted same =
-    ap (λ (b : Bool). if b then most else max most (row + copied)) (not_zero count (omega arith))
-    ∙ ap (λ (n : ℕ). max n (row + copied)) is ∙ ap (λ (n : ℕ). max (greatest_row before) (row + n)) same ∙ sym (greatest_row-copies before name col row node nodes)
+pub most-copies : (of : Node → ℕ) (shift : ℕ) (copy : Node → Node) → ((node : Node) → of (copy node) ≡ shift + of node) → (before nodes : List Node) (most count copied : ℕ) → most ≡ greatest of 0 before
+    → count ≡ capped (length nodes) → copied ≡ greatest of 0 nodes → (if count == 0 then most else max most (shift + copied)) ≡ greatest of 0 (before ++ map copy nodes)
+most-copies of shift copy moved before [] most count copied is counted same =
+    ap (λ (n : ℕ). if n == 0 then most else max most (shift + copied)) counted ∙ is ∙ ap (greatest of 0) (sym (append-nil before))
+most-copies of shift copy moved before (node ∷ nodes) most count copied is counted same =
+    ap (λ (b : Bool). if b then most else max most (shift + copied)) (not_zero count (omega arith))
+    ∙ ap (λ (n : ℕ). max n (shift + copied)) is ∙ ap (λ (n : ℕ). max (greatest of 0 before) (shift + n)) same ∙ sym (greatest-copies of shift copy moved before node nodes)
 
 -- a capped count with a capped count
 pub counted_copy : (kept known more added result next : ℕ) → kept ≡ capped known → more ≡ capped added → result ≡ capped (kept + more) → next ≡ known + added → result ≡ capped next

@@ -29,7 +29,7 @@ use Rattle.stick_cell.specs.declared.names.Found.TheVariants.{At}
 use Rattle.stick_cell.specs.declared.names.Run.{Run}
 use Rattle.stick_cell.specs.Known.{Known, Plug, cell_of, no_plug, plug_at}
 use Rattle.stick_cell.specs.Checks.{demand, sized}
-use Rattle.stick_cell.specs.Wires.{terminal, line_of, run_along, run_between, straight, takes_layer, takes_along, is_free, is_within_pad, end_of, at_both, wire_along, wire_on, wire_between}
+use Rattle.stick_cell.specs.Wires.{terminal, line_of, run_along, run_from_port, run_between, straight, takes_layer, takes_along, is_free, is_within_pad, end_of, at_both, wire_along, wire_on, wire_between}
 use Rattle.cell_model.specs.Wiring.{is_same_axis, axis_of, is_low_side, is_same_layer, node_takes, node_takes_along, node_pad}
 use Rattle.cell_model.specs.Sound.{node_at, port_at, IsEnd, Takes, IsOnLowSide, IsOnHighSide, line_at, IsInOrder, IsWithinPad, IsWire, EndsAt}
 use Rattle.stick_cell.proofs.Accepted.{bound, two_bound, demanded, two_demanded, both, terminal_ok, straight_ok, ok_same, eq_from_test, less_from_test, more_from_test, le_from_test}
@@ -185,16 +185,10 @@ port_to_node cell p b false ip ib line side =
       ordered = order_to_port cell (axis_of p.side) b.number p.number;
     }
 
--- between a node and a port
-node_to_port : (cell : Cell) (a : Spot) (q : Pin) (low : Bool) → IsNodeOf cell a → IsPortOf cell q → line_of (axis_of q.side) a ≡ q.place → is_low_side q.side ≡ low
-    → IsRun cell (run_along (axis_of q.side) (not low) (terminals.Node a) (terminals.Port q))
-node_to_port cell a q true ia iq line side = port_to_node cell q a true iq ia line side
-node_to_port cell a q false ia iq line side = port_to_node cell q a false iq ia line side
-
--- between two ports that lie opposite each other
-port_to_port : (cell : Cell) (p q : Pin) (low : Bool) → IsPortOf cell p → IsPortOf cell q → axis_of q.side ≡ axis_of p.side → p.place ≡ q.place → is_low_side p.side ≡ low → is_low_side q.side ≡ not low
-    → IsRun cell (run_along (axis_of p.side) low (terminals.Port p) (terminals.Port q))
-port_to_port cell p q true ip iq axis place side other =
+-- from a port on a low side to one that lies opposite
+facing : (cell : Cell) (p q : Pin) → IsPortOf cell p → IsPortOf cell q → axis_of q.side ≡ axis_of p.side → p.place ≡ q.place → is_low_side p.side ≡ true → is_low_side q.side ≡ false
+    → IsRun cell (record { along = axis_of p.side; low = terminals.Port p; high = terminals.Port q })
+facing cell p q ip iq axis place side other =
     record {
       low = ip;
       high = iq;
@@ -205,17 +199,13 @@ port_to_port cell p q true ip iq axis place side other =
       straight = port_line cell (axis_of p.side) p ip ∙ place ∙ sym (port_line cell (axis_of p.side) q iq);
       ordered = order_from_port cell (axis_of p.side) p.number (ends.Port q.number);
     }
+
+-- between two ports that lie opposite each other
+port_to_port : (cell : Cell) (p q : Pin) (low : Bool) → IsPortOf cell p → IsPortOf cell q → axis_of q.side ≡ axis_of p.side → p.place ≡ q.place → is_low_side p.side ≡ low → is_low_side q.side ≡ not low
+    → IsRun cell (run_along (axis_of p.side) low (terminals.Port p) (terminals.Port q))
+port_to_port cell p q true ip iq axis place side other = facing cell p q ip iq axis place side other
 port_to_port cell p q false ip iq axis place side other =
-    record {
-      low = iq;
-      high = ip;
-      reaches_low = axis;
-      reaches_high = refl;
-      low_side = on_low cell q iq other;
-      high_side = on_high cell p ip (ap not side);
-      straight = port_line cell (axis_of p.side) q iq ∙ sym place ∙ sym (port_line cell (axis_of p.side) p ip);
-      ordered = order_from_port cell (axis_of p.side) q.number (ends.Port p.number);
-    }
+    subst (λ along. IsRun cell (record { along = along; low = terminals.Port q; high = terminals.Port p })) axis (facing cell q p iq ip (sym axis) (sym place) other side)
 
 -- one axis
 same_axis : (a b : Axis2) → IsTrue (is_same_axis a b) → b ≡ a
@@ -236,18 +226,19 @@ if_some : {A : Type 0} (b : Bool) (x y : A) → (if b then Some x else None) ≡
 if_some true x y e = (refl, some_same x y e)
 if_some false x y e = absurd (cc)
 
+-- a run from a port to a node is one
+from_port : (cell : Cell) (p : Pin) (b : Spot) (run : Run) → IsPortOf cell p → IsNodeOf cell b → run_from_port p b ≡ Some run → IsRun cell run
+from_port cell p b run ip ib e =
+    let h : IsTrue (line_of (axis_of p.side) b == p.place) × (run_along (axis_of p.side) (is_low_side p.side) (terminals.Port p) (terminals.Node b) ≡ run) =
+    if_some (line_of (axis_of p.side) b == p.place) (run_along (axis_of p.side) (is_low_side p.side) (terminals.Port p) (terminals.Node b)) run e in
+    subst (IsRun cell) h.1 (port_to_node cell p b (is_low_side p.side) ip ib (eq_from_test (line_of (axis_of p.side) b) p.place h.0) refl)
+
 -- a run between two terminals is one
 pub is_run : (cell : Cell) (a b : Terminal) (run : Run) → IsTerminalOf cell a → IsTerminalOf cell b → run_between a b ≡ Some run → IsRun cell run
 is_run cell (terminals.Node a) (terminals.Node b) run ia ib e =
     nodes_run cell a b ((a.row == b.row) && not (a.col == b.col)) ((a.col == b.col) && not (a.row == b.row)) run ia ib refl refl e
-is_run cell (terminals.Node a) (terminals.Port q) run ia iq e =
-    let h : IsTrue (line_of (axis_of q.side) a == q.place) × (run_along (axis_of q.side) (not (is_low_side q.side)) (terminals.Node a) (terminals.Port q) ≡ run) =
-    if_some (line_of (axis_of q.side) a == q.place) (run_along (axis_of q.side) (not (is_low_side q.side)) (terminals.Node a) (terminals.Port q)) run e in
-    subst (IsRun cell) h.1 (node_to_port cell a q (is_low_side q.side) ia iq (eq_from_test (line_of (axis_of q.side) a) q.place h.0) refl)
-is_run cell (terminals.Port p) (terminals.Node b) run ip ib e =
-    let h : IsTrue (line_of (axis_of p.side) b == p.place) × (run_along (axis_of p.side) (is_low_side p.side) (terminals.Port p) (terminals.Node b) ≡ run) =
-    if_some (line_of (axis_of p.side) b == p.place) (run_along (axis_of p.side) (is_low_side p.side) (terminals.Port p) (terminals.Node b)) run e in
-    subst (IsRun cell) h.1 (port_to_node cell p b (is_low_side p.side) ip ib (eq_from_test (line_of (axis_of p.side) b) p.place h.0) refl)
+is_run cell (terminals.Node a) (terminals.Port q) run ia iq e = from_port cell q a run iq ia e
+is_run cell (terminals.Port p) (terminals.Node b) run ip ib e = from_port cell p b run ip ib e
 is_run cell (terminals.Port p) (terminals.Port q) run ip iq e =
     let sides : Bool = not (is_low_side p.side) && is_low_side q.side || is_low_side p.side && not (is_low_side q.side) in
     let h : IsTrue (is_same_axis (axis_of p.side) (axis_of q.side) && sides && (p.place == q.place)) × (run_along (axis_of p.side) (is_low_side p.side) (terminals.Port p) (terminals.Port q) ≡ run) =

@@ -9,6 +9,7 @@ use Rattle.stick_parse.specs.Reading.{◌>>=◌}
 use Rattle.cell_model.specs.declared.cell.Axis2.{Axis2}
 use Rattle.cell_model.specs.declared.cell.Axis2.TheVariants.{Across, Up}
 use Rattle.cell_model.specs.declared.cell.Wire.{Wire}
+use Rattle.stick_cell.specs.declared.names.Pin.{Pin}
 use Rattle.stick_cell.specs.declared.names.Spot.{Spot}
 use Rattle.stick_cell.specs.declared.names.Terminal.{Terminal}
 use Rattle.stick_cell.specs.declared.names.Terminal.TheVariants.{Node, Port}
@@ -16,7 +17,7 @@ use Rattle.stick_cell.specs.declared.names.Found.{Found}
 use Rattle.stick_cell.specs.declared.names.Found.TheVariants.{At, AtCopy, Through}
 use Rattle.stick_cell.specs.declared.names.Run.{Run}
 use Rattle.stick_cell.specs.Checks.{demand, sized}
-use Rattle.stick_cell.specs.Wires.{terminal, line_of, run_along, run_between, straight, takes_layer, takes_along, is_free, is_within_pad, end_of, at_both, wire_along, wire_between, limited}
+use Rattle.stick_cell.specs.Wires.{terminal, line_of, run_along, run_from_port, run_between, straight, takes_layer, takes_along, is_free, is_within_pad, end_of, at_both, wire_along, wire_between, limited}
 use Rattle.cell_model.specs.Wiring.{axis_of, is_low_side, is_same_axis}
 use Rattle.stick_cell.specs.Kept.{ended, kept_spot, kept_found, capped_spot, capped_end, capped_wire, IsNearFound}
 
@@ -84,19 +85,17 @@ line_of-capped : (along : Axis2) (spot : Spot) → line_of along (capped_spot sp
 line_of-capped Across spot = refl
 line_of-capped Up spot = refl
 
--- nor does the run between two terminals
+-- nor does the run from a port to a node
+run_from_port-capped : (p : Pin) (b : Spot) → run_from_port p (capped_spot b) ≡ option_map capped_run (run_from_port p b)
+run_from_port-capped p b =
+    ap (λ (line : ℕ). cond (line == p.place) (Some (run_along (axis_of p.side) (is_low_side p.side) (Port p) (Node (capped_spot b)))) None) (line_of-capped (axis_of p.side) b)
+    ∙ run_if (line_of (axis_of p.side) b == p.place) (axis_of p.side) (is_low_side p.side) (Port p) (Node b)
+
+-- or between two terminals
 run_between-capped : (a b : Terminal) → run_between (capped_terminal a) (capped_terminal b) ≡ option_map capped_run (run_between a b)
 run_between-capped (Node a) (Node b) = run_either ((a.row == b.row) && not (a.col == b.col)) ((a.col == b.col) && not (a.row == b.row)) (nat_lt a.col b.col) (nat_lt a.row b.row) (Node a) (Node b)
-run_between-capped (Node a) (Port q) =
-    let along = axis_of q.side in
-    let is_low = not (is_low_side q.side) in
-    ap (λ (line : ℕ). cond (line == q.place) (Some (run_along along is_low (Node (capped_spot a)) (Port q))) None) (line_of-capped along a)
-    ∙ run_if (line_of along a == q.place) along is_low (Node a) (Port q)
-run_between-capped (Port p) (Node b) =
-    let along = axis_of p.side in
-    let is_low = is_low_side p.side in
-    ap (λ (line : ℕ). cond (line == p.place) (Some (run_along along is_low (Port p) (Node (capped_spot b)))) None) (line_of-capped along b)
-    ∙ run_if (line_of along b == p.place) along is_low (Port p) (Node b)
+run_between-capped (Node a) (Port q) = run_from_port-capped q a
+run_between-capped (Port p) (Node b) = run_from_port-capped p b
 run_between-capped (Port p) (Port q) =
     run_if (is_same_axis (axis_of p.side) (axis_of q.side) && (not (is_low_side p.side) && is_low_side q.side || is_low_side p.side && not (is_low_side q.side)) && (p.place == q.place)) (axis_of p.side) (is_low_side p.side) (Port p) (Port q)
 

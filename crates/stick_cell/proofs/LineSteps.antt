@@ -1,5 +1,5 @@
 -- What is kept of a cell while it grows is that of its lines.
-use Rattle.std.proofs.Common.{◌≡◌, ℕ, ◌≤◌, Bool, true, false, ◌&&◌, cond, is_none, IsTrue, List, [], ◌∷◌, ◌++◌, Option, Some, None, option_map, Result, Ok, Err, refl, sym, ap, subst, ◌∙◌, arith}
+use Rattle.std.proofs.Common.{◌≡◌, ℕ, ◌≤◌, Bool, true, false, ◌&&◌, cond, is_none, List, [], ◌∷◌, ◌++◌, Option, Some, None, option_map, Result, Ok, Err, refl, sym, ap, subst, ◌∙◌, arith}
 use Rattle.std.specs.List.{AllByRecursion}
 use Rattle.std.specs.Result.{IsErrAnd}
 use Rattle.std.specs.Str.{bytes_eq}
@@ -55,15 +55,6 @@ pub placed-then : {B : Type 0} (names : Names) (name : List ℕ) (col row : ℕ)
 unfolding placed
 placed-then names name col row g = bind_assoc (demand (is_fresh names name) RepeatedName) (λ _. demand (is_place col && is_place row) FarPlace) g
 
--- where these tests pass the name is new
-pub fresh-placed : (names : Names) (name : List ℕ) (col row : ℕ) → placed names name col row ≡ Ok tt → IsTrue (is_fresh names name)
-unfolding placed
-fresh-placed names name col row e = by_test (is_fresh names name) e
-  where
-    by_test : (b : Bool) → (demand b RepeatedName >>= (λ _. demand (is_place col && is_place row) FarPlace)) ≡ Ok tt → IsTrue b
-    by_test true e = refl
-    by_test false e = absurd cc
-
 -- one more name
 pub capped_names-push : (names : Names) (name : List ℕ) (thing : Thing) → capped_names (names ++ (name, thing) ∷ []) ≡ capped_names names ++ (name, capped_thing thing) ∷ []
 capped_names-push [] name thing = refl
@@ -89,9 +80,6 @@ names-push old new names name kept thing more is same =
 pub placed-kept : (kept names : Names) (name : List ℕ) (col row : ℕ) (r : Result (Unit {0}) StickKind) → kept ≡ capped_names names → r ≡ placed kept name col row
     → placed names name col row ≡ r
 placed-kept kept names name col row r is e = sym (e ∙ ap (λ entries. placed entries name col row) is ∙ placed-capped names name col row)
-
-pub fresh-kept : (kept : Names) (name : List ℕ) (col row : ℕ) (r : Result (Unit {0}) StickKind) → r ≡ placed kept name col row → r ≡ Ok tt → IsTrue (is_fresh kept name)
-fresh-kept kept name col row r e ok = fresh-placed kept name col row (sym e ∙ ok)
 
 -- ---- each form, by what its tests give
 

@@ -11,6 +11,7 @@ use Rattle.cell_model.specs.declared.cell.WireEnd.{WireEnd}
 use Rattle.cell_model.specs.declared.cell.WireEnd.TheVariants as ends
 use Rattle.cell_model.specs.declared.cell.Wire.{Wire}
 use Rattle.cell_model.specs.Wiring.{axis_of, is_low_side, is_same_axis, is_same_layer, node_takes, node_takes_along, node_pad}
+use Rattle.stick_cell.specs.declared.names.Pin.{Pin}
 use Rattle.stick_cell.specs.declared.names.Spot.{Spot}
 use Rattle.stick_cell.specs.declared.names.Terminal.{Terminal}
 use Rattle.stick_cell.specs.declared.names.Terminal.TheVariants.{Node, Port}
@@ -39,16 +40,17 @@ line_of Up spot = spot.col
 abbrev pub run_along : Axis2 → Bool → Terminal → Terminal → Run
 run_along along is_low a b = if is_low then record { along = along; low = a; high = b } else record { along = along; low = b; high = a }
 
--- Two nodes share exactly one of column and row. A left or right port lies in the row of a node, a bottom or top port in its column.
--- Two ports lie opposite each other.
+-- A left or right port lies in the row of a node, a bottom or top port in its column.
+abbrev pub run_from_port : Pin → Spot → Option Run
+run_from_port p b = if line_of (axis_of p.side) b == p.place then Some (run_along (axis_of p.side) (is_low_side p.side) (Port p) (Node b)) else None
+
+-- Two nodes share exactly one of column and row. Two ports lie opposite each other.
 abbrev pub run_between : Terminal → Terminal → Option Run
 run_between (Node a) (Node b) =
     if (a.row == b.row) && not (a.col == b.col) then Some (run_along Across (nat_lt a.col b.col) (Node a) (Node b))
     else (if (a.col == b.col) && not (a.row == b.row) then Some (run_along Up (nat_lt a.row b.row) (Node a) (Node b)) else None)
-run_between (Node a) (Port q) =
-    if line_of (axis_of q.side) a == q.place then Some (run_along (axis_of q.side) (not (is_low_side q.side)) (Node a) (Port q)) else None
-run_between (Port p) (Node b) =
-    if line_of (axis_of p.side) b == p.place then Some (run_along (axis_of p.side) (is_low_side p.side) (Port p) (Node b)) else None
+run_between (Node a) (Port q) = run_from_port q a
+run_between (Port p) (Node b) = run_from_port p b
 run_between (Port p) (Port q) =
     if is_same_axis (axis_of p.side) (axis_of q.side) && (not (is_low_side p.side) && is_low_side q.side || is_low_side p.side && not (is_low_side q.side)) && (p.place == q.place)
     then Some (run_along (axis_of p.side) (is_low_side p.side) (Port p) (Port q)) else None

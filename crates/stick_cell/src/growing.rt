@@ -1,5 +1,5 @@
 //! A cell while its lines are read.
-ghost use Rattle.std.specs.Prelude.{◌≡◌, List, map, IsTrue, OnOk};
+ghost use Rattle.std.specs.Prelude.{◌≡◌, List, map, IsTrue, IfOk, OnOk};
 ghost use Rattle.stick_cell.specs.Checks.{is_fresh};
 ghost use Rattle.stick_cell.specs.NameEntries.{entries_of};
 ghost use Rattle.stick_cell.specs.Known.{Known, begun, with_node, with_port};
@@ -134,7 +134,8 @@ impl<'a> Growing<'a> {
     /// Refuses a name that the cell has already, and a column or a row that is too far out.
     #[tactic(auto, unfolding(crate::specs::Growing::placed))]
     fn check_place(&self, name: &[u8], col: u32, row: u32) -> Result<(), StickKind>
-        ensures { result ≡ placed (entries_of self.now.table.names) name.now col row }
+        ensures placed { result ≡ placed (entries_of self.now.table.names) name.now col row }
+        ensures fresh { IfOk result (λ passed. IsTrue (is_fresh (entries_of self.now.table.names) name.now)) }
     {
         if !self.table.names.is_fresh(name) {
             return Err(StickKind::RepeatedName);

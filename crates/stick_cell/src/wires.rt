@@ -5,7 +5,7 @@ ghost use Rattle.rule_table.specs.declared.classes.Layer.{Layer};
 ghost use Rattle.stick_parse.specs.declared.fault.StickKind.{StickKind};
 ghost use Rattle.stick_cell.specs.declared.names.Found.{Found};
 ghost use Rattle.stick_cell.specs.Refusals.{IsRefusedWire};
-ghost use Rattle.stick_cell.specs.Wires.{wire_between, terminal, line_of, run_along, run_between, takes_layer, takes_along, is_free, is_within_pad, end_of, at_both, limited};
+ghost use Rattle.stick_cell.specs.Wires.{wire_between, terminal, line_of, run_along, run_from_port, run_between, takes_layer, takes_along, is_free, is_within_pad, end_of, at_both, limited};
 
 use crate::checks::sized;
 use crate::names::{Found, Pin, Run, Spot, Terminal};
@@ -121,8 +121,8 @@ fn run_between(a: Terminal, b: Terminal) -> Option<Run>
 {
     match (a, b) {
         (Terminal::Node(from), Terminal::Node(to)) => run_between_nodes(from, to),
-        (Terminal::Node(node), Terminal::Port(port)) => run_to_port(node, port),
-        (Terminal::Port(port), Terminal::Node(node)) => run_from_port(port, node),
+        (Terminal::Node(node), Terminal::Port(port))
+        | (Terminal::Port(port), Terminal::Node(node)) => run_from_port(port, node),
         (Terminal::Port(from), Terminal::Port(to)) => run_between_ports(from, to),
     }
 }
@@ -143,24 +143,8 @@ fn run_between_nodes(a: Spot, b: Spot) -> Option<Run>
 }
 
 // A left or right port lies in the row of the node, a bottom or top port in its column.
-fn run_to_port(a: Spot, q: Pin) -> Option<Run>
-    ensures { result ≡ run_between (Terminal.Node a) (Terminal.Port q) }
-{
-    let along = Axis2::of_side(q.side);
-    if line_of(along, a) == q.place {
-        Some(run_along(
-            along,
-            !is_low_side(q.side),
-            Terminal::Node(a),
-            Terminal::Port(q),
-        ))
-    } else {
-        None
-    }
-}
-
 fn run_from_port(p: Pin, b: Spot) -> Option<Run>
-    ensures { result ≡ run_between (Terminal.Port p) (Terminal.Node b) }
+    ensures { result ≡ run_from_port p b }
 {
     let along = Axis2::of_side(p.side);
     if line_of(along, b) == p.place {

@@ -6,7 +6,8 @@ use Rattle.std.proofs.lemmas.List.{take_rest}
 use Rattle.std.proofs.lemmas.Iterator.{YieldsList-from_slice}
 use Rattle.std.proofs.lemmas.Iterator.Search.{position_from_yields_List}
 use Rattle.stick_lex.specs.Tokens.{names}
-use Rattle.stick_cell.proofs.FirstName.{is_dot, found_at, not_found, first_of, whole_of}
+use Rattle.stick_parse.proofs.FirstLine.{found_at, not_found}
+use Rattle.stick_cell.proofs.FirstName.{is_dot, first_of, whole_of}
 use Rattle.stick_cell.proofs.paths.split_first.Goals as goal
 use Rattle.stick_cell.proofs.paths.split_first.Goals.{After-position}
 

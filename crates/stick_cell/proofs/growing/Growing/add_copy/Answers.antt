@@ -5,7 +5,7 @@ use Rattle.stick_cell.specs.declared.names.Thing.TheVariants as things
 use Rattle.stick_cell.specs.Known.{known_at, with_copy, copied_node, copied_wire}
 use Rattle.stick_cell.specs.Counts.{weight_of, boxes_of}
 use Rattle.stick_cell.specs.NameEntries.{entries_of}
-use Rattle.stick_cell.proofs.Counting.{counted, counted_copy, weight-with_copy, boxes-with_copy, most_col-copies, most_row-copies}
+use Rattle.stick_cell.proofs.Counting.{counted, counted_copy, weight-with_copy, boxes-with_copy, most-copies}
 use Rattle.stick_cell.proofs.LineSteps.{names-push, below-more}
 use Rattle.stick_cell.proofs.Stepping.{steps-push}
 use Rattle.stick_cell.proofs.growing.Growing.add_copy.Goals as goal
@@ -31,8 +31,8 @@ returns c = λ cells known grown earlier is.
             (counted_copy table.weight (weight_of known) used.weight (weight_of other) c.capped_sum.result (weight_of known + weight_of other) grown.tells.weight is.tells.weight c.capped_sum.ensures refl)
             c.capped_sum-self-3.ensures (omega (arith, weight-with_copy known name a.cell other a.col a.row));
         boxes = counted_copy table.boxes (boxes_of known) used.boxes (boxes_of other) c.capped_sum-self-4.result (boxes_of next) grown.tells.boxes is.tells.boxes c.capped_sum-self-4.ensures (boxes-with_copy known name a.cell other a.col a.row);
-        most_col = c.most_with_copy-self.ensures ∙ most_col-copies known.nodes other.nodes name a.col a.row table.most_col used.nodes used.most_col grown.tells.most_col is.tells.nodes is.tells.most_col;
-        most_row = c.most_with_copy-self-2.ensures ∙ most_row-copies known.nodes other.nodes name a.col a.row table.most_row used.nodes used.most_row grown.tells.most_row is.tells.nodes is.tells.most_row;
+        most_col = c.most_with_copy-self.ensures ∙ most-copies (λ node. node.col) a.col (copied_node name a.col a.row) (λ node. refl) known.nodes other.nodes table.most_col used.nodes used.most_col grown.tells.most_col is.tells.nodes is.tells.most_col;
+        most_row = c.most_with_copy-self-2.ensures ∙ most-copies (λ node. node.row) a.row (copied_node name a.col a.row) (λ node. refl) known.nodes other.nodes table.most_row used.nodes used.most_row grown.tells.most_row is.tells.nodes is.tells.most_row;
         depth = omega (arith, c.max-self.ensures, grown.tells.depth, is.tells.depth);
       };
       ports = grown.ports;

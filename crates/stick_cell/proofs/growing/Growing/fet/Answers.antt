@@ -7,7 +7,7 @@ use Rattle.stick_cell.specs.Checks.{is_channel}
 use Rattle.stick_cell.specs.Lines.{axis_where}
 use Rattle.stick_cell.specs.Known.{with_node}
 use Rattle.stick_cell.specs.NameEntries.{entries_of}
-use Rattle.stick_cell.proofs.LineSteps.{grows-residual, placed-kept, fresh-kept, fet-by}
+use Rattle.stick_cell.proofs.LineSteps.{grows-residual, placed-kept, fet-by}
 use Rattle.stick_cell.proofs.growing.Growing.fet.Goals as goal
 
 pub returns-in_err-check_place : goal.returns-in_err-check_place
@@ -15,19 +15,14 @@ returns-in_err-check_place c = λ cells known grown.
     let a = c.args in
     grows-residual cells c.from_residual.result a.self.now _ c.in_err-check_place.field-0.0 c.from_residual.ensures.1
     (fet-by a.tech.now known a.name.now a.depletion a.vertical a.col a.row a.w a.l (Err c.in_err-check_place.field-0.0) (is_channel a.tech.now a.w a.l)
-    (placed-kept (entries_of a.self.now.table.names) known.names a.name.now a.col a.row _ grown.tells.names (sym c.in_err-check_place.was ∙ c.check_place.ensures)) refl)
+    (placed-kept (entries_of a.self.now.table.names) known.names a.name.now a.col a.row _ grown.tells.names (sym c.in_err-check_place.was ∙ c.check_place.ensures.placed)) refl)
 
 pub returns-then-not-is_channel : goal.returns-then-not-is_channel
 returns-then-not-is_channel c = λ cells known grown.
     let a = c.args in
     let b : is_channel a.tech.now a.w a.l ≡ false = search rules in
     fet-by a.tech.now known a.name.now a.depletion a.vertical a.col a.row a.w a.l (Ok tt) false
-    (placed-kept (entries_of a.self.now.table.names) known.names a.name.now a.col a.row _ grown.tells.names (sym c.in_ok-check_place.was ∙ c.check_place.ensures)) b
-
-pub add_node-requires : goal.add_node-requires
-add_node-requires c =
-    let a = c.args in
-    fresh-kept (entries_of a.self.now.table.names) a.name.now a.col a.row c.check_place.result c.check_place.ensures c.in_ok-check_place.was
+    (placed-kept (entries_of a.self.now.table.names) known.names a.name.now a.col a.row _ grown.tells.names (sym c.in_ok-check_place.was ∙ c.check_place.ensures.placed)) b
 
 pub returns : goal.returns
 returns c = λ cells known grown.
@@ -42,6 +37,6 @@ returns c = λ cells known grown.
     let P : NodeKind → Type 0 = λ kind. IsGrowing cells (with_node known a.name.now kind a.col a.row) c.add_node.new.self in (
       with_node known a.name.now (kinds.Fet a.depletion (axis_where a.vertical) (pos a.w) (pos a.l)) a.col a.row,
       fet-by a.tech.now known a.name.now a.depletion a.vertical a.col a.row a.w a.l (Ok tt) true
-          (placed-kept (entries_of a.self.now.table.names) known.names a.name.now a.col a.row _ grown.tells.names (sym c.in_ok-check_place.was ∙ c.check_place.ensures)) b,
+          (placed-kept (entries_of a.self.now.table.names) known.names a.name.now a.col a.row _ grown.tells.names (sym c.in_ok-check_place.was ∙ c.check_place.ensures.placed)) b,
       subst P kind (c.in_ok-add_node.ensures cells known grown),
     )

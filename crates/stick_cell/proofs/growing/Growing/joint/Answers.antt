@@ -5,7 +5,7 @@ use Rattle.stick_cell.specs.Growing.{IsGrowing}
 use Rattle.stick_cell.specs.Checks.{layer_of, sized}
 use Rattle.stick_cell.specs.Known.{with_node}
 use Rattle.stick_cell.specs.NameEntries.{entries_of}
-use Rattle.stick_cell.proofs.LineSteps.{grows-residual, placed-kept, fresh-kept, joint-by}
+use Rattle.stick_cell.proofs.LineSteps.{grows-residual, placed-kept, joint-by}
 use Rattle.stick_cell.proofs.growing.Growing.joint.Goals as goal
 
 pub returns-in_err-check_place : goal.returns-in_err-check_place
@@ -13,7 +13,7 @@ returns-in_err-check_place c = λ cells known grown.
     let a = c.args in
     grows-residual cells c.from_residual.result a.self.now _ c.in_err-check_place.field-0.0 c.from_residual.ensures.1
     (joint-by a.tech.now known a.name.now a.layer a.col a.row a.width (Err c.in_err-check_place.field-0.0) (sized a.tech.now (layer_of a.layer) a.width)
-    (placed-kept (entries_of a.self.now.table.names) known.names a.name.now a.col a.row _ grown.tells.names (sym c.in_err-check_place.was ∙ c.check_place.ensures)) refl)
+    (placed-kept (entries_of a.self.now.table.names) known.names a.name.now a.col a.row _ grown.tells.names (sym c.in_err-check_place.was ∙ c.check_place.ensures.placed)) refl)
 
 pub returns-in_err-width : goal.returns-in_err-width
 returns-in_err-width c = λ cells known grown.
@@ -21,13 +21,8 @@ returns-in_err-width c = λ cells known grown.
     let k = c.in_err-width.field-0.0 in
     grows-residual cells c.from_residual-in_err-width.result a.self.now _ k c.from_residual-in_err-width.ensures.1
     (joint-by a.tech.now known a.name.now a.layer a.col a.row a.width (Ok tt) (Err k)
-    (placed-kept (entries_of a.self.now.table.names) known.names a.name.now a.col a.row _ grown.tells.names (sym c.in_ok-check_place.was ∙ c.check_place.ensures))
+    (placed-kept (entries_of a.self.now.table.names) known.names a.name.now a.col a.row _ grown.tells.names (sym c.in_ok-check_place.was ∙ c.check_place.ensures.placed))
     (ap (λ layer. sized a.tech.now layer a.width) (sym c.layer_of-layer.ensures) ∙ sym c.sized.ensures ∙ c.in_err-width.was))
-
-pub add_node-requires : goal.add_node-requires
-add_node-requires c =
-    let a = c.args in
-    fresh-kept (entries_of a.self.now.table.names) a.name.now a.col a.row c.check_place.result c.check_place.ensures c.in_ok-check_place.was
 
 pub returns : goal.returns
 returns c = λ cells known grown.
@@ -39,7 +34,7 @@ returns c = λ cells known grown.
     let P : NodeKind → Type 0 = λ kind. IsGrowing cells (with_node known a.name.now kind a.col a.row) c.add_node.new.self in (
       with_node known a.name.now (kinds.Joint (layer_of a.layer) width) a.col a.row,
       joint-by a.tech.now known a.name.now a.layer a.col a.row a.width (Ok tt) (Ok width)
-          (placed-kept (entries_of a.self.now.table.names) known.names a.name.now a.col a.row _ grown.tells.names (sym c.in_ok-check_place.was ∙ c.check_place.ensures))
+          (placed-kept (entries_of a.self.now.table.names) known.names a.name.now a.col a.row _ grown.tells.names (sym c.in_ok-check_place.was ∙ c.check_place.ensures.placed))
           (ap (λ layer. sized a.tech.now layer a.width) (sym c.layer_of-layer.ensures) ∙ sym c.sized.ensures ∙ c.in_ok-width.was),
       subst P kind (c.in_ok-add_node.ensures cells known grown),
     )
