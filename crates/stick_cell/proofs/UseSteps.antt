@@ -1,8 +1,7 @@
 -- What the line of a use gives, by its tests.
-use Rattle.std.proofs.Common.{◌≡◌, ℕ, ◌+◌, ◌<◌, ◌≤◌, nat_lt, Bool, true, false, not, ◌&&◌, ◌==◌, List, length, get_or, Option, Some, Result, Ok, refl, sym, ap, ◌∙◌, arith}
+use Rattle.std.proofs.Common.{◌≡◌, ℕ, ◌+◌, ◌<◌, nat_lt, Bool, true, false, not, ◌&&◌, ◌==◌, List, length, get_or, Option, Some, Result, Ok, refl, sym, ap, ◌∙◌}
 use Rattle.std.specs.Prelude.{bytes_eq, position}
 use Rattle.std.proofs.lemmas.List.{length-map}
-use Rattle.std.proofs.lemmas.Bool.Decides.{nat_tests}
 use Rattle.stick_parse.specs.declared.fault.StickKind.{StickKind}
 use Rattle.stick_parse.specs.declared.fault.StickKind.TheVariants.{RepeatedName, UseCycle, UseDepth, UsedPorts, FarPlace}
 use Rattle.stick_parse.specs.Reading.{◌>>=◌}
@@ -54,20 +53,6 @@ usable-table used table col row is =
     ∙ ap (λ (n : ℕ). usable (is_empty used.plugs) n (col + table.most_col) (row + table.most_row)) is.tells.depth
     ∙ ap (λ (n : ℕ). usable (is_empty used.plugs) used.depth (col + n) (row + table.most_row)) is.tells.most_col
     ∙ ap (λ (n : ℕ). usable (is_empty used.plugs) used.depth (col + greatest_col used.nodes) (row + n)) is.tells.most_row
-
-near_from : (col row : ℕ) → (is_place col && is_place row) ≡ true → (col ≤ 4095) × (row ≤ 4095)
-near_from col row e = (grind (arith, nat_tests), grind (arith, nat_tests))
-
--- where a cell may be used it is not too deep, and lies near
-pub usable-ok : (is_closed : Bool) (depth col row : ℕ) → usable is_closed depth col row ≡ Ok tt → (depth < 16) × (col ≤ 4095) × (row ≤ 4095)
-unfolding usable
-usable-ok is_closed depth col row e = by is_closed (nat_lt depth 16) (is_place col && is_place row) refl refl e
-  where
-    by : (a b c : Bool) → nat_lt depth 16 ≡ b → (is_place col && is_place row) ≡ c → (demand a UsedPorts >>= (λ _. demand b UseDepth >>= (λ _. demand c FarPlace))) ≡ Ok tt → (depth < 16) × (col ≤ 4095) × (row ≤ 4095)
-    by true true true deep near e = let n = near_from col row near in (grind (arith, nat_tests), n.0, n.1)
-    by true true false deep near e = absurd cc
-    by true false c deep near e = absurd cc
-    by false b c deep near e = absurd cc
 
 -- the use of a cell that is there, by the tests of its table
 pub use-found : (cells : List Known) (known : Known) (tables : List Table) (growing : Growing) (name cell : List ℕ) (col row place : ℕ) (table : Table) (r : Result (Unit {0}) StickKind)

@@ -1,5 +1,5 @@
 //! The uses of a cell.
-ghost use Rattle.std.specs.Prelude.{◌≡◌, ◌+◌, ◌<◌, ◌≤◌, ◌==◌, max, if◌then◌else◌, List, length, IsTrue, OnOk};
+ghost use Rattle.std.specs.Prelude.{◌≡◌, ◌+◌, ◌<◌, ◌≤◌, ◌==◌, max, if◌then◌else◌, List, length, IsTrue, IfOk, OnOk};
 ghost use Rattle.stick_cell.specs.Checks.{is_fresh, is_place};
 ghost use Rattle.stick_cell.specs.NameEntries.{entries_of};
 ghost use Rattle.stick_cell.specs.Known.{Known, known_at, with_copy};
@@ -29,7 +29,10 @@ fn is_near(place: u32, shift: u32) -> bool
 /// Refuses the use of a cell that has ports or is too deep, and of one whose nodes would lie too far out.
 #[tactic(auto, unfolding(crate::specs::Growing::usable))]
 fn check_use(used: &Table, col: u32, row: u32) -> Result<(), StickKind>
-    ensures { result ≡ usable (length used.now.ports.items == 0) used.now.depth (col + used.now.most_col) (row + used.now.most_row) }
+    ensures usable { result ≡ usable (length used.now.ports.items == 0) used.now.depth (col + used.now.most_col) (row + used.now.most_row) }
+    ensures shallow { IfOk result (λ passed. used.now.depth < 16) }
+    ensures near_col { IfOk result (λ passed. col + used.now.most_col ≤ 4095) }
+    ensures near_row { IfOk result (λ passed. row + used.now.most_row ≤ 4095) }
 {
     if !used.ports.is_empty() {
         return Err(StickKind::UsedPorts);

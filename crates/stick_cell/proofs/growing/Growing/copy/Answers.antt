@@ -1,4 +1,4 @@
-use Rattle.std.proofs.Common.{◌≡◌, ◌+◌, ◌==◌, true, false, not, length, None, Ok, Err, refl, sym, ap, ◌∙◌, rules}
+use Rattle.std.proofs.Common.{◌≡◌, true, false, not, None, Ok, Err, refl, sym, ap, ◌∙◌, rules}
 use Rattle.std.specs.Prelude.{bytes_eq}
 use Rattle.stick_cell.specs.Checks.{is_fresh}
 use Rattle.stick_cell.specs.Known.{known_at, with_copy}
@@ -6,7 +6,7 @@ use Rattle.stick_cell.specs.Lines.{number_of}
 use Rattle.stick_cell.specs.NameEntries.{entries_of}
 use Rattle.stick_cell.proofs.TableReads.{position-name}
 use Rattle.stick_cell.proofs.LineSteps.{grows-residual, is_fresh-capped}
-use Rattle.stick_cell.proofs.UseSteps.{use-by, use-found, usable-ok}
+use Rattle.stick_cell.proofs.UseSteps.{use-by, use-found}
 use Rattle.stick_cell.proofs.growing.Growing.copy.Goals as goal
 
 pub returns-then-not-is_fresh : goal.returns-then-not-is_fresh
@@ -44,25 +44,7 @@ returns-in_err-check_use c = λ cells known are grown.
     let k = c.in_err-check_use.field-0.0 in
     grows-residual cells c.from_residual.result a.self.now _ k c.from_residual.ensures.1
     (use-found cells known a.tables.now a.self.now a.name.now a.cell.now a.col a.row c.in-Some.place c.index-tables-place.result (Err k) are grown fresh other
-    (sym c.in-Some.ensures) c.index-tables-place.is (sym c.in_err-check_use.was ∙ c.check_use.ensures)).0
-
-pub add_copy-requires-clause-shallow : goal.add_copy-requires-clause-shallow
-add_copy-requires-clause-shallow c =
-    let a = c.args in
-    let table = c.index-tables-place.result in
-    (usable-ok (length table.ports.items == 0) table.depth (a.col + table.most_col) (a.row + table.most_row) (sym c.check_use.ensures ∙ c.in_ok-check_use.was)).0
-
-pub add_copy-requires-clause-near_col : goal.add_copy-requires-clause-near_col
-add_copy-requires-clause-near_col c =
-    let a = c.args in
-    let table = c.index-tables-place.result in
-    (usable-ok (length table.ports.items == 0) table.depth (a.col + table.most_col) (a.row + table.most_row) (sym c.check_use.ensures ∙ c.in_ok-check_use.was)).1
-
-pub add_copy-requires-clause-near_row : goal.add_copy-requires-clause-near_row
-add_copy-requires-clause-near_row c =
-    let a = c.args in
-    let table = c.index-tables-place.result in
-    (usable-ok (length table.ports.items == 0) table.depth (a.col + table.most_col) (a.row + table.most_row) (sym c.check_use.ensures ∙ c.in_ok-check_use.was)).2
+    (sym c.in-Some.ensures) c.index-tables-place.is (sym c.in_err-check_use.was ∙ c.check_use.ensures.usable)).0
 
 pub returns : goal.returns
 returns c = λ cells known are grown.
@@ -71,5 +53,5 @@ returns c = λ cells known are grown.
     let other : not (bytes_eq a.cell.now a.self.now.table.name.now) ≡ true = search rules in
     let place = c.in-Some.place in
     let found = use-found cells known a.tables.now a.self.now a.name.now a.cell.now a.col a.row place c.index-tables-place.result (Ok tt) are grown fresh other
-    (sym c.in-Some.ensures) c.index-tables-place.is (sym c.in_ok-check_use.was ∙ c.check_use.ensures) in
+    (sym c.in-Some.ensures) c.index-tables-place.is (sym c.in_ok-check_use.was ∙ c.check_use.ensures.usable) in
     (with_copy known a.name.now place (known_at cells place) a.col a.row, found.0, c.in_ok-add_copy.ensures cells known grown found.2 found.1)
