@@ -3,7 +3,7 @@ use Rattle.std.specs.Prelude.{ℕ, ◌+◌, Bool, true, false, length, sum_by}
 use Rattle.rule_table.specs.declared.classes.Layer.{Layer}
 use Rattle.rule_table.specs.declared.classes.Layer.TheVariants.{Diffusion, Poly, Metal}
 use Rattle.cell_model.specs.declared.cell.NodeKind.{NodeKind}
-use Rattle.cell_model.specs.declared.cell.NodeKind.TheVariants.{Joint, Contact, Fet}
+use Rattle.cell_model.specs.declared.cell.NodeKind.TheVariants.{Joint, Contact, Buried, Fet}
 use Rattle.cell_model.specs.declared.cell.Node.{Node}
 use Rattle.cell_model.specs.declared.cell.Wire.{Wire}
 use Rattle.cell_model.specs.declared.cell.Cell.{Cell}
@@ -19,17 +19,19 @@ abbrev pub implants : Bool → ℕ
 implants true = 1
 implants false = 0
 
--- A joint has its layer's items. A contact has metal, a cut and its lower layer's. A transistor has poly, a diffusion mask, the
--- conducting pieces on both sides, and its channel.
+-- A joint has its layer's items. A contact has metal, a cut and its lower layer's. A buried contact has poly, a diffusion mask,
+-- the conducting piece that it is, and its window. A transistor has poly, a diffusion mask, the conducting pieces on both sides, and its channel.
 abbrev pub kind_items : NodeKind → ℕ
 kind_items (Joint layer width) = layer_items layer
 kind_items (Contact lower) = 2 + layer_items lower
+kind_items Buried = 4
 kind_items (Fet depletion gate w l) = 5 + implants depletion
 
 -- conducting pieces and channels are no mask boxes
 abbrev pub kind_boxes : NodeKind → ℕ
 kind_boxes (Joint layer width) = 1
 kind_boxes (Contact lower) = 3
+kind_boxes Buried = 3
 kind_boxes (Fet depletion gate w l) = 2 + implants depletion
 
 abbrev pub node_items : Node → ℕ

@@ -4,7 +4,7 @@ use Rattle.std.specs.Prelude.{◌≡◌, ℕ, ◌+◌, true, false, Bool, List, 
 use Rattle.rule_table.specs.declared.classes.Layer.{Layer}
 use Rattle.rule_table.specs.declared.classes.Layer.TheVariants.{Diffusion, Poly, Metal}
 use Rattle.cell_model.specs.declared.cell.NodeKind.{NodeKind}
-use Rattle.cell_model.specs.declared.cell.NodeKind.TheVariants.{Joint, Contact, Fet}
+use Rattle.cell_model.specs.declared.cell.NodeKind.TheVariants.{Joint, Contact, Buried, Fet}
 use Rattle.cell_model.specs.declared.cell.Node.{Node}
 use Rattle.cell_model.specs.declared.cell.WireEnd.{WireEnd}
 use Rattle.cell_model.specs.declared.cell.WireEnd.TheVariants as ends
@@ -20,6 +20,7 @@ use Rattle.graph_search.specs.Netting.{IsNetting, next_net, IsNumberedInOrder}
 abbrev pub kind_parts : NodeKind → ℕ
 kind_parts (Joint layer width) = 1
 kind_parts (Contact lower) = 1
+kind_parts Buried = 1
 kind_parts (Fet depletion gate w l) = 3
 
 -- how many parts some nodes have
@@ -37,6 +38,7 @@ first_part nodes k = node_parts (take k nodes)
 abbrev pub joined_part : NodeKind → Layer → Bool → ℕ
 joined_part (Joint own width) layer is_low = 0
 joined_part (Contact lower) layer is_low = 0
+joined_part Buried layer is_low = 0
 joined_part (Fet depletion gate w l) Diffusion true = 2
 joined_part (Fet depletion gate w l) Diffusion false = 1
 joined_part (Fet depletion gate w l) Poly is_low = 0
@@ -67,6 +69,7 @@ attachments_of cell = attachments cell.nodes (node_parts cell.nodes) cell.wires
 abbrev pub nets_of_kind : NodeKind → List ℕ → ℕ → NodeNets
 nets_of_kind (Joint layer width) nets k = record { main = slice_index nets k; low = slice_index nets k; high = slice_index nets k }
 nets_of_kind (Contact lower) nets k = record { main = slice_index nets k; low = slice_index nets k; high = slice_index nets k }
+nets_of_kind Buried nets k = record { main = slice_index nets k; low = slice_index nets k; high = slice_index nets k }
 nets_of_kind (Fet depletion gate w l) nets k = record { main = slice_index nets k; low = slice_index nets (k + 1); high = slice_index nets (k + 2) }
 
 -- of nodes whose parts are numbered from k on

@@ -1,17 +1,17 @@
 -- What each cell that meets the checks has: its nodes lie near, its wires run straight between two of its terminals that are wide enough
--- for them, each of its ports has one wire, and its limits are between two nodes.
+-- for them, poly and diffusion leave a buried contact on different sides, each of its ports has one wire, and its limits are between two nodes.
 use Rattle.std.specs.Prelude.{◌≡◌, ℕ, ◌+◌, ◌<◌, ◌≤◌, pos, ◌≤ℤ◌, IsTrue, not, ◌⊎◌, List, [], length, slice_index_or}
 use Rattle.std.specs.List.{AllByRecursion}
 use Rattle.rule_table.specs.Bounds.{IsSize}
 use Rattle.rule_table.specs.declared.technology.Tech.{Tech}
 use Rattle.rule_table.specs.declared.classes.Layer.{Layer}
 use Rattle.rule_table.specs.declared.classes.Layer.TheVariants.{Diffusion, Poly, Metal}
-use Rattle.rule_table.specs.Technology.{width_of}
+use Rattle.rule_table.specs.Technology.{width_of, has_buried_of}
 use Rattle.stick_lex.specs.Numbers.{IsNumber}
 use Rattle.cell_model.specs.declared.cell.Axis2.{Axis2}
 use Rattle.cell_model.specs.declared.cell.Axis2.TheVariants.{Across, Up}
 use Rattle.cell_model.specs.declared.cell.NodeKind.{NodeKind}
-use Rattle.cell_model.specs.declared.cell.NodeKind.TheVariants.{Joint, Contact, Fet}
+use Rattle.cell_model.specs.declared.cell.NodeKind.TheVariants.{Joint, Contact, Buried, Fet}
 use Rattle.cell_model.specs.declared.cell.Node.{Node}
 use Rattle.cell_model.specs.declared.cell.WireEnd.{WireEnd}
 use Rattle.cell_model.specs.declared.cell.WireEnd.TheVariants as ends
@@ -20,7 +20,7 @@ use Rattle.cell_model.specs.declared.cell.Port.{Port}
 use Rattle.cell_model.specs.declared.cell.Limit.{Limit}
 use Rattle.cell_model.specs.declared.cell.Cell.{Cell}
 use Rattle.lam_geom.specs.declared.boxes.Side.TheVariants.{Left}
-use Rattle.cell_model.specs.Wiring.{axis_of, is_low_side, node_takes, node_takes_along, node_pad, is_same_layer}
+use Rattle.cell_model.specs.Wiring.{axis_of, is_low_side, node_takes, node_takes_along, buried_pad, node_pad, is_same_layer}
 
 -- node k and port k of some, where there are so many
 abbrev pub no_node : Node
@@ -35,10 +35,12 @@ no_port = record { name = []; side = Left; layer = Metal; place = 0; wire = 0 }
 abbrev pub port_at : List Port → ℕ → Port
 port_at ports k = slice_index_or ports k no_port
 
--- sizes are even and lie between the layer's width and 4096; a contact's lower layer is not metal
+-- sizes are even and lie between the layer's width and 4096; a contact's lower layer is not metal; buried contacts need a technology that has
+-- them
 abbrev pub IsKind : Tech → NodeKind → Type 0
 IsKind tech (Joint layer width) = IsSize width × (width_of tech layer ≤ℤ width)
 IsKind tech (Contact lower) = (lower ≡ Metal → ⊥)
+IsKind tech Buried = IsTrue (has_buried_of tech)
 IsKind tech (Fet depletion gate w l) = IsSize w × IsSize l × (width_of tech Diffusion ≤ℤ w) × (width_of tech Poly ≤ℤ l)
 
 pub record IsNode (tech : Tech) (node : Node) : Type 0 where
@@ -82,6 +84,17 @@ abbrev pub IsWithinPad : Tech → Cell → Wire → WireEnd → Type 0
 IsWithinPad tech cell wire (ends.Node k) = wire.width ≤ℤ node_pad tech wire.layer (node_at cell.nodes k).kind
 IsWithinPad tech cell wire (ends.Port k) = Unit {0}
 
+-- a wire at a buried contact is no narrower than its pad
+abbrev pub FillsKind : Tech → ℤ → NodeKind → Type 0
+FillsKind tech width (Joint layer own) = Unit {0}
+FillsKind tech width (Contact lower) = Unit {0}
+FillsKind tech width Buried = buried_pad tech ≤ℤ width
+FillsKind tech width (Fet depletion gate w l) = Unit {0}
+
+abbrev pub FillsPad : Tech → Cell → Wire → WireEnd → Type 0
+FillsPad tech cell wire (ends.Node k) = FillsKind tech wire.width (node_at cell.nodes k).kind
+FillsPad tech cell wire (ends.Port k) = Unit {0}
+
 pub record IsWire (tech : Tech) (cell : Cell) (wire : Wire) : Type 0 where
   pub low : IsEnd cell wire.low
   pub high : IsEnd cell wire.high
@@ -95,6 +108,8 @@ pub record IsWire (tech : Tech) (cell : Cell) (wire : Wire) : Type 0 where
   pub wide : width_of tech wire.layer ≤ℤ wire.width
   pub low_pad : IsWithinPad tech cell wire wire.low
   pub high_pad : IsWithinPad tech cell wire wire.high
+  pub low_filled : FillsPad tech cell wire wire.low
+  pub high_filled : FillsPad tech cell wire wire.high
 
 -- wire k of some, where there are so many
 abbrev pub no_wire : Wire
@@ -102,6 +117,15 @@ no_wire = record { layer = Metal; width = pos 0; low = ends.Node 0; high = ends.
 
 abbrev pub wire_at : List Wire → ℕ → Wire
 wire_at wires k = slice_index_or wires k no_wire
+
+-- the end is a buried contact
+abbrev pub IsBuriedEnd : Cell → WireEnd → Type 0
+IsBuriedEnd cell (ends.Node k) = (node_at cell.nodes k).kind ≡ Buried
+IsBuriedEnd cell (ends.Port k) = ⊥
+
+-- two wires leave one buried contact on the same side: they run along one axis, and it is the low end of both, or the high end of both
+abbrev pub LeaveOneSide : Cell → Wire → Wire → Type 0
+LeaveOneSide cell a b = (a.along ≡ b.along) × (((a.low ≡ b.low) × IsBuriedEnd cell a.low) ⊎ ((a.high ≡ b.high) × IsBuriedEnd cell a.high))
 
 -- an end of the wire is this one
 abbrev pub EndsAt : WireEnd → Wire → Type 0
@@ -123,6 +147,9 @@ pub record IsLimit (cell : Cell) (limit : Limit) : Type 0 where
 pub record IsSound (tech : Tech) (cell : Cell) : Type 0 where
   pub nodes : AllByRecursion (IsNode tech) cell.nodes
   pub wires : AllByRecursion (IsWire tech cell) cell.wires
+  -- no poly wire leaves a buried contact where a diffusion wire does
+  pub sides : (j k : ℕ) → j < length cell.wires → k < length cell.wires → LeaveOneSide cell (wire_at cell.wires j) (wire_at cell.wires k)
+      → (wire_at cell.wires j).layer ≡ (wire_at cell.wires k).layer
   pub ports : (k : ℕ) → k < length cell.ports → IsPort cell k (port_at cell.ports k)
   pub limits : AllByRecursion (IsLimit cell) cell.limits
 

@@ -1,15 +1,16 @@
 -- Which nodes take which wires, on which pads.
 use Rattle.std.specs.Prelude.{◌||◌, not, Bool, true, false, ℤ}
+use Rattle.std.specs.Int.{int_max}
 use Rattle.lam_geom.specs.declared.boxes.Side.{Side}
 use Rattle.lam_geom.specs.declared.boxes.Side.TheVariants.{Left, Right, Bottom, Top}
 use Rattle.rule_table.specs.declared.technology.Tech.{Tech}
 use Rattle.rule_table.specs.declared.classes.Layer.{Layer}
 use Rattle.rule_table.specs.declared.classes.Layer.TheVariants.{Diffusion, Poly, Metal}
-use Rattle.rule_table.specs.Technology.{pad_of}
+use Rattle.rule_table.specs.Technology.{pad_of, width_of}
 use Rattle.cell_model.specs.declared.cell.Axis2.{Axis2}
 use Rattle.cell_model.specs.declared.cell.Axis2.TheVariants.{Across, Up}
 use Rattle.cell_model.specs.declared.cell.NodeKind.{NodeKind}
-use Rattle.cell_model.specs.declared.cell.NodeKind.TheVariants.{Joint, Contact, Fet}
+use Rattle.cell_model.specs.declared.cell.NodeKind.TheVariants.{Joint, Contact, Buried, Fet}
 
 abbrev pub is_same_axis : Axis2 → Axis2 → Bool
 is_same_axis Across Across = true
@@ -36,24 +37,31 @@ is_same_layer Poly Poly = true
 is_same_layer Metal Metal = true
 is_same_layer a b = false
 
--- a joint takes its own layer, a contact metal and its lower layer, a transistor poly and diffusion
+-- a joint takes its own layer, a contact metal and its lower layer, a buried contact and a transistor poly and diffusion
 abbrev pub node_takes : NodeKind → Layer → Bool
 node_takes (Joint own width) layer = is_same_layer own layer
 node_takes (Contact lower) layer = is_same_layer Metal layer || is_same_layer lower layer
+node_takes Buried layer = not (is_same_layer Metal layer)
 node_takes (Fet depletion gate w l) layer = not (is_same_layer Metal layer)
 
 -- at a transistor a poly wire runs along the gate, and a diffusion wire across it
 abbrev pub node_takes_along : NodeKind → Layer → Axis2 → Bool
 node_takes_along (Joint own width) layer along = true
 node_takes_along (Contact lower) layer along = true
+node_takes_along Buried layer along = true
 node_takes_along (Fet depletion gate w l) Poly along = is_same_axis gate along
 node_takes_along (Fet depletion gate w l) Diffusion along = not (is_same_axis gate along)
 node_takes_along (Fet depletion gate w l) Metal along = true
 
--- The pad on which a wire of this layer ends: a joint's width, a contact's square, a transistor's channel. A port has none.
+-- the pad of a buried contact is as wide as the wider of diffusion and poly
+abbrev pub buried_pad : Tech → ℤ
+buried_pad tech = int_max (width_of tech Diffusion) (width_of tech Poly)
+
+-- The pad on which a wire of this layer ends: a joint's width, the square of a contact or of a buried contact, a transistor's channel. A port has none.
 abbrev pub node_pad : Tech → Layer → NodeKind → ℤ
 node_pad tech layer (Joint own width) = width
 node_pad tech layer (Contact lower) = pad_of tech
+node_pad tech layer Buried = buried_pad tech
 node_pad tech Poly (Fet depletion gate w l) = l
 node_pad tech Diffusion (Fet depletion gate w l) = w
 node_pad tech Metal (Fet depletion gate w l) = w

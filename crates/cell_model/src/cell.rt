@@ -23,6 +23,8 @@ pub enum NodeKind {
     Contact {
         lower: Layer,
     },
+    /// A buried contact: poly to diffusion, on a square pad.
+    Buried,
     /// A transistor, an enhancement or a depletion one, whose gate runs along an axis. W is the channel's extent along
     /// the gate, L across it.
     Fet {

@@ -9,4 +9,4 @@ mod cell;
 mod wiring;
 
 pub use cell::{Axis2, Cell, CellPort, Limit, Nets, Node, NodeKind, NodeNets, Port, Wire, WireEnd};
-pub use wiring::{is_low_side, is_same_layer};
+pub use wiring::{buried_pad, is_low_side, is_same_layer};

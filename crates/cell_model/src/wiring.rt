@@ -1,7 +1,8 @@
 //! Which nodes take which wires, on which pads.
 ghost use Rattle.std.specs.Prelude.{◌≡◌, ◌≤ℤ◌, pos};
+ghost use Rattle.rule_table.specs.Bounds.{IsSize};
 ghost use Rattle.cell_model.specs.Sound.{IsKind};
-ghost use Rattle.cell_model.specs.Wiring.{is_same_axis, axis_of, is_low_side, is_same_layer, node_takes, node_takes_along, node_pad};
+ghost use Rattle.cell_model.specs.Wiring.{is_same_axis, axis_of, is_low_side, is_same_layer, node_takes, node_takes_along, buried_pad, node_pad};
 
 use crate::cell::{Axis2, NodeKind};
 use lam_geom::Side;
@@ -43,9 +44,17 @@ pub fn is_same_layer(a: Layer, b: Layer) -> bool
     a == b
 }
 
+/// The side, in u, of the square pad of a buried contact: the wider of diffusion and poly.
+pub fn buried_pad(tech: &Tech) -> i64
+    ensures value { result ≡ buried_pad tech.now }
+    ensures size { IsSize result }
+{
+    tech.width(Layer::Diffusion).max(tech.width(Layer::Poly))
+}
+
 impl NodeKind {
-    /// Whether the node takes wires of a layer: a joint its own, a contact metal and its lower layer, a transistor poly and
-    /// diffusion.
+    /// Whether the node takes wires of a layer: a joint its own, a contact metal and its lower layer, a buried contact and
+    /// a transistor poly and diffusion.
     pub fn takes(self, layer: Layer) -> bool
         ensures { result ≡ node_takes self layer }
     {
@@ -54,7 +63,7 @@ impl NodeKind {
             NodeKind::Contact { lower } => {
                 is_same_layer(Layer::Metal, layer) || is_same_layer(lower, layer)
             }
-            NodeKind::Fet { .. } => !is_same_layer(Layer::Metal, layer),
+            NodeKind::Buried | NodeKind::Fet { .. } => !is_same_layer(Layer::Metal, layer),
         }
     }
 
@@ -64,7 +73,7 @@ impl NodeKind {
         ensures { result ≡ node_takes_along self layer along }
     {
         match self {
-            NodeKind::Joint { .. } | NodeKind::Contact { .. } => true,
+            NodeKind::Joint { .. } | NodeKind::Contact { .. } | NodeKind::Buried => true,
             NodeKind::Fet { gate, .. } => match layer {
                 Layer::Poly => gate.is_same(along),
                 Layer::Diffusion => !gate.is_same(along),
@@ -73,8 +82,8 @@ impl NodeKind {
         }
     }
 
-    /// The side, in u, of the pad on which a wire of a layer ends: a joint's width, a contact's square, a transistor's
-    /// channel.
+    /// The side, in u, of the pad on which a wire of a layer ends: a joint's width, the square of a
+    /// contact or of a buried contact, a transistor's channel.
     pub fn pad(self, tech: &Tech, layer: Layer) -> i64
         ensures value { result ≡ node_pad tech.now layer self }
         ensures low { IsKind tech.now self → pos 0 ≤ℤ result }
@@ -83,6 +92,7 @@ impl NodeKind {
         match self {
             NodeKind::Joint { width, .. } => width,
             NodeKind::Contact { .. } => tech.pad(),
+            NodeKind::Buried => buried_pad(tech),
             NodeKind::Fet { w, l, .. } => match layer {
                 Layer::Poly => l,
                 Layer::Diffusion | Layer::Metal => w,

@@ -38,7 +38,7 @@ pub fn kind_parts(kind: NodeKind) -> u32
     ensures few { result ≤ 3 }
 {
     match kind {
-        NodeKind::Joint { .. } | NodeKind::Contact { .. } => 1,
+        NodeKind::Joint { .. } | NodeKind::Contact { .. } | NodeKind::Buried => 1,
         NodeKind::Fet { .. } => 3,
     }
 }

@@ -56,7 +56,7 @@ fn nets_of_kind(kind: NodeKind, parts: &[u32], part: usize) -> NodeNets
     ensures { result ≡ nets_of_kind kind parts.now part }
 {
     match kind {
-        NodeKind::Joint { .. } | NodeKind::Contact { .. } => NodeNets {
+        NodeKind::Joint { .. } | NodeKind::Contact { .. } | NodeKind::Buried => NodeNets {
             main: parts[part],
             low: parts[part],
             high: parts[part],

@@ -2,7 +2,7 @@
 use Rattle.std.specs.Prelude.{ℕ, ℤ, pos, int_div, ◌+ℤ◌, ◌-ℤ◌, ◌*ℤ◌, Bool, true, false, List, [], ◌∷◌, ◌++◌, filter, codes, flat_map, decimal}
 use Rattle.std.specs.Fmt.{signed_decimal}
 use Rattle.lam_geom.specs.declared.boxes.MaskLayer.{MaskLayer}
-use Rattle.lam_geom.specs.declared.boxes.MaskLayer.TheVariants.{ND, NP, NC, NM, NI}
+use Rattle.lam_geom.specs.declared.boxes.MaskLayer.TheVariants.{ND, NP, NC, NM, NI, NB}
 use Rattle.mask_out.specs.Masks.{Mask, mask_layers}
 
 -- a box of CIF: its extents on x and y, and its centre
@@ -19,6 +19,7 @@ layer_name NP = codes "NP"
 layer_name NC = codes "NC"
 layer_name NM = codes "NM"
 layer_name NI = codes "NI"
+layer_name NB = codes "NB"
 
 abbrev pub is_same_layer : MaskLayer → MaskLayer → Bool
 is_same_layer ND ND = true
@@ -26,6 +27,7 @@ is_same_layer NP NP = true
 is_same_layer NC NC = true
 is_same_layer NM NM = true
 is_same_layer NI NI = true
+is_same_layer NB NB = true
 is_same_layer a b = false
 
 -- a layer is named where it has boxes

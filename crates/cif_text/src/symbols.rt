@@ -61,6 +61,7 @@ fn name_of(layer: MaskLayer) -> &'static [u8]
         MaskLayer::NC => b"NC",
         MaskLayer::NM => b"NM",
         MaskLayer::NI => b"NI",
+        MaskLayer::NB => b"NB",
     }
 }
 
@@ -73,6 +74,7 @@ fn is_same(layer: MaskLayer, other: MaskLayer) -> bool
         MaskLayer::NC => matches!(other, MaskLayer::NC),
         MaskLayer::NM => matches!(other, MaskLayer::NM),
         MaskLayer::NI => matches!(other, MaskLayer::NI),
+        MaskLayer::NB => matches!(other, MaskLayer::NB),
     }
 }
 

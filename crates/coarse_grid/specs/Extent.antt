@@ -4,10 +4,11 @@ use Rattle.std.specs.Int.{int_max}
 use Rattle.rule_table.specs.declared.technology.Tech.{Tech}
 use Rattle.rule_table.specs.Technology.{numbers_of, pad_of, widest_of}
 use Rattle.cell_model.specs.declared.cell.NodeKind.{NodeKind}
-use Rattle.cell_model.specs.declared.cell.NodeKind.TheVariants.{Joint, Contact, Fet}
+use Rattle.cell_model.specs.declared.cell.NodeKind.TheVariants.{Joint, Contact, Buried, Fet}
 use Rattle.cell_model.specs.declared.cell.Node.{Node}
 use Rattle.cell_model.specs.declared.cell.Wire.{Wire}
 use Rattle.cell_model.specs.declared.cell.Cell.{Cell}
+use Rattle.cell_model.specs.Wiring.{buried_pad}
 use Rattle.expand.specs.Variables.{half}
 
 -- how far the implant of a transistor goes past its channel; an enhancement one has none
@@ -24,10 +25,11 @@ fet_reach tech depletion w l =
     (half l +ℤ int_max (numbers_of tech).extension_diffusion (implant_past tech depletion))
 
 -- The greatest half size, on both axes, of the items at a node: of a joint's square, of a contact's pad and its cut, of a
--- transistor's boxes.
+-- buried contact's window, of a transistor's boxes.
 abbrev pub reach_of : Tech → NodeKind → ℤ
 reach_of tech (Joint layer width) = half width
 reach_of tech (Contact lower) = int_max (half (pad_of tech)) (half (numbers_of tech).cut_size)
+reach_of tech Buried = half (buried_pad tech) +ℤ (numbers_of tech).extension_buried
 reach_of tech (Fet depletion gate w l) = fet_reach tech depletion w l
 
 -- the half extent of a cell: the greatest half size of an item at a node, and half width of a wire; 0 if there is none

@@ -9,6 +9,7 @@ use Rattle.lam_geom.specs.declared.boxes.Side.{Side}
 use Rattle.lam_geom.specs.declared.boxes.Side.TheVariants.{Left, Right}
 use Rattle.sym_items.specs.declared.items.End.{End}
 use Rattle.sym_items.specs.declared.items.Item.{Item}
+use Rattle.sym_items.specs.Standing.{nowhere}
 use Rattle.sym_items.specs.declared.items.Coords.{Coords}
 use Rattle.cell_model.specs.declared.cell.Axis2.{Axis2}
 use Rattle.cell_model.specs.declared.cell.Axis2.TheVariants.{Across, Up}
@@ -120,6 +121,8 @@ box k = record {
   yh = above 2;
   least_x = pos 6;
   least_y = pos 6;
+  at_low = nowhere;
+  at_high = nowhere;
 }
 
 abbrev pub three : List Item

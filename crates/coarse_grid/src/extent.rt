@@ -6,7 +6,7 @@ ghost use Rattle.rule_table.specs.Bounds.{IsSize};
 ghost use Rattle.expand.specs.Variables.{half};
 ghost use Rattle.coarse_grid.specs.Extent.{implant_past, fet_reach, reach_of, half_extent_of, pitch_of};
 
-use cell_model::{Cell, NodeKind};
+use cell_model::{Cell, NodeKind, buried_pad};
 use rule_table::Tech;
 
 /// The pitch of a cell's coarse grid, in u: twice its half extent and the widest spacing. The half extent is the greatest
@@ -48,6 +48,7 @@ fn reach(tech: &Tech, kind: NodeKind) -> i64
     match kind {
         NodeKind::Joint { width, .. } => half(width),
         NodeKind::Contact { .. } => half(tech.pad()).max(half(tech.numbers().cut_size)),
+        NodeKind::Buried => half(buried_pad(tech)) + tech.numbers().extension_buried,
         NodeKind::Fet {
             depletion,
             w,

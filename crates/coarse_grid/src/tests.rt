@@ -10,7 +10,7 @@ use std::alloc::{AllocError, Global};
 use std::process::Abort;
 use std::test::Fail;
 use stick_lex::Text;
-use sym_items::{Coords, End, Item};
+use sym_items::{Coords, End, Item, NOWHERE};
 
 const JOINT: NodeKind = NodeKind::Joint {
     layer: Layer::Metal,
@@ -238,6 +238,8 @@ fn box_number(k: u32) -> Item
         yh: End { var: 2, off: 3 },
         least_x: 6,
         least_y: 6,
+        at_low: NOWHERE,
+        at_high: NOWHERE,
     }
 }
 

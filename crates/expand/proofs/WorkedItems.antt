@@ -10,6 +10,7 @@ use Rattle.rule_table.specs.Spacing.{pad_in, margin_in, widest_in, spacing_in, g
 use Rattle.rule_table.specs.Faults.{fault_of}
 use Rattle.sym_items.specs.declared.items.End.{End}
 use Rattle.sym_items.specs.declared.items.Item.{Item}
+use Rattle.sym_items.specs.Standing.{nowhere}
 use Rattle.cons_graph.specs.declared.edges.Edge.{Edge}
 use Rattle.cons_graph.specs.declared.edges.Why.{Why}
 use Rattle.cons_graph.specs.declared.edges.Why.TheVariants.{Size, Extent, Overlap, Margin}
@@ -25,7 +26,7 @@ shipped sound = record { numbers = shipped_numbers; sound = sound }
 
 -- a box whose ends lie on these variables
 abbrev item : Class → ℕ → ℕ → End → End → End → End → ℤ → ℤ → Item
-item class net owner xl xh yl yh least_x least_y = record { class = class; net = net; owner = owner; xl = xl; xh = xh; yl = yl; yh = yh; least_x = least_x; least_y = least_y }
+item class net owner xl xh yl yh least_x least_y = record { class = class; net = net; owner = owner; xl = xl; xh = xh; yl = yl; yh = yh; least_x = least_x; least_y = least_y; at_low = nowhere; at_high = nowhere }
 
 -- so far below and above a variable
 abbrev below : ℕ → ℕ → End

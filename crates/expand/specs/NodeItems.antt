@@ -2,17 +2,19 @@
 use Rattle.std.specs.Prelude.{ℕ, ℤ, ◌+ℤ◌, ◌-ℤ◌, neg_ℤ, Bool, List, [], ◌∷◌, map, if◌then◌else◌}
 use Rattle.rule_table.specs.declared.technology.Tech.{Tech}
 use Rattle.rule_table.specs.declared.classes.Class.{Class}
-use Rattle.rule_table.specs.declared.classes.Class.TheVariants.{M, P, Dc, Dm, C, I, G}
+use Rattle.rule_table.specs.declared.classes.Class.TheVariants.{M, P, Dc, Dm, C, I, G, B}
 use Rattle.rule_table.specs.declared.classes.Layer.{Layer}
 use Rattle.rule_table.specs.declared.classes.Layer.TheVariants.{Diffusion, Poly, Metal}
 use Rattle.rule_table.specs.Technology.{numbers_of, pad_of}
 use Rattle.sym_items.specs.declared.items.Item.{Item}
+use Rattle.sym_items.specs.Standing.{nowhere}
 use Rattle.sym_items.specs.Transposed.{transposed_item}
 use Rattle.cell_model.specs.declared.cell.Axis2.{Axis2}
 use Rattle.cell_model.specs.declared.cell.Axis2.TheVariants.{Across, Up}
 use Rattle.cell_model.specs.declared.cell.NodeKind.{NodeKind}
-use Rattle.cell_model.specs.declared.cell.NodeKind.TheVariants.{Joint, Contact, Fet}
+use Rattle.cell_model.specs.declared.cell.NodeKind.TheVariants.{Joint, Contact, Buried, Fet}
 use Rattle.cell_model.specs.declared.cell.NodeNets.{NodeNets}
+use Rattle.cell_model.specs.Wiring.{buried_pad}
 use Rattle.expand.specs.Variables.{half, centre, past}
 
 -- an item that is described as if it ran across, for one that runs along this axis
@@ -38,6 +40,8 @@ box_at k class net left right bottom top = record {
   yh = past (centre k) top;
   least_x = right -ℤ left;
   least_y = top -ℤ bottom;
+  at_low = nowhere;
+  at_high = nowhere;
 }
 
 -- the box of these half sizes round the centre, and the square
@@ -61,6 +65,19 @@ channel_items tech k nets depletion x y =
     ∷ box_round k G nets.main x y
     ∷ (if depletion then box_round k I nets.main (x +ℤ implant) (y +ℤ implant) ∷ [] else [])
 
+-- Of a buried contact: poly and diffusion on its pad, and the window that goes on past it. All stand at it.
+abbrev pub standing_at : ℕ → Item → Item
+standing_at k i = record i { at_low = k; at_high = k }
+
+abbrev pub buried_items : Tech → ℕ → ℕ → List Item
+buried_items tech k net =
+    let pad = half (buried_pad tech) in
+    standing_at k (square_round k P net pad)
+    ∷ standing_at k (square_round k Dm net pad)
+    ∷ standing_at k (square_round k Dc net pad)
+    ∷ standing_at k (square_round k B net (pad +ℤ (numbers_of tech).extension_buried))
+    ∷ []
+
 -- The items of node k, by its kind. The items of a transistor whose gate runs up are those of one whose gate runs across, transposed.
 abbrev pub kind_items : Tech → ℕ → NodeKind → NodeNets → List Item
 kind_items tech k (Joint layer width) nets = on_layer layer (square_round k M nets.main (half width))
@@ -68,4 +85,5 @@ kind_items tech k (Contact lower) nets =
     square_round k M nets.main (half (pad_of tech))
     ∷ square_round k C nets.main (half (numbers_of tech).cut_size)
     ∷ on_layer lower (square_round k M nets.main (half (pad_of tech)))
+kind_items tech k Buried nets = buried_items tech k nets.main
 kind_items tech k (Fet depletion gate w l) nets = map (item_running gate) (channel_items tech k nets depletion (half w) (half l))

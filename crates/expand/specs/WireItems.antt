@@ -5,9 +5,10 @@ use Rattle.rule_table.specs.declared.classes.Class.TheVariants.{M}
 use Rattle.rule_table.specs.Technology.{numbers_of}
 use Rattle.sym_items.specs.declared.items.End.{End}
 use Rattle.sym_items.specs.declared.items.Item.{Item}
+use Rattle.sym_items.specs.Standing.{nowhere}
 use Rattle.cell_model.specs.declared.cell.Axis2.{Axis2}
 use Rattle.cell_model.specs.declared.cell.NodeKind.{NodeKind}
-use Rattle.cell_model.specs.declared.cell.NodeKind.TheVariants.{Joint, Contact, Fet}
+use Rattle.cell_model.specs.declared.cell.NodeKind.TheVariants.{Joint, Contact, Buried, Fet}
 use Rattle.cell_model.specs.declared.cell.WireEnd.{WireEnd}
 use Rattle.cell_model.specs.declared.cell.WireEnd.TheVariants as ends
 use Rattle.cell_model.specs.declared.cell.Wire.{Wire}
@@ -21,11 +22,12 @@ use Rattle.expand.specs.NodeItems.{item_running, on_layer}
 abbrev pub half_channel : Axis2 → ℤ → ℤ → Axis2 → ℤ
 half_channel gate w l along = if is_same_axis gate along then half w else half l
 
--- How far past the centre of a node a wire goes that ends there: by half its width at a joint or contact. At a transistor it stops short of
+-- How far past the centre of a node a wire goes that ends there: by half its width at a joint, a contact or a buried contact. At a transistor it stops short of
 -- the centre, outside the channel by the spacing of poly and diffusion.
 abbrev pub reach : Tech → NodeKind → ℤ → Axis2 → ℤ
 reach tech (Joint layer own) width along = half width
 reach tech (Contact lower) width along = half width
+reach tech Buried width along = half width
 reach tech (Fet depletion gate w l) width along = neg_ℤ (half_channel gate w l along +ℤ (numbers_of tech).spacing_poly_diffusion)
 
 -- where a wire begins and where it ends; at a port that is on the border
@@ -37,9 +39,21 @@ abbrev pub high_end_of : Tech → Cell → Wire → WireEnd → End
 high_end_of tech cell wire (ends.Node j) = past (centre j) (reach tech (node_at cell.nodes j).kind wire.width wire.along)
 high_end_of tech cell wire (ends.Port j) = at_far_border
 
--- a box that runs across between two ends, so wide round the cross coordinate; it is at least as long as it is wide
-abbrev pub run_item : ℕ → ℕ → ℕ → ℤ → End → End → Item
-run_item owner net cross width low high = record {
+-- the buried contact at which a wire stands where it ends at this terminal
+abbrev pub contact_of_kind : ℕ → NodeKind → ℕ
+contact_of_kind j (Joint layer own) = nowhere
+contact_of_kind j (Contact lower) = nowhere
+contact_of_kind j Buried = j
+contact_of_kind j (Fet depletion gate w l) = nowhere
+
+abbrev pub contact_at : Cell → WireEnd → ℕ
+contact_at cell (ends.Node j) = contact_of_kind j (node_at cell.nodes j).kind
+contact_at cell (ends.Port j) = nowhere
+
+-- a box that runs across between two ends, so wide round the cross coordinate; it is at least as long as it is wide. It stands at none or
+-- one or two buried contacts
+abbrev pub run_item : ℕ → ℕ → ℕ → ℤ → End → End → ℕ → ℕ → Item
+run_item owner net cross width low high at_low at_high = record {
   class = M;
   net = net;
   owner = owner;
@@ -49,9 +63,13 @@ run_item owner net cross width low high = record {
   yh = past cross (half width);
   least_x = width;
   least_y = width;
+  at_low = at_low;
+  at_high = at_high;
 }
 
 -- the items of a wire with this owner, net and cross coordinate
 abbrev pub wire_items : Tech → Cell → ℕ → ℕ → ℕ → Wire → List Item
 wire_items tech cell owner net cross wire =
-    on_layer wire.layer (item_running wire.along (run_item owner net cross wire.width (low_end_of tech cell wire wire.low) (high_end_of tech cell wire wire.high)))
+    let run =
+        run_item owner net cross wire.width (low_end_of tech cell wire wire.low) (high_end_of tech cell wire wire.high) (contact_at cell wire.low) (contact_at cell wire.high) in
+    on_layer wire.layer (item_running wire.along run)

@@ -8,7 +8,7 @@ ghost use Rattle.expand.specs.NodeItems.{item_running, on_layer, box_at, box_rou
 use cell_model::Axis2;
 use rule_table::{Class, Layer};
 use std::alloc::AllocError;
-use sym_items::{End, Item};
+use sym_items::{End, Item, NOWHERE};
 
 /// Half of a length.
 pub fn half(length: i64) -> i64
@@ -83,6 +83,8 @@ pub fn box_at(
         yh: End { var, off: top },
         least_x: less(right, left),
         least_y: less(top, bottom),
+        at_low: NOWHERE,
+        at_high: NOWHERE,
     }
 }
 

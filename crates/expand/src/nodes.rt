@@ -7,11 +7,11 @@ ghost use Rattle.expand.specs.Bounds.{IsHalfSize};
 ghost use Rattle.rule_table.specs.declared.classes.Class.TheVariants.{M, C};
 ghost use Rattle.rule_table.specs.Technology.{numbers_of, pad_of};
 ghost use Rattle.expand.specs.Variables.{half};
-ghost use Rattle.expand.specs.NodeItems.{item_running, square_round, channel_items, kind_items};
+ghost use Rattle.expand.specs.NodeItems.{item_running, square_round, standing_at, buried_items, channel_items, kind_items};
 
-use crate::boxes::{half, item_running, push_on_layer, square_round};
+use crate::boxes::{extended, half, item_running, push_on_layer, square_round};
 use crate::channel::{channel, gate_poly, high_piece, implant, low_piece, mask_diffusion};
-use cell_model::{Axis2, NodeKind, NodeNets};
+use cell_model::{Axis2, NodeKind, NodeNets, buried_pad};
 use rule_table::{Class, Layer, Tech};
 use std::alloc::AllocError;
 use sym_items::Item;
@@ -37,6 +37,7 @@ pub fn push_kind(
             )
         }
         NodeKind::Contact { lower } => push_contact(list, tech, node, lower, nets.main),
+        NodeKind::Buried => push_buried(list, tech, node, nets.main),
         NodeKind::Fet {
             depletion,
             gate,
@@ -87,6 +88,48 @@ fn cut_square(tech: &Tech, node: u32, net: u32) -> Item
     ensures { result ≡ square_round node C net (half (numbers_of tech.now).cut_size) }
 {
     square_round(node, Class::C, net, half(cut_size(tech)))
+}
+
+// An item of a buried contact, which stands at it.
+fn standing_at(contact: u32, item: Item) -> Item
+    ensures { result ≡ standing_at contact item }
+{
+    Item {
+        at_low: contact,
+        at_high: contact,
+        ..item
+    }
+}
+
+// How far the window of a buried contact goes on past its pad, in u.
+fn window_past(tech: &Tech) -> i64
+    ensures value { result ≡ (numbers_of tech.now).extension_buried }
+    ensures bounds { IsHalfSize result }
+{
+    tech.numbers().extension_buried
+}
+
+// Adds the items of a buried contact: poly and diffusion on its pad, and the window.
+fn push_buried(
+    list: &mut Vec<Item>,
+    tech: &Tech,
+    node: u32,
+    net: u32,
+) -> Result<(), AllocError>
+    requires { node < 2 ^ 31 }
+    ensures { OnOk result (list.new.items ≡ list.old.items ++ buried_items tech.now node net) }
+{
+    let pad = half(buried_pad(tech));
+    let boxes = [
+        square_round(node, Class::P, net, pad),
+        square_round(node, Class::Dm, net, pad),
+        square_round(node, Class::Dc, net, pad),
+        square_round(node, Class::B, net, extended(pad, window_past(tech))),
+    ];
+    for item in boxes {
+        list.push(standing_at(node, item))?;
+    }
+    Ok(())
 }
 
 // Adds the items of a transistor whose channel has the half sizes `x` along the gate and `y` across it, in u.

@@ -2,16 +2,17 @@
 
 ghost use Rattle.std.specs.Prelude.{◌≡◌, ◌<◌, ◌++◌, length, neg_ℤ, ◌+ℤ◌, OnOk};
 ghost use Rattle.rule_table.specs.Bounds.{IsSize};
+ghost use Rattle.sym_items.specs.Standing.{nowhere};
 ghost use Rattle.rule_table.specs.Technology.{numbers_of};
 ghost use Rattle.cell_model.specs.Sound.{IsKind, IsEnd, IsWire, IsSound, IsLight, node_at};
 ghost use Rattle.expand.specs.Bounds.{IsHalfSize, IsNear};
-ghost use Rattle.expand.specs.WireItems.{half_channel, reach, low_end_of, high_end_of, run_item, wire_items};
+ghost use Rattle.expand.specs.WireItems.{half_channel, reach, low_end_of, high_end_of, contact_at, run_item, wire_items};
 
 use crate::boxes::{centre, extended, half, item_running, negated, push_on_layer};
 use cell_model::{Axis2, Cell, NodeKind, Wire, WireEnd};
 use rule_table::{Class, Tech};
 use std::alloc::AllocError;
-use sym_items::{End, Item};
+use sym_items::{End, Item, NOWHERE};
 
 // The half size, in u, of a channel along an axis.
 fn half_channel(gate: Axis2, w: i64, l: i64, along: Axis2) -> i64
@@ -43,7 +44,7 @@ fn reach(tech: &Tech, kind: NodeKind, width: i64, along: Axis2) -> i64
     ensures near { IsNear result }
 {
     match kind {
-        NodeKind::Joint { .. } | NodeKind::Contact { .. } => half(width),
+        NodeKind::Joint { .. } | NodeKind::Contact { .. } | NodeKind::Buried => half(width),
         NodeKind::Fet { gate, w, l, .. } => {
             negated(extended(half_channel(gate, w, l, along), clearance(tech)))
         }
@@ -92,10 +93,24 @@ fn high_end(tech: &Tech, cell: &Cell, wire: &Wire, end: WireEnd) -> End
     }
 }
 
-// A box that runs across between two ends, so wide round the cross coordinate.
+// The buried contact at which a wire stands that ends at this terminal.
+fn contact_at(cell: &Cell, end: WireEnd) -> u32
+    requires { IsEnd cell.now end }
+    ensures { result ≡ contact_at cell.now end }
+{
+    match end {
+        WireEnd::Node(node) => match kind_at(cell, node) {
+            NodeKind::Buried => node,
+            NodeKind::Joint { .. } | NodeKind::Contact { .. } | NodeKind::Fet { .. } => NOWHERE,
+        },
+        WireEnd::Port(_) => NOWHERE,
+    }
+}
+
+// A box that runs across between two ends, so wide round the cross coordinate. It stands at no buried contact yet.
 fn run_item(owner: u32, net: u32, cross: u32, width: i64, low: End, high: End) -> Item
     requires { IsSize width }
-    ensures { result ≡ run_item owner net cross width low high }
+    ensures { result ≡ run_item owner net cross width low high nowhere nowhere }
 {
     let half_width = half(width);
     Item {
@@ -114,6 +129,8 @@ fn run_item(owner: u32, net: u32, cross: u32, width: i64, low: End, high: End) -
         },
         least_x: width,
         least_y: width,
+        at_low: NOWHERE,
+        at_high: NOWHERE,
     }
 }
 
@@ -134,7 +151,11 @@ pub fn push_wire(
 {
     let low = low_end(tech, cell, wire, wire.low);
     let high = high_end(tech, cell, wire, wire.high);
-    let run = run_item(owner, net, cross, wire.width, low, high);
+    let run = Item {
+        at_low: contact_at(cell, wire.low),
+        at_high: contact_at(cell, wire.high),
+        ..run_item(owner, net, cross, wire.width, low, high)
+    };
     push_on_layer(list, wire.layer, item_running(wire.along, run))?;
     Ok(())
 }

@@ -31,7 +31,8 @@ pub enum Side {
     Top,
 }
 
-/// A mask layer of the nMOS process, by its CIF name: diffusion, poly, contact cut, metal, implant.
+/// A mask layer of the nMOS process, by its CIF name: diffusion, poly, contact cut, metal, implant, the window of a buried
+/// contact.
 #[derive(Clone, Copy, Debug, PartialEq, Eq, PartialOrd, Ord)]
 pub enum MaskLayer {
     ND,
@@ -39,16 +40,18 @@ pub enum MaskLayer {
     NC,
     NM,
     NI,
+    NB,
 }
 
 impl MaskLayer {
     /// The layers in the order in which a symbol lists its boxes.
-    pub const ALL: [MaskLayer; 5] = [
+    pub const ALL: [MaskLayer; 6] = [
         MaskLayer::ND,
         MaskLayer::NP,
         MaskLayer::NC,
         MaskLayer::NM,
         MaskLayer::NI,
+        MaskLayer::NB,
     ];
 }
 

@@ -4,6 +4,7 @@ use Rattle.rule_table.specs.declared.classes.Class.{Class}
 use Rattle.rule_table.specs.declared.classes.Class.TheVariants.{M, C, Dm, Dc}
 use Rattle.sym_items.specs.declared.items.End.{End}
 use Rattle.sym_items.specs.declared.items.Item.{Item}
+use Rattle.sym_items.specs.Standing.{nowhere}
 use Rattle.sym_items.specs.declared.items.Coords.{Coords}
 
 abbrev pub below : ℕ → ℕ → End
@@ -14,7 +15,7 @@ above v half = record { var = v; off = pos half }
 
 -- a square on an x variable and y variable 2
 abbrev pub square : Class → ℕ → ℕ → Item
-square class v half = record { class = class; net = 0; owner = 0; xl = below v half; xh = above v half; yl = below 2 half; yh = above 2 half; least_x = pos 4; least_y = pos 4 }
+square class v half = record { class = class; net = 0; owner = 0; xl = below v half; xh = above v half; yl = below 2 half; yh = above 2 half; least_x = pos 4; least_y = pos 4; at_low = nowhere; at_high = nowhere }
 
 abbrev pub contact_and_joint : List Item
 contact_and_joint = square M 2 4 ∷ square C 2 2 ∷ square Dm 2 4 ∷ square Dc 2 4 ∷ square M 3 3 ∷ []

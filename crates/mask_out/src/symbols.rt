@@ -23,6 +23,7 @@ fn is_drawn(layer: MaskLayer, class: Class) -> bool
         MaskLayer::NC => matches!(class, Class::C),
         MaskLayer::NM => matches!(class, Class::M),
         MaskLayer::NI => matches!(class, Class::I),
+        MaskLayer::NB => matches!(class, Class::B),
     }
 }
 

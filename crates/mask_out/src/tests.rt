@@ -10,7 +10,7 @@ use rule_table::Class;
 use std::alloc::{AllocError, Global};
 use std::test::Fail;
 use stick_lex::Text;
-use sym_items::{Coords, End, Item, Items};
+use sym_items::{Coords, End, Item, Items, NOWHERE};
 
 // A square on an x variable and y variable 2.
 fn square(class: Class, var: u32, half: u8) -> Item
@@ -27,6 +27,8 @@ fn square(class: Class, var: u32, half: u8) -> Item
         yh: End { var: 2, off: half },
         least_x: 4,
         least_y: 4,
+        at_low: NOWHERE,
+        at_high: NOWHERE,
     }
 }
 

@@ -1,18 +1,20 @@
 -- Bound pairs: items that have to keep a spacing.
-use Rattle.std.specs.Prelude.{ℕ, ℤ, pos, Bool, ◌&&◌, ◌==◌, if◌then◌else◌, Option, Some, None, List, slice_index_or}
+use Rattle.std.specs.Prelude.{◌≡◌, ◌≢◌, ℕ, ℤ, pos, Bool, true, false, ◌&&◌, ◌||◌, ◌==◌, if◌then◌else◌, IsTrue, Option, Some, None, List, slice_index_or}
 use Rattle.rule_table.specs.declared.classes.Rule.{Rule}
-use Rattle.rule_table.specs.declared.classes.Class.TheVariants.{M}
+use Rattle.rule_table.specs.declared.classes.Class.{Class}
+use Rattle.rule_table.specs.declared.classes.Class.TheVariants.{M, P, Dm}
 use Rattle.rule_table.specs.declared.technology.Tech.{Tech}
 use Rattle.rule_table.specs.Technology.{spacing_of}
 use Rattle.sym_items.specs.declared.items.End.{End}
 use Rattle.sym_items.specs.declared.items.Item.{Item}
+use Rattle.sym_items.specs.Standing.{nowhere, StandTogether, stand_together}
 
 -- what is read past the end of a list of items
 abbrev pub no_end : End
 no_end = record { var = 0; off = pos 0 }
 
 abbrev pub no_item : Item
-no_item = record { class = M; net = 0; owner = 0; xl = no_end; xh = no_end; yl = no_end; yh = no_end; least_x = pos 0; least_y = pos 0 }
+no_item = record { class = M; net = 0; owner = 0; xl = no_end; xh = no_end; yl = no_end; yh = no_end; least_x = pos 0; least_y = pos 0; at_low = nowhere; at_high = nowhere }
 
 -- item number k
 abbrev pub item_at : List Item → ℕ → Item
@@ -27,6 +29,26 @@ abbrev pub spacing_by : Option Rule → ℕ → ℕ → Option ℤ
 spacing_by None net other = None
 spacing_by (Some r) net other = if is_exempt r net other then None else Some r.s
 
--- the spacing of a bound pair: their owners differ, their classes have a rule, and no net frees them. None where they are not bound
+-- one is poly, and the other diffusion of the mask
+abbrev pub is_poly_on_diffusion : Class → Class → Bool
+is_poly_on_diffusion P Dm = true
+is_poly_on_diffusion Dm P = true
+is_poly_on_diffusion a b = false
+
+-- poly and diffusion that one buried contact joins
+abbrev pub is_joined : Item → Item → Bool
+is_joined a b = is_poly_on_diffusion a.class b.class && stand_together a b
+
+-- Two items are bound with a spacing: their owners differ, their classes have a rule with it, no net frees them, and no buried contact
+-- joins them.
+pub record IsBound (t : Tech) (a b : Item) (s : ℤ) : Type 0 where
+  pub owners : a.owner ≢ b.owner
+  pub rule : Rule
+  pub ruled : spacing_of t a.class b.class ≡ Some rule
+  pub spacing : rule.s ≡ s
+  pub nets : IsTrue rule.net_exempt → a.net ≢ b.net
+  pub apart : IsTrue (is_poly_on_diffusion a.class b.class) → StandTogether a b → ⊥
+
+-- the spacing of a bound pair, computed; None where they are not bound
 unfoldable pub bound_spacing : Tech → Item → Item → Option ℤ
-bound_spacing t a b = if a.owner == b.owner then None else spacing_by (spacing_of t a.class b.class) a.net b.net
+bound_spacing t a b = if (a.owner == b.owner) || is_joined a b then None else spacing_by (spacing_of t a.class b.class) a.net b.net

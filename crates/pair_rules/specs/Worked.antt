@@ -4,6 +4,7 @@ use Rattle.std.specs.Prelude.{ℕ, pos, neg_ℤ, ◌+◌, List, [], ◌∷◌}
 use Rattle.rule_table.specs.declared.classes.Class.TheVariants.{M}
 use Rattle.sym_items.specs.declared.items.End.{End}
 use Rattle.sym_items.specs.declared.items.Item.{Item}
+use Rattle.sym_items.specs.Standing.{nowhere}
 use Rattle.sym_items.specs.declared.items.Coords.{Coords}
 
 -- half a width below the value of a variable, and half a width above
@@ -15,7 +16,7 @@ above v = record { var = v; off = pos 3 }
 
 -- a metal box of some owner and net: half a width past its left and right variables of x, and past its low and high ones of y
 abbrev pub metal : ℕ → ℕ → ℕ → ℕ → ℕ → ℕ → Item
-metal owner net left right low high = record { class = M; net = net; owner = owner; xl = below left; xh = above right; yl = below low; yh = above high; least_x = pos 6; least_y = pos 6 }
+metal owner net left right low high = record { class = M; net = net; owner = owner; xl = below left; xh = above right; yl = below low; yh = above high; least_x = pos 6; least_y = pos 6; at_low = nowhere; at_high = nowhere }
 
 abbrev pub joint : ℕ → ℕ → Item
 joint owner net = metal owner net (2 + owner) (2 + owner) (2 + owner) (2 + owner)

@@ -8,7 +8,7 @@ use lam_list::Seq;
 use rule_table::{Class, Tech};
 use std::alloc::{AllocError, Global};
 use std::test::Fail;
-use sym_items::{Coords, End, Item};
+use sym_items::{Coords, End, Item, NOWHERE};
 
 // A metal box 6 wide along two variables of x and two of y.
 fn metal(owner: u32, net: u32, x: (u32, u32), y: (u32, u32)) -> Item
@@ -24,6 +24,8 @@ fn metal(owner: u32, net: u32, x: (u32, u32), y: (u32, u32)) -> Item
         yh: End { var: y.1, off: 3 },
         least_x: 6,
         least_y: 6,
+        at_low: NOWHERE,
+        at_high: NOWHERE,
     }
 }
 

@@ -3,6 +3,7 @@ use Rattle.std.specs.Prelude.{ℕ, pos, neg_ℤ, List, [], ◌∷◌}
 use Rattle.rule_table.specs.declared.classes.Class.TheVariants.{M}
 use Rattle.sym_items.specs.declared.items.End.{End}
 use Rattle.sym_items.specs.declared.items.Item.{Item}
+use Rattle.sym_items.specs.Standing.{nowhere}
 use Rattle.sym_items.specs.declared.items.Coords.{Coords}
 
 abbrev pub low : ℕ → End
@@ -13,7 +14,7 @@ high v = record { var = v; off = pos 3 }
 
 -- the joint of an owner, whose centre lies on the variable of that number
 abbrev pub joint : ℕ → Item
-joint n = record { class = M; net = n; owner = n; xl = low n; xh = high n; yl = low 0; yh = high 0; least_x = pos 6; least_y = pos 6 }
+joint n = record { class = M; net = n; owner = n; xl = low n; xh = high n; yl = low 0; yh = high 0; least_x = pos 6; least_y = pos 6; at_low = nowhere; at_high = nowhere }
 
 abbrev pub row : List Item
 row = joint 0 ∷ joint 1 ∷ joint 2 ∷ []

@@ -8,7 +8,7 @@ use pair_rules::Pair;
 use rule_table::{Class, Tech};
 use std::alloc::{AllocError, Global};
 use std::test::Fail;
-use sym_items::{Coords, End, Item};
+use sym_items::{Coords, End, Item, NOWHERE};
 
 // The joint of an owner, whose centre lies on the variable of that number.
 fn joint(n: u32) -> Item
@@ -24,6 +24,8 @@ fn joint(n: u32) -> Item
         yh: End { var: 0, off: 3 },
         least_x: 6,
         least_y: 6,
+        at_low: NOWHERE,
+        at_high: NOWHERE,
     }
 }
 

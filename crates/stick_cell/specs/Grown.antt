@@ -13,7 +13,7 @@ use Rattle.stick_cell.specs.declared.names.Pin.{Pin}
 use Rattle.stick_cell.specs.declared.names.Copied.{Copied}
 use Rattle.stick_cell.specs.Known.{Known, Plug, cell_of, known_at, plug_at, copied_node}
 use Rattle.stick_cell.specs.Lines.{is_wired}
-use Rattle.cell_model.specs.Sound.{node_at, wire_at, IsNode, IsWire, IsLimit, EndsAt}
+use Rattle.cell_model.specs.Sound.{node_at, wire_at, IsNode, IsWire, IsLimit, LeaveOneSide, EndsAt}
 
 -- the node of this number has the name, and is what the spot says
 pub record IsSpot (nodes : List Node) (name : List ℕ) (spot : Spot) : Type 0 where
@@ -52,6 +52,8 @@ pub record IsPlug (wires : List Wire) (k : ℕ) (plug : Plug) : Type 0 where
 pub record IsGrown (tech : Tech) (cells : List Known) (known : Known) : Type 0 where
   pub nodes : AllByRecursion (IsNode tech) known.nodes
   pub wires : AllByRecursion (IsWire tech (cell_of known)) known.wires
+  pub sides : (j k : ℕ) → j < length known.wires → k < length known.wires → LeaveOneSide (cell_of known) (wire_at known.wires j) (wire_at known.wires k)
+      → (wire_at known.wires j).layer ≡ (wire_at known.wires k).layer
   pub plugs : (k : ℕ) → k < length known.plugs → IsPlug known.wires k (plug_at known.plugs k)
   pub limits : AllByRecursion (IsLimit (cell_of known)) known.limits
   pub names : AllByRecursion (λ entry. IsRight cells known.nodes known.plugs entry.0 entry.1) known.names

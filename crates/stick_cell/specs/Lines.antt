@@ -3,13 +3,14 @@
 use Rattle.std.specs.Prelude.{ℕ, ◌+◌, ◌==◌, ◌&&◌, not, Bool, nat_lt, ℤ, pos, List, [], ◌∷◌, ◌++◌, length, map, Option, Some, None, is_none, position, bytes_eq, Result, Ok, Err, if◌then◌else◌}
 use Rattle.std.specs.List.{list_all}
 use Rattle.rule_table.specs.declared.technology.Tech.{Tech}
+use Rattle.rule_table.specs.Technology.{has_buried_of}
 use Rattle.stick_parse.specs.declared.fault.StickKind.{StickKind}
-use Rattle.stick_parse.specs.declared.fault.StickKind.TheVariants.{RepeatedName, UnknownName, UseCycle, UseDepth, UsedPorts, FarPlace, BadSize, PortWires, BadLimit}
+use Rattle.stick_parse.specs.declared.fault.StickKind.TheVariants.{RepeatedName, UnknownName, UseCycle, UseDepth, UsedPorts, FarPlace, BadSize, PortWires, BadLimit, NoBuried}
 use Rattle.stick_parse.specs.declared.fault.StickFault.{StickFault}
 use Rattle.stick_parse.specs.declared.design.Layer.{Layer as DrawnLayer}
 use Rattle.lam_geom.specs.declared.boxes.Side.{Side}
 use Rattle.stick_parse.specs.declared.design.Form.{Form}
-use Rattle.stick_parse.specs.declared.design.Form.TheVariants.{Joint, Contact, Fet, Port, Inst, Wire, Limit}
+use Rattle.stick_parse.specs.declared.design.Form.TheVariants.{Joint, Contact, Buried, Fet, Port, Inst, Wire, Limit}
 use Rattle.stick_parse.specs.declared.design.Line.{Line}
 use Rattle.stick_parse.specs.declared.design.CellText.{CellText}
 use Rattle.stick_parse.specs.Reading.{◌>>=◌}
@@ -55,6 +56,13 @@ after_contact known name lower col row = do
   near ← demand (is_place col && is_place row) FarPlace
   Ok (with_node known name (kinds.Contact (layer_of lower)) col row)
 
+unfoldable pub after_buried : Tech → Known → List ℕ → ℕ → ℕ → Result Known StickKind
+after_buried tech known name col row = do
+  fresh ← demand (is_fresh known.names name) RepeatedName
+  near ← demand (is_place col && is_place row) FarPlace
+  there ← demand (has_buried_of tech) NoBuried
+  Ok (with_node known name kinds.Buried col row)
+
 unfoldable pub after_fet : Tech → Known → List ℕ → Bool → Bool → ℕ → ℕ → ℕ → ℕ → Result Known StickKind
 after_fet tech known name depletion vertical col row w l = do
   fresh ← demand (is_fresh known.names name) RepeatedName
@@ -87,7 +95,7 @@ unfoldable pub after_wire : Tech → List Known → Known → DrawnLayer → Lis
 after_wire tech cells known layer a b width = do
   from ← known_name (found_at cells known a)
   to ← known_name (found_at cells known b)
-  wire ← wire_between tech (wired_of known) (layer_of layer) from to width
+  wire ← wire_between tech (wired_of known) known.wires (layer_of layer) from to width
   Ok (with_wire known wire)
 
 unfoldable pub after_limit : List Known → Known → Bool → List ℕ → List ℕ → Bool → ℤ → Result Known StickKind
@@ -102,6 +110,7 @@ after_limit cells known vertical a b at_most n = do
 abbrev pub after_form : Tech → List Known → Known → Form → Result Known StickKind
 after_form tech cells known (Joint name layer col row width) = after_joint tech known name layer col row width
 after_form tech cells known (Contact name lower col row) = after_contact known name lower col row
+after_form tech cells known (Buried name col row) = after_buried tech known name col row
 after_form tech cells known (Fet name depletion vertical col row w l) = after_fet tech known name depletion vertical col row w l
 after_form tech cells known (Port name side layer place) = after_port known name side layer place
 after_form tech cells known (Inst name cell col row) = after_use cells known name cell col row

@@ -1,18 +1,22 @@
 -- Why a line or a cell is refused, in the words of the rules: what is broken where a line is refused with a kind.
-use Rattle.std.specs.Prelude.{◌≡◌, ◌≢◌, ℕ, ◌+◌, ◌<◌, ◌≤◌, ◌%◌, ℤ, pos, ◌<ℤ◌, Bool, not, IsTrue, bytes_eq, ◌⊎◌, List, [], ◌∷◌, ◌++◌, Option, Some, None, Ok}
+use Rattle.std.specs.Prelude.{◌≡◌, ◌≢◌, ℕ, ◌+◌, ◌<◌, ◌≤◌, ◌%◌, ℤ, pos, ◌<ℤ◌, Bool, not, IsTrue, bytes_eq, ◌⊎◌, true, false, List, [], ◌∷◌, ◌++◌, length, Option, Some, None, Ok}
 use Rattle.rule_table.specs.declared.technology.Tech.{Tech}
 use Rattle.rule_table.specs.declared.classes.Layer.{Layer}
 use Rattle.rule_table.specs.declared.classes.Layer.TheVariants.{Diffusion, Poly}
-use Rattle.rule_table.specs.Technology.{width_of}
+use Rattle.rule_table.specs.Technology.{width_of, has_buried_of}
 use Rattle.lam_geom.specs.declared.boxes.Side.{Side}
 use Rattle.lam_geom.specs.declared.boxes.Side.TheVariants.{Left, Right, Bottom, Top}
 use Rattle.stick_parse.specs.declared.fault.StickKind.{StickKind}
-use Rattle.stick_parse.specs.declared.fault.StickKind.TheVariants.{WrongTerminal, NotStraight, WrongLayer, WrongSide, PortWires, BadSize, NarrowWire, WideWire, RepeatedName, UnknownName, UseCycle, UseDepth, UsedPorts, FarPlace, BadLimit}
+use Rattle.stick_parse.specs.declared.fault.StickKind.TheVariants.{WrongTerminal, NotStraight, WrongLayer, WrongSide, PortWires, BadSize, NarrowWire, WideWire, RepeatedName, UnknownName, UseCycle, UseDepth, UsedPorts, FarPlace, BadLimit, NoBuried}
 use Rattle.stick_parse.specs.declared.fault.StickFault.{StickFault}
 use Rattle.stick_parse.specs.declared.design.Form.{Form}
 use Rattle.stick_parse.specs.declared.design.Form.TheVariants as forms
 use Rattle.stick_parse.specs.declared.design.Line.{Line}
 use Rattle.stick_parse.specs.declared.design.CellText.{CellText}
+use Rattle.cell_model.specs.declared.cell.Axis2.{Axis2}
+use Rattle.cell_model.specs.declared.cell.NodeKind.TheVariants.{Buried}
+use Rattle.cell_model.specs.declared.cell.Wire.{Wire}
+use Rattle.cell_model.specs.Sound.{wire_at}
 use Rattle.cell_model.specs.Wiring.{axis_of}
 use Rattle.stick_cell.specs.declared.names.Terminal.{Terminal}
 use Rattle.stick_cell.specs.declared.names.Terminal.TheVariants.{Node, Port}
@@ -23,7 +27,7 @@ use Rattle.stick_cell.specs.Known.{Known, begun, known_at, greatest_col, greates
 use Rattle.stick_cell.specs.Paths.{found_at}
 use Rattle.stick_cell.specs.Checks.{is_fresh, layer_of, sized}
 use Rattle.stick_cell.specs.Lines.{number_of, wired_of, is_wired, is_new_cell, after_lines}
-use Rattle.stick_cell.specs.Wires.{line_of, run_between, takes_layer, takes_along, is_free, is_within_pad}
+use Rattle.stick_cell.specs.Wires.{line_of, run_between, takes_layer, takes_along, leaves, is_free, fills_pad, is_within_pad}
 
 -- ---- names, places and sizes
 
@@ -66,23 +70,32 @@ IsNotStraight (Port p) (Port q) = IsOpposite p.side q.side → p.place ≢ q.pla
 abbrev pub IsRefusedAtEnd : (Terminal → Bool) → Run → Type 0
 IsRefusedAtEnd test run = IsTrue (not (test run.low)) ⊎ IsTrue (not (test run.high))
 
--- what is wrong with a wire along a run
-abbrev pub IsWrongRun : Tech → List Bool → Layer → Option ℕ → Run → StickKind → Type 0
-IsWrongRun tech wired layer width run kind =
+-- the end is a buried contact, and one of the wires, of another layer, leaves it on the same side
+abbrev pub IsTakenSide : List Wire → Layer → Axis2 → Bool → Terminal → Type 0
+IsTakenSide wires layer along is_low (Node spot) =
+    (spot.kind ≡ Buried) × ((k : ℕ) × (k < length wires) × IsTrue (leaves spot.number along is_low (wire_at wires k)) × ((wire_at wires k).layer ≢ layer))
+IsTakenSide wires layer along is_low (Port pin) = ⊥
+
+-- what is wrong with a wire along a run, beside the wires that the cell has
+abbrev pub IsWrongRun : Tech → List Bool → List Wire → Layer → Option ℕ → Run → StickKind → Type 0
+IsWrongRun tech wired wires layer width run kind =
     ((kind ≡ WrongLayer) × IsRefusedAtEnd (takes_layer layer) run)
-    ⊎ ((kind ≡ WrongSide) × IsRefusedAtEnd (takes_along layer run.along) run)
+    ⊎ ((kind ≡ WrongSide)
+      × (IsRefusedAtEnd (takes_along layer run.along) run ⊎ (IsTakenSide wires layer run.along true run.low ⊎ IsTakenSide wires layer run.along false run.high)))
     ⊎ ((kind ≡ PortWires) × IsRefusedAtEnd (is_free wired) run)
     ⊎ IsWrongWidth tech layer width kind
-    ⊎ ((size : ℤ) × (sized tech layer width ≡ Ok size) × ((kind ≡ WideWire) × IsRefusedAtEnd (is_within_pad tech layer size) run))
+    ⊎ ((size : ℤ) × (sized tech layer width ≡ Ok size)
+      × (((kind ≡ NarrowWire) × IsRefusedAtEnd (fills_pad tech size) run) ⊎ ((kind ≡ WideWire) × IsRefusedAtEnd (is_within_pad tech layer size) run)))
 
 -- what is wrong with a wire between two terminals
-abbrev pub IsWrongWire : Tech → List Bool → Layer → Terminal → Terminal → Option ℕ → StickKind → Type 0
-IsWrongWire tech wired layer a b width kind = ((kind ≡ NotStraight) × IsNotStraight a b) ⊎ ((run : Run) × (run_between a b ≡ Some run) × IsWrongRun tech wired layer width run kind)
+abbrev pub IsWrongWire : Tech → List Bool → List Wire → Layer → Terminal → Terminal → Option ℕ → StickKind → Type 0
+IsWrongWire tech wired wires layer a b width kind =
+    ((kind ≡ NotStraight) × IsNotStraight a b) ⊎ ((run : Run) × (run_between a b ≡ Some run) × IsWrongRun tech wired wires layer width run kind)
 
 -- a use, and what lies behind a node or a port, is no terminal
-abbrev pub IsRefusedWire : Tech → List Bool → Layer → Found → Found → Option ℕ → StickKind → Type 0
-IsRefusedWire tech wired layer (At a) (At b) width kind = IsWrongWire tech wired layer a b width kind
-IsRefusedWire tech wired layer a b width kind = kind ≡ WrongTerminal
+abbrev pub IsRefusedWire : Tech → List Bool → List Wire → Layer → Found → Found → Option ℕ → StickKind → Type 0
+IsRefusedWire tech wired wires layer (At a) (At b) width kind = IsWrongWire tech wired wires layer a b width kind
+IsRefusedWire tech wired wires layer a b width kind = kind ≡ WrongTerminal
 
 -- ---- limits
 
@@ -118,11 +131,12 @@ IsWrongBetween a b IsWrong kind = kind ≡ UnknownName
 abbrev pub IsWrongLine : Tech → List Known → Known → Form → StickKind → Type 0
 IsWrongLine tech cells known (forms.Joint name layer col row width) kind = IsTaken known name kind ⊎ IsFar col row kind ⊎ IsWrongWidth tech (layer_of layer) width kind
 IsWrongLine tech cells known (forms.Contact name lower col row) kind = IsTaken known name kind ⊎ IsFar col row kind
+IsWrongLine tech cells known (forms.Buried name col row) kind = IsTaken known name kind ⊎ IsFar col row kind ⊎ ((kind ≡ NoBuried) × IsTrue (not (has_buried_of tech)))
 IsWrongLine tech cells known (forms.Fet name depletion vertical col row w l) kind = IsTaken known name kind ⊎ IsFar col row kind ⊎ IsWrongChannel tech w l kind
 IsWrongLine tech cells known (forms.Port name side layer place) kind = IsTaken known name kind ⊎ ((kind ≡ FarPlace) × (4095 < place))
 IsWrongLine tech cells known (forms.Inst name cell col row) kind = IsWrongUse cells known name cell col row kind
 IsWrongLine tech cells known (forms.Wire layer a b width) kind =
-    IsWrongBetween (found_at cells known a) (found_at cells known b) (λ from to. IsRefusedWire tech (wired_of known) (layer_of layer) from to width) kind
+    IsWrongBetween (found_at cells known a) (found_at cells known b) (λ from to. IsRefusedWire tech (wired_of known) known.wires (layer_of layer) from to width) kind
 IsWrongLine tech cells known (forms.Limit vertical a b at_most n) kind = IsWrongBetween (found_at cells known a) (found_at cells known b) IsWrongLimit kind
 
 -- ---- cells

@@ -1,16 +1,19 @@
 -- Where wires run, and which terminals take them.
+use Rattle.std.specs.List.{list_all}
 use Rattle.std.specs.Prelude.{ℕ, ◌==◌, ◌&&◌, ◌||◌, not, Bool, true, false, nat_lt, ℤ, int_le, List, slice_index_or, Option, Some, None, Result, Ok, Err, if◌then◌else◌}
 use Rattle.rule_table.specs.declared.technology.Tech.{Tech}
 use Rattle.rule_table.specs.declared.classes.Layer.{Layer}
 use Rattle.stick_parse.specs.declared.fault.StickKind.{StickKind}
-use Rattle.stick_parse.specs.declared.fault.StickKind.TheVariants.{UnknownName, WrongTerminal, NotStraight, WrongLayer, WrongSide, PortWires, WideWire, BadLimit}
+use Rattle.stick_parse.specs.declared.fault.StickKind.TheVariants.{UnknownName, WrongTerminal, NotStraight, WrongLayer, WrongSide, PortWires, NarrowWire, WideWire, BadLimit}
 use Rattle.stick_parse.specs.Reading.{◌>>=◌}
 use Rattle.cell_model.specs.declared.cell.Axis2.{Axis2}
 use Rattle.cell_model.specs.declared.cell.Axis2.TheVariants.{Across, Up}
+use Rattle.cell_model.specs.declared.cell.NodeKind.{NodeKind}
+use Rattle.cell_model.specs.declared.cell.NodeKind.TheVariants as kinds
 use Rattle.cell_model.specs.declared.cell.WireEnd.{WireEnd}
 use Rattle.cell_model.specs.declared.cell.WireEnd.TheVariants as ends
 use Rattle.cell_model.specs.declared.cell.Wire.{Wire}
-use Rattle.cell_model.specs.Wiring.{axis_of, is_low_side, is_same_axis, is_same_layer, node_takes, node_takes_along, node_pad}
+use Rattle.cell_model.specs.Wiring.{axis_of, is_low_side, is_same_axis, is_same_layer, node_takes, node_takes_along, buried_pad, node_pad}
 use Rattle.stick_cell.specs.declared.names.Pin.{Pin}
 use Rattle.stick_cell.specs.declared.names.Spot.{Spot}
 use Rattle.stick_cell.specs.declared.names.Terminal.{Terminal}
@@ -69,6 +72,29 @@ abbrev pub takes_along : Layer → Axis2 → Terminal → Bool
 takes_along layer along (Node spot) = node_takes_along spot.kind layer along
 takes_along layer along (Port pin) = true
 
+abbrev pub is_buried : NodeKind → Bool
+is_buried (kinds.Joint layer width) = false
+is_buried (kinds.Contact lower) = false
+is_buried kinds.Buried = true
+is_buried (kinds.Fet depletion gate w l) = false
+
+abbrev pub is_node : ℕ → WireEnd → Bool
+is_node k (ends.Node j) = j == k
+is_node k (ends.Port j) = false
+
+-- a wire leaves node k along an axis: on its high side, where it is the wire's low end, or on its low side
+abbrev pub leaves : ℕ → Axis2 → Bool → Wire → Bool
+leaves k along is_low wire = is_same_axis wire.along along && is_node k (if is_low then wire.low else wire.high)
+
+-- no wire of another layer leaves the buried contact where a wire would that has it as its low end, or as its high end
+abbrev pub is_side_free : List Wire → Layer → Axis2 → Bool → Terminal → Bool
+is_side_free wires layer along is_low (Node spot) =
+    not (is_buried spot.kind) || list_all (λ wire. not (leaves spot.number along is_low wire) || is_same_layer wire.layer layer) wires
+is_side_free wires layer along is_low (Port pin) = true
+
+abbrev pub are_sides_free : List Wire → Layer → Run → Bool
+are_sides_free wires layer run = is_side_free wires layer run.along true run.low && is_side_free wires layer run.along false run.high
+
 -- no wire ends at the port yet; wired tells of each port whether one does
 abbrev pub is_free : List Bool → Terminal → Bool
 is_free wired (Node spot) = true
@@ -77,6 +103,11 @@ is_free wired (Port pin) = not (slice_index_or wired pin.number false)
 abbrev pub is_within_pad : Tech → Layer → ℤ → Terminal → Bool
 is_within_pad tech layer width (Node spot) = int_le width (node_pad tech layer spot.kind)
 is_within_pad tech layer width (Port pin) = true
+
+-- a wire at a buried contact is no narrower than its pad
+abbrev pub fills_pad : Tech → ℤ → Terminal → Bool
+fills_pad tech width (Node spot) = not (is_buried spot.kind) || int_le (buried_pad tech) width
+fills_pad tech width (Port pin) = true
 
 abbrev pub end_of : Terminal → WireEnd
 end_of (Node spot) = ends.Node spot.number
@@ -89,23 +120,24 @@ at_both test run = test run.low && test run.high
 abbrev pub wire_along : Layer → Run → ℤ → Wire
 wire_along layer run size = record { layer = layer; width = size; low = end_of run.low; high = end_of run.high; along = run.along }
 
--- and whether the ends of the run take it
-abbrev pub wire_on : Tech → List Bool → Layer → Option ℕ → Run → Result Wire StickKind
-wire_on tech wired layer width run = do
+-- and whether the ends of the run take it, beside the wires that the cell has
+abbrev pub wire_on : Tech → List Bool → List Wire → Layer → Option ℕ → Run → Result Wire StickKind
+wire_on tech wired wires layer width run = do
   layers ← demand (at_both (takes_layer layer) run) WrongLayer
-  sides ← demand (at_both (takes_along layer run.along) run) WrongSide
+  sides ← demand (at_both (takes_along layer run.along) run && are_sides_free wires layer run) WrongSide
   free ← demand (at_both (is_free wired) run) PortWires
   size ← sized tech layer width
+  filled ← demand (at_both (fills_pad tech size) run) NarrowWire
   pads ← demand (at_both (is_within_pad tech layer size) run) WideWire
   Ok (wire_along layer run size)
 
 -- the wire of a layer between the things that two paths have come to
-unfoldable pub wire_between : Tech → List Bool → Layer → Found → Found → Option ℕ → Result Wire StickKind
-wire_between tech wired layer a b width = do
+unfoldable pub wire_between : Tech → List Bool → List Wire → Layer → Found → Found → Option ℕ → Result Wire StickKind
+wire_between tech wired wires layer a b width = do
   from ← terminal a
   to ← terminal b
   run ← straight (run_between from to)
-  wire_on tech wired layer width run
+  wire_on tech wired wires layer width run
 
 -- ---- limits
 

@@ -33,6 +33,7 @@ pub fn kind_items(kind: NodeKind) -> u32
     match kind {
         NodeKind::Joint { layer, .. } => layer_items(layer),
         NodeKind::Contact { lower } => 2 + layer_items(lower),
+        NodeKind::Buried => 4,
         NodeKind::Fet { depletion, .. } => 5 + u32::from(depletion),
     }
 }
@@ -43,7 +44,7 @@ pub fn kind_boxes(kind: NodeKind) -> u32
 {
     match kind {
         NodeKind::Joint { .. } => 1,
-        NodeKind::Contact { .. } => 3,
+        NodeKind::Contact { .. } | NodeKind::Buried => 3,
         NodeKind::Fet { depletion, .. } => 2 + u32::from(depletion),
     }
 }

@@ -3,7 +3,7 @@ ghost use Rattle.std.specs.Prelude.{◌≡◌, List, map, IsTrue, IfOk, OnOk};
 ghost use Rattle.stick_cell.specs.Checks.{is_fresh};
 ghost use Rattle.stick_cell.specs.NameEntries.{entries_of};
 ghost use Rattle.stick_cell.specs.Known.{Known, begun, with_node, with_port};
-ghost use Rattle.stick_cell.specs.Lines.{is_wired, after_joint, after_contact, after_fet, after_port};
+ghost use Rattle.stick_cell.specs.Lines.{is_wired, after_joint, after_contact, after_buried, after_fet, after_port};
 ghost use Rattle.std.specs.List.{list_all};
 ghost use Rattle.stick_cell.specs.Steps.{AreStepsOf};
 ghost use Rattle.stick_cell.specs.Tables.{IsTableOf};
@@ -85,6 +85,24 @@ impl<'a> Growing<'a> {
         self.check_place(name, col, row)?;
         let lower = layer_of(lower);
         self.add_node(name, NodeKind::Contact { lower }, col, row)?;
+        Ok(())
+    }
+
+    /// A buried contact, which only a technology that has them may have.
+    pub fn buried(
+        &mut self,
+        tech: &Tech,
+        name: &'a [u8],
+        col: u32,
+        row: u32,
+    ) -> Result<(), LineFault>
+        ensures { (cells : List Known) (known : Known) → IsGrowing cells known self.old → Grows cells result self.new (after_buried tech.now known name.now col row) }
+    {
+        self.check_place(name, col, row)?;
+        if !tech.has_buried() {
+            return Err(LineFault::Kind(StickKind::NoBuried));
+        }
+        self.add_node(name, NodeKind::Buried, col, row)?;
         Ok(())
     }
 

@@ -38,6 +38,7 @@ impl<'a> Growing<'a> {
                 col,
                 row,
             } => self.contact(name.bytes(), *lower, *col, *row),
+            Form::Buried { name, col, row } => self.buried(tech, name.bytes(), *col, *row),
             Form::Fet {
                 name,
                 depletion,

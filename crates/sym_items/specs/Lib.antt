@@ -1,5 +1,6 @@
 pub mod Values
 pub mod Sides
 pub mod Boxes
+pub mod Standing
 pub mod Transposed
 pub mod Worked

@@ -1,7 +1,7 @@
 ghost use Rattle.std.specs.Prelude.{◌≡◌, IfOk};
 ghost use Rattle.sym_items.specs.Worked as worked;
 
-use crate::{Coords, End, Item, Items, at, box_of};
+use crate::{Coords, End, Item, Items, NOWHERE, at, box_of};
 use lam_geom::{BoxXY, Span};
 use lam_list::Seq;
 use rule_table::Class;
@@ -22,6 +22,8 @@ fn wire() -> Item
         yh: End { var: 2, off: 3 },
         least_x: 6,
         least_y: 6,
+        at_low: NOWHERE,
+        at_high: NOWHERE,
     }
 }
 
