@@ -1,3 +1,4 @@
+pub mod Versions
 pub mod Ranges
 pub mod Sound
 pub mod Margins

@@ -1,18 +1,28 @@
 -- Spacings, margins and the widest spacing of numbers without a fault.
-use Rattle.std.proofs.Common.{◌≡◌, ℤ, pos, ◌≤ℤ◌, List, [], ◌∷◌, map, Option, Some, None, refl, arith}
-use Rattle.std.specs.Prelude.{IfSome, fold}
+use Rattle.std.proofs.Common.{◌≡◌, ℤ, pos, ◌≤ℤ◌, true, false, List, [], ◌∷◌, map, Option, Some, None, refl, sym, inl, inr, arith}
+use Rattle.std.specs.Prelude.{◌↔◌, IsTrue, IfSome, fold}
+use Rattle.std.proofs.lemmas.Bool.{cases_Bool}
 use Rattle.std.specs.Int.{int_max}
 use Rattle.std.proofs.lemmas.Int.{ints, clamps}
-use Rattle.rule_table.specs.Spacing.{row, either, spacing_in, gap_of, all_classes, greatest, margin_in, widest_in}
+use Rattle.rule_table.specs.Keys.{has_buried}
+use Rattle.rule_table.specs.Spacing.{row, either, spacing_in, gap_of, all_classes, has_class, greatest, margin_in, widest_in}
 use Rattle.rule_table.specs.Bounds.{IsTechnology}
 use Rattle.rule_table.specs.declared.keys.Numbers.{Numbers}
 use Rattle.rule_table.specs.declared.classes.Rule.{Rule}
 use Rattle.rule_table.specs.declared.classes.Class.{Class}
-use Rattle.rule_table.specs.declared.classes.Class.TheVariants.{M, P, Dc, Dm, C, I, G}
+use Rattle.rule_table.specs.declared.classes.Class.TheVariants.{M, P, Dc, Dm, C, I, G, B}
+use Rattle.rule_table.proofs.Versions.{buried_spacing}
 
 -- a spacing is from 1 to 4096
 abbrev pub IsSpacing : Rule → Type 0
 IsSpacing r = (pos 1 ≤ℤ r.s) × (r.s ≤ℤ pos 4096)
+
+buried_bounds : (n : Numbers) → IsTechnology n → IfSome (row n B G) IsSpacing
+buried_bounds n h =
+    elim (cases_Bool (has_buried n)) [
+      | inl some ↦ rw some (buried_spacing n h some, h.in_range.spacing_buried_channel.1)
+      | inr none ↦ rw none tt
+    ]
 
 row_bounds : (n : Numbers) → IsTechnology n → (a b : Class) → IfSome (row n a b) IsSpacing
 row_bounds n h M M = (h.spacings.metal, h.in_range.spacing_metal.1)
@@ -22,6 +32,7 @@ row_bounds n h P Dm = (h.spacings.poly_diffusion, h.in_range.spacing_poly_diffus
 row_bounds n h C C = (h.spacings.cut, h.in_range.spacing_cut.1)
 row_bounds n h C G = (h.spacings.cut_channel, h.in_range.spacing_cut_channel.1)
 row_bounds n h I G = (h.spacings.implant_channel, h.in_range.spacing_implant_channel.1)
+row_bounds n h B G = buried_bounds n h
 row_bounds n h _ _ = tt
 
 either_bounds : (p q : Option Rule) → IfSome p IsSpacing → IfSome q IsSpacing → IfSome (either p q) IsSpacing
@@ -31,6 +42,10 @@ either_bounds (Some r) q h k = h
 pub spacing_bounds : (n : Numbers) → IsTechnology n → (a b : Class) → IfSome (spacing_in n a b) IsSpacing
 unfolding spacing_in
 spacing_bounds n h a b = either_bounds _ _ (row_bounds n h a b) (row_bounds n h b a)
+
+either_none : (o : Option Rule) → either o None ≡ o
+either_none None = refl
+either_none (Some r) = refl
 
 -- the table has no order
 pub spacing_in-symmetric : (n : Numbers) (a b : Class) → spacing_in n a b ≡ spacing_in n b a
@@ -48,6 +63,9 @@ spacing_in-symmetric n C G = refl
 spacing_in-symmetric n G C = refl
 spacing_in-symmetric n I G = refl
 spacing_in-symmetric n G I = refl
+spacing_in-symmetric n B B = refl
+spacing_in-symmetric n B G = either_none (row n B G)
+spacing_in-symmetric n G B = sym (either_none (row n B G))
 spacing_in-symmetric n _ _ = refl
 
 gap_bounds : (o : Option Rule) → IfSome o IsSpacing → (pos 0 ≤ℤ gap_of o) × (gap_of o ≤ℤ pos 4096)
@@ -83,6 +101,7 @@ greatest_above f Dm = (below_fold f (pos 0) all_classes).1.1.1.0
 greatest_above f C = (below_fold f (pos 0) all_classes).1.1.1.1.0
 greatest_above f I = (below_fold f (pos 0) all_classes).1.1.1.1.1.0
 greatest_above f G = (below_fold f (pos 0) all_classes).1.1.1.1.1.1.0
+greatest_above f B = (below_fold f (pos 0) all_classes).1.1.1.1.1.1.1.0
 
 -- a bound of each value bounds the greatest
 fold_below : (f : Class → ℤ) (a top : ℤ) → a ≤ℤ top → ((b : Class) → f b ≤ℤ top) → (bs : List Class) → fold int_max a (map f bs) ≤ℤ top
@@ -128,19 +147,43 @@ within_margins n a b =
     let other : IfSome (spacing_in n a b) (λ r. r.s ≤ℤ margin_in n b) = rw (spacing_in-symmetric n a b) (margin_above n b a) in
     both _ _ (spacing_in n a b) (margin_above n a b) other
 
--- each class has a row
-pub margin_positive : (n : Numbers) → IsTechnology n → (a : Class) → pos 1 ≤ℤ margin_in n a
+-- no margin is below 0
+pub margin_low : (n : Numbers) (a : Class) → pos 0 ≤ℤ margin_in n a
+unfolding margin_in greatest
+margin_low n a = from_first (λ b. gap_of (spacing_in n a b)) (pos 0) all_classes
+
+-- a class that has a row has a margin of at least 1
+pub margin_positive : (n : Numbers) → IsTechnology n → (a : Class) → has_class n a ≡ true → pos 1 ≤ℤ margin_in n a
 unfolding margin_in spacing_in
-margin_positive n h M = omega (arith, ints, greatest_above (λ c. gap_of (spacing_in n M c)) M)
-margin_positive n h P = omega (arith, ints, greatest_above (λ c. gap_of (spacing_in n P c)) P)
-margin_positive n h Dc = omega (arith, ints, greatest_above (λ c. gap_of (spacing_in n Dc c)) Dc)
-margin_positive n h Dm = omega (arith, ints, greatest_above (λ c. gap_of (spacing_in n Dm c)) P)
-margin_positive n h C = omega (arith, ints, greatest_above (λ c. gap_of (spacing_in n C c)) C)
-margin_positive n h I = omega (arith, ints, greatest_above (λ c. gap_of (spacing_in n I c)) G)
-margin_positive n h G = omega (arith, ints, greatest_above (λ c. gap_of (spacing_in n G c)) I)
+margin_positive n h M some = omega (arith, ints, greatest_above (λ c. gap_of (spacing_in n M c)) M)
+margin_positive n h P some = omega (arith, ints, greatest_above (λ c. gap_of (spacing_in n P c)) P)
+margin_positive n h Dc some = omega (arith, ints, greatest_above (λ c. gap_of (spacing_in n Dc c)) Dc)
+margin_positive n h Dm some = omega (arith, ints, greatest_above (λ c. gap_of (spacing_in n Dm c)) P)
+margin_positive n h C some = omega (arith, ints, greatest_above (λ c. gap_of (spacing_in n C c)) C)
+margin_positive n h I some = omega (arith, ints, greatest_above (λ c. gap_of (spacing_in n I c)) G)
+margin_positive n h G some = omega (arith, ints, greatest_above (λ c. gap_of (spacing_in n G c)) I)
+margin_positive n h B some =
+    let gap : gap_of (spacing_in n B G) ≡ n.spacing_buried_channel = rw some refl in
+    let above : gap_of (spacing_in n B G) ≤ℤ margin_in n B = greatest_above (λ c. gap_of (spacing_in n B c)) G in
+    omega (arith, ints, buried_spacing n h some, gap, above)
+
+-- and one that has none has a margin of 0
+no_margin : (n : Numbers) (a : Class) → has_class n a ≡ false → margin_in n a ≡ pos 0
+unfolding margin_in spacing_in greatest
+no_margin n B none = rw none
+no_margin n _ none = absurd cc
+
+pub margin_exactly : (n : Numbers) → IsTechnology n → (a : Class) → IsTrue (has_class n a) ↔ pos 1 ≤ℤ margin_in n a
+margin_exactly n h a = (
+  margin_positive n h a,
+  λ low. elim (cases_Bool (has_class n a)) [
+    | inl some ↦ some
+    | inr none ↦ absurd (let zero : margin_in n a ≡ pos 0 = no_margin n a none in omega (arith, ints))
+  ],
+)
 
 pub widest_positive : (n : Numbers) → IsTechnology n → pos 1 ≤ℤ widest_in n
 widest_positive n h =
-    let one : pos 1 ≤ℤ margin_in n M = margin_positive n h M in
+    let one : pos 1 ≤ℤ margin_in n M = margin_positive n h M refl in
     let more : margin_in n M ≤ℤ widest_in n = widest_above n M in
     omega (arith, ints)

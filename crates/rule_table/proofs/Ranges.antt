@@ -1,11 +1,14 @@
 -- What it means that a test of single numbers finds none.
-use Rattle.std.proofs.Common.{◌≡◌, ℕ, ℤ, pos, negsuc, ◌≤ℤ◌, Bool, false, List, [], ◌∷◌, None, ap, ◌%◌, ◌≤◌, arith, inl, inr}
+use Rattle.std.proofs.Common.{◌≡◌, ℕ, ℤ, pos, negsuc, ◌≤ℤ◌, Bool, true, false, List, [], ◌∷◌, Option, Some, None, refl, ap, ◌%◌, ◌≤◌, arith, inl, inr}
+use Rattle.std.specs.Option.{option_or}
+use Rattle.std.specs.Prelude.{if◌then◌else◌}
 use Rattle.std.proofs.lemmas.Int.{ints}
 use Rattle.std.proofs.lemmas.Bool.{cases_Bool}
 use Rattle.std.proofs.lemmas.Bool.Decides.{nat_tests}
-use Rattle.rule_table.specs.Keys.{all_numbers, sizes, spacings, first_key, is_outside, is_zero, is_no_size}
+use Rattle.rule_table.specs.Keys.{common_numbers, buried_numbers, sizes, spacings, has_buried, most_of_buried, first_key, first_outside, is_outside, is_zero, is_no_size}
 use Rattle.rule_table.specs.Bounds.{IsLength, IsSize, IsInRange, HasSpacings}
 use Rattle.rule_table.specs.declared.keys.Numbers.{Numbers}
+use Rattle.rule_table.proofs.Versions.{buried_in_version_2}
 
 -- each number passes the test
 abbrev pub Spared : (ℤ → Bool) → List (ℕ × ℤ) → Type 0
@@ -24,12 +27,34 @@ pub spared : (fails : ℤ → Bool) (ks : List (ℕ × ℤ)) → first_key fails
 spared fails [] e = tt
 spared fails (k ∷ ks) e = let h = spared_step fails k ks e in (h.0, spared fails ks h.1)
 
-length_of : (z : ℤ) → is_outside z ≡ false → IsLength z
+length_of : (z : ℤ) → is_outside (pos 4096) z ≡ false → IsLength z
 length_of z e = grind (arith, ints)
 
-pub in_range : (n : Numbers) → first_key is_outside (all_numbers n) ≡ None → IsInRange n
+none_of_both : (p q : Option ℕ) → option_or p q ≡ None → (p ≡ None) × (q ≡ None)
+none_of_both None q e = (refl, e)
+none_of_both (Some k) q e = absurd cc
+
+-- a number that is at most 4096 where there are buried contacts, and else at most 0
+buried_length : (b : Bool) (z : ℤ) → is_outside (if b then pos 4096 else pos 0) z ≡ false → IsLength z
+buried_length true z e = length_of z e
+buried_length false z e = grind (arith, ints)
+
+no_length : (b : Bool) (z : ℤ) → b ≡ false → is_outside (if b then pos 4096 else pos 0) z ≡ false → z ≡ pos 0
+no_length true z none e = absurd cc
+no_length false z none e = grind (arith, ints)
+
+pub none_buried : (n : Numbers) → has_buried n ≡ false → first_outside n ≡ None → (n.extension_buried ≡ pos 0) × (n.spacing_buried_channel ≡ pos 0)
+unfolding first_outside
+none_buried n none e =
+    let s = spared (is_outside (most_of_buried n)) (buried_numbers n) (none_of_both _ _ e).1 in
+    (no_length _ _ none s.0, no_length _ _ none s.1.0)
+
+pub in_range : (n : Numbers) → first_outside n ≡ None → IsInRange n
+unfolding first_outside
 in_range n e =
-    let s = spared is_outside (all_numbers n) e in
+    let h = none_of_both _ _ e in
+    let s = spared (is_outside (pos 4096)) (common_numbers n) h.0 in
+    let t = spared (is_outside (most_of_buried n)) (buried_numbers n) h.1 in
     record {
       version = length_of _ s.0;
       unit = length_of _ s.1.0;
@@ -48,6 +73,8 @@ in_range n e =
       extension_implant = length_of _ s.1.1.1.1.1.1.1.1.1.1.1.1.1.1.0;
       cut_size = length_of _ s.1.1.1.1.1.1.1.1.1.1.1.1.1.1.1.0;
       cut_enclosure = length_of _ s.1.1.1.1.1.1.1.1.1.1.1.1.1.1.1.1.0;
+      extension_buried = buried_length _ _ t.0;
+      spacing_buried_channel = buried_length _ _ t.1.0;
     }
 
 size_of : (z : ℤ) → IsLength z → is_no_size z ≡ false → IsSize z
@@ -70,6 +97,11 @@ size_here = size_of
 positive : (z : ℤ) → IsLength z → is_zero z ≡ false → pos 1 ≤ℤ z
 positive z h e = grind (arith, ints)
 
+-- what is spared where there are buried contacts
+spared_buried : (b : Bool) (ks : List (ℕ × ℤ)) → b ≡ true → Spared is_zero (if b then ks else []) → Spared is_zero ks
+spared_buried true ks some s = s
+spared_buried false ks some s = absurd cc
+
 pub positive_spacings : (n : Numbers) → IsInRange n → first_key is_zero (spacings n) ≡ None → HasSpacings n
 positive_spacings n h e =
     let s = spared is_zero (spacings n) e in
@@ -81,4 +113,5 @@ positive_spacings n h e =
       cut = positive _ h.spacing_cut s.1.1.1.1.0;
       cut_channel = positive _ h.spacing_cut_channel s.1.1.1.1.1.0;
       implant_channel = positive _ h.spacing_implant_channel s.1.1.1.1.1.1.0;
+      buried_channel = λ two. positive _ h.spacing_buried_channel (spared_buried _ ((18, n.spacing_buried_channel) ∷ []) (buried_in_version_2 n two) s.1.1.1.1.1.1.1).0;
     }

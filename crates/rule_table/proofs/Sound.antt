@@ -1,14 +1,16 @@
 -- Numbers without a fault meet each of the facts.
-use Rattle.std.proofs.Common.{◌≡◌, ℕ, pos, ◌+ℤ◌, ◌≤ℤ◌, ◌<ℤ◌, Bool, true, false, List, [], ◌∷◌, Option, Some, None, option_map, refl, arith, inl, inr}
+use Rattle.std.proofs.Common.{◌≡◌, ℕ, ℤ, pos, ◌⊎◌, ◌+ℤ◌, ◌≤ℤ◌, ◌<ℤ◌, Bool, true, false, List, [], ◌∷◌, Option, Some, None, option_map, refl, arith, inl, inr}
 use Rattle.std.specs.Ordering.{int_eq}
 use Rattle.std.proofs.lemmas.Int.{ints}
 use Rattle.std.proofs.lemmas.Bool.{cases_Bool}
-use Rattle.rule_table.specs.Faults.{first_fault, fault_if, tests, fault_of, range_fault, has_short_channel, has_short_extension, has_narrow_fet, has_small_pad, gate_length, diffusion_length}
-use Rattle.rule_table.specs.Bounds.{IsInRange, IsTechnology}
+use Rattle.rule_table.specs.Keys.{first_outside}
+use Rattle.rule_table.specs.Faults.{is_version, first_fault, fault_if, tests, fault_of, range_fault, has_short_channel, has_short_extension, has_narrow_fet, has_small_pad, gate_length, diffusion_length}
+use Rattle.rule_table.specs.Bounds.{IsTechnology}
 use Rattle.rule_table.specs.Spacing.{pad_in}
 use Rattle.rule_table.specs.declared.keys.Numbers.{Numbers}
 use Rattle.rule_table.specs.declared.faults.TechFault.{TechFault}
-use Rattle.rule_table.proofs.Ranges.{in_range, even_sizes, size_here, positive_spacings}
+use Rattle.rule_table.proofs.Versions.{none_in_version_1}
+use Rattle.rule_table.proofs.Ranges.{in_range, none_buried, even_sizes, size_here, positive_spacings}
 
 -- no test of the list finds a fault
 abbrev pub AllNone : List (Option TechFault) → Type 0
@@ -28,11 +30,18 @@ unmapped : (f : ℕ → TechFault) (o : Option ℕ) → option_map f o ≡ None 
 unmapped f None e = refl
 unmapped f (Some k) e = absurd cc
 
-range_parts : (n : Numbers) → range_fault n ≡ None → (n.version ≡ pos 1) × IsInRange n
+versions : (z : ℤ) → is_version z ≡ true → (z ≡ pos 1) ⊎ (z ≡ pos 2)
+versions z e =
+    elim (cases_Bool (int_eq z (pos 1))) [
+      | inl one ↦ inl (grind (arith, ints))
+      | inr other ↦ inr (grind (arith, ints))
+    ]
+
+range_parts : (n : Numbers) → range_fault n ≡ None → ((n.version ≡ pos 1) ⊎ (n.version ≡ pos 2)) × (first_outside n ≡ None)
 unfolding range_fault
 range_parts n e =
-    elim (cases_Bool (int_eq n.version (pos 1))) [
-      | inl one ↦ (grind (arith, ints), in_range n (unmapped _ _ (rw one at e)))
+    elim (cases_Bool (is_version n.version)) [
+      | inl one ↦ (versions _ one, unmapped _ _ (rw one at e))
       | inr other ↦ absurd (let f = rw other at e in cc)
     ]
 
@@ -56,20 +65,22 @@ pub sound : (n : Numbers) → fault_of n ≡ None → IsTechnology n
 unfolding fault_of gate_length diffusion_length
 sound n e =
     let h = all_none (tests n) e in
-    let r = range_parts n h.0 in
-    let s = even_sizes n r.1 (unmapped _ _ h.1.1.0) in
+    let v = range_parts n h.0 in
+    let r = in_range n v.1 in
+    let s = even_sizes n r (unmapped _ _ h.1.1.0) in
     let x = extensions n (not_faulty _ _ h.1.1.1.1.1.0) in
     let f = fets n (not_faulty _ _ h.1.1.1.1.1.1.0) in
     let p = pads n (not_faulty _ _ h.1.1.1.1.1.1.1.0) in
     record {
-      in_range = r.1;
-      version = r.0;
-      unit = size_here _ r.1.unit (not_faulty _ _ h.1.0);
+      in_range = r;
+      version = v.0;
+      no_buried = λ one. none_buried n (none_in_version_1 n one) v.1;
+      unit = size_here _ r.unit (not_faulty _ _ h.1.0);
       width_diffusion = s.0;
       width_poly = s.1;
       width_metal = s.2;
       cut_size = s.3;
-      spacings = positive_spacings n r.1 (unmapped _ _ h.1.1.1.0);
+      spacings = positive_spacings n r (unmapped _ _ h.1.1.1.0);
       channel = channel n (not_faulty _ _ h.1.1.1.1.0);
       gate_reaches = x.0;
       diffusion_reaches = x.1;

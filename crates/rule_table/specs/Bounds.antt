@@ -1,5 +1,5 @@
 -- What the numbers of a technology meet, fact by fact.
-use Rattle.std.specs.Prelude.{◌≡◌, ℤ, pos, ◌+ℤ◌, ◌*ℤ◌, ◌≤ℤ◌, ◌<ℤ◌, int_div}
+use Rattle.std.specs.Prelude.{◌≡◌, ◌⊎◌, ℤ, pos, ◌+ℤ◌, ◌*ℤ◌, ◌≤ℤ◌, ◌<ℤ◌, int_div}
 use Rattle.rule_table.specs.Spacing.{pad_in}
 use Rattle.rule_table.specs.declared.keys.Numbers.{Numbers}
 
@@ -32,8 +32,10 @@ pub record IsInRange (n : Numbers) : Type 0 where
   pub extension_implant : IsLength n.extension_implant
   pub cut_size : IsLength n.cut_size
   pub cut_enclosure : IsLength n.cut_enclosure
+  pub extension_buried : IsLength n.extension_buried
+  pub spacing_buried_channel : IsLength n.spacing_buried_channel
 
--- each spacing is at least 1
+-- each spacing is at least 1, that of buried contacts in version 2
 pub record HasSpacings (n : Numbers) : Type 0 where
   pub diffusion : pos 1 ≤ℤ n.spacing_diffusion
   pub poly : pos 1 ≤ℤ n.spacing_poly
@@ -42,12 +44,15 @@ pub record HasSpacings (n : Numbers) : Type 0 where
   pub cut : pos 1 ≤ℤ n.spacing_cut
   pub cut_channel : pos 1 ≤ℤ n.spacing_cut_channel
   pub implant_channel : pos 1 ≤ℤ n.spacing_implant_channel
+  pub buried_channel : n.version ≡ pos 2 → pos 1 ≤ℤ n.spacing_buried_channel
 
 -- the numbers are those of a technology
 pub record IsTechnology (n : Numbers) : Type 0 where
-  -- each number is in range, and the version is 1
+  -- each number is in range, and the version is 1 or 2
   pub in_range : IsInRange n
-  pub version : n.version ≡ pos 1
+  pub version : (n.version ≡ pos 1) ⊎ (n.version ≡ pos 2)
+  -- in version 1 the numbers of buried contacts are 0
+  pub no_buried : n.version ≡ pos 1 → (n.extension_buried ≡ pos 0) × (n.spacing_buried_channel ≡ pos 0)
   -- the unit is even and not 0
   pub unit : IsSize n.unit
   -- the widths and the size of a cut are even and not 0

@@ -2,7 +2,7 @@
 use Rattle.std.specs.Prelude.{ℤ, pos, ◌+ℤ◌, ◌*ℤ◌, Bool, ◌||◌, int_lt, int_le, if◌then◌else◌, List, [], ◌∷◌, Option, Some, None, option_map}
 use Rattle.std.specs.List.{list_any}
 use Rattle.std.specs.Ordering.{int_eq}
-use Rattle.rule_table.specs.Keys.{all_numbers, sizes, spacings, first_key, is_outside, is_no_size, is_zero}
+use Rattle.rule_table.specs.Keys.{sizes, spacings, first_key, first_outside, is_no_size, is_zero}
 use Rattle.rule_table.specs.Spacing.{pad_in}
 use Rattle.rule_table.specs.declared.keys.Numbers.{Numbers}
 use Rattle.rule_table.specs.declared.faults.TechFault.{TechFault}
@@ -12,10 +12,13 @@ use Rattle.rule_table.specs.declared.faults.TechFault.TheVariants.{OutOfRange, O
 abbrev pub fault_if : Bool → TechFault → Option TechFault
 fault_if test fault = if test then Some fault else None
 
--- a number is below 0 or above 4096, or the version is other than 1
+-- the version is 1 or 2
+abbrev pub is_version : ℤ → Bool
+is_version z = int_eq z (pos 1) || int_eq z (pos 2)
+
+-- a number is below 0 or above the most that it may be, or the version is other than 1 or 2
 unfoldable pub range_fault : Numbers → Option TechFault
-range_fault n =
-    if int_eq n.version (pos 1) then option_map OutOfRange (first_key is_outside (all_numbers n)) else Some (OutOfRange 0)
+range_fault n = if is_version n.version then option_map OutOfRange (first_outside n) else Some (OutOfRange 0)
 
 -- poly width plus poly to diffusion spacing is below diffusion spacing: the diffusion on both sides of the shortest
 -- channel would be too near

@@ -1,15 +1,16 @@
 -- The spacing table of the numbers of a technology, and the lengths that follow from the numbers.
-use Rattle.std.specs.Prelude.{ℤ, pos, ◌+ℤ◌, ◌*ℤ◌, true, false, List, [], ◌∷◌, map, Option, Some, None}
+use Rattle.std.specs.Prelude.{ℤ, pos, ◌+ℤ◌, ◌*ℤ◌, Bool, true, false, if◌then◌else◌, List, [], ◌∷◌, map, Option, Some, None}
 use Rattle.std.specs.Prelude.{fold}
 use Rattle.std.specs.Int.{int_max}
+use Rattle.rule_table.specs.Keys.{has_buried}
 use Rattle.rule_table.specs.declared.keys.Numbers.{Numbers}
 use Rattle.rule_table.specs.declared.classes.Rule.{Rule}
 use Rattle.rule_table.specs.declared.classes.Class.{Class}
-use Rattle.rule_table.specs.declared.classes.Class.TheVariants.{M, P, Dc, Dm, C, I, G}
+use Rattle.rule_table.specs.declared.classes.Class.TheVariants.{M, P, Dc, Dm, C, I, G, B}
 use Rattle.rule_table.specs.declared.classes.Layer.{Layer}
 use Rattle.rule_table.specs.declared.classes.Layer.TheVariants.{Diffusion, Poly, Metal}
 
--- the row of two classes, in the order in which the table names them
+-- the row of two classes, in the order in which the table names them; only version 2 has that of buried contacts
 abbrev pub row : Numbers → Class → Class → Option Rule
 row n M M = Some (record { s = n.spacing_metal; net_exempt = true })
 row n P P = Some (record { s = n.spacing_poly; net_exempt = true })
@@ -18,6 +19,7 @@ row n P Dm = Some (record { s = n.spacing_poly_diffusion; net_exempt = false })
 row n C C = Some (record { s = n.spacing_cut; net_exempt = false })
 row n C G = Some (record { s = n.spacing_cut_channel; net_exempt = false })
 row n I G = Some (record { s = n.spacing_implant_channel; net_exempt = false })
+row n B G = if has_buried n then Some (record { s = n.spacing_buried_channel; net_exempt = false }) else None
 row n _ _ = None
 
 -- the first of two rows that is there
@@ -35,7 +37,12 @@ gap_of None = pos 0
 gap_of (Some r) = r.s
 
 abbrev pub all_classes : List Class
-all_classes = M ∷ P ∷ Dc ∷ Dm ∷ C ∷ I ∷ G ∷ []
+all_classes = M ∷ P ∷ Dc ∷ Dm ∷ C ∷ I ∷ G ∷ B ∷ []
+
+-- the table has a row with this class
+abbrev pub has_class : Numbers → Class → Bool
+has_class n B = has_buried n
+has_class n _ = true
 
 -- the greatest of some lengths
 unfoldable pub greatest : List ℤ → ℤ

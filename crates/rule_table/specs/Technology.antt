@@ -1,6 +1,7 @@
 -- What a technology shows of its numbers.
-use Rattle.std.specs.Prelude.{ℤ, pos, Option}
-use Rattle.rule_table.specs.Spacing.{spacing_in, margin_in, widest_in, width_in, pad_in}
+use Rattle.std.specs.Prelude.{ℤ, pos, Bool, Option}
+use Rattle.rule_table.specs.Keys.{has_buried}
+use Rattle.rule_table.specs.Spacing.{spacing_in, has_class, margin_in, widest_in, width_in, pad_in}
 use Rattle.rule_table.specs.declared.keys.Numbers.{Numbers}
 use Rattle.rule_table.specs.declared.classes.Rule.{Rule}
 use Rattle.rule_table.specs.declared.classes.Class.{Class}
@@ -10,8 +11,15 @@ use Rattle.rule_table.specs.declared.technology.Tech.{Tech}
 abbrev pub numbers_of : Tech → Numbers
 numbers_of t = t.numbers
 
+-- the technology has buried contacts
+abbrev pub has_buried_of : Tech → Bool
+has_buried_of t = has_buried (numbers_of t)
+
 abbrev pub spacing_of : Tech → Class → Class → Option Rule
 spacing_of t = spacing_in (numbers_of t)
+
+abbrev pub has_class_of : Tech → Class → Bool
+has_class_of t = has_class (numbers_of t)
 
 abbrev pub margin_of : Tech → Class → ℤ
 margin_of t = margin_in (numbers_of t)
@@ -45,4 +53,10 @@ shipped_numbers = record {
   extension_implant = pos 3;
   cut_size = pos 4;
   cut_enclosure = pos 2;
+  extension_buried = pos 0;
+  spacing_buried_channel = pos 0;
 }
+
+-- the same with buried contacts
+abbrev pub shipped2_numbers : Numbers
+shipped2_numbers = record shipped_numbers { version = pos 2; extension_buried = pos 4; spacing_buried_channel = pos 4 }

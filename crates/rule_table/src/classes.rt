@@ -25,6 +25,8 @@ pub enum Class {
     I,
     /// The channel of a transistor.
     G,
+    /// The window of a buried contact, in which poly and diffusion touch.
+    B,
 }
 
 /// A row of the spacing table for two classes.

@@ -11,7 +11,8 @@ use thiserror::Error;
 /// in the order of `Numbers`, and the least one that breaks the condition.
 #[derive(Clone, Copy, Debug, PartialEq, Eq, Error)]
 pub enum TechFault {
-    /// A number is below 0 or above 4096, or the version is other than 1.
+    /// A number is below 0 or above 4096, the version is other than 1 or 2, or the version is 1 and a number of buried
+    /// contacts is other than 0.
     #[error("a number is out of range")]
     OutOfRange(u8),
     /// The unit is odd or 0.
@@ -20,7 +21,7 @@ pub enum TechFault {
     /// A width or the cut's size is odd or 0.
     #[error("a width is odd or 0")]
     OddWidth(u8),
-    /// A spacing is 0.
+    /// A spacing is 0; that of buried contacts counts in version 2 alone.
     #[error("a spacing is 0")]
     ZeroSpacing(u8),
     /// Poly width plus poly to diffusion spacing is below diffusion spacing.
@@ -77,7 +78,7 @@ impl Numbers {
         ensures value { result ≡ range_fault self.now }
         ensures within { IfNone result (IsInRange self.now) }
     {
-        if self.version != 1 {
+        if self.version != 1 && self.version != 2 {
             return Some(TechFault::OutOfRange(0));
         }
         match self.first_outside() {

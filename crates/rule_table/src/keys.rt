@@ -1,12 +1,12 @@
 //! The numbers of a technology in the order of their keys.
 ghost use Rattle.std.specs.Prelude.{◌≡◌};
-ghost use Rattle.rule_table.specs.Keys.{all_numbers, sizes, spacings, is_outside, is_no_size, is_zero, first_key};
+ghost use Rattle.rule_table.specs.Keys.{common_numbers, buried_numbers, sizes, spacings, has_buried, most_of_buried, is_outside, is_no_size, is_zero, first_key, first_outside};
 
-/// The seventeen numbers of a technology file, in the order of its keys. Lengths are in u, the grid unit, and `unit` is
-/// u in hundredths of a micron.
+/// The numbers of a technology file, in the order of its keys. Lengths are in u, the grid unit, and `unit` is u in
+/// hundredths of a micron. Version 1 has no buried contacts: a file has seventeen numbers, and the last two are 0.
 #[derive(Clone, Copy, Debug, PartialEq, Eq)]
 pub struct Numbers {
-    /// Key 0, `version`: the version of the file's format.
+    /// Key 0, `version`: the version of the file's format, 1 or 2.
     pub version: i64,
     /// Key 1, `unit`: the grid unit in hundredths of a micron.
     pub unit: i64,
@@ -40,15 +40,19 @@ pub struct Numbers {
     pub cut_size: i64,
     /// Key 16, `cut.enclosure`: how far a contact's pad goes on past its cut.
     pub cut_enclosure: i64,
+    /// Key 17, `extension.buried`: how far a buried contact's window goes on past its pad.
+    pub extension_buried: i64,
+    /// Key 18, `spacing.buried_channel`: between a buried contact's window and a channel.
+    pub spacing_buried_channel: i64,
 }
 
 /// The greatest number that a technology may have.
 const GREATEST: i64 = 4096;
 
 impl Numbers {
-    /// The numbers in the order of their keys, each behind the place of its key.
-    fn in_order(&self) -> [(u8, i64); 17]
-        ensures { result ≡ all_numbers self.now }
+    /// The numbers of every version in the order of their keys, each behind the place of its key.
+    fn common(&self) -> [(u8, i64); 17]
+        ensures { result ≡ common_numbers self.now }
     {
         [
             (0, self.version),
@@ -71,15 +75,38 @@ impl Numbers {
         ]
     }
 
-    /// The first number below 0 or above `GREATEST`.
-    #[tactic(auto, unfolding(crate::specs::Keys::first_key))]
-    pub(crate) fn first_outside(&self) -> Option<u8>
-        ensures { result ≡ first_key is_outside (all_numbers self.now) }
+    /// Those of buried contacts.
+    fn buried(&self) -> [(u8, i64); 2]
+        ensures { result ≡ buried_numbers self.now }
     {
-        self.in_order()
-            .iter()
-            .find(|n| n.1 < 0 || n.1 > GREATEST)
-            .map(|n| n.0)
+        [
+            (17, self.extension_buried),
+            (18, self.spacing_buried_channel),
+        ]
+    }
+
+    /// Whether these are the numbers of a technology with buried contacts.
+    #[tactic(auto, unfolding(crate::specs::Keys::has_buried))]
+    pub(crate) fn has_buried(&self) -> bool
+        ensures { result ≡ has_buried self.now }
+    {
+        self.version == 2
+    }
+
+    /// The first number below 0 or above the greatest: `GREATEST`, and 0 for those of buried contacts where there are
+    /// none.
+    #[tactic(auto, unfolding(crate::specs::Keys::first_outside))]
+    pub(crate) fn first_outside(&self) -> Option<u8>
+        ensures { result ≡ first_outside self.now }
+    {
+        first_above(&self.common(), GREATEST).or(first_above(&self.buried(), self.most_of_buried()))
+    }
+
+    /// The greatest that a number of buried contacts may be.
+    fn most_of_buried(&self) -> i64
+        ensures { result ≡ most_of_buried self.now }
+    {
+        if self.has_buried() { GREATEST } else { 0 }
     }
 
     /// The first width, or the cut's size, that is odd or 0.
@@ -87,7 +114,7 @@ impl Numbers {
     pub(crate) fn first_bad_size(&self) -> Option<u8>
         ensures { result ≡ first_key is_no_size (sizes self.now) }
     {
-        let [_, _, diffusion, poly, metal, .., cut, _] = self.in_order();
+        let [_, _, diffusion, poly, metal, .., cut, _] = self.common();
         [diffusion, poly, metal, cut]
             .iter()
             .find(|n| is_no_size(n.1))
@@ -99,11 +126,29 @@ impl Numbers {
     pub(crate) fn first_zero_spacing(&self) -> Option<u8>
         ensures { result ≡ first_key is_zero (spacings self.now) }
     {
-        self.in_order()[5..12]
-            .iter()
-            .find(|n| n.1 == 0)
-            .map(|n| n.0)
+        let of_buried = if self.has_buried() {
+            first_zero(&self.buried()[1..])
+        } else {
+            None
+        };
+        first_zero(&self.common()[5..12]).or(of_buried)
     }
+}
+
+/// The first number below 0 or above the most.
+#[tactic(auto, unfolding(crate::specs::Keys::first_key))]
+fn first_above(numbers: &[(u8, i64)], most: i64) -> Option<u8>
+    ensures { result ≡ first_key (is_outside most) numbers.now }
+{
+    numbers.iter().find(|n| n.1 < 0 || n.1 > most).map(|n| n.0)
+}
+
+/// The first number that is 0.
+#[tactic(auto, unfolding(crate::specs::Keys::first_key))]
+fn first_zero(numbers: &[(u8, i64)]) -> Option<u8>
+    ensures { result ≡ first_key is_zero numbers.now }
+{
+    numbers.iter().find(|n| n.1 == 0).map(|n| n.0)
 }
 
 /// Whether a number is odd or 0, so that no box centred on the grid has this size.

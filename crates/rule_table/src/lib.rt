@@ -1,6 +1,6 @@
 //! The numbers of a technology, and the design rules that follow from them.
 //!
-//! A `Tech` holds seventeen numbers that meet the eight conditions of `Tech::new`. For the layer above: the spacing of
+//! A `Tech` holds numbers that meet the eight conditions of `Tech::new`. For the layer above: the spacing of
 //! two classes of boxes is a row of one table, the same for either order, and `margin`, `widest`, `width` and `pad` are
 //! what their formulas make of the numbers. No call takes memory.
 #![tactic(auto)]

@@ -30,6 +30,7 @@ impl Numbers {
             (Class::C, Class::C) => (self.spacing_cut, false),
             (Class::C, Class::G) => (self.spacing_cut_channel, false),
             (Class::I, Class::G) => (self.spacing_implant_channel, false),
+            (Class::B, Class::G) if self.has_buried() => (self.spacing_buried_channel, false),
             _ => return None,
         };
         Some(Rule { s, net_exempt })
@@ -58,6 +59,7 @@ impl Numbers {
             self.gap(a, Class::C),
             self.gap(a, Class::I),
             self.gap(a, Class::G),
+            self.gap(a, Class::B),
         ];
         greatest(&gaps)
     }
@@ -75,6 +77,7 @@ impl Numbers {
             self.margin(Class::C),
             self.margin(Class::I),
             self.margin(Class::G),
+            self.margin(Class::B),
         ];
         greatest(&margins)
     }

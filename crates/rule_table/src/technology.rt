@@ -6,18 +6,41 @@ use crate::classes::{Class, Layer, Rule};
 use crate::faults::TechFault;
 use crate::keys::Numbers;
 
-/// A technology: seventeen numbers that meet the conditions of `Tech::new`. Lengths are in u, the grid unit.
+/// A technology: numbers that meet the conditions of `Tech::new`. Lengths are in u, the grid unit.
 #[derive(Clone, Copy, Debug, PartialEq, Eq)]
 pub struct Tech {
     numbers: Numbers,
     pub ghost sound: { fault_of numbers ≡ None },
 }
 
+/// The numbers that the program ships with.
+const SHIPPED: Numbers = Numbers {
+    version: 1,
+    unit: 150,
+    width_diffusion: 4,
+    width_poly: 4,
+    width_metal: 6,
+    spacing_diffusion: 6,
+    spacing_poly: 4,
+    spacing_metal: 6,
+    spacing_poly_diffusion: 2,
+    spacing_cut: 4,
+    spacing_cut_channel: 4,
+    spacing_implant_channel: 3,
+    extension_poly: 4,
+    extension_diffusion: 4,
+    extension_implant: 3,
+    cut_size: 4,
+    cut_enclosure: 2,
+    extension_buried: 0,
+    spacing_buried_channel: 0,
+};
+
 impl Tech {
-    ghost use Rattle.std.specs.Prelude.{◌≡◌, Some, None, pos, ◌≤ℤ◌, ◌+ℤ◌, ◌*ℤ◌, int_div, ◌↔◌, IsOk, IfOk, IfErr, IfSome};
+    ghost use Rattle.std.specs.Prelude.{◌≡◌, Some, None, pos, ◌≤ℤ◌, ◌+ℤ◌, ◌*ℤ◌, int_div, ◌↔◌, IsTrue, IsOk, IfOk, IfErr, IfSome};
     ghost use Rattle.rule_table.specs.Bounds.{IsSize, IsTechnology};
     ghost use Rattle.rule_table.specs.Faults.{fault_of};
-    ghost use Rattle.rule_table.specs.Technology.{numbers_of, spacing_of, margin_of, widest_of, width_of, pad_of, shipped_numbers};
+    ghost use Rattle.rule_table.specs.Technology.{numbers_of, has_buried_of, spacing_of, has_class_of, margin_of, widest_of, width_of, pad_of, shipped_numbers, shipped2_numbers};
     ghost use Rattle.rule_table.specs.declared.classes.Class.{Class};
     ghost use Rattle.rule_table.specs.declared.classes.Layer.{Layer};
 
@@ -36,29 +59,24 @@ impl Tech {
         }
     }
 
-    /// The technology that the program ships with: nMOS after Mead and Conway, with lambda at 3 microns.
+    /// The technology that the program ships with: nMOS after Mead and Conway, with lambda at 3 microns and no buried
+    /// contacts.
     pub fn shipped() -> Tech
         ensures { numbers_of result ≡ shipped_numbers }
     {
+        Tech { numbers: SHIPPED }
+    }
+
+    /// The same technology with buried contacts.
+    pub fn shipped2() -> Tech
+        ensures { numbers_of result ≡ shipped2_numbers }
+    {
         Tech {
             numbers: Numbers {
-                version: 1,
-                unit: 150,
-                width_diffusion: 4,
-                width_poly: 4,
-                width_metal: 6,
-                spacing_diffusion: 6,
-                spacing_poly: 4,
-                spacing_metal: 6,
-                spacing_poly_diffusion: 2,
-                spacing_cut: 4,
-                spacing_cut_channel: 4,
-                spacing_implant_channel: 3,
-                extension_poly: 4,
-                extension_diffusion: 4,
-                extension_implant: 3,
-                cut_size: 4,
-                cut_enclosure: 2,
+                version: 2,
+                extension_buried: 4,
+                spacing_buried_channel: 4,
+                ..SHIPPED
             },
         }
     }
@@ -69,6 +87,13 @@ impl Tech {
         ensures sound { IsTechnology result }
     {
         self.numbers
+    }
+
+    /// Whether the technology has buried contacts: its version is 2.
+    pub fn has_buried(&self) -> bool
+        ensures { result ≡ has_buried_of self.now }
+    {
+        self.numbers.has_buried()
     }
 
     /// The spacing of boxes of two classes, or `None` where the table has no row for them. The order of the classes
@@ -82,10 +107,12 @@ impl Tech {
         self.numbers.spacing(a, b)
     }
 
-    /// The greatest spacing, in u, of the table's rows with this class.
+    /// The greatest spacing, in u, of the table's rows with this class: 0 for the windows of buried contacts where there
+    /// are none, and at least 1 otherwise.
     pub fn margin(&self, a: Class) -> i64
         ensures value { result ≡ margin_of self.now a }
-        ensures bounds { (pos 1 ≤ℤ result) × (result ≤ℤ pos 4096) }
+        ensures bounds { (pos 0 ≤ℤ result) × (result ≤ℤ pos 4096) }
+        ensures positive { IsTrue (has_class_of self.now a) ↔ pos 1 ≤ℤ result }
         ensures within_widest { result ≤ℤ widest_of self.now }
     {
         self.numbers.margin(a)

@@ -45,10 +45,6 @@ fn each_fault_comes_before_those_after_it(rt: HostRuntime) {
 #[test]
 fn the_least_key_is_named(rt: HostRuntime) {
     let shipped = Tech::shipped().numbers();
-    let second_version = Numbers {
-        version: 2,
-        ..shipped
-    };
     let below = Numbers {
         spacing_poly: -1,
         cut_size: -4,
@@ -69,7 +65,6 @@ fn the_least_key_is_named(rt: HostRuntime) {
         ..shipped
     };
     for (numbers, fault) in [
-        (second_version, TechFault::OutOfRange(0)),
         (below, TechFault::OutOfRange(6)),
         (no_widths, TechFault::OddWidth(3)),
         (odd_cut, TechFault::OddWidth(15)),
@@ -77,6 +72,45 @@ fn the_least_key_is_named(rt: HostRuntime) {
     ] {
         assert_eq!(rt; Tech::new(numbers).err(), Some(fault));
     }
+}
+
+#[test]
+fn buried_contacts_stand_in_version_two_alone(rt: HostRuntime) -> Result<(), Fail> {
+    for (version, extension, spacing, fault) in [
+        (0, 0, 0, Some(TechFault::OutOfRange(0))),
+        (1, 0, 0, None),
+        (1, 4, 0, Some(TechFault::OutOfRange(17))),
+        (1, 4, 4097, Some(TechFault::OutOfRange(17))),
+        (1, 0, 4, Some(TechFault::OutOfRange(18))),
+        (1, 0, -1, Some(TechFault::OutOfRange(18))),
+        (2, 4, 4, None),
+        (2, 0, 1, None),
+        (2, 4096, 4096, None),
+        (2, 4097, 4097, Some(TechFault::OutOfRange(17))),
+        (2, 4, 4097, Some(TechFault::OutOfRange(18))),
+        (2, 4, 0, Some(TechFault::ZeroSpacing(18))),
+        (3, 4, 4, Some(TechFault::OutOfRange(0))),
+    ] {
+        let numbers = Numbers {
+            version,
+            extension_buried: extension,
+            spacing_buried_channel: spacing,
+            ..Tech::shipped().numbers()
+        };
+        assert_eq!(rt;
+            Tech::new(numbers).err(),
+            fault,
+            "with {version} {extension} {spacing}"
+        );
+    }
+    let touching = Numbers {
+        spacing_implant_channel: 0,
+        spacing_buried_channel: 0,
+        ..Tech::shipped2().numbers()
+    };
+    assert_eq!(rt; Tech::new(touching).err(), Some(TechFault::ZeroSpacing(11)));
+    assert_eq!(rt; Tech::new(Tech::shipped2().numbers())?, Tech::shipped2());
+    Ok(())
 }
 
 #[test]
@@ -89,8 +123,11 @@ fn a_number_may_be_4096(rt: HostRuntime) -> Result<(), Fail> {
 }
 
 #[test]
-fn the_shipped_technology_has_its_margins(rt: HostRuntime) {
-    let tech = Tech::shipped();
+fn the_shipped_technologies_have_their_margins(rt: HostRuntime) {
+    let tech = Tech::shipped2();
+    assert!(rt; tech.has_buried() && !Tech::shipped().has_buried());
+    assert_eq!(rt; Tech::shipped().margin(Class::B), 0);
+    assert_eq!(rt; tech.margin(Class::B), 4);
     for (class, margin) in [
         (Class::M, 6),
         (Class::P, 4),
@@ -100,6 +137,7 @@ fn the_shipped_technology_has_its_margins(rt: HostRuntime) {
         (Class::I, 3),
         (Class::G, 4),
     ] {
+        assert_eq!(rt; Tech::shipped().margin(class), margin, "of {class:?}");
         assert_eq!(rt; tech.margin(class), margin, "of {class:?}");
     }
     assert_eq!(rt; tech.widest(), 6);
@@ -111,7 +149,7 @@ fn the_shipped_technology_has_its_margins(rt: HostRuntime) {
 
 #[test]
 fn the_shipped_spacings_hold_in_either_order(rt: HostRuntime) {
-    let tech = Tech::shipped();
+    let tech = Tech::shipped2();
     for (a, b, s, net_exempt) in [
         (Class::M, Class::M, 6, true),
         (Class::P, Class::P, 4, true),
@@ -120,12 +158,15 @@ fn the_shipped_spacings_hold_in_either_order(rt: HostRuntime) {
         (Class::C, Class::C, 4, false),
         (Class::C, Class::G, 4, false),
         (Class::I, Class::G, 3, false),
+        (Class::B, Class::G, 4, false),
     ] {
         assert_eq!(rt; tech.spacing(a, b), Some(Rule { s, net_exempt }));
         assert_eq!(rt; tech.spacing(b, a), Some(Rule { s, net_exempt }));
     }
     assert_eq!(rt; tech.spacing(Class::M, Class::P), None);
     assert_eq!(rt; tech.spacing(Class::Dm, Class::Dm), None);
+    assert_eq!(rt; tech.spacing(Class::B, Class::B), None);
+    assert_eq!(rt; Tech::shipped().spacing(Class::B, Class::G), None);
 }
 
 fn is_shared<T: Send + Sync>(_value: &T) -> bool {
