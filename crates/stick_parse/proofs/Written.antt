@@ -14,8 +14,8 @@ use Rattle.stick_parse.specs.declared.fault.StickKind.{StickKind}
 use Rattle.stick_parse.specs.declared.fault.StickKind.TheVariants.{BadLine}
 use Rattle.stick_parse.specs.declared.design.Layer.TheVariants.{Diffusion, Poly}
 use Rattle.stick_parse.specs.Reading.{◌>>=◌, Gives}
-use Rattle.stick_parse.specs.Words.{Word, Path, Number, AtMost, AtLeast, word_by, word_of, path_at, name_at, number_at, count_of, count_at, optional_count_at, at_most_at, layer_named, layer_at, lower_named, lower_at, side_named, side_at, second_of, either_at, ended}
-use Rattle.stick_parse.specs.Forms.{joint_of, contact_of, fet_of, port_of, use_of, wire_of, limit_of, version_of, cell_of, names_of, row_of, alone, form_named, item_named, statement_named, statement_of}
+use Rattle.stick_parse.specs.Words.{Word, Path, Number, AtMost, AtLeast, word_by, word_of, Front, path_at, name_at, number_at, count_of, count_at, optional_count_at, at_most_at, value_at, layer_named, layer_at, lower_named, lower_at, side_named, side_at, second_of, either_at, ended}
+use Rattle.stick_parse.specs.Forms.{start, ◌&◌, whole, joint_of, contact_of, buried_of, fet_of, port_of, use_of, wire_of, limit_of, version_of, cell_of, names_of, row_of, alone, form_named, item_named, statement_named, statement_of}
 use Rattle.stick_parse.specs.Lines.{tokens_or_kind, said_by_words, said_by, Entry, with_entry, entries}
 use Rattle.stick_parse.specs.Order.{Place, AtHead, Behind, InCell, InGrid, AtEnd, place_after, Rest, with_line, at_line, at_end, rest_from, last_line, design_of}
 use Rattle.std.specs.Str.Lines.{lines}
@@ -23,11 +23,12 @@ use Rattle.std.specs.Prelude.{IfOk, ◌≢◌}
 use Rattle.stick_parse.specs.declared.fault.StickKind.TheVariants.{TooManyCells}
 use Rattle.stick_parse.specs.declared.fault.ParseFault.{ParseFault}
 use Rattle.stick_parse.specs.declared.design.CellText.{CellText}
+use Rattle.stick_parse.specs.declared.design.Form.TheVariants.{Joint, Contact, Buried, Fet, Port, Inst, Wire, Limit}
 use Rattle.stick_parse.specs.declared.design.Design.{Design}
 use Rattle.stick_parse.specs.declared.design.Statement.{Statement}
 use Rattle.stick_parse.specs.declared.design.Statement.TheVariants.{Version, Cell, Item, Grid, Row, End}
 use Rattle.stick_parse.specs.Laws.{IsWord}
-use Rattle.stick_parse.specs.Writable.{IsName, IsPath, IsCount, IsWidth, IsLower, IsForm, IsLine, IsRow, IsCell, IsWritable}
+use Rattle.stick_parse.specs.Writable.{IsName, IsPath, IsCount, IsWidth, IsLower, IsForm, IsLine, IsRow, IsStatement, IsCell, IsWritable}
 use Rattle.stick_lex.specs.Numbers.{IsNumber}
 
 -- P holds of what was read, if anything was
@@ -125,19 +126,13 @@ Any x = Unit {0}
 
 path_holds : (ws : List Word) → AreWords ws → Holds (Taken IsPath) (path_at ws)
 unfolding path_at
-path_holds [] h = tt
 path_holds (Path text ∷ rest) h = h
-path_holds (Number n ∷ rest) h = tt
-path_holds (AtMost ∷ rest) h = tt
-path_holds (AtLeast ∷ rest) h = tt
+path_holds ws h = tt
 
 number_holds : (ws : List Word) → AreWords ws → Holds (Taken IsNumber) (number_at ws)
 unfolding number_at
-number_holds [] h = tt
-number_holds (Path text ∷ rest) h = tt
 number_holds (Number n ∷ rest) h = h
-number_holds (AtMost ∷ rest) h = tt
-number_holds (AtLeast ∷ rest) h = tt
+number_holds ws h = tt
 
 if_holds : {A : Type 0} (P : A → Type 0) (b : Bool) (x : A) → (b ≡ true → P x) → Holds {E = StickKind} P (cond b (Ok x) (Err BadLine))
 if_holds P true x h = h refl
@@ -162,25 +157,20 @@ width_holds (w ∷ ws) h = then_holds (Taken IsCount) (Taken IsWidth) (count_at 
 
 at_most_holds : (ws : List Word) → AreWords ws → Holds (Taken Any) (at_most_at ws)
 unfolding at_most_at
-at_most_holds [] h = tt
-at_most_holds (Path text ∷ rest) h = tt
-at_most_holds (Number n ∷ rest) h = tt
 at_most_holds (AtMost ∷ rest) h = (tt, h.1)
 at_most_holds (AtLeast ∷ rest) h = (tt, h.1)
+at_most_holds ws h = tt
 
 any_holds : {A E : Type 0} (r : Result A E) → Holds Any r
 any_holds (Ok x) = tt
 any_holds (Err e) = tt
 
+value_holds : {A : Type 0} (P : A → Type 0) (value_of : List ℕ → Result A StickKind) → ((text : List ℕ) → Holds P (value_of text)) → (ws : List Word) → AreWords ws → Holds (Taken P) (value_at value_of ws)
+value_holds P value_of each ws h = then_holds (Taken IsPath) (Taken P) (path_at ws) _ (path_holds ws h) (λ path k. then_holds P (Taken P) (value_of path.0) (λ value. Ok (value, path.1)) (each path.0) (λ value v. (v, k.1)))
+
 layer_holds : (ws : List Word) → AreWords ws → Holds (Taken Any) (layer_at ws)
 unfolding layer_at
-layer_holds ws h = then_holds (Taken IsPath) (Taken Any) (path_at ws) (λ path. layer_named path.0 >>= λ layer. Ok (layer, path.1)) (path_holds ws h) (λ path k. then_holds Any (Taken Any) (layer_named path.0) (λ layer. Ok (layer, path.1)) (any_holds (layer_named path.0)) (λ layer u. (tt, k.1)))
-
--- ---- forms
-
-joint_holds : (ws : List Word) → AreWords ws → Holds IsForm (joint_of ws)
-unfolding joint_of
-joint_holds ws h = then_holds (Taken IsName) IsForm (name_at ws) _ (name_holds ws h) (λ name hn. then_holds (Taken Any) IsForm (layer_at name.1) _ (layer_holds name.1 hn.1) (λ layer hl. then_holds (Taken IsCount) IsForm (count_at layer.1) _ (count_holds layer.1 hl.1) (λ col hc. then_holds (Taken IsCount) IsForm (count_at col.1) _ (count_holds col.1 hc.1) (λ row hr. then_holds (Taken IsWidth) IsForm (optional_count_at row.1) _ (width_holds row.1 hr.1) (λ width hw. then_holds Any IsForm (ended width.1) _ (any_holds (ended width.1)) (λ done u. (hn.0, hc.0, hr.0, hw.0)))))))
+layer_holds ws h = value_holds Any layer_named (λ text. any_holds (layer_named text)) ws h
 
 lower_named_holds : (a b : Bool) → Holds {E = StickKind} IsLower (cond a (Ok Diffusion) (cond b (Ok Poly) (Err BadLine)))
 lower_named_holds true b = tt
@@ -189,49 +179,69 @@ lower_named_holds false false = tt
 
 lower_holds : (ws : List Word) → AreWords ws → Holds (Taken IsLower) (lower_at ws)
 unfolding lower_at
-lower_holds ws h = then_holds (Taken IsPath) (Taken IsLower) (path_at ws) _ (path_holds ws h) (λ path k. then_holds IsLower (Taken IsLower) (lower_named path.0) _ (lower_named_holds (bytes_eq path.0 (codes "diff")) (bytes_eq path.0 (codes "poly"))) (λ layer u. (u, k.1)))
+lower_holds ws h = value_holds IsLower lower_named (λ text. lower_named_holds (bytes_eq text (codes "diff")) (bytes_eq text (codes "poly"))) ws h
 
 side_holds : (ws : List Word) → AreWords ws → Holds (Taken Any) (side_at ws)
 unfolding side_at
-side_holds ws h = then_holds (Taken IsPath) (Taken Any) (path_at ws) _ (path_holds ws h) (λ path k. then_holds Any (Taken Any) (side_named path.0) _ (any_holds (side_named path.0)) (λ side u. (tt, k.1)))
+side_holds ws h = value_holds Any side_named (λ text. any_holds (side_named text)) ws h
 
 either_holds : (first second : List ℕ) (ws : List Word) → AreWords ws → Holds (Taken Any) (either_at first second ws)
 unfolding either_at
-either_holds first second ws h = then_holds (Taken IsPath) (Taken Any) (path_at ws) _ (path_holds ws h) (λ path k. then_holds Any (Taken Any) (second_of first second path.0) _ (any_holds (second_of first second path.0)) (λ choice u. (tt, k.1)))
+either_holds first second ws h = value_holds Any (second_of first second) (λ text. any_holds (second_of first second text)) ws h
+
+-- ---- forms
+
+-- given what P holds of it makes what R holds of
+Makes : {A B : Type 0} → (A → Type 0) → (B → Type 0) → (A → B) → Type 0
+Makes {A} P R make = (x : A) → P x → R (make x)
+
+-- what is made so far, if anything, has this property, and what is left are words
+record IsMade {F : Type 0} (P : F → Type 0) (made : Front F) : Type 0 where
+  holds : Holds (Taken P) made
+
+started : {F : Type 0} (P : F → Type 0) (make : F) (ws : List Word) → P make → AreWords ws → IsMade P (start make ws)
+started P make ws h k = record { holds = (h, k) }
+
+next_made : {A B : Type 0} (P : A → Type 0) (R : B → Type 0) (made : Front (A → B)) (next : List Word → Front A) → ((ws : List Word) → AreWords ws → Holds (Taken P) (next ws)) → IsMade (Makes P R) made → IsMade R (made & next)
+unfolding Makes
+next_made P R made next each h = record { holds = then_holds (Taken (Makes P R)) (Taken R) made _ h.holds (λ make m. then_holds (Taken P) (Taken R) (next make.1) (λ value. Ok (make.0 value.0, value.1)) (each make.1 m.1) (λ value v. (m.0 value.0 v.0, v.1))) }
+
+whole_holds : {A : Type 0} (P : A → Type 0) (made : Front A) → IsMade P made → Holds P (whole made)
+whole_holds P made h = then_holds (Taken P) P made _ h.holds (λ line k. then_holds Any P (ended line.1) (λ done. Ok line.0) (any_holds (ended line.1)) (λ done u. k.0))
+
+joint_holds : (ws : List Word) → AreWords ws → Holds IsForm (joint_of ws)
+unfolding joint_of Makes
+joint_holds ws h = whole_holds IsForm _ (next_made IsWidth _ _ optional_count_at width_holds (next_made IsCount _ _ count_at count_holds (next_made IsCount _ _ count_at count_holds (next_made Any _ _ layer_at layer_holds (next_made IsName _ _ name_at name_holds (started (Makes IsName (Makes Any (Makes IsCount (Makes IsCount (Makes IsWidth IsForm))))) Joint ws (λ n hn l hl c hc r hr w hw. (hn, hc, hr, hw)) h))))))
 
 contact_holds : (ws : List Word) → AreWords ws → Holds IsForm (contact_of ws)
-unfolding contact_of
-contact_holds ws h = then_holds (Taken IsName) IsForm (name_at ws) _ (name_holds ws h) (λ name hn. then_holds (Taken IsLower) IsForm (lower_at name.1) _ (lower_holds name.1 hn.1) (λ lower hl. then_holds (Taken IsCount) IsForm (count_at lower.1) _ (count_holds lower.1 hl.1) (λ col hc. then_holds (Taken IsCount) IsForm (count_at col.1) _ (count_holds col.1 hc.1) (λ row hr. then_holds Any IsForm (ended row.1) _ (any_holds (ended row.1)) (λ done u. (hn.0, hl.0, hc.0, hr.0))))))
+unfolding contact_of Makes
+contact_holds ws h = whole_holds IsForm _ (next_made IsCount _ _ count_at count_holds (next_made IsCount _ _ count_at count_holds (next_made IsLower _ _ lower_at lower_holds (next_made IsName _ _ name_at name_holds (started (Makes IsName (Makes IsLower (Makes IsCount (Makes IsCount IsForm)))) Contact ws (λ n hn l hl c hc r hr. (hn, hl, hc, hr)) h)))))
+
+buried_holds : (ws : List Word) → AreWords ws → Holds IsForm (buried_of ws)
+unfolding buried_of Makes
+buried_holds ws h = whole_holds IsForm _ (next_made IsCount _ _ count_at count_holds (next_made IsCount _ _ count_at count_holds (next_made IsName _ _ name_at name_holds (started (Makes IsName (Makes IsCount (Makes IsCount IsForm))) Buried ws (λ n hn c hc r hr. (hn, hc, hr)) h))))
 
 fet_holds : (ws : List Word) → AreWords ws → Holds IsForm (fet_of ws)
-unfolding fet_of
-fet_holds ws h = then_holds (Taken IsName) IsForm (name_at ws) _ (name_holds ws h) (λ name hn. then_holds (Taken Any) IsForm (either_at (codes "enh") (codes "dep") name.1) _ (either_holds (codes "enh") (codes "dep") name.1 hn.1) (λ depletion hd. then_holds (Taken Any) IsForm (either_at (codes "h") (codes "v") depletion.1) _ (either_holds (codes "h") (codes "v") depletion.1 hd.1) (λ vertical hv. then_holds (Taken IsCount) IsForm (count_at vertical.1) _ (count_holds vertical.1 hv.1) (λ col hc. then_holds (Taken IsCount) IsForm (count_at col.1) _ (count_holds col.1 hc.1) (λ row hr. then_holds (Taken IsCount) IsForm (count_at row.1) _ (count_holds row.1 hr.1) (λ w hw. then_holds (Taken IsCount) IsForm (count_at w.1) _ (count_holds w.1 hw.1) (λ l hl. then_holds Any IsForm (ended l.1) _ (any_holds (ended l.1)) (λ done u. (hn.0, hc.0, hr.0, hw.0, hl.0)))))))))
+unfolding fet_of Makes
+fet_holds ws h = whole_holds IsForm _ (next_made IsCount _ _ count_at count_holds (next_made IsCount _ _ count_at count_holds (next_made IsCount _ _ count_at count_holds (next_made IsCount _ _ count_at count_holds (next_made Any _ _ (either_at (codes "h") (codes "v")) (either_holds (codes "h") (codes "v")) (next_made Any _ _ (either_at (codes "enh") (codes "dep")) (either_holds (codes "enh") (codes "dep")) (next_made IsName _ _ name_at name_holds (started (Makes IsName (Makes Any (Makes Any (Makes IsCount (Makes IsCount (Makes IsCount (Makes IsCount IsForm))))))) Fet ws (λ n hn d hd v hv c hc r hr w hw l hl. (hn, hc, hr, hw, hl)) h))))))))
 
 port_holds : (ws : List Word) → AreWords ws → Holds IsForm (port_of ws)
-unfolding port_of
-port_holds ws h = then_holds (Taken IsName) IsForm (name_at ws) _ (name_holds ws h) (λ name hn. then_holds (Taken Any) IsForm (side_at name.1) _ (side_holds name.1 hn.1) (λ side hs. then_holds (Taken Any) IsForm (layer_at side.1) _ (layer_holds side.1 hs.1) (λ layer hl. then_holds (Taken IsCount) IsForm (count_at layer.1) _ (count_holds layer.1 hl.1) (λ place hp. then_holds Any IsForm (ended place.1) _ (any_holds (ended place.1)) (λ done u. (hn.0, hp.0))))))
+unfolding port_of Makes
+port_holds ws h = whole_holds IsForm _ (next_made IsCount _ _ count_at count_holds (next_made Any _ _ layer_at layer_holds (next_made Any _ _ side_at side_holds (next_made IsName _ _ name_at name_holds (started (Makes IsName (Makes Any (Makes Any (Makes IsCount IsForm)))) Port ws (λ n hn s hs l hl p hp. (hn, hp)) h)))))
 
 use_holds : (ws : List Word) → AreWords ws → Holds IsForm (use_of ws)
-unfolding use_of
-use_holds ws h = then_holds (Taken IsName) IsForm (name_at ws) _ (name_holds ws h) (λ name hn. then_holds (Taken IsName) IsForm (name_at name.1) _ (name_holds name.1 hn.1) (λ cell hl. then_holds (Taken IsCount) IsForm (count_at cell.1) _ (count_holds cell.1 hl.1) (λ col hc. then_holds (Taken IsCount) IsForm (count_at col.1) _ (count_holds col.1 hc.1) (λ row hr. then_holds Any IsForm (ended row.1) _ (any_holds (ended row.1)) (λ done u. (hn.0, hl.0, hc.0, hr.0))))))
+unfolding use_of Makes
+use_holds ws h = whole_holds IsForm _ (next_made IsCount _ _ count_at count_holds (next_made IsCount _ _ count_at count_holds (next_made IsName _ _ name_at name_holds (next_made IsName _ _ name_at name_holds (started (Makes IsName (Makes IsName (Makes IsCount (Makes IsCount IsForm)))) Inst ws (λ n hn m hm c hc r hr. (hn, hm, hc, hr)) h)))))
 
 wire_holds : (ws : List Word) → AreWords ws → Holds IsForm (wire_of ws)
-unfolding wire_of
-wire_holds ws h = then_holds (Taken Any) IsForm (layer_at ws) _ (layer_holds ws h) (λ layer hl. then_holds (Taken IsPath) IsForm (path_at layer.1) _ (path_holds layer.1 hl.1) (λ a ha. then_holds (Taken IsPath) IsForm (path_at a.1) _ (path_holds a.1 ha.1) (λ b hb. then_holds (Taken IsWidth) IsForm (optional_count_at b.1) _ (width_holds b.1 hb.1) (λ width hw. then_holds Any IsForm (ended width.1) _ (any_holds (ended width.1)) (λ done u. (ha.0, hb.0, hw.0))))))
+unfolding wire_of Makes
+wire_holds ws h = whole_holds IsForm _ (next_made IsWidth _ _ optional_count_at width_holds (next_made IsPath _ _ path_at path_holds (next_made IsPath _ _ path_at path_holds (next_made Any _ _ layer_at layer_holds (started (Makes Any (Makes IsPath (Makes IsPath (Makes IsWidth IsForm)))) Wire ws (λ l hl a ha b hb w hw. (ha, hb, hw)) h)))))
 
 limit_holds : (ws : List Word) → AreWords ws → Holds IsForm (limit_of ws)
-unfolding limit_of
-limit_holds ws h = then_holds (Taken Any) IsForm (either_at (codes "x") (codes "y") ws) _ (either_holds (codes "x") (codes "y") ws h) (λ vertical hv. then_holds (Taken IsPath) IsForm (path_at vertical.1) _ (path_holds vertical.1 hv.1) (λ a ha. then_holds (Taken IsPath) IsForm (path_at a.1) _ (path_holds a.1 ha.1) (λ b hb. then_holds (Taken Any) IsForm (at_most_at b.1) _ (at_most_holds b.1 hb.1) (λ at_most hm. then_holds (Taken IsNumber) IsForm (number_at at_most.1) _ (number_holds at_most.1 hm.1) (λ n hn. then_holds Any IsForm (ended n.1) _ (any_holds (ended n.1)) (λ done u. (ha.0, hb.0, hn.0)))))))
+unfolding limit_of Makes
+limit_holds ws h = whole_holds IsForm _ (next_made IsNumber _ _ number_at number_holds (next_made Any _ _ at_most_at at_most_holds (next_made IsPath _ _ path_at path_holds (next_made IsPath _ _ path_at path_holds (next_made Any _ _ (either_at (codes "x") (codes "y")) (either_holds (codes "x") (codes "y")) (started (Makes Any (Makes IsPath (Makes IsPath (Makes Any (Makes IsNumber IsForm))))) Limit ws (λ v hv a ha b hb m hm n hn. (ha, hb, hn)) h))))))
 
 -- ---- statements
-
-abbrev pub IsStatement : Statement → Type 0
-IsStatement Version = Unit {0}
-IsStatement (Cell name) = IsName name
-IsStatement (Item form) = IsForm form
-IsStatement Grid = Unit {0}
-IsStatement (Row row) = IsRow row
-IsStatement End = Unit {0}
 
 choose : {A E : Type 0} (P : A → Type 0) (b : Bool) (r s : Result A E) → Holds P r → Holds P s → Holds P (cond b r s)
 choose P true r s h k = h
@@ -256,17 +266,17 @@ unfolding version_of
 version_holds ws = then_holds Any IsStatement (count_at ws) _ (any_holds (count_at ws)) (λ version u. then_holds Any IsStatement (ended version.1) _ (any_holds (ended version.1)) (λ done v. if_holds IsStatement (eqb version.0 1) Version (λ e. tt)))
 
 cell_holds : (ws : List Word) → AreWords ws → Holds IsStatement (cell_of ws)
-unfolding cell_of
-cell_holds ws h = then_holds (Taken IsName) IsStatement (name_at ws) _ (name_holds ws h) (λ name hn. then_holds Any IsStatement (ended name.1) _ (any_holds (ended name.1)) (λ done u. hn.0))
+unfolding cell_of Makes
+cell_holds ws h = whole_holds IsStatement _ (next_made IsName _ _ name_at name_holds (started (Makes IsName IsStatement) Cell ws (λ n hn. hn) h))
 
-alone_holds : (s : Statement) (ws : List Word) → IsStatement s → Holds IsStatement (alone s ws)
+alone_holds : (s : Statement) (ws : List Word) → AreWords ws → IsStatement s → Holds IsStatement (alone s ws)
 unfolding alone
-alone_holds s ws h = then_holds Any IsStatement (ended ws) _ (any_holds (ended ws)) (λ done u. h)
+alone_holds s ws h k = whole_holds IsStatement _ (started IsStatement s ws k h)
 
 form_named_holds : (keyword : List ℕ) (ws : List Word) → AreWords ws → Holds IsForm (form_named keyword ws)
 unfolding form_named
 form_named_holds keyword ws h =
-    choose IsForm (bytes_eq keyword (codes "joint")) _ _ (joint_holds ws h) (choose IsForm (bytes_eq keyword (codes "contact")) _ _ (contact_holds ws h) (choose IsForm (bytes_eq keyword (codes "fet")) _ _ (fet_holds ws h) (choose IsForm (bytes_eq keyword (codes "port")) _ _ (port_holds ws h) (choose IsForm (bytes_eq keyword (codes "use")) _ _ (use_holds ws h) (choose IsForm (bytes_eq keyword (codes "wire")) _ _ (wire_holds ws h) (choose IsForm (bytes_eq keyword (codes "limit")) _ _ (limit_holds ws h) tt))))))
+    choose IsForm (bytes_eq keyword (codes "joint")) _ _ (joint_holds ws h) (choose IsForm (bytes_eq keyword (codes "contact")) _ _ (contact_holds ws h) (choose IsForm (bytes_eq keyword (codes "buried")) _ _ (buried_holds ws h) (choose IsForm (bytes_eq keyword (codes "fet")) _ _ (fet_holds ws h) (choose IsForm (bytes_eq keyword (codes "port")) _ _ (port_holds ws h) (choose IsForm (bytes_eq keyword (codes "use")) _ _ (use_holds ws h) (choose IsForm (bytes_eq keyword (codes "wire")) _ _ (wire_holds ws h) (choose IsForm (bytes_eq keyword (codes "limit")) _ _ (limit_holds ws h) tt)))))))
 
 item_holds : (keyword : List ℕ) (ws : List Word) → AreWords ws → Holds IsStatement (item_named keyword ws)
 unfolding item_named
@@ -275,7 +285,7 @@ item_holds keyword ws h = then_holds IsForm IsStatement (form_named keyword ws) 
 named_holds : (keyword : List ℕ) (ws : List Word) → AreWords ws → Holds IsStatement (statement_named keyword ws)
 unfolding statement_named
 named_holds keyword ws h =
-    choose IsStatement (bytes_eq keyword (codes "sticks")) _ _ (version_holds ws) (choose IsStatement (bytes_eq keyword (codes "cell")) _ _ (cell_holds ws h) (choose IsStatement (bytes_eq keyword (codes "end")) _ _ (alone_holds End ws tt) (choose IsStatement (bytes_eq keyword (codes "grid")) _ _ (alone_holds Grid ws tt) (choose IsStatement (bytes_eq keyword (codes "row")) _ _ (row_holds ws h) (item_holds keyword ws h)))))
+    choose IsStatement (bytes_eq keyword (codes "sticks")) _ _ (version_holds ws) (choose IsStatement (bytes_eq keyword (codes "cell")) _ _ (cell_holds ws h) (choose IsStatement (bytes_eq keyword (codes "end")) _ _ (alone_holds End ws h tt) (choose IsStatement (bytes_eq keyword (codes "grid")) _ _ (alone_holds Grid ws h tt) (choose IsStatement (bytes_eq keyword (codes "row")) _ _ (row_holds ws h) (item_holds keyword ws h)))))
 
 statement_holds : (ws : List Word) → AreWords ws → Holds IsStatement (statement_of ws)
 unfolding statement_of

@@ -35,11 +35,8 @@ abbrev pub Front : Type 0 → Type 0
 Front A = Result (A × List Word) StickKind
 
 unfoldable pub path_at : List Word → Front (List ℕ)
-path_at [] = Err BadLine
 path_at (Path text ∷ rest) = Ok (text, rest)
-path_at (Number n ∷ rest) = Err BadLine
-path_at (AtMost ∷ rest) = Err BadLine
-path_at (AtLeast ∷ rest) = Err BadLine
+path_at words = Err BadLine
 
 -- a path that is one name
 unfoldable pub name_at : List Word → Front (List ℕ)
@@ -48,11 +45,8 @@ name_at words = do
   if is_name path.0 then Ok path else Err BadLine
 
 unfoldable pub number_at : List Word → Front ℤ
-number_at [] = Err BadLine
-number_at (Path text ∷ rest) = Err BadLine
 number_at (Number n ∷ rest) = Ok (n, rest)
-number_at (AtMost ∷ rest) = Err BadLine
-number_at (AtLeast ∷ rest) = Err BadLine
+number_at words = Err BadLine
 
 -- a number that is not negative; past a million no word of a line has one, by a law, since its token is too large
 abbrev pub count_of : ℤ → List Word → Front ℕ
@@ -73,25 +67,26 @@ optional_count_at (word ∷ rest) = do
 
 -- true for `<=`
 unfoldable pub at_most_at : List Word → Front Bool
-at_most_at [] = Err BadLine
-at_most_at (Path text ∷ rest) = Err BadLine
-at_most_at (Number n ∷ rest) = Err BadLine
 at_most_at (AtMost ∷ rest) = Ok (true, rest)
 at_most_at (AtLeast ∷ rest) = Ok (false, rest)
+at_most_at words = Err BadLine
 
 -- ---- a word out of a few
 
--- the value of a name that stands for one
+-- the value of a path that stands for one
+abbrev pub value_at : {A : Type 0} → (List ℕ → Result A StickKind) → List Word → Front A
+value_at value_of words = do
+  path ← path_at words
+  value ← value_of path.0
+  Ok (value, path.1)
+
 abbrev pub layer_named : List ℕ → Result Layer StickKind
 layer_named text = if bytes_eq text (codes "diff") then Ok Diffusion
     else (if bytes_eq text (codes "poly") then Ok Poly
     else (if bytes_eq text (codes "metal") then Ok Metal else Err BadLine))
 
 unfoldable pub layer_at : List Word → Front Layer
-layer_at words = do
-  path ← path_at words
-  layer ← layer_named path.0
-  Ok (layer, path.1)
+layer_at words = value_at layer_named words
 
 -- the lower layer of a contact
 abbrev pub lower_named : List ℕ → Result Layer StickKind
@@ -99,10 +94,7 @@ lower_named text = if bytes_eq text (codes "diff") then Ok Diffusion
     else (if bytes_eq text (codes "poly") then Ok Poly else Err BadLine)
 
 unfoldable pub lower_at : List Word → Front Layer
-lower_at words = do
-  path ← path_at words
-  layer ← lower_named path.0
-  Ok (layer, path.1)
+lower_at words = value_at lower_named words
 
 abbrev pub side_named : List ℕ → Result Side StickKind
 side_named text = if bytes_eq text (codes "left") then Ok Left
@@ -111,10 +103,7 @@ side_named text = if bytes_eq text (codes "left") then Ok Left
     else (if bytes_eq text (codes "top") then Ok Top else Err BadLine)))
 
 unfoldable pub side_at : List Word → Front Side
-side_at words = do
-  path ← path_at words
-  side ← side_named path.0
-  Ok (side, path.1)
+side_at words = value_at side_named words
 
 -- one of two words: false for the first, true for the second
 abbrev pub second_of : List ℕ → List ℕ → List ℕ → Result Bool StickKind
@@ -122,10 +111,7 @@ second_of first second text = if bytes_eq text first then Ok false
     else (if bytes_eq text second then Ok true else Err BadLine)
 
 unfoldable pub either_at : List ℕ → List ℕ → List Word → Front Bool
-either_at first second words = do
-  path ← path_at words
-  choice ← second_of first second path.0
-  Ok (choice, path.1)
+either_at first second words = value_at (second_of first second) words
 
 -- no word is left
 unfoldable pub ended : List Word → Result (Unit {0}) StickKind

@@ -5,11 +5,13 @@ use Rattle.stick_lex.specs.Tokens.{is_name, is_path}
 use Rattle.stick_parse.specs.declared.design.Layer.{Layer}
 use Rattle.stick_parse.specs.declared.design.Layer.TheVariants.{Diffusion, Poly, Metal}
 use Rattle.stick_parse.specs.declared.design.Form.{Form}
-use Rattle.stick_parse.specs.declared.design.Form.TheVariants.{Joint, Contact, Fet, Port, Inst, Wire, Limit}
+use Rattle.stick_parse.specs.declared.design.Form.TheVariants.{Joint, Contact, Buried, Fet, Port, Inst, Wire, Limit}
 use Rattle.stick_parse.specs.declared.design.Line.{Line}
 use Rattle.stick_parse.specs.declared.design.CellText.{CellText}
 use Rattle.stick_parse.specs.declared.design.RowText.{RowText}
 use Rattle.stick_parse.specs.declared.design.Design.{Design}
+use Rattle.stick_parse.specs.declared.design.Statement.{Statement}
+use Rattle.stick_parse.specs.declared.design.Statement.TheVariants.{Version, Cell, Item, Grid, Row, End}
 use Rattle.stick_lex.specs.Numbers.{IsNumber}
 
 abbrev pub IsName : List ℕ → Type 0
@@ -33,6 +35,7 @@ IsLower Metal = ⊥
 abbrev pub IsForm : Form → Type 0
 IsForm (Joint name layer col row width) = IsName name × IsCount col × IsCount row × IsWidth width
 IsForm (Contact name lower col row) = IsName name × IsLower lower × IsCount col × IsCount row
+IsForm (Buried name col row) = IsName name × IsCount col × IsCount row
 IsForm (Fet name depletion vertical col row w l) = IsName name × IsCount col × IsCount row × IsCount w × IsCount l
 IsForm (Port name side layer place) = IsName name × IsCount place
 IsForm (Inst name cell col row) = IsName name × IsName cell × IsCount col × IsCount row
@@ -44,6 +47,15 @@ IsLine line = IsForm line.form
 
 abbrev pub IsRow : RowText → Type 0
 IsRow row = (0 < length row.names) × AllByRecursion IsName row.names
+
+-- the names of a line are names, its paths paths, and its numbers not too large
+abbrev pub IsStatement : Statement → Type 0
+IsStatement Version = Unit {0}
+IsStatement (Cell name) = IsName name
+IsStatement (Item form) = IsForm form
+IsStatement Grid = Unit {0}
+IsStatement (Row row) = IsRow row
+IsStatement End = Unit {0}
 
 abbrev pub IsCell : CellText → Type 0
 IsCell cell = IsName cell.name × AllByRecursion IsLine cell.lines

@@ -29,6 +29,12 @@ pub enum Form {
         col: u32,
         row: u32,
     },
+    /// Poly to diffusion, with no metal: both overlap in one square.
+    Buried {
+        name: Text,
+        col: u32,
+        row: u32,
+    },
     /// A transistor, an enhancement or a depletion one, whose gate runs up or across.
     Fet {
         name: Text,

@@ -8,7 +8,7 @@ use stick_lex::LexFault;
 use thiserror::Error;
 
 /// The kinds of faults of a stick text, numbered from 1 in this order. The first five are faults of syntax, which
-/// `parse` tells; the others are faults of names and sizes.
+/// `parse` tells; the others are faults of names and sizes, and the last that the technology lacks what a line asks for.
 #[derive(Clone, Copy, Debug, PartialEq, Eq, Error)]
 pub enum StickKind {
     /// A run of bytes that is no token.
@@ -56,6 +56,8 @@ pub enum StickKind {
     PortWires,
     #[error("a limit between wrong ends")]
     BadLimit,
+    #[error("the technology has no buried contacts")]
+    NoBuried,
 }
 
 /// A fault, and the number of its line, from 1.
@@ -75,14 +77,6 @@ pub enum ParseFault {
     /// Memory ran out.
     #[error("out of memory")]
     OutOfMemory,
-}
-
-impl From<AllocError> for ParseFault {
-    ghost from_gives = { λ _ e. e ≡ faults.OutOfMemory };
-
-    fn from(_e: AllocError) -> ParseFault {
-        ParseFault::OutOfMemory
-    }
 }
 
 impl<T: Drop> From<AllocFailed<T>> for ParseFault {

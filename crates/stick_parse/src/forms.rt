@@ -2,7 +2,7 @@
 ghost use Rattle.std.specs.Prelude.{◌≡◌};
 ghost use Rattle.stick_parse.specs.Reading.{GivesLine};
 ghost use Rattle.stick_parse.specs.WordViews.{views};
-ghost use Rattle.stick_parse.specs.Forms.{joint_of, contact_of, fet_of, port_of, use_of, wire_of, limit_of, version_of, cell_of, names_of, row_of, alone, form_named, item_named, statement_named, statement_of};
+ghost use Rattle.stick_parse.specs.Forms.{joint_of, contact_of, buried_of, fet_of, port_of, use_of, wire_of, limit_of, version_of, cell_of, names_of, row_of, alone, form_named, item_named, statement_named, statement_of};
 
 use crate::design::{Form, RowText, Statement};
 use crate::fault::{LineFault, StickKind};
@@ -52,6 +52,18 @@ fn contact_of(alloc: Global, words: &[Word]) -> Result<Form, LineFault>
         col,
         row,
     })
+}
+
+#[tactic(auto, unfolding(crate::specs::Forms::buried_of))]
+fn buried_of(alloc: Global, words: &[Word]) -> Result<Form, LineFault>
+    ensures { GivesLine (λ x. x) result (buried_of (views words.now)) }
+{
+    let (name, rest) = name_at(words)?;
+    let (col, rest) = count_at(rest)?;
+    let (row, rest) = count_at(rest)?;
+    ended(rest)?;
+    let name = Text::new(alloc, name)?;
+    Ok(Form::Buried { name, col, row })
 }
 
 #[tactic(auto, unfolding(crate::specs::Forms::fet_of))]
@@ -211,6 +223,8 @@ fn form_named(alloc: Global, keyword: &[u8], words: &[Word]) -> Result<Form, Lin
         joint_of(alloc, words)
     } else if keyword == b"contact".as_slice() {
         contact_of(alloc, words)
+    } else if keyword == b"buried".as_slice() {
+        buried_of(alloc, words)
     } else if keyword == b"fet".as_slice() {
         fet_of(alloc, words)
     } else if keyword == b"port".as_slice() {

@@ -1,4 +1,5 @@
-//! Stick text as a design: cells of joints, contacts, transistors, ports, uses, wires and limits, and a grid of cells.
+//! Stick text as a design: cells of joints, contacts, buried contacts, transistors, ports, uses, wires and limits, and a
+//! grid of cells.
 //! What the layer above uses: `parse` gives the design that the text says (`specs/Says.antt`: the lines that a design has,
 //! one behind the other), or the text's first fault (`specs/FirstFault.antt`: the first line behind which no design can
 //! begin so). What one line says is in `specs/Forms.antt`. `design_of` (`specs/Order.antt`) is the same as a function of

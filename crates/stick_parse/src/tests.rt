@@ -3,39 +3,24 @@ ghost use Rattle.std.specs.Prelude.{◌^◌, ◌≤◌, length};
 use super::*;
 use std::test::Fail;
 
-const INVERTER: &[u8] = b"sticks 1
-cell inv
-contact g diff 0 0
-fet d enh h 0 1 8 4
-contact o diff 0 2
-fet l dep h 0 3 4 8
-contact v diff 0 4
-contact p poly 1 3
-joint m metal 1 2
-contact q poly 1 1
-port gl left metal 0
-port gr right metal 0
-port in left poly 1
-port out right poly 1
-port vl left metal 4
-port vr right metal 4
-wire metal gl g
-wire metal g gr
-wire diff g d
-wire diff d o
-wire diff o l
-wire diff l v
-wire metal vl v
-wire metal v vr
-wire poly in d
-wire poly l p
-wire metal o m
-wire metal m p
-wire poly q out
-wire metal m q
+/// A text that has each kind of line.
+const EACH_LINE: &[u8] = b"sticks 1
+cell n # with ports
+buried b 1 0
+contact c diff 3 0
+fet f enh v 1 2 6 4
+joint j metal 3 2
+port l left metal 0
+wire diff b f 6
+wire metal l c
+limit y b j >= 20
+end
+cell m
+use u n 0 1
 end
 grid
-row inv
+row m m
+row n
 end
 ";
 
@@ -50,61 +35,56 @@ fn fault_of(rt: &HostRuntime, text: &[u8]) -> Result<(u32, StickKind), Fail>
     }
 }
 
+/// The same where this is the only line of the only cell, which is the third of the text.
+fn fault_of_line(rt: &HostRuntime, line: &[u8]) -> Result<(u32, StickKind), Fail> {
+    let mut text = Vec::from_slice(rt.alloc(), b"sticks 1\ncell a\n")?;
+    text.extend_from_slice(line)?;
+    text.extend_from_slice(b"\nend\ngrid\nend\n")?;
+    if text.len() > 4000 {
+        return Err("a short line")?;
+    }
+    fault_of(rt, &text)
+}
+
+#[test]
+fn a_line_of_a_cell_with_a_fault_is_refused(rt: HostRuntime) -> Result<(), Fail> {
+    let cases: [(&[u8], StickKind); 15] = [
+        (b"abcdefghijklmnopqrstuvwxyz_012345", StickKind::BadByte),
+        (b"joint p\x80 metal 0 0", StickKind::BadByte),
+        (b"joint p metal 0 1000001 %\n%", StickKind::NumberTooLarge),
+        (b"joint p metal -1 0", StickKind::BadLine),
+        (b"contact c metal 0 0", StickKind::BadLine),
+        (b"buried b 1", StickKind::BadLine),
+        (b"buried b 1 0 8", StickKind::BadLine),
+        (b"buried b poly 1 0", StickKind::BadLine),
+        (b"buried u.b 1 0", StickKind::BadLine),
+        (b"buried b 1 -1", StickKind::BadLine),
+        (b"buried b 1 1000001", StickKind::NumberTooLarge),
+        (b"fet f dep h 0 0 4", StickKind::BadLine),
+        (b"limit x p q <= 1 2", StickKind::BadLine),
+        (b"cell b", StickKind::BadLine),
+        (b"row a", StickKind::BadLine),
+    ];
+    for (line, kind) in cases {
+        assert_eq!(rt; fault_of_line(&rt, line)?, (3, kind));
+    }
+    Ok(())
+}
+
 #[test]
 fn the_first_fault_is_told_with_its_line(rt: HostRuntime) -> Result<(), Fail> {
-    let cases: [(&[u8], u32, StickKind); 20] = [
+    let cases: [(&[u8], u32, StickKind); 11] = [
         (b"", 1, StickKind::Unended),
         (b"\n\n", 2, StickKind::Unended),
         (b"sticks 1\ncell a\nwire metal p", 3, StickKind::BadLine),
-        (
-            b"sticks 1\r\ncell a\r\n# all\r\nend\r",
-            4,
-            StickKind::BadByte,
-        ),
-        (
-            b"sticks 1\ncell a\njoint p metal 0 0 # b\x80\n",
-            3,
-            StickKind::Unended,
-        ),
-        (
-            b"sticks 1\ncell a\njoint p\x80 metal 0 0\n",
-            3,
-            StickKind::BadByte,
-        ),
+        (b"sticks 1\r\n# all\r\ngrid\r", 3, StickKind::BadByte),
         (b"sticks 1\ncell a\0\n", 2, StickKind::BadByte),
-        (
-            b"sticks 1\ncell a\njoint p metal 0 1000001 %\n%\n",
-            3,
-            StickKind::NumberTooLarge,
-        ),
-        (
-            b"sticks 1\ncell a\njoint p metal -1 0\n",
-            3,
-            StickKind::BadLine,
-        ),
         (b"sticks 1\ncell a.b\n", 2, StickKind::BadLine),
-        (b"sticks 1\ncell a\ncell b\n", 3, StickKind::BadLine),
-        (b"sticks 1\ncell a\nrow a\n", 3, StickKind::BadLine),
         (b"sticks 1\njoint p metal 0 0\n", 2, StickKind::BadLine),
         (b"sticks 1\ngrid\nrow\n", 3, StickKind::BadLine),
         (b"sticks 1\ngrid\nend\ngrid\n", 4, StickKind::BadLine),
         (b"sticks 2\ngrid\nend\n", 1, StickKind::BadLine),
         (b"grid\nend\n", 1, StickKind::BadLine),
-        (
-            b"sticks 1\ncell a\nlimit x p q <= 1 2\nend\n",
-            3,
-            StickKind::BadLine,
-        ),
-        (
-            b"sticks 1\ncell a\nfet f dep h 0 0 4\n",
-            3,
-            StickKind::BadLine,
-        ),
-        (
-            b"sticks 1\ncell abcdefghijklmnopqrstuvwxyz_012345\n",
-            2,
-            StickKind::BadByte,
-        ),
     ];
     for (text, line, kind) in cases {
         assert_eq!(rt; fault_of(&rt, text)?, (line, kind));
@@ -115,10 +95,10 @@ fn the_first_fault_is_told_with_its_line(rt: HostRuntime) -> Result<(), Fail> {
 #[test]
 fn what_may_vary_is_read(rt: HostRuntime) -> Result<(), Fail> {
     let cases: [&[u8]; 4] = [
-        b"\t sticks 01 \r\n\n# none\ngrid\nend",
+        b"\t sticks 01 \r\n\n# \x80\ngrid\nend",
         b"sticks 1\ncell abcdefghijklmnopqrstuvwxyz_01234\njoint p metal -0 0004095 1000000\nend\ngrid\nend\n",
         b"sticks 1\ncell a\nlimit y u.p q >= -1000000\nend\ngrid\nrow a a\nrow b\nend\n",
-        INVERTER,
+        EACH_LINE,
     ];
     for text in cases {
         assert_eq!(rt; fault_of(&rt, text)?.0, 0);
@@ -127,12 +107,10 @@ fn what_may_vary_is_read(rt: HostRuntime) -> Result<(), Fail> {
 }
 
 #[test]
-fn each_cut_of_the_inverter_is_refused_but_at_the_last_line_end(
-    rt: HostRuntime,
-) -> Result<(), Fail> {
-    for length in 0..INVERTER.len() {
-        let line = fault_of(&rt, &INVERTER[..length])?.0;
-        assert_eq!(rt; line == 0, length + 1 == INVERTER.len());
+fn each_cut_of_a_text_is_refused_but_at_the_last_line_end(rt: HostRuntime) -> Result<(), Fail> {
+    for length in 0..EACH_LINE.len() {
+        let line = fault_of(&rt, &EACH_LINE[..length])?.0;
+        assert_eq!(rt; line == 0, length + 1 == EACH_LINE.len());
     }
     Ok(())
 }
@@ -157,7 +135,7 @@ fn the_cell_after_the_256th_is_refused(rt: HostRuntime) -> Result<(), Fail> {
 #[test]
 fn lines_keep_their_numbers_and_forms(rt: HostRuntime) -> Result<(), Fail> {
     let text =
-        b"sticks 1\n\ncell a\nfet f dep v 1 2 8 4\n# none\nwire poly f g 6\nend\ngrid\nrow a b\nend\n";
+        b"sticks 1\n\ncell a\nfet f dep v 1 2 8 4\n# none\nburied b 3 5\nend\ngrid\nrow a b\nend\n";
     let design = parse(rt.alloc(), text).ok().ok_or("a design")?;
     let cells = design.cells.as_slice();
     assert_eq!(rt; cells.len(), 1);
@@ -171,6 +149,11 @@ fn lines_keep_their_numbers_and_forms(rt: HostRuntime) -> Result<(), Fail> {
     assert_eq!(rt;
         fet.as_str(),
         "Fet { name: Text { held: [102] }, depletion: true, vertical: true, col: 1, row: 2, w: 8, l: 4 }"
+    );
+    let buried = format!(in rt.alloc(); "{:?}", lines[1].form)?;
+    assert_eq!(rt;
+        buried.as_str(),
+        "Buried { name: Text { held: [98] }, col: 3, row: 5 }"
     );
     let rows = design.grid.as_slice();
     assert_eq!(rt; rows.len(), 1);
