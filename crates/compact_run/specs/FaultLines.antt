@@ -13,7 +13,8 @@ abbrev pub keys : List (List ℕ)
 keys = codes "version" ∷ codes "unit" ∷ codes "width.diffusion" ∷ codes "width.poly" ∷ codes "width.metal"
     ∷ codes "spacing.diffusion" ∷ codes "spacing.poly" ∷ codes "spacing.metal" ∷ codes "spacing.poly_diffusion"
     ∷ codes "spacing.cut" ∷ codes "spacing.cut_channel" ∷ codes "spacing.implant_channel"
-    ∷ codes "extension.poly" ∷ codes "extension.diffusion" ∷ codes "extension.implant" ∷ codes "cut.size" ∷ codes "cut.enclosure" ∷ []
+    ∷ codes "extension.poly" ∷ codes "extension.diffusion" ∷ codes "extension.implant" ∷ codes "cut.size" ∷ codes "cut.enclosure"
+    ∷ codes "extension.buried" ∷ codes "spacing.buried_channel" ∷ []
 
 unfoldable pub key_of : ℕ → List ℕ
 key_of number = slice_index_or keys number []
@@ -60,6 +61,7 @@ kind_word kinds.WrongSide = codes "WrongSide"
 kind_word kinds.WideWire = codes "WideWire"
 kind_word kinds.PortWires = codes "PortWires"
 kind_word kinds.BadLimit = codes "BadLimit"
+kind_word kinds.NoBuried = codes "NoBuried"
 
 abbrev pub stick_line : StickFault → List ℕ
 stick_line fault = codes "sticks: line " ++ (decimal fault.line ++ (codes ": " ++ (kind_word fault.kind ++ (10 ∷ []))))

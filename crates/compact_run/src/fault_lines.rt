@@ -32,6 +32,8 @@ fn key_of(number: u8) -> &'static [u8]
         14 => b"extension.implant",
         15 => b"cut.size",
         16 => b"cut.enclosure",
+        17 => b"extension.buried",
+        18 => b"spacing.buried_channel",
         _ => b"",
     }
 }
@@ -105,6 +107,7 @@ fn kind_word(kind: StickKind) -> &'static [u8]
         StickKind::WideWire => b"WideWire",
         StickKind::PortWires => b"PortWires",
         StickKind::BadLimit => b"BadLimit",
+        StickKind::NoBuried => b"NoBuried",
     }
 }
 
