@@ -3,4 +3,5 @@ pub mod Sides
 pub mod Boxes
 pub mod Standing
 pub mod Transposed
+pub mod Extents
 pub mod Worked

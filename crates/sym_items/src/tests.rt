@@ -57,6 +57,23 @@ fn an_end_lies_past_its_variable(rt: HostRuntime) {
     assert_eq!(rt; at(End { var: 0, off: 7 }, &values), 7);
 }
 
+#[test]
+fn a_wire_stands_at_the_buried_contacts_of_its_ends(rt: HostRuntime) {
+    let stands = |at_low: u32, at_high: u32| -> Item {
+        Item {
+            at_low,
+            at_high,
+            ..wire()
+        }
+    };
+    let bridge = stands(3, 7);
+    assert!(rt; bridge.stands_with(&stands(3, 3)) && bridge.stands_with(&stands(7, 7)));
+    assert!(rt; bridge.stands_with(&stands(NOWHERE, 3)) && stands(9, 7).stands_with(&bridge));
+    assert!(rt; !bridge.stands_with(&stands(4, 4)));
+    assert!(rt; bridge.stands_with(&bridge) && !wire().stands_with(&wire()));
+    assert!(rt; !stands(3, NOWHERE).stands_with(&stands(NOWHERE, 7)));
+}
+
 fn is_shared<T: Send + Sync>(_value: &T) -> bool {
     true
 }
