@@ -65,11 +65,15 @@ attachments_of cell = attachments cell.nodes (node_parts cell.nodes) cell.wires
 
 -- ---- the nets of nodes and wires
 
+-- the nets of a node that has one
+abbrev pub same_nets : ℕ → NodeNets
+same_nets net = record { main = net; low = net; high = net }
+
 -- of a transistor the nets of its gate, low and high diffusion; another node has one net
 abbrev pub nets_of_kind : NodeKind → List ℕ → ℕ → NodeNets
-nets_of_kind (Joint layer width) nets k = record { main = slice_index nets k; low = slice_index nets k; high = slice_index nets k }
-nets_of_kind (Contact lower) nets k = record { main = slice_index nets k; low = slice_index nets k; high = slice_index nets k }
-nets_of_kind Buried nets k = record { main = slice_index nets k; low = slice_index nets k; high = slice_index nets k }
+nets_of_kind (Joint layer width) nets k = same_nets (slice_index nets k)
+nets_of_kind (Contact lower) nets k = same_nets (slice_index nets k)
+nets_of_kind Buried nets k = same_nets (slice_index nets k)
 nets_of_kind (Fet depletion gate w l) nets k = record { main = slice_index nets k; low = slice_index nets (k + 1); high = slice_index nets (k + 2) }
 
 -- of nodes whose parts are numbered from k on

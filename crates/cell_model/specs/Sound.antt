@@ -1,6 +1,6 @@
 -- What each cell that meets the checks has: its nodes lie near, its wires run straight between two of its terminals that are wide enough
 -- for them, poly and diffusion leave a buried contact on different sides, each of its ports has one wire, and its limits are between two nodes.
-use Rattle.std.specs.Prelude.{◌≡◌, ℕ, ◌+◌, ◌<◌, ◌≤◌, pos, ◌≤ℤ◌, IsTrue, not, ◌⊎◌, List, [], length, slice_index_or}
+use Rattle.std.specs.Prelude.{◌≡◌, ℕ, ◌+◌, ◌<◌, ◌≤◌, ℤ, pos, ◌≤ℤ◌, IsTrue, not, ◌⊎◌, List, [], length, slice_index_or}
 use Rattle.std.specs.List.{AllByRecursion}
 use Rattle.rule_table.specs.Bounds.{IsSize}
 use Rattle.rule_table.specs.declared.technology.Tech.{Tech}

@@ -82,8 +82,8 @@ impl NodeKind {
         }
     }
 
-    /// The side, in u, of the pad on which a wire of a layer ends: a joint's width, the square of a
-    /// contact or of a buried contact, a transistor's channel.
+    /// The side, in u, of the pad on which a wire of a layer ends: a joint's width, the square of a contact or of a buried
+    /// contact, a transistor's channel.
     pub fn pad(self, tech: &Tech, layer: Layer) -> i64
         ensures value { result ≡ node_pad tech.now layer self }
         ensures low { IsKind tech.now self → pos 0 ≤ℤ result }
