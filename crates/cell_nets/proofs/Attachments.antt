@@ -7,7 +7,7 @@ use Rattle.std.proofs.lemmas.List.Sums.{sum_by-cons, sum_by_push, sum_by-le}
 use Rattle.std.proofs.lemmas.Bool.{cases_eq, cases_order}
 use Rattle.smallvec.specs.SmallVec.{SmallVec}
 use Rattle.cell_model.specs.declared.cell.NodeKind.{NodeKind}
-use Rattle.cell_model.specs.declared.cell.NodeKind.TheVariants.{Joint, Contact, Fet}
+use Rattle.cell_model.specs.declared.cell.NodeKind.TheVariants.{Joint, Contact, Buried, Fet}
 use Rattle.cell_model.specs.declared.cell.Node.{Node}
 use Rattle.cell_model.specs.declared.cell.Wire.{Wire}
 use Rattle.cell_model.specs.declared.cell.NodeNets.{NodeNets}
@@ -27,6 +27,7 @@ at_most_cases j n le = grind arith
 kind_parts_few : (kind : NodeKind) → kind_parts kind ≤ 3
 kind_parts_few (Joint layer width) = omega arith
 kind_parts_few (Contact lower) = omega arith
+kind_parts_few Buried = omega arith
 kind_parts_few (Fet depletion gate w l) = omega arith
 
 -- a node has at most three parts

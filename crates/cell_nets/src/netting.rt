@@ -115,29 +115,44 @@ mod tests {
         })
     }
 
-    // A transistor between two joints, with a joint apart.
-    #[test]
-    fn a_transistor_parts_the_nets_of_its_diffusion(rt: HostRuntime) -> Result<(), Fail> {
-        let alloc = rt.alloc();
+    // The nets of two joints, with a node between them that a diffusion wire leaves upwards, and of a joint apart. A wire of
+    // the layer given leads up to the node.
+    fn nets_through(alloc: Global, between: NodeKind, below: Layer) -> Result<Nets, AllocError> {
+        let low = NodeKind::Joint {
+            layer: below,
+            width: 4,
+        };
         let nodes = vec![in alloc;
-            node(alloc, b"a", JOINT, 0)?,
-            node(alloc, b"m", FET, 1)?,
+            node(alloc, b"a", low, 0)?,
+            node(alloc, b"m", between, 1)?,
             node(alloc, b"b", JOINT, 2)?,
             node(alloc, b"c", JOINT, 3)?,
         ]?;
+        let first = Wire {
+            layer: below,
+            ..LOW
+        };
         let cell = Cell {
             name: Text::new(alloc, b"t")?,
             nodes: Seq::from_vec(nodes),
-            wires: Seq::from_vec([LOW, HIGH].to_vec(alloc)?),
+            wires: Seq::from_vec([first, HIGH].to_vec(alloc)?),
             ports: Seq::from_vec(Vec::new(alloc)),
             limits: Seq::from_vec(Vec::new(alloc)),
         };
-        let nets = nets(alloc, &cell)?;
-        let one = |net| NodeNets {
+        nets(alloc, &cell)
+    }
+
+    fn one(net: u32) -> NodeNets {
+        NodeNets {
             main: net,
             low: net,
             high: net,
-        };
+        }
+    }
+
+    #[test]
+    fn a_transistor_parts_the_nets_of_its_diffusion(rt: HostRuntime) -> Result<(), Fail> {
+        let nets = nets_through(rt.alloc(), FET, Layer::Diffusion)?;
         let gate = NodeNets {
             main: 1,
             low: 0,
@@ -149,6 +164,18 @@ mod tests {
         );
         assert_eq!(rt; nets.wire.as_slice(), [0, 2].as_slice());
         assert_eq!(rt; nets.count, 4);
+        Ok(())
+    }
+
+    #[test]
+    fn a_buried_contact_joins_poly_and_diffusion(rt: HostRuntime) -> Result<(), Fail> {
+        let nets = nets_through(rt.alloc(), NodeKind::Buried, Layer::Poly)?;
+        assert_eq!(rt;
+            nets.node.as_slice(),
+            [one(0), one(0), one(0), one(1)].as_slice()
+        );
+        assert_eq!(rt; nets.wire.as_slice(), [0, 0].as_slice());
+        assert_eq!(rt; nets.count, 2);
         Ok(())
     }
 }
