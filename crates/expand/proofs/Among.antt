@@ -1,6 +1,7 @@
 -- The items of a cell lie among its variables, and their lengths are small.
 use Rattle.std.proofs.Common.{◌≡◌, ℕ, zero, suc, ◌+◌, ◌<◌, ◌≤◌, ℤ, pos, ◌+ℤ◌, ◌-ℤ◌, ◌*ℤ◌, ◌≤ℤ◌, Bool, true, false, List, [], ◌∷◌, length, map, take, All, cond, refl, sym, ap, ◌∙◌, subst, arith}
-use Rattle.std.specs.Prelude.{neg_ℤ, slice_index}
+use Rattle.std.specs.Prelude.{neg_ℤ, slice_index, int_lt}
+use Rattle.std.specs.Int.{int_max}
 use Rattle.std.specs.List.{flat_map, range_with_len, AllByRecursion}
 use Rattle.std.proofs.lemmas.Int.{ints}
 use Rattle.std.proofs.lemmas.List.Elements.{All-from_recursion}
@@ -12,7 +13,7 @@ use Rattle.rule_table.specs.declared.classes.Class.{Class}
 use Rattle.rule_table.specs.declared.classes.Layer.{Layer}
 use Rattle.rule_table.specs.declared.classes.Layer.TheVariants.{Diffusion, Poly, Metal}
 use Rattle.rule_table.specs.Bounds.{IsSize, IsTechnology}
-use Rattle.rule_table.specs.Technology.{numbers_of, pad_of}
+use Rattle.rule_table.specs.Technology.{numbers_of, pad_of, width_of}
 use Rattle.rule_table.proofs.Sound.{sound}
 use Rattle.rule_table.proofs.Widths.{pad_bounds, pad_even}
 use Rattle.sym_items.specs.declared.items.Item.{Item}
@@ -22,18 +23,18 @@ use Rattle.sym_items.specs.Transposed.{transposed_item}
 use Rattle.cell_model.specs.declared.cell.Axis2.{Axis2}
 use Rattle.cell_model.specs.declared.cell.Axis2.TheVariants.{Across, Up}
 use Rattle.cell_model.specs.declared.cell.NodeKind.{NodeKind}
-use Rattle.cell_model.specs.declared.cell.NodeKind.TheVariants.{Joint, Contact, Fet}
+use Rattle.cell_model.specs.declared.cell.NodeKind.TheVariants.{Joint, Contact, Buried, Fet}
 use Rattle.cell_model.specs.declared.cell.NodeNets.{NodeNets}
 use Rattle.cell_model.specs.declared.cell.WireEnd.{WireEnd}
 use Rattle.cell_model.specs.declared.cell.WireEnd.TheVariants as ends
 use Rattle.cell_model.specs.declared.cell.Wire.{Wire}
 use Rattle.cell_model.specs.declared.cell.Nets.{Nets}
 use Rattle.cell_model.specs.declared.cell.Cell.{Cell}
-use Rattle.cell_model.specs.Wiring.{is_same_axis}
+use Rattle.cell_model.specs.Wiring.{is_same_axis, buried_pad}
 use Rattle.cell_model.specs.Sound.{IsInOrder, IsKind, IsEnd, IsWire, IsSound, node_at, wire_at}
 use Rattle.expand.specs.Variables.{half, centre, past, running, cross_of, variables_of}
-use Rattle.expand.specs.NodeItems.{item_running, on_layer, box_at, box_round, channel_items, kind_items}
-use Rattle.expand.specs.WireItems.{half_channel, reach, low_end_of, high_end_of, run_item, wire_items}
+use Rattle.expand.specs.NodeItems.{item_running, on_layer, box_at, box_round, square_round, standing_at, channel_items, kind_items}
+use Rattle.expand.specs.WireItems.{half_channel, reach, low_end_of, high_end_of, contact_at, run_item, wire_items}
 use Rattle.expand.specs.Items.{items_of_node, items_of_wire, item_list, AreItems}
 use Rattle.expand.specs.Bounds.{IsSmall, IsNear, IsEndAmong, IsSpanAmong, IsItemAmong, LiesAlong, IsNearAlong}
 use Rattle.list_facts.proofs.Elements.{all_append, all_flat, all_numbers, all_of, all_weaker}
@@ -60,6 +61,18 @@ half_pad tech =
     let low : pos 2 ≤ℤ pad_of tech = b.0 in
     let high : pad_of tech ≤ℤ pos 12288 = b.1 in
     (omega (arith, ints), omega (arith, ints))
+
+-- the pad of a buried contact, and half of it
+pub buried_size : (tech : Tech) → IsSize (buried_pad tech)
+buried_size tech =
+    let n = sound_numbers tech in
+    greater_size (width_of tech Diffusion) (width_of tech Poly) n.width_diffusion n.width_poly
+  where
+    greater_size : (a b : ℤ) → IsSize a → IsSize b → IsSize (int_max a b)
+    greater_size a b h k = elim (int_lt b a) as (λ t. IsSize (cond t a b)) [ true ↦ h | false ↦ k ]
+
+pub half_buried : (tech : Tech) → (pos 0 ≤ℤ half (buried_pad tech)) × (half (buried_pad tech) ≤ℤ pos 2048)
+half_buried tech = half_size (buried_pad tech) (buried_size tech)
 
 -- ---- boxes of nodes
 
@@ -105,6 +118,10 @@ layer_among : (xv yv : ℕ) (layer : Layer) (i : Item) → IsItemAmong xv yv i �
 layer_among xv yv Metal i h = (record { x = h.x; y = h.y }, tt)
 layer_among xv yv Poly i h = (record { x = h.x; y = h.y }, tt)
 layer_among xv yv Diffusion i h = (record { x = h.x; y = h.y }, (record { x = h.x; y = h.y }, tt))
+
+-- nor does where it stands
+standing_among : (xv yv k : ℕ) (i : Item) → IsItemAmong xv yv i → IsItemAmong xv yv (standing_at k i)
+standing_among xv yv k i h = record { x = h.x; y = h.y }
 
 -- x and y exchanged
 transposed_among : (xv yv : ℕ) (i : Item) → IsItemAmong yv xv i → IsItemAmong xv yv (transposed_item i)
@@ -169,6 +186,13 @@ kind_among xv yv tech k (Contact lower) nets lx ly h =
     let pad : IsHalf (half (pad_of tech)) = record { low = p0; high = omega (arith, ints) } in
     let cut = shorter _ (half_size _ (sound_numbers tech).cut_size) in
     (round_among xv yv k _ nets.main _ _ lx ly pad pad, (round_among xv yv k _ nets.main _ _ lx ly cut cut, layer_among xv yv lower _ (round_among xv yv k _ nets.main _ _ lx ly pad pad)))
+kind_among xv yv tech k Buried nets lx ly h =
+    let pad = half_buried tech in
+    let s = shorter _ pad in
+    let window = longer _ (numbers_of tech).extension_buried pad (sound_numbers tech).in_range.extension_buried in
+    let square : (class : Class) → IsItemAmong xv yv (standing_at k (square_round k class nets.main (half (buried_pad tech)))) =
+    λ class. standing_among xv yv k _ (round_among xv yv k class nets.main _ _ lx ly s s) in
+    (square _, (square _, (square _, (standing_among xv yv k _ (round_among xv yv k _ nets.main _ _ lx ly window window), tt))))
 kind_among xv yv tech k (Fet depletion gate w l) nets lx ly h =
     running_among xv yv gate (channel_items tech k nets depletion (half w) (half l)) (channel_among xv yv tech k nets depletion _ _ lx ly (half_size w h.0) (half_size l h.1))
     (channel_among yv xv tech k nets depletion _ _ ly lx (half_size w h.0) (half_size l h.1))
@@ -185,6 +209,7 @@ half_channel_among Up w l Up hw hl = half_size w hw
 reach_among : (tech : Tech) (kind : NodeKind) (width : ℤ) (along : Axis2) → IsKind tech kind → IsSize width → IsNear (reach tech kind width along) × IsNear (neg_ℤ (reach tech kind width along))
 reach_among tech (Joint layer own) width along h s = let b = shorter _ (half_size width s) in (near_high _ b, near_low _ b)
 reach_among tech (Contact lower) width along h s = let b = shorter _ (half_size width s) in (near_high _ b, near_low _ b)
+reach_among tech Buried width along h s = let b = shorter _ (half_size width s) in (near_high _ b, near_low _ b)
 reach_among tech (Fet depletion gate w l) width along h s =
     let b = longer (half_channel gate w l along) (numbers_of tech).spacing_poly_diffusion (half_channel_among gate w l along h.0 h.1) (sound_numbers tech).in_range.spacing_poly_diffusion in
     let z : ℤ = half_channel gate w l along +ℤ (numbers_of tech).spacing_poly_diffusion in
@@ -202,12 +227,12 @@ high_among vars tech cell wire (ends.Node j) s w le lt = record { among = omega 
 high_among vars tech cell wire (ends.Port j) s w le lt = record { among = omega arith; near = record { low = omega (arith, ints); high = omega (arith, ints) } }
 
 low_before_far : (tech : Tech) (cell : Cell) (wire : Wire) (end : WireEnd) → (low_end_of tech cell wire end).var ≡ 1 → ⊥
-low_before_far tech cell wire (ends.Node j) e = let f : centre j ≡ 1 = e in omega arith
-low_before_far tech cell wire (ends.Port j) e = let f : 0 ≡ 1 = e in omega arith
+low_before_far tech cell wire (ends.Node j) e = let f : 2 + j ≡ 1 = e in omega arith
+low_before_far tech cell wire (ends.Port j) e = let f : ◌≡◌ {A = ℕ} 0 1 = e in omega arith
 
 high_after_origin : (tech : Tech) (cell : Cell) (wire : Wire) (end : WireEnd) → (high_end_of tech cell wire end).var ≡ 0 → ⊥
-high_after_origin tech cell wire (ends.Node j) e = let f : centre j ≡ 0 = e in omega arith
-high_after_origin tech cell wire (ends.Port j) e = let f : 1 ≡ 0 = e in omega arith
+high_after_origin tech cell wire (ends.Node j) e = let f : 2 + j ≡ 0 = e in omega arith
+high_after_origin tech cell wire (ends.Port j) e = let f : ◌≡◌ {A = ℕ} 1 0 = e in omega arith
 
 low_at_origin : (tech : Tech) (cell : Cell) (wire : Wire) (end : WireEnd) → (low_end_of tech cell wire end).var ≡ 0 → (low_end_of tech cell wire end).off ≡ pos 0
 low_at_origin tech cell wire (ends.Node j) e = absurd (let f : 2 + j ≡ 0 = e in omega arith)
@@ -245,8 +270,8 @@ run_span vars tech cell wire s w le = record {
   fits = λ e. absurd (ends_differ tech cell wire wire.low wire.high w.ordered e);
 }
 
-run_among : (av cv : ℕ) (owner net v : ℕ) (width : ℤ) (low high : End) → IsSize width → IsSpanAmong av low high width → 2 + v < cv → IsItemAmong av cv (run_item owner net (2 + v) width low high)
-run_among av cv owner net v width low high s span lt =
+run_among : (av cv : ℕ) (owner net v : ℕ) (width : ℤ) (low high : End) (at_low at_high : ℕ) → IsSize width → IsSpanAmong av low high width → 2 + v < cv → IsItemAmong av cv (run_item owner net (2 + v) width low high at_low at_high)
+run_among av cv owner net v width low high at_low at_high s span lt =
     let b = shorter _ (half_size width s) in
     let even : (pos 2 *ℤ half width) ≡ width = s.even in
     record { x = span; y = centre_span cv v _ _ _ lt (near_low _ b) (near_high _ b) (small_size width s) (omega (arith, ints)) }
@@ -282,9 +307,9 @@ turned_among xv yv Up i a u = transposed_among xv yv i (u refl)
 wire_among : (xv yv : ℕ) (tech : Tech) (cell : Cell) (owner net v : ℕ) (wire : Wire) → IsSound tech cell → IsWire tech cell wire → 2 + length cell.nodes ≤ xv → 2 + length cell.nodes ≤ yv
     → (wire.along ≡ Up → 2 + v < xv) → (wire.along ≡ Across → 2 + v < yv) → AllByRecursion (IsItemAmong xv yv) (wire_items tech cell owner net (2 + v) wire)
 wire_among xv yv tech cell owner net v wire s w lx ly up across =
-    let i : Item = run_item owner net (2 + v) wire.width (low_end_of tech cell wire wire.low) (high_end_of tech cell wire wire.high) in
+    let i : Item = run_item owner net (2 + v) wire.width (low_end_of tech cell wire wire.low) (high_end_of tech cell wire wire.high) (contact_at cell wire.low) (contact_at cell wire.high) in
     layer_among xv yv wire.layer (item_running wire.along i)
-    (turned_among xv yv wire.along i (λ e. run_among xv yv owner net v _ _ _ w.size (run_span xv tech cell wire s w lx) (across e)) (λ e. run_among yv xv owner net v _ _ _ w.size (run_span yv tech cell wire s w ly) (up e)))
+    (turned_among xv yv wire.along i (λ e. run_among xv yv owner net v _ _ _ _ _ w.size (run_span xv tech cell wire s w lx) (across e)) (λ e. run_among yv xv owner net v _ _ _ _ _ w.size (run_span yv tech cell wire s w ly) (up e)))
 
 -- wire k has its cross coordinate on the axis across its run
 cross_on : (cell : Cell) (k : ℕ) (along : Axis2) → k < length cell.wires → (wire_at cell.wires k).along ≡ along → cross_of cell k < 2 + length cell.nodes + running along cell.wires

@@ -11,7 +11,7 @@ use Rattle.rule_table.specs.declared.classes.Layer.{Layer}
 use Rattle.rule_table.specs.declared.classes.Layer.TheVariants.{Diffusion, Poly, Metal}
 use Rattle.sym_items.specs.declared.items.Item.{Item}
 use Rattle.cell_model.specs.declared.cell.NodeKind.{NodeKind}
-use Rattle.cell_model.specs.declared.cell.NodeKind.TheVariants.{Joint, Contact, Fet}
+use Rattle.cell_model.specs.declared.cell.NodeKind.TheVariants.{Joint, Contact, Buried, Fet}
 use Rattle.cell_model.specs.declared.cell.NodeNets.{NodeNets}
 use Rattle.cell_model.specs.declared.cell.Wire.{Wire}
 use Rattle.cell_model.specs.declared.cell.Nets.{Nets}
@@ -19,8 +19,8 @@ use Rattle.cell_model.specs.declared.cell.Cell.{Cell}
 use Rattle.cell_model.specs.Counts.{layer_items, kind_items as kind_count, node_items, wire_items as wire_count, items_in}
 use Rattle.cell_model.specs.Sound.{IsLight, node_at, no_node, wire_at, no_wire}
 use Rattle.expand.specs.Variables.{half, cross_of}
-use Rattle.expand.specs.WireItems.{low_end_of, high_end_of, run_item, wire_items}
-use Rattle.expand.specs.NodeItems.{item_running, on_layer, square_round, kind_items}
+use Rattle.expand.specs.WireItems.{wire_items}
+use Rattle.expand.specs.NodeItems.{on_layer, square_round, kind_items}
 use Rattle.expand.specs.Items.{nets_at, items_of_node, items_of_wire, item_list}
 
 layer_counted : (layer : Layer) (i : Item) → length (on_layer layer i) ≡ layer_items layer
@@ -31,12 +31,13 @@ layer_counted Diffusion i = refl
 kind_counted : (tech : Tech) (k : ℕ) (kind : NodeKind) (nets : NodeNets) → length (kind_items tech k kind nets) ≡ kind_count kind
 kind_counted tech k (Joint layer width) nets = layer_counted layer _
 kind_counted tech k (Contact lower) nets = let e = layer_counted lower (square_round k M nets.main (half (pad_of tech))) in omega arith
+kind_counted tech k Buried nets = refl
 kind_counted tech k (Fet true gate w l) nets = refl
 kind_counted tech k (Fet false gate w l) nets = refl
 
 wire_counted : (tech : Tech) (cell : Cell) (owner net cross : ℕ) (wire : Wire) → length (wire_items tech cell owner net cross wire) ≡ wire_count wire
 wire_counted tech cell owner net cross wire =
-    layer_counted wire.layer (item_running wire.along (run_item owner net cross wire.width (low_end_of tech cell wire wire.low) (high_end_of tech cell wire wire.high)))
+    layer_counted wire.layer _
 
 -- the pieces of numbered elements, each with its count
 pub pieces_counted : {X Y : Type 0} (f : ℕ → List Y) (count : X → ℕ) (d : X) (a : ℕ) (xs : List X) → ((k : ℕ) → k < length xs → length (f (a + k)) ≡ count (get_or xs k d)) → length (flat_map f (range_with_len a (length xs))) ≡ sum_by count xs
@@ -66,6 +67,7 @@ kind_few (Joint Diffusion width) = omega arith
 kind_few (Contact Metal) = omega arith
 kind_few (Contact Poly) = omega arith
 kind_few (Contact Diffusion) = omega arith
+kind_few Buried = omega arith
 kind_few (Fet true gate w l) = omega arith
 kind_few (Fet false gate w l) = omega arith
 

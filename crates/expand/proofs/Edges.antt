@@ -1,6 +1,5 @@
 -- The inequalities of one item, wire or limit, as the code adds them.
-use Rattle.std.proofs.Common.{◌≡◌, ℕ, ℤ, true, false, List, [], ◌∷◌, ◌++◌, length, refl, sym, ap, ◌∙◌, append_assoc}
-use Rattle.std.specs.List.{flat_map, range_with_len}
+use Rattle.std.proofs.Common.{◌≡◌, ℕ, ℤ, true, false, List, [], ◌∷◌, ◌++◌, refl, sym, ap, ◌∙◌, append_assoc}
 use Rattle.lam_geom.specs.declared.boxes.Axis.{Axis}
 use Rattle.lam_geom.specs.declared.boxes.Axis.TheVariants.{X, Y}
 use Rattle.rule_table.specs.declared.technology.Tech.{Tech}
@@ -15,7 +14,7 @@ use Rattle.cell_model.specs.declared.cell.Cell.{Cell}
 use Rattle.cell_model.specs.Sound.{wire_at}
 use Rattle.expand.specs.Variables.{cross_of, at_origin, at_far_border}
 use Rattle.sym_items.specs.Transposed.{item_along}
-use Rattle.expand.specs.Structure.{between, extent_edges, margin_edges, wire_edges, overlap_edges, is_limit_of, limit_edge, limit_edges, size_edge, structure_of}
+use Rattle.expand.specs.Structure.{between, margin_edges, wire_edges, overlap_edges, is_limit_of, limit_edge, limit_edges, size_edge, extents_of, overlaps_of, margins_of, limits_of, structure_of}
 
 pub margin_pushed : (axis : Axis) (tech : Tech) (i : Item) (low high : End) (margin : ℤ) (xs one two : List Edge) → low ≡ (item_along axis i).xl → high ≡ (item_along axis i).xh → margin ≡ margin_of tech i.class
     → one ≡ xs ++ between at_origin low margin Margin → two ≡ one ++ between high at_far_border margin Margin
@@ -44,17 +43,17 @@ limit_dropped axis limit e = rw e refl
 -- the five parts, one after another
 pub structure_pushed : (axis : Axis) (tech : Tech) (cell : Cell) (read list : List Item) (size : Edge) (none one two three four five : List Edge) → read ≡ list → size ≡ size_edge tech
     → none ≡ [] → one ≡ none ++ size ∷ []
-    → two ≡ one ++ flat_map (λ (i : Item). extent_edges (item_along axis i)) read
-    → three ≡ two ++ flat_map (overlap_edges axis tech cell) (range_with_len 0 (length cell.wires))
-    → four ≡ three ++ flat_map (λ (i : Item). margin_edges tech (item_along axis i)) read
-    → five ≡ four ++ flat_map (limit_edges axis) cell.limits
+    → two ≡ one ++ extents_of axis read
+    → three ≡ two ++ overlaps_of axis tech cell
+    → four ≡ three ++ margins_of axis tech read
+    → five ≡ four ++ limits_of axis cell
     → five ≡ structure_of axis tech cell list
 unfolding structure_of
 structure_pushed axis tech cell read list size none one two three four five el es e0 e1 e2 e3 e4 e5 =
-    let extents : List Item → List Edge = flat_map (λ (i : Item). extent_edges (item_along axis i)) in
-    let overlaps : List Edge = flat_map (overlap_edges axis tech cell) (range_with_len 0 (length cell.wires)) in
-    let margins : List Item → List Edge = flat_map (λ (i : Item). margin_edges tech (item_along axis i)) in
-    let limits : List Edge = flat_map (limit_edges axis) cell.limits in
+    let extents = extents_of axis in
+    let overlaps = overlaps_of axis tech cell in
+    let margins = margins_of axis tech in
+    let limits = limits_of axis cell in
     let f1 : one ≡ size ∷ [] = e1 ∙ ap (λ (es : List Edge). es ++ size ∷ []) e0 in
     let f2 : two ≡ size ∷ extents read = e2 ∙ ap (λ (es : List Edge). es ++ extents read) f1 in
     let f3 : three ≡ size ∷ (extents read ++ overlaps) = e3 ∙ ap (λ (es : List Edge). es ++ overlaps) f2 in

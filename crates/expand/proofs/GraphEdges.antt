@@ -1,7 +1,7 @@
 -- A constraint graph can be made of the structure of a cell.
 use Rattle.std.proofs.Common.{◌≡◌, ◌≢◌, ℕ, ◌+◌, ◌<◌, ◌≤◌, false, eqb, ℤ, pos, negsuc, ◌+ℤ◌, ◌-ℤ◌, ◌≤ℤ◌, List, [], ◌∷◌, ◌++◌, length, refl, sym, ap, ◌∙◌, subst, arith, ◌⊎◌, inl, inr}
 use Rattle.std.specs.Prelude.{neg_ℤ}
-use Rattle.std.specs.List.{flat_map, range_with_len, AllByRecursion, Any}
+use Rattle.std.specs.List.{range_with_len, AllByRecursion, Any}
 use Rattle.std.proofs.lemmas.Bool.{eq-eqb}
 use Rattle.std.proofs.lemmas.Bool.Decides.{nat_tests}
 use Rattle.std.proofs.lemmas.List.Sums.{count_by-le-length}
@@ -14,7 +14,7 @@ use Rattle.rule_table.specs.declared.classes.Layer.{Layer}
 use Rattle.rule_table.specs.declared.classes.Layer.TheVariants.{Diffusion, Poly, Metal}
 use Rattle.rule_table.specs.Technology.{numbers_of, margin_of, widest_of}
 use Rattle.rule_table.specs.Bounds.{IsSize}
-use Rattle.rule_table.proofs.Margins.{margin_positive, margin_below, widest_positive, widest_below}
+use Rattle.rule_table.proofs.Margins.{margin_low, margin_below, widest_positive, widest_below}
 use Rattle.rule_table.proofs.Widths.{pad_bounds}
 use Rattle.sym_items.specs.declared.items.End.{End}
 use Rattle.sym_items.specs.declared.items.Item.{Item}
@@ -27,7 +27,7 @@ use Rattle.cons_graph.specs.Constraints.{IsEdgeAmong, LeadsFromOrigin, IsConstra
 use Rattle.stick_lex.specs.Numbers.{IsNumber}
 use Rattle.cell_model.specs.declared.cell.Axis2.{Axis2}
 use Rattle.cell_model.specs.declared.cell.NodeKind.{NodeKind}
-use Rattle.cell_model.specs.declared.cell.NodeKind.TheVariants.{Joint, Contact, Fet}
+use Rattle.cell_model.specs.declared.cell.NodeKind.TheVariants.{Joint, Contact, Buried, Fet}
 use Rattle.cell_model.specs.declared.cell.WireEnd.{WireEnd}
 use Rattle.cell_model.specs.declared.cell.WireEnd.TheVariants as ends
 use Rattle.cell_model.specs.declared.cell.Wire.{Wire}
@@ -38,11 +38,11 @@ use Rattle.cell_model.specs.Wiring.{is_same_axis, node_pad}
 use Rattle.cell_model.specs.Sound.{IsKind, IsEnd, IsWithinPad, IsWire, IsLimit, IsSound, IsLight, node_at, wire_at}
 use Rattle.expand.specs.Variables.{half, centre, running, cross_of, crossing, variables_of, at_origin, at_far_border}
 use Rattle.expand.specs.Items.{item_list, AreItems}
-use Rattle.expand.specs.Structure.{at_least, between, extent_edges, margin_edges, tied, end_edges, wire_edges, overlap_edges, is_limit_of, limit_edge, limit_edges, size_edge, structure_of}
+use Rattle.expand.specs.Structure.{at_least, between, extent_edges, margin_edges, tied, end_edges, wire_edges, overlap_edges, is_limit_of, limit_edge, limit_edges, size_edge, extents_of, overlaps_of, margins_of, limits_of, structure_of}
 use Rattle.expand.specs.Bounds.{IsSmall, IsNear, IsSpanAmong, LiesAlong}
 use Rattle.expand.proofs.Cells.{node_sound, wire_sound}
 use Rattle.list_facts.proofs.Elements.{all_append, all_flat, all_numbers, all_weaker}
-use Rattle.expand.proofs.Among.{sound_numbers, list_lies, small_near, cross_among}
+use Rattle.expand.proofs.Among.{sound_numbers, buried_size, list_lies, small_near, cross_among}
 use Rattle.list_facts.proofs.Some.{any_here, any_there, any_left, any_right, any_flat_map}
 use Rattle.expand.proofs.Reached.{by_test, BeginsBefore, items_begin, same_is}
 
@@ -81,10 +81,8 @@ zero_near = record { low = omega (arith, ints); high = omega (arith, ints) }
 
 margin_near : (tech : Tech) (class : Class) → IsNear (margin_of tech class)
 margin_near tech class =
-    let a = margin_positive (numbers_of tech) (sound_numbers tech) class in
-    let b = margin_below (numbers_of tech) (sound_numbers tech) class in
-    let c : pos 1 ≤ℤ margin_of tech class = a in
-    let d : margin_of tech class ≤ℤ pos 4096 = b in
+    let low : pos 0 ≤ℤ margin_of tech class = margin_low (numbers_of tech) class in
+    let high : margin_of tech class ≤ℤ pos 4096 = margin_below (numbers_of tech) (sound_numbers tech) class in
     record { low = omega (arith, ints); high = omega (arith, ints) }
 
 extent_among : (vars : ℕ) (i : Item) → IsSpanAmong vars i.xl i.xh i.least_x → AllByRecursion (IsEdgeAmong vars) (extent_edges i)
@@ -103,6 +101,7 @@ margin_among vars tech i two s =
 node_pad_bounds : (tech : Tech) (layer : Layer) (kind : NodeKind) → IsKind tech kind → node_pad tech layer kind ≤ℤ pos 12288
 node_pad_bounds tech layer (Joint own width) h = let a = h.0.high in omega (arith, ints)
 node_pad_bounds tech layer (Contact lower) h = (pad_bounds (numbers_of tech) (sound_numbers tech)).1
+node_pad_bounds tech layer Buried h = let a = (buried_size tech).high in omega (arith, ints)
 node_pad_bounds tech Poly (Fet depletion gate w l) h = let a = h.1.high in omega (arith, ints)
 node_pad_bounds tech Diffusion (Fet depletion gate w l) h = let a = h.0.high in omega (arith, ints)
 node_pad_bounds tech Metal (Fet depletion gate w l) h = let a = h.0.high in omega (arith, ints)
@@ -193,14 +192,13 @@ structure_among axis tech cell nets s =
     let vars : ℕ = variables_of axis cell in
     let E : Edge → Type 0 = IsEdgeAmong vars in
     let items : List Item = item_list tech cell nets in
-    let extents : List Edge = flat_map (λ (i : Item). extent_edges (item_along axis i)) items in
-    let overlaps : List Edge = flat_map (overlap_edges axis tech cell) (range_with_len 0 (length cell.wires)) in
-    let margins : List Edge = flat_map (λ (i : Item). margin_edges tech (item_along axis i)) items in
-    let limits : List Edge = flat_map (limit_edges axis) cell.limits in
+    let overlaps = overlaps_of axis tech cell in
+    let margins = margins_of axis tech items in
+    let limits = limits_of axis cell in
     let I : Item → Type 0 = LiesAlong axis cell in
     let among = recursion_from_All I items (list_lies tech cell nets s axis) in (
       size_among vars tech (omega arith),
-      all_append E extents (overlaps ++ (margins ++ limits))
+      all_append E (extents_of axis items) (overlaps ++ (margins ++ limits))
           (all_flat E (λ (i : Item). extent_edges (item_along axis i)) items (all_weaker I (λ i. AllByRecursion E (extent_edges (item_along axis i))) (λ i h. extent_among vars (item_along axis i) h) items among))
           (all_append E overlaps (margins ++ limits)
           (all_flat E (overlap_edges axis tech cell) (range_with_len 0 (length cell.wires)) (all_numbers (λ k. AllByRecursion E (overlap_edges axis tech cell k)) 0 (length cell.wires) (λ k le lt. overlap_among axis tech cell k s (omega arith))))
@@ -230,14 +228,12 @@ unfolding structure_of
 structure_leads axis tech cell nets v s from lt =
     let L : Edge → Type 0 = LeadsFromOrigin v in
     let items : List Item = item_list tech cell nets in
-    let extents : List Edge = flat_map (λ (i : Item). extent_edges (item_along axis i)) items in
-    let overlaps : List Edge = flat_map (overlap_edges axis tech cell) (range_with_len 0 (length cell.wires)) in
-    let margins : List Edge = flat_map (λ (i : Item). margin_edges tech (item_along axis i)) items in
-    let limits : List Edge = flat_map (limit_edges axis) cell.limits in
-    let rest : List Edge = extents ++ (overlaps ++ (margins ++ limits)) in
+    let margins = margins_of axis tech items in
+    let limits = limits_of axis cell in
+    let rest = overlaps_of axis tech cell ++ (margins ++ limits) in
     elim (after_origin_cases v from) [
-      | inl far ↦ any_here L (size_edge tech) rest (refl, sym far)
-      | inr more ↦ any_there L (size_edge tech) rest (any_right L extents (overlaps ++ (margins ++ limits)) (any_right L overlaps (margins ++ limits) (any_left L margins limits
+      | inl far ↦ any_here L (size_edge tech) (extents_of axis items ++ rest) (refl, sym far)
+      | inr more ↦ any_there L (size_edge tech) (extents_of axis items ++ rest) (any_right L (extents_of axis items) rest (any_right L (overlaps_of axis tech cell) (margins ++ limits) (any_left L margins limits
           (any_flat_map (BeginsBefore axis v) L (λ (i : Item). margin_edges tech (item_along axis i)) items (λ i begins. margin_leads tech v (item_along axis i) more begins.on)
           (items_begin axis tech cell nets v s more lt)))))
     ]

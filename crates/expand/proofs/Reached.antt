@@ -13,6 +13,7 @@ use Rattle.rule_table.specs.Bounds.{IsSize}
 use Rattle.rule_table.specs.Technology.{numbers_of, pad_of}
 use Rattle.rule_table.specs.declared.classes.Class.{Class}
 use Rattle.rule_table.specs.declared.classes.Class.TheVariants.{M}
+use Rattle.rule_table.specs.declared.classes.Class.TheVariants as classes
 use Rattle.rule_table.specs.declared.classes.Layer.{Layer}
 use Rattle.rule_table.specs.declared.classes.Layer.TheVariants.{Diffusion, Poly, Metal}
 use Rattle.sym_items.specs.declared.items.Item.{Item}
@@ -21,20 +22,20 @@ use Rattle.sym_items.specs.Transposed.{item_along}
 use Rattle.cell_model.specs.declared.cell.Axis2.{Axis2}
 use Rattle.cell_model.specs.declared.cell.Axis2.TheVariants.{Across, Up}
 use Rattle.cell_model.specs.declared.cell.NodeKind.{NodeKind}
-use Rattle.cell_model.specs.declared.cell.NodeKind.TheVariants.{Joint, Contact, Fet}
+use Rattle.cell_model.specs.declared.cell.NodeKind.TheVariants.{Joint, Contact, Buried, Fet}
 use Rattle.cell_model.specs.declared.cell.NodeNets.{NodeNets}
 use Rattle.cell_model.specs.declared.cell.Wire.{Wire}
 use Rattle.cell_model.specs.declared.cell.Nets.{Nets}
 use Rattle.cell_model.specs.declared.cell.Cell.{Cell}
-use Rattle.cell_model.specs.Wiring.{is_same_axis}
+use Rattle.cell_model.specs.Wiring.{is_same_axis, buried_pad}
 use Rattle.cell_model.specs.Sound.{IsKind, IsSound, node_at, wire_at}
 use Rattle.expand.specs.Variables.{half, centre, running, cross_of, crossing, variables_of}
-use Rattle.expand.specs.NodeItems.{item_running, on_layer, square_round, kind_items}
-use Rattle.expand.specs.WireItems.{low_end_of, high_end_of, run_item, wire_items}
+use Rattle.expand.specs.NodeItems.{item_running, on_layer, square_round, standing_at, kind_items}
+use Rattle.expand.specs.WireItems.{low_end_of, high_end_of, contact_at, run_item, wire_items}
 use Rattle.expand.specs.Items.{nets_at, items_of_node, items_of_wire, item_list}
 use Rattle.list_facts.proofs.Some.{any_here, any_left, any_right, any_flat_map, any_range}
 use Rattle.expand.proofs.Cells.{node_sound, wire_sound}
-use Rattle.expand.proofs.Among.{half_size, half_pad, sound_numbers}
+use Rattle.expand.proofs.Among.{half_size, half_pad, half_buried, sound_numbers}
 
 -- ---- items that begin at a variable
 
@@ -77,20 +78,29 @@ round_begins : (axis : Axis) (k net : ℕ) (class : Class) (z : ℤ) → neg_ℤ
 round_begins X k net class z h = record { on = refl; before = h }
 round_begins Y k net class z h = record { on = refl; before = h }
 
+standing_begins : (axis : Axis) (v k : ℕ) (i : Item) → BeginsBefore axis v i → BeginsBefore axis v (standing_at k i)
+standing_begins X v k i h = record { on = h.on; before = h.before }
+standing_begins Y v k i h = record { on = h.on; before = h.before }
+
 kind_begins : (axis : Axis) (tech : Tech) (k : ℕ) (kind : NodeKind) (nets : NodeNets) → IsKind tech kind → Any (BeginsBefore axis (centre k)) (kind_items tech k kind nets)
 kind_begins axis tech k (Joint layer width) nets h = layer_begins axis (centre k) layer (square_round k M nets.main (half width)) (round_begins axis k nets.main M (half width) (half_before width h.0))
 kind_begins axis tech k (Contact lower) nets h =
     first_of_any (BeginsBefore axis (centre k)) (kind_items tech k (Contact lower) nets) (round_begins axis k nets.main M (half (pad_of tech)) (before (half (pad_of tech)) (half_pad tech).0))
+kind_begins axis tech k Buried nets h =
+    let pad : ℤ = half (buried_pad tech) in
+    first_of_any (BeginsBefore axis (centre k)) (kind_items tech k Buried nets)
+    (standing_begins axis (centre k) k (square_round k classes.P nets.main pad) (round_begins axis k nets.main classes.P pad (before pad (half_buried tech).0)))
 kind_begins X tech k (Fet depletion Across w l) nets h = first_of_any (BeginsBefore X (centre k)) (kind_items tech k (Fet depletion Across w l) nets) (record { on = refl; before = gate_before tech w h.0 })
 kind_begins X tech k (Fet depletion Up w l) nets h = first_of_any (BeginsBefore X (centre k)) (kind_items tech k (Fet depletion Up w l) nets) (record { on = refl; before = half_before l h.1 })
 kind_begins Y tech k (Fet depletion Across w l) nets h = first_of_any (BeginsBefore Y (centre k)) (kind_items tech k (Fet depletion Across w l) nets) (record { on = refl; before = half_before l h.1 })
 kind_begins Y tech k (Fet depletion Up w l) nets h = first_of_any (BeginsBefore Y (centre k)) (kind_items tech k (Fet depletion Up w l) nets) (record { on = refl; before = gate_before tech w h.0 })
 
-run_begins : (axis : Axis) (along : Axis2) (owner net cross : ℕ) (width : ℤ) (low high : End) → IsSize width → along ≡ crossing axis → BeginsBefore axis cross (item_running along (run_item owner net cross width low high))
-run_begins X Up owner net cross width low high s e = record { on = refl; before = half_before width s }
-run_begins Y Across owner net cross width low high s e = record { on = refl; before = half_before width s }
-run_begins X Across owner net cross width low high s e = absurd cc
-run_begins Y Up owner net cross width low high s e = absurd cc
+run_begins : (axis : Axis) (along : Axis2) (owner net cross : ℕ) (width : ℤ) (low high : End) (at_low at_high : ℕ) → IsSize width → along ≡ crossing axis
+    → BeginsBefore axis cross (item_running along (run_item owner net cross width low high at_low at_high))
+run_begins X Up owner net cross width low high at_low at_high s e = record { on = refl; before = half_before width s }
+run_begins Y Across owner net cross width low high at_low at_high s e = record { on = refl; before = half_before width s }
+run_begins X Across owner net cross width low high at_low at_high s e = absurd cc
+run_begins Y Up owner net cross width low high at_low at_high s e = absurd cc
 
 -- ---- which wire has a cross coordinate
 
@@ -150,7 +160,7 @@ wire_after along (w ∷ ws) j lt =
 
 wire_begins : (axis : Axis) (tech : Tech) (cell : Cell) (owner net cross : ℕ) (wire : Wire) → IsSize wire.width → wire.along ≡ crossing axis → Any (BeginsBefore axis cross) (wire_items tech cell owner net cross wire)
 wire_begins axis tech cell owner net cross wire s e =
-    layer_begins axis cross wire.layer _ (run_begins axis wire.along owner net cross wire.width (low_end_of tech cell wire wire.low) (high_end_of tech cell wire wire.high) s e)
+    layer_begins axis cross wire.layer _ (run_begins axis wire.along owner net cross wire.width (low_end_of tech cell wire wire.low) (high_end_of tech cell wire wire.high) (contact_at cell wire.low) (contact_at cell wire.high) s e)
 
 node_found : (axis : Axis) (tech : Tech) (cell : Cell) (nets : Nets) (k : ℕ) → IsSound tech cell → k < length cell.nodes → Any (BeginsBefore axis (centre k)) (flat_map (items_of_node tech cell nets) (range_with_len 0 (length cell.nodes)))
 node_found axis tech cell nets k s lt =

@@ -1,27 +1,28 @@
 -- Values that meet the structure of a cell keep its variables and the high ends of its items at or above the origin, and its items long enough.
-use Rattle.std.proofs.Common.{◌≡◌, ◌≢◌, ℕ, ◌<◌, ℤ, pos, ◌+ℤ◌, ◌-ℤ◌, ◌≤ℤ◌, List, ◌++◌, length, get_or, sym, ap, ◌∙◌, subst, arith, inl, inr}
-use Rattle.std.specs.List.{AllByRecursion, All, Any, flat_map, range_with_len}
+use Rattle.std.proofs.Common.{◌≡◌, ◌≢◌, ℕ, ◌<◌, ℤ, pos, ◌+ℤ◌, ◌-ℤ◌, ◌≤ℤ◌, List, ◌++◌, get_or, sym, ap, ◌∙◌, subst, arith, inl, inr}
+use Rattle.std.specs.List.{AllByRecursion, All, Any}
 use Rattle.std.proofs.lemmas.Int.{ints}
 use Rattle.std.proofs.lemmas.Bool.{cases_eq}
 use Rattle.std.proofs.lemmas.List.Elements.{recursion_from_All}
 use Rattle.lam_geom.specs.declared.boxes.Axis.{Axis}
 use Rattle.rule_table.specs.declared.technology.Tech.{Tech}
 use Rattle.rule_table.specs.Technology.{numbers_of, margin_of, widest_of}
-use Rattle.rule_table.proofs.Margins.{margin_positive, widest_positive}
+use Rattle.rule_table.proofs.Margins.{margin_low, widest_positive}
 use Rattle.cons_graph.specs.declared.edges.Edge.{Edge}
 use Rattle.cons_graph.specs.declared.edges.Why.TheVariants.{Extent, Margin}
 use Rattle.cons_graph.specs.Solutions.{Meets}
 use Rattle.sym_items.specs.declared.items.Item.{Item}
 use Rattle.sym_items.specs.Transposed.{item_along}
 use Rattle.sym_items.specs.Values.{end_under}
+use Rattle.sym_items.specs.Extents.{IsLongUnder}
 use Rattle.cell_model.specs.declared.cell.Cell.{Cell}
 use Rattle.list_facts.proofs.Elements.{all_of, all_parts, all_pieces}
 use Rattle.expand.specs.declared.master.Master.{Master}
 use Rattle.expand.specs.Variables.{variables_of, at_origin, at_far_border}
-use Rattle.expand.specs.Structure.{between, extent_edges, margin_edges, overlap_edges, limit_edges, structure_of}
+use Rattle.expand.specs.Structure.{between, extent_edges, margin_edges, extents_of, overlaps_of, margins_of, limits_of, structure_of}
 use Rattle.expand.specs.Bounds.{LiesAlong}
 use Rattle.expand.specs.Masters.{IsMaster}
-use Rattle.expand.specs.Laws.{EndsAbove, IsLongUnder, MeetsStructure, StandsOn}
+use Rattle.expand.specs.Laws.{EndsAbove, MeetsStructure, StandsOn}
 use Rattle.expand.proofs.Between.{between_holds}
 use Rattle.expand.proofs.Among.{sound_numbers, items_lie}
 use Rattle.expand.proofs.Reached.{BeginsBefore, items_begin}
@@ -30,15 +31,15 @@ use Rattle.expand.proofs.Reached.{BeginsBefore, items_begin}
 abbrev KeepsMargins : Axis → Tech → (ℕ → ℤ) → Item → Type 0
 KeepsMargins axis tech x i = AllByRecursion (Meets x) (margin_edges tech (item_along axis i))
 
--- the low end of an item that does not begin on the origin lies above it
-margin_above : (tech : Tech) (x : ℕ → ℤ) (i : Item) → x 0 ≡ pos 0 → AllByRecursion (Meets x) (margin_edges tech i) → i.xl.var ≢ 0 → pos 1 ≤ℤ end_under x i.xl
+-- the low end of an item that does not begin on the origin lies at or above it
+margin_above : (tech : Tech) (x : ℕ → ℤ) (i : Item) → x 0 ≡ pos 0 → AllByRecursion (Meets x) (margin_edges tech i) → i.xl.var ≢ 0 → pos 0 ≤ℤ end_under x i.xl
 margin_above tech x i zero_there meets ne =
     let m : ℤ = margin_of tech i.class in
-    let positive : pos 1 ≤ℤ m = margin_positive (numbers_of tech) (sound_numbers tech) i.class in
+    let not_below : pos 0 ≤ℤ m = margin_low (numbers_of tech) i.class in
     let low = (all_parts (Meets x) (between at_origin i.xl m Margin) (between i.xh at_far_border m Margin) meets).0 in
     let h = between_holds x at_origin i.xl m Margin low (λ e. absurd (ne (sym e))) in
     let h : ((x 0 +ℤ pos 0) +ℤ m) ≤ℤ end_under x i.xl = h in
-    omega (arith, ints, h, positive, zero_there)
+    omega (arith, ints, h, not_below, zero_there)
 
 -- the parts of the structure: the size of the cell, the extents of its items and their margins
 record HasParts (axis : Axis) (tech : Tech) (x : ℕ → ℤ) (items : List Item) : Type 0 where
@@ -50,12 +51,11 @@ parts_of : (axis : Axis) (tech : Tech) (cell : Cell) (x : ℕ → ℤ) (items : 
 unfolding structure_of
 parts_of axis tech cell x items meets =
     let M : Edge → Type 0 = Meets x in
-    let extents : List Edge = flat_map (λ (i : Item). extent_edges (item_along axis i)) items in
-    let overlaps : List Edge = flat_map (overlap_edges axis tech cell) (range_with_len 0 (length cell.wires)) in
-    let margins : List Edge = flat_map (λ (i : Item). margin_edges tech (item_along axis i)) items in
-    let limits : List Edge = flat_map (limit_edges axis) cell.limits in
+    let overlaps = overlaps_of axis tech cell in
+    let margins = margins_of axis tech items in
+    let limits = limits_of axis cell in
     let all = recursion_from_All M (structure_of axis tech cell items) meets in
-    let first = all_parts M extents (overlaps ++ (margins ++ limits)) all.1 in
+    let first = all_parts M (extents_of axis items) (overlaps ++ (margins ++ limits)) all.1 in
     let after_overlaps = (all_parts M overlaps (margins ++ limits) first.1).1 in
     let of_margins = (all_parts M margins limits after_overlaps).0 in
     record {

@@ -4,8 +4,9 @@ use Rattle.std.specs.Prelude.{neg_ℤ, None}
 use Rattle.lam_geom.specs.declared.boxes.Axis.TheVariants.{X, Y}
 use Rattle.rule_table.specs.declared.technology.Tech.{Tech}
 use Rattle.rule_table.specs.declared.classes.Class.{Class}
-use Rattle.rule_table.specs.declared.classes.Class.TheVariants.{M, P, Dc, Dm, C, G}
-use Rattle.rule_table.specs.Technology.{shipped_numbers}
+use Rattle.rule_table.specs.declared.classes.Class.TheVariants.{M, P, Dc, Dm, C, G, B}
+use Rattle.rule_table.specs.Technology.{shipped_numbers, shipped2_numbers}
+use Rattle.rule_table.specs.Keys.{has_buried}
 use Rattle.rule_table.specs.Spacing.{pad_in, margin_in, widest_in, spacing_in, greatest}
 use Rattle.rule_table.specs.Faults.{fault_of}
 use Rattle.sym_items.specs.declared.items.End.{End}
@@ -14,15 +15,20 @@ use Rattle.sym_items.specs.Standing.{nowhere}
 use Rattle.cons_graph.specs.declared.edges.Edge.{Edge}
 use Rattle.cons_graph.specs.declared.edges.Why.{Why}
 use Rattle.cons_graph.specs.declared.edges.Why.TheVariants.{Size, Extent, Overlap, Margin}
+use Rattle.cell_model.specs.declared.cell.NodeNets.{NodeNets}
 use Rattle.cell_model.specs.declared.cell.Nets.{Nets}
 use Rattle.expand.specs.Variables.{past, variables_of}
 use Rattle.expand.specs.Items.{items_of_node, items_of_wire, item_list}
 use Rattle.expand.specs.Structure.{structure_of}
-use Rattle.expand.specs.Worked.{transistor, column, through, inverter}
+use Rattle.expand.specs.Worked.{transistor, column, through, inverter, buried}
 
 -- the shipped technology
 abbrev shipped : fault_of shipped_numbers ≡ None → Tech
 shipped sound = record { numbers = shipped_numbers; sound = sound }
+
+-- the one with buried contacts
+abbrev shipped2 : fault_of shipped2_numbers ≡ None → Tech
+shipped2 sound = record { numbers = shipped2_numbers; sound = sound }
 
 -- a box whose ends lie on these variables
 abbrev item : Class → ℕ → ℕ → End → End → End → End → ℤ → ℤ → Item
@@ -99,6 +105,35 @@ inverter_input : (s : fault_of shipped_numbers ≡ None) → items_of_wire (ship
     ≡ item P 3 7 (past 0 (pos 0)) (below 3 6) (below 7 2) (above 7 2) (pos 4) (pos 4) ∷ []
 inverter_input s = refl
 
+-- the nets of a buried contact and its wires are one
+abbrev buried_nets : Nets
+buried_nets =
+    let one : NodeNets = record { main = 0; low = 0; high = 0 } in
+    record { node = one ∷ one ∷ one ∷ []; wire = 0 ∷ 0 ∷ []; count = 1 }
+
+-- an item that stands at buried contacts
+abbrev standing : ℕ → ℕ → Item → Item
+standing low high i = record i { at_low = low; at_high = high }
+
+buried_contact : (s : fault_of shipped2_numbers ≡ None) → items_of_node (shipped2 s) buried buried_nets 0
+    ≡ standing 0 0 (item P 0 0 (below 2 2) (above 2 2) (below 2 2) (above 2 2) (pos 4) (pos 4))
+    ∷ standing 0 0 (item Dm 0 0 (below 2 2) (above 2 2) (below 2 2) (above 2 2) (pos 4) (pos 4))
+    ∷ standing 0 0 (item Dc 0 0 (below 2 2) (above 2 2) (below 2 2) (above 2 2) (pos 4) (pos 4))
+    ∷ standing 0 0 (item B 0 0 (below 2 6) (above 2 6) (below 2 6) (above 2 6) (pos 12) (pos 12))
+    ∷ []
+buried_contact s = refl
+
+-- the wire that ends at the contact, and the one that begins there
+buried_diffusion : (s : fault_of shipped2_numbers ≡ None) → items_of_wire (shipped2 s) buried buried_nets 0
+    ≡ standing nowhere 0 (item Dm 0 3 (below 3 2) (above 2 2) (below 5 2) (above 5 2) (pos 4) (pos 4))
+    ∷ standing nowhere 0 (item Dc 0 3 (below 3 2) (above 2 2) (below 5 2) (above 5 2) (pos 4) (pos 4))
+    ∷ []
+buried_diffusion s = refl
+
+buried_poly : (s : fault_of shipped2_numbers ≡ None) → items_of_wire (shipped2 s) buried buried_nets 1
+    ≡ standing 0 nowhere (item P 0 4 (below 2 2) (above 4 2) (below 6 2) (above 6 2) (pos 4) (pos 4)) ∷ []
+buried_poly s = refl
+
 -- ---- inequalities
 
 abbrev edge : ℕ → ℕ → ℤ → Why → Edge
@@ -113,15 +148,15 @@ column_structure : (s : fault_of shipped_numbers ≡ None) → structure_of X (s
     ∷ edge 2 4 (pos 0) Overlap ∷ edge 4 2 (pos 0) Overlap ∷ edge 3 4 (minus 1) Overlap ∷ edge 4 3 (minus 1) Overlap
     ∷ edge 0 2 (pos 9) Margin ∷ edge 2 1 (pos 9) Margin ∷ edge 0 3 (pos 10) Margin ∷ edge 3 1 (pos 10) Margin ∷ edge 0 4 (pos 9) Margin ∷ edge 4 1 (pos 9) Margin
     ∷ []
-unfolding structure_of item_list margin_in widest_in spacing_in greatest
+unfolding structure_of item_list margin_in widest_in spacing_in greatest has_buried
 column_structure s = refl
 
 -- a wire from side to side keeps no margin to the borders on which it ends, but keeps those of the other axis
 through_across : (s : fault_of shipped_numbers ≡ None) → structure_of X (shipped s) through (item_list (shipped s) through through_nets) ≡ edge 0 1 (pos 6) Size ∷ edge 0 1 (pos 4) Extent ∷ []
-unfolding structure_of item_list margin_in widest_in spacing_in greatest
+unfolding structure_of item_list margin_in widest_in spacing_in greatest has_buried
 through_across s = refl
 
 through_up : (s : fault_of shipped_numbers ≡ None) → structure_of Y (shipped s) through (item_list (shipped s) through through_nets)
     ≡ edge 0 1 (pos 6) Size ∷ edge 0 2 (pos 6) Margin ∷ edge 2 1 (pos 6) Margin ∷ []
-unfolding structure_of item_list margin_in widest_in spacing_in greatest
+unfolding structure_of item_list margin_in widest_in spacing_in greatest has_buried
 through_up s = refl

@@ -7,6 +7,7 @@ use Rattle.sym_items.specs.declared.items.End.{End}
 use Rattle.sym_items.specs.declared.items.Item.{Item}
 use Rattle.sym_items.specs.Transposed.{item_along, vars_along}
 use Rattle.sym_items.specs.Values.{end_under}
+use Rattle.sym_items.specs.Extents.{IsLongUnder}
 use Rattle.cons_graph.specs.Constraints.{IsConstraintGraph}
 use Rattle.cons_graph.specs.declared.edges.Why.{Why}
 use Rattle.cons_graph.specs.Solutions.{Meets}
@@ -21,13 +22,9 @@ abbrev pub BetweenMeans : End → End → ℤ → Why → Type 0
 BetweenMeans low high len why =
     (x : ℕ → ℤ) → AllByRecursion (Meets x) (between low high len why) ↔ (low.var ≢ high.var → (end_under x low +ℤ len) ≤ℤ end_under x high)
 
--- under some values of the variables of an axis the high end of an item lies at or above the origin, and the item is at least as long as it
--- has to be
+-- under some values of the variables of an axis the high end of an item lies at or above the origin
 abbrev pub EndsAbove : Axis → (ℕ → ℤ) → Item → Type 0
 EndsAbove axis x item = pos 0 ≤ℤ end_under x (item_along axis item).xh
-
-abbrev pub IsLongUnder : Axis → (ℕ → ℤ) → Item → Type 0
-IsLongUnder axis x item = (end_under x (item_along axis item).xl +ℤ (item_along axis item).least_x) ≤ℤ end_under x (item_along axis item).xh
 
 -- the values of an axis keep a master above the origin
 pub record StandsOn (axis : Axis) (master : Master) (x : ℕ → ℤ) : Type 0 where

@@ -72,10 +72,20 @@ limit_edges axis limit = if is_limit_of axis limit.axis then limit_edge limit �
 abbrev pub size_edge : Tech → Edge
 size_edge tech = at_least 0 1 (widest_of tech) Size
 
+-- those of the items, of the wires on their pads, and of the limits
+abbrev pub extents_of : Axis → List Item → List Edge
+extents_of axis items = flat_map (λ i. extent_edges (item_along axis i)) items
+
+abbrev pub overlaps_of : Axis → Tech → Cell → List Edge
+overlaps_of axis tech cell = flat_map (overlap_edges axis tech cell) (range_with_len 0 (length cell.wires))
+
+abbrev pub margins_of : Axis → Tech → List Item → List Edge
+margins_of axis tech items = flat_map (λ i. margin_edges tech (item_along axis i)) items
+
+abbrev pub limits_of : Axis → Cell → List Edge
+limits_of axis cell = flat_map (limit_edges axis) cell.limits
+
 -- all inequalities of a cell, in the order of the five parts
 unfoldable pub structure_of : Axis → Tech → Cell → List Item → List Edge
 structure_of axis tech cell items =
-    size_edge tech ∷ (flat_map (λ i. extent_edges (item_along axis i)) items
-    ++ (flat_map (overlap_edges axis tech cell) (range_with_len 0 (length cell.wires))
-    ++ (flat_map (λ i. margin_edges tech (item_along axis i)) items
-    ++ flat_map (limit_edges axis) cell.limits)))
+    size_edge tech ∷ (extents_of axis items ++ (overlaps_of axis tech cell ++ (margins_of axis tech items ++ limits_of axis cell)))

@@ -1,11 +1,11 @@
--- Cells typed in, with the technology that the program ships with: a transistor alone, a metal wire from a joint to a port, and one from
--- side to side; and the ends of their items.
+-- Cells typed in, with the technologies that the program ships with: a transistor alone, a metal wire between two joints, a poly wire from side
+-- to side, a part of an inverter, and a buried contact with a wire of each layer.
 use Rattle.std.specs.Prelude.{ℕ, pos, false, [], ◌∷◌}
 use Rattle.rule_table.specs.declared.classes.Layer.TheVariants.{Diffusion, Poly, Metal}
 use Rattle.lam_geom.specs.declared.boxes.Side.TheVariants.{Left, Right}
 use Rattle.cell_model.specs.declared.cell.Axis2.TheVariants.{Across, Up}
 use Rattle.cell_model.specs.declared.cell.NodeKind.{NodeKind}
-use Rattle.cell_model.specs.declared.cell.NodeKind.TheVariants.{Joint, Contact, Fet}
+use Rattle.cell_model.specs.declared.cell.NodeKind.TheVariants.{Joint, Contact, Buried, Fet}
 use Rattle.cell_model.specs.declared.cell.Node.{Node}
 use Rattle.cell_model.specs.declared.cell.WireEnd.TheVariants as ends
 use Rattle.cell_model.specs.declared.cell.Cell.{Cell}
@@ -49,5 +49,19 @@ inverter = record {
       ∷ (record { layer = Poly; width = pos 4; low = ends.Port 1; high = ends.Node 1; along = Across })
       ∷ [];
   ports = (record { name = []; side = Left; layer = Metal; place = 0; wire = 0 }) ∷ (record { name = []; side = Left; layer = Poly; place = 1; wire = 3 }) ∷ [];
+  limits = [];
+}
+
+-- a buried contact, a diffusion joint to its left and a poly joint to its right, with the wires between them:
+-- buried b 1 0, joint d diff 0 0, joint p poly 2 0, wire diff d b, wire poly b p
+abbrev pub buried : Cell
+buried = record {
+  name = [];
+  nodes = node Buried 1 0 ∷ node (Joint Diffusion (pos 4)) 0 0 ∷ node (Joint Poly (pos 4)) 2 0 ∷ [];
+  wires =
+      (record { layer = Diffusion; width = pos 4; low = ends.Node 1; high = ends.Node 0; along = Across })
+      ∷ (record { layer = Poly; width = pos 4; low = ends.Node 0; high = ends.Node 2; along = Across })
+      ∷ [];
+  ports = [];
   limits = [];
 }

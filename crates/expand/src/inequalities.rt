@@ -1,14 +1,14 @@
 //! The inequalities that hold in every layout of a cell, on one axis.
 
-ghost use Rattle.std.specs.Prelude.{◌≡◌, ◌<◌, ◌^◌, ◌++◌, ◌∷◌, [], length, flat_map, All, pos, neg_ℤ, ◌+ℤ◌, ◌-ℤ◌, ◌≤ℤ◌, OnOk, IfOk};
-ghost use Rattle.std.specs.List.{range_with_len, AllByRecursion};
+ghost use Rattle.std.specs.Prelude.{◌≡◌, ◌<◌, ◌^◌, ◌++◌, ◌∷◌, [], length, All, pos, neg_ℤ, ◌+ℤ◌, ◌-ℤ◌, ◌≤ℤ◌, OnOk, IfOk};
+ghost use Rattle.std.specs.List.{AllByRecursion};
 ghost use Rattle.sym_items.specs.Transposed.{item_along};
 ghost use Rattle.stick_lex.specs.Numbers.{IsNumber};
 ghost use Rattle.cell_model.specs.Sound.{IsEnd, IsWithinPad, IsWire, IsLimit, IsSound, IsLight, node_at};
 ghost use Rattle.cons_graph.specs.Constraints.{IsConstraintGraph};
 ghost use Rattle.expand.specs.Variables.{half, variables_of};
 ghost use Rattle.expand.specs.Masters.{IsMaster};
-ghost use Rattle.expand.specs.Structure.{between, extent_edges, margin_edges, tied, end_edges, wire_edges, overlap_edges, limit_edge, limit_edges, is_limit_of, size_edge, structure_of};
+ghost use Rattle.expand.specs.Structure.{between, extent_edges, margin_edges, tied, end_edges, wire_edges, limit_edge, is_limit_of, size_edge, extents_of, overlaps_of, margins_of, limits_of, structure_of};
 ghost use Rattle.expand.specs.Bounds.{IsSmall, IsNear, IsNearAlong, AreCrosses};
 
 use crate::boxes::{centre, half, negated};
@@ -88,7 +88,7 @@ fn push_margin(
 // Adds that each item has its least extent.
 fn push_extents(edges: &mut Vec<Edge>, axis: Axis, items: &[Item]) -> Result<(), AllocError>
     requires { All (IsNearAlong axis) items.now }
-    ensures { OnOk result (edges.new.items ≡ edges.old.items ++ flat_map (λ i. extent_edges (item_along axis i)) items.now) }
+    ensures { OnOk result (edges.new.items ≡ edges.old.items ++ extents_of axis items.now) }
 {
     for item in items {
         push_extent(edges, axis, item)?;
@@ -104,7 +104,7 @@ fn push_margins(
     items: &[Item],
 ) -> Result<(), AllocError>
     requires { All (IsNearAlong axis) items.now }
-    ensures { OnOk result (edges.new.items ≡ edges.old.items ++ flat_map (λ i. margin_edges tech.now (item_along axis i)) items.now) }
+    ensures { OnOk result (edges.new.items ≡ edges.old.items ++ margins_of axis tech.now items.now) }
 {
     for item in items {
         push_margin(edges, axis, tech, item)?;
@@ -202,7 +202,7 @@ fn push_overlaps(
     requires sound { IsSound tech.now cell.now }
     requires light { IsLight cell.now }
     requires crosses { AreCrosses cell.now (length cell.now.wires) crosses.now }
-    ensures { OnOk result (edges.new.items ≡ edges.old.items ++ flat_map (overlap_edges axis tech.now cell.now) (range_with_len 0 (length cell.now.wires))) }
+    ensures { OnOk result (edges.new.items ≡ edges.old.items ++ overlaps_of axis tech.now cell.now) }
 {
     let wires = cell.wires.as_slice();
     for k in 0..wires.len() as u32 {
@@ -258,7 +258,7 @@ fn limit_edge(limit: &Limit) -> Edge
 fn push_limits(edges: &mut Vec<Edge>, axis: Axis, cell: &Cell) -> Result<(), AllocError>
     requires light { IsLight cell.now }
     requires limits { AllByRecursion (IsLimit cell.now) cell.now.limits }
-    ensures { OnOk result (edges.new.items ≡ edges.old.items ++ flat_map (limit_edges axis) cell.now.limits) }
+    ensures { OnOk result (edges.new.items ≡ edges.old.items ++ limits_of axis cell.now) }
 {
     for limit in cell.limits.as_slice() {
         if is_limit_of(axis, limit.axis) {

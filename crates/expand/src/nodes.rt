@@ -1,10 +1,11 @@
 //! The items of a node.
 
-ghost use Rattle.std.specs.Prelude.{◌≡◌, ◌<◌, ◌^◌, ◌++◌, map, OnOk};
+ghost use Rattle.std.specs.Prelude.{◌≡◌, ◌+ℤ◌, ◌<◌, ◌^◌, ◌++◌, map, OnOk};
 ghost use Rattle.cell_model.specs.declared.cell.NodeKind.TheVariants.{Contact};
+ghost use Rattle.cell_model.specs.Wiring.{buried_pad};
 ghost use Rattle.cell_model.specs.Sound.{IsKind};
-ghost use Rattle.expand.specs.Bounds.{IsHalfSize};
-ghost use Rattle.rule_table.specs.declared.classes.Class.TheVariants.{M, C};
+ghost use Rattle.expand.specs.Bounds.{IsHalfSize, IsSmall};
+ghost use Rattle.rule_table.specs.declared.classes.Class.TheVariants.{M, C, B};
 ghost use Rattle.rule_table.specs.Technology.{numbers_of, pad_of};
 ghost use Rattle.expand.specs.Variables.{half};
 ghost use Rattle.expand.specs.NodeItems.{item_running, square_round, standing_at, buried_items, channel_items, kind_items};
@@ -90,14 +91,16 @@ fn cut_square(tech: &Tech, node: u32, net: u32) -> Item
     square_round(node, Class::C, net, half(cut_size(tech)))
 }
 
-// An item of a buried contact, which stands at it.
-fn standing_at(contact: u32, item: Item) -> Item
-    ensures { result ≡ standing_at contact item }
+// The square of this half size round a buried contact, which stands at it.
+fn standing_square(contact: u32, class: Class, net: u32, half_size: i64) -> Item
+    requires contact { contact < 2 ^ 31 }
+    requires half_size { IsSmall half_size }
+    ensures { result ≡ standing_at contact (square_round contact class net half_size) }
 {
     Item {
         at_low: contact,
         at_high: contact,
-        ..item
+        ..square_round(contact, class, net, half_size)
     }
 }
 
@@ -109,27 +112,34 @@ fn window_past(tech: &Tech) -> i64
     tech.numbers().extension_buried
 }
 
+// The pad of a buried contact, in poly or diffusion.
+fn buried_square(tech: &Tech, node: u32, class: Class, net: u32) -> Item
+    requires { node < 2 ^ 31 }
+    ensures { result ≡ standing_at node (square_round node class net (half (buried_pad tech.now))) }
+{
+    standing_square(node, class, net, half(buried_pad(tech)))
+}
+
+// The window of a buried contact.
+fn window(tech: &Tech, node: u32, net: u32) -> Item
+    requires { node < 2 ^ 31 }
+    ensures { result ≡ standing_at node (square_round node B net (half (buried_pad tech.now) +ℤ (numbers_of tech.now).extension_buried)) }
+{
+    let half_size = extended(half(buried_pad(tech)), window_past(tech));
+    standing_square(node, Class::B, net, half_size)
+}
+
 // Adds the items of a buried contact: poly and diffusion on its pad, and the window.
-fn push_buried(
-    list: &mut Vec<Item>,
-    tech: &Tech,
-    node: u32,
-    net: u32,
-) -> Result<(), AllocError>
+fn push_buried(list: &mut Vec<Item>, tech: &Tech, node: u32, net: u32) -> Result<(), AllocError>
     requires { node < 2 ^ 31 }
     ensures { OnOk result (list.new.items ≡ list.old.items ++ buried_items tech.now node net) }
 {
-    let pad = half(buried_pad(tech));
-    let boxes = [
-        square_round(node, Class::P, net, pad),
-        square_round(node, Class::Dm, net, pad),
-        square_round(node, Class::Dc, net, pad),
-        square_round(node, Class::B, net, extended(pad, window_past(tech))),
-    ];
-    for item in boxes {
-        list.push(standing_at(node, item))?;
-    }
-    Ok(())
+    list.extend_from_slice(&[
+        buried_square(tech, node, Class::P, net),
+        buried_square(tech, node, Class::Dm, net),
+        buried_square(tech, node, Class::Dc, net),
+        window(tech, node, net),
+    ])
 }
 
 // Adds the items of a transistor whose channel has the half sizes `x` along the gate and `y` across it, in u.

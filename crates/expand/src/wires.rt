@@ -6,7 +6,7 @@ ghost use Rattle.sym_items.specs.Standing.{nowhere};
 ghost use Rattle.rule_table.specs.Technology.{numbers_of};
 ghost use Rattle.cell_model.specs.Sound.{IsKind, IsEnd, IsWire, IsSound, IsLight, node_at};
 ghost use Rattle.expand.specs.Bounds.{IsHalfSize, IsNear};
-ghost use Rattle.expand.specs.WireItems.{half_channel, reach, low_end_of, high_end_of, contact_at, run_item, wire_items};
+ghost use Rattle.expand.specs.WireItems.{half_channel, reach, reach_at, terminal, contact_at, run_item, wire_items};
 
 use crate::boxes::{centre, extended, half, item_running, negated, push_on_layer};
 use cell_model::{Axis2, Cell, NodeKind, Wire, WireEnd};
@@ -59,37 +59,29 @@ pub fn kind_at(cell: &Cell, node: u32) -> NodeKind
     cell.nodes.as_slice()[node as usize].kind
 }
 
-// Where a wire begins.
-fn low_end(tech: &Tech, cell: &Cell, wire: &Wire, end: WireEnd) -> End
+// How far past a terminal a wire goes that ends there, in u. At a port it ends on the border.
+fn reach_at(tech: &Tech, cell: &Cell, wire: &Wire, end: WireEnd) -> i64
     requires sound { IsSound tech.now cell.now }
-    requires light { IsLight cell.now }
     requires size { IsSize wire.now.width }
     requires end { IsEnd cell.now end }
-    ensures { result ≡ low_end_of tech.now cell.now wire.now end }
+    ensures value { result ≡ reach_at tech.now cell.now wire.now end }
+    ensures near { IsNear result }
 {
     match end {
-        WireEnd::Node(node) => End {
-            var: centre(node),
-            off: negated(reach(tech, kind_at(cell, node), wire.width, wire.along)),
-        },
-        WireEnd::Port(_) => End { var: 0, off: 0 },
+        WireEnd::Node(node) => reach(tech, kind_at(cell, node), wire.width, wire.along),
+        WireEnd::Port(_) => 0,
     }
 }
 
-// Where a wire ends.
-fn high_end(tech: &Tech, cell: &Cell, wire: &Wire, end: WireEnd) -> End
-    requires sound { IsSound tech.now cell.now }
+// The variable of a terminal: a node's centre, or the border on which a port lies.
+fn terminal(cell: &Cell, border: u32, end: WireEnd) -> u32
     requires light { IsLight cell.now }
-    requires size { IsSize wire.now.width }
     requires end { IsEnd cell.now end }
-    ensures { result ≡ high_end_of tech.now cell.now wire.now end }
+    ensures { result ≡ terminal border end }
 {
     match end {
-        WireEnd::Node(node) => End {
-            var: centre(node),
-            off: reach(tech, kind_at(cell, node), wire.width, wire.along),
-        },
-        WireEnd::Port(_) => End { var: 1, off: 0 },
+        WireEnd::Node(node) => centre(node),
+        WireEnd::Port(_) => border,
     }
 }
 
@@ -149,8 +141,14 @@ pub fn push_wire(
     requires wire { IsWire tech.now cell.now wire.now }
     ensures { OnOk result (list.new.items ≡ list.old.items ++ wire_items tech.now cell.now owner net cross wire.now) }
 {
-    let low = low_end(tech, cell, wire, wire.low);
-    let high = high_end(tech, cell, wire, wire.high);
+    let low = End {
+        var: terminal(cell, 0, wire.low),
+        off: negated(reach_at(tech, cell, wire, wire.low)),
+    };
+    let high = End {
+        var: terminal(cell, 1, wire.high),
+        off: reach_at(tech, cell, wire, wire.high),
+    };
     let run = Item {
         at_low: contact_at(cell, wire.low),
         at_high: contact_at(cell, wire.high),
