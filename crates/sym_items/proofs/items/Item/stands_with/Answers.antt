@@ -1,4 +1,4 @@
-use Rattle.std.proofs.Common.{◌≡◌, rules}
+use Rattle.std.proofs.Common.{rules}
 use Rattle.std.proofs.lemmas.Bool.Decides.{Decides-at}
 use Rattle.sym_items.specs.Standing.{stand_together}
 use Rattle.sym_items.proofs.Together.{together_exactly}
@@ -7,11 +7,9 @@ use Rattle.sym_items.proofs.items.Item.stands_with.Goals as goal
 pub returns-then-stands_at-clause-meaning : goal.returns-then-stands_at-clause-meaning
 unfolding stand_together
 returns-then-stands_at-clause-meaning c =
-    let told : c.stands_at.result ≡ stand_together c.args.self.now c.args.other.now = search rules in
-    Decides-at c.stands_at.result (stand_together c.args.self.now c.args.other.now) told (together_exactly c.args.self.now c.args.other.now)
+    Decides-at c.stands_at.result (stand_together c.args.self.now c.args.other.now) (search rules) (together_exactly c.args.self.now c.args.other.now)
 
 pub returns-else-stands_at-clause-meaning : goal.returns-else-stands_at-clause-meaning
 unfolding stand_together
 returns-else-stands_at-clause-meaning c =
-    let told : c.stands_at-else-stands_at.result ≡ stand_together c.args.self.now c.args.other.now = search rules in
-    Decides-at c.stands_at-else-stands_at.result (stand_together c.args.self.now c.args.other.now) told (together_exactly c.args.self.now c.args.other.now)
+    Decides-at c.stands_at-else-stands_at.result (stand_together c.args.self.now c.args.other.now) (search rules) (together_exactly c.args.self.now c.args.other.now)
