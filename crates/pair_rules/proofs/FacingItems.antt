@@ -1,5 +1,5 @@
 -- The spacing that is computed of two items is there exactly where they are a candidate.
-use Rattle.std.proofs.Common.{◌≡◌, ◌↔◌, Bool, true, false, ℤ, pos, ◌+ℤ◌, ◌≤ℤ◌, ◌<ℤ◌, Option, Some, None, refl, sym, ap, ◌∙◌, subst, arith, unwrap_or}
+use Rattle.std.proofs.Common.{◌≡◌, ◌↔◌, Bool, true, false, ℤ, ◌+ℤ◌, ◌≤ℤ◌, ◌<ℤ◌, Option, Some, None, refl, sym, ap, ◌∙◌, subst, arith}
 use Rattle.std.specs.Prelude.{int_lt, int_le, is_some, IsTrue}
 use Rattle.std.specs.Bool.{then_some}
 use Rattle.std.proofs.lemmas.Int.{ints}
@@ -11,15 +11,13 @@ use Rattle.sym_items.specs.declared.items.Coords.{Coords}
 use Rattle.sym_items.specs.Sides.{Sides, gap_on_y}
 use Rattle.pair_rules.specs.Bound.{bound_spacing}
 use Rattle.pair_rules.specs.Candidates.{IsCandidate, sides_at, is_before, spacing_before, facing_spacing}
+use Rattle.pair_rules.proofs.BoundItems.{same_some}
 
 less : (a b : ℤ) → int_lt a b ≡ true → a <ℤ b
 less a b e = grind (arith, ints)
 
 at_most : (a b : ℤ) → int_le a b ≡ true → a ≤ℤ b
 at_most a b e = grind (arith, ints)
-
-same_some : (a b : ℤ) → Some a ≡ Some b → a ≡ b
-same_some a b e = ap (λ o. unwrap_or o (pos 0)) e
 
 chosen : (z s : ℤ) (q : Bool) → then_some q z ≡ Some s → (q ≡ true) × (z ≡ s)
 chosen z s true e = (refl, same_some z s e)

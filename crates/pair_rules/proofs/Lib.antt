@@ -1,4 +1,5 @@
 pub mod EitherOrder
+pub mod BoundItems
 pub mod Pieces
 pub mod Staying
 pub mod CleanPairs

@@ -7,14 +7,14 @@ use Rattle.rule_table.specs.declared.technology.Tech.{Tech}
 use Rattle.rule_table.specs.Technology.{spacing_of}
 use Rattle.sym_items.specs.declared.items.End.{End}
 use Rattle.sym_items.specs.declared.items.Item.{Item}
-use Rattle.sym_items.specs.Standing.{nowhere, StandTogether, stand_together}
+use Rattle.sym_items.specs.Standing.{StandTogether, stand_together}
 
 -- what is read past the end of a list of items
 abbrev pub no_end : End
 no_end = record { var = 0; off = pos 0 }
 
 abbrev pub no_item : Item
-no_item = record { class = M; net = 0; owner = 0; xl = no_end; xh = no_end; yl = no_end; yh = no_end; least_x = pos 0; least_y = pos 0; at_low = nowhere; at_high = nowhere }
+no_item = record { class = M; net = 0; owner = 0; xl = no_end; xh = no_end; yl = no_end; yh = no_end; least_x = pos 0; least_y = pos 0; at_low = 0; at_high = 0 }
 
 -- item number k
 abbrev pub item_at : List Item → ℕ → Item

@@ -1,10 +1,10 @@
 //! Which items have to keep a spacing, and which of them face each other along an axis.
 //!
 //! Two items are bound where the spacing table has a rule for their classes and their owners differ, unless the rule
-//! exempts items of one net and their nets are equal, or they are poly and diffusion that stand at one buried contact. A layout is clean where every two bound items lie at least their
-//! spacing apart, by the Chebyshev distance of their boxes. For the layer above: `facing` is the candidate relation,
-//! `all_pairs` the list of all candidates, and a clean layout whose candidates of an axis keep their spacing on it
-//! stays clean, wherever else its items move there. Lengths are in u.
+//! exempts items of one net and their nets are equal, or they are poly and diffusion that stand at one buried contact. A
+//! layout is clean where every two bound items lie at least their spacing apart, by the Chebyshev distance of their boxes.
+//! For the layer above: `facing` is the candidate relation, `all_pairs` the list of all candidates, and a clean layout whose
+//! candidates of an axis keep their spacing on it stays clean, wherever else its items move there. Lengths are in u.
 #![tactic(auto)]
 
 mod bound;

@@ -192,6 +192,53 @@ fn items_are_bound_by_classes_owners_and_nets(rt: HostRuntime) {
     );
 }
 
+// A box of an owner, of net 0, that stands at two buried contacts.
+fn standing(class: Class, owner: u32, at_low: u32, at_high: u32) -> Item {
+    Item {
+        class,
+        owner,
+        at_low,
+        at_high,
+        ..joint(0, 0)
+    }
+}
+
+#[test]
+fn a_buried_contact_joins_the_poly_and_the_diffusion_that_stand_at_it(rt: HostRuntime) {
+    let tech = Tech::shipped();
+    let wire = standing(Class::P, 1, 3, 7);
+    let pad = standing(Class::Dm, 2, 3, 3);
+    assert_eq!(rt; is_bound(&tech, &wire, &pad), None);
+    assert_eq!(rt; is_bound(&tech, &pad, &wire), None);
+    assert_eq!(rt; is_bound(&tech, &wire, &standing(Class::Dm, 2, 7, 7)), None);
+    assert_eq!(rt;
+        is_bound(&tech, &wire, &standing(Class::Dm, 2, NOWHERE, 3)),
+        None
+    );
+    assert_eq!(rt;
+        is_bound(&tech, &wire, &standing(Class::Dm, 2, 5, 5)),
+        Some(2)
+    );
+    assert_eq!(rt; is_bound(&tech, &wire, &Item { net: 1, ..pad }), None);
+}
+
+#[test]
+fn other_items_of_a_buried_contact_are_bound(rt: HostRuntime) {
+    let tech = Tech::shipped();
+    let wire = standing(Class::P, 1, 3, NOWHERE);
+    let other = standing(Class::P, 2, 3, NOWHERE);
+    assert_eq!(rt; is_bound(&tech, &wire, &Item { net: 1, ..other }), Some(4));
+    assert_eq!(rt;
+        is_bound(&tech, &wire, &standing(Class::Dm, 2, NOWHERE, NOWHERE)),
+        Some(2)
+    );
+    let apart = standing(Class::P, 1, NOWHERE, NOWHERE);
+    assert_eq!(rt;
+        is_bound(&tech, &apart, &standing(Class::Dm, 2, NOWHERE, NOWHERE)),
+        Some(2)
+    );
+}
+
 fn is_shared<T: Send + Sync>(_value: &T) -> bool {
     true
 }
