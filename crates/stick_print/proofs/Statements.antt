@@ -1,6 +1,7 @@
 -- A printed line says what it was printed from.
-use Rattle.std.proofs.Common.{◌≡◌, ℕ, ◌<◌, ◌≤◌, ℤ, pos, Bool, true, false, leb, List, [], ◌∷◌, ◌++◌, length, map, Option, Some, None, Result, Ok, refl, ap, ◌∙◌, arith, codes, lit<, lit≤}
+use Rattle.std.proofs.Common.{◌≡◌, ℕ, ◌<◌, ◌≤◌, ℤ, pos, Bool, true, false, cond, leb, List, [], ◌∷◌, ◌++◌, length, map, Option, Some, None, Result, Ok, refl, ap, ◌∙◌, arith, codes, lit<, lit≤}
 use Rattle.std.specs.List.{AllByRecursion}
+use Rattle.std.specs.Str.{bytes_eq}
 use Rattle.std.proofs.lemmas.Bool.{le-leb}
 use Rattle.stick_lex.specs.declared.token.Token.{Token}
 use Rattle.stick_lex.specs.declared.token.LexFault.{LexFault}
@@ -11,16 +12,16 @@ use Rattle.stick_parse.specs.declared.design.Layer.TheVariants.{Diffusion, Poly,
 use Rattle.lam_geom.specs.declared.boxes.Side.{Side}
 use Rattle.lam_geom.specs.declared.boxes.Side.TheVariants.{Left, Right, Bottom, Top}
 use Rattle.stick_parse.specs.declared.design.Form.{Form}
-use Rattle.stick_parse.specs.declared.design.Form.TheVariants.{Joint, Contact, Fet, Port, Inst, Wire, Limit}
+use Rattle.stick_parse.specs.declared.design.Form.TheVariants.{Joint, Contact, Buried, Fet, Port, Inst, Wire, Limit}
 use Rattle.stick_parse.specs.declared.design.Statement.{Statement}
 use Rattle.stick_parse.specs.declared.design.Statement.TheVariants.{Version, Cell, Item, Grid, Row, End}
 use Rattle.stick_parse.specs.Reading.{◌>>=◌}
 use Rattle.stick_parse.specs.Words.{Word, Path, Number, word_of, path_at, name_at, number_at, count_at, optional_count_at, at_most_at, layer_at, lower_at, side_at, either_at, ended}
-use Rattle.stick_parse.specs.Forms.{joint_of, contact_of, fet_of, port_of, use_of, wire_of, limit_of, version_of, cell_of, names_of, row_of, alone, form_named, item_named, statement_named, statement_of}
+use Rattle.stick_parse.specs.Forms.{joint_of, contact_of, buried_of, fet_of, port_of, use_of, wire_of, limit_of, version_of, cell_of, names_of, row_of, alone, form_named, item_named, statement_named, statement_of}
 use Rattle.stick_parse.specs.Lines.{tokens_or_kind, said_by_words, said_by}
-use Rattle.stick_parse.specs.Writable.{IsName, IsWidth, IsLower, IsForm}
+use Rattle.stick_parse.specs.Writable.{IsName, IsWidth, IsLower, IsForm, IsStatement}
 use Rattle.stick_print.specs.Canonical.{layer_word, side_word, kind_word, direction_word, axis_word, bound_word, width_words, form_keyword, form_words, keyword_of, words_of, spaced}
-use Rattle.stick_print.specs.Said.{width_said, bound_said, form_said, said, IsStatement}
+use Rattle.stick_print.specs.Said.{width_said, bound_said, form_said, said}
 use Rattle.stick_print.proofs.Split.{IsPlain, Says, AllSay, plain_texts, words_again}
 use Rattle.stick_print.proofs.Spelled.{first_branch, says_name, says_path, says_count, says_number, says_at_most, says_at_least, says_digits}
 
@@ -37,17 +38,9 @@ side_path Right = refl
 side_path Bottom = refl
 side_path Top = refl
 
-kind_path : (b : Bool) → is_path (kind_word b) ≡ true
-kind_path true = refl
-kind_path false = refl
-
-direction_path : (b : Bool) → is_path (direction_word b) ≡ true
-direction_path true = refl
-direction_path false = refl
-
-axis_path : (b : Bool) → is_path (axis_word b) ≡ true
-axis_path true = refl
-axis_path false = refl
+either_path : (first second : List ℕ) (b : Bool) → is_path first ≡ true → is_path second ≡ true → is_path (cond b second first) ≡ true
+either_path first second true e k = k
+either_path first second false e k = e
 
 says_bound : (b : Bool) → Says (bound_word b) (bound_said b)
 says_bound true = says_at_most
@@ -67,11 +60,12 @@ says_layer layer = says_path (layer_word layer) (layer_path layer)
 says_form : (form : Form) → IsForm form → AllSay (form_words form) (form_said form)
 says_form (Joint name layer col row width) h = (says_name name h.0, (says_layer layer, (says_count col h.1, (says_count row h.2, says_width width h.3))))
 says_form (Contact name lower col row) h = (says_name name h.0, (says_layer lower, (says_count col h.2, (says_count row h.3, tt))))
-says_form (Fet name depletion vertical col row w l) h = (says_name name h.0, (says_path (kind_word depletion) (kind_path depletion), (says_path (direction_word vertical) (direction_path vertical), (says_count col h.1, (says_count row h.2, (says_count w h.3, (says_count l h.4, tt)))))))
+says_form (Buried name col row) h = (says_name name h.0, (says_count col h.1, (says_count row h.2, tt)))
+says_form (Fet name depletion vertical col row w l) h = (says_name name h.0, (says_path (kind_word depletion) (either_path (codes "enh") (codes "dep") depletion refl refl), (says_path (direction_word vertical) (either_path (codes "h") (codes "v") vertical refl refl), (says_count col h.1, (says_count row h.2, (says_count w h.3, (says_count l h.4, tt)))))))
 says_form (Port name side layer place) h = (says_name name h.0, (says_path (side_word side) (side_path side), (says_layer layer, (says_count place h.1, tt))))
 says_form (Inst name cell col row) h = (says_name name h.0, (says_name cell h.1, (says_count col h.2, (says_count row h.3, tt))))
 says_form (Wire layer a b width) h = (says_layer layer, (says_path a h.0, (says_path b h.1, says_width width h.2)))
-says_form (Limit vertical a b at_most n) h = (says_path (axis_word vertical) (axis_path vertical), (says_path a h.0, (says_path b h.1, (says_bound at_most, (says_number n h.2, tt)))))
+says_form (Limit vertical a b at_most n) h = (says_path (axis_word vertical) (either_path (codes "x") (codes "y") vertical refl refl), (says_path a h.0, (says_path b h.1, (says_bound at_most, (says_number n h.2, tt)))))
 
 says_words : (statement : Statement) → IsStatement statement → AllSay (words_of statement) (said statement)
 says_words Version h = (says_digits (codes "1") 1 (lit< tt) (lit< tt, tt) refl (lit≤ tt), tt)
@@ -84,6 +78,7 @@ says_words End h = tt
 form_keyword_path : (form : Form) → is_path (form_keyword form) ≡ true
 form_keyword_path (Joint name layer col row width) = refl
 form_keyword_path (Contact name lower col row) = refl
+form_keyword_path (Buried name col row) = refl
 form_keyword_path (Fet name depletion vertical col row w l) = refl
 form_keyword_path (Port name side layer place) = refl
 form_keyword_path (Inst name cell col row) = refl
@@ -140,20 +135,10 @@ side_again Right rest = refl
 side_again Bottom rest = refl
 side_again Top rest = refl
 
-kind_again : (b : Bool) (rest : List Word) → either_at (codes "enh") (codes "dep") (Path (kind_word b) ∷ rest) ≡ Ok (b, rest)
+either_again : (first second : List ℕ) (b : Bool) (rest : List Word) → bytes_eq first first ≡ true → bytes_eq second first ≡ false → bytes_eq second second ≡ true → either_at first second (Path (cond b second first) ∷ rest) ≡ Ok (b, rest)
 unfolding either_at path_at
-kind_again true rest = refl
-kind_again false rest = refl
-
-direction_again : (b : Bool) (rest : List Word) → either_at (codes "h") (codes "v") (Path (direction_word b) ∷ rest) ≡ Ok (b, rest)
-unfolding either_at path_at
-direction_again true rest = refl
-direction_again false rest = refl
-
-axis_again : (b : Bool) (rest : List Word) → either_at (codes "x") (codes "y") (Path (axis_word b) ∷ rest) ≡ Ok (b, rest)
-unfolding either_at path_at
-axis_again true rest = refl
-axis_again false rest = refl
+either_again first second false rest one other two = rw (one) refl
+either_again first second true rest one other two = rw (other, two) refl
 
 bound_again : (b : Bool) (rest : List Word) → at_most_at (bound_said b ∷ rest) ≡ Ok (b, rest)
 unfolding at_most_at
@@ -174,11 +159,15 @@ contact_again : (name : List ℕ) (lower : Layer) (col row : ℕ) → IsForm (Co
 unfolding contact_of
 contact_again name lower col row h = rw (name_again name (Path (layer_word lower) ∷ Number (pos col) ∷ Number (pos row) ∷ []) h.0, lower_again lower (Number (pos col) ∷ Number (pos row) ∷ []) h.1, count_again col (Number (pos row) ∷ []) h.2, count_again row [] h.3, none_left) refl
 
+buried_again : (name : List ℕ) (col row : ℕ) → IsForm (Buried name col row) → buried_of (form_said (Buried name col row)) ≡ Ok (Buried name col row)
+unfolding buried_of
+buried_again name col row h = rw (name_again name (Number (pos col) ∷ Number (pos row) ∷ []) h.0, count_again col (Number (pos row) ∷ []) h.1, count_again row [] h.2, none_left) refl
+
 fet_again : (name : List ℕ) (depletion vertical : Bool) (col row w l : ℕ) → IsForm (Fet name depletion vertical col row w l) → fet_of (form_said (Fet name depletion vertical col row w l)) ≡ Ok (Fet name depletion vertical col row w l)
 unfolding fet_of
 fet_again name depletion vertical col row w l h =
     let four : List Word = Number (pos col) ∷ Number (pos row) ∷ Number (pos w) ∷ Number (pos l) ∷ [] in
-    rw (name_again name (Path (kind_word depletion) ∷ Path (direction_word vertical) ∷ four) h.0, kind_again depletion (Path (direction_word vertical) ∷ four), direction_again vertical four, count_again col (Number (pos row) ∷ Number (pos w) ∷ Number (pos l) ∷ []) h.1, count_again row (Number (pos w) ∷ Number (pos l) ∷ []) h.2, count_again w (Number (pos l) ∷ []) h.3, count_again l [] h.4, none_left) refl
+    rw (name_again name (Path (kind_word depletion) ∷ Path (direction_word vertical) ∷ four) h.0, either_again (codes "enh") (codes "dep") depletion (Path (direction_word vertical) ∷ four) refl refl refl, either_again (codes "h") (codes "v") vertical four refl refl refl, count_again col (Number (pos row) ∷ Number (pos w) ∷ Number (pos l) ∷ []) h.1, count_again row (Number (pos w) ∷ Number (pos l) ∷ []) h.2, count_again w (Number (pos l) ∷ []) h.3, count_again l [] h.4, none_left) refl
 
 port_again : (name : List ℕ) (side : Side) (layer : Layer) (place : ℕ) → IsForm (Port name side layer place) → port_of (form_said (Port name side layer place)) ≡ Ok (Port name side layer place)
 unfolding port_of
@@ -194,7 +183,7 @@ wire_again layer a b width h = rw (layer_again layer (Path a ∷ Path b ∷ widt
 
 limit_again : (vertical : Bool) (a b : List ℕ) (at_most : Bool) (n : ℤ) → limit_of (form_said (Limit vertical a b at_most n)) ≡ Ok (Limit vertical a b at_most n)
 unfolding limit_of
-limit_again vertical a b at_most n = rw (axis_again vertical (Path a ∷ Path b ∷ bound_said at_most ∷ Number n ∷ []), path_again a (Path b ∷ bound_said at_most ∷ Number n ∷ []), path_again b (bound_said at_most ∷ Number n ∷ []), bound_again at_most (Number n ∷ []), number_again n [], none_left) refl
+limit_again vertical a b at_most n = rw (either_again (codes "x") (codes "y") vertical (Path a ∷ Path b ∷ bound_said at_most ∷ Number n ∷ []) refl refl refl, path_again a (Path b ∷ bound_said at_most ∷ Number n ∷ []), path_again b (bound_said at_most ∷ Number n ∷ []), bound_again at_most (Number n ∷ []), number_again n [], none_left) refl
 
 -- ---- each statement
 
@@ -224,6 +213,7 @@ form_again : (form : Form) → IsForm form → form_named (form_keyword form) (f
 unfolding form_named
 form_again (Joint name layer col row width) h = joint_again name layer col row width h
 form_again (Contact name lower col row) h = contact_again name lower col row h
+form_again (Buried name col row) h = buried_again name col row h
 form_again (Fet name depletion vertical col row w l) h = fet_again name depletion vertical col row w l h
 form_again (Port name side layer place) h = port_again name side layer place h
 form_again (Inst name cell col row) h = use_again name cell col row h
@@ -238,6 +228,7 @@ item_keyword : (form : Form) (words : List Word) → statement_named (form_keywo
 unfolding statement_named
 item_keyword (Joint name layer col row width) words = refl
 item_keyword (Contact name lower col row) words = refl
+item_keyword (Buried name col row) words = refl
 item_keyword (Fet name depletion vertical col row w l) words = refl
 item_keyword (Port name side layer place) words = refl
 item_keyword (Inst name cell col row) words = refl

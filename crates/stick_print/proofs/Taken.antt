@@ -10,11 +10,11 @@ use Rattle.stick_parse.specs.declared.design.Layer.TheVariants.{Diffusion, Poly,
 use Rattle.lam_geom.specs.declared.boxes.Side.{Side}
 use Rattle.lam_geom.specs.declared.boxes.Side.TheVariants.{Left, Right, Bottom, Top}
 use Rattle.stick_parse.specs.declared.design.Form.{Form}
-use Rattle.stick_parse.specs.declared.design.Form.TheVariants.{Joint, Contact, Fet, Port, Inst, Wire, Limit}
+use Rattle.stick_parse.specs.declared.design.Form.TheVariants.{Joint, Contact, Buried, Fet, Port, Inst, Wire, Limit}
 use Rattle.stick_parse.specs.declared.design.Statement.{Statement}
 use Rattle.stick_parse.specs.declared.design.Statement.TheVariants.{Version, Cell, Item, Grid, Row, End}
-use Rattle.stick_parse.specs.Words.{Word, Path, Number, AtMost, AtLeast, path_at, name_at, number_at, count_of, count_at, optional_count_at, at_most_at, layer_named, layer_at, lower_named, lower_at, side_named, side_at, second_of, either_at, ended}
-use Rattle.stick_parse.specs.Forms.{joint_of, contact_of, fet_of, port_of, use_of, wire_of, limit_of, version_of, cell_of, names_of, row_of, alone, form_named, item_named, statement_named, statement_of}
+use Rattle.stick_parse.specs.Words.{Word, Path, Number, AtMost, AtLeast, Front, path_at, name_at, number_at, count_of, count_at, optional_count_at, at_most_at, value_at, layer_named, layer_at, lower_named, lower_at, side_named, side_at, second_of, either_at, ended}
+use Rattle.stick_parse.specs.Forms.{start, ◌&◌, whole, joint_of, contact_of, buried_of, fet_of, port_of, use_of, wire_of, limit_of, version_of, cell_of, names_of, row_of, alone, form_named, item_named, statement_named, statement_of}
 use Rattle.stick_parse.proofs.Written.{Holds, then_holds}
 use Rattle.stick_print.specs.Canonical.{layer_word, side_word, form_keyword, keyword_of}
 use Rattle.stick_print.specs.Said.{width_said, bound_said, form_said, said}
@@ -61,11 +61,8 @@ same text word e = (bytes_eq-Decides text word).0 e
 
 path_from : (ws : List Word) → Holds (Paths ws) (path_at ws)
 unfolding path_at
-path_from [] = tt
 path_from (Path text ∷ rest) = refl
-path_from (Number n ∷ rest) = tt
-path_from (AtMost ∷ rest) = tt
-path_from (AtLeast ∷ rest) = tt
+path_from ws = tt
 
 name_from : (ws : List Word) → Holds (Paths ws) (name_at ws)
 unfolding name_at
@@ -73,11 +70,8 @@ name_from ws = then_holds (Paths ws) (Paths ws) (path_at ws) _ (path_from ws) (�
 
 number_from : (ws : List Word) → Holds (Numbers ws) (number_at ws)
 unfolding number_at
-number_from [] = tt
-number_from (Path text ∷ rest) = tt
 number_from (Number n ∷ rest) = refl
-number_from (AtMost ∷ rest) = tt
-number_from (AtLeast ∷ rest) = tt
+number_from ws = tt
 
 count_by : (z : ℤ) (ws rest : List Word) → ws ≡ Number z ∷ rest → Holds (Counts ws) (count_of z rest)
 count_by (pos n) ws rest e = if_read (Counts ws) (leb n 1000000) (n, rest) (Err BadLine) (λ small. e) tt
@@ -94,11 +88,9 @@ width_from (w ∷ ws) = then_holds (Counts (w ∷ ws)) (Widths (w ∷ ws)) (coun
 
 bound_from : (ws : List Word) → Holds (Bounds ws) (at_most_at ws)
 unfolding at_most_at
-bound_from [] = tt
-bound_from (Path text ∷ rest) = tt
-bound_from (Number n ∷ rest) = tt
 bound_from (AtMost ∷ rest) = refl
 bound_from (AtLeast ∷ rest) = refl
+bound_from ws = tt
 
 ended_from : (ws : List Word) → Holds (Ended ws) (ended ws)
 unfolding ended
@@ -140,30 +132,55 @@ either_word_from first second text =
 in_front : (ws : List Word) (text word : List ℕ) (rest : List Word) → ws ≡ Path text ∷ rest → text ≡ word → ws ≡ Path word ∷ rest
 in_front ws text word rest e k = e ∙ ap (λ (t : List ℕ). Path t ∷ rest) k
 
+value_from : {A : Type 0} (says : A → List ℕ) (value_of : List ℕ → Result A StickKind) → ((text : List ℕ) → Holds (λ x. text ≡ says x) (value_of text)) → (ws : List Word) → Holds (λ x. ws ≡ Path (says x.0) ∷ x.1) (value_at value_of ws)
+value_from says value_of each ws = then_holds (Paths ws) (λ x. ws ≡ Path (says x.0) ∷ x.1) (path_at ws) _ (path_from ws) (λ path k.
+    then_holds (λ x. path.0 ≡ says x) (λ x. ws ≡ Path (says x.0) ∷ x.1) (value_of path.0) (λ value. Ok (value, path.1)) (each path.0) (λ value e. in_front ws path.0 (says value) path.1 k e))
+
 layer_from : (ws : List Word) → Holds (Layers ws) (layer_at ws)
 unfolding layer_at
-layer_from ws = then_holds (Paths ws) (Layers ws) (path_at ws) _ (path_from ws) (λ path k.
-    then_holds (IsLayer path.0) (Layers ws) (layer_named path.0) (λ layer. Ok (layer, path.1)) (layer_word_from path.0) (λ layer e. in_front ws path.0 (layer_word layer) path.1 k e))
+layer_from ws = value_from layer_word layer_named layer_word_from ws
 
 lower_from : (ws : List Word) → Holds (Layers ws) (lower_at ws)
 unfolding lower_at
-lower_from ws = then_holds (Paths ws) (Layers ws) (path_at ws) _ (path_from ws) (λ path k.
-    then_holds (IsLayer path.0) (Layers ws) (lower_named path.0) (λ layer. Ok (layer, path.1)) (lower_word_from path.0) (λ layer e. in_front ws path.0 (layer_word layer) path.1 k e))
+lower_from ws = value_from layer_word lower_named lower_word_from ws
 
 side_from : (ws : List Word) → Holds (Sides ws) (side_at ws)
 unfolding side_at
-side_from ws = then_holds (Paths ws) (Sides ws) (path_at ws) _ (path_from ws) (λ path k.
-    then_holds (IsSide path.0) (Sides ws) (side_named path.0) (λ side. Ok (side, path.1)) (side_word_from path.0) (λ side e. in_front ws path.0 (side_word side) path.1 k e))
+side_from ws = value_from side_word side_named side_word_from ws
 
 either_from : (first second : List ℕ) (ws : List Word) → Holds (Eithers first second ws) (either_at first second ws)
 unfolding either_at
-either_from first second ws = then_holds (Paths ws) (Eithers first second ws) (path_at ws) _ (path_from ws) (λ path k.
-    then_holds (IsEither first second path.0) (Eithers first second ws) (second_of first second path.0) (λ choice. Ok (choice, path.1)) (either_word_from first second path.0) (λ b e. in_front ws path.0 (cond b second first) path.1 k e))
+either_from first second ws = value_from (λ b. cond b second first) (second_of first second) (either_word_from first second) ws
 
 -- a width where nothing stands behind it
 width_last : (width : Option ℕ) (ws rest : List Word) → ws ≡ width_said width ++ rest → rest ≡ [] → ws ≡ width_said width
 width_last None ws rest e k = e ∙ k
 width_last (Some n) ws rest e k = e ∙ ap (λ (r : List Word). Number (pos n) ∷ r) k
+
+-- ---- a line word by word
+
+-- what is made so far, if anything, and the words that are left have this property
+record IsRead {F : Type 0} (Q : F → List Word → Type 0) (made : Front F) : Type 0 where
+  holds : Holds (λ x. Q x.0 x.1) made
+
+-- with what is taken in front (as `taken` says) it makes what has Q with the words behind
+Takes : {A B : Type 0} → (List Word → A × List Word → Type 0) → (B → List Word → Type 0) → (A → B) → List Word → Type 0
+Takes {A} taken Q make ws = (x : A × List Word) → taken ws x → Q (make x.0) x.1
+
+-- P holds of it where no word is left
+Behind : {A : Type 0} → (A → Type 0) → A → List Word → Type 0
+Behind P x ws = ws ≡ [] → P x
+
+started : {F : Type 0} (Q : F → List Word → Type 0) (make : F) (ws : List Word) → Q make ws → IsRead Q (start make ws)
+started Q make ws h = record { holds = h }
+
+next_read : {A B : Type 0} (taken : List Word → A × List Word → Type 0) (Q : B → List Word → Type 0) (made : Front (A → B)) (next : List Word → Front A) → ((ws : List Word) → Holds (taken ws) (next ws)) → IsRead (Takes taken Q) made → IsRead Q (made & next)
+unfolding Takes
+next_read taken Q made next each h = record { holds = then_holds (λ make. Takes taken Q make.0 make.1) (λ x. Q x.0 x.1) made _ h.holds (λ make m. then_holds (taken make.1) (λ x. Q x.0 x.1) (next make.1) (λ value. Ok (make.0 value.0, value.1)) (each make.1) (λ value v. m value v)) }
+
+whole_read : {A : Type 0} (P : A → Type 0) (made : Front A) → IsRead (Behind P) made → Holds P (whole made)
+unfolding Behind
+whole_read P made h = then_holds (λ x. Behind P x.0 x.1) P made _ h.holds (λ line k. then_holds (Ended line.1) P (ended line.1) (λ done. Ok line.0) (ended_from line.1) (λ done e. k e))
 
 -- ---- each form
 
@@ -171,87 +188,48 @@ abbrev Says : List ℕ → List Word → Form → Type 0
 Says keyword ws form = (keyword ≡ form_keyword form) × (ws ≡ form_said form)
 
 joint_from : (word : List ℕ) (ws : List Word) → word ≡ codes "joint" → Holds (Says word ws) (joint_of ws)
-unfolding joint_of
-joint_from word ws is =
-    then_holds (Paths ws) (Says word ws) (name_at ws) _ (name_from ws) (λ name a.
-    then_holds (Layers name.1) (Says word ws) (layer_at name.1) _ (layer_from name.1) (λ layer b.
-    then_holds (Counts layer.1) (Says word ws) (count_at layer.1) _ (count_from layer.1) (λ col c.
-    then_holds (Counts col.1) (Says word ws) (count_at col.1) _ (count_from col.1) (λ row d.
-    then_holds (Widths row.1) (Says word ws) (optional_count_at row.1) _ (width_from row.1) (λ width e.
-    then_holds (Ended width.1) (Says word ws) (ended width.1) (λ done. Ok (Joint name.0 layer.0 col.0 row.0 width.0)) (ended_from width.1) (λ done f.
-    let last : row.1 ≡ width_said width.0 = width_last width.0 row.1 width.1 e f in
-    (is, cc)))))))
+unfolding joint_of Takes Behind
+joint_from word ws is = whole_read (Says word ws) _ (next_read Widths _ _ optional_count_at width_from (next_read Counts _ _ count_at count_from (next_read Counts _ _ count_at count_from (next_read Layers _ _ layer_at layer_from (next_read Paths _ _ name_at name_from (started (Takes Paths (Takes Layers (Takes Counts (Takes Counts (Takes Widths (Behind (Says word ws))))))) Joint ws (λ name n layer l col c row r width w end. let last : row.1 ≡ width_said width.0 = width_last width.0 row.1 width.1 w end in (is, cc))))))))
 
 contact_from : (word : List ℕ) (ws : List Word) → word ≡ codes "contact" → Holds (Says word ws) (contact_of ws)
-unfolding contact_of
-contact_from word ws is =
-    then_holds (Paths ws) (Says word ws) (name_at ws) _ (name_from ws) (λ name a.
-    then_holds (Layers name.1) (Says word ws) (lower_at name.1) _ (lower_from name.1) (λ lower b.
-    then_holds (Counts lower.1) (Says word ws) (count_at lower.1) _ (count_from lower.1) (λ col c.
-    then_holds (Counts col.1) (Says word ws) (count_at col.1) _ (count_from col.1) (λ row d.
-    then_holds (Ended row.1) (Says word ws) (ended row.1) (λ done. Ok (Contact name.0 lower.0 col.0 row.0)) (ended_from row.1) (λ done f. (is, cc))))))
+unfolding contact_of Takes Behind
+contact_from word ws is = whole_read (Says word ws) _ (next_read Counts _ _ count_at count_from (next_read Counts _ _ count_at count_from (next_read Layers _ _ lower_at lower_from (next_read Paths _ _ name_at name_from (started (Takes Paths (Takes Layers (Takes Counts (Takes Counts (Behind (Says word ws)))))) Contact ws (λ name n lower l col c row r end. (is, cc)))))))
+
+buried_from : (word : List ℕ) (ws : List Word) → word ≡ codes "buried" → Holds (Says word ws) (buried_of ws)
+unfolding buried_of Takes Behind
+buried_from word ws is = whole_read (Says word ws) _ (next_read Counts _ _ count_at count_from (next_read Counts _ _ count_at count_from (next_read Paths _ _ name_at name_from (started (Takes Paths (Takes Counts (Takes Counts (Behind (Says word ws))))) Buried ws (λ name n col c row r end. (is, cc))))))
 
 fet_from : (word : List ℕ) (ws : List Word) → word ≡ codes "fet" → Holds (Says word ws) (fet_of ws)
-unfolding fet_of
-fet_from word ws is =
-    then_holds (Paths ws) (Says word ws) (name_at ws) _ (name_from ws) (λ name a.
-    then_holds (Eithers (codes "enh") (codes "dep") name.1) (Says word ws) (either_at (codes "enh") (codes "dep") name.1) _ (either_from (codes "enh") (codes "dep") name.1) (λ depletion b.
-    then_holds (Eithers (codes "h") (codes "v") depletion.1) (Says word ws) (either_at (codes "h") (codes "v") depletion.1) _ (either_from (codes "h") (codes "v") depletion.1) (λ vertical c.
-    then_holds (Counts vertical.1) (Says word ws) (count_at vertical.1) _ (count_from vertical.1) (λ col d.
-    then_holds (Counts col.1) (Says word ws) (count_at col.1) _ (count_from col.1) (λ row e.
-    then_holds (Counts row.1) (Says word ws) (count_at row.1) _ (count_from row.1) (λ w f.
-    then_holds (Counts w.1) (Says word ws) (count_at w.1) _ (count_from w.1) (λ l g.
-    then_holds (Ended l.1) (Says word ws) (ended l.1) (λ done. Ok (Fet name.0 depletion.0 vertical.0 col.0 row.0 w.0 l.0)) (ended_from l.1) (λ done h. (is, cc)))))))))
+unfolding fet_of Takes Behind
+fet_from word ws is = whole_read (Says word ws) _ (next_read Counts _ _ count_at count_from (next_read Counts _ _ count_at count_from (next_read Counts _ _ count_at count_from (next_read Counts _ _ count_at count_from (next_read (Eithers (codes "h") (codes "v")) _ _ (either_at (codes "h") (codes "v")) (either_from (codes "h") (codes "v")) (next_read (Eithers (codes "enh") (codes "dep")) _ _ (either_at (codes "enh") (codes "dep")) (either_from (codes "enh") (codes "dep")) (next_read Paths _ _ name_at name_from (started (Takes Paths (Takes (Eithers (codes "enh") (codes "dep")) (Takes (Eithers (codes "h") (codes "v")) (Takes Counts (Takes Counts (Takes Counts (Takes Counts (Behind (Says word ws))))))))) Fet ws (λ name n depletion d vertical v col c row r w b l g end. (is, cc))))))))))
 
 port_from : (word : List ℕ) (ws : List Word) → word ≡ codes "port" → Holds (Says word ws) (port_of ws)
-unfolding port_of
-port_from word ws is =
-    then_holds (Paths ws) (Says word ws) (name_at ws) _ (name_from ws) (λ name a.
-    then_holds (Sides name.1) (Says word ws) (side_at name.1) _ (side_from name.1) (λ side b.
-    then_holds (Layers side.1) (Says word ws) (layer_at side.1) _ (layer_from side.1) (λ layer c.
-    then_holds (Counts layer.1) (Says word ws) (count_at layer.1) _ (count_from layer.1) (λ place d.
-    then_holds (Ended place.1) (Says word ws) (ended place.1) (λ done. Ok (Port name.0 side.0 layer.0 place.0)) (ended_from place.1) (λ done f. (is, cc))))))
+unfolding port_of Takes Behind
+port_from word ws is = whole_read (Says word ws) _ (next_read Counts _ _ count_at count_from (next_read Layers _ _ layer_at layer_from (next_read Sides _ _ side_at side_from (next_read Paths _ _ name_at name_from (started (Takes Paths (Takes Sides (Takes Layers (Takes Counts (Behind (Says word ws)))))) Port ws (λ name n side s layer l place p end. (is, cc)))))))
 
 use_from : (word : List ℕ) (ws : List Word) → word ≡ codes "use" → Holds (Says word ws) (use_of ws)
-unfolding use_of
-use_from word ws is =
-    then_holds (Paths ws) (Says word ws) (name_at ws) _ (name_from ws) (λ name a.
-    then_holds (Paths name.1) (Says word ws) (name_at name.1) _ (name_from name.1) (λ cell b.
-    then_holds (Counts cell.1) (Says word ws) (count_at cell.1) _ (count_from cell.1) (λ col c.
-    then_holds (Counts col.1) (Says word ws) (count_at col.1) _ (count_from col.1) (λ row d.
-    then_holds (Ended row.1) (Says word ws) (ended row.1) (λ done. Ok (Inst name.0 cell.0 col.0 row.0)) (ended_from row.1) (λ done f. (is, cc))))))
+unfolding use_of Takes Behind
+use_from word ws is = whole_read (Says word ws) _ (next_read Counts _ _ count_at count_from (next_read Counts _ _ count_at count_from (next_read Paths _ _ name_at name_from (next_read Paths _ _ name_at name_from (started (Takes Paths (Takes Paths (Takes Counts (Takes Counts (Behind (Says word ws)))))) Inst ws (λ name n cell d col c row r end. (is, cc)))))))
 
 wire_from : (word : List ℕ) (ws : List Word) → word ≡ codes "wire" → Holds (Says word ws) (wire_of ws)
-unfolding wire_of
-wire_from word ws is =
-    then_holds (Layers ws) (Says word ws) (layer_at ws) _ (layer_from ws) (λ layer a.
-    then_holds (Paths layer.1) (Says word ws) (path_at layer.1) _ (path_from layer.1) (λ low b.
-    then_holds (Paths low.1) (Says word ws) (path_at low.1) _ (path_from low.1) (λ high c.
-    then_holds (Widths high.1) (Says word ws) (optional_count_at high.1) _ (width_from high.1) (λ width d.
-    then_holds (Ended width.1) (Says word ws) (ended width.1) (λ done. Ok (Wire layer.0 low.0 high.0 width.0)) (ended_from width.1) (λ done f.
-    let last : high.1 ≡ width_said width.0 = width_last width.0 high.1 width.1 d f in
-    (is, cc))))))
+unfolding wire_of Takes Behind
+wire_from word ws is = whole_read (Says word ws) _ (next_read Widths _ _ optional_count_at width_from (next_read Paths _ _ path_at path_from (next_read Paths _ _ path_at path_from (next_read Layers _ _ layer_at layer_from (started (Takes Layers (Takes Paths (Takes Paths (Takes Widths (Behind (Says word ws)))))) Wire ws (λ layer l low a high b width w end. let last : high.1 ≡ width_said width.0 = width_last width.0 high.1 width.1 w end in (is, cc)))))))
 
 limit_from : (word : List ℕ) (ws : List Word) → word ≡ codes "limit" → Holds (Says word ws) (limit_of ws)
-unfolding limit_of
-limit_from word ws is =
-    then_holds (Eithers (codes "x") (codes "y") ws) (Says word ws) (either_at (codes "x") (codes "y") ws) _ (either_from (codes "x") (codes "y") ws) (λ vertical a.
-    then_holds (Paths vertical.1) (Says word ws) (path_at vertical.1) _ (path_from vertical.1) (λ low b.
-    then_holds (Paths low.1) (Says word ws) (path_at low.1) _ (path_from low.1) (λ high c.
-    then_holds (Bounds high.1) (Says word ws) (at_most_at high.1) _ (bound_from high.1) (λ at_most d.
-    then_holds (Numbers at_most.1) (Says word ws) (number_at at_most.1) _ (number_from at_most.1) (λ n e.
-    then_holds (Ended n.1) (Says word ws) (ended n.1) (λ done. Ok (Limit vertical.0 low.0 high.0 at_most.0 n.0)) (ended_from n.1) (λ done f. (is, cc)))))))
+unfolding limit_of Takes Behind
+limit_from word ws is = whole_read (Says word ws) _ (next_read Numbers _ _ number_at number_from (next_read Bounds _ _ at_most_at bound_from (next_read Paths _ _ path_at path_from (next_read Paths _ _ path_at path_from (next_read (Eithers (codes "x") (codes "y")) _ _ (either_at (codes "x") (codes "y")) (either_from (codes "x") (codes "y")) (started (Takes (Eithers (codes "x") (codes "y")) (Takes Paths (Takes Paths (Takes Bounds (Takes Numbers (Behind (Says word ws))))))) Limit ws (λ vertical v low a high b at_most m number n end. (is, cc))))))))
 
 form_from : (word : List ℕ) (ws : List Word) → Holds (Says word ws) (form_named word ws)
 unfolding form_named
 form_from word ws =
     choose (Says word ws) (bytes_eq word (codes "joint")) _ _ (λ e. joint_from word ws (same word (codes "joint") e))
     (choose (Says word ws) (bytes_eq word (codes "contact")) _ _ (λ e. contact_from word ws (same word (codes "contact") e))
+    (choose (Says word ws) (bytes_eq word (codes "buried")) _ _ (λ e. buried_from word ws (same word (codes "buried") e))
     (choose (Says word ws) (bytes_eq word (codes "fet")) _ _ (λ e. fet_from word ws (same word (codes "fet") e))
     (choose (Says word ws) (bytes_eq word (codes "port")) _ _ (λ e. port_from word ws (same word (codes "port") e))
     (choose (Says word ws) (bytes_eq word (codes "use")) _ _ (λ e. use_from word ws (same word (codes "use") e))
     (choose (Says word ws) (bytes_eq word (codes "wire")) _ _ (λ e. wire_from word ws (same word (codes "wire") e))
-    (choose (Says word ws) (bytes_eq word (codes "limit")) _ _ (λ e. limit_from word ws (same word (codes "limit") e)) tt))))))
+    (choose (Says word ws) (bytes_eq word (codes "limit")) _ _ (λ e. limit_from word ws (same word (codes "limit") e)) tt)))))))
 
 -- ---- each statement
 
@@ -270,10 +248,8 @@ version_from word ws is =
     if_read (Tells word ws) (eqb version.0 1) Version (Err BadLine) (λ e. let one : version.0 ≡ 1 = borrow.Author.Tests.eqb-true _ _ e in (is, cc)) tt))
 
 cell_from : (word : List ℕ) (ws : List Word) → word ≡ codes "cell" → Holds (Tells word ws) (cell_of ws)
-unfolding cell_of
-cell_from word ws is =
-    then_holds (Paths ws) (Tells word ws) (name_at ws) _ (name_from ws) (λ name a.
-    then_holds (Ended name.1) (Tells word ws) (ended name.1) (λ done. Ok (Cell name.0)) (ended_from name.1) (λ done b. (is, cc)))
+unfolding cell_of Takes Behind
+cell_from word ws is = whole_read (Tells word ws) _ (next_read Paths _ _ name_at name_from (started (Takes Paths (Behind (Tells word ws))) Cell ws (λ name n end. (is, cc))))
 
 abbrev Names : List Word → List (List ℕ) → Type 0
 Names ws names = ws ≡ map (λ name. Path name) names
@@ -295,8 +271,8 @@ row_from word [] is = tt
 row_from word (w ∷ ws) is = then_holds (Names (w ∷ ws)) (Tells word (w ∷ ws)) (names_of (w ∷ ws)) (λ names. Ok (Row (record { names = names }))) (names_from (w ∷ ws)) (λ names a. (is, a))
 
 alone_from : (s : Statement) (word : List ℕ) (ws : List Word) → said s ≡ [] → word ≡ keyword_of s → Holds (Tells word ws) (alone s ws)
-unfolding alone
-alone_from s word ws none is = then_holds (Ended ws) (Tells word ws) (ended ws) (λ done. Ok s) (ended_from ws) (λ done a. (is, a ∙ sym none))
+unfolding alone Behind
+alone_from s word ws none is = whole_read (Tells word ws) _ (started (Behind (Tells word ws)) s ws (λ end. (is, end ∙ sym none)))
 
 named_from : (word : List ℕ) (ws : List Word) → Holds (Tells word ws) (statement_named word ws)
 unfolding statement_named

@@ -17,12 +17,11 @@ use Rattle.stick_parse.specs.Lines.{Entry, with_entry, entries}
 use Rattle.stick_parse.specs.Says.{saying, form_line, cell_part, AreLinesOf, said_lines, SaysDesign}
 use Rattle.stick_parse.proofs.FirstLine.{line_of_parts}
 use Rattle.stick_parse.proofs.Shapes.{regroup, design_read}
-use Rattle.stick_parse.specs.Writable.{IsLine, IsRow, IsCell, IsWritable}
+use Rattle.stick_parse.specs.Writable.{IsLine, IsRow, IsStatement, IsCell, IsWritable}
 use Rattle.stick_print.specs.Canonical.{keyword_of, words_of, spaced, line_of, item_line, row_line, cell_lines, canonical}
 use Rattle.stick_print.specs.ReadBack.{without_number, without_numbers, lines_from, cells_from, laid_out, ReadsAs}
 use Rattle.stick_print.proofs.Spelled.{else_branch}
 use Rattle.stick_print.proofs.Split.{IsInner, inner_line, inner_at}
-use Rattle.stick_print.specs.Said.{IsStatement}
 use Rattle.stick_print.proofs.Statements.{body, line_again, plain_words, plain_keyword, some_keyword}
 
 -- ---- the lines of the text

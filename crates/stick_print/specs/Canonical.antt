@@ -7,7 +7,7 @@ use Rattle.stick_parse.specs.declared.design.Layer.TheVariants.{Diffusion, Poly,
 use Rattle.lam_geom.specs.declared.boxes.Side.{Side}
 use Rattle.lam_geom.specs.declared.boxes.Side.TheVariants.{Left, Right, Bottom, Top}
 use Rattle.stick_parse.specs.declared.design.Form.{Form}
-use Rattle.stick_parse.specs.declared.design.Form.TheVariants.{Joint, Contact, Fet, Port, Inst, Wire, Limit}
+use Rattle.stick_parse.specs.declared.design.Form.TheVariants.{Joint, Contact, Buried, Fet, Port, Inst, Wire, Limit}
 use Rattle.stick_parse.specs.declared.design.Line.{Line}
 use Rattle.stick_parse.specs.declared.design.CellText.{CellText}
 use Rattle.stick_parse.specs.declared.design.RowText.{RowText}
@@ -50,6 +50,7 @@ width_words (Some width) = decimal width ∷ []
 abbrev pub form_keyword : Form → List ℕ
 form_keyword (Joint name layer col row width) = codes "joint"
 form_keyword (Contact name lower col row) = codes "contact"
+form_keyword (Buried name col row) = codes "buried"
 form_keyword (Fet name depletion vertical col row w l) = codes "fet"
 form_keyword (Port name side layer place) = codes "port"
 form_keyword (Inst name cell col row) = codes "use"
@@ -59,6 +60,7 @@ form_keyword (Limit vertical a b at_most n) = codes "limit"
 abbrev pub form_words : Form → List (List ℕ)
 form_words (Joint name layer col row width) = name ∷ layer_word layer ∷ decimal col ∷ decimal row ∷ width_words width
 form_words (Contact name lower col row) = name ∷ layer_word lower ∷ decimal col ∷ decimal row ∷ []
+form_words (Buried name col row) = name ∷ decimal col ∷ decimal row ∷ []
 form_words (Fet name depletion vertical col row w l) =
     name ∷ kind_word depletion ∷ direction_word vertical ∷ decimal col ∷ decimal row ∷ decimal w ∷ decimal l ∷ []
 form_words (Port name side layer place) = name ∷ side_word side ∷ layer_word layer ∷ decimal place ∷ []

@@ -1,12 +1,12 @@
 -- The words of each line, and that a line has them which says it.
 use Rattle.std.specs.Prelude.{◌≡◌, ℕ, pos, Bool, true, false, List, [], ◌∷◌, map, Option, Some, None, Ok}
 use Rattle.stick_parse.specs.declared.design.Form.{Form}
-use Rattle.stick_parse.specs.declared.design.Form.TheVariants.{Joint, Contact, Fet, Port, Inst, Wire, Limit}
+use Rattle.stick_parse.specs.declared.design.Form.TheVariants.{Joint, Contact, Buried, Fet, Port, Inst, Wire, Limit}
 use Rattle.stick_parse.specs.declared.design.Statement.{Statement}
 use Rattle.stick_parse.specs.declared.design.Statement.TheVariants.{Version, Cell, Item, Grid, Row, End}
 use Rattle.stick_parse.specs.Words.{Word, Path, Number, AtMost, AtLeast}
 use Rattle.stick_parse.specs.Forms.{statement_of}
-use Rattle.stick_parse.specs.Writable.{IsName, IsForm, IsRow}
+use Rattle.stick_parse.specs.Writable.{IsStatement}
 use Rattle.stick_print.specs.Canonical.{layer_word, side_word, kind_word, direction_word, axis_word, keyword_of}
 
 -- ---- what stands behind the keyword
@@ -22,6 +22,7 @@ bound_said false = AtLeast
 abbrev pub form_said : Form → List Word
 form_said (Joint name layer col row width) = Path name ∷ Path (layer_word layer) ∷ Number (pos col) ∷ Number (pos row) ∷ width_said width
 form_said (Contact name lower col row) = Path name ∷ Path (layer_word lower) ∷ Number (pos col) ∷ Number (pos row) ∷ []
+form_said (Buried name col row) = Path name ∷ Number (pos col) ∷ Number (pos row) ∷ []
 form_said (Fet name depletion vertical col row w l) =
     Path name ∷ Path (kind_word depletion) ∷ Path (direction_word vertical) ∷ Number (pos col) ∷ Number (pos row) ∷ Number (pos w) ∷ Number (pos l) ∷ []
 form_said (Port name side layer place) = Path name ∷ Path (side_word side) ∷ Path (layer_word layer) ∷ Number (pos place) ∷ []
@@ -36,15 +37,6 @@ said (Item form) = form_said form
 said Grid = []
 said (Row row) = map (λ name. Path name) row.names
 said End = []
-
--- its names are names, its paths paths, and its numbers not too large
-abbrev pub IsStatement : Statement → Type 0
-IsStatement Version = Unit {0}
-IsStatement (Cell name) = IsName name
-IsStatement (Item form) = IsForm form
-IsStatement Grid = Unit {0}
-IsStatement (Row row) = IsRow row
-IsStatement End = Unit {0}
 
 -- a line that says this is read so, and no line of other words is
 pub record HasItsWords (statement : Statement) : Type 0 where

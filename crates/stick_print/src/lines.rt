@@ -1,12 +1,11 @@
 //! One line for each form.
 ghost use Rattle.std.specs.Prelude.{◌≡◌, ◌++◌, OnOk};
-ghost use Rattle.stick_parse.specs.declared.design.Form.TheVariants.{Joint, Contact, Fet, Port, Inst, Wire, Limit};
+ghost use Rattle.stick_parse.specs.declared.design.Form.TheVariants.{Joint, Contact, Buried, Fet, Port, Inst, Wire, Limit};
 ghost use Rattle.stick_parse.specs.declared.design.Statement.TheVariants.{Item, Row};
 ghost use Rattle.stick_print.specs.Canonical.{line_of};
 
 use crate::words::{
-    axis_word, bound_word, direction_word, kind_word, layer_word, put_count, put_number, put_pair,
-    put_width, put_word, side_word,
+    either_word, layer_word, put_count, put_number, put_pair, put_width, put_word, side_word,
 };
 use std::alloc::AllocError;
 use stick_lex::Text;
@@ -53,6 +52,18 @@ fn put_contact(
 }
 
 #[tactic(auto, unfolding(crate::specs::Canonical::line_of))]
+fn put_buried(out: &mut Vec<u8>, name: &Text, col: u32, row: u32) -> Result<(), AllocError>
+    ensures { OnOk result (out.new.items ≡ out.old.items ++ line_of (Item (Buried name.now col row))) }
+{
+    out.extend_from_slice(b"buried")?;
+    put_word(out, name.bytes())?;
+    put_count(out, col)?;
+    put_count(out, row)?;
+    out.push(b'\n')?;
+    Ok(())
+}
+
+#[tactic(auto, unfolding(crate::specs::Canonical::line_of))]
 fn put_fet(
     out: &mut Vec<u8>,
     name: &Text,
@@ -65,8 +76,8 @@ fn put_fet(
 {
     out.extend_from_slice(b"fet")?;
     put_word(out, name.bytes())?;
-    put_word(out, kind_word(ways.0))?;
-    put_word(out, direction_word(ways.1))?;
+    put_word(out, either_word(b"enh", b"dep", ways.0))?;
+    put_word(out, either_word(b"h", b"v", ways.1))?;
     put_pair(out, place)?;
     put_pair(out, size)?;
     out.push(b'\n')?;
@@ -142,10 +153,10 @@ fn put_limit(
     ensures { OnOk result (out.new.items ≡ out.old.items ++ line_of (Item (Limit vertical a.now b.now at_most n))) }
 {
     out.extend_from_slice(b"limit")?;
-    put_word(out, axis_word(vertical))?;
+    put_word(out, either_word(b"x", b"y", vertical))?;
     put_word(out, a.bytes())?;
     put_word(out, b.bytes())?;
-    put_word(out, bound_word(at_most))?;
+    put_word(out, either_word(b">=", b"<=", at_most))?;
     put_number(out, n)?;
     out.push(b'\n')?;
     Ok(())
@@ -169,6 +180,7 @@ pub fn put_form(out: &mut Vec<u8>, form: &Form) -> Result<(), AllocError>
             col,
             row,
         } => put_contact(out, name, *lower, *col, *row),
+        Form::Buried { name, col, row } => put_buried(out, name, *col, *row),
         Form::Fet {
             name,
             depletion,

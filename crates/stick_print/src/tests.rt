@@ -30,6 +30,7 @@ joint p metal 0 1
 joint q poly 2 3 4
 contact c diff 4 5
 contact d poly 6 7
+buried e 7 3
 fet f enh h 8 9 10 12
 fet g dep v 1000000 0 6 8
 port l left metal 0

@@ -1,7 +1,7 @@
 //! The words of a line.
-ghost use Rattle.std.specs.Prelude.{◌≡◌, ◌++◌, ◌∷◌, [], decimal, OnOk};
+ghost use Rattle.std.specs.Prelude.{◌≡◌, if◌then◌else◌, ◌++◌, ◌∷◌, [], decimal, OnOk};
 ghost use Rattle.std.specs.Fmt.{signed_decimal};
-ghost use Rattle.stick_print.specs.Canonical.{layer_word, side_word, kind_word, direction_word, axis_word, bound_word, width_words, spaced};
+ghost use Rattle.stick_print.specs.Canonical.{layer_word, side_word, width_words, spaced};
 
 use std::alloc::AllocError;
 use stick_lex::{push_decimal, push_signed_decimal};
@@ -28,28 +28,11 @@ pub fn side_word(side: Side) -> &'static [u8]
     }
 }
 
-pub fn kind_word(depletion: bool) -> &'static [u8]
-    ensures { result.now ≡ kind_word depletion }
+/// One of two words.
+pub fn either_word(first: &'static [u8], second: &'static [u8], is_second: bool) -> &'static [u8]
+    ensures { result.now ≡ if is_second then second.now else first.now }
 {
-    if depletion { b"dep" } else { b"enh" }
-}
-
-pub fn direction_word(vertical: bool) -> &'static [u8]
-    ensures { result.now ≡ direction_word vertical }
-{
-    if vertical { b"v" } else { b"h" }
-}
-
-pub fn axis_word(vertical: bool) -> &'static [u8]
-    ensures { result.now ≡ axis_word vertical }
-{
-    if vertical { b"y" } else { b"x" }
-}
-
-pub fn bound_word(at_most: bool) -> &'static [u8]
-    ensures { result.now ≡ bound_word at_most }
-{
-    if at_most { b"<=" } else { b">=" }
+    if is_second { second } else { first }
 }
 
 /// Adds a space and a word.
