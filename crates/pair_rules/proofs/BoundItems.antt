@@ -50,7 +50,7 @@ out_of_joined a b e =
     let p = and_parts (is_poly_on_diffusion a.class b.class) (stand_together a b) e in
     (p.0, (together_exactly a b).0 p.1)
 
-out_of_bound : (t : Tech) (a b : Item) (s : ℤ) → bound_spacing t a b ≡ Some s → IsBound t a b s
+pub out_of_bound : (t : Tech) (a b : Item) (s : ℤ) → bound_spacing t a b ≡ Some s → IsBound t a b s
 unfolding bound_spacing
 out_of_bound t a b s e =
     let w = unless ((a.owner == b.owner) || is_joined a b) (spacing_by (spacing_of t a.class b.class) a.net b.net) s e in

@@ -1,8 +1,9 @@
 -- What is known of the candidates that end at one item.
-use Rattle.std.proofs.Common.{◌≡◌, ℕ, ◌+◌, ◌<◌, Bool, true, false, ◌||◌, ℤ, pos, ◌≤ℤ◌, List, [], ◌∷◌, length, get_or, take, reverse, Option, Some, None, refl, sym, ap, subst, ◌∙◌, arith}
+use Rattle.std.proofs.Common.{◌≡◌, ℕ, ◌+◌, ◌<◌, Bool, true, false, not, ◌||◌, ℤ, pos, ◌≤ℤ◌, List, [], ◌∷◌, length, get_or, take, reverse, Option, Some, None, refl, sym, ap, subst, ◌∙◌, arith}
 use Rattle.std.specs.List.{All, Contains, flat_map, list_any}
 use Rattle.std.proofs.Math.Bool.{or-false}
 use Rattle.std.proofs.lemmas.List.Elements.{All-nil, All-cons, All-same, All-contains, All-weaker}
+use Rattle.std.proofs.lemmas.Bool.{and_from, and_right, not_from_true, not_from_false}
 use Rattle.std.proofs.lemmas.List.{take_all}
 use Rattle.std.proofs.lemmas.List.Folds.{list_any-append, list_any_at, list_any_more}
 use Rattle.std.proofs.lemmas.List.Sorted.{IsPermutation-reverse, All-permutation, list_any-IsPermutation}
@@ -13,7 +14,7 @@ use Rattle.sym_items.specs.declared.items.Coords.{Coords}
 use Rattle.pair_rules.specs.declared.pairs.Pair.{Pair}
 use Rattle.pair_rules.specs.Bound.{item_at}
 use Rattle.pair_rules.specs.Candidates.{pair_with, pairs_at, spacing_at, item_numbers, candidates_to}
-use Rattle.pair_rules.specs.Kept.{least_of, reaches, shadows}
+use Rattle.pair_rules.specs.Kept.{least_of, reaches, shadows, is_constant, is_kept}
 use Rattle.shadow_prune.specs.Near.{EndsIn, AreAllNear}
 use Rattle.shadow_prune.proofs.PairLists.{all_pieces_from}
 use Rattle.shadow_prune.proofs.Spacings.{facing_bounds}
@@ -100,3 +101,16 @@ none_shadows axis t c items p near n e all none =
     let test : Pair → Bool = shadows_by axis t c items p in
     let whole : take n (reverse near) ≡ reverse near = take_all n (reverse near) (omega arith) in
     sym (sym (any_near axis t c items p) ∙ (sym (ap (list_any test) e) ∙ (list_any-IsPermutation test near (reverse near) (IsPermutation-reverse near) ∙ (sym (ap (list_any test) whole) ∙ none))))
+
+-- a candidate that an item shadows is not kept
+pub not_kept : (axis : Axis) (t : Tech) (c : Coords) (items : List Item) (p : Pair) → true ≡ list_any (shadows axis t c items p) (item_numbers items) → false ≡ is_kept axis t c items p
+not_kept axis t c items p shadowed =
+    let some = list_any (shadows axis t c items p) (item_numbers items) in
+    sym (and_right (not (is_constant axis items p)) (not some) (not_from_true some (sym shadowed)))
+
+-- and one that none shadows is, where its ends vary
+pub kept_by_none : (axis : Axis) (t : Tech) (c : Coords) (items : List Item) (p : Pair) → is_constant axis items p ≡ false → false ≡ list_any (shadows axis t c items p) (item_numbers items)
+    → true ≡ is_kept axis t c items p
+kept_by_none axis t c items p varies none =
+    let some = list_any (shadows axis t c items p) (item_numbers items) in
+    sym (and_from (not (is_constant axis items p)) (not some) (not_from_false (is_constant axis items p) varies) (not_from_false some (sym none)))

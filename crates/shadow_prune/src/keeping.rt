@@ -1,14 +1,14 @@
 //! The kept pairs of a layout.
 
 ghost use Rattle.std.specs.Prelude.{◌≡◌, ◌<◌, ◌≤◌, ◌^◌, ◌+◌, ◌++◌, pos, ◌≤ℤ◌, ◌+ℤ◌, int_le, Some, length, filter, All, OnOk, IfOk, IfErr};
-ghost use Rattle.std.specs.List.{list_any, Contains};
+ghost use Rattle.std.specs.List.{Contains};
 ghost use Rattle.sym_items.specs.Boxes.{HasBox};
 ghost use Rattle.sym_items.specs.Values.{value_of};
 ghost use Rattle.sym_items.specs.Transposed.{values_along};
 ghost use Rattle.pair_rules.specs.declared.pairs.Pair.{Pair};
-ghost use Rattle.pair_rules.specs.Candidates.{spacing_at, item_numbers, candidates_to, Keeps};
+ghost use Rattle.pair_rules.specs.Candidates.{spacing_at, Keeps};
 ghost use Rattle.pair_rules.specs.Clean.{IsClean};
-ghost use Rattle.pair_rules.specs.Kept.{IsKept, least_of, reaches, shadows, is_constant, is_kept, kept_of};
+ghost use Rattle.pair_rules.specs.Kept.{IsKept, least_of, reaches, is_constant, is_kept, kept_of};
 ghost use Rattle.shadow_prune.specs.declared.keeping.KeptFault.TheVariants.{OutOfMemory};
 ghost use Rattle.shadow_prune.specs.KeptFaults.{RefusesKept};
 ghost use Rattle.shadow_prune.specs.Near.{EndsIn, AreAllNear};
@@ -79,29 +79,6 @@ fn is_shadowed_by(
     }
 }
 
-// Whether some item shadows a candidate, by all candidates that end where it ends. It begins with the last of them: in a
-// design that is drawn from left to right an item that shadows is then found at once.
-fn is_shadowed(
-    axis: Axis,
-    tech: &Tech,
-    items: &[Item],
-    coords: &Coords,
-    pair: Pair,
-    near: &[Pair],
-) -> bool
-    requires boxes { All (HasBox coords.now) items.now }
-    requires near { near.now ≡ candidates_to axis tech.now coords.now items.now pair.j }
-    requires among { Contains near.now pair }
-    ensures { result ≡ list_any (shadows axis tech.now coords.now items.now pair) (item_numbers items.now) }
-{
-    for behind in near.iter().rev() {
-        if is_shadowed_by(axis, tech, items, coords, pair, *behind) {
-            return true;
-        }
-    }
-    false
-}
-
 // Whether the ends of a pair lie on one variable.
 fn is_constant(axis: Axis, items: &[Item], pair: Pair) -> bool
     requires i_among { pair.i < length items.now }
@@ -113,7 +90,8 @@ fn is_constant(axis: Axis, items: &[Item], pair: Pair) -> bool
     first.high(axis).var == second.low(axis).var
 }
 
-// Whether a candidate is kept, by all candidates that end where it ends.
+// Whether a candidate is kept, by all candidates that end where it ends. It begins with the last of them: in a design that is
+// drawn from left to right an item that shadows is then found at once.
 fn is_kept(
     axis: Axis,
     tech: &Tech,
@@ -127,7 +105,15 @@ fn is_kept(
     requires among { Contains near.now pair }
     ensures { result ≡ is_kept axis tech.now coords.now items.now pair }
 {
-    !is_constant(axis, items, pair) && !is_shadowed(axis, tech, items, coords, pair, near)
+    if is_constant(axis, items, pair) {
+        return false;
+    }
+    for behind in near.iter().rev() {
+        if is_shadowed_by(axis, tech, items, coords, pair, *behind) {
+            return false;
+        }
+    }
+    true
 }
 
 // Adds the kept pairs among all candidates that end at an item, if there is room for them.

@@ -1,7 +1,7 @@
 use Rattle.std.proofs.Common.{◌≡◌, false, length, take, reverse}
 use Rattle.std.specs.List.{list_any}
 use Rattle.shadow_prune.proofs.Near.{shadows_by}
-use Rattle.shadow_prune.proofs.keeping.is_shadowed.Given as goal
+use Rattle.shadow_prune.proofs.keeping.is_kept.Given as goal
 
 abbrev pub invariant-loop-behind : goal.invariant-loop-behind
 invariant-loop-behind l =
