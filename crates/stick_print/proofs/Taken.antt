@@ -97,37 +97,21 @@ unfolding ended
 ended_from [] = refl
 ended_from (w ∷ ws) = tt
 
-abbrev IsLayer : List ℕ → Layer → Type 0
-IsLayer text layer = text ≡ layer_word layer
+-- the word of a value is compared with the text, and is the text's where they are equal
+by_word : {A : Type 0} (says : A → List ℕ) (text : List ℕ) (x : A) (other : Result A StickKind) → Holds (λ y. text ≡ says y) other → Holds (λ y. text ≡ says y) (cond (bytes_eq text (says x)) (Ok x) other)
+by_word says text x other h = if_read (λ y. text ≡ says y) (bytes_eq text (says x)) x other (same text (says x)) h
 
-layer_word_from : (text : List ℕ) → Holds (IsLayer text) (layer_named text)
-layer_word_from text =
-    if_read (IsLayer text) (bytes_eq text (codes "diff")) Diffusion _ (same text (codes "diff"))
-    (if_read (IsLayer text) (bytes_eq text (codes "poly")) Poly _ (same text (codes "poly"))
-    (if_read (IsLayer text) (bytes_eq text (codes "metal")) Metal (Err BadLine) (same text (codes "metal")) tt))
+layer_word_from : (text : List ℕ) → Holds (λ layer. text ≡ layer_word layer) (layer_named text)
+layer_word_from text = by_word layer_word text Diffusion _ (by_word layer_word text Poly _ (by_word layer_word text Metal (Err BadLine) tt))
 
-lower_word_from : (text : List ℕ) → Holds (IsLayer text) (lower_named text)
-lower_word_from text =
-    if_read (IsLayer text) (bytes_eq text (codes "diff")) Diffusion _ (same text (codes "diff"))
-    (if_read (IsLayer text) (bytes_eq text (codes "poly")) Poly (Err BadLine) (same text (codes "poly")) tt)
+lower_word_from : (text : List ℕ) → Holds (λ layer. text ≡ layer_word layer) (lower_named text)
+lower_word_from text = by_word layer_word text Diffusion _ (by_word layer_word text Poly (Err BadLine) tt)
 
-abbrev IsSide : List ℕ → Side → Type 0
-IsSide text side = text ≡ side_word side
+side_word_from : (text : List ℕ) → Holds (λ side. text ≡ side_word side) (side_named text)
+side_word_from text = by_word side_word text Left _ (by_word side_word text Right _ (by_word side_word text Bottom _ (by_word side_word text Top (Err BadLine) tt)))
 
-side_word_from : (text : List ℕ) → Holds (IsSide text) (side_named text)
-side_word_from text =
-    if_read (IsSide text) (bytes_eq text (codes "left")) Left _ (same text (codes "left"))
-    (if_read (IsSide text) (bytes_eq text (codes "right")) Right _ (same text (codes "right"))
-    (if_read (IsSide text) (bytes_eq text (codes "bottom")) Bottom _ (same text (codes "bottom"))
-    (if_read (IsSide text) (bytes_eq text (codes "top")) Top (Err BadLine) (same text (codes "top")) tt)))
-
-abbrev IsEither : List ℕ → List ℕ → List ℕ → Bool → Type 0
-IsEither first second text b = text ≡ cond b second first
-
-either_word_from : (first second text : List ℕ) → Holds (IsEither first second text) (second_of first second text)
-either_word_from first second text =
-    if_read (IsEither first second text) (bytes_eq text first) false _ (same text first)
-    (if_read (IsEither first second text) (bytes_eq text second) true (Err BadLine) (same text second) tt)
+either_word_from : (first second text : List ℕ) → Holds (λ b. text ≡ cond b second first) (second_of first second text)
+either_word_from first second text = by_word (λ b. cond b second first) text false _ (by_word (λ b. cond b second first) text true (Err BadLine) tt)
 
 in_front : (ws : List Word) (text word : List ℕ) (rest : List Word) → ws ≡ Path text ∷ rest → text ≡ word → ws ≡ Path word ∷ rest
 in_front ws text word rest e k = e ∙ ap (λ (t : List ℕ). Path t ∷ rest) k
