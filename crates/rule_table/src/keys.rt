@@ -85,9 +85,9 @@ impl Numbers {
         ]
     }
 
-    /// Whether these are the numbers of a technology with buried contacts.
+    /// Whether these are the numbers of a technology with buried contacts: its version is 2.
     #[tactic(auto, unfolding(crate::specs::Keys::has_buried))]
-    pub(crate) fn has_buried(&self) -> bool
+    pub fn has_buried(&self) -> bool
         ensures { result ≡ has_buried self.now }
     {
         self.version == 2

@@ -3,6 +3,7 @@ use Rattle.std.proofs.Common.{◌≡◌, ℕ, List, Some, None, Ok, Err, sym}
 use Rattle.toml.specs.Data.{Members}
 use Rattle.rule_table.specs.declared.keys.Numbers.{Numbers}
 use Rattle.rule_table.specs.declared.faults.TechFault.{TechFault}
+use Rattle.rule_table.specs.Keys.{has_buried}
 use Rattle.rule_table.specs.Faults.{fault_of}
 use Rattle.tech_file.specs.declared.faults.TechFileFault.{TechFileFault}
 use Rattle.tech_file.specs.declared.faults.TechFileFault.TheVariants.{Unknown, Numbers as Unfit}
@@ -16,15 +17,15 @@ pub keys_refused : (top : Members) (f : TechFileFault) → Err f ≡ numbers_in 
 unfolding technology_in
 keys_refused top f e = rw (sym e)
 
-pub unknown_refused : (top : Members) (n : Numbers) (key : List ℕ) → Ok n ≡ numbers_in top → Some key ≡ least (unknown_keys top) → technology_in top ≡ Err (Unknown key)
+pub unknown_refused : (top : Members) (n : Numbers) (key : List ℕ) → Ok n ≡ numbers_in top → Some key ≡ least (unknown_keys (has_buried n) top) → technology_in top ≡ Err (Unknown key)
 unfolding technology_in unless
 unknown_refused top n key e k = rw (sym e, sym k)
 
-pub unfit_refused : (top : Members) (n : Numbers) (f : TechFault) → Ok n ≡ numbers_in top → None ≡ least (unknown_keys top) → fault_of n ≡ Some f → technology_in top ≡ Err (Unfit f)
+pub unfit_refused : (top : Members) (n : Numbers) (f : TechFault) → Ok n ≡ numbers_in top → None ≡ least (unknown_keys (has_buried n) top) → fault_of n ≡ Some f → technology_in top ≡ Err (Unfit f)
 unfolding technology_in unless
 unfit_refused top n f e k h = rw (sym e, sym k, h)
 
-pub accepted : (top : Members) (n : Numbers) → Ok n ≡ numbers_in top → None ≡ least (unknown_keys top) → fault_of n ≡ None → technology_in top ≡ Ok n
+pub accepted : (top : Members) (n : Numbers) → Ok n ≡ numbers_in top → None ≡ least (unknown_keys (has_buried n) top) → fault_of n ≡ None → technology_in top ≡ Ok n
 unfolding technology_in unless
 accepted top n e k h = rw (sym e, sym k, h)
 

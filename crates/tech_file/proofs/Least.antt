@@ -11,12 +11,12 @@ use Rattle.toml.specs.Data.{Data, Members, get_member}
 use Rattle.tech_file.specs.Unknown.{unknown_in, unknown_at, unknown_keys, lesser, least, NamesLeast}
 use Rattle.tech_file.specs.declared.sections.Section.TheVariants.{Top, Width, Spacing, Extension, Cut}
 
-pub least_by_parts : (top : Members) (a b c d : Option (List ℕ)) (w s e t : Option Data)
-    → a ≡ fold lesser None (unknown_in Top top) → b ≡ fold lesser a (unknown_at Width w) → c ≡ fold lesser b (unknown_at Spacing s) → d ≡ fold lesser c (unknown_at Extension e)
+pub least_by_parts : (buried : Bool) (top : Members) (a b c d : Option (List ℕ)) (w s e t : Option Data)
+    → a ≡ fold lesser None (unknown_in buried Top top) → b ≡ fold lesser a (unknown_at buried Width w) → c ≡ fold lesser b (unknown_at buried Spacing s) → d ≡ fold lesser c (unknown_at buried Extension e)
     → w ≡ get_member (codes "width") top → s ≡ get_member (codes "spacing") top → e ≡ get_member (codes "extension") top → t ≡ get_member (codes "cut") top
-    → fold lesser d (unknown_at Cut t) ≡ least (unknown_keys top)
+    → fold lesser d (unknown_at buried Cut t) ≡ least (unknown_keys buried top)
 unfolding unknown_keys
-least_by_parts top a b c d w s e t ha hb hc hd hw hs he ht = rw (hd, hc, hb, ha, hw, hs, he, ht) (simp fold-append)
+least_by_parts buried top a b c d w s e t ha hb hc hd hw hs he ht = rw (hd, hc, hb, ha, hw, hs, he, ht) (simp fold-append)
 
 abbrev R : List ℕ → List ℕ → Ordering
 R = slice_cmp nat_cmp

@@ -1,6 +1,7 @@
 -- The numbers of a technology file's table, or the first key at which there is none.
-use Rattle.std.specs.Prelude.{ℕ, ◌+◌, ℤ, List, codes, Option, Some, None, Result, Ok, Err}
+use Rattle.std.specs.Prelude.{ℕ, ◌+◌, ℤ, pos, if◌then◌else◌, List, codes, Option, Some, None, Result, Ok, Err}
 use Rattle.toml.specs.Data.{Data, Members, integer, table, get_member}
+use Rattle.rule_table.specs.Keys.{has_buried}
 use Rattle.rule_table.specs.declared.keys.Numbers.{Numbers}
 use Rattle.tech_file.specs.declared.faults.TechFileFault.{TechFileFault}
 use Rattle.tech_file.specs.declared.faults.TechFileFault.TheVariants.{Missing, WrongType}
@@ -30,9 +31,9 @@ three_in first a b c t = do
   z ← integer_in (first + 2) c t
   Ok (x, y, z)
 
--- all numbers, or the first fault of a key
-unfoldable pub numbers_in : Members → Result Numbers TechFileFault
-numbers_in top = do
+-- the numbers of every version, or the first fault of a key
+unfoldable pub common_in : Members → Result Numbers TechFileFault
+common_in top = do
   version ← integer_at 0 (get_member (codes "version") top)
   unit ← integer_at 1 (get_member (codes "unit") top)
   width ← three_in 2 (codes "diffusion") (codes "poly") (codes "metal") (get_member (codes "width") top)
@@ -60,4 +61,19 @@ numbers_in top = do
     extension_implant = extension.2;
     cut_size = cut_size;
     cut_enclosure = cut_enclosure;
+    extension_buried = pos 0;
+    spacing_buried_channel = pos 0;
   })
+
+-- the same with those of buried contacts
+unfoldable pub with_buried : Members → Numbers → Result Numbers TechFileFault
+with_buried top n = do
+  extension ← integer_in 17 (codes "buried") (get_member (codes "extension") top)
+  spacing ← integer_in 18 (codes "buried_channel") (get_member (codes "spacing") top)
+  Ok (record n { extension_buried = extension; spacing_buried_channel = spacing })
+
+-- all numbers, which are two more in version 2
+unfoldable pub numbers_in : Members → Result Numbers TechFileFault
+numbers_in top = do
+  n ← common_in top
+  if has_buried n then with_buried top n else Ok n

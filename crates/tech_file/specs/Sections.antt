@@ -11,7 +11,7 @@ prefix_of Spacing = codes "spacing."
 prefix_of Extension = codes "extension."
 prefix_of Cut = codes "cut."
 
--- the keys of the part
+-- the keys of the part in every version
 unfoldable pub names_of : Section → List (List ℕ)
 names_of Top = codes "version" ∷ codes "unit" ∷ codes "width" ∷ codes "spacing" ∷ codes "extension" ∷ codes "cut" ∷ []
 names_of Width = codes "diffusion" ∷ codes "poly" ∷ codes "metal" ∷ []
@@ -20,3 +20,9 @@ names_of Spacing =
     ∷ codes "cut" ∷ codes "cut_channel" ∷ codes "implant_channel" ∷ []
 names_of Extension = codes "poly" ∷ codes "diffusion" ∷ codes "implant" ∷ []
 names_of Cut = codes "size" ∷ codes "enclosure" ∷ []
+
+-- those of buried contacts, which only version 2 has
+unfoldable pub buried_names_of : Section → List (List ℕ)
+buried_names_of Spacing = codes "buried_channel" ∷ []
+buried_names_of Extension = codes "buried" ∷ []
+buried_names_of _ = []

@@ -5,6 +5,7 @@ use Rattle.std.specs.Str.{is_utf8}
 use Rattle.toml.specs.Data.{Members}
 use Rattle.toml.specs.Parse.{parse_document}
 use Rattle.rule_table.specs.declared.keys.Numbers.{Numbers}
+use Rattle.rule_table.specs.Keys.{has_buried}
 use Rattle.rule_table.specs.Faults.{fault_of}
 use Rattle.tech_file.specs.declared.faults.TechFileFault.{TechFileFault}
 use Rattle.tech_file.specs.declared.faults.TechFileFault.TheVariants.{NotToml, Unknown, Numbers as Unfit}
@@ -26,7 +27,7 @@ unless (Some fault) n = Err fault
 unfoldable pub technology_in : Members → Result Numbers TechFileFault
 technology_in top = do
   n ← numbers_in top
-  known ← unless (option_map Unknown (least (unknown_keys top))) n
+  known ← unless (option_map Unknown (least (unknown_keys (has_buried n) top))) n
   unless (option_map Unfit (fault_of n)) n
 
 -- the numbers of the technology that a text is, or its first fault

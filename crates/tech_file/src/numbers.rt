@@ -2,7 +2,7 @@
 ghost use Rattle.std.specs.Prelude.{◌≡◌, ◌<◌, option_map};
 ghost use Rattle.toml.specs.Data.{get_member};
 ghost use Rattle.toml.specs.View.{view, table_view};
-ghost use Rattle.tech_file.specs.Numbers.{integer_at, integer_in, three_in, numbers_in};
+ghost use Rattle.tech_file.specs.Numbers.{integer_at, integer_in, three_in, common_in, with_buried, numbers_in};
 
 use crate::faults::TechFileFault;
 use rule_table::Numbers;
@@ -12,6 +12,35 @@ use toml::{Table, Value};
 #[tactic(auto, unfolding(crate::specs::Numbers::numbers_in))]
 pub(crate) fn numbers(top: &Table) -> Result<Numbers, TechFileFault>
     ensures { result ≡ numbers_in (table_view top.now) }
+{
+    let numbers = common(top)?;
+    if numbers.has_buried() {
+        with_buried(top, numbers)
+    } else {
+        Ok(numbers)
+    }
+}
+
+/// The same with the numbers of buried contacts.
+#[tactic(auto, unfolding(crate::specs::Numbers::with_buried))]
+fn with_buried(top: &Table, numbers: Numbers) -> Result<Numbers, TechFileFault>
+    ensures { result ≡ with_buried (table_view top.now) numbers }
+{
+    let extensions = found(top, "extension");
+    let spacings = found(top, "spacing");
+    let extension_buried = integer_in(17, "buried", extensions)?;
+    let spacing_buried_channel = integer_in(18, "buried_channel", spacings)?;
+    Ok(Numbers {
+        extension_buried,
+        spacing_buried_channel,
+        ..numbers
+    })
+}
+
+/// The numbers of every version, with those of buried contacts at 0.
+#[tactic(auto, unfolding(crate::specs::Numbers::common_in))]
+fn common(top: &Table) -> Result<Numbers, TechFileFault>
+    ensures { result ≡ common_in (table_view top.now) }
 {
     let version = integer_at(0, found(top, "version"))?;
     let unit = integer_at(1, found(top, "unit"))?;
@@ -44,6 +73,8 @@ pub(crate) fn numbers(top: &Table) -> Result<Numbers, TechFileFault>
         extension_implant: extension.2,
         cut_size,
         cut_enclosure,
+        extension_buried: 0,
+        spacing_buried_channel: 0,
     })
 }
 

@@ -12,7 +12,8 @@ use std::alloc::Global;
 use stick_lex::Text;
 use toml::Table;
 
-/// The technology that a text is: a TOML table with exactly the seventeen integers of a technology.
+/// The technology that a text is: a TOML table with exactly the integers of a technology, seventeen in version 1 and
+/// nineteen in version 2.
 ///
 /// Else the first fault of the text: it is no TOML (`NotToml`); of the first key at which there is one, `Missing` or
 /// `WrongType`; the least `Unknown` key; a fault of the `Numbers`. `OutOfMemory` may come with any text.
@@ -46,7 +47,7 @@ fn technology(alloc: Global, top: &Table) -> Result<Tech, ReadTechFault>
     ensures refused { IfErr result (λ fault. Refuses fault (technology_in (table_view top.now))) }
 {
     let numbers = numbers(top)?;
-    if let Some(key) = least_unknown(alloc, top)? {
+    if let Some(key) = least_unknown(alloc, numbers.has_buried(), top)? {
         let key = Text::new(alloc, key.as_slice())?;
         return Err(ReadTechFault::File(TechFileFault::Unknown(key)));
     }

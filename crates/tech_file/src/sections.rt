@@ -2,7 +2,7 @@
 ghost use Rattle.std.specs.Prelude.{◌≡◌};
 ghost use Rattle.std.specs.List.{list_any};
 ghost use Rattle.std.specs.Str.{bytes_eq};
-ghost use Rattle.tech_file.specs.Sections.{prefix_of, names_of};
+ghost use Rattle.tech_file.specs.Sections.{prefix_of, names_of, buried_names_of};
 ghost use Rattle.tech_file.specs.Unknown.{knows};
 
 /// A part of a technology file: its top, or one of the four tables there.
@@ -30,9 +30,17 @@ impl Section {
         }
     }
 
-    /// Whether this part has the key.
-    pub(crate) fn knows(self, key: &str) -> bool
-        ensures { result ≡ knows self key.now }
+    /// Whether this part has the key, in a technology with or without buried contacts.
+    #[tactic(auto, unfolding(crate::specs::Unknown::knows))]
+    pub(crate) fn knows(self, buried: bool, key: &str) -> bool
+        ensures { result ≡ knows buried self key.now }
+    {
+        self.always_knows(key) || (buried && self.knows_buried(key))
+    }
+
+    /// Whether this part has the key in every version.
+    fn always_knows(self, key: &str) -> bool
+        ensures { result ≡ list_any (λ name. bytes_eq name key.now) (names_of self) }
     {
         match self {
             Section::Top => is_one_of(
@@ -54,6 +62,18 @@ impl Section {
             ),
             Section::Extension => is_one_of(key, &["poly", "diffusion", "implant"]),
             Section::Cut => is_one_of(key, &["size", "enclosure"]),
+        }
+    }
+
+    /// Whether the key is that of buried contacts in this part.
+    #[tactic(auto, unfolding(crate::specs::Sections::buried_names_of))]
+    fn knows_buried(self, key: &str) -> bool
+        ensures { result ≡ list_any (λ name. bytes_eq name key.now) (buried_names_of self) }
+    {
+        match self {
+            Section::Spacing => is_one_of(key, &["buried_channel"]),
+            Section::Extension => is_one_of(key, &["buried"]),
+            Section::Top | Section::Width | Section::Cut => false,
         }
     }
 }

@@ -29,19 +29,59 @@ size = 4
 enclosure = 2
 ";
 
-/// The shipped text with its first `old` changed.
-fn changed(rt: &HostRuntime, old: &str, new: &str) -> Result<String, Fail> {
-    let (front, back) = SHIPPED.split_once(old).ok_or("the text has no such part")?;
+const SHIPPED2: &str = "version = 2
+unit = 150
+
+[width]
+diffusion = 4
+poly = 4
+metal = 6
+
+[spacing]
+diffusion = 6
+poly = 4
+metal = 6
+poly_diffusion = 2
+cut = 4
+cut_channel = 4
+implant_channel = 3
+buried_channel = 4
+
+[extension]
+poly = 4
+diffusion = 4
+implant = 3
+buried = 4
+
+[cut]
+size = 4
+enclosure = 2
+";
+
+/// The text with its first `old` changed.
+fn changed_in(rt: &HostRuntime, text: &str, old: &str, new: &str) -> Result<String, Fail> {
+    let (front, back) = text.split_once(old).ok_or("the text has no such part")?;
     Ok(format!(in rt.alloc(); "{front}{new}{back}")?)
 }
 
-/// `shipped` where the text is the shipped technology, and else the fault.
+/// The shipped text with its first `old` changed.
+fn changed(rt: &HostRuntime, old: &str, new: &str) -> Result<String, Fail> {
+    changed_in(rt, SHIPPED, old, new)
+}
+
+/// `shipped` or `shipped2` where the text is one of the shipped technologies, and else the fault.
 fn told(rt: &HostRuntime, text: &[u8]) -> Result<String, Fail> {
     let alloc = rt.alloc();
     let fault = match read_tech(alloc, text) {
         Ok(tech) => {
-            let shipped = tech == Tech::shipped();
-            return Ok(String::from_str(alloc, if shipped { "shipped" } else { "another" })?);
+            let name = if tech == Tech::shipped() {
+                "shipped"
+            } else if tech == Tech::shipped2() {
+                "shipped2"
+            } else {
+                "another"
+            };
+            return Ok(String::from_str(alloc, name)?);
         }
         Err(ReadTechFault::OutOfMemory) => return Ok(String::from_str(alloc, "OutOfMemory")?),
         Err(ReadTechFault::File(fault)) => fault,
@@ -67,7 +107,7 @@ fn each_fault_is_told(rt: HostRuntime) -> Result<(), Fail> {
     assert_eq!(rt; told(&rt, b"")?.as_str(), "Missing 0");
     for (old, new, want) in [
         ("metal = 6", "metal = 5", "OddWidth(4)"),
-        ("version = 1", "version = 2", "OutOfRange(0)"),
+        ("version = 1", "version = 3", "OutOfRange(0)"),
         ("[cut]\nsize = 4\nenclosure = 2\n", "", "Missing 15"),
         ("version = 1", "extra = 1\nversion = 1", "Unknown extra"),
         ("implant = 3\n", "", "Missing 14"),
@@ -140,6 +180,51 @@ fn faults_come_in_their_order(rt: HostRuntime) -> Result<(), Fail> {
         let text = changed(&rt, old, new)?;
         assert_eq!(rt; told(&rt, text.as_bytes())?.as_str(), want, "with {new}");
     }
+    Ok(())
+}
+
+#[test]
+fn version_two_has_the_keys_of_buried_contacts(rt: HostRuntime) -> Result<(), Fail> {
+    assert_eq!(rt; told(&rt, SHIPPED2.as_bytes())?.as_str(), "shipped2");
+    for (old, new, want) in [
+        ("\nburied = 4", "", "Missing 17"),
+        ("\nburied_channel = 4", "", "Missing 18"),
+        ("\nburied_channel = 4", "\nburied = 4", "Missing 18"),
+        ("\nburied = 4", "\nburied = \"4\"", "WrongType 17"),
+        ("buried_channel = 4", "buried_channel = 4.0", "WrongType 18"),
+        ("[extension]", "[extend]", "Missing 12"),
+        ("\nenclosure = 2", "\nburied = 4", "Missing 16"),
+        (
+            "\nenclosure = 2",
+            "\nenclosure = 2\nburied = 4",
+            "Unknown cut.buried",
+        ),
+        (
+            "buried_channel = 4",
+            "buried_channel = 0",
+            "ZeroSpacing(18)",
+        ),
+        ("\nburied = 4", "\nburied = 4097", "OutOfRange(17)"),
+        // In another version these keys are not known.
+        ("version = 2", "version = 1", "Unknown extension.buried"),
+        ("version = 2", "version = 3", "Unknown extension.buried"),
+        ("version = 2", "version = 2.0", "WrongType 0"),
+        ("version = 2\n", "", "Missing 0"),
+    ] {
+        let text = changed_in(&rt, SHIPPED2, old, new)?;
+        assert_eq!(rt; told(&rt, text.as_bytes())?.as_str(), want, "with {new}");
+    }
+    let text = changed(&rt, "version = 1", "version = 2")?;
+    assert_eq!(rt; told(&rt, text.as_bytes())?.as_str(), "Missing 17");
+    let text = changed(
+        &rt,
+        "cut_channel = 4",
+        "cut_channel = 4\nburied_channel = 0",
+    )?;
+    assert_eq!(rt;
+        told(&rt, text.as_bytes())?.as_str(),
+        "Unknown spacing.buried_channel"
+    );
     Ok(())
 }
 

@@ -10,38 +10,41 @@ use std::alloc::{AllocError, Global};
 use toml::{Table, Value};
 
 /// The least unknown key, dotted, in the order of bytes.
-pub(crate) fn least_unknown(alloc: Global, top: &Table) -> Result<Option<Vec<u8>>, AllocError>
-    ensures value { IfOk result (λ key. option_map (λ k. k.items) key ≡ least (unknown_keys (table_view top.now))) }
-    ensures named { IfOk result (λ key. NamesLeast (option_map (λ k. k.items) key) (unknown_keys (table_view top.now))) }
+pub(crate) fn least_unknown(
+    alloc: Global,
+    buried: bool,
+    top: &Table,
+) -> Result<Option<Vec<u8>>, AllocError>
+    ensures value { IfOk result (λ key. option_map (λ k. k.items) key ≡ least (unknown_keys buried (table_view top.now))) }
+    ensures named { IfOk result (λ key. NamesLeast (option_map (λ k. k.items) key) (unknown_keys buried (table_view top.now))) }
 {
-    let of_top = or_unknown_in(alloc, None, Section::Top, top)?;
-    let of_width = or_unknown_at(alloc, of_top, Section::Width, found(top, "width"))?;
-    let of_spacing = or_unknown_at(alloc, of_width, Section::Spacing, found(top, "spacing"))?;
-    let of_extension = or_unknown_at(
-        alloc,
-        of_spacing,
-        Section::Extension,
-        found(top, "extension"),
-    )?;
-    or_unknown_at(alloc, of_extension, Section::Cut, found(top, "cut"))
+    let of_top = or_unknown_in(alloc, buried, None, Section::Top, top)?;
+    let widths = found(top, "width");
+    let of_width = or_unknown_at(alloc, buried, of_top, Section::Width, widths)?;
+    let spacings = found(top, "spacing");
+    let of_spacing = or_unknown_at(alloc, buried, of_width, Section::Spacing, spacings)?;
+    let extensions = found(top, "extension");
+    let of_extension = or_unknown_at(alloc, buried, of_spacing, Section::Extension, extensions)?;
+    or_unknown_at(alloc, buried, of_extension, Section::Cut, found(top, "cut"))
 }
 
 /// The least of a key and the unknown keys of the table that was found.
 #[tactic(auto, unfolding(crate::specs::Unknown::unknown_at))]
 fn or_unknown_at(
     alloc: Global,
+    buried: bool,
     least: Option<Vec<u8>>,
     section: Section,
     value: Option<&Value>,
 ) -> Result<Option<Vec<u8>>, AllocError>
     ensures { IfOk result (λ key. option_map (λ k. k.items) key
-        ≡ fold lesser (option_map (λ k. k.items) least) (unknown_at section (option_map (λ v. view v.now) value.entry))) }
+        ≡ fold lesser (option_map (λ k. k.items) least) (unknown_at buried section (option_map (λ v. view v.now) value.entry))) }
 {
     let Some(value) = value else {
         return Ok(least);
     };
     match value.as_table() {
-        Some(table) => or_unknown_in(alloc, least, section, table),
+        Some(table) => or_unknown_in(alloc, buried, least, section, table),
         None => Ok(least),
     }
 }
@@ -49,16 +52,17 @@ fn or_unknown_at(
 /// The least of a key and the unknown keys of a table.
 fn or_unknown_in(
     alloc: Global,
+    buried: bool,
     so_far: Option<Vec<u8>>,
     section: Section,
     table: &Table,
 ) -> Result<Option<Vec<u8>>, AllocError>
     ensures { IfOk result (λ key. option_map (λ k. k.items) key
-        ≡ fold lesser (option_map (λ k. k.items) so_far) (unknown_in section (table_view table.now))) }
+        ≡ fold lesser (option_map (λ k. k.items) so_far) (unknown_in buried section (table_view table.now))) }
 {
     let mut least = so_far;
     'members: for (key, _value) in table.iter() {
-        if !section.knows(key.as_str()) {
+        if !section.knows(buried, key.as_str()) {
             least = Some(lesser(least, dotted(alloc, section, key.as_str())?));
         }
     }

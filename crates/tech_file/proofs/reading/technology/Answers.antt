@@ -10,16 +10,16 @@ returns-in_err-numbers-clause-refused c =
 
 pub returns-in-Some-clause-refused : goal.returns-in-Some-clause-refused
 returns-in-Some-clause-refused c =
-    let some = rw c.in-Some.is at c.in_ok-key.ensures.value in
+    let some = rw (c.in-Some.is, c.has_buried.ensures) at c.in_ok-key.ensures.value in
     let text : c.in_ok-key-2.key ≡ c.in-Some.key.items = c.in_ok-key-2.ensures ∙ c.as_slice.ensures.value in
     rw text (unknown_refused _ _ _ c.in_ok-numbers.ensures some)
 
 pub returns-in-Ok-clause-accepted : goal.returns-in-Ok-clause-accepted
 returns-in-Ok-clause-accepted c =
-    let none = rw c.in_default.is at c.in_ok-key.ensures.value in
+    let none = rw (c.in_default.is, c.has_buried.ensures) at c.in_ok-key.ensures.value in
     rw c.in-Ok.ensures.ok (accepted _ _ c.in_ok-numbers.ensures none c.in-Ok.ensures.accepted)
 
 pub returns-in-Err-clause-refused : goal.returns-in-Err-clause-refused
 returns-in-Err-clause-refused c =
-    let none = rw c.in_default.is at c.in_ok-key.ensures.value in
+    let none = rw (c.in_default.is, c.has_buried.ensures) at c.in_ok-key.ensures.value in
     unfit_refused _ _ _ c.in_ok-numbers.ensures none c.in-Err.ensures.refused

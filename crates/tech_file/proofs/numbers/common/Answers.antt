@@ -1,9 +1,9 @@
 use Rattle.std.proofs.Common.{arith, to_z-of_z, sym}
-use Rattle.tech_file.specs.Numbers.{numbers_in}
-use Rattle.tech_file.proofs.numbers.numbers.Goals as goal
+use Rattle.tech_file.specs.Numbers.{common_in}
+use Rattle.tech_file.proofs.numbers.common.Goals as goal
 
 pub returns : goal.returns
-unfolding numbers_in
+unfolding common_in
 returns c =
     rw (sym c.found.ensures, sym c.found-2.ensures, sym c.found-widths.ensures, sym c.found-spacings.ensures, sym c.found-extensions.ensures, sym c.found-cut.ensures)
     (rw (
