@@ -24,6 +24,10 @@ max_low a b h = omega (arith, ints, clamps)
 max_high : (a b top : ℤ) → a ≤ℤ top → b ≤ℤ top → int_max a b ≤ℤ top
 max_high a b top h k = omega (arith, ints, clamps)
 
+-- the greater of two lengths is no longer than both may be
+pub max_within : (top a b : ℤ) → (pos 0 ≤ℤ a) × (a ≤ℤ top) → (pos 0 ≤ℤ b) × (b ≤ℤ top) → (pos 0 ≤ℤ int_max a b) × (int_max a b ≤ℤ top)
+max_within top a b h k = (max_low a b h.0, max_high a b top h.1 k.1)
+
 -- the greater of two held numbers
 pub greater : (a b top m : ℤ) → pos 0 ≤ℤ a → a ≤ℤ top → pos 0 ≤ℤ b → b ≤ℤ top → top ≤ℤ pos 12288 → m ≡ int_max (held a) (held b)
     → (m ≡ int_max a b) × (held m ≡ int_max a b) × (pos 0 ≤ℤ int_max a b) × (int_max a b ≤ℤ top)
@@ -49,6 +53,25 @@ halves p q hp hq m p_low p_high q_low q_high ep eq e =
 fits : (z : ℤ) → pos 0 ≤ℤ z → z ≤ℤ pos 6144 → FitsSigned w64 z
 fits z low high = omega (arith, ints)
 
+-- half a size
+held_half : (size h : ℤ) → IsSize size → h ≡ half (held size) → held h ≡ half size
+held_half size h s e =
+    let low : pos 2 ≤ℤ size = s.low in
+    let high : size ≤ℤ pos 4096 = s.high in
+    let whole = half_bounds size (omega (arith, ints)) in
+    ap held (e ∙ ap half (holds size (omega (arith, ints)) (omega (arith, ints)))) ∙ holds (half size) whole.0 (omega (arith, ints))
+
+-- and a length past it
+pub past : (size a h : ℤ) → IsSize size → IsLength a → h ≡ half (held size) → held (held h +ℤ held a) ≡ half size +ℤ a
+past size a h s la e =
+    let low : pos 2 ≤ℤ size = s.low in
+    let high : size ≤ℤ pos 4096 = s.high in
+    let whole = half_bounds size (omega (arith, ints)) in
+    let a_low : pos 0 ≤ℤ a = la.0 in
+    let a_high : a ≤ℤ pos 4096 = la.1 in
+    ap held (ap (λ z. z +ℤ held a) (held_half size h s e) ∙ ap (λ z. half size +ℤ z) (holds a a_low (omega (arith, ints))))
+    ∙ holds (half size +ℤ a) (omega (arith, ints)) (omega (arith, ints))
+
 -- half a size and the greater of two lengths
 pub side : (size a b h m : ℤ) → IsSize size → IsLength a → IsLength b → h ≡ half (held size) → m ≡ int_max (held a) (held b)
     → FitsSigned w64 (held h +ℤ held m) × (held (held h +ℤ held m) ≡ half size +ℤ int_max a b) × (pos 0 ≤ℤ (half size +ℤ int_max a b)) × ((half size +ℤ int_max a b) ≤ℤ pos 6144)
@@ -57,7 +80,7 @@ side size a b h m s la lb eh em =
     let high : size ≤ℤ pos 4096 = s.high in
     let whole = half_bounds size (omega (arith, ints)) in
     let g = greater a b (pos 4096) m la.0 la.1 lb.0 lb.1 (omega (arith, ints)) em in
-    let h_is : held h ≡ half size = ap held (eh ∙ ap half (holds size (omega (arith, ints)) (omega (arith, ints)))) ∙ holds (half size) whole.0 (omega (arith, ints)) in
+    let h_is = held_half size h s eh in
     let sum_low : pos 0 ≤ℤ (half size +ℤ int_max a b) = omega (arith, ints, g.2) in
     let sum_high : (half size +ℤ int_max a b) ≤ℤ pos 6144 = omega (arith, ints, g.3) in
     let is : (held h +ℤ held m) ≡ (half size +ℤ int_max a b) = ap (λ z. z +ℤ held m) h_is ∙ ap (λ z. half size +ℤ z) g.1 in
@@ -80,7 +103,7 @@ widened now width h m low high s eh e =
     let wide : pos 2 ≤ℤ width = s.low in
     let narrow : width ≤ℤ pos 4096 = s.high in
     let whole = half_bounds width (omega (arith, ints)) in
-    let h_is : held h ≡ half width = ap held (eh ∙ ap half (holds width (omega (arith, ints)) (omega (arith, ints)))) ∙ holds (half width) whole.0 (omega (arith, ints)) in
+    let h_is = held_half width h s eh in
     let is : m ≡ int_max now (half width) = e ∙ ap (λ z. int_max now z) h_is in
     let m_low = max_low now (half width) low in
     let m_high = max_high now (half width) (pos 6144) high (omega (arith, ints)) in

@@ -1,5 +1,5 @@
 -- Layouts in which no two items i < j are too near one another are the clean ones.
-use Rattle.std.proofs.Common.{◌≡◌, ◌==◌, ℕ, ◌<◌, ◌≤◌, Bool, true, false, cond, ℤ, ◌≤ℤ◌, List, length, Option, Some, None, refl, inl, inr, arith}
+use Rattle.std.proofs.Common.{◌≡◌, ◌==◌, ◌||◌, ℕ, ◌<◌, ◌≤◌, Bool, true, false, cond, ℤ, ◌≤ℤ◌, List, length, Option, Some, None, refl, inl, inr, arith}
 use Rattle.std.specs.Prelude.{IfSome}
 use Rattle.std.proofs.lemmas.Bool.{cases_lt}
 use Rattle.std.proofs.lemmas.Int.{ints}
@@ -10,7 +10,7 @@ use Rattle.rule_table.proofs.Margins.{margin_above, widest_above}
 use Rattle.sym_items.specs.declared.items.Item.{Item}
 use Rattle.sym_items.specs.declared.items.Coords.{Coords}
 use Rattle.sym_items.specs.Sides.{gap_in}
-use Rattle.pair_rules.specs.Bound.{is_exempt, spacing_by, bound_spacing}
+use Rattle.pair_rules.specs.Bound.{is_exempt, spacing_by, is_joined, bound_spacing}
 use Rattle.pair_rules.specs.Clean.{IsClean}
 use Rattle.pair_rules.proofs.CleanPairs.{clean_in_order}
 use Rattle.coarse_grid.specs.Clash.{is_below, is_near, is_near_at}
@@ -39,7 +39,7 @@ clean_not_near tech c items i j clean i_among j_among = not_below _ _ (clean i j
 spacing_widest : (tech : Tech) (a b : Item) → IfSome (bound_spacing tech a b) (λ s. s ≤ℤ widest_of tech)
 unfolding bound_spacing
 spacing_widest tech a b =
-    unless (a.owner == b.owner) (spacing_by (spacing_of tech a.class b.class) a.net b.net) (widest_of tech)
+    unless ((a.owner == b.owner) || is_joined a b) (spacing_by (spacing_of tech a.class b.class) a.net b.net) (widest_of tech)
     (ruled (spacing_of tech a.class b.class) a.net b.net (margin_of tech a.class) (widest_of tech) (margin_above (numbers_of tech) a.class b.class) (widest_above (numbers_of tech) a.class))
   where
     unless : (b : Bool) (o : Option ℤ) (w : ℤ) → IfSome o (λ s. s ≤ℤ w) → IfSome (cond b None o) (λ s. s ≤ℤ w)

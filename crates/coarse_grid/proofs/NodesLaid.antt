@@ -17,13 +17,15 @@ use Rattle.sym_items.specs.declared.items.Item.{Item}
 use Rattle.cell_model.specs.declared.cell.Axis2.{Axis2}
 use Rattle.cell_model.specs.declared.cell.Axis2.TheVariants.{Across, Up}
 use Rattle.cell_model.specs.declared.cell.NodeKind.{NodeKind}
-use Rattle.cell_model.specs.declared.cell.NodeKind.TheVariants.{Joint, Contact, Fet}
+use Rattle.cell_model.specs.declared.cell.NodeKind.TheVariants.{Joint, Contact, Buried, Fet}
 use Rattle.cell_model.specs.declared.cell.NodeNets.{NodeNets}
+use Rattle.cell_model.specs.Wiring.{buried_pad}
 use Rattle.cell_model.specs.Sound.{IsKind}
 use Rattle.list_facts.proofs.Elements.{all_weaker, all_map}
 use Rattle.expand.specs.Variables.{half, centre}
-use Rattle.expand.specs.NodeItems.{item_running, on_layer, box_at, box_round, square_round, channel_items, kind_items}
+use Rattle.expand.specs.NodeItems.{item_running, on_layer, box_at, box_round, square_round, standing_at, channel_items, kind_items}
 use Rattle.coarse_grid.specs.Extent.{implant_past, fet_reach, reach_of}
+use Rattle.expand.proofs.Among.{half_buried}
 use Rattle.coarse_grid.proofs.Extents.{half_bounds}
 use Rattle.coarse_grid.proofs.Grid.{IsRoundOn}
 
@@ -55,7 +57,10 @@ layered k extent Metal item h = (record { owner = h.owner; x = h.x; y = h.y }, t
 layered k extent Poly item h = (record { owner = h.owner; x = h.x; y = h.y }, tt)
 layered k extent Diffusion item h = (record { owner = h.owner; x = h.x; y = h.y }, (record { owner = h.owner; x = h.x; y = h.y }, tt))
 
--- and an item that is turned lies round the centre too
+-- an item that stands at a contact, or is turned, lies round the centre too
+standing : (k : ℕ) (extent : ℤ) (item : Item) → IsRound k extent item → IsRound k extent (standing_at k item)
+standing k extent item h = record { owner = h.owner; x = h.x; y = h.y }
+
 turned : (k : ℕ) (extent : ℤ) (gate : Axis2) (item : Item) → IsRound k extent item → IsRound k extent (item_running gate item)
 turned k extent Across item h = h
 turned k extent Up item h = record { owner = h.owner; x = h.y; y = h.x }
@@ -158,6 +163,14 @@ kind_round tech k (Contact lower) nets extent h le =
         layered k extent lower _ (square_is_round k M nets.main extent _ pad_low both.0),
       ),
     )
+kind_round tech k Buried nets extent h le =
+    let pad : ℤ = half (buried_pad tech) in
+    let past : ℤ = (numbers_of tech).extension_buried in
+    let low = (half_buried tech).0 in
+    let past_low = (sound tech.numbers tech.sound).in_range.extension_buried.0 in
+    let square : (class : Class) → IsRound k extent (standing_at k (square_round k class nets.main pad)) =
+    λ class. standing k extent _ (square_is_round k class nets.main extent pad low (less pad past extent past_low le)) in
+    (square _, (square _, (square _, (standing k extent _ (square_is_round k _ nets.main extent (pad +ℤ past) (sum_low pad past low past_low) le), tt))))
 kind_round tech k (Fet depletion gate w l) nets extent h le =
     all_map (IsRound k extent) (item_running gate) (channel_items tech k nets depletion (half w) (half l))
     (all_weaker (IsRound k extent) (λ item. IsRound k extent (item_running gate item)) (turned k extent gate) (channel_items tech k nets depletion (half w) (half l))

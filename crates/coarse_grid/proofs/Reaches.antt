@@ -10,17 +10,19 @@ use Rattle.rule_table.proofs.Sound.{sound}
 use Rattle.rule_table.proofs.Margins.{widest_positive, widest_below}
 use Rattle.rule_table.proofs.Widths.{pad_bounds}
 use Rattle.cell_model.specs.declared.cell.NodeKind.{NodeKind}
-use Rattle.cell_model.specs.declared.cell.NodeKind.TheVariants.{Joint, Contact, Fet}
+use Rattle.cell_model.specs.declared.cell.NodeKind.TheVariants.{Joint, Contact, Buried, Fet}
 use Rattle.cell_model.specs.declared.cell.Node.{Node}
 use Rattle.cell_model.specs.declared.cell.Wire.{Wire}
 use Rattle.cell_model.specs.declared.cell.Cell.{Cell}
+use Rattle.cell_model.specs.Wiring.{buried_pad}
 use Rattle.cell_model.specs.Sound.{IsKind, IsNode, IsWire, IsSound}
 use Rattle.list_facts.proofs.Elements.{all_weaker, all_append, all_map}
 use Rattle.expand.specs.Variables.{half}
 use Rattle.coarse_grid.specs.Extent.{implant_past, reach_of, half_extent_of, pitch_of}
 use Rattle.coarse_grid.specs.Near.{IsPitch}
 use Rattle.list_facts.proofs.Elements.{all_parts, all_unmap}
-use Rattle.coarse_grid.proofs.Extents.{half_bounds}
+use Rattle.expand.proofs.Among.{half_size, buried_size}
+use Rattle.coarse_grid.proofs.Extents.{half_bounds, max_within}
 
 from_greatest : (a : ℤ) (zs : List ℤ) → a ≤ℤ fold int_max a zs
 from_greatest a [] = omega (arith, ints)
@@ -39,30 +41,9 @@ implant_bounds : (tech : Tech) (depletion : Bool) → IsLength (implant_past tec
 implant_bounds tech true = (sound tech.numbers tech.sound).in_range.extension_implant
 implant_bounds tech false = (omega (arith, ints), omega (arith, ints))
 
-max_length : (a b : ℤ) → IsLength a → IsLength b → IsLength (int_max a b)
-max_length a b h k =
-    let low : pos 0 ≤ℤ a = h.0 in
-    let high : a ≤ℤ pos 4096 = h.1 in
-    let other : b ≤ℤ pos 4096 = k.1 in
-    (omega (arith, ints, clamps), omega (arith, ints, clamps))
-
 -- how far the items at a node reach
 abbrev IsReach : ℤ → Type 0
 IsReach z = (pos 0 ≤ℤ z) × (z ≤ℤ pos 6144)
-
-half_size : (z : ℤ) → IsSize z → (pos 0 ≤ℤ half z) × (half z ≤ℤ pos 2048)
-half_size z s =
-    let low : pos 2 ≤ℤ z = s.low in
-    let high : z ≤ℤ pos 4096 = s.high in
-    let h = half_bounds z (omega (arith, ints)) in
-    (h.0, omega (arith, ints, h.1))
-
-max_reach : (a b : ℤ) → IsReach a → IsReach b → IsReach (int_max a b)
-max_reach a b h k =
-    let low : pos 0 ≤ℤ a = h.0 in
-    let high : a ≤ℤ pos 6144 = h.1 in
-    let other : b ≤ℤ pos 6144 = k.1 in
-    (omega (arith, ints, clamps), omega (arith, ints, clamps))
 
 past_half : (z more : ℤ) → IsSize z → IsLength more → IsReach (half z +ℤ more)
 past_half z more s m =
@@ -82,12 +63,13 @@ reach_bounds tech (Contact lower) h =
     let pad = pad_bounds tech.numbers n in
     let cut = half_size tech.numbers.cut_size n.cut_size in
     let wide = half_bounds (pad_of tech) (omega (arith, ints, pad.0)) in
-    max_reach (half (pad_of tech)) (half (numbers_of tech).cut_size) (wide.0, omega (arith, ints, wide.1, pad.1)) (cut.0, omega (arith, ints, cut.1))
+    max_within (pos 6144) (half (pad_of tech)) (half (numbers_of tech).cut_size) (wide.0, omega (arith, ints, wide.1, pad.1)) (cut.0, omega (arith, ints, cut.1))
+reach_bounds tech Buried h = past_half (buried_pad tech) _ (buried_size tech) (sound tech.numbers tech.sound).in_range.extension_buried
 reach_bounds tech (Fet depletion gate w l) h =
     let n = (sound tech.numbers tech.sound).in_range in
-    max_reach _ _
-    (past_half w _ h.0 (max_length (numbers_of tech).extension_poly (implant_past tech depletion) n.extension_poly (implant_bounds tech depletion)))
-    (past_half l _ h.1 (max_length (numbers_of tech).extension_diffusion (implant_past tech depletion) n.extension_diffusion (implant_bounds tech depletion)))
+    max_within (pos 6144) _ _
+    (past_half w _ h.0 (max_within (pos 4096) (numbers_of tech).extension_poly (implant_past tech depletion) n.extension_poly (implant_bounds tech depletion)))
+    (past_half l _ h.1 (max_within (pos 4096) (numbers_of tech).extension_diffusion (implant_past tech depletion) n.extension_diffusion (implant_bounds tech depletion)))
 
 -- a pitch and a half extent that fit a cell
 pub record IsCoarse (tech : Tech) (cell : Cell) (pitch extent : ℤ) : Type 0 where

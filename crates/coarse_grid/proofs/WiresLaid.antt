@@ -11,7 +11,7 @@ use Rattle.sym_items.specs.Values.{value_of, value_at}
 use Rattle.cell_model.specs.declared.cell.Axis2.{Axis2}
 use Rattle.cell_model.specs.declared.cell.Axis2.TheVariants.{Across, Up}
 use Rattle.cell_model.specs.declared.cell.NodeKind.{NodeKind}
-use Rattle.cell_model.specs.declared.cell.NodeKind.TheVariants.{Joint, Contact, Fet}
+use Rattle.cell_model.specs.declared.cell.NodeKind.TheVariants.{Joint, Contact, Buried, Fet}
 use Rattle.cell_model.specs.declared.cell.Node.{Node}
 use Rattle.cell_model.specs.declared.cell.WireEnd.{WireEnd}
 use Rattle.cell_model.specs.declared.cell.WireEnd.TheVariants as ends
@@ -22,7 +22,7 @@ use Rattle.cell_model.specs.Sound.{IsKind, IsNode, IsWire, IsSound, IsEnd, IsInO
 use Rattle.list_facts.proofs.Elements.{all_at}
 use Rattle.expand.specs.Variables.{half, centre, past, cross_of}
 use Rattle.expand.specs.NodeItems.{item_running}
-use Rattle.expand.specs.WireItems.{half_channel, reach, low_end_of, high_end_of, run_item, wire_items}
+use Rattle.expand.specs.WireItems.{half_channel, reach, low_end_of, high_end_of, contact_at, run_item, wire_items}
 use Rattle.coarse_grid.specs.Extent.{reach_of}
 use Rattle.coarse_grid.specs.Near.{AreLinesNear}
 use Rattle.coarse_grid.specs.Start.{node_line, last_line, start_values}
@@ -63,6 +63,7 @@ channel_near tech depletion gate along w l extent h le =
 reach_near : (tech : Tech) (kind : NodeKind) (width extent : ℤ) (along : Axis2) → IsKind tech kind → reach_of tech kind ≤ℤ extent → pos 0 ≤ℤ half width → half width ≤ℤ extent → IsOffset extent (reach tech kind width along)
 reach_near tech (Joint layer own) width extent along h le low high = small extent (half width) low high
 reach_near tech (Contact lower) width extent along h le low high = small extent (half width) low high
+reach_near tech Buried width extent along h le low high = small extent (half width) low high
 reach_near tech (Fet depletion gate w l) width extent along h le low high = channel_near tech depletion gate along w l extent h le
 
 -- all that is known of a wire of the cell
@@ -244,7 +245,7 @@ pub wire_laid : (tech : Tech) (cell : Cell) (pitch extent : ℤ) (net k : ℕ) �
     → AllByRecursion (IsLaid cell pitch extent) (wire_items tech cell (length cell.nodes + k) net (cross_of cell k) (wire_at cell.wires k))
 wire_laid tech cell pitch extent net k f lt =
     let wire = wire_at cell.wires k in
-    let item = run_item (length cell.nodes + k) net (cross_of cell k) wire.width (low_end_of tech cell wire wire.low) (high_end_of tech cell wire wire.high) in
+    let item = run_item (length cell.nodes + k) net (cross_of cell k) wire.width (low_end_of tech cell wire wire.low) (high_end_of tech cell wire wire.high) (contact_at cell wire.low) (contact_at cell wire.high) in
     laid_layers cell pitch extent wire.layer (item_running wire.along item)
     (running_laid cell pitch extent wire.along item
     (run_span tech cell pitch extent wire (lines_of wire.along cell (length cell.nodes + k)) f (lines_of_wire wire.along cell k ∙ lines_along cell wire))

@@ -1,5 +1,5 @@
 -- The pitch and the start layout of the cells typed in, worked by hand; that these cells meet the checks, and that the boxes are such.
-use Rattle.std.proofs.Common.{◌≡◌, ℕ, zero, suc, ◌<◌, ◌≤ℤ◌, ℤ, pos, None, List, [], ◌∷◌, length, All, refl, ap, inl, inr, arith}
+use Rattle.std.proofs.Common.{◌≡◌, ℕ, zero, suc, ◌<◌, ◌≤◌, Bool, true, false, ◌≤ℤ◌, ℤ, pos, None, List, [], ◌∷◌, length, All, refl, ap, inl, inr, arith}
 use Rattle.std.proofs.lemmas.Int.{ints}
 use Rattle.lam_geom.specs.Places.{IsPlace}
 use Rattle.rule_table.specs.declared.technology.Tech.{Tech}
@@ -7,19 +7,21 @@ use Rattle.rule_table.specs.declared.keys.Numbers.{Numbers}
 use Rattle.rule_table.specs.declared.classes.Layer.TheVariants.{Diffusion, Poly, Metal}
 use Rattle.rule_table.specs.Bounds.{IsSize}
 use Rattle.rule_table.specs.Faults.{fault_of}
+use Rattle.rule_table.specs.Keys.{has_buried}
 use Rattle.rule_table.specs.Spacing.{spacing_in, greatest, margin_in, widest_in, width_in, pad_in}
-use Rattle.rule_table.specs.Technology.{width_of, shipped_numbers}
+use Rattle.rule_table.specs.Technology.{numbers_of, width_of, shipped_numbers, shipped2_numbers}
 use Rattle.sym_items.specs.declared.items.End.{End}
 use Rattle.sym_items.specs.declared.items.Coords.{Coords}
 use Rattle.sym_items.specs.Values.{value_at}
 use Rattle.sym_items.specs.Boxes.{IsPlacedEnd, HasSpan, HasBox}
 use Rattle.cell_model.specs.declared.cell.Axis2.TheVariants.{Across, Up}
 use Rattle.cell_model.specs.declared.cell.Cell.{Cell}
-use Rattle.cell_model.specs.declared.cell.NodeKind.TheVariants.{Contact}
-use Rattle.cell_model.specs.Sound.{IsKind, IsPort, port_at}
+use Rattle.cell_model.specs.declared.cell.NodeKind.{NodeKind}
+use Rattle.cell_model.specs.declared.cell.NodeKind.TheVariants.{Contact, Buried}
+use Rattle.cell_model.specs.Sound.{IsKind, IsPort, IsSound, LeaveOneSide, port_at, wire_at}
 use Rattle.coarse_grid.specs.Extent.{half_extent_of, pitch_of}
 use Rattle.coarse_grid.specs.Start.{last_line, place, far_border, start_of}
-use Rattle.coarse_grid.specs.Worked.{IsShipped, joints, transistor, long_transistor, empty, side_to_side, inverter, bare_inverter, below, above, three, close, spaced}
+use Rattle.coarse_grid.specs.Worked.{IsShipped, IsShipped2, node, fet, cell_of, joints, transistor, long_transistor, window, buried, empty, side_to_side, inverter, bare_inverter, below, above, three, close, spaced}
 use Rattle.list_facts.proofs.Elements.{all_of}
 
 -- ---- pitches and layouts
@@ -28,38 +30,51 @@ use Rattle.list_facts.proofs.Elements.{all_of}
 abbrev shipped : fault_of shipped_numbers ≡ None → Tech
 shipped sound = record { numbers = shipped_numbers; sound = sound }
 
+-- the one with buried contacts
+abbrev shipped2 : fault_of shipped2_numbers ≡ None → Tech
+shipped2 sound = record { numbers = shipped2_numbers; sound = sound }
+
 joints_pitch : (s : fault_of shipped_numbers ≡ None) → pitch_of (shipped s) joints ≡ pos 12
-unfolding pitch_of half_extent_of widest_in margin_in spacing_in greatest
+unfolding pitch_of half_extent_of widest_in margin_in spacing_in greatest has_buried
 joints_pitch s = refl
 
 joints_start : (s : fault_of shipped_numbers ≡ None) → let c : Coords = record {
   x = pos 0 ∷ pos 24 ∷ pos 12 ∷ pos 12 ∷ pos 12 ∷ [];
   y = pos 0 ∷ pos 36 ∷ pos 12 ∷ pos 24 ∷ [];
 } in start_of (shipped s) joints ≡ c
-unfolding pitch_of half_extent_of widest_in margin_in spacing_in greatest last_line place
+unfolding pitch_of half_extent_of widest_in margin_in spacing_in greatest has_buried last_line place
 joints_start s = refl
 
 transistor_pitch : (s : fault_of shipped_numbers ≡ None) → pitch_of (shipped s) transistor ≡ pos 18
-unfolding pitch_of half_extent_of widest_in margin_in spacing_in greatest
+unfolding pitch_of half_extent_of widest_in margin_in spacing_in greatest has_buried
 transistor_pitch s = refl
 
 -- L/2 and the extension of diffusion are 10
 long_transistor_pitch : (s : fault_of shipped_numbers ≡ None) → pitch_of (shipped s) long_transistor ≡ pos 26
-unfolding pitch_of half_extent_of widest_in margin_in spacing_in greatest
+unfolding pitch_of half_extent_of widest_in margin_in spacing_in greatest has_buried
 long_transistor_pitch s = refl
 
 -- the borders of an empty cell lie twice the widest spacing apart
 empty_start : (s : fault_of shipped_numbers ≡ None) → let c : Coords = record { x = pos 0 ∷ pos 12 ∷ []; y = pos 0 ∷ pos 12 ∷ [] } in start_of (shipped s) empty ≡ c
-unfolding pitch_of half_extent_of widest_in margin_in spacing_in greatest last_line place
+unfolding pitch_of half_extent_of widest_in margin_in spacing_in greatest has_buried last_line place
 empty_start s = refl
 
 side_to_side_start : (s : fault_of shipped_numbers ≡ None) → let c : Coords = record { x = pos 0 ∷ pos 24 ∷ []; y = pos 0 ∷ pos 48 ∷ pos 36 ∷ [] } in start_of (shipped s) side_to_side ≡ c
-unfolding pitch_of half_extent_of widest_in margin_in spacing_in greatest last_line place
+unfolding pitch_of half_extent_of widest_in margin_in spacing_in greatest has_buried last_line place
 side_to_side_start s = refl
+
+-- a window goes 4 past a pad that is 4 wide
+buried_extent : (s : fault_of shipped2_numbers ≡ None) → half_extent_of (shipped2 s) buried ≡ pos 6
+unfolding half_extent_of
+buried_extent s = refl
+
+buried_pitch : (s : fault_of shipped2_numbers ≡ None) → pitch_of (shipped2 s) buried ≡ pos 18
+unfolding pitch_of half_extent_of widest_in margin_in spacing_in greatest has_buried
+buried_pitch s = refl
 
 -- two columns and five rows, a pitch of 22 apart
 inverter_pitch : (s : fault_of shipped_numbers ≡ None) → pitch_of (shipped s) inverter ≡ pos 22
-unfolding pitch_of half_extent_of widest_in margin_in spacing_in greatest pad_in
+unfolding pitch_of half_extent_of widest_in margin_in spacing_in greatest has_buried pad_in
 inverter_pitch s = refl
 
 inverter_width : far_border (pos 22) Across inverter ≡ pos 66
@@ -84,6 +99,30 @@ twelve = record { low = omega (arith, ints); high = omega (arith, ints); even = 
 no_port : (cell : Cell) (k : ℕ) → k < 0 → IsPort cell k (port_at cell.ports k)
 no_port cell k lt = absurd (omega arith)
 
+-- one wire is on one side of a buried contact alone
+one_side : (cell : Cell) → length cell.wires ≤ 1 → (j k : ℕ) → j < length cell.wires → k < length cell.wires → LeaveOneSide cell (wire_at cell.wires j) (wire_at cell.wires k)
+    → (wire_at cell.wires j).layer ≡ (wire_at cell.wires k).layer
+one_side cell few j k j_among k_among side =
+    let same : j ≡ k = omega arith in
+    ap (λ (n : ℕ). (wire_at cell.wires n).layer) same
+
+-- a cell of one node
+one_node : (tech : Tech) (kind : NodeKind) (col row : ℕ) → col ≤ 4095 → row ≤ 4095 → IsKind tech kind → IsSound tech (cell_of (node kind col row ∷ []) [] [])
+one_node tech kind col row few_cols few_rows is_kind = record {
+  nodes = (record { col = few_cols; row = few_rows; kind = is_kind }, tt);
+  wires = tt;
+  sides = one_side (cell_of (node kind col row ∷ []) [] []) (omega arith);
+  ports = no_port (cell_of (node kind col row ∷ []) [] []);
+  limits = tt;
+}
+
+-- the channel of a transistor is no narrower than 4
+shipped_fet : (tech : Tech) (depletion : Bool) (w l : ℤ) → numbers_of tech ≡ shipped_numbers → IsSize w → IsSize l → pos 4 ≤ℤ w → pos 4 ≤ℤ l → IsKind tech (fet depletion w l)
+shipped_fet tech depletion w l e w_size l_size wide long =
+    let diffusion : width_of tech Diffusion ≡ pos 4 = ap (λ (n : Numbers). width_in n Diffusion) e in
+    let poly : width_of tech Poly ≡ pos 4 = ap (λ (n : Numbers). width_in n Poly) e in
+    (w_size, l_size, omega (arith, ints), omega (arith, ints))
+
 pub joints_sound : IsShipped joints
 joints_sound tech e =
     let metal : width_of tech Metal ≡ pos 6 = ap (λ (n : Numbers). width_in n Metal) e in
@@ -106,42 +145,31 @@ joints_sound tech e =
           wide = omega (arith, ints);
           low_pad = omega (arith, ints);
           high_pad = omega (arith, ints);
+          low_filled = tt;
+          high_filled = tt;
         },
         tt,
       );
+      sides = one_side joints (omega arith);
       ports = no_port joints;
       limits = tt;
     }
 
 pub transistor_sound : IsShipped transistor
-transistor_sound tech e =
-    let diffusion : width_of tech Diffusion ≡ pos 4 = ap (λ (n : Numbers). width_in n Diffusion) e in
-    let poly : width_of tech Poly ≡ pos 4 = ap (λ (n : Numbers). width_in n Poly) e in
-    record {
-      nodes = (record { col = omega arith; row = omega arith; kind = (four, four, omega (arith, ints), omega (arith, ints)) }, tt);
-      wires = tt;
-      ports = no_port transistor;
-      limits = tt;
-    }
+transistor_sound tech e = one_node tech _ 0 0 (omega arith) (omega arith) (shipped_fet tech false _ _ e four four (omega (arith, ints)) (omega (arith, ints)))
 
 pub long_transistor_sound : IsShipped long_transistor
-long_transistor_sound tech e =
-    let diffusion : width_of tech Diffusion ≡ pos 4 = ap (λ (n : Numbers). width_in n Diffusion) e in
-    let poly : width_of tech Poly ≡ pos 4 = ap (λ (n : Numbers). width_in n Poly) e in
-    record {
-      nodes = (record { col = omega arith; row = omega arith; kind = (four, twelve, omega (arith, ints), omega (arith, ints)) }, tt);
-      wires = tt;
-      ports = no_port long_transistor;
-      limits = tt;
-    }
+long_transistor_sound tech e = one_node tech _ 3 0 (omega arith) (omega arith) (shipped_fet tech true _ _ e four twelve (omega (arith, ints)) (omega (arith, ints)))
+
+pub window_sound : IsShipped2 window
+unfolding has_buried
+window_sound tech e = one_node tech Buried 0 0 (omega arith) (omega arith) (ap has_buried e)
 
 eight : IsSize (pos 8)
 eight = record { low = omega (arith, ints); high = omega (arith, ints); even = refl }
 
 pub bare_inverter_sound : IsShipped bare_inverter
 bare_inverter_sound tech e =
-    let diffusion : width_of tech Diffusion ≡ pos 4 = ap (λ (n : Numbers). width_in n Diffusion) e in
-    let poly : width_of tech Poly ≡ pos 4 = ap (λ (n : Numbers). width_in n Poly) e in
     let metal : width_of tech Metal ≡ pos 6 = ap (λ (n : Numbers). width_in n Metal) e in
     let contact_of_diffusion : IsKind tech (Contact Diffusion) = λ is. cc in
     let contact_of_poly : IsKind tech (Contact Poly) = λ is. cc in
@@ -149,11 +177,11 @@ bare_inverter_sound tech e =
       nodes = (
         record { col = omega arith; row = omega arith; kind = contact_of_diffusion },
         (
-          record { col = omega arith; row = omega arith; kind = (eight, four, omega (arith, ints), omega (arith, ints)) },
+          record { col = omega arith; row = omega arith; kind = shipped_fet tech false _ _ e eight four (omega (arith, ints)) (omega (arith, ints)) },
           (
             record { col = omega arith; row = omega arith; kind = contact_of_diffusion },
             (
-              record { col = omega arith; row = omega arith; kind = (four, eight, omega (arith, ints), omega (arith, ints)) },
+              record { col = omega arith; row = omega arith; kind = shipped_fet tech true _ _ e four eight (omega (arith, ints)) (omega (arith, ints)) },
               (
                 record { col = omega arith; row = omega arith; kind = contact_of_diffusion },
                 (
@@ -169,12 +197,13 @@ bare_inverter_sound tech e =
         ),
       );
       wires = tt;
+      sides = one_side bare_inverter (omega arith);
       ports = no_port bare_inverter;
       limits = tt;
     }
 
 pub empty_sound : IsShipped empty
-empty_sound tech e = record { nodes = tt; wires = tt; ports = no_port empty; limits = tt }
+empty_sound tech e = record { nodes = tt; wires = tt; sides = one_side empty (omega arith); ports = no_port empty; limits = tt }
 
 two_ports : (k : ℕ) → k < 2 → IsPort side_to_side k (port_at side_to_side.ports k)
 two_ports zero lt = record { place = omega arith; wire = omega arith; wired = inl refl; only = λ j among h. omega arith }
@@ -200,9 +229,12 @@ side_to_side_sound tech e =
           wide = omega (arith, ints);
           low_pad = tt;
           high_pad = tt;
+          low_filled = tt;
+          high_filled = tt;
         },
         tt,
       );
+      sides = one_side side_to_side (omega arith);
       ports = two_ports;
       limits = tt;
     }

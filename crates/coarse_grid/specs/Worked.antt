@@ -1,10 +1,10 @@
--- Cells typed in, and the layouts that the tests look at. The technology is the one that the program ships with.
+-- Cells typed in, and the layouts that the tests look at. The technologies are those that the program ships with.
 use Rattle.std.specs.Prelude.{◌≡◌, ℕ, ◌+◌, ℤ, pos, neg_ℤ, Bool, false, true, List, [], ◌∷◌}
 use Rattle.rule_table.specs.declared.technology.Tech.{Tech}
 use Rattle.rule_table.specs.declared.classes.Class.TheVariants.{M}
 use Rattle.rule_table.specs.declared.classes.Layer.{Layer}
 use Rattle.rule_table.specs.declared.classes.Layer.TheVariants.{Diffusion, Poly, Metal}
-use Rattle.rule_table.specs.Technology.{numbers_of, shipped_numbers}
+use Rattle.rule_table.specs.Technology.{numbers_of, shipped_numbers, shipped2_numbers}
 use Rattle.lam_geom.specs.declared.boxes.Side.{Side}
 use Rattle.lam_geom.specs.declared.boxes.Side.TheVariants.{Left, Right}
 use Rattle.sym_items.specs.declared.items.End.{End}
@@ -14,7 +14,7 @@ use Rattle.sym_items.specs.declared.items.Coords.{Coords}
 use Rattle.cell_model.specs.declared.cell.Axis2.{Axis2}
 use Rattle.cell_model.specs.declared.cell.Axis2.TheVariants.{Across, Up}
 use Rattle.cell_model.specs.declared.cell.NodeKind.{NodeKind}
-use Rattle.cell_model.specs.declared.cell.NodeKind.TheVariants.{Joint, Contact, Fet}
+use Rattle.cell_model.specs.declared.cell.NodeKind.TheVariants.{Joint, Contact, Buried, Fet}
 use Rattle.cell_model.specs.declared.cell.Node.{Node}
 use Rattle.cell_model.specs.declared.cell.WireEnd.{WireEnd}
 use Rattle.cell_model.specs.declared.cell.WireEnd.TheVariants as ends
@@ -26,6 +26,10 @@ use Rattle.cell_model.specs.Sound.{IsSound}
 -- the cell meets the checks under the technology that the program ships with
 abbrev pub IsShipped : Cell → Type 0
 IsShipped cell = (tech : Tech) → numbers_of tech ≡ shipped_numbers → IsSound tech cell
+
+-- the same under the one with buried contacts
+abbrev pub IsShipped2 : Cell → Type 0
+IsShipped2 cell = (tech : Tech) → numbers_of tech ≡ shipped2_numbers → IsSound tech cell
 
 abbrev pub node : NodeKind → ℕ → ℕ → Node
 node kind col row = record { name = []; kind = kind; col = col; row = row }
@@ -66,6 +70,17 @@ thin_wire layer along low high = record { layer = layer; width = pos 4; low = lo
 
 abbrev pub pin : Side → Layer → ℕ → ℕ → Port
 pin side layer place wire = record { name = []; side = side; layer = layer; place = place; wire = wire }
+
+-- a buried contact alone
+abbrev pub window : Cell
+window = cell_of (node Buried 0 0 ∷ []) [] []
+
+-- buried b 1 0, joint d diff 0 0, joint p poly 2 0, wire diff d b, wire poly b p
+abbrev pub buried : Cell
+buried = cell_of
+    (node Buried 1 0 ∷ node (Joint Diffusion (pos 4)) 0 0 ∷ node (Joint Poly (pos 4)) 2 0 ∷ [])
+    (thin_wire Diffusion Across (ends.Node 1) (ends.Node 0) ∷ thin_wire Poly Across (ends.Node 0) (ends.Node 2) ∷ [])
+    []
 
 -- an inverter: its nodes, wires and ports in order
 abbrev pub inverter_nodes : List Node

@@ -167,15 +167,10 @@ fn assert_starts<R: Abort>(
 
 #[test]
 fn joints_start_a_pitch_apart(rt: HostRuntime) -> Result<(), Fail> {
+    let x = [0, 24, 12, 12, 12];
+    let y = [0, 36, 12, 24];
     let cell = joints(rt.alloc())?;
-    assert_starts(
-        &rt,
-        rt.alloc(),
-        &cell,
-        12,
-        &[0, 24, 12, 12, 12],
-        &[0, 36, 12, 24],
-    )?;
+    assert_starts(&rt, rt.alloc(), &cell, 12, &x, &y)?;
     Ok(())
 }
 
@@ -183,6 +178,13 @@ fn joints_start_a_pitch_apart(rt: HostRuntime) -> Result<(), Fail> {
 fn a_transistor_reaches_past_its_channel(rt: HostRuntime) -> Result<(), Fail> {
     let cell = of_node(rt.alloc(), fet(false, 4, 4), 0, 0)?;
     assert_starts(&rt, rt.alloc(), &cell, 18, &[0, 36, 18], &[0, 36, 18])?;
+    Ok(())
+}
+
+#[test]
+fn a_window_reaches_past_its_pad(rt: HostRuntime) -> Result<(), Fail> {
+    let cell = of_node(rt.alloc(), NodeKind::Buried, 0, 0)?;
+    assert_eq!(rt; pitch(&Tech::shipped2(), &cell), 18);
     Ok(())
 }
 
@@ -210,15 +212,10 @@ fn a_port_has_its_place(rt: HostRuntime) -> Result<(), Fail> {
 
 #[test]
 fn an_inverter_has_two_columns_and_five_rows(rt: HostRuntime) -> Result<(), Fail> {
+    let x = [0, 66, 22, 22, 22, 22, 22, 44, 44, 44];
+    let y = [0, 132, 22, 44, 66, 88, 110, 88, 66, 44];
     let cell = bare_inverter(rt.alloc())?;
-    assert_starts(
-        &rt,
-        rt.alloc(),
-        &cell,
-        22,
-        &[0, 66, 22, 22, 22, 22, 22, 44, 44, 44],
-        &[0, 132, 22, 44, 66, 88, 110, 88, 66, 44],
-    )?;
+    assert_starts(&rt, rt.alloc(), &cell, 22, &x, &y)?;
     Ok(())
 }
 
