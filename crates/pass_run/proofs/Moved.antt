@@ -21,7 +21,8 @@ use Rattle.expand.specs.declared.master.Master.{Master}
 use Rattle.expand.specs.Variables.{variables_of}
 use Rattle.expand.specs.Bounds.{IsEndAmong, IsSpanAmong}
 use Rattle.expand.specs.Structure.{structure_of}
-use Rattle.expand.specs.Laws.{EndsAbove, IsLongUnder, MeetsStructure, IsLawful}
+use Rattle.sym_items.specs.Extents.{IsLongUnder}
+use Rattle.expand.specs.Laws.{EndsAbove, MeetsStructure, IsLawful}
 use Rattle.pair_rules.specs.Laws.{moved}
 use Rattle.pair_rules.proofs.Staying.{stays_clean}
 use Rattle.shadow_prune.proofs.Pruning.{candidates_apart}

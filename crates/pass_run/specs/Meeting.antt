@@ -10,7 +10,8 @@ use Rattle.sym_items.specs.Boxes.{HasBox}
 use Rattle.sym_items.specs.Values.{value_of}
 use Rattle.expand.specs.declared.master.Master.{Master}
 use Rattle.expand.specs.Variables.{variables_of}
-use Rattle.expand.specs.Laws.{IsLongUnder, MeetsStructure}
+use Rattle.sym_items.specs.Extents.{IsLongUnder}
+use Rattle.expand.specs.Laws.{MeetsStructure}
 use Rattle.pair_rules.specs.Candidates.{candidates_of, Keeps}
 use Rattle.pair_rules.specs.Kept.{kept_of}
 use Rattle.pair_rules.specs.Laws.{moved}

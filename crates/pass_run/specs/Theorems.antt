@@ -11,7 +11,7 @@ use Rattle.sym_items.specs.Boxes.{HasBox}
 use Rattle.cell_model.specs.declared.cell.Cell.{Cell}
 use Rattle.expand.specs.Variables.{variables_of}
 use Rattle.pair_rules.specs.Clean.{IsClean}
-use Rattle.shadow_prune.specs.Pruning.{HasExtent}
+use Rattle.sym_items.specs.Extents.{IsLongUnder}
 use Rattle.pass_run.specs.declared.step.Step.{Step}
 use Rattle.pass_run.specs.declared.step.Walk.{Walk}
 use Rattle.pass_run.specs.System.{system_over, list_over}
@@ -20,7 +20,7 @@ use Rattle.pass_run.specs.Passes.{moved_by}
 
 -- an item is at least as long on an axis as it has to be
 abbrev pub IsLong : Axis → Coords → Item → Type 0
-IsLong axis layout item = HasExtent axis (value_of (values_along axis layout)) item
+IsLong axis layout item = IsLongUnder axis (value_of (values_along axis layout)) item
 
 -- A layout of some items: each has a box, and is as long as it has to be on these axes, and all bound items keep their spacing.
 pub record IsWellPlaced (tech : Tech) (layout : Coords) (items : List Item) (axes : List Axis) : Type 0 where
