@@ -31,12 +31,9 @@ enclosure = 2
 
 const SHIPPED2: &str = "version = 2
 unit = 150
-
-[width]
-diffusion = 4
-poly = 4
-metal = 6
-
+width = { diffusion = 4, poly = 4, metal = 6 }
+extension = { poly = 4, diffusion = 4, implant = 3, buried = 4 }
+cut = { size = 4, enclosure = 2 }
 [spacing]
 diffusion = 6
 poly = 4
@@ -46,16 +43,6 @@ cut = 4
 cut_channel = 4
 implant_channel = 3
 buried_channel = 4
-
-[extension]
-poly = 4
-diffusion = 4
-implant = 3
-buried = 4
-
-[cut]
-size = 4
-enclosure = 2
 ";
 
 /// The text with its first `old` changed.
@@ -187,16 +174,16 @@ fn faults_come_in_their_order(rt: HostRuntime) -> Result<(), Fail> {
 fn version_two_has_the_keys_of_buried_contacts(rt: HostRuntime) -> Result<(), Fail> {
     assert_eq!(rt; told(&rt, SHIPPED2.as_bytes())?.as_str(), "shipped2");
     for (old, new, want) in [
-        ("\nburied = 4", "", "Missing 17"),
-        ("\nburied_channel = 4", "", "Missing 18"),
-        ("\nburied_channel = 4", "\nburied = 4", "Missing 18"),
-        ("\nburied = 4", "\nburied = \"4\"", "WrongType 17"),
+        (", buried = 4", "", "Missing 17"),
+        ("buried_channel = 4", "", "Missing 18"),
+        ("buried_channel = 4", "buried = 4", "Missing 18"),
+        (", buried = 4", ", buried = '4'", "WrongType 17"),
         ("buried_channel = 4", "buried_channel = 4.0", "WrongType 18"),
-        ("[extension]", "[extend]", "Missing 12"),
-        ("\nenclosure = 2", "\nburied = 4", "Missing 16"),
+        ("extension = {", "extend = {", "Missing 12"),
+        ("enclosure = 2", "buried = 4", "Missing 16"),
         (
-            "\nenclosure = 2",
-            "\nenclosure = 2\nburied = 4",
+            "enclosure = 2",
+            "enclosure = 2, buried = 4",
             "Unknown cut.buried",
         ),
         (
@@ -204,7 +191,7 @@ fn version_two_has_the_keys_of_buried_contacts(rt: HostRuntime) -> Result<(), Fa
             "buried_channel = 0",
             "ZeroSpacing(18)",
         ),
-        ("\nburied = 4", "\nburied = 4097", "OutOfRange(17)"),
+        (", buried = 4", ", buried = 4097", "OutOfRange(17)"),
         // In another version these keys are not known.
         ("version = 2", "version = 1", "Unknown extension.buried"),
         ("version = 2", "version = 3", "Unknown extension.buried"),
