@@ -1,13 +1,13 @@
 -- How many mask boxes the items of a cell are.
 use Rattle.std.proofs.Common.{◌≡◌, ℕ, ◌+◌, Bool, true, false, cond, List, [], ◌∷◌, ◌++◌, length, zero-add, refl, ap, ◌∙◌, arith}
-use Rattle.std.specs.List.{filter, flat_map, range_with_len, sum_by}
+use Rattle.std.specs.Prelude.{is_some}
+use Rattle.std.specs.List.{filter, flat_map, range_with_len, sum_by, count_by}
 use Rattle.std.proofs.lemmas.List.{length-append, length-map}
 use Rattle.std.proofs.lemmas.List.Elements.{filter-append}
 use Rattle.std.proofs.lemmas.List.Sums.{sum_by-cons}
 use Rattle.lam_geom.specs.declared.boxes.MaskLayer.{MaskLayer}
-use Rattle.lam_geom.specs.declared.boxes.MaskLayer.TheVariants.{ND, NP, NC, NM, NI}
 use Rattle.rule_table.specs.declared.classes.Class.{Class}
-use Rattle.rule_table.specs.declared.classes.Class.TheVariants.{M, P, Dc, Dm, C, I, G}
+use Rattle.rule_table.specs.declared.classes.Class.TheVariants.{M, P, Dc, Dm, C, I, G, B}
 use Rattle.rule_table.specs.declared.classes.Layer.{Layer}
 use Rattle.rule_table.specs.declared.classes.Layer.TheVariants.{Diffusion, Poly, Metal}
 use Rattle.rule_table.specs.declared.technology.Tech.{Tech}
@@ -16,7 +16,7 @@ use Rattle.sym_items.specs.declared.items.Item.{Item}
 use Rattle.sym_items.specs.declared.items.Coords.{Coords}
 use Rattle.cell_model.specs.declared.cell.Axis2.TheVariants.{Across, Up}
 use Rattle.cell_model.specs.declared.cell.NodeKind.{NodeKind}
-use Rattle.cell_model.specs.declared.cell.NodeKind.TheVariants.{Joint, Contact, Fet}
+use Rattle.cell_model.specs.declared.cell.NodeKind.TheVariants.{Joint, Contact, Buried, Fet}
 use Rattle.cell_model.specs.declared.cell.NodeNets.{NodeNets}
 use Rattle.cell_model.specs.declared.cell.Wire.{Wire}
 use Rattle.cell_model.specs.declared.cell.Nets.{Nets}
@@ -27,27 +27,22 @@ use Rattle.expand.specs.Variables.{half}
 use Rattle.expand.specs.NodeItems.{on_layer, square_round, kind_items}
 use Rattle.expand.specs.Items.{nets_at, items_of_node, items_of_wire, item_list}
 use Rattle.expand.proofs.Counted.{pieces_counted}
-use Rattle.mask_out.specs.Masks.{Mask, is_drawn, masks_on, masks_in}
+use Rattle.mask_out.specs.Masks.{layer_drawn, is_drawn, masks_on, mask_layers, masks_in}
 
 -- ---- the boxes of each layer together
 
 -- whether an item is a box of some layer
 abbrev has_box : Class → Bool
-has_box M = true
-has_box P = true
-has_box Dm = true
-has_box C = true
-has_box I = true
-has_box Dc = false
-has_box G = false
+has_box class = is_some (layer_drawn class)
 
 abbrev drawn_of : List Item → List Item
 drawn_of items = filter (λ (i : Item). has_box i.class) items
 
-abbrev drawn_on : MaskLayer → List Item → List Item
-drawn_on layer items = filter (λ (i : Item). is_drawn layer i.class) items
+-- on how many of some layers items of a class are boxes
+abbrev layers_with : Class → List MaskLayer → ℕ
+layers_with class layers = count_by (λ (layer : MaskLayer). is_drawn layer class) layers
 
-one_layer : (k : Class) → cond (is_drawn ND k) 1 0 + (cond (is_drawn NP k) 1 0 + (cond (is_drawn NC k) 1 0 + (cond (is_drawn NM k) 1 0 + cond (is_drawn NI k) 1 0))) ≡ cond (has_box k) 1 0
+one_layer : (class : Class) → layers_with class mask_layers ≡ cond (has_box class) 1 0
 one_layer M = refl
 one_layer P = refl
 one_layer Dc = refl
@@ -55,52 +50,44 @@ one_layer Dm = refl
 one_layer C = refl
 one_layer I = refl
 one_layer G = refl
+one_layer B = refl
 
 one_more : {A : Type 0} (q : Bool) (x : A) (xs : List A) → length (cond q (x ∷ xs) xs) ≡ cond q 1 0 + length xs
 one_more true x xs = omega arith
 one_more false x xs = omega arith
 
-layers_counted : (items : List Item) → length (drawn_on ND items) + (length (drawn_on NP items) + (length (drawn_on NC items) + (length (drawn_on NM items) + length (drawn_on NI items)))) ≡ length (drawn_of items)
-layers_counted [] = refl
-layers_counted (x ∷ xs) =
-    let nd = one_more (is_drawn ND x.class) x (drawn_on ND xs) in
-    let np = one_more (is_drawn NP x.class) x (drawn_on NP xs) in
-    let nc = one_more (is_drawn NC x.class) x (drawn_on NC xs) in
-    let nm = one_more (is_drawn NM x.class) x (drawn_on NM xs) in
-    let ni = one_more (is_drawn NI x.class) x (drawn_on NI xs) in
-    let all = one_more (has_box x.class) x (drawn_of xs) in
-    omega (arith, nd, np, nc, nm, ni, all, one_layer x.class, layers_counted xs)
+-- the masks of a layer with one item more, and those of some layers
+layer_more : (c : Coords) (x : Item) (xs : List Item) (layer : MaskLayer) → length (masks_on c (x ∷ xs) layer) ≡ cond (is_drawn layer x.class) 1 0 + length (masks_on c xs layer)
+layer_more c x xs layer =
+    let rest : List Item = filter (λ (i : Item). is_drawn layer i.class) xs in
+    let all : length (masks_on c (x ∷ xs) layer) ≡ length (cond (is_drawn layer x.class) (x ∷ rest) rest) = length-map (cond (is_drawn layer x.class) (x ∷ rest) rest) _ in
+    let others : length (masks_on c xs layer) ≡ length rest = length-map rest _ in
+    omega (arith, all, others, one_more (is_drawn layer x.class) x rest)
+
+layers_more : (c : Coords) (x : Item) (xs : List Item) (layers : List MaskLayer) → length (flat_map (masks_on c (x ∷ xs)) layers) ≡ layers_with x.class layers + length (flat_map (masks_on c xs) layers)
+layers_more c x xs [] = refl
+layers_more c x xs (layer ∷ layers) =
+    let now = length-append (masks_on c (x ∷ xs) layer) (flat_map (masks_on c (x ∷ xs)) layers) in
+    let before = length-append (masks_on c xs layer) (flat_map (masks_on c xs) layers) in
+    let counted = sum_by-cons (λ (l : MaskLayer). cond (is_drawn l x.class) 1 0) layer layers in
+    omega (arith, now, before, counted, layer_more c x xs layer, layers_more c x xs layers)
 
 masks_counted : (c : Coords) (items : List Item) → length (masks_in c items) ≡ length (drawn_of items)
 unfolding masks_in
-masks_counted c items =
-    let on = masks_on c items in
-    let ni : List Mask = on NI ++ [] in
-    let nm : List Mask = on NM ++ ni in
-    let nc : List Mask = on NC ++ nm in
-    let np : List Mask = on NP ++ nc in
-    let a = length-append (on ND) np in
-    let b = length-append (on NP) nc in
-    let c = length-append (on NC) nm in
-    let d = length-append (on NM) ni in
-    let e = length-append (on NI) [] in
-    let nd_drawn : length (on ND) ≡ length (drawn_on ND items) = length-map (drawn_on ND items) _ in
-    let np_drawn : length (on NP) ≡ length (drawn_on NP items) = length-map (drawn_on NP items) _ in
-    let nc_drawn : length (on NC) ≡ length (drawn_on NC items) = length-map (drawn_on NC items) _ in
-    let nm_drawn : length (on NM) ≡ length (drawn_on NM items) = length-map (drawn_on NM items) _ in
-    let ni_drawn : length (on NI) ≡ length (drawn_on NI items) = length-map (drawn_on NI items) _ in
-    omega (arith, a, b, c, d, e, nd_drawn, np_drawn, nc_drawn, nm_drawn, ni_drawn, layers_counted items)
+masks_counted c [] = refl
+masks_counted c (x ∷ xs) = omega (arith, layers_more c x xs mask_layers, one_layer x.class, one_more (has_box x.class) x (drawn_of xs), masks_counted c xs)
 
 -- ---- of the nodes and wires
 
-layer_drawn : (layer : Layer) (i : Item) → length (drawn_of (on_layer layer i)) ≡ 1
-layer_drawn Metal i = refl
-layer_drawn Poly i = refl
-layer_drawn Diffusion i = refl
+layer_boxes : (layer : Layer) (i : Item) → length (drawn_of (on_layer layer i)) ≡ 1
+layer_boxes Metal i = refl
+layer_boxes Poly i = refl
+layer_boxes Diffusion i = refl
 
 kind_drawn : (tech : Tech) (k : ℕ) (kind : NodeKind) (nets : NodeNets) → length (drawn_of (kind_items tech k kind nets)) ≡ kind_boxes kind
-kind_drawn tech k (Joint layer width) nets = layer_drawn layer _
-kind_drawn tech k (Contact lower) nets = let e = layer_drawn lower (square_round k M nets.main (half (pad_of tech))) in omega arith
+kind_drawn tech k (Joint layer width) nets = layer_boxes layer _
+kind_drawn tech k (Contact lower) nets = let e = layer_boxes lower (square_round k M nets.main (half (pad_of tech))) in omega arith
+kind_drawn tech k Buried nets = refl
 kind_drawn tech k (Fet true Across w l) nets = refl
 kind_drawn tech k (Fet true Up w l) nets = refl
 kind_drawn tech k (Fet false Across w l) nets = refl
@@ -127,7 +114,7 @@ items_counted tech cell nets =
     ∙ pieces_counted (λ k. drawn_of (node k)) node_boxes no_node 0 cell.nodes (λ k lt. ap (λ n. length (drawn_of (node n))) (zero-add k) ∙ kind_drawn tech k (node_at cell.nodes k).kind (nets_at nets.node k)) in
     let b : length (drawn_of wires) ≡ sum_by (λ (w : Wire). 1) cell.wires =
     ap length (drawn_pieces wire (range_with_len 0 (length cell.wires)))
-    ∙ pieces_counted (λ k. drawn_of (wire k)) (λ (w : Wire). 1) no_wire 0 cell.wires (λ k lt. ap (λ n. length (drawn_of (wire n))) (zero-add k) ∙ layer_drawn (wire_at cell.wires k).layer _) in
+    ∙ pieces_counted (λ k. drawn_of (wire k)) (λ (w : Wire). 1) no_wire 0 cell.wires (λ k lt. ap (λ n. length (drawn_of (wire n))) (zero-add k) ∙ layer_boxes (wire_at cell.wires k).layer _) in
     let both : length (drawn_of (nodes ++ wires)) ≡ length (drawn_of nodes) + length (drawn_of wires) =
     ap length (filter-append (λ (i : Item). has_box i.class) nodes wires) ∙ length-append (drawn_of nodes) (drawn_of wires) in
     omega (arith, both, a, b, wires_counted cell.wires)

@@ -1,18 +1,20 @@
 -- The masks of the items that the tests type in, against sides worked by hand.
 use Rattle.std.proofs.Common.{◌≡◌, pos, ℤ, [], ◌∷◌, refl}
 use Rattle.lam_geom.specs.declared.boxes.MaskLayer.{MaskLayer}
-use Rattle.lam_geom.specs.declared.boxes.MaskLayer.TheVariants.{ND, NC, NM}
+use Rattle.lam_geom.specs.declared.boxes.MaskLayer.TheVariants.{ND, NC, NM, NI, NB}
 use Rattle.mask_out.specs.Masks.{Mask, masks_in}
-use Rattle.mask_out.specs.Worked.{contact_and_joint, layout}
+use Rattle.mask_out.specs.Worked.{squares, layout}
 
 abbrev mask : MaskLayer → ℤ → ℤ → ℤ → ℤ → Mask
 mask layer left right bottom top = record { layer = layer; sides = record { left = left; right = right; bottom = bottom; top = top } }
 
-worked_masks : masks_in layout contact_and_joint
+worked_masks : masks_in layout squares
     ≡ mask ND (pos 8) (pos 16) (pos 8) (pos 16)
     ∷ mask NC (pos 10) (pos 14) (pos 10) (pos 14)
     ∷ mask NM (pos 8) (pos 16) (pos 8) (pos 16)
     ∷ mask NM (pos 27) (pos 33) (pos 9) (pos 15)
+    ∷ mask NI (pos 25) (pos 35) (pos 7) (pos 17)
+    ∷ mask NB (pos 6) (pos 18) (pos 6) (pos 18)
     ∷ []
 unfolding masks_in
 worked_masks = refl

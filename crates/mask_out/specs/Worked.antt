@@ -1,7 +1,8 @@
--- The items and the layout that the tests type in: a diffusion contact, and a metal joint to the right of it.
+-- The items and the layout that the tests type in: a diffusion contact, a metal joint to the right of it, and a window and an implant round
+-- these.
 use Rattle.std.specs.Prelude.{ℕ, pos, neg_ℤ, List, [], ◌∷◌}
 use Rattle.rule_table.specs.declared.classes.Class.{Class}
-use Rattle.rule_table.specs.declared.classes.Class.TheVariants.{M, C, Dm, Dc}
+use Rattle.rule_table.specs.declared.classes.Class.TheVariants.{M, C, Dm, Dc, I, B}
 use Rattle.sym_items.specs.declared.items.End.{End}
 use Rattle.sym_items.specs.declared.items.Item.{Item}
 use Rattle.sym_items.specs.Standing.{nowhere}
@@ -17,8 +18,8 @@ above v half = record { var = v; off = pos half }
 abbrev pub square : Class → ℕ → ℕ → Item
 square class v half = record { class = class; net = 0; owner = 0; xl = below v half; xh = above v half; yl = below 2 half; yh = above 2 half; least_x = pos 4; least_y = pos 4; at_low = nowhere; at_high = nowhere }
 
-abbrev pub contact_and_joint : List Item
-contact_and_joint = square M 2 4 ∷ square C 2 2 ∷ square Dm 2 4 ∷ square Dc 2 4 ∷ square M 3 3 ∷ []
+abbrev pub squares : List Item
+squares = square B 2 6 ∷ square M 2 4 ∷ square C 2 2 ∷ square Dm 2 4 ∷ square Dc 2 4 ∷ square M 3 3 ∷ square I 3 5 ∷ []
 
 abbrev pub layout : Coords
 layout = record { x = pos 0 ∷ pos 48 ∷ pos 12 ∷ pos 30 ∷ []; y = pos 0 ∷ pos 24 ∷ pos 12 ∷ [] }

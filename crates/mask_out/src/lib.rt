@@ -13,4 +13,4 @@ mod tests;
 
 pub use laws::boxes_are_counted;
 pub use picture::Symbol;
-pub use symbols::symbol_of;
+pub use symbols::{is_same_layer, symbol_of};

@@ -2,7 +2,7 @@
 ghost use Rattle.std.specs.Prelude.{◌≡◌, ◌++◌, All, map, OnOk, IfOk};
 ghost use Rattle.lam_geom.specs.Places.{IsPlacedBox};
 ghost use Rattle.sym_items.specs.Boxes.{HasBox};
-ghost use Rattle.mask_out.specs.Masks.{mask_of, is_drawn, masks_on, masks_in};
+ghost use Rattle.mask_out.specs.Masks.{mask_of, layer_drawn, is_same_layer, is_drawn, masks_on, masks_in};
 
 use crate::picture::Symbol;
 use expand::Master;
@@ -13,17 +13,35 @@ use std::alloc::{AllocError, Global};
 use stick_lex::Text;
 use sym_items::{Coords, Item, box_of};
 
-// Whether items of a class are boxes of a layer. Conducting pieces of diffusion and channels are boxes of none.
+/// Whether two layers are the same.
+pub fn is_same_layer(a: MaskLayer, b: MaskLayer) -> bool
+    ensures { result ≡ is_same_layer a b }
+{
+    a == b
+}
+
+// The layer on which items of a class are boxes. Conducting pieces of diffusion and channels are boxes of none.
+fn layer_drawn(class: Class) -> Option<MaskLayer>
+    ensures { result ≡ layer_drawn class }
+{
+    match class {
+        Class::Dm => Some(MaskLayer::ND),
+        Class::P => Some(MaskLayer::NP),
+        Class::C => Some(MaskLayer::NC),
+        Class::M => Some(MaskLayer::NM),
+        Class::I => Some(MaskLayer::NI),
+        Class::B => Some(MaskLayer::NB),
+        Class::Dc | Class::G => None,
+    }
+}
+
+// Whether items of a class are boxes of a layer.
 fn is_drawn(layer: MaskLayer, class: Class) -> bool
     ensures { result ≡ is_drawn layer class }
 {
-    match layer {
-        MaskLayer::ND => matches!(class, Class::Dm),
-        MaskLayer::NP => matches!(class, Class::P),
-        MaskLayer::NC => matches!(class, Class::C),
-        MaskLayer::NM => matches!(class, Class::M),
-        MaskLayer::NI => matches!(class, Class::I),
-        MaskLayer::NB => matches!(class, Class::B),
+    match layer_drawn(class) {
+        Some(own) => is_same_layer(layer, own),
+        None => false,
     }
 }
 

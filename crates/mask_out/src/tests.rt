@@ -32,16 +32,19 @@ fn square(class: Class, var: u32, half: u8) -> Item
     }
 }
 
-// A diffusion contact, whose conducting piece is no box, and a metal joint.
-fn contact_and_joint(alloc: Global) -> Result<Seq<Item>, AllocError>
-    ensures { IfOk result (λ items. items ≡ worked.contact_and_joint) }
+// A diffusion contact, whose conducting piece is no box, and a metal joint; a window round the one, an implant round the
+// other.
+fn squares(alloc: Global) -> Result<Seq<Item>, AllocError>
+    ensures { IfOk result (λ items. items ≡ worked.squares) }
 {
     let items = [
+        square(Class::B, 2, 6),
         square(Class::M, 2, 4),
         square(Class::C, 2, 2),
         square(Class::Dm, 2, 4),
         square(Class::Dc, 2, 4),
         square(Class::M, 3, 3),
+        square(Class::I, 3, 5),
     ];
     Ok(Seq::from_vec(items.to_vec(alloc)?))
 }
@@ -76,7 +79,7 @@ fn boxes_come_layer_by_layer(rt: HostRuntime) -> Result<(), Fail> {
     let master = Master {
         cell: cell(alloc)?,
         items: Items {
-            list: contact_and_joint(alloc)?,
+            list: squares(alloc)?,
             x_vars: 4,
             y_vars: 3,
         },
@@ -84,9 +87,14 @@ fn boxes_come_layer_by_layer(rt: HostRuntime) -> Result<(), Fail> {
     let symbol = symbol_of(alloc, &master, &layout(alloc)?)?;
     let pad = Span { lo: 8, hi: 16 };
     let cut = Span { lo: 10, hi: 14 };
+    let window = Span { lo: 6, hi: 18 };
     let joint = BoxXY {
         x: Span { lo: 27, hi: 33 },
         y: Span { lo: 9, hi: 15 },
+    };
+    let implant = BoxXY {
+        x: Span { lo: 25, hi: 35 },
+        y: Span { lo: 7, hi: 17 },
     };
     let drawn = |layer, area| MaskBox { layer, area };
     assert!(rt; is_shared(&symbol));
@@ -98,6 +106,14 @@ fn boxes_come_layer_by_layer(rt: HostRuntime) -> Result<(), Fail> {
             drawn(MaskLayer::NC, BoxXY { x: cut, y: cut }),
             drawn(MaskLayer::NM, BoxXY { x: pad, y: pad }),
             drawn(MaskLayer::NM, joint),
+            drawn(MaskLayer::NI, implant),
+            drawn(
+                MaskLayer::NB,
+                BoxXY {
+                    x: window,
+                    y: window
+                }
+            ),
         ]
         .as_slice()
     );
