@@ -5,8 +5,8 @@ use Rattle.std.proofs.lemmas.List.{take_more, append-nil, map-append}
 use Rattle.std.proofs.lemmas.List.Elements.{filter-append}
 use Rattle.std.proofs.lemmas.List.Concat.{flat_map-append}
 use Rattle.lam_geom.specs.declared.boxes.MaskLayer.{MaskLayer}
-use Rattle.mask_out.specs.Masks.{Mask}
-use Rattle.cif_text.specs.Cif.{box_text, layer_name, is_same_layer, layer_text}
+use Rattle.mask_out.specs.Masks.{Mask, is_same_layer}
+use Rattle.cif_text.specs.Cif.{box_text, layer_name, layer_text}
 
 -- whether a list has an element
 abbrev pub is_some : {A : Type 0} → List A → Bool

@@ -1,9 +1,9 @@
 -- The CIF text of a symbol.
-use Rattle.std.specs.Prelude.{ℕ, ℤ, pos, int_div, ◌+ℤ◌, ◌-ℤ◌, ◌*ℤ◌, Bool, true, false, List, [], ◌∷◌, ◌++◌, filter, codes, flat_map, decimal}
+use Rattle.std.specs.Prelude.{ℕ, ℤ, pos, int_div, ◌+ℤ◌, ◌-ℤ◌, ◌*ℤ◌, List, [], ◌∷◌, ◌++◌, filter, codes, flat_map, decimal}
 use Rattle.std.specs.Fmt.{signed_decimal}
 use Rattle.lam_geom.specs.declared.boxes.MaskLayer.{MaskLayer}
 use Rattle.lam_geom.specs.declared.boxes.MaskLayer.TheVariants.{ND, NP, NC, NM, NI, NB}
-use Rattle.mask_out.specs.Masks.{Mask, mask_layers}
+use Rattle.mask_out.specs.Masks.{Mask, is_same_layer, mask_layers}
 
 -- a box of CIF: its extents on x and y, and its centre
 abbrev pub box_line : ℤ → ℤ → ℤ → ℤ → List ℕ
@@ -20,15 +20,6 @@ layer_name NC = codes "NC"
 layer_name NM = codes "NM"
 layer_name NI = codes "NI"
 layer_name NB = codes "NB"
-
-abbrev pub is_same_layer : MaskLayer → MaskLayer → Bool
-is_same_layer ND ND = true
-is_same_layer NP NP = true
-is_same_layer NC NC = true
-is_same_layer NM NM = true
-is_same_layer NI NI = true
-is_same_layer NB NB = true
-is_same_layer a b = false
 
 -- a layer is named where it has boxes
 abbrev pub layer_text : MaskLayer → List Mask → List ℕ

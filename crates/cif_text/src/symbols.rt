@@ -2,11 +2,11 @@
 ghost use Rattle.std.specs.Prelude.{◌≡◌, pos, ◌+ℤ◌, ◌-ℤ◌, ◌*ℤ◌, [], ◌++◌, All, map, filter, codes, string_bytes, if◌then◌else◌, OnOk, IfOk};
 ghost use Rattle.lam_geom.specs.Places.{IsPlacedBox, IsPlacedSpan};
 ghost use Rattle.rule_table.specs.Technology.{numbers_of};
-ghost use Rattle.mask_out.specs.Masks.{mask_of};
-ghost use Rattle.cif_text.specs.Cif.{box_line, box_text, layer_name, is_same_layer, layer_text, layers_text, scale_line, symbol_text};
+ghost use Rattle.mask_out.specs.Masks.{mask_of, is_same_layer};
+ghost use Rattle.cif_text.specs.Cif.{box_line, box_text, layer_name, layer_text, layers_text, scale_line, symbol_text};
 
 use lam_geom::{MaskBox, MaskLayer, Span};
-use mask_out::Symbol;
+use mask_out::{Symbol, is_same_layer};
 use rule_table::Tech;
 use std::alloc::{AllocError, Global};
 
@@ -65,19 +65,6 @@ fn name_of(layer: MaskLayer) -> &'static [u8]
     }
 }
 
-fn is_same(layer: MaskLayer, other: MaskLayer) -> bool
-    ensures { result ≡ is_same_layer layer other }
-{
-    match layer {
-        MaskLayer::ND => matches!(other, MaskLayer::ND),
-        MaskLayer::NP => matches!(other, MaskLayer::NP),
-        MaskLayer::NC => matches!(other, MaskLayer::NC),
-        MaskLayer::NM => matches!(other, MaskLayer::NM),
-        MaskLayer::NI => matches!(other, MaskLayer::NI),
-        MaskLayer::NB => matches!(other, MaskLayer::NB),
-    }
-}
-
 // Adds the line that names a layer, where it is not named yet.
 fn push_name(out: &mut Vec<u8>, layer: MaskLayer, is_named: bool) -> Result<(), AllocError>
     ensures { OnOk result (out.new.items ≡ out.old.items ++ (if is_named then [] else (codes "L " ++ (layer_name layer ++ codes ";\n")))) }
@@ -102,7 +89,7 @@ fn push_layer(
 {
     let mut is_named = false;
     for mask in boxes {
-        if is_same(layer, mask.layer) {
+        if is_same_layer(layer, mask.layer) {
             push_name(out, layer, is_named)?;
             is_named = true;
             let line = text_of_box(alloc, mask)?;

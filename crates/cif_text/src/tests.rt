@@ -39,6 +39,31 @@ fn a_transistor_is_written_in_halves_of_u(rt: HostRuntime) -> Result<(), Fail> {
 }
 
 #[test]
+fn windows_are_written_last(rt: HostRuntime) -> Result<(), Fail> {
+    let alloc = rt.alloc();
+    let side = Span { lo: 8, hi: 20 };
+    let square = BoxXY { x: side, y: side };
+    let window = MaskBox {
+        layer: MaskLayer::NB,
+        area: square,
+    };
+    let implant = MaskBox {
+        layer: MaskLayer::NI,
+        area: square,
+    };
+    let symbol = Symbol {
+        name: Text::new(alloc, b"b")?,
+        boxes: Seq::from_vec([window, implant].to_vec(alloc)?),
+    };
+    let text = symbol_text(alloc, &Tech::shipped2(), 1, &symbol)?;
+    assert_eq!(rt;
+        text.as_slice(),
+        b"DS 1 75 1;\n9 b;\nL NI;\nB 24 24 28 28;\nL NB;\nB 24 24 28 28;\nDF;\n".as_slice()
+    );
+    Ok(())
+}
+
+#[test]
 fn a_symbol_without_boxes_names_no_layer(rt: HostRuntime) -> Result<(), Fail> {
     let alloc = rt.alloc();
     let symbol = Symbol {
