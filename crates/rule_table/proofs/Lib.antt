@@ -4,3 +4,4 @@ pub mod Sound
 pub mod Margins
 pub mod Widths
 pub mod Complete
+pub mod Shipped
