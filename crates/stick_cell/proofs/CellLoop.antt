@@ -9,7 +9,7 @@ use Rattle.stick_parse.specs.declared.fault.StickFault.{StickFault}
 use Rattle.stick_parse.specs.declared.fault.ParseFault.{ParseFault}
 use Rattle.stick_parse.specs.declared.fault.ParseFault.TheVariants.{Stick, OutOfMemory}
 use Rattle.stick_parse.specs.declared.design.CellText.{CellText}
-use Rattle.stick_parse.specs.Reading.{◌>>=◌, Fails}
+use Rattle.stick_parse.specs.Reading.{◌>>=◌, Fails, Gives}
 use Rattle.stick_parse.specs.Writable.{IsCell}
 use Rattle.list_facts.proofs.Elements.{all_at}
 use Rattle.stick_cell.specs.declared.table.Table.{Table}
@@ -17,7 +17,9 @@ use Rattle.stick_cell.specs.declared.steps.Step.{Step}
 use Rattle.stick_cell.specs.Known.{Known, known_at}
 use Rattle.stick_cell.specs.Steps.{AreStepsOf}
 use Rattle.stick_cell.specs.Lines.{after_cell, cells_after}
-use Rattle.stick_cell.specs.Tables.{IsTableOf, AreTables, steps_at, HaveSteps}
+use Rattle.std.specs.Result.{IsErrAnd}
+use Rattle.stick_cell.specs.declared.cells.Cells.{Cells}
+use Rattle.stick_cell.specs.Tables.{IsTableOf, AreTables, steps_at, HaveSteps, known_of}
 use Rattle.stick_cell.proofs.TableReads.{length-tables}
 use Rattle.stick_cell.proofs.Grown.{k_within, known_before, known_last}
 
@@ -38,6 +40,11 @@ pub cells-refused : (tech : Tech) (cells : List Known) (texts : List CellText) (
     → i < length texts → text ≡ get_or texts i text → Fails fault (after_cell tech cells text) → cells_after tech cells (drop i texts) ≡ whole → Fails fault whole
 cells-refused tech cells texts i text (Stick fault) whole lt e fails same = sym same ∙ cells_at tech cells texts i text (Err fault) lt e fails
 cells-refused tech cells texts i text OutOfMemory whole lt e fails same = tt
+
+-- the fault of a design, passed on
+pub gives-residual : (result : Result Cells ParseFault) (fault : ParseFault) (read : Result (List Known) StickFault) → IsErrAnd result (λ e. e ≡ fault) → Fails fault read → Gives known_of result read
+gives-residual (Ok cells) fault read is fails = absurd is
+gives-residual (Err e) fault read is fails = let P : ParseFault → Type 0 = λ f. Fails f read in subst P (sym is) fails
 
 -- no cell is left
 pub cells-end : (tech : Tech) (cells : List Known) (texts : List CellText) (i : ℕ) → length texts ≤ i → cells_after tech cells (drop i texts) ≡ Ok cells

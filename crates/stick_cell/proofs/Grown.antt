@@ -25,7 +25,7 @@ use Rattle.stick_cell.specs.declared.names.Terminal.TheVariants.{Node as NodeEnd
 use Rattle.stick_cell.specs.declared.names.Found.TheVariants.{At}
 use Rattle.stick_cell.specs.Known.{Known, Plug, begun, cell_of, known_at, plug_at}
 use Rattle.stick_cell.specs.Paths.{found_at}
-use Rattle.stick_cell.specs.Checks.{demand}
+use Rattle.stick_cell.specs.Checks.{demand, layer_of}
 use Rattle.stick_cell.specs.Lines.{after_form, after_lines, after_cell, is_new_cell, cells_after, is_wired, known_cells}
 use Rattle.stick_cell.specs.Counts.{weight_of}
 use Rattle.cell_model.specs.Counts.{items_in, layer_items, kind_items, node_items, wire_items}
@@ -34,22 +34,26 @@ use Rattle.stick_cell.specs.Grown.{IsSpot, IsPlug, IsGrown, AreGrown}
 use Rattle.stick_cell.proofs.Accepted.{bound, two_bound, ok_same, at_line_ok, true_from_demand}
 use Rattle.stick_cell.proofs.GrownNames.{at_end_of}
 use Rattle.stick_cell.proofs.GrownWires.{port_of_plug}
-use Rattle.stick_cell.proofs.GrownForms.{joint_grown, contact_grown, fet_grown, port_grown, use_grown, wire_grown, limit_grown}
+use Rattle.stick_cell.proofs.GrownForms.{with_node_grown, port_grown, use_grown, wire_grown, limit_grown}
+use Rattle.stick_cell.proofs.Made.{joint_made, contact_made, buried_made, fet_made, port_made, use_made, wire_made}
+use Rattle.stick_cell.proofs.PathsApart.{apart_none}
 use Rattle.stick_cell.proofs.GrownPlugs.{all_wired}
 
 -- a cell before its first line
 pub grown-begun : (tech : Tech) (cells : List Known) (name : List ℕ) → IsGrown tech cells (begun name)
-grown-begun tech cells name = record { nodes = tt; wires = tt; plugs = λ k lt. absurd (omega arith); limits = tt; names = tt; own_depth = omega arith; depth = omega arith }
+grown-begun tech cells name = record { nodes = tt; wires = tt; sides = λ j k lj lk leave. absurd (omega arith); plugs = λ k lt. absurd (omega arith); limits = tt; apart = apart_none; names = tt; own_depth = omega arith; depth = omega arith }
 
 -- one more line
 pub grown-after_form : (tech : Tech) (cells : List Known) (known : Known) (form : Form) (next : Known) → AreGrown tech cells → IsForm form
     → IsGrown tech cells known → after_form tech cells known form ≡ Ok next → IsGrown tech cells next
-grown-after_form tech cells known (forms.Joint name layer col row width) next are is grown e = joint_grown tech cells known name layer col row width next grown e
-grown-after_form tech cells known (forms.Contact name lower col row) next are is grown e = contact_grown tech cells known name lower col row next is.1 grown e
-grown-after_form tech cells known (forms.Fet name depletion vertical col row w l) next are is grown e = fet_grown tech cells known name depletion vertical col row w l next grown e
-grown-after_form tech cells known (forms.Port name side layer place) next are is grown e = port_grown tech cells known name side layer place next grown e
-grown-after_form tech cells known (forms.Inst name cell col row) next are is grown e = use_grown tech cells known name cell col row next are grown e
-grown-after_form tech cells known (forms.Wire layer a b width) next are is grown e = wire_grown tech cells known layer a b width next are grown e
+grown-after_form tech cells known (forms.Joint name layer col row width) next are is grown e = with_node_grown tech cells known name col row next is.0 grown (joint_made tech known name layer col row width next e)
+grown-after_form tech cells known (forms.Contact name lower col row) next are is grown e = with_node_grown tech cells known name col row next is.0 grown (contact_made tech known name lower col row next is.1 e)
+grown-after_form tech cells known (forms.Buried name col row) next are is grown e = with_node_grown tech cells known name col row next is.0 grown (buried_made tech known name col row next e)
+grown-after_form tech cells known (forms.Fet name depletion vertical col row w l) next are is grown e =
+    with_node_grown tech cells known name col row next is.0 grown (fet_made tech known name depletion vertical col row w l next e)
+grown-after_form tech cells known (forms.Port name side layer place) next are is grown e = port_grown tech cells known name side (layer_of layer) place next grown (port_made known name side layer place next e)
+grown-after_form tech cells known (forms.Inst name cell col row) next are is grown e = use_grown tech cells known name col row next is.0 are grown (use_made cells known name cell col row next e)
+grown-after_form tech cells known (forms.Wire layer a b width) next are is grown e = wire_grown tech cells known layer a b width next are grown (wire_made tech cells known layer a b width next e)
 grown-after_form tech cells known (forms.Limit vertical a b at_most n) next are is grown e = limit_grown tech cells known vertical a b at_most n next are is.2 grown e
 
 -- a path that comes to a node is the node's name
@@ -160,7 +164,7 @@ port_of_wired tech cells known grown wired k lt =
 
 -- a cell with all its ports wired is sound
 pub sound-grown : (tech : Tech) (cells : List Known) (known : Known) → IsGrown tech cells known → IsTrue (is_wired known) → IsSound tech (cell_of known)
-sound-grown tech cells known grown wired = record { nodes = grown.nodes; wires = grown.wires; ports = port_of_wired tech cells known grown wired; limits = grown.limits }
+sound-grown tech cells known grown wired = record { nodes = grown.nodes; wires = grown.wires; sides = grown.sides; ports = port_of_wired tech cells known grown wired; limits = grown.limits }
 
 -- a cell of a design is sound
 pub sound-known_at : (tech : Tech) (cells : List Known) (k : ℕ) → AreGrown tech cells → k < length cells → IsSound tech (cell_of (known_at cells k))
@@ -183,6 +187,7 @@ some_layer_items layers.Metal = omega arith
 some_kind_items : (kind : NodeKind) → 1 ≤ kind_items kind
 some_kind_items (kinds.Joint layer width) = some_layer_items layer
 some_kind_items (kinds.Contact lower) = omega arith
+some_kind_items kinds.Buried = omega arith
 some_kind_items (kinds.Fet depletion gate w l) = omega arith
 
 -- each node has at least one item

@@ -1,19 +1,18 @@
 -- Each form of line keeps what a cell has.
-use Rattle.std.proofs.Common.{◌≡◌, ℕ, ◌+◌, ◌<◌, ◌≤◌, ℤ, pos, Bool, false, List, [], ◌∷◌, ◌++◌, length, take, map, Option, Some, Result, Ok, refl, ap, subst, ◌∙◌, arith}
+use Rattle.std.proofs.Common.{◌≡◌, ℕ, ◌+◌, ◌<◌, ◌≤◌, ℤ, pos, Bool, false, List, [], ◌∷◌, ◌++◌, length, take, map, Option, Some, Result, Ok, refl, sym, ap, subst, ◌∙◌, arith}
 use Rattle.std.specs.Prelude.{IsTrue, ◌&&◌, ◌==◌, not, nat_lt, bytes_eq}
 use Rattle.std.specs.List.{AllByRecursion}
 use Rattle.std.proofs.lemmas.List.{length-append, length-map, get_or-append-add, get_or-map, get_or_push}
 use Rattle.std.proofs.lemmas.List.Quantifiers.{position-Some}
 use Rattle.std.proofs.lemmas.Bool.Decides.{nat_tests}
 use Rattle.rule_table.specs.declared.technology.Tech.{Tech}
-use Rattle.rule_table.specs.declared.classes.Layer.TheVariants as layers
+use Rattle.rule_table.specs.declared.classes.Layer.{Layer}
 use Rattle.stick_parse.specs.declared.fault.StickKind.{StickKind}
 use Rattle.stick_parse.specs.declared.fault.StickKind.TheVariants.{RepeatedName, UseCycle, UseDepth, UsedPorts, FarPlace, BadSize, BadLimit}
 use Rattle.stick_parse.specs.declared.design.Layer.{Layer as DrawnLayer}
-use Rattle.stick_parse.specs.declared.design.Layer.TheVariants as drawn
 use Rattle.lam_geom.specs.declared.boxes.Side.{Side}
 use Rattle.stick_lex.specs.Numbers.{IsNumber}
-use Rattle.stick_parse.specs.Writable.{IsLower}
+use Rattle.stick_parse.specs.Writable.{IsName}
 use Rattle.stick_parse.specs.Reading.{◌>>=◌}
 use Rattle.cell_model.specs.declared.cell.NodeKind.{NodeKind}
 use Rattle.cell_model.specs.declared.cell.NodeKind.TheVariants as kinds
@@ -38,10 +37,13 @@ use Rattle.stick_cell.specs.Grown.{IsSpot, IsCopy, IsRight, IsGrown, AreGrown}
 use Rattle.stick_cell.proofs.Accepted.{bound, two_bound, demanded, two_demanded, both, ok_same, known_name_ok, known_number_ok, limited_ok, less_from_test, apart_from_test, place_from_test}
 use Rattle.list_facts.proofs.Elements.{all_append, all_weaker, all_map}
 use Rattle.stick_cell.proofs.GrownLists.{within_greatest_col, within_greatest_row}
-use Rattle.stick_cell.proofs.GrownNames.{MoreNodes, MorePlugs, same_nodes, more_nodes, same_plugs, more_plugs, same_cells, copy_of_same, AreRight, all_right_kept, at_end_of}
+use Rattle.stick_cell.proofs.GrownNames.{MoreNodes, MorePlugs, same_nodes, more_nodes, same_plugs, more_plugs, same_cells, copy_of_same, AreRight, all_right_kept, IsAt, at_end_of}
 use Rattle.stick_cell.proofs.GrownWires.{Holds, more_of, wire_kept, limit_kept, wire_copied, limit_copied, NoneEndsAt, none_past_ports, none_of_copies}
 use Rattle.stick_cell.proofs.GrownSizes.{size_of_sized, sizes_of_channel}
-use Rattle.stick_cell.proofs.GrownRuns.{is_wire, EndsFree, ends_free}
+use Rattle.stick_cell.proofs.GrownRuns.{accepted_run, run_of_paths, is_wire, EndsFree, ends_free}
+use Rattle.stick_cell.proofs.GrownSides.{AreSidesApart, sides_append, sides_more, sides_copied, sides_elsewhere, sides_new, sides_one}
+use Rattle.stick_cell.proofs.PathsApart.{apart_node, apart_named, apart_copied}
+use Rattle.stick_cell.proofs.Made.{IsWithNode, IsWithPort, IsWithCopy, IsWithWire}
 use Rattle.stick_cell.proofs.GrownPlugs.{plugs_kept, plugs_pushed, more_plugged, plugs_wired, more_plugs_twice}
 
 -- ---- what a cell keeps where there is more
@@ -67,10 +69,11 @@ names_pushed cells nodes new_nodes plugs new_plugs table name thing mn mp are is
 -- ---- a node
 
 -- one more node
-node_grown : (tech : Tech) (cells : List Known) (known : Known) (name : List ℕ) (kind : NodeKind) (col row : ℕ) → IsGrown tech cells known → IsKind tech kind → IsTrue (is_place col && is_place row)
-    → IsGrown tech cells (with_node known name kind col row)
-node_grown tech cells known name kind col row grown is near =
+node_grown : (tech : Tech) (cells : List Known) (known : Known) (name : List ℕ) (kind : NodeKind) (col row : ℕ) → IsName name → IsTrue (is_fresh known.names name) → IsGrown tech cells known
+    → IsKind tech kind → IsTrue (is_place col && is_place row) → IsGrown tech cells (with_node known name kind col row)
+node_grown tech cells known name kind col row is_name fresh grown is near =
     let node : Node = record { name = name; kind = kind; col = col; row = row } in
+    let thing : Thing = things.Node (record { number = length known.nodes; kind = kind; col = col; row = row }) in
     let next : Known = with_node known name kind col row in
     let nodes : MoreNodes known.nodes next.nodes = more_nodes known.nodes (node ∷ []) in
     let plugs : MorePlugs known.plugs next.plugs = same_plugs known.plugs in
@@ -78,9 +81,11 @@ node_grown tech cells known name kind col row grown is near =
     record {
       nodes = all_append (IsNode tech) known.nodes (node ∷ []) grown.nodes (record { col = place_from_test col places.0; row = place_from_test row places.1; kind = is }, tt);
       wires = wires_kept tech known next nodes plugs grown.wires;
+      sides = sides_more tech (cell_of known) (cell_of next) known.wires nodes grown.wires grown.sides;
       plugs = grown.plugs;
       limits = limits_kept known next nodes plugs grown.limits;
-      names = names_pushed cells known.nodes next.nodes known.plugs next.plugs known.names name (things.Node (record { number = length known.nodes; kind = kind; col = col; row = row })) nodes plugs grown.names (record {
+      apart = apart_node known.names name thing known.nodes node is_name fresh refl grown.apart;
+      names = names_pushed cells known.nodes next.nodes known.plugs next.plugs known.names name thing nodes plugs grown.names (record {
         within = omega (arith, length-append known.nodes (node ∷ []));
         node = get_or_push known.nodes node no_node (length known.nodes) refl;
       });
@@ -88,74 +93,40 @@ node_grown tech cells known name kind col row grown is near =
       depth = grown.depth;
     }
 
--- a joint
-pub joint_grown : (tech : Tech) (cells : List Known) (known : Known) (name : List ℕ) (layer : DrawnLayer) (col row : ℕ) (width : Option ℕ) (next : Known) → IsGrown tech cells known
-    → after_joint tech known name layer col row width ≡ Ok next → IsGrown tech cells next
-unfolding after_joint
-joint_grown tech cells known name layer col row width next grown e =
-    let with_size : ℤ → Known = λ size. with_node known name (kinds.Joint (layer_of layer) size) col row in
-    let met : IsTrue (is_fresh known.names name) × IsTrue (is_place col && is_place row) × ((sized tech (layer_of layer) width >>= λ size. Ok (with_size size)) ≡ Ok next) =
-    two_demanded (is_fresh known.names name) (is_place col && is_place row) RepeatedName FarPlace (sized tech (layer_of layer) width >>= λ size. Ok (with_size size)) next e in
-    let size : (z : ℤ) × (sized tech (layer_of layer) width ≡ Ok z) × (◌≡◌ {A = Result Known StickKind} (Ok (with_size z)) (Ok next)) = bound (sized tech (layer_of layer) width) (λ z. Ok (with_size z)) next met.2 in
-    subst (IsGrown tech cells) (ok_same (with_size size.0) next size.2)
-    (node_grown tech cells known name (kinds.Joint (layer_of layer) size.0) col row grown (size_of_sized tech (layer_of layer) width size.0 size.1) met.1)
-
--- a contact's lower layer is not metal
-lower_is_no_metal : (lower : DrawnLayer) → IsLower lower → layer_of lower ≡ layers.Metal → ⊥
-lower_is_no_metal drawn.Diffusion is e = cc
-lower_is_no_metal drawn.Poly is e = cc
-lower_is_no_metal drawn.Metal is e = is
-
--- a contact
-pub contact_grown : (tech : Tech) (cells : List Known) (known : Known) (name : List ℕ) (lower : DrawnLayer) (col row : ℕ) (next : Known) → IsLower lower → IsGrown tech cells known
-    → after_contact known name lower col row ≡ Ok next → IsGrown tech cells next
-unfolding after_contact
-contact_grown tech cells known name lower col row next is grown e =
-    let after : Known = with_node known name (kinds.Contact (layer_of lower)) col row in
-    let met : IsTrue (is_fresh known.names name) × IsTrue (is_place col && is_place row) × (◌≡◌ {A = Result Known StickKind} (Ok after) (Ok next)) =
-    two_demanded (is_fresh known.names name) (is_place col && is_place row) RepeatedName FarPlace (Ok after) next e in
-    subst (IsGrown tech cells) (ok_same after next met.2) (node_grown tech cells known name (kinds.Contact (layer_of lower)) col row grown (lower_is_no_metal lower is) met.1)
-
--- a transistor
-pub fet_grown : (tech : Tech) (cells : List Known) (known : Known) (name : List ℕ) (depletion vertical : Bool) (col row w l : ℕ) (next : Known) → IsGrown tech cells known
-    → after_fet tech known name depletion vertical col row w l ≡ Ok next → IsGrown tech cells next
-unfolding after_fet
-fet_grown tech cells known name depletion vertical col row w l next grown e =
-    let after : Known = with_node known name (kinds.Fet depletion (axis_where vertical) (pos w) (pos l)) col row in
-    let met : IsTrue (is_fresh known.names name) × IsTrue (is_place col && is_place row) × ((demand (is_channel tech w l) BadSize >>= λ u. Ok after) ≡ Ok next) =
-    two_demanded (is_fresh known.names name) (is_place col && is_place row) RepeatedName FarPlace (demand (is_channel tech w l) BadSize >>= λ u. Ok after) next e in
-    let channel : IsTrue (is_channel tech w l) × (◌≡◌ {A = Result Known StickKind} (Ok after) (Ok next)) = demanded (is_channel tech w l) BadSize (Ok after) next met.2 in
-    subst (IsGrown tech cells) (ok_same after next channel.1)
-    (node_grown tech cells known name (kinds.Fet depletion (axis_where vertical) (pos w) (pos l)) col row grown (sizes_of_channel tech w l channel.0) met.1)
+-- a line that adds a node
+pub with_node_grown : (tech : Tech) (cells : List Known) (known : Known) (name : List ℕ) (col row : ℕ) (next : Known) → IsName name → IsGrown tech cells known → IsWithNode tech known name col row next
+    → IsGrown tech cells next
+with_node_grown tech cells known name col row next is_name grown made =
+    subst (IsGrown tech cells) made.same (node_grown tech cells known name made.kind col row is_name made.fresh grown made.is made.near)
 
 -- ---- a port
 
 -- one more port
-pub port_grown : (tech : Tech) (cells : List Known) (known : Known) (name : List ℕ) (side : Side) (layer : DrawnLayer) (place : ℕ) (next : Known) → IsGrown tech cells known
-    → after_port known name side layer place ≡ Ok next → IsGrown tech cells next
-unfolding after_port
-port_grown tech cells known name side layer place next grown e =
-    let after : Known = with_port known name side (layer_of layer) place in
-    let met : IsTrue (is_fresh known.names name) × IsTrue (is_place place) × (◌≡◌ {A = Result Known StickKind} (Ok after) (Ok next)) =
-    two_demanded (is_fresh known.names name) (is_place place) RepeatedName FarPlace (Ok after) next e in
-    let plug : Plug = record { port = record { name = name; side = side; layer = layer_of layer; place = place; wire = 0 }; width = pos 0; wired = false } in
+pub port_grown : (tech : Tech) (cells : List Known) (known : Known) (name : List ℕ) (side : Side) (layer : Layer) (place : ℕ) (next : Known) → IsGrown tech cells known
+    → IsWithPort known name side layer place next → IsGrown tech cells next
+port_grown tech cells known name side layer place next grown made =
+    let after : Known = with_port known name side layer place in
+    let thing : Thing = things.Port (record { number = length known.plugs; side = side; layer = layer; place = place }) in
+    let plug : Plug = record { port = record { name = name; side = side; layer = layer; place = place; wire = 0 }; width = pos 0; wired = false } in
     let nodes : MoreNodes known.nodes after.nodes = same_nodes known.nodes in
     let plugs : MorePlugs known.plugs after.plugs = more_plugs known.plugs (plug ∷ []) in
     let here : plug_at after.plugs (length known.plugs) ≡ plug = get_or_push known.plugs plug no_plug (length known.plugs) refl in
     let none : NoneEndsAt known.wires (length known.plugs) =
     none_past_ports tech (cell_of known) (length known.plugs) grown.wires (omega (arith, length-map known.plugs (λ (p : Plug). p.port))) in
-    subst (IsGrown tech cells) (ok_same after next met.2) (record {
+    subst (IsGrown tech cells) made.same (record {
       nodes = grown.nodes;
       wires = wires_kept tech known after nodes plugs grown.wires;
+      sides = grown.sides;
       plugs = plugs_pushed known.wires known.plugs plug grown.plugs (record {
-        place = place_from_test place met.1;
+        place = place_from_test place made.near;
         wire = λ wired. absurd (cc);
         ends_there = λ wired. absurd (cc);
         only = λ wired. absurd (cc);
         free = λ free. none;
       });
       limits = limits_kept known after nodes plugs grown.limits;
-      names = names_pushed cells known.nodes after.nodes known.plugs after.plugs known.names name (things.Port (record { number = length known.plugs; side = side; layer = layer_of layer; place = place })) nodes plugs grown.names (record {
+      apart = apart_named known.names ((name, thing) ∷ []) known.nodes grown.apart;
+      names = names_pushed cells known.nodes after.nodes known.plugs after.plugs known.names name thing nodes plugs grown.names (record {
         within = omega (arith, length-append known.plugs (plug ∷ []));
         side = ap (λ (p : Plug). p.port.side) here;
         layer = ap (λ (p : Plug). p.port.layer) here;
@@ -174,24 +145,13 @@ nodes_copied tech name col row most_col most_row [] near_col near_row are cols r
 nodes_copied tech name col row most_col most_row (node ∷ nodes) near_col near_row are cols rows =
     (record { col = omega (arith, cols.0); row = omega (arith, rows.0); kind = are.0.kind }, nodes_copied tech name col row most_col most_row nodes near_col near_row are.1 cols.1 rows.1)
 
--- no ports
-empty_from_test : (plugs : List Plug) → IsTrue (is_empty plugs) → plugs ≡ []
-empty_from_test [] h = refl
-empty_from_test (plug ∷ plugs) h = absurd (grind (arith, nat_tests))
-
--- a copy of a known cell
-copy_grown : (tech : Tech) (cells before : List Known) (known : Known) (name : List ℕ) (k : ℕ) (used : Known) (col row : ℕ) (next : Known) → known_at cells k ≡ used → k < length cells
-    → IsGrown tech before used → IsGrown tech cells known → with_use known name k used col row ≡ Ok next → IsGrown tech cells next
-unfolding with_use
-copy_grown tech cells before known name k used col row next is_used earlier of_used grown e =
-    let after : Known = with_copy known name k used col row in
-    let near : Bool = is_place (col + greatest_col used.nodes) && is_place (row + greatest_row used.nodes) in
-    let met : IsTrue (is_empty used.plugs) × IsTrue (nat_lt used.depth 16) × ((demand near FarPlace >>= λ u. Ok after) ≡ Ok next) =
-    two_demanded (is_empty used.plugs) (nat_lt used.depth 16) UsedPorts UseDepth (demand near FarPlace >>= λ u. Ok after) next e in
-    let last : IsTrue near × (◌≡◌ {A = Result Known StickKind} (Ok after) (Ok next)) = demanded near FarPlace (Ok after) next met.2 in
-    let places : IsTrue (is_place (col + greatest_col used.nodes)) × IsTrue (is_place (row + greatest_row used.nodes)) = both (is_place (col + greatest_col used.nodes)) (is_place (row + greatest_row used.nodes)) last.0 in
-    let closed : used.plugs ≡ [] = empty_from_test used.plugs met.0 in
-    let shallow : used.depth < 16 = less_from_test used.depth 16 met.1 in
+-- a use
+pub use_grown : (tech : Tech) (cells : List Known) (known : Known) (name : List ℕ) (col row : ℕ) (next : Known) → IsName name → AreGrown tech cells → IsGrown tech cells known
+    → IsWithCopy cells known name col row next → IsGrown tech cells next
+use_grown tech cells known name col row next is_name are grown made =
+    let used : Known = known_at cells made.number in
+    let of_used : IsGrown tech (take made.number cells) used = are.grown made.number made.earlier in
+    let after : Known = with_copy known name made.number used col row in
     let copies : List Node = map (copied_node name col row) used.nodes in
     let first : ℕ = length known.nodes in
     let nodes : MoreNodes known.nodes after.nodes = more_nodes known.nodes copies in
@@ -200,47 +160,35 @@ copy_grown tech cells before known name k used col row next is_used earlier of_u
     let at : (j : ℕ) → j < length used.nodes → node_at after.nodes (first + j) ≡ copied_node name col row (node_at used.nodes j) =
     λ j lt. get_or-append-add known.nodes copies j no_node ∙ get_or-map (copied_node name col row) used.nodes j no_node no_node lt in
     let holds : Holds (cell_of used) (cell_of after) name first col row =
-    record { closed = ap (λ (ps : List Plug). map (λ (plug : Plug). plug.port) ps) closed; within = within; node = at } in
-    let copy : Copied = record { cell = k; first = first; col = col; row = row } in
-    let is_copy : IsCopy cells after.nodes name copy = copy_of_same used cells after.nodes name copy earlier is_used closed within at in
-    subst (IsGrown tech cells) (ok_same after next last.1) (record {
+    record { closed = ap (λ (ps : List Plug). map (λ (plug : Plug). plug.port) ps) made.closed; within = within; node = at } in
+    let copy : Copied = record { cell = made.number; first = first; col = col; row = row } in
+    let is_copy : IsCopy cells after.nodes name copy = copy_of_same used cells after.nodes name copy made.earlier refl made.closed within at in
+    subst (IsGrown tech cells) made.same (record {
       nodes = all_append (IsNode tech) known.nodes copies grown.nodes
-          (nodes_copied tech name col row (greatest_col used.nodes) (greatest_row used.nodes) used.nodes (place_from_test (col + greatest_col used.nodes) places.0) (place_from_test (row + greatest_row used.nodes) places.1)
+          (nodes_copied tech name col row (greatest_col used.nodes) (greatest_row used.nodes) used.nodes made.near_col made.near_row
           of_used.nodes (within_greatest_col used.nodes) (within_greatest_row used.nodes));
       wires = all_append (IsWire tech (cell_of after)) known.wires (map (copied_wire first) used.wires) (wires_kept tech known after nodes plugs grown.wires)
           (all_map (IsWire tech (cell_of after)) (copied_wire first) used.wires
           (all_weaker (IsWire tech (cell_of used)) (λ wire. IsWire tech (cell_of after) (copied_wire first wire)) (wire_copied tech (cell_of used) (cell_of after) name first col row holds) used.wires of_used.wires));
+      sides = sides_append (cell_of after) known.wires (map (copied_wire first) used.wires) (sides_more tech (cell_of known) (cell_of after) known.wires nodes grown.wires grown.sides)
+          (sides_elsewhere tech (cell_of known) (cell_of after) first known.wires used.wires (omega arith) grown.wires)
+          (sides_copied tech (cell_of used) (cell_of after) name first col row holds of_used.wires of_used.sides);
       plugs = plugs_kept known.wires (map (copied_wire first) used.wires) known.plugs (λ number. none_of_copies tech (cell_of used) first number holds.closed of_used.wires) grown.plugs;
       limits = all_append (IsLimit (cell_of after)) known.limits (map (copied_limit first) used.limits) (limits_kept known after nodes plugs grown.limits)
           (all_map (IsLimit (cell_of after)) (copied_limit first) used.limits
           (all_weaker (IsLimit (cell_of used)) (λ limit. IsLimit (cell_of after) (copied_limit first limit)) (limit_copied (cell_of used) (cell_of after) name first col row holds) used.limits of_used.limits));
+      apart = apart_copied known.names name (things.Copy copy) known.nodes used.nodes used.names col row is_name made.fresh grown.apart of_used.apart;
       names = names_pushed cells known.nodes after.nodes known.plugs after.plugs known.names name (things.Copy copy) nodes plugs grown.names is_copy;
       own_depth = omega (arith, grown.own_depth);
-      depth = omega (arith, grown.depth, shallow);
+      depth = omega (arith, grown.depth, made.shallow);
     })
-
--- a cell that was found is there
-within_position : (cells : List Known) (name : List ℕ) (k : ℕ) → number_of cells name ≡ Some k → k < length cells
-within_position cells name k e = (position-Some (λ (cell : Known). bytes_eq name cell.name) cells k (begun []) e).0
-
--- a use
-pub use_grown : (tech : Tech) (cells : List Known) (known : Known) (name cell : List ℕ) (col row : ℕ) (next : Known) → AreGrown tech cells → IsGrown tech cells known
-    → after_use cells known name cell col row ≡ Ok next → IsGrown tech cells next
-unfolding after_use
-use_grown tech cells known name cell col row next are grown e =
-    let rest : ℕ → Result Known StickKind = λ k. with_use known name k (known_at cells k) col row in
-    let met : IsTrue (is_fresh known.names name) × IsTrue (not (bytes_eq cell known.name)) × ((known_number (number_of cells cell) >>= rest) ≡ Ok next) =
-    two_demanded (is_fresh known.names name) (not (bytes_eq cell known.name)) RepeatedName UseCycle (known_number (number_of cells cell) >>= rest) next e in
-    let number : (k : ℕ) × (known_number (number_of cells cell) ≡ Ok k) × (rest k ≡ Ok next) = bound (known_number (number_of cells cell)) rest next met.2 in
-    let earlier : number.0 < length cells = within_position cells cell number.0 (known_number_ok (number_of cells cell) number.0 number.1) in
-    copy_grown tech cells (take number.0 cells) known name number.0 (known_at cells number.0) col row next refl earlier (are.grown number.0 earlier) grown number.2
 
 -- ---- a wire
 
 -- one more wire
-with_wire_grown : (tech : Tech) (cells : List Known) (known : Known) (wire : Wire) → IsGrown tech cells known → IsWire tech (cell_of known) wire → EndsFree known.plugs wire
-    → IsGrown tech cells (with_wire known wire)
-with_wire_grown tech cells known wire grown is free =
+with_wire_grown : (tech : Tech) (cells : List Known) (known : Known) (wire : Wire) → IsGrown tech cells known → IsWire tech (cell_of known) wire → AreSidesApart (cell_of known) known.wires (wire ∷ [])
+    → EndsFree known.plugs wire → IsGrown tech cells (with_wire known wire)
+with_wire_grown tech cells known wire grown is apart free =
     let next : Known = with_wire known wire in
     let number : ℕ = length known.wires in
     let once : List Plug = plugged number wire.width known.plugs wire.low in
@@ -251,8 +199,10 @@ with_wire_grown tech cells known wire grown is free =
       nodes = grown.nodes;
       wires = all_append (IsWire tech (cell_of next)) known.wires (wire ∷ []) (wires_kept tech known next nodes plugs grown.wires)
           (wire_kept tech (cell_of known) (cell_of next) (more_of known next nodes plugs) wire is, tt);
+      sides = sides_append (cell_of known) known.wires (wire ∷ []) grown.sides apart (sides_one (cell_of known) wire);
       plugs = plugs_wired known.wires wire known.plugs free grown.plugs;
       limits = limits_kept known next nodes plugs grown.limits;
+      apart = grown.apart;
       names = all_right_kept cells cells known.nodes next.nodes known.plugs next.plugs known.names (same_cells cells) nodes plugs grown.names;
       own_depth = grown.own_depth;
       depth = grown.depth;
@@ -260,25 +210,20 @@ with_wire_grown tech cells known wire grown is free =
 
 -- a wire between two paths
 pub wire_grown : (tech : Tech) (cells : List Known) (known : Known) (layer : DrawnLayer) (a b : List ℕ) (width : Option ℕ) (next : Known) → AreGrown tech cells → IsGrown tech cells known
-    → after_wire tech cells known layer a b width ≡ Ok next → IsGrown tech cells next
-unfolding after_wire
-wire_grown tech cells known layer a b width next are grown e =
-    let between : Found → Found → Result Known StickKind = λ from to. wire_between tech (wired_of known) (layer_of layer) from to width >>= λ wire. Ok (with_wire known wire) in
-    let named : (from : Found) × (to : Found) × (known_name (found_at cells known a) ≡ Ok from) × (known_name (found_at cells known b) ≡ Ok to) × (between from to ≡ Ok next) =
-    two_bound (known_name (found_at cells known a)) (known_name (found_at cells known b)) between next e in
-    let from : Found = named.0 in
-    let to : Found = named.1 in
-    let made : (wire : Wire) × (wire_between tech (wired_of known) (layer_of layer) from to width ≡ Ok wire) × (◌≡◌ {A = Result Known StickKind} (Ok (with_wire known wire)) (Ok next)) =
-    bound (wire_between tech (wired_of known) (layer_of layer) from to width) (λ wire. Ok (with_wire known wire)) next named.4 in
-    let found_from : found_at cells known a ≡ Some from = known_name_ok (found_at cells known a) from named.2 in
-    let found_to : found_at cells known b ≡ Some to = known_name_ok (found_at cells known b) to named.3 in
-    let is : IsWire tech (cell_of known) made.0 =
-    is_wire tech known (wired_of known) (layer_of layer) a b from to width made.0
-    (λ (t : Terminal) (same : from ≡ At t). at_end_of tech cells known a t are grown.names (found_from ∙ ap (λ (f : Found). Some f) same))
-    (λ (t : Terminal) (same : to ≡ At t). at_end_of tech cells known b t are grown.names (found_to ∙ ap (λ (f : Found). Some f) same))
-    made.1 in
-    subst (IsGrown tech cells) (ok_same (with_wire known made.0) next made.2)
-    (with_wire_grown tech cells known made.0 grown is (ends_free tech known.plugs (layer_of layer) from to width made.0 made.1))
+    → IsWithWire tech cells known layer a b width next → IsGrown tech cells next
+wire_grown tech cells known layer a b width next are grown made =
+    let at_from : (t : Terminal) → made.from ≡ At t → IsAt known.nodes known.plugs a t =
+    λ t same. at_end_of tech cells known a t are grown.names (made.found_from ∙ ap (λ (f : Found). Some f) same) in
+    let at_to : (t : Terminal) → made.to ≡ At t → IsAt known.nodes known.plugs b t =
+    λ t same. at_end_of tech cells known b t are grown.names (made.found_to ∙ ap (λ (f : Found). Some f) same) in
+    let (run, runs, met) = accepted_run tech (wired_of known) known.wires (layer_of layer) made.from made.to width made.wire made.between in
+    let is_run = run_of_paths known a b made.from made.to run at_from at_to runs in
+    let is : IsWire tech (cell_of known) made.wire = is_wire tech known (wired_of known) known.wires (layer_of layer) a b made.from made.to width made.wire at_from at_to made.between in
+    let apart : AreSidesApart (cell_of known) known.wires (made.wire ∷ []) =
+    sides_new (cell_of known) known.wires (layer_of layer) run made.wire is_run.low is_run.high met.left (ap (λ (w : Wire). w.layer) (sym met.same)) (ap (λ (w : Wire). w.along) (sym met.same))
+    (ap (λ (w : Wire). w.low) (sym met.same)) (ap (λ (w : Wire). w.high) (sym met.same)) in
+    subst (IsGrown tech cells) made.same
+    (with_wire_grown tech cells known made.wire grown is apart (ends_free tech known.plugs known.wires (layer_of layer) made.from made.to width made.wire made.between))
 
 -- ---- a limit
 
@@ -291,8 +236,10 @@ with_limit_grown tech cells known limit grown is =
     record {
       nodes = grown.nodes;
       wires = wires_kept tech known next nodes plugs grown.wires;
+      sides = grown.sides;
       plugs = grown.plugs;
       limits = all_append (IsLimit (cell_of next)) known.limits (limit ∷ []) (limits_kept known next nodes plugs grown.limits) (limit_kept (cell_of known) (cell_of next) (more_of known next nodes plugs) limit is, tt);
+      apart = grown.apart;
       names = grown.names;
       own_depth = grown.own_depth;
       depth = grown.depth;

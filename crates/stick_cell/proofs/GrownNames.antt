@@ -156,7 +156,7 @@ named_here cells nodes plugs name other here found true rest e is behind h =
 named_here cells nodes plugs name other here found false rest e is behind h = behind h
 
 -- what a name stands for is right
-right_named : (cells : List Known) (nodes : List Node) (plugs : List Plug) (name : List ℕ) (found : Thing) (table : Names) → AreRight cells nodes plugs table → named table name ≡ Some found
+pub right_named : (cells : List Known) (nodes : List Node) (plugs : List Plug) (name : List ℕ) (found : Thing) (table : Names) → AreRight cells nodes plugs table → named table name ≡ Some found
     → IsRight cells nodes plugs name found
 right_named cells nodes plugs name found [] are h = absurd (cc)
 right_named cells nodes plugs name found (entry ∷ table) are h =
@@ -193,7 +193,7 @@ Walks cells path = (table : Names) (nodes : List Node) (plugs : List Plug) (t : 
     → walk (map (λ cell. cell.names) cells) table path ≡ Some (At t) → IsAt nodes plugs (join_with_byte 46 path) t
 
 -- the names of each cell are right
-abbrev CellsAreRight : List Known → Type 0
+abbrev pub CellsAreRight : List Known → Type 0
 CellsAreRight cells = (k : ℕ) → k < length cells → AreRight cells (known_at cells k).nodes (known_at cells k).plugs (known_at cells k).names
 
 -- what is found behind a thing is right

@@ -1,6 +1,6 @@
 -- A wire that was accepted runs straight between two terminals that take it, and ends at no port that had a wire.
 use Rattle.std.proofs.Common.{◌≡◌, ℕ, ◌<◌, ℤ, Bool, true, false, List, length, map, Option, Some, None, Result, Ok, refl, sym, ap, subst, ◌∙◌, inl, inr, arith}
-use Rattle.std.specs.Prelude.{IsTrue, ◌≤ℤ◌, not, ◌&&◌, ◌||◌, ◌==◌, nat_lt, if◌then◌else◌}
+use Rattle.std.specs.Prelude.{IsTrue, ◌≤ℤ◌, int_le, not, ◌&&◌, ◌||◌, ◌==◌, nat_lt, if◌then◌else◌}
 use Rattle.std.proofs.lemmas.List.{length-map}
 use Rattle.std.proofs.lemmas.Bool.{not-true}
 use Rattle.std.proofs.Math.ListN.{get_or-map}
@@ -9,12 +9,13 @@ use Rattle.rule_table.specs.Technology.{width_of}
 use Rattle.rule_table.specs.declared.technology.Tech.{Tech}
 use Rattle.rule_table.specs.declared.classes.Layer.{Layer}
 use Rattle.stick_parse.specs.declared.fault.StickKind.{StickKind}
-use Rattle.stick_parse.specs.declared.fault.StickKind.TheVariants.{WrongLayer, WrongSide, PortWires, WideWire}
+use Rattle.stick_parse.specs.declared.fault.StickKind.TheVariants.{WrongLayer, WrongSide, PortWires, NarrowWire, WideWire}
 use Rattle.lam_geom.specs.declared.boxes.Side.{Side}
 use Rattle.stick_parse.specs.Reading.{◌>>=◌}
 use Rattle.cell_model.specs.declared.cell.Axis2.{Axis2}
 use Rattle.cell_model.specs.declared.cell.Axis2.TheVariants.{Across, Up}
 use Rattle.cell_model.specs.declared.cell.NodeKind.{NodeKind}
+use Rattle.cell_model.specs.declared.cell.NodeKind.TheVariants as kinds
 use Rattle.cell_model.specs.declared.cell.Node.{Node}
 use Rattle.cell_model.specs.declared.cell.WireEnd.TheVariants as ends
 use Rattle.cell_model.specs.declared.cell.Wire.{Wire}
@@ -29,9 +30,9 @@ use Rattle.stick_cell.specs.declared.names.Found.TheVariants.{At}
 use Rattle.stick_cell.specs.declared.names.Run.{Run}
 use Rattle.stick_cell.specs.Known.{Known, Plug, cell_of, no_plug, plug_at}
 use Rattle.stick_cell.specs.Checks.{demand, sized}
-use Rattle.stick_cell.specs.Wires.{terminal, line_of, run_along, run_from_port, run_between, straight, takes_layer, takes_along, is_free, is_within_pad, end_of, at_both, wire_along, wire_on, wire_between}
-use Rattle.cell_model.specs.Wiring.{is_same_axis, axis_of, is_low_side, is_same_layer, node_takes, node_takes_along, node_pad}
-use Rattle.cell_model.specs.Sound.{node_at, port_at, IsEnd, Takes, IsOnLowSide, IsOnHighSide, line_at, IsInOrder, IsWithinPad, IsWire, EndsAt}
+use Rattle.stick_cell.specs.Wires.{terminal, line_of, run_along, run_from_port, run_to_port, run_between, straight, run_of, takes_layer, takes_along, is_buried, are_sides_free, is_free, fills_pad, is_within_pad, end_of, at_both, wire_along, wire_where, wire_between}
+use Rattle.cell_model.specs.Wiring.{is_same_axis, axis_of, is_low_side, is_same_layer, node_takes, node_takes_along, buried_pad, node_pad}
+use Rattle.cell_model.specs.Sound.{node_at, port_at, IsEnd, Takes, IsOnLowSide, IsOnHighSide, line_at, IsInOrder, IsWithinPad, FillsKind, FillsPad, IsWire, EndsAt}
 use Rattle.stick_cell.proofs.Accepted.{bound, two_bound, demanded, two_demanded, both, terminal_ok, straight_ok, ok_same, eq_from_test, less_from_test, more_from_test, le_from_test}
 use Rattle.stick_cell.proofs.GrownNames.{IsAt}
 use Rattle.stick_cell.proofs.GrownWires.{order_to_port, order_from_port, port_of_plug}
@@ -115,9 +116,9 @@ some_same : {A : Type 0} (x y : A) → ◌≡◌ {A = Option A} (Some x) (Some y
 some_same x y e = cc
 
 -- between two nodes on one line
-between : (cell : Cell) (along : Axis2) (low high : Spot) → IsNodeOf cell low → IsNodeOf cell high → line_of along low ≡ line_of along high → IsInOrder cell along (ends.Node low.number) (ends.Node high.number)
-    → IsRun cell (record { along = along; low = terminals.Node low; high = terminals.Node high })
-between cell along low high is_low is_high line ordered =
+between : (cell : Cell) (along : Axis2) (low high : Spot) (forward : Bool) → IsNodeOf cell low → IsNodeOf cell high → line_of along low ≡ line_of along high → IsInOrder cell along (ends.Node low.number) (ends.Node high.number)
+    → IsRun cell (record { along = along; low = terminals.Node low; high = terminals.Node high; forward = forward })
+between cell along low high forward is_low is_high line ordered =
     record {
       low = is_low;
       high = is_high;
@@ -132,14 +133,14 @@ between cell along low high is_low is_high line ordered =
 -- two nodes in a row
 across : (cell : Cell) (a b : Spot) (is_low : Bool) → IsNodeOf cell a → IsNodeOf cell b → a.row ≡ b.row → (is_low ≡ true → a.col < b.col) → (is_low ≡ false → b.col < a.col)
     → IsRun cell (run_along Across is_low (terminals.Node a) (terminals.Node b))
-across cell a b true ia ib line less more = between cell Across a b ia ib line (omega (arith, less refl, ia.col, ib.col))
-across cell a b false ia ib line less more = between cell Across b a ib ia (sym line) (omega (arith, more refl, ia.col, ib.col))
+across cell a b true ia ib line less more = between cell Across a b true ia ib line (omega (arith, less refl, ia.col, ib.col))
+across cell a b false ia ib line less more = between cell Across b a false ib ia (sym line) (omega (arith, more refl, ia.col, ib.col))
 
 -- two nodes in a column
 up : (cell : Cell) (a b : Spot) (is_low : Bool) → IsNodeOf cell a → IsNodeOf cell b → a.col ≡ b.col → (is_low ≡ true → a.row < b.row) → (is_low ≡ false → b.row < a.row)
     → IsRun cell (run_along Up is_low (terminals.Node a) (terminals.Node b))
-up cell a b true ia ib line less more = between cell Up a b ia ib line (omega (arith, less refl, ia.row, ib.row))
-up cell a b false ia ib line less more = between cell Up b a ib ia (sym line) (omega (arith, more refl, ia.row, ib.row))
+up cell a b true ia ib line less more = between cell Up a b true ia ib line (omega (arith, less refl, ia.row, ib.row))
+up cell a b false ia ib line less more = between cell Up b a false ib ia (sym line) (omega (arith, more refl, ia.row, ib.row))
 
 -- between two nodes, by the two tests
 nodes_run : (cell : Cell) (a b : Spot) (row col : Bool) (run : Run) → IsNodeOf cell a → IsNodeOf cell b
@@ -185,10 +186,30 @@ port_to_node cell p b false ip ib line side =
       ordered = order_to_port cell (axis_of p.side) b.number p.number;
     }
 
+-- whichever of its ends is the first
+either_way : (cell : Cell) (run : Run) (forward : Bool) → IsRun cell run → IsRun cell (record run { forward = forward })
+either_way cell run forward is =
+    record {
+      low = is.low;
+      high = is.high;
+      reaches_low = is.reaches_low;
+      reaches_high = is.reaches_high;
+      low_side = is.low_side;
+      high_side = is.high_side;
+      straight = is.straight;
+      ordered = is.ordered;
+    }
+
+-- between a node and a port on a side
+node_to_port : (cell : Cell) (p : Pin) (b : Spot) (low : Bool) → IsPortOf cell p → IsNodeOf cell b → line_of (axis_of p.side) b ≡ p.place → is_low_side p.side ≡ low
+    → IsRun cell (run_along (axis_of p.side) (not low) (terminals.Node b) (terminals.Port p))
+node_to_port cell p b true ip ib line side = either_way cell (run_along (axis_of p.side) true (terminals.Port p) (terminals.Node b)) false (port_to_node cell p b true ip ib line side)
+node_to_port cell p b false ip ib line side = either_way cell (run_along (axis_of p.side) false (terminals.Port p) (terminals.Node b)) true (port_to_node cell p b false ip ib line side)
+
 -- from a port on a low side to one that lies opposite
-facing : (cell : Cell) (p q : Pin) → IsPortOf cell p → IsPortOf cell q → axis_of q.side ≡ axis_of p.side → p.place ≡ q.place → is_low_side p.side ≡ true → is_low_side q.side ≡ false
-    → IsRun cell (record { along = axis_of p.side; low = terminals.Port p; high = terminals.Port q })
-facing cell p q ip iq axis place side other =
+facing : (cell : Cell) (p q : Pin) (forward : Bool) → IsPortOf cell p → IsPortOf cell q → axis_of q.side ≡ axis_of p.side → p.place ≡ q.place → is_low_side p.side ≡ true → is_low_side q.side ≡ false
+    → IsRun cell (record { along = axis_of p.side; low = terminals.Port p; high = terminals.Port q; forward = forward })
+facing cell p q forward ip iq axis place side other =
     record {
       low = ip;
       high = iq;
@@ -203,9 +224,9 @@ facing cell p q ip iq axis place side other =
 -- between two ports that lie opposite each other
 port_to_port : (cell : Cell) (p q : Pin) (low : Bool) → IsPortOf cell p → IsPortOf cell q → axis_of q.side ≡ axis_of p.side → p.place ≡ q.place → is_low_side p.side ≡ low → is_low_side q.side ≡ not low
     → IsRun cell (run_along (axis_of p.side) low (terminals.Port p) (terminals.Port q))
-port_to_port cell p q true ip iq axis place side other = facing cell p q ip iq axis place side other
+port_to_port cell p q true ip iq axis place side other = facing cell p q true ip iq axis place side other
 port_to_port cell p q false ip iq axis place side other =
-    subst (λ along. IsRun cell (record { along = along; low = terminals.Port q; high = terminals.Port p })) axis (facing cell q p iq ip (sym axis) (sym place) other side)
+    subst (λ along. IsRun cell (record { along = along; low = terminals.Port q; high = terminals.Port p; forward = false })) axis (facing cell q p false iq ip (sym axis) (sym place) other side)
 
 -- one axis
 same_axis : (a b : Axis2) → IsTrue (is_same_axis a b) → b ≡ a
@@ -233,11 +254,18 @@ from_port cell p b run ip ib e =
     if_some (line_of (axis_of p.side) b == p.place) (run_along (axis_of p.side) (is_low_side p.side) (terminals.Port p) (terminals.Node b)) run e in
     subst (IsRun cell) h.1 (port_to_node cell p b (is_low_side p.side) ip ib (eq_from_test (line_of (axis_of p.side) b) p.place h.0) refl)
 
+-- and one from a node to a port
+to_port : (cell : Cell) (b : Spot) (p : Pin) (run : Run) → IsPortOf cell p → IsNodeOf cell b → run_to_port b p ≡ Some run → IsRun cell run
+to_port cell b p run ip ib e =
+    let h : IsTrue (line_of (axis_of p.side) b == p.place) × (run_along (axis_of p.side) (not (is_low_side p.side)) (terminals.Node b) (terminals.Port p) ≡ run) =
+    if_some (line_of (axis_of p.side) b == p.place) (run_along (axis_of p.side) (not (is_low_side p.side)) (terminals.Node b) (terminals.Port p)) run e in
+    subst (IsRun cell) h.1 (node_to_port cell p b (is_low_side p.side) ip ib (eq_from_test (line_of (axis_of p.side) b) p.place h.0) refl)
+
 -- a run between two terminals is one
 pub is_run : (cell : Cell) (a b : Terminal) (run : Run) → IsTerminalOf cell a → IsTerminalOf cell b → run_between a b ≡ Some run → IsRun cell run
 is_run cell (terminals.Node a) (terminals.Node b) run ia ib e =
     nodes_run cell a b ((a.row == b.row) && not (a.col == b.col)) ((a.col == b.col) && not (a.row == b.row)) run ia ib refl refl e
-is_run cell (terminals.Node a) (terminals.Port q) run ia iq e = from_port cell q a run iq ia e
+is_run cell (terminals.Node a) (terminals.Port q) run ia iq e = to_port cell a q run iq ia e
 is_run cell (terminals.Port p) (terminals.Node b) run ip ib e = from_port cell p b run ip ib e
 is_run cell (terminals.Port p) (terminals.Port q) run ip iq e =
     let sides : Bool = not (is_low_side p.side) && is_low_side q.side || is_low_side p.side && not (is_low_side q.side) in
@@ -248,6 +276,33 @@ is_run cell (terminals.Port p) (terminals.Port q) run ip iq e =
     subst (IsRun cell) h.1
     (port_to_port cell p q (is_low_side p.side) ip iq (same_axis (axis_of p.side) (axis_of q.side) inner.0) (eq_from_test p.place q.place outer.1) refl
     (opposite (is_low_side p.side) (is_low_side q.side) inner.1))
+
+-- it runs along some axis from the first terminal or to it
+abbrev IsAlong : Terminal → Terminal → Run → Type 0
+IsAlong s t run = (along : Axis2) × (is_low : Bool) × (run_along along is_low s t ≡ run)
+
+along_either : (row col left below : Bool) (s t : Terminal) (run : Run) → (if row then Some (run_along Across left s t) else (if col then Some (run_along Up below s t) else None)) ≡ Some run → IsAlong s t run
+along_either true col left below s t run e = (Across, left, some_same (run_along Across left s t) run e)
+along_either false col left below s t run e = (Up, below, (if_some col (run_along Up below s t) run e).1)
+
+is_along : (s t : Terminal) (run : Run) → run_between s t ≡ Some run → IsAlong s t run
+is_along (terminals.Node a) (terminals.Node b) run e =
+    along_either ((a.row == b.row) && not (a.col == b.col)) ((a.col == b.col) && not (a.row == b.row)) (nat_lt a.col b.col) (nat_lt a.row b.row) (terminals.Node a) (terminals.Node b) run e
+is_along (terminals.Node a) (terminals.Port q) run e = (axis_of q.side, not (is_low_side q.side), (if_some (line_of (axis_of q.side) a == q.place) (run_along (axis_of q.side) (not (is_low_side q.side)) (terminals.Node a) (terminals.Port q)) run e).1)
+is_along (terminals.Port p) (terminals.Node b) run e = (axis_of p.side, is_low_side p.side, (if_some (line_of (axis_of p.side) b == p.place) (run_along (axis_of p.side) (is_low_side p.side) (terminals.Port p) (terminals.Node b)) run e).1)
+is_along (terminals.Port p) (terminals.Port q) run e =
+    let sides : Bool = not (is_low_side p.side) && is_low_side q.side || is_low_side p.side && not (is_low_side q.side) in
+    (axis_of p.side, is_low_side p.side, (if_some (is_same_axis (axis_of p.side) (axis_of q.side) && sides && (p.place == q.place)) (run_along (axis_of p.side) (is_low_side p.side) (terminals.Port p) (terminals.Port q)) run e).1)
+
+-- the ends of a run are those of two paths, of which the first is the low one where the run goes forward
+pub record IsRunBetween (known : Known) (a b : List ℕ) (run : Run) : Type 0 where
+  pub low : IsAt known.nodes known.plugs (if run.forward then a else b) run.low
+  pub high : IsAt known.nodes known.plugs (if run.forward then b else a) run.high
+
+along_paths : (known : Known) (a b : List ℕ) (along : Axis2) (is_low : Bool) (s t : Terminal) → IsAt known.nodes known.plugs a s → IsAt known.nodes known.plugs b t
+    → IsRunBetween known a b (run_along along is_low s t)
+along_paths known a b along true s t at_a at_b = record { low = at_a; high = at_b }
+along_paths known a b along false s t at_a at_b = record { low = at_b; high = at_a }
 
 -- ---- wires
 
@@ -270,44 +325,66 @@ within_pad tech cell wire (terminals.Node spot) is test =
     subst (λ (kind : NodeKind). wire.width ≤ℤ node_pad tech wire.layer kind) (sym is.kind) (le_from_test wire.width (node_pad tech wire.layer spot.kind) test)
 within_pad tech cell wire (terminals.Port pin) is test = tt
 
+-- a wire that fills a buried contact's pad
+fills_kind : (tech : Tech) (width : ℤ) (kind : NodeKind) → IsTrue (not (is_buried kind) || int_le (buried_pad tech) width) → FillsKind tech width kind
+fills_kind tech width (kinds.Joint layer own) test = tt
+fills_kind tech width (kinds.Contact lower) test = tt
+fills_kind tech width kinds.Buried test = le_from_test (buried_pad tech) width test
+fills_kind tech width (kinds.Fet depletion gate w l) test = tt
+
+fills : (tech : Tech) (cell : Cell) (wire : Wire) (t : Terminal) → IsTerminalOf cell t → IsTrue (fills_pad tech wire.width t) → FillsPad tech cell wire (end_of t)
+fills tech cell wire (terminals.Node spot) is test = subst (FillsKind tech wire.width) (sym is.kind) (fills_kind tech wire.width spot.kind test)
+fills tech cell wire (terminals.Port pin) is test = tt
+
 -- the wire along a run, if its width and pads meet the checks
 abbrev sized_wire : Tech → Layer → Option ℕ → Run → Result Wire StickKind
 sized_wire tech layer width run = do
   size ← sized tech layer width
+  filled ← demand (at_both (fills_pad tech size) run) NarrowWire
   pads ← demand (at_both (is_within_pad tech layer size) run) WideWire
   Ok (wire_along layer run size)
 
 -- what the checks say of a wire along a run
-record IsChecked (tech : Tech) (wired : List Bool) (layer : Layer) (run : Run) (wire : Wire) : Type 0 where
+pub record IsChecked (tech : Tech) (wired : List Bool) (are_free : Bool) (layer : Layer) (run : Run) (wire : Wire) : Type 0 where
   pub layers : IsTrue (takes_layer layer run.low) × IsTrue (takes_layer layer run.high)
   pub sides : IsTrue (takes_along layer run.along run.low) × IsTrue (takes_along layer run.along run.high)
+  pub left : IsTrue are_free
   pub free : IsTrue (is_free wired run.low) × IsTrue (is_free wired run.high)
   pub size : IsSize wire.width × (width_of tech layer ≤ℤ wire.width)
+  pub filled : IsTrue (fills_pad tech wire.width run.low) × IsTrue (fills_pad tech wire.width run.high)
   pub pads : IsTrue (is_within_pad tech layer wire.width run.low) × IsTrue (is_within_pad tech layer wire.width run.high)
   pub same : wire_along layer run wire.width ≡ wire
 
 -- a wire that was accepted meets the checks
-checks_met : (tech : Tech) (wired : List Bool) (layer : Layer) (width : Option ℕ) (run : Run) (wire : Wire) → wire_on tech wired layer width run ≡ Ok wire → IsChecked tech wired layer run wire
-checks_met tech wired layer width run wire e =
-    let met : IsTrue (at_both (takes_layer layer) run) × IsTrue (at_both (takes_along layer run.along) run) × ((demand (at_both (is_free wired) run) PortWires >>= λ u. sized_wire tech layer width run) ≡ Ok wire) =
-    two_demanded (at_both (takes_layer layer) run) (at_both (takes_along layer run.along) run) WrongLayer WrongSide (demand (at_both (is_free wired) run) PortWires >>= λ u. sized_wire tech layer width run) wire e in
+pub checks_met : (tech : Tech) (wired : List Bool) (are_free : Bool) (layer : Layer) (width : Option ℕ) (run : Run) (wire : Wire) → wire_where are_free tech wired layer width run ≡ Ok wire
+    → IsChecked tech wired are_free layer run wire
+checks_met tech wired are_free layer width run wire e =
+    let along : Bool = at_both (takes_along layer run.along) run in
+    let met : IsTrue (at_both (takes_layer layer) run) × IsTrue (along && are_free) × ((demand (at_both (is_free wired) run) PortWires >>= λ u. sized_wire tech layer width run) ≡ Ok wire) =
+    two_demanded (at_both (takes_layer layer) run) (along && are_free) WrongLayer WrongSide (demand (at_both (is_free wired) run) PortWires >>= λ u. sized_wire tech layer width run) wire e in
+    let sides : IsTrue along × IsTrue are_free = both along are_free met.1 in
     let free : IsTrue (at_both (is_free wired) run) × (sized_wire tech layer width run ≡ Ok wire) = demanded (at_both (is_free wired) run) PortWires (sized_wire tech layer width run) wire met.2 in
-    let size : (z : ℤ) × (sized tech layer width ≡ Ok z) × ((demand (at_both (is_within_pad tech layer z) run) WideWire >>= λ u. Ok (wire_along layer run z)) ≡ Ok wire) =
-    bound (sized tech layer width) (λ z. demand (at_both (is_within_pad tech layer z) run) WideWire >>= λ u. Ok (wire_along layer run z)) wire free.1 in
-    let pads : IsTrue (at_both (is_within_pad tech layer size.0) run) × (◌≡◌ {A = Result Wire StickKind} (Ok (wire_along layer run size.0)) (Ok wire)) = demanded (at_both (is_within_pad tech layer size.0) run) WideWire (Ok (wire_along layer run size.0)) wire size.2 in
-    subst (IsChecked tech wired layer run) (ok_same (wire_along layer run size.0) wire pads.1) (record {
+    let padded : ℤ → Result Wire StickKind = λ z. demand (at_both (is_within_pad tech layer z) run) WideWire >>= λ u. Ok (wire_along layer run z) in
+    let size : (z : ℤ) × (sized tech layer width ≡ Ok z) × ((demand (at_both (fills_pad tech z) run) NarrowWire >>= λ u. padded z) ≡ Ok wire) =
+    bound (sized tech layer width) (λ z. demand (at_both (fills_pad tech z) run) NarrowWire >>= λ u. padded z) wire free.1 in
+    let pads : IsTrue (at_both (fills_pad tech size.0) run) × IsTrue (at_both (is_within_pad tech layer size.0) run) × (◌≡◌ {A = Result Wire StickKind} (Ok (wire_along layer run size.0)) (Ok wire)) =
+    two_demanded (at_both (fills_pad tech size.0) run) (at_both (is_within_pad tech layer size.0) run) NarrowWire WideWire (Ok (wire_along layer run size.0)) wire size.2 in
+    subst (IsChecked tech wired are_free layer run) (ok_same (wire_along layer run size.0) wire pads.2) (record {
       layers = both (takes_layer layer run.low) (takes_layer layer run.high) met.0;
-      sides = both (takes_along layer run.along run.low) (takes_along layer run.along run.high) met.1;
+      sides = both (takes_along layer run.along run.low) (takes_along layer run.along run.high) sides.0;
+      left = sides.1;
       free = both (is_free wired run.low) (is_free wired run.high) free.0;
       size = size_of_sized tech layer width size.0 size.1;
-      pads = both (is_within_pad tech layer size.0 run.low) (is_within_pad tech layer size.0 run.high) pads.0;
+      filled = both (fills_pad tech size.0 run.low) (fills_pad tech size.0 run.high) pads.0;
+      pads = both (is_within_pad tech layer size.0 run.low) (is_within_pad tech layer size.0 run.high) pads.1;
       same = refl;
     })
 
 -- a wire that meets the checks is one
-wire_of_checked : (tech : Tech) (cell : Cell) (wired : List Bool) (layer : Layer) (run : Run) (wire : Wire) → IsRun cell run → IsChecked tech wired layer run wire
+wire_of_checked : (tech : Tech) (cell : Cell) (wired : List Bool) (are_free : Bool) (layer : Layer) (run : Run) (wire : Wire) → IsRun cell run → IsChecked tech wired are_free layer run wire
     → IsWire tech cell wire
-wire_of_checked tech cell wired layer run wire is met =
+wire_of_checked tech cell wired are_free layer run wire is met =
+    let along : Wire = wire_along layer run wire.width in
     subst (IsWire tech cell) met.same (record {
       low = end_within cell run.low is.low;
       high = end_within cell run.high is.high;
@@ -319,37 +396,50 @@ wire_of_checked tech cell wired layer run wire is met =
       ordered = is.ordered;
       size = met.size.0;
       wide = met.size.1;
-      low_pad = within_pad tech cell (wire_along layer run wire.width) run.low is.low met.pads.0;
-      high_pad = within_pad tech cell (wire_along layer run wire.width) run.high is.high met.pads.1;
+      low_pad = within_pad tech cell along run.low is.low met.pads.0;
+      high_pad = within_pad tech cell along run.high is.high met.pads.1;
+      low_filled = fills tech cell along run.low is.low met.filled.0;
+      high_filled = fills tech cell along run.high is.high met.filled.1;
     })
 
--- the run of a wire that was accepted, between the terminals of the two ends
-accepted_run : (tech : Tech) (wired : List Bool) (layer : Layer) (from to : Found) (width : Option ℕ) (wire : Wire) → wire_between tech wired layer from to width ≡ Ok wire
-    → (s : Terminal) × (t : Terminal) × (run : Run) × (from ≡ At s) × (to ≡ At t) × (run_between s t ≡ Some run) × IsChecked tech wired layer run wire
+-- the run between two things
+pub run_ends : (from to : Found) (run : Run) → run_of from to ≡ Ok run → (s : Terminal) × (t : Terminal) × (from ≡ At s) × (to ≡ At t) × (run_between s t ≡ Some run)
+run_ends from to run e =
+    let ends_at : (s : Terminal) × (t : Terminal) × (terminal from ≡ Ok s) × (terminal to ≡ Ok t) × (straight (run_between s t) ≡ Ok run) =
+    two_bound (terminal from) (terminal to) (λ s t. straight (run_between s t)) run e in
+    (ends_at.0, ends_at.1, terminal_ok from ends_at.0 ends_at.2, terminal_ok to ends_at.1 ends_at.3, straight_ok (run_between ends_at.0 ends_at.1) run ends_at.4)
+
+-- the run of a wire that was accepted
+pub accepted_run : (tech : Tech) (wired : List Bool) (wires : List Wire) (layer : Layer) (from to : Found) (width : Option ℕ) (wire : Wire) → wire_between tech wired wires layer from to width ≡ Ok wire
+    → (run : Run) × (run_of from to ≡ Ok run) × IsChecked tech wired (are_sides_free wires layer run) layer run wire
 unfolding wire_between
-accepted_run tech wired layer from to width wire e =
-    let ends_at : (s : Terminal) × (t : Terminal) × (terminal from ≡ Ok s) × (terminal to ≡ Ok t) × ((straight (run_between s t) >>= λ run. wire_on tech wired layer width run) ≡ Ok wire) =
-    two_bound (terminal from) (terminal to) (λ s t. straight (run_between s t) >>= λ run. wire_on tech wired layer width run) wire e in
-    let along : (run : Run) × (straight (run_between ends_at.0 ends_at.1) ≡ Ok run) × (wire_on tech wired layer width run ≡ Ok wire) =
-    bound (straight (run_between ends_at.0 ends_at.1)) (λ run. wire_on tech wired layer width run) wire ends_at.4 in (
-      ends_at.0,
-      ends_at.1,
-      along.0,
-      terminal_ok from ends_at.0 ends_at.2,
-      terminal_ok to ends_at.1 ends_at.3,
-      straight_ok (run_between ends_at.0 ends_at.1) along.0 along.1,
-      checks_met tech wired layer width along.0 wire along.2,
-    )
+accepted_run tech wired wires layer from to width wire e =
+    let along : (run : Run) × (run_of from to ≡ Ok run) × (wire_where (are_sides_free wires layer run) tech wired layer width run ≡ Ok wire) =
+    bound (run_of from to) (λ run. wire_where (are_sides_free wires layer run) tech wired layer width run) wire e in
+    (along.0, along.1, checks_met tech wired (are_sides_free wires layer along.0) layer width along.0 wire along.2)
+
+-- the run between the ends of two paths
+pub run_of_paths : (known : Known) (a b : List ℕ) (from to : Found) (run : Run) → ((t : Terminal) → from ≡ At t → IsAt known.nodes known.plugs a t)
+    → ((t : Terminal) → to ≡ At t → IsAt known.nodes known.plugs b t) → run_of from to ≡ Ok run → IsRun (cell_of known) run
+run_of_paths known a b from to run at_from at_to e =
+    let (s, t, from_at, to_at, between) = run_ends from to run e in
+    is_run (cell_of known) s t run (terminal_of known a s (at_from s from_at)) (terminal_of known b t (at_to t to_at)) between
+
+-- and of which ends it has which path
+pub run_between_paths : (known : Known) (a b : List ℕ) (from to : Found) (run : Run) → ((t : Terminal) → from ≡ At t → IsAt known.nodes known.plugs a t)
+    → ((t : Terminal) → to ≡ At t → IsAt known.nodes known.plugs b t) → run_of from to ≡ Ok run → IsRunBetween known a b run
+run_between_paths known a b from to run at_from at_to e =
+    let (s, t, from_at, to_at, between) = run_ends from to run e in
+    let (along, is_low, same) = is_along s t run between in
+    subst (IsRunBetween known a b) same (along_paths known a b along is_low s t (at_from s from_at) (at_to t to_at))
 
 -- a wire that was accepted between the ends of two paths
-pub is_wire : (tech : Tech) (known : Known) (wired : List Bool) (layer : Layer) (a b : List ℕ) (from to : Found) (width : Option ℕ) (wire : Wire)
-    → ((t : Terminal) → from ≡ At t → IsAt known.nodes known.plugs a t) → ((t : Terminal) → to ≡ At t → IsAt known.nodes known.plugs b t) → wire_between tech wired layer from to width ≡ Ok wire
+pub is_wire : (tech : Tech) (known : Known) (wired : List Bool) (wires : List Wire) (layer : Layer) (a b : List ℕ) (from to : Found) (width : Option ℕ) (wire : Wire)
+    → ((t : Terminal) → from ≡ At t → IsAt known.nodes known.plugs a t) → ((t : Terminal) → to ≡ At t → IsAt known.nodes known.plugs b t) → wire_between tech wired wires layer from to width ≡ Ok wire
     → IsWire tech (cell_of known) wire
-is_wire tech known wired layer a b from to width wire at_from at_to e =
-    let (s, t, run, from_at, to_at, between, met) = accepted_run tech wired layer from to width wire e in
-    wire_of_checked tech (cell_of known) wired layer run wire
-    (is_run (cell_of known) s t run (terminal_of known a s (at_from s from_at)) (terminal_of known b t (at_to t to_at)) between)
-    met
+is_wire tech known wired wires layer a b from to width wire at_from at_to e =
+    let (run, runs, met) = accepted_run tech wired wires layer from to width wire e in
+    wire_of_checked tech (cell_of known) wired (are_sides_free wires layer run) layer run wire (run_of_paths known a b from to run at_from at_to runs) met
 
 -- ---- free ports
 
@@ -366,12 +456,12 @@ free_end plugs (terminals.Port pin) k free e =
     (not-true (plug_at plugs pin.number).wired (subst (λ (wired : Bool). IsTrue (not wired)) (get_or-map (λ (plug : Plug). plug.wired) plugs pin.number no_plug) free))
 
 -- the ends of a wire that was accepted are free
-pub ends_free : (tech : Tech) (plugs : List Plug) (layer : Layer) (from to : Found) (width : Option ℕ) (wire : Wire) → wire_between tech (map (λ plug. plug.wired) plugs) layer from to width ≡ Ok wire
-    → EndsFree plugs wire
-ends_free tech plugs layer from to width wire e k at_end =
-    let (s, t, run, from_at, to_at, between, met) = accepted_run tech (map (λ plug. plug.wired) plugs) layer from to width wire e in
+pub ends_free : (tech : Tech) (plugs : List Plug) (wires : List Wire) (layer : Layer) (from to : Found) (width : Option ℕ) (wire : Wire)
+    → wire_between tech (map (λ plug. plug.wired) plugs) wires layer from to width ≡ Ok wire → EndsFree plugs wire
+ends_free tech plugs wires layer from to width wire e k at_end =
+    let (run, runs, met) = accepted_run tech (map (λ plug. plug.wired) plugs) wires layer from to width wire e in
     by_end run met (subst (EndsAt (ends.Port k)) (sym met.same) at_end)
   where
-    by_end : (run : Run) → IsChecked tech (map (λ plug. plug.wired) plugs) layer run wire → EndsAt (ends.Port k) (wire_along layer run wire.width) → (plug_at plugs k).wired ≡ false
+    by_end : (run : Run) → IsChecked tech (map (λ plug. plug.wired) plugs) (are_sides_free wires layer run) layer run wire → EndsAt (ends.Port k) (wire_along layer run wire.width) → (plug_at plugs k).wired ≡ false
     by_end run met (inl low) = free_end plugs run.low k met.free.0 low
     by_end run met (inr high) = free_end plugs run.high k met.free.1 high

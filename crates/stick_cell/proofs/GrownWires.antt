@@ -19,7 +19,7 @@ use Rattle.cell_model.specs.declared.cell.Limit.{Limit}
 use Rattle.cell_model.specs.declared.cell.Cell.{Cell}
 use Rattle.stick_cell.specs.Known.{Known, Plug, cell_of, no_plug, plug_at, copied_node, copied_end, copied_wire, copied_limit}
 use Rattle.cell_model.specs.Wiring.{axis_of, is_low_side, node_takes, node_takes_along, node_pad, is_same_layer}
-use Rattle.cell_model.specs.Sound.{node_at, port_at, wire_at, no_wire, IsEnd, Takes, IsOnLowSide, IsOnHighSide, line_at, IsInOrder, IsWithinPad, IsWire, EndsAt, IsLimit}
+use Rattle.cell_model.specs.Sound.{node_at, port_at, wire_at, no_wire, IsEnd, Takes, IsOnLowSide, IsOnHighSide, line_at, IsInOrder, IsWithinPad, FillsKind, FillsPad, IsWire, EndsAt, IsLimit}
 use Rattle.list_facts.proofs.Elements.{all_map, all_weaker, all_at}
 use Rattle.stick_cell.proofs.GrownNames.{MoreNodes, MorePlugs}
 
@@ -103,6 +103,13 @@ pad_seen tech old new col row wire low high (ends.Port k) (ends.Port j) is pad =
 pad_seen tech old new col row wire low high (ends.Node k) (ends.Port j) is pad = absurd is
 pad_seen tech old new col row wire low high (ends.Port k) (ends.Node j) is pad = absurd is
 
+-- and fills the same pad
+filled_seen : (tech : Tech) (old new : Cell) (col row : ℕ) (wire : Wire) (low high end to : WireEnd) → IsSeenAs old new col row end to → FillsPad tech old wire end → FillsPad tech new (record wire { low = low; high = high }) to
+filled_seen tech old new col row wire low high (ends.Node k) (ends.Node j) is filled = subst (FillsKind tech wire.width) (sym is.1) filled
+filled_seen tech old new col row wire low high (ends.Port k) (ends.Port j) is filled = tt
+filled_seen tech old new col row wire low high (ends.Node k) (ends.Port j) is filled = absurd is
+filled_seen tech old new col row wire low high (ends.Port k) (ends.Node j) is filled = absurd is
+
 -- a wire of the old cell is one of the new cell between the ends that its ends are seen as
 wire_seen : (tech : Tech) (old new : Cell) (col row : ℕ) (wire : Wire) (low high : WireEnd) → IsSeenAs old new col row wire.low low → IsSeenAs old new col row wire.high high → IsWire tech old wire
     → IsWire tech new (record wire { low = low; high = high })
@@ -120,6 +127,8 @@ wire_seen tech old new col row wire low high from to is =
       wide = is.wide;
       low_pad = pad_seen tech old new col row wire low high wire.low low from is.low_pad;
       high_pad = pad_seen tech old new col row wire low high wire.high high to is.high_pad;
+      low_filled = filled_seen tech old new col row wire low high wire.low low from is.low_filled;
+      high_filled = filled_seen tech old new col row wire low high wire.high high to is.high_filled;
     }
 
 -- ---- a cell with more nodes and ports

@@ -1,6 +1,7 @@
 -- A result and what would be wrong: where it is refused that is so, and where it is not that is not.
-use Rattle.std.proofs.Common.{◌≡◌, ◌≢◌, ℕ, ◌<◌, ◌≤◌, ◌==◌, ◌%◌, nat_lt, nat_le, Bool, true, false, not, ◌&&◌, ℤ, List, [], ◌∷◌, Result, Ok, Err, IsTrue, refl, sym, ap, subst, inl, inr, arith}
+use Rattle.std.proofs.Common.{◌≡◌, ◌≢◌, ℕ, ◌<◌, ◌≤◌, ◌==◌, ◌%◌, nat_lt, nat_le, suc, Bool, true, false, not, ◌&&◌, ℤ, List, [], ◌∷◌, length, get_or, Result, Ok, Err, IsTrue, refl, sym, ap, subst, inl, inr, arith}
 use Rattle.std.specs.Prelude.{◌⊎◌, int_le, ◌<ℤ◌}
+use Rattle.std.specs.List.{list_all}
 use Rattle.std.proofs.lemmas.Bool.Decides.{nat_tests}
 use Rattle.std.proofs.lemmas.Int.{ints}
 use Rattle.stick_parse.specs.declared.fault.StickKind.{StickKind}
@@ -58,6 +59,16 @@ empty_denies (x ∷ xs) = record { bad = λ e same. absurd (cc); good = λ e w. 
   where
     occupied : is_empty (x ∷ xs) ≡ true → ⊥
     occupied e = grind (arith, nat_tests)
+
+-- a test that not all pass is failed by one
+pub fails_at : {X : Type 0} (test : X → Bool) (xs : List X) (d : X) → list_all test xs ≡ false → (k : ℕ) × (k < length xs) × (test (get_or xs k d) ≡ false)
+fails_at test [] d e = absurd (cc)
+fails_at test (x ∷ xs) d e = by (test x) refl (fails_at test xs d) e
+  where
+    by : (b : Bool) → test x ≡ b → (list_all test xs ≡ false → (k : ℕ) × (k < length xs) × (test (get_or xs k d) ≡ false)) → (b && list_all test xs) ≡ false
+        → (k : ℕ) × (k < length (x ∷ xs)) × (test (get_or (x ∷ xs) k d) ≡ false)
+    by false here rest e = (0, omega arith, here)
+    by true here rest e = let behind = rest e in (suc behind.0, omega (arith, behind.1), behind.2)
 
 -- ---- results
 

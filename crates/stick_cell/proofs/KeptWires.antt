@@ -4,7 +4,7 @@ use Rattle.std.proofs.Common.{◌≡◌, ℕ, ◌≤◌, nat_lt, Bool, true, fal
 use Rattle.rule_table.specs.declared.technology.Tech.{Tech}
 use Rattle.rule_table.specs.declared.classes.Layer.{Layer}
 use Rattle.stick_parse.specs.declared.fault.StickKind.{StickKind}
-use Rattle.stick_parse.specs.declared.fault.StickKind.TheVariants.{WrongLayer, WrongSide, PortWires, WideWire}
+use Rattle.stick_parse.specs.declared.fault.StickKind.TheVariants.{WrongLayer, WrongSide, PortWires, NarrowWire, WideWire}
 use Rattle.stick_parse.specs.Reading.{◌>>=◌}
 use Rattle.cell_model.specs.declared.cell.Axis2.{Axis2}
 use Rattle.cell_model.specs.declared.cell.Axis2.TheVariants.{Across, Up}
@@ -17,7 +17,7 @@ use Rattle.stick_cell.specs.declared.names.Found.{Found}
 use Rattle.stick_cell.specs.declared.names.Found.TheVariants.{At, AtCopy, Through}
 use Rattle.stick_cell.specs.declared.names.Run.{Run}
 use Rattle.stick_cell.specs.Checks.{demand, sized}
-use Rattle.stick_cell.specs.Wires.{terminal, line_of, run_along, run_from_port, run_between, straight, takes_layer, takes_along, is_free, is_within_pad, end_of, at_both, wire_along, wire_between, limited}
+use Rattle.stick_cell.specs.Wires.{terminal, line_of, run_along, run_from_port, run_to_port, run_between, straight, run_of, takes_layer, takes_along, is_free, fills_pad, is_within_pad, end_of, at_both, wire_along, wire_where, limited}
 use Rattle.cell_model.specs.Wiring.{axis_of, is_low_side, is_same_axis}
 use Rattle.stick_cell.specs.Kept.{ended, kept_spot, kept_found, capped_spot, capped_end, capped_wire, IsNearFound}
 
@@ -62,7 +62,7 @@ limited-kept Through near = refl
 
 -- ---- runs
 
-abbrev capped_run : Run → Run
+abbrev pub capped_run : Run → Run
 capped_run run = record run { low = capped_terminal run.low; high = capped_terminal run.high }
 
 -- the run between two ends does not hang on the numbers of nodes
@@ -91,10 +91,16 @@ run_from_port-capped p b =
     ap (λ (line : ℕ). cond (line == p.place) (Some (run_along (axis_of p.side) (is_low_side p.side) (Port p) (Node (capped_spot b)))) None) (line_of-capped (axis_of p.side) b)
     ∙ run_if (line_of (axis_of p.side) b == p.place) (axis_of p.side) (is_low_side p.side) (Port p) (Node b)
 
+-- or from a node to a port
+run_to_port-capped : (a : Spot) (q : Pin) → run_to_port (capped_spot a) q ≡ option_map capped_run (run_to_port a q)
+run_to_port-capped a q =
+    ap (λ (line : ℕ). cond (line == q.place) (Some (run_along (axis_of q.side) (not (is_low_side q.side)) (Node (capped_spot a)) (Port q))) None) (line_of-capped (axis_of q.side) a)
+    ∙ run_if (line_of (axis_of q.side) a == q.place) (axis_of q.side) (not (is_low_side q.side)) (Node a) (Port q)
+
 -- or between two terminals
 run_between-capped : (a b : Terminal) → run_between (capped_terminal a) (capped_terminal b) ≡ option_map capped_run (run_between a b)
 run_between-capped (Node a) (Node b) = run_either ((a.row == b.row) && not (a.col == b.col)) ((a.col == b.col) && not (a.row == b.row)) (nat_lt a.col b.col) (nat_lt a.row b.row) (Node a) (Node b)
-run_between-capped (Node a) (Port q) = run_from_port-capped q a
+run_between-capped (Node a) (Port q) = run_to_port-capped a q
 run_between-capped (Port p) (Node b) = run_from_port-capped p b
 run_between-capped (Port p) (Port q) =
     run_if (is_same_axis (axis_of p.side) (axis_of q.side) && (not (is_low_side p.side) && is_low_side q.side || is_low_side p.side && not (is_low_side q.side)) && (p.place == q.place)) (axis_of p.side) (is_low_side p.side) (Port p) (Port q)
@@ -126,6 +132,10 @@ is_within_pad-capped : (tech : Tech) (layer : Layer) (width : ℤ) (end : Termin
 is_within_pad-capped tech layer width (Node spot) = refl
 is_within_pad-capped tech layer width (Port pin) = refl
 
+fills_pad-capped : (tech : Tech) (width : ℤ) (end : Terminal) → fills_pad tech width (capped_terminal end) ≡ fills_pad tech width end
+fills_pad-capped tech width (Node spot) = refl
+fills_pad-capped tech width (Port pin) = refl
+
 end_of-capped : (end : Terminal) → end_of (capped_terminal end) ≡ capped_end (end_of end)
 end_of-capped (Node spot) = refl
 end_of-capped (Port pin) = refl
@@ -137,31 +147,31 @@ at_both-capped test same run = ap (λ (b : Bool). b && test (capped_terminal run
 -- ---- the wire of a run
 
 -- the wire that is made after the tests
-abbrev tested : Bool → Bool → Bool → Result ℤ StickKind → (ℤ → Bool) → (ℤ → Wire) → Result Wire StickKind
-tested layers sides free width pads make = do
+abbrev pub tested : Bool → Bool → Bool → Result ℤ StickKind → (ℤ → Bool) → (ℤ → Bool) → (ℤ → Wire) → Result Wire StickKind
+tested layers sides free width fills pads make = do
   layer ← demand layers WrongLayer
   side ← demand sides WrongSide
   one ← demand free PortWires
   size ← width
+  filled ← demand (fills size) NarrowWire
   pad ← demand (pads size) WideWire
   Ok (make size)
 
-within_pads : (pads : Bool) (wire other : Wire) → other ≡ capped_wire wire → (demand pads WideWire >>= (λ pad. Ok other)) ≡ result_map capped_wire (demand pads WideWire >>= (λ pad. Ok wire))
-within_pads true wire other same = ap Ok same
-within_pads false wire other same = refl
+within_pads : (fills pads : Bool) (wire other : Wire) → other ≡ capped_wire wire
+    → (demand fills NarrowWire >>= λ filled. demand pads WideWire >>= λ pad. Ok other) ≡ result_map capped_wire (demand fills NarrowWire >>= λ filled. demand pads WideWire >>= λ pad. Ok wire)
+within_pads true true wire other same = ap Ok same
+within_pads true false wire other same = refl
+within_pads false pads wire other same = refl
 
-tested-capped : (layers sides free : Bool) (width : Result ℤ StickKind) (pads others : ℤ → Bool) (make made : ℤ → Wire) → ((n : ℤ) → others n ≡ pads n) → ((n : ℤ) → made n ≡ capped_wire (make n))
-    → tested layers sides free width others made ≡ result_map capped_wire (tested layers sides free width pads make)
-tested-capped false sides free width pads others make made same_pads same_wires = refl
-tested-capped true false free width pads others make made same_pads same_wires = refl
-tested-capped true true false width pads others make made same_pads same_wires = refl
-tested-capped true true true (Err kind) pads others make made same_pads same_wires = refl
-tested-capped true true true (Ok n) pads others make made same_pads same_wires =
-    ap (λ (b : Bool). demand b WideWire >>= (λ pad. Ok (made n))) (same_pads n) ∙ within_pads (pads n) (make n) (made n) (same_wires n)
-
-abbrev wire_of : Tech → List Bool → Layer → Option ℕ → Run → Result Wire StickKind
-wire_of tech wired layer width run =
-    tested (at_both (takes_layer layer) run) (at_both (takes_along layer run.along) run) (at_both (is_free wired) run) (sized tech layer width) (λ size. at_both (is_within_pad tech layer size) run) (wire_along layer run)
+tested-capped : (layers sides free : Bool) (width : Result ℤ StickKind) (fills filled pads others : ℤ → Bool) (make made : ℤ → Wire) → ((n : ℤ) → filled n ≡ fills n) → ((n : ℤ) → others n ≡ pads n)
+    → ((n : ℤ) → made n ≡ capped_wire (make n)) → tested layers sides free width filled others made ≡ result_map capped_wire (tested layers sides free width fills pads make)
+tested-capped false sides free width fills filled pads others make made same_fills same_pads same_wires = refl
+tested-capped true false free width fills filled pads others make made same_fills same_pads same_wires = refl
+tested-capped true true false width fills filled pads others make made same_fills same_pads same_wires = refl
+tested-capped true true true (Err kind) fills filled pads others make made same_fills same_pads same_wires = refl
+tested-capped true true true (Ok n) fills filled pads others make made same_fills same_pads same_wires =
+    ap (λ (b : Bool). demand b NarrowWire >>= (λ f. demand (others n) WideWire >>= (λ pad. Ok (made n)))) (same_fills n)
+    ∙ ap (λ (b : Bool). demand (fills n) NarrowWire >>= (λ f. demand b WideWire >>= (λ pad. Ok (made n)))) (same_pads n) ∙ within_pads (fills n) (pads n) (make n) (made n) (same_wires n)
 
 wire_along-capped : (layer : Layer) (run : Run) (size : ℤ) → wire_along layer (capped_run run) size ≡ capped_wire (wire_along layer run size)
 wire_along-capped layer run size =
@@ -169,19 +179,23 @@ wire_along-capped layer run size =
     let high = end_of-capped run.high in
     cc
 
-wire_of-capped : (tech : Tech) (wired : List Bool) (layer : Layer) (width : Option ℕ) (run : Run) → wire_of tech wired layer width (capped_run run) ≡ result_map capped_wire (wire_of tech wired layer width run)
-wire_of-capped tech wired layer width run =
+-- the wire along what is kept of a run is the wire along the run, with the numbers of nodes capped
+pub wire_where-capped : (are_free : Bool) (tech : Tech) (wired : List Bool) (layer : Layer) (width : Option ℕ) (run : Run)
+    → wire_where are_free tech wired layer width (capped_run run) ≡ result_map capped_wire (wire_where are_free tech wired layer width run)
+wire_where-capped are_free tech wired layer width run =
     let end = capped_run run in
     let layers = at_both-capped (takes_layer layer) (takes_layer-capped layer) run in
     let sides = at_both-capped (takes_along layer run.along) (takes_along-capped layer run.along) run in
     let free = at_both-capped (is_free wired) (is_free-capped wired) run in
+    let fills = λ (size : ℤ). at_both (fills_pad tech size) end in
     let pads = λ (size : ℤ). at_both (is_within_pad tech layer size) end in
     let size = sized tech layer width in
-    ap (λ (b : Bool). tested b (at_both (takes_along layer run.along) end) (at_both (is_free wired) end) size pads (wire_along layer end)) layers
-    ∙ ap (λ (b : Bool). tested (at_both (takes_layer layer) run) b (at_both (is_free wired) end) size pads (wire_along layer end)) sides
-    ∙ ap (λ (b : Bool). tested (at_both (takes_layer layer) run) (at_both (takes_along layer run.along) run) b size pads (wire_along layer end)) free
-    ∙ tested-capped (at_both (takes_layer layer) run) (at_both (takes_along layer run.along) run) (at_both (is_free wired) run) size (λ n. at_both (is_within_pad tech layer n) run) pads (wire_along layer run) (wire_along layer end)
-    (λ n. at_both-capped (is_within_pad tech layer n) (is_within_pad-capped tech layer n) run) (wire_along-capped layer run)
+    ap (λ (b : Bool). tested b (at_both (takes_along layer run.along) end && are_free) (at_both (is_free wired) end) size fills pads (wire_along layer end)) layers
+    ∙ ap (λ (b : Bool). tested (at_both (takes_layer layer) run) (b && are_free) (at_both (is_free wired) end) size fills pads (wire_along layer end)) sides
+    ∙ ap (λ (b : Bool). tested (at_both (takes_layer layer) run) (at_both (takes_along layer run.along) run && are_free) b size fills pads (wire_along layer end)) free
+    ∙ tested-capped (at_both (takes_layer layer) run) (at_both (takes_along layer run.along) run && are_free) (at_both (is_free wired) run) size (λ n. at_both (fills_pad tech n) run) fills
+    (λ n. at_both (is_within_pad tech layer n) run) pads (wire_along layer run) (wire_along layer end)
+    (λ n. at_both-capped (fills_pad tech n) (fills_pad-capped tech n) run) (λ n. at_both-capped (is_within_pad tech layer n) (is_within_pad-capped tech layer n) run) (wire_along-capped layer run)
 
 -- ---- the wire between two things
 
@@ -191,19 +205,13 @@ after-capped : {A B C D : Type 0} (view : A → B) (look : C → D) (read : Resu
 after-capped view look (Ok x) other next following same agree = ap (λ r. r >>= following) same ∙ agree x
 after-capped view look (Err e) other next following same agree = ap (λ r. r >>= following) same
 
-wire_between-capped : (tech : Tech) (wired : List Bool) (layer : Layer) (a b : Found) (width : Option ℕ) → wire_between tech wired layer (capped_found a) (capped_found b) width ≡ result_map capped_wire (wire_between tech wired layer a b width)
-unfolding wire_between
-wire_between-capped tech wired layer a b width =
-    after-capped capped_terminal capped_wire (terminal a) (terminal (capped_found a)) _ _ (terminal-capped a) (λ from.
-    after-capped capped_terminal capped_wire (terminal b) (terminal (capped_found b)) _ _ (terminal-capped b) (λ to.
-    after-capped capped_run capped_wire (straight (run_between from to)) (straight (run_between (capped_terminal from) (capped_terminal to))) _ _
-    (ap straight (run_between-capped from to) ∙ straight-capped (run_between from to))
-    (λ run. wire_of-capped tech wired layer width run)))
+run_of-capped : (a b : Found) → run_of (capped_found a) (capped_found b) ≡ result_map capped_run (run_of a b)
+run_of-capped a b =
+    after-capped capped_terminal capped_run (terminal a) (terminal (capped_found a)) _ _ (terminal-capped a) (λ from.
+    after-capped capped_terminal capped_run (terminal b) (terminal (capped_found b)) _ _ (terminal-capped b) (λ to.
+    ap straight (run_between-capped from to) ∙ straight-capped (run_between from to)))
 
--- the wire between what is kept of two things that lie near is the wire between the things, with the numbers of nodes capped
-pub wire_between-kept : (tech : Tech) (wired : List Bool) (layer : Layer) (a b : Found) (width : Option ℕ) → IsNearFound a → IsNearFound b
-    → wire_between tech wired layer (kept_found a) (kept_found b) width ≡ result_map capped_wire (wire_between tech wired layer a b width)
-wire_between-kept tech wired layer a b width near_a near_b =
-    ap (λ (f : Found). wire_between tech wired layer f (kept_found b) width) (kept_found-near a near_a)
-    ∙ ap (λ (f : Found). wire_between tech wired layer (capped_found a) f width) (kept_found-near b near_b)
-    ∙ wire_between-capped tech wired layer a b width
+-- the run between what is kept of two things that lie near is the run between the things, with the numbers of nodes capped
+pub run_of-kept : (a b : Found) → IsNearFound a → IsNearFound b → run_of (kept_found a) (kept_found b) ≡ result_map capped_run (run_of a b)
+run_of-kept a b near_a near_b =
+    ap (λ (f : Found). run_of f (kept_found b)) (kept_found-near a near_a) ∙ ap (λ (f : Found). run_of (capped_found a) f) (kept_found-near b near_b) ∙ run_of-capped a b

@@ -1,6 +1,7 @@
 pub mod Accepted
 mod Counting
-mod Entries
+pub mod Entries
+mod SideMarks
 pub mod FirstName
 mod CellLoop
 pub mod Composed
@@ -15,7 +16,15 @@ pub mod GrownWires
 pub mod GrownSizes
 pub mod GrownRuns
 pub mod GrownPlugs
+pub mod PathsApart
+pub mod GrownSides
+pub mod Made
 pub mod GrownForms
+mod SidesRead
+mod SidesKept
+mod LineSides
+mod SidesFree
+mod SidesLoop
 pub mod Grown
 mod LineLoop
 mod LineSteps

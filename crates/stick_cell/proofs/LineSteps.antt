@@ -4,7 +4,7 @@ use Rattle.std.specs.List.{AllByRecursion}
 use Rattle.std.specs.Result.{IsErrAnd}
 use Rattle.std.specs.Str.{bytes_eq}
 use Rattle.stick_parse.specs.declared.fault.StickKind.{StickKind}
-use Rattle.stick_parse.specs.declared.fault.StickKind.TheVariants.{RepeatedName, FarPlace, BadSize}
+use Rattle.stick_parse.specs.declared.fault.StickKind.TheVariants.{RepeatedName, FarPlace, BadSize, NoBuried}
 use Rattle.stick_parse.specs.declared.fault.LineFault.{LineFault}
 use Rattle.stick_parse.specs.declared.fault.LineFault.TheVariants.{Kind}
 use Rattle.stick_parse.specs.Reading.{◌>>=◌, FailsLine}
@@ -12,12 +12,13 @@ use Rattle.stick_cell.specs.declared.growing.Growing.{Growing}
 use Rattle.stick_cell.specs.declared.names.Thing.{Thing}
 use Rattle.std.specs.Prelude.{ℤ, pos}
 use Rattle.rule_table.specs.declared.technology.Tech.{Tech}
+use Rattle.rule_table.specs.Technology.{has_buried_of}
 use Rattle.stick_parse.specs.declared.design.Layer.{Layer as DrawnLayer}
 use Rattle.lam_geom.specs.declared.boxes.Side.{Side}
 use Rattle.cell_model.specs.declared.cell.NodeKind.TheVariants as kinds
 use Rattle.stick_cell.specs.Checks.{demand, is_fresh, is_place, layer_of, sized, is_channel}
 use Rattle.stick_cell.specs.Known.{Known, Plug, with_node, with_port}
-use Rattle.stick_cell.specs.Lines.{axis_where, after_joint, after_contact, after_fet, after_port}
+use Rattle.stick_cell.specs.Lines.{axis_where, after_joint, after_contact, after_buried, after_fet, after_port}
 use Rattle.stick_cell.specs.Paths.{Names, named}
 use Rattle.stick_cell.specs.Kept.{capped_thing, capped_names}
 use Rattle.stick_cell.specs.Growing.{Grows, IsWiredBelow, placed}
@@ -99,6 +100,15 @@ unfolding after_contact
 contact-by known name lower col row r is =
     sym (placed-then known.names name col row (λ _. Ok (with_node known name (kinds.Contact (layer_of lower)) col row)))
     ∙ ap (λ r. r >>= (λ _. Ok (with_node known name (kinds.Contact (layer_of lower)) col row))) is
+
+pub buried-by : (tech : Tech) (known : Known) (name : List ℕ) (col row : ℕ) (r : Result (Unit {0}) StickKind) (b : Bool)
+    → placed known.names name col row ≡ r → has_buried_of tech ≡ b
+    → after_buried tech known name col row ≡ (r >>= (λ _. demand b NoBuried >>= (λ _. Ok (with_node known name kinds.Buried col row))))
+unfolding after_buried
+buried-by tech known name col row r b is there =
+    sym (placed-then known.names name col row (λ _. demand (has_buried_of tech) NoBuried >>= (λ _. Ok (with_node known name kinds.Buried col row))))
+    ∙ ap (λ r. r >>= (λ _. demand (has_buried_of tech) NoBuried >>= (λ _. Ok (with_node known name kinds.Buried col row)))) is
+    ∙ ap (λ b. r >>= (λ _. demand b NoBuried >>= (λ _. Ok (with_node known name kinds.Buried col row)))) there
 
 pub fet-by : (tech : Tech) (known : Known) (name : List ℕ) (depletion vertical : Bool) (col row w l : ℕ) (r : Result (Unit {0}) StickKind) (b : Bool)
     → placed known.names name col row ≡ r → is_channel tech w l ≡ b

@@ -1,14 +1,15 @@
 -- A line or a cell that is refused breaks the rule of its kind, and one that is not refused breaks none.
 use Rattle.std.proofs.Common.{◌≡◌, ◌≢◌, ℕ, ◌+◌, ◌==◌, ◌%◌, nat_lt, nat_le, Bool, true, false, not, ◌&&◌, ◌||◌, cond, ℤ, pos, List, [], ◌∷◌, ◌++◌, Option, Some, None, Result, Ok, Err, refl, sym, ap, subst, ◌∙◌, inl, inr}
-use Rattle.std.specs.Prelude.{◌⊎◌, int_le, ◌<ℤ◌, bytes_eq}
+use Rattle.std.specs.Prelude.{◌⊎◌, IsTrue, int_le, ◌<ℤ◌, bytes_eq}
+use Rattle.std.specs.List.{list_all}
 use Rattle.rule_table.specs.declared.technology.Tech.{Tech}
 use Rattle.rule_table.specs.declared.classes.Layer.{Layer}
-use Rattle.rule_table.specs.declared.classes.Layer.TheVariants.{Diffusion, Poly}
-use Rattle.rule_table.specs.Technology.{width_of}
+use Rattle.rule_table.specs.declared.classes.Layer.TheVariants.{Diffusion, Poly, Metal}
+use Rattle.rule_table.specs.Technology.{width_of, has_buried_of}
 use Rattle.lam_geom.specs.declared.boxes.Side.{Side}
 use Rattle.lam_geom.specs.declared.boxes.Side.TheVariants.{Left, Right, Bottom, Top}
 use Rattle.stick_parse.specs.declared.fault.StickKind.{StickKind}
-use Rattle.stick_parse.specs.declared.fault.StickKind.TheVariants.{WrongTerminal, NotStraight, WrongLayer, WrongSide, PortWires, BadSize, NarrowWire, WideWire, RepeatedName, UnknownName, UseCycle, UseDepth, UsedPorts, FarPlace, BadLimit}
+use Rattle.stick_parse.specs.declared.fault.StickKind.TheVariants.{WrongTerminal, NotStraight, WrongLayer, WrongSide, PortWires, BadSize, NarrowWire, WideWire, RepeatedName, UnknownName, UseCycle, UseDepth, UsedPorts, FarPlace, BadLimit, NoBuried}
 use Rattle.stick_parse.specs.declared.fault.StickFault.{StickFault}
 use Rattle.stick_parse.specs.declared.design.Form.{Form}
 use Rattle.stick_parse.specs.declared.design.Form.TheVariants as forms
@@ -16,7 +17,10 @@ use Rattle.stick_parse.specs.declared.design.Line.{Line}
 use Rattle.stick_parse.specs.declared.design.CellText.{CellText}
 use Rattle.stick_parse.specs.Reading.{◌>>=◌}
 use Rattle.stick_parse.specs.Order.{at_line}
-use Rattle.cell_model.specs.Wiring.{axis_of, is_low_side, is_same_axis}
+use Rattle.cell_model.specs.declared.cell.Axis2.{Axis2}
+use Rattle.cell_model.specs.declared.cell.Wire.{Wire}
+use Rattle.cell_model.specs.Wiring.{axis_of, is_low_side, is_same_axis, is_same_layer}
+use Rattle.cell_model.specs.Sound.{wire_at, no_wire}
 use Rattle.stick_cell.specs.declared.names.Spot.{Spot}
 use Rattle.stick_cell.specs.declared.names.Terminal.{Terminal}
 use Rattle.stick_cell.specs.declared.names.Terminal.TheVariants.{Node, Port}
@@ -26,11 +30,13 @@ use Rattle.stick_cell.specs.declared.names.Run.{Run}
 use Rattle.stick_cell.specs.Known.{Known, begun, known_at, greatest_col, greatest_row}
 use Rattle.stick_cell.specs.Paths.{found_at}
 use Rattle.stick_cell.specs.Checks.{demand, is_fresh, is_place, is_even_size, is_channel, layer_of, sized}
-use Rattle.stick_cell.specs.Wires.{known_name, line_of, run_between, straight, takes_layer, takes_along, is_free, is_within_pad, at_both, wire_on, wire_between, limited}
-use Rattle.stick_cell.specs.Lines.{number_of, known_number, is_empty, wired_of, is_wired, is_new_cell, with_use, after_joint, after_contact, after_fet, after_port, after_use, after_wire, after_limit, after_form, after_lines, after_cell}
-use Rattle.stick_cell.specs.Refusals.{IsTaken, IsFar, IsOddOrLarge, IsWrongWidth, IsWrongChannel, IsOpposite, IsNotStraight, IsRefusedAtEnd, IsWrongRun, IsRefusedWire, IsWrongLimit, IsWrongCopy, IsWrongUse, IsWrongBetween, IsWrongLine, IsAt, IsWrongAmong, IsWrongCell}
+use Rattle.stick_cell.specs.Wires.{known_name, line_of, run_between, straight, takes_layer, takes_along, is_buried, leaves, is_side_free, are_sides_free, is_free, fills_pad, is_within_pad, at_both, wire_where, wire_between, limited}
+use Rattle.stick_cell.specs.Lines.{number_of, known_number, is_empty, wired_of, is_wired, is_new_cell, with_use, after_joint, after_contact, after_buried, after_fet, after_port, after_use, after_wire, after_limit, after_form, after_lines, after_cell}
+use Rattle.stick_cell.specs.Refusals.{IsTaken, IsFar, IsOddOrLarge, IsWrongWidth, IsWrongChannel, IsOpposite, IsNotStraight, IsRefusedAtEnd, IsTakenSide, IsWrongRun, IsRefusedWire, IsWrongLimit, IsWrongCopy, IsWrongUse, IsWrongBetween, IsWrongLine, IsAt, IsWrongAmong, IsWrongCell}
 use Rattle.stick_cell.proofs.Accepted.{bound, ok_same, at_line_ok, eq_from_test, apart_from_test, known_number_ok, straight_ok}
-use Rattle.stick_cell.proofs.Judged.{Denies, Judges, both_deny, test_denies, not_denies, even_denies, at_most_denies, below_denies, some_denies, apart_denies, wide_denies, empty_denies, fails, passes, tested, then, then_with, last}
+use Rattle.stick_cell.proofs.GrownSides.{passes_at, layer_same}
+use Rattle.stick_cell.proofs.SidesFree.{is_kind}
+use Rattle.stick_cell.proofs.Judged.{Denies, Judges, fails_at, both_deny, test_denies, not_denies, even_denies, at_most_denies, below_denies, some_denies, apart_denies, wide_denies, empty_denies, fails, passes, tested, then, then_with, last}
 
 -- ---- names, places and sizes
 
@@ -124,22 +130,65 @@ of_run (Port p) (Port q) = of_ports p.side q.side p.place q.place _
 at_ends : (test : Terminal → Bool) (run : Run) (kind : StickKind) → Judges (demand (at_both test run) kind) (λ k. (k ≡ kind) × IsRefusedAtEnd test run)
 at_ends test run kind = tested (at_both test run) kind (both_deny (test run.low) (test run.high) (test_denies (test run.low)) (test_denies (test run.high)))
 
-along_run : (tech : Tech) (wired : List Bool) (layer : Layer) (given : Option ℕ) (run : Run) → Judges (wire_on tech wired layer given run) (IsWrongRun tech wired layer given run)
-along_run tech wired layer given run =
+-- a buried contact's side is free where no wire of another layer leaves it there
+side_denies : (wires : List Wire) (layer : Layer) (along : Axis2) (is_low : Bool) (t : Terminal) → Denies (is_side_free wires layer along is_low t) (IsTakenSide wires layer along is_low t)
+side_denies wires layer along is_low (Port pin) = record { bad = λ e. absurd cc; good = λ e wrong. wrong }
+side_denies wires layer along is_low (Node spot) = by (is_buried spot.kind) refl
+  where
+    test : Wire → Bool
+    test wire = not (leaves spot.number along is_low wire) || is_same_layer wire.layer layer
+
+    other : (a b : Bool) → (not a || b) ≡ false → (a ≡ true) × (b ≡ false)
+    other true b e = (refl, e)
+    other false b e = absurd cc
+
+    layer_itself : (l : Layer) → is_same_layer l l ≡ true
+    layer_itself Diffusion = refl
+    layer_itself Poly = refl
+    layer_itself Metal = refl
+
+    by : (b : Bool) → is_buried spot.kind ≡ b → Denies (not b || list_all test wires) (IsTakenSide wires layer along is_low (Node spot))
+    by false plain = record { bad = λ e. absurd cc; good = λ e wrong. let both_ways : true ≡ false = sym (ap is_buried wrong.0) ∙ plain in absurd cc }
+    by true buried = record {
+      bad = λ e.
+          let at = fails_at test wires no_wire e in
+          let parts = other (leaves spot.number along is_low (wire_at wires at.0)) (is_same_layer (wire_at wires at.0).layer layer) at.2 in
+          (is_kind spot.kind buried, (at.0, at.1, parts.0, λ same. let both_ways : true ≡ false = sym (ap (λ (l : Layer). is_same_layer l layer) same ∙ layer_itself layer) ∙ parts.1 in cc));
+      good = λ e wrong.
+          let passed : IsTrue (test (wire_at wires wrong.1.0)) = passes_at test wires no_wire wrong.1.0 e wrong.1.1 in
+          let there : leaves spot.number along is_low (wire_at wires wrong.1.0) ≡ true = wrong.1.2 in
+          wrong.1.3 (layer_same (wire_at wires wrong.1.0).layer layer (subst (λ (b : Bool). IsTrue (not b || is_same_layer (wire_at wires wrong.1.0).layer layer)) there passed));
+    }
+
+free_sides : (wires : List Wire) (layer : Layer) (run : Run) → Denies (are_sides_free wires layer run) (IsTakenSide wires layer run.along true run.low ⊎ IsTakenSide wires layer run.along false run.high)
+free_sides wires layer run = both_deny (is_side_free wires layer run.along true run.low) (is_side_free wires layer run.along false run.high) (side_denies wires layer run.along true run.low) (side_denies wires layer run.along false run.high)
+
+taken_sides : (wires : List Wire) (layer : Layer) (run : Run)
+    → Judges (demand (at_both (takes_along layer run.along) run && are_sides_free wires layer run) WrongSide)
+    (λ kind. (kind ≡ WrongSide) × (IsRefusedAtEnd (takes_along layer run.along) run ⊎ (IsTakenSide wires layer run.along true run.low ⊎ IsTakenSide wires layer run.along false run.high)))
+taken_sides wires layer run = tested (at_both (takes_along layer run.along) run && are_sides_free wires layer run) WrongSide
+    (both_deny (at_both (takes_along layer run.along) run) (are_sides_free wires layer run)
+    (both_deny (takes_along layer run.along run.low) (takes_along layer run.along run.high) (test_denies (takes_along layer run.along run.low)) (test_denies (takes_along layer run.along run.high)))
+    (free_sides wires layer run))
+
+along_run : (tech : Tech) (wired : List Bool) (wires : List Wire) (layer : Layer) (given : Option ℕ) (run : Run)
+    → Judges (wire_where (are_sides_free wires layer run) tech wired layer given run) (IsWrongRun tech wired wires layer given run)
+along_run tech wired wires layer given run =
     then (demand (at_both (takes_layer layer) run) WrongLayer) _ (at_ends (takes_layer layer) run WrongLayer) λ u.
-    then (demand (at_both (takes_along layer run.along) run) WrongSide) _ (at_ends (takes_along layer run.along) run WrongSide) λ u.
+    then (demand (at_both (takes_along layer run.along) run && are_sides_free wires layer run) WrongSide) _ (taken_sides wires layer run) λ u.
     then (demand (at_both (is_free wired) run) PortWires) _ (at_ends (is_free wired) run PortWires) λ u.
     then_with (sized tech layer given) _ (width tech layer given) (λ size is. is) (λ size is. is) λ size is.
+    then (demand (at_both (fills_pad tech size) run) NarrowWire) _ (at_ends (fills_pad tech size) run NarrowWire) λ u.
     last (demand (at_both (is_within_pad tech layer size) run) WideWire) _ (at_ends (is_within_pad tech layer size) run WideWire)
 
-pub wire : (tech : Tech) (wired : List Bool) (layer : Layer) (a b : Found) (given : Option ℕ) → Judges (wire_between tech wired layer a b given) (IsRefusedWire tech wired layer a b given)
+pub wire : (tech : Tech) (wired : List Bool) (wires : List Wire) (layer : Layer) (a b : Found) (given : Option ℕ) → Judges (wire_between tech wired wires layer a b given) (IsRefusedWire tech wired wires layer a b given)
 unfolding wire_between
-wire tech wired layer AtCopy b given = fails WrongTerminal refl
-wire tech wired layer Through b given = fails WrongTerminal refl
-wire tech wired layer (At a) AtCopy given = fails WrongTerminal refl
-wire tech wired layer (At a) Through given = fails WrongTerminal refl
-wire tech wired layer (At a) (At b) given = then_with (straight (run_between a b)) (wire_on tech wired layer given) (of_run a b)
-    (λ run is. straight_ok (run_between a b) run is) (λ run is. ap straight is) (λ run is. along_run tech wired layer given run)
+wire tech wired wires layer AtCopy b given = fails WrongTerminal refl
+wire tech wired wires layer Through b given = fails WrongTerminal refl
+wire tech wired wires layer (At a) AtCopy given = fails WrongTerminal refl
+wire tech wired wires layer (At a) Through given = fails WrongTerminal refl
+wire tech wired wires layer (At a) (At b) given = then_with (straight (run_between a b)) (λ run. wire_where (are_sides_free wires layer run) tech wired layer given run) (of_run a b)
+    (λ run is. straight_ok (run_between a b) run is) (λ run is. ap straight is) (λ run is. along_run tech wired wires layer given run)
 
 -- ---- uses
 
@@ -180,13 +229,17 @@ limit AtCopy b f = fails BadLimit refl
 limit Through b f = fails BadLimit refl
 
 pub line : (tech : Tech) (cells : List Known) (known : Known) (form : Form) → Judges (after_form tech cells known form) (IsWrongLine tech cells known form)
-unfolding after_joint after_contact after_fet after_port after_wire after_limit
+unfolding after_joint after_contact after_buried after_fet after_port after_wire after_limit
 line tech cells known (forms.Joint name layer col row given) =
     then (demand (is_fresh known.names name) RepeatedName) _ (fresh known name) λ u.
     then (demand (is_place col && is_place row) FarPlace) _ (near col row) λ u.
     last (sized tech (layer_of layer) given) _ (width tech (layer_of layer) given)
 line tech cells known (forms.Contact name lower col row) =
     then (demand (is_fresh known.names name) RepeatedName) _ (fresh known name) λ u. last (demand (is_place col && is_place row) FarPlace) _ (near col row)
+line tech cells known (forms.Buried name col row) =
+    then (demand (is_fresh known.names name) RepeatedName) _ (fresh known name) λ u.
+    then (demand (is_place col && is_place row) FarPlace) _ (near col row) λ u.
+    last (demand (has_buried_of tech) NoBuried) _ (tested (has_buried_of tech) NoBuried (test_denies (has_buried_of tech)))
 line tech cells known (forms.Fet name depletion vertical col row w l) =
     then (demand (is_fresh known.names name) RepeatedName) _ (fresh known name) λ u.
     then (demand (is_place col && is_place row) FarPlace) _ (near col row) λ u.
@@ -194,7 +247,8 @@ line tech cells known (forms.Fet name depletion vertical col row w l) =
 line tech cells known (forms.Port name side layer place) =
     then (demand (is_fresh known.names name) RepeatedName) _ (fresh known name) λ u. last (demand (is_place place) FarPlace) _ (tested (is_place place) FarPlace (at_most_denies place 4095))
 line tech cells known (forms.Inst name cell col row) = use_of cells known name cell col row
-line tech cells known (forms.Wire layer a b given) = between (found_at cells known a) (found_at cells known b) _ (λ from to. last (wire_between tech (wired_of known) (layer_of layer) from to given) _ (wire tech (wired_of known) (layer_of layer) from to given))
+line tech cells known (forms.Wire layer a b given) = between (found_at cells known a) (found_at cells known b) _ (λ from to.
+    last (wire_between tech (wired_of known) known.wires (layer_of layer) from to given) _ (wire tech (wired_of known) known.wires (layer_of layer) from to given))
 line tech cells known (forms.Limit vertical a b at_most n) = between (found_at cells known a) (found_at cells known b) _ (λ from to. limit from to _)
 
 -- ---- cells

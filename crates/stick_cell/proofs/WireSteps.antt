@@ -1,5 +1,5 @@
 -- What the lines of wires and limits give, by what their paths come to.
-use Rattle.std.proofs.Common.{◌≡◌, ℕ, zero, suc, ◌<◌, ◌≤◌, ℤ, Bool, true, not, ◌==◌, List, [], ◌∷◌, length, map, get_or, set, Option, Some, None, option_map, Result, Ok, Err, refl, sym, ap, ◌∙◌, arith}
+use Rattle.std.proofs.Common.{◌≡◌, ℕ, zero, suc, ◌<◌, ◌≤◌, ℤ, Bool, true, not, ◌==◌, List, [], ◌∷◌, length, map, get_or, set, Option, Some, None, option_map, Result, Ok, Err, refl, sym, ap, subst, ◌∙◌, arith}
 use Rattle.std.specs.Prelude.{bytes_eq}
 use Rattle.std.specs.List.{AllByRecursion}
 use Rattle.std.specs.Option.{ok_or}
@@ -11,9 +11,16 @@ use Rattle.cell_model.specs.declared.cell.WireEnd.{WireEnd}
 use Rattle.cell_model.specs.declared.cell.WireEnd.TheVariants as ends
 use Rattle.cell_model.specs.declared.cell.CellPort.{CellPort}
 use Rattle.stick_cell.specs.declared.names.Found.{Found}
+use Rattle.stick_cell.specs.declared.names.Run.{Run}
+use Rattle.stick_cell.specs.declared.names.Terminal.{Terminal}
+use Rattle.rule_table.specs.declared.classes.Layer.{Layer}
 use Rattle.rule_table.specs.declared.technology.Tech.{Tech}
 use Rattle.stick_parse.specs.declared.design.Layer.{Layer as DrawnLayer}
-use Rattle.stick_parse.specs.Reading.{◌>>=◌}
+use Rattle.stick_parse.specs.Reading.{◌>>=◌, FailsLine}
+use Rattle.std.specs.Result.{IsErrAnd}
+use Rattle.stick_parse.specs.declared.fault.LineFault.{LineFault}
+use Rattle.stick_parse.specs.declared.fault.LineFault.TheVariants.{Kind}
+use Rattle.stick_cell.specs.declared.sides.SideMap.{SideMap}
 use Rattle.stick_parse.specs.Writable.{IsPath}
 use Rattle.stick_cell.specs.declared.names.Found.TheVariants.{At}
 use Rattle.stick_cell.specs.declared.names.Terminal.TheVariants.{Node}
@@ -21,7 +28,7 @@ use Rattle.stick_cell.specs.declared.names.Spot.{Spot}
 use Rattle.stick_cell.specs.declared.growing.Growing.{Growing}
 use Rattle.cell_model.specs.declared.cell.Limit.{Limit}
 use Rattle.stick_cell.specs.Checks.{demand, layer_of}
-use Rattle.stick_cell.specs.Wires.{known_name, wire_between, limited}
+use Rattle.stick_cell.specs.Wires.{known_name, run_of, are_sides_free, wire_where, wire_between, limited}
 use Rattle.stick_cell.specs.Paths.{found_at}
 use Rattle.stick_cell.specs.Lines.{axis_where, wired_of, after_wire, after_limit}
 use Rattle.stick_cell.specs.Grown.{IsGrown, AreGrown}
@@ -33,11 +40,14 @@ use Rattle.cell_model.specs.Nets.{HasEnds}
 use Rattle.list_facts.proofs.Elements.{all_parts}
 use Rattle.stick_cell.proofs.Grown.{spot-found_at, light-cell_of}
 use Rattle.stick_cell.proofs.FoundNodes.{IsNodeOf, near-found, same_number}
-use Rattle.stick_cell.proofs.KeptWires.{result_map, wire_between-kept, limited-kept}
+use Rattle.stick_cell.proofs.GrownNames.{at_end_of}
+use Rattle.stick_cell.proofs.GrownRuns.{IsRunBetween, run_between_paths}
+use Rattle.stick_cell.proofs.LineSteps.{bind_assoc}
+use Rattle.stick_cell.proofs.KeptWires.{result_map, capped_run, run_of-kept, wire_where-capped, limited-kept}
 use Rattle.stick_cell.specs.Known.{Known, Plug, cell_of, no_plug, plug_at, plugged, with_wire, with_limit}
 use Rattle.stick_cell.specs.Counts.{weight_of, capped}
 use Rattle.stick_cell.specs.Kept.{kept_found, capped_end, capped_wire, capped_spot, IsNearFound}
-use Rattle.stick_cell.specs.Growing.{IsGrowing, port_so_far, IsWiredBelow, plugged_ports, plugged_marks, found_or_unknown}
+use Rattle.stick_cell.specs.Growing.{IsGrowing, GrowsWith, port_so_far, IsWiredBelow, plugged_ports, plugged_marks, found_or_unknown}
 
 -- what a path comes to, or that its name is unknown
 pub found-known : (found : Option Found) (kept : Option Found) (r : Result Found StickKind) → r ≡ ok_or kept UnknownName → kept ≡ option_map kept_found found → r ≡ found_or_unknown found
@@ -107,20 +117,24 @@ near_path tech cells known path found are is grown e = near-found tech known.nod
 
 -- ---- wires
 
+-- the wire along a run, and the cell with it
+abbrev pub wired_along : Tech → Known → Layer → Option ℕ → Run → Result Known StickKind
+wired_along tech known layer width run = wire_where (are_sides_free known.wires layer run) tech (wired_of known) layer width run >>= (λ wire. Ok (with_wire known wire))
+
 pub wire-unknown : (tech : Tech) (cells : List Known) (known : Known) (layer : DrawnLayer) (a b : List ℕ) (width : Option ℕ) (kind : StickKind)
     → found_or_unknown (found_at cells known a) ≡ Err kind → after_wire tech cells known layer a b width ≡ Err kind
 unfolding after_wire
 wire-unknown tech cells known layer a b width kind e =
-    ap (λ r. r >>= (λ from. known_name (found_at cells known b) >>= (λ to. wire_between tech (wired_of known) (layer_of layer) from to width >>= (λ wire. Ok (with_wire known wire)))))
+    ap (λ r. r >>= (λ from. known_name (found_at cells known b) >>= (λ to. wire_between tech (wired_of known) known.wires (layer_of layer) from to width >>= (λ wire. Ok (with_wire known wire)))))
     (unknown_from (found_at cells known a) kind e)
 
 wire-by : (tech : Tech) (cells : List Known) (known : Known) (layer : DrawnLayer) (a b : List ℕ) (width : Option ℕ) (from : Found) (r : Result Found StickKind)
     → found_at cells known a ≡ Some from → known_name (found_at cells known b) ≡ r
-    → after_wire tech cells known layer a b width ≡ (r >>= (λ to. wire_between tech (wired_of known) (layer_of layer) from to width >>= (λ wire. Ok (with_wire known wire))))
+    → after_wire tech cells known layer a b width ≡ (r >>= (λ to. wire_between tech (wired_of known) known.wires (layer_of layer) from to width >>= (λ wire. Ok (with_wire known wire))))
 unfolding after_wire
 wire-by tech cells known layer a b width from r found e =
-    ap (λ f. known_name f >>= (λ from. known_name (found_at cells known b) >>= (λ to. wire_between tech (wired_of known) (layer_of layer) from to width >>= (λ wire. Ok (with_wire known wire))))) found
-    ∙ ap (λ r. r >>= (λ to. wire_between tech (wired_of known) (layer_of layer) from to width >>= (λ wire. Ok (with_wire known wire)))) e
+    ap (λ f. known_name f >>= (λ from. known_name (found_at cells known b) >>= (λ to. wire_between tech (wired_of known) known.wires (layer_of layer) from to width >>= (λ wire. Ok (with_wire known wire))))) found
+    ∙ ap (λ r. r >>= (λ to. wire_between tech (wired_of known) known.wires (layer_of layer) from to width >>= (λ wire. Ok (with_wire known wire)))) e
 
 pub wire-unknown_end : (tech : Tech) (cells : List Known) (known : Known) (layer : DrawnLayer) (a b : List ℕ) (width : Option ℕ) (kept : Found) (kind : StickKind)
     → found_or_unknown (found_at cells known a) ≡ Ok kept → found_or_unknown (found_at cells known b) ≡ Err kind → after_wire tech cells known layer a b width ≡ Err kind
@@ -128,24 +142,68 @@ wire-unknown_end tech cells known layer a b width kept kind known_a e =
     let from = known_from (found_at cells known a) kept known_a in
     wire-by tech cells known layer a b width from.0 (Err kind) from.1 (unknown_from (found_at cells known b) kind e)
 
--- the wire between two things, from what is kept of them
-pub wire-between : (tech : Tech) (cells : List Known) (known : Known) (growing : Growing) (layer : DrawnLayer) (a b : List ℕ) (width : Option ℕ) (from to : Found) (r : Result Wire StickKind)
-    → AreGrown tech cells → IsPath a → IsPath b → IsGrown tech cells known → IsGrowing cells known growing
-    → found_or_unknown (found_at cells known a) ≡ Ok from → found_or_unknown (found_at cells known b) ≡ Ok to
-    → r ≡ wire_between tech growing.wired.items (layer_of layer) from to width
-    → (read : Result Wire StickKind) × (after_wire tech cells known layer a b width ≡ (read >>= (λ wire. Ok (with_wire known wire)))) × (r ≡ result_map capped_wire read)
-wire-between tech cells known growing layer a b width from to r are path_a path_b grown is known_a known_b e =
+-- the wire between two things is that along the run between them
+between-run : (tech : Tech) (known : Known) (layer : Layer) (from to : Found) (width : Option ℕ)
+    → (wire_between tech (wired_of known) known.wires layer from to width >>= (λ wire. Ok (with_wire known wire))) ≡ (run_of from to >>= wired_along tech known layer width)
+unfolding wire_between
+between-run tech known layer from to width =
+    bind_assoc (run_of from to) (λ run. wire_where (are_sides_free known.wires layer run) tech (wired_of known) layer width run) (λ wire. Ok (with_wire known wire))
+
+-- the wire between two paths, from what is kept of the things that they come to
+pub wire-run : (tech : Tech) (cells : List Known) (known : Known) (layer : DrawnLayer) (a b : List ℕ) (width : Option ℕ) (from to : Found) (r : Result Run StickKind)
+    → AreGrown tech cells → IsPath a → IsPath b → IsGrown tech cells known
+    → found_or_unknown (found_at cells known a) ≡ Ok from → found_or_unknown (found_at cells known b) ≡ Ok to → r ≡ run_of from to
+    → (read : Result Run StickKind) × (after_wire tech cells known layer a b width ≡ (read >>= wired_along tech known (layer_of layer) width)) × (r ≡ result_map capped_run read)
+    × ((run : Run) → read ≡ Ok run → IsRunBetween known a b run)
+wire-run tech cells known layer a b width from to r are path_a path_b grown known_a known_b e =
     let low = known_from (found_at cells known a) from known_a in
     let high = known_from (found_at cells known b) to known_b in
     let near_a = near_path tech cells known a low.0 are path_a grown low.1 in
     let near_b = near_path tech cells known b high.0 are path_b grown high.1 in (
-      wire_between tech (wired_of known) (layer_of layer) low.0 high.0 width,
-      wire-by tech cells known layer a b width low.0 (Ok high.0) low.1 (ap known_name high.1),
-      e ∙ ap (λ wired. wire_between tech wired (layer_of layer) from to width) is.wired
-          ∙ ap (λ f. wire_between tech (wired_of known) (layer_of layer) f to width) low.2
-          ∙ ap (λ f. wire_between tech (wired_of known) (layer_of layer) (kept_found low.0) f width) high.2
-          ∙ wire_between-kept tech (wired_of known) (layer_of layer) low.0 high.0 width near_a near_b,
+      run_of low.0 high.0,
+      wire-by tech cells known layer a b width low.0 (Ok high.0) low.1 (ap known_name high.1) ∙ between-run tech known (layer_of layer) low.0 high.0 width,
+      e ∙ ap (λ f. run_of f to) low.2 ∙ ap (λ f. run_of (kept_found low.0) f) high.2 ∙ run_of-kept low.0 high.0 near_a near_b,
+      λ run is. run_between_paths known a b low.0 high.0 run
+          (λ (t : Terminal) same. at_end_of tech cells known a t are grown.names (low.1 ∙ ap Some same))
+          (λ (t : Terminal) same. at_end_of tech cells known b t are grown.names (high.1 ∙ ap Some same)) is,
     )
+
+-- the wire along a run, from what is kept of the run
+pub wire-along : (tech : Tech) (known : Known) (layer its : Layer) (width : Option ℕ) (real run : Run) (are_free : Bool) (wired : List Bool) (r : Result Wire StickKind)
+    → run ≡ capped_run real → are_free ≡ are_sides_free known.wires layer real → wired ≡ wired_of known → its ≡ layer → r ≡ wire_where are_free tech wired its width run
+    → r ≡ result_map capped_wire (wire_where (are_sides_free known.wires layer real) tech (wired_of known) layer width real)
+wire-along tech known layer its width real run are_free wired r is free held same e =
+    e ∙ ap (λ b. wire_where b tech wired its width run) free
+    ∙ ap (λ marks. wire_where (are_sides_free known.wires layer real) tech marks its width run) held
+    ∙ ap (λ l. wire_where (are_sides_free known.wires layer real) tech (wired_of known) l width run) same
+    ∙ ap (λ (one : Run). wire_where (are_sides_free known.wires layer real) tech (wired_of known) layer width one) is
+    ∙ wire_where-capped (are_sides_free known.wires layer real) tech (wired_of known) layer width real
+
+-- the same cell, whatever is kept of its sides
+pub other_sides : (cells : List Known) (known : Known) (growing : Growing) (sides : SideMap) → IsGrowing cells known growing → IsGrowing cells known (record growing { table = record growing.table { sides = sides } })
+other_sides cells known growing sides is = record {
+  tells = record {
+    name = is.tells.name;
+    names = is.tells.names;
+    nodes = is.tells.nodes;
+    wires = is.tells.wires;
+    weight = is.tells.weight;
+    boxes = is.tells.boxes;
+    most_col = is.tells.most_col;
+    most_row = is.tells.most_row;
+    depth = is.tells.depth;
+  };
+  ports = is.ports;
+  wired = is.wired;
+  steps = is.steps;
+  below = is.below;
+}
+
+-- the fault of a line, passed on
+pub with-residual : {X : Type 0} (cells : List Known) (result : Result X LineFault) (growing : Growing) (read : Result Known StickKind) (kind : StickKind)
+    → IsErrAnd result (λ e. e ≡ Kind kind) → read ≡ Err kind → GrowsWith cells result growing read
+with-residual cells (Ok x) growing read kind is refused = absurd is
+with-residual cells (Err e) growing read kind is refused = let P : LineFault → Type 0 = λ f. FailsLine f read in subst P (sym is) refused
 
 -- an `Ok` or an `Err` that is seen by view
 pub result_map-err : {A B E : Type 0} (view : A → B) (read : Result A E) (kind : E) → result_map view read ≡ Err kind → read ≡ Err kind

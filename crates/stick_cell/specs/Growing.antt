@@ -18,6 +18,7 @@ use Rattle.stick_cell.specs.Counts.{capped}
 use Rattle.stick_cell.specs.Kept.{kept_found}
 use Rattle.stick_cell.specs.Steps.{AreStepsOf}
 use Rattle.stick_cell.specs.Tables.{Tells}
+use Rattle.stick_cell.specs.Sides.{side_entries, AreSidesOf}
 
 -- a port before the last line of its cell: the number of its wire is capped
 abbrev pub port_so_far : Plug → CellPort
@@ -40,6 +41,11 @@ pub record IsGrowing (cells : List Known) (known : Known) (growing : Growing) : 
 abbrev pub Grows : {X : Type 0} → List Known → Result X LineFault → Growing → Result Known StickKind → Type 0
 Grows cells (Ok x) growing read = (next : Known) × (read ≡ Ok next) × IsGrowing cells next growing
 Grows cells (Err fault) growing read = FailsLine fault read
+
+-- and the sides that are kept tell of the cell's own wires
+abbrev pub GrowsWith : {X : Type 0} → List Known → Result X LineFault → Growing → Result Known StickKind → Type 0
+GrowsWith cells (Ok x) growing read = (next : Known) × (read ≡ Ok next) × IsGrowing cells next growing × AreSidesOf cells next (side_entries growing.table.sides)
+GrowsWith cells (Err fault) growing read = FailsLine fault read
 
 -- a new name, and a column and a row that are not too far out
 unfoldable pub placed : Names → List ℕ → ℕ → ℕ → Result (Unit {0}) StickKind

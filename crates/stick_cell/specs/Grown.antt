@@ -1,6 +1,6 @@
 -- What each cell has while its lines are read: its nodes lie near, its wires and limits end within it, and each of its names stands for
 -- what it says.
-use Rattle.std.specs.Prelude.{◌≡◌, ℕ, ◌+◌, ◌<◌, ◌≤◌, true, false, List, [], length, take, IsTrue}
+use Rattle.std.specs.Prelude.{◌≡◌, ℕ, ◌+◌, ◌<◌, ◌≤◌, true, false, List, [], length, take, Some, IsTrue}
 use Rattle.std.specs.List.{AllByRecursion}
 use Rattle.rule_table.specs.declared.technology.Tech.{Tech}
 use Rattle.cell_model.specs.declared.cell.Node.{Node}
@@ -12,6 +12,7 @@ use Rattle.stick_cell.specs.declared.names.Spot.{Spot}
 use Rattle.stick_cell.specs.declared.names.Pin.{Pin}
 use Rattle.stick_cell.specs.declared.names.Copied.{Copied}
 use Rattle.stick_cell.specs.Known.{Known, Plug, cell_of, known_at, plug_at, copied_node}
+use Rattle.stick_cell.specs.Paths.{Names, named, first_name}
 use Rattle.stick_cell.specs.Lines.{is_wired}
 use Rattle.cell_model.specs.Sound.{node_at, wire_at, IsNode, IsWire, IsLimit, LeaveOneSide, EndsAt}
 
@@ -40,6 +41,11 @@ IsRight cells nodes plugs name (things.Node spot) = IsSpot nodes name spot
 IsRight cells nodes plugs name (things.Port pin) = IsPin plugs pin
 IsRight cells nodes plugs name (things.Copy copy) = IsCopy cells nodes name copy
 
+-- the names of the nodes are paths into the cell, and no two of them are one
+pub record ArePathsApart (table : Names) (nodes : List Node) : Type 0 where
+  pub known : (k : ℕ) → k < length nodes → (thing : Thing) × (named table (first_name (node_at nodes k).name) ≡ Some thing)
+  pub apart : (j k : ℕ) → j < length nodes → k < length nodes → (node_at nodes j).name ≡ (node_at nodes k).name → j ≡ k
+
 -- port k lies near, and once a wire ends at it, the wire of its number does, and no other
 pub record IsPlug (wires : List Wire) (k : ℕ) (plug : Plug) : Type 0 where
   pub place : plug.port.place ≤ 4095
@@ -56,6 +62,7 @@ pub record IsGrown (tech : Tech) (cells : List Known) (known : Known) : Type 0 w
       → (wire_at known.wires j).layer ≡ (wire_at known.wires k).layer
   pub plugs : (k : ℕ) → k < length known.plugs → IsPlug known.wires k (plug_at known.plugs k)
   pub limits : AllByRecursion (IsLimit (cell_of known)) known.limits
+  pub apart : ArePathsApart known.names known.nodes
   pub names : AllByRecursion (λ entry. IsRight cells known.nodes known.plugs entry.0 entry.1) known.names
   pub own_depth : 1 ≤ known.depth
   pub depth : known.depth ≤ 16

@@ -10,6 +10,7 @@ pub mod Ports
 pub mod NameEntries
 pub mod Steps
 pub mod Tables
+pub mod Sides
 pub mod Growing
 pub mod Resolving
 pub mod Grown

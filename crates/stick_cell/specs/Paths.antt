@@ -19,6 +19,21 @@ Names = List (List ℕ × Thing)
 abbrev pub named : Names → List ℕ → Option Thing
 named table name = lookup (λ other. bytes_eq name other) table
 
+-- the first name of a path
+abbrev pub first_of : List (List ℕ) → List ℕ
+first_of [] = []
+first_of (name ∷ path) = name
+
+abbrev pub first_name : List ℕ → List ℕ
+first_name path = first_of (names path)
+
+-- the copy that a thing is
+abbrev pub copy_of : Option Thing → Option Copied
+copy_of None = None
+copy_of (Some (things.Node spot)) = None
+copy_of (Some (things.Port pin)) = None
+copy_of (Some (things.Copy copy)) = Some copy
+
 -- the names of cell number k
 abbrev pub names_at : List Names → ℕ → Names
 names_at tables k = slice_index_or tables k []

@@ -81,11 +81,11 @@ abbrev pub IsWrongRun : Tech → List Bool → List Wire → Layer → Option �
 IsWrongRun tech wired wires layer width run kind =
     ((kind ≡ WrongLayer) × IsRefusedAtEnd (takes_layer layer) run)
     ⊎ ((kind ≡ WrongSide)
-      × (IsRefusedAtEnd (takes_along layer run.along) run ⊎ (IsTakenSide wires layer run.along true run.low ⊎ IsTakenSide wires layer run.along false run.high)))
+    × (IsRefusedAtEnd (takes_along layer run.along) run ⊎ (IsTakenSide wires layer run.along true run.low ⊎ IsTakenSide wires layer run.along false run.high)))
     ⊎ ((kind ≡ PortWires) × IsRefusedAtEnd (is_free wired) run)
     ⊎ IsWrongWidth tech layer width kind
     ⊎ ((size : ℤ) × (sized tech layer width ≡ Ok size)
-      × (((kind ≡ NarrowWire) × IsRefusedAtEnd (fills_pad tech size) run) ⊎ ((kind ≡ WideWire) × IsRefusedAtEnd (is_within_pad tech layer size) run)))
+    × (((kind ≡ NarrowWire) × IsRefusedAtEnd (fills_pad tech size) run) ⊎ ((kind ≡ WideWire) × IsRefusedAtEnd (is_within_pad tech layer size) run)))
 
 -- what is wrong with a wire between two terminals
 abbrev pub IsWrongWire : Tech → List Bool → List Wire → Layer → Terminal → Terminal → Option ℕ → StickKind → Type 0

@@ -12,6 +12,7 @@ use Rattle.stick_cell.specs.Known.{Known}
 use Rattle.stick_cell.specs.Steps.{AreStepsOf}
 use Rattle.stick_cell.specs.Tables.{IsTableOf}
 use Rattle.stick_cell.specs.Growing.{IsGrowing}
+use Rattle.stick_cell.specs.Sides.{side_entries, AreSidesOf}
 
 -- the fault of a line, with the line's number
 abbrev pub fault_at_line : ℕ → LineFault → ParseFault
@@ -20,10 +21,10 @@ fault_at_line line line_faults.OutOfMemory = OutOfMemory
 
 -- what is kept after the lines of a cell, or their fault; nothing is said where memory ran out
 abbrev pub GrowsTo : List Known → Result Growing ParseFault → Result Known StickFault → Type 0
-GrowsTo cells (Ok growing) read = (known : Known) × (read ≡ Ok known) × IsGrowing cells known growing
+GrowsTo cells (Ok growing) read = (known : Known) × (read ≡ Ok known) × IsGrowing cells known growing × AreSidesOf cells known (side_entries growing.table.sides)
 GrowsTo cells (Err fault) read = Fails fault read
 
 -- the table of a cell, or its fault
 abbrev pub TellsTable : List Known → Result Table ParseFault → Result Known StickFault → Type 0
-TellsTable cells (Ok table) read = (known : Known) × (read ≡ Ok known) × IsTableOf known table × AreStepsOf cells known table.steps.items
+TellsTable cells (Ok table) read = (known : Known) × (read ≡ Ok known) × IsTableOf known table × AreStepsOf cells known table.steps.items × AreSidesOf cells known (side_entries table.sides)
 TellsTable cells (Err fault) read = Fails fault read

@@ -41,18 +41,22 @@ line_of Up spot = spot.col
 
 -- the run along an axis between two terminals of which the first is the low one, or the high one
 abbrev pub run_along : Axis2 → Bool → Terminal → Terminal → Run
-run_along along is_low a b = if is_low then record { along = along; low = a; high = b } else record { along = along; low = b; high = a }
+run_along along is_low a b =
+    if is_low then record { along = along; low = a; high = b; forward = true } else record { along = along; low = b; high = a; forward = false }
 
 -- A left or right port lies in the row of a node, a bottom or top port in its column.
 abbrev pub run_from_port : Pin → Spot → Option Run
 run_from_port p b = if line_of (axis_of p.side) b == p.place then Some (run_along (axis_of p.side) (is_low_side p.side) (Port p) (Node b)) else None
+
+abbrev pub run_to_port : Spot → Pin → Option Run
+run_to_port a q = if line_of (axis_of q.side) a == q.place then Some (run_along (axis_of q.side) (not (is_low_side q.side)) (Node a) (Port q)) else None
 
 -- Two nodes share exactly one of column and row. Two ports lie opposite each other.
 abbrev pub run_between : Terminal → Terminal → Option Run
 run_between (Node a) (Node b) =
     if (a.row == b.row) && not (a.col == b.col) then Some (run_along Across (nat_lt a.col b.col) (Node a) (Node b))
     else (if (a.col == b.col) && not (a.row == b.row) then Some (run_along Up (nat_lt a.row b.row) (Node a) (Node b)) else None)
-run_between (Node a) (Port q) = run_from_port q a
+run_between (Node a) (Port q) = run_to_port a q
 run_between (Port p) (Node b) = run_from_port p b
 run_between (Port p) (Port q) =
     if is_same_axis (axis_of p.side) (axis_of q.side) && (not (is_low_side p.side) && is_low_side q.side || is_low_side p.side && not (is_low_side q.side)) && (p.place == q.place)
@@ -61,6 +65,13 @@ run_between (Port p) (Port q) =
 abbrev pub straight : Option Run → Result Run StickKind
 straight None = Err NotStraight
 straight (Some run) = Ok run
+
+-- the run between the things that two paths have come to
+abbrev pub run_of : Found → Found → Result Run StickKind
+run_of a b = do
+  from ← terminal a
+  to ← terminal b
+  straight (run_between from to)
 
 -- ---- which terminals take which wires
 
@@ -120,24 +131,22 @@ at_both test run = test run.low && test run.high
 abbrev pub wire_along : Layer → Run → ℤ → Wire
 wire_along layer run size = record { layer = layer; width = size; low = end_of run.low; high = end_of run.high; along = run.along }
 
--- and whether the ends of the run take it, beside the wires that the cell has
-abbrev pub wire_on : Tech → List Bool → List Wire → Layer → Option ℕ → Run → Result Wire StickKind
-wire_on tech wired wires layer width run = do
+-- and whether the ends of the run take it, where the sides on which it leaves them are free or not
+abbrev pub wire_where : Bool → Tech → List Bool → Layer → Option ℕ → Run → Result Wire StickKind
+wire_where are_free tech wired layer width run = do
   layers ← demand (at_both (takes_layer layer) run) WrongLayer
-  sides ← demand (at_both (takes_along layer run.along) run && are_sides_free wires layer run) WrongSide
+  sides ← demand (at_both (takes_along layer run.along) run && are_free) WrongSide
   free ← demand (at_both (is_free wired) run) PortWires
   size ← sized tech layer width
   filled ← demand (at_both (fills_pad tech size) run) NarrowWire
   pads ← demand (at_both (is_within_pad tech layer size) run) WideWire
   Ok (wire_along layer run size)
 
--- the wire of a layer between the things that two paths have come to
+-- the wire of a layer between the things that two paths have come to, beside the wires that the cell has
 unfoldable pub wire_between : Tech → List Bool → List Wire → Layer → Found → Found → Option ℕ → Result Wire StickKind
 wire_between tech wired wires layer a b width = do
-  from ← terminal a
-  to ← terminal b
-  run ← straight (run_between from to)
-  wire_on tech wired wires layer width run
+  run ← run_of a b
+  wire_where (are_sides_free wires layer run) tech wired layer width run
 
 -- ---- limits
 

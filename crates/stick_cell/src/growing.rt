@@ -1,5 +1,5 @@
 //! A cell while its lines are read.
-ghost use Rattle.std.specs.Prelude.{◌≡◌, List, map, IsTrue, IfOk, OnOk};
+ghost use Rattle.std.specs.Prelude.{◌≡◌, List, [], map, IsTrue, IfOk, OnOk};
 ghost use Rattle.stick_cell.specs.Checks.{is_fresh};
 ghost use Rattle.stick_cell.specs.NameEntries.{entries_of};
 ghost use Rattle.stick_cell.specs.Known.{Known, begun, with_node, with_port};
@@ -7,11 +7,13 @@ ghost use Rattle.stick_cell.specs.Lines.{is_wired, after_joint, after_contact, a
 ghost use Rattle.std.specs.List.{list_all};
 ghost use Rattle.stick_cell.specs.Steps.{AreStepsOf};
 ghost use Rattle.stick_cell.specs.Tables.{IsTableOf};
+ghost use Rattle.stick_cell.specs.Sides.{side_entries};
 ghost use Rattle.stick_cell.specs.Growing.{IsGrowing, Grows, placed, without_wire};
 
 use crate::checks::{axis_where, is_channel, is_place, layer_of, sized};
 use crate::counts::{capped_sum, kind_boxes, kind_items};
 use crate::names::{Pin, Spot, Thing};
+use crate::sides::SideMap;
 use crate::steps::Step;
 use crate::table::{NameMap, Table};
 use cell_model::{CellPort, NodeKind};
@@ -32,11 +34,13 @@ pub struct Growing<'a> {
 impl<'a> Growing<'a> {
     /// A cell before its first line.
     pub fn new(alloc: Global, name: &'a [u8]) -> Growing<'a>
-        ensures { (cells : List Known) → IsGrowing cells (begun name.now) result }
+        ensures growing { (cells : List Known) → IsGrowing cells (begun name.now) result }
+        ensures sides { side_entries result.table.sides ≡ [] }
     {
         let table = Table {
             name,
             names: NameMap::new(alloc),
+            sides: SideMap::new(alloc),
             steps: Vec::new(alloc),
             ports: Vec::new(alloc),
             nodes: 0,
@@ -63,7 +67,8 @@ impl<'a> Growing<'a> {
         row: u32,
         width: Option<u32>,
     ) -> Result<(), LineFault>
-        ensures { (cells : List Known) (known : Known) → IsGrowing cells known self.old → Grows cells result self.new (after_joint tech.now known name.now layer col row width) }
+        ensures grows { (cells : List Known) (known : Known) → IsGrowing cells known self.old → Grows cells result self.new (after_joint tech.now known name.now layer col row width) }
+        ensures sides { self.new.table.sides ≡ self.old.table.sides }
     {
         self.check_place(name, col, row)?;
         let layer = layer_of(layer);
@@ -80,7 +85,8 @@ impl<'a> Growing<'a> {
         col: u32,
         row: u32,
     ) -> Result<(), LineFault>
-        ensures { (cells : List Known) (known : Known) → IsGrowing cells known self.old → Grows cells result self.new (after_contact known name.now lower col row) }
+        ensures grows { (cells : List Known) (known : Known) → IsGrowing cells known self.old → Grows cells result self.new (after_contact known name.now lower col row) }
+        ensures sides { self.new.table.sides ≡ self.old.table.sides }
     {
         self.check_place(name, col, row)?;
         let lower = layer_of(lower);
@@ -96,7 +102,8 @@ impl<'a> Growing<'a> {
         col: u32,
         row: u32,
     ) -> Result<(), LineFault>
-        ensures { (cells : List Known) (known : Known) → IsGrowing cells known self.old → Grows cells result self.new (after_buried tech.now known name.now col row) }
+        ensures grows { (cells : List Known) (known : Known) → IsGrowing cells known self.old → Grows cells result self.new (after_buried tech.now known name.now col row) }
+        ensures sides { self.new.table.sides ≡ self.old.table.sides }
     {
         self.check_place(name, col, row)?;
         if !tech.has_buried() {
@@ -118,7 +125,8 @@ impl<'a> Growing<'a> {
         w: u32,
         l: u32,
     ) -> Result<(), LineFault>
-        ensures { (cells : List Known) (known : Known) → IsGrowing cells known self.old → Grows cells result self.new (after_fet tech.now known name.now depletion vertical col row w l) }
+        ensures grows { (cells : List Known) (known : Known) → IsGrowing cells known self.old → Grows cells result self.new (after_fet tech.now known name.now depletion vertical col row w l) }
+        ensures sides { self.new.table.sides ≡ self.old.table.sides }
     {
         self.check_place(name, col, row)?;
         if !is_channel(tech, w, l) {
@@ -142,7 +150,8 @@ impl<'a> Growing<'a> {
         layer: DrawnLayer,
         place: u32,
     ) -> Result<(), LineFault>
-        ensures { (cells : List Known) (known : Known) → IsGrowing cells known self.old → Grows cells result self.new (after_port known name.now side layer place) }
+        ensures grows { (cells : List Known) (known : Known) → IsGrowing cells known self.old → Grows cells result self.new (after_port known name.now side layer place) }
+        ensures sides { self.new.table.sides ≡ self.old.table.sides }
     {
         self.check_place(name, place, 0)?;
         self.add_port(name, side, layer_of(layer), place)?;
@@ -173,7 +182,8 @@ impl<'a> Growing<'a> {
         row: u32,
     ) -> Result<(), AllocError>
         requires { IsTrue (is_fresh (entries_of self.old.table.names) name.now) }
-        ensures { OnOk result ((cells : List Known) (known : Known) → IsGrowing cells known self.old → IsGrowing cells (with_node known name.now kind col row) self.new) }
+        ensures grows { OnOk result ((cells : List Known) (known : Known) → IsGrowing cells known self.old → IsGrowing cells (with_node known name.now kind col row) self.new) }
+        ensures sides { self.new.table.sides ≡ self.old.table.sides }
     {
         let number = self.table.nodes;
         let spot = Spot {
@@ -206,7 +216,8 @@ impl<'a> Growing<'a> {
         place: u32,
     ) -> Result<(), AllocError>
         requires { IsTrue (is_fresh (entries_of self.old.table.names) name.now) }
-        ensures { OnOk result ((cells : List Known) (known : Known) → IsGrowing cells known self.old → IsGrowing cells (with_port known name.now side layer place) self.new) }
+        ensures grows { OnOk result ((cells : List Known) (known : Known) → IsGrowing cells known self.old → IsGrowing cells (with_port known name.now side layer place) self.new) }
+        ensures sides { self.new.table.sides ≡ self.old.table.sides }
     {
         let Ok(number) = u32::try_from(self.wired.len()) else {
             return Err(AllocError);
@@ -246,6 +257,7 @@ impl<'a> Growing<'a> {
     pub fn finish(self) -> Table<'a>
         ensures table { (cells : List Known) (known : Known) → IsGrowing cells known self.entry → IsTableOf known result }
         ensures steps { (cells : List Known) (known : Known) → IsGrowing cells known self.entry → AreStepsOf cells known result.steps.items }
+        ensures sides { result.sides ≡ self.entry.table.sides }
     {
         let Growing {
             mut table,

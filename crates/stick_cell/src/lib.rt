@@ -14,12 +14,14 @@ mod checks;
 mod counts;
 mod growing;
 mod inlining;
+mod leaving;
 mod lines;
 mod names;
 mod parts;
 mod paths;
 mod refusals;
 mod resolving;
+mod sides;
 mod steps;
 mod table;
 #[cfg(test)]

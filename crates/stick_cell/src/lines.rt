@@ -5,7 +5,8 @@ ghost use Rattle.stick_cell.specs.Known.{Known};
 ghost use Rattle.stick_cell.specs.Lines.{after_form};
 ghost use Rattle.stick_cell.specs.Grown.{IsGrown, AreGrown};
 ghost use Rattle.stick_cell.specs.Tables.{AreTables};
-ghost use Rattle.stick_cell.specs.Growing.{IsGrowing, Grows};
+ghost use Rattle.stick_cell.specs.Growing.{IsGrowing, GrowsWith};
+ghost use Rattle.stick_cell.specs.Sides.{side_entries, AreSidesOf, HaveSides};
 
 use crate::growing::Growing;
 use crate::table::Table;
@@ -21,8 +22,9 @@ impl<'a> Growing<'a> {
         form: &'a Form,
     ) -> Result<(), LineFault>
         requires { length tables.now ≤ 256 }
-        ensures { (cells : List Known) (known : Known) → AreGrown tech.now cells → AreTables cells tables.now → IsForm form.now
-            → IsGrown tech.now cells known → IsGrowing cells known self.old → Grows cells result self.new (after_form tech.now cells known form.now) }
+        ensures { (cells : List Known) (known : Known) → AreGrown tech.now cells → AreTables cells tables.now → HaveSides cells tables.now → IsForm form.now
+            → IsGrown tech.now cells known → IsGrowing cells known self.old → AreSidesOf cells known (side_entries self.old.table.sides)
+            → GrowsWith cells result self.new (after_form tech.now cells known form.now) }
     {
         match form {
             Form::Joint {

@@ -56,10 +56,11 @@ pub enum Found {
     Through,
 }
 
-/// A straight run from its low terminal to its high one.
+/// A straight run from its low terminal to its high one. It goes forward where the first of the two is the low one.
 #[derive(Clone, Copy, Debug)]
 pub struct Run {
     pub along: cell_model::Axis2,
     pub low: Terminal,
     pub high: Terminal,
+    pub forward: bool,
 }

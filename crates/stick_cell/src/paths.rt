@@ -30,8 +30,8 @@ pub fn found_at(tables: &[Table], scope: &NameMap, path: &[u8]) -> Option<Found>
     }
 }
 
-// The first name of a path, and what stands behind its dot, if there is one.
-fn split_first(path: &[u8]) -> (&[u8], Option<&[u8]>)
+/// The first name of a path, and what stands behind its dot, if there is one.
+pub fn split_first(path: &[u8]) -> (&[u8], Option<&[u8]>)
     ensures names { names path.now ≡ result.0.now ∷ names_behind (option_copied result.1) }
     ensures shorter { IfSome result.1 (λ rest. length rest.now < length path.now) }
 {

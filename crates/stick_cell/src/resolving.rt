@@ -8,6 +8,7 @@ ghost use Rattle.stick_cell.specs.Known.{Known, begun, cell_of};
 ghost use Rattle.stick_cell.specs.Lines.{after_lines, after_cell, known_cells};
 ghost use Rattle.stick_cell.specs.Grown.{AreGrown};
 ghost use Rattle.stick_cell.specs.Tables.{AreTables, known_of, IsResolved};
+ghost use Rattle.stick_cell.specs.Sides.{HaveSides};
 ghost use Rattle.stick_cell.specs.Resolving.{fault_at_line, GrowsTo, TellsTable};
 
 use crate::cells::{Cells, place_of};
@@ -54,7 +55,7 @@ fn resolve_cell<'a>(
 ) -> Result<Table<'a>, ResolveFault>
     requires few { length tables.now ≤ 256 }
     requires is_cell { IsCell text.now }
-    ensures { (cells : List Known) → AreGrown tech.now cells → AreTables cells tables.now → TellsTable cells result (after_cell tech.now cells text.now) }
+    ensures { (cells : List Known) → AreGrown tech.now cells → AreTables cells tables.now → HaveSides cells tables.now → TellsTable cells result (after_cell tech.now cells text.now) }
 {
     if place_of(tables, text.name.bytes()).is_some() {
         return Err(refused(text.line, StickKind::RepeatedName));
@@ -75,7 +76,7 @@ fn read_lines<'a>(
 ) -> Result<Growing<'a>, ResolveFault>
     requires few { length tables.now ≤ 256 }
     requires is_cell { IsCell text.now }
-    ensures { (cells : List Known) → AreGrown tech.now cells → AreTables cells tables.now
+    ensures { (cells : List Known) → AreGrown tech.now cells → AreTables cells tables.now → HaveSides cells tables.now
         → GrowsTo cells result (after_lines tech.now cells (begun text.now.name) text.now.lines) }
 {
     let mut growing = Growing::new(alloc, text.name.bytes());

@@ -1,5 +1,6 @@
 //! What is kept of a cell for later lines and cells.
-use crate::names::Thing;
+use crate::names::{Copied, Thing};
+use crate::sides::SideMap;
 use crate::steps::Step;
 use cell_model::CellPort;
 use indexmap::IndexMap;
@@ -15,7 +16,7 @@ impl<'a> NameMap<'a> {
     ghost use Rattle.std.specs.Prelude.{◌≡◌, [], ◌∷◌, ◌++◌, IsTrue, OnOk};
     ghost use Rattle.stick_cell.specs.Checks.{is_fresh};
     ghost use Rattle.stick_cell.specs.NameEntries.{entries_of};
-    ghost use Rattle.stick_cell.specs.Paths.{named};
+    ghost use Rattle.stick_cell.specs.Paths.{named, copy_of};
 
     /// A map without names.
     pub fn new(alloc: Global) -> NameMap<'a>
@@ -31,6 +32,16 @@ impl<'a> NameMap<'a> {
         ensures { result ≡ named (entries_of self.now) name.now }
     {
         self.things.get(name).copied()
+    }
+
+    /// The copy that the name stands for, if it stands for one. It takes no memory.
+    pub fn copy(&self, name: &[u8]) -> Option<Copied>
+        ensures { result ≡ copy_of (named (entries_of self.now) name.now) }
+    {
+        match self.find(name) {
+            Some(Thing::Copy(copy)) => Some(copy),
+            Some(Thing::Node(_) | Thing::Port(_)) | None => None,
+        }
     }
 
     /// Whether the name is not among these. It takes no memory.
@@ -55,6 +66,7 @@ impl<'a> NameMap<'a> {
 pub struct Table<'a> {
     pub name: &'a [u8],
     pub names: NameMap<'a>,
+    pub sides: SideMap<'a>,
     /// What its lines add to it. In a cell that may be inlined the numbers of nodes are exact.
     pub steps: Vec<Step<'a>>,
     pub ports: Vec<CellPort>,

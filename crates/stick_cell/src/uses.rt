@@ -69,8 +69,9 @@ impl<'a> Growing<'a> {
         row: u32,
     ) -> Result<(), LineFault>
         requires { length tables.now ≤ 256 }
-        ensures { (cells : List Known) (known : Known) → AreTables cells tables.now → IsGrowing cells known self.old
+        ensures grows { (cells : List Known) (known : Known) → AreTables cells tables.now → IsGrowing cells known self.old
             → Grows cells result self.new (after_use cells known name.now cell.now col row) }
+        ensures sides { self.new.table.sides ≡ self.old.table.sides }
     {
         if !self.table.names.is_fresh(name) {
             return Err(LineFault::Kind(StickKind::RepeatedName));
@@ -100,8 +101,9 @@ impl<'a> Growing<'a> {
         requires shallow { used.now.depth < 16 }
         requires near_col { col + used.now.most_col ≤ 4095 }
         requires near_row { row + used.now.most_row ≤ 4095 }
-        ensures { OnOk result ((cells : List Known) (known : Known) → IsGrowing cells known self.old → cell < length cells → IsTableOf (known_at cells cell) used.now
+        ensures grows { OnOk result ((cells : List Known) (known : Known) → IsGrowing cells known self.old → cell < length cells → IsTableOf (known_at cells cell) used.now
             → IsGrowing cells (with_copy known name.now cell (known_at cells cell) col row) self.new) }
+        ensures sides { self.new.table.sides ≡ self.old.table.sides }
     {
         let first = self.table.nodes;
         let copy = Copied {

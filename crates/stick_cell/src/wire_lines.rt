@@ -10,16 +10,18 @@ ghost use Rattle.stick_cell.specs.Lines.{after_wire, after_limit};
 ghost use Rattle.stick_cell.specs.Kept.{capped_wire};
 ghost use Rattle.stick_cell.specs.Grown.{IsGrown, AreGrown};
 ghost use Rattle.stick_cell.specs.Tables.{AreTables};
-ghost use Rattle.stick_cell.specs.Growing.{IsGrowing, Grows, plugged_ports, plugged_marks, found_or_unknown};
+ghost use Rattle.stick_cell.specs.Growing.{IsGrowing, Grows, GrowsWith, plugged_ports, plugged_marks, found_or_unknown};
+ghost use Rattle.stick_cell.specs.Sides.{side_entries, AreSidesOf, HaveSides};
 
 use crate::checks::{axis_where, layer_of};
 use crate::counts::{capped_sum, layer_items};
 use crate::growing::Growing;
+use crate::leaving::{are_open, mark_ends, paths_of};
 use crate::names::Found;
 use crate::paths::found_at;
 use crate::steps::Step;
 use crate::table::Table;
-use crate::wires::{limited, wire_between};
+use crate::wires::{limited, run_of, wire_where};
 use cell_model::{CellPort, Limit, Wire, WireEnd};
 use rule_table::Tech;
 use std::alloc::AllocError;
@@ -60,24 +62,23 @@ impl<'a> Growing<'a> {
         tech: &Tech,
         tables: &[Table],
         layer: DrawnLayer,
-        a: &[u8],
-        b: &[u8],
+        a: &'a [u8],
+        b: &'a [u8],
         width: Option<u32>,
     ) -> Result<(), LineFault>
-        ensures { (cells : List Known) (known : Known) → AreGrown tech.now cells → AreTables cells tables.now → IsPath a.now → IsPath b.now
-            → IsGrown tech.now cells known → IsGrowing cells known self.old → Grows cells result self.new (after_wire tech.now cells known layer a.now b.now width) }
+        ensures { (cells : List Known) (known : Known) → AreGrown tech.now cells → AreTables cells tables.now → HaveSides cells tables.now → IsPath a.entry.now → IsPath b.entry.now
+            → IsGrown tech.now cells known → IsGrowing cells known self.old → AreSidesOf cells known (side_entries self.old.table.sides)
+            → GrowsWith cells result self.new (after_wire tech.now cells known layer a.entry.now b.entry.now width) }
     {
         let from = self.found(tables, a)?;
         let to = self.found(tables, b)?;
-        let wire = wire_between(
-            tech,
-            self.wired.as_slice(),
-            layer_of(layer),
-            from,
-            to,
-            width,
-        )?;
+        let run = run_of(from, to)?;
+        let (low, high) = paths_of(run, a, b);
+        let layer = layer_of(layer);
+        let are_free = are_open(tables, &self.table, run, low, high, layer);
+        let wire = wire_where(are_free, tech, self.wired.as_slice(), layer, width, run)?;
         self.add_wire(wire)?;
+        mark_ends(&mut self.table.sides, run, low, high, layer)?;
         Ok(())
     }
 
@@ -91,9 +92,10 @@ impl<'a> Growing<'a> {
         at_most: bool,
         n: i64,
     ) -> Result<(), LineFault>
-        ensures { (tech : Tech) (cells : List Known) (known : Known) → AreGrown tech cells → AreTables cells tables.now
+        ensures grows { (tech : Tech) (cells : List Known) (known : Known) → AreGrown tech cells → AreTables cells tables.now
             → IsPath a.now → IsPath b.now → IsGrown tech cells known → IsGrowing cells known self.old
             → Grows cells result self.new (after_limit cells known vertical a.now b.now at_most n) }
+        ensures sides { self.new.table.sides ≡ self.old.table.sides }
     {
         let from = self.found(tables, a)?;
         let to = self.found(tables, b)?;
@@ -125,8 +127,9 @@ impl<'a> Growing<'a> {
 
     /// Adds a wire, which ends at the ports that it names. The only refusal is want of memory.
     fn add_wire(&mut self, wire: Wire) -> Result<(), AllocError>
-        ensures { OnOk result ((cells : List Known) (known : Known) (next : Wire) → IsGrowing cells known self.old → HasEnds (cell_of (with_wire known next)) next → wire ≡ capped_wire next
+        ensures grows { OnOk result ((cells : List Known) (known : Known) (next : Wire) → IsGrowing cells known self.old → HasEnds (cell_of (with_wire known next)) next → wire ≡ capped_wire next
             → IsGrowing cells (with_wire known next) self.new) }
+        ensures sides { self.new.table.sides ≡ self.old.table.sides }
     {
         self.table.steps.push(Step::Wire(wire))?;
         let number = self.table.wires;

@@ -5,45 +5,57 @@ ghost use Rattle.rule_table.specs.declared.classes.Layer.{Layer};
 ghost use Rattle.stick_parse.specs.declared.fault.StickKind.{StickKind};
 ghost use Rattle.stick_cell.specs.declared.names.Found.{Found};
 ghost use Rattle.stick_cell.specs.Refusals.{IsRefusedWire};
-ghost use Rattle.stick_cell.specs.Wires.{wire_between, terminal, line_of, run_along, run_from_port, run_between, takes_layer, takes_along, is_free, is_within_pad, end_of, at_both, limited};
+ghost use Rattle.cell_model.specs.declared.cell.Wire.{Wire};
+ghost use Rattle.stick_cell.specs.Wires.{wire_between, wire_where, run_of, terminal, line_of, run_along, run_from_port, run_to_port, run_between, takes_layer, takes_along, is_buried, is_free, fills_pad, is_within_pad, end_of, at_both, limited};
 
 use crate::checks::sized;
 use crate::names::{Found, Pin, Run, Spot, Terminal};
-use cell_model::{Axis2, Wire, WireEnd, is_low_side, is_same_layer};
+use cell_model::{Axis2, NodeKind, Wire, WireEnd, buried_pad, is_low_side, is_same_layer};
 use rule_table::{Layer, Tech};
 use stick_parse::StickKind;
 
-/// The wire of a layer between the things that two paths have come to; `wired` tells of each port of the cell whether a
-/// wire ends at it. The width is in u, and where none is given it is the layer's.
+/// The straight run between the things that two paths have come to.
 ///
 /// Refused, in this order: an end that is a use, or behind a node or a port, as `WrongTerminal`; ends that no straight
-/// wire joins as `NotStraight`; an end that takes no wire of the layer as `WrongLayer`, or not along this axis as
-/// `WrongSide`; a port that has a wire as `PortWires`; a width as `BadSize`, `NarrowWire` or, where it is wider than the
-/// pad at an end, `WideWire`.
-#[tactic(auto, unfolding(crate::specs::Wires::wire_between))]
-pub fn wire_between(
-    tech: &Tech,
-    wired: &[bool],
-    layer: Layer,
-    a: Found,
-    b: Found,
-    width: Option<u32>,
-) -> Result<Wire, StickKind>
-    ensures { result ≡ wire_between tech.now wired.now layer a b width }
+/// wire joins as `NotStraight`.
+pub fn run_of(a: Found, b: Found) -> Result<Run, StickKind>
+    ensures { result ≡ run_of a b }
 {
     let from = terminal(a)?;
     let to = terminal(b)?;
-    let run = run_between(from, to).ok_or(StickKind::NotStraight)?;
+    run_between(from, to).ok_or(StickKind::NotStraight)
+}
+
+/// The wire of a layer along a run. `are_free` tells whether no wire of another layer leaves a buried contact at its ends
+/// where it would, and `wired` of each port of the cell whether a wire ends at it. The width is in u, and where none is
+/// given it is the layer's.
+///
+/// Refused, in this order: an end that takes no wire of the layer as `WrongLayer`, or not along this axis or on this side
+/// as `WrongSide`; a port that has a wire as `PortWires`; a width as `BadSize`, `NarrowWire`, also where it is narrower
+/// than the pad of a buried contact, or, where it is wider than the pad at an end, `WideWire`.
+pub fn wire_where(
+    are_free: bool,
+    tech: &Tech,
+    wired: &[bool],
+    layer: Layer,
+    width: Option<u32>,
+    run: Run,
+) -> Result<Wire, StickKind>
+    ensures { result ≡ wire_where are_free tech.now wired.now layer width run }
+{
     if !both_take_layer(layer, run) {
         return Err(StickKind::WrongLayer);
     }
-    if !both_take_along(layer, run) {
+    if !both_take_along(layer, run) || !are_free {
         return Err(StickKind::WrongSide);
     }
     if !both_are_free(wired, run) {
         return Err(StickKind::PortWires);
     }
     let size = sized(tech, layer, width)?;
+    if !fills_pads(tech, size, run) {
+        return Err(StickKind::NarrowWire);
+    }
     if !is_within_pads(tech, layer, size, run) {
         return Err(StickKind::WideWire);
     }
@@ -58,10 +70,10 @@ pub fn wire_between(
 
 /// A wire that is refused breaks the rule of the kind that it is refused with, and one that breaks a rule is refused.
 pub fn a_refused_wire_breaks_a_rule()
-    ensures refused { (tech : Tech) (wired : List Bool) (layer : Layer) (a b : Found) (width : Option ℕ) (kind : StickKind) → wire_between tech wired layer a b width ≡ Err kind
-        → IsRefusedWire tech wired layer a b width kind }
-    ensures broken { (tech : Tech) (wired : List Bool) (layer : Layer) (a b : Found) (width : Option ℕ) (kind : StickKind) → IsRefusedWire tech wired layer a b width kind
-        → (first : StickKind) × (wire_between tech wired layer a b width ≡ Err first) }
+    ensures refused { (tech : Tech) (wired : List Bool) (wires : List Wire) (layer : Layer) (a b : Found) (width : Option ℕ) (kind : StickKind) → wire_between tech wired wires layer a b width ≡ Err kind
+        → IsRefusedWire tech wired wires layer a b width kind }
+    ensures broken { (tech : Tech) (wired : List Bool) (wires : List Wire) (layer : Layer) (a b : Found) (width : Option ℕ) (kind : StickKind) → IsRefusedWire tech wired wires layer a b width kind
+        → (first : StickKind) × (wire_between tech wired wires layer a b width ≡ Err first) }
 {}
 
 /// The node that a limit names; a port, a use and what lies behind a node or a port are refused with `BadLimit`.
@@ -105,12 +117,14 @@ fn run_along(along: Axis2, is_low: bool, a: Terminal, b: Terminal) -> Run
             along,
             low: a,
             high: b,
+            forward: true,
         }
     } else {
         Run {
             along,
             low: b,
             high: a,
+            forward: false,
         }
     }
 }
@@ -121,8 +135,8 @@ fn run_between(a: Terminal, b: Terminal) -> Option<Run>
 {
     match (a, b) {
         (Terminal::Node(from), Terminal::Node(to)) => run_between_nodes(from, to),
-        (Terminal::Node(node), Terminal::Port(port))
-        | (Terminal::Port(port), Terminal::Node(node)) => run_from_port(port, node),
+        (Terminal::Node(from), Terminal::Port(to)) => run_to_port(from, to),
+        (Terminal::Port(from), Terminal::Node(to)) => run_from_port(from, to),
         (Terminal::Port(from), Terminal::Port(to)) => run_between_ports(from, to),
     }
 }
@@ -153,6 +167,22 @@ fn run_from_port(p: Pin, b: Spot) -> Option<Run>
             is_low_side(p.side),
             Terminal::Port(p),
             Terminal::Node(b),
+        ))
+    } else {
+        None
+    }
+}
+
+fn run_to_port(a: Spot, q: Pin) -> Option<Run>
+    ensures { result ≡ run_to_port a q }
+{
+    let along = Axis2::of_side(q.side);
+    if line_of(along, a) == q.place {
+        Some(run_along(
+            along,
+            !is_low_side(q.side),
+            Terminal::Node(a),
+            Terminal::Port(q),
         ))
     } else {
         None
@@ -215,6 +245,26 @@ fn is_within_pad(tech: &Tech, layer: Layer, width: i64, end: Terminal) -> bool
     }
 }
 
+/// Whether a node is a buried contact.
+pub fn is_buried(kind: NodeKind) -> bool
+    ensures { result ≡ is_buried kind }
+{
+    match kind {
+        NodeKind::Buried => true,
+        NodeKind::Joint { .. } | NodeKind::Contact { .. } | NodeKind::Fet { .. } => false,
+    }
+}
+
+// Whether the wire is no narrower than the pad of a buried contact at its end.
+fn fills_pad(tech: &Tech, width: i64, end: Terminal) -> bool
+    ensures { result ≡ fills_pad tech.now width end }
+{
+    match end {
+        Terminal::Node(spot) => !is_buried(spot.kind) || buried_pad(tech) <= width,
+        Terminal::Port(_) => true,
+    }
+}
+
 fn end_of(end: Terminal) -> WireEnd
     ensures { result ≡ end_of end }
 {
@@ -242,6 +292,12 @@ fn both_are_free(wired: &[bool], run: Run) -> bool
     ensures { result ≡ at_both (is_free wired.now) run }
 {
     is_free(wired, run.low) && is_free(wired, run.high)
+}
+
+fn fills_pads(tech: &Tech, width: i64, run: Run) -> bool
+    ensures { result ≡ at_both (fills_pad tech.now width) run }
+{
+    fills_pad(tech, width, run.low) && fills_pad(tech, width, run.high)
 }
 
 fn is_within_pads(tech: &Tech, layer: Layer, width: i64, run: Run) -> bool

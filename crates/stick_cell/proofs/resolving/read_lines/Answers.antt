@@ -1,47 +1,55 @@
 use Rattle.std.proofs.Common.{◌≡◌, ℕ, ◌<◌, ◌≤◌, List, length, get_or, refl, sym, ap, subst, ◌∙◌, arith}
 use Rattle.stick_cell.specs.Known.{begun}
 use Rattle.stick_cell.specs.Growing.{IsGrowing}
+use Rattle.stick_cell.specs.Sides.{side_entries}
+use Rattle.stick_cell.proofs.SidesKept.{sides_none}
 use Rattle.stick_cell.proofs.Grown.{grown-begun, grown-after_form}
 use Rattle.stick_cell.proofs.LineLoop.{lines-next, lines-refused, lines-end, form-at}
 use Rattle.stick_cell.proofs.resolving.read_lines.Goals as goal
 
 pub returns-in-Err : goal.returns-in-Err
-returns-in-Err c = λ cells are tables.
+returns-in-Err c = λ cells are tables have.
     let tech = c.args.tech.now in
     let lines = c.args.text.now.lines in
     let i = c.loop-line.line-index in
     let line = c.line-item.result in
-    let so_far = c.loop-line.invariant cells are tables in
+    let so_far = c.loop-line.invariant cells are tables have in
     let lt : i < length lines = omega (arith, c.loop-line-test.true, ap length c.as_slice-line-items.ensures) in
     let at : line ≡ get_or lines i line = c.line-item.is ∙ ap (λ xs. get_or xs i line) c.as_slice-line-items.ensures in
     let form = form-at lines i line c.requires.is_cell.1 lt at in
-    lines-refused tech cells so_far.0 lines i line c.in-Err.fault c.at_line.result _ lt at (c.in-Err.ensures cells so_far.0 are tables form so_far.2 so_far.1) c.at_line.ensures so_far.3
+    lines-refused tech cells so_far.0 lines i line c.in-Err.fault c.at_line.result _ lt at (c.in-Err.ensures cells so_far.0 are tables have form so_far.3 so_far.1 so_far.2) c.at_line.ensures so_far.4
 
 pub loop-line-init : goal.loop-line-init
-loop-line-init c = λ cells are tables.
+loop-line-init c = λ cells are tables have.
     let name = c.args.text.now.name in
-    let P : List ℕ → Type 0 = λ text. IsGrowing cells (begun text) c.new-growing.result in
-    (begun name, subst P c.bytes.ensures (c.new-growing.ensures cells), grown-begun c.args.tech.now cells name, refl)
+    let P : List ℕ → Type 0 = λ text. IsGrowing cells (begun text) c.new-growing.result in (
+      begun name,
+      subst P c.bytes.ensures (c.new-growing.ensures.growing cells),
+      sides_none cells name (side_entries c.new-growing.result.table.sides) c.new-growing.ensures.sides,
+      grown-begun c.args.tech.now cells name,
+      refl,
+    )
 
 pub loop-line-preserved : goal.loop-line-preserved
-loop-line-preserved c = λ cells are tables.
+loop-line-preserved c = λ cells are tables have.
     let tech = c.args.tech.now in
     let lines = c.args.text.now.lines in
     let i = c.loop-line.line-index in
     let line = c.line-item.result in
-    let so_far = c.loop-line.invariant cells are tables in
+    let so_far = c.loop-line.invariant cells are tables have in
     let lt : i < length lines = omega (arith, c.loop-line-test.true, ap length c.as_slice-line-items.ensures) in
     let at : line ≡ get_or lines i line = c.line-item.is ∙ ap (λ xs. get_or xs i line) c.as_slice-line-items.ensures in
     let form = form-at lines i line c.requires.is_cell.1 lt at in
-    let next = c.in-Ok.ensures cells so_far.0 are tables form so_far.2 so_far.1 in (
+    let next = c.in-Ok.ensures cells so_far.0 are tables have form so_far.3 so_far.1 so_far.2 in (
       next.0,
       next.2,
-      grown-after_form tech cells so_far.0 line.form next.0 are form so_far.2 next.1,
-      sym (lines-next tech cells so_far.0 next.0 lines i line lt at next.1) ∙ so_far.3,
+      next.3,
+      grown-after_form tech cells so_far.0 line.form next.0 are form so_far.3 next.1,
+      sym (lines-next tech cells so_far.0 next.0 lines i line lt at next.1) ∙ so_far.4,
     )
 
 pub returns : goal.returns
-returns c = λ cells are tables.
-    let so_far = c.loop-line.invariant cells are tables in
+returns c = λ cells are tables have.
+    let so_far = c.loop-line.invariant cells are tables have in
     let le : length c.args.text.now.lines ≤ c.loop-line.line-index = omega (arith, c.loop-line-test.false, ap length c.as_slice-line-items.ensures) in
-    (so_far.0, sym so_far.3 ∙ lines-end c.args.tech.now cells so_far.0 c.args.text.now.lines c.loop-line.line-index le, so_far.1)
+    (so_far.0, sym so_far.4 ∙ lines-end c.args.tech.now cells so_far.0 c.args.text.now.lines c.loop-line.line-index le, so_far.1, so_far.2)

@@ -4,10 +4,11 @@ use Rattle.stick_cell.specs.Lines.{after_lines}
 use Rattle.stick_cell.specs.Grown.{IsGrown, AreGrown}
 use Rattle.stick_cell.specs.Tables.{AreTables}
 use Rattle.stick_cell.specs.Growing.{IsGrowing}
+use Rattle.stick_cell.specs.Sides.{side_entries, AreSidesOf, HaveSides}
 use Rattle.stick_cell.proofs.resolving.read_lines.Given as goal
 
 abbrev pub invariant-loop-line : goal.invariant-loop-line
 invariant-loop-line l =
-    (cells : List Known) → AreGrown l.tech cells → AreTables cells l.tables
-    → (known : Known) × IsGrowing cells known l.growing × IsGrown l.tech cells known
+    (cells : List Known) → AreGrown l.tech cells → AreTables cells l.tables → HaveSides cells l.tables
+    → (known : Known) × IsGrowing cells known l.growing × AreSidesOf cells known (side_entries l.growing.table.sides) × IsGrown l.tech cells known
     × (after_lines l.tech cells known (drop l.line-index l.text.lines) ≡ after_lines l.tech cells (begun l.text.name) l.text.lines)

@@ -7,16 +7,18 @@ use Rattle.list_facts.proofs.Elements.{all_of, by_number}
 use Rattle.stick_cell.specs.Known.{Known, begun, cell_of}
 use Rattle.stick_cell.specs.Lines.{known_cells}
 use Rattle.stick_cell.specs.Tables.{AreTables, HaveSteps, cells_or_none}
+use Rattle.stick_cell.specs.Sides.{HaveSides}
+use Rattle.stick_cell.proofs.SidesLoop.{have_sides-push}
 use Rattle.stick_cell.proofs.Grown.{are_grown-none, are_grown-append, grown-after_cell, sound-known_at}
 use Rattle.stick_cell.proofs.TableReads.{length-known_cells}
-use Rattle.stick_cell.proofs.CellLoop.{cells-next, cells-end, cell-at, tables-push, have_steps-push}
+use Rattle.stick_cell.proofs.CellLoop.{gives-residual, cells-refused, cells-next, cells-end, cell-at, tables-push, have_steps-push}
 use Rattle.stick_cell.proofs.resolving.resolve.Goals as goal
 
 pub loop-text-init : goal.loop-text-init
 unfolding known_cells
 loop-text-init c =
     let P : List Table → Type 0 = λ tables. AreTables [] tables in
-    ([], subst P (sym c.new-tables.ensures.items) tt, are_grown-none c.args.tech.now, refl, ap length c.new-tables.ensures.items, λ k lt. absurd (omega arith))
+    ([], subst P (sym c.new-tables.ensures.items) tt, are_grown-none c.args.tech.now, refl, ap length c.new-tables.ensures.items, (λ k lt. absurd (omega arith)), λ k lt. absurd (omega arith))
 
 pub loop-text-preserved : goal.loop-text-preserved
 loop-text-preserved c =
@@ -29,7 +31,8 @@ loop-text-preserved c =
     let lt : i < length texts = omega (arith, c.loop-text-test.true, ap length c.as_slice-text-items.ensures) in
     let at : text ≡ get_or texts i text = c.text-item.is ∙ ap (λ xs. get_or xs i text) c.as_slice-text-items.ensures in
     let tables : AreTables so_far.0 c.as_slice.result.now = let P : List Table → Type 0 = λ tables. AreTables so_far.0 tables in subst P (sym c.as_slice.ensures.value) so_far.1 in
-    let cell = c.in_ok-table.ensures so_far.0 so_far.2 tables in
+    let have : HaveSides so_far.0 c.as_slice.result.now = subst (HaveSides so_far.0) (sym c.as_slice.ensures.value) so_far.6 in
+    let cell = c.in_ok-table.ensures so_far.0 so_far.2 tables have in
     let is = grown-after_cell tech so_far.0 text cell.0 so_far.2 (cell-at texts i text c.requires.cells lt at) cell.1 in
     let cells : List Known = so_far.0 ++ cell.0 ∷ [] in
     let pushed = c.in_ok-push.ensures.items in
@@ -40,7 +43,22 @@ loop-text-preserved c =
       sym (cells-next tech so_far.0 texts i text cell.0 lt at cell.1) ∙ so_far.3,
       ap length pushed ∙ omega (arith, length_push c.loop-text.tables.items table, so_far.4),
       subst (HaveSteps cells) (sym pushed) (have_steps-push so_far.0 c.loop-text.tables.items cell.0 table so_far.1 so_far.5 cell.3),
+      subst (HaveSides cells) (sym pushed) (have_sides-push tech so_far.0 c.loop-text.tables.items cell.0 table so_far.2 is.0 so_far.1 so_far.6 cell.4),
     )
+
+pub returns-in_err-table-clause-cells : goal.returns-in_err-table-clause-cells
+returns-in_err-table-clause-cells c =
+    let tech = c.args.tech.now in
+    let texts = c.args.design.now.cells in
+    let i = c.loop-text.text-index in
+    let text = c.text-item.result in
+    let so_far = c.loop-text.invariant in
+    let lt : i < length texts = omega (arith, c.loop-text-test.true, ap length c.as_slice-text-items.ensures) in
+    let at : text ≡ get_or texts i text = c.text-item.is ∙ ap (λ xs. get_or xs i text) c.as_slice-text-items.ensures in
+    let tables : AreTables so_far.0 c.as_slice.result.now = let P : List Table → Type 0 = λ tables. AreTables so_far.0 tables in subst P (sym c.as_slice.ensures.value) so_far.1 in
+    let have : HaveSides so_far.0 c.as_slice.result.now = subst (HaveSides so_far.0) (sym c.as_slice.ensures.value) so_far.6 in
+    let fault = c.in_err-table.field-0.0 in
+    gives-residual c.from_residual.result fault _ c.from_residual.ensures.1 (cells-refused tech so_far.0 texts i text fault _ lt at (c.in_err-table.ensures so_far.0 so_far.2 tables have) so_far.3)
 
 pub returns-clause-number : goal.returns-clause-number
 returns-clause-number c =

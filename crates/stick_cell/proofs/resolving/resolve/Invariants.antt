@@ -3,6 +3,7 @@ use Rattle.stick_cell.specs.Known.{Known}
 use Rattle.stick_cell.specs.Lines.{cells_after, known_cells}
 use Rattle.stick_cell.specs.Grown.{AreGrown}
 use Rattle.stick_cell.specs.Tables.{AreTables, HaveSteps}
+use Rattle.stick_cell.specs.Sides.{HaveSides}
 use Rattle.stick_cell.proofs.resolving.resolve.Given as goal
 
 abbrev pub invariant-loop-text : goal.invariant-loop-text
@@ -11,3 +12,4 @@ invariant-loop-text l =
     × (cells_after l.tech cells (drop l.text-index l.design.cells) ≡ known_cells l.tech l.design.cells)
     × (length l.tables.items ≡ l.text-index)
     × HaveSteps cells l.tables.items
+    × HaveSides cells l.tables.items

@@ -10,8 +10,8 @@ use Rattle.stick_cell.proofs.LineSteps.{names-push, below-more}
 use Rattle.stick_cell.proofs.Stepping.{steps-push}
 use Rattle.stick_cell.proofs.growing.Growing.add_copy.Goals as goal
 
-pub returns : goal.returns
-returns c = λ cells known grown earlier is.
+pub returns-clause-grows : goal.returns-clause-grows
+returns-clause-grows c = λ cells known grown earlier is.
     let a = c.args in
     let name = a.name.now in
     let table = a.self.now.table in

@@ -12,8 +12,8 @@ use Rattle.stick_cell.proofs.LineSteps.{names-push}
 use Rattle.stick_cell.proofs.Stepping.{steps-push}
 use Rattle.stick_cell.proofs.growing.Growing.add_node.Goals as goal
 
-pub returns : goal.returns
-returns c = λ cells known grown.
+pub returns-clause-grows : goal.returns-clause-grows
+returns-clause-grows c = λ cells known grown.
     let name = c.args.name.now in
     let table = c.args.self.now.table in
     let node : Node = record { name = name; kind = c.args.kind; col = c.args.col; row = c.args.row } in

@@ -12,8 +12,8 @@ use Rattle.stick_cell.proofs.LineSteps.{names-push, below-push}
 use Rattle.stick_cell.proofs.Stepping.{steps-push}
 use Rattle.stick_cell.proofs.growing.Growing.add_port.Goals as goal
 
-pub returns : goal.returns
-returns c = λ cells known grown.
+pub returns-clause-grows : goal.returns-clause-grows
+returns-clause-grows c = λ cells known grown.
     let name = c.args.name.now in
     let table = c.args.self.now.table in
     let plug : Plug = record { port = record { name = name; side = c.args.side; layer = c.args.layer; place = c.args.place; wire = 0 }; width = pos 0; wired = false } in

@@ -11,8 +11,8 @@ use Rattle.stick_cell.proofs.WireSteps.{plug-step, mark-step, below-plugged, exa
 use Rattle.stick_cell.proofs.Stepping.{steps-push}
 use Rattle.stick_cell.proofs.growing.Growing.add_wire.Goals as goal
 
-pub returns : goal.returns
-returns c = λ cells known wire grown ends is.
+pub returns-clause-grows : goal.returns-clause-grows
+returns-clause-grows c = λ cells known wire grown ends is.
     let a = c.args in
     let table = a.self.now.table in
     let next = with_wire known wire in

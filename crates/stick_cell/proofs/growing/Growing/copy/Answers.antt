@@ -9,15 +9,15 @@ use Rattle.stick_cell.proofs.LineSteps.{grows-residual, is_fresh-capped}
 use Rattle.stick_cell.proofs.UseSteps.{use-by, use-found}
 use Rattle.stick_cell.proofs.growing.Growing.copy.Goals as goal
 
-pub returns-then-not-is_fresh : goal.returns-then-not-is_fresh
-returns-then-not-is_fresh c = λ cells known are grown.
+pub returns-then-not-is_fresh-clause-grows : goal.returns-then-not-is_fresh-clause-grows
+returns-then-not-is_fresh-clause-grows c = λ cells known are grown.
     let a = c.args in
     let fresh : is_fresh (entries_of a.self.now.table.names) a.name.now ≡ false = search rules in
     use-by cells known a.name.now a.cell.now a.col a.row false (not (bytes_eq a.cell.now known.name)) (number_of cells a.cell.now)
     (sym (is_fresh-capped known.names a.name.now) ∙ ap (λ names. is_fresh names a.name.now) (sym grown.tells.names) ∙ fresh) refl refl
 
-pub returns-then-eq : goal.returns-then-eq
-returns-then-eq c = λ cells known are grown.
+pub returns-then-eq-clause-grows : goal.returns-then-eq-clause-grows
+returns-then-eq-clause-grows c = λ cells known are grown.
     let a = c.args in
     let fresh : is_fresh (entries_of a.self.now.table.names) a.name.now ≡ true = search rules in
     let same : not (bytes_eq a.cell.now a.self.now.table.name.now) ≡ false = search rules in
@@ -25,8 +25,8 @@ returns-then-eq c = λ cells known are grown.
     (sym (is_fresh-capped known.names a.name.now) ∙ ap (λ names. is_fresh names a.name.now) (sym grown.tells.names) ∙ fresh)
     (ap (λ name. not (bytes_eq a.cell.now name)) (sym grown.tells.name) ∙ same) refl
 
-pub returns-in_default : goal.returns-in_default
-returns-in_default c = λ cells known are grown.
+pub returns-in_default-clause-grows : goal.returns-in_default-clause-grows
+returns-in_default-clause-grows c = λ cells known are grown.
     let a = c.args in
     let fresh : is_fresh (entries_of a.self.now.table.names) a.name.now ≡ true = search rules in
     let other : not (bytes_eq a.cell.now a.self.now.table.name.now) ≡ true = search rules in
@@ -36,8 +36,8 @@ returns-in_default c = λ cells known are grown.
     (ap (λ name. not (bytes_eq a.cell.now name)) (sym grown.tells.name) ∙ other)
     (sym (position-name cells a.tables.now a.cell.now are) ∙ sym c.place_of.ensures ∙ none)
 
-pub returns-in_err-check_use : goal.returns-in_err-check_use
-returns-in_err-check_use c = λ cells known are grown.
+pub returns-in_err-check_use-clause-grows : goal.returns-in_err-check_use-clause-grows
+returns-in_err-check_use-clause-grows c = λ cells known are grown.
     let a = c.args in
     let fresh : is_fresh (entries_of a.self.now.table.names) a.name.now ≡ true = search rules in
     let other : not (bytes_eq a.cell.now a.self.now.table.name.now) ≡ true = search rules in
@@ -46,12 +46,12 @@ returns-in_err-check_use c = λ cells known are grown.
     (use-found cells known a.tables.now a.self.now a.name.now a.cell.now a.col a.row c.in-Some.place c.index-tables-place.result (Err k) are grown fresh other
     (sym c.in-Some.ensures) c.index-tables-place.is (sym c.in_err-check_use.was ∙ c.check_use.ensures.usable)).0
 
-pub returns : goal.returns
-returns c = λ cells known are grown.
+pub returns-clause-grows : goal.returns-clause-grows
+returns-clause-grows c = λ cells known are grown.
     let a = c.args in
     let fresh : is_fresh (entries_of a.self.now.table.names) a.name.now ≡ true = search rules in
     let other : not (bytes_eq a.cell.now a.self.now.table.name.now) ≡ true = search rules in
     let place = c.in-Some.place in
     let found = use-found cells known a.tables.now a.self.now a.name.now a.cell.now a.col a.row place c.index-tables-place.result (Ok tt) are grown fresh other
     (sym c.in-Some.ensures) c.index-tables-place.is (sym c.in_ok-check_use.was ∙ c.check_use.ensures.usable) in
-    (with_copy known a.name.now place (known_at cells place) a.col a.row, found.0, c.in_ok-add_copy.ensures cells known grown found.2 found.1)
+    (with_copy known a.name.now place (known_at cells place) a.col a.row, found.0, c.in_ok-add_copy.ensures.grows cells known grown found.2 found.1)

@@ -4,9 +4,9 @@ use Rattle.stick_cell.specs.Counts.{weight_of, boxes_of}
 use Rattle.stick_cell.proofs.Stepping.{steps-none}
 use Rattle.stick_cell.proofs.growing.Growing.new.Goals as goal
 
-pub returns : goal.returns
+pub returns-clause-growing : goal.returns-clause-growing
 unfolding weight_of boxes_of items_in boxes_in
-returns c = λ cells. record {
+returns-clause-growing c = λ cells. record {
   tells = record {
     name = refl;
     names = c.new.ensures;
@@ -18,8 +18,8 @@ returns c = λ cells. record {
     most_row = refl;
     depth = refl;
   };
-  ports = c.new-3.ensures.items;
-  wired = c.new-4.ensures.items;
-  steps = steps-none cells c.args.name.now _ c.new-2.ensures.items;
+  ports = c.new-4.ensures.items;
+  wired = c.new-5.ensures.items;
+  steps = steps-none cells c.args.name.now _ c.new-3.ensures.items;
   below = tt;
 }

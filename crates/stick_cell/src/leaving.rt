@@ -1,0 +1,149 @@
+//! Whether wires of other layers leave a buried contact where a wire is to leave it.
+ghost use Rattle.std.specs.Prelude.{◌≡◌, List, OnOk, if◌then◌else◌};
+ghost use Rattle.rule_table.specs.declared.classes.Layer.TheVariants.{Metal};
+ghost use Rattle.stick_cell.specs.Known.{Known};
+ghost use Rattle.stick_cell.specs.Kept.{capped_names};
+ghost use Rattle.stick_cell.specs.NameEntries.{entries_of};
+ghost use Rattle.stick_cell.specs.Tables.{AreTables};
+ghost use Rattle.stick_cell.specs.Sides.{is_left, is_taken, is_open, are_open, is_buried_end, side_entries, AreSidesOf, HaveSides, IsMarkedIf, AreMarked};
+
+use crate::names::{Run, Terminal};
+use crate::paths::split_first;
+use crate::sides::SideMap;
+use crate::table::Table;
+use crate::wires::is_buried;
+use cell_model::{Axis2, is_same_layer};
+use rule_table::Layer;
+use std::alloc::AllocError;
+
+/// Whether a wire of the layer, poly or diffusion, leaves the buried contact of a path along an axis, as its low end or as
+/// its high end: a wire of the cell's own lines, or one inside the copy into which the path goes. It takes no memory.
+fn is_left(
+    tables: &[Table],
+    table: &Table,
+    path: &[u8],
+    layer: Layer,
+    along: Axis2,
+    is_low: bool,
+) -> bool
+    ensures { (cells : List Known) (known : Known) → AreTables cells tables.now → HaveSides cells tables.now → entries_of table.now.names ≡ capped_names known.names
+        → AreSidesOf cells known (side_entries table.now.sides) → (layer ≡ Metal → ⊥) → result ≡ is_left known path.now layer along is_low }
+{
+    if table.sides.at(path).has(layer, along, is_low) {
+        return true;
+    }
+    let (name, behind) = split_first(path);
+    let Some(rest) = behind else {
+        return false;
+    };
+    let Some(copy) = table.names.copy(name) else {
+        return false;
+    };
+    let Some(used) = tables.get(copy.cell as usize) else {
+        return false;
+    };
+    is_left(tables, used, rest, layer, along, is_low)
+}
+
+/// Whether a wire of another layer does.
+fn is_taken(
+    tables: &[Table],
+    table: &Table,
+    path: &[u8],
+    layer: Layer,
+    along: Axis2,
+    is_low: bool,
+) -> bool
+    ensures { (cells : List Known) (known : Known) → AreTables cells tables.now → HaveSides cells tables.now → entries_of table.now.names ≡ capped_names known.names
+        → AreSidesOf cells known (side_entries table.now.sides) → result ≡ is_taken known path.now layer along is_low }
+{
+    let poly = is_left(tables, table, path, Layer::Poly, along, is_low);
+    let diffusion = is_left(tables, table, path, Layer::Diffusion, along, is_low);
+    (!is_same_layer(Layer::Poly, layer) && poly)
+        || (!is_same_layer(Layer::Diffusion, layer) && diffusion)
+}
+
+/// Whether the terminal of a path is no buried contact, or one that no wire of another layer leaves there.
+fn is_open(
+    tables: &[Table],
+    table: &Table,
+    end: Terminal,
+    path: &[u8],
+    layer: Layer,
+    along: Axis2,
+    is_low: bool,
+) -> bool
+    ensures { (cells : List Known) (known : Known) → AreTables cells tables.now → HaveSides cells tables.now → entries_of table.now.names ≡ capped_names known.names
+        → AreSidesOf cells known (side_entries table.now.sides) → result ≡ is_open known end path.now layer along is_low }
+{
+    if !is_buried_end(end) {
+        return true;
+    }
+    !is_taken(tables, table, path, layer, along, is_low)
+}
+
+/// Whether both ends of a run are, given the paths to its low and its high end. It takes no memory.
+pub fn are_open(
+    tables: &[Table],
+    table: &Table,
+    run: Run,
+    low: &[u8],
+    high: &[u8],
+    layer: Layer,
+) -> bool
+    ensures { (cells : List Known) (known : Known) → AreTables cells tables.now → HaveSides cells tables.now → entries_of table.now.names ≡ capped_names known.names
+        → AreSidesOf cells known (side_entries table.now.sides) → result ≡ are_open known run low.now high.now layer }
+{
+    is_open(tables, table, run.low, low, layer, run.along, true)
+        && is_open(tables, table, run.high, high, layer, run.along, false)
+}
+
+/// Of two paths whose terminals a run joins, the one to its low end and the one to its high end.
+pub fn paths_of<'a>(run: Run, a: &'a [u8], b: &'a [u8]) -> (&'a [u8], &'a [u8])
+    ensures low { result.0.now ≡ (if run.forward then a.now else b.now) }
+    ensures high { result.1.now ≡ (if run.forward then b.now else a.now) }
+{
+    if run.forward { (a, b) } else { (b, a) }
+}
+
+/// Marks the side on which a wire leaves the terminal of a path, if this is a buried contact. The only refusal is want of
+/// memory.
+fn mark_end<'a>(
+    sides: &mut SideMap<'a>,
+    end: Terminal,
+    path: &'a [u8],
+    layer: Layer,
+    along: Axis2,
+    is_low: bool,
+) -> Result<(), AllocError>
+    ensures { OnOk result (IsMarkedIf (is_buried_end end) (side_entries sides.old) (side_entries sides.new) path.entry.now layer along is_low) }
+{
+    if is_buried_end(end) {
+        sides.mark(path, layer, along, is_low)?;
+    }
+    Ok(())
+}
+
+/// Marks the sides on which a wire of the layer along a run leaves its ends. The only refusal is want of memory.
+pub fn mark_ends<'a>(
+    sides: &mut SideMap<'a>,
+    run: Run,
+    low: &'a [u8],
+    high: &'a [u8],
+    layer: Layer,
+) -> Result<(), AllocError>
+    ensures { OnOk result (AreMarked (side_entries sides.old) (side_entries sides.new) run low.entry.now high.entry.now layer) }
+{
+    mark_end(sides, run.low, low, layer, run.along, true)?;
+    mark_end(sides, run.high, high, layer, run.along, false)?;
+    Ok(())
+}
+
+fn is_buried_end(end: Terminal) -> bool
+    ensures { result ≡ is_buried_end end }
+{
+    match end {
+        Terminal::Node(spot) => is_buried(spot.kind),
+        Terminal::Port(_) => false,
+    }
+}
