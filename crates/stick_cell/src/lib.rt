@@ -8,6 +8,8 @@
 #![tactic(auto)]
 
 #[cfg(test)]
+mod buried_tests;
+#[cfg(test)]
 mod cell_tests;
 mod cells;
 mod checks;

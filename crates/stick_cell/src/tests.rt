@@ -34,131 +34,158 @@ pub fn checked<'a>(alloc: Global, design: &'a Design) -> Result<Cells<'a>, Fail>
     }
 }
 
-/// The line and the kind of the first fault of some cells; line 0 where they have none.
-fn fault_of(alloc: Global, cells: &str) -> Result<(u32, StickKind), Fail> {
+/// The line and the kind of the first fault of some cells under a technology; line 0 where they have none.
+pub fn fault_under(alloc: Global, tech: &Tech, cells: &str) -> Result<(u32, StickKind), Fail> {
     let design = design(alloc, cells)?;
-    match resolve(alloc, &design, &Tech::shipped()) {
+    match resolve(alloc, &design, tech) {
         Ok(_) => Ok((0, StickKind::BadLine)),
         Err(ResolveFault::Stick(fault)) => Ok((fault.line, fault.kind)),
         Err(ResolveFault::OutOfMemory) => Err("want of memory")?,
     }
 }
 
+/// The same under the shipped technology.
+fn fault_of(alloc: Global, cells: &str) -> Result<(u32, StickKind), Fail> {
+    fault_under(alloc, &Tech::shipped(), cells)
+}
+
+// Names that are taken, unknown, or that of the cell in which they stand.
+const NAMES: [(&str, u32, StickKind); 7] = [
+    ("cell a\nend\ncell a\nend\n", 4, StickKind::RepeatedName),
+    (
+        "cell a\njoint p metal 0 0\nport p left metal 0\nend\n",
+        4,
+        StickKind::RepeatedName,
+    ),
+    (
+        "cell a\njoint p metal 0 0\nwire metal p q\nend\n",
+        4,
+        StickKind::UnknownName,
+    ),
+    (
+        "cell a\njoint p metal 0 0\nwire metal p q\njoint q metal 1 0\nend\n",
+        4,
+        StickKind::UnknownName,
+    ),
+    (
+        "cell a\nuse u b 0 0\nend\ncell b\nend\n",
+        3,
+        StickKind::UnknownName,
+    ),
+    ("cell a\nuse u a 0 0\nend\n", 3, StickKind::UseCycle),
+    (
+        "cell b\njoint m metal 0 0\nport r right metal 0\nwire metal m r\nend\ncell a\nuse u b 0 0\nend\n",
+        8,
+        StickKind::UsedPorts,
+    ),
+];
+
+// Places and sizes.
+const PLACES: [(&str, u32, StickKind); 7] = [
+    (
+        "cell a\njoint p metal 4096 0\nend\n",
+        3,
+        StickKind::FarPlace,
+    ),
+    (
+        "cell a\nport p top metal 4096\nend\n",
+        3,
+        StickKind::FarPlace,
+    ),
+    (
+        "cell b\njoint p metal 0 1\nend\ncell a\nuse u b 0 4095\nend\n",
+        6,
+        StickKind::FarPlace,
+    ),
+    (
+        "cell b\nend\ncell a\nuse u b 4096 0\nend\n",
+        5,
+        StickKind::FarPlace,
+    ),
+    ("cell a\njoint p metal 0 0 7\nend\n", 3, StickKind::BadSize),
+    ("cell a\nfet f enh h 0 0 2 4\nend\n", 3, StickKind::BadSize),
+    (
+        "cell a\njoint p metal 0 0 4\nend\n",
+        3,
+        StickKind::NarrowWire,
+    ),
+];
+
+// Wires, and ports without one or with two.
+const WIRES: [(&str, u32, StickKind); 8] = [
+    (
+        "cell a\njoint p metal 0 0\njoint q metal 1 0\nwire metal p.x q\nend\n",
+        5,
+        StickKind::WrongTerminal,
+    ),
+    (
+        "cell b\nend\ncell a\nuse u b 0 0\njoint q metal 1 0\nwire metal u q\nend\n",
+        7,
+        StickKind::WrongTerminal,
+    ),
+    (
+        "cell a\njoint p metal 0 0\njoint q metal 1 1\nwire metal p q\nend\n",
+        5,
+        StickKind::NotStraight,
+    ),
+    (
+        "cell a\njoint p metal 0 0\njoint q poly 1 0\nwire metal p q\nend\n",
+        5,
+        StickKind::WrongLayer,
+    ),
+    (
+        "cell a\nfet f enh h 0 0 4 4\njoint j poly 0 1\nwire poly f j\nend\n",
+        5,
+        StickKind::WrongSide,
+    ),
+    (
+        "cell a\njoint p metal 0 0\njoint q metal 1 0\nwire metal p q 8\nend\n",
+        5,
+        StickKind::WideWire,
+    ),
+    (
+        "cell a\njoint p metal 0 0\nport l left metal 0\nwire metal l p\nwire metal l p\nend\n",
+        6,
+        StickKind::PortWires,
+    ),
+    (
+        "cell a\nport l left metal 0\nend\n",
+        4,
+        StickKind::PortWires,
+    ),
+];
+
+// Limits.
+const LIMITS: [(&str, u32, StickKind); 3] = [
+    (
+        "cell a\njoint p metal 0 0\nlimit x p p <= 3\nend\n",
+        4,
+        StickKind::BadLimit,
+    ),
+    (
+        "cell a\njoint p metal 0 0\nport l left metal 0\nwire metal l p\nlimit x p l <= 3\nend\n",
+        6,
+        StickKind::BadLimit,
+    ),
+    (
+        "cell b\njoint p metal 0 0\nend\ncell a\nuse u b 0 0\nlimit x u.p u.p >= 3\nend\n",
+        7,
+        StickKind::BadLimit,
+    ),
+];
+
 #[test]
 fn the_first_fault_is_told_with_its_line_and_kind(rt: HostRuntime) -> Result<(), Fail> {
-    let cases: [(&str, u32, StickKind); 25] = [
-        ("cell a\nend\ncell a\nend\n", 4, StickKind::RepeatedName),
-        (
-            "cell a\njoint p metal 0 0\nport p left metal 0\nend\n",
-            4,
-            StickKind::RepeatedName,
-        ),
-        (
-            "cell a\njoint p metal 0 0\nwire metal p q\nend\n",
-            4,
-            StickKind::UnknownName,
-        ),
-        (
-            "cell a\njoint p metal 0 0\nwire metal p q\njoint q metal 1 0\nend\n",
-            4,
-            StickKind::UnknownName,
-        ),
-        (
-            "cell a\nuse u b 0 0\nend\ncell b\nend\n",
-            3,
-            StickKind::UnknownName,
-        ),
-        ("cell a\nuse u a 0 0\nend\n", 3, StickKind::UseCycle),
-        (
-            "cell b\njoint m metal 0 0\nport r right metal 0\nwire metal m r\nend\ncell a\nuse u b 0 0\nend\n",
-            8,
-            StickKind::UsedPorts,
-        ),
-        (
-            "cell a\njoint p metal 4096 0\nend\n",
-            3,
-            StickKind::FarPlace,
-        ),
-        (
-            "cell a\nport p top metal 4096\nend\n",
-            3,
-            StickKind::FarPlace,
-        ),
-        (
-            "cell b\njoint p metal 0 1\nend\ncell a\nuse u b 0 4095\nend\n",
-            6,
-            StickKind::FarPlace,
-        ),
-        (
-            "cell b\nend\ncell a\nuse u b 4096 0\nend\n",
-            5,
-            StickKind::FarPlace,
-        ),
-        ("cell a\njoint p metal 0 0 7\nend\n", 3, StickKind::BadSize),
-        ("cell a\nfet f enh h 0 0 2 4\nend\n", 3, StickKind::BadSize),
-        (
-            "cell a\njoint p metal 0 0 4\nend\n",
-            3,
-            StickKind::NarrowWire,
-        ),
-        (
-            "cell a\njoint p metal 0 0\njoint q metal 1 0\nwire metal p.x q\nend\n",
-            5,
-            StickKind::WrongTerminal,
-        ),
-        (
-            "cell b\nend\ncell a\nuse u b 0 0\njoint q metal 1 0\nwire metal u q\nend\n",
-            7,
-            StickKind::WrongTerminal,
-        ),
-        (
-            "cell a\njoint p metal 0 0\njoint q metal 1 1\nwire metal p q\nend\n",
-            5,
-            StickKind::NotStraight,
-        ),
-        (
-            "cell a\njoint p metal 0 0\njoint q poly 1 0\nwire metal p q\nend\n",
-            5,
-            StickKind::WrongLayer,
-        ),
-        (
-            "cell a\nfet f enh h 0 0 4 4\njoint j poly 0 1\nwire poly f j\nend\n",
-            5,
-            StickKind::WrongSide,
-        ),
-        (
-            "cell a\njoint p metal 0 0\njoint q metal 1 0\nwire metal p q 8\nend\n",
-            5,
-            StickKind::WideWire,
-        ),
-        (
-            "cell a\njoint p metal 0 0\nport l left metal 0\nwire metal l p\nwire metal l p\nend\n",
-            6,
-            StickKind::PortWires,
-        ),
-        (
-            "cell a\nport l left metal 0\nend\n",
-            4,
-            StickKind::PortWires,
-        ),
-        (
-            "cell a\njoint p metal 0 0\nlimit x p p <= 3\nend\n",
-            4,
-            StickKind::BadLimit,
-        ),
-        (
-            "cell a\njoint p metal 0 0\nport l left metal 0\nwire metal l p\nlimit x p l <= 3\nend\n",
-            6,
-            StickKind::BadLimit,
-        ),
-        (
-            "cell b\njoint p metal 0 0\nend\ncell a\nuse u b 0 0\nlimit x u.p u.p >= 3\nend\n",
-            7,
-            StickKind::BadLimit,
-        ),
+    let tables = [
+        NAMES.as_slice(),
+        PLACES.as_slice(),
+        WIRES.as_slice(),
+        LIMITS.as_slice(),
     ];
-    for (cells, line, kind) in cases {
-        assert_eq!(rt; fault_of(rt.alloc(), cells)?, (line, kind), "{cells}");
+    for cases in tables {
+        for (cells, line, kind) in cases {
+            assert_eq!(rt; fault_of(rt.alloc(), cells)?, (*line, *kind), "{cells}");
+        }
     }
     Ok(())
 }
