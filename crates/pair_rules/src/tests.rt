@@ -1,4 +1,5 @@
-ghost use Rattle.std.specs.Prelude.{◌≡◌, ◌<◌, IfOk};
+ghost use Rattle.std.specs.Prelude.{◌≡◌, ◌<◌, ◌^◌, IfOk, All, length};
+ghost use Rattle.sym_items.specs.Boxes.{HasBox};
 ghost use Rattle.sym_items.specs.Transposed.{transposed_coords};
 ghost use Rattle.pair_rules.specs.Worked as worked;
 
@@ -90,50 +91,47 @@ fn apart(i: u32, j: u32) -> Pair {
     Pair { i, j, s: 6 }
 }
 
-#[test]
-fn three_joints_in_a_row_face_each_other(rt: HostRuntime) -> Result<(), Fail> {
-    let items = row_of_three();
-    let coords = row_start(rt.alloc())?;
-    let pairs = all_pairs(rt.alloc(), Axis::X, &Tech::shipped(), &items, &coords)?;
-    assert_eq!(rt;
-        pairs.as_slice(),
-        [apart(0, 1), apart(0, 2), apart(1, 2)].as_slice()
-    );
-    let upwards = all_pairs(rt.alloc(), Axis::Y, &Tech::shipped(), &items, &coords)?;
-    assert!(rt; upwards.is_empty());
-    Ok(())
+// The candidates of an axis under the rules that the program ships with.
+fn candidates(
+    alloc: Global,
+    axis: Axis,
+    items: &[Item],
+    coords: &Coords,
+) -> Result<Vec<Pair>, AllocError>
+    requires few { length items.now < 2 ^ 32 }
+    requires boxes { All (HasBox coords.now) items.now }
+{
+    all_pairs(alloc, axis, &Tech::shipped(), items, coords)
 }
 
 #[test]
-fn three_joints_in_a_column_face_each_other(rt: HostRuntime) -> Result<(), Fail> {
-    let items = row_of_three();
-    let coords = column_start(rt.alloc())?;
-    let pairs = all_pairs(rt.alloc(), Axis::Y, &Tech::shipped(), &items, &coords)?;
-    assert_eq!(rt;
-        pairs.as_slice(),
-        [apart(0, 1), apart(0, 2), apart(1, 2)].as_slice()
-    );
+fn three_joints_in_a_row_face_each_other(rt: HostRuntime) -> Result<(), Fail> {
+    let row = row_start(rt.alloc())?;
+    let in_order = [apart(0, 1), apart(0, 2), apart(1, 2)];
+    let across = candidates(rt.alloc(), Axis::X, &row_of_three(), &row)?;
+    assert_eq!(rt; across.as_slice(), in_order.as_slice());
+    let upwards = candidates(rt.alloc(), Axis::Y, &row_of_three(), &row)?;
+    assert!(rt; upwards.is_empty());
+    let column = column_start(rt.alloc())?;
+    let upwards = candidates(rt.alloc(), Axis::Y, &row_of_three(), &column)?;
+    assert_eq!(rt; upwards.as_slice(), in_order.as_slice());
     Ok(())
 }
 
 #[test]
 fn the_boxes_of_two_columns_face_each_other(rt: HostRuntime) -> Result<(), Fail> {
-    let items = two_columns();
     let coords = columns_start(rt.alloc())?;
-    let pairs = all_pairs(rt.alloc(), Axis::X, &Tech::shipped(), &items, &coords)?;
-    assert_eq!(rt;
-        pairs.as_slice(),
-        [
-            apart(0, 2),
-            apart(4, 2),
-            apart(1, 3),
-            apart(4, 3),
-            apart(0, 5),
-            apart(1, 5),
-            apart(4, 5),
-        ]
-        .as_slice()
-    );
+    let pairs = candidates(rt.alloc(), Axis::X, &two_columns(), &coords)?;
+    let facing = [
+        apart(0, 2),
+        apart(4, 2),
+        apart(1, 3),
+        apart(4, 3),
+        apart(0, 5),
+        apart(1, 5),
+        apart(4, 5),
+    ];
+    assert_eq!(rt; pairs.as_slice(), facing.as_slice());
     Ok(())
 }
 

@@ -14,25 +14,20 @@ use sym_items::{Coords, End, Item, NOWHERE};
 fn joint(n: u32) -> Item
     ensures { result ≡ worked.joint n }
 {
+    let (low, high) = (End { var: n, off: -3 }, End { var: n, off: 3 });
     Item {
         class: Class::M,
         net: n,
         owner: n,
-        xl: End { var: n, off: -3 },
-        xh: End { var: n, off: 3 },
-        yl: End { var: 0, off: -3 },
-        yh: End { var: 0, off: 3 },
+        xl: low,
+        xh: high,
+        yl: End { var: 0, ..low },
+        yh: End { var: 0, ..high },
         least_x: 6,
         least_y: 6,
         at_low: NOWHERE,
         at_high: NOWHERE,
     }
-}
-
-fn row() -> [Item; 3]
-    ensures { result ≡ worked.row }
-{
-    [joint(0), joint(1), joint(2)]
 }
 
 fn start(alloc: Global) -> Result<Coords, AllocError>
@@ -46,7 +41,7 @@ fn start(alloc: Global) -> Result<Coords, AllocError>
 
 // The kept pairs of three joints in a row.
 fn kept_in_row(alloc: Global, limit: u32) -> Result<Result<Vec<Pair>, KeptFault>, AllocError> {
-    let items = row();
+    let items = [joint(0), joint(1), joint(2)];
     let coords = start(alloc)?;
     let tech = Tech::shipped();
     Ok(kept(alloc, Axis::X, &tech, &items, &coords, limit))

@@ -12,18 +12,19 @@ use std::test::Fail;
 fn wire() -> Item
     ensures { result ≡ worked.wire }
 {
+    let (low, high) = (End { var: 2, off: -3 }, End { var: 2, off: 3 });
     Item {
         class: Class::M,
         net: 0,
         owner: 2,
-        xl: End { var: 2, off: -3 },
-        xh: End { var: 3, off: 3 },
-        yl: End { var: 2, off: -3 },
-        yh: End { var: 2, off: 3 },
-        least_x: 6,
-        least_y: 6,
         at_low: NOWHERE,
         at_high: NOWHERE,
+        xl: low,
+        xh: End { var: 3, ..high },
+        yl: low,
+        yh: high,
+        least_x: 6,
+        least_y: 6,
     }
 }
 
