@@ -1,10 +1,30 @@
+ghost use Rattle.std.specs.Prelude.{All};
+ghost use Rattle.lam_geom.specs.Places.{IsPlacedBox};
+
 use crate::symbol_text;
 use lam_geom::{BoxXY, MaskBox, MaskLayer, Span};
 use lam_list::Seq;
 use mask_out::Symbol;
 use rule_table::Tech;
+use std::alloc::{AllocError, Global};
 use std::test::Fail;
 use stick_lex::Text;
+
+// The text of a symbol under the technology that the program ships with.
+fn text_of(
+    alloc: Global,
+    number: u32,
+    name: &[u8],
+    boxes: &[MaskBox],
+) -> Result<Vec<u8>, AllocError>
+    requires { All (λ box. IsPlacedBox box.area) boxes.now }
+{
+    let symbol = Symbol {
+        name: Text::new(alloc, name)?,
+        boxes: Seq::from_vec(boxes.to_vec(alloc)?),
+    };
+    symbol_text(alloc, &Tech::shipped(), number, &symbol)
+}
 
 // The masks of a transistor alone, whose channel is 4 by 4 and whose gate runs across, in a cell 20 wide and 24 high.
 #[test]
@@ -26,11 +46,7 @@ fn a_transistor_is_written_in_halves_of_u(rt: HostRuntime) -> Result<(), Fail> {
             },
         },
     ];
-    let symbol = Symbol {
-        name: Text::new(alloc, b"f")?,
-        boxes: Seq::from_vec(boxes.to_vec(alloc)?),
-    };
-    let text = symbol_text(alloc, &Tech::shipped(), 1, &symbol)?;
+    let text = text_of(alloc, 1, b"f", &boxes)?;
     assert_eq!(rt;
         text.as_slice(),
         b"DS 1 75 1;\n9 f;\nL ND;\nB 8 24 20 24;\nL NP;\nB 24 8 20 24;\nDF;\n".as_slice()
@@ -51,11 +67,7 @@ fn windows_are_written_last(rt: HostRuntime) -> Result<(), Fail> {
         layer: MaskLayer::NI,
         area: square,
     };
-    let symbol = Symbol {
-        name: Text::new(alloc, b"b")?,
-        boxes: Seq::from_vec([window, implant].to_vec(alloc)?),
-    };
-    let text = symbol_text(alloc, &Tech::shipped2(), 1, &symbol)?;
+    let text = text_of(alloc, 1, b"b", &[window, implant])?;
     assert_eq!(rt;
         text.as_slice(),
         b"DS 1 75 1;\n9 b;\nL NI;\nB 24 24 28 28;\nL NB;\nB 24 24 28 28;\nDF;\n".as_slice()
@@ -66,11 +78,7 @@ fn windows_are_written_last(rt: HostRuntime) -> Result<(), Fail> {
 #[test]
 fn a_symbol_without_boxes_names_no_layer(rt: HostRuntime) -> Result<(), Fail> {
     let alloc = rt.alloc();
-    let symbol = Symbol {
-        name: Text::new(alloc, b"empty")?,
-        boxes: Seq::from_vec(Vec::new(alloc)),
-    };
-    let text = symbol_text(alloc, &Tech::shipped(), 12, &symbol)?;
+    let text = text_of(alloc, 12, b"empty", &[])?;
     assert_eq!(rt; text.as_slice(), b"DS 12 75 1;\n9 empty;\nDF;\n".as_slice());
     Ok(())
 }
