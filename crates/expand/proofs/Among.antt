@@ -39,7 +39,7 @@ use Rattle.expand.specs.Items.{items_of_node, items_of_wire, item_list, AreItems
 use Rattle.expand.specs.Bounds.{IsSmall, IsNear, IsEndAmong, IsSpanAmong, IsItemAmong, LiesAlong, IsNearAlong}
 use Rattle.list_facts.proofs.Elements.{all_append, all_flat, all_numbers, all_of, all_weaker}
 use Rattle.expand.proofs.Cells.{node_sound, wire_sound}
-use Rattle.expand.proofs.Crosses.{running_more}
+use Rattle.expand.proofs.CrossVariables.{running_more}
 
 -- ---- lengths
 

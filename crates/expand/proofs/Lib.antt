@@ -1,7 +1,7 @@
 pub mod WorkedItems
 pub mod Channels
 pub mod Cells
-pub mod Crosses
+pub mod CrossVariables
 pub mod NetsRead
 pub mod ItemsRead
 pub mod Edges

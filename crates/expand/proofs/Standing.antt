@@ -28,7 +28,7 @@ use Rattle.expand.proofs.Among.{sound_numbers, items_lie}
 use Rattle.expand.proofs.Reached.{BeginsBefore, items_begin}
 
 -- an item keeps its margins
-abbrev KeepsMargins : Axis → Tech → (ℕ → ℤ) → Item → Type 0
+abbrev pub KeepsMargins : Axis → Tech → (ℕ → ℤ) → Item → Type 0
 KeepsMargins axis tech x i = AllByRecursion (Meets x) (margin_edges tech (item_along axis i))
 
 -- the low end of an item that does not begin on the origin lies at or above it
@@ -42,12 +42,12 @@ margin_above tech x i zero_there meets ne =
     omega (arith, ints, h, not_below, zero_there)
 
 -- the parts of the structure: the size of the cell, the extents of its items and their margins
-record HasParts (axis : Axis) (tech : Tech) (x : ℕ → ℤ) (items : List Item) : Type 0 where
-  size : widest_of tech ≤ℤ (x 1 -ℤ x 0)
-  extents : All (λ (i : Item). AllByRecursion (Meets x) (extent_edges (item_along axis i))) items
-  margins : All (KeepsMargins axis tech x) items
+pub record HasParts (axis : Axis) (tech : Tech) (x : ℕ → ℤ) (items : List Item) : Type 0 where
+  pub size : widest_of tech ≤ℤ (x 1 -ℤ x 0)
+  pub extents : All (λ (i : Item). AllByRecursion (Meets x) (extent_edges (item_along axis i))) items
+  pub margins : All (KeepsMargins axis tech x) items
 
-parts_of : (axis : Axis) (tech : Tech) (cell : Cell) (x : ℕ → ℤ) (items : List Item) → All (Meets x) (structure_of axis tech cell items) → HasParts axis tech x items
+pub parts_of : (axis : Axis) (tech : Tech) (cell : Cell) (x : ℕ → ℤ) (items : List Item) → All (Meets x) (structure_of axis tech cell items) → HasParts axis tech x items
 unfolding structure_of
 parts_of axis tech cell x items meets =
     let M : Edge → Type 0 = Meets x in

@@ -22,4 +22,4 @@ pub use inequalities::{between_variables, push_between, structure};
 pub use items::items_of;
 pub use laws::{between_means, master_is_lawful};
 pub use master::Master;
-pub use variables::crossing;
+pub use variables::{crosses, crossing};

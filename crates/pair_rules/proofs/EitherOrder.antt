@@ -19,7 +19,7 @@ by_either : (o : Option Rule) (m n : ℕ) → spacing_by o m n ≡ spacing_by o 
 by_either None m n = refl
 by_either (Some r) m n = ap (λ q. cond (r.net_exempt && q) None (Some r.s)) (same_either m n)
 
-lies_either : (a b : Class) → is_poly_on_diffusion a b ≡ true → is_poly_on_diffusion b a ≡ true
+pub lies_either : (a b : Class) → is_poly_on_diffusion a b ≡ true → is_poly_on_diffusion b a ≡ true
 lies_either P Dm lies = refl
 lies_either Dm P lies = refl
 lies_either _ _ lies = cc

@@ -1,6 +1,6 @@
 use Rattle.std.proofs.Common.{◌<◌, List, length, ap, arith}
 use Rattle.cell_model.specs.declared.cell.Wire.{Wire}
-use Rattle.expand.proofs.Crosses.{crosses_more, along_read}
+use Rattle.expand.proofs.CrossVariables.{crosses_more, along_read}
 use Rattle.expand.proofs.variables.crosses.Goals as goal
 
 pub loop-wire-preserved : goal.loop-wire-preserved

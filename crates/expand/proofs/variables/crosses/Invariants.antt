@@ -1,4 +1,4 @@
-use Rattle.expand.proofs.Crosses.{CrossesSoFar}
+use Rattle.expand.proofs.CrossVariables.{CrossesSoFar}
 use Rattle.expand.proofs.variables.crosses.Given as goal
 
 abbrev pub invariant-loop-wire : goal.invariant-loop-wire
