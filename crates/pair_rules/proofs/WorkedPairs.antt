@@ -3,9 +3,8 @@ use Rattle.std.proofs.Common.{◌≡◌, ℕ, pos, List, [], ◌∷◌, refl}
 use Rattle.lam_geom.specs.declared.boxes.Axis.TheVariants.{X, Y}
 use Rattle.rule_table.specs.declared.technology.Tech.{Tech}
 use Rattle.rule_table.specs.Technology.{shipped_numbers}
-use Rattle.rule_table.specs.Keys.{first_key, first_outside, has_buried, is_no_size}
-use Rattle.rule_table.specs.Spacing.{spacing_in, pad_in}
-use Rattle.rule_table.specs.Faults.{fault_of, range_fault, has_short_channel, has_short_extension, has_narrow_fet, has_small_pad, gate_length, diffusion_length}
+use Rattle.rule_table.specs.Spacing.{spacing_in}
+use Rattle.rule_table.proofs.Shipped.{shipped_sound}
 use Rattle.sym_items.specs.declared.items.Item.{Item}
 use Rattle.pair_rules.specs.declared.pairs.Pair.{Pair}
 use Rattle.pair_rules.specs.Bound.{bound_spacing}
@@ -14,8 +13,7 @@ use Rattle.pair_rules.specs.Kept.{kept_of}
 use Rattle.pair_rules.specs.Worked.{joint, metal, row_of_three, row_start, two_columns, columns_start}
 
 shipped : Tech
-unfolding fault_of range_fault has_short_channel has_short_extension has_narrow_fet has_small_pad gate_length diffusion_length first_key first_outside has_buried is_no_size pad_in
-shipped = record { numbers = shipped_numbers; sound = refl }
+shipped = record { numbers = shipped_numbers; sound = shipped_sound }
 
 abbrev apart : ℕ → ℕ → Pair
 apart i j = record { i = i; j = j; s = pos 6 }
