@@ -20,6 +20,7 @@ use Rattle.stick_cell.specs.Lines.{after_cell, cells_after}
 use Rattle.std.specs.Result.{IsErrAnd}
 use Rattle.stick_cell.specs.declared.cells.Cells.{Cells}
 use Rattle.stick_cell.specs.Tables.{IsTableOf, AreTables, steps_at, HaveSteps, known_of}
+use Rattle.stick_cell.specs.Sides.{HaveSides}
 use Rattle.stick_cell.proofs.TableReads.{length-tables}
 use Rattle.stick_cell.proofs.Grown.{k_within, known_before, known_last}
 
@@ -40,6 +41,10 @@ pub cells-refused : (tech : Tech) (cells : List Known) (texts : List CellText) (
     → i < length texts → text ≡ get_or texts i text → Fails fault (after_cell tech cells text) → cells_after tech cells (drop i texts) ≡ whole → Fails fault whole
 cells-refused tech cells texts i text (Stick fault) whole lt e fails same = sym same ∙ cells_at tech cells texts i text (Err fault) lt e fails
 cells-refused tech cells texts i text OutOfMemory whole lt e fails same = tt
+
+-- the tables that are lent
+pub lent_tables : (cells : List Known) (tables lent : List Table) → lent ≡ tables → AreTables cells tables → HaveSides cells tables → AreTables cells lent × HaveSides cells lent
+lent_tables cells tables lent same are have = let P : List Table → Type 0 = λ l. AreTables cells l × HaveSides cells l in subst P (sym same) (are, have)
 
 -- the fault of a design, passed on
 pub gives-residual : (result : Result Cells ParseFault) (fault : ParseFault) (read : Result (List Known) StickFault) → IsErrAnd result (λ e. e ≡ fault) → Fails fault read → Gives known_of result read

@@ -60,6 +60,11 @@ sum_by-copied_wire first [] = refl
 sum_by-copied_wire first (wire ∷ wires) =
     omega (arith, sum_by-cons wire_items (copied_wire first wire) (map (copied_wire first) wires), sum_by-cons wire_items wire wires, sum_by-copied_wire first wires)
 
+-- nodes with those of a copy
+copied_nodes : (count : Node → ℕ) → ((name : List ℕ) (col row : ℕ) (node : Node) → count (copied_node name col row node) ≡ count node) → (nodes : List Node) (name : List ℕ) (col row : ℕ) (copied : List Node)
+    → sum_by count (nodes ++ map (copied_node name col row) copied) ≡ sum_by count nodes + sum_by count copied
+copied_nodes count same nodes name col row copied = omega (arith, sum_by-append count nodes (map (copied_node name col row) copied), sum_by-copied_node count same name col row copied)
+
 -- a copy adds what its cell has, and one use
 pub weight-with_copy : (known : Known) (name : List ℕ) (k : ℕ) (copied : Known) (col row : ℕ) → weight_of (with_copy known name k copied col row) ≡ weight_of known + (weight_of copied + 1)
 unfolding weight_of items_in
@@ -67,8 +72,7 @@ weight-with_copy known name k copied col row =
     let first = length known.nodes in
     omega (
       arith,
-      sum_by-append node_items known.nodes (map (copied_node name col row) copied.nodes),
-      sum_by-copied_node node_items (λ name col row node. refl) name col row copied.nodes,
+      copied_nodes node_items (λ name col row node. refl) known.nodes name col row copied.nodes,
       sum_by-append wire_items known.wires (map (copied_wire first) copied.wires),
       sum_by-copied_wire first copied.wires,
       length-append known.limits (map (copied_limit first) copied.limits),
@@ -78,14 +82,9 @@ weight-with_copy known name k copied col row =
 pub boxes-with_copy : (known : Known) (name : List ℕ) (k : ℕ) (copied : Known) (col row : ℕ) → boxes_of (with_copy known name k copied col row) ≡ boxes_of known + boxes_of copied
 unfolding boxes_of boxes_in
 boxes-with_copy known name k copied col row =
-    let first = length known.nodes in
-    omega (
-      arith,
-      sum_by-append node_boxes known.nodes (map (copied_node name col row) copied.nodes),
-      sum_by-copied_node node_boxes (λ name col row node. refl) name col row copied.nodes,
-      length-append known.wires (map (copied_wire first) copied.wires),
-      length-map copied.wires (copied_wire first),
-    )
+    let copied_wires = map (copied_wire (length known.nodes)) copied.wires in
+    let nodes = copied_nodes node_boxes (λ name col row node. refl) known.nodes name col row copied.nodes in
+    omega (arith, nodes, length-append known.wires copied_wires, length-map copied.wires (copied_wire (length known.nodes)))
 
 -- the greatest column, or row, with the copy's nodes
 abbrev greatest : (Node → ℕ) → ℕ → List Node → ℕ

@@ -35,7 +35,7 @@ use Rattle.stick_cell.proofs.Accepted.{bound, two_bound, ok_same, at_line_ok, tr
 use Rattle.stick_cell.proofs.GrownNames.{at_end_of}
 use Rattle.stick_cell.proofs.GrownWires.{port_of_plug}
 use Rattle.stick_cell.proofs.GrownForms.{with_node_grown, port_grown, use_grown, wire_grown, limit_grown}
-use Rattle.stick_cell.proofs.Made.{joint_made, contact_made, buried_made, fet_made, port_made, use_made, wire_made}
+use Rattle.stick_cell.proofs.Made.{joint_made, contact_made, buried_made, fet_made, port_made, use_made, wire_made, limit_made}
 use Rattle.stick_cell.proofs.PathsApart.{apart_none}
 use Rattle.stick_cell.proofs.GrownPlugs.{all_wired}
 
@@ -54,7 +54,7 @@ grown-after_form tech cells known (forms.Fet name depletion vertical col row w l
 grown-after_form tech cells known (forms.Port name side layer place) next are is grown e = port_grown tech cells known name side (layer_of layer) place next grown (port_made known name side layer place next e)
 grown-after_form tech cells known (forms.Inst name cell col row) next are is grown e = use_grown tech cells known name col row next is.0 are grown (use_made cells known name cell col row next e)
 grown-after_form tech cells known (forms.Wire layer a b width) next are is grown e = wire_grown tech cells known layer a b width next are grown (wire_made tech cells known layer a b width next e)
-grown-after_form tech cells known (forms.Limit vertical a b at_most n) next are is grown e = limit_grown tech cells known vertical a b at_most n next are is.2 grown e
+grown-after_form tech cells known (forms.Limit vertical a b at_most n) next are is grown e = limit_grown tech cells known a b n next are is.2 grown (limit_made cells known vertical a b at_most n next e)
 
 -- a path that comes to a node is the node's name
 pub spot-found_at : (tech : Tech) (cells : List Known) (known : Known) (path : List ℕ) (spot : Spot) → AreGrown tech cells → IsPath path

@@ -1,25 +1,18 @@
 -- Each form of line keeps what a cell has.
-use Rattle.std.proofs.Common.{◌≡◌, ℕ, ◌+◌, ◌<◌, ◌≤◌, ℤ, pos, Bool, false, List, [], ◌∷◌, ◌++◌, length, take, map, Option, Some, Result, Ok, refl, sym, ap, subst, ◌∙◌, arith}
-use Rattle.std.specs.Prelude.{IsTrue, ◌&&◌, ◌==◌, not, nat_lt, bytes_eq}
+use Rattle.std.proofs.Common.{◌≡◌, ℕ, ◌+◌, ◌<◌, ◌≤◌, ℤ, pos, false, List, [], ◌∷◌, ◌++◌, length, take, map, Option, Some, refl, sym, ap, subst, ◌∙◌, arith}
+use Rattle.std.specs.Prelude.{IsTrue, ◌&&◌}
 use Rattle.std.specs.List.{AllByRecursion}
 use Rattle.std.proofs.lemmas.List.{length-append, length-map, get_or-append-add, get_or-map, get_or_push}
-use Rattle.std.proofs.lemmas.List.Quantifiers.{position-Some}
-use Rattle.std.proofs.lemmas.Bool.Decides.{nat_tests}
 use Rattle.rule_table.specs.declared.technology.Tech.{Tech}
 use Rattle.rule_table.specs.declared.classes.Layer.{Layer}
-use Rattle.stick_parse.specs.declared.fault.StickKind.{StickKind}
-use Rattle.stick_parse.specs.declared.fault.StickKind.TheVariants.{RepeatedName, UseCycle, UseDepth, UsedPorts, FarPlace, BadSize, BadLimit}
 use Rattle.stick_parse.specs.declared.design.Layer.{Layer as DrawnLayer}
 use Rattle.lam_geom.specs.declared.boxes.Side.{Side}
 use Rattle.stick_lex.specs.Numbers.{IsNumber}
 use Rattle.stick_parse.specs.Writable.{IsName}
-use Rattle.stick_parse.specs.Reading.{◌>>=◌}
 use Rattle.cell_model.specs.declared.cell.NodeKind.{NodeKind}
-use Rattle.cell_model.specs.declared.cell.NodeKind.TheVariants as kinds
 use Rattle.cell_model.specs.declared.cell.Node.{Node}
 use Rattle.cell_model.specs.declared.cell.Wire.{Wire}
 use Rattle.cell_model.specs.declared.cell.Limit.{Limit}
-use Rattle.stick_cell.specs.declared.names.Spot.{Spot}
 use Rattle.stick_cell.specs.declared.names.Copied.{Copied}
 use Rattle.stick_cell.specs.declared.names.Thing.{Thing}
 use Rattle.stick_cell.specs.declared.names.Thing.TheVariants as things
@@ -27,23 +20,21 @@ use Rattle.stick_cell.specs.declared.names.Terminal.{Terminal}
 use Rattle.stick_cell.specs.declared.names.Terminal.TheVariants.{Node as NodeEnd}
 use Rattle.stick_cell.specs.declared.names.Found.{Found}
 use Rattle.stick_cell.specs.declared.names.Found.TheVariants.{At}
-use Rattle.stick_cell.specs.Known.{Known, Plug, begun, cell_of, known_at, with_node, with_port, with_wire, with_limit, with_copy, plugged, plug_at, no_plug, copied_node, copied_wire, copied_limit, greatest_col, greatest_row}
-use Rattle.stick_cell.specs.Paths.{Names, found_at}
-use Rattle.stick_cell.specs.Checks.{demand, layer_of, is_fresh, is_place, is_channel, sized}
-use Rattle.stick_cell.specs.Wires.{known_name, wire_between, limited}
-use Rattle.stick_cell.specs.Lines.{axis_where, number_of, known_number, is_empty, wired_of, after_joint, after_contact, after_fet, after_port, with_use, after_use, after_wire, after_limit}
+use Rattle.stick_cell.specs.Known.{Known, Plug, cell_of, known_at, with_node, with_port, with_wire, with_limit, with_copy, plugged, plug_at, no_plug, copied_node, copied_wire, copied_limit, greatest_col, greatest_row}
+use Rattle.stick_cell.specs.Paths.{Names}
+use Rattle.stick_cell.specs.Checks.{layer_of, is_fresh, is_place}
+use Rattle.stick_cell.specs.Lines.{wired_of}
 use Rattle.cell_model.specs.Sound.{node_at, no_node, IsNode, IsKind, IsWire, IsLimit}
 use Rattle.stick_cell.specs.Grown.{IsSpot, IsCopy, IsRight, IsGrown, AreGrown}
-use Rattle.stick_cell.proofs.Accepted.{bound, two_bound, demanded, two_demanded, both, ok_same, known_name_ok, known_number_ok, limited_ok, less_from_test, apart_from_test, place_from_test}
+use Rattle.stick_cell.proofs.Accepted.{both, place_from_test}
 use Rattle.list_facts.proofs.Elements.{all_append, all_weaker, all_map}
 use Rattle.stick_cell.proofs.GrownLists.{within_greatest_col, within_greatest_row}
 use Rattle.stick_cell.proofs.GrownNames.{MoreNodes, MorePlugs, same_nodes, more_nodes, same_plugs, more_plugs, same_cells, copy_of_same, AreRight, all_right_kept, IsAt, at_end_of}
 use Rattle.stick_cell.proofs.GrownWires.{Holds, more_of, wire_kept, limit_kept, wire_copied, limit_copied, NoneEndsAt, none_past_ports, none_of_copies}
-use Rattle.stick_cell.proofs.GrownSizes.{size_of_sized, sizes_of_channel}
 use Rattle.stick_cell.proofs.GrownRuns.{accepted_run, run_of_paths, is_wire, EndsFree, ends_free}
 use Rattle.stick_cell.proofs.GrownSides.{AreSidesApart, sides_append, sides_more, sides_copied, sides_elsewhere, sides_new, sides_one}
 use Rattle.stick_cell.proofs.PathsApart.{apart_node, apart_named, apart_copied}
-use Rattle.stick_cell.proofs.Made.{IsWithNode, IsWithPort, IsWithCopy, IsWithWire}
+use Rattle.stick_cell.proofs.Made.{IsWithNode, IsWithPort, IsWithCopy, IsWithWire, IsWithLimit}
 use Rattle.stick_cell.proofs.GrownPlugs.{plugs_kept, plugs_pushed, more_plugged, plugs_wired, more_plugs_twice}
 
 -- ---- what a cell keeps where there is more
@@ -245,28 +236,12 @@ with_limit_grown tech cells known limit grown is =
       depth = grown.depth;
     }
 
--- between two spots, if they are not the same node
-limit_between : (tech : Tech) (cells : List Known) (known : Known) (limit : Limit) (next : Known) → limit.a < length known.nodes → limit.b < length known.nodes → IsNumber limit.n → IsGrown tech cells known
-    → (demand (not (limit.a == limit.b)) BadLimit >>= λ u. Ok (with_limit known limit)) ≡ Ok next → IsGrown tech cells next
-limit_between tech cells known limit next first second is grown e =
-    let last : IsTrue (not (limit.a == limit.b)) × (◌≡◌ {A = Result Known StickKind} (Ok (with_limit known limit)) (Ok next)) =
-    demanded (not (limit.a == limit.b)) BadLimit (Ok (with_limit known limit)) next e in
-    subst (IsGrown tech cells) (ok_same (with_limit known limit) next last.1)
-    (with_limit_grown tech cells known limit grown (record { a = first; b = second; apart = apart_from_test limit.a limit.b last.0; number = is }))
-
 -- a limit between two paths
-pub limit_grown : (tech : Tech) (cells : List Known) (known : Known) (vertical : Bool) (a b : List ℕ) (at_most : Bool) (n : ℤ) (next : Known) → AreGrown tech cells → IsNumber n → IsGrown tech cells known
-    → after_limit cells known vertical a b at_most n ≡ Ok next → IsGrown tech cells next
-unfolding after_limit
-limit_grown tech cells known vertical a b at_most n next are is grown e =
-    let limit : Spot → Spot → Limit = λ first second. record { axis = axis_where vertical; a = first.number; b = second.number; at_most = at_most; n = n } in
-    let apart : Spot → Spot → Result Known StickKind = λ first second. demand (not (first.number == second.number)) BadLimit >>= λ u. Ok (with_limit known (limit first second)) in
-    let between : Found → Found → Result Known StickKind = λ from to. limited from >>= λ first. limited to >>= λ second. apart first second in
-    let named : (from : Found) × (to : Found) × (known_name (found_at cells known a) ≡ Ok from) × (known_name (found_at cells known b) ≡ Ok to) × (between from to ≡ Ok next) =
-    two_bound (known_name (found_at cells known a)) (known_name (found_at cells known b)) between next e in
-    let spots : (first : Spot) × (second : Spot) × (limited named.0 ≡ Ok first) × (limited named.1 ≡ Ok second) × (apart first second ≡ Ok next) = two_bound (limited named.0) (limited named.1) apart next named.4 in
-    let at_first : IsSpot known.nodes a spots.0 = at_end_of tech cells known a (NodeEnd spots.0) are grown.names
-    (known_name_ok (found_at cells known a) named.0 named.2 ∙ ap (λ (f : Found). Some f) (limited_ok named.0 spots.0 spots.2)) in
-    let at_second : IsSpot known.nodes b spots.1 = at_end_of tech cells known b (NodeEnd spots.1) are grown.names
-    (known_name_ok (found_at cells known b) named.1 named.3 ∙ ap (λ (f : Found). Some f) (limited_ok named.1 spots.1 spots.3)) in
-    limit_between tech cells known (limit spots.0 spots.1) next at_first.within at_second.within is grown spots.4
+pub limit_grown : (tech : Tech) (cells : List Known) (known : Known) (a b : List ℕ) (n : ℤ) (next : Known) → AreGrown tech cells → IsNumber n → IsGrown tech cells known
+    → IsWithLimit cells known a b n next → IsGrown tech cells next
+limit_grown tech cells known a b n next are is grown made =
+    let at_first : IsSpot known.nodes a made.first = at_end_of tech cells known a (NodeEnd made.first) are grown.names made.found_first in
+    let at_second : IsSpot known.nodes b made.second = at_end_of tech cells known b (NodeEnd made.second) are grown.names made.found_second in
+    subst (IsGrown tech cells) made.same
+    (with_limit_grown tech cells known made.limit grown
+    (record { a = omega (arith, made.from, at_first.within); b = omega (arith, made.to, at_second.within); apart = made.apart; number = subst IsNumber (sym made.number) is }))

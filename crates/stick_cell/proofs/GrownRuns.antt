@@ -119,16 +119,7 @@ some_same x y e = cc
 between : (cell : Cell) (along : Axis2) (low high : Spot) (forward : Bool) → IsNodeOf cell low → IsNodeOf cell high → line_of along low ≡ line_of along high → IsInOrder cell along (ends.Node low.number) (ends.Node high.number)
     → IsRun cell (record { along = along; low = terminals.Node low; high = terminals.Node high; forward = forward })
 between cell along low high forward is_low is_high line ordered =
-    record {
-      low = is_low;
-      high = is_high;
-      reaches_low = tt;
-      reaches_high = tt;
-      low_side = tt;
-      high_side = tt;
-      straight = node_line cell along low is_low ∙ line ∙ sym (node_line cell along high is_high);
-      ordered = ordered;
-    }
+    record { low = is_low; high = is_high; reaches_low = tt; reaches_high = tt; low_side = tt; high_side = tt; straight = node_line cell along low is_low ∙ line ∙ sym (node_line cell along high is_high); ordered = ordered }
 
 -- two nodes in a row
 across : (cell : Cell) (a b : Spot) (is_low : Bool) → IsNodeOf cell a → IsNodeOf cell b → a.row ≡ b.row → (is_low ≡ true → a.col < b.col) → (is_low ≡ false → b.col < a.col)
@@ -164,41 +155,14 @@ nodes_run cell a b false false run ia ib on_row on_col e = absurd (cc)
 port_to_node : (cell : Cell) (p : Pin) (b : Spot) (low : Bool) → IsPortOf cell p → IsNodeOf cell b → line_of (axis_of p.side) b ≡ p.place → is_low_side p.side ≡ low
     → IsRun cell (run_along (axis_of p.side) low (terminals.Port p) (terminals.Node b))
 port_to_node cell p b true ip ib line side =
-    record {
-      low = ip;
-      high = ib;
-      reaches_low = refl;
-      reaches_high = tt;
-      low_side = on_low cell p ip side;
-      high_side = tt;
-      straight = port_line cell (axis_of p.side) p ip ∙ sym line ∙ sym (node_line cell (axis_of p.side) b ib);
-      ordered = order_from_port cell (axis_of p.side) p.number (ends.Node b.number);
-    }
+    record { low = ip; high = ib; reaches_low = refl; reaches_high = tt; low_side = on_low cell p ip side; high_side = tt; straight = port_line cell (axis_of p.side) p ip ∙ sym line ∙ sym (node_line cell (axis_of p.side) b ib); ordered = order_from_port cell (axis_of p.side) p.number (ends.Node b.number) }
 port_to_node cell p b false ip ib line side =
-    record {
-      low = ib;
-      high = ip;
-      reaches_low = tt;
-      reaches_high = refl;
-      low_side = tt;
-      high_side = on_high cell p ip (ap not side);
-      straight = node_line cell (axis_of p.side) b ib ∙ line ∙ sym (port_line cell (axis_of p.side) p ip);
-      ordered = order_to_port cell (axis_of p.side) b.number p.number;
-    }
+    record { low = ib; high = ip; reaches_low = tt; reaches_high = refl; low_side = tt; high_side = on_high cell p ip (ap not side); straight = node_line cell (axis_of p.side) b ib ∙ line ∙ sym (port_line cell (axis_of p.side) p ip); ordered = order_to_port cell (axis_of p.side) b.number p.number }
 
 -- whichever of its ends is the first
 either_way : (cell : Cell) (run : Run) (forward : Bool) → IsRun cell run → IsRun cell (record run { forward = forward })
 either_way cell run forward is =
-    record {
-      low = is.low;
-      high = is.high;
-      reaches_low = is.reaches_low;
-      reaches_high = is.reaches_high;
-      low_side = is.low_side;
-      high_side = is.high_side;
-      straight = is.straight;
-      ordered = is.ordered;
-    }
+    record { low = is.low; high = is.high; reaches_low = is.reaches_low; reaches_high = is.reaches_high; low_side = is.low_side; high_side = is.high_side; straight = is.straight; ordered = is.ordered }
 
 -- between a node and a port on a side
 node_to_port : (cell : Cell) (p : Pin) (b : Spot) (low : Bool) → IsPortOf cell p → IsNodeOf cell b → line_of (axis_of p.side) b ≡ p.place → is_low_side p.side ≡ low

@@ -1,5 +1,5 @@
 -- No poly wire leaves a buried contact where a diffusion wire does: in more nodes, in a copy, and with a new wire whose sides are free.
-use Rattle.std.proofs.Common.{◌≡◌, ℕ, zero, suc, ◌+◌, ◌<◌, ◌≤◌, ◌==◌, Bool, true, false, List, [], ◌∷◌, ◌++◌, length, map, get_or, refl, sym, ap, subst, ◌∙◌, inl, inr, arith}
+use Rattle.std.proofs.Common.{◌≡◌, ℕ, zero, suc, ◌+◌, ◌<◌, ◌≤◌, Bool, true, false, List, [], ◌∷◌, ◌++◌, length, map, get_or, refl, sym, ap, subst, ◌∙◌, inl, inr, arith}
 use Rattle.std.specs.Prelude.{IsTrue, not, ◌&&◌, ◌||◌, ◌⊎◌, if◌then◌else◌}
 use Rattle.std.specs.List.{AllByRecursion, list_all}
 use Rattle.std.proofs.lemmas.List.{length-map, get_or-map}
@@ -15,13 +15,13 @@ use Rattle.cell_model.specs.declared.cell.WireEnd.TheVariants as ends
 use Rattle.cell_model.specs.declared.cell.Wire.{Wire}
 use Rattle.cell_model.specs.declared.cell.Cell.{Cell}
 use Rattle.cell_model.specs.Wiring.{is_same_axis, is_same_layer}
-use Rattle.cell_model.specs.Sound.{node_at, wire_at, no_wire, IsEnd, IsWire, IsBuriedEnd, LeaveOneSide}
+use Rattle.cell_model.specs.Sound.{wire_at, no_wire, IsEnd, IsWire, IsBuriedEnd, LeaveOneSide}
 use Rattle.list_facts.proofs.Elements.{all_at}
 use Rattle.stick_cell.specs.declared.names.Terminal.{Terminal}
 use Rattle.stick_cell.specs.declared.names.Terminal.TheVariants as terminals
 use Rattle.stick_cell.specs.declared.names.Run.{Run}
 use Rattle.stick_cell.specs.Known.{copied_end, copied_wire}
-use Rattle.stick_cell.specs.Wires.{is_buried, is_node, leaves, is_side_free, are_sides_free, end_of, wire_along}
+use Rattle.stick_cell.specs.Wires.{is_buried, is_node, leaves, is_side_free, are_sides_free, end_of}
 use Rattle.stick_cell.proofs.Accepted.{both}
 use Rattle.stick_cell.proofs.GrownNames.{MoreNodes}
 use Rattle.stick_cell.proofs.GrownWires.{Holds}

@@ -1,36 +1,27 @@
 -- A line that is plain wire takes no side.
-use Rattle.std.proofs.Common.{◌≡◌, ℕ, ◌+◌, ◌<◌, ℤ, Bool, List, [], ◌∷◌, length, map, Result, Ok, Err, refl, sym, subst, ◌∙◌, arith}
-use Rattle.std.specs.Prelude.{◌==◌, not}
+use Rattle.std.proofs.Common.{◌≡◌, ℕ, ◌+◌, ◌<◌, List, [], ◌∷◌, length, map, Result, Ok, Err, refl, sym, subst, ◌∙◌}
 use Rattle.std.proofs.lemmas.List.{get_or-append-add, get_or-map}
 use Rattle.rule_table.specs.declared.technology.Tech.{Tech}
 use Rattle.rule_table.specs.declared.classes.Layer.{Layer}
 use Rattle.lam_geom.specs.declared.boxes.Side.{Side}
-use Rattle.stick_parse.specs.declared.fault.StickKind.{StickKind}
-use Rattle.stick_parse.specs.declared.fault.StickKind.TheVariants.{BadLimit}
 use Rattle.stick_parse.specs.declared.fault.LineFault.{LineFault}
 use Rattle.stick_parse.specs.declared.design.Form.{Form}
 use Rattle.stick_parse.specs.declared.design.Form.TheVariants as forms
 use Rattle.stick_parse.specs.Writable.{IsForm, IsName}
-use Rattle.stick_parse.specs.Reading.{◌>>=◌}
 use Rattle.cell_model.specs.declared.cell.Node.{Node}
 use Rattle.cell_model.specs.declared.cell.Limit.{Limit}
 use Rattle.cell_model.specs.Sound.{node_at, no_node}
-use Rattle.stick_cell.specs.declared.names.Spot.{Spot}
-use Rattle.stick_cell.specs.declared.names.Found.{Found}
 use Rattle.stick_cell.specs.declared.names.Thing.TheVariants as things
 use Rattle.stick_cell.specs.declared.growing.Growing.{Growing}
 use Rattle.stick_cell.specs.declared.sides.SideMap.{SideMap}
 use Rattle.stick_cell.specs.Known.{Known, known_at, with_node, with_port, with_limit, with_copy, copied_node}
-use Rattle.stick_cell.specs.Paths.{found_at}
-use Rattle.stick_cell.specs.Checks.{demand, layer_of}
-use Rattle.stick_cell.specs.Wires.{known_name, limited}
-use Rattle.stick_cell.specs.Lines.{axis_where, after_limit, after_form}
+use Rattle.stick_cell.specs.Checks.{layer_of}
+use Rattle.stick_cell.specs.Lines.{after_form}
 use Rattle.stick_cell.specs.Grown.{IsGrown, AreGrown}
 use Rattle.stick_cell.specs.Growing.{Grows, GrowsWith}
 use Rattle.stick_cell.specs.Sides.{TakenAt, side_entries, AreSidesOf}
-use Rattle.stick_cell.proofs.Accepted.{two_bound, demanded, ok_same}
 use Rattle.stick_cell.proofs.GrownNames.{more_nodes, same_nodes}
-use Rattle.stick_cell.proofs.Made.{IsWithNode, IsWithPort, IsWithCopy, joint_made, contact_made, buried_made, fet_made, port_made, use_made}
+use Rattle.stick_cell.proofs.Made.{IsWithNode, IsWithPort, IsWithCopy, joint_made, contact_made, buried_made, fet_made, port_made, use_made, limit_made}
 use Rattle.stick_cell.proofs.SidesKept.{sides_with, sides_copy}
 
 sides_node : (tech : Tech) (cells : List Known) (known : Known) (name : List ℕ) (col row : ℕ) (next : Known) (entries : TakenAt) → IsGrown tech cells known → IsWithNode tech known name col row next
@@ -62,21 +53,8 @@ sides_use tech cells known name col row next entries is cells_grown grown made a
     (sides_copy tech cells known after entries name (record { cell = made.number; first = length known.nodes; col = col; row = row }) is made.fresh refl refl
     (more_nodes known.nodes (map (copied_node name col row) used.nodes)) at grown.wires (cells_grown.grown made.number made.earlier).wires are)
 
-limit_made : (cells : List Known) (known : Known) (vertical : Bool) (a b : List ℕ) (at_most : Bool) (n : ℤ) (next : Known) → after_limit cells known vertical a b at_most n ≡ Ok next
-    → (limit : Limit) × (with_limit known limit ≡ next)
-unfolding after_limit
-limit_made cells known vertical a b at_most n next e =
-    let limit : Spot → Spot → Limit = λ first second. record { axis = axis_where vertical; a = first.number; b = second.number; at_most = at_most; n = n } in
-    let apart : Spot → Spot → Result Known StickKind = λ first second. demand (not (first.number == second.number)) BadLimit >>= λ u. Ok (with_limit known (limit first second)) in
-    let between : Found → Found → Result Known StickKind = λ from to. limited from >>= λ first. limited to >>= λ second. apart first second in
-    let named : (from : Found) × (to : Found) × (known_name (found_at cells known a) ≡ Ok from) × (known_name (found_at cells known b) ≡ Ok to) × (between from to ≡ Ok next) =
-    two_bound (known_name (found_at cells known a)) (known_name (found_at cells known b)) between next e in
-    let spots : (first : Spot) × (second : Spot) × (limited named.0 ≡ Ok first) × (limited named.1 ≡ Ok second) × (apart first second ≡ Ok next) = two_bound (limited named.0) (limited named.1) apart next named.4 in
-    let last = demanded (not (spots.0.number == spots.1.number)) BadLimit (Ok (with_limit known (limit spots.0 spots.1))) next spots.4 in
-    (limit spots.0 spots.1, ok_same (with_limit known (limit spots.0 spots.1)) next last.1)
-
-sides_limit : (cells : List Known) (known next : Known) (entries : TakenAt) → (limit : Limit) × (with_limit known limit ≡ next) → AreSidesOf cells known entries → AreSidesOf cells next entries
-sides_limit cells known next entries (limit, same) are = let P : Known → Type 0 = λ after. AreSidesOf cells after entries in subst P same are
+sides_limit : (cells : List Known) (known next : Known) (limit : Limit) (entries : TakenAt) → with_limit known limit ≡ next → AreSidesOf cells known entries → AreSidesOf cells next entries
+sides_limit cells known next limit entries same are = let P : Known → Type 0 = λ after. AreSidesOf cells after entries in subst P same are
 
 abbrev pub IsNoWire : Form → Type 0
 IsNoWire (forms.Wire layer a b width) = ⊥
@@ -94,7 +72,8 @@ sides_after tech cells known (forms.Port name side layer place) next entries pla
     sides_port tech cells known name side (layer_of layer) place next entries grown (port_made known name side layer place next e) sides
 sides_after tech cells known (forms.Inst name cell col row) next entries plain are is grown e sides = sides_use tech cells known name col row next entries is.0 are grown (use_made cells known name cell col row next e) sides
 sides_after tech cells known (forms.Wire layer a b width) next entries plain are is grown e sides = absurd plain
-sides_after tech cells known (forms.Limit vertical a b at_most n) next entries plain are is grown e sides = sides_limit cells known next entries (limit_made cells known vertical a b at_most n next e) sides
+sides_after tech cells known (forms.Limit vertical a b at_most n) next entries plain are is grown e sides =
+    let made = limit_made cells known vertical a b at_most n next e in sides_limit cells known next (made.limit) entries made.same sides
 
 -- and so what is kept of them tells of the cell after it
 pub grows_with : {X : Type 0} (tech : Tech) (cells : List Known) (known : Known) (form : Form) (result : Result X LineFault) (old new : Growing) → IsNoWire form → AreGrown tech cells → IsForm form → IsGrown tech cells known

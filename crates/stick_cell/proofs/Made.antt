@@ -9,7 +9,7 @@ use Rattle.rule_table.specs.declared.classes.Layer.{Layer}
 use Rattle.rule_table.specs.declared.classes.Layer.TheVariants as layers
 use Rattle.rule_table.specs.Technology.{has_buried_of}
 use Rattle.stick_parse.specs.declared.fault.StickKind.{StickKind}
-use Rattle.stick_parse.specs.declared.fault.StickKind.TheVariants.{RepeatedName, UseCycle, UseDepth, UsedPorts, FarPlace, BadSize, NoBuried}
+use Rattle.stick_parse.specs.declared.fault.StickKind.TheVariants.{RepeatedName, UseCycle, UseDepth, UsedPorts, FarPlace, BadSize, BadLimit, NoBuried}
 use Rattle.stick_parse.specs.declared.design.Layer.{Layer as DrawnLayer}
 use Rattle.stick_parse.specs.declared.design.Layer.TheVariants as drawn
 use Rattle.lam_geom.specs.declared.boxes.Side.{Side}
@@ -20,12 +20,16 @@ use Rattle.cell_model.specs.declared.cell.NodeKind.TheVariants as kinds
 use Rattle.cell_model.specs.declared.cell.Wire.{Wire}
 use Rattle.cell_model.specs.Sound.{IsKind}
 use Rattle.stick_cell.specs.declared.names.Found.{Found}
-use Rattle.stick_cell.specs.Known.{Known, Plug, begun, known_at, with_node, with_port, with_wire, with_copy, greatest_col, greatest_row}
+use Rattle.stick_cell.specs.declared.names.Found.TheVariants.{At}
+use Rattle.stick_cell.specs.declared.names.Spot.{Spot}
+use Rattle.stick_cell.specs.declared.names.Terminal.TheVariants.{Node as NodeEnd}
+use Rattle.cell_model.specs.declared.cell.Limit.{Limit}
+use Rattle.stick_cell.specs.Known.{Known, Plug, begun, known_at, with_node, with_port, with_wire, with_limit, with_copy, greatest_col, greatest_row}
 use Rattle.stick_cell.specs.Paths.{found_at}
 use Rattle.stick_cell.specs.Checks.{demand, layer_of, is_fresh, is_place, is_channel, sized}
-use Rattle.stick_cell.specs.Wires.{known_name, wire_between}
-use Rattle.stick_cell.specs.Lines.{axis_where, number_of, known_number, is_empty, wired_of, after_joint, after_contact, after_buried, after_fet, after_port, with_use, after_use, after_wire}
-use Rattle.stick_cell.proofs.Accepted.{bound, two_bound, demanded, two_demanded, both, ok_same, known_name_ok, known_number_ok, less_from_test, place_from_test}
+use Rattle.stick_cell.specs.Wires.{known_name, wire_between, limited}
+use Rattle.stick_cell.specs.Lines.{axis_where, number_of, known_number, is_empty, wired_of, after_joint, after_contact, after_buried, after_fet, after_port, with_use, after_use, after_wire, after_limit}
+use Rattle.stick_cell.proofs.Accepted.{bound, two_bound, demanded, two_demanded, both, ok_same, known_name_ok, known_number_ok, limited_ok, less_from_test, apart_from_test, place_from_test}
 use Rattle.stick_cell.proofs.GrownSizes.{size_of_sized, sizes_of_channel}
 
 -- ---- a node
@@ -180,4 +184,43 @@ wire_made tech cells known layer a b width next e =
       found_to = known_name_ok (found_at cells known b) named.1 named.3;
       between = made.1;
       same = ok_same (with_wire known made.0) next made.2;
+    }
+
+-- ---- a limit
+
+-- a limit between two nodes that two paths come to
+pub record IsWithLimit (cells : List Known) (known : Known) (a b : List ℕ) (n : ℤ) (next : Known) : Type 0 where
+  pub first : Spot
+  pub second : Spot
+  pub found_first : found_at cells known a ≡ Some (At (NodeEnd first))
+  pub found_second : found_at cells known b ≡ Some (At (NodeEnd second))
+  pub limit : Limit
+  pub from : limit.a ≡ first.number
+  pub to : limit.b ≡ second.number
+  pub number : limit.n ≡ n
+  pub apart : limit.a ≡ limit.b → ⊥
+  pub same : with_limit known limit ≡ next
+
+pub limit_made : (cells : List Known) (known : Known) (vertical : Bool) (a b : List ℕ) (at_most : Bool) (n : ℤ) (next : Known) → after_limit cells known vertical a b at_most n ≡ Ok next
+    → IsWithLimit cells known a b n next
+unfolding after_limit
+limit_made cells known vertical a b at_most n next e =
+    let limit : Spot → Spot → Limit = λ first second. record { axis = axis_where vertical; a = first.number; b = second.number; at_most = at_most; n = n } in
+    let apart : Spot → Spot → Result Known StickKind = λ first second. demand (not (first.number == second.number)) BadLimit >>= λ u. Ok (with_limit known (limit first second)) in
+    let between : Found → Found → Result Known StickKind = λ from to. limited from >>= λ first. limited to >>= λ second. apart first second in
+    let named : (from : Found) × (to : Found) × (known_name (found_at cells known a) ≡ Ok from) × (known_name (found_at cells known b) ≡ Ok to) × (between from to ≡ Ok next) =
+    two_bound (known_name (found_at cells known a)) (known_name (found_at cells known b)) between next e in
+    let spots : (first : Spot) × (second : Spot) × (limited named.0 ≡ Ok first) × (limited named.1 ≡ Ok second) × (apart first second ≡ Ok next) = two_bound (limited named.0) (limited named.1) apart next named.4 in
+    let last = demanded (not (spots.0.number == spots.1.number)) BadLimit (Ok (with_limit known (limit spots.0 spots.1))) next spots.4 in
+    record {
+      first = spots.0;
+      second = spots.1;
+      found_first = known_name_ok (found_at cells known a) named.0 named.2 ∙ ap (λ (f : Found). Some f) (limited_ok named.0 spots.0 spots.2);
+      found_second = known_name_ok (found_at cells known b) named.1 named.3 ∙ ap (λ (f : Found). Some f) (limited_ok named.1 spots.1 spots.3);
+      limit = limit spots.0 spots.1;
+      from = refl;
+      to = refl;
+      number = refl;
+      apart = apart_from_test spots.0.number spots.1.number last.0;
+      same = ok_same (with_limit known (limit spots.0 spots.1)) next last.1;
     }

@@ -8,7 +8,7 @@ use Rattle.std.proofs.lemmas.List.Splits.{slice_split_none, slice_split_at}
 use Rattle.std.proofs.lemmas.Bool.{cases_lt}
 use Rattle.std.proofs.lemmas.Slice.Eq.{bytes_eq-Decides}
 use Rattle.list_facts.proofs.Elements.{all_of}
-use Rattle.stick_lex.specs.Tokens.{is_name, is_name_byte, names}
+use Rattle.stick_lex.specs.Tokens.{is_name_byte, names}
 use Rattle.stick_parse.specs.Writable.{IsName}
 use Rattle.cell_model.specs.declared.cell.Node.{Node}
 use Rattle.cell_model.specs.Sound.{node_at, no_node}

@@ -106,14 +106,14 @@ of_ports : (s t : Side) (m n : ℕ) (run : Run) → Judges (straight (cond (is_s
     (λ kind. (kind ≡ NotStraight) × (IsOpposite s t → m ≢ n))
 of_ports Left Right m n run = of_opposite m n run
 of_ports Right Left m n run = of_opposite m n run
-of_ports Bottom Top m n run = of_opposite m n run
-of_ports Top Bottom m n run = of_opposite m n run
 of_ports Left Left m n run = fails NotStraight (refl, λ is. absurd is)
 of_ports Left Bottom m n run = fails NotStraight (refl, λ is. absurd is)
 of_ports Left Top m n run = fails NotStraight (refl, λ is. absurd is)
 of_ports Right Right m n run = fails NotStraight (refl, λ is. absurd is)
+of_ports Bottom Top m n run = of_opposite m n run
 of_ports Right Bottom m n run = fails NotStraight (refl, λ is. absurd is)
 of_ports Right Top m n run = fails NotStraight (refl, λ is. absurd is)
+of_ports Top Bottom m n run = of_opposite m n run
 of_ports Bottom Left m n run = fails NotStraight (refl, λ is. absurd is)
 of_ports Bottom Right m n run = fails NotStraight (refl, λ is. absurd is)
 of_ports Bottom Bottom m n run = fails NotStraight (refl, λ is. absurd is)

@@ -1,5 +1,5 @@
 -- Where the code finds the sides of a run's ends open, they are free; and the sides that are kept with a wire along the run.
-use Rattle.std.proofs.Common.{◌≡◌, ℕ, ◌<◌, ◌==◌, Bool, true, false, List, [], ◌∷◌, length, refl, sym, ap, subst, ◌∙◌}
+use Rattle.std.proofs.Common.{◌≡◌, ℕ, ◌==◌, Bool, true, false, List, [], ◌∷◌, refl, sym, ap, subst, ◌∙◌}
 use Rattle.std.specs.Prelude.{IsTrue, not, ◌&&◌, ◌||◌, ℤ, bytes_eq, if◌then◌else◌}
 use Rattle.std.specs.List.{AllByRecursion, list_all, list_any}
 use Rattle.std.proofs.lemmas.Bool.{false_from_ne_true}
@@ -25,7 +25,7 @@ use Rattle.stick_cell.specs.declared.names.Terminal.TheVariants as terminals
 use Rattle.stick_cell.specs.Known.{Known, cell_of, with_wire}
 use Rattle.stick_cell.specs.Grown.{IsSpot, ArePathsApart, IsGrown}
 use Rattle.stick_cell.specs.Wires.{is_buried, is_node, leaves, is_side_free, are_sides_free, wire_along}
-use Rattle.stick_cell.specs.Sides.{is_buried_at, leaves_at, is_left, is_taken, is_buried_end, is_open, are_open, TakenAt, IsMarkedIf, AreMarked, AreSidesOf}
+use Rattle.stick_cell.specs.Sides.{is_buried_at, leaves_at, is_taken, is_buried_end, is_open, are_open, TakenAt, IsMarkedIf, AreMarked, AreSidesOf}
 use Rattle.stick_cell.proofs.Accepted.{eq_from_test}
 use Rattle.stick_cell.proofs.GrownNames.{IsAt}
 use Rattle.stick_cell.proofs.GrownRuns.{IsRunBetween}

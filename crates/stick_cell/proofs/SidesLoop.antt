@@ -1,5 +1,5 @@
 -- The sides that are kept of each cell, with those of one more.
-use Rattle.std.proofs.Common.{◌≡◌, ℕ, ◌<◌, ◌≤◌, ◌≢◌, Bool, List, [], ◌∷◌, ◌++◌, length, take, map, get_or, Option, Some, None, refl, sym, ap, subst, inl, inr, ◌∙◌, arith}
+use Rattle.std.proofs.Common.{◌≡◌, ℕ, ◌<◌, ◌≤◌, ◌≢◌, Bool, List, [], ◌∷◌, ◌++◌, length, map, get_or, Option, Some, None, refl, sym, ap, subst, inl, inr, ◌∙◌, arith}
 use Rattle.std.specs.Prelude.{◌⊎◌, ◌||◌}
 use Rattle.std.specs.List.{join_with_byte}
 use Rattle.std.proofs.lemmas.List.{map-append, length-map, length-append, get_or_push, get_or_append_left}
@@ -13,7 +13,7 @@ use Rattle.stick_cell.specs.declared.names.Thing.{Thing}
 use Rattle.stick_cell.specs.declared.names.Thing.TheVariants as things
 use Rattle.stick_cell.specs.declared.table.Table.{Table}
 use Rattle.stick_cell.specs.Known.{Known, begun, known_at}
-use Rattle.stick_cell.specs.Paths.{Names, named, copy_of}
+use Rattle.stick_cell.specs.Paths.{named, copy_of}
 use Rattle.stick_cell.specs.Grown.{IsGrown, AreGrown}
 use Rattle.stick_cell.specs.Tables.{AreTables}
 use Rattle.stick_cell.specs.Sides.{is_left, is_left_in, is_left_inside, has, TakenAt, taken_at, side_entries, AreSidesOf, sides_at, HaveSides}

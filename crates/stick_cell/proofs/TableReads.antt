@@ -70,3 +70,7 @@ vec_len-tables cells is = omega (arith, length-tables (known_of cells) cells.tab
 -- the table that is read at a cell's number
 pub table_read : (cells : Cells) (k : ℕ) (table : Table) → IsResolved cells → k < length (known_of cells) → table ≡ get_or cells.tables.items k table → IsTableOf (known_at (known_of cells) k) table
 table_read cells k table is lt e = table_at (known_of cells) cells.tables.items k table is.tables lt e
+
+-- an element of a list that is lent
+pub element_at : {X : Type 0} (xs lent : List X) (i : ℕ) (x : X) → lent ≡ xs → i < length lent → x ≡ get_or lent i x → (i < length xs) × (x ≡ get_or xs i x)
+element_at xs lent i x same lt at = (omega (arith, lt, ap length same), at ∙ ap (λ l. get_or l i x) same)

@@ -43,6 +43,7 @@ use Rattle.stick_cell.proofs.FoundNodes.{IsNodeOf, near-found, same_number}
 use Rattle.stick_cell.proofs.GrownNames.{at_end_of}
 use Rattle.stick_cell.proofs.GrownRuns.{IsRunBetween, run_between_paths}
 use Rattle.stick_cell.proofs.LineSteps.{bind_assoc}
+use Rattle.stick_cell.specs.Tables.{Tells}
 use Rattle.stick_cell.proofs.KeptWires.{result_map, capped_run, run_of-kept, wire_where-capped, limited-kept}
 use Rattle.stick_cell.specs.Known.{Known, Plug, cell_of, no_plug, plug_at, plugged, with_wire, with_limit}
 use Rattle.stick_cell.specs.Counts.{weight_of, capped}
@@ -181,23 +182,9 @@ wire-along tech known layer its width real run are_free wired r is free held sam
 
 -- the same cell, whatever is kept of its sides
 pub other_sides : (cells : List Known) (known : Known) (growing : Growing) (sides : SideMap) → IsGrowing cells known growing → IsGrowing cells known (record growing { table = record growing.table { sides = sides } })
-other_sides cells known growing sides is = record {
-  tells = record {
-    name = is.tells.name;
-    names = is.tells.names;
-    nodes = is.tells.nodes;
-    wires = is.tells.wires;
-    weight = is.tells.weight;
-    boxes = is.tells.boxes;
-    most_col = is.tells.most_col;
-    most_row = is.tells.most_row;
-    depth = is.tells.depth;
-  };
-  ports = is.ports;
-  wired = is.wired;
-  steps = is.steps;
-  below = is.below;
-}
+other_sides cells known growing sides is =
+    let tells : Tells known (record growing.table { sides = sides }) = let t = is.tells in record { name = t.name; names = t.names; nodes = t.nodes; wires = t.wires; weight = t.weight; boxes = t.boxes; most_col = t.most_col; most_row = t.most_row; depth = t.depth } in
+    record { tells = tells; ports = is.ports; wired = is.wired; steps = is.steps; below = is.below }
 
 -- the fault of a line, passed on
 pub with-residual : {X : Type 0} (cells : List Known) (result : Result X LineFault) (growing : Growing) (read : Result Known StickKind) (kind : StickKind)

@@ -5,7 +5,7 @@ ghost use Rattle.stick_cell.specs.Known.{Known};
 ghost use Rattle.stick_cell.specs.Kept.{capped_names};
 ghost use Rattle.stick_cell.specs.NameEntries.{entries_of};
 ghost use Rattle.stick_cell.specs.Tables.{AreTables};
-ghost use Rattle.stick_cell.specs.Sides.{is_left, is_taken, is_open, are_open, is_buried_end, side_entries, AreSidesOf, HaveSides, IsMarkedIf, AreMarked};
+ghost use Rattle.stick_cell.specs.Sides.{is_left, is_open, are_open, is_buried_end, side_entries, AreSidesOf, HaveSides, IsMarkedIf, AreMarked};
 
 use crate::names::{Run, Terminal};
 use crate::paths::split_first;
@@ -45,33 +45,15 @@ fn is_left(
     is_left(tables, used, rest, layer, along, is_low)
 }
 
-/// Whether a wire of another layer does.
-fn is_taken(
-    tables: &[Table],
-    table: &Table,
-    path: &[u8],
-    layer: Layer,
-    along: Axis2,
-    is_low: bool,
-) -> bool
-    ensures { (cells : List Known) (known : Known) → AreTables cells tables.now → HaveSides cells tables.now → entries_of table.now.names ≡ capped_names known.names
-        → AreSidesOf cells known (side_entries table.now.sides) → result ≡ is_taken known path.now layer along is_low }
-{
-    let poly = is_left(tables, table, path, Layer::Poly, along, is_low);
-    let diffusion = is_left(tables, table, path, Layer::Diffusion, along, is_low);
-    (!is_same_layer(Layer::Poly, layer) && poly)
-        || (!is_same_layer(Layer::Diffusion, layer) && diffusion)
-}
-
 /// Whether the terminal of a path is no buried contact, or one that no wire of another layer leaves there.
 fn is_open(
     tables: &[Table],
     table: &Table,
-    end: Terminal,
-    path: &[u8],
     layer: Layer,
     along: Axis2,
     is_low: bool,
+    end: Terminal,
+    path: &[u8],
 ) -> bool
     ensures { (cells : List Known) (known : Known) → AreTables cells tables.now → HaveSides cells tables.now → entries_of table.now.names ≡ capped_names known.names
         → AreSidesOf cells known (side_entries table.now.sides) → result ≡ is_open known end path.now layer along is_low }
@@ -79,7 +61,11 @@ fn is_open(
     if !is_buried_end(end) {
         return true;
     }
-    !is_taken(tables, table, path, layer, along, is_low)
+    let poly = is_left(tables, table, path, Layer::Poly, along, is_low);
+    let diffusion = is_left(tables, table, path, Layer::Diffusion, along, is_low);
+    let is_taken = (!is_same_layer(Layer::Poly, layer) && poly)
+        || (!is_same_layer(Layer::Diffusion, layer) && diffusion);
+    !is_taken
 }
 
 /// Whether both ends of a run are, given the paths to its low and its high end. It takes no memory.
@@ -94,8 +80,8 @@ pub fn are_open(
     ensures { (cells : List Known) (known : Known) → AreTables cells tables.now → HaveSides cells tables.now → entries_of table.now.names ≡ capped_names known.names
         → AreSidesOf cells known (side_entries table.now.sides) → result ≡ are_open known run low.now high.now layer }
 {
-    is_open(tables, table, run.low, low, layer, run.along, true)
-        && is_open(tables, table, run.high, high, layer, run.along, false)
+    is_open(tables, table, layer, run.along, true, run.low, low)
+        && is_open(tables, table, layer, run.along, false, run.high, high)
 }
 
 /// Of two paths whose terminals a run joins, the one to its low end and the one to its high end.

@@ -21,7 +21,7 @@ use stick_parse::{CellText, Design, LineFault, ParseFault as ResolveFault, Stick
 /// The cells of a design, whose names and sizes meet the checks, line by line against the lines before.
 ///
 /// A design that does not meet them is refused with its first fault: the line, and the kind, one of the sixth to the
-/// twentieth. Want of memory is `OutOfMemory`. Each cell is sound, also one that is too heavy to be inlined.
+/// twenty-first. Want of memory is `OutOfMemory`. Each cell is sound, also one that is too heavy to be inlined.
 pub fn resolve<'a>(
     alloc: Global,
     design: &'a Design,

@@ -1,12 +1,13 @@
 //! Where wires run, and which terminals take them.
-ghost use Rattle.std.specs.Prelude.{◌≡◌, ℕ, Bool, List, Option, Err};
+ghost use Rattle.std.specs.Prelude.{◌≡◌, ◌==◌, ℕ, Bool, List, Option, Some, None, Err, if◌then◌else◌};
 ghost use Rattle.rule_table.specs.declared.technology.Tech.{Tech};
 ghost use Rattle.rule_table.specs.declared.classes.Layer.{Layer};
 ghost use Rattle.stick_parse.specs.declared.fault.StickKind.{StickKind};
 ghost use Rattle.stick_cell.specs.declared.names.Found.{Found};
 ghost use Rattle.stick_cell.specs.Refusals.{IsRefusedWire};
+ghost use Rattle.cell_model.specs.Wiring.{axis_of};
 ghost use Rattle.cell_model.specs.declared.cell.Wire.{Wire};
-ghost use Rattle.stick_cell.specs.Wires.{wire_between, wire_where, run_of, terminal, line_of, run_along, run_from_port, run_to_port, run_between, takes_layer, takes_along, is_buried, is_free, fills_pad, is_within_pad, end_of, at_both, limited};
+ghost use Rattle.stick_cell.specs.Wires.{wire_between, wire_where, run_of, terminal, line_of, run_along, run_between, takes_layer, takes_along, is_buried, is_free, fills_pad, is_within_pad, end_of, at_both, limited};
 
 use crate::checks::sized;
 use crate::names::{Found, Pin, Run, Spot, Terminal};
@@ -135,8 +136,12 @@ fn run_between(a: Terminal, b: Terminal) -> Option<Run>
 {
     match (a, b) {
         (Terminal::Node(from), Terminal::Node(to)) => run_between_nodes(from, to),
-        (Terminal::Node(from), Terminal::Port(to)) => run_to_port(from, to),
-        (Terminal::Port(from), Terminal::Node(to)) => run_from_port(from, to),
+        (Terminal::Node(node), Terminal::Port(port)) => {
+            run_at_port(port, node, !is_low_side(port.side), a, b)
+        }
+        (Terminal::Port(port), Terminal::Node(node)) => {
+            run_at_port(port, node, is_low_side(port.side), a, b)
+        }
         (Terminal::Port(from), Terminal::Port(to)) => run_between_ports(from, to),
     }
 }
@@ -156,34 +161,14 @@ fn run_between_nodes(a: Spot, b: Spot) -> Option<Run>
     }
 }
 
-// A left or right port lies in the row of the node, a bottom or top port in its column.
-fn run_from_port(p: Pin, b: Spot) -> Option<Run>
-    ensures { result ≡ run_from_port p b }
-{
-    let along = Axis2::of_side(p.side);
-    if line_of(along, b) == p.place {
-        Some(run_along(
-            along,
-            is_low_side(p.side),
-            Terminal::Port(p),
-            Terminal::Node(b),
-        ))
-    } else {
-        None
-    }
-}
-
-fn run_to_port(a: Spot, q: Pin) -> Option<Run>
-    ensures { result ≡ run_to_port a q }
+// The run along the axis of a port's side between the port and a node, in either order: a left or right port lies in the
+// row of the node, a bottom or top port in its column.
+fn run_at_port(q: Pin, a: Spot, is_low: bool, from: Terminal, to: Terminal) -> Option<Run>
+    ensures { result ≡ (if line_of (axis_of q.side) a == q.place then Some (run_along (axis_of q.side) is_low from to) else None) }
 {
     let along = Axis2::of_side(q.side);
     if line_of(along, a) == q.place {
-        Some(run_along(
-            along,
-            !is_low_side(q.side),
-            Terminal::Node(a),
-            Terminal::Port(q),
-        ))
+        Some(run_along(along, is_low, from, to))
     } else {
         None
     }

@@ -1,5 +1,4 @@
-use Rattle.std.proofs.Common.{◌≡◌, ◌∷◌, false, Some, sym, ap, ◌∙◌}
-use Rattle.stick_lex.specs.Tokens.{names}
+use Rattle.std.proofs.Common.{◌≡◌, false, Some, sym, ap, ◌∙◌}
 use Rattle.stick_cell.specs.Known.{known_at}
 use Rattle.stick_cell.specs.NameEntries.{entries_of}
 use Rattle.stick_cell.specs.Sides.{is_left_in, side_entries, has, taken_at}

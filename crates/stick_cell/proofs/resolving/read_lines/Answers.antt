@@ -1,23 +1,20 @@
-use Rattle.std.proofs.Common.{◌≡◌, ℕ, ◌<◌, ◌≤◌, List, length, get_or, refl, sym, ap, subst, ◌∙◌, arith}
+use Rattle.std.proofs.Common.{ℕ, ◌≤◌, List, length, refl, sym, ap, subst, ◌∙◌, arith}
 use Rattle.stick_cell.specs.Known.{begun}
 use Rattle.stick_cell.specs.Growing.{IsGrowing}
 use Rattle.stick_cell.specs.Sides.{side_entries}
 use Rattle.stick_cell.proofs.SidesKept.{sides_none}
 use Rattle.stick_cell.proofs.Grown.{grown-begun, grown-after_form}
+use Rattle.stick_cell.proofs.TableReads.{element_at}
 use Rattle.stick_cell.proofs.LineLoop.{lines-next, lines-refused, lines-end, form-at}
 use Rattle.stick_cell.proofs.resolving.read_lines.Goals as goal
 
 pub returns-in-Err : goal.returns-in-Err
 returns-in-Err c = λ cells are tables have.
-    let tech = c.args.tech.now in
-    let lines = c.args.text.now.lines in
-    let i = c.loop-line.line-index in
-    let line = c.line-item.result in
     let so_far = c.loop-line.invariant cells are tables have in
-    let lt : i < length lines = omega (arith, c.loop-line-test.true, ap length c.as_slice-line-items.ensures) in
-    let at : line ≡ get_or lines i line = c.line-item.is ∙ ap (λ xs. get_or xs i line) c.as_slice-line-items.ensures in
-    let form = form-at lines i line c.requires.is_cell.1 lt at in
-    lines-refused tech cells so_far.0 lines i line c.in-Err.fault c.at_line.result _ lt at (c.in-Err.ensures cells so_far.0 are tables have form so_far.3 so_far.1 so_far.2) c.at_line.ensures so_far.4
+    let (lt, at) = element_at c.args.text.now.lines c.as_slice-line-items.result.now c.loop-line.line-index c.line-item.result c.as_slice-line-items.ensures c.loop-line-test.true c.line-item.is in
+    let form = form-at c.args.text.now.lines c.loop-line.line-index c.line-item.result c.requires.is_cell.1 lt at in
+    lines-refused c.args.tech.now cells so_far.0 c.args.text.now.lines c.loop-line.line-index c.line-item.result c.in-Err.fault c.at_line.result _ lt at
+    (c.in-Err.ensures cells so_far.0 are tables have form so_far.3 so_far.1 so_far.2) c.at_line.ensures so_far.4
 
 pub loop-line-init : goal.loop-line-init
 loop-line-init c = λ cells are tables have.
@@ -37,8 +34,7 @@ loop-line-preserved c = λ cells are tables have.
     let i = c.loop-line.line-index in
     let line = c.line-item.result in
     let so_far = c.loop-line.invariant cells are tables have in
-    let lt : i < length lines = omega (arith, c.loop-line-test.true, ap length c.as_slice-line-items.ensures) in
-    let at : line ≡ get_or lines i line = c.line-item.is ∙ ap (λ xs. get_or xs i line) c.as_slice-line-items.ensures in
+    let (lt, at) = element_at lines c.as_slice-line-items.result.now i line c.as_slice-line-items.ensures c.loop-line-test.true c.line-item.is in
     let form = form-at lines i line c.requires.is_cell.1 lt at in
     let next = c.in-Ok.ensures cells so_far.0 are tables have form so_far.3 so_far.1 so_far.2 in (
       next.0,

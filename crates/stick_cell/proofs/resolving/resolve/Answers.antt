@@ -10,8 +10,8 @@ use Rattle.stick_cell.specs.Tables.{AreTables, HaveSteps, cells_or_none}
 use Rattle.stick_cell.specs.Sides.{HaveSides}
 use Rattle.stick_cell.proofs.SidesLoop.{have_sides-push}
 use Rattle.stick_cell.proofs.Grown.{are_grown-none, are_grown-append, grown-after_cell, sound-known_at}
-use Rattle.stick_cell.proofs.TableReads.{length-known_cells}
-use Rattle.stick_cell.proofs.CellLoop.{gives-residual, cells-refused, cells-next, cells-end, cell-at, tables-push, have_steps-push}
+use Rattle.stick_cell.proofs.TableReads.{length-known_cells, element_at}
+use Rattle.stick_cell.proofs.CellLoop.{gives-residual, lent_tables, cells-refused, cells-next, cells-end, cell-at, tables-push, have_steps-push}
 use Rattle.stick_cell.proofs.resolving.resolve.Goals as goal
 
 pub loop-text-init : goal.loop-text-init
@@ -48,17 +48,11 @@ loop-text-preserved c =
 
 pub returns-in_err-table-clause-cells : goal.returns-in_err-table-clause-cells
 returns-in_err-table-clause-cells c =
-    let tech = c.args.tech.now in
-    let texts = c.args.design.now.cells in
-    let i = c.loop-text.text-index in
-    let text = c.text-item.result in
     let so_far = c.loop-text.invariant in
-    let lt : i < length texts = omega (arith, c.loop-text-test.true, ap length c.as_slice-text-items.ensures) in
-    let at : text ≡ get_or texts i text = c.text-item.is ∙ ap (λ xs. get_or xs i text) c.as_slice-text-items.ensures in
-    let tables : AreTables so_far.0 c.as_slice.result.now = let P : List Table → Type 0 = λ tables. AreTables so_far.0 tables in subst P (sym c.as_slice.ensures.value) so_far.1 in
-    let have : HaveSides so_far.0 c.as_slice.result.now = subst (HaveSides so_far.0) (sym c.as_slice.ensures.value) so_far.6 in
-    let fault = c.in_err-table.field-0.0 in
-    gives-residual c.from_residual.result fault _ c.from_residual.ensures.1 (cells-refused tech so_far.0 texts i text fault _ lt at (c.in_err-table.ensures so_far.0 so_far.2 tables have) so_far.3)
+    let here = element_at c.args.design.now.cells c.as_slice-text-items.result.now c.loop-text.text-index c.text-item.result c.as_slice-text-items.ensures c.loop-text-test.true c.text-item.is in
+    let lent = lent_tables so_far.0 c.loop-text.tables.items c.as_slice.result.now c.as_slice.ensures.value so_far.1 so_far.6 in
+    gives-residual c.from_residual.result c.in_err-table.field-0.0 _ c.from_residual.ensures.1
+    (cells-refused c.args.tech.now so_far.0 c.args.design.now.cells c.loop-text.text-index c.text-item.result c.in_err-table.field-0.0 _ here.0 here.1 (c.in_err-table.ensures so_far.0 so_far.2 lent.0 lent.1) so_far.3)
 
 pub returns-clause-number : goal.returns-clause-number
 returns-clause-number c =

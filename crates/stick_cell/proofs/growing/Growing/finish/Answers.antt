@@ -13,17 +13,7 @@ returns-clause-table c = λ cells known is.
     elim c.if-table-gt-MOST_ITEMS.branch [
       | then-table-gt-MOST_ITEMS w ↦
           subst P (sym w.table-is) (record {
-            tells = record {
-              name = is.tells.name;
-              names = is.tells.names;
-              nodes = is.tells.nodes;
-              wires = is.tells.wires;
-              weight = is.tells.weight;
-              boxes = is.tells.boxes;
-              most_col = is.tells.most_col;
-              most_row = is.tells.most_row;
-              depth = is.tells.depth;
-            };
+            tells = let t = is.tells in record { name = t.name; names = t.names; nodes = t.nodes; wires = t.wires; weight = t.weight; boxes = t.boxes; most_col = t.most_col; most_row = t.most_row; depth = t.depth };
             ports = ports-forgotten cells known growing w.forget_wires.new.ports.items is w.if-table-gt-MOST_ITEMS.true w.forget_wires.ensures;
           })
       | else-table-gt-MOST_ITEMS w ↦

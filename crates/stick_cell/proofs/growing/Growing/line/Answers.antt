@@ -1,5 +1,4 @@
-use Rattle.std.proofs.Common.{◌≡◌, sym, subst, rules}
-use Rattle.stick_parse.specs.declared.design.Form.{Form}
+use Rattle.std.proofs.Common.{sym, subst, rules}
 use Rattle.stick_cell.specs.Lines.{after_form}
 use Rattle.stick_cell.specs.Growing.{Grows}
 use Rattle.stick_cell.proofs.LineSides.{IsNoWire, grows_with}

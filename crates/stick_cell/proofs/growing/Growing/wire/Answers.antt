@@ -1,4 +1,4 @@
-use Rattle.std.proofs.Common.{◌≡◌, Bool, List, Ok, sym, ap, subst, ◌∙◌}
+use Rattle.std.proofs.Common.{◌≡◌, List, Ok, sym, ap, subst, ◌∙◌}
 use Rattle.stick_parse.specs.Reading.{◌>>=◌}
 use Rattle.rule_table.specs.declared.classes.Layer.{Layer}
 use Rattle.cell_model.specs.declared.cell.Wire.{Wire}
@@ -6,17 +6,22 @@ use Rattle.stick_cell.specs.declared.names.Run.{Run}
 use Rattle.stick_cell.specs.declared.sides.SideMap.{SideMap}
 use Rattle.stick_cell.specs.Checks.{layer_of}
 use Rattle.stick_cell.specs.Wires.{are_sides_free, wire_where}
-use Rattle.stick_cell.specs.Lines.{wired_of}
-use Rattle.stick_cell.specs.Known.{with_wire}
+use Rattle.stick_cell.specs.Lines.{wired_of, after_wire}
+use Rattle.stick_cell.specs.Known.{Known, with_wire}
 use Rattle.stick_cell.specs.Kept.{capped_wire}
-use Rattle.stick_cell.specs.Sides.{side_entries, AreSidesOf, AreMarked}
+use Rattle.stick_cell.specs.Sides.{side_entries, AreSidesOf, HaveSides, AreMarked}
 use Rattle.stick_cell.proofs.GrownForms.{wire_grown}
-use Rattle.stick_cell.proofs.GrownRuns.{checks_met}
+use Rattle.stick_cell.proofs.GrownRuns.{IsRunBetween, checks_met}
 use Rattle.stick_cell.proofs.Made.{wire_made}
-use Rattle.stick_cell.proofs.KeptWires.{capped_run}
+use Rattle.stick_cell.proofs.KeptWires.{result_map, capped_run}
 use Rattle.stick_cell.proofs.SidesFree.{open-free, sides_marked}
 use Rattle.stick_cell.proofs.WireSteps.{wire-unknown, wire-unknown_end, wire-run, wire-along, wired_along, other_sides, with-residual, ends_of_added, result_map-err, result_map-ok}
+use Rattle.stick_parse.specs.Writable.{IsPath}
+use Rattle.stick_cell.specs.Grown.{IsGrown, AreGrown}
+use Rattle.stick_cell.specs.Tables.{AreTables}
+use Rattle.stick_cell.specs.Growing.{IsGrowing}
 use Rattle.stick_cell.proofs.growing.Growing.wire.Goals as goal
+use Rattle.stick_cell.proofs.growing.Growing.wire.Goals.{After-wire_where}
 
 pub returns-in_err-from : goal.returns-in_err-from
 returns-in_err-from c = λ cells known are tables have path_a path_b grown is sides.
@@ -42,11 +47,15 @@ returns-in_err-run c = λ cells known are tables have path_a path_b grown is sid
     with-residual cells c.from_residual-in_err-run.result a.self.now _ k c.from_residual-in_err-run.ensures.1
     (run.1 ∙ ap (λ r. r >>= wired_along a.tech.now known (layer_of a.layer) a.width) (result_map-err capped_run run.0 k (sym run.2 ∙ c.in_err-run.was)))
 
-pub returns-in_err-wire : goal.returns-in_err-wire
-returns-in_err-wire c = λ cells known are tables have path_a path_b grown is sides.
+-- the wire along what is kept of the run is what is kept of the wire along the run
+along : (c : After-wire_where) (cells : List Known) (known : Known) → AreGrown c.args.tech.now cells → AreTables cells c.args.tables.now → HaveSides cells c.args.tables.now → IsPath c.args.a.now → IsPath c.args.b.now
+    → IsGrown c.args.tech.now cells known → IsGrowing cells known c.args.self.now → AreSidesOf cells known (side_entries c.args.self.now.table.sides)
+    → (real : Run) × (after_wire c.args.tech.now cells known c.args.layer c.args.a.now c.args.b.now c.args.width ≡ wired_along c.args.tech.now known (layer_of c.args.layer) c.args.width real)
+    × (c.in_ok-run.run' ≡ capped_run real) × IsRunBetween known c.args.a.now c.args.b.now real
+    × (c.wire_where.result ≡ result_map capped_wire (wire_where (are_sides_free known.wires (layer_of c.args.layer) real) c.args.tech.now (wired_of known) (layer_of c.args.layer) c.args.width real))
+along c cells known are tables have path_a path_b grown is sides =
     let a = c.args in
     let layer : Layer = layer_of a.layer in
-    let k = c.in_err-wire.field-0.0 in
     let run = wire-run a.tech.now cells known a.layer a.a.now a.b.now a.width c.in_ok-from.from c.in_ok-to.to c.run_of.result are path_a path_b grown
     (sym (c.found.ensures cells known tables is) ∙ c.in_ok-from.was) (sym (c.found-2.ensures cells known tables is) ∙ c.in_ok-to.was) c.run_of.ensures in
     let real = result_map-ok capped_run run.0 c.in_ok-run.run' (sym run.2 ∙ c.in_ok-run.was) in
@@ -54,41 +63,42 @@ returns-in_err-wire c = λ cells known are tables have path_a path_b grown is si
     let free : c.are_open-are_free.result ≡ are_sides_free known.wires layer real.0 =
     c.are_open-are_free.ensures cells known tables have is.tells.names sides
     ∙ open-free a.tech.now cells known a.a.now a.b.now c.paths_of.result.0.now c.paths_of.result.1.now c.layer_of-layer.result real.0 c.in_ok-run.run' grown between real.2 c.paths_of.ensures.low c.paths_of.ensures.high
-    ∙ ap (λ l. are_sides_free known.wires l real.0) c.layer_of-layer.ensures in
-    let along = wire-along a.tech.now known layer c.layer_of-layer.result a.width real.0 c.in_ok-run.run' c.are_open-are_free.result c.as_slice.result.now c.wire_where.result real.2 free
-    (c.as_slice.ensures.value ∙ is.wired) c.layer_of-layer.ensures c.wire_where.ensures in
+    ∙ ap (λ l. are_sides_free known.wires l real.0) c.layer_of-layer.ensures in (
+      real.0,
+      run.1 ∙ ap (λ r. r >>= wired_along a.tech.now known layer a.width) real.1,
+      real.2,
+      between,
+      wire-along a.tech.now known layer c.layer_of-layer.result a.width real.0 c.in_ok-run.run' c.are_open-are_free.result c.as_slice.result.now c.wire_where.result real.2 free
+          (c.as_slice.ensures.value ∙ is.wired) c.layer_of-layer.ensures c.wire_where.ensures,
+    )
+
+pub returns-in_err-wire : goal.returns-in_err-wire
+returns-in_err-wire c = λ cells known are tables have path_a path_b grown is sides.
+    let a = c.args in
+    let k = c.in_err-wire.field-0.0 in
+    let (real, read, kept, between, seen) = along ((goal.at.returns-in_err-wire c).After-wire_where) cells known are tables have path_a path_b grown is sides in
     with-residual cells c.from_residual-in_err-wire.result a.self.now _ k c.from_residual-in_err-wire.ensures.1
-    (run.1 ∙ ap (λ r. r >>= wired_along a.tech.now known layer a.width) real.1
-    ∙ ap (λ r. r >>= (λ wire. Ok (with_wire known wire)))
-    (result_map-err capped_wire (wire_where (are_sides_free known.wires layer real.0) a.tech.now (wired_of known) layer a.width real.0) k (sym along ∙ c.in_err-wire.was)))
+    (read ∙ ap (λ r. r >>= (λ wire. Ok (with_wire known wire)))
+    (result_map-err capped_wire (wire_where (are_sides_free known.wires (layer_of a.layer) real) a.tech.now (wired_of known) (layer_of a.layer) a.width real) k (sym seen ∙ c.in_err-wire.was)))
 
 pub returns : goal.returns
 returns c = λ cells known are tables have path_a path_b grown is sides.
     let a = c.args in
     let layer : Layer = layer_of a.layer in
-    let run = wire-run a.tech.now cells known a.layer a.a.now a.b.now a.width c.in_ok-from.from c.in_ok-to.to c.run_of.result are path_a path_b grown
-    (sym (c.found.ensures cells known tables is) ∙ c.in_ok-from.was) (sym (c.found-2.ensures cells known tables is) ∙ c.in_ok-to.was) c.run_of.ensures in
-    let real = result_map-ok capped_run run.0 c.in_ok-run.run' (sym run.2 ∙ c.in_ok-run.was) in
-    let between = run.3 real.0 real.1 in
-    let free : c.are_open-are_free.result ≡ are_sides_free known.wires layer real.0 =
-    c.are_open-are_free.ensures cells known tables have is.tells.names sides
-    ∙ open-free a.tech.now cells known a.a.now a.b.now c.paths_of.result.0.now c.paths_of.result.1.now c.layer_of-layer.result real.0 c.in_ok-run.run' grown between real.2 c.paths_of.ensures.low c.paths_of.ensures.high
-    ∙ ap (λ l. are_sides_free known.wires l real.0) c.layer_of-layer.ensures in
-    let along = wire-along a.tech.now known layer c.layer_of-layer.result a.width real.0 c.in_ok-run.run' c.are_open-are_free.result c.as_slice.result.now c.wire_where.result real.2 free
-    (c.as_slice.ensures.value ∙ is.wired) c.layer_of-layer.ensures c.wire_where.ensures in
-    let made = wire_where (are_sides_free known.wires layer real.0) a.tech.now (wired_of known) layer a.width real.0 in
-    let next = result_map-ok capped_wire made c.in_ok-wire.wire (sym along ∙ c.in_ok-wire.was) in
-    let read = run.1 ∙ ap (λ r. r >>= wired_along a.tech.now known layer a.width) real.1 ∙ ap (λ r. r >>= (λ wire. Ok (with_wire known wire))) next.1 in
-    let met = checks_met a.tech.now (wired_of known) (are_sides_free known.wires layer real.0) layer a.width real.0 next.0 next.1 in
+    let (real, read, kept, between, seen) = along ((goal.at.returns c).After-wire_where) cells known are tables have path_a path_b grown is sides in
+    let made = wire_where (are_sides_free known.wires layer real) a.tech.now (wired_of known) layer a.width real in
+    let next = result_map-ok capped_wire made c.in_ok-wire.wire (sym seen ∙ c.in_ok-wire.was) in
+    let after = read ∙ ap (λ r. r >>= (λ wire. Ok (with_wire known wire))) next.1 in
+    let met = checks_met a.tech.now (wired_of known) (are_sides_free known.wires layer real) layer a.width real next.0 next.1 in
     let ends = ends_of_added a.tech.now cells known next.0
-    (wire_grown a.tech.now cells known a.layer a.a.now a.b.now a.width (with_wire known next.0) are grown (wire_made a.tech.now cells known a.layer a.a.now a.b.now a.width (with_wire known next.0) read)) in
+    (wire_grown a.tech.now cells known a.layer a.a.now a.b.now a.width (with_wire known next.0) are grown (wire_made a.tech.now cells known a.layer a.a.now a.b.now a.width (with_wire known next.0) after)) in
     let M : Layer → Type 0 = λ l. AreMarked (side_entries c.add_wire.new.self.table.sides) (side_entries c.mark_ends.new.sides) c.in_ok-run.run' c.paths_of.result.0.now c.paths_of.result.1.now l in
     let P : SideMap → Type 0 = λ map. AreSidesOf cells known (side_entries map) in
     let Q : Wire → Type 0 = λ wire. AreSidesOf cells (with_wire known wire) (side_entries c.mark_ends.new.sides) in (
       with_wire known next.0,
-      read,
+      after,
       other_sides cells (with_wire known next.0) c.add_wire.new.self c.mark_ends.new.sides (c.in_ok-add_wire.ensures.grows cells known next.0 is ends next.2),
       subst Q met.same
-          (sides_marked cells known a.a.now a.b.now c.paths_of.result.0.now c.paths_of.result.1.now layer real.0 c.in_ok-run.run' next.0.width (side_entries c.add_wire.new.self.table.sides) (side_entries c.mark_ends.new.sides)
-          between real.2 c.paths_of.ensures.low c.paths_of.ensures.high (subst M c.layer_of-layer.ensures c.in_ok-mark_ends.ensures) (subst P (sym c.in_ok-add_wire.ensures.sides) sides)),
+          (sides_marked cells known a.a.now a.b.now c.paths_of.result.0.now c.paths_of.result.1.now layer real c.in_ok-run.run' next.0.width (side_entries c.add_wire.new.self.table.sides) (side_entries c.mark_ends.new.sides)
+          between kept c.paths_of.ensures.low c.paths_of.ensures.high (subst M c.layer_of-layer.ensures c.in_ok-mark_ends.ensures) (subst P (sym c.in_ok-add_wire.ensures.sides) sides)),
     )
