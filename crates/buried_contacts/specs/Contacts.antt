@@ -74,13 +74,18 @@ abbrev pub axis_along : Axis2 → Axis
 axis_along Across = X
 axis_along Up = Y
 
+-- a box begins with a pad, or ends with it
+abbrev pub EndsWith : Bool → Sides → Sides → Type 0
+EndsWith true box pad = box.left ≡ pad.left
+EndsWith false box pad = box.right ≡ pad.right
+
 -- A box, seen so that it runs from left to right, lies across where a pad lies, and covers it along; it begins with the pad, or ends with it.
 pub record CoversFrom (is_low : Bool) (box pad : Sides) : Type 0 where
   pub bottom : box.bottom ≡ pad.bottom
   pub top : box.top ≡ pad.top
   pub left : box.left ≤ℤ pad.left
   pub right : pad.right ≤ℤ box.right
-  pub ends_with : if is_low then (box.left ≡ pad.left) else (box.right ≡ pad.right)
+  pub ends_with : EndsWith is_low box pad
 
 -- item i is one of wire w: the owners of wires are numbered behind those of the nodes
 abbrev pub IsOfWire : Master → ℕ → ℕ → Type 0
@@ -134,6 +139,11 @@ abbrev pub WindowsHoldPads : Tech → Master → Coords → Type 0
 WindowsHoldPads tech master layout =
     (i : ℕ) → IsItem master i → (item_of master i).class ≡ B
     → IsBuried master (item_of master i).owner × (sides_of_item master layout i ≡ window_at tech layout (item_of master i).owner)
+
+-- and each buried contact has one
+abbrev pub HaveWindows : Tech → Master → Coords → Type 0
+HaveWindows tech master layout =
+    (k : ℕ) → IsBuried master k → (i : ℕ) × IsItem master i × ((item_of master i).class ≡ B) × (sides_of_item master layout i ≡ window_at tech layout k)
 
 -- a window keeps off each channel by their spacing, which is at least 1
 abbrev pub WindowsKeepOff : Tech → Master → Coords → Type 0

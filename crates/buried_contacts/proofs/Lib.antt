@@ -1,0 +1,4 @@
+pub mod Owners
+pub mod Pads
+pub mod Shares
+pub mod Contacts
