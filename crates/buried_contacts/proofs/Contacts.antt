@@ -1,17 +1,16 @@
 -- What holds of the items that stand at buried contacts, and of poly and diffusion that overlap.
-use Rattle.std.proofs.Common.{◌≡◌, ◌≢◌, ℕ, ◌+◌, ◌<◌, ℤ, pos, ◌+ℤ◌, ◌-ℤ◌, ◌≤ℤ◌, ◌<ℤ◌, Bool, true, false, not, [], ◌∷◌, length, cond, Option, Some, None, refl, sym, ap, ◌∙◌, subst, arith, inl, inr, ◌⊎◌}
+use Rattle.std.proofs.Common.{◌≡◌, ◌≢◌, ℕ, ◌<◌, ℤ, pos, ◌+ℤ◌, ◌-ℤ◌, ◌≤ℤ◌, Bool, true, false, not, [], ◌∷◌, length, Option, Some, refl, sym, ap, ◌∙◌, subst, arith, inl, inr, ◌⊎◌}
 use Rattle.std.specs.Prelude.{IsTrue, IfSome, neg_ℤ}
 use Rattle.std.specs.List.{Any, flat_map, range_with_len}
-use Rattle.std.proofs.lemmas.Bool.{cases_Bool, cases_eq, cond-true}
+use Rattle.std.proofs.lemmas.Bool.{cases_Bool, cases_eq}
 use Rattle.std.proofs.lemmas.Int.{ints}
 use Rattle.std.proofs.lemmas.List.{get_or_default}
 use Rattle.lam_geom.specs.declared.boxes.Side.{Side}
 use Rattle.lam_geom.specs.declared.boxes.Side.TheVariants.{Left, Right}
 use Rattle.rule_table.specs.declared.technology.Tech.{Tech}
 use Rattle.rule_table.specs.declared.classes.Class.{Class}
-use Rattle.rule_table.specs.declared.classes.Class.TheVariants.{M, P, Dc, Dm, C, I, G, B}
-use Rattle.rule_table.specs.declared.classes.Layer.{Layer}
-use Rattle.rule_table.specs.declared.classes.Layer.TheVariants.{Diffusion, Poly, Metal}
+use Rattle.rule_table.specs.declared.classes.Class.TheVariants.{P, Dm, G, B}
+use Rattle.rule_table.specs.declared.classes.Layer.TheVariants.{Diffusion, Poly}
 use Rattle.rule_table.specs.declared.classes.Rule.{Rule}
 use Rattle.rule_table.specs.Spacing.{spacing_in}
 use Rattle.rule_table.specs.Technology.{numbers_of, has_buried_of, spacing_of}
@@ -23,12 +22,10 @@ use Rattle.sym_items.specs.Values.{value_of}
 use Rattle.sym_items.specs.Sides.{Sides, sides_in, gap_in}
 use Rattle.sym_items.specs.Standing.{nowhere, StandsAt, StandTogether, stand_together}
 use Rattle.sym_items.proofs.Together.{together_exactly}
-use Rattle.cell_model.specs.declared.cell.Axis2.{Axis2}
 use Rattle.cell_model.specs.declared.cell.NodeKind.{NodeKind}
 use Rattle.cell_model.specs.declared.cell.NodeKind.TheVariants.{Joint, Contact, Buried, Fet}
 use Rattle.cell_model.specs.declared.cell.WireEnd.{WireEnd}
 use Rattle.cell_model.specs.declared.cell.WireEnd.TheVariants as ends
-use Rattle.cell_model.specs.declared.cell.Wire.{Wire}
 use Rattle.cell_model.specs.declared.cell.Nets.{Nets}
 use Rattle.cell_model.specs.declared.cell.Cell.{Cell}
 use Rattle.cell_model.specs.Wiring.{buried_pad, axis_of, is_low_side}
@@ -40,13 +37,13 @@ use Rattle.list_facts.proofs.Some.{any_here, any_there, any_left, any_flat_map, 
 use Rattle.expand.specs.declared.master.Master.{Master}
 use Rattle.expand.specs.Masters.{IsMaster}
 use Rattle.expand.specs.Variables.{half, centre}
-use Rattle.expand.specs.NodeItems.{square_round, standing_at, kind_items}
+use Rattle.expand.specs.NodeItems.{kind_items}
 use Rattle.expand.specs.Items.{nets_at, items_of_node, items_of_wire, item_list}
 use Rattle.expand.specs.WireItems.{contact_of_kind, contact_at}
 use Rattle.expand.proofs.Among.{sound_numbers}
 use Rattle.expand.proofs.Cells.{node_sound, wire_sound}
-use Rattle.buried_contacts.specs.Contacts.{IsFinished, item_of, sides_of_item, IsItem, kind_of, IsBuried, square_at, pad_at, window_at, common, axis_along, end_of_wire, WiresCoverPads, Overlap, IsTransistor, AreOfOneTransistor}
-use Rattle.buried_contacts.proofs.Owners.{LayerHas, ContactHas, PadHas, TransistorHas, StandsNowhere, IsSquareAt, IsOfKind, IsOfNode, IsBoxOfWire, IsOwned, item_keeps, items_owned, box_of_owner}
+use Rattle.buried_contacts.specs.Contacts.{IsFinished, item_of, sides_of_item, IsItem, kind_of, IsBuried, square_at, pad_at, window_at, common, end_of_wire, WiresCoverPads, Overlap, IsTransistor, AreOfOneTransistor}
+use Rattle.buried_contacts.proofs.Owners.{LayerHas, ContactHas, PadHas, TransistorHas, StandsNowhere, IsSquareAt, IsOfKind, IsBoxOfWire, IsOwned, item_keeps, items_owned, box_of_owner}
 use Rattle.buried_contacts.proofs.Pads.{wire_covers}
 use Rattle.buried_contacts.proofs.Shares.{RunsOn, pad_runs, leaves, along_of, end_of, covers_runs, share_pad, beside, is_beside}
 
@@ -102,7 +99,7 @@ both_of tech k Buried i j ne h g e f = inr (k, own i h, own j g)
     own i (inr h) = stands_at_own k _ i ne h.1
 both_of tech k (Fet depletion gate w l) i j ne h g e f = inl tt
 
--- a conducting item that stands at a contact is the square of its pad
+-- an item of a node that stands at a contact and is no window is the square of its pad
 nowhere_else : (n : ℕ) (i : Item) → StandsNowhere i → StandsAt i n → ⊥
 nowhere_else n i s (ne, inl e) = ne (sym e ∙ s.low)
 nowhere_else n i s (ne, inr e) = ne (sym e ∙ s.high)
@@ -180,12 +177,6 @@ never_joined a b e f h =
     absurd cc
 
 module _ (tech : Tech) (master : Master) (m : IsMaster tech master) where
-  abbrev nets : Nets
-  nets = m.items.nets
-
-  abbrev cell : Cell
-  cell = master.cell
-
   owned : (i : ℕ) → IsItem master i → IsOwned tech master.cell m.items.nets (item_of master i)
   owned i lt = items_owned tech master m i no_item lt
 
@@ -208,9 +199,6 @@ module _ (tech : Tech) (master : Master) (m : IsMaster tech master) where
       → AreOfOneTransistor master i j ⊎ StandTogether (item_of master i) (item_of master j)
   one_owner i j lt less e f same = by_owners (owned i lt) (owned j less)
     where
-      a : Item
-      a = item_of master i
-
       by_owners : IsOwned tech master.cell m.items.nets (item_of master i) → IsOwned tech master.cell m.items.nets (item_of master j) → AreOfOneTransistor master i j ⊎ StandTogether (item_of master i) (item_of master j)
       by_owners (inl (k, h)) (inl (l, g)) =
           let one : l ≡ k = sym g.owner ∙ (sym same ∙ h.owner) in
@@ -331,9 +319,6 @@ module _ (tech : Tech) (master : Master) (m : IsMaster tech master) where
       let b = at_contact layout j k less (subst PadHas (sym f) tt) at_j in
       (a.0, of_both a.0 a.1 b.1)
     where
-      u : Sides
-      u = sides_of_item master layout i
-
       of_both : IsBuried master k → (sides_of_item master layout i ≡ pad_at tech layout k) ⊎ IsAtEnd i k → (sides_of_item master layout j ≡ pad_at tech layout k) ⊎ IsAtEnd j k
           → common (sides_of_item master layout i) (sides_of_item master layout j) ≡ pad_at tech layout k
       of_both buried (inl p) (inl q) = share_pad Left Right _ _ _ (is_beside Right) (pad_runs Left _ _ p) (pad_runs Right _ _ q)

@@ -127,11 +127,22 @@ implant_plain k true i h = (h, tt)
 implant_plain k false i h = tt
 
 channel_plain : (tech : Tech) (k : ℕ) (nets : NodeNets) (depletion : Bool) (x y : ℤ) → AllByRecursion (IsPlain k TransistorHas) (channel_items tech k nets depletion x y)
-channel_plain tech k nets depletion x y =
-    (record { owner = refl; stands = record { low = refl; high = refl }; class = tt }, (record { owner = refl; stands = record { low = refl; high = refl }; class = tt },
-    (record { owner = refl; stands = record { low = refl; high = refl }; class = tt }, (record { owner = refl; stands = record { low = refl; high = refl }; class = tt },
-    (record { owner = refl; stands = record { low = refl; high = refl }; class = tt },
-    implant_plain k depletion _ (record { owner = refl; stands = record { low = refl; high = refl }; class = tt }))))))
+channel_plain tech k nets depletion x y = (
+  record { owner = refl; stands = record { low = refl; high = refl }; class = tt },
+  (
+    record { owner = refl; stands = record { low = refl; high = refl }; class = tt },
+    (
+      record { owner = refl; stands = record { low = refl; high = refl }; class = tt },
+      (
+        record { owner = refl; stands = record { low = refl; high = refl }; class = tt },
+        (
+          record { owner = refl; stands = record { low = refl; high = refl }; class = tt },
+          implant_plain k depletion _ (record { owner = refl; stands = record { low = refl; high = refl }; class = tt }),
+        ),
+      ),
+    ),
+  ),
+)
 
 kind_owns : (tech : Tech) (k : ℕ) (kind : NodeKind) (nets : NodeNets) → AllByRecursion (HasOwner tech k kind) (kind_items tech k kind nets)
 kind_owns tech k (Joint layer width) nets =
@@ -142,7 +153,7 @@ kind_owns tech k (Contact lower) nets = (
   (
     record { owner = refl; is = (record { low = refl; high = refl }, tt) },
     all_weaker (IsPlain k (LayerHas lower)) (HasOwner tech k (Contact lower)) (λ i h. record { owner = h.owner; is = (h.stands, of_lower lower i.class h.class) })
-    _ (layer_plain k lower _ refl (record { low = refl; high = refl })),
+        _ (layer_plain k lower _ refl (record { low = refl; high = refl })),
   ),
 )
 kind_owns tech k Buried nets =

@@ -1,7 +1,7 @@
 -- Wires on the pads of buried contacts. All is said in a layout turned so that the wire runs across.
-use Rattle.std.proofs.Common.{◌≡◌, ◌≢◌, ℕ, ◌+◌, ◌<◌, ℤ, pos, ◌+ℤ◌, ◌-ℤ◌, ◌*ℤ◌, ◌≤ℤ◌, Bool, true, false, List, [], ◌++◌, length, get_or, cond, refl, sym, ap, ◌∙◌, subst, arith, inl, inr, ◌⊎◌, zero-add}
+use Rattle.std.proofs.Common.{◌≡◌, ℕ, ◌<◌, ℤ, pos, ◌+ℤ◌, ◌-ℤ◌, ◌*ℤ◌, ◌≤ℤ◌, Bool, true, false, List, [], ◌++◌, length, get_or, refl, sym, ap, ◌∙◌, subst, arith, zero-add}
 use Rattle.std.specs.Prelude.{neg_ℤ}
-use Rattle.std.specs.List.{AllByRecursion, All, flat_map, range_with_len}
+use Rattle.std.specs.List.{AllByRecursion, All, range_with_len}
 use Rattle.std.proofs.lemmas.Bool.{cond-true}
 use Rattle.std.proofs.lemmas.Int.{ints}
 use Rattle.std.proofs.lemmas.List.FromFn.{length-range_with_len, get_or-range_with_len}
@@ -22,11 +22,10 @@ use Rattle.sym_items.specs.Transposed.{coords_along, values_along, sides_along}
 use Rattle.cell_model.specs.declared.cell.Axis2.{Axis2}
 use Rattle.cell_model.specs.declared.cell.Axis2.TheVariants.{Across, Up}
 use Rattle.cell_model.specs.declared.cell.NodeKind.{NodeKind}
-use Rattle.cell_model.specs.declared.cell.NodeKind.TheVariants.{Joint, Contact, Buried, Fet}
+use Rattle.cell_model.specs.declared.cell.NodeKind.TheVariants.{Buried}
 use Rattle.cell_model.specs.declared.cell.WireEnd.{WireEnd}
 use Rattle.cell_model.specs.declared.cell.WireEnd.TheVariants as ends
 use Rattle.cell_model.specs.declared.cell.Wire.{Wire}
-use Rattle.cell_model.specs.declared.cell.Nets.{Nets}
 use Rattle.cell_model.specs.declared.cell.Cell.{Cell}
 use Rattle.cell_model.specs.Wiring.{is_same_axis, buried_pad, node_pad}
 use Rattle.cell_model.specs.Sound.{node_at, wire_at, IsWithinPad, FillsKind, FillsPad}
@@ -37,12 +36,12 @@ use Rattle.expand.specs.Masters.{IsMaster}
 use Rattle.expand.specs.Variables.{half, centre, cross_of, crossing, past}
 use Rattle.expand.specs.NodeItems.{item_running}
 use Rattle.expand.specs.WireItems.{reach, low_end_of, high_end_of}
-use Rattle.expand.specs.Structure.{tied, end_edges, wire_edges, overlap_edges, extents_of, overlaps_of, margins_of, limits_of, structure_of}
+use Rattle.expand.specs.Structure.{tied, end_edges, overlap_edges, extents_of, overlaps_of, margins_of, limits_of, structure_of}
 use Rattle.expand.proofs.Among.{buried_size}
 use Rattle.expand.proofs.Cells.{wire_sound}
 use Rattle.expand.proofs.Standing.{stands}
 use Rattle.buried_contacts.specs.Contacts.{IsFinished, item_of, sides_of_item, IsItem, IsBuried, square_at, pad_at, axis_along, CoversFrom, end_of_wire}
-use Rattle.buried_contacts.proofs.Owners.{run_of, wire_box, IsBoxOfWire}
+use Rattle.buried_contacts.proofs.Owners.{run_of, IsBoxOfWire}
 
 -- ---- at the end of a wire
 

@@ -1,5 +1,5 @@
 -- Buried contacts in a layout: their pads, their windows, and the poly and diffusion that they join.
-use Rattle.std.specs.Prelude.{◌≡◌, ℕ, ◌+◌, ◌<◌, ◌⊎◌, ℤ, pos, ◌+ℤ◌, ◌-ℤ◌, ◌≤ℤ◌, ◌<ℤ◌, Bool, true, false, if◌then◌else◌, List, length, Contains}
+use Rattle.std.specs.Prelude.{◌≡◌, ℕ, ◌+◌, ◌<◌, ◌⊎◌, ℤ, pos, ◌+ℤ◌, ◌-ℤ◌, ◌≤ℤ◌, ◌<ℤ◌, Bool, true, false, if◌then◌else◌, length}
 use Rattle.std.specs.Int.{int_max, int_min}
 use Rattle.lam_geom.specs.declared.boxes.Axis.{Axis}
 use Rattle.lam_geom.specs.declared.boxes.Axis.TheVariants.{X, Y}
@@ -101,7 +101,7 @@ WiresCoverPads tech master layout =
     (w k i : ℕ) (is_low : Bool) → w < length master.cell.wires → IsBuried master k
     → end_of_wire master w is_low ≡ ends.Node k → IsOfWire master w i
     → CoversFrom is_low (sides_along (axis_along (wire_at master.cell.wires w).along) (sides_of_item master layout i))
-        (sides_along (axis_along (wire_at master.cell.wires w).along) (pad_at tech layout k))
+    (sides_along (axis_along (wire_at master.cell.wires w).along) (pad_at tech layout k))
 
 -- ---- poly and diffusion
 
