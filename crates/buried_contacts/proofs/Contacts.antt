@@ -9,7 +9,7 @@ use Rattle.lam_geom.specs.declared.boxes.Side.{Side}
 use Rattle.lam_geom.specs.declared.boxes.Side.TheVariants.{Left, Right}
 use Rattle.rule_table.specs.declared.technology.Tech.{Tech}
 use Rattle.rule_table.specs.declared.classes.Class.{Class}
-use Rattle.rule_table.specs.declared.classes.Class.TheVariants.{P, Dm, G, B}
+use Rattle.rule_table.specs.declared.classes.Class.TheVariants.{P, Dm, Dc, G, B}
 use Rattle.rule_table.specs.declared.classes.Layer.TheVariants.{Diffusion, Poly}
 use Rattle.rule_table.specs.declared.classes.Rule.{Rule}
 use Rattle.rule_table.specs.Spacing.{spacing_in}
@@ -42,7 +42,7 @@ use Rattle.expand.specs.Items.{nets_at, items_of_node, items_of_wire, item_list}
 use Rattle.expand.specs.WireItems.{contact_of_kind, contact_at}
 use Rattle.expand.proofs.Among.{sound_numbers}
 use Rattle.expand.proofs.Cells.{node_sound, wire_sound}
-use Rattle.buried_contacts.specs.Contacts.{IsFinished, item_of, sides_of_item, IsItem, kind_of, IsBuried, square_at, pad_at, window_at, common, end_of_wire, WiresCoverPads, Overlap, IsTransistor, AreOfOneTransistor}
+use Rattle.buried_contacts.specs.Contacts.{IsFinished, item_of, sides_of_item, IsItem, kind_of, IsBuried, square_at, pad_at, window_at, common, end_of_wire, WiresCoverPads, Overlap, IsTransistor, AreOfOneTransistor, HasBox, HaveWindows, HavePads}
 use Rattle.buried_contacts.proofs.Owners.{LayerHas, ContactHas, PadHas, TransistorHas, StandsNowhere, IsSquareAt, IsOfKind, IsBoxOfWire, IsOwned, item_keeps, items_owned, box_of_owner}
 use Rattle.buried_contacts.proofs.Pads.{wire_covers}
 use Rattle.buried_contacts.proofs.Shares.{RunsOn, pad_runs, leaves, along_of, end_of, covers_runs, share_pad, beside, is_beside}
@@ -126,17 +126,25 @@ stands_there cell (ends.Node j) n ne e = of_kind (node_at cell.nodes j).kind ref
     of_kind Buried is e = (ap ends.Node e, ap (λ (i : ℕ). (node_at cell.nodes i).kind) (sym e) ∙ is)
     of_kind (Fet depletion gate w l) is e = absurd (ne (sym e))
 
+-- a fact of one of four items
+first_of : (Q : Item → Type 0) (a b c d : Item) → Q a → Any Q (a ∷ b ∷ c ∷ d ∷ [])
+first_of Q a b c d h = any_here Q a (b ∷ c ∷ d ∷ []) h
+
+second_of : (Q : Item → Type 0) (a b c d : Item) → Q b → Any Q (a ∷ b ∷ c ∷ d ∷ [])
+second_of Q a b c d h = any_there Q a (b ∷ c ∷ d ∷ []) (any_here Q b (c ∷ d ∷ []) h)
+
+third_of : (Q : Item → Type 0) (a b c d : Item) → Q c → Any Q (a ∷ b ∷ c ∷ d ∷ [])
+third_of Q a b c d h = any_there Q a (b ∷ c ∷ d ∷ []) (any_there Q b (c ∷ d ∷ []) (any_here Q c (d ∷ []) h))
+
 fourth_of : (Q : Item → Type 0) (a b c d : Item) → Q d → Any Q (a ∷ b ∷ c ∷ d ∷ [])
 fourth_of Q a b c d h = any_there Q a (b ∷ c ∷ d ∷ []) (any_there Q b (c ∷ d ∷ []) (any_there Q c (d ∷ []) (any_here Q d [] h)))
 
--- the window of a buried contact is an item
-window_among : (tech : Tech) (cell : Cell) (nets : Nets) (k : ℕ) → k < length cell.nodes → (node_at cell.nodes k).kind ≡ Buried
-    → Any (λ i. (i.class ≡ B) × IsSquareAt k (half (buried_pad tech) +ℤ (numbers_of tech).extension_buried) i) (item_list tech cell nets)
+-- a fact of an item of a buried contact is one of an item of its cell
+buried_among : (tech : Tech) (cell : Cell) (nets : Nets) (k : ℕ) (Q : Item → Type 0) → k < length cell.nodes → (node_at cell.nodes k).kind ≡ Buried
+    → Any Q (kind_items tech k Buried (nets_at nets.node k)) → Any Q (item_list tech cell nets)
 unfolding item_list
-window_among tech cell nets k lt e =
-    let Q : Item → Type 0 = λ i. (i.class ≡ B) × IsSquareAt k (half (buried_pad tech) +ℤ (numbers_of tech).extension_buried) i in
-    let own : Any Q (items_of_node tech cell nets k) = subst (λ (kind : NodeKind). Any Q (kind_items tech k kind (nets_at nets.node k))) (sym e)
-    (fourth_of Q _ _ _ _ (refl, refl)) in
+buried_among tech cell nets k Q lt e here =
+    let own : Any Q (items_of_node tech cell nets k) = subst (λ (kind : NodeKind). Any Q (kind_items tech k kind (nets_at nets.node k))) (sym e) here in
     any_left Q (flat_map (items_of_node tech cell nets) (range_with_len 0 (length cell.nodes))) (flat_map (items_of_wire tech cell nets) (range_with_len 0 (length cell.wires)))
     (any_flat_map (λ (n : ℕ). n ≡ k) Q (items_of_node tech cell nets) (range_with_len 0 (length cell.nodes)) (λ n same. subst (λ (l : ℕ). Any Q (items_of_node tech cell nets l)) (sym same) own)
     (any_range (λ (n : ℕ). n ≡ k) 0 (length cell.nodes) k (omega arith) (omega (arith, lt)) refl))
@@ -361,21 +369,32 @@ module _ (tech : Tech) (master : Master) (m : IsMaster tech master) where
       } in
       (buried_spacing (numbers_of tech) (sound_numbers tech) some, clean_gap tech layout a b (numbers_of tech).spacing_buried_channel (done.clean i j lt less) bound)
 
-  -- ---- each contact has a window
+  -- ---- each contact has its pad and its window
 
-  abbrev IsWindow : ℕ → Item → Type 0
-  IsWindow k i = (i.class ≡ B) × IsSquareAt k (half (buried_pad tech) +ℤ (numbers_of tech).extension_buried) i
+  abbrev IsBoxAt : ℕ → Class → ℤ → Item → Type 0
+  IsBoxAt k class reach i = (i.class ≡ class) × IsSquareAt k reach i
 
-  window_listed : (k : ℕ) → IsBuried master k → Any (IsWindow k) master.items.list
-  window_listed k buried =
-      subst (Any (IsWindow k)) (sym (ap (λ (i : Items). i.list) m.items.are)) (window_among tech master.cell m.items.nets k buried.0 buried.1)
-
-  pub have_windows : (layout : Coords) (k : ℕ) → IsBuried master k → (i : ℕ) × IsItem master i × ((item_of master i).class ≡ B) × (sides_of_item master layout i ≡ window_at tech layout k)
-  have_windows layout k buried =
-      let some = window_listed k buried in
+  has_box : (layout : Coords) (k : ℕ) (class : Class) (reach : ℤ) → IsBuried master k → Any (IsBoxAt k class reach) (kind_items tech k Buried (nets_at m.items.nets.node k))
+      → HasBox master layout k class (square_at layout k reach)
+  has_box layout k class reach buried here =
+      let Q : Item → Type 0 = IsBoxAt k class reach in
+      let some : Any Q master.items.list = subst (Any Q) (sym (ap (λ (i : Items). i.list) m.items.are)) (buried_among tech master.cell m.items.nets k Q buried.0 buried.1 here) in
       let is : item_of master some.0 ≡ some.1 = get_or_default master.items.list some.0 no_item some.1 some.2 ∙ some.3 in
-      let window = subst (IsWindow k) (sym is) some.4 in
-      (some.0, some.2, window.0, square_of layout k _ (item_of master some.0) window.1)
+      let box = subst Q (sym is) some.4 in
+      (some.0, some.2, ap (λ (i : Item). i.owner) box.1, box.0, square_of layout k reach (item_of master some.0) box.1)
+
+  pub have_pads : (layout : Coords) → HavePads tech master layout
+  have_pads layout k buried =
+      let pad = half (buried_pad tech) in (
+        has_box layout k P pad buried (first_of (IsBoxAt k P pad) _ _ _ _ (refl, refl)),
+        has_box layout k Dm pad buried (second_of (IsBoxAt k Dm pad) _ _ _ _ (refl, refl)),
+        has_box layout k Dc pad buried (third_of (IsBoxAt k Dc pad) _ _ _ _ (refl, refl)),
+      )
+
+  pub have_windows : (layout : Coords) → HaveWindows tech master layout
+  have_windows layout k buried =
+      let reach = half (buried_pad tech) +ℤ (numbers_of tech).extension_buried in
+      has_box layout k B reach buried (fourth_of (IsBoxAt k B reach) _ _ _ _ (refl, refl))
 
   -- ---- wires on pads
 

@@ -4,7 +4,8 @@ use Rattle.std.specs.Int.{int_max, int_min}
 use Rattle.lam_geom.specs.declared.boxes.Axis.{Axis}
 use Rattle.lam_geom.specs.declared.boxes.Axis.TheVariants.{X, Y}
 use Rattle.rule_table.specs.declared.technology.Tech.{Tech}
-use Rattle.rule_table.specs.declared.classes.Class.TheVariants.{P, Dm, G, B}
+use Rattle.rule_table.specs.declared.classes.Class.{Class}
+use Rattle.rule_table.specs.declared.classes.Class.TheVariants.{P, Dm, Dc, G, B}
 use Rattle.rule_table.specs.Technology.{numbers_of}
 use Rattle.sym_items.specs.declared.items.Item.{Item}
 use Rattle.sym_items.specs.declared.items.Coords.{Coords}
@@ -140,10 +141,20 @@ WindowsHoldPads tech master layout =
     (i : ℕ) → IsItem master i → (item_of master i).class ≡ B
     → IsBuried master (item_of master i).owner × (sides_of_item master layout i ≡ window_at tech layout (item_of master i).owner)
 
+-- node k has a box of this class with these sides
+abbrev pub HasBox : Master → Coords → ℕ → Class → Sides → Type 0
+HasBox master layout k class sides =
+    (i : ℕ) × IsItem master i × ((item_of master i).owner ≡ k) × ((item_of master i).class ≡ class) × (sides_of_item master layout i ≡ sides)
+
 -- and each buried contact has one
 abbrev pub HaveWindows : Tech → Master → Coords → Type 0
-HaveWindows tech master layout =
-    (k : ℕ) → IsBuried master k → (i : ℕ) × IsItem master i × ((item_of master i).class ≡ B) × (sides_of_item master layout i ≡ window_at tech layout k)
+HaveWindows tech master layout = (k : ℕ) → IsBuried master k → HasBox master layout k B (window_at tech layout k)
+
+-- and poly, diffusion of the mask and conducting diffusion on its pad
+abbrev pub HavePads : Tech → Master → Coords → Type 0
+HavePads tech master layout =
+    (k : ℕ) → IsBuried master k
+    → HasBox master layout k P (pad_at tech layout k) × HasBox master layout k Dm (pad_at tech layout k) × HasBox master layout k Dc (pad_at tech layout k)
 
 -- a window keeps off each channel by their spacing, which is at least 1
 abbrev pub WindowsKeepOff : Tech → Master → Coords → Type 0
