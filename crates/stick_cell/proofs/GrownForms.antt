@@ -111,6 +111,7 @@ port_grown tech cells known name side layer place next grown made =
       plugs = plugs_pushed known.wires known.plugs plug grown.plugs (record {
         place = place_from_test place made.near;
         wire = λ wired. absurd (cc);
+        width = λ wired. absurd (cc);
         ends_there = λ wired. absurd (cc);
         only = λ wired. absurd (cc);
         free = λ free. none;

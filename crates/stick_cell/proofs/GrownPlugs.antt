@@ -37,6 +37,7 @@ plug_kept wires more k plug none is =
     record {
       place = is.place;
       wire = λ wired. omega (arith, is.wire wired, length-append wires more);
+      width = λ wired. ap (λ (w : Wire). w.width) (get_or_append_left wires more no_wire plug.port.wire (is.wire wired)) ∙ is.width wired;
       ends_there = λ wired. subst (EndsAt (ends.Port k)) (sym (get_or_append_left wires more no_wire plug.port.wire (is.wire wired))) (is.ends_there wired);
       only = λ wired j lt at_end. is.only wired j (first j lt at_end).0 (first j lt at_end).1;
       free = λ free j lt at_end. is.free free j (first j lt at_end).0 (first j lt at_end).1;
@@ -112,6 +113,7 @@ plug_wired wires wire k plug free at_end is =
     record {
       place = is.place;
       wire = λ wired. omega (arith, length-append wires (wire ∷ []));
+      width = λ wired. ap (λ (w : Wire). w.width) (get_or_push wires wire no_wire (length wires) refl);
       ends_there = λ wired. subst (EndsAt (ends.Port k)) (sym (get_or_push wires wire no_wire (length wires) refl)) at_end;
       only = λ wired j lt other. last j lt other (cases_lt j (length wires));
       free = λ never. absurd (cc);

@@ -35,3 +35,5 @@ mod Judged
 mod Refused
 pub mod Stepping
 pub mod StepsInlined
+pub mod PortsSeen
+pub mod GridNames

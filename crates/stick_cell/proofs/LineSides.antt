@@ -1,4 +1,4 @@
--- A line that is plain wire takes no side.
+-- A line that is no wire takes no side.
 use Rattle.std.proofs.Common.{◌≡◌, ℕ, ◌+◌, ◌<◌, List, [], ◌∷◌, length, map, Result, Ok, Err, refl, sym, subst, ◌∙◌}
 use Rattle.std.proofs.lemmas.List.{get_or-append-add, get_or-map}
 use Rattle.rule_table.specs.declared.technology.Tech.{Tech}
@@ -60,7 +60,7 @@ abbrev pub IsNoWire : Form → Type 0
 IsNoWire (forms.Wire layer a b width) = ⊥
 IsNoWire form = Unit {0}
 
--- after a line that is plain wire the same sides are taken
+-- after a line that is no wire the same sides are taken
 sides_after : (tech : Tech) (cells : List Known) (known : Known) (form : Form) (next : Known) (entries : TakenAt) → IsNoWire form → AreGrown tech cells → IsForm form → IsGrown tech cells known
     → after_form tech cells known form ≡ Ok next → AreSidesOf cells known entries → AreSidesOf cells next entries
 sides_after tech cells known (forms.Joint name layer col row width) next entries plain are is grown e sides = sides_node tech cells known name col row next entries grown (joint_made tech known name layer col row width next e) sides

@@ -46,10 +46,11 @@ pub record ArePathsApart (table : Names) (nodes : List Node) : Type 0 where
   pub known : (k : ℕ) → k < length nodes → (thing : Thing) × (named table (first_name (node_at nodes k).name) ≡ Some thing)
   pub apart : (j k : ℕ) → j < length nodes → k < length nodes → (node_at nodes j).name ≡ (node_at nodes k).name → j ≡ k
 
--- port k lies near, and once a wire ends at it, the wire of its number does, and no other
+-- port k lies near, and once a wire ends at it, the wire of its number and its width does, and no other
 pub record IsPlug (wires : List Wire) (k : ℕ) (plug : Plug) : Type 0 where
   pub place : plug.port.place ≤ 4095
   pub wire : plug.wired ≡ true → plug.port.wire < length wires
+  pub width : plug.wired ≡ true → (wire_at wires plug.port.wire).width ≡ plug.width
   pub ends_there : plug.wired ≡ true → EndsAt (ends.Port k) (wire_at wires plug.port.wire)
   pub only : plug.wired ≡ true → (j : ℕ) → j < length wires → EndsAt (ends.Port k) (wire_at wires j) → j ≡ plug.port.wire
   pub free : plug.wired ≡ false → (j : ℕ) → j < length wires → EndsAt (ends.Port k) (wire_at wires j) → ⊥

@@ -3,6 +3,7 @@ pub mod Paths
 pub mod Checks
 pub mod Wires
 pub mod Lines
+pub mod Grids
 pub mod Refusals
 pub mod Counts
 pub mod Kept

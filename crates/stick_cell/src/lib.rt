@@ -1,8 +1,8 @@
 //! The cells of a design: the checks on names and sizes, and cells with their uses replaced by what they
 //! stand for.
 //!
-//! What the layer above uses: `resolve` gives the cells exactly where the definition of the checks (`specs/Lines.antt`)
-//! finds no fault, each of them sound, and else the first fault; `Cells::inline` is exactly the inlined cell of that
+//! What the layer above uses: `resolve` gives the cells exactly where the definition of the checks (`resolved_cells` of
+//! `specs/Grids.antt`) finds no fault, each of them sound, and else the first fault; `Cells::inline` is exactly the inlined cell of that
 //! definition, `weight` and `boxes` count it without building it. A line or a cell that is refused breaks the rule of its kind in
 //! `specs/Refusals.antt`. Columns, rows and places are coarse coordinates; widths and sizes are in u, the grid unit.
 #![tactic(auto)]
@@ -14,6 +14,7 @@ mod cell_tests;
 mod cells;
 mod checks;
 mod counts;
+mod grids;
 mod growing;
 mod inlining;
 mod leaving;
@@ -21,6 +22,7 @@ mod lines;
 mod names;
 mod parts;
 mod paths;
+mod ports;
 mod refusals;
 mod resolving;
 mod sides;
@@ -37,6 +39,7 @@ pub use cell_model::{
 };
 pub use cell_nets::{nets, nets_are_determined};
 pub use cells::Cells;
+pub use ports::ports_are_seen;
 pub use refusals::{a_refused_cell_breaks_a_rule, a_refused_line_breaks_a_rule};
 pub use resolving::resolve;
 pub use stick_parse::ParseFault as ResolveFault;

@@ -6,23 +6,44 @@ ghost use Rattle.stick_parse.specs.Writable.{IsCell, IsWritable};
 ghost use Rattle.cell_model.specs.Sound.{IsSound};
 ghost use Rattle.stick_cell.specs.Known.{Known, begun, cell_of};
 ghost use Rattle.stick_cell.specs.Lines.{after_lines, after_cell, known_cells};
+ghost use Rattle.stick_cell.specs.Grids.{resolved_cells};
 ghost use Rattle.stick_cell.specs.Grown.{AreGrown};
 ghost use Rattle.stick_cell.specs.Tables.{AreTables, known_of, IsResolved};
 ghost use Rattle.stick_cell.specs.Sides.{HaveSides};
 ghost use Rattle.stick_cell.specs.Resolving.{fault_at_line, GrowsTo, TellsTable};
 
 use crate::cells::{Cells, place_of};
+use crate::grids::check_grids;
 use crate::growing::Growing;
 use crate::table::Table;
 use rule_table::Tech;
 use std::alloc::Global;
 use stick_parse::{CellText, Design, LineFault, ParseFault as ResolveFault, StickFault, StickKind};
 
-/// The cells of a design, whose names and sizes meet the checks, line by line against the lines before.
+/// The cells of a design, whose names and sizes meet the checks, line by line against the lines before; the names of its
+/// grids are checked last.
 ///
 /// A design that does not meet them is refused with its first fault: the line, and the kind, one of the sixth to the
 /// twenty-first. Want of memory is `OutOfMemory`. Each cell is sound, also one that is too heavy to be inlined.
 pub fn resolve<'a>(
+    alloc: Global,
+    design: &'a Design,
+    tech: &Tech,
+) -> Result<Cells<'a>, ResolveFault>
+    requires { IsWritable design.now }
+    ensures cells { Gives known_of result (resolved_cells tech.now design.now) }
+    ensures number { IfOk result (λ cells. length (known_of cells) ≡ length design.now.cells) }
+    ensures sound { IfOk result (λ cells. All (λ known. IsSound tech.now (cell_of known)) (known_of cells)) }
+    ensures resolved { IfOk result IsResolved }
+    ensures of { IfOk result (λ cells. (cells.tech ≡ tech.now) × (cells.design.now ≡ design.now)) }
+{
+    let cells = resolve_cells(alloc, design, tech)?;
+    check_grids(alloc, design.grids.as_slice())?;
+    Ok(cells)
+}
+
+/// The cells of a design, whose grids are not checked.
+fn resolve_cells<'a>(
     alloc: Global,
     design: &'a Design,
     tech: &Tech,

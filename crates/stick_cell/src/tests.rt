@@ -14,6 +14,13 @@ pub fn design(alloc: Global, cells: &str) -> Result<Design, Fail>
     ensures { IfOk result IsWritable }
 {
     let text = format!(in alloc; "sticks 1\n{cells}grid\nrow a\nend\n")?;
+    design_of(alloc, &text)
+}
+
+// The design that a text says.
+fn design_of(alloc: Global, text: &str) -> Result<Design, Fail>
+    ensures { IfOk result IsWritable }
+{
     if text.len() > 1 << 20 {
         return Err("too long")?;
     }
@@ -37,7 +44,14 @@ pub fn checked<'a>(alloc: Global, design: &'a Design) -> Result<Cells<'a>, Fail>
 /// The line and the kind of the first fault of some cells under a technology; line 0 where they have none.
 pub fn fault_under(alloc: Global, tech: &Tech, cells: &str) -> Result<(u32, StickKind), Fail> {
     let design = design(alloc, cells)?;
-    match resolve(alloc, &design, tech) {
+    fault_in(alloc, tech, &design)
+}
+
+// The same of a design.
+fn fault_in(alloc: Global, tech: &Tech, design: &Design) -> Result<(u32, StickKind), Fail>
+    requires { IsWritable design.now }
+{
+    match resolve(alloc, design, tech) {
         Ok(_) => Ok((0, StickKind::BadLine)),
         Err(ResolveFault::Stick(fault)) => Ok((fault.line, fault.kind)),
         Err(ResolveFault::OutOfMemory) => Err("want of memory")?,
@@ -48,6 +62,35 @@ pub fn fault_under(alloc: Global, tech: &Tech, cells: &str) -> Result<(u32, Stic
 fn fault_of(alloc: Global, cells: &str) -> Result<(u32, StickKind), Fail> {
     fault_under(alloc, &Tech::shipped(), cells)
 }
+
+// Texts of version 2: grids whose names are taken by grids and by a cell, and faults of cells, which come first.
+const GRIDS: [(&str, u32, StickKind); 5] = [
+    (
+        "sticks 2\ncell s\njoint a metal 0 0\njoint b metal 1 0\nend\ncell t\njoint a metal 0 0\nend\ngrid a\nrow s\nend\ngrid a\nrow t\nend\n",
+        12,
+        StickKind::RepeatedName,
+    ),
+    (
+        "sticks 2\ngrid a\nend\ngrid b\nend\ngrid c\nend\ngrid b\nend\ngrid a\nend\n",
+        8,
+        StickKind::RepeatedName,
+    ),
+    (
+        "sticks 2\ncell a\nend\ngrid a\nrow a\nend\ngrid b\nrow c\nend\n",
+        0,
+        StickKind::BadLine,
+    ),
+    (
+        "sticks 2\ncell a\nend\ncell a\nend\ngrid a\nend\ngrid a\nend\n",
+        4,
+        StickKind::RepeatedName,
+    ),
+    (
+        "sticks 2\ncell a\njoint p metal 0 0 7\nend\ngrid a\nend\ngrid a\nend\n",
+        3,
+        StickKind::BadSize,
+    ),
+];
 
 // Names that are taken, unknown, or that of the cell in which they stand.
 const NAMES: [(&str, u32, StickKind); 7] = [
@@ -186,6 +229,20 @@ fn the_first_fault_is_told_with_its_line_and_kind(rt: HostRuntime) -> Result<(),
         for (cells, line, kind) in cases {
             assert_eq!(rt; fault_of(rt.alloc(), cells)?, (*line, *kind), "{cells}");
         }
+    }
+    Ok(())
+}
+
+#[test]
+fn a_grid_is_refused_where_an_earlier_one_has_its_name(rt: HostRuntime) -> Result<(), Fail> {
+    for (text, line, kind) in GRIDS {
+        let design = design_of(rt.alloc(), text)?;
+        assert_eq!(rt;
+            fault_in(rt.alloc(), &Tech::shipped(), &design)?,
+            (line, kind),
+            "{}",
+            text
+        );
     }
     Ok(())
 }

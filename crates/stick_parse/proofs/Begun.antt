@@ -1,18 +1,21 @@
 -- Lines that a design begins with, as a walk from spot to spot.
-use Rattle.std.proofs.Common.{◌≡◌, ℕ, List, [], ◌∷◌, ◌++◌, map, Option, Some, None, Result, Ok, Err, refl, sym, ap, subst, ◌∙◌}
+use Rattle.std.proofs.Common.{◌≡◌, inl, inr, ℕ, Bool, true, false, cond, List, [], ◌∷◌, ◌++◌, map, Option, Some, None, Result, Ok, Err, refl, sym, ap, subst, ◌∙◌, append_assoc, arith}
 use Rattle.std.specs.Prelude.{IfSome, flat_map}
 use Rattle.std.specs.Option.{option_and_then}
 use Rattle.stick_parse.specs.declared.fault.StickKind.{StickKind}
 use Rattle.stick_parse.specs.declared.design.Line.{Line}
 use Rattle.stick_parse.specs.declared.design.CellText.{CellText}
 use Rattle.stick_parse.specs.declared.design.RowText.{RowText}
+use Rattle.stick_parse.specs.declared.design.GridText.{GridText}
+use Rattle.stick_parse.specs.declared.design.Design.{Design}
 use Rattle.stick_parse.specs.declared.design.Statement.{Statement}
 use Rattle.stick_parse.specs.declared.design.Statement.TheVariants.{Version, Row, Grid, End}
 use Rattle.stick_parse.specs.Lines.{Entry}
-use Rattle.stick_parse.specs.Order.{Rest, nothing, with_line}
-use Rattle.stick_parse.specs.Says.{saying, form_line, cell_part, IsGridPart}
+use Rattle.stick_parse.specs.Order.{Rest, nothing, with_line, design_in}
+use Rattle.stick_parse.specs.Says.{saying, form_line, cell_part, IsGridPart, AreGridParts}
+use Rattle.stick_parse.specs.Writable.{AreGridsOf}
 use Rattle.stick_parse.specs.FirstFault.{BeginDesign}
-use Rattle.stick_parse.proofs.Shapes.{Spot, Head, Between, Inside, Rows, Done, turn, From, CellsPart, regroup, step_on, design_in, lines_of}
+use Rattle.stick_parse.proofs.Shapes.{Spot, Head, Between, Inside, Rows, Done, turn, From, MoreGrids, AllGrids, CellsPart, regroup, step_on, lines_of}
 
 abbrev pub turn_on : Spot → Result Statement StickKind → Option Spot
 turn_on p (Ok s) = turn p s
@@ -45,21 +48,53 @@ walk-append p (x ∷ xs) ys = by_turn (turn_on p x.said) xs ys (λ m. walk-appen
 
 -- ---- a whole design
 
-rows_walk : (inner : List Entry) (rs : List RowText) (end : ℕ) → map (λ entry. entry.said) inner ≡ map (λ row. Ok (Row row)) rs → walk Rows (inner ++ saying end End ∷ []) ≡ Some Done
-rows_walk [] rs end e = refl
-rows_walk (x ∷ xs) [] end e = absurd cc
-rows_walk (x ∷ xs) (r ∷ rs) end e =
+rows_walk : (named : Bool) (inner : List Entry) (rs : List RowText) (end : ℕ) (more : List Entry) → map (λ entry. entry.said) inner ≡ map (λ row. Ok (Row row)) rs
+    → walk (Rows named) (inner ++ saying end End ∷ more) ≡ walk (Done named) more
+rows_walk named [] rs end more e = refl
+rows_walk named (x ∷ xs) [] end more e = absurd cc
+rows_walk named (x ∷ xs) (r ∷ rs) end more e =
     let here : x.said ≡ Ok (Row r) = cc in
     let others : map (λ entry. entry.said) xs ≡ map (λ row. Ok (Row row)) rs = cc in
-    ap (λ (said : Result Statement StickKind). option_and_then (λ m. walk m (xs ++ saying end End ∷ [])) (turn_on Rows said)) here ∙ rows_walk xs rs end others
+    ap (λ (said : Result Statement StickKind). option_and_then (λ m. walk m (xs ++ saying end End ∷ more)) (turn_on (Rows named) said)) here ∙ rows_walk named xs rs end more others
 
-lines_walk : (ls : List Line) (end : ℕ) (more : List Entry) → walk Inside (map form_line ls ++ saying end End ∷ more) ≡ walk Between more
-lines_walk [] end more = refl
-lines_walk (l ∷ ls) end more = lines_walk ls end more
+grid_walk : (p : Spot) (named : Bool) (g : GridText) (es part others : List Entry) → turn p (Grid g.name) ≡ Some (Rows named) → es ≡ part ++ others → IsGridPart g part → walk p es ≡ walk (Done named) others
+grid_walk p named g es part others to parts is =
+    let inside : List Entry = is.inner ++ saying is.last End ∷ others in
+    ap (walk p) (parts ∙ ap (λ (x : List Entry). x ++ others) is.parts ∙ ap (λ (x : List Entry). saying g.line (Grid g.name) ∷ x) (append_assoc is.inner (saying is.last End ∷ []) others))
+    ∙ ap (option_and_then (λ m. walk m inside)) to
+    ∙ rows_walk named is.inner g.rows is.last others is.each
 
-cells_walk : (cs : List CellText) (rs : List RowText) (grid : List Entry) → IsGridPart rs grid → walk Between (flat_map cell_part cs ++ grid) ≡ Some Done
-cells_walk [] rs grid g = ap (walk Between) g.parts ∙ rows_walk g.inner rs g.last g.each
-cells_walk (c ∷ cs) rs grid g = ap (walk Between) (regroup c (flat_map cell_part cs) grid) ∙ lines_walk c.lines c.end_line (flat_map cell_part cs ++ grid) ∙ cells_walk cs rs grid g
+more_walk : (named : Bool) (gs : List GridText) (es : List Entry) → MoreGrids named gs → AreGridParts gs es → walk (Done named) es ≡ Some (Done named)
+more_walk named [] es h parts = ap (walk (Done named)) parts
+more_walk false (g ∷ gs) es h parts = absurd cc
+more_walk true (g ∷ gs) es h parts =
+    grid_walk (Done true) true g es parts.0 parts.1 (ap (λ (x : Option (List ℕ)). turn (Done true) (Grid x)) h.0.1) parts.2 parts.3 ∙ more_walk true gs parts.1 h.1 parts.4
+
+all_walk : (named : Bool) (gs : List GridText) (es : List Entry) → AllGrids named gs → AreGridParts gs es → walk (Between named) es ≡ Some (Done named)
+all_walk false [] es h parts = absurd cc
+all_walk true [] es h parts = absurd (omega (arith, h.0))
+all_walk false (g ∷ gs) es h parts =
+    let alone : gs ≡ [] = cc in
+    let same : g ≡ h.0 = cc in
+    grid_walk (Between false) false g es parts.0 parts.1 (ap (λ (x : Option (List ℕ)). turn (Between false) (Grid x)) (ap (λ (x : GridText). x.name) same ∙ h.2)) parts.2 parts.3
+    ∙ more_walk false gs parts.1 alone parts.4
+all_walk true (g ∷ gs) es h parts =
+    grid_walk (Between true) true g es parts.0 parts.1 (ap (λ (x : Option (List ℕ)). turn (Between true) (Grid x)) h.1.0.1) parts.2 parts.3 ∙ more_walk true gs parts.1 h.1.1 parts.4
+
+lines_walk : (named : Bool) (ls : List Line) (end : ℕ) (more : List Entry) → walk (Inside named) (map form_line ls ++ saying end End ∷ more) ≡ walk (Between named) more
+lines_walk named [] end more = refl
+lines_walk named (l ∷ ls) end more = lines_walk named ls end more
+
+cells_walk : (named : Bool) (cs : List CellText) (gs : List GridText) (grids : List Entry) → AllGrids named gs → AreGridParts gs grids → walk (Between named) (flat_map cell_part cs ++ grids) ≡ Some (Done named)
+cells_walk named [] gs grids all parts = all_walk named gs grids all parts
+cells_walk named (c ∷ cs) gs grids all parts =
+    ap (walk (Between named)) (regroup c (flat_map cell_part cs) grids) ∙ lines_walk named c.lines c.end_line (flat_map cell_part cs ++ grids) ∙ cells_walk named cs gs grids all parts
+
+head_walk : (d : Design) (k : ℕ) (grids : List Entry) → AreGridsOf d.version d.grids → AreGridParts d.grids grids → (m : Spot) × (walk Head (saying k (Version d.version) ∷ (flat_map cell_part d.cells ++ grids)) ≡ Some m)
+head_walk d k grids (inl h) parts =
+    (Done false, ap (λ v. walk Head (saying k (Version v) ∷ (flat_map cell_part d.cells ++ grids))) h.0 ∙ cells_walk false d.cells d.grids grids h.1 parts)
+head_walk d k grids (inr h) parts =
+    (Done true, ap (λ v. walk Head (saying k (Version v) ∷ (flat_map cell_part d.cells ++ grids))) h.0 ∙ cells_walk true d.cells d.grids grids h.1 parts)
 
 -- ---- the beginning of one
 
@@ -70,8 +105,9 @@ first_some (Some x) f y e = (x, refl)
 pub begun_walks : (es : List Entry) → BeginDesign es → (m : Spot) × (walk Head es ≡ Some m)
 begun_walks es b =
     let lines = b.2 in
-    let whole : walk Head (es ++ b.0) ≡ Some Done = ap (walk Head) lines.parts ∙ cells_walk b.1.cells b.1.grid lines.grid lines.grid_part in
-    first_some (walk Head es) (λ m. walk m b.0) Done (sym (walk-append Head es b.0) ∙ whole)
+    let to = head_walk b.1 lines.first lines.grids lines.fits lines.grid_parts in
+    let whole : walk Head (es ++ b.0) ≡ Some to.0 = ap (walk Head) lines.parts ∙ to.1 in
+    first_some (walk Head es) (λ m. walk m b.0) to.0 (sym (walk-append Head es b.0) ∙ whole)
 
 abbrev Leads : Spot → List Entry → List Entry → Rest → Spot → Type 0
 Leads p es more r m = From m more r → (all : Rest) × From p (es ++ more) all
@@ -82,22 +118,44 @@ back p (e ∷ es) more r = then_some (Leads p (e ∷ es) more r) (turn_on p e.sa
     let t = turned p e.said m to in
     some_mono (walk m es) (Leads m es more r) (Leads p (e ∷ es) more r) (λ q k f. let inner = k f in (with_line e.number t.0 inner.0, step_on p m e t.0 (es ++ more) inner.0 t.1 t.2 inner.1)) (back m es more r))
 
-abbrev empty_grid : List Entry
-empty_grid = saying 0 Grid ∷ saying 0 End ∷ []
+-- a grid without rows, as the version has it
+abbrev some_name : Bool → Option (List ℕ)
+some_name named = cond named (Some []) None
 
-no_cells : CellsPart [] [] empty_grid
-no_cells = (empty_grid, refl, record { first = 0; inner = []; last = 0; parts = refl; each = refl })
+abbrev empty_grid : Bool → GridText
+empty_grid named = record { name = some_name named; line = 0; rows = [] }
+
+abbrev empty_lines : Bool → List Entry
+empty_lines named = saying 0 (Grid (some_name named)) ∷ saying 0 End ∷ []
+
+-- what such a grid gives under a version
+abbrev end_of : Bool → Rest
+end_of named = record nothing { version = cond named 2 1; grids = empty_grid named ∷ [] }
+
+some_all : (named : Bool) → AllGrids named (empty_grid named ∷ [])
+some_all false = (empty_grid false, refl, refl)
+some_all true = (omega arith, (([], refl), tt))
+
+some_parts : (named : Bool) → AreGridParts (empty_grid named ∷ []) (empty_lines named)
+some_parts named = (empty_lines named, [], refl, record { inner = []; last = 0; parts = refl; each = refl }, refl)
+
+no_more : (named : Bool) → MoreGrids named []
+no_more false = refl
+no_more true = tt
+
+no_cells : (named : Bool) → CellsPart named [] (empty_grid named ∷ []) (empty_lines named)
+no_cells named = (empty_lines named, refl, some_all named, some_parts named)
 
 -- from each spot on something can make a design whole
-some_rest : (m : Spot) → (more : List Entry) × From m more nothing
-some_rest Head = (saying 0 Version ∷ empty_grid, (0, empty_grid, refl, no_cells))
-some_rest Between = (empty_grid, no_cells)
-some_rest Inside = (saying 0 End ∷ empty_grid, (empty_grid, refl, no_cells))
-some_rest Rows = (saying 0 End ∷ [], (refl, ([], 0, refl, refl)))
-some_rest Done = ([], (refl, refl, refl))
+some_rest : (m : Spot) → (more : List Entry) × (r : Rest) × From m more r
+some_rest Head = (saying 0 (Version 1) ∷ empty_lines false, end_of false, (0, empty_lines false, refl, inl (refl, no_cells false)))
+some_rest (Between named) = (empty_lines named, end_of named, no_cells named)
+some_rest (Inside named) = (saying 0 End ∷ empty_lines named, end_of named, (empty_lines named, refl, no_cells named))
+some_rest (Rows named) = (saying 0 End ∷ [], nothing, (refl, ([], 0, [], refl, refl, (no_more named, refl))))
+some_rest (Done named) = ([], nothing, (refl, (no_more named, refl)))
 
 pub walk_begins : (es : List Entry) (m : Spot) → walk Head es ≡ Some m → BeginDesign es
 walk_begins es m e =
     let more = some_rest m in
-    let all = subst (λ (o : Option Spot). IfSome o (Leads Head es more.0 nothing)) e (back Head es more.0 nothing) more.1 in
+    let all = subst (λ (o : Option Spot). IfSome o (Leads Head es more.0 more.1)) e (back Head es more.0 more.1) more.2 in
     (more.0, design_in all.0, lines_of (es ++ more.0) all.0 all.1)

@@ -14,11 +14,11 @@ use Rattle.stick_parse.specs.declared.fault.ParseFault.{ParseFault}
 use Rattle.stick_parse.specs.declared.fault.ParseFault.TheVariants as faults
 use Rattle.stick_parse.specs.Reading.{◌>>=◌, Gives}
 use Rattle.stick_parse.specs.Lines.{Entry}
-use Rattle.stick_parse.specs.Order.{Place, AtHead, Behind, InCell, InGrid, AtEnd, place_after, Rest, with_line, at_line, at_end, rest_from, last_line, design_of}
+use Rattle.stick_parse.specs.Order.{Place, AtHead, Behind, InCell, InGrid, AtEnd, behind_header, place_after, Rest, with_line, at_line, at_end, rest_from, last_line, design_in, design_of}
 use Rattle.stick_parse.specs.Says.{said_lines, SaysDesign}
 use Rattle.stick_parse.specs.FirstFault.{says_cell, cell_lines, BeginDesign, AreSound, IsUnreadable, IsMisplaced, IsOneTooMany, BreaksAt, IsUnended, IsFirstFault, Tells}
 use Rattle.stick_parse.proofs.Written.{Holds}
-use Rattle.stick_parse.proofs.Shapes.{Spot, Head, Inside, spot_of, turn, turns, room_left, design_in, design_said, design_read}
+use Rattle.stick_parse.proofs.Shapes.{Spot, Head, Inside, spot_of, turn_head, turn, turns, room_left, design_said, design_read}
 use Rattle.stick_parse.proofs.Begun.{turn_on, walk, turned, then_some, some_mono, walk-append, begun_walks, walk_begins}
 
 -- ---- places that lines lead to, and how many `cell` lines stand in front
@@ -32,41 +32,59 @@ one s = cond (says_cell (Ok s)) 1 0
 
 abbrev At : Place → ℕ → Type 0
 At AtHead c = c ≡ 0
-At (Behind n) c = (c ≡ n) × (n ≤ 256)
-At (InCell n) c = (c ≡ n) × (n ≤ 256)
-At InGrid c = c ≤ 256
-At AtEnd c = c ≤ 256
+At (Behind named n) c = (c ≡ n) × (n ≤ 256)
+At (InCell named n) c = (c ≡ n) × (n ≤ 256)
+At (InGrid named) c = c ≤ 256
+At (AtEnd named) c = c ≤ 256
 
 few_at : (p : Place) (c : ℕ) → At p c → c ≤ 256
 few_at AtHead c h = omega (arith, h)
-few_at (Behind n) c h = omega (arith, h.0, h.1)
-few_at (InCell n) c h = omega (arith, h.0, h.1)
-few_at InGrid c h = h
-few_at AtEnd c h = h
+few_at (Behind named n) c h = omega (arith, h.0, h.1)
+few_at (InCell named n) c h = omega (arith, h.0, h.1)
+few_at (InGrid named) c h = h
+few_at (AtEnd named) c h = h
 
 -- where one more `cell` line has room, a line that may follow is taken
-placed : (p : Place) (s : Statement) (c : ℕ) → At p c → c + one s ≤ 256 → IfSome (turn (spot_of p) s) (λ m. (q : Place) × (place_after p s ≡ Ok q) × (spot_of q ≡ m) × At q (c + one s))
-placed AtHead Version c h few = (Behind 0, refl, refl, (omega (arith, h), omega arith))
-placed (Behind n) (Cell name) c h few = (InCell (n + 1), room_left n (omega (arith, h.0)), refl, (omega (arith, h.0), omega (arith, h.0)))
-placed (InCell n) (Item form) c h few = (InCell n, refl, refl, (omega (arith, h.0), h.1))
-placed (InCell n) End c h few = (Behind n, refl, refl, (omega (arith, h.0), h.1))
-placed (Behind n) Grid c h few = (InGrid, refl, refl, few)
-placed InGrid (Row row) c h few = (InGrid, refl, refl, few)
-placed InGrid End c h few = (AtEnd, refl, refl, few)
+abbrev Placed : Place → Statement → ℕ → Spot → Type 0
+Placed p s c m = (q : Place) × (place_after p s ≡ Ok q) × (spot_of q ≡ m) × At q (c + one s)
+
+head_placed : (first second : Bool) (version c : ℕ) → behind_header version ≡ cond first (Ok (Behind false 0)) (cond second (Ok (Behind true 0)) (Err BadLine)) → c ≡ 0
+    → IfSome (turn_head first second) (Placed AtHead (Version version) c)
+head_placed true second version c is h = (Behind false 0, is, refl, (omega (arith, h), omega arith))
+head_placed false true version c is h = (Behind true 0, is, refl, (omega (arith, h), omega arith))
+head_placed false false version c is h = tt
+
+placed : (p : Place) (s : Statement) (c : ℕ) → At p c → c + one s ≤ 256 → IfSome (turn (spot_of p) s) (Placed p s c)
+placed AtHead (Version version) c h few = head_placed (eqb version 1) (eqb version 2) version c refl h
+placed (Behind named n) (Cell name) c h few = (InCell named (n + 1), room_left n named (omega (arith, h.0)), refl, (omega (arith, h.0), omega (arith, h.0)))
+placed (InCell named n) (Item form) c h few = (InCell named n, refl, refl, (omega (arith, h.0), h.1))
+placed (InCell named n) End c h few = (Behind named n, refl, refl, (omega (arith, h.0), h.1))
+placed (Behind false n) (Grid None) c h few = (InGrid false, refl, refl, few)
+placed (Behind true n) (Grid (Some name)) c h few = (InGrid true, refl, refl, few)
+placed (InGrid named) (Row row) c h few = (InGrid named, refl, refl, few)
+placed (InGrid named) End c h few = (AtEnd named, refl, refl, few)
+placed (AtEnd true) (Grid (Some name)) c h few = (InGrid true, refl, refl, few)
 placed p s c h few = tt
 
-cell_counts : (b : Bool) (n c : ℕ) → eqb n 256 ≡ b → c ≡ n → n ≤ 256 → Holds {E = StickKind} (λ m. At m (c + 1)) (cond b (Err TooManyCells) (Ok (InCell (n + 1))))
-cell_counts true n c is h few = tt
-cell_counts false n c is h few = let other : n ≢ 256 = borrow.Author.Tests.false-eqb _ _ (sym is) in (omega (arith, h), omega arith)
+cell_counts : (b named : Bool) (n c : ℕ) → eqb n 256 ≡ b → c ≡ n → n ≤ 256 → Holds {E = StickKind} (λ m. At m (c + 1)) (cond b (Err TooManyCells) (Ok (InCell named (n + 1))))
+cell_counts true named n c is h few = tt
+cell_counts false named n c is h few = let other : n ≢ 256 = borrow.Author.Tests.false-eqb _ _ (sym is) in (omega (arith, h), omega arith)
+
+head_counts : (first second : Bool) (c : ℕ) → c ≡ 0 → Holds {E = StickKind} (λ m. At m (c + 0)) (cond first (Ok (Behind false 0)) (cond second (Ok (Behind true 0)) (Err BadLine)))
+head_counts true second c h = (omega (arith, h), omega arith)
+head_counts false true c h = (omega (arith, h), omega arith)
+head_counts false false c h = tt
 
 counts : (p : Place) (s : Statement) (c : ℕ) → At p c → Holds (λ m. At m (c + one s)) (place_after p s)
-counts AtHead Version c h = (omega (arith, h), omega arith)
-counts (Behind n) (Cell name) c h = cell_counts (eqb n 256) n c refl h.0 h.1
-counts (InCell n) (Item form) c h = (omega (arith, h.0), h.1)
-counts (InCell n) End c h = (omega (arith, h.0), h.1)
-counts (Behind n) Grid c h = omega (arith, h.0, h.1)
-counts InGrid (Row row) c h = omega (arith, h)
-counts InGrid End c h = omega (arith, h)
+counts AtHead (Version version) c h = head_counts (eqb version 1) (eqb version 2) c h
+counts (Behind named n) (Cell name) c h = cell_counts (eqb n 256) named n c refl h.0 h.1
+counts (InCell named n) (Item form) c h = (omega (arith, h.0), h.1)
+counts (InCell named n) End c h = (omega (arith, h.0), h.1)
+counts (Behind false n) (Grid None) c h = omega (arith, h.0, h.1)
+counts (Behind true n) (Grid (Some name)) c h = omega (arith, h.0, h.1)
+counts (InGrid named) (Row row) c h = omega (arith, h)
+counts (InGrid named) End c h = omega (arith, h)
+counts (AtEnd true) (Grid (Some name)) c h = omega (arith, h)
 counts p s c h = tt
 
 said_one : (c : ℕ) (e : Entry) (s : Statement) (es : List Entry) → e.said ≡ Ok s → c + one s + cell_lines es ≡ c + cell_lines (e ∷ es)
@@ -95,7 +113,7 @@ follow [] p c h few = (p, refl, refl)
 follow (e ∷ es) p c h few = then_some (Followed p (e ∷ es)) (turn_on (spot_of p) e.said) (λ m. walk m es) (λ m to.
     let t = turned (spot_of p) e.said m to in
     let count : c + one t.0 + cell_lines es ≡ c + cell_lines (e ∷ es) = said_one c e t.0 es t.1 in
-    let on = subst (λ (o : Option Spot). IfSome o (λ n. (q : Place) × (place_after p t.0 ≡ Ok q) × (spot_of q ≡ n) × At q (c + one t.0))) t.2 (placed p t.0 c h (omega (arith, count, few))) in
+    let on = subst (λ (o : Option Spot). IfSome o (Placed p t.0 c)) t.2 (placed p t.0 c h (omega (arith, count, few))) in
     let others : IfSome (walk m es) (Followed on.0 es) = subst (λ n. IfSome (walk n es) (Followed on.0 es)) on.2 (follow es on.0 (c + one t.0) on.3 (omega (arith, count, few))) in
     some_mono (walk m es) (Followed on.0 es) (Followed p (e ∷ es)) (λ n f. (f.0, f.1, (t.0, on.0, t.1, on.1, f.2))) others)
 
@@ -179,20 +197,27 @@ stops last p (x ∷ xs) =
 
 -- why a place takes no such line
 abbrev Refusal : Place → Statement → StickKind → Type 0
-Refusal q s kind = ((kind ≡ BadLine) × (turn (spot_of q) s ≡ None)) ⊎ ((name : List ℕ) × (kind ≡ TooManyCells) × (q ≡ Behind 256) × (s ≡ Cell name))
+Refusal q s kind = ((kind ≡ BadLine) × (turn (spot_of q) s ≡ None)) ⊎ ((named : Bool) × (name : List ℕ) × (kind ≡ TooManyCells) × (q ≡ Behind named 256) × (s ≡ Cell name))
 
-full_refusal : (b : Bool) (n : ℕ) (name : List ℕ) → eqb n 256 ≡ b → IfErr (cond b (Err TooManyCells) (Ok (InCell (n + 1)))) (Refusal (Behind n) (Cell name))
-full_refusal true n name is = inr (name, refl, ap Behind (borrow.Author.Tests.eqb-true _ _ is), refl)
-full_refusal false n name is = tt
+full_refusal : (b named : Bool) (n : ℕ) (name : List ℕ) → eqb n 256 ≡ b → IfErr (cond b (Err TooManyCells) (Ok (InCell named (n + 1)))) (Refusal (Behind named n) (Cell name))
+full_refusal true named n name is = inr (named, name, refl, ap (Behind named) (borrow.Author.Tests.eqb-true _ _ is), refl)
+full_refusal false named n name is = tt
+
+head_refusal : (first second : Bool) (version : ℕ) → turn Head (Version version) ≡ turn_head first second → IfErr (cond first (Ok (Behind false 0)) (cond second (Ok (Behind true 0)) (Err BadLine))) (Refusal AtHead (Version version))
+head_refusal true second version is = tt
+head_refusal false true version is = tt
+head_refusal false false version is = inl (refl, is)
 
 refusal : (q : Place) (s : Statement) → IfErr (place_after q s) (Refusal q s)
-refusal AtHead Version = tt
-refusal (Behind n) (Cell name) = full_refusal (eqb n 256) n name refl
-refusal (InCell n) (Item form) = tt
-refusal (InCell n) End = tt
-refusal (Behind n) Grid = tt
-refusal InGrid (Row row) = tt
-refusal InGrid End = tt
+refusal AtHead (Version version) = head_refusal (eqb version 1) (eqb version 2) version refl
+refusal (Behind named n) (Cell name) = full_refusal (eqb n 256) named n name refl
+refusal (InCell named n) (Item form) = tt
+refusal (InCell named n) End = tt
+refusal (Behind false n) (Grid None) = tt
+refusal (Behind true n) (Grid (Some name)) = tt
+refusal (InGrid named) (Row row) = tt
+refusal (InGrid named) End = tt
+refusal (AtEnd true) (Grid (Some name)) = tt
 refusal q s = inl (refl, refl)
 
 abbrev Cause : List Entry → Entry → StickKind → Type 0
@@ -207,15 +232,15 @@ no_turn front next q s r said never b =
 by_refusal : (front : List Entry) (next : Entry) (q : Place) (s : Statement) (kind : StickKind) → Reaches AtHead front q → next.said ≡ Ok s → Refusal q s kind → Cause front next kind
 by_refusal front next q s kind r said (inl bad) = inr (inl (record { statement = s; said = said; none = no_turn front next q s r said bad.1; told = bad.0 }))
 by_refusal front next q s kind r said (inr many) =
-    let reach : Reaches AtHead front (Behind 256) = subst (Reaches AtHead front) many.2 r in
-    let is_cell : next.said ≡ Ok (Cell many.0) = said ∙ ap (λ (x : Statement). Ok x) many.3 in
-    let count = reach_counts AtHead (Behind 256) front 0 refl reach in
+    let reach : Reaches AtHead front (Behind many.0 256) = subst (Reaches AtHead front) many.3 r in
+    let is_cell : next.said ≡ Ok (Cell many.1) = said ∙ ap (λ (x : Statement). Ok x) many.4 in
+    let count = reach_counts AtHead (Behind many.0 256) front 0 refl reach in
     inr (inr (record {
-      name = many.0;
+      name = many.1;
       said = is_cell;
-      begin = walk_begins (front ++ next ∷ []) Inside (one_more front next (Behind 256) (Cell many.0) reach is_cell);
+      begin = walk_begins (front ++ next ∷ []) (Inside many.0) (one_more front next (Behind many.0 256) (Cell many.1) reach is_cell);
       full = omega (arith, count.0);
-      told = many.1;
+      told = many.2;
     }))
 
 cause_of : (front : List Entry) (next : Entry) (q : Place) (kind : StickKind) → Reaches AtHead front q → Refuses q next kind → Cause front next kind
@@ -224,10 +249,10 @@ cause_of front next q kind r (inr x) = by_refusal front next q x.0 kind r x.1 (s
 
 unended_as : (last : ℕ) (q : Place) (f : StickFault) → at_end last q ≡ Err f → f ≡ record { line = last; kind = Unended }
 unended_as last AtHead f e = cc
-unended_as last (Behind n) f e = cc
-unended_as last (InCell n) f e = cc
-unended_as last InGrid f e = cc
-unended_as last AtEnd f e = absurd cc
+unended_as last (Behind named n) f e = cc
+unended_as last (InCell named n) f e = cc
+unended_as last (InGrid named) f e = cc
+unended_as last (AtEnd named) f e = absurd cc
 
 first_of_stop : (text : List ℕ) (f : StickFault) → design_of text ≡ Err f → Stops (last_line text) AtHead (said_lines text) f → IsFirstFault text f
 first_of_stop text f e (inl x) = inl (record {
@@ -279,22 +304,30 @@ some_or_none : (o : Option Spot) → (o ≡ None) ⊎ ((m : Spot) × (o ≡ Some
 some_or_none None = inl refl
 some_or_none (Some m) = inr (m, refl)
 
+bad_head : (first second : Bool) → turn_head first second ≡ None → cond first (Ok (Behind false 0)) (cond second (Ok (Behind true 0)) (Err BadLine)) ≡ Err BadLine
+bad_head true second e = absurd cc
+bad_head false true e = absurd cc
+bad_head false false e = refl
+
 bad_after : (q : Place) (s : Statement) → turn (spot_of q) s ≡ None → place_after q s ≡ Err BadLine
-bad_after AtHead Version e = absurd cc
-bad_after (Behind n) (Cell name) e = absurd cc
-bad_after (InCell n) (Item form) e = absurd cc
-bad_after (InCell n) End e = absurd cc
-bad_after (Behind n) Grid e = absurd cc
-bad_after InGrid (Row row) e = absurd cc
-bad_after InGrid End e = absurd cc
+bad_after AtHead (Version version) e = bad_head (eqb version 1) (eqb version 2) e
+bad_after (Behind named n) (Cell name) e = absurd cc
+bad_after (InCell named n) (Item form) e = absurd cc
+bad_after (InCell named n) End e = absurd cc
+bad_after (Behind false n) (Grid None) e = absurd cc
+bad_after (Behind true n) (Grid (Some name)) e = absurd cc
+bad_after (InGrid named) (Row row) e = absurd cc
+bad_after (InGrid named) End e = absurd cc
+bad_after (AtEnd true) (Grid (Some name)) e = absurd cc
 bad_after q s e = refl
 
 full_after : (q : Place) (name : List ℕ) (c : ℕ) (m : Spot) → At q c → c ≡ 256 → option_and_then (λ n. Some n) (turn (spot_of q) (Cell name)) ≡ Some m → place_after q (Cell name) ≡ Err TooManyCells
 full_after AtHead name c m h full e = absurd cc
-full_after (Behind n) name c m h full e = ap (λ (k : ℕ). cond (eqb k 256) (Err TooManyCells) (Ok (InCell (n + 1)))) (sym h.0 ∙ full)
-full_after (InCell n) name c m h full e = absurd cc
-full_after InGrid name c m h full e = absurd cc
-full_after AtEnd name c m h full e = absurd cc
+full_after (Behind named n) name c m h full e = ap (λ (k : ℕ). cond (eqb k 256) (Err TooManyCells) (Ok (InCell named (n + 1)))) (sym h.0 ∙ full)
+full_after (InCell named n) name c m h full e = absurd cc
+full_after (InGrid named) name c m h full e = absurd cc
+full_after (AtEnd false) name c m h full e = absurd cc
+full_after (AtEnd true) name c m h full e = absurd cc
 
 no_turn_of : (front : List Entry) (next : Entry) (q : Place) (s : Statement) → Reaches AtHead front q → next.said ≡ Ok s → ¬ BeginDesign (front ++ next ∷ []) → (turn (spot_of q) s ≡ None) ⊎ ((m : Spot) × (turn (spot_of q) s ≡ Some m)) → turn (spot_of q) s ≡ None
 no_turn_of front next q s r said never (inl e) = e
@@ -330,10 +363,10 @@ break_told last text f h =
 
 ends_or : (last : ℕ) (q : Place) → (at_end last q ≡ Err (record { line = last; kind = Unended })) ⊎ ((rest : Rest) × (at_end last q ≡ Ok rest))
 ends_or last AtHead = inl refl
-ends_or last (Behind n) = inl refl
-ends_or last (InCell n) = inl refl
-ends_or last InGrid = inl refl
-ends_or last AtEnd = inr (Rattle.stick_parse.specs.Order.nothing, refl)
+ends_or last (Behind named n) = inl refl
+ends_or last (InCell named n) = inl refl
+ends_or last (InGrid named) = inl refl
+ends_or last (AtEnd named) = inr (Rattle.stick_parse.specs.Order.nothing, refl)
 
 all_read : (last : ℕ) (text : List ℕ) (q : Place) (r : Reaches AtHead (said_lines text) q) (end : Result Rest StickFault) → at_end last q ≡ end → (f : Rest → Rest) × (rest_from last AtHead (said_lines text) ≡ (end >>= λ rest. Ok (f rest)))
 all_read last text q r end e =

@@ -4,3 +4,4 @@ pub mod Written
 pub mod Shapes
 pub mod Begun
 pub mod Faults
+pub mod Together

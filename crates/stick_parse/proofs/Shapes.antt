@@ -1,62 +1,89 @@
 -- What a text gives line by line is the design whose lines it has.
-use Rattle.std.proofs.Common.{◌≡◌, ℕ, ◌+◌, ◌≤◌, ◌<◌, Bool, true, false, cond, eqb, List, [], ◌∷◌, ◌++◌, length, map, Option, Some, None, Result, Ok, Err, refl, sym, ap, subst, ◌∙◌, append_assoc, arith}
+use Rattle.std.proofs.Common.{◌≡◌, ◌⊎◌, inl, inr, ℕ, ◌+◌, ◌≤◌, ◌<◌, Bool, true, false, cond, eqb, List, [], ◌∷◌, ◌++◌, length, map, Option, Some, None, Result, Ok, Err, refl, sym, ap, subst, ◌∙◌, append_assoc, arith}
 use Rattle.std.specs.Prelude.{IfSome, flat_map}
 use Rattle.std.proofs.lemmas.Bool.Decides.{nat_tests}
 use Rattle.stick_parse.specs.declared.fault.StickKind.{StickKind}
-use Rattle.stick_parse.specs.declared.fault.StickKind.TheVariants.{TooManyCells}
+use Rattle.stick_parse.specs.declared.fault.StickKind.TheVariants.{BadLine, TooManyCells}
 use Rattle.stick_parse.specs.declared.fault.StickFault.{StickFault}
 use Rattle.stick_parse.specs.declared.design.Line.{Line}
 use Rattle.stick_parse.specs.declared.design.CellText.{CellText}
 use Rattle.stick_parse.specs.declared.design.RowText.{RowText}
+use Rattle.stick_parse.specs.declared.design.GridText.{GridText}
 use Rattle.stick_parse.specs.declared.design.Design.{Design}
 use Rattle.stick_parse.specs.declared.design.Statement.{Statement}
 use Rattle.stick_parse.specs.declared.design.Statement.TheVariants.{Version, Cell, Item, Grid, Row, End}
 use Rattle.stick_parse.specs.Reading.{◌>>=◌}
 use Rattle.stick_parse.specs.Lines.{Entry}
-use Rattle.stick_parse.specs.Order.{Place, AtHead, Behind, InCell, InGrid, AtEnd, place_after, Rest, with_line, at_line, at_end, rest_from, last_line, design_of}
-use Rattle.stick_parse.specs.Writable.{IsWritable}
-use Rattle.stick_parse.specs.Says.{saying, form_line, cell_part, IsGridPart, AreLinesOf, said_lines, SaysDesign}
-use Rattle.stick_parse.proofs.Written.{Holds, then_holds, at_line_holds, design_holds}
+use Rattle.stick_parse.specs.Order.{Place, AtHead, Behind, InCell, InGrid, AtEnd, place_after, Rest, with_line, at_line, at_end, rest_from, design_in, last_line, design_of}
+use Rattle.stick_parse.specs.declared.fault.ParseFault.{ParseFault}
+use Rattle.std.specs.Prelude.{IfOk}
+use Rattle.stick_parse.specs.Reading.{Gives}
+use Rattle.stick_parse.specs.Writable.{IsWritable, AreGridsOf, IsOneUnnamed, AreSomeNamed, HasName}
+use Rattle.std.specs.List.{AllByRecursion}
+use Rattle.stick_parse.specs.Says.{saying, form_line, cell_part, IsGridPart, AreGridParts, AreLinesOf, said_lines, SaysDesign}
+use Rattle.stick_parse.proofs.Written.{Holds, then_holds, at_line_holds, IsMadeOf, design_holds}
 
 -- ---- the shape of what stands from some place on
 
 -- where a line stands, however many cells stand in front
 pub data Spot : Type 0 where
   Head : Spot
-  Between : Spot
-  Inside : Spot
-  Rows : Spot
-  Done : Spot
+  Between : Bool → Spot
+  Inside : Bool → Spot
+  Rows : Bool → Spot
+  Done : Bool → Spot
 
 abbrev pub spot_of : Place → Spot
 spot_of AtHead = Head
-spot_of (Behind n) = Between
-spot_of (InCell n) = Inside
-spot_of InGrid = Rows
-spot_of AtEnd = Done
+spot_of (Behind named n) = Between named
+spot_of (InCell named n) = Inside named
+spot_of (InGrid named) = Rows named
+spot_of (AtEnd named) = Done named
+
+abbrev pub turn_head : Bool → Bool → Option Spot
+turn_head first second = cond first (Some (Between false)) (cond second (Some (Between true)) None)
 
 abbrev pub turn : Spot → Statement → Option Spot
-turn Head Version = Some Between
-turn Between (Cell name) = Some Inside
-turn Inside (Item form) = Some Inside
-turn Inside End = Some Between
-turn Between Grid = Some Rows
-turn Rows (Row row) = Some Rows
-turn Rows End = Some Done
+turn Head (Version version) = turn_head (eqb version 1) (eqb version 2)
+turn (Between named) (Cell name) = Some (Inside named)
+turn (Inside named) (Item form) = Some (Inside named)
+turn (Inside named) End = Some (Between named)
+turn (Between false) (Grid None) = Some (Rows false)
+turn (Between true) (Grid (Some name)) = Some (Rows true)
+turn (Rows named) (Row row) = Some (Rows named)
+turn (Rows named) End = Some (Done named)
+turn (Done true) (Grid (Some name)) = Some (Rows true)
 turn spot statement = None
 
-abbrev pub CellsPart : List CellText → List RowText → List Entry → Type 0
-CellsPart cs rs es = (grid : List Entry) × (es ≡ flat_map cell_part cs ++ grid) × IsGridPart rs grid
+-- the grids behind one
+abbrev pub MoreGrids : Bool → List GridText → Type 0
+MoreGrids false gs = gs ≡ []
+MoreGrids true gs = AllByRecursion HasName gs
 
-abbrev pub RowsPart : List RowText → List Entry → Type 0
-RowsPart rs es = (inner : List Entry) × (last : ℕ) × (es ≡ inner ++ saying last End ∷ []) × (map (λ entry. entry.said) inner ≡ map (λ row. Ok (Row row)) rs)
+-- the grids behind the cells
+abbrev pub AllGrids : Bool → List GridText → Type 0
+AllGrids false gs = IsOneUnnamed gs
+AllGrids true gs = AreSomeNamed gs
+
+abbrev pub GridsPart : Bool → List GridText → List Entry → Type 0
+GridsPart named gs es = MoreGrids named gs × AreGridParts gs es
+
+abbrev pub CellsPart : Bool → List CellText → List GridText → List Entry → Type 0
+CellsPart named cs gs es = (grids : List Entry) × (es ≡ flat_map cell_part cs ++ grids) × AllGrids named gs × AreGridParts gs grids
+
+abbrev pub RowsPart : Bool → List RowText → List GridText → List Entry → Type 0
+RowsPart named rs gs es =
+    (inner : List Entry) × (last : ℕ) × (more : List Entry) × (es ≡ inner ++ saying last End ∷ more) × (map (λ entry. entry.said) inner ≡ map (λ row. Ok (Row row)) rs) × GridsPart named gs more
+
+abbrev VersionPart : Rest → List Entry → Type 0
+VersionPart r es = ((r.version ≡ 1) × CellsPart false r.cells r.grids es) ⊎ ((r.version ≡ 2) × CellsPart true r.cells r.grids es)
 
 abbrev pub From : Spot → List Entry → Rest → Type 0
-From Head es r = (k : ℕ) × (more : List Entry) × (es ≡ saying k Version ∷ more) × CellsPart r.cells r.rows more
-From Between es r = CellsPart r.cells r.rows es
-From Inside es r = (more : List Entry) × (es ≡ map form_line r.lines ++ saying r.end_line End ∷ more) × CellsPart r.cells r.rows more
-From Rows es r = (r.cells ≡ []) × RowsPart r.rows es
-From Done es r = (es ≡ []) × (r.cells ≡ []) × (r.rows ≡ [])
+From Head es r = (k : ℕ) × (more : List Entry) × (es ≡ saying k (Version r.version) ∷ more) × VersionPart r more
+From (Between named) es r = CellsPart named r.cells r.grids es
+From (Inside named) es r = (more : List Entry) × (es ≡ map form_line r.lines ++ saying r.end_line End ∷ more) × CellsPart named r.cells r.grids more
+From (Rows named) es r = (r.cells ≡ []) × RowsPart named r.rows r.grids es
+From (Done named) es r = (r.cells ≡ []) × GridsPart named r.grids es
 
 -- the lines of a cell, in front of others
 pub regroup : (c : CellText) (others grid : List Entry) → (cell_part c ++ others) ++ grid ≡ saying c.line (Cell c.name) ∷ (map form_line c.lines ++ saying c.end_line End ∷ (others ++ grid))
@@ -64,30 +91,51 @@ regroup c others grid =
     ap (λ (es : List Entry). saying c.line (Cell c.name) ∷ es)
     (append_assoc (map form_line c.lines ++ saying c.end_line End ∷ []) others grid ∙ append_assoc (map form_line c.lines) (saying c.end_line End ∷ []) (others ++ grid))
 
-cell_before : (name : List ℕ) (k : ℕ) (es : List Entry) (r : Rest) → From Inside es r → From Between (saying k (Cell name) ∷ es) (with_line k (Cell name) r)
-cell_before name k es r f =
+cell_before : (named : Bool) (name : List ℕ) (k : ℕ) (es : List Entry) (r : Rest) → From (Inside named) es r → From (Between named) (saying k (Cell name) ∷ es) (with_line k (Cell name) r)
+cell_before named name k es r f =
     let made : CellText = record { name = name; line = k; end_line = r.end_line; lines = r.lines } in (
       f.2.0,
       ap (λ (x : List Entry). saying k (Cell name) ∷ x) (f.1 ∙ ap (λ (x : List Entry). map form_line r.lines ++ saying r.end_line End ∷ x) f.2.1) ∙ sym (regroup made (flat_map cell_part r.cells) f.2.0),
       f.2.2,
+      f.2.3,
     )
 
-grid_before : (k : ℕ) (es : List Entry) (r : Rest) → From Rows es r → From Between (saying k Grid ∷ es) r
-grid_before k es r f =
-    let no_cells : flat_map cell_part r.cells ≡ [] = ap (flat_map cell_part) f.0 in (
-      saying k Grid ∷ es,
-      ap (λ (x : List Entry). x ++ saying k Grid ∷ es) (sym no_cells),
-      record { first = k; inner = f.1.0; last = f.1.1; parts = ap (λ (x : List Entry). saying k Grid ∷ x) f.1.2; each = f.1.3 },
+-- the first line of a grid, in front of its rows and the grids behind it
+grid_parts : (named : Bool) (name : Option (List ℕ)) (k : ℕ) (es : List Entry) (r : Rest) → From (Rows named) es r → AreGridParts (record { name = name; line = k; rows = r.rows } ∷ r.grids) (saying k (Grid name) ∷ es)
+grid_parts named name k es r f =
+    let parts = f.1 in
+    let part : List Entry = saying k (Grid name) ∷ (parts.0 ++ saying parts.1 End ∷ []) in (
+      part,
+      parts.2,
+      ap (λ (x : List Entry). saying k (Grid name) ∷ x) (parts.3 ∙ sym (append_assoc parts.0 (saying parts.1 End ∷ []) parts.2)),
+      record { inner = parts.0; last = parts.1; parts = refl; each = parts.4 },
+      parts.5.1,
     )
+
+grid_before : (named : Bool) (name : Option (List ℕ)) (k : ℕ) (es : List Entry) (r : Rest) → From (Rows named) es r → AllGrids named (record { name = name; line = k; rows = r.rows } ∷ r.grids) → From (Between named) (saying k (Grid name) ∷ es) (with_line k (Grid name) r)
+grid_before named name k es r f all =
+    let no_cells : flat_map cell_part r.cells ≡ [] = ap (flat_map cell_part) f.0 in
+    (saying k (Grid name) ∷ es, ap (λ (x : List Entry). x ++ saying k (Grid name) ∷ es) (sym no_cells), all, grid_parts named name k es r f)
+
+head_before : (first second : Bool) (version k : ℕ) (es : List Entry) (r : Rest) → eqb version 1 ≡ first → eqb version 2 ≡ second
+    → IfSome (turn_head first second) (λ next. From next es r → From Head (saying k (Version version) ∷ es) (with_line k (Version version) r))
+head_before true second version k es r one two = λ f. (k, es, refl, inl (borrow.Author.Tests.eqb-true _ _ one, f))
+head_before false true version k es r one two = λ f. (k, es, refl, inr (borrow.Author.Tests.eqb-true _ _ two, f))
+head_before false false version k es r one two = tt
 
 pub step : (p : Spot) (s : Statement) (k : ℕ) (es : List Entry) (r : Rest) → IfSome (turn p s) (λ next. From next es r → From p (saying k s ∷ es) (with_line k s r))
-step Head Version k es r = λ f. (k, es, refl, f)
-step Between (Cell name) k es r = cell_before name k es r
-step Inside (Item form) k es r = λ f. (f.0, ap (λ (x : List Entry). saying k (Item form) ∷ x) f.1, f.2)
-step Inside End k es r = λ f. (es, refl, f)
-step Between Grid k es r = grid_before k es r
-step Rows (Row row) k es r = λ f. (f.0, (saying k (Row row) ∷ f.1.0, f.1.1, ap (λ (x : List Entry). saying k (Row row) ∷ x) f.1.2, ap (λ (x : List (Result Statement StickKind)). Ok (Row row) ∷ x) f.1.3))
-step Rows End k es r = λ f. (f.1, ([], k, ap (λ (x : List Entry). saying k End ∷ x) f.0, ap (map (λ (row : RowText). Ok (Row row))) (sym f.2)))
+step Head (Version version) k es r = head_before (eqb version 1) (eqb version 2) version k es r refl refl
+step (Between named) (Cell name) k es r = cell_before named name k es r
+step (Inside named) (Item form) k es r = λ f. (f.0, ap (λ (x : List Entry). saying k (Item form) ∷ x) f.1, f.2)
+step (Inside named) End k es r = λ f. (es, refl, f)
+step (Between false) (Grid None) k es r =
+    let made : GridText = record { name = None; line = k; rows = r.rows } in
+    λ f. grid_before false None k es r f (made, ap (λ (gs : List GridText). made ∷ gs) f.1.5.0, refl)
+step (Between true) (Grid (Some name)) k es r = λ f. grid_before true (Some name) k es r f (omega arith, ((name, refl), f.1.5.0))
+step (Rows named) (Row row) k es r =
+    λ f. (f.0, (saying k (Row row) ∷ f.1.0, f.1.1, f.1.2, ap (λ (x : List Entry). saying k (Row row) ∷ x) f.1.3, ap (λ (x : List (Result Statement StickKind)). Ok (Row row) ∷ x) f.1.4, f.1.5))
+step (Rows named) End k es r = λ f. (f.0, ([], k, es, refl, refl, f.1))
+step (Done true) (Grid (Some name)) k es r = λ f. (f.0, (((name, refl), f.1.5.0), grid_parts true (Some name) k es r f))
 step p s k es r = tt
 
 -- the line of an entry that can be read
@@ -101,18 +149,25 @@ step_on p next e s es r said to f =
 
 -- ---- what is read has the shape
 
-cell_turn : (b : Bool) (n : ℕ) → Holds {E = StickKind} (λ next. Some Inside ≡ Some (spot_of next)) (cond b (Err TooManyCells) (Ok (InCell (n + 1))))
-cell_turn true n = tt
-cell_turn false n = refl
+cell_turn : (b named : Bool) (n : ℕ) → Holds {E = StickKind} (λ next. Some (Inside named) ≡ Some (spot_of next)) (cond b (Err TooManyCells) (Ok (InCell named (n + 1))))
+cell_turn true named n = tt
+cell_turn false named n = refl
+
+head_turn : (first second : Bool) → Holds {E = StickKind} (λ next. turn_head first second ≡ Some (spot_of next)) (cond first (Ok (Behind false 0)) (cond second (Ok (Behind true 0)) (Err BadLine)))
+head_turn true second = refl
+head_turn false true = refl
+head_turn false false = tt
 
 pub turns : (p : Place) (s : Statement) → Holds (λ next. turn (spot_of p) s ≡ Some (spot_of next)) (place_after p s)
-turns AtHead Version = refl
-turns (Behind n) (Cell name) = cell_turn (eqb n 256) n
-turns (InCell n) (Item form) = refl
-turns (InCell n) End = refl
-turns (Behind n) Grid = refl
-turns InGrid (Row row) = refl
-turns InGrid End = refl
+turns AtHead (Version version) = head_turn (eqb version 1) (eqb version 2)
+turns (Behind named n) (Cell name) = cell_turn (eqb n 256) named n
+turns (InCell named n) (Item form) = refl
+turns (InCell named n) End = refl
+turns (Behind false n) (Grid None) = refl
+turns (Behind true n) (Grid (Some name)) = refl
+turns (InGrid named) (Row row) = refl
+turns (InGrid named) End = refl
+turns (AtEnd true) (Grid (Some name)) = refl
 turns p s = tt
 
 said_as : (r : Result Statement StickKind) → Holds (λ s. r ≡ Ok s) r
@@ -121,10 +176,11 @@ said_as (Err kind) = tt
 
 end_shape : (last : ℕ) (p : Place) → Holds (From (spot_of p) []) (at_end last p)
 end_shape last AtHead = tt
-end_shape last (Behind n) = tt
-end_shape last (InCell n) = tt
-end_shape last InGrid = tt
-end_shape last AtEnd = (refl, refl, refl)
+end_shape last (Behind named n) = tt
+end_shape last (InCell named n) = tt
+end_shape last (InGrid named) = tt
+end_shape last (AtEnd false) = (refl, (refl, refl))
+end_shape last (AtEnd true) = (refl, (tt, refl))
 
 pub shape_of : (last : ℕ) (p : Place) (es : List Entry) → Holds (From (spot_of p) es) (rest_from last p es)
 shape_of last p [] = end_shape last p
@@ -134,58 +190,119 @@ shape_of last p (e ∷ es) =
     then_holds (From (spot_of next) es) (From (spot_of p) (e ∷ es)) (rest_from last next es) _ (shape_of last next es) (λ rest f.
     step_on (spot_of p) (spot_of next) e s es rest said to f)))
 
-abbrev pub design_in : Rest → Design
-design_in rest = record { cells = rest.cells; grid = rest.rows }
+by_version : (es more : List Entry) (k : ℕ) (r : Rest) → es ≡ saying k (Version r.version) ∷ more → VersionPart r more → AreLinesOf (design_in r) es
+by_version es more k r e (inl f) = record { first = k; grids = f.1.0; parts = e ∙ ap (λ (x : List Entry). saying k (Version r.version) ∷ x) f.1.1; grid_parts = f.1.3; fits = inl (f.0, f.1.2) }
+by_version es more k r e (inr f) = record { first = k; grids = f.1.0; parts = e ∙ ap (λ (x : List Entry). saying k (Version r.version) ∷ x) f.1.1; grid_parts = f.1.3; fits = inr (f.0, f.1.2) }
 
 pub lines_of : (es : List Entry) (r : Rest) → From Head es r → AreLinesOf (design_in r) es
-lines_of es r f = record { first = f.0; grid = f.3.0; parts = f.2 ∙ ap (λ (x : List Entry). saying f.0 Version ∷ x) f.3.1; grid_part = f.3.2 }
+lines_of es r f = by_version es f.1 f.0 r f.2 f.3
 
 pub design_said : (text : List ℕ) (design : Design) → design_of text ≡ Ok design → SaysDesign text design
 unfolding design_of
 design_said text design e =
     let found : Holds (λ d. AreLinesOf d (said_lines text)) (design_of text) = then_holds (From Head (said_lines text)) (λ d. AreLinesOf d (said_lines text)) (rest_from (last_line text) AtHead (said_lines text)) _ (shape_of (last_line text) AtHead (said_lines text)) (λ rest f. lines_of (said_lines text) rest f) in
-    let writable : IsWritable design = subst (Holds IsWritable) e (design_holds text) in
-    record { has_lines = subst (Holds (λ d. AreLinesOf d (said_lines text))) e found; few_cells = writable.few_cells }
+    let made : IsMadeOf design = subst (Holds IsMadeOf) e (design_holds text) in
+    record { has_lines = subst (Holds (λ d. AreLinesOf d (said_lines text))) e found; few_cells = made.few_cells }
+
+-- a design that is read can be written
+pub read_is_writable : (text : List ℕ) (r : Result Design ParseFault) → Gives (λ design. design) r (design_of text) → IfOk r IsWritable
+read_is_writable text (Ok design) e =
+    let made : IsMadeOf design = subst (Holds IsMadeOf) e (design_holds text) in
+    let said = design_said text design e in
+    record { cells = made.cells; few_cells = made.few_cells; grids = made.grids; fits = said.has_lines.fits }
+read_is_writable text (Err fault) e = tt
 
 -- ---- what has the shape is read
 
 abbrev then_line : ℕ → Statement → Result Rest StickFault → Result Rest StickFault
 then_line k s read = read >>= λ rest. Ok (with_line k s rest)
 
-rows_read : (last : ℕ) (inner : List Entry) (rs : List RowText) (end : ℕ) → map (λ entry. entry.said) inner ≡ map (λ row. Ok (Row row)) rs
-    → rest_from last InGrid (inner ++ saying end End ∷ []) ≡ Ok (record { lines = []; end_line = end; cells = []; rows = rs })
-rows_read last [] [] end e = refl
-rows_read last [] (r ∷ rs) end e = absurd cc
-rows_read last (x ∷ xs) [] end e = absurd cc
-rows_read last (x ∷ xs) (r ∷ rs) end e =
-    let here : x.said ≡ Ok (Row r) = cc in
+rows_read : (last : ℕ) (named : Bool) (inner : List Entry) (rs : List RowText) (end : ℕ) (more : List Entry) (r : Rest) → map (λ entry. entry.said) inner ≡ map (λ row. Ok (Row row)) rs
+    → rest_from last (AtEnd named) more ≡ Ok r → rest_from last (InGrid named) (inner ++ saying end End ∷ more) ≡ Ok (record r { lines = []; end_line = end; rows = rs })
+rows_read last named [] [] end more r e behind = ap (then_line end End) behind
+rows_read last named [] (x ∷ rs) end more r e behind = absurd cc
+rows_read last named (x ∷ xs) [] end more r e behind = absurd cc
+rows_read last named (x ∷ xs) (row ∷ rs) end more r e behind =
+    let here : x.said ≡ Ok (Row row) = cc in
     let others : map (λ entry. entry.said) xs ≡ map (λ row. Ok (Row row)) rs = cc in
-    ap (λ (y : Entry). rest_from last InGrid (y ∷ (xs ++ saying end End ∷ []))) (entry_is x (Row r) here) ∙ ap (then_line x.number (Row r)) (rows_read last xs rs end others)
+    ap (λ (y : Entry). rest_from last (InGrid named) (y ∷ (xs ++ saying end End ∷ more))) (entry_is x (Row row) here) ∙ ap (then_line x.number (Row row)) (rows_read last named xs rs end more r others behind)
 
-lines_read : (last n : ℕ) (ls : List Line) (end : ℕ) (more : List Entry) (r : Rest) → rest_from last (Behind n) more ≡ Ok r
-    → rest_from last (InCell n) (map form_line ls ++ saying end End ∷ more) ≡ Ok (record r { lines = ls; end_line = end })
-lines_read last n [] end more r e = ap (then_line end End) e
-lines_read last n (l ∷ ls) end more r e = ap (then_line l.number (Item l.form)) (lines_read last n ls end more r e)
+-- what grids give
+abbrev gridded : ℕ → List GridText → Rest
+gridded end gs = record { version = 0; lines = []; end_line = end; cells = []; rows = []; grids = gs }
 
-pub room_left : (n : ℕ) → n < 256 → cond (eqb n 256) (Err TooManyCells) (Ok (InCell (n + 1))) ≡ Ok (InCell (n + 1))
-room_left n h = ap (λ b. cond b (Err TooManyCells) (Ok (InCell (n + 1)))) (let differs : eqb n 256 ≡ false = grind (arith, nat_tests) in differs)
-
-cells_read : (last n : ℕ) (cs : List CellText) (rs : List RowText) (grid : List Entry) → n + length cs ≤ 256 → IsGridPart rs grid
-    → (end : ℕ) × (rest_from last (Behind n) (flat_map cell_part cs ++ grid) ≡ Ok (record { lines = []; end_line = end; cells = cs; rows = rs }))
-cells_read last n [] rs grid few g = (g.last, ap (rest_from last (Behind n)) g.parts ∙ ap (then_line g.first Grid) (rows_read last g.inner rs g.last g.each))
-cells_read last n (c ∷ cs) rs grid few g =
-    let others = cells_read last (n + 1) cs rs grid (omega arith) g in
-    let inside : List Entry = map form_line c.lines ++ saying c.end_line End ∷ (flat_map cell_part cs ++ grid) in (
-      0,
-      ap (rest_from last (Behind n)) (regroup c (flat_map cell_part cs) grid)
-          ∙ ap (λ (next : Result Place StickKind). at_line c.line next >>= λ p. then_line c.line (Cell c.name) (rest_from last p inside)) (room_left n (omega arith))
-          ∙ ap (then_line c.line (Cell c.name)) (lines_read last (n + 1) c.lines c.end_line (flat_map cell_part cs ++ grid) (record { lines = []; end_line = others.0; cells = cs; rows = rs }) others.1),
+-- a grid behind a place where its first line may stand
+grid_read : (last : ℕ) (p : Place) (named : Bool) (g : GridText) (gs : List GridText) (end : ℕ) (es part others : List Entry) → place_after p (Grid g.name) ≡ Ok (InGrid named) → es ≡ part ++ others → IsGridPart g part
+    → rest_from last (AtEnd named) others ≡ Ok (gridded end gs) → (to : ℕ) × (rest_from last p es ≡ Ok (gridded to (g ∷ gs)))
+grid_read last p named g gs end es part others may parts is behind =
+    let lines : es ≡ saying g.line (Grid g.name) ∷ (is.inner ++ saying is.last End ∷ others) =
+    parts ∙ ap (λ (x : List Entry). x ++ others) is.parts ∙ ap (λ (x : List Entry). saying g.line (Grid g.name) ∷ x) (append_assoc is.inner (saying is.last End ∷ []) others) in
+    let inside : List Entry = is.inner ++ saying is.last End ∷ others in (
+      is.last,
+      ap (rest_from last p) lines
+          ∙ ap (λ (next : Result Place StickKind). at_line g.line next >>= λ q. then_line g.line (Grid g.name) (rest_from last q inside)) may
+          ∙ ap (then_line g.line (Grid g.name)) (rows_read last named is.inner g.rows is.last others (gridded end gs) is.each behind),
     )
+
+may_follow : (name : Option (List ℕ)) → ((n : List ℕ) × (name ≡ Some n)) → place_after (AtEnd true) (Grid name) ≡ Ok (InGrid true)
+may_follow name h = ap (λ (x : Option (List ℕ)). place_after (AtEnd true) (Grid x)) h.1
+
+more_read : (last : ℕ) (named : Bool) (gs : List GridText) (es : List Entry) → MoreGrids named gs → AreGridParts gs es → (end : ℕ) × (rest_from last (AtEnd named) es ≡ Ok (gridded end gs))
+more_read last named [] es h parts = (0, ap (rest_from last (AtEnd named)) parts)
+more_read last false (g ∷ gs) es h parts = absurd cc
+more_read last true (g ∷ gs) es h parts =
+    let others = more_read last true gs parts.1 h.1 parts.4 in
+    grid_read last (AtEnd true) true g gs others.0 es parts.0 parts.1 (may_follow g.name h.0) parts.2 parts.3 others.1
+
+all_read : (last n : ℕ) (named : Bool) (gs : List GridText) (es : List Entry) → AllGrids named gs → AreGridParts gs es → (end : ℕ) × (rest_from last (Behind named n) es ≡ Ok (gridded end gs))
+all_read last n false [] es h parts = absurd cc
+all_read last n true [] es h parts = absurd (omega (arith, h.0))
+all_read last n false (g ∷ gs) es h parts =
+    let alone : gs ≡ [] = cc in
+    let same : g ≡ h.0 = cc in
+    let no_name : g.name ≡ None = ap (λ (x : GridText). x.name) same ∙ h.2 in
+    let others = more_read last false gs parts.1 alone parts.4 in
+    grid_read last (Behind false n) false g gs others.0 es parts.0 parts.1 (ap (λ (x : Option (List ℕ)). place_after (Behind false n) (Grid x)) no_name) parts.2 parts.3 others.1
+all_read last n true (g ∷ gs) es h parts =
+    let others = more_read last true gs parts.1 h.1.1 parts.4 in
+    grid_read last (Behind true n) true g gs others.0 es parts.0 parts.1 (ap (λ (x : Option (List ℕ)). place_after (Behind true n) (Grid x)) h.1.0.1) parts.2 parts.3 others.1
+
+lines_read : (last n : ℕ) (named : Bool) (ls : List Line) (end : ℕ) (more : List Entry) (r : Rest) → rest_from last (Behind named n) more ≡ Ok r
+    → rest_from last (InCell named n) (map form_line ls ++ saying end End ∷ more) ≡ Ok (record r { lines = ls; end_line = end; rows = [] })
+lines_read last n named [] end more r e = ap (then_line end End) e
+lines_read last n named (l ∷ ls) end more r e = ap (then_line l.number (Item l.form)) (lines_read last n named ls end more r e)
+
+pub room_left : (n : ℕ) (named : Bool) → n < 256 → cond (eqb n 256) (Err TooManyCells) (Ok (InCell named (n + 1))) ≡ Ok (InCell named (n + 1))
+room_left n named h = ap (λ b. cond b (Err TooManyCells) (Ok (InCell named (n + 1)))) (let differs : eqb n 256 ≡ false = grind (arith, nat_tests) in differs)
+
+cells_read : (last n : ℕ) (named : Bool) (cs : List CellText) (gs : List GridText) (grids : List Entry) → n + length cs ≤ 256 → AllGrids named gs → AreGridParts gs grids
+    → (end : ℕ) × (rest_from last (Behind named n) (flat_map cell_part cs ++ grids) ≡ Ok (record { version = 0; lines = []; end_line = end; cells = cs; rows = []; grids = gs }))
+cells_read last n named [] gs grids few all parts = all_read last n named gs grids all parts
+cells_read last n named (c ∷ cs) gs grids few all parts =
+    let others = cells_read last (n + 1) named cs gs grids (omega arith) all parts in
+    let inside : List Entry = map form_line c.lines ++ saying c.end_line End ∷ (flat_map cell_part cs ++ grids) in (
+      0,
+      ap (rest_from last (Behind named n)) (regroup c (flat_map cell_part cs) grids)
+          ∙ ap (λ (next : Result Place StickKind). at_line c.line next >>= λ p. then_line c.line (Cell c.name) (rest_from last p inside)) (room_left n named (omega arith))
+          ∙ ap (then_line c.line (Cell c.name)) (lines_read last (n + 1) named c.lines c.end_line (flat_map cell_part cs ++ grids) (record { version = 0; lines = []; end_line = others.0; cells = cs; rows = []; grids = gs }) others.1),
+    )
+
+-- the header of one version, and what stands behind it
+whole_read : (last k : ℕ) (named : Bool) (d : Design) (behind : List Entry) → length d.cells ≤ 256 → place_after AtHead (Version d.version) ≡ Ok (Behind named 0) → AllGrids named d.grids → AreGridParts d.grids behind
+    → (rest_from last AtHead (saying k (Version d.version) ∷ (flat_map cell_part d.cells ++ behind)) >>= λ rest. Ok (design_in rest)) ≡ Ok d
+whole_read last k named d behind few may all parts =
+    let cells = cells_read last 0 named d.cells d.grids behind (omega (arith, few)) all parts in
+    let entries : List Entry = flat_map cell_part d.cells ++ behind in
+    ap (λ (next : Result Place StickKind). (at_line k next >>= λ q. then_line k (Version d.version) (rest_from last q entries)) >>= λ rest. Ok (design_in rest)) may
+    ∙ ap (λ (read : Result Rest StickFault). then_line k (Version d.version) read >>= λ rest. Ok (design_in rest)) cells.1
+
+by_fits : (last k : ℕ) (d : Design) (behind : List Entry) → length d.cells ≤ 256 → AreGridsOf d.version d.grids → AreGridParts d.grids behind
+    → (rest_from last AtHead (saying k (Version d.version) ∷ (flat_map cell_part d.cells ++ behind)) >>= λ rest. Ok (design_in rest)) ≡ Ok d
+by_fits last k d behind few (inl h) parts = whole_read last k false d behind few (ap (λ v. place_after AtHead (Version v)) h.0) h.1 parts
+by_fits last k d behind few (inr h) parts = whole_read last k true d behind few (ap (λ v. place_after AtHead (Version v)) h.0) h.1 parts
 
 pub design_read : (text : List ℕ) (design : Design) → SaysDesign text design → design_of text ≡ Ok design
 unfolding design_of
 design_read text design h =
     let has = h.has_lines in
-    let behind = cells_read (last_line text) 0 design.cells design.grid has.grid (omega (arith, h.few_cells)) has.grid_part in
-    ap (λ (es : List Entry). rest_from (last_line text) AtHead es >>= λ rest. Ok (design_in rest)) has.parts
-    ∙ ap (λ (read : Result Rest StickFault). then_line has.first Version read >>= λ rest. Ok (design_in rest)) behind.1
+    ap (λ (es : List Entry). rest_from (last_line text) AtHead es >>= λ rest. Ok (design_in rest)) has.parts ∙ by_fits (last_line text) has.first design has.grids h.few_cells has.fits has.grid_parts

@@ -13,22 +13,21 @@ use Rattle.stick_lex.proofs.Slices.{tokens_are_slices}
 use Rattle.stick_parse.specs.declared.fault.StickKind.{StickKind}
 use Rattle.stick_parse.specs.declared.fault.StickKind.TheVariants.{BadLine}
 use Rattle.stick_parse.specs.declared.design.Layer.TheVariants.{Diffusion, Poly}
-use Rattle.stick_parse.specs.Reading.{◌>>=◌, Gives}
+use Rattle.stick_parse.specs.Reading.{◌>>=◌}
 use Rattle.stick_parse.specs.Words.{Word, Path, Number, AtMost, AtLeast, word_by, word_of, Front, path_at, name_at, number_at, count_of, count_at, optional_count_at, at_most_at, value_at, layer_named, layer_at, lower_named, lower_at, side_named, side_at, second_of, either_at, ended}
-use Rattle.stick_parse.specs.Forms.{start, ◌&◌, whole, joint_of, contact_of, buried_of, fet_of, port_of, use_of, wire_of, limit_of, version_of, cell_of, names_of, row_of, alone, form_named, item_named, statement_named, statement_of}
+use Rattle.stick_parse.specs.Forms.{start, ◌&◌, whole, joint_of, contact_of, buried_of, fet_of, port_of, use_of, wire_of, limit_of, version_of, cell_of, grid_of, names_of, row_of, end_of, form_named, item_named, statement_named, statement_of}
 use Rattle.stick_parse.specs.Lines.{tokens_or_kind, said_by_words, said_by, Entry, with_entry, entries}
 use Rattle.stick_parse.specs.Order.{Place, AtHead, Behind, InCell, InGrid, AtEnd, place_after, Rest, with_line, at_line, at_end, rest_from, last_line, design_of}
 use Rattle.std.specs.Str.Lines.{lines}
-use Rattle.std.specs.Prelude.{IfOk, ◌≢◌}
+use Rattle.std.specs.Prelude.{◌≢◌}
 use Rattle.stick_parse.specs.declared.fault.StickKind.TheVariants.{TooManyCells}
-use Rattle.stick_parse.specs.declared.fault.ParseFault.{ParseFault}
 use Rattle.stick_parse.specs.declared.design.CellText.{CellText}
 use Rattle.stick_parse.specs.declared.design.Form.TheVariants.{Joint, Contact, Buried, Fet, Port, Inst, Wire, Limit}
 use Rattle.stick_parse.specs.declared.design.Design.{Design}
 use Rattle.stick_parse.specs.declared.design.Statement.{Statement}
 use Rattle.stick_parse.specs.declared.design.Statement.TheVariants.{Version, Cell, Item, Grid, Row, End}
 use Rattle.stick_parse.specs.Laws.{IsWord}
-use Rattle.stick_parse.specs.Writable.{IsName, IsPath, IsCount, IsWidth, IsLower, IsForm, IsLine, IsRow, IsStatement, IsCell, IsWritable}
+use Rattle.stick_parse.specs.Writable.{IsName, IsPath, IsCount, IsWidth, IsLower, IsForm, IsLine, IsRow, IsStatement, IsCell, IsGridName, IsGrid}
 use Rattle.stick_lex.specs.Numbers.{IsNumber}
 
 -- P holds of what was read, if anything was
@@ -261,17 +260,22 @@ unfolding row_of
 row_holds [] h = tt
 row_holds (w ∷ ws) h = then_holds (λ names. (0 < length names) × AllByRecursion IsName names) IsStatement (names_of (w ∷ ws)) _ (some_names w ws h) (λ names hs. hs)
 
-version_holds : (ws : List Word) → Holds IsStatement (version_of ws)
-unfolding version_of
-version_holds ws = then_holds Any IsStatement (count_at ws) _ (any_holds (count_at ws)) (λ version u. then_holds Any IsStatement (ended version.1) _ (any_holds (ended version.1)) (λ done v. if_holds IsStatement (eqb version.0 1) Version (λ e. tt)))
+version_holds : (ws : List Word) → AreWords ws → Holds IsStatement (version_of ws)
+unfolding version_of Makes
+version_holds ws h = whole_holds IsStatement _ (next_made IsCount _ _ count_at count_holds (started (Makes IsCount IsStatement) Version ws (λ n hn. hn) h))
 
 cell_holds : (ws : List Word) → AreWords ws → Holds IsStatement (cell_of ws)
 unfolding cell_of Makes
 cell_holds ws h = whole_holds IsStatement _ (next_made IsName _ _ name_at name_holds (started (Makes IsName IsStatement) Cell ws (λ n hn. hn) h))
 
-alone_holds : (s : Statement) (ws : List Word) → AreWords ws → IsStatement s → Holds IsStatement (alone s ws)
-unfolding alone
-alone_holds s ws h k = whole_holds IsStatement _ (started IsStatement s ws k h)
+grid_holds : (ws : List Word) → AreWords ws → Holds IsStatement (grid_of ws)
+unfolding grid_of Makes
+grid_holds [] h = tt
+grid_holds (w ∷ ws) h = whole_holds IsStatement _ (next_made IsName _ _ name_at name_holds (started (Makes IsName IsStatement) (λ name. Grid (Some name)) (w ∷ ws) (λ n hn. hn) h))
+
+end_line_holds : (ws : List Word) → AreWords ws → Holds IsStatement (end_of ws)
+unfolding end_of
+end_line_holds ws h = whole_holds IsStatement _ (started IsStatement End ws tt h)
 
 form_named_holds : (keyword : List ℕ) (ws : List Word) → AreWords ws → Holds IsForm (form_named keyword ws)
 unfolding form_named
@@ -285,7 +289,7 @@ item_holds keyword ws h = then_holds IsForm IsStatement (form_named keyword ws) 
 named_holds : (keyword : List ℕ) (ws : List Word) → AreWords ws → Holds IsStatement (statement_named keyword ws)
 unfolding statement_named
 named_holds keyword ws h =
-    choose IsStatement (bytes_eq keyword (codes "sticks")) _ _ (version_holds ws) (choose IsStatement (bytes_eq keyword (codes "cell")) _ _ (cell_holds ws h) (choose IsStatement (bytes_eq keyword (codes "end")) _ _ (alone_holds End ws h tt) (choose IsStatement (bytes_eq keyword (codes "grid")) _ _ (alone_holds Grid ws h tt) (choose IsStatement (bytes_eq keyword (codes "row")) _ _ (row_holds ws h) (item_holds keyword ws h)))))
+    choose IsStatement (bytes_eq keyword (codes "sticks")) _ _ (version_holds ws h) (choose IsStatement (bytes_eq keyword (codes "cell")) _ _ (cell_holds ws h) (choose IsStatement (bytes_eq keyword (codes "end")) _ _ (end_line_holds ws h) (choose IsStatement (bytes_eq keyword (codes "grid")) _ _ (grid_holds ws h) (choose IsStatement (bytes_eq keyword (codes "row")) _ _ (row_holds ws h) (item_holds keyword ws h)))))
 
 statement_holds : (ws : List Word) → AreWords ws → Holds IsStatement (statement_of ws)
 unfolding statement_of
@@ -327,38 +331,50 @@ entries_hold n (l ∷ ls) = with_entry_holds n (said_by l) (entries (n + 1) ls) 
 -- no more cells than a text may have
 abbrev Valid : Place → Type 0
 Valid AtHead = Unit {0}
-Valid (Behind n) = n ≤ 256
-Valid (InCell n) = n ≤ 256
-Valid InGrid = Unit {0}
-Valid AtEnd = Unit {0}
+Valid (Behind named n) = n ≤ 256
+Valid (InCell named n) = n ≤ 256
+Valid (InGrid named) = Unit {0}
+Valid (AtEnd named) = Unit {0}
 
 abbrev Room : Place → List CellText → Type 0
 Room AtHead cells = length cells ≤ 256
-Room (Behind n) cells = n + length cells ≤ 256
-Room (InCell n) cells = n + length cells ≤ 256
-Room InGrid cells = length cells ≡ 0
-Room AtEnd cells = length cells ≡ 0
+Room (Behind named n) cells = n + length cells ≤ 256
+Room (InCell named n) cells = n + length cells ≤ 256
+Room (InGrid named) cells = length cells ≡ 0
+Room (AtEnd named) cells = length cells ≡ 0
 
 abbrev Fits : Place → Rest → Type 0
-Fits place rest = AllByRecursion IsLine rest.lines × AllByRecursion IsCell rest.cells × AllByRecursion IsRow rest.rows × Room place rest.cells
+Fits place rest = AllByRecursion IsLine rest.lines × AllByRecursion IsCell rest.cells × AllByRecursion IsRow rest.rows × AllByRecursion IsGrid rest.grids × Room place rest.cells
 
 abbrev Leads : Place → Statement → ℕ → Place → Type 0
 Leads place s number next = Valid next × ((rest : Rest) → Fits next rest → Fits place (with_line number s rest))
 
-cell_leads : (b : Bool) (n : ℕ) (name : List ℕ) (number : ℕ) → n ≤ 256 → IsName name → (b ≡ false → n ≢ 256) → Holds {E = StickKind} (Leads (Behind n) (Cell name) number) (cond b (Err TooManyCells) (Ok (InCell (n + 1))))
-cell_leads true n name number v h differs = tt
-cell_leads false n name number v h differs =
+cell_leads : (b named : Bool) (n : ℕ) (name : List ℕ) (number : ℕ) → n ≤ 256 → IsName name → (b ≡ false → n ≢ 256)
+    → Holds {E = StickKind} (Leads (Behind named n) (Cell name) number) (cond b (Err TooManyCells) (Ok (InCell named (n + 1))))
+cell_leads true named n name number v h differs = tt
+cell_leads false named n name number v h differs =
     let other : n ≢ 256 = differs refl in
-    (omega arith, λ rest f. (tt, ((h, f.0), f.1), f.2, omega (arith, f.3)))
+    (omega arith, λ rest f. (tt, ((h, f.0), f.1), f.2, f.3, omega (arith, f.4)))
+
+head_leads : (first second : Bool) (version number : ℕ) → Holds {E = StickKind} (Leads AtHead (Version version) number) (cond first (Ok (Behind false 0)) (cond second (Ok (Behind true 0)) (Err BadLine)))
+head_leads true second version number = (omega arith, λ rest f. (f.0, f.1, f.2, f.3, omega (arith, f.4)))
+head_leads false true version number = (omega arith, λ rest f. (f.0, f.1, f.2, f.3, omega (arith, f.4)))
+head_leads false false version number = tt
+
+-- the first line of a grid, where it may stand
+grid_leads : (name : Option (List ℕ)) (number : ℕ) (rest : Rest) → IsGridName name → (named : Bool) → Fits (InGrid named) rest → AllByRecursion IsGrid (with_line number (Grid name) rest).grids
+grid_leads name number rest h named f = ((h, f.2), f.3)
 
 leads : (place : Place) (s : Statement) (number : ℕ) → Valid place → IsStatement s → Holds (Leads place s number) (place_after place s)
-leads AtHead Version number v h = (omega arith, λ rest f. (f.0, f.1, f.2, omega (arith, f.3)))
-leads (Behind n) (Cell name) number v h = cell_leads (eqb n 256) n name number v h (λ e. borrow.Author.Tests.false-eqb _ _ (sym e))
-leads (InCell n) (Item form) number v h = (v, λ rest f. ((h, f.0), f.1, f.2, f.3))
-leads (InCell n) End number v h = (v, λ rest f. (tt, f.1, f.2, f.3))
-leads (Behind n) Grid number v h = (tt, λ rest f. (f.0, f.1, f.2, omega (arith, f.3)))
-leads InGrid (Row row) number v h = (tt, λ rest f. (f.0, f.1, (h, f.2), f.3))
-leads InGrid End number v h = (tt, λ rest f. (tt, f.1, f.2, f.3))
+leads AtHead (Version version) number v h = head_leads (eqb version 1) (eqb version 2) version number
+leads (Behind named n) (Cell name) number v h = cell_leads (eqb n 256) named n name number v h (λ e. borrow.Author.Tests.false-eqb _ _ (sym e))
+leads (InCell named n) (Item form) number v h = (v, λ rest f. ((h, f.0), f.1, f.2, f.3, f.4))
+leads (InCell named n) End number v h = (v, λ rest f. (tt, f.1, tt, f.3, f.4))
+leads (Behind false n) (Grid None) number v h = (tt, λ rest f. (f.0, f.1, tt, grid_leads None number rest h false f, omega (arith, v, f.4)))
+leads (Behind true n) (Grid (Some name)) number v h = (tt, λ rest f. (f.0, f.1, tt, grid_leads (Some name) number rest h true f, omega (arith, v, f.4)))
+leads (InGrid named) (Row row) number v h = (tt, λ rest f. (f.0, f.1, (h, f.2), f.3, f.4))
+leads (InGrid named) End number v h = (tt, λ rest f. (tt, f.1, tt, f.3, f.4))
+leads (AtEnd true) (Grid (Some name)) number v h = (tt, λ rest f. (f.0, f.1, tt, grid_leads (Some name) number rest h true f, f.4))
 leads place s number v h = tt
 
 pub at_line_holds : {A : Type 0} (P : A → Type 0) (n : ℕ) (r : Result A StickKind) → Holds P r → Holds P (at_line n r)
@@ -367,10 +383,10 @@ at_line_holds P n (Err kind) h = tt
 
 end_holds : (last : ℕ) (place : Place) → Holds (Fits place) (at_end last place)
 end_holds last AtHead = tt
-end_holds last (Behind n) = tt
-end_holds last (InCell n) = tt
-end_holds last InGrid = tt
-end_holds last AtEnd = (tt, tt, tt, refl)
+end_holds last (Behind named n) = tt
+end_holds last (InCell named n) = tt
+end_holds last (InGrid named) = tt
+end_holds last (AtEnd named) = (tt, tt, tt, tt, refl)
 
 rest_holds : (last : ℕ) (place : Place) (es : List Entry) → Valid place → AllByRecursion IsEntry es → Holds (Fits place) (rest_from last place es)
 rest_holds last place [] v h = end_holds last place
@@ -379,10 +395,12 @@ rest_holds last place (e ∷ es) v h =
     then_holds (Leads place s e.number) (Fits place) (at_line e.number (place_after place s)) _ (at_line_holds (Leads place s e.number) e.number (place_after place s) (leads place s e.number v hs)) (λ next hn.
     then_holds (Fits next) (Fits place) (rest_from last next es) _ (rest_holds last next es hn.0 h.1) (λ rest f. hn.1 rest f)))
 
-pub design_holds : (text : List ℕ) → Holds IsWritable (design_of text)
-unfolding design_of
-design_holds text = then_holds (Fits AtHead) IsWritable (rest_from (last_line text) AtHead (entries 1 (lines text))) _ (rest_holds (last_line text) AtHead (entries 1 (lines text)) tt (entries_hold 1 (lines text))) (λ rest f. record { cells = f.1; few_cells = f.3; rows = f.2 })
+-- what the lines by themselves make of a design
+pub record IsMadeOf (design : Design) : Type 0 where
+  pub cells : AllByRecursion IsCell design.cells
+  pub few_cells : length design.cells ≤ 256
+  pub grids : AllByRecursion IsGrid design.grids
 
-pub read_is_writable : (text : List ℕ) (r : Result Design ParseFault) → Gives (λ design. design) r (design_of text) → IfOk r IsWritable
-read_is_writable text (Ok design) e = subst (Holds IsWritable) e (design_holds text)
-read_is_writable text (Err fault) e = tt
+pub design_holds : (text : List ℕ) → Holds IsMadeOf (design_of text)
+unfolding design_of
+design_holds text = then_holds (Fits AtHead) IsMadeOf (rest_from (last_line text) AtHead (entries 1 (lines text))) _ (rest_holds (last_line text) AtHead (entries 1 (lines text)) tt (entries_hold 1 (lines text))) (λ rest f. record { cells = f.1; few_cells = f.4; grids = f.3 })

@@ -1,5 +1,5 @@
 -- What a line of words says: a keyword, and what stands behind it.
-use Rattle.std.specs.Prelude.{ℕ, ◌==◌, if◌then◌else◌, List, [], ◌∷◌, Result, Ok, Err, codes}
+use Rattle.std.specs.Prelude.{ℕ, if◌then◌else◌, List, [], ◌∷◌, Some, None, Result, Ok, Err, codes}
 use Rattle.std.specs.Str.{bytes_eq}
 use Rattle.stick_parse.specs.declared.fault.StickKind.{StickKind}
 use Rattle.stick_parse.specs.declared.fault.StickKind.TheVariants.{BadLine}
@@ -66,18 +66,20 @@ wire_of words = whole (start Wire words & layer_at & path_at & path_at & optiona
 unfoldable pub limit_of : List Word → Result Form StickKind
 limit_of words = whole (start Limit words & either_at (codes "x") (codes "y") & path_at & path_at & at_most_at & number_at)
 
--- ---- the lines round cells and grid, behind their keyword
+-- ---- the lines round cells and grids, behind their keyword
 
--- 1
+-- N
 unfoldable pub version_of : List Word → Result Statement StickKind
-version_of words = do
-  version ← count_at words
-  done ← ended version.1
-  if version.0 == 1 then Ok Version else Err BadLine
+version_of words = whole (start Version words & count_at)
 
 -- NAME
 unfoldable pub cell_of : List Word → Result Statement StickKind
 cell_of words = whole (start Cell words & name_at)
+
+-- nothing, or NAME
+unfoldable pub grid_of : List Word → Result Statement StickKind
+grid_of [] = Ok (Grid None)
+grid_of (word ∷ rest) = whole (start (λ name. Grid (Some name)) (word ∷ rest) & name_at)
 
 unfoldable pub names_of : List Word → Result (List (List ℕ)) StickKind
 names_of [] = Ok []
@@ -94,8 +96,8 @@ row_of (word ∷ rest) = do
   Ok (Row (record { names = names }))
 
 -- nothing
-unfoldable pub alone : Statement → List Word → Result Statement StickKind
-alone statement words = whole (start statement words)
+unfoldable pub end_of : List Word → Result Statement StickKind
+end_of words = whole (start End words)
 
 -- ---- the keywords
 
@@ -120,8 +122,8 @@ unfoldable pub statement_named : List ℕ → List Word → Result Statement Sti
 statement_named keyword words =
     if bytes_eq keyword (codes "sticks") then version_of words
     else (if bytes_eq keyword (codes "cell") then cell_of words
-    else (if bytes_eq keyword (codes "end") then alone End words
-    else (if bytes_eq keyword (codes "grid") then alone Grid words
+    else (if bytes_eq keyword (codes "end") then end_of words
+    else (if bytes_eq keyword (codes "grid") then grid_of words
     else (if bytes_eq keyword (codes "row") then row_of words
     else item_named keyword words))))
 

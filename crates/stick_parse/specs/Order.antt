@@ -1,5 +1,5 @@
 -- Which line may stand where, and the design that lines in order give.
-use Rattle.std.specs.Prelude.{ℕ, ◌+◌, ◌==◌, max, if◌then◌else◌, List, [], ◌∷◌, length, Result, Ok, Err}
+use Rattle.std.specs.Prelude.{ℕ, ◌+◌, ◌==◌, max, if◌then◌else◌, Bool, true, false, List, [], ◌∷◌, length, Some, None, Result, Ok, Err}
 use Rattle.std.specs.Str.Lines.{lines}
 use Rattle.stick_parse.specs.declared.fault.StickKind.{StickKind}
 use Rattle.stick_parse.specs.declared.fault.StickKind.TheVariants.{BadLine, Unended, TooManyCells}
@@ -7,49 +7,60 @@ use Rattle.stick_parse.specs.declared.fault.StickFault.{StickFault}
 use Rattle.stick_parse.specs.declared.design.Line.{Line}
 use Rattle.stick_parse.specs.declared.design.CellText.{CellText}
 use Rattle.stick_parse.specs.declared.design.RowText.{RowText}
+use Rattle.stick_parse.specs.declared.design.GridText.{GridText}
 use Rattle.stick_parse.specs.declared.design.Design.{Design}
 use Rattle.stick_parse.specs.declared.design.Statement.{Statement}
 use Rattle.stick_parse.specs.declared.design.Statement.TheVariants.{Version, Cell, Item, Grid, Row, End}
 use Rattle.stick_parse.specs.Reading.{◌>>=◌}
 use Rattle.stick_parse.specs.Lines.{Entry, entries}
 
--- before the first line, behind the header or so many cells, inside a cell, inside the grid, behind the grid
+-- Before the first line, behind the header or so many cells, inside a cell, inside a grid, behind a grid. From the header on it is known
+-- whether the grids have names, as they have in version 2.
 pub data Place : Type 0 where
   AtHead : Place
-  Behind : ℕ → Place
-  InCell : ℕ → Place
-  InGrid : Place
-  AtEnd : Place
+  Behind : Bool → ℕ → Place
+  InCell : Bool → ℕ → Place
+  InGrid : Bool → Place
+  AtEnd : Bool → Place
+
+-- there are two versions
+abbrev pub behind_header : ℕ → Result Place StickKind
+behind_header version = if version == 1 then Ok (Behind false 0) else (if version == 2 then Ok (Behind true 0) else Err BadLine)
 
 -- where the line behind this one stands, or why this one may not stand here
 abbrev pub place_after : Place → Statement → Result Place StickKind
-place_after AtHead Version = Ok (Behind 0)
-place_after (Behind cells) (Cell name) = if cells == 256 then Err TooManyCells else Ok (InCell (cells + 1))
-place_after (InCell cells) (Item form) = Ok (InCell cells)
-place_after (InCell cells) End = Ok (Behind cells)
-place_after (Behind cells) Grid = Ok InGrid
-place_after InGrid (Row row) = Ok InGrid
-place_after InGrid End = Ok AtEnd
+place_after AtHead (Version version) = behind_header version
+place_after (Behind named cells) (Cell name) = if cells == 256 then Err TooManyCells else Ok (InCell named (cells + 1))
+place_after (InCell named cells) (Item form) = Ok (InCell named cells)
+place_after (InCell named cells) End = Ok (Behind named cells)
+place_after (Behind false cells) (Grid None) = Ok (InGrid false)
+place_after (Behind true cells) (Grid (Some name)) = Ok (InGrid true)
+place_after (InGrid named) (Row row) = Ok (InGrid named)
+place_after (InGrid named) End = Ok (AtEnd named)
+place_after (AtEnd true) (Grid (Some name)) = Ok (InGrid true)
 place_after place statement = Err BadLine
 
--- what lines that stand in order give: inside a cell first the rest of its lines and the number of its end, then cells, then rows
+-- What lines that stand in order give: the version behind the header, inside a cell the rest of its lines and the number of its end,
+-- inside a grid the rest of its rows, and the cells and the grids from there on.
 pub record Rest : Type 0 where
+  pub version : ℕ
   pub lines : List Line
   pub end_line : ℕ
   pub cells : List CellText
   pub rows : List RowText
+  pub grids : List GridText
 
 abbrev pub nothing : Rest
-nothing = record { lines = []; end_line = 0; cells = []; rows = [] }
+nothing = record { version = 0; lines = []; end_line = 0; cells = []; rows = []; grids = [] }
 
 -- a line in front of the rest
 abbrev pub with_line : ℕ → Statement → Rest → Rest
-with_line number Version rest = rest
+with_line number (Version version) rest = record rest { version = version }
 with_line number (Cell name) rest = record rest { lines = []; end_line = 0; cells = record { name = name; line = number; end_line = rest.end_line; lines = rest.lines } ∷ rest.cells }
 with_line number (Item form) rest = record rest { lines = record { number = number; form = form } ∷ rest.lines }
-with_line number Grid rest = rest
+with_line number (Grid name) rest = record rest { rows = []; grids = record { name = name; line = number; rows = rest.rows } ∷ rest.grids }
 with_line number (Row row) rest = record rest { rows = row ∷ rest.rows }
-with_line number End rest = record rest { lines = []; end_line = number }
+with_line number End rest = record rest { lines = []; end_line = number; rows = [] }
 
 abbrev pub at_line : {A : Type 0} → ℕ → Result A StickKind → Result A StickFault
 at_line number (Ok x) = Ok x
@@ -58,10 +69,10 @@ at_line number (Err kind) = Err (record { line = number; kind = kind })
 -- the text ends here
 abbrev pub at_end : ℕ → Place → Result Rest StickFault
 at_end last AtHead = Err (record { line = last; kind = Unended })
-at_end last (Behind cells) = Err (record { line = last; kind = Unended })
-at_end last (InCell cells) = Err (record { line = last; kind = Unended })
-at_end last InGrid = Err (record { line = last; kind = Unended })
-at_end last AtEnd = Ok nothing
+at_end last (Behind named cells) = Err (record { line = last; kind = Unended })
+at_end last (InCell named cells) = Err (record { line = last; kind = Unended })
+at_end last (InGrid named) = Err (record { line = last; kind = Unended })
+at_end last (AtEnd named) = Ok nothing
 
 -- what the lines from this place on give, or the first fault; last is the number of the text's last line
 abbrev pub rest_from : ℕ → Place → List Entry → Result Rest StickFault
@@ -72,6 +83,10 @@ rest_from last place (entry ∷ entries) = do
   rest ← rest_from last next entries
   Ok (with_line entry.number statement rest)
 
+-- the whole text behind its first line is read
+abbrev pub design_in : Rest → Design
+design_in rest = record { version = rest.version; cells = rest.cells; grids = rest.grids }
+
 -- the number of the last line, and 1 for an empty text
 abbrev pub last_line : List ℕ → ℕ
 last_line text = max 1 (length (lines text))
@@ -80,4 +95,4 @@ last_line text = max 1 (length (lines text))
 unfoldable pub design_of : List ℕ → Result Design StickFault
 design_of text = do
   rest ← rest_from (last_line text) AtHead (entries 1 (lines text))
-  Ok (record { cells = rest.cells; grid = rest.rows })
+  Ok (design_in rest)

@@ -1,13 +1,14 @@
 -- What the parts of a text give, read one after the other.
-use Rattle.std.specs.Prelude.{◌≡◌, ℕ, max, List, [], ◌++◌, Result, Ok}
+use Rattle.std.specs.Prelude.{◌≡◌, ℕ, max, Bool, List, [], ◌++◌, Option, Result, Ok}
 use Rattle.stick_parse.specs.declared.fault.StickFault.{StickFault}
 use Rattle.stick_parse.specs.declared.design.Line.{Line}
 use Rattle.stick_parse.specs.declared.design.CellText.{CellText}
 use Rattle.stick_parse.specs.declared.design.RowText.{RowText}
-use Rattle.stick_parse.specs.declared.design.Design.{Design}
+use Rattle.stick_parse.specs.declared.design.GridText.{GridText}
+use Rattle.stick_parse.specs.declared.design.Statement.TheVariants.{Grid}
 use Rattle.stick_parse.specs.declared.cursor.Lines.{Lines}
 use Rattle.stick_parse.specs.Reading.{◌>>=◌}
-use Rattle.stick_parse.specs.Order.{Place, Rest, rest_from}
+use Rattle.stick_parse.specs.Order.{Place, InGrid, AtEnd, Rest, nothing, with_line, rest_from}
 use Rattle.stick_parse.specs.LinesLeft.{left, last_of}
 
 -- what the lines that are left give from this place on
@@ -18,17 +19,38 @@ rest_at place l = rest_from (max 1 (last_of l)) place (left l)
 abbrev pub with_lines : List Line → Result Rest StickFault → Result Rest StickFault
 with_lines front read = read >>= λ rest. Ok (record rest { lines = front ++ rest.lines })
 
--- cells in front of the rest, as a design
-abbrev pub with_cells : List CellText → Result Rest StickFault → Result Design StickFault
-with_cells front read = read >>= λ rest. Ok (record { cells = front ++ rest.cells; grid = rest.rows })
+-- the lines of one cell and the number of its end, in front of what stands behind it
+abbrev pub with_cell_lines : List Line → ℕ → Result Rest StickFault → Result Rest StickFault
+with_cell_lines front end read = read >>= λ rest. Ok (record rest { lines = front; end_line = end; rows = [] })
 
+-- the version of the text
+abbrev pub with_version : ℕ → Result Rest StickFault → Result Rest StickFault
+with_version version read = read >>= λ rest. Ok (record rest { version = version })
+
+-- whole cells in front of the rest
+abbrev pub with_cells : List CellText → Result Rest StickFault → Result Rest StickFault
+with_cells front read = read >>= λ rest. Ok (record rest { lines = []; end_line = 0; rows = []; cells = front ++ rest.cells })
+
+-- rows of a grid in front of the rest
 abbrev pub with_rows : List RowText → Result Rest StickFault → Result Rest StickFault
 with_rows front read = read >>= λ rest. Ok (record rest { rows = front ++ rest.rows })
 
--- the lines of one cell and the number of its end, in front of what stands behind it
-abbrev pub with_cell_lines : List Line → ℕ → Result Rest StickFault → Result Rest StickFault
-with_cell_lines front end read = read >>= λ rest. Ok (record rest { lines = front; end_line = end })
+-- the rows of one grid and the number of its end, in front of what stands behind it
+abbrev pub with_grid_rows : List RowText → ℕ → Result Rest StickFault → Result Rest StickFault
+with_grid_rows front end read = read >>= λ rest. Ok (record rest { lines = []; end_line = end; rows = front })
 
--- a grid of these rows and nothing behind it
-abbrev pub GivesRows : List RowText → Result Rest StickFault → Type 0
-GivesRows rows read = (end : ℕ) × (read ≡ Ok (record { lines = []; end_line = end; cells = []; rows = rows }))
+-- the first line of a grid in front of the rest
+abbrev pub with_grid : ℕ → Option (List ℕ) → Result Rest StickFault → Result Rest StickFault
+with_grid line name read = read >>= λ rest. Ok (with_line line (Grid name) rest)
+
+-- whole grids in front of the rest
+abbrev pub with_grids : List GridText → Result Rest StickFault → Result Rest StickFault
+with_grids front read = read >>= λ rest. Ok (record rest { lines = []; end_line = 0; rows = []; grids = front ++ rest.grids })
+
+-- these lines begin with the rows of a grid and its `end`, and the others stand behind it
+abbrev pub AreRowsOf : List RowText → Lines → Lines → Type 0
+AreRowsOf rows lines others = (end : ℕ) × ((named : Bool) → rest_at (InGrid named) lines ≡ with_grid_rows rows end (rest_at (AtEnd named) others))
+
+-- these grids are all that is read
+abbrev pub grids_alone : List GridText → Rest
+grids_alone grids = record nothing { grids = grids }

@@ -3,11 +3,12 @@ use Rattle.std.specs.Prelude.{◌≡◌, ℕ, ◌≤◌, List, [], ◌∷◌, �
 use Rattle.std.specs.Str.Lines.{lines}
 use Rattle.stick_parse.specs.declared.design.Line.{Line}
 use Rattle.stick_parse.specs.declared.design.CellText.{CellText}
-use Rattle.stick_parse.specs.declared.design.RowText.{RowText}
+use Rattle.stick_parse.specs.declared.design.GridText.{GridText}
 use Rattle.stick_parse.specs.declared.design.Design.{Design}
 use Rattle.stick_parse.specs.declared.design.Statement.{Statement}
 use Rattle.stick_parse.specs.declared.design.Statement.TheVariants.{Version, Cell, Item, Grid, Row, End}
 use Rattle.stick_parse.specs.Lines.{Entry, entries}
+use Rattle.stick_parse.specs.Writable.{AreGridsOf}
 
 -- the line with this number says this
 abbrev pub saying : ℕ → Statement → Entry
@@ -21,20 +22,25 @@ form_line line = saying line.number (Item line.form)
 abbrev pub cell_part : CellText → List Entry
 cell_part cell = saying cell.line (Cell cell.name) ∷ (map form_line cell.lines ++ saying cell.end_line End ∷ [])
 
--- the lines of a grid: `grid`, one for each row, `end`; a design does not keep their numbers
-pub record IsGridPart (rows : List RowText) (entries : List Entry) : Type 0 where
-  pub first : ℕ
+-- the lines of a grid: `grid` or `grid NAME`, one for each row, `end`; a design keeps the number of the first alone
+pub record IsGridPart (grid : GridText) (entries : List Entry) : Type 0 where
   pub inner : List Entry
   pub last : ℕ
-  pub parts : entries ≡ saying first Grid ∷ (inner ++ saying last End ∷ [])
-  pub each : map (λ entry. entry.said) inner ≡ map (λ row. Ok (Row row)) rows
+  pub parts : entries ≡ saying grid.line (Grid grid.name) ∷ (inner ++ saying last End ∷ [])
+  pub each : map (λ entry. entry.said) inner ≡ map (λ row. Ok (Row row)) grid.rows
 
--- the lines of a design: `sticks 1`, those of its cells, those of its grid, and nothing more
+-- the lines of grids, one grid behind the other
+abbrev pub AreGridParts : List GridText → List Entry → Type 0
+AreGridParts [] entries = entries ≡ []
+AreGridParts (grid ∷ grids) entries = (part : List Entry) × (others : List Entry) × (entries ≡ part ++ others) × IsGridPart grid part × AreGridParts grids others
+
+-- the lines of a design: `sticks 1` or `sticks 2`, those of its cells, those of its grids, which are of its version, and nothing more
 pub record AreLinesOf (design : Design) (entries : List Entry) : Type 0 where
   pub first : ℕ
-  pub grid : List Entry
-  pub parts : entries ≡ saying first Version ∷ (flat_map cell_part design.cells ++ grid)
-  pub grid_part : IsGridPart design.grid grid
+  pub grids : List Entry
+  pub parts : entries ≡ saying first (Version design.version) ∷ (flat_map cell_part design.cells ++ grids)
+  pub grid_parts : AreGridParts design.grids grids
+  pub fits : AreGridsOf design.version design.grids
 
 -- the lines of a text that say something
 abbrev pub said_lines : List ℕ → List Entry

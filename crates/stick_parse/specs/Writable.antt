@@ -1,5 +1,5 @@
 -- What a design is made of: names, paths, and numbers that are not too large.
-use Rattle.std.specs.Prelude.{ℕ, ◌≤◌, ◌<◌, List, length, Option, Some, None, IsTrue}
+use Rattle.std.specs.Prelude.{◌≡◌, ◌⊎◌, ℕ, ◌≤◌, ◌<◌, List, [], ◌∷◌, length, Option, Some, None, IsTrue}
 use Rattle.std.specs.List.{AllByRecursion}
 use Rattle.stick_lex.specs.Tokens.{is_name, is_path}
 use Rattle.stick_parse.specs.declared.design.Layer.{Layer}
@@ -9,6 +9,7 @@ use Rattle.stick_parse.specs.declared.design.Form.TheVariants.{Joint, Contact, B
 use Rattle.stick_parse.specs.declared.design.Line.{Line}
 use Rattle.stick_parse.specs.declared.design.CellText.{CellText}
 use Rattle.stick_parse.specs.declared.design.RowText.{RowText}
+use Rattle.stick_parse.specs.declared.design.GridText.{GridText}
 use Rattle.stick_parse.specs.declared.design.Design.{Design}
 use Rattle.stick_parse.specs.declared.design.Statement.{Statement}
 use Rattle.stick_parse.specs.declared.design.Statement.TheVariants.{Version, Cell, Item, Grid, Row, End}
@@ -48,20 +49,44 @@ IsLine line = IsForm line.form
 abbrev pub IsRow : RowText → Type 0
 IsRow row = (0 < length row.names) × AllByRecursion IsName row.names
 
+-- a name, where there is one
+abbrev pub IsGridName : Option (List ℕ) → Type 0
+IsGridName None = Unit {0}
+IsGridName (Some name) = IsName name
+
 -- the names of a line are names, its paths paths, and its numbers not too large
 abbrev pub IsStatement : Statement → Type 0
-IsStatement Version = Unit {0}
+IsStatement (Version version) = IsCount version
 IsStatement (Cell name) = IsName name
 IsStatement (Item form) = IsForm form
-IsStatement Grid = Unit {0}
+IsStatement (Grid name) = IsGridName name
 IsStatement (Row row) = IsRow row
 IsStatement End = Unit {0}
 
 abbrev pub IsCell : CellText → Type 0
 IsCell cell = IsName cell.name × AllByRecursion IsLine cell.lines
 
+abbrev pub IsGrid : GridText → Type 0
+IsGrid grid = IsGridName grid.name × AllByRecursion IsRow grid.rows
+
+-- ---- the grids of a version
+
+abbrev pub IsOneUnnamed : List GridText → Type 0
+IsOneUnnamed grids = (grid : GridText) × (grids ≡ grid ∷ []) × (grid.name ≡ None)
+
+abbrev pub HasName : GridText → Type 0
+HasName grid = (name : List ℕ) × (grid.name ≡ Some name)
+
+abbrev pub AreSomeNamed : List GridText → Type 0
+AreSomeNamed grids = (0 < length grids) × AllByRecursion HasName grids
+
+-- version 1 has one grid without a name, and version 2 one or more with names
+abbrev pub AreGridsOf : ℕ → List GridText → Type 0
+AreGridsOf version grids = ((version ≡ 1) × IsOneUnnamed grids) ⊎ ((version ≡ 2) × AreSomeNamed grids)
+
 -- the design has a text
 pub record IsWritable (design : Design) : Type 0 where
   pub cells : AllByRecursion IsCell design.cells
   pub few_cells : length design.cells ≤ 256
-  pub rows : AllByRecursion IsRow design.grid
+  pub grids : AllByRecursion IsGrid design.grids
+  pub fits : AreGridsOf design.version design.grids

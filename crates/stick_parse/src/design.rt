@@ -92,30 +92,40 @@ pub struct CellText {
     pub lines: Seq<Line>,
 }
 
-/// A row of the grid: names of cells, from the left.
+/// A row of a grid: names of cells, from the left.
 #[derive(Debug, Drop)]
 pub struct RowText {
     pub names: Seq<Text>,
 }
 
-/// A design: its cells, and the rows of its grid from the bottom.
+/// A grid: its name, where its version gives it one, the number of its first line, and its rows from the bottom.
+#[derive(Debug, Drop)]
+pub struct GridText {
+    pub name: Option<Text>,
+    pub line: u32,
+    pub rows: Seq<RowText>,
+}
+
+/// A design: the version of the language, its cells and its grids. In version 1 there is one grid, and it has no name; in
+/// version 2 there is one or more, and each has a name.
 #[derive(Debug, Drop)]
 pub struct Design {
+    pub version: u32,
     pub cells: Seq<CellText>,
-    pub grid: Seq<RowText>,
+    pub grids: Seq<GridText>,
 }
 
 /// What one line of stick text says.
 #[derive(Debug, Drop)]
 pub enum Statement {
-    /// `sticks 1`
-    Version,
+    /// `sticks N`
+    Version(u32),
     /// `cell NAME`
     Cell(Text),
     /// A line of a cell.
     Item(Form),
-    /// `grid`
-    Grid,
+    /// `grid`, or `grid NAME`
+    Grid(Option<Text>),
     /// `row NAME NAME ..`
     Row(RowText),
     /// `end`

@@ -20,8 +20,9 @@ pub enum StickKind {
     /// The tokens form no line that may stand here.
     #[error("no line that may stand here")]
     BadLine,
-    /// The text ends before the grid's `end`. It is told at the last line, or at line 1 of an empty text.
-    #[error("the text ends before the grid does")]
+    /// The text ends before the first grid's `end`, or inside a grid. It is told at the last line, or at line 1 of an empty
+    /// text.
+    #[error("the text ends before a grid does")]
     Unended,
     /// The 257th `cell` line.
     #[error("too many cells")]
@@ -40,7 +41,7 @@ pub enum StickKind {
     FarPlace,
     #[error("a size is wrong")]
     BadSize,
-    #[error("narrower than its layer allows")]
+    #[error("narrower than its layer or its pad allows")]
     NarrowWire,
     #[error("a path ends at no terminal")]
     WrongTerminal,
@@ -48,7 +49,7 @@ pub enum StickKind {
     NotStraight,
     #[error("a terminal is on another layer")]
     WrongLayer,
-    #[error("a wire meets a transistor from the wrong side")]
+    #[error("a wire leaves a part on the wrong side")]
     WrongSide,
     #[error("a wire is wider than a pad")]
     WideWire,

@@ -2,7 +2,7 @@
 ghost use Rattle.std.specs.Prelude.{◌≡◌};
 ghost use Rattle.stick_parse.specs.Reading.{GivesLine};
 ghost use Rattle.stick_parse.specs.WordViews.{views};
-ghost use Rattle.stick_parse.specs.Forms.{joint_of, contact_of, buried_of, fet_of, port_of, use_of, wire_of, limit_of, version_of, cell_of, names_of, row_of, alone, form_named, item_named, statement_named, statement_of};
+ghost use Rattle.stick_parse.specs.Forms.{joint_of, contact_of, buried_of, fet_of, port_of, use_of, wire_of, limit_of, version_of, cell_of, grid_of, names_of, row_of, end_of, form_named, item_named, statement_named, statement_of};
 
 use crate::design::{Form, RowText, Statement};
 use crate::fault::{LineFault, StickKind};
@@ -168,11 +168,7 @@ fn version_of(words: &[Word]) -> Result<Statement, LineFault>
 {
     let (version, rest) = count_at(words)?;
     ended(rest)?;
-    if version == 1 {
-        Ok(Statement::Version)
-    } else {
-        Err(BAD_LINE)
-    }
+    Ok(Statement::Version(version))
 }
 
 #[tactic(auto, unfolding(crate::specs::Forms::cell_of))]
@@ -183,6 +179,19 @@ fn cell_of(alloc: Global, words: &[Word]) -> Result<Statement, LineFault>
     ended(rest)?;
     let name = Text::new(alloc, name)?;
     Ok(Statement::Cell(name))
+}
+
+#[tactic(auto, unfolding(crate::specs::Forms::grid_of))]
+fn grid_of(alloc: Global, words: &[Word]) -> Result<Statement, LineFault>
+    ensures { GivesLine (λ x. x) result (grid_of (views words.now)) }
+{
+    let [_, ..] = words else {
+        return Ok(Statement::Grid(None));
+    };
+    let (name, rest) = name_at(words)?;
+    ended(rest)?;
+    let name = Text::new(alloc, name)?;
+    Ok(Statement::Grid(Some(name)))
 }
 
 fn names_of(alloc: Global, words: &[Word]) -> Result<Seq<Text>, LineFault>
@@ -207,12 +216,12 @@ fn row_of(alloc: Global, words: &[Word]) -> Result<Statement, LineFault>
     Ok(Statement::Row(RowText { names }))
 }
 
-#[tactic(auto, unfolding(crate::specs::Forms::alone))]
-fn alone(statement: Statement, words: &[Word]) -> Result<Statement, LineFault>
-    ensures { GivesLine (λ x. x) result (alone statement (views words.now)) }
+#[tactic(auto, unfolding(crate::specs::Forms::end_of))]
+fn end_of(words: &[Word]) -> Result<Statement, LineFault>
+    ensures { GivesLine (λ x. x) result (end_of (views words.now)) }
 {
     ended(words)?;
-    Ok(statement)
+    Ok(Statement::End)
 }
 
 #[tactic(auto, unfolding(crate::specs::Forms::form_named))]
@@ -257,9 +266,9 @@ fn statement_named(alloc: Global, keyword: &[u8], words: &[Word]) -> Result<Stat
     } else if keyword == b"cell".as_slice() {
         cell_of(alloc, words)
     } else if keyword == b"end".as_slice() {
-        alone(Statement::End, words)
+        end_of(words)
     } else if keyword == b"grid".as_slice() {
-        alone(Statement::Grid, words)
+        grid_of(alloc, words)
     } else if keyword == b"row".as_slice() {
         row_of(alloc, words)
     } else {

@@ -1,5 +1,5 @@
-//! Stick text as a design: cells of joints, contacts, buried contacts, transistors, ports, uses, wires and limits, and a
-//! grid of cells.
+//! Stick text as a design: cells of joints, contacts, buried contacts, transistors, ports, uses, wires and limits, and
+//! grids of cells: one without a name, or in version 2 one or more with names.
 //! What the layer above uses: `parse` gives the design that the text says (`specs/Says.antt`: the lines that a design has,
 //! one behind the other), or the text's first fault (`specs/FirstFault.antt`: the first line behind which no design can
 //! begin so). What one line says is in `specs/Forms.antt`. `design_of` (`specs/Order.antt`) is the same as a function of
@@ -15,7 +15,7 @@ mod lines;
 mod parsing;
 mod words;
 
-pub use design::{CellText, Design, Form, Layer, Line, RowText};
+pub use design::{CellText, Design, Form, GridText, Layer, Line, RowText};
 pub use fault::{LineFault, ParseFault, StickFault, StickKind};
 pub use lam_geom::Side;
 pub use laws::{has_one_answer, has_words_in_range, reads_what_is_said, refuses_first_fault};

@@ -1,19 +1,20 @@
-//! The parts of a text: its first line, its cells and its grid.
-ghost use Rattle.std.specs.Prelude.{◌≡◌, ◌^◌, ◌<◌, ◌≤◌, ℕ, [], length, max, IfOk, IfErr, OnOk};
+//! The parts of a text: its first line, its cells and its grids.
+ghost use Rattle.std.specs.Prelude.{◌≡◌, ◌==◌, ◌^◌, ◌<◌, ◌≤◌, ℕ, Bool, [], ◌∷◌, length, max, Ok, IfOk, IfErr, OnOk};
 ghost use Rattle.stick_parse.specs.declared.fault.ParseFault.TheVariants.{Stick};
 ghost use Rattle.stick_parse.specs.declared.fault.StickKind.TheVariants.{Unended};
 ghost use Rattle.stick_parse.specs.Reading.{Gives, Fails};
-ghost use Rattle.stick_parse.specs.Order.{AtHead, Behind, InCell, InGrid, design_of};
+ghost use Rattle.stick_parse.specs.Order.{AtHead, Behind, InCell, InGrid, AtEnd, design_of};
 ghost use Rattle.stick_parse.specs.FirstFault.{Tells};
 ghost use Rattle.stick_parse.specs.Writable.{IsWritable};
 ghost use Rattle.stick_parse.specs.LinesLeft.{last_of};
-ghost use Rattle.stick_parse.specs.Parts.{rest_at, with_cell_lines, with_cells, GivesRows};
+ghost use Rattle.stick_parse.specs.Parts.{rest_at, with_cell_lines, with_version, with_cells, with_grid, with_grids, AreRowsOf, grids_alone};
 
 use crate::cursor::Lines;
-use crate::design::{CellText, Design, Line, RowText, Statement};
+use crate::design::{CellText, Design, GridText, Line, RowText, Statement};
 use crate::fault::{ParseFault, StickFault, StickKind};
 use lam_list::Seq;
 use std::alloc::Global;
+use stick_lex::Text;
 
 /// The greatest number of cells in a text.
 const MOST_CELLS: usize = 256;
@@ -33,11 +34,11 @@ fn unended(lines: &Lines) -> ParseFault
 
 /// The lines of a cell behind its first line, and the number of its `end`.
 fn cell_lines(alloc: Global, lines: &mut Lines) -> Result<(Seq<Line>, u32), ParseFault>
-    ensures cell { IfOk result (λ cell. (n : ℕ) → rest_at (InCell n) lines.old
-        ≡ with_cell_lines cell.0 cell.1 (rest_at (Behind n) lines.new)) }
+    ensures cell { IfOk result (λ cell. (named : Bool) (n : ℕ) → rest_at (InCell named n) lines.old
+        ≡ with_cell_lines cell.0 cell.1 (rest_at (Behind named n) lines.new)) }
     ensures last { OnOk result (last_of lines.new ≡ last_of lines.old) }
     ensures shorter { OnOk result (length lines.new.rest.now < length lines.old.rest.now) }
-    ensures fault { IfErr result (λ fault. (n : ℕ) → Fails fault (rest_at (InCell n) lines.old)) }
+    ensures fault { IfErr result (λ fault. (named : Bool) (n : ℕ) → Fails fault (rest_at (InCell named n) lines.old)) }
 {
     let mut inner = Vec::new(alloc);
     'lines: loop {
@@ -52,10 +53,12 @@ fn cell_lines(alloc: Global, lines: &mut Lines) -> Result<(Seq<Line>, u32), Pars
     }
 }
 
-/// The rows of the grid behind its first line, with nothing behind its `end`.
+/// The rows of a grid behind its first line, up to its `end`.
 fn grid_rows(alloc: Global, lines: &mut Lines) -> Result<Seq<RowText>, ParseFault>
-    ensures rows { IfOk result (λ rows. GivesRows rows (rest_at InGrid lines.old)) }
-    ensures fault { IfErr result (λ fault. Fails fault (rest_at InGrid lines.old)) }
+    ensures rows { IfOk result (λ rows. AreRowsOf rows lines.old lines.new) }
+    ensures last { OnOk result (last_of lines.new ≡ last_of lines.old) }
+    ensures shorter { OnOk result (length lines.new.rest.now < length lines.old.rest.now) }
+    ensures fault { IfErr result (λ fault. (named : Bool) → Fails fault (rest_at (InGrid named) lines.old)) }
 {
     let mut rows = Vec::new(alloc);
     'lines: loop {
@@ -64,21 +67,22 @@ fn grid_rows(alloc: Global, lines: &mut Lines) -> Result<Seq<RowText>, ParseFaul
         };
         match statement {
             Statement::Row(row) => rows.push(row)?,
-            Statement::End => break,
+            Statement::End => return Ok(Seq::from_vec(rows)),
             _ => return Err(refused(number, StickKind::BadLine)),
         }
     }
-    match lines.next(alloc)? {
-        None => Ok(Seq::from_vec(rows)),
-        Some((number, _)) => Err(refused(number, StickKind::BadLine)),
-    }
 }
 
-/// The cells of a text and the line `grid`, behind its first line.
-fn cells(alloc: Global, lines: &mut Lines) -> Result<Seq<CellText>, ParseFault>
-    ensures cells { IfOk result (λ cells. with_cells [] (rest_at (Behind 0) lines.old) ≡ with_cells cells (rest_at InGrid lines.new)) }
+/// The cells of a text behind its first line, and the number and the name of its first grid.
+fn cells(
+    alloc: Global,
+    lines: &mut Lines,
+    named: bool,
+) -> Result<(Seq<CellText>, u32, Option<Text>), ParseFault>
+    ensures cells { IfOk result (λ read. with_cells [] (rest_at (Behind named 0) lines.old)
+        ≡ with_cells read.0 (with_grid read.1 read.2 (rest_at (InGrid named) lines.new))) }
     ensures last { OnOk result (last_of lines.new ≡ last_of lines.old) }
-    ensures fault { IfErr result (λ fault. Fails fault (with_cells [] (rest_at (Behind 0) lines.old))) }
+    ensures fault { IfErr result (λ fault. Fails fault (with_cells [] (rest_at (Behind named 0) lines.old))) }
 {
     let mut cells = Vec::new(alloc);
     'lines: loop {
@@ -98,15 +102,48 @@ fn cells(alloc: Global, lines: &mut Lines) -> Result<Seq<CellText>, ParseFault>
                     lines: inner,
                 })?;
             }
-            Statement::Grid => return Ok(Seq::from_vec(cells)),
+            Statement::Grid(name) => {
+                if name.is_some() != named {
+                    return Err(refused(number, StickKind::BadLine));
+                }
+                return Ok((Seq::from_vec(cells), number, name));
+            }
             _ => return Err(refused(number, StickKind::BadLine)),
         }
     }
 }
 
-/// The first line.
-fn header(alloc: Global, lines: &mut Lines) -> Result<(), ParseFault>
-    ensures rest { OnOk result (rest_at AtHead lines.old ≡ rest_at (Behind 0) lines.new) }
+/// The grids of a text behind the first line of the first, with nothing behind the `end` of the last. They have names, or
+/// there is one.
+fn grids(
+    alloc: Global,
+    lines: &mut Lines,
+    named: bool,
+    line: u32,
+    name: Option<Text>,
+) -> Result<Seq<GridText>, ParseFault>
+    ensures grids { IfOk result (λ grids. with_grids [] (with_grid line name (rest_at (InGrid named) lines.old)) ≡ Ok (grids_alone grids)) }
+    ensures fault { IfErr result (λ fault. Fails fault (with_grids [] (with_grid line name (rest_at (InGrid named) lines.old)))) }
+{
+    let mut grids = Vec::new(alloc);
+    let rows = grid_rows(alloc, lines)?;
+    grids.push(GridText { name, line, rows })?;
+    'lines: while let Some((line, statement)) = lines.next(alloc)? {
+        let Statement::Grid(name) = statement else {
+            return Err(refused(line, StickKind::BadLine));
+        };
+        if !named || name.is_none() {
+            return Err(refused(line, StickKind::BadLine));
+        }
+        let rows = grid_rows(alloc, lines)?;
+        grids.push(GridText { name, line, rows })?;
+    }
+    Ok(Seq::from_vec(grids))
+}
+
+/// The first line: the version of the text.
+fn header(alloc: Global, lines: &mut Lines) -> Result<u32, ParseFault>
+    ensures rest { IfOk result (λ version. rest_at AtHead lines.old ≡ with_version version (rest_at (Behind (version == 2) 0) lines.new)) }
     ensures last { OnOk result (last_of lines.new ≡ last_of lines.old) }
     ensures fault { IfErr result (λ fault. Fails fault (rest_at AtHead lines.old)) }
 {
@@ -114,21 +151,25 @@ fn header(alloc: Global, lines: &mut Lines) -> Result<(), ParseFault>
         return Err(unended(lines));
     };
     match statement {
-        Statement::Version => Ok(()),
+        Statement::Version(version) if version == 1 || version == 2 => Ok(version),
         _ => Err(refused(number, StickKind::BadLine)),
     }
 }
 
-#[tactic(auto, unfolding(crate::specs::Order::design_of))]
 fn design_of(alloc: Global, text: &[u8]) -> Result<Design, ParseFault>
     requires { length text.now ≤ 2 ^ 20 }
     ensures { Gives (λ design. design) result (design_of text.now) }
 {
     let mut lines = Lines::new(text);
-    header(alloc, &mut lines)?;
-    let cells = cells(alloc, &mut lines)?;
-    let grid = grid_rows(alloc, &mut lines)?;
-    Ok(Design { cells, grid })
+    let version = header(alloc, &mut lines)?;
+    let named = version == 2;
+    let (cells, line, name) = cells(alloc, &mut lines, named)?;
+    let grids = grids(alloc, &mut lines, named, line, name)?;
+    Ok(Design {
+        version,
+        cells,
+        grids,
+    })
 }
 
 /// The design that a stick text says.

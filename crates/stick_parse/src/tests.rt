@@ -1,6 +1,8 @@
 ghost use Rattle.std.specs.Prelude.{◌^◌, ◌≤◌, length};
 
 use super::*;
+use std::alloc::Global;
+use std::process::Abort;
 use std::test::Fail;
 
 /// A text that has each kind of line.
@@ -25,17 +27,32 @@ end
 ";
 
 /// The line and the kind of the first fault; line 0 where there is a design.
-fn fault_of(rt: &HostRuntime, text: &[u8]) -> Result<(u32, StickKind), Fail>
+fn fault_of(alloc: Global, text: &[u8]) -> Result<(u32, StickKind), Fail>
     requires { length text.now ≤ 2 ^ 20 }
 {
-    match parse(rt.alloc(), text) {
+    match parse(alloc, text) {
         Ok(_) => Ok((0, StickKind::BadLine)),
         Err(ParseFault::Stick(fault)) => Ok((fault.line, fault.kind)),
         Err(ParseFault::OutOfMemory) => Err("want of memory")?,
     }
 }
 
-/// The same where this is the only line of the only cell, which is the third of the text.
+/// Each text has its first fault at the line and of the kind beside it.
+fn assert_faults<A: Abort>(
+    rt: &A,
+    alloc: Global,
+    cases: &[(&[u8], u32, StickKind)],
+) -> Result<(), Fail> {
+    for (text, line, kind) in cases {
+        if text.len() > 4000 {
+            return Err("a short text")?;
+        }
+        assert_eq!(rt; fault_of(alloc, text)?, (*line, *kind));
+    }
+    Ok(())
+}
+
+/// The line and the kind of the first fault where this is the only line of the only cell, which is the third of the text.
 fn fault_of_line(rt: &HostRuntime, line: &[u8]) -> Result<(u32, StickKind), Fail> {
     let mut text = Vec::from_slice(rt.alloc(), b"sticks 1\ncell a\n")?;
     text.extend_from_slice(line)?;
@@ -43,7 +60,7 @@ fn fault_of_line(rt: &HostRuntime, line: &[u8]) -> Result<(u32, StickKind), Fail
     if text.len() > 4000 {
         return Err("a short line")?;
     }
-    fault_of(rt, &text)
+    fault_of(rt.alloc(), &text)
 }
 
 #[test]
@@ -73,7 +90,7 @@ fn a_line_of_a_cell_with_a_fault_is_refused(rt: HostRuntime) -> Result<(), Fail>
 
 #[test]
 fn the_first_fault_is_told_with_its_line(rt: HostRuntime) -> Result<(), Fail> {
-    let cases: [(&[u8], u32, StickKind); 11] = [
+    let cases: [(&[u8], u32, StickKind); 10] = [
         (b"", 1, StickKind::Unended),
         (b"\n\n", 2, StickKind::Unended),
         (b"sticks 1\ncell a\nwire metal p", 3, StickKind::BadLine),
@@ -83,25 +100,69 @@ fn the_first_fault_is_told_with_its_line(rt: HostRuntime) -> Result<(), Fail> {
         (b"sticks 1\njoint p metal 0 0\n", 2, StickKind::BadLine),
         (b"sticks 1\ngrid\nrow\n", 3, StickKind::BadLine),
         (b"sticks 1\ngrid\nend\ngrid\n", 4, StickKind::BadLine),
-        (b"sticks 2\ngrid\nend\n", 1, StickKind::BadLine),
         (b"grid\nend\n", 1, StickKind::BadLine),
     ];
-    for (text, line, kind) in cases {
-        assert_eq!(rt; fault_of(&rt, text)?, (line, kind));
-    }
+    assert_faults(&rt, rt.alloc(), &cases)
+}
+
+#[test]
+fn grids_have_names_under_version_2_alone(rt: HostRuntime) -> Result<(), Fail> {
+    let cases: [(&[u8], u32, StickKind); 15] = [
+        (b"sticks 0\ngrid\nend\n", 1, StickKind::BadLine),
+        (b"sticks 3\ngrid a\nend\n", 1, StickKind::BadLine),
+        (b"sticks 1\ngrid a\nend\n", 2, StickKind::BadLine),
+        (b"sticks 1\ngrid\nend\ngrid b\nend\n", 4, StickKind::BadLine),
+        (b"sticks 2\ngrid\nend\n", 2, StickKind::BadLine),
+        (b"sticks 2\ngrid a.b\nend\n", 2, StickKind::BadLine),
+        (b"sticks 2\ngrid a b\nend\n", 2, StickKind::BadLine),
+        (b"sticks 2\ngrid a\ngrid b\nend\n", 3, StickKind::BadLine),
+        (b"sticks 2\ngrid a\nend\ngrid\nend\n", 4, StickKind::BadLine),
+        (
+            b"sticks 2\ngrid a\nend\ncell c\nend\n",
+            4,
+            StickKind::BadLine,
+        ),
+        (b"sticks 2\ngrid a\nend\nrow c\n", 4, StickKind::BadLine),
+        (b"sticks 2\n", 1, StickKind::Unended),
+        (b"sticks 2\ncell c\nend\n\n", 4, StickKind::Unended),
+        (b"sticks 2\ngrid a\nrow c\n", 3, StickKind::Unended),
+        (
+            b"sticks 2\ngrid a\nend\ngrid b\nrow c\n# c",
+            6,
+            StickKind::Unended,
+        ),
+    ];
+    assert_faults(&rt, rt.alloc(), &cases)
+}
+
+#[test]
+fn grids_keep_their_names_and_lines(rt: HostRuntime) -> Result<(), Fail> {
+    let text = b"sticks 2\ncell c\nend\ngrid a\nrow c c\nrow c\nend\n\ngrid b\nend\n";
+    let design = parse(rt.alloc(), text).ok().ok_or("a design")?;
+    assert_eq!(rt; (design.version, design.cells.as_slice().len()), (2, 1));
+    let grids = design.grids.as_slice();
+    assert_eq!(rt; grids.len(), 2);
+    let name = grids[0].name.as_ref().ok_or("a name")?;
+    assert_eq!(rt; name.bytes(), b"a".as_slice());
+    assert_eq!(rt; (grids[0].line, grids[0].rows.as_slice().len()), (4, 2));
+    let name = grids[1].name.as_ref().ok_or("a name")?;
+    assert_eq!(rt; name.bytes(), b"b".as_slice());
+    assert_eq!(rt; (grids[1].line, grids[1].rows.as_slice().len()), (9, 0));
     Ok(())
 }
 
 #[test]
 fn what_may_vary_is_read(rt: HostRuntime) -> Result<(), Fail> {
-    let cases: [&[u8]; 4] = [
+    let cases: [&[u8]; 6] = [
+        b"sticks 2\ngrid a\nend",
+        b"sticks 02\ncell a\nend\ngrid a\nrow a\nend\n\ngrid  b # behind it\nrow b a\nend\n",
         b"\t sticks 01 \r\n\n# \x80\ngrid\nend",
         b"sticks 1\ncell abcdefghijklmnopqrstuvwxyz_01234\njoint p metal -0 0004095 1000000\nend\ngrid\nend\n",
         b"sticks 1\ncell a\nlimit y u.p q >= -1000000\nend\ngrid\nrow a a\nrow b\nend\n",
         EACH_LINE,
     ];
     for text in cases {
-        assert_eq!(rt; fault_of(&rt, text)?.0, 0);
+        assert_eq!(rt; fault_of(rt.alloc(), text)?.0, 0);
     }
     Ok(())
 }
@@ -109,7 +170,7 @@ fn what_may_vary_is_read(rt: HostRuntime) -> Result<(), Fail> {
 #[test]
 fn each_cut_of_a_text_is_refused_but_at_the_last_line_end(rt: HostRuntime) -> Result<(), Fail> {
     for length in 0..EACH_LINE.len() {
-        let line = fault_of(&rt, &EACH_LINE[..length])?.0;
+        let line = fault_of(rt.alloc(), &EACH_LINE[..length])?.0;
         assert_eq!(rt; line == 0, length + 1 == EACH_LINE.len());
     }
     Ok(())
@@ -124,11 +185,14 @@ fn the_cell_after_the_256th_is_refused(rt: HostRuntime) -> Result<(), Fail> {
     let cells = text.len();
     text.extend_from_slice(b"grid\nend\n")?;
     assert!(rt; text.len() < 4000);
-    assert_eq!(rt; fault_of(&rt, &text)?.0, 0);
+    assert_eq!(rt; fault_of(rt.alloc(), &text)?.0, 0);
     text.truncate(cells);
     text.extend_from_slice(b"cell a\n")?;
     assert!(rt; text.len() < 4000);
-    assert_eq!(rt; fault_of(&rt, &text)?, (514, StickKind::TooManyCells));
+    assert_eq!(rt;
+        fault_of(rt.alloc(), &text)?,
+        (514, StickKind::TooManyCells)
+    );
     Ok(())
 }
 
@@ -155,7 +219,11 @@ fn lines_keep_their_numbers_and_forms(rt: HostRuntime) -> Result<(), Fail> {
         buried.as_str(),
         "Buried { name: Text { held: [98] }, col: 3, row: 5 }"
     );
-    let rows = design.grid.as_slice();
+    let grids = design.grids.as_slice();
+    assert_eq!(rt; (design.version, grids.len()), (1, 1));
+    assert!(rt; grids[0].name.is_none());
+    assert_eq!(rt; grids[0].line, 8);
+    let rows = grids[0].rows.as_slice();
     assert_eq!(rt; rows.len(), 1);
     assert_eq!(rt; rows[0].names.as_slice().len(), 2);
     Ok(())

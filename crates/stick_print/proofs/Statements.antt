@@ -1,5 +1,5 @@
 -- A printed line says what it was printed from.
-use Rattle.std.proofs.Common.{◌≡◌, ℕ, ◌<◌, ◌≤◌, ℤ, pos, Bool, true, false, cond, leb, List, [], ◌∷◌, ◌++◌, length, map, Option, Some, None, Result, Ok, refl, ap, ◌∙◌, arith, codes, lit<, lit≤}
+use Rattle.std.proofs.Common.{◌≡◌, ℕ, ◌<◌, ◌≤◌, ℤ, pos, Bool, true, false, cond, leb, List, [], ◌∷◌, ◌++◌, length, map, Option, Some, None, Result, Ok, refl, ap, ◌∙◌, arith, codes}
 use Rattle.std.specs.List.{AllByRecursion}
 use Rattle.std.specs.Str.{bytes_eq}
 use Rattle.std.proofs.lemmas.Bool.{le-leb}
@@ -17,13 +17,13 @@ use Rattle.stick_parse.specs.declared.design.Statement.{Statement}
 use Rattle.stick_parse.specs.declared.design.Statement.TheVariants.{Version, Cell, Item, Grid, Row, End}
 use Rattle.stick_parse.specs.Reading.{◌>>=◌}
 use Rattle.stick_parse.specs.Words.{Word, Path, Number, word_of, path_at, name_at, number_at, count_at, optional_count_at, at_most_at, layer_at, lower_at, side_at, either_at, ended}
-use Rattle.stick_parse.specs.Forms.{joint_of, contact_of, buried_of, fet_of, port_of, use_of, wire_of, limit_of, version_of, cell_of, names_of, row_of, alone, form_named, item_named, statement_named, statement_of}
+use Rattle.stick_parse.specs.Forms.{joint_of, contact_of, buried_of, fet_of, port_of, use_of, wire_of, limit_of, version_of, cell_of, grid_of, names_of, row_of, end_of, form_named, item_named, statement_named, statement_of}
 use Rattle.stick_parse.specs.Lines.{tokens_or_kind, said_by_words, said_by}
-use Rattle.stick_parse.specs.Writable.{IsName, IsWidth, IsLower, IsForm, IsStatement}
-use Rattle.stick_print.specs.Canonical.{layer_word, side_word, kind_word, direction_word, axis_word, bound_word, width_words, form_keyword, form_words, keyword_of, words_of, spaced}
-use Rattle.stick_print.specs.Said.{width_said, bound_said, form_said, said}
+use Rattle.stick_parse.specs.Writable.{IsName, IsCount, IsGridName, IsWidth, IsLower, IsForm, IsStatement}
+use Rattle.stick_print.specs.Canonical.{layer_word, side_word, kind_word, direction_word, axis_word, bound_word, width_words, name_words, form_keyword, form_words, keyword_of, words_of, spaced}
+use Rattle.stick_print.specs.Said.{width_said, name_said, bound_said, form_said, said}
 use Rattle.stick_print.proofs.Split.{IsPlain, Says, AllSay, plain_texts, words_again}
-use Rattle.stick_print.proofs.Spelled.{first_branch, says_name, says_path, says_count, says_number, says_at_most, says_at_least, says_digits}
+use Rattle.stick_print.proofs.Spelled.{first_branch, says_name, says_path, says_count, says_number, says_at_most, says_at_least}
 
 -- ---- each word says it
 
@@ -54,6 +54,10 @@ says_names : (names : List (List ℕ)) → AllByRecursion IsName names → AllSa
 says_names [] h = tt
 says_names (name ∷ names) h = (says_name name h.0, says_names names h.1)
 
+says_grid_name : (name : Option (List ℕ)) → IsGridName name → AllSay (name_words name) (name_said name)
+says_grid_name None h = tt
+says_grid_name (Some name) h = (says_name name h, tt)
+
 says_layer : (layer : Layer) → Says (layer_word layer) (Path (layer_word layer))
 says_layer layer = says_path (layer_word layer) (layer_path layer)
 
@@ -68,10 +72,10 @@ says_form (Wire layer a b width) h = (says_layer layer, (says_path a h.0, (says_
 says_form (Limit vertical a b at_most n) h = (says_path (axis_word vertical) (either_path (codes "x") (codes "y") vertical refl refl), (says_path a h.0, (says_path b h.1, (says_bound at_most, (says_number n h.2, tt)))))
 
 says_words : (statement : Statement) → IsStatement statement → AllSay (words_of statement) (said statement)
-says_words Version h = (says_digits (codes "1") 1 (lit< tt) (lit< tt, tt) refl (lit≤ tt), tt)
+says_words (Version version) h = (says_count version h, tt)
 says_words (Cell name) h = (says_name name h, tt)
 says_words (Item form) h = says_form form h
-says_words Grid h = tt
+says_words (Grid name) h = says_grid_name name h
 says_words (Row row) h = says_names row.names h.1
 says_words End h = tt
 
@@ -86,10 +90,10 @@ form_keyword_path (Wire layer a b width) = refl
 form_keyword_path (Limit vertical a b at_most n) = refl
 
 keyword_path : (statement : Statement) → is_path (keyword_of statement) ≡ true
-keyword_path Version = refl
+keyword_path (Version version) = refl
 keyword_path (Cell name) = refl
 keyword_path (Item form) = form_keyword_path form
-keyword_path Grid = refl
+keyword_path (Grid name) = refl
 keyword_path (Row row) = refl
 keyword_path End = refl
 
@@ -201,13 +205,18 @@ cell_again : (name : List ℕ) → IsName name → cell_of (Path name ∷ []) �
 unfolding cell_of
 cell_again name h = rw (name_again name [] h, none_left) refl
 
-version_again : version_of (Number (pos 1) ∷ []) ≡ Ok Version
+version_again : (version : ℕ) → IsCount version → version_of (Number (pos version) ∷ []) ≡ Ok (Version version)
 unfolding version_of
-version_again = rw (count_again 1 [] (lit≤ tt), none_left) refl
+version_again version h = rw (count_again version [] h, none_left) refl
 
-alone_again : (statement : Statement) → alone statement [] ≡ Ok statement
-unfolding alone
-alone_again statement = rw none_left refl
+grid_again : (name : Option (List ℕ)) → IsGridName name → grid_of (name_said name) ≡ Ok (Grid name)
+unfolding grid_of
+grid_again None h = refl
+grid_again (Some name) h = rw (name_again name [] h, none_left) refl
+
+end_again : end_of [] ≡ Ok End
+unfolding end_of
+end_again = rw none_left refl
 
 form_again : (form : Form) → IsForm form → form_named (form_keyword form) (form_said form) ≡ Ok form
 unfolding form_named
@@ -237,12 +246,12 @@ item_keyword (Limit vertical a b at_most n) words = refl
 
 named_again : (statement : Statement) → IsStatement statement → statement_named (keyword_of statement) (said statement) ≡ Ok statement
 unfolding statement_named
-named_again Version h = version_again
+named_again (Version version) h = version_again version h
 named_again (Cell name) h = cell_again name h
 named_again (Item form) h = item_keyword form (form_said form) ∙ item_again form h
-named_again Grid h = alone_again Grid
+named_again (Grid name) h = grid_again name h
 named_again (Row row) h = row_again row.names h.0 h.1
-named_again End h = alone_again End
+named_again End h = end_again
 
 pub statement_again : (statement : Statement) → IsStatement statement → statement_of (Path (keyword_of statement) ∷ said statement) ≡ Ok statement
 unfolding statement_of path_at

@@ -1,5 +1,5 @@
 -- A line that says something has the words that say it.
-use Rattle.std.proofs.Common.{◌≡◌, ℕ, ℤ, pos, negsuc, Bool, true, false, cond, eqb, leb, List, [], ◌∷◌, ◌++◌, map, Option, Some, None, Result, Ok, Err, refl, sym, ap, subst, ◌∙◌, codes}
+use Rattle.std.proofs.Common.{◌≡◌, ℕ, ℤ, pos, negsuc, Bool, true, false, cond, leb, List, [], ◌∷◌, ◌++◌, map, Option, Some, None, Result, Ok, Err, refl, ap, subst, ◌∙◌, codes}
 use Rattle.std.specs.Str.{bytes_eq}
 use Rattle.std.proofs.lemmas.Slice.Eq.{bytes_eq-Decides}
 use Rattle.stick_lex.specs.Tokens.{is_name}
@@ -14,7 +14,7 @@ use Rattle.stick_parse.specs.declared.design.Form.TheVariants.{Joint, Contact, B
 use Rattle.stick_parse.specs.declared.design.Statement.{Statement}
 use Rattle.stick_parse.specs.declared.design.Statement.TheVariants.{Version, Cell, Item, Grid, Row, End}
 use Rattle.stick_parse.specs.Words.{Word, Path, Number, AtMost, AtLeast, Front, path_at, name_at, number_at, count_of, count_at, optional_count_at, at_most_at, value_at, layer_named, layer_at, lower_named, lower_at, side_named, side_at, second_of, either_at, ended}
-use Rattle.stick_parse.specs.Forms.{start, ◌&◌, whole, joint_of, contact_of, buried_of, fet_of, port_of, use_of, wire_of, limit_of, version_of, cell_of, names_of, row_of, alone, form_named, item_named, statement_named, statement_of}
+use Rattle.stick_parse.specs.Forms.{start, ◌&◌, whole, joint_of, contact_of, buried_of, fet_of, port_of, use_of, wire_of, limit_of, version_of, cell_of, grid_of, names_of, row_of, end_of, form_named, item_named, statement_named, statement_of}
 use Rattle.stick_parse.proofs.Written.{Holds, then_holds}
 use Rattle.stick_print.specs.Canonical.{layer_word, side_word, form_keyword, keyword_of}
 use Rattle.stick_print.specs.Said.{width_said, bound_said, form_said, said}
@@ -225,11 +225,8 @@ unfolding item_named
 item_from word ws = then_holds (Says word ws) (Tells word ws) (form_named word ws) (λ form. Ok (Item form)) (form_from word ws) (λ form h. h)
 
 version_from : (word : List ℕ) (ws : List Word) → word ≡ codes "sticks" → Holds (Tells word ws) (version_of ws)
-unfolding version_of
-version_from word ws is =
-    then_holds (Counts ws) (Tells word ws) (count_at ws) _ (count_from ws) (λ version a.
-    then_holds (Ended version.1) (Tells word ws) (ended version.1) (λ done. cond (eqb version.0 1) (Ok Version) (Err BadLine)) (ended_from version.1) (λ done b.
-    if_read (Tells word ws) (eqb version.0 1) Version (Err BadLine) (λ e. let one : version.0 ≡ 1 = borrow.Author.Tests.eqb-true _ _ e in (is, cc)) tt))
+unfolding version_of Takes Behind
+version_from word ws is = whole_read (Tells word ws) _ (next_read Counts _ _ count_at count_from (started (Takes Counts (Behind (Tells word ws))) Version ws (λ version v end. (is, cc))))
 
 cell_from : (word : List ℕ) (ws : List Word) → word ≡ codes "cell" → Holds (Tells word ws) (cell_of ws)
 unfolding cell_of Takes Behind
@@ -254,17 +251,23 @@ unfolding row_of
 row_from word [] is = tt
 row_from word (w ∷ ws) is = then_holds (Names (w ∷ ws)) (Tells word (w ∷ ws)) (names_of (w ∷ ws)) (λ names. Ok (Row (record { names = names }))) (names_from (w ∷ ws)) (λ names a. (is, a))
 
-alone_from : (s : Statement) (word : List ℕ) (ws : List Word) → said s ≡ [] → word ≡ keyword_of s → Holds (Tells word ws) (alone s ws)
-unfolding alone Behind
-alone_from s word ws none is = whole_read (Tells word ws) _ (started (Behind (Tells word ws)) s ws (λ end. (is, end ∙ sym none)))
+grid_from : (word : List ℕ) (ws : List Word) → word ≡ codes "grid" → Holds (Tells word ws) (grid_of ws)
+unfolding grid_of Takes Behind
+grid_from word [] is = (is, refl)
+grid_from word (w ∷ ws) is =
+    whole_read (Tells word (w ∷ ws)) _ (next_read Paths _ _ name_at name_from (started (Takes Paths (Behind (Tells word (w ∷ ws)))) (λ name. Grid (Some name)) (w ∷ ws) (λ name n end. (is, cc))))
+
+end_from : (word : List ℕ) (ws : List Word) → word ≡ codes "end" → Holds (Tells word ws) (end_of ws)
+unfolding end_of Behind
+end_from word ws is = whole_read (Tells word ws) _ (started (Behind (Tells word ws)) End ws (λ end. (is, end)))
 
 named_from : (word : List ℕ) (ws : List Word) → Holds (Tells word ws) (statement_named word ws)
 unfolding statement_named
 named_from word ws =
     choose (Tells word ws) (bytes_eq word (codes "sticks")) _ _ (λ e. version_from word ws (same word (codes "sticks") e))
     (choose (Tells word ws) (bytes_eq word (codes "cell")) _ _ (λ e. cell_from word ws (same word (codes "cell") e))
-    (choose (Tells word ws) (bytes_eq word (codes "end")) _ _ (λ e. alone_from End word ws refl (same word (codes "end") e))
-    (choose (Tells word ws) (bytes_eq word (codes "grid")) _ _ (λ e. alone_from Grid word ws refl (same word (codes "grid") e))
+    (choose (Tells word ws) (bytes_eq word (codes "end")) _ _ (λ e. end_from word ws (same word (codes "end") e))
+    (choose (Tells word ws) (bytes_eq word (codes "grid")) _ _ (λ e. grid_from word ws (same word (codes "grid") e))
     (choose (Tells word ws) (bytes_eq word (codes "row")) _ _ (λ e. row_from word ws (same word (codes "row") e)) (item_from word ws)))))
 
 abbrev Whole : List Word → Statement → Type 0

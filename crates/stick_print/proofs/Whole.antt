@@ -1,25 +1,26 @@
 -- The whole canonical text says the design again, each line behind the one before it.
-use Rattle.std.proofs.Common.{◌≡◌, ℕ, suc, ◌+◌, ◌-◌, ◌<◌, ◌≤◌, false, eqb, List, [], ◌∷◌, ◌++◌, length, get_or, take, map, Option, Result, Ok, refl, sym, ap, subst, ◌∙◌, append_assoc, arith}
+use Rattle.std.proofs.Common.{◌≡◌, inl, inr, ℕ, suc, ◌+◌, ◌-◌, ◌<◌, ◌≤◌, false, eqb, List, [], ◌∷◌, ◌++◌, length, get_or, take, map, Option, Result, Ok, refl, sym, ap, subst, ◌∙◌, append_assoc, arith}
 use Rattle.std.specs.List.{slice_split, flat_map, AllByRecursion}
 use Rattle.std.specs.Str.Lines.{lines, lines_of_parts, strip_carriage_return}
 use Rattle.std.proofs.lemmas.List.Elements.{All-from_recursion}
 use Rattle.std.proofs.lemmas.List.Splits.{slice_split_at, length-slice_split}
-use Rattle.std.proofs.lemmas.List.{append-nil, length-append}
+use Rattle.std.proofs.lemmas.List.{length-append}
 use Rattle.std.proofs.lemmas.Bool.Decides.{nat_tests}
 use Rattle.stick_parse.specs.declared.fault.StickKind.{StickKind}
 use Rattle.stick_parse.specs.declared.design.Line.{Line}
 use Rattle.stick_parse.specs.declared.design.CellText.{CellText}
 use Rattle.stick_parse.specs.declared.design.RowText.{RowText}
+use Rattle.stick_parse.specs.declared.design.GridText.{GridText}
 use Rattle.stick_parse.specs.declared.design.Design.{Design}
 use Rattle.stick_parse.specs.declared.design.Statement.{Statement}
 use Rattle.stick_parse.specs.declared.design.Statement.TheVariants.{Version, Cell, Item, Grid, Row, End}
 use Rattle.stick_parse.specs.Lines.{Entry, with_entry, entries}
-use Rattle.stick_parse.specs.Says.{saying, form_line, cell_part, AreLinesOf, said_lines, SaysDesign}
+use Rattle.stick_parse.specs.Says.{saying, form_line, cell_part, AreGridParts, AreLinesOf, said_lines, SaysDesign}
 use Rattle.stick_parse.proofs.FirstLine.{line_of_parts}
 use Rattle.stick_parse.proofs.Shapes.{regroup, design_read}
-use Rattle.stick_parse.specs.Writable.{IsLine, IsRow, IsStatement, IsCell, IsWritable}
-use Rattle.stick_print.specs.Canonical.{keyword_of, words_of, spaced, line_of, item_line, row_line, cell_lines, canonical}
-use Rattle.stick_print.specs.ReadBack.{without_number, without_numbers, lines_from, cells_from, laid_out, ReadsAs}
+use Rattle.stick_parse.specs.Writable.{IsCount, IsLine, IsRow, IsStatement, IsCell, IsGrid, HasName, AreGridsOf, IsWritable}
+use Rattle.stick_print.specs.Canonical.{keyword_of, words_of, spaced, line_of, item_line, row_line, cell_lines, grid_lines, canonical}
+use Rattle.stick_print.specs.ReadBack.{without_number, without_numbers, without_line, lines_from, cells_from, behind_cells, grids_from, laid_out, ReadsAs}
 use Rattle.stick_print.proofs.Spelled.{else_branch}
 use Rattle.stick_print.proofs.Split.{IsInner, inner_line, inner_at}
 use Rattle.stick_print.proofs.Statements.{body, line_again, plain_words, plain_keyword, some_keyword}
@@ -81,12 +82,16 @@ abbrev after_cells : List CellText → List Statement → List Statement
 after_cells [] rest = rest
 after_cells (c ∷ cs) rest = Cell c.name ∷ after_lines c.lines (End ∷ after_cells cs rest)
 
-abbrev grid_rows : List RowText → List Statement
-grid_rows [] = End ∷ []
-grid_rows (r ∷ rs) = Row r ∷ grid_rows rs
+abbrev grid_rows : List RowText → List Statement → List Statement
+grid_rows [] rest = End ∷ rest
+grid_rows (r ∷ rs) rest = Row r ∷ grid_rows rs rest
+
+abbrev after_grids : List GridText → List Statement
+after_grids [] = []
+after_grids (g ∷ gs) = Grid g.name ∷ grid_rows g.rows (after_grids gs)
 
 abbrev statements : Design → List Statement
-statements d = Version ∷ after_cells d.cells (Grid ∷ grid_rows d.grid)
+statements d = Version d.version ∷ after_cells d.cells (after_grids d.grids)
 
 text_of_lines : (ls : List Line) (rest : List Statement) → flat_map line_of (after_lines ls rest) ≡ flat_map item_line ls ++ flat_map line_of rest
 text_of_lines [] rest = refl
@@ -105,13 +110,24 @@ text_of_cells (c ∷ cs) rest =
     ∙ sym (append_assoc name (items ++ line_of End) (flat_map cell_lines cs ++ flat_map line_of rest))
     ∙ sym (append_assoc (name ++ (items ++ line_of End)) (flat_map cell_lines cs) (flat_map line_of rest))
 
-text_of_rows : (rs : List RowText) → flat_map line_of (grid_rows rs) ≡ flat_map row_line rs ++ line_of End
-text_of_rows [] = append-nil (line_of End)
-text_of_rows (r ∷ rs) = ap (λ (t : List ℕ). row_line r ++ t) (text_of_rows rs) ∙ sym (append_assoc (row_line r) (flat_map row_line rs) (line_of End))
+text_of_rows : (rs : List RowText) (rest : List Statement) → flat_map line_of (grid_rows rs rest) ≡ flat_map row_line rs ++ (line_of End ++ flat_map line_of rest)
+text_of_rows [] rest = refl
+text_of_rows (r ∷ rs) rest = ap (λ (t : List ℕ). row_line r ++ t) (text_of_rows rs rest) ∙ sym (append_assoc (row_line r) (flat_map row_line rs) (line_of End ++ flat_map line_of rest))
+
+text_of_grids : (gs : List GridText) → flat_map line_of (after_grids gs) ≡ flat_map grid_lines gs
+unfolding grid_lines
+text_of_grids [] = refl
+text_of_grids (g ∷ gs) =
+    let name = line_of (Grid g.name) in
+    let rows = flat_map row_line g.rows in
+    ap (λ (t : List ℕ). name ++ t) (text_of_rows g.rows (after_grids gs))
+    ∙ ap (λ (t : List ℕ). name ++ (rows ++ (line_of End ++ t))) (text_of_grids gs)
+    ∙ ap (λ (t : List ℕ). name ++ t) (sym (append_assoc rows (line_of End) (flat_map grid_lines gs)))
+    ∙ sym (append_assoc name (rows ++ line_of End) (flat_map grid_lines gs))
 
 text_of_design : (d : Design) → flat_map line_of (statements d) ≡ canonical d
 unfolding canonical
-text_of_design d = ap (λ (t : List ℕ). line_of Version ++ t) (text_of_cells d.cells (Grid ∷ grid_rows d.grid) ∙ ap (λ (t : List ℕ). flat_map cell_lines d.cells ++ (line_of Grid ++ t)) (text_of_rows d.grid))
+text_of_design d = ap (λ (t : List ℕ). line_of (Version d.version) ++ t) (text_of_cells d.cells (after_grids d.grids) ∙ ap (λ (t : List ℕ). flat_map cell_lines d.cells ++ t) (text_of_grids d.grids))
 
 are_lines : (ls : List Line) (rest : List Statement) → AllByRecursion IsLine ls → AllByRecursion IsStatement rest → AllByRecursion IsStatement (after_lines ls rest)
 are_lines [] rest h k = k
@@ -121,12 +137,20 @@ are_cells : (cs : List CellText) (rest : List Statement) → AllByRecursion IsCe
 are_cells [] rest h k = k
 are_cells (c ∷ cs) rest h k = (h.0.0, are_lines c.lines (End ∷ after_cells cs rest) h.0.1 (tt, are_cells cs rest h.1 k))
 
-are_rows : (rs : List RowText) → AllByRecursion IsRow rs → AllByRecursion IsStatement (grid_rows rs)
-are_rows [] h = (tt, tt)
-are_rows (r ∷ rs) h = (h.0, are_rows rs h.1)
+are_rows : (rs : List RowText) (rest : List Statement) → AllByRecursion IsRow rs → AllByRecursion IsStatement rest → AllByRecursion IsStatement (grid_rows rs rest)
+are_rows [] rest h k = (tt, k)
+are_rows (r ∷ rs) rest h k = (h.0, are_rows rs rest h.1 k)
+
+are_grids : (gs : List GridText) → AllByRecursion IsGrid gs → AllByRecursion IsStatement (after_grids gs)
+are_grids [] h = tt
+are_grids (g ∷ gs) h = (h.0.0, are_rows g.rows (after_grids gs) h.0.1 (are_grids gs h.1))
+
+is_version : (version : ℕ) (gs : List GridText) → AreGridsOf version gs → IsCount version
+is_version version gs (inl h) = omega (arith, h.0)
+is_version version gs (inr h) = omega (arith, h.0)
 
 are_statements : (d : Design) → IsWritable d → AllByRecursion IsStatement (statements d)
-are_statements d h = (tt, are_cells d.cells (Grid ∷ grid_rows d.grid) h.cells (tt, are_rows d.grid h.rows))
+are_statements d h = (is_version d.version d.grids h.fits, are_cells d.cells (after_grids d.grids) h.cells (are_grids d.grids h.grids))
 
 -- ---- the design that the statements are lines of
 
@@ -136,34 +160,66 @@ lines_shape k (l ∷ ls) rest =
     let on : k + 1 + length ls ≡ k + length (l ∷ ls) = omega arith in
     ap (λ (es : List Entry). saying k (Item l.form) ∷ es) (lines_shape (k + 1) ls rest ∙ ap (λ (n : ℕ). map form_line (lines_from (k + 1) ls) ++ numbered n rest) on)
 
--- behind the cells stands the rest, from some line on
-cells_shape : (k : ℕ) (cs : List CellText) (rest : List Statement) → (next : ℕ) × (numbered k (after_cells cs rest) ≡ flat_map cell_part (cells_from k cs) ++ numbered next rest)
-cells_shape k [] rest = (k, refl)
+-- behind the cells stands the rest
+cells_shape : (k : ℕ) (cs : List CellText) (rest : List Statement) → numbered k (after_cells cs rest) ≡ flat_map cell_part (cells_from k cs) ++ numbered (behind_cells k cs) rest
+cells_shape k [] rest = refl
 cells_shape k (c ∷ cs) rest =
     let end : ℕ = k + 1 + length c.lines in
     let made : CellText = record { name = c.name; line = k; end_line = end; lines = lines_from (k + 1) c.lines } in
-    let others = cells_shape (end + 1) cs rest in (
-      others.0,
-      ap (λ (es : List Entry). saying k (Cell c.name) ∷ es) (lines_shape (k + 1) c.lines (End ∷ after_cells cs rest)
-          ∙ ap (λ (es : List Entry). map form_line (lines_from (k + 1) c.lines) ++ saying end End ∷ es) others.1)
-          ∙ sym (regroup made (flat_map cell_part (cells_from (end + 1) cs)) (numbered others.0 rest)),
+    ap (λ (es : List Entry). saying k (Cell c.name) ∷ es) (lines_shape (k + 1) c.lines (End ∷ after_cells cs rest)
+    ∙ ap (λ (es : List Entry). map form_line (lines_from (k + 1) c.lines) ++ saying end End ∷ es) (cells_shape (end + 1) cs rest))
+    ∙ sym (regroup made (flat_map cell_part (cells_from (end + 1) cs)) (numbered (behind_cells (end + 1) cs) rest))
+
+rows_shape : (k : ℕ) (rs : List RowText) (rest : List Statement)
+    → (inner : List Entry) × (last : ℕ) × (numbered k (grid_rows rs rest) ≡ inner ++ saying last End ∷ numbered (k + length rs + 1) rest) × (map (λ entry. entry.said) inner ≡ map (λ row. Ok (Row row)) rs)
+rows_shape k [] rest =
+    let none : k + 1 ≡ k + 0 + 1 = omega arith in
+    ([], k, ap (λ (n : ℕ). saying k End ∷ numbered n rest) none, refl)
+rows_shape k (r ∷ rs) rest =
+    let others = rows_shape (k + 1) rs rest in
+    let on : k + 1 + length rs + 1 ≡ k + length (r ∷ rs) + 1 = omega arith in (
+      saying k (Row r) ∷ others.0,
+      others.1,
+      ap (λ (es : List Entry). saying k (Row r) ∷ es) (others.2 ∙ ap (λ (n : ℕ). others.0 ++ saying others.1 End ∷ numbered n rest) on),
+      ap (λ (said : List (Result Statement StickKind)). Ok (Row r) ∷ said) others.3,
     )
 
-rows_shape : (k : ℕ) (rs : List RowText) → (inner : List Entry) × (last : ℕ) × (numbered k (grid_rows rs) ≡ inner ++ saying last End ∷ []) × (map (λ entry. entry.said) inner ≡ map (λ row. Ok (Row row)) rs)
-rows_shape k [] = ([], k, refl, refl)
-rows_shape k (r ∷ rs) =
-    let others = rows_shape (k + 1) rs in
-    (saying k (Row r) ∷ others.0, others.1, ap (λ (es : List Entry). saying k (Row r) ∷ es) others.2, ap (λ (said : List (Result Statement StickKind)). Ok (Row r) ∷ said) others.3)
+grids_shape : (k : ℕ) (gs : List GridText) → AreGridParts (grids_from k gs) (numbered k (after_grids gs))
+grids_shape k [] = refl
+grids_shape k (g ∷ gs) =
+    let rows = rows_shape (k + 1) g.rows (after_grids gs) in
+    let next : ℕ = k + 1 + length g.rows + 1 in
+    let end : List Entry = saying rows.1 End ∷ [] in
+    let part : List Entry = saying k (Grid g.name) ∷ (rows.0 ++ end) in (
+      part,
+      numbered next (after_grids gs),
+      ap (λ (es : List Entry). saying k (Grid g.name) ∷ es) (rows.2 ∙ sym (append_assoc rows.0 end (numbered next (after_grids gs)))),
+      record { inner = rows.0; last = rows.1; parts = refl; each = rows.3 },
+      grids_shape next gs,
+    )
 
-design_shape : (d : Design) → AreLinesOf (laid_out d) (numbered 1 (statements d))
-design_shape d =
-    let cells = cells_shape 2 d.cells (Grid ∷ grid_rows d.grid) in
-    let rows = rows_shape (cells.0 + 1) d.grid in
+-- the grids have the names that they had
+same_grid_count : (k : ℕ) (gs : List GridText) → length (grids_from k gs) ≡ length gs
+same_grid_count k [] = refl
+same_grid_count k (g ∷ gs) = ap suc (same_grid_count (k + 1 + length g.rows + 1) gs)
+
+same_names : (k : ℕ) (gs : List GridText) → AllByRecursion HasName gs → AllByRecursion HasName (grids_from k gs)
+same_names k [] h = tt
+same_names k (g ∷ gs) h = (h.0, same_names (k + 1 + length g.rows + 1) gs h.1)
+
+still_fit : (version k : ℕ) (gs : List GridText) → AreGridsOf version gs → AreGridsOf version (grids_from k gs)
+still_fit version k gs (inl h) = inl (h.0, (record { name = h.1.0.name; line = k; rows = h.1.0.rows }, ap (grids_from k) h.1.1, h.1.2))
+still_fit version k gs (inr h) = inr (h.0, (omega (arith, same_grid_count k gs, h.1.0), same_names k gs h.1.1))
+
+design_shape : (d : Design) → IsWritable d → AreLinesOf (laid_out d) (numbered 1 (statements d))
+design_shape d h =
+    let behind : ℕ = behind_cells 2 d.cells in
     record {
       first = 1;
-      grid = numbered cells.0 (Grid ∷ grid_rows d.grid);
-      parts = ap (λ (es : List Entry). saying 1 Version ∷ es) cells.1;
-      grid_part = record { first = cells.0; inner = rows.0; last = rows.1; parts = ap (λ (es : List Entry). saying cells.0 Grid ∷ es) rows.2; each = rows.3 };
+      grids = numbered behind (after_grids d.grids);
+      parts = ap (λ (es : List Entry). saying 1 (Version d.version) ∷ es) (cells_shape 2 d.cells (after_grids d.grids));
+      grid_parts = grids_shape behind d.grids;
+      fits = still_fit d.version behind d.grids h.fits;
     }
 
 same_count : (k : ℕ) (cs : List CellText) → length (cells_from k cs) ≡ length cs
@@ -176,7 +232,7 @@ said_by_canonical d h =
     let all = are_statements d h in
     let in_lines : lines (canonical d) ≡ map body ss = ap lines (sym (text_of_design d)) ∙ lines_again ss all in
     let in_entries : said_lines (canonical d) ≡ numbered 1 ss = ap (entries 1) in_lines ∙ entries_again 1 ss all in
-    record { has_lines = subst (AreLinesOf (laid_out d)) (sym in_entries) (design_shape d); few_cells = omega (arith, same_count 2 d.cells, h.few_cells) }
+    record { has_lines = subst (AreLinesOf (laid_out d)) (sym in_entries) (design_shape d h); few_cells = omega (arith, same_count 2 d.cells, h.few_cells) }
 
 -- ---- line numbers aside
 
@@ -190,5 +246,14 @@ same_cells k (c ∷ cs) =
     let next : ℕ = k + 1 + length c.lines + 1 in
     ap (λ (x : List Line). record { name = c.name; line = 0; end_line = 0; lines = x } ∷ map without_numbers (cells_from next cs)) (same_lines (k + 1) c.lines) ∙ ap (λ (x : List CellText). without_numbers c ∷ x) (same_cells next cs)
 
+same_grids : (k : ℕ) (gs : List GridText) → map without_line (grids_from k gs) ≡ map without_line gs
+same_grids k [] = refl
+same_grids k (g ∷ gs) = ap (λ (x : List GridText). without_line g ∷ x) (same_grids (k + 1 + length g.rows + 1) gs)
+
 pub reads_back : (d : Design) → IsWritable d → ReadsAs (canonical d) d
-reads_back d h = (laid_out d, design_read (canonical d) (laid_out d) (said_by_canonical d h), ap (λ (x : List CellText). record { cells = x; grid = d.grid }) (same_cells 2 d.cells))
+reads_back d h = (
+  laid_out d,
+  design_read (canonical d) (laid_out d) (said_by_canonical d h),
+  ap (λ (x : List CellText). record { version = d.version; cells = x; grids = map without_line (grids_from (behind_cells 2 d.cells) d.grids) }) (same_cells 2 d.cells)
+      ∙ ap (λ (x : List GridText). record { version = d.version; cells = map without_numbers d.cells; grids = x }) (same_grids (behind_cells 2 d.cells) d.grids),
+)

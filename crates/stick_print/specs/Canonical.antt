@@ -11,6 +11,7 @@ use Rattle.stick_parse.specs.declared.design.Form.TheVariants.{Joint, Contact, B
 use Rattle.stick_parse.specs.declared.design.Line.{Line}
 use Rattle.stick_parse.specs.declared.design.CellText.{CellText}
 use Rattle.stick_parse.specs.declared.design.RowText.{RowText}
+use Rattle.stick_parse.specs.declared.design.GridText.{GridText}
 use Rattle.stick_parse.specs.declared.design.Design.{Design}
 use Rattle.stick_parse.specs.declared.design.Statement.{Statement}
 use Rattle.stick_parse.specs.declared.design.Statement.TheVariants.{Version, Cell, Item, Grid, Row, End}
@@ -45,6 +46,11 @@ abbrev pub width_words : Option ℕ → List (List ℕ)
 width_words None = []
 width_words (Some width) = decimal width ∷ []
 
+-- the name of a grid that has one
+abbrev pub name_words : Option (List ℕ) → List (List ℕ)
+name_words None = []
+name_words (Some name) = name ∷ []
+
 -- ---- lines
 
 abbrev pub form_keyword : Form → List ℕ
@@ -69,18 +75,18 @@ form_words (Wire layer a b width) = layer_word layer ∷ a ∷ b ∷ width_words
 form_words (Limit vertical a b at_most n) = axis_word vertical ∷ a ∷ b ∷ bound_word at_most ∷ signed_decimal n ∷ []
 
 abbrev pub keyword_of : Statement → List ℕ
-keyword_of Version = codes "sticks"
+keyword_of (Version version) = codes "sticks"
 keyword_of (Cell name) = codes "cell"
 keyword_of (Item form) = form_keyword form
-keyword_of Grid = codes "grid"
+keyword_of (Grid name) = codes "grid"
 keyword_of (Row row) = codes "row"
 keyword_of End = codes "end"
 
 abbrev pub words_of : Statement → List (List ℕ)
-words_of Version = codes "1" ∷ []
+words_of (Version version) = decimal version ∷ []
 words_of (Cell name) = name ∷ []
 words_of (Item form) = form_words form
-words_of Grid = []
+words_of (Grid name) = name_words name
 words_of (Row row) = row.names
 words_of End = []
 
@@ -106,5 +112,8 @@ row_line row = line_of (Row row)
 unfoldable pub cell_lines : CellText → List ℕ
 cell_lines cell = line_of (Cell cell.name) ++ (flat_map item_line cell.lines ++ line_of End)
 
+unfoldable pub grid_lines : GridText → List ℕ
+grid_lines grid = line_of (Grid grid.name) ++ (flat_map row_line grid.rows ++ line_of End)
+
 unfoldable pub canonical : Design → List ℕ
-canonical design = line_of Version ++ (flat_map cell_lines design.cells ++ (line_of Grid ++ (flat_map row_line design.grid ++ line_of End)))
+canonical design = line_of (Version design.version) ++ (flat_map cell_lines design.cells ++ flat_map grid_lines design.grids)

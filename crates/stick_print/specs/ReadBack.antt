@@ -2,6 +2,7 @@
 use Rattle.std.specs.Prelude.{◌≡◌, ℕ, ◌+◌, List, [], ◌∷◌, map, length, Ok}
 use Rattle.stick_parse.specs.declared.design.Line.{Line}
 use Rattle.stick_parse.specs.declared.design.CellText.{CellText}
+use Rattle.stick_parse.specs.declared.design.GridText.{GridText}
 use Rattle.stick_parse.specs.declared.design.Design.{Design}
 use Rattle.stick_parse.specs.Order.{design_of}
 use Rattle.stick_parse.specs.Says.{SaysDesign}
@@ -16,8 +17,11 @@ without_number line = record { number = 0; form = line.form }
 abbrev pub without_numbers : CellText → CellText
 without_numbers cell = record { name = cell.name; line = 0; end_line = 0; lines = map without_number cell.lines }
 
+abbrev pub without_line : GridText → GridText
+without_line grid = record { name = grid.name; line = 0; rows = grid.rows }
+
 abbrev pub unnumbered : Design → Design
-unnumbered design = record { cells = map without_numbers design.cells; grid = design.grid }
+unnumbered design = record { version = design.version; cells = map without_numbers design.cells; grids = map without_line design.grids }
 
 -- the text says this design, line numbers aside
 abbrev pub ReadsAs : List ℕ → Design → Type 0
@@ -37,9 +41,19 @@ cells_from number (cell ∷ cells) =
     let end = number + 1 + length cell.lines in
     record { name = cell.name; line = number; end_line = end; lines = lines_from (number + 1) cell.lines } ∷ cells_from (end + 1) cells
 
--- behind `sticks 1`, each line on the line behind the one before it
+-- the line behind the `end` of the last of these cells
+abbrev pub behind_cells : ℕ → List CellText → ℕ
+behind_cells number [] = number
+behind_cells number (cell ∷ cells) = behind_cells (number + 1 + length cell.lines + 1) cells
+
+-- the first of these grids begins at this line, and each other one behind the `end` of the one before it
+abbrev pub grids_from : ℕ → List GridText → List GridText
+grids_from number [] = []
+grids_from number (grid ∷ grids) = record { name = grid.name; line = number; rows = grid.rows } ∷ grids_from (number + 1 + length grid.rows + 1) grids
+
+-- behind the line of the version, each line on the line behind the one before it
 abbrev pub laid_out : Design → Design
-laid_out design = record { cells = cells_from 2 design.cells; grid = design.grid }
+laid_out design = record { version = design.version; cells = cells_from 2 design.cells; grids = grids_from (behind_cells 2 design.cells) design.grids }
 
 -- a design that has a text is what its canonical text says, line by line
 abbrev pub IsSaidByCanonical : Design → Type 0

@@ -15,6 +15,10 @@ abbrev pub width_said : Option ℕ → List Word
 width_said None = []
 width_said (Some width) = Number (pos width) ∷ []
 
+abbrev pub name_said : Option (List ℕ) → List Word
+name_said None = []
+name_said (Some name) = Path name ∷ []
+
 abbrev pub bound_said : Bool → Word
 bound_said true = AtMost
 bound_said false = AtLeast
@@ -31,10 +35,10 @@ form_said (Wire layer a b width) = Path (layer_word layer) ∷ Path a ∷ Path b
 form_said (Limit vertical a b at_most n) = Path (axis_word vertical) ∷ Path a ∷ Path b ∷ bound_said at_most ∷ Number n ∷ []
 
 abbrev pub said : Statement → List Word
-said Version = Number (pos 1) ∷ []
+said (Version version) = Number (pos version) ∷ []
 said (Cell name) = Path name ∷ []
 said (Item form) = form_said form
-said Grid = []
+said (Grid name) = name_said name
 said (Row row) = map (λ name. Path name) row.names
 said End = []
 

@@ -1,15 +1,15 @@
-//! Cells and the grid.
+//! Cells and grids.
 ghost use Rattle.std.specs.Prelude.{◌≡◌, ◌++◌, IfOk, OnOk};
-ghost use Rattle.stick_parse.specs.declared.design.Statement.TheVariants.{Cell, Row};
+ghost use Rattle.stick_parse.specs.declared.design.Statement.TheVariants.{Version, Cell, Grid, Row};
 ghost use Rattle.stick_parse.specs.Writable.{IsWritable};
 ghost use Rattle.stick_print.specs.ReadBack.{ReadsAs};
-ghost use Rattle.stick_print.specs.Canonical.{line_of, row_line, cell_lines, canonical};
+ghost use Rattle.stick_print.specs.Canonical.{line_of, row_line, cell_lines, grid_lines, canonical};
 
 use crate::lines::put_form;
-use crate::words::put_word;
+use crate::words::{put_count, put_name, put_word};
 use std::alloc::{AllocError, Global};
 use stick_lex::Text;
-use stick_parse::{CellText, Design, RowText};
+use stick_parse::{CellText, Design, GridText, RowText};
 
 #[tactic(auto, unfolding(crate::specs::Canonical::line_of))]
 fn put_cell_name(out: &mut Vec<u8>, name: &Text) -> Result<(), AllocError>
@@ -45,20 +45,49 @@ fn put_row(out: &mut Vec<u8>, row: &RowText) -> Result<(), AllocError>
     Ok(())
 }
 
-#[tactic(auto, unfolding(crate::specs::Canonical::line_of, crate::specs::Canonical::canonical))]
+#[tactic(auto, unfolding(crate::specs::Canonical::line_of))]
+fn put_grid_name(out: &mut Vec<u8>, name: &Option<Text>) -> Result<(), AllocError>
+    ensures { OnOk result (out.new.items ≡ out.old.items ++ line_of (Grid name.now)) }
+{
+    out.extend_from_slice(b"grid")?;
+    put_name(out, name)?;
+    out.extend_from_slice(b"\n")
+}
+
+#[tactic(auto, unfolding(crate::specs::Canonical::line_of, crate::specs::Canonical::grid_lines))]
+fn put_grid(out: &mut Vec<u8>, grid: &GridText) -> Result<(), AllocError>
+    ensures { OnOk result (out.new.items ≡ out.old.items ++ grid_lines grid.now) }
+{
+    put_grid_name(out, &grid.name)?;
+    for row in grid.rows.as_slice() {
+        put_row(out, row)?;
+    }
+    out.extend_from_slice(b"end\n")?;
+    Ok(())
+}
+
+#[tactic(auto, unfolding(crate::specs::Canonical::line_of))]
+fn put_version(out: &mut Vec<u8>, version: u32) -> Result<(), AllocError>
+    ensures { OnOk result (out.new.items ≡ out.old.items ++ line_of (Version version)) }
+{
+    out.extend_from_slice(b"sticks")?;
+    put_count(out, version)?;
+    out.push(b'\n')?;
+    Ok(())
+}
+
+#[tactic(auto, unfolding(crate::specs::Canonical::canonical))]
 fn canonical_text(alloc: Global, design: &Design) -> Result<Vec<u8>, AllocError>
     ensures { IfOk result (λ text. text.items ≡ canonical design.now) }
 {
     let mut out = Vec::new(alloc);
-    out.extend_from_slice(b"sticks 1\n")?;
+    put_version(&mut out, design.version)?;
     for cell in design.cells.as_slice() {
         put_cell(&mut out, cell)?;
     }
-    out.extend_from_slice(b"grid\n")?;
-    for row in design.grid.as_slice() {
-        put_row(&mut out, row)?;
+    for grid in design.grids.as_slice() {
+        put_grid(&mut out, grid)?;
     }
-    out.extend_from_slice(b"end\n")?;
     Ok(out)
 }
 

@@ -66,3 +66,26 @@ fn numbers_lose_leading_zeros_and_the_minus_of_zero(rt: HostRuntime) -> Result<(
     );
     Ok(())
 }
+
+#[test]
+fn grids_of_version_2_are_printed_with_their_names(rt: HostRuntime) -> Result<(), Fail> {
+    let cases: [(&[u8], &[u8]); 3] = [
+        (
+            b"sticks 2\ncell c\nend\ngrid a\nrow c\nend\ngrid b\nrow c c\nrow c c\nend\n",
+            b"sticks 2\ncell c\nend\ngrid a\nrow c\nend\ngrid b\nrow c c\nrow c c\nend\n",
+        ),
+        (
+            b"sticks 02 # two\n\ngrid  b\nend\n\ngrid a\n row  c\nend",
+            b"sticks 2\ngrid b\nend\ngrid a\nrow c\nend\n",
+        ),
+        (
+            b"sticks 2\ngrid a\nend\ngrid a\nend",
+            b"sticks 2\ngrid a\nend\ngrid a\nend\n",
+        ),
+    ];
+    for (text, canonical) in cases {
+        assert!(rt; text.len() < 4000);
+        assert_eq!(rt; formatted(&rt, text)?.as_slice(), canonical);
+    }
+    Ok(())
+}

@@ -1,10 +1,10 @@
 //! The words of a line.
 ghost use Rattle.std.specs.Prelude.{◌≡◌, if◌then◌else◌, ◌++◌, ◌∷◌, [], decimal, OnOk};
 ghost use Rattle.std.specs.Fmt.{signed_decimal};
-ghost use Rattle.stick_print.specs.Canonical.{layer_word, side_word, width_words, spaced};
+ghost use Rattle.stick_print.specs.Canonical.{layer_word, side_word, width_words, name_words, spaced};
 
 use std::alloc::AllocError;
-use stick_lex::{push_decimal, push_signed_decimal};
+use stick_lex::{Text, push_decimal, push_signed_decimal};
 use stick_parse::{Layer, Side};
 
 pub fn layer_word(layer: Layer) -> &'static [u8]
@@ -66,6 +66,16 @@ pub fn put_width(out: &mut Vec<u8>, width: Option<u32>) -> Result<(), AllocError
 {
     if let Some(width) = width {
         put_count(out, width)?;
+    }
+    Ok(())
+}
+
+/// Adds the name of a grid where it has one.
+pub fn put_name(out: &mut Vec<u8>, name: &Option<Text>) -> Result<(), AllocError>
+    ensures { OnOk result (out.new.items ≡ out.old.items ++ spaced (name_words name.now)) }
+{
+    if let Some(name) = name {
+        put_word(out, name.bytes())?;
     }
     Ok(())
 }

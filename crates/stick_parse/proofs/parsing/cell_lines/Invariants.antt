@@ -1,4 +1,4 @@
-use Rattle.std.proofs.Common.{◌≡◌, ℕ, ◌≤◌, length}
+use Rattle.std.proofs.Common.{◌≡◌, ℕ, ◌≤◌, Bool, length}
 use Rattle.stick_parse.specs.Order.{InCell}
 use Rattle.stick_parse.specs.LinesLeft.{last_of}
 use Rattle.stick_parse.specs.Parts.{rest_at, with_lines}
@@ -6,7 +6,7 @@ use Rattle.stick_parse.proofs.parsing.cell_lines.Given as goal
 
 abbrev pub invariant-lines : goal.invariant-lines
 invariant-lines l = record {
-  so_far : (n : ℕ) → with_lines l.inner.items (rest_at (InCell n) l.lines) ≡ rest_at (InCell n) l.initial.lines;
+  so_far : (named : Bool) (n : ℕ) → with_lines l.inner.items (rest_at (InCell named n) l.lines) ≡ rest_at (InCell named n) l.initial.lines;
   same_last : last_of l.lines ≡ last_of l.initial.lines;
   shorter : length l.lines.rest.now ≤ length l.initial.lines.rest.now;
 }

@@ -6,7 +6,7 @@ use Rattle.stick_parse.proofs.parsing.cells.Given as goal
 
 abbrev pub invariant-lines : goal.invariant-lines
 invariant-lines l = record {
-  so_far : with_cells l.cells.items (rest_at (Behind (length l.cells.items)) l.lines) ≡ with_cells [] (rest_at (Behind 0) l.initial.lines);
+  so_far : with_cells l.cells.items (rest_at (Behind l.named (length l.cells.items)) l.lines) ≡ with_cells [] (rest_at (Behind l.named 0) l.initial.lines);
   same_last : last_of l.lines ≡ last_of l.initial.lines;
 }
 

@@ -1,4 +1,4 @@
-use Rattle.std.proofs.Common.{◌≡◌, length}
+use Rattle.std.proofs.Common.{◌≡◌, ◌≤◌, Bool, length}
 use Rattle.stick_parse.specs.Order.{InGrid}
 use Rattle.stick_parse.specs.LinesLeft.{last_of}
 use Rattle.stick_parse.specs.Parts.{rest_at, with_rows}
@@ -6,8 +6,9 @@ use Rattle.stick_parse.proofs.parsing.grid_rows.Given as goal
 
 abbrev pub invariant-lines : goal.invariant-lines
 invariant-lines l = record {
-  so_far : with_rows l.rows.items (rest_at InGrid l.lines) ≡ rest_at InGrid l.initial.lines;
+  so_far : (named : Bool) → with_rows l.rows.items (rest_at (InGrid named) l.lines) ≡ rest_at (InGrid named) l.initial.lines;
   same_last : last_of l.lines ≡ last_of l.initial.lines;
+  shorter : length l.lines.rest.now ≤ length l.initial.lines.rest.now;
 }
 
 abbrev pub decreases-lines : goal.decreases-lines

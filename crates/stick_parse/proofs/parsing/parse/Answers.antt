@@ -1,4 +1,4 @@
-use Rattle.stick_parse.proofs.Written.{read_is_writable}
+use Rattle.stick_parse.proofs.Shapes.{read_is_writable}
 use Rattle.stick_parse.proofs.Faults.{tells}
 use Rattle.stick_parse.proofs.parsing.parse.Goals as goal
 

@@ -4,7 +4,7 @@ use Rattle.stick_cell.specs.Lines.{cells_after, known_cells}
 use Rattle.stick_cell.specs.Grown.{AreGrown}
 use Rattle.stick_cell.specs.Tables.{AreTables, HaveSteps}
 use Rattle.stick_cell.specs.Sides.{HaveSides}
-use Rattle.stick_cell.proofs.resolving.resolve.Given as goal
+use Rattle.stick_cell.proofs.resolving.resolve_cells.Given as goal
 
 abbrev pub invariant-loop-text : goal.invariant-loop-text
 invariant-loop-text l =

@@ -1,0 +1,62 @@
+-- The ports that are kept of a cell are those of the inlined cell.
+use Rattle.std.proofs.Common.{◌≡◌, ℕ, suc, ◌<◌, ◌≤◌, ℤ, true, List, [], ◌∷◌, length, map, refl, sym, ap, ◌∙◌, arith}
+use Rattle.std.specs.Prelude.{Bool}
+use Rattle.std.proofs.lemmas.Bool.Decides.{nat_tests}
+use Rattle.cell_model.specs.declared.cell.CellPort.{CellPort}
+use Rattle.cell_model.specs.declared.cell.Port.{Port}
+use Rattle.cell_model.specs.declared.cell.Wire.{Wire}
+use Rattle.cell_model.specs.Sound.{wire_at}
+use Rattle.cell_model.specs.Ports.{seen_port, ports_of_cell}
+use Rattle.stick_cell.specs.declared.cells.Cells.{Cells}
+use Rattle.stick_cell.specs.Known.{Known, Plug, cell_of, known_at, plug_at}
+use Rattle.stick_cell.specs.Counts.{weight_of}
+use Rattle.stick_cell.specs.Growing.{without_wire}
+use Rattle.stick_cell.specs.Ports.{is_light, port_of, ports_of}
+use Rattle.stick_cell.specs.Tables.{known_of, IsResolved}
+use Rattle.stick_cell.proofs.GrownPlugs.{all_wired}
+use Rattle.stick_cell.proofs.StepsInlined.{grown_cells}
+
+-- each port has the width of its wire
+abbrev HaveWidths : List Wire → List Plug → Type 0
+HaveWidths wires plugs = (k : ℕ) → k < length plugs → (wire_at wires (plug_at plugs k).port.wire).width ≡ (plug_at plugs k).width
+
+-- a port of this width and wire
+abbrev at_side : Plug → ℤ → ℕ → CellPort
+at_side plug width wire = record { side = plug.port.side; layer = plug.port.layer; place = plug.port.place; width = width; wire = wire }
+
+abbrev plug_ports : List Plug → List Port
+plug_ports plugs = map (λ plug. plug.port) plugs
+
+light_ports : (wires : List Wire) (plugs : List Plug) → HaveWidths wires plugs → map (port_of true) plugs ≡ map (seen_port wires) (plug_ports plugs)
+light_ports wires [] h = refl
+light_ports wires (plug ∷ plugs) h =
+    ap (λ width. at_side plug width plug.port.wire ∷ map (port_of true) plugs) (sym (h 0 (omega arith)))
+    ∙ ap (λ (rest : List CellPort). seen_port wires plug.port ∷ rest) (light_ports wires plugs (λ k lt. h (suc k) (omega arith)))
+
+all_ports : (light : Bool) (wires : List Wire) (plugs : List Plug) → HaveWidths wires plugs → map without_wire (map (port_of light) plugs) ≡ map without_wire (map (seen_port wires) (plug_ports plugs))
+all_ports light wires [] h = refl
+all_ports light wires (plug ∷ plugs) h =
+    ap (λ width. at_side plug width 0 ∷ map without_wire (map (port_of light) plugs)) (sym (h 0 (omega arith)))
+    ∙ ap (λ (rest : List CellPort). without_wire (seen_port wires plug.port) ∷ rest) (all_ports light wires plugs (λ k lt. h (suc k) (omega arith)))
+
+-- a cell of a design has a wire at each port, of the port's width
+widths_of : (cells : Cells) (k : ℕ) → IsResolved cells → k < length (known_of cells) → HaveWidths (known_at (known_of cells) k).wires (known_at (known_of cells) k).plugs
+widths_of cells k is lt j within =
+    let are = grown_cells cells is in
+    let known = known_at (known_of cells) k in
+    let grown = are.grown k lt in
+    (grown.plugs j within).width (all_wired known.plugs j (are.wired k lt) within)
+
+is_light_of : (known : Known) → weight_of known ≤ 65536 → is_light known ≡ true
+is_light_of known le = grind (arith, nat_tests)
+
+pub light_seen : (cells : Cells) (k : ℕ) → IsResolved cells → k < length (known_of cells) → weight_of (known_at (known_of cells) k) ≤ 65536
+    → ports_of (known_at (known_of cells) k) ≡ ports_of_cell (cell_of (known_at (known_of cells) k))
+light_seen cells k is lt light =
+    let known = known_at (known_of cells) k in
+    ap (λ (b : Bool). map (port_of b) known.plugs) (is_light_of known light) ∙ light_ports known.wires known.plugs (widths_of cells k is lt)
+
+pub each_seen : (cells : Cells) (k : ℕ) → IsResolved cells → k < length (known_of cells)
+    → map without_wire (ports_of (known_at (known_of cells) k)) ≡ map without_wire (ports_of_cell (cell_of (known_at (known_of cells) k)))
+each_seen cells k is lt =
+    let known = known_at (known_of cells) k in all_ports (is_light known) known.wires known.plugs (widths_of cells k is lt)

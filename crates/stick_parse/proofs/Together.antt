@@ -1,0 +1,70 @@
+-- The parts of a text, read one after the other, give its design, or its fault.
+use Rattle.std.proofs.Common.{◌≡◌, ℕ, ◌+◌, List, [], ◌∷◌, ◌++◌, length, Option, Result, Ok, Err, sym, ap, subst, ◌∙◌, arith}
+use Rattle.std.specs.Prelude.{max}
+use Rattle.std.specs.Str.Lines.{lines}
+use Rattle.std.proofs.lemmas.List.{append-nil}
+use Rattle.stick_parse.specs.declared.fault.StickFault.{StickFault}
+use Rattle.stick_parse.specs.declared.fault.ParseFault.{ParseFault}
+use Rattle.stick_parse.specs.declared.fault.ParseFault.TheVariants as faults
+use Rattle.stick_parse.specs.declared.design.CellText.{CellText}
+use Rattle.stick_parse.specs.declared.design.GridText.{GridText}
+use Rattle.stick_parse.specs.declared.design.Design.{Design}
+use Rattle.stick_parse.specs.declared.cursor.Lines.{Lines}
+use Rattle.stick_parse.specs.Reading.{◌>>=◌, Fails}
+use Rattle.stick_parse.specs.Lines.{entries}
+use Rattle.stick_parse.specs.Order.{AtHead, Rest, nothing, rest_from, design_in, design_of}
+use Rattle.stick_parse.specs.Parts.{rest_at, with_version, with_cells, with_grid, with_grids, grids_alone}
+
+abbrev pub design_from : Result Rest StickFault → Result Design StickFault
+design_from read = read >>= λ rest. Ok (design_in rest)
+
+-- all lines of the text
+pub from_head : (text : List ℕ) (l : Lines) → l.number ≡ 0 → l.rest.now ≡ text → design_of text ≡ design_from (rest_at AtHead l)
+unfolding design_of
+from_head text l number rest =
+    let none : length (lines text) ≡ 0 + length (lines text) = omega arith in
+    ap (λ (n : ℕ). design_from (rest_from (max 1 n) AtHead (entries 1 (lines text)))) none
+    ∙ ap (λ (t : List ℕ). design_from (rest_from (max 1 (0 + length (lines t))) AtHead (entries (0 + 1) (lines t)))) (sym rest)
+    ∙ ap (λ (n : ℕ). design_from (rest_from (max 1 (n + length (lines l.rest.now))) AtHead (entries (n + 1) (lines l.rest.now)))) (sym number)
+
+abbrev rest_of : Result Rest StickFault → Rest
+rest_of (Ok rest) = rest
+rest_of (Err fault) = nothing
+
+pub whole_design : (version : ℕ) (cells : List CellText) (line : ℕ) (name : Option (List ℕ)) (grids : List GridText) (head behind inside : Result Rest StickFault) → head ≡ with_version version behind
+    → with_cells [] behind ≡ with_cells cells (with_grid line name inside) → with_grids [] (with_grid line name inside) ≡ Ok (grids_alone grids) → design_from head ≡ Ok (record { version = version; cells = cells; grids = grids })
+whole_design version cells line name grids head (Ok b) (Ok r) e f g =
+    let no_cells : r.cells ≡ [] = ap (λ (read : Result Rest StickFault). (rest_of read).cells) g in
+    let its_grids : record { name = name; line = line; rows = r.rows } ∷ r.grids ≡ grids = ap (λ (read : Result Rest StickFault). (rest_of read).grids) g in
+    let its_cells : b.cells ≡ cells ++ r.cells = ap (λ (read : Result Rest StickFault). (rest_of read).cells) f in
+    let same_grids : b.grids ≡ record { name = name; line = line; rows = r.rows } ∷ r.grids = ap (λ (read : Result Rest StickFault). (rest_of read).grids) f in
+    let only_cells : b.cells ≡ cells = its_cells ∙ ap (λ (cs : List CellText). cells ++ cs) no_cells ∙ append-nil cells in
+    ap design_from e
+    ∙ ap (λ (cs : List CellText). Ok (record { version = version; cells = cs; grids = b.grids })) only_cells
+    ∙ ap (λ (gs : List GridText). Ok (record { version = version; cells = cells; grids = gs })) (same_grids ∙ its_grids)
+whole_design version cells line name grids head (Ok b) (Err k) e f g = absurd cc
+whole_design version cells line name grids head (Err k) (Ok r) e f g = absurd cc
+whole_design version cells line name grids head (Err k) (Err n) e f g = absurd cc
+
+-- ---- faults
+
+pub fails_on : {A B : Type 0} (fault : ParseFault) (read : Result A StickFault) (f : A → Result B StickFault) → Fails fault read → Fails fault (read >>= f)
+fails_on faults.OutOfMemory read f h = tt
+fails_on (faults.Stick k) read f h = ap (λ (r : Result _ StickFault). r >>= f) h
+
+fails_back : {A B : Type 0} (fault : ParseFault) (read : Result A StickFault) (f : A → B) → Fails fault (read >>= λ x. Ok (f x)) → Fails fault read
+fails_back faults.OutOfMemory read f h = tt
+fails_back (faults.Stick k) (Ok x) f h = absurd cc
+fails_back (faults.Stick k) (Err e) f h = cc
+
+pub fails_in_cells : (fault : ParseFault) (version : ℕ) (head behind : Result Rest StickFault) → head ≡ with_version version behind → Fails fault (with_cells [] behind) → Fails fault (design_from head)
+fails_in_cells fault version head behind e h =
+    let here : Fails fault head = subst (Fails fault) (sym e) (fails_on fault behind (λ rest. Ok (record rest { version = version })) (fails_back fault behind (λ rest. record rest { lines = []; end_line = 0; rows = []; cells = [] ++ rest.cells }) h)) in
+    fails_on fault head (λ rest. Ok (design_in rest)) here
+
+pub fails_in_grids : (fault : ParseFault) (version : ℕ) (cells : List CellText) (line : ℕ) (name : Option (List ℕ)) (head behind inside : Result Rest StickFault) → head ≡ with_version version behind
+    → with_cells [] behind ≡ with_cells cells (with_grid line name inside) → Fails fault (with_grids [] (with_grid line name inside)) → Fails fault (design_from head)
+fails_in_grids fault version cells line name head behind inside e f h =
+    let first = fails_back fault (with_grid line name inside) (λ rest. record rest { lines = []; end_line = 0; rows = []; grids = [] ++ rest.grids }) h in
+    let behind_cells = fails_on fault (with_grid line name inside) (λ rest. Ok (record rest { lines = []; end_line = 0; rows = []; cells = cells ++ rest.cells })) first in
+    fails_in_cells fault version head behind e (subst (Fails fault) (sym f) behind_cells)
