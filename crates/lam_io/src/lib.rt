@@ -4,7 +4,8 @@
 // what it took is known to proofs where the object tells it, and each counts its faults. The
 // contract for the layer above is that of these two traits: a fetch gives the start of the file
 // that the shelf tells, a put appends its piece or, at a fault, a front of it, and a fault is
-// answered only where the count of faults rose in that call.
+// answered only where the count of faults rose in that call. `put_all` puts the pieces of a text, one
+// after another, with the same contract for the whole.
 //
 // `MemShelf` and `MemSink` are a shelf and a sink in memory, which fail where a `FailPlan` says.
 // `FileShelf` and `StdSink` stand over the files and the streams of the operating system.
@@ -14,6 +15,7 @@ mod fail_plan;
 mod file_shelf;
 mod mem_shelf;
 mod mem_sink;
+mod puts;
 mod shelf;
 mod sink;
 mod std_sink;
@@ -23,6 +25,7 @@ pub use fail_plan::FailPlan;
 pub use file_shelf::FileShelf;
 pub use mem_shelf::MemShelf;
 pub use mem_sink::MemSink;
+pub use puts::put_all;
 pub use shelf::{Fetch, Shelf};
 pub use sink::{PutFault, Sink};
 pub use std_sink::StdSink;

@@ -1,0 +1,15 @@
+pub mod Pieces
+pub mod FirstPlaces
+pub mod Ordered
+pub mod CellPorts
+pub mod Placing
+pub mod GridsRead
+pub mod PairsWithin
+pub mod Mapped
+pub mod GridsFit
+pub mod MasterPlaces
+pub mod GoodGrids
+pub mod PlanMade
+pub mod PlanWhole
+pub mod Determined
+pub mod MastersRead

@@ -1,0 +1,7 @@
+use Rattle.std.proofs.Common.{◌≡◌, take}
+use Rattle.std.specs.List.{flat_map}
+use Rattle.plan_model.specs.Rows.{above}
+use Rattle.grid_plan.proofs.pairs.above.Given as goal
+
+abbrev pub invariant-loop-rows : goal.invariant-loop-rows
+invariant-loop-rows l = l.pairs.items ≡ flat_map above (take l.rows-index l.grids)
