@@ -1,10 +1,9 @@
--- The list of a pass has a positive cycle exactly where its system has, and so pruning loses nothing: a walk along inequalities of kept pairs,
--- and along extents of the items between, implies the inequality of each candidate.
+-- Of one master: a walk along inequalities of kept pairs, and along extents of the items between, implies the inequality of each candidate.
 use Rattle.std.proofs.Common.{◌≡◌, ℕ, ◌<◌, Bool, true, false, cond, eqb, ℤ, ◌+ℤ◌, ◌-ℤ◌, ◌≤ℤ◌, List, [], ◌∷◌, ◌++◌, length, map, Some, refl, ap, inl, inr, arith}
 use Rattle.std.specs.List.{AllByRecursion, All, Contains, flat_map}
 use Rattle.std.proofs.lemmas.Int.{ints}
 use Rattle.std.proofs.lemmas.Bool.{cases_eq, ne_eqb, eqb-true}
-use Rattle.std.proofs.lemmas.List.Elements.{All-nil, All-cons, All-append, All-weaker, All-contains, All-contains_itself, recursion_from_All}
+use Rattle.std.proofs.lemmas.List.Elements.{All-nil, All-cons, All-append, All-contains, All-contains_itself, recursion_from_All}
 use Rattle.lam_geom.specs.declared.boxes.Axis.{Axis}
 use Rattle.rule_table.specs.declared.technology.Tech.{Tech}
 use Rattle.cons_graph.specs.declared.edges.Edge.{Edge}
@@ -13,7 +12,6 @@ use Rattle.cons_graph.specs.declared.edges.Why.TheVariants.{Extent, Space}
 use Rattle.cons_graph.specs.Walks.{IsWalk, walk_length}
 use Rattle.cons_graph.proofs.Tests.{walk_length-append}
 use Rattle.round_log.specs.Implied.{IsImpliedBy}
-use Rattle.round_log.proofs.Implied.{cycles_alike, implied_by_itself}
 use Rattle.round_log.proofs.Walking.{IsWalk-append}
 use Rattle.sym_items.specs.declared.items.End.{End}
 use Rattle.sym_items.specs.declared.items.Item.{Item}
@@ -33,9 +31,11 @@ use Rattle.pair_rules.specs.Candidates.{spacing_at, candidates_of, high_end, low
 use Rattle.pair_rules.specs.Kept.{is_kept, kept_of}
 use Rattle.shadow_prune.proofs.PairLists.{of_filtered, all_candidates, is_candidate}
 use Rattle.shadow_prune.proofs.Pruning.{shows_of_candidates, candidates_apart}
-use Rattle.pass_run.specs.Pruning.{PruningLosesNothing}
-use Rattle.pass_run.specs.System.{space_edges, space_edge, spaces_of, system_over, list_over}
-use Rattle.pass_run.proofs.Meeting.{the_one, listed_among, solutions_kept}
+use Rattle.pitch_join.specs.Joined.{space_edges, space_edge}
+
+-- the structure of a master, and the inequalities of its kept pairs, over its own variables
+abbrev pub own_list : Axis → Tech → Master → Coords → List Edge
+own_list axis tech master c = structure_of axis tech master.cell master.items.list ++ map (space_edge axis master.items.list) (kept_of axis tech c master.items.list)
 
 -- ---- walks between ends
 
@@ -67,6 +67,11 @@ joined edges a b c first second both u v far =
       long = omega (arith, ints, u_long, v_long, sum, far);
     }
 
+-- what holds of the inequality between two ends, which is there where they lie on different variables alone
+pub the_one : (P : Edge → Type 0) (same : Bool) (e : Edge) → AllByRecursion P (cond same [] (e ∷ [])) → same ≡ false → P e
+the_one P true e h differ = cc
+the_one P false e h differ = h.0
+
 -- what holds of the inequality between two ends, if there is one
 at_most_one : (P : Edge → Type 0) (same : Bool) (e : Edge) → P e → AllByRecursion P (cond same [] (e ∷ []))
 at_most_one P true e h = tt
@@ -85,7 +90,7 @@ implies_between edges low high len why w =
     let long = w.long in
     at_most_one (IsImpliedBy edges) (eqb low.var high.var) _ (record { walk = w.walk; of_these = w.of_these; leads = w.leads; long = omega (arith, ints, long) })
 
--- ---- the list and the system
+-- ---- the list
 
 -- the extents are part of the structure
 extents_of : (edges : List Edge) (axis : Axis) (tech : Tech) (cell : Cell) (items : List Item) → AllByRecursion (Contains edges) (structure_of axis tech cell items)
@@ -101,10 +106,10 @@ record HasItsWalks (axis : Axis) (tech : Tech) (c : Coords) (items : List Item) 
   pub spaces : All (λ (p : Pair). Contains edges (space_edge axis items p)) (kept_of axis tech c items)
 
 has_its_walks : (axis : Axis) (tech : Tech) (master : Master) (c : Coords) → IsLawful tech master
-    → HasItsWalks axis tech c master.items.list (list_over axis tech master.cell master.items.list c)
+    → HasItsWalks axis tech c master.items.list (own_list axis tech master c)
 has_its_walks axis tech master c lawful =
     let items : List Item = master.items.list in
-    let edges : List Edge = list_over axis tech master.cell items c in
+    let edges : List Edge = own_list axis tech master c in
     let kept : List Pair = kept_of axis tech c items in
     let L : Edge → Type 0 = Contains edges in
     let parts = all_parts L (structure_of axis tech master.cell items) (map (space_edge axis items) kept) (recursion_from_All L edges (All-contains_itself edges)) in
@@ -137,26 +142,15 @@ candidate_walk axis tech c items edges boxes walks =
     (λ i j s i_lt j_lt e is. by_inequality edges (high i) (low j) s Space
     (All-contains K pairs (record { i = i; j = j; s = s }) (of_filtered S (is_kept axis tech c items) pairs walks.spaces) (is_candidate axis tech c items i j s i_lt j_lt e) is))
 
--- so the list implies each inequality of the system
-system_implied : (axis : Axis) (tech : Tech) (master : Master) (c : Coords) → IsLawful tech master → All (HasBox c) master.items.list
-    → All (IsImpliedBy (list_over axis tech master.cell master.items.list c)) (system_over axis tech master.cell master.items.list c)
-system_implied axis tech master c lawful boxes =
+-- so its list implies the inequality of each candidate
+pub own_implied : (axis : Axis) (tech : Tech) (master : Master) (c : Coords) → IsLawful tech master → All (HasBox c) master.items.list
+    → All (IsImpliedBy (own_list axis tech master c)) (flat_map (space_edges axis master.items.list) (candidates_of axis tech c master.items.list))
+own_implied axis tech master c lawful boxes =
     let items : List Item = master.items.list in
-    let structure : List Edge = structure_of axis tech master.cell items in
-    let edges : List Edge = list_over axis tech master.cell items c in
+    let edges : List Edge = own_list axis tech master c in
     let pairs : List Pair = candidates_of axis tech c items in
     let I : Edge → Type 0 = IsImpliedBy edges in
     let P : Pair → Type 0 = λ p. AllByRecursion I (space_edges axis items p) in
-    let listed : All I edges = All-weaker (Contains edges) I (implied_by_itself edges) edges (All-contains_itself edges) in
-    let parts = all_parts I structure (map (space_edge axis items) (kept_of axis tech c items)) (recursion_from_All I edges listed) in
     let implied : All P pairs = all_candidates axis tech c items P (λ i j s i_lt j_lt e.
     implies_between edges (high_end axis items i) (low_end axis items j) s Space (candidate_walk axis tech c items edges boxes (has_its_walks axis tech master c lawful) i j s i_lt j_lt e)) in
-    All-append I structure (spaces_of axis tech c items) (all_of I structure parts.0)
-    (all_of I (spaces_of axis tech c items) (all_flat I (space_edges axis items) pairs (recursion_from_All P pairs implied)))
-
--- pruning loses nothing
-pub pruning : (tech : Tech) (master : Master) → IsLawful tech master → PruningLosesNothing tech master
-pruning tech master lawful = record {
-  same_solutions = solutions_kept tech master lawful;
-  same_cycles = λ axis c boxes. cycles_alike _ _ (listed_among axis tech master.cell master.items.list c) (system_implied axis tech master c lawful boxes);
-}
+    all_of I (flat_map (space_edges axis items) pairs) (all_flat I (space_edges axis items) pairs (recursion_from_All P pairs implied))

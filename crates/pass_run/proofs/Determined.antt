@@ -10,20 +10,17 @@ use Rattle.round_log.specs.declared.log.Entry.{Entry}
 use Rattle.round_log.specs.Looks.{backward_numbers}
 use Rattle.round_log.specs.Orders.{NamesEachOnce}
 use Rattle.round_log.specs.Rounds.{plan_of, EndsInRound}
-use Rattle.round_log.specs.WalksBack.{walk_of}
 use Rattle.round_log.proofs.OneOutcome.{one_end}
 use Rattle.liao_wong.specs.Sorted.{IsInOrderOf}
 use Rattle.liao_wong.proofs.OneOrder.{has_one_order}
-use Rattle.sym_items.specs.declared.items.Item.{Item}
 use Rattle.sym_items.specs.declared.items.Coords.{Coords}
-use Rattle.sym_items.specs.Transposed.{values_along}
-use Rattle.cell_model.specs.declared.cell.Cell.{Cell}
-use Rattle.expand.specs.Variables.{variables_of}
-use Rattle.pair_rules.specs.Kept.{kept_of}
+use Rattle.expand.specs.declared.master.Master.{Master}
+use Rattle.plan_model.specs.declared.plan.Plan.{Plan}
 use Rattle.pass_run.specs.declared.step.Step.{Step}
 use Rattle.pass_run.specs.declared.step.Walk.{Walk}
-use Rattle.pass_run.specs.System.{system_over, list_over}
-use Rattle.pass_run.specs.Passes.{moved_by, IsLeastPass, IsRecorded, ArePasses, axes_of}
+use Rattle.pitch_join.specs.Joined.{joint_variables, system_over, list_over}
+use Rattle.pass_run.specs.Layouts.{joint_values, moved_by}
+use Rattle.pass_run.specs.Passes.{kept_counts, far_walks, IsLeastPass, IsRecorded, ArePasses, axes_of}
 
 -- least values are one list
 one_least : (vars : ℕ) (system : List Edge) (x y : List ℤ) → length x ≡ vars → length y ≡ vars → IsLeastSolution vars system (value_of x) → IsLeastSolution vars system (value_of y) → x ≡ y
@@ -33,25 +30,25 @@ one_least vars system x y n m a b = ext_get_or (pos 0) x y (n ∙ sym m) (λ v l
     omega (arith, ints, below, above))
 
 -- two passes on one axis over one layout are one
-pub one_pass : (tech : Tech) (cell : Cell) (items : List Item) (c : Coords) (s t : Step) → t.axis ≡ s.axis → IsLeastPass tech cell items c s → IsLeastPass tech cell items c t
-    → IsRecorded tech cell items c s → IsRecorded tech cell items c t → s ≡ t
-one_pass tech cell items c s t e least_s least_t rec_s rec_t =
-    let vars : Axis → ℕ = λ a. variables_of a cell in
-    let system : Axis → List Edge = λ a. system_over a tech cell items c in
-    let listed : Axis → List Edge = λ a. list_over a tech cell items c in
+pub one_pass : (tech : Tech) (plan : Plan) (masters : List Master) (c : List Coords) (s t : Step) → t.axis ≡ s.axis → IsLeastPass tech plan masters c s → IsLeastPass tech plan masters c t
+    → IsRecorded tech plan masters c s → IsRecorded tech plan masters c t → s ≡ t
+one_pass tech plan masters c s t e least_s least_t rec_s rec_t =
+    let vars : Axis → ℕ = λ a. joint_variables a masters in
+    let system : Axis → List Edge = λ a. system_over a tech plan masters c in
+    let listed : Axis → List Edge = λ a. list_over a tech plan masters c in
     let L : Axis → Type 0 = λ a. IsLeastSolution (vars a) (system a) (value_of t.x) in
     let N : Axis → Type 0 = λ a. NamesEachOnce (vars a) rec_t.order in
-    let I : Axis → Type 0 = λ a. IsInOrderOf (value_of (values_along a c)) rec_t.order in
+    let I : Axis → Type 0 = λ a. IsInOrderOf (value_of (joint_values a c)) rec_t.order in
     let E : Axis → Type 0 = λ a. EndsInRound (plan_of (listed a) rec_t.order) t.rounds rec_t.raises in
     let O : List ℕ → Type 0 = λ ns. EndsInRound (plan_of (listed s.axis) ns) t.rounds rec_t.raises in
-    let walk_by : List Entry → List Walk = λ rs. (record { edges = walk_of rs 1 }) ∷ [] in
+    let walk_by : List Entry → List Walk = far_walks s.axis masters in
     let x : s.x ≡ t.x = one_least (vars s.axis) (system s.axis) s.x t.x least_s.one_each (least_t.one_each ∙ ap vars e) least_s.least (subst L e least_t.least) in
-    let kept : s.kept ≡ t.kept = rec_s.kept ∙ sym (rec_t.kept ∙ ap (λ (a : Axis). length (kept_of a tech c items) ∷ []) e) in
+    let kept : s.kept ≡ t.kept = rec_s.kept ∙ sym (rec_t.kept ∙ ap (λ (a : Axis). kept_counts a tech masters c) e) in
     let edges : s.edges ≡ t.edges = rec_s.edges ∙ sym (rec_t.edges ∙ ap (λ (a : Axis). length (listed a)) e) in
-    let order : rec_s.order ≡ rec_t.order = has_one_order (vars s.axis) (value_of (values_along s.axis c)) rec_s.order rec_t.order rec_s.each_once rec_s.in_order (subst N e rec_t.each_once) (subst I e rec_t.in_order) in
+    let order : rec_s.order ≡ rec_t.order = has_one_order (vars s.axis) (value_of (joint_values s.axis c)) rec_s.order rec_t.order rec_s.each_once rec_s.in_order (subst N e rec_t.each_once) (subst I e rec_t.in_order) in
     let backward : s.backward ≡ t.backward = rec_s.backward ∙ (ap (λ (ns : List ℕ). length (backward_numbers (listed s.axis) ns)) order ∙ sym (rec_t.backward ∙ ap (λ (a : Axis). length (backward_numbers (listed a) rec_t.order)) e)) in
     let one = one_end (plan_of (listed s.axis) rec_s.order) s.rounds t.rounds rec_s.raises rec_t.raises rec_s.ended (subst O (sym order) (subst E e rec_t.ended)) in
-    let walks : s.walks ≡ t.walks = rec_s.walk ∙ (ap walk_by one.1 ∙ sym rec_t.walk) in
+    let walks : s.walks ≡ t.walks = rec_s.walks ∙ (ap walk_by one.1 ∙ sym (rec_t.walks ∙ ap (λ (a : Axis). far_walks a masters rec_t.raises) e)) in
     same_step s t (sym e) x kept edges backward one.0 walks
   where
     same_step : (s t : Step) → s.axis ≡ t.axis → s.x ≡ t.x → s.kept ≡ t.kept → s.edges ≡ t.edges → s.backward ≡ t.backward → s.rounds ≡ t.rounds → s.walks ≡ t.walks → s ≡ t
@@ -64,14 +61,14 @@ one_pass tech cell items c s t e least_s least_t rec_s rec_t =
         ∙ (ap (λ (z : ℕ). record t { rounds = z; walks = s.walks }) rounds
         ∙ ap (λ (z : List Walk). record t { walks = z }) walks)))))
 
-pub passes_determined : (tech : Tech) (cell : Cell) (items : List Item) (before : Coords) (a b : List Step)
-    → ArePasses tech cell items before a → ArePasses tech cell items before b → axes_of a ≡ axes_of b → a ≡ b
-passes_determined tech cell items before [] [] pa pb same = refl
-passes_determined tech cell items before [] (t ∷ b) pa pb same = let n = ap length same in absurd (omega (arith, n))
-passes_determined tech cell items before (s ∷ a) [] pa pb same = let n = ap length same in absurd (omega (arith, n))
-passes_determined tech cell items before (s ∷ a) (t ∷ b) pa pb same =
+pub passes_determined : (tech : Tech) (plan : Plan) (masters : List Master) (before : List Coords) (a b : List Step)
+    → ArePasses tech plan masters before a → ArePasses tech plan masters before b → axes_of a ≡ axes_of b → a ≡ b
+passes_determined tech plan masters before [] [] pa pb same = refl
+passes_determined tech plan masters before [] (t ∷ b) pa pb same = let n = ap length same in absurd (omega (arith, n))
+passes_determined tech plan masters before (s ∷ a) [] pa pb same = let n = ap length same in absurd (omega (arith, n))
+passes_determined tech plan masters before (s ∷ a) (t ∷ b) pa pb same =
     let first : s.axis ≡ t.axis = ap (λ (axes : List Axis). get_or axes 0 s.axis) same in
     let later : axes_of a ≡ axes_of b = ap (drop 1) same in
-    let step : s ≡ t = one_pass tech cell items before s t (sym first) pa.0 pb.0 pa.1 pb.1 in
-    let P : Step → Type 0 = λ z. ArePasses tech cell items (moved_by before z) a in
-    ap (λ (z : Step). z ∷ a) step ∙ ap (λ (zs : List Step). t ∷ zs) (passes_determined tech cell items (moved_by before t) a b (subst P step pa.2) pb.2 later)
+    let step : s ≡ t = one_pass tech plan masters before s t (sym first) pa.0 pb.0 pa.1 pb.1 in
+    let P : Step → Type 0 = λ z. ArePasses tech plan masters (moved_by masters before z) a in
+    ap (λ (z : Step). z ∷ a) step ∙ ap (λ (zs : List Step). t ∷ zs) (passes_determined tech plan masters (moved_by masters before t) a b (subst P step pa.2) pb.2 later)

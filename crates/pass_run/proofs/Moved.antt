@@ -1,15 +1,11 @@
--- The layout after a pass.
-use Rattle.std.proofs.Common.{◌≡◌, ℕ, zero, suc, ℤ, pos, ◌+ℤ◌, ◌≤ℤ◌, List, ◌∷◌, length, arith}
-use Rattle.std.specs.Prelude.{Contains}
+-- The layout of one master after a pass.
+use Rattle.std.proofs.Common.{◌≡◌, ℕ, ℤ, pos, ◌+ℤ◌, ◌≤ℤ◌, List, length, arith}
 use Rattle.std.specs.List.{All}
 use Rattle.std.proofs.lemmas.Int.{ints}
-use Rattle.std.proofs.lemmas.List.Elements.{All-append, All-from_get_or}
+use Rattle.std.proofs.lemmas.List.Elements.{All-from_get_or}
 use Rattle.lam_geom.specs.declared.boxes.Axis.{Axis}
 use Rattle.lam_geom.specs.declared.boxes.Axis.TheVariants.{X, Y}
 use Rattle.rule_table.specs.declared.technology.Tech.{Tech}
-use Rattle.cons_graph.specs.Solutions.{Meets, IsSolution}
-use Rattle.cons_graph.specs.Walks.{HasPositiveCycle}
-use Rattle.round_log.proofs.Least.{positive_cycle_excludes}
 use Rattle.liao_wong.specs.Answers.{IsWithinLimit}
 use Rattle.sym_items.specs.declared.items.End.{End}
 use Rattle.sym_items.specs.declared.items.Item.{Item}
@@ -20,16 +16,13 @@ use Rattle.sym_items.specs.Values.{value_of, value_at}
 use Rattle.expand.specs.declared.master.Master.{Master}
 use Rattle.expand.specs.Variables.{variables_of}
 use Rattle.expand.specs.Bounds.{IsEndAmong, IsSpanAmong}
-use Rattle.expand.specs.Structure.{structure_of}
-use Rattle.sym_items.specs.Extents.{IsLongUnder}
-use Rattle.expand.specs.Laws.{EndsAbove, MeetsStructure, IsLawful}
+use Rattle.expand.specs.Laws.{EndsAbove, IsLawful}
 use Rattle.pair_rules.specs.Laws.{moved}
 use Rattle.pair_rules.proofs.Staying.{stays_clean}
-use Rattle.shadow_prune.proofs.Pruning.{candidates_apart}
-use Rattle.pass_run.specs.System.{spaces_of, system_over}
-use Rattle.pass_run.specs.Laid.{IsLaidOut, IsSettled}
+use Rattle.pair_rules.specs.Candidates.{candidates_of, Keeps}
+use Rattle.shadow_prune.proofs.Pruning.{pruning_loses_nothing}
+use Rattle.pass_run.specs.Laid.{IsLaidOut}
 use Rattle.pass_run.specs.Meeting.{MeetsMaster, IsNextFor, StaysLaidOut}
-use Rattle.pass_run.proofs.Meeting.{spaces_met, met_apart}
 
 -- ---- the axes of a layout with other values on one of them
 
@@ -39,19 +32,6 @@ each_axis P X c x old new X = new
 each_axis P X c x old new Y = old Y
 each_axis P Y c x old new X = old X
 each_axis P Y c x old new Y = new
-
--- an axis of a list that is not its first one
-later_axis : (axis a : Axis) (had : List Axis) → (axis ≡ a → ⊥) → Contains (axis ∷ had) a → Contains had a
-later_axis axis a had differ (zero, lt, e) = absurd (differ e)
-later_axis axis a had differ (suc k, lt, e) = (k, omega arith, e)
-
--- the same of some axes, with the one of the new values
-each_axis_of : (P : Axis → List ℤ → Type 0) (axis : Axis) (had : List Axis) (c : Coords) (x : List ℤ) → ((a : Axis) → Contains had a → P a (values_along a c)) → P axis x
-    → (a : Axis) → Contains (axis ∷ had) a → P a (values_along a (moved axis c x))
-each_axis_of P X had c x old new X among = new
-each_axis_of P X had c x old new Y among = old Y (later_axis X Y had (λ e. cc) among)
-each_axis_of P Y had c x old new X among = old X (later_axis Y X had (λ e. cc) among)
-each_axis_of P Y had c x old new Y among = new
 
 -- ---- boxes
 
@@ -85,6 +65,11 @@ has_span values vars low high least count small among long =
       ordered = omega (arith, ints, long, positive);
     }
 
+-- values that meet a master keep the candidates apart that are not kept too
+met_apart : (axis : Axis) (tech : Tech) (master : Master) (c : Coords) (x : ℕ → ℤ) → IsLawful tech master → All (HasBox c) master.items.list → MeetsMaster axis tech master c x
+    → All (Keeps axis x master.items.list) (candidates_of axis tech c master.items.list)
+met_apart axis tech master c x lawful boxes met = pruning_loses_nothing axis tech c master.items.list boxes x (lawful.stands axis x met.structure).long met.kept
+
 -- ---- the layout after a pass
 
 pub stays : (axis : Axis) (tech : Tech) (master : Master) (c : Coords) (values : List ℤ) → IsLawful tech master → IsLaidOut tech master c → IsNextFor axis tech master c values → StaysLaidOut axis tech master c values
@@ -111,30 +96,3 @@ stays axis tech master c values lawful laid next =
       apart = apart;
       long = stands.long;
     }
-
-pub settled_after : (axis : Axis) (tech : Tech) (master : Master) (had : List Axis) (c : Coords) (values : List ℤ) → IsLawful tech master → IsSettled tech master had c
-    → MeetsMaster axis tech master c (value_of values) → IsSettled tech master (axis ∷ had) (moved axis c values)
-settled_after axis tech master had c values lawful settled met = record {
-  solved = each_axis_of (λ a vs. MeetsStructure a tech master (value_of vs)) axis had c values settled.solved met.structure;
-  long = each_axis_of (λ a vs. All (IsLongUnder a (value_of vs)) master.items.list) axis had c values settled.long (lawful.stands axis (value_of values) met.structure).long;
-}
-
--- ---- a pass on an axis that has had one
-
--- the values of the layout solve the system
-pub stays_solved : (axis : Axis) (tech : Tech) (master : Master) (had : List Axis) (c : Coords) → IsSettled tech master had c → Contains had axis
-    → IsSolution (system_over axis tech master.cell master.items.list c) (value_of (values_along axis c))
-stays_solved axis tech master had c settled among =
-    let items : List Item = master.items.list in
-    let x : ℕ → ℤ = value_of (values_along axis c) in
-    let met = settled.solved axis among in
-    record {
-      origin = met.origin;
-      meets = All-append (Meets x) (structure_of axis tech master.cell items) (spaces_of axis tech c items) met.meets (spaces_met axis x tech c items (candidates_apart axis tech c items));
-    }
-
--- so it has no positive cycle
-pub no_cycle_again : (axis : Axis) (tech : Tech) (master : Master) (had : List Axis) (c : Coords) → HasPositiveCycle (system_over axis tech master.cell master.items.list c)
-    → IsSettled tech master had c → Contains had axis → ⊥
-no_cycle_again axis tech master had c cycle settled among =
-    positive_cycle_excludes (system_over axis tech master.cell master.items.list c) cycle.0 (value_of (values_along axis c)) cycle.1 (stays_solved axis tech master had c settled among)

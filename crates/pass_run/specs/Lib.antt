@@ -1,6 +1,6 @@
-pub mod System
-pub mod ListFaults
-pub mod Names
+pub mod Alike
+pub mod Layouts
+pub mod OneMaster
 pub mod Passes
 pub mod Report
 pub mod Theorems

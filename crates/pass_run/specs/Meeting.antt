@@ -1,12 +1,9 @@
--- What it says of a master that values of an axis meet its structure and keep its kept pairs apart. Nothing here speaks of the list of a pass
--- but where it is told to say the same.
-use Rattle.std.specs.Prelude.{◌≡◌, ◌↔◌, ℕ, ℤ, All, List, length}
+-- What it says of one master that values of an axis meet its structure and keep its kept pairs apart.
+use Rattle.std.specs.Prelude.{◌≡◌, ℕ, ℤ, All, List, length}
 use Rattle.lam_geom.specs.declared.boxes.Axis.{Axis}
 use Rattle.rule_table.specs.declared.technology.Tech.{Tech}
-use Rattle.cons_graph.specs.Solutions.{IsSolution}
 use Rattle.liao_wong.specs.Answers.{IsWithinLimit}
 use Rattle.sym_items.specs.declared.items.Coords.{Coords}
-use Rattle.sym_items.specs.Boxes.{HasBox}
 use Rattle.sym_items.specs.Values.{value_of}
 use Rattle.expand.specs.declared.master.Master.{Master}
 use Rattle.expand.specs.Variables.{variables_of}
@@ -15,19 +12,12 @@ use Rattle.expand.specs.Laws.{MeetsStructure}
 use Rattle.pair_rules.specs.Candidates.{candidates_of, Keeps}
 use Rattle.pair_rules.specs.Kept.{kept_of}
 use Rattle.pair_rules.specs.Laws.{moved}
-use Rattle.pass_run.specs.System.{system_over, list_over}
 use Rattle.pass_run.specs.Laid.{IsLaidOut}
 
 -- values of an axis meet a master over a layout: its structure, and the inequality of each of its kept pairs
 pub record MeetsMaster (axis : Axis) (tech : Tech) (master : Master) (layout : Coords) (x : ℕ → ℤ) : Type 0 where
   pub structure : MeetsStructure axis tech master x
   pub kept : All (Keeps axis x master.items.list) (kept_of axis tech layout master.items.list)
-
--- They are the solutions of the list of a pass, and, over a layout that gives each item a box, of its system.
-pub record MeetingIsSolving (tech : Tech) (master : Master) : Type 0 where
-  pub of_list : (axis : Axis) (layout : Coords) (x : ℕ → ℤ) → IsSolution (list_over axis tech master.cell master.items.list layout) x ↔ MeetsMaster axis tech master layout x
-  pub of_system : (axis : Axis) (layout : Coords) → All (HasBox layout) master.items.list
-      → (x : ℕ → ℤ) → IsSolution (system_over axis tech master.cell master.items.list layout) x ↔ MeetsMaster axis tech master layout x
 
 -- values for an axis of a layout: one for each variable, within 2^55 of 0, that meet the master
 pub record IsNextFor (axis : Axis) (tech : Tech) (master : Master) (layout : Coords) (values : List ℤ) : Type 0 where

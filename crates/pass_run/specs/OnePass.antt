@@ -1,24 +1,24 @@
--- Why there is no pass over a layout.
+-- Why there is no pass over some layouts.
 use Rattle.std.specs.Prelude.{ℕ, ◌<◌, Contains, List, length}
 use Rattle.lam_geom.specs.declared.boxes.Axis.{Axis}
 use Rattle.rule_table.specs.declared.technology.Tech.{Tech}
-use Rattle.sym_items.specs.declared.items.Item.{Item}
 use Rattle.sym_items.specs.declared.items.Coords.{Coords}
-use Rattle.cell_model.specs.declared.cell.Cell.{Cell}
 use Rattle.expand.specs.declared.master.Master.{Master}
+use Rattle.plan_model.specs.declared.plan.Plan.{Plan}
+use Rattle.pitch_join.specs.Joined.{list_over}
 use Rattle.pass_run.specs.declared.pass.Stop.{Stop}
 use Rattle.pass_run.specs.declared.pass.Stop.TheVariants.{TooManyEdges, Cycle, OutOfMemory}
-use Rattle.pass_run.specs.System.{list_over, most_edges}
-use Rattle.pass_run.specs.Laid.{IsSettled}
+use Rattle.pass_run.specs.Alike.{most_edges}
+use Rattle.pass_run.specs.Laid.{AreSettled}
 use Rattle.pass_run.specs.PassFaults.{IsCyclicOver}
 
-abbrev pub StopsPass : Tech → Cell → List Item → Coords → ℕ → Axis → Stop → Type 0
-StopsPass tech cell items layout pass axis TooManyEdges = most_edges < length (list_over axis tech cell items layout)
-StopsPass tech cell items layout pass axis (Cycle text) = IsCyclicOver tech cell items layout pass axis text.items
-StopsPass tech cell items layout pass axis OutOfMemory = Unit {0}
+abbrev pub StopsPass : Tech → Plan → List Master → List Coords → ℕ → Axis → Stop → Type 0
+StopsPass tech plan masters layouts pass axis TooManyEdges = most_edges < length (list_over axis tech plan masters layouts)
+StopsPass tech plan masters layouts pass axis (Cycle text) = IsCyclicOver tech plan masters layouts pass axis text.items
+StopsPass tech plan masters layouts pass axis OutOfMemory = Unit {0}
 
 -- a cycle comes only where the axis has had no pass
-abbrev pub IsFirstOn : Tech → Master → Coords → Axis → Stop → Type 0
-IsFirstOn tech master layout axis TooManyEdges = Unit {0}
-IsFirstOn tech master layout axis (Cycle text) = (had : List Axis) → IsSettled tech master had layout → Contains had axis → ⊥
-IsFirstOn tech master layout axis OutOfMemory = Unit {0}
+abbrev pub IsFirstOn : Tech → Plan → List Master → List Coords → Axis → Stop → Type 0
+IsFirstOn tech plan masters layouts axis TooManyEdges = Unit {0}
+IsFirstOn tech plan masters layouts axis (Cycle text) = (had : List Axis) → AreSettled tech plan masters had layouts → Contains had axis → ⊥
+IsFirstOn tech plan masters layouts axis OutOfMemory = Unit {0}

@@ -1,5 +1,5 @@
--- The passes of a cell, one after another: each gives one axis the least layout over the layout before it, and keeps the other axis.
-use Rattle.std.specs.Prelude.{◌≡◌, ℕ, ◌≤◌, List, [], ◌∷◌, length, fold}
+-- The passes of a plan, one after another: each gives one axis of all masters the least layouts over the layouts before it, and keeps the other axis.
+use Rattle.std.specs.Prelude.{◌≡◌, ℕ, ◌≤◌, List, [], ◌∷◌, length, map}
 use Rattle.lam_geom.specs.declared.boxes.Axis.{Axis}
 use Rattle.rule_table.specs.declared.technology.Tech.{Tech}
 use Rattle.round_log.specs.declared.log.Entry.{Entry}
@@ -9,53 +9,61 @@ use Rattle.round_log.specs.Rounds.{plan_of, EndsInRound}
 use Rattle.cons_graph.specs.Solutions.{IsLeastSolution, value_of}
 use Rattle.round_log.specs.WalksBack.{walk_of}
 use Rattle.liao_wong.specs.Sorted.{IsInOrderOf}
-use Rattle.sym_items.specs.declared.items.Item.{Item}
 use Rattle.sym_items.specs.declared.items.Coords.{Coords}
-use Rattle.sym_items.specs.Transposed.{values_along}
-use Rattle.cell_model.specs.declared.cell.Cell.{Cell}
-use Rattle.expand.specs.Variables.{variables_of}
-use Rattle.pair_rules.specs.Kept.{kept_of}
-use Rattle.pair_rules.specs.Laws.{moved}
+use Rattle.expand.specs.declared.master.Master.{Master}
+use Rattle.plan_model.specs.declared.plan.Plan.{Plan}
+use Rattle.pitch_join.specs.Masters.{master_numbers}
+use Rattle.pitch_join.specs.Joined.{joint_variables, far_of, kept_at, system_over, list_over}
 use Rattle.pass_run.specs.declared.step.Step.{Step}
-use Rattle.pass_run.specs.System.{system_over, list_over, most_edges}
+use Rattle.pass_run.specs.declared.step.Walk.{Walk}
+use Rattle.pass_run.specs.Alike.{most_edges}
+use Rattle.pass_run.specs.Layouts.{joint_values, moved_by}
 
--- the layout after a pass, and the one after some passes
-abbrev pub moved_by : Coords → Step → Coords
-moved_by before step = moved step.axis before step.x
+-- A pass over the layouts before it: every value of its axis is the least that any solution of the system of all masters has.
+pub record IsLeastPass (tech : Tech) (plan : Plan) (masters : List Master) (before : List Coords) (step : Step) : Type 0 where
+  pub one_each : length step.x ≡ joint_variables step.axis masters
+  pub least : IsLeastSolution (joint_variables step.axis masters) (system_over step.axis tech plan masters before) (value_of step.x)
 
-abbrev pub layout_after : Coords → List Step → Coords
-layout_after start steps = fold moved_by start steps
+-- the number of kept pairs of master m, and of each
+abbrev pub kept_count : Axis → Tech → List Master → List Coords → ℕ → ℕ
+kept_count axis tech masters layouts m = length (kept_at axis tech masters layouts m)
 
--- A pass over the layout before it: every value of its axis is the least that any solution of its system has.
-pub record IsLeastPass (tech : Tech) (cell : Cell) (items : List Item) (before : Coords) (step : Step) : Type 0 where
-  pub one_each : length step.x ≡ variables_of step.axis cell
-  pub least : IsLeastSolution (variables_of step.axis cell) (system_over step.axis tech cell items before) (value_of step.x)
+abbrev pub kept_counts : Axis → Tech → List Master → List Coords → List ℕ
+kept_counts axis tech masters layouts = map (kept_count axis tech masters layouts) (master_numbers masters)
 
--- What is recorded of a pass: the numbers of kept pairs and of listed inequalities, and of Liao and Wong's rounds over them, in order of
--- the values before the pass, the backward inequalities, the number of rounds, and the walk to the far border.
-pub record IsRecorded (tech : Tech) (cell : Cell) (items : List Item) (before : Coords) (step : Step) : Type 0 where
-  pub kept : step.kept ≡ length (kept_of step.axis tech before items) ∷ []
-  pub edges : step.edges ≡ length (list_over step.axis tech cell items before)
+-- the walk that some raises have to the far border of master m, and that of each
+abbrev pub far_walk : Axis → List Master → List Entry → ℕ → Walk
+far_walk axis masters raises m = record { edges = walk_of raises (far_of axis masters m) }
+
+abbrev pub far_walks : Axis → List Master → List Entry → List Walk
+far_walks axis masters raises = map (far_walk axis masters raises) (master_numbers masters)
+
+-- What is recorded of a pass: for each master its kept pairs, the number of listed inequalities, and of Liao and Wong's rounds over these, in order of
+-- the values before the pass, the backward inequalities, the number of rounds, and for each master the walk to its far border.
+pub record IsRecorded (tech : Tech) (plan : Plan) (masters : List Master) (before : List Coords) (step : Step) : Type 0 where
+  pub kept : step.kept ≡ kept_counts step.axis tech masters before
+  pub edges : step.edges ≡ length (list_over step.axis tech plan masters before)
   pub few : step.edges ≤ most_edges
   pub order : List ℕ
-  pub each_once : NamesEachOnce (variables_of step.axis cell) order
-  pub in_order : IsInOrderOf (value_of (values_along step.axis before)) order
-  pub backward : step.backward ≡ length (backward_numbers (list_over step.axis tech cell items before) order)
+  pub each_once : NamesEachOnce (joint_variables step.axis masters) order
+  pub in_order : IsInOrderOf (value_of (joint_values step.axis before)) order
+  pub backward : step.backward ≡ length (backward_numbers (list_over step.axis tech plan masters before) order)
   pub raises : List Entry
-  pub ended : EndsInRound (plan_of (list_over step.axis tech cell items before) order) step.rounds raises
-  pub walk : step.walks ≡ (record { edges = walk_of raises 1 }) ∷ []
+  pub ended : EndsInRound (plan_of (list_over step.axis tech plan masters before) order) step.rounds raises
+  pub walks : step.walks ≡ far_walks step.axis masters raises
 
--- each of some passes is made over the layout that the ones before it leave
-abbrev pub ArePasses : Tech → Cell → List Item → Coords → List Step → Type 0
-ArePasses tech cell items before [] = Unit {0}
-ArePasses tech cell items before (step ∷ steps) =
-    IsLeastPass tech cell items before step × IsRecorded tech cell items before step × ArePasses tech cell items (moved_by before step) steps
+-- each of some passes is made over the layouts that the ones before it leave
+abbrev pub ArePasses : Tech → Plan → List Master → List Coords → List Step → Type 0
+ArePasses tech plan masters before [] = Unit {0}
+ArePasses tech plan masters before (step ∷ steps) =
+    IsLeastPass tech plan masters before step × IsRecorded tech plan masters before step × ArePasses tech plan masters (moved_by masters before step) steps
 
 -- the axes of some passes
 abbrev pub axes_of : List Step → List Axis
 axes_of [] = []
 axes_of (step ∷ steps) = step.axis ∷ axes_of steps
 
--- passes over a layout are determined by their axes
-abbrev pub AreDetermined : Tech → Cell → List Item → Coords → Type 0
-AreDetermined tech cell items before = (a b : List Step) → ArePasses tech cell items before a → ArePasses tech cell items before b → axes_of a ≡ axes_of b → a ≡ b
+-- passes over some layouts are determined by their axes
+abbrev pub AreDetermined : Tech → Plan → List Master → List Coords → Type 0
+AreDetermined tech plan masters before =
+    (a b : List Step) → ArePasses tech plan masters before a → ArePasses tech plan masters before b → axes_of a ≡ axes_of b → a ≡ b

@@ -1,5 +1,5 @@
 -- What holds of every pass.
-use Rattle.std.specs.Prelude.{◌≡◌, ℕ, ◌<◌, ℤ, ◌≤ℤ◌, All, Contains, List, [], ◌∷◌}
+use Rattle.std.specs.Prelude.{◌≡◌, ℕ, ◌<◌, ℤ, ◌≤ℤ◌, All, Contains, List, ◌∷◌, [], length}
 use Rattle.lam_geom.specs.declared.boxes.Axis.{Axis}
 use Rattle.rule_table.specs.declared.technology.Tech.{Tech}
 use Rattle.cons_graph.specs.declared.edges.Edge.{Edge}
@@ -8,15 +8,18 @@ use Rattle.cons_graph.specs.Solutions.{IsSolution, value_of}
 use Rattle.sym_items.specs.declared.items.Item.{Item}
 use Rattle.sym_items.specs.declared.items.Coords.{Coords}
 use Rattle.sym_items.specs.Boxes.{HasBox}
-use Rattle.cell_model.specs.declared.cell.Cell.{Cell}
-use Rattle.expand.specs.Variables.{variables_of}
-use Rattle.pair_rules.specs.Clean.{IsClean}
 use Rattle.sym_items.specs.Extents.{IsLongUnder}
+use Rattle.sym_items.specs.Layouts.{layout_at}
+use Rattle.sym_items.specs.Transposed.{values_along}
+use Rattle.expand.specs.declared.master.Master.{Master}
+use Rattle.pair_rules.specs.Clean.{IsClean}
+use Rattle.plan_model.specs.declared.plan.Plan.{Plan}
+use Rattle.pitch_join.specs.Masters.{master_at}
+use Rattle.pitch_join.specs.Joined.{joint_variables, far_of, system_over, list_over}
 use Rattle.pass_run.specs.declared.step.Step.{Step}
 use Rattle.pass_run.specs.declared.step.Walk.{Walk}
-use Rattle.pass_run.specs.System.{system_over, list_over}
-use Rattle.sym_items.specs.Transposed.{values_along}
-use Rattle.pass_run.specs.Passes.{moved_by}
+use Rattle.pass_run.specs.Layouts.{joint_values, moved_by}
+use Rattle.pass_run.specs.Report.{walk_at, size_at}
 
 -- an item is at least as long on an axis as it has to be
 abbrev pub IsLong : Axis → Coords → Item → Type 0
@@ -28,24 +31,34 @@ pub record IsWellPlaced (tech : Tech) (layout : Coords) (items : List Item) (axe
   pub long : (axis : Axis) → Contains axes axis → All (IsLong axis layout) items
   pub clean : IsClean tech layout items
 
--- Listed inequalities that make a walk from the origin to the far border, which meets no variable twice and is as long as the cell's size.
--- Each of them is one of the system's.
-pub record IsCriticalPath (listed system : List Edge) (walk : Walk) (size : ℤ) : Type 0 where
-  pub passes : WalksFromTo listed 0 walk.edges 1
+-- so it is with the layout of each master
+abbrev pub AreWellPlaced : Tech → List Master → List Coords → List Axis → Type 0
+AreWellPlaced tech masters layouts axes = (m : ℕ) → m < length masters → IsWellPlaced tech (layout_at layouts m) (master_at masters m).items.list axes
+
+-- Listed inequalities that make a walk from the origin to a far border, which meets no variable twice and is as long as the size there. Each of
+-- them is one of the system's.
+pub record IsCriticalPath (listed system : List Edge) (far : ℕ) (walk : Walk) (size : ℤ) : Type 0 where
+  pub passes : WalksFromTo listed 0 walk.edges far
   pub of_system : All (Contains system) (edges_of listed walk.edges)
   pub simple : HasNoRepeat (0 ∷ heads_of listed walk.edges)
   pub as_long : length_of listed walk.edges ≡ size
 
--- What holds of a pass over the layout before it, where these axes have had passes: its walks are critical paths; where its axis has had a
--- pass, the values before it solve its system, and none of them grows; and the layout after it is well placed.
-pub record IsSoundPass (tech : Tech) (cell : Cell) (items : List Item) (had : List Axis) (before : Coords) (step : Step) : Type 0 where
-  pub paths : All (λ walk. IsCriticalPath (list_over step.axis tech cell items before) (system_over step.axis tech cell items before) walk (value_of step.x 1)) step.walks
-  pub solved_before : Contains had step.axis → IsSolution (system_over step.axis tech cell items before) (value_of (values_along step.axis before))
-  pub none_grows : Contains had step.axis → (v : ℕ) → v < variables_of step.axis cell → value_of step.x v ≤ℤ value_of (values_along step.axis before) v
-  pub placed : IsWellPlaced tech (moved_by before step) items (step.axis ∷ had)
+-- the walk to the far border of master m is critical
+abbrev pub HasCriticalPath : Tech → Plan → List Master → List Coords → Step → ℕ → Type 0
+HasCriticalPath tech plan masters before step m =
+    IsCriticalPath (list_over step.axis tech plan masters before) (system_over step.axis tech plan masters before) (far_of step.axis masters m) (walk_at step m) (size_at masters step m)
+
+-- What holds of a pass over the layouts before it, where these axes have had passes: for each master there is a critical path; where its axis
+-- has had a pass, the values before it solve its system, and none of them grows; and each layout after it is well placed.
+pub record IsSoundPass (tech : Tech) (plan : Plan) (masters : List Master) (had : List Axis) (before : List Coords) (step : Step) : Type 0 where
+  pub one_each : length step.walks ≡ length masters
+  pub paths : (m : ℕ) → m < length masters → HasCriticalPath tech plan masters before step m
+  pub solved_before : Contains had step.axis → IsSolution (system_over step.axis tech plan masters before) (value_of (joint_values step.axis before))
+  pub none_grows : Contains had step.axis → (v : ℕ) → v < joint_variables step.axis masters → value_of step.x v ≤ℤ value_of (joint_values step.axis before) v
+  pub placed : AreWellPlaced tech masters (moved_by masters before step) (step.axis ∷ had)
 
 -- so it is with each of some passes
-abbrev pub AreSound : Tech → Cell → List Item → List Axis → Coords → List Step → Type 0
-AreSound tech cell items had before [] = Unit {0}
-AreSound tech cell items had before (step ∷ steps) =
-    IsSoundPass tech cell items had before step × AreSound tech cell items (step.axis ∷ had) (moved_by before step) steps
+abbrev pub AreSound : Tech → Plan → List Master → List Axis → List Coords → List Step → Type 0
+AreSound tech plan masters had before [] = Unit {0}
+AreSound tech plan masters had before (step ∷ steps) =
+    IsSoundPass tech plan masters had before step × AreSound tech plan masters (step.axis ∷ had) (moved_by masters before step) steps

@@ -1,126 +1,142 @@
 //! The inequalities of a pass, and the constraint graph of them.
 
-ghost use Rattle.std.specs.Prelude.{◌≡◌, ◌+◌, ◌<◌, ◌≤◌, ◌++◌, pos, ◌≤ℤ◌, ◌-ℤ◌, ◌+ℤ◌, length, map, All, OnOk, IfOk, IfErr};
+ghost use Rattle.std.specs.Prelude.{◌≡◌, ◌+◌, ◌<◌, ◌≤◌, ◌^◌, ◌++◌, length, slice_index, flat_map, All, OnOk, IfOk, IfErr};
 ghost use Rattle.cons_graph.specs.Constraints.{IsConstraintGraph};
-ghost use Rattle.expand.specs.Bounds.{IsNearAlong};
+ghost use Rattle.expand.specs.Laws.{IsLawful};
 ghost use Rattle.expand.specs.Masters.{IsMaster};
-ghost use Rattle.expand.specs.Variables.{variables_of};
 ghost use Rattle.pair_rules.specs.Kept.{kept_of};
-ghost use Rattle.pass_run.specs.declared.edges.ListFault.TheVariants.{OutOfMemory};
-ghost use Rattle.pass_run.specs.System.{space_edge, list_over, most_edges};
-ghost use Rattle.pass_run.specs.ListFaults.{RefusesList};
-ghost use Rattle.pass_run.specs.Laid.{IsLaidOut};
+ghost use Rattle.pitch_join.specs.Masters.{ArePlanned, master_numbers};
+ghost use Rattle.pitch_join.specs.Names.{joint_names};
+ghost use Rattle.pitch_join.specs.Joined.{bases_of, joint_variables, kept_edges_at, list_over};
+ghost use Rattle.pitch_join.specs.Spaces.{EndsBelow};
+ghost use Rattle.shadow_prune.specs.KeptFaults.{RefusesKept};
+ghost use Rattle.pass_run.specs.Alike.{most_edges};
+ghost use Rattle.pass_run.specs.OneMaster.{own_kept_edges};
+ghost use Rattle.pass_run.specs.Passes.{kept_counts};
+ghost use Rattle.pass_run.specs.Laid.{IsLaidOut, AreLaidOut};
 
-use cons_graph::{Edge, Graph, GraphFault, MAX_EDGES, Why};
-use expand::{Master, between_variables, master_is_lawful, structure};
+use crate::laws::masters_are_lawful;
+use cons_graph::{Graph, GraphFault, MAX_EDGES, Names};
+use expand::{Master, master_is_lawful};
 use lam_geom::Axis;
-use pair_rules::Pair;
+use lam_list::Seq;
+use pitch_join::{Joint, join};
+use plan_model::Plan;
 use rule_table::Tech;
 use shadow_prune::{KeptFault, kept};
-use std::alloc::{AllocError, AllocFailed, Global};
-use sym_items::{Coords, Item};
+use std::alloc::Global;
+use sym_items::Coords;
 
-/// Why there is no list of a pass.
-#[derive(Debug, Drop)]
-pub enum ListFault {
-    /// There are more than 4,194,304 inequalities.
-    TooManyEdges,
-    OutOfMemory,
-}
-
-impl From<AllocError> for ListFault {
-    ghost from_gives = { λ _ fault. fault ≡ OutOfMemory };
-
-    fn from(_error: AllocError) -> ListFault {
-        ListFault::OutOfMemory
-    }
-}
-
-impl<T: Drop> From<AllocFailed<T>> for ListFault {
-    ghost from_gives = { λ _ fault. fault ≡ OutOfMemory };
-
-    fn from(_failed: AllocFailed<T>) -> ListFault {
-        ListFault::OutOfMemory
-    }
-}
-
-/// The list of a pass: its constraint graph, and how many of the inequalities are of kept pairs.
+/// The list of a pass.
 #[derive(Drop)]
 pub struct Listed {
+    /// Its constraint graph.
     pub graph: Graph,
-    pub kept: u32,
+    /// For each master how many of the inequalities are of its kept pairs.
+    pub kept: Vec<u32>,
+    /// The number of each master's first variable beside the origin, which is that of its far border.
+    pub base: Seq<u32>,
+    /// The names of the variables, as they are printed.
+    pub names: Names,
 }
 
-// The inequality of a kept pair: the low end of the second item lies the spacing past the high end of the first.
-fn space_edge(axis: Axis, items: &[Item], pair: &Pair) -> Edge
-    requires near { All (IsNearAlong axis) items.now }
-    requires i_among { pair.now.i < length items.now }
-    requires j_among { pair.now.j < length items.now }
-    requires low { pos 1 ≤ℤ pair.now.s }
-    requires high { pair.now.s ≤ℤ pos 4096 }
-    ensures { result ≡ space_edge axis items.now pair.now }
-{
-    let before = items[pair.i as usize].high(axis);
-    let after = items[pair.j as usize].low(axis);
-    Edge {
-        from: before.var,
-        to: after.var,
-        len: between_variables(pair.s, before.off, after.off),
-        why: Why::Space,
-    }
-}
-
-// Adds the inequality of each kept pair, in order.
-fn push_spaces(
-    edges: &mut Vec<Edge>,
+// Adds the inequalities of the kept pairs of a master, which is number `m`, if there is room for them, and counts them.
+fn add_kept_of(
+    joint: &mut Joint,
+    alloc: Global,
     axis: Axis,
-    items: &[Item],
-    pairs: &[Pair],
-) -> Result<(), AllocError>
-    requires near { All (IsNearAlong axis) items.now }
-    requires among { All (λ p. (p.i < length items.now) × (p.j < length items.now)) pairs.now }
-    requires spaced { All (λ p. (pos 1 ≤ℤ p.s) × (p.s ≤ℤ pos 4096)) pairs.now }
-    ensures { OnOk result (edges.new.items ≡ edges.old.items ++ map (space_edge axis items.now) pairs.now) }
+    tech: &Tech,
+    m: u32,
+    master: &Master,
+    layout: &Coords,
+) -> Result<u32, KeptFault>
+    requires master { IsMaster tech.now master.now }
+    requires laid { IsLaidOut tech.now master.now layout.now }
+    requires among { m < length joint.old.base }
+    requires below { All (EndsBelow (slice_index joint.old.base m) axis) master.now.items.list }
+    ensures edges { OnOk result (joint.new.edges.items ≡ joint.old.edges.items ++ own_kept_edges axis tech.now (slice_index joint.old.base m) master.now layout.now) }
+    ensures others { OnOk result (joint.new ≡ record joint.old { edges = joint.new.edges }) }
+    ensures count { IfOk result (λ count. count ≡ length (kept_of axis tech.now layout.now master.now.items.list)) }
+    ensures fault { IfErr result (RefusesKept most_edges (length joint.old.edges.items + length (kept_of axis tech.now layout.now master.now.items.list))) }
 {
-    for pair in pairs {
-        edges.push(space_edge(axis, items, pair))?;
+    if joint.edges.len() > MAX_EDGES {
+        return Err(KeptFault::TooMany);
     }
-    Ok(())
+    let room = (MAX_EDGES - joint.edges.len()) as u32;
+    master_is_lawful(tech, master);
+    let items = master.items.list.as_slice();
+    let pairs = kept(alloc, axis, tech, items, layout, room)?;
+    joint.add_kept(axis, m, &master.items, &pairs)?;
+    Ok(pairs.len() as u32)
 }
 
-/// The list of a pass over a layout: the structure of the cell on the axis, and the inequalities of the kept pairs.
+// Adds those of all masters, in order.
+fn add_all_kept(
+    joint: &mut Joint,
+    alloc: Global,
+    axis: Axis,
+    tech: &Tech,
+    masters: &[Master],
+    layouts: &[Coords],
+) -> Result<Vec<u32>, KeptFault>
+    requires each { All (IsMaster tech.now) masters.now }
+    requires lawful { All (IsLawful tech.now) masters.now }
+    requires few_masters { length masters.now ≤ 256 }
+    requires few { joint_variables axis masters.now ≤ 2 ^ 17 }
+    requires laid { AreLaidOut tech.now masters.now layouts.now }
+    requires bases { joint.old.base ≡ bases_of axis masters.now }
+    ensures edges { OnOk result (joint.new.edges.items ≡ joint.old.edges.items ++ flat_map (kept_edges_at axis tech.now masters.now layouts.now) (master_numbers masters.now)) }
+    ensures others { OnOk result (joint.new ≡ record joint.old { edges = joint.new.edges }) }
+    ensures counts { IfOk result (λ counts. counts.items ≡ kept_counts axis tech.now masters.now layouts.now) }
+    ensures fault { IfErr result (RefusesKept most_edges (length (joint.old.edges.items ++ flat_map (kept_edges_at axis tech.now masters.now layouts.now) (master_numbers masters.now)))) }
+{
+    let mut counts = Vec::new(alloc);
+    for m in 0..masters.len() as u32 {
+        let master = &masters[m as usize];
+        let layout = &layouts[m as usize];
+        counts.push(add_kept_of(joint, alloc, axis, tech, m, master, layout)?)?;
+    }
+    Ok(counts)
+}
+
+/// The list of a pass over some layouts: what holds whatever they are, and the inequalities of the kept pairs of each master.
+/// The pairs of a master are found once, whatever the number of its instances.
 pub fn list(
     alloc: Global,
     axis: Axis,
     tech: &Tech,
-    master: &Master,
-    layout: &Coords,
-) -> Result<Listed, ListFault>
-    requires master { IsMaster tech.now master.now }
-    requires laid { IsLaidOut tech.now master.now layout.now }
-    ensures vars { IfOk result (λ l. l.graph.vars ≡ variables_of axis master.now.cell) }
-    ensures edges { IfOk result (λ l. l.graph.edges ≡ list_over axis tech.now master.now.cell master.now.items.list layout.now) }
+    plan: &Plan,
+    masters: &[Master],
+    layouts: &[Coords],
+) -> Result<Listed, KeptFault>
+    requires planned { ArePlanned tech.now plan.now masters.now }
+    requires laid { AreLaidOut tech.now masters.now layouts.now }
+    ensures vars { IfOk result (λ l. l.graph.vars ≡ joint_variables axis masters.now) }
+    ensures edges { IfOk result (λ l. l.graph.edges ≡ list_over axis tech.now plan.now masters.now layouts.now) }
     ensures few { IfOk result (λ l. length l.graph.edges ≤ most_edges) }
     ensures shape { IfOk result (λ l. IsConstraintGraph l.graph) }
-    ensures kept { IfOk result (λ l. l.kept ≡ length (kept_of axis tech.now layout.now master.now.items.list)) }
-    ensures fault { IfErr result (RefusesList (length (list_over axis tech.now master.now.cell master.now.items.list layout.now))) }
+    ensures kept { IfOk result (λ l. l.kept.items ≡ kept_counts axis tech.now masters.now layouts.now) }
+    ensures bases { IfOk result (λ l. l.base ≡ bases_of axis masters.now) }
+    ensures names { IfOk result (λ l. l.names ≡ joint_names axis masters.now) }
+    ensures named { IfOk result (λ l. length l.names ≡ l.graph.vars) }
+    ensures fault { IfErr result (RefusesKept most_edges (length (list_over axis tech.now plan.now masters.now layouts.now))) }
 {
-    let items = master.items.list.as_slice();
-    master_is_lawful(tech, master);
-    let mut edges = structure(alloc, axis, tech, master)?;
-    if edges.len() > MAX_EDGES {
-        return Err(ListFault::TooManyEdges);
-    }
-    let room = (MAX_EDGES - edges.len()) as u32;
-    let pairs = match kept(alloc, axis, tech, items, layout, room) {
-        Ok(pairs) => pairs,
-        Err(KeptFault::TooMany) => return Err(ListFault::TooManyEdges),
-        Err(KeptFault::OutOfMemory) => return Err(ListFault::OutOfMemory),
-    };
-    push_spaces(&mut edges, axis, items, &pairs)?;
-    let count = pairs.len() as u32;
-    match Graph::new(master.items.vars(axis), edges) {
-        Ok(graph) => Ok(Listed { graph, kept: count }),
-        Err(GraphFault::TooManyEdges) => Err(ListFault::TooManyEdges),
+    masters_are_lawful(tech, masters);
+    let mut joint = join(alloc, axis, tech, plan, masters)?;
+    let kept = add_all_kept(&mut joint, alloc, axis, tech, masters, layouts)?;
+    let Joint {
+        vars,
+        base,
+        edges,
+        names,
+    } = joint;
+    match Graph::new(vars, edges) {
+        Ok(graph) => Ok(Listed {
+            graph,
+            kept,
+            base,
+            names,
+        }),
+        Err(GraphFault::TooManyEdges) => Err(KeptFault::TooMany),
     }
 }

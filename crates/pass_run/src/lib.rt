@@ -1,20 +1,18 @@
-//! The passes of a cell: its least layout on one axis after another.
+//! The passes of a plan: the least layouts of all its masters on one axis after another.
 //!
-//! What the layer above uses: `run_passes` gives after each pass the least values of its axis that meet the structure of a
-//! cell and keep every candidate of the layout before it apart, with the critical path of the cell's size, or the text of a
-//! positive cycle exactly where there is one. Lengths are in u.
+//! What the layer above uses: `run_passes` gives after each pass the least values of its axis that meet the structure of each
+//! master and what the plan asks of its neighbours, and keep every candidate of the layouts before it apart, with the critical
+//! path of each master's size; or the text of a positive cycle exactly where there is one. Lengths are in u.
 #![tactic(auto)]
 
 mod edges;
 mod laws;
-mod names;
+mod layouts;
 mod pass;
 mod passes;
 mod step;
 mod text;
 
-pub use laws::{
-    meeting_is_solving, meeting_stays_laid_out, passes_are_determined, refusals_are_determined,
-};
+pub use laws::{meeting_stays_laid_out, passes_are_determined, refusals_are_determined};
 pub use passes::{PassFault, Passes, run_passes};
 pub use step::{Step, Walk};

@@ -1,41 +1,46 @@
-//! One pass over a layout.
+//! One pass over some layouts.
 
-ghost use Rattle.std.specs.Prelude.{◌≡◌, ◌<◌, ◌≤◌, ◌^◌, ◌∷◌, [], List, length, IfOk, IfErr};
+ghost use Rattle.std.specs.Prelude.{◌≡◌, ◌<◌, ◌≤◌, ◌^◌, ◌∷◌, List, length, map, All, IfOk, IfErr};
 ghost use Rattle.lam_geom.specs.declared.boxes.Axis.{Axis as SomeAxis};
 ghost use Rattle.round_log.specs.Logs.{IsEndedLog};
 ghost use Rattle.round_log.specs.Orders.{NamesEachOnce};
 ghost use Rattle.cons_graph.specs.Solutions.{value_of};
 ghost use Rattle.liao_wong.specs.Sorted.{IsInOrderOf};
-ghost use Rattle.cell_model.specs.Sound.{IsLight};
 ghost use Rattle.expand.specs.Masters.{IsMaster};
-ghost use Rattle.expand.specs.Variables.{variables_of};
-ghost use Rattle.sym_items.specs.Transposed.{values_along};
+ghost use Rattle.pitch_join.specs.Masters.{ArePlanned};
+ghost use Rattle.pitch_join.specs.Names.{joint_names};
+ghost use Rattle.pitch_join.specs.Joined.{bases_of, joint_variables, list_over};
 ghost use Rattle.pass_run.specs.declared.pass.Stop.TheVariants.{OutOfMemory};
-ghost use Rattle.pass_run.specs.System.{list_over};
-ghost use Rattle.pass_run.specs.Passes.{moved_by, IsLeastPass, IsRecorded};
+ghost use Rattle.pass_run.specs.Layouts.{joint_values, moved_by};
+ghost use Rattle.pass_run.specs.Passes.{IsLeastPass, IsRecorded};
 ghost use Rattle.pass_run.specs.Report.{pass_text};
 ghost use Rattle.pass_run.specs.Theorems.{IsSoundPass};
-ghost use Rattle.pass_run.specs.Laid.{IsLaidOut, IsSettled};
+ghost use Rattle.pass_run.specs.Laid.{AreLaidOut, AreSettled};
 ghost use Rattle.pass_run.specs.OnePass.{StopsPass, IsFirstOn};
-ghost use Rattle.pass_run.specs.OneStep.{step_of, HasPath, stop_of};
+ghost use Rattle.pass_run.specs.OneStep.{step_of, walks_to, HasPath, stop_of};
 
-use crate::edges::{ListFault, Listed, list};
+use crate::edges::{Listed, list};
+use crate::laws::masters_are_lawful;
+use crate::layouts::{joint_values, moved_by};
 use crate::step::{Step, Walk};
 use crate::text::{cycle_text, pass_text};
-use cell_model::Cell;
 use crit_path::walk_to;
-use expand::{Master, master_is_lawful};
+use expand::Master;
 use lam_geom::Axis;
 use lam_list::Seq;
 use liao_wong::{Solved, Unsolved, solve, sort_order};
+use plan_model::Plan;
+use round_log::Log;
 use rule_table::Tech;
+use shadow_prune::KeptFault;
 use std::alloc::{AllocError, Global};
 use sym_items::Coords;
 
-/// A pass that was made, and its text in the report.
+/// A pass that was made, the layouts after it, and its text in the report.
 #[derive(Debug, Drop)]
 pub struct Made {
     pub step: Step,
+    pub layouts: Vec<Coords>,
     pub text: Vec<u8>,
 }
 
@@ -57,110 +62,130 @@ impl From<AllocError> for Stop {
     }
 }
 
-impl From<ListFault> for Stop {
+impl From<KeptFault> for Stop {
     ghost from_gives = { λ fault stop. stop ≡ stop_of fault };
 
-    fn from(fault: ListFault) -> Stop {
+    fn from(fault: KeptFault) -> Stop {
         match fault {
-            ListFault::TooManyEdges => Stop::TooManyEdges,
-            ListFault::OutOfMemory => Stop::OutOfMemory,
+            KeptFault::TooMany => Stop::TooManyEdges,
+            KeptFault::OutOfMemory => Stop::OutOfMemory,
         }
     }
 }
 
-// The variables of an axis in order of their values in the layout.
-fn order_along(alloc: Global, axis: Axis, layout: &Coords) -> Result<Vec<u32>, AllocError>
-    requires few { length (values_along axis layout.now) < 2 ^ 32 }
-    ensures names { IfOk result (λ order. NamesEachOnce (length (values_along axis layout.now)) order.items) }
-    ensures in_order { IfOk result (λ order. IsInOrderOf (value_of (values_along axis layout.now)) order.items) }
+// The joint variables of an axis in order of their values in the layouts.
+fn order_along(alloc: Global, axis: Axis, layouts: &[Coords]) -> Result<Vec<u32>, AllocError>
+    requires few { length (joint_values axis layouts.now) < 2 ^ 32 }
+    ensures names { IfOk result (λ order. NamesEachOnce (length (joint_values axis layouts.now)) order.items) }
+    ensures in_order { IfOk result (λ order. IsInOrderOf (value_of (joint_values axis layouts.now)) order.items) }
 {
-    sort_order(alloc, layout.values(axis))
+    let values = joint_values(alloc, axis, layouts)?;
+    sort_order(alloc, &values)
 }
 
-// A list of one element.
-fn one<T: Drop>(alloc: Global, element: T) -> Result<Seq<T>, AllocError>
-    ensures { IfOk result (λ list. list ≡ element ∷ []) }
+// The walks that the log of ended rounds has to some far borders.
+fn walks_to(alloc: Global, listed: &Listed, log: &Log) -> Result<Vec<Walk>, AllocError>
+    requires ended { IsEndedLog listed.now.graph log.now }
+    requires among { All (λ far. far < listed.now.graph.vars) listed.now.base }
+    ensures value { IfOk result (λ walks. walks.items ≡ walks_to log.now listed.now.base) }
+    ensures paths { IfOk result (λ _. All (HasPath listed.now.graph.edges log.now) listed.now.base) }
 {
-    let mut elements = Vec::new(alloc);
-    elements.push(element)?;
-    Ok(Seq::from_vec(elements))
+    let mut walks = Vec::new(alloc);
+    for far in listed.base.as_slice() {
+        let edges = walk_to(alloc, &listed.graph, log, *far)?;
+        walks.push(Walk {
+            edges: Seq::from_vec(edges),
+        })?;
+    }
+    Ok(walks)
 }
 
-// The step of a solved pass: what the rounds give, and the walk that their log has to the far border, which is variable 1.
+// The step of a solved pass: what the rounds give, and the walks that their log has to the far borders.
 fn step_from(alloc: Global, axis: Axis, listed: &Listed, solved: Solved) -> Result<Step, AllocError>
     requires ended { IsEndedLog listed.now.graph solved.log }
-    requires far { 1 < listed.now.graph.vars }
+    requires among { All (λ far. far < listed.now.graph.vars) listed.now.base }
     ensures value { IfOk result (λ s. s ≡ step_of axis listed.now solved) }
-    ensures path { IfOk result (λ _. HasPath listed.now.graph.edges solved.log) }
+    ensures paths { IfOk result (λ _. All (HasPath listed.now.graph.edges solved.log) listed.now.base) }
 {
-    let edges = walk_to(alloc, &listed.graph, &solved.log, 1)?;
-    let walk = Walk {
-        edges: Seq::from_vec(edges),
-    };
+    let walks = walks_to(alloc, listed, &solved.log)?;
     Ok(Step {
         axis,
         x: solved.x,
-        kept: one(alloc, listed.kept)?,
+        kept: Seq::from_vec(Vec::from_slice(alloc, &listed.kept)?),
         edges: listed.graph.edges().len() as u32,
         backward: solved.backward,
         rounds: solved.rounds,
-        walks: one(alloc, walk)?,
+        walks: Seq::from_vec(walks),
     })
 }
-
-// A solved pass, and its text.
-fn with_text(
+// A solved pass, the layouts after it, and its text.
+fn made_of(
     alloc: Global,
-    cell: &Cell,
+    tech: &Tech,
+    masters: &[Master],
+    before: &[Coords],
     pass: u32,
     axis: Axis,
     listed: &Listed,
     solved: Solved,
 ) -> Result<Made, AllocError>
-    requires light { IsLight cell.now }
-    requires vars { listed.now.graph.vars ≡ variables_of axis cell.now }
+    requires each { All (IsMaster tech.now) masters.now }
+    requires few { length masters.now ≤ 256 }
+    requires counted { length before.now ≡ length masters.now }
+    requires vars { listed.now.graph.vars ≡ joint_variables axis masters.now }
+    requires bases { listed.now.base ≡ bases_of axis masters.now }
+    requires names { listed.now.names ≡ joint_names axis masters.now }
+    requires named { length listed.now.names ≡ listed.now.graph.vars }
     requires ended { IsEndedLog listed.now.graph solved.log }
+    requires one_each { length solved.x ≡ listed.now.graph.vars }
     ensures step { IfOk result (λ m. m.step ≡ step_of axis listed.now solved) }
-    ensures path { IfOk result (λ _. HasPath listed.now.graph.edges solved.log) }
-    ensures text { IfOk result (λ m. m.text.items ≡ pass_text cell.now listed.now.graph.edges pass m.step) }
+    ensures paths { IfOk result (λ _. All (HasPath listed.now.graph.edges solved.log) listed.now.base) }
+    ensures layouts { IfOk result (λ m. m.layouts.items ≡ moved_by masters.now before.now m.step) }
+    ensures text { IfOk result (λ m. m.text.items ≡ pass_text masters.now listed.now.graph.edges pass m.step) }
 {
     let step = step_from(alloc, axis, listed, solved)?;
-    let text = pass_text(alloc, cell, &listed.graph, pass, &step)?;
-    Ok(Made { step, text })
+    let layouts = moved_by(alloc, tech, masters, before, listed.base.as_slice(), &step)?;
+    let text = pass_text(alloc, masters, listed, pass, &step)?;
+    Ok(Made {
+        step,
+        layouts,
+        text,
+    })
 }
 
-/// The pass with this number on an axis, over the layout before it: the least values of the axis, by Liao and Wong's
-/// rounds over the listed inequalities in order of the values before.
+/// The pass with this number on an axis, over the layouts before it: the least values of the axis for all masters, by Liao and
+/// Wong's rounds over the listed inequalities in order of the values before.
 pub fn one_pass(
     alloc: Global,
     tech: &Tech,
-    master: &Master,
+    plan: &Plan,
+    masters: &[Master],
     pass: u32,
     axis: Axis,
-    layout: &Coords,
+    before: &[Coords],
 ) -> Result<Made, Stop>
-    requires master { IsMaster tech.now master.now }
-    requires laid { IsLaidOut tech.now master.now layout.now }
+    requires planned { ArePlanned tech.now plan.now masters.now }
+    requires laid { AreLaidOut tech.now masters.now before.now }
     ensures axis { IfOk result (λ m. m.step.axis ≡ axis) }
-    ensures least { IfOk result (λ m. IsLeastPass tech.now master.now.cell master.now.items.list layout.now m.step) }
-    ensures recorded { IfOk result (λ m. IsRecorded tech.now master.now.cell master.now.items.list layout.now m.step) }
-    ensures sound_pass { IfOk result (λ m. (had : List SomeAxis) → IsSettled tech.now master.now had layout.now
-        → IsSoundPass tech.now master.now.cell master.now.items.list had layout.now m.step) }
-    ensures laid { IfOk result (λ m. IsLaidOut tech.now master.now (moved_by layout.now m.step)) }
-    ensures settled { IfOk result (λ m. (had : List SomeAxis) → IsSettled tech.now master.now had layout.now
-        → IsSettled tech.now master.now (axis ∷ had) (moved_by layout.now m.step)) }
-    ensures text { IfOk result (λ m. m.text.items ≡ pass_text master.now.cell (list_over axis tech.now master.now.cell master.now.items.list layout.now) pass m.step) }
-    ensures stopped { IfErr result (StopsPass tech.now master.now.cell master.now.items.list layout.now pass axis) }
-    ensures first { IfErr result (IsFirstOn tech.now master.now layout.now axis) }
+    ensures least { IfOk result (λ m. IsLeastPass tech.now plan.now masters.now before.now m.step) }
+    ensures recorded { IfOk result (λ m. IsRecorded tech.now plan.now masters.now before.now m.step) }
+    ensures sound_pass { IfOk result (λ m. (had : List SomeAxis) → AreSettled tech.now plan.now masters.now had before.now
+        → IsSoundPass tech.now plan.now masters.now had before.now m.step) }
+    ensures layouts { IfOk result (λ m. m.layouts.items ≡ moved_by masters.now before.now m.step) }
+    ensures laid { IfOk result (λ m. AreLaidOut tech.now masters.now (moved_by masters.now before.now m.step)) }
+    ensures settled { IfOk result (λ m. (had : List SomeAxis) → AreSettled tech.now plan.now masters.now had before.now
+        → AreSettled tech.now plan.now masters.now (axis ∷ had) (moved_by masters.now before.now m.step)) }
+    ensures text { IfOk result (λ m. m.text.items ≡ pass_text masters.now (list_over axis tech.now plan.now masters.now before.now) pass m.step) }
+    ensures stopped { IfErr result (StopsPass tech.now plan.now masters.now before.now pass axis) }
+    ensures first { IfErr result (IsFirstOn tech.now plan.now masters.now before.now axis) }
 {
-    master_is_lawful(tech, master);
-    let listed = list(alloc, axis, tech, master, layout)?;
-    let order = order_along(alloc, axis, layout)?;
+    masters_are_lawful(tech, masters);
+    let listed = list(alloc, axis, tech, plan, masters, before)?;
+    let order = order_along(alloc, axis, before)?;
     match solve(alloc, &listed.graph, &order) {
-        Ok(solved) => Ok(with_text(alloc, &master.cell, pass, axis, &listed, solved)?),
+        Ok(solved) => Ok(made_of(alloc, tech, masters, before, pass, axis, &listed, solved)?),
         Err(Unsolved::Cycle(cycle)) => {
-            let cycle = cycle.as_slice();
-            let text = cycle_text(alloc, &master.cell, &listed.graph, pass, axis, cycle)?;
+            let text = cycle_text(alloc, &listed, pass, axis, cycle.as_slice())?;
             Err(Stop::Cycle(text))
         }
         Err(Unsolved::OutOfMemory) => Err(Stop::OutOfMemory),

@@ -1,19 +1,22 @@
 //! The texts of a report.
 
-ghost use Rattle.std.specs.Prelude.{◌≡◌, ◌<◌, ◌≤◌, ◌^◌, ◌++◌, ◌∷◌, [], length, decimal, slice_index, All, OnOk, IfOk};
+ghost use Rattle.std.specs.Prelude.{◌≡◌, ◌<◌, ◌≤◌, ◌^◌, ◌++◌, ◌∷◌, [], codes, length, decimal, slice_index, All, OnOk, IfOk};
 ghost use Rattle.std.specs.Fmt.{signed_decimal};
-ghost use Rattle.cons_graph.specs.SimpleWalks.{IsSimplePositiveCycle};
+ghost use Rattle.cons_graph.specs.SimpleWalks.{length_of, IsSimplePositiveCycle};
 ghost use Rattle.cons_graph.specs.Solutions.{value_of};
-ghost use Rattle.cell_model.specs.Sound.{IsLight};
-ghost use Rattle.expand.specs.Variables.{variables_of};
-ghost use Rattle.pass_run.specs.Report.{letter, pass_head, count_line, size_line, walk_in, pass_text, cycle_text};
+ghost use Rattle.pitch_join.specs.Masters.{master_at};
+ghost use Rattle.pitch_join.specs.Names.{joint_names};
+ghost use Rattle.pitch_join.specs.Joined.{bases_of};
+ghost use Rattle.pass_run.specs.declared.step.Walk.{Walk as SomeWalk};
+ghost use Rattle.pass_run.specs.Report.{letter, pass_head, count_line, size_line, walk_at, size_at, master_text, pass_text, cycle_text};
 
-use crate::names::names;
+use crate::edges::Listed;
 use crate::step::Step;
 use cell_model::Cell;
 use cons_graph::Graph;
 use crit_path::walk_lines;
 use cycle_show::cycle_lines;
+use expand::Master;
 use lam_geom::Axis;
 use std::alloc::{AllocError, Global};
 use stick_lex::{push_decimal, push_signed_decimal};
@@ -65,94 +68,132 @@ fn push_counts(text: &mut Vec<u8>, edges: u32, backward: u32, rounds: u32) -> Re
     Ok(())
 }
 
-// Adds the line of the size of a cell, in u, and its number of kept pairs.
-fn push_size(text: &mut Vec<u8>, cell: &Cell, size: i64, kept: u32) -> Result<(), AllocError>
-    ensures { OnOk result (text.new.items ≡ text.old.items ++ size_line cell.now size kept) }
+// A value after a pass, in u.
+fn value(step: &Step, var: u32) -> i64
+    ensures { result ≡ value_of step.now.x var }
 {
-    text.extend_from_slice(b"cell ")?;
-    text.extend_from_slice(cell.name.bytes())?;
-    push_len(text, b" size ", size)?;
-    push_count(text, b" kept ", kept)?;
-    text.push(b'\n')?;
-    Ok(())
-}
-
-// The value of the far border after a pass, in u.
-fn size(step: &Step) -> i64
-    ensures { result ≡ value_of step.now.x 1 }
-{
-    match step.x.as_slice().get(1) {
-        Some(size) => *size,
+    match step.x.as_slice().get(var as usize) {
+        Some(value) => *value,
         None => 0,
     }
 }
 
-// The number of kept pairs of a pass.
-fn kept(step: &Step) -> u32
-    ensures { result ≡ slice_index step.now.kept 0 }
+// The number of kept pairs of master `m` in a pass.
+fn kept(step: &Step, m: u32) -> u32
+    ensures { result ≡ slice_index step.now.kept m }
 {
-    match step.kept.as_slice().first() {
+    match step.kept.as_slice().get(m as usize) {
         Some(kept) => *kept,
         None => 0,
     }
 }
 
-// The edges of a pass' walk to the far border.
-fn walk_in(step: &Step) -> &[u32]
-    ensures { result.now ≡ walk_in step.now }
+// Adds the line of the size of a cell after a pass, which is the value of its far border, and of its number of kept pairs.
+fn push_size(
+    text: &mut Vec<u8>,
+    cell: &Cell,
+    step: &Step,
+    far: u32,
+    m: u32,
+) -> Result<(), AllocError>
+    ensures { OnOk result (text.new.items ≡ text.old.items ++ size_line cell.now (value_of step.now.x far) (slice_index step.now.kept m)) }
 {
-    match step.walks.as_slice().first() {
+    text.extend_from_slice(b"cell ")?;
+    text.extend_from_slice(cell.name.bytes())?;
+    push_len(text, b" size ", value(step, far))?;
+    push_count(text, b" kept ", kept(step, m))?;
+    text.push(b'\n')?;
+    Ok(())
+}
+
+// The inequalities of a pass' walk to the far border of master `m`.
+fn walk_at(step: &Step, m: u32) -> &[u32]
+    ensures { result.now ≡ (walk_at step.now m).edges }
+{
+    match step.walks.as_slice().get(m as usize) {
         Some(walk) => walk.edges.as_slice(),
         None => &[],
     }
 }
 
-/// The text of a pass with this number: its counts, the size of the cell, and the lines of its critical path. The only
-/// refusal is want of memory.
+// Adds the text of master `m` in a pass.
+fn push_master(
+    text: &mut Vec<u8>,
+    alloc: Global,
+    masters: &[Master],
+    listed: &Listed,
+    step: &Step,
+    m: u32,
+) -> Result<(), AllocError>
+    requires among { m < length masters.now }
+    requires bases { listed.now.base ≡ bases_of step.now.axis masters.now }
+    requires names { listed.now.names ≡ joint_names step.now.axis masters.now }
+    requires named { length listed.now.names ≡ listed.now.graph.vars }
+    requires walk { All (λ k. k < length listed.now.graph.edges) (walk_at step.now m).edges }
+    ensures { OnOk result (text.new.items ≡ text.old.items ++ master_text masters.now listed.now.graph.edges step.now m) }
+{
+    let master = &masters[m as usize];
+    let far = listed.base.as_slice()[m as usize];
+    let lines = walk_lines(alloc, &listed.graph, &listed.names, walk_at(step, m))?;
+    push_size(text, &master.cell, step, far, m)?;
+    text.extend_from_slice(lines.bytes())?;
+    Ok(())
+}
+
+/// The text of a pass with this number: its counts, and for each master its size and the lines of its critical path. The
+/// only refusal is want of memory.
 pub fn pass_text(
     alloc: Global,
-    cell: &Cell,
-    graph: &Graph,
+    masters: &[Master],
+    listed: &Listed,
     pass: u32,
     step: &Step,
 ) -> Result<Vec<u8>, AllocError>
-    requires light { IsLight cell.now }
-    requires vars { graph.now.vars ≡ variables_of step.now.axis cell.now }
-    requires walk { All (λ k. k < length graph.now.edges) (walk_in step.now) }
-    ensures { IfOk result (λ text. text.items ≡ pass_text cell.now graph.now.edges pass step.now) }
+    requires few { length masters.now < 2 ^ 32 }
+    requires bases { listed.now.base ≡ bases_of step.now.axis masters.now }
+    requires names { listed.now.names ≡ joint_names step.now.axis masters.now }
+    requires named { length listed.now.names ≡ listed.now.graph.vars }
+    requires walks { All (λ (walk : SomeWalk). All (λ k. k < length listed.now.graph.edges) walk.edges) step.now.walks }
+    ensures { IfOk result (λ text. text.items ≡ pass_text masters.now listed.now.graph.edges pass step.now) }
 {
-    let names = names(alloc, step.axis, cell)?;
-    let lines = walk_lines(alloc, graph, &names, walk_in(step))?;
     let mut text = Vec::new(alloc);
     push_head(&mut text, pass, step.axis)?;
     push_counts(&mut text, step.edges, step.backward, step.rounds)?;
-    push_size(&mut text, cell, size(step), kept(step))?;
-    text.extend_from_slice(lines.bytes())?;
+    for m in 0..masters.len() as u32 {
+        push_master(&mut text, alloc, masters, listed, step, m)?;
+    }
     Ok(text)
+}
+
+// Adds the length of a cycle, in u, to the end of its line.
+fn push_cycle_len(text: &mut Vec<u8>, graph: &Graph, cycle: &[u32]) -> Result<(), AllocError>
+    requires in_range { All (λ k. k < length graph.now.edges) cycle.now }
+    requires few { length cycle.now ≤ 2 ^ 17 }
+    ensures { OnOk result (text.new.items ≡ text.old.items ++ (codes " unsatisfiable length " ++ (signed_decimal (length_of graph.now.edges cycle.now) ++ codes "\n"))) }
+{
+    push_len(text, b" unsatisfiable length ", graph.walk_len(cycle))?;
+    text.push(b'\n')?;
+    Ok(())
 }
 
 /// The text of a positive cycle of a pass: its length in u, and the lines of its edges. The only refusal is want of
 /// memory.
 pub fn cycle_text(
     alloc: Global,
-    cell: &Cell,
-    graph: &Graph,
+    listed: &Listed,
     pass: u32,
     axis: Axis,
     cycle: &[u32],
 ) -> Result<Vec<u8>, AllocError>
-    requires light { IsLight cell.now }
-    requires vars { graph.now.vars ≡ variables_of axis cell.now }
-    requires passes { IsSimplePositiveCycle graph.now.edges cycle.now }
+    requires named { length listed.now.names ≡ listed.now.graph.vars }
+    requires passes { IsSimplePositiveCycle listed.now.graph.edges cycle.now }
     requires few { length cycle.now ≤ 2 ^ 17 }
-    ensures { IfOk result (λ text. text.items ≡ cycle_text cell.now graph.now.edges pass axis cycle.now) }
+    ensures { IfOk result (λ text. text.items ≡ cycle_text listed.now.names listed.now.graph.edges pass axis cycle.now) }
 {
-    let names = names(alloc, axis, cell)?;
-    let lines = cycle_lines(alloc, graph, &names, cycle)?;
+    let lines = cycle_lines(alloc, &listed.graph, &listed.names, cycle)?;
     let mut text = Vec::new(alloc);
     push_head(&mut text, pass, axis)?;
-    push_len(&mut text, b" unsatisfiable length ", graph.walk_len(cycle))?;
-    text.push(b'\n')?;
+    push_cycle_len(&mut text, &listed.graph, cycle)?;
     text.extend_from_slice(lines.bytes())?;
     Ok(text)
 }

@@ -1,4 +1,4 @@
-use Rattle.std.proofs.Common.{◌≡◌, ℕ, List, ◌∷◌, length, sym, ap, ◌∙◌, subst}
+use Rattle.std.proofs.Common.{◌≡◌, ℕ, List, ◌∷◌, length, sym, ap, ◌∙◌, subst, arith}
 use Rattle.lam_geom.specs.declared.boxes.Axis.{Axis}
 use Rattle.round_log.specs.Orders.{IsOrder}
 use Rattle.round_log.specs.Looks.{backward_numbers}
@@ -9,29 +9,38 @@ use Rattle.cons_graph.specs.Walks.{HasPositiveCycle}
 use Rattle.liao_wong.specs.declared.solving.Unsolved.{Unsolved}
 use Rattle.liao_wong.specs.Answers.{IfCycle, IsCycleOf}
 use Rattle.pass_run.specs.declared.step.Step.{Step}
-use Rattle.pass_run.specs.Passes.{moved_by, IsLeastPass, IsRecorded}
+use Rattle.pass_run.specs.Layouts.{moved_by}
+use Rattle.pass_run.specs.Passes.{IsLeastPass, IsRecorded}
 use Rattle.pass_run.specs.Report.{pass_text, cycle_text}
 use Rattle.pass_run.specs.Theorems.{IsSoundPass}
-use Rattle.pass_run.specs.Laid.{IsLaidOut, IsSettled}
+use Rattle.pass_run.specs.Laid.{AreLaidOut, AreSettled}
 use Rattle.pass_run.specs.OneStep.{step_of}
 use Rattle.pass_run.proofs.Solved.{IsSolvedPass, IsStoppedPass, order_of, cycle_few, least_pass, recorded, sound_pass, laid_next, settled_next, stopped, stopped_first}
+use Rattle.pass_run.proofs.Values.{joint_length}
 use Rattle.pass_run.proofs.pass.one_pass.Goals as goal
+
+pub order_along-requires : goal.order_along-requires
+order_along-requires c =
+    let count = joint_length c.args.axis c.args.tech.now c.args.masters.now c.args.before.now c.requires.laid in
+    let vars = c.in_ok-listed.ensures.vars in
+    let few = c.in_ok-listed.ensures.shape.few_vars in
+    omega arith
 
 pub solve-requires : goal.solve-requires
 solve-requires c =
     let O : List ℕ → Type 0 = λ ns. IsOrder c.in_ok-listed.listed.graph.vars ns in
     subst O (sym c.deref.ensures.value)
-    (order_of c.args.axis c.args.tech.now c.args.master.now c.args.layout.now c.in_ok-listed.listed.graph.vars c.in_ok-order.order.items c.requires.laid c.in_ok-listed.ensures.vars
+    (order_of c.args.axis c.args.tech.now c.args.plan.now c.args.masters.now c.args.before.now c.in_ok-listed.listed.graph.vars c.in_ok-order.order.items c.requires.planned c.requires.laid c.in_ok-listed.ensures.vars
     c.in_ok-order.ensures.names c.in_ok-order.ensures.in_order)
 
-pub with_text-requires-clause-ended : goal.with_text-requires-clause-ended
-with_text-requires-clause-ended c =
+pub made_of-requires-clause-ended : goal.made_of-requires-clause-ended
+made_of-requires-clause-ended c =
     let O : List ℕ → Type 0 = λ ns. IsOrder c.in_ok-listed.listed.graph.vars ns in
     record {
       order = c.deref.result.now;
       rounds = c.in-Ok.solved.rounds;
       is_order = subst O (sym c.deref.ensures.value)
-          (order_of c.args.axis c.args.tech.now c.args.master.now c.args.layout.now c.in_ok-listed.listed.graph.vars c.in_ok-order.order.items c.requires.laid
+          (order_of c.args.axis c.args.tech.now c.args.plan.now c.args.masters.now c.args.before.now c.in_ok-listed.listed.graph.vars c.in_ok-order.order.items c.requires.planned c.requires.laid
           c.in_ok-listed.ensures.vars c.in_ok-order.ensures.names c.in_ok-order.ensures.in_order);
       holds = c.in-Ok.ensures.log;
       ended = c.in-Ok.ensures.ended;
@@ -40,21 +49,23 @@ with_text-requires-clause-ended c =
 pub returns-in-Ok : goal.returns-in-Ok
 returns-in-Ok c =
     let tech = c.args.tech.now in
-    let master = c.args.master.now in
-    let lawful = c.master_is_lawful.ensures in
-    let layout = c.args.layout.now in
+    let plan = c.args.plan.now in
+    let masters = c.args.masters.now in
+    let lawful = c.masters_are_lawful.ensures in
+    let before = c.args.before.now in
     let axis = c.args.axis in
     let listed = c.in_ok-listed.listed in
     let solved = c.in-Ok.solved in
     let order = c.in_ok-order.order.items in
-    let step = c.in_ok-with_text-in-Ok.field-0.step in
+    let step = c.in_ok-made_of-in-Ok.field-0.step in
     let B : List ℕ → Type 0 = λ ns. solved.backward ≡ length (backward_numbers listed.graph.edges ns) in
     let E : List ℕ → Type 0 = λ ns. EndsInRound (plan_of listed.graph.edges ns) solved.rounds (raises_in solved.log) in
-    let run : IsSolvedPass axis tech master layout listed order solved = record {
+    let run : IsSolvedPass axis tech plan masters before listed order solved = record {
       vars = c.in_ok-listed.ensures.vars;
       edges = c.in_ok-listed.ensures.edges;
       few = c.in_ok-listed.ensures.few;
       kept = c.in_ok-listed.ensures.kept;
+      bases = c.in_ok-listed.ensures.bases;
       names = c.in_ok-order.ensures.names;
       in_order = c.in_ok-order.ensures.in_order;
       least = c.in-Ok.ensures.least;
@@ -63,22 +74,23 @@ returns-in-Ok c =
       backward = subst B c.deref.ensures.value c.in-Ok.ensures.backward;
       ended = subst E c.deref.ensures.value c.in-Ok.ensures.ended;
       labels = c.in-Ok.ensures.labels;
-      path = c.in_ok-with_text-in-Ok.ensures.path;
+      paths = c.in_ok-made_of-in-Ok.ensures.paths;
     } in
-    let is : step_of axis listed solved ≡ step = sym c.in_ok-with_text-in-Ok.ensures.step in
-    let L : Step → Type 0 = λ s. IsLeastPass tech master.cell master.items.list layout s in
-    let R : Step → Type 0 = λ s. IsRecorded tech master.cell master.items.list layout s in
-    let S : Step → Type 0 = λ s. (had : List Axis) → IsSettled tech master had layout → IsSoundPass tech master.cell master.items.list had layout s in
-    let O : Step → Type 0 = λ s. IsLaidOut tech master (moved_by layout s) in
-    let T : Step → Type 0 = λ s. (had : List Axis) → IsSettled tech master had layout → IsSettled tech master (axis ∷ had) (moved_by layout s) in
+    let is : step_of axis listed solved ≡ step = sym c.in_ok-made_of-in-Ok.ensures.step in
+    let L : Step → Type 0 = λ s. IsLeastPass tech plan masters before s in
+    let R : Step → Type 0 = λ s. IsRecorded tech plan masters before s in
+    let S : Step → Type 0 = λ s. (had : List Axis) → AreSettled tech plan masters had before → IsSoundPass tech plan masters had before s in
+    let O : Step → Type 0 = λ s. AreLaidOut tech masters (moved_by masters before s) in
+    let T : Step → Type 0 = λ s. (had : List Axis) → AreSettled tech plan masters had before → AreSettled tech plan masters (axis ∷ had) (moved_by masters before s) in
     record {
       axis = ap (λ (s : Step). s.axis) (sym is);
-      least = subst L is (least_pass axis tech master layout listed order solved lawful c.requires.laid run);
-      recorded = subst R is (recorded axis tech master layout listed order solved c.requires.laid run);
-      sound_pass = subst S is (sound_pass axis tech master layout listed order solved lawful c.requires.laid run);
-      laid = subst O is (laid_next axis tech master layout listed order solved lawful c.requires.laid run);
-      settled = subst T is (settled_next axis tech master layout listed order solved lawful run);
-      text = c.in_ok-with_text-in-Ok.ensures.text ∙ ap (λ es. pass_text master.cell es c.args.pass step) c.in_ok-listed.ensures.edges;
+      least = subst L is (least_pass axis tech plan masters before listed order solved lawful c.requires.laid run);
+      recorded = subst R is (recorded axis tech plan masters before listed order solved c.requires.laid run);
+      sound_pass = subst S is (sound_pass axis tech plan masters before listed order solved c.requires.planned lawful c.requires.laid run);
+      layouts = c.in_ok-made_of-in-Ok.ensures.layouts;
+      laid = subst O is (laid_next axis tech plan masters before listed order solved lawful c.requires.laid run);
+      settled = subst T is (settled_next axis tech plan masters before listed order solved c.requires.planned lawful c.requires.laid run);
+      text = c.in_ok-made_of-in-Ok.ensures.text ∙ ap (λ es. pass_text masters es c.args.pass step) c.in_ok-listed.ensures.edges;
       stopped = tt;
       first = tt;
     }
@@ -88,13 +100,14 @@ cycle_text-requires-clause-few c =
     let g = c.in_ok-listed.listed.graph in
     let P : List ℕ → Type 0 = λ ns. IsSimplePositiveCycle g.edges ns in
     let I : Unsolved → Type 0 = λ u. IfCycle u P in
-    cycle_few g c.as_slice-cycle.result.now c.in_ok-listed.ensures.shape (subst P (sym c.as_slice-cycle.ensures) (subst I c.in-Err-Cycle.field-0-is c.in-Err-Cycle.ensures.cycle))
+    cycle_few g c.as_slice.result.now c.in_ok-listed.ensures.shape (subst P (sym c.as_slice.ensures) (subst I c.in-Err-Cycle.field-0-is c.in-Err-Cycle.ensures.cycle))
 
 pub returns-in-Err-Cycle : goal.returns-in-Err-Cycle
 returns-in-Err-Cycle c =
     let tech = c.args.tech.now in
-    let master = c.args.master.now in
-    let layout = c.args.layout.now in
+    let plan = c.args.plan.now in
+    let masters = c.args.masters.now in
+    let before = c.args.before.now in
     let axis = c.args.axis in
     let listed = c.in_ok-listed.listed in
     let order = c.in_ok-order.order.items in
@@ -103,8 +116,9 @@ returns-in-Err-Cycle c =
     let I : Unsolved → Type 0 = λ u. IfCycle u (λ (ns : List ℕ). IsSimplePositiveCycle listed.graph.edges ns) in
     let J : Unsolved → Type 0 = λ u. IfCycle u (IsCycleOf listed.graph.edges c.deref.result.now) in
     let S : List ℕ → Type 0 = λ ns. IsCycleOf listed.graph.edges ns cycle in
-    let run : IsStoppedPass axis tech master layout listed order cycle = record {
+    let run : IsStoppedPass axis tech plan masters before listed order cycle = record {
       edges = c.in_ok-listed.ensures.edges;
+      names_are = c.in_ok-listed.ensures.names;
       few = c.in_ok-listed.ensures.few;
       names = c.in_ok-order.ensures.names;
       in_order = c.in_ok-order.ensures.in_order;
@@ -117,10 +131,11 @@ returns-in-Err-Cycle c =
       least = tt;
       recorded = tt;
       sound_pass = tt;
+      layouts = tt;
       laid = tt;
       settled = tt;
       text = tt;
-      stopped = stopped axis tech master layout listed order cycle c.args.pass c.in_ok-text-in-Err-Cycle.text.items c.requires.laid run
-          (c.in_ok-text-in-Err-Cycle.ensures ∙ ap (λ ns. cycle_text master.cell listed.graph.edges c.args.pass axis ns) c.as_slice-cycle.ensures);
-      first = stopped_first axis tech master layout listed order cycle c.requires.laid run;
+      stopped = stopped axis tech plan masters before listed order cycle c.args.pass c.in_ok-text-in-Err-Cycle.text.items c.requires.laid run
+          (c.in_ok-text-in-Err-Cycle.ensures ∙ ap (λ ns. cycle_text listed.names listed.graph.edges c.args.pass axis ns) c.as_slice.ensures);
+      first = stopped_first axis tech plan masters before listed order cycle c.requires.planned c.masters_are_lawful.ensures c.requires.laid run;
     }

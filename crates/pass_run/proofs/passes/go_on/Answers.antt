@@ -1,20 +1,36 @@
-use Rattle.std.proofs.Common.{List, [], ◌∷◌, ◌++◌, ap, ◌∙◌, arith}
+use Rattle.std.proofs.Common.{◌+◌, List, [], ◌∷◌, ◌++◌, ap, ◌∙◌, subst, arith}
 use Rattle.lam_geom.specs.declared.boxes.Axis.{Axis}
 use Rattle.pass_run.specs.declared.step.Step.{Step}
+use Rattle.pass_run.specs.declared.pass.Stop.{Stop}
+use Rattle.pass_run.specs.OnePass.{StopsPass, IsFirstOn}
 use Rattle.pass_run.specs.Passes.{axes_of}
 use Rattle.pass_run.proofs.Chain.{axes_more}
-use Rattle.pass_run.proofs.Going.{going_more}
+use Rattle.pass_run.proofs.Going.{going_more, refused_cyclic}
 use Rattle.pass_run.proofs.passes.go_on.Goals as goal
 
 pub returns-in-Ok-clause-going : goal.returns-in-Ok-clause-going
 returns-in-Ok-clause-going c =
     let m = c.in-Ok.ensures in
     let w = c.in_ok-with_pass-in-Ok.ensures in
-    going_more c.args.tech.now c.args.master.now c.args.so_far c.in_ok-with_pass-in-Ok.field-0 c.in-Ok.made.step _ _ c.args.axis c.requires.going
-    (omega arith) m.axis m.least m.recorded m.sound_pass m.laid m.settled m.text w.layout w.steps w.report
+    going_more c.args.tech.now c.args.plan.now c.args.masters.now c.args.so_far c.in_ok-with_pass-in-Ok.field-0 c.deref.result.now c.in-Ok.made.step _ _ c.args.axis c.requires.going c.deref.ensures.value
+    (omega arith) m.axis m.least m.recorded m.sound_pass m.laid m.settled m.text (w.layouts ∙ m.layouts) w.steps w.report
 
 pub returns-in-Ok-clause-axes : goal.returns-in-Ok-clause-axes
 returns-in-Ok-clause-axes c =
     let w = c.in_ok-with_pass-in-Ok.ensures in
     let last = ap (λ (axis : Axis). axes_of c.args.so_far.steps.items ++ axis ∷ []) c.in-Ok.ensures.axis in
     ap (λ (steps : List Step). axes_of steps) w.steps ∙ (axes_more c.args.so_far.steps.items c.in-Ok.made.step ∙ last)
+
+pub returns-in-Err-Cycle-clause-refused : goal.returns-in-Err-Cycle-clause-refused
+returns-in-Err-Cycle-clause-refused c = λ later.
+    let tech = c.args.tech.now in
+    let plan = c.args.plan.now in
+    let masters = c.args.masters.now in
+    let before = c.deref.result.now in
+    let axis = c.args.axis in
+    let report = c.args.so_far.report.items in
+    let S : Stop → Type 0 = λ stop. StopsPass tech plan masters before (c.len.result + 1) axis stop in
+    let F : Stop → Type 0 = λ stop. IsFirstOn tech plan masters before axis stop in
+    refused_cyclic tech plan masters c.args.so_far before (c.len.result + 1) axis later c.in-Err-Cycle.text.items c.in_ok-report-in-Err-Cycle.report c.requires.going c.deref.ensures.value
+    (omega arith) (subst S c.in-Err-Cycle.field-0-is c.in-Err-Cycle.ensures.stopped) (subst F c.in-Err-Cycle.field-0-is c.in-Err-Cycle.ensures.first)
+    (c.in_ok-report-in-Err-Cycle.ensures ∙ (ap (λ ns. ns ++ c.deref-in-Err-Cycle-2.result.now) c.deref-in-Err-Cycle.ensures.value ∙ ap (λ ns. report ++ ns) c.deref-in-Err-Cycle-2.ensures.value))

@@ -1,16 +1,20 @@
 use Rattle.std.proofs.Common.{◌≡◌, suc, List, length, drop, sym, ap, ◌∙◌, subst, arith}
+use Rattle.std.specs.Prelude.{Contains}
 use Rattle.std.proofs.lemmas.List.{length-take-le, take_all}
 use Rattle.std.proofs.lemmas.Result.{err_from_is_err_and}
 use Rattle.lam_geom.specs.declared.boxes.Axis.{Axis}
 use Rattle.lam_geom.specs.declared.boxes.Axis.TheVariants.{X}
-use Rattle.coarse_grid.specs.Start.{start_of}
+use Rattle.sym_items.specs.declared.items.Coords.{Coords}
+use Rattle.pitch_join.specs.Layouts.{LayoutsMeet}
 use Rattle.pass_run.specs.declared.step.Step.{Step}
-use Rattle.pass_run.specs.Passes.{layout_after, axes_of}
-use Rattle.pass_run.specs.Theorems.{IsWellPlaced}
+use Rattle.pass_run.specs.Laid.{AreLaidOut}
+use Rattle.pass_run.specs.Layouts.{starts_of}
+use Rattle.pass_run.specs.Passes.{axes_of}
+use Rattle.pass_run.specs.Theorems.{AreWellPlaced}
 use Rattle.pass_run.specs.PassFaults.{AreSolvable}
 use Rattle.pass_run.proofs.Chain.{axes_counted}
-use Rattle.pass_run.proofs.Going.{going_placed, refused_there}
-use Rattle.pass_run.proofs.Cycles.{pruning}
+use Rattle.pass_run.proofs.Going.{going_met, going_placed, refused_there}
+use Rattle.pass_run.proofs.Pruning.{pruning}
 use Rattle.pass_run.proofs.OneRefusal.{passes_solvable, stops_at_first}
 use Rattle.pass_run.proofs.passes.run_passes.Goals as goal
 
@@ -28,39 +32,51 @@ returns-in_err-so_far-2-clause-refused c =
     let p = err_from_is_err_and c.from_residual-in_err-so_far-2.result c.from_residual-in_err-so_far-2.ensures.1 in
     let r = c.in_err-so_far-2.ensures.refused (drop (suc c.loop-axis.axis-index) c.args.axes.now) in
     rw (p.1, p.2)
-    (refused_there c.args.tech.now c.args.master.now.cell c.args.master.now.items.list c.args.axes.now (axes_of c.loop-axis.so_far.steps.items) c.loop-axis.axis-index X _
+    (refused_there c.args.tech.now c.args.plan.now c.args.masters.now c.args.axes.now (axes_of c.loop-axis.so_far.steps.items) c.loop-axis.axis-index X _
     (omega arith) c.loop-axis.invariant.axes r)
+
+pub returns-clause-counted : goal.returns-clause-counted
+returns-clause-counted c = ap (λ (cs : List Coords). length cs) c.in_ok-given.ensures.coords ∙ c.loop-axis.invariant.going.laid.counted
+
+pub returns-clause-laid : goal.returns-clause-laid
+returns-clause-laid c = let L : List Coords → Type 0 = AreLaidOut c.args.tech.now c.args.masters.now in subst L (sym c.in_ok-given.ensures.coords) c.loop-axis.invariant.going.laid
 
 pub returns-clause-placed : goal.returns-clause-placed
 returns-clause-placed c =
-    let S : List Step → Type 0 = λ steps. IsWellPlaced c.args.tech.now (layout_after (start_of c.args.tech.now c.args.master.now.cell) steps) c.args.master.now.items.list c.args.axes.now in
+    let P : List Coords → Type 0 = λ layouts. AreWellPlaced c.args.tech.now c.args.masters.now layouts c.args.axes.now in
     let test = c.loop-axis-test.false in
     let all : axes_of c.loop-axis.so_far.steps.items ≡ c.args.axes.now = c.loop-axis.invariant.axes ∙ take_all c.loop-axis.axis-index c.args.axes.now (omega arith) in
-    subst S (sym c.in_ok-given.ensures.steps)
-    (going_placed c.args.tech.now c.args.master.now c.loop-axis.so_far c.args.axes.now c.loop-axis.invariant.going all)
+    subst P (sym c.in_ok-given.ensures.coords) (going_placed c.args.tech.now c.args.plan.now c.args.masters.now c.loop-axis.so_far c.args.axes.now c.loop-axis.invariant.going all)
+
+pub returns-clause-met : goal.returns-clause-met
+returns-clause-met c =
+    let M : List Coords → Type 0 = λ layouts. (axis : Axis) → Contains c.args.axes.now axis → LayoutsMeet axis c.args.tech.now c.args.plan.now c.args.masters.now layouts in
+    let test = c.loop-axis-test.false in
+    let all : axes_of c.loop-axis.so_far.steps.items ≡ c.args.axes.now = c.loop-axis.invariant.axes ∙ take_all c.loop-axis.axis-index c.args.axes.now (omega arith) in
+    subst M (sym c.in_ok-given.ensures.coords) (going_met c.args.tech.now c.args.plan.now c.args.masters.now c.loop-axis.so_far c.args.axes.now c.loop-axis.invariant.going all)
 
 pub returns-in_err-so_far-clause-pruning : goal.returns-in_err-so_far-clause-pruning
-returns-in_err-so_far-clause-pruning c = pruning c.args.tech.now c.args.master.now c.master_is_lawful.ensures
+returns-in_err-so_far-clause-pruning c = pruning c.args.tech.now c.args.plan.now c.args.masters.now c.masters_are_lawful.ensures
 
 pub returns-in_err-so_far-2-clause-pruning : goal.returns-in_err-so_far-2-clause-pruning
-returns-in_err-so_far-2-clause-pruning c = pruning c.args.tech.now c.args.master.now c.master_is_lawful.ensures
+returns-in_err-so_far-2-clause-pruning c = pruning c.args.tech.now c.args.plan.now c.args.masters.now c.masters_are_lawful.ensures
 
 pub returns-in_err-given-clause-pruning : goal.returns-in_err-given-clause-pruning
-returns-in_err-given-clause-pruning c = pruning c.args.tech.now c.args.master.now c.master_is_lawful.ensures
+returns-in_err-given-clause-pruning c = pruning c.args.tech.now c.args.plan.now c.args.masters.now c.masters_are_lawful.ensures
 
 pub returns-clause-pruning : goal.returns-clause-pruning
-returns-clause-pruning c = pruning c.args.tech.now c.args.master.now c.master_is_lawful.ensures
+returns-clause-pruning c = pruning c.args.tech.now c.args.plan.now c.args.masters.now c.masters_are_lawful.ensures
 
 pub returns-clause-solvable : goal.returns-clause-solvable
 returns-clause-solvable c =
-    let S : List Step → Type 0 = λ steps. AreSolvable c.args.tech.now c.args.master.now.cell c.args.master.now.items.list (start_of c.args.tech.now c.args.master.now.cell) steps in
-    subst S (sym c.in_ok-given.ensures.steps) (passes_solvable c.args.tech.now c.args.master.now.cell c.args.master.now.items.list _ _ c.loop-axis.invariant.going.made)
+    let S : List Step → Type 0 = λ steps. AreSolvable c.args.tech.now c.args.plan.now c.args.masters.now (starts_of c.args.tech.now c.args.masters.now) steps in
+    subst S (sym c.in_ok-given.ensures.steps) (passes_solvable c.args.tech.now c.args.plan.now c.args.masters.now _ _ c.loop-axis.invariant.going.made)
 
 pub returns-in_err-so_far-2-clause-first : goal.returns-in_err-so_far-2-clause-first
 returns-in_err-so_far-2-clause-first c =
     let p = err_from_is_err_and c.from_residual-in_err-so_far-2.result c.from_residual-in_err-so_far-2.ensures.1 in
     let r = c.in_err-so_far-2.ensures.refused (drop (suc c.loop-axis.axis-index) c.args.axes.now) in
     rw (p.1, p.2)
-    (stops_at_first c.args.tech.now c.args.master.now.cell c.args.master.now.items.list c.args.axes.now _
-    (refused_there c.args.tech.now c.args.master.now.cell c.args.master.now.items.list c.args.axes.now (axes_of c.loop-axis.so_far.steps.items) c.loop-axis.axis-index X _
+    (stops_at_first c.args.tech.now c.args.plan.now c.args.masters.now c.args.axes.now _
+    (refused_there c.args.tech.now c.args.plan.now c.args.masters.now c.args.axes.now (axes_of c.loop-axis.so_far.steps.items) c.loop-axis.axis-index X _
     (omega arith) c.loop-axis.invariant.axes r))

@@ -5,6 +5,6 @@ use Rattle.pass_run.proofs.passes.run_passes.Given as goal
 
 abbrev pub invariant-loop-axis : goal.invariant-loop-axis
 invariant-loop-axis l = record {
-  going : IsGoing l.tech l.master l.so_far;
+  going : IsGoing l.tech l.plan l.masters l.so_far;
   axes : axes_of l.so_far.steps.items ≡ take l.axis-index l.axes;
 }

@@ -1,6 +1,8 @@
-use Rattle.std.proofs.Common.{length, ap, arith}
-use Rattle.pass_run.proofs.NamesCounted.{names_counted}
+use Rattle.list_facts.proofs.Pieces.{piece_added}
+use Rattle.pass_run.specs.Report.{master_text}
 use Rattle.pass_run.proofs.text.pass_text.Goals as goal
 
-pub walk_lines-requires-clause-named : goal.walk_lines-requires-clause-named
-walk_lines-requires-clause-named c = omega (arith, ap length c.in_ok-names.ensures, names_counted c.args.step.now.axis c.args.cell.now, c.requires.vars)
+pub loop-m-preserved : goal.loop-m-preserved
+loop-m-preserved c =
+    piece_added (master_text c.args.masters.now c.args.listed.now.graph.edges c.args.step.now) c.loop-m.m c.push_counts.new.text.items c.loop-m.text.items c.push_master.new.text.items
+    c.loop-m.invariant c.in_ok-push_master.ensures

@@ -1,0 +1,183 @@
+-- The layouts after a pass of a plan.
+use Rattle.std.proofs.Common.{◌≡◌, ℕ, zero, suc, ◌+◌, ◌<◌, ℤ, pos, List, ◌∷◌, length, refl, sym, ap, ◌∙◌, subst, arith, ◌⊎◌, inl, inr}
+use Rattle.std.specs.Prelude.{Contains}
+use Rattle.std.specs.List.{All}
+use Rattle.std.proofs.lemmas.List.FromFn.{get_or-map-range_with_len}
+use Rattle.lam_geom.specs.declared.boxes.Axis.{Axis}
+use Rattle.lam_geom.specs.declared.boxes.Axis.TheVariants.{X, Y}
+use Rattle.rule_table.specs.declared.technology.Tech.{Tech}
+use Rattle.cons_graph.specs.Solutions.{IsSolution, value_of}
+use Rattle.cons_graph.specs.Walks.{HasPositiveCycle}
+use Rattle.round_log.proofs.Least.{positive_cycle_excludes}
+use Rattle.liao_wong.specs.Answers.{IsWithinLimit}
+use Rattle.sym_items.specs.declared.items.Coords.{Coords}
+use Rattle.sym_items.specs.Layouts.{layout_at, value_in}
+use Rattle.sym_items.specs.Transposed.{values_along}
+use Rattle.expand.specs.declared.master.Master.{Master}
+use Rattle.expand.specs.Laws.{IsLawful}
+use Rattle.expand.specs.Variables.{variables_of}
+use Rattle.pair_rules.specs.Candidates.{candidates_of}
+use Rattle.pair_rules.specs.Kept.{kept_of}
+use Rattle.pair_rules.specs.Laws.{moved}
+use Rattle.plan_model.specs.declared.plan.Plan.{Plan}
+use Rattle.pitch_join.specs.Masters.{ArePlanned, master_at, no_master}
+use Rattle.pitch_join.specs.Joined.{joint_variables, var_of, local_of, list_over, system_over}
+use Rattle.pitch_join.specs.Layouts.{LayoutsMeet}
+use Rattle.pitch_join.specs.Meeting.{MeetsPlan, HaveBoxes}
+use Rattle.pitch_join.proofs.Bases.{var_within}
+use Rattle.pitch_join.proofs.Solving.{joining_meets}
+use Rattle.shadow_prune.proofs.Pruning.{candidates_apart}
+use Rattle.pass_run.specs.declared.step.Step.{Step}
+use Rattle.pass_run.specs.Laid.{IsLaidOut, AreLaidOut, AreSettled}
+use Rattle.pass_run.specs.Layouts.{joint_values, local_values, moved_by}
+use Rattle.pass_run.specs.Meeting.{IsNextFor}
+use Rattle.pass_run.specs.Theorems.{AreWellPlaced}
+use Rattle.pass_run.proofs.Alike.{AgreeOn, structure_alike, pairs_alike, layouts_meet, plan_met}
+use Rattle.pass_run.proofs.Moved.{stays}
+use Rattle.pass_run.proofs.Pairs.{candidates_among, kept_pairs_among}
+use Rattle.pass_run.proofs.Values.{joint_at, local_length, local_at, moved_layout, moved_counted}
+
+-- ---- the values of a solution
+
+-- Values for a pass on an axis over some layouts: one for each joint variable, within 2^55 of 0, that solve its list.
+pub record SolvesPass (axis : Axis) (tech : Tech) (plan : Plan) (masters : List Master) (before : List Coords) (x : List ℤ) : Type 0 where
+  pub counted : length x ≡ joint_variables axis masters
+  pub small : All IsWithinLimit x
+  pub solves : IsSolution (list_over axis tech plan masters before) (value_of x)
+
+pub boxes_of : (tech : Tech) (masters : List Master) (layouts : List Coords) → AreLaidOut tech masters layouts → HaveBoxes masters layouts
+boxes_of tech masters layouts laid = λ m lt. (laid.each m lt).of_master.boxes
+
+local_small : (axis : Axis) (masters : List Master) (m : ℕ) (x : List ℤ) → length x ≡ joint_variables axis masters → All IsWithinLimit x → m < length masters
+    → All IsWithinLimit (local_values axis masters m x)
+local_small axis masters m x counted small lt = λ k d k_lt.
+    let count = local_length axis masters m x in
+    let within = var_within axis masters m k lt (omega arith) in
+    let e : 0 + k ≡ k = omega arith in
+    let at = get_or-map-range_with_len (local_of axis masters m (value_of x)) 0 (variables_of axis (master_at masters m).cell) k k d (omega arith) e in
+    subst IsWithinLimit (sym at) (small (var_of axis masters m k) (pos 0) (omega arith))
+
+-- the part of each master meets it
+next_of : (axis : Axis) (tech : Tech) (plan : Plan) (masters : List Master) (before : List Coords) (x : List ℤ) (m : ℕ) → All (IsLawful tech) masters → AreLaidOut tech masters before
+    → SolvesPass axis tech plan masters before x → m < length masters → IsNextFor axis tech (master_at masters m) (layout_at before m) (local_values axis masters m x)
+next_of axis tech plan masters before x m lawful laid values lt =
+    let master : Master = master_at masters m in
+    let c : Coords = layout_at before m in
+    let met = ((joining_meets tech plan masters).of_list axis before (value_of x)).0 values.solves in
+    let own = lawful m no_master lt in
+    record {
+      counted = local_length axis masters m x;
+      small = local_small axis masters m x values.counted values.small lt;
+      meets = record {
+        structure = structure_alike axis tech master (local_of axis masters m (value_of x)) _ own (λ v v_lt. sym (local_at axis masters m v x v_lt)) (met.0.structures m lt);
+        kept = pairs_alike axis tech master (local_of axis masters m (value_of x)) _ (kept_of axis tech c master.items.list) own (λ v v_lt. sym (local_at axis masters m v x v_lt))
+            (kept_pairs_among axis tech c master.items.list) (met.1 m lt);
+      };
+    }
+
+-- ---- after a pass
+
+pub laid_next : (tech : Tech) (plan : Plan) (masters : List Master) (before : List Coords) (step : Step) → All (IsLawful tech) masters → AreLaidOut tech masters before
+    → SolvesPass step.axis tech plan masters before step.x → AreLaidOut tech masters (moved_by masters before step)
+laid_next tech plan masters before step lawful laid values = record {
+  counted = moved_counted masters before step;
+  each = λ m lt.
+      let L : Coords → Type 0 = IsLaidOut tech (master_at masters m) in
+      let next = next_of step.axis tech plan masters before step.x m lawful laid values lt in
+      subst L (sym (moved_layout masters before step m lt)) (stays step.axis tech (master_at masters m) (layout_at before m) _ (lawful m no_master lt) (laid.each m lt) next).laid;
+}
+
+-- the values of the axis of a pass, and of the other
+along_moved : (axis : Axis) (c : Coords) (values : List ℤ) → values_along axis (moved axis c values) ≡ values
+along_moved X c values = refl
+along_moved Y c values = refl
+
+along_other : (axis a : Axis) (c : Coords) (values : List ℤ) → (axis ≡ a → ⊥) → values_along a (moved axis c values) ≡ values_along a c
+along_other X X c values differ = absurd (differ refl)
+along_other X Y c values differ = refl
+along_other Y X c values differ = refl
+along_other Y Y c values differ = absurd (differ refl)
+
+-- an axis that has had a pass is that of the last one, or has had one before
+is_axis : (axis a : Axis) → (axis ≡ a) ⊎ (axis ≡ a → ⊥)
+is_axis X X = inl refl
+is_axis X Y = inr (λ e. cc)
+is_axis Y X = inr (λ e. cc)
+is_axis Y Y = inl refl
+
+had_before : (axis a : Axis) (had : List Axis) → (axis ≡ a → ⊥) → Contains (axis ∷ had) a → Contains had a
+had_before axis a had differ (zero, lt, e) = absurd (differ e)
+had_before axis a had differ (suc k, lt, e) = (k, omega arith, e)
+
+met_next : (tech : Tech) (plan : Plan) (masters : List Master) (before : List Coords) (step : Step) → ArePlanned tech plan masters → All (IsLawful tech) masters
+    → SolvesPass step.axis tech plan masters before step.x → LayoutsMeet step.axis tech plan masters (moved_by masters before step)
+met_next tech plan masters before step planned lawful values =
+    let axis : Axis = step.axis in
+    let met = ((joining_meets tech plan masters).of_list axis before (value_of step.x)).0 values.solves in
+    let agree : AgreeOn axis masters (moved_by masters before step) (value_of step.x) = λ m v lt own.
+    let now : values_along axis (layout_at (moved_by masters before step) m) ≡ local_values axis masters m step.x =
+    ap (values_along axis) (moved_layout masters before step m lt) ∙ along_moved axis (layout_at before m) (local_values axis masters m step.x) in
+    sym (local_at axis masters m v step.x own) ∙ ap (λ vs. value_of vs v) (sym now) in
+    layouts_meet axis tech plan masters (moved_by masters before step) (value_of step.x) planned lawful agree met.0
+
+-- the values of some layouts agree with them, and meet the plan where they do
+joint_meets : (axis : Axis) (tech : Tech) (plan : Plan) (masters : List Master) (before : List Coords) → ArePlanned tech plan masters → All (IsLawful tech) masters
+    → AreLaidOut tech masters before → LayoutsMeet axis tech plan masters before → MeetsPlan axis tech plan masters (value_of (joint_values axis before))
+joint_meets axis tech plan masters before planned lawful laid met =
+    plan_met axis tech plan masters before (value_of (joint_values axis before)) planned lawful (λ m v lt own. joint_at axis tech masters before m v laid lt own) refl met
+
+met_still : (a : Axis) (tech : Tech) (plan : Plan) (masters : List Master) (before : List Coords) (step : Step) → ArePlanned tech plan masters → All (IsLawful tech) masters
+    → AreLaidOut tech masters before → (step.axis ≡ a → ⊥) → LayoutsMeet a tech plan masters before → LayoutsMeet a tech plan masters (moved_by masters before step)
+met_still a tech plan masters before step planned lawful laid differ met =
+    let agree : AgreeOn a masters (moved_by masters before step) (value_of (joint_values a before)) = λ m v lt own.
+    let now : values_along a (layout_at (moved_by masters before step) m) ≡ values_along a (layout_at before m) =
+    ap (values_along a) (moved_layout masters before step m lt) ∙ along_other step.axis a (layout_at before m) (local_values step.axis masters m step.x) differ in
+    joint_at a tech masters before m v laid lt own ∙ ap (λ vs. value_of vs v) (sym now) in
+    layouts_meet a tech plan masters (moved_by masters before step) (value_of (joint_values a before)) planned lawful agree (joint_meets a tech plan masters before planned lawful laid met)
+
+pub settled_next : (tech : Tech) (plan : Plan) (masters : List Master) (before : List Coords) (step : Step) → ArePlanned tech plan masters → All (IsLawful tech) masters
+    → AreLaidOut tech masters before → SolvesPass step.axis tech plan masters before step.x → (had : List Axis) → AreSettled tech plan masters had before
+    → AreSettled tech plan masters (step.axis ∷ had) (moved_by masters before step)
+settled_next tech plan masters before step planned lawful laid values had settled =
+    let now : List Coords = moved_by masters before step in
+    let M : Axis → Type 0 = λ a. LayoutsMeet a tech plan masters now in
+    let met : (a : Axis) → Contains (step.axis ∷ had) a → M a = λ a among.
+    elim (is_axis step.axis a) [
+      | inl same ↦ subst M same (met_next tech plan masters before step planned lawful values)
+      | inr differ ↦ met_still a tech plan masters before step planned lawful laid differ (settled.met a (had_before step.axis a had differ among))
+    ] in
+    record {
+      met = met;
+      long = λ a among m lt. ((lawful m no_master lt).stands a (value_in a now m) ((met a among).structures m lt)).long;
+    }
+
+pub placed_of : (tech : Tech) (plan : Plan) (masters : List Master) (layouts : List Coords) (had : List Axis) → AreLaidOut tech masters layouts → AreSettled tech plan masters had layouts
+    → AreWellPlaced tech masters layouts had
+placed_of tech plan masters layouts had laid settled = λ m lt. record {
+  boxes = (laid.each m lt).of_master.boxes;
+  long = λ a among. settled.long a among m lt;
+  clean = (laid.each m lt).clean;
+}
+
+-- ---- a pass on an axis that has had one
+
+-- the values before solve the system
+pub stays_solved : (axis : Axis) (tech : Tech) (plan : Plan) (masters : List Master) (had : List Axis) (before : List Coords) → ArePlanned tech plan masters → All (IsLawful tech) masters
+    → AreLaidOut tech masters before → AreSettled tech plan masters had before → Contains had axis → IsSolution (system_over axis tech plan masters before) (value_of (joint_values axis before))
+stays_solved axis tech plan masters had before planned lawful laid settled among =
+    let x : ℕ → ℤ = value_of (joint_values axis before) in
+    ((joining_meets tech plan masters).of_system axis before x (boxes_of tech masters before laid)).1 (
+      joint_meets axis tech plan masters before planned lawful laid (settled.met axis among),
+      λ m lt.
+          let master : Master = master_at masters m in
+          let c : Coords = layout_at before m in
+          pairs_alike axis tech master (value_in axis before m) (local_of axis masters m x) (candidates_of axis tech c master.items.list) (lawful m no_master lt)
+          (λ v own. sym (joint_at axis tech masters before m v laid lt own)) (candidates_among axis tech c master.items.list) (candidates_apart axis tech c master.items.list),
+    )
+
+-- so it has no positive cycle
+pub no_cycle_again : (axis : Axis) (tech : Tech) (plan : Plan) (masters : List Master) (had : List Axis) (before : List Coords) → ArePlanned tech plan masters → All (IsLawful tech) masters
+    → AreLaidOut tech masters before → HasPositiveCycle (system_over axis tech plan masters before) → AreSettled tech plan masters had before → Contains had axis → ⊥
+no_cycle_again axis tech plan masters had before planned lawful laid cycle settled among =
+    positive_cycle_excludes (system_over axis tech plan masters before) cycle.0 (value_of (joint_values axis before)) cycle.1
+    (stays_solved axis tech plan masters had before planned lawful laid settled among)

@@ -1,0 +1,12 @@
+use Rattle.std.proofs.Common.{◌≡◌, ◌++◌, map}
+use Rattle.std.specs.List.{flat_map, range_with_len}
+use Rattle.pitch_join.specs.Joined.{kept_edges_at}
+use Rattle.pass_run.specs.Passes.{kept_count}
+use Rattle.pass_run.proofs.edges.add_all_kept.Given as goal
+
+abbrev pub invariant-loop-m : goal.invariant-loop-m
+invariant-loop-m l = record {
+  edges : l.joint.edges.items ≡ l.initial.joint.edges.items ++ flat_map (kept_edges_at l.axis l.tech l.masters l.layouts) (range_with_len 0 l.m);
+  others : l.joint ≡ record l.initial.joint { edges = l.joint.edges };
+  counts : l.counts.items ≡ map (kept_count l.axis l.tech l.masters l.layouts) (range_with_len 0 l.m);
+}

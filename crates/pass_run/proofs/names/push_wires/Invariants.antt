@@ -1,7 +1,0 @@
-use Rattle.std.proofs.Common.{◌≡◌, ◌++◌}
-use Rattle.std.specs.List.{flat_map, range_with_len}
-use Rattle.pass_run.specs.Names.{cross_name}
-use Rattle.pass_run.proofs.names.push_wires.Given as goal
-
-abbrev pub invariant-loop-k : goal.invariant-loop-k
-invariant-loop-k l = l.names ≡ l.initial.names ++ flat_map (cross_name l.axis l.cell) (range_with_len 0 l.k)

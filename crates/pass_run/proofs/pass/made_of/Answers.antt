@@ -1,0 +1,11 @@
+use Rattle.std.proofs.Common.{ap}
+use Rattle.pass_run.specs.declared.step.Step.{Step}
+use Rattle.pass_run.proofs.Solved.{fars_within, walks_listed}
+use Rattle.pass_run.proofs.pass.made_of.Goals as goal
+
+pub step_from-requires-clause-among : goal.step_from-requires-clause-among
+step_from-requires-clause-among c = fars_within c.args.axis c.args.masters.now c.args.listed.now.base c.args.listed.now.graph.vars c.requires.bases c.requires.vars
+
+pub pass_text-requires-clause-walks : goal.pass_text-requires-clause-walks
+pass_text-requires-clause-walks c =
+    walks_listed c.args.listed.now.graph.edges c.args.solved.log c.args.listed.now.base c.in_ok-step.step.walks (ap (λ (s : Step). s.walks) c.in_ok-step.ensures.value) c.in_ok-step.ensures.paths

@@ -1,0 +1,45 @@
+-- The layouts of masters, one each, and the values of the joint variables.
+use Rattle.std.specs.Prelude.{ℕ, ℤ, pos, List, ◌∷◌, map, drop, flat_map, fold}
+use Rattle.std.specs.List.{range_with_len}
+use Rattle.lam_geom.specs.declared.boxes.Axis.{Axis}
+use Rattle.rule_table.specs.declared.technology.Tech.{Tech}
+use Rattle.cons_graph.specs.Solutions.{value_of}
+use Rattle.sym_items.specs.declared.items.Coords.{Coords}
+use Rattle.sym_items.specs.Layouts.{layout_at}
+use Rattle.sym_items.specs.Transposed.{values_along}
+use Rattle.expand.specs.declared.master.Master.{Master}
+use Rattle.expand.specs.Variables.{variables_of}
+use Rattle.coarse_grid.specs.Start.{start_of}
+use Rattle.pair_rules.specs.Laws.{moved}
+use Rattle.pitch_join.specs.Masters.{master_at, master_numbers}
+use Rattle.pitch_join.specs.Joined.{local_of}
+use Rattle.pass_run.specs.declared.step.Step.{Step}
+
+-- the start layout of each master
+abbrev pub start_of_master : Tech → Master → Coords
+start_of_master tech master = start_of tech master.cell
+
+abbrev pub starts_of : Tech → List Master → List Coords
+starts_of tech masters = map (start_of_master tech) masters
+
+-- the values of the joint variables in some layouts: 0 at the origin, and then in each layout those of its other variables
+abbrev pub own_values : Axis → Coords → List ℤ
+own_values axis layout = drop 1 (values_along axis layout)
+
+abbrev pub joint_values : Axis → List Coords → List ℤ
+joint_values axis layouts = pos 0 ∷ flat_map (own_values axis) layouts
+
+-- what values of the joint variables give to the variables of master m
+abbrev pub local_values : Axis → List Master → ℕ → List ℤ → List ℤ
+local_values axis masters m x = map (local_of axis masters m (value_of x)) (range_with_len 0 (variables_of axis (master_at masters m).cell))
+
+-- the layouts after a pass: in each its master has its own part of the new values on the axis, and the other axis stays
+abbrev pub moved_at : List Master → List Coords → Step → ℕ → Coords
+moved_at masters before step m = moved step.axis (layout_at before m) (local_values step.axis masters m step.x)
+
+abbrev pub moved_by : List Master → List Coords → Step → List Coords
+moved_by masters before step = map (moved_at masters before step) (master_numbers masters)
+
+-- and those after some passes
+abbrev pub layouts_after : List Master → List Coords → List Step → List Coords
+layouts_after masters starts steps = fold (moved_by masters) starts steps

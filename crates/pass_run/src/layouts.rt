@@ -1,0 +1,137 @@
+//! The layouts of masters, and the values of the joint variables.
+
+ghost use Rattle.std.specs.Prelude.{◌≡◌, ◌+◌, ◌≤◌, length, map, All, IfOk};
+ghost use Rattle.std.specs.List.{range_with_len};
+ghost use Rattle.expand.specs.Masters.{IsMaster};
+ghost use Rattle.expand.specs.Variables.{variables_of};
+ghost use Rattle.pair_rules.specs.Laws.{moved};
+ghost use Rattle.pitch_join.specs.Joined.{bases_of, joint_variables};
+ghost use Rattle.pass_run.specs.Layouts.{starts_of, own_values, joint_values, moved_by};
+ghost use Rattle.pass_run.specs.OneMaster.{part_from, own_part};
+
+use crate::step::Step;
+use coarse_grid::start;
+use expand::{Master, master_is_lawful};
+use lam_geom::Axis;
+use lam_list::Seq;
+use rule_table::Tech;
+use std::alloc::{AllocError, Global};
+use sym_items::Coords;
+
+/// The start layout of each master. The only refusal is want of memory.
+pub fn starts(alloc: Global, tech: &Tech, masters: &[Master]) -> Result<Vec<Coords>, AllocError>
+    requires { All (IsMaster tech.now) masters.now }
+    ensures { IfOk result (λ layouts. layouts.items ≡ starts_of tech.now masters.now) }
+{
+    let mut layouts = Vec::new(alloc);
+    for master in masters {
+        layouts.push(start(alloc, tech, &master.cell)?)?;
+    }
+    Ok(layouts)
+}
+
+// The values of a layout but the origin's.
+fn own_values(axis: Axis, layout: &Coords) -> &[i64]
+    ensures { result.now ≡ own_values axis layout.now }
+{
+    match layout.values(axis).split_first() {
+        Some((_, own)) => own,
+        None => &[],
+    }
+}
+
+/// The values of the joint variables of an axis in some layouts. The only refusal is want of memory.
+pub fn joint_values(alloc: Global, axis: Axis, layouts: &[Coords]) -> Result<Vec<i64>, AllocError>
+    ensures { IfOk result (λ values. values.items ≡ joint_values axis layouts.now) }
+{
+    let mut values = Vec::new(alloc);
+    values.push(0)?;
+    for layout in layouts {
+        values.extend_from_slice(own_values(axis, layout))?;
+    }
+    Ok(values)
+}
+
+// What values of the joint variables give to the variables of a master, which has `vars`, those beside the origin from
+// `base` on.
+fn local_values(alloc: Global, base: u32, vars: u32, x: &[i64]) -> Result<Vec<i64>, AllocError>
+    requires some { 1 ≤ vars }
+    requires origin { 1 ≤ length x.now }
+    requires within { base + vars ≤ length x.now + 1 }
+    ensures { IfOk result (λ values. values.items ≡ map (part_from base x.now) (range_with_len 0 vars)) }
+{
+    let first = base as usize;
+    let mut values = Vec::new(alloc);
+    values.extend_from_slice(&x[..1])?;
+    values.extend_from_slice(&x[first..first + (vars as usize - 1)])?;
+    Ok(values)
+}
+
+// A layout with other values on one axis.
+fn moved(alloc: Global, axis: Axis, layout: &Coords, values: Vec<i64>) -> Result<Coords, AllocError>
+    ensures { IfOk result (λ c. c ≡ moved axis layout.now values.items) }
+{
+    let values = Seq::from_vec(values);
+    match axis {
+        Axis::X => Ok(Coords {
+            x: values,
+            y: copied(alloc, &layout.y)?,
+        }),
+        Axis::Y => Ok(Coords {
+            x: copied(alloc, &layout.x)?,
+            y: values,
+        }),
+    }
+}
+
+// The same list again.
+fn copied(alloc: Global, list: &Seq<i64>) -> Result<Seq<i64>, AllocError>
+    ensures { IfOk result (λ copy. copy ≡ list.now) }
+{
+    Ok(Seq::from_vec(Vec::from_slice(alloc, list.as_slice())?))
+}
+
+// The layout of a master after a pass, whose joint variables beside the origin begin with `base`.
+fn moved_by_part(
+    alloc: Global,
+    tech: &Tech,
+    master: &Master,
+    layout: &Coords,
+    base: u32,
+    step: &Step,
+) -> Result<Coords, AllocError>
+    requires master { IsMaster tech.now master.now }
+    requires within { base + variables_of step.now.axis master.now.cell ≤ length step.now.x + 1 }
+    requires origin { 1 ≤ length step.now.x }
+    ensures { IfOk result (λ c. c ≡ moved step.now.axis layout.now (own_part step.now.axis base master.now step.now.x)) }
+{
+    master_is_lawful(tech, master);
+    let vars = master.items.vars(step.axis);
+    let values = local_values(alloc, base, vars, step.x.as_slice())?;
+    moved(alloc, step.axis, layout, values)
+}
+
+/// The layouts after a pass: in each its master has its own part of the new values, and the other axis stays. The only
+/// refusal is want of memory.
+pub fn moved_by(
+    alloc: Global,
+    tech: &Tech,
+    masters: &[Master],
+    before: &[Coords],
+    base: &[u32],
+    step: &Step,
+) -> Result<Vec<Coords>, AllocError>
+    requires each { All (IsMaster tech.now) masters.now }
+    requires few { length masters.now ≤ 256 }
+    requires counted { length before.now ≡ length masters.now }
+    requires bases { base.now ≡ bases_of step.now.axis masters.now }
+    requires one_each { length step.now.x ≡ joint_variables step.now.axis masters.now }
+    ensures { IfOk result (λ layouts. layouts.items ≡ moved_by masters.now before.now step.now) }
+{
+    let mut layouts = Vec::new(alloc);
+    for m in 0..masters.len() {
+        let master = &masters[m];
+        layouts.push(moved_by_part(alloc, tech, master, &before[m], base[m], step)?)?;
+    }
+    Ok(layouts)
+}
