@@ -116,7 +116,7 @@ pad_of_kind tech k n Buried i (inr h) p s = absurd (subst PadHas h.0 p)
 pad_of_kind tech k n (Fet depletion gate w l) i h p s = absurd (nowhere_else n i h.0 s)
 
 -- a terminal at which a wire stands is that buried contact
-stands_there : (cell : Cell) (end : WireEnd) (n : ℕ) → n ≢ nowhere → contact_at cell end ≡ n → (end ≡ ends.Node n) × ((node_at cell.nodes n).kind ≡ Buried)
+pub stands_there : (cell : Cell) (end : WireEnd) (n : ℕ) → n ≢ nowhere → contact_at cell end ≡ n → (end ≡ ends.Node n) × ((node_at cell.nodes n).kind ≡ Buried)
 stands_there cell (ends.Port j) n ne e = absurd (ne (sym e))
 stands_there cell (ends.Node j) n ne e = of_kind (node_at cell.nodes j).kind refl e
   where

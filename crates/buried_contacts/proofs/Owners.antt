@@ -212,26 +212,31 @@ box_of_owner tech cell nets i w (inr (v, h)) e =
     let same : v ≡ w = omega (arith, own, e) in
     subst (IsBoxOfWire tech cell nets i) same h
 
-layer_boxes : (Q : Item → Type 0) (layer : Layer) (i : Item) → ((c : Class) → LayerHas layer c → Q (record i { class = c })) → AllByRecursion Q (on_layer layer i)
+pub layer_boxes : (Q : Item → Type 0) (layer : Layer) (i : Item) → ((c : Class) → LayerHas layer c → Q (record i { class = c })) → AllByRecursion Q (on_layer layer i)
 layer_boxes Q Metal i h = (h M refl, tt)
 layer_boxes Q Poly i h = (h P refl, tt)
 layer_boxes Q Diffusion i h = (h Dm refl, (h Dc refl, tt))
 
-all_owned : (tech : Tech) (cell : Cell) (nets : Nets) → AllByRecursion (IsOwned tech cell nets) (item_list tech cell nets)
+-- what holds of the items of each node and of the boxes of each wire, of all items
+pub all_items : (tech : Tech) (cell : Cell) (nets : Nets) (Q : Item → Type 0) → ((k : ℕ) → k < length cell.nodes → AllByRecursion Q (items_of_node tech cell nets k))
+    → ((w : ℕ) → w < length cell.wires → (c : Class) → LayerHas (wire_at cell.wires w).layer c → Q (wire_box tech cell nets w c)) → AllByRecursion Q (item_list tech cell nets)
 unfolding item_list
-all_owned tech cell nets =
-    let Q = IsOwned tech cell nets in
+all_items tech cell nets Q of_node of_wire =
     let n : ℕ = length cell.nodes in
     let w : ℕ = length cell.wires in
     all_append Q (flat_map (items_of_node tech cell nets) (range_with_len 0 n)) (flat_map (items_of_wire tech cell nets) (range_with_len 0 w))
-    (all_flat Q (items_of_node tech cell nets) (range_with_len 0 n)
-    (all_numbers (λ k. AllByRecursion Q (items_of_node tech cell nets k)) 0 n
-    (λ k le lt. all_weaker (HasOwner tech k (node_at cell.nodes k).kind) Q (λ i h. inl (k, record { among = omega (arith, lt); owner = h.owner; is = h.is }))
-    (items_of_node tech cell nets k) (kind_owns tech k (node_at cell.nodes k).kind (nets_at nets.node k)))))
+    (all_flat Q (items_of_node tech cell nets) (range_with_len 0 n) (all_numbers (λ k. AllByRecursion Q (items_of_node tech cell nets k)) 0 n (λ k le lt. of_node k (omega (arith, lt)))))
     (all_flat Q (items_of_wire tech cell nets) (range_with_len 0 w)
     (all_numbers (λ k. AllByRecursion Q (items_of_wire tech cell nets k)) 0 w
-    (λ k le lt. layer_boxes Q (wire_at cell.wires k).layer (item_running (wire_at cell.wires k).along (run_of tech cell nets k))
-    (λ c e. inr (k, record { among = omega (arith, lt); class = e; is = refl })))))
+    (λ k le lt. layer_boxes Q (wire_at cell.wires k).layer (item_running (wire_at cell.wires k).along (run_of tech cell nets k)) (λ c e. of_wire k (omega (arith, lt)) c e))))
+
+all_owned : (tech : Tech) (cell : Cell) (nets : Nets) → AllByRecursion (IsOwned tech cell nets) (item_list tech cell nets)
+all_owned tech cell nets =
+    let Q = IsOwned tech cell nets in
+    all_items tech cell nets Q
+    (λ k lt. all_weaker (HasOwner tech k (node_at cell.nodes k).kind) Q (λ i h. inl (k, record { among = lt; owner = h.owner; is = h.is })) (items_of_node tech cell nets k)
+    (kind_owns tech k (node_at cell.nodes k).kind (nets_at nets.node k)))
+    (λ w lt c e. inr (w, record { among = lt; class = e; is = refl }))
 
 -- each item of a master has an owner
 pub items_owned : (tech : Tech) (master : Master) → (m : IsMaster tech master) → All (IsOwned tech master.cell m.items.nets) master.items.list

@@ -1,0 +1,14 @@
+pub mod Lists
+pub mod Aligned
+pub mod Places
+pub mod InCell
+pub mod OnBorder
+pub mod Ports
+pub mod OneNet
+pub mod Meeting
+pub mod Gaps
+pub mod Layers
+pub mod AtPorts
+pub mod Pairs
+pub mod Apart
+pub mod ByInstances
