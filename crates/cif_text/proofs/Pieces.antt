@@ -80,15 +80,15 @@ layer_grows f xs layer i d is_named before now named next lt same was flag name 
     ∙ moved before (layer_text layer ms) (if is_some ms then [] else name_line layer) (box_text m)
     ∙ ap (λ zs. before ++ zs) (sym (ap (layer_text layer) (box_taken f xs layer i d lt same) ∙ text_grows layer ms m))
 
--- one layer more
-pub layer_added : (f : MaskLayer → List ℕ) (layers : List MaskLayer) (i : ℕ) (d : MaskLayer) (before now next : List ℕ) → i < length layers
-    → now ≡ before ++ flat_map f (take i layers) → next ≡ now ++ f (get_or layers i d)
-    → next ≡ before ++ flat_map f (take (i + 1) layers)
-layer_added f layers i d before now next lt was is =
-    let text : List ℕ = f (get_or layers i d) in
-    let more : flat_map f (take (i + 1) layers) ≡ flat_map f (take i layers) ++ text =
-    ap (flat_map f) (take_more layers i d lt) ∙ flat_map-append f (take i layers) (get_or layers i d ∷ []) ∙ ap (λ zs. flat_map f (take i layers) ++ zs) (append-nil text) in
-    is ∙ ap (λ zs. zs ++ text) was ∙ append_assoc before (flat_map f (take i layers)) text ∙ ap (λ zs. before ++ zs) (sym more)
+-- one piece more
+pub piece_added : {A : Type 0} (f : A → List ℕ) (xs : List A) (i : ℕ) (d : A) (before now next : List ℕ) → i < length xs
+    → now ≡ before ++ flat_map f (take i xs) → next ≡ now ++ f (get_or xs i d)
+    → next ≡ before ++ flat_map f (take (i + 1) xs)
+piece_added f xs i d before now next lt was is =
+    let text : List ℕ = f (get_or xs i d) in
+    let more : flat_map f (take (i + 1) xs) ≡ flat_map f (take i xs) ++ text =
+    ap (flat_map f) (take_more xs i d lt) ∙ flat_map-append f (take i xs) (get_or xs i d ∷ []) ∙ ap (λ zs. flat_map f (take i xs) ++ zs) (append-nil text) in
+    is ∙ ap (λ zs. zs ++ text) was ∙ append_assoc before (flat_map f (take i xs)) text ∙ ap (λ zs. before ++ zs) (sym more)
 
 -- the lines of a symbol, one after another
 pub symbol_joined : (scale nine name ending layers end a b c d e f : List ℕ) → a ≡ scale → b ≡ a ++ nine → c ≡ b ++ name → d ≡ c ++ ending → e ≡ d ++ layers → f ≡ e ++ end

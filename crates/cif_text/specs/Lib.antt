@@ -1,1 +1,3 @@
 pub mod Cif
+pub mod Calls
+pub mod Cutting

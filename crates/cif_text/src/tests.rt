@@ -10,6 +10,8 @@ use std::alloc::{AllocError, Global};
 use std::test::Fail;
 use stick_lex::Text;
 
+mod pictures;
+
 // The text of a symbol under the technology that the program ships with.
 fn text_of(
     alloc: Global,

@@ -2,7 +2,6 @@
 use Rattle.std.proofs.Common.{◌≡◌, ℕ, ◌+◌, ◌<◌, true, false, All, cond, get_or, List, subst, [], ◌∷◌, ◌++◌, length, map, filter, take, sym, ap, ◌∙◌, append_assoc}
 use Rattle.std.proofs.lemmas.List.{append-nil, map-append}
 use Rattle.std.proofs.lemmas.List.Elements.{filter_more, All-push}
-use Rattle.lam_geom.specs.Places.{IsPlacedBox}
 use Rattle.lam_geom.specs.declared.boxes.MaskLayer.{MaskLayer}
 use Rattle.lam_geom.specs.declared.boxes.MaskBox.{MaskBox}
 use Rattle.sym_items.specs.declared.items.Item.{Item}
@@ -51,8 +50,6 @@ item_passed c items layer i d before now lt passed was =
     masks_more c items layer i d lt ∙ ap (λ b. masks_on c (take i items) layer ++ map f (cond b (get_or items i d ∷ []) [])) passed ∙ append-nil (masks_on c (take i items) layer) in
     was ∙ ap (λ zs. map mask_of before ++ zs) (sym more)
 
--- one placed box more
-pub one_more : (now next : List MaskBox) (box : MaskBox) → All (λ b. IsPlacedBox b.area) now → IsPlacedBox box.area → next ≡ now ++ (box ∷ []) → All (λ b. IsPlacedBox b.area) next
-one_more now next box all placed is =
-    let P : List MaskBox → Type 0 = All (λ b. IsPlacedBox b.area) in
-    subst P (sym is) (All-push (λ b. IsPlacedBox b.area) now box all placed)
+-- one element more of which it holds
+pub one_more : {X : Type 0} (P : X → Type 0) (now next : List X) (x : X) → All P now → P x → next ≡ now ++ (x ∷ []) → All P next
+one_more P now next x all holds is = subst (All P) (sym is) (All-push P now x all holds)

@@ -1,3 +1,12 @@
 pub mod Drawn
 pub mod Counted
 pub mod WorkedMasks
+pub mod Totals
+pub mod CallsInOrder
+pub mod Pushed
+pub mod Shifted
+pub mod MasterSymbols
+pub mod Reach
+pub mod FlatCounted
+pub mod CallsInReach
+pub mod WorkedPictures

@@ -1,2 +1,4 @@
 pub mod Masks
+pub mod Pictures
+pub mod RowCalls
 pub mod Worked

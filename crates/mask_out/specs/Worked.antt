@@ -1,12 +1,17 @@
 -- The items and the layout that the tests type in: a diffusion contact, a metal joint to the right of it, and a window and an implant round
--- these.
-use Rattle.std.specs.Prelude.{ℕ, pos, neg_ℤ, List, [], ◌∷◌}
+-- these. And a picture of two symbols and three calls.
+use Rattle.std.specs.Prelude.{ℕ, ℤ, pos, neg_ℤ, List, [], ◌∷◌, codes}
+use Rattle.lam_geom.specs.declared.boxes.MaskLayer.{MaskLayer}
+use Rattle.lam_geom.specs.declared.boxes.MaskLayer.TheVariants.{ND, NM}
 use Rattle.rule_table.specs.declared.classes.Class.{Class}
 use Rattle.rule_table.specs.declared.classes.Class.TheVariants.{M, C, Dm, Dc, I, B}
 use Rattle.sym_items.specs.declared.items.End.{End}
 use Rattle.sym_items.specs.declared.items.Item.{Item}
 use Rattle.sym_items.specs.Standing.{nowhere}
 use Rattle.sym_items.specs.declared.items.Coords.{Coords}
+use Rattle.mask_out.specs.declared.picture.Call.{Call}
+use Rattle.mask_out.specs.Masks.{Mask}
+use Rattle.mask_out.specs.Pictures.{Drawing}
 
 abbrev pub below : ℕ → ℕ → End
 below v half = record { var = v; off = neg_ℤ (pos half) }
@@ -23,3 +28,24 @@ squares = square B 2 6 ∷ square M 2 4 ∷ square C 2 2 ∷ square Dm 2 4 ∷ s
 
 abbrev pub layout : Coords
 layout = record { x = pos 0 ∷ pos 48 ∷ pos 12 ∷ pos 30 ∷ []; y = pos 0 ∷ pos 24 ∷ pos 12 ∷ [] }
+
+-- ---- a picture
+
+abbrev pub mask : MaskLayer → ℤ → ℤ → ℤ → ℤ → Mask
+mask layer left right bottom top = record { layer = layer; sides = record { left = left; right = right; bottom = bottom; top = top } }
+
+abbrev pub call : ℕ → ℤ → ℤ → Call
+call symbol x y = record { symbol = symbol; x = x; y = y }
+
+-- a joint of metal; metal with diffusion inside it
+abbrev pub joint : Drawing
+joint = record { name = codes "a"; masks = mask NM (pos 0) (pos 6) (pos 0) (pos 6) ∷ [] }
+
+abbrev pub pair : Drawing
+pair = record { name = codes "b"; masks = mask ND (pos 1) (pos 5) (pos 2) (pos 4) ∷ mask NM (pos 0) (pos 6) (pos 0) (pos 8) ∷ [] }
+
+abbrev pub drawings : List Drawing
+drawings = joint ∷ pair ∷ []
+
+abbrev pub calls : List Call
+calls = call 0 (pos 0) (pos 0) ∷ call 1 (pos 38) (pos 0) ∷ call 0 (pos 6) (pos 27) ∷ []

@@ -12,6 +12,8 @@ use std::test::Fail;
 use stick_lex::Text;
 use sym_items::{Coords, End, Item, Items, NOWHERE};
 
+mod pictures;
+
 // A square on an x variable and y variable 2.
 fn square(class: Class, var: u32, half: u8) -> Item
     ensures { result ≡ worked.square class var half }

@@ -15,7 +15,7 @@ loop-item-preserved c =
     record {
       placed =
           elim c.if-is_drawn.branch [
-            | then-is_drawn+in_ok-push w ↦ one_more c.loop-item.boxes.items _ _ before.placed w.box_of-area.ensures.placed (ap (λ v. v.items) w.boxes-is ∙ w.in_ok-push.ensures.items)
+            | then-is_drawn+in_ok-push w ↦ one_more (λ (box : MaskBox). IsPlacedBox box.area) c.loop-item.boxes.items _ _ before.placed w.box_of-area.ensures.placed (ap (λ v. v.items) w.boxes-is ∙ w.in_ok-push.ensures.items)
             | else-is_drawn w ↦ (let P : List MaskBox → Type 0 = All (λ box. IsPlacedBox box.area) in subst P (ap (λ v. v.items) (sym w.boxes-is)) before.placed)
           ];
       drawn =

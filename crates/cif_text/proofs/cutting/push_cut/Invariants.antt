@@ -1,0 +1,14 @@
+use Rattle.std.proofs.Common.{◌≡◌, ℕ, ◌-◌, ◌≤◌, List, ◌++◌, length, map}
+use Rattle.cif_text.proofs.Cuts.{CutTo}
+use Rattle.cif_text.proofs.cutting.push_cut.Given as goal
+
+abbrev pub invariant-loop-start : goal.invariant-loop-start
+invariant-loop-start l = record {
+  cut : List (List ℕ);
+  grown : map (λ piece. piece.items) l.pieces.items ≡ map (λ piece. piece.items) l.initial.pieces.items ++ cut;
+  so : CutTo l.text l.start cut;
+  within : l.start ≤ length l.text;
+}
+
+abbrev pub decreases-loop-start : goal.decreases-loop-start
+decreases-loop-start l = length l.text - l.start

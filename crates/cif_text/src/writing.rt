@@ -1,0 +1,60 @@
+//! Writing a picture.
+ghost use Rattle.std.specs.Prelude.{◌≡◌, ◌≤◌, map, Err, OnOk, OnErr};
+ghost use Rattle.lam_io.specs.Io.{Appends, AppendsPrefix, Rose};
+ghost use Rattle.rule_table.specs.Technology.{numbers_of};
+ghost use Rattle.mask_out.specs.Pictures.{drawing_of};
+ghost use Rattle.cif_text.specs.declared.writing.CifWriteFault.TheVariants.{Fault, OutOfMemory};
+ghost use Rattle.cif_text.specs.Calls.{cif_of, IsWritable};
+
+use crate::pictures::cif_pieces;
+use lam_io::{PutFault, Sink, put_all};
+use mask_out::Picture;
+use rule_table::Tech;
+use std::alloc::{AllocError, Global};
+use thiserror::Error;
+
+/// Why a picture was not written whole.
+#[derive(Clone, Copy, Debug, PartialEq, Eq, Error)]
+pub enum CifWriteFault {
+    /// A put failed. The sink counted a fault in this call, and took a front of the text.
+    #[error("the picture could not be written")]
+    Fault,
+    /// Memory ran out. Nothing was put.
+    #[error("out of memory")]
+    OutOfMemory,
+}
+
+impl From<AllocError> for CifWriteFault {
+    ghost from_gives = { λ _ answer. answer ≡ OutOfMemory };
+
+    fn from(_error: AllocError) -> CifWriteFault {
+        CifWriteFault::OutOfMemory
+    }
+}
+
+impl From<PutFault> for CifWriteFault {
+    ghost from_gives = { λ _ answer. answer ≡ Fault };
+
+    fn from(_fault: PutFault) -> CifWriteFault {
+        CifWriteFault::Fault
+    }
+}
+
+/// Puts the CIF text of a picture, in pieces. All memory is taken before the first put.
+pub fn write_cif<S: Sink>(
+    alloc: Global,
+    tech: &Tech,
+    picture: &Picture,
+    out: &mut S,
+) -> Result<(), CifWriteFault>
+    requires { IsWritable picture.now }
+    ensures written { OnOk result (Appends (S.told out.old) (S.told out.new) (cif_of (numbers_of tech.now).unit (map drawing_of picture.now.symbols) picture.now.calls)) }
+    ensures prefix { result ≡ Err Fault → AppendsPrefix (S.told out.old) (S.told out.new) (cif_of (numbers_of tech.now).unit (map drawing_of picture.now.symbols) picture.now.calls) }
+    ensures fault { result ≡ Err Fault → Rose (S.faults out.old) (S.faults out.new) }
+    ensures untouched { result ≡ Err OutOfMemory → out.new ≡ out.old }
+    ensures counts { S.faults out.old ≤ S.faults out.new }
+{
+    let pieces = cif_pieces(alloc, tech, picture)?;
+    put_all(out, &pieces)?;
+    Ok(())
+}
