@@ -1,7 +1,7 @@
 #!/usr/bin/env python3
 """Times `compact` and `fmt` on generated designs of growing size: compact.py [PROGRAM]
 
-After the time it prints what the report says of the first pass. `inverter` is the example. Each other design is one cell of metal:
+After the time it prints what the report says of the first pass; grids.py times grids. `inverter` is the example. Each other design is one cell of metal:
   row     joints side by side, so that every two of them face each other, and all but neighbours are shadowed
   nets    two rows of joints, each tied by wires to one net, so that no item of a row shadows another of it
   ladder  columns tied by a wire, with single joints between them in turns
@@ -69,10 +69,14 @@ def names(wires):
     return "sticks 1\n" + "".join(cells) + "grid\nrow t\nend\n"
 
 
-def run(name, size, words):
+def timed(words):
     begin = time.time()
     done = subprocess.run([PROGRAM] + words, stdout=subprocess.DEVNULL, stderr=subprocess.PIPE, text=True)
-    took = time.time() - begin
+    return time.time() - begin, done
+
+
+def run(name, size, words, tries=1):
+    took, done = min((timed(words) for _ in range(tries)), key=lambda one: one[0])
     told = done.stderr.splitlines()
     print("%-8s %11s  %6.3f s  status %d  %s" % (name, size, took, done.returncode, told[0] if told else ""))
 

@@ -1,5 +1,5 @@
 -- A width or height against the most that it may be.
-use Rattle.std.proofs.Common.{◌≡◌, ℕ, suc, ◌*◌, ◌<◌, ◌≤◌, true, false, ℤ, pos, negsuc, ◌⊎◌, inl, inr, sym, ◌∙◌, arith, int_lt}
+use Rattle.std.proofs.Common.{◌≡◌, ℕ, suc, ◌*◌, ◌<◌, ◌≤◌, true, false, ℤ, pos, negsuc, ◌⊎◌, inl, inr, sym, ap, ◌∙◌, arith, int_lt, int_div}
 use Rattle.std.specs.Prelude.{◌≤ℤ◌, ◌<ℤ◌, ◌||◌, ◌*ℤ◌, ◌/◌, neg_ℤ}
 use Rattle.std.proofs.Math.IntN.{pos-*ℤ-pos, negsuc-*ℤ-pos}
 use Rattle.std.proofs.lemmas.Int.{ints}
@@ -62,3 +62,7 @@ some_above most a b h = elim (int_lt_cases most a) [
     | inr (g, _) ↦ absurd (false_true (rw (f, g) at h))
   ]
 ]
+
+-- no quotient of numbers is below 0
+pub quotient_from_zero : (n k : ℕ) (d q : ℤ) → 0 < k → d ≡ pos k → q ≡ int_div (pos n) d → pos 0 ≤ℤ q
+quotient_from_zero n k d q some natural is = let e : q ≡ pos (n / k) = is ∙ ap (int_div (pos n)) natural in omega (arith, ints, e)

@@ -1,15 +1,35 @@
--- How a master is laid out, or refused.
-use Rattle.std.proofs.Common.{◌≡◌, ℕ, List, ◌∷◌, [], get_or, ap, subst, ◌∙◌, arith, ◌<◌, length}
+-- How masters are laid out, or refused.
+use Rattle.std.proofs.Common.{◌≡◌, ℕ, ◌*◌, ℤ, pos, negsuc, List, get_or, take, inl, inr, sym, subst, arith, ◌<◌, ◌≤◌, length}
+use Rattle.std.specs.Prelude.{All, Contains, ◌≤ℤ◌, ◌*ℤ◌, ◌^◌}
+use Rattle.std.proofs.Math.IntN.{pos-*ℤ-pos}
+use Rattle.std.proofs.Math.Nat.{le-mul_of_pos_right}
+use Rattle.std.proofs.lemmas.Bool.{cases_lt}
+use Rattle.std.proofs.lemmas.Int.{ints}
+use Rattle.std.proofs.lemmas.List.{get_or_default, get_or_past}
+use Rattle.std.proofs.lemmas.List.Elements.{All-get_or}
 use Rattle.lam_geom.specs.declared.boxes.Axis.{Axis}
+use Rattle.lam_geom.specs.declared.boxes.Axis.TheVariants.{X, Y}
 use Rattle.lam_io.specs.Io.{Bytes}
 use Rattle.rule_table.specs.declared.technology.Tech.{Tech}
+use Rattle.rule_table.specs.Technology.{numbers_of}
+use Rattle.rule_table.proofs.Sound.{sound}
 use Rattle.sym_items.specs.declared.items.Coords.{Coords}
+use Rattle.sym_items.specs.Boxes.{HasBox}
+use Rattle.sym_items.specs.Layouts.{layout_at, no_layout, size_in}
+use Rattle.sym_items.specs.Transposed.{values_along}
+use Rattle.sym_items.specs.Values.{value_of}
 use Rattle.expand.specs.declared.master.Master.{Master}
 use Rattle.pair_rules.specs.Bound.{item_at}
-use Rattle.pair_rules.specs.Clean.{IsClean}
 use Rattle.coarse_grid.specs.Start.{start_of}
 use Rattle.coarse_grid.specs.Clash.{IsFirstClash}
 use Rattle.coarse_grid.specs.Laws.{NearShareAPoint}
+use Rattle.plan_model.specs.declared.plan.Plan.{Plan}
+use Rattle.pitch_join.specs.Layouts.{LayoutsMeet}
+use Rattle.pitch_join.specs.Masters.{master_at, no_master}
+use Rattle.grid_rules.specs.Rules.{AreFinished}
+use Rattle.mask_out.specs.Pictures.{HaveBoxes}
+use Rattle.pass_run.specs.Laid.{AreLaidOut, StartsClean}
+use Rattle.pass_run.specs.Theorems.{AreWellPlaced}
 use Rattle.pass_run.specs.declared.step.Step.{Step}
 use Rattle.pass_run.specs.declared.passes.PassFault.{PassFault}
 use Rattle.pass_run.specs.declared.passes.PassFault.TheVariants as stop
@@ -17,13 +37,9 @@ use Rattle.pass_run.specs.PassFaults.{RefusesPasses}
 use Rattle.compact_run.specs.declared.status.What.TheVariants.{Extent}
 use Rattle.compact_run.specs.declared.status.Status.{Status}
 use Rattle.compact_run.specs.declared.status.Status.TheVariants as status
-use Rattle.compact_run.specs.Masks.{clash_text}
+use Rattle.compact_run.specs.Clash.{clash_text}
 use Rattle.compact_run.specs.Refusals.{Refused, plain, refusal_of}
-use Rattle.compact_run.specs.Designs.{ArePassesOn, HasClash, HasLargeExtent, IsPast, IsWithin, RefusesMaster, last_layout}
-
--- the element of a list of one
-only_of : {A : Type 0} (x y : A) (list : List A) → x ≡ get_or list 0 x → list ≡ y ∷ [] → x ≡ y
-only_of x y list at is = at ∙ ap (λ xs. get_or xs 0 x) is
+use Rattle.compact_run.specs.Designs.{AreSizes, ArePassesOn, HasBothAxes, HasClash, HasLargeExtent, IsFirstUnclean, IsPast, IsWithinExtent, RefusesStart, RefusesMasters, last_layouts}
 
 pub clash_of : (tech : Tech) (master : Master) (layout : Coords) (a b : ℕ) (line : Bytes) → NearShareAPoint tech master → layout ≡ start_of tech master.cell
     → IsFirstClash tech layout master.items.list a b → line ≡ clash_text master.cell (item_at master.items.list a).owner (item_at master.items.list b).owner
@@ -34,19 +50,73 @@ clash_of tech master layout a b line points is first says =
     let among : a < length master.items.list = omega (arith, f.ordered, f.among) in
     record { first = f; near = points a b among f.among f.near; says = says }
 
-pub within_last : (tech : Tech) (layout last : Coords) (layouts : List Coords) → layout ≡ get_or layouts 0 layout → layouts ≡ last ∷ [] → IsWithin tech layout → IsWithin tech last
-within_last tech layout last layouts at is within = let P : Coords → Type 0 = λ c. IsWithin tech c in subst P (only_of layout last layouts at is) within
+-- the first start layout that is refused refuses the masters
+pub start_refused : (tech : Tech) (plan : Plan) (masters : List Master) (axes : List Axis) (number : ℕ) (master : Master) (ended : Status) (own : Bytes)
+    → number < length masters → master ≡ master_at masters number → All (StartsClean tech) (take number masters)
+    → RefusesStart tech master number ended own → RefusesMasters tech plan masters axes ended own
+start_refused tech plan masters axes number master status.OutOfMemory own among is before why = tt
+start_refused tech plan masters axes number master (status.Clash cell a b) own among is before why =
+    let C : Master → Type 0 = λ m. HasClash tech m a b own in
+    let P : ℕ → Type 0 = λ k. IsFirstUnclean tech masters k a b own in
+    subst P (sym why.0) (record { among = among; before = before; clash = subst C is why.1 })
+start_refused tech plan masters axes number master other own among is before why = absurd why
 
-pub stopped : (tech : Tech) (master : Master) (axes : List Axis) (fault : PassFault) → IsClean tech (start_of tech master.cell) master.items.list
-    → RefusesPasses tech master.cell master.items.list axes fault → Refused (RefusesMaster tech master axes) (refusal_of fault)
-stopped tech master axes (stop.TooManyEdges pass) clean why = (pass, record { clean = clean; why = why })
-stopped tech master axes (stop.Unsatisfiable pass report) clean why = record { clean = clean; why = why }
-stopped tech master axes stop.OutOfMemory clean why = tt
+pub stopped : (tech : Tech) (plan : Plan) (masters : List Master) (axes : List Axis) (fault : PassFault) → All (StartsClean tech) masters
+    → RefusesPasses tech plan masters axes fault → Refused (RefusesMasters tech plan masters axes) (refusal_of fault)
+stopped tech plan masters axes (stop.TooManyEdges pass) clean why = (pass, record { clean = clean; why = why })
+stopped tech plan masters axes (stop.Unsatisfiable pass report) clean why = record { clean = clean; why = why }
+stopped tech plan masters axes stop.OutOfMemory clean why = tt
 
-pub too_large : (tech : Tech) (master : Master) (axes : List Axis) (steps : List Step) (layout : Coords) (layouts : List Coords) (ended : Status)
-    → ArePassesOn tech master axes steps → layout ≡ get_or layouts 0 layout → layouts ≡ last_layout tech master steps ∷ []
-    → ended ≡ status.TooLarge Extent → IsPast tech layout → Refused (RefusesMaster tech master axes) (plain ended)
-too_large tech master axes steps layout layouts ended made at is e past =
-    let P : Coords → Type 0 = λ c. IsPast tech c in
-    let large : HasLargeExtent tech master axes = record { steps = steps; made = made; past = subst P (only_of layout (last_layout tech master steps) layouts at is) past } in
+pub too_large : (tech : Tech) (plan : Plan) (masters : List Master) (axes : List Axis) (steps : List Step) (layouts : List Coords) (ended : Status)
+    → ArePassesOn tech plan masters axes steps → layouts ≡ last_layouts tech masters steps
+    → ended ≡ status.TooLarge Extent → IsPast tech plan layouts → Refused (RefusesMasters tech plan masters axes) (plain ended)
+too_large tech plan masters axes steps layouts ended made is e past =
+    let P : List Coords → Type 0 = λ cs. IsPast tech plan cs in
+    let large : HasLargeExtent tech plan masters axes = record { steps = steps; made = made; past = subst P is past } in
     rw e large
+
+-- ---- what the passes leave
+
+-- a value in a list of values at or above 0
+above_at : (values : List ℤ) (v : ℕ) → All (λ z. pos 0 ≤ℤ z) values → pos 0 ≤ℤ get_or values v (pos 0)
+above_at values v all = elim (cases_lt v (length values)) [
+  | inl lt ↦ All-get_or (λ z. pos 0 ≤ℤ z) values v (pos 0) lt all
+  | inr le ↦ subst (λ z. pos 0 ≤ℤ z) (sym (get_or_past values v (pos 0) le)) (omega (arith, ints))
+]
+
+-- no width or height is below 0
+pub sizes_above : (tech : Tech) (masters : List Master) (layouts : List Coords) → AreLaidOut tech masters layouts → (axis : Axis) → AreSizes (size_in axis layouts)
+sizes_above tech masters layouts laid axis m = elim (cases_lt m (length masters)) [
+  | inl lt ↦ above_at (values_along axis (layout_at layouts m)) 1 ((laid.each m lt).of_master.values_above axis)
+  | inr le ↦
+      let past : length layouts ≤ m = let n = laid.counted in omega (arith, n, le) in
+      subst (λ c. pos 0 ≤ℤ value_of (values_along axis c) 1) (sym (get_or_past layouts m no_layout past)) (none_at axis)
+]
+  where
+    none_at : (a : Axis) → pos 0 ≤ℤ value_of (values_along a no_layout) 1
+    none_at X = omega (arith, ints)
+    none_at Y = omega (arith, ints)
+
+pub finished : (tech : Tech) (plan : Plan) (masters : List Master) (axes : List Axis) (layouts : List Coords) → HasBothAxes axes → AreWellPlaced tech masters layouts axes
+    → ((axis : Axis) → Contains axes axis → LayoutsMeet axis tech plan masters layouts) → AreFinished tech plan masters layouts
+finished tech plan masters axes layouts both placed met = record { clean = λ m lt. (placed m lt).clean; meet = λ axis. met axis (both axis) }
+
+pub boxed : (tech : Tech) (masters : List Master) (axes : List Axis) (layouts : List Coords) → AreWellPlaced tech masters layouts axes → HaveBoxes layouts masters
+boxed tech masters axes layouts placed m d lt =
+    subst (λ (master : Master). All (HasBox (layout_at layouts m)) master.items.list) (get_or_default masters m no_master d lt) ((placed m lt).boxes)
+
+-- a length is no more than its product with a unit
+under_product : (z u most : ℤ) → pos 1 ≤ℤ u → pos 0 ≤ℤ most → (z *ℤ u) ≤ℤ most → z ≤ℤ most
+under_product (negsuc a) u most unit m le = omega (arith, ints, m)
+under_product (pos a) (negsuc k) most unit m le = omega (arith, ints, unit)
+under_product (pos a) (pos k) most unit m le =
+    let product : pos a *ℤ pos k ≡ pos (a * k) = pos-*ℤ-pos a k in
+    let some : 0 < k = omega (arith, ints, unit) in
+    let more : a ≤ a * k = le-mul_of_pos_right a some in
+    omega (arith, ints, product, more, le)
+
+pub within_length : (tech : Tech) (z : ℤ) → IsWithinExtent tech z → z ≤ℤ pos (2 ^ 40)
+within_length tech z within =
+    let size = (sound _ tech.sound).unit in
+    let short = under_product z (numbers_of tech).unit (pos (2 ^ 30)) (omega (arith, ints, size.low)) (omega (arith, ints)) within in
+    omega (arith, ints, short)

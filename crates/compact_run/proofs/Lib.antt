@@ -1,9 +1,14 @@
-pub mod Puts
 pub mod Endings
 pub mod Extents
 pub mod Layouts
-pub mod Cells
+pub mod Sums
+pub mod Weights
+pub mod Counting
+pub mod PassLists
+pub mod Chosen
+pub mod Planned
 pub mod Steps
 mod OneFile
 mod OneMaster
+mod OnePlan
 mod OneAnswer

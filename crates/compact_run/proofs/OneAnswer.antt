@@ -1,31 +1,29 @@
 -- The answer to some words, over files that decide it, is determined.
-use Rattle.std.proofs.Common.{◌≡◌, ℕ, List, [], Option, Some, None, Result, Ok, Err, refl, sym, ap, ◌∙◌, subst}
+use Rattle.std.proofs.Common.{◌≡◌, List, [], Option, Some, None, refl, sym, ap, ◌∙◌, subst}
 use Rattle.lam_geom.specs.declared.boxes.Axis.{Axis}
 use Rattle.lam_io.specs.Io.{Bytes, Files}
 use Rattle.rule_table.specs.declared.technology.Tech.{Tech}
 use Rattle.rule_table.specs.Technology.{numbers_of}
 use Rattle.tech_file.specs.Technology.{technology_of}
 use Rattle.stick_parse.specs.declared.design.Design.{Design as Sticks}
-use Rattle.stick_parse.specs.declared.fault.StickFault.{StickFault}
 use Rattle.stick_parse.specs.Order.{design_of}
 use Rattle.stick_print.specs.Canonical.{canonical}
-use Rattle.stick_cell.specs.Known.{Known}
-use Rattle.stick_cell.specs.Lines.{known_cells}
 use Rattle.expand.specs.declared.master.Master.{Master}
+use Rattle.plan_model.specs.declared.plan.Plan.{Plan}
 use Rattle.compact_run.specs.declared.status.File.TheVariants.{Design, Technology}
-use Rattle.compact_run.specs.declared.status.What.TheVariants.{Items}
 use Rattle.compact_run.specs.declared.status.Side2.TheVariants as side
 use Rattle.compact_run.specs.declared.status.Status.{Status}
 use Rattle.compact_run.specs.declared.status.Status.TheVariants as status
 use Rattle.compact_run.specs.Words.{Command, compact, fmt, command_of}
 use Rattle.compact_run.specs.FaultLines.{stick_line, tech_line}
 use Rattle.compact_run.specs.Refusal.{line_of}
-use Rattle.compact_run.specs.Built.{cell_number}
-use Rattle.compact_run.specs.Designs.{CompactsTo, RefusesDesign, RefusesCells, IsMasterOf, no_cell, no_masks as no_master}
+use Rattle.compact_run.specs.Plans.{AreMastersOf}
+use Rattle.compact_run.specs.Designs.{CompactsTo, RefusesDesign, no_masters, no_masks as not_laid_out}
 use Rattle.compact_run.specs.Answers.{IsTechnology, IsDesign, RefusesTechnology, RefusesSticks, IsCompacted, RefusesCompact, no_technology, no_design, no_masks, RefusesWords, IsAnswer, compacted, formatted, refused, output_failed, report_failed}
 use Rattle.compact_run.specs.OneAnswer.{IsDecided, HasOneAnswer}
 use Rattle.compact_run.proofs.OneFile.{IsReadAs, IsNotRead, long, faulty, read_once, not_both, refused_once}
-use Rattle.compact_run.proofs.OneMaster.{same_tech, one_master, Comes, laid_out, comes_refused, comes_once, AreSame}
+use Rattle.compact_run.proofs.OneMaster.{same_tech, one_masters, Comes, laid_out, comes_refused, comes_once, AreSame}
+use Rattle.compact_run.proofs.OnePlan.{HasNoMasters, plan_refused, has_masters, refused_once as not_planned_once}
 
 -- ---- the files
 
@@ -61,54 +59,30 @@ sticks_refused files name (status.TooLong Design) own why d = long why refl refl
 sticks_refused files name (status.BadSticks fault) own why d = faulty why.0.text fault why.0.file why.0.read refl why.1
 sticks_refused files name other own why d = absurd why
 
--- ---- the cell of a design
+-- ---- the design
 
--- why a design has no cell, and the line of it
-abbrev cell_of_known : Sticks → Result (List Known) StickFault → Result ℕ Status
-cell_of_known sticks (Err fault) = Err (status.BadSticks fault)
-cell_of_known sticks (Ok cells) = cell_number sticks cells
-
-abbrev cell_at : Tech → Sticks → Result ℕ Status
-cell_at tech sticks = cell_of_known sticks (known_cells tech sticks.cells)
-
-abbrev line_alone : Status → Bytes
-line_alone (status.BadSticks fault) = stick_line fault
-line_alone other = line_of other []
-
--- A design has no cell, or its master comes to something.
+-- A design has no masters, or they come to something.
 data Ends (tech : Tech) (axes : List Axis) (sticks : Sticks) (ended : Status) (output report : Bytes) : Type 0 where
-  without : cell_at tech sticks ≡ Err ended → output ≡ [] → report ≡ line_alone ended → Ends tech axes sticks ended output report
-  from : (master : Master) → IsMasterOf tech sticks master → Comes tech master axes ended output report → Ends tech axes sticks ended output report
-
-has_cell : (tech : Tech) (sticks : Sticks) (master : Master) (ended : Status) → IsMasterOf tech sticks master → cell_at tech sticks ≡ Err ended → ⊥
-has_cell tech sticks master ended m e =
-    let p = sym (ap (cell_of_known sticks) m.is_cell.resolved ∙ m.is_cell.chosen) ∙ e in cc
+  without : HasNoMasters tech sticks ended report → output ≡ [] → Ends tech axes sticks ended output report
+  from : (plan : Plan) (masters : List Master) → AreMastersOf tech sticks plan masters → Comes tech plan masters axes ended output report → Ends tech axes sticks ended output report
 
 ends_once : (tech : Tech) (axes : List Axis) (sticks : Sticks) (e f : Status) (o p r s : Bytes) → Ends tech axes sticks e o r → Ends tech axes sticks f p s → AreSame e f o p r s
-ends_once tech axes sticks e f o p r s (without c co cr) (without d do_ dr) =
-    let same : e ≡ f = err_same e f (sym c ∙ d) in (same, co ∙ sym do_, cr ∙ (ap line_alone same ∙ sym dr))
-  where
-    err_same : (x y : Status) → (let a : Result ℕ Status = Err x in a) ≡ Err y → x ≡ y
-    err_same x y e = cc
-ends_once tech axes sticks e f o p r s (without c co cr) (from m is comes) = absurd (has_cell tech sticks m e is c)
-ends_once tech axes sticks e f o p r s (from m is comes) (without c co cr) = absurd (has_cell tech sticks m f is c)
-ends_once tech axes sticks e f o p r s (from m is comes) (from n are come) =
-    let C : Master → Type 0 = λ z. Comes tech z axes f p s in
-    comes_once tech m axes e f o p r s comes (subst C (sym (one_master tech sticks m n is are)) come)
-
-no_cells : (tech : Tech) (axes : List Axis) (sticks : Sticks) (ended : Status) (own : Bytes) → RefusesCells tech sticks ended own → IsDecided ended → Ends tech axes sticks ended [] (line_of ended own)
-no_cells tech axes sticks status.OutOfMemory own why d = absurd d
-no_cells tech axes sticks (status.BadSticks fault) own why d = without (ap (cell_of_known sticks) why.0) refl why.1
-no_cells tech axes sticks status.NotBuilt own why d = without (ap (cell_of_known sticks) why.resolved ∙ why.none) refl refl
-no_cells tech axes sticks (status.TooLarge Items) own why d = without (ap (cell_of_known sticks) why.resolved ∙ why.none) refl refl
-no_cells tech axes sticks other own why d = absurd why
+ends_once tech axes sticks e f o p r s (without c co) (without d do_) = let same = not_planned_once tech sticks e f r s c d in (same.0, co ∙ sym do_, same.1)
+ends_once tech axes sticks e f o p r s (without c co) (from plan ms is comes) = absurd (has_masters tech sticks plan ms e r is c)
+ends_once tech axes sticks e f o p r s (from plan ms is comes) (without c co) = absurd (has_masters tech sticks plan ms f s is c)
+ends_once tech axes sticks e f o p r s (from plan ms is comes) (from other ns are come) =
+    let same = one_masters tech sticks plan other ms ns is are in
+    let C : Plan → Type 0 = λ z. Comes tech z ns axes f p s in
+    let D : List Master → Type 0 = λ zs. Comes tech plan zs axes f p s in
+    comes_once tech plan ms axes e f o p r s comes (subst D (sym same.1) (subst C (sym same.0) come))
 
 ends_refused : (tech : Tech) (axes : List Axis) (sticks : Sticks) (ended : Status) (own : Bytes) → RefusesDesign tech axes sticks ended own → IsDecided ended → Ends tech axes sticks ended [] (line_of ended own)
-ends_refused tech axes sticks ended own (no_cell why) d = no_cells tech axes sticks ended own why d
-ends_refused tech axes sticks ended own (no_master master is why) d = from master is (comes_refused tech master axes ended own why d)
+ends_refused tech axes sticks ended own (no_masters why) d = without (plan_refused tech sticks ended own why d) refl
+ends_refused tech axes sticks ended own (not_laid_out plan masters is why) d = from plan masters is (comes_refused tech plan masters axes ended own why d)
 
 ends_compacted : (tech : Tech) (axes : List Axis) (sticks : Sticks) (ended : Status) (output report : Bytes) → ended ≡ status.Done → CompactsTo tech axes sticks output report → Ends tech axes sticks ended output report
-ends_compacted tech axes sticks ended output report e c = from c.master c.is_master (laid_out c.steps c.laid_out.made c.laid_out.within e c.written c.reported)
+ends_compacted tech axes sticks ended output report e c =
+    from c.plan c.masters c.are_masters (laid_out c.steps c.laid_out.made c.laid_out.within e c.written c.reported)
 
 -- ---- `compact`
 

@@ -1,7 +1,10 @@
--- What the master of a design comes to is determined.
-use Rattle.std.proofs.Common.{◌≡◌, ℕ, Option, None, true, false, ℤ, ◌≤ℤ◌, ◌<ℤ◌, List, [], inl, inr, refl, sym, ap, ◌∙◌, subst, arith}
+-- What the masters of a design come to is determined.
+use Rattle.std.proofs.Common.{◌≡◌, ℕ, ◌<◌, Option, None, true, false, ℤ, ◌≤ℤ◌, ◌<ℤ◌, List, [], ◌∷◌, length, map, take, inl, inr, refl, sym, ap, ◌∙◌, subst, arith}
+use Rattle.std.specs.Prelude.{All}
 use Rattle.std.proofs.lemmas.Int.{ints}
 use Rattle.std.proofs.lemmas.Bool.{cases_order}
+use Rattle.std.proofs.lemmas.List.{length-take-le, get_or-take}
+use Rattle.std.proofs.lemmas.List.Elements.{All-get_or, All-tail}
 use Rattle.std.proofs.Props.{props}
 use Rattle.rule_table.specs.declared.faults.TechFault.{TechFault}
 use mathlib.Core.HLevel.{is_prop→PathP}
@@ -24,19 +27,25 @@ use Rattle.pair_rules.specs.Clean.{IsClean}
 use Rattle.coarse_grid.specs.Start.{start_of}
 use Rattle.coarse_grid.specs.Clash.{IsFirstClash, is_near_at}
 use Rattle.coarse_grid.proofs.Nears.{clean_not_near}
+use Rattle.plan_model.specs.declared.plan.Plan.{Plan}
+use Rattle.grid_plan.specs.Planned.{IsPlanOf}
+use Rattle.grid_plan.proofs.Determined.{determined}
+use Rattle.pitch_join.specs.Masters.{master_at, no_master}
 use Rattle.pass_run.specs.declared.step.Step.{Step}
 use Rattle.pass_run.specs.declared.passes.PassFault.{PassFault}
 use Rattle.pass_run.specs.declared.passes.PassFault.TheVariants as stop
+use Rattle.pass_run.specs.Layouts.{starts_of}
 use Rattle.pass_run.proofs.Determined.{passes_determined}
 use Rattle.pass_run.proofs.OneRefusal.{refused_in_one_way}
 use Rattle.compact_run.specs.declared.status.What.TheVariants.{Edges, Extent}
 use Rattle.compact_run.specs.declared.status.Status.{Status}
 use Rattle.compact_run.specs.declared.status.Status.TheVariants as status
-use Rattle.compact_run.specs.Built.{cell_number}
-use Rattle.compact_run.specs.Masks.{clash_text}
+use Rattle.compact_run.specs.Clash.{clash_text}
 use Rattle.compact_run.specs.Refusal.{line_of, own_text, too_large_line}
 use Rattle.compact_run.specs.Refusals.{refusal_of}
-use Rattle.compact_run.specs.Designs.{IsCellOf, IsMasterOf, ArePassesOn, IsWithin, IsPast, IsStopped, HasClash, RefusesMaster, last_layout, masks_text, passes_text}
+use Rattle.compact_run.specs.Plans.{IsPlanned, AreMastersOf}
+use Rattle.pass_run.specs.Laid.{StartsClean}
+use Rattle.compact_run.specs.Designs.{ArePassesOn, IsWithin, IsPast, IsStopped, HasClash, IsFirstUnclean, RefusesMasters, last_layouts, masks_text, passes_text}
 use Rattle.compact_run.specs.OneAnswer.{IsDecided}
 
 -- that there is no fault has one proof at most
@@ -47,45 +56,68 @@ no_fault_once o = hlevel props
 pub same_tech : (a b : Tech) → a.numbers ≡ b.numbers → a ≡ b
 same_tech a b p = λ i. record { numbers = p i; sound = is_prop→PathP (λ j. fault_of (p j) ≡ None) (λ j. no_fault_once (fault_of (p j))) a.sound b.sound i }
 
--- ---- the master
+-- ---- the masters
 
-pub one_cell : (tech : Tech) (design : Design) (c d : Cell) → IsCellOf tech design c → IsCellOf tech design d → c ≡ d
-one_cell tech design c d a b =
-    let cells : a.cells ≡ b.cells = let p = sym a.resolved ∙ b.resolved in cc in
-    let p = sym a.chosen ∙ (ap (cell_number design) cells ∙ b.chosen) in
-    let number : a.number ≡ b.number = cc in
-    a.inlined ∙ (ap (λ (ks : List Known). cell_of (known_at ks a.number)) cells ∙ (ap (λ (n : ℕ). cell_of (known_at b.cells n)) number ∙ sym b.inlined))
+pub one_cells : (tech : Tech) (design : Design) (c d : List Known) (p q : Plan) → IsPlanned tech design c p → IsPlanned tech design d q → c ≡ d
+one_cells tech design c d p q a b = let e = sym a.resolved ∙ b.resolved in cc
+
+pub one_plan : (tech : Tech) (design : Design) (c d : List Known) (p q : Plan) → IsPlanned tech design c p → IsPlanned tech design d q → p ≡ q
+one_plan tech design c d p q a b =
+    let cells = one_cells tech design c d p q a b in
+    determined c design.grids p q a.planned (subst (λ (ks : List Known). IsPlanOf ks design.grids q) (sym cells) b.planned)
 
 one_items : (tech : Tech) (cell : Cell) (s t : Items) → AreItems tech cell s → AreItems tech cell t → s ≡ t
 one_items tech cell s t a b = a.are ∙ (ap (λ (nets : Nets). items_of tech cell nets) (nets_same cell a.nets b.nets a.of_cell b.of_cell) ∙ sym b.are)
 
-pub one_master : (tech : Tech) (design : Design) (m n : Master) → IsMasterOf tech design m → IsMasterOf tech design n → m ≡ n
-one_master tech design m n a b =
-    let cell : m.cell ≡ n.cell = one_cell tech design m.cell n.cell a.is_cell b.is_cell in
+-- masters of one cell
+one_master : (tech : Tech) (m n : Master) → m.cell ≡ n.cell → AreItems tech m.cell m.items → AreItems tech n.cell n.items → m ≡ n
+one_master tech m n cell a b =
     let A : Cell → Type 0 = λ c. AreItems tech c n.items in
-    let items : m.items ≡ n.items = one_items tech m.cell m.items n.items a.items (subst A (sym cell) b.items) in
+    let items : m.items ≡ n.items = one_items tech m.cell m.items n.items a (subst A (sym cell) b) in
     ap (λ (c : Cell). record m { cell = c }) cell ∙ ap (λ (s : Items). record n { items = s }) items
+
+same_masters : (tech : Tech) (ms ns : List Master) → map (λ (m : Master). m.cell) ms ≡ map (λ (m : Master). m.cell) ns → All (λ (m : Master). AreItems tech m.cell m.items) ms
+    → All (λ (m : Master). AreItems tech m.cell m.items) ns → ms ≡ ns
+same_masters tech [] [] cells a b = refl
+same_masters tech [] (n ∷ ns) cells a b = cc
+same_masters tech (m ∷ ms) [] cells a b = cc
+same_masters tech (m ∷ ms) (n ∷ ns) cells a b =
+    let I : Master → Type 0 = λ (z : Master). AreItems tech z.cell z.items in
+    let cell : m.cell ≡ n.cell = cc in
+    let others : map (λ (z : Master). z.cell) ms ≡ map (λ (z : Master). z.cell) ns = cc in
+    let one = one_master tech m n cell (All-get_or I (m ∷ ms) 0 m (omega arith) a) (All-get_or I (n ∷ ns) 0 n (omega arith) b) in
+    let rest = same_masters tech ms ns others (All-tail I m ms a) (All-tail I n ns b) in
+    ap (λ (z : Master). z ∷ ms) one ∙ ap (λ (zs : List Master). n ∷ zs) rest
+
+pub one_masters : (tech : Tech) (design : Design) (p q : Plan) (ms ns : List Master) → AreMastersOf tech design p ms → AreMastersOf tech design q ns → (p ≡ q) × (ms ≡ ns)
+one_masters tech design p q ms ns a b =
+    let plan = one_plan tech design a.cells b.cells p q a.planned b.planned in
+    let cells = one_cells tech design a.cells b.cells p q a.planned b.planned in
+    let chosen : map (λ k. cell_of (known_at a.cells k)) p.masters ≡ map (λ k. cell_of (known_at b.cells k)) q.masters =
+    ap (λ (z : Plan). map (λ k. cell_of (known_at a.cells k)) z.masters) plan ∙ ap (λ (ks : List Known). map (λ k. cell_of (known_at ks k)) q.masters) cells in
+    (plan, same_masters tech ms ns (a.made.are ∙ (chosen ∙ sym b.made.are)) a.made.items b.made.items)
 
 -- ---- how it ends
 
--- A master is stopped by a pass, or has a clash, or is laid out: too large, or within the extent. This is the status, the output and the report.
-pub data Comes (tech : Tech) (master : Master) (axes : List Axis) (ended : Status) (output report : Bytes) : Type 0 where
-  stopped : (cause : PassFault) → IsStopped tech master axes cause → (cause ≡ stop.OutOfMemory → ⊥) → ended ≡ (refusal_of cause).status → output ≡ []
-      → report ≡ line_of (refusal_of cause).status (own_text (refusal_of cause).line) → Comes tech master axes ended output report
-  clashed : (a b : ℕ) (line : Bytes) → HasClash tech master a b line → ended ≡ status.Clash 0 a b → output ≡ [] → report ≡ line → Comes tech master axes ended output report
-  too_large : (steps : List Step) → ArePassesOn tech master axes steps → IsPast tech (last_layout tech master steps) → ended ≡ status.TooLarge Extent → output ≡ []
-      → report ≡ too_large_line Extent → Comes tech master axes ended output report
-  laid_out : (steps : List Step) → ArePassesOn tech master axes steps → IsWithin tech (last_layout tech master steps) → ended ≡ status.Done → output ≡ masks_text tech master steps
-      → report ≡ passes_text tech master steps → Comes tech master axes ended output report
+-- Masters are stopped by a pass, or one has a clash, or they are laid out: too large, or within the extent. This is the status, the output and the report.
+pub data Comes (tech : Tech) (plan : Plan) (masters : List Master) (axes : List Axis) (ended : Status) (output report : Bytes) : Type 0 where
+  stopped : (cause : PassFault) → IsStopped tech plan masters axes cause → (cause ≡ stop.OutOfMemory → ⊥) → ended ≡ (refusal_of cause).status → output ≡ []
+      → report ≡ line_of (refusal_of cause).status (own_text (refusal_of cause).line) → Comes tech plan masters axes ended output report
+  clashed : (number a b : ℕ) (line : Bytes) → IsFirstUnclean tech masters number a b line → ended ≡ status.Clash number a b → output ≡ [] → report ≡ line
+      → Comes tech plan masters axes ended output report
+  too_large : (steps : List Step) → ArePassesOn tech plan masters axes steps → IsPast tech plan (last_layouts tech masters steps) → ended ≡ status.TooLarge Extent → output ≡ []
+      → report ≡ too_large_line Extent → Comes tech plan masters axes ended output report
+  laid_out : (steps : List Step) → ArePassesOn tech plan masters axes steps → IsWithin tech plan (last_layouts tech masters steps) → ended ≡ status.Done
+      → output ≡ masks_text tech plan masters steps → report ≡ passes_text tech plan masters steps → Comes tech plan masters axes ended output report
 
-pub comes_refused : (tech : Tech) (master : Master) (axes : List Axis) (ended : Status) (own : Bytes) → RefusesMaster tech master axes ended own → IsDecided ended
-    → Comes tech master axes ended [] (line_of ended own)
-comes_refused tech master axes status.OutOfMemory own why d = absurd d
-comes_refused tech master axes (status.TooLarge Edges) own why d = stopped (stop.TooManyEdges why.0) why.1 (λ e. cc) refl refl refl
-comes_refused tech master axes (status.TooLarge Extent) own why d = too_large why.steps why.made why.past refl refl refl
-comes_refused tech master axes (status.Clash number a b) own why d = clashed a b own why.1 (ap (λ (n : ℕ). status.Clash n a b) why.0) refl refl
-comes_refused tech master axes (status.Unsatisfiable pass) own why d = stopped (stop.Unsatisfiable pass own) why (λ e. cc) refl refl refl
-comes_refused tech master axes other own why d = absurd why
+pub comes_refused : (tech : Tech) (plan : Plan) (masters : List Master) (axes : List Axis) (ended : Status) (own : Bytes) → RefusesMasters tech plan masters axes ended own → IsDecided ended
+    → Comes tech plan masters axes ended [] (line_of ended own)
+comes_refused tech plan masters axes status.OutOfMemory own why d = absurd d
+comes_refused tech plan masters axes (status.TooLarge Edges) own why d = stopped (stop.TooManyEdges why.0) why.1 (λ e. cc) refl refl refl
+comes_refused tech plan masters axes (status.TooLarge Extent) own why d = too_large why.steps why.made why.past refl refl refl
+comes_refused tech plan masters axes (status.Clash number a b) own why d = clashed number a b own why refl refl refl
+comes_refused tech plan masters axes (status.Unsatisfiable pass) own why d = stopped (stop.Unsatisfiable pass own) why (λ e. cc) refl refl refl
+comes_refused tech plan masters axes other own why d = absurd why
 
 -- ---- one end
 
@@ -128,57 +160,90 @@ not_clean tech master a b line p clean =
     let near = first.near in
     cc
 
--- passes that are made are not refused
-not_stopped : (tech : Tech) (master : Master) (axes : List Axis) (cause : PassFault) (steps : List Step) → IsStopped tech master axes cause → (cause ≡ stop.OutOfMemory → ⊥) → ArePassesOn tech master axes steps → ⊥
-not_stopped tech master axes cause steps s has made = has ((refused_in_one_way tech master.cell master.items.list axes).none_made steps cause made.passes made.on_axes s.why)
+-- the start layout of a master that is one of some is clean where all of theirs are
+clean_at : (tech : Tech) (masters : List Master) (number : ℕ) → number < length masters → All (StartsClean tech) masters → StartsClean tech (master_at masters number)
+clean_at tech masters number lt all = All-get_or (StartsClean tech) masters number no_master lt all
 
-one_cause : (tech : Tech) (master : Master) (axes : List Axis) (c d : PassFault) → IsStopped tech master axes c → IsStopped tech master axes d → (c ≡ stop.OutOfMemory → ⊥) → (d ≡ stop.OutOfMemory → ⊥) → c ≡ d
-one_cause tech master axes c d s t hc hd =
-    elim ((refused_in_one_way tech master.cell master.items.list axes).one c d s.why t.why) as (λ _. c ≡ d) [
+-- and where those of the first are, and it is one of these
+clean_before : (tech : Tech) (masters : List Master) (number other : ℕ) → number < other → other < length masters → All (StartsClean tech) (take other masters) → StartsClean tech (master_at masters number)
+clean_before tech masters number other before among all =
+    let count : length (take other masters) ≡ other = length-take-le other masters (omega (arith, among)) in
+    let at = All-get_or (StartsClean tech) (take other masters) number no_master (omega (arith, count, before)) all in
+    rw (get_or-take other masters number no_master before) at at
+
+one_unclean : (tech : Tech) (masters : List Master) (m n a b c d : ℕ) (line told : Bytes) → IsFirstUnclean tech masters m a b line → IsFirstUnclean tech masters n c d told
+    → (m ≡ n) × (a ≡ c) × (b ≡ d) × (line ≡ told)
+one_unclean tech masters m n a b c d line told p q =
+    elim (cases_order m n) as (λ _. (m ≡ n) × (a ≡ c) × (b ≡ d) × (line ≡ told)) [
+      | inl e ↦
+          let C : ℕ → Type 0 = λ k. HasClash tech (master_at masters k) c d told in
+          let same = one_clash tech (master_at masters m) a b c d line told p.clash (subst C (sym e) q.clash) in
+          (e, same.0, same.1, same.2)
+      | inr ne ↦
+          elim ne as (λ _. (m ≡ n) × (a ≡ c) × (b ≡ d) × (line ≡ told)) [
+            | inl lt ↦ absurd (not_clean tech (master_at masters m) a b line p.clash (clean_before tech masters m n lt q.among q.before))
+            | inr gt ↦ absurd (not_clean tech (master_at masters n) c d told q.clash (clean_before tech masters n m gt p.among p.before))
+          ]
+    ]
+
+-- where one has a clash, not all are clean
+not_all_clean : (tech : Tech) (masters : List Master) (number a b : ℕ) (line : Bytes) → IsFirstUnclean tech masters number a b line → All (StartsClean tech) masters → ⊥
+not_all_clean tech masters number a b line p all = not_clean tech (master_at masters number) a b line p.clash (clean_at tech masters number p.among all)
+
+-- passes that are made are not refused
+not_stopped : (tech : Tech) (plan : Plan) (masters : List Master) (axes : List Axis) (cause : PassFault) (steps : List Step) → IsStopped tech plan masters axes cause → (cause ≡ stop.OutOfMemory → ⊥)
+    → ArePassesOn tech plan masters axes steps → ⊥
+not_stopped tech plan masters axes cause steps s has made = has ((refused_in_one_way tech plan masters axes).none_made steps cause made.passes made.on_axes s.why)
+
+one_cause : (tech : Tech) (plan : Plan) (masters : List Master) (axes : List Axis) (c d : PassFault) → IsStopped tech plan masters axes c → IsStopped tech plan masters axes d
+    → (c ≡ stop.OutOfMemory → ⊥) → (d ≡ stop.OutOfMemory → ⊥) → c ≡ d
+one_cause tech plan masters axes c d s t hc hd =
+    elim ((refused_in_one_way tech plan masters axes).one c d s.why t.why) as (λ _. c ≡ d) [
       | inl e ↦ absurd (hc e)
       | inr o ↦ elim o as (λ _. c ≡ d) [ inl e ↦ absurd (hd e) | inr same ↦ same ]
     ]
 
-one_passes : (tech : Tech) (master : Master) (axes : List Axis) (s t : List Step) → ArePassesOn tech master axes s → ArePassesOn tech master axes t → s ≡ t
-one_passes tech master axes s t a b = passes_determined tech master.cell master.items.list (start_of tech master.cell) s t a.passes b.passes (a.on_axes ∙ sym b.on_axes)
+one_passes : (tech : Tech) (plan : Plan) (masters : List Master) (axes : List Axis) (s t : List Step) → ArePassesOn tech plan masters axes s → ArePassesOn tech plan masters axes t → s ≡ t
+one_passes tech plan masters axes s t a b = passes_determined tech plan masters (starts_of tech masters) s t a.passes b.passes (a.on_axes ∙ sym b.on_axes)
 
 not_above : (a b : ℤ) → a ≤ℤ b → b <ℤ a → ⊥
 not_above a b le lt = omega (arith, ints, le, lt)
 
--- a layout is not within the extent and past it
-not_within : (tech : Tech) (c : Coords) → IsWithin tech c → IsPast tech c → ⊥
-not_within tech c w (inl past) = not_above _ _ w.width past
-not_within tech c w (inr past) = not_above _ _ w.height past
+-- layouts are not within the extent and past it
+not_within : (tech : Tech) (plan : Plan) (layouts : List Coords) → IsWithin tech plan layouts → IsPast tech plan layouts → ⊥
+not_within tech plan layouts w (inl past) = not_above _ _ w.width past
+not_within tech plan layouts w (inr past) = not_above _ _ w.height past
 
-within_past : (tech : Tech) (master : Master) (axes : List Axis) (s t : List Step) → ArePassesOn tech master axes s → ArePassesOn tech master axes t
-    → IsWithin tech (last_layout tech master s) → IsPast tech (last_layout tech master t) → ⊥
-within_past tech master axes s t a b w p =
-    let P : List Step → Type 0 = λ zs. IsPast tech (last_layout tech master zs) in
-    not_within tech (last_layout tech master s) w (subst P (sym (one_passes tech master axes s t a b)) p)
+within_past : (tech : Tech) (plan : Plan) (masters : List Master) (axes : List Axis) (s t : List Step) → ArePassesOn tech plan masters axes s → ArePassesOn tech plan masters axes t
+    → IsWithin tech plan (last_layouts tech masters s) → IsPast tech plan (last_layouts tech masters t) → ⊥
+within_past tech plan masters axes s t a b w p =
+    let P : List Step → Type 0 = λ zs. IsPast tech plan (last_layouts tech masters zs) in
+    not_within tech plan (last_layouts tech masters s) w (subst P (sym (one_passes tech plan masters axes s t a b)) p)
 
 abbrev pub AreSame : Status → Status → Bytes → Bytes → Bytes → Bytes → Type 0
 AreSame ended other output text report told = (ended ≡ other) × (output ≡ text) × (report ≡ told)
 
-pub comes_once : (tech : Tech) (master : Master) (axes : List Axis) (e f : Status) (o p r s : Bytes) → Comes tech master axes e o r → Comes tech master axes f p s → AreSame e f o p r s
-comes_once tech master axes e f o p r s (stopped c why has ce co cr) (stopped d reason hd de do_ dr) =
-    let same = one_cause tech master axes c d why reason has hd in
+pub comes_once : (tech : Tech) (plan : Plan) (masters : List Master) (axes : List Axis) (e f : Status) (o p r s : Bytes) → Comes tech plan masters axes e o r → Comes tech plan masters axes f p s
+    → AreSame e f o p r s
+comes_once tech plan masters axes e f o p r s (stopped c why has ce co cr) (stopped d reason hd de do_ dr) =
+    let same = one_cause tech plan masters axes c d why reason has hd in
     (ce ∙ (ap (λ (z : PassFault). (refusal_of z).status) same ∙ sym de), co ∙ sym do_, cr ∙ (ap (λ (z : PassFault). line_of (refusal_of z).status (own_text (refusal_of z).line)) same ∙ sym dr))
-comes_once tech master axes e f o p r s (clashed a b line has ce co cr) (clashed c d told also de do_ dr) =
-    let same = one_clash tech master a b c d line told has also in
-    (ce ∙ (ap (λ (n : ℕ). status.Clash 0 n b) same.0 ∙ (ap (λ (n : ℕ). status.Clash 0 c n) same.1 ∙ sym de)), co ∙ sym do_, cr ∙ (same.2 ∙ sym dr))
-comes_once tech master axes e f o p r s (too_large steps made past ce co cr) (too_large others done over de do_ dr) = (ce ∙ sym de, co ∙ sym do_, cr ∙ sym dr)
-comes_once tech master axes e f o p r s (laid_out steps made within ce co cr) (laid_out others done fits de do_ dr) =
-    let same = one_passes tech master axes steps others made done in
-    (ce ∙ sym de, co ∙ (ap (λ (zs : List Step). masks_text tech master zs) same ∙ sym do_), cr ∙ (ap (λ (zs : List Step). passes_text tech master zs) same ∙ sym dr))
-comes_once tech master axes e f o p r s (stopped c why has ce co cr) (clashed a b line clash de do_ dr) = absurd (not_clean tech master a b line clash why.clean)
-comes_once tech master axes e f o p r s (clashed a b line clash de do_ dr) (stopped c why has ce co cr) = absurd (not_clean tech master a b line clash why.clean)
-comes_once tech master axes e f o p r s (stopped c why has ce co cr) (too_large steps made past de do_ dr) = absurd (not_stopped tech master axes c steps why has made)
-comes_once tech master axes e f o p r s (too_large steps made past de do_ dr) (stopped c why has ce co cr) = absurd (not_stopped tech master axes c steps why has made)
-comes_once tech master axes e f o p r s (stopped c why has ce co cr) (laid_out steps made within de do_ dr) = absurd (not_stopped tech master axes c steps why has made)
-comes_once tech master axes e f o p r s (laid_out steps made within de do_ dr) (stopped c why has ce co cr) = absurd (not_stopped tech master axes c steps why has made)
-comes_once tech master axes e f o p r s (clashed a b line clash ce co cr) (too_large steps made past de do_ dr) = absurd (not_clean tech master a b line clash made.clean)
-comes_once tech master axes e f o p r s (too_large steps made past de do_ dr) (clashed a b line clash ce co cr) = absurd (not_clean tech master a b line clash made.clean)
-comes_once tech master axes e f o p r s (clashed a b line clash ce co cr) (laid_out steps made within de do_ dr) = absurd (not_clean tech master a b line clash made.clean)
-comes_once tech master axes e f o p r s (laid_out steps made within de do_ dr) (clashed a b line clash ce co cr) = absurd (not_clean tech master a b line clash made.clean)
-comes_once tech master axes e f o p r s (too_large steps made past ce co cr) (laid_out others done within de do_ dr) = absurd (within_past tech master axes others steps done made within past)
-comes_once tech master axes e f o p r s (laid_out steps made within ce co cr) (too_large others done past de do_ dr) = absurd (within_past tech master axes steps others made done within past)
+comes_once tech plan masters axes e f o p r s (clashed m a b line has ce co cr) (clashed n c d told also de do_ dr) =
+    let same = one_unclean tech masters m n a b c d line told has also in
+    (ce ∙ (ap (λ (k : ℕ). status.Clash k a b) same.0 ∙ (ap (λ (k : ℕ). status.Clash n k b) same.1 ∙ (ap (λ (k : ℕ). status.Clash n c k) same.2 ∙ sym de))), co ∙ sym do_, cr ∙ (same.3 ∙ sym dr))
+comes_once tech plan masters axes e f o p r s (too_large steps made past ce co cr) (too_large others done over de do_ dr) = (ce ∙ sym de, co ∙ sym do_, cr ∙ sym dr)
+comes_once tech plan masters axes e f o p r s (laid_out steps made within ce co cr) (laid_out others done fits de do_ dr) =
+    let same = one_passes tech plan masters axes steps others made done in
+    (ce ∙ sym de, co ∙ (ap (λ (zs : List Step). masks_text tech plan masters zs) same ∙ sym do_), cr ∙ (ap (λ (zs : List Step). passes_text tech plan masters zs) same ∙ sym dr))
+comes_once tech plan masters axes e f o p r s (stopped c why has ce co cr) (clashed number a b line clash de do_ dr) = absurd (not_all_clean tech masters number a b line clash why.clean)
+comes_once tech plan masters axes e f o p r s (clashed number a b line clash de do_ dr) (stopped c why has ce co cr) = absurd (not_all_clean tech masters number a b line clash why.clean)
+comes_once tech plan masters axes e f o p r s (stopped c why has ce co cr) (too_large steps made past de do_ dr) = absurd (not_stopped tech plan masters axes c steps why has made)
+comes_once tech plan masters axes e f o p r s (too_large steps made past de do_ dr) (stopped c why has ce co cr) = absurd (not_stopped tech plan masters axes c steps why has made)
+comes_once tech plan masters axes e f o p r s (stopped c why has ce co cr) (laid_out steps made within de do_ dr) = absurd (not_stopped tech plan masters axes c steps why has made)
+comes_once tech plan masters axes e f o p r s (laid_out steps made within de do_ dr) (stopped c why has ce co cr) = absurd (not_stopped tech plan masters axes c steps why has made)
+comes_once tech plan masters axes e f o p r s (clashed number a b line clash ce co cr) (too_large steps made past de do_ dr) = absurd (not_all_clean tech masters number a b line clash made.clean)
+comes_once tech plan masters axes e f o p r s (too_large steps made past de do_ dr) (clashed number a b line clash ce co cr) = absurd (not_all_clean tech masters number a b line clash made.clean)
+comes_once tech plan masters axes e f o p r s (clashed number a b line clash ce co cr) (laid_out steps made within de do_ dr) = absurd (not_all_clean tech masters number a b line clash made.clean)
+comes_once tech plan masters axes e f o p r s (laid_out steps made within de do_ dr) (clashed number a b line clash ce co cr) = absurd (not_all_clean tech masters number a b line clash made.clean)
+comes_once tech plan masters axes e f o p r s (too_large steps made past ce co cr) (laid_out others done within de do_ dr) = absurd (within_past tech plan masters axes others steps done made within past)
+comes_once tech plan masters axes e f o p r s (laid_out steps made within ce co cr) (too_large others done past de do_ dr) = absurd (within_past tech plan masters axes steps others made done within past)

@@ -5,11 +5,12 @@ use Rattle.lam_io.specs.Io.{Bytes, Files, Telling, with_asked, Asks}
 use Rattle.rule_table.specs.declared.technology.Tech.{Tech}
 use Rattle.stick_parse.specs.declared.design.Design.{Design as Sticks}
 use Rattle.expand.specs.declared.master.Master.{Master}
+use Rattle.plan_model.specs.declared.plan.Plan.{Plan}
 use Rattle.compact_run.specs.declared.output.Output.{Output}
 use Rattle.compact_run.specs.declared.refusal.Refusal.{Refusal}
 use Rattle.compact_run.specs.declared.status.File.{File}
 use Rattle.compact_run.specs.declared.status.File.TheVariants.{Design, Technology}
-use Rattle.compact_run.specs.declared.status.What.TheVariants.{Items, Edges, Extent}
+use Rattle.compact_run.specs.declared.status.What.TheVariants.{Items, Boxes, Edges, Extent}
 use Rattle.compact_run.specs.declared.status.Status.{Status}
 use Rattle.compact_run.specs.declared.status.Status.TheVariants as status
 use Rattle.compact_run.specs.Words.{Command, compact, fmt}
@@ -18,7 +19,8 @@ use Rattle.compact_run.specs.Refusal.{own_text}
 use Rattle.compact_run.specs.Refusals.{Refused, ending_of}
 use Rattle.compact_run.specs.Answers as answers
 use Rattle.compact_run.specs.Answers.{IsTechnology, IsDesign, IsGiven, text_of}
-use Rattle.compact_run.specs.Designs.{RefusesCells, RefusesMaster, RefusesDesign, CompactsTo, no_cell, no_masks}
+use Rattle.compact_run.specs.Plans.{RefusesPlan}
+use Rattle.compact_run.specs.Designs.{RefusesMasters, RefusesDesign, CompactsTo, no_masters, no_masks}
 
 -- a command that is refused over its design once its files are read
 abbrev pub IsOfDesign : Status → Type 0
@@ -67,25 +69,26 @@ pub no_usage : (c : Command) (ended : Status) (old new : Option Telling) → Ask
 no_usage c ended old new (inl through) e = let P : Status → Type 0 = λ s. AsksThrough (file_of s) c old new in subst P e through
 no_usage c ended old new (inr p) e = let same : status.Usage ≡ status.OutOfMemory = sym e ∙ p.0 in cc
 
--- why a design has no cell that is laid out, and why its master is refused, are causes of the design's
-cells_over : (tech : Tech) (design : Sticks) (ended : Status) (own : Bytes) → RefusesCells tech design ended own → IsOfDesign ended
-cells_over tech design status.OutOfMemory own why = (tt, inl refl, λ f e. cc)
-cells_over tech design (status.BadSticks fault) own why = (tt, inr refl, λ f e. cc)
-cells_over tech design status.NotBuilt own why = (tt, inr refl, λ f e. cc)
-cells_over tech design (status.TooLarge Items) own why = (tt, inr refl, λ f e. cc)
-cells_over tech design other own why = absurd why
+-- why a design has no masters, and why they are not laid out, are causes of the design's
+plan_over : (tech : Tech) (design : Sticks) (ended : Status) (own : Bytes) → RefusesPlan tech design ended own → IsOfDesign ended
+plan_over tech design status.OutOfMemory own why = (tt, inl refl, λ f e. cc)
+plan_over tech design (status.BadSticks fault) own why = (tt, inr refl, λ f e. cc)
+plan_over tech design (status.BadGrid grid fault) own why = (tt, inr refl, λ f e. cc)
+plan_over tech design (status.TooLarge Items) own why = (tt, inr refl, λ f e. cc)
+plan_over tech design (status.TooLarge Boxes) own why = (tt, inr refl, λ f e. cc)
+plan_over tech design other own why = absurd why
 
-master_over : (tech : Tech) (master : Master) (axes : List Axis) (ended : Status) (own : Bytes) → RefusesMaster tech master axes ended own → IsOfDesign ended
-master_over tech master axes status.OutOfMemory own why = (tt, inl refl, λ f e. cc)
-master_over tech master axes (status.TooLarge Edges) own why = (tt, inr refl, λ f e. cc)
-master_over tech master axes (status.TooLarge Extent) own why = (tt, inr refl, λ f e. cc)
-master_over tech master axes (status.Clash number a b) own why = (tt, inr refl, λ f e. cc)
-master_over tech master axes (status.Unsatisfiable pass) own why = (tt, inr refl, λ f e. cc)
-master_over tech master axes other own why = absurd why
+masters_over : (tech : Tech) (plan : Plan) (masters : List Master) (axes : List Axis) (ended : Status) (own : Bytes) → RefusesMasters tech plan masters axes ended own → IsOfDesign ended
+masters_over tech plan masters axes status.OutOfMemory own why = (tt, inl refl, λ f e. cc)
+masters_over tech plan masters axes (status.TooLarge Edges) own why = (tt, inr refl, λ f e. cc)
+masters_over tech plan masters axes (status.TooLarge Extent) own why = (tt, inr refl, λ f e. cc)
+masters_over tech plan masters axes (status.Clash number a b) own why = (tt, inr refl, λ f e. cc)
+masters_over tech plan masters axes (status.Unsatisfiable pass) own why = (tt, inr refl, λ f e. cc)
+masters_over tech plan masters axes other own why = absurd why
 
 pub design_over : (tech : Tech) (axes : List Axis) (design : Sticks) (ended : Status) (own : Bytes) → RefusesDesign tech axes design ended own → IsOfDesign ended
-design_over tech axes design ended own (no_cell why) = cells_over tech design ended own why
-design_over tech axes design ended own (no_masks master is why) = master_over tech master axes ended own why
+design_over tech axes design ended own (no_masters why) = plan_over tech design ended own why
+design_over tech axes design ended own (no_masks plan masters is why) = masters_over tech plan masters axes ended own why
 
 -- what a step over the design gives says how it ends
 pub over_design : {A : Type 0} (r : Result A Refusal) → IfErr r (λ e. EndsOver Design e.status) → (ending_of r ≡ status.OutOfMemory) ⊎ (file_of (ending_of r) ≡ Some Design)

@@ -1,50 +1,44 @@
--- What `compact` answers over a design and a technology: the masks and the report of its master, or why there are none.
-use Rattle.std.specs.Prelude.{◌≡◌, ℕ, ◌*ℤ◌, ◌≤ℤ◌, ◌<ℤ◌, ◌⊎◌, ℤ, Ok, Err, List, []}
+-- What `compact` answers over a design and a technology: the masks and the report of its masters, or why there are none.
+use Rattle.std.specs.Prelude.{◌≡◌, ℕ, ◌<◌, ◌≤◌, ◌*ℤ◌, ◌≤ℤ◌, ◌<ℤ◌, ◌⊎◌, ℤ, pos, All, Contains, List, [], length, take}
 use Rattle.lam_geom.specs.declared.boxes.Axis.{Axis}
+use Rattle.lam_geom.specs.declared.boxes.Axis.TheVariants.{X, Y}
 use Rattle.lam_io.specs.Io.{Bytes}
 use Rattle.rule_table.specs.declared.technology.Tech.{Tech}
-use Rattle.rule_table.specs.Technology.{numbers_of}
-use Rattle.cons_graph.specs.Solutions.{value_of}
+use Rattle.rule_table.specs.Technology.{numbers_of, widest_of}
 use Rattle.sym_items.specs.declared.items.Coords.{Coords}
+use Rattle.sym_items.specs.Layouts.{size_in}
 use Rattle.stick_parse.specs.declared.design.Design.{Design}
-use Rattle.stick_cell.specs.Known.{Known, cell_of, known_at}
-use Rattle.stick_cell.specs.Lines.{known_cells}
-use Rattle.cell_model.specs.declared.cell.Cell.{Cell}
 use Rattle.expand.specs.declared.master.Master.{Master}
-use Rattle.expand.specs.Items.{AreItems}
 use Rattle.pair_rules.specs.Bound.{item_at}
-use Rattle.pair_rules.specs.Clean.{IsClean}
 use Rattle.coarse_grid.specs.Start.{start_of}
 use Rattle.coarse_grid.specs.Clash.{IsFirstClash}
 use Rattle.coarse_grid.specs.Ranges.{ShareAPoint}
+use Rattle.plan_model.specs.declared.plan.Plan.{Plan}
+use Rattle.plan_model.specs.Instances.{whole_width, whole_height}
+use Rattle.plan_model.specs.Plan.{grids_of}
+use Rattle.pitch_join.specs.Masters.{master_at}
+use Rattle.grid_rules.specs.Rules.{AllKeepSpacing}
 use Rattle.pass_run.specs.declared.step.Step.{Step}
 use Rattle.pass_run.specs.declared.passes.PassFault.{PassFault}
 use Rattle.pass_run.specs.declared.passes.PassFault.TheVariants as stop
-use Rattle.pass_run.specs.Passes.{layout_after, ArePasses, axes_of}
+use Rattle.pass_run.specs.Laid.{StartsClean}
+use Rattle.pass_run.specs.Layouts.{starts_of, layouts_after}
+use Rattle.pass_run.specs.Passes.{ArePasses, axes_of}
 use Rattle.pass_run.specs.Report.{report_of}
-use Rattle.pass_run.specs.Theorems.{IsWellPlaced, AreSound}
+use Rattle.pass_run.specs.Theorems.{AreSound}
 use Rattle.pass_run.specs.PassFaults.{RefusesPasses}
-use Rattle.mask_out.specs.Masks.{masks_in}
-use Rattle.compact_run.specs.declared.status.What.TheVariants.{Items, Edges, Extent}
+use Rattle.mask_out.specs.Pictures.{drawings_in, calls_of}
+use Rattle.cif_text.specs.Calls.{cif_of}
+use Rattle.compact_run.specs.declared.status.What.TheVariants.{Edges, Extent}
 use Rattle.compact_run.specs.declared.status.Status.{Status}
 use Rattle.compact_run.specs.declared.status.Status.TheVariants as status
 use Rattle.compact_run.specs.Limits.{most_extent}
-use Rattle.compact_run.specs.Built.{cell_number}
-use Rattle.compact_run.specs.FaultLines.{stick_line}
-use Rattle.compact_run.specs.Masks.{cif_text, clash_text}
+use Rattle.compact_run.specs.Clash.{clash_text}
+use Rattle.compact_run.specs.Plans.{AreMastersOf, RefusesPlan}
 
--- The design's names and sizes have no fault, one of its cells is laid out, and this is it with each use replaced by what it stands for.
-pub record IsCellOf (tech : Tech) (design : Design) (cell : Cell) : Type 0 where
-  pub cells : List Known
-  pub resolved : known_cells tech design.cells ≡ Ok cells
-  pub number : ℕ
-  pub chosen : cell_number design cells ≡ Ok number
-  pub inlined : cell ≡ cell_of (known_at cells number)
-
--- That cell with its items, those of its nets.
-pub record IsMasterOf (tech : Tech) (design : Design) (master : Master) : Type 0 where
-  pub is_cell : IsCellOf tech design master.cell
-  pub items : AreItems tech master.cell master.items
+-- the passes are on both axes
+abbrev pub HasBothAxes : List Axis → Type 0
+HasBothAxes axes = (axis : Axis) → Contains axes axis
 
 -- u in hundredths of a micron
 abbrev pub unit_of : Tech → ℤ
@@ -56,61 +50,79 @@ IsWithinExtent tech length = (length *ℤ unit_of tech) ≤ℤ most_extent
 abbrev pub IsPastExtent : Tech → ℤ → Type 0
 IsPastExtent tech length = most_extent <ℤ (length *ℤ unit_of tech)
 
--- The passes of a master on these axes, from its clean start layout on: each gives its axis the least values that any solution of its
+-- The passes of all masters on these axes, from their clean start layouts on: each gives its axis the least values that any solution of its
 -- system has.
-pub record ArePassesOn (tech : Tech) (master : Master) (axes : List Axis) (steps : List Step) : Type 0 where
-  pub clean : IsClean tech (start_of tech master.cell) master.items.list
+pub record ArePassesOn (tech : Tech) (plan : Plan) (masters : List Master) (axes : List Axis) (steps : List Step) : Type 0 where
+  pub clean : All (StartsClean tech) masters
   pub on_axes : axes_of steps ≡ axes
-  pub passes : ArePasses tech master.cell master.items.list (start_of tech master.cell) steps
+  pub passes : ArePasses tech plan masters (starts_of tech masters) steps
 
--- the layout that they leave
-abbrev pub last_layout : Tech → Master → List Step → Coords
-last_layout tech master steps = layout_after (start_of tech master.cell) steps
+-- the layouts that they leave
+abbrev pub last_layouts : Tech → List Master → List Step → List Coords
+last_layouts tech masters steps = layouts_after masters (starts_of tech masters) steps
 
--- The width and the height of a layout are within the extent.
-pub record IsWithin (tech : Tech) (layout : Coords) : Type 0 where
-  pub width : IsWithinExtent tech (value_of layout.x 1)
-  pub height : IsWithinExtent tech (value_of layout.y 1)
+-- no size is below 0
+abbrev pub AreSizes : (ℕ → ℤ) → Type 0
+AreSizes size = (m : ℕ) → pos 0 ≤ℤ size m
 
-abbrev pub IsPast : Tech → Coords → Type 0
-IsPast tech layout = IsPastExtent tech (value_of layout.x 1) ⊎ IsPastExtent tech (value_of layout.y 1)
+-- how wide and how high all grids are together
+abbrev pub width_of_all : Tech → Plan → List Coords → ℤ
+width_of_all tech plan layouts = whole_width (size_in X layouts) (widest_of tech) (grids_of plan)
 
--- The passes of a master, whose last layout is not too large. Theorems say that the walks of each pass are critical paths, that no pass on
--- an axis that has had one makes a value grow, and that after each pass every item has a box that is as long as it has to be, and all bound
--- items keep their spacing.
-pub record IsLaidOut (tech : Tech) (master : Master) (axes : List Axis) (steps : List Step) : Type 0 where
-  pub made : ArePassesOn tech master axes steps
-  pub sound : AreSound tech master.cell master.items.list [] (start_of tech master.cell) steps
-  pub well_placed : IsWellPlaced tech (last_layout tech master steps) master.items.list axes
-  pub within : IsWithin tech (last_layout tech master steps)
+abbrev pub height_of_all : Plan → List Coords → ℤ
+height_of_all plan layouts = whole_height (size_in Y layouts) (grids_of plan)
 
--- the text of the masks of the last layout
-abbrev pub masks_text : Tech → Master → List Step → Bytes
-masks_text tech master steps = cif_text (unit_of tech) master.cell.name (masks_in (last_layout tech master steps) master.items.list)
+-- The whole is within the extent.
+pub record IsWithin (tech : Tech) (plan : Plan) (layouts : List Coords) : Type 0 where
+  pub width : IsWithinExtent tech (width_of_all tech plan layouts)
+  pub height : IsWithinExtent tech (height_of_all plan layouts)
+
+abbrev pub IsPast : Tech → Plan → List Coords → Type 0
+IsPast tech plan layouts = IsPastExtent tech (width_of_all tech plan layouts) ⊎ IsPastExtent tech (height_of_all plan layouts)
+
+-- The passes of all masters, whose last layouts are not too large together. Theorems say that the walks of each pass are critical paths, that no
+-- pass on an axis that has had one makes a value grow, that after each pass every item has a box that is as long as it has to be and bound items
+-- of a master keep their spacing; and that at the end every two bound items of all instances keep theirs.
+pub record ArePlaced (tech : Tech) (plan : Plan) (masters : List Master) (axes : List Axis) (steps : List Step) : Type 0 where
+  pub made : ArePassesOn tech plan masters axes steps
+  pub sound : AreSound tech plan masters [] (starts_of tech masters) steps
+  pub within : IsWithin tech plan (last_layouts tech masters steps)
+  pub spaced : AllKeepSpacing tech plan masters (last_layouts tech masters steps)
+
+-- the name of a master fits into a line
+abbrev pub HasShortName : Master → Type 0
+HasShortName master = length master.cell.name ≤ 65000
+
+-- the text of the masks of the last layouts
+abbrev pub masks_text : Tech → Plan → List Master → List Step → Bytes
+masks_text tech plan masters steps =
+    cif_of (unit_of tech) (drawings_in masters (last_layouts tech masters steps))
+    (calls_of (size_in X (last_layouts tech masters steps)) (size_in Y (last_layouts tech masters steps)) (widest_of tech) (grids_of plan))
 
 -- the text of the passes
-abbrev pub passes_text : Tech → Master → List Step → Bytes
-passes_text tech master steps = report_of tech master.cell master.items.list (start_of tech master.cell) steps
+abbrev pub passes_text : Tech → Plan → List Master → List Step → Bytes
+passes_text tech plan masters steps = report_of tech plan masters (starts_of tech masters) steps
 
--- The masks and the report of a design: those of its master, laid out.
+-- The masks and the report of a design: those of its masters, laid out.
 pub record CompactsTo (tech : Tech) (axes : List Axis) (design : Design) (output report : Bytes) : Type 0 where
-  pub master : Master
-  pub is_master : IsMasterOf tech design master
+  pub plan : Plan
+  pub masters : List Master
+  pub are_masters : AreMastersOf tech design plan masters
   pub steps : List Step
-  pub laid_out : IsLaidOut tech master axes steps
-  pub written : output ≡ masks_text tech master steps
-  pub reported : report ≡ passes_text tech master steps
+  pub laid_out : ArePlaced tech plan masters axes steps
+  pub written : output ≡ masks_text tech plan masters steps
+  pub reported : report ≡ passes_text tech plan masters steps
 
--- The last layout of a master is too large: too wide or too high.
-pub record HasLargeExtent (tech : Tech) (master : Master) (axes : List Axis) : Type 0 where
+-- The last layouts are too large together: too wide or too high.
+pub record HasLargeExtent (tech : Tech) (plan : Plan) (masters : List Master) (axes : List Axis) : Type 0 where
   pub steps : List Step
-  pub made : ArePassesOn tech master axes steps
-  pub past : IsPast tech (last_layout tech master steps)
+  pub made : ArePassesOn tech plan masters axes steps
+  pub past : IsPast tech plan (last_layouts tech masters steps)
 
--- The start layout of a master is clean, and a pass is the first that is refused, for this cause.
-pub record IsStopped (tech : Tech) (master : Master) (axes : List Axis) (cause : PassFault) : Type 0 where
-  pub clean : IsClean tech (start_of tech master.cell) master.items.list
-  pub why : RefusesPasses tech master.cell master.items.list axes cause
+-- The start layouts are clean, and a pass is the first that is refused, for this cause.
+pub record IsStopped (tech : Tech) (plan : Plan) (masters : List Master) (axes : List Axis) (cause : PassFault) : Type 0 where
+  pub clean : All (StartsClean tech) masters
+  pub why : RefusesPasses tech plan masters axes cause
 
 -- The first pair of items that clashes in the start layout of a master, and the line that names their owners, whose coarse ranges share a
 -- grid point.
@@ -119,30 +131,28 @@ pub record HasClash (tech : Tech) (master : Master) (a b : ℕ) (line : Bytes) :
   pub near : ShareAPoint master.cell (item_at master.items.list a).owner (item_at master.items.list b).owner
   pub says : line ≡ clash_text master.cell (item_at master.items.list a).owner (item_at master.items.list b).owner
 
--- Why a master is not laid out. The text is that of a clash or of a cycle. The masters of a grid are numbered from 0.
-abbrev pub RefusesMaster : Tech → Master → List Axis → Status → Bytes → Type 0
-RefusesMaster tech master axes status.OutOfMemory own = Unit {0}
-RefusesMaster tech master axes (status.TooLarge Edges) own = (pass : ℕ) × IsStopped tech master axes (stop.TooManyEdges pass)
-RefusesMaster tech master axes (status.TooLarge Extent) own = HasLargeExtent tech master axes
-RefusesMaster tech master axes (status.Clash number a b) own = (number ≡ 0) × HasClash tech master a b own
-RefusesMaster tech master axes (status.Unsatisfiable pass) own = IsStopped tech master axes (stop.Unsatisfiable pass own)
-RefusesMaster tech master axes other own = ⊥
+-- Why the start layout of a master is refused, which has this number.
+abbrev pub RefusesStart : Tech → Master → ℕ → Status → Bytes → Type 0
+RefusesStart tech master number status.OutOfMemory own = Unit {0}
+RefusesStart tech master number (status.Clash cell a b) own = (cell ≡ number) × HasClash tech master a b own
+RefusesStart tech master number other own = ⊥
 
--- The design's names and sizes have no fault, and none of its cells is laid out, for this cause.
-pub record HasNoCell (tech : Tech) (design : Design) (cause : Status) : Type 0 where
-  pub cells : List Known
-  pub resolved : known_cells tech design.cells ≡ Ok cells
-  pub none : cell_number design cells ≡ Err cause
+-- The first master whose start layout has a clash, and its first pair.
+pub record IsFirstUnclean (tech : Tech) (masters : List Master) (number a b : ℕ) (line : Bytes) : Type 0 where
+  pub among : number < length masters
+  pub before : All (StartsClean tech) (take number masters)
+  pub clash : HasClash tech (master_at masters number) a b line
 
--- Why a design has no cell that is laid out. The text is that of its first fault.
-abbrev pub RefusesCells : Tech → Design → Status → Bytes → Type 0
-RefusesCells tech design status.OutOfMemory own = Unit {0}
-RefusesCells tech design (status.BadSticks fault) own = (known_cells tech design.cells ≡ Err fault) × (own ≡ stick_line fault)
-RefusesCells tech design status.NotBuilt own = HasNoCell tech design status.NotBuilt
-RefusesCells tech design (status.TooLarge Items) own = HasNoCell tech design (status.TooLarge Items)
-RefusesCells tech design other own = ⊥
+-- Why masters are not laid out. The text is that of a clash or of a cycle.
+abbrev pub RefusesMasters : Tech → Plan → List Master → List Axis → Status → Bytes → Type 0
+RefusesMasters tech plan masters axes status.OutOfMemory own = Unit {0}
+RefusesMasters tech plan masters axes (status.TooLarge Edges) own = (pass : ℕ) × IsStopped tech plan masters axes (stop.TooManyEdges pass)
+RefusesMasters tech plan masters axes (status.TooLarge Extent) own = HasLargeExtent tech plan masters axes
+RefusesMasters tech plan masters axes (status.Clash number a b) own = IsFirstUnclean tech masters number a b own
+RefusesMasters tech plan masters axes (status.Unsatisfiable pass) own = IsStopped tech plan masters axes (stop.Unsatisfiable pass own)
+RefusesMasters tech plan masters axes other own = ⊥
 
--- Why a design has no masks: it has no cell that is laid out, or its master is refused.
+-- Why a design has no masks: it has no masters, or they are refused.
 pub data RefusesDesign (tech : Tech) (axes : List Axis) (design : Design) (ended : Status) (own : Bytes) : Type 0 where
-  no_cell : RefusesCells tech design ended own → RefusesDesign tech axes design ended own
-  no_masks : (master : Master) → IsMasterOf tech design master → RefusesMaster tech master axes ended own → RefusesDesign tech axes design ended own
+  no_masters : RefusesPlan tech design ended own → RefusesDesign tech axes design ended own
+  no_masks : (plan : Plan) (masters : List Master) → AreMastersOf tech design plan masters → RefusesMasters tech plan masters axes ended own → RefusesDesign tech axes design ended own

@@ -1,6 +1,7 @@
 pub mod Limits
-pub mod Built
-pub mod Masks
+pub mod GridLines
+pub mod Plans
+pub mod Clash
 pub mod Words
 pub mod Status
 pub mod Refusal

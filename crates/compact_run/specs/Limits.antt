@@ -1,5 +1,5 @@
 -- The limits of the program.
-use Rattle.std.specs.Prelude.{ℕ, ◌^◌, ℤ, pos}
+use Rattle.std.specs.Prelude.{ℕ, ◌+◌, ◌^◌, min, ℤ, pos}
 
 -- the bytes of a design's text
 abbrev pub most_design_bytes : ℕ
@@ -9,9 +9,17 @@ most_design_bytes = 1048576
 abbrev pub most_technology_bytes : ℕ
 most_technology_bytes = 65536
 
--- the weight of a cell that is laid out
+-- the weights of all masters together
 abbrev pub most_items : ℕ
 most_items = 65536
+
+-- the mask boxes of all instances
+abbrev pub most_boxes : ℕ
+most_boxes = 1048576
+
+-- what is past it counts as one more
+abbrev pub capped_boxes : ℕ → ℕ
+capped_boxes n = min n (most_boxes + 1)
 
 -- the passes of a command
 abbrev pub most_passes : ℕ

@@ -3,9 +3,9 @@ use Rattle.std.specs.Prelude.{ℕ, List, [], Option, Some, None, codes}
 use Rattle.compact_run.specs.declared.status.File.{File}
 use Rattle.compact_run.specs.declared.status.File.TheVariants.{Design, Technology}
 use Rattle.compact_run.specs.declared.status.What.{What}
-use Rattle.compact_run.specs.declared.status.What.TheVariants.{Items, Edges, Extent}
+use Rattle.compact_run.specs.declared.status.What.TheVariants.{Items, Boxes, Edges, Extent}
 use Rattle.compact_run.specs.declared.status.Status.{Status}
-use Rattle.compact_run.specs.declared.status.Status.TheVariants.{OutOfMemory, Usage, ReadFault, TooLong, NotBuilt, TooLarge}
+use Rattle.compact_run.specs.declared.status.Status.TheVariants.{OutOfMemory, Usage, ReadFault, TooLong, TooLarge}
 
 abbrev pub read_fault_line : File → List ℕ
 read_fault_line Design = codes "sticks: cannot read design\n"
@@ -17,6 +17,7 @@ too_long_line Technology = codes "sticks: too long: technology\n"
 
 abbrev pub too_large_line : What → List ℕ
 too_large_line Items = codes "sticks: too large: items\n"
+too_large_line Boxes = codes "sticks: too large: boxes\n"
 too_large_line Edges = codes "sticks: too large: edges\n"
 too_large_line Extent = codes "sticks: too large: extent\n"
 
@@ -26,7 +27,6 @@ line_of OutOfMemory own = codes "sticks: out of memory\n"
 line_of Usage own = codes "sticks: usage\n"
 line_of (ReadFault file) own = read_fault_line file
 line_of (TooLong file) own = too_long_line file
-line_of NotBuilt own = codes "sticks: not built\n"
 line_of (TooLarge what) own = too_large_line what
 line_of other own = own
 

@@ -1,7 +1,7 @@
 -- The numbers with which the program ends.
 use Rattle.std.specs.Prelude.{ℕ}
 use Rattle.compact_run.specs.declared.status.Status.{Status}
-use Rattle.compact_run.specs.declared.status.Status.TheVariants.{Done, OutOfMemory, Usage, ReadFault, WriteFault, TooLong, BadTech, BadSticks, NotBuilt, TooLarge, Clash, Unsatisfiable}
+use Rattle.compact_run.specs.declared.status.Status.TheVariants.{Done, OutOfMemory, Usage, ReadFault, WriteFault, TooLong, BadTech, BadSticks, BadGrid, TooLarge, Clash, Unsatisfiable}
 
 abbrev pub code_of : Status → ℕ
 code_of Done = 0
@@ -12,7 +12,7 @@ code_of (WriteFault side) = 4
 code_of (TooLong file) = 5
 code_of (BadTech fault) = 6
 code_of (BadSticks fault) = 7
+code_of (BadGrid grid fault) = 8
 code_of (TooLarge what) = 9
 code_of (Clash cell a b) = 10
 code_of (Unsatisfiable pass) = 11
-code_of NotBuilt = 15

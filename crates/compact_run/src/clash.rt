@@ -1,7 +1,7 @@
 //! The line of a clash.
 
 ghost use Rattle.std.specs.Prelude.{◌≡◌, ◌++◌, OnOk, IfOk};
-ghost use Rattle.compact_run.specs.Masks.{part_text, clash_text};
+ghost use Rattle.compact_run.specs.Clash.{part_text, clash_text};
 
 use cell_model::Cell;
 use std::alloc::{AllocError, Global};

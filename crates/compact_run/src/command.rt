@@ -1,10 +1,9 @@
 //! The commands, up to the writing of their texts.
 
-ghost use Rattle.std.specs.Prelude.{◌≡◌, ◌↔◌, ◌≤◌, [], None, Some, length, IfOk, IfErr};
+ghost use Rattle.std.specs.Prelude.{◌≡◌, ◌↔◌, ◌≤◌, true, [], None, Some, IfOk, IfErr};
 ghost use Rattle.lam_io.specs.Io.{Telling};
 ghost use Rattle.compact_run.specs.declared.status.Status.TheVariants as status;
-ghost use Rattle.compact_run.specs.Limits.{most_passes};
-ghost use Rattle.compact_run.specs.Words.{axes_in, command_of, compact, fmt, texts_of};
+ghost use Rattle.compact_run.specs.Words.{axes_in, command_of, compact, fmt, is_pass_list, texts_of};
 ghost use Rattle.compact_run.specs.Fetches.{IsRefusal, IsCounted, AsksFor};
 ghost use Rattle.compact_run.specs.Refusals.{ending_of};
 ghost use Rattle.compact_run.specs.Answers.{IsGiven, text_of};
@@ -30,7 +29,7 @@ fn compact_files<S: Shelf>(
     tech: &str,
     passes: &str,
 ) -> Result<Output, Refusal>
-    requires few { length passes.now ≤ most_passes }
+    requires list { is_pass_list passes.now ≡ true }
     ensures given { (t : Telling) → S.told shelf.old ≡ Some t → IsGiven (Some (compact design.now tech.now (axes_in passes.now))) t.files result }
     ensures refusal { IfErr result (λ r. IsRefusal r.status) }
     ensures counted { IsCounted (S.faults shelf.old) (S.faults shelf.new) (ending_of result) }

@@ -1,41 +1,59 @@
 //! The compaction of a design: the texts of its masks and of its passes.
 
-ghost use Rattle.std.specs.Prelude.{◌≡◌, ◌≤◌, ◌∷◌, [], All, length, IfOk, IfErr};
+ghost use Rattle.std.specs.Prelude.{◌≡◌, ◌≤◌, All, length, IfOk, IfErr};
 ghost use Rattle.stick_parse.specs.Writable.{IsWritable};
+ghost use Rattle.lam_geom.specs.declared.boxes.Axis.TheVariants.{X, Y};
+ghost use Rattle.rule_table.specs.Technology.{widest_of};
+ghost use Rattle.sym_items.specs.Layouts.{size_in};
+ghost use Rattle.plan_model.specs.Plan.{grids_of, AreOfMasters};
+ghost use Rattle.mask_out.specs.Pictures.{HaveBoxes, IsDrawable};
 ghost use Rattle.compact_run.specs.Limits.{most_passes};
 ghost use Rattle.compact_run.specs.Refusals.{Refused};
-ghost use Rattle.compact_run.specs.Designs.{CompactsTo, RefusesDesign, last_layout, masks_text};
-ghost use Rattle.sym_items.specs.Boxes.{HasBox};
+ghost use Rattle.compact_run.specs.Designs.{CompactsTo, HasBothAxes, HasShortName, RefusesDesign, last_layouts, masks_text};
 ghost use Rattle.compact_run.specs.Answers.{text_of};
 
-use crate::layout::{LaidOut, lay_out};
-use crate::masks::symbol_text_of;
-use crate::master::master_of;
+use crate::layout::lay_out;
+use crate::masters::masters_of;
 use crate::output::Output;
+use crate::planning::plan_of;
 use crate::refusal::Refusal;
+use cif_text::cif_pieces;
+use expand::Master;
 use lam_geom::Axis;
+use mask_out::picture_of;
+use pass_run::Passes;
+use plan_model::Plan;
 use rule_table::Tech;
 use std::alloc::{AllocError, AllocFailed, Global};
 use stick_parse::Design;
 
-// The texts of a master that is laid out: its symbol, the symbol's call with the end, and the report of its passes.
-fn written(alloc: Global, tech: &Tech, laid_out: LaidOut) -> Result<Output, AllocError>
-    requires last { laid_out.passes.coords ≡ last_layout tech.now laid_out.master laid_out.passes.steps ∷ [] }
-    requires boxes { All (HasBox (last_layout tech.now laid_out.master laid_out.passes.steps)) laid_out.master.items.list }
-    ensures masks { IfOk result (λ output. text_of output ≡ masks_text tech.now laid_out.master laid_out.passes.steps) }
-    ensures report { IfOk result (λ output. output.report ≡ laid_out.passes.report) }
+// The texts of masters that are laid out: their symbols, the calls of all instances with the end, and the report of the
+// passes.
+fn written(
+    alloc: Global,
+    tech: &Tech,
+    plan: &Plan,
+    masters: &[Master],
+    passes: Passes,
+) -> Result<Output, AllocError>
+    requires last { passes.coords ≡ last_layouts tech.now masters.now passes.steps }
+    requires counted { length passes.coords ≡ length masters.now }
+    requires boxes { HaveBoxes passes.coords masters.now }
+    requires named { All HasShortName masters.now }
+    requires few_masters { length masters.now ≤ 256 }
+    requires of_masters { All (AreOfMasters (length masters.now)) (grids_of plan.now) }
+    requires drawable { IsDrawable (size_in X passes.coords) (size_in Y passes.coords) (widest_of tech.now) (grids_of plan.now) }
+    ensures masks { IfOk result (λ output. text_of output ≡ masks_text tech.now plan.now masters.now passes.steps) }
+    ensures report { IfOk result (λ output. output.report ≡ passes.report) }
 {
-    let LaidOut { master, passes } = laid_out;
-    let symbol = symbol_text_of(alloc, tech, &master, &passes.coords.as_slice()[0])?;
-    let call = Vec::from_slice(alloc, b"C 1 T 0 0;\nE\n")?;
+    let picture = picture_of(alloc, tech, plan, masters, passes.coords.as_slice())?;
     Ok(Output {
-        pieces: vec![in alloc; symbol, call]?,
+        pieces: cif_pieces(alloc, tech, &picture)?,
         report: passes.report,
     })
 }
 
-/// The masks of the cell that is the grid of a design, by the numbers of a technology and passes on these axes, and the
-/// report of the passes.
+/// The masks of the grids of a design, by the numbers of a technology and passes on these axes, and the report of the passes.
 pub fn compact(
     alloc: Global,
     tech: &Tech,
@@ -43,11 +61,13 @@ pub fn compact(
     axes: &[Axis],
 ) -> Result<Output, Refusal>
     requires writable { IsWritable design.now }
+    requires both { HasBothAxes axes.now }
     requires few { length axes.now ≤ most_passes }
     ensures done { IfOk result (λ output. CompactsTo tech.now axes.now design.now (text_of output) output.report) }
     ensures refused { IfErr result (Refused (RefusesDesign tech.now axes.now design.now)) }
 {
-    let master = master_of(alloc, tech, design)?;
-    let laid_out = lay_out(alloc, tech, master, axes)?;
-    Ok(written(alloc, tech, laid_out)?)
+    let planned = plan_of(alloc, tech, design)?;
+    let masters = masters_of(alloc, tech, design, &planned)?;
+    let passes = lay_out(alloc, tech, &planned.plan, &masters, axes)?;
+    Ok(written(alloc, tech, &planned.plan, &masters, passes)?)
 }

@@ -1,6 +1,6 @@
 //! Writing what a command answers: all texts are there before the first put.
 
-ghost use Rattle.std.specs.Prelude.{◌≡◌, ◌≤◌, ◌⊎◌, OnOk, OnErr, flat_map};
+ghost use Rattle.std.specs.Prelude.{◌≡◌, ◌≤◌, ◌⊎◌};
 ghost use Rattle.lam_io.specs.Io.{Appends, AppendsPrefix, Rose};
 ghost use Rattle.compact_run.specs.Refusal.{line_of, own_text};
 ghost use Rattle.compact_run.specs.Answers.{Reports, write_fault_line, text_of};
@@ -8,7 +8,7 @@ ghost use Rattle.compact_run.specs.Answers.{Reports, write_fault_line, text_of};
 use crate::output::Output;
 use crate::refusal::Refusal;
 use crate::status::{Side2, Status};
-use lam_io::{PutFault, Sink};
+use lam_io::{Sink, put_all};
 
 // Puts a line into the report; a fault there changes no status.
 fn tell<R: Sink>(report: &mut R, text: &[u8])
@@ -16,19 +16,6 @@ fn tell<R: Sink>(report: &mut R, text: &[u8])
     ensures counts { R.faults report.old ≤ R.faults report.new }
 {
     let _ = report.put(text);
-}
-
-// Puts the pieces of a text, one after another.
-fn put_all<C: Sink>(out: &mut C, pieces: &[Vec<u8>]) -> Result<(), PutFault>
-    ensures ok { OnOk result (Appends (C.told out.old) (C.told out.new) (flat_map (λ piece. piece.items) pieces.now)) }
-    ensures err { OnErr result (AppendsPrefix (C.told out.old) (C.told out.new) (flat_map (λ piece. piece.items) pieces.now)) }
-    ensures fault { OnErr result (Rose (C.faults out.old) (C.faults out.new)) }
-    ensures counts { C.faults out.old ≤ C.faults out.new }
-{
-    for piece in pieces {
-        out.put(piece)?;
-    }
-    Ok(())
 }
 
 /// Writes the output of a command, and then its report.

@@ -1,13 +1,19 @@
-//! A master laid out: its passes, and that they are within the extent.
+//! Masters laid out together: their passes, and that they are within the extent.
 
-ghost use Rattle.std.specs.Prelude.{◌≡◌, ◌≤◌, ◌∷◌, [], List, length, IfOk, IfErr};
+ghost use Rattle.std.specs.Prelude.{◌≡◌, ◌<◌, ◌≤◌, ◌^◌, All, List, length, IfOk, IfErr};
 ghost use Rattle.lam_geom.specs.declared.boxes.Axis.{Axis as SomeAxis};
-ghost use Rattle.pair_rules.specs.Clean.{IsClean};
+ghost use Rattle.plan_model.specs.declared.plan.Plan.{Plan as SomePlan};
 ghost use Rattle.expand.specs.Masters.{IsMaster};
-ghost use Rattle.coarse_grid.specs.Start.{start_of};
+ghost use Rattle.lam_geom.specs.declared.boxes.Axis.TheVariants.{X, Y};
+ghost use Rattle.rule_table.specs.Technology.{widest_of};
+ghost use Rattle.sym_items.specs.Layouts.{size_in};
+ghost use Rattle.plan_model.specs.Plan.{grids_of};
+ghost use Rattle.pitch_join.specs.Masters.{ArePlanned};
+ghost use Rattle.pass_run.specs.Laid.{StartsClean};
+ghost use Rattle.mask_out.specs.Pictures.{HaveBoxes, IsDrawable};
 ghost use Rattle.compact_run.specs.Limits.{most_passes};
 ghost use Rattle.compact_run.specs.Refusals.{Refused};
-ghost use Rattle.compact_run.specs.Designs.{IsLaidOut, RefusesMaster, last_layout, passes_text};
+ghost use Rattle.compact_run.specs.Designs.{ArePlaced, HasBothAxes, RefusesStart, RefusesMasters, last_layouts, passes_text};
 
 use crate::clash::clash_line;
 use crate::extent::judge_extent;
@@ -15,25 +21,19 @@ use crate::refusal::Refusal;
 use crate::status::Status;
 use coarse_grid::{find_clash, near_share_a_point, start, start_is_a_layout};
 use expand::{Master, master_is_lawful};
+use grid_rules::{all_keep_spacing, grids_are_aligned};
 use lam_geom::Axis;
+use mask_out::wholes_bound_places;
 use pass_run::{Passes, run_passes};
+use plan_model::Plan;
 use rule_table::Tech;
 use std::alloc::Global;
 
-/// A master, and the passes over its start layout.
-#[derive(Debug, Drop)]
-pub struct LaidOut {
-    /// The cell and its items.
-    pub master: Master,
-    /// The passes, and the layout that they leave.
-    pub passes: Passes,
-}
-
-// Sees that the start layout of a master is clean, whatever passes follow.
-fn judge_start(alloc: Global, tech: &Tech, master: &Master) -> Result<(), Refusal>
+// Sees that the start layout of a master, which has this number, is clean.
+fn judge_start(alloc: Global, tech: &Tech, master: &Master, number: u32) -> Result<(), Refusal>
     requires { IsMaster tech.now master.now }
-    ensures clean { IfOk result (λ done. IsClean tech.now (start_of tech.now master.now.cell) master.now.items.list) }
-    ensures refused { IfErr result (λ r. (axes : List SomeAxis) → Refused (RefusesMaster tech.now master.now axes) r) }
+    ensures clean { IfOk result (λ _. StartsClean tech.now master.now) }
+    ensures refused { IfErr result (Refused (RefusesStart tech.now master.now number)) }
 {
     let start = start(alloc, tech, &master.cell)?;
     master_is_lawful(tech, master);
@@ -46,30 +46,51 @@ fn judge_start(alloc: Global, tech: &Tech, master: &Master) -> Result<(), Refusa
             let (first, second) = (list[a as usize].owner, list[b as usize].owner);
             let line = clash_line(alloc, &master.cell, first, second)?;
             Err(Refusal {
-                status: Status::Clash { cell: 0, a, b },
+                status: Status::Clash { cell: number, a, b },
                 line: Some(line),
             })
         }
     }
 }
 
-/// Lays out a master, by passes on these axes.
+// Sees that the start layouts of all masters are clean, whatever passes follow.
+fn judge_starts(alloc: Global, tech: &Tech, masters: &[Master]) -> Result<(), Refusal>
+    requires masters { All (IsMaster tech.now) masters.now }
+    requires few { length masters.now < 2 ^ 32 }
+    ensures clean { IfOk result (λ _. All (StartsClean tech.now) masters.now) }
+    ensures refused { IfErr result (λ r. (plan : SomePlan) (axes : List SomeAxis) → Refused (RefusesMasters tech.now plan masters.now axes) r) }
+{
+    for number in 0..masters.len() {
+        judge_start(alloc, tech, &masters[number], number as u32)?;
+    }
+    Ok(())
+}
+
+/// Lays out the masters of a plan, by passes on these axes.
 pub fn lay_out(
     alloc: Global,
     tech: &Tech,
-    master: Master,
+    plan: &Plan,
+    masters: &[Master],
     axes: &[Axis],
-) -> Result<LaidOut, Refusal>
-    requires master { IsMaster tech.now master }
+) -> Result<Passes, Refusal>
+    requires planned { ArePlanned tech.now plan.now masters.now }
+    requires both { HasBothAxes axes.now }
     requires few { length axes.now ≤ most_passes }
-    ensures master { IfOk result (λ laid_out. laid_out.master ≡ master) }
-    ensures laid_out { IfOk result (λ laid_out. IsLaidOut tech.now laid_out.master axes.now laid_out.passes.steps) }
-    ensures last { IfOk result (λ laid_out. laid_out.passes.coords ≡ last_layout tech.now laid_out.master laid_out.passes.steps ∷ []) }
-    ensures report { IfOk result (λ laid_out. laid_out.passes.report ≡ passes_text tech.now laid_out.master laid_out.passes.steps) }
-    ensures refused { IfErr result (Refused (RefusesMaster tech.now master axes.now)) }
+    ensures laid_out { IfOk result (λ passes. ArePlaced tech.now plan.now masters.now axes.now passes.steps) }
+    ensures last { IfOk result (λ passes. passes.coords ≡ last_layouts tech.now masters.now passes.steps) }
+    ensures report { IfOk result (λ passes. passes.report ≡ passes_text tech.now plan.now masters.now passes.steps) }
+    ensures counted { IfOk result (λ passes. length passes.coords ≡ length masters.now) }
+    ensures boxes { IfOk result (λ passes. HaveBoxes passes.coords masters.now) }
+    ensures drawable { IfOk result (λ passes. IsDrawable (size_in X passes.coords) (size_in Y passes.coords) (widest_of tech.now) (grids_of plan.now)) }
+    ensures refused { IfErr result (Refused (RefusesMasters tech.now plan.now masters.now axes.now)) }
 {
-    judge_start(alloc, tech, &master)?;
-    let passes = run_passes(alloc, tech, &master, axes)?;
-    judge_extent(tech, &passes.coords.as_slice()[0])?;
-    Ok(LaidOut { master, passes })
+    judge_starts(alloc, tech, masters)?;
+    let passes = run_passes(alloc, tech, plan, masters, axes)?;
+    let layouts = passes.coords.as_slice();
+    grids_are_aligned(tech, plan, masters, layouts);
+    all_keep_spacing(tech, plan, masters, layouts);
+    judge_extent(tech, plan, layouts)?;
+    wholes_bound_places(tech, plan, layouts);
+    Ok(passes)
 }

@@ -3,6 +3,7 @@
 ghost use Rattle.std.specs.Prelude.{◌≡◌};
 ghost use Rattle.compact_run.specs.Status.{code_of};
 
+use grid_plan::GridFault;
 use stick_parse::StickFault;
 use tech_file::TechFileFault;
 
@@ -27,11 +28,13 @@ pub enum Side2 {
 /// What there is too much of.
 #[derive(Clone, Copy, Debug, PartialEq, Eq)]
 pub enum What {
-    /// Items of the cell, with its uses inlined.
+    /// Items of the masters, with limits and uses.
     Items,
-    /// Inequalities of the cell's layout.
+    /// Mask boxes of all instances.
+    Boxes,
+    /// Inequalities of a pass.
     Edges,
-    /// The width or the height of the cell.
+    /// The width or the height of the grids.
     Extent,
 }
 
@@ -54,9 +57,17 @@ pub enum Status {
     BadTech(TechFileFault),
     /// The design's text is no design: its first fault.
     BadSticks(StickFault),
+    /// A grid of the design has no plan.
+    BadGrid {
+        /// The first grid with a fault, counted from 0.
+        grid: usize,
+        /// Its first fault.
+        fault: GridFault,
+    },
     /// There is too much of something.
     TooLarge(What),
-    /// Two items are too near in the start layout: the least pair, by their numbers among the items of the cell.
+    /// Two items are too near in the start layout of a master, the first for which it is so: the least pair, by their numbers
+    /// among the items of the cell.
     Clash {
         /// The cell's number among the masters.
         cell: u32,
@@ -70,8 +81,6 @@ pub enum Status {
         /// The pass, counted from 1.
         pass: u32,
     },
-    /// The grid of the design is not built yet.
-    NotBuilt,
 }
 
 impl Status {
@@ -88,10 +97,10 @@ impl Status {
             Status::TooLong(_) => 5,
             Status::BadTech(_) => 6,
             Status::BadSticks(_) => 7,
+            Status::BadGrid { .. } => 8,
             Status::TooLarge(_) => 9,
             Status::Clash { .. } => 10,
             Status::Unsatisfiable { .. } => 11,
-            Status::NotBuilt => 15,
         }
     }
 }

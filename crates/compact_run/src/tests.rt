@@ -1,18 +1,30 @@
 //! Answers of the top call, whole, with shelves and sinks in memory.
 
+mod buried;
 mod cases;
+mod grids;
 mod kept_pairs;
 mod layouts;
+mod pictures;
 
+ghost use Rattle.std.specs.Prelude.{IfOk};
+ghost use Rattle.pitch_join.specs.Masters.{ArePlanned};
+
+use crate::masters::masters_of;
+use crate::planning::{Planned, plan_of};
 use crate::{Status, run};
-use cases::{
-    EXTENTS, FAILURES, GRIDS, LISTS, REFUSALS, REPORTS, SHIPPED, TECHNOLOGIES, TEXTS, WORDS,
-};
+use buried::BURIED;
+use cases::{EXTENTS, FAILURES, LISTS, REFUSALS, REPORTS, SHIPPED, TECHNOLOGIES, TEXTS, WORDS};
+use expand::Master;
+use grids::{GRID_EXTENTS, GRID_FAULTS, GRID_WRITES, GRIDS};
 use lam_io::{FailPlan, Fetch, MemShelf, MemSink, Shelf};
 use layouts::{CYCLES, FALLS, LAYERS, LIMITS, ORDERS, USES};
+use plan_model::Plan;
+use rule_table::Tech;
 use std::alloc::{AllocError, Global};
 use std::process::Abort;
 use std::test::Fail;
+use stick_parse::parse;
 
 // The shelf has the technology as `t` and the design as `d`. The output and the report fail at the puts of these numbers. The
 // status is as it is told for debugging.
@@ -39,6 +51,26 @@ fn answer(alloc: Global, case: &Case) -> Result<(Status, MemSink, MemSink), Allo
     Ok((status, out, report))
 }
 
+// The plan and the masters of a design's text.
+fn planned(alloc: Global, tech: &Tech, text: &[u8]) -> Result<(Plan, Vec<Master>), Fail>
+    ensures { IfOk result (λ p. ArePlanned tech.now p.0 p.1.items) }
+{
+    if text.len() > 1 << 20 {
+        return Err("too long")?;
+    }
+    let Ok(design) = parse(alloc, text) else {
+        return Err("no design")?;
+    };
+    let Ok(planned) = plan_of(alloc, tech, &design) else {
+        return Err("no plan")?;
+    };
+    let Ok(masters) = masters_of(alloc, tech, &design, &planned) else {
+        return Err("no masters")?;
+    };
+    let Planned { cells: _, plan } = planned;
+    Ok((plan, masters))
+}
+
 // Each of the cases is answered as it says.
 fn assert_answers<A: Abort>(rt: &A, alloc: Global, cases: &[Case]) -> Result<(), Fail> {
     for case in cases {
@@ -52,8 +84,23 @@ fn assert_answers<A: Abort>(rt: &A, alloc: Global, cases: &[Case]) -> Result<(),
 }
 
 #[test]
-fn a_grid_that_is_not_one_cell_is_refused(rt: HostRuntime) -> Result<(), Fail> {
+fn grids_are_laid_out(rt: HostRuntime) -> Result<(), Fail> {
     assert_answers(&rt, rt.alloc(), &GRIDS)
+}
+
+#[test]
+fn a_grid_without_a_plan_is_refused(rt: HostRuntime) -> Result<(), Fail> {
+    assert_answers(&rt, rt.alloc(), &GRID_FAULTS)
+}
+
+#[test]
+fn masks_are_put_piece_by_piece(rt: HostRuntime) -> Result<(), Fail> {
+    assert_answers(&rt, rt.alloc(), &GRID_WRITES)
+}
+
+#[test]
+fn grids_together_are_within_their_extent(rt: HostRuntime) -> Result<(), Fail> {
+    assert_answers(&rt, rt.alloc(), &GRID_EXTENTS)
 }
 
 #[test]
@@ -99,6 +146,11 @@ fn parts_fall_as_low_as_they_may(rt: HostRuntime) -> Result<(), Fail> {
 #[test]
 fn masks_have_all_layers(rt: HostRuntime) -> Result<(), Fail> {
     assert_answers(&rt, rt.alloc(), &LAYERS)
+}
+
+#[test]
+fn buried_contacts_reach_the_masks(rt: HostRuntime) -> Result<(), Fail> {
+    assert_answers(&rt, rt.alloc(), &BURIED)
 }
 
 #[test]
@@ -215,8 +267,8 @@ fn a_file_past_its_limit_is_too_long(rt: HostRuntime) -> Result<(), Fail> {
     Ok(())
 }
 
-// A cell of two joints and so many limits, and one with four copies of it.
-fn copies(alloc: Global, limits: u32) -> Result<Vec<u8>, AllocError> {
+// A cell of two joints and so many limits, one with four copies of it, one of a joint, and a row of these.
+fn copies(alloc: Global, limits: u32, row: &[u8]) -> Result<Vec<u8>, AllocError> {
     let mut text = Vec::from_slice(
         alloc,
         b"sticks 1\ncell a\njoint p metal 0 0\njoint q metal 1 0\n",
@@ -225,21 +277,28 @@ fn copies(alloc: Global, limits: u32) -> Result<Vec<u8>, AllocError> {
         text.extend_from_slice(b"limit x p q >= 1\n")?;
     }
     text.extend_from_slice(
-        b"end\ncell b\nuse u a 0 0\nuse v a 2 0\nuse w a 4 0\nuse x a 6 0\nend\ngrid\nrow b\nend\n",
+        b"end\ncell b\nuse u a 0 0\nuse v a 2 0\nuse w a 4 0\nuse x a 6 0\nend\ncell c\njoint p metal 0 0\nend\ngrid\nrow ",
     )?;
+    text.extend_from_slice(row)?;
+    text.extend_from_slice(b"\nend\n")?;
     Ok(text)
 }
 
-// With 16,381 limits each copy weighs 16,384, with its use, and the cell as much as a cell may.
+// With 16,381 limits each copy weighs 16,384, with its use, and the cell as much as all masters may.
 #[test]
-fn a_cell_of_too_many_items_is_too_large(rt: HostRuntime) -> Result<(), Fail> {
+fn masters_of_too_many_items_are_too_large(rt: HostRuntime) -> Result<(), Fail> {
     let alloc = rt.alloc();
     let full =
         "DS 1 75 1;\n9 b;\nL NM;\nB 12 12 18 18;\nB 12 12 42 18;\nB 12 12 66 18;\nB 12 12 90 18;\nB 12 12 114 18;\nB 12 12 138 18;\nB 12 12 162 18;\nB 12 12 186 18;\nDF;\nC 1 T 0 0;\nE\n";
-    for (limits, status, output) in [(16_381, "Done", full), (16_382, "TooLarge(Items)", "")] {
+    let cases: [(u32, &[u8], &str, &str); 3] = [
+        (16_381, b"b", "Done", full),
+        (16_382, b"b", "TooLarge(Items)", ""),
+        (16_381, b"b c", "TooLarge(Items)", ""),
+    ];
+    for (limits, row, status, output) in cases {
         let mut shelf = MemShelf::new(alloc, FailPlan::none(alloc));
         shelf.add("t", SHIPPED.as_bytes())?;
-        shelf.add("copies", &copies(alloc, limits)?)?;
+        shelf.add("copies", &copies(alloc, limits, row)?)?;
         let mut out = MemSink::new(alloc, 1000, FailPlan::none(alloc))?;
         let mut report = MemSink::new(alloc, 1000, FailPlan::none(alloc))?;
         let words: &[&str] = &["compact", "copies", "--tech", "t"];

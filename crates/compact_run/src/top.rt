@@ -14,8 +14,8 @@ use lam_io::{Shelf, Sink};
 use std::alloc::Global;
 
 /// Does what the words say. `compact DESIGN --tech FILE [--passes LIST]` fetches the technology and then the design, makes
-/// a pass on the axis of each letter of the list, `xy` if there is none, and puts the masks of the cell that is its grid into
-/// `out` and then what it tells of the passes into `report`; `fmt DESIGN` puts the canonical text of a design into `out`. A
+/// a pass on the axis of each letter of the list, `xy` if there is none, and puts the masks of its grids into `out` and
+/// then what it tells of the passes into `report`; `fmt DESIGN` puts the canonical text of a design into `out`. A
 /// refusal puts its text into `report`, one line or the passes before a cycle and the cycle, and nothing into `out`.
 pub fn run<'a, S: Shelf, C: Sink, R: Sink>(
     alloc: Global,

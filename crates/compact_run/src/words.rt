@@ -1,8 +1,8 @@
 //! The words of the command line.
 
-ghost use Rattle.std.specs.Prelude.{◌≡◌, map, option_map, IfOk, IfSome};
+ghost use Rattle.std.specs.Prelude.{◌≡◌, true, map, option_map, IfOk, IfSome};
 ghost use Rattle.compact_run.specs.Words.{is_file_name, is_pass_list, axes_in, compact_with, compact_of, fmt_of, command_of};
-ghost use Rattle.compact_run.specs.Commands.{command_from, HasFewPasses};
+ghost use Rattle.compact_run.specs.Commands.{command_from, HasPassList};
 
 use lam_geom::Axis;
 use std::alloc::{AllocError, Global};
@@ -48,7 +48,9 @@ fn compact_with<'a>(
     tech: &'a str,
     passes: &'a str,
 ) -> Option<Command<'a>>
-    ensures { option_map command_from result ≡ compact_with design.now option.now tech.now passes.now }
+    requires { is_pass_list passes.now ≡ true }
+    ensures value { option_map command_from result ≡ compact_with design.now option.now tech.now passes.now }
+    ensures list { IfSome result HasPassList }
 {
     if option == "--tech" && (is_file_name(design) && is_file_name(tech)) {
         Some(Command::Compact {
@@ -62,7 +64,8 @@ fn compact_with<'a>(
 }
 
 fn read_compact<'a>(words: &'a [&'a str]) -> Option<Command<'a>>
-    ensures { option_map command_from result ≡ compact_of (map (λ word. word.now) words.now) }
+    ensures value { option_map command_from result ≡ compact_of (map (λ word. word.now) words.now) }
+    ensures list { IfSome result HasPassList }
 {
     match words {
         [design, option, tech] => compact_with(design, option, tech, "xy"),
@@ -106,7 +109,7 @@ pub fn axes(alloc: Global, passes: &str) -> Result<Vec<Axis>, AllocError>
 /// The command that the words are, if they are one.
 pub fn read_words<'a>(words: &'a [&'a str]) -> Option<Command<'a>>
     ensures value { option_map command_from result ≡ command_of (map (λ word. word.now) words.now) }
-    ensures few { IfSome result HasFewPasses }
+    ensures list { IfSome result HasPassList }
 {
     match words {
         [command, rest @ ..] => {

@@ -6,6 +6,10 @@ use super::Case;
 pub const SHIPPED: &str =
     "version = 1\nunit = 150\n[width]\ndiffusion = 4\npoly = 4\nmetal = 6\n[spacing]\ndiffusion = 6\npoly = 4\nmetal = 6\npoly_diffusion = 2\ncut = 4\ncut_channel = 4\nimplant_channel = 3\n[extension]\npoly = 4\ndiffusion = 4\nimplant = 3\n[cut]\nsize = 4\nenclosure = 2\n";
 
+/// A unit of 4,096 hundredths of a micron, of which masks may be 262,144 wide.
+pub const COARSE: &str =
+    "version = 1\nunit = 4096\n[width]\ndiffusion = 4\npoly = 4\nmetal = 6\n[spacing]\ndiffusion = 6\npoly = 4\nmetal = 6\npoly_diffusion = 2\ncut = 4\ncut_channel = 4\nimplant_channel = 3\n[extension]\npoly = 4\ndiffusion = 4\nimplant = 3\n[cut]\nsize = 4\nenclosure = 2\n";
+
 // Metal 8 wide.
 const WIDE: &str =
     "version = 1\nunit = 150\n[width]\ndiffusion = 4\npoly = 4\nmetal = 8\n[spacing]\ndiffusion = 6\npoly = 4\nmetal = 6\npoly_diffusion = 2\ncut = 4\ncut_channel = 4\nimplant_channel = 3\n[extension]\npoly = 4\ndiffusion = 4\nimplant = 3\n[cut]\nsize = 4\nenclosure = 2\n";
@@ -31,37 +35,6 @@ const USAGE: Case = Case {
 
 const UPRIGHT: &str =
     "sticks 1\ncell a\njoint p metal 0 0\njoint q metal 0 1\nwire metal p q\nend\ngrid\nrow a\nend\n";
-
-/// The cases.
-// A grid that is not one cell is refused, after faults.
-pub const GRIDS: [Case; 4] = [
-    // Two columns, two rows, and a cell that is not there.
-    Case {
-        text: "sticks 1\ncell a\nend\ngrid\nrow a a\nend\n",
-        report: "sticks: not built\n",
-        status: "NotBuilt",
-        ..COMPACT
-    },
-    Case {
-        text: "sticks 1\ncell a\nend\ngrid\nrow a\nrow a\nend\n",
-        report: "sticks: not built\n",
-        status: "NotBuilt",
-        ..COMPACT
-    },
-    Case {
-        text: "sticks 1\ncell a\nend\ngrid\nrow b\nend\n",
-        report: "sticks: not built\n",
-        status: "NotBuilt",
-        ..COMPACT
-    },
-    // A fault of names comes first.
-    Case {
-        text: "sticks 1\ncell a\njoint p poly 0 0\njoint p poly 1 0\nend\ngrid\nrow a a\nend\n",
-        report: "sticks: line 4: RepeatedName\n",
-        status: "BadSticks(StickFault { line: 4, kind: RepeatedName })",
-        ..COMPACT
-    },
-];
 
 // A refusal puts its line.
 pub const REFUSALS: [Case; 4] = [
@@ -236,12 +209,19 @@ pub const TECHNOLOGIES: [Case; 6] = [
 ];
 
 // `fmt` writes a design in its canonical form.
-pub const TEXTS: [Case; 4] = [
+pub const TEXTS: [Case; 5] = [
     // A text in its canonical form: no comment, no empty line, one blank between words.
     Case {
         words: &["fmt", "d"],
         text: "sticks 1\n\ncell e # empty\nend\ngrid\nrow  e\nend",
         output: "sticks 1\ncell e\nend\ngrid\nrow e\nend\n",
+        ..COMPACT
+    },
+    // Grids with names, of which two have one: `fmt` checks no names.
+    Case {
+        words: &["fmt", "d"],
+        text: "sticks  2\ngrid  g # first\nend\n\ngrid h\n row a b\nend\ngrid g\nend",
+        output: "sticks 2\ngrid g\nend\ngrid h\nrow a b\nend\ngrid g\nend\n",
         ..COMPACT
     },
     // It has no report, so nothing fails there.

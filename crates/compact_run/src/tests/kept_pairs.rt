@@ -4,7 +4,7 @@ ghost use Rattle.sym_items.specs.Boxes.{HasBox};
 ghost use Rattle.expand.specs.Masters.{IsMaster};
 ghost use Rattle.pair_rules.specs.Clean.{IsClean};
 
-use crate::master::master_of;
+use super::planned;
 use coarse_grid::{find_clash, start, start_is_a_layout};
 use expand::{Master, master_is_lawful};
 use lam_geom::Axis;
@@ -14,7 +14,6 @@ use shadow_prune::{KeptFault, kept};
 use std::alloc::Global;
 use std::process::Abort;
 use std::test::Fail;
-use stick_parse::parse;
 use sym_items::{Coords, Item};
 
 // A master with its start layout, which is clean.
@@ -48,16 +47,12 @@ fn laid_out(alloc: Global, tech: &Tech, lines: &str) -> Result<Laid, Fail>
     ensures clean { IfOk result (λ l. IsClean tech.now l.start l.master.items.list) }
 {
     let text = format!(in alloc; "sticks 1\ncell a\n{lines}end\ngrid\nrow a\nend\n")?;
-    if text.len() > 1 << 20 {
-        return Err("too long")?;
-    }
-    let Ok(design) = parse(alloc, text.as_bytes()) else {
-        return Err("no design")?;
-    };
-    let Ok(master) = master_of(alloc, tech, &design) else {
+    let (_plan, mut masters) = planned(alloc, tech, text.as_bytes())?;
+    if masters.is_empty() {
         return Err("no master")?;
-    };
-    let start = clean_start(alloc, tech, &master)?;
+    }
+    let start = clean_start(alloc, tech, &masters[0])?;
+    let master = masters.swap_remove(0);
     Ok(Laid { master, start })
 }
 

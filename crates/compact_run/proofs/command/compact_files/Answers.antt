@@ -1,7 +1,9 @@
-use Rattle.std.proofs.Common.{Some, subst, ◌∙◌, List}
+use Rattle.std.proofs.Common.{Some, sym, subst, ◌∙◌, List}
 use Rattle.std.proofs.lemmas.Result.{err_from_is_err_and}
 use Rattle.lam_geom.specs.declared.boxes.Axis.{Axis}
 use Rattle.compact_run.specs.Words.{compact}
+use Rattle.compact_run.specs.Designs.{HasBothAxes}
+use Rattle.compact_run.proofs.PassLists.{pass_list_means}
 use Rattle.compact_run.specs.Answers.{IsGiven, no_technology, no_design}
 use Rattle.compact_run.proofs.Steps.{asked, telling_after, given}
 use Rattle.compact_run.proofs.command.compact_files.Goals as goal
@@ -29,3 +31,7 @@ returns-clause-given g c = λ t told.
     subst P (c.deref.ensures.value ∙ c.in_ok-axes.ensures)
     (given c.args.design.now c.args.tech.now c.deref.result.now t.files c.in_ok-technology.technology c.in_ok-sticks.sticks c.compact.result
     (c.in_ok-technology.ensures.technology t told) (c.in_ok-sticks.ensures.design _ then) c.compact.ensures.done c.compact.ensures.refused)
+
+pub compact-requires-clause-both : goal.compact-requires-clause-both
+compact-requires-clause-both g c =
+    subst HasBothAxes (sym (c.deref.ensures.value ∙ c.in_ok-axes.ensures)) (pass_list_means c.args.passes.now c.requires.list).0

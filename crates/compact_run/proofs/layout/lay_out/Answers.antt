@@ -1,32 +1,82 @@
-use Rattle.std.proofs.Common.{◌∙◌}
+use Rattle.std.proofs.Common.{List, ◌∙◌, sym, subst, arith}
+use Rattle.std.proofs.lemmas.Int.{ints}
 use Rattle.std.proofs.lemmas.Result.{err_from_is_err_and}
-use Rattle.compact_run.proofs.Layouts.{stopped, too_large, within_last}
+use Rattle.lam_geom.specs.declared.boxes.Axis.TheVariants.{X, Y}
+use Rattle.rule_table.proofs.Margins.{widest_positive}
+use Rattle.rule_table.proofs.Sound.{sound}
+use Rattle.sym_items.specs.declared.items.Coords.{Coords}
+use Rattle.grid_rules.specs.Rules.{AreFinished, AllKeepSpacing}
+use Rattle.pass_run.specs.Laid.{AreLaidOut}
+use Rattle.compact_run.specs.Designs.{IsWithin}
+use Rattle.compact_run.proofs.Layouts.{stopped, too_large, finished, sizes_above, boxed, within_length}
 use Rattle.compact_run.proofs.layout.lay_out.Goals as goal
-
-pub returns-in_err-judge_start-clause-refused : goal.returns-in_err-judge_start-clause-refused
-returns-in_err-judge_start-clause-refused c =
-    let p = err_from_is_err_and c.from_residual.result c.from_residual.ensures.1 in
-    rw p.1 (rw p.2 (c.in_err-judge_start.ensures.refused c.args.axes.now))
 
 pub returns-in_err-passes-clause-refused : goal.returns-in_err-passes-clause-refused
 returns-in_err-passes-clause-refused c =
     let p = err_from_is_err_and c.from_residual-in_err-passes.result c.from_residual-in_err-passes.ensures.1 in
-    rw p.1 (rw p.2 (stopped c.args.tech.now c.args.master c.args.axes.now _ c.in_ok-judge_start.ensures.clean c.in_err-passes.ensures.refused))
+    rw p.1 (rw p.2 (stopped c.args.tech.now c.args.plan.now c.args.masters.now c.args.axes.now _ c.in_ok-judge_starts.ensures.clean c.in_err-passes.ensures.refused))
+
+pub grids_are_aligned-requires-clause-finished : goal.grids_are_aligned-requires-clause-finished
+grids_are_aligned-requires-clause-finished c =
+    let q = c.in_ok-passes.ensures in
+    let F : List Coords → Type 0 = λ cs. AreFinished c.args.tech.now c.args.plan.now c.args.masters.now cs in
+    subst F (sym c.as_slice-layouts.ensures) (finished c.args.tech.now c.args.plan.now c.args.masters.now c.args.axes.now c.in_ok-passes.passes.coords c.requires.both q.placed q.met)
+
+pub all_keep_spacing-requires-clause-finished : goal.all_keep_spacing-requires-clause-finished
+all_keep_spacing-requires-clause-finished c =
+    let q = c.in_ok-passes.ensures in
+    let F : List Coords → Type 0 = λ cs. AreFinished c.args.tech.now c.args.plan.now c.args.masters.now cs in
+    subst F (sym c.as_slice-layouts.ensures) (finished c.args.tech.now c.args.plan.now c.args.masters.now c.args.axes.now c.in_ok-passes.passes.coords c.requires.both q.placed q.met)
+
+pub judge_extent-requires-clause-widths : goal.judge_extent-requires-clause-widths
+judge_extent-requires-clause-widths c =
+    let L : List Coords → Type 0 = λ cs. AreLaidOut c.args.tech.now c.args.masters.now cs in
+    sizes_above c.args.tech.now c.args.masters.now c.as_slice-layouts.result.now (subst L (sym c.as_slice-layouts.ensures) c.in_ok-passes.ensures.laid) X
+
+pub judge_extent-requires-clause-heights : goal.judge_extent-requires-clause-heights
+judge_extent-requires-clause-heights c =
+    let L : List Coords → Type 0 = λ cs. AreLaidOut c.args.tech.now c.args.masters.now cs in
+    sizes_above c.args.tech.now c.args.masters.now c.as_slice-layouts.result.now (subst L (sym c.as_slice-layouts.ensures) c.in_ok-passes.ensures.laid) Y
+
+pub wholes_bound_places-requires-clause-widths : goal.wholes_bound_places-requires-clause-widths
+wholes_bound_places-requires-clause-widths c =
+    let L : List Coords → Type 0 = λ cs. AreLaidOut c.args.tech.now c.args.masters.now cs in
+    sizes_above c.args.tech.now c.args.masters.now c.as_slice-layouts.result.now (subst L (sym c.as_slice-layouts.ensures) c.in_ok-passes.ensures.laid) X
+
+pub wholes_bound_places-requires-clause-heights : goal.wholes_bound_places-requires-clause-heights
+wholes_bound_places-requires-clause-heights c =
+    let L : List Coords → Type 0 = λ cs. AreLaidOut c.args.tech.now c.args.masters.now cs in
+    sizes_above c.args.tech.now c.args.masters.now c.as_slice-layouts.result.now (subst L (sym c.as_slice-layouts.ensures) c.in_ok-passes.ensures.laid) Y
+
+pub wholes_bound_places-requires-clause-widest : goal.wholes_bound_places-requires-clause-widest
+wholes_bound_places-requires-clause-widest c = let w = widest_positive c.args.tech.now.numbers (sound _ c.args.tech.now.sound) in omega (arith, ints, w)
+
+pub wholes_bound_places-requires-clause-narrow : goal.wholes_bound_places-requires-clause-narrow
+wholes_bound_places-requires-clause-narrow c = within_length c.args.tech.now _ c.in_ok-judge_extent.ensures.within.width
+
+pub wholes_bound_places-requires-clause-low : goal.wholes_bound_places-requires-clause-low
+wholes_bound_places-requires-clause-low c = within_length c.args.tech.now _ c.in_ok-judge_extent.ensures.within.height
 
 pub returns-in_err-judge_extent-clause-refused : goal.returns-in_err-judge_extent-clause-refused
 returns-in_err-judge_extent-clause-refused c =
     let p = err_from_is_err_and c.from_residual-in_err-judge_extent.result c.from_residual-in_err-judge_extent.ensures.1 in
     let q = c.in_ok-passes.ensures in
-    rw p.1 (rw p.2 (too_large c.args.tech.now c.args.master c.args.axes.now c.in_ok-passes.passes.steps _ _ _
-    (record { clean = c.in_ok-judge_start.ensures.clean; on_axes = q.axes; passes = q.passes }) c.index-as_slice-0.is (c.as_slice.ensures ∙ q.last)
+    rw p.1 (rw p.2 (too_large c.args.tech.now c.args.plan.now c.args.masters.now c.args.axes.now c.in_ok-passes.passes.steps c.as_slice-layouts.result.now _
+    (record { clean = c.in_ok-judge_starts.ensures.clean; on_axes = q.axes; passes = q.passes }) (c.as_slice-layouts.ensures ∙ q.last)
     c.in_err-judge_extent.ensures.past.0 c.in_err-judge_extent.ensures.past.1))
 
 pub returns-clause-laid_out : goal.returns-clause-laid_out
 returns-clause-laid_out c =
     let q = c.in_ok-passes.ensures in
+    let is = c.as_slice-layouts.ensures ∙ q.last in
+    let W : List Coords → Type 0 = λ cs. IsWithin c.args.tech.now c.args.plan.now cs in
+    let S : List Coords → Type 0 = λ cs. AllKeepSpacing c.args.tech.now c.args.plan.now c.args.masters.now cs in
     record {
-      made = record { clean = c.in_ok-judge_start.ensures.clean; on_axes = q.axes; passes = q.passes };
+      made = record { clean = c.in_ok-judge_starts.ensures.clean; on_axes = q.axes; passes = q.passes };
       sound = q.sound_passes;
-      well_placed = q.placed;
-      within = within_last c.args.tech.now _ _ _ c.index-as_slice-0.is (c.as_slice.ensures ∙ q.last) c.in_ok-judge_extent.ensures.within;
+      within = subst W is c.in_ok-judge_extent.ensures.within;
+      spaced = subst S is c.all_keep_spacing.ensures;
     }
+
+pub returns-clause-boxes : goal.returns-clause-boxes
+returns-clause-boxes c = boxed c.args.tech.now c.args.masters.now c.args.axes.now c.in_ok-passes.passes.coords c.in_ok-passes.ensures.placed

@@ -1,0 +1,91 @@
+-- What holds of each cell that a design's grids name.
+use Rattle.std.proofs.Common.{◌≡◌, ℕ, ◌≤◌, Bool, true, false, Option, Some, None, List, [], ◌∷◌, length, get_or, refl, ap, arith}
+use Rattle.std.specs.Prelude.{All, nat_le, ◌&&◌, bytes_eq, is_none, unwrap_or, IsTrue, if◌then◌else◌}
+use Rattle.std.specs.List.{AllByRecursion, flat_map, list_all}
+use Rattle.std.specs.Char.{is_ascii_alphabetic}
+use Rattle.std.specs.Option.{option_or}
+use Rattle.std.proofs.lemmas.Bool.Decides.{nat_tests}
+use Rattle.std.proofs.lemmas.List.Quantifiers.{position-Some}
+use Rattle.std.proofs.lemmas.Slice.Eq.{bytes_eq-Decides}
+use Rattle.list_facts.proofs.Elements.{all_at, all_flat, all_map, all_of, by_number}
+use Rattle.stick_lex.specs.Tokens.{is_name_byte}
+use Rattle.stick_parse.specs.declared.design.GridText.{GridText}
+use Rattle.stick_parse.specs.declared.design.RowText.{RowText}
+use Rattle.stick_parse.specs.Writable.{IsName, IsRow, IsGrid}
+use Rattle.stick_cell.specs.Known.{Known, known_at, begun}
+use Rattle.stick_cell.specs.Lines.{number_of}
+use Rattle.pitch_join.proofs.Lists.{all_firsts}
+use Rattle.grid_plan.specs.declared.fault.GridFault.TheVariants.{UnknownCell}
+use Rattle.grid_plan.specs.Faults.{unknown_cell, unknown_in_row, unknown_in, ragged_in, misfit_in, fault_of_rows, grid_fault, numbered_fault, plan_fault}
+use Rattle.grid_plan.specs.Numbered.{cell_named, numbers_in_row, numbers_in_grid, ports_of_cells, is_same_number, masters_in}
+use Rattle.grid_plan.proofs.GridsFit.{no_image}
+use Rattle.grid_plan.proofs.GridsRead.{both_none, nowhere}
+
+-- what a name has to give of the cell with the name
+abbrev pub OfNamed : List Known → (ℕ → Type 0) → Type 0
+OfNamed cells P = (name : List ℕ) (k : ℕ) → IsName name → number_of cells name ≡ Some k → P k
+
+-- a name that is not unknown has a number
+of_found : (P : ℕ → Type 0) (row col : ℕ) (found : Option ℕ) → (if is_none found then Some (UnknownCell row col) else None) ≡ None → ((k : ℕ) → found ≡ Some k → P k) → P (unwrap_or found 0)
+of_found P row col None none step = cc
+of_found P row col (Some k) none step = step k refl
+
+of_name : (P : ℕ → Type 0) (cells : List Known) (row col : ℕ) (name : List ℕ) → unknown_cell cells row col name ≡ None → ((k : ℕ) → number_of cells name ≡ Some k → P k) → P (cell_named cells name)
+of_name P cells row col name none step = of_found P row col (number_of cells name) none step
+
+in_row : (P : ℕ → Type 0) (cells : List Known) → OfNamed cells P → (row : ℕ) (text : RowText) → IsRow text → unknown_in_row cells row text ≡ None → AllByRecursion P (numbers_in_row cells text)
+in_row P cells step row text is none =
+    all_map P (cell_named cells) text.names
+    (by_number (λ name. P (cell_named cells name)) text.names []
+    (λ c lt.
+    let name = get_or text.names c [] in
+    of_name P cells row c name (nowhere (unknown_cell cells row) text.names none c [] lt) (λ k e. step name k (all_at IsName text.names [] c is.1 lt) e)))
+
+in_rows : (P : ℕ → Type 0) (cells : List Known) → OfNamed cells P → (rows : List RowText) → AllByRecursion IsRow rows → unknown_in cells rows ≡ None → AllByRecursion P (flat_map (numbers_in_row cells) rows)
+in_rows P cells step rows are none =
+    all_flat P (numbers_in_row cells) rows
+    (by_number (λ row. AllByRecursion P (numbers_in_row cells row)) rows no_row
+    (λ r lt. in_row P cells step r (get_or rows r no_row) (all_at IsRow rows no_row r are lt) (nowhere (unknown_in_row cells) rows none r no_row lt)))
+  where
+    no_row : RowText
+    no_row = record { names = [] }
+
+in_grid : (P : ℕ → Type 0) (cells : List Known) → OfNamed cells P → (grid : GridText) (rows : List RowText) → AllByRecursion IsRow rows → fault_of_rows cells grid rows ≡ None
+    → AllByRecursion P (flat_map (numbers_in_row cells) rows)
+in_grid P cells step grid [] are none = cc
+in_grid P cells step grid (row ∷ rows) are none =
+    in_rows P cells step (row ∷ rows) are (both_none (unknown_in cells (row ∷ rows)) (option_or (ragged_in (row ∷ rows)) (misfit_in (ports_of_cells cells) (numbers_in_grid cells grid))) none).0
+
+pub chosen : (P : ℕ → Type 0) (cells : List Known) (grids : List GridText) → OfNamed cells P → AllByRecursion IsGrid grids → plan_fault cells grids ≡ None → All P (masters_in cells grids)
+unfolding plan_fault
+chosen P cells grids step are none =
+    let numbers : List ℕ = flat_map (λ (grid : GridText). flat_map (numbers_in_row cells) grid.rows) grids in
+    let each : AllByRecursion P numbers =
+    all_flat P (λ (grid : GridText). flat_map (numbers_in_row cells) grid.rows) grids
+    (by_number (λ (grid : GridText). AllByRecursion P (flat_map (numbers_in_row cells) grid.rows)) grids no_grid
+    (λ g lt.
+    let grid = get_or grids g no_grid in
+    in_grid P cells step grid grid.rows (all_at IsGrid grids no_grid g are lt).1 (no_image _ (grid_fault cells grid) (nowhere (numbered_fault cells) grids none g no_grid lt)))) in
+    all_of P (masters_in cells grids) (all_firsts P is_same_number numbers each)
+  where
+    no_grid : GridText
+    no_grid = record { name = None; line = 0; rows = [] }
+
+-- a name has at most 32 bytes
+few_bytes : (name : List ℕ) → IsName name → length name ≤ 32
+few_bytes [] is = cc
+few_bytes (b ∷ bs) is = few_behind (is_ascii_alphabetic b) (nat_le (length bs) 31) (list_all is_name_byte bs) is (λ h. grind (arith, nat_tests, h))
+  where
+    few_behind : {A : Type 0} (a n l : Bool) → IsTrue (a && (n && l)) → (n ≡ true → A) → A
+    few_behind true true l t step = step refl
+    few_behind true false l t step = cc
+    few_behind false n l t step = cc
+
+-- the name of a cell that is found by a name is that name
+pub short_name : (cells : List Known) → OfNamed cells (λ k. length (known_at cells k).name ≤ 65000)
+short_name cells name k is found =
+    let test = (position-Some (λ (cell : Known). bytes_eq name cell.name) cells k (begun []) found).1 in
+    let same : name ≡ (known_at cells k).name = (bytes_eq-Decides name (known_at cells k).name).0 test in
+    let few = few_bytes name is in
+    let long = ap (λ (text : List ℕ). length text) same in
+    omega (arith, few, long)

@@ -1,0 +1,150 @@
+-- The masters of a plan.
+use Rattle.std.proofs.Common.{◌≡◌, ℕ, ◌+◌, ◌<◌, ◌≤◌, List, [], ◌∷◌, length, map, sum_by, get_or, refl, sym, ap, ◌∙◌, subst, arith}
+use Rattle.std.specs.Prelude.{All, ◌^◌}
+use Rattle.std.specs.List.{AllByRecursion, zip}
+use Rattle.std.proofs.lemmas.List.{length-map}
+use Rattle.std.proofs.lemmas.List.Elements.{All-get_or}
+use Rattle.std.proofs.lemmas.List.Sums.{sum_by-cons}
+use Rattle.std.proofs.lemmas.Slice.Zip.{length-zip}
+use Rattle.list_facts.proofs.Elements.{by_number, all_of}
+use Rattle.rule_table.specs.declared.technology.Tech.{Tech}
+use Rattle.lam_geom.specs.Places.{IsPlacedBox}
+use Rattle.sym_items.specs.declared.items.Coords.{Coords}
+use Rattle.stick_parse.specs.declared.design.Design.{Design}
+use Rattle.stick_parse.specs.declared.design.GridText.{GridText}
+use Rattle.stick_parse.specs.Writable.{IsWritable}
+use Rattle.stick_cell.specs.Counts.{weight_of}
+use Rattle.stick_cell.specs.Known.{Known, cell_of, known_at}
+use Rattle.stick_cell.specs.Ports.{ports_of}
+use Rattle.stick_cell.proofs.TableReads.{number-lt}
+use Rattle.cell_model.specs.declared.cell.Cell.{Cell}
+use Rattle.cell_model.specs.declared.cell.CellPort.{CellPort}
+use Rattle.cell_model.specs.Ports.{ports_of_cell}
+use Rattle.expand.specs.declared.master.Master.{Master}
+use Rattle.expand.specs.Masters.{IsMaster}
+use Rattle.plan_model.specs.declared.plan.Plan.{Plan}
+use Rattle.plan_model.specs.Plan.{AreOfMasters, IsPlanOver, grids_of}
+use Rattle.pitch_join.specs.Masters.{no_master, ArePlanned, master_ports, ports_of_masters, parts_in}
+use Rattle.grid_plan.specs.Numbered.{ports_of_chosen}
+use Rattle.grid_plan.specs.Planned.{IsPlanOf}
+use Rattle.mask_out.specs.declared.picture.Symbol.{Symbol}
+use Rattle.mask_out.specs.Pictures.{Drawing, drawing_of, drawing_in}
+use Rattle.cif_text.specs.Calls.{CanBeWritten}
+use Rattle.compact_run.specs.Designs.{HasShortName}
+use Rattle.compact_run.specs.Plans.{AreChosen, weights_of}
+use Rattle.compact_run.proofs.Chosen.{chosen, short_name}
+use Rattle.compact_run.proofs.Weights.{fewer_parts, light_each}
+
+pub are_chosen : (cells : List Known) (design : Design) (plan : Plan) → IsWritable design → IsPlanOf cells design.grids plan → AreChosen cells plan
+are_chosen cells design plan writable p = record {
+  masters = subst (λ (ks : List ℕ). All (λ k. k < length cells) ks) (sym p.masters)
+      (chosen (λ k. k < length cells) cells design.grids (λ name k is found. number-lt cells name k found) writable.grids p.no_fault);
+  rows = subst (λ (n : ℕ). All (AreOfMasters n) (grids_of plan)) (sym p.over.masters) p.over.of_masters;
+}
+
+-- what is told of the cell number k
+abbrev cell_at : List Known → ℕ → Cell
+cell_at cells k = cell_of (known_at cells k)
+
+-- masters have no more parts than their cells weigh
+parts_below : (cells : List Known) (masters : List Master) (ks : List ℕ) → map (λ (m : Master). m.cell) masters ≡ map (cell_at cells) ks
+    → sum_by parts_in masters ≤ sum_by (λ k. weight_of (known_at cells k)) ks
+parts_below cells [] [] same = omega arith
+parts_below cells [] (k ∷ ks) same = cc
+parts_below cells (m ∷ masters) [] same = cc
+parts_below cells (m ∷ masters) (k ∷ ks) same =
+    let weight : ℕ → ℕ = λ j. weight_of (known_at cells j) in
+    let cell : m.cell ≡ cell_at cells k = cc in
+    let others : map (λ (z : Master). z.cell) masters ≡ map (cell_at cells) ks = cc in
+    let count : parts_in m ≡ length (cell_at cells k).nodes + length (cell_at cells k).wires + length (cell_at cells k).limits =
+    ap (λ (c : Cell). length c.nodes + length c.wires + length c.limits) cell in
+    let own = fewer_parts (known_at cells k) in
+    let rest = parts_below cells masters ks others in
+    let a = sum_by-cons parts_in m masters in
+    let b = sum_by-cons weight k ks in
+    omega (arith, count, own, rest, a, b)
+
+-- and the ports that are told of their cells
+ports_alike : (cells : List Known) (masters : List Master) (ks : List ℕ) → map (λ (m : Master). m.cell) masters ≡ map (cell_at cells) ks
+    → AllByRecursion (λ k. ports_of (known_at cells k) ≡ ports_of_cell (cell_at cells k)) ks → ports_of_chosen cells ks ≡ ports_of_masters masters
+ports_alike cells [] [] same seen = refl
+ports_alike cells [] (k ∷ ks) same seen = cc
+ports_alike cells (m ∷ masters) [] same seen = cc
+ports_alike cells (m ∷ masters) (k ∷ ks) same seen =
+    let cell : m.cell ≡ cell_at cells k = cc in
+    let others : map (λ (z : Master). z.cell) masters ≡ map (cell_at cells) ks = cc in
+    let first : ports_of (known_at cells k) ≡ master_ports m = seen.0 ∙ ap ports_of_cell (sym cell) in
+    ap (λ (ps : List CellPort). ps ∷ ports_of_chosen cells ks) first ∙ ap (λ (pss : List (List CellPort)). master_ports m ∷ pss) (ports_alike cells masters ks others seen.1)
+
+pub are_planned : (tech : Tech) (cells : List Known) (grids : List GridText) (plan : Plan) (masters : List Master) → IsPlanOf cells grids plan → AreChosen cells plan
+    → weights_of cells plan ≤ 65536 → map (λ (m : Master). m.cell) masters ≡ map (cell_at cells) plan.masters → All (IsMaster tech) masters
+    → ((k : ℕ) → k < length cells → weight_of (known_at cells k) ≤ 65536 → ports_of (known_at cells k) ≡ ports_of_cell (cell_at cells k)) → ArePlanned tech plan masters
+are_planned tech cells grids plan masters p are light same each seen =
+    let weight : ℕ → ℕ = λ k. weight_of (known_at cells k) in
+    let one : AllByRecursion (λ k. ports_of (known_at cells k) ≡ ports_of_cell (cell_at cells k)) plan.masters =
+    by_number (λ k. ports_of (known_at cells k) ≡ ports_of_cell (cell_at cells k)) plan.masters 0
+    (λ i lt. seen (get_or plan.masters i 0) (All-get_or (λ k. k < length cells) plan.masters i 0 lt are.masters)
+    (All-get_or (λ k. weight k ≤ 65536) plan.masters i 0 lt (light_each weight plan.masters 65536 light))) in
+    let parts = parts_below cells masters plan.masters same in
+    record {
+      each = each;
+      few_parts = omega (arith, parts, light);
+      planned = subst (λ (ps : List (List CellPort)). IsPlanOver ps plan) (ports_alike cells masters plan.masters same one) p.over;
+    }
+
+-- ---- names
+
+names_below : (cells : List Known) (masters : List Master) (ks : List ℕ) → map (λ (m : Master). m.cell) masters ≡ map (cell_at cells) ks
+    → AllByRecursion (λ k. length (known_at cells k).name ≤ 65000) ks → AllByRecursion HasShortName masters
+names_below cells [] ks same short = tt
+names_below cells (m ∷ masters) [] same short = cc
+names_below cells (m ∷ masters) (k ∷ ks) same short =
+    let cell : m.cell ≡ cell_at cells k = cc in
+    let others : map (λ (z : Master). z.cell) masters ≡ map (cell_at cells) ks = cc in
+    let long = ap (λ (c : Cell). length c.name) cell in
+    let first = short.0 in
+    (omega (arith, long, first), names_below cells masters ks others short.1)
+
+pub are_named : (cells : List Known) (design : Design) (plan : Plan) (masters : List Master) → IsWritable design → IsPlanOf cells design.grids plan
+    → map (λ (m : Master). m.cell) masters ≡ map (cell_at cells) plan.masters → All HasShortName masters
+are_named cells design plan masters writable p same =
+    let S : ℕ → Type 0 = λ k. length (known_at cells k).name ≤ 65000 in
+    let all = subst (λ (ks : List ℕ). All S ks) (sym p.masters) (chosen S cells design.grids (short_name cells) writable.grids p.no_fault) in
+    all_of HasShortName masters (names_below cells masters plan.masters same (by_number S plan.masters 0 (λ i lt. All-get_or S plan.masters i 0 lt all)))
+
+-- ---- symbols
+
+abbrev ArePlaced : Symbol → Type 0
+ArePlaced symbol = All (λ box. IsPlacedBox box.area) symbol.boxes
+
+drawn : (symbols : List Symbol) (masters : List Master) (layouts : List Coords) → map drawing_of symbols ≡ map drawing_in (zip masters layouts) → AllByRecursion HasShortName masters
+    → AllByRecursion ArePlaced symbols → AllByRecursion CanBeWritten symbols
+drawn [] masters layouts same short placed = tt
+drawn (s ∷ symbols) [] layouts same short placed = cc
+drawn (s ∷ symbols) (m ∷ masters) [] same short placed = cc
+drawn (s ∷ symbols) (m ∷ masters) (layout ∷ layouts) same short placed =
+    let drawing : drawing_of s ≡ drawing_in (m, layout) = cc in
+    let others : map drawing_of symbols ≡ map drawing_in (zip masters layouts) = cc in
+    let long = ap (λ (d : Drawing). length d.name) drawing in
+    let first = short.0 in
+    (record { placed = placed.0; named = omega (arith, long, first) }, drawn symbols masters layouts others short.1 placed.1)
+
+-- symbols that are drawn of masters with short names can be written
+pub can_be_written : (symbols : List Symbol) (masters : List Master) (layouts : List Coords) → map drawing_of symbols ≡ map drawing_in (zip masters layouts) → All HasShortName masters
+    → All ArePlaced symbols → All CanBeWritten symbols
+can_be_written symbols masters layouts same short placed =
+    all_of CanBeWritten symbols
+    (drawn symbols masters layouts same (by_number HasShortName masters no_master (λ i lt. All-get_or HasShortName masters i no_master lt short))
+    (by_number ArePlaced symbols no_symbol (λ i lt. All-get_or ArePlaced symbols i no_symbol lt placed)))
+  where
+    no_symbol : Symbol
+    no_symbol = record { name = []; boxes = [] }
+
+-- there are as many as masters
+pub few_symbols : (symbols : List Symbol) (masters : List Master) (layouts : List Coords) → map drawing_of symbols ≡ map drawing_in (zip masters layouts) → length masters ≤ 256 → length symbols < 2 ^ 32
+few_symbols symbols masters layouts same few =
+    let count = length-map symbols drawing_of in
+    let drawings = ap (λ (ds : List Drawing). length ds) same in
+    let zipped = length-map (zip masters layouts) drawing_in in
+    let both = length-zip masters layouts in
+    omega (arith, count, drawings, zipped, both, few)
