@@ -1,0 +1,12 @@
+//! The commands of Caltech Intermediate Form, one by one, as they stand in a text.
+//!
+//! What the layer above uses: `next` gives the command that comes next, where it begins and ends, or says why there is none;
+//! `tail` says what stands behind the end. Which commands may follow one another, and what they draw, is the business of the
+//! layer above.
+#![tactic(auto)]
+
+mod command;
+mod reading;
+
+pub use command::{Command, Next, Tail};
+pub use reading::{next, tail};
