@@ -6,7 +6,5 @@
 #![tactic(auto)]
 
 mod command;
-mod reading;
 
 pub use command::{Command, Next, Tail};
-pub use reading::{next, tail};

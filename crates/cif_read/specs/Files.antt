@@ -1,0 +1,73 @@
+-- What a file that has been read holds, as a sheet.
+use Rattle.std.specs.Prelude.{◌≡◌, ℕ, ◌<◌, ◌≤◌, ◌^◌, ℤ, pos, neg_ℤ, ◌≤ℤ◌, ◌<ℤ◌, All, List, [], map, length, slice_index_or}
+use Rattle.lam_geom.specs.declared.boxes.MaskBox.{MaskBox}
+use Rattle.lam_geom.specs.declared.boxes.MaskLayer.TheVariants.{ND}
+use Rattle.cif_read.specs.declared.fault.CifFault.{CifFault}
+use Rattle.cif_read.specs.declared.fault.CifReadFault.{CifReadFault}
+use Rattle.cif_read.specs.declared.fault.CifReadFault.TheVariants.{Cif, OutOfMemory}
+use Rattle.cif_read.specs.declared.file.CifFile.{CifFile}
+use Rattle.cif_read.specs.declared.file.CifSymbol.{CifSymbol}
+use Rattle.cif_read.specs.declared.file.CifStep.{CifStep}
+use Rattle.cif_read.specs.declared.file.CifStep.TheVariants.{Own, Called}
+use Rattle.cif_read.specs.Sheets.{Drawn, Symbol, Step, own, called, Sheet}
+use Rattle.cif_read.specs.Meaning.{IsFirstFault}
+
+abbrev pub drawn_of : MaskBox → Drawn
+drawn_of box = record { layer = box.layer; left = box.area.x.lo; right = box.area.x.hi; bottom = box.area.y.lo; top = box.area.y.hi }
+
+abbrev pub symbol_of : CifSymbol → Symbol
+symbol_of symbol = record { number = pos symbol.number; boxes = map drawn_of symbol.boxes }
+
+-- the box in this position
+abbrev pub no_box : Drawn
+no_box = record { layer = ND; left = pos 0; right = pos 0; bottom = pos 0; top = pos 0 }
+
+abbrev pub drawn_at : List MaskBox → ℕ → Drawn
+drawn_at boxes k = slice_index_or (map drawn_of boxes) k no_box
+
+abbrev pub step_of : List MaskBox → CifStep → Step
+step_of boxes (Own k) = own (drawn_at boxes k)
+step_of boxes (Called symbol x y) = called symbol x y
+
+abbrev pub sheet_of : CifFile → Sheet
+sheet_of file = record { symbols = map symbol_of file.symbols; steps = map (step_of file.boxes) file.order }
+
+-- ---- a file that can be flattened
+
+abbrev pub IsWithin : ℕ → ℤ → Type 0
+IsWithin reach z = (neg_ℤ (pos reach) ≤ℤ z) × (z ≤ℤ pos reach)
+
+-- a box that has an inside, and whose sides lie within so much of the origin
+pub record IsSolidWithin (reach : ℕ) (box : Drawn) : Type 0 where
+  pub left : IsWithin reach box.left
+  pub right : IsWithin reach box.right
+  pub bottom : IsWithin reach box.bottom
+  pub top : IsWithin reach box.top
+  pub wide : box.left <ℤ box.right
+  pub high : box.bottom <ℤ box.top
+
+-- a step has its box or symbol among these, and shifts within 2^31
+abbrev pub IsStepOf : ℕ → ℕ → CifStep → Type 0
+IsStepOf symbols boxes (Own k) = k < boxes
+IsStepOf symbols boxes (Called symbol x y) = (symbol < symbols) × IsWithin (2 ^ 31) x × IsWithin (2 ^ 31) y
+
+pub record CanBeFlattened (file : CifFile) : Type 0 where
+  pub symbols : All (λ (symbol : CifSymbol). All (IsSolidWithin (2 ^ 50)) (map drawn_of symbol.boxes)) file.symbols
+  pub boxes : All (IsSolidWithin (2 ^ 50)) (map drawn_of file.boxes)
+  pub steps : All (IsStepOf (length file.symbols) (length file.boxes)) file.order
+  pub few_steps : length file.order ≤ 2 ^ 26
+  pub few_boxes : All (λ (symbol : CifSymbol). length symbol.boxes ≤ 2 ^ 26) file.symbols
+
+-- a box that has an inside
+abbrev pub IsSolid : MaskBox → Type 0
+IsSolid box = (box.area.x.lo <ℤ box.area.x.hi) × (box.area.y.lo <ℤ box.area.y.hi)
+
+-- ---- why a text could not be read
+
+abbrev pub IsCauseOf : List ℕ → CifReadFault → Type 0
+IsCauseOf text (Cif fault) = IsFirstFault text fault
+IsCauseOf text OutOfMemory = Unit {0}
+
+-- the most boxes of a flattened file
+abbrev pub most_boxes : ℕ
+most_boxes = 2 ^ 20

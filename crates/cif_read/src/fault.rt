@@ -1,0 +1,54 @@
+//! Why a CIF text has no meaning.
+
+use std::alloc::AllocError;
+
+/// What is wrong at a place of a text.
+#[derive(Clone, Copy, Debug, PartialEq, Eq)]
+pub enum CifKind {
+    /// What stands here is no command, or one that may stand here never: a call in a definition, an end of a definition
+    /// outside of one.
+    BadCommand,
+    /// A number that is too large, or too small for what it counts.
+    BadNumber,
+    /// A definition or the end of the text inside a definition.
+    NestedDefinition,
+    /// A second definition of one symbol.
+    RepeatedSymbol,
+    /// A call of a symbol that has not been defined before it.
+    UnknownSymbol,
+    /// A box before any layer was named.
+    NoLayer,
+    /// A number of a box that is no whole number of hundredths of a micron in its definition's scale.
+    OddScale,
+    /// The text ends before the letter E, or a command or a comment has no end.
+    NoEnd,
+    /// Something stands behind the letter E.
+    AfterEnd,
+}
+
+/// A fault and its place: bytes from the start of the text.
+#[derive(Clone, Copy, Debug, PartialEq, Eq)]
+pub struct CifFault {
+    pub offset: u32,
+    pub kind: CifKind,
+}
+
+/// Why a text could not be read: its first fault, or want of memory.
+#[derive(Clone, Copy, Debug, PartialEq, Eq)]
+pub enum CifReadFault {
+    Cif(CifFault),
+    OutOfMemory,
+}
+
+impl From<AllocError> for CifReadFault {
+    fn from(_error: AllocError) -> CifReadFault {
+        CifReadFault::OutOfMemory
+    }
+}
+
+/// Why a file could not be flattened: it has more than 1,048,576 boxes, or want of memory.
+#[derive(Clone, Copy, Debug, PartialEq, Eq)]
+pub enum FlatFault {
+    TooMany,
+    OutOfMemory,
+}

@@ -1,0 +1,16 @@
+//! What a CIF text draws, and all its boxes, one by one.
+//!
+//! What the layer above uses: `read_cif` gives what the text means, or its first fault with its place, both ways exactly; and
+//! `flatten` gives the boxes of the layers that are kept, in the order of the file. Lengths are in grains: a grain is half a
+//! hundredth of a micron, so that nothing is rounded.
+#![tactic(auto)]
+
+mod fault;
+mod file;
+mod flattening;
+mod reading;
+
+pub use fault::{CifFault, CifKind, CifReadFault, FlatFault};
+pub use file::{CifFile, CifStep, CifSymbol};
+pub use flattening::flatten;
+pub use reading::read_cif;
