@@ -1,0 +1,12 @@
+//! Where poly crosses diffusion: transistors, and buried contacts.
+//!
+//! What the layer above uses: `crossings` gives all crossings with their channels, in order of their diffusion, or the first
+//! pair of poly and diffusion that overlap and neither cross properly nor are a buried pair. Lengths are in grains, half
+//! hundredths of a micron.
+#![tactic(auto)]
+
+mod crossing;
+mod finding;
+
+pub use crossing::{Crossing, CrossingFault};
+pub use finding::{crossings, is_buried_pair};
