@@ -1,0 +1,80 @@
+-- What is extracted from mask boxes: pieces that are linked by touching, by a cut or by a buried contact are of one net.
+use Rattle.std.specs.Prelude.{◌≡◌, ◌≢◌, ℕ, ◌<◌, ℤ, Contains, List, length, slice_get, Some}
+use Rattle.lam_geom.specs.declared.boxes.BoxXY.{BoxXY}
+use Rattle.lam_geom.specs.declared.boxes.MaskBox.{MaskBox}
+use Rattle.lam_geom.specs.declared.boxes.MaskLayer.TheVariants.{NC}
+use Rattle.lam_geom.specs.declared.boxes.Span.{Span}
+use Rattle.lam_geom.specs.Gaps.{Touches, Overlaps, span_along}
+use Rattle.rule_table.specs.declared.technology.Tech.{Tech}
+use Rattle.graph_search.specs.Netting.{Reaches}
+use Rattle.crossings.specs.declared.crossing.Crossing.{Crossing}
+use Rattle.crossings.specs.Boxes.{area_at, layer_at, IsOn, other}
+use Rattle.crossings.specs.Crossings.{IsBuriedPair, AreProper, AreCrossings, IsFirstBadPair}
+use Rattle.net_extract.specs.declared.netlist.ExtractFault.{ExtractFault}
+use Rattle.net_extract.specs.declared.netlist.ExtractFault.TheVariants.{NotProper, OutOfMemory}
+use Rattle.net_extract.specs.declared.netlist.Netlist.{Netlist}
+use Rattle.net_extract.specs.declared.netlist.Part.TheVariants.{Whole, Low, High}
+use Rattle.net_extract.specs.Places.{Place, places_of}
+use Rattle.net_extract.specs.Netlists.{IsNetlistOf}
+
+-- ---- where a piece lies
+
+-- a span from here to there
+abbrev pub Spans : ℤ → ℤ → Span → Type 0
+Spans lo hi span = (span.lo ≡ lo) × (span.hi ≡ hi)
+
+-- On the gate's axis a piece of crossed diffusion is as long as its box. On the other it goes from the box's low end to the channel, or from the channel to
+-- the box's high end.
+abbrev pub IsLowPiece : Crossing → BoxXY → BoxXY → Type 0
+IsLowPiece c box area =
+    Spans (span_along box c.axis).lo (span_along box c.axis).hi (span_along area c.axis)
+    × Spans (span_along box (other c.axis)).lo (span_along c.channel (other c.axis)).lo (span_along area (other c.axis))
+
+abbrev pub IsHighPiece : Crossing → BoxXY → BoxXY → Type 0
+IsHighPiece c box area =
+    Spans (span_along box c.axis).lo (span_along box c.axis).hi (span_along area c.axis)
+    × Spans (span_along c.channel (other c.axis)).hi (span_along box (other c.axis)).hi (span_along area (other c.axis))
+
+-- the crossing of this diffusion box
+pub record IsOfBox (crossings : List Crossing) (k : ℕ) (c : Crossing) : Type 0 where
+  pub among : Contains crossings c
+  pub diffusion : c.diffusion ≡ k
+
+-- the area of a piece
+abbrev pub IsAreaOf : List MaskBox → List Crossing → Place → BoxXY → Type 0
+IsAreaOf boxes crossings p area = elim p.part as (λ part. Type 0) [
+  | Whole ↦ area ≡ area_at boxes p.box_no
+  | Low ↦ (c : Crossing) × IsOfBox crossings p.box_no c × IsLowPiece c (area_at boxes p.box_no) area
+  | High ↦ (c : Crossing) × IsOfBox crossings p.box_no c × IsHighPiece c (area_at boxes p.box_no) area
+]
+
+-- ---- links
+
+-- Two pieces of different boxes are linked where they are of one layer and touch, where both overlap one cut, or where their boxes are a buried pair.
+pub data AreLinked (tech : Tech) (boxes : List MaskBox) (crossings : List Crossing) (p q : Place) : Type 0 where
+  by_touch : (s t : BoxXY) → p.box_no ≢ q.box_no → layer_at boxes p.box_no ≡ layer_at boxes q.box_no
+      → IsAreaOf boxes crossings p s → IsAreaOf boxes crossings q t → Touches s t → AreLinked tech boxes crossings p q
+  by_cut : (s t : BoxXY) (cut : ℕ) → p.box_no ≢ q.box_no → IsOn boxes NC cut
+      → IsAreaOf boxes crossings p s → IsAreaOf boxes crossings q t → Overlaps s (area_at boxes cut) → Overlaps t (area_at boxes cut) → AreLinked tech boxes crossings p q
+  by_contact : IsBuriedPair tech boxes p.box_no q.box_no → AreLinked tech boxes crossings p q
+  by_contact_back : IsBuriedPair tech boxes q.box_no p.box_no → AreLinked tech boxes crossings p q
+
+-- pieces number a and b are linked
+pub record IsLink (tech : Tech) (boxes : List MaskBox) (crossings : List Crossing) (a b : ℕ) : Type 0 where
+  pub p : Place
+  pub q : Place
+  pub first : slice_get (places_of crossings boxes) a ≡ Some p
+  pub second : slice_get (places_of crossings boxes) b ≡ Some q
+  pub linked : AreLinked tech boxes crossings p q
+
+-- ---- the netlist
+
+-- what is extracted from boxes whose crossings are proper: chains of links make nets
+pub record IsExtracted (tech : Tech) (boxes : List MaskBox) (list : Netlist) : Type 0 where
+  pub crossings : List Crossing
+  pub are_crossings : AreCrossings tech boxes crossings
+  pub netlist : IsNetlistOf (places_of crossings boxes) (Reaches (IsLink tech boxes crossings)) crossings list
+
+abbrev pub IsCauseOf : Tech → List MaskBox → ExtractFault → Type 0
+IsCauseOf tech boxes (NotProper a b) = IsFirstBadPair tech boxes a b
+IsCauseOf tech boxes OutOfMemory = Unit {0}

@@ -1,0 +1,12 @@
+//! Nets and transistors of mask boxes.
+//!
+//! What the layer above uses: `extract` gives exactly the pieces of the boxes with their nets, numbered in order of their first
+//! pieces, and the transistors, or the first pair of poly and diffusion that does not cross properly. Lengths are in grains,
+//! half hundredths of a micron.
+#![tactic(auto)]
+
+mod extraction;
+mod netlist;
+
+pub use extraction::extract;
+pub use netlist::{Device, ExtractFault, Netlist, Part, Piece};
