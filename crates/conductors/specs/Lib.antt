@@ -1,0 +1,2 @@
+pub mod Conductors
+pub mod Meetings

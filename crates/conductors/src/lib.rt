@@ -1,0 +1,12 @@
+//! What conducts in all instances of a grid, and what joins it: laws alone, with no code.
+//!
+//! What the layer above uses: conducting items that touch, that one cut joins or that meet at a buried contact are of one net of
+//! the sticks, and those of one net are joined by chains of such links; poly lies over diffusion in transistors and at buried
+//! contacts alone; and where the boxes of transistors, windows and implants lie. Lengths are in u.
+#![tactic(auto)]
+
+mod chains;
+mod meetings;
+
+pub use chains::nets_are_connected;
+pub use meetings::{items_are_of_owners, links_keep_nets, poly_meets_diffusion, transistors_have_boxes};
