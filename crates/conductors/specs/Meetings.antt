@@ -30,13 +30,13 @@ at spot n = record { spot = spot; item = n }
 -- an item of this class
 pub record IsOfClass (plan : Plan) (masters : List Master) (class : Class) (a : Drawn) : Type 0 where
   pub drawn : IsDrawn plan masters a
-  pub class : (item_of plan masters a).class ≡ class
+  pub of_class : (item_of plan masters a).class ≡ class
 
 -- and of this owner
 pub record IsOwned (plan : Plan) (masters : List Master) (class : Class) (k : ℕ) (a : Drawn) : Type 0 where
   pub drawn : IsDrawn plan masters a
-  pub class : (item_of plan masters a).class ≡ class
-  pub owner : (item_of plan masters a).owner ≡ k
+  pub of_class : (item_of plan masters a).class ≡ class
+  pub owned : (item_of plan masters a).owner ≡ k
 
 -- each side of the inner box lies so far inside the same side of the outer one
 pub record EnclosesBy (outer inner : Sides) (margin : ℤ) : Type 0 where
@@ -49,7 +49,7 @@ pub record EnclosesBy (outer inner : Sides) (margin : ℤ) : Type 0 where
 
 -- node number k of an instance is a transistor of this kind: whether it is a depletion one, how its gate runs, and how wide and long its channel is
 pub record IsTransistorAt (plan : Plan) (masters : List Master) (spot : Spot) (k : ℕ) (depletion : Bool) (gate : Axis2) (w l : ℤ) : Type 0 where
-  pub spot : IsSpot (grids_of plan) spot
+  pub there : IsSpot (grids_of plan) spot
   pub node : k < length (master_of plan masters spot).cell.nodes
   pub kind : kind_of (master_of plan masters spot) k ≡ Fet depletion gate w l
 
@@ -106,7 +106,7 @@ ImplantsTellDepletion tech plan masters layouts =
     (spot : Spot) (k : ℕ) (depletion : Bool) (gate : Axis2) (w l : ℤ) → IsTransistorAt plan masters spot k depletion gate w l
     → (channel : ℕ) → IsOwned plan masters G k (at spot channel)
     → IsTrue depletion ↔ ((a : Drawn) × IsOfClass plan masters I a
-        × EnclosesBy (sides_of_drawn tech plan masters layouts a) (sides_of_drawn tech plan masters layouts (at spot channel)) (numbers_of tech).extension_implant)
+    × EnclosesBy (sides_of_drawn tech plan masters layouts a) (sides_of_drawn tech plan masters layouts (at spot channel)) (numbers_of tech).extension_implant)
 
 -- ---- poly over diffusion
 

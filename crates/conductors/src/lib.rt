@@ -9,4 +9,6 @@ mod chains;
 mod meetings;
 
 pub use chains::nets_are_connected;
-pub use meetings::{items_are_of_owners, links_keep_nets, poly_meets_diffusion, transistors_have_boxes};
+pub use meetings::{
+    items_are_of_owners, links_keep_nets, poly_meets_diffusion, transistors_have_boxes,
+};
