@@ -1,7 +1,7 @@
 -- The steps of the making of a tree.
-use Rattle.std.proofs.Common.{◌≡◌, ℕ, zero, suc, ◌+◌, ◌-◌, ◌*◌, ◌<◌, ◌≤◌, pos, Some, List, [], ◌∷◌, ◌++◌, length, map, set, take, drop, get_or, refl, sym, ap, ◌∙◌, subst, arith, length-append, append_assoc}
+use Rattle.std.proofs.Common.{◌≡◌, ℕ, zero, suc, ◌+◌, ◌-◌, ◌*◌, ◌<◌, ◌≤◌, pos, Some, List, [], ◌∷◌, ◌++◌, length, map, set, take, drop, get_or, refl, sym, ap, ◌∙◌, subst, arith, length-append, length-take, append_assoc}
 use Rattle.std.specs.List.{AllByRecursion, All, slice_get}
-use Rattle.std.proofs.lemmas.List.{append-nil, map-append, set_at, set-append_left, take_all, take-append-drop}
+use Rattle.std.proofs.lemmas.List.{append-nil, map-append, set_at, set-append_left, take_all, take-append-drop, take-take, drop-take, get_or-take, get_or-drop, get_or_default}
 use Rattle.std.proofs.lemmas.Option.{slice_get-get_or}
 use Rattle.std.proofs.lemmas.Int.{ints}
 use Rattle.lam_geom.specs.declared.boxes.BoxXY.{BoxXY}
@@ -30,6 +30,13 @@ grown_both boxes layer left right before mid after a b area h k first second pla
   within = within_append (IsWithin layer area) h.added k.added (within_wider layer area a first h.added h.within) (within_wider layer area b second k.added k.within);
   placed = placed;
 }
+
+-- the trees of two parts of the numbers
+pub grown_halves : (boxes : List MaskBox) (layer : MaskLayer) (order left right : List (ℕ × ℕ)) (half : ℕ) (before mid after : List Node) (a b area : BoxXY) → left ≡ take half order → right ≡ drop half order
+    → IsGrown boxes layer left before mid a → IsGrown boxes layer right mid after b → Encloses area a (pos 0) → Encloses area b (pos 0) → IsPlacedBox area → IsGrown boxes layer order before after area
+grown_halves boxes layer order left right half before mid after a b area front back h k first second placed =
+    subst (λ (o : List (ℕ × ℕ)). IsGrown boxes layer o before after area) (ap (λ xs. xs ++ right) front ∙ (ap (λ xs. take half order ++ xs) back ∙ take-append-drop half order))
+    (grown_both boxes layer left right before mid after a b area h k first second placed)
 
 -- one entry
 grown_one : (boxes : List MaskBox) (layer : MaskLayer) (keyed : ℕ × ℕ) (before : List Node) (d : MaskBox) → IsOn boxes layer keyed.1 → IsPlacedBox (get_or boxes keyed.1 d).area
@@ -69,6 +76,29 @@ grown_group boxes layer order before after empty area h =
       within = (tt, h.within);
       placed = h.placed;
     }
+
+-- a group that was opened is closed
+pub grown_closed : (boxes : List MaskBox) (layer : MaskLayer) (order : List (ℕ × ℕ)) (before mid after final : List Node) (empty : Node) (area : BoxXY) (place : ℕ)
+    → mid ≡ before ++ empty ∷ [] → place ≡ length before → final ≡ set after place (record { area = area; role = Group layer (length after - 1 - place) })
+    → IsGrown boxes layer order mid after area → IsGrown boxes layer order before final area
+grown_closed boxes layer order before mid after final empty area place opened there closed h =
+    let group = λ (n : ℕ). set after n (record { area = area; role = Group layer (length after - 1 - n) }) in
+    subst (λ (nodes : List Node). IsGrown boxes layer order before nodes area) (sym (closed ∙ ap group there))
+    (grown_group boxes layer order before after empty area (subst (λ (nodes : List Node). IsGrown boxes layer order nodes after area) opened h))
+
+-- a part of a list, and what stands before it
+pub part_same : (P : ℕ × ℕ → Type 0) (xs : List (ℕ × ℕ)) (start end : ℕ) → start ≤ end → end ≤ length xs → ((k : ℕ) → start ≤ k → k < end → P (get_or xs k (0, 0))) → All P (take (end - start) (drop start xs))
+part_same P xs start end le in' h k d lt =
+    let short : k < end - start = omega (arith, lt, length-take (end - start) (drop start xs)) in
+    let is : get_or (take (end - start) (drop start xs)) k d ≡ get_or xs (start + k) d = get_or-take (end - start) (drop start xs) k d short ∙ get_or-drop start xs k d in
+    let same : get_or xs (start + k) d ≡ get_or xs (start + k) (0, 0) = get_or_default xs (start + k) d (0, 0) (omega arith) in
+    subst P (sym (is ∙ same)) (h (start + k) (omega arith) (omega arith))
+
+pub take_part : (xs : List (ℕ × ℕ)) (start end : ℕ) → start ≤ end → take end xs ≡ take start xs ++ take (end - start) (drop start xs)
+take_part xs start end le =
+    let count : start + (end - start) ≡ end = omega arith in
+    sym (take-append-drop start (take end xs)) ∙ (ap (λ ys. ys ++ drop start (take end xs)) (take-take start end xs le)
+    ∙ ap (λ ys. take start xs ++ ys) (ap (λ n. drop start (take n xs)) (sym count) ∙ drop-take start (end - start) xs))
 
 -- a tree of a layer behind those of others
 pub forest_more : (boxes : List MaskBox) (layer : MaskLayer) (left right : List (ℕ × ℕ)) (before after : List Node) (area : BoxXY)

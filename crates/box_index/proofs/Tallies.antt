@@ -1,13 +1,15 @@
 -- How often numbers stand in a list.
-use Rattle.std.proofs.Common.{◌≡◌, ℕ, zero, suc, ◌+◌, ◌<◌, ◌≤◌, ◌==◌, Bool, true, false, cond, eqb, List, [], ◌∷◌, ◌++◌, length, get_or, refl, sym, ap, ◌∙◌, subst, arith, inl, inr}
-use Rattle.std.specs.List.{Contains, range_with_len}
+use Rattle.std.proofs.Common.{◌≡◌, ◌⊎◌, ℕ, zero, suc, ◌+◌, ◌<◌, ◌≤◌, ◌==◌, Bool, true, false, cond, eqb, List, [], ◌∷◌, ◌++◌, length, get_or, refl, sym, ap, ◌∙◌, subst, arith, inl, inr}
+use Rattle.std.specs.List.{All, Contains, range_with_len}
 use Rattle.std.specs.List.Sorted.{IsPermutation}
 use Rattle.std.proofs.lemmas.Bool.{cases_lt}
 use Rattle.std.proofs.lemmas.Bool.Decides.{eqb_tells}
+use Rattle.std.proofs.lemmas.List.{length-map, get_or-map}
 use Rattle.std.proofs.lemmas.List.Sums.{sum_by-append, sum_by-cons}
 use Rattle.std.proofs.lemmas.List.Sorted.{sum_by-IsPermutation}
 use Rattle.box_index.specs.Near.{AreDistinct}
 use Rattle.box_index.specs.Tree.{tally, IsNumbering}
+use Rattle.box_index.specs.Grown.{numbers_of}
 
 -- one more in front
 abbrev one : ℕ → ℕ → ℕ
@@ -101,3 +103,12 @@ numbering n xs ys e p =
       each = λ k lt. same k ∙ range_within k 0 n (omega arith) (omega arith);
       none = λ k le. same k ∙ range_past k 0 n (omega arith);
     }
+
+-- numbers that stand in a numbering are below its bound
+pub numbered_below : (n : ℕ) (order : List (ℕ × ℕ)) → IsNumbering n (numbers_of order) → All (λ (p : ℕ × ℕ). p.1 < n) order
+numbered_below n order h k d lt = elim (cases_lt (get_or order k d).1 n) [
+  | inl less ↦ less
+  | inr more ↦
+    let there = tally_there (get_or order k d).1 (numbers_of order) k 0 (omega (arith, lt, length-map order (λ (p : ℕ × ℕ). p.1))) (get_or-map (λ (p : ℕ × ℕ). p.1) order k d 0 lt) in
+    absurd (omega (arith, there, h.none (get_or order k d).1 more))
+]

@@ -70,7 +70,8 @@ impl BoxIndex {
 // The numbers of the boxes beside their keys, in order of the keys.
 fn ordered(alloc: Global, boxes: &[MaskBox]) -> Result<Vec<(u32, u32)>, AllocError>
     requires few { length boxes.now ≤ 2 ^ 20 }
-    ensures { IfOk result (λ order. IsNumbering (length boxes.now) (numbers_of order.items)) }
+    ensures numbered { IfOk result (λ order. IsNumbering (length boxes.now) (numbers_of order.items)) }
+    ensures len { IfOk result (λ order. length order.items ≡ length boxes.now) }
 {
     let mut order = keyed(alloc, boxes)?;
     order.sort()?;
