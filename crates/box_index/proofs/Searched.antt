@@ -58,16 +58,16 @@ far_step : (boxes : List MaskBox) (layer : MaskLayer) (area : BoxXY) (reach : �
 far_step boxes layer area reach at_ (Entry own j) rest found far h = record {
   tree = h.tree.2;
   gathered = gather_pass (IsNear boxes layer area reach) (j ∷ []) (numbers rest) found
-    (λ k more near. elim (tally_cases k j []) [
-      | inl e ↦ far (near_entry boxes layer own area at_ reach j h.tree.1 (subst (IsNear boxes layer area reach) (sym e.1) near))
-      | inr e ↦ omega (arith, more, e)
-    ]) h.gathered;
+      (λ k more near. elim (tally_cases k j []) [
+        | inl e ↦ far (near_entry boxes layer own area at_ reach j h.tree.1 (subst (IsNear boxes layer area reach) (sym e.1) near))
+        | inr e ↦ omega (arith, more, e)
+      ]) h.gathered;
 }
 far_step boxes layer area reach at_ (Group own inside) rest found far h = record {
   tree = tree_drop boxes inside rest h.tree.2;
   gathered = gather_pass (IsNear boxes layer area reach) (numbers (take inside rest)) (numbers (drop inside rest)) found
-    (far_inside boxes layer own area at_ reach inside rest far h.tree.2 h.tree.1.1)
-    (subst (λ ks. AreGathered (IsNear boxes layer area reach) ks found) (numbers_parts inside rest) h.gathered);
+      (far_inside boxes layer own area at_ reach inside rest far h.tree.2 h.tree.1.1)
+      (subst (λ ks. AreGathered (IsNear boxes layer area reach) ks found) (numbers_parts inside rest) h.gathered);
 }
 
 -- a node that is not near is passed over, and what is inside
@@ -80,7 +80,7 @@ entry_step : (boxes : List MaskBox) (layer own : MaskLayer) (area : BoxXY) (reac
 entry_step boxes layer own area reach at_ j rest found is h = record {
   tree = h.tree.2;
   gathered = gather_take (IsNear boxes layer area reach) j (numbers rest) found
-    (record { box = record { layer = own; area = at_ }; there = h.tree.1; on_layer = is.1; near = is.0 }) h.gathered;
+      (record { box = record { layer = own; area = at_ }; there = h.tree.1; on_layer = is.1; near = is.0 }) h.gathered;
 }
 
 -- an entry that is near is found

@@ -109,6 +109,6 @@ pub numbered_below : (n : ℕ) (order : List (ℕ × ℕ)) → IsNumbering n (nu
 numbered_below n order h k d lt = elim (cases_lt (get_or order k d).1 n) [
   | inl less ↦ less
   | inr more ↦
-    let there = tally_there (get_or order k d).1 (numbers_of order) k 0 (omega (arith, lt, length-map order (λ (p : ℕ × ℕ). p.1))) (get_or-map (λ (p : ℕ × ℕ). p.1) order k d 0 lt) in
-    absurd (omega (arith, there, h.none (get_or order k d).1 more))
+      let there = tally_there (get_or order k d).1 (numbers_of order) k 0 (omega (arith, lt, length-map order (λ (p : ℕ × ℕ). p.1))) (get_or-map (λ (p : ℕ × ℕ). p.1) order k d 0 lt) in
+      absurd (omega (arith, there, h.none (get_or order k d).1 more))
 ]

@@ -76,8 +76,8 @@ far_role : (boxes : List MaskBox) (layer own : MaskLayer) (area outer inner : Bo
 far_role boxes layer own area outer inner reach (Group l inside) ks rest far right within k none counted near = none counted
 far_role boxes layer own area outer inner reach (Entry l j) ks rest far right within k none counted near = elim (tally_cases k j ks) [
   | inl e ↦
-    let is = near_entry boxes layer l area inner reach k (subst (λ i. slice_get boxes i ≡ Some (record { layer = l; area = inner })) e.1 right) near in
-    far (omega (arith, ints, is.0, gap_to_outer area outer inner within.1), sym within.0 ∙ is.1)
+      let is = near_entry boxes layer l area inner reach k (subst (λ i. slice_get boxes i ≡ Some (record { layer = l; area = inner })) e.1 right) near in
+      far (omega (arith, ints, is.0, gap_to_outer area outer inner within.1), sym within.0 ∙ is.1)
   | inr e ↦ none (omega (arith, e))
 ]
 

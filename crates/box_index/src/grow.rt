@@ -11,7 +11,7 @@ use lam_geom::{BoxXY, MaskBox, MaskLayer, Span};
 use std::alloc::AllocError;
 
 // As many boxes at most stand in a group that is not divided further.
-const RUN: usize = 4;
+const RUN: usize = 8;
 
 /// Adds a tree for each layer of the boxes, which stand in order of their layers.
 pub fn add_layers(

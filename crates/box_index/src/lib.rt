@@ -11,3 +11,6 @@ mod nodes;
 mod search;
 
 pub use index::BoxIndex;
+
+#[cfg(test)]
+mod tests;

@@ -12,7 +12,7 @@ loop-keyed-preserved c =
     let within : i < length order = c.loop-keyed-test.true in
     let on = c.requires.same i (0, 0) within in
     let step = grown_entry boxes layer (take i order) (get_or order i (0, 0)) before c.loop-keyed.nodes.items c.index-boxes-number.result c.loop-keyed.area area
-        c.loop-keyed.invariant.0 on (c.requires.placed (get_or order i (0, 0)).1 c.index-boxes-number.result on.0) c.enclosing-area.ensures.first c.enclosing-area.ensures.second c.enclosing-area.ensures.placed in
+    c.loop-keyed.invariant.0 on (c.requires.placed (get_or order i (0, 0)).1 c.index-boxes-number.result on.0) c.enclosing-area.ensures.first c.enclosing-area.ensures.second c.enclosing-area.ensures.placed in
     let more : length c.push.new.self.items ≡ length c.loop-keyed.nodes.items + 1 = ap length c.in_ok-push.ensures.items ∙ length_push c.loop-keyed.nodes.items _ in
     let pushed = subst (λ (nodes : List Node). IsGrown boxes layer (take i order ++ get_or order i (0, 0) ∷ []) before nodes area) (sym c.in_ok-push.ensures.items) step in
     (subst (λ (o : List (ℕ × ℕ)). IsGrown boxes layer o before c.push.new.self.items area) (sym (take_more order i (0, 0) within)) pushed, omega (arith, more, c.loop-keyed.invariant.1))

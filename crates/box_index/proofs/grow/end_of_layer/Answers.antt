@@ -12,8 +12,11 @@ loop-end-preserved c =
     let boxes = c.args.boxes.now in let order = c.args.order.now in let end = c.loop-end.end in let number = (get_or order end (0, 0)).1 in
     let there = c.requires.numbered end (0, 0) c.loop-end-test.true in
     let same = same_true the_type (search rules) _ _ (sym c.if-eq.ensures) in
-    let on : IsOn boxes c.args.layer number = (there, λ d. ap (λ (b : MaskBox). b.layer) (get_or_default boxes number d c.index-boxes-order.result there) ∙ same) in
-    (omega arith, omega arith, λ k ge lt. elim (cases_lt k end) [
-      | inl less ↦ c.loop-end.invariant.2 k ge less
-      | inr more ↦ let last : end ≡ k = omega arith in subst (λ i. IsOn boxes c.args.layer (get_or order i (0, 0)).1) last on
-    ])
+    let on : IsOn boxes c.args.layer number = (there, λ d. ap (λ (b : MaskBox). b.layer) (get_or_default boxes number d c.index-boxes-order.result there) ∙ same) in (
+      omega arith,
+      omega arith,
+      λ k ge lt. elim (cases_lt k end) [
+        | inl less ↦ c.loop-end.invariant.2 k ge less
+        | inr more ↦ let last : end ≡ k = omega arith in subst (λ i. IsOn boxes c.args.layer (get_or order i (0, 0)).1) last on
+      ],
+    )
