@@ -1,7 +1,7 @@
 -- The steps of the making of a tree.
-use Rattle.std.proofs.Common.{◌≡◌, ℕ, zero, suc, ◌+◌, ◌-◌, ◌*◌, ◌<◌, ◌≤◌, pos, Some, List, [], ◌∷◌, ◌++◌, length, map, set, take, drop, get_or, refl, sym, ap, ◌∙◌, subst, arith, length-append, length-take, append_assoc}
-use Rattle.std.specs.List.{AllByRecursion, All, slice_get}
-use Rattle.std.proofs.lemmas.List.{append-nil, map-append, set_at, set-append_left, take_all, take-append-drop, take-take, drop-take, get_or-take, get_or-drop, get_or_default}
+use Rattle.std.proofs.Common.{◌≡◌, ℕ, ◌+◌, ◌-◌, ◌*◌, ◌<◌, ◌≤◌, pos, Some, List, [], ◌∷◌, ◌++◌, length, set, take, drop, get_or, refl, sym, ap, ◌∙◌, subst, arith, length-append, length-take, append_assoc}
+use Rattle.std.specs.List.{AllByRecursion, All}
+use Rattle.std.proofs.lemmas.List.{append-nil, map-append, set_at, take_all, take-append-drop, take-take, drop-take, get_or-take, get_or-drop, get_or_default}
 use Rattle.std.proofs.lemmas.Option.{slice_get-get_or}
 use Rattle.std.proofs.lemmas.Int.{ints}
 use Rattle.lam_geom.specs.declared.boxes.BoxXY.{BoxXY}
@@ -10,7 +10,6 @@ use Rattle.lam_geom.specs.declared.boxes.MaskLayer.{MaskLayer}
 use Rattle.lam_geom.specs.Gaps.{Encloses}
 use Rattle.lam_geom.specs.Places.{IsPlacedBox}
 use Rattle.box_index.specs.declared.nodes.Node.{Node}
-use Rattle.box_index.specs.declared.nodes.Role.{Role}
 use Rattle.box_index.specs.declared.nodes.Role.TheVariants.{Entry, Group}
 use Rattle.box_index.specs.Tree.{numbers, IsWithin, IsTree}
 use Rattle.box_index.specs.Grown.{numbers_of, IsOn, IsGrown, IsForest}

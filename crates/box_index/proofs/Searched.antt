@@ -1,6 +1,5 @@
 -- The steps of a search: over a node with all that is inside, over one node, and to the end.
-use Rattle.std.proofs.Common.{◌≡◌, ◌⊎◌, ℕ, zero, suc, ◌+◌, ◌<◌, ◌≤◌, ℤ, ◌≤ℤ◌, List, [], ◌∷◌, ◌++◌, length, take, drop, refl, sym, ap, ◌∙◌, subst, arith, inl, inr}
-use Rattle.std.specs.List.{Contains, slice_get}
+use Rattle.std.proofs.Common.{◌≡◌, ◌⊎◌, ℕ, zero, suc, ◌<◌, ℤ, List, [], ◌∷◌, ◌++◌, length, take, drop, refl, sym, ap, subst, arith, inl, inr}
 use Rattle.std.proofs.lemmas.Bool.{cases_lt}
 use Rattle.std.proofs.lemmas.Option.{slice_get_within}
 use Rattle.lam_geom.specs.declared.boxes.BoxXY.{BoxXY}
@@ -10,9 +9,9 @@ use Rattle.box_index.specs.declared.nodes.Node.{Node}
 use Rattle.box_index.specs.declared.nodes.Role.{Role}
 use Rattle.box_index.specs.declared.nodes.Role.TheVariants.{Entry, Group}
 use Rattle.box_index.specs.Near.{IsNear, AreNear}
-use Rattle.box_index.specs.Tree.{layer_of, count_inside, numbers, IsTree, IsTreeOf, IsNumbering, tally}
+use Rattle.box_index.specs.Tree.{count_inside, numbers, IsTreeOf, tally}
 use Rattle.box_index.specs.Found.{IsNearNode, AreGathered, IsSearched}
-use Rattle.box_index.proofs.Tallies.{tally_append, tally_first, tally_cases, tally_there, tally_contains, distinct_numbers}
+use Rattle.box_index.proofs.Tallies.{tally_append, tally_cases, tally_there, tally_contains, distinct_numbers}
 use Rattle.box_index.proofs.Trees.{near_entry, far_inside, numbers_parts, tree_drop}
 
 cases_zero : (n : ℕ) → (n ≡ 0) ⊎ (0 < n)

@@ -1,5 +1,5 @@
 -- Trees of nodes: their parts, and their numbers.
-use Rattle.std.proofs.Common.{◌≡◌, ℕ, zero, suc, ◌+◌, ◌<◌, ◌≤◌, ℤ, pos, ◌≤ℤ◌, Some, List, [], ◌∷◌, ◌++◌, length, take, drop, refl, sym, ap, ◌∙◌, subst, arith, inl, inr, length-append}
+use Rattle.std.proofs.Common.{◌≡◌, ℕ, zero, suc, ◌<◌, ℤ, pos, ◌≤ℤ◌, Some, List, [], ◌∷◌, ◌++◌, take, drop, refl, sym, ap, ◌∙◌, subst, arith, inl, inr, length-append}
 use Rattle.std.specs.List.{AllByRecursion, All, slice_get}
 use Rattle.std.proofs.lemmas.List.{take-append-le, take-append-drop}
 use Rattle.std.proofs.lemmas.List.Elements.{All-from_recursion}
@@ -13,7 +13,7 @@ use Rattle.box_index.specs.declared.nodes.Node.{Node}
 use Rattle.box_index.specs.declared.nodes.Role.{Role}
 use Rattle.box_index.specs.declared.nodes.Role.TheVariants.{Entry, Group}
 use Rattle.box_index.specs.Near.{IsNear}
-use Rattle.box_index.specs.Tree.{layer_of, with_number, numbers, IsWithinRole, IsWithin, IsRightRole, IsTree, tally}
+use Rattle.box_index.specs.Tree.{with_number, numbers, IsWithinRole, IsWithin, IsRightRole, IsTree, tally}
 use Rattle.box_index.proofs.Areas.{gap_to_outer, enclosed_within}
 use Rattle.box_index.proofs.Tallies.{tally_cases}
 

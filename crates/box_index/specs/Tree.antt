@@ -1,15 +1,14 @@
 -- The tree over a list of boxes, as one list of nodes.
-use Rattle.std.specs.Prelude.{◌≡◌, ℕ, ◌+◌, ◌*◌, ◌^◌, ◌<◌, ◌≤◌, ℤ, pos, ◌≤ℤ◌, Some, List, [], ◌∷◌, ◌++◌, ◌==◌, length, map, take, slice_get, count_by}
+use Rattle.std.specs.Prelude.{◌≡◌, ℕ, ◌*◌, ◌^◌, ◌<◌, ◌≤◌, pos, Some, List, [], ◌∷◌, ◌==◌, length, take, slice_get, count_by}
 use Rattle.std.specs.List.{AllByRecursion}
 use Rattle.lam_geom.specs.declared.boxes.BoxXY.{BoxXY}
 use Rattle.lam_geom.specs.declared.boxes.MaskBox.{MaskBox}
 use Rattle.lam_geom.specs.declared.boxes.MaskLayer.{MaskLayer}
-use Rattle.lam_geom.specs.Gaps.{gap_of_boxes, Encloses}
+use Rattle.lam_geom.specs.Gaps.{Encloses}
 use Rattle.lam_geom.specs.Places.{IsPlacedBox}
 use Rattle.box_index.specs.declared.nodes.Node.{Node}
 use Rattle.box_index.specs.declared.nodes.Role.{Role}
 use Rattle.box_index.specs.declared.nodes.Role.TheVariants.{Entry, Group}
-use Rattle.box_index.specs.Near.{AreNear}
 
 abbrev pub layer_of : Role → MaskLayer
 layer_of (Entry layer number) = layer

@@ -1,4 +1,4 @@
-use Rattle.std.proofs.Common.{◌≡◌, ℕ, ◌-◌, ◌≤◌, List, length, take, drop, get_or, sym, subst, arith}
+use Rattle.std.proofs.Common.{ℕ, ◌-◌, ◌≤◌, List, take, drop, get_or, sym, subst, arith}
 use Rattle.box_index.specs.Grown.{IsOn, IsForest}
 use Rattle.box_index.proofs.Grown.{forest_more, part_same, take_part}
 use Rattle.box_index.proofs.grow.add_layers.Goals as goal

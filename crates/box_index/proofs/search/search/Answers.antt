@@ -1,4 +1,4 @@
-use Rattle.std.proofs.Common.{◌≡◌, ℕ, ◌+◌, ◌<◌, ℤ, List, ◌∷◌, length, get_or, drop, false, true, refl, sym, ap, ◌∙◌, subst, arith}
+use Rattle.std.proofs.Common.{◌≡◌, ℕ, ◌+◌, ◌<◌, ℤ, List, ◌∷◌, length, get_or, drop, false, true, refl, sym, ap, ◌∙◌, subst}
 use Rattle.std.proofs.lemmas.List.{drop_more, drop_all, drop-drop}
 use Rattle.std.proofs.lemmas.Int.{to_z-of_z}
 use mir.Val.{to_z, of_z}
@@ -8,7 +8,7 @@ use Rattle.lam_geom.specs.declared.boxes.BoxXY.{BoxXY}
 use Rattle.lam_geom.specs.declared.boxes.MaskLayer.{MaskLayer}
 use Rattle.box_index.specs.declared.nodes.Node.{Node}
 use Rattle.box_index.specs.Near.{AreNear}
-use Rattle.box_index.specs.Found.{IsNearNode, IsSearched}
+use Rattle.box_index.specs.Found.{IsSearched}
 use Rattle.box_index.proofs.Searched.{searched_none, searched_far, searched_entry, searched_group, searched_all}
 use Rattle.box_index.proofs.search.search.Goals as goal
 

@@ -1,4 +1,4 @@
-use Rattle.std.proofs.Common.{◌≡◌, ℕ, ◌*◌, ◌^◌, ◌<◌, ◌≤◌, List, length, sym, ap, ◌∙◌, subst, arith}
+use Rattle.std.proofs.Common.{◌≡◌, ℕ, ◌^◌, ◌<◌, ◌≤◌, List, length, sym, ap, ◌∙◌, subst, arith}
 use Rattle.std.specs.List.{All}
 use Rattle.lam_geom.specs.declared.boxes.MaskBox.{MaskBox}
 use Rattle.box_index.specs.declared.nodes.Node.{Node}
