@@ -6,7 +6,12 @@
 #![tactic(auto)]
 
 mod command;
+mod forms;
+mod gaps;
+mod numbers;
 mod reading;
+#[cfg(test)]
+mod tests;
 
 pub use command::{Command, Next, Tail};
 pub use reading::{next, tail};
