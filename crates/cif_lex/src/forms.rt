@@ -94,6 +94,12 @@ fn bracket(text: &[u8]) -> Option<Form>
     }
 }
 
+fn is_name_byte(b: u8) -> bool
+    ensures { result ≡ is_name_byte b }
+{
+    b.is_ascii_uppercase() || b.is_ascii_digit()
+}
+
 // How many bytes a text begins with that may stand in a name.
 fn name_length(text: &[u8]) -> usize
     ensures within { result ≤ length text.now }
@@ -101,7 +107,7 @@ fn name_length(text: &[u8]) -> usize
     ensures longest { StopsAt is_name_byte (drop result text.now) }
 {
     for (i, b) in text.iter().enumerate() {
-        if !(b.is_ascii_uppercase() || b.is_ascii_digit()) {
+        if !is_name_byte(*b) {
             return i;
         }
     }

@@ -40,7 +40,7 @@ fn comment_length(text: &[u8]) -> Option<usize>
     ensures within { MatchOption result Unit (λ n. n ≤ length text.now) }
     ensures some { MatchOption result Unit (λ n. 0 < n) }
 {
-    let mut depth = 0;
+    let mut depth: usize = 0;
     for (i, b) in text.iter().enumerate() {
         if *b == b'(' {
             depth += 1;

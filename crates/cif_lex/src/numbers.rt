@@ -1,5 +1,5 @@
 //! Numbers.
-ghost use Rattle.std.specs.Prelude.{◌≡◌, ◌+◌, ◌<◌, ◌≤◌, IsTrue, All, pos, take, drop, length};
+ghost use Rattle.std.specs.Prelude.{◌≡◌, ◌+◌, ◌<◌, ◌≤◌, IsTrue, All, take, drop, length};
 ghost use Rattle.std.specs.Char.{is_ascii_digit};
 ghost use Rattle.cif_lex.specs.Words.{capped, StopsAt};
 ghost use Rattle.cif_lex.specs.Reading.{IsNumberAnswer, IsPairAnswer};
@@ -7,7 +7,7 @@ ghost use Rattle.cif_lex.specs.Reading.{IsNumberAnswer, IsPairAnswer};
 use crate::gaps::{begins_with, gap_length};
 
 /// One past the greatest distance of a number from 0.
-const PAST_LIMIT: i64 = 1_073_741_825;
+const PAST_LIMIT: u64 = 1_073_741_825;
 
 /// A number that was read: what it is, and how many bytes it and the gap behind it take.
 #[derive(Clone, Copy)]
@@ -39,13 +39,14 @@ fn digits_length(text: &[u8]) -> usize
 }
 
 // How far the number is from 0 that the digits stand for; all past the limit count as one past it.
-fn distance(digits: &[u8]) -> i64
+fn distance(digits: &[u8]) -> u64
     requires { All (λ b. IsTrue (is_ascii_digit b)) digits.now }
-    ensures { result ≡ pos (capped digits.now) }
+    ensures value { result ≡ capped digits.now }
+    ensures small { result ≤ 1073741825 }
 {
     let mut distance = 0;
     for digit in digits {
-        distance = (distance * 10 + i64::from(*digit - b'0')).min(PAST_LIMIT);
+        distance = (distance * 10 + u64::from(*digit - b'0')).min(PAST_LIMIT);
     }
     distance
 }
@@ -61,7 +62,7 @@ pub(crate) fn read_number(text: &[u8]) -> Option<Number>
         return None;
     }
     let end = begin + length;
-    let distance = distance(&text[begin..end]);
+    let distance = distance(&text[begin..end]) as i64;
     Some(Number {
         value: if negative { -distance } else { distance },
         length: end + gap_length(&text[end..]),

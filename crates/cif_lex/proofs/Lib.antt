@@ -1,0 +1,4 @@
+pub mod OneGap
+pub mod Comments
+pub mod Numerals
+pub mod Stops
