@@ -1,5 +1,5 @@
 -- A comment, as far as it has been passed.
-use Rattle.std.proofs.Common.{◌≡◌, ℕ, suc, ◌+◌, ◌-◌, ◌<◌, ◌≤◌, Bool, true, false, cond, eqb, ◌⊎◌, inl, inr, List, [], ◌∷◌, ◌++◌, length, get_or, take, drop, refl, sym, ap, ◌∙◌, subst, arith}
+use Rattle.std.proofs.Common.{◌≡◌, ℕ, zero, suc, ◌+◌, ◌-◌, ◌<◌, ◌≤◌, Bool, true, false, cond, eqb, ◌⊎◌, inl, inr, List, [], ◌∷◌, ◌++◌, length, get_or, take, drop, refl, sym, ap, ◌∙◌, subst, arith}
 use Rattle.std.specs.List.{count_by}
 use Rattle.std.proofs.lemmas.Bool.{cases_lt, cases_eq, eq-eqb, ne_eqb}
 use Rattle.std.proofs.lemmas.List.{length-take-le, take-take, take_all, take_more}
@@ -95,3 +95,8 @@ comment_stays text i depth led ended is =
       unbalanced = subst (λ (t : List ℕ). closed t < opened t) all (is.stays i (omega (arith, some)) (omega arith));
       open_inside = λ k more less. is.stays k more (omega arith);
     }
+
+-- where a parenthesis closes, one is open
+pub some_open : (text : List ℕ) (i depth : ℕ) → IsLedBy 40 text → Inside text i depth → get_or text i 0 ≡ 41 → 0 < depth
+some_open text zero depth led is at = let first = sym (ap (λ (t : List ℕ). get_or t 0 0) led.begun) ∙ at in absurd (omega arith)
+some_open text (suc i) depth led is at = omega (arith, is.counted, is.stays (suc i) (omega arith) (omega arith))

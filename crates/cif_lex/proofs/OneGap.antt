@@ -1,10 +1,11 @@
 -- Gaps: how they are made, and that a text has one only, up to what stands behind it.
-use Rattle.std.proofs.Common.{◌≡◌, ℕ, ◌+◌, ◌<◌, ◌≤◌, Bool, true, false, ◌⊎◌, inl, inr, List, [], ◌∷◌, ◌++◌, length, take, drop, refl, sym, ap, ◌∙◌, subst, append_assoc, arith, length-append}
+use Rattle.std.proofs.Common.{◌≡◌, ℕ, ◌+◌, ◌<◌, ◌≤◌, Bool, true, false, ◌⊎◌, inl, inr, List, [], ◌∷◌, ◌++◌, length, get_or, take, drop, refl, sym, ap, ◌∙◌, subst, append_assoc, arith, length-append}
 use Rattle.std.specs.List.{flat_map, All, AllByRecursion, count_by}
 use Rattle.std.proofs.lemmas.Bool.{cases_order, false≢true, both_ways}
-use Rattle.std.proofs.lemmas.List.{append-nil, append_cancel_left, take_at, take-append-le, take_all}
+use Rattle.std.proofs.lemmas.List.{append-nil, append_cancel_left, take_at, take-append-le, take_all, take_more}
 use Rattle.std.proofs.lemmas.List.Concat.{flat_map-append}
 use Rattle.std.proofs.lemmas.List.Elements.{All-append, All-cons, All-nil, recursion_from_All}
+use Rattle.std.proofs.Math.Seq.{take-add}
 use Rattle.cif_lex.specs.Blanks.{opening, is_blank, opened, closed, StaysOpen, IsComment, IsUnclosed, IsFiller, IsGap, IsCutOff, IsFilled}
 use Rattle.cif_lex.specs.Reading.{IsStop, IsBehindGap}
 
@@ -65,7 +66,9 @@ stops r f more (inr filled) (inl (b, is, blank)) e =
     let same : filled.first ∷ filled.more ≡ b ∷ more = sym filled.begun ∙ (e ∙ ap (λ (t : List ℕ). t ++ more) is) in
     let first : filled.first ≡ b = cc in
     filled.no_blank (subst (λ (c : ℕ). is_blank c ≡ true) (sym first) blank)
-stops r f more (inr filled) (inr it) e = filled.no_comment f more e it
+stops r f more (inr filled) (inr it) e =
+    let same : filled.first ∷ filled.more ≡ opening ∷ it.inside ++ more = sym filled.begun ∙ (e ∙ ap (λ (t : List ℕ). t ++ more) it.begun) in
+    filled.no_opening cc
 
 blank_or_comment : (f g x y : List ℕ) (b : ℕ) → f ≡ b ∷ [] → is_blank b ≡ true → IsComment g → f ++ x ≡ g ++ y → ⊥
 blank_or_comment f g x y b is blank it e =
@@ -114,19 +117,13 @@ filled text more b e no_blank no_opening = record {
   more = more;
   begun = e;
   no_blank = λ blank. both_ways (is_blank b) no_blank blank;
-  no_comment = λ comment rest split is. let same : b ∷ more ≡ opening ∷ is.inside ++ rest = sym e ∙ (split ∙ ap (λ (t : List ℕ). t ++ rest) is.begun) in no_opening cc;
-  no_unclosed = λ is. let same : b ∷ more ≡ opening ∷ is.inside = sym e ∙ is.begun in no_opening cc;
+  no_opening = no_opening;
 }
 
--- ---- what begins with a parenthesis is a comment, or has no end
+-- ---- what a gap goes on with
 
--- what has been passed of a text in which some parentheses are open, and closes them, or that it closes them nowhere
-record Closes (depth : ℕ) (text front : List ℕ) : Type 0 where
-  rest : List ℕ
-  split : text ≡ front ++ rest
-  some : 0 < length front
-  balanced : depth + opened front ≡ closed front
-  stays : (k : ℕ) → k < length front → closed (take k front) < depth + opened (take k front)
+pub gap_with_blank : (text : List ℕ) (i : ℕ) → i < length text → IsGap (take i text) → is_blank (get_or text i 0) ≡ true → IsGap (take (i + 1) text)
+gap_with_blank text i lt is blank = subst IsGap (sym (take_more text i 0 lt)) (gap_append (take i text) (get_or text i 0 ∷ []) is (gap_of (get_or text i 0 ∷ []) (inl (get_or text i 0, refl, blank))))
 
-record Never (depth : ℕ) (text : List ℕ) : Type 0 where
-  stays : (k : ℕ) → closed (take k text) < depth + opened (take k text)
+pub gap_with_comment : (text : List ℕ) (i n : ℕ) → i ≤ length text → IsGap (take i text) → IsComment (take n (drop i text)) → IsGap (take (i + n) text)
+gap_with_comment text i n le is comment = subst IsGap (sym (take-add i n text)) (gap_append (take i text) (take n (drop i text)) is (gap_of (take n (drop i text)) (inr comment)))

@@ -3,7 +3,6 @@ use Rattle.std.proofs.Common.{◌≡◌, ℕ, ◌<◌, eqb, Bool, true, false, M
 use Rattle.std.proofs.lemmas.Bool.{ne_eqb}
 use Rattle.cif_lex.specs.Blanks.{opening, IsUnclosed, IsCutOff, IsFilled}
 use Rattle.cif_lex.specs.Reading.{IsStop}
-use Rattle.cif_lex.proofs.OneGap.{first_of_filled}
 
 pub cut_by_first : (text : List ℕ) → 0 < length text → IsStop text → MatchBool (eqb (get_or text 0 0) 40) (IsCutOff text) (IsFilled text)
 cut_by_first [] some h = absurd (omega arith)
@@ -12,4 +11,4 @@ cut_by_first (b ∷ bs) some (inl (inr unclosed)) =
     let first : b ≡ opening = let e = unclosed.begun in cc in
     subst (λ (t : ℕ). MatchBool (eqb t 40) (IsCutOff (b ∷ bs)) (IsFilled (b ∷ bs))) (sym first) (inr unclosed)
 cut_by_first (b ∷ bs) some (inr filled) =
-    subst (λ (t : Bool). MatchBool t (IsCutOff (b ∷ bs)) (IsFilled (b ∷ bs))) (sym (ne_eqb b 40 (λ e. first_of_filled b bs filled e))) filled
+    subst (λ (t : Bool). MatchBool t (IsCutOff (b ∷ bs)) (IsFilled (b ∷ bs))) (sym (ne_eqb b 40 (λ e. filled.no_opening (let same = filled.begun in cc)))) filled
