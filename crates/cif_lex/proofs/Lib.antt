@@ -2,3 +2,5 @@ pub mod OneGap
 pub mod Comments
 pub mod Numerals
 pub mod Stops
+pub mod OneWord
+pub mod ReadNumbers
