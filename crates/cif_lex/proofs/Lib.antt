@@ -4,3 +4,5 @@ pub mod Numerals
 pub mod Stops
 pub mod OneWord
 pub mod ReadNumbers
+pub mod CommandWords
+pub mod AreaForm

@@ -2,7 +2,9 @@
 use Rattle.std.proofs.Common.{◌≡◌, ℕ, ◌<◌, eqb, Bool, true, false, MatchBool, ◌⊎◌, inl, inr, List, [], ◌∷◌, length, get_or, refl, sym, ap, ◌∙◌, subst, arith}
 use Rattle.std.proofs.lemmas.Bool.{ne_eqb}
 use Rattle.cif_lex.specs.Blanks.{opening, IsUnclosed, IsCutOff, IsFilled}
-use Rattle.cif_lex.specs.Reading.{IsStop}
+use Rattle.cif_lex.specs.Words.{letter}
+use Rattle.cif_lex.specs.Reading.{IsStop, IsRead}
+use Rattle.cif_lex.specs.Forms.{IsLedBy}
 
 pub cut_by_first : (text : List ℕ) → 0 < length text → IsStop text → MatchBool (eqb (get_or text 0 0) 40) (IsCutOff text) (IsFilled text)
 cut_by_first [] some h = absurd (omega arith)
@@ -12,3 +14,7 @@ cut_by_first (b ∷ bs) some (inl (inr unclosed)) =
     subst (λ (t : ℕ). MatchBool (eqb t 40) (IsCutOff (b ∷ bs)) (IsFilled (b ∷ bs))) (sym first) (inr unclosed)
 cut_by_first (b ∷ bs) some (inr filled) =
     subst (λ (t : Bool). MatchBool t (IsCutOff (b ∷ bs)) (IsFilled (b ∷ bs))) (sym (ne_eqb b 40 (λ e. filled.no_opening (let same = filled.begun in cc)))) filled
+
+-- the letter that a text begins with
+pub led_letter : (text rest : List ℕ) (b : ℕ) → IsLedBy b text → IsRead (letter (get_or text 0 0)) text rest → IsRead (letter b) text rest
+led_letter text rest b led is = subst (λ (k : ℕ). IsRead (letter k) text rest) (ap (λ (t : List ℕ). get_or t 0 0) led.begun) is
