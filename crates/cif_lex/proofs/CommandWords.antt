@@ -132,17 +132,17 @@ same_shifts ((a, b) ∷ s) ((c, d) ∷ t) e =
     ap (λ (k : ℤ). (k, b) ∷ s) x ∙ (ap (λ (k : ℤ). (c, k) ∷ s) y ∙ ap (λ (ss : List (ℤ × ℤ)). (c, d) ∷ ss) same)
 
 -- the first letter and the second, 0 where there is none
-first_letter : List Word → ℕ
+abbrev first_letter : List Word → ℕ
 first_letter [] = 0
 first_letter (letter b ∷ more) = b
 first_letter (number n ∷ more) = 0
 first_letter (name bytes ∷ more) = 0
 
-second_letter : List Word → ℕ
+abbrev second_letter : List Word → ℕ
 second_letter [] = 0
 second_letter (word ∷ more) = first_letter more
 
-first_of : Command → ℕ
+abbrev first_of : Command → ℕ
 first_of Nothing = 0
 first_of (Define n a b) = 68
 first_of Finish = 68
@@ -151,7 +151,7 @@ first_of (Area l w x y) = 66
 first_of (Call n x y far) = 67
 first_of Extension = 0
 
-second_of : Command → ℕ
+abbrev second_of : Command → ℕ
 second_of Nothing = 0
 second_of (Define n a b) = 83
 second_of Finish = 70
@@ -184,7 +184,7 @@ same_command (Define n a b) (Define m x y) words (inl e) (inr k) = absurd (let d
 same_command (Define n a b) (Define m x y) words (inr h) (inl d) = absurd (let e = h.0 in cc)
 same_command (Define n a b) (Define m x y) words (inr h) (inr k) = let e = h.0 in let d = k.0 in let a' = h.1 in let x' = k.1 in let b' = h.2 in let y' = k.2 in cc
 same_command Finish Finish words h k = refl
-same_command (Layer layer) (Layer other) words h k =
+same_command (Layer layer) (Layer second) words h k =
     let e = h.1 in let d = k.1 in let same : h.0 ≡ k.0 = cc in
     ap Layer (h.3 ∙ (ap layer_named same ∙ sym k.3))
 same_command (Area l w x y) (Area m n p q) words h k = cc

@@ -6,3 +6,6 @@ pub mod OneWord
 pub mod ReadNumbers
 pub mod CommandWords
 pub mod AreaForm
+pub mod BracketForm
+pub mod LayerForm
+pub mod CallForm

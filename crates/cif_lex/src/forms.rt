@@ -1,5 +1,5 @@
 //! The forms of commands.
-ghost use Rattle.std.specs.Prelude.{◌≡◌, ◌+◌, ◌<◌, ◌≤◌, ◌^◌, ◌≢◌, IsTrue, All, take, drop, length, slice_index};
+ghost use Rattle.std.specs.Prelude.{◌≡◌, ◌+◌, ◌<◌, ◌≤◌, ◌^◌, ◌≢◌, ◌||◌, IsTrue, All, take, drop, length, slice_index};
 ghost use Rattle.cif_lex.specs.Blanks.{semicolon, IsFilled};
 ghost use Rattle.cif_lex.specs.Words.{is_name_byte, StopsAt, letter, limit};
 ghost use Rattle.cif_lex.specs.Commands.{layer_named, is_far};
@@ -8,7 +8,7 @@ ghost use Rattle.cif_lex.specs.Forms.{IsLedBy, IsFormAnswer, IsBodyAnswer};
 
 use crate::command::Command;
 use crate::gaps::{begins_with, gap_length};
-use crate::numbers::{read_number, read_pair};
+use crate::numbers::{read_number, read_pair, Pair};
 use lam_geom::MaskLayer;
 
 /// The greatest distance of a number from 0.
@@ -61,17 +61,23 @@ fn definition(text: &[u8], begin: usize) -> Option<Form>
     let begin = begin + letter_length(&text[begin..]);
     let symbol = read_number(&text[begin..])?;
     let end = begin + symbol.length;
-    let (above, below, length) = match read_pair(&text[end..]) {
-        Some(scale) => (scale.first, scale.second, end + scale.length),
-        None => (1, 1, end),
-    };
-    Some(Form {
-        command: Command::Define {
-            number: symbol.value,
-            above,
-            below,
+    Some(match read_pair(&text[end..]) {
+        Some(scale) => Form {
+            command: Command::Define {
+                number: symbol.value,
+                above: scale.first,
+                below: scale.second,
+            },
+            length: end + scale.length,
         },
-        length,
+        None => Form {
+            command: Command::Define {
+                number: symbol.value,
+                above: 1,
+                below: 1,
+            },
+            length: end,
+        },
     })
 }
 
@@ -159,6 +165,13 @@ fn is_far(number: i64) -> bool
     number > LIMIT || number < -LIMIT
 }
 
+// Whether one of two numbers is past the limit.
+fn either_is_far(pair: &Pair) -> bool
+    ensures { result ≡ (is_far pair.now.first || is_far pair.now.second) }
+{
+    is_far(pair.first) || is_far(pair.second)
+}
+
 // `C n` and any number of `T x y`
 fn call(text: &[u8]) -> Option<Form>
     requires led { IsLedBy 67 text.now }
@@ -177,7 +190,7 @@ fn call(text: &[u8]) -> Option<Form>
         at += shift.length;
         x += shift.first;
         y += shift.second;
-        far = far || is_far(shift.first) || is_far(shift.second);
+        far = far | either_is_far(&shift);
     }
     Some(Form {
         command: Command::Call {
