@@ -1,5 +1,7 @@
 -- A call, as the code reads it: shift by shift.
-use Rattle.std.proofs.Common.{◌≡◌, ℕ, ◌+◌, ◌-◌, ◌*◌, ◌<◌, ◌≤◌, ℤ, pos, neg_ℤ, ◌+ℤ◌, ◌≤ℤ◌, Bool, true, false, ◌||◌, ◌⊎◌, inl, inr, List, [], ◌∷◌, ◌++◌, length, take, drop, refl, sym, ap, ◌∙◌, subst, arith}
+use mir.Syntax.{w64}
+use mir.Val.{to_z, of_z}
+use Rattle.std.proofs.Common.{◌≡◌, ℕ, ◌+◌, ◌-◌, ◌*◌, ◌^◌, ◌<◌, ◌≤◌, ℤ, pos, neg_ℤ, ◌+ℤ◌, ◌≤ℤ◌, Bool, true, false, ◌||◌, ◌⊎◌, inl, inr, List, [], ◌∷◌, ◌++◌, length, take, drop, refl, sym, ap, ◌∙◌, subst, arith}
 use Rattle.std.specs.List.{flat_map, list_any}
 use Rattle.std.proofs.lemmas.Int.{ints}
 use Rattle.std.proofs.lemmas.List.{drop-drop, length-drop}
@@ -154,3 +156,12 @@ call_form text n at x y far so no_more = record {
     go : (rest : List ℕ) (left : Shifts) → AreRead (flat_map shift_words left) (drop at text) rest → rest ≡ drop at text
     go rest [] read = sym read
     go rest (s ∷ left) read = absurd (no_more (led_by_letter 84 (drop at text) read.0 read.1))
+
+-- ---- machine words
+
+pub so_far_same : (text : List ℕ) (n : ℤ) (at : ℕ) (x y p q : ℤ) (far near : Bool) → SoFar text n at x y far → x ≡ p → y ≡ q → far ≡ near → SoFar text n at p q near
+so_far_same text n at x y p q far near so e f g =
+    subst (λ (k : ℤ). SoFar text n at k q near) e (subst (λ (k : ℤ). SoFar text n at x k near) f (subst (λ (b : Bool). SoFar text n at x y b) g so))
+
+pub sum_back : (z : ℤ) (at : ℕ) → at ≤ 2 ^ 26 → neg_ℤ (pos (1073741825 * at)) ≤ℤ z → z ≤ℤ pos (1073741825 * at) → to_z w64 (of_z w64 z) ≡ z
+sum_back z at le low high = omega (arith, ints)

@@ -9,3 +9,4 @@ pub mod AreaForm
 pub mod BracketForm
 pub mod LayerForm
 pub mod CallForm
+pub mod Bodies

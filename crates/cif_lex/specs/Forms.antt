@@ -17,6 +17,10 @@ pub record IsLedBy (b : ℕ) (text : List ℕ) : Type 0 where
 abbrev pub Ends : List ℕ → Type 0
 Ends rest = IsLedBy semicolon rest ⊎ IsCutOff rest
 
+-- where such a command may end; to a user extension the end of the text alone is one, as parentheses mean nothing in it
+abbrev pub MayEnd : Command → List ℕ → Type 0
+MayEnd command rest = IsLedBy semicolon rest ⊎ (IsCutOff rest × (command ≡ Extension → rest ≡ []))
+
 -- the text behind the words of a command
 abbrev pub Takes : Command → List ℕ → List ℕ → Type 0
 Takes command text rest = (words : List Word) × HasWords command words × AreRead words text rest
@@ -42,8 +46,8 @@ pub record IsBodyForm (text : List ℕ) (form : Form) : Type 0 where
   pub reaches : Reaches form.command text (drop form.length text)
   pub stop : IsStop (drop form.length text)
   pub extension_ends : form.command ≡ Extension → (drop form.length text ≡ []) ⊎ IsLedBy semicolon (drop form.length text)
-  pub only : (command : Command) (rest : List ℕ) → Reaches command text rest → Ends rest → rest ≡ drop form.length text
+  pub only : (command : Command) (rest : List ℕ) → Reaches command text rest → MayEnd command rest → rest ≡ drop form.length text
 
 abbrev pub IsBodyAnswer : List ℕ → Option Form → Type 0
 IsBodyAnswer text answer =
-    MatchOption answer ((command : Command) (rest : List ℕ) → Reaches command text rest → Ends rest → ⊥) (IsBodyForm text)
+    MatchOption answer ((command : Command) (rest : List ℕ) → Reaches command text rest → MayEnd command rest → ⊥) (IsBodyForm text)
