@@ -20,7 +20,7 @@ pub record IsHeaded (words : List Word) : Type 0 where
   pub begun : words ≡ letter first ∷ more
   pub capital : is_ascii_uppercase first ≡ true
 
-has_head : (c : Command) (words : List Word) → HasWords c words → (words ≡ []) ⊎ IsHeaded words
+pub has_head : (c : Command) (words : List Word) → HasWords c words → (words ≡ []) ⊎ IsHeaded words
 has_head Nothing words h = inl h
 has_head (Define n a b) words (inl e) = inr (record { first = 68; more = letter 83 ∷ number n ∷ number a ∷ number b ∷ []; begun = e; capital = refl })
 has_head (Define n a b) words (inr h) = inr (record { first = 68; more = letter 83 ∷ number n ∷ []; begun = h.0; capital = refl })

@@ -10,3 +10,5 @@ pub mod BracketForm
 pub mod LayerForm
 pub mod CallForm
 pub mod Bodies
+pub mod AnyForm
+pub mod Following

@@ -223,7 +223,14 @@ pub(crate) fn read_form(text: &[u8]) -> Option<Form>
     requires few { length text.now ≤ 2 ^ 26 }
     ensures { IsBodyAnswer text.now result }
 {
-    match text[0] {
+    let first = text[0];
+    if first.is_ascii_digit() {
+        return Some(Form {
+            command: Command::Extension,
+            length: extension_length(text),
+        });
+    }
+    match first {
         b';' => Some(Form {
             command: Command::Nothing,
             length: 0,
@@ -232,10 +239,6 @@ pub(crate) fn read_form(text: &[u8]) -> Option<Form>
         b'C' => call(text),
         b'D' => bracket(text),
         b'L' => layer(text),
-        b'0'..=b'9' => Some(Form {
-            command: Command::Extension,
-            length: extension_length(text),
-        }),
         _ => None,
     }
 }
