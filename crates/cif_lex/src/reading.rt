@@ -49,7 +49,7 @@ pub fn tail(bytes: &[u8], read: usize) -> Tail
     let text = &bytes[begin..];
     if text.is_empty() {
         Tail::Clean
-    } else if text[0] == b'(' {
+    } else if is_cut(text) {
         Tail::Unclosed
     } else {
         Tail::Filled { begin }
