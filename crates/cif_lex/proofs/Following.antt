@@ -14,7 +14,7 @@ use Rattle.cif_lex.proofs.Bodies.{filled_or_cut, led_or_cut}
 gap_length : (text : List ℕ) (n : ℕ) (is : IsBehindGap text (drop n text)) → n ≤ length text → length is.gap ≡ n
 gap_length text n is le = omega (arith, ap (λ (t : List ℕ). length t) is.joined, length-append is.gap (drop n text), length-drop n text)
 
-pub follows : (bytes : List ℕ) (read n : ℕ) → n ≤ length (drop read bytes) → IsBehindGap (drop read bytes) (drop n (drop read bytes)) → Follows bytes read (read + n) (drop (read + n) bytes)
+follows : (bytes : List ℕ) (read n : ℕ) → n ≤ length (drop read bytes) → IsBehindGap (drop read bytes) (drop n (drop read bytes)) → Follows bytes read (read + n) (drop (read + n) bytes)
 follows bytes read n le is = record {
   gap = is.gap;
   is_gap = is.is_gap;
@@ -22,8 +22,9 @@ follows bytes read n le is = record {
   begins = ap (λ (k : ℕ). read + k) (sym (gap_length (drop read bytes) n is le));
 }
 
-pub follows_stop : (bytes : List ℕ) (read n : ℕ) → IsBehindGap (drop read bytes) (drop n (drop read bytes)) → IsStop (drop (read + n) bytes)
-follows_stop bytes read n is = subst IsStop (drop-drop n read bytes) is.stop
+-- the same for what the code passes by
+pub behind : (bytes rest : List ℕ) (read n : ℕ) → rest ≡ drop read bytes → n ≤ length rest → IsBehindGap rest (drop n rest) → Follows bytes read (read + n) (drop (read + n) bytes)
+behind bytes rest read n e le is = follows bytes read n (subst (λ (t : List ℕ). n ≤ length t) e le) (subst (λ (t : List ℕ). IsBehindGap t (drop n t)) e is)
 
 -- ---- no command
 

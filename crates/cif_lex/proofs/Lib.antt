@@ -12,3 +12,5 @@ pub mod CallForm
 pub mod Bodies
 pub mod AnyForm
 pub mod Following
+pub mod OneCommand
+pub mod OneAnswer

@@ -5,12 +5,8 @@ use Rattle.cif_lex.specs.Blanks.{IsCutOff, IsFilled}
 use Rattle.cif_lex.specs.Commands.{Follows, IsNoCommand}
 use Rattle.cif_lex.specs.Reading.{IsStop, IsBehindGap}
 use Rattle.cif_lex.specs.Forms.{IsLedBy, Reaches, IsBodyForm}
-use Rattle.cif_lex.proofs.Following.{follows, follows_stop, none_read, none_ends, cut_read, body_length, whole_read, follows_same}
+use Rattle.cif_lex.proofs.Following.{behind, none_read, none_ends, cut_read, body_length, whole_read, follows_same}
 use Rattle.cif_lex.proofs.reading.next.Goals as goal
-
--- the text behind the gap
-behind : (bytes rest : List ℕ) (read n : ℕ) → rest ≡ drop read bytes → n ≤ length rest → IsBehindGap rest (drop n rest) → Follows bytes read (read + n) (drop (read + n) bytes)
-behind bytes rest read n e le is = follows bytes read n (subst (λ (t : List ℕ). n ≤ length t) e le) (subst (λ (t : List ℕ). IsBehindGap t (drop n t)) e is)
 
 pub returns-then-is_cut : goal.returns-then-is_cut
 returns-then-is_cut c =

@@ -4,12 +4,8 @@ use Rattle.std.proofs.lemmas.List.{take_rest, nil_from_length, append-nil}
 use Rattle.cif_lex.specs.Blanks.{IsGap, IsUnclosed, IsCutOff, IsFilled}
 use Rattle.cif_lex.specs.Commands.{Follows}
 use Rattle.cif_lex.specs.Reading.{IsBehindGap}
-use Rattle.cif_lex.proofs.Following.{follows}
+use Rattle.cif_lex.proofs.Following.{behind}
 use Rattle.cif_lex.proofs.reading.tail.Goals as goal
-
--- the text behind the gap
-behind : (bytes rest : List ℕ) (read n : ℕ) → rest ≡ drop read bytes → n ≤ length rest → IsBehindGap rest (drop n rest) → Follows bytes read (read + n) (drop (read + n) bytes)
-behind bytes rest read n e le is = follows bytes read n (subst (λ (t : List ℕ). n ≤ length t) e le) (subst (λ (t : List ℕ). IsBehindGap t (drop n t)) e is)
 
 only_gap : (bytes text : List ℕ) (read begin : ℕ) → Follows bytes read begin text → text ≡ [] → IsGap (drop read bytes)
 only_gap bytes text read begin f none = subst IsGap (sym (f.joined ∙ (ap (λ (t : List ℕ). f.gap ++ t) none ∙ append-nil f.gap))) f.is_gap
