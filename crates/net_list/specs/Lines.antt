@@ -1,0 +1,60 @@
+-- The text of a netlist: a head, a line for each net, and a line for each device. Lengths are in grains, half hundredths of a micron.
+use Rattle.std.specs.Prelude.{ℕ, ◌+◌, ◌==◌, ◌&&◌, Bool, true, false, List, [], ◌∷◌, ◌++◌, length, count_by, map, flat_map, codes, decimal, if◌then◌else◌}
+use Rattle.std.specs.Fmt.{signed_decimal}
+use Rattle.std.specs.List.{range_with_len}
+use Rattle.lam_geom.specs.declared.boxes.MaskBox.{MaskBox}
+use Rattle.lam_geom.specs.declared.boxes.MaskLayer.{MaskLayer}
+use Rattle.lam_geom.specs.declared.boxes.MaskLayer.TheVariants.{ND, NP, NC, NM, NI, NB}
+use Rattle.crossings.specs.Boxes.{layer_at}
+use Rattle.net_extract.specs.declared.netlist.Device.{Device}
+use Rattle.net_extract.specs.declared.netlist.Netlist.{Netlist}
+use Rattle.net_extract.specs.declared.netlist.Piece.{Piece}
+
+-- ---- the pieces of a net
+
+abbrev pub is_diffusion : MaskLayer → Bool
+is_diffusion ND = true
+is_diffusion layer = false
+
+abbrev pub is_poly : MaskLayer → Bool
+is_poly NP = true
+is_poly layer = false
+
+abbrev pub is_metal : MaskLayer → Bool
+is_metal NM = true
+is_metal layer = false
+
+-- how many pieces of a net are of boxes on such a layer
+abbrev pub pieces_on : (MaskLayer → Bool) → List MaskBox → List Piece → ℕ → ℕ
+pieces_on is_layer boxes pieces net = count_by (λ (piece : Piece). (piece.net == net) && is_layer (layer_at boxes piece.box_no)) pieces
+
+-- ---- lines
+
+abbrev pub head_line : ℕ → ℕ → List ℕ
+head_line nets devices = codes "nets " ++ (decimal nets ++ (codes " devices " ++ (decimal devices ++ (10 ∷ []))))
+
+abbrev pub net_line : ℕ → ℕ → ℕ → ℕ → List ℕ
+net_line net diffusion poly metal =
+    codes "net " ++ (decimal net ++ (codes " nd " ++ (decimal diffusion ++ (codes " np " ++ (decimal poly ++ (codes " nm " ++ (decimal metal ++ (10 ∷ []))))))))
+
+abbrev pub line_of_net : List MaskBox → List Piece → ℕ → List ℕ
+line_of_net boxes pieces net = net_line net (pieces_on is_diffusion boxes pieces net) (pieces_on is_poly boxes pieces net) (pieces_on is_metal boxes pieces net)
+
+abbrev pub kind_word : Bool → List ℕ
+kind_word depletion = if depletion then codes " dep w " else codes " enh w "
+
+-- its size, the nets of its terminals, and the low corner of its channel
+abbrev pub device_words : Device → List ℕ
+device_words d =
+    kind_word d.depletion ++ (signed_decimal d.w ++ (codes " l " ++ (signed_decimal d.l ++ (codes " gate " ++ (decimal d.gate
+    ++ (codes " low " ++ (decimal d.low ++ (codes " high " ++ (decimal d.high ++ (codes " at " ++ (signed_decimal d.channel.x.lo
+    ++ (codes " " ++ (signed_decimal d.channel.y.lo ++ (10 ∷ []))))))))))))))
+
+-- devices, numbered from j on
+abbrev pub device_lines : ℕ → List Device → List ℕ
+device_lines j [] = []
+device_lines j (d ∷ devices) = codes "device " ++ (decimal j ++ (device_words d ++ device_lines (j + 1) devices))
+
+unfoldable pub text_of_netlist : List MaskBox → Netlist → List ℕ
+text_of_netlist boxes list =
+    head_line list.nets (length list.devices) ++ (flat_map (line_of_net boxes list.pieces) (range_with_len 0 list.nets) ++ device_lines 0 list.devices)
