@@ -8,7 +8,7 @@ ghost use Rattle.cif_lex.specs.Forms.{IsLedBy, IsFormAnswer, IsBodyAnswer};
 
 use crate::command::Command;
 use crate::gaps::{begins_with, gap_length};
-use crate::numbers::{read_number, read_pair, Pair};
+use crate::numbers::{Pair, read_number, read_pair};
 use lam_geom::MaskLayer;
 
 /// The greatest distance of a number from 0.

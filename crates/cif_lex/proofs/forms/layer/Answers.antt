@@ -1,7 +1,6 @@
 use Rattle.std.proofs.Common.{◌≡◌, ℕ, true, ◌+◌, ◌-◌, ◌≤◌, inl, inr, List, length, take, drop, sym, ap, ◌∙◌, subst, arith}
 use Rattle.std.specs.List.{All}
 use Rattle.std.proofs.lemmas.List.{take_rest, drop-drop}
-use Rattle.cif_lex.specs.declared.command.Command.{Command}
 use Rattle.cif_lex.specs.declared.command.Command.TheVariants.{Layer}
 use Rattle.cif_lex.specs.Words.{is_name_byte, StopsAt}
 use Rattle.cif_lex.specs.Commands.{layer_named}
@@ -20,7 +19,7 @@ the_name : (text rest : List ℕ) (begin n : ℕ) → rest ≡ drop begin text �
 the_name text rest begin n e le all stops = (
   subst (λ (t : List ℕ). n ≤ length t) e le,
   subst (λ (t : List ℕ). All (λ b. is_name_byte b ≡ true) (take n t)) e all,
-  subst (λ (t : List ℕ). StopsAt is_name_byte (drop n t)) e stops
+  subst (λ (t : List ℕ). StopsAt is_name_byte (drop n t)) e stops,
 )
 
 pub returns-then-length-eq0 : goal.returns-then-length-eq0
