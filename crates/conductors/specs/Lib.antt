@@ -1,2 +1,4 @@
 pub mod Conductors
 pub mod Meetings
+pub mod Shapes
+pub mod Sticks
