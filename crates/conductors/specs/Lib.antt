@@ -2,3 +2,4 @@ pub mod Conductors
 pub mod Meetings
 pub mod Shapes
 pub mod Sticks
+pub mod Written
