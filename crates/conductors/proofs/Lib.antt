@@ -1,0 +1,2 @@
+pub mod ChainLinks
+pub mod ChainPlaces

@@ -1,0 +1,7 @@
+-- The law is the lemma on chains through all instances.
+use Rattle.conductors.proofs.ChainLinks as links
+use Rattle.conductors.proofs.ChainPlaces as places
+use Rattle.conductors.proofs.chains.nets_are_connected.Goals as goal
+
+pub returns : goal.returns
+returns c = ?
