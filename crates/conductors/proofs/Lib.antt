@@ -1,2 +1,4 @@
 pub mod ChainLinks
 pub mod ChainPlaces
+pub mod ChainConductors
+pub mod ChainParts

@@ -1,6 +1,8 @@
 -- The law is the lemma on chains through all instances.
 use Rattle.conductors.proofs.ChainLinks as links
 use Rattle.conductors.proofs.ChainPlaces as places
+use Rattle.conductors.proofs.ChainConductors as conductors
+use Rattle.conductors.proofs.ChainParts as parts
 use Rattle.conductors.proofs.chains.nets_are_connected.Goals as goal
 
 pub returns : goal.returns
