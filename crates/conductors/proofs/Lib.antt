@@ -2,3 +2,4 @@ pub mod ChainLinks
 pub mod ChainPlaces
 pub mod ChainConductors
 pub mod ChainParts
+pub mod ChainEnds

@@ -3,6 +3,7 @@ use Rattle.conductors.proofs.ChainLinks as links
 use Rattle.conductors.proofs.ChainPlaces as places
 use Rattle.conductors.proofs.ChainConductors as conductors
 use Rattle.conductors.proofs.ChainParts as parts
+use Rattle.conductors.proofs.ChainEnds as ends
 use Rattle.conductors.proofs.chains.nets_are_connected.Goals as goal
 
 pub returns : goal.returns
