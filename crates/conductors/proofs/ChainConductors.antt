@@ -136,6 +136,24 @@ node_net tech k kind numbers v r h = by kind r h
     by (Fet depletion gate w l) r (inr (inl h)) = subst (HasPartsNet tech k numbers v (Fet depletion gate w l)) (sym h) (running_net gate _)
     by (Fet depletion gate w l) r (inr (inr h)) = subst (HasPartsNet tech k numbers v (Fet depletion gate w l)) (sym h) (running_net gate _)
 
+-- its owner is the node
+running_owner : (gate : Axis2) (i : Item) → (item_running gate i).owner ≡ i.owner
+running_owner Across i = refl
+running_owner Up i = refl
+
+abbrev IsOwnedBy : Tech → ℕ → NodeNets → NodeKind → ℕ → Type 0
+IsOwnedBy tech k nets kind r = (item_at (kind_items tech k kind nets) r).owner ≡ k
+
+pub node_owner : (tech : Tech) (k : ℕ) (kind : NodeKind) (nets : NodeNets) (r : ℕ) → Conducting kind r → (item_at (kind_items tech k kind nets) r).owner ≡ k
+node_owner tech k (Joint layer width) nets r h = subst (IsOwnedBy tech k nets (Joint layer width)) (sym h) (ap (λ (j : Item). j.owner) (home_is layer _))
+node_owner tech k (Contact lower) nets r (inl h) = subst (IsOwnedBy tech k nets (Contact lower)) (sym h) refl
+node_owner tech k (Contact lower) nets r (inr h) = subst (IsOwnedBy tech k nets (Contact lower)) (sym h) (ap (λ (j : Item). j.owner) (home_is lower _))
+node_owner tech k Buried nets r (inl h) = subst (IsOwnedBy tech k nets Buried) (sym h) refl
+node_owner tech k Buried nets r (inr h) = subst (IsOwnedBy tech k nets Buried) (sym h) refl
+node_owner tech k (Fet depletion gate w l) nets r (inl h) = subst (IsOwnedBy tech k nets (Fet depletion gate w l)) (sym h) (running_owner gate _)
+node_owner tech k (Fet depletion gate w l) nets r (inr (inl h)) = subst (IsOwnedBy tech k nets (Fet depletion gate w l)) (sym h) (running_owner gate _)
+node_owner tech k (Fet depletion gate w l) nets r (inr (inr h)) = subst (IsOwnedBy tech k nets (Fet depletion gate w l)) (sym h) (running_owner gate _)
+
 -- ---- wires
 
 pub wire_conducts : (tech : Tech) (cell : Cell) (nets : Nets) (w r : ℕ) → r < length (items_of_wire tech cell nets w) → Conducts (item_at (items_of_wire tech cell nets w) r).class → r ≡ home_on (wire_at cell.wires w).layer

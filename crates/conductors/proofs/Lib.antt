@@ -3,3 +3,4 @@ pub mod ChainPlaces
 pub mod ChainConductors
 pub mod ChainParts
 pub mod ChainEnds
+pub mod ChainTouch
