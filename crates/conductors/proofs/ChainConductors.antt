@@ -19,6 +19,7 @@ use Rattle.cell_model.specs.Sound.{node_at, wire_at}
 use Rattle.pair_rules.specs.Bound.{item_at}
 use Rattle.expand.specs.NodeItems.{item_running, on_layer, kind_items}
 use Rattle.expand.specs.Items.{items_of_wire}
+use Rattle.buried_contacts.proofs.Owners.{LayerHas}
 use Rattle.conductors.specs.Conductors.{Conducts}
 
 -- ---- layers
@@ -53,6 +54,11 @@ pub home_is : (layer : Layer) (i : Item) → item_at (on_layer layer i) (home_on
 home_is Metal i = refl
 home_is Poly i = refl
 home_is Diffusion i = refl
+
+pub class_has : (layer : Layer) → LayerHas layer (class_on layer)
+class_has Metal = refl
+class_has Poly = refl
+class_has Diffusion = refl
 
 pub class_conducts : (layer : Layer) → Conducts (class_on layer)
 class_conducts Metal = tt

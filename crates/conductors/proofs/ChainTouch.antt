@@ -51,8 +51,8 @@ use Rattle.grid_rules.proofs.AtPorts.{lies_along, low_side, high_side}
 use Rattle.grid_rules.proofs.Gaps.{gap_at}
 use Rattle.grid_rules.proofs.InCell.{low_in, high_in}
 use Rattle.grid_rules.proofs.Lists.{in_flat_map, in_range}
-use Rattle.grid_rules.proofs.OnBorder.{runs_along, other, LiesAsRun, wire_end}
-use Rattle.conductors.proofs.ChainConductors.{class_on}
+use Rattle.grid_rules.proofs.OnBorder.{runs_along, other, LiesAsRun, wire_end, box_among}
+use Rattle.conductors.proofs.ChainConductors.{class_on, class_has}
 use Rattle.conductors.proofs.ChainEnds.{MeetsEnd, LiesRound, IsMet, EndsAtKind, met_by}
 
 -- ---- gaps
@@ -184,3 +184,55 @@ across_touch o cross centre slack side half_width tied fits =
     let up = tied.up in
     let down = tied.down in
     spans_touch o (cross +ℤ neg_ℤ half_width) (cross +ℤ half_width) (centre +ℤ neg_ℤ side) (centre +ℤ side) (omega (arith, ints, down, fits)) (omega (arith, ints, up, fits))
+
+-- ---- a wire and the item that it meets
+
+gap_like : (o a b c d e f g h : ℤ) → a ≡ e → b ≡ f → c ≡ g → d ≡ h → gap_between (o +ℤ e) (o +ℤ f) (o +ℤ g) (o +ℤ h) ≤ℤ pos 0 → gap_between (o +ℤ a) (o +ℤ b) (o +ℤ c) (o +ℤ d) ≤ℤ pos 0
+gap_like o a b c d e f g h ae bf cg dh le = omega (arith, ints, clamps, ae, bf, cg, dh, le)
+
+module _ (tech : Tech) (master : Master) (m : IsMaster tech master) (w : ℕ) (is_low : Bool) (k : ℕ) (lt : w < length master.cell.wires) (e : wire_end is_low (wire_at master.cell.wires w) ≡ ends.Node k) where
+  abbrev wire : Wire
+  wire = wire_at master.cell.wires w
+
+  abbrev met : IsMet tech k (node_at master.cell.nodes k).kind (nets_at m.items.nets.node k) wire.layer wire.along wire.width is_low
+  met = item_met tech master m.items.nets w is_low k m lt e
+
+  abbrev run : Item
+  run = run_of tech master.cell m.items.nets w
+
+  -- the wire's box that conducts, and the node's
+  abbrev of_wire : Item
+  of_wire = wire_box tech master.cell m.items.nets w (class_on wire.layer)
+
+  abbrev of_node : Item
+  of_node = item_at (items_of_node tech master.cell m.items.nets k) met.r
+
+  abbrev axis : Axis
+  axis = axis_along wire.along
+
+  lies : LiesAsRun axis wire.along of_wire run
+  lies = lies_along axis wire.along run (class_on wire.layer) (run_along wire.along)
+
+  pub along_meets : (o : ℤ) (x : ℕ → ℤ) → MeetsStructure axis tech master x → gap_between (o +ℤ low_in axis x of_wire) (o +ℤ high_in axis x of_wire) (o +ℤ low_in axis x of_node) (o +ℤ high_in axis x of_node) ≤ℤ pos 0
+  along_meets o x structure =
+      let among = box_among tech master w (class_on wire.layer) m lt (class_has wire.layer) in
+      let long = All-contains (IsLongUnder axis x) master.items.list of_wire (stands axis tech master x m structure).long among in
+      let low = ap (end_under x) lies.low in
+      let high = ap (end_under x) lies.high in
+      let least = run_least wire.along run (class_on wire.layer) in
+      let left = ap (end_under x) met.lies.left_is in
+      let right = ap (end_under x) met.lies.right_is in
+      gap_like o _ _ _ _ (end_under x run.xl) (end_under x run.xh) (x (centre k) +ℤ met.left) (x (centre k) +ℤ met.right) low high left right
+      (along_touch is_low o (end_under x run.xl) (end_under x run.xh) (x (centre k)) (reach tech (node_at master.cell.nodes k).kind wire.width wire.along) wire.width met.left met.right
+      (end_is_at tech master.cell m.items.nets w is_low k x e) (omega (arith, ints, long, low, high, least)) met.meets)
+
+  pub across_meets : (o : ℤ) (y : ℕ → ℤ) → MeetsStructure (other axis) tech master y
+      → gap_between (o +ℤ low_in (other axis) y of_wire) (o +ℤ high_in (other axis) y of_wire) (o +ℤ low_in (other axis) y of_node) (o +ℤ high_in (other axis) y of_node) ≤ℤ pos 0
+  across_meets o y structure =
+      let low = low_side axis tech master.cell m.items.nets of_wire w y lies in
+      let high = high_side axis tech master.cell m.items.nets of_wire w y lies in
+      let bottom = ap (end_under y) met.lies.bottom_is in
+      let top = ap (end_under y) met.lies.top_is in
+      gap_like o _ _ _ _ (y (cross_of master.cell w) +ℤ neg_ℤ (half wire.width)) (y (cross_of master.cell w) +ℤ half wire.width) (y (centre k) +ℤ neg_ℤ met.side) (y (centre k) +ℤ met.side) low high bottom top
+      (across_touch o (y (cross_of master.cell w)) (y (centre k)) (half (node_pad tech wire.layer (node_at master.cell.nodes k).kind -ℤ wire.width)) met.side (half wire.width)
+      (tied_there (other axis) tech master w is_low k y structure lt (run_crosses wire.along) e) met.slack)

@@ -4,3 +4,4 @@ pub mod ChainConductors
 pub mod ChainParts
 pub mod ChainEnds
 pub mod ChainTouch
+pub mod ChainSpot
