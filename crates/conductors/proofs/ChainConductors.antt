@@ -1,5 +1,5 @@
 -- Which items of a node and of a wire conduct, and their nets.
-use Rattle.std.proofs.Common.{◌≡◌, ℕ, zero, suc, ◌+◌, ◌<◌, ◌≤◌, ℤ, true, false, Bool, List, [], ◌∷◌, length, cond, refl, sym, ap, ◌∙◌, subst, arith, inl, inr, ◌⊎◌}
+use Rattle.std.proofs.Common.{◌≡◌, ◌≢◌, ℕ, zero, suc, ◌+◌, ◌<◌, ◌≤◌, ℤ, true, false, Bool, List, [], ◌∷◌, length, cond, refl, sym, ap, ◌∙◌, subst, arith, inl, inr, ◌⊎◌}
 use Rattle.std.specs.Prelude.{slice_index}
 use Rattle.rule_table.specs.declared.technology.Tech.{Tech}
 use Rattle.rule_table.specs.declared.classes.Class.{Class}
@@ -159,6 +159,36 @@ node_owner tech k Buried nets r (inr h) = subst (IsOwnedBy tech k nets Buried) (
 node_owner tech k (Fet depletion gate w l) nets r (inl h) = subst (IsOwnedBy tech k nets (Fet depletion gate w l)) (sym h) (running_owner gate _)
 node_owner tech k (Fet depletion gate w l) nets r (inr (inl h)) = subst (IsOwnedBy tech k nets (Fet depletion gate w l)) (sym h) (running_owner gate _)
 node_owner tech k (Fet depletion gate w l) nets r (inr (inr h)) = subst (IsOwnedBy tech k nets (Fet depletion gate w l)) (sym h) (running_owner gate _)
+
+-- Two items of one part are one, or the metal and the lower layer of a contact, or poly and diffusion of a buried contact.
+abbrev pub IsPair : NodeKind → ℕ → ℕ → Type 0
+IsPair (Joint layer width) r s = ⊥
+IsPair (Contact lower) r s = (r ≡ 0) × (s ≡ suc (suc (home_on lower)))
+IsPair Buried r s = (r ≡ 0) × (s ≡ 2)
+IsPair (Fet depletion gate w l) r s = ⊥
+
+apart_parts : {T : Type 0} (kind : NodeKind) (r s m n : ℕ) → r ≡ m → s ≡ n → part_in kind r ≡ part_in kind s → part_in kind m ≢ part_in kind n → T
+apart_parts kind r s m n a b e ne = absurd (ne (sym (ap (part_in kind) a) ∙ (e ∙ ap (part_in kind) b)))
+
+pub one_or_pair : (kind : NodeKind) (r s : ℕ) → Conducting kind r → Conducting kind s → part_in kind r ≡ part_in kind s → (r ≡ s) ⊎ (IsPair kind r s ⊎ IsPair kind s r)
+one_or_pair (Joint layer width) r s a b e = inl (a ∙ sym b)
+one_or_pair (Contact lower) r s (inl a) (inl b) e = inl (a ∙ sym b)
+one_or_pair (Contact lower) r s (inl a) (inr b) e = inr (inl (a, b))
+one_or_pair (Contact lower) r s (inr a) (inl b) e = inr (inr (b, a))
+one_or_pair (Contact lower) r s (inr a) (inr b) e = inl (a ∙ sym b)
+one_or_pair Buried r s (inl a) (inl b) e = inl (a ∙ sym b)
+one_or_pair Buried r s (inl a) (inr b) e = inr (inl (a, b))
+one_or_pair Buried r s (inr a) (inl b) e = inr (inr (b, a))
+one_or_pair Buried r s (inr a) (inr b) e = inl (a ∙ sym b)
+one_or_pair (Fet depletion gate w l) r s (inl a) (inl b) e = inl (a ∙ sym b)
+one_or_pair (Fet depletion gate w l) r s (inr (inl a)) (inr (inl b)) e = inl (a ∙ sym b)
+one_or_pair (Fet depletion gate w l) r s (inr (inr a)) (inr (inr b)) e = inl (a ∙ sym b)
+one_or_pair (Fet depletion gate w l) r s (inl a) (inr (inl b)) e = apart_parts (Fet depletion gate w l) r s 0 2 a b e (omega arith)
+one_or_pair (Fet depletion gate w l) r s (inl a) (inr (inr b)) e = apart_parts (Fet depletion gate w l) r s 0 3 a b e (omega arith)
+one_or_pair (Fet depletion gate w l) r s (inr (inl a)) (inl b) e = apart_parts (Fet depletion gate w l) r s 2 0 a b e (omega arith)
+one_or_pair (Fet depletion gate w l) r s (inr (inl a)) (inr (inr b)) e = apart_parts (Fet depletion gate w l) r s 2 3 a b e (omega arith)
+one_or_pair (Fet depletion gate w l) r s (inr (inr a)) (inl b) e = apart_parts (Fet depletion gate w l) r s 3 0 a b e (omega arith)
+one_or_pair (Fet depletion gate w l) r s (inr (inr a)) (inr (inl b)) e = apart_parts (Fet depletion gate w l) r s 3 2 a b e (omega arith)
 
 -- ---- wires
 

@@ -5,3 +5,4 @@ pub mod ChainParts
 pub mod ChainEnds
 pub mod ChainTouch
 pub mod ChainSpot
+pub mod ChainCell
