@@ -141,6 +141,10 @@ module _ (tech : Tech) (plan : Plan) (masters : List Master) (layouts : List Coo
       λ kind. (r < length (kind_items tech k kind (nets_at nets_here.node k)) → IsAt plan masters (drawn_at p (place_of_node tech cell_here nets_here k r)) (item_at (kind_items tech k kind (nets_at nets_here.node k)) r)) in
       subst P is (node_drawn k r lt) within
 
+  pub wire_item_drawn : (w r : ℕ) → w < length cell_here.wires → r < length (items_of_wire tech cell_here nets_here w)
+      → IsAt plan masters (drawn_at p (place_of_wire tech cell_here nets_here w r)) (item_at (items_of_wire tech cell_here nets_here w) r)
+  wire_item_drawn w r lt within = at_place (place_of_wire tech cell_here nets_here w r) _ (wire_item_stands tech cell_here nets_here w r lt within)
+
   -- the box of a wire that conducts
   abbrev pub wire_place : ℕ → Drawn
   wire_place w = drawn_at p (place_of_wire tech cell_here nets_here w (home_on (wire_at cell_here.wires w).layer))
@@ -149,7 +153,7 @@ module _ (tech : Tech) (plan : Plan) (masters : List Master) (layouts : List Coo
   wire_drawn w lt =
       let layer : Layer = (wire_at cell_here.wires w).layer in
       let run : Item = item_running (wire_at cell_here.wires w).along (run_of tech cell_here nets_here w) in
-      let h = at_place (place_of_wire tech cell_here nets_here w (home_on layer)) _ (wire_item_stands tech cell_here nets_here w (home_on layer) lt (home_within layer run)) in
+      let h = wire_item_drawn w (home_on layer) lt (home_within layer run) in
       record { drawn = h.drawn; is = h.is ∙ home_is layer run }
 
   pub wire_conductor : (w : ℕ) → w < length cell_here.wires → IsConductor plan masters (wire_place w)
