@@ -6,3 +6,4 @@ pub mod ChainEnds
 pub mod ChainTouch
 pub mod ChainSpot
 pub mod ChainCell
+pub mod ChainPorts

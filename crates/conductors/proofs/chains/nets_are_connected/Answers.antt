@@ -7,6 +7,7 @@ use Rattle.conductors.proofs.ChainEnds as ends
 use Rattle.conductors.proofs.ChainTouch as touch
 use Rattle.conductors.proofs.ChainSpot as spot
 use Rattle.conductors.proofs.ChainCell as cell
+use Rattle.conductors.proofs.ChainPorts as ports
 use Rattle.conductors.proofs.chains.nets_are_connected.Goals as goal
 
 pub returns : goal.returns
