@@ -7,3 +7,4 @@ pub mod ChainTouch
 pub mod ChainSpot
 pub mod ChainCell
 pub mod ChainPorts
+pub mod ChainNets
