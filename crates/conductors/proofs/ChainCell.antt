@@ -1,19 +1,18 @@
 -- Conductors of one net of one instance are connected, by a chain of attachments between the parts of its cell.
 use Rattle.std.proofs.Common.{◌≡◌, ℕ, zero, suc, ◌+◌, ◌<◌, List, length, refl, sym, ap, ◌∙◌, subst, arith, inl, inr, ◌⊎◌}
 use Rattle.std.specs.Prelude.{slice_index}
-use Rattle.std.specs.List.{Contains}
 use Rattle.rule_table.specs.declared.technology.Tech.{Tech}
 use Rattle.rule_table.specs.declared.classes.Class.{Class}
 use Rattle.sym_items.specs.declared.items.Coords.{Coords}
 use Rattle.sym_items.specs.declared.items.Item.{Item}
 use Rattle.sym_items.specs.declared.items.Items.{Items}
-use Rattle.graph_search.specs.Netting.{Attached, Chain, Reaches}
+use Rattle.graph_search.specs.Netting.{Attached, Chain}
 use Rattle.cell_model.specs.declared.cell.NodeKind.{NodeKind}
 use Rattle.cell_model.specs.declared.cell.NodeNets.{NodeNets}
 use Rattle.cell_model.specs.declared.cell.Cell.{Cell}
 use Rattle.cell_model.specs.declared.cell.Wire.{Wire}
 use Rattle.cell_model.specs.declared.cell.Nets.{Nets}
-use Rattle.cell_model.specs.Nets.{node_parts, parts_of, first_part, joined_part, attachments_of, nets_of_kind}
+use Rattle.cell_model.specs.Nets.{node_parts, parts_of, first_part, joined_part, attachments_of}
 use Rattle.cell_model.specs.Sound.{node_at, wire_at}
 use Rattle.pair_rules.specs.Bound.{item_at}
 use Rattle.expand.specs.declared.master.Master.{Master}
@@ -25,17 +24,16 @@ use Rattle.buried_contacts.proofs.Owners.{item_keeps, wire_box}
 use Rattle.plan_model.specs.declared.plan.Plan.{Plan}
 use Rattle.plan_model.specs.Instances.{Spot, IsSpot}
 use Rattle.plan_model.specs.Plan.{grids_of}
-use Rattle.grid_rules.specs.Rules.{items_at}
 use Rattle.grid_rules.proofs.AtPorts.{net_of_box}
 use Rattle.grid_rules.proofs.Gaps.{IsDone}
 use Rattle.grid_rules.proofs.Meeting.{master_is}
 use Rattle.grid_rules.proofs.Pairs.{master_of}
-use Rattle.conductors.specs.Conductors.{Drawn, item_of, Conducts, IsConductor, AreOfOneBox, AreLinked, AreConnected}
+use Rattle.conductors.specs.Conductors.{item_of, Conducts, IsConductor, AreOfOneBox, AreLinked, AreConnected}
 use Rattle.conductors.proofs.ChainConductors.{class_on, class_has, class_conducts, home_on, Conducting, part_in, part_small, node_conducts, node_net, node_owner, one_or_pair, wire_conducts}
 use Rattle.conductors.proofs.ChainLinks.{linked_back, connected_one, connected_then, connected_same}
-use Rattle.conductors.proofs.ChainParts.{parts_within, node_part_is, joined_small, node_nets_are, wire_net_is, IsAttached, attached_is}
+use Rattle.conductors.proofs.ChainParts.{parts_within, node_part_is, node_nets_are, wire_net_is, IsAttached, attached_is}
 use Rattle.conductors.proofs.ChainPlaces.{IsNodePlace, IsWirePlace, place_of_node, place_of_wire, places_are}
-use Rattle.conductors.proofs.ChainSpot.{drawn_at, IsAt, conductor_at, touch_linked, wire_touches, node_drawn, wire_item_drawn, wire_drawn, wire_conductor, pair_linked}
+use Rattle.conductors.proofs.ChainSpot.{drawn_at, conductor_at, touch_linked, wire_touches, node_drawn, wire_item_drawn, wire_drawn, wire_conductor, pair_linked}
 use Rattle.conductors.proofs.ChainTouch.{item_met, end_among}
 
 -- ---- of which part a conductor is

@@ -1,5 +1,5 @@
 -- Which items of a node and of a wire conduct, and their nets.
-use Rattle.std.proofs.Common.{◌≡◌, ◌≢◌, ℕ, zero, suc, ◌+◌, ◌<◌, ◌≤◌, ℤ, true, false, Bool, List, [], ◌∷◌, length, cond, refl, sym, ap, ◌∙◌, subst, arith, inl, inr, ◌⊎◌}
+use Rattle.std.proofs.Common.{◌≡◌, ◌≢◌, ℕ, zero, suc, ◌+◌, ◌<◌, true, false, List, length, refl, sym, ap, ◌∙◌, subst, arith, inl, inr, ◌⊎◌}
 use Rattle.std.specs.Prelude.{slice_index}
 use Rattle.rule_table.specs.declared.technology.Tech.{Tech}
 use Rattle.rule_table.specs.declared.classes.Class.{Class}
@@ -15,7 +15,7 @@ use Rattle.cell_model.specs.declared.cell.NodeNets.{NodeNets}
 use Rattle.cell_model.specs.declared.cell.Cell.{Cell}
 use Rattle.cell_model.specs.declared.cell.Nets.{Nets}
 use Rattle.cell_model.specs.Nets.{kind_parts, nets_of_kind}
-use Rattle.cell_model.specs.Sound.{node_at, wire_at}
+use Rattle.cell_model.specs.Sound.{wire_at}
 use Rattle.pair_rules.specs.Bound.{item_at}
 use Rattle.expand.specs.NodeItems.{item_running, on_layer, kind_items}
 use Rattle.expand.specs.Items.{items_of_wire}

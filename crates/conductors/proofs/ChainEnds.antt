@@ -1,9 +1,7 @@
 -- The item of a node that a wire meets which ends there, seen so that the wire runs from left to right.
-use Rattle.std.proofs.Common.{◌≡◌, ℕ, ◌<◌, ℤ, pos, ◌+ℤ◌, ◌-ℤ◌, ◌*ℤ◌, ◌≤ℤ◌, true, false, Bool, List, length, refl, sym, ap, ◌∙◌, subst, arith}
-use Rattle.std.specs.Prelude.{IsTrue, neg_ℤ, int_div}
+use Rattle.std.proofs.Common.{◌≡◌, ℕ, ◌<◌, ℤ, pos, ◌+ℤ◌, ◌-ℤ◌, ◌*ℤ◌, ◌≤ℤ◌, true, false, Bool, length, refl, sym, subst, arith}
+use Rattle.std.specs.Prelude.{IsTrue, neg_ℤ}
 use Rattle.std.proofs.lemmas.Int.{ints}
-use Rattle.lam_geom.specs.declared.boxes.Axis.{Axis}
-use Rattle.lam_geom.specs.declared.boxes.Axis.TheVariants.{X, Y}
 use Rattle.rule_table.specs.Bounds.{IsSize}
 use Rattle.rule_table.specs.Technology.{numbers_of, pad_of}
 use Rattle.rule_table.specs.declared.technology.Tech.{Tech}
@@ -27,7 +25,7 @@ use Rattle.expand.specs.WireItems.{half_channel, reach}
 use Rattle.expand.proofs.Among.{half_size, half_pad, half_buried, buried_size, sound_numbers}
 use Rattle.buried_contacts.specs.Contacts.{axis_along}
 use Rattle.grid_rules.proofs.OnBorder.{other}
-use Rattle.conductors.proofs.ChainConductors.{class_on, home_on, part_in}
+use Rattle.conductors.proofs.ChainConductors.{class_on, part_in}
 
 -- ---- lengths
 

@@ -1,14 +1,11 @@
 -- Conductors of one net of the sticks are connected: within an instance by its cell, and from one to the next by the wires of ports that meet.
-use Rattle.std.proofs.Common.{◌≡◌, ℕ, suc, ◌+◌, ◌<◌, ℤ, pos, ◌+ℤ◌, ◌-ℤ◌, ◌≤ℤ◌, true, false, List, length, refl, sym, ap, ◌∙◌, subst, arith}
+use Rattle.std.proofs.Common.{◌≡◌, ℕ, ◌<◌, ℤ, pos, ◌+ℤ◌, ◌≤ℤ◌, List, length, refl, sym, ap, ◌∙◌, arith}
 use Rattle.std.specs.Prelude.{neg_ℤ, slice_index}
 use Rattle.std.proofs.lemmas.Int.{ints, clamps}
-use Rattle.std.proofs.lemmas.List.Elements.{Contains-get_or}
 use Rattle.lam_geom.specs.declared.boxes.Axis.{Axis}
 use Rattle.lam_geom.specs.declared.boxes.Axis.TheVariants.{X, Y}
 use Rattle.lam_geom.specs.Gaps.{gap_between}
 use Rattle.rule_table.specs.declared.technology.Tech.{Tech}
-use Rattle.rule_table.specs.declared.classes.Class.{Class}
-use Rattle.rule_table.specs.declared.classes.Layer.{Layer}
 use Rattle.rule_table.specs.Technology.{widest_of}
 use Rattle.sym_items.specs.declared.items.Coords.{Coords}
 use Rattle.sym_items.specs.declared.items.Item.{Item}
@@ -32,22 +29,22 @@ use Rattle.plan_model.specs.declared.plan.Plan.{Plan}
 use Rattle.plan_model.specs.GridNets.{MeetAt, net_of_port, IsOneNet, the_same, met_before, met_behind}
 use Rattle.plan_model.specs.Instances.{Spot, IsSpot, master_at_spot}
 use Rattle.plan_model.specs.Plan.{grids_of}
-use Rattle.pitch_join.specs.Masters.{master_at, ports_of_masters}
-use Rattle.grid_rules.specs.Rules.{AreNetsOf, items_at}
+use Rattle.pitch_join.specs.Masters.{ports_of_masters}
+use Rattle.grid_rules.specs.Rules.{AreNetsOf}
 use Rattle.grid_rules.proofs.AtPorts.{net_of_box, lies_along, ends_on_border, low_side, high_side}
 use Rattle.grid_rules.proofs.Gaps.{IsDone, IsItemAt, values_at, gap_at, grids_laid, lies_there}
-use Rattle.grid_rules.proofs.InCell.{low_in, high_in}
+use Rattle.grid_rules.proofs.InCell.{low_in}
 use Rattle.grid_rules.proofs.Meeting.{master_among, master_is}
 use Rattle.grid_rules.proofs.OnBorder.{runs_along, other, LiesAsRun, box_among}
 use Rattle.grid_rules.proofs.Pairs.{master_of}
 use Rattle.grid_rules.proofs.Places.{place_of, low_of, stands_level}
-use Rattle.conductors.specs.Conductors.{Drawn, item_of, IsConductor, AreOfOneBox, AreLinked, AreConnected, NetsAreConnected}
+use Rattle.conductors.specs.Conductors.{Drawn, item_of, IsConductor, AreLinked, AreConnected, NetsAreConnected}
 use Rattle.conductors.proofs.ChainCell.{net_connected}
 use Rattle.conductors.proofs.ChainConductors.{class_on, class_has}
 use Rattle.conductors.proofs.ChainLinks.{linked_back, connected_one, connected_then}
 use Rattle.conductors.proofs.ChainPorts.{AreBeside, are_beside, IsNext, is_next, begins_behind}
 use Rattle.conductors.proofs.ChainSpot.{drawn_at, touch_linked, wire_place, wire_drawn, wire_conductor}
-use Rattle.conductors.proofs.ChainTouch.{touches}
+use Rattle.conductors.proofs.ChainTouch.{touches, gap_like}
 
 -- ---- the wires of two ports that meet
 
@@ -59,9 +56,6 @@ ends_touch o r size la ha lb hb behind far near first second = omega (arith, int
 sides_touch : (o r of_a of_b wide width : ℤ) → o ≡ r → of_a ≡ of_b → wide ≡ width → pos 0 ≤ℤ width
     → gap_between (o +ℤ (of_a +ℤ neg_ℤ wide)) (o +ℤ (of_a +ℤ wide)) (r +ℤ (of_b +ℤ neg_ℤ width)) (r +ℤ (of_b +ℤ width)) ≤ℤ pos 0
 sides_touch o r of_a of_b wide width level one same low = omega (arith, ints, clamps, level, one, same, low)
-
-gap_like : (o r a b c d e f g h : ℤ) → a ≡ e → b ≡ f → c ≡ g → d ≡ h → gap_between (o +ℤ e) (o +ℤ f) (r +ℤ g) (r +ℤ h) ≤ℤ pos 0 → gap_between (o +ℤ a) (o +ℤ b) (r +ℤ c) (r +ℤ d) ≤ℤ pos 0
-gap_like o r a b c d e f g h ae bf cg dh le = omega (arith, ints, clamps, ae, bf, cg, dh, le)
 
 module _ (tech : Tech) (plan : Plan) (masters : List Master) (layouts : List Coords) (done : IsDone tech plan masters layouts) where
   abbrev cell_of : Spot → Cell

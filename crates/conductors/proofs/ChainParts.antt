@@ -1,5 +1,5 @@
 -- The numbers of the parts of a cell: of which node and which of its parts a number is, or of which wire, and the nets of parts.
-use Rattle.std.proofs.Common.{◌≡◌, ℕ, zero, suc, ◌+◌, ◌<◌, ◌≤◌, true, false, Bool, List, [], ◌∷◌, ◌++◌, length, take, drop, get_or, refl, sym, ap, ◌∙◌, subst, arith, inl, inr, ◌⊎◌, take_all}
+use Rattle.std.proofs.Common.{◌≡◌, ℕ, zero, suc, ◌+◌, ◌<◌, ◌≤◌, true, false, Bool, List, [], ◌∷◌, ◌++◌, length, take, refl, sym, ap, ◌∙◌, subst, arith, inl, inr, take_all}
 use Rattle.std.specs.Prelude.{slice_index}
 use Rattle.std.specs.List.{Contains}
 use Rattle.std.proofs.lemmas.Bool.{cases_lt}
@@ -7,9 +7,6 @@ use Rattle.std.proofs.lemmas.List.{get_or-drop}
 use Rattle.std.proofs.lemmas.List.Sums.{sum_by-cons}
 use Rattle.std.proofs.lemmas.List.Elements.{Contains-append_cases}
 use Rattle.rule_table.specs.declared.classes.Layer.{Layer}
-use Rattle.rule_table.specs.declared.classes.Layer.TheVariants.{Diffusion, Poly, Metal}
-use Rattle.cell_model.specs.declared.cell.NodeKind.{NodeKind}
-use Rattle.cell_model.specs.declared.cell.NodeKind.TheVariants.{Joint, Contact, Buried, Fet}
 use Rattle.cell_model.specs.declared.cell.Node.{Node}
 use Rattle.cell_model.specs.declared.cell.NodeNets.{NodeNets}
 use Rattle.cell_model.specs.declared.cell.Nets.{Nets}
@@ -17,15 +14,12 @@ use Rattle.cell_model.specs.declared.cell.Cell.{Cell}
 use Rattle.cell_model.specs.declared.cell.Wire.{Wire}
 use Rattle.cell_model.specs.declared.cell.WireEnd.{WireEnd}
 use Rattle.cell_model.specs.declared.cell.WireEnd.TheVariants as ends
-use Rattle.cell_model.specs.Nets.{kind_parts, node_parts, parts_of, first_part, joined_part, end_parts, with_each, attachments, attachments_of, nets_of_kind, nets_of_nodes, AreNets}
+use Rattle.cell_model.specs.Nets.{kind_parts, node_parts, first_part, joined_part, end_parts, with_each, attachments, attachments_of, nets_of_kind, nets_of_nodes, AreNets}
 use Rattle.cell_model.specs.Sound.{node_at, wire_at}
-use Rattle.expand.specs.Items.{no_nets, nets_at}
+use Rattle.expand.specs.Items.{nets_at}
 use Rattle.grid_rules.proofs.OnBorder.{wire_end}
 
 -- ---- numbers of parts
-
-abbrev kind_of_node : Node → ℕ
-kind_of_node node = kind_parts node.kind
 
 more_parts : (node : Node) (nodes : List Node) → node_parts (node ∷ nodes) ≡ kind_parts node.kind + node_parts nodes
 more_parts node nodes = sum_by-cons (λ (node : Node). kind_parts node.kind) node nodes
@@ -59,15 +53,6 @@ node_part_is nodes j k p q lj lk lp lq e = elim (cases_lt j k) [
         (same, omega (arith, level, e))
   ]
 ]
-
-pub joined_small : (kind : NodeKind) (layer : Layer) (is_low : Bool) → joined_part kind layer is_low < kind_parts kind
-joined_small (Joint own width) layer is_low = omega arith
-joined_small (Contact lower) layer is_low = omega arith
-joined_small Buried layer is_low = omega arith
-joined_small (Fet depletion gate w l) Diffusion true = omega arith
-joined_small (Fet depletion gate w l) Diffusion false = omega arith
-joined_small (Fet depletion gate w l) Poly is_low = omega arith
-joined_small (Fet depletion gate w l) Metal is_low = omega arith
 
 -- ---- nets of parts
 

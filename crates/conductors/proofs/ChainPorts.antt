@@ -1,18 +1,14 @@
 -- The wires of two ports that meet are linked.
-use Rattle.std.proofs.Common.{◌≡◌, ℕ, zero, suc, ◌+◌, ◌<◌, ℤ, pos, ◌+ℤ◌, ◌-ℤ◌, ◌≤ℤ◌, true, false, Bool, List, [], ◌∷◌, length, cond, Option, Some, None, refl, sym, ap, ◌∙◌, subst, arith}
-use Rattle.std.specs.Prelude.{neg_ℤ, option_map}
-use Rattle.std.specs.List.{All, Contains, zip}
-use Rattle.std.proofs.lemmas.Int.{ints, clamps}
+use Rattle.std.proofs.Common.{◌≡◌, ℕ, zero, suc, ◌+◌, ◌<◌, ℤ, ◌+ℤ◌, true, false, Bool, List, [], ◌∷◌, length, cond, Option, Some, None, refl, sym, ap, ◌∙◌, subst, arith}
+use Rattle.std.specs.Prelude.{option_map}
+use Rattle.std.specs.List.{Contains, zip}
+use Rattle.std.proofs.lemmas.Int.{ints}
 use Rattle.std.proofs.lemmas.List.{get_or-map}
 use Rattle.std.proofs.lemmas.List.Elements.{All-contains, recursion_from_All}
 use Rattle.lam_geom.specs.declared.boxes.Axis.{Axis}
 use Rattle.lam_geom.specs.declared.boxes.Axis.TheVariants.{X, Y}
-use Rattle.lam_geom.specs.Gaps.{gap_between}
 use Rattle.rule_table.specs.declared.technology.Tech.{Tech}
-use Rattle.rule_table.specs.Technology.{widest_of}
 use Rattle.sym_items.specs.declared.items.Coords.{Coords}
-use Rattle.sym_items.specs.declared.items.Item.{Item}
-use Rattle.sym_items.specs.Layouts.{size_in}
 use Rattle.cell_model.specs.declared.cell.CellPort.{CellPort}
 use Rattle.cell_model.specs.Ports.{ports_of_cell}
 use Rattle.expand.specs.declared.master.Master.{Master}
@@ -25,14 +21,13 @@ use Rattle.plan_model.specs.Instances.{Spot, IsSpot, grid_at, master_at_spot}
 use Rattle.plan_model.specs.Plan.{grids_of, borders_of, matches_in, IsPlanOver}
 use Rattle.plan_model.specs.Rows.{firsts, is_pair}
 use Rattle.pitch_join.specs.Layouts.{line_in, LieOnOneLine}
-use Rattle.pitch_join.specs.Masters.{master_at, no_master, master_ports, ports_of_masters, ArePlanned}
+use Rattle.pitch_join.specs.Masters.{master_at, no_master, master_ports, ports_of_masters}
 use Rattle.pitch_join.proofs.Lists.{all_firsts}
 use Rattle.grid_rules.proofs.Gaps.{IsDone}
 use Rattle.grid_rules.proofs.Lists.{out_of_flat_map, out_of_map}
 use Rattle.grid_rules.proofs.Meeting.{master_among, master_is, match_listed}
 use Rattle.grid_rules.proofs.OnBorder.{other}
-use Rattle.grid_rules.proofs.Pairs.{master_of}
-use Rattle.grid_rules.proofs.Places.{place_of, low_of, begin_of, line_of, size_of, AreLaid, on_line, size_on_line, lines_of, place_among}
+use Rattle.grid_rules.proofs.Places.{place_of, low_of, begin_of, line_of, AreLaid, on_line, size_on_line, lines_of, place_among}
 use Rattle.grid_rules.proofs.Ports.{IsPortOf, wire_of_port, met_alike}
 
 -- ---- ports that meet

@@ -1,10 +1,9 @@
 -- Conductors of one instance: those of one part are linked, and so are a wire's and that of the node at which it ends.
-use Rattle.std.proofs.Common.{◌≡◌, ◌≢◌, ℕ, suc, ◌+◌, ◌<◌, ℤ, pos, ◌+ℤ◌, ◌-ℤ◌, ◌*ℤ◌, ◌≤ℤ◌, ◌<ℤ◌, true, false, Bool, List, length, refl, sym, ap, ◌∙◌, subst, arith, inl, inr, ◌⊎◌}
+use Rattle.std.proofs.Common.{◌≡◌, ◌≢◌, ℕ, suc, ◌<◌, ℤ, pos, ◌+ℤ◌, ◌*ℤ◌, ◌≤ℤ◌, ◌<ℤ◌, Bool, List, length, refl, sym, ap, ◌∙◌, subst, arith, inl}
 use Rattle.std.specs.Prelude.{neg_ℤ}
 use Rattle.std.proofs.lemmas.Int.{ints, clamps}
-use Rattle.std.proofs.lemmas.List.Elements.{All-contains}
 use Rattle.lam_geom.specs.declared.boxes.Axis.{Axis}
-use Rattle.lam_geom.specs.declared.boxes.Axis.TheVariants.{X, Y}
+use Rattle.lam_geom.specs.declared.boxes.Axis.TheVariants.{X}
 use Rattle.lam_geom.specs.Gaps.{gap_between}
 use Rattle.rule_table.specs.declared.technology.Tech.{Tech}
 use Rattle.rule_table.specs.declared.classes.Class.{Class}
@@ -13,49 +12,38 @@ use Rattle.rule_table.specs.declared.classes.Class.TheVariants.{M, C}
 use Rattle.rule_table.specs.declared.classes.Layer.{Layer}
 use Rattle.rule_table.specs.declared.classes.Layer.TheVariants.{Diffusion, Poly, Metal}
 use Rattle.sym_items.specs.declared.items.Coords.{Coords}
-use Rattle.sym_items.specs.declared.items.End.{End}
 use Rattle.sym_items.specs.declared.items.Item.{Item}
 use Rattle.sym_items.specs.declared.items.Items.{Items}
-use Rattle.sym_items.specs.Extents.{IsLongUnder}
 use Rattle.sym_items.specs.Layouts.{size_in}
 use Rattle.sym_items.specs.Sides.{gap_of_sides}
-use Rattle.sym_items.specs.Transposed.{item_along}
-use Rattle.sym_items.specs.Values.{end_under}
 use Rattle.sym_items.specs.Standing.{nowhere}
 use Rattle.cell_model.specs.declared.cell.NodeKind.{NodeKind}
 use Rattle.cell_model.specs.declared.cell.NodeKind.TheVariants.{Joint, Contact, Buried, Fet}
 use Rattle.cell_model.specs.declared.cell.Cell.{Cell}
-use Rattle.cell_model.specs.declared.cell.Wire.{Wire}
 use Rattle.cell_model.specs.declared.cell.WireEnd.TheVariants as ends
 use Rattle.cell_model.specs.declared.cell.Nets.{Nets}
 use Rattle.cell_model.specs.Sound.{node_at, wire_at, IsKind}
-use Rattle.cell_model.specs.Wiring.{node_pad}
 use Rattle.pair_rules.specs.Bound.{item_at}
 use Rattle.expand.specs.declared.master.Master.{Master}
 use Rattle.expand.specs.Masters.{IsMaster}
 use Rattle.expand.specs.NodeItems.{item_running, square_round, kind_items}
 use Rattle.expand.specs.Items.{nets_at, items_of_node, items_of_wire, item_list}
-use Rattle.expand.specs.Variables.{half, centre, cross_of}
-use Rattle.expand.specs.WireItems.{reach}
+use Rattle.expand.specs.Variables.{half}
 use Rattle.expand.proofs.Among.{half_pad, sound_numbers}
-use Rattle.expand.proofs.Cells.{node_sound, wire_sound}
-use Rattle.expand.proofs.Standing.{stands}
+use Rattle.expand.proofs.Cells.{node_sound}
 use Rattle.buried_contacts.specs.Contacts.{axis_along}
 use Rattle.buried_contacts.proofs.Owners.{run_of, wire_box}
 use Rattle.plan_model.specs.declared.plan.Plan.{Plan}
 use Rattle.plan_model.specs.Instances.{Spot, IsSpot, master_at_spot}
 use Rattle.plan_model.specs.Plan.{grids_of}
 use Rattle.grid_rules.specs.Rules.{sides_at_spot, items_at}
-use Rattle.grid_rules.proofs.AtPorts.{lies_along, low_side, high_side}
-use Rattle.grid_rules.proofs.Gaps.{IsDone, values_at, gap_at, low_at}
-use Rattle.grid_rules.proofs.InCell.{low_in, high_in}
+use Rattle.grid_rules.proofs.Gaps.{IsDone, values_at}
 use Rattle.grid_rules.proofs.Meeting.{master_among, master_is}
-use Rattle.grid_rules.proofs.OnBorder.{other, LiesAsRun, wire_end, box_among}
+use Rattle.grid_rules.proofs.OnBorder.{other, wire_end}
 use Rattle.grid_rules.proofs.Pairs.{master_of}
 use Rattle.grid_rules.proofs.Places.{low_of}
-use Rattle.conductors.specs.Conductors.{Drawn, IsDrawn, item_of, gap_of_drawn, Conducts, IsConductor, AreOfOneBox, AreLinked, by_touch, by_cut, by_contact, AreConnected}
+use Rattle.conductors.specs.Conductors.{Drawn, IsDrawn, item_of, gap_of_drawn, Conducts, IsConductor, AreOfOneBox, AreLinked, by_touch, by_cut, by_contact}
 use Rattle.conductors.proofs.ChainConductors.{class_on, home_on, home_within, home_is, class_conducts, IsPair}
-use Rattle.conductors.proofs.ChainEnds.{LiesRound, IsMet}
 use Rattle.conductors.proofs.ChainPlaces.{StandsAtPlace, place_of_node, place_of_wire, node_item_stands, wire_item_stands}
 use Rattle.conductors.proofs.ChainTouch.{touches, overlaps, item_met, along_meets, across_meets}
 

@@ -1,7 +1,6 @@
 -- A wire touches the part of the node that it joins.
-use Rattle.std.proofs.Common.{◌≡◌, ℕ, ◌<◌, ℤ, pos, ◌+ℤ◌, ◌-ℤ◌, ◌≤ℤ◌, ◌<ℤ◌, true, false, Bool, List, [], ◌∷◌, ◌++◌, length, refl, sym, ap, ◌∙◌, subst, arith}
-use Rattle.std.specs.Prelude.{IsTrue, neg_ℤ}
-use Rattle.std.specs.Int.{int_max}
+use Rattle.std.proofs.Common.{◌≡◌, ℕ, ◌<◌, ℤ, pos, ◌+ℤ◌, ◌-ℤ◌, ◌≤ℤ◌, ◌<ℤ◌, true, false, Bool, List, [], ◌∷◌, ◌++◌, length, refl, sym, ap, subst, arith}
+use Rattle.std.specs.Prelude.{neg_ℤ}
 use Rattle.std.specs.List.{Contains, range_with_len}
 use Rattle.std.proofs.lemmas.Bool.{cond-true}
 use Rattle.std.proofs.lemmas.Int.{ints, clamps}
@@ -14,7 +13,6 @@ use Rattle.rule_table.specs.declared.classes.Class.{Class}
 use Rattle.cons_graph.specs.declared.edges.Edge.{Edge}
 use Rattle.cons_graph.specs.Solutions.{Meets}
 use Rattle.sym_items.specs.declared.items.Coords.{Coords}
-use Rattle.sym_items.specs.declared.items.End.{End}
 use Rattle.sym_items.specs.declared.items.Item.{Item}
 use Rattle.sym_items.specs.Extents.{IsLongUnder}
 use Rattle.sym_items.specs.Sides.{gap_of_sides}
@@ -22,7 +20,6 @@ use Rattle.sym_items.specs.Transposed.{item_along}
 use Rattle.sym_items.specs.Values.{end_under}
 use Rattle.cell_model.specs.declared.cell.Axis2.{Axis2}
 use Rattle.cell_model.specs.declared.cell.Axis2.TheVariants.{Across, Up}
-use Rattle.cell_model.specs.declared.cell.NodeKind.{NodeKind}
 use Rattle.cell_model.specs.declared.cell.Cell.{Cell}
 use Rattle.cell_model.specs.declared.cell.Wire.{Wire}
 use Rattle.cell_model.specs.declared.cell.WireEnd.{WireEnd}
@@ -36,10 +33,9 @@ use Rattle.expand.specs.Masters.{IsMaster}
 use Rattle.expand.specs.Laws.{MeetsStructure}
 use Rattle.expand.specs.NodeItems.{item_running}
 use Rattle.expand.specs.Items.{nets_at, items_of_node}
-use Rattle.expand.specs.Structure.{at_least, tied, end_edges, overlap_edges, size_edge, extents_of, overlaps_of, margins_of, limits_of, structure_of}
-use Rattle.expand.specs.Variables.{half, centre, cross_of, crossing, past}
+use Rattle.expand.specs.Structure.{tied, end_edges, overlap_edges, size_edge, extents_of, overlaps_of, margins_of, limits_of, structure_of}
+use Rattle.expand.specs.Variables.{half, centre, cross_of, crossing}
 use Rattle.expand.specs.WireItems.{reach, low_end_of, high_end_of}
-use Rattle.cons_graph.specs.declared.edges.Why.TheVariants.{Overlap}
 use Rattle.expand.proofs.Cells.{node_sound, wire_sound}
 use Rattle.expand.proofs.Standing.{stands}
 use Rattle.buried_contacts.specs.Contacts.{axis_along}
@@ -53,7 +49,7 @@ use Rattle.grid_rules.proofs.InCell.{low_in, high_in}
 use Rattle.grid_rules.proofs.Lists.{in_flat_map, in_range}
 use Rattle.grid_rules.proofs.OnBorder.{runs_along, other, LiesAsRun, wire_end, box_among}
 use Rattle.conductors.proofs.ChainConductors.{class_on, class_has}
-use Rattle.conductors.proofs.ChainEnds.{MeetsEnd, LiesRound, IsMet, EndsAtKind, met_by}
+use Rattle.conductors.proofs.ChainEnds.{MeetsEnd, IsMet, EndsAtKind, met_by}
 
 -- ---- gaps
 
@@ -187,8 +183,9 @@ across_touch o cross centre slack side half_width tied fits =
 
 -- ---- a wire and the item that it meets
 
-gap_like : (o a b c d e f g h : ℤ) → a ≡ e → b ≡ f → c ≡ g → d ≡ h → gap_between (o +ℤ e) (o +ℤ f) (o +ℤ g) (o +ℤ h) ≤ℤ pos 0 → gap_between (o +ℤ a) (o +ℤ b) (o +ℤ c) (o +ℤ d) ≤ℤ pos 0
-gap_like o a b c d e f g h ae bf cg dh le = omega (arith, ints, clamps, ae, bf, cg, dh, le)
+-- spans that touch, by other names of their ends
+pub gap_like : (o r a b c d e f g h : ℤ) → a ≡ e → b ≡ f → c ≡ g → d ≡ h → gap_between (o +ℤ e) (o +ℤ f) (r +ℤ g) (r +ℤ h) ≤ℤ pos 0 → gap_between (o +ℤ a) (o +ℤ b) (r +ℤ c) (r +ℤ d) ≤ℤ pos 0
+gap_like o r a b c d e f g h ae bf cg dh le = omega (arith, ints, clamps, ae, bf, cg, dh, le)
 
 module _ (tech : Tech) (master : Master) (m : IsMaster tech master) (w : ℕ) (is_low : Bool) (k : ℕ) (lt : w < length master.cell.wires) (e : wire_end is_low (wire_at master.cell.wires w) ≡ ends.Node k) where
   abbrev wire : Wire
@@ -222,7 +219,7 @@ module _ (tech : Tech) (master : Master) (m : IsMaster tech master) (w : ℕ) (i
       let least = run_least wire.along run (class_on wire.layer) in
       let left = ap (end_under x) met.lies.left_is in
       let right = ap (end_under x) met.lies.right_is in
-      gap_like o _ _ _ _ (end_under x run.xl) (end_under x run.xh) (x (centre k) +ℤ met.left) (x (centre k) +ℤ met.right) low high left right
+      gap_like o o _ _ _ _ (end_under x run.xl) (end_under x run.xh) (x (centre k) +ℤ met.left) (x (centre k) +ℤ met.right) low high left right
       (along_touch is_low o (end_under x run.xl) (end_under x run.xh) (x (centre k)) (reach tech (node_at master.cell.nodes k).kind wire.width wire.along) wire.width met.left met.right
       (end_is_at tech master.cell m.items.nets w is_low k x e) (omega (arith, ints, long, low, high, least)) met.meets)
 
@@ -233,6 +230,6 @@ module _ (tech : Tech) (master : Master) (m : IsMaster tech master) (w : ℕ) (i
       let high = high_side axis tech master.cell m.items.nets of_wire w y lies in
       let bottom = ap (end_under y) met.lies.bottom_is in
       let top = ap (end_under y) met.lies.top_is in
-      gap_like o _ _ _ _ (y (cross_of master.cell w) +ℤ neg_ℤ (half wire.width)) (y (cross_of master.cell w) +ℤ half wire.width) (y (centre k) +ℤ neg_ℤ met.side) (y (centre k) +ℤ met.side) low high bottom top
+      gap_like o o _ _ _ _ (y (cross_of master.cell w) +ℤ neg_ℤ (half wire.width)) (y (cross_of master.cell w) +ℤ half wire.width) (y (centre k) +ℤ neg_ℤ met.side) (y (centre k) +ℤ met.side) low high bottom top
       (across_touch o (y (cross_of master.cell w)) (y (centre k)) (half (node_pad tech wire.layer (node_at master.cell.nodes k).kind -ℤ wire.width)) met.side (half wire.width)
       (tied_there (other axis) tech master w is_low k y structure lt (run_crosses wire.along) e) met.slack)
