@@ -1,0 +1,3 @@
+pub mod MeetingRuns
+pub mod MeetingBlocks
+pub mod MeetingOwners
