@@ -1,3 +1,6 @@
 pub mod MeetingRuns
 pub mod MeetingBlocks
 pub mod MeetingOwners
+pub mod MeetingGaps
+pub mod MeetingPoly
+pub mod MeetingBoxes

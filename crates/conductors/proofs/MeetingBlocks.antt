@@ -29,7 +29,7 @@ use Rattle.conductors.proofs.MeetingRuns.{IsRun, HasOwner, run_first, run_second
 
 -- ---- owners
 
-owner_running : (along : Axis2) (i : Item) → (item_running along i).owner ≡ i.owner
+pub owner_running : (along : Axis2) (i : Item) → (item_running along i).owner ≡ i.owner
 owner_running Across i = refl
 owner_running Up i = refl
 
@@ -119,7 +119,7 @@ pub record IsLawfulBlock (block : List Item) (T : Type 0) : Type 0 where
   pub pieces : (j : ℕ) → j < length block → class_in block j ≡ Dm → IsOnePieceIn block j ⊎ T
 
 -- the one place of a class
-only_place : (n k : ℕ) → IsIn n (k ∷ []) → n ≡ k
+pub only_place : (n k : ℕ) → IsIn n (k ∷ []) → n ≡ k
 only_place n k (inl e) = e
 only_place n k (inr h) = absurd h
 
@@ -169,7 +169,7 @@ contact_lawful tech k Diffusion nets T h = record {
   pieces = λ j lt e. inl (one_piece (kind_items tech k (Contact Diffusion) nets) 2 3 j (omega arith) (omega arith) refl refl refl lt e);
 }
 
-class_running : (along : Axis2) (i : Item) → (item_running along i).class ≡ i.class
+pub class_running : (along : Axis2) (i : Item) → (item_running along i).class ≡ i.class
 class_running Across i = refl
 class_running Up i = refl
 
