@@ -263,7 +263,7 @@ module _ (tech : Tech) (plan : Plan) (masters : List Master) (layouts : List Coo
         is_channel = owned_at 4 G (box_round k G own_nets.main x y) (omega arith) refl refl refl;
         one_poly = λ n h. only_there P 0 n (poly_place tech k own_nets depletion gate w l) h;
         one_diffusion = λ n h. only_there Dm 1 n (mask_place tech k own_nets depletion gate w l) h;
-        two_pieces = λ n h. (let p = place_of Dc (2 ∷ 3 ∷ []) n (piece_places tech k own_nets depletion gate w l) h in two first n p.0 p.1 p.2);
+        two_pieces = λ n h. (let p = place_of Dc (2 ∷ 3 ∷ []) n (piece_places tech k own_nets depletion gate w l) h in one_of_two first n p.0 p.1 p.2);
         one_channel = λ n h. only_there G 4 n (channel_place tech k own_nets depletion gate w l) h;
         cross = subst (λ (s : Sides). CrossAt tech w l s (S (first + 1)) (S (first + 4))) (sym poly_is)
             (subst (λ (s : Sides). CrossAt tech w l (box_from c (neg_ℤ (x +ℤ poly)) (x +ℤ poly) (neg_ℤ y) y) s (S (first + 4))) (sym mask_is)
@@ -272,10 +272,10 @@ module _ (tech : Tech) (plan : Plan) (masters : List Master) (layouts : List Coo
         lies_above = high_is ∙ (ap (λ (s : Sides). above s (box_from c (neg_ℤ x) x (neg_ℤ y) y)) (sym mask_is) ∙ ap (λ (s : Sides). above (S (first + 1)) s) (sym channel_is));
       }
     where
-      two : (first n j : ℕ) → n ≡ first + j → IsIn j (2 ∷ 3 ∷ []) → (n ≡ first + 2) ⊎ (n ≡ first + 3)
-      two first n j e (inl two) = inl (e ∙ ap (λ (i : ℕ). first + i) two)
-      two first n j e (inr (inl three)) = inr (e ∙ ap (λ (i : ℕ). first + i) three)
-      two first n j e (inr (inr none)) = absurd none
+      one_of_two : (first n j : ℕ) → n ≡ first + j → IsIn j (2 ∷ 3 ∷ []) → (n ≡ first + 2) ⊎ (n ≡ first + 3)
+      one_of_two first n j e (inl at_low) = inl (e ∙ ap (λ (i : ℕ). first + i) at_low)
+      one_of_two first n j e (inr (inl at_high)) = inr (e ∙ ap (λ (i : ℕ). first + i) at_high)
+      one_of_two first n j e (inr (inr neither)) = absurd neither
 
   channel_item : (channel : ℕ) → IsOwned plan masters G k (at spot channel) → item_in plan masters spot channel ≡ item_running gate (box_round k G own_nets.main (half w) (half l))
   channel_item channel h = ap (item_at (items_at plan masters spot)) (only_there G 4 channel (channel_place tech k own_nets depletion gate w l) h) ∙ run.at 4 (omega arith)
@@ -283,9 +283,9 @@ module _ (tech : Tech) (plan : Plan) (masters : List Master) (layouts : List Coo
   -- the implant of a depletion transistor
   has_implant : IsTrue depletion → (channel : ℕ) → IsOwned plan masters G k (at spot channel)
       → (a : Drawn) × IsOfClass plan masters I a × EnclosesBy (sides_of_drawn tech plan masters layouts a) (sides_of_drawn tech plan masters layouts (at spot channel)) (numbers_of tech).extension_implant
-  has_implant yes channel h =
+  has_implant depleted channel h =
       let e : ℤ = (numbers_of tech).extension_implant in
-      let there = implant_there tech k own_nets depletion gate w l yes in
+      let there = implant_there tech k own_nets depletion gate w l depleted in
       let box : Item = box_round k I own_nets.main (half w +ℤ e) (half l +ℤ e) in
       let own = owned_at 5 I box there.0 there.1 refl refl in
       let x = x_of tech plan layouts spot in
@@ -301,11 +301,11 @@ module _ (tech : Tech) (plan : Plan) (masters : List Master) (layouts : List Coo
   -- none goes past the channel of an enhancement transistor
   none_past : depletion ≡ false → (channel : ℕ) → IsOwned plan masters G k (at spot channel) → (a : Drawn) → IsOfClass plan masters I a
       → EnclosesBy (sides_of_drawn tech plan masters layouts a) (sides_of_drawn tech plan masters layouts (at spot channel)) (numbers_of tech).extension_implant → ⊥
-  none_past no channel h a is_a past =
+  none_past enhanced channel h a is_a past =
       let b : Drawn = at spot channel in
       let not_own : a.spot ≡ spot → (item_of plan masters a).owner ≢ (item_of plan masters b).owner = λ same owner. (
           let Q : Spot → Type 0 = λ s. IsOfClass plan masters I (at s a.item) → (item_in plan masters s a.item).owner ≡ k → ⊥ in
-          let here : Q spot = λ is own. (place_of I [] a.item (no_implant tech k own_nets depletion gate w l no) (record { drawn = is.drawn; of_class = is.of_class; owned = own })).2 in
+          let here : Q spot = λ is own. (place_of I [] a.item (no_implant tech k own_nets depletion gate w l enhanced) (record { drawn = is.drawn; of_class = is.of_class; owned = own })).2 in
           subst Q (sym same) here is_a (owner ∙ h.owned)
           ) in
       let far = bound_apart tech plan masters layouts done a b is_a.drawn h.drawn (implant_rule tech)
@@ -330,9 +330,9 @@ transistors_have tech plan masters layouts done spot k depletion gate w l fet = 
 
 pub implants_tell : (tech : Tech) (plan : Plan) (masters : List Master) (layouts : List Coords) → IsDone tech plan masters layouts → ImplantsTellDepletion tech plan masters layouts
 implants_tell tech plan masters layouts done spot k depletion gate w l fet channel h = (
-  λ yes. has_implant tech plan masters layouts done spot k depletion gate w l fet yes channel h,
+  λ depleted. has_implant tech plan masters layouts done spot k depletion gate w l fet depleted channel h,
   λ some. elim (cases_Bool depletion) [
-    | inl yes ↦ yes
-    | inr no ↦ absurd (none_past tech plan masters layouts done spot k depletion gate w l fet no channel h some.0 some.1 some.2)
+    | inl depleted ↦ depleted
+    | inr enhanced ↦ absurd (none_past tech plan masters layouts done spot k depletion gate w l fet enhanced channel h some.0 some.1 some.2)
   ],
 )
