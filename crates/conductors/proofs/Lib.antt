@@ -4,3 +4,5 @@ pub mod MeetingOwners
 pub mod MeetingGaps
 pub mod MeetingPoly
 pub mod MeetingBoxes
+pub mod MeetingTouch
+pub mod MeetingLinks
