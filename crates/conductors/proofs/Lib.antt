@@ -5,4 +5,6 @@ pub mod MeetingGaps
 pub mod MeetingPoly
 pub mod MeetingBoxes
 pub mod MeetingTouch
+pub mod MeetingNets
+pub mod MeetingCuts
 pub mod MeetingLinks

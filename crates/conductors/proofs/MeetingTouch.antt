@@ -63,7 +63,7 @@ ruled_turned tech p a q b s h = record {
   apart = λ lies same together. h.apart (lies_either b.class a.class lies) (sym same) (together.0, together.2, together.1);
 }
 
-sides_turned : (u v : Sides) → gap_of_sides u v ≡ gap_of_sides v u
+pub sides_turned : (u v : Sides) → gap_of_sides u v ≡ gap_of_sides v u
 sides_turned u v = ap (λ z. int_max z (gap_between u.bottom u.top v.bottom v.top)) (gap_turned u.left u.right v.left v.right) ∙ ap (int_max (gap_between v.left v.right u.left u.right)) (gap_turned u.bottom u.top v.bottom v.top)
 
 -- In the cell of one instance an item with this owner stands for one of the next instance: it is of the same class, ends on the border between
