@@ -1,5 +1,5 @@
 -- The boxes of transistors in all instances, and their implants.
-use Rattle.std.proofs.Common.{◌≡◌, ◌≢◌, ℕ, ◌+◌, ◌<◌, ℤ, pos, ◌+ℤ◌, ◌-ℤ◌, ◌*ℤ◌, ◌≤ℤ◌, ◌<ℤ◌, Bool, true, false, List, [], ◌∷◌, length, Option, Some, refl, sym, ap, ◌∙◌, subst, arith, inl, inr, ◌⊎◌}
+use Rattle.std.proofs.Common.{◌≡◌, ◌≢◌, ℕ, ◌+◌, ◌<◌, ℤ, pos, ◌+ℤ◌, ◌-ℤ◌, ◌*ℤ◌, ◌≤ℤ◌, ◌<ℤ◌, Bool, true, false, List, [], ◌∷◌, length, Some, refl, sym, ap, ◌∙◌, subst, arith, inl, inr, ◌⊎◌}
 use Rattle.std.specs.Prelude.{IsTrue, neg_ℤ}
 use Rattle.std.specs.Int.{int_max, int_min}
 use Rattle.std.proofs.lemmas.Bool.{cases_Bool}
@@ -28,16 +28,15 @@ use Rattle.expand.specs.Masters.{IsMaster}
 use Rattle.expand.specs.Items.{nets_at}
 use Rattle.expand.specs.NodeItems.{item_running, box_at, box_round, kind_items}
 use Rattle.expand.specs.Variables.{half, centre}
-use Rattle.expand.proofs.Among.{half_size, sound_numbers}
+use Rattle.expand.proofs.Among.{sound_numbers}
 use Rattle.expand.proofs.Cells.{node_sound}
-use Rattle.buried_contacts.specs.Contacts.{axis_along, common, kind_of}
+use Rattle.buried_contacts.specs.Contacts.{axis_along}
 use Rattle.plan_model.specs.declared.plan.Plan.{Plan}
-use Rattle.plan_model.specs.Instances.{Spot, IsSpot}
-use Rattle.plan_model.specs.Plan.{grids_of}
+use Rattle.plan_model.specs.Instances.{Spot}
 use Rattle.grid_rules.specs.Rules.{shifted_sides, item_in, items_at}
 use Rattle.grid_rules.proofs.Gaps.{IsDone}
 use Rattle.grid_rules.proofs.Meeting.{master_is}
-use Rattle.conductors.specs.Conductors.{Drawn, IsDrawn, item_of, sides_of_drawn, gap_of_drawn}
+use Rattle.conductors.specs.Conductors.{Drawn, item_of, sides_of_drawn}
 use Rattle.conductors.specs.Meetings.{master_of, at, IsOfClass, IsOwned, EnclosesBy, IsTransistorAt, CrossAt, below, above, seen, HasBoxes, TransistorsHaveBoxes, ImplantsTellDepletion}
 use Rattle.conductors.proofs.MeetingRuns.{IsRun, places, IsIn, found}
 use Rattle.conductors.proofs.MeetingBlocks.{run_node, owner_running, class_running, only_place}
@@ -181,7 +180,7 @@ never_joined a b e f h =
 -- ---- a transistor of an instance
 
 module _ (tech : Tech) (plan : Plan) (masters : List Master) (layouts : List Coords) (done : IsDone tech plan masters layouts) (spot : Spot) (k : ℕ) (depletion : Bool) (gate : Axis2) (w l : ℤ)
-  (fet : IsTransistorAt plan masters spot k depletion gate w l) where
+    (fet : IsTransistorAt plan masters spot k depletion gate w l) where
   own_master : IsMaster tech (master_of plan masters spot)
   own_master = master_is tech plan masters spot done.planned fet.there
 
@@ -304,10 +303,10 @@ module _ (tech : Tech) (plan : Plan) (masters : List Master) (layouts : List Coo
   none_past enhanced channel h a is_a past =
       let b : Drawn = at spot channel in
       let not_own : a.spot ≡ spot → (item_of plan masters a).owner ≢ (item_of plan masters b).owner = λ same owner. (
-          let Q : Spot → Type 0 = λ s. IsOfClass plan masters I (at s a.item) → (item_in plan masters s a.item).owner ≡ k → ⊥ in
-          let here : Q spot = λ is own. (place_of I [] a.item (no_implant tech k own_nets depletion gate w l enhanced) (record { drawn = is.drawn; of_class = is.of_class; owned = own })).2 in
-          subst Q (sym same) here is_a (owner ∙ h.owned)
-          ) in
+      let Q : Spot → Type 0 = λ s. IsOfClass plan masters I (at s a.item) → (item_in plan masters s a.item).owner ≡ k → ⊥ in
+      let here : Q spot = λ is own. (place_of I [] a.item (no_implant tech k own_nets depletion gate w l enhanced) (record { drawn = is.drawn; of_class = is.of_class; owned = own })).2 in
+      subst Q (sym same) here is_a (owner ∙ h.owned)
+      ) in
       let far = bound_apart tech plan masters layouts done a b is_a.drawn h.drawn (implant_rule tech)
       (of_classes tech (item_of plan masters a).class (item_of plan masters b).class I G (Some (implant_rule tech)) is_a.of_class h.of_class (implant_ruled tech)) refl not_own
       (λ poly same together. never_joined (item_of plan masters a).class (item_of plan masters b).class is_a.of_class h.of_class poly) in

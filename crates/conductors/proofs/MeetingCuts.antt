@@ -1,6 +1,6 @@
 -- The boxes round a cut, and diffusion of the mask over its conducting pieces.
-use Rattle.std.proofs.Common.{◌≡◌, ◌≢◌, ℕ, ◌+◌, ◌<◌, ℤ, pos, ◌+ℤ◌, ◌-ℤ◌, ◌*ℤ◌, ◌≤ℤ◌, ◌<ℤ◌, List, [], ◌∷◌, length, refl, sym, ap, ◌∙◌, subst, arith, inl, inr, ◌⊎◌}
-use Rattle.std.specs.Prelude.{neg_ℤ, Bool, true, false}
+use Rattle.std.proofs.Common.{◌≡◌, ℕ, ◌+◌, ◌<◌, ℤ, pos, ◌*ℤ◌, ◌≤ℤ◌, List, length, refl, sym, ap, ◌∙◌, subst, arith, inl, inr}
+use Rattle.std.specs.Prelude.{Bool, true, false}
 use Rattle.std.specs.Int.{int_max, int_min}
 use Rattle.std.specs.List.{AllByRecursion}
 use Rattle.std.proofs.lemmas.Int.{ints, clamps}
@@ -23,7 +23,7 @@ use Rattle.cell_model.specs.declared.cell.Axis2.TheVariants.{Across, Up}
 use Rattle.cell_model.specs.declared.cell.NodeKind.{NodeKind}
 use Rattle.cell_model.specs.declared.cell.NodeKind.TheVariants.{Joint, Contact, Buried, Fet}
 use Rattle.cell_model.specs.declared.cell.NodeNets.{NodeNets}
-use Rattle.cell_model.specs.Sound.{node_at, wire_at, IsKind}
+use Rattle.cell_model.specs.Sound.{wire_at, IsKind}
 use Rattle.pair_rules.specs.Bound.{no_item, item_at}
 use Rattle.list_facts.proofs.Elements.{all_at}
 use Rattle.expand.specs.declared.master.Master.{Master}
@@ -36,13 +36,13 @@ use Rattle.expand.proofs.Cells.{node_sound}
 use Rattle.buried_contacts.specs.Contacts.{axis_along, kind_of}
 use Rattle.plan_model.specs.declared.plan.Plan.{Plan}
 use Rattle.plan_model.specs.Instances.{Spot}
-use Rattle.grid_rules.specs.Rules.{shifted_sides, sides_at_spot, items_at}
+use Rattle.grid_rules.specs.Rules.{shifted_sides, items_at}
 use Rattle.grid_rules.proofs.Gaps.{IsDone}
 use Rattle.grid_rules.proofs.Meeting.{master_is}
-use Rattle.conductors.specs.Conductors.{Drawn, IsDrawn, item_of, sides_of_drawn}
-use Rattle.conductors.specs.Meetings.{master_of, at, IsOfClass, IsOwned, EnclosesBy, IsTransistorAt, HasBoxes, IsOnePiece, seen}
+use Rattle.conductors.specs.Conductors.{Drawn, item_of, sides_of_drawn}
+use Rattle.conductors.specs.Meetings.{master_of, at, IsOfClass, IsOwned, EnclosesBy, IsTransistorAt, IsOnePiece, seen}
 use Rattle.conductors.proofs.MeetingRuns.{IsRun, found}
-use Rattle.conductors.proofs.MeetingBlocks.{run_node, run_wire, StandsIn, stands_in, OwnerOf, a_node, a_wire, owner_of, only_place}
+use Rattle.conductors.proofs.MeetingBlocks.{run_node, run_wire, stands_in, OwnerOf, a_node, a_wire, owner_of, only_place}
 use Rattle.conductors.proofs.MeetingBoxes.{transistors_have}
 use Rattle.conductors.proofs.MeetingGaps.{layout_of, x_of, y_of}
 use Rattle.conductors.proofs.MeetingOwners.{diffusion_conducts, pieces_have_masks}

@@ -1,19 +1,15 @@
 -- What is linked is of one net.
-use Rattle.std.proofs.Common.{◌≡◌, ◌≢◌, ℕ, ◌<◌, ℤ, pos, ◌≤ℤ◌, ◌<ℤ◌, Bool, true, false, List, length, Some, refl, sym, ap, ◌∙◌, subst, arith, inl, inr, ◌⊎◌}
-use Rattle.std.specs.Prelude.{IsTrue}
-use Rattle.std.specs.Int.{int_max}
+use Rattle.std.proofs.Common.{◌≡◌, ◌≢◌, ℕ, ℤ, pos, ◌≤ℤ◌, ◌<ℤ◌, Bool, true, false, List, Some, refl, sym, ap, ◌∙◌, subst, arith, inl, inr}
 use Rattle.std.proofs.lemmas.Bool.{cases_eq}
-use Rattle.std.proofs.lemmas.Int.{ints, clamps}
+use Rattle.std.proofs.lemmas.Int.{ints}
 use Rattle.std.proofs.lemmas.List.Elements.{Contains-get_or}
 use Rattle.rule_table.specs.declared.technology.Tech.{Tech}
 use Rattle.rule_table.specs.declared.classes.Class.{Class}
-use Rattle.rule_table.specs.declared.classes.Class.TheVariants.{M, P, Dc, Dm, C, I, G, B}
+use Rattle.rule_table.specs.declared.classes.Class.TheVariants.{M, P, Dc, Dm, C}
 use Rattle.rule_table.specs.declared.classes.Rule.{Rule}
 use Rattle.rule_table.specs.Spacing.{spacing_in}
 use Rattle.rule_table.specs.Technology.{numbers_of, spacing_of}
 use Rattle.sym_items.specs.declared.items.Coords.{Coords}
-use Rattle.sym_items.specs.declared.items.Item.{Item}
-use Rattle.sym_items.specs.Sides.{Sides, gap_of_sides}
 use Rattle.sym_items.specs.Standing.{StandsAt}
 use Rattle.cell_model.specs.declared.cell.Axis2.{Axis2}
 use Rattle.cell_model.specs.declared.cell.NodeKind.TheVariants.{Contact, Fet}
@@ -27,11 +23,11 @@ use Rattle.plan_model.specs.Instances.{Spot}
 use Rattle.plan_model.specs.Plan.{grids_of}
 use Rattle.pitch_join.specs.Masters.{ports_of_masters}
 use Rattle.grid_rules.specs.Rules.{AreNetsOf, item_in, items_at}
-use Rattle.grid_rules.proofs.Gaps.{IsDone, IsItemAt, ruled, gap_turned}
+use Rattle.grid_rules.proofs.Gaps.{IsDone, IsItemAt, ruled}
 use Rattle.grid_rules.proofs.Meeting.{master_is}
 use Rattle.grid_rules.proofs.OneNet.{one_net_then, one_net_back}
-use Rattle.conductors.specs.Conductors.{Drawn, IsDrawn, item_of, sides_of_drawn, gap_of_drawn, Conducts, IsConductor, AreOfOneBox, AreOfOneNet, AreAtOneContact, AreLinked, by_touch, by_cut, by_contact, by_contact_back, LinksKeepNets}
-use Rattle.conductors.specs.Meetings.{master_of, at, IsOfClass, IsOwned, EnclosesBy, IsTransistorAt}
+use Rattle.conductors.specs.Conductors.{Drawn, IsDrawn, item_of, sides_of_drawn, gap_of_drawn, Conducts, IsConductor, AreOfOneBox, AreOfOneNet, AreAtOneContact, by_touch, by_cut, by_contact, by_contact_back, LinksKeepNets}
+use Rattle.conductors.specs.Meetings.{master_of, at, IsOfClass, EnclosesBy, IsTransistorAt}
 use Rattle.conductors.proofs.MeetingCuts.{IsRoundCut, LowerBoxes, on_poly, on_diffusion, ContactOf, contact_of, under_mask}
 use Rattle.conductors.proofs.MeetingGaps.{spots_differ, nearer}
 use Rattle.conductors.proofs.MeetingNets.{contact_net}

@@ -1,9 +1,9 @@
 -- The nets of items that stand at a buried contact.
-use Rattle.std.proofs.Common.{◌≡◌, ◌≢◌, ℕ, zero, suc, ◌+◌, ◌<◌, ◌≤◌, ℤ, Bool, true, false, List, [], ◌∷◌, ◌++◌, length, map, take, drop, get_or, cond, Contains, refl, sym, ap, ◌∙◌, subst, arith, inl, inr, ◌⊎◌}
+use Rattle.std.proofs.Common.{◌≡◌, ℕ, zero, suc, ◌+◌, ◌<◌, Bool, true, false, List, [], ◌∷◌, ◌++◌, length, map, take, cond, Contains, refl, sym, ap, ◌∙◌, subst, arith, inl, inr, ◌⊎◌}
 use Rattle.std.specs.Prelude.{slice_index}
 use Rattle.std.specs.List.{AllByRecursion}
 use Rattle.std.proofs.lemmas.List.{get_or-drop}
-use Rattle.std.proofs.lemmas.List.Elements.{Contains-get_or, Contains-append_left, Contains-append_right}
+use Rattle.std.proofs.lemmas.List.Elements.{Contains-append_left, Contains-append_right}
 use Rattle.std.proofs.lemmas.List.Sums.{sum_by-cons, sum_by_more_le}
 use Rattle.rule_table.specs.declared.technology.Tech.{Tech}
 use Rattle.rule_table.specs.declared.classes.Layer.{Layer}
@@ -20,21 +20,21 @@ use Rattle.cell_model.specs.declared.cell.Cell.{Cell}
 use Rattle.cell_model.specs.declared.cell.Wire.{Wire}
 use Rattle.cell_model.specs.declared.cell.WireEnd.{WireEnd}
 use Rattle.cell_model.specs.declared.cell.WireEnd.TheVariants as ends
-use Rattle.cell_model.specs.Nets.{kind_parts, node_parts, parts_of, first_part, joined_part, end_parts, with_each, attachments, attachments_of, nets_of_kind, nets_of_nodes, AreNets}
+use Rattle.cell_model.specs.Nets.{kind_parts, node_parts, first_part, joined_part, end_parts, with_each, attachments, attachments_of, nets_of_kind, nets_of_nodes, AreNets}
 use Rattle.cell_model.specs.Sound.{node_at, wire_at, no_node, IsEnd}
 use Rattle.graph_search.specs.Netting.{Attached, Reaches}
 use Rattle.pair_rules.specs.Bound.{no_item, item_at}
 use Rattle.list_facts.proofs.Elements.{all_at}
 use Rattle.expand.specs.declared.master.Master.{Master}
 use Rattle.expand.specs.Masters.{IsMaster}
-use Rattle.expand.specs.Items.{no_nets, nets_at, items_of_node}
-use Rattle.expand.specs.NodeItems.{item_running, on_layer, channel_items, kind_items}
+use Rattle.expand.specs.Items.{nets_at, items_of_node}
+use Rattle.expand.specs.NodeItems.{item_running, channel_items, kind_items}
 use Rattle.expand.specs.Variables.{half}
 use Rattle.expand.proofs.Cells.{wire_sound}
 use Rattle.buried_contacts.proofs.Contacts.{stands_there}
 use Rattle.buried_contacts.proofs.Owners.{layer_boxes, items_owned, item_keeps, box_of_owner, IsBoxOfWire}
 use Rattle.grid_rules.proofs.AtPorts.{net_of_box}
-use Rattle.conductors.proofs.MeetingBlocks.{run_node, StandsIn, stands_in, OwnerOf, a_node, a_wire, owner_of}
+use Rattle.conductors.proofs.MeetingBlocks.{run_node, stands_in, OwnerOf, a_node, a_wire, owner_of}
 
 -- ---- a wire has the net of a buried contact at which it ends
 

@@ -1,24 +1,21 @@
 -- What items each owner has, in all instances.
-use Rattle.std.proofs.Common.{◌≡◌, ℕ, ◌+◌, ◌<◌, List, length, refl, sym, ap, ◌∙◌, subst, arith, inl, inr, ◌⊎◌}
+use Rattle.std.proofs.Common.{◌≡◌, ℕ, ◌+◌, ◌<◌, List, length, refl, sym, ap, ◌∙◌, arith, inl, inr}
 use Rattle.rule_table.specs.declared.technology.Tech.{Tech}
 use Rattle.rule_table.specs.declared.classes.Class.{Class}
 use Rattle.rule_table.specs.declared.classes.Class.TheVariants.{M, P, Dc, Dm}
-use Rattle.cell_model.specs.Sound.{node_at}
 use Rattle.sym_items.specs.declared.items.Coords.{Coords}
 use Rattle.sym_items.specs.declared.items.Item.{Item}
 use Rattle.list_facts.proofs.Elements.{all_at}
 use Rattle.pair_rules.specs.Bound.{no_item, item_at}
 use Rattle.expand.specs.declared.master.Master.{Master}
-use Rattle.expand.specs.Masters.{IsMaster}
 use Rattle.plan_model.specs.declared.plan.Plan.{Plan}
-use Rattle.plan_model.specs.Instances.{Spot}
 use Rattle.pitch_join.specs.Masters.{ArePlanned}
 use Rattle.grid_rules.specs.Rules.{items_at, sides_at_spot}
 use Rattle.grid_rules.proofs.Meeting.{master_is}
 use Rattle.conductors.specs.Conductors.{Drawn, item_of}
-use Rattle.conductors.specs.Meetings.{master_of, at, IsOfClass, IsOwned, IsOnePiece, DiffusionConducts, PiecesHaveMasks, OwnersHaveOne}
+use Rattle.conductors.specs.Meetings.{master_of, at, IsOfClass, IsOnePiece, DiffusionConducts, PiecesHaveMasks, OwnersHaveOne}
 use Rattle.conductors.proofs.MeetingRuns.{IsRun, HasOwner, places, IsSingle, found, single}
-use Rattle.conductors.proofs.MeetingBlocks.{StandsIn, stands_in, class_in, IsOnePieceIn, IsLawfulBlock, IsPlaced, IsOfTransistor, placed}
+use Rattle.conductors.proofs.MeetingBlocks.{StandsIn, stands_in, class_in, IsOnePieceIn, IsPlaced, IsOfTransistor, placed}
 
 -- ---- in a list
 

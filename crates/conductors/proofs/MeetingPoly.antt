@@ -1,15 +1,12 @@
 -- Where poly lies over diffusion in all instances, and where windows lie.
-use Rattle.std.proofs.Common.{◌≡◌, ◌≢◌, ℕ, ◌<◌, ℤ, pos, ◌+ℤ◌, ◌-ℤ◌, ◌*ℤ◌, ◌≤ℤ◌, ◌<ℤ◌, true, false, List, length, Option, Some, refl, sym, ap, ◌∙◌, subst, arith, inl, inr, ◌⊎◌}
-use Rattle.std.specs.Prelude.{IsTrue}
+use Rattle.std.proofs.Common.{◌≡◌, ℕ, ℤ, pos, ◌+ℤ◌, ◌-ℤ◌, ◌*ℤ◌, ◌≤ℤ◌, ◌<ℤ◌, true, false, List, Some, refl, sym, subst, arith, inl, inr, ◌⊎◌}
 use Rattle.std.proofs.lemmas.Int.{ints}
 use Rattle.rule_table.specs.declared.technology.Tech.{Tech}
-use Rattle.rule_table.specs.declared.classes.Class.{Class}
 use Rattle.rule_table.specs.declared.classes.Class.TheVariants.{P, Dm, G, B}
 use Rattle.rule_table.specs.declared.classes.Rule.{Rule}
 use Rattle.rule_table.specs.Spacing.{spacing_in}
 use Rattle.rule_table.specs.Technology.{numbers_of, has_buried_of, spacing_of}
 use Rattle.sym_items.specs.declared.items.Coords.{Coords}
-use Rattle.sym_items.specs.declared.items.Item.{Item}
 use Rattle.sym_items.specs.Sides.{Sides, sides_in, gap_in, gap_of_sides}
 use Rattle.sym_items.specs.Standing.{StandTogether}
 use Rattle.cell_model.specs.declared.cell.NodeKind.{NodeKind}
@@ -17,24 +14,21 @@ use Rattle.cell_model.specs.declared.cell.NodeKind.TheVariants.{Joint, Contact, 
 use Rattle.cell_model.specs.Sound.{IsKind}
 use Rattle.cell_model.specs.Wiring.{buried_pad}
 use Rattle.expand.specs.declared.master.Master.{Master}
-use Rattle.expand.specs.Masters.{IsMaster}
 use Rattle.expand.specs.Variables.{half, centre}
 use Rattle.sym_items.specs.Values.{value_of}
-use Rattle.expand.proofs.Among.{half_buried, buried_size}
+use Rattle.expand.proofs.Among.{buried_size}
 use Rattle.expand.proofs.Cells.{node_sound}
-use Rattle.buried_contacts.specs.Contacts.{IsTransistor, IsBuried, common, kind_of, pad_at, window_at, square_at}
-
+use Rattle.buried_contacts.specs.Contacts.{IsTransistor, common, kind_of, pad_at, window_at, square_at}
 use Rattle.buried_contacts.proofs.Contacts.{overlap_there, shared, have_windows, windows_off}
 use Rattle.plan_model.specs.declared.plan.Plan.{Plan}
-use Rattle.plan_model.specs.Instances.{Spot, IsSpot}
-use Rattle.plan_model.specs.Plan.{grids_of}
-use Rattle.grid_rules.specs.Rules.{shifted_sides, item_in, items_at}
+use Rattle.plan_model.specs.Instances.{Spot}
+use Rattle.grid_rules.specs.Rules.{shifted_sides, item_in}
 use Rattle.grid_rules.proofs.Gaps.{IsDone}
 use Rattle.grid_rules.proofs.Meeting.{master_is}
-use Rattle.conductors.specs.Conductors.{Drawn, IsDrawn, item_of, sides_of_drawn, gap_of_drawn}
-use Rattle.conductors.specs.Meetings.{master_of, at, IsOfClass, EnclosesBy, IsTransistorAt, AreOfOneTransistor, StandAtOne, PolyMeetsDiffusion, IsBuriedContact, ContactsAreBuried, WindowsKeepOff}
+use Rattle.conductors.specs.Conductors.{item_of, gap_of_drawn}
+use Rattle.conductors.specs.Meetings.{master_of, at, IsOfClass, EnclosesBy, AreOfOneTransistor, StandAtOne, PolyMeetsDiffusion, IsBuriedContact, ContactsAreBuried, WindowsKeepOff}
 use Rattle.conductors.proofs.MeetingBlocks.{IsTransistorKind}
-use Rattle.conductors.proofs.MeetingGaps.{spots_differ, layout_of, finished_at, x_of, y_of, shift_together, gap_inside, common_overlaps, common_shifted, encloses_shifted, apart_elsewhere, of_classes}
+use Rattle.conductors.proofs.MeetingGaps.{spots_differ, layout_of, finished_at, x_of, y_of, gap_inside, common_overlaps, common_shifted, encloses_shifted, apart_elsewhere, of_classes}
 
 -- ---- rules
 
@@ -97,7 +91,7 @@ module _ (tech : Tech) (plan : Plan) (masters : List Master) (layouts : List Coo
   poly_meets a b is_a is_b lies = elim (spots_differ a.spot b.spot) [
     | inl same ↦
         let Q : Spot → Type 0 = λ s. IsOfClass plan masters Dm (at s b.item) → gap_of_drawn tech plan masters layouts a (at s b.item) <ℤ pos 0
-            → AreOfOneTransistor plan masters a (at s b.item) ⊎ StandAtOne plan masters a (at s b.item) in
+        → AreOfOneTransistor plan masters a (at s b.item) ⊎ StandAtOne plan masters a (at s b.item) in
         subst Q same (λ is lies. meet_inside a.spot a.item b.item is_a is lies) is_b lies
     | inr differ ↦
         let far = apart_elsewhere tech plan masters layouts done a b is_a.drawn is_b.drawn (poly_rule tech)
@@ -149,14 +143,14 @@ module _ (tech : Tech) (plan : Plan) (masters : List Master) (layouts : List Coo
     | inl same ↦
         let Q : Spot → Type 0 = λ s. IsOfClass plan masters G (at s b.item) → pos 1 ≤ℤ gap_of_drawn tech plan masters layouts a (at s b.item) in
         subst Q same (λ is. (
-            let master : Master = master_of plan masters a.spot in
-            let m = master_is tech plan masters a.spot done.planned is_a.drawn.spot in
-            let off = windows_off tech master m (layout_of plan layouts a.spot) (finished_at tech plan masters layouts a.spot done is_a.drawn.spot) a.item b.item is_a.drawn.among is.drawn.among is_a.of_class is.of_class in
-            let low = off.0 in
-            let far = off.1 in
-            let e = gap_inside tech plan masters layouts a.spot a.item b.item in
-            omega (arith, ints, low, far, e)
-            )) is_b
+        let master : Master = master_of plan masters a.spot in
+        let m = master_is tech plan masters a.spot done.planned is_a.drawn.spot in
+        let off = windows_off tech master m (layout_of plan layouts a.spot) (finished_at tech plan masters layouts a.spot done is_a.drawn.spot) a.item b.item is_a.drawn.among is.drawn.among is_a.of_class is.of_class in
+        let low = off.0 in
+        let far = off.1 in
+        let e = gap_inside tech plan masters layouts a.spot a.item b.item in
+        omega (arith, ints, low, far, e)
+        )) is_b
     | inr differ ↦ apart_elsewhere tech plan masters layouts done a b is_a.drawn is_b.drawn (window_rule tech)
         (of_classes tech (item_of plan masters a).class (item_of plan masters b).class B G (Some (window_rule tech)) is_a.of_class is_b.of_class (window_ruled tech some)) refl differ
   ]

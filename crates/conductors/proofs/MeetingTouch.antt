@@ -1,5 +1,5 @@
 -- Two items of all instances whose classes have a rule keep its spacing, or are of one net.
-use Rattle.std.proofs.Common.{◌≡◌, ◌≢◌, ℕ, suc, ◌+◌, ◌<◌, ℤ, pos, ◌+ℤ◌, ◌≤ℤ◌, true, false, List, length, Some, refl, sym, ap, ◌∙◌, subst, arith, inl, inr, ◌⊎◌}
+use Rattle.std.proofs.Common.{◌≡◌, ◌≢◌, ℕ, suc, ◌+◌, ◌<◌, ℤ, ◌+ℤ◌, ◌≤ℤ◌, true, List, length, Some, refl, sym, ap, ◌∙◌, subst, arith, inl, inr, ◌⊎◌}
 use Rattle.std.specs.Prelude.{IsTrue, slice_index, neg_ℤ}
 use Rattle.std.specs.Int.{int_max}
 use Rattle.std.specs.List.{Contains}
@@ -44,7 +44,7 @@ use Rattle.grid_rules.proofs.Pairs.{joins}
 use Rattle.grid_rules.proofs.Places.{place_of, stands_level}
 use Rattle.grid_rules.proofs.Ports.{IsPortOf, port_of_wire}
 use Rattle.conductors.specs.Meetings.{master_of}
-use Rattle.conductors.proofs.MeetingGaps.{spots_differ, layout_of, x_of, y_of, shift_together}
+use Rattle.conductors.proofs.MeetingGaps.{spots_differ, x_of, y_of, shift_together}
 
 -- Two items have a rule: they have different owners, told apart by instance, their classes have a rule, and no buried contact joins them.
 pub record AreRuled (tech : Tech) (p : Spot) (a : Item) (q : Spot) (b : Item) (s : ℤ) : Type 0 where

@@ -5,10 +5,10 @@
 //! contacts alone; and where the boxes of transistors, windows and implants lie. Lengths are in u.
 #![tactic(auto)]
 
-//mod chains;
+mod chains;
 mod meetings;
 
-//pub use chains::nets_are_connected;
+pub use chains::nets_are_connected;
 pub use meetings::{
     items_are_of_owners, links_keep_nets, poly_meets_diffusion, transistors_have_boxes,
 };
