@@ -8,3 +8,13 @@ pub mod ChainSpot
 pub mod ChainCell
 pub mod ChainPorts
 pub mod ChainNets
+pub mod MeetingRuns
+pub mod MeetingBlocks
+pub mod MeetingOwners
+pub mod MeetingGaps
+pub mod MeetingPoly
+pub mod MeetingBoxes
+pub mod MeetingTouch
+pub mod MeetingNets
+pub mod MeetingCuts
+pub mod MeetingLinks
