@@ -18,3 +18,7 @@ pub mod MeetingTouch
 pub mod MeetingNets
 pub mod MeetingCuts
 pub mod MeetingLinks
+pub mod NetlistLists
+pub mod NetlistScale
+pub mod NetlistShapes
+pub mod NetlistBoxes

@@ -2,6 +2,7 @@
 use Rattle.std.proofs.Common.{◌≡◌, ◌≢◌, ℕ, ◌+◌, ◌<◌, ℤ, pos, ◌+ℤ◌, ◌-ℤ◌, ◌*ℤ◌, ◌≤ℤ◌, ◌<ℤ◌, Bool, true, false, List, [], ◌∷◌, length, Some, refl, sym, ap, ◌∙◌, subst, arith, inl, inr, ◌⊎◌}
 use Rattle.std.specs.Prelude.{IsTrue, neg_ℤ}
 use Rattle.std.specs.Int.{int_max, int_min}
+use Rattle.std.specs.List.{AllByRecursion}
 use Rattle.std.proofs.lemmas.Bool.{cases_Bool}
 use Rattle.std.proofs.lemmas.Int.{ints, clamps}
 use Rattle.rule_table.specs.declared.technology.Tech.{Tech}
@@ -14,6 +15,7 @@ use Rattle.rule_table.specs.Technology.{numbers_of, spacing_of}
 use Rattle.sym_items.specs.declared.items.Coords.{Coords}
 use Rattle.sym_items.specs.declared.items.Item.{Item}
 use Rattle.sym_items.specs.Sides.{Sides, sides_in, gap_of_sides}
+use Rattle.sym_items.specs.Standing.{nowhere}
 use Rattle.sym_items.specs.Transposed.{sides_along}
 use Rattle.sym_items.specs.Values.{value_of}
 use Rattle.cell_model.specs.declared.cell.Axis2.{Axis2}
@@ -21,8 +23,11 @@ use Rattle.cell_model.specs.declared.cell.Axis2.TheVariants.{Across, Up}
 use Rattle.cell_model.specs.declared.cell.NodeKind.{NodeKind}
 use Rattle.cell_model.specs.declared.cell.NodeKind.TheVariants.{Fet}
 use Rattle.cell_model.specs.declared.cell.NodeNets.{NodeNets}
+use Rattle.cell_model.specs.declared.cell.Nets.{Nets}
 use Rattle.cell_model.specs.Sound.{IsKind}
-use Rattle.pair_rules.specs.Bound.{item_at, is_poly_on_diffusion}
+use Rattle.cell_nets.proofs.Determined.{nets_same}
+use Rattle.list_facts.proofs.Elements.{all_at}
+use Rattle.pair_rules.specs.Bound.{no_item, item_at, is_poly_on_diffusion}
 use Rattle.expand.specs.declared.master.Master.{Master}
 use Rattle.expand.specs.Masters.{IsMaster}
 use Rattle.expand.specs.Items.{nets_at}
@@ -32,10 +37,11 @@ use Rattle.expand.proofs.Among.{sound_numbers}
 use Rattle.expand.proofs.Cells.{node_sound}
 use Rattle.buried_contacts.specs.Contacts.{axis_along}
 use Rattle.plan_model.specs.declared.plan.Plan.{Plan}
-use Rattle.plan_model.specs.Instances.{Spot}
-use Rattle.grid_rules.specs.Rules.{shifted_sides, item_in, items_at}
+use Rattle.plan_model.specs.Instances.{Spot, master_at_spot}
+use Rattle.plan_model.specs.Plan.{grids_of}
+use Rattle.grid_rules.specs.Rules.{AreNetsOf, shifted_sides, item_in, items_at}
 use Rattle.grid_rules.proofs.Gaps.{IsDone}
-use Rattle.grid_rules.proofs.Meeting.{master_is}
+use Rattle.grid_rules.proofs.Meeting.{master_among, master_is}
 use Rattle.conductors.specs.Conductors.{Drawn, item_of, sides_of_drawn}
 use Rattle.conductors.specs.Meetings.{master_of, at, IsOfClass, IsOwned, EnclosesBy, IsTransistorAt, CrossAt, below, above, seen, HasBoxes, TransistorsHaveBoxes, ImplantsTellDepletion}
 use Rattle.conductors.proofs.MeetingRuns.{IsRun, places, IsIn, found}
@@ -152,7 +158,7 @@ own_encloses Across x y layout k net main a b e = record { left = omega (arith, 
 own_encloses Up x y layout k net main a b e = record { left = omega (arith, ints); right = omega (arith, ints); bottom = omega (arith, ints); top = omega (arith, ints) }
 
 -- a box that goes past one with an inside overlaps it
-past_overlaps : (s t : Sides) (e : ℤ) → pos 0 ≤ℤ e → EnclosesBy s t e → t.left <ℤ t.right → t.bottom <ℤ t.top → gap_of_sides s t <ℤ pos 0
+pub past_overlaps : (s t : Sides) (e : ℤ) → pos 0 ≤ℤ e → EnclosesBy s t e → t.left <ℤ t.right → t.bottom <ℤ t.top → gap_of_sides s t <ℤ pos 0
 past_overlaps s t e low h wide high =
     let l = h.left in
     let r = h.right in
@@ -176,6 +182,32 @@ never_joined : (a b : Class) → a ≡ I → b ≡ G → IsTrue (is_poly_on_diff
 never_joined a b e f h =
     let off : is_poly_on_diffusion a b ≡ false = ap (λ x. is_poly_on_diffusion x b) e ∙ ap (λ x. is_poly_on_diffusion I x) f in
     absurd cc
+
+-- ---- what else is known of a transistor's items
+
+-- an item stands at no buried contact
+abbrev pub StandsNowhere : Item → Type 0
+StandsNowhere i = (i.at_low ≡ nowhere) × (i.at_high ≡ nowhere)
+
+nowhere_at : (tech : Tech) (k : ℕ) (nets : NodeNets) (depletion : Bool) (gate : Axis2) (w l : ℤ) → AllByRecursion StandsNowhere (fet_items tech k nets depletion gate w l)
+nowhere_at tech k nets true Across w l = ((refl, refl), ((refl, refl), ((refl, refl), ((refl, refl), ((refl, refl), ((refl, refl), tt))))))
+nowhere_at tech k nets true Up w l = ((refl, refl), ((refl, refl), ((refl, refl), ((refl, refl), ((refl, refl), ((refl, refl), tt))))))
+nowhere_at tech k nets false Across w l = ((refl, refl), ((refl, refl), ((refl, refl), ((refl, refl), ((refl, refl), tt)))))
+nowhere_at tech k nets false Up w l = ((refl, refl), ((refl, refl), ((refl, refl), ((refl, refl), ((refl, refl), tt)))))
+
+net_running : (gate : Axis2) (i : Item) → (item_running gate i).net ≡ i.net
+net_running Across i = refl
+net_running Up i = refl
+
+-- Its boxes; the piece below the channel is numbered first, and has the low net, and the one above it the high net. None of its items stands at a buried contact.
+pub record KnowsFet (tech : Tech) (plan : Plan) (masters : List Master) (layouts : List Coords) (spot : Spot) (k : ℕ) (gate : Axis2) (w l : ℤ) : Type 0 where
+  pub boxes : HasBoxes tech plan masters layouts spot k gate w l
+  pub in_order : boxes.low < boxes.high
+  pub low_net : (nets : ℕ → Nets) → AreNetsOf masters nets → (item_in plan masters spot boxes.low).net ≡ (nets_at (nets (master_at_spot (grids_of plan) spot)).node k).low
+  pub high_net : (nets : ℕ → Nets) → AreNetsOf masters nets → (item_in plan masters spot boxes.high).net ≡ (nets_at (nets (master_at_spot (grids_of plan) spot)).node k).high
+  pub nowhere : (n : ℕ) → n < length (items_at plan masters spot) → (item_in plan masters spot n).owner ≡ k → StandsNowhere (item_in plan masters spot n)
+  pub wide : pos 1 ≤ℤ w
+  pub long : pos 1 ≤ℤ l
 
 -- ---- a transistor of an instance
 
@@ -275,6 +307,36 @@ module _ (tech : Tech) (plan : Plan) (masters : List Master) (layouts : List Coo
       one_of_two first n j e (inl at_low) = inl (e ∙ ap (λ (i : ℕ). first + i) at_low)
       one_of_two first n j e (inr (inl at_high)) = inr (e ∙ ap (λ (i : ℕ). first + i) at_high)
       one_of_two first n j e (inr (inr neither)) = absurd neither
+
+  -- by whatever nets the masters have, its own are the same
+  nets_are_own : (nets : ℕ → Nets) → AreNetsOf masters nets → own_nets ≡ nets_at (nets (master_at_spot (grids_of plan) spot)).node k
+  nets_are_own nets are =
+      let m : ℕ = master_at_spot (grids_of plan) spot in
+      let same = nets_same (master_of plan masters spot).cell own_master.items.nets (nets m) own_master.items.of_cell (are m (master_among tech plan masters spot done.planned fet.there)) in
+      ap (λ (z : Nets). nets_at z.node k) same
+
+  pub knows : KnowsFet tech plan masters layouts spot k gate w l
+  unfolding boxes
+  knows =
+      let x : ℤ = half w in
+      let y : ℤ = half l in
+      let diffusion : ℤ = (numbers_of tech).extension_diffusion in
+      let first : ℕ = run.first in
+      let low_w = sizes.0.low in
+      let low_l = sizes.1.low in
+      record {
+        boxes = boxes;
+        in_order = omega arith;
+        low_net = λ nets are. ap (λ (i : Item). i.net) (run.at 2 (omega arith)) ∙ (net_running gate (box_at k Dc own_nets.low (neg_ℤ x) x (neg_ℤ (y +ℤ diffusion)) (neg_ℤ y)) ∙ ap (λ (z : NodeNets). z.low) (nets_are_own nets are));
+        high_net = λ nets are. ap (λ (i : Item). i.net) (run.at 3 (omega arith)) ∙ (net_running gate (box_at k Dc own_nets.high (neg_ℤ x) x y (y +ℤ diffusion)) ∙ ap (λ (z : NodeNets). z.high) (nets_are_own nets are));
+        nowhere = λ n lt own. (
+            let f = run.only n lt own in
+            let is = ap (item_at (items_at plan masters spot)) f.2 ∙ run.at f.0 f.1 in
+            subst StandsNowhere (sym is) (all_at StandsNowhere block no_item f.0 (nowhere_at tech k own_nets depletion gate w l) f.1)
+            );
+        wide = omega (arith, ints, low_w);
+        long = omega (arith, ints, low_l);
+      }
 
   channel_item : (channel : ℕ) → IsOwned plan masters G k (at spot channel) → item_in plan masters spot channel ≡ item_running gate (box_round k G own_nets.main (half w) (half l))
   channel_item channel h = ap (item_at (items_at plan masters spot)) (only_there G 4 channel (channel_place tech k own_nets depletion gate w l) h) ∙ run.at 4 (omega arith)

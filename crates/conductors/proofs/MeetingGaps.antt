@@ -131,6 +131,10 @@ unfolding nets_by
 nets_are tech masters each m (inl lt) less = (each m no_master lt).items.of_cell
 nets_are tech masters each m (inr le) less = absurd (omega (arith, le, less))
 
+-- the masters have nets
+pub nets_there : (tech : Tech) (masters : List Master) → All (IsMaster tech) masters → (nets : ℕ → Nets) × AreNetsOf masters nets
+nets_there tech masters each = (λ m. nets_by tech masters each m (cases_lt m (length masters)), λ m lt. nets_are tech masters each m (cases_lt m (length masters)) lt)
+
 -- two bound items whose rule frees no net
 pub bound_apart : (tech : Tech) (plan : Plan) (masters : List Master) (layouts : List Coords) → IsDone tech plan masters layouts → (a b : Drawn) → IsDrawn plan masters a → IsDrawn plan masters b
     → (rule : Rule) → spacing_of tech (item_of plan masters a).class (item_of plan masters b).class ≡ Some rule → rule.net_exempt ≡ false
