@@ -22,3 +22,5 @@ pub mod NetlistLists
 pub mod NetlistScale
 pub mod NetlistShapes
 pub mod NetlistBoxes
+pub mod NetlistCross
+pub mod NetlistMeetings

@@ -167,3 +167,17 @@ encloses_from_grains tech u v m h = record {
 
 pub length_in_grains : (tech : Tech) (a b n : ℤ) → (a -ℤ b) ≡ n → (grains tech a -ℤ grains tech b) ≡ grains tech n
 length_in_grains tech a b n e = difference_scaled (pos 2 *ℤ (numbers_of tech).unit) a b (scale_positive tech) ∙ ap (grains tech) e
+
+pub grains_positive : (tech : Tech) (n : ℤ) → pos 1 ≤ℤ n → pos 1 ≤ℤ grains tech n
+grains_positive tech n low =
+    let s : ℤ = pos 2 *ℤ (numbers_of tech).unit in
+    let more = scaled s (pos 1) n (scale_positive tech) low in
+    let one : (pos 1 *ℤ s) ≡ s = omega (arith, ints) in
+    let least = scale_positive tech in
+    omega (arith, ints, more, one, least)
+
+-- an exact margin
+pub margin_exact : (tech : Tech) (p q a m b : ℤ) → p ≡ grains tech a → q ≡ grains tech b → (a +ℤ m) ≡ b → (p +ℤ grains tech m) ≤ℤ q
+margin_exact tech p q a m b e f h =
+    let there = margin_in_grains tech a m b (omega (arith, ints, h)) in
+    subst (λ (x : ℤ). (x +ℤ grains tech m) ≤ℤ q) (sym e) (subst (λ (y : ℤ). (grains tech a +ℤ grains tech m) ≤ℤ y) (sym f) there)
