@@ -24,3 +24,7 @@ pub mod NetlistShapes
 pub mod NetlistBoxes
 pub mod NetlistCross
 pub mod NetlistMeetings
+pub mod NetlistCrossings
+pub mod NetlistPlaces
+pub mod NetlistAreas
+pub mod NetlistPieces

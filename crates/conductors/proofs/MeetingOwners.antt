@@ -1,10 +1,11 @@
 -- What items each owner has, in all instances.
-use Rattle.std.proofs.Common.{◌≡◌, ℕ, ◌+◌, ◌<◌, List, length, refl, sym, ap, ◌∙◌, arith, inl, inr}
+use Rattle.std.proofs.Common.{◌≡◌, ℕ, ◌+◌, ◌<◌, ℤ, Bool, List, length, refl, sym, ap, ◌∙◌, arith, inl, inr, ◌⊎◌}
 use Rattle.rule_table.specs.declared.technology.Tech.{Tech}
 use Rattle.rule_table.specs.declared.classes.Class.{Class}
 use Rattle.rule_table.specs.declared.classes.Class.TheVariants.{M, P, Dc, Dm}
 use Rattle.sym_items.specs.declared.items.Coords.{Coords}
 use Rattle.sym_items.specs.declared.items.Item.{Item}
+use Rattle.cell_model.specs.declared.cell.Axis2.{Axis2}
 use Rattle.list_facts.proofs.Elements.{all_at}
 use Rattle.pair_rules.specs.Bound.{no_item, item_at}
 use Rattle.expand.specs.declared.master.Master.{Master}
@@ -13,7 +14,7 @@ use Rattle.pitch_join.specs.Masters.{ArePlanned}
 use Rattle.grid_rules.specs.Rules.{items_at, sides_at_spot}
 use Rattle.grid_rules.proofs.Meeting.{master_is}
 use Rattle.conductors.specs.Conductors.{Drawn, item_of}
-use Rattle.conductors.specs.Meetings.{master_of, at, IsOfClass, IsOnePiece, DiffusionConducts, PiecesHaveMasks, OwnersHaveOne}
+use Rattle.conductors.specs.Meetings.{master_of, at, IsOfClass, IsOwned, IsTransistorAt, IsOnePiece, DiffusionConducts, PiecesHaveMasks, OwnersHaveOne}
 use Rattle.conductors.proofs.MeetingRuns.{IsRun, HasOwner, places, IsSingle, found, single}
 use Rattle.conductors.proofs.MeetingBlocks.{StandsIn, stands_in, class_in, IsOnePieceIn, IsPlaced, IsOfTransistor, placed}
 
@@ -87,6 +88,22 @@ module _ (tech : Tech) (plan : Plan) (masters : List Master) (planned : ArePlann
       let list = items_at plan masters a.spot in
       elim (p.lawful.pieces p.stands.j p.stands.among (class_there list p.block (item_of plan masters a).owner p.run a.item Dm p.stands h.of_class)) [
         | inl one ↦ inl (drawn_piece layouts a h (one_piece_of list p.block a.item p.run p.stands one))
+        | inr fet ↦ inr (fet.0, fet.3.depletion, fet.3.gate, fet.3.w, fet.3.l, record { there = h.drawn.spot; node = fet.1; kind = fet.3.is }, fet.2)
+      ]
+
+  -- and has its net
+  pub piece_nets : (a : Drawn) → IsOfClass plan masters Dm a
+      → ((n : ℕ) × IsOwned plan masters Dc (item_of plan masters a).owner (at a.spot n) × ((item_of plan masters a).net ≡ (item_of plan masters (at a.spot n)).net))
+      ⊎ ((k : ℕ) × (depletion : Bool) × (gate : Axis2) × (w : ℤ) × (l : ℤ) × IsTransistorAt plan masters a.spot k depletion gate w l × ((item_of plan masters a).owner ≡ k))
+  piece_nets a h =
+      let p = placed_at a Dm h in
+      let list = items_at plan masters a.spot in
+      elim (p.lawful.pieces p.stands.j p.stands.among (class_there list p.block (item_of plan masters a).owner p.run a.item Dm p.stands h.of_class)) [
+        | inl one ↦
+            let o = one_piece_of list p.block a.item p.run p.stands one in
+            let is_piece : IsOwned plan masters Dc (item_of plan masters a).owner (at a.spot o.piece) =
+            record { drawn = record { spot = h.drawn.spot; among = o.among }; of_class = ap (λ (i : Item). i.class) o.is; owned = ap (λ (i : Item). i.owner) o.is } in
+            inl (o.piece, is_piece, sym (ap (λ (i : Item). i.net) o.is))
         | inr fet ↦ inr (fet.0, fet.3.depletion, fet.3.gate, fet.3.w, fet.3.l, record { there = h.drawn.spot; node = fet.1; kind = fet.3.is }, fet.2)
       ]
 

@@ -17,7 +17,7 @@ use Rattle.buried_contacts.specs.Contacts.{axis_along, common}
 use Rattle.plan_model.specs.declared.plan.Plan.{Plan}
 use Rattle.plan_model.specs.Instances.{Spot}
 use Rattle.crossings.specs.Boxes.{area_at, IsOn}
-use Rattle.crossings.specs.Crossings.{IsOverlap, IsBuriedPair, IsMeeting, CrossProperly, AreProper}
+use Rattle.crossings.specs.Crossings.{IsOverlap, IsBuriedPair, IsMeeting, CrossAlong, CrossProperly, AreProper}
 use Rattle.grid_rules.proofs.Gaps.{IsDone}
 use Rattle.conductors.specs.Conductors.{Drawn, item_of, sides_of_drawn, gap_of_drawn}
 use Rattle.conductors.specs.Meetings.{at, IsOfClass, IsOwned, EnclosesBy, IsTransistorAt, CrossAt, seen, StandAtOne}
@@ -53,7 +53,7 @@ module _ (tech : Tech) (plan : Plan) (masters : List Master) (layouts : List Coo
   abbrev Lies : Drawn → Sides
   Lies a = sides_of_drawn tech plan masters layouts a
 
-  abbrev fet_knows : (p d : ℕ) (pair : IsFetPair plan masters p d) → KnowsFet tech plan masters layouts pair.spot pair.k pair.gate pair.w pair.l
+  abbrev pub fet_knows : (p d : ℕ) (pair : IsFetPair plan masters p d) → KnowsFet tech plan masters layouts pair.spot pair.k pair.gate pair.w pair.l
   fet_knows p d pair = knows tech plan masters layouts done pair.spot pair.k pair.depletion pair.gate pair.w pair.l pair.fet
 
   -- its boxes cross
@@ -207,18 +207,15 @@ module _ (tech : Tech) (plan : Plan) (masters : List Master) (layouts : List Coo
         | inr at_one ↦ absurd (stands_none (item_of plan masters b) at_one.together.0 (know.nowhere pair.diffusion pair.is_diffusion.drawn.among pair.is_diffusion.owned) at_one.together.2)
       ]
 
-  pub pair_crosses : (p d : ℕ) → IsFetPair plan masters p d → CrossProperly tech boxes p d
-  pair_crosses p d pair =
+  pub pair_along : (p d : ℕ) (pair : IsFetPair plan masters p d) → CrossAlong tech (axis_along pair.gate) (area_at boxes p) (area_at boxes d)
+  pair_along p d pair =
       let a : Drawn = at pair.spot pair.poly in
       let b : Drawn = at pair.spot pair.diffusion in
-      let channel : Sides = seen tech plan masters layouts pair.gate pair.spot (fet_knows p d pair).boxes.channel in
-      record {
-        axis = axis_along pair.gate;
-        along = cross_along tech pair.gate pair.w pair.l (Lies a) (Lies b) channel (area_at boxes p) (area_at boxes d) (pair_cross p d pair)
-            (sides_at tech plan masters layouts boxes shapes p a pair.shows_poly) (sides_at tech plan masters layouts boxes shapes d b pair.shows_diffusion);
-        poly_alone = poly_alone p d pair;
-        diffusion_alone = diffusion_alone p d pair;
-      }
+      cross_along tech pair.gate pair.w pair.l (Lies a) (Lies b) (seen tech plan masters layouts pair.gate pair.spot (fet_knows p d pair).boxes.channel) (area_at boxes p) (area_at boxes d) (pair_cross p d pair)
+      (sides_at tech plan masters layouts boxes shapes p a pair.shows_poly) (sides_at tech plan masters layouts boxes shapes d b pair.shows_diffusion)
+
+  pub pair_crosses : (p d : ℕ) → IsFetPair plan masters p d → CrossProperly tech boxes p d
+  pair_crosses p d pair = record { axis = axis_along pair.gate; along = pair_along p d pair; poly_alone = poly_alone p d pair; diffusion_alone = diffusion_alone p d pair }
 
   pub are_proper : AreProper tech boxes
   are_proper p d h = pair_crosses p d (meeting_fet p d h)
