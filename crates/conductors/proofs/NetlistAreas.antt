@@ -42,32 +42,28 @@ not_below a b z e = omega (arith, ints, clamps, e)
 low_at : (axis : Axis) (poly box channel : BoxXY) → IsCommon poly box channel → (s : BoxXY) × LowAt axis channel box s
 low_at X poly box channel h = (
   record { x = box.x; y = record { lo = box.y.lo; hi = channel.y.lo; ordered = not_above poly.y.lo box.y.lo channel.y.lo h.y.lo } },
-  (refl, refl),
-  (refl, refl),
+  ((refl, refl), (refl, refl)),
 )
 low_at Y poly box channel h = (
   record { y = box.y; x = record { lo = box.x.lo; hi = channel.x.lo; ordered = not_above poly.x.lo box.x.lo channel.x.lo h.x.lo } },
-  (refl, refl),
-  (refl, refl),
+  ((refl, refl), (refl, refl)),
 )
 
 high_at : (axis : Axis) (poly box channel : BoxXY) → IsCommon poly box channel → (s : BoxXY) × HighAt axis channel box s
 high_at X poly box channel h = (
   record { x = box.x; y = record { lo = channel.y.hi; hi = box.y.hi; ordered = not_below poly.y.hi box.y.hi channel.y.hi h.y.hi } },
-  (refl, refl),
-  (refl, refl),
+  ((refl, refl), (refl, refl)),
 )
 high_at Y poly box channel h = (
   record { y = box.y; x = record { lo = channel.x.hi; hi = box.x.hi; ordered = not_below poly.x.hi box.x.hi channel.x.hi h.x.hi } },
-  (refl, refl),
-  (refl, refl),
+  ((refl, refl), (refl, refl)),
 )
 
 pub low_there : (c : Crossing) (poly box : BoxXY) → IsCommon poly box c.channel → (s : BoxXY) × IsLowPiece c box s
-low_there c poly box h = (let r = low_at c.axis poly box c.channel h in (r.0, (r.1, r.2)))
+low_there c poly box h = low_at c.axis poly box c.channel h
 
 pub high_there : (c : Crossing) (poly box : BoxXY) → IsCommon poly box c.channel → (s : BoxXY) × IsHighPiece c box s
-high_there c poly box h = (let r = high_at c.axis poly box c.channel h in (r.0, (r.1, r.2)))
+high_there c poly box h = high_at c.axis poly box c.channel h
 
 -- ---- they lie where the pieces of the transistor lie
 
