@@ -28,3 +28,5 @@ pub mod NetlistCrossings
 pub mod NetlistPlaces
 pub mod NetlistAreas
 pub mod NetlistPieces
+pub mod NetlistLinks
+pub mod NetlistNets

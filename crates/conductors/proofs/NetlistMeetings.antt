@@ -20,7 +20,7 @@ use Rattle.crossings.specs.Boxes.{area_at, IsOn}
 use Rattle.crossings.specs.Crossings.{IsOverlap, IsBuriedPair, IsMeeting, CrossAlong, CrossProperly, AreProper}
 use Rattle.grid_rules.proofs.Gaps.{IsDone}
 use Rattle.conductors.specs.Conductors.{Drawn, item_of, sides_of_drawn, gap_of_drawn}
-use Rattle.conductors.specs.Meetings.{at, IsOfClass, IsOwned, EnclosesBy, IsTransistorAt, CrossAt, seen, StandAtOne}
+use Rattle.conductors.specs.Meetings.{at, IsOfClass, IsOwned, EnclosesBy, IsTransistorAt, CrossAt, seen, AreOfOneTransistor, StandAtOne}
 use Rattle.conductors.specs.Shapes.{Shows, sides_in_grains, AreShapes}
 use Rattle.conductors.proofs.MeetingBoxes.{StandsNowhere, KnowsFet, knows, past_overlaps}
 use Rattle.conductors.proofs.MeetingPoly.{poly_meets, contacts_are_buried, windows_keep_off}
@@ -97,6 +97,28 @@ module _ (tech : Tech) (plan : Plan) (masters : List Master) (layouts : List Coo
             (sides_at tech plan masters layouts boxes shapes window.0 contact.window window.1) (c.1 ∙ common_is p d a b shows_a shows_b) contact.covered;
       }
 
+  -- items of one transistor
+  pub fet_pair : (p d : ℕ) (a b : Drawn) → Shows plan masters p a → Shows plan masters d b → IsOfClass plan masters P a → IsOfClass plan masters Dm b → AreOfOneTransistor plan masters a b → IsFetPair plan masters p d
+  fet_pair p d a b shows_a shows_b is_a is_b one =
+      let Q : Spot → Type 0 = λ s. IsOwned plan masters Dm one.k (at s b.item) × Shows plan masters d (at s b.item) in
+      let there : Q b.spot = (record { drawn = is_b.drawn; of_class = is_b.of_class; owned = one.second }, shows_b) in
+      let here : Q a.spot = subst Q (sym one.spot) there in
+      record {
+        spot = a.spot;
+        k = one.k;
+        depletion = one.depletion;
+        gate = one.gate;
+        w = one.w;
+        l = one.l;
+        fet = one.transistor;
+        poly = a.item;
+        diffusion = b.item;
+        is_poly = record { drawn = is_a.drawn; of_class = is_a.of_class; owned = one.first };
+        is_diffusion = here.0;
+        shows_poly = shows_a;
+        shows_diffusion = here.1;
+      }
+
   -- of a meeting: the boxes of one transistor
   pub meeting_fet : (p d : ℕ) → IsMeeting tech boxes p d → IsFetPair plan masters p d
   meeting_fet p d h =
@@ -106,25 +128,7 @@ module _ (tech : Tech) (plan : Plan) (masters : List Master) (layouts : List Coo
       let b : Drawn = second.0 in
       let lies = drawn_overlap tech plan masters layouts boxes shapes p d a b first.1 second.1 h.overlap.overlap in
       elim (poly_meets tech plan masters layouts done a b first.2 second.2 lies) [
-        | inl one ↦
-            let Q : Spot → Type 0 = λ s. IsOwned plan masters Dm one.k (at s b.item) × Shows plan masters d (at s b.item) in
-            let there : Q b.spot = (record { drawn = second.2.drawn; of_class = second.2.of_class; owned = one.second }, second.1) in
-            let here : Q a.spot = subst Q (sym one.spot) there in
-            record {
-              spot = a.spot;
-              k = one.k;
-              depletion = one.depletion;
-              gate = one.gate;
-              w = one.w;
-              l = one.l;
-              fet = one.transistor;
-              poly = a.item;
-              diffusion = b.item;
-              is_poly = record { drawn = first.2.drawn; of_class = first.2.of_class; owned = one.first };
-              is_diffusion = here.0;
-              shows_poly = first.1;
-              shows_diffusion = here.1;
-            }
+        | inl one ↦ fet_pair p d a b first.1 second.1 first.2 second.2 one
         | inr at_one ↦ absurd (h.unburied (buried_pair p d a b first.1 second.1 first.2 second.2 at_one))
       ]
 

@@ -126,7 +126,7 @@ module _ (tech : Tech) (plan : Plan) (masters : List Master) (layouts : List Coo
   }
 
   -- diffusion that is of no transistor
-  abbrev HasNet : Drawn → ℕ → Type 0
+  abbrev pub HasNet : Drawn → ℕ → Type 0
   HasNet a n = (item_of plan masters a).net ≡ (item_of plan masters (at a.spot n)).net
 
   whole_piece : (k : ℕ) (a : Drawn) → Shows plan masters k a → IsOfClass plan masters Dm a → (one : IsOnePiece tech plan masters layouts a) → HasNet a one.piece → Piece k Whole a (at a.spot one.piece)
@@ -145,7 +145,7 @@ module _ (tech : Tech) (plan : Plan) (masters : List Master) (layouts : List Coo
     tells = λ n like. one.one_piece n (record { drawn = like.drawn; of_class = like.of_class ∙ one.is_piece.of_class; owned = like.owned ∙ one.is_piece.owned });
   }
 
-  one_piece_at : (a : Drawn) → IsOfClass plan masters Dm a → is_of_transistor plan masters a ≡ false → (one : IsOnePiece tech plan masters layouts a) × HasNet a one.piece
+  pub one_piece_at : (a : Drawn) → IsOfClass plan masters Dm a → is_of_transistor plan masters a ≡ false → (one : IsOnePiece tech plan masters layouts a) × HasNet a one.piece
   one_piece_at a is_a off = elim (diffusion_conducts tech plan masters done.planned layouts a is_a) [
     | inr fet ↦ absurd (no_fet fet.0 fet.1 fet.2 fet.3 fet.4 fet.5 fet.6)
     | inl one ↦ elim (piece_nets tech plan masters done.planned a is_a) [
