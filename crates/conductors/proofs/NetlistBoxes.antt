@@ -1,13 +1,11 @@
 -- Boxes that show items, by number: their layers, and how they lie in grains.
-use Rattle.std.proofs.Common.{◌≡◌, ℕ, ◌<◌, ℤ, pos, ◌+ℤ◌, ◌≤ℤ◌, ◌<ℤ◌, List, length, Some, refl, sym, ap, ◌∙◌, subst, arith}
-use Rattle.std.specs.Int.{int_max, int_min}
+use Rattle.std.proofs.Common.{◌≡◌, ℕ, ◌<◌, ℤ, pos, ◌≤ℤ◌, ◌<ℤ◌, List, length, Some, refl, sym, ap, ◌∙◌, subst, arith}
 use Rattle.std.specs.Option.{unwrap_or}
 use Rattle.std.proofs.lemmas.Int.{ints, clamps}
 use Rattle.lam_geom.specs.declared.boxes.BoxXY.{BoxXY}
 use Rattle.lam_geom.specs.declared.boxes.MaskBox.{MaskBox}
 use Rattle.lam_geom.specs.declared.boxes.MaskLayer.{MaskLayer}
 use Rattle.lam_geom.specs.declared.boxes.MaskLayer.TheVariants.{ND}
-use Rattle.lam_geom.specs.declared.boxes.Span.{Span}
 use Rattle.lam_geom.specs.Gaps.{Touches, Overlaps, Encloses}
 use Rattle.rule_table.specs.declared.technology.Tech.{Tech}
 use Rattle.sym_items.specs.declared.items.Coords.{Coords}
@@ -19,7 +17,7 @@ use Rattle.mask_out.specs.Masks.{layer_drawn}
 use Rattle.crossings.specs.Boxes.{area_at, layer_at, IsOn, IsCommon, grains}
 use Rattle.conductors.specs.Conductors.{Drawn, item_of, sides_of_drawn, gap_of_drawn}
 use Rattle.conductors.specs.Meetings.{IsOfClass, EnclosesBy}
-use Rattle.conductors.specs.Shapes.{Shows, shapes_of, layer_of, sides_in_grains, AreShapes}
+use Rattle.conductors.specs.Shapes.{Shows, layer_of, sides_in_grains, AreShapes}
 use Rattle.conductors.proofs.MeetingGaps.{same_sides}
 use Rattle.conductors.proofs.NetlistScale.{overlap_in_grains, overlap_from_grains, touch_in_grains, touch_from_grains, encloses_in_grains, encloses_from_grains}
 use Rattle.conductors.proofs.NetlistShapes.{class_of_layer, class_back, layer_there, shown, number, each_shown, shown_below}

@@ -1,5 +1,5 @@
 -- Poly and diffusion of a transistor as they cross: the same seen along either axis, in u and in grains.
-use Rattle.std.proofs.Common.{◌≡◌, ℕ, ℤ, pos, ◌+ℤ◌, ◌-ℤ◌, ◌≤ℤ◌, ◌<ℤ◌, refl, sym, ap, ◌∙◌, subst, arith}
+use Rattle.std.proofs.Common.{◌≡◌, ℤ, pos, ◌+ℤ◌, ◌-ℤ◌, ◌≤ℤ◌, ◌<ℤ◌, refl, ap, ◌∙◌, subst, arith}
 use Rattle.std.proofs.lemmas.Int.{ints}
 use Rattle.lam_geom.specs.declared.boxes.Axis.{Axis}
 use Rattle.lam_geom.specs.declared.boxes.Axis.TheVariants.{X, Y}
@@ -47,26 +47,26 @@ cross_along tech Across w l p d c s t h e f =
     let diffusion : ℤ = (numbers_of tech).extension_diffusion in
     record {
       gate = (
-          margin_exact tech s.x.lo t.x.lo p.left poly d.left (ap (λ (z : Sides). z.left) e) (ap (λ (z : Sides). z.left) f) h.left,
-          margin_exact tech t.x.hi s.x.hi d.right poly p.right (ap (λ (z : Sides). z.right) f) (ap (λ (z : Sides). z.right) e) h.right,
-          );
+        margin_exact tech s.x.lo t.x.lo p.left poly d.left (ap (λ (z : Sides). z.left) e) (ap (λ (z : Sides). z.left) f) h.left,
+        margin_exact tech t.x.hi s.x.hi d.right poly p.right (ap (λ (z : Sides). z.right) f) (ap (λ (z : Sides). z.right) e) h.right,
+      );
       channel = (
-          margin_exact tech t.y.lo s.y.lo d.bottom diffusion p.bottom (ap (λ (z : Sides). z.bottom) f) (ap (λ (z : Sides). z.bottom) e) h.bottom,
-          margin_exact tech s.y.hi t.y.hi p.top diffusion d.top (ap (λ (z : Sides). z.top) e) (ap (λ (z : Sides). z.top) f) h.top,
-          );
+        margin_exact tech t.y.lo s.y.lo d.bottom diffusion p.bottom (ap (λ (z : Sides). z.bottom) f) (ap (λ (z : Sides). z.bottom) e) h.bottom,
+        margin_exact tech s.y.hi t.y.hi p.top diffusion d.top (ap (λ (z : Sides). z.top) e) (ap (λ (z : Sides). z.top) f) h.top,
+      );
     }
 cross_along tech Up w l p d c s t h e f =
     let poly : ℤ = (numbers_of tech).extension_poly in
     let diffusion : ℤ = (numbers_of tech).extension_diffusion in
     record {
       gate = (
-          margin_exact tech s.y.lo t.y.lo p.bottom poly d.bottom (ap (λ (z : Sides). z.bottom) e) (ap (λ (z : Sides). z.bottom) f) h.left,
-          margin_exact tech t.y.hi s.y.hi d.top poly p.top (ap (λ (z : Sides). z.top) f) (ap (λ (z : Sides). z.top) e) h.right,
-          );
+        margin_exact tech s.y.lo t.y.lo p.bottom poly d.bottom (ap (λ (z : Sides). z.bottom) e) (ap (λ (z : Sides). z.bottom) f) h.left,
+        margin_exact tech t.y.hi s.y.hi d.top poly p.top (ap (λ (z : Sides). z.top) f) (ap (λ (z : Sides). z.top) e) h.right,
+      );
       channel = (
-          margin_exact tech t.x.lo s.x.lo d.left diffusion p.left (ap (λ (z : Sides). z.left) f) (ap (λ (z : Sides). z.left) e) h.bottom,
-          margin_exact tech s.x.hi t.x.hi p.right diffusion d.right (ap (λ (z : Sides). z.right) e) (ap (λ (z : Sides). z.right) f) h.top,
-          );
+        margin_exact tech t.x.lo s.x.lo d.left diffusion p.left (ap (λ (z : Sides). z.left) f) (ap (λ (z : Sides). z.left) e) h.bottom,
+        margin_exact tech s.x.hi t.x.hi p.right diffusion d.right (ap (λ (z : Sides). z.right) e) (ap (λ (z : Sides). z.right) f) h.top,
+      );
     }
 
 -- how wide and long the channel is in grains

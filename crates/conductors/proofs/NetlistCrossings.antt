@@ -1,13 +1,13 @@
 -- The crossings of boxes that show the instances are their transistors.
-use Rattle.std.proofs.Common.{◌≡◌, ℕ, ◌<◌, ℤ, Bool, true, false, List, refl, sym, ap, ◌∙◌, subst}
-use Rattle.std.specs.Prelude.{◌↔◌, IsTrue, Contains}
+use Rattle.std.proofs.Common.{◌≡◌, ℕ, ℤ, Bool, true, false, List, refl, sym, ap, ◌∙◌, subst}
+use Rattle.std.specs.Prelude.{IsTrue}
 use Rattle.std.proofs.lemmas.List.Elements.{All-weaker, All-contains}
 use Rattle.lam_geom.specs.declared.boxes.Axis.{Axis}
 use Rattle.lam_geom.specs.declared.boxes.BoxXY.{BoxXY}
 use Rattle.lam_geom.specs.declared.boxes.MaskBox.{MaskBox}
 use Rattle.lam_geom.specs.declared.boxes.MaskLayer.TheVariants.{ND, NP, NI}
 use Rattle.rule_table.specs.declared.technology.Tech.{Tech}
-use Rattle.rule_table.specs.declared.classes.Class.TheVariants.{P, Dm, G}
+use Rattle.rule_table.specs.declared.classes.Class.TheVariants.{G}
 use Rattle.rule_table.specs.Technology.{numbers_of}
 use Rattle.cell_model.specs.declared.cell.Axis2.{Axis2}
 use Rattle.sym_items.specs.declared.items.Coords.{Coords}
@@ -17,17 +17,17 @@ use Rattle.buried_contacts.specs.Contacts.{axis_along, common}
 use Rattle.plan_model.specs.declared.plan.Plan.{Plan}
 use Rattle.plan_model.specs.Instances.{Spot}
 use Rattle.crossings.specs.declared.crossing.Crossing.{Crossing}
-use Rattle.crossings.specs.Boxes.{area_at, IsCommon, extent, other}
-use Rattle.crossings.specs.Crossings.{CrossAlong, IsOverlap, IsMeeting, IsImplanted, IsCrossing, AreCrossings}
+use Rattle.crossings.specs.Boxes.{area_at, extent, other}
+use Rattle.crossings.specs.Crossings.{CrossAlong, IsOverlap, IsImplanted, IsCrossing, AreCrossings}
 use Rattle.grid_rules.proofs.Gaps.{IsDone}
 use Rattle.conductors.specs.Conductors.{Drawn, sides_of_drawn}
-use Rattle.conductors.specs.Meetings.{at, IsOfClass, IsOwned, IsTransistorAt}
+use Rattle.conductors.specs.Meetings.{at, IsOwned, IsTransistorAt}
 use Rattle.conductors.specs.Shapes.{Shows, sides_in_grains, AreShapes}
 use Rattle.conductors.specs.Sticks.{IsTransistor, IsOfNode, AreTransistors}
-use Rattle.conductors.proofs.MeetingBoxes.{KnowsFet, knows, implants_tell}
+use Rattle.conductors.proofs.MeetingBoxes.{knows, implants_tell}
 use Rattle.conductors.proofs.NetlistBoxes.{encloses_there, encloses_back, common_sides, is_common, sides_at, on_item, box_of}
 use Rattle.conductors.proofs.NetlistCross.{channel_extents, one_axis}
-use Rattle.conductors.proofs.NetlistMeetings.{IsFetPair, fet_knows, pair_cross, channel_is, meeting_fet, fet_meeting, pair_along, are_proper}
+use Rattle.conductors.proofs.NetlistMeetings.{IsFetPair, pair_cross, channel_is, meeting_fet, fet_meeting, pair_along, are_proper}
 use Rattle.conductors.proofs.NetlistShapes.{one_number}
 
 pub same_truth : (a b : Bool) → (a ≡ true → b ≡ true) → (b ≡ true → a ≡ true) → a ≡ b
@@ -132,9 +132,9 @@ module _ (tech : Tech) (plan : Plan) (masters : List Master) (layouts : List Coo
         along = subst (λ (a : Axis). CrossAlong tech a (area_at boxes p) (area_at boxes d)) (sym t.runs) (pair_along tech plan masters layouts boxes done shapes p d pair);
         channel = is_common (area_at boxes p) (area_at boxes d) c.channel there;
         depletion = (
-            λ depleted. implant_there t.spot t.k t.depletion t.gate t.w t.l t.transistor t.channel t.is_channel c.channel t.there (sym t.kind ∙ depleted),
-            λ implanted. t.kind ∙ implant_back t.spot t.k t.depletion t.gate t.w t.l t.transistor t.channel t.is_channel c.channel t.there implanted,
-            );
+          λ depleted. implant_there t.spot t.k t.depletion t.gate t.w t.l t.transistor t.channel t.is_channel c.channel t.there (sym t.kind ∙ depleted),
+          λ implanted. t.kind ∙ implant_back t.spot t.k t.depletion t.gate t.w t.l t.transistor t.channel t.is_channel c.channel t.there implanted,
+        );
       }
 
   -- ---- all of them

@@ -1,14 +1,14 @@
 -- Poly and diffusion that overlap and are no buried pair are those of one transistor, and cross properly.
-use Rattle.std.proofs.Common.{◌≡◌, ◌≢◌, ℕ, ◌<◌, ℤ, pos, ◌≤ℤ◌, ◌<ℤ◌, Bool, List, Some, refl, sym, ap, ◌∙◌, subst, arith, inl, inr}
+use Rattle.std.proofs.Common.{◌≡◌, ℕ, ℤ, pos, ◌<ℤ◌, Bool, List, sym, ap, ◌∙◌, subst, arith, inl, inr}
 use Rattle.std.proofs.lemmas.Int.{ints}
 use Rattle.lam_geom.specs.declared.boxes.MaskBox.{MaskBox}
 use Rattle.lam_geom.specs.declared.boxes.MaskLayer.TheVariants.{ND, NP, NB}
 use Rattle.rule_table.specs.declared.technology.Tech.{Tech}
-use Rattle.rule_table.specs.declared.classes.Class.TheVariants.{P, Dm, G, B}
+use Rattle.rule_table.specs.declared.classes.Class.TheVariants.{P, Dm, G}
 use Rattle.rule_table.specs.Technology.{numbers_of}
 use Rattle.sym_items.specs.declared.items.Coords.{Coords}
 use Rattle.sym_items.specs.declared.items.Item.{Item}
-use Rattle.sym_items.specs.Sides.{Sides, sides_of, gap_of_sides}
+use Rattle.sym_items.specs.Sides.{Sides, sides_of}
 use Rattle.sym_items.specs.Standing.{StandsAt}
 use Rattle.cell_model.specs.declared.cell.Axis2.{Axis2}
 use Rattle.expand.specs.declared.master.Master.{Master}
@@ -16,11 +16,11 @@ use Rattle.expand.proofs.Among.{sound_numbers}
 use Rattle.buried_contacts.specs.Contacts.{axis_along, common}
 use Rattle.plan_model.specs.declared.plan.Plan.{Plan}
 use Rattle.plan_model.specs.Instances.{Spot}
-use Rattle.crossings.specs.Boxes.{area_at, IsOn}
+use Rattle.crossings.specs.Boxes.{area_at}
 use Rattle.crossings.specs.Crossings.{IsOverlap, IsBuriedPair, IsMeeting, CrossAlong, CrossProperly, AreProper}
 use Rattle.grid_rules.proofs.Gaps.{IsDone}
 use Rattle.conductors.specs.Conductors.{Drawn, item_of, sides_of_drawn, gap_of_drawn}
-use Rattle.conductors.specs.Meetings.{at, IsOfClass, IsOwned, EnclosesBy, IsTransistorAt, CrossAt, seen, AreOfOneTransistor, StandAtOne}
+use Rattle.conductors.specs.Meetings.{at, IsOfClass, IsOwned, IsTransistorAt, CrossAt, seen, AreOfOneTransistor, StandAtOne}
 use Rattle.conductors.specs.Shapes.{Shows, sides_in_grains, AreShapes}
 use Rattle.conductors.proofs.MeetingBoxes.{StandsNowhere, KnowsFet, knows, past_overlaps}
 use Rattle.conductors.proofs.MeetingPoly.{poly_meets, contacts_are_buried, windows_keep_off}

@@ -1,6 +1,6 @@
 -- What is extracted from boxes that show the instances is the sticks' netlist.
-use Rattle.std.proofs.Common.{◌≡◌, ℕ, zero, suc, ◌<◌, List, length, Some, refl, sym, ap, ◌∙◌, subst, inl, inr}
-use Rattle.std.specs.Prelude.{◌↔◌, slice_get}
+use Rattle.std.proofs.Common.{◌≡◌, ℕ, zero, suc, ◌<◌, List, length, Some, refl, sym, ap, ◌∙◌, subst}
+use Rattle.std.specs.Prelude.{slice_get}
 use Rattle.lam_geom.specs.declared.boxes.MaskBox.{MaskBox}
 use Rattle.rule_table.specs.declared.technology.Tech.{Tech}
 use Rattle.cell_model.specs.declared.cell.Nets.{Nets}
@@ -14,16 +14,15 @@ use Rattle.plan_model.specs.Plan.{grids_of}
 use Rattle.pitch_join.specs.Masters.{ports_of_masters}
 use Rattle.crossings.specs.declared.crossing.Crossing.{Crossing}
 use Rattle.net_extract.specs.declared.netlist.Netlist.{Netlist}
-use Rattle.net_extract.specs.declared.netlist.Part.{Part}
-use Rattle.net_extract.specs.Extraction.{IsLink, IsExtracted}
+use Rattle.net_extract.specs.Extraction.{IsLink}
 use Rattle.net_extract.specs.Netlists.{IsNetlistOf}
 use Rattle.net_extract.specs.Places.{Place, place, places_of}
 use Rattle.grid_rules.specs.Rules.{AreNetsOf}
 use Rattle.grid_rules.proofs.Gaps.{IsDone}
 use Rattle.grid_rules.proofs.OneNet.{one_net_then}
-use Rattle.conductors.specs.Conductors.{Drawn, item_of, IsConductor, AreOfOneBox, AreOfOneNet, AreLinked, AreConnected, here, further}
+use Rattle.conductors.specs.Conductors.{Drawn, item_of, IsConductor, AreOfOneNet, AreLinked, AreConnected, here, further}
 use Rattle.conductors.specs.Shapes.{Shows, AreShapes}
-use Rattle.conductors.specs.Sticks.{places_of_sticks, net_of_part, AreOfOne, AreTransistors, IsSticksNetlist, NetsAreTheSticks}
+use Rattle.conductors.specs.Sticks.{places_of_sticks, net_of_part, AreOfOne, AreTransistors, NetsAreTheSticks}
 use Rattle.conductors.proofs.ChainLinks.{end_conducts}
 use Rattle.conductors.proofs.ChainNets.{all_connected}
 use Rattle.conductors.proofs.MeetingGaps.{nets_there}
@@ -218,20 +217,20 @@ pub nets_are_the_sticks : (tech : Tech) (plan : Plan) (masters : List Master) (l
 nets_are_the_sticks tech plan masters layouts boxes done shapes = record {
   proper = are_proper tech plan masters layouts boxes done shapes;
   equal = λ list. (
-      λ h. (
-          let cs : List Crossing = h.crossings in
-          let are = crossings_are tech plan masters layouts boxes done shapes cs h.are_crossings in
-          let nets = nets_there tech masters done.planned.each in
-          record { nets = nets.0; are_nets = nets.1; transistors = cs; are_transistors = are; netlist = to_sticks tech plan masters layouts boxes done shapes cs are nets.0 nets.1 list h.netlist }
-          ),
-      λ h. (
-          let cs : List Crossing = h.transistors in
-          let are = h.are_transistors in
-          record {
-            crossings = cs;
-            are_crossings = transistors_are tech plan masters layouts boxes done shapes cs are;
-            netlist = to_boxes tech plan masters layouts boxes done shapes cs are h.nets h.are_nets list h.netlist;
-          }
-          ),
-      );
+    λ h. (
+        let cs : List Crossing = h.crossings in
+        let are = crossings_are tech plan masters layouts boxes done shapes cs h.are_crossings in
+        let nets = nets_there tech masters done.planned.each in
+        record { nets = nets.0; are_nets = nets.1; transistors = cs; are_transistors = are; netlist = to_sticks tech plan masters layouts boxes done shapes cs are nets.0 nets.1 list h.netlist }
+        ),
+    λ h. (
+        let cs : List Crossing = h.transistors in
+        let are = h.are_transistors in
+        record {
+          crossings = cs;
+          are_crossings = transistors_are tech plan masters layouts boxes done shapes cs are;
+          netlist = to_boxes tech plan masters layouts boxes done shapes cs are h.nets h.are_nets list h.netlist;
+        }
+        ),
+  );
 }

@@ -1,6 +1,5 @@
 -- The pieces of boxes that show the instances are the conductors: each piece is one, and each conductor one piece.
-use Rattle.std.proofs.Common.{◌≡◌, ◌≢◌, ℕ, ◌<◌, ◌≤◌, ℤ, Bool, true, false, List, Some, refl, sym, ap, ◌∙◌, subst, arith, inl, inr, ◌⊎◌}
-use Rattle.std.specs.Prelude.{Contains}
+use Rattle.std.proofs.Common.{◌≡◌, ℕ, ◌<◌, ◌≤◌, ℤ, Bool, true, false, List, Some, refl, sym, ap, ◌∙◌, subst, arith, inl, inr}
 use Rattle.std.specs.Option.{unwrap_or}
 use Rattle.std.proofs.lemmas.Bool.{cases_Bool}
 use Rattle.std.proofs.lemmas.List.Elements.{All-contains}
@@ -12,7 +11,6 @@ use Rattle.rule_table.specs.declared.technology.Tech.{Tech}
 use Rattle.rule_table.specs.declared.classes.Class.{Class}
 use Rattle.rule_table.specs.declared.classes.Class.TheVariants.{M, P, Dc, Dm, C, I, G, B}
 use Rattle.cell_model.specs.declared.cell.Axis2.{Axis2}
-use Rattle.cell_model.specs.declared.cell.NodeKind.{NodeKind}
 use Rattle.cell_model.specs.declared.cell.NodeKind.TheVariants.{Fet}
 use Rattle.cell_model.specs.declared.cell.Nets.{Nets}
 use Rattle.sym_items.specs.declared.items.Coords.{Coords}
@@ -22,13 +20,12 @@ use Rattle.sym_items.specs.Standing.{StandsAt}
 use Rattle.expand.specs.declared.master.Master.{Master}
 use Rattle.buried_contacts.specs.Contacts.{axis_along, kind_of}
 use Rattle.plan_model.specs.declared.plan.Plan.{Plan}
-use Rattle.plan_model.specs.Instances.{Spot}
 use Rattle.mask_out.specs.Masks.{layer_drawn}
 use Rattle.crossings.specs.declared.crossing.Crossing.{Crossing}
 use Rattle.crossings.specs.Boxes.{area_at, IsCommon}
 use Rattle.net_extract.specs.declared.netlist.Part.{Part}
 use Rattle.net_extract.specs.declared.netlist.Part.TheVariants.{Whole, Low, High}
-use Rattle.net_extract.specs.Extraction.{IsOfBox, IsLowPiece, IsHighPiece, IsAreaOf}
+use Rattle.net_extract.specs.Extraction.{IsOfBox, IsAreaOf}
 use Rattle.net_extract.specs.Places.{Place, place, parts_of_diffusion, parts_on}
 use Rattle.grid_rules.specs.Rules.{AreNetsOf}
 use Rattle.grid_rules.proofs.Gaps.{IsDone}
@@ -36,7 +33,7 @@ use Rattle.conductors.specs.Conductors.{Drawn, item_of, sides_of_drawn, Conducts
 use Rattle.conductors.specs.Meetings.{at, master_of, IsOfClass, IsOwned, IsTransistorAt, IsOnePiece, OwnersHaveOne}
 use Rattle.conductors.specs.Shapes.{Shows, layer_of, sides_in_grains, AreShapes}
 use Rattle.conductors.specs.Sticks.{is_of_transistor, net_of_part, IsTransistor, AreTransistors}
-use Rattle.conductors.proofs.MeetingBoxes.{StandsNowhere, KnowsFet, knows}
+use Rattle.conductors.proofs.MeetingBoxes.{KnowsFet, knows}
 use Rattle.conductors.proofs.MeetingOwners.{diffusion_conducts, piece_nets, pieces_have_masks, owners_have_poly, owners_have_metal}
 use Rattle.conductors.proofs.NetlistAreas.{low_there, high_there, low_lies, high_lies}
 use Rattle.conductors.proofs.NetlistBoxes.{sides_at}
@@ -234,11 +231,11 @@ module _ (tech : Tech) (plan : Plan) (masters : List Master) (layouts : List Coo
         stands = never a is_a f b.low b.is_low;
         stands_back = never_back a f b.low b.is_low;
         tells = (
-            λ n like. elim (b.two_pieces n (like_piece a b.low n b.is_low like)) [ inl e ↦ omega (arith, e) | inr e ↦ omega (arith, e, order) ],
-            b.high,
-            piece_like a b.low b.high b.is_low b.is_high,
-            order,
-            );
+          λ n like. elim (b.two_pieces n (like_piece a b.low n b.is_low like)) [ inl e ↦ omega (arith, e) | inr e ↦ omega (arith, e, order) ],
+          b.high,
+          piece_like a b.low b.high b.is_low b.is_high,
+          order,
+        );
       }
 
   high_piece : (k : ℕ) (a : Drawn) → Shows plan masters k a → (is_a : IsOfClass plan masters Dm a) (f : IsFetItem plan masters a) → Piece k High a (at a.spot (know a f).boxes.high)

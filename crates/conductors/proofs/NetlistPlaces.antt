@@ -1,5 +1,5 @@
 -- The pieces of boxes that show the instances stand where the sticks' stand.
-use Rattle.std.proofs.Common.{◌≡◌, ◌≢◌, ℕ, zero, suc, ◌+◌, ◌<◌, ◌≤◌, ℤ, Bool, true, false, List, [], ◌∷◌, ◌++◌, length, Some, refl, sym, ap, ◌∙◌, subst, arith, inl, inr, ◌⊎◌}
+use Rattle.std.proofs.Common.{◌≡◌, ℕ, zero, suc, ◌+◌, ◌<◌, ◌≤◌, ℤ, Bool, true, false, List, [], ◌∷◌, ◌++◌, length, Some, refl, sym, ap, ◌∙◌, subst, arith, inl, inr}
 use Rattle.std.specs.Prelude.{Contains, ◌&&◌, nat_lt, map, flat_map, slice_get, slice_index_or}
 use Rattle.std.specs.List.{list_any, range_with_len}
 use Rattle.std.proofs.lemmas.Bool.{ltb-true, lt-ltb, eqb-true, eq-eqb, and_parts, and_from, or_cases, or_left, or_right}
@@ -17,23 +17,20 @@ use Rattle.sym_items.specs.declared.items.Coords.{Coords}
 use Rattle.expand.specs.declared.master.Master.{Master}
 use Rattle.buried_contacts.specs.Contacts.{kind_of}
 use Rattle.plan_model.specs.declared.plan.Plan.{Plan}
-use Rattle.plan_model.specs.Instances.{Spot}
 use Rattle.crossings.specs.declared.crossing.Crossing.{Crossing}
-use Rattle.crossings.specs.Boxes.{layer_at}
 use Rattle.net_extract.specs.declared.netlist.Part.{Part}
-use Rattle.net_extract.specs.declared.netlist.Part.TheVariants.{Whole, Low, High}
 use Rattle.net_extract.specs.Places.{Place, place, crosses_box, is_crossed, parts_of_diffusion, parts_on, places_at, places_of}
 use Rattle.grid_rules.proofs.Gaps.{IsDone}
 use Rattle.conductors.specs.Conductors.{Drawn, IsDrawn, item_of}
 use Rattle.conductors.specs.Meetings.{at, master_of, IsOfClass, IsOwned, IsTransistorAt}
 use Rattle.conductors.specs.Shapes.{shapes_of, Shows, layer_of, AreShapes}
-use Rattle.conductors.specs.Sticks.{is_transistor, is_of_transistor, no_shape, places_of_shape, places_of_sticks, IsTransistor, IsOfNode, AreTransistors}
+use Rattle.conductors.specs.Sticks.{is_transistor, is_of_transistor, no_shape, places_of_shape, places_of_sticks, IsTransistor, AreTransistors}
 use Rattle.conductors.proofs.MeetingBlocks.{IsTransistorKind}
 use Rattle.conductors.proofs.MeetingBoxes.{knows}
 use Rattle.conductors.proofs.NetlistBoxes.{class_shown}
 use Rattle.conductors.proofs.NetlistCrossings.{same_truth}
 use Rattle.conductors.proofs.NetlistLists.{Has, Unique, has_map, from_map, has_flat, from_flat, has_range, from_range, number_of, has_at, same_number, unique_map, unique_flat, unique_range}
-use Rattle.conductors.proofs.NetlistShapes.{shown, one_item, one_number, each_shown, shown_below}
+use Rattle.conductors.proofs.NetlistShapes.{one_item, one_number, each_shown, shown_below}
 
 -- ---- lists
 
