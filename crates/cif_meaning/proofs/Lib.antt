@@ -1,3 +1,6 @@
 pub mod Numbers
 pub mod Spelled
 pub mod CommandLines
+pub mod Commands
+pub mod TextLines
+pub mod PictureLines
