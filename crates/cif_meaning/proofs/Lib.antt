@@ -4,3 +4,4 @@ pub mod CommandLines
 pub mod Commands
 pub mod TextLines
 pub mod PictureLines
+pub mod DefinitionActs
