@@ -1,5 +1,5 @@
 -- Each line of the text of a picture is a command, its semicolon and a line feed.
-use Rattle.std.proofs.Common.{◌≡◌, ◌≢◌, ℕ, ◌+◌, ◌^◌, ◌<◌, ◌≤◌, ℤ, pos, ◌+ℤ◌, Bool, true, false, ◌||◌, inl, inr, Some, List, [], ◌∷◌, ◌++◌, length, refl, sym, ap, ◌∙◌, subst, append_assoc, append-nil, arith, codes, decimal, IsTrue}
+use Rattle.std.proofs.Common.{◌≡◌, ◌≢◌, ℕ, ◌^◌, ◌≤◌, ℤ, pos, Bool, true, false, ◌||◌, inl, inr, Some, List, [], ◌∷◌, ◌++◌, refl, sym, ap, ◌∙◌, subst, append_assoc, append-nil, arith, codes, decimal, IsTrue}
 use Rattle.std.specs.Fmt.{signed_decimal}
 use Rattle.std.specs.List.{All}
 use Rattle.std.proofs.lemmas.Fmt.{decimal_digit}
@@ -7,7 +7,7 @@ use Rattle.std.proofs.lemmas.List.Elements.{All-nil, All-cons}
 use Rattle.lam_geom.specs.declared.boxes.MaskLayer.{MaskLayer}
 use Rattle.lam_geom.specs.declared.boxes.MaskLayer.TheVariants.{ND, NP, NC, NM, NI, NB}
 use Rattle.cif_lex.specs.declared.command.Command.{Command}
-use Rattle.cif_lex.specs.declared.command.Command.TheVariants.{Nothing, Define, Finish, Layer, Area, Call, Extension}
+use Rattle.cif_lex.specs.declared.command.Command.TheVariants.{Define, Finish, Layer, Area, Call, Extension}
 use Rattle.cif_lex.specs.Blanks.{is_blank, IsFiller, IsGap}
 use Rattle.cif_lex.specs.Words.{Word, letter, number, name, is_name_byte, AreSpelled}
 use Rattle.cif_lex.specs.Commands.{is_far, HasWords, IsBody}

@@ -1,5 +1,5 @@
 -- What the commands of a symbol's boxes make of a definition that has begun.
-use Rattle.std.proofs.Common.{◌≡◌, ℕ, ◌+◌, ◌^◌, ◌<◌, ◌≤◌, ℤ, pos, neg_ℤ, ◌+ℤ◌, ◌-ℤ◌, ◌*ℤ◌, ◌≤ℤ◌, ◌<ℤ◌, int_lt, int_eq, int_div, int_rem, Bool, true, false, not, ◌||◌, cond, Option, Some, None, Result, Ok, Err, List, [], ◌∷◌, ◌++◌, map, filter, flat_map, fold, refl, sym, ap, ◌∙◌, subst, append_assoc, append-nil, arith}
+use Rattle.std.proofs.Common.{◌≡◌, ℤ, pos, ◌+ℤ◌, ◌-ℤ◌, ◌*ℤ◌, ◌≤ℤ◌, ◌<ℤ◌, int_lt, int_eq, Bool, false, not, ◌||◌, cond, Option, Some, None, Result, Ok, List, [], ◌∷◌, ◌++◌, map, flat_map, fold, refl, sym, ap, ◌∙◌, append_assoc, append-nil, arith}
 use Rattle.std.specs.List.{AllByRecursion}
 use Rattle.std.proofs.lemmas.Int.{ints}
 use Rattle.std.proofs.lemmas.List.{map-append}
@@ -11,7 +11,7 @@ use Rattle.cif_lex.specs.declared.command.Command.TheVariants.{Layer, Area}
 use Rattle.cif_lex.specs.Commands.{is_far}
 use Rattle.cif_read.specs.declared.fault.CifKind.{CifKind}
 use Rattle.cif_read.specs.Sheets.{Drawn, Symbol, Step}
-use Rattle.cif_read.specs.Acts.{Named, Definition, State, is_bad_length, is_bad_area, scaled, is_odd, is_odd_area, drawn_box, kept, act, then_act}
+use Rattle.cif_read.specs.Acts.{Named, State, is_bad_length, is_bad_area, scaled, is_odd, is_odd_area, drawn_box, act, then_act}
 use Rattle.cif_meaning.specs.Written.{IsNumber, IsUnit, IsWritableMask, drawn_mask}
 use Rattle.cif_meaning.proofs.Numbers.{over_one, left_by_one, not_below, lower, upper}
 use Rattle.cif_meaning.proofs.Spelled.{not_far}
@@ -44,10 +44,10 @@ inside symbols number half layer boxes =
 
 -- ---- a box
 
-none_of_four : (a b c d : Bool) → a ≡ false → b ≡ false → c ≡ false → d ≡ false → (a || b || c || d) ≡ false
+pub none_of_four : (a b c d : Bool) → a ≡ false → b ≡ false → c ≡ false → d ≡ false → (a || b || c || d) ≡ false
 none_of_four a b c d p q r s = rw (p, q, r, s)
 
-none_of_two : (a b : Bool) → a ≡ false → b ≡ false → (a || b) ≡ false
+pub none_of_two : (a b : Bool) → a ≡ false → b ≡ false → (a || b) ≡ false
 none_of_two a b p q = rw (p, q)
 
 fine_length : (a b : ℤ) → a <ℤ b → IsNumber (pos 2 *ℤ (b -ℤ a)) → is_bad_length (pos 2 *ℤ (b -ℤ a)) ≡ false
@@ -129,7 +129,7 @@ layer_adds unit is symbols number named boxes layer [] h = record { named_after 
 layer_adds unit is symbols number named boxes layer (m ∷ masks) h = record {
   named_after = Some (Some layer);
   goes = then_goes (inside symbols number is.half named boxes) (inside symbols number is.half (Some (Some layer)) boxes) (Layer (Some layer)) (map box_command (m ∷ masks)) _ (name_acts symbols number is.half named boxes layer)
-    (boxes_act unit is symbols number layer (m ∷ masks) boxes h);
+      (boxes_act unit is symbols number layer (m ∷ masks) boxes h);
 }
 
 pub layers_add : (unit : ℤ) (is : IsUnit unit) (symbols : List Symbol) (number : ℤ) (masks : List Mask) (layers : List MaskLayer) (named : Option Named) (boxes : List Drawn)
@@ -144,6 +144,6 @@ layers_add unit is symbols number masks (layer ∷ layers) named boxes h =
     record {
       named_after = rest.named_after;
       goes = goes_on (inside symbols number is.half named boxes) (inside symbols number is.half first.named_after (boxes ++ own)) (layer_commands layer (on_layer masks layer)) (layers_commands masks layers) _ first.goes
-        (rest.goes ∙ ap (λ (b : List Drawn). Ok (inside symbols number is.half rest.named_after b))
-        (append_assoc boxes own (map (drawn_mask unit) others) ∙ ap (λ (b : List Drawn). boxes ++ b) (sym (map-append (drawn_mask unit) (on_layer masks layer) others))));
+          (rest.goes ∙ ap (λ (b : List Drawn). Ok (inside symbols number is.half rest.named_after b))
+          (append_assoc boxes own (map (drawn_mask unit) others) ∙ ap (λ (b : List Drawn). boxes ++ b) (sym (map-append (drawn_mask unit) (on_layer masks layer) others))));
     }

@@ -5,3 +5,7 @@ pub mod Commands
 pub mod TextLines
 pub mod PictureLines
 pub mod DefinitionActs
+pub mod SymbolActs
+pub mod CallActs
+pub mod FlatPictures
+pub mod MeantPictures

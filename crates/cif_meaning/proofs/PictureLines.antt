@@ -1,5 +1,5 @@
 -- The text of a picture is lines of its commands, and behind them the end.
-use Rattle.std.proofs.Common.{◌≡◌, ◌≢◌, ℕ, suc, ◌+◌, ◌^◌, ◌<◌, ◌≤◌, ℤ, pos, ◌*ℤ◌, ◌≤ℤ◌, int_div, Bool, List, [], ◌∷◌, ◌++◌, length, map, filter, flat_map, get_or, refl, sym, ap, ◌∙◌, subst, append_assoc, append-nil, arith, codes, All, Some, decimal}
+use Rattle.std.proofs.Common.{◌≡◌, ◌≢◌, ℕ, ◌+◌, ◌^◌, ◌<◌, ◌≤◌, ℤ, pos, ◌*ℤ◌, int_div, List, [], ◌∷◌, ◌++◌, length, map, flat_map, get_or, refl, sym, ap, ◌∙◌, subst, append_assoc, append-nil, arith, codes, All, decimal}
 use Rattle.std.specs.Fmt.{signed_decimal}
 use Rattle.std.specs.List.{AllByRecursion, range_with_len}
 use Rattle.std.proofs.lemmas.Int.{ints}
@@ -11,14 +11,13 @@ use Rattle.lam_geom.specs.declared.boxes.MaskLayer.{MaskLayer}
 use Rattle.mask_out.specs.declared.picture.Call as drawn
 use Rattle.mask_out.specs.Masks.{Mask, is_same_layer, mask_layers}
 use Rattle.mask_out.specs.Pictures.{Drawing, no_drawing}
-use Rattle.cif_lex.specs.declared.command.Command.{Command}
-use Rattle.cif_lex.specs.declared.command.Command.TheVariants.{Define, Finish, Layer, Area, Call, Extension}
+use Rattle.cif_lex.specs.declared.command.Command.TheVariants.{Define, Finish}
 use Rattle.cif_text.specs.Cif.{box_text, layer_name, layer_text, layers_text, scale_line, symbol_text}
 use Rattle.cif_text.specs.Calls.{call_text, text_at, texts_of, cif_of}
 use Rattle.cif_meaning.specs.Written.{IsNumber, IsUnit, IsWritableMask, IsWritableDrawing, IsWritableCall, IsWritablePicture}
 use Rattle.cif_meaning.proofs.Numbers.{half_of}
 use Rattle.cif_meaning.proofs.CommandLines.{IsLineOf, box_is_line, call_is_line, layer_is_line, define_is_line, finish_is_line, extension_is_line}
-use Rattle.cif_meaning.proofs.TextLines.{AreLines, then_lines, one_line, lines_append, flat_lines, each_line}
+use Rattle.cif_meaning.proofs.TextLines.{AreLines, one_line, lines_append, flat_lines, each_line}
 use Rattle.cif_meaning.proofs.Commands.{box_command, layer_commands, on_layer, layers_commands, symbol_commands, commands_at, symbols_commands, call_command, picture_commands}
 
 pub all_every : {X : Type 0} (P : X → Type 0) → ((x : X) → P x) → (xs : List X) → AllByRecursion P xs
@@ -96,7 +95,7 @@ picture_lines unit drawings calls is =
       lines = own ++ placed;
       are_lines = lines_append (symbols_commands is.is_unit.half drawings) (map (call_command unit) calls) own placed (symbols_lines unit is.is_unit drawings is.few is.drawn) (calls_lines unit (length drawings) calls is.few is.called);
       whole =
-      flat_map-append (λ (t : List ℕ). t) (texts_of unit drawings) ((placed ++ end) ∷ [])
-      ∙ (ap (λ (t : List ℕ). t ++ ((placed ++ end) ++ [])) (flat_map-map (λ (t : List ℕ). t) (text_at unit drawings) (range_with_len 0 (length drawings)))
-      ∙ (ap (λ (t : List ℕ). own ++ t) (append-nil (placed ++ end)) ∙ sym (append_assoc own placed end)));
+          flat_map-append (λ (t : List ℕ). t) (texts_of unit drawings) ((placed ++ end) ∷ [])
+          ∙ (ap (λ (t : List ℕ). t ++ ((placed ++ end) ++ [])) (flat_map-map (λ (t : List ℕ). t) (text_at unit drawings) (range_with_len 0 (length drawings)))
+          ∙ (ap (λ (t : List ℕ). own ++ t) (append-nil (placed ++ end)) ∙ sym (append_assoc own placed end)));
     }

@@ -1,5 +1,5 @@
 -- The numbers of a picture are written as CIF spells them, and none is past the limit.
-use Rattle.std.proofs.Common.{◌≡◌, ℕ, suc, ◌+◌, ◌^◌, ◌<◌, ◌≤◌, ℤ, pos, negsuc, neg_ℤ, nat_abs, nat_lt, min, Bool, true, false, List, ◌∷◌, length, get_or, refl, sym, ap, arith, IsTrue, decimal}
+use Rattle.std.proofs.Common.{◌≡◌, ℕ, suc, ◌^◌, ◌≤◌, ℤ, pos, negsuc, neg_ℤ, nat_lt, true, false, List, get_or, refl, sym, ap, arith, IsTrue, decimal}
 use Rattle.std.specs.Fmt.{signed_decimal}
 use Rattle.std.specs.Int.{IsInRange}
 use Rattle.std.specs.List.{All}
@@ -10,7 +10,7 @@ use Rattle.std.proofs.lemmas.Int.{ints}
 use Rattle.std.proofs.lemmas.List.Elements.{All-from_get_or}
 use Rattle.std.proofs.lemmas.Str.Parse.{digit_at}
 use Rattle.std.proofs.lemmas.Bool.Decides.{nat_tests}
-use Rattle.cif_lex.specs.Words.{number, IsNumeral, IsSpelled, capped}
+use Rattle.cif_lex.specs.Words.{number, IsSpelled, capped}
 use Rattle.cif_lex.specs.Commands.{is_far}
 use Rattle.cif_meaning.specs.Written.{IsNumber}
 

@@ -59,6 +59,6 @@ cut (c ∷ commands) gap text is (line, rest, e, own, others) =
       gap = more.gap;
       is_gap = more.is_gap;
       whole =
-      ap (λ (t : List ℕ). gap ++ t) (e ∙ ap (λ (t : List ℕ). t ++ rest) own.joined)
-      ∙ (seam gap own.body rest ∙ (ap (λ (t : List ℕ). piece ++ t) more.whole ∙ sym (append_assoc piece (joined more.pieces) more.gap)));
+          ap (λ (t : List ℕ). gap ++ t) (e ∙ ap (λ (t : List ℕ). t ++ rest) own.joined)
+          ∙ (seam gap own.body rest ∙ (ap (λ (t : List ℕ). piece ++ t) more.whole ∙ sym (append_assoc piece (joined more.pieces) more.gap)));
     }

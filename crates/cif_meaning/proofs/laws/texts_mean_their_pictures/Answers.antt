@@ -1,7 +1,6 @@
-use Rattle.cif_meaning.proofs.TextLines.{cut}
-use Rattle.cif_meaning.proofs.PictureLines.{picture_lines}
-use Rattle.cif_meaning.proofs.DefinitionActs.{layers_add}
+use Rattle.cif_meaning.proofs.MeantPictures.{picture_meant}
+use Rattle.cif_meaning.proofs.FlatPictures.{flat_picture}
 use Rattle.cif_meaning.proofs.laws.texts_mean_their_pictures.Goals as goal
 
 pub returns : goal.returns
-returns c = ?
+returns c = record { means = picture_meant; flat = flat_picture }
