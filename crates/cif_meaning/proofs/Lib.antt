@@ -9,3 +9,5 @@ pub mod SymbolActs
 pub mod CallActs
 pub mod FlatPictures
 pub mod MeantPictures
+pub mod LayersApart
+pub mod Extents
