@@ -9,7 +9,7 @@ use Rattle.cif_read.specs.declared.file.CifFile.{CifFile}
 use Rattle.cif_read.specs.declared.file.CifSymbol.{CifSymbol}
 use Rattle.cif_read.specs.declared.file.CifStep.{CifStep}
 use Rattle.cif_read.specs.declared.file.CifStep.TheVariants.{Own, Called}
-use Rattle.cif_read.specs.Sheets.{Drawn, Symbol, Step, own, called, Sheet}
+use Rattle.cif_read.specs.Sheets.{Drawn, Symbol, Step, own, called, Sheet, boxes_of_step}
 use Rattle.cif_read.specs.Meaning.{IsFirstFault}
 
 abbrev pub drawn_of : MaskBox → Drawn
@@ -31,6 +31,9 @@ step_of boxes (Called symbol x y) = called symbol x y
 
 abbrev pub sheet_of : CifFile → Sheet
 sheet_of file = record { symbols = map symbol_of file.symbols; steps = map (step_of file.boxes) file.order }
+
+abbrev pub drawn_in_step : CifFile → CifStep → List Drawn
+drawn_in_step file step = boxes_of_step (sheet_of file).symbols (step_of file.boxes step)
 
 -- ---- a file that can be flattened
 

@@ -8,7 +8,11 @@
 mod fault;
 mod file;
 mod flattening;
+mod numbers;
 mod reading;
+mod state;
+#[cfg(test)]
+mod tests;
 
 pub use fault::{CifFault, CifKind, CifReadFault, FlatFault};
 pub use file::{CifFile, CifStep, CifSymbol};
