@@ -1,5 +1,5 @@
 -- What a reader keeps, as a state; and what holds of it.
-use Rattle.std.specs.Prelude.{◌≡◌, ℕ, ◌+◌, ◌<◌, ◌≤◌, ◌^◌, ℤ, pos, ◌≤ℤ◌, ◌<ℤ◌, neg_ℤ, All, ForSome, MatchOption, Bool, false, if◌then◌else◌, Option, Some, None, Result, Ok, Err, List, map, length, option_map}
+use Rattle.std.specs.Prelude.{◌≡◌, ℕ, ◌+◌, ◌<◌, ◌≤◌, ◌^◌, ℤ, pos, ◌≤ℤ◌, ◌<ℤ◌, neg_ℤ, All, IfSome, Bool, false, if◌then◌else◌, Option, Some, None, Result, Ok, Err, List, map, length, option_map}
 use Rattle.std.specs.Ordering.{nat_cmp}
 use Rattle.std.specs.BTreeMap.{BTreeMap, get}
 use Rattle.lam_geom.specs.declared.boxes.MaskBox.{MaskBox}
@@ -64,7 +64,7 @@ pub record IsSoundBegun (count : ℕ) (b : Begun) : Type 0 where
 -- at most so many of each, and they fit together
 pub record AreSound (count : ℕ) (symbols : List CifSymbol) (boxes : List MaskBox) (order : List CifStep) : Type 0 where
   pub in_symbols : All (λ (symbol : CifSymbol). All (IsSolidWithin (2 ^ 50)) (map drawn_of symbol.boxes)) symbols
-  pub boxes : All (IsSolidWithin (2 ^ 50)) (map drawn_of boxes)
+  pub at_top : All (IsSolidWithin (2 ^ 50)) (map drawn_of boxes)
   pub steps : All (IsStepOf (length symbols) (length boxes)) order
   pub few_symbols : length symbols ≤ count
   pub few_boxes : length boxes ≤ count
@@ -81,8 +81,8 @@ pub record HasPlaces (places : BTreeMap ℕ ℕ) (symbols : List Symbol) : Type 
 pub record IsSound (count : ℕ) (r : Reading) : Type 0 where
   pub done : AreSound count r.symbols.items r.boxes.items r.order.items
   pub places : HasPlaces r.places (map symbol_of r.symbols.items)
-  pub begun : ForSome r.begun (IsSoundBegun count)
-  pub fresh : ForSome r.begun (λ b. is_known (pos b.number) (map symbol_of r.symbols.items) ≡ false)
+  pub begun : IfSome r.begun (IsSoundBegun count)
+  pub fresh : IfSome r.begun (λ b. is_known (pos b.number) (map symbol_of r.symbols.items) ≡ false)
 
 -- so many bytes have been read, and this was made of them
 pub record HasRead (text : List ℕ) (read : ℕ) (r : Reading) : Type 0 where

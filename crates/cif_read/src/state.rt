@@ -82,7 +82,8 @@ impl Begun {
             return Err(Stop::Refused(CifKind::OddScale));
         }
         if let Some(layer) = named {
-            self.boxes.push(self.scaled_box(layer, l, w, x, y))?;
+            let scaled = self.scaled_box(layer, l, w, x, y);
+            self.boxes.push(scaled)?;
         }
         Ok(())
     }
@@ -141,7 +142,8 @@ impl Reading {
         let Some(begun) = self.begun.take() else {
             return Err(Stop::Refused(CifKind::BadCommand));
         };
-        self.places.insert(begun.number, self.symbols.len() as u32)?;
+        let place = self.symbols.len() as u32;
+        self.places.insert(begun.number, place)?;
         self.symbols.push(CifSymbol {
             number: begun.number,
             boxes: Seq::from_vec(begun.boxes),
@@ -174,7 +176,8 @@ impl Reading {
             return Err(Stop::Refused(CifKind::NoLayer));
         };
         if let Some(layer) = named {
-            self.order.push(CifStep::Own(self.boxes.len() as u32))?;
+            let own = CifStep::Own(self.boxes.len() as u32);
+            self.order.push(own)?;
             self.boxes.push(drawn_box(layer, l, w, x, y))?;
         }
         Ok(())

@@ -1,0 +1,5 @@
+pub mod Scales
+pub mod Placing
+pub mod Sound
+pub mod Calling
+pub mod Commands
