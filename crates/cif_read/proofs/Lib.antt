@@ -3,3 +3,4 @@ pub mod Placing
 pub mod Sound
 pub mod Calling
 pub mod Commands
+pub mod Flat
