@@ -4,3 +4,4 @@ pub mod Sound
 pub mod Calling
 pub mod Commands
 pub mod Flat
+pub mod Beginnings

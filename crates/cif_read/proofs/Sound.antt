@@ -13,24 +13,28 @@ use Rattle.cif_read.specs.declared.file.CifSymbol.{CifSymbol}
 use Rattle.cif_read.specs.declared.file.CifStep.{CifStep}
 use Rattle.cif_read.specs.declared.file.CifStep.TheVariants.{Own, Called}
 use Rattle.cif_read.specs.declared.state.Begun.{Begun}
+use Rattle.cif_read.specs.declared.state.Reading.{Reading}
 use Rattle.cif_read.specs.Sheets.{Symbol, Step, Drawn, own}
 use Rattle.cif_read.specs.Acts.{is_known, place_of, has_number}
 use Rattle.cif_read.specs.Files.{drawn_of, symbol_of, step_of, no_box, IsSolidWithin, IsStepOf}
-use Rattle.cif_read.specs.Readings.{IsSoundBegun, AreSound, HasPlaces, place_among}
+use Rattle.cif_read.specs.Readings.{IsSoundBegun, AreSound, IsSound, HasPlaces, place_among}
 use Rattle.cif_read.proofs.Placing.{solid_more}
 
 -- ---- one more
 
-pub done_later : (count : ℕ) (symbols : List CifSymbol) (boxes : List MaskBox) (order : List CifStep) → AreSound count symbols boxes order → AreSound (count + 1) symbols boxes order
-done_later count symbols boxes order h = record {
+done_more : (count more : ℕ) (symbols : List CifSymbol) (boxes : List MaskBox) (order : List CifStep) → count ≤ more → AreSound count symbols boxes order → AreSound more symbols boxes order
+done_more count more symbols boxes order le h = record {
   in_symbols = h.in_symbols;
   at_top = h.at_top;
   steps = h.steps;
   few_symbols = omega arith;
   few_boxes = omega arith;
   few_steps = omega arith;
-  few_in_symbols = All-weaker (λ (symbol : CifSymbol). length symbol.boxes ≤ count) (λ (symbol : CifSymbol). length symbol.boxes ≤ count + 1) (λ symbol few. omega arith) symbols h.few_in_symbols
+  few_in_symbols = All-weaker (λ (symbol : CifSymbol). length symbol.boxes ≤ count) (λ (symbol : CifSymbol). length symbol.boxes ≤ more) (λ symbol few. omega arith) symbols h.few_in_symbols
 }
+
+pub done_later : (count : ℕ) (symbols : List CifSymbol) (boxes : List MaskBox) (order : List CifStep) → AreSound count symbols boxes order → AreSound (count + 1) symbols boxes order
+done_later count symbols boxes order h = done_more count (count + 1) symbols boxes order (omega arith) h
 
 pub none_solid : (boxes : List MaskBox) → boxes ≡ [] → All (IsSolidWithin (2 ^ 50)) (map drawn_of boxes)
 none_solid boxes e = subst (λ bs. All (IsSolidWithin (2 ^ 50)) (map drawn_of bs)) (sym e) (All-nil (IsSolidWithin (2 ^ 50)))
@@ -38,12 +42,23 @@ none_solid boxes e = subst (λ bs. All (IsSolidWithin (2 ^ 50)) (map drawn_of bs
 pub none_few : (boxes : List MaskBox) (count : ℕ) → boxes ≡ [] → length boxes ≤ count
 none_few boxes count e = omega (arith, ap length e)
 
-begun_one : (count : ℕ) (b : Begun) → IsSoundBegun count b → IsSoundBegun (count + 1) b
-begun_one count b h = record { above = h.above; below = h.below; boxes = h.boxes; few = omega arith }
+begun_one : (count more : ℕ) (b : Begun) → count ≤ more → IsSoundBegun count b → IsSoundBegun more b
+begun_one count more b le h = record { above = h.above; below = h.below; boxes = h.boxes; few = omega arith }
+
+begun_more : (count more : ℕ) (begun : Option Begun) → count ≤ more → IfSome begun (IsSoundBegun count) → IfSome begun (IsSoundBegun more)
+begun_more count more None le h = tt
+begun_more count more (Some b) le h = begun_one count more b le h
 
 pub begun_later : (count : ℕ) (begun : Option Begun) → IfSome begun (IsSoundBegun count) → IfSome begun (IsSoundBegun (count + 1))
-begun_later count None h = tt
-begun_later count (Some b) h = begun_one count b h
+begun_later count begun h = begun_more count (count + 1) begun (omega arith) h
+
+pub sound_more : (count more : ℕ) (r : Reading) → count ≤ more → IsSound count r → IsSound more r
+sound_more count more r le h = record {
+  done = done_more count more r.symbols.items r.boxes.items r.order.items le h.done;
+  places = h.places;
+  begun = begun_more count more r.begun le h.begun;
+  fresh = h.fresh
+}
 
 -- a step stays one where there are more symbols and boxes
 step_later : (s t b d : ℕ) (step : CifStep) → s ≤ t → b ≤ d → IsStepOf s b step → IsStepOf t d step
