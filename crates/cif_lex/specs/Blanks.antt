@@ -1,5 +1,5 @@
 -- What stands between the words of a CIF text: blanks and comments.
-use Rattle.std.specs.Prelude.{◌≡◌, ℕ, ◌+◌, ◌<◌, ◌≤◌, ◌==◌, Bool, not, ◌&&◌, ◌||◌, ◌⊎◌, All, IsTrue, List, [], ◌∷◌, ◌++◌, length, take, flat_map, count_by}
+use Rattle.std.specs.Prelude.{◌≡◌, ℕ, ◌<◌, ◌==◌, Bool, not, ◌||◌, ◌⊎◌, All, IsTrue, List, [], ◌∷◌, length, take, flat_map, count_by}
 use Rattle.std.specs.Char.{is_ascii_digit, is_ascii_uppercase}
 
 abbrev pub opening : ℕ
@@ -57,11 +57,10 @@ pub record IsGap (text : List ℕ) : Type 0 where
 abbrev pub IsCutOff : List ℕ → Type 0
 IsCutOff text = (text ≡ []) ⊎ IsUnclosed text
 
--- neither a gap nor the end: what stands here is no blank, no comment and no comment without an end
+-- neither a gap nor the end: what stands here is no blank, and no parenthesis that opens a comment, with an end or without one
 pub record IsFilled (text : List ℕ) : Type 0 where
   pub first : ℕ
   pub more : List ℕ
   pub begun : text ≡ first ∷ more
   pub no_blank : IsTrue (is_blank first) → ⊥
-  pub no_comment : (comment rest : List ℕ) → text ≡ comment ++ rest → IsComment comment → ⊥
-  pub no_unclosed : IsUnclosed text → ⊥
+  pub no_opening : first ≡ opening → ⊥

@@ -127,3 +127,11 @@ abbrev pub IsTail : List ℕ → ℕ → Tail → Type 0
 IsTail bytes read tails.Clean = IsGap (drop read bytes)
 IsTail bytes read (tails.Filled begin) = (text : List ℕ) × Follows bytes read begin text × IsFilled text
 IsTail bytes read tails.Unclosed = (begin : ℕ) × (text : List ℕ) × Follows bytes read begin text × IsUnclosed text
+
+-- ---- one answer at each place
+
+abbrev pub NextIsDetermined : Type 0
+NextIsDetermined = (bytes : List ℕ) (read : ℕ) (a b : Next) → IsNext bytes read a → IsNext bytes read b → a ≡ b
+
+abbrev pub TailIsDetermined : Type 0
+TailIsDetermined = (bytes : List ℕ) (read : ℕ) (a b : Tail) → IsTail bytes read a → IsTail bytes read b → a ≡ b

@@ -1,3 +1,5 @@
 pub mod Blanks
 pub mod Words
 pub mod Commands
+pub mod Reading
+pub mod Forms

@@ -2,9 +2,18 @@
 //!
 //! What the layer above uses: `next` gives the command that comes next, where it begins and ends, or says why there is none;
 //! `tail` says what stands behind the end. Which commands may follow one another, and what they draw, is the business of the
-//! layer above.
+//! layer above. `commands_are_determined` is the law that each place of a text has one answer.
 #![tactic(auto)]
 
 mod command;
+mod forms;
+mod gaps;
+mod laws;
+mod numbers;
+mod reading;
+#[cfg(test)]
+mod tests;
 
 pub use command::{Command, Next, Tail};
+pub use laws::commands_are_determined;
+pub use reading::{next, tail};

@@ -1,0 +1,16 @@
+pub mod OneGap
+pub mod Comments
+pub mod Numerals
+pub mod Stops
+pub mod OneWord
+pub mod ReadNumbers
+pub mod CommandWords
+pub mod AreaForm
+pub mod BracketForm
+pub mod LayerForm
+pub mod CallForm
+pub mod Bodies
+pub mod AnyForm
+pub mod Following
+pub mod OneCommand
+pub mod OneAnswer

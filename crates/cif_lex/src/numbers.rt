@@ -1,0 +1,83 @@
+//! Numbers.
+ghost use Rattle.std.specs.Prelude.{◌≡◌, ◌+◌, ◌<◌, ◌≤◌, IsTrue, All, take, drop, length};
+ghost use Rattle.std.specs.Char.{is_ascii_digit};
+ghost use Rattle.cif_lex.specs.Words.{capped, StopsAt};
+ghost use Rattle.cif_lex.specs.Reading.{IsNumberAnswer, IsPairAnswer};
+
+use crate::gaps::{begins_with, gap_length};
+
+/// One past the greatest distance of a number from 0.
+const PAST_LIMIT: u64 = 1_073_741_825;
+
+/// A number that was read: what it is, and how many bytes it and the gap behind it take.
+#[derive(Clone, Copy)]
+pub(crate) struct Number {
+    pub(crate) value: i64,
+    pub(crate) length: usize,
+}
+
+/// Two numbers that were read, and how many bytes they and the gaps behind them take.
+#[derive(Clone, Copy)]
+pub(crate) struct Pair {
+    pub(crate) first: i64,
+    pub(crate) second: i64,
+    pub(crate) length: usize,
+}
+
+// How many digits a text begins with.
+fn digits_length(text: &[u8]) -> usize
+    ensures within { result ≤ length text.now }
+    ensures digits { All (λ b. IsTrue (is_ascii_digit b)) (take result text.now) }
+    ensures longest { StopsAt is_ascii_digit (drop result text.now) }
+{
+    for (i, b) in text.iter().enumerate() {
+        if !b.is_ascii_digit() {
+            return i;
+        }
+    }
+    text.len()
+}
+
+// How far the number is from 0 that the digits stand for; all past the limit count as one past it.
+fn distance(digits: &[u8]) -> u64
+    requires { All (λ b. IsTrue (is_ascii_digit b)) digits.now }
+    ensures value { result ≡ capped digits.now }
+    ensures small { result ≤ 1073741825 }
+{
+    let mut distance = 0;
+    for digit in digits {
+        distance = (distance * 10 + u64::from(*digit - b'0')).min(PAST_LIMIT);
+    }
+    distance
+}
+
+/// The number that a text begins with, and the gap behind it.
+pub(crate) fn read_number(text: &[u8]) -> Option<Number>
+    ensures { IsNumberAnswer text.now result }
+{
+    let negative = begins_with(text, b'-');
+    let begin = usize::from(negative);
+    let length = digits_length(&text[begin..]);
+    if length == 0 {
+        return None;
+    }
+    let end = begin + length;
+    let distance = distance(&text[begin..end]) as i64;
+    Some(Number {
+        value: if negative { -distance } else { distance },
+        length: end + gap_length(&text[end..]),
+    })
+}
+
+/// The two numbers that a text begins with, and the gaps behind them.
+pub(crate) fn read_pair(text: &[u8]) -> Option<Pair>
+    ensures { IsPairAnswer text.now result }
+{
+    let first = read_number(text)?;
+    let second = read_number(&text[first.length..])?;
+    Some(Pair {
+        first: first.value,
+        second: second.value,
+        length: first.length + second.length,
+    })
+}
