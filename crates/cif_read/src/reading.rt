@@ -1,7 +1,7 @@
 //! From a text to what it draws.
 ghost use Rattle.std.specs.Prelude.{◌≡◌, ◌^◌, ◌<◌, ◌≤◌, None, IfOk, IfErr, OnOk, MatchOption, length};
 ghost use Rattle.cif_lex.specs.declared.command.Next.TheVariants as nexts;
-ghost use Rattle.cif_lex.specs.Commands.{IsNext, IsTail};
+ghost use Rattle.cif_lex.specs.Commands.{IsNext};
 ghost use Rattle.cif_read.specs.declared.fault.CifReadFault.TheVariants as faults;
 ghost use Rattle.cif_read.specs.Meaning.{Means};
 ghost use Rattle.cif_read.specs.Files.{sheet_of, CanBeFlattened, IsCauseOf};
@@ -10,7 +10,7 @@ ghost use Rattle.cif_read.specs.Readings.{state_of, sheet_of_state, cause_of, Is
 use crate::fault::{CifFault, CifKind, CifReadFault, Stop};
 use crate::file::CifFile;
 use crate::state::Reading;
-use cif_lex::{Next, Tail};
+use cif_lex::{Next, Tail, next, tail};
 use lam_list::Seq;
 use std::alloc::Global;
 
@@ -48,7 +48,7 @@ fn read_next(
     ensures next { IfOk result (λ end. MatchOption end (read.old < read.new) (λ begin. IsNext bytes.now read.new (nexts.End begin))) }
     ensures fault { IfErr result (IsCauseOf bytes.now) }
 {
-    match next_command(bytes, *read) {
+    match next(bytes, *read) {
         Next::Whole {
             begin,
             command,
@@ -99,7 +99,7 @@ fn read_end(bytes: &[u8], begin: usize, reading: &Reading) -> Result<(), CifRead
     if reading.begun.is_some() {
         return Err(fault_at(begin, CifKind::NestedDefinition));
     }
-    match tail_of(bytes, begin + 1) {
+    match tail(bytes, begin + 1) {
         Tail::Clean => Ok(()),
         Tail::Filled { begin } => Err(fault_at(begin, CifKind::AfterEnd)),
         Tail::Unclosed => Err(fault_at(bytes.len(), CifKind::NoEnd)),
@@ -129,21 +129,4 @@ pub fn read_cif(alloc: Global, bytes: &[u8]) -> Result<CifFile, CifReadFault>
     let begin = read_commands(alloc, bytes, &mut reading)?;
     read_end(bytes, begin, &reading)?;
     Ok(file_of(reading))
-}
-
-// In the place of the call of cif_lex until that is proved: what comes next.
-fn next_command(bytes: &[u8], read: usize) -> Next
-    requires within { read ≤ length bytes.now }
-    requires few { length bytes.now ≤ 2 ^ 26 }
-    ensures { IsNext bytes.now read result }
-{
-    Next::Missing
-}
-
-// In the place of the call of cif_lex until that is proved: what stands behind the end.
-fn tail_of(bytes: &[u8], read: usize) -> Tail
-    requires within { read ≤ length bytes.now }
-    ensures { IsTail bytes.now read result }
-{
-    Tail::Clean
 }

@@ -1,4 +1,0 @@
-use Rattle.cif_read.proofs.reading.tail_of.Goals as goal
-
-pub returns : goal.returns
-returns c = ?
