@@ -53,10 +53,10 @@ spelled_push [] (p ∷ ps) command piece all one = absurd all
 spelled_push (c ∷ cs) [] command piece all one = absurd all
 spelled_push (c ∷ cs) (p ∷ ps) command piece all one = (all.0, spelled_push cs ps command piece all.1 one)
 
-piece_left : (gap body rest : List ℕ) → (gap ++ (body ++ (semicolon ∷ []))) ++ rest ≡ gap ++ (body ++ (semicolon ∷ rest))
+pub piece_left : (gap body rest : List ℕ) → (gap ++ (body ++ (semicolon ∷ []))) ++ rest ≡ gap ++ (body ++ (semicolon ∷ rest))
 piece_left gap body rest = append_assoc gap (body ++ (semicolon ∷ [])) rest ∙ ap (λ zs. gap ++ zs) (append_assoc body (semicolon ∷ []) rest)
 
-piece_length : (gap body : List ℕ) → length (gap ++ (body ++ (semicolon ∷ []))) ≡ length gap + (length body + 1)
+pub piece_length : (gap body : List ℕ) → length (gap ++ (body ++ (semicolon ∷ []))) ≡ length gap + (length body + 1)
 piece_length gap body = length-append gap (body ++ (semicolon ∷ [])) ∙ ap (λ n. length gap + n) (length-append body (semicolon ∷ []))
 
 -- one more command
@@ -76,10 +76,10 @@ begins_more text read begin after state done command well (body, rest, is_body, 
       done = acts_push well.commands command state well.done ∙ acted
     }
 
-end_left : (front gap rest : List ℕ) → front ++ (gap ++ (69 ∷ rest)) ≡ (front ++ (gap ++ (69 ∷ []))) ++ rest
+pub end_left : (front gap rest : List ℕ) → front ++ (gap ++ (69 ∷ rest)) ≡ (front ++ (gap ++ (69 ∷ []))) ++ rest
 end_left front gap rest = sym (append_assoc front (gap ++ (69 ∷ [])) rest ∙ ap (λ zs. front ++ zs) (append_assoc gap (69 ∷ []) rest))
 
-end_length : (front gap : List ℕ) → length (front ++ (gap ++ (69 ∷ []))) ≡ length front + (length gap + 1)
+pub end_length : (front gap : List ℕ) → length (front ++ (gap ++ (69 ∷ []))) ≡ length front + (length gap + 1)
 end_length front gap = length-append front (gap ++ (69 ∷ [])) ∙ ap (λ n. length front + n) (length-append gap (69 ∷ []))
 
 -- the end, and what stands behind it

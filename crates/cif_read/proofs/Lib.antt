@@ -5,3 +5,5 @@ pub mod Calling
 pub mod Commands
 pub mod Flat
 pub mod Beginnings
+pub mod Walks
+pub mod Faults

@@ -8,6 +8,7 @@
 mod fault;
 mod file;
 mod flattening;
+mod laws;
 mod numbers;
 mod reading;
 mod state;
@@ -17,4 +18,5 @@ mod tests;
 pub use fault::{CifFault, CifKind, CifReadFault, FlatFault};
 pub use file::{CifFile, CifStep, CifSymbol};
 pub use flattening::flatten;
+pub use laws::readings_are_determined;
 pub use reading::read_cif;
