@@ -1,20 +1,19 @@
 -- What has been read of a text.
-use Rattle.std.proofs.Common.{◌≡◌, ℕ, ◌+◌, ◌<◌, ◌≤◌, ◌^◌, Bool, true, false, Option, Some, None, is_some, Result, Ok, Err, List, [], ◌∷◌, ◌++◌, length, drop, fold, refl, sym, ap, ◌∙◌, subst, arith, length-append, length-drop}
-use Rattle.std.specs.List.{AllZip, flat_map}
+use Rattle.std.proofs.Common.{◌≡◌, ℕ, ◌+◌, ◌≤◌, true, false, Option, Some, None, is_some, Result, Ok, List, [], ◌∷◌, ◌++◌, length, drop, fold, refl, sym, ap, ◌∙◌, subst, arith, length-append, length-drop}
+use Rattle.std.specs.List.{AllZip}
 use Rattle.std.proofs.lemmas.List.{append-nil, append_assoc, drop_at}
 use Rattle.std.proofs.lemmas.Bool.{false≢true}
 use Rattle.std.proofs.lemmas.List.Concat.{flat_map-append}
 use Rattle.cif_lex.specs.declared.command.Command.{Command}
-use Rattle.cif_lex.specs.declared.command.Next.TheVariants.{Whole, Cut, Bad, End, Missing}
-use Rattle.cif_lex.specs.declared.command.Tail.TheVariants.{Clean}
+use Rattle.cif_lex.specs.declared.command.Next.TheVariants.{Whole, Cut, End}
 use Rattle.cif_lex.specs.Blanks.{semicolon, IsGap}
-use Rattle.cif_lex.specs.Commands.{IsPiece, IsNext, IsTail, Follows}
+use Rattle.cif_lex.specs.Commands.{IsPiece, IsNext, Follows}
 use Rattle.cif_read.specs.declared.fault.CifKind.{CifKind}
 use Rattle.cif_read.specs.declared.fault.Stop.{Stop}
 use Rattle.cif_read.specs.declared.fault.Stop.TheVariants.{Refused, OutOfMemory}
 use Rattle.cif_read.specs.declared.state.Begun.{Begun}
 use Rattle.cif_read.specs.Acts.{State, Definition, start, act, acts, then_act}
-use Rattle.cif_read.specs.Meaning.{BeginsWell, Means, IsFaultOf, joined, refused, cut_and_refused}
+use Rattle.cif_read.specs.Meaning.{BeginsWell, Means, joined, refused, cut_and_refused}
 use Rattle.cif_read.specs.Files.{IsCauseOf}
 use Rattle.cif_read.specs.Readings.{definition_of, begun_of, sheet_of_state, cause_of, IsCauseOfStop}
 
@@ -73,7 +72,7 @@ begins_more text read begin after state done command well (body, rest, is_body, 
       rest = rest;
       cut = well.cut ∙ (ap (λ zs. joined well.pieces ++ zs) left ∙ (sym (append_assoc (joined well.pieces) piece rest) ∙ ap (λ zs. zs ++ rest) (sym (joined_push well.pieces piece))));
       counted = omega (arith, size, piece_length follows.gap body, well.counted, follows.begins, end);
-      done = acts_push well.commands command state well.done ∙ acted
+      done = acts_push well.commands command state well.done ∙ acted;
     }
 
 pub end_left : (front gap rest : List ℕ) → front ++ (gap ++ (69 ∷ rest)) ≡ (front ++ (gap ++ (69 ∷ []))) ++ rest
@@ -102,7 +101,7 @@ means_whole text read begin state well (rest, follows, within) behind closed =
       state = state;
       done = well.done;
       closed = closed;
-      drawn = refl
+      drawn = refl;
     }
 
 -- ---- why there is none

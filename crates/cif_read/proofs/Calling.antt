@@ -1,5 +1,5 @@
 -- What a call adds, and what a command's answer is.
-use Rattle.std.proofs.Common.{◌≡◌, ℕ, zero, suc, ◌+◌, ◌<◌, ◌≤◌, ◌^◌, ℤ, pos, negsuc, ◌*ℤ◌, ◌≤ℤ◌, Bool, true, false, ◌||◌, int_lt, unsigned_abs, FitsSigned, of_z, to_z, w64, Option, Some, None, is_some, Result, Ok, Err, OnOk, IfErr, IfSome, List, [], ◌∷◌, ◌++◌, map, length, refl, sym, ap, ◌∙◌, subst, arith}
+use Rattle.std.proofs.Common.{◌≡◌, ℕ, ◌<◌, ◌^◌, ℤ, pos, negsuc, ◌*ℤ◌, Bool, true, false, ◌||◌, int_lt, unsigned_abs, FitsSigned, of_z, to_z, w64, Option, Some, None, is_some, Result, Ok, Err, OnOk, IfErr, List, [], ◌∷◌, ◌++◌, map, length, refl, sym, ap, ◌∙◌, subst, arith}
 use Rattle.std.specs.Ordering.{nat_cmp}
 use Rattle.std.specs.BTreeMap.{BTreeMap, get}
 use Rattle.std.proofs.lemmas.List.{map_push, length-map}
@@ -8,7 +8,6 @@ use Rattle.std.proofs.lemmas.Bool.{false≢true}
 use Rattle.cif_lex.specs.declared.command.Command.TheVariants.{Area}
 use Rattle.cif_lex.specs.Commands.{is_far}
 use Rattle.lam_geom.specs.declared.boxes.MaskBox.{MaskBox}
-use Rattle.cif_read.specs.declared.fault.CifKind.{CifKind}
 use Rattle.cif_read.specs.declared.fault.CifKind.TheVariants.{BadNumber}
 use Rattle.cif_read.specs.declared.state.Begun.{Begun}
 use Rattle.cif_read.specs.declared.file.CifSymbol.{CifSymbol}

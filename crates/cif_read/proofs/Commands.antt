@@ -1,9 +1,8 @@
 -- What each command is answered.
-use Rattle.std.proofs.Common.{◌≡◌, ℤ, FitsSigned, of_z, to_z, w64, Bool, Result, Ok, refl, sym, ap, ◌∙◌}
+use Rattle.std.proofs.Common.{◌≡◌, ℤ, FitsSigned, of_z, to_z, w64, Bool, Ok, refl}
 use Rattle.std.proofs.lemmas.Int.{to_z-of_z}
 use Rattle.cif_lex.specs.declared.command.Command.{Command}
 use Rattle.cif_lex.specs.declared.command.Command.TheVariants.{Nothing, Define, Finish, Layer, Call, Extension}
-use Rattle.cif_read.specs.declared.fault.CifKind.{CifKind}
 use Rattle.cif_read.specs.Acts.{State, Named, act, defined, finished, named, called_at}
 
 pub nothing_is : (state : State) (command : Command) → command ≡ Nothing → act state command ≡ Ok state

@@ -1,7 +1,6 @@
 -- A text means one sheet or has one first fault.
-use Rattle.std.proofs.Common.{◌≡◌, ℕ, ◌+◌, ◌≤◌, ◌^◌, ◌⊎◌, inl, inr, Option, Some, None, Result, Ok, Err, List, [], ◌∷◌, ◌++◌, length, drop, refl, sym, ap, ◌∙◌, subst, arith, length-append}
-use Rattle.std.proofs.lemmas.List.{drop_at, append_assoc}
-use Rattle.cif_lex.specs.declared.command.Command.{Command}
+use Rattle.std.proofs.Common.{◌≡◌, ℕ, ◌+◌, ◌⊎◌, inl, inr, Some, None, Ok, Err, List, [], ◌∷◌, ◌++◌, length, drop, refl, sym, ap, ◌∙◌, subst, arith, length-append}
+use Rattle.std.proofs.lemmas.List.{drop_at}
 use Rattle.cif_lex.specs.declared.command.Next.{Next}
 use Rattle.cif_lex.specs.declared.command.Next.TheVariants.{Whole, Cut, Bad, End, Missing}
 use Rattle.cif_lex.specs.declared.command.Tail.{Tail}
@@ -43,7 +42,7 @@ ends_well text sheet means =
       begin = begin;
       ended = (means.behind, record { gap = means.gap; is_gap = means.is_gap; joined = left; begins = refl }, omega (arith, ap length whole, size, length-append front means.behind));
       closed = means.closed;
-      behind = subst IsGap (sym behind) means.is_behind
+      behind = subst IsGap (sym behind) means.is_behind;
     }
 
 -- nothing goes on there
@@ -185,5 +184,5 @@ pub determined : NextIsDetermined → TailIsDetermined → ReadingsAreDetermined
 determined one tail = record {
   one_sheet = λ text a b _ m n. one_sheet one text a b m n;
   one_fault = λ text a b _ m n. one_fault one tail text a b m n;
-  not_both = λ text sheet fault _ m n. not_both one tail text sheet fault m n
+  not_both = λ text sheet fault _ m n. not_both one tail text sheet fault m n;
 }

@@ -1,5 +1,5 @@
 -- All boxes of a file, step by step.
-use Rattle.std.proofs.Common.{◌≡◌, ℕ, ◌+◌, ◌<◌, ◌≤◌, ◌^◌, ℤ, pos, ◌≤ℤ◌, List, [], ◌∷◌, ◌++◌, map, length, get_or, take, drop, refl, sym, ap, ◌∙◌, subst, arith, length-append}
+use Rattle.std.proofs.Common.{◌≡◌, ℕ, ◌+◌, ◌<◌, ◌≤◌, ◌^◌, ℤ, List, [], ◌∷◌, ◌++◌, map, length, get_or, take, drop, refl, sym, ap, ◌∙◌, subst, arith, length-append}
 use Rattle.std.specs.List.{All, flat_map}
 use Rattle.std.proofs.lemmas.List.{append-nil, append_assoc, take_more, take_all, take-append-drop, map_push, length-map, get_or-map}
 use Rattle.std.proofs.lemmas.List.Elements.{All-push, All-get_or}
@@ -42,7 +42,7 @@ moved_more before now after boxes x y i box one lt at e is was =
     let next = take_more boxes i box lt ∙ ap (λ b. take i boxes ++ b ∷ []) (sym at) in
     let front = map (moved x y) (map drawn_of (take i boxes)) in
     let later : map (moved x y) (map drawn_of (take (i + 1) boxes)) ≡ front ++ moved x y (drawn_of box) ∷ [] =
-        ap (λ bs. map (moved x y) (map drawn_of bs)) next ∙ (ap (map (moved x y)) (map_push drawn_of (take i boxes) box) ∙ map_push (moved x y) (map drawn_of (take i boxes)) (drawn_of box)) in
+    ap (λ bs. map (moved x y) (map drawn_of bs)) next ∙ (ap (map (moved x y)) (map_push drawn_of (take i boxes) box) ∙ map_push (moved x y) (map drawn_of (take i boxes)) (drawn_of box)) in
     ap (map drawn_of) e ∙ (map_push drawn_of now one
     ∙ (ap (λ zs. zs ++ drawn_of one ∷ []) was
     ∙ (ap (λ d. (map drawn_of before ++ front) ++ d ∷ []) is

@@ -1,7 +1,7 @@
 -- What a reader keeps stays sound.
-use Rattle.std.proofs.Common.{◌≡◌, ◌≢◌, ℕ, zero, suc, ◌+◌, ◌<◌, ◌≤◌, ◌^◌, ℤ, pos, Bool, true, false, cond, ◌||◌, eqb, Option, Some, None, IfSome, is_some, List, [], ◌∷◌, ◌++◌, map, length, get_or, refl, sym, ap, ◌∙◌, subst, arith, inl, inr}
+use Rattle.std.proofs.Common.{◌≡◌, ◌≢◌, ℕ, suc, ◌+◌, ◌<◌, ◌≤◌, ◌^◌, ℤ, pos, Bool, true, false, cond, ◌||◌, Option, Some, None, IfSome, is_some, List, [], ◌∷◌, ◌++◌, map, length, get_or, refl, sym, ap, ◌∙◌, subst, arith, inl, inr}
 use Rattle.std.specs.List.{All, AllByRecursion}
-use Rattle.std.specs.Ordering.{int_eq, nat_cmp, is_eq}
+use Rattle.std.specs.Ordering.{nat_cmp, is_eq}
 use Rattle.std.specs.BTreeMap.{BTreeMap, get, Updates}
 use Rattle.std.proofs.lemmas.List.{map_push, length_push, length-map, get_or_append_left, get_or_at}
 use Rattle.std.proofs.lemmas.List.Elements.{All-push, All-nil, All-weaker, recursion_from_All}
@@ -14,7 +14,7 @@ use Rattle.cif_read.specs.declared.file.CifStep.{CifStep}
 use Rattle.cif_read.specs.declared.file.CifStep.TheVariants.{Own, Called}
 use Rattle.cif_read.specs.declared.state.Begun.{Begun}
 use Rattle.cif_read.specs.declared.state.Reading.{Reading}
-use Rattle.cif_read.specs.Sheets.{Symbol, Step, Drawn, own}
+use Rattle.cif_read.specs.Sheets.{Symbol, Drawn, own}
 use Rattle.cif_read.specs.Acts.{is_known, place_of, has_number}
 use Rattle.cif_read.specs.Files.{drawn_of, symbol_of, step_of, no_box, IsSolidWithin, IsStepOf}
 use Rattle.cif_read.specs.Readings.{IsSoundBegun, AreSound, IsSound, HasPlaces, place_among}
@@ -30,7 +30,7 @@ done_more count more symbols boxes order le h = record {
   few_symbols = omega arith;
   few_boxes = omega arith;
   few_steps = omega arith;
-  few_in_symbols = All-weaker (λ (symbol : CifSymbol). length symbol.boxes ≤ count) (λ (symbol : CifSymbol). length symbol.boxes ≤ more) (λ symbol few. omega arith) symbols h.few_in_symbols
+  few_in_symbols = All-weaker (λ (symbol : CifSymbol). length symbol.boxes ≤ count) (λ (symbol : CifSymbol). length symbol.boxes ≤ more) (λ symbol few. omega arith) symbols h.few_in_symbols;
 }
 
 pub done_later : (count : ℕ) (symbols : List CifSymbol) (boxes : List MaskBox) (order : List CifStep) → AreSound count symbols boxes order → AreSound (count + 1) symbols boxes order
@@ -57,7 +57,7 @@ sound_more count more r le h = record {
   done = done_more count more r.symbols.items r.boxes.items r.order.items le h.done;
   places = h.places;
   begun = begun_more count more r.begun le h.begun;
-  fresh = h.fresh
+  fresh = h.fresh;
 }
 
 -- a step stays one where there are more symbols and boxes
@@ -81,7 +81,7 @@ symbol_added count symbols after boxes order symbol e h solid few =
       few_symbols = omega arith;
       few_boxes = omega arith;
       few_steps = omega arith;
-      few_in_symbols = All-push (λ (s : CifSymbol). length s.boxes ≤ count + 1) symbols symbol later.few_in_symbols (omega arith)
+      few_in_symbols = All-push (λ (s : CifSymbol). length s.boxes ≤ count + 1) symbols symbol later.few_in_symbols (omega arith);
     })
 
 pub step_added : (count : ℕ) (symbols : List CifSymbol) (boxes : List MaskBox) (order after : List CifStep) (step : CifStep) → after ≡ order ++ step ∷ []
@@ -96,7 +96,7 @@ step_added count symbols boxes order after step e h is_step =
       few_symbols = omega arith;
       few_boxes = omega arith;
       few_steps = omega arith;
-      few_in_symbols = later.few_in_symbols
+      few_in_symbols = later.few_in_symbols;
     })
 
 pub box_added : (count : ℕ) (symbols : List CifSymbol) (boxes more_boxes : List MaskBox) (order more_order : List CifStep) (box : MaskBox)
@@ -111,12 +111,12 @@ box_added count symbols boxes more_boxes order more_order box e f h solid =
       in_symbols = h.in_symbols;
       at_top = solid_more boxes more_boxes box e h.at_top solid;
       steps = subst (All (IsStepOf (length symbols) (length more_boxes))) (sym f)
-        (All-push (IsStepOf (length symbols) (length more_boxes)) order (Own (length boxes))
+          (All-push (IsStepOf (length symbols) (length more_boxes)) order (Own (length boxes))
           (steps_later (length symbols) (length symbols) (length boxes) (length more_boxes) order (omega arith) (omega arith) h.steps) (omega arith));
       few_symbols = omega arith;
       few_boxes = omega arith;
       few_steps = omega arith;
-      few_in_symbols = later.few_in_symbols
+      few_in_symbols = later.few_in_symbols;
     }
 
 -- ---- steps, as they are drawn
@@ -201,7 +201,7 @@ places_added places after symbols symbol n h fresh number updates = record {
   each = λ q. elim (cases_eq q n) [
     | inl e ↦ subst (λ k. get nat_cmp after k ≡ place_among (pos k) (symbols ++ symbol ∷ [])) (sym e) (at_same places after symbols symbol n fresh number updates)
     | inr ne ↦ at_other places after symbols symbol n q h ne number updates
-  ]
+  ];
 }
 
 unknown_from : (known : Bool) (p : ℕ) → is_some (cond known (Some p) None) ≡ false → known ≡ false

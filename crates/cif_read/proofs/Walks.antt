@@ -39,14 +39,14 @@ walks_of text read state (c ∷ cs) (p ∷ ps) rest end done within all cut ends
     let size : length p ≡ length one.gap + (length one.body + 1) = ap length one.joined ∙ piece_length one.gap one.body in
     let fits : read + length p ≤ length text = omega (arith, ap length apart, length-append p later, length-drop read text) in
     let first = ok_first (act state c) cs done acted in
-    let behind : drop (read + length p) text ≡ later = sym (drop-drop (length p) read text) ∙ (ap (drop (length p)) apart ∙ drop_at p later (length p) refl) in
-    ( read + length one.gap
-    , read + length p
-    , c
-    , first.0
-    , (one.body, later, one.is_body, record { gap = one.gap; is_gap = one.is_gap; joined = at; begins = refl }, omega arith, fits)
-    , first.1
-    , walks_of text (read + length p) first.0 cs ps rest end done fits all.1 behind (omega (arith, length-append p (joined ps))) (ap (λ answer. fold then_act answer cs) (sym first.1) ∙ acted)
+    let behind : drop (read + length p) text ≡ later = sym (drop-drop (length p) read text) ∙ (ap (drop (length p)) apart ∙ drop_at p later (length p) refl) in (
+      read + length one.gap,
+      read + length p,
+      c,
+      first.0,
+      (one.body, later, one.is_body, record { gap = one.gap; is_gap = one.is_gap; joined = at; begins = refl }, omega arith, fits),
+      first.1,
+      walks_of text (read + length p) first.0 cs ps rest end done fits all.1 behind (omega (arith, length-append p (joined ps))) (ap (λ answer. fold then_act answer cs) (sym first.1) ∙ acted),
     )
 
 pub walks_well : (text : List ℕ) (read : ℕ) (state : State) (well : BeginsWell text read state) → WalksIn (length well.commands) text 0 start read state

@@ -1,9 +1,8 @@
 -- What a reader keeps, as a state; and what holds of it.
-use Rattle.std.specs.Prelude.{◌≡◌, ℕ, ◌+◌, ◌<◌, ◌≤◌, ◌^◌, ℤ, pos, ◌≤ℤ◌, ◌<ℤ◌, neg_ℤ, All, IfSome, Bool, false, if◌then◌else◌, Option, Some, None, Result, Ok, Err, List, map, length, option_map}
+use Rattle.std.specs.Prelude.{◌≡◌, ℕ, ◌≤◌, ◌^◌, ℤ, pos, ◌≤ℤ◌, All, IfSome, false, if◌then◌else◌, Option, Some, None, Result, Err, List, map, length, option_map}
 use Rattle.std.specs.Ordering.{nat_cmp}
 use Rattle.std.specs.BTreeMap.{BTreeMap, get}
 use Rattle.lam_geom.specs.declared.boxes.MaskBox.{MaskBox}
-use Rattle.cif_lex.specs.declared.command.Command.{Command}
 use Rattle.cif_lex.specs.declared.command.Next.TheVariants.{End}
 use Rattle.cif_lex.specs.Commands.{IsNext}
 use Rattle.cif_read.specs.declared.fault.CifKind.{CifKind}
@@ -16,7 +15,7 @@ use Rattle.cif_read.specs.declared.file.CifStep.{CifStep}
 use Rattle.cif_read.specs.declared.state.Begun.{Begun}
 use Rattle.cif_read.specs.declared.state.Reading.{Reading}
 use Rattle.cif_read.specs.Sheets.{Symbol, Sheet}
-use Rattle.cif_read.specs.Acts.{State, Definition, is_known, place_of, act}
+use Rattle.cif_read.specs.Acts.{State, Definition, is_known, place_of}
 use Rattle.cif_read.specs.Meaning.{BeginsWell}
 use Rattle.cif_read.specs.Files.{drawn_of, symbol_of, step_of, IsSolidWithin, IsStepOf}
 

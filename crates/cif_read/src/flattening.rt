@@ -11,7 +11,7 @@ use lam_geom::{BoxXY, MaskBox, Span};
 use std::alloc::Global;
 
 /// The most boxes of a flattened file.
-const MOST: usize = 1_048_576;
+const MOST_BOXES: usize = 1_048_576;
 
 // A span, so far along its axis.
 fn moved_span(span: Span, shift: i64) -> Span
@@ -54,7 +54,10 @@ fn boxes_of_step(file: &CifFile, step: CifStep) -> usize
     match step {
         CifStep::Own(_) => 1,
         CifStep::Called { symbol, .. } => {
-            file.symbols.as_slice()[symbol as usize].boxes.as_slice().len()
+            file.symbols.as_slice()[symbol as usize]
+                .boxes
+                .as_slice()
+                .len()
         }
     }
 }
@@ -68,7 +71,7 @@ fn count(file: &CifFile) -> Option<usize>
     let mut total = 0;
     for step in file.order.as_slice() {
         total += boxes_of_step(file, *step);
-        if total > MOST {
+        if total > MOST_BOXES {
             return None;
         }
     }
@@ -111,7 +114,7 @@ fn push_step(out: &mut Vec<MaskBox>, file: &CifFile, step: CifStep) -> Result<()
 }
 
 /// The boxes of the layers that are kept, in the order of the file, calls in place, in grains. `TooMany` comes exactly where there
-/// are more than 1,048,576.
+/// are more than 1,048,576. Linear in the steps and the boxes.
 pub fn flatten(alloc: Global, file: &CifFile) -> Result<Vec<MaskBox>, FlatFault>
     requires { CanBeFlattened file.now }
     ensures boxes { IfOk result (λ boxes. map drawn_of boxes.items ≡ flattened (sheet_of file.now)) }

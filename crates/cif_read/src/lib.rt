@@ -2,7 +2,8 @@
 //!
 //! What the layer above uses: `read_cif` gives what the text means, or its first fault with its place, both ways exactly; and
 //! `flatten` gives the boxes of the layers that are kept, in the order of the file. Lengths are in grains: a grain is half a
-//! hundredth of a micron, so that nothing is rounded.
+//! hundredth of a micron, so that nothing is rounded. `readings_are_determined` is the law that a text means one sheet or has
+//! one first fault, and never both.
 #![tactic(auto)]
 
 mod fault;

@@ -74,7 +74,7 @@ pub fn scaled(above: i64, below: i64, n: i64) -> i64
     n * above / below
 }
 
-/// The span of an extent and its centre, in half units.
+// The sides along one axis of a box, in grains, by its extent and its centre in hundredths of a micron.
 fn span_of(extent: i64, centre: i64) -> Span
     requires extent { IsExtent extent }
     requires near { IsWithin (2 ^ 46) centre }

@@ -71,11 +71,7 @@ fn read_next(
 }
 
 // Reads all commands, up to the letter E, of which it answers the place.
-fn read_commands(
-    alloc: Global,
-    bytes: &[u8],
-    reading: &mut Reading,
-) -> Result<usize, CifReadFault>
+fn read_commands(alloc: Global, bytes: &[u8], reading: &mut Reading) -> Result<usize, CifReadFault>
     requires few { length bytes.now ≤ 2 ^ 26 }
     requires so_far { HasRead bytes.now 0 reading.old }
     ensures end { IfOk result (λ begin. HasReadAll bytes.now begin reading.new) }

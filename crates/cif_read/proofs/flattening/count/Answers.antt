@@ -5,8 +5,8 @@ use Rattle.cif_read.specs.Files.{drawn_in_step}
 use Rattle.cif_read.proofs.Flat.{step_counted, flattened_is, flat_all}
 use Rattle.cif_read.proofs.flattening.count.Goals as goal
 
-pub returns-then-total-gt-MOST-clause-too_many : goal.returns-then-total-gt-MOST-clause-too_many
-returns-then-total-gt-MOST-clause-too_many c =
+pub returns-then-total-gt-MOST_BOXES-clause-too_many : goal.returns-then-total-gt-MOST_BOXES-clause-too_many
+returns-then-total-gt-MOST_BOXES-clause-too_many c =
     let file = c.args.file.now in
     let i = c.loop-step.step-index in
     let same = ap length c.as_slice-step-items.ensures in

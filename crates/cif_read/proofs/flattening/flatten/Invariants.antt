@@ -6,5 +6,5 @@ use Rattle.cif_read.proofs.flattening.flatten.Given as goal
 abbrev pub invariant-loop-step : goal.invariant-loop-step
 invariant-loop-step l = record {
   boxes : map drawn_of l.out.items ≡ flat_map (drawn_in_step l.file) (take l.step-index l.file.order);
-  solid : All (IsSolidWithin (2 ^ 51)) (map drawn_of l.out.items)
+  solid : All (IsSolidWithin (2 ^ 51)) (map drawn_of l.out.items);
 }

@@ -15,7 +15,7 @@ loop-mask-preserved c =
     let was = c.loop-mask.invariant in
     record {
       boxes = moved_more c.args.out.now.items c.loop-mask.out.items c.push.new.self.items boxes _ _ i c.mask-item.result c.moved.result (omega arith) c.mask-item.is items c.moved.ensures.value was.boxes;
-      solid = λ h. solid_pushed c.loop-mask.out.items c.push.new.self.items c.moved.result items c.moved.ensures.solid (was.solid h)
+      solid = λ h. solid_pushed c.loop-mask.out.items c.push.new.self.items c.moved.result items c.moved.ensures.solid (was.solid h);
     }
 
 pub returns-clause-boxes : goal.returns-clause-boxes

@@ -1,5 +1,4 @@
-use Rattle.std.proofs.Common.{◌≡◌, ◌*ℤ◌, sym, subst, FitsSigned, w64, int_div, of_z, to_z, pos, ◌≤ℤ◌, ◌^◌}
-use Rattle.cif_read.specs.Acts.{scaled}
+use Rattle.std.proofs.Common.{sym, subst, pos, ◌≤ℤ◌, ◌^◌}
 use Rattle.cif_read.specs.Files.{IsWithin}
 use Rattle.cif_read.proofs.Scales.{product_fits, quotient_is, quotient_fits, scaled_within, scaled_positive}
 use Rattle.cif_read.proofs.numbers.scaled.Goals as goal

@@ -1,4 +1,4 @@
-use Rattle.std.proofs.Common.{◌+◌, ◌≤◌, ◌^◌, length, sym, subst, arith}
+use Rattle.std.proofs.Common.{◌+◌, ◌≤◌, length, sym, subst, arith}
 use Rattle.cif_read.specs.Meaning.{end_inside, filled, unclosed}
 use Rattle.cif_read.specs.Files.{IsCauseOf}
 use Rattle.cif_read.specs.Readings.{state_of}

@@ -1,4 +1,4 @@
-use Rattle.std.proofs.Common.{◌+◌, ◌≤◌, length, sym, subst, arith}
+use Rattle.std.proofs.Common.{◌+◌, ◌≤◌, sym, subst, arith}
 use Rattle.cif_read.specs.Meaning.{no_command, cut, missing}
 use Rattle.cif_read.specs.Files.{IsCauseOf}
 use Rattle.cif_read.specs.Readings.{state_of}
@@ -23,7 +23,7 @@ returns-in_default-clause-reading c =
     record {
       within = next.5;
       well = begins_more text c.args.read.now w.begin w.after (state_of c.args.reading.now) (state_of c.act.new.self) w.command so_far.well next c.in_default.ensures.done;
-      sound = sound_more (c.args.read.now + 1) w.after c.act.new.self further (c.in_default.ensures.sound c.args.read.now so_far.sound)
+      sound = sound_more (c.args.read.now + 1) w.after c.act.new.self further (c.in_default.ensures.sound c.args.read.now so_far.sound);
     }
 
 pub returns-in-Ok-clause-fault : goal.returns-in-Ok-clause-fault

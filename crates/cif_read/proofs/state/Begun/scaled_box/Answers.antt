@@ -1,4 +1,4 @@
-use Rattle.std.proofs.Common.{◌≡◌, ◌∙◌, refl}
+use Rattle.std.proofs.Common.{◌∙◌, refl}
 use Rattle.cif_read.proofs.Scales.{good_area, even_area, seen_within, seen_odd, seen_some, seen_extent, seen_value, seen_scaled}
 use Rattle.cif_read.proofs.state.Begun.scaled_box.Goals as goal
 

@@ -1,5 +1,4 @@
 use Rattle.std.proofs.Common.{◌∙◌, ap, sym, subst, Ok, FitsSigned, w64, ⊎_elim, rules}
-use Rattle.cif_read.specs.Acts.{act}
 use Rattle.cif_read.specs.Readings.{state_of, IsCauseOfStop}
 use Rattle.cif_read.proofs.Calling.{ok_weaker, err_weaker}
 use Rattle.cif_read.proofs.Commands.{nothing_is, extension_is, define_is, finish_is, layer_is, call_is}

@@ -1,4 +1,4 @@
-use Rattle.std.proofs.Common.{◌≡◌, ◌∙◌, ◌+◌, sym, ap, subst, pos, Some, false, map}
+use Rattle.std.proofs.Common.{◌≡◌, ◌∙◌, sym, ap, subst, pos, false, map}
 use Rattle.cif_read.specs.Acts.{placed, placed_in, is_bad_area, is_known}
 use Rattle.cif_read.specs.Files.{symbol_of}
 use Rattle.cif_read.specs.Readings.{state_of, definition_of, begun_of, IsCauseOfStop, IsSoundBegun}
@@ -45,7 +45,7 @@ returns-in-Some-clause-sound c =
       places = h.places;
       begun = sound count (some_holds r.begun b (IsSoundBegun count) c.in-Some.is h.begun);
       fresh = subst (λ n. is_known (pos n) (map symbol_of r.symbols.items) ≡ false) (sym c.place.ensures.same)
-        (some_holds r.begun b (λ d. is_known (pos d.number) (map symbol_of r.symbols.items) ≡ false) c.in-Some.is h.fresh)
+          (some_holds r.begun b (λ d. is_known (pos d.number) (map symbol_of r.symbols.items) ≡ false) c.in-Some.is h.fresh);
     })
     c.place.ensures.sound
 

@@ -1,5 +1,4 @@
-use Rattle.std.proofs.Common.{◌≡◌, ◌∙◌, ◌^◌, sym, subst, arith, pos, ◌*ℤ◌}
-use Rattle.cif_read.specs.declared.file.CifStep.TheVariants.{Called}
+use Rattle.std.proofs.Common.{◌∙◌, ◌^◌, sym, subst, pos, ◌*ℤ◌}
 use Rattle.cif_read.specs.Files.{IsWithin}
 use Rattle.cif_read.specs.Readings.{state_of}
 use Rattle.cif_read.proofs.Sound.{step_added, begun_later}
@@ -27,5 +26,5 @@ returns-clause-sound c =
       done = step_added count r.symbols.items r.boxes.items r.order.items c.push.new.self.items _ c.in_ok-push.ensures.items h.done (place.below, subst (IsWithin (2 ^ 31)) (sym (doubled a.x c.ranges.x good.x_near)) (doubled_within a.x good.x_near), subst (IsWithin (2 ^ 31)) (sym (doubled a.y c.ranges.y good.y_near)) (doubled_within a.y good.y_near));
       places = h.places;
       begun = begun_later count r.begun h.begun;
-      fresh = h.fresh
+      fresh = h.fresh;
     }

@@ -19,8 +19,8 @@ returns-clause-sound c =
     let fresh = some_holds r.begun b (λ d. is_known (pos d.number) (map symbol_of r.symbols.items) ≡ false) was h.fresh in
     record {
       done = symbol_added count r.symbols.items c.push.new.self.items r.boxes.items r.order.items (record { number = b.number; boxes = c.from_vec.result }) items h.done
-        (subst (λ bs. All (IsSolidWithin (2 ^ 50)) (map drawn_of bs)) (sym taken) sound.boxes) (omega (arith, ap length taken, sound.few));
+          (subst (λ bs. All (IsSolidWithin (2 ^ 50)) (map drawn_of bs)) (sym taken) sound.boxes) (omega (arith, ap length taken, sound.few));
       places = places_pushed r.places c.insert.new.self r.symbols.items c.push.new.self.items (record { number = b.number; boxes = c.from_vec.result }) _ items place h.places fresh c.in_ok-insert.ensures.updates;
       begun = none_holds c.take.new.self (IsSoundBegun (count + 1)) c.take.ensures.after;
-      fresh = none_holds c.take.new.self _ c.take.ensures.after
+      fresh = none_holds c.take.new.self _ c.take.ensures.after;
     }

@@ -25,5 +25,5 @@ returns-in_ok-push-2-clause-sound c =
       done = box_added count r.symbols.items r.boxes.items c.push-in-Some-named.new.self.items r.order.items c.push.new.self.items c.drawn_box.result c.in_ok-push-2.ensures.items (c.in_ok-push.ensures.items ∙ ap (λ n. r.order.items ++ Own n ∷ []) at) h.done c.drawn_box.ensures.solid;
       places = h.places;
       begun = begun_later count r.begun h.begun;
-      fresh = h.fresh
+      fresh = h.fresh;
     }
