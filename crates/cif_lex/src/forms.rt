@@ -14,6 +14,9 @@ use lam_geom::MaskLayer;
 /// The greatest distance of a number from 0.
 const LIMIT: i64 = 1_073_741_824;
 
+/// The most bytes of a layer's name.
+const LONGEST_NAME: usize = 4;
+
 /// A command that was read, and how many bytes its words and the gaps behind them take.
 #[derive(Clone, Copy)]
 pub(crate) struct Form {
@@ -148,7 +151,7 @@ fn layer(text: &[u8]) -> Option<Form>
 {
     let begin = letter_length(text);
     let length = name_length(&text[begin..]);
-    if length == 0 || length > 4 {
+    if length == 0 || length > LONGEST_NAME {
         return None;
     }
     let end = begin + length;

@@ -78,7 +78,7 @@ fn numbers_past_the_limit_count_as_one_past_it(rt: HostRuntime) -> Result<(), Fa
 
 #[test]
 fn what_is_cut_off_is_told_from_what_is_no_command(rt: HostRuntime) -> Result<(), Fail> {
-    let none = Command::Layer(Some(MaskLayer::NM));
+    let metal = Command::Layer(Some(MaskLayer::NM));
     assert_eq!(rt; next(b"B 1 2", 0), Next::Bad { begin: 0 });
     assert_eq!(rt;
         next(b"L NM; B 1 1 0 0", 5),
@@ -92,7 +92,7 @@ fn what_is_cut_off_is_told_from_what_is_no_command(rt: HostRuntime) -> Result<()
         next(b"L NM (x", 0),
         Next::Cut {
             begin: 0,
-            command: none
+            command: metal
         }
     );
     assert_eq!(rt;

@@ -9,7 +9,7 @@ use Rattle.cif_lex.specs.Forms.{IsForm}
 use Rattle.cif_lex.proofs.Stops.{led_letter}
 use Rattle.cif_lex.proofs.LayerForm.{no_name, layer_form}
 use Rattle.cif_lex.proofs.forms.layer.Goals as goal
-use Rattle.cif_lex.proofs.forms.layer.Goals.{then-length-eq0-via-then-length-eq0, then-length-eq0-via-else-length-eq0+then-length-gt4}
+use Rattle.cif_lex.proofs.forms.layer.Goals.{then-length-eq0-via-then-length-eq0, then-length-eq0-via-else-length-eq0+then-length-gt-LONGEST_NAME}
 
 -- what is known of the name
 abbrev Name : List ℕ → ℕ → ℕ → Type 0
@@ -31,7 +31,7 @@ returns-then-length-eq0 c =
     let known = the_name text (take (length text - begin) (drop begin text)) begin n (take_rest text begin) c.name_length-length.ensures.within c.name_length-length.ensures.name c.name_length-length.ensures.longest in
     elim c.then-length-eq0.branch [
       | then-length-eq0-via-then-length-eq0 w ↦ no_name text (drop begin text) n is known.0 known.1 known.2 (inl w.if-length-eq0.true)
-      | then-length-eq0-via-else-length-eq0+then-length-gt4 w ↦ no_name text (drop begin text) n is known.0 known.1 known.2 (inr w.if-length-gt4.true)
+      | then-length-eq0-via-else-length-eq0+then-length-gt-LONGEST_NAME w ↦ no_name text (drop begin text) n is known.0 known.1 known.2 (inr w.if-length-gt-LONGEST_NAME.true)
     ]
 
 pub returns : goal.returns
@@ -46,6 +46,6 @@ returns c =
     let none = c.if-length-eq0.false in
     let layer : c.layer_named-layer.result ≡ layer_named (take n (drop begin text)) = c.layer_named-layer.ensures ∙ ap (λ (k : ℕ). layer_named (take k (drop begin text))) same in
     subst (λ o. IsForm text (record { command = Layer o; length = begin + n + c.gap_length.result })) (sym layer)
-    (layer_form text begin n c.gap_length.result c.letter_length-begin.ensures.within is known.0 known.1 (subst (StopsAt is_name_byte) (drop-drop n begin text) known.2) (omega arith) c.if-length-gt4.false
+    (layer_form text begin n c.gap_length.result c.letter_length-begin.ensures.within is known.0 known.1 (subst (StopsAt is_name_byte) (drop-drop n begin text) known.2) (omega arith) c.if-length-gt-LONGEST_NAME.false
     (subst (λ (t : List ℕ). c.gap_length.result ≤ length t) last c.gap_length.ensures.within)
     (subst (λ (t : List ℕ). IsBehindGap t (drop c.gap_length.result t)) last c.gap_length.ensures.gap))
