@@ -48,7 +48,7 @@ fn fault_of(alloc: Global, text: &[u8]) -> Option<CifReadFault>
 }
 
 #[test]
-fn what_crosses_threads(rt: HostRuntime) {
+fn a_file_and_its_faults_cross_threads(rt: HostRuntime) {
     let file = read_cif(rt.alloc(), b"E");
     crosses_threads(&file);
 }
