@@ -1,0 +1,2 @@
+mod Grains
+mod SpansPast
