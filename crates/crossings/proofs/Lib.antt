@@ -1,2 +1,5 @@
+mod Buried
+mod Covered
 mod Grains
+mod NearBoxes
 mod SpansPast
