@@ -1,5 +1,8 @@
 mod Buried
+mod Counts
 mod Covered
+mod Facing
+mod Firsts
 mod Grains
 mod NearBoxes
 mod SpansPast

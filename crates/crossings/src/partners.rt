@@ -60,10 +60,10 @@ fn partners_among(boxes: &[MaskBox], area: &BoxXY, numbers: &[u32]) -> Partners
     let mut partners = Partners::Nothing;
     for number in numbers {
         if overlaps(area, &boxes[*number as usize].area) {
-            if partners != Partners::Nothing {
-                return Partners::Several;
+            match partners {
+                Partners::Nothing => partners = Partners::One(*number),
+                _ => return Partners::Several,
             }
-            partners = Partners::One(*number);
         }
     }
     partners

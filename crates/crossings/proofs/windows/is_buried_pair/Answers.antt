@@ -3,7 +3,7 @@ use Rattle.std.proofs.Common.{◌≡◌, ◌↔◌, ℕ, ◌<◌, length, ◌≤
 use Rattle.std.proofs.lemmas.List.{get_or_read}
 use Rattle.std.proofs.lemmas.Result.{IfOk-weaker}
 use Rattle.lam_geom.specs.contracts.boxes.MaskLayer.{the_type}
-use Rattle.lam_geom.specs.declared.boxes.MaskLayer.TheVariants.{NB}
+use Rattle.lam_geom.specs.declared.boxes.MaskLayer.TheVariants.{ND, NP, NB}
 use Rattle.crossings.specs.Boxes.{no_box}
 use Rattle.crossings.specs.Crossings.{IsBuriedPair}
 use Rattle.crossings.specs.Pairs.{IsCovered}
@@ -22,8 +22,8 @@ returns c =
     let range = c.numbers.ensures.sound.in_range in
     let p_is = get_or_read boxes p _ c.requires.poly c.index-boxes-poly.is no_box in
     let d_is = get_or_read boxes d _ c.requires.diffusion c.index-boxes-diffusion.is no_box in
-    let p_on = differs_false the_type (search rules) _ _ (sym c.if-ne.ensures) in
-    let d_on = differs_false the_type (search rules) _ _ (sym c.if-ne-2.ensures) in
+    let p_on : c.index-boxes-poly.result.layer ≡ NP = differs_false the_type (search rules) _ _ (sym c.if-ne.ensures) in
+    let d_on : c.index-boxes-diffusion.result.layer ≡ ND = differs_false the_type (search rules) _ _ (sym c.if-ne-2.ensures) in
     let overlap = overlap_read boxes p d _ _ c.requires.poly c.requires.diffusion p_is d_is p_on d_on (c.if-not-overlaps.ensures.0 refl) in
     let common = common_read boxes p d _ _ shared p_is d_is c.common_box-shared.ensures.common in
     let by_window = grains_held tech _ _ margin.result range.extension_buried (ap (λ n. n.extension_buried) c.numbers.ensures.value) margin.ensures.not_negative margin.ensures.within margin.ensures.value in
