@@ -4,5 +4,7 @@ mod Covered
 mod Facing
 mod Firsts
 mod Grains
+mod Leasts
+mod Meetings
 mod NearBoxes
 mod SpansPast

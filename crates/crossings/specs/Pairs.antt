@@ -74,6 +74,11 @@ abbrev pub Least : (ℕ → Type 0) → Option ℕ → Type 0
 Least P None = (k : ℕ) → P k → ⊥
 Least P (Some a) = P a × ((k : ℕ) → P k → a ≤ k)
 
+-- less than the least so far, if there is one
+abbrev pub IsBelow : ℕ → Option ℕ → Type 0
+IsBelow k None = Unit {0}
+IsBelow k (Some a) = k < a
+
 -- ---- how a box stands
 
 -- it crosses this one properly, and overlaps no other

@@ -3,7 +3,7 @@ ghost use Rattle.std.specs.Prelude.{◌≡◌, ◌↔◌, ℕ, ◌<◌, All, Con
 ghost use Rattle.lam_geom.specs.Gaps.{Overlaps};
 ghost use Rattle.crossings.specs.Boxes.{AreSearchable, area_at};
 ghost use Rattle.crossings.specs.Crossings.{IsOverlap};
-ghost use Rattle.crossings.specs.Pairs.{AreFacing, DoOverlap, HowMany, IsPairOf, Meets, StandsAs, Least};
+ghost use Rattle.crossings.specs.Pairs.{AreFacing, DoOverlap, HowMany, IsBelow, IsPairOf, Meets, StandsAs, Least};
 ghost use Rattle.crossings.specs.declared.partners.Partners.TheVariants.{One, Several};
 
 use crate::pair_tests::crossing_axis;
@@ -167,7 +167,9 @@ fn least_among(
     Ok(least)
 }
 
-fn is_below(number: u32, least: Option<u32>) -> bool {
+fn is_below(number: u32, least: Option<u32>) -> bool
+    ensures { IsTrue result ↔ IsBelow number least }
+{
     match least {
         Some(least) => number < least,
         None => true,
