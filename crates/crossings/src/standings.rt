@@ -87,7 +87,7 @@ fn standing_with(
     )? {
         return Ok(Standing::Clear);
     }
-    if partners_of(boxes, index, partner, &mut buffers.near)? == Partners::Several {
+    if let Partners::Several = partners_of(boxes, index, partner, &mut buffers.near)? {
         return Ok(Standing::Bad(partner));
     }
     let poly = &boxes[pair.poly as usize].area;
