@@ -18,9 +18,9 @@ how_many_alike P Q Several to from h = record { a = h.a; b = h.b; apart = h.apar
 
 pub with_more : (numbers : List ℕ) (n : ℕ) (P : ℕ → Type 0) (k : ℕ) → FirstWith numbers (n + 1) P k → FirstWith numbers n P k ⊎ ((k ≡ get_or numbers n 0) × P (get_or numbers n 0))
 with_more numbers n P k h = elim (first_more numbers n k h.0) [
-    | inl before ↦ inl (before, h.1)
-    | inr e ↦ inr (sym e, subst P (sym e) h.1)
-  ]
+  | inl before ↦ inl (before, h.1)
+  | inr e ↦ inr (sym e, subst P (sym e) h.1)
+]
 
 pub with_on : (numbers : List ℕ) (n : ℕ) (P : ℕ → Type 0) (k : ℕ) → FirstWith numbers n P k → FirstWith numbers (n + 1) P k
 with_on numbers n P k h = (first_on numbers n k h.0, h.1)
@@ -34,35 +34,36 @@ how_many_kept numbers n P w h lacks = how_many_alike (FirstWith numbers n P) (Fi
 
 -- the first with the fact
 pub how_many_first : (numbers : List ℕ) (n : ℕ) (P : ℕ → Type 0) → HowMany (FirstWith numbers n P) Nothing → P (get_or numbers n 0) → HowMany (FirstWith numbers (n + 1) P) (One (get_or numbers n 0))
-how_many_first numbers n P none here =
-    ((first_new numbers n, here),
-     λ k h. elim (with_more numbers n P k h) [ inl before ↦ absurd (none k before) | inr new ↦ new.0 ])
+how_many_first numbers n P none here = (
+  (first_new numbers n, here),
+  λ k h. elim (with_more numbers n P k h) [ inl before ↦ absurd (none k before) | inr new ↦ new.0 ],
+)
 
 -- a further one
 pub how_many_further : (numbers : List ℕ) (n : ℕ) (P : ℕ → Type 0) (w : Partners) → HowMany (FirstWith numbers n P) w → (w ≡ Nothing → ⊥) → AreDistinct numbers → n < length numbers
     → P (get_or numbers n 0) → AreTwo (λ k. Contains numbers k × P k)
 how_many_further numbers n P Nothing h some distinct lt here = absurd (some refl)
 how_many_further numbers n P (One a) h some distinct lt here = record {
-    a = a;
-    b = get_or numbers n 0;
-    apart = λ e. let first = h.0.0 in
-        let before = first.before in
-        let same : first.place ≡ n = distinct first.place n (omega arith) lt (first.is ∙ e) in
-        omega arith;
-    at_a = (contains_first numbers n a (omega arith) h.0.0, h.0.1);
-    at_b = (contains_first numbers (n + 1) (get_or numbers n 0) (omega arith) (first_new numbers n), here);
-  }
+  a = a;
+  b = get_or numbers n 0;
+  apart = λ e. let first = h.0.0 in
+      let before = first.before in
+      let same : first.place ≡ n = distinct first.place n (omega arith) lt (first.is ∙ e) in
+      omega arith;
+  at_a = (contains_first numbers n a (omega arith) h.0.0, h.0.1);
+  at_b = (contains_first numbers (n + 1) (get_or numbers n 0) (omega arith) (first_new numbers n), here);
+}
 how_many_further numbers n P Several h some distinct lt here = record {
-    a = h.a;
-    b = h.b;
-    apart = h.apart;
-    at_a = (contains_first numbers n h.a (omega arith) h.at_a.0, h.at_a.1);
-    at_b = (contains_first numbers n h.b (omega arith) h.at_b.0, h.at_b.1);
-  }
+  a = h.a;
+  b = h.b;
+  apart = h.apart;
+  at_a = (contains_first numbers n h.a (omega arith) h.at_a.0, h.at_a.1);
+  at_b = (contains_first numbers n h.b (omega arith) h.at_b.0, h.at_b.1);
+}
 
 -- all numbers
 pub how_many_all : (numbers : List ℕ) (n : ℕ) (P : ℕ → Type 0) (w : Partners) → n ≡ length numbers → HowMany (FirstWith numbers n P) w → HowMany (λ k. Contains numbers k × P k) w
 how_many_all numbers n P w all h =
     how_many_alike (FirstWith numbers n P) (λ k. Contains numbers k × P k) w
-        (λ k m. (contains_first numbers n k (omega arith) m.0, m.1))
-        (λ k m. (first_contained numbers n k (omega arith) m.0, m.1)) h
+    (λ k m. (contains_first numbers n k (omega arith) m.0, m.1))
+    (λ k m. (first_contained numbers n k (omega arith) m.0, m.1)) h

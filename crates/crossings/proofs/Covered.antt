@@ -19,23 +19,25 @@ pub covered_among : (boxes : List MaskBox) (layer : MaskLayer) (area : BoxXY) (m
     → IsTrue b ↔ IsCovered boxes layer area margin
 covered_among boxes layer area margin found true low near h =
     (λ _. record { cover = h.0; is_on = near_is_on boxes layer area (pos 0) h.0 (near.sound h.0 h.1); covers = h.2 }, λ _. refl)
-covered_among boxes layer area margin found false low near h =
-    (λ t. let no : ⊥ = cc in absurd no,
-     λ is. let gap = cover_is_near (area_at boxes is.cover) area margin low is.covers in
-        let there = near.complete is.cover (near_by_gap boxes layer area (pos 0) is.cover is.is_on gap) in
-        absurd (All-contains (λ k. Encloses (area_at boxes k) area margin → ⊥) found is.cover h there is.covers))
+covered_among boxes layer area margin found false low near h = (
+  λ t. let no : ⊥ = cc in absurd no,
+  λ is. let gap = cover_is_near (area_at boxes is.cover) area margin low is.covers in
+      let there = near.complete is.cover (near_by_gap boxes layer area (pos 0) is.cover is.is_on gap) in
+      absurd (All-contains (λ k. Encloses (area_at boxes k) area margin → ⊥) found is.cover h there is.covers),
+)
 
 -- a depletion transistor, by an implant over its channel
 pub implanted_by_cover : (tech : Tech) (boxes : List MaskBox) (channel : BoxXY) (margin : ℤ) (b : Bool) → margin ≡ grains tech (numbers_of tech).extension_implant
     → IsTrue b ↔ IsCovered boxes NI channel margin → IsTrue b ↔ IsImplanted tech boxes channel
-implanted_by_cover tech boxes channel margin b is h =
-    (λ t. let found = h.0 t in record {
-        implant = found.cover;
-        is_implant = found.is_on;
-        covered = subst (λ (m : ℤ). Encloses (area_at boxes found.cover) channel m) is found.covers;
-      },
-     λ k. h.1 (record {
-        cover = k.implant;
-        is_on = k.is_implant;
-        covers = subst (λ (m : ℤ). Encloses (area_at boxes k.implant) channel m) (sym is) k.covered;
-      }))
+implanted_by_cover tech boxes channel margin b is h = (
+  λ t. let found = h.0 t in record {
+    implant = found.cover;
+    is_implant = found.is_on;
+    covered = subst (λ (m : ℤ). Encloses (area_at boxes found.cover) channel m) is found.covers;
+  },
+  λ k. h.1 (record {
+    cover = k.implant;
+    is_on = k.is_implant;
+    covers = subst (λ (m : ℤ). Encloses (area_at boxes k.implant) channel m) (sym is) k.covered;
+  }),
+)

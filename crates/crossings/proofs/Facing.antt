@@ -23,21 +23,21 @@ facing_cases NB m h = let none : ⊥ = cc in absurd none
 -- boxes that overlap are on layers that cross
 pub overlap_faces : (boxes : List MaskBox) (a b : ℕ) → DoOverlap boxes a b → AreFacing boxes a b
 overlap_faces boxes a b (inl h) = record {
-    a_among = h.poly.among;
-    b_among = h.diffusion.among;
-    facing = ap facing_of h.poly.on ∙ ap (λ (m : MaskLayer). Some m) (sym h.diffusion.on);
-  }
+  a_among = h.poly.among;
+  b_among = h.diffusion.among;
+  facing = ap facing_of h.poly.on ∙ ap (λ (m : MaskLayer). Some m) (sym h.diffusion.on);
+}
 overlap_faces boxes a b (inr h) = record {
-    a_among = h.diffusion.among;
-    b_among = h.poly.among;
-    facing = ap facing_of h.diffusion.on ∙ ap (λ (m : MaskLayer). Some m) (sym h.poly.on);
-  }
+  a_among = h.diffusion.among;
+  b_among = h.poly.among;
+  facing = ap facing_of h.diffusion.on ∙ ap (λ (m : MaskLayer). Some m) (sym h.poly.on);
+}
 
 pub overlap_by_area : (boxes : List MaskBox) (a b : ℕ) → AreFacing boxes a b → Overlaps (area_at boxes a) (area_at boxes b) → DoOverlap boxes a b
 overlap_by_area boxes a b h overlap = elim (facing_cases (layer_at boxes a) (layer_at boxes b) h.facing) [
-    | inl e ↦ inl (record { poly = record { among = h.a_among; on = e.0 }; diffusion = record { among = h.b_among; on = e.1 }; overlap = overlap })
-    | inr e ↦ inr (record { poly = record { among = h.b_among; on = e.1 }; diffusion = record { among = h.a_among; on = e.0 }; overlap = overlap_turned (area_at boxes a) (area_at boxes b) overlap })
-  ]
+  | inl e ↦ inl (record { poly = record { among = h.a_among; on = e.0 }; diffusion = record { among = h.b_among; on = e.1 }; overlap = overlap })
+  | inr e ↦ inr (record { poly = record { among = h.b_among; on = e.1 }; diffusion = record { among = h.a_among; on = e.0 }; overlap = overlap_turned (area_at boxes a) (area_at boxes b) overlap })
+]
 
 pub area_overlap : (boxes : List MaskBox) (a b : ℕ) → DoOverlap boxes a b → Overlaps (area_at boxes a) (area_at boxes b)
 area_overlap boxes a b (inl h) = h.overlap
@@ -57,14 +57,14 @@ overlap_near boxes layer a found facing near k h =
     let same : Some (layer_at boxes k) ≡ Some layer = sym faces.facing ∙ facing in
     let on : layer_at boxes k ≡ layer = cc in
     near.complete k (near_by_gap boxes layer (area_at boxes a) (pos 0) k (record { among = faces.b_among; on = on })
-        (overlap_is_near (area_at boxes a) (area_at boxes k) (area_overlap boxes a k h)))
+    (overlap_is_near (area_at boxes a) (area_at boxes k) (area_overlap boxes a k h)))
 
 pub partners_near : (boxes : List MaskBox) (layer : MaskLayer) (a : ℕ) (found : List ℕ) (w : Partners) → a < length boxes → facing_of (layer_at boxes a) ≡ Some layer
     → AreNear boxes layer (area_at boxes a) (pos 0) found → HowMany (λ k. Contains found k × Overlaps (area_at boxes a) (area_at boxes k)) w → HowMany (DoOverlap boxes a) w
 partners_near boxes layer a found w among facing near h =
     how_many_alike (λ k. Contains found k × Overlaps (area_at boxes a) (area_at boxes k)) (DoOverlap boxes a) w
-        (λ k m. overlap_by_area boxes a k (near_faces boxes layer a found among facing near k m.0) m.1)
-        (λ k m. (overlap_near boxes layer a found facing near k m, area_overlap boxes a k m)) h
+    (λ k m. overlap_by_area boxes a k (near_faces boxes layer a found among facing near k m.0) m.1)
+    (λ k m. (overlap_near boxes layer a found facing near k m, area_overlap boxes a k m)) h
 
 -- a box of another layer overlaps none
 pub none_faces : (boxes : List MaskBox) (a : ℕ) → facing_of (layer_at boxes a) ≡ None → (k : ℕ) → DoOverlap boxes a k → ⊥

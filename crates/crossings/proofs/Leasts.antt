@@ -15,22 +15,25 @@ least_kept numbers n P w h lacks = least_alike (FirstWith numbers n P) (FirstWit
 -- one that is not less
 pub least_stays : (numbers : List ℕ) (n : ℕ) (P : ℕ → Type 0) (w : Option ℕ) → Least (FirstWith numbers n P) w → (IsBelow (get_or numbers n 0) w → ⊥) → Least (FirstWith numbers (n + 1) P) w
 least_stays numbers n P None h above = absurd (above tt)
-least_stays numbers n P (Some a) h above =
-    (with_on numbers n P a h.0,
-     λ k m. elim (with_more numbers n P k m) [ inl before ↦ h.1 k before | inr new ↦ let e = new.0 in omega (arith, above) ])
+least_stays numbers n P (Some a) h above = (
+  with_on numbers n P a h.0,
+  λ k m. elim (with_more numbers n P k m) [ inl before ↦ h.1 k before | inr new ↦ let e = new.0 in omega (arith, above) ],
+)
 
 -- one that is less
 pub least_falls : (numbers : List ℕ) (n : ℕ) (P : ℕ → Type 0) (w : Option ℕ) → Least (FirstWith numbers n P) w → IsBelow (get_or numbers n 0) w → P (get_or numbers n 0) → Least (FirstWith numbers (n + 1) P) (Some (get_or numbers n 0))
-least_falls numbers n P None h below here =
-    ((first_new numbers n, here),
-     λ k m. elim (with_more numbers n P k m) [ inl before ↦ absurd (h k before) | inr new ↦ let e = new.0 in omega arith ])
-least_falls numbers n P (Some a) h below here =
-    ((first_new numbers n, here),
-     λ k m. elim (with_more numbers n P k m) [ inl before ↦ let le = h.1 k before in omega arith | inr new ↦ let e = new.0 in omega arith ])
+least_falls numbers n P None h below here = (
+  (first_new numbers n, here),
+  λ k m. elim (with_more numbers n P k m) [ inl before ↦ absurd (h k before) | inr new ↦ let e = new.0 in omega arith ],
+)
+least_falls numbers n P (Some a) h below here = (
+  (first_new numbers n, here),
+  λ k m. elim (with_more numbers n P k m) [ inl before ↦ let le = h.1 k before in omega arith | inr new ↦ let e = new.0 in omega arith ],
+)
 
 -- all numbers
 pub least_all : (numbers : List ℕ) (n : ℕ) (P : ℕ → Type 0) (w : Option ℕ) → n ≡ length numbers → Least (FirstWith numbers n P) w → Least (λ k. Contains numbers k × P k) w
 least_all numbers n P w all h =
     least_alike (FirstWith numbers n P) (λ k. Contains numbers k × P k) w
-        (λ k m. (contains_first numbers n k (omega arith) m.0, m.1))
-        (λ k m. (first_contained numbers n k (omega arith) m.0, m.1)) h
+    (λ k m. (contains_first numbers n k (omega arith) m.0, m.1))
+    (λ k m. (first_contained numbers n k (omega arith) m.0, m.1)) h

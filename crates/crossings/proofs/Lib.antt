@@ -4,7 +4,9 @@ mod Covered
 mod Facing
 mod Firsts
 mod Grains
+mod InOrder
 mod Leasts
 mod Meetings
 mod NearBoxes
+mod Settled
 mod SpansPast

@@ -35,10 +35,12 @@ pub fn crossings(
     for number in 0..boxes.len() as u32 {
         match standing_of(tech, boxes, index, number, &mut buffers)? {
             Standing::Bad(other) => return Err(CrossingFault::NotProper(number, other)),
-            Standing::Crosses(pair, axis) if pair.diffusion == number => {
-                add_crossing(tech, boxes, index, pair, axis, &mut buffers, &mut crossings)?;
+            Standing::Crosses(pair, axis) => {
+                if pair.diffusion == number {
+                    add_crossing(tech, boxes, index, pair, axis, &mut buffers, &mut crossings)?;
+                }
             }
-            _ => {}
+            Standing::Clear => {}
         }
     }
     Ok(crossings)

@@ -24,14 +24,14 @@ returns c =
     let d_is = get_or_default boxes pair.diffusion c.index-boxes-pair-2.result no_box meeting.overlap.diffusion.among in
     let by_implant = grains_held tech _ _ margin.result numbers.sound.in_range.extension_implant (ap (λ n. n.extension_implant) numbers.value) margin.ensures.not_negative margin.ensures.within margin.ensures.value in
     record {
-        added = record { poly = pair.poly; diffusion = pair.diffusion; axis = c.args.axis; channel = channel; depletion = depletion };
-        items = c.in_ok-push.ensures.items;
-        is_crossing = record {
-            meeting = meeting;
-            along = c.requires.along;
-            channel = common_read boxes pair.poly pair.diffusion _ _ channel p_is d_is c.common_box-channel.ensures.common;
-            depletion = implanted_by_cover tech boxes channel (to_z w64 (of_z w64 margin.result)) depletion by_implant c.in_ok-depletion.ensures;
-          };
-        poly = refl;
-        diffusion = refl;
-      }
+      added = record { poly = pair.poly; diffusion = pair.diffusion; axis = c.args.axis; channel = channel; depletion = depletion };
+      items = c.in_ok-push.ensures.items;
+      is_crossing = record {
+        meeting = meeting;
+        along = c.requires.along;
+        channel = common_read boxes pair.poly pair.diffusion _ _ channel p_is d_is c.common_box-channel.ensures.common;
+        depletion = implanted_by_cover tech boxes channel (to_z w64 (of_z w64 margin.result)) depletion by_implant c.in_ok-depletion.ensures;
+      };
+      poly = refl;
+      diffusion = refl;
+    }

@@ -12,7 +12,7 @@ use Rattle.crossings.proofs.partners.partners_of.Goals as goal
 pub partners_among-requires-clause-numbers : goal.partners_among-requires-clause-numbers
 partners_among-requires-clause-numbers c =
     near_among c.args.boxes.now c.in-Some.layer c.index-boxes-number.result.area (pos 0) _
-        (near_alike _ _ c.in-Some.layer c.index-boxes-number.result.area (pos 0) _ _ c.requires.indexed c.deref.ensures.value c.in_ok-near.ensures)
+    (near_alike _ _ c.in-Some.layer c.index-boxes-number.result.area (pos 0) _ _ c.requires.indexed c.deref.ensures.value c.in_ok-near.ensures)
 
 pub returns : goal.returns
 returns c =

@@ -15,13 +15,13 @@ loop-other-preserved c =
       | then-is_below+in_ok-meets+then-branch w ↦
           subst at (sym w.least-is) (least_falls others n P c.loop-other.least c.loop-other.invariant (c.is_below.ensures.0 w.if-is_below.true) (w.in_ok-meets.ensures.0 w.if-branch.true))
       | else-is_below w ↦ subst at (sym w.least-is) (elim w.else-is_below.branch [
-          | else-is_below-via-then-is_below+in_ok-meets+else-branch v ↦
-              let lacks = λ (h : P (get_or others n 0)). let t : v.in_ok-meets.field-0 ≡ true = v.in_ok-meets.ensures.1 h in let e : v.in_ok-meets.field-0 ≡ false = v.if-branch.false in let none : ⊥ = cc in none in
-              least_kept others n P c.loop-other.least c.loop-other.invariant lacks
-          | else-is_below-via-else-is_below v ↦
-              let above = λ (h : IsBelow (get_or others n 0) c.loop-other.least). let t : c.is_below.result ≡ true = c.is_below.ensures.1 h in let e : c.is_below.result ≡ false = v.if-is_below.false in let none : ⊥ = cc in none in
-              least_stays others n P c.loop-other.least c.loop-other.invariant above
-        ])
+        | else-is_below-via-then-is_below+in_ok-meets+else-branch v ↦
+            let lacks = λ (h : P (get_or others n 0)). let t : v.in_ok-meets.field-0 ≡ true = v.in_ok-meets.ensures.1 h in let e : v.in_ok-meets.field-0 ≡ false = v.if-branch.false in let none : ⊥ = cc in none in
+            least_kept others n P c.loop-other.least c.loop-other.invariant lacks
+        | else-is_below-via-else-is_below v ↦
+            let above = λ (h : IsBelow (get_or others n 0) c.loop-other.least). let t : c.is_below.result ≡ true = c.is_below.ensures.1 h in let e : c.is_below.result ≡ false = v.if-is_below.false in let none : ⊥ = cc in none in
+            least_stays others n P c.loop-other.least c.loop-other.invariant above
+      ])
     ]
 
 pub returns : goal.returns

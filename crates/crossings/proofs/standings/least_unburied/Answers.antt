@@ -37,5 +37,5 @@ returns c =
     let P : ℕ → Type 0 = Meets tech boxes number in
     let Q : ℕ → Type 0 = λ k. Contains shown k × Meets tech boxes number k in
     IfOk-weaker c.least_among.result (Least Q) (Least P)
-        (λ w. least_alike Q P w (λ k m. m.1) (λ k m. (overlap_near boxes layer number shown facing near_own k (meets_overlap tech boxes number k m), m)))
-        c.least_among.ensures
+    (λ w. least_alike Q P w (λ k m. m.1) (λ k m. (overlap_near boxes layer number shown facing near_own k (meets_overlap tech boxes number k m), m)))
+    c.least_among.ensures

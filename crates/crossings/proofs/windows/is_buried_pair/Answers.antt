@@ -29,5 +29,5 @@ returns c =
     let by_window = grains_held tech _ _ margin.result range.extension_buried (ap (λ n. n.extension_buried) c.numbers.ensures.value) margin.ensures.not_negative margin.ensures.within margin.ensures.value in
     let has = sym c.has_buried.ensures ∙ c.if-not-has_buried.false in
     IfOk-weaker c.is_covered.result (λ b. IsTrue b ↔ IsCovered boxes NB shared (to_z w64 (of_z w64 margin.result))) (λ b. IsTrue b ↔ IsBuriedPair tech boxes p d)
-        (λ b. buried_by_window tech boxes p d shared (to_z w64 (of_z w64 margin.result)) b has overlap common by_window)
-        c.is_covered.ensures
+    (λ b. buried_by_window tech boxes p d shared (to_z w64 (of_z w64 margin.result)) b has overlap common by_window)
+    c.is_covered.ensures
