@@ -1,10 +1,10 @@
 -- How many numbers of a list have a fact, as far as the first ones.
-use Rattle.std.proofs.Common.{◌≡◌, ℕ, ◌+◌, ◌<◌, ◌≤◌, ◌⊎◌, inl, inr, List, length, get_or, subst, sym, ◌∙◌, Contains, refl, arith}
+use Rattle.std.proofs.Common.{◌≡◌, ℕ, ◌+◌, ◌<◌, ◌⊎◌, inl, inr, List, length, get_or, subst, sym, ◌∙◌, Contains, refl, arith}
 use Rattle.box_index.specs.Near.{AreDistinct}
 use Rattle.crossings.specs.declared.partners.Partners.{Partners}
 use Rattle.crossings.specs.declared.partners.Partners.TheVariants.{Nothing, One, Several}
 use Rattle.crossings.specs.Pairs.{AreTwo, HowMany}
-use Rattle.crossings.proofs.Firsts.{IsAmongFirst, none_first, first_more, first_on, first_new, contains_first, first_contained}
+use Rattle.crossings.proofs.Firsts.{IsAmongFirst, first_more, first_on, first_new, contains_first, first_contained}
 
 -- numbers among the first n that have a fact
 abbrev pub FirstWith : List ℕ → ℕ → (ℕ → Type 0) → ℕ → Type 0

@@ -1,12 +1,11 @@
 -- Poly and diffusion that overlap, in either order.
-use Rattle.std.proofs.Common.{◌≡◌, ℕ, ◌<◌, ◌⊎◌, inl, inr, pos, Some, None, List, length, refl, sym, ap, ◌∙◌, subst, Contains}
+use Rattle.std.proofs.Common.{◌≡◌, ℕ, ◌<◌, ◌⊎◌, inl, inr, pos, Some, None, List, length, refl, sym, ap, ◌∙◌, Contains}
 use Rattle.lam_geom.specs.declared.boxes.MaskBox.{MaskBox}
 use Rattle.lam_geom.specs.declared.boxes.MaskLayer.{MaskLayer}
 use Rattle.lam_geom.specs.declared.boxes.MaskLayer.TheVariants.{ND, NP, NC, NM, NI, NB}
 use Rattle.lam_geom.specs.Gaps.{Overlaps}
 use Rattle.box_index.specs.Near.{AreNear}
-use Rattle.crossings.specs.Boxes.{area_at, layer_at, IsOn}
-use Rattle.crossings.specs.Crossings.{IsOverlap}
+use Rattle.crossings.specs.Boxes.{area_at, layer_at}
 use Rattle.crossings.specs.Pairs.{facing_of, AreFacing, DoOverlap, HowMany}
 use Rattle.crossings.specs.declared.partners.Partners.{Partners}
 use Rattle.crossings.proofs.Counts.{how_many_alike}

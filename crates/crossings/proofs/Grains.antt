@@ -1,5 +1,5 @@
 -- A length of the technology in grains is a product of two small numbers.
-use Rattle.std.proofs.Common.{◌≡◌, ◌*◌, ◌^◌, ◌≤◌, ℕ, ℤ, pos, negsuc, ◌≤ℤ◌, ◌*ℤ◌, ap, ◌∙◌, of_z, to_z, w64, arith}
+use Rattle.std.proofs.Common.{◌≡◌, ◌*◌, ◌^◌, ◌≤◌, ℤ, pos, negsuc, ◌≤ℤ◌, ◌*ℤ◌, ap, ◌∙◌, of_z, to_z, w64, arith}
 use Rattle.std.proofs.Math.Nat.{mul-le-mul}
 use Rattle.std.proofs.lemmas.Int.{ints, to_z-of_z}
 use Rattle.rule_table.specs.Bounds.{IsLength}

@@ -1,13 +1,12 @@
 -- Poly and diffusion that meet, in either order.
-use Rattle.std.proofs.Common.{◌≡◌, ◌↔◌, ℕ, ◌≤◌, ◌⊎◌, inl, inr, Bool, IsTrue, List, refl, sym, ◌∙◌, subst, arith}
-use Rattle.lam_geom.specs.declared.boxes.Axis.{Axis}
+use Rattle.std.proofs.Common.{◌≡◌, ◌↔◌, ℕ, inl, inr, Bool, IsTrue, List, sym, ◌∙◌, subst}
 use Rattle.lam_geom.specs.declared.boxes.MaskBox.{MaskBox}
 use Rattle.lam_geom.specs.declared.boxes.MaskLayer.TheVariants.{ND, NP}
 use Rattle.lam_geom.specs.Gaps.{Overlaps}
 use Rattle.rule_table.specs.declared.technology.Tech.{Tech}
 use Rattle.crossings.specs.Boxes.{area_at, layer_at, box_at}
-use Rattle.crossings.specs.Crossings.{IsOverlap, IsMeeting, IsImproper, CrossAlong, CrossProperly}
-use Rattle.crossings.specs.Pairs.{AreTwo, HowMany, DoOverlap, IsBadWith, IsPairOf, Meets}
+use Rattle.crossings.specs.Crossings.{IsOverlap, CrossProperly}
+use Rattle.crossings.specs.Pairs.{DoOverlap, Meets}
 
 pub meets_overlap : (tech : Tech) (boxes : List MaskBox) (a b : ℕ) → Meets tech boxes a b → DoOverlap boxes a b
 meets_overlap tech boxes a b (inl h) = inl h.overlap
@@ -32,4 +31,3 @@ poly_alone tech boxes p d overlap proper c (inr h) = absurd (not_both boxes p ov
 pub diffusion_alone : (tech : Tech) (boxes : List MaskBox) (p d : ℕ) → IsOverlap boxes p d → CrossProperly tech boxes p d → (c : ℕ) → DoOverlap boxes d c → c ≡ p
 diffusion_alone tech boxes p d overlap proper c (inr h) = proper.diffusion_alone c h
 diffusion_alone tech boxes p d overlap proper c (inl h) = absurd (not_both boxes d h.poly.on overlap.diffusion.on)
-

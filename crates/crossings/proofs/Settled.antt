@@ -6,9 +6,9 @@ use Rattle.lam_geom.specs.declared.boxes.MaskBox.{MaskBox}
 use Rattle.lam_geom.specs.declared.boxes.MaskLayer.TheVariants.{ND}
 use Rattle.rule_table.specs.declared.technology.Tech.{Tech}
 use Rattle.crossings.specs.Boxes.{layer_at}
-use Rattle.crossings.specs.Crossings.{IsMeeting, IsImproper, IsBadPair, IsFirstBadPair, CrossProperly, AreProper}
+use Rattle.crossings.specs.Crossings.{IsMeeting, IsFirstBadPair, CrossProperly, AreProper}
 use Rattle.crossings.specs.Pairs.{Meets, IsBadWith, IsCrossed, IsSettled}
-use Rattle.crossings.proofs.Meetings.{not_both, poly_alone, diffusion_alone}
+use Rattle.crossings.proofs.Meetings.{not_both}
 
 -- ---- a box that is settled
 
@@ -49,9 +49,9 @@ crossed_settles tech boxes a p d axis crossed q e h one = go crossed.one one whe
 -- one more box is settled
 pub settled_more : (tech : Tech) (boxes : List MaskBox) (n : ℕ) → ((a : ℕ) → a < n → IsSettled tech boxes a) → IsSettled tech boxes n → (a : ℕ) → a < n + 1 → IsSettled tech boxes a
 settled_more tech boxes n below here a lt = elim (cases_lt a n) [
-    | inl less ↦ below a less
-    | inr more ↦ let e : n ≡ a = omega arith in subst (λ (k : ℕ). IsSettled tech boxes k) e here
-  ]
+  | inl less ↦ below a less
+  | inr more ↦ let e : n ≡ a = omega arith in subst (λ (k : ℕ). IsSettled tech boxes k) e here
+]
 
 -- all boxes are
 pub all_settled : (tech : Tech) (boxes : List MaskBox) (n : ℕ) → n ≡ length boxes → ((a : ℕ) → a < n → IsSettled tech boxes a) → AreProper tech boxes
@@ -75,22 +75,22 @@ not_with_itself tech boxes a b (inr h) e = poly_no_diffusion tech boxes b a b a 
 
 above_settled : (tech : Tech) (boxes : List MaskBox) (a b : ℕ) → ((c : ℕ) → c < a → IsSettled tech boxes c) → IsBadWith tech boxes a b → a < b
 above_settled tech boxes a b below bad = elim (cases_lt a b) [
-    | inl less ↦ less
-    | inr more ↦ elim (cases_lt b a) [
-        | inl under ↦ absurd (settled_not_bad tech boxes b a (below b under) (bad_turned tech boxes a b bad))
-        | inr over ↦ absurd (not_with_itself tech boxes a b bad (omega arith))
-      ]
+  | inl less ↦ less
+  | inr more ↦ elim (cases_lt b a) [
+    | inl under ↦ absurd (settled_not_bad tech boxes b a (below b under) (bad_turned tech boxes a b bad))
+    | inr over ↦ absurd (not_with_itself tech boxes a b bad (omega arith))
   ]
+]
 
 -- the least box that the first unsettled one is bad with
 pub first_bad : (tech : Tech) (boxes : List MaskBox) (a b : ℕ) → ((c : ℕ) → c < a → IsSettled tech boxes c) → IsBadWith tech boxes a b → ((c : ℕ) → IsBadWith tech boxes a c → b ≤ c) → IsFirstBadPair tech boxes a b
 first_bad tech boxes a b below bad least = record {
-    bad = (above_settled tech boxes a b below bad, bad);
-    first = λ c d h. elim (cases_lt a c) [
-        | inl less ↦ inl less
-        | inr more ↦ elim (cases_lt c a) [
-            | inl under ↦ absurd (settled_not_bad tech boxes c d (below c under) h.1)
-            | inr over ↦ let e : a ≡ c = omega arith in inr (e, least d (subst (λ (k : ℕ). IsBadWith tech boxes k d) (sym e) h.1))
-          ]
-      ];
-  }
+  bad = (above_settled tech boxes a b below bad, bad);
+  first = λ c d h. elim (cases_lt a c) [
+    | inl less ↦ inl less
+    | inr more ↦ elim (cases_lt c a) [
+      | inl under ↦ absurd (settled_not_bad tech boxes c d (below c under) h.1)
+      | inr over ↦ let e : a ≡ c = omega arith in inr (e, least d (subst (λ (k : ℕ). IsBadWith tech boxes k d) (sym e) h.1))
+    ]
+  ];
+}

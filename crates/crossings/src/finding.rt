@@ -1,5 +1,5 @@
 //! The search for crossings.
-ghost use Rattle.std.specs.Prelude.{◌≡◌, ◌<◌, OnOk, IfOk, IfErr, length};
+ghost use Rattle.std.specs.Prelude.{◌≡◌, OnOk, IfOk, IfErr};
 ghost use Rattle.crossings.specs.Boxes.{AreSearchable, area_at};
 ghost use Rattle.crossings.specs.Crossings.{AreProper, AreCrossings, CrossAlong, IsMeeting, IsCauseOf};
 ghost use Rattle.crossings.specs.Pairs.{AddsCrossing};

@@ -4,7 +4,7 @@ ghost use Rattle.lam_geom.specs.Gaps.{Overlaps};
 ghost use Rattle.lam_geom.specs.Places.{IsPlacedBox};
 ghost use Rattle.box_index.specs.Near.{AreDistinct};
 ghost use Rattle.crossings.specs.Boxes.{AreSearchable, area_at};
-ghost use Rattle.crossings.specs.Pairs.{facing_of, AreFacing, DoOverlap, HowMany};
+ghost use Rattle.crossings.specs.Pairs.{facing_of, DoOverlap, HowMany};
 
 use box_index::BoxIndex;
 use lam_geom::{BoxXY, MaskBox, MaskLayer, overlaps};

@@ -1,7 +1,6 @@
 //! How a box of poly or diffusion stands to those that it overlaps.
 ghost use Rattle.std.specs.Prelude.{◌≡◌, ◌↔◌, ℕ, ◌<◌, All, Contains, IsTrue, IfOk, length};
-ghost use Rattle.lam_geom.specs.Gaps.{Overlaps};
-ghost use Rattle.crossings.specs.Boxes.{AreSearchable, area_at};
+ghost use Rattle.crossings.specs.Boxes.{AreSearchable};
 ghost use Rattle.crossings.specs.Crossings.{IsOverlap};
 ghost use Rattle.crossings.specs.Pairs.{AreFacing, DoOverlap, HowMany, IsBelow, IsPairOf, Meets, StandsAs, Least};
 ghost use Rattle.crossings.specs.declared.partners.Partners.TheVariants.{One, Several};

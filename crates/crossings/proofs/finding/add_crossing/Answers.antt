@@ -1,4 +1,4 @@
-use Rattle.std.proofs.Common.{◌≡◌, ◌≤ℤ◌, ℤ, pos, of_z, to_z, w64, refl, ap, arith}
+use Rattle.std.proofs.Common.{of_z, to_z, w64, refl, ap, arith}
 use Rattle.std.proofs.lemmas.Int.{ints}
 use Rattle.std.proofs.lemmas.List.{get_or_default}
 use Rattle.crossings.specs.Boxes.{no_box}

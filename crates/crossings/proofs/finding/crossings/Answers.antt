@@ -1,7 +1,7 @@
-use Rattle.std.proofs.Common.{◌≡◌, ℕ, ◌+◌, ◌<◌, List, length, sym, ◌∙◌, subst, inl, inr, Vec, Global, arith}
+use Rattle.std.proofs.Common.{ℕ, ◌+◌, sym, subst, inl, inr, Vec, Global, arith}
 use Rattle.crossings.specs.declared.crossing.Crossing.{Crossing}
 use Rattle.crossings.specs.Crossings.{IsMeeting}
-use Rattle.crossings.specs.Pairs.{AreCrossingsBelow, IsSettled, StandsAs}
+use Rattle.crossings.specs.Pairs.{AreCrossingsBelow, StandsAs}
 use Rattle.crossings.proofs.InOrder.{below_skip, below_push, below_all}
 use Rattle.crossings.proofs.Settled.{clear_settles, crossed_settles, poly_meets, poly_no_diffusion, settled_more, all_settled, first_bad}
 use Rattle.crossings.proofs.finding.crossings.Goals.{in-Crosses+then-pair-number+in_ok-add_crossing-in-Crosses, in-Crosses+else-pair-number, in-Clear}
@@ -28,7 +28,7 @@ loop-number-preserved c =
           let crossed = subst (StandsAs tech boxes n) w.in-Crosses.is c.in_ok-other.ensures in
           let settled = crossed_settles tech boxes n pair.poly pair.diffusion w.in-Crosses.axis crossed in
           let only = λ (p : ℕ) (h : IsMeeting tech boxes p n).
-              poly_meets tech boxes pair.poly pair.diffusion p crossed.meeting crossed.proper (subst (λ (k : ℕ). IsMeeting tech boxes p k) (sym w.if-pair-number.true) h) in
+          poly_meets tech boxes pair.poly pair.diffusion p crossed.meeting crossed.proper (subst (λ (k : ℕ). IsMeeting tech boxes p k) (sym w.if-pair-number.true) h) in
           let below = below_push tech boxes n pair old _ invariant.0 w.in_ok-add_crossing-in-Crosses.ensures w.if-pair-number.true only in
           (subst (λ (v : Vec Crossing Global). AreCrossingsBelow tech boxes (n + 1) v.items) (sym w.crossings-is) below, settled_more tech boxes n invariant.1 settled)
       | in-Crosses+else-pair-number w ↦
@@ -36,16 +36,17 @@ loop-number-preserved c =
           let crossed = subst (StandsAs tech boxes n) w.in-Crosses.is c.in_ok-other.ensures in
           let settled = crossed_settles tech boxes n pair.poly pair.diffusion w.in-Crosses.axis crossed in
           let none = λ (p : ℕ) (h : IsMeeting tech boxes p n). elim crossed.one as (λ _. ⊥) [
-              | inl at ↦ poly_no_diffusion tech boxes pair.poly pair.diffusion p n crossed.meeting h at
-              | inr at ↦ w.if-pair-number.false at
-            ] in
+            | inl at ↦ poly_no_diffusion tech boxes pair.poly pair.diffusion p n crossed.meeting h at
+            | inr at ↦ w.if-pair-number.false at
+          ] in
           let below = below_skip tech boxes n old invariant.0 none in
           (subst (λ (v : Vec Crossing Global). AreCrossingsBelow tech boxes (n + 1) v.items) (sym w.crossings-is) below, settled_more tech boxes n invariant.1 settled)
       | in-Clear w ↦
           let clear = subst (StandsAs tech boxes n) w.in-Clear.is c.in_ok-other.ensures in
-          let below = below_skip tech boxes n old invariant.0 (λ p h. clear p (inr h)) in
-          (subst (λ (v : Vec Crossing Global). AreCrossingsBelow tech boxes (n + 1) v.items) (sym w.crossings-is) below,
-           settled_more tech boxes n invariant.1 (clear_settles tech boxes n clear))
+          let below = below_skip tech boxes n old invariant.0 (λ p h. clear p (inr h)) in (
+            subst (λ (v : Vec Crossing Global). AreCrossingsBelow tech boxes (n + 1) v.items) (sym w.crossings-is) below,
+            settled_more tech boxes n invariant.1 (clear_settles tech boxes n clear),
+          )
     ]
 
 pub returns-clause-proper : goal.returns-clause-proper

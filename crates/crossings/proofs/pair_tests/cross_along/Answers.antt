@@ -1,7 +1,6 @@
-use Rattle.std.proofs.Common.{◌≡◌, ℤ, pos, ◌≤ℤ◌, false, true, refl, sym, ap, ◌∙◌, arith}
+use Rattle.std.proofs.Common.{◌≡◌, false, true, refl, sym, ap, ◌∙◌, arith}
 use Rattle.std.proofs.lemmas.Int.{ints}
-use Rattle.lam_geom.specs.Gaps.{EnclosesSpan, span_along}
-use Rattle.crossings.specs.Boxes.{other}
+use Rattle.lam_geom.specs.Gaps.{span_along}
 use Rattle.crossings.proofs.Grains.{grains_held}
 use Rattle.crossings.proofs.SpansPast.{past_alike}
 use Rattle.crossings.proofs.pair_tests.cross_along.Goals as goal

@@ -1,5 +1,4 @@
-use Rattle.std.proofs.Common.{arith, ◌≡◌, ◌≤ℤ◌, ◌*ℤ◌, pos, ap, ◌∙◌}
-use Rattle.std.proofs.lemmas.Int.{ints}
+use Rattle.std.proofs.Common.{◌*ℤ◌, pos, ap, ◌∙◌}
 use Rattle.crossings.proofs.Grains.{small_product, product_held}
 use Rattle.crossings.proofs.pair_tests.in_grains.Goals as goal
 

@@ -1,11 +1,9 @@
-use Rattle.std.proofs.Common.{◌≡◌, ◌↔◌, ℕ, ◌+◌, ◌<◌, length, get_or, Bool, IsTrue, true, false, Contains, refl, sym, subst, arith}
+use Rattle.std.proofs.Common.{◌≡◌, ◌↔◌, ℕ, ◌+◌, get_or, IsTrue, true, refl, sym, subst, arith}
 use Rattle.std.proofs.lemmas.List.{get_or_default}
 use Rattle.lam_geom.specs.Gaps.{Overlaps}
 use Rattle.lam_geom.specs.declared.boxes.MaskBox.{MaskBox}
 use Rattle.crossings.specs.Boxes.{area_at, no_box}
 use Rattle.crossings.specs.Pairs.{HowMany}
-use Rattle.crossings.specs.declared.partners.Partners.{Partners}
-use Rattle.crossings.specs.declared.partners.Partners.TheVariants.{Nothing, One}
 use Rattle.crossings.proofs.Counts.{FirstWith, how_many_kept, how_many_first, how_many_further, how_many_all}
 use Rattle.crossings.proofs.partners.partners_among.Goals.{then-overlaps+in-Nothing, else-overlaps}
 use Rattle.crossings.proofs.partners.partners_among.Goals as goal

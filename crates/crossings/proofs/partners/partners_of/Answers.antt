@@ -1,4 +1,4 @@
-use Rattle.std.proofs.Common.{◌≡◌, ℕ, ◌<◌, pos, Some, List, length, sym, ap, ◌∙◌, subst, All, Contains}
+use Rattle.std.proofs.Common.{pos, sym, ap, ◌∙◌, subst, Contains}
 use Rattle.std.proofs.lemmas.List.{get_or_read}
 use Rattle.lam_geom.specs.Gaps.{Overlaps}
 use Rattle.lam_geom.specs.declared.boxes.MaskBox.{MaskBox}

@@ -1,4 +1,4 @@
-use Rattle.std.proofs.Common.{◌≡◌, ◌↔◌, ℕ, ◌+◌, ◌<◌, length, get_or, Option, Some, None, Bool, IsTrue, true, false, Contains, refl, sym, subst, arith}
+use Rattle.std.proofs.Common.{◌≡◌, ℕ, ◌+◌, get_or, Option, true, false, sym, subst, arith}
 use Rattle.crossings.specs.Pairs.{Least, Meets, IsBelow}
 use Rattle.crossings.proofs.Counts.{FirstWith}
 use Rattle.crossings.proofs.Leasts.{least_kept, least_stays, least_falls, least_all}

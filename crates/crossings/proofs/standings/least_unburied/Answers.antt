@@ -1,9 +1,9 @@
-use Rattle.std.proofs.Common.{◌≡◌, ℕ, ◌<◌, pos, Some, List, Option, length, get_or, sym, ap, ◌∙◌, subst, All, Contains}
+use Rattle.std.proofs.Common.{ℕ, pos, get_or, sym, ap, ◌∙◌, subst, Contains}
 use Rattle.std.proofs.lemmas.List.{get_or_read, get_or_default}
 use Rattle.std.proofs.lemmas.Result.{IfOk-weaker}
 use Rattle.lam_geom.specs.declared.boxes.MaskBox.{MaskBox}
 use Rattle.box_index.specs.Near.{AreNear}
-use Rattle.crossings.specs.Boxes.{area_at, no_box}
+use Rattle.crossings.specs.Boxes.{no_box}
 use Rattle.crossings.specs.Pairs.{facing_of, Least, Meets}
 use Rattle.crossings.proofs.Facing.{near_faces, overlap_near}
 use Rattle.crossings.proofs.Leasts.{least_alike}

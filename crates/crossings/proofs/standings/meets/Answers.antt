@@ -1,4 +1,4 @@
-use Rattle.std.proofs.Common.{◌≡◌, ◌↔◌, ℕ, IsTrue, false, true, refl}
+use Rattle.std.proofs.Common.{false, true, refl}
 use Rattle.std.proofs.lemmas.List.{get_or_default}
 use Rattle.crossings.specs.Boxes.{no_box}
 use Rattle.crossings.proofs.Facing.{overlap_by_area, area_overlap}

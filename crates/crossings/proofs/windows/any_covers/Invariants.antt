@@ -1,4 +1,4 @@
-use Rattle.std.proofs.Common.{◌≡◌, ℕ, ◌<◌, get_or}
+use Rattle.std.proofs.Common.{ℕ, ◌<◌, get_or}
 use Rattle.lam_geom.specs.Gaps.{Encloses}
 use Rattle.crossings.specs.Boxes.{area_at}
 use Rattle.crossings.proofs.windows.any_covers.Given as goal

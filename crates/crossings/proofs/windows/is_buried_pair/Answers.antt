@@ -1,5 +1,5 @@
 use denote.Enum.Bare.{differs_false}
-use Rattle.std.proofs.Common.{◌≡◌, ◌↔◌, ℕ, ◌<◌, length, ◌≤ℤ◌, pos, ℤ, of_z, to_z, w64, Bool, IsTrue, refl, sym, ap, ◌∙◌, rules}
+use Rattle.std.proofs.Common.{◌≡◌, ◌↔◌, of_z, to_z, w64, IsTrue, refl, sym, ap, ◌∙◌, rules}
 use Rattle.std.proofs.lemmas.List.{get_or_read}
 use Rattle.std.proofs.lemmas.Result.{IfOk-weaker}
 use Rattle.lam_geom.specs.contracts.boxes.MaskLayer.{the_type}

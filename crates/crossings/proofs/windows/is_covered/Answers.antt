@@ -1,4 +1,4 @@
-use Rattle.std.proofs.Common.{◌≡◌, ◌↔◌, ℕ, ◌<◌, length, ◌≤ℤ◌, pos, ℤ, of_z, to_z, w64, subst, All, IsTrue, arith}
+use Rattle.std.proofs.Common.{◌↔◌, pos, ℤ, of_z, to_z, w64, subst, IsTrue, arith}
 use Rattle.std.proofs.lemmas.Int.{ints, to_z-of_z}
 use Rattle.crossings.specs.Pairs.{IsCovered}
 use Rattle.crossings.proofs.Covered.{covered_among}
