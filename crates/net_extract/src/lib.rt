@@ -5,8 +5,13 @@
 //! half hundredths of a micron.
 #![tactic(auto)]
 
+mod devices;
 mod extraction;
+mod gathering;
+mod linking;
+mod neighbours;
 mod netlist;
+mod placing;
 
 pub use extraction::extract;
 pub use netlist::{Device, ExtractFault, Netlist, Part, Piece};
