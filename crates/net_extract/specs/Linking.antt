@@ -1,16 +1,18 @@
 -- How the lists of neighbours of pieces grow, and which pieces are linked by the areas that they cover.
-use Rattle.std.specs.Prelude.{◌≡◌, ◌≢◌, ℕ, ◌<◌, ◌≤◌, ◌⊎◌, ℤ, ◌≤ℤ◌, Contains, List, length}
+use Rattle.std.specs.Prelude.{◌≡◌, ◌≢◌, ℕ, ◌<◌, ◌≤◌, ◌⊎◌, Contains, List, length, take}
 use Rattle.smallvec.specs.SmallVec.{SmallVec}
 use Rattle.lam_geom.specs.declared.boxes.BoxXY.{BoxXY}
 use Rattle.lam_geom.specs.declared.boxes.MaskBox.{MaskBox}
 use Rattle.lam_geom.specs.declared.boxes.MaskLayer.{MaskLayer}
 use Rattle.lam_geom.specs.declared.boxes.MaskLayer.TheVariants.{NC}
-use Rattle.lam_geom.specs.Gaps.{gap_of_boxes, Touches, Overlaps}
+use Rattle.lam_geom.specs.Gaps.{Touches, Overlaps}
 use Rattle.rule_table.specs.declared.technology.Tech.{Tech}
 use Rattle.graph_search.specs.Search.{neighbours_of, IsBeside}
 use Rattle.crossings.specs.declared.crossing.Crossing.{Crossing}
 use Rattle.crossings.specs.Boxes.{area_at, layer_at, IsOn}
 use Rattle.crossings.specs.Crossings.{IsBuriedPair}
+use Rattle.net_extract.specs.declared.gathering.Reach.{Reach}
+use Rattle.net_extract.specs.declared.gathering.Reach.TheVariants.{Touching, Overlapping}
 use Rattle.net_extract.specs.declared.placing.Placed.{Placed}
 use Rattle.net_extract.specs.Places.{places_of}
 use Rattle.net_extract.specs.Extraction.{IsLink}
@@ -39,16 +41,20 @@ pub record AreEmpty (count : ℕ) (lists : List (SmallVec ℕ)) : Type 0 where
 abbrev pub IsWithin : ℕ → ℕ → ℕ → Type 0
 IsWithin first end b = (first ≤ b) × (b < end)
 
--- a piece with a number within bounds, no farther than so much from an area
-pub record IsNearWithin (pieces : List Placed) (first end : ℕ) (area : BoxXY) (reach : ℤ) (b : ℕ) : Type 0 where
-  pub within : IsWithin first end b
-  pub near : gap_of_boxes area (area_of pieces b) ≤ℤ reach
+abbrev pub IsReached : Reach → BoxXY → BoxXY → Type 0
+IsReached Touching a b = Touches a b
+IsReached Overlapping a b = Overlaps a b
 
--- a piece of a box of a layer, no farther than so much from an area
-pub record IsNearOn (boxes : List MaskBox) (pieces : List Placed) (layer : MaskLayer) (area : BoxXY) (reach : ℤ) (b : ℕ) : Type 0 where
+-- a piece with a number within bounds that touches an area, or overlaps it
+pub record IsNearWithin (pieces : List Placed) (first end : ℕ) (area : BoxXY) (reach : Reach) (b : ℕ) : Type 0 where
+  pub within : IsWithin first end b
+  pub near : IsReached reach area (area_of pieces b)
+
+-- a piece on a layer that touches an area, or overlaps it
+pub record IsNearOn (boxes : List MaskBox) (pieces : List Placed) (layer : MaskLayer) (area : BoxXY) (reach : Reach) (b : ℕ) : Type 0 where
   pub among : b < length pieces
   pub on_layer : layer_at boxes (box_of pieces b) ≡ layer
-  pub near : gap_of_boxes area (area_of pieces b) ≤ℤ reach
+  pub near : IsReached reach area (area_of pieces b)
 
 -- a piece that overlaps an area
 abbrev pub IsOver : List Placed → BoxXY → ℕ → Type 0
@@ -65,6 +71,10 @@ AreOthers pieces group x y = Contains group x × IsOther pieces group (box_of pi
 -- the same of piece a alone
 abbrev pub IsOtherOf : List Placed → List ℕ → ℕ → ℕ → ℕ → Type 0
 IsOtherOf pieces group a x y = (x ≡ a) × IsOther pieces group (box_of pieces a) y
+
+-- the same of the first pieces of the group alone
+abbrev pub IsTaken : List Placed → List ℕ → ℕ → ℕ → ℕ → Type 0
+IsTaken pieces group i x y = Contains (take i group) x × IsOther pieces group (box_of pieces x) y
 
 -- ---- kinds of links
 

@@ -1,31 +1,37 @@
 //! Which pieces lie near an area.
-ghost use Rattle.std.specs.Prelude.{◌≡◌, ℕ, ◌+◌, ◌<◌, ◌≤◌, [], neg_ℤ, pos, ◌≤ℤ◌, All, OnOk, length};
+ghost use Rattle.std.specs.Prelude.{◌≡◌, ℕ, ◌+◌, ◌<◌, ◌≤◌, [], ◌↔◌, All, IsTrue, OnOk, length};
 ghost use Rattle.lam_geom.specs.Places.{IsPlacedBox};
 ghost use Rattle.crossings.specs.Boxes.{AreSearchable};
 ghost use Rattle.net_extract.specs.declared.placing.Placed.{Placed};
 ghost use Rattle.net_extract.specs.Pieces.{ArePiecesOf};
-ghost use Rattle.net_extract.specs.Linking.{AreGathered, IsNearWithin, IsNearOn, IsWithin, IsOver};
+ghost use Rattle.net_extract.specs.Linking.{AreGathered, IsNearWithin, IsNearOn, IsWithin, IsOver, IsReached};
 
 use crate::placing::{Pieces, Placed};
 use box_index::BoxIndex;
-use lam_geom::{BoxXY, MaskLayer, gap_box};
+use lam_geom::{BoxXY, MaskLayer, overlaps, touches};
 use std::alloc::AllocError;
 
-/// Puts the pieces on a layer that lie no farther than `reach` from an area behind those in `group`. `found` is a buffer.
-/// The only refusal is want of memory.
+/// How near a piece must be: it touches an area, or shares more than its border.
+#[derive(Clone, Copy, Debug, PartialEq, Eq)]
+pub enum Reach {
+    Touching,
+    Overlapping,
+}
+
+/// Puts the pieces on a layer that touch an area, or overlap it, behind those in `group`. `found` is a buffer. The only
+/// refusal is want of memory.
 pub fn gather(
     index: &BoxIndex,
     pieces: &Pieces,
     layer: MaskLayer,
     area: &BoxXY,
-    reach: i64,
+    reach: Reach,
     found: &mut Vec<u32>,
     group: &mut Vec<u32>,
 ) -> Result<(), AllocError>
     requires searchable { AreSearchable index.now }
     requires pieces { ArePiecesOf index.now pieces.now }
     requires area { IsPlacedBox area.now }
-    requires reach { reach ≤ℤ pos 0 }
     ensures { OnOk result (AreGathered (IsNearOn index.now pieces.now.placed.items layer area.now reach) group.old.items group.new.items) }
 {
     index.near(layer, area, 0, found)?;
@@ -51,9 +57,9 @@ pub fn gather_over(
     ensures { OnOk result (AreGathered (IsOver pieces.now.placed.items area.now) [] group.new.items) }
 {
     group.clear();
-    gather(index, pieces, MaskLayer::ND, area, -1, found, group)?;
-    gather(index, pieces, MaskLayer::NP, area, -1, found, group)?;
-    gather(index, pieces, MaskLayer::NM, area, -1, found, group)?;
+    gather(index, pieces, MaskLayer::ND, area, Reach::Overlapping, found, group)?;
+    gather(index, pieces, MaskLayer::NP, area, Reach::Overlapping, found, group)?;
+    gather(index, pieces, MaskLayer::NM, area, Reach::Overlapping, found, group)?;
     Ok(())
 }
 
@@ -67,14 +73,13 @@ pub fn gather_all(first: u32, end: u32, group: &mut Vec<u32>) -> Result<(), Allo
     Ok(())
 }
 
-// Puts those of the pieces from `first` on, before `end`, that lie no farther than `reach` from an area behind those in
-// `group`.
+// Puts those of the pieces from `first` on, before `end`, that touch an area, or overlap it, behind those in `group`.
 fn gather_within(
     placed: &[Placed],
     first: u32,
     end: u32,
     area: &BoxXY,
-    reach: i64,
+    reach: Reach,
     group: &mut Vec<u32>,
 ) -> Result<(), AllocError>
     requires within { end ≤ length placed.now }
@@ -83,9 +88,20 @@ fn gather_within(
     ensures { OnOk result (AreGathered (IsNearWithin placed.now first end area.now reach) group.old.items group.new.items) }
 {
     for b in first..end {
-        if gap_box(area, &placed[b as usize].area) <= reach {
+        if is_reached(reach, area, &placed[b as usize].area) {
             group.push(b)?;
         }
     }
     Ok(())
+}
+
+fn is_reached(reach: Reach, a: &BoxXY, b: &BoxXY) -> bool
+    requires first { IsPlacedBox a.now }
+    requires second { IsPlacedBox b.now }
+    ensures { IsTrue result ↔ IsReached reach a.now b.now }
+{
+    match reach {
+        Reach::Touching => touches(a, b),
+        Reach::Overlapping => overlaps(a, b),
+    }
 }

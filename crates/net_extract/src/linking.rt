@@ -6,7 +6,7 @@ ghost use Rattle.lam_geom.specs.declared.boxes.MaskLayer.TheVariants.{NP};
 ghost use Rattle.net_extract.specs.Pieces.{ArePiecesOf, AreStarts};
 ghost use Rattle.net_extract.specs.Linking.{AreAdded, IsTouch, IsTouchOf, IsCutLink, IsOverBoth, IsContact, IsContactOf, ArePairOf, AreLinks};
 
-use crate::gathering::{gather, gather_all, gather_over};
+use crate::gathering::{Reach, gather, gather_all, gather_over};
 use crate::neighbours::{empty_lists, link_all, link_one};
 use crate::placing::Pieces;
 use box_index::BoxIndex;
@@ -82,7 +82,7 @@ fn link_touching_of(
     let piece = pieces.placed[a as usize];
     let layer = boxes[piece.box_no as usize].layer;
     group.clear();
-    gather(index, pieces, layer, &piece.area, 0, found, group)?;
+    gather(index, pieces, layer, &piece.area, Reach::Touching, found, group)?;
     link_one(pieces.placed.as_slice(), group.as_slice(), a, lists)?;
     Ok(())
 }
@@ -127,7 +127,7 @@ fn link_cut(
     ensures { OnOk result (AreAdded (IsOverBoth boxes.now pieces.now.placed.items k) lists.old.items lists.new.items) }
 {
     let cut = boxes[k as usize];
-    if cut.layer == MaskLayer::NC {
+    if let MaskLayer::NC = cut.layer {
         gather_over(index, pieces, &cut.area, found, group)?;
         link_all(pieces.placed.as_slice(), group.as_slice(), lists)?;
     }
@@ -180,9 +180,9 @@ fn link_contacts_of(
     ensures { OnOk result (AreAdded (IsContactOf tech.now boxes.now pieces.now.placed.items p) lists.old.items lists.new.items) }
 {
     let poly = boxes[p as usize];
-    if poly.layer != MaskLayer::NP {
+    let MaskLayer::NP = poly.layer else {
         return Ok(());
-    }
+    };
     index.near(MaskLayer::ND, &poly.area, 0, near)?;
     for &d in near.as_slice() {
         if is_buried_pair(tech, boxes, index, p, d, found)? {

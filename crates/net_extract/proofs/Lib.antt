@@ -1,0 +1,5 @@
+pub mod Growth
+pub mod Near
+pub mod Geometry
+pub mod Linked
+pub mod LinkKinds
