@@ -3,3 +3,6 @@ pub mod Near
 pub mod Geometry
 pub mod Linked
 pub mod LinkKinds
+pub mod Areas
+pub mod AllLinks
+pub mod BoxByBox

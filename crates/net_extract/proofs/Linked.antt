@@ -246,24 +246,29 @@ pub no_cut_linked : (boxes : List MaskBox) (pieces : List Placed) (k : ℕ) (lis
 no_cut_linked boxes pieces k lists not_cut = added_none (IsOverBoth boxes pieces k) lists (λ x y h. not_cut h.is_cut.on)
 
 -- the pieces of two boxes
-pub pair_linked : (count : ℕ) (pieces : List Placed) (starts : List ℕ) (p d fp ep fd ed : ℕ) (empty first group : List ℕ) (old new : List (SmallVec ℕ)) → AreStarts count pieces starts → p < count → d < count → empty ≡ []
+abbrev pub IsOfPair : List Placed → ℕ → ℕ → ℕ → Type 0
+IsOfPair pieces p d b = ((b < length pieces) × (box_of pieces b ≡ p)) ⊎ ((b < length pieces) × (box_of pieces b ≡ d))
+
+pub pair_group : (count : ℕ) (pieces : List Placed) (starts : List ℕ) (p d fp ep fd ed : ℕ) (empty first group : List ℕ) → AreStarts count pieces starts → p < count → d < count
     → fp ≡ get_or starts p 0 → ep ≡ get_or starts (p + 1) 0 → fd ≡ get_or starts d 0 → ed ≡ get_or starts (d + 1) 0
-    → AreGathered (IsWithin fp ep) empty first → AreGathered (IsWithin fd ed) first group
-    → AreAdded (AreOthers pieces group) old new → AreAdded (ArePairOf pieces p d) old new
-pair_linked count pieces starts p d fp ep fd ed empty first group old new s lp ld e efp eep efd eed gp gd =
+    → AreGathered (IsWithin fp ep) empty first → AreGathered (IsWithin fd ed) first group → AreGathered (IsOfPair pieces p d) empty group
+pair_group count pieces starts p d fp ep fd ed empty first group s lp ld efp eep efd eed =
     let Of : ℕ → ℕ → Type 0 = λ k b. (b < length pieces) × (box_of pieces b ≡ k) in
     let forth : (k f e b : ℕ) → k < count → f ≡ get_or starts k 0 → e ≡ get_or starts (k + 1) 0 → IsWithin f e b → Of k b = λ k f e b lt ef ee h.
     (let lo = h.0 in let hi = h.1 in of_box_near count pieces starts k s lt b (omega arith, omega arith)) in
     let back : (k f e b : ℕ) → f ≡ get_or starts k 0 → e ≡ get_or starts (k + 1) 0 → Of k b → IsWithin f e b = λ k f e b ef ee h.
     (let w = near_of_box count pieces starts k s b h in let lo = w.0 in let hi = w.1 in (omega arith, omega arith)) in
-    let Two : ℕ → Type 0 = λ b. IsWithin fp ep b ⊎ IsWithin fd ed b in
-    let both : AreGathered Two empty group = gathered_more (IsWithin fp ep) (IsWithin fd ed) Two empty first group (λ b h. h) (λ b h. h) gp gd in
-    let of : (b : ℕ) → Contains group b → Of p b ⊎ Of d b = λ b c. elim (gathered_there Two empty group b e both c) [
-      | inl w ↦ inl (forth p fp ep b lp efp eep w)
-      | inr w ↦ inr (forth d fd ed b ld efd eed w)
-    ] in
-    let there_p : (b : ℕ) → Of p b → Contains group b = λ b h. both.complete b (inl (back p fp ep b efp eep h)) in
-    let there_d : (b : ℕ) → Of d b → Contains group b = λ b h. both.complete b (inr (back d fd ed b efd eed h)) in
+    gathered_more (IsWithin fp ep) (IsWithin fd ed) (IsOfPair pieces p d) empty first group
+    (λ b h. elim h [ inl w ↦ inl (forth p fp ep b lp efp eep w) | inr w ↦ inr (forth d fd ed b ld efd eed w) ])
+    (λ b h. elim h [ inl of ↦ inl (back p fp ep b efp eep of) | inr of ↦ inr (back d fd ed b efd eed of) ])
+
+pub pair_among : (pieces : List Placed) (p d b : ℕ) → IsOfPair pieces p d b → b < length pieces
+pair_among pieces p d b h = elim h [ inl of ↦ of.0 | inr of ↦ of.0 ]
+
+pub pair_linked : (pieces : List Placed) (p d : ℕ) (empty group : List ℕ) (old new : List (SmallVec ℕ)) → empty ≡ [] → AreGathered (IsOfPair pieces p d) empty group
+    → AreAdded (AreOthers pieces group) old new → AreAdded (ArePairOf pieces p d) old new
+pair_linked pieces p d empty group old new e g =
+    let of : (b : ℕ) → Contains group b → IsOfPair pieces p d b = λ b c. gathered_there (IsOfPair pieces p d) empty group b e g c in
     added_as (AreOthers pieces group) (ArePairOf pieces p d) old new
     (λ x y h. elim (of x h.0) [
       | inl xp ↦ elim (of y h.1.0) [
@@ -276,6 +281,6 @@ pair_linked count pieces starts p d fp ep fd ed empty first group old new s lp l
       ]
     ])
     (λ x y h. elim h.ends [
-      | inl ends ↦ (there_p x (h.apart.first, ends.0), (there_d y (h.apart.second, ends.1), h.apart.apart))
-      | inr ends ↦ (there_d x (h.apart.first, ends.0), (there_p y (h.apart.second, ends.1), h.apart.apart))
+      | inl ends ↦ (g.complete x (inl (h.apart.first, ends.0)), (g.complete y (inr (h.apart.second, ends.1)), h.apart.apart))
+      | inr ends ↦ (g.complete x (inr (h.apart.first, ends.0)), (g.complete y (inl (h.apart.second, ends.1)), h.apart.apart))
     ])
