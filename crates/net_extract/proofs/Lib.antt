@@ -6,3 +6,4 @@ pub mod LinkKinds
 pub mod Areas
 pub mod AllLinks
 pub mod BoxByBox
+pub mod NetOfPlace

@@ -4,7 +4,7 @@ ghost use Rattle.lam_geom.specs.Places.{IsPlacedBox};
 ghost use Rattle.crossings.specs.declared.crossing.Crossing.{Crossing};
 ghost use Rattle.crossings.specs.Boxes.{extent, other};
 ghost use Rattle.net_extract.specs.Places.{place};
-ghost use Rattle.net_extract.specs.Netlists.{place_of, nets_of, net_at, device_of};
+ghost use Rattle.net_extract.specs.Netlists.{place_of, nets_of, is_same_part, net_at, device_of};
 ghost use Rattle.net_extract.specs.Pieces.{stand_of};
 ghost use Rattle.net_extract.specs.Devices.{AreRanges, HasBoxes};
 
@@ -74,11 +74,20 @@ fn net_at(pieces: &[Piece], starts: &[u32], box_no: u32, part: Part) -> u32
     let end = starts[box_no as usize + 1];
     for a in first..end {
         let piece = pieces[a as usize];
-        if piece.part == part {
+        if is_same_part(piece.part, part) {
             return piece.net;
         }
     }
     0
+}
+
+fn is_same_part(a: Part, b: Part) -> bool
+    ensures { result ≡ is_same_part a b }
+{
+    matches!(
+        (a, b),
+        (Part::Whole, Part::Whole) | (Part::Low, Part::Low) | (Part::High, Part::High)
+    )
 }
 
 // How long a box is along an axis.
