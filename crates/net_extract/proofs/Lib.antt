@@ -7,3 +7,4 @@ pub mod Areas
 pub mod AllLinks
 pub mod BoxByBox
 pub mod NetOfPlace
+pub mod Extracted
