@@ -8,3 +8,4 @@ pub mod AllLinks
 pub mod BoxByBox
 pub mod NetOfPlace
 pub mod Extracted
+pub mod Determined

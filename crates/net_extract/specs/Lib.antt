@@ -6,3 +6,4 @@ pub mod Linking
 pub mod Placing
 pub mod Devices
 pub mod Faults
+pub mod Laws

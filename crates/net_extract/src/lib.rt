@@ -8,10 +8,12 @@
 mod devices;
 mod extraction;
 mod gathering;
+mod laws;
 mod linking;
 mod neighbours;
 mod netlist;
 mod placing;
 
 pub use extraction::extract;
+pub use laws::netlist_is_determined;
 pub use netlist::{Device, ExtractFault, Netlist, Part, Piece};
