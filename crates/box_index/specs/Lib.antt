@@ -1,1 +1,4 @@
 pub mod Near
+pub mod Tree
+pub mod Found
+pub mod Grown
