@@ -69,8 +69,7 @@ crossed_added boxes k crossing c low high s t old middle new on e el eh is_low i
     let conducts : Conducts (layer_at boxes k) = subst L (sym on) tt in
     let Of : Placed → Type 0 = IsOfBoxAt boxes k crossing in
     let a : Of lower = record { box = refl; conducts = conducts; area = (c, e, is_low); inside = in_low } in
-    let b : Of higher = record { box = refl; conducts = conducts; area = (c, e, is_high); inside = in_high } in
-    (
+    let b : Of higher = record { box = refl; conducts = conducts; area = (c, e, is_high); inside = in_high } in (
       lower ∷ higher ∷ [],
       second ∙ ap (λ (ps : List Placed). ps ++ high ∷ []) first ∙ append_assoc old (low ∷ []) (high ∷ []) ∙ ap (λ (p : Placed). old ++ p ∷ high ∷ []) el ∙ ap (λ (p : Placed). old ++ lower ∷ p ∷ []) eh,
       record {

@@ -93,17 +93,17 @@ among_end tech boxes pieces p area found i old new near at past =
     added_as (IsContactAmong tech boxes pieces p found i) (IsContactOf tech boxes pieces p) old new
     (λ x y h. (h.0, h.2, h.3))
     (λ x y h.
-      (let d : ℕ = h.0 in
-      let o = h.1.overlap in
-      let P : List ℕ → Type 0 = λ xs. Contains xs d in
-      let n : IsNear boxes ND (area_at boxes p) (pos 0) d = record {
-        box = box_at boxes d;
-        there = slice_get-get_or boxes d no_box o.diffusion.among;
-        on_layer = o.diffusion.on;
-        near = overlaps_touch (area_at boxes p) (area_at boxes d) o.overlap;
-      } in
-      let Q : BoxXY → Type 0 = λ s. IsNear boxes ND s (pos 0) d in
-      (d, subst P (sym all) (near.complete d (subst Q (sym at) n)), h.1, h.2)))
+    (let d : ℕ = h.0 in
+    let o = h.1.overlap in
+    let P : List ℕ → Type 0 = λ xs. Contains xs d in
+    let n : IsNear boxes ND (area_at boxes p) (pos 0) d = record {
+      box = box_at boxes d;
+      there = slice_get-get_or boxes d no_box o.diffusion.among;
+      on_layer = o.diffusion.on;
+      near = overlaps_touch (area_at boxes p) (area_at boxes d) o.overlap;
+    } in
+    let Q : BoxXY → Type 0 = λ s. IsNear boxes ND s (pos 0) d in
+    (d, subst P (sym all) (near.complete d (subst Q (sym at) n)), h.1, h.2)))
 
 pub no_contact_of : (tech : Tech) (boxes : List MaskBox) (pieces : List Placed) (p : ℕ) (lists : List (SmallVec ℕ)) → (layer_at boxes p ≡ NP → ⊥) → AreAdded (IsContactOf tech boxes pieces p) lists lists
 no_contact_of tech boxes pieces p lists not_poly = added_none (IsContactOf tech boxes pieces p) lists (λ x y h. not_poly h.1.overlap.poly.on)

@@ -106,23 +106,23 @@ found_end boxes crossings pieces starts layer found i area reach old new pieces_
     let all : take i found ≡ found = take_all i found past in
     gathered_as (IsFoundNear pieces found i area reach) (IsNearOn boxes pieces layer area reach) old new
     (λ b h.
-      (let P : List ℕ → Type 0 = λ xs. Contains xs (box_of pieces b) in
-      let n : IsNear boxes layer area (pos 0) (box_of pieces b) = near.sound (box_of pieces b) (subst P all h.1) in
-      record {
-        among = h.0;
-        on_layer = ap (λ (m : MaskBox). m.layer) (get_or_from_slice_get boxes (box_of pieces b) n.box no_box n.there) ∙ n.on_layer;
-        near = h.2;
-      }))
+    (let P : List ℕ → Type 0 = λ xs. Contains xs (box_of pieces b) in
+    let n : IsNear boxes layer area (pos 0) (box_of pieces b) = near.sound (box_of pieces b) (subst P all h.1) in
+    record {
+      among = h.0;
+      on_layer = ap (λ (m : MaskBox). m.layer) (get_or_from_slice_get boxes (box_of pieces b) n.box no_box n.there) ∙ n.on_layer;
+      near = h.2;
+    }))
     (λ b h.
-      (let P : List ℕ → Type 0 = λ xs. Contains xs (box_of pieces b) in
-      let piece : IsPiece boxes crossings (get_or pieces b no_piece) = pieces_are.each b no_piece h.among in
-      let n : IsNear boxes layer area (pos 0) (box_of pieces b) = record {
-        box = box_at boxes (box_of pieces b);
-        there = slice_get-get_or boxes (box_of pieces b) no_box piece.of_box;
-        on_layer = h.on_layer;
-        near = touches_outer area (area_at boxes (box_of pieces b)) (area_of pieces b) piece.inside (reached_touches reach area (area_of pieces b) h.near);
-      } in
-      (h.among, subst P (sym all) (near.complete (box_of pieces b) n), h.near)))
+    (let P : List ℕ → Type 0 = λ xs. Contains xs (box_of pieces b) in
+    let piece : IsPiece boxes crossings (get_or pieces b no_piece) = pieces_are.each b no_piece h.among in
+    let n : IsNear boxes layer area (pos 0) (box_of pieces b) = record {
+      box = box_at boxes (box_of pieces b);
+      there = slice_get-get_or boxes (box_of pieces b) no_box piece.of_box;
+      on_layer = h.on_layer;
+      near = touches_outer area (area_at boxes (box_of pieces b)) (area_of pieces b) piece.inside (reached_touches reach area (area_of pieces b) h.near);
+    } in
+    (h.among, subst P (sym all) (near.complete (box_of pieces b) n), h.near)))
 
 conducts_cases : (layer : MaskLayer) → Conducts layer → (layer ≡ ND) ⊎ ((layer ≡ NP) ⊎ (layer ≡ NM))
 conducts_cases ND h = inl refl
@@ -147,15 +147,15 @@ over_all boxes crossings pieces starts area empty first second third pieces_are 
     gathered_as Three (IsOver pieces area) [] third
     (λ b h. elim h [ inl two ↦ elim two [ inl o ↦ is ND b o | inr o ↦ is NP b o ] | inr o ↦ is NM b o ])
     (λ b h.
-      (let piece : IsPiece boxes crossings (get_or pieces b no_piece) = pieces_are.each b no_piece h.0 in
-      let back = overlaps_back (area_of pieces b) area h.1 in
-      elim (conducts_cases (layer_at boxes (box_of pieces b)) piece.conducts) [
-        | inl on ↦ inl (inl (record { among = h.0; on_layer = on; near = back }))
-        | inr rest ↦ elim rest [
-          | inl on ↦ inl (inr (record { among = h.0; on_layer = on; near = back }))
-          | inr on ↦ inr (record { among = h.0; on_layer = on; near = back })
-        ]
-      ]))
+    (let piece : IsPiece boxes crossings (get_or pieces b no_piece) = pieces_are.each b no_piece h.0 in
+    let back = overlaps_back (area_of pieces b) area h.1 in
+    elim (conducts_cases (layer_at boxes (box_of pieces b)) piece.conducts) [
+      | inl on ↦ inl (inl (record { among = h.0; on_layer = on; near = back }))
+      | inr rest ↦ elim rest [
+        | inl on ↦ inl (inr (record { among = h.0; on_layer = on; near = back }))
+        | inr on ↦ inr (record { among = h.0; on_layer = on; near = back })
+      ]
+    ]))
     (subst P e g)
 
 -- a box that was found is there
@@ -172,9 +172,9 @@ pub pieces_placed : (boxes : List MaskBox) (crossings : List Crossing) (pieces p
 pieces_placed boxes crossings pieces placed starts within p e =
     All-same (λ (piece : Placed). IsPlacedBox piece.area) placed pieces e
     (λ k d lt.
-      (let piece : IsPiece boxes crossings (get_or pieces k d) = p.each k d lt in
-      let n : ℕ = (get_or pieces k d).box_no in
-      placed_inner (area_at boxes n) (get_or pieces k d).area (within n no_box piece.of_box) piece.inside))
+    (let piece : IsPiece boxes crossings (get_or pieces k d) = p.each k d lt in
+    let n : ℕ = (get_or pieces k d).box_no in
+    placed_inner (area_at boxes n) (get_or pieces k d).area (within n no_box piece.of_box) piece.inside))
 
 -- what has been gathered into an empty list
 gathered_there : (Is : ℕ → Type 0) (old new : List ℕ) (b : ℕ) → old ≡ [] → AreGathered Is old new → Contains new b → Is b
@@ -237,9 +237,9 @@ cut_linked boxes pieces k area group old new on at g =
     (let P : BoxXY → Type 0 = λ s. IsOver pieces s b in g.complete b (subst P (sym at) h)) in
     added_as (AreOthers pieces group) (IsOverBoth boxes pieces k) old new
     (λ x y h.
-      (let first = over x h.0 in
-      let second = over y h.1.0 in
-      record { is_cut = on; apart = record { first = first.0; second = second.0; apart = h.1.1 }; first = first.1; second = second.1 }))
+    (let first = over x h.0 in
+    let second = over y h.1.0 in
+    record { is_cut = on; apart = record { first = first.0; second = second.0; apart = h.1.1 }; first = first.1; second = second.1 }))
     (λ x y h. (there x (h.apart.first, h.first), (there y (h.apart.second, h.second), h.apart.apart)))
 
 pub no_cut_linked : (boxes : List MaskBox) (pieces : List Placed) (k : ℕ) (lists : List (SmallVec ℕ)) → (layer_at boxes k ≡ NC → ⊥) → AreAdded (IsOverBoth boxes pieces k) lists lists

@@ -53,10 +53,10 @@ pub net_of_none : (pieces : List Piece) (starts : List ℕ) (k : ℕ) (part : Pa
 net_of_none pieces starts k part first end j ranges ef ee past others =
     sym (net_missing pieces (place k part)
     (λ i within. (let piece : Piece = get_or pieces i no_netted in
-      elim (cases_lt i j) [
-        | inl lt ↦ not_there pieces starts k part first j ranges ef others i within lt
-        | inr behind ↦ and_left _ (is_same_part piece.part part) (ne_eqb piece.box_no k (λ of. (let own = ranges.own k i within of in let high = own.1 in omega arith)))
-      ])))
+    elim (cases_lt i j) [
+      | inl lt ↦ not_there pieces starts k part first j ranges ef others i within lt
+      | inr behind ↦ and_left _ (is_same_part piece.part part) (ne_eqb piece.box_no k (λ of. (let own = ranges.own k i within of in let high = own.1 in omega arith)))
+    ])))
 
 pub no_others : (pieces : List Piece) (part : Part) (first : ℕ) → AreOtherParts pieces part first first
 no_others pieces part first = λ i le lt. absurd (omega arith)
@@ -74,8 +74,7 @@ pub netted_more : (placed : List Placed) (nets : List ℕ) (a : ℕ) (piece : Pi
     → piece.part ≡ (get_or placed a no_piece).part → piece.net ≡ get_or nets a 0 → new ≡ old ++ piece ∷ []
     → (map place_of old ≡ map stand_of (take a placed)) × (nets_of old ≡ take a nets) → (map place_of new ≡ map stand_of (take (a + 1) placed)) × (nets_of new ≡ take (a + 1) nets)
 netted_more placed nets a piece old new lp ln e_box e_part e_net pushed (places, numbers) =
-    let stands : place_of piece ≡ stand_of (get_or placed a no_piece) = ap (λ (k : ℕ). place k piece.part) e_box ∙ ap (place (get_or placed a no_piece).box_no) e_part in
-    (
+    let stands : place_of piece ≡ stand_of (get_or placed a no_piece) = ap (λ (k : ℕ). place k piece.part) e_box ∙ ap (place (get_or placed a no_piece).box_no) e_part in (
       ap (map place_of) pushed ∙ map_push place_of old piece ∙ ap (λ (ps : List Place). ps ++ place_of piece ∷ []) places ∙ ap (λ (p : Place). map stand_of (take a placed) ++ p ∷ []) stands
           ∙ sym (map_more stand_of placed a no_piece lp),
       ap nets_of pushed ∙ map_push (λ (p : Piece). p.net) old piece ∙ ap (λ (ns : List ℕ). ns ++ piece.net ∷ []) numbers ∙ ap (λ (n : ℕ). take a nets ++ n ∷ []) e_net ∙ sym (take_more nets a 0 ln),

@@ -57,9 +57,33 @@ pub fn gather_over(
     ensures { OnOk result (AreGathered (IsOver pieces.now.placed.items area.now) [] group.new.items) }
 {
     group.clear();
-    gather(index, pieces, MaskLayer::ND, area, Reach::Overlapping, found, group)?;
-    gather(index, pieces, MaskLayer::NP, area, Reach::Overlapping, found, group)?;
-    gather(index, pieces, MaskLayer::NM, area, Reach::Overlapping, found, group)?;
+    gather(
+        index,
+        pieces,
+        MaskLayer::ND,
+        area,
+        Reach::Overlapping,
+        found,
+        group,
+    )?;
+    gather(
+        index,
+        pieces,
+        MaskLayer::NP,
+        area,
+        Reach::Overlapping,
+        found,
+        group,
+    )?;
+    gather(
+        index,
+        pieces,
+        MaskLayer::NM,
+        area,
+        Reach::Overlapping,
+        found,
+        group,
+    )?;
     Ok(())
 }
 

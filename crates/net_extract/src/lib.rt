@@ -13,6 +13,8 @@ mod linking;
 mod neighbours;
 mod netlist;
 mod placing;
+#[cfg(test)]
+mod tests;
 
 pub use extraction::extract;
 pub use laws::netlist_is_determined;

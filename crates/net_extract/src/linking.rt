@@ -57,7 +57,9 @@ fn link_touching(
     let mut found = Vec::new(alloc);
     let mut group = Vec::new(alloc);
     for a in 0..pieces.placed.len() {
-        link_touching_of(boxes, index, pieces, a as u32, &mut found, &mut group, lists)?;
+        link_touching_of(
+            boxes, index, pieces, a as u32, &mut found, &mut group, lists,
+        )?;
     }
     Ok(())
 }
@@ -82,7 +84,15 @@ fn link_touching_of(
     let piece = pieces.placed[a as usize];
     let layer = boxes[piece.box_no as usize].layer;
     group.clear();
-    gather(index, pieces, layer, &piece.area, Reach::Touching, found, group)?;
+    gather(
+        index,
+        pieces,
+        layer,
+        &piece.area,
+        Reach::Touching,
+        found,
+        group,
+    )?;
     link_one(pieces.placed.as_slice(), group.as_slice(), a, lists)?;
     Ok(())
 }
@@ -104,7 +114,9 @@ fn link_cuts(
     let mut found = Vec::new(alloc);
     let mut group = Vec::new(alloc);
     for k in 0..boxes.len() {
-        link_cut(boxes, index, pieces, k as u32, &mut found, &mut group, lists)?;
+        link_cut(
+            boxes, index, pieces, k as u32, &mut found, &mut group, lists,
+        )?;
     }
     Ok(())
 }
@@ -205,8 +217,16 @@ fn link_pair(
     ensures { OnOk result (AreAdded (ArePairOf pieces.now.placed.items p d) lists.old.items lists.new.items) }
 {
     group.clear();
-    gather_all(pieces.starts[p as usize], pieces.starts[p as usize + 1], group)?;
-    gather_all(pieces.starts[d as usize], pieces.starts[d as usize + 1], group)?;
+    gather_all(
+        pieces.starts[p as usize],
+        pieces.starts[p as usize + 1],
+        group,
+    )?;
+    gather_all(
+        pieces.starts[d as usize],
+        pieces.starts[d as usize + 1],
+        group,
+    )?;
     link_all(pieces.placed.as_slice(), group.as_slice(), lists)?;
     Ok(())
 }
