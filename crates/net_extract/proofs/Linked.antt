@@ -1,6 +1,6 @@
 -- What the steps of linking add to lists of neighbours.
-use Rattle.std.proofs.Common.{◌≡◌, ◌≢◌, ℕ, ◌+◌, ◌<◌, ◌≤◌, All, List, [], length, take, get_or, set, pos, Contains, ◌⊎◌, inl, inr, refl, sym, ◌∙◌, ap, subst, arith}
-use Rattle.std.proofs.lemmas.List.{get_or_read, take_all, get_or_default}
+use Rattle.std.proofs.Common.{◌≡◌, ℕ, ◌+◌, ◌<◌, ◌≤◌, All, List, [], length, take, get_or, set, pos, Contains, ◌⊎◌, inl, inr, refl, sym, ◌∙◌, ap, subst, arith}
+use Rattle.std.proofs.lemmas.List.{get_or_read, take_all}
 use Rattle.std.proofs.lemmas.List.Elements.{Contains-get_or, All-same}
 use Rattle.std.proofs.lemmas.Option.{get_or_from_slice_get, slice_get-get_or, slice_get_within}
 use Rattle.smallvec.specs.SmallVec.{SmallVec}
@@ -8,7 +8,7 @@ use Rattle.lam_geom.specs.declared.boxes.BoxXY.{BoxXY}
 use Rattle.lam_geom.specs.declared.boxes.MaskBox.{MaskBox}
 use Rattle.lam_geom.specs.declared.boxes.MaskLayer.{MaskLayer}
 use Rattle.lam_geom.specs.declared.boxes.MaskLayer.TheVariants.{ND, NP, NC, NM, NI, NB}
-use Rattle.lam_geom.specs.Gaps.{Touches, Overlaps}
+use Rattle.lam_geom.specs.Gaps.{Touches}
 use Rattle.lam_geom.specs.Places.{IsPlacedBox}
 use Rattle.box_index.specs.Near.{IsNear, AreNear}
 use Rattle.crossings.specs.declared.crossing.Crossing.{Crossing}
@@ -19,7 +19,7 @@ use Rattle.net_extract.specs.declared.gathering.Reach.{Reach}
 use Rattle.net_extract.specs.declared.gathering.Reach.TheVariants.{Touching, Overlapping}
 use Rattle.net_extract.specs.declared.placing.Placed.{Placed}
 use Rattle.net_extract.specs.Pieces.{no_piece, box_of, area_of, Conducts, IsPiece, AreStarts, ArePieces}
-use Rattle.net_extract.specs.Linking.{AreGathered, AreAdded, IsWithin, IsReached, IsNearWithin, IsNearOn, IsOver, IsOther, AreOthers, IsOtherOf, IsTaken, AreApart, IsTouch, IsTouchOf, IsOverBoth, ArePairOf}
+use Rattle.net_extract.specs.Linking.{AreGathered, AreAdded, IsWithin, IsReached, IsNearWithin, IsNearOn, IsOver, IsOther, AreOthers, IsOtherOf, IsTaken, IsTouch, IsTouchOf, IsOverBoth, ArePairOf}
 use Rattle.net_extract.proofs.Geometry.{touches_outer, overlaps_touch, overlaps_back, placed_inner}
 use Rattle.net_extract.proofs.Growth.{gathered_as, gathered_more, added_set, added_as, added_more, added_none, taken_earlier, taken_last, taken_cases}
 

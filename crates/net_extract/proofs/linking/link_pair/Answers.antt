@@ -1,4 +1,4 @@
-use Rattle.std.proofs.Common.{arith, ◌≡◌, ℕ, ◌+◌, ◌<◌, List, length, get_or}
+use Rattle.std.proofs.Common.{arith, ◌+◌}
 use Rattle.std.proofs.lemmas.List.{get_or_read}
 use Rattle.net_extract.specs.Linking.{AreGathered}
 use Rattle.net_extract.proofs.Linked.{IsOfPair, pair_group, pair_among, group_within, others_read, pair_linked}
