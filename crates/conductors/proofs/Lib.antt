@@ -18,3 +18,5 @@ pub mod MeetingTouch
 pub mod MeetingNets
 pub mod MeetingCuts
 pub mod MeetingLinks
+pub mod PictureLists
+pub mod PictureShapes
