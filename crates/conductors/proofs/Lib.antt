@@ -20,3 +20,9 @@ pub mod MeetingCuts
 pub mod MeetingLinks
 pub mod PictureLists
 pub mod PictureShapes
+pub mod WrittenExtents
+pub mod WrittenWholes
+pub mod WrittenSymbols
+pub mod WrittenPictures
+pub mod WrittenBoxes
+pub mod WrittenNets

@@ -26,6 +26,7 @@ use Rattle.plan_model.specs.Plan.{grids_of}
 use Rattle.plan_model.specs.Rows.{row_at}
 use Rattle.pitch_join.specs.Masters.{ArePlanned, master_at, no_master, ports_of_masters, master_ports}
 use Rattle.grid_rules.specs.Rules.{items_at}
+use Rattle.cif_meaning.proofs.PictureLines.{all_every}
 use Rattle.mask_out.specs.declared.picture.Call.{Call}
 use Rattle.mask_out.specs.Masks.{Mask, layer_drawn, is_drawn, masks_on, mask_layers, masks_in}
 use Rattle.mask_out.specs.Pictures.{Drawing, drawing_in, drawings_in, call_at, shifted, masks_at, masks_called, no_drawing}
@@ -87,10 +88,6 @@ layer_shown tech plan masters layouts p c laid layer =
     (picked_pass (λ n. is_drawn layer (item_at items n).class) (λ n. own layer n ≡ shape (at p n)) (λ n pass. ap (λ l. own l n) (sym (on_its_layer layer (item_at items n).class pass))) (range_with_len 0 (length items)))
     ∙ sym (map-map shape (at p) kept)))))
 
-every_layer : (Holds : MaskLayer → Type 0) → ((layer : MaskLayer) → Holds layer) → (layers : List MaskLayer) → AllByRecursion Holds layers
-every_layer Holds h [] = tt
-every_layer Holds h (layer ∷ layers) = (h layer, every_layer Holds h layers)
-
 -- of all layers
 masks_shown : (tech : Tech) (plan : Plan) (masters : List Master) (layouts : List Coords) (p : Spot) (c : Coords) → layout_at layouts (master_at_spot (grids_of plan) p) ≡ c
     → map (shifted (call_at (size_in X layouts) (size_in Y layouts) (widest_of tech) (grids_of plan) p)) (masks_in c (items_at plan masters p))
@@ -103,8 +100,9 @@ masks_shown tech plan masters layouts p c laid =
     let before : MaskLayer → List Mask = λ layer. map (shifted call) (masks_on c items layer) in
     let behind : MaskLayer → List Mask = λ layer. map shape (map (at p) (items_on items layer)) in
     image_of_pieces (shifted call) (masks_on c items) mask_layers
-    ∙ (same_pieces before behind mask_layers (every_layer (λ layer. before layer ≡ behind layer) (layer_shown tech plan masters layouts p c laid) mask_layers)
+    ∙ (same_pieces before behind mask_layers (all_every (λ layer. before layer ≡ behind layer) (layer_shown tech plan masters layouts p c laid) mask_layers)
     ∙ sym (ap (map shape) (image_of_pieces (at p) (items_on items) mask_layers) ∙ image_of_pieces shape (λ layer. map (at p) (items_on items layer)) mask_layers))
+
 -- ---- the picture
 
 -- the masks of the symbol of a master
