@@ -18,3 +18,11 @@ pub mod MeetingTouch
 pub mod MeetingNets
 pub mod MeetingCuts
 pub mod MeetingLinks
+pub mod PictureLists
+pub mod PictureShapes
+pub mod WrittenExtents
+pub mod WrittenWholes
+pub mod WrittenSymbols
+pub mod WrittenPictures
+pub mod WrittenBoxes
+pub mod WrittenNets
