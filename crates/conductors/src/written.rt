@@ -3,6 +3,7 @@ ghost use Rattle.pitch_join.specs.Masters.{ArePlanned};
 ghost use Rattle.grid_rules.specs.Rules.{AreFinished};
 ghost use Rattle.conductors.specs.Written.{FitIntoText, HasSticksNets, text_of_layouts};
 
+use crate::netlists::extracted_nets_are_the_sticks;
 use expand::Master;
 use plan_model::Plan;
 use rule_table::Tech;
@@ -15,4 +16,6 @@ pub fn written_nets_are_the_sticks(tech: &Tech, plan: &Plan, masters: &[Master],
     requires finished { AreFinished tech.now plan.now masters.now layouts.now }
     requires fit { FitIntoText tech.now plan.now masters.now layouts.now }
     ensures { HasSticksNets tech.now plan.now masters.now layouts.now (text_of_layouts tech.now plan.now masters.now layouts.now) }
-{}
+{
+    extracted_nets_are_the_sticks(tech, plan, masters, layouts);
+}

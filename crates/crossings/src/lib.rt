@@ -1,12 +1,19 @@
 //! Where poly crosses diffusion: transistors, and buried contacts.
 //!
 //! What the layer above uses: `crossings` gives all crossings with their channels, in order of their diffusion, or the first
-//! pair of poly and diffusion that overlap and neither cross properly nor are a buried pair. Lengths are in grains, half
-//! hundredths of a micron.
+//! pair of poly and diffusion that overlap and neither cross properly nor are a buried pair; `is_buried_pair` tests one pair.
+//! Both take an index of the boxes, which the layer above makes once. Lengths are in grains, half hundredths of a micron.
 #![tactic(auto)]
 
 mod crossing;
 mod finding;
+mod pair_tests;
+mod partners;
+mod standings;
+#[cfg(test)]
+mod tests;
+mod windows;
 
 pub use crossing::{Crossing, CrossingFault};
-pub use finding::{crossings, is_buried_pair};
+pub use finding::crossings;
+pub use windows::is_buried_pair;
