@@ -1,5 +1,5 @@
 -- What the CIF text of a file comes to is determined.
-use Rattle.std.proofs.Common.{◌≡◌, ℕ, ◌^◌, ◌≤◌, List, [], length, refl, sym, ap, ◌∙◌, subst, arith}
+use Rattle.std.proofs.Common.{◌≡◌, ◌^◌, ◌≤◌, [], length, refl, sym, ap, ◌∙◌, subst}
 use Rattle.lam_io.specs.Io.{Bytes, Files}
 use Rattle.rule_table.specs.declared.technology.Tech.{Tech}
 use Rattle.cif_nets.specs.declared.netting.NetsFault.{NetsFault}
