@@ -1,5 +1,5 @@
 -- What `compact` answers over a design and a technology: the masks and the report of its masters, or why there are none.
-use Rattle.std.specs.Prelude.{◌≡◌, ℕ, ◌<◌, ◌≤◌, ◌*ℤ◌, ◌≤ℤ◌, ◌<ℤ◌, ◌⊎◌, ℤ, pos, All, Contains, List, [], length, take}
+use Rattle.std.specs.Prelude.{◌≡◌, ℕ, ◌<◌, ◌≤◌, ◌*ℤ◌, ◌≤ℤ◌, ◌<ℤ◌, ◌⊎◌, ℤ, pos, All, Contains, List, [], length, take, flat_map}
 use Rattle.lam_geom.specs.declared.boxes.Axis.{Axis}
 use Rattle.lam_geom.specs.declared.boxes.Axis.TheVariants.{X, Y}
 use Rattle.lam_io.specs.Io.{Bytes}
@@ -28,7 +28,8 @@ use Rattle.pass_run.specs.Report.{report_of}
 use Rattle.pass_run.specs.Theorems.{AreSound}
 use Rattle.pass_run.specs.PassFaults.{RefusesPasses}
 use Rattle.mask_out.specs.Pictures.{drawings_in, calls_of}
-use Rattle.cif_text.specs.Calls.{cif_of}
+use Rattle.cif_text.specs.Calls.{parts_of}
+use Rattle.cif_text.specs.Cutting.{AreCut}
 use Rattle.compact_run.specs.declared.status.What.TheVariants.{Edges, Extent}
 use Rattle.compact_run.specs.declared.status.Status.{Status}
 use Rattle.compact_run.specs.declared.status.Status.TheVariants as status
@@ -93,11 +94,15 @@ pub record ArePlaced (tech : Tech) (plan : Plan) (masters : List Master) (axes :
 abbrev pub HasShortName : Master → Type 0
 HasShortName master = length master.cell.name ≤ 65000
 
--- the text of the masks of the last layouts
-abbrev pub masks_text : Tech → Plan → List Master → List Step → Bytes
-masks_text tech plan masters steps =
-    cif_of (unit_of tech) (drawings_in masters (last_layouts tech masters steps))
+-- the text of each symbol of the masks of the last layouts, and that of the calls with the end
+abbrev pub masks_parts : Tech → Plan → List Master → List Step → List Bytes
+masks_parts tech plan masters steps =
+    parts_of (unit_of tech) (drawings_in masters (last_layouts tech masters steps))
     (calls_of (size_in X (last_layouts tech masters steps)) (size_in Y (last_layouts tech masters steps)) (widest_of tech) (grids_of plan))
+
+-- the text of the masks
+abbrev pub masks_text : Tech → Plan → List Master → List Step → Bytes
+masks_text tech plan masters steps = flat_map (λ part. part) (masks_parts tech plan masters steps)
 
 -- the text of the passes
 abbrev pub passes_text : Tech → Plan → List Master → List Step → Bytes
@@ -112,6 +117,15 @@ pub record CompactsTo (tech : Tech) (axes : List Axis) (design : Design) (output
   pub laid_out : ArePlaced tech plan masters axes steps
   pub written : output ≡ masks_text tech plan masters steps
   pub reported : report ≡ passes_text tech plan masters steps
+
+-- The masks of a design are in these pieces: each of their parts is cut into pieces of whole lines.
+pub record AreMasksIn (tech : Tech) (axes : List Axis) (design : Design) (pieces : List Bytes) : Type 0 where
+  pub plan : Plan
+  pub masters : List Master
+  pub are_masters : AreMastersOf tech design plan masters
+  pub steps : List Step
+  pub laid_out : ArePlaced tech plan masters axes steps
+  pub cut : AreCut (masks_parts tech plan masters steps) pieces
 
 -- The last layouts are too large together: too wide or too high.
 pub record HasLargeExtent (tech : Tech) (plan : Plan) (masters : List Master) (axes : List Axis) : Type 0 where

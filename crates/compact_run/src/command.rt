@@ -67,8 +67,8 @@ fn extract_files<S: Shelf>(
     ensures asked { AsksFor (Some (extract cif.now tech.now)) (ending_of result) (S.told shelf.old) (S.told shelf.new) }
     ensures counts { S.faults shelf.old ≤ S.faults shelf.new }
 {
-    let technology = read_technology(alloc, shelf, tech)?;
-    let text = netlist_of_file(alloc, shelf, cif, &technology)?;
+    let rules = read_technology(alloc, shelf, tech)?;
+    let text = netlist_of_file(alloc, shelf, cif, &rules)?;
     Ok(in_one_piece(alloc, text)?)
 }
 
