@@ -7,10 +7,8 @@ grow with the boxes, whatever their order.
   flat       the same boxes without symbols or calls, in the order of the calls and in a shuffled order
 """
 import os, random, re, resource, subprocess, sys, tempfile
-from compact import HERE, TECH
+from compact import PROGRAM, TECH
 from grids import inverters
-
-PROGRAM = sys.argv[1] if len(sys.argv) > 1 else os.path.join(HERE, "..", "bin", "sticks")
 
 
 def timed(words):
@@ -26,7 +24,7 @@ def timed(words):
 
 
 def flat(cif):
-    """The boxes of a text of one symbol and its calls, one by one, in hundredths of a micron doubled by the scale."""
+    """The boxes of a text of one symbol and its calls, one by one, in hundredths of a micron."""
     above = int(re.search(r"DS 1 (\d+) 1;", cif).group(1))
     layer, boxes = "", []
     for word, rest in re.findall(r"^([LB]) (.*);$", cif, re.M):
