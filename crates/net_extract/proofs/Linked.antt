@@ -262,6 +262,15 @@ pair_group count pieces starts p d fp ep fd ed empty first group s lp ld efp eep
     (λ b h. elim h [ inl w ↦ inl (forth p fp ep b lp efp eep w) | inr w ↦ inr (forth d fd ed b ld efd eed w) ])
     (λ b h. elim h [ inl of ↦ inl (back p fp ep b efp eep of) | inr of ↦ inr (back d fd ed b efd eed of) ])
 
+-- the same, of bounds that were read
+pub pair_read : (count : ℕ) (pieces : List Placed) (starts : List ℕ) (p d fp ep fd ed : ℕ) (empty first group : List ℕ) → (AreStarts count pieces starts × (p < count) × (d < count))
+    → fp ≡ get_or starts p fp → ep ≡ get_or starts (p + 1) ep → fd ≡ get_or starts d fd → ed ≡ get_or starts (d + 1) ed
+    → AreGathered (IsWithin fp ep) empty first → AreGathered (IsWithin fd ed) first group → AreGathered (IsOfPair pieces p d) empty group
+pair_read count pieces starts p d fp ep fd ed empty first group (s, lp, ld) rfp rep rfd red =
+    let n = s.counted in
+    pair_group count pieces starts p d fp ep fd ed empty first group s lp ld
+    (get_or_read starts p fp (omega arith) rfp 0) (get_or_read starts (p + 1) ep (omega arith) rep 0) (get_or_read starts d fd (omega arith) rfd 0) (get_or_read starts (d + 1) ed (omega arith) red 0)
+
 pub pair_among : (pieces : List Placed) (p d b : ℕ) → IsOfPair pieces p d b → b < length pieces
 pair_among pieces p d b h = elim h [ inl of ↦ of.0 | inr of ↦ of.0 ]
 
