@@ -1,5 +1,5 @@
 -- The text of finished layouts means boxes that show the items of all instances.
-use Rattle.std.proofs.Common.{◌≡◌, ℕ, zero, suc, ◌<◌, ℤ, pos, negsuc, ◌+ℤ◌, ◌*ℤ◌, ◌≤ℤ◌, List, [], ◌∷◌, All, Some, length, map, get_or, refl, sym, ap, ◌∙◌, subst, arith}
+use Rattle.std.proofs.Common.{◌≡◌, ℕ, zero, suc, ◌<◌, ℤ, pos, negsuc, ◌+ℤ◌, ◌*ℤ◌, ◌≤ℤ◌, List, [], ◌∷◌, length, map, get_or, refl, sym, ap, ◌∙◌, arith}
 use Rattle.std.specs.List.{AllByRecursion}
 use Rattle.std.proofs.lemmas.Int.{ints}
 use Rattle.std.proofs.lemmas.List.{get_or-map, length-map}
@@ -7,7 +7,6 @@ use Rattle.std.proofs.lemmas.List.Elements.{recursion_from_All}
 use Rattle.std.proofs.lemmas.Option.{slice_get_within, get_or_from_slice_get}
 use Rattle.list_facts.proofs.Elements.{all_map, all_flat, all_weaker}
 use Rattle.lam_geom.specs.declared.boxes.MaskBox.{MaskBox}
-use Rattle.lam_geom.specs.declared.boxes.MaskLayer.{MaskLayer}
 use Rattle.lam_geom.specs.declared.boxes.Span.{Span}
 use Rattle.rule_table.specs.declared.technology.Tech.{Tech}
 use Rattle.sym_items.specs.declared.items.Coords.{Coords}
@@ -22,7 +21,7 @@ use Rattle.cif_read.specs.Files.{drawn_of}
 use Rattle.cif_read.specs.Sheets as sheets
 use Rattle.cif_meaning.specs.Written.{IsUnit, IsWritableMask, IsWritableCall, IsWritablePicture, in_grains, drawn_mask}
 use Rattle.conductors.specs.Conductors.{Drawn}
-use Rattle.conductors.specs.Shapes.{shapes_of, Shows, mask_of_shape, IsShape, AreShapes}
+use Rattle.conductors.specs.Shapes.{shapes_of, mask_of_shape, AreShapes}
 use Rattle.conductors.specs.Written.{unit_of}
 
 -- ---- masks whose sides are in order

@@ -1,6 +1,6 @@
 -- Each item of a master has to be at least 1 long on both axes.
-use Rattle.std.proofs.Common.{◌≡◌, ℕ, ◌+◌, ◌<◌, ℤ, pos, ◌+ℤ◌, ◌-ℤ◌, ◌*ℤ◌, ◌≤ℤ◌, ◌<ℤ◌, Bool, true, false, List, [], ◌∷◌, ◌++◌, length, map, All, cond, sym, subst, arith}
-use Rattle.std.specs.Prelude.{neg_ℤ, slice_index}
+use Rattle.std.proofs.Common.{◌≡◌, ℕ, ℤ, pos, ◌+ℤ◌, ◌-ℤ◌, ◌*ℤ◌, ◌≤ℤ◌, Bool, true, false, List, [], ◌∷◌, length, map, cond, sym, subst, arith}
+use Rattle.std.specs.Prelude.{neg_ℤ}
 use Rattle.std.specs.List.{flat_map, range_with_len, AllByRecursion}
 use Rattle.std.proofs.lemmas.Int.{ints}
 use Rattle.lam_geom.specs.declared.boxes.Axis.{Axis}
@@ -13,9 +13,8 @@ use Rattle.rule_table.specs.Bounds.{IsSize}
 use Rattle.rule_table.specs.Technology.{numbers_of, pad_of}
 use Rattle.rule_table.proofs.Widths.{pad_bounds, pad_even}
 use Rattle.sym_items.specs.declared.items.Item.{Item}
-use Rattle.sym_items.specs.declared.items.End.{End}
 use Rattle.sym_items.specs.declared.items.Items.{Items}
-use Rattle.sym_items.specs.Transposed.{item_along, transposed_item}
+use Rattle.sym_items.specs.Transposed.{item_along}
 use Rattle.cell_model.specs.declared.cell.Axis2.{Axis2}
 use Rattle.cell_model.specs.declared.cell.Axis2.TheVariants.{Across, Up}
 use Rattle.cell_model.specs.declared.cell.NodeKind.{NodeKind}
@@ -25,13 +24,13 @@ use Rattle.cell_model.specs.declared.cell.Wire.{Wire}
 use Rattle.cell_model.specs.declared.cell.Nets.{Nets}
 use Rattle.cell_model.specs.declared.cell.Cell.{Cell}
 use Rattle.cell_model.specs.Wiring.{buried_pad}
-use Rattle.cell_model.specs.Sound.{IsKind, IsWire, IsSound, node_at, wire_at}
+use Rattle.cell_model.specs.Sound.{IsKind, IsSound}
 use Rattle.expand.specs.declared.master.Master.{Master}
 use Rattle.expand.specs.Masters.{IsMaster}
-use Rattle.expand.specs.Variables.{half, cross_of}
-use Rattle.expand.specs.NodeItems.{item_running, on_layer, box_at, box_round, square_round, standing_at, channel_items, kind_items}
+use Rattle.expand.specs.Variables.{half}
+use Rattle.expand.specs.NodeItems.{item_running, on_layer, box_round, square_round, standing_at, channel_items, kind_items}
 use Rattle.expand.specs.WireItems.{low_end_of, high_end_of, contact_at, run_item, wire_items}
-use Rattle.expand.specs.Items.{nets_at, items_of_node, items_of_wire, item_list}
+use Rattle.expand.specs.Items.{items_of_node, items_of_wire, item_list}
 use Rattle.expand.proofs.Among.{sound_numbers, buried_size}
 use Rattle.expand.proofs.Cells.{node_sound, wire_sound}
 use Rattle.list_facts.proofs.Elements.{all_append, all_flat, all_numbers}

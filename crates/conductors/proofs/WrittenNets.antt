@@ -1,5 +1,5 @@
 -- The text of finished layouts has the sticks' nets.
-use Rattle.std.proofs.Common.{◌≡◌, ℤ, List, map, sym, ap, ◌∙◌}
+use Rattle.std.proofs.Common.{ℤ, List, map, sym, ap, ◌∙◌}
 use Rattle.lam_geom.specs.declared.boxes.Axis.TheVariants.{X, Y}
 use Rattle.lam_geom.specs.declared.boxes.MaskBox.{MaskBox}
 use Rattle.rule_table.specs.declared.technology.Tech.{Tech}
@@ -10,7 +10,6 @@ use Rattle.expand.specs.declared.master.Master.{Master}
 use Rattle.plan_model.specs.declared.plan.Plan.{Plan}
 use Rattle.plan_model.specs.Plan.{grids_of}
 use Rattle.mask_out.specs.declared.picture.Call.{Call}
-use Rattle.mask_out.specs.Masks.{Mask}
 use Rattle.mask_out.specs.Pictures.{Drawing, drawings_in, calls_of}
 use Rattle.cif_meaning.specs.Written.{drawn_mask, sheet_of_picture}
 use Rattle.cif_meaning.proofs.FlatPictures.{flat_picture}

@@ -1,6 +1,6 @@
 -- The picture of finished layouts can be written into a text.
-use Rattle.std.proofs.Common.{◌≡◌, ℕ, ◌+◌, ◌^◌, ◌<◌, ◌≤◌, ℤ, pos, ◌+ℤ◌, ◌≤ℤ◌, List, All, length, map, get_or, min, sym, ap, ◌∙◌, subst, arith}
-use Rattle.std.specs.List.{AllByRecursion, zip}
+use Rattle.std.proofs.Common.{◌≡◌, ◌<◌, List, All, length, get_or, min, sym, ap, ◌∙◌, subst, arith}
+use Rattle.std.specs.List.{zip}
 use Rattle.std.proofs.lemmas.Int.{ints}
 use Rattle.std.proofs.lemmas.List.{get_or-map, length-map}
 use Rattle.std.proofs.lemmas.Slice.Zip.{get_or-zip, length-zip}
@@ -14,9 +14,9 @@ use Rattle.expand.specs.declared.master.Master.{Master}
 use Rattle.plan_model.specs.declared.plan.Plan.{Plan}
 use Rattle.plan_model.specs.Instances.{Spot, IsSpot, master_at_spot, spots_of}
 use Rattle.plan_model.specs.Plan.{grids_of}
-use Rattle.pitch_join.specs.Masters.{ArePlanned, master_at, no_master, ports_of_masters, master_ports}
+use Rattle.pitch_join.specs.Masters.{master_at, no_master, ports_of_masters, master_ports}
 use Rattle.mask_out.specs.declared.picture.Call.{Call}
-use Rattle.mask_out.specs.Pictures.{Drawing, drawing_in, drawings_in, call_at, calls_of}
+use Rattle.mask_out.specs.Pictures.{drawing_in, drawings_in, call_at, calls_of}
 use Rattle.cif_meaning.specs.Written.{IsWritableDrawing, IsWritableCall, IsWritablePicture}
 use Rattle.cif_meaning.proofs.Extents.{StaysInside, call_inside}
 use Rattle.conductors.specs.Written.{unit_of}

@@ -1,6 +1,6 @@
 -- The symbols of masters in finished layouts can be written into a text.
-use Rattle.std.proofs.Common.{◌≡◌, ◌≢◌, ℕ, ◌^◌, ◌<◌, ◌≤◌, ℤ, pos, ◌+ℤ◌, ◌*ℤ◌, ◌≤ℤ◌, ◌<ℤ◌, List, [], ◌∷◌, All, length, map, filter, get_or, refl, sym, ap, ◌∙◌, subst, arith, inl, inr}
-use Rattle.std.specs.List.{AllByRecursion, flat_map}
+use Rattle.std.proofs.Common.{◌≡◌, ℕ, ◌<◌, ℤ, pos, ◌≤ℤ◌, ◌<ℤ◌, List, length, filter, refl, ap, ◌∙◌, subst, arith, inl, inr}
+use Rattle.std.specs.List.{AllByRecursion}
 use Rattle.std.proofs.lemmas.Bool.{cases_lt}
 use Rattle.std.proofs.lemmas.Int.{ints}
 use Rattle.std.proofs.lemmas.List.{get_or_past}
@@ -15,7 +15,7 @@ use Rattle.rule_table.proofs.Margins.{widest_positive}
 use Rattle.sym_items.specs.declared.items.Coords.{Coords}
 use Rattle.sym_items.specs.declared.items.Item.{Item}
 use Rattle.sym_items.specs.Layouts.{layout_at, no_layout, value_in, size_in}
-use Rattle.sym_items.specs.Sides.{Sides, sides_in}
+use Rattle.sym_items.specs.Sides.{sides_in}
 use Rattle.sym_items.specs.Transposed.{values_along}
 use Rattle.sym_items.specs.Values.{value_of}
 use Rattle.pair_rules.specs.Bound.{item_at, no_item}
@@ -25,7 +25,7 @@ use Rattle.expand.specs.Laws.{MeetsStructure}
 use Rattle.expand.proofs.Among.{sound_numbers}
 use Rattle.expand.proofs.Standing.{stands}
 use Rattle.plan_model.specs.declared.plan.Plan.{Plan}
-use Rattle.plan_model.specs.Instances.{Spot, IsSpot, master_at_spot, whole_width, whole_height}
+use Rattle.plan_model.specs.Instances.{Spot, IsSpot, whole_width, whole_height}
 use Rattle.plan_model.specs.Plan.{grids_of}
 use Rattle.pitch_join.specs.Masters.{ArePlanned, master_at, no_master, ports_of_masters}
 use Rattle.grid_rules.specs.Rules.{AreFinished}
