@@ -2,7 +2,7 @@
 use Rattle.std.proofs.Common.{◌≡◌, ℕ, List, [], ◌∷◌, length, map, sym, ◌∙◌, ap}
 use Rattle.std.proofs.lemmas.List.{length-map}
 use Rattle.graph_search.specs.Netting.{next_net}
-use Rattle.graph_search.proofs.Determined.{agreeing_same}
+use Rattle.net_extract.proofs.Agreeing.{agreeing_same}
 use Rattle.crossings.specs.declared.crossing.Crossing.{Crossing}
 use Rattle.net_extract.specs.declared.netlist.Device.{Device}
 use Rattle.net_extract.specs.declared.netlist.Netlist.{Netlist}

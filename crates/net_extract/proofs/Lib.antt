@@ -8,4 +8,5 @@ pub mod AllLinks
 pub mod BoxByBox
 pub mod NetOfPlace
 pub mod Extracted
+pub mod Agreeing
 pub mod Determined
