@@ -1,10 +1,9 @@
 -- A box, as the code reads it.
-use Rattle.std.proofs.Common.{◌≡◌, ℕ, ◌+◌, ◌-◌, ◌<◌, ◌≤◌, ℤ, List, [], ◌∷◌, ◌++◌, length, take, drop, refl, sym, ap, ◌∙◌, subst, arith}
+use Rattle.std.proofs.Common.{◌≡◌, ℕ, ◌+◌, ◌≤◌, ℤ, List, [], ◌∷◌, length, drop, refl, sym, ◌∙◌, subst, arith}
 use Rattle.std.proofs.lemmas.List.{drop-drop, length-drop}
 use Rattle.cif_lex.specs.declared.command.Command.{Command}
 use Rattle.cif_lex.specs.declared.command.Command.TheVariants.{Area}
 use Rattle.cif_lex.specs.declared.numbers.Pair.{Pair}
-use Rattle.cif_lex.specs.declared.forms.Form.{Form}
 use Rattle.cif_lex.specs.Words.{Word, letter, number}
 use Rattle.cif_lex.specs.Reading.{IsRead, AreRead, IsPairRead}
 use Rattle.cif_lex.specs.Forms.{Ends, Takes, IsForm}
@@ -34,7 +33,10 @@ area_of c text mid s is takes ends =
     let shape = area_words c b.0 b.1 in
     let read : AreRead (number shape.0 ∷ number shape.1 ∷ number shape.2 ∷ number shape.3 ∷ []) mid s = subst (λ (ws : List Word). AreRead ws mid s) shape.5 b.2 in
     record {
-      l = shape.0; w = shape.1; x = shape.2; y = shape.3;
+      l = shape.0;
+      w = shape.1;
+      x = shape.2;
+      y = shape.3;
       between = read.2.0;
       size = (read.0, read.1, (read.2.0, read.2.1, refl));
       centre = read.2.2;
@@ -55,12 +57,15 @@ pub area_form : (text : List ℕ) (begin : ℕ) (size centre : Pair) → begin �
     → IsForm text (record { command = Area size.first size.second centre.first centre.second; length = begin + size.length + centre.length })
 area_form text begin size centre le is first second = record {
   within = omega (arith, length-drop begin text, length-drop (begin + size.length) text, first.within, second.within);
-  takes = (letter 66 ∷ number size.first ∷ number size.second ∷ number centre.first ∷ number centre.second ∷ [], refl,
-      (drop begin text, is, (pair_first.0, pair_first.1, (pair_first.2.0, pair_first.2.1, subst (λ (t : List ℕ). AreRead (number centre.first ∷ number centre.second ∷ []) t (drop (begin + size.length + centre.length) text)) (sym pair_first.2.2 ) pair_second))));
+  takes = (
+    letter 66 ∷ number size.first ∷ number size.second ∷ number centre.first ∷ number centre.second ∷ [],
+    refl,
+    (drop begin text, is, (pair_first.0, pair_first.1, (pair_first.2.0, pair_first.2.1, subst (λ (t : List ℕ). AreRead (number centre.first ∷ number centre.second ∷ []) t (drop (begin + size.length + centre.length) text)) (sym pair_first.2.2) pair_second))),
+  );
   only = λ c rest takes ends.
-    let a = area_of c text (drop begin text) rest is takes ends in
-    let same = same_pair a.l a.w size.first size.second (drop begin text) a.between (drop (begin + size.length) text) a.size pair_first in
-    same_pair a.x a.y centre.first centre.second (drop (begin + size.length) text) rest (drop (begin + size.length + centre.length) text) (subst (λ (t : List ℕ). AreRead (number a.x ∷ number a.y ∷ []) t rest) same a.centre) pair_second;
+      let a = area_of c text (drop begin text) rest is takes ends in
+      let same = same_pair a.l a.w size.first size.second (drop begin text) a.between (drop (begin + size.length) text) a.size pair_first in
+      same_pair a.x a.y centre.first centre.second (drop (begin + size.length) text) rest (drop (begin + size.length + centre.length) text) (subst (λ (t : List ℕ). AreRead (number a.x ∷ number a.y ∷ []) t rest) same a.centre) pair_second;
 }
   where
     pair_first : AreRead (number size.first ∷ number size.second ∷ []) (drop begin text) (drop (begin + size.length) text)

@@ -1,15 +1,14 @@
 -- Bodies of commands as they are spelled, and their words as they are read.
-use Rattle.std.proofs.Common.{◌≡◌, ℕ, suc, ◌+◌, ◌-◌, ◌<◌, ◌≤◌, ℤ, Bool, true, false, not, eqb, ◌⊎◌, inl, inr, List, [], ◌∷◌, ◌++◌, length, take, drop, refl, sym, ap, ◌∙◌, subst, append_assoc, arith}
-use Rattle.std.specs.List.{All, AllByRecursion, flat_map}
-use Rattle.std.specs.Char.{is_ascii_digit, is_ascii_uppercase}
-use Rattle.std.proofs.lemmas.Bool.{both_ways, false≢true, ne_eqb}
-use Rattle.std.proofs.lemmas.List.{append-nil}
+use Rattle.std.proofs.Common.{◌≡◌, ℕ, ◌<◌, ℤ, Bool, true, false, ◌⊎◌, inl, inr, List, [], ◌∷◌, ◌++◌, length, refl, sym, ap, ◌∙◌, subst, append_assoc, arith}
+use Rattle.std.specs.List.{AllByRecursion, flat_map}
+use Rattle.std.specs.Char.{is_ascii_digit}
+use Rattle.std.proofs.lemmas.Bool.{false≢true}
 use Rattle.cif_lex.specs.declared.command.Command.{Command}
 use Rattle.cif_lex.specs.declared.command.Command.TheVariants.{Nothing, Define, Finish, Layer, Area, Call, Extension}
-use Rattle.cif_lex.specs.Blanks.{semicolon, opening, is_blank, IsUnclosed, IsCutOff, IsFilled}
-use Rattle.cif_lex.specs.Words.{Word, letter, number, name, is_name_byte, IsSpelled, IsWhole, StopsAt, AreSpelled}
+use Rattle.cif_lex.specs.Blanks.{is_blank, IsCutOff, IsFilled}
+use Rattle.cif_lex.specs.Words.{Word, letter, number, name, is_name_byte, IsWhole, StopsAt, AreSpelled}
 use Rattle.cif_lex.specs.Commands.{HasWords, IsBody, IsExtension, shift_words}
-use Rattle.cif_lex.specs.Reading.{IsStop, IsBehindGap, IsRead, AreRead}
+use Rattle.cif_lex.specs.Reading.{IsStop, AreRead}
 use Rattle.cif_lex.specs.Forms.{IsLedBy, Ends, MayEnd, Takes, Reaches}
 use Rattle.cif_lex.proofs.OneGap.{filled}
 use Rattle.cif_lex.proofs.OneWord.{IsVisible, word_fills}
@@ -59,10 +58,11 @@ read_spelled (w ∷ words) text rest is =
     let more = read_spelled words is.0 rest is.2 in
     let own = is.1.own in
     let gap = is.1.is_behind.gap in
-    let behind : is.1.behind ≡ (gap ++ more.0) ++ rest = is.1.is_behind.joined ∙ (ap (λ (t : List ℕ). gap ++ t) more.1 ∙ sym (append_assoc gap more.0 rest)) in
-    (own ++ (gap ++ more.0),
-    is.1.joined ∙ (ap (λ (t : List ℕ). own ++ t) behind ∙ sym (append_assoc own (gap ++ more.0) rest)),
-    (own, gap, more.0, refl, is.1.is_spelled, is.1.is_behind.is_gap, front_whole w (gap ++ more.0) rest (subst (IsWhole w) behind is.1.is_whole), more.2))
+    let behind : is.1.behind ≡ (gap ++ more.0) ++ rest = is.1.is_behind.joined ∙ (ap (λ (t : List ℕ). gap ++ t) more.1 ∙ sym (append_assoc gap more.0 rest)) in (
+      own ++ (gap ++ more.0),
+      is.1.joined ∙ (ap (λ (t : List ℕ). own ++ t) behind ∙ sym (append_assoc own (gap ++ more.0) rest)),
+      (own, gap, more.0, refl, is.1.is_spelled, is.1.is_behind.is_gap, front_whole w (gap ++ more.0) rest (subst (IsWhole w) behind is.1.is_whole), more.2),
+    )
 
 pub takes_reaches : (c : Command) (text rest : List ℕ) → Takes c text rest → Reaches c text rest
 takes_reaches c text rest (words, has, read) = let is = read_spelled words text rest read in (is.0, inl (words, has, is.2), is.1)
@@ -93,15 +93,18 @@ spelled_stop (w ∷ words) body rest visible is stop =
 spelled_read : (words : List Word) (body rest : List ℕ) → AllByRecursion IsVisible words → AreSpelled words body → IsStop rest → IsQuiet rest → AreRead words (body ++ rest) rest
 spelled_read [] body rest visible is stop quiet = ap (λ (t : List ℕ). t ++ rest) is
 spelled_read (w ∷ words) body rest visible is stop quiet =
-    let own = is.0 in let gap = is.1 in let more = is.2 in
-    (more ++ rest, record {
-      own = own;
-      behind = (gap ++ more) ++ rest;
-      joined = ap (λ (t : List ℕ). t ++ rest) is.3 ∙ append_assoc own (gap ++ more) rest;
-      is_spelled = is.4;
-      is_whole = longer_whole w (gap ++ more) rest is.6 quiet;
-      is_behind = record { gap = gap; is_gap = is.5; joined = append_assoc gap more rest; stop = spelled_stop words more rest visible.1 is.7 stop };
-    }, spelled_read words more rest visible.1 is.7 stop quiet)
+    let own = is.0 in let gap = is.1 in let more = is.2 in (
+      more ++ rest,
+      record {
+        own = own;
+        behind = (gap ++ more) ++ rest;
+        joined = ap (λ (t : List ℕ). t ++ rest) is.3 ∙ append_assoc own (gap ++ more) rest;
+        is_spelled = is.4;
+        is_whole = longer_whole w (gap ++ more) rest is.6 quiet;
+        is_behind = record { gap = gap; is_gap = is.5; joined = append_assoc gap more rest; stop = spelled_stop words more rest visible.1 is.7 stop };
+      },
+      spelled_read words more rest visible.1 is.7 stop quiet,
+    )
 
 visible_shifts : (shifts : List (ℤ × ℤ)) → AllByRecursion IsVisible (flat_map shift_words shifts)
 visible_shifts [] = tt

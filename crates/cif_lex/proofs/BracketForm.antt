@@ -1,12 +1,11 @@
 -- How a symbol begins and ends, as the code reads it.
-use Rattle.std.proofs.Common.{◌≡◌, ℕ, ◌+◌, ◌-◌, ◌<◌, ◌≤◌, ℤ, pos, ◌⊎◌, inl, inr, List, [], ◌∷◌, ◌++◌, length, take, drop, refl, sym, ap, ◌∙◌, subst, arith}
+use Rattle.std.proofs.Common.{◌≡◌, ℕ, ◌+◌, ◌≤◌, ℤ, pos, ◌⊎◌, inl, inr, List, [], ◌∷◌, ◌++◌, length, drop, refl, sym, ap, ◌∙◌, subst, arith}
 use Rattle.std.proofs.lemmas.Bool.{eqb-false}
 use Rattle.std.proofs.lemmas.List.{drop-drop, length-drop}
 use Rattle.cif_lex.specs.declared.command.Command.{Command}
 use Rattle.cif_lex.specs.declared.command.Command.TheVariants.{Define, Finish}
 use Rattle.cif_lex.specs.declared.numbers.Number.{Number}
 use Rattle.cif_lex.specs.declared.numbers.Pair.{Pair}
-use Rattle.cif_lex.specs.declared.forms.Form.{Form}
 use Rattle.cif_lex.specs.Words.{Word, letter, number}
 use Rattle.cif_lex.specs.Reading.{IsRead, AreRead, IsNumberRead, IsPairRead}
 use Rattle.cif_lex.specs.Forms.{IsLedBy, Ends, Takes, IsForm}
@@ -62,8 +61,11 @@ pub definition_scaled : (text mid : List ℕ) (begin : ℕ) (symbol : Number) (s
     → IsForm text (record { command = Define symbol.value scale.first scale.second; length = begin + symbol.length + scale.length })
 definition_scaled text mid begin symbol scale le is it first second = record {
   within = omega (arith, length-drop begin text, length-drop (begin + symbol.length) text, first.within, second.within);
-  takes = (letter 68 ∷ letter 83 ∷ number symbol.value ∷ number scale.first ∷ number scale.second ∷ [], inl refl,
-      (mid, is, (drop begin text, it, (drop end text, one, pair))));
+  takes = (
+    letter 68 ∷ letter 83 ∷ number symbol.value ∷ number scale.first ∷ number scale.second ∷ [],
+    inl refl,
+    (mid, is, (drop begin text, it, (drop end text, one, pair))),
+  );
   only = λ c rest takes ends. by_scale rest (definition_of c text mid (drop begin text) rest is it takes ends) ends;
 }
   where

@@ -1,7 +1,7 @@
 -- A call, as the code reads it: shift by shift.
 use mir.Syntax.{w64}
 use mir.Val.{to_z, of_z}
-use Rattle.std.proofs.Common.{◌≡◌, ℕ, ◌+◌, ◌-◌, ◌*◌, ◌^◌, ◌<◌, ◌≤◌, ℤ, pos, neg_ℤ, ◌+ℤ◌, ◌≤ℤ◌, Bool, true, false, ◌||◌, ◌⊎◌, inl, inr, List, [], ◌∷◌, ◌++◌, length, take, drop, refl, sym, ap, ◌∙◌, subst, arith}
+use Rattle.std.proofs.Common.{◌≡◌, ℕ, ◌+◌, ◌*◌, ◌^◌, ◌<◌, ◌≤◌, ℤ, pos, neg_ℤ, ◌+ℤ◌, ◌≤ℤ◌, Bool, true, false, ◌||◌, List, [], ◌∷◌, ◌++◌, length, drop, refl, sym, ap, ◌∙◌, subst, arith}
 use Rattle.std.specs.List.{flat_map, list_any}
 use Rattle.std.proofs.lemmas.Int.{ints}
 use Rattle.std.proofs.lemmas.List.{drop-drop, length-drop}
@@ -9,10 +9,9 @@ use Rattle.cif_lex.specs.declared.command.Command.{Command}
 use Rattle.cif_lex.specs.declared.command.Command.TheVariants.{Call}
 use Rattle.cif_lex.specs.declared.numbers.Number.{Number}
 use Rattle.cif_lex.specs.declared.numbers.Pair.{Pair}
-use Rattle.cif_lex.specs.declared.forms.Form.{Form}
 use Rattle.cif_lex.specs.Words.{Word, letter, number}
 use Rattle.cif_lex.specs.Commands.{shift_words, total_x, total_y, is_far}
-use Rattle.cif_lex.specs.Reading.{IsSmall, IsRead, AreRead, IsNumberRead, IsPairRead}
+use Rattle.cif_lex.specs.Reading.{IsRead, AreRead, IsNumberRead, IsPairRead}
 use Rattle.cif_lex.specs.Forms.{IsLedBy, Ends, Takes, IsForm}
 use Rattle.cif_lex.proofs.OneWord.{same_letter, same_number, no_word_ends}
 use Rattle.cif_lex.proofs.CommandWords.{begins, call_words}
@@ -89,11 +88,11 @@ so_far_none text begin symbol le is it = record {
   y_low = omega (arith, ints);
   y_high = omega (arith, ints);
   only = λ c rest takes ends.
-    let b = begins c text (drop begin text) rest 67 refl is takes ends in
-    let shape = call_words c b.0 b.1 in
-    let read : AreRead (number shape.0 ∷ flat_map shift_words shape.1) (drop begin text) rest = subst (λ (ws : List Word). AreRead ws (drop begin text) rest) shape.2 b.2 in
-    let same = (same_number shape.0 symbol.value (drop begin text) read.0 (drop (begin + symbol.length) text) read.1 one).1 in
-    (shape.1, subst (λ (t : List ℕ). AreRead (flat_map shift_words shape.1) t rest) same read.2);
+      let b = begins c text (drop begin text) rest 67 refl is takes ends in
+      let shape = call_words c b.0 b.1 in
+      let read : AreRead (number shape.0 ∷ flat_map shift_words shape.1) (drop begin text) rest = subst (λ (ws : List Word). AreRead ws (drop begin text) rest) shape.2 b.2 in
+      let same = (same_number shape.0 symbol.value (drop begin text) read.0 (drop (begin + symbol.length) text) read.1 one).1 in
+      (shape.1, subst (λ (t : List ℕ). AreRead (flat_map shift_words shape.1) t rest) same read.2);
 }
   where
     one : IsRead (number symbol.value) (drop begin text) (drop (begin + symbol.length) text)
@@ -137,10 +136,10 @@ so_far_more text n at after x y far shift so lt le is it = record {
   y_low = omega (arith, ints, so.y_low, it.second_small.low);
   y_high = omega (arith, ints, so.y_high, it.second_small.high);
   only = λ c rest takes ends.
-    let left = so.only c rest takes ends in
-    let first = first_left left.0 (drop at text) (drop after text) rest is left.1 ends in
-    let same = same_pair first.0.0 first.0.1 shift.first shift.second (drop after text) first.2 (drop (after + shift.length) text) first.3 pair in
-    (first.1, subst (λ (t : List ℕ). AreRead (flat_map shift_words first.1) t rest) same first.4);
+      let left = so.only c rest takes ends in
+      let first = first_left left.0 (drop at text) (drop after text) rest is left.1 ends in
+      let same = same_pair first.0.0 first.0.1 shift.first shift.second (drop after text) first.2 (drop (after + shift.length) text) first.3 pair in
+      (first.1, subst (λ (t : List ℕ). AreRead (flat_map shift_words first.1) t rest) same first.4);
 }
   where
     pair : AreRead (number shift.first ∷ number shift.second ∷ []) (drop after text) (drop (after + shift.length) text)

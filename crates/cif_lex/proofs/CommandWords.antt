@@ -1,5 +1,5 @@
 -- The words of commands: how they begin, and that they tell the command.
-use Rattle.std.proofs.Common.{◌≡◌, ℕ, ◌+◌, ◌<◌, ◌≤◌, ℤ, pos, ◌+ℤ◌, Bool, true, false, eqb, ◌||◌, ◌⊎◌, inl, inr, List, [], ◌∷◌, ◌++◌, length, drop, refl, sym, ap, ◌∙◌, subst, arith}
+use Rattle.std.proofs.Common.{◌≡◌, ℕ, ◌≤◌, ℤ, true, false, eqb, ◌||◌, ◌⊎◌, inl, inr, List, [], ◌∷◌, length, refl, sym, ap, ◌∙◌, subst}
 use Rattle.std.specs.List.{AllByRecursion, flat_map, list_any}
 use Rattle.std.specs.Char.{is_ascii_uppercase}
 use Rattle.std.proofs.lemmas.Bool.{eqb-false}
@@ -9,7 +9,7 @@ use Rattle.cif_lex.specs.Words.{Word, letter, number, name}
 use Rattle.cif_lex.specs.Commands.{HasWords, shift_words, layer_named, total_x, total_y, is_far}
 use Rattle.cif_lex.specs.Reading.{IsRead, AreRead}
 use Rattle.cif_lex.specs.Forms.{Ends, Takes}
-use Rattle.cif_lex.proofs.OneWord.{IsPlain, same_letter, same_number, no_word_ends}
+use Rattle.cif_lex.proofs.OneWord.{IsPlain, same_letter, no_word_ends}
 
 -- ---- the first word
 

@@ -1,10 +1,10 @@
 -- A comment, as far as it has been passed.
-use Rattle.std.proofs.Common.{◌≡◌, ℕ, zero, suc, ◌+◌, ◌-◌, ◌<◌, ◌≤◌, Bool, true, false, cond, eqb, ◌⊎◌, inl, inr, List, [], ◌∷◌, ◌++◌, length, get_or, take, drop, refl, sym, ap, ◌∙◌, subst, arith}
+use Rattle.std.proofs.Common.{◌≡◌, ℕ, zero, suc, ◌+◌, ◌-◌, ◌<◌, ◌≤◌, Bool, true, false, cond, eqb, inl, inr, List, ◌∷◌, length, get_or, take, refl, sym, ap, ◌∙◌, subst, arith}
 use Rattle.std.specs.List.{count_by}
-use Rattle.std.proofs.lemmas.Bool.{cases_lt, cases_eq, eq-eqb, ne_eqb}
-use Rattle.std.proofs.lemmas.List.{length-take-le, take-take, take_all, take_more}
+use Rattle.std.proofs.lemmas.Bool.{cases_lt, ne_eqb}
+use Rattle.std.proofs.lemmas.List.{length-take-le, take-take, take_all}
 use Rattle.std.proofs.lemmas.List.Sums.{count_by_more_yes, count_by_more_no}
-use Rattle.cif_lex.specs.Blanks.{opening, closing, opened, closed, StaysOpen, IsComment, IsUnclosed}
+use Rattle.cif_lex.specs.Blanks.{opening, opened, closed, IsComment, IsUnclosed}
 use Rattle.cif_lex.specs.Forms.{IsLedBy}
 
 -- so many bytes of a comment are passed, in which so many parentheses are open
@@ -79,9 +79,9 @@ comment_ends text i depth led lt is none =
       begun = first.1;
       balanced = omega (arith, is.counted);
       open_inside = λ k more less.
-        let len = length-take-le (i + 1) text (omega arith) in
-        let short : k < i + 1 = omega (arith, len) in
-        subst (λ (t : List ℕ). closed t < opened t) (sym (take-take k (i + 1) text (omega arith))) (is.before k more short);
+          let len = length-take-le (i + 1) text (omega arith) in
+          let short : k < i + 1 = omega (arith, len) in
+          subst (λ (t : List ℕ). closed t < opened t) (sym (take-take k (i + 1) text (omega arith))) (is.before k more short);
     }
 
 -- the text has ended, and the first parenthesis is open

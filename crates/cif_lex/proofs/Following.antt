@@ -1,12 +1,11 @@
 -- What follows the bytes that have been read.
-use Rattle.std.proofs.Common.{◌≡◌, ℕ, ◌+◌, ◌-◌, ◌<◌, ◌≤◌, ◌⊎◌, inl, inr, List, [], ◌∷◌, ◌++◌, length, take, drop, refl, sym, ap, ◌∙◌, subst, arith, length-append}
-use Rattle.std.proofs.lemmas.List.{drop-drop, length-drop, append-nil, append_cancel_left}
+use Rattle.std.proofs.Common.{◌≡◌, ℕ, ◌+◌, ◌<◌, ◌≤◌, ◌⊎◌, inl, inr, List, [], ◌∷◌, ◌++◌, length, drop, refl, sym, ap, ◌∙◌, subst, arith, length-append}
+use Rattle.std.proofs.lemmas.List.{drop-drop, length-drop}
 use Rattle.cif_lex.specs.declared.command.Command.{Command}
-use Rattle.cif_lex.specs.declared.command.Command.TheVariants.{Extension}
 use Rattle.cif_lex.specs.declared.forms.Form.{Form}
-use Rattle.cif_lex.specs.Blanks.{IsGap, IsUnclosed, IsCutOff, IsFilled}
-use Rattle.cif_lex.specs.Commands.{IsBody, BeginsWith, IsCutCommand, IsNoCommand, Follows}
-use Rattle.cif_lex.specs.Reading.{IsStop, IsBehindGap}
+use Rattle.cif_lex.specs.Blanks.{IsCutOff, IsFilled}
+use Rattle.cif_lex.specs.Commands.{IsCutCommand, IsNoCommand, Follows}
+use Rattle.cif_lex.specs.Reading.{IsBehindGap}
 use Rattle.cif_lex.specs.Forms.{IsLedBy, MayEnd, Reaches, IsBodyForm}
 use Rattle.cif_lex.proofs.Bodies.{filled_or_cut, led_or_cut}
 

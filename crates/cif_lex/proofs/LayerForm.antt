@@ -1,11 +1,10 @@
 -- A layer, as the code reads it.
-use Rattle.std.proofs.Common.{◌≡◌, ℕ, ◌+◌, ◌-◌, ◌<◌, ◌≤◌, ◌⊎◌, inl, inr, true, List, [], ◌∷◌, ◌++◌, length, take, drop, refl, sym, ap, ◌∙◌, subst, arith}
+use Rattle.std.proofs.Common.{◌≡◌, ℕ, ◌+◌, ◌<◌, ◌≤◌, ◌⊎◌, inl, inr, true, List, [], ◌∷◌, ◌++◌, length, take, drop, refl, sym, ap, ◌∙◌, subst, arith}
 use Rattle.std.specs.List.{All}
 use Rattle.std.proofs.lemmas.List.{drop-drop, length-drop, take-append-drop, length-take-le}
 use Rattle.std.proofs.lemmas.List.Elements.{recursion_from_All}
 use Rattle.cif_lex.specs.declared.command.Command.{Command}
 use Rattle.cif_lex.specs.declared.command.Command.TheVariants.{Layer}
-use Rattle.cif_lex.specs.declared.forms.Form.{Form}
 use Rattle.cif_lex.specs.Words.{Word, letter, name, is_name_byte, StopsAt}
 use Rattle.cif_lex.specs.Commands.{layer_named}
 use Rattle.cif_lex.specs.Reading.{IsBehindGap, IsRead, AreRead}
@@ -46,8 +45,8 @@ layer_form text begin n passed le is short all stops some few within gap = recor
   within = omega (arith, length-drop begin text, length-drop (begin + n) text);
   takes = (letter 76 ∷ name bytes ∷ [], (bytes, refl, omega (arith, length-take-le n (drop begin text) short), refl), (drop begin text, is, (drop (begin + n + passed) text, read, refl)));
   only = λ c rest takes ends.
-    let a = layer_of c text (drop begin text) rest is takes ends in
-    (same_name a.bytes bytes (drop begin text) rest (drop (begin + n + passed) text) a.read read).1;
+      let a = layer_of c text (drop begin text) rest is takes ends in
+      (same_name a.bytes bytes (drop begin text) rest (drop (begin + n + passed) text) a.read read).1;
 }
   where
     bytes : List ℕ

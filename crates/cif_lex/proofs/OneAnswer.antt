@@ -1,18 +1,15 @@
 -- At each place of a text there is one answer.
-use Rattle.std.proofs.Common.{◌≡◌, ℕ, ◌+◌, ◌<◌, ◌≤◌, ◌⊎◌, inl, inr, List, [], ◌∷◌, ◌++◌, length, drop, refl, sym, ap, ◌∙◌, subst, arith, length-append, true}
-use Rattle.std.specs.Char.{is_ascii_digit}
+use Rattle.std.proofs.Common.{◌≡◌, ℕ, ◌+◌, inl, inr, List, [], ◌∷◌, ◌++◌, length, drop, refl, sym, ap, ◌∙◌, subst, arith, length-append}
 use Rattle.std.proofs.lemmas.Bool.{false≢true}
 use Rattle.std.proofs.lemmas.List.{append-nil}
 use Rattle.cif_lex.specs.declared.command.Command.{Command}
-use Rattle.cif_lex.specs.declared.command.Command.TheVariants.{Extension}
 use Rattle.cif_lex.specs.declared.command.Next.{Next}
 use Rattle.cif_lex.specs.declared.command.Next.TheVariants.{Whole, Cut, Bad, End, Missing}
-use Rattle.cif_lex.specs.declared.command.Tail.{Tail}
 use Rattle.cif_lex.specs.declared.command.Tail.TheVariants as tails
 use Rattle.cif_lex.specs.Blanks.{IsGap, IsUnclosed, IsCutOff, IsFilled}
-use Rattle.cif_lex.specs.Commands.{IsBody, IsCutCommand, IsNoCommand, Follows, IsNext, IsTail, NextIsDetermined, TailIsDetermined}
+use Rattle.cif_lex.specs.Commands.{IsBody, IsCutCommand, IsNoCommand, Follows, IsNext, NextIsDetermined, TailIsDetermined}
 use Rattle.cif_lex.specs.Reading.{IsStop}
-use Rattle.cif_lex.specs.Forms.{IsLedBy, Ends, MayEnd, Reaches}
+use Rattle.cif_lex.specs.Forms.{IsLedBy, MayEnd, Reaches}
 use Rattle.cif_lex.proofs.OneGap.{same_gap, filled}
 use Rattle.cif_lex.proofs.Bodies.{filled_or_cut, led_filled, led_or_cut, body_fills}
 use Rattle.cif_lex.proofs.AnyForm.{IsFirstByte, none_begins}

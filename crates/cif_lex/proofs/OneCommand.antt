@@ -1,16 +1,14 @@
 -- A text begins with one command only, which ends at one place.
-use Rattle.std.proofs.Common.{◌≡◌, ℕ, ◌+◌, ◌<◌, ◌≤◌, ℤ, Bool, true, false, ◌⊎◌, inl, inr, List, [], ◌∷◌, ◌++◌, length, refl, sym, ap, ◌∙◌, subst, arith}
+use Rattle.std.proofs.Common.{◌≡◌, ℕ, true, false, ◌⊎◌, inl, inr, List, [], ◌∷◌, ◌++◌, refl, sym, ap, ◌∙◌, subst, arith}
 use Rattle.std.specs.List.{AllByRecursion}
 use Rattle.std.specs.Char.{is_ascii_digit, is_ascii_uppercase}
 use Rattle.std.proofs.lemmas.Bool.{both_ways}
 use Rattle.std.proofs.lemmas.List.{append-nil}
 use Rattle.cif_lex.specs.declared.command.Command.{Command}
-use Rattle.cif_lex.specs.declared.command.Command.TheVariants.{Nothing, Extension}
-use Rattle.cif_lex.specs.Blanks.{IsCutOff, IsFilled}
-use Rattle.cif_lex.specs.Words.{Word, letter, number, name}
-use Rattle.cif_lex.specs.Commands.{HasWords, IsBody, IsExtension}
-use Rattle.cif_lex.specs.Reading.{IsRead, AreRead}
-use Rattle.cif_lex.specs.Forms.{IsLedBy, Ends, MayEnd, Takes, Reaches}
+use Rattle.cif_lex.specs.Words.{Word, letter, name}
+use Rattle.cif_lex.specs.Commands.{HasWords}
+use Rattle.cif_lex.specs.Reading.{AreRead}
+use Rattle.cif_lex.specs.Forms.{Ends, MayEnd, Takes, Reaches}
 use Rattle.cif_lex.proofs.OneWord.{IsPlain, goes_on, none_more, no_word_ends, same_name}
 use Rattle.cif_lex.proofs.CommandWords.{IsHeaded, has_head, begins, plain_words, layer_words, same_command}
 use Rattle.cif_lex.proofs.BracketForm.{led_by_letter}

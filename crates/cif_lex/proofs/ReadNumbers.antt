@@ -1,19 +1,18 @@
 -- Numbers, as the code reads them.
-use Rattle.std.proofs.Common.{◌≡◌, ℕ, ◌+◌, ◌-◌, ◌^◌, ◌<◌, ◌≤◌, ℤ, pos, negsuc, neg_ℤ, ◌-ℤ◌, ◌≤ℤ◌, min, Bool, true, false, cond, MatchBool, ◌⊎◌, inl, inr, List, [], ◌∷◌, ◌++◌, length, get_or, take, drop, refl, sym, ap, ◌∙◌, subst, arith}
+use Rattle.std.proofs.Common.{◌≡◌, ℕ, ◌+◌, ◌<◌, ◌≤◌, ℤ, pos, negsuc, ◌-ℤ◌, Bool, true, false, cond, MatchBool, List, [], ◌∷◌, ◌++◌, length, take, drop, refl, sym, ap, ◌∙◌, subst, arith}
 use mir.Syntax.{w64}
 use mir.Val.{to_z, of_z, SFits, bool_byte}
-use Rattle.std.specs.List.{All, AllByRecursion}
+use Rattle.std.specs.List.{All}
 use Rattle.std.specs.Char.{is_ascii_digit}
 use Rattle.std.proofs.lemmas.Bool.{both_ways}
 use Rattle.std.proofs.lemmas.Int.{ints, to_z-of_z}
-use Rattle.std.proofs.lemmas.List.{take-append-drop, drop-drop, take_rest, length-drop, length-take, length-take-le, drop_all}
+use Rattle.std.proofs.lemmas.List.{take-append-drop, drop-drop, length-drop, length-take-le}
 use Rattle.std.proofs.lemmas.List.Elements.{recursion_from_All}
 use Rattle.cif_lex.specs.declared.numbers.Number.{Number}
-use Rattle.cif_lex.specs.declared.numbers.Pair.{Pair}
-use Rattle.cif_lex.specs.Words.{letter, number, limit, capped, signed, IsNumeral, StopsAt}
-use Rattle.cif_lex.specs.Reading.{IsSmall, IsBehindGap, IsRead, AreRead, IsNumberRead, IsPairRead}
+use Rattle.cif_lex.specs.Words.{number, capped, signed, IsNumeral, StopsAt}
+use Rattle.cif_lex.specs.Reading.{IsSmall, IsBehindGap, IsRead, IsNumberRead, IsPairRead}
 use Rattle.cif_lex.specs.Forms.{IsLedBy}
-use Rattle.cif_lex.proofs.OneWord.{no_minus, same_number}
+use Rattle.cif_lex.proofs.OneWord.{no_minus}
 
 -- ---- small numbers in machine words
 

@@ -1,8 +1,8 @@
 -- What stands behind a gap, by its first byte.
-use Rattle.std.proofs.Common.{◌≡◌, ℕ, ◌<◌, eqb, Bool, true, false, MatchBool, ◌⊎◌, inl, inr, List, [], ◌∷◌, length, get_or, take, drop, ◌+◌, ◌-◌, ◌≤◌, refl, sym, ap, ◌∙◌, subst, arith}
+use Rattle.std.proofs.Common.{◌≡◌, ℕ, ◌<◌, eqb, Bool, MatchBool, inl, inr, List, [], ◌∷◌, length, get_or, take, drop, ◌+◌, ◌-◌, ◌≤◌, sym, ap, subst, arith}
 use Rattle.std.proofs.lemmas.Bool.{ne_eqb}
 use Rattle.std.proofs.lemmas.List.{take_rest, drop-drop, length-drop}
-use Rattle.cif_lex.specs.Blanks.{opening, IsUnclosed, IsCutOff, IsFilled}
+use Rattle.cif_lex.specs.Blanks.{opening, IsCutOff, IsFilled}
 use Rattle.cif_lex.specs.Words.{letter}
 use Rattle.cif_lex.specs.Reading.{IsStop, IsRead}
 use Rattle.cif_lex.specs.Forms.{IsLedBy}

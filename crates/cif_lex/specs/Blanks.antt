@@ -1,5 +1,5 @@
 -- What stands between the words of a CIF text: blanks and comments.
-use Rattle.std.specs.Prelude.{◌≡◌, ℕ, ◌+◌, ◌<◌, ◌≤◌, ◌==◌, Bool, not, ◌&&◌, ◌||◌, ◌⊎◌, All, IsTrue, List, [], ◌∷◌, ◌++◌, length, take, flat_map, count_by}
+use Rattle.std.specs.Prelude.{◌≡◌, ℕ, ◌<◌, ◌==◌, Bool, not, ◌||◌, ◌⊎◌, All, IsTrue, List, [], ◌∷◌, length, take, flat_map, count_by}
 use Rattle.std.specs.Char.{is_ascii_digit, is_ascii_uppercase}
 
 abbrev pub opening : ℕ

@@ -8,11 +8,14 @@ ghost use Rattle.cif_lex.specs.Forms.{IsLedBy, IsFormAnswer, IsBodyAnswer};
 
 use crate::command::Command;
 use crate::gaps::{begins_with, gap_length};
-use crate::numbers::{read_number, read_pair, Pair};
+use crate::numbers::{Pair, read_number, read_pair};
 use lam_geom::MaskLayer;
 
 /// The greatest distance of a number from 0.
 const LIMIT: i64 = 1_073_741_824;
+
+/// The most bytes of a layer's name.
+const LONGEST_NAME: usize = 4;
 
 /// A command that was read, and how many bytes its words and the gaps behind them take.
 #[derive(Clone, Copy)]
@@ -148,7 +151,7 @@ fn layer(text: &[u8]) -> Option<Form>
 {
     let begin = letter_length(text);
     let length = name_length(&text[begin..]);
-    if length == 0 || length > 4 {
+    if length == 0 || length > LONGEST_NAME {
         return None;
     }
     let end = begin + length;

@@ -40,11 +40,20 @@ fn each_form_is_read(rt: HostRuntime) -> Result<(), Fail> {
     assert_eq!(rt; next(b"DS 1 2 3;", 0), whole(0, define(1, 2, 3), 9));
     assert_eq!(rt; next(b"DS1;", 0), whole(0, define(1, 1, 1), 4));
     assert_eq!(rt; next(b"xD (x) F ;", 0), whole(1, Command::Finish, 10));
-    assert_eq!(rt; next(b"LNM;", 0), whole(0, Command::Layer(Some(MaskLayer::NM)), 4));
+    assert_eq!(rt;
+        next(b"LNM;", 0),
+        whole(0, Command::Layer(Some(MaskLayer::NM)), 4)
+    );
     assert_eq!(rt; next(b"L N1;", 0), whole(0, Command::Layer(None), 5));
-    assert_eq!(rt; next(b";B12 12 18 24;", 1), whole(1, area(12, 12, 18, 24), 14));
+    assert_eq!(rt;
+        next(b";B12 12 18 24;", 1),
+        whole(1, area(12, 12, 18, 24), 14)
+    );
     assert_eq!(rt; next(b"B12-5,-0 007;", 0), whole(0, area(12, -5, 0, 7), 13));
-    assert_eq!(rt; next(b"C 7 T 1 -2 T 30 40;", 0), whole(0, call(7, 31, 38, false), 19));
+    assert_eq!(rt;
+        next(b"C 7 T 1 -2 T 30 40;", 0),
+        whole(0, call(7, 31, 38, false), 19)
+    );
     assert_eq!(rt; next(b"C 7;", 0), whole(0, call(7, 0, 0, false), 4));
     assert_eq!(rt; next(b"9 (x;", 0), whole(0, Command::Extension, 5));
     assert_eq!(rt; next(b"; E", 1), Next::End { begin: 2 });
@@ -58,7 +67,10 @@ fn numbers_past_the_limit_count_as_one_past_it(rt: HostRuntime) -> Result<(), Fa
         whole(0, call(0, 1073741824, -1073741824, false), 29)
     );
     assert_eq!(rt;
-        next(b"C 0 T -123456789012345678901234567890 1073741825 T 1 1;", 0),
+        next(
+            b"C 0 T -123456789012345678901234567890 1073741825 T 1 1;",
+            0
+        ),
         whole(0, call(0, -1073741824, 1073741826, true), 55)
     );
     Ok(())
@@ -66,12 +78,30 @@ fn numbers_past_the_limit_count_as_one_past_it(rt: HostRuntime) -> Result<(), Fa
 
 #[test]
 fn what_is_cut_off_is_told_from_what_is_no_command(rt: HostRuntime) -> Result<(), Fail> {
-    let none = Command::Layer(Some(MaskLayer::NM));
+    let metal = Command::Layer(Some(MaskLayer::NM));
     assert_eq!(rt; next(b"B 1 2", 0), Next::Bad { begin: 0 });
-    assert_eq!(rt; next(b"L NM; B 1 1 0 0", 5), Next::Cut { begin: 6, command: area(1, 1, 0, 0) });
+    assert_eq!(rt;
+        next(b"L NM; B 1 1 0 0", 5),
+        Next::Cut {
+            begin: 6,
+            command: area(1, 1, 0, 0)
+        }
+    );
     assert_eq!(rt; next(b"B 1 (x", 0), Next::Bad { begin: 0 });
-    assert_eq!(rt; next(b"L NM (x", 0), Next::Cut { begin: 0, command: none });
-    assert_eq!(rt; next(b"9 (x", 0), Next::Cut { begin: 0, command: Command::Extension });
+    assert_eq!(rt;
+        next(b"L NM (x", 0),
+        Next::Cut {
+            begin: 0,
+            command: metal
+        }
+    );
+    assert_eq!(rt;
+        next(b"9 (x", 0),
+        Next::Cut {
+            begin: 0,
+            command: Command::Extension
+        }
+    );
     assert_eq!(rt; next(b" (x", 0), Next::Missing);
     assert_eq!(rt; next(b";  ", 1), Next::Missing);
     assert_eq!(rt; next(b"L NM X", 0), Next::Bad { begin: 0 });

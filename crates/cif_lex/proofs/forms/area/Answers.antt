@@ -1,11 +1,11 @@
 use mir.Syntax.{w64}
 use mir.Val.{to_z, of_z}
-use Rattle.std.proofs.Common.{◌≡◌, ℕ, ◌+◌, ℤ, List, [], ◌∷◌, length, get_or, drop, sym, ap, ◌∙◌, subst}
+use Rattle.std.proofs.Common.{◌≡◌, ℕ, ◌+◌, List, [], ◌∷◌, drop, sym, subst}
 use Rattle.std.proofs.lemmas.List.{take_rest, drop-drop}
 use Rattle.cif_lex.specs.declared.command.Command.{Command}
 use Rattle.cif_lex.specs.declared.command.Command.TheVariants.{Area}
-use Rattle.cif_lex.specs.Words.{letter, number}
-use Rattle.cif_lex.specs.Reading.{IsRead, AreRead, IsPairRead, IsPairAnswer}
+use Rattle.cif_lex.specs.Words.{number}
+use Rattle.cif_lex.specs.Reading.{AreRead, IsPairRead}
 use Rattle.cif_lex.specs.Forms.{IsForm, IsFormAnswer}
 use Rattle.cif_lex.proofs.ReadNumbers.{small_back}
 use Rattle.cif_lex.proofs.AreaForm.{no_size, no_centre, area_form}

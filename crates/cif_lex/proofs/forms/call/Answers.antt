@@ -1,16 +1,14 @@
 use mir.Syntax.{w64}
 use mir.Val.{to_z, of_z}
-use Rattle.std.proofs.Common.{◌≡◌, ℕ, ◌+◌, ◌<◌, ◌≤◌, ◌^◌, ℤ, pos, ◌+ℤ◌, ◌||◌, List, [], ◌∷◌, length, get_or, drop, sym, ap, ◌∙◌, subst, arith}
-use Rattle.std.proofs.lemmas.List.{take_rest, drop-drop}
-use Rattle.cif_lex.specs.declared.command.Command.{Command}
+use Rattle.std.proofs.Common.{ℕ, ◌+◌, ◌≤◌, ◌^◌, ℤ, ◌+ℤ◌, ◌||◌, List, [], ◌∷◌, drop, sym, ap, ◌∙◌, subst, arith}
+use Rattle.std.proofs.lemmas.List.{take_rest}
 use Rattle.cif_lex.specs.declared.command.Command.TheVariants.{Call}
-use Rattle.cif_lex.specs.Words.{letter, number}
-use Rattle.cif_lex.specs.Commands.{is_far}
+use Rattle.cif_lex.specs.Words.{number}
 use Rattle.cif_lex.specs.Reading.{IsRead, AreRead, IsNumberRead, IsPairRead}
 use Rattle.cif_lex.specs.Forms.{IsLedBy, IsForm, IsFormAnswer}
 use Rattle.cif_lex.proofs.ReadNumbers.{small_back}
 use Rattle.cif_lex.proofs.Stops.{led_letter, letter_there, within_rest}
-use Rattle.cif_lex.proofs.CallForm.{SoFar, no_called, so_far_none, no_shift, so_far_more, so_far_same, sum_back, call_form}
+use Rattle.cif_lex.proofs.CallForm.{no_called, so_far_none, no_shift, so_far_more, so_far_same, sum_back, call_form}
 use Rattle.cif_lex.proofs.forms.call.Goals as goal
 
 pub returns-in_err-symbol : goal.returns-in_err-symbol

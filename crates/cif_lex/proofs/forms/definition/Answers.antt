@@ -1,11 +1,11 @@
 use mir.Syntax.{w64}
 use mir.Val.{to_z, of_z}
-use Rattle.std.proofs.Common.{◌≡◌, ℕ, ◌+◌, ℤ, pos, List, [], ◌∷◌, length, get_or, drop, sym, ap, ◌∙◌, subst, MatchOption}
-use Rattle.std.proofs.lemmas.List.{take_rest, drop-drop}
+use Rattle.std.proofs.Common.{◌≡◌, ℕ, ◌+◌, ℤ, pos, List, [], ◌∷◌, drop, sym, subst}
+use Rattle.std.proofs.lemmas.List.{take_rest}
 use Rattle.cif_lex.specs.declared.command.Command.{Command}
 use Rattle.cif_lex.specs.declared.command.Command.TheVariants.{Define}
-use Rattle.cif_lex.specs.Words.{letter, number}
-use Rattle.cif_lex.specs.Reading.{IsRead, AreRead, IsNumberRead, IsPairRead, IsPairAnswer}
+use Rattle.cif_lex.specs.Words.{number}
+use Rattle.cif_lex.specs.Reading.{IsRead, AreRead, IsNumberRead, IsPairRead}
 use Rattle.cif_lex.specs.Forms.{IsForm, IsFormAnswer}
 use Rattle.cif_lex.proofs.ReadNumbers.{small_back}
 use Rattle.cif_lex.proofs.BracketForm.{no_symbol, definition_scaled, definition_alone}

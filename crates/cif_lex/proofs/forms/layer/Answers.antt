@@ -1,7 +1,6 @@
 use Rattle.std.proofs.Common.{◌≡◌, ℕ, true, ◌+◌, ◌-◌, ◌≤◌, inl, inr, List, length, take, drop, sym, ap, ◌∙◌, subst, arith}
 use Rattle.std.specs.List.{All}
 use Rattle.std.proofs.lemmas.List.{take_rest, drop-drop}
-use Rattle.cif_lex.specs.declared.command.Command.{Command}
 use Rattle.cif_lex.specs.declared.command.Command.TheVariants.{Layer}
 use Rattle.cif_lex.specs.Words.{is_name_byte, StopsAt}
 use Rattle.cif_lex.specs.Commands.{layer_named}
@@ -10,7 +9,7 @@ use Rattle.cif_lex.specs.Forms.{IsForm}
 use Rattle.cif_lex.proofs.Stops.{led_letter}
 use Rattle.cif_lex.proofs.LayerForm.{no_name, layer_form}
 use Rattle.cif_lex.proofs.forms.layer.Goals as goal
-use Rattle.cif_lex.proofs.forms.layer.Goals.{then-length-eq0-via-then-length-eq0, then-length-eq0-via-else-length-eq0+then-length-gt4}
+use Rattle.cif_lex.proofs.forms.layer.Goals.{then-length-eq0-via-then-length-eq0, then-length-eq0-via-else-length-eq0+then-length-gt-LONGEST_NAME}
 
 -- what is known of the name
 abbrev Name : List ℕ → ℕ → ℕ → Type 0
@@ -20,7 +19,7 @@ the_name : (text rest : List ℕ) (begin n : ℕ) → rest ≡ drop begin text �
 the_name text rest begin n e le all stops = (
   subst (λ (t : List ℕ). n ≤ length t) e le,
   subst (λ (t : List ℕ). All (λ b. is_name_byte b ≡ true) (take n t)) e all,
-  subst (λ (t : List ℕ). StopsAt is_name_byte (drop n t)) e stops
+  subst (λ (t : List ℕ). StopsAt is_name_byte (drop n t)) e stops,
 )
 
 pub returns-then-length-eq0 : goal.returns-then-length-eq0
@@ -32,7 +31,7 @@ returns-then-length-eq0 c =
     let known = the_name text (take (length text - begin) (drop begin text)) begin n (take_rest text begin) c.name_length-length.ensures.within c.name_length-length.ensures.name c.name_length-length.ensures.longest in
     elim c.then-length-eq0.branch [
       | then-length-eq0-via-then-length-eq0 w ↦ no_name text (drop begin text) n is known.0 known.1 known.2 (inl w.if-length-eq0.true)
-      | then-length-eq0-via-else-length-eq0+then-length-gt4 w ↦ no_name text (drop begin text) n is known.0 known.1 known.2 (inr w.if-length-gt4.true)
+      | then-length-eq0-via-else-length-eq0+then-length-gt-LONGEST_NAME w ↦ no_name text (drop begin text) n is known.0 known.1 known.2 (inr w.if-length-gt-LONGEST_NAME.true)
     ]
 
 pub returns : goal.returns
@@ -47,6 +46,6 @@ returns c =
     let none = c.if-length-eq0.false in
     let layer : c.layer_named-layer.result ≡ layer_named (take n (drop begin text)) = c.layer_named-layer.ensures ∙ ap (λ (k : ℕ). layer_named (take k (drop begin text))) same in
     subst (λ o. IsForm text (record { command = Layer o; length = begin + n + c.gap_length.result })) (sym layer)
-    (layer_form text begin n c.gap_length.result c.letter_length-begin.ensures.within is known.0 known.1 (subst (StopsAt is_name_byte) (drop-drop n begin text) known.2) (omega arith) c.if-length-gt4.false
+    (layer_form text begin n c.gap_length.result c.letter_length-begin.ensures.within is known.0 known.1 (subst (StopsAt is_name_byte) (drop-drop n begin text) known.2) (omega arith) c.if-length-gt-LONGEST_NAME.false
     (subst (λ (t : List ℕ). c.gap_length.result ≤ length t) last c.gap_length.ensures.within)
     (subst (λ (t : List ℕ). IsBehindGap t (drop c.gap_length.result t)) last c.gap_length.ensures.gap))

@@ -1,4 +1,4 @@
-use Rattle.std.proofs.Common.{◌≡◌, ℕ, true, List, length, get_or, refl, sym, ap, ◌∙◌, subst, arith}
+use Rattle.std.proofs.Common.{get_or, refl, sym, ◌∙◌, arith}
 use Rattle.cif_lex.proofs.AnyForm.{led_at, letter_answer, nothing_form, extension_form, none_begins}
 use Rattle.cif_lex.proofs.forms.read_form.Goals as goal
 
@@ -19,3 +19,12 @@ returns-then-is_ascii_digit c =
     let text = c.args.text.now in
     extension_form text (get_or text 0 0) c.extension_length.result (led_at text (get_or text 0 0) c.requires.filled refl) (sym c.is_ascii_digit.ensures.value ∙ c.if-is_ascii_digit.true) c.requires.filled
     c.extension_length.ensures.within c.extension_length.ensures.inside c.extension_length.ensures.longest
+
+pub returns-in-59 : goal.returns-in-59
+returns-in-59 c = let text = c.args.text.now in nothing_form text (led_at text 59 c.requires.filled c.in-59.is)
+
+pub returns-in_default : goal.returns-in_default
+returns-in_default c =
+    let text = c.args.text.now in
+    let led = led_at text (get_or text 0 0) c.requires.filled refl in
+    none_begins text led.more (get_or text 0 0) led.begun c.requires.filled (λ h. grind arith)

@@ -1,5 +1,5 @@
-use Rattle.std.proofs.Common.{◌≡◌, ℕ, ◌+◌, ◌-◌, ◌<◌, length, get_or, refl, sym, subst, arith}
-use Rattle.cif_lex.proofs.Comments.{Inside, IsPassed, passes_opening, passes_closing, passes_other, comment_ends, some_open}
+use Rattle.std.proofs.Common.{◌<◌, length, get_or, refl, sym, subst, arith}
+use Rattle.cif_lex.proofs.Comments.{IsPassed, passes_opening, passes_closing, passes_other, comment_ends, some_open}
 use Rattle.cif_lex.proofs.gaps.comment_length.Goals as goal
 use Rattle.cif_lex.proofs.gaps.comment_length.Goals.{then-b-eq40, else-b-eq40+then-b-eq41, else-b-eq40+else-b-eq41}
 

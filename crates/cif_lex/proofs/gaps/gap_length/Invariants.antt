@@ -1,6 +1,5 @@
 use Rattle.std.proofs.Common.{length, take, ◌-◌, ◌≤◌}
 use Rattle.cif_lex.specs.Blanks.{IsGap}
-use Rattle.cif_lex.proofs.OneGap.{no_gap}
 use Rattle.cif_lex.proofs.gaps.gap_length.Given as goal
 
 abbrev pub invariant-loop-at : goal.invariant-loop-at

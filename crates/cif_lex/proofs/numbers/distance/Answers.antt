@@ -1,4 +1,4 @@
-use Rattle.std.proofs.Common.{◌≡◌, ℕ, ◌+◌, ◌*◌, min, ap, ◌∙◌, arith}
+use Rattle.std.proofs.Common.{ℕ, ◌+◌, ◌*◌, min, ap, ◌∙◌, arith}
 use Rattle.cif_lex.proofs.Numerals.{capped_more}
 use Rattle.cif_lex.proofs.numbers.distance.Goals as goal
 

@@ -1,11 +1,11 @@
 use mir.Syntax.{w64}
 use mir.Val.{to_z}
-use Rattle.std.proofs.Common.{◌≡◌, ℕ, ℤ, Bool, true, ◌+◌, ◌-◌, ◌≤◌, List, sym, ap, ◌∙◌, subst, length, take, drop, arith}
+use Rattle.std.proofs.Common.{◌≡◌, ℕ, Bool, true, ◌+◌, ◌-◌, ◌≤◌, List, sym, ap, ◌∙◌, subst, length, take, drop, arith}
 use Rattle.std.specs.List.{All}
 use Rattle.std.specs.Char.{is_ascii_digit}
 use Rattle.std.proofs.lemmas.List.{take_rest}
 use Rattle.cif_lex.specs.Words.{StopsAt, capped, signed}
-use Rattle.cif_lex.specs.Reading.{IsNumberRead, IsBehindGap}
+use Rattle.cif_lex.specs.Reading.{IsBehindGap}
 use Rattle.cif_lex.proofs.ReadNumbers.{no_digit, number_there, negative_back, positive_back, behind_both}
 use Rattle.cif_lex.proofs.numbers.read_number.Goals as goal
 use Rattle.cif_lex.proofs.numbers.read_number.Goals.{then-negative, else-negative}
@@ -15,8 +15,8 @@ returns-then-length-eq0 c =
     let text = c.args.text.now in
     let begin = c.from-begin.result in
     let stops : StopsAt is_ascii_digit (drop 0 (drop begin text)) =
-        subst (λ (k : ℕ). StopsAt is_ascii_digit (drop k (drop begin text))) c.if-length-eq0.true
-        (subst (λ (t : List ℕ). StopsAt is_ascii_digit (drop c.digits_length-length.result t)) (take_rest text begin) c.digits_length-length.ensures.longest) in
+    subst (λ (k : ℕ). StopsAt is_ascii_digit (drop k (drop begin text))) c.if-length-eq0.true
+    (subst (λ (t : List ℕ). StopsAt is_ascii_digit (drop c.digits_length-length.result t)) (take_rest text begin) c.digits_length-length.ensures.longest) in
     no_digit text c.begins_with-negative.result begin c.begins_with-negative.ensures c.from-begin.ensures stops
 
 pub distance-distance-requires : goal.distance-distance-requires
@@ -25,7 +25,7 @@ distance-distance-requires c =
     let begin = c.from-begin.result in
     let n = c.digits_length-length.result in
     let all : All (λ b. is_ascii_digit b ≡ true) (take n (drop begin text)) =
-        subst (λ (t : List ℕ). All (λ b. is_ascii_digit b ≡ true) (take n t)) (take_rest text begin) c.digits_length-length.ensures.digits in
+    subst (λ (t : List ℕ). All (λ b. is_ascii_digit b ≡ true) (take n t)) (take_rest text begin) c.digits_length-length.ensures.digits in
     let same : n ≡ begin + n - begin = omega arith in
     subst (λ (k : ℕ). All (λ b. is_ascii_digit b ≡ true) (take k (drop begin text))) same all
 

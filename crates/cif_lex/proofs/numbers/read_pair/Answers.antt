@@ -1,4 +1,4 @@
-use Rattle.std.proofs.Common.{◌≡◌, ℕ, ℤ, List, sym, ◌∙◌, subst, length, drop}
+use Rattle.std.proofs.Common.{ℕ, List, sym, ◌∙◌, subst, drop}
 use Rattle.std.proofs.lemmas.List.{take_rest}
 use Rattle.cif_lex.specs.Words.{number}
 use Rattle.cif_lex.specs.Reading.{IsRead, IsNumberRead, IsPairAnswer}

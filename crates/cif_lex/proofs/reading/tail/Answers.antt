@@ -1,9 +1,8 @@
-use Rattle.std.proofs.Common.{◌≡◌, ℕ, ◌+◌, ◌-◌, ◌<◌, ◌≤◌, inl, inr, List, [], ◌++◌, length, take, drop, sym, ap, ◌∙◌, subst, arith}
+use Rattle.std.proofs.Common.{◌≡◌, ℕ, ◌+◌, ◌-◌, ◌<◌, inl, inr, List, [], ◌++◌, length, take, drop, sym, ap, ◌∙◌, subst, arith}
 use Rattle.std.proofs.lemmas.Bool.{eqb-true, eqb-false}
 use Rattle.std.proofs.lemmas.List.{take_rest, nil_from_length, append-nil}
 use Rattle.cif_lex.specs.Blanks.{IsGap, IsUnclosed, IsCutOff, IsFilled}
 use Rattle.cif_lex.specs.Commands.{Follows}
-use Rattle.cif_lex.specs.Reading.{IsBehindGap}
 use Rattle.cif_lex.proofs.Following.{behind}
 use Rattle.cif_lex.proofs.reading.tail.Goals as goal
 
@@ -27,13 +26,18 @@ returns-then-is_cut c =
     let bytes = c.args.bytes.now in
     let begin = c.args.read + c.gap_length.result in
     let none = eqb-false (length (take (length bytes - begin) (drop begin bytes))) 0 (sym c.is_empty.ensures ∙ c.if-is_empty.false) in
-    let some : 0 < length (take (length bytes - begin) (drop begin bytes)) = omega (arith, none) in
-    (begin, drop begin bytes, behind bytes _ c.args.read c.gap_length.result (take_rest bytes c.args.read) c.gap_length.ensures.within c.gap_length.ensures.gap,
-    subst IsUnclosed (take_rest bytes begin) (unclosed (take (length bytes - begin) (drop begin bytes)) some c.if-is_cut.ensures))
+    let some : 0 < length (take (length bytes - begin) (drop begin bytes)) = omega (arith, none) in (
+      begin,
+      drop begin bytes,
+      behind bytes _ c.args.read c.gap_length.result (take_rest bytes c.args.read) c.gap_length.ensures.within c.gap_length.ensures.gap,
+      subst IsUnclosed (take_rest bytes begin) (unclosed (take (length bytes - begin) (drop begin bytes)) some c.if-is_cut.ensures),
+    )
 
 pub returns-else-is_cut : goal.returns-else-is_cut
 returns-else-is_cut c =
     let bytes = c.args.bytes.now in
-    let begin = c.args.read + c.gap_length.result in
-    (drop begin bytes, behind bytes _ c.args.read c.gap_length.result (take_rest bytes c.args.read) c.gap_length.ensures.within c.gap_length.ensures.gap,
-    subst IsFilled (take_rest bytes begin) c.if-is_cut.ensures)
+    let begin = c.args.read + c.gap_length.result in (
+      drop begin bytes,
+      behind bytes _ c.args.read c.gap_length.result (take_rest bytes c.args.read) c.gap_length.ensures.within c.gap_length.ensures.gap,
+      subst IsFilled (take_rest bytes begin) c.if-is_cut.ensures,
+    )
