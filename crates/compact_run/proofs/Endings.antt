@@ -9,10 +9,10 @@ use Rattle.compact_run.specs.declared.status.Side2.TheVariants as side
 use Rattle.compact_run.specs.declared.status.Side2.TheVariants.{Output, Report}
 use Rattle.compact_run.specs.declared.status.Status.{Status}
 use Rattle.compact_run.specs.declared.status.Status.TheVariants as status
-use Rattle.compact_run.specs.Words.{Command, compact, fmt, command_of}
+use Rattle.compact_run.specs.Words.{Command, compact, extract, fmt, command_of}
 use Rattle.compact_run.specs.Refusal.{line_of}
 use Rattle.compact_run.specs.Fetches.{IsRefusal, AsksFor, AsksThrough, file_of}
-use Rattle.compact_run.specs.Answers.{IsAnswer, compacted, formatted, refused, output_failed, report_failed, WordsWrite, RefusesWords, Writes, Reports, Tells, IsUntouched, write_fault_line}
+use Rattle.compact_run.specs.Answers.{IsAnswer, compacted, extracted, formatted, refused, output_failed, report_failed, WordsWrite, RefusesWords, Writes, Reports, Tells, IsUntouched, write_fault_line}
 
 -- an answer, and what it left of the output and the report
 abbrev pub Answered : List Bytes → Files → Status → Option Bytes → Option Bytes → Option Bytes → Option Bytes → ℕ → ℕ → Type 0
@@ -34,6 +34,7 @@ done_by : (words : List Bytes) (files : Files) (ended : Status) (output report :
     → WordsWrite c files output report → IsAnswer words files ended output report
 done_by words files ended output report None is e writes = absurd writes
 done_by words files ended output report (Some (compact design tech axes)) is e writes = compacted design tech axes is e writes
+done_by words files ended output report (Some (extract cif tech)) is e writes = extracted cif tech is e writes.0 writes.1
 done_by words files ended output report (Some (fmt design)) is e writes = formatted design is e writes.0 writes.1
 
 pub ends_written : (words : List Bytes) (files : Files) (ended : Status) (out_old out_new told_old told_new : Option Bytes) (faults_old faults_new : ℕ) (output report : Bytes)

@@ -11,4 +11,5 @@ pub mod Steps
 mod OneFile
 mod OneMaster
 mod OnePlan
+mod OneNetlist
 mod OneAnswer

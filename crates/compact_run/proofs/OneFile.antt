@@ -18,10 +18,10 @@ pub data IsNotRead {A F : Type 0} (read : Bytes → Result A F) (bad : F → Sta
   long : IsLongFile files file name → ended ≡ status.TooLong file → line ≡ too_long_line file → IsNotRead read bad says files file name ended line
   faulty : (text : Bytes) (fault : F) → HasFile files file name text → read text ≡ Err fault → ended ≡ bad fault → line ≡ says fault → IsNotRead read bad says files file name ended line
 
-one_text : (files : Files) (file : File) (name s t : Bytes) → HasFile files file name s → HasFile files file name t → s ≡ t
+pub one_text : (files : Files) (file : File) (name s t : Bytes) → HasFile files file name s → HasFile files file name t → s ≡ t
 one_text files file name s t a b = let p = sym a.there ∙ b.there in cc
 
-not_long : (files : Files) (file : File) (name s : Bytes) → HasFile files file name s → IsLongFile files file name → ⊥
+pub not_long : (files : Files) (file : File) (name s : Bytes) → HasFile files file name s → IsLongFile files file name → ⊥
 not_long files file name s a l =
     let e : s ≡ l.text = let p = sym a.there ∙ l.there in cc in
     let short = a.short in

@@ -1,5 +1,5 @@
 -- What `compact` answers over a design and a technology: the masks and the report of its masters, or why there are none.
-use Rattle.std.specs.Prelude.{◌≡◌, ℕ, ◌<◌, ◌≤◌, ◌*ℤ◌, ◌≤ℤ◌, ◌<ℤ◌, ◌⊎◌, ℤ, pos, All, Contains, List, [], length, take}
+use Rattle.std.specs.Prelude.{◌≡◌, ◌≢◌, ℕ, ◌<◌, ◌≤◌, ◌*ℤ◌, ◌≤ℤ◌, ◌<ℤ◌, ◌⊎◌, ℤ, pos, All, Contains, List, [], length, take, flat_map}
 use Rattle.lam_geom.specs.declared.boxes.Axis.{Axis}
 use Rattle.lam_geom.specs.declared.boxes.Axis.TheVariants.{X, Y}
 use Rattle.lam_io.specs.Io.{Bytes}
@@ -17,6 +17,7 @@ use Rattle.plan_model.specs.declared.plan.Plan.{Plan}
 use Rattle.plan_model.specs.Instances.{whole_width, whole_height}
 use Rattle.plan_model.specs.Plan.{grids_of}
 use Rattle.pitch_join.specs.Masters.{master_at}
+use Rattle.conductors.specs.Written.{HasSticksNets}
 use Rattle.grid_rules.specs.Rules.{AllKeepSpacing}
 use Rattle.pass_run.specs.declared.step.Step.{Step}
 use Rattle.pass_run.specs.declared.passes.PassFault.{PassFault}
@@ -28,7 +29,8 @@ use Rattle.pass_run.specs.Report.{report_of}
 use Rattle.pass_run.specs.Theorems.{AreSound}
 use Rattle.pass_run.specs.PassFaults.{RefusesPasses}
 use Rattle.mask_out.specs.Pictures.{drawings_in, calls_of}
-use Rattle.cif_text.specs.Calls.{cif_of}
+use Rattle.cif_text.specs.Calls.{parts_of}
+use Rattle.cif_text.specs.Cutting.{AreCut}
 use Rattle.compact_run.specs.declared.status.What.TheVariants.{Edges, Extent}
 use Rattle.compact_run.specs.declared.status.Status.{Status}
 use Rattle.compact_run.specs.declared.status.Status.TheVariants as status
@@ -80,24 +82,34 @@ pub record IsWithin (tech : Tech) (plan : Plan) (layouts : List Coords) : Type 0
 abbrev pub IsPast : Tech → Plan → List Coords → Type 0
 IsPast tech plan layouts = IsPastExtent tech (width_of_all tech plan layouts) ⊎ IsPastExtent tech (height_of_all plan layouts)
 
+-- the text of each symbol of the masks of the last layouts, and that of the calls with the end
+abbrev pub masks_parts : Tech → Plan → List Master → List Step → List Bytes
+masks_parts tech plan masters steps =
+    parts_of (unit_of tech) (drawings_in masters (last_layouts tech masters steps))
+    (calls_of (size_in X (last_layouts tech masters steps)) (size_in Y (last_layouts tech masters steps)) (widest_of tech) (grids_of plan))
+
+-- the text of the masks
+abbrev pub masks_text : Tech → Plan → List Master → List Step → Bytes
+masks_text tech plan masters steps = flat_map (λ part. part) (masks_parts tech plan masters steps)
+
 -- The passes of all masters, whose last layouts are not too large together. Theorems say that the walks of each pass are critical paths, that no
 -- pass on an axis that has had one makes a value grow, that after each pass every item has a box that is as long as it has to be and bound items
--- of a master keep their spacing; and that at the end every two bound items of all instances keep theirs.
+-- of a master keep their spacing; that at the end every two bound items of all instances keep theirs; and that the text of the masks means boxes that show the
+-- items of all instances, one by one, from which the netlist of the sticks is extracted.
 pub record ArePlaced (tech : Tech) (plan : Plan) (masters : List Master) (axes : List Axis) (steps : List Step) : Type 0 where
   pub made : ArePassesOn tech plan masters axes steps
   pub sound : AreSound tech plan masters [] (starts_of tech masters) steps
   pub within : IsWithin tech plan (last_layouts tech masters steps)
   pub spaced : AllKeepSpacing tech plan masters (last_layouts tech masters steps)
+  pub nets : HasSticksNets tech plan masters (last_layouts tech masters steps) (masks_text tech plan masters steps)
+
+-- the name of a master has no semicolon
+abbrev pub HasPlainName : Master → Type 0
+HasPlainName master = All (λ b. b ≢ 59) master.cell.name
 
 -- the name of a master fits into a line
 abbrev pub HasShortName : Master → Type 0
 HasShortName master = length master.cell.name ≤ 65000
-
--- the text of the masks of the last layouts
-abbrev pub masks_text : Tech → Plan → List Master → List Step → Bytes
-masks_text tech plan masters steps =
-    cif_of (unit_of tech) (drawings_in masters (last_layouts tech masters steps))
-    (calls_of (size_in X (last_layouts tech masters steps)) (size_in Y (last_layouts tech masters steps)) (widest_of tech) (grids_of plan))
 
 -- the text of the passes
 abbrev pub passes_text : Tech → Plan → List Master → List Step → Bytes
@@ -112,6 +124,15 @@ pub record CompactsTo (tech : Tech) (axes : List Axis) (design : Design) (output
   pub laid_out : ArePlaced tech plan masters axes steps
   pub written : output ≡ masks_text tech plan masters steps
   pub reported : report ≡ passes_text tech plan masters steps
+
+-- The masks of a design are in these pieces: each of their parts is cut into pieces of whole lines.
+pub record AreMasksIn (tech : Tech) (axes : List Axis) (design : Design) (pieces : List Bytes) : Type 0 where
+  pub plan : Plan
+  pub masters : List Master
+  pub are_masters : AreMastersOf tech design plan masters
+  pub steps : List Step
+  pub laid_out : ArePlaced tech plan masters axes steps
+  pub cut : AreCut (masks_parts tech plan masters steps) pieces
 
 -- The last layouts are too large together: too wide or too high.
 pub record HasLargeExtent (tech : Tech) (plan : Plan) (masters : List Master) (axes : List Axis) : Type 0 where

@@ -1,10 +1,13 @@
--- The lines that say what is wrong with a technology or with a design.
+-- The lines that say what is wrong with a technology, a design or a CIF text.
 use Rattle.std.specs.Prelude.{ℕ, List, [], ◌∷◌, ◌++◌, codes, decimal, slice_index_or}
 use Rattle.stick_parse.specs.declared.fault.StickKind.{StickKind}
 use Rattle.stick_parse.specs.declared.fault.StickKind.TheVariants as kinds
 use Rattle.stick_parse.specs.declared.fault.StickFault.{StickFault}
 use Rattle.rule_table.specs.declared.faults.TechFault.{TechFault}
 use Rattle.rule_table.specs.declared.faults.TechFault.TheVariants as numbers
+use Rattle.cif_read.specs.declared.fault.CifFault.{CifFault}
+use Rattle.cif_read.specs.declared.fault.CifKind.{CifKind}
+use Rattle.cif_read.specs.declared.fault.CifKind.TheVariants as cif
 use Rattle.tech_file.specs.declared.faults.TechFileFault.{TechFileFault}
 use Rattle.tech_file.specs.declared.faults.TechFileFault.TheVariants as faults
 
@@ -65,3 +68,21 @@ kind_word kinds.NoBuried = codes "NoBuried"
 
 abbrev pub stick_line : StickFault → List ℕ
 stick_line fault = codes "sticks: line " ++ (decimal fault.line ++ (codes ": " ++ (kind_word fault.kind ++ (10 ∷ []))))
+
+abbrev pub cif_word : CifKind → List ℕ
+cif_word cif.BadCommand = codes "BadCommand"
+cif_word cif.BadNumber = codes "BadNumber"
+cif_word cif.NestedDefinition = codes "NestedDefinition"
+cif_word cif.RepeatedSymbol = codes "RepeatedSymbol"
+cif_word cif.UnknownSymbol = codes "UnknownSymbol"
+cif_word cif.NoLayer = codes "NoLayer"
+cif_word cif.OddScale = codes "OddScale"
+cif_word cif.NoEnd = codes "NoEnd"
+cif_word cif.AfterEnd = codes "AfterEnd"
+
+abbrev pub cif_line : CifFault → List ℕ
+cif_line fault = codes "sticks: byte " ++ (decimal fault.offset ++ (codes ": " ++ (cif_word fault.kind ++ (10 ∷ []))))
+
+-- two boxes, by their numbers
+abbrev pub improper_line : ℕ → ℕ → List ℕ
+improper_line a b = codes "sticks: not proper: boxes " ++ (decimal a ++ (codes " " ++ (decimal b ++ (10 ∷ []))))

@@ -2,10 +2,11 @@
 use Rattle.std.specs.Prelude.{◌≡◌, ℕ, ◌<◌, ◌≤◌, ◌⊎◌, Option, Some, None, List, [], ◌∷◌, length, option_map}
 use Rattle.std.specs.FinMap.{get}
 use Rattle.lam_io.specs.Io.{Bytes, Files, Telling, Asks, Rose, with_asked}
-use Rattle.compact_run.specs.Words.{Command, compact, fmt, files_of}
-use Rattle.compact_run.specs.Limits.{most_design_bytes, most_technology_bytes}
+use Rattle.compact_run.specs.Words.{Command, compact, extract, fmt, files_of}
+use Rattle.compact_run.specs.Limits.{most_design_bytes, most_technology_bytes, most_cif_bytes}
 use Rattle.compact_run.specs.declared.status.File.{File}
-use Rattle.compact_run.specs.declared.status.File.TheVariants.{Design, Technology}
+use Rattle.compact_run.specs.declared.status.File.TheVariants.{Design, Technology, Cif}
+use Rattle.compact_run.specs.declared.status.What.TheVariants.{Boxes}
 use Rattle.compact_run.specs.declared.status.Status.{Status}
 use Rattle.compact_run.specs.declared.status.Status.TheVariants as status
 
@@ -13,6 +14,7 @@ use Rattle.compact_run.specs.declared.status.Status.TheVariants as status
 abbrev pub limit_of : File → ℕ
 limit_of Design = most_design_bytes
 limit_of Technology = most_technology_bytes
+limit_of Cif = most_cif_bytes
 
 -- a file of the shelf, within its limit
 pub record HasFile (files : Files) (file : File) (name text : Bytes) : Type 0 where
@@ -47,6 +49,8 @@ file_of status.Usage = None
 file_of (status.ReadFault file) = Some file
 file_of (status.TooLong file) = Some file
 file_of (status.BadTech fault) = Some Technology
+file_of (status.BadCif fault) = Some Cif
+file_of (status.NotProper a b) = Some Cif
 file_of other = Some Design
 
 -- a command is refused so: it is not done, and no stream was tried
@@ -59,6 +63,10 @@ IsRefusal other = Unit {0}
 abbrev pub EndsOver : File → Status → Type 0
 EndsOver file ended = IsRefusal ended × ((ended ≡ status.OutOfMemory) ⊎ (file_of ended ≡ Some file))
 
+-- a step over a CIF text is refused so: too many boxes are those of its text
+abbrev pub EndsOverCif : Status → Type 0
+EndsOverCif ended = IsRefusal ended × ((ended ≡ status.OutOfMemory) ⊎ ((file_of ended ≡ Some Cif) ⊎ (ended ≡ status.TooLarge Boxes)))
+
 -- the shelf's files are as they were, and it was asked for the name, unless memory ran out before
 abbrev pub AsksOnce : Status → Option Telling → Option Telling → Bytes → Type 0
 AsksOnce ended old new name = Asks old new name ⊎ ((ended ≡ status.OutOfMemory) × (new ≡ old))
@@ -68,13 +76,18 @@ abbrev pub AsksForFront : List Bytes → Option Telling → Option Telling → T
 AsksForFront [] old new = new ≡ old
 AsksForFront (name ∷ names) old new = (new ≡ old) ⊎ AsksForFront names (option_map (with_asked name) old) new
 
--- it was asked for the files of a command up to this one, each once, in order
+-- It was asked for the files of a command up to this one, each once, in order. What is done, and what is too large, is so of the last file of its command.
 abbrev pub AsksThrough : Option File → Command → Option Telling → Option Telling → Type 0
 AsksThrough None command old new = ⊥
 AsksThrough (Some Technology) (compact design tech axes) old new = Asks old new tech
 AsksThrough (Some Design) (compact design tech axes) old new = Asks (option_map (with_asked tech) old) new design
+AsksThrough (Some Cif) (compact design tech axes) old new = ⊥
+AsksThrough (Some Technology) (extract cif tech) old new = Asks old new tech
+AsksThrough (Some Design) (extract cif tech) old new = Asks (option_map (with_asked tech) old) new cif
+AsksThrough (Some Cif) (extract cif tech) old new = Asks (option_map (with_asked tech) old) new cif
 AsksThrough (Some Technology) (fmt design) old new = ⊥
 AsksThrough (Some Design) (fmt design) old new = Asks old new design
+AsksThrough (Some Cif) (fmt design) old new = ⊥
 
 -- The shelf's files are as they were, and it was asked for those of the words' command: up to the one over which the command ended, or for a
 -- front of them where memory ran out.

@@ -9,6 +9,10 @@ most_design_bytes = 1048576
 abbrev pub most_technology_bytes : ℕ
 most_technology_bytes = 65536
 
+-- the bytes of a CIF text
+abbrev pub most_cif_bytes : ℕ
+most_cif_bytes = 2 ^ 26
+
 -- the weights of all masters together
 abbrev pub most_items : ℕ
 most_items = 65536

@@ -1,7 +1,7 @@
 -- The numbers with which the program ends.
 use Rattle.std.specs.Prelude.{ℕ}
 use Rattle.compact_run.specs.declared.status.Status.{Status}
-use Rattle.compact_run.specs.declared.status.Status.TheVariants.{Done, OutOfMemory, Usage, ReadFault, WriteFault, TooLong, BadTech, BadSticks, BadGrid, TooLarge, Clash, Unsatisfiable}
+use Rattle.compact_run.specs.declared.status.Status.TheVariants.{Done, OutOfMemory, Usage, ReadFault, WriteFault, TooLong, BadTech, BadSticks, BadGrid, TooLarge, Clash, Unsatisfiable, BadCif, NotProper}
 
 abbrev pub code_of : Status → ℕ
 code_of Done = 0
@@ -16,3 +16,5 @@ code_of (BadGrid grid fault) = 8
 code_of (TooLarge what) = 9
 code_of (Clash cell a b) = 10
 code_of (Unsatisfiable pass) = 11
+code_of (BadCif fault) = 12
+code_of (NotProper a b) = 14

@@ -5,9 +5,10 @@ use Rattle.std.specs.Borrow.{Bor}
 use Rattle.lam_geom.specs.declared.boxes.Axis.{Axis}
 use Rattle.lam_geom.specs.declared.boxes.Axis.TheVariants.{X, Y}
 
--- a command: `compact DESIGN --tech FILE` with the names of the two files and the axes of the passes, or `fmt DESIGN`
+-- a command: `compact DESIGN --tech FILE` with the names of the two files and the axes of the passes; `extract CIF --tech FILE`; or `fmt DESIGN`
 pub data Command : Type 0 where
   compact : List ℕ → List ℕ → List Axis → Command
+  extract : List ℕ → List ℕ → Command
   fmt : List ℕ → Command
 
 abbrev pub begins_with_dash : List ℕ → Bool
@@ -51,6 +52,14 @@ compact_of (design ∷ option ∷ []) = None
 compact_of (design ∷ []) = None
 compact_of [] = None
 
+abbrev pub extract_of : List (List ℕ) → Option Command
+extract_of (cif ∷ option ∷ tech ∷ []) =
+    if bytes_eq option (codes "--tech") && (is_file_name cif && is_file_name tech) then Some (extract cif tech) else None
+extract_of (cif ∷ option ∷ tech ∷ other ∷ others) = None
+extract_of (cif ∷ option ∷ []) = None
+extract_of (cif ∷ []) = None
+extract_of [] = None
+
 abbrev pub fmt_of : List (List ℕ) → Option Command
 fmt_of (design ∷ []) = if is_file_name design then Some (fmt design) else None
 fmt_of (design ∷ other ∷ others) = None
@@ -60,11 +69,14 @@ fmt_of [] = None
 abbrev pub command_of : List (List ℕ) → Option Command
 command_of [] = None
 command_of (word ∷ words) =
-    if bytes_eq word (codes "compact") then compact_of words else (if bytes_eq word (codes "fmt") then fmt_of words else None)
+    if bytes_eq word (codes "compact") then compact_of words
+    else (if bytes_eq word (codes "extract") then extract_of words
+    else (if bytes_eq word (codes "fmt") then fmt_of words else None))
 
 -- the files of a command, in the order in which they are fetched
 abbrev pub files_of : Command → List (List ℕ)
 files_of (compact design tech axes) = tech ∷ design ∷ []
+files_of (extract cif tech) = tech ∷ cif ∷ []
 files_of (fmt design) = design ∷ []
 
 -- the bytes of words

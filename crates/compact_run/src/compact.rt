@@ -1,6 +1,6 @@
 //! The compaction of a design: the texts of its masks and of its passes.
 
-ghost use Rattle.std.specs.Prelude.{◌≡◌, ◌≤◌, All, length, IfOk, IfErr};
+ghost use Rattle.std.specs.Prelude.{◌≡◌, ◌≤◌, All, length, map, IfOk, IfErr};
 ghost use Rattle.stick_parse.specs.Writable.{IsWritable};
 ghost use Rattle.lam_geom.specs.declared.boxes.Axis.TheVariants.{X, Y};
 ghost use Rattle.rule_table.specs.Technology.{widest_of};
@@ -9,7 +9,8 @@ ghost use Rattle.plan_model.specs.Plan.{grids_of, AreOfMasters};
 ghost use Rattle.mask_out.specs.Pictures.{HaveBoxes, IsDrawable};
 ghost use Rattle.compact_run.specs.Limits.{most_passes};
 ghost use Rattle.compact_run.specs.Refusals.{Refused};
-ghost use Rattle.compact_run.specs.Designs.{CompactsTo, HasBothAxes, HasShortName, RefusesDesign, last_layouts, masks_text};
+ghost use Rattle.compact_run.specs.Designs.{CompactsTo, HasBothAxes, HasShortName, RefusesDesign, AreMasksIn, last_layouts, masks_parts, masks_text};
+ghost use Rattle.cif_text.specs.Cutting.{AreCut};
 ghost use Rattle.compact_run.specs.Answers.{text_of};
 
 use crate::layout::lay_out;
@@ -44,6 +45,7 @@ fn written(
     requires of_masters { All (AreOfMasters (length masters.now)) (grids_of plan.now) }
     requires drawable { IsDrawable (size_in X passes.coords) (size_in Y passes.coords) (widest_of tech.now) (grids_of plan.now) }
     ensures masks { IfOk result (λ output. text_of output ≡ masks_text tech.now plan.now masters.now passes.steps) }
+    ensures pieces { IfOk result (λ output. AreCut (masks_parts tech.now plan.now masters.now passes.steps) (map (λ piece. piece.items) output.pieces.items)) }
     ensures report { IfOk result (λ output. output.report ≡ passes.report) }
 {
     let picture = picture_of(alloc, tech, plan, masters, passes.coords.as_slice())?;
@@ -64,6 +66,7 @@ pub fn compact(
     requires both { HasBothAxes axes.now }
     requires few { length axes.now ≤ most_passes }
     ensures done { IfOk result (λ output. CompactsTo tech.now axes.now design.now (text_of output) output.report) }
+    ensures pieces { IfOk result (λ output. AreMasksIn tech.now axes.now design.now (map (λ piece. piece.items) output.pieces.items)) }
     ensures refused { IfErr result (Refused (RefusesDesign tech.now axes.now design.now)) }
 {
     let planned = plan_of(alloc, tech, design)?;

@@ -1,8 +1,9 @@
-//! The lines that say what is wrong with a technology or with a design.
+//! The lines that say what is wrong with a technology, a design or a CIF text.
 
 ghost use Rattle.std.specs.Prelude.{◌≡◌, ◌++◌, OnOk, IfOk};
-ghost use Rattle.compact_run.specs.FaultLines.{key_of, numbers_words, tech_words, tech_line, kind_word, stick_line};
+ghost use Rattle.compact_run.specs.FaultLines.{key_of, numbers_words, tech_words, tech_line, kind_word, stick_line, cif_word, cif_line, improper_line};
 
+use cif_read::{CifFault, CifKind};
 use rule_table::TechFault;
 use std::alloc::{AllocError, Global};
 use stick_lex::{Text, push_decimal};
@@ -119,6 +120,46 @@ pub fn stick_line(alloc: Global, fault: StickFault) -> Result<Text, AllocError>
     push_decimal(&mut out, u64::from(fault.line))?;
     out.extend_from_slice(b": ")?;
     out.extend_from_slice(kind_word(fault.kind))?;
+    out.push(b'\n')?;
+    Text::new(alloc, &out)
+}
+
+fn cif_word(kind: CifKind) -> &'static [u8]
+    ensures { result.now ≡ cif_word kind }
+{
+    match kind {
+        CifKind::BadCommand => b"BadCommand",
+        CifKind::BadNumber => b"BadNumber",
+        CifKind::NestedDefinition => b"NestedDefinition",
+        CifKind::RepeatedSymbol => b"RepeatedSymbol",
+        CifKind::UnknownSymbol => b"UnknownSymbol",
+        CifKind::NoLayer => b"NoLayer",
+        CifKind::OddScale => b"OddScale",
+        CifKind::NoEnd => b"NoEnd",
+        CifKind::AfterEnd => b"AfterEnd",
+    }
+}
+
+/// The line that says what is wrong with a CIF text, and at which byte.
+pub fn cif_line(alloc: Global, fault: CifFault) -> Result<Text, AllocError>
+    ensures { IfOk result (λ line. line ≡ cif_line fault) }
+{
+    let mut out = Vec::from_slice(alloc, b"sticks: byte ")?;
+    push_decimal(&mut out, u64::from(fault.offset))?;
+    out.extend_from_slice(b": ")?;
+    out.extend_from_slice(cif_word(fault.kind))?;
+    out.push(b'\n')?;
+    Text::new(alloc, &out)
+}
+
+/// The line that names two boxes that do not cross properly.
+pub fn improper_line(alloc: Global, a: u32, b: u32) -> Result<Text, AllocError>
+    ensures { IfOk result (λ line. line ≡ improper_line a b) }
+{
+    let mut out = Vec::from_slice(alloc, b"sticks: not proper: boxes ")?;
+    push_decimal(&mut out, u64::from(a))?;
+    out.push(b' ')?;
+    push_decimal(&mut out, u64::from(b))?;
     out.push(b'\n')?;
     Text::new(alloc, &out)
 }

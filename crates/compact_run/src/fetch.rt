@@ -17,6 +17,7 @@ fn limit_of(file: File) -> u64
     match file {
         File::Design => 1_048_576,
         File::Technology => 65_536,
+        File::Cif => 67_108_864,
     }
 }
 

@@ -13,13 +13,15 @@ ghost use Rattle.pass_run.specs.Laid.{StartsClean};
 ghost use Rattle.mask_out.specs.Pictures.{HaveBoxes, IsDrawable};
 ghost use Rattle.compact_run.specs.Limits.{most_passes};
 ghost use Rattle.compact_run.specs.Refusals.{Refused};
-ghost use Rattle.compact_run.specs.Designs.{ArePlaced, HasBothAxes, RefusesStart, RefusesMasters, last_layouts, passes_text};
+ghost use Rattle.conductors.specs.Written.{AllStand};
+ghost use Rattle.compact_run.specs.Designs.{ArePlaced, HasBothAxes, HasPlainName, RefusesStart, RefusesMasters, last_layouts, passes_text};
 
 use crate::clash::clash_line;
 use crate::extent::judge_extent;
 use crate::refusal::Refusal;
 use crate::status::Status;
 use coarse_grid::{find_clash, near_share_a_point, start, start_is_a_layout};
+use conductors::written_nets_are_the_sticks;
 use expand::{Master, master_is_lawful};
 use grid_rules::{all_keep_spacing, grids_are_aligned};
 use lam_geom::Axis;
@@ -77,6 +79,8 @@ pub fn lay_out(
     requires planned { ArePlanned tech.now plan.now masters.now }
     requires both { HasBothAxes axes.now }
     requires few { length axes.now ≤ most_passes }
+    requires named { All HasPlainName masters.now }
+    requires stand { AllStand plan.now masters.now }
     ensures laid_out { IfOk result (λ passes. ArePlaced tech.now plan.now masters.now axes.now passes.steps) }
     ensures last { IfOk result (λ passes. passes.coords ≡ last_layouts tech.now masters.now passes.steps) }
     ensures report { IfOk result (λ passes. passes.report ≡ passes_text tech.now plan.now masters.now passes.steps) }
@@ -92,5 +96,6 @@ pub fn lay_out(
     all_keep_spacing(tech, plan, masters, layouts);
     judge_extent(tech, plan, layouts)?;
     wholes_bound_places(tech, plan, layouts);
+    written_nets_are_the_sticks(tech, plan, masters, layouts);
     Ok(passes)
 }

@@ -7,6 +7,7 @@ mod command;
 mod compact;
 mod delivery;
 mod extent;
+mod extract;
 mod fault_lines;
 mod fetch;
 mod grid_lines;

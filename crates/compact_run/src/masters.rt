@@ -9,7 +9,8 @@ ghost use Rattle.expand.specs.Items.{AreItems};
 ghost use Rattle.expand.specs.Masters.{IsMaster};
 ghost use Rattle.pitch_join.specs.Masters.{ArePlanned};
 ghost use Rattle.plan_model.specs.Rows.{rows_of};
-ghost use Rattle.compact_run.specs.Designs.{HasShortName};
+ghost use Rattle.conductors.specs.Written.{AllStand};
+ghost use Rattle.compact_run.specs.Designs.{HasPlainName, HasShortName};
 ghost use Rattle.compact_run.specs.Plans.{AreChosen, AreMastersOf, IsLightPlan, IsPlanned, RefusesPlan, RefusesSize};
 ghost use Rattle.compact_run.specs.Refusals.{Refused};
 ghost use Rattle.compact_run.specs.Limits.{most_items, most_boxes, capped_boxes};
@@ -169,6 +170,8 @@ pub fn masters_of(
     ensures of_design { IfOk result (λ ms. AreMastersOf tech.now design.now planned.now.plan ms.items) }
     ensures planned { IfOk result (λ ms. ArePlanned tech.now planned.now.plan ms.items) }
     ensures named { IfOk result (λ ms. All HasShortName ms.items) }
+    ensures plain { IfOk result (λ ms. All HasPlainName ms.items) }
+    ensures stand { IfOk result (λ ms. AllStand planned.now.plan ms.items) }
     ensures refused { IfErr result (Refused (RefusesPlan tech.now design.now)) }
 {
     judge_size(alloc, &planned.cells, &planned.plan)?;

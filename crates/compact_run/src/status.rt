@@ -3,6 +3,7 @@
 ghost use Rattle.std.specs.Prelude.{◌≡◌};
 ghost use Rattle.compact_run.specs.Status.{code_of};
 
+use cif_read::CifFault;
 use grid_plan::GridFault;
 use stick_parse::StickFault;
 use tech_file::TechFileFault;
@@ -14,6 +15,8 @@ pub enum File {
     Design,
     /// The technology.
     Technology,
+    /// The CIF text.
+    Cif,
 }
 
 /// A stream that the program writes.
@@ -81,6 +84,16 @@ pub enum Status {
         /// The pass, counted from 1.
         pass: u32,
     },
+    /// The CIF text has no meaning: its first fault.
+    BadCif(CifFault),
+    /// Two boxes of a CIF text, poly and diffusion, overlap and neither cross properly nor are a buried pair, or one of them overlaps
+    /// a further box of the other's layer: the first pair, by their numbers among the boxes of the text.
+    NotProper {
+        /// The lesser box.
+        a: u32,
+        /// The greater box.
+        b: u32,
+    },
 }
 
 impl Status {
@@ -101,6 +114,8 @@ impl Status {
             Status::TooLarge(_) => 9,
             Status::Clash { .. } => 10,
             Status::Unsatisfiable { .. } => 11,
+            Status::BadCif(_) => 12,
+            Status::NotProper { .. } => 14,
         }
     }
 }

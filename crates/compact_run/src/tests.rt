@@ -5,6 +5,7 @@ mod cases;
 mod grids;
 mod kept_pairs;
 mod layouts;
+mod netlists;
 mod pictures;
 
 ghost use Rattle.std.specs.Prelude.{IfOk};
@@ -19,6 +20,7 @@ use expand::Master;
 use grids::{GRID_EXTENTS, GRID_FAULTS, GRID_WRITES, GRIDS};
 use lam_io::{FailPlan, Fetch, MemShelf, MemSink, Shelf};
 use layouts::{CYCLES, FALLS, LAYERS, LIMITS, ORDERS, USES};
+use netlists::NETLISTS;
 use plan_model::Plan;
 use rule_table::Tech;
 use std::alloc::{AllocError, Global};
@@ -131,6 +133,11 @@ fn a_technology_is_judged_first(rt: HostRuntime) -> Result<(), Fail> {
 #[test]
 fn fmt_writes_the_canonical_form(rt: HostRuntime) -> Result<(), Fail> {
     assert_answers(&rt, rt.alloc(), &TEXTS)
+}
+
+#[test]
+fn extract_writes_the_nets_and_transistors(rt: HostRuntime) -> Result<(), Fail> {
+    assert_answers(&rt, rt.alloc(), &NETLISTS)
 }
 
 #[test]

@@ -1,7 +1,7 @@
 //! The words of the command line.
 
 ghost use Rattle.std.specs.Prelude.{◌≡◌, true, map, option_map, IfOk, IfSome};
-ghost use Rattle.compact_run.specs.Words.{is_file_name, is_pass_list, axes_in, compact_with, compact_of, fmt_of, command_of};
+ghost use Rattle.compact_run.specs.Words.{is_file_name, is_pass_list, axes_in, compact_with, compact_of, extract_of, fmt_of, command_of};
 ghost use Rattle.compact_run.specs.Commands.{command_from, HasPassList};
 
 use lam_geom::Axis;
@@ -18,6 +18,13 @@ pub enum Command<'a> {
         tech: &'a str,
         /// A letter for each pass: `x` or `y`.
         passes: &'a str,
+    },
+    /// `extract CIF --tech FILE`: the nets and transistors of a CIF text under a technology.
+    Extract {
+        /// The CIF text's file.
+        cif: &'a str,
+        /// The technology's file.
+        tech: &'a str,
     },
     /// `fmt DESIGN`: the canonical text of a design.
     Fmt {
@@ -80,6 +87,22 @@ fn read_compact<'a>(words: &'a [&'a str]) -> Option<Command<'a>>
     }
 }
 
+fn read_extract<'a>(words: &'a [&'a str]) -> Option<Command<'a>>
+    ensures value { option_map command_from result ≡ extract_of (map (λ word. word.now) words.now) }
+    ensures list { IfSome result HasPassList }
+{
+    match words {
+        [cif, option, tech] => {
+            if *option == "--tech" && (is_file_name(cif) && is_file_name(tech)) {
+                Some(Command::Extract { cif, tech })
+            } else {
+                None
+            }
+        }
+        _ => None,
+    }
+}
+
 fn read_fmt<'a>(words: &'a [&'a str]) -> Option<Command<'a>>
     ensures { option_map command_from result ≡ fmt_of (map (λ word. word.now) words.now) }
 {
@@ -115,6 +138,8 @@ pub fn read_words<'a>(words: &'a [&'a str]) -> Option<Command<'a>>
         [command, rest @ ..] => {
             if *command == "compact" {
                 read_compact(rest)
+            } else if *command == "extract" {
+                read_extract(rest)
             } else if *command == "fmt" {
                 read_fmt(rest)
             } else {

@@ -1,2 +1,5 @@
 pub mod Conductors
 pub mod Meetings
+pub mod Shapes
+pub mod Sticks
+pub mod Written

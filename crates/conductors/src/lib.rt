@@ -7,8 +7,12 @@
 
 mod chains;
 mod meetings;
+mod netlists;
+mod written;
 
 pub use chains::nets_are_connected;
 pub use meetings::{
     items_are_of_owners, links_keep_nets, poly_meets_diffusion, transistors_have_boxes,
 };
+pub use netlists::{extracted_nets_are_the_sticks, pictures_show_shapes};
+pub use written::written_nets_are_the_sticks;

@@ -14,7 +14,8 @@ use rule_table::Tech;
 use std::alloc::{AllocError, Global};
 
 /// All crossings of some boxes, in order of their diffusion, or the first pair that does not cross properly. `index` is
-/// one of these boxes.
+/// one of these boxes. It is asked once for each box of poly and of diffusion, again for each that overlaps the other's
+/// layer, and, where the technology has buried contacts, for each overlap from both sides.
 pub fn crossings(
     alloc: Global,
     tech: &Tech,

@@ -1,8 +1,8 @@
 //! Where poly crosses diffusion: transistors, and buried contacts.
 //!
 //! What the layer above uses: `crossings` gives all crossings with their channels, in order of their diffusion, or the first
-//! pair of poly and diffusion that overlap and neither cross properly nor are a buried pair. Lengths are in grains, half
-//! hundredths of a micron.
+//! pair of poly and diffusion that overlap and neither cross properly nor are a buried pair; `is_buried_pair` tests one pair.
+//! Both take an index of the boxes, which the layer above makes once. Lengths are in grains, half hundredths of a micron.
 #![tactic(auto)]
 
 mod crossing;

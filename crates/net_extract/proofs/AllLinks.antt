@@ -1,24 +1,22 @@
 -- The links of the three kinds are all links.
-use Rattle.std.proofs.Common.{◌≡◌, ◌≢◌, ℕ, ◌<◌, List, Option, Some, length, map, get_or, Contains, ◌⊎◌, inl, inr, refl, sym, ◌∙◌, ap, subst, arith}
+use Rattle.std.proofs.Common.{◌≡◌, ◌≢◌, ℕ, ◌<◌, List, Some, length, map, ◌⊎◌, inl, inr, refl, sym, ◌∙◌, ap, subst, arith}
 use Rattle.std.specs.Prelude.{slice_get, option_map}
 use Rattle.std.proofs.lemmas.List.{length-map}
 use Rattle.std.proofs.lemmas.Option.{slice_get-map, slice_get-get_or, slice_get_within, same_Some}
 use Rattle.smallvec.specs.SmallVec.{SmallVec}
 use Rattle.lam_geom.specs.declared.boxes.BoxXY.{BoxXY}
 use Rattle.lam_geom.specs.declared.boxes.MaskBox.{MaskBox}
-use Rattle.lam_geom.specs.declared.boxes.MaskLayer.{MaskLayer}
 use Rattle.lam_geom.specs.declared.boxes.MaskLayer.TheVariants.{ND, NP}
 use Rattle.lam_geom.specs.Gaps.{Touches, Overlaps}
 use Rattle.rule_table.specs.declared.technology.Tech.{Tech}
-use Rattle.graph_search.specs.Search.{IsBeside}
 use Rattle.crossings.specs.declared.crossing.Crossing.{Crossing}
 use Rattle.crossings.specs.Boxes.{area_at, layer_at}
 use Rattle.crossings.specs.Crossings.{IsBuriedPair, AreInOrder}
 use Rattle.net_extract.specs.declared.placing.Placed.{Placed}
 use Rattle.net_extract.specs.Places.{Place, places_of}
-use Rattle.net_extract.specs.Extraction.{IsAreaOf, AreLinked, by_touch, by_cut, by_contact, by_contact_back, IsLink}
+use Rattle.net_extract.specs.Extraction.{AreLinked, by_touch, by_cut, by_contact, by_contact_back, IsLink}
 use Rattle.net_extract.specs.Pieces.{no_piece, piece_at, box_of, area_of, stand_of, IsPiece, ArePieces}
-use Rattle.net_extract.specs.Linking.{AreAdded, AreEmpty, AreApart, IsTouch, IsOverBoth, IsCutLink, ArePairOf, IsContact, AreLinks}
+use Rattle.net_extract.specs.Linking.{AreAdded, AreEmpty, IsTouch, IsOverBoth, IsCutLink, ArePairOf, IsContact, AreLinks}
 use Rattle.net_extract.proofs.Areas.{area_same}
 
 -- where a piece stands

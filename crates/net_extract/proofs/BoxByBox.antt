@@ -1,10 +1,10 @@
 -- The pieces of boxes, box by box.
-use Rattle.std.proofs.Common.{◌≡◌, ℕ, zero, suc, ◌+◌, ◌-◌, ◌*◌, ◌<◌, ◌≤◌, Bool, true, false, List, [], ◌∷◌, ◌++◌, All, Option, Some, None, pos, length, map, get_or, Contains, ◌⊎◌, inl, inr, refl, sym, ◌∙◌, ap, subst, arith, append_assoc, length-append}
-use Rattle.std.specs.Prelude.{is_some, IfSome, flat_map, cond}
-use Rattle.std.specs.List.{list_any, range_with_len}
+use Rattle.std.proofs.Common.{◌≡◌, ℕ, ◌+◌, ◌-◌, ◌*◌, ◌<◌, ◌≤◌, Bool, true, false, List, [], ◌∷◌, ◌++◌, All, Option, Some, pos, length, map, get_or, inl, inr, refl, sym, ◌∙◌, ap, subst, arith, append_assoc, length-append}
+use Rattle.std.specs.Prelude.{is_some, IfSome, flat_map}
+use Rattle.std.specs.List.{range_with_len}
 use Rattle.std.proofs.lemmas.Bool.{cases_lt, cases_order, ne_eqb}
-use Rattle.std.proofs.lemmas.List.{get_or-map, get_or_append_left, get_or-append_right, get_or_push, get_or_past, length_push, length-map, map-append}
-use Rattle.std.proofs.lemmas.List.Elements.{All-append, All-cons, All-nil, All-same, All-contains}
+use Rattle.std.proofs.lemmas.List.{get_or_append_left, get_or-append_right, get_or_push, length_push, length-map, map-append}
+use Rattle.std.proofs.lemmas.List.Elements.{All-append, All-cons, All-nil}
 use Rattle.std.proofs.lemmas.List.Folds.{list_any_none}
 use Rattle.list_facts.proofs.Pieces.{piece_added}
 use Rattle.lam_geom.specs.declared.boxes.BoxXY.{BoxXY}
@@ -19,7 +19,7 @@ use Rattle.crossings.specs.Crossings.{AreInOrder}
 use Rattle.net_extract.specs.declared.netlist.Part.{Part}
 use Rattle.net_extract.specs.declared.netlist.Part.TheVariants.{Whole, Low, High}
 use Rattle.net_extract.specs.declared.placing.Placed.{Placed}
-use Rattle.net_extract.specs.Places.{Place, place, parts_on, crosses_box, is_crossed, places_at, places_of}
+use Rattle.net_extract.specs.Places.{Place, place, parts_on, crosses_box, is_crossed, places_at}
 use Rattle.net_extract.specs.Extraction.{IsOfBox, IsAreaOfPart, IsLowPiece, IsHighPiece}
 use Rattle.net_extract.specs.Pieces.{no_piece, box_of, stand_of, Conducts, IsPiece, AreStarts, ArePieces, IsPartOf, IsCursor, diffusion_at}
 use Rattle.net_extract.specs.Placing.{IsOfBoxAt, AreOfBox}

@@ -1,13 +1,12 @@
 -- What is extracted: from crossings, pieces, links and numbers to the netlist.
-use Rattle.std.proofs.Common.{◌≡◌, ◌↔◌, ℕ, ◌+◌, ◌*◌, ◌^◌, ◌<◌, ◌≤◌, ◌⊎◌, inl, inr, List, All, pos, length, map, get_or, refl, sym, ◌∙◌, ap, subst, arith}
+use Rattle.std.proofs.Common.{◌≡◌, ◌↔◌, ℕ, ◌+◌, ◌^◌, ◌<◌, ◌≤◌, List, All, pos, length, map, get_or, sym, ◌∙◌, ap, subst, arith}
 use Rattle.std.proofs.lemmas.Int.{ints, clamps}
-use Rattle.std.proofs.lemmas.List.{get_or-map, length-map, get_or_default}
+use Rattle.std.proofs.lemmas.List.{get_or-map, length-map}
 use Rattle.std.proofs.lemmas.Option.{slice_get_within}
 use Rattle.smallvec.specs.SmallVec.{SmallVec}
 use Rattle.lam_geom.specs.declared.boxes.BoxXY.{BoxXY}
 use Rattle.lam_geom.specs.declared.boxes.MaskBox.{MaskBox}
-use Rattle.lam_geom.specs.Gaps.{Encloses, Touches}
-use Rattle.lam_geom.specs.Places.{IsPlacedBox}
+use Rattle.lam_geom.specs.Gaps.{Encloses}
 use Rattle.rule_table.specs.declared.technology.Tech.{Tech}
 use Rattle.graph_search.specs.Netting.{Reaches, IsNumberedInOrder, next_net}
 use Rattle.graph_search.specs.Search.{IsBeside, AreMutual, AreNumbers}
@@ -22,7 +21,7 @@ use Rattle.net_extract.specs.declared.netlist.Netlist.{Netlist}
 use Rattle.net_extract.specs.declared.netlist.Piece.{Piece}
 use Rattle.net_extract.specs.declared.placing.Placed.{Placed}
 use Rattle.net_extract.specs.Places.{Place, places_of}
-use Rattle.net_extract.specs.Netlists.{place_of, nets_of, device_of, IsNetlistOf}
+use Rattle.net_extract.specs.Netlists.{place_of, nets_of, device_of}
 use Rattle.net_extract.specs.Extraction.{AreLinked, by_touch, by_cut, by_contact, by_contact_back, IsLink, IsExtracted, IsCauseOf}
 use Rattle.net_extract.specs.Faults.{fault_of}
 use Rattle.net_extract.specs.Pieces.{no_piece, box_of, stand_of, AreStarts, ArePieces, IsWithinDiffusion}

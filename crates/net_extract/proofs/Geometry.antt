@@ -1,5 +1,5 @@
 -- Boxes that touch and overlap.
-use Rattle.std.proofs.Common.{ℤ, pos, ◌+ℤ◌, ◌≤ℤ◌, arith}
+use Rattle.std.proofs.Common.{pos, ◌≤ℤ◌, arith}
 use Rattle.std.proofs.lemmas.Int.{ints, clamps}
 use Rattle.lam_geom.specs.declared.boxes.BoxXY.{BoxXY}
 use Rattle.lam_geom.specs.declared.boxes.Span.{Span}

@@ -1,10 +1,10 @@
 -- Lists that grow by exactly the numbers with a property, and lists of neighbours that grow by exactly some links.
-use Rattle.std.proofs.Common.{◌≡◌, ℕ, ◌+◌, ◌<◌, ◌≤◌, List, [], ◌∷◌, ◌++◌, length, take, get_or, set, Contains, ◌⊎◌, inl, inr, refl, sym, ◌∙◌, ap, subst, arith, length-set}
-use Rattle.std.proofs.lemmas.List.{take_more, get_or_append_left, get_or_push, get_or_past, length_push, get_or-set_same, get_or-set_other}
+use Rattle.std.proofs.Common.{◌≡◌, ℕ, ◌+◌, ◌<◌, List, [], ◌∷◌, ◌++◌, length, take, get_or, set, Contains, ◌⊎◌, inl, inr, refl, sym, ◌∙◌, ap, subst, arith, length-set}
+use Rattle.std.proofs.lemmas.List.{take_more, get_or_append_left, get_or_push, length_push, get_or-set_same, get_or-set_other}
 use Rattle.std.proofs.lemmas.List.Elements.{Contains-append_left, Contains-push, Contains-push_cases}
-use Rattle.std.proofs.lemmas.Bool.{cases_eq, cases_lt}
+use Rattle.std.proofs.lemmas.Bool.{cases_eq}
 use Rattle.smallvec.specs.SmallVec.{SmallVec}
-use Rattle.graph_search.specs.Search.{no_neighbours, neighbours_of, IsBeside}
+use Rattle.graph_search.specs.Search.{no_neighbours, neighbours_of}
 use Rattle.graph_search.proofs.Neighbours.{none_in_empty, beside_within}
 use Rattle.net_extract.specs.Linking.{AreGathered, AreAdded, AreEmpty}
 

@@ -1,6 +1,6 @@
 -- What the steps of linking add to lists of neighbours.
-use Rattle.std.proofs.Common.{◌≡◌, ◌≢◌, ℕ, ◌+◌, ◌<◌, ◌≤◌, All, List, [], length, take, get_or, set, pos, Contains, ◌⊎◌, inl, inr, refl, sym, ◌∙◌, ap, subst, arith}
-use Rattle.std.proofs.lemmas.List.{get_or_read, take_all, get_or_default}
+use Rattle.std.proofs.Common.{◌≡◌, ℕ, ◌+◌, ◌<◌, ◌≤◌, All, List, [], length, take, get_or, set, pos, Contains, ◌⊎◌, inl, inr, refl, sym, ◌∙◌, ap, subst, arith}
+use Rattle.std.proofs.lemmas.List.{get_or_read, take_all}
 use Rattle.std.proofs.lemmas.List.Elements.{Contains-get_or, All-same}
 use Rattle.std.proofs.lemmas.Option.{get_or_from_slice_get, slice_get-get_or, slice_get_within}
 use Rattle.smallvec.specs.SmallVec.{SmallVec}
@@ -8,7 +8,7 @@ use Rattle.lam_geom.specs.declared.boxes.BoxXY.{BoxXY}
 use Rattle.lam_geom.specs.declared.boxes.MaskBox.{MaskBox}
 use Rattle.lam_geom.specs.declared.boxes.MaskLayer.{MaskLayer}
 use Rattle.lam_geom.specs.declared.boxes.MaskLayer.TheVariants.{ND, NP, NC, NM, NI, NB}
-use Rattle.lam_geom.specs.Gaps.{Touches, Overlaps}
+use Rattle.lam_geom.specs.Gaps.{Touches}
 use Rattle.lam_geom.specs.Places.{IsPlacedBox}
 use Rattle.box_index.specs.Near.{IsNear, AreNear}
 use Rattle.crossings.specs.declared.crossing.Crossing.{Crossing}
@@ -19,7 +19,7 @@ use Rattle.net_extract.specs.declared.gathering.Reach.{Reach}
 use Rattle.net_extract.specs.declared.gathering.Reach.TheVariants.{Touching, Overlapping}
 use Rattle.net_extract.specs.declared.placing.Placed.{Placed}
 use Rattle.net_extract.specs.Pieces.{no_piece, box_of, area_of, Conducts, IsPiece, AreStarts, ArePieces}
-use Rattle.net_extract.specs.Linking.{AreGathered, AreAdded, IsWithin, IsReached, IsNearWithin, IsNearOn, IsOver, IsOther, AreOthers, IsOtherOf, IsTaken, AreApart, IsTouch, IsTouchOf, IsOverBoth, ArePairOf}
+use Rattle.net_extract.specs.Linking.{AreGathered, AreAdded, IsWithin, IsReached, IsNearWithin, IsNearOn, IsOver, IsOther, AreOthers, IsOtherOf, IsTaken, IsTouch, IsTouchOf, IsOverBoth, ArePairOf}
 use Rattle.net_extract.proofs.Geometry.{touches_outer, overlaps_touch, overlaps_back, placed_inner}
 use Rattle.net_extract.proofs.Growth.{gathered_as, gathered_more, added_set, added_as, added_more, added_none, taken_earlier, taken_last, taken_cases}
 
@@ -261,6 +261,15 @@ pair_group count pieces starts p d fp ep fd ed empty first group s lp ld efp eep
     gathered_more (IsWithin fp ep) (IsWithin fd ed) (IsOfPair pieces p d) empty first group
     (λ b h. elim h [ inl w ↦ inl (forth p fp ep b lp efp eep w) | inr w ↦ inr (forth d fd ed b ld efd eed w) ])
     (λ b h. elim h [ inl of ↦ inl (back p fp ep b efp eep of) | inr of ↦ inr (back d fd ed b efd eed of) ])
+
+-- the same, of bounds that were read
+pub pair_read : (count : ℕ) (pieces : List Placed) (starts : List ℕ) (p d fp ep fd ed : ℕ) (empty first group : List ℕ) → (AreStarts count pieces starts × (p < count) × (d < count))
+    → fp ≡ get_or starts p fp → ep ≡ get_or starts (p + 1) ep → fd ≡ get_or starts d fd → ed ≡ get_or starts (d + 1) ed
+    → AreGathered (IsWithin fp ep) empty first → AreGathered (IsWithin fd ed) first group → AreGathered (IsOfPair pieces p d) empty group
+pair_read count pieces starts p d fp ep fd ed empty first group (s, lp, ld) rfp rep rfd red =
+    let n = s.counted in
+    pair_group count pieces starts p d fp ep fd ed empty first group s lp ld
+    (get_or_read starts p fp (omega arith) rfp 0) (get_or_read starts (p + 1) ep (omega arith) rep 0) (get_or_read starts d fd (omega arith) rfd 0) (get_or_read starts (d + 1) ed (omega arith) red 0)
 
 pub pair_among : (pieces : List Placed) (p d b : ℕ) → IsOfPair pieces p d b → b < length pieces
 pair_among pieces p d b h = elim h [ inl of ↦ of.0 | inr of ↦ of.0 ]

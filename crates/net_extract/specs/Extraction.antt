@@ -1,5 +1,5 @@
 -- What is extracted from mask boxes: pieces that are linked by touching, by a cut or by a buried contact are of one net.
-use Rattle.std.specs.Prelude.{◌≡◌, ◌≢◌, ℕ, ◌<◌, ℤ, Contains, List, length, slice_get, Some}
+use Rattle.std.specs.Prelude.{◌≡◌, ◌≢◌, ℕ, ℤ, Contains, List, slice_get, Some}
 use Rattle.lam_geom.specs.declared.boxes.BoxXY.{BoxXY}
 use Rattle.lam_geom.specs.declared.boxes.MaskBox.{MaskBox}
 use Rattle.lam_geom.specs.declared.boxes.MaskLayer.TheVariants.{NC}
@@ -9,7 +9,7 @@ use Rattle.rule_table.specs.declared.technology.Tech.{Tech}
 use Rattle.graph_search.specs.Netting.{Reaches}
 use Rattle.crossings.specs.declared.crossing.Crossing.{Crossing}
 use Rattle.crossings.specs.Boxes.{area_at, layer_at, IsOn, other}
-use Rattle.crossings.specs.Crossings.{IsBuriedPair, AreProper, AreCrossings, IsFirstBadPair}
+use Rattle.crossings.specs.Crossings.{IsBuriedPair, AreCrossings, IsFirstBadPair}
 use Rattle.net_extract.specs.declared.netlist.ExtractFault.{ExtractFault}
 use Rattle.net_extract.specs.declared.netlist.ExtractFault.TheVariants.{NotProper, OutOfMemory}
 use Rattle.net_extract.specs.declared.netlist.Netlist.{Netlist}

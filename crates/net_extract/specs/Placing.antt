@@ -1,6 +1,5 @@
 -- The pieces of one box.
 use Rattle.std.specs.Prelude.{◌≡◌, ℕ, pos, All, List, map, Option, is_some}
-use Rattle.lam_geom.specs.declared.boxes.BoxXY.{BoxXY}
 use Rattle.lam_geom.specs.declared.boxes.MaskBox.{MaskBox}
 use Rattle.lam_geom.specs.Gaps.{Encloses}
 use Rattle.crossings.specs.declared.crossing.Crossing.{Crossing}

@@ -1,5 +1,5 @@
 //! Pieces with their nets, and transistors.
-ghost use Rattle.std.specs.Prelude.{◌≡◌, ◌+◌, ◌<◌, ◌≤◌, All, IfOk, List, length, map};
+ghost use Rattle.std.specs.Prelude.{◌≡◌, ◌+◌, ◌<◌, All, IfOk, length, map};
 ghost use Rattle.lam_geom.specs.Places.{IsPlacedBox};
 ghost use Rattle.crossings.specs.declared.crossing.Crossing.{Crossing};
 ghost use Rattle.crossings.specs.Boxes.{extent, other};

@@ -1,5 +1,5 @@
 //! Which pieces lie near an area.
-ghost use Rattle.std.specs.Prelude.{◌≡◌, ℕ, ◌+◌, ◌<◌, ◌≤◌, [], ◌↔◌, All, IsTrue, OnOk, length};
+ghost use Rattle.std.specs.Prelude.{◌+◌, ◌<◌, ◌≤◌, [], ◌↔◌, All, IsTrue, OnOk, length};
 ghost use Rattle.lam_geom.specs.Places.{IsPlacedBox};
 ghost use Rattle.crossings.specs.Boxes.{AreSearchable};
 ghost use Rattle.net_extract.specs.declared.placing.Placed.{Placed};

@@ -1,8 +1,7 @@
 //! Which pieces are linked: lists of neighbours, one for each piece.
-ghost use Rattle.std.specs.Prelude.{◌≡◌, ℕ, ◌+◌, ◌<◌, All, IfOk, OnOk, length};
-ghost use Rattle.crossings.specs.Boxes.{AreSearchable, IsOn};
+ghost use Rattle.std.specs.Prelude.{◌≡◌, ℕ, ◌+◌, ◌<◌, IfOk, OnOk, length};
+ghost use Rattle.crossings.specs.Boxes.{AreSearchable};
 ghost use Rattle.crossings.specs.Crossings.{AreInOrder};
-ghost use Rattle.lam_geom.specs.declared.boxes.MaskLayer.TheVariants.{NP};
 ghost use Rattle.net_extract.specs.Pieces.{ArePiecesOf, AreStarts};
 ghost use Rattle.net_extract.specs.Linking.{AreAdded, IsTouch, IsTouchOf, IsCutLink, IsOverBoth, IsContact, IsContactOf, ArePairOf, AreLinks};
 

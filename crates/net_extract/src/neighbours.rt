@@ -1,6 +1,5 @@
 //! Lists of neighbours, one for each piece, and how they grow.
-ghost use Rattle.std.specs.Prelude.{◌≡◌, ℕ, ◌<◌, All, IfOk, OnOk, length};
-ghost use Rattle.graph_search.specs.Search.{IsBeside};
+ghost use Rattle.std.specs.Prelude.{◌≡◌, ◌<◌, All, IfOk, OnOk, length};
 ghost use Rattle.net_extract.specs.Linking.{AreGathered, AreAdded, IsOther, IsOtherOf, AreOthers, AreEmpty};
 
 use crate::placing::Placed;

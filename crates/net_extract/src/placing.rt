@@ -1,12 +1,12 @@
 //! The pieces into which boxes fall, with the areas that they cover.
-ghost use Rattle.std.specs.Prelude.{◌≡◌, ◌+◌, ◌*◌, ◌^◌, ◌<◌, ◌≤◌, pos, ◌≤ℤ◌, All, IfOk, IfSome, List, OnOk, ◌++◌, cond, is_some, length, map};
-ghost use Rattle.lam_geom.specs.Gaps.{Encloses, span_along};
-ghost use Rattle.crossings.specs.Boxes.{area_at, layer_at, other};
+ghost use Rattle.std.specs.Prelude.{◌≡◌, ◌+◌, ◌^◌, ◌<◌, ◌≤◌, pos, All, IfOk, IfSome, List, OnOk, ◌++◌, cond, is_some, length};
+ghost use Rattle.lam_geom.specs.Gaps.{Encloses};
+ghost use Rattle.crossings.specs.Boxes.{area_at};
 ghost use Rattle.crossings.specs.Crossings.{AreInOrder};
 ghost use Rattle.net_extract.specs.declared.placing.Placed.{Placed};
-ghost use Rattle.net_extract.specs.Places.{place, parts_on, is_crossed};
+ghost use Rattle.net_extract.specs.Places.{is_crossed};
 ghost use Rattle.net_extract.specs.Extraction.{IsLowPiece, IsHighPiece, IsOfBox};
-ghost use Rattle.net_extract.specs.Pieces.{stand_of, Conducts, ArePieces, IsWithinDiffusion, IsCursor, IsPartOf};
+ghost use Rattle.net_extract.specs.Pieces.{ArePieces, IsWithinDiffusion, IsCursor};
 ghost use Rattle.net_extract.specs.Placing.{AreOfBox};
 
 use crate::netlist::Part;

@@ -1,4 +1,4 @@
-ghost use Rattle.std.specs.Prelude.{◌×◌, ◌≤◌, ◌<ℤ◌, IfOk, length};
+ghost use Rattle.std.specs.Prelude.{◌≤◌, ◌<ℤ◌, IfOk, length};
 ghost use Rattle.lam_geom.specs.Places.{IsPlacedBox, IsPlacedSpan};
 ghost use Rattle.crossings.specs.Boxes.{AreSearchable, IsSolid};
 

@@ -1,8 +1,6 @@
 use Rattle.std.proofs.Common.{◌≡◌, ℕ, List, All, length, map, sym, ◌∙◌, ap, subst}
 use Rattle.crossings.specs.declared.crossing.Crossing.{Crossing}
-use Rattle.net_extract.specs.declared.netlist.Device.{Device}
 use Rattle.net_extract.specs.declared.netlist.Piece.{Piece}
-use Rattle.net_extract.specs.declared.placing.Placed.{Placed}
 use Rattle.net_extract.specs.Netlists.{place_of, nets_of, device_of}
 use Rattle.net_extract.specs.Pieces.{stand_of}
 use Rattle.net_extract.specs.Linking.{AreLinks}

@@ -1,4 +1,4 @@
-use Rattle.std.proofs.Common.{arith, ◌≡◌, ℕ, ◌+◌, ◌<◌, ◌≤◌, List, length, get_or, pos, sym, ap, subst}
+use Rattle.std.proofs.Common.{arith, ◌≡◌, ℕ, ◌+◌, List, length, get_or, pos, sym, ap, subst}
 use Rattle.std.proofs.lemmas.List.{get_or_read}
 use Rattle.box_index.specs.Near.{AreNear}
 use Rattle.net_extract.specs.declared.placing.Placed.{Placed}

@@ -1,9 +1,9 @@
-use Rattle.std.proofs.Common.{arith, ◌≡◌, ℕ, Vec, Global, ap, ◌∙◌, inl, inr, ◌<◌, length, subst}
+use Rattle.std.proofs.Common.{arith, ℕ, Vec, Global, ap, ◌∙◌, inl, inr, ◌<◌, length, subst}
 use Rattle.std.proofs.lemmas.List.{get_or_default}
 use Rattle.std.proofs.lemmas.Bool.{iff_false}
 use Rattle.net_extract.specs.declared.placing.Placed.{Placed}
 use Rattle.net_extract.specs.Linking.{IsReached}
-use Rattle.net_extract.specs.Pieces.{no_piece, piece_at}
+use Rattle.net_extract.specs.Pieces.{no_piece}
 use Rattle.net_extract.proofs.Near.{near_more, near_end}
 use Rattle.net_extract.proofs.gathering.gather_within.Goals as goal
 use Rattle.net_extract.proofs.gathering.gather_within.Goals.{then-is_reached+in_ok-push, else-is_reached}

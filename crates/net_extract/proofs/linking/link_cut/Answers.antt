@@ -1,4 +1,4 @@
-use Rattle.std.proofs.Common.{◌≡◌, ℕ, List, [], get_or, refl, sym, ◌∙◌, ap}
+use Rattle.std.proofs.Common.{◌≡◌, [], get_or, refl, sym, ◌∙◌, ap}
 use Rattle.std.proofs.lemmas.List.{get_or_read}
 use Rattle.lam_geom.specs.declared.boxes.MaskBox.{MaskBox}
 use Rattle.lam_geom.specs.declared.boxes.MaskLayer.TheVariants.{NC}

@@ -1,4 +1,4 @@
-use Rattle.std.proofs.Common.{arith, ◌≡◌, ℕ, ◌<◌, List, [], length, get_or, sym, ◌∙◌, ap, subst}
+use Rattle.std.proofs.Common.{arith, ◌≡◌, ◌<◌, length, get_or, ◌∙◌, ap}
 use Rattle.std.proofs.lemmas.List.{get_or_read, get_or_default}
 use Rattle.lam_geom.specs.declared.boxes.MaskBox.{MaskBox}
 use Rattle.crossings.specs.Boxes.{no_box, layer_at}

@@ -1,7 +1,7 @@
-use Rattle.std.proofs.Common.{arith, ◌≡◌, ℕ, List, Vec, Global, length, false, true, sym, ◌∙◌, ap, subst}
+use Rattle.std.proofs.Common.{arith, ◌≡◌, ℕ, List, Vec, Global, length, sym, ◌∙◌, ap, subst}
 use Rattle.std.proofs.lemmas.Bool.{false≢true}
 use Rattle.smallvec.specs.SmallVec.{SmallVec}
-use Rattle.net_extract.specs.Linking.{AreAdded, AreEmpty, IsContact, AreLinks}
+use Rattle.net_extract.specs.Linking.{AreAdded, AreEmpty, IsContact}
 use Rattle.net_extract.proofs.Growth.{added_none}
 use Rattle.net_extract.proofs.AllLinks.{all_links}
 use Rattle.net_extract.proofs.linking.links.Goals as goal

@@ -1,7 +1,7 @@
 use Rattle.std.proofs.Common.{ℕ, List, sym, subst, ◌+◌}
 use Rattle.smallvec.specs.SmallVec.{SmallVec}
 use Rattle.net_extract.specs.Linking.{AreEmpty}
-use Rattle.net_extract.proofs.Growth.{empty_none, empty_more}
+use Rattle.net_extract.proofs.Growth.{empty_more}
 use Rattle.net_extract.proofs.neighbours.empty_lists.Goals as goal
 
 pub loop-preserved : goal.loop-preserved

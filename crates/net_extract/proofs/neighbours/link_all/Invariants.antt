@@ -1,4 +1,3 @@
-use Rattle.std.proofs.Common.{take}
 use Rattle.net_extract.specs.Linking.{AreAdded, IsTaken}
 use Rattle.net_extract.proofs.neighbours.link_all.Given as goal
 

@@ -1,4 +1,4 @@
-use Rattle.std.proofs.Common.{arith, ◌≡◌, ℕ, ◌<◌, length, ◌∙◌, sym}
+use Rattle.std.proofs.Common.{arith, ◌≡◌, ◌<◌, length, ◌∙◌, sym}
 use Rattle.net_extract.specs.Pieces.{diffusion_at}
 use Rattle.net_extract.proofs.Areas.{diffusion_read}
 use Rattle.net_extract.proofs.BoxByBox.{not_crossed, cursor_stays}

@@ -1,0 +1,44 @@
+-- The text of finished layouts has the sticks' nets.
+use Rattle.std.proofs.Common.{ℤ, List, map, sym, ap, ◌∙◌}
+use Rattle.lam_geom.specs.declared.boxes.Axis.TheVariants.{X, Y}
+use Rattle.lam_geom.specs.declared.boxes.MaskBox.{MaskBox}
+use Rattle.rule_table.specs.declared.technology.Tech.{Tech}
+use Rattle.rule_table.specs.Technology.{widest_of}
+use Rattle.sym_items.specs.declared.items.Coords.{Coords}
+use Rattle.sym_items.specs.Layouts.{size_in}
+use Rattle.expand.specs.declared.master.Master.{Master}
+use Rattle.plan_model.specs.declared.plan.Plan.{Plan}
+use Rattle.plan_model.specs.Plan.{grids_of}
+use Rattle.mask_out.specs.declared.picture.Call.{Call}
+use Rattle.mask_out.specs.Pictures.{Drawing, drawings_in, calls_of}
+use Rattle.cif_meaning.specs.Written.{drawn_mask, sheet_of_picture}
+use Rattle.cif_meaning.proofs.FlatPictures.{flat_picture}
+use Rattle.cif_meaning.proofs.MeantPictures.{picture_meant}
+use Rattle.conductors.specs.Shapes.{AreShapes}
+use Rattle.conductors.specs.Sticks.{NetsAreTheSticks}
+use Rattle.conductors.specs.Written.{unit_of, text_of_layouts, HasSticksNets}
+use Rattle.conductors.proofs.PictureShapes.{picture_shows}
+use Rattle.conductors.proofs.WrittenBoxes.{picture_drawn, boxes_show}
+use Rattle.conductors.proofs.WrittenPictures.{picture_writable}
+use Rattle.conductors.proofs.WrittenSymbols.{FitFinished}
+
+-- where boxes that show the items of all instances have the sticks' nets
+pub text_has_nets : (tech : Tech) (plan : Plan) (masters : List Master) (layouts : List Coords) → FitFinished tech plan masters layouts
+    → ((boxes : List MaskBox) → AreShapes tech plan masters layouts boxes → NetsAreTheSticks tech plan masters layouts boxes)
+    → HasSticksNets tech plan masters layouts (text_of_layouts tech plan masters layouts)
+text_has_nets tech plan masters layouts h extracted =
+    let unit : ℤ = unit_of tech in
+    let drawings : List Drawing = drawings_in masters layouts in
+    let calls : List Call = calls_of (size_in X layouts) (size_in Y layouts) (widest_of tech) (grids_of plan) in
+    let writable = picture_writable tech plan masters layouts h in
+    let drawn = picture_drawn unit drawings calls writable in
+    let shown = picture_shows tech plan masters layouts h.planned h.fit.counted in
+    let shapes = boxes_show tech plan masters layouts drawn.boxes (drawn.drawn ∙ ap (map (drawn_mask unit)) shown) in
+    record {
+      sheet = sheet_of_picture unit drawings calls;
+      means = picture_meant unit drawings calls writable;
+      boxes = drawn.boxes;
+      drawn = drawn.drawn ∙ sym (flat_picture unit drawings calls writable);
+      shapes = shapes;
+      nets = extracted drawn.boxes shapes;
+    }
