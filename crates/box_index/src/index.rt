@@ -35,7 +35,7 @@ impl Model for BoxIndex {
 }
 
 impl BoxIndex {
-    /// An index of some boxes. The only refusal is want of memory.
+    /// An index of some boxes, in the time of a sort and about 100 bytes of memory a box. The only refusal is want of memory.
     pub fn new(alloc: Global, boxes: &[MaskBox]) -> Result<BoxIndex, AllocError>
         requires few { length boxes.now ≤ 2 ^ 20 }
         requires placed { All (λ (box : MaskBox). IsPlacedBox box.area) boxes.now }

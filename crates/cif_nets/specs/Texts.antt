@@ -1,5 +1,5 @@
 -- The netlist of a CIF text, or why it has none.
-use Rattle.std.specs.Prelude.{◌≡◌, ℕ, ◌^◌, ◌<◌, ◌≤◌, List, length, map}
+use Rattle.std.specs.Prelude.{◌≡◌, ℕ, ◌<◌, ◌≤◌, List, length, map}
 use Rattle.lam_geom.specs.declared.boxes.MaskBox.{MaskBox}
 use Rattle.rule_table.specs.declared.technology.Tech.{Tech}
 use Rattle.cif_read.specs.Files.{drawn_of, most_boxes}

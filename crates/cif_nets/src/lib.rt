@@ -6,6 +6,8 @@
 
 mod laws;
 mod netting;
+#[cfg(test)]
+mod tests;
 
 pub use laws::netlists_are_determined;
 pub use netting::{NetsFault, netlist_of};

@@ -1,15 +1,14 @@
 -- What a file that has been read holds, as a sheet.
-use Rattle.std.specs.Prelude.{◌≡◌, ℕ, ◌<◌, ◌≤◌, ◌^◌, ℤ, pos, neg_ℤ, ◌≤ℤ◌, ◌<ℤ◌, All, List, [], map, length, slice_index_or}
+use Rattle.std.specs.Prelude.{ℕ, ◌<◌, ◌≤◌, ◌^◌, ℤ, pos, neg_ℤ, ◌≤ℤ◌, ◌<ℤ◌, All, List, map, length, slice_index_or}
 use Rattle.lam_geom.specs.declared.boxes.MaskBox.{MaskBox}
 use Rattle.lam_geom.specs.declared.boxes.MaskLayer.TheVariants.{ND}
-use Rattle.cif_read.specs.declared.fault.CifFault.{CifFault}
 use Rattle.cif_read.specs.declared.fault.CifReadFault.{CifReadFault}
 use Rattle.cif_read.specs.declared.fault.CifReadFault.TheVariants.{Cif, OutOfMemory}
 use Rattle.cif_read.specs.declared.file.CifFile.{CifFile}
 use Rattle.cif_read.specs.declared.file.CifSymbol.{CifSymbol}
 use Rattle.cif_read.specs.declared.file.CifStep.{CifStep}
 use Rattle.cif_read.specs.declared.file.CifStep.TheVariants.{Own, Called}
-use Rattle.cif_read.specs.Sheets.{Drawn, Symbol, Step, own, called, Sheet}
+use Rattle.cif_read.specs.Sheets.{Drawn, Symbol, Step, own, called, Sheet, boxes_of_step}
 use Rattle.cif_read.specs.Meaning.{IsFirstFault}
 
 abbrev pub drawn_of : MaskBox → Drawn
@@ -31,6 +30,9 @@ step_of boxes (Called symbol x y) = called symbol x y
 
 abbrev pub sheet_of : CifFile → Sheet
 sheet_of file = record { symbols = map symbol_of file.symbols; steps = map (step_of file.boxes) file.order }
+
+abbrev pub drawn_in_step : CifFile → CifStep → List Drawn
+drawn_in_step file step = boxes_of_step (sheet_of file).symbols (step_of file.boxes step)
 
 -- ---- a file that can be flattened
 

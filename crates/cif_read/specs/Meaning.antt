@@ -1,15 +1,14 @@
 -- The meaning of a CIF text, and the first fault of one that has none.
-use Rattle.std.specs.Prelude.{◌≡◌, ℕ, ◌+◌, ◌^◌, ◌≤◌, Option, Some, None, Result, Ok, Err, List, ◌∷◌, ◌++◌, length, flat_map}
+use Rattle.std.specs.Prelude.{◌≡◌, ℕ, ◌+◌, ◌^◌, ◌≤◌, Some, None, Ok, Err, List, ◌∷◌, ◌++◌, length, flat_map}
 use Rattle.std.specs.List.{AllZip}
 use Rattle.cif_lex.specs.declared.command.Command.{Command}
-use Rattle.cif_lex.specs.declared.command.Next.{Next}
 use Rattle.cif_lex.specs.declared.command.Next.TheVariants.{Whole, Cut, Bad, End, Missing}
 use Rattle.cif_lex.specs.declared.command.Tail.TheVariants as tails
 use Rattle.cif_lex.specs.Blanks.{IsGap}
 use Rattle.cif_lex.specs.Commands.{IsPiece, IsNext, IsTail}
 use Rattle.cif_read.specs.declared.fault.CifFault.{CifFault}
 use Rattle.cif_read.specs.declared.fault.CifKind.{CifKind}
-use Rattle.cif_read.specs.declared.fault.CifKind.TheVariants.{BadCommand, BadNumber, NestedDefinition, RepeatedSymbol, UnknownSymbol, NoLayer, OddScale, NoEnd, AfterEnd}
+use Rattle.cif_read.specs.declared.fault.CifKind.TheVariants.{BadCommand, NestedDefinition, NoEnd, AfterEnd}
 use Rattle.cif_read.specs.Sheets.{Sheet}
 use Rattle.cif_read.specs.Acts.{State, Definition, act, acts}
 

@@ -1,6 +1,10 @@
 //! Why a CIF text has no meaning.
 
-use std::alloc::AllocError;
+ghost use Rattle.std.specs.Prelude.{◌≡◌};
+ghost use Rattle.cif_read.specs.declared.fault.Stop.TheVariants as stops;
+ghost use Rattle.cif_read.specs.declared.fault.FlatFault.TheVariants as flats;
+
+use std::alloc::{AllocError, AllocFailed};
 
 /// What is wrong at a place of a text.
 #[derive(Clone, Copy, Debug, PartialEq, Eq)]
@@ -40,9 +44,18 @@ pub enum CifReadFault {
     OutOfMemory,
 }
 
-impl From<AllocError> for CifReadFault {
-    fn from(_error: AllocError) -> CifReadFault {
-        CifReadFault::OutOfMemory
+/// Why a command is not carried out: it is refused, or want of memory.
+#[derive(Clone, Copy, Debug, PartialEq, Eq)]
+pub enum Stop {
+    Refused(CifKind),
+    OutOfMemory,
+}
+
+impl<T: Drop> From<AllocFailed<T>> for Stop {
+    ghost from_gives = { λ _ stop. stop ≡ stops.OutOfMemory };
+
+    fn from(_failed: AllocFailed<T>) -> Stop {
+        Stop::OutOfMemory
     }
 }
 
@@ -51,4 +64,20 @@ impl From<AllocError> for CifReadFault {
 pub enum FlatFault {
     TooMany,
     OutOfMemory,
+}
+
+impl From<AllocError> for FlatFault {
+    ghost from_gives = { λ _ fault. fault ≡ flats.OutOfMemory };
+
+    fn from(_error: AllocError) -> FlatFault {
+        FlatFault::OutOfMemory
+    }
+}
+
+impl<T: Drop> From<AllocFailed<T>> for FlatFault {
+    ghost from_gives = { λ _ fault. fault ≡ flats.OutOfMemory };
+
+    fn from(_failed: AllocFailed<T>) -> FlatFault {
+        FlatFault::OutOfMemory
+    }
 }

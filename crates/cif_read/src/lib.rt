@@ -2,15 +2,22 @@
 //!
 //! What the layer above uses: `read_cif` gives what the text means, or its first fault with its place, both ways exactly; and
 //! `flatten` gives the boxes of the layers that are kept, in the order of the file. Lengths are in grains: a grain is half a
-//! hundredth of a micron, so that nothing is rounded.
+//! hundredth of a micron, so that nothing is rounded. `readings_are_determined` is the law that a text means one sheet or has
+//! one first fault, and never both.
 #![tactic(auto)]
 
 mod fault;
 mod file;
 mod flattening;
+mod laws;
+mod numbers;
 mod reading;
+mod state;
+#[cfg(test)]
+mod tests;
 
 pub use fault::{CifFault, CifKind, CifReadFault, FlatFault};
 pub use file::{CifFile, CifStep, CifSymbol};
 pub use flattening::flatten;
+pub use laws::readings_are_determined;
 pub use reading::read_cif;

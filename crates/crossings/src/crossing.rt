@@ -1,5 +1,8 @@
 //! A crossing.
 
+ghost use Rattle.std.specs.Prelude.{◌≡◌};
+ghost use Rattle.crossings.specs.declared.crossing.CrossingFault.TheVariants.{OutOfMemory};
+
 use lam_geom::{Axis, BoxXY};
 use std::alloc::AllocError;
 
@@ -25,6 +28,8 @@ pub enum CrossingFault {
 }
 
 impl From<AllocError> for CrossingFault {
+    ghost from_gives = { λ _ fault. fault ≡ OutOfMemory };
+
     fn from(_error: AllocError) -> CrossingFault {
         CrossingFault::OutOfMemory
     }

@@ -1,39 +1,85 @@
 //! The search for crossings.
-ghost use Rattle.std.specs.Prelude.{◌↔◌, ◌<◌, IsTrue, IfOk, IfErr, length};
-ghost use Rattle.crossings.specs.Boxes.{AreSearchable};
-ghost use Rattle.crossings.specs.Crossings.{AreProper, AreCrossings, IsBuriedPair, IsCauseOf};
+ghost use Rattle.std.specs.Prelude.{◌≡◌, OnOk, IfOk, IfErr};
+ghost use Rattle.crossings.specs.Boxes.{AreSearchable, area_at};
+ghost use Rattle.crossings.specs.Crossings.{AreProper, AreCrossings, CrossAlong, IsMeeting, IsCauseOf};
+ghost use Rattle.crossings.specs.Pairs.{AddsCrossing};
 
 use crate::crossing::{Crossing, CrossingFault};
-use lam_geom::MaskBox;
+use crate::pair_tests::{common_box, in_grains};
+use crate::standings::{Buffers, Pair, Standing, standing_of};
+use crate::windows::is_covered;
+use box_index::BoxIndex;
+use lam_geom::{Axis, MaskBox, MaskLayer};
 use rule_table::Tech;
 use std::alloc::{AllocError, Global};
 
-/// All crossings of some boxes, in order of their diffusion, or the first pair that does not cross properly.
+/// All crossings of some boxes, in order of their diffusion, or the first pair that does not cross properly. `index` is
+/// one of these boxes.
 pub fn crossings(
     alloc: Global,
     tech: &Tech,
     boxes: &[MaskBox],
+    index: &BoxIndex,
 ) -> Result<Vec<Crossing>, CrossingFault>
-    requires { AreSearchable boxes.now }
+    requires searchable { AreSearchable boxes.now }
+    requires indexed { index.now ≡ boxes.now }
     ensures proper { IfOk result (λ _. AreProper tech.now boxes.now) }
     ensures crossings { IfOk result (λ found. AreCrossings tech.now boxes.now found.items) }
     ensures fault { IfErr result (IsCauseOf tech.now boxes.now) }
 {
-    Err(CrossingFault::OutOfMemory)
+    let mut crossings = Vec::new(alloc);
+    let mut buffers = Buffers {
+        near: Vec::new(alloc),
+        windows: Vec::new(alloc),
+    };
+    for number in 0..boxes.len() as u32 {
+        match standing_of(tech, boxes, index, number, &mut buffers)? {
+            Standing::Bad(other) => return Err(CrossingFault::NotProper(number, other)),
+            Standing::Crosses(pair, axis) => {
+                if pair.diffusion == number {
+                    add_crossing(tech, boxes, index, pair, axis, &mut buffers, &mut crossings)?;
+                }
+            }
+            Standing::Clear => {}
+        }
+    }
+    Ok(crossings)
 }
 
-/// Whether poly and diffusion with these numbers are a buried pair.
-pub fn is_buried_pair(
-    alloc: Global,
+// Adds the crossing of poly and diffusion.
+fn add_crossing(
     tech: &Tech,
     boxes: &[MaskBox],
-    poly: u32,
-    diffusion: u32,
-) -> Result<bool, AllocError>
+    index: &BoxIndex,
+    pair: Pair,
+    axis: Axis,
+    buffers: &mut Buffers,
+    crossings: &mut Vec<Crossing>,
+) -> Result<(), AllocError>
     requires searchable { AreSearchable boxes.now }
-    requires poly { poly < length boxes.now }
-    requires diffusion { diffusion < length boxes.now }
-    ensures { IfOk result (λ is_buried. IsTrue is_buried ↔ IsBuriedPair tech.now boxes.now poly diffusion) }
+    requires indexed { index.now ≡ boxes.now }
+    requires meeting { IsMeeting tech.now boxes.now pair.poly pair.diffusion }
+    requires along { CrossAlong tech.now axis (area_at boxes.now pair.poly) (area_at boxes.now pair.diffusion) }
+    ensures { OnOk result (AddsCrossing tech.now boxes.now pair crossings.old.items crossings.new.items) }
 {
-    Err(AllocError)
+    let poly = &boxes[pair.poly as usize].area;
+    let diffusion = &boxes[pair.diffusion as usize].area;
+    let channel = common_box(poly, diffusion);
+    let margin = in_grains(tech, tech.numbers().extension_implant);
+    let depletion = is_covered(
+        boxes,
+        index,
+        MaskLayer::NI,
+        &channel,
+        margin,
+        &mut buffers.near,
+    )?;
+    crossings.push(Crossing {
+        poly: pair.poly,
+        diffusion: pair.diffusion,
+        axis,
+        channel,
+        depletion,
+    })?;
+    Ok(())
 }

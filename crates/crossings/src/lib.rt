@@ -7,6 +7,13 @@
 
 mod crossing;
 mod finding;
+mod pair_tests;
+mod partners;
+mod standings;
+#[cfg(test)]
+mod tests;
+mod windows;
 
 pub use crossing::{Crossing, CrossingFault};
-pub use finding::{crossings, is_buried_pair};
+pub use finding::crossings;
+pub use windows::is_buried_pair;

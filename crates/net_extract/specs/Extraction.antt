@@ -13,6 +13,7 @@ use Rattle.crossings.specs.Crossings.{IsBuriedPair, AreProper, AreCrossings, IsF
 use Rattle.net_extract.specs.declared.netlist.ExtractFault.{ExtractFault}
 use Rattle.net_extract.specs.declared.netlist.ExtractFault.TheVariants.{NotProper, OutOfMemory}
 use Rattle.net_extract.specs.declared.netlist.Netlist.{Netlist}
+use Rattle.net_extract.specs.declared.netlist.Part.{Part}
 use Rattle.net_extract.specs.declared.netlist.Part.TheVariants.{Whole, Low, High}
 use Rattle.net_extract.specs.Places.{Place, places_of}
 use Rattle.net_extract.specs.Netlists.{IsNetlistOf}
@@ -40,13 +41,15 @@ pub record IsOfBox (crossings : List Crossing) (k : ℕ) (c : Crossing) : Type 0
   pub among : Contains crossings c
   pub diffusion : c.diffusion ≡ k
 
+-- the area of a part of box number k
+abbrev pub IsAreaOfPart : List MaskBox → List Crossing → ℕ → Part → BoxXY → Type 0
+IsAreaOfPart boxes crossings k Whole area = area ≡ area_at boxes k
+IsAreaOfPart boxes crossings k Low area = (c : Crossing) × IsOfBox crossings k c × IsLowPiece c (area_at boxes k) area
+IsAreaOfPart boxes crossings k High area = (c : Crossing) × IsOfBox crossings k c × IsHighPiece c (area_at boxes k) area
+
 -- the area of a piece
 abbrev pub IsAreaOf : List MaskBox → List Crossing → Place → BoxXY → Type 0
-IsAreaOf boxes crossings p area = elim p.part as (λ part. Type 0) [
-  | Whole ↦ area ≡ area_at boxes p.box_no
-  | Low ↦ (c : Crossing) × IsOfBox crossings p.box_no c × IsLowPiece c (area_at boxes p.box_no) area
-  | High ↦ (c : Crossing) × IsOfBox crossings p.box_no c × IsHighPiece c (area_at boxes p.box_no) area
-]
+IsAreaOf boxes crossings p area = IsAreaOfPart boxes crossings p.box_no p.part area
 
 -- ---- links
 

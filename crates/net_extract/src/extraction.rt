@@ -4,8 +4,15 @@ ghost use Rattle.crossings.specs.Boxes.{AreSearchable};
 ghost use Rattle.crossings.specs.Crossings.{AreProper};
 ghost use Rattle.net_extract.specs.Extraction.{IsExtracted, IsCauseOf};
 
+use crate::devices::{devices_of, netted};
+use crate::linking::links;
 use crate::netlist::{ExtractFault, Netlist};
+use crate::placing::pieces_of;
+use box_index::BoxIndex;
+use crossings::crossings;
+use graph_search::numbers;
 use lam_geom::MaskBox;
+use lam_list::Seq;
 use rule_table::Tech;
 use std::alloc::Global;
 
@@ -16,5 +23,21 @@ pub fn extract(alloc: Global, tech: &Tech, boxes: &[MaskBox]) -> Result<Netlist,
     ensures extracted { IfOk result (IsExtracted tech.now boxes.now) }
     ensures fault { IfErr result (IsCauseOf tech.now boxes.now) }
 {
-    Err(ExtractFault::OutOfMemory)
+    let index = BoxIndex::new(alloc, boxes)?;
+    let found = crossings(alloc, tech, boxes, &index)?;
+    let split = pieces_of(alloc, boxes, found)?;
+    let lists = links(alloc, tech, boxes, &index, &split)?;
+    let (nets, count) = numbers(alloc, lists.as_slice())?;
+    let pieces = netted(alloc, split.placed.as_slice(), nets.as_slice())?;
+    let devices = devices_of(
+        alloc,
+        pieces.as_slice(),
+        split.starts.as_slice(),
+        split.crossings.as_slice(),
+    )?;
+    Ok(Netlist {
+        pieces: Seq::from_vec(pieces),
+        nets: count,
+        devices: Seq::from_vec(devices),
+    })
 }

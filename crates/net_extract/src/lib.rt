@@ -5,8 +5,17 @@
 //! half hundredths of a micron.
 #![tactic(auto)]
 
+mod devices;
 mod extraction;
+mod gathering;
+mod laws;
+mod linking;
+mod neighbours;
 mod netlist;
+mod placing;
+#[cfg(test)]
+mod tests;
 
 pub use extraction::extract;
+pub use laws::netlist_is_determined;
 pub use netlist::{Device, ExtractFault, Netlist, Part, Piece};

@@ -1,5 +1,9 @@
 //! A netlist.
+ghost use Rattle.std.specs.Prelude.{◌≡◌};
+ghost use Rattle.net_extract.specs.declared.netlist.ExtractFault.TheVariants.{OutOfMemory};
+ghost use Rattle.net_extract.specs.Faults.{fault_of};
 
+use crossings::CrossingFault;
 use lam_geom::BoxXY;
 use lam_list::Seq;
 use std::alloc::AllocError;
@@ -50,7 +54,20 @@ pub enum ExtractFault {
 }
 
 impl From<AllocError> for ExtractFault {
+    ghost from_gives = { λ _ fault. fault ≡ OutOfMemory };
+
     fn from(_error: AllocError) -> ExtractFault {
         ExtractFault::OutOfMemory
+    }
+}
+
+impl From<CrossingFault> for ExtractFault {
+    ghost from_gives = { λ fault extract. extract ≡ fault_of fault };
+
+    fn from(fault: CrossingFault) -> ExtractFault {
+        match fault {
+            CrossingFault::NotProper(a, b) => ExtractFault::NotProper(a, b),
+            CrossingFault::OutOfMemory => ExtractFault::OutOfMemory,
+        }
     }
 }

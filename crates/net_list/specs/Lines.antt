@@ -1,10 +1,10 @@
 -- The text of a netlist: a head, a line for each net, and a line for each device. Lengths are in grains, half hundredths of a micron.
-use Rattle.std.specs.Prelude.{ℕ, ◌+◌, ◌==◌, ◌&&◌, Bool, true, false, List, [], ◌∷◌, ◌++◌, length, count_by, map, flat_map, codes, decimal, if◌then◌else◌}
+use Rattle.std.specs.Prelude.{ℕ, ◌+◌, ◌==◌, ◌&&◌, Bool, true, false, List, [], ◌∷◌, ◌++◌, length, count_by, flat_map, codes, decimal, if◌then◌else◌}
 use Rattle.std.specs.Fmt.{signed_decimal}
 use Rattle.std.specs.List.{range_with_len}
 use Rattle.lam_geom.specs.declared.boxes.MaskBox.{MaskBox}
 use Rattle.lam_geom.specs.declared.boxes.MaskLayer.{MaskLayer}
-use Rattle.lam_geom.specs.declared.boxes.MaskLayer.TheVariants.{ND, NP, NC, NM, NI, NB}
+use Rattle.lam_geom.specs.declared.boxes.MaskLayer.TheVariants.{ND, NP, NM}
 use Rattle.crossings.specs.Boxes.{layer_at}
 use Rattle.net_extract.specs.declared.netlist.Device.{Device}
 use Rattle.net_extract.specs.declared.netlist.Netlist.{Netlist}
@@ -41,19 +41,27 @@ abbrev pub line_of_net : List MaskBox → List Piece → ℕ → List ℕ
 line_of_net boxes pieces net = net_line net (pieces_on is_diffusion boxes pieces net) (pieces_on is_poly boxes pieces net) (pieces_on is_metal boxes pieces net)
 
 abbrev pub kind_word : Bool → List ℕ
-kind_word depletion = if depletion then codes " dep w " else codes " enh w "
+kind_word depletion = if depletion then codes "dep" else codes "enh"
 
--- its size, the nets of its terminals, and the low corner of its channel
-abbrev pub device_words : Device → List ℕ
-device_words d =
-    kind_word d.depletion ++ (signed_decimal d.w ++ (codes " l " ++ (signed_decimal d.l ++ (codes " gate " ++ (decimal d.gate
-    ++ (codes " low " ++ (decimal d.low ++ (codes " high " ++ (decimal d.high ++ (codes " at " ++ (signed_decimal d.channel.x.lo
-    ++ (codes " " ++ (signed_decimal d.channel.y.lo ++ (10 ∷ []))))))))))))))
+-- the number, kind and size of a device
+abbrev pub size_words : ℕ → Device → List ℕ
+size_words j d = codes "device " ++ (decimal j ++ (codes " " ++ (kind_word d.depletion ++ (codes " w " ++ (signed_decimal d.w ++ (codes " l " ++ signed_decimal d.l))))))
+
+-- the nets of its terminals
+abbrev pub terminal_words : Device → List ℕ
+terminal_words d = codes " gate " ++ (decimal d.gate ++ (codes " low " ++ (decimal d.low ++ (codes " high " ++ decimal d.high))))
+
+-- the low corner of its channel
+abbrev pub place_words : Device → List ℕ
+place_words d = codes " at " ++ (signed_decimal d.channel.x.lo ++ (codes " " ++ (signed_decimal d.channel.y.lo ++ (10 ∷ []))))
+
+abbrev pub device_line : ℕ → Device → List ℕ
+device_line j d = size_words j d ++ (terminal_words d ++ place_words d)
 
 -- devices, numbered from j on
 abbrev pub device_lines : ℕ → List Device → List ℕ
 device_lines j [] = []
-device_lines j (d ∷ devices) = codes "device " ++ (decimal j ++ (device_words d ++ device_lines (j + 1) devices))
+device_lines j (d ∷ devices) = device_line j d ++ device_lines (j + 1) devices
 
 unfoldable pub text_of_netlist : List MaskBox → Netlist → List ℕ
 text_of_netlist boxes list =

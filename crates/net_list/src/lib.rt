@@ -4,6 +4,10 @@
 //! pieces each net has by layer, and each device with its size, its terminals and its place.
 #![tactic(auto)]
 
+mod counting;
+mod lines;
+#[cfg(test)]
+mod tests;
 mod text;
 
 pub use text::netlist_text;

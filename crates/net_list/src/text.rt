@@ -2,6 +2,8 @@
 ghost use Rattle.std.specs.Prelude.{◌≡◌, ◌<◌, All, IfOk, length};
 ghost use Rattle.net_list.specs.Lines.{text_of_netlist};
 
+use crate::counting::counts_of;
+use crate::lines::{head_line, push_devices, push_nets};
 use lam_geom::MaskBox;
 use net_extract::Netlist;
 use std::alloc::{AllocError, Global};
@@ -12,5 +14,11 @@ pub fn netlist_text(alloc: Global, list: &Netlist, boxes: &[MaskBox]) -> Result<
     requires { All (λ piece. piece.box_no < length boxes.now) list.now.pieces }
     ensures { IfOk result (λ text. text ≡ text_of_netlist boxes.now list.now) }
 {
-    Err(AllocError)
+    let counts = counts_of(alloc, list, boxes)?;
+    let devices = list.devices.as_slice();
+    let head = head_line(alloc, list.nets, devices.len())?;
+    let mut out = Vec::from_slice(alloc, head.as_bytes())?;
+    push_nets(&mut out, alloc, &counts)?;
+    push_devices(&mut out, alloc, devices)?;
+    Text::new(alloc, &out)
 }

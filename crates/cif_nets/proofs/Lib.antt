@@ -1,0 +1,5 @@
+mod Determined
+mod InRange
+mod SameBoxes
+mod SameCrossings
+mod SameLists

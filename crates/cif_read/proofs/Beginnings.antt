@@ -1,0 +1,117 @@
+-- What has been read of a text.
+use Rattle.std.proofs.Common.{◌≡◌, ℕ, ◌+◌, ◌≤◌, true, false, Option, Some, None, is_some, Result, Ok, List, [], ◌∷◌, ◌++◌, length, drop, fold, refl, sym, ap, ◌∙◌, subst, arith, length-append, length-drop}
+use Rattle.std.specs.List.{AllZip}
+use Rattle.std.proofs.lemmas.List.{append-nil, append_assoc, drop_at}
+use Rattle.std.proofs.lemmas.Bool.{false≢true}
+use Rattle.std.proofs.lemmas.List.Concat.{flat_map-append}
+use Rattle.cif_lex.specs.declared.command.Command.{Command}
+use Rattle.cif_lex.specs.declared.command.Next.TheVariants.{Whole, Cut, End}
+use Rattle.cif_lex.specs.Blanks.{semicolon, IsGap}
+use Rattle.cif_lex.specs.Commands.{IsPiece, IsNext, Follows}
+use Rattle.cif_read.specs.declared.fault.CifKind.{CifKind}
+use Rattle.cif_read.specs.declared.fault.Stop.{Stop}
+use Rattle.cif_read.specs.declared.fault.Stop.TheVariants.{Refused, OutOfMemory}
+use Rattle.cif_read.specs.declared.state.Begun.{Begun}
+use Rattle.cif_read.specs.Acts.{State, Definition, start, act, acts, then_act}
+use Rattle.cif_read.specs.Meaning.{BeginsWell, Means, joined, refused, cut_and_refused}
+use Rattle.cif_read.specs.Files.{IsCauseOf}
+use Rattle.cif_read.specs.Readings.{definition_of, begun_of, sheet_of_state, cause_of, IsCauseOfStop}
+
+pub begins_none : (text : List ℕ) → BeginsWell text 0 start
+begins_none text = record { pieces = []; commands = []; spelled = tt; rest = text; cut = refl; counted = refl; done = refl }
+
+-- what is left behind so many bytes
+pub left_of : (text : List ℕ) (read : ℕ) (state : State) (well : BeginsWell text read state) → drop read text ≡ well.rest
+left_of text read state well = ap (drop read) well.cut ∙ drop_at (joined well.pieces) well.rest read (sym well.counted)
+
+pub begin_within : (text rest : List ℕ) (read begin : ℕ) → read ≤ length text → Follows text read begin rest → begin + length rest ≤ length text
+begin_within text rest read begin h f = omega (arith, f.begins, ap length f.joined, length-drop read text, length-append f.gap rest)
+
+joined_push : (pieces : List (List ℕ)) (piece : List ℕ) → joined (pieces ++ piece ∷ []) ≡ joined pieces ++ piece
+joined_push pieces piece = flat_map-append (λ p. p) pieces (piece ∷ []) ∙ ap (λ zs. joined pieces ++ zs) (append-nil piece)
+
+acts_push_from : (answer : Result State CifKind) (commands : List Command) (command : Command) → fold then_act answer (commands ++ command ∷ []) ≡ then_act (fold then_act answer commands) command
+acts_push_from answer [] command = refl
+acts_push_from answer (first ∷ commands) command = acts_push_from (then_act answer first) commands command
+
+pub closed_from : (begun : Option Begun) → false ≡ is_some begun → begun_of begun ≡ None
+closed_from None e = refl
+closed_from (Some b) e = absurd (false≢true e)
+
+pub open_from : (begun : Option Begun) → true ≡ is_some begun → (d : Definition) × (begun_of begun ≡ Some d)
+open_from None e = absurd (false≢true (sym e))
+open_from (Some b) e = (definition_of b, refl)
+
+pub acts_push : (commands : List Command) (command : Command) (state : State) → acts commands ≡ Ok state → acts (commands ++ command ∷ []) ≡ act state command
+acts_push commands command state e = acts_push_from (Ok start) commands command ∙ ap (λ answer. then_act answer command) e
+
+spelled_push : (commands : List Command) (pieces : List (List ℕ)) (command : Command) (piece : List ℕ) → AllZip IsPiece commands pieces → IsPiece command piece
+    → AllZip IsPiece (commands ++ command ∷ []) (pieces ++ piece ∷ [])
+spelled_push [] [] command piece all one = (one, tt)
+spelled_push [] (p ∷ ps) command piece all one = absurd all
+spelled_push (c ∷ cs) [] command piece all one = absurd all
+spelled_push (c ∷ cs) (p ∷ ps) command piece all one = (all.0, spelled_push cs ps command piece all.1 one)
+
+pub piece_left : (gap body rest : List ℕ) → (gap ++ (body ++ (semicolon ∷ []))) ++ rest ≡ gap ++ (body ++ (semicolon ∷ rest))
+piece_left gap body rest = append_assoc gap (body ++ (semicolon ∷ [])) rest ∙ ap (λ zs. gap ++ zs) (append_assoc body (semicolon ∷ []) rest)
+
+pub piece_length : (gap body : List ℕ) → length (gap ++ (body ++ (semicolon ∷ []))) ≡ length gap + (length body + 1)
+piece_length gap body = length-append gap (body ++ (semicolon ∷ [])) ∙ ap (λ n. length gap + n) (length-append body (semicolon ∷ []))
+
+-- one more command
+pub begins_more : (text : List ℕ) (read begin after : ℕ) (state done : State) (command : Command) → BeginsWell text read state → IsNext text read (Whole begin command after)
+    → act state command ≡ Ok done → BeginsWell text after done
+begins_more text read begin after state done command well (body, rest, is_body, follows, end, within) acted =
+    let piece = follows.gap ++ (body ++ (semicolon ∷ [])) in
+    let left : well.rest ≡ piece ++ rest = sym (left_of text read state well) ∙ (follows.joined ∙ sym (piece_left follows.gap body rest)) in
+    let size = ap length (joined_push well.pieces piece) ∙ length-append (joined well.pieces) piece in
+    record {
+      pieces = well.pieces ++ piece ∷ [];
+      commands = well.commands ++ command ∷ [];
+      spelled = spelled_push well.commands well.pieces command piece well.spelled (record { gap = follows.gap; body = body; is_gap = follows.is_gap; is_body = is_body; joined = refl });
+      rest = rest;
+      cut = well.cut ∙ (ap (λ zs. joined well.pieces ++ zs) left ∙ (sym (append_assoc (joined well.pieces) piece rest) ∙ ap (λ zs. zs ++ rest) (sym (joined_push well.pieces piece))));
+      counted = omega (arith, size, piece_length follows.gap body, well.counted, follows.begins, end);
+      done = acts_push well.commands command state well.done ∙ acted;
+    }
+
+pub end_left : (front gap rest : List ℕ) → front ++ (gap ++ (69 ∷ rest)) ≡ (front ++ (gap ++ (69 ∷ []))) ++ rest
+end_left front gap rest = sym (append_assoc front (gap ++ (69 ∷ [])) rest ∙ ap (λ zs. front ++ zs) (append_assoc gap (69 ∷ []) rest))
+
+pub end_length : (front gap : List ℕ) → length (front ++ (gap ++ (69 ∷ []))) ≡ length front + (length gap + 1)
+end_length front gap = length-append front (gap ++ (69 ∷ [])) ∙ ap (λ n. length front + n) (length-append gap (69 ∷ []))
+
+-- the end, and what stands behind it
+pub means_whole : (text : List ℕ) (read begin : ℕ) (state : State) → BeginsWell text read state → IsNext text read (End begin) → IsGap (drop (begin + 1) text) → state.begun ≡ None
+    → Means text (sheet_of_state state)
+means_whole text read begin state well (rest, follows, within) behind closed =
+    let whole : text ≡ joined well.pieces ++ (follows.gap ++ (69 ∷ rest)) = well.cut ∙ ap (λ zs. joined well.pieces ++ zs) (sym (left_of text read state well) ∙ follows.joined) in
+    let front = joined well.pieces ++ (follows.gap ++ (69 ∷ [])) in
+    let size : length front ≡ begin + 1 = omega (arith, end_length (joined well.pieces) follows.gap, well.counted, follows.begins) in
+    let left : drop (begin + 1) text ≡ rest = ap (drop (begin + 1)) (whole ∙ end_left (joined well.pieces) follows.gap rest) ∙ drop_at front rest (begin + 1) size in
+    record {
+      pieces = well.pieces;
+      commands = well.commands;
+      spelled = well.spelled;
+      gap = follows.gap;
+      is_gap = follows.is_gap;
+      behind = rest;
+      is_behind = subst IsGap left behind;
+      whole = whole;
+      state = state;
+      done = well.done;
+      closed = closed;
+      drawn = refl;
+    }
+
+-- ---- why there is none
+
+pub cause_of_whole : (text : List ℕ) (read begin after : ℕ) (state : State) (command : Command) (stop : Stop) → BeginsWell text read state → IsNext text read (Whole begin command after)
+    → IsCauseOfStop (act state command) stop → IsCauseOf text (cause_of begin stop)
+cause_of_whole text read begin after state command (Refused kind) well next h = record { read = read; state = state; well = well; is_fault = refused begin after command kind next h }
+cause_of_whole text read begin after state command OutOfMemory well next h = tt
+
+pub cause_of_cut : (text : List ℕ) (read begin : ℕ) (state : State) (command : Command) (stop : Stop) → BeginsWell text read state → IsNext text read (Cut begin command)
+    → IsCauseOfStop (act state command) stop → IsCauseOf text (cause_of begin stop)
+cause_of_cut text read begin state command (Refused kind) well next h = record { read = read; state = state; well = well; is_fault = cut_and_refused begin command kind next h }
+cause_of_cut text read begin state command OutOfMemory well next h = tt

@@ -1,0 +1,9 @@
+pub mod Scales
+pub mod Placing
+pub mod Sound
+pub mod Calling
+pub mod Commands
+pub mod Flat
+pub mod Beginnings
+pub mod Walks
+pub mod Faults

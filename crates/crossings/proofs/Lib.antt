@@ -1,0 +1,12 @@
+mod Buried
+mod Counts
+mod Covered
+mod Facing
+mod Firsts
+mod Grains
+mod InOrder
+mod Leasts
+mod Meetings
+mod NearBoxes
+mod Settled
+mod SpansPast

@@ -1,0 +1,148 @@
+-- The links of the three kinds are all links.
+use Rattle.std.proofs.Common.{◌≡◌, ◌≢◌, ℕ, ◌<◌, List, Option, Some, length, map, get_or, Contains, ◌⊎◌, inl, inr, refl, sym, ◌∙◌, ap, subst, arith}
+use Rattle.std.specs.Prelude.{slice_get, option_map}
+use Rattle.std.proofs.lemmas.List.{length-map}
+use Rattle.std.proofs.lemmas.Option.{slice_get-map, slice_get-get_or, slice_get_within, same_Some}
+use Rattle.smallvec.specs.SmallVec.{SmallVec}
+use Rattle.lam_geom.specs.declared.boxes.BoxXY.{BoxXY}
+use Rattle.lam_geom.specs.declared.boxes.MaskBox.{MaskBox}
+use Rattle.lam_geom.specs.declared.boxes.MaskLayer.{MaskLayer}
+use Rattle.lam_geom.specs.declared.boxes.MaskLayer.TheVariants.{ND, NP}
+use Rattle.lam_geom.specs.Gaps.{Touches, Overlaps}
+use Rattle.rule_table.specs.declared.technology.Tech.{Tech}
+use Rattle.graph_search.specs.Search.{IsBeside}
+use Rattle.crossings.specs.declared.crossing.Crossing.{Crossing}
+use Rattle.crossings.specs.Boxes.{area_at, layer_at}
+use Rattle.crossings.specs.Crossings.{IsBuriedPair, AreInOrder}
+use Rattle.net_extract.specs.declared.placing.Placed.{Placed}
+use Rattle.net_extract.specs.Places.{Place, places_of}
+use Rattle.net_extract.specs.Extraction.{IsAreaOf, AreLinked, by_touch, by_cut, by_contact, by_contact_back, IsLink}
+use Rattle.net_extract.specs.Pieces.{no_piece, piece_at, box_of, area_of, stand_of, IsPiece, ArePieces}
+use Rattle.net_extract.specs.Linking.{AreAdded, AreEmpty, AreApart, IsTouch, IsOverBoth, IsCutLink, ArePairOf, IsContact, AreLinks}
+use Rattle.net_extract.proofs.Areas.{area_same}
+
+-- where a piece stands
+pub place_there : (boxes : List MaskBox) (crossings : List Crossing) (pieces : List Placed) (a : ℕ) → map stand_of pieces ≡ places_of crossings boxes → a < length pieces
+    → slice_get (places_of crossings boxes) a ≡ Some (stand_of (piece_at pieces a))
+place_there boxes crossings pieces a e lt =
+    let P : List Place → Type 0 = λ ps. slice_get ps a ≡ Some (stand_of (piece_at pieces a)) in
+    subst P e (slice_get-map stand_of pieces a ∙ ap (option_map stand_of) (slice_get-get_or pieces a no_piece lt))
+
+pub pieces_counted : (boxes : List MaskBox) (crossings : List Crossing) (pieces : List Placed) → map stand_of pieces ≡ places_of crossings boxes → length (places_of crossings boxes) ≡ length pieces
+pieces_counted boxes crossings pieces e = ap (λ (ps : List Place). length ps) (sym e) ∙ length-map pieces stand_of
+
+-- a link of pieces by their numbers
+link_from : (tech : Tech) (boxes : List MaskBox) (crossings : List Crossing) (pieces : List Placed) (starts : List ℕ) (a b : ℕ) → ArePieces boxes crossings pieces starts → a < length pieces → b < length pieces
+    → AreLinked tech boxes crossings (stand_of (piece_at pieces a)) (stand_of (piece_at pieces b)) → IsLink tech boxes crossings a b
+link_from tech boxes crossings pieces starts a b p la lb linked = record {
+  p = stand_of (piece_at pieces a);
+  q = stand_of (piece_at pieces b);
+  first = place_there boxes crossings pieces a p.places la;
+  second = place_there boxes crossings pieces b p.places lb;
+  linked = linked;
+}
+
+-- ---- from the kinds
+
+touch_is_link : (tech : Tech) (boxes : List MaskBox) (crossings : List Crossing) (pieces : List Placed) (starts : List ℕ) (a b : ℕ) → ArePieces boxes crossings pieces starts → IsTouch boxes pieces a b → IsLink tech boxes crossings a b
+touch_is_link tech boxes crossings pieces starts a b p h =
+    let pa : IsPiece boxes crossings (piece_at pieces a) = p.each a no_piece h.apart.first in
+    let pb : IsPiece boxes crossings (piece_at pieces b) = p.each b no_piece h.apart.second in
+    link_from tech boxes crossings pieces starts a b p h.apart.first h.apart.second
+    (by_touch (area_of pieces a) (area_of pieces b) (λ e. h.apart.apart (sym e)) h.one_layer pa.area pb.area h.touch)
+
+cut_is_link : (tech : Tech) (boxes : List MaskBox) (crossings : List Crossing) (pieces : List Placed) (starts : List ℕ) (k a b : ℕ) → ArePieces boxes crossings pieces starts → IsOverBoth boxes pieces k a b → IsLink tech boxes crossings a b
+cut_is_link tech boxes crossings pieces starts k a b p h =
+    let pa : IsPiece boxes crossings (piece_at pieces a) = p.each a no_piece h.apart.first in
+    let pb : IsPiece boxes crossings (piece_at pieces b) = p.each b no_piece h.apart.second in
+    link_from tech boxes crossings pieces starts a b p h.apart.first h.apart.second
+    (by_cut (area_of pieces a) (area_of pieces b) k (λ e. h.apart.apart (sym e)) h.is_cut pa.area pb.area h.first h.second)
+
+contact_is_link : (tech : Tech) (boxes : List MaskBox) (crossings : List Crossing) (pieces : List Placed) (starts : List ℕ) (k l a b : ℕ) → ArePieces boxes crossings pieces starts → IsBuriedPair tech boxes k l
+    → ArePairOf pieces k l a b → IsLink tech boxes crossings a b
+contact_is_link tech boxes crossings pieces starts k l a b p buried h =
+    let P : ℕ → Type 0 = λ x. IsBuriedPair tech boxes x l in
+    elim h.ends [
+      | inl ends ↦
+          (let Q : ℕ → Type 0 = λ y. IsBuriedPair tech boxes (box_of pieces a) y in
+          link_from tech boxes crossings pieces starts a b p h.apart.first h.apart.second (by_contact (subst Q (sym ends.1) (subst P (sym ends.0) buried))))
+      | inr ends ↦
+          (let Q : ℕ → Type 0 = λ y. IsBuriedPair tech boxes (box_of pieces b) y in
+          link_from tech boxes crossings pieces starts a b p h.apart.first h.apart.second (by_contact_back (subst Q (sym ends.0) (subst P (sym ends.1) buried))))
+    ]
+
+-- ---- to the kinds
+
+-- a link is of one of the kinds
+abbrev IsOfKind : Tech → List MaskBox → List Placed → ℕ → ℕ → Type 0
+IsOfKind tech boxes pieces a b = IsTouch boxes pieces a b ⊎ (IsCutLink boxes pieces (length boxes) a b ⊎ IsContact tech boxes pieces (length boxes) a b)
+
+-- the boxes of a buried pair differ
+buried_apart : (tech : Tech) (boxes : List MaskBox) (k l : ℕ) → IsBuriedPair tech boxes k l → k ≢ l
+buried_apart tech boxes k l h e =
+    let poly : layer_at boxes k ≡ NP = h.overlap.poly.on in
+    let diffusion : layer_at boxes l ≡ ND = h.overlap.diffusion.on in
+    let same : layer_at boxes k ≡ layer_at boxes l = ap (layer_at boxes) e in
+    let clash : NP ≡ ND = sym poly ∙ same ∙ diffusion in
+    cc
+
+linked_kind : (tech : Tech) (boxes : List MaskBox) (crossings : List Crossing) (pieces : List Placed) (starts : List ℕ) (a b : ℕ) → AreInOrder crossings → ArePieces boxes crossings pieces starts
+    → a < length pieces → b < length pieces → AreLinked tech boxes crossings (stand_of (piece_at pieces a)) (stand_of (piece_at pieces b)) → IsOfKind tech boxes pieces a b
+linked_kind tech boxes crossings pieces starts a b ordered p la lb (by_touch s t ne one at_a at_b touch) =
+    let pa : IsPiece boxes crossings (piece_at pieces a) = p.each a no_piece la in
+    let pb : IsPiece boxes crossings (piece_at pieces b) = p.each b no_piece lb in
+    let ea : s ≡ area_of pieces a = area_same boxes crossings (stand_of (piece_at pieces a)) s (area_of pieces a) ordered at_a pa.area in
+    let eb : t ≡ area_of pieces b = area_same boxes crossings (stand_of (piece_at pieces b)) t (area_of pieces b) ordered at_b pb.area in
+    let P : BoxXY → Type 0 = λ x. Touches x t in
+    let Q : BoxXY → Type 0 = λ y. Touches (area_of pieces a) y in
+    inl (record { apart = record { first = la; second = lb; apart = λ e. ne (sym e) }; one_layer = one; touch = subst Q eb (subst P ea touch) })
+linked_kind tech boxes crossings pieces starts a b ordered p la lb (by_cut s t cut ne on at_a at_b over_a over_b) =
+    let pa : IsPiece boxes crossings (piece_at pieces a) = p.each a no_piece la in
+    let pb : IsPiece boxes crossings (piece_at pieces b) = p.each b no_piece lb in
+    let ea : s ≡ area_of pieces a = area_same boxes crossings (stand_of (piece_at pieces a)) s (area_of pieces a) ordered at_a pa.area in
+    let eb : t ≡ area_of pieces b = area_same boxes crossings (stand_of (piece_at pieces b)) t (area_of pieces b) ordered at_b pb.area in
+    let P : BoxXY → Type 0 = λ x. Overlaps x (area_at boxes cut) in
+    inr (inl (cut, on.among, record { is_cut = on; apart = record { first = la; second = lb; apart = λ e. ne (sym e) }; first = subst P ea over_a; second = subst P eb over_b }))
+linked_kind tech boxes crossings pieces starts a b ordered p la lb (by_contact buried) =
+    let ne = buried_apart tech boxes (box_of pieces a) (box_of pieces b) buried in
+    inr (inr (box_of pieces a, buried.overlap.poly.among, (box_of pieces b, buried, record { apart = record { first = la; second = lb; apart = λ e. ne (sym e) }; ends = inl (refl, refl) })))
+linked_kind tech boxes crossings pieces starts a b ordered p la lb (by_contact_back buried) =
+    let ne = buried_apart tech boxes (box_of pieces b) (box_of pieces a) buried in
+    inr (inr (box_of pieces b, buried.overlap.poly.among, (box_of pieces a, buried, record { apart = record { first = la; second = lb; apart = ne }; ends = inr (refl, refl) })))
+
+link_kind : (tech : Tech) (boxes : List MaskBox) (crossings : List Crossing) (pieces : List Placed) (starts : List ℕ) (a b : ℕ) → AreInOrder crossings → ArePieces boxes crossings pieces starts
+    → IsLink tech boxes crossings a b → IsOfKind tech boxes pieces a b
+link_kind tech boxes crossings pieces starts a b ordered p h =
+    let n = pieces_counted boxes crossings pieces p.places in
+    let wa = slice_get_within (places_of crossings boxes) a h.p h.first in
+    let wb = slice_get_within (places_of crossings boxes) b h.q h.second in
+    let la : a < length pieces = omega arith in
+    let lb : b < length pieces = omega arith in
+    let ep : h.p ≡ stand_of (piece_at pieces a) = same_Some h.p (stand_of (piece_at pieces a)) (sym h.first ∙ place_there boxes crossings pieces a p.places la) in
+    let eq : h.q ≡ stand_of (piece_at pieces b) = same_Some h.q (stand_of (piece_at pieces b)) (sym h.second ∙ place_there boxes crossings pieces b p.places lb) in
+    let P : Place → Type 0 = λ x. AreLinked tech boxes crossings x h.q in
+    let Q : Place → Type 0 = λ y. AreLinked tech boxes crossings (stand_of (piece_at pieces a)) y in
+    linked_kind tech boxes crossings pieces starts a b ordered p la lb (subst Q eq (subst P ep h.linked))
+
+-- lists to which the links of all kinds have been added say exactly the links
+pub all_links : (tech : Tech) (boxes : List MaskBox) (crossings : List Crossing) (pieces : List Placed) (starts : List ℕ) (empty first second third : List (SmallVec ℕ)) → AreInOrder crossings
+    → ArePieces boxes crossings pieces starts → AreEmpty (length pieces) empty → AreAdded (IsTouch boxes pieces) empty first → AreAdded (IsCutLink boxes pieces (length boxes)) first second
+    → AreAdded (IsContact tech boxes pieces (length boxes)) second third → AreLinks tech boxes crossings third
+all_links tech boxes crossings pieces starts empty first second third ordered p none touches cuts contacts = record {
+  counted = contacts.counted ∙ cuts.counted ∙ touches.counted ∙ none.counted ∙ sym (pieces_counted boxes crossings pieces p.places);
+  sound = λ a b c. elim ((contacts.each a).sound b c) [
+    | inl c ↦ elim ((cuts.each a).sound b c) [
+      | inl c ↦ elim ((touches.each a).sound b c) [
+        | inl c ↦ absurd (none.empty a b c)
+        | inr h ↦ touch_is_link tech boxes crossings pieces starts a b p h
+      ]
+      | inr (k, _, h) ↦ cut_is_link tech boxes crossings pieces starts k a b p h
+    ]
+    | inr (k, _, (l, buried, h)) ↦ contact_is_link tech boxes crossings pieces starts k l a b p buried h
+  ];
+  complete = λ a b h. elim (link_kind tech boxes crossings pieces starts a b ordered p h) [
+    | inl h ↦ (contacts.each a).kept b ((cuts.each a).kept b ((touches.each a).complete b h))
+    | inr (inl h) ↦ (contacts.each a).kept b ((cuts.each a).complete b h)
+    | inr (inr h) ↦ (contacts.each a).complete b h
+  ];
+}

@@ -1,0 +1,11 @@
+pub mod Growth
+pub mod Near
+pub mod Geometry
+pub mod Linked
+pub mod LinkKinds
+pub mod Areas
+pub mod AllLinks
+pub mod BoxByBox
+pub mod NetOfPlace
+pub mod Extracted
+pub mod Determined

@@ -1,0 +1,10 @@
+use Rattle.std.proofs.Common.{◌≤◌}
+use Rattle.std.specs.Prelude.{max}
+use Rattle.net_extract.specs.Linking.{AreGathered, IsWithin}
+use Rattle.net_extract.proofs.gathering.gather_all.Given as goal
+
+abbrev pub invariant-loop-b : goal.invariant-loop-b
+invariant-loop-b l = record {
+  so_far : l.b ≤ max l.first l.end;
+  gathered : AreGathered (IsWithin l.first l.b) l.fn.group.items l.group.items;
+}

@@ -1,0 +1,9 @@
+use Rattle.net_extract.specs.Pieces.{IsCursor}
+use Rattle.net_extract.proofs.BoxByBox.{ArePiecesBelow}
+use Rattle.net_extract.proofs.placing.pieces_of.Given as goal
+
+abbrev pub invariant-loop-k : goal.invariant-loop-k
+invariant-loop-k l = record {
+  pieces : ArePiecesBelow l.boxes l.crossings.items l.k l.placed.items l.starts.items;
+  cursor : IsCursor l.crossings.items l.next l.k;
+}

@@ -1,0 +1,89 @@
+-- The pieces of boxes with the areas that they cover, and the numbers of the first pieces of boxes.
+use Rattle.std.specs.Prelude.{◌≡◌, ℕ, ◌+◌, ◌*◌, ◌<◌, ◌≤◌, pos, All, List, length, map, Option, Some, slice_index, slice_index_or}
+use Rattle.lam_geom.specs.declared.boxes.BoxXY.{BoxXY}
+use Rattle.lam_geom.specs.declared.boxes.MaskBox.{MaskBox}
+use Rattle.lam_geom.specs.declared.boxes.MaskLayer.{MaskLayer}
+use Rattle.lam_geom.specs.declared.boxes.MaskLayer.TheVariants.{ND, NP, NC, NM, NI, NB}
+use Rattle.lam_geom.specs.Gaps.{Encloses}
+use Rattle.crossings.specs.declared.crossing.Crossing.{Crossing}
+use Rattle.crossings.specs.Boxes.{area_at, layer_at, no_box}
+use Rattle.net_extract.specs.declared.netlist.Part.{Part}
+use Rattle.net_extract.specs.declared.netlist.Part.TheVariants.{Whole, Low, High}
+use Rattle.net_extract.specs.declared.placing.Pieces.{Pieces}
+use Rattle.net_extract.specs.declared.placing.Placed.{Placed}
+use Rattle.net_extract.specs.Places.{Place, place, places_of}
+use Rattle.net_extract.specs.Extraction.{IsAreaOf, IsLowPiece, IsHighPiece}
+
+-- ---- pieces by number
+
+abbrev pub no_piece : Placed
+no_piece = record { box_no = 0; part = Whole; area = no_box.area }
+
+abbrev pub piece_at : List Placed → ℕ → Placed
+piece_at pieces a = slice_index_or pieces a no_piece
+
+-- the box of a piece
+abbrev pub box_of : List Placed → ℕ → ℕ
+box_of pieces a = (piece_at pieces a).box_no
+
+abbrev pub area_of : List Placed → ℕ → BoxXY
+area_of pieces a = (piece_at pieces a).area
+
+abbrev pub stand_of : Placed → Place
+stand_of piece = place piece.box_no piece.part
+
+-- ---- what pieces there are
+
+-- diffusion, poly and metal conduct
+abbrev pub Conducts : MaskLayer → Type 0
+Conducts ND = Unit {0}
+Conducts NP = Unit {0}
+Conducts NM = Unit {0}
+Conducts NC = ⊥
+Conducts NI = ⊥
+Conducts NB = ⊥
+
+pub record IsPiece (boxes : List MaskBox) (crossings : List Crossing) (piece : Placed) : Type 0 where
+  pub of_box : piece.box_no < length boxes
+  pub conducts : Conducts (layer_at boxes piece.box_no)
+  pub area : IsAreaOf boxes crossings (stand_of piece) piece.area
+  pub inside : Encloses (area_at boxes piece.box_no) piece.area (pos 0)
+
+-- Of each of so many boxes the number of its first piece, and then that of all pieces: they stand in order of their boxes.
+pub record AreStarts (count : ℕ) (pieces : List Placed) (starts : List ℕ) : Type 0 where
+  pub counted : length starts ≡ count + 1
+  pub within : (k : ℕ) → k ≤ count → slice_index starts k ≤ length pieces
+  pub of_box : (k a : ℕ) → k < count → slice_index starts k ≤ a → a < slice_index starts (k + 1) → box_of pieces a ≡ k
+  pub own : (a : ℕ) → a < length pieces → (box_of pieces a < count) × (slice_index starts (box_of pieces a) ≤ a) × (a < slice_index starts (box_of pieces a + 1))
+
+-- the pieces of some boxes
+pub record ArePieces (boxes : List MaskBox) (crossings : List Crossing) (pieces : List Placed) (starts : List ℕ) : Type 0 where
+  pub places : map stand_of pieces ≡ places_of crossings boxes
+  pub each : All (IsPiece boxes crossings) pieces
+  pub ranges : AreStarts (length boxes) pieces starts
+  pub few : length pieces ≤ 2 * length boxes
+
+abbrev pub ArePiecesOf : List MaskBox → Pieces → Type 0
+ArePiecesOf boxes pieces = ArePieces boxes pieces.crossings.items pieces.placed.items pieces.starts.items
+
+-- ---- how they are found
+
+-- the channel lies within its diffusion
+abbrev pub IsWithinDiffusion : List MaskBox → Crossing → Type 0
+IsWithinDiffusion boxes c = Encloses (area_at boxes c.diffusion) c.channel (pos 0)
+
+-- the diffusion of a crossing by its number
+abbrev pub diffusion_at : List Crossing → ℕ → ℕ
+diffusion_at crossings i = slice_index (map (λ (c : Crossing). c.diffusion) crossings) i
+
+-- the crossings before this number are those of the boxes before box number k
+pub record IsCursor (crossings : List Crossing) (next k : ℕ) : Type 0 where
+  pub within : next ≤ length crossings
+  pub passed : (i : ℕ) → i < next → diffusion_at crossings i < k
+  pub ahead : (i : ℕ) → next ≤ i → i < length crossings → k ≤ diffusion_at crossings i
+
+-- the area of a part of a box that is crossed, or not
+abbrev pub IsPartOf : BoxXY → Option Crossing → Part → BoxXY → Type 0
+IsPartOf box crossing Whole area = area ≡ box
+IsPartOf box crossing Low area = (c : Crossing) × (crossing ≡ Some c) × IsLowPiece c box area
+IsPartOf box crossing High area = (c : Crossing) × (crossing ≡ Some c) × IsHighPiece c box area

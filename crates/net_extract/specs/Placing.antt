@@ -1,0 +1,22 @@
+-- The pieces of one box.
+use Rattle.std.specs.Prelude.{◌≡◌, ℕ, pos, All, List, map, Option, is_some}
+use Rattle.lam_geom.specs.declared.boxes.BoxXY.{BoxXY}
+use Rattle.lam_geom.specs.declared.boxes.MaskBox.{MaskBox}
+use Rattle.lam_geom.specs.Gaps.{Encloses}
+use Rattle.crossings.specs.declared.crossing.Crossing.{Crossing}
+use Rattle.crossings.specs.Boxes.{area_at, layer_at}
+use Rattle.net_extract.specs.declared.placing.Placed.{Placed}
+use Rattle.net_extract.specs.Places.{place, parts_on}
+use Rattle.net_extract.specs.Pieces.{stand_of, Conducts, IsPartOf}
+
+-- a piece of box number k
+pub record IsOfBoxAt (boxes : List MaskBox) (k : ℕ) (crossing : Option Crossing) (piece : Placed) : Type 0 where
+  pub box : piece.box_no ≡ k
+  pub conducts : Conducts (layer_at boxes k)
+  pub area : IsPartOf (area_at boxes k) crossing piece.part piece.area
+  pub inside : Encloses (area_at boxes k) piece.area (pos 0)
+
+-- the pieces of box number k, which has this crossing or none
+pub record AreOfBox (boxes : List MaskBox) (k : ℕ) (crossing : Option Crossing) (pieces : List Placed) : Type 0 where
+  pub places : map stand_of pieces ≡ map (place k) (parts_on (layer_at boxes k) (is_some crossing))
+  pub each : All (IsOfBoxAt boxes k crossing) pieces

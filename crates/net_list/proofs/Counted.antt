@@ -1,0 +1,98 @@
+-- Counts of pieces, one piece after another.
+use Rattle.std.proofs.Common.{◌≡◌, ℕ, zero, suc, ◌+◌, ◌<◌, ◌≤◌, ◌&&◌, Bool, true, false, cond, eqb, get_or, List, ◌++◌, length, map, take, refl, sym, ap, ◌∙◌, add-zero, arith, inl, inr, set, get_or-set_same, get_or-set_other, eq-eqb}
+use Rattle.std.specs.List.{flat_map, range_with_len}
+use Rattle.std.proofs.lemmas.Bool.{cases_eq, ne_eqb}
+use Rattle.std.proofs.lemmas.List.Sums.{sum_by_more, count_by-le-length}
+use Rattle.lam_geom.specs.declared.boxes.MaskBox.{MaskBox}
+use Rattle.lam_geom.specs.declared.boxes.MaskLayer.{MaskLayer}
+use Rattle.lam_geom.specs.declared.boxes.MaskLayer.TheVariants.{ND, NP, NC, NM, NI, NB}
+use Rattle.crossings.specs.Boxes.{layer_at}
+use Rattle.net_extract.specs.declared.netlist.Piece.{Piece}
+use Rattle.net_list.specs.declared.counting.PieceCounts.{PieceCounts}
+use Rattle.net_list.specs.Lines.{is_diffusion, is_poly, is_metal, pieces_on}
+use Rattle.net_list.specs.Counts.{no_pieces, one_more, counts_of, counts_line, counts_lines}
+
+-- counts with equal parts are equal
+same_counts : (a b : PieceCounts) → a.diffusion ≡ b.diffusion → a.poly ≡ b.poly → a.metal ≡ b.metal → a ≡ b
+same_counts a b d p m =
+    ap (λ n. (let c : PieceCounts = record { diffusion = n; poly = a.poly; metal = a.metal } in c)) d
+    ∙ (ap (λ n. (let c : PieceCounts = record { diffusion = b.diffusion; poly = n; metal = a.metal } in c)) p
+    ∙ ap (λ n. (let c : PieceCounts = record { diffusion = b.diffusion; poly = b.poly; metal = n } in c)) m)
+
+-- ---- one piece more
+
+-- a piece of the net counts where its box is on the layer, and one of another net not
+same_net : (is_layer : MaskLayer → Bool) (boxes : List MaskBox) (pieces : List Piece) (i : ℕ) (x : Piece) (net : ℕ) → i < length pieces → eqb (get_or pieces i x).net net ≡ true
+    → pieces_on is_layer boxes (take (i + 1) pieces) net ≡ pieces_on is_layer boxes (take i pieces) net + cond (is_layer (layer_at boxes (get_or pieces i x).box_no)) 1 0
+same_net is_layer boxes pieces i x net lt same =
+    sum_by_more (λ (p : Piece). cond (eqb p.net net && is_layer (layer_at boxes p.box_no)) 1 0) pieces i x lt
+    ∙ ap (λ b. pieces_on is_layer boxes (take i pieces) net + cond (b && is_layer (layer_at boxes (get_or pieces i x).box_no)) 1 0) same
+
+other_net : (is_layer : MaskLayer → Bool) (boxes : List MaskBox) (pieces : List Piece) (i : ℕ) (x : Piece) (net : ℕ) → i < length pieces → eqb (get_or pieces i x).net net ≡ false
+    → pieces_on is_layer boxes (take (i + 1) pieces) net ≡ pieces_on is_layer boxes (take i pieces) net
+other_net is_layer boxes pieces i x net lt other =
+    sum_by_more (λ (p : Piece). cond (eqb p.net net && is_layer (layer_at boxes p.box_no)) 1 0) pieces i x lt
+    ∙ (ap (λ b. pieces_on is_layer boxes (take i pieces) net + cond (b && is_layer (layer_at boxes (get_or pieces i x).box_no)) 1 0) other ∙ add-zero (pieces_on is_layer boxes (take i pieces) net))
+
+-- the layer tells which of the three counts rises
+by_layer : (a b : PieceCounts) (layer : MaskLayer) → b.diffusion ≡ a.diffusion + cond (is_diffusion layer) 1 0 → b.poly ≡ a.poly + cond (is_poly layer) 1 0 → b.metal ≡ a.metal + cond (is_metal layer) 1 0 → b ≡ one_more a layer
+by_layer a b ND d p m = same_counts b (one_more a ND) d (p ∙ add-zero a.poly) (m ∙ add-zero a.metal)
+by_layer a b NP d p m = same_counts b (one_more a NP) (d ∙ add-zero a.diffusion) p (m ∙ add-zero a.metal)
+by_layer a b NC d p m = same_counts b a (d ∙ add-zero a.diffusion) (p ∙ add-zero a.poly) (m ∙ add-zero a.metal)
+by_layer a b NM d p m = same_counts b (one_more a NM) (d ∙ add-zero a.diffusion) (p ∙ add-zero a.poly) m
+by_layer a b NI d p m = same_counts b a (d ∙ add-zero a.diffusion) (p ∙ add-zero a.poly) (m ∙ add-zero a.metal)
+by_layer a b NB d p m = same_counts b a (d ∙ add-zero a.diffusion) (p ∙ add-zero a.poly) (m ∙ add-zero a.metal)
+
+counted_here : (boxes : List MaskBox) (pieces : List Piece) (i : ℕ) (x : Piece) (net : ℕ) → i < length pieces → eqb (get_or pieces i x).net net ≡ true
+    → counts_of boxes (take (i + 1) pieces) net ≡ one_more (counts_of boxes (take i pieces) net) (layer_at boxes (get_or pieces i x).box_no)
+counted_here boxes pieces i x net lt same =
+    by_layer (counts_of boxes (take i pieces) net) (counts_of boxes (take (i + 1) pieces) net) (layer_at boxes (get_or pieces i x).box_no)
+    (same_net is_diffusion boxes pieces i x net lt same) (same_net is_poly boxes pieces i x net lt same) (same_net is_metal boxes pieces i x net lt same)
+
+counted_elsewhere : (boxes : List MaskBox) (pieces : List Piece) (i : ℕ) (x : Piece) (net : ℕ) → i < length pieces → eqb (get_or pieces i x).net net ≡ false
+    → counts_of boxes (take (i + 1) pieces) net ≡ counts_of boxes (take i pieces) net
+counted_elsewhere boxes pieces i x net lt other =
+    same_counts (counts_of boxes (take (i + 1) pieces) net) (counts_of boxes (take i pieces) net)
+    (other_net is_diffusion boxes pieces i x net lt other) (other_net is_poly boxes pieces i x net lt other) (other_net is_metal boxes pieces i x net lt other)
+
+-- no count is more than there are pieces
+pub counted_few : (is_layer : MaskLayer → Bool) (boxes : List MaskBox) (pieces : List Piece) (net : ℕ) → pieces_on is_layer boxes pieces net ≤ length pieces
+counted_few is_layer boxes pieces net = count_by-le-length (λ (p : Piece). eqb p.net net && is_layer (layer_at boxes p.box_no)) pieces
+
+-- ---- a table of counts
+
+-- the counts of the first so many pieces, for each net
+abbrev pub AreCounted : List MaskBox → List Piece → List PieceCounts → ℕ → Type 0
+AreCounted boxes pieces counts nets = (net : ℕ) → net < nets → get_or counts net no_pieces ≡ counts_of boxes pieces net
+
+-- a piece p whose net is in the table
+pub table_here : (boxes : List MaskBox) (pieces : List Piece) (i : ℕ) (x p : Piece) (counts next : List PieceCounts) (nets : ℕ) → i < length pieces → p ≡ get_or pieces i x
+    → length counts ≡ nets → p.net < nets → next ≡ set counts p.net (one_more (get_or counts p.net no_pieces) (layer_at boxes p.box_no))
+    → AreCounted boxes (take i pieces) counts nets → AreCounted boxes (take (i + 1) pieces) next nets
+table_here boxes pieces i x p counts next nets lt is long among e was = λ net small.
+    ap (λ cs. get_or cs net no_pieces) e
+    ∙ elim (cases_eq net p.net) [
+      | inl same ↦ (
+          let at : get_or (set counts p.net (one_more (get_or counts p.net no_pieces) (layer_at boxes p.box_no))) net no_pieces ≡ one_more (get_or counts p.net no_pieces) (layer_at boxes p.box_no)
+          = ap (λ n. get_or (set counts p.net (one_more (get_or counts p.net no_pieces) (layer_at boxes p.box_no))) n no_pieces) same ∙ get_or-set_same counts p.net (one_more (get_or counts p.net no_pieces) (layer_at boxes p.box_no)) no_pieces (omega arith) in
+          at ∙ ap (λ c. one_more c (layer_at boxes p.box_no)) (was p.net among ∙ ap (λ n. counts_of boxes (take i pieces) n) (sym same))
+          ∙ ap (λ q. one_more (counts_of boxes (take i pieces) net) (layer_at boxes q.box_no)) is
+          ∙ sym (counted_here boxes pieces i x net lt (eq-eqb (get_or pieces i x).net net (ap (λ q. q.net) (sym is) ∙ sym same))))
+      | inr other ↦
+          get_or-set_other counts p.net net (one_more (get_or counts p.net no_pieces) (layer_at boxes p.box_no)) no_pieces other
+          ∙ was net small
+          ∙ sym (counted_elsewhere boxes pieces i x net lt (ne_eqb (get_or pieces i x).net net (λ same. other (sym (ap (λ q. q.net) is ∙ same)))))
+    ]
+
+-- a piece whose net is not
+pub table_elsewhere : (boxes : List MaskBox) (pieces : List Piece) (i : ℕ) (x p : Piece) (counts : List PieceCounts) (nets : ℕ) → i < length pieces → p ≡ get_or pieces i x → nets ≤ p.net
+    → AreCounted boxes (take i pieces) counts nets → AreCounted boxes (take (i + 1) pieces) counts nets
+table_elsewhere boxes pieces i x p counts nets lt is beyond was = λ net small.
+    was net small ∙ sym (counted_elsewhere boxes pieces i x net lt (ne_eqb (get_or pieces i x).net net (λ same. (let e : p.net ≡ net = ap (λ q. q.net) is ∙ same in absurd (omega arith)))))
+
+-- ---- lines
+
+-- the lines of counts that are made number by number
+pub lines_by_number : (f : ℕ → PieceCounts) (a n : ℕ) → counts_lines a (map f (range_with_len a n)) ≡ flat_map (λ k. counts_line k (f k)) (range_with_len a n)
+lines_by_number f a zero = refl
+lines_by_number f a (suc n) = ap (λ text. counts_line a (f a) ++ text) (lines_by_number f (a + 1) n)

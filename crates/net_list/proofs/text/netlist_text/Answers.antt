@@ -1,0 +1,20 @@
+use Rattle.std.proofs.Common.{◌≡◌, ◌++◌, ap, ◌∙◌}
+use Rattle.std.specs.Prelude.{length}
+use Rattle.std.specs.List.{flat_map, range_with_len}
+use Rattle.std.proofs.lemmas.Result.{IfOk-weaker}
+use Rattle.net_list.specs.Lines.{text_of_netlist, head_line, device_lines, line_of_net}
+use Rattle.net_list.specs.Counts.{counts_of, counts_lines}
+use Rattle.net_list.proofs.Counted.{lines_by_number}
+use Rattle.net_list.proofs.Joined.{two_added}
+use Rattle.net_list.proofs.text.netlist_text.Goals as goal
+
+pub returns : goal.returns
+unfolding text_of_netlist
+returns c =
+    let list = c.args.list.now in
+    let boxes = c.args.boxes.now in
+    let text = two_added (head_line list.nets (length list.devices)) (flat_map (line_of_net boxes list.pieces) (range_with_len 0 list.nets)) (device_lines 0 list.devices) _ _ _
+    (c.in_ok-out.ensures.items ∙ (c.as_bytes.ensures.value ∙ (c.in_ok-head.ensures ∙ ap (λ ds. head_line list.nets (length ds)) c.as_slice-devices.ensures)))
+    (c.in_ok-push_nets.ensures ∙ ap (λ t. c.in_ok-out.out.items ++ t) (ap (counts_lines 0) (c.deref.ensures.value ∙ c.in_ok-counts.ensures) ∙ lines_by_number (counts_of boxes list.pieces) 0 list.nets))
+    (c.in_ok-push_devices.ensures ∙ ap (λ ds. c.push_nets.new.out.items ++ device_lines 0 ds) c.as_slice-devices.ensures) in
+    IfOk-weaker c.new.result (λ t. t ≡ c.deref-2.result.now) (λ t. t ≡ text_of_netlist boxes list) (λ t e. e ∙ (c.deref-2.ensures.value ∙ text)) c.new.ensures

@@ -1,0 +1,96 @@
+//! The lines of a netlist.
+ghost use Rattle.std.specs.Prelude.{◌≡◌, ◌++◌, OnOk, IfOk, length, string_bytes};
+ghost use Rattle.net_list.specs.Lines.{device_line, device_lines, head_line, kind_word, place_words, size_words, terminal_words};
+ghost use Rattle.net_list.specs.Counts.{counts_line, counts_lines};
+
+use crate::counting::PieceCounts;
+use net_extract::Device;
+use std::alloc::{AllocError, Global};
+
+/// The first line: how many nets and devices there are. The only refusal is want of memory.
+pub fn head_line(alloc: Global, nets: u32, devices: usize) -> Result<String, AllocError>
+    ensures { IfOk result (λ line. string_bytes line ≡ head_line nets devices) }
+{
+    format!(in alloc; "nets {nets} devices {devices}\n")
+}
+
+// The line of a net: its number, and how many pieces it has by layer.
+fn net_line(alloc: Global, net: usize, counts: PieceCounts) -> Result<String, AllocError>
+    ensures { IfOk result (λ line. string_bytes line ≡ counts_line net counts) }
+{
+    let diffusion = counts.diffusion;
+    let poly = counts.poly;
+    let metal = counts.metal;
+    format!(in alloc; "net {net} nd {diffusion} np {poly} nm {metal}\n")
+}
+
+/// Adds a line for each net, of which these are the counts. The only refusal is want of memory.
+pub fn push_nets(out: &mut Vec<u8>, alloc: Global, counts: &[PieceCounts]) -> Result<(), AllocError>
+    ensures { OnOk result (out.new.items ≡ out.old.items ++ counts_lines 0 counts.now) }
+{
+    for (net, count) in counts.iter().enumerate() {
+        let line = net_line(alloc, net, *count)?;
+        out.extend_from_slice(line.as_bytes())?;
+    }
+    Ok(())
+}
+
+fn kind_word(depletion: bool) -> &'static str
+    ensures { result.now ≡ kind_word depletion }
+{
+    if depletion { "dep" } else { "enh" }
+}
+
+fn write_size(alloc: Global, number: usize, device: &Device) -> Result<String, AllocError>
+    ensures { IfOk result (λ words. string_bytes words ≡ size_words number device.now) }
+{
+    let kind = kind_word(device.depletion);
+    let w = device.w;
+    let l = device.l;
+    format!(in alloc; "device {number} {kind} w {w} l {l}")
+}
+
+fn write_terminals(alloc: Global, device: &Device) -> Result<String, AllocError>
+    ensures { IfOk result (λ words. string_bytes words ≡ terminal_words device.now) }
+{
+    let gate = device.gate;
+    let low = device.low;
+    let high = device.high;
+    format!(in alloc; " gate {gate} low {low} high {high}")
+}
+
+fn write_place(alloc: Global, device: &Device) -> Result<String, AllocError>
+    ensures { IfOk result (λ words. string_bytes words ≡ place_words device.now) }
+{
+    let x = device.channel.x.lo;
+    let y = device.channel.y.lo;
+    format!(in alloc; " at {x} {y}\n")
+}
+
+// Adds the line of a device.
+fn push_device(
+    out: &mut Vec<u8>,
+    alloc: Global,
+    number: usize,
+    device: &Device,
+) -> Result<(), AllocError>
+    ensures { OnOk result (out.new.items ≡ out.old.items ++ device_line number device.now) }
+{
+    let size = write_size(alloc, number, device)?;
+    let terminals = write_terminals(alloc, device)?;
+    let place = write_place(alloc, device)?;
+    out.extend_from_slice(size.as_bytes())?;
+    out.extend_from_slice(terminals.as_bytes())?;
+    out.extend_from_slice(place.as_bytes())?;
+    Ok(())
+}
+
+/// Adds a line for each device. The only refusal is want of memory.
+pub fn push_devices(out: &mut Vec<u8>, alloc: Global, devices: &[Device]) -> Result<(), AllocError>
+    ensures { OnOk result (out.new.items ≡ out.old.items ++ device_lines 0 devices.now) }
+{
+    for (number, device) in devices.iter().enumerate() {
+        push_device(out, alloc, number, device)?;
+    }
+    Ok(())
+}
