@@ -1,15 +1,15 @@
 //! What holds of the netlists of texts.
-ghost use Rattle.std.specs.Prelude.{◌^◌, ◌≤◌, length};
+ghost use Rattle.std.specs.Prelude.{List, ℕ, ◌^◌, ◌≤◌, length};
+ghost use Rattle.rule_table.specs.declared.technology.Tech.{Tech};
 ghost use Rattle.cif_nets.specs.Texts.{NetlistsAreDetermined};
 
 use cif_read::readings_are_determined;
 use net_extract::netlist_is_determined;
-use rule_table::Tech;
 
-/// A law, with nothing to run: want of memory aside, a text has one netlist or one cause why it has none.
-pub fn netlists_are_determined(tech: &Tech, text: &[u8])
-    requires { length text.now ≤ 2 ^ 26 }
-    ensures { NetlistsAreDetermined tech.now text.now }
+/// A law, with nothing to run: want of memory aside, a text of at most 67,108,864 bytes has one netlist or one cause why it
+/// has none.
+pub fn netlists_are_determined()
+    ensures { (tech : Tech) (text : List ℕ) → length text ≤ 2 ^ 26 → NetlistsAreDetermined tech text }
 {
     readings_are_determined();
     netlist_is_determined();
