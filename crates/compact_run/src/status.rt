@@ -22,7 +22,7 @@ pub enum File {
 /// A stream that the program writes.
 #[derive(Clone, Copy, Debug, PartialEq, Eq)]
 pub enum Side2 {
-    /// The masks, or the text of a design.
+    /// The masks, a netlist, or the text of a design.
     Output,
     /// What is told of the passes, or of a refusal.
     Report,
