@@ -1,9 +1,10 @@
 -- What holds of each cell that a design's grids name.
-use Rattle.std.proofs.Common.{◌≡◌, ℕ, ◌≤◌, Bool, true, false, Option, Some, None, List, [], ◌∷◌, length, get_or, refl, ap, arith}
+use Rattle.std.proofs.Common.{◌≡◌, ◌≢◌, ℕ, ◌≤◌, Bool, true, false, Option, Some, None, List, [], ◌∷◌, length, get_or, refl, sym, ap, ◌∙◌, subst, arith}
 use Rattle.std.specs.Prelude.{All, nat_le, ◌&&◌, bytes_eq, is_none, unwrap_or, IsTrue, if◌then◌else◌}
 use Rattle.std.specs.List.{AllByRecursion, flat_map, list_all}
 use Rattle.std.specs.Char.{is_ascii_alphabetic}
 use Rattle.std.specs.Option.{option_or}
+use Rattle.std.proofs.lemmas.Bool.{true≢false}
 use Rattle.std.proofs.lemmas.Bool.Decides.{nat_tests}
 use Rattle.std.proofs.lemmas.List.Quantifiers.{position-Some}
 use Rattle.std.proofs.lemmas.Slice.Eq.{bytes_eq-Decides}
@@ -71,21 +72,40 @@ chosen P cells grids step are none =
     no_grid : GridText
     no_grid = record { name = None; line = 0; rows = [] }
 
--- a name has at most 32 bytes
-few_bytes : (name : List ℕ) → IsName name → length name ≤ 32
-few_bytes [] is = cc
-few_bytes (b ∷ bs) is = few_behind (is_ascii_alphabetic b) (nat_le (length bs) 31) (list_all is_name_byte bs) is (λ h. grind (arith, nat_tests, h))
-  where
-    few_behind : {A : Type 0} (a n l : Bool) → IsTrue (a && (n && l)) → (n ≡ true → A) → A
-    few_behind true true l t step = step refl
-    few_behind true false l t step = cc
-    few_behind false n l t step = cc
-
--- the name of a cell that is found by a name is that name
-pub short_name : (cells : List Known) → OfNamed cells (λ k. length (known_at cells k).name ≤ 65000)
-short_name cells name k is found =
+-- what holds of each name holds of the name of the cell that is found by a name
+pub of_own_name : (P : List ℕ → Type 0) (cells : List Known) → ((name : List ℕ) → IsName name → P name) → OfNamed cells (λ k. P (known_at cells k).name)
+of_own_name P cells each name k is found =
     let test = (position-Some (λ (cell : Known). bytes_eq name cell.name) cells k (begun []) found).1 in
     let same : name ≡ (known_at cells k).name = (bytes_eq-Decides name (known_at cells k).name).0 test in
-    let few = few_bytes name is in
-    let long = ap (λ (text : List ℕ). length text) same in
-    omega (arith, few, long)
+    subst P same (each name is)
+
+-- ---- names
+
+both_true : (a b : Bool) → (a && b) ≡ true → (a ≡ true) × (b ≡ true)
+both_true true b e = (refl, e)
+both_true false b e = cc
+
+-- a name fits into a line
+pub short_name : (name : List ℕ) → IsName name → length name ≤ 65000
+short_name [] is = cc
+short_name (b ∷ bs) is =
+    let few = (both_true (nat_le (length bs) 31) (list_all is_name_byte bs) (both_true (is_ascii_alphabetic b) (nat_le (length bs) 31 && list_all is_name_byte bs) is).1).0 in
+    grind (arith, nat_tests, few)
+
+-- a byte that passes a test that a semicolon fails
+no_semicolon : (test : ℕ → Bool) → test 59 ≡ false → (b : ℕ) → test b ≡ true → b ≢ 59
+no_semicolon test fails b passes e = true≢false (sym passes ∙ (ap test e ∙ fails))
+
+plain_bytes : (bs : List ℕ) → list_all is_name_byte bs ≡ true → AllByRecursion (λ b. b ≢ 59) bs
+plain_bytes [] all = tt
+plain_bytes (b ∷ bs) all =
+    let h = both_true (is_name_byte b) (list_all is_name_byte bs) all in
+    (no_semicolon is_name_byte refl b h.0, plain_bytes bs h.1)
+
+-- the letters, digits and underscores of a name are no semicolons
+pub plain_name : (name : List ℕ) → IsName name → All (λ b. b ≢ 59) name
+plain_name [] is = cc
+plain_name (b ∷ bs) is =
+    let h = both_true (is_ascii_alphabetic b) (nat_le (length bs) 31 && list_all is_name_byte bs) is in
+    let rest = both_true (nat_le (length bs) 31) (list_all is_name_byte bs) h.1 in
+    all_of (λ c. c ≢ 59) (b ∷ bs) (no_semicolon is_ascii_alphabetic refl b h.0, plain_bytes bs rest.1)

@@ -84,22 +84,29 @@ above_at values v all = elim (cases_lt v (length values)) [
   | inr le ↦ subst (λ z. pos 0 ≤ℤ z) (sym (get_or_past values v (pos 0) le)) (omega (arith, ints))
 ]
 
--- no width or height is below 0
-pub sizes_above : (tech : Tech) (masters : List Master) (layouts : List Coords) → AreLaidOut tech masters layouts → (axis : Axis) → AreSizes (size_in axis layouts)
-sizes_above tech masters layouts laid axis m = elim (cases_lt m (length masters)) [
-  | inl lt ↦ above_at (values_along axis (layout_at layouts m)) 1 ((laid.each m lt).of_master.values_above axis)
-  | inr le ↦
-      let past : length layouts ≤ m = let n = laid.counted in omega (arith, n, le) in
-      subst (λ c. pos 0 ≤ℤ value_of (values_along axis c) 1) (sym (get_or_past layouts m no_layout past)) (none_at axis)
-]
+-- no width or height of layouts that are these is below 0
+pub sizes_above : (tech : Tech) (masters : List Master) (coords layouts : List Coords) → layouts ≡ coords → AreLaidOut tech masters coords → (axis : Axis) → AreSizes (size_in axis layouts)
+sizes_above tech masters coords layouts is of_coords axis m =
+    let L : List Coords → Type 0 = λ cs. AreLaidOut tech masters cs in
+    let laid : AreLaidOut tech masters layouts = subst L (sym is) of_coords in
+    elim (cases_lt m (length masters)) [
+      | inl lt ↦ above_at (values_along axis (layout_at layouts m)) 1 ((laid.each m lt).of_master.values_above axis)
+      | inr le ↦
+          let past : length layouts ≤ m = let n = laid.counted in omega (arith, n, le) in
+          subst (λ c. pos 0 ≤ℤ value_of (values_along axis c) 1) (sym (get_or_past layouts m no_layout past)) (none_at axis)
+    ]
   where
     none_at : (a : Axis) → pos 0 ≤ℤ value_of (values_along a no_layout) 1
     none_at X = omega (arith, ints)
     none_at Y = omega (arith, ints)
 
-pub finished : (tech : Tech) (plan : Plan) (masters : List Master) (axes : List Axis) (layouts : List Coords) → HasBothAxes axes → AreWellPlaced tech masters layouts axes
-    → ((axis : Axis) → Contains axes axis → LayoutsMeet axis tech plan masters layouts) → AreFinished tech plan masters layouts
-finished tech plan masters axes layouts both placed met = record { clean = λ m lt. (placed m lt).clean; meet = λ axis. met axis (both axis) }
+-- layouts that are these are finished
+pub finished : (tech : Tech) (plan : Plan) (masters : List Master) (axes : List Axis) (coords layouts : List Coords) → layouts ≡ coords → HasBothAxes axes
+    → AreWellPlaced tech masters coords axes → ((axis : Axis) → Contains axes axis → LayoutsMeet axis tech plan masters coords) → AreFinished tech plan masters layouts
+finished tech plan masters axes coords layouts is both placed met =
+    let F : List Coords → Type 0 = λ cs. AreFinished tech plan masters cs in
+    let f : AreFinished tech plan masters coords = record { clean = λ m lt. (placed m lt).clean; meet = λ axis. met axis (both axis) } in
+    subst F (sym is) f
 
 pub boxed : (tech : Tech) (masters : List Master) (axes : List Axis) (layouts : List Coords) → AreWellPlaced tech masters layouts axes → HaveBoxes layouts masters
 boxed tech masters axes layouts placed m d lt =

@@ -7,6 +7,7 @@ pub mod Counting
 pub mod PassLists
 pub mod Chosen
 pub mod Planned
+pub mod Standing
 pub mod Steps
 mod OneFile
 mod OneMaster

@@ -12,7 +12,7 @@ use Rattle.lam_geom.specs.Places.{IsPlacedBox}
 use Rattle.sym_items.specs.declared.items.Coords.{Coords}
 use Rattle.stick_parse.specs.declared.design.Design.{Design}
 use Rattle.stick_parse.specs.declared.design.GridText.{GridText}
-use Rattle.stick_parse.specs.Writable.{IsWritable}
+use Rattle.stick_parse.specs.Writable.{IsName, IsWritable}
 use Rattle.stick_cell.specs.Counts.{weight_of}
 use Rattle.stick_cell.specs.Known.{Known, cell_of, known_at}
 use Rattle.stick_cell.specs.Ports.{ports_of}
@@ -32,7 +32,7 @@ use Rattle.mask_out.specs.Pictures.{Drawing, drawing_of, drawing_in}
 use Rattle.cif_text.specs.Calls.{CanBeWritten}
 use Rattle.compact_run.specs.Designs.{HasShortName}
 use Rattle.compact_run.specs.Plans.{AreChosen, weights_of}
-use Rattle.compact_run.proofs.Chosen.{chosen, short_name}
+use Rattle.compact_run.proofs.Chosen.{chosen, of_own_name}
 use Rattle.compact_run.proofs.Weights.{fewer_parts, light_each}
 
 pub are_chosen : (cells : List Known) (design : Design) (plan : Plan) → IsWritable design → IsPlanOf cells design.grids plan → AreChosen cells plan
@@ -94,23 +94,22 @@ are_planned tech cells grids plan masters p are light same each seen =
 
 -- ---- names
 
-names_below : (cells : List Known) (masters : List Master) (ks : List ℕ) → map (λ (m : Master). m.cell) masters ≡ map (cell_at cells) ks
-    → AllByRecursion (λ k. length (known_at cells k).name ≤ 65000) ks → AllByRecursion HasShortName masters
-names_below cells [] ks same short = tt
-names_below cells (m ∷ masters) [] same short = cc
-names_below cells (m ∷ masters) (k ∷ ks) same short =
+names_below : (P : List ℕ → Type 0) (cells : List Known) (masters : List Master) (ks : List ℕ) → map (λ (m : Master). m.cell) masters ≡ map (cell_at cells) ks
+    → AllByRecursion (λ k. P (known_at cells k).name) ks → AllByRecursion (λ (m : Master). P m.cell.name) masters
+names_below P cells [] ks same each = tt
+names_below P cells (m ∷ masters) [] same each = cc
+names_below P cells (m ∷ masters) (k ∷ ks) same each =
     let cell : m.cell ≡ cell_at cells k = cc in
     let others : map (λ (z : Master). z.cell) masters ≡ map (cell_at cells) ks = cc in
-    let long = ap (λ (c : Cell). length c.name) cell in
-    let first = short.0 in
-    (omega (arith, long, first), names_below cells masters ks others short.1)
+    (subst P (sym (ap (λ (c : Cell). c.name) cell)) each.0, names_below P cells masters ks others each.1)
 
-pub are_named : (cells : List Known) (design : Design) (plan : Plan) (masters : List Master) → IsWritable design → IsPlanOf cells design.grids plan
-    → map (λ (m : Master). m.cell) masters ≡ map (cell_at cells) plan.masters → All HasShortName masters
-are_named cells design plan masters writable p same =
-    let S : ℕ → Type 0 = λ k. length (known_at cells k).name ≤ 65000 in
-    let all = subst (λ (ks : List ℕ). All S ks) (sym p.masters) (chosen S cells design.grids (short_name cells) writable.grids p.no_fault) in
-    all_of HasShortName masters (names_below cells masters plan.masters same (by_number S plan.masters 0 (λ i lt. All-get_or S plan.masters i 0 lt all)))
+-- what holds of each name holds of those of the masters
+pub are_named : (P : List ℕ → Type 0) → ((name : List ℕ) → IsName name → P name) → (cells : List Known) (design : Design) (plan : Plan) (masters : List Master) → IsWritable design
+    → IsPlanOf cells design.grids plan → map (λ (m : Master). m.cell) masters ≡ map (cell_at cells) plan.masters → All (λ (m : Master). P m.cell.name) masters
+are_named P each cells design plan masters writable p same =
+    let S : ℕ → Type 0 = λ k. P (known_at cells k).name in
+    let all = subst (λ (ks : List ℕ). All S ks) (sym p.masters) (chosen S cells design.grids (of_own_name P cells each) writable.grids p.no_fault) in
+    all_of (λ (m : Master). P m.cell.name) masters (names_below P cells masters plan.masters same (by_number S plan.masters 0 (λ i lt. All-get_or S plan.masters i 0 lt all)))
 
 -- ---- symbols
 

@@ -1,12 +1,12 @@
-use Rattle.std.proofs.Common.{List, ◌∙◌, sym, subst, arith}
+use Rattle.std.proofs.Common.{List, length, ap, ◌∙◌, subst, arith}
 use Rattle.std.proofs.lemmas.Int.{ints}
 use Rattle.std.proofs.lemmas.Result.{err_from_is_err_and}
 use Rattle.lam_geom.specs.declared.boxes.Axis.TheVariants.{X, Y}
 use Rattle.rule_table.proofs.Margins.{widest_positive}
 use Rattle.rule_table.proofs.Sound.{sound}
 use Rattle.sym_items.specs.declared.items.Coords.{Coords}
-use Rattle.grid_rules.specs.Rules.{AreFinished, AllKeepSpacing}
-use Rattle.pass_run.specs.Laid.{AreLaidOut}
+use Rattle.grid_rules.specs.Rules.{AllKeepSpacing}
+use Rattle.conductors.specs.Written.{HasSticksNets, text_of_layouts}
 use Rattle.compact_run.specs.Designs.{IsWithin}
 use Rattle.compact_run.proofs.Layouts.{stopped, too_large, finished, sizes_above, boxed, within_length}
 use Rattle.compact_run.proofs.layout.lay_out.Goals as goal
@@ -19,34 +19,29 @@ returns-in_err-passes-clause-refused c =
 pub grids_are_aligned-requires-clause-finished : goal.grids_are_aligned-requires-clause-finished
 grids_are_aligned-requires-clause-finished c =
     let q = c.in_ok-passes.ensures in
-    let F : List Coords → Type 0 = λ cs. AreFinished c.args.tech.now c.args.plan.now c.args.masters.now cs in
-    subst F (sym c.as_slice-layouts.ensures) (finished c.args.tech.now c.args.plan.now c.args.masters.now c.args.axes.now c.in_ok-passes.passes.coords c.requires.both q.placed q.met)
+    finished c.args.tech.now c.args.plan.now c.args.masters.now c.args.axes.now _ _ c.as_slice-layouts.ensures c.requires.both q.placed q.met
 
 pub all_keep_spacing-requires-clause-finished : goal.all_keep_spacing-requires-clause-finished
 all_keep_spacing-requires-clause-finished c =
     let q = c.in_ok-passes.ensures in
-    let F : List Coords → Type 0 = λ cs. AreFinished c.args.tech.now c.args.plan.now c.args.masters.now cs in
-    subst F (sym c.as_slice-layouts.ensures) (finished c.args.tech.now c.args.plan.now c.args.masters.now c.args.axes.now c.in_ok-passes.passes.coords c.requires.both q.placed q.met)
+    finished c.args.tech.now c.args.plan.now c.args.masters.now c.args.axes.now _ _ c.as_slice-layouts.ensures c.requires.both q.placed q.met
+
+pub written_nets_are_the_sticks-requires-clause-finished : goal.written_nets_are_the_sticks-requires-clause-finished
+written_nets_are_the_sticks-requires-clause-finished c =
+    let q = c.in_ok-passes.ensures in
+    finished c.args.tech.now c.args.plan.now c.args.masters.now c.args.axes.now _ _ c.as_slice-layouts.ensures c.requires.both q.placed q.met
 
 pub judge_extent-requires-clause-widths : goal.judge_extent-requires-clause-widths
-judge_extent-requires-clause-widths c =
-    let L : List Coords → Type 0 = λ cs. AreLaidOut c.args.tech.now c.args.masters.now cs in
-    sizes_above c.args.tech.now c.args.masters.now c.as_slice-layouts.result.now (subst L (sym c.as_slice-layouts.ensures) c.in_ok-passes.ensures.laid) X
+judge_extent-requires-clause-widths c = sizes_above c.args.tech.now c.args.masters.now _ _ c.as_slice-layouts.ensures c.in_ok-passes.ensures.laid X
 
 pub judge_extent-requires-clause-heights : goal.judge_extent-requires-clause-heights
-judge_extent-requires-clause-heights c =
-    let L : List Coords → Type 0 = λ cs. AreLaidOut c.args.tech.now c.args.masters.now cs in
-    sizes_above c.args.tech.now c.args.masters.now c.as_slice-layouts.result.now (subst L (sym c.as_slice-layouts.ensures) c.in_ok-passes.ensures.laid) Y
+judge_extent-requires-clause-heights c = sizes_above c.args.tech.now c.args.masters.now _ _ c.as_slice-layouts.ensures c.in_ok-passes.ensures.laid Y
 
 pub wholes_bound_places-requires-clause-widths : goal.wholes_bound_places-requires-clause-widths
-wholes_bound_places-requires-clause-widths c =
-    let L : List Coords → Type 0 = λ cs. AreLaidOut c.args.tech.now c.args.masters.now cs in
-    sizes_above c.args.tech.now c.args.masters.now c.as_slice-layouts.result.now (subst L (sym c.as_slice-layouts.ensures) c.in_ok-passes.ensures.laid) X
+wholes_bound_places-requires-clause-widths c = sizes_above c.args.tech.now c.args.masters.now _ _ c.as_slice-layouts.ensures c.in_ok-passes.ensures.laid X
 
 pub wholes_bound_places-requires-clause-heights : goal.wholes_bound_places-requires-clause-heights
-wholes_bound_places-requires-clause-heights c =
-    let L : List Coords → Type 0 = λ cs. AreLaidOut c.args.tech.now c.args.masters.now cs in
-    sizes_above c.args.tech.now c.args.masters.now c.as_slice-layouts.result.now (subst L (sym c.as_slice-layouts.ensures) c.in_ok-passes.ensures.laid) Y
+wholes_bound_places-requires-clause-heights c = sizes_above c.args.tech.now c.args.masters.now _ _ c.as_slice-layouts.ensures c.in_ok-passes.ensures.laid Y
 
 pub wholes_bound_places-requires-clause-widest : goal.wholes_bound_places-requires-clause-widest
 wholes_bound_places-requires-clause-widest c = let w = widest_positive c.args.tech.now.numbers (sound _ c.args.tech.now.sound) in omega (arith, ints, w)
@@ -56,6 +51,17 @@ wholes_bound_places-requires-clause-narrow c = within_length c.args.tech.now _ c
 
 pub wholes_bound_places-requires-clause-low : goal.wholes_bound_places-requires-clause-low
 wholes_bound_places-requires-clause-low c = within_length c.args.tech.now _ c.in_ok-judge_extent.ensures.within.height
+
+pub written_nets_are_the_sticks-requires-clause-fit : goal.written_nets_are_the_sticks-requires-clause-fit
+written_nets_are_the_sticks-requires-clause-fit c =
+    let within = c.in_ok-judge_extent.ensures.within in
+    record {
+      counted = ap (λ (cs : List Coords). length cs) c.as_slice-layouts.ensures ∙ c.in_ok-passes.ensures.laid.counted;
+      named = c.requires.named;
+      stand = c.requires.stand;
+      width = within.width;
+      height = within.height;
+    }
 
 pub returns-in_err-judge_extent-clause-refused : goal.returns-in_err-judge_extent-clause-refused
 returns-in_err-judge_extent-clause-refused c =
@@ -71,11 +77,13 @@ returns-clause-laid_out c =
     let is = c.as_slice-layouts.ensures ∙ q.last in
     let W : List Coords → Type 0 = λ cs. IsWithin c.args.tech.now c.args.plan.now cs in
     let S : List Coords → Type 0 = λ cs. AllKeepSpacing c.args.tech.now c.args.plan.now c.args.masters.now cs in
+    let N : List Coords → Type 0 = λ cs. HasSticksNets c.args.tech.now c.args.plan.now c.args.masters.now cs (text_of_layouts c.args.tech.now c.args.plan.now c.args.masters.now cs) in
     record {
       made = record { clean = c.in_ok-judge_starts.ensures.clean; on_axes = q.axes; passes = q.passes };
       sound = q.sound_passes;
       within = subst W is c.in_ok-judge_extent.ensures.within;
       spaced = subst S is c.all_keep_spacing.ensures;
+      nets = subst N is c.written_nets_are_the_sticks.ensures;
     }
 
 pub returns-clause-boxes : goal.returns-clause-boxes

@@ -1,9 +1,11 @@
-use Rattle.std.proofs.Common.{ℕ, ◌<◌, List, length, sym, subst}
+use Rattle.std.proofs.Common.{◌≢◌, ℕ, ◌<◌, ◌≤◌, List, length, sym, subst}
 use Rattle.std.specs.Prelude.{All}
 use Rattle.stick_parse.specs.declared.design.Design.{Design}
 use Rattle.stick_parse.specs.Writable.{IsWritable}
 use Rattle.stick_cell.specs.Tables.{known_of}
+use Rattle.compact_run.proofs.Chosen.{short_name, plain_name}
 use Rattle.compact_run.proofs.Planned.{are_chosen, are_planned, are_named}
+use Rattle.compact_run.proofs.Standing.{all_stand}
 use Rattle.compact_run.proofs.masters.masters_of.Goals as goal
 
 pub judge_size-requires-clause-chosen : goal.judge_size-requires-clause-chosen
@@ -29,5 +31,15 @@ returns-clause-planned c =
 pub returns-clause-named : goal.returns-clause-named
 returns-clause-named c =
     let W : Design → Type 0 = λ d. IsWritable d in
-    are_named (known_of c.args.planned.now.cells) c.args.design.now c.args.planned.now.plan c.in_ok-made.field-0.items (subst W c.requires.of.1 c.requires.resolved.writable)
-    c.requires.planned.planned (rw c.as_slice.ensures at c.in_ok-made.ensures.cells)
+    are_named (λ name. length name ≤ 65000) short_name (known_of c.args.planned.now.cells) c.args.design.now c.args.planned.now.plan c.in_ok-made.field-0.items
+    (subst W c.requires.of.1 c.requires.resolved.writable) c.requires.planned.planned (rw c.as_slice.ensures at c.in_ok-made.ensures.cells)
+
+pub returns-clause-plain : goal.returns-clause-plain
+returns-clause-plain c =
+    let W : Design → Type 0 = λ d. IsWritable d in
+    are_named (λ name. All (λ b. b ≢ 59) name) plain_name (known_of c.args.planned.now.cells) c.args.design.now c.args.planned.now.plan c.in_ok-made.field-0.items
+    (subst W c.requires.of.1 c.requires.resolved.writable) c.requires.planned.planned (rw c.as_slice.ensures at c.in_ok-made.ensures.cells)
+
+pub returns-clause-stand : goal.returns-clause-stand
+returns-clause-stand c =
+    all_stand (known_of c.args.planned.now.cells) c.args.design.now.grids c.args.planned.now.plan c.in_ok-made.field-0.items c.requires.planned.planned (rw c.as_slice.ensures at c.in_ok-made.ensures.cells)
