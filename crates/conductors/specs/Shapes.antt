@@ -1,5 +1,5 @@
 -- The boxes of all instances, one by one, by the items that they show.
-use Rattle.std.specs.Prelude.{◌≡◌, ℕ, ◌<◌, ℤ, Option, Some, None, List, length, map, filter, flat_map, slice_get}
+use Rattle.std.specs.Prelude.{◌≡◌, ℕ, Some, List, length, map, filter, flat_map, slice_get}
 use Rattle.std.specs.List.{range_with_len}
 use Rattle.std.specs.Option.{unwrap_or}
 use Rattle.lam_geom.specs.declared.boxes.Axis.TheVariants.{X, Y}

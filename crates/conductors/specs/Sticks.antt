@@ -1,5 +1,5 @@
 -- The netlist of the sticks: the pieces of all instances with the nets of the parts that they belong to, and a device for each transistor.
-use Rattle.std.specs.Prelude.{◌≡◌, ◌↔◌, ℕ, ◌<◌, ◌&&◌, nat_lt, ℤ, Bool, true, false, All, Contains, Some, List, length, map, flat_map, slice_get, slice_index_or}
+use Rattle.std.specs.Prelude.{◌≡◌, ◌↔◌, ℕ, ◌&&◌, nat_lt, ℤ, Bool, true, false, All, Contains, Some, List, length, map, flat_map, slice_get, slice_index_or}
 use Rattle.std.specs.List.{range_with_len}
 use Rattle.lam_geom.specs.declared.boxes.MaskBox.{MaskBox}
 use Rattle.rule_table.specs.declared.technology.Tech.{Tech}
@@ -30,7 +30,7 @@ use Rattle.net_extract.specs.Places.{Place, place, parts_on}
 use Rattle.grid_rules.specs.Rules.{AreNetsOf}
 use Rattle.conductors.specs.Conductors.{Drawn, item_of, sides_of_drawn}
 use Rattle.conductors.specs.Meetings.{at, master_of, IsOwned, IsTransistorAt}
-use Rattle.conductors.specs.Shapes.{shapes_of, Shows, layer_of, sides_in_grains, AreShapes}
+use Rattle.conductors.specs.Shapes.{shapes_of, Shows, layer_of, sides_in_grains}
 
 -- ---- pieces
 
