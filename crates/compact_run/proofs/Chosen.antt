@@ -1,6 +1,6 @@
 -- What holds of each cell that a design's grids name.
 use Rattle.std.proofs.Common.{◌≡◌, ◌≢◌, ℕ, ◌≤◌, Bool, true, false, Option, Some, None, List, [], ◌∷◌, length, get_or, refl, sym, ap, ◌∙◌, subst, arith}
-use Rattle.std.specs.Prelude.{All, nat_le, ◌&&◌, bytes_eq, is_none, unwrap_or, IsTrue, if◌then◌else◌}
+use Rattle.std.specs.Prelude.{All, nat_le, ◌&&◌, bytes_eq, is_none, unwrap_or, if◌then◌else◌}
 use Rattle.std.specs.List.{AllByRecursion, flat_map, list_all}
 use Rattle.std.specs.Char.{is_ascii_alphabetic}
 use Rattle.std.specs.Option.{option_or}

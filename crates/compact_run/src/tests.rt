@@ -8,8 +8,10 @@ mod layouts;
 mod netlists;
 mod pictures;
 
-ghost use Rattle.std.specs.Prelude.{IfOk};
+ghost use Rattle.std.specs.Prelude.{All, IfOk};
 ghost use Rattle.pitch_join.specs.Masters.{ArePlanned};
+ghost use Rattle.conductors.specs.Written.{AllStand};
+ghost use Rattle.compact_run.specs.Designs.{HasPlainName};
 
 use crate::masters::masters_of;
 use crate::planning::{Planned, plan_of};
@@ -55,7 +57,9 @@ fn answer(alloc: Global, case: &Case) -> Result<(Status, MemSink, MemSink), Allo
 
 // The plan and the masters of a design's text.
 fn planned(alloc: Global, tech: &Tech, text: &[u8]) -> Result<(Plan, Vec<Master>), Fail>
-    ensures { IfOk result (λ p. ArePlanned tech.now p.0 p.1.items) }
+    ensures planned { IfOk result (λ p. ArePlanned tech.now p.0 p.1.items) }
+    ensures named { IfOk result (λ p. All HasPlainName p.1.items) }
+    ensures stand { IfOk result (λ p. AllStand p.0 p.1.items) }
 {
     if text.len() > 1 << 20 {
         return Err("too long")?;

@@ -1,10 +1,10 @@
-use Rattle.std.proofs.Common.{◌≡◌, ℕ, ◌<◌, ◌≤◌, List, [], ◌∷◌, length, map, get_or, refl, sym, ap, ◌∙◌, subst, arith}
+use Rattle.std.proofs.Common.{◌≡◌, ℕ, ◌<◌, ◌≤◌, List, [], ◌∷◌, length, map, get_or, refl, sym, subst, arith}
 use Rattle.std.specs.Prelude.{All, Contains, ◌^◌}
 use Rattle.std.proofs.lemmas.List.{length-map}
 use Rattle.lam_geom.specs.declared.boxes.Axis.{Axis}
 use Rattle.lam_geom.specs.declared.boxes.Axis.TheVariants.{X, Y}
 use Rattle.mask_out.specs.declared.picture.Symbol.{Symbol}
-use Rattle.mask_out.specs.Masks.{Mask, mask_of}
+use Rattle.mask_out.specs.Masks.{mask_of}
 use Rattle.mask_out.specs.Pictures.{Drawing, LiesWithin, IsCallOf, drawing_of}
 use Rattle.compact_run.proofs.Counting.{all_of_one}
 use Rattle.compact_run.proofs.tests.pictures.boxes_of.Goals as goal
