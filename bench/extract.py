@@ -7,7 +7,7 @@ grow with the boxes, whatever their order.
   flat       the same boxes without symbols or calls, in the order of the calls and in a shuffled order
 """
 import os, random, re, resource, subprocess, sys, tempfile
-from compact import PROGRAM, TECH
+from compact import PROGRAM, TECH, text as design_text
 from grids import inverters
 
 
@@ -40,8 +40,7 @@ def flat(cif):
 def main():
     with tempfile.TemporaryDirectory() as folder:
         path = lambda name, text: (open(os.path.join(folder, name), "w").write(text), os.path.join(folder, name))[1]
-        long = path("long", "sticks 1\ncell e\nend\n#" + "x" * (2 ** 20 - 48) + "\ngrid\nrow e\nend\n")
-        print("fmt of 2^20 bytes  %.4f s" % timed(["fmt", long])[0])
+        print("fmt of 2^20 bytes  %.4f s" % timed(["fmt", path("long", design_text(2 ** 20))])[0])
         for side in (21, 60, 170):
             cif = timed(["compact", path("design", inverters(side)), "--tech", TECH])[1].decode()
             for name, text in [("inverters", cif), ("flat", "".join(flat(cif)) + "E\n"), ("shuffled", None)]:
