@@ -75,7 +75,7 @@ one_netlist tech text g a b h k =
 proper_is_no_cause : (tech : Tech) (text : List ℕ) → Premises text → (output : List ℕ) (a b : ℕ) → HasNetlist tech text output → IsNotProper tech text a b → ⊥
 proper_is_no_cause tech text g output a b h k =
     let boxes : k.boxes ≡ h.boxes = boxes_same text g k.boxes h.boxes k.are_boxes h.are_boxes in
-    proper_has_none tech h.boxes a b h.proper (subst (λ (bs : List MaskBox). IsBadPair tech bs a b) boxes k.pair.bad)
+    proper_has_none tech h.boxes a b h.extracted.proper (subst (λ (bs : List MaskBox). IsBadPair tech bs a b) boxes k.pair.bad)
 
 one_pair : (tech : Tech) (text : List ℕ) → Premises text → (a b c d : ℕ) → IsNotProper tech text a b → IsNotProper tech text c d → NotProper a b ≡ NotProper c d
 one_pair tech text g a b c d h k =

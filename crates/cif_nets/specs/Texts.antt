@@ -5,7 +5,7 @@ use Rattle.rule_table.specs.declared.technology.Tech.{Tech}
 use Rattle.cif_read.specs.Files.{drawn_of, most_boxes}
 use Rattle.cif_read.specs.Meaning.{Means, IsFirstFault}
 use Rattle.cif_read.specs.Sheets.{Sheet, flattened}
-use Rattle.crossings.specs.Crossings.{AreProper, IsFirstBadPair}
+use Rattle.crossings.specs.Crossings.{IsFirstBadPair}
 use Rattle.net_extract.specs.declared.netlist.Netlist.{Netlist}
 use Rattle.net_extract.specs.Extraction.{IsExtracted}
 use Rattle.net_list.specs.Lines.{text_of_netlist}
@@ -25,11 +25,10 @@ pub record HasTooManyBoxes (text : List ℕ) : Type 0 where
   pub means : Means text sheet
   pub many : most_boxes < length (flattened sheet)
 
--- A text has this netlist: poly and diffusion of its boxes cross properly, and this is the text of what is extracted from them.
+-- a text has this netlist: this is the text of what is extracted from its boxes
 pub record HasNetlist (tech : Tech) (text output : List ℕ) : Type 0 where
   pub boxes : List MaskBox
   pub are_boxes : HasBoxes text boxes
-  pub proper : AreProper tech boxes
   pub list : Netlist
   pub extracted : IsExtracted tech boxes list
   pub written : output ≡ text_of_netlist boxes list

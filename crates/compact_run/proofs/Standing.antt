@@ -20,7 +20,7 @@ use Rattle.grid_rules.proofs.Lists.{in_map, out_of_flat_map}
 use Rattle.grid_plan.specs.Numbered.{is_same_number, master_of, masters_in, numbers_in_row, numbers_in_grid, planned_rows}
 use Rattle.grid_plan.specs.Planned.{IsPlanOf}
 use Rattle.grid_plan.proofs.Placing.{distinct_more}
-use Rattle.conductors.specs.Written.{AllStand}
+use Rattle.written_masks.specs.Written.{AllStand}
 
 -- ---- the first places in a list have different numbers
 

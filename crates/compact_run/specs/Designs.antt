@@ -17,7 +17,7 @@ use Rattle.plan_model.specs.declared.plan.Plan.{Plan}
 use Rattle.plan_model.specs.Instances.{whole_width, whole_height}
 use Rattle.plan_model.specs.Plan.{grids_of}
 use Rattle.pitch_join.specs.Masters.{master_at}
-use Rattle.conductors.specs.Written.{HasSticksNets}
+use Rattle.written_masks.specs.Written.{HasSticksNets}
 use Rattle.grid_rules.specs.Rules.{AllKeepSpacing}
 use Rattle.pass_run.specs.declared.step.Step.{Step}
 use Rattle.pass_run.specs.declared.passes.PassFault.{PassFault}

@@ -13,7 +13,7 @@ ghost use Rattle.pass_run.specs.Laid.{StartsClean};
 ghost use Rattle.mask_out.specs.Pictures.{HaveBoxes, IsDrawable};
 ghost use Rattle.compact_run.specs.Limits.{most_passes};
 ghost use Rattle.compact_run.specs.Refusals.{Refused};
-ghost use Rattle.conductors.specs.Written.{AllStand};
+ghost use Rattle.written_masks.specs.Written.{AllStand};
 ghost use Rattle.compact_run.specs.Designs.{ArePlaced, HasBothAxes, HasPlainName, RefusesStart, RefusesMasters, last_layouts, passes_text};
 
 use crate::clash::clash_line;
@@ -21,7 +21,6 @@ use crate::extent::judge_extent;
 use crate::refusal::Refusal;
 use crate::status::Status;
 use coarse_grid::{find_clash, near_share_a_point, start, start_is_a_layout};
-use conductors::written_nets_are_the_sticks;
 use expand::{Master, master_is_lawful};
 use grid_rules::{all_keep_spacing, grids_are_aligned};
 use lam_geom::Axis;
@@ -30,6 +29,7 @@ use pass_run::{Passes, run_passes};
 use plan_model::Plan;
 use rule_table::Tech;
 use std::alloc::Global;
+use written_masks::written_nets_are_the_sticks;
 
 // Sees that the start layout of a master, which has this number, is clean.
 fn judge_start(alloc: Global, tech: &Tech, master: &Master, number: u32) -> Result<(), Refusal>

@@ -9,7 +9,7 @@ ghost use Rattle.expand.specs.Items.{AreItems};
 ghost use Rattle.expand.specs.Masters.{IsMaster};
 ghost use Rattle.pitch_join.specs.Masters.{ArePlanned};
 ghost use Rattle.plan_model.specs.Rows.{rows_of};
-ghost use Rattle.conductors.specs.Written.{AllStand};
+ghost use Rattle.written_masks.specs.Written.{AllStand};
 ghost use Rattle.compact_run.specs.Designs.{HasPlainName, HasShortName};
 ghost use Rattle.compact_run.specs.Plans.{AreChosen, AreMastersOf, IsLightPlan, IsPlanned, RefusesPlan, RefusesSize};
 ghost use Rattle.compact_run.specs.Refusals.{Refused};

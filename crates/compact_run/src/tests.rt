@@ -10,7 +10,7 @@ mod pictures;
 
 ghost use Rattle.std.specs.Prelude.{All, IfOk};
 ghost use Rattle.pitch_join.specs.Masters.{ArePlanned};
-ghost use Rattle.conductors.specs.Written.{AllStand};
+ghost use Rattle.written_masks.specs.Written.{AllStand};
 ghost use Rattle.compact_run.specs.Designs.{HasPlainName};
 
 use crate::masters::masters_of;

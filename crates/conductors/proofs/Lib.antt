@@ -32,9 +32,3 @@ pub mod NetlistLinks
 pub mod NetlistNets
 pub mod PictureLists
 pub mod PictureShapes
-pub mod WrittenExtents
-pub mod WrittenWholes
-pub mod WrittenSymbols
-pub mod WrittenPictures
-pub mod WrittenBoxes
-pub mod WrittenNets

@@ -227,6 +227,7 @@ nets_are_the_sticks tech plan masters layouts boxes done shapes = record {
         let cs : List Crossing = h.transistors in
         let are = h.are_transistors in
         record {
+          proper = are_proper tech plan masters layouts boxes done shapes;
           crossings = cs;
           are_crossings = transistors_are tech plan masters layouts boxes done shapes cs are;
           netlist = to_boxes tech plan masters layouts boxes done shapes cs are h.nets h.are_nets list h.netlist;

@@ -26,14 +26,13 @@ use Rattle.plan_model.specs.Plan.{grids_of}
 use Rattle.plan_model.specs.Rows.{row_at}
 use Rattle.pitch_join.specs.Masters.{ArePlanned, master_at, no_master, ports_of_masters, master_ports}
 use Rattle.grid_rules.specs.Rules.{items_at}
-use Rattle.cif_meaning.proofs.PictureLines.{all_every}
 use Rattle.mask_out.specs.declared.picture.Call.{Call}
 use Rattle.mask_out.specs.Masks.{Mask, layer_drawn, is_drawn, masks_on, mask_layers, masks_in}
 use Rattle.mask_out.specs.Pictures.{Drawing, drawing_in, drawings_in, call_at, shifted, masks_at, masks_called, no_drawing}
 use Rattle.conductors.specs.Conductors.{Drawn}
 use Rattle.conductors.specs.Meetings.{at}
 use Rattle.conductors.specs.Shapes.{items_on, shapes_at, mask_of_shape, PictureShowsShapes}
-use Rattle.conductors.proofs.PictureLists.{same_pieces, same_images, image_of_pieces, picked_images, picked_pass, by_numbers}
+use Rattle.conductors.proofs.PictureLists.{all_every, same_pieces, same_images, image_of_pieces, picked_images, picked_pass, by_numbers}
 
 -- ---- the spots of the grids are instances
 

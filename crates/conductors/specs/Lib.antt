@@ -2,4 +2,3 @@ pub mod Conductors
 pub mod Meetings
 pub mod Shapes
 pub mod Sticks
-pub mod Written

@@ -15,7 +15,7 @@ use Rattle.crossings.specs.declared.crossing.Crossing.{Crossing}
 use Rattle.crossings.specs.declared.crossing.CrossingFault.{CrossingFault}
 use Rattle.crossings.specs.declared.crossing.CrossingFault.TheVariants as crossing
 use Rattle.crossings.specs.Boxes.{AreSearchable, IsCommon, area_at, no_box}
-use Rattle.crossings.specs.Crossings.{AreCrossings, IsCrossing}
+use Rattle.crossings.specs.Crossings.{AreProper, AreCrossings, IsCrossing}
 use Rattle.crossings.specs.Crossings as found
 use Rattle.net_extract.specs.declared.netlist.Netlist.{Netlist}
 use Rattle.net_extract.specs.declared.netlist.Piece.{Piece}
@@ -135,9 +135,9 @@ ranges_from count placed pieces given starts s e same =
 
 -- numbers by lists that say exactly the links make the netlist
 pub netlist_made : (tech : Tech) (boxes : List MaskBox) (crossings : List Crossing) (placed : List Placed) (starts : List ℕ) (lists given : List (SmallVec ℕ)) (nets : List ℕ) (list : Netlist)
-    → AreCrossings tech boxes crossings → ArePieces boxes crossings placed starts → given ≡ lists → AreLinks tech boxes crossings lists → AreNumbers given nets
+    → AreProper tech boxes → AreCrossings tech boxes crossings → ArePieces boxes crossings placed starts → given ≡ lists → AreLinks tech boxes crossings lists → AreNumbers given nets
     → map place_of list.pieces ≡ map stand_of placed → nets_of list.pieces ≡ nets → list.nets ≡ next_net nets → list.devices ≡ map (device_of list.pieces) crossings → IsExtracted tech boxes list
-netlist_made tech boxes crossings placed starts lists given nets list are p same links numbers e_places e_nets e_count e_devices =
+netlist_made tech boxes crossings placed starts lists given nets list proper are p same links numbers e_places e_nets e_count e_devices =
     let Q : List (SmallVec ℕ) → Type 0 = λ ls. AreNumbers ls nets in
     let are_numbers : AreNumbers lists nets = subst Q same numbers in
     let n = links.counted in
@@ -154,6 +154,7 @@ netlist_made tech boxes crossings placed starts lists given nets list are p same
     ) in
     let all : Made (nets_of list.pieces) = subst Made (sym e_nets) made in
     record {
+      proper = proper;
       crossings = crossings;
       are_crossings = are;
       netlist = record {

@@ -9,7 +9,7 @@ use Rattle.rule_table.specs.declared.technology.Tech.{Tech}
 use Rattle.graph_search.specs.Netting.{Reaches}
 use Rattle.crossings.specs.declared.crossing.Crossing.{Crossing}
 use Rattle.crossings.specs.Boxes.{area_at, layer_at, IsOn, other}
-use Rattle.crossings.specs.Crossings.{IsBuriedPair, AreCrossings, IsFirstBadPair}
+use Rattle.crossings.specs.Crossings.{IsBuriedPair, AreProper, AreCrossings, IsFirstBadPair}
 use Rattle.net_extract.specs.declared.netlist.ExtractFault.{ExtractFault}
 use Rattle.net_extract.specs.declared.netlist.ExtractFault.TheVariants.{NotProper, OutOfMemory}
 use Rattle.net_extract.specs.declared.netlist.Netlist.{Netlist}
@@ -72,8 +72,9 @@ pub record IsLink (tech : Tech) (boxes : List MaskBox) (crossings : List Crossin
 
 -- ---- the netlist
 
--- what is extracted from boxes whose crossings are proper: chains of links make nets
+-- what is extracted from boxes whose poly and diffusion cross properly: chains of links make nets
 pub record IsExtracted (tech : Tech) (boxes : List MaskBox) (list : Netlist) : Type 0 where
+  pub proper : AreProper tech boxes
   pub crossings : List Crossing
   pub are_crossings : AreCrossings tech boxes crossings
   pub netlist : IsNetlistOf (places_of crossings boxes) (Reaches (IsLink tech boxes crossings)) crossings list

@@ -16,6 +16,7 @@ mod placing;
 #[cfg(test)]
 mod tests;
 
+pub use devices::devices_of;
 pub use extraction::extract;
 pub use laws::netlist_is_determined;
 pub use netlist::{Device, ExtractFault, Netlist, Part, Piece};

@@ -6,7 +6,7 @@ use Rattle.rule_table.proofs.Margins.{widest_positive}
 use Rattle.rule_table.proofs.Sound.{sound}
 use Rattle.sym_items.specs.declared.items.Coords.{Coords}
 use Rattle.grid_rules.specs.Rules.{AllKeepSpacing}
-use Rattle.conductors.specs.Written.{HasSticksNets, text_of_layouts}
+use Rattle.written_masks.specs.Written.{HasSticksNets, text_of_layouts}
 use Rattle.compact_run.specs.Designs.{IsWithin}
 use Rattle.compact_run.proofs.Layouts.{stopped, too_large, finished, sizes_above, boxed, within_length}
 use Rattle.compact_run.proofs.layout.lay_out.Goals as goal

@@ -46,7 +46,7 @@ returns-clause-extracted c =
     let devices : c.in_ok-devices.devices.items ≡ map (device_of pieces) crossings =
     c.in_ok-devices.ensures ∙ ap (λ (ps : List Piece). map (device_of ps) c.as_slice-6.result.now) c.as_slice-4.ensures.value
     ∙ ap (map (device_of pieces)) (c.as_slice-6.ensures.value ∙ c.in_ok-split.ensures.crossings) in
-    netlist_made tech boxes crossings placed c.in_ok-split.split.starts.items lists c.as_slice.result.now nets (record { pieces = c.from_vec.result; nets = c.in_ok-nets.count; devices = c.from_vec-2.result }) c.in_ok-found.ensures.crossings c.in_ok-split.ensures.pieces c.as_slice.ensures.value
+    netlist_made tech boxes crossings placed c.in_ok-split.split.starts.items lists c.as_slice.result.now nets (record { pieces = c.from_vec.result; nets = c.in_ok-nets.count; devices = c.from_vec-2.result }) c.in_ok-found.ensures.proper c.in_ok-found.ensures.crossings c.in_ok-split.ensures.pieces c.as_slice.ensures.value
     (subst L c.in_ok-split.ensures.crossings c.in_ok-lists.ensures) c.in_ok-nets.ensures.numbers
     (ap (map place_of) c.from_vec.ensures ∙ places) (ap nets_of c.from_vec.ensures ∙ numbers) c.in_ok-nets.ensures.count
     (c.from_vec-2.ensures ∙ devices ∙ ap (λ (ps : List Piece). map (device_of ps) crossings) (sym c.from_vec.ensures))

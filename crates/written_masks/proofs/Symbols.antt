@@ -37,9 +37,9 @@ use Rattle.cif_meaning.specs.Written.{IsUnit, IsWritableMask, IsWritableDrawing}
 use Rattle.cif_meaning.proofs.Extents.{unit_of_size, LiesInside, mask_inside}
 use Rattle.cif_meaning.proofs.LayersApart.{masks_by_layer}
 use Rattle.cif_meaning.proofs.PictureLines.{all_every}
-use Rattle.conductors.specs.Written.{unit_of, FitIntoText}
-use Rattle.conductors.proofs.WrittenExtents.{HasExtents, long_along, items_long}
-use Rattle.conductors.proofs.WrittenWholes.{StandsInside, stands_inside}
+use Rattle.written_masks.specs.Written.{unit_of, FitIntoText}
+use Rattle.written_masks.proofs.Extents.{HasExtents, long_along, items_long}
+use Rattle.written_masks.proofs.Wholes.{StandsInside, stands_inside}
 
 -- finished layouts that fit into a text
 pub record FitFinished (tech : Tech) (plan : Plan) (masters : List Master) (layouts : List Coords) : Type 0 where

@@ -19,9 +19,9 @@ use Rattle.mask_out.specs.declared.picture.Call.{Call}
 use Rattle.mask_out.specs.Pictures.{drawing_in, drawings_in, call_at, calls_of}
 use Rattle.cif_meaning.specs.Written.{IsWritableDrawing, IsWritableCall, IsWritablePicture}
 use Rattle.cif_meaning.proofs.Extents.{StaysInside, call_inside}
-use Rattle.conductors.specs.Written.{unit_of}
+use Rattle.written_masks.specs.Written.{unit_of}
 use Rattle.conductors.proofs.PictureShapes.{spots_are, master_there}
-use Rattle.conductors.proofs.WrittenSymbols.{FitFinished, width_of_whole, height_of_whole, is_unit, size_low, all_inside, symbol_writable}
+use Rattle.written_masks.proofs.Symbols.{FitFinished, width_of_whole, height_of_whole, is_unit, size_low, all_inside, symbol_writable}
 
 pub drawings_counted : (masters : List Master) (layouts : List Coords) → length layouts ≡ length masters → length (drawings_in masters layouts) ≡ length masters
 drawings_counted masters layouts counted =

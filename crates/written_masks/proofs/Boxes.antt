@@ -22,7 +22,7 @@ use Rattle.cif_read.specs.Sheets as sheets
 use Rattle.cif_meaning.specs.Written.{IsUnit, IsWritableMask, IsWritableCall, IsWritablePicture, in_grains, drawn_mask}
 use Rattle.conductors.specs.Conductors.{Drawn}
 use Rattle.conductors.specs.Shapes.{shapes_of, mask_of_shape, AreShapes}
-use Rattle.conductors.specs.Written.{unit_of}
+use Rattle.written_masks.specs.Written.{unit_of}
 
 -- ---- masks whose sides are in order
 

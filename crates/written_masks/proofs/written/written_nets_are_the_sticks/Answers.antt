@@ -1,6 +1,6 @@
 -- The text of finished layouts means boxes that show the items; the law on extracted nets speaks of such boxes.
-use Rattle.conductors.proofs.WrittenNets.{text_has_nets}
-use Rattle.conductors.proofs.written.written_nets_are_the_sticks.Goals as goal
+use Rattle.written_masks.proofs.Nets.{text_has_nets}
+use Rattle.written_masks.proofs.written.written_nets_are_the_sticks.Goals as goal
 
 pub returns : goal.returns
 returns c =

@@ -1,9 +1,9 @@
 //! That the written text has the sticks' nets.
 ghost use Rattle.pitch_join.specs.Masters.{ArePlanned};
 ghost use Rattle.grid_rules.specs.Rules.{AreFinished};
-ghost use Rattle.conductors.specs.Written.{FitIntoText, HasSticksNets, text_of_layouts};
+ghost use Rattle.written_masks.specs.Written.{FitIntoText, HasSticksNets, text_of_layouts};
 
-use crate::netlists::extracted_nets_are_the_sticks;
+use conductors::extracted_nets_are_the_sticks;
 use expand::Master;
 use plan_model::Plan;
 use rule_table::Tech;

@@ -16,11 +16,11 @@ use Rattle.cif_meaning.proofs.FlatPictures.{flat_picture}
 use Rattle.cif_meaning.proofs.MeantPictures.{picture_meant}
 use Rattle.conductors.specs.Shapes.{AreShapes}
 use Rattle.conductors.specs.Sticks.{NetsAreTheSticks}
-use Rattle.conductors.specs.Written.{unit_of, text_of_layouts, HasSticksNets}
+use Rattle.written_masks.specs.Written.{unit_of, text_of_layouts, HasSticksNets}
 use Rattle.conductors.proofs.PictureShapes.{picture_shows}
-use Rattle.conductors.proofs.WrittenBoxes.{picture_drawn, boxes_show}
-use Rattle.conductors.proofs.WrittenPictures.{picture_writable}
-use Rattle.conductors.proofs.WrittenSymbols.{FitFinished}
+use Rattle.written_masks.proofs.Boxes.{picture_drawn, boxes_show}
+use Rattle.written_masks.proofs.Pictures.{picture_writable}
+use Rattle.written_masks.proofs.Symbols.{FitFinished}
 
 -- where boxes that show the items of all instances have the sticks' nets
 pub text_has_nets : (tech : Tech) (plan : Plan) (masters : List Master) (layouts : List Coords) → FitFinished tech plan masters layouts
