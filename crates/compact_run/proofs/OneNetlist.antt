@@ -2,9 +2,9 @@
 use Rattle.std.proofs.Common.{◌≡◌, ◌^◌, ◌≤◌, [], length, refl, sym, ap, ◌∙◌, subst}
 use Rattle.lam_io.specs.Io.{Bytes, Files}
 use Rattle.rule_table.specs.declared.technology.Tech.{Tech}
-use Rattle.cif_nets.specs.declared.netting.NetsFault.{NetsFault}
-use Rattle.cif_nets.specs.declared.netting.NetsFault.TheVariants as fault
-use Rattle.cif_nets.specs.Texts.{HasNetlist, RefusesNetlist, NetlistsAreDetermined}
+use Rattle.cif_answers.specs.declared.netting.NetsFault.{NetsFault}
+use Rattle.cif_answers.specs.declared.netting.NetsFault.TheVariants as fault
+use Rattle.cif_answers.specs.Texts.{HasNetlist, RefusesNetlist, NetlistsAreDetermined}
 use Rattle.compact_run.specs.declared.status.File.TheVariants.{Cif}
 use Rattle.compact_run.specs.declared.status.What.TheVariants.{Boxes}
 use Rattle.compact_run.specs.declared.status.Status.{Status}

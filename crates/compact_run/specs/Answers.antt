@@ -5,7 +5,7 @@ use Rattle.lam_io.specs.Io.{Bytes, Files, Appends, AppendsPrefix, Rose}
 use Rattle.rule_table.specs.declared.technology.Tech.{Tech}
 use Rattle.rule_table.specs.Technology.{numbers_of}
 use Rattle.cif_read.specs.Meaning.{IsFirstFault}
-use Rattle.cif_nets.specs.Texts.{HasNetlist, HasTooManyBoxes, IsNotProper}
+use Rattle.cif_answers.specs.Texts.{HasNetlist, HasTooManyBoxes, IsNotProper}
 use Rattle.tech_file.specs.declared.faults.TechFileFault.{TechFileFault}
 use Rattle.tech_file.specs.Technology.{technology_of}
 use Rattle.stick_parse.specs.declared.design.Design.{Design as Sticks}

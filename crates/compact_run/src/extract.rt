@@ -2,7 +2,7 @@
 
 ghost use Rattle.std.specs.Prelude.{◌≡◌, ◌^◌, ◌≤◌, length, Some, IfOk, IfErr};
 ghost use Rattle.lam_io.specs.Io.{Telling};
-ghost use Rattle.cif_nets.specs.Texts.{HasNetlist};
+ghost use Rattle.cif_answers.specs.Texts.{HasNetlist};
 ghost use Rattle.compact_run.specs.Fetches.{IsCounted, EndsOverCif, AsksOnce};
 ghost use Rattle.compact_run.specs.Refusals.{Refused, ending_of};
 ghost use Rattle.compact_run.specs.Answers.{IsNetlistOf, RefusesNets, RefusesText};
@@ -11,7 +11,7 @@ use crate::fault_lines::{cif_line, improper_line};
 use crate::fetch::fetch;
 use crate::refusal::Refusal;
 use crate::status::{File, Status, What};
-use cif_nets::{NetsFault, netlist_of};
+use cif_answers::{NetsFault, netlist_of};
 use lam_io::Shelf;
 use rule_table::Tech;
 use std::alloc::Global;

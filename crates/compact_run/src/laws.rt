@@ -4,7 +4,7 @@ ghost use Rattle.lam_io.specs.Io.{Files};
 ghost use Rattle.compact_run.specs.Words.{texts_of};
 ghost use Rattle.compact_run.specs.OneAnswer.{HasOneAnswer};
 
-use cif_nets::netlists_are_determined;
+use cif_answers::netlists_are_determined;
 
 /// A law, with nothing to run: the words and the files determine the status, the output and the report, where memory does
 /// not run out and no file or stream fails.

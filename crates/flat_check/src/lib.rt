@@ -5,7 +5,9 @@
 //! hundredths of a micron.
 #![tactic(auto)]
 
+mod first;
 mod rule;
 mod sheet;
 
+pub use first::first_break;
 pub use rule::{Break, Rule};

@@ -1,6 +1,6 @@
 ghost use Rattle.std.specs.Prelude.{◌^◌, ◌≤◌, length};
 
-use crate::{NetsFault, netlist_of};
+use crate::{TextFault, netlist_of};
 use cif_read::{CifFault, CifKind};
 use rule_table::Tech;
 use std::alloc::Global;
@@ -29,7 +29,7 @@ fn texts_have_their_netlists(rt: HostRuntime) -> Result<(), Fail> {
 }
 
 // Why a text has no netlist under the technology that the program ships with.
-fn fault_of(alloc: Global, text: &[u8]) -> Option<NetsFault>
+fn fault_of(alloc: Global, text: &[u8]) -> Option<TextFault>
     requires { length text.now ≤ 2 ^ 26 }
 {
     netlist_of(alloc, &Tech::shipped(), text).err()
@@ -42,12 +42,12 @@ fn causes_are_told(rt: HostRuntime) -> Result<(), Fail> {
         offset: 2,
         kind: CifKind::AfterEnd,
     };
-    assert_eq!(rt; fault_of(alloc, b"E\nL NM;\n"), Some(NetsFault::Cif(fault)));
+    assert_eq!(rt; fault_of(alloc, b"E\nL NM;\n"), Some(TextFault::Cif(fault)));
     let overlapping = b"L ND; B 1200 1200 0 0; L NP; B 1200 1200 300 0; E";
     assert_eq!(rt;
         fault_of(alloc, overlapping),
-        Some(NetsFault::NotProper(0, 1))
+        Some(TextFault::NotProper(0, 1))
     );
-    assert_eq!(rt; fault_of(alloc, BURIED), Some(NetsFault::NotProper(0, 1)));
+    assert_eq!(rt; fault_of(alloc, BURIED), Some(TextFault::NotProper(0, 1)));
     Ok(())
 }

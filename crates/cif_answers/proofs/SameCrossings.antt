@@ -14,8 +14,8 @@ use Rattle.rule_table.proofs.Sound.{sound}
 use Rattle.crossings.specs.Boxes.{area_at, grains, IsCommon}
 use Rattle.crossings.specs.Crossings.{CrossAlong, IsCrossing, IsImplanted, AreCrossings}
 use Rattle.crossings.specs.declared.crossing.Crossing.{Crossing}
-use Rattle.cif_nets.proofs.SameBoxes.{same_area}
-use Rattle.cif_nets.proofs.SameLists.{same_by_order}
+use Rattle.cif_answers.proofs.SameBoxes.{same_area}
+use Rattle.cif_answers.proofs.SameLists.{same_by_order}
 
 -- ---- along one axis
 

@@ -1,6 +1,6 @@
 use Rattle.std.proofs.Common.{length, ap, arith}
-use Rattle.cif_nets.proofs.InRange.{pieces_in_range}
-use Rattle.cif_nets.proofs.netting.netlist_of.Goals as goal
+use Rattle.cif_answers.proofs.InRange.{pieces_in_range}
+use Rattle.cif_answers.proofs.netting.netlist_of.Goals as goal
 
 pub netlist_text-requires : goal.netlist_text-requires
 netlist_text-requires c = λ k d lt.
