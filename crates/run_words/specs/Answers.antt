@@ -1,0 +1,11 @@
+-- A command without where its words lie in memory.
+use Rattle.run_words.specs.declared.commands.Command.{Command}
+use Rattle.run_words.specs.declared.commands.Command.TheVariants.{Compact, Check, Extract, Fmt, Bench}
+use Rattle.run_words.specs.Commands as commands
+
+abbrev pub command_from : Command → commands.Command
+command_from (Compact design tech passes split) = commands.compact design.now tech.now passes split
+command_from (Check cif tech) = commands.check cif.now tech.now
+command_from (Extract cif tech) = commands.extract cif.now tech.now
+command_from (Fmt design) = commands.fmt design.now
+command_from (Bench n) = commands.bench n
