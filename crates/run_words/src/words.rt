@@ -3,7 +3,7 @@
 ghost use Rattle.std.specs.Prelude.{◌≡◌, Some, None, Err, IfOk};
 ghost use Rattle.run_words.specs.Words.{texts_of};
 ghost use Rattle.run_words.specs.Commands.{bench_of, check_of, command_of, compact_of, extract_of, fmt_of};
-ghost use Rattle.run_words.specs.Answers.{command_from};
+ghost use Rattle.run_words.specs.Answers.{command_from, HasPassList};
 ghost use Rattle.run_words.specs.declared.commands.WordsFault.TheVariants.{Usage};
 
 use crate::commands::{Command, WordsFault};
@@ -14,6 +14,7 @@ use std::alloc::Global;
 
 fn read_compact<'a>(alloc: Global, words: &'a [&'a str]) -> Result<Command<'a>, WordsFault>
     ensures command { IfOk result (λ command. compact_of (texts_of words.now) ≡ Some (command_from command)) }
+    ensures passes { IfOk result HasPassList }
     ensures usage { result ≡ Err Usage → compact_of (texts_of words.now) ≡ None }
 {
     let found = lines::compact(alloc, words)?;
@@ -32,6 +33,7 @@ fn read_compact<'a>(alloc: Global, words: &'a [&'a str]) -> Result<Command<'a>, 
 
 fn read_check<'a>(alloc: Global, words: &'a [&'a str]) -> Result<Command<'a>, WordsFault>
     ensures command { IfOk result (λ command. check_of (texts_of words.now) ≡ Some (command_from command)) }
+    ensures passes { IfOk result HasPassList }
     ensures usage { result ≡ Err Usage → check_of (texts_of words.now) ≡ None }
 {
     let found = lines::cif(alloc, words)?;
@@ -43,6 +45,7 @@ fn read_check<'a>(alloc: Global, words: &'a [&'a str]) -> Result<Command<'a>, Wo
 
 fn read_extract<'a>(alloc: Global, words: &'a [&'a str]) -> Result<Command<'a>, WordsFault>
     ensures command { IfOk result (λ command. extract_of (texts_of words.now) ≡ Some (command_from command)) }
+    ensures passes { IfOk result HasPassList }
     ensures usage { result ≡ Err Usage → extract_of (texts_of words.now) ≡ None }
 {
     let found = lines::cif(alloc, words)?;
@@ -54,6 +57,7 @@ fn read_extract<'a>(alloc: Global, words: &'a [&'a str]) -> Result<Command<'a>, 
 
 fn read_fmt<'a>(alloc: Global, words: &'a [&'a str]) -> Result<Command<'a>, WordsFault>
     ensures command { IfOk result (λ command. fmt_of (texts_of words.now) ≡ Some (command_from command)) }
+    ensures passes { IfOk result HasPassList }
     ensures usage { result ≡ Err Usage → fmt_of (texts_of words.now) ≡ None }
 {
     let found = lines::only_operand(alloc, words)?;
@@ -64,6 +68,7 @@ fn read_fmt<'a>(alloc: Global, words: &'a [&'a str]) -> Result<Command<'a>, Word
 
 fn read_bench<'a>(alloc: Global, words: &'a [&'a str]) -> Result<Command<'a>, WordsFault>
     ensures command { IfOk result (λ command. bench_of (texts_of words.now) ≡ Some (command_from command)) }
+    ensures passes { IfOk result HasPassList }
     ensures usage { result ≡ Err Usage → bench_of (texts_of words.now) ≡ None }
 {
     let found = lines::only_operand(alloc, words)?;
@@ -75,6 +80,7 @@ fn read_bench<'a>(alloc: Global, words: &'a [&'a str]) -> Result<Command<'a>, Wo
 /// want of memory is the one other refusal.
 pub fn read_words<'a>(alloc: Global, words: &'a [&'a str]) -> Result<Command<'a>, WordsFault>
     ensures command { IfOk result (λ command. command_of (texts_of words.now) ≡ Some (command_from command)) }
+    ensures passes { IfOk result HasPassList }
     ensures usage { result ≡ Err Usage → command_of (texts_of words.now) ≡ None }
 {
     match words {
