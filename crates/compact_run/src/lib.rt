@@ -2,12 +2,12 @@
 // Its contract for the layer above is that of `run`; `answers_are_determined` says that no two answers fit.
 #![tactic(auto)]
 
+mod cif;
 mod clash;
 mod command;
 mod compact;
 mod delivery;
 mod extent;
-mod extract;
 mod fault_lines;
 mod fetch;
 mod grid_lines;
@@ -22,7 +22,6 @@ mod status;
 #[cfg(test)]
 mod tests;
 mod top;
-mod words;
 
 pub use laws::answers_are_determined;
 pub use status::{File, Side2, Status, What};
