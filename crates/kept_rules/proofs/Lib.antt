@@ -1,0 +1,3 @@
+pub mod BoxPieces
+pub mod BoxChannels
+pub mod BoxRules
