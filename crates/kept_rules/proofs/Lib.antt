@@ -1,0 +1,2 @@
+pub mod ShapeWidths
+pub mod ShapeCuts
