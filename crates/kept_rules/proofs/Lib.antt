@@ -1,3 +1,5 @@
 pub mod BoxPieces
 pub mod BoxChannels
 pub mod BoxRules
+pub mod ShapeWidths
+pub mod ShapeCuts
