@@ -1,0 +1,3 @@
+pub mod SpacingOwners
+pub mod SpacingRules
+pub mod BoxPlain
