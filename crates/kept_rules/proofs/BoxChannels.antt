@@ -1,6 +1,5 @@
 -- Boxes that keep off the channels of all transistors, or go past them.
 use Rattle.std.proofs.Common.{◌≡◌, ℕ, ℤ, List, subst, inl, inr}
-use Rattle.std.specs.Prelude.{IsTrue}
 use Rattle.lam_geom.specs.declared.boxes.BoxXY.{BoxXY}
 use Rattle.lam_geom.specs.declared.boxes.MaskBox.{MaskBox}
 use Rattle.lam_geom.specs.declared.boxes.MaskLayer.{MaskLayer}

@@ -1,5 +1,5 @@
 -- Boxes that show the items of all instances keep each rule.
-use Rattle.std.proofs.Common.{◌≡◌, ℕ, ◌<◌, List, refl, arith, inl, inr, ◌⊎◌}
+use Rattle.std.proofs.Common.{ℕ, List, refl, arith, inl, inr}
 use Rattle.lam_geom.specs.declared.boxes.MaskBox.{MaskBox}
 use Rattle.lam_geom.specs.declared.boxes.MaskLayer.TheVariants.{ND, NP, NM}
 use Rattle.rule_table.specs.declared.technology.Tech.{Tech}
