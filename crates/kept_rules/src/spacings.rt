@@ -3,6 +3,7 @@ ghost use Rattle.pitch_join.specs.Masters.{ArePlanned};
 ghost use Rattle.grid_rules.specs.Rules.{AreFinished};
 ghost use Rattle.kept_rules.specs.Items.{PolyKeepsOff, NetsKeepOff, CutsKeepOff, CutsKeepOffChannels, ImplantsCoverOrKeepOff, WindowsKeepOff};
 
+use crate::shapes::items_have_shapes;
 use expand::Master;
 use plan_model::Plan;
 use rule_table::Tech;
@@ -18,4 +19,6 @@ pub fn items_keep_off(tech: &Tech, plan: &Plan, masters: &[Master], layouts: &[C
     ensures channels { CutsKeepOffChannels tech.now plan.now masters.now layouts.now }
     ensures implants { ImplantsCoverOrKeepOff tech.now plan.now masters.now layouts.now }
     ensures windows { WindowsKeepOff tech.now plan.now masters.now layouts.now }
-{}
+{
+    items_have_shapes(tech, plan, masters, layouts);
+}
