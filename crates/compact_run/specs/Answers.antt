@@ -153,7 +153,9 @@ pub record IsFormatted (design : Bytes) (files : Files) (output : Bytes) : Type 
 
 -- why the words are refused: they are no command, or their command is refused
 abbrev pub RefusesWords : Option Command → Files → Status → Bytes → Type 0
-RefusesWords None files ended own = ended ≡ status.Usage
+RefusesWords None files status.OutOfMemory own = Unit {0}
+RefusesWords None files status.Usage own = Unit {0}
+RefusesWords None files other own = ⊥
 RefusesWords (Some (compact design tech axes split)) files ended own = RefusesCompact design tech axes files ended own
 RefusesWords (Some (check cif tech)) files ended own = RefusesJob Check cif tech files ended own
 RefusesWords (Some (extract cif tech)) files ended own = RefusesJob Extract cif tech files ended own
