@@ -31,9 +31,12 @@ operand_of rows = text_of (codes "operand") rows
 abbrev pub tech_of : List Row → Text
 tech_of rows = text_of (codes "tech") rows
 
+-- `compact` with these texts, where the third is a list of passes and the fourth a number of pieces
+abbrev pub compact_as : Text → Text → Text → Text → Option Command
+compact_as design tech passes split = if is_pass_list passes then option_map (compact design tech (axes_in passes)) (count_in split) else None
+
 abbrev pub compact_with : List Row → Option Command
-compact_with rows =
-    if is_pass_list (passes_of rows) then option_map (compact (operand_of rows) (tech_of rows) (axes_in (passes_of rows))) (count_in (split_of rows)) else None
+compact_with rows = compact_as (operand_of rows) (tech_of rows) (passes_of rows) (split_of rows)
 
 abbrev pub compact_of : List Text → Option Command
 compact_of words = option_and_then compact_with (found_in compact_line words)

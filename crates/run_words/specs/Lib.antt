@@ -3,4 +3,4 @@ pub mod Lines
 pub mod Commands
 pub mod Answers
 pub mod Faults
-pub mod PlainWords
+pub mod PlainLines

@@ -8,7 +8,7 @@ mod values;
 mod words;
 
 pub use commands::{Command, WordsFault};
-pub use laws::plain_words_are_read;
+pub use laws::plain_lines_are_read;
 pub use words::read_words;
 
 #[cfg(test)]
