@@ -3,6 +3,7 @@ pub mod Given
 pub mod Numbers
 pub mod Parts
 pub mod PlainLines
+pub mod Refusals
 pub mod Steps
 pub mod Texts
 pub mod Wanted

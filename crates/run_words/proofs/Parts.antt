@@ -8,7 +8,7 @@ use Rattle.std.proofs.Math.Bool.{or-true}
 use Rattle.std.proofs.lemmas.List.{append-nil, map-append}
 use Rattle.std.proofs.lemmas.List.Folds.{list_any-append}
 use Rattle.clap.specs.Words.{App, Kinds, Row, Rule, Text, fault_of, first_of, matches_of}
-use Rattle.clap.specs.Walk.{Held, Walk, default_rows, finished, has_row, is_empty, nothing_held, reading_by, rows_after, settled, walk, with_default}
+use Rattle.clap.specs.Walk.{Held, Walk, arg_by_index, default_rows, finished, has_row, is_empty, nothing_held, reading_by, rows_after, settled, walk, with_default}
 use Rattle.clap.specs.Simple.{Shape, argument_words, built, label_of, names_of}
 use Rattle.clap.specs.Facts.{explicit_source}
 use Rattle.clap.specs.Kinds.{or_else}
@@ -17,7 +17,7 @@ use Rattle.clap.specs.Faults.{built_fault, check_fault, default_fault, given_def
 use Rattle.clap.proofs.FaultLemmas.{leaf_fault}
 use Rattle.clap.proofs.WalkLemmas.{both, find-map, list_any-map}
 use Rattle.run_words.specs.Lines.{found_in, without_fault}
-use Rattle.run_words.specs.PlainLines.{Part, alone, apart, joined, are_new, begins_with_dash, is_line, is_plain, name_of, value_at, value_of, words_of}
+use Rattle.run_words.specs.PlainLines.{Part, alone, apart, joined, are_new, begins_with_dash, is_plain, is_plain_line, name_of, value_at, value_of, words_of}
 use Rattle.run_words.proofs.Steps.{IsOperand, IsOption, Reads, Settles, between, free_settles, held_settles, reads_alone, reads_apart, reads_joined, reads_none, row_for}
 
 abbrev pub row_of_part : Part → Row
@@ -28,22 +28,25 @@ pub record Fits (s : Shape) (names : List Text) : Type 0 where
   pub operand : Rule
   pub is_operand : IsOperand s operand
   pub options : (name : Text) → list_any (bytes_eq name) names ≡ true → (a : Rule) × IsOption s name a
+  pub others : list_any (bytes_eq (codes "operand")) names ≡ false
+  pub second : arg_by_index s.rules 2 ≡ None
+  pub once : s.args_override_self ≡ false
 
-not_true : (b : Bool) → not b ≡ true → b ≡ false
+pub not_true : (b : Bool) → not b ≡ true → b ≡ false
 not_true true e = absurd (true≢false (sym e))
 not_true false e = refl
 
-no_left : (a b : Bool) → (a || b) ≡ false → a ≡ false
+pub no_left : (a b : Bool) → (a || b) ≡ false → a ≡ false
 no_left true b e = absurd (true≢false e)
 no_left false b e = refl
 
-no_row : (before : List Part) (name : Text) → not (list_any (λ old. bytes_eq (name_of old) name) before) ≡ true → has_row name (map row_of_part before) ≡ false
+pub no_row : (before : List Part) (name : Text) → not (list_any (λ old. bytes_eq (name_of old) name) before) ≡ true → has_row name (map row_of_part before) ≡ false
 no_row before name fresh = sym (list_any-map (λ (r : Row). bytes_eq r.id name) row_of_part before) ∙ not_true _ fresh
 
-rows_more : (before : List Part) (part : Part) → map row_of_part before ++ row_of_part part ∷ [] ≡ map row_of_part (before ++ part ∷ [])
+pub rows_more : (before : List Part) (part : Part) → map row_of_part before ++ row_of_part part ∷ [] ≡ map row_of_part (before ++ part ∷ [])
 rows_more before part = sym (map-append row_of_part before (part ∷ []))
 
-abbrev is_operand_part : Part → Bool
+abbrev pub is_operand_part : Part → Bool
 is_operand_part old = bytes_eq (name_of old) (codes "operand")
 
 -- the walk over the words of parts ends with their rows
@@ -52,10 +55,10 @@ record Ends (s : Shape) (w : Walk) (words : List Text) (parts : List Part) : Typ
   reads : Reads s w words at
   settles : Settles s at.held (map row_of_part parts)
 
-still_first : (before : List Part) (part : Part) (p : ℕ) → (list_any is_operand_part before ≡ false → p ≡ 1) → list_any is_operand_part (before ++ part ∷ []) ≡ false → p ≡ 1
+pub still_first : (before : List Part) (part : Part) (p : ℕ) → (list_any is_operand_part before ≡ false → p ≡ 1) → list_any is_operand_part (before ++ part ∷ []) ≡ false → p ≡ 1
 still_first before part p one none = one (no_left (list_any is_operand_part before) _ (sym (list_any-append is_operand_part before (part ∷ [])) ∙ none))
 
-once_only : (before : List Part) (v : Text) → list_any is_operand_part (before ++ alone v ∷ []) ≡ false → ⊥
+pub once_only : (before : List Part) (v : Text) → list_any is_operand_part (before ++ alone v ∷ []) ≡ false → ⊥
 once_only before v none = go (list_any is_operand_part before) (sym (list_any-append is_operand_part before (alone v ∷ [])) ∙ none)
   where
     go : (b : Bool) → (b || true) ≡ false → ⊥
@@ -155,7 +158,7 @@ pub record IsLine (app : App) (names : List Text) : Type 0 where
   pub bare : list_all is_bare (built app).top.rules ≡ true
   pub fits : Fits (built app).top names
 
-module _ (app : App) (names : List Text) (line : IsLine app names) (word : Text) (parts : List Part) (good : is_line names parts ≡ true) where
+module _ (app : App) (names : List Text) (line : IsLine app names) (word : Text) (parts : List Part) (plain : is_plain_line names parts ≡ true) (new : are_new [] parts ≡ true) where
   abbrev words : List Text
   words = flat_map words_of parts
 
@@ -166,9 +169,7 @@ module _ (app : App) (names : List Text) (line : IsLine app names) (word : Text)
   rows = map row_of_part parts
 
   ends : Ends shape (between nothing_held 1) words parts
-  ends =
-      let tests = both (list_all (is_plain names) parts) (are_new [] parts) good in
-      all_parts shape names line.fits parts [] nothing_held 1 (free_settles shape []) (λ none. refl) tests.0 tests.1
+  ends = all_parts shape names line.fits parts [] nothing_held 1 (free_settles shape []) (λ none. refl) plain new
 
   held_is : (walk shape.rules [] nothing_held words).held ≡ ends.at.held
   held_is = ap (λ (w : Walk). w.held) ends.reads.ends

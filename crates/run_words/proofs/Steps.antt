@@ -67,10 +67,10 @@ pub record Settles (s : Shape) (h : Held) (rows : List Row) : Type 0 where
   pub to : settled s.rules h ≡ record { rows = rows; pending = None; skip = 0 }
   pub passes : settle_fault s.rules s.args_override_self h ≡ []
 
-abbrev holding : List Row → Text → List Text → Held
+abbrev pub holding : List Row → Text → List Text → Held
 holding rows name values = record { rows = rows; pending = Some (name, values); skip = 0 }
 
-abbrev free : List Row → Held
+abbrev pub free : List Row → Held
 free rows = record { rows = rows; pending = None; skip = 0 }
 
 pub free_settles : (s : Shape) (rows : List Row) → Settles s (free rows) rows
@@ -86,7 +86,7 @@ held_settles s name a v rows t none = record {
 
 -- ---- one word
 
-abbrev state : Held → Waiting → ℕ → Walk
+abbrev pub state : Held → Waiting → ℕ → Walk
 state h waiting p = record { held = h; waiting = waiting; position = p; is_trailing = false; stopped = None }
 
 abbrev pub between : Held → ℕ → Walk
@@ -104,7 +104,7 @@ unfolding walked
 turn_walks s h h1 waiting p word step met = ap (λ (x : Held × Step). after_step s.rules word (state h waiting p) x.0 x.1) met
 
 -- a word that begins with no dash
-plain_met : (c : List Rule) (p : ℕ) (word : Text) (h : Held) → begins_with_dash word ≡ false → word_met c [] false idle p word h ≡ (h, value)
+pub plain_met : (c : List Rule) (p : ℕ) (word : Text) (h : Held) → begins_with_dash word ≡ false → word_met c [] false idle p word h ≡ (h, value)
 plain_met c p [] h e = refl
 plain_met c p (x ∷ xs) h e = rw (e, e) refl
 
@@ -180,16 +180,22 @@ positional_passes_is : (s : Shape) (o : Rule) (h : Held) → IsOperand s o → p
 positional_passes_is s o h i =
     ap (λ (b : Bool). if b then [] else settle_fault s.rules s.args_override_self h) (never_both (is_pending o h.pending) _ (one_value s.rules (codes "operand") o i.takes))
 
+pub alone_walks : (s : Shape) (o : Rule) (v : Text) (h : Held) (rows : List Row) → IsOperand s o → begins_with_dash v ≡ false → Settles s h rows
+    → walked s.rules [] (between h 1) v ≡ between (holding rows (codes "operand") (v ∷ [])) 2
+alone_walks s o v h rows i plain st =
+    turn_walks s h h idle 1 v value (plain_met s.rules 1 v h plain) ∙ ap (λ (a : Option Rule). to_positional s.rules a v (between h 1) h) i.first ∙ positional_is s o v h i
+    ∙ ap (λ (x : Held). between (pushed (codes "operand") v x) 2) st.to
+
+-- what a positional word is refused for, at the place of the operand
+pub alone_passes : (s : Shape) (o : Rule) (h : Held) → IsOperand s o → step_fault s 1 h value ≡ settle_fault s.rules s.args_override_self h
+alone_passes s o h i =
+    ap (λ (a : Option Rule). option_map_or (λ (x : Rule). positional_fault s.rules s.args_override_self x h) a (stray_fault s)) i.first ∙ positional_passes_is s o h i
+
 pub reads_alone : (s : Shape) (o : Rule) (v : Text) (h : Held) (rows : List Row) (words : List Text) (e : Walk) → IsOperand s o → begins_with_dash v ≡ false → Settles s h rows
     → Reads s (between (holding rows (codes "operand") (v ∷ [])) 2) words e → Reads s (between h 1) (v ∷ words) e
 reads_alone s o v h rows words e i plain st r =
-    let met = plain_met s.rules 1 v h plain in
     reads_more s (between h 1) (between (holding rows (codes "operand") (v ∷ [])) 2) e v words
-    (turn_passes s h h idle 1 v value met (plain_passes s v h plain)
-    (ap (λ (a : Option Rule). option_map_or (λ (x : Rule). positional_fault s.rules s.args_override_self x h) a (stray_fault s)) i.first ∙ positional_passes_is s o h i ∙ st.passes))
-    (turn_walks s h h idle 1 v value met ∙ ap (λ (a : Option Rule). to_positional s.rules a v (between h 1) h) i.first ∙ positional_is s o v h i
-    ∙ ap (λ (x : Held). between (pushed (codes "operand") v x) 2) st.to)
-    r
+    (turn_passes s h h idle 1 v value (plain_met s.rules 1 v h plain) (plain_passes s v h plain) (alone_passes s o h i ∙ st.passes)) (alone_walks s o v h rows i plain st) r
 
 takes_some : (rules : List Rule) (name : Text) (a : Rule) → TakesOne rules name a → takes_values a ≡ true
 takes_some rules name a t = rw t.range refl
@@ -202,7 +208,7 @@ name_met : (s : Shape) (name : Text) (a : Rule) (p : ℕ) (h : Held) → IsOptio
     → word_met s.rules [] false idle p (45 ∷ 45 ∷ name) h ≡ (record (settled s.rules h) { pending = Some (name, []) }, next (option name))
 name_met s name a p h o = rw (o.named, o.spelled, o.long, takes_some s.rules name a o.takes, o.takes.id) refl
 
-name_passes : (s : Shape) (name : Text) (a : Rule) (h : Held) → IsOption s name a → other_fault s None (45 ∷ 45 ∷ name) h ≡ settle_fault s.rules s.args_override_self h
+pub name_passes : (s : Shape) (name : Text) (a : Rule) (h : Held) → IsOption s name a → other_fault s None (45 ∷ 45 ∷ name) h ≡ settle_fault s.rules s.args_override_self h
 name_passes s name a h o = rw (o.named, o.spelled, o.long, takes_some s.rules name a o.takes) refl
 
 -- the value behind it
@@ -213,26 +219,29 @@ after_name s name a p v rows t plain =
     ∙ ap (λ (x : Option Rule). ((option_word x name v (holding rows name [])).0, next (option_word x name v (holding rows name [])).1)) t.here
     ∙ rw (t.id, same_name name, t.range) refl
 
+pub name_walks : (s : Shape) (name : Text) (a : Rule) (h : Held) (p : ℕ) (rows : List Row) → IsOption s name a → Settles s h rows
+    → walked s.rules [] (between h p) (45 ∷ 45 ∷ name) ≡ state (holding rows name []) (option name) p
+name_walks s name a h p rows o st =
+    turn_walks s h _ idle p (45 ∷ 45 ∷ name) _ (name_met s name a p h o) ∙ ap (λ (x : Held). state (record x { pending = Some (name, []) }) (option name) p) st.to
+
+pub value_walks : (s : Shape) (name : Text) (a : Rule) (v : Text) (p : ℕ) (rows : List Row) → IsOption s name a → begins_with_dash v ≡ false
+    → walked s.rules [] (state (holding rows name []) (option name) p) v ≡ between (holding rows name (v ∷ [])) p
+value_walks s name a v p rows o plain = turn_walks s _ _ (option name) p v _ (after_name s name a p v rows o.takes plain)
+
 pub reads_apart : (s : Shape) (name : Text) (a : Rule) (v : Text) (h : Held) (p : ℕ) (rows : List Row) (words : List Text) (e : Walk) → IsOption s name a → begins_with_dash v ≡ false
     → Settles s h rows → Reads s (between (holding rows name (v ∷ [])) p) words e → Reads s (between h p) ((45 ∷ 45 ∷ name) ∷ v ∷ words) e
 reads_apart s name a v h p rows words e o plain st r =
-    let held : record (settled s.rules h) { pending = Some (name, []) } ≡ holding rows name [] = ap (λ (x : Held). record x { pending = Some (name, []) }) st.to in
-    let met = name_met s name a p h o in
-    let then_met = after_name s name a p v rows o.takes plain in
     reads_more s (between h p) (state (holding rows name []) (option name) p) e (45 ∷ 45 ∷ name) (v ∷ words)
-    (turn_passes s h _ idle p (45 ∷ 45 ∷ name) _ met (name_passes s name a h o ∙ st.passes) refl)
-    (turn_walks s h _ idle p (45 ∷ 45 ∷ name) _ met ∙ ap (λ (x : Held). state x (option name) p) held)
+    (turn_passes s h _ idle p (45 ∷ 45 ∷ name) _ (name_met s name a p h o) (name_passes s name a h o ∙ st.passes) refl) (name_walks s name a h p rows o st)
     (reads_more s (state (holding rows name []) (option name) p) (between (holding rows name (v ∷ [])) p) e v words
-    (turn_passes s _ _ (option name) p v _ then_met (plain_passes s v (holding rows name []) plain) refl)
-    (turn_walks s _ _ (option name) p v _ then_met)
-    r)
+    (turn_passes s _ _ (option name) p v _ (after_name s name a p v rows o.takes plain) (plain_passes s v (holding rows name []) plain) refl) (value_walks s name a v p rows o plain) r)
 
 -- the word `--name=value`
 joined_met : (s : Shape) (name : Text) (a : Rule) (p : ℕ) (v : Text) (h : Held) → IsOption s name a
     → word_met s.rules [] false idle p (45 ∷ 45 ∷ (name ++ 61 ∷ v)) h ≡ (reacted s.rules a (v ∷ []) h, next idle)
 joined_met s name a p v h o = rw (o.named_valued v, o.valued v, o.long, takes_some s.rules name a o.takes) refl
 
-joined_passes : (s : Shape) (name : Text) (a : Rule) (v : Text) (h : Held) → IsOption s name a
+pub joined_passes : (s : Shape) (name : Text) (a : Rule) (v : Text) (h : Held) → IsOption s name a
     → other_fault s None (45 ∷ 45 ∷ (name ++ 61 ∷ v)) h ≡ react_fault s.rules s.args_override_self a (v ∷ []) h
 joined_passes s name a v h o = rw (o.named_valued v, o.valued v, o.long, takes_some s.rules name a o.takes) refl
 
@@ -247,12 +256,15 @@ reacted_passes s name a v h rows t none st =
     ap (λ (k : Kinds). or_else k (use_fault s.args_override_self a (v ∷ []) (settled s.rules h).rows)) st.passes
     ∙ ap (λ (x : Held). use_fault s.args_override_self a (v ∷ []) x.rows) st.to ∙ use_passes s.rules s.args_override_self name a v rows t none
 
+pub joined_walks : (s : Shape) (name : Text) (a : Rule) (v : Text) (h : Held) (p : ℕ) (rows : List Row) → IsOption s name a → has_row name rows ≡ false → Settles s h rows
+    → walked s.rules [] (between h p) (45 ∷ 45 ∷ (name ++ 61 ∷ v)) ≡ between (free (rows ++ row_for name v ∷ [])) p
+joined_walks s name a v h p rows o none st =
+    turn_walks s h _ idle p (45 ∷ 45 ∷ (name ++ 61 ∷ v)) _ (joined_met s name a p v h o) ∙ ap (λ (x : Held). between x p) (reacted_is s name a v h rows o.takes none st)
+
 pub reads_joined : (s : Shape) (name : Text) (a : Rule) (v : Text) (h : Held) (p : ℕ) (rows : List Row) (words : List Text) (e : Walk) → IsOption s name a → has_row name rows ≡ false
     → Settles s h rows → Reads s (between (free (rows ++ row_for name v ∷ [])) p) words e → Reads s (between h p) ((45 ∷ 45 ∷ (name ++ 61 ∷ v)) ∷ words) e
 reads_joined s name a v h p rows words e o none st r =
     let word = 45 ∷ 45 ∷ (name ++ 61 ∷ v) in
-    let met = joined_met s name a p v h o in
     reads_more s (between h p) (between (free (rows ++ row_for name v ∷ [])) p) e word words
-    (turn_passes s h _ idle p word _ met (joined_passes s name a v h o ∙ reacted_passes s name a v h rows o.takes none st) refl)
-    (turn_walks s h _ idle p word _ met ∙ ap (λ (x : Held). between x p) (reacted_is s name a v h rows o.takes none st))
-    r
+    (turn_passes s h _ idle p word _ (joined_met s name a p v h o) (joined_passes s name a v h o ∙ reacted_passes s name a v h rows o.takes none st) refl)
+    (joined_walks s name a v h p rows o none st) r

@@ -41,7 +41,7 @@ without_fault (kind ∷ kinds) rows = None
 unfoldable pub found_in : App → List Text → Option (List Row)
 found_in app words = without_fault (fault_of app words) (matches_of app words)
 
--- the text of an argument that is there
+-- the text of a required argument, which is there wherever `clap` takes the words
 abbrev pub text_of : Text → List Row → Text
 text_of id rows = unwrap_or (first_of id rows) []
 

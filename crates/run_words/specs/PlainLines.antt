@@ -1,9 +1,9 @@
 -- Plain command lines: the operand and the options in any order.
-use Rattle.std.specs.Prelude.{◌≡◌, ℕ, Bool, true, false, not, ◌&&◌, ◌==◌, List, [], ◌∷◌, ◌++◌, Option, codes, bytes_eq, find, flat_map, option_and_then, option_map, unwrap_or}
+use Rattle.std.specs.Prelude.{◌≡◌, ℕ, Bool, true, false, not, ◌&&◌, ◌==◌, List, [], ◌∷◌, ◌++◌, Option, None, if◌then◌else◌, codes, bytes_eq, find, flat_map, option_and_then, option_map, unwrap_or}
 use Rattle.std.specs.List.{list_all, list_any}
 use Rattle.clap.specs.Words.{Text}
-use Rattle.run_words.specs.Words.{count_in}
-use Rattle.run_words.specs.Commands.{Command, bench, check, command_of, compact_as, extract, fmt}
+use Rattle.run_words.specs.Values.{count_in}
+use Rattle.run_words.specs.Words.{Command, bench, check, command_of, compact_as, extract, fmt}
 
 -- what may stand behind the command's name: an operand, `--NAME VALUE` or `--NAME=VALUE`
 pub data Part : Type 0 where
@@ -45,11 +45,11 @@ abbrev pub are_new : List Part → List Part → Bool
 are_new before [] = true
 are_new before (part ∷ parts) = not (list_any (λ old. bytes_eq (name_of old) (name_of part)) before) && are_new (before ++ part ∷ []) parts
 
--- a line of parts with options of these names, each once at most
-abbrev pub is_line : List Text → List Part → Bool
-is_line names parts = list_all (is_plain names) parts && are_new [] parts
+-- a line of such parts
+abbrev pub is_plain_line : List Text → List Part → Bool
+is_plain_line names parts = list_all (is_plain names) parts
 
--- the command that such a line is, if it has the operand and the technology that it needs
+-- the command of a line, if it has the operand and the technology that it needs
 abbrev pub compact_from : List Part → Option Command
 compact_from parts = option_and_then (λ design. option_and_then (λ tech. compact_as design tech
     (unwrap_or (value_at (codes "passes") parts) (codes "xy")) (unwrap_or (value_at (codes "split") parts) (codes "1")))
@@ -67,13 +67,19 @@ fmt_from parts = option_map fmt (value_at (codes "operand") parts)
 abbrev pub bench_from : List Part → Option Command
 bench_from parts = option_and_then (λ n. option_map bench (count_in n)) (value_at (codes "operand") parts)
 
--- each line of parts is read as that command, in whatever order they stand
+-- the command of a line in which no name stands twice; another line is refused
+abbrev pub where_new : List Part → Option Command → Option Command
+where_new parts command = if are_new [] parts then command else None
+
+-- each plain line is read as that command, in whatever order its parts stand
 pub record PlainLinesAreRead : Type 0 where
-  pub compact : (parts : List Part) → is_line (codes "tech" ∷ codes "passes" ∷ codes "split" ∷ []) parts ≡ true
-      → command_of (codes "compact" ∷ flat_map words_of parts) ≡ compact_from parts
-  pub check : (parts : List Part) → is_line (codes "tech" ∷ []) parts ≡ true
-      → command_of (codes "check" ∷ flat_map words_of parts) ≡ check_from parts
-  pub extract : (parts : List Part) → is_line (codes "tech" ∷ []) parts ≡ true
-      → command_of (codes "extract" ∷ flat_map words_of parts) ≡ extract_from parts
-  pub fmt : (parts : List Part) → is_line [] parts ≡ true → command_of (codes "fmt" ∷ flat_map words_of parts) ≡ fmt_from parts
-  pub bench : (parts : List Part) → is_line [] parts ≡ true → command_of (codes "bench" ∷ flat_map words_of parts) ≡ bench_from parts
+  pub compact : (parts : List Part) → is_plain_line (codes "tech" ∷ codes "passes" ∷ codes "split" ∷ []) parts ≡ true
+      → command_of (codes "compact" ∷ flat_map words_of parts) ≡ where_new parts (compact_from parts)
+  pub check : (parts : List Part) → is_plain_line (codes "tech" ∷ []) parts ≡ true
+      → command_of (codes "check" ∷ flat_map words_of parts) ≡ where_new parts (check_from parts)
+  pub extract : (parts : List Part) → is_plain_line (codes "tech" ∷ []) parts ≡ true
+      → command_of (codes "extract" ∷ flat_map words_of parts) ≡ where_new parts (extract_from parts)
+  pub fmt : (parts : List Part) → is_plain_line [] parts ≡ true
+      → command_of (codes "fmt" ∷ flat_map words_of parts) ≡ where_new parts (fmt_from parts)
+  pub bench : (parts : List Part) → is_plain_line [] parts ≡ true
+      → command_of (codes "bench" ∷ flat_map words_of parts) ≡ where_new parts (bench_from parts)
