@@ -1,5 +1,5 @@
 -- A number of three digits fits.
-use Rattle.std.proofs.Common.{◌≡◌, ◌∙◌, ◌<◌, ◌≤◌, ◌&&◌, ℕ, Bool, true, false, sym, ap, subst, refl, arith, rules, List, [], ◌∷◌, length, Result, Ok, Err, true≢false}
+use Rattle.std.proofs.Common.{◌≡◌, ◌<◌, ◌≤◌, ◌&&◌, ℕ, true, sym, arith, rules, List, [], ◌∷◌, length, Result, Ok, true≢false}
 use Rattle.std.specs.Prelude.{◌^◌, nat_le}
 use Rattle.std.specs.Char.{is_ascii_digit}
 use Rattle.std.specs.List.{list_all}

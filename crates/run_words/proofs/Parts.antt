@@ -1,5 +1,5 @@
 -- What `clap` finds in a line of parts: a row for each, in their order.
-use Rattle.std.proofs.Common.{◌≡◌, ◌∙◌, ◌&&◌, ◌||◌, ℕ, Bool, true, false, not, codes, refl, sym, ap, subst, List, [], ◌∷◌, ◌++◌, map, fold, find, length, Option, Some, None, is_some, option_map, append_assoc, arith, true≢false}
+use Rattle.std.proofs.Common.{◌≡◌, ◌∙◌, ◌||◌, ℕ, Bool, true, false, not, codes, refl, sym, ap, subst, List, [], ◌∷◌, ◌++◌, map, fold, find, Option, Some, None, is_some, option_map, append_assoc, true≢false}
 use Rattle.std.specs.Prelude.{flat_map, if◌then◌else◌, option_and_then, slice_get}
 use Rattle.std.specs.List.{list_all, list_any}
 use Rattle.std.specs.Option.{option_map_or}
@@ -13,7 +13,7 @@ use Rattle.clap.specs.Simple.{Shape, argument_words, built, label_of, names_of}
 use Rattle.clap.specs.Facts.{explicit_source}
 use Rattle.clap.specs.Kinds.{or_else}
 use Rattle.clap.specs.Takes.{is_given}
-use Rattle.clap.specs.Faults.{built_fault, check_fault, default_fault, given_default_fault, defaults_fault, level_fault, settle_fault, walk_fault}
+use Rattle.clap.specs.Faults.{built_fault, check_fault, default_fault, given_default_fault, defaults_fault, settle_fault}
 use Rattle.clap.proofs.FaultLemmas.{leaf_fault}
 use Rattle.clap.proofs.WalkLemmas.{both, find-map, list_any-map}
 use Rattle.run_words.specs.Lines.{found_in, without_fault}

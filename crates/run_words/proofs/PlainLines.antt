@@ -1,22 +1,21 @@
 -- The five commands, read from lines of parts.
 use Rattle.std.proofs.Common.{◌≡◌, ◌∙◌, ◌||◌, Bool, true, false, not, codes, refl, sym, ap, subst, List, [], ◌∷◌, map, Option, Some, None, is_some, unwrap_or, option_map, true≢false}
 use Rattle.std.specs.Prelude.{flat_map, if◌then◌else◌, option_and_then}
-use Rattle.std.specs.List.{list_all, list_any}
+use Rattle.std.specs.List.{list_any}
 use Rattle.std.specs.Str.{bytes_eq}
 use Rattle.std.proofs.lemmas.Slice.Eq.{bytes_eq-Decides}
-use Rattle.clap.specs.Words.{App, Kinds, Row, Rule, Text, first_of}
+use Rattle.clap.specs.Words.{App, Kinds, Row, Rule, Text}
 use Rattle.clap.specs.Simple.{Shape, built, filled, with_index}
 use Rattle.clap.specs.Kinds.{check_kinds}
 use Rattle.clap.specs.Takes.{is_given}
 use Rattle.clap.specs.Faults.{check_fault}
-use Rattle.clap.proofs.OnLiterals.{clap_on_literals}
 use Rattle.run_words.specs.Values.{count_in}
 use Rattle.run_words.specs.Lines.{cif_line, compact_line, found_in, operand, operand_line, option, tech, text_of, without_fault}
-use Rattle.run_words.specs.Words.{Command, bench, bench_of, check, check_of, compact_as, compact_of, compact_with, extract, extract_of, fmt, fmt_of, operand_of, passes_of, split_of, tech_of}
+use Rattle.run_words.specs.Words.{Command, bench, bench_of, compact_as, compact_of, compact_with, fmt, fmt_of, operand_of, passes_of, split_of, tech_of}
 use Rattle.run_words.specs.PlainLines.{Part, are_new, bench_from, compact_from, fmt_from, is_plain_line, value_at, where_new, words_of}
-use Rattle.run_words.proofs.Steps.{IsOperand, IsOption, TakesOne}
+use Rattle.run_words.proofs.Steps.{IsOperand, IsOption}
 use Rattle.run_words.proofs.Refusals.{line_refused}
-use Rattle.run_words.proofs.Parts.{Fits, IsLine, first_is, given_is, line_found, row_of_part}
+use Rattle.run_words.proofs.Parts.{IsLine, first_is, given_is, line_found, row_of_part}
 
 abbrev Options : Shape → List Text → Type 0
 Options s [] = Unit {0}

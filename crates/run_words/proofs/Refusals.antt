@@ -1,5 +1,5 @@
 -- A line in which a name stands twice is refused.
-use Rattle.std.proofs.Common.{◌≡◌, ◌∙◌, ◌⊎◌, ◌&&◌, ◌||◌, ℕ, Bool, true, false, not, codes, refl, sym, ap, subst, List, [], ◌∷◌, ◌++◌, map, fold, Option, Some, None, inl, inr, true≢false}
+use Rattle.std.proofs.Common.{◌≡◌, ◌∙◌, ◌⊎◌, ◌&&◌, ◌||◌, ℕ, Bool, true, false, not, codes, refl, sym, ap, subst, List, [], ◌∷◌, ◌++◌, map, fold, Option, None, inl, inr, true≢false}
 use Rattle.std.specs.Prelude.{flat_map, if◌then◌else◌}
 use Rattle.std.specs.List.{list_all, list_any}
 use Rattle.std.specs.Option.{option_map_or}
@@ -8,7 +8,7 @@ use Rattle.std.proofs.Math.Bool.{or-false}
 use Rattle.std.proofs.lemmas.Slice.Eq.{bytes_eq-Decides}
 use Rattle.std.proofs.lemmas.List.Folds.{list_any-append}
 use Rattle.clap.specs.Words.{App, Kinds, Row, Rule, Text, fault_of}
-use Rattle.clap.specs.Walk.{Held, Step, Walk, arg_by_index, has_row, idle, nothing_held, option, settled, value, walk, walk_from, walked}
+use Rattle.clap.specs.Walk.{Held, Step, Walk, has_row, idle, nothing_held, option, value, walk, walk_from, walked}
 use Rattle.clap.specs.Simple.{Shape, argument_words, built}
 use Rattle.clap.specs.Kinds.{or_else}
 use Rattle.clap.specs.Faults.{built_fault, level_fault, positional_fault, react_fault, settle_fault, step_fault, stray_fault, turn_fault, use_fault, walk_fault, word_fault}
@@ -17,7 +17,7 @@ use Rattle.clap.proofs.FaultLemmas.{leaf_fault}
 use Rattle.clap.proofs.WalkLemmas.{both, list_any-map}
 use Rattle.run_words.specs.Lines.{found_in, without_fault}
 use Rattle.run_words.specs.PlainLines.{Part, alone, apart, joined, are_new, begins_with_dash, is_plain, name_of, words_of}
-use Rattle.run_words.proofs.Steps.{IsOperand, IsOption, Settles, TakesOne, alone_passes, alone_walks, between, free, free_settles, held_settles, holding, joined_passes, joined_walks, name_passes, name_walks, plain_met, row_for, state, value_walks}
+use Rattle.run_words.proofs.Steps.{Settles, TakesOne, alone_passes, alone_walks, between, free, free_settles, held_settles, holding, joined_passes, joined_walks, name_passes, name_walks, plain_met, row_for, state, value_walks}
 use Rattle.run_words.proofs.Parts.{Fits, IsLine, is_operand_part, not_true, once_only, row_of_part, rows_more, still_first}
 
 -- some kind of error comes
