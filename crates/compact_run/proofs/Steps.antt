@@ -9,7 +9,7 @@ use Rattle.compact_run.specs.declared.refusal.Refusal.{Refusal}
 use Rattle.compact_run.specs.declared.status.File.TheVariants.{Cif}
 use Rattle.compact_run.specs.declared.status.Status.{Status}
 use Rattle.compact_run.specs.declared.status.Status.TheVariants as status
-use Rattle.run_words.specs.Commands.{Command, compact, check, extract, fmt, bench}
+use Rattle.run_words.specs.Words.{Command, compact, check, extract, fmt, bench}
 use Rattle.run_words.specs.declared.commands.WordsFault.{WordsFault}
 use Rattle.run_words.specs.declared.commands.WordsFault.TheVariants as words
 use Rattle.compact_run.specs.declared.cif.CifJob.{CifJob}
