@@ -5,6 +5,10 @@
 //! hundredths of a micron.
 #![tactic(auto)]
 
+mod channels;
+mod lengths;
+mod pairs;
+mod piece_pairs;
 mod rule;
 mod sheet;
 
