@@ -1,1 +1,5 @@
 pub mod Grains
+pub mod NearBroken
+pub mod OneChannel
+pub mod PiecePairs
+pub mod SameCrossings
