@@ -38,7 +38,7 @@ nets_counted sheet is = is.nets.counted ∙ pieces_counted sheet.boxes.now sheet
 -- ---- from pieces on the sheet
 
 pub pieces_too_near : (sheet : Sheet) (layer : MaskLayer) (spacing : ℤ) (a b : ℕ) → IsSheet sheet → a < length sheet.boxes.now → b < length sheet.boxes.now
-    → layer_at sheet.boxes.now a ≡ layer → layer_at sheet.boxes.now b ≡ layer → HaveNearPieces sheet (grains sheet.tech.now spacing) a b → ArePiecesTooNear sheet.tech.now sheet.boxes.now layer spacing a b
+    → layer_at sheet.boxes.now a ≡ layer → layer_at sheet.boxes.now b ≡ layer → HaveNearPieces sheet spacing a b → ArePiecesTooNear sheet.tech.now sheet.boxes.now layer spacing a b
 pieces_too_near sheet layer spacing a b is la lb on_a on_b h =
     let boxes : List MaskBox = sheet.boxes.now in
     let crossings : List Crossing = sheet.pieces.now.crossings.items in
@@ -68,7 +68,7 @@ pieces_too_near sheet layer spacing a b is la lb on_a on_b h =
       covers_first = pi.area;
       covers_second = pj.area;
       near = h.near.near.near;
-      apart = λ r. h.near.near.apart (sym ((is.nets.joined i j (omega arith) (omega arith)).1 r));
+      apart = λ r. h.near.near.apart ((is.nets.joined i j (omega arith) (omega arith)).1 r);
     }
 
 -- ---- to pieces on the sheet
@@ -106,7 +106,7 @@ placed_at sheet k i p s is at of covers =
       covers = area_same boxes crossings p s (area_of pieces i) is.crossings.in_order covers (subst P (sym stands) piece.area);
     }
 
-pub have_near_pieces : (sheet : Sheet) (layer : MaskLayer) (spacing : ℤ) (a b : ℕ) → IsSheet sheet → ArePiecesTooNear sheet.tech.now sheet.boxes.now layer spacing a b → HaveNearPieces sheet (grains sheet.tech.now spacing) a b
+pub have_near_pieces : (sheet : Sheet) (layer : MaskLayer) (spacing : ℤ) (a b : ℕ) → IsSheet sheet → ArePiecesTooNear sheet.tech.now sheet.boxes.now layer spacing a b → HaveNearPieces sheet spacing a b
 have_near_pieces sheet layer spacing a b is h =
     let tech : Tech = sheet.tech.now in
     let boxes : List MaskBox = sheet.boxes.now in
@@ -129,7 +129,7 @@ have_near_pieces sheet layer spacing a b is h =
         of_box = second.of_box;
         near = record {
           near = subst Q second.covers (subst P first.covers h.near);
-          apart = λ e. there.4 ((is.nets.joined h.i h.j (omega arith) (omega arith)).0 (sym e));
+          apart = λ e. there.4 ((is.nets.joined h.i h.j (omega arith) (omega arith)).0 e);
         };
       };
     }

@@ -7,8 +7,9 @@ ghost use Rattle.flat_check.specs.Breaks.{IsChannel, IsNearChannel, IsCutNearCha
 ghost use Rattle.flat_check.specs.Sheets.{IsSheet};
 
 use crate::lengths::in_grains;
+use crate::nearness::{are_nearer, numbered};
 use crate::sheet::Sheet;
-use lam_geom::{BoxXY, MaskLayer, contains_by, gap_box};
+use lam_geom::{BoxXY, MaskLayer, contains_by};
 
 /// Whether a box is a cut that lies too near the channel of another.
 pub fn is_cut_near_channel(sheet: &Sheet, cut: u32, diffusion: u32) -> bool
@@ -36,7 +37,7 @@ pub fn is_implant_too_near(sheet: &Sheet, implant: u32, diffusion: u32) -> bool
     requires among { implant < length sheet.now.boxes.now }
     ensures { IsTrue result ↔ IsImplantTooNear sheet.now.tech.now sheet.now.boxes.now implant diffusion }
 {
-    let own = sheet.boxes[implant as usize];
+    let own = numbered(sheet.boxes, implant);
     if own.layer != MaskLayer::NI {
         return false;
     }
@@ -44,9 +45,13 @@ pub fn is_implant_too_near(sheet: &Sheet, implant: u32, diffusion: u32) -> bool
         return false;
     };
     let numbers = sheet.tech.numbers();
-    let spacing = in_grains(sheet.tech, numbers.spacing_implant_channel);
     let extension = in_grains(sheet.tech, numbers.extension_implant);
-    gap_box(&own.area, &channel) < spacing && !contains_by(&own.area, &channel, extension)
+    are_nearer(
+        sheet.tech,
+        &own.area,
+        &channel,
+        numbers.spacing_implant_channel,
+    ) && !contains_by(&own.area, &channel, extension)
 }
 
 // Whether a box on a layer lies nearer to the channel of another than so many u.
@@ -62,14 +67,14 @@ fn is_near_channel(
     requires among { number < length sheet.now.boxes.now }
     ensures { IsTrue result ↔ IsNearChannel sheet.now.tech.now sheet.now.boxes.now layer spacing number diffusion }
 {
-    let own = sheet.boxes[number as usize];
+    let own = numbered(sheet.boxes, number);
     if own.layer != layer {
         return false;
     }
     let Some(channel) = channel_of(sheet, diffusion) else {
         return false;
     };
-    gap_box(&own.area, &channel) < in_grains(sheet.tech, spacing)
+    are_nearer(sheet.tech, &own.area, &channel, spacing)
 }
 
 // The channel of a diffusion box, if it has one.

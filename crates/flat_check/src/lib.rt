@@ -7,6 +7,7 @@
 
 mod channels;
 mod lengths;
+mod nearness;
 mod pairs;
 mod piece_pairs;
 mod rule;

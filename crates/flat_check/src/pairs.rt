@@ -1,14 +1,15 @@
 //! Rules on two boxes, tested at a pair of boxes.
-ghost use Rattle.std.specs.Prelude.{◌↔◌, ◌<◌, IsTrue, length};
+ghost use Rattle.std.specs.Prelude.{◌≡◌, ◌↔◌, ◌⊎◌, ◌<◌, IsTrue, length};
+ghost use Rattle.lam_geom.specs.declared.boxes.MaskLayer.TheVariants.{ND, NP};
 ghost use Rattle.flat_check.specs.Breaks.{IsBreak, ShapesHold, IsPolyTooNear, AreCutsTooNear};
 ghost use Rattle.flat_check.specs.Sheets.{IsSheet, IsOnPairs, IsOnNets};
 
 use crate::channels::{is_cut_near_channel, is_implant_too_near, is_window_too_near};
-use crate::lengths::in_grains;
+use crate::nearness::{are_nearer, numbered};
 use crate::piece_pairs::are_pieces_too_near;
 use crate::rule::Rule;
 use crate::sheet::Sheet;
-use lam_geom::{MaskLayer, gap_box};
+use lam_geom::{MaskLayer, overlaps};
 
 /// Whether a rule on pairs is broken at two boxes, the lesser number first.
 pub fn is_broken(sheet: &Sheet, rule: Rule, a: u32, b: u32) -> bool
@@ -25,22 +26,16 @@ pub fn is_broken(sheet: &Sheet, rule: Rule, a: u32, b: u32) -> bool
         Rule::MetalSpacing => {
             are_pieces_too_near(sheet, MaskLayer::NM, numbers.spacing_metal, a, b)
         }
-        Rule::PolySpacing => {
-            are_pieces_too_near(sheet, MaskLayer::NP, numbers.spacing_poly, a, b)
-        }
+        Rule::PolySpacing => are_pieces_too_near(sheet, MaskLayer::NP, numbers.spacing_poly, a, b),
         Rule::DiffusionSpacing => {
             are_pieces_too_near(sheet, MaskLayer::ND, numbers.spacing_diffusion, a, b)
         }
         Rule::CutSpacing => are_cuts_too_near(sheet, a, b),
-        Rule::CutToChannel => {
-            is_cut_near_channel(sheet, a, b) || is_cut_near_channel(sheet, b, a)
-        }
+        Rule::CutToChannel => is_cut_near_channel(sheet, a, b) || is_cut_near_channel(sheet, b, a),
         Rule::ImplantToChannel => {
             is_implant_too_near(sheet, a, b) || is_implant_too_near(sheet, b, a)
         }
-        Rule::WindowToChannel => {
-            is_window_too_near(sheet, a, b) || is_window_too_near(sheet, b, a)
-        }
+        Rule::WindowToChannel => is_window_too_near(sheet, a, b) || is_window_too_near(sheet, b, a),
         Rule::Width | Rule::CutSize | Rule::ProperCrossing | Rule::CutCover => false,
     }
 }
@@ -52,19 +47,23 @@ fn is_poly_too_near(sheet: &Sheet, a: u32, b: u32) -> bool
     requires second { b < length sheet.now.boxes.now }
     ensures { IsTrue result ↔ IsPolyTooNear sheet.now.tech.now sheet.now.boxes.now a b }
 {
-    let one = sheet.boxes[a as usize];
-    let other = sheet.boxes[b as usize];
-    let facing = match one.layer {
-        MaskLayer::NP => MaskLayer::ND,
-        MaskLayer::ND => MaskLayer::NP,
-        _ => return false,
-    };
-    if other.layer != facing {
-        return false;
+    let one = numbered(sheet.boxes, a);
+    let other = numbered(sheet.boxes, b);
+    let spacing = sheet.tech.numbers().spacing_poly_diffusion;
+    are_poly_and_diffusion(one.layer, other.layer)
+        && !overlaps(&one.area, &other.area)
+        && are_nearer(sheet.tech, &one.area, &other.area, spacing)
+}
+
+// Whether one of two layers is poly, and the other diffusion.
+fn are_poly_and_diffusion(one: MaskLayer, other: MaskLayer) -> bool
+    ensures { IsTrue result ↔ (((one ≡ NP) × (other ≡ ND)) ⊎ ((one ≡ ND) × (other ≡ NP))) }
+{
+    match one {
+        MaskLayer::NP => other == MaskLayer::ND,
+        MaskLayer::ND => other == MaskLayer::NP,
+        MaskLayer::NC | MaskLayer::NM | MaskLayer::NI | MaskLayer::NB => false,
     }
-    let gap = gap_box(&one.area, &other.area);
-    let spacing = in_grains(sheet.tech, sheet.tech.numbers().spacing_poly_diffusion);
-    gap >= 0 && gap < spacing
 }
 
 // Whether two boxes are cuts that lie too near one another.
@@ -74,11 +73,10 @@ fn are_cuts_too_near(sheet: &Sheet, a: u32, b: u32) -> bool
     requires second { b < length sheet.now.boxes.now }
     ensures { IsTrue result ↔ AreCutsTooNear sheet.now.tech.now sheet.now.boxes.now a b }
 {
-    let one = sheet.boxes[a as usize];
-    let other = sheet.boxes[b as usize];
-    if one.layer != MaskLayer::NC || other.layer != MaskLayer::NC {
-        return false;
-    }
-    let spacing = in_grains(sheet.tech, sheet.tech.numbers().spacing_cut);
-    gap_box(&one.area, &other.area) < spacing
+    let one = numbered(sheet.boxes, a);
+    let other = numbered(sheet.boxes, b);
+    let spacing = sheet.tech.numbers().spacing_cut;
+    one.layer == MaskLayer::NC
+        && other.layer == MaskLayer::NC
+        && are_nearer(sheet.tech, &one.area, &other.area, spacing)
 }
