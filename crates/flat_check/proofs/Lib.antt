@@ -1,4 +1,5 @@
 pub mod Grains
+pub mod NearAreas
 pub mod NearBroken
 pub mod OneChannel
 pub mod PiecePairs

@@ -27,8 +27,11 @@ pub fn is_window_too_near(sheet: &Sheet, window: u32, diffusion: u32) -> bool
     requires among { window < length sheet.now.boxes.now }
     ensures { IsTrue result ↔ IsWindowTooNear sheet.now.tech.now sheet.now.boxes.now window diffusion }
 {
+    if !sheet.tech.has_buried() {
+        return false;
+    }
     let spacing = sheet.tech.numbers().spacing_buried_channel;
-    sheet.tech.has_buried() && is_near_channel(sheet, MaskLayer::NB, spacing, window, diffusion)
+    is_near_channel(sheet, MaskLayer::NB, spacing, window, diffusion)
 }
 
 /// Whether a box is an implant that lies too near the channel of another, and does not go past it by the extension.

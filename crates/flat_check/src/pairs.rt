@@ -49,10 +49,11 @@ fn is_poly_too_near(sheet: &Sheet, a: u32, b: u32) -> bool
 {
     let one = numbered(sheet.boxes, a);
     let other = numbered(sheet.boxes, b);
+    if !are_poly_and_diffusion(one.layer, other.layer) || overlaps(&one.area, &other.area) {
+        return false;
+    }
     let spacing = sheet.tech.numbers().spacing_poly_diffusion;
-    are_poly_and_diffusion(one.layer, other.layer)
-        && !overlaps(&one.area, &other.area)
-        && are_nearer(sheet.tech, &one.area, &other.area, spacing)
+    are_nearer(sheet.tech, &one.area, &other.area, spacing)
 }
 
 // Whether one of two layers is poly, and the other diffusion.
@@ -75,8 +76,9 @@ fn are_cuts_too_near(sheet: &Sheet, a: u32, b: u32) -> bool
 {
     let one = numbered(sheet.boxes, a);
     let other = numbered(sheet.boxes, b);
+    if one.layer != MaskLayer::NC || other.layer != MaskLayer::NC {
+        return false;
+    }
     let spacing = sheet.tech.numbers().spacing_cut;
-    one.layer == MaskLayer::NC
-        && other.layer == MaskLayer::NC
-        && are_nearer(sheet.tech, &one.area, &other.area, spacing)
+    are_nearer(sheet.tech, &one.area, &other.area, spacing)
 }

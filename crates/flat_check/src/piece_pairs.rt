@@ -17,9 +17,10 @@ pub fn are_pieces_too_near(sheet: &Sheet, layer: MaskLayer, spacing: i64, a: u32
     requires second { b < length sheet.now.boxes.now }
     ensures { IsTrue result ↔ ArePiecesTooNear sheet.now.tech.now sheet.now.boxes.now layer spacing a b }
 {
-    numbered(sheet.boxes, a).layer == layer
-        && numbered(sheet.boxes, b).layer == layer
-        && have_near_pieces(sheet, spacing, a, b)
+    if numbered(sheet.boxes, a).layer != layer || numbered(sheet.boxes, b).layer != layer {
+        return false;
+    }
+    have_near_pieces(sheet, spacing, a, b)
 }
 
 // Whether pieces of two boxes lie nearer to one another than so many u, and are of different nets.
@@ -68,12 +69,11 @@ fn are_near_pieces(sheet: &Sheet, spacing: i64, i: u32, j: u32) -> bool
     requires second { j < length sheet.now.pieces.now.placed.items }
     ensures { IsTrue result ↔ AreNearPieces sheet.now spacing i j }
 {
+    if sheet.nets[i as usize] == sheet.nets[j as usize] {
+        return false;
+    }
     let pieces = sheet.pieces.placed.as_slice();
-    sheet.nets[i as usize] != sheet.nets[j as usize]
-        && are_nearer(
-            sheet.tech,
-            &pieces[i as usize].area,
-            &pieces[j as usize].area,
-            spacing,
-        )
+    let one = &pieces[i as usize].area;
+    let other = &pieces[j as usize].area;
+    are_nearer(sheet.tech, one, other, spacing)
 }
