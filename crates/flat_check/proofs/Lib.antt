@@ -1,3 +1,4 @@
+pub mod FacingPairs
 pub mod Grains
 pub mod NearAreas
 pub mod NearBroken

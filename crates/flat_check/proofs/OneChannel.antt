@@ -1,5 +1,5 @@
 -- A diffusion box has one channel, which the crossings tell.
-use Rattle.std.proofs.Common.{◌≡◌, ◌↔◌, ℕ, ◌<◌, ◌≤◌, ℤ, pos, ◌<ℤ◌, Bool, IsTrue, List, length, map, get_or, Result, Ok, Err, refl, sym, ap, ◌∙◌, subst, arith}
+use Rattle.std.proofs.Common.{◌≡◌, ◌↔◌, ℕ, ◌<◌, ◌≤◌, ℤ, pos, ◌<ℤ◌, Bool, IsTrue, List, length, map, get_or, Result, Ok, Err, inl, inr, refl, sym, ap, ◌∙◌, subst, arith}
 use Rattle.std.specs.Prelude.{MatchResult}
 use Rattle.std.specs.List.Sorted.{IsSearchInRange, IsBinarySearchResult, IsNonDecreasingBy}
 use Rattle.std.specs.Ordering.{nat_cmp, ordering_index}
@@ -58,9 +58,11 @@ channel_within tech boxes d s h =
 pub channel_among : (tech : Tech) (boxes : List MaskBox) (d : ℕ) (s : BoxXY) → IsChannel tech boxes d s → IsOn boxes ND d
 channel_among tech boxes d s h = let P : ℕ → Type 0 = λ n. IsOn boxes ND n in subst P h.diffusion h.is_crossing.meeting.overlap.diffusion
 
-pub channel_placed : (tech : Tech) (boxes : List MaskBox) (d : ℕ) (s : BoxXY) → AreSearchable boxes → IsChannel tech boxes d s → IsPlacedBox s
-channel_placed tech boxes d s searchable h =
-    placed_inner (area_at boxes d) s (searchable.placed d no_box (channel_among tech boxes d s h).among) (channel_within tech boxes d s h)
+-- the channel of a crossing can be measured
+pub crossing_placed : (tech : Tech) (boxes : List MaskBox) (c : Crossing) → AreSearchable boxes → IsCrossing tech boxes c → IsPlacedBox c.channel
+crossing_placed tech boxes c searchable is =
+    placed_inner (area_at boxes c.diffusion) c.channel (searchable.placed c.diffusion no_box is.meeting.overlap.diffusion.among)
+    (common_within (area_at boxes c.poly) (area_at boxes c.diffusion) c.channel is.channel)
 
 -- ---- among the crossings
 
