@@ -4,7 +4,7 @@ use Rattle.std.proofs.lemmas.Int.{ints, to_z-of_z}
 use Rattle.lam_geom.specs.declared.boxes.BoxXY.{BoxXY}
 use Rattle.lam_geom.specs.declared.boxes.MaskBox.{MaskBox}
 use Rattle.lam_geom.specs.declared.boxes.MaskLayer.{MaskLayer}
-use Rattle.lam_geom.specs.Gaps.{gap_of_boxes}
+use Rattle.lam_geom.specs.Gaps.{gap_of_boxes, Encloses}
 use Rattle.rule_table.specs.Bounds.{IsLength}
 use Rattle.rule_table.specs.declared.technology.Tech.{Tech}
 use Rattle.crossings.specs.Boxes.{box_at, IsOn, grains}
@@ -24,3 +24,7 @@ nearer_read tech s t u v n m r first second is e h =
     subst (λ (x : BoxXY). IsTrue r ↔ (gap_of_boxes x v <ℤ grains tech m)) first
     (subst (λ (y : BoxXY). IsTrue r ↔ (gap_of_boxes s y <ℤ grains tech m)) second
     (subst (λ (z : ℤ). IsTrue r ↔ (gap_of_boxes s t <ℤ grains tech z)) (length_held n m is e) h))
+
+-- the same of an area that goes past another
+pub past_read : (s t u : BoxXY) (n m : ℤ) (r : Bool) → s ≡ u → n ≡ m → IsTrue r ↔ Encloses s t n → IsTrue r ↔ Encloses u t m
+past_read s t u n m r first margin h = subst (λ (x : BoxXY). IsTrue r ↔ Encloses x t m) first (subst (λ (z : ℤ). IsTrue r ↔ Encloses s t z) margin h)

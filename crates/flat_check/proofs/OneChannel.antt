@@ -1,9 +1,9 @@
 -- A diffusion box has one channel, which the crossings tell.
-use Rattle.std.proofs.Common.{◌≡◌, ◌↔◌, ℕ, ◌<◌, ◌≤◌, ℤ, pos, ◌<ℤ◌, Bool, IsTrue, List, length, map, get_or, Result, Ok, Err, inl, inr, refl, sym, ap, ◌∙◌, subst, arith}
+use Rattle.std.proofs.Common.{false, ◌≡◌, ◌↔◌, ℕ, ◌<◌, ◌≤◌, ℤ, pos, ◌<ℤ◌, Bool, IsTrue, List, length, map, get_or, Result, Ok, Err, inl, inr, refl, sym, ap, ◌∙◌, subst, arith}
 use Rattle.std.specs.Prelude.{MatchResult}
 use Rattle.std.specs.List.Sorted.{IsSearchInRange, IsBinarySearchResult, IsNonDecreasingBy}
 use Rattle.std.specs.Ordering.{nat_cmp, ordering_index}
-use Rattle.std.proofs.lemmas.Bool.{cases_lt}
+use Rattle.std.proofs.lemmas.Bool.{cases_lt, false≢true}
 use Rattle.std.proofs.lemmas.Bool.Decides.{nat_tests}
 use Rattle.std.proofs.lemmas.Cmp.{ranked}
 use Rattle.std.proofs.lemmas.Int.{ints, clamps}
@@ -109,3 +109,22 @@ near_if_found tech boxes layer spacing k d s r on is h = (
   λ t. record { on = on; channel = s; is_channel = is; near = h.0 t },
   λ n. h.1 (subst (λ (c : BoxXY). gap_of_boxes (area_at boxes k) c <ℤ grains tech spacing) (channel_same tech boxes d n.channel s n.is_channel is) n.near),
 )
+
+pub none_near : (tech : Tech) (boxes : List MaskBox) (layer : MaskLayer) (spacing : ℤ) (k d : ℕ) → ((s : BoxXY) → IsChannel tech boxes d s → ⊥) → IsTrue false ↔ IsNearChannel tech boxes layer spacing k d
+none_near tech boxes layer spacing k d none = (λ t. absurd (false≢true t), λ h. absurd (none h.channel h.is_channel))
+
+-- an implant that goes past the channel lies where it may
+pub past_is_not_near : (tech : Tech) (boxes : List MaskBox) (k d : ℕ) (s : BoxXY) → IsChannel tech boxes d s → Encloses (area_at boxes k) s (grains tech (numbers_of tech).extension_implant) → IsTrue false ↔ IsImplantTooNear tech boxes k d
+past_is_not_near tech boxes k d s is past = (
+  λ t. absurd (false≢true t),
+  λ h. absurd (h.short (subst (λ (c : BoxXY). Encloses (area_at boxes k) c (grains tech (numbers_of tech).extension_implant)) (channel_same tech boxes d s h.near.channel is h.near.is_channel) past)),
+)
+
+pub implant_if_found : (tech : Tech) (boxes : List MaskBox) (k d : ℕ) (s : BoxXY) (r : Bool) → IsOn boxes NI k → IsChannel tech boxes d s → (Encloses (area_at boxes k) s (grains tech (numbers_of tech).extension_implant) → ⊥)
+    → IsTrue r ↔ (gap_of_boxes (area_at boxes k) s <ℤ grains tech (numbers_of tech).spacing_implant_channel) → IsTrue r ↔ IsImplantTooNear tech boxes k d
+implant_if_found tech boxes k d s r on is short h =
+    let near = near_if_found tech boxes NI (numbers_of tech).spacing_implant_channel k d s r on is h in
+    (λ t. record { near = record { on = on; channel = s; is_channel = is; near = h.0 t }; short = short }, λ n. near.1 n.near)
+
+pub no_implant_near : (tech : Tech) (boxes : List MaskBox) (k d : ℕ) → ((s : BoxXY) → IsChannel tech boxes d s → ⊥) → IsTrue false ↔ IsImplantTooNear tech boxes k d
+no_implant_near tech boxes k d none = (λ t. absurd (false≢true t), λ h. absurd (none h.near.channel h.near.is_channel))

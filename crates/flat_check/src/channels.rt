@@ -49,12 +49,11 @@ pub fn is_implant_too_near(sheet: &Sheet, implant: u32, diffusion: u32) -> bool
     };
     let numbers = sheet.tech.numbers();
     let extension = in_grains(sheet.tech, numbers.extension_implant);
-    are_nearer(
-        sheet.tech,
-        &own.area,
-        &channel,
-        numbers.spacing_implant_channel,
-    ) && !contains_by(&own.area, &channel, extension)
+    if contains_by(&own.area, &channel, extension) {
+        return false;
+    }
+    let spacing = numbers.spacing_implant_channel;
+    are_nearer(sheet.tech, &own.area, &channel, spacing)
 }
 
 // Whether a box on a layer lies nearer to the channel of another than so many u.
