@@ -1,21 +1,24 @@
 -- Pieces that lie too near one another, by their numbers on a sheet.
-use Rattle.std.proofs.Common.{◌≡◌, ◌≢◌, ℕ, ◌+◌, ◌<◌, ℤ, ◌<ℤ◌, List, Some, length, sym, ap, ◌∙◌, subst, arith}
+use Rattle.std.proofs.Common.{◌≡◌, ◌≢◌, ℕ, ◌+◌, ◌<◌, ◌≤◌, inl, inr, ℤ, ◌<ℤ◌, List, Some, length, get_or, sym, ap, ◌∙◌, subst, arith}
 use Rattle.std.specs.Prelude.{slice_get}
+use Rattle.std.proofs.lemmas.Bool.{cases_lt}
 use Rattle.std.proofs.lemmas.Option.{slice_get_within, same_Some}
 use Rattle.lam_geom.specs.declared.boxes.BoxXY.{BoxXY}
 use Rattle.lam_geom.specs.declared.boxes.MaskBox.{MaskBox}
 use Rattle.lam_geom.specs.declared.boxes.MaskLayer.{MaskLayer}
 use Rattle.lam_geom.specs.Gaps.{gap_of_boxes}
+use Rattle.lam_geom.specs.Places.{IsPlacedBox}
 use Rattle.rule_table.specs.declared.technology.Tech.{Tech}
 use Rattle.graph_search.specs.Netting.{Reaches}
 use Rattle.crossings.specs.declared.crossing.Crossing.{Crossing}
-use Rattle.crossings.specs.Boxes.{layer_at, grains}
+use Rattle.crossings.specs.Boxes.{no_box, area_at, layer_at, grains}
 use Rattle.net_extract.specs.declared.placing.Placed.{Placed}
 use Rattle.net_extract.specs.Places.{Place, places_of}
 use Rattle.net_extract.specs.Extraction.{IsAreaOf, IsLink}
 use Rattle.net_extract.specs.Pieces.{no_piece, piece_at, box_of, area_of, stand_of, IsPiece}
 use Rattle.net_extract.proofs.Areas.{area_same}
 use Rattle.net_extract.proofs.AllLinks.{place_there, pieces_counted}
+use Rattle.net_extract.proofs.Geometry.{placed_inner}
 use Rattle.flat_check.specs.declared.sheet.Sheet.{Sheet}
 use Rattle.flat_check.specs.Breaks.{ArePiecesTooNear}
 use Rattle.flat_check.specs.PiecePairs.{IsPieceOf, AreNearPieces, HasNearPiece, HaveNearPieces}
@@ -34,6 +37,42 @@ piece_within sheet k i is lt of =
 
 pub nets_counted : (sheet : Sheet) → IsSheet sheet → length sheet.nets.now ≡ length (pieces_on sheet)
 nets_counted sheet is = is.nets.counted ∙ pieces_counted sheet.boxes.now sheet.pieces.now.crossings.items (pieces_on sheet) is.pieces.places
+
+-- the area of a piece can be measured
+pub piece_placed : (sheet : Sheet) (shown : List Placed) (i : ℕ) (d : Placed) → IsSheet sheet → shown ≡ pieces_on sheet → i < length (pieces_on sheet) → IsPlacedBox (get_or shown i d).area
+piece_placed sheet shown i d is same lt =
+    let piece : Placed = get_or (pieces_on sheet) i d in
+    let h : IsPiece sheet.boxes.now sheet.pieces.now.crossings.items piece = is.pieces.each i d lt in
+    let P : List Placed → Type 0 = λ ps. IsPlacedBox (get_or ps i d).area in
+    subst P (sym same) (placed_inner (area_at sheet.boxes.now piece.box_no) piece.area (is.searchable.placed piece.box_no no_box h.of_box) h.inside)
+
+-- ---- a loop over the pieces of a box
+
+-- one more number that lacks a property
+pub none_more : (P : ℕ → Type 0) (first n : ℕ) → ((k : ℕ) → first ≤ k → k < n → P k → ⊥) → (P n → ⊥) → (k : ℕ) → first ≤ k → k < n + 1 → P k → ⊥
+none_more P first n so_far here k low lt h = elim (cases_lt k n) [
+  | inl before ↦ so_far k low before h
+  | inr behind ↦ (let last : k ≡ n = omega arith in here (subst P last h))
+]
+
+-- all pieces of box number b have been looked at, and none is near
+pub no_near_piece : (sheet : Sheet) (starts : List ℕ) (n m : ℤ) (b i end : ℕ) → starts ≡ sheet.pieces.now.starts.items → n ≡ m → get_or starts (b + 1) 0 ≤ end
+    → ((k : ℕ) → get_or starts b 0 ≤ k → k < end → AreNearPieces sheet n i k → ⊥) → HasNearPiece sheet m b i → ⊥
+no_near_piece sheet starts n m b i end same held past none h =
+    let first : get_or starts b 0 ≡ get_or sheet.pieces.now.starts.items b 0 = ap (λ (ss : List ℕ). get_or ss b 0) same in
+    let last : get_or starts (b + 1) 0 ≡ get_or sheet.pieces.now.starts.items (b + 1) 0 = ap (λ (ss : List ℕ). get_or ss (b + 1) 0) same in
+    let low = h.of_box.low in
+    let high = h.of_box.high in
+    none h.j (omega arith) (omega arith) (subst (λ (z : ℤ). AreNearPieces sheet z i h.j) (sym held) h.near)
+
+pub no_near_pieces : (sheet : Sheet) (starts : List ℕ) (n m : ℤ) (a b end : ℕ) → starts ≡ sheet.pieces.now.starts.items → n ≡ m → get_or starts (a + 1) 0 ≤ end
+    → ((k : ℕ) → get_or starts a 0 ≤ k → k < end → HasNearPiece sheet n b k → ⊥) → HaveNearPieces sheet m a b → ⊥
+no_near_pieces sheet starts n m a b end same held past none h =
+    let first : get_or starts a 0 ≡ get_or sheet.pieces.now.starts.items a 0 = ap (λ (ss : List ℕ). get_or ss a 0) same in
+    let last : get_or starts (a + 1) 0 ≡ get_or sheet.pieces.now.starts.items (a + 1) 0 = ap (λ (ss : List ℕ). get_or ss (a + 1) 0) same in
+    let low = h.of_box.low in
+    let high = h.of_box.high in
+    none h.i (omega arith) (omega arith) (subst (λ (z : ℤ). HasNearPiece sheet z b h.i) (sym held) h.near)
 
 -- ---- from pieces on the sheet
 

@@ -1,13 +1,15 @@
 //! Rules on the pieces of two boxes.
-ghost use Rattle.std.specs.Prelude.{◌↔◌, ◌<◌, IsTrue, length};
+ghost use Rattle.std.specs.Prelude.{◌≡◌, ◌↔◌, ◌<◌, IsTrue, length};
+ghost use Rattle.lam_geom.specs.Places.{IsPlacedBox};
 ghost use Rattle.rule_table.specs.Bounds.{IsLength};
+ghost use Rattle.net_extract.specs.Pieces.{area_of};
 ghost use Rattle.flat_check.specs.Breaks.{ArePiecesTooNear};
 ghost use Rattle.flat_check.specs.PiecePairs.{AreNearPieces, HasNearPiece, HaveNearPieces};
 ghost use Rattle.flat_check.specs.Sheets.{IsSheet};
 
 use crate::nearness::{are_nearer, numbered};
 use crate::sheet::Sheet;
-use lam_geom::MaskLayer;
+use lam_geom::{BoxXY, MaskLayer};
 
 /// Whether pieces of two boxes on a layer lie nearer to one another than so many u, and are of different nets.
 pub fn are_pieces_too_near(sheet: &Sheet, layer: MaskLayer, spacing: i64, a: u32, b: u32) -> bool
@@ -72,8 +74,17 @@ fn are_near_pieces(sheet: &Sheet, spacing: i64, i: u32, j: u32) -> bool
     if sheet.nets[i as usize] == sheet.nets[j as usize] {
         return false;
     }
-    let pieces = sheet.pieces.placed.as_slice();
-    let one = &pieces[i as usize].area;
-    let other = &pieces[j as usize].area;
-    are_nearer(sheet.tech, one, other, spacing)
+    let one = piece_area(sheet, i);
+    let other = piece_area(sheet, j);
+    are_nearer(sheet.tech, &one, &other, spacing)
+}
+
+// The area of a piece by its number.
+fn piece_area(sheet: &Sheet, i: u32) -> BoxXY
+    requires sheet { IsSheet sheet.now }
+    requires among { i < length sheet.now.pieces.now.placed.items }
+    ensures value { result ≡ area_of sheet.now.pieces.now.placed.items i }
+    ensures placed { IsPlacedBox result }
+{
+    sheet.pieces.placed.as_slice()[i as usize].area
 }
