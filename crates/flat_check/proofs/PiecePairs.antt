@@ -1,5 +1,5 @@
 -- Pieces that lie too near one another, by their numbers on a sheet.
-use Rattle.std.proofs.Common.{◌≡◌, ◌≢◌, ℕ, ◌+◌, ◌<◌, ◌≤◌, inl, inr, ℤ, ◌<ℤ◌, List, Some, length, get_or, sym, ap, ◌∙◌, subst, arith}
+use Rattle.std.proofs.Common.{◌≡◌, ◌≢◌, ◌↔◌, Bool, IsTrue, ℕ, ◌+◌, ◌<◌, ◌≤◌, inl, inr, ℤ, ◌<ℤ◌, List, Some, length, get_or, sym, ap, ◌∙◌, subst, arith}
 use Rattle.std.specs.Prelude.{slice_get}
 use Rattle.std.proofs.lemmas.Bool.{cases_lt}
 use Rattle.std.proofs.lemmas.Option.{slice_get_within, same_Some}
@@ -20,7 +20,7 @@ use Rattle.net_extract.proofs.Areas.{area_same}
 use Rattle.net_extract.proofs.AllLinks.{place_there, pieces_counted}
 use Rattle.net_extract.proofs.Geometry.{placed_inner}
 use Rattle.flat_check.specs.declared.sheet.Sheet.{Sheet}
-use Rattle.flat_check.specs.Breaks.{ArePiecesTooNear}
+use Rattle.flat_check.specs.Breaks.{ShapesHold, ArePiecesTooNear, AtNets}
 use Rattle.flat_check.specs.PiecePairs.{IsPieceOf, AreNearPieces, HasNearPiece, HaveNearPieces}
 use Rattle.flat_check.specs.Sheets.{IsSheet}
 use Rattle.flat_check.proofs.SameCrossings.{crossings_same}
@@ -172,3 +172,9 @@ have_near_pieces sheet layer spacing a b is h =
         };
       };
     }
+
+-- where nets are looked at, and by the names that the code has
+pub at_nets : (tech : Tech) (boxes : List MaskBox) (layer : MaskLayer) (n m : ℤ) (a b : ℕ) (r : Bool) → ShapesHold tech boxes → a < b → n ≡ m → IsTrue r ↔ ArePiecesTooNear tech boxes layer n a b → IsTrue r ↔ AtNets tech boxes layer m a b
+at_nets tech boxes layer n m a b r shapes lt held h =
+    let near = subst (λ (z : ℤ). IsTrue r ↔ ArePiecesTooNear tech boxes layer z a b) held h in
+    (λ t. (shapes, (lt, near.0 t)), λ k. near.1 k.1.1)
