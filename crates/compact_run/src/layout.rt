@@ -23,6 +23,7 @@ use crate::status::Status;
 use coarse_grid::{find_clash, near_share_a_point, start, start_is_a_layout};
 use expand::{Master, master_is_lawful};
 use grid_rules::{all_keep_spacing, grids_are_aligned};
+use kept_rules::boxes_keep_rules;
 use lam_geom::Axis;
 use mask_out::wholes_bound_places;
 use pass_run::{Passes, run_passes};
@@ -97,5 +98,6 @@ pub fn lay_out(
     judge_extent(tech, plan, layouts)?;
     wholes_bound_places(tech, plan, layouts);
     written_nets_are_the_sticks(tech, plan, masters, layouts);
+    boxes_keep_rules(tech, plan, masters, layouts);
     Ok(passes)
 }

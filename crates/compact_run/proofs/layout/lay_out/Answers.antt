@@ -6,6 +6,9 @@ use Rattle.rule_table.proofs.Margins.{widest_positive}
 use Rattle.rule_table.proofs.Sound.{sound}
 use Rattle.sym_items.specs.declared.items.Coords.{Coords}
 use Rattle.grid_rules.specs.Rules.{AllKeepSpacing}
+use Rattle.lam_geom.specs.declared.boxes.MaskBox.{MaskBox}
+use Rattle.conductors.specs.Shapes.{AreShapes}
+use Rattle.flat_check.specs.Breaks.{KeepRules}
 use Rattle.written_masks.specs.Written.{HasSticksNets, text_of_layouts}
 use Rattle.compact_run.specs.Designs.{IsWithin}
 use Rattle.compact_run.proofs.Layouts.{stopped, too_large, finished, sizes_above, boxed, within_length}
@@ -28,6 +31,11 @@ all_keep_spacing-requires-clause-finished c =
 
 pub written_nets_are_the_sticks-requires-clause-finished : goal.written_nets_are_the_sticks-requires-clause-finished
 written_nets_are_the_sticks-requires-clause-finished c =
+    let q = c.in_ok-passes.ensures in
+    finished c.args.tech.now c.args.plan.now c.args.masters.now c.args.axes.now _ _ c.as_slice-layouts.ensures c.requires.both q.placed q.met
+
+pub boxes_keep_rules-requires-clause-finished : goal.boxes_keep_rules-requires-clause-finished
+boxes_keep_rules-requires-clause-finished c =
     let q = c.in_ok-passes.ensures in
     finished c.args.tech.now c.args.plan.now c.args.masters.now c.args.axes.now _ _ c.as_slice-layouts.ensures c.requires.both q.placed q.met
 
@@ -78,12 +86,15 @@ returns-clause-laid_out c =
     let W : List Coords → Type 0 = λ cs. IsWithin c.args.tech.now c.args.plan.now cs in
     let S : List Coords → Type 0 = λ cs. AllKeepSpacing c.args.tech.now c.args.plan.now c.args.masters.now cs in
     let N : List Coords → Type 0 = λ cs. HasSticksNets c.args.tech.now c.args.plan.now c.args.masters.now cs (text_of_layouts c.args.tech.now c.args.plan.now c.args.masters.now cs) in
+    let K : List Coords → Type 0 = λ cs. (boxes : List MaskBox) → AreShapes c.args.tech.now c.args.plan.now c.args.masters.now cs boxes → KeepRules c.args.tech.now boxes in
+    let nets = subst N is c.written_nets_are_the_sticks.ensures in
     record {
       made = record { clean = c.in_ok-judge_starts.ensures.clean; on_axes = q.axes; passes = q.passes };
       sound = q.sound_passes;
       within = subst W is c.in_ok-judge_extent.ensures.within;
       spaced = subst S is c.all_keep_spacing.ensures;
-      nets = subst N is c.written_nets_are_the_sticks.ensures;
+      nets = nets;
+      rules = subst K is c.boxes_keep_rules.ensures nets.boxes nets.shapes;
     }
 
 pub returns-clause-boxes : goal.returns-clause-boxes
