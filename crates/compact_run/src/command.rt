@@ -10,8 +10,8 @@ ghost use Rattle.compact_run.specs.Designs.{HasBothAxes};
 ghost use Rattle.compact_run.specs.Limits.{most_passes};
 ghost use Rattle.stick_print.specs.Canonical.{canonical};
 
-use crate::compact::compact;
 use crate::cif::{CifJob, output_of_file};
+use crate::compact::compact;
 use crate::output::Output;
 use crate::reading::{read_design, read_technology};
 use crate::refusal::Refusal;

@@ -21,7 +21,7 @@ returns-in-Err-clause-untouched g c = untouched c.refuse.result _
 
 pub returns-in-Ok-clause-complete : goal.returns-in-Ok-clause-complete
 returns-in-Ok-clause-complete g c = λ t told none shelf out report.
-    ends_done c.write.result c.write.ensures.answer (λ e. out (c.write.ensures.output_fault e)) (λ e. report (c.write.ensures.report_fault e))
+    ends_done c.write.result c.write.ensures.answer (λ e. out (c.write.ensures.fault e)) (λ e. report (c.write.ensures.report_fault e))
 
 pub returns-in-Err-clause-complete : goal.returns-in-Err-clause-complete
 returns-in-Err-clause-complete g c = λ t told none shelf out report.
