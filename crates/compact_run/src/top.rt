@@ -1,6 +1,6 @@
 //! The top call.
 
-ghost use Rattle.std.specs.Prelude.{◌≡◌, ◌⊎◌, ¬◌, ℕ, ◌≤◌, List, Some};
+ghost use Rattle.std.specs.Prelude.{◌≡◌, ◌⊎◌, ℕ, ◌≤◌, List, Some};
 ghost use Rattle.lam_io.specs.Io.{Telling, Rose};
 ghost use Rattle.compact_run.specs.declared.status.File.{File};
 ghost use Rattle.run_words.specs.Words.{command_of, texts_of};
