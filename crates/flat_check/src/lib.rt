@@ -5,7 +5,16 @@
 //! hundredths of a micron.
 #![tactic(auto)]
 
+mod covers;
+mod first;
+mod lengths;
+mod pairs;
+mod partners;
 mod rule;
 mod sheet;
+mod singles;
+#[cfg(test)]
+mod tests;
 
+pub use first::first_break;
 pub use rule::{Break, Rule};

@@ -1,0 +1,9 @@
+pub mod Covered
+pub mod Firsts
+pub mod Grains
+pub mod Leasts
+pub mod NearBroken
+pub mod Nearest
+pub mod Orders
+pub mod Searches
+pub mod Shapes
