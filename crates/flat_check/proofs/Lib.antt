@@ -7,3 +7,10 @@ pub mod Nearest
 pub mod Orders
 pub mod Searches
 pub mod Shapes
+pub mod FacingPairs
+pub mod Grains
+pub mod NearAreas
+pub mod NearBroken
+pub mod OneChannel
+pub mod PiecePairs
+pub mod SameCrossings

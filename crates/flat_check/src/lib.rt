@@ -5,11 +5,14 @@
 //! hundredths of a micron.
 #![tactic(auto)]
 
+mod channels;
 mod covers;
 mod first;
 mod lengths;
+mod nearness;
 mod pairs;
 mod partners;
+mod piece_pairs;
 mod rule;
 mod sheet;
 mod singles;
