@@ -1,6 +1,6 @@
 -- Where a rule on pairs is broken, the second box lies near the first, on the layer that faces it.
-use Rattle.std.proofs.Common.{◌≡◌, ℕ, ◌+◌, ◌<◌, ℤ, pos, ◌≤ℤ◌, ◌<ℤ◌, List, Some, ◌⊎◌, inl, inr, length, map, get_or, refl, sym, ap, ◌∙◌, subst, arith}
-use Rattle.std.specs.Prelude.{slice_get, flat_map}
+use Rattle.std.proofs.Common.{◌≡◌, ℕ, ◌<◌, ℤ, pos, ◌≤ℤ◌, ◌<ℤ◌, List, Some, ◌⊎◌, inl, inr, length, refl, sym, ap, ◌∙◌, subst, arith}
+use Rattle.std.specs.Prelude.{slice_get}
 use Rattle.std.specs.List.{AllByRecursion, range_with_len}
 use Rattle.std.proofs.lemmas.Int.{ints, clamps}
 use Rattle.std.proofs.lemmas.List.Elements.{All-contains}
@@ -25,7 +25,7 @@ use Rattle.net_extract.specs.Places.{Place, place, parts_on, is_crossed, places_
 use Rattle.net_extract.specs.Extraction.{Spans, IsOfBox, IsAreaOfPart, IsAreaOf}
 use Rattle.flat_check.specs.declared.rule.Rule.{Rule}
 use Rattle.flat_check.specs.declared.rule.Rule.TheVariants.{Width, CutSize, ProperCrossing, PolyToDiffusion, CutCover, MetalSpacing, PolySpacing, DiffusionSpacing, CutSpacing, CutToChannel, ImplantToChannel, WindowToChannel}
-use Rattle.flat_check.specs.Breaks.{IsPolyTooNear, AreCutsTooNear, ArePiecesTooNear, IsNearChannel, IsBreak}
+use Rattle.flat_check.specs.Breaks.{IsPolyTooNear, ArePiecesTooNear, IsNearChannel, IsBreak}
 use Rattle.flat_check.specs.Reaches.{spacing_of_rule, reach_of}
 use Rattle.flat_check.specs.Sheets.{IsOnPairs, facing_of}
 use Rattle.flat_check.proofs.OneChannel.{common_within, channel_within, channel_among}

@@ -4,7 +4,6 @@ use Rattle.std.proofs.lemmas.Bool.{iff_false}
 use Rattle.lam_geom.specs.contracts.boxes.MaskLayer.{the_type}
 use Rattle.lam_geom.specs.declared.boxes.MaskBox.{MaskBox}
 use Rattle.lam_geom.specs.declared.boxes.MaskLayer.TheVariants.{NI}
-use Rattle.rule_table.specs.Technology.{numbers_of}
 use Rattle.rule_table.specs.declared.keys.Numbers.{Numbers}
 use Rattle.crossings.specs.Boxes.{area_at}
 use Rattle.flat_check.proofs.Grains.{grains_held, held}

@@ -1,4 +1,4 @@
-use Rattle.std.proofs.Common.{◌≡◌, ◌↔◌, ℤ, IsTrue, true, refl, sym, ap, ◌∙◌, subst}
+use Rattle.std.proofs.Common.{◌≡◌, ◌↔◌, ℤ, IsTrue, true, sym, ap, ◌∙◌, subst}
 use Rattle.lam_geom.specs.declared.boxes.MaskLayer.TheVariants.{NB}
 use Rattle.rule_table.specs.declared.keys.Numbers.{Numbers}
 use Rattle.rule_table.specs.Technology.{has_buried_of}

@@ -1,4 +1,4 @@
-use Rattle.std.proofs.Common.{◌↔◌, ◌≡◌, inl, inr, IsTrue, sym, ap, subst}
+use Rattle.std.proofs.Common.{◌↔◌, inl, inr, IsTrue, sym, ap, subst}
 use Rattle.lam_geom.specs.declared.boxes.MaskLayer.TheVariants.{ND, NP, NM}
 use Rattle.rule_table.specs.declared.keys.Numbers.{Numbers}
 use Rattle.flat_check.specs.declared.rule.Rule.{Rule}

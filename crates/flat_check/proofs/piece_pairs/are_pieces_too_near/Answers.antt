@@ -1,7 +1,6 @@
 use denote.Enum.Bare.{differs_false}
-use Rattle.std.proofs.Common.{◌≡◌, ◌↔◌, ℤ, IsTrue, refl, sym, ap, ◌∙◌, subst, rules}
+use Rattle.std.proofs.Common.{◌≡◌, ◌↔◌, ℤ, IsTrue, refl, sym, subst, rules}
 use Rattle.lam_geom.specs.contracts.boxes.MaskLayer.{the_type}
-use Rattle.lam_geom.specs.declared.boxes.MaskBox.{MaskBox}
 use Rattle.flat_check.specs.PiecePairs.{HaveNearPieces}
 use Rattle.flat_check.proofs.NearAreas.{length_held, on_layer}
 use Rattle.flat_check.proofs.PiecePairs.{pieces_too_near, have_near_pieces}

@@ -1,4 +1,4 @@
-use Rattle.std.proofs.Common.{ℕ, get_or, of_z, to_z, w64, refl}
+use Rattle.std.proofs.Common.{get_or, of_z, to_z, w64, refl}
 use Rattle.std.proofs.lemmas.Bool.{false≢true, iff_false}
 use Rattle.flat_check.specs.PiecePairs.{AreNearPieces}
 use Rattle.flat_check.proofs.NearAreas.{length_held}
