@@ -1,5 +1,5 @@
--- How many mask boxes masters and their instances have.
-use Rattle.std.specs.Prelude.{ℕ, List, sum_by}
+-- How many mask boxes masters and their instances have, and designs that are small enough for a short text.
+use Rattle.std.specs.Prelude.{ℕ, ◌≤◌, All, List, length, sum_by}
 use Rattle.lam_geom.specs.declared.boxes.Axis.TheVariants.{X, Y}
 use Rattle.rule_table.specs.declared.technology.Tech.{Tech}
 use Rattle.rule_table.specs.Technology.{widest_of}
@@ -8,6 +8,7 @@ use Rattle.sym_items.specs.declared.items.Coords.{Coords}
 use Rattle.sym_items.specs.Layouts.{size_in}
 use Rattle.expand.specs.declared.master.Master.{Master}
 use Rattle.plan_model.specs.declared.plan.Plan.{Plan}
+use Rattle.plan_model.specs.Instances.{spots_of}
 use Rattle.plan_model.specs.Plan.{grids_of}
 use Rattle.pitch_join.specs.Masters.{master_at}
 use Rattle.mask_out.specs.Masks.{Mask}
@@ -28,3 +29,13 @@ boxes_at masters m = boxes_of_master (master_at masters m)
 -- all instances together: grid by grid, row by row, and of each row those of its masters
 abbrev pub boxes_of_instances : Plan → List Master → ℕ
 boxes_of_instances plan masters = sum_by (sum_by (sum_by (boxes_at masters))) (grids_of plan)
+
+-- the name of a master fits into a line
+abbrev pub HasShortName : Master → Type 0
+HasShortName master = length master.cell.name ≤ 65000
+
+-- The names of masters are short. All masters together, each once, have 65,536 mask boxes at most, and there are 1,048,576 instances at most.
+pub record HasFewParts (plan : Plan) (masters : List Master) : Type 0 where
+  pub named : All HasShortName masters
+  pub boxes : sum_by boxes_of_master masters ≤ 65536
+  pub instances : length (spots_of (grids_of plan)) ≤ 1048576
