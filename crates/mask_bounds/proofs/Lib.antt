@@ -4,3 +4,4 @@ pub mod InstanceBoxes
 pub mod ShortLines
 pub mod ShortSymbols
 pub mod ShortTexts
+pub mod Listed

@@ -26,6 +26,7 @@ use Rattle.written_masks.proofs.Pictures.{drawings_counted, picture_writable}
 use Rattle.written_masks.proofs.Symbols.{FitFinished}
 use Rattle.mask_bounds.specs.Parts.{boxes_of_master, HasFewParts}
 use Rattle.mask_bounds.proofs.InstanceBoxes.{symbol_counted}
+use Rattle.mask_bounds.proofs.InstanceSums.{spots_counted}
 use Rattle.mask_bounds.proofs.ShortLines.{behind, call_line_short}
 use Rattle.mask_bounds.proofs.ShortSymbols.{symbol_short}
 use Rattle.mask_bounds.proofs.Sums.{pieces_short, sum_numbers, sum_of_parts, sum_ones}
@@ -108,4 +109,4 @@ module _ (tech : Tech) (plan : Plan) (masters : List Master) (layouts : List Coo
       let all = behind (flat_map (λ part. part) (texts_of unit drawings)) (calls_text unit calls) _ _ symbols_short last in
       let boxes = few.boxes in
       let instances = few.instances in
-      omega (arith, ap length parts, all, called, most, boxes, instances)
+      omega (arith, ap length parts, all, called, spots_counted (grids_of plan), most, boxes, instances)

@@ -8,7 +8,6 @@ use Rattle.sym_items.specs.declared.items.Coords.{Coords}
 use Rattle.sym_items.specs.Layouts.{size_in}
 use Rattle.expand.specs.declared.master.Master.{Master}
 use Rattle.plan_model.specs.declared.plan.Plan.{Plan}
-use Rattle.plan_model.specs.Instances.{spots_of}
 use Rattle.plan_model.specs.Plan.{grids_of}
 use Rattle.pitch_join.specs.Masters.{master_at}
 use Rattle.mask_out.specs.Masks.{Mask}
@@ -30,6 +29,10 @@ boxes_at masters m = boxes_of_master (master_at masters m)
 abbrev pub boxes_of_instances : Plan → List Master → ℕ
 boxes_of_instances plan masters = sum_by (sum_by (sum_by (boxes_at masters))) (grids_of plan)
 
+-- how many instances there are, grid by grid and row by row
+abbrev pub instances_in : Plan → ℕ
+instances_in plan = sum_by (sum_by length) (grids_of plan)
+
 -- the name of a master fits into a line
 abbrev pub HasShortName : Master → Type 0
 HasShortName master = length master.cell.name ≤ 65000
@@ -38,4 +41,4 @@ HasShortName master = length master.cell.name ≤ 65000
 pub record HasFewParts (plan : Plan) (masters : List Master) : Type 0 where
   pub named : All HasShortName masters
   pub boxes : sum_by boxes_of_master masters ≤ 65536
-  pub instances : length (spots_of (grids_of plan)) ≤ 1048576
+  pub instances : instances_in plan ≤ 1048576
