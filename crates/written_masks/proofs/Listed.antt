@@ -6,8 +6,8 @@ use Rattle.cell_model.specs.Counts.{boxes_in}
 use Rattle.expand.specs.declared.master.Master.{Master}
 use Rattle.plan_model.specs.declared.plan.Plan.{Plan}
 use Rattle.plan_model.specs.Plan.{grids_of}
-use Rattle.mask_bounds.specs.Parts.{boxes_of_master, boxes_at, boxes_of_instances}
-use Rattle.mask_bounds.proofs.Sums.{sum_every, sum_images}
+use Rattle.written_masks.specs.Parts.{boxes_of_master, boxes_at, boxes_of_instances}
+use Rattle.written_masks.proofs.Sums.{sum_every, sum_images}
 
 -- past the last there is a master without boxes
 boxes_listed : (masters : List Master) (m : ℕ) → slice_index (map boxes_of_master masters) m ≡ boxes_at masters m

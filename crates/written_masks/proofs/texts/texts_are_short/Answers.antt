@@ -1,6 +1,6 @@
 -- The law is the lemma on the text of finished layouts.
-use Rattle.mask_bounds.proofs.ShortTexts.{layouts_text_short}
-use Rattle.mask_bounds.proofs.texts.texts_are_short.Goals as goal
+use Rattle.written_masks.proofs.ShortTexts.{layouts_text_short}
+use Rattle.written_masks.proofs.texts.texts_are_short.Goals as goal
 
 pub returns : goal.returns
 returns c =

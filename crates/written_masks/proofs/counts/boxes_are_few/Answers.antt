@@ -1,6 +1,6 @@
 -- The law is the lemmas on the picture and on what it shows.
-use Rattle.mask_bounds.proofs.InstanceBoxes.{picture_counted, shown_counted}
-use Rattle.mask_bounds.proofs.boxes.boxes_are_few.Goals as goal
+use Rattle.written_masks.proofs.InstanceBoxes.{picture_counted, shown_counted}
+use Rattle.written_masks.proofs.counts.boxes_are_few.Goals as goal
 
 pub returns-clause-picture : goal.returns-clause-picture
 returns-clause-picture c = picture_counted c.args.tech.now c.args.plan.now c.args.masters.now c.args.layouts.now c.requires.planned c.requires.counted

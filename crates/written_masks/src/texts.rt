@@ -3,7 +3,7 @@ ghost use Rattle.std.specs.Prelude.{◌≤◌, ◌^◌, length};
 ghost use Rattle.pitch_join.specs.Masters.{ArePlanned};
 ghost use Rattle.grid_rules.specs.Rules.{AreFinished};
 ghost use Rattle.written_masks.specs.Written.{FitIntoText, text_of_layouts};
-ghost use Rattle.mask_bounds.specs.Parts.{HasFewParts};
+ghost use Rattle.written_masks.specs.Parts.{HasFewParts};
 
 use expand::Master;
 use plan_model::Plan;

@@ -14,8 +14,8 @@ use Rattle.cif_meaning.specs.Written.{IsNumber, IsUnit, IsWritableMask, IsWritab
 use Rattle.cif_meaning.proofs.Commands.{on_layer}
 use Rattle.cif_meaning.proofs.Numbers.{half_of}
 use Rattle.cif_meaning.proofs.PictureLines.{all_every}
-use Rattle.mask_bounds.proofs.Sums.{pieces_short, sum_of_parts, sum_ones}
-use Rattle.mask_bounds.proofs.ShortLines.{behind, box_line_short, scale_line_short}
+use Rattle.written_masks.proofs.Sums.{pieces_short, sum_of_parts, sum_ones}
+use Rattle.written_masks.proofs.ShortLines.{behind, box_line_short, scale_line_short}
 
 -- ---- boxes
 

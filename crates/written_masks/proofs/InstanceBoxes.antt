@@ -24,9 +24,9 @@ use Rattle.mask_out.proofs.FlatCounted.{flat_counted}
 use Rattle.conductors.specs.Conductors.{Drawn}
 use Rattle.conductors.specs.Shapes.{shapes_of, mask_of_shape, AreShapes}
 use Rattle.conductors.proofs.PictureShapes.{spots_are, master_there, masks_drawn, picture_shows}
-use Rattle.mask_bounds.specs.Parts.{boxes_of_picture, boxes_at, boxes_of_instances}
-use Rattle.mask_bounds.proofs.Sums.{sum_same, sum_images}
-use Rattle.mask_bounds.proofs.InstanceSums.{instance_sum}
+use Rattle.written_masks.specs.Parts.{boxes_of_picture, boxes_at, boxes_of_instances}
+use Rattle.written_masks.proofs.Sums.{sum_same, sum_images}
+use Rattle.written_masks.proofs.InstanceSums.{instance_sum}
 
 -- the masks of a master in any layout
 items_counted : (tech : Tech) (master : Master) (c : Coords) → AreItems tech master.cell master.items → length (masks_in c master.items.list) ≡ boxes_in master.cell

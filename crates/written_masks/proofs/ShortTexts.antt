@@ -24,12 +24,12 @@ use Rattle.cif_meaning.specs.Written.{IsWritableCall, IsWritablePicture}
 use Rattle.written_masks.specs.Written.{unit_of, text_of_layouts}
 use Rattle.written_masks.proofs.Pictures.{drawings_counted, picture_writable}
 use Rattle.written_masks.proofs.Symbols.{FitFinished}
-use Rattle.mask_bounds.specs.Parts.{boxes_of_master, HasFewParts}
-use Rattle.mask_bounds.proofs.InstanceBoxes.{symbol_counted}
-use Rattle.mask_bounds.proofs.InstanceSums.{spots_counted}
-use Rattle.mask_bounds.proofs.ShortLines.{behind, call_line_short}
-use Rattle.mask_bounds.proofs.ShortSymbols.{symbol_short}
-use Rattle.mask_bounds.proofs.Sums.{pieces_short, sum_numbers, sum_of_parts, sum_ones}
+use Rattle.written_masks.specs.Parts.{boxes_of_master, HasFewParts}
+use Rattle.written_masks.proofs.InstanceBoxes.{symbol_counted}
+use Rattle.written_masks.proofs.InstanceSums.{spots_counted}
+use Rattle.written_masks.proofs.ShortLines.{behind, call_line_short}
+use Rattle.written_masks.proofs.ShortSymbols.{symbol_short}
+use Rattle.written_masks.proofs.Sums.{pieces_short, sum_numbers, sum_of_parts, sum_ones}
 
 -- ---- calls
 
