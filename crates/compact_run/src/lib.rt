@@ -19,8 +19,6 @@ mod planning;
 mod reading;
 mod refusal;
 mod status;
-#[cfg(test)]
-mod tests;
 mod top;
 
 pub use laws::answers_are_determined;
