@@ -9,7 +9,7 @@ use Rattle.compact_run.specs.declared.status.Side2.TheVariants as side
 use Rattle.compact_run.specs.declared.status.Side2.TheVariants.{Output, Report}
 use Rattle.compact_run.specs.declared.status.Status.{Status}
 use Rattle.compact_run.specs.declared.status.Status.TheVariants as status
-use Rattle.run_words.specs.Commands.{Command, compact, check, extract, fmt, bench, command_of}
+use Rattle.run_words.specs.Words.{Command, compact, check, extract, fmt, bench, command_of}
 use Rattle.compact_run.specs.declared.cif.CifJob.TheVariants.{Extract, Check}
 use Rattle.compact_run.specs.Refusal.{line_of}
 use Rattle.compact_run.specs.Fetches.{IsRefusal, AsksFor, AsksThrough, file_of}

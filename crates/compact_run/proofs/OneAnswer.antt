@@ -14,7 +14,7 @@ use Rattle.compact_run.specs.declared.status.File.TheVariants.{Design, Technolog
 use Rattle.compact_run.specs.declared.status.Side2.TheVariants as side
 use Rattle.compact_run.specs.declared.status.Status.{Status}
 use Rattle.compact_run.specs.declared.status.Status.TheVariants as status
-use Rattle.run_words.specs.Commands.{Command, compact, check, extract, fmt, bench, command_of}
+use Rattle.run_words.specs.Words.{Command, compact, check, extract, fmt, bench, command_of}
 use Rattle.compact_run.specs.declared.cif.CifJob.{CifJob}
 use Rattle.compact_run.specs.declared.cif.CifJob.TheVariants.{Extract, Check}
 use Rattle.compact_run.specs.FaultLines.{stick_line, tech_line}
@@ -182,7 +182,9 @@ does_once law (Some (fmt design)) files e f o p r s a b = formats_once design fi
 does_once law (Some (bench n)) files e f o p r s a b = absurd a
 
 does_refused : (c : Option Command) (files : Files) (ended : Status) (own : Bytes) → RefusesWords c files ended own → IsDecided ended → Does c files ended [] (line_of ended own)
-does_refused None files ended own why d = (why, refl, ap (λ (z : Status). line_of z own) why)
+does_refused None files status.OutOfMemory own why d = absurd d
+does_refused None files status.Usage own why d = (refl, refl, refl)
+does_refused None files other own why d = absurd why
 does_refused (Some (compact design tech axes split)) files ended own why d = compacts_refused design tech axes files ended own why d
 does_refused (Some (check cif tech)) files ended own why d = jobs_refused Check cif tech files ended own why d
 does_refused (Some (extract cif tech)) files ended own why d = jobs_refused Extract cif tech files ended own why d

@@ -22,7 +22,7 @@ use Rattle.compact_run.specs.declared.status.Status.TheVariants as status
 use Rattle.compact_run.specs.declared.status.What.TheVariants.{Boxes}
 use Rattle.compact_run.specs.declared.cif.CifJob.{CifJob}
 use Rattle.compact_run.specs.declared.cif.CifJob.TheVariants.{Extract, Check}
-use Rattle.run_words.specs.Commands.{Command, compact, check, extract, fmt, bench, command_of}
+use Rattle.run_words.specs.Words.{Command, compact, check, extract, fmt, bench, command_of}
 use Rattle.compact_run.specs.Fetches.{HasFile, IsLongFile}
 use Rattle.compact_run.specs.FaultLines.{stick_line, tech_line, cif_line, improper_line, broken_line}
 use Rattle.compact_run.specs.Refusal.{line_of}
@@ -153,7 +153,9 @@ pub record IsFormatted (design : Bytes) (files : Files) (output : Bytes) : Type 
 
 -- why the words are refused: they are no command, or their command is refused
 abbrev pub RefusesWords : Option Command → Files → Status → Bytes → Type 0
-RefusesWords None files ended own = ended ≡ status.Usage
+RefusesWords None files status.OutOfMemory own = Unit {0}
+RefusesWords None files status.Usage own = Unit {0}
+RefusesWords None files other own = ⊥
 RefusesWords (Some (compact design tech axes split)) files ended own = RefusesCompact design tech axes files ended own
 RefusesWords (Some (check cif tech)) files ended own = RefusesJob Check cif tech files ended own
 RefusesWords (Some (extract cif tech)) files ended own = RefusesJob Extract cif tech files ended own

@@ -2,7 +2,7 @@
 use Rattle.std.specs.Prelude.{◌≡◌, ℕ, ◌<◌, ◌≤◌, ◌⊎◌, Option, Some, None, List, [], ◌∷◌, length, option_map}
 use Rattle.std.specs.FinMap.{get}
 use Rattle.lam_io.specs.Io.{Bytes, Files, Telling, Asks, Rose, with_asked}
-use Rattle.run_words.specs.Commands.{Command, compact, check, extract, fmt, bench}
+use Rattle.run_words.specs.Words.{Command, compact, check, extract, fmt, bench}
 use Rattle.compact_run.specs.Limits.{most_design_bytes, most_technology_bytes, most_cif_bytes}
 use Rattle.compact_run.specs.declared.status.File.{File}
 use Rattle.compact_run.specs.declared.status.File.TheVariants.{Design, Technology, Cif}

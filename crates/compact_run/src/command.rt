@@ -2,8 +2,7 @@
 
 ghost use Rattle.std.specs.Prelude.{◌≡◌, ℕ, ◌≤◌, length, [], Some, IfOk, IfErr};
 ghost use Rattle.lam_io.specs.Io.{Telling};
-ghost use Rattle.run_words.specs.Words.{texts_of};
-ghost use Rattle.run_words.specs.Commands.{command_of, compact, fmt};
+ghost use Rattle.run_words.specs.Words.{command_of, compact, fmt, texts_of};
 ghost use Rattle.compact_run.specs.Fetches.{IsRefusal, IsCounted, IsUsage, AsksFor};
 ghost use Rattle.compact_run.specs.Refusals.{ending_of};
 ghost use Rattle.compact_run.specs.Answers.{IsGiven, command_for, text_of};

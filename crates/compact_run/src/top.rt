@@ -3,8 +3,7 @@
 ghost use Rattle.std.specs.Prelude.{◌≡◌, ℕ, ◌≤◌, List, Some};
 ghost use Rattle.lam_io.specs.Io.{Telling, Rose};
 ghost use Rattle.compact_run.specs.declared.status.File.{File};
-ghost use Rattle.run_words.specs.Words.{texts_of};
-ghost use Rattle.run_words.specs.Commands.{command_of};
+ghost use Rattle.run_words.specs.Words.{command_of, texts_of};
 ghost use Rattle.compact_run.specs.Fetches.{IsUsage, AsksFor};
 ghost use Rattle.compact_run.specs.Answers.{IsAnswer, Writes, Tells, IsUntouched};
 

@@ -1,2 +1,4 @@
 pub mod Breaks
+pub mod PiecePairs
+pub mod Reaches
 pub mod Sheets

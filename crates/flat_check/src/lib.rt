@@ -5,7 +5,12 @@
 //! hundredths of a micron.
 #![tactic(auto)]
 
+mod channels;
 mod first;
+mod lengths;
+mod nearness;
+mod pairs;
+mod piece_pairs;
 mod rule;
 mod sheet;
 

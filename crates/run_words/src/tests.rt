@@ -6,12 +6,14 @@ use std::test::Fail;
 fn meaning(alloc: Global, line: &str) -> Result<String, AllocError> {
     let words: Vec<&str> = line.split(' ').collect(alloc)?;
     match read_words(alloc, words.as_slice()) {
-        Ok(Command::Compact {
-            design,
-            tech,
-            passes,
-            split,
-        }) => {
+        Ok(
+            Command::Compact {
+                design,
+                tech,
+                passes,
+                split,
+            },
+        ) => {
             let axes = passes.as_slice();
             format!(in alloc; "compact {design} {tech} {axes:?} {split}")
         }

@@ -1,9 +1,8 @@
 //! Reading a command line.
 
 ghost use Rattle.std.specs.Prelude.{◌≡◌, Some, None, Err, IfOk};
-ghost use Rattle.run_words.specs.Words.{texts_of};
-ghost use Rattle.run_words.specs.Commands.{bench_of, check_of, command_of, compact_of, extract_of, fmt_of};
-ghost use Rattle.run_words.specs.Answers.{command_from, HasPassList};
+ghost use Rattle.run_words.specs.Words.{bench_of, check_of, command_of, compact_of, extract_of, fmt_of, texts_of};
+ghost use Rattle.run_words.specs.Commands.{command_from, HasPassList};
 ghost use Rattle.run_words.specs.declared.commands.WordsFault.TheVariants.{Usage};
 
 use crate::commands::{Command, WordsFault};
@@ -76,8 +75,8 @@ fn read_bench<'a>(alloc: Global, words: &'a [&'a str]) -> Result<Command<'a>, Wo
     Ok(Command::Bench { n })
 }
 
-/// The command that the words are: those that stand after the program's name. `Usage` comes exactly where they are no command;
-/// want of memory is the one other refusal.
+/// The command that the words are, which are those behind the program's name. `Usage` comes exactly where they are no
+/// command. Want of memory is the one other refusal.
 pub fn read_words<'a>(alloc: Global, words: &'a [&'a str]) -> Result<Command<'a>, WordsFault>
     ensures command { IfOk result (λ command. command_of (texts_of words.now) ≡ Some (command_from command)) }
     ensures passes { IfOk result HasPassList }

@@ -1,6 +1,5 @@
 use Rattle.compact_run.specs.Answers.{text_of}
-use Rattle.run_words.specs.Words.{texts_of}
-use Rattle.run_words.specs.Commands.{command_of}
+use Rattle.run_words.specs.Words.{command_of, texts_of}
 use Rattle.compact_run.specs.Refusal.{own_text}
 use Rattle.compact_run.proofs.Endings.{ends_written, ends_refused, asks_for_all, untouched}
 use Rattle.compact_run.proofs.top.run.Goals as goal
