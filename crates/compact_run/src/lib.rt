@@ -20,8 +20,6 @@ mod planning;
 mod reading;
 mod refusal;
 mod status;
-#[cfg(test)]
-mod tests;
 mod top;
 
 pub use laws::{answers_are_determined, masks_pass_the_check};

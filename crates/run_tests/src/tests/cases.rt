@@ -15,26 +15,42 @@ const WIDE: &str =
     "version = 1\nunit = 150\n[width]\ndiffusion = 4\npoly = 4\nmetal = 8\n[spacing]\ndiffusion = 6\npoly = 4\nmetal = 6\npoly_diffusion = 2\ncut = 4\ncut_channel = 4\nimplant_channel = 3\n[extension]\npoly = 4\ndiffusion = 4\nimplant = 3\n[cut]\nsize = 4\nenclosure = 2\n";
 
 pub const COMPACT: Case = Case {
-    words: &["compact", "d", "--tech", "t"],
+    words: "compact d --tech t",
     tech: SHIPPED,
     text: "",
+    fetch_faults: &[],
     output_faults: &[],
     report_faults: &[],
     status: "Done",
+    asked: "t d ",
     output: "",
     report: "",
 };
 
-// The words are no command.
-const USAGE: Case = Case {
+const UPRIGHT: &str =
+    "sticks 1\ncell a\njoint p metal 0 0\njoint q metal 0 1\nwire metal p q\nend\ngrid\nrow a\nend\n";
+
+/// A wire up a column shrinks to its least extent.
+pub const SHRUNK: Case = Case {
     text: UPRIGHT,
-    status: "Usage",
-    report: "sticks: usage\n",
+    output: "DS 1 75 1;\n9 a;\nL NM;\nB 12 12 18 18;\nB 12 12 18 18;\nB 12 12 18 18;\nDF;\nC 1 T 0 0;\nE\n",
+    report: "pass 1 x edges 11 backward 2 rounds 1\ncell a size 18 kept 0\n0 -> a:p 9 margin\na:p -> a| 9 margin\npass 2 y edges 8 backward 0 rounds 1\ncell a size 18 kept 0\n0 -> a:p 9 margin\na:p -> a| 9 margin\n",
     ..COMPACT
 };
 
-const UPRIGHT: &str =
-    "sticks 1\ncell a\njoint p metal 0 0\njoint q metal 0 1\nwire metal p q\nend\ngrid\nrow a\nend\n";
+pub const FMT: Case = Case {
+    words: "fmt d",
+    asked: "d ",
+    ..COMPACT
+};
+
+// The words are no command.
+const USAGE: Case = Case {
+    status: "Usage",
+    asked: "",
+    report: "sticks: usage\n",
+    ..COMPACT
+};
 
 // A refusal puts its line.
 pub const REFUSALS: [Case; 4] = [
@@ -66,85 +82,84 @@ pub const REFUSALS: [Case; 4] = [
     },
 ];
 
-// Words that are no command.
-pub const WORDS: [Case; 4] = [
+// Words in another order, and words that are no command.
+pub const WORDS: [Case; 10] = [
     Case {
-        words: &[],
+        words: "compact --tech=t d",
+        ..SHRUNK
+    },
+    Case {
+        words: "check d",
         ..USAGE
     },
     Case {
-        words: &["compact", "d"],
+        words: "compact d --tech t --tech t",
+        ..USAGE
+    },
+    // Lists of passes: on one axis alone, with another letter, and none.
+    Case {
+        words: "compact d --tech t --passes yy",
         ..USAGE
     },
     Case {
-        words: &["compact", "-d", "--tech", "t"],
+        words: "compact d --tech t --passes xyz",
         ..USAGE
     },
     Case {
-        words: &["check", "d"],
-        ..USAGE
-    },
-];
-
-// Lists of passes: on one axis alone, with another letter, too long, and none.
-pub const LISTS: [Case; 9] = [
-    Case {
-        words: &["compact", "d", "--tech", "t", "--passes", "x"],
-        ..USAGE
-    },
-    Case {
-        words: &["compact", "d", "--tech", "t", "--passes", "yy"],
-        ..USAGE
-    },
-    Case {
-        words: &["compact", "d", "--tech", "t", "--passes", "xyz"],
-        ..USAGE
-    },
-    Case {
-        words: &[
-            "compact",
-            "d",
-            "--tech",
-            "t",
-            "--passes",
-            "xyxyxyxyxyxyxyxyx",
-        ],
-        ..USAGE
-    },
-    Case {
-        words: &["compact", "d", "--tech", "t", "--passes", ""],
+        words: "compact d --tech t --passes ",
         ..USAGE
     },
     // A list is missing, or more follows it, or its option is another one, or stands twice.
     Case {
-        words: &["compact", "d", "--tech", "t", "--passes"],
+        words: "compact d --tech t --passes",
         ..USAGE
     },
     Case {
-        words: &["compact", "d", "--tech", "t", "--passes", "xy", "z"],
+        words: "compact d --tech t --passes xy z",
         ..USAGE
     },
     Case {
-        words: &["compact", "d", "--tech", "t", "passes", "xy"],
+        words: "compact d --tech t passes xy",
         ..USAGE
     },
     Case {
-        words: &[
-            "compact", "d", "--tech", "t", "--passes", "xy", "--passes", "xy",
-        ],
+        words: "compact d --tech t --passes xy --passes xy",
         ..USAGE
     },
 ];
 
 // What fails says so.
-pub const FAILURES: [Case; 3] = [
-    // No such file.
+pub const FAILURES: [Case; 6] = [
+    // No such file, and fetches that fail.
     Case {
-        words: &["compact", "e", "--tech", "t"],
+        words: "compact e --tech t",
         text: UPRIGHT,
+        asked: "t e ",
         report: "sticks: cannot read design\n",
         status: "ReadFault(Design)",
         ..COMPACT
+    },
+    Case {
+        text: UPRIGHT,
+        fetch_faults: &[0],
+        asked: "t ",
+        report: "sticks: cannot read technology\n",
+        status: "ReadFault(Technology)",
+        ..COMPACT
+    },
+    Case {
+        text: UPRIGHT,
+        fetch_faults: &[1],
+        report: "sticks: cannot read design\n",
+        status: "ReadFault(Design)",
+        ..COMPACT
+    },
+    Case {
+        text: UPRIGHT,
+        fetch_faults: &[0],
+        report: "sticks: cannot read design\n",
+        status: "ReadFault(Design)",
+        ..FMT
     },
     // A front of the masks stands where their writing failed.
     Case {
@@ -177,7 +192,8 @@ pub const TECHNOLOGIES: [Case; 6] = [
     },
     // No technologies: no such file, no TOML, and a further key. The design is not looked at.
     Case {
-        words: &["compact", "d", "--tech", "none"],
+        words: "compact d --tech none",
+        asked: "none ",
         report: "sticks: cannot read technology\n",
         status: "ReadFault(Technology)",
         ..COMPACT
@@ -185,24 +201,28 @@ pub const TECHNOLOGIES: [Case; 6] = [
     Case {
         tech: "=",
         report: "sticks: technology: NotToml\n",
+        asked: "t ",
         status: "BadTech(NotToml)",
         ..COMPACT
     },
     Case {
         tech: "version = 1\nunit = 150\n[width]\ndiffusion = 4\npoly = 4\nmetal = 5\n[spacing]\ndiffusion = 6\npoly = 4\nmetal = 6\npoly_diffusion = 2\ncut = 4\ncut_channel = 4\nimplant_channel = 3\n[extension]\npoly = 4\ndiffusion = 4\nimplant = 3\n[cut]\nsize = 4\nenclosure = 2\n",
         report: "sticks: technology: OddWidth width.metal\n",
+        asked: "t ",
         status: "BadTech(Numbers(OddWidth(4)))",
         ..COMPACT
     },
     Case {
         tech: "version = 1\nunit = 150\n[width]\ndiffusion = 4\npoly = 4\nmetal = 6\n[spacing]\ndiffusion = 6\npoly = 4\nmetal = 6\npoly_diffusion = 2\ncut = 4\ncut_channel = 4\nimplant_channel = 3\n[extension]\npoly = 4\ndiffusion = 4\nimplant = 3\n",
         report: "sticks: technology: Missing cut.size\n",
+        asked: "t ",
         status: "BadTech(Missing(15))",
         ..COMPACT
     },
     Case {
         tech: "extra = 1\nversion = 1\nunit = 150\n[width]\ndiffusion = 4\npoly = 4\nmetal = 6\n[spacing]\ndiffusion = 6\npoly = 4\nmetal = 6\npoly_diffusion = 2\ncut = 4\ncut_channel = 4\nimplant_channel = 3\n[extension]\npoly = 4\ndiffusion = 4\nimplant = 3\n[cut]\nsize = 4\nenclosure = 2\n",
         report: "sticks: technology: Unknown extra\n",
+        asked: "t ",
         status: "BadTech(Unknown(Text { held: [101, 120, 116, 114, 97] }))",
         ..COMPACT
     },
@@ -212,39 +232,34 @@ pub const TECHNOLOGIES: [Case; 6] = [
 pub const TEXTS: [Case; 5] = [
     // A text in its canonical form: no comment, no empty line, one blank between words.
     Case {
-        words: &["fmt", "d"],
         text: "sticks 1\n\ncell e # empty\nend\ngrid\nrow  e\nend",
         output: "sticks 1\ncell e\nend\ngrid\nrow e\nend\n",
-        ..COMPACT
+        ..FMT
     },
     // Grids with names, of which two have one: `fmt` checks no names.
     Case {
-        words: &["fmt", "d"],
         text: "sticks  2\ngrid  g # first\nend\n\ngrid h\n row a b\nend\ngrid g\nend",
         output: "sticks 2\ngrid g\nend\ngrid h\nrow a b\nend\ngrid g\nend\n",
-        ..COMPACT
+        ..FMT
     },
     // It has no report, so nothing fails there.
     Case {
-        words: &["fmt", "d"],
         text: "sticks 1\ncell e\nend\ngrid\nrow e\nend\n",
         report_faults: &[0],
         output: "sticks 1\ncell e\nend\ngrid\nrow e\nend\n",
-        ..COMPACT
+        ..FMT
     },
     // No designs: nothing, and a line that is cut.
     Case {
-        words: &["fmt", "d"],
         report: "sticks: line 1: Unended\n",
         status: "BadSticks(StickFault { line: 1, kind: Unended })",
-        ..COMPACT
+        ..FMT
     },
     Case {
-        words: &["fmt", "d"],
         text: "sticks 1\ncell a\nwire metal p",
         report: "sticks: line 3: BadLine\n",
         status: "BadSticks(StickFault { line: 3, kind: BadLine })",
-        ..COMPACT
+        ..FMT
     },
 ];
 
@@ -269,12 +284,10 @@ pub const EXTENTS: [Case; 2] = [
 pub const REPORTS: [Case; 2] = [
     // The report is one piece, of which the first half stands.
     Case {
-        text: "sticks 1\ncell a\njoint p metal 0 0\njoint q metal 0 1\nwire metal p q\nend\ngrid\nrow a\nend\n",
         report_faults: &[0],
-        output: "DS 1 75 1;\n9 a;\nL NM;\nB 12 12 18 18;\nB 12 12 18 18;\nB 12 12 18 18;\nDF;\nC 1 T 0 0;\nE\n",
         report: "pass 1 x edges 11 backward 2 rounds 1\ncell a size 18 kept 0\n0 -> a:p 9 margin\na:p -> a| 9 margin",
         status: "WriteFault(Report)",
-        ..COMPACT
+        ..SHRUNK
     },
     Case {
         text: "sticks 1\ncell e\nend\ngrid\nrow e\nend\n",

@@ -1,17 +1,11 @@
 //! What `compact` makes of worked cells: masks and reports, or a cycle.
 
 use super::Case;
-use super::cases::COMPACT;
+use super::cases::{COMPACT, SHRUNK};
 
 // Parts fall as low as they may.
 pub const FALLS: [Case; 7] = [
-    // A wire up a column shrinks to its least extent.
-    Case {
-        text: "sticks 1\ncell a\njoint p metal 0 0\njoint q metal 0 1\nwire metal p q\nend\ngrid\nrow a\nend\n",
-        output: "DS 1 75 1;\n9 a;\nL NM;\nB 12 12 18 18;\nB 12 12 18 18;\nB 12 12 18 18;\nDF;\nC 1 T 0 0;\nE\n",
-        report: "pass 1 x edges 11 backward 2 rounds 1\ncell a size 18 kept 0\n0 -> a:p 9 margin\na:p -> a| 9 margin\npass 2 y edges 8 backward 0 rounds 1\ncell a size 18 kept 0\n0 -> a:p 9 margin\na:p -> a| 9 margin\n",
-        ..COMPACT
-    },
+    SHRUNK,
     // Two such columns.
     Case {
         text: "sticks 1\ncell t\njoint a metal 0 0\njoint b metal 0 1\njoint c metal 1 0\njoint d metal 1 1\nwire metal a b\nwire metal c d\nend\ngrid\nrow t\nend\n",
@@ -130,7 +124,7 @@ pub const ORDERS: [Case; 4] = [
         ..COMPACT
     },
     Case {
-        words: &["compact", "d", "--tech", "t", "--passes", "yx"],
+        words: "compact d --tech t --passes yx",
         text: "sticks 1\ncell t\njoint a metal 0 0\njoint b metal 1 1\nend\ngrid\nrow t\nend\n",
         output: "DS 1 75 1;\n9 t;\nL NM;\nB 12 12 18 18;\nB 12 12 42 18;\nDF;\nC 1 T 0 0;\nE\n",
         report: "pass 1 y edges 5 backward 0 rounds 1\ncell t size 18 kept 0\n0 -> t:a 9 margin\nt:a -> t| 9 margin\npass 2 x edges 6 backward 0 rounds 1\ncell t size 30 kept 1\n0 -> t:a 9 margin\nt:a -> t:b 12 space\nt:b -> t| 9 margin\n",
@@ -138,14 +132,7 @@ pub const ORDERS: [Case; 4] = [
     },
     // More passes change nothing.
     Case {
-        words: &[
-            "compact",
-            "d",
-            "--tech",
-            "t",
-            "--passes",
-            "xyxyxyxyxyxyxyxy",
-        ],
+        words: "compact d --tech t --passes xyxyxyxyxyxyxyxy",
         text: "sticks 1\ncell t\njoint a metal 0 0\njoint b metal 1 1\nend\ngrid\nrow t\nend\n",
         output: "DS 1 75 1;\n9 t;\nL NM;\nB 12 12 18 18;\nB 12 12 18 42;\nDF;\nC 1 T 0 0;\nE\n",
         report: "pass 1 x edges 5 backward 0 rounds 1\ncell t size 18 kept 0\n0 -> t:a 9 margin\nt:a -> t| 9 margin\npass 2 y edges 6 backward 0 rounds 1\ncell t size 30 kept 1\n0 -> t:a 9 margin\nt:a -> t:b 12 space\nt:b -> t| 9 margin\npass 3 x edges 5 backward 0 rounds 1\ncell t size 18 kept 0\n0 -> t:a 9 margin\nt:a -> t| 9 margin\npass 4 y edges 6 backward 0 rounds 1\ncell t size 30 kept 1\n0 -> t:a 9 margin\nt:a -> t:b 12 space\nt:b -> t| 9 margin\npass 5 x edges 5 backward 0 rounds 1\ncell t size 18 kept 0\n0 -> t:a 9 margin\nt:a -> t| 9 margin\npass 6 y edges 6 backward 0 rounds 1\ncell t size 30 kept 1\n0 -> t:a 9 margin\nt:a -> t:b 12 space\nt:b -> t| 9 margin\npass 7 x edges 5 backward 0 rounds 1\ncell t size 18 kept 0\n0 -> t:a 9 margin\nt:a -> t| 9 margin\npass 8 y edges 6 backward 0 rounds 1\ncell t size 30 kept 1\n0 -> t:a 9 margin\nt:a -> t:b 12 space\nt:b -> t| 9 margin\npass 9 x edges 5 backward 0 rounds 1\ncell t size 18 kept 0\n0 -> t:a 9 margin\nt:a -> t| 9 margin\npass 10 y edges 6 backward 0 rounds 1\ncell t size 30 kept 1\n0 -> t:a 9 margin\nt:a -> t:b 12 space\nt:b -> t| 9 margin\npass 11 x edges 5 backward 0 rounds 1\ncell t size 18 kept 0\n0 -> t:a 9 margin\nt:a -> t| 9 margin\npass 12 y edges 6 backward 0 rounds 1\ncell t size 30 kept 1\n0 -> t:a 9 margin\nt:a -> t:b 12 space\nt:b -> t| 9 margin\npass 13 x edges 5 backward 0 rounds 1\ncell t size 18 kept 0\n0 -> t:a 9 margin\nt:a -> t| 9 margin\npass 14 y edges 6 backward 0 rounds 1\ncell t size 30 kept 1\n0 -> t:a 9 margin\nt:a -> t:b 12 space\nt:b -> t| 9 margin\npass 15 x edges 5 backward 0 rounds 1\ncell t size 18 kept 0\n0 -> t:a 9 margin\nt:a -> t| 9 margin\npass 16 y edges 6 backward 0 rounds 1\ncell t size 30 kept 1\n0 -> t:a 9 margin\nt:a -> t:b 12 space\nt:b -> t| 9 margin\n",
@@ -153,7 +140,7 @@ pub const ORDERS: [Case; 4] = [
     },
     // Two on one axis before the other.
     Case {
-        words: &["compact", "d", "--tech", "t", "--passes", "xxy"],
+        words: "compact d --tech t --passes xxy",
         text: "sticks 1\ncell t\njoint a metal 0 0\njoint b metal 1 1\nend\ngrid\nrow t\nend\n",
         output: "DS 1 75 1;\n9 t;\nL NM;\nB 12 12 18 18;\nB 12 12 18 42;\nDF;\nC 1 T 0 0;\nE\n",
         report: "pass 1 x edges 5 backward 0 rounds 1\ncell t size 18 kept 0\n0 -> t:a 9 margin\nt:a -> t| 9 margin\npass 2 x edges 5 backward 0 rounds 1\ncell t size 18 kept 0\n0 -> t:a 9 margin\nt:a -> t| 9 margin\npass 3 y edges 6 backward 0 rounds 1\ncell t size 30 kept 1\n0 -> t:a 9 margin\nt:a -> t:b 12 space\nt:b -> t| 9 margin\n",
@@ -231,7 +218,7 @@ pub const CYCLES: [Case; 5] = [
         ..COMPACT
     },
     Case {
-        words: &["compact", "d", "--tech", "t", "--passes", "yx"],
+        words: "compact d --tech t --passes yx",
         text: "sticks 1\ncell t\njoint a metal 0 0\njoint b metal 0 1\nlimit y a b <= 11\nend\ngrid\nrow t\nend\n",
         report: "pass 1 y unsatisfiable length 1\nt:a -> t:b 12 space\nt:b -> t:a -11 limit\n",
         status: "Unsatisfiable { pass: 1 }",

@@ -1,10 +1,10 @@
-//! What `extract` answers.
+//! What `extract` and `check` answer.
 
 use super::Case;
 use super::cases::COMPACT;
 
 const EXTRACT: Case = Case {
-    words: &["extract", "d", "--tech", "t"],
+    words: "extract d --tech t",
     ..COMPACT
 };
 
@@ -28,21 +28,55 @@ pub const NETLISTS: [Case; 6] = [
         ..EXTRACT
     },
     Case {
-        words: &["extract", "c", "--tech", "t"],
+        words: "extract c --tech t",
+        asked: "t c ",
         report: "sticks: cannot read cif\n",
         status: "ReadFault(Cif)",
         ..EXTRACT
     },
     Case {
-        words: &["extract", "c"],
+        words: "extract c",
+        asked: "",
         report: "sticks: usage\n",
         status: "Usage",
         ..EXTRACT
     },
     Case {
-        words: &["extract", "c", "--tech"],
+        words: "extract c --tech",
+        asked: "",
         report: "sticks: usage\n",
         status: "Usage",
         ..EXTRACT
+    },
+];
+
+const CHECK: Case = Case {
+    words: "check d --tech t",
+    ..COMPACT
+};
+
+// Two metal boxes a grid unit too near, and as far apart as they have to be; no box; and more behind the end.
+pub const VERDICTS: [Case; 4] = [
+    Case {
+        text: "DS 1 75 1; L NM; B 12 12 18 18; B 12 12 40 18; DF; C 1 T 0 0; E",
+        report: "sticks: rule 6: boxes 0 1\n",
+        status: "RuleBroken(Break { rule: MetalSpacing, a: 0, b: 1 })",
+        ..CHECK
+    },
+    Case {
+        text: "DS 1 75 1; L NM; B 12 12 18 18; B 12 12 42 18; DF; C 1 T 0 0; E",
+        output: "ok\n",
+        ..CHECK
+    },
+    Case {
+        text: "E",
+        output: "ok\n",
+        ..CHECK
+    },
+    Case {
+        text: "E\nL NM;\n",
+        report: "sticks: byte 2: AfterEnd\n",
+        status: "BadCif(CifFault { offset: 2, kind: AfterEnd })",
+        ..CHECK
     },
 ];

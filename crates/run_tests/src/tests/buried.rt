@@ -44,6 +44,7 @@ pub const BURIED: [Case; 5] = [
     Case {
         tech: "version = 2\nunit = 150\n[width]\ndiffusion = 4\npoly = 4\nmetal = 6\n[spacing]\ndiffusion = 6\npoly = 4\nmetal = 6\npoly_diffusion = 2\ncut = 4\ncut_channel = 4\nimplant_channel = 3\nburied_channel = 4\n[extension]\npoly = 4\ndiffusion = 4\nimplant = 3\n[cut]\nsize = 4\nenclosure = 2\n",
         report: "sticks: technology: Missing extension.buried\n",
+        asked: "t ",
         status: "BadTech(Missing(17))",
         ..LOAD
     },
