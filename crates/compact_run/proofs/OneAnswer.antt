@@ -21,7 +21,7 @@ use Rattle.compact_run.specs.FaultLines.{stick_line, tech_line}
 use Rattle.compact_run.specs.Refusal.{line_of}
 use Rattle.compact_run.specs.Plans.{AreMastersOf}
 use Rattle.compact_run.specs.Designs.{CompactsTo, RefusesDesign, no_masters, no_masks as not_laid_out}
-use Rattle.compact_run.specs.Answers.{IsTechnology, IsDesign, RefusesTechnology, RefusesSticks, IsCompacted, RefusesCompact, no_technology, no_design, no_masks, IsTold, RefusesJob, no_rules, no_cif, command_for, RefusesWords, IsAnswer, compacted, told, formatted, refused, output_failed, report_failed}
+use Rattle.compact_run.specs.Answers.{IsTechnology, IsDesign, RefusesTechnology, RefusesSticks, IsCompacted, RefusesCompact, no_technology, no_design, no_masks, IsTold, RefusesJob, no_rules, no_cif, RefusesWords, IsAnswer, compacted, told, formatted, refused, output_failed, report_failed}
 use Rattle.compact_run.specs.OneAnswer.{IsDecided, HasOneAnswer}
 use Rattle.compact_run.proofs.OneFile.{IsReadAs, IsNotRead, long, faulty, read_once, not_both, refused_once}
 use Rattle.compact_run.proofs.OneMaster.{same_tech, one_masters, Comes, laid_out, comes_refused, comes_once, AreSame}

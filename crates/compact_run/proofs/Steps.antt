@@ -1,5 +1,5 @@
 -- What the steps of a command tell of the shelf, and what they come to together.
-use Rattle.std.proofs.Common.{◌≡◌, ◌⊎◌, ℕ, Option, Some, None, refl, Result, Ok, Err, List, [], IfOk, IfErr, inl, inr, sym, ap, subst, ◌∙◌, option_map}
+use Rattle.std.proofs.Common.{◌≡◌, ℕ, Option, Some, None, refl, Result, Ok, Err, List, [], IfOk, IfErr, inl, inr, sym, ap, subst, ◌∙◌, option_map}
 use Rattle.lam_geom.specs.declared.boxes.Axis.{Axis}
 use Rattle.lam_io.specs.Io.{Bytes, Files, Telling, with_asked, Asks}
 use Rattle.rule_table.specs.declared.technology.Tech.{Tech}

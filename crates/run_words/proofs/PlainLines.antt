@@ -9,7 +9,6 @@ use Rattle.clap.specs.Simple.{Shape, built, filled, with_index}
 use Rattle.clap.specs.Kinds.{check_kinds}
 use Rattle.clap.specs.Takes.{is_given}
 use Rattle.clap.specs.Faults.{check_fault}
-use Rattle.run_words.specs.Values.{count_in}
 use Rattle.run_words.specs.Lines.{cif_line, compact_line, found_in, operand, operand_line, option, tech, text_of, without_fault}
 use Rattle.run_words.specs.Words.{Command, compact_as, compact_of, compact_with, fmt, fmt_of, operand_of, passes_of, split_of, tech_of}
 use Rattle.run_words.specs.PlainLines.{Part, are_new, compact_from, fmt_from, is_plain_line, value_at, where_new, words_of}

@@ -2,7 +2,6 @@
 use Rattle.std.specs.Prelude.{◌≡◌, Bool, true, false, not, ◌&&◌, ◌==◌, List, [], ◌∷◌, ◌++◌, Option, None, if◌then◌else◌, codes, bytes_eq, find, flat_map, option_and_then, option_map, unwrap_or}
 use Rattle.std.specs.List.{list_all, list_any}
 use Rattle.clap.specs.Words.{Text}
-use Rattle.run_words.specs.Values.{count_in}
 use Rattle.run_words.specs.Words.{Command, check, command_of, compact_as, extract, fmt}
 
 -- what may stand behind the command's name: an operand, `--NAME VALUE` or `--NAME=VALUE`

@@ -1,4 +1,4 @@
-use Rattle.std.proofs.Common.{◌≡◌, ◌≤◌, List, length, refl, sym, ◌∙◌, subst}
+use Rattle.std.proofs.Common.{◌≡◌, ◌≤◌, length, refl, sym, ◌∙◌, subst}
 use Rattle.compact_run.specs.Limits.{most_cif_bytes}
 use Rattle.cif_read.specs.Meaning.{Means}
 use Rattle.lam_io.specs.Io.{Bytes}
