@@ -61,6 +61,7 @@ odd_by_square tech boxes a own side b is on length_is h = go b (there h) where
   there : IsTrue b ↔ IsSquare side own.area → IsTrue b ↔ IsSquare (grains tech (numbers_of tech).cut_size) (area_at boxes a)
   there = subst (λ (s : ℤ). IsTrue b ↔ IsSquare side own.area → IsTrue b ↔ IsSquare s (area_at boxes a)) length_is
       (subst (λ (x : MaskBox). IsTrue b ↔ IsSquare side own.area → IsTrue b ↔ IsSquare side x.area) is (λ same. same))
+
   go : (r : Bool) → IsTrue r ↔ IsSquare (grains tech (numbers_of tech).cut_size) (area_at boxes a) → IsTrue (not r) ↔ IsOddCut tech boxes a
   go true square = (λ t. let no : ⊥ = cc in absurd no, λ odd. absurd (odd.odd (square.0 refl)))
   go false square = (λ _. record { is_cut = on; odd = λ even. let t : false ≡ true = square.1 even in cc }, λ _. refl)

@@ -1,5 +1,5 @@
 -- The least of some numbers with a fact, as far as the first ones.
-use Rattle.std.proofs.Common.{◌≡◌, ℕ, ◌+◌, ◌<◌, ◌≤◌, inl, inr, Option, Some, None, List, length, get_or, Contains, arith}
+use Rattle.std.proofs.Common.{◌≡◌, ℕ, ◌+◌, inl, inr, Option, Some, None, List, length, get_or, Contains, arith}
 use Rattle.std.proofs.lemmas.Bool.{cases_lt}
 use Rattle.crossings.specs.Pairs.{Least, IsBelow}
 use Rattle.flat_check.proofs.Firsts.{IsFirstWith, with_more, with_on, with_new, contains_with, with_contained}

@@ -1,18 +1,17 @@
 -- What the rules before those on nets say of the shapes of boxes.
-use Rattle.std.proofs.Common.{◌≡◌, ℕ, ◌<◌, ◌≤◌, ◌⊎◌, inl, inr, Some, List, refl, sym, ap, ◌∙◌, subst, lit<, arith}
+use Rattle.std.proofs.Common.{◌≡◌, ℕ, ◌<◌, inl, inr, Some, List, refl, sym, ap, ◌∙◌, subst, lit<, arith}
 use Rattle.std.proofs.lemmas.Bool.{cases_lt}
 use Rattle.std.proofs.lemmas.Int.{ints, clamps}
 use Rattle.lam_geom.specs.declared.boxes.BoxXY.{BoxXY}
 use Rattle.lam_geom.specs.declared.boxes.MaskBox.{MaskBox}
 use Rattle.lam_geom.specs.declared.boxes.MaskLayer.{MaskLayer}
 use Rattle.lam_geom.specs.declared.boxes.MaskLayer.TheVariants.{ND, NP}
-use Rattle.lam_geom.specs.Gaps.{gap_of_boxes, Overlaps}
+use Rattle.lam_geom.specs.Gaps.{gap_of_boxes}
 use Rattle.rule_table.specs.declared.technology.Tech.{Tech}
-use Rattle.rule_table.specs.Technology.{numbers_of}
-use Rattle.crossings.specs.Boxes.{area_at, layer_at, grains}
+use Rattle.crossings.specs.Boxes.{area_at, layer_at}
 use Rattle.crossings.specs.Crossings.{AreProper}
 use Rattle.flat_check.specs.declared.rule.Rule.{Rule}
-use Rattle.flat_check.specs.declared.rule.Rule.TheVariants.{Width, CutSize, ProperCrossing, PolyToDiffusion, CutCover, MetalSpacing, PolySpacing, DiffusionSpacing}
+use Rattle.flat_check.specs.declared.rule.Rule.TheVariants.{Width, CutSize, PolyToDiffusion, CutCover}
 use Rattle.flat_check.specs.Breaks.{number_of, ArePairOf, AreOnBoth, IsPolyTooNear, ShapesHold}
 use Rattle.flat_check.specs.Order.{IsKept, KeepBefore}
 use Rattle.flat_check.specs.Sheets.{IsOnNets}

@@ -1,13 +1,11 @@
 use denote.Enum.Bare.{differs_false}
-use Rattle.std.proofs.Common.{◌≡◌, ◌↔◌, Bool, IsTrue, false, true, inl, of_z, to_z, w64, refl, sym, ap, subst, rules}
+use Rattle.std.proofs.Common.{◌≡◌, false, true, inl, refl, sym, ap, subst, rules}
 use Rattle.std.proofs.lemmas.List.{get_or_read}
 use Rattle.lam_geom.specs.contracts.boxes.MaskLayer.{the_type}
 use Rattle.lam_geom.specs.declared.boxes.MaskBox.{MaskBox}
-use Rattle.lam_geom.specs.declared.boxes.MaskLayer.{MaskLayer}
 use Rattle.lam_geom.specs.declared.boxes.MaskLayer.TheVariants.{ND, NP, NC, NM}
 use Rattle.lam_geom.specs.Places.{IsPlacedBox}
 use Rattle.crossings.specs.Boxes.{no_box}
-use Rattle.crossings.specs.Pairs.{IsCovered}
 use Rattle.flat_check.proofs.Covered.{IsCoveredCut, cut_read, covered_read, no_metal, covered_twice, uncovered_by_diffusion}
 use Rattle.flat_check.proofs.Grains.{grains_held}
 use Rattle.flat_check.proofs.covers.is_uncovered.Goals as goal

@@ -1,4 +1,4 @@
-use Rattle.std.proofs.Common.{◌≡◌, ◌≤ℤ◌, of_z, to_z, w64, sym, ap, ◌∙◌, arith}
+use Rattle.std.proofs.Common.{◌≤ℤ◌, of_z, to_z, w64, sym, ap, ◌∙◌, arith}
 use Rattle.std.proofs.lemmas.Int.{ints, clamps, to_z-of_z}
 use Rattle.std.proofs.lemmas.List.{get_or_default}
 use Rattle.lam_geom.specs.declared.boxes.MaskBox.{MaskBox}
