@@ -1,5 +1,5 @@
 -- The order of the rules, and of breaks.
-use Rattle.std.proofs.Common.{◌≡◌, ℕ, ◌+◌, ◌-◌, ◌<◌, inl, inr, MatchOption, Option, Some, None, List, [], ◌∷◌, get_or, refl, sym, ap, ◌∙◌, subst, lit<, arith}
+use Rattle.std.proofs.Common.{◌≡◌, ℕ, ◌+◌, ◌-◌, ◌<◌, inl, inr, Option, Some, None, List, [], ◌∷◌, get_or, refl, sym, ap, ◌∙◌, subst, lit<, arith}
 use Rattle.std.proofs.lemmas.Bool.{cases_lt}
 use Rattle.lam_geom.specs.declared.boxes.MaskBox.{MaskBox}
 use Rattle.rule_table.specs.declared.technology.Tech.{Tech}
@@ -129,10 +129,6 @@ first_of_all tech boxes rule first before found = record {
               inr (found.of_rule ∙ sym same, found.least a b (subst (λ (r : Rule). IsBreak tech boxes r a b) same broken))
         ]
       ]
-
--- what a search finds of one rule
-abbrev pub IsFoundOf : Tech → List MaskBox → Rule → Option Break → Type 0
-IsFoundOf tech boxes rule found = MatchOption found (IsKept tech boxes rule) (IsFirstOf tech boxes rule)
 
 -- the first pair that does not cross properly
 pub first_bad_pair : (tech : Tech) (boxes : List MaskBox) (a b : ℕ) → IsFirstBadPair tech boxes a b → IsFirstOf tech boxes ProperCrossing (record { rule = ProperCrossing; a = a; b = b })
