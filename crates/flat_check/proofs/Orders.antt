@@ -8,7 +8,7 @@ use Rattle.flat_check.specs.declared.rule.Rule.{Rule}
 use Rattle.flat_check.specs.declared.rule.Rule.TheVariants.{Width, CutSize, ProperCrossing, PolyToDiffusion, CutCover, MetalSpacing, PolySpacing, DiffusionSpacing, CutSpacing, CutToChannel, ImplantToChannel, WindowToChannel}
 use Rattle.crossings.specs.Crossings.{IsFirstBadPair}
 use Rattle.flat_check.specs.Breaks.{number_of, IsBreak, IsFirstBreak, IsNotAfter}
-use Rattle.flat_check.specs.Order.{next_of, IsKept, KeepBefore, IsFirstOf}
+use Rattle.flat_check.specs.Order.{IsKept, KeepBefore, IsFirstOf}
 
 -- ---- rules by number
 
