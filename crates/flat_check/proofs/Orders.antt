@@ -1,5 +1,5 @@
 -- The order of the rules, and of breaks.
-use Rattle.std.proofs.Common.{◌≡◌, ℕ, ◌+◌, ◌-◌, ◌<◌, inl, inr, MatchOption, Option, Some, None, List, [], ◌∷◌, get_or, refl, sym, ap, ◌∙◌, subst, lit<, arith}
+use Rattle.std.proofs.Common.{◌≡◌, ℕ, ◌+◌, ◌-◌, ◌<◌, inl, inr, Option, Some, None, List, [], ◌∷◌, get_or, refl, sym, ap, ◌∙◌, subst, lit<, arith}
 use Rattle.std.proofs.lemmas.Bool.{cases_lt}
 use Rattle.lam_geom.specs.declared.boxes.MaskBox.{MaskBox}
 use Rattle.rule_table.specs.declared.technology.Tech.{Tech}
@@ -8,7 +8,7 @@ use Rattle.flat_check.specs.declared.rule.Rule.{Rule}
 use Rattle.flat_check.specs.declared.rule.Rule.TheVariants.{Width, CutSize, ProperCrossing, PolyToDiffusion, CutCover, MetalSpacing, PolySpacing, DiffusionSpacing, CutSpacing, CutToChannel, ImplantToChannel, WindowToChannel}
 use Rattle.crossings.specs.Crossings.{IsFirstBadPair}
 use Rattle.flat_check.specs.Breaks.{number_of, IsBreak, IsFirstBreak, IsNotAfter}
-use Rattle.flat_check.specs.Order.{next_of, IsKept, KeepBefore, IsFirstOf}
+use Rattle.flat_check.specs.Order.{IsKept, KeepBefore, IsFirstOf}
 
 -- ---- rules by number
 
@@ -34,20 +34,6 @@ numbered WindowToChannel = refl
 pub one_number : (a b : Rule) → number_of a ≡ number_of b → a ≡ b
 one_number a b e = sym (numbered a) ∙ ap rule_with e ∙ numbered b
 
-pub number_within : (rule : Rule) → number_of rule < 13
-number_within Width = lit< tt
-number_within CutSize = lit< tt
-number_within ProperCrossing = lit< tt
-number_within PolyToDiffusion = lit< tt
-number_within CutCover = lit< tt
-number_within MetalSpacing = lit< tt
-number_within PolySpacing = lit< tt
-number_within DiffusionSpacing = lit< tt
-number_within CutSpacing = lit< tt
-number_within CutToChannel = lit< tt
-number_within ImplantToChannel = lit< tt
-number_within WindowToChannel = lit< tt
-
 -- the first number is 1
 number_from : (rule : Rule) → 0 < number_of rule
 number_from Width = lit< tt
@@ -70,22 +56,9 @@ abbrev pub left_from : Option Rule → ℕ
 left_from (Some rule) = 13 - number_of rule
 left_from None = 0
 
-pub fewer_left : (rule : Rule) → left_from (next_of rule) < left_from (Some rule)
-fewer_left Width = lit< tt
-fewer_left CutSize = lit< tt
-fewer_left ProperCrossing = lit< tt
-fewer_left PolyToDiffusion = lit< tt
-fewer_left CutCover = lit< tt
-fewer_left MetalSpacing = lit< tt
-fewer_left PolySpacing = lit< tt
-fewer_left DiffusionSpacing = lit< tt
-fewer_left CutSpacing = lit< tt
-fewer_left CutToChannel = lit< tt
-fewer_left ImplantToChannel = lit< tt
-fewer_left WindowToChannel = lit< tt
-
-kept_to : (tech : Tech) (boxes : List MaskBox) (rule : Rule) → KeepBefore tech boxes (Some rule) → IsKept tech boxes rule → (earlier : Rule) → number_of earlier < number_of rule + 1 → IsKept tech boxes earlier
-kept_to tech boxes rule before here earlier lt = elim (cases_lt (number_of earlier) (number_of rule)) [
+-- one more rule is kept
+pub keep_next : (tech : Tech) (boxes : List MaskBox) (rule : Rule) → KeepBefore tech boxes (Some rule) → IsKept tech boxes rule → (earlier : Rule) → number_of earlier < number_of rule + 1 → IsKept tech boxes earlier
+keep_next tech boxes rule before here earlier lt = elim (cases_lt (number_of earlier) (number_of rule)) [
   | inl less ↦ before earlier less
   | inr more ↦ subst (IsKept tech boxes) (one_number rule earlier (omega arith)) here
 ]
@@ -93,21 +66,6 @@ kept_to tech boxes rule before here earlier lt = elim (cases_lt (number_of earli
 -- no rule is before the first one
 pub keep_before_all : (tech : Tech) (boxes : List MaskBox) → KeepBefore tech boxes (Some Width)
 keep_before_all tech boxes earlier lt = let low = number_from earlier in absurd (omega arith)
-
--- one more rule is kept
-pub keep_next : (tech : Tech) (boxes : List MaskBox) (rule : Rule) → KeepBefore tech boxes (Some rule) → IsKept tech boxes rule → KeepBefore tech boxes (next_of rule)
-keep_next tech boxes Width before here = kept_to tech boxes Width before here
-keep_next tech boxes CutSize before here = kept_to tech boxes CutSize before here
-keep_next tech boxes ProperCrossing before here = kept_to tech boxes ProperCrossing before here
-keep_next tech boxes PolyToDiffusion before here = kept_to tech boxes PolyToDiffusion before here
-keep_next tech boxes CutCover before here = kept_to tech boxes CutCover before here
-keep_next tech boxes MetalSpacing before here = kept_to tech boxes MetalSpacing before here
-keep_next tech boxes PolySpacing before here = kept_to tech boxes PolySpacing before here
-keep_next tech boxes DiffusionSpacing before here = kept_to tech boxes DiffusionSpacing before here
-keep_next tech boxes CutSpacing before here = kept_to tech boxes CutSpacing before here
-keep_next tech boxes CutToChannel before here = kept_to tech boxes CutToChannel before here
-keep_next tech boxes ImplantToChannel before here = kept_to tech boxes ImplantToChannel before here
-keep_next tech boxes WindowToChannel before here = λ rule. kept_to tech boxes WindowToChannel before here rule (number_within rule)
 
 -- ---- the first break
 
@@ -129,10 +87,6 @@ first_of_all tech boxes rule first before found = record {
               inr (found.of_rule ∙ sym same, found.least a b (subst (λ (r : Rule). IsBreak tech boxes r a b) same broken))
         ]
       ]
-
--- what a search finds of one rule
-abbrev pub IsFoundOf : Tech → List MaskBox → Rule → Option Break → Type 0
-IsFoundOf tech boxes rule found = MatchOption found (IsKept tech boxes rule) (IsFirstOf tech boxes rule)
 
 -- the first pair that does not cross properly
 pub first_bad_pair : (tech : Tech) (boxes : List MaskBox) (a b : ℕ) → IsFirstBadPair tech boxes a b → IsFirstOf tech boxes ProperCrossing (record { rule = ProperCrossing; a = a; b = b })

@@ -1,18 +1,19 @@
--- What the rules before those on nets say of the shapes of boxes.
-use Rattle.std.proofs.Common.{◌≡◌, ℕ, ◌<◌, inl, inr, Some, List, refl, sym, ap, ◌∙◌, subst, lit<, arith}
+-- Widths, and what the rules before those on nets say of the shapes of boxes.
+use Rattle.std.proofs.Common.{◌≡◌, ◌↔◌, ℕ, ◌<◌, ℤ, ◌<ℤ◌, Bool, IsTrue, inl, inr, Some, List, length, refl, sym, ap, ◌∙◌, subst, lit<, arith}
 use Rattle.std.proofs.lemmas.Bool.{cases_lt}
 use Rattle.std.proofs.lemmas.Int.{ints, clamps}
+use Rattle.lam_geom.specs.declared.boxes.Axis.{Axis}
 use Rattle.lam_geom.specs.declared.boxes.BoxXY.{BoxXY}
 use Rattle.lam_geom.specs.declared.boxes.MaskBox.{MaskBox}
 use Rattle.lam_geom.specs.declared.boxes.MaskLayer.{MaskLayer}
 use Rattle.lam_geom.specs.declared.boxes.MaskLayer.TheVariants.{ND, NP}
 use Rattle.lam_geom.specs.Gaps.{gap_of_boxes}
 use Rattle.rule_table.specs.declared.technology.Tech.{Tech}
-use Rattle.crossings.specs.Boxes.{area_at, layer_at}
+use Rattle.crossings.specs.Boxes.{area_at, box_at, layer_at, extent, grains}
 use Rattle.crossings.specs.Crossings.{AreProper}
 use Rattle.flat_check.specs.declared.rule.Rule.{Rule}
 use Rattle.flat_check.specs.declared.rule.Rule.TheVariants.{Width, CutSize, PolyToDiffusion, CutCover}
-use Rattle.flat_check.specs.Breaks.{number_of, ArePairOf, AreOnBoth, IsPolyTooNear, ShapesHold}
+use Rattle.flat_check.specs.Breaks.{number_of, width_on, IsNarrow, ArePairOf, AreOnBoth, IsPolyTooNear, ShapesHold}
 use Rattle.flat_check.specs.Order.{IsKept, KeepBefore}
 use Rattle.flat_check.specs.Sheets.{IsOnNets}
 
@@ -74,3 +75,19 @@ shapes_hold tech boxes rule proper before on_nets =
       poly = poly_apart tech boxes (before PolyToDiffusion (omega arith));
       covers = λ a h. before CutCover (omega arith) a a (h, refl);
     }
+
+-- ---- widths
+
+-- of a box that was read
+pub narrow_by_width : (tech : Tech) (boxes : List MaskBox) (a : ℕ) (own : MaskBox) (width least : ℤ) (b : Bool) → a < length boxes → own ≡ box_at boxes a → width_on tech own.layer ≡ Some width
+    → least ≡ grains tech width → IsTrue b ↔ ((axis : Axis) × (extent axis own.area <ℤ least)) → IsTrue b ↔ IsNarrow tech boxes a
+narrow_by_width tech boxes a own width least b among is width_is least_is h =
+    let on : width_on tech (layer_at boxes a) ≡ Some width = ap (λ (x : MaskBox). width_on tech x.layer) (sym is) ∙ width_is in (
+      λ t. let n = h.0 t in
+          let own_short : extent n.0 own.area <ℤ grains tech width = subst (λ (z : ℤ). extent n.0 own.area <ℤ z) least_is n.1 in
+          record { among = among; width = width; is_width = on; axis = n.0; narrow = subst (λ (x : MaskBox). extent n.0 x.area <ℤ grains tech width) is own_short },
+      λ k. let some : Some k.width ≡ Some width = sym k.is_width ∙ on in
+          let same : k.width ≡ width = cc in
+          let there : extent k.axis (area_at boxes a) <ℤ least = subst (λ (z : ℤ). extent k.axis (area_at boxes a) <ℤ z) (ap (grains tech) same ∙ sym least_is) k.narrow in
+          h.1 (k.axis, subst (λ (x : MaskBox). extent k.axis x.area <ℤ least) (sym is) there),
+    )

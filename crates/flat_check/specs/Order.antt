@@ -5,7 +5,7 @@ use Rattle.rule_table.specs.declared.technology.Tech.{Tech}
 use Rattle.flat_check.specs.declared.rule.Break.{Break}
 use Rattle.flat_check.specs.declared.rule.Rule.{Rule}
 use Rattle.flat_check.specs.declared.rule.Rule.TheVariants.{Width, CutSize, ProperCrossing, PolyToDiffusion, CutCover, MetalSpacing, PolySpacing, DiffusionSpacing, CutSpacing, CutToChannel, ImplantToChannel, WindowToChannel}
-use Rattle.flat_check.specs.Breaks.{number_of, IsBreak, KeepRules}
+use Rattle.flat_check.specs.Breaks.{number_of, IsBreak, KeepRules, IsFirstBreak}
 
 -- a rule on one box
 abbrev pub IsOnOne : Rule → Type 0
@@ -43,3 +43,13 @@ pub record IsFirstOf (tech : Tech) (boxes : List MaskBox) (rule : Rule) (first :
   pub of_rule : first.rule ≡ rule
   pub broken : IsBreak tech boxes rule first.a first.b
   pub least : (a b : ℕ) → IsBreak tech boxes rule a b → (first.a < a) ⊎ ((first.a ≡ a) × (first.b ≤ b))
+
+-- what a search for the breaks of one rule finds: the first one, or that there is none
+abbrev pub IsFoundOf : Tech → List MaskBox → Rule → Option Break → Type 0
+IsFoundOf tech boxes rule None = IsKept tech boxes rule
+IsFoundOf tech boxes rule (Some first) = IsFirstOf tech boxes rule first
+
+-- the same of all rules
+abbrev pub IsFound : Tech → List MaskBox → Option Break → Type 0
+IsFound tech boxes None = KeepRules tech boxes
+IsFound tech boxes (Some first) = IsFirstBreak tech boxes first

@@ -67,7 +67,9 @@ fn any_covers(boxes: &[MaskBox], numbers: &[u32], area: &BoxXY, margin: i64) -> 
     requires area { IsPlacedBox area.now }
     requires not_negative { pos 0 ≤ℤ margin }
     requires within { margin ≤ℤ pos (2 ^ 30) }
-    ensures { MatchBool result ((k : ℕ) × Contains numbers.now k × Encloses (area_at boxes.now k) area.now margin) (All (λ k. Encloses (area_at boxes.now k) area.now margin → ⊥) numbers.now) }
+    ensures { MatchBool result
+        ((k : ℕ) × Contains numbers.now k × Encloses (area_at boxes.now k) area.now margin)
+        (All (λ k. Encloses (area_at boxes.now k) area.now margin → ⊥) numbers.now) }
 {
     for k in numbers {
         if contains_by(&boxes[*k as usize].area, area, margin) {

@@ -4,7 +4,7 @@ ghost use Rattle.crossings.specs.Boxes.{AreSearchable};
 ghost use Rattle.crossings.specs.Crossings.{AreCrossings, AreProper};
 ghost use Rattle.flat_check.specs.declared.rule.Rule.TheVariants.{PolyToDiffusion, ProperCrossing};
 ghost use Rattle.flat_check.specs.Breaks.{IsFirstBreak, KeepRules};
-ghost use Rattle.flat_check.specs.Order.{IsFirstOf, IsKept, KeepBefore};
+ghost use Rattle.flat_check.specs.Order.{IsFound, IsFoundOf, KeepBefore};
 ghost use Rattle.flat_check.specs.Sheets.{IsSheet};
 
 use crate::partners::first_pair;
@@ -26,7 +26,8 @@ pub fn first_break(
     boxes: &[MaskBox],
 ) -> Result<Option<Break>, AllocError>
     requires { AreSearchable boxes.now }
-    ensures { IfOk result (λ first. MatchOption first (KeepRules tech.now boxes.now) (IsFirstBreak tech.now boxes.now)) }
+    ensures { IfOk result (λ first.
+        MatchOption first (KeepRules tech.now boxes.now) (IsFirstBreak tech.now boxes.now)) }
 {
     let index = BoxIndex::new(alloc, boxes)?;
     let mut buffer = Vec::new(alloc);
@@ -60,7 +61,7 @@ fn first_behind(
     requires proper { AreProper tech.now boxes.now }
     requires crossings { AreCrossings tech.now boxes.now found.items }
     requires before { KeepBefore tech.now boxes.now (Some ProperCrossing) }
-    ensures { IfOk result (λ first. MatchOption first (KeepRules tech.now boxes.now) (IsFirstBreak tech.now boxes.now)) }
+    ensures { IfOk result (IsFound tech.now boxes.now) }
 {
     let pieces = pieces_of(alloc, boxes, found)?;
     let (nets, _count) = nets_of(alloc, tech, boxes, index, &pieces)?;
@@ -78,7 +79,7 @@ fn first_behind(
 fn first_on(alloc: Global, sheet: &Sheet) -> Result<Option<Break>, AllocError>
     requires sheet { IsSheet sheet.now }
     requires before { KeepBefore sheet.now.tech.now sheet.now.boxes.now (Some PolyToDiffusion) }
-    ensures { IfOk result (λ first. MatchOption first (KeepRules sheet.now.tech.now sheet.now.boxes.now) (IsFirstBreak sheet.now.tech.now sheet.now.boxes.now)) }
+    ensures { IfOk result (IsFound sheet.now.tech.now sheet.now.boxes.now) }
 {
     let mut buffer = Vec::new(alloc);
     let mut next = Some(Rule::PolyToDiffusion);
@@ -95,7 +96,7 @@ fn first_on(alloc: Global, sheet: &Sheet) -> Result<Option<Break>, AllocError>
 fn first_of(sheet: &Sheet, rule: Rule, buffer: &mut Vec<u32>) -> Result<Option<Break>, AllocError>
     requires sheet { IsSheet sheet.now }
     requires before { KeepBefore sheet.now.tech.now sheet.now.boxes.now (Some rule) }
-    ensures { IfOk result (λ first. MatchOption first (IsKept sheet.now.tech.now sheet.now.boxes.now rule) (IsFirstOf sheet.now.tech.now sheet.now.boxes.now rule)) }
+    ensures { IfOk result (IsFoundOf sheet.now.tech.now sheet.now.boxes.now rule) }
 {
     match rule {
         Rule::Width | Rule::CutSize | Rule::CutCover => {

@@ -1,10 +1,10 @@
 //! Rules on two boxes: the least box with which a box breaks a rule, found by an index of the boxes.
-ghost use Rattle.std.specs.Prelude.{◌≡◌, ◌↔◌, ℕ, ◌^◌, ◌<◌, pos, ◌≤ℤ◌, All, Contains, IsTrue, IfOk, MatchOption, length};
+ghost use Rattle.std.specs.Prelude.{◌≡◌, ◌↔◌, ℕ, ◌^◌, ◌<◌, pos, ◌≤ℤ◌, All, Contains, IsTrue, IfOk, length};
 ghost use Rattle.std.specs.Int.{int_max};
 ghost use Rattle.rule_table.specs.Bounds.{IsLength};
 ghost use Rattle.crossings.specs.Pairs.{IsBelow, Least};
 ghost use Rattle.flat_check.specs.Breaks.{IsBreak, ShapesHold};
-ghost use Rattle.flat_check.specs.Order.{IsFirstOf, IsKept};
+ghost use Rattle.flat_check.specs.Order.{IsFoundOf};
 ghost use Rattle.flat_check.specs.Reaches.{reach_of, spacing_of_rule};
 ghost use Rattle.flat_check.specs.Sheets.{facing_of, IsOnNets, IsOnPairs, IsSheet};
 
@@ -26,7 +26,7 @@ pub fn first_pair(
     requires sheet { IsSheet sheet.now }
     requires on_pairs { IsOnPairs rule }
     requires shapes { IsOnNets rule → ShapesHold sheet.now.tech.now sheet.now.boxes.now }
-    ensures { IfOk result (λ first. MatchOption first (IsKept sheet.now.tech.now sheet.now.boxes.now rule) (IsFirstOf sheet.now.tech.now sheet.now.boxes.now rule)) }
+    ensures { IfOk result (IsFoundOf sheet.now.tech.now sheet.now.boxes.now rule) }
 {
     for a in 0..sheet.boxes.len() as u32 {
         if let Some(b) = partner_of(sheet, rule, a, buffer)? {
@@ -64,7 +64,8 @@ fn least_broken(sheet: &Sheet, rule: Rule, a: u32, numbers: &[u32]) -> Option<u3
     requires on_pairs { IsOnPairs rule }
     requires shapes { IsOnNets rule → ShapesHold sheet.now.tech.now sheet.now.boxes.now }
     requires numbers { All (λ k. k < length sheet.now.boxes.now) numbers.now }
-    ensures { Least (λ b. Contains numbers.now b × IsBreak sheet.now.tech.now sheet.now.boxes.now rule a b) result }
+    ensures { let boxes = sheet.now.boxes.now in
+        Least (λ b. Contains numbers.now b × IsBreak sheet.now.tech.now boxes rule a b) result }
 {
     let mut least = None;
     for b in numbers {

@@ -1,11 +1,11 @@
 //! Rules on single boxes.
-ghost use Rattle.std.specs.Prelude.{◌≡◌, ◌↔◌, ◌<◌, ◌-ℤ◌, ◌<ℤ◌, IsTrue, IfOk, IfSome, MatchOption, length};
+ghost use Rattle.std.specs.Prelude.{◌≡◌, ◌↔◌, ◌<◌, ◌-ℤ◌, ◌<ℤ◌, IsTrue, IfOk, IfSome, length};
 ghost use Rattle.lam_geom.specs.declared.boxes.Axis.{Axis};
 ghost use Rattle.lam_geom.specs.Places.{IsPlacedBox, IsPlacedSpan};
 ghost use Rattle.rule_table.specs.Bounds.{IsLength};
 ghost use Rattle.crossings.specs.Boxes.{AreSearchable, extent};
 ghost use Rattle.flat_check.specs.Breaks.{IsBreak, IsNarrow, IsOddCut, IsSquare, width_on};
-ghost use Rattle.flat_check.specs.Order.{IsFirstOf, IsKept, IsOnOne};
+ghost use Rattle.flat_check.specs.Order.{IsFoundOf, IsOnOne};
 
 use crate::covers::is_uncovered;
 use crate::lengths::in_grains;
@@ -27,7 +27,7 @@ pub fn first_at_one(
     requires searchable { AreSearchable boxes.now }
     requires indexed { index.now ≡ boxes.now }
     requires on_one { IsOnOne rule }
-    ensures { IfOk result (λ first. MatchOption first (IsKept tech.now boxes.now rule) (IsFirstOf tech.now boxes.now rule)) }
+    ensures { IfOk result (IsFoundOf tech.now boxes.now rule) }
 {
     for a in 0..boxes.len() as u32 {
         if is_broken_at(tech, boxes, index, rule, a, buffer)? {

@@ -1,7 +1,8 @@
 use Rattle.std.proofs.Common.{subst}
 use Rattle.crossings.specs.Crossings.{IsCauseOf}
 use Rattle.flat_check.specs.declared.rule.Rule.TheVariants.{Width, CutSize, ProperCrossing}
-use Rattle.flat_check.proofs.Orders.{IsFoundOf, keep_before_all, keep_next, first_of_all, first_bad_pair}
+use Rattle.flat_check.specs.Order.{IsFoundOf}
+use Rattle.flat_check.proofs.Orders.{keep_before_all, keep_next, first_of_all, first_bad_pair}
 use Rattle.flat_check.proofs.first.first_break.Goals as goal
 
 pub returns-in-Some : goal.returns-in-Some
