@@ -1,0 +1,9 @@
+pub mod Lists
+pub mod Spots
+pub mod Added
+pub mod NetNumbers
+pub mod Linked
+pub mod Table
+pub mod Behind
+pub mod AxisLinks
+pub mod Joined
