@@ -216,6 +216,14 @@ pub nets_are_the_sticks : (tech : Tech) (plan : Plan) (masters : List Master) (l
     → NetsAreTheSticks tech plan masters layouts boxes
 nets_are_the_sticks tech plan masters layouts boxes done shapes = record {
   proper = are_proper tech plan masters layouts boxes done shapes;
+  transistors = crossings_are tech plan masters layouts boxes done shapes;
+  places = λ cs h. places_same tech plan masters layouts boxes done shapes cs (crossings_are tech plan masters layouts boxes done shapes cs h);
+  joined = λ cs h nets are_nets i j li lj.
+      (let are = crossings_are tech plan masters layouts boxes done shapes cs h in
+      (
+        λ r. reaches_one tech plan masters layouts boxes done shapes cs are nets are_nets i j li lj r,
+        λ one. one_reaches tech plan masters layouts boxes done shapes cs are nets are_nets i j one,
+      ));
   equal = λ list. (
     λ h. (
         let cs : List Crossing = h.crossings in

@@ -1,5 +1,5 @@
 -- The netlist of the sticks: the pieces of all instances with the nets of the parts that they belong to, and a device for each transistor.
-use Rattle.std.specs.Prelude.{◌≡◌, ◌↔◌, ℕ, ◌&&◌, nat_lt, ℤ, Bool, true, false, All, Contains, Some, List, length, map, flat_map, slice_get, slice_index_or}
+use Rattle.std.specs.Prelude.{◌≡◌, ◌↔◌, ℕ, ◌<◌, ◌&&◌, nat_lt, ℤ, Bool, true, false, All, Contains, Some, List, length, map, flat_map, slice_get, slice_index_or}
 use Rattle.std.specs.List.{range_with_len}
 use Rattle.lam_geom.specs.declared.boxes.MaskBox.{MaskBox}
 use Rattle.rule_table.specs.declared.technology.Tech.{Tech}
@@ -18,15 +18,16 @@ use Rattle.plan_model.specs.GridNets.{IsOneNet}
 use Rattle.plan_model.specs.Instances.{Spot, master_at_spot}
 use Rattle.plan_model.specs.Plan.{grids_of}
 use Rattle.pitch_join.specs.Masters.{ports_of_masters}
+use Rattle.graph_search.specs.Netting.{Reaches}
 use Rattle.crossings.specs.declared.crossing.Crossing.{Crossing}
 use Rattle.crossings.specs.Boxes.{extent, other, grains}
-use Rattle.crossings.specs.Crossings.{AreInOrder, AreProper}
+use Rattle.crossings.specs.Crossings.{AreInOrder, AreProper, AreCrossings}
 use Rattle.net_extract.specs.declared.netlist.Netlist.{Netlist}
 use Rattle.net_extract.specs.declared.netlist.Part.{Part}
 use Rattle.net_extract.specs.declared.netlist.Part.TheVariants.{Whole, Low, High}
-use Rattle.net_extract.specs.Extraction.{IsExtracted}
+use Rattle.net_extract.specs.Extraction.{IsLink, IsExtracted}
 use Rattle.net_extract.specs.Netlists.{IsNetlistOf}
-use Rattle.net_extract.specs.Places.{Place, place, parts_on}
+use Rattle.net_extract.specs.Places.{Place, place, parts_on, places_of}
 use Rattle.grid_rules.specs.Rules.{AreNetsOf}
 use Rattle.conductors.specs.Conductors.{Drawn, item_of, sides_of_drawn}
 use Rattle.conductors.specs.Meetings.{at, master_of, IsOwned, IsTransistorAt}
@@ -125,7 +126,13 @@ pub record IsSticksNetlist (tech : Tech) (plan : Plan) (masters : List Master) (
   pub are_transistors : AreTransistors tech plan masters layouts transistors
   pub netlist : IsNetlistOf (places_of_sticks plan masters) (AreOfOne nets plan masters) transistors list
 
--- Poly and diffusion of boxes that show the instances cross properly, and what is extracted from them is the sticks' netlist, as a value.
+-- Poly and diffusion of boxes that show the instances cross properly. Their crossings are the transistors, with which they have the pieces of the sticks; chains
+-- of links join what is of one net of the sticks; and what is extracted from them is the sticks' netlist, as a value.
 pub record NetsAreTheSticks (tech : Tech) (plan : Plan) (masters : List Master) (layouts : List Coords) (boxes : List MaskBox) : Type 0 where
   pub proper : AreProper tech boxes
+  pub transistors : (crossings : List Crossing) → AreCrossings tech boxes crossings → AreTransistors tech plan masters layouts crossings
+  pub places : (crossings : List Crossing) → AreCrossings tech boxes crossings → places_of crossings boxes ≡ places_of_sticks plan masters
+  pub joined : (crossings : List Crossing) → AreCrossings tech boxes crossings → (nets : ℕ → Nets) → AreNetsOf masters nets
+      → (i j : ℕ) → i < length (places_of_sticks plan masters) → j < length (places_of_sticks plan masters)
+      → Reaches (IsLink tech boxes crossings) i j ↔ AreOfOne nets plan masters i j
   pub equal : (list : Netlist) → IsExtracted tech boxes list ↔ IsSticksNetlist tech plan masters layouts list

@@ -1,5 +1,5 @@
 -- What is extracted: from crossings, pieces, links and numbers to the netlist.
-use Rattle.std.proofs.Common.{◌≡◌, ◌↔◌, ℕ, ◌+◌, ◌^◌, ◌<◌, ◌≤◌, List, All, pos, length, map, get_or, sym, ◌∙◌, ap, subst, arith}
+use Rattle.std.proofs.Common.{◌≡◌, ℕ, ◌+◌, ◌^◌, ◌<◌, ◌≤◌, List, All, pos, length, map, get_or, sym, ◌∙◌, ap, subst, arith}
 use Rattle.std.proofs.lemmas.Int.{ints, clamps}
 use Rattle.std.proofs.lemmas.List.{get_or-map, length-map}
 use Rattle.std.proofs.lemmas.Option.{slice_get_within}
@@ -8,7 +8,7 @@ use Rattle.lam_geom.specs.declared.boxes.BoxXY.{BoxXY}
 use Rattle.lam_geom.specs.declared.boxes.MaskBox.{MaskBox}
 use Rattle.lam_geom.specs.Gaps.{Encloses}
 use Rattle.rule_table.specs.declared.technology.Tech.{Tech}
-use Rattle.graph_search.specs.Netting.{Reaches, IsNumberedInOrder, next_net}
+use Rattle.graph_search.specs.Netting.{next_net}
 use Rattle.graph_search.specs.Search.{IsBeside, AreMutual, AreNumbers}
 use Rattle.graph_search.proofs.Chains.{reaches_weaker, reaches_same}
 use Rattle.crossings.specs.declared.crossing.Crossing.{Crossing}
@@ -22,7 +22,7 @@ use Rattle.net_extract.specs.declared.netlist.Piece.{Piece}
 use Rattle.net_extract.specs.declared.placing.Placed.{Placed}
 use Rattle.net_extract.specs.Places.{Place, places_of}
 use Rattle.net_extract.specs.Netlists.{place_of, nets_of, device_of}
-use Rattle.net_extract.specs.Extraction.{AreLinked, by_touch, by_cut, by_contact, by_contact_back, IsLink, IsExtracted, IsCauseOf}
+use Rattle.net_extract.specs.Extraction.{AreLinked, by_touch, by_cut, by_contact, by_contact_back, IsLink, AreNets, IsExtracted, IsCauseOf}
 use Rattle.net_extract.specs.Faults.{fault_of}
 use Rattle.net_extract.specs.Pieces.{no_piece, box_of, stand_of, AreStarts, ArePieces, IsWithinDiffusion}
 use Rattle.net_extract.specs.Linking.{AreLinks}
@@ -133,35 +133,40 @@ ranges_from count placed pieces given starts s e same =
 
 -- ---- the netlist
 
--- numbers by lists that say exactly the links make the netlist
-pub netlist_made : (tech : Tech) (boxes : List MaskBox) (crossings : List Crossing) (placed : List Placed) (starts : List ℕ) (lists given : List (SmallVec ℕ)) (nets : List ℕ) (list : Netlist)
-    → AreProper tech boxes → AreCrossings tech boxes crossings → ArePieces boxes crossings placed starts → given ≡ lists → AreLinks tech boxes crossings lists → AreNumbers given nets
-    → map place_of list.pieces ≡ map stand_of placed → nets_of list.pieces ≡ nets → list.nets ≡ next_net nets → list.devices ≡ map (device_of list.pieces) crossings → IsExtracted tech boxes list
-netlist_made tech boxes crossings placed starts lists given nets list proper are p same links numbers e_places e_nets e_count e_devices =
+-- numbers by lists that say exactly the links are nets
+pub nets_made : (tech : Tech) (boxes : List MaskBox) (crossings : List Crossing) (lists given : List (SmallVec ℕ)) (nets : List ℕ) → given ≡ lists → AreLinks tech boxes crossings lists → AreNumbers given nets
+    → AreNets tech boxes crossings nets
+nets_made tech boxes crossings lists given nets same links numbers =
     let Q : List (SmallVec ℕ) → Type 0 = λ ls. AreNumbers ls nets in
     let are_numbers : AreNumbers lists nets = subst Q same numbers in
     let n = links.counted in
-    let Made : List ℕ → Type 0 = λ ns. ((a b : ℕ) → a < length (places_of crossings boxes) → b < length (places_of crossings boxes) → get_or ns a 0 ≡ get_or ns b 0 ↔ Reaches (IsLink tech boxes crossings) a b)
-    × IsNumberedInOrder ns × (list.nets ≡ next_net ns) in
-    let made : Made nets = (
-      λ a b la lb. (
+    let m = are_numbers.counted in
+    record {
+      counted = omega arith;
+      joined = λ a b la lb. (
         λ e. reaches_weaker (IsBeside lists) (IsLink tech boxes crossings) links.sound a b (are_numbers.joined a b (omega arith) (omega arith) e),
         λ r. reaches_same (IsLink tech boxes crossings) (λ k. get_or nets k 0)
             (λ x y h. (let lt = slice_get_within (places_of crossings boxes) x h.p h.first in are_numbers.beside x y (omega arith) (links.complete x y h))) a b r,
-      ),
-      are_numbers.in_order,
-      e_count,
-    ) in
-    let all : Made (nets_of list.pieces) = subst Made (sym e_nets) made in
+      );
+      in_order = are_numbers.in_order;
+    }
+
+-- nets make the netlist
+pub netlist_made : (tech : Tech) (boxes : List MaskBox) (crossings : List Crossing) (placed : List Placed) (starts nets : List ℕ) (list : Netlist)
+    → AreProper tech boxes → AreCrossings tech boxes crossings → ArePieces boxes crossings placed starts → AreNets tech boxes crossings nets
+    → map place_of list.pieces ≡ map stand_of placed → nets_of list.pieces ≡ nets → list.nets ≡ next_net nets → list.devices ≡ map (device_of list.pieces) crossings → IsExtracted tech boxes list
+netlist_made tech boxes crossings placed starts nets list proper are p are_nets e_places e_nets e_count e_devices =
+    let Made : List ℕ → Type 0 = λ ns. AreNets tech boxes crossings ns × (list.nets ≡ next_net ns) in
+    let all : Made (nets_of list.pieces) = subst Made (sym e_nets) (are_nets, e_count) in
     record {
       proper = proper;
       crossings = crossings;
       are_crossings = are;
       netlist = record {
         placed = e_places ∙ p.places;
-        joined = all.0;
-        in_order = all.1;
-        counted = all.2;
+        joined = all.0.joined;
+        in_order = all.0.in_order;
+        counted = all.1;
         devices = e_devices;
       };
     }

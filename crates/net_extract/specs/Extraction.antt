@@ -1,12 +1,12 @@
 -- What is extracted from mask boxes: pieces that are linked by touching, by a cut or by a buried contact are of one net.
-use Rattle.std.specs.Prelude.{◌≡◌, ◌≢◌, ℕ, ℤ, Contains, List, slice_get, Some}
+use Rattle.std.specs.Prelude.{◌≡◌, ◌≢◌, ◌↔◌, ℕ, ◌<◌, ℤ, Contains, List, length, slice_get, slice_index, Some}
 use Rattle.lam_geom.specs.declared.boxes.BoxXY.{BoxXY}
 use Rattle.lam_geom.specs.declared.boxes.MaskBox.{MaskBox}
 use Rattle.lam_geom.specs.declared.boxes.MaskLayer.TheVariants.{NC}
 use Rattle.lam_geom.specs.declared.boxes.Span.{Span}
 use Rattle.lam_geom.specs.Gaps.{Touches, Overlaps, span_along}
 use Rattle.rule_table.specs.declared.technology.Tech.{Tech}
-use Rattle.graph_search.specs.Netting.{Reaches}
+use Rattle.graph_search.specs.Netting.{Reaches, IsNumberedInOrder}
 use Rattle.crossings.specs.declared.crossing.Crossing.{Crossing}
 use Rattle.crossings.specs.Boxes.{area_at, layer_at, IsOn, other}
 use Rattle.crossings.specs.Crossings.{IsBuriedPair, AreProper, AreCrossings, IsFirstBadPair}
@@ -69,6 +69,13 @@ pub record IsLink (tech : Tech) (boxes : List MaskBox) (crossings : List Crossin
   pub first : slice_get (places_of crossings boxes) a ≡ Some p
   pub second : slice_get (places_of crossings boxes) b ≡ Some q
   pub linked : AreLinked tech boxes crossings p q
+
+-- Nets of all pieces, numbered in order of their first pieces: two pieces have one net exactly where a chain of links joins them.
+pub record AreNets (tech : Tech) (boxes : List MaskBox) (crossings : List Crossing) (nets : List ℕ) : Type 0 where
+  pub counted : length nets ≡ length (places_of crossings boxes)
+  pub joined : (a b : ℕ) → a < length (places_of crossings boxes) → b < length (places_of crossings boxes)
+      → slice_index nets a ≡ slice_index nets b ↔ Reaches (IsLink tech boxes crossings) a b
+  pub in_order : IsNumberedInOrder nets
 
 -- ---- the netlist
 

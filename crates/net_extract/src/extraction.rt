@@ -4,12 +4,11 @@ ghost use Rattle.crossings.specs.Boxes.{AreSearchable};
 ghost use Rattle.net_extract.specs.Extraction.{IsExtracted, IsCauseOf};
 
 use crate::devices::{devices_of, netted};
-use crate::linking::links;
 use crate::netlist::{ExtractFault, Netlist};
+use crate::nets::nets_of;
 use crate::placing::pieces_of;
 use box_index::BoxIndex;
 use crossings::crossings;
-use graph_search::numbers;
 use lam_geom::MaskBox;
 use lam_list::Seq;
 use rule_table::Tech;
@@ -24,8 +23,7 @@ pub fn extract(alloc: Global, tech: &Tech, boxes: &[MaskBox]) -> Result<Netlist,
     let index = BoxIndex::new(alloc, boxes)?;
     let found = crossings(alloc, tech, boxes, &index)?;
     let split = pieces_of(alloc, boxes, found)?;
-    let lists = links(alloc, tech, boxes, &index, &split)?;
-    let (nets, count) = numbers(alloc, lists.as_slice())?;
+    let (nets, count) = nets_of(alloc, tech, boxes, &index, &split)?;
     let pieces = netted(alloc, split.placed.as_slice(), nets.as_slice())?;
     let devices = devices_of(
         alloc,

@@ -1,8 +1,8 @@
 //! Nets and transistors of mask boxes.
 //!
 //! What the layer above uses: `extract` gives exactly the pieces of the boxes with their nets, numbered in order of their first
-//! pieces, and the transistors, or the first pair of poly and diffusion that does not cross properly. Lengths are in grains,
-//! half hundredths of a micron.
+//! pieces, and the transistors, or the first pair of poly and diffusion that does not cross properly. What it takes one after the
+//! other, `pieces_of`, `nets_of` and `devices_of`, can be had alone. Lengths are in grains, half hundredths of a micron.
 #![tactic(auto)]
 
 mod devices;
@@ -12,6 +12,7 @@ mod laws;
 mod linking;
 mod neighbours;
 mod netlist;
+mod nets;
 mod placing;
 #[cfg(test)]
 mod tests;
@@ -20,3 +21,5 @@ pub use devices::devices_of;
 pub use extraction::extract;
 pub use laws::netlist_is_determined;
 pub use netlist::{Device, ExtractFault, Netlist, Part, Piece};
+pub use nets::nets_of;
+pub use placing::{Pieces, Placed, pieces_of};

@@ -1,0 +1,64 @@
+//! Rules and breaks.
+ghost use Rattle.std.specs.Prelude.{◌≡◌};
+ghost use Rattle.flat_check.specs.Breaks.{number_of};
+
+/// A rule on mask boxes, after Mead and Conway. Nets are those that the boxes make.
+#[derive(Clone, Copy, Debug, PartialEq, Eq)]
+pub enum Rule {
+    /// 1: diffusion, poly and metal are as wide as their layer's width.
+    Width,
+    /// 2: a cut is a square of the cut's size.
+    CutSize,
+    /// 3: poly and diffusion that overlap are a buried pair or cross properly, and then neither overlaps a further box of the
+    /// other's layer.
+    ProperCrossing,
+    /// 4: poly and diffusion that do not overlap keep their spacing.
+    PolyToDiffusion,
+    /// 5: a cut lies inside metal, and inside poly or diffusion, by the enclosure.
+    CutCover,
+    /// 6: metal of different nets keeps its spacing.
+    MetalSpacing,
+    /// 7: poly of different nets keeps its spacing.
+    PolySpacing,
+    /// 8: pieces of diffusion, of different boxes and different nets, keep their spacing.
+    DiffusionSpacing,
+    /// 9: two cuts keep their spacing.
+    CutSpacing,
+    /// 10: a cut and a channel keep their spacing.
+    CutToChannel,
+    /// 11: an implant goes past a channel by its extension, or keeps its spacing from it.
+    ImplantToChannel,
+    /// 12: where the technology has buried contacts, a window and a channel keep their spacing.
+    WindowToChannel,
+}
+
+impl Rule {
+    /// The rule's number, from 1.
+    pub fn number(self) -> u32
+        ensures { result ≡ number_of self }
+    {
+        match self {
+            Rule::Width => 1,
+            Rule::CutSize => 2,
+            Rule::ProperCrossing => 3,
+            Rule::PolyToDiffusion => 4,
+            Rule::CutCover => 5,
+            Rule::MetalSpacing => 6,
+            Rule::PolySpacing => 7,
+            Rule::DiffusionSpacing => 8,
+            Rule::CutSpacing => 9,
+            Rule::CutToChannel => 10,
+            Rule::ImplantToChannel => 11,
+            Rule::WindowToChannel => 12,
+        }
+    }
+}
+
+/// A rule that is broken at two boxes, by their numbers, the lesser one first; or at one box, and then both are its number. A
+/// channel, and a piece of diffusion, goes by the number of its diffusion box.
+#[derive(Clone, Copy, Debug, PartialEq, Eq)]
+pub struct Break {
+    pub rule: Rule,
+    pub a: u32,
+    pub b: u32,
+}
