@@ -7,3 +7,5 @@ pub mod Table
 pub mod Behind
 pub mod AxisLinks
 pub mod Joined
+pub mod Counted
+pub mod Ports
