@@ -85,7 +85,6 @@ module _ (axis : Axis) (plan : Plan) (nets : List Nets) (instances : List Instan
   -- ---- one more instance
 
   module _ (firsts : List ℕ) (s : ℕ) (lt : s < length instances) where
-
     more : (u v : ℕ) → IsMeetLink axis plan nets instances firsts s u v → IsMeetLink axis plan nets instances firsts (s + 1) u v
     more u v l = (let passed = l.passed in record { a = l.a; b = l.b; meet = l.meet; passed = omega (arith, passed); first = l.first; second = l.second })
 

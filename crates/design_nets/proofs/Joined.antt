@@ -184,8 +184,7 @@ module _ (plan : Plan) (nets : List Nets) (instances : List Instance) where
                 let at_i = get_or-take count numbers i 0 li in
                 let at_j = get_or-take count numbers j 0 lj in
                 let in_i : i < slice_index firsts (length instances) = omega (arith, li, ends) in
-                let in_j : j < slice_index firsts (length instances) = omega (arith, lj, ends) in
-                (
+                let in_j : j < slice_index firsts (length instances) = omega (arith, lj, ends) in (
                   λ e. (let r = netting.joined i j in_i in_j (sym at_i ∙ (e ∙ at_j)) in chain_joined r.0 i j a b r.1 (piece_means i a h) (piece_means j b k)),
                   λ joined. at_i ∙ (netting.same i j in_i in_j (pieces_reach i j a b h k joined) ∙ sym at_j),
                 )

@@ -9,3 +9,5 @@ pub mod AxisLinks
 pub mod Joined
 pub mod Counted
 pub mod Ports
+pub mod Products
+pub mod NodeItems

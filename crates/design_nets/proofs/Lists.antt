@@ -1,11 +1,11 @@
 -- Lists that stand one after another, and the numbers of their first elements.
-use Rattle.std.proofs.Common.{◌≡◌, ℕ, zero, suc, ◌+◌, ◌-◌, ◌<◌, ◌≤◌, List, [], ◌∷◌, ◌++◌, length, get_or, take, map, Some, refl, sym, ap, ◌∙◌, subst, arith, inl, inr, add-zero, zero-add, append_assoc, length-append}
+use Rattle.std.proofs.Common.{◌≡◌, ℕ, zero, suc, ◌+◌, ◌-◌, ◌<◌, ◌≤◌, Bool, true, false, cond, filter, List, [], ◌∷◌, ◌++◌, length, get_or, take, map, Some, refl, sym, ap, ◌∙◌, subst, arith, inl, inr, add-zero, zero-add, append_assoc, length-append}
 use Rattle.std.specs.Prelude.{slice_get, slice_index}
 use Rattle.std.specs.List.{flat_map, range_with_len}
 use Rattle.std.proofs.lemmas.Bool.{cases_lt, cases_eq}
-use Rattle.std.proofs.lemmas.List.{map-id, length_push, get_or_append_left, get_or_push, flat_map_more}
+use Rattle.std.proofs.lemmas.List.{map-id, append-nil, length_push, get_or_append_left, get_or_push}
 use Rattle.std.proofs.lemmas.List.Concat.{get_or-flat_map}
-use Rattle.std.proofs.lemmas.List.FromFn.{take-map-range_with_len, length-range_with_len, get_or-range_with_len, map-range_with_len_more}
+use Rattle.std.proofs.lemmas.List.FromFn.{take-map-range_with_len, length-range_with_len, get_or-range_with_len, map-range_with_len_more, filter_of_map_range_with_len_more}
 use Rattle.std.proofs.lemmas.Option.{slice_get_within, slice_get-get_or, get_or_from_slice_get}
 use Rattle.list_facts.proofs.Pieces.{piece_added}
 use Rattle.design_nets.specs.Firsts.{together, AreFirsts}
@@ -15,6 +15,10 @@ use Rattle.design_nets.specs.Firsts.{together, AreFirsts}
 range_taken : (n i : ℕ) → i ≤ n → take i (range_with_len 0 n) ≡ range_with_len 0 i
 range_taken n i le =
     ap (take i) (sym (map-id (range_with_len 0 n))) ∙ (take-map-range_with_len (λ (k : ℕ). k) 0 n i le ∙ map-id (range_with_len 0 i))
+
+-- one more number
+pub numbers_more : (n : ℕ) → range_with_len 0 (n + 1) ≡ range_with_len 0 n ++ n ∷ []
+numbers_more n = sym (map-id (range_with_len 0 (n + 1))) ∙ (map-range_with_len_more (λ (k : ℕ). k) 0 n n (zero-add n) ∙ ap (λ (ks : List ℕ). ks ++ n ∷ []) (map-id (range_with_len 0 n)))
 
 -- the image of one more number is added
 pub image_added : {A : Type 0} (f : ℕ → A) (n : ℕ) (front now next : List A) → now ≡ front ++ map f (range_with_len 0 n) → next ≡ now ++ f n ∷ [] → next ≡ front ++ map f (range_with_len 0 (n + 1))
@@ -103,3 +107,20 @@ together_split lists (suc n) s lt =
           record { i = r.i; j = r.j; list = omega (arith, in_list); element = r.element; is = r.is })
       | inr past ↦ record { i = n; j = s - length (together lists n); list = omega arith; element = omega (arith, lt, more, past); is = omega (arith, past) }
     ]
+
+-- ---- the numbers that pass a test
+
+pub filtered_more : (p : ℕ → Bool) (n : ℕ) → filter p (range_with_len 0 (n + 1)) ≡ filter p (range_with_len 0 n) ++ cond (p n) (n ∷ []) []
+filtered_more p n =
+    ap (filter p) (sym (map-id (range_with_len 0 (n + 1))))
+    ∙ (filter_of_map_range_with_len_more p (λ (k : ℕ). k) 0 n n (zero-add n) ∙ ap (λ (ks : List ℕ). filter p ks ++ cond (p n) (n ∷ []) []) (map-id (range_with_len 0 n)))
+
+pub number_kept : (p : ℕ → Bool) (n : ℕ) (front now next : List ℕ) → now ≡ front ++ filter p (range_with_len 0 n) → p n ≡ true → next ≡ now ++ n ∷ [] → next ≡ front ++ filter p (range_with_len 0 (n + 1))
+number_kept p n front now next was pass is =
+    is ∙ (ap (λ zs. zs ++ n ∷ []) was
+    ∙ (append_assoc front (filter p (range_with_len 0 n)) (n ∷ [])
+    ∙ ap (λ zs. front ++ zs) (ap (λ b. filter p (range_with_len 0 n) ++ cond b (n ∷ []) []) (sym pass) ∙ sym (filtered_more p n))))
+
+pub number_passed : (p : ℕ → Bool) (n : ℕ) (front now : List ℕ) → now ≡ front ++ filter p (range_with_len 0 n) → p n ≡ false → now ≡ front ++ filter p (range_with_len 0 (n + 1))
+number_passed p n front now was fail =
+    was ∙ ap (λ zs. front ++ zs) (sym (append-nil (filter p (range_with_len 0 n))) ∙ (ap (λ b. filter p (range_with_len 0 n) ++ cond b (n ∷ []) []) (sym fail) ∙ sym (filtered_more p n)))

@@ -8,7 +8,6 @@ use Rattle.plan_model.specs.declared.plan.Match.{Match}
 use Rattle.design_nets.specs.declared.meetings.Meeting.{Meeting}
 use Rattle.design_nets.specs.Meetings.{list_in, row_of, meetings_at, meeting_of, IsSquare, IsMeeting, AreMeetings}
 
-
 -- ---- a list of a row
 
 pub list_here : (row : List (Vec Meeting Global)) (b : ℕ) (v : Vec Meeting Global) → b < length row → list_in (set row b v) b ≡ v.items

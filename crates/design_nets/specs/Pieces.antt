@@ -58,7 +58,7 @@ pieces_in masters nets instances shapes k =
 -- the pieces of all boxes, and of each box the number of its first
 pub record ArePiecesOf (masters : List Master) (nets : List Nets) (instances : List Instance) (shapes : List Shape) (pieces : List Placed) (starts : List ℕ) : Type 0 where
   pub all : pieces ≡ together (pieces_in masters nets instances shapes) (length shapes)
-  pub starts : AreFirsts (pieces_in masters nets instances shapes) (length shapes) 0 starts
+  pub begins : AreFirsts (pieces_in masters nets instances shapes) (length shapes) 0 starts
 
 -- where a piece stands, and its net
 abbrev pub stand_of : Placed → Place

@@ -36,4 +36,4 @@ shape_no shapes k = slice_index_or shapes k no_shape
 -- the shapes of all instances, and of each instance the number of its first
 pub record AreShapesOf (masters : List Master) (instances : List Instance) (shapes : List Shape) (firsts : List ℕ) : Type 0 where
   pub all : shapes ≡ together (shapes_in masters instances) (length instances)
-  pub firsts : AreFirsts (shapes_in masters instances) (length instances) 0 firsts
+  pub begins : AreFirsts (shapes_in masters instances) (length instances) 0 firsts

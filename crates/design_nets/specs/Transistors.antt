@@ -5,7 +5,7 @@ use Rattle.rule_table.specs.declared.classes.Class.{Class}
 use Rattle.rule_table.specs.declared.classes.Class.TheVariants.{P, Dm, G}
 use Rattle.cell_model.specs.declared.cell.Axis2.{Axis2}
 use Rattle.cell_model.specs.declared.cell.Cell.{Cell}
-use Rattle.cell_model.specs.declared.cell.NodeKind.TheVariants as node
+use Rattle.cell_model.specs.declared.cell.NodeKind.TheVariants as kinds
 use Rattle.cell_model.specs.Sound.{node_at}
 use Rattle.sym_items.specs.declared.items.Item.{Item}
 use Rattle.sym_items.specs.Sides.{Sides}
@@ -49,7 +49,7 @@ pub record IsFetItem (cell : Cell) (item : Item) (fet : Fet) : Type 0 where
   pub gate : Axis2
   pub w : ℤ
   pub l : ℤ
-  pub kind : (node_at cell.nodes item.owner).kind ≡ node.Fet fet.depletion gate w l
+  pub kind : (node_at cell.nodes item.owner).kind ≡ kinds.Fet fet.depletion gate w l
   pub runs : fet.axis ≡ axis_along gate
 
 -- a box within 2^40 of the origin, to the right and up

@@ -1,6 +1,6 @@
 //! Where channels lie in grains.
 ghost use Rattle.std.specs.Prelude.{◌≡◌, ◌^◌, pos, ◌+ℤ◌, ◌≤ℤ◌};
-ghost use Rattle.lam_geom.specs.Places.{IsPlace, IsPlacedBox};
+ghost use Rattle.lam_geom.specs.Places.{IsPlace, IsPlacedSpan, IsPlacedBox};
 ghost use Rattle.sym_items.specs.Boxes.{HasBox};
 ghost use Rattle.sym_items.specs.Sides.{sides_of, sides_in};
 ghost use Rattle.grid_rules.specs.Rules.{shifted_sides};

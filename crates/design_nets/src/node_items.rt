@@ -1,5 +1,6 @@
 //! Where the items of the nodes of masters stand.
 ghost use Rattle.std.specs.Prelude.{◌≡◌, ◌<◌, All, length, map, IfOk};
+ghost use Rattle.std.specs.List.{range_with_len};
 ghost use Rattle.design_nets.specs.Shapes.{drawn_in};
 ghost use Rattle.design_nets.specs.Transistors.{AreOfOwners, AreNodeItems, AreItemsOfNodes};
 
@@ -40,10 +41,21 @@ fn node_items(alloc: Global, master: &Master, drawn: &[usize]) -> Result<NodeIte
 {
     let items = master.items.list.as_slice();
     let nodes = master.cell.nodes.as_slice().len();
-    let every: Vec<usize> = (0..items.len()).collect(alloc)?;
+    let every = first_numbers(alloc, items.len())?;
     let polys = of_owners(alloc, items, drawn, Class::P, nodes)?;
     let channels = of_owners(alloc, items, &every, Class::G, nodes)?;
     Ok(NodeItems { polys, channels })
+}
+
+// So many numbers from 0 on.
+fn first_numbers(alloc: Global, count: usize) -> Result<Vec<usize>, AllocError>
+    ensures { IfOk result (λ numbers. numbers.items ≡ range_with_len 0 count) }
+{
+    let mut numbers = Vec::with_capacity(alloc, count)?;
+    for n in 0..count {
+        numbers.push(n)?;
+    }
+    Ok(numbers)
 }
 
 // For each of so many owners that has an item of a class among some, the position of one.

@@ -31,7 +31,7 @@ pub struct Pieces {
 }
 
 /// The pieces of all boxes, which show these shapes. The only refusal is want of memory.
-pub fn pieces(
+pub fn pieces_of(
     alloc: Global,
     masters: &[Master],
     nets: &[Nets],
@@ -71,18 +71,18 @@ fn push_pieces(
     match layer_shown(item.class) {
         MaskLayer::ND if is_fet(&master.cell, item.owner) => {
             let of_node = nets.node.as_slice()[item.owner as usize];
-            pieces.push(placed(box_no, Part::Low, instance, of_node.low))?;
-            pieces.push(placed(box_no, Part::High, instance, of_node.high))?;
+            pieces.push(placed_part(box_no, Part::Low, instance, of_node.low))?;
+            pieces.push(placed_part(box_no, Part::High, instance, of_node.high))?;
         }
         MaskLayer::ND | MaskLayer::NP | MaskLayer::NM => {
-            pieces.push(placed(box_no, Part::Whole, instance, item.net))?;
+            pieces.push(placed_part(box_no, Part::Whole, instance, item.net))?;
         }
         MaskLayer::NC | MaskLayer::NI | MaskLayer::NB => {}
     }
     Ok(())
 }
 
-fn placed(box_no: u32, part: Part, instance: usize, net: u32) -> Placed
+fn placed_part(box_no: u32, part: Part, instance: usize, net: u32) -> Placed
     ensures { result ≡ record { box_no = box_no; part = part; own = record { instance = instance; net = net } } }
 {
     let own = OwnNet { instance, net };

@@ -24,7 +24,7 @@ pub struct Shapes {
 }
 
 /// The shapes of all instances, of whose masters these items are boxes. The only refusal is want of memory.
-pub fn shapes(
+pub fn shapes_of(
     alloc: Global,
     masters: &[Master],
     drawn: &[Seq<usize>],
@@ -47,11 +47,7 @@ pub fn shapes(
 }
 
 // Adds the shapes of an instance, of whose master these items are boxes.
-fn push_shapes(
-    shapes: &mut Vec<Shape>,
-    instance: usize,
-    drawn: &[usize],
-) -> Result<(), AllocError>
+fn push_shapes(shapes: &mut Vec<Shape>, instance: usize, drawn: &[usize]) -> Result<(), AllocError>
     ensures { OnOk result (shapes.new.items ≡ shapes.old.items ++ map (shape instance) drawn.now) }
 {
     for &item in drawn {

@@ -13,8 +13,8 @@ ghost use Rattle.conductors.specs.Sticks.{IsSticksNetlist};
 use crate::instances::instances;
 use crate::masters::{drawn_in_masters, nets_of_masters};
 use crate::numbering::{net_numbers, next_net};
-use crate::pieces::{netted, owners, pieces};
-use crate::shapes::shapes;
+use crate::pieces::{netted, owners, pieces_of};
+use crate::shapes::shapes_of;
 use crate::transistors::transistors;
 use expand::Master;
 use lam_list::Seq;
@@ -45,16 +45,14 @@ pub fn stick_netlist(
     let nets = nets_of_masters(alloc, tech, masters)?;
     let drawn = drawn_in_masters(alloc, masters)?;
     let instances = instances(alloc, plan)?;
-    let shapes = shapes(alloc, masters, &drawn, &instances)?;
-    let pieces = pieces(alloc, masters, &nets, &instances, &shapes.all)?;
+    let shapes = shapes_of(alloc, masters, &drawn, &instances)?;
+    let pieces = pieces_of(alloc, masters, &nets, &instances, &shapes.all)?;
     let owners = owners(alloc, &pieces.all)?;
     let numbers = net_numbers(alloc, plan, &nets, &instances, &owners)?;
     let netted = netted(alloc, &pieces.all, &numbers)?;
     let picture = picture_of(alloc, tech, plan, masters, layouts)?;
     let calls = picture.calls.as_slice();
-    let crossings = transistors(
-        alloc, tech, plan, masters, layouts, &drawn, calls, &shapes,
-    )?;
+    let crossings = transistors(alloc, tech, plan, masters, layouts, &drawn, calls, &shapes)?;
     let devices = devices_of(alloc, &netted, &pieces.starts, &crossings)?;
     Ok(Netlist {
         nets: next_net(&numbers),

@@ -1,23 +1,30 @@
 //! The transistors of all instances, by the boxes that show them.
-ghost use Rattle.std.specs.Prelude.{◌≡◌, false, length, map, IfNone, IfSome, IfOk};
+ghost use Rattle.std.specs.Prelude.{◌≡◌, ◌≤◌, ◌^◌, false, length, map, IfNone, IfSome, IfOk};
+ghost use Rattle.lam_geom.specs.declared.boxes.Axis.TheVariants.{X, Y};
+ghost use Rattle.rule_table.specs.declared.classes.Class.TheVariants.{Dm};
+ghost use Rattle.rule_table.specs.Technology.{widest_of};
+ghost use Rattle.sym_items.specs.Layouts.{size_in};
+ghost use Rattle.plan_model.specs.Plan.{grids_of};
 ghost use Rattle.pitch_join.specs.Masters.{ArePlanned};
 ghost use Rattle.grid_rules.specs.Rules.{AreFinished};
-ghost use Rattle.mask_out.specs.Pictures.{HaveBoxes};
-ghost use Rattle.rule_table.specs.declared.classes.Class.TheVariants.{Dm};
+ghost use Rattle.mask_out.specs.Pictures.{HaveBoxes, IsDrawable, calls_of};
 ghost use Rattle.conductors.specs.Sticks.{AreTransistors};
-ghost use Rattle.design_nets.specs.Shapes.{drawn_in};
+ghost use Rattle.design_nets.specs.Instances.{instances_of};
 ghost use Rattle.design_nets.specs.Pieces.{is_fet};
-ghost use Rattle.design_nets.specs.Transistors.{IsFetItem, AreReady};
+ghost use Rattle.design_nets.specs.Shapes.{drawn_in, AreShapesOf};
+ghost use Rattle.design_nets.specs.Transistors.{IsFetItem};
 
 use crate::channels::channel_at;
-use crate::node_items::{NodeItems, items_of_nodes};
-use crate::shapes::Shapes;
+use crate::node_items::items_of_nodes;
+use crate::shapes::{Shape, Shapes};
 use cell_model::{Axis2, Cell, NodeKind};
+use conductors::transistors_have_boxes;
 use crossings::Crossing;
 use expand::Master;
 use lam_geom::Axis;
 use lam_list::Seq;
 use mask_out::Call;
+use plan_model::Plan;
 use rule_table::{Class, Tech};
 use std::alloc::{AllocError, Global};
 use sym_items::{Coords, Item};
@@ -49,7 +56,7 @@ pub fn transistors(
     requires calls { calls.now ≡ calls_of (size_in X layouts.now) (size_in Y layouts.now) (widest_of tech.now) (grids_of plan.now) }
     requires shapes { AreShapesOf masters.now (instances_of (grids_of plan.now)) shapes.now.all.items shapes.now.firsts.items }
     requires few { length shapes.now.all.items ≤ 2 ^ 20 }
-    ensures { IfOk result (AreTransistors tech.now plan.now masters.now layouts.now) }
+    ensures { IfOk result (λ transistors. AreTransistors tech.now plan.now masters.now layouts.now transistors.items) }
 {
     transistors_have_boxes(tech, plan, masters, layouts);
     let tables = items_of_nodes(alloc, masters, drawn)?;
@@ -83,7 +90,12 @@ fn fet_of(cell: &Cell, item: &Item) -> Option<Fet>
         return None;
     };
     let node = cell.nodes.as_slice().get(item.owner as usize)?;
-    let NodeKind::Fet { depletion, gate, .. } = node.kind else {
+    let NodeKind::Fet {
+        depletion,
+        gate,
+        ..
+    } = node.kind
+    else {
         return None;
     };
     let axis = match gate {

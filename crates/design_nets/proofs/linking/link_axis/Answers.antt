@@ -43,8 +43,7 @@ link_listed-requires c = λ k d lt_list. (
     let there = lt t c.in-Some.ensures.within in
     let list = read_list table m_s m_t c.index-row-instances.result c.as_slice-row.result.now c.as_slice-list.result.now row.0 (omega (arith, there, row.1)) (c.as_slice-list.ensures.value ∙ ap list_items c.index-row-instances.is) in
     let m : Meeting = get_or c.as_slice-list.result.now k d in
-    let met = is.sound m_s m_t m (subst (λ (ms : List Meeting). Contains ms m) list (Contains-get_or c.as_slice-list.result.now k d lt_list)) in
-    (
+    let met = is.sound m_s m_t m (subst (λ (ms : List Meeting). Contains ms m) list (Contains-get_or c.as_slice-list.result.now k d lt_list)) in (
       number_small nets instances c.args.firsts.now (own_net s m.before) c.requires.firsts (meeting_before axis plan nets instances c.requires.nets s t m c.loop-s-test.true met),
       number_small nets instances c.args.firsts.now (own_net t m.behind) c.requires.firsts (meeting_behind axis plan nets instances c.requires.nets s t m c.in-Some.ensures.within met),
     ))
