@@ -11,3 +11,4 @@ pub mod Counted
 pub mod Ports
 pub mod Products
 pub mod NodeItems
+pub mod Boxes

@@ -124,3 +124,6 @@ number_kept p n front now next was pass is =
 pub number_passed : (p : ℕ → Bool) (n : ℕ) (front now : List ℕ) → now ≡ front ++ filter p (range_with_len 0 n) → p n ≡ false → now ≡ front ++ filter p (range_with_len 0 (n + 1))
 number_passed p n front now was fail =
     was ∙ ap (λ zs. front ++ zs) (sym (append-nil (filter p (range_with_len 0 n))) ∙ (ap (λ b. filter p (range_with_len 0 n) ++ cond b (n ∷ []) []) (sym fail) ∙ sym (filtered_more p n)))
+
+pub together_pushed : {A : Type 0} (lists : ℕ → List A) (n : ℕ) (now next : List A) → now ≡ together lists n → next ≡ now ++ lists n → next ≡ together lists (n + 1)
+together_pushed lists n now next was is = is ∙ (ap (λ zs. zs ++ lists n) was ∙ sym (together_more lists n))
