@@ -1,0 +1,14 @@
+pub mod Lists
+pub mod Spots
+pub mod Added
+pub mod NetNumbers
+pub mod Linked
+pub mod Table
+pub mod Behind
+pub mod AxisLinks
+pub mod Joined
+pub mod Counted
+pub mod Ports
+pub mod Products
+pub mod NodeItems
+pub mod Boxes
