@@ -12,3 +12,5 @@ pub mod Ports
 pub mod Products
 pub mod NodeItems
 pub mod Boxes
+pub mod Shown
+pub mod Placed
