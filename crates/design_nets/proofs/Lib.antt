@@ -14,3 +14,4 @@ pub mod NodeItems
 pub mod Boxes
 pub mod Shown
 pub mod Placed
+pub mod ItemNets

@@ -1,5 +1,5 @@
 -- The pieces of the boxes stand where those of the sticks do, and are of their nets.
-use Rattle.std.proofs.Common.{◌≡◌, ℕ, ◌+◌, ◌<◌, List, length, map, get_or, Option, Some, sym, ap, ◌∙◌, arith}
+use Rattle.std.proofs.Common.{◌≡◌, ℕ, ◌+◌, ◌<◌, List, length, map, get_or, Option, Some, sym, ap, ◌∙◌, subst, arith}
 use Rattle.std.specs.Prelude.{slice_get, slice_index, option_map}
 use Rattle.std.specs.List.{range_with_len}
 use Rattle.std.proofs.lemmas.List.{length-map}
@@ -13,7 +13,8 @@ use Rattle.pair_rules.specs.Bound.{item_at}
 use Rattle.plan_model.specs.declared.plan.Plan.{Plan}
 use Rattle.plan_model.specs.Instances.{Spot, master_at_spot}
 use Rattle.plan_model.specs.Plan.{grids_of}
-use Rattle.pitch_join.specs.Masters.{master_at}
+use Rattle.plan_model.specs.GridNets.{IsOneNet}
+use Rattle.pitch_join.specs.Masters.{master_at, ports_of_masters}
 use Rattle.net_extract.specs.declared.netlist.Part.{Part}
 use Rattle.net_extract.specs.declared.netlist.Part.TheVariants.{Whole, Low, High}
 use Rattle.net_extract.specs.Places.{Place, place}
@@ -120,4 +121,58 @@ module _ (plan : Plan) (masters : List Master) (nets : List Nets) (instances : L
         shown = shows k s.list;
         is = sym f.2;
         net = ap (λ (p : Placed). p.own.net) (sym f.2) ∙ net_is k s.list f.0;
+      }
+
+  -- ---- nets
+
+  abbrev One : Spot → ℕ → Spot → ℕ → Type 0
+  One p n q m = IsOneNet (ports_of_masters masters) (nets_no nets) (grids_of plan) p n q m
+
+  ends : (p q r s : Spot) (n m k l : ℕ) → p ≡ q → n ≡ m → r ≡ s → k ≡ l → One p n r k → One q m s l
+  ends p q r s n m k l pq nm rs kl h =
+      subst (λ (z : Spot). One z m s l) pq (subst (λ (z : ℕ). One p z s l) nm (subst (λ (z : Spot). One p n z l) rs (subst (λ (z : ℕ). One p n r z) kl h)))
+
+  -- a piece's item and part are those that a place tells
+  record IsTold (i : ℕ) (piece : Placed) (p : Place) (a : Drawn) : Type 0 where
+    spot : a.spot ≡ spot_no instances piece.own.instance
+    net : net_of_part (nets_no nets) plan masters a p.part ≡ piece.own.net
+
+  told : (i : ℕ) (piece : Placed) (p : Place) (a : Drawn) → slice_get pieces i ≡ Some piece → slice_get (places_of_sticks plan masters) i ≡ Some p → Shows plan masters p.box_no a → IsTold i piece p a
+  told i piece p a h there shown =
+      let x = piece_is i piece h in
+      let both : Some (place x.k x.part) ≡ Some p = sym x.there ∙ there in
+      let e : place x.k x.part ≡ p = cc in
+      let own : Shows plan masters p.box_no (Drawn_no x.k) = subst (λ (z : Place). Shows plan masters z.box_no (Drawn_no x.k)) e x.shown in
+      let same : Drawn_no x.k ≡ a = one_item plan masters p.box_no (Drawn_no x.k) a own shown in
+      let here : IsTold i piece (place x.k x.part) (Drawn_no x.k) = record { spot = ap (λ (z : Placed). spot_no instances z.own.instance) (sym x.is); net = sym x.net } in
+      subst (λ (z : Drawn). IsTold i piece p z) same (subst (λ (z : Place). IsTold i piece z (Drawn_no x.k)) e here)
+
+  pub one_of_pieces : (i j : ℕ) (x y : Placed) → slice_get pieces i ≡ Some x → slice_get pieces j ≡ Some y → AreOfOne (nets_no nets) plan masters i j
+      → IsOneNet (ports_of_masters masters) (nets_no nets) (grids_of plan) (spot_no instances x.own.instance) x.own.net (spot_no instances y.own.instance) y.own.net
+  one_of_pieces i j x y h k one =
+      let a = told i x one.p one.a h one.first one.shows_first in
+      let b = told j y one.q one.b k one.second one.shows_second in
+      ends one.a.spot (spot_no instances x.own.instance) one.b.spot (spot_no instances y.own.instance) (net_of_part (nets_no nets) plan masters one.a one.p.part) x.own.net
+      (net_of_part (nets_no nets) plan masters one.b one.q.part) y.own.net a.spot a.net b.spot b.net one.one
+
+  pub pieces_of_one : (i j : ℕ) (x y : Placed) → slice_get pieces i ≡ Some x → slice_get pieces j ≡ Some y
+      → IsOneNet (ports_of_masters masters) (nets_no nets) (grids_of plan) (spot_no instances x.own.instance) x.own.net (spot_no instances y.own.instance) y.own.net → AreOfOne (nets_no nets) plan masters i j
+  pieces_of_one i j x y h k one =
+      let a = piece_is i x h in
+      let b = piece_is j y k in
+      let p : Place = place a.k a.part in
+      let q : Place = place b.k b.part in
+      let s = told i x p (Drawn_no a.k) h a.there a.shown in
+      let t = told j y q (Drawn_no b.k) k b.there b.shown in
+      record {
+        p = p;
+        q = q;
+        a = Drawn_no a.k;
+        b = Drawn_no b.k;
+        first = a.there;
+        second = b.there;
+        shows_first = a.shown;
+        shows_second = b.shown;
+        one = ends (spot_no instances x.own.instance) (Drawn_no a.k).spot (spot_no instances y.own.instance) (Drawn_no b.k).spot x.own.net (net_of_part (nets_no nets) plan masters (Drawn_no a.k) a.part) y.own.net
+            (net_of_part (nets_no nets) plan masters (Drawn_no b.k) b.part) (sym s.spot) (sym s.net) (sym t.spot) (sym t.net) one;
       }
