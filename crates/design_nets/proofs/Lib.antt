@@ -12,3 +12,6 @@ pub mod Ports
 pub mod Products
 pub mod NodeItems
 pub mod Boxes
+pub mod Shown
+pub mod Placed
+pub mod ItemNets

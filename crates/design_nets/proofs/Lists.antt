@@ -127,3 +127,13 @@ number_passed p n front now was fail =
 
 pub together_pushed : {A : Type 0} (lists : ℕ → List A) (n : ℕ) (now next : List A) → now ≡ together lists n → next ≡ now ++ lists n → next ≡ together lists (n + 1)
 together_pushed lists n now next was is = is ∙ (ap (λ zs. zs ++ lists n) was ∙ sym (together_more lists n))
+
+-- lists that are the same, one after another
+joined_from : {A : Type 0} (f g : ℕ → List A) (a n : ℕ) → ((k : ℕ) → a ≤ k → k < a + n → f k ≡ g k) → flat_map f (range_with_len a n) ≡ flat_map g (range_with_len a n)
+joined_from f g a zero h = refl
+joined_from f g a (suc n) h =
+    ap (λ z. z ++ flat_map f (range_with_len (a + 1) n)) (h a (omega arith) (omega arith))
+    ∙ ap (λ z. g a ++ z) (joined_from f g (a + 1) n (λ k low high. h k (omega (arith, low)) (omega (arith, high))))
+
+pub together_same : {A : Type 0} (f g : ℕ → List A) (n : ℕ) → ((k : ℕ) → k < n → f k ≡ g k) → together f n ≡ together g n
+together_same f g n h = joined_from f g 0 n (λ k low high. h k (omega (arith, high)))
