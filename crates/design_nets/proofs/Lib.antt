@@ -15,3 +15,5 @@ pub mod Boxes
 pub mod Shown
 pub mod Placed
 pub mod ItemNets
+pub mod Owned
+pub mod Ranges
