@@ -17,3 +17,4 @@ pub mod Placed
 pub mod ItemNets
 pub mod Owned
 pub mod Ranges
+pub mod Few
