@@ -15,3 +15,6 @@ pub mod Boxes
 pub mod Shown
 pub mod Placed
 pub mod ItemNets
+pub mod Owned
+pub mod Ranges
+pub mod Few

@@ -21,7 +21,7 @@ use Rattle.net_extract.specs.Places.{Place, place}
 use Rattle.conductors.specs.Conductors.{Drawn, item_of}
 use Rattle.conductors.specs.Shapes.{shapes_of, Shows}
 use Rattle.conductors.specs.Sticks.{no_shape, places_of_shape, places_of_sticks, net_of_part, AreOfOne}
-use Rattle.conductors.proofs.NetlistLists.{has_at, from_map}
+use Rattle.conductors.proofs.NetlistLists.{Has, has_at, from_map}
 use Rattle.conductors.proofs.NetlistPlaces.{places_shown}
 use Rattle.conductors.proofs.NetlistShapes.{one_item}
 use Rattle.conductors.proofs.PictureLists.{image_of_pieces}
@@ -87,6 +87,7 @@ module _ (plan : Plan) (masters : List Master) (nets : List Nets) (instances : L
     pub there : slice_get (places_of_sticks plan masters) i ≡ Some (place k part)
     pub shown : Shows plan masters k (drawn_by instances (shape_no shapes k))
     pub is : piece ≡ placed (nets_no nets (master_no instances (shape_no shapes k).instance)) (item_at (master_at masters (master_no instances (shape_no shapes k).instance)).items.list (shape_no shapes k).item) (shape_no shapes k).instance k part
+    pub has : Has (parts_of_item (master_at masters (master_no instances (shape_no shapes k).instance)) (item_at (master_at masters (master_no instances (shape_no shapes k).instance)).items.list (shape_no shapes k).item)) part
     pub net : piece.own.net ≡ net_of_part (nets_no nets) plan masters (drawn_by instances (shape_no shapes k)) part
 
   net_is : (k : ℕ) → k < length shapes → (part : Part) → part_net (nets_no nets (Master_no k)) (Item_no k) part ≡ net_of_part (nets_no nets) plan masters (Drawn_no k) part
@@ -120,6 +121,7 @@ module _ (plan : Plan) (masters : List Master) (nets : List Nets) (instances : L
         there = stands ∙ ap (λ (p : Placed). Some (stand_of p)) (sym f.2);
         shown = shows k s.list;
         is = sym f.2;
+        has = f.1;
         net = ap (λ (p : Placed). p.own.net) (sym f.2) ∙ net_is k s.list f.0;
       }
 
