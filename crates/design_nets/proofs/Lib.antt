@@ -18,3 +18,5 @@ pub mod ItemNets
 pub mod Owned
 pub mod Ranges
 pub mod Few
+pub mod Fets
+pub mod LaidOut
