@@ -20,3 +20,4 @@ pub mod Ranges
 pub mod Few
 pub mod Fets
 pub mod LaidOut
+pub mod FetBoxes
