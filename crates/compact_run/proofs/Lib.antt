@@ -12,5 +12,6 @@ pub mod Steps
 mod OneFile
 mod OneMaster
 mod OnePlan
-mod OneNetlist
+mod OneOutput
 mod OneAnswer
+mod FewParts

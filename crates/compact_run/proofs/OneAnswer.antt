@@ -14,16 +14,18 @@ use Rattle.compact_run.specs.declared.status.File.TheVariants.{Design, Technolog
 use Rattle.compact_run.specs.declared.status.Side2.TheVariants as side
 use Rattle.compact_run.specs.declared.status.Status.{Status}
 use Rattle.compact_run.specs.declared.status.Status.TheVariants as status
-use Rattle.compact_run.specs.Words.{Command, compact, extract, fmt, command_of}
+use Rattle.run_words.specs.Words.{Command, compact, check, extract, fmt, command_of}
+use Rattle.compact_run.specs.declared.cif.CifJob.{CifJob}
+use Rattle.compact_run.specs.declared.cif.CifJob.TheVariants.{Extract, Check}
 use Rattle.compact_run.specs.FaultLines.{stick_line, tech_line}
 use Rattle.compact_run.specs.Refusal.{line_of}
 use Rattle.compact_run.specs.Plans.{AreMastersOf}
 use Rattle.compact_run.specs.Designs.{CompactsTo, RefusesDesign, no_masters, no_masks as not_laid_out}
-use Rattle.compact_run.specs.Answers.{IsTechnology, IsDesign, RefusesTechnology, RefusesSticks, IsCompacted, RefusesCompact, no_technology, no_design, no_masks, IsExtracted, RefusesExtract, no_rules, no_nets, RefusesWords, IsAnswer, compacted, extracted, formatted, refused, output_failed, report_failed}
+use Rattle.compact_run.specs.Answers.{IsTechnology, IsDesign, RefusesTechnology, RefusesSticks, IsCompacted, RefusesCompact, no_technology, no_design, no_masks, IsTold, RefusesJob, no_rules, no_cif, RefusesWords, IsAnswer, compacted, told, formatted, refused, output_failed, report_failed}
 use Rattle.compact_run.specs.OneAnswer.{IsDecided, HasOneAnswer}
 use Rattle.compact_run.proofs.OneFile.{IsReadAs, IsNotRead, long, faulty, read_once, not_both, refused_once}
 use Rattle.compact_run.proofs.OneMaster.{same_tech, one_masters, Comes, laid_out, comes_refused, comes_once, AreSame}
-use Rattle.compact_run.proofs.OneNetlist.{OneNetlist, Nets, nets_once, nets_refused, nets_done}
+use Rattle.compact_run.proofs.OneOutput.{OneOutput, Over, over_once, file_refused, file_told}
 use Rattle.compact_run.proofs.OnePlan.{HasNoMasters, plan_refused, has_masters, refused_once as not_planned_once}
 
 -- ---- the files
@@ -122,29 +124,29 @@ compacts_done : (design tech : Bytes) (axes : List Axis) (files : Files) (ended 
 compacts_done design tech axes files ended output report e c =
     over c.technology c.sticks (tech_read files tech c.technology c.is_technology) (sticks_read files design c.sticks c.is_design) (ends_compacted c.technology axes c.sticks ended output report e c.compacts)
 
--- ---- `extract`
+-- ---- `extract` and `check`
 
-data Extracts (cif tech : Bytes) (files : Files) (ended : Status) (output report : Bytes) : Type 0 where
-  not_tech : NoTech files tech ended report → output ≡ [] → Extracts cif tech files ended output report
-  nets : (technology : Tech) → IsTech files tech technology → Nets technology cif files ended output report → Extracts cif tech files ended output report
+data Jobs (job : CifJob) (cif tech : Bytes) (files : Files) (ended : Status) (output report : Bytes) : Type 0 where
+  not_tech : NoTech files tech ended report → output ≡ [] → Jobs job cif tech files ended output report
+  over_text : (technology : Tech) → IsTech files tech technology → Over job technology cif files ended output report → Jobs job cif tech files ended output report
 
-extracts_once : OneNetlist → (cif tech : Bytes) (files : Files) (e f : Status) (o p r s : Bytes) → Extracts cif tech files e o r → Extracts cif tech files f p s → AreSame e f o p r s
-extracts_once law cif tech files e f o p r s (not_tech c co) (not_tech d do_) =
+jobs_once : OneOutput → (job : CifJob) (cif tech : Bytes) (files : Files) (e f : Status) (o p r s : Bytes) → Jobs job cif tech files e o r → Jobs job cif tech files f p s → AreSame e f o p r s
+jobs_once laws job cif tech files e f o p r s (not_tech c co) (not_tech d do_) =
     let same = refused_once technology_of (λ fault. status.BadTech fault) tech_line files Technology tech e f r s c d in (same.0, co ∙ sym do_, same.1)
-extracts_once law cif tech files e f o p r s (not_tech c co) (nets u is d) = absurd (not_both technology_of (λ fault. status.BadTech fault) tech_line files Technology tech (numbers_of u) e r is c)
-extracts_once law cif tech files e f o p r s (nets u is d) (not_tech c co) = absurd (not_both technology_of (λ fault. status.BadTech fault) tech_line files Technology tech (numbers_of u) f s is c)
-extracts_once law cif tech files e f o p r s (nets t is c) (nets u are d) =
+jobs_once laws job cif tech files e f o p r s (not_tech c co) (over_text u is d) = absurd (not_both technology_of (λ fault. status.BadTech fault) tech_line files Technology tech (numbers_of u) e r is c)
+jobs_once laws job cif tech files e f o p r s (over_text u is d) (not_tech c co) = absurd (not_both technology_of (λ fault. status.BadTech fault) tech_line files Technology tech (numbers_of u) f s is c)
+jobs_once laws job cif tech files e f o p r s (over_text t is c) (over_text u are d) =
     let techs : t ≡ u = same_tech t u (read_once technology_of files Technology tech (numbers_of t) (numbers_of u) is are) in
-    let T : Tech → Type 0 = λ z. Nets z cif files f p s in
-    nets_once law t cif files e f o p r s c (subst T (sym techs) d)
+    let T : Tech → Type 0 = λ z. Over job z cif files f p s in
+    over_once laws job t cif files e f o p r s c (subst T (sym techs) d)
 
-extracts_refused : (cif tech : Bytes) (files : Files) (ended : Status) (own : Bytes) → RefusesExtract cif tech files ended own → IsDecided ended → Extracts cif tech files ended [] (line_of ended own)
-extracts_refused cif tech files ended own (no_rules why) d = not_tech (tech_refused files tech ended own why d) refl
-extracts_refused cif tech files ended own (no_nets t is why) d = nets t (tech_read files tech t is) (nets_refused t cif files ended own why d)
+jobs_refused : (job : CifJob) (cif tech : Bytes) (files : Files) (ended : Status) (own : Bytes) → RefusesJob job cif tech files ended own → IsDecided ended → Jobs job cif tech files ended [] (line_of ended own)
+jobs_refused job cif tech files ended own (no_rules why) d = not_tech (tech_refused files tech ended own why d) refl
+jobs_refused job cif tech files ended own (no_cif t is why) d = over_text t (tech_read files tech t is) (file_refused job t cif files ended own why d)
 
-extracts_done : (cif tech : Bytes) (files : Files) (ended : Status) (output report : Bytes) → ended ≡ status.Done → report ≡ [] → IsExtracted cif tech files output
-    → Extracts cif tech files ended output report
-extracts_done cif tech files ended output report e none x = nets x.technology (tech_read files tech x.technology x.is_technology) (nets_done x.technology cif files ended output report e none x.netlist)
+jobs_done : (job : CifJob) (cif tech : Bytes) (files : Files) (ended : Status) (output report : Bytes) → ended ≡ status.Done → report ≡ [] → IsTold job cif tech files output
+    → Jobs job cif tech files ended output report
+jobs_done job cif tech files ended output report e none x = over_text x.technology (tech_read files tech x.technology x.is_technology) (file_told job x.technology cif files ended output report e none x.is_output)
 
 -- ---- `fmt`
 
@@ -165,20 +167,25 @@ formats_once design files e f o p r s (is_read x there ce co cr) (is_read y here
 -- what a command comes to
 abbrev Does : Option Command → Files → Status → Bytes → Bytes → Type 0
 Does None files ended output report = (ended ≡ status.Usage) × (output ≡ []) × (report ≡ line_of status.Usage [])
-Does (Some (compact design tech axes)) files ended output report = Compacts design tech axes files ended output report
-Does (Some (extract cif tech)) files ended output report = Extracts cif tech files ended output report
+Does (Some (compact design tech axes split)) files ended output report = Compacts design tech axes files ended output report
+Does (Some (check cif tech)) files ended output report = Jobs Check cif tech files ended output report
+Does (Some (extract cif tech)) files ended output report = Jobs Extract cif tech files ended output report
 Does (Some (fmt design)) files ended output report = Formats design files ended output report
 
-does_once : OneNetlist → (c : Option Command) (files : Files) (e f : Status) (o p r s : Bytes) → Does c files e o r → Does c files f p s → AreSame e f o p r s
+does_once : OneOutput → (c : Option Command) (files : Files) (e f : Status) (o p r s : Bytes) → Does c files e o r → Does c files f p s → AreSame e f o p r s
 does_once law None files e f o p r s a b = (a.0 ∙ sym b.0, a.1 ∙ sym b.1, a.2 ∙ sym b.2)
-does_once law (Some (compact design tech axes)) files e f o p r s a b = compacts_once design tech axes files e f o p r s a b
-does_once law (Some (extract cif tech)) files e f o p r s a b = extracts_once law cif tech files e f o p r s a b
+does_once law (Some (compact design tech axes split)) files e f o p r s a b = compacts_once design tech axes files e f o p r s a b
+does_once law (Some (check cif tech)) files e f o p r s a b = jobs_once law Check cif tech files e f o p r s a b
+does_once law (Some (extract cif tech)) files e f o p r s a b = jobs_once law Extract cif tech files e f o p r s a b
 does_once law (Some (fmt design)) files e f o p r s a b = formats_once design files e f o p r s a b
 
 does_refused : (c : Option Command) (files : Files) (ended : Status) (own : Bytes) → RefusesWords c files ended own → IsDecided ended → Does c files ended [] (line_of ended own)
-does_refused None files ended own why d = (why, refl, ap (λ (z : Status). line_of z own) why)
-does_refused (Some (compact design tech axes)) files ended own why d = compacts_refused design tech axes files ended own why d
-does_refused (Some (extract cif tech)) files ended own why d = extracts_refused cif tech files ended own why d
+does_refused None files status.OutOfMemory own why d = absurd d
+does_refused None files status.Usage own why d = (refl, refl, refl)
+does_refused None files other own why d = absurd why
+does_refused (Some (compact design tech axes split)) files ended own why d = compacts_refused design tech axes files ended own why d
+does_refused (Some (check cif tech)) files ended own why d = jobs_refused Check cif tech files ended own why d
+does_refused (Some (extract cif tech)) files ended own why d = jobs_refused Extract cif tech files ended own why d
 does_refused (Some (fmt design)) files ended own why d = not_read (sticks_refused files design ended own why d) refl
 
 -- a status that is decided is not that of a failed stream
@@ -186,12 +193,15 @@ decided : (ended other : Status) → ended ≡ other → IsDecided ended → IsD
 decided ended other e d = subst IsDecided e d
 
 does_answer : (words : List Bytes) (files : Files) (e : Status) (o r : Bytes) → IsAnswer words files e o r → IsDecided e → Does (command_of words) files e o r
-does_answer words files e o r (compacted design tech axes is done c) d =
+does_answer words files e o r (compacted design tech axes split is done c) d =
     let D : Option Command → Type 0 = λ c. Does c files e o r in
     subst D (sym is) (compacts_done design tech axes files e o r done c)
-does_answer words files e o r (extracted cif tech is done x none) d =
+does_answer words files e o r (told Extract cif tech is done x none) d =
     let D : Option Command → Type 0 = λ c. Does c files e o r in
-    subst D (sym is) (extracts_done cif tech files e o r done none x)
+    subst D (sym is) (jobs_done Extract cif tech files e o r done none x)
+does_answer words files e o r (told Check cif tech is done x none) d =
+    let D : Option Command → Type 0 = λ c. Does c files e o r in
+    subst D (sym is) (jobs_done Check cif tech files e o r done none x)
 does_answer words files e o r (formatted design is done c none) d =
     let D : Option Command → Type 0 = λ c. Does c files e o r in
     subst D (sym is) (is_read c.sticks (sticks_read files design c.sticks c.is_design) done c.written none)
@@ -202,5 +212,5 @@ does_answer words files e o r (refused own why out line) d =
 does_answer words files e o r (output_failed unsaid is writes line) d = absurd (decided e (status.WriteFault side.Output) is d)
 does_answer words files e o r (report_failed is writes) d = absurd (decided e (status.WriteFault side.Report) is d)
 
-pub has_one_answer : OneNetlist → (words : List Bytes) (files : Files) → HasOneAnswer words files
+pub has_one_answer : OneOutput → (words : List Bytes) (files : Files) → HasOneAnswer words files
 has_one_answer law words files e f o p r s a b de df = does_once law (command_of words) files e f o p r s (does_answer words files e o r a de) (does_answer words files f p s b df)

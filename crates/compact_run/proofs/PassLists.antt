@@ -1,5 +1,5 @@
 -- The axes of a list of passes.
-use Rattle.std.proofs.Common.{◌≡◌, ℕ, ◌≤◌, Bool, true, false, List, length, get_or, refl, ap, ◌∙◌, subst, arith}
+use Rattle.std.proofs.Common.{◌≡◌, ℕ, ◌≤◌, Bool, true, false, List, length, get_or, refl, sym, ap, ◌∙◌, subst, arith}
 use Rattle.std.specs.Prelude.{nat_le, ◌&&◌, ◌||◌, Contains, if◌then◌else◌}
 use Rattle.std.specs.List.{list_any, list_all}
 use Rattle.std.proofs.lemmas.Bool.Decides.{nat_tests}
@@ -9,7 +9,7 @@ use Rattle.std.proofs.lemmas.List.Folds.{Any-from_list_any}
 use Rattle.lam_geom.specs.declared.boxes.Axis.{Axis}
 use Rattle.lam_geom.specs.declared.boxes.Axis.TheVariants.{X, Y}
 use Rattle.compact_run.specs.Designs.{HasBothAxes}
-use Rattle.compact_run.specs.Words.{is_x, is_y, is_pass_list, axis_of, axes_in}
+use Rattle.run_words.specs.Values.{is_x, is_y, is_pass_list, axis_of, axes_in}
 
 -- a letter of an axis is one of its passes
 letter_is_pass : (is_letter : ℕ → Bool) (axis : Axis) → ((b : ℕ) → is_letter b ≡ true → axis_of b ≡ axis) → (list : List ℕ) → list_any is_letter list ≡ true → Contains (axes_in list) axis
@@ -40,7 +40,7 @@ four true false c d e = cc
 four false b c d e = cc
 
 -- a list of passes has both axes, and few
-pub pass_list_means : (list : List ℕ) → is_pass_list list ≡ true → HasBothAxes (axes_in list) × (length (axes_in list) ≤ 16)
+pass_list_means : (list : List ℕ) → is_pass_list list ≡ true → HasBothAxes (axes_in list) × (length (axes_in list) ≤ 16)
 pass_list_means list e =
     let parts = four (nat_le (length list) 16) (list_all (λ b. is_x b || is_y b) list) (list_any is_x list) (list_any is_y list) e in
     let few : length list ≤ 16 = grind (arith, nat_tests, parts.0) in
@@ -50,3 +50,7 @@ pass_list_means list e =
     both : (axis : Axis) → list_any is_x list ≡ true → list_any is_y list ≡ true → Contains (axes_in list) axis
     both X p q = letter_is_pass is_x X letter_x list p
     both Y p q = letter_is_pass is_y Y letter_y list q
+
+-- and so have the axes of a command
+pub passes_mean : (axes : List Axis) → (list : List ℕ) × (is_pass_list list ≡ true) × (axes ≡ axes_in list) → HasBothAxes axes × (length axes ≤ 16)
+passes_mean axes (list, is, e) = let P : List Axis → Type 0 = λ z. HasBothAxes z × (length z ≤ 16) in subst P (sym e) (pass_list_means list is)

@@ -5,7 +5,8 @@ use Rattle.lam_io.specs.Io.{Bytes, Files, Appends, AppendsPrefix, Rose}
 use Rattle.rule_table.specs.declared.technology.Tech.{Tech}
 use Rattle.rule_table.specs.Technology.{numbers_of}
 use Rattle.cif_read.specs.Meaning.{IsFirstFault}
-use Rattle.cif_nets.specs.Texts.{HasNetlist, HasTooManyBoxes, IsNotProper}
+use Rattle.cif_answers.specs.declared.fault.TextFault.{TextFault}
+use Rattle.cif_answers.specs.Texts.{HasNetlist, HasVerdict, HasTooManyBoxes, IsNotProper, IsBroken, RefusesNetlist, RefusesVerdict}
 use Rattle.tech_file.specs.declared.faults.TechFileFault.{TechFileFault}
 use Rattle.tech_file.specs.Technology.{technology_of}
 use Rattle.stick_parse.specs.declared.design.Design.{Design as Sticks}
@@ -19,9 +20,11 @@ use Rattle.compact_run.specs.declared.status.Side2.TheVariants as side
 use Rattle.compact_run.specs.declared.status.Status.{Status}
 use Rattle.compact_run.specs.declared.status.Status.TheVariants as status
 use Rattle.compact_run.specs.declared.status.What.TheVariants.{Boxes}
-use Rattle.compact_run.specs.Words.{Command, compact, extract, fmt, command_of}
+use Rattle.compact_run.specs.declared.cif.CifJob.{CifJob}
+use Rattle.compact_run.specs.declared.cif.CifJob.TheVariants.{Extract, Check}
+use Rattle.run_words.specs.Words.{Command, compact, check, extract, fmt, command_of}
 use Rattle.compact_run.specs.Fetches.{HasFile, IsLongFile}
-use Rattle.compact_run.specs.FaultLines.{stick_line, tech_line, cif_line, improper_line}
+use Rattle.compact_run.specs.FaultLines.{stick_line, tech_line, cif_line, improper_line, broken_line}
 use Rattle.compact_run.specs.Refusal.{line_of}
 use Rattle.compact_run.specs.Refusals.{Refused}
 use Rattle.compact_run.specs.Designs.{CompactsTo, RefusesDesign}
@@ -81,29 +84,42 @@ pub data RefusesCompact (design tech : Bytes) (axes : List Axis) (files : Files)
   no_masks : (technology : Tech) (sticks : Sticks) → IsTechnology files tech technology → IsDesign files design sticks → RefusesDesign technology axes sticks ended own
       → RefusesCompact design tech axes files ended own
 
+-- ---- what is done with a CIF text
+
+-- the output over a text: its netlist, or that it keeps the rules
+abbrev pub HasOutput : CifJob → Tech → Bytes → Bytes → Type 0
+HasOutput Extract = HasNetlist
+HasOutput Check = HasVerdict
+
+-- why there is none
+abbrev pub RefusesOutput : CifJob → Tech → Bytes → TextFault → Type 0
+RefusesOutput Extract = RefusesNetlist
+RefusesOutput Check = RefusesVerdict
+
 -- A CIF text in a file of the shelf.
 abbrev pub IsCifText : Files → Bytes → Bytes → Type 0
 IsCifText files name text = HasFile files Cif name text
 
--- the netlist of the CIF text of a file under a technology
-pub record IsNetlistOf (tech : Tech) (name : Bytes) (files : Files) (output : Bytes) : Type 0 where
+-- the output over the CIF text of a file under a technology
+pub record IsOutputOf (job : CifJob) (tech : Tech) (name : Bytes) (files : Files) (output : Bytes) : Type 0 where
   pub text : Bytes
   pub is_text : IsCifText files name text
-  pub netlist : HasNetlist tech text output
+  pub has_output : HasOutput job tech text output
 
--- The output of `extract`: the netlist of one file under the technology of the other.
-pub record IsExtracted (cif tech : Bytes) (files : Files) (output : Bytes) : Type 0 where
+-- The output of `extract` or of `check`: that over one file under the technology of the other.
+pub record IsTold (job : CifJob) (cif tech : Bytes) (files : Files) (output : Bytes) : Type 0 where
   pub technology : Tech
   pub is_technology : IsTechnology files tech technology
-  pub netlist : IsNetlistOf technology cif files output
+  pub is_output : IsOutputOf job technology cif files output
 
--- why a CIF text has no netlist under a technology
-abbrev pub RefusesText : Tech → Bytes → Status → Bytes → Type 0
-RefusesText tech text status.OutOfMemory own = Unit {0}
-RefusesText tech text (status.BadCif fault) own = IsFirstFault text fault × (own ≡ cif_line fault)
-RefusesText tech text (status.TooLarge Boxes) own = HasTooManyBoxes text
-RefusesText tech text (status.NotProper a b) own = IsNotProper tech text a b × (own ≡ improper_line a b)
-RefusesText tech text other own = ⊥
+-- why there is no output over a CIF text under a technology
+abbrev pub RefusesText : CifJob → Tech → Bytes → Status → Bytes → Type 0
+RefusesText job tech text status.OutOfMemory own = Unit {0}
+RefusesText job tech text (status.BadCif fault) own = IsFirstFault text fault × (own ≡ cif_line fault)
+RefusesText job tech text (status.TooLarge Boxes) own = HasTooManyBoxes text
+RefusesText Extract tech text (status.NotProper a b) own = IsNotProper tech text a b × (own ≡ improper_line a b)
+RefusesText Check tech text (status.RuleBroken first) own = IsBroken tech text first × (own ≡ broken_line first)
+RefusesText job tech text other own = ⊥
 
 -- why there is no CIF text
 abbrev pub RefusesCif : Bytes → Files → Status → Type 0
@@ -112,15 +128,22 @@ RefusesCif name files (status.ReadFault Cif) = Unit {0}
 RefusesCif name files (status.TooLong Cif) = IsLongFile files Cif name
 RefusesCif name files other = ⊥
 
--- Why a file has no netlist under a technology: for the file, or else for its text.
-pub data RefusesNets (tech : Tech) (name : Bytes) (files : Files) (ended : Status) (own : Bytes) : Type 0 where
-  no_text : RefusesCif name files ended → RefusesNets tech name files ended own
-  no_netlist : (text : Bytes) → IsCifText files name text → RefusesText tech text ended own → RefusesNets tech name files ended own
+-- Why there is no output over a file under a technology: for the file, or else for its text.
+pub data RefusesFile (job : CifJob) (tech : Tech) (name : Bytes) (files : Files) (ended : Status) (own : Bytes) : Type 0 where
+  no_text : RefusesCif name files ended → RefusesFile job tech name files ended own
+  no_output : (text : Bytes) → IsCifText files name text → RefusesText job tech text ended own → RefusesFile job tech name files ended own
 
--- Why `extract` is refused: for the technology, or else for the CIF text.
-pub data RefusesExtract (cif tech : Bytes) (files : Files) (ended : Status) (own : Bytes) : Type 0 where
-  no_rules : RefusesTechnology tech files ended own → RefusesExtract cif tech files ended own
-  no_nets : (technology : Tech) → IsTechnology files tech technology → RefusesNets technology cif files ended own → RefusesExtract cif tech files ended own
+-- Why `extract` or `check` is refused: for the technology, or else for the CIF text.
+pub data RefusesJob (job : CifJob) (cif tech : Bytes) (files : Files) (ended : Status) (own : Bytes) : Type 0 where
+  no_rules : RefusesTechnology tech files ended own → RefusesJob job cif tech files ended own
+  no_cif : (technology : Tech) → IsTechnology files tech technology → RefusesFile job technology cif files ended own → RefusesJob job cif tech files ended own
+
+-- the command that asks for it
+abbrev pub command_for : CifJob → Bytes → Bytes → Command
+command_for Extract = extract
+command_for Check = check
+
+-- ---- the other commands
 
 -- The output of `fmt`: the canonical text of the design of a file.
 pub record IsFormatted (design : Bytes) (files : Files) (output : Bytes) : Type 0 where
@@ -130,16 +153,30 @@ pub record IsFormatted (design : Bytes) (files : Files) (output : Bytes) : Type 
 
 -- why the words are refused: they are no command, or their command is refused
 abbrev pub RefusesWords : Option Command → Files → Status → Bytes → Type 0
-RefusesWords None files ended own = ended ≡ status.Usage
-RefusesWords (Some (compact design tech axes)) files ended own = RefusesCompact design tech axes files ended own
-RefusesWords (Some (extract cif tech)) files ended own = RefusesExtract cif tech files ended own
+RefusesWords None files status.OutOfMemory own = Unit {0}
+RefusesWords None files status.Usage own = Unit {0}
+RefusesWords None files other own = ⊥
+RefusesWords (Some (compact design tech axes split)) files ended own = RefusesCompact design tech axes files ended own
+RefusesWords (Some (check cif tech)) files ended own = RefusesJob Check cif tech files ended own
+RefusesWords (Some (extract cif tech)) files ended own = RefusesJob Extract cif tech files ended own
 RefusesWords (Some (fmt design)) files ended own = RefusesSticks design files ended own
+
+-- this may come whatever the words and the files are: memory runs out, or a file can't be read
+abbrev pub IsFree : Status → Type 0
+IsFree status.OutOfMemory = Unit {0}
+IsFree (status.ReadFault file) = Unit {0}
+IsFree other = ⊥
+
+-- no other cause refuses the words
+abbrev pub NothingRefuses : Option Command → Files → Type 0
+NothingRefuses command files = (ended : Status) (own : Bytes) → RefusesWords command files ended own → IsFree ended
 
 -- what the words write into the output and into the report
 abbrev pub WordsWrite : Option Command → Files → Bytes → Bytes → Type 0
 WordsWrite None files output report = ⊥
-WordsWrite (Some (compact design tech axes)) files output report = IsCompacted design tech axes files output report
-WordsWrite (Some (extract cif tech)) files output report = IsExtracted cif tech files output × (report ≡ [])
+WordsWrite (Some (compact design tech axes split)) files output report = IsCompacted design tech axes files output report
+WordsWrite (Some (check cif tech)) files output report = IsTold Check cif tech files output × (report ≡ [])
+WordsWrite (Some (extract cif tech)) files output report = IsTold Extract cif tech files output × (report ≡ [])
 WordsWrite (Some (fmt design)) files output report = IsFormatted design files output × (report ≡ [])
 
 -- the text that an output holds in pieces
@@ -156,10 +193,10 @@ write_fault_line = codes "sticks: cannot write output\n"
 
 -- The answer to the words, over these files: the status, the whole output and the whole report.
 pub data IsAnswer (words : List Bytes) (files : Files) (ended : Status) (output report : Bytes) : Type 0 where
-  compacted : (design tech : Bytes) (axes : List Axis) → command_of words ≡ Some (compact design tech axes)
+  compacted : (design tech : Bytes) (axes : List Axis) (split : ℕ) → command_of words ≡ Some (compact design tech axes split)
       → ended ≡ status.Done → IsCompacted design tech axes files output report → IsAnswer words files ended output report
-  extracted : (cif tech : Bytes) → command_of words ≡ Some (extract cif tech)
-      → ended ≡ status.Done → IsExtracted cif tech files output → report ≡ [] → IsAnswer words files ended output report
+  told : (job : CifJob) (cif tech : Bytes) → command_of words ≡ Some (command_for job cif tech)
+      → ended ≡ status.Done → IsTold job cif tech files output → report ≡ [] → IsAnswer words files ended output report
   formatted : (design : Bytes) → command_of words ≡ Some (fmt design)
       → ended ≡ status.Done → IsFormatted design files output → report ≡ [] → IsAnswer words files ended output report
   refused : (own : Bytes) → RefusesWords (command_of words) files ended own → output ≡ [] → report ≡ line_of ended own → IsAnswer words files ended output report

@@ -2,7 +2,7 @@
 use Rattle.std.specs.Prelude.{◌≡◌, ℕ, ◌<◌, ◌≤◌, ◌⊎◌, Option, Some, None, List, [], ◌∷◌, length, option_map}
 use Rattle.std.specs.FinMap.{get}
 use Rattle.lam_io.specs.Io.{Bytes, Files, Telling, Asks, Rose, with_asked}
-use Rattle.compact_run.specs.Words.{Command, compact, extract, fmt, files_of}
+use Rattle.run_words.specs.Words.{Command, compact, check, extract, fmt}
 use Rattle.compact_run.specs.Limits.{most_design_bytes, most_technology_bytes, most_cif_bytes}
 use Rattle.compact_run.specs.declared.status.File.{File}
 use Rattle.compact_run.specs.declared.status.File.TheVariants.{Design, Technology, Cif}
@@ -50,8 +50,13 @@ file_of (status.ReadFault file) = Some file
 file_of (status.TooLong file) = Some file
 file_of (status.BadTech fault) = Some Technology
 file_of (status.BadCif fault) = Some Cif
+file_of (status.RuleBroken first) = Some Cif
 file_of (status.NotProper a b) = Some Cif
 file_of other = Some Design
+
+-- words are refused exactly where they are no command, unless memory runs out
+abbrev pub IsUsage : Option Command → Status → Type 0
+IsUsage command ended = (ended ≡ status.Usage → command ≡ None) × (command ≡ None → (ended ≡ status.Usage) ⊎ (ended ≡ status.OutOfMemory))
 
 -- a command is refused so: it is not done, and no stream was tried
 abbrev pub IsRefusal : Status → Type 0
@@ -76,15 +81,28 @@ abbrev pub AsksForFront : List Bytes → Option Telling → Option Telling → T
 AsksForFront [] old new = new ≡ old
 AsksForFront (name ∷ names) old new = (new ≡ old) ⊎ AsksForFront names (option_map (with_asked name) old) new
 
+-- the files of a command, in the order in which they are fetched
+abbrev pub files_of : Command → List Bytes
+files_of (compact design tech axes split) = tech ∷ design ∷ []
+files_of (check cif tech) = tech ∷ cif ∷ []
+files_of (extract cif tech) = tech ∷ cif ∷ []
+files_of (fmt design) = design ∷ []
+
+-- It was asked for the technology and then for the CIF text, up to this one.
+abbrev pub AsksThroughCif : Option File → Bytes → Bytes → Option Telling → Option Telling → Type 0
+AsksThroughCif None cif tech old new = ⊥
+AsksThroughCif (Some Technology) cif tech old new = Asks old new tech
+AsksThroughCif (Some Design) cif tech old new = Asks (option_map (with_asked tech) old) new cif
+AsksThroughCif (Some Cif) cif tech old new = Asks (option_map (with_asked tech) old) new cif
+
 -- It was asked for the files of a command up to this one, each once, in order. What is done, and what is too large, is so of the last file of its command.
 abbrev pub AsksThrough : Option File → Command → Option Telling → Option Telling → Type 0
 AsksThrough None command old new = ⊥
-AsksThrough (Some Technology) (compact design tech axes) old new = Asks old new tech
-AsksThrough (Some Design) (compact design tech axes) old new = Asks (option_map (with_asked tech) old) new design
-AsksThrough (Some Cif) (compact design tech axes) old new = ⊥
-AsksThrough (Some Technology) (extract cif tech) old new = Asks old new tech
-AsksThrough (Some Design) (extract cif tech) old new = Asks (option_map (with_asked tech) old) new cif
-AsksThrough (Some Cif) (extract cif tech) old new = Asks (option_map (with_asked tech) old) new cif
+AsksThrough (Some Technology) (compact design tech axes split) old new = Asks old new tech
+AsksThrough (Some Design) (compact design tech axes split) old new = Asks (option_map (with_asked tech) old) new design
+AsksThrough (Some Cif) (compact design tech axes split) old new = ⊥
+AsksThrough file (check cif tech) old new = AsksThroughCif file cif tech old new
+AsksThrough file (extract cif tech) old new = AsksThroughCif file cif tech old new
 AsksThrough (Some Technology) (fmt design) old new = ⊥
 AsksThrough (Some Design) (fmt design) old new = Asks old new design
 AsksThrough (Some Cif) (fmt design) old new = ⊥

@@ -2,13 +2,12 @@ pub mod Limits
 pub mod GridLines
 pub mod Plans
 pub mod Clash
-pub mod Words
 pub mod Status
 pub mod Refusal
 pub mod Refusals
 pub mod Designs
 pub mod Answers
-pub mod Commands
 pub mod FaultLines
 pub mod Fetches
 pub mod OneAnswer
+pub mod Checked

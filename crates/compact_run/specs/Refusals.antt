@@ -2,6 +2,8 @@
 use Rattle.std.specs.Prelude.{List, ℕ, Some, None, Result, Ok, Err}
 use Rattle.pass_run.specs.declared.passes.PassFault.{PassFault}
 use Rattle.pass_run.specs.declared.passes.PassFault.TheVariants as stop
+use Rattle.run_words.specs.declared.commands.WordsFault.{WordsFault}
+use Rattle.run_words.specs.declared.commands.WordsFault.TheVariants as words
 use Rattle.compact_run.specs.declared.refusal.Refusal.{Refusal}
 use Rattle.compact_run.specs.declared.status.What.TheVariants.{Edges}
 use Rattle.compact_run.specs.declared.status.Status.{Status}
@@ -15,6 +17,11 @@ plain ended = record { status = ended; line = None }
 -- with a text of its own
 abbrev pub told : Status → List ℕ → Refusal
 told ended text = record { status = ended; line = Some text }
+
+-- what words that are refused come to
+abbrev pub ending_by : WordsFault → Status
+ending_by words.Usage = status.Usage
+ending_by words.OutOfMemory = status.OutOfMemory
 
 -- why the passes of a cell end
 abbrev pub refusal_of : PassFault → Refusal

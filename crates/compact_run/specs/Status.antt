@@ -1,7 +1,7 @@
 -- The numbers with which the program ends.
 use Rattle.std.specs.Prelude.{ℕ}
 use Rattle.compact_run.specs.declared.status.Status.{Status}
-use Rattle.compact_run.specs.declared.status.Status.TheVariants.{Done, OutOfMemory, Usage, ReadFault, WriteFault, TooLong, BadTech, BadSticks, BadGrid, TooLarge, Clash, Unsatisfiable, BadCif, NotProper}
+use Rattle.compact_run.specs.declared.status.Status.TheVariants.{Done, OutOfMemory, Usage, ReadFault, WriteFault, TooLong, BadTech, BadSticks, BadGrid, TooLarge, Clash, Unsatisfiable, BadCif, RuleBroken, NotProper}
 
 abbrev pub code_of : Status → ℕ
 code_of Done = 0
@@ -17,4 +17,5 @@ code_of (TooLarge what) = 9
 code_of (Clash cell a b) = 10
 code_of (Unsatisfiable pass) = 11
 code_of (BadCif fault) = 12
+code_of (RuleBroken first) = 13
 code_of (NotProper a b) = 14

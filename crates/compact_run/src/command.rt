@@ -1,46 +1,47 @@
 //! The commands, up to the writing of their texts.
 
-ghost use Rattle.std.specs.Prelude.{◌≡◌, ◌↔◌, ◌≤◌, true, [], None, Some, IfOk, IfErr};
+ghost use Rattle.std.specs.Prelude.{◌≡◌, ℕ, ◌≤◌, length, [], Some, IfOk, IfErr};
 ghost use Rattle.lam_io.specs.Io.{Telling};
-ghost use Rattle.compact_run.specs.declared.status.Status.TheVariants as status;
-ghost use Rattle.compact_run.specs.Words.{axes_in, command_of, compact, extract, fmt, is_pass_list, texts_of};
-ghost use Rattle.compact_run.specs.Fetches.{IsRefusal, IsCounted, AsksFor};
+ghost use Rattle.run_words.specs.Words.{command_of, compact, fmt, texts_of};
+ghost use Rattle.compact_run.specs.Fetches.{IsRefusal, IsCounted, IsUsage, AsksFor};
 ghost use Rattle.compact_run.specs.Refusals.{ending_of};
-ghost use Rattle.compact_run.specs.Answers.{IsGiven, text_of};
+ghost use Rattle.compact_run.specs.Answers.{IsGiven, command_for, text_of};
+ghost use Rattle.compact_run.specs.Designs.{HasBothAxes};
+ghost use Rattle.compact_run.specs.Limits.{most_passes};
 ghost use Rattle.stick_print.specs.Canonical.{canonical};
 
+use crate::cif::{CifJob, output_of_file};
 use crate::compact::compact;
-use crate::extract::netlist_of_file;
 use crate::output::Output;
 use crate::reading::{read_design, read_technology};
 use crate::refusal::Refusal;
-use crate::status::Status;
-use crate::words::{Command, axes, read_words};
+use lam_geom::Axis;
 use lam_io::Shelf;
+use run_words::{Command, read_words};
 use std::alloc::{AllocError, AllocFailed, Global};
 use stick_lex::Text;
 use stick_parse::Design;
 use stick_print::print;
 
-// What `compact` writes, or why it writes nothing.
+// What `compact` writes, or why it writes nothing. The number of pieces changes nothing.
 fn compact_files<S: Shelf>(
     alloc: Global,
     shelf: &mut S,
     design: &str,
     tech: &str,
-    passes: &str,
+    axes: &[Axis],
 ) -> Result<Output, Refusal>
-    requires list { is_pass_list passes.now ≡ true }
-    ensures given { (t : Telling) → S.told shelf.old ≡ Some t → IsGiven (Some (compact design.now tech.now (axes_in passes.now))) t.files result }
+    requires both { HasBothAxes axes.now }
+    requires few { length axes.now ≤ most_passes }
+    ensures given { (t : Telling) (split : ℕ) → S.told shelf.old ≡ Some t → IsGiven (Some (compact design.now tech.now axes.now split)) t.files result }
     ensures refusal { IfErr result (λ r. IsRefusal r.status) }
     ensures counted { IsCounted (S.faults shelf.old) (S.faults shelf.new) (ending_of result) }
-    ensures asked { AsksFor (Some (compact design.now tech.now (axes_in passes.now))) (ending_of result) (S.told shelf.old) (S.told shelf.new) }
+    ensures asked { (split : ℕ) → AsksFor (Some (compact design.now tech.now axes.now split)) (ending_of result) (S.told shelf.old) (S.told shelf.new) }
     ensures counts { S.faults shelf.old ≤ S.faults shelf.new }
 {
-    let axes = axes(alloc, passes)?;
     let technology = read_technology(alloc, shelf, tech)?;
     let sticks = read_design(alloc, shelf, design)?;
-    compact(alloc, &technology, &sticks, &axes)
+    compact(alloc, &technology, &sticks, axes)
 }
 
 // A text in one piece, with nothing to tell.
@@ -54,21 +55,22 @@ fn in_one_piece(alloc: Global, text: Vec<u8>) -> Result<Output, AllocError>
     })
 }
 
-// What `extract` writes, or why it writes nothing.
-fn extract_files<S: Shelf>(
+// What `extract` or `check` writes, or why it writes nothing.
+fn cif_files<S: Shelf>(
     alloc: Global,
     shelf: &mut S,
+    job: CifJob,
     cif: &str,
     tech: &str,
 ) -> Result<Output, Refusal>
-    ensures given { (t : Telling) → S.told shelf.old ≡ Some t → IsGiven (Some (extract cif.now tech.now)) t.files result }
+    ensures given { (t : Telling) → S.told shelf.old ≡ Some t → IsGiven (Some (command_for job cif.now tech.now)) t.files result }
     ensures refusal { IfErr result (λ r. IsRefusal r.status) }
     ensures counted { IsCounted (S.faults shelf.old) (S.faults shelf.new) (ending_of result) }
-    ensures asked { AsksFor (Some (extract cif.now tech.now)) (ending_of result) (S.told shelf.old) (S.told shelf.new) }
+    ensures asked { AsksFor (Some (command_for job cif.now tech.now)) (ending_of result) (S.told shelf.old) (S.told shelf.new) }
     ensures counts { S.faults shelf.old ≤ S.faults shelf.new }
 {
     let rules = read_technology(alloc, shelf, tech)?;
-    let text = netlist_of_file(alloc, shelf, cif, &rules)?;
+    let text = output_of_file(alloc, shelf, job, cif, &rules)?;
     Ok(in_one_piece(alloc, text)?)
 }
 
@@ -100,22 +102,21 @@ pub fn answer<'a, S: Shelf>(
     shelf: &mut S,
 ) -> Result<Output, Refusal>
     ensures given { (t : Telling) → S.told shelf.old ≡ Some t → IsGiven (command_of (texts_of words.now)) t.files result }
-    ensures usage { (ending_of result ≡ status.Usage) ↔ (command_of (texts_of words.now) ≡ None) }
+    ensures usage { IsUsage (command_of (texts_of words.now)) (ending_of result) }
     ensures refusal { IfErr result (λ r. IsRefusal r.status) }
     ensures counted { IsCounted (S.faults shelf.old) (S.faults shelf.new) (ending_of result) }
     ensures asked { AsksFor (command_of (texts_of words.now)) (ending_of result) (S.told shelf.old) (S.told shelf.new) }
     ensures counts { S.faults shelf.old ≤ S.faults shelf.new }
 {
-    match read_words(words) {
-        None => Err(Refusal::from(Status::Usage)),
-        Some(
-            Command::Compact {
-                design,
-                tech,
-                passes,
-            },
-        ) => compact_files(alloc, shelf, design, tech, passes),
-        Some(Command::Extract { cif, tech }) => extract_files(alloc, shelf, cif, tech),
-        Some(Command::Fmt { design }) => fmt_file(alloc, shelf, design),
+    match read_words(alloc, words)? {
+        Command::Compact {
+            design,
+            tech,
+            passes,
+            split: _,
+        } => compact_files(alloc, shelf, design, tech, passes.as_slice()),
+        Command::Check { cif, tech } => cif_files(alloc, shelf, CifJob::Check, cif, tech),
+        Command::Extract { cif, tech } => cif_files(alloc, shelf, CifJob::Extract, cif, tech),
+        Command::Fmt { design } => fmt_file(alloc, shelf, design),
     }
 }

@@ -1,15 +1,22 @@
 //! What holds of all answers.
 
 ghost use Rattle.lam_io.specs.Io.{Files};
-ghost use Rattle.compact_run.specs.Words.{texts_of};
+ghost use Rattle.run_words.specs.Words.{texts_of};
+ghost use Rattle.compact_run.specs.Checked.{MasksPassTheCheck};
 ghost use Rattle.compact_run.specs.OneAnswer.{HasOneAnswer};
 
-use cif_nets::netlists_are_determined;
+use cif_answers::{netlists_are_determined, verdicts_are_determined};
 
 /// A law, with nothing to run: the words and the files determine the status, the output and the report, where memory does
 /// not run out and no file or stream fails.
 pub fn answers_are_determined<'a>(words: &'a [&'a str])
     ensures { (files : Files) → HasOneAnswer (texts_of words.now) files }
 {
-    netlists_are_determined()
+    netlists_are_determined();
+    verdicts_are_determined();
 }
+
+/// A law, with nothing to run: where `compact` is done, `check` of what it wrote, with the same technology, is done too.
+pub fn masks_pass_the_check()
+    ensures { MasksPassTheCheck }
+{}

@@ -3,10 +3,11 @@
 ghost use Rattle.std.specs.Prelude.{◌≡◌};
 ghost use Rattle.compact_run.specs.declared.status.Status.TheVariants.{OutOfMemory};
 ghost use Rattle.compact_run.specs.Refusal.{line_of, own_text};
-ghost use Rattle.compact_run.specs.Refusals.{plain, refusal_of};
+ghost use Rattle.compact_run.specs.Refusals.{plain, ending_by, refusal_of};
 
 use crate::status::{File, Status, What};
 use pass_run::PassFault;
+use run_words::WordsFault;
 use std::alloc::{AllocError, AllocFailed};
 use stick_lex::Text;
 
@@ -40,6 +41,17 @@ impl<T: Drop> From<AllocFailed<T>> for Refusal {
 
     fn from(_failed: AllocFailed<T>) -> Refusal {
         Refusal::from(Status::OutOfMemory)
+    }
+}
+
+impl From<WordsFault> for Refusal {
+    ghost from_gives = { λ fault r. r ≡ plain (ending_by fault) };
+
+    fn from(fault: WordsFault) -> Refusal {
+        match fault {
+            WordsFault::Usage => Refusal::from(Status::Usage),
+            WordsFault::OutOfMemory => Refusal::from(Status::OutOfMemory),
+        }
     }
 }
 

@@ -4,6 +4,7 @@ ghost use Rattle.std.specs.Prelude.{◌≡◌};
 ghost use Rattle.compact_run.specs.Status.{code_of};
 
 use cif_read::CifFault;
+use flat_check::Break;
 use grid_plan::GridFault;
 use stick_parse::StickFault;
 use tech_file::TechFileFault;
@@ -86,6 +87,8 @@ pub enum Status {
     },
     /// The CIF text has no meaning: its first fault.
     BadCif(CifFault),
+    /// The boxes of a CIF text do not keep the rules: the first break.
+    RuleBroken(Break),
     /// Two boxes of a CIF text, poly and diffusion, overlap and neither cross properly nor are a buried pair, or one of them overlaps
     /// a further box of the other's layer: the first pair, by their numbers among the boxes of the text.
     NotProper {
@@ -115,6 +118,7 @@ impl Status {
             Status::Clash { .. } => 10,
             Status::Unsatisfiable { .. } => 11,
             Status::BadCif(_) => 12,
+            Status::RuleBroken(_) => 13,
             Status::NotProper { .. } => 14,
         }
     }

@@ -1,11 +1,11 @@
 //! The top call.
 
-ghost use Rattle.std.specs.Prelude.{◌≡◌, ℕ, ◌↔◌, ◌≤◌, List, None, Some};
+ghost use Rattle.std.specs.Prelude.{◌≡◌, ◌⊎◌, ℕ, ◌≤◌, List, Some};
 ghost use Rattle.lam_io.specs.Io.{Telling, Rose};
 ghost use Rattle.compact_run.specs.declared.status.File.{File};
-ghost use Rattle.compact_run.specs.Words.{command_of, texts_of};
-ghost use Rattle.compact_run.specs.Fetches.{AsksFor};
-ghost use Rattle.compact_run.specs.Answers.{IsAnswer, Writes, Tells, IsUntouched};
+ghost use Rattle.run_words.specs.Words.{command_of, texts_of};
+ghost use Rattle.compact_run.specs.Fetches.{IsUsage, AsksFor};
+ghost use Rattle.compact_run.specs.Answers.{IsAnswer, NothingRefuses, Writes, Tells, IsUntouched};
 
 use crate::command::answer;
 use crate::delivery::{refuse, write};
@@ -16,7 +16,8 @@ use std::alloc::Global;
 /// Does what the words say. `compact DESIGN --tech FILE [--passes LIST]` fetches the technology and then the design, makes
 /// a pass on the axis of each letter of the list, `xy` if there is none, and puts the masks of its grids into `out` and
 /// then what it tells of the passes into `report`; `extract CIF --tech FILE` fetches the technology and then the CIF text,
-/// and puts its nets and transistors into `out`; `fmt DESIGN` puts the canonical text of a design into `out`. A refusal
+/// and puts its nets and transistors into `out`; `check CIF --tech FILE` fetches the same and puts `ok` where its boxes keep
+/// the rules; `fmt DESIGN` puts the canonical text of a design into `out`. A refusal
 /// puts its text into `report`, one line or the passes before a cycle and the cycle, and nothing into `out`.
 pub fn run<'a, S: Shelf, C: Sink, R: Sink>(
     alloc: Global,
@@ -33,7 +34,8 @@ pub fn run<'a, S: Shelf, C: Sink, R: Sink>(
     // A refused call has written nothing.
     ensures untouched { IsUntouched result out.old out.new }
 
-    ensures usage { (result ≡ Status.Usage) ↔ (command_of (texts_of words.now) ≡ None) }
+    // The words are refused exactly where they are no command, unless memory runs out.
+    ensures usage { IsUsage (command_of (texts_of words.now)) result }
     // Where a file could not be read, the shelf's count rose.
     ensures read_fault { (f : File) → result ≡ Status.ReadFault f → Rose (S.faults shelf.old) (S.faults shelf.new) }
     ensures write_fault { result ≡ Status.WriteFault Side2.Output → Rose (C.faults out.old) (C.faults out.new) }
@@ -41,6 +43,11 @@ pub fn run<'a, S: Shelf, C: Sink, R: Sink>(
     // The files are as they were, and those of the command were asked for, each once, in order: the technology alone where that was refused,
     // else all; a front of them where memory ran out.
     ensures asked { AsksFor (command_of (texts_of words.now)) result (S.told shelf.old) (S.told shelf.new) }
+
+    // Where no cause refuses the words and no count rises, the call is done, unless memory runs out.
+    ensures complete { (t : Telling) → S.told shelf.old ≡ Some t → NothingRefuses (command_of (texts_of words.now)) t.files
+        → ¬ Rose (S.faults shelf.old) (S.faults shelf.new) → ¬ Rose (C.faults out.old) (C.faults out.new) → ¬ Rose (R.faults report.old) (R.faults report.new)
+        → (result ≡ Status.Done) ⊎ (result ≡ Status.OutOfMemory) }
 
     // The counts of faults never fall.
     ensures shelf_counts { S.faults shelf.old ≤ S.faults shelf.new }

@@ -1,0 +1,77 @@
+-- The netlist of a CIF text and the verdict on it, or why it has none.
+use Rattle.std.specs.Prelude.{◌≡◌, ℕ, ◌<◌, ◌≤◌, List, length, map, codes}
+use Rattle.lam_geom.specs.declared.boxes.MaskBox.{MaskBox}
+use Rattle.rule_table.specs.declared.technology.Tech.{Tech}
+use Rattle.cif_read.specs.Files.{drawn_of, most_boxes}
+use Rattle.cif_read.specs.Meaning.{Means, IsFirstFault}
+use Rattle.cif_read.specs.Sheets.{Sheet, flattened}
+use Rattle.crossings.specs.Crossings.{IsFirstBadPair}
+use Rattle.net_extract.specs.declared.netlist.Netlist.{Netlist}
+use Rattle.net_extract.specs.Extraction.{IsExtracted}
+use Rattle.flat_check.specs.declared.rule.Break.{Break}
+use Rattle.flat_check.specs.Breaks.{KeepRules, IsFirstBreak}
+use Rattle.net_list.specs.Lines.{text_of_netlist}
+use Rattle.cif_answers.specs.declared.fault.TextFault.{TextFault}
+use Rattle.cif_answers.specs.declared.fault.TextFault.TheVariants.{Cif, TooMany, NotProper, Broken, OutOfMemory}
+
+-- the boxes of a text, one by one, which are not too many
+pub record HasBoxes (text : List ℕ) (boxes : List MaskBox) : Type 0 where
+  pub sheet : Sheet
+  pub means : Means text sheet
+  pub drawn : map drawn_of boxes ≡ flattened sheet
+  pub few : length boxes ≤ most_boxes
+
+-- too many
+pub record HasTooManyBoxes (text : List ℕ) : Type 0 where
+  pub sheet : Sheet
+  pub means : Means text sheet
+  pub many : most_boxes < length (flattened sheet)
+
+-- a text has this netlist: this is the text of what is extracted from its boxes
+pub record HasNetlist (tech : Tech) (text output : List ℕ) : Type 0 where
+  pub boxes : List MaskBox
+  pub are_boxes : HasBoxes text boxes
+  pub list : Netlist
+  pub extracted : IsExtracted tech boxes list
+  pub written : output ≡ text_of_netlist boxes list
+
+-- the first pair of its boxes that does not cross properly
+pub record IsNotProper (tech : Tech) (text : List ℕ) (a b : ℕ) : Type 0 where
+  pub boxes : List MaskBox
+  pub are_boxes : HasBoxes text boxes
+  pub pair : IsFirstBadPair tech boxes a b
+
+-- a text keeps the rules: its boxes do, and this is what is said of it
+pub record HasVerdict (tech : Tech) (text output : List ℕ) : Type 0 where
+  pub boxes : List MaskBox
+  pub are_boxes : HasBoxes text boxes
+  pub keep : KeepRules tech boxes
+  pub written : output ≡ codes "ok\n"
+
+-- the first break of the rules by its boxes
+pub record IsBroken (tech : Tech) (text : List ℕ) (first : Break) : Type 0 where
+  pub boxes : List MaskBox
+  pub are_boxes : HasBoxes text boxes
+  pub first_break : IsFirstBreak tech boxes first
+
+-- Why a text has no netlist: it has no meaning, too many boxes, or a pair that does not cross properly.
+abbrev pub RefusesNetlist : Tech → List ℕ → TextFault → Type 0
+RefusesNetlist tech text (Cif fault) = IsFirstFault text fault
+RefusesNetlist tech text TooMany = HasTooManyBoxes text
+RefusesNetlist tech text (NotProper a b) = IsNotProper tech text a b
+RefusesNetlist tech text (Broken first) = ⊥
+RefusesNetlist tech text OutOfMemory = Unit {0}
+
+-- Why a text does not keep the rules: it has no meaning, too many boxes, or a break.
+abbrev pub RefusesVerdict : Tech → List ℕ → TextFault → Type 0
+RefusesVerdict tech text (Cif fault) = IsFirstFault text fault
+RefusesVerdict tech text TooMany = HasTooManyBoxes text
+RefusesVerdict tech text (NotProper a b) = ⊥
+RefusesVerdict tech text (Broken first) = IsBroken tech text first
+RefusesVerdict tech text OutOfMemory = Unit {0}
+
+-- Want of memory aside, a text comes to one output, or to one cause why it has none, and never to both.
+pub record AnswersAreDetermined (Gives : Tech → List ℕ → List ℕ → Type 0) (Refuses : Tech → List ℕ → TextFault → Type 0) (tech : Tech) (text : List ℕ) : Type 0 where
+  pub one_output : (a b : List ℕ) → Gives tech text a → Gives tech text b → a ≡ b
+  pub one_cause : (a b : TextFault) → (a ≡ OutOfMemory → ⊥) → (b ≡ OutOfMemory → ⊥) → Refuses tech text a → Refuses tech text b → a ≡ b
+  pub not_both : (output : List ℕ) (fault : TextFault) → (fault ≡ OutOfMemory → ⊥) → Gives tech text output → Refuses tech text fault → ⊥

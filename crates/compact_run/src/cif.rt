@@ -1,0 +1,94 @@
+//! What is done with a CIF text: its nets and transistors are extracted, or it is checked against the rules.
+
+ghost use Rattle.std.specs.Prelude.{◌≡◌, ◌^◌, ◌≤◌, length, Some, IfOk, IfErr};
+ghost use Rattle.lam_io.specs.Io.{Bytes, Telling};
+ghost use Rattle.rule_table.specs.declared.technology.Tech.{Tech};
+ghost use Rattle.compact_run.specs.declared.cif.CifJob.{CifJob};
+ghost use Rattle.compact_run.specs.Fetches.{IsCounted, EndsOverCif, AsksOnce};
+ghost use Rattle.compact_run.specs.Refusals.{Refused, ending_of};
+ghost use Rattle.compact_run.specs.Answers.{HasOutput, RefusesOutput, IsOutputOf, RefusesFile, RefusesText};
+
+use crate::fault_lines::{broken_line, cif_line, improper_line};
+use crate::fetch::fetch;
+use crate::refusal::Refusal;
+use crate::status::{File, Status, What};
+use cif_answers::{TextFault, netlist_of, verdict_of};
+use lam_io::Shelf;
+use rule_table::Tech;
+use std::alloc::{AllocError, Global};
+use stick_lex::Text;
+
+/// What is asked of a CIF text.
+#[derive(Clone, Copy, Debug, PartialEq, Eq)]
+pub enum CifJob {
+    /// Its nets and transistors.
+    Extract,
+    /// That it keeps the rules.
+    Check,
+}
+
+fn output_text(alloc: Global, job: CifJob, tech: &Tech, text: &[u8]) -> Result<Text, TextFault>
+    requires { length text.now ≤ 2 ^ 26 }
+    ensures output { IfOk result (HasOutput job tech.now text.now) }
+    ensures refused { IfErr result (RefusesOutput job tech.now text.now) }
+{
+    match job {
+        CifJob::Extract => netlist_of(alloc, tech, text),
+        CifJob::Check => verdict_of(alloc, tech, text),
+    }
+}
+
+// The refusal for a text's fault, and its line.
+fn refusal_for(alloc: Global, fault: TextFault) -> Result<Refusal, AllocError>
+    ensures refused { IfOk result (λ r. (job : CifJob) (tech : Tech) (text : Bytes) → RefusesOutput job tech text fault → Refused (RefusesText job tech text) r) }
+    ensures over { IfOk result (λ r. EndsOverCif r.status) }
+{
+    match fault {
+        TextFault::Cif(fault) => Ok(Refusal {
+            status: Status::BadCif(fault),
+            line: Some(cif_line(alloc, fault)?),
+        }),
+        TextFault::TooMany => Ok(Refusal::from(Status::TooLarge(What::Boxes))),
+        TextFault::NotProper(a, b) => Ok(Refusal {
+            status: Status::NotProper { a, b },
+            line: Some(improper_line(alloc, a, b)?),
+        }),
+        TextFault::Broken(first) => Ok(Refusal {
+            status: Status::RuleBroken(first),
+            line: Some(broken_line(alloc, first)?),
+        }),
+        TextFault::OutOfMemory => Ok(Refusal::from(Status::OutOfMemory)),
+    }
+}
+
+// The output over a CIF text, or why there is none.
+fn output_over(alloc: Global, job: CifJob, tech: &Tech, text: &[u8]) -> Result<Vec<u8>, Refusal>
+    requires { length text.now ≤ 2 ^ 26 }
+    ensures output { IfOk result (λ output. HasOutput job tech.now text.now output.items) }
+    ensures refused { IfErr result (Refused (RefusesText job tech.now text.now)) }
+    ensures over { IfErr result (λ r. EndsOverCif r.status) }
+{
+    match output_text(alloc, job, tech, text) {
+        Ok(output) => Ok(Vec::from_slice(alloc, output.bytes())?),
+        Err(fault) => Err(refusal_for(alloc, fault)?),
+    }
+}
+
+/// The output over the CIF text of a file.
+pub fn output_of_file<S: Shelf>(
+    alloc: Global,
+    shelf: &mut S,
+    job: CifJob,
+    name: &str,
+    tech: &Tech,
+) -> Result<Vec<u8>, Refusal>
+    ensures output { IfOk result (λ output. (t : Telling) → S.told shelf.old ≡ Some t → IsOutputOf job tech.now name.now t.files output.items) }
+    ensures refused { IfErr result (λ r. (t : Telling) → S.told shelf.old ≡ Some t → Refused (RefusesFile job tech.now name.now t.files) r) }
+    ensures over { IfErr result (λ r. EndsOverCif r.status) }
+    ensures counted { IsCounted (S.faults shelf.old) (S.faults shelf.new) (ending_of result) }
+    ensures asked { AsksOnce (ending_of result) (S.told shelf.old) (S.told shelf.new) name.now }
+    ensures counts { S.faults shelf.old ≤ S.faults shelf.new }
+{
+    let text = fetch(alloc, shelf, File::Cif, name)?;
+    output_over(alloc, job, tech, &text)
+}

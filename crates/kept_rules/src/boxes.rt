@@ -1,0 +1,26 @@
+//! That boxes keep the rules.
+ghost use Rattle.std.specs.Prelude.{List};
+ghost use Rattle.lam_geom.specs.declared.boxes.MaskBox.{MaskBox};
+ghost use Rattle.pitch_join.specs.Masters.{ArePlanned};
+ghost use Rattle.grid_rules.specs.Rules.{AreFinished};
+ghost use Rattle.conductors.specs.Shapes.{AreShapes};
+ghost use Rattle.flat_check.specs.Breaks.{KeepRules};
+
+use crate::shapes::items_have_shapes;
+use crate::spacings::items_keep_off;
+use conductors::extracted_nets_are_the_sticks;
+use expand::Master;
+use plan_model::Plan;
+use rule_table::Tech;
+use sym_items::Coords;
+
+/// A law, with nothing to run: boxes that show the items of all instances of finished layouts keep every rule.
+pub fn boxes_keep_rules(tech: &Tech, plan: &Plan, masters: &[Master], layouts: &[Coords])
+    requires planned { ArePlanned tech.now plan.now masters.now }
+    requires finished { AreFinished tech.now plan.now masters.now layouts.now }
+    ensures { (boxes : List MaskBox) → AreShapes tech.now plan.now masters.now layouts.now boxes → KeepRules tech.now boxes }
+{
+    items_have_shapes(tech, plan, masters, layouts);
+    items_keep_off(tech, plan, masters, layouts);
+    extracted_nets_are_the_sticks(tech, plan, masters, layouts);
+}

@@ -1,0 +1,41 @@
+-- The checks find no fault in the whole design.
+use Rattle.std.proofs.Common.{◌≡◌, ℕ, ◌+◌, ◌*◌, ◌≤◌, true, [], ◌∷◌, length, map, Result, Ok, ap, subst, ◌∙◌, zero-add, arith}
+use Rattle.std.specs.Prelude.{IsOk, is_ok, codes}
+use Rattle.std.specs.List.{filter_map, list_all}
+use Rattle.rule_table.specs.declared.technology.Tech.{Tech}
+use Rattle.stick_parse.specs.declared.fault.StickFault.{StickFault}
+use Rattle.stick_parse.specs.Reading.{◌>>=◌}
+use Rattle.stick_parse.specs.Order.{at_line}
+use Rattle.stick_parse.specs.declared.fault.StickKind.TheVariants.{PortWires}
+use Rattle.stick_cell.specs.Checks.{demand}
+use Rattle.stick_cell.specs.Known.{Known, begun}
+use Rattle.stick_cell.specs.Lines.{after_lines, after_cell, known_cells, is_wired}
+use Rattle.stick_cell.specs.Grids.{resolved_cells}
+use Rattle.design_gen.specs.Draws.{points}
+use Rattle.design_gen.specs.Made.{wire_at, forms_of, lines_from, made}
+use Rattle.made_designs.proofs.Nodes.{IsAfter, all_nodes, none_before}
+use Rattle.made_designs.proofs.Wires.{has_joints, all_wires}
+
+-- the lines of the cell are accepted, and the cell has no ports
+all_lines : (tech : Tech) (n : ℕ) → n ≤ 64 → (known : Known) × (known.plugs ≡ []) × (after_lines tech [] (begun (codes "bench")) (lines_from 3 (forms_of n)) ≡ Ok known)
+unfolding forms_of
+all_lines tech n few =
+    let nodes = all_nodes tech n (n * n) 0 (begun (codes "bench")) few (omega arith) (none_before tech n (codes "bench")) in
+    let wires = all_wires tech n (n * n) 0 nodes.last few (omega arith) (has_joints tech n nodes.last (subst (λ i. IsAfter tech n i nodes.last) (zero-add (n * n)) nodes.after)) in
+    let on = nodes.on (filter_map (wire_at n) (points n)) 3 in
+    (wires.last, wires.has.closed, on.1 ∙ wires.on on.0)
+
+-- so the cell is, behind no other one
+cell_accepted : (tech : Tech) (n end : ℕ) → n ≤ 64 → (known : Known) × (after_cell tech [] (record { name = codes "bench"; line = 2; end_line = end; lines = lines_from 3 (forms_of n) }) ≡ Ok known)
+unfolding after_cell
+cell_accepted tech n end few =
+    let lines = all_lines tech n few in
+    let wired : is_wired lines.0 ≡ true = ap (λ plugs. list_all (λ wired. wired) (map (λ plug. plug.wired) plugs)) lines.1 in
+    (lines.0, ap (λ read. read >>= λ known. at_line end (demand (is_wired known) PortWires) >>= λ done. Ok known) lines.2 ∙ ap (λ b. at_line end (demand b PortWires) >>= λ done. Ok lines.0) wired)
+
+-- and the design, whose one grid has no name
+pub design_accepted : (tech : Tech) (n : ℕ) → n ≤ 64 → IsOk (resolved_cells tech (made n))
+unfolding made known_cells resolved_cells
+design_accepted tech n few =
+    let cell = cell_accepted tech n (3 + length (forms_of n)) few in
+    ap (λ (read : Result Known StickFault). is_ok ((read >>= λ known. Ok (known ∷ [])) >>= λ cells. Ok cells)) cell.1

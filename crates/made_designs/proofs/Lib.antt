@@ -1,0 +1,7 @@
+mod Names
+mod Tables
+mod Passing
+mod Nodes
+mod Wires
+mod Checked
+mod Written

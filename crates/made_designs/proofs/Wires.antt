@@ -1,0 +1,163 @@
+-- Each wire of the cell is accepted: it runs from a metal joint to the next one of its row.
+use Rattle.std.proofs.Common.{◌≡◌, ℕ, zero, suc, ◌+◌, ◌-◌, ◌*◌, ◌/◌, ◌%◌, ◌<◌, ◌≤◌, ℤ, Bool, true, false, ◌&&◌, List, [], Option, Some, None, Ok, refl, ap, ◌∙◌, arith}
+use Rattle.std.specs.Prelude.{◌==◌, nat_lt, int_le, option_and_then, if◌then◌else◌}
+use Rattle.std.specs.List.{filter_map, cons_option, range_with_len}
+use Rattle.std.proofs.lemmas.Bool.{and_parts}
+use Rattle.std.proofs.lemmas.Bool.Decides.{nat_tests}
+use Rattle.std.proofs.lemmas.Int.{ints}
+use Rattle.std.proofs.lemmas.Nat.{div-add-mod', div-mul-add, mod-mul-add}
+use Rattle.rule_table.specs.declared.technology.Tech.{Tech}
+use Rattle.rule_table.specs.declared.classes.Layer.TheVariants as layers
+use Rattle.rule_table.specs.Technology.{width_of}
+use Rattle.cell_model.specs.declared.cell.Axis2.TheVariants.{Across}
+use Rattle.cell_model.specs.declared.cell.NodeKind.TheVariants as kinds
+use Rattle.cell_model.specs.declared.cell.WireEnd.TheVariants as ends
+use Rattle.cell_model.specs.declared.cell.Wire.{Wire}
+use Rattle.stick_cell.specs.declared.names.Spot.{Spot}
+use Rattle.stick_cell.specs.declared.names.Terminal.TheVariants as terminals
+use Rattle.stick_cell.specs.declared.names.Found.{Found}
+use Rattle.stick_cell.specs.declared.names.Found.TheVariants.{At}
+use Rattle.stick_cell.specs.declared.names.Run.{Run}
+use Rattle.stick_parse.specs.declared.fault.StickKind.TheVariants.{WideWire}
+use Rattle.stick_parse.specs.declared.design.Form.TheVariants as forms
+use Rattle.stick_parse.specs.declared.design.Layer.TheVariants as drawn
+use Rattle.stick_parse.specs.Reading.{◌>>=◌}
+use Rattle.stick_parse.specs.Order.{at_line}
+use Rattle.stick_cell.specs.declared.names.Thing.TheVariants as things
+use Rattle.stick_cell.specs.Known.{Known, with_wire}
+use Rattle.stick_cell.specs.Paths.{named, names_at, behind, walk, found_at}
+use Rattle.stick_cell.specs.Checks.{sized}
+use Rattle.stick_cell.specs.Lines.{wired_of, after_form, after_wire, after_lines}
+use Rattle.stick_cell.specs.Wires.{known_name, run_between, straight, are_sides_free, wire_where, wire_between}
+use Rattle.stick_cell.proofs.Accepted.{less_from_test}
+use Rattle.design_gen.specs.Draws.{point_at}
+use Rattle.design_gen.specs.Made.{name_at, is_metal, are_joined, is_wired, wire_at, lines_from}
+use Rattle.made_designs.proofs.Names.{IsPoint, col_below, one_name}
+use Rattle.made_designs.proofs.Passing.{one_passes}
+use Rattle.made_designs.proofs.Nodes.{joint_at, StandsForJoint, IsAfter}
+
+-- ---- two metal joints in one row
+
+abbrev joint : Tech → ℕ → ℕ → ℕ → Spot
+joint tech number col row = record { number = number; kind = kinds.Joint layers.Metal (width_of tech layers.Metal); col = col; row = row }
+
+abbrev run : Tech → ℕ → ℕ → ℕ → ℕ → ℕ → Run
+run tech i j from to row = record { along = Across; low = terminals.Node (joint tech i from row); high = terminals.Node (joint tech j to row); forward = true }
+
+runs_across : (tech : Tech) (i j from to row : ℕ) → from < to → run_between (terminals.Node (joint tech i from row)) (terminals.Node (joint tech j to row)) ≡ Some (run tech i j from to row)
+runs_across tech i j from to row lt =
+    let same : (row == row) ≡ true = grind (arith, nat_tests) in
+    let apart : (from == to) ≡ false = grind (arith, nat_tests) in
+    let before : nat_lt from to ≡ true = grind (arith, nat_tests) in
+    rw (same, apart, before) refl
+
+abbrev wire : Tech → ℕ → ℕ → Wire
+wire tech i j = record { layer = layers.Metal; width = width_of tech layers.Metal; low = ends.Node i; high = ends.Node j; along = Across }
+
+fits : (w : ℤ) → int_le w w ≡ true
+fits w = grind (arith, ints)
+
+pub wire_taken : (tech : Tech) (wired : List Bool) (wires : List Wire) (i j from to row : ℕ) → from < to
+    → wire_between tech wired wires layers.Metal (At (terminals.Node (joint tech i from row))) (At (terminals.Node (joint tech j to row))) None ≡ Ok (wire tech i j)
+unfolding wire_between sized
+wire_taken tech wired wires i j from to row lt =
+    let width : ℤ = width_of tech layers.Metal in
+    ap (λ found. straight found >>= λ along. wire_where (are_sides_free wires layers.Metal along) tech wired layers.Metal None along) (runs_across tech i j from to row lt)
+    ∙ one_passes (int_le width width && int_le width width) WideWire (Ok (wire tech i j)) (ap (λ b. b && int_le width width) (fits width) ∙ fits width)
+
+-- ---- the left neighbour
+
+pub left_of : (n k : ℕ) → IsPoint n k → 0 < k % n → ((k - 1) % n + 1 ≡ k % n) × ((k - 1) / n ≡ k / n)
+left_of n k p some =
+    let col : ℕ = k % n - 1 in
+    let below : col < n = omega (arith, col_below n k p, some) in
+    let before : k - 1 ≡ k / n * n + col = omega (arith, div-add-mod' k n, some) in
+    let same_col : (k - 1) % n ≡ col = ap (λ x. x % n) before ∙ mod-mul-add (k / n) n col below in
+    (omega (arith, same_col, some), ap (λ x. x / n) before ∙ div-mul-add (k / n) n col below)
+
+-- ---- the lines of wires
+
+-- each metal joint is there, and the cell has no ports
+pub record HasJoints (tech : Tech) (n : ℕ) (known : Known) : Type 0 where
+  pub joints : (j : ℕ) → IsPoint n j → is_metal (point_at n j).stand ≡ true → StandsForJoint tech n known.names j
+  pub closed : known.plugs ≡ []
+
+pub has_joints : (tech : Tech) (n : ℕ) (known : Known) → IsAfter tech n (n * n) known → HasJoints tech n known
+has_joints tech n known after = record { joints = λ j p metal. after.joints j p p.within metal; closed = after.closed }
+
+-- a path that is the name of a metal joint
+found_joint : (tech : Tech) (n j i : ℕ) (known : Known) → IsPoint n j → named known.names (name_at n j) ≡ Some (things.Node (joint_at tech n j i)) → found_at [] known (name_at n j) ≡ Some (At (terminals.Node (joint_at tech n j i)))
+unfolding found_at
+found_joint tech n j i known p there =
+    ap (walk [] known.names) (one_name n j p) ∙ ap (option_and_then (λ thing. behind thing [] (λ k. walk [] (names_at [] k) []))) there
+
+-- one more wire changes no names and no ports
+with_wire_joints : (tech : Tech) (n i j : ℕ) (known : Known) → HasJoints tech n known → HasJoints tech n (with_wire known (wire tech i j))
+with_wire_joints tech n i j known has = record { joints = has.joints; closed = has.closed }
+
+-- a wire between what two paths come to
+between : (tech : Tech) (known : Known) (from to : Option Found) (a b : Found) (taken : Wire) → from ≡ Some a → to ≡ Some b → wire_between tech (wired_of known) known.wires layers.Metal a b None ≡ Ok taken → (do
+  first ← known_name from
+  second ← known_name to
+  made ← wire_between tech (wired_of known) known.wires layers.Metal first second None
+  Ok (with_wire known made)) ≡ Ok (with_wire known taken)
+between tech known from to a b taken e f g =
+    ap (λ found. known_name found >>= λ first. known_name to >>= λ second. wire_between tech (wired_of known) known.wires layers.Metal first second None >>= λ made. Ok (with_wire known made)) e
+    ∙ ap (λ found. known_name found >>= λ second. wire_between tech (wired_of known) known.wires layers.Metal a second None >>= λ made. Ok (with_wire known made)) f
+    ∙ ap (λ found. found >>= λ made. Ok (with_wire known made)) g
+
+-- the wire to a point is accepted
+abbrev IsTaken : Tech → ℕ → ℕ → Known → Type 0
+IsTaken tech n k known = (next : Known) × (after_form tech [] known (forms.Wire drawn.Metal (name_at n (k - 1)) (name_at n k) None) ≡ Ok next) × HasJoints tech n next
+
+wire_accepted : (tech : Tech) (n k : ℕ) (known : Known) → IsPoint n k → HasJoints tech n known → is_wired n k ≡ true → IsTaken tech n k known
+unfolding after_wire
+wire_accepted tech n k known p has wired =
+    let apart = and_parts (nat_lt 0 (k % n)) (are_joined (point_at n (k - 1)) (point_at n k)) wired in
+    let joined = and_parts (is_metal (point_at n (k - 1)).stand) (is_metal (point_at n k).stand && (point_at n k).is_joined) apart.1 in
+    let right = and_parts (is_metal (point_at n k).stand) (point_at n k).is_joined joined.1 in
+    let left = left_of n k p (less_from_test 0 (k % n) apart.0) in
+    let q : IsPoint n (k - 1) = record { few = p.few; within = omega (arith, p.within) } in
+    let a = has.joints (k - 1) q joined.0 in
+    let b = has.joints k p right.0 in
+    let from : found_at [] known (name_at n (k - 1)) ≡ Some (At (terminals.Node (joint tech a.0 ((k - 1) % n) (k / n)))) =
+    found_joint tech n (k - 1) a.0 known q a.1 ∙ ap (λ row. Some (At (terminals.Node (joint tech a.0 ((k - 1) % n) row)))) left.1 in
+    let to = found_joint tech n k b.0 known p b.1 in
+    let taken = wire_taken tech (wired_of known) known.wires a.0 b.0 ((k - 1) % n) (k % n) (k / n) (omega (arith, left.0)) in
+    (with_wire known (wire tech a.0 b.0), between tech known _ _ _ _ (wire tech a.0 b.0) from to taken, with_wire_joints tech n a.0 b.0 known has)
+
+-- ---- all wires
+
+pub record Ends (tech : Tech) (n k m : ℕ) (known : Known) : Type 0 where
+  pub last : Known
+  pub has : HasJoints tech n last
+  pub on : (number : ℕ) → after_lines tech [] known (lines_from number (filter_map (wire_at n) (range_with_len k m))) ≡ Ok last
+
+one_more : (tech : Tech) (n k m : ℕ) (known : Known) (wired : Bool) → is_wired n k ≡ wired → HasJoints tech n known → (is_wired n k ≡ true → IsTaken tech n k known) → ((next : Known) → HasJoints tech n next → Ends tech n (k + 1) m next) → Ends tech n k (suc m) known
+unfolding wire_at
+one_more tech n k m known false e has taken rest =
+    let behind = rest known has in
+    let later = filter_map (wire_at n) (range_with_len (k + 1) m) in
+    record {
+      last = behind.last;
+      has = behind.has;
+      on = λ number. ap (λ b. after_lines tech [] known (lines_from number (cons_option (if b then Some (forms.Wire drawn.Metal (name_at n (k - 1)) (name_at n k) None) else None) later))) e ∙ behind.on number;
+    }
+one_more tech n k m known true e has taken rest =
+    let next = taken e in
+    let behind = rest next.0 next.2 in
+    let later = filter_map (wire_at n) (range_with_len (k + 1) m) in
+    record {
+      last = behind.last;
+      has = behind.has;
+      on = λ number. ap (λ b. after_lines tech [] known (lines_from number (cons_option (if b then Some (forms.Wire drawn.Metal (name_at n (k - 1)) (name_at n k) None) else None) later))) e
+          ∙ ap (λ found. at_line number found >>= λ now. after_lines tech [] now (lines_from (number + 1) later)) next.1
+          ∙ behind.on (number + 1);
+    }
+
+pub all_wires : (tech : Tech) (n m k : ℕ) (known : Known) → n ≤ 64 → k + m ≤ n * n → HasJoints tech n known → Ends tech n k m known
+all_wires tech n zero k known few within has = record { last = known; has = has; on = λ number. refl }
+all_wires tech n (suc m) k known few within has =
+    let here : k < n * n = omega (arith, within) in
+    let behind : k + 1 + m ≤ n * n = omega (arith, within) in
+    one_more tech n k m known (is_wired n k) refl has (wire_accepted tech n k known (record { few = few; within = here }) has) (λ next joints. all_wires tech n m (k + 1) next few behind joints)

@@ -1,0 +1,6 @@
+pub mod Values
+pub mod Lines
+pub mod Words
+pub mod Commands
+pub mod Faults
+pub mod PlainLines

@@ -1,0 +1,50 @@
+-- The words after a command's name, as `clap` reads them.
+use Rattle.std.specs.Prelude.{◌≡◌, true, is_some, List, [], ◌∷◌, fold, Option, Some, None, codes, unwrap_or}
+use Rattle.clap.specs.Words.{App, Kinds, Row, Rule, Text, fault_of, first_of, found_of, matches_of, new_app, new_rule, rows_of, with_rule}
+use Rattle.clap.specs.declared.parser.matches.ArgMatches.{ArgMatches}
+use Rattle.clap.specs.declared.builder.action.ArgAction.TheVariants.{Set}
+
+-- the operand: the one argument without a name, which has to be there
+abbrev pub operand : Rule
+operand = record (new_rule (codes "operand")) { required = true; action = Some Set }
+
+-- the option `--name VALUE`, once at most
+abbrev pub option : Text → Rule
+option name = record (new_rule name) { long = Some name; action = Some Set }
+
+-- `--tech FILE`, which has to be there
+abbrev pub tech : Rule
+tech = record (option (codes "tech")) { required = true }
+
+-- a command with these arguments
+abbrev pub line : List Rule → App
+line rules = fold with_rule (new_app (codes "sticks")) rules
+
+-- `compact DESIGN --tech FILE [--passes LIST] [--split N]`
+abbrev pub compact_line : App
+compact_line = line (operand ∷ tech ∷ option (codes "passes") ∷ option (codes "split") ∷ [])
+
+-- `check CIF --tech FILE` and `extract CIF --tech FILE`
+abbrev pub cif_line : App
+cif_line = line (operand ∷ tech ∷ [])
+
+-- `fmt DESIGN`
+abbrev pub operand_line : App
+operand_line = line (operand ∷ [])
+
+-- the matches, where no kind of error comes
+abbrev pub without_fault : Kinds → List Row → Option (List Row)
+without_fault [] rows = Some rows
+without_fault (kind ∷ kinds) rows = None
+
+-- what `clap` finds in the words, of which the first is the command's name; `None` where it refuses them
+unfoldable pub found_in : App → List Text → Option (List Row)
+found_in app words = without_fault (fault_of app words) (matches_of app words)
+
+-- the text of a required argument, which is there wherever `clap` takes the words
+abbrev pub text_of : Text → List Row → Text
+text_of id rows = unwrap_or (first_of id rows) []
+
+-- the argument has a text in the matches
+abbrev pub HasText : Text → ArgMatches → Type 0
+HasText id m = is_some (first_of id (rows_of (found_of m))) ≡ true

@@ -1,0 +1,77 @@
+//! What the program is asked to do.
+
+ghost use Rattle.std.specs.Prelude.{◌≡◌};
+ghost use Rattle.clap.specs.Words.{kind_of};
+ghost use Rattle.run_words.specs.Faults.{fault_by};
+ghost use Rattle.run_words.specs.declared.commands.WordsFault.TheVariants.{OutOfMemory};
+
+use clap::error::ErrorKind;
+use lam_geom::Axis;
+use lam_list::Seq;
+use std::alloc::AllocError;
+use thiserror::Error;
+
+/// A command, with the names of its files as they stand in the words.
+#[derive(Debug, Drop)]
+pub enum Command<'a> {
+    /// `compact DESIGN --tech FILE [--passes LIST] [--split N]`: the masks of a design under a technology.
+    Compact {
+        /// The design's file.
+        design: &'a str,
+        /// The technology's file.
+        tech: &'a str,
+        /// The axes of the passes, in their order.
+        passes: Seq<Axis>,
+        /// The number of pieces that the work on the masters is split into: 1 to 64.
+        split: u32,
+    },
+    /// `check CIF --tech FILE`: the first break of a design rule in a CIF text under a technology.
+    Check {
+        /// The CIF text's file.
+        cif: &'a str,
+        /// The technology's file.
+        tech: &'a str,
+    },
+    /// `extract CIF --tech FILE`: the nets and transistors of a CIF text under a technology.
+    Extract {
+        /// The CIF text's file.
+        cif: &'a str,
+        /// The technology's file.
+        tech: &'a str,
+    },
+    /// `fmt DESIGN`: the canonical text of a design.
+    Fmt {
+        /// The design's file.
+        design: &'a str,
+    },
+}
+
+/// Why words are no command.
+#[derive(Clone, Copy, Debug, PartialEq, Eq, Error)]
+pub enum WordsFault {
+    /// The words are none of the command lines, or a list of passes or a number in them is none.
+    #[error("the words are no command")]
+    Usage,
+    /// Memory ran out.
+    #[error("out of memory")]
+    OutOfMemory,
+}
+
+impl From<AllocError> for WordsFault {
+    ghost from_gives = { λ _ fault. fault ≡ OutOfMemory };
+
+    fn from(_error: AllocError) -> WordsFault {
+        WordsFault::OutOfMemory
+    }
+}
+
+impl From<clap::Error> for WordsFault {
+    ghost from_gives = { λ error fault. fault ≡ fault_by (kind_of error) };
+
+    fn from(error: clap::Error) -> WordsFault {
+        match error.kind() {
+            ErrorKind::OutOfMemory => WordsFault::OutOfMemory,
+            _ => WordsFault::Usage,
+        }
+    }
+}

@@ -1,0 +1,91 @@
+//! Reading a command line.
+
+ghost use Rattle.std.specs.Prelude.{◌≡◌, Some, None, Err, IfOk};
+ghost use Rattle.run_words.specs.Words.{check_of, command_of, compact_of, extract_of, fmt_of, texts_of};
+ghost use Rattle.run_words.specs.Commands.{command_from, HasPassList};
+ghost use Rattle.run_words.specs.declared.commands.WordsFault.TheVariants.{Usage};
+
+use crate::commands::{Command, WordsFault};
+use crate::lines::{self, text_of, text_or};
+use crate::values::{axes, count, is_pass_list};
+use lam_list::Seq;
+use std::alloc::Global;
+
+fn read_compact<'a>(alloc: Global, words: &'a [&'a str]) -> Result<Command<'a>, WordsFault>
+    ensures command { IfOk result (λ command. compact_of (texts_of words.now) ≡ Some (command_from command)) }
+    ensures passes { IfOk result HasPassList }
+    ensures usage { result ≡ Err Usage → compact_of (texts_of words.now) ≡ None }
+{
+    let found = lines::compact(alloc, words)?;
+    let passes = text_or(&found, "passes", "xy");
+    if !is_pass_list(passes) {
+        return Err(WordsFault::Usage);
+    }
+    let split = count(text_or(&found, "split", "1")).ok_or(WordsFault::Usage)?;
+    Ok(Command::Compact {
+        design: text_of(&found, "operand"),
+        tech: text_of(&found, "tech"),
+        passes: Seq::from_vec(axes(alloc, passes)?),
+        split,
+    })
+}
+
+fn read_check<'a>(alloc: Global, words: &'a [&'a str]) -> Result<Command<'a>, WordsFault>
+    ensures command { IfOk result (λ command. check_of (texts_of words.now) ≡ Some (command_from command)) }
+    ensures passes { IfOk result HasPassList }
+    ensures usage { result ≡ Err Usage → check_of (texts_of words.now) ≡ None }
+{
+    let found = lines::cif(alloc, words)?;
+    Ok(Command::Check {
+        cif: text_of(&found, "operand"),
+        tech: text_of(&found, "tech"),
+    })
+}
+
+fn read_extract<'a>(alloc: Global, words: &'a [&'a str]) -> Result<Command<'a>, WordsFault>
+    ensures command { IfOk result (λ command. extract_of (texts_of words.now) ≡ Some (command_from command)) }
+    ensures passes { IfOk result HasPassList }
+    ensures usage { result ≡ Err Usage → extract_of (texts_of words.now) ≡ None }
+{
+    let found = lines::cif(alloc, words)?;
+    Ok(Command::Extract {
+        cif: text_of(&found, "operand"),
+        tech: text_of(&found, "tech"),
+    })
+}
+
+fn read_fmt<'a>(alloc: Global, words: &'a [&'a str]) -> Result<Command<'a>, WordsFault>
+    ensures command { IfOk result (λ command. fmt_of (texts_of words.now) ≡ Some (command_from command)) }
+    ensures passes { IfOk result HasPassList }
+    ensures usage { result ≡ Err Usage → fmt_of (texts_of words.now) ≡ None }
+{
+    let found = lines::only_operand(alloc, words)?;
+    Ok(Command::Fmt {
+        design: text_of(&found, "operand"),
+    })
+}
+
+/// The command that the words are, which are those behind the program's name. `Usage` comes exactly where they are no
+/// command. Want of memory is the one other refusal.
+pub fn read_words<'a>(alloc: Global, words: &'a [&'a str]) -> Result<Command<'a>, WordsFault>
+    ensures command { IfOk result (λ command. command_of (texts_of words.now) ≡ Some (command_from command)) }
+    ensures passes { IfOk result HasPassList }
+    ensures usage { result ≡ Err Usage → command_of (texts_of words.now) ≡ None }
+{
+    match words {
+        [] => Err(WordsFault::Usage),
+        [command, ..] => {
+            if *command == "compact" {
+                read_compact(alloc, words)
+            } else if *command == "check" {
+                read_check(alloc, words)
+            } else if *command == "extract" {
+                read_extract(alloc, words)
+            } else if *command == "fmt" {
+                read_fmt(alloc, words)
+            } else {
+                Err(WordsFault::Usage)
+            }
+        }
+    }
+}
