@@ -9,7 +9,7 @@ use Rattle.std.proofs.lemmas.List.Folds.{Any-from_list_any}
 use Rattle.lam_geom.specs.declared.boxes.Axis.{Axis}
 use Rattle.lam_geom.specs.declared.boxes.Axis.TheVariants.{X, Y}
 use Rattle.compact_run.specs.Designs.{HasBothAxes}
-use Rattle.run_words.specs.Words.{is_x, is_y, is_pass_list, axis_of, axes_in}
+use Rattle.run_words.specs.Values.{is_x, is_y, is_pass_list, axis_of, axes_in}
 
 -- a letter of an axis is one of its passes
 letter_is_pass : (is_letter : ℕ → Bool) (axis : Axis) → ((b : ℕ) → is_letter b ≡ true → axis_of b ≡ axis) → (list : List ℕ) → list_any is_letter list ≡ true → Contains (axes_in list) axis

@@ -1,5 +1,5 @@
 -- What the steps of a command tell of the shelf, and what they come to together.
-use Rattle.std.proofs.Common.{◌≡◌, ℕ, Option, Some, Result, Ok, Err, List, [], IfOk, IfErr, inl, inr, sym, ap, subst, ◌∙◌, option_map}
+use Rattle.std.proofs.Common.{◌≡◌, ℕ, Option, Some, None, refl, Result, Ok, Err, List, [], IfOk, IfErr, inl, inr, sym, ap, subst, ◌∙◌, option_map}
 use Rattle.lam_geom.specs.declared.boxes.Axis.{Axis}
 use Rattle.lam_io.specs.Io.{Bytes, Files, Telling, with_asked, Asks}
 use Rattle.rule_table.specs.declared.technology.Tech.{Tech}
@@ -9,11 +9,13 @@ use Rattle.compact_run.specs.declared.refusal.Refusal.{Refusal}
 use Rattle.compact_run.specs.declared.status.File.TheVariants.{Cif}
 use Rattle.compact_run.specs.declared.status.Status.{Status}
 use Rattle.compact_run.specs.declared.status.Status.TheVariants as status
-use Rattle.run_words.specs.Commands.{Command, compact}
+use Rattle.run_words.specs.Words.{Command, compact, check, extract, fmt}
+use Rattle.run_words.specs.declared.commands.WordsFault.{WordsFault}
+use Rattle.run_words.specs.declared.commands.WordsFault.TheVariants as words
 use Rattle.compact_run.specs.declared.cif.CifJob.{CifJob}
 use Rattle.compact_run.specs.declared.cif.CifJob.TheVariants.{Extract, Check}
-use Rattle.compact_run.specs.Fetches.{AsksOnce, IsRead}
-use Rattle.compact_run.specs.Refusals.{Refused}
+use Rattle.compact_run.specs.Fetches.{AsksOnce, AsksFor, IsRead}
+use Rattle.compact_run.specs.Refusals.{Refused, ending_by}
 use Rattle.compact_run.specs.Answers as answers
 use Rattle.compact_run.specs.Answers.{IsTechnology, IsDesign, IsOutputOf, IsGiven, RefusesFile, RefusesText, RefusesTechnology, RefusesWords, command_for, text_of}
 use Rattle.compact_run.specs.Designs.{RefusesDesign, CompactsTo}
@@ -56,3 +58,31 @@ job_told Extract cif tech files technology text o is_technology is_output writte
     (record { technology = technology; is_technology = is_technology; is_output = subst (IsOutputOf Extract technology cif files) (sym written) is_output }, none)
 job_told Check cif tech files technology text o is_technology is_output written none =
     (record { technology = technology; is_technology = is_technology; is_output = subst (IsOutputOf Check technology cif files) (sym written) is_output }, none)
+
+-- ---- the words
+
+-- memory may run out whatever the words are
+out_of_memory : (c : Option Command) (files : Files) (own : Bytes) → RefusesWords c files status.OutOfMemory own
+out_of_memory None files own = tt
+out_of_memory (Some (compact design tech axes split)) files own = answers.no_technology tt
+out_of_memory (Some (check cif tech)) files own = answers.no_rules tt
+out_of_memory (Some (extract cif tech)) files own = answers.no_rules tt
+out_of_memory (Some (fmt design)) files own = tt
+
+-- words that are refused
+pub words_refused : (c : Option Command) (files : Files) (fault : WordsFault) (own : Bytes) → (fault ≡ words.Usage → c ≡ None) → RefusesWords c files (ending_by fault) own
+words_refused c files words.Usage own none = let P : Option Command → Type 0 = λ z. RefusesWords z files status.Usage own in subst P (sym (none refl)) tt
+words_refused c files words.OutOfMemory own none = out_of_memory c files own
+
+usage_is_not : status.Usage ≡ status.OutOfMemory → ⊥
+usage_is_not e = cc
+
+-- a command is not refused as no command
+pub not_usage : (c : Command) (ended : Status) (old new : Option Telling) → AsksFor (Some c) ended old new → ended ≡ status.Usage → ⊥
+not_usage c ended old new asks e = go (let P : Status → Type 0 = λ z. AsksFor (Some c) z old new in subst P e asks) where
+  go : AsksFor (Some c) status.Usage old new → ⊥
+  go (inl through) = through
+  go (inr p) = usage_is_not p.0
+
+pub is_command : (c : Option Command) (x : Command) → c ≡ Some x → c ≡ None → ⊥
+is_command c x e f = cc

@@ -44,7 +44,6 @@ few_pieces master nets box_no one =
     let few = few_parts (layer_shown item.class) (is_fet master.cell item.owner) in
     omega (arith, few, length-map (parts_of_item master item) (placed nets item one.instance box_no))
 
-
 pub pieces_read : (masters : List Master) (nets : List Nets) (m : ℕ) (master : Master) (own : Nets) → AreNetsOfAll masters nets → m < length masters → master ≡ get_or masters m master → own ≡ get_or nets m own
     → (master ≡ master_at masters m) × (own ≡ nets_no nets m) × (length own.node ≡ length master.cell.nodes)
 pieces_read masters nets m master own are lt read_master read_own =

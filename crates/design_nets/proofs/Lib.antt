@@ -18,3 +18,6 @@ pub mod ItemNets
 pub mod Owned
 pub mod Ranges
 pub mod Few
+pub mod Fets
+pub mod LaidOut
+pub mod FetBoxes

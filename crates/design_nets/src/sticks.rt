@@ -52,7 +52,7 @@ pub fn stick_netlist(
     let netted = netted(alloc, &pieces.all, &numbers)?;
     let picture = picture_of(alloc, tech, plan, masters, layouts)?;
     let calls = picture.calls.as_slice();
-    let crossings = transistors(alloc, tech, plan, masters, layouts, &drawn, calls, &shapes)?;
+    let crossings = transistors(alloc, tech, plan, masters, layouts, calls, &drawn, &shapes)?;
     let devices = devices_of(alloc, &netted, &pieces.starts, &crossings)?;
     Ok(Netlist {
         nets: next_net(&numbers),

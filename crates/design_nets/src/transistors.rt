@@ -1,21 +1,15 @@
 //! The transistors of all instances, by the boxes that show them.
-ghost use Rattle.std.specs.Prelude.{◌≡◌, ◌≤◌, ◌^◌, false, length, map, IfNone, IfSome, IfOk};
-ghost use Rattle.lam_geom.specs.declared.boxes.Axis.TheVariants.{X, Y};
+ghost use Rattle.std.specs.Prelude.{◌≡◌, ◌<◌, false, All, length, map, IfNone, IfSome, IfOk};
+ghost use Rattle.lam_geom.specs.Places.{IsPlacedBox};
 ghost use Rattle.rule_table.specs.declared.classes.Class.TheVariants.{Dm};
-ghost use Rattle.rule_table.specs.Technology.{widest_of};
-ghost use Rattle.sym_items.specs.Layouts.{size_in};
-ghost use Rattle.plan_model.specs.Plan.{grids_of};
-ghost use Rattle.pitch_join.specs.Masters.{ArePlanned};
-ghost use Rattle.grid_rules.specs.Rules.{AreFinished};
-ghost use Rattle.mask_out.specs.Pictures.{HaveBoxes, IsDrawable, calls_of};
-ghost use Rattle.conductors.specs.Sticks.{AreTransistors};
-ghost use Rattle.design_nets.specs.Instances.{instances_of};
+ghost use Rattle.crossings.specs.declared.crossing.Crossing.{Crossing as SomeCrossing};
+ghost use Rattle.conductors.specs.Sticks.{IsTransistor, AreTransistors};
 ghost use Rattle.design_nets.specs.Pieces.{is_fet};
-ghost use Rattle.design_nets.specs.Shapes.{drawn_in, AreShapesOf};
-ghost use Rattle.design_nets.specs.Transistors.{IsFetItem};
+ghost use Rattle.design_nets.specs.Shapes.{drawn_in};
+ghost use Rattle.design_nets.specs.Transistors.{AreItemsOfNodes, IsFetItem, IsLaidOut, cell_shown, item_shown};
 
 use crate::channels::channel_at;
-use crate::node_items::items_of_nodes;
+use crate::node_items::{NodeItems, items_of_nodes};
 use crate::shapes::{Shape, Shapes};
 use cell_model::{Axis2, Cell, NodeKind};
 use conductors::transistors_have_boxes;
@@ -44,41 +38,64 @@ pub fn transistors(
     plan: &Plan,
     masters: &[Master],
     layouts: &[Coords],
-    drawn: &[Seq<usize>],
     calls: &[Call],
+    drawn: &[Seq<usize>],
     shapes: &Shapes,
 ) -> Result<Vec<Crossing>, AllocError>
-    requires planned { ArePlanned tech.now plan.now masters.now }
-    requires finished { AreFinished tech.now plan.now masters.now layouts.now }
-    requires boxes { HaveBoxes layouts.now masters.now }
-    requires drawable { IsDrawable (size_in X layouts.now) (size_in Y layouts.now) (widest_of tech.now) (grids_of plan.now) }
+    requires laid_out { IsLaidOut tech.now plan.now masters.now layouts.now calls.now shapes.now }
     requires drawn { drawn.now ≡ map drawn_in masters.now }
-    requires calls { calls.now ≡ calls_of (size_in X layouts.now) (size_in Y layouts.now) (widest_of tech.now) (grids_of plan.now) }
-    requires shapes { AreShapesOf masters.now (instances_of (grids_of plan.now)) shapes.now.all.items shapes.now.firsts.items }
-    requires few { length shapes.now.all.items ≤ 2 ^ 20 }
-    ensures { IfOk result (λ transistors. AreTransistors tech.now plan.now masters.now layouts.now transistors.items) }
+    ensures all { IfOk result (λ all. AreTransistors tech.now plan.now masters.now layouts.now all.items) }
+    ensures placed { IfOk result (λ all. All (λ (c : SomeCrossing). IsPlacedBox c.channel) all.items) }
 {
     transistors_have_boxes(tech, plan, masters, layouts);
-    let tables = items_of_nodes(alloc, masters, drawn)?;
-    let mut transistors = Vec::new(alloc);
+    let found = items_of_nodes(alloc, masters, drawn)?;
+    let mut all = Vec::new(alloc);
     for k in 0..shapes.all.len() {
         let Shape { instance, item } = shapes.all[k];
-        let call = calls[instance];
-        let master = call.symbol as usize;
-        let items = masters[master].items.list.as_slice();
-        let owner = items[item].owner as usize;
-        if let Some(fet) = fet_of(&masters[master].cell, &items[item]) {
-            let channel = &items[tables[master].channels[owner]];
-            transistors.push(Crossing {
-                poly: shapes.firsts[instance] + tables[master].polys[owner] as u32,
-                diffusion: k as u32,
-                axis: fet.axis,
-                channel: channel_at(tech, channel, &layouts[master], call),
-                depletion: fet.depletion,
-            })?;
+        let master = &masters[calls[instance].symbol as usize];
+        if let Some(fet) = fet_of(&master.cell, &master.items.list.as_slice()[item]) {
+            all.push(transistor_at(
+                tech, plan, masters, layouts, calls, shapes, &found, k as u32, fet,
+            ))?;
         }
     }
-    Ok(transistors)
+    Ok(all)
+}
+
+// The transistor of which box number k shows the diffusion. `found` has the items of the nodes of each master.
+fn transistor_at(
+    tech: &Tech,
+    plan: &Plan,
+    masters: &[Master],
+    layouts: &[Coords],
+    calls: &[Call],
+    shapes: &Shapes,
+    found: &[NodeItems],
+    k: u32,
+    fet: Fet,
+) -> Crossing
+    requires laid_out { IsLaidOut tech.now plan.now masters.now layouts.now calls.now shapes.now }
+    requires found { AreItemsOfNodes masters.now found.now }
+    requires among { k < length shapes.now.all.items }
+    requires fet { IsFetItem (cell_shown plan.now masters.now shapes.now k) (item_shown plan.now masters.now shapes.now k) fet }
+    ensures transistor { IsTransistor tech.now plan.now masters.now layouts.now result }
+    ensures diffusion { result.diffusion ≡ k }
+    ensures placed { IsPlacedBox result.channel }
+{
+    transistors_have_boxes(tech, plan, masters, layouts);
+    let Shape { instance, item } = shapes.all[k as usize];
+    let call = calls[instance];
+    let master = call.symbol as usize;
+    let items = masters[master].items.list.as_slice();
+    let owner = items[item].owner as usize;
+    let channel = &items[found[master].channels[owner]];
+    Crossing {
+        poly: shapes.firsts[instance] + found[master].polys[owner] as u32,
+        diffusion: k,
+        axis: fet.axis,
+        channel: channel_at(tech, channel, &layouts[master], call),
+        depletion: fet.depletion,
+    }
 }
 
 // The transistor of which an item is the diffusion, if it is one's.

@@ -1,16 +1,14 @@
 -- A required argument has a text wherever `clap` finds matches.
-use Rattle.std.proofs.Common.{◌≡◌, ◌∙◌, ◌<◌, ◌≤◌, ◌⊎◌, ◌&&◌, ℕ, Bool, true, false, not, refl, sym, ap, subst, arith, List, [], ◌∷◌, zero, suc, map, length, codes, Option, Some, None, is_some, Result, IfOk, inl, inr, true≢false}
-use Rattle.std.specs.List.{All, list_all, slice_index_or}
+use Rattle.std.proofs.Common.{◌≡◌, ◌∙◌, ◌<◌, ◌≤◌, ◌&&◌, ℕ, Bool, true, false, not, refl, sym, ap, subst, arith, List, [], ◌∷◌, zero, suc, map, length, codes, Some, is_some, Result, IfOk, inl, inr, true≢false}
+use Rattle.std.specs.List.{list_all, slice_index_or}
 use Rattle.std.specs.Str.{bytes_eq}
 use Rattle.std.proofs.lemmas.List.{get_or-map, length-map}
 use Rattle.std.proofs.lemmas.Result.{IfOk-weaker}
 use Rattle.std.proofs.lemmas.Slice.Eq.{bytes_eq-Decides}
 use Rattle.clap.specs.Words.{App, IsParsedFrom, IsPlain, Rule, Text, app_of, args_of, first_of, found_of, rows_of, rule_of, shape_of}
-use Rattle.clap.specs.Built.{IsAuto}
-use Rattle.clap.specs.Facts.{least_values, unwrap_or_range}
+use Rattle.clap.specs.Facts.{unwrap_or_range}
 use Rattle.clap.specs.Simple.{HasReadyLeaves, is_ready, is_ready_leaf}
 use Rattle.clap.specs.Faults.{has_free_rules}
-use Rattle.clap.specs.declared.builder.action.ArgAction.{ArgAction}
 use Rattle.clap.specs.declared.builder.action.ArgAction.TheVariants.{Set}
 use Rattle.clap.specs.declared.builder.arg.Arg.{Arg}
 use Rattle.clap.specs.declared.builder.command.Command.{Command}

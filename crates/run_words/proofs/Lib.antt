@@ -1,6 +1,9 @@
 pub mod Found
 pub mod Given
 pub mod Numbers
-pub mod PlainWords
+pub mod Parts
+pub mod PlainLines
+pub mod Refusals
+pub mod Steps
 pub mod Texts
 pub mod Wanted

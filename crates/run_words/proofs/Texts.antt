@@ -1,5 +1,5 @@
 -- The texts that the getters of matches read, in their rows.
-use Rattle.std.proofs.Common.{◌≡◌, ◌∙◌, true, refl, sym, ap, List, [], Option, Some, None, is_some, unwrap_or, option_map, rules}
+use Rattle.std.proofs.Common.{◌≡◌, ◌∙◌, true, sym, ap, [], Option, Some, None, is_some, unwrap_or, option_map, rules}
 use Rattle.std.specs.Prelude.{IsSome}
 use Rattle.std.specs.Borrow.{Bor}
 use Rattle.clap.specs.Words.{Text, first_of, first_value, rows_of}

@@ -1,6 +1,6 @@
 -- The arguments that each line wants, and that the lines are simple.
 use Rattle.std.proofs.Common.{◌≡◌, true, refl, arith}
-use Rattle.clap.specs.Words.{App, is_simple_and_free}
+use Rattle.clap.specs.Words.{is_simple_and_free}
 use Rattle.run_words.specs.Lines.{cif_line, compact_line, operand, operand_line, tech}
 use Rattle.run_words.proofs.Given.{IsWanted}
 

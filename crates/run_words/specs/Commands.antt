@@ -1,61 +1,17 @@
--- Which command the words are.
-use Rattle.std.specs.Prelude.{ℕ, List, [], ◌∷◌, Option, Some, None, codes, bytes_eq, unwrap_or, option_map, option_and_then, if◌then◌else◌}
-use Rattle.clap.specs.Words.{Row, Text, first_of}
-use Rattle.lam_geom.specs.declared.boxes.Axis.{Axis}
-use Rattle.run_words.specs.Words.{axes_in, count_in, is_pass_list}
-use Rattle.run_words.specs.Lines.{cif_line, compact_line, found_in, operand_line, text_of}
+-- A command without where its words lie in memory.
+use Rattle.std.specs.Prelude.{◌≡◌, ℕ, true, List}
+use Rattle.run_words.specs.declared.commands.Command.{Command}
+use Rattle.run_words.specs.declared.commands.Command.TheVariants.{Compact, Check, Extract, Fmt}
+use Rattle.run_words.specs.Values.{axes_in, is_pass_list}
+use Rattle.run_words.specs.Words as commands
 
--- a command, with the names of its files
-pub data Command : Type 0 where
-  -- the design, the technology, the axes of the passes, and the number of pieces that the work is split into
-  compact : List ℕ → List ℕ → List Axis → ℕ → Command
-  -- the CIF text and the technology
-  check : List ℕ → List ℕ → Command
-  extract : List ℕ → List ℕ → Command
-  -- the design
-  fmt : List ℕ → Command
-  -- the number of a made design
-  bench : ℕ → Command
+abbrev pub command_from : Command → commands.Command
+command_from (Compact design tech passes split) = commands.compact design.now tech.now passes split
+command_from (Check cif tech) = commands.check cif.now tech.now
+command_from (Extract cif tech) = commands.extract cif.now tech.now
+command_from (Fmt design) = commands.fmt design.now
 
--- without a list there is one pass on x, and then one on y
-abbrev pub passes_of : List Row → Text
-passes_of rows = unwrap_or (first_of (codes "passes") rows) (codes "xy")
-
--- without a number the work is one piece
-abbrev pub split_of : List Row → Text
-split_of rows = unwrap_or (first_of (codes "split") rows) (codes "1")
-
-abbrev pub operand_of : List Row → Text
-operand_of rows = text_of (codes "operand") rows
-
-abbrev pub tech_of : List Row → Text
-tech_of rows = text_of (codes "tech") rows
-
-abbrev pub compact_with : List Row → Option Command
-compact_with rows =
-    if is_pass_list (passes_of rows) then option_map (compact (operand_of rows) (tech_of rows) (axes_in (passes_of rows))) (count_in (split_of rows)) else None
-
-abbrev pub compact_of : List Text → Option Command
-compact_of words = option_and_then compact_with (found_in compact_line words)
-
-abbrev pub check_of : List Text → Option Command
-check_of words = option_map (λ rows. check (operand_of rows) (tech_of rows)) (found_in cif_line words)
-
-abbrev pub extract_of : List Text → Option Command
-extract_of words = option_map (λ rows. extract (operand_of rows) (tech_of rows)) (found_in cif_line words)
-
-abbrev pub fmt_of : List Text → Option Command
-fmt_of words = option_map (λ rows. fmt (operand_of rows)) (found_in operand_line words)
-
-abbrev pub bench_of : List Text → Option Command
-bench_of words = option_and_then (λ rows. option_map bench (count_in (operand_of rows))) (found_in operand_line words)
-
--- the command that the words are, if they are one: the first word names it
-abbrev pub command_of : List Text → Option Command
-command_of [] = None
-command_of (word ∷ words) =
-    if bytes_eq word (codes "compact") then compact_of (word ∷ words)
-    else (if bytes_eq word (codes "check") then check_of (word ∷ words)
-    else (if bytes_eq word (codes "extract") then extract_of (word ∷ words)
-    else (if bytes_eq word (codes "fmt") then fmt_of (word ∷ words)
-    else (if bytes_eq word (codes "bench") then bench_of (word ∷ words) else None))))
+-- its axes are those of a list of passes
+abbrev pub HasPassList : Command → Type 0
+HasPassList (Compact design tech passes split) = (list : List ℕ) × (is_pass_list list ≡ true) × (passes ≡ axes_in list)
+HasPassList other = Unit {0}

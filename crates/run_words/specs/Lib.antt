@@ -1,6 +1,6 @@
-pub mod Words
+pub mod Values
 pub mod Lines
+pub mod Words
 pub mod Commands
-pub mod Answers
 pub mod Faults
-pub mod PlainWords
+pub mod PlainLines

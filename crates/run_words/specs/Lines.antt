@@ -1,5 +1,5 @@
 -- The words after a command's name, as `clap` reads them.
-use Rattle.std.specs.Prelude.{◌≡◌, ℕ, true, is_some, List, [], ◌∷◌, fold, Option, Some, None, codes, unwrap_or}
+use Rattle.std.specs.Prelude.{◌≡◌, true, is_some, List, [], ◌∷◌, fold, Option, Some, None, codes, unwrap_or}
 use Rattle.clap.specs.Words.{App, Kinds, Row, Rule, Text, fault_of, first_of, found_of, matches_of, new_app, new_rule, rows_of, with_rule}
 use Rattle.clap.specs.declared.parser.matches.ArgMatches.{ArgMatches}
 use Rattle.clap.specs.declared.builder.action.ArgAction.TheVariants.{Set}
@@ -28,7 +28,7 @@ compact_line = line (operand ∷ tech ∷ option (codes "passes") ∷ option (co
 abbrev pub cif_line : App
 cif_line = line (operand ∷ tech ∷ [])
 
--- `fmt DESIGN` and `bench N`
+-- `fmt DESIGN`
 abbrev pub operand_line : App
 operand_line = line (operand ∷ [])
 
@@ -41,7 +41,7 @@ without_fault (kind ∷ kinds) rows = None
 unfoldable pub found_in : App → List Text → Option (List Row)
 found_in app words = without_fault (fault_of app words) (matches_of app words)
 
--- the text of an argument that is there
+-- the text of a required argument, which is there wherever `clap` takes the words
 abbrev pub text_of : Text → List Row → Text
 text_of id rows = unwrap_or (first_of id rows) []
 

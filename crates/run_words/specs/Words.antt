@@ -1,42 +1,63 @@
--- What may stand in the words of the command line: lists of passes, and numbers.
-use Rattle.std.specs.Prelude.{ℕ, Bool, false, not, ◌&&◌, ◌||◌, ◌==◌, nat_le, List, [], ◌∷◌, length, map, Option, Some, None, if◌then◌else◌}
-use Rattle.std.specs.List.{list_any, list_all}
-use Rattle.std.specs.Char.{is_ascii_digit}
-use Rattle.std.specs.Str.Parse.{digits_value}
+-- The words of the command line, and which command they are.
+use Rattle.std.specs.Prelude.{ℕ, List, [], ◌∷◌, Option, None, codes, bytes_eq, map, unwrap_or, option_map, option_and_then, if◌then◌else◌}
 use Rattle.std.specs.Borrow.{Bor}
+use Rattle.clap.specs.Words.{Row, Text, first_of}
 use Rattle.lam_geom.specs.declared.boxes.Axis.{Axis}
-use Rattle.lam_geom.specs.declared.boxes.Axis.TheVariants.{X, Y}
+use Rattle.run_words.specs.Values.{axes_in, count_in, is_pass_list}
+use Rattle.run_words.specs.Lines.{cif_line, compact_line, found_in, operand_line, text_of}
+
+-- a command, with the names of its files
+pub data Command : Type 0 where
+  -- the design, the technology, the axes of the passes, and the number of pieces that the work is split into
+  compact : List ℕ → List ℕ → List Axis → ℕ → Command
+  -- the CIF text and the technology
+  check : List ℕ → List ℕ → Command
+  extract : List ℕ → List ℕ → Command
+  -- the design
+  fmt : List ℕ → Command
+
+-- without a list there is one pass on x, and then one on y
+abbrev pub passes_of : List Row → Text
+passes_of rows = unwrap_or (first_of (codes "passes") rows) (codes "xy")
+
+-- without a number the work is one piece
+abbrev pub split_of : List Row → Text
+split_of rows = unwrap_or (first_of (codes "split") rows) (codes "1")
+
+abbrev pub operand_of : List Row → Text
+operand_of rows = text_of (codes "operand") rows
+
+abbrev pub tech_of : List Row → Text
+tech_of rows = text_of (codes "tech") rows
+
+-- `compact` with these texts, where the third is a list of passes and the fourth a number of pieces
+abbrev pub compact_as : Text → Text → Text → Text → Option Command
+compact_as design tech passes split = if is_pass_list passes then option_map (compact design tech (axes_in passes)) (count_in split) else None
+
+abbrev pub compact_with : List Row → Option Command
+compact_with rows = compact_as (operand_of rows) (tech_of rows) (passes_of rows) (split_of rows)
+
+abbrev pub compact_of : List Text → Option Command
+compact_of words = option_and_then compact_with (found_in compact_line words)
+
+abbrev pub check_of : List Text → Option Command
+check_of words = option_map (λ rows. check (operand_of rows) (tech_of rows)) (found_in cif_line words)
+
+abbrev pub extract_of : List Text → Option Command
+extract_of words = option_map (λ rows. extract (operand_of rows) (tech_of rows)) (found_in cif_line words)
+
+abbrev pub fmt_of : List Text → Option Command
+fmt_of words = option_map (λ rows. fmt (operand_of rows)) (found_in operand_line words)
+
+-- the command that the words are, if they are one: the first word names it
+abbrev pub command_of : List Text → Option Command
+command_of [] = None
+command_of (word ∷ words) =
+    if bytes_eq word (codes "compact") then compact_of (word ∷ words)
+    else (if bytes_eq word (codes "check") then check_of (word ∷ words)
+    else (if bytes_eq word (codes "extract") then extract_of (word ∷ words)
+    else (if bytes_eq word (codes "fmt") then fmt_of (word ∷ words) else None)))
 
 -- the bytes of words
 abbrev pub texts_of : List (Bor (List ℕ)) → List (List ℕ)
 texts_of words = map (λ word. word.now) words
-
--- a list of passes: one to sixteen letters x and y, with both of them
-abbrev pub is_x : ℕ → Bool
-is_x b = b == 120
-
-abbrev pub is_y : ℕ → Bool
-is_y b = b == 121
-
-abbrev pub is_pass_list : List ℕ → Bool
-is_pass_list list = nat_le (length list) 16 && (list_all (λ b. is_x b || is_y b) list && (list_any is_x list && list_any is_y list))
-
--- the axes of its letters
-abbrev pub axis_of : ℕ → Axis
-axis_of b = if is_x b then X else Y
-
-abbrev pub axes_in : List ℕ → List Axis
-axes_in list = map axis_of list
-
--- there is a first byte, and it is not the digit 0
-abbrev pub begins_above_zero : List ℕ → Bool
-begins_above_zero [] = false
-begins_above_zero (b ∷ bs) = not (b == 48)
-
--- a number: one to three decimal digits, of which the first is not 0
-abbrev pub is_number : List ℕ → Bool
-is_number text = nat_le (length text) 3 && (list_all is_ascii_digit text && begins_above_zero text)
-
--- the number of a text, where it is one and at most 64
-abbrev pub count_in : List ℕ → Option ℕ
-count_in text = if is_number text && nat_le (digits_value 10 text) 64 then Some (digits_value 10 text) else None

@@ -52,10 +52,7 @@ fn found<'a>(line: Command<'a>, words: &'a [&'a str]) -> Result<ArgMatches<'a>, 
 }
 
 // `compact DESIGN --tech FILE [--passes LIST] [--split N]`
-pub(crate) fn compact<'a>(
-    alloc: Global,
-    words: &'a [&'a str],
-) -> Result<ArgMatches<'a>, WordsFault>
+pub(crate) fn compact<'a>(alloc: Global, words: &'a [&'a str]) -> Result<ArgMatches<'a>, WordsFault>
     ensures found { IfOk result (λ m. found_in compact_line (texts_of words.now) ≡ Some (rows_of (found_of m))) }
     ensures operand { IfOk result (HasText (codes "operand")) }
     ensures tech { IfOk result (HasText (codes "tech")) }
@@ -65,10 +62,7 @@ pub(crate) fn compact<'a>(
 }
 
 // `check CIF --tech FILE` and `extract CIF --tech FILE`
-pub(crate) fn cif<'a>(
-    alloc: Global,
-    words: &'a [&'a str],
-) -> Result<ArgMatches<'a>, WordsFault>
+pub(crate) fn cif<'a>(alloc: Global, words: &'a [&'a str]) -> Result<ArgMatches<'a>, WordsFault>
     ensures found { IfOk result (λ m. found_in cif_line (texts_of words.now) ≡ Some (rows_of (found_of m))) }
     ensures operand { IfOk result (HasText (codes "operand")) }
     ensures tech { IfOk result (HasText (codes "tech")) }
@@ -77,7 +71,7 @@ pub(crate) fn cif<'a>(
     found(cif_line(alloc)?, words)
 }
 
-// `fmt DESIGN` and `bench N`
+// `fmt DESIGN`
 pub(crate) fn only_operand<'a>(
     alloc: Global,
     words: &'a [&'a str],

@@ -6,19 +6,20 @@ use std::test::Fail;
 fn meaning(alloc: Global, line: &str) -> Result<String, AllocError> {
     let words: Vec<&str> = line.split(' ').collect(alloc)?;
     match read_words(alloc, words.as_slice()) {
-        Ok(Command::Compact {
-            design,
-            tech,
-            passes,
-            split,
-        }) => {
+        Ok(
+            Command::Compact {
+                design,
+                tech,
+                passes,
+                split,
+            },
+        ) => {
             let axes = passes.as_slice();
             format!(in alloc; "compact {design} {tech} {axes:?} {split}")
         }
         Ok(Command::Check { cif, tech }) => format!(in alloc; "check {cif} {tech}"),
         Ok(Command::Extract { cif, tech }) => format!(in alloc; "extract {cif} {tech}"),
         Ok(Command::Fmt { design }) => format!(in alloc; "fmt {design}"),
-        Ok(Command::Bench { n }) => format!(in alloc; "bench {n}"),
         Err(WordsFault::Usage) => format!(in alloc; "usage"),
         Err(WordsFault::OutOfMemory) => format!(in alloc; "out of memory"),
     }
@@ -36,8 +37,6 @@ fn words_mean_commands(rt: HostRuntime) -> Result<(), Fail> {
         ("check c --tech t", "check c t"),
         ("extract --tech t c", "extract c t"),
         ("fmt d", "fmt d"),
-        ("bench 1", "bench 1"),
-        ("bench 64", "bench 64"),
         // a value may be empty, or begin with a dash behind `=`
         ("check c --tech=", "check c "),
         ("check c --tech=-t", "check c -t"),
@@ -72,12 +71,10 @@ fn other_words_are_refused(rt: HostRuntime) -> Result<(), Fail> {
         "fmt d --tech t",
         "fmt --help",
         "fmt -h",
-        "bench 0",
-        "bench 65",
-        "bench 01",
-        "bench +1",
-        "bench 1000",
-        "bench",
+        "compact d --tech t --split 01",
+        "compact d --tech t --split +1",
+        "compact d --tech t --split 1000",
+        "bench 1",
         "help",
         "--help",
         "Fmt d",

@@ -1,7 +1,7 @@
 //! What may stand in the words: lists of passes, and numbers.
 
 ghost use Rattle.std.specs.Prelude.{◌≡◌, true, IfOk};
-ghost use Rattle.run_words.specs.Words.{axes_in, begins_above_zero, count_in, is_number, is_pass_list};
+ghost use Rattle.run_words.specs.Values.{axes_in, begins_above_zero, count_in, is_number, is_pass_list};
 
 use lam_geom::Axis;
 use std::alloc::{AllocError, Global};
@@ -42,8 +42,7 @@ fn is_number(word: &str) -> bool
     ensures { result ≡ is_number word.now }
 {
     let digits = word.as_bytes();
-    digits.len() <= 3
-        && (digits.iter().all(|b| b.is_ascii_digit()) && begins_above_zero(digits))
+    digits.len() <= 3 && (digits.iter().all(|b| b.is_ascii_digit()) && begins_above_zero(digits))
 }
 
 // The number that a word is, where it is 1 to 64.
@@ -54,13 +53,7 @@ pub(crate) fn count(word: &str) -> Option<u32>
         return None;
     }
     match word.parse::<u32>() {
-        Ok(n) => {
-            if n <= 64 {
-                Some(n)
-            } else {
-                None
-            }
-        }
+        Ok(n) => { if n <= 64 { Some(n) } else { None } }
         Err(_) => None,
     }
 }

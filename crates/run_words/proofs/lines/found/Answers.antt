@@ -1,5 +1,3 @@
-use Rattle.std.proofs.Common.{◌≡◌, ◌∙◌, true, sym}
-use Rattle.clap.specs.Words.{app_of, is_simple, is_simple_and_free}
 use Rattle.clap.proofs.WalkLemmas.{both}
 use Rattle.run_words.proofs.Found.{refused, taken}
 use Rattle.run_words.proofs.lines.found.Goals as goal

@@ -1,5 +1,5 @@
 use Rattle.std.proofs.Common.{◌≡◌, take}
-use Rattle.run_words.specs.Words.{axes_in}
+use Rattle.run_words.specs.Values.{axes_in}
 use Rattle.run_words.proofs.values.axes.Given as goal
 
 abbrev pub invariant-loop-b : goal.invariant-loop-b

@@ -1,5 +1,4 @@
-use Rattle.std.proofs.Common.{◌∙◌, ◌≡◌, sym, Ok, Err}
-use Rattle.std.specs.Str.Parse.{digits_value}
+use Rattle.std.proofs.Common.{sym}
 use Rattle.run_words.proofs.Numbers.{parsed}
 use Rattle.run_words.proofs.values.count.Goals as goal
 

@@ -5,7 +5,7 @@ use Rattle.std.specs.List.{list_all}
 use Rattle.std.proofs.lemmas.Iterator.{YieldsList-from_slice}
 use Rattle.std.proofs.lemmas.Iterator.Search.{all_from_yields_List}
 use Rattle.std.proofs.lemmas.Bool.Decides.{nat_tests}
-use Rattle.run_words.specs.Words.{begins_above_zero}
+use Rattle.run_words.specs.Values.{begins_above_zero}
 use Rattle.run_words.proofs.values.is_number.Goals as goal
 
 -- the last of three tests

@@ -4,7 +4,7 @@ use Rattle.std.specs.List.{list_any, list_all}
 use Rattle.std.proofs.lemmas.Iterator.{YieldsList-from_slice}
 use Rattle.std.proofs.lemmas.Iterator.Search.{all_from_yields_List, any_from_yields_List}
 use Rattle.std.proofs.lemmas.Bool.Decides.{nat_tests}
-use Rattle.run_words.specs.Words.{is_x, is_y}
+use Rattle.run_words.specs.Values.{is_x, is_y}
 use Rattle.run_words.proofs.values.is_pass_list.Goals as goal
 
 -- the third and the fourth of four tests

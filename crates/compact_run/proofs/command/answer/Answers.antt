@@ -1,0 +1,32 @@
+use Rattle.std.proofs.Common.{Option, Some, Err, List, sym, ap, ◌∙◌, subst}
+use Rattle.std.proofs.lemmas.Result.{err_from_is_err_and}
+use Rattle.lam_geom.specs.declared.boxes.Axis.{Axis}
+use Rattle.run_words.specs.Commands.{command_from}
+use Rattle.run_words.specs.Words as words
+use Rattle.run_words.specs.Words.{command_of, texts_of}
+use Rattle.compact_run.specs.Answers.{IsGiven}
+use Rattle.compact_run.proofs.PassLists.{passes_mean}
+use Rattle.compact_run.proofs.Steps.{words_refused, not_usage, is_command}
+use Rattle.compact_run.proofs.command.answer.Goals as goal
+
+pub returns-in_err-design-clause-given : goal.returns-in_err-design-clause-given
+returns-in_err-design-clause-given g c = λ t told.
+    let p = err_from_is_err_and c.from_residual.result c.from_residual.ensures.1 in
+    rw p.1 (rw p.2 (words_refused (command_of (texts_of c.args.words.now)) t.files c.in_err-design.field-0.0 _ (λ e. c.in_err-design.ensures.usage (ap Err e))))
+
+pub compact_files-requires-clause-both : goal.compact_files-requires-clause-both
+compact_files-requires-clause-both g c =
+    let own = rw (c.in-Compact.is) at c.in_ok-design.ensures.passes in
+    (passes_mean c.as_slice.result.now (own.0, own.1, c.as_slice.ensures ∙ own.2)).0
+
+pub returns-in-Compact-clause-given : goal.returns-in-Compact-clause-given
+returns-in-Compact-clause-given g c = λ t told.
+    let is = c.in_ok-design.ensures.command ∙ ap (λ z. Some (command_from z)) c.in-Compact.is in
+    let A : List Axis → Type 0 = λ axes. IsGiven (Some (words.compact c.in-Compact.design.now c.in-Compact.tech.now axes c.in-Compact.split)) t.files c.compact_files.result in
+    let C : Option words.Command → Type 0 = λ z. IsGiven z t.files c.compact_files.result in
+    subst C (sym is) (subst A c.as_slice.ensures (c.compact_files.ensures.given t c.in-Compact.split told))
+
+pub returns-in-Compact-clause-usage : goal.returns-in-Compact-clause-usage
+returns-in-Compact-clause-usage g c =
+    let is = c.in_ok-design.ensures.command ∙ ap (λ z. Some (command_from z)) c.in-Compact.is in
+    (λ e. absurd (not_usage _ _ _ _ (c.compact_files.ensures.asked c.in-Compact.split) e), λ none. absurd (is_command _ _ is none))

@@ -1,0 +1,37 @@
+use Rattle.std.proofs.Common.{List, get_or, Ok, Err, sym, subst, rules}
+use Rattle.std.proofs.lemmas.List.Sorted.{answers_always}
+use Rattle.crossings.specs.declared.crossing.Crossing.{Crossing}
+use Rattle.crossings.specs.Crossings.{AreCrossings}
+use Rattle.flat_check.proofs.OneChannel.{channel_at, crossing_placed, no_channel, searched}
+use Rattle.flat_check.proofs.channels.channel_of.Goals as goal
+
+pub returns-in-Ok-clause-channel : goal.returns-in-Ok-clause-channel
+returns-in-Ok-clause-channel c =
+    let tech = c.args.sheet.now.tech.now in
+    let boxes = c.args.sheet.now.boxes.now in
+    let crossings = c.as_slice-crossings.result.now in
+    let at = c.in-Ok.at in
+    let are = subst (λ (cs : List Crossing). AreCrossings tech boxes cs) (sym c.as_slice-crossings.ensures.value) c.requires.crossings in
+    let facts = c.in-Ok.ensures in
+    let by_key = facts.position (λ (x : Crossing). x.diffusion) (answers_always _ _ _ (λ f a r g called. search rules)) in
+    let found = searched crossings c.args.diffusion (Ok at) are.in_order facts.bound by_key in
+    let here = c.index-crossings-at.result in
+    channel_at tech boxes c.args.diffusion (get_or crossings at here) c.requires.proper (are.each at here facts.bound) (found.1 here)
+
+pub returns-in-Ok-clause-placed : goal.returns-in-Ok-clause-placed
+returns-in-Ok-clause-placed c =
+    let tech = c.args.sheet.now.tech.now in
+    let boxes = c.args.sheet.now.boxes.now in
+    let are = subst (λ (cs : List Crossing). AreCrossings tech boxes cs) (sym c.as_slice-crossings.ensures.value) c.requires.crossings in
+    let facts = c.in-Ok.ensures in
+    crossing_placed tech boxes _ c.requires.searchable (are.each c.in-Ok.at c.index-crossings-at.result facts.bound)
+
+pub returns-in-Err-clause-channel : goal.returns-in-Err-clause-channel
+returns-in-Err-clause-channel c =
+    let tech = c.args.sheet.now.tech.now in
+    let boxes = c.args.sheet.now.boxes.now in
+    let crossings = c.as_slice-crossings.result.now in
+    let are = subst (λ (cs : List Crossing). AreCrossings tech boxes cs) (sym c.as_slice-crossings.ensures.value) c.requires.crossings in
+    let facts = c.in-Err.ensures in
+    let by_key = facts.position (λ (x : Crossing). x.diffusion) (answers_always _ _ _ (λ f a r g called. search rules)) in
+    no_channel tech boxes crossings c.args.diffusion are (searched crossings c.args.diffusion (Err c.in-Err.field-0) are.in_order facts.bound by_key)

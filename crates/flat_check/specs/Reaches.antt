@@ -1,0 +1,26 @@
+-- How far the boxes of a broken pair can lie apart.
+use Rattle.std.specs.Prelude.{ℤ, pos, ◌-ℤ◌}
+use Rattle.rule_table.specs.declared.technology.Tech.{Tech}
+use Rattle.rule_table.specs.Technology.{numbers_of}
+use Rattle.crossings.specs.Boxes.{grains}
+use Rattle.flat_check.specs.declared.rule.Rule.{Rule}
+use Rattle.flat_check.specs.declared.rule.Rule.TheVariants.{Width, CutSize, ProperCrossing, PolyToDiffusion, CutCover, MetalSpacing, PolySpacing, DiffusionSpacing, CutSpacing, CutToChannel, ImplantToChannel, WindowToChannel}
+
+-- the spacing of which a rule on pairs speaks, in u
+abbrev pub spacing_of_rule : Tech → Rule → ℤ
+spacing_of_rule tech Width = pos 0
+spacing_of_rule tech CutSize = pos 0
+spacing_of_rule tech ProperCrossing = pos 0
+spacing_of_rule tech PolyToDiffusion = (numbers_of tech).spacing_poly_diffusion
+spacing_of_rule tech CutCover = pos 0
+spacing_of_rule tech MetalSpacing = (numbers_of tech).spacing_metal
+spacing_of_rule tech PolySpacing = (numbers_of tech).spacing_poly
+spacing_of_rule tech DiffusionSpacing = (numbers_of tech).spacing_diffusion
+spacing_of_rule tech CutSpacing = (numbers_of tech).spacing_cut
+spacing_of_rule tech CutToChannel = (numbers_of tech).spacing_cut_channel
+spacing_of_rule tech ImplantToChannel = (numbers_of tech).spacing_implant_channel
+spacing_of_rule tech WindowToChannel = (numbers_of tech).spacing_buried_channel
+
+-- the greatest gap that is below that spacing, in grains
+abbrev pub reach_of : Tech → Rule → ℤ
+reach_of tech rule = grains tech (spacing_of_rule tech rule) -ℤ pos 1

@@ -1,0 +1,242 @@
+-- The five commands, read from lines of parts.
+use Rattle.std.proofs.Common.{◌≡◌, ◌∙◌, ◌||◌, Bool, true, false, not, codes, refl, sym, ap, subst, List, [], ◌∷◌, map, Option, Some, None, is_some, unwrap_or, option_map, true≢false}
+use Rattle.std.specs.Prelude.{flat_map, if◌then◌else◌, option_and_then}
+use Rattle.std.specs.List.{list_any}
+use Rattle.std.specs.Str.{bytes_eq}
+use Rattle.std.proofs.lemmas.Slice.Eq.{bytes_eq-Decides}
+use Rattle.clap.specs.Words.{App, Kinds, Row, Rule, Text}
+use Rattle.clap.specs.Simple.{Shape, built, filled, with_index}
+use Rattle.clap.specs.Kinds.{check_kinds}
+use Rattle.clap.specs.Takes.{is_given}
+use Rattle.clap.specs.Faults.{check_fault}
+use Rattle.run_words.specs.Lines.{cif_line, compact_line, found_in, operand, operand_line, option, tech, text_of, without_fault}
+use Rattle.run_words.specs.Words.{Command, compact_as, compact_of, compact_with, fmt, fmt_of, operand_of, passes_of, split_of, tech_of}
+use Rattle.run_words.specs.PlainLines.{Part, are_new, compact_from, fmt_from, is_plain_line, value_at, where_new, words_of}
+use Rattle.run_words.proofs.Steps.{IsOperand, IsOption}
+use Rattle.run_words.proofs.Refusals.{line_refused}
+use Rattle.run_words.proofs.Parts.{IsLine, first_is, given_is, line_found, row_of_part}
+
+abbrev Options : Shape → List Text → Type 0
+Options s [] = Unit {0}
+Options s (name ∷ names) = ((a : Rule) × IsOption s name a) × Options s names
+
+pick : (s : Shape) (names : List Text) → Options s names → (name : Text) → list_any (bytes_eq name) names ≡ true → (a : Rule) × IsOption s name a
+pick s [] os name e = absurd (true≢false (sym e))
+pick s (n ∷ names) os name e = go (bytes_eq name n) refl (λ rest. pick s names os.1 name rest)
+  where
+    go : (b : Bool) → bytes_eq name n ≡ b → (list_any (bytes_eq name) names ≡ true → (a : Rule) × IsOption s name a) → (a : Rule) × IsOption s name a
+    go true same more =
+        let is : name ≡ n = (bytes_eq-Decides name n).0 same in
+        subst (λ (x : Text). (a : Rule) × IsOption s x a) (sym is) os.0
+    go false other more = more (sym (ap (λ (b : Bool). b || list_any (bytes_eq name) names) other) ∙ e)
+
+operand_in_operand : IsOperand (built operand_line).top (with_index 1 (filled operand))
+operand_in_operand = record {
+  takes = record {
+    id = refl;
+    here = refl;
+    range = refl;
+    action = refl;
+    parser = refl;
+  };
+  first = refl;
+  single = refl;
+}
+
+operand_is_line : IsLine operand_line ([])
+operand_is_line = record {
+  subs = refl;
+  named = refl;
+  bare = refl;
+  fits = record { operand = with_index 1 (filled operand); is_operand = operand_in_operand; options = pick (built operand_line).top ([]) tt; others = refl; second = refl; once = refl };
+}
+
+operand_in_cif : IsOperand (built cif_line).top (with_index 1 (filled operand))
+operand_in_cif = record {
+  takes = record {
+    id = refl;
+    here = refl;
+    range = refl;
+    action = refl;
+    parser = refl;
+  };
+  first = refl;
+  single = refl;
+}
+
+tech_in_cif : IsOption (built cif_line).top (codes "tech") (filled tech)
+tech_in_cif = record {
+  takes = record {
+    id = refl;
+    here = refl;
+    range = refl;
+    action = refl;
+    parser = refl;
+  };
+  long = refl;
+  spelled = refl;
+  valued = λ v. refl;
+  named = refl;
+  named_valued = λ v. refl;
+}
+
+pub cif_is_line : IsLine cif_line (codes "tech" ∷ [])
+cif_is_line = record {
+  subs = refl;
+  named = refl;
+  bare = refl;
+  fits = record { operand = with_index 1 (filled operand); is_operand = operand_in_cif; options = pick (built cif_line).top (codes "tech" ∷ []) ((filled tech, tech_in_cif), tt); others = refl; second = refl; once = refl };
+}
+
+operand_in_compact : IsOperand (built compact_line).top (with_index 1 (filled operand))
+operand_in_compact = record {
+  takes = record {
+    id = refl;
+    here = refl;
+    range = refl;
+    action = refl;
+    parser = refl;
+  };
+  first = refl;
+  single = refl;
+}
+
+tech_in_compact : IsOption (built compact_line).top (codes "tech") (filled tech)
+tech_in_compact = record {
+  takes = record {
+    id = refl;
+    here = refl;
+    range = refl;
+    action = refl;
+    parser = refl;
+  };
+  long = refl;
+  spelled = refl;
+  valued = λ v. refl;
+  named = refl;
+  named_valued = λ v. refl;
+}
+
+passes_in_compact : IsOption (built compact_line).top (codes "passes") (filled (option (codes "passes")))
+passes_in_compact = record {
+  takes = record {
+    id = refl;
+    here = refl;
+    range = refl;
+    action = refl;
+    parser = refl;
+  };
+  long = refl;
+  spelled = refl;
+  valued = λ v. refl;
+  named = refl;
+  named_valued = λ v. refl;
+}
+
+split_in_compact : IsOption (built compact_line).top (codes "split") (filled (option (codes "split")))
+split_in_compact = record {
+  takes = record {
+    id = refl;
+    here = refl;
+    range = refl;
+    action = refl;
+    parser = refl;
+  };
+  long = refl;
+  spelled = refl;
+  valued = λ v. refl;
+  named = refl;
+  named_valued = λ v. refl;
+}
+
+pub compact_is_line : IsLine compact_line (codes "tech" ∷ codes "passes" ∷ codes "split" ∷ [])
+compact_is_line = record {
+  subs = refl;
+  named = refl;
+  bare = refl;
+  fits = record { operand = with_index 1 (filled operand); is_operand = operand_in_compact; options = pick (built compact_line).top (codes "tech" ∷ codes "passes" ∷ codes "split" ∷ []) ((filled tech, tech_in_compact), ((filled (option (codes "passes")), passes_in_compact), ((filled (option (codes "split")), split_in_compact), tt))); others = refl; second = refl; once = refl };
+}
+
+-- ---- what is made of the rows of a line
+
+abbrev rows_in : List Part → List Row
+rows_in = map row_of_part
+
+abbrev operand_at : List Part → Option Text
+operand_at = value_at (codes "operand")
+
+abbrev tech_at : List Part → Option Text
+tech_at = value_at (codes "tech")
+
+-- the text of a name that has a value
+text_is : (name : Text) (parts : List Part) (text : Text) → value_at name parts ≡ Some text → text_of name (rows_in parts) ≡ text
+text_is name parts text e = ap (λ (t : Option Text). unwrap_or t []) (first_is name parts ∙ e)
+
+-- a line that wants its operand alone
+pub by_operand : (made : Option (List Row) → Option Command) (from : Option Text → Option Command) → made None ≡ from None
+    → ((rows : List Row) → made (Some rows) ≡ from (Some (operand_of rows))) → (word : Text) (parts : List Part) → is_plain_line [] parts ≡ true
+    → are_new [] parts ≡ true → made (found_in operand_line (word ∷ flat_map words_of parts)) ≡ from (operand_at parts)
+by_operand made from none some word parts plain new =
+    let wants : check_fault (built operand_line).top (rows_in parts) false ≡ check_kinds false false (not (is_some (operand_at parts)) || false) =
+    ap (λ (b : Bool). check_kinds false false (not b || false)) (given_is (codes "operand") parts) in
+    ap made (line_found operand_line [] operand_is_line word parts plain new) ∙ ap (λ (k : Kinds). made (without_fault k (rows_in parts))) wants ∙ go (operand_at parts) refl
+  where
+    go : (o : Option Text) → operand_at parts ≡ o → made (without_fault (check_kinds false false (not (is_some o) || false)) (rows_in parts)) ≡ from o
+    go None e = none
+    go (Some text) e = some (rows_in parts) ∙ ap (λ (t : Text). from (Some t)) (text_is (codes "operand") parts text e)
+
+-- a line that wants its operand and its technology
+module _ (app : App) (names : List Text) (line : IsLine app names)
+    (wants : (rows : List Row) → check_fault (built app).top rows false
+    ≡ check_kinds false false (not (is_given (codes "operand") rows) || (not (is_given (codes "tech") rows) || false))) where
+  pub by_both : (made : Option (List Row) → Option Command) (from : Option Text → Option Text → List Row → Option Command)
+      → ((t : Option Text) (rows : List Row) → made None ≡ from None t rows) → ((text : Text) (rows : List Row) → made None ≡ from (Some text) None rows)
+      → ((rows : List Row) → made (Some rows) ≡ from (Some (operand_of rows)) (Some (tech_of rows)) rows) → (word : Text) (parts : List Part) → is_plain_line names parts ≡ true
+      → are_new [] parts ≡ true → made (found_in app (word ∷ flat_map words_of parts)) ≡ from (operand_at parts) (tech_at parts) (rows_in parts)
+  by_both made from no_operand no_tech some word parts plain new =
+      ap made (line_found app names line word parts plain new) ∙ ap (λ (k : Kinds). made (without_fault k (rows_in parts))) (wants (rows_in parts))
+      ∙ (λ i. made (without_fault (check_kinds false false (not (given_is (codes "operand") parts i) || (not (given_is (codes "tech") parts i) || false))) (rows_in parts)))
+      ∙ go (operand_at parts) refl (tech_at parts) refl
+    where
+      go : (o : Option Text) → operand_at parts ≡ o → (t : Option Text) → tech_at parts ≡ t
+          → made (without_fault (check_kinds false false (not (is_some o) || (not (is_some t) || false))) (rows_in parts)) ≡ from o t (rows_in parts)
+      go None e t f = no_operand t (rows_in parts)
+      go (Some text) e None f = no_tech text (rows_in parts)
+      go (Some text) e (Some file) f =
+          some (rows_in parts) ∙ (λ i. from (Some (text_is (codes "operand") parts text e i)) (Some (text_is (codes "tech") parts file f i)) (rows_in parts))
+
+-- a line in which a name stands twice has no command
+once : (app : App) (names : List Text) → IsLine app names → (made : Option (List Row) → Option Command) (x : Option Command) → made None ≡ None → (word : Text) (parts : List Part)
+    → is_plain_line names parts ≡ true → (are_new [] parts ≡ true → made (found_in app (word ∷ flat_map words_of parts)) ≡ x)
+    → made (found_in app (word ∷ flat_map words_of parts)) ≡ where_new parts x
+once app names line made x none word parts plain read = go (are_new [] parts) refl
+  where
+    go : (b : Bool) → are_new [] parts ≡ b → made (found_in app (word ∷ flat_map words_of parts)) ≡ (if b then x else None)
+    go true e = read e
+    go false e = ap made (line_refused app names line word parts plain e) ∙ none
+
+-- ---- the commands
+
+pub compact_is_read : (word : Text) (parts : List Part) → is_plain_line (codes "tech" ∷ codes "passes" ∷ codes "split" ∷ []) parts ≡ true
+    → compact_of (word ∷ flat_map words_of parts) ≡ where_new parts (compact_from parts)
+compact_is_read word parts plain =
+    once compact_line (codes "tech" ∷ codes "passes" ∷ codes "split" ∷ []) compact_is_line (option_and_then compact_with) (compact_from parts) refl word parts plain (λ new.
+    by_both compact_line (codes "tech" ∷ codes "passes" ∷ codes "split" ∷ []) compact_is_line (λ rows. refl) (option_and_then compact_with)
+    (λ o t rows. option_and_then (λ design. option_and_then (λ file. compact_as design file (passes_of rows) (split_of rows)) t) o) (λ t rows. refl) (λ text rows. refl) (λ rows. refl) word parts plain new
+    ∙ (λ i. option_and_then (λ design. option_and_then (λ file. compact_as design file
+    (unwrap_or (first_is (codes "passes") parts i) (codes "xy")) (unwrap_or (first_is (codes "split") parts i) (codes "1"))) (tech_at parts)) (operand_at parts)))
+
+-- a command of a CIF text and a technology
+pub cif_is_read : (command : Text → Text → Command) (word : Text) (parts : List Part) → is_plain_line (codes "tech" ∷ []) parts ≡ true
+    → option_map (λ rows. command (operand_of rows) (tech_of rows)) (found_in cif_line (word ∷ flat_map words_of parts))
+    ≡ where_new parts (option_and_then (λ cif. option_map (command cif) (tech_at parts)) (operand_at parts))
+cif_is_read command word parts plain =
+    let made = option_map (λ (rows : List Row). command (operand_of rows) (tech_of rows)) in
+    once cif_line (codes "tech" ∷ []) cif_is_line made _ refl word parts plain (λ new.
+    by_both cif_line (codes "tech" ∷ []) cif_is_line (λ rows. refl) made
+    (λ o t rows. option_and_then (λ cif. option_map (command cif) t) o) (λ t rows. refl) (λ text rows. refl) (λ rows. refl) word parts plain new)
+
+pub fmt_is_read : (word : Text) (parts : List Part) → is_plain_line [] parts ≡ true → fmt_of (word ∷ flat_map words_of parts) ≡ where_new parts (fmt_from parts)
+fmt_is_read word parts plain =
+    once operand_line [] operand_is_line (option_map (λ rows. fmt (operand_of rows))) (fmt_from parts) refl word parts plain (λ new.
+    by_operand (option_map (λ rows. fmt (operand_of rows))) (option_map fmt) refl (λ rows. refl) word parts plain new)

@@ -1,0 +1,12 @@
+use Rattle.std.proofs.Common.{codes}
+use Rattle.run_words.specs.Words as commands
+use Rattle.run_words.proofs.PlainLines.{cif_is_read, compact_is_read, fmt_is_read}
+use Rattle.run_words.proofs.laws.plain_lines_are_read.Goals as goal
+
+pub returns : goal.returns
+returns c = record {
+  compact = compact_is_read (codes "compact");
+  check = cif_is_read commands.check (codes "check");
+  extract = cif_is_read commands.extract (codes "extract");
+  fmt = fmt_is_read (codes "fmt");
+}

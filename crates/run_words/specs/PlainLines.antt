@@ -1,0 +1,79 @@
+-- Plain command lines: the operand and the options in any order.
+use Rattle.std.specs.Prelude.{◌≡◌, Bool, true, false, not, ◌&&◌, ◌==◌, List, [], ◌∷◌, ◌++◌, Option, None, if◌then◌else◌, codes, bytes_eq, find, flat_map, option_and_then, option_map, unwrap_or}
+use Rattle.std.specs.List.{list_all, list_any}
+use Rattle.clap.specs.Words.{Text}
+use Rattle.run_words.specs.Words.{Command, check, command_of, compact_as, extract, fmt}
+
+-- what may stand behind the command's name: an operand, `--NAME VALUE` or `--NAME=VALUE`
+pub data Part : Type 0 where
+  alone : Text → Part
+  apart : Text → Text → Part
+  joined : Text → Text → Part
+
+abbrev pub words_of : Part → List Text
+words_of (alone value) = value ∷ []
+words_of (apart name value) = (codes "--" ++ name) ∷ value ∷ []
+words_of (joined name value) = (codes "--" ++ (name ++ (codes "=" ++ value))) ∷ []
+
+abbrev pub name_of : Part → Text
+name_of (alone value) = codes "operand"
+name_of (apart name value) = name
+name_of (joined name value) = name
+
+abbrev pub value_of : Part → Text
+value_of (alone value) = value
+value_of (apart name value) = value
+value_of (joined name value) = value
+
+-- the value of the first part with this name
+abbrev pub value_at : Text → List Part → Option Text
+value_at name parts = option_map value_of (find (λ part. bytes_eq (name_of part) name) parts)
+
+abbrev pub begins_with_dash : Text → Bool
+begins_with_dash [] = false
+begins_with_dash (b ∷ bs) = b == 45
+
+-- a value that is a word of its own does not begin with a dash, and an option has one of the names
+abbrev pub is_plain : List Text → Part → Bool
+is_plain names (alone value) = not (begins_with_dash value)
+is_plain names (apart name value) = not (begins_with_dash value) && list_any (bytes_eq name) names
+is_plain names (joined name value) = list_any (bytes_eq name) names
+
+-- no part has the name of one before it
+abbrev pub are_new : List Part → List Part → Bool
+are_new before [] = true
+are_new before (part ∷ parts) = not (list_any (λ old. bytes_eq (name_of old) (name_of part)) before) && are_new (before ++ part ∷ []) parts
+
+-- a line of such parts
+abbrev pub is_plain_line : List Text → List Part → Bool
+is_plain_line names parts = list_all (is_plain names) parts
+
+-- the command of a line, if it has the operand and the technology that it needs
+abbrev pub compact_from : List Part → Option Command
+compact_from parts = option_and_then (λ design. option_and_then (λ tech. compact_as design tech
+    (unwrap_or (value_at (codes "passes") parts) (codes "xy")) (unwrap_or (value_at (codes "split") parts) (codes "1")))
+    (value_at (codes "tech") parts)) (value_at (codes "operand") parts)
+
+abbrev pub check_from : List Part → Option Command
+check_from parts = option_and_then (λ cif. option_map (check cif) (value_at (codes "tech") parts)) (value_at (codes "operand") parts)
+
+abbrev pub extract_from : List Part → Option Command
+extract_from parts = option_and_then (λ cif. option_map (extract cif) (value_at (codes "tech") parts)) (value_at (codes "operand") parts)
+
+abbrev pub fmt_from : List Part → Option Command
+fmt_from parts = option_map fmt (value_at (codes "operand") parts)
+
+-- the command of a line in which no name stands twice; another line is refused
+abbrev pub where_new : List Part → Option Command → Option Command
+where_new parts command = if are_new [] parts then command else None
+
+-- each plain line is read as that command, in whatever order its parts stand
+pub record PlainLinesAreRead : Type 0 where
+  pub compact : (parts : List Part) → is_plain_line (codes "tech" ∷ codes "passes" ∷ codes "split" ∷ []) parts ≡ true
+      → command_of (codes "compact" ∷ flat_map words_of parts) ≡ where_new parts (compact_from parts)
+  pub check : (parts : List Part) → is_plain_line (codes "tech" ∷ []) parts ≡ true
+      → command_of (codes "check" ∷ flat_map words_of parts) ≡ where_new parts (check_from parts)
+  pub extract : (parts : List Part) → is_plain_line (codes "tech" ∷ []) parts ≡ true
+      → command_of (codes "extract" ∷ flat_map words_of parts) ≡ where_new parts (extract_from parts)
+  pub fmt : (parts : List Part) → is_plain_line [] parts ≡ true
+      → command_of (codes "fmt" ∷ flat_map words_of parts) ≡ where_new parts (fmt_from parts)

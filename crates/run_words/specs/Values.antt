@@ -1,0 +1,37 @@
+-- What may stand in the words of the command line: lists of passes, and numbers.
+use Rattle.std.specs.Prelude.{ℕ, Bool, false, not, ◌&&◌, ◌||◌, ◌==◌, nat_le, List, [], ◌∷◌, length, map, Option, Some, None, if◌then◌else◌}
+use Rattle.std.specs.List.{list_any, list_all}
+use Rattle.std.specs.Char.{is_ascii_digit}
+use Rattle.std.specs.Str.Parse.{digits_value}
+use Rattle.lam_geom.specs.declared.boxes.Axis.{Axis}
+use Rattle.lam_geom.specs.declared.boxes.Axis.TheVariants.{X, Y}
+
+-- a list of passes: one to sixteen letters x and y, with both of them
+abbrev pub is_x : ℕ → Bool
+is_x b = b == 120
+
+abbrev pub is_y : ℕ → Bool
+is_y b = b == 121
+
+abbrev pub is_pass_list : List ℕ → Bool
+is_pass_list list = nat_le (length list) 16 && (list_all (λ b. is_x b || is_y b) list && (list_any is_x list && list_any is_y list))
+
+-- the axes of its letters
+abbrev pub axis_of : ℕ → Axis
+axis_of b = if is_x b then X else Y
+
+abbrev pub axes_in : List ℕ → List Axis
+axes_in list = map axis_of list
+
+-- there is a first byte, and it is not the digit 0
+abbrev pub begins_above_zero : List ℕ → Bool
+begins_above_zero [] = false
+begins_above_zero (b ∷ bs) = not (b == 48)
+
+-- a number: one to three decimal digits, of which the first is not 0
+abbrev pub is_number : List ℕ → Bool
+is_number text = nat_le (length text) 3 && (list_all is_ascii_digit text && begins_above_zero text)
+
+-- the number of a text, where it is one and at most 64
+abbrev pub count_in : List ℕ → Option ℕ
+count_in text = if is_number text && nat_le (digits_value 10 text) 64 then Some (digits_value 10 text) else None
