@@ -21,3 +21,4 @@ pub mod Few
 pub mod Fets
 pub mod LaidOut
 pub mod FetBoxes
+pub mod FetReads
