@@ -22,3 +22,4 @@ pub mod Fets
 pub mod LaidOut
 pub mod FetBoxes
 pub mod SticksNetlist
+pub mod FetReads

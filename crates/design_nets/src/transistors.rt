@@ -88,9 +88,10 @@ fn transistor_at(
     let master = call.symbol as usize;
     let items = masters[master].items.list.as_slice();
     let owner = items[item].owner as usize;
-    let channel = &items[found[master].channels[owner]];
+    let own = &found[master];
+    let channel = &items[own.channels[owner]];
     Crossing {
-        poly: shapes.firsts[instance] + found[master].polys[owner] as u32,
+        poly: shapes.firsts[instance] + own.polys[owner] as u32,
         diffusion: k,
         axis: fet.axis,
         channel: channel_at(tech, channel, &layouts[master], call),
