@@ -21,5 +21,6 @@ pub mod Few
 pub mod Fets
 pub mod LaidOut
 pub mod FetBoxes
+pub mod Crossed
 pub mod SticksNetlist
 pub mod FetReads
