@@ -1,27 +1,22 @@
 -- The links of the nets of one more instance with those of the instance behind it.
-use Rattle.std.proofs.Common.{◌≡◌, ℕ, ◌+◌, ◌^◌, ◌<◌, List, [], length, get_or, Contains, Vec, Global, ◌⊎◌, inl, inr, refl, sym, ap, ◌∙◌, subst, arith}
-use Rattle.std.specs.List.{All}
+use Rattle.std.proofs.Common.{◌≡◌, ℕ, ◌+◌, ◌<◌, List, length, get_or, Contains, Vec, Global, ◌⊎◌, inl, inr, sym, ap, ◌∙◌, subst, arith}
 use Rattle.std.proofs.lemmas.Bool.{cases_lt}
-use Rattle.std.proofs.lemmas.List.{get_or-map}
 use Rattle.std.proofs.lemmas.List.Elements.{All-contains}
 use Rattle.lam_geom.specs.declared.boxes.Axis.{Axis}
 use Rattle.lam_geom.specs.declared.boxes.Axis.TheVariants.{X, Y}
 use Rattle.cell_model.specs.declared.cell.Nets.{Nets}
-use Rattle.plan_model.specs.declared.plan.Match.{Match}
 use Rattle.plan_model.specs.declared.plan.Plan.{Plan}
 use Rattle.plan_model.specs.GridNets.{IsBehind}
 use Rattle.plan_model.specs.Instances.{Spot}
 use Rattle.plan_model.specs.Plan.{grids_of, matches_in}
 use Rattle.design_nets.specs.declared.instances.Instance.{Instance}
 use Rattle.design_nets.specs.declared.meetings.Meeting.{Meeting}
-use Rattle.design_nets.specs.declared.owners.OwnNet.{OwnNet}
 use Rattle.design_nets.specs.Instances.{no_instance, spot_no, master_no}
-use Rattle.design_nets.specs.Joining.{own_net, net_count, IsOwn, HaveNets, Meet}
-use Rattle.design_nets.specs.Linking.{number_of, AreAdded, AreNetFirsts, IsListedLink, IsMeetLink}
-use Rattle.design_nets.specs.Meetings.{meeting_of, list_in, row_of, meetings_at, IsSquare, IsMatchIn, IsMeeting, AreMeetings}
+use Rattle.design_nets.specs.Joining.{own_net, IsOwn, HaveNets}
+use Rattle.design_nets.specs.Linking.{AreAdded, IsListedLink, IsMeetLink}
+use Rattle.design_nets.specs.Meetings.{list_in, row_of, meetings_at, IsSquare, IsMatchIn, IsMeeting, AreMeetings}
 use Rattle.design_nets.specs.Nets.{no_nets, nets_no}
 use Rattle.design_nets.proofs.Added.{added_then, added_same}
-use Rattle.design_nets.proofs.NetNumbers.{number_small}
 use Rattle.design_nets.proofs.Spots.{number_of_spot, instance_stands}
 use Rattle.design_nets.proofs.Table.{row_read, list_read}
 

@@ -1,5 +1,5 @@
 -- What is read of masters for the boxes of one more instance, and the pieces of one more box.
-use Rattle.std.proofs.Common.{◌≡◌, ℕ, ◌+◌, ◌*◌, ◌<◌, ◌≤◌, Bool, true, false, List, [], ◌∷◌, length, map, get_or, sym, ap, ◌∙◌, subst, arith}
+use Rattle.std.proofs.Common.{◌≡◌, ℕ, ◌<◌, ◌≤◌, Bool, true, false, List, length, map, get_or, sym, ap, ◌∙◌, arith}
 use Rattle.std.specs.List.{All}
 use Rattle.std.proofs.lemmas.List.{length-map, get_or-map, get_or_default}
 use Rattle.lam_geom.specs.declared.boxes.MaskLayer.{MaskLayer}
@@ -8,14 +8,12 @@ use Rattle.cell_model.specs.declared.cell.Nets.{Nets}
 use Rattle.expand.specs.declared.master.Master.{Master}
 use Rattle.pair_rules.specs.Bound.{item_at}
 use Rattle.pitch_join.specs.Masters.{master_at, no_master}
-use Rattle.net_extract.specs.declared.netlist.Part.{Part}
 use Rattle.net_extract.specs.Places.{parts_on}
 use Rattle.design_nets.specs.declared.instances.Instance.{Instance}
-use Rattle.design_nets.specs.declared.pieces.Placed.{Placed}
 use Rattle.design_nets.specs.declared.shapes.Shape.{Shape}
 use Rattle.design_nets.specs.Instances.{no_instance, master_no}
 use Rattle.design_nets.specs.Nets.{no_nets, nets_no, AreNetsOfAll}
-use Rattle.design_nets.specs.Pieces.{layer_shown, is_fet, placed, parts_of_item, pieces_of_item, pieces_in, IsShapeOf}
+use Rattle.design_nets.specs.Pieces.{layer_shown, is_fet, placed, parts_of_item, pieces_of_item, pieces_in}
 use Rattle.design_nets.specs.Shapes.{shape, shape_no, no_shape, drawn_in, shapes_in}
 use Rattle.design_nets.proofs.Counted.{node_count}
 

@@ -1,5 +1,5 @@
 -- Transistors in order of their diffusion, one box after another.
-use Rattle.std.proofs.Common.{◌≡◌, ℕ, ◌+◌, ◌<◌, ℤ, Bool, true, false, All, List, [], ◌∷◌, ◌++◌, length, get_or, map, refl, sym, ap, ◌∙◌, subst, arith, inl, inr, length-append}
+use Rattle.std.proofs.Common.{◌≡◌, ℕ, ◌+◌, ◌<◌, ℤ, Bool, true, false, All, List, [], ◌∷◌, ◌++◌, length, get_or, map, refl, sym, ap, ◌∙◌, subst, arith, inl, inr}
 use Rattle.std.specs.Prelude.{Contains, slice_index}
 use Rattle.std.proofs.lemmas.Bool.{cases_lt}
 use Rattle.std.proofs.lemmas.List.{map-append, length-map, length_push, get_or-map, get_or_default, get_or_read, get_or_append_left, get_or_push}
@@ -75,7 +75,6 @@ increasing_push ns n rises below i j lt within =
           omega (arith, a, b, h))
     ]
 
-
 pub in_order_push : (xs : List Crossing) (c : Crossing) (k : ℕ) → AreInOrder xs → All (λ (x : Crossing). x.diffusion < k) xs → c.diffusion ≡ k → AreInOrder (xs ++ c ∷ [])
 in_order_push xs c k rises below is =
     subst IsIncreasing (sym (map-append (λ (x : Crossing). x.diffusion) xs (c ∷ [])))
@@ -142,8 +141,16 @@ module _ (tech : Tech) (plan : Plan) (masters : List Master) (layouts : List Coo
         let n = number plan masters (at spot b.diffusion) ND b.is_diffusion.drawn b.is_diffusion.of_class in
         let lt = shown_below plan masters n.0 (at spot b.diffusion) n.1 in
         let shows : ShowsFet plan masters n.0 = record {
-          spot = spot; node = node; item = b.diffusion; depletion = depletion; gate = gate; w = w; l = l;
-          shown = n.1; owned = b.is_diffusion; transistor = fet;
+          spot = spot;
+          node = node;
+          item = b.diffusion;
+          depletion = depletion;
+          gate = gate;
+          w = w;
+          l = l;
+          shown = n.1;
+          owned = b.is_diffusion;
+          transistor = fet;
         } in
         let f = h.found n.0 (omega (arith, lt, counted)) shows in
         let of_node : IsOfNode plan masters spot node f.0 = record {
@@ -185,11 +192,10 @@ module _ (tech : Tech) (plan : Plan) (masters : List Master) (layouts : List Coo
       let m_own : m ≡ master_no instances own.instance = sees.called.symbol ∙ ap (λ (o : Shape). master_no instances o.instance) e in
       let is_master : master ≡ master_at masters m = get_or_read masters m master sees.master master_is no_master in
       let are_items : items ≡ (master_at masters m).items.list = items_are ∙ ap (λ (z : Master). z.items.list) is_master in
-      let within : one.item < length items = subst (λ (is : List Item). one.item < length is) (sym are_items) sees.item in
-      (
+      let within : one.item < length items = subst (λ (is : List Item). one.item < length is) (sym are_items) sees.item in (
         ap (λ (z : Master). z.cell) is_master ∙ ap (λ (n : ℕ). (master_at masters n).cell) m_own,
         get_or_default items one.item d no_item within
-        ∙ (ap (λ (is : List Item). item_at is one.item) are_items
-        ∙ (ap (λ (n : ℕ). item_at (master_at masters n).items.list one.item) m_own ∙ ap (λ (o : Shape). item_at (master_at masters (master_no instances own.instance)).items.list o.item) e)),
+            ∙ (ap (λ (is : List Item). item_at is one.item) are_items
+            ∙ (ap (λ (n : ℕ). item_at (master_at masters n).items.list one.item) m_own ∙ ap (λ (o : Shape). item_at (master_at masters (master_no instances own.instance)).items.list o.item) e)),
         within,
       )

@@ -1,23 +1,21 @@
 -- The transistor of which a box shows the diffusion, by its poly and its channel.
-use Rattle.std.proofs.Common.{◌≡◌, ℕ, ◌+◌, ◌<◌, ℤ, List, length, map, get_or, Some, refl, sym, ap, ◌∙◌, subst, arith, zero-add}
+use Rattle.std.proofs.Common.{◌≡◌, ℕ, ◌+◌, ◌<◌, List, length, Some, refl, sym, ap, ◌∙◌, subst, arith, zero-add}
 use Rattle.std.specs.Prelude.{slice_get, slice_index}
 use Rattle.std.specs.List.{range_with_len}
 use Rattle.std.proofs.lemmas.List.FromFn.{length-range_with_len, get_or-range_with_len}
 use Rattle.std.proofs.lemmas.Option.{slice_get-get_or}
 use Rattle.lam_geom.specs.declared.boxes.Axis.{Axis}
 use Rattle.lam_geom.specs.declared.boxes.Axis.TheVariants.{X, Y}
-use Rattle.lam_geom.specs.declared.boxes.BoxXY.{BoxXY}
 use Rattle.lam_geom.specs.declared.boxes.MaskLayer.TheVariants.{NP}
 use Rattle.rule_table.specs.declared.technology.Tech.{Tech}
 use Rattle.rule_table.specs.Technology.{widest_of}
 use Rattle.rule_table.specs.declared.classes.Class.{Class}
 use Rattle.rule_table.specs.declared.classes.Class.TheVariants.{P, Dm, G}
 use Rattle.cell_model.specs.declared.cell.NodeKind.TheVariants as kinds
-use Rattle.cell_model.specs.Sound.{node_at}
 use Rattle.sym_items.specs.declared.items.Coords.{Coords}
 use Rattle.sym_items.specs.declared.items.Item.{Item}
 use Rattle.sym_items.specs.Layouts.{layout_at, size_in}
-use Rattle.sym_items.specs.Sides.{Sides, sides_in, sides_of}
+use Rattle.sym_items.specs.Sides.{sides_in, sides_of}
 use Rattle.pair_rules.specs.Bound.{item_at}
 use Rattle.expand.specs.declared.master.Master.{Master}
 use Rattle.buried_contacts.specs.Contacts.{axis_along, kind_of}
@@ -31,7 +29,7 @@ use Rattle.crossings.specs.Boxes.{extent, other}
 use Rattle.crossings.specs.declared.crossing.Crossing.{Crossing}
 use Rattle.conductors.specs.Conductors.{Drawn, sides_of_drawn}
 use Rattle.conductors.specs.Meetings.{at, IsOwned, IsTransistorAt, HasBoxes, TransistorsHaveBoxes}
-use Rattle.conductors.specs.Shapes.{shapes_of, Shows, sides_in_grains}
+use Rattle.conductors.specs.Shapes.{Shows, sides_in_grains}
 use Rattle.conductors.specs.Sticks.{IsTransistor}
 use Rattle.conductors.proofs.NetlistCross.{channel_extents}
 use Rattle.conductors.proofs.NetlistShapes.{number, shown_below, one_item}
@@ -147,8 +145,7 @@ module _ (tech : Tech) (plan : Plan) (masters : List Master) (layouts : List Coo
       let same : drawn_by Instances other ≡ poly = one_item plan masters found.0 (drawn_by Instances other) poly shows found.1 in
       let s_same = one_instance other.instance a.instance (ap (λ (d : Drawn). d.spot) same) in
       let n_same : other.item ≡ boxes.poly = ap (λ (d : Drawn). d.item) same in
-      let lists : ℕ → List ℕ = λ s. drawn_in (master_at masters (master_no Instances s)) in
-      (
+      let lists : ℕ → List ℕ = λ s. drawn_in (master_at masters (master_no Instances s)) in (
         a.place,
         record {
           within = subst (λ (s : ℕ). a.place < length (lists s)) s_same a.within;

@@ -1,5 +1,5 @@
 -- What is read of a box of a diffusion, its instance's call, its master's items and the items of its nodes.
-use Rattle.std.proofs.Common.{◌≡◌, ℕ, ◌+◌, ◌<◌, ◌≤◌, ◌^◌, ℤ, pos, ◌≤ℤ◌, List, length, get_or, Some, refl, sym, ap, ◌∙◌, subst, arith}
+use Rattle.std.proofs.Common.{◌≡◌, ℕ, ◌+◌, ◌<◌, ◌^◌, pos, List, length, get_or, Some, refl, sym, ap, ◌∙◌, subst, arith}
 use Rattle.std.specs.Prelude.{slice_get, slice_index}
 use Rattle.std.proofs.lemmas.List.{get_or_default}
 use Rattle.std.proofs.lemmas.Option.{slice_get-get_or}
@@ -9,7 +9,7 @@ use Rattle.sym_items.specs.declared.items.Item.{Item}
 use Rattle.sym_items.specs.Boxes.{HasBox}
 use Rattle.sym_items.specs.Layouts.{layout_at}
 use Rattle.sym_items.specs.Sides.{sides_in, sides_of}
-use Rattle.pair_rules.specs.Bound.{item_at, no_item}
+use Rattle.pair_rules.specs.Bound.{item_at}
 use Rattle.expand.specs.declared.master.Master.{Master}
 use Rattle.plan_model.specs.declared.plan.Plan.{Plan}
 use Rattle.plan_model.specs.Plan.{grids_of}

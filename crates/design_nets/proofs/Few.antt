@@ -1,5 +1,5 @@
 -- There are no more than twice as many nets of instances as boxes, and twice as many pieces.
-use Rattle.std.proofs.Common.{◌≡◌, ℕ, zero, suc, ◌+◌, ◌*◌, ◌^◌, ◌<◌, ◌≤◌, List, [], ◌∷◌, length, map, filter, refl, sym, ap, ◌∙◌, subst, arith, length-append, add-one}
+use Rattle.std.proofs.Common.{◌≡◌, ℕ, zero, suc, ◌*◌, ◌<◌, ◌≤◌, List, [], ◌∷◌, length, filter, refl, sym, ap, ◌∙◌, arith, length-append, add-one}
 use Rattle.std.specs.List.{All, flat_map, range_with_len, sum_by}
 use Rattle.std.proofs.lemmas.List.{length-map}
 use Rattle.std.proofs.lemmas.List.FromFn.{length-map-range_with_len}
@@ -16,7 +16,7 @@ use Rattle.cell_model.specs.declared.cell.Node.{Node}
 use Rattle.cell_model.specs.declared.cell.NodeKind.{NodeKind}
 use Rattle.cell_model.specs.declared.cell.NodeKind.TheVariants.{Joint, Contact, Buried, Fet}
 use Rattle.cell_model.specs.Counts.{implants, kind_boxes, node_boxes, boxes_in}
-use Rattle.cell_model.specs.Nets.{kind_parts, node_parts, parts_of, AreNets}
+use Rattle.cell_model.specs.Nets.{kind_parts, node_parts, parts_of}
 use Rattle.expand.specs.declared.master.Master.{Master}
 use Rattle.expand.specs.Items.{item_list}
 use Rattle.expand.specs.Masters.{IsMaster}
@@ -27,7 +27,6 @@ use Rattle.mask_out.proofs.Counted.{boxes_counted}
 use Rattle.conductors.specs.Shapes.{items_on, drawn_items}
 use Rattle.conductors.proofs.PictureLists.{picked_images, by_numbers}
 use Rattle.design_nets.specs.declared.instances.Instance.{Instance}
-use Rattle.design_nets.specs.declared.pieces.Placed.{Placed}
 use Rattle.design_nets.specs.declared.shapes.Shape.{Shape}
 use Rattle.design_nets.specs.Firsts.{together}
 use Rattle.design_nets.specs.Instances.{master_no}

@@ -1,19 +1,18 @@
 -- The numbers of the nets of instances.
-use Rattle.std.proofs.Common.{◌≡◌, ℕ, ◌+◌, ◌^◌, ◌<◌, ◌≤◌, List, length, get_or, take, map, Some, refl, sym, ap, ◌∙◌, subst, arith, length-append}
-use Rattle.std.specs.Prelude.{slice_get, slice_index}
-use Rattle.std.specs.List.{All, range_with_len}
+use Rattle.std.proofs.Common.{◌≡◌, ℕ, ◌+◌, ◌^◌, ◌<◌, List, length, get_or, ap, ◌∙◌, arith, length-append}
+use Rattle.std.specs.Prelude.{slice_index}
+use Rattle.std.specs.List.{All}
 use Rattle.std.proofs.lemmas.List.{get_or_default}
-use Rattle.std.proofs.lemmas.List.FromFn.{length-map-range_with_len, get_or-map-range_with_len}
-use Rattle.std.proofs.lemmas.Option.{slice_get-get_or}
+use Rattle.std.proofs.lemmas.List.FromFn.{length-map-range_with_len}
 use Rattle.cell_model.specs.declared.cell.Nets.{Nets}
 use Rattle.design_nets.specs.declared.instances.Instance.{Instance}
 use Rattle.design_nets.specs.declared.owners.OwnNet.{OwnNet}
 use Rattle.design_nets.specs.Firsts.{together, AreFirsts}
-use Rattle.design_nets.specs.Instances.{no_instance, instance_no, master_no}
+use Rattle.design_nets.specs.Instances.{no_instance, master_no}
 use Rattle.design_nets.specs.Joining.{own_net, net_count, nets_in, IsOwn}
 use Rattle.design_nets.specs.Linking.{number_of, AreNetFirsts}
-use Rattle.design_nets.specs.Nets.{no_nets, nets_no}
-use Rattle.design_nets.proofs.Lists.{together_more, together_within, together_longer, together_get}
+use Rattle.design_nets.specs.Nets.{no_nets}
+use Rattle.design_nets.proofs.Lists.{together_more, together_within}
 
 module _ (nets : List Nets) (instances : List Instance) where
   pub nets_counted : (s : ℕ) → length (nets_in nets instances s) ≡ net_count nets instances s

@@ -1,6 +1,6 @@
 -- The net of each piece is one of its instance.
-use Rattle.std.proofs.Common.{◌≡◌, ℕ, ◌<◌, Bool, true, false, List, [], ◌∷◌, length, map, get_or, Some, refl, sym, ap, ◌∙◌, subst, arith, inl, inr}
-use Rattle.std.specs.Prelude.{slice_get, nat_lt}
+use Rattle.std.proofs.Common.{◌≡◌, ℕ, ◌<◌, Bool, true, false, List, length, map, get_or, refl, sym, subst, arith, inl, inr}
+use Rattle.std.specs.Prelude.{nat_lt}
 use Rattle.std.specs.List.{All}
 use Rattle.std.proofs.lemmas.Bool.{ltb-true, and_parts}
 use Rattle.std.proofs.lemmas.List.{length-map, get_or-map}
@@ -30,7 +30,7 @@ use Rattle.design_nets.specs.declared.owners.OwnNet.{OwnNet}
 use Rattle.design_nets.specs.declared.pieces.Placed.{Placed}
 use Rattle.design_nets.specs.declared.shapes.Shape.{Shape}
 use Rattle.design_nets.specs.Instances.{instances_of, master_no}
-use Rattle.design_nets.specs.Joining.{net_count, IsOwn}
+use Rattle.design_nets.specs.Joining.{IsOwn}
 use Rattle.design_nets.specs.Nets.{nets_no, AreNetsOfAll}
 use Rattle.design_nets.specs.Pieces.{layer_shown, is_fet, part_net, placed, parts_of_item, own_of, ArePiecesOf, IsShapeOf}
 use Rattle.design_nets.specs.Shapes.{shape_no, AreShapesOf}

@@ -1,8 +1,7 @@
 -- The pieces of the boxes stand where those of the sticks do, and are of their nets.
-use Rattle.std.proofs.Common.{◌≡◌, ℕ, ◌+◌, ◌<◌, List, length, map, get_or, Option, Some, sym, ap, ◌∙◌, subst, arith}
-use Rattle.std.specs.Prelude.{slice_get, slice_index, option_map}
+use Rattle.std.proofs.Common.{◌≡◌, ℕ, ◌<◌, List, length, map, get_or, Option, Some, sym, ap, ◌∙◌, subst, arith}
+use Rattle.std.specs.Prelude.{slice_get, option_map}
 use Rattle.std.specs.List.{range_with_len}
-use Rattle.std.proofs.lemmas.List.{length-map}
 use Rattle.std.proofs.lemmas.Option.{slice_get_within, slice_get-get_or, slice_get-map, get_or_from_slice_get}
 use Rattle.std.proofs.lemmas.Simd.{map-map}
 use Rattle.cell_model.specs.declared.cell.Nets.{Nets}
@@ -19,24 +18,23 @@ use Rattle.net_extract.specs.declared.netlist.Part.{Part}
 use Rattle.net_extract.specs.declared.netlist.Part.TheVariants.{Whole, Low, High}
 use Rattle.net_extract.specs.Places.{Place, place}
 use Rattle.conductors.specs.Conductors.{Drawn, item_of}
-use Rattle.conductors.specs.Shapes.{shapes_of, Shows}
-use Rattle.conductors.specs.Sticks.{no_shape, places_of_shape, places_of_sticks, net_of_part, AreOfOne}
+use Rattle.conductors.specs.Shapes.{Shows}
+use Rattle.conductors.specs.Sticks.{places_of_shape, places_of_sticks, net_of_part, AreOfOne}
 use Rattle.conductors.proofs.NetlistLists.{Has, has_at, from_map}
 use Rattle.conductors.proofs.NetlistPlaces.{places_shown}
 use Rattle.conductors.proofs.NetlistShapes.{one_item}
 use Rattle.conductors.proofs.PictureLists.{image_of_pieces}
 use Rattle.design_nets.specs.declared.instances.Instance.{Instance}
-use Rattle.design_nets.specs.declared.owners.OwnNet.{OwnNet}
 use Rattle.design_nets.specs.declared.pieces.Placed.{Placed}
 use Rattle.design_nets.specs.declared.shapes.Shape.{Shape}
 use Rattle.design_nets.specs.Firsts.{together}
 use Rattle.design_nets.specs.Instances.{instances_of, spot_no, master_no}
 use Rattle.design_nets.specs.Nets.{nets_no}
-use Rattle.design_nets.specs.Pieces.{part_net, placed, parts_of_item, pieces_of_item, pieces_in, stand_of, own_of, ArePiecesOf, IsShapeOf}
+use Rattle.design_nets.specs.Pieces.{part_net, placed, parts_of_item, pieces_in, stand_of, ArePiecesOf, IsShapeOf}
 use Rattle.design_nets.specs.Shapes.{drawn_by, shape_no, AreShapesOf}
 use Rattle.design_nets.specs.Shapes as own_shapes
 use Rattle.design_nets.proofs.Lists.{together_same, together_split, together_read}
-use Rattle.design_nets.proofs.Shown.{shapes_shown, shapes_counted, shape_shows}
+use Rattle.design_nets.proofs.Shown.{shapes_counted, shape_shows}
 use Rattle.design_nets.proofs.Spots.{instance_stands}
 
 module _ (plan : Plan) (masters : List Master) (nets : List Nets) (instances : List Instance) (are : instances ≡ instances_of (grids_of plan))

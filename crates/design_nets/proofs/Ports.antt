@@ -1,9 +1,8 @@
 -- The ports that a plan matches are those that meet, so nets that its matches join are one net of the grids.
-use Rattle.std.proofs.Common.{◌≡◌, ℕ, ◌<◌, List, [], length, get_or, Contains, Some, refl, sym, ap, ◌∙◌, subst, arith}
-use Rattle.std.specs.Prelude.{slice_get, slice_index}
+use Rattle.std.proofs.Common.{◌≡◌, ℕ, ◌<◌, List, length, Contains, refl, sym, ap, ◌∙◌, subst, arith}
 use Rattle.std.specs.List.{All}
 use Rattle.std.proofs.lemmas.List.{get_or_default}
-use Rattle.std.proofs.lemmas.List.Elements.{All-contains, All-from_get_or, All-weaker}
+use Rattle.std.proofs.lemmas.List.Elements.{All-from_get_or, All-weaker}
 use Rattle.lam_geom.specs.declared.boxes.Axis.{Axis}
 use Rattle.rule_table.specs.declared.technology.Tech.{Tech}
 use Rattle.cell_model.specs.declared.cell.CellPort.{CellPort}
@@ -13,7 +12,7 @@ use Rattle.plan_model.specs.declared.plan.Match.{Match}
 use Rattle.plan_model.specs.declared.plan.Plan.{Plan}
 use Rattle.plan_model.specs.Borders.{meeting_ports, match_of, matches_at}
 use Rattle.plan_model.specs.GridNets.{IsBehind, MeetAt, net_of_port, IsOneNet, the_same, met_before, met_behind}
-use Rattle.plan_model.specs.Instances.{Spot, IsSpot, master_at_spot, spots_of}
+use Rattle.plan_model.specs.Instances.{Spot, IsSpot, master_at_spot}
 use Rattle.plan_model.specs.Plan.{grids_of, borders_of, matches_in}
 use Rattle.plan_model.specs.Rows.{firsts, is_pair}
 use Rattle.pitch_join.specs.Among.{IsMatchAmong}
@@ -24,9 +23,9 @@ use Rattle.grid_rules.proofs.Meeting.{master_among, match_listed}
 use Rattle.design_nets.specs.declared.instances.Instance.{Instance}
 use Rattle.design_nets.specs.declared.meetings.Meeting.{Meeting}
 use Rattle.design_nets.specs.declared.owners.OwnNet.{OwnNet}
-use Rattle.design_nets.specs.Instances.{instances_of, no_instance, spot_no, master_no}
+use Rattle.design_nets.specs.Instances.{instances_of, no_instance, spot_no}
 use Rattle.design_nets.specs.Joining.{own_net, HaveNets, Meet, AreJoined, same, forth, back}
-use Rattle.design_nets.specs.Meetings.{wire_net, meeting_of, IsMatchIn, IsMeeting}
+use Rattle.design_nets.specs.Meetings.{wire_net, IsMatchIn}
 use Rattle.design_nets.specs.Nets.{no_nets, nets_no, AreNetsOfAll}
 use Rattle.design_nets.proofs.Counted.{wire_count, wire_below}
 use Rattle.design_nets.proofs.Spots.{number_of_spot, spot_there, instance_stands, instance_at_spot}

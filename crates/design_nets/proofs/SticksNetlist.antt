@@ -1,5 +1,5 @@
 -- The netlist of the sticks, from its pieces with their numbers and its transistors.
-use Rattle.std.proofs.Common.{◌≡◌, ◌↔◌, ℕ, ◌+◌, ◌*◌, ◌^◌, ◌<◌, ◌≤◌, List, length, get_or, map, Option, Some, refl, sym, ap, ◌∙◌, subst, arith}
+use Rattle.std.proofs.Common.{◌≡◌, ◌↔◌, ℕ, ◌+◌, ◌*◌, ◌^◌, ◌<◌, ◌≤◌, List, length, get_or, map, Option, Some, sym, ap, ◌∙◌, subst, arith}
 use Rattle.std.specs.Prelude.{slice_get, slice_index, option_map}
 use Rattle.std.specs.List.{All}
 use Rattle.std.proofs.lemmas.List.{length-map, get_or_default}
@@ -7,7 +7,6 @@ use Rattle.std.proofs.lemmas.List.Elements.{All-from_get_or}
 use Rattle.std.proofs.lemmas.Option.{slice_get-get_or, slice_get-map}
 use Rattle.lam_geom.specs.Places.{IsPlacedBox}
 use Rattle.rule_table.specs.declared.technology.Tech.{Tech}
-use Rattle.cell_model.specs.declared.cell.CellPort.{CellPort}
 use Rattle.cell_model.specs.declared.cell.Nets.{Nets}
 use Rattle.sym_items.specs.declared.items.Coords.{Coords}
 use Rattle.expand.specs.declared.master.Master.{Master}
@@ -19,8 +18,8 @@ use Rattle.crossings.specs.declared.crossing.Crossing.{Crossing}
 use Rattle.net_extract.specs.declared.netlist.Device.{Device}
 use Rattle.net_extract.specs.declared.netlist.Part.TheVariants.{Whole}
 use Rattle.net_extract.specs.declared.netlist.Piece.{Piece}
-use Rattle.net_extract.specs.Devices.{AreRanges, HasBoxes}
-use Rattle.net_extract.specs.Netlists.{place_of, nets_of, device_of, IsNetlistOf}
+use Rattle.net_extract.specs.Devices.{HasBoxes}
+use Rattle.net_extract.specs.Netlists.{place_of, nets_of, device_of}
 use Rattle.net_extract.specs.Places.{Place}
 use Rattle.conductors.specs.Conductors.{Drawn}
 use Rattle.conductors.specs.Meetings.{at}
@@ -32,10 +31,10 @@ use Rattle.design_nets.specs.declared.owners.OwnNet.{OwnNet}
 use Rattle.design_nets.specs.declared.pieces.Placed.{Placed}
 use Rattle.design_nets.specs.declared.shapes.Shape.{Shape}
 use Rattle.design_nets.specs.Firsts.{together}
-use Rattle.design_nets.specs.Instances.{instances_of, no_instance, spot_no, master_no}
-use Rattle.design_nets.specs.Joining.{nets_in, IsOwn, AreNetNumbers, AreJoined}
+use Rattle.design_nets.specs.Instances.{instances_of, no_instance}
+use Rattle.design_nets.specs.Joining.{nets_in, IsOwn, AreNetNumbers}
 use Rattle.design_nets.specs.Nets.{nets_no, AreNetsOfAll}
-use Rattle.design_nets.specs.Pieces.{stand_of, own_of, pieces_in, IsShapeOf, ArePiecesOf}
+use Rattle.design_nets.specs.Pieces.{stand_of, own_of, IsShapeOf, ArePiecesOf}
 use Rattle.design_nets.specs.Shapes.{drawn_by, no_shape, shape_no, shapes_in, AreShapesOf}
 use Rattle.design_nets.proofs.Counted.{number_below, next_few}
 use Rattle.design_nets.proofs.Few.{pieces_few, nets_few}
@@ -140,8 +139,7 @@ module _ (tech : Tech) (plan : Plan) (masters : List Master) (nets : List Nets) 
         joined a b lt_a lt_b =
             let x : Placed = piece_at a in
             let y : Placed = piece_at b in
-            let j = numbered.joined a b (own_of x) (own_of y) (owner_there a lt_a) (owner_there b lt_b) in
-            (
+            let j = numbered.joined a b (own_of x) (own_of y) (owner_there a lt_a) (owner_there b lt_b) in (
               λ e. pieces_of_one plan masters nets instances are shapes firsts made shape_is pieces starts have a b x y (piece_there a lt_a) (piece_there b lt_b)
                   (joined_one tech plan masters nets instances planned are (own_of x) (own_of y) (j.0 e)),
               λ one. j.1 (one_joined tech plan masters nets instances planned are (own_of x) (own_of y) (instance_there a lt_a) (instance_there b lt_b)

@@ -1,10 +1,9 @@
 -- The nets of instances: which of them ports join, and numbers for them.
-use Rattle.std.specs.Prelude.{◌≡◌, ◌↔◌, ℕ, ◌+◌, ◌<◌, ◌⊎◌, All, Contains, Some, List, length, map, slice_get, slice_index}
+use Rattle.std.specs.Prelude.{◌≡◌, ◌↔◌, ℕ, ◌<◌, All, Some, List, length, map, slice_get, slice_index}
 use Rattle.std.specs.List.{range_with_len}
 use Rattle.lam_geom.specs.declared.boxes.Axis.{Axis}
 use Rattle.cell_model.specs.declared.cell.Nets.{Nets}
 use Rattle.graph_search.specs.Netting.{IsNumberedInOrder}
-use Rattle.plan_model.specs.declared.plan.Match.{Match}
 use Rattle.plan_model.specs.declared.plan.Plan.{Plan}
 use Rattle.plan_model.specs.GridNets.{IsBehind}
 use Rattle.plan_model.specs.Plan.{grids_of, matches_in}

@@ -1,6 +1,5 @@
 -- What the boxes of all instances show, instance by instance.
 use Rattle.std.specs.Prelude.{◌≡◌, ℕ, List, length, map, slice_index_or}
-use Rattle.sym_items.specs.declared.items.Item.{Item}
 use Rattle.expand.specs.declared.master.Master.{Master}
 use Rattle.pitch_join.specs.Masters.{master_at}
 use Rattle.conductors.specs.Conductors.{Drawn}

@@ -1,5 +1,5 @@
 use Rattle.std.proofs.Common.{ℕ, List, sym, subst, length, arith, ◌+◌}
-use Rattle.design_nets.specs.Firsts.{together, AreFirsts}
+use Rattle.design_nets.specs.Firsts.{AreFirsts}
 use Rattle.design_nets.specs.Joining.{nets_in}
 use Rattle.design_nets.proofs.Lists.{together_longer, firsts_more}
 use Rattle.design_nets.proofs.NetNumbers.{next_number, count_read}

@@ -1,4 +1,4 @@
-use Rattle.std.proofs.Common.{◌≡◌, ℕ, List, ◌∷◌, [], ◌++◌, Vec, Global, length, take, get_or, set, ap, ◌∙◌, sym, subst, arith}
+use Rattle.std.proofs.Common.{ℕ, List, ◌∷◌, [], ◌++◌, Vec, Global, length, take, get_or, set, ap, ◌∙◌, sym, subst, arith}
 use Rattle.std.proofs.lemmas.List.{take_more}
 use Rattle.plan_model.specs.declared.plan.Match.{Match}
 use Rattle.design_nets.specs.declared.meetings.Meeting.{Meeting}

@@ -1,4 +1,4 @@
-use Rattle.std.proofs.Common.{◌≡◌, List, ◌∷◌, [], ◌++◌, Vec, Global, ap, ◌∙◌}
+use Rattle.std.proofs.Common.{List, ◌∷◌, [], ◌++◌, Vec, Global, ap, ◌∙◌}
 use Rattle.design_nets.specs.declared.meetings.Meeting.{Meeting}
 use Rattle.design_nets.proofs.Table.{list_here, list_other, list_read}
 use Rattle.design_nets.proofs.meetings.push_to.Goals as goal

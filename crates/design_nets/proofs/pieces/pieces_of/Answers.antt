@@ -1,7 +1,6 @@
 use Rattle.std.proofs.Common.{ℕ, ◌+◌, List, ◌++◌, length, ap, ◌∙◌, sym, subst, arith}
 use Rattle.std.proofs.lemmas.List.{length-append}
 use Rattle.design_nets.specs.declared.pieces.Placed.{Placed}
-use Rattle.design_nets.specs.declared.shapes.Shape.{Shape}
 use Rattle.design_nets.specs.Firsts.{AreFirsts}
 use Rattle.design_nets.specs.Instances.{master_no}
 use Rattle.design_nets.specs.Pieces.{pieces_of_item, pieces_in}

@@ -1,15 +1,12 @@
-use Rattle.std.proofs.Common.{◌≡◌, ◌<◌, ◌≤◌, ◌^◌, ℕ, List, All, length, get_or, map, refl, sym, ap, ◌∙◌, subst, arith}
+use Rattle.std.proofs.Common.{◌≡◌, ◌<◌, ◌^◌, ℕ, List, All, length, get_or, map, refl, sym, ap, ◌∙◌, subst, arith}
 use Rattle.std.proofs.lemmas.List.{length-map}
-use Rattle.std.proofs.lemmas.List.Elements.{All-get_or}
 use Rattle.crossings.specs.declared.crossing.Crossing.{Crossing}
-use Rattle.cell_model.specs.declared.cell.Nets.{Nets}
 use Rattle.graph_search.specs.Netting.{next_net}
 use Rattle.plan_model.specs.Plan.{grids_of, AreOfMasters}
 use Rattle.pitch_join.specs.Masters.{master_ports}
 use Rattle.net_extract.specs.declared.netlist.Piece.{Piece}
 use Rattle.net_extract.specs.Devices.{AreRanges, HasBoxes}
 use Rattle.net_extract.specs.Netlists.{place_of, nets_of, device_of}
-use Rattle.lam_geom.specs.Places.{IsPlacedBox}
 use Rattle.design_nets.specs.declared.instances.Instance.{Instance}
 use Rattle.design_nets.specs.declared.owners.OwnNet.{OwnNet}
 use Rattle.design_nets.specs.declared.pieces.Placed.{Placed}
@@ -66,7 +63,7 @@ net_numbers-requires-clause-owners c =
     let same : c.deref-2.result.now ≡ c.deref-8.result.now = c.deref-2.ensures.value ∙ sym c.deref-8.ensures.value in
     let made = subst (λ (z : List Instance). AreShapesOf masters z c.in_ok-shapes.shapes.all.items c.in_ok-shapes.shapes.firsts.items) same c.in_ok-shapes.ensures in
     let have = pieces_moved masters c.deref-3.result.now c.deref-7.result.now c.deref-4.result.now c.deref-8.result.now c.deref-5.result.now c.in_ok-shapes.shapes.all.items c.in_ok-pieces.pieces.all.items
-        c.in_ok-pieces.pieces.starts.items (c.deref-3.ensures.value ∙ sym c.deref-7.ensures.value) (c.deref-4.ensures.value ∙ sym c.deref-8.ensures.value) c.deref-5.ensures.value c.in_ok-pieces.ensures in
+    c.in_ok-pieces.pieces.starts.items (c.deref-3.ensures.value ∙ sym c.deref-7.ensures.value) (c.deref-4.ensures.value ∙ sym c.deref-8.ensures.value) c.deref-5.ensures.value c.in_ok-pieces.ensures in
     let is : c.deref-9.result.now ≡ map own_of c.in_ok-pieces.pieces.all.items = c.deref-9.ensures.value ∙ (c.in_ok-owners.ensures ∙ ap (λ (ps : List Placed). map own_of ps) c.deref-6.ensures.value) in
     subst (λ (os : List OwnNet). All (IsOwn c.deref-7.result.now c.deref-8.result.now) os) (sym is)
     (own c.args.tech.now c.args.plan.now masters c.deref-7.result.now c.deref-8.result.now c.requires.planned of_all (c.deref-8.ensures.value ∙ c.in_ok-instances.ensures) c.in_ok-shapes.shapes.all.items
@@ -79,10 +76,10 @@ net_numbers-requires-clause-few c =
     let same : c.deref-2.result.now ≡ c.deref-8.result.now = c.deref-2.ensures.value ∙ sym c.deref-8.ensures.value in
     let made = subst (λ (z : List Instance). AreShapesOf masters z c.in_ok-shapes.shapes.all.items c.in_ok-shapes.shapes.firsts.items) same c.in_ok-shapes.ensures in
     let have = pieces_moved masters c.deref-3.result.now c.deref-7.result.now c.deref-4.result.now c.deref-8.result.now c.deref-5.result.now c.in_ok-shapes.shapes.all.items c.in_ok-pieces.pieces.all.items
-        c.in_ok-pieces.pieces.starts.items (c.deref-3.ensures.value ∙ sym c.deref-7.ensures.value) (c.deref-4.ensures.value ∙ sym c.deref-8.ensures.value) c.deref-5.ensures.value c.in_ok-pieces.ensures in
+    c.in_ok-pieces.pieces.starts.items (c.deref-3.ensures.value ∙ sym c.deref-7.ensures.value) (c.deref-4.ensures.value ∙ sym c.deref-8.ensures.value) c.deref-5.ensures.value c.in_ok-pieces.ensures in
     let is : c.deref-9.result.now ≡ map own_of c.in_ok-pieces.pieces.all.items = c.deref-9.ensures.value ∙ (c.in_ok-owners.ensures ∙ ap (λ (ps : List Placed). map own_of ps) c.deref-6.ensures.value) in
     let few = few_together c.args.tech.now c.args.plan.now masters c.deref-7.result.now c.deref-8.result.now c.requires.planned of_all (c.deref-8.ensures.value ∙ c.in_ok-instances.ensures) c.in_ok-shapes.shapes.all.items
-        c.in_ok-shapes.shapes.firsts.items made c.in_ok-pieces.pieces.all.items c.in_ok-pieces.pieces.starts.items have c.requires.few in
+    c.in_ok-shapes.shapes.firsts.items made c.in_ok-pieces.pieces.all.items c.in_ok-pieces.pieces.starts.items have c.requires.few in
     let counted = ap (λ (os : List OwnNet). length os) is in
     omega (arith, few, counted)
 
@@ -120,12 +117,12 @@ devices_of-requires-clause-crossings c k d lt =
     let same : c.deref-2.result.now ≡ c.deref-4.result.now = c.deref-2.ensures.value ∙ sym c.deref-4.ensures.value in
     let made = subst (λ (z : List Instance). AreShapesOf masters z c.in_ok-shapes.shapes.all.items c.in_ok-shapes.shapes.firsts.items) same c.in_ok-shapes.ensures in
     let have = pieces_moved masters c.deref-3.result.now c.deref-3.result.now c.deref-4.result.now c.deref-4.result.now c.deref-5.result.now c.in_ok-shapes.shapes.all.items c.in_ok-pieces.pieces.all.items
-        c.in_ok-pieces.pieces.starts.items refl refl c.deref-5.ensures.value c.in_ok-pieces.ensures in
+    c.in_ok-pieces.pieces.starts.items refl refl c.deref-5.ensures.value c.in_ok-pieces.ensures in
     let P : List Crossing → Type 0 = λ cs. All (HasBoxes c.deref-14.result.now) cs in
     let each : All (HasBoxes c.deref-14.result.now) c.in_ok-crossings.crossings.items =
     λ i e within. subst (λ (ss : List ℕ). HasBoxes ss (get_or c.in_ok-crossings.crossings.items i e)) (sym c.deref-14.ensures.value)
-        (boxes_there c.args.tech.now c.args.plan.now masters c.deref-3.result.now c.deref-4.result.now c.requires.planned of_all (c.deref-4.ensures.value ∙ c.in_ok-instances.ensures) c.in_ok-shapes.shapes.all.items
-        c.in_ok-shapes.shapes.firsts.items made c.in_ok-pieces.pieces.all.items c.in_ok-pieces.pieces.starts.items have c.args.layouts.now (get_or c.in_ok-crossings.crossings.items i e) (c.in_ok-crossings.ensures.all.each i e within) (c.in_ok-crossings.ensures.placed i e within)) in
+    (boxes_there c.args.tech.now c.args.plan.now masters c.deref-3.result.now c.deref-4.result.now c.requires.planned of_all (c.deref-4.ensures.value ∙ c.in_ok-instances.ensures) c.in_ok-shapes.shapes.all.items
+    c.in_ok-shapes.shapes.firsts.items made c.in_ok-pieces.pieces.all.items c.in_ok-pieces.pieces.starts.items have c.args.layouts.now (get_or c.in_ok-crossings.crossings.items i e) (c.in_ok-crossings.ensures.all.each i e within) (c.in_ok-crossings.ensures.placed i e within)) in
     subst P (sym c.deref-15.ensures.value) each k d lt
 
 pub next_net-requires : goal.next_net-requires
@@ -135,10 +132,10 @@ next_net-requires c =
     let same : c.deref-2.result.now ≡ c.deref-8.result.now = c.deref-2.ensures.value ∙ sym c.deref-8.ensures.value in
     let made = subst (λ (z : List Instance). AreShapesOf masters z c.in_ok-shapes.shapes.all.items c.in_ok-shapes.shapes.firsts.items) same c.in_ok-shapes.ensures in
     let have = pieces_moved masters c.deref-3.result.now c.deref-7.result.now c.deref-4.result.now c.deref-8.result.now c.deref-5.result.now c.in_ok-shapes.shapes.all.items c.in_ok-pieces.pieces.all.items
-        c.in_ok-pieces.pieces.starts.items (c.deref-3.ensures.value ∙ sym c.deref-7.ensures.value) (c.deref-4.ensures.value ∙ sym c.deref-8.ensures.value) c.deref-5.ensures.value c.in_ok-pieces.ensures in
+    c.in_ok-pieces.pieces.starts.items (c.deref-3.ensures.value ∙ sym c.deref-7.ensures.value) (c.deref-4.ensures.value ∙ sym c.deref-8.ensures.value) c.deref-5.ensures.value c.in_ok-pieces.ensures in
     let is : c.deref-9.result.now ≡ map own_of c.in_ok-pieces.pieces.all.items = c.deref-9.ensures.value ∙ (c.in_ok-owners.ensures ∙ ap (λ (ps : List Placed). map own_of ps) c.deref-6.ensures.value) in
     let numbered = numbers_moved c.args.plan.now c.deref-7.result.now c.deref-7.result.now c.deref-8.result.now c.deref-8.result.now c.deref-9.result.now (map own_of c.in_ok-pieces.pieces.all.items) c.in_ok-numbers.numbers.items
-        refl refl is c.in_ok-numbers.ensures in
+    refl refl is c.in_ok-numbers.ensures in
     subst (λ (ns : List ℕ). All (λ n. n < 2 ^ 31) ns) (sym c.deref-16.ensures.value)
     (numbers_small c.args.tech.now c.args.plan.now masters c.deref-7.result.now c.deref-8.result.now c.requires.planned of_all (c.deref-8.ensures.value ∙ c.in_ok-instances.ensures) c.in_ok-shapes.shapes.all.items
     c.in_ok-shapes.shapes.firsts.items made c.in_ok-pieces.pieces.all.items c.in_ok-pieces.pieces.starts.items have c.in_ok-numbers.numbers.items numbered c.requires.few)
@@ -150,10 +147,10 @@ returns c =
     let same : c.deref-2.result.now ≡ c.deref-8.result.now = c.deref-2.ensures.value ∙ sym c.deref-8.ensures.value in
     let made = subst (λ (z : List Instance). AreShapesOf masters z c.in_ok-shapes.shapes.all.items c.in_ok-shapes.shapes.firsts.items) same c.in_ok-shapes.ensures in
     let have = pieces_moved masters c.deref-3.result.now c.deref-7.result.now c.deref-4.result.now c.deref-8.result.now c.deref-5.result.now c.in_ok-shapes.shapes.all.items c.in_ok-pieces.pieces.all.items
-        c.in_ok-pieces.pieces.starts.items (c.deref-3.ensures.value ∙ sym c.deref-7.ensures.value) (c.deref-4.ensures.value ∙ sym c.deref-8.ensures.value) c.deref-5.ensures.value c.in_ok-pieces.ensures in
+    c.in_ok-pieces.pieces.starts.items (c.deref-3.ensures.value ∙ sym c.deref-7.ensures.value) (c.deref-4.ensures.value ∙ sym c.deref-8.ensures.value) c.deref-5.ensures.value c.in_ok-pieces.ensures in
     let is : c.deref-9.result.now ≡ map own_of c.in_ok-pieces.pieces.all.items = c.deref-9.ensures.value ∙ (c.in_ok-owners.ensures ∙ ap (λ (ps : List Placed). map own_of ps) c.deref-6.ensures.value) in
     let numbered = numbers_moved c.args.plan.now c.deref-7.result.now c.deref-7.result.now c.deref-8.result.now c.deref-8.result.now c.deref-9.result.now (map own_of c.in_ok-pieces.pieces.all.items) c.in_ok-numbers.numbers.items
-        refl refl is c.in_ok-numbers.ensures in
+    refl refl is c.in_ok-numbers.ensures in
     let places : map place_of c.from_vec.result ≡ map stand_of c.in_ok-pieces.pieces.all.items =
     ap (λ (ps : List Piece). map place_of ps) c.from_vec.ensures ∙ (c.in_ok-netted.ensures.places ∙ ap (λ (ps : List Placed). map stand_of ps) c.deref-10.ensures.value) in
     let named : nets_of c.from_vec.result ≡ c.in_ok-numbers.numbers.items = ap (λ (ps : List Piece). nets_of ps) c.from_vec.ensures ∙ (c.in_ok-netted.ensures.nets ∙ c.deref-11.ensures.value) in

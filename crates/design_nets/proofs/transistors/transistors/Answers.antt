@@ -1,4 +1,4 @@
-use Rattle.std.proofs.Common.{◌≡◌, ℕ, ◌+◌, ◌<◌, List, [], length, get_or, refl, sym, subst, ap, ◌∙◌, arith}
+use Rattle.std.proofs.Common.{◌≡◌, ℕ, ◌+◌, ◌<◌, List, length, get_or, refl, sym, subst, ap, ◌∙◌, arith}
 use Rattle.std.proofs.lemmas.List.{get_or_read}
 use Rattle.cell_model.specs.declared.cell.Cell.{Cell}
 use Rattle.sym_items.specs.declared.items.Item.{Item}
@@ -10,7 +10,7 @@ use Rattle.design_nets.specs.Shapes.{no_shape}
 use Rattle.design_nets.specs.Transistors.{IsFetItem, cell_shown}
 use Rattle.plan_model.specs.Plan.{grids_of}
 use Rattle.design_nets.proofs.FetReads.{seen}
-use Rattle.design_nets.proofs.Crossed.{AreCrossedBelow, none_crossed, one_crossed, one_passed, all_crossed, none_shown, cell_read}
+use Rattle.design_nets.proofs.Crossed.{AreCrossedBelow, one_crossed, one_passed, all_crossed, none_shown, cell_read}
 use Rattle.design_nets.proofs.Shown.{shapes_counted}
 use Rattle.design_nets.proofs.transistors.transistors.Goals as goal
 use Rattle.design_nets.proofs.transistors.transistors.Goals.{in-Some+in_ok-push, in_default}
@@ -42,7 +42,7 @@ offset_bounds-as_slice-item c =
     let lt = among c.args.shapes.now c.loop-k.k c.len-k-end.result c.loop-k-test.true c.len-k-end.ensures in
     let one_is = get_or_read c.args.shapes.now.all.items c.loop-k.k c.index.result.now lt c.index.ensures no_shape in
     let within = (cell_read c.args.tech.now c.args.plan.now c.args.masters.now c.args.layouts.now c.args.calls.now c.args.shapes.now c.requires.laid_out c.loop-k.k lt c.index.result.now c.index-masters-calls.result c.as_slice.result.now
-        no_item one_is c.index-masters-calls.is c.as_slice.ensures).2 in
+    no_item one_is c.index-masters-calls.is c.as_slice.ensures).2 in
     omega (arith, within)
 
 pub bounds-as_slice-item : goal.bounds-as_slice-item
@@ -57,7 +57,7 @@ transistor_at-requires-clause-fet c =
     let lt = among c.args.shapes.now c.loop-k.k c.len-k-end.result c.loop-k-test.true c.len-k-end.ensures in
     let one_is = get_or_read c.args.shapes.now.all.items c.loop-k.k c.index.result.now lt c.index.ensures no_shape in
     let r = cell_read c.args.tech.now c.args.plan.now c.args.masters.now c.args.layouts.now c.args.calls.now c.args.shapes.now c.requires.laid_out c.loop-k.k lt c.index.result.now c.index-masters-calls.result c.as_slice.result.now no_item
-        one_is c.index-masters-calls.is c.as_slice.ensures in
+    one_is c.index-masters-calls.is c.as_slice.ensures in
     subst (λ (i : Item). IsFetItem (cell_shown c.args.plan.now c.args.masters.now c.args.shapes.now c.loop-k.k) i c.in-Some.fet) r.1
     (subst (λ (z : Cell). IsFetItem z (get_or c.as_slice.result.now c.index.result.now.item no_item) c.in-Some.fet) r.0 c.in-Some.ensures.some)
 
@@ -78,7 +78,7 @@ loop-k-preserved c =
           let one_is = get_or_read c.args.shapes.now.all.items k c.index.result.now lt c.index.ensures no_shape in
           let r = cell_read tech plan masters layouts c.args.calls.now c.args.shapes.now c.requires.laid_out k lt c.index.result.now c.index-masters-calls.result c.as_slice.result.now no_item one_is c.index-masters-calls.is c.as_slice.ensures in
           let none = none_shown tech plan masters layouts c.args.calls.now c.args.shapes.now c.requires.laid_out k lt c.index-masters-calls.result.cell (get_or c.as_slice.result.now c.index.result.now.item no_item) r.0 r.1
-              w.in_default.ensures.none in
+          w.in_default.ensures.none in
           subst P (sym (ap (λ v. v.items) w.all-is)) (one_passed tech plan masters layouts k c.loop-k.all.items c.loop-k.invariant none))
     ]
 
