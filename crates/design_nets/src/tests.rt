@@ -4,24 +4,34 @@ ghost use Rattle.expand.specs.Items.{AreItems};
 ghost use Rattle.design_nets.specs.Worked as worked;
 
 use crate::stick_netlist;
-use cell_model::Cell;
+use cell_model::{Cell, Node, NodeKind};
 use cell_nets::nets;
 use expand::{Master, items_of};
 use lam_list::Seq;
-use net_extract::{Device, Piece};
+use net_extract::{Device, Part, Piece};
 use plan_model::{Plan, PlanGrid, PlanRow};
-use rule_table::Tech;
+use rule_table::{Layer, Tech};
 use std::alloc::{AllocError, Global};
 use std::test::Fail;
 use stick_lex::Text;
 use sym_items::Coords;
 
+// One joint of metal.
 fn cell(alloc: Global) -> Result<Cell, AllocError>
     ensures { IfOk result (λ cell. cell ≡ worked.cell) }
 {
+    let joint = Node {
+        name: Text::new(alloc, b"")?,
+        kind: NodeKind::Joint {
+            layer: Layer::Metal,
+            width: 6,
+        },
+        col: 0,
+        row: 0,
+    };
     Ok(Cell {
         name: Text::new(alloc, b"")?,
-        nodes: Seq::from_vec(Vec::new(alloc)),
+        nodes: Seq::from_vec(vec![in alloc; joint]?),
         wires: Seq::from_vec(Vec::new(alloc)),
         ports: Seq::from_vec(Vec::new(alloc)),
         limits: Seq::from_vec(Vec::new(alloc)),
@@ -63,22 +73,26 @@ fn layout(alloc: Global) -> Result<Coords, AllocError>
     ensures { IfOk result (λ layout. layout ≡ worked.layout) }
 {
     Ok(Coords {
-        x: Seq::from_vec([0i64, 24].to_vec(alloc)?),
-        y: Seq::from_vec([0i64, 24].to_vec(alloc)?),
+        x: Seq::from_vec([0i64, 24, 12].to_vec(alloc)?),
+        y: Seq::from_vec([0i64, 24, 12].to_vec(alloc)?),
     })
 }
 
 #[test]
-fn an_empty_cell_has_no_nets(rt: HostRuntime) -> Result<(), Fail> {
+fn a_joint_is_one_piece(rt: HostRuntime) -> Result<(), Fail> {
     let alloc = rt.alloc();
     let tech = Tech::shipped();
     let masters = [master(alloc, &tech)?];
     let layouts = [layout(alloc)?];
     let list = stick_netlist(alloc, &tech, &plan(alloc)?, &masters, &layouts)?;
-    let no_pieces: [Piece; 0] = [];
+    let piece = Piece {
+        box_no: 0,
+        part: Part::Whole,
+        net: 0,
+    };
     let no_devices: [Device; 0] = [];
-    assert_eq!(rt; list.pieces.as_slice(), no_pieces.as_slice());
-    assert_eq!(rt; list.nets, 0);
+    assert_eq!(rt; list.pieces.as_slice(), [piece].as_slice());
+    assert_eq!(rt; list.nets, 1);
     assert_eq!(rt; list.devices.as_slice(), no_devices.as_slice());
     Ok(())
 }
