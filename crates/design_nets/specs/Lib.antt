@@ -7,3 +7,4 @@ pub mod Meetings
 pub mod Joining
 pub mod Linking
 pub mod Transistors
+pub mod Worked

@@ -17,6 +17,8 @@ mod owners;
 mod pieces;
 mod shapes;
 mod sticks;
+#[cfg(test)]
+mod tests;
 mod transistors;
 
 pub use sticks::stick_netlist;
