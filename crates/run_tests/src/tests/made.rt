@@ -147,14 +147,10 @@ const MORE_BOXES: Case = Case {
 #[test]
 fn grids_of_too_many_boxes_are_too_large(rt: HostRuntime) -> Result<(), Fail> {
     let alloc = rt.alloc();
-    for (rest, case) in [
-        ("end\n", &MOST_BOXES),
-        ("end\ngrid h\nrow b\nend\n", &MORE_BOXES),
-    ] {
-        let text = columns(alloc, rest)?;
-        assert_made(&rt, alloc, case, &text, case.report)?;
-    }
-    Ok(())
+    let most = columns(alloc, "end\n")?;
+    assert_made(&rt, alloc, &MOST_BOXES, &most, MOST_BOXES.report)?;
+    let more = columns(alloc, "end\ngrid h\nrow b\nend\n")?;
+    assert_over(&rt, alloc, &MORE_BOXES, "d", &more)
 }
 
 // Five by five points: on each a metal joint, a poly joint, a diffusion contact or nothing, by the bits of the number.
@@ -183,7 +179,7 @@ const Y_FIRST: Case = Case {
     ..COMPACT
 };
 
-// The numbers are those of a program of its own, which tries all pairs of parts, and for each pair all parts between.
+// The numbers are those that bench/kept_pairs.py counts, which tries all pairs of items, and for each all items between.
 #[test]
 fn generated_cells_keep_the_pairs_that_nothing_shadows(rt: HostRuntime) -> Result<(), Fail> {
     let alloc = rt.alloc();
