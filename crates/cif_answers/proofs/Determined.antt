@@ -23,7 +23,7 @@ use Rattle.cif_answers.specs.declared.fault.TextFault.{TextFault}
 use Rattle.cif_answers.specs.declared.fault.TextFault.TheVariants.{Cif, TooMany, NotProper, Broken, OutOfMemory}
 use Rattle.cif_answers.specs.Texts.{HasBoxes, HasTooManyBoxes, HasNetlist, HasVerdict, RefusesNetlist, RefusesVerdict, AnswersAreDetermined}
 use Rattle.cif_answers.proofs.SameBoxes.{same_boxes}
-use Rattle.cif_answers.proofs.SameCrossings.{crossings_same}
+use Rattle.flat_check.proofs.SameCrossings.{crossings_same}
 
 -- ---- boxes
 

@@ -1,5 +1,3 @@
 mod Determined
 mod InRange
 mod SameBoxes
-mod SameCrossings
-mod SameLists

@@ -9,11 +9,11 @@ use Rattle.compact_run.specs.declared.status.Side2.TheVariants as side
 use Rattle.compact_run.specs.declared.status.Side2.TheVariants.{Output, Report}
 use Rattle.compact_run.specs.declared.status.Status.{Status}
 use Rattle.compact_run.specs.declared.status.Status.TheVariants as status
-use Rattle.run_words.specs.Words.{Command, compact, check, extract, fmt, bench, command_of}
+use Rattle.run_words.specs.Words.{Command, compact, check, extract, fmt, command_of}
 use Rattle.compact_run.specs.declared.cif.CifJob.TheVariants.{Extract, Check}
 use Rattle.compact_run.specs.Refusal.{line_of}
-use Rattle.compact_run.specs.Fetches.{IsRefusal, AsksFor, AsksThrough, file_of}
-use Rattle.compact_run.specs.Answers.{IsAnswer, compacted, told, formatted, refused, output_failed, report_failed, WordsWrite, RefusesWords, Writes, Reports, Tells, IsUntouched, write_fault_line}
+use Rattle.compact_run.specs.Fetches.{IsRefusal, IsCounted, AsksFor, AsksThrough, file_of}
+use Rattle.compact_run.specs.Answers.{IsAnswer, compacted, told, formatted, refused, output_failed, report_failed, WordsWrite, RefusesWords, IsFree, NothingRefuses, Writes, Reports, Tells, IsUntouched, write_fault_line}
 
 -- an answer, and what it left of the output and the report
 abbrev pub Answered : List Bytes → Files → Status → Option Bytes → Option Bytes → Option Bytes → Option Bytes → ℕ → ℕ → Type 0
@@ -38,7 +38,6 @@ done_by words files ended output report (Some (compact design tech axes split)) 
 done_by words files ended output report (Some (check cif tech)) is e writes = told Check cif tech is e writes.0 writes.1
 done_by words files ended output report (Some (extract cif tech)) is e writes = told Extract cif tech is e writes.0 writes.1
 done_by words files ended output report (Some (fmt design)) is e writes = formatted design is e writes.0 writes.1
-done_by words files ended output report (Some (bench n)) is e writes = absurd writes
 
 pub ends_written : (words : List Bytes) (files : Files) (ended : Status) (out_old out_new told_old told_new : Option Bytes) (faults_old faults_new : ℕ) (output report : Bytes)
     → (ended ≡ status.Done) ⊎ ((ended ≡ status.WriteFault Output) ⊎ (ended ≡ status.WriteFault Report))
@@ -104,3 +103,22 @@ asks_for_all None ended old new how asks = asks
 asks_for_all (Some c) ended old new how (inl through) =
     let P : Option File → Type 0 = λ file. AsksThrough file c old new in inl (subst P (sym (through_design ended how)) through)
 asks_for_all (Some c) ended old new how (inr p) = absurd (done_has_memory p.0)
+
+-- ---- where nothing refuses the words
+
+-- what may come whatever they are is then want of memory
+free_is : (ended : Status) → IsFree ended → ((f : File) → ended ≡ status.ReadFault f → ⊥) → ended ≡ status.OutOfMemory
+free_is status.OutOfMemory free read = refl
+free_is (status.ReadFault file) free read = absurd (read file refl)
+free_is other free read = absurd free
+
+pub ends_free : (c : Option Command) (files : Files) (ended : Status) (own : Bytes) (old new : ℕ) → NothingRefuses c files → RefusesWords c files ended own → IsCounted old new ended → (Rose old new → ⊥)
+    → (ended ≡ status.Done) ⊎ (ended ≡ status.OutOfMemory)
+ends_free c files ended own old new none why counted still = inr (free_is ended (none ended own why) (λ f e. still (counted f e)))
+
+-- and a stream that took all has no fault
+pub ends_done : (ended : Status) → (ended ≡ status.Done) ⊎ ((ended ≡ status.WriteFault Output) ⊎ (ended ≡ status.WriteFault Report)) → (ended ≡ status.WriteFault Output → ⊥) → (ended ≡ status.WriteFault Report → ⊥)
+    → (ended ≡ status.Done) ⊎ (ended ≡ status.OutOfMemory)
+ends_done ended (inl e) no_output no_report = inl e
+ends_done ended (inr (inl e)) no_output no_report = absurd (no_output e)
+ends_done ended (inr (inr e)) no_output no_report = absurd (no_report e)

@@ -14,3 +14,4 @@ mod OneMaster
 mod OnePlan
 mod OneOutput
 mod OneAnswer
+mod FewParts

@@ -14,14 +14,14 @@ use Rattle.compact_run.specs.declared.status.File.TheVariants.{Design, Technolog
 use Rattle.compact_run.specs.declared.status.Side2.TheVariants as side
 use Rattle.compact_run.specs.declared.status.Status.{Status}
 use Rattle.compact_run.specs.declared.status.Status.TheVariants as status
-use Rattle.run_words.specs.Words.{Command, compact, check, extract, fmt, bench, command_of}
+use Rattle.run_words.specs.Words.{Command, compact, check, extract, fmt, command_of}
 use Rattle.compact_run.specs.declared.cif.CifJob.{CifJob}
 use Rattle.compact_run.specs.declared.cif.CifJob.TheVariants.{Extract, Check}
 use Rattle.compact_run.specs.FaultLines.{stick_line, tech_line}
 use Rattle.compact_run.specs.Refusal.{line_of}
 use Rattle.compact_run.specs.Plans.{AreMastersOf}
 use Rattle.compact_run.specs.Designs.{CompactsTo, RefusesDesign, no_masters, no_masks as not_laid_out}
-use Rattle.compact_run.specs.Answers.{IsTechnology, IsDesign, RefusesTechnology, RefusesSticks, IsCompacted, RefusesCompact, no_technology, no_design, no_masks, IsTold, RefusesJob, no_rules, no_cif, command_for, RefusesWords, IsAnswer, compacted, told, formatted, refused, output_failed, report_failed}
+use Rattle.compact_run.specs.Answers.{IsTechnology, IsDesign, RefusesTechnology, RefusesSticks, IsCompacted, RefusesCompact, no_technology, no_design, no_masks, IsTold, RefusesJob, no_rules, no_cif, RefusesWords, IsAnswer, compacted, told, formatted, refused, output_failed, report_failed}
 use Rattle.compact_run.specs.OneAnswer.{IsDecided, HasOneAnswer}
 use Rattle.compact_run.proofs.OneFile.{IsReadAs, IsNotRead, long, faulty, read_once, not_both, refused_once}
 use Rattle.compact_run.proofs.OneMaster.{same_tech, one_masters, Comes, laid_out, comes_refused, comes_once, AreSame}
@@ -171,7 +171,6 @@ Does (Some (compact design tech axes split)) files ended output report = Compact
 Does (Some (check cif tech)) files ended output report = Jobs Check cif tech files ended output report
 Does (Some (extract cif tech)) files ended output report = Jobs Extract cif tech files ended output report
 Does (Some (fmt design)) files ended output report = Formats design files ended output report
-Does (Some (bench n)) files ended output report = ⊥
 
 does_once : OneOutput → (c : Option Command) (files : Files) (e f : Status) (o p r s : Bytes) → Does c files e o r → Does c files f p s → AreSame e f o p r s
 does_once law None files e f o p r s a b = (a.0 ∙ sym b.0, a.1 ∙ sym b.1, a.2 ∙ sym b.2)
@@ -179,7 +178,6 @@ does_once law (Some (compact design tech axes split)) files e f o p r s a b = co
 does_once law (Some (check cif tech)) files e f o p r s a b = jobs_once law Check cif tech files e f o p r s a b
 does_once law (Some (extract cif tech)) files e f o p r s a b = jobs_once law Extract cif tech files e f o p r s a b
 does_once law (Some (fmt design)) files e f o p r s a b = formats_once design files e f o p r s a b
-does_once law (Some (bench n)) files e f o p r s a b = absurd a
 
 does_refused : (c : Option Command) (files : Files) (ended : Status) (own : Bytes) → RefusesWords c files ended own → IsDecided ended → Does c files ended [] (line_of ended own)
 does_refused None files status.OutOfMemory own why d = absurd d
@@ -189,7 +187,6 @@ does_refused (Some (compact design tech axes split)) files ended own why d = com
 does_refused (Some (check cif tech)) files ended own why d = jobs_refused Check cif tech files ended own why d
 does_refused (Some (extract cif tech)) files ended own why d = jobs_refused Extract cif tech files ended own why d
 does_refused (Some (fmt design)) files ended own why d = not_read (sticks_refused files design ended own why d) refl
-does_refused (Some (bench n)) files ended own why d = absurd (subst IsDecided why d)
 
 -- a status that is decided is not that of a failed stream
 decided : (ended other : Status) → ended ≡ other → IsDecided ended → IsDecided other

@@ -22,7 +22,7 @@ use Rattle.compact_run.specs.declared.status.Status.TheVariants as status
 use Rattle.compact_run.specs.declared.status.What.TheVariants.{Boxes}
 use Rattle.compact_run.specs.declared.cif.CifJob.{CifJob}
 use Rattle.compact_run.specs.declared.cif.CifJob.TheVariants.{Extract, Check}
-use Rattle.run_words.specs.Words.{Command, compact, check, extract, fmt, bench, command_of}
+use Rattle.run_words.specs.Words.{Command, compact, check, extract, fmt, command_of}
 use Rattle.compact_run.specs.Fetches.{HasFile, IsLongFile}
 use Rattle.compact_run.specs.FaultLines.{stick_line, tech_line, cif_line, improper_line, broken_line}
 use Rattle.compact_run.specs.Refusal.{line_of}
@@ -160,7 +160,16 @@ RefusesWords (Some (compact design tech axes split)) files ended own = RefusesCo
 RefusesWords (Some (check cif tech)) files ended own = RefusesJob Check cif tech files ended own
 RefusesWords (Some (extract cif tech)) files ended own = RefusesJob Extract cif tech files ended own
 RefusesWords (Some (fmt design)) files ended own = RefusesSticks design files ended own
-RefusesWords (Some (bench n)) files ended own = ended ≡ status.OutOfMemory
+
+-- this may come whatever the words and the files are: memory runs out, or a file can't be read
+abbrev pub IsFree : Status → Type 0
+IsFree status.OutOfMemory = Unit {0}
+IsFree (status.ReadFault file) = Unit {0}
+IsFree other = ⊥
+
+-- no other cause refuses the words
+abbrev pub NothingRefuses : Option Command → Files → Type 0
+NothingRefuses command files = (ended : Status) (own : Bytes) → RefusesWords command files ended own → IsFree ended
 
 -- what the words write into the output and into the report
 abbrev pub WordsWrite : Option Command → Files → Bytes → Bytes → Type 0
@@ -169,7 +178,6 @@ WordsWrite (Some (compact design tech axes split)) files output report = IsCompa
 WordsWrite (Some (check cif tech)) files output report = IsTold Check cif tech files output × (report ≡ [])
 WordsWrite (Some (extract cif tech)) files output report = IsTold Extract cif tech files output × (report ≡ [])
 WordsWrite (Some (fmt design)) files output report = IsFormatted design files output × (report ≡ [])
-WordsWrite (Some (bench n)) files output report = ⊥
 
 -- the text that an output holds in pieces
 abbrev pub text_of : Output → Bytes

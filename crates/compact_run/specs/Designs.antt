@@ -17,6 +17,7 @@ use Rattle.plan_model.specs.declared.plan.Plan.{Plan}
 use Rattle.plan_model.specs.Instances.{whole_width, whole_height}
 use Rattle.plan_model.specs.Plan.{grids_of}
 use Rattle.pitch_join.specs.Masters.{master_at}
+use Rattle.flat_check.specs.Breaks.{KeepRules}
 use Rattle.written_masks.specs.Written.{HasSticksNets}
 use Rattle.grid_rules.specs.Rules.{AllKeepSpacing}
 use Rattle.pass_run.specs.declared.step.Step.{Step}
@@ -34,7 +35,7 @@ use Rattle.cif_text.specs.Cutting.{AreCut}
 use Rattle.compact_run.specs.declared.status.What.TheVariants.{Edges, Extent}
 use Rattle.compact_run.specs.declared.status.Status.{Status}
 use Rattle.compact_run.specs.declared.status.Status.TheVariants as status
-use Rattle.compact_run.specs.Limits.{most_extent}
+use Rattle.compact_run.specs.Limits.{most_boxes, most_cif_bytes, most_extent}
 use Rattle.compact_run.specs.Clash.{clash_text}
 use Rattle.compact_run.specs.Plans.{AreMastersOf, RefusesPlan}
 
@@ -94,14 +95,18 @@ masks_text tech plan masters steps = flat_map (λ part. part) (masks_parts tech 
 
 -- The passes of all masters, whose last layouts are not too large together. Theorems say that the walks of each pass are critical paths, that no
 -- pass on an axis that has had one makes a value grow, that after each pass every item has a box that is as long as it has to be and bound items
--- of a master keep their spacing; that at the end every two bound items of all instances keep theirs; and that the text of the masks means boxes that show the
--- items of all instances, one by one, from which the netlist of the sticks is extracted.
+-- of a master keep their spacing; that at the end every two bound items of all instances keep theirs; that the text of the masks means boxes that show the
+-- items of all instances, one by one, from which the netlist of the sticks is extracted; and that these boxes keep every rule of the technology. They and
+-- the text are not too large to be read again.
 pub record ArePlaced (tech : Tech) (plan : Plan) (masters : List Master) (axes : List Axis) (steps : List Step) : Type 0 where
   pub made : ArePassesOn tech plan masters axes steps
   pub sound : AreSound tech plan masters [] (starts_of tech masters) steps
   pub within : IsWithin tech plan (last_layouts tech masters steps)
   pub spaced : AllKeepSpacing tech plan masters (last_layouts tech masters steps)
   pub nets : HasSticksNets tech plan masters (last_layouts tech masters steps) (masks_text tech plan masters steps)
+  pub rules : KeepRules tech nets.boxes
+  pub few : length nets.boxes ≤ most_boxes
+  pub short : length (masks_text tech plan masters steps) ≤ most_cif_bytes
 
 -- the name of a master has no semicolon
 abbrev pub HasPlainName : Master → Type 0

@@ -10,3 +10,4 @@ pub mod Answers
 pub mod FaultLines
 pub mod Fetches
 pub mod OneAnswer
+pub mod Checked

@@ -62,12 +62,7 @@ fn refusal_for(alloc: Global, fault: TextFault) -> Result<Refusal, AllocError>
 }
 
 // The output over a CIF text, or why there is none.
-fn output_over(
-    alloc: Global,
-    job: CifJob,
-    tech: &Tech,
-    text: &[u8],
-) -> Result<Vec<u8>, Refusal>
+fn output_over(alloc: Global, job: CifJob, tech: &Tech, text: &[u8]) -> Result<Vec<u8>, Refusal>
     requires { length text.now ≤ 2 ^ 26 }
     ensures output { IfOk result (λ output. HasOutput job tech.now text.now output.items) }
     ensures refused { IfErr result (Refused (RefusesText job tech.now text.now)) }

@@ -10,12 +10,11 @@ ghost use Rattle.compact_run.specs.Designs.{HasBothAxes};
 ghost use Rattle.compact_run.specs.Limits.{most_passes};
 ghost use Rattle.stick_print.specs.Canonical.{canonical};
 
-use crate::compact::compact;
 use crate::cif::{CifJob, output_of_file};
+use crate::compact::compact;
 use crate::output::Output;
 use crate::reading::{read_design, read_technology};
 use crate::refusal::Refusal;
-use crate::status::Status;
 use lam_geom::Axis;
 use lam_io::Shelf;
 use run_words::{Command, read_words};
@@ -119,6 +118,5 @@ pub fn answer<'a, S: Shelf>(
         Command::Check { cif, tech } => cif_files(alloc, shelf, CifJob::Check, cif, tech),
         Command::Extract { cif, tech } => cif_files(alloc, shelf, CifJob::Extract, cif, tech),
         Command::Fmt { design } => fmt_file(alloc, shelf, design),
-        Command::Bench { n: _ } => Err(Refusal::from(Status::OutOfMemory)),
     }
 }

@@ -1,6 +1,7 @@
 //! The compaction of a design: the texts of its masks and of its passes.
 
-ghost use Rattle.std.specs.Prelude.{◌≡◌, ◌≤◌, All, length, map, IfOk, IfErr};
+ghost use Rattle.std.specs.Prelude.{◌≡◌, ◌≤◌, ◌^◌, All, length, map, IfOk, IfErr};
+ghost use Rattle.design_sizes.specs.Sizes.{names_in};
 ghost use Rattle.stick_parse.specs.Writable.{IsWritable};
 ghost use Rattle.lam_geom.specs.declared.boxes.Axis.TheVariants.{X, Y};
 ghost use Rattle.rule_table.specs.Technology.{widest_of};
@@ -63,6 +64,7 @@ pub fn compact(
     axes: &[Axis],
 ) -> Result<Output, Refusal>
     requires writable { IsWritable design.now }
+    requires few_names { names_in design.now ≤ 2 ^ 19 }
     requires both { HasBothAxes axes.now }
     requires few { length axes.now ≤ most_passes }
     ensures done { IfOk result (λ output. CompactsTo tech.now axes.now design.now (text_of output) output.report) }

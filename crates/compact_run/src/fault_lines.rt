@@ -3,8 +3,8 @@
 ghost use Rattle.std.specs.Prelude.{◌≡◌, ◌++◌, OnOk, IfOk};
 ghost use Rattle.compact_run.specs.FaultLines.{key_of, numbers_words, tech_words, tech_line, kind_word, stick_line, cif_word, cif_line, improper_line, broken_line};
 
-use flat_check::Break;
 use cif_read::{CifFault, CifKind};
+use flat_check::Break;
 use rule_table::TechFault;
 use std::alloc::{AllocError, Global};
 use stick_lex::{Text, push_decimal};

@@ -2,6 +2,7 @@
 
 ghost use Rattle.lam_io.specs.Io.{Files};
 ghost use Rattle.run_words.specs.Words.{texts_of};
+ghost use Rattle.compact_run.specs.Checked.{MasksPassTheCheck};
 ghost use Rattle.compact_run.specs.OneAnswer.{HasOneAnswer};
 
 use cif_answers::{netlists_are_determined, verdicts_are_determined};
@@ -14,3 +15,8 @@ pub fn answers_are_determined<'a>(words: &'a [&'a str])
     netlists_are_determined();
     verdicts_are_determined();
 }
+
+/// A law, with nothing to run: where `compact` is done, `check` of what it wrote, with the same technology, is done too.
+pub fn masks_pass_the_check()
+    ensures { MasksPassTheCheck }
+{}

@@ -11,8 +11,9 @@ ghost use Rattle.plan_model.specs.Plan.{grids_of};
 ghost use Rattle.pitch_join.specs.Masters.{ArePlanned};
 ghost use Rattle.pass_run.specs.Laid.{StartsClean};
 ghost use Rattle.mask_out.specs.Pictures.{HaveBoxes, IsDrawable};
-ghost use Rattle.compact_run.specs.Limits.{most_passes};
+ghost use Rattle.compact_run.specs.Limits.{most_boxes, most_passes};
 ghost use Rattle.compact_run.specs.Refusals.{Refused};
+ghost use Rattle.written_masks.specs.Parts.{boxes_of_instances, HasFewParts};
 ghost use Rattle.written_masks.specs.Written.{AllStand};
 ghost use Rattle.compact_run.specs.Designs.{ArePlaced, HasBothAxes, HasPlainName, RefusesStart, RefusesMasters, last_layouts, passes_text};
 
@@ -23,13 +24,14 @@ use crate::status::Status;
 use coarse_grid::{find_clash, near_share_a_point, start, start_is_a_layout};
 use expand::{Master, master_is_lawful};
 use grid_rules::{all_keep_spacing, grids_are_aligned};
+use kept_rules::boxes_keep_rules;
 use lam_geom::Axis;
 use mask_out::wholes_bound_places;
 use pass_run::{Passes, run_passes};
 use plan_model::Plan;
 use rule_table::Tech;
 use std::alloc::Global;
-use written_masks::written_nets_are_the_sticks;
+use written_masks::{boxes_are_few, texts_are_short, written_nets_are_the_sticks};
 
 // Sees that the start layout of a master, which has this number, is clean.
 fn judge_start(alloc: Global, tech: &Tech, master: &Master, number: u32) -> Result<(), Refusal>
@@ -81,6 +83,8 @@ pub fn lay_out(
     requires few { length axes.now ≤ most_passes }
     requires named { All HasPlainName masters.now }
     requires stand { AllStand plan.now masters.now }
+    requires few_parts { HasFewParts plan.now masters.now }
+    requires few_boxes { boxes_of_instances plan.now masters.now ≤ most_boxes }
     ensures laid_out { IfOk result (λ passes. ArePlaced tech.now plan.now masters.now axes.now passes.steps) }
     ensures last { IfOk result (λ passes. passes.coords ≡ last_layouts tech.now masters.now passes.steps) }
     ensures report { IfOk result (λ passes. passes.report ≡ passes_text tech.now plan.now masters.now passes.steps) }
@@ -97,5 +101,8 @@ pub fn lay_out(
     judge_extent(tech, plan, layouts)?;
     wholes_bound_places(tech, plan, layouts);
     written_nets_are_the_sticks(tech, plan, masters, layouts);
+    boxes_keep_rules(tech, plan, masters, layouts);
+    boxes_are_few(tech, plan, masters, layouts);
+    texts_are_short(tech, plan, masters, layouts);
     Ok(passes)
 }

@@ -1,5 +1,6 @@
 // The top call of the program: from the words of a command line and the files that they name to masks, a report and a status.
-// Its contract for the layer above is that of `run`; `answers_are_determined` says that no two answers fit.
+// Its contract for the layer above is that of `run`; `answers_are_determined` says that no two answers fit, and `masks_pass_the_check` that
+// the masks pass the program's own check.
 #![tactic(auto)]
 
 mod cif;
@@ -21,6 +22,6 @@ mod refusal;
 mod status;
 mod top;
 
-pub use laws::answers_are_determined;
+pub use laws::{answers_are_determined, masks_pass_the_check};
 pub use status::{File, Side2, Status, What};
 pub use top::run;

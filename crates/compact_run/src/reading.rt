@@ -1,7 +1,8 @@
 //! Reading a technology and a design, each from its file.
 
-ghost use Rattle.std.specs.Prelude.{◌≡◌, ◌≤◌, Some, IfOk, IfErr};
+ghost use Rattle.std.specs.Prelude.{◌≡◌, ◌≤◌, ◌^◌, Some, IfOk, IfErr};
 ghost use Rattle.lam_io.specs.Io.{Telling};
+ghost use Rattle.design_sizes.specs.Sizes.{names_in};
 ghost use Rattle.stick_parse.specs.Writable.{IsWritable};
 ghost use Rattle.compact_run.specs.declared.status.File.TheVariants as file;
 ghost use Rattle.compact_run.specs.Fetches.{IsCounted, EndsOver, AsksOnce};
@@ -12,6 +13,7 @@ use crate::fault_lines::{stick_line, tech_line};
 use crate::fetch::fetch;
 use crate::refusal::Refusal;
 use crate::status::{File, Status};
+use design_sizes::names_are_few;
 use lam_io::Shelf;
 use rule_table::Tech;
 use std::alloc::Global;
@@ -45,6 +47,7 @@ pub fn read_technology<S: Shelf>(alloc: Global, shelf: &mut S, name: &str) -> Re
 pub fn read_design<S: Shelf>(alloc: Global, shelf: &mut S, name: &str) -> Result<Design, Refusal>
     ensures design { IfOk result (λ design. (t : Telling) → S.told shelf.old ≡ Some t → IsDesign t.files name.now design) }
     ensures writable { IfOk result IsWritable }
+    ensures few { IfOk result (λ design. names_in design ≤ 2 ^ 19) }
     ensures refused { IfErr result (λ r. (t : Telling) → S.told shelf.old ≡ Some t → Refused (RefusesSticks name.now t.files) r) }
     ensures over { IfErr result (λ r. EndsOver file.Design r.status) }
     ensures counted { IsCounted (S.faults shelf.old) (S.faults shelf.new) (ending_of result) }
@@ -53,7 +56,10 @@ pub fn read_design<S: Shelf>(alloc: Global, shelf: &mut S, name: &str) -> Result
 {
     let text = fetch(alloc, shelf, File::Design, name)?;
     match parse(alloc, &text) {
-        Ok(design) => Ok(design),
+        Ok(design) => {
+            names_are_few(&text, &design);
+            Ok(design)
+        }
         Err(ParseFault::Stick(fault)) => {
             let line = stick_line(alloc, fault)?;
             Err(Refusal {

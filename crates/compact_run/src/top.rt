@@ -1,11 +1,11 @@
 //! The top call.
 
-ghost use Rattle.std.specs.Prelude.{◌≡◌, ℕ, ◌≤◌, List, Some};
+ghost use Rattle.std.specs.Prelude.{◌≡◌, ◌⊎◌, ℕ, ◌≤◌, List, Some};
 ghost use Rattle.lam_io.specs.Io.{Telling, Rose};
 ghost use Rattle.compact_run.specs.declared.status.File.{File};
 ghost use Rattle.run_words.specs.Words.{command_of, texts_of};
 ghost use Rattle.compact_run.specs.Fetches.{IsUsage, AsksFor};
-ghost use Rattle.compact_run.specs.Answers.{IsAnswer, Writes, Tells, IsUntouched};
+ghost use Rattle.compact_run.specs.Answers.{IsAnswer, NothingRefuses, Writes, Tells, IsUntouched};
 
 use crate::command::answer;
 use crate::delivery::{refuse, write};
@@ -43,6 +43,11 @@ pub fn run<'a, S: Shelf, C: Sink, R: Sink>(
     // The files are as they were, and those of the command were asked for, each once, in order: the technology alone where that was refused,
     // else all; a front of them where memory ran out.
     ensures asked { AsksFor (command_of (texts_of words.now)) result (S.told shelf.old) (S.told shelf.new) }
+
+    // Where no cause refuses the words and no count rises, the call is done, unless memory runs out.
+    ensures complete { (t : Telling) → S.told shelf.old ≡ Some t → NothingRefuses (command_of (texts_of words.now)) t.files
+        → ¬ Rose (S.faults shelf.old) (S.faults shelf.new) → ¬ Rose (C.faults out.old) (C.faults out.new) → ¬ Rose (R.faults report.old) (R.faults report.new)
+        → (result ≡ Status.Done) ⊎ (result ≡ Status.OutOfMemory) }
 
     // The counts of faults never fall.
     ensures shelf_counts { S.faults shelf.old ≤ S.faults shelf.new }

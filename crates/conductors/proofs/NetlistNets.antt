@@ -219,8 +219,7 @@ nets_are_the_sticks tech plan masters layouts boxes done shapes = record {
   transistors = crossings_are tech plan masters layouts boxes done shapes;
   places = λ cs h. places_same tech plan masters layouts boxes done shapes cs (crossings_are tech plan masters layouts boxes done shapes cs h);
   joined = λ cs h nets are_nets i j li lj.
-      (let are = crossings_are tech plan masters layouts boxes done shapes cs h in
-      (
+      (let are = crossings_are tech plan masters layouts boxes done shapes cs h in (
         λ r. reaches_one tech plan masters layouts boxes done shapes cs are nets are_nets i j li lj r,
         λ one. one_reaches tech plan masters layouts boxes done shapes cs are nets are_nets i j one,
       ));

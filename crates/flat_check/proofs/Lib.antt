@@ -1,7 +1,14 @@
+pub mod Covered
 pub mod FacingPairs
+pub mod Firsts
 pub mod Grains
+pub mod Leasts
 pub mod NearAreas
 pub mod NearBroken
+pub mod Nearest
 pub mod OneChannel
+pub mod Orders
 pub mod PiecePairs
 pub mod SameCrossings
+pub mod Searches
+pub mod Shapes

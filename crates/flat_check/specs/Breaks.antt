@@ -1,5 +1,5 @@
 -- The rules of a technology on mask boxes, and where they are broken: over all boxes and all pairs of boxes. Lengths are in grains, half hundredths of a micron.
-use Rattle.std.specs.Prelude.{◌≡◌, ℕ, ◌<◌, ◌≤◌, ◌⊎◌, ℤ, ◌≤ℤ◌, ◌<ℤ◌, IsTrue, Option, Some, None, List, length, slice_get}
+use Rattle.std.specs.Prelude.{◌≡◌, ℕ, ◌<◌, ◌≤◌, ◌⊎◌, ℤ, ◌<ℤ◌, IsTrue, Option, Some, None, List, length, slice_get}
 use Rattle.lam_geom.specs.declared.boxes.Axis.{Axis}
 use Rattle.lam_geom.specs.declared.boxes.Axis.TheVariants.{X, Y}
 use Rattle.lam_geom.specs.declared.boxes.BoxXY.{BoxXY}

@@ -1,4 +1,5 @@
 pub mod Breaks
+pub mod Order
 pub mod PiecePairs
 pub mod Reaches
 pub mod Sheets

@@ -6,13 +6,18 @@
 #![tactic(auto)]
 
 mod channels;
+mod covers;
 mod first;
 mod lengths;
 mod nearness;
 mod pairs;
+mod partners;
 mod piece_pairs;
 mod rule;
 mod sheet;
+mod singles;
+#[cfg(test)]
+mod tests;
 
 pub use first::first_break;
 pub use rule::{Break, Rule};

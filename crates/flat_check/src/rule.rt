@@ -1,6 +1,7 @@
 //! Rules and breaks.
 ghost use Rattle.std.specs.Prelude.{◌≡◌};
 ghost use Rattle.flat_check.specs.Breaks.{number_of};
+ghost use Rattle.flat_check.specs.Order.{next_of};
 
 /// A rule on mask boxes, after Mead and Conway. Nets are those that the boxes make.
 #[derive(Clone, Copy, Debug, PartialEq, Eq)]
@@ -50,6 +51,26 @@ impl Rule {
             Rule::CutToChannel => 10,
             Rule::ImplantToChannel => 11,
             Rule::WindowToChannel => 12,
+        }
+    }
+
+    /// The rule behind this one, if there is one.
+    pub fn next(self) -> Option<Rule>
+        ensures { result ≡ next_of self }
+    {
+        match self {
+            Rule::Width => Some(Rule::CutSize),
+            Rule::CutSize => Some(Rule::ProperCrossing),
+            Rule::ProperCrossing => Some(Rule::PolyToDiffusion),
+            Rule::PolyToDiffusion => Some(Rule::CutCover),
+            Rule::CutCover => Some(Rule::MetalSpacing),
+            Rule::MetalSpacing => Some(Rule::PolySpacing),
+            Rule::PolySpacing => Some(Rule::DiffusionSpacing),
+            Rule::DiffusionSpacing => Some(Rule::CutSpacing),
+            Rule::CutSpacing => Some(Rule::CutToChannel),
+            Rule::CutToChannel => Some(Rule::ImplantToChannel),
+            Rule::ImplantToChannel => Some(Rule::WindowToChannel),
+            Rule::WindowToChannel => None,
         }
     }
 }

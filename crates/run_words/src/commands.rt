@@ -44,11 +44,6 @@ pub enum Command<'a> {
         /// The design's file.
         design: &'a str,
     },
-    /// `bench N`: a design made from a number, compacted and extracted.
-    Bench {
-        /// The number: 1 to 64.
-        n: u32,
-    },
 }
 
 /// Why words are no command.

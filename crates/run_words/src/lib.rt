@@ -6,8 +6,8 @@
 //! The first word picks the command. The words behind it are read by the crate `clap`, and the definition cites what
 //! `clap` itself says that it finds in them. So its conventions hold:
 //!
-//! - `--tech FILE` and `--tech=FILE` mean the same, before or behind the operand (the design, the CIF text, or the number
-//!   of `bench`). An option stands once at most. Names are not abbreviated, and none has a letter of its own.
+//! - `--tech FILE` and `--tech=FILE` mean the same, before or behind the operand (the design or the CIF text). An
+//!   option stands once at most. Names are not abbreviated, and none has a letter of its own.
 //! - An operand, and a value that is a word of its own, does not begin with a dash, but may be a dash alone. Behind `=` a
 //!   value may be anything: `--tech=` gives an empty name, and `--tech=-t` the name `-t`.
 //! - `--` ends the options: what stands behind it is an operand, whatever it begins with. So `fmt -- -d` formats the design

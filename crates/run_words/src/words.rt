@@ -1,7 +1,7 @@
 //! Reading a command line.
 
 ghost use Rattle.std.specs.Prelude.{◌≡◌, Some, None, Err, IfOk};
-ghost use Rattle.run_words.specs.Words.{bench_of, check_of, command_of, compact_of, extract_of, fmt_of, texts_of};
+ghost use Rattle.run_words.specs.Words.{check_of, command_of, compact_of, extract_of, fmt_of, texts_of};
 ghost use Rattle.run_words.specs.Commands.{command_from, HasPassList};
 ghost use Rattle.run_words.specs.declared.commands.WordsFault.TheVariants.{Usage};
 
@@ -65,16 +65,6 @@ fn read_fmt<'a>(alloc: Global, words: &'a [&'a str]) -> Result<Command<'a>, Word
     })
 }
 
-fn read_bench<'a>(alloc: Global, words: &'a [&'a str]) -> Result<Command<'a>, WordsFault>
-    ensures command { IfOk result (λ command. bench_of (texts_of words.now) ≡ Some (command_from command)) }
-    ensures passes { IfOk result HasPassList }
-    ensures usage { result ≡ Err Usage → bench_of (texts_of words.now) ≡ None }
-{
-    let found = lines::only_operand(alloc, words)?;
-    let n = count(text_of(&found, "operand")).ok_or(WordsFault::Usage)?;
-    Ok(Command::Bench { n })
-}
-
 /// The command that the words are, which are those behind the program's name. `Usage` comes exactly where they are no
 /// command. Want of memory is the one other refusal.
 pub fn read_words<'a>(alloc: Global, words: &'a [&'a str]) -> Result<Command<'a>, WordsFault>
@@ -93,8 +83,6 @@ pub fn read_words<'a>(alloc: Global, words: &'a [&'a str]) -> Result<Command<'a>
                 read_extract(alloc, words)
             } else if *command == "fmt" {
                 read_fmt(alloc, words)
-            } else if *command == "bench" {
-                read_bench(alloc, words)
             } else {
                 Err(WordsFault::Usage)
             }

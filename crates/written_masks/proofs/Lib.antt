@@ -4,3 +4,10 @@ pub mod Symbols
 pub mod Pictures
 pub mod Boxes
 pub mod Nets
+pub mod Sums
+pub mod InstanceSums
+pub mod InstanceBoxes
+pub mod ShortLines
+pub mod ShortSymbols
+pub mod ShortTexts
+pub mod Listed

@@ -1,6 +1,15 @@
 use Rattle.std.proofs.lemmas.Result.{err_from_is_err_and}
 use Rattle.compact_run.specs.Designs.{no_masters, no_masks}
+use Rattle.compact_run.proofs.FewParts.{few_parts, few_in_all}
 use Rattle.compact_run.proofs.compact.compact.Goals as goal
+
+pub lay_out-requires-clause-few_parts : goal.lay_out-requires-clause-few_parts
+lay_out-requires-clause-few_parts c =
+    rw c.deref.ensures.value (few_parts c.args.tech.now c.args.design.now c.in_ok-planned.planned.plan _ c.in_ok-masters.ensures.of_design c.requires.few_names c.in_ok-masters.ensures.named)
+
+pub lay_out-requires-clause-few_boxes : goal.lay_out-requires-clause-few_boxes
+lay_out-requires-clause-few_boxes c =
+    rw c.deref.ensures.value (few_in_all c.args.tech.now c.args.design.now c.in_ok-planned.planned.plan _ c.in_ok-masters.ensures.of_design)
 
 pub returns-in_err-planned-clause-refused : goal.returns-in_err-planned-clause-refused
 returns-in_err-planned-clause-refused c =

@@ -1,4 +1,4 @@
-use Rattle.std.proofs.Common.{List, length, ap, ◌∙◌, subst, arith}
+use Rattle.std.proofs.Common.{◌≡◌, ◌^◌, ◌≤◌, List, length, ap, ◌∙◌, subst, arith}
 use Rattle.std.proofs.lemmas.Int.{ints}
 use Rattle.std.proofs.lemmas.Result.{err_from_is_err_and}
 use Rattle.lam_geom.specs.declared.boxes.Axis.TheVariants.{X, Y}
@@ -6,6 +6,10 @@ use Rattle.rule_table.proofs.Margins.{widest_positive}
 use Rattle.rule_table.proofs.Sound.{sound}
 use Rattle.sym_items.specs.declared.items.Coords.{Coords}
 use Rattle.grid_rules.specs.Rules.{AllKeepSpacing}
+use Rattle.lam_geom.specs.declared.boxes.MaskBox.{MaskBox}
+use Rattle.conductors.specs.Shapes.{AreShapes}
+use Rattle.flat_check.specs.Breaks.{KeepRules}
+use Rattle.written_masks.specs.Parts.{boxes_of_instances}
 use Rattle.written_masks.specs.Written.{HasSticksNets, text_of_layouts}
 use Rattle.compact_run.specs.Designs.{IsWithin}
 use Rattle.compact_run.proofs.Layouts.{stopped, too_large, finished, sizes_above, boxed, within_length}
@@ -30,6 +34,19 @@ pub written_nets_are_the_sticks-requires-clause-finished : goal.written_nets_are
 written_nets_are_the_sticks-requires-clause-finished c =
     let q = c.in_ok-passes.ensures in
     finished c.args.tech.now c.args.plan.now c.args.masters.now c.args.axes.now _ _ c.as_slice-layouts.ensures c.requires.both q.placed q.met
+
+pub boxes_keep_rules-requires-clause-finished : goal.boxes_keep_rules-requires-clause-finished
+boxes_keep_rules-requires-clause-finished c =
+    let q = c.in_ok-passes.ensures in
+    finished c.args.tech.now c.args.plan.now c.args.masters.now c.args.axes.now _ _ c.as_slice-layouts.ensures c.requires.both q.placed q.met
+
+pub texts_are_short-requires-clause-finished : goal.texts_are_short-requires-clause-finished
+texts_are_short-requires-clause-finished c =
+    let q = c.in_ok-passes.ensures in
+    finished c.args.tech.now c.args.plan.now c.args.masters.now c.args.axes.now _ _ c.as_slice-layouts.ensures c.requires.both q.placed q.met
+
+pub boxes_are_few-requires-clause-counted : goal.boxes_are_few-requires-clause-counted
+boxes_are_few-requires-clause-counted c = ap (λ (cs : List Coords). length cs) c.as_slice-layouts.ensures ∙ c.in_ok-passes.ensures.laid.counted
 
 pub judge_extent-requires-clause-widths : goal.judge_extent-requires-clause-widths
 judge_extent-requires-clause-widths c = sizes_above c.args.tech.now c.args.masters.now _ _ c.as_slice-layouts.ensures c.in_ok-passes.ensures.laid X
@@ -63,6 +80,17 @@ written_nets_are_the_sticks-requires-clause-fit c =
       height = within.height;
     }
 
+pub texts_are_short-requires-clause-fit : goal.texts_are_short-requires-clause-fit
+texts_are_short-requires-clause-fit c =
+    let within = c.in_ok-judge_extent.ensures.within in
+    record {
+      counted = ap (λ (cs : List Coords). length cs) c.as_slice-layouts.ensures ∙ c.in_ok-passes.ensures.laid.counted;
+      named = c.requires.named;
+      stand = c.requires.stand;
+      width = within.width;
+      height = within.height;
+    }
+
 pub returns-in_err-judge_extent-clause-refused : goal.returns-in_err-judge_extent-clause-refused
 returns-in_err-judge_extent-clause-refused c =
     let p = err_from_is_err_and c.from_residual-in_err-judge_extent.result c.from_residual-in_err-judge_extent.ensures.1 in
@@ -78,12 +106,19 @@ returns-clause-laid_out c =
     let W : List Coords → Type 0 = λ cs. IsWithin c.args.tech.now c.args.plan.now cs in
     let S : List Coords → Type 0 = λ cs. AllKeepSpacing c.args.tech.now c.args.plan.now c.args.masters.now cs in
     let N : List Coords → Type 0 = λ cs. HasSticksNets c.args.tech.now c.args.plan.now c.args.masters.now cs (text_of_layouts c.args.tech.now c.args.plan.now c.args.masters.now cs) in
+    let K : List Coords → Type 0 = λ cs. (boxes : List MaskBox) → AreShapes c.args.tech.now c.args.plan.now c.args.masters.now cs boxes → KeepRules c.args.tech.now boxes in
+    let F : List Coords → Type 0 = λ cs. (boxes : List MaskBox) → AreShapes c.args.tech.now c.args.plan.now c.args.masters.now cs boxes → length boxes ≡ boxes_of_instances c.args.plan.now c.args.masters.now in
+    let T : List Coords → Type 0 = λ cs. length (text_of_layouts c.args.tech.now c.args.plan.now c.args.masters.now cs) ≤ 2 ^ 26 in
+    let nets = subst N is c.written_nets_are_the_sticks.ensures in
     record {
       made = record { clean = c.in_ok-judge_starts.ensures.clean; on_axes = q.axes; passes = q.passes };
       sound = q.sound_passes;
       within = subst W is c.in_ok-judge_extent.ensures.within;
       spaced = subst S is c.all_keep_spacing.ensures;
-      nets = subst N is c.written_nets_are_the_sticks.ensures;
+      nets = nets;
+      rules = subst K is c.boxes_keep_rules.ensures nets.boxes nets.shapes;
+      few = (let same = subst F is c.boxes_are_few.ensures.shown nets.boxes nets.shapes in let most = c.requires.few_boxes in omega (arith, same, most));
+      short = subst T is c.texts_are_short.ensures;
     }
 
 pub returns-clause-boxes : goal.returns-clause-boxes

@@ -1,7 +1,7 @@
 use Rattle.compact_run.specs.Answers.{text_of}
 use Rattle.run_words.specs.Words.{command_of, texts_of}
 use Rattle.compact_run.specs.Refusal.{own_text}
-use Rattle.compact_run.proofs.Endings.{ends_written, ends_refused, asks_for_all, untouched}
+use Rattle.compact_run.proofs.Endings.{ends_written, ends_refused, ends_free, ends_done, asks_for_all, untouched}
 use Rattle.compact_run.proofs.top.run.Goals as goal
 
 pub returns-in-Ok-clause-answer : goal.returns-in-Ok-clause-answer
@@ -18,3 +18,11 @@ returns-in-Err-clause-answer g c = λ t told.
 
 pub returns-in-Err-clause-untouched : goal.returns-in-Err-clause-untouched
 returns-in-Err-clause-untouched g c = untouched c.refuse.result _
+
+pub returns-in-Ok-clause-complete : goal.returns-in-Ok-clause-complete
+returns-in-Ok-clause-complete g c = λ t told none shelf out report.
+    ends_done c.write.result c.write.ensures.answer (λ e. out (c.write.ensures.fault e)) (λ e. report (c.write.ensures.report_fault e))
+
+pub returns-in-Err-clause-complete : goal.returns-in-Err-clause-complete
+returns-in-Err-clause-complete g c = λ t told none shelf out report.
+    rw c.refuse.ensures.status (ends_free (command_of (texts_of c.args.words.now)) t.files c.in-Err.refusal.status (own_text c.in-Err.refusal.line) _ _ none (c.in-Err.ensures.given t told) c.in-Err.ensures.counted shelf)

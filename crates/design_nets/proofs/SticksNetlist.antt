@@ -1,0 +1,176 @@
+-- The netlist of the sticks, from its pieces with their numbers and its transistors.
+use Rattle.std.proofs.Common.{◌≡◌, ◌↔◌, ℕ, ◌+◌, ◌*◌, ◌^◌, ◌<◌, ◌≤◌, List, length, get_or, map, Option, Some, sym, ap, ◌∙◌, subst, arith}
+use Rattle.std.specs.Prelude.{slice_get, slice_index, option_map}
+use Rattle.std.specs.List.{All}
+use Rattle.std.proofs.lemmas.List.{length-map, get_or_default}
+use Rattle.std.proofs.lemmas.List.Elements.{All-from_get_or}
+use Rattle.std.proofs.lemmas.Option.{slice_get-get_or, slice_get-map}
+use Rattle.lam_geom.specs.Places.{IsPlacedBox}
+use Rattle.rule_table.specs.declared.technology.Tech.{Tech}
+use Rattle.cell_model.specs.declared.cell.Nets.{Nets}
+use Rattle.sym_items.specs.declared.items.Coords.{Coords}
+use Rattle.expand.specs.declared.master.Master.{Master}
+use Rattle.graph_search.specs.Netting.{next_net, IsNumberedInOrder}
+use Rattle.plan_model.specs.declared.plan.Plan.{Plan}
+use Rattle.plan_model.specs.Plan.{grids_of}
+use Rattle.pitch_join.specs.Masters.{ArePlanned}
+use Rattle.crossings.specs.declared.crossing.Crossing.{Crossing}
+use Rattle.net_extract.specs.declared.netlist.Device.{Device}
+use Rattle.net_extract.specs.declared.netlist.Part.TheVariants.{Whole}
+use Rattle.net_extract.specs.declared.netlist.Piece.{Piece}
+use Rattle.net_extract.specs.Devices.{HasBoxes}
+use Rattle.net_extract.specs.Netlists.{place_of, nets_of, device_of}
+use Rattle.net_extract.specs.Places.{Place}
+use Rattle.conductors.specs.Conductors.{Drawn}
+use Rattle.conductors.specs.Meetings.{at}
+use Rattle.conductors.specs.Shapes.{shapes_of}
+use Rattle.conductors.specs.Sticks.{places_of_sticks, AreOfOne, IsTransistor, AreTransistors, IsSticksNetlist}
+use Rattle.conductors.proofs.NetlistShapes.{shown_below}
+use Rattle.design_nets.specs.declared.instances.Instance.{Instance}
+use Rattle.design_nets.specs.declared.owners.OwnNet.{OwnNet}
+use Rattle.design_nets.specs.declared.pieces.Placed.{Placed}
+use Rattle.design_nets.specs.declared.shapes.Shape.{Shape}
+use Rattle.design_nets.specs.Firsts.{together}
+use Rattle.design_nets.specs.Instances.{instances_of, no_instance}
+use Rattle.design_nets.specs.Joining.{nets_in, IsOwn, AreNetNumbers}
+use Rattle.design_nets.specs.Nets.{nets_no, AreNetsOfAll}
+use Rattle.design_nets.specs.Pieces.{stand_of, own_of, IsShapeOf, ArePiecesOf}
+use Rattle.design_nets.specs.Shapes.{drawn_by, no_shape, shape_no, shapes_in, AreShapesOf}
+use Rattle.design_nets.proofs.Counted.{number_below, next_few}
+use Rattle.design_nets.proofs.Few.{pieces_few, nets_few}
+use Rattle.design_nets.proofs.Fets.{shape_of}
+use Rattle.design_nets.proofs.Owned.{owners_own}
+use Rattle.design_nets.proofs.Placed.{pieces_stand, one_of_pieces, pieces_of_one}
+use Rattle.design_nets.proofs.Ports.{have_nets, joined_one, one_joined}
+use Rattle.design_nets.proofs.Shown.{all_shown, shapes_counted}
+
+-- ---- the same of equal lists
+
+pub pieces_moved : (masters : List Master) (n m : List Nets) (i j : List Instance) (s t : List Shape) (pieces : List Placed) (starts : List ℕ) → n ≡ m → i ≡ j → s ≡ t → ArePiecesOf masters n i s pieces starts
+    → ArePiecesOf masters m j t pieces starts
+pieces_moved masters n m i j s t pieces starts e f g h =
+    subst (λ (z : List Shape). ArePiecesOf masters m j z pieces starts) g
+    (subst (λ (z : List Instance). ArePiecesOf masters m z s pieces starts) f (subst (λ (z : List Nets). ArePiecesOf masters z i s pieces starts) e h))
+
+pub numbers_moved : (plan : Plan) (n m : List Nets) (i j : List Instance) (o p : List OwnNet) (numbers : List ℕ) → n ≡ m → i ≡ j → o ≡ p → AreNetNumbers plan n i o numbers → AreNetNumbers plan m j p numbers
+numbers_moved plan n m i j o p numbers e f g h =
+    subst (λ (z : List OwnNet). AreNetNumbers plan m j z numbers) g
+    (subst (λ (z : List Instance). AreNetNumbers plan m z o numbers) f (subst (λ (z : List Nets). AreNetNumbers plan z i o numbers) e h))
+
+-- ---- instances and shapes
+
+module _ (tech : Tech) (plan : Plan) (masters : List Master) (nets : List Nets) (instances : List Instance) (planned : ArePlanned tech plan masters) (all : AreNetsOfAll masters nets)
+    (are : instances ≡ instances_of (grids_of plan)) where
+  pub masters_among : All (λ (i : Instance). i.master < length masters) instances
+  masters_among s d lt =
+      let among = (have_nets tech plan masters nets instances planned all are).among s d lt in
+      let counted = all.counted in
+      omega (arith, among, counted)
+
+  pub all_counted : length (together (shapes_in masters instances) (length instances)) ≡ length (shapes_of plan masters)
+  all_counted =
+      sym (length-map (together (shapes_in masters instances) (length instances)) (drawn_by instances))
+      ∙ ap (λ (ds : List Drawn). length ds) (all_shown plan masters instances are)
+
+  module _ (shapes : List Shape) (firsts : List ℕ) (made : AreShapesOf masters instances shapes firsts) where
+    pub shape_is : (k : ℕ) → k < length shapes → IsShapeOf masters instances (shape_no shapes k)
+    shape_is = shape_of masters instances shapes firsts masters_among made
+
+    pub shapes_are : All (IsShapeOf masters instances) shapes
+    shapes_are = All-from_get_or (IsShapeOf masters instances) shapes no_shape shape_is
+
+    module _ (pieces : List Placed) (starts : List ℕ) (have : ArePiecesOf masters nets instances shapes pieces starts) where
+      pub own : All (IsOwn nets instances) (map own_of pieces)
+      own = owners_own tech plan masters nets instances planned all are shapes firsts made shape_is pieces starts have
+
+      -- there are not too many pieces and nets
+      pub pieces_counted : length pieces ≤ 2 * length (shapes_of plan masters)
+      pieces_counted =
+          let few = pieces_few masters nets instances shapes in
+          let is = ap (λ (ps : List Placed). length ps) have.all in
+          let counted = shapes_counted plan masters instances are shapes firsts made in
+          omega (arith, few, is, counted)
+
+      pub few_together : length (shapes_of plan masters) ≤ 2 ^ 20 → length (map own_of pieces) + length (together (nets_in nets instances) (length instances)) < 2 ^ 31
+      few_together few =
+          let one = pieces_counted in
+          let same = length-map pieces own_of in
+          let two = nets_few tech masters nets instances planned.each all (λ s lt. masters_among s no_instance lt) in
+          let counted = all_counted in
+          omega (arith, few, one, same, two, counted)
+
+      -- ---- the netlist
+
+      module _ (numbers : List ℕ) (numbered : AreNetNumbers plan nets instances (map own_of pieces) numbers) where
+        pub numbers_small : length (shapes_of plan masters) ≤ 2 ^ 20 → All (λ n. n < 2 ^ 31) numbers
+        numbers_small few k d lt =
+            let below = number_below numbers k lt in
+            let next = next_few numbers numbered.in_order in
+            let counted = numbered.counted in
+            let same = length-map pieces own_of in
+            let one = pieces_counted in
+            let read = get_or_default numbers k d 0 lt in
+            omega (arith, few, below, next, counted, same, one, read)
+
+        no_piece : Placed
+        no_piece = record { box_no = 0; part = Whole; own = record { instance = 0; net = 0 } }
+
+        piece_at : ℕ → Placed
+        piece_at i = get_or pieces i no_piece
+
+        piece_there : (i : ℕ) → i < length pieces → slice_get pieces i ≡ Some (piece_at i)
+        unfolding piece_at
+        piece_there i lt = slice_get-get_or pieces i no_piece lt
+
+        owner_there : (i : ℕ) → i < length pieces → slice_get (map own_of pieces) i ≡ Some (own_of (piece_at i))
+        owner_there i lt = slice_get-map own_of pieces i ∙ ap (λ (o : Option Placed). option_map own_of o) (piece_there i lt)
+
+        instance_there : (i : ℕ) → i < length pieces → (piece_at i).own.instance < length instances
+        instance_there i lt =
+            let few = length-map pieces own_of in
+            let within : i < length (map own_of pieces) = omega (arith, lt, few) in
+            let none : OwnNet = record { instance = 0; net = 0 } in
+            let is = own i none within in
+            let both : Some (get_or (map own_of pieces) i none) ≡ Some (own_of (piece_at i)) = sym (slice_get-get_or (map own_of pieces) i none within) ∙ owner_there i lt in
+            let same : get_or (map own_of pieces) i none ≡ own_of (piece_at i) = cc in
+            subst (λ (o : OwnNet). o.instance < length instances) same is.instance
+
+        joined : (a b : ℕ) → a < length pieces → b < length pieces → slice_index numbers a ≡ slice_index numbers b ↔ AreOfOne (nets_no nets) plan masters a b
+        joined a b lt_a lt_b =
+            let x : Placed = piece_at a in
+            let y : Placed = piece_at b in
+            let j = numbered.joined a b (own_of x) (own_of y) (owner_there a lt_a) (owner_there b lt_b) in (
+              λ e. pieces_of_one plan masters nets instances are shapes firsts made shape_is pieces starts have a b x y (piece_there a lt_a) (piece_there b lt_b)
+                  (joined_one tech plan masters nets instances planned are (own_of x) (own_of y) (j.0 e)),
+              λ one. j.1 (one_joined tech plan masters nets instances planned are (own_of x) (own_of y) (instance_there a lt_a) (instance_there b lt_b)
+                  (one_of_pieces plan masters nets instances are shapes firsts made shape_is pieces starts have a b x y (piece_there a lt_a) (piece_there b lt_b) one)),
+            )
+
+        pub netlist_is : (layouts : List Coords) (crossings : List Crossing) (netted : List Piece) (devices : List Device) (next : ℕ) → AreTransistors tech plan masters layouts crossings
+            → map place_of netted ≡ map stand_of pieces → nets_of netted ≡ numbers → devices ≡ map (device_of netted) crossings → next ≡ next_net numbers
+            → IsSticksNetlist tech plan masters layouts (record { pieces = netted; nets = next; devices = devices })
+        netlist_is layouts crossings netted devices next transistors places same made_of counted =
+            let stand = pieces_stand plan masters nets instances are shapes firsts made shape_is pieces starts have in
+            let long : length (places_of_sticks plan masters) ≡ length pieces = ap (λ (ps : List Place). length ps) (sym stand) ∙ length-map pieces stand_of in
+            record {
+              nets = nets_no nets;
+              are_nets = all.each;
+              transistors = crossings;
+              are_transistors = transistors;
+              netlist = record {
+                placed = places ∙ stand;
+                joined = λ a b lt_a lt_b. subst (λ (ns : List ℕ). slice_index ns a ≡ slice_index ns b ↔ AreOfOne (nets_no nets) plan masters a b) (sym same) (joined a b (omega (arith, lt_a, long)) (omega (arith, lt_b, long)));
+                in_order = subst IsNumberedInOrder (sym same) numbered.in_order;
+                counted = counted ∙ ap next_net (sym same);
+                devices = made_of;
+              };
+            }
+
+      -- the boxes of transistors have pieces
+      pub boxes_there : (layouts : List Coords) (c : Crossing) → IsTransistor tech plan masters layouts c → IsPlacedBox c.channel → HasBoxes starts c
+      boxes_there layouts c t placed =
+          let counted = shapes_counted plan masters instances are shapes firsts made in
+          let starts_counted = have.begins.counted in
+          let poly = shown_below plan masters c.poly (at t.spot t.poly) t.shows_poly in
+          let diffusion = shown_below plan masters c.diffusion (at t.spot t.diffusion) t.shows_diffusion in
+          record { poly = omega (arith, counted, starts_counted, poly); diffusion = omega (arith, counted, starts_counted, diffusion); channel = placed }

@@ -1,0 +1,8 @@
+use Rattle.std.proofs.Common.{◌≡◌, take}
+use Rattle.std.specs.Prelude.{flat_map}
+use Rattle.mask_out.specs.Masks.{mask_layers}
+use Rattle.conductors.specs.Shapes.{items_on}
+use Rattle.design_nets.proofs.masters.drawn_items.Given as goal
+
+abbrev pub invariant-loop-layer : goal.invariant-loop-layer
+invariant-loop-layer l = l.drawn.items ≡ flat_map (items_on l.items) (take l.layer-index mask_layers)

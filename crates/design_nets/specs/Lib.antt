@@ -1,0 +1,9 @@
+pub mod Firsts
+pub mod Instances
+pub mod Nets
+pub mod Shapes
+pub mod Pieces
+pub mod Meetings
+pub mod Joining
+pub mod Linking
+pub mod Transistors

@@ -1,0 +1,95 @@
+-- Which items of a master are of which of its nodes, and what a transistor is by its diffusion.
+use Rattle.std.specs.Prelude.{◌≡◌, ℕ, ◌<◌, ◌≤◌, ◌^◌, ℤ, pos, ◌≤ℤ◌, List, length, slice_index, slice_get, Some}
+use Rattle.std.specs.List.{range_with_len}
+use Rattle.lam_geom.specs.declared.boxes.Axis.TheVariants.{X, Y}
+use Rattle.rule_table.specs.declared.classes.Class.{Class}
+use Rattle.rule_table.specs.declared.classes.Class.TheVariants.{P, Dm, G}
+use Rattle.rule_table.specs.declared.technology.Tech.{Tech}
+use Rattle.rule_table.specs.Technology.{widest_of}
+use Rattle.cell_model.specs.declared.cell.Axis2.{Axis2}
+use Rattle.cell_model.specs.declared.cell.Cell.{Cell}
+use Rattle.cell_model.specs.declared.cell.NodeKind.TheVariants as kinds
+use Rattle.cell_model.specs.Sound.{node_at}
+use Rattle.sym_items.specs.declared.items.Coords.{Coords}
+use Rattle.sym_items.specs.declared.items.Item.{Item}
+use Rattle.sym_items.specs.Layouts.{size_in}
+use Rattle.sym_items.specs.Sides.{Sides}
+use Rattle.pair_rules.specs.Bound.{item_at}
+use Rattle.expand.specs.declared.master.Master.{Master}
+use Rattle.buried_contacts.specs.Contacts.{axis_along}
+use Rattle.plan_model.specs.declared.plan.Plan.{Plan}
+use Rattle.plan_model.specs.Plan.{grids_of}
+use Rattle.pitch_join.specs.Masters.{ArePlanned, master_at}
+use Rattle.grid_rules.specs.Rules.{AreFinished}
+use Rattle.mask_out.specs.declared.picture.Call.{Call}
+use Rattle.mask_out.specs.Pictures.{HaveBoxes, IsDrawable, calls_of}
+use Rattle.design_nets.specs.declared.node_items.NodeItems.{NodeItems}
+use Rattle.design_nets.specs.declared.shapes.Shapes.{Shapes}
+use Rattle.design_nets.specs.declared.transistors.Fet.{Fet}
+use Rattle.design_nets.specs.Instances.{instances_of, master_no}
+use Rattle.design_nets.specs.Shapes.{drawn_in, shape_no, AreShapesOf}
+
+-- ---- the items of nodes
+
+-- the item in a position of some, by their numbers, is of this class and of this owner
+pub record IsOf (items : List Item) (among : List ℕ) (class : Class) (k j : ℕ) : Type 0 where
+  pub within : j < length among
+  pub of_class : (item_at items (slice_index among j)).class ≡ class
+  pub owned : (item_at items (slice_index among j)).owner ≡ k
+
+-- for each of so many owners that has an item of this class among some, the position of one
+pub record AreOfOwners (items : List Item) (among : List ℕ) (class : Class) (count : ℕ) (places : List ℕ) : Type 0 where
+  pub counted : length places ≡ count
+  pub each : (k j : ℕ) → k < count → IsOf items among class k j → IsOf items among class k (slice_index places k)
+
+-- the poly of the nodes of a master among the items that are boxes, and their channels among all items
+pub record AreNodeItems (master : Master) (found : NodeItems) : Type 0 where
+  pub polys : AreOfOwners master.items.list (drawn_in master) P (length master.cell.nodes) found.polys.items
+  pub channels : AreOfOwners master.items.list (range_with_len 0 (length master.items.list)) G (length master.cell.nodes) found.channels.items
+
+-- those of each master
+pub record AreItemsOfNodes (masters : List Master) (all : List NodeItems) : Type 0 where
+  pub counted : length all ≡ length masters
+  pub each : (m : ℕ) (found : NodeItems) → slice_get all m ≡ Some found → AreNodeItems (master_at masters m) found
+
+-- ---- transistors
+
+-- an item is the diffusion of a transistor of its cell
+pub record IsFetItem (cell : Cell) (item : Item) (fet : Fet) : Type 0 where
+  pub diffusion : item.class ≡ Dm
+  pub node : item.owner < length cell.nodes
+  pub gate : Axis2
+  pub w : ℤ
+  pub l : ℤ
+  pub kind : (node_at cell.nodes item.owner).kind ≡ kinds.Fet fet.depletion gate w l
+  pub runs : fet.axis ≡ axis_along gate
+
+-- ---- where they lie
+
+-- A plan of masters and its layouts, with a call for each instance and a box for each item that is one: all within reach, and not too many.
+pub record IsLaidOut (tech : Tech) (plan : Plan) (masters : List Master) (layouts : List Coords) (calls : List Call) (shapes : Shapes) : Type 0 where
+  pub planned : ArePlanned tech plan masters
+  pub finished : AreFinished tech plan masters layouts
+  pub counted : length layouts ≡ length masters
+  pub boxes : HaveBoxes layouts masters
+  pub drawable : IsDrawable (size_in X layouts) (size_in Y layouts) (widest_of tech) (grids_of plan)
+  pub called : calls ≡ calls_of (size_in X layouts) (size_in Y layouts) (widest_of tech) (grids_of plan)
+  pub shown : AreShapesOf masters (instances_of (grids_of plan)) shapes.all.items shapes.firsts.items
+  pub few : length shapes.all.items ≤ 2 ^ 20
+
+-- the cell and the item of box number k
+abbrev pub master_shown : Plan → List Master → Shapes → ℕ → Master
+master_shown plan masters shapes k = master_at masters (master_no (instances_of (grids_of plan)) (shape_no shapes.all.items k).instance)
+
+abbrev pub cell_shown : Plan → List Master → Shapes → ℕ → Cell
+cell_shown plan masters shapes k = (master_shown plan masters shapes k).cell
+
+abbrev pub item_shown : Plan → List Master → Shapes → ℕ → Item
+item_shown plan masters shapes k = item_at (master_shown plan masters shapes k).items.list (shape_no shapes.all.items k).item
+
+-- a box within 2^40 of the origin, to the right and up
+pub record LiesNear (s : Sides) : Type 0 where
+  pub left : pos 0 ≤ℤ s.left
+  pub right : s.right ≤ℤ pos (2 ^ 40)
+  pub bottom : pos 0 ≤ℤ s.bottom
+  pub top : s.top ≤ℤ pos (2 ^ 40)

@@ -1,0 +1,81 @@
+//! The nets of masters that ports join where an instance of one stands behind one of the other.
+ghost use Rattle.std.specs.Prelude.{◌≡◌, ◌<◌, ◌++◌, [], ◌∷◌, ◌≢◌, ℕ, All, length, OnOk, IfOk};
+ghost use Rattle.design_nets.specs.Nets.{nets_no};
+ghost use Rattle.design_nets.specs.Meetings.{wire_net, meeting_of, IsMatchIn, list_in, meetings_at, row_of, IsSquare, AreMeetings};
+
+use cell_model::Nets;
+use plan_model::Match;
+use std::alloc::{AllocError, Global};
+
+/// A net of a master, and one of the master of the instance behind, that ports join.
+#[derive(Clone, Copy, Debug, PartialEq, Eq)]
+pub struct Meeting {
+    pub before: u32,
+    pub behind: u32,
+}
+
+/// The nets that these ports join: in row a and column b for an instance of master a and one of master b behind it. The only
+/// refusal is want of memory.
+pub fn meetings(
+    alloc: Global,
+    nets: &[Nets],
+    matches: &[Match],
+) -> Result<Vec<Vec<Vec<Meeting>>>, AllocError>
+    requires { All (IsMatchIn nets.now) matches.now }
+    ensures { IfOk result (λ table. AreMeetings nets.now matches.now table.items) }
+{
+    let mut table = empty_table(alloc, nets.len())?;
+    for met in matches {
+        let meeting = Meeting {
+            before: wire_net(nets, met.a, met.a_wire),
+            behind: wire_net(nets, met.b, met.b_wire),
+        };
+        let row = &mut table[met.a as usize];
+        push_to(row, met.b, meeting)?;
+    }
+    Ok(table)
+}
+
+// The net of a wire of a master.
+fn wire_net(nets: &[Nets], master: u32, wire: u32) -> u32
+    requires master { master < length nets.now }
+    requires wire { wire < length (nets_no nets.now master).wire }
+    ensures { result ≡ wire_net nets.now master wire }
+{
+    nets[master as usize].wire.as_slice()[wire as usize]
+}
+
+// A table for so many masters with nothing in its lists.
+fn empty_table(alloc: Global, count: usize) -> Result<Vec<Vec<Vec<Meeting>>>, AllocError>
+    ensures square { IfOk result (λ table. IsSquare count table.items) }
+    ensures empty { IfOk result (λ table. (a b : ℕ) → meetings_at table.items a b ≡ []) }
+{
+    let mut table = Vec::with_capacity(alloc, count)?;
+    for _ in 0..count {
+        table.push(empty_row(alloc, count)?)?;
+    }
+    Ok(table)
+}
+
+fn empty_row(alloc: Global, count: usize) -> Result<Vec<Vec<Meeting>>, AllocError>
+    ensures counted { IfOk result (λ row. length row.items ≡ count) }
+    ensures empty { IfOk result (λ row. (b : ℕ) → list_in row.items b ≡ []) }
+{
+    let mut row = Vec::with_capacity(alloc, count)?;
+    for _ in 0..count {
+        row.push(Vec::new(alloc))?;
+    }
+    Ok(row)
+}
+
+// Puts a meeting at the end of a list.
+fn push_to(row: &mut Vec<Vec<Meeting>>, to: u32, meeting: Meeting) -> Result<(), AllocError>
+    requires { to < length row.old.items }
+    ensures counted { OnOk result (length row.new.items ≡ length row.old.items) }
+    ensures grown { OnOk result (list_in row.new.items to ≡ list_in row.old.items to ++ meeting ∷ []) }
+    ensures kept { OnOk result ((b : ℕ) → b ≢ to → list_in row.new.items b ≡ list_in row.old.items b) }
+{
+    let list = &mut row[to as usize];
+    list.push(meeting)?;
+    Ok(())
+}

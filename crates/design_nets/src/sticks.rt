@@ -1,0 +1,62 @@
+//! The netlist of the sticks.
+ghost use Rattle.std.specs.Prelude.{◌≡◌, ◌≤◌, ◌^◌, length, IfOk};
+ghost use Rattle.lam_geom.specs.declared.boxes.Axis.TheVariants.{X, Y};
+ghost use Rattle.rule_table.specs.Technology.{widest_of};
+ghost use Rattle.sym_items.specs.Layouts.{size_in};
+ghost use Rattle.plan_model.specs.Plan.{grids_of};
+ghost use Rattle.pitch_join.specs.Masters.{ArePlanned};
+ghost use Rattle.grid_rules.specs.Rules.{AreFinished};
+ghost use Rattle.mask_out.specs.Pictures.{HaveBoxes, IsDrawable};
+ghost use Rattle.conductors.specs.Shapes.{shapes_of};
+ghost use Rattle.conductors.specs.Sticks.{IsSticksNetlist};
+
+use crate::instances::instances;
+use crate::masters::{drawn_in_masters, nets_of_masters};
+use crate::numbering::{net_numbers, next_net};
+use crate::pieces::{netted, owners, pieces_of};
+use crate::shapes::shapes_of;
+use crate::transistors::transistors;
+use expand::Master;
+use lam_list::Seq;
+use mask_out::picture_of;
+use net_extract::{Netlist, devices_of};
+use plan_model::Plan;
+use rule_table::Tech;
+use std::alloc::{AllocError, Global};
+use sym_items::Coords;
+
+/// The netlist of the sticks of all instances: the pieces of their boxes with the nets of the parts that these belong to, and a
+/// device for each transistor, whose channel is in grains. The only refusal is want of memory.
+pub fn stick_netlist(
+    alloc: Global,
+    tech: &Tech,
+    plan: &Plan,
+    masters: &[Master],
+    layouts: &[Coords],
+) -> Result<Netlist, AllocError>
+    requires planned { ArePlanned tech.now plan.now masters.now }
+    requires finished { AreFinished tech.now plan.now masters.now layouts.now }
+    requires counted { length layouts.now ≡ length masters.now }
+    requires boxes { HaveBoxes layouts.now masters.now }
+    requires drawable { IsDrawable (size_in X layouts.now) (size_in Y layouts.now) (widest_of tech.now) (grids_of plan.now) }
+    requires few { length (shapes_of plan.now masters.now) ≤ 2 ^ 20 }
+    ensures { IfOk result (IsSticksNetlist tech.now plan.now masters.now layouts.now) }
+{
+    let nets = nets_of_masters(alloc, tech, masters)?;
+    let drawn = drawn_in_masters(alloc, masters)?;
+    let instances = instances(alloc, plan)?;
+    let shapes = shapes_of(alloc, masters, &drawn, &instances)?;
+    let pieces = pieces_of(alloc, masters, &nets, &instances, &shapes.all)?;
+    let owners = owners(alloc, &pieces.all)?;
+    let numbers = net_numbers(alloc, plan, &nets, &instances, &owners)?;
+    let netted = netted(alloc, &pieces.all, &numbers)?;
+    let picture = picture_of(alloc, tech, plan, masters, layouts)?;
+    let calls = picture.calls.as_slice();
+    let crossings = transistors(alloc, tech, plan, masters, layouts, calls, &drawn, &shapes)?;
+    let devices = devices_of(alloc, &netted, &pieces.starts, &crossings)?;
+    Ok(Netlist {
+        nets: next_net(&numbers),
+        pieces: Seq::from_vec(netted),
+        devices: Seq::from_vec(devices),
+    })
+}

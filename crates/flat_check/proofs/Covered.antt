@@ -1,0 +1,96 @@
+-- Whether some box goes past an area, by those that an index gives, and whether a cut is covered.
+use Rattle.std.proofs.Common.{◌≡◌, ◌↔◌, ℕ, ◌<◌, ◌⊎◌, inl, inr, ℤ, pos, ◌≤ℤ◌, Bool, true, false, List, MatchBool, IsTrue, length, refl, sym, ap, ◌∙◌, subst, All, Contains, arith}
+use Rattle.std.specs.Prelude.{not}
+use Rattle.std.proofs.lemmas.Int.{ints, clamps}
+use Rattle.std.proofs.lemmas.List.Elements.{All-contains}
+use Rattle.std.proofs.lemmas.Option.{get_or_from_slice_get, slice_get_within, slice_get-get_or}
+use Rattle.lam_geom.specs.declared.boxes.BoxXY.{BoxXY}
+use Rattle.lam_geom.specs.declared.boxes.MaskBox.{MaskBox}
+use Rattle.lam_geom.specs.declared.boxes.MaskLayer.{MaskLayer}
+use Rattle.lam_geom.specs.declared.boxes.MaskLayer.TheVariants.{ND, NP, NC, NM}
+use Rattle.lam_geom.specs.Gaps.{gap_of_boxes, Encloses}
+use Rattle.box_index.specs.Near.{IsNear, AreNear}
+use Rattle.rule_table.specs.declared.technology.Tech.{Tech}
+use Rattle.rule_table.specs.Technology.{numbers_of}
+use Rattle.crossings.specs.Boxes.{area_at, box_at, no_box, IsOn, grains}
+use Rattle.crossings.specs.Pairs.{IsCovered}
+use Rattle.flat_check.specs.Breaks.{IsSquare, IsOddCut, IsUncovered}
+
+-- ---- what an index gives
+
+near_is_on : (boxes : List MaskBox) (layer : MaskLayer) (area : BoxXY) (reach : ℤ) (k : ℕ) → IsNear boxes layer area reach k → IsOn boxes layer k
+near_is_on boxes layer area reach k h =
+    let at = get_or_from_slice_get boxes k h.box no_box h.there in
+    record { among = slice_get_within boxes k h.box h.there; on = ap (λ (b : MaskBox). b.layer) at ∙ h.on_layer }
+
+near_by_gap : (boxes : List MaskBox) (layer : MaskLayer) (area : BoxXY) (reach : ℤ) (k : ℕ) → IsOn boxes layer k → gap_of_boxes area (area_at boxes k) ≤ℤ reach → IsNear boxes layer area reach k
+near_by_gap boxes layer area reach k h gap = record { box = box_at boxes k; there = slice_get-get_or boxes k no_box h.among; on_layer = h.on; near = gap }
+
+-- what goes past an area is near it
+cover_is_near : (outer inner : BoxXY) (margin : ℤ) → pos 0 ≤ℤ margin → Encloses outer inner margin → gap_of_boxes inner outer ≤ℤ pos 0
+cover_is_near outer inner margin low h =
+    let x_ordered = inner.x.ordered in
+    let y_ordered = inner.y.ordered in
+    let left = h.0.0 in
+    let right = h.0.1 in
+    let bottom = h.1.0 in
+    let top = h.1.1 in
+    omega (arith, ints, clamps)
+
+pub covered_among : (boxes : List MaskBox) (layer : MaskLayer) (area : BoxXY) (margin : ℤ) (found : List ℕ) (b : Bool) → pos 0 ≤ℤ margin → AreNear boxes layer area (pos 0) found
+    → MatchBool b ((k : ℕ) × Contains found k × Encloses (area_at boxes k) area margin) (All (λ k. Encloses (area_at boxes k) area margin → ⊥) found)
+    → IsTrue b ↔ IsCovered boxes layer area margin
+covered_among boxes layer area margin found true low near h =
+    (λ _. record { cover = h.0; is_on = near_is_on boxes layer area (pos 0) h.0 (near.sound h.0 h.1); covers = h.2 }, λ _. refl)
+covered_among boxes layer area margin found false low near h = (
+  λ t. let no : ⊥ = cc in absurd no,
+  λ is. let gap = cover_is_near (area_at boxes is.cover) area margin low is.covers in
+      let there = near.complete is.cover (near_by_gap boxes layer area (pos 0) is.cover is.is_on gap) in
+      absurd (All-contains (λ k. Encloses (area_at boxes k) area margin → ⊥) found is.cover h there is.covers),
+)
+
+-- ---- cuts
+
+-- a box that was read is a cut
+pub cut_read : (boxes : List MaskBox) (a : ℕ) (own : MaskBox) → a < length boxes → own ≡ box_at boxes a → own.layer ≡ NC → IsOn boxes NC a
+cut_read boxes a own among is on = record { among = among; on = ap (λ (b : MaskBox). b.layer) (sym is) ∙ on }
+
+pub odd_by_square : (tech : Tech) (boxes : List MaskBox) (a : ℕ) (own : MaskBox) (side : ℤ) (b : Bool) → own ≡ box_at boxes a → IsOn boxes NC a → side ≡ grains tech (numbers_of tech).cut_size
+    → IsTrue b ↔ IsSquare side own.area → IsTrue (not b) ↔ IsOddCut tech boxes a
+odd_by_square tech boxes a own side b is on length_is h = go b (there h) where
+  there : IsTrue b ↔ IsSquare side own.area → IsTrue b ↔ IsSquare (grains tech (numbers_of tech).cut_size) (area_at boxes a)
+  there = subst (λ (s : ℤ). IsTrue b ↔ IsSquare side own.area → IsTrue b ↔ IsSquare s (area_at boxes a)) length_is
+      (subst (λ (x : MaskBox). IsTrue b ↔ IsSquare side own.area → IsTrue b ↔ IsSquare side x.area) is (λ same. same))
+
+  go : (r : Bool) → IsTrue r ↔ IsSquare (grains tech (numbers_of tech).cut_size) (area_at boxes a) → IsTrue (not r) ↔ IsOddCut tech boxes a
+  go true square = (λ t. let no : ⊥ = cc in absurd no, λ odd. absurd (odd.odd (square.0 refl)))
+  go false square = (λ _. record { is_cut = on; odd = λ even. let t : false ≡ true = square.1 even in cc }, λ _. refl)
+
+-- ---- the cover of a cut
+
+abbrev pub IsCoveredCut : Tech → List MaskBox → ℕ → MaskLayer → Type 0
+IsCoveredCut tech boxes a layer = IsCovered boxes layer (area_at boxes a) (grains tech (numbers_of tech).cut_enclosure)
+
+-- of a cut that was read
+pub covered_read : (tech : Tech) (boxes : List MaskBox) (a : ℕ) (layer : MaskLayer) (own : MaskBox) (margin : ℤ) (b : Bool) → own ≡ box_at boxes a → margin ≡ grains tech (numbers_of tech).cut_enclosure
+    → IsTrue b ↔ IsCovered boxes layer own.area margin → IsTrue b ↔ IsCoveredCut tech boxes a layer
+covered_read tech boxes a layer own margin b is length_is h =
+    subst (λ (m : ℤ). IsTrue b ↔ IsCovered boxes layer (area_at boxes a) m) length_is (subst (λ (x : MaskBox). IsTrue b ↔ IsCovered boxes layer x.area margin) is h)
+
+pub no_metal : (tech : Tech) (boxes : List MaskBox) (a : ℕ) (b : Bool) → IsOn boxes NC a → IsTrue b ↔ IsCoveredCut tech boxes a NM → b ≡ false → IsUncovered tech boxes a
+no_metal tech boxes a b on h none = record { is_cut = on; uncovered = inl (λ cover. let t : b ≡ true = h.1 cover in cc) }
+
+pub covered_twice : (tech : Tech) (boxes : List MaskBox) (a : ℕ) → IsCoveredCut tech boxes a NM → IsCoveredCut tech boxes a NP ⊎ IsCoveredCut tech boxes a ND → IsUncovered tech boxes a → ⊥
+covered_twice tech boxes a metal below h = elim h.uncovered [ inl no_cover ↦ no_cover metal | inr nothing ↦ nothing below ]
+
+pub uncovered_by_diffusion : (tech : Tech) (boxes : List MaskBox) (a : ℕ) (b : Bool) → IsOn boxes NC a → IsCoveredCut tech boxes a NM → (IsCoveredCut tech boxes a NP → ⊥) → IsTrue b ↔ IsCoveredCut tech boxes a ND
+    → IsTrue (not b) ↔ IsUncovered tech boxes a
+uncovered_by_diffusion tech boxes a true on metal no_poly h =
+    (λ t. let no : ⊥ = cc in absurd no, λ open_cut. absurd (covered_twice tech boxes a metal (inr (h.0 refl)) open_cut))
+uncovered_by_diffusion tech boxes a false on metal no_poly h = (
+  λ _. record {
+    is_cut = on;
+    uncovered = inr (λ below. elim below as (λ _. ⊥) [ inl poly ↦ no_poly poly | inr diffusion ↦ (let t : false ≡ true = h.1 diffusion in cc) ]);
+  },
+  λ _. refl,
+)

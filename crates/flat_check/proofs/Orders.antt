@@ -1,0 +1,93 @@
+-- The order of the rules, and of breaks.
+use Rattle.std.proofs.Common.{◌≡◌, ℕ, ◌+◌, ◌-◌, ◌<◌, inl, inr, Option, Some, None, List, [], ◌∷◌, get_or, refl, sym, ap, ◌∙◌, subst, lit<, arith}
+use Rattle.std.proofs.lemmas.Bool.{cases_lt}
+use Rattle.lam_geom.specs.declared.boxes.MaskBox.{MaskBox}
+use Rattle.rule_table.specs.declared.technology.Tech.{Tech}
+use Rattle.flat_check.specs.declared.rule.Break.{Break}
+use Rattle.flat_check.specs.declared.rule.Rule.{Rule}
+use Rattle.flat_check.specs.declared.rule.Rule.TheVariants.{Width, CutSize, ProperCrossing, PolyToDiffusion, CutCover, MetalSpacing, PolySpacing, DiffusionSpacing, CutSpacing, CutToChannel, ImplantToChannel, WindowToChannel}
+use Rattle.crossings.specs.Crossings.{IsFirstBadPair}
+use Rattle.flat_check.specs.Breaks.{number_of, IsBreak, IsFirstBreak, IsNotAfter}
+use Rattle.flat_check.specs.Order.{IsKept, KeepBefore, IsFirstOf}
+
+-- ---- rules by number
+
+abbrev rule_with : ℕ → Rule
+rule_with n =
+    get_or (Width ∷ Width ∷ CutSize ∷ ProperCrossing ∷ PolyToDiffusion ∷ CutCover ∷ MetalSpacing ∷ PolySpacing ∷ DiffusionSpacing ∷ CutSpacing ∷ CutToChannel ∷ ImplantToChannel ∷ WindowToChannel ∷ []) n Width
+
+numbered : (rule : Rule) → rule_with (number_of rule) ≡ rule
+numbered Width = refl
+numbered CutSize = refl
+numbered ProperCrossing = refl
+numbered PolyToDiffusion = refl
+numbered CutCover = refl
+numbered MetalSpacing = refl
+numbered PolySpacing = refl
+numbered DiffusionSpacing = refl
+numbered CutSpacing = refl
+numbered CutToChannel = refl
+numbered ImplantToChannel = refl
+numbered WindowToChannel = refl
+
+-- no two rules have one number
+pub one_number : (a b : Rule) → number_of a ≡ number_of b → a ≡ b
+one_number a b e = sym (numbered a) ∙ ap rule_with e ∙ numbered b
+
+-- the first number is 1
+number_from : (rule : Rule) → 0 < number_of rule
+number_from Width = lit< tt
+number_from CutSize = lit< tt
+number_from ProperCrossing = lit< tt
+number_from PolyToDiffusion = lit< tt
+number_from CutCover = lit< tt
+number_from MetalSpacing = lit< tt
+number_from PolySpacing = lit< tt
+number_from DiffusionSpacing = lit< tt
+number_from CutSpacing = lit< tt
+number_from CutToChannel = lit< tt
+number_from ImplantToChannel = lit< tt
+number_from WindowToChannel = lit< tt
+
+-- ---- one rule after the other
+
+-- how many rules are left, from this one on
+abbrev pub left_from : Option Rule → ℕ
+left_from (Some rule) = 13 - number_of rule
+left_from None = 0
+
+-- one more rule is kept
+pub keep_next : (tech : Tech) (boxes : List MaskBox) (rule : Rule) → KeepBefore tech boxes (Some rule) → IsKept tech boxes rule → (earlier : Rule) → number_of earlier < number_of rule + 1 → IsKept tech boxes earlier
+keep_next tech boxes rule before here earlier lt = elim (cases_lt (number_of earlier) (number_of rule)) [
+  | inl less ↦ before earlier less
+  | inr more ↦ subst (IsKept tech boxes) (one_number rule earlier (omega arith)) here
+]
+
+-- no rule is before the first one
+pub keep_before_all : (tech : Tech) (boxes : List MaskBox) → KeepBefore tech boxes (Some Width)
+keep_before_all tech boxes earlier lt = let low = number_from earlier in absurd (omega arith)
+
+-- ---- the first break
+
+-- that of the first rule that is broken
+pub first_of_all : (tech : Tech) (boxes : List MaskBox) (rule : Rule) (first : Break) → KeepBefore tech boxes (Some rule) → IsFirstOf tech boxes rule first → IsFirstBreak tech boxes first
+first_of_all tech boxes rule first before found = record {
+  broken = subst (λ (r : Rule). IsBreak tech boxes r first.a first.b) (sym found.of_rule) found.broken;
+  least = not_after;
+} where
+  not_after : (other : Rule) (a b : ℕ) → IsBreak tech boxes other a b → IsNotAfter first other a b
+  not_after other a b broken =
+      let own : number_of first.rule ≡ number_of rule = ap number_of found.of_rule in
+      elim (cases_lt (number_of other) (number_of rule)) [
+        | inl less ↦ absurd (before other less a b broken)
+        | inr more ↦ elim (cases_lt (number_of rule) (number_of other)) [
+          | inl behind ↦ inl (omega arith)
+          | inr not_behind ↦
+              let same : other ≡ rule = one_number other rule (omega arith) in
+              inr (found.of_rule ∙ sym same, found.least a b (subst (λ (r : Rule). IsBreak tech boxes r a b) same broken))
+        ]
+      ]
+
+-- the first pair that does not cross properly
+pub first_bad_pair : (tech : Tech) (boxes : List MaskBox) (a b : ℕ) → IsFirstBadPair tech boxes a b → IsFirstOf tech boxes ProperCrossing (record { rule = ProperCrossing; a = a; b = b })
+first_bad_pair tech boxes a b h = record { of_rule = refl; broken = h.bad; least = h.first }

@@ -1,0 +1,122 @@
+//! Rules on single boxes.
+ghost use Rattle.std.specs.Prelude.{◌≡◌, ◌↔◌, ◌<◌, ◌-ℤ◌, ◌<ℤ◌, IsTrue, IfOk, IfSome, length};
+ghost use Rattle.lam_geom.specs.declared.boxes.Axis.{Axis};
+ghost use Rattle.lam_geom.specs.Places.{IsPlacedBox, IsPlacedSpan};
+ghost use Rattle.rule_table.specs.Bounds.{IsLength};
+ghost use Rattle.crossings.specs.Boxes.{AreSearchable, extent};
+ghost use Rattle.flat_check.specs.Breaks.{IsBreak, IsNarrow, IsOddCut, IsSquare, width_on};
+ghost use Rattle.flat_check.specs.Order.{IsFoundOf, IsOnOne};
+
+use crate::covers::is_uncovered;
+use crate::lengths::in_grains;
+use crate::rule::{Break, Rule};
+use box_index::BoxIndex;
+use lam_geom::{BoxXY, MaskBox, MaskLayer, Span};
+use rule_table::Tech;
+use std::alloc::AllocError;
+
+/// The first break of a rule on single boxes, or None where it is kept. `index` is one of the boxes, and `buffer` is for
+/// numbers of boxes. The only refusal is want of memory.
+pub fn first_at_one(
+    tech: &Tech,
+    boxes: &[MaskBox],
+    index: &BoxIndex,
+    rule: Rule,
+    buffer: &mut Vec<u32>,
+) -> Result<Option<Break>, AllocError>
+    requires searchable { AreSearchable boxes.now }
+    requires indexed { index.now ≡ boxes.now }
+    requires on_one { IsOnOne rule }
+    ensures { IfOk result (IsFoundOf tech.now boxes.now rule) }
+{
+    for a in 0..boxes.len() as u32 {
+        if is_broken_at(tech, boxes, index, rule, a, buffer)? {
+            return Ok(Some(Break { rule, a, b: a }));
+        }
+    }
+    Ok(None)
+}
+
+// Whether a rule on single boxes is broken at a box.
+fn is_broken_at(
+    tech: &Tech,
+    boxes: &[MaskBox],
+    index: &BoxIndex,
+    rule: Rule,
+    a: u32,
+    buffer: &mut Vec<u32>,
+) -> Result<bool, AllocError>
+    requires searchable { AreSearchable boxes.now }
+    requires indexed { index.now ≡ boxes.now }
+    requires on_one { IsOnOne rule }
+    requires among { a < length boxes.now }
+    ensures { IfOk result (λ is_broken. IsTrue is_broken ↔ IsBreak tech.now boxes.now rule a a) }
+{
+    match rule {
+        Rule::Width => Ok(is_narrow(tech, boxes, a)),
+        Rule::CutSize => Ok(is_odd_cut(tech, boxes, a)),
+        _ => is_uncovered(tech, boxes, index, a, buffer),
+    }
+}
+
+// Whether a box is diffusion, poly or metal that is too narrow on an axis.
+fn is_narrow(tech: &Tech, boxes: &[MaskBox], a: u32) -> bool
+    requires searchable { AreSearchable boxes.now }
+    requires among { a < length boxes.now }
+    ensures { IsTrue result ↔ IsNarrow tech.now boxes.now a }
+{
+    let own = &boxes[a as usize];
+    match width(tech, own.layer) {
+        Some(width) => is_narrower(&own.area, in_grains(tech, width)),
+        None => false,
+    }
+}
+
+// How wide a conductor on this layer is at least, in u.
+fn width(tech: &Tech, layer: MaskLayer) -> Option<i64>
+    ensures value { result ≡ width_on tech.now layer }
+    ensures length { IfSome result IsLength }
+{
+    let numbers = tech.numbers();
+    match layer {
+        MaskLayer::ND => Some(numbers.width_diffusion),
+        MaskLayer::NP => Some(numbers.width_poly),
+        MaskLayer::NM => Some(numbers.width_metal),
+        MaskLayer::NC | MaskLayer::NI | MaskLayer::NB => None,
+    }
+}
+
+// Whether a box is a cut that is no square of the cut's size.
+fn is_odd_cut(tech: &Tech, boxes: &[MaskBox], a: u32) -> bool
+    requires searchable { AreSearchable boxes.now }
+    requires among { a < length boxes.now }
+    ensures { IsTrue result ↔ IsOddCut tech.now boxes.now a }
+{
+    let own = &boxes[a as usize];
+    if own.layer != MaskLayer::NC {
+        return false;
+    }
+    let side = in_grains(tech, tech.numbers().cut_size);
+    !is_square(&own.area, side)
+}
+
+fn is_narrower(area: &BoxXY, width: i64) -> bool
+    requires { IsPlacedBox area.now }
+    ensures { IsTrue result ↔ ((axis : Axis) × (extent axis area.now <ℤ width)) }
+{
+    length_of(area.x) < width || length_of(area.y) < width
+}
+
+fn is_square(area: &BoxXY, side: i64) -> bool
+    requires { IsPlacedBox area.now }
+    ensures { IsTrue result ↔ IsSquare side area.now }
+{
+    length_of(area.x) == side && length_of(area.y) == side
+}
+
+fn length_of(span: Span) -> i64
+    requires { IsPlacedSpan span }
+    ensures { result ≡ span.hi -ℤ span.lo }
+{
+    span.hi - span.lo
+}

@@ -1,0 +1,63 @@
+-- The picture has the boxes of all instances.
+use Rattle.std.proofs.Common.{◌≡◌, ℕ, ◌<◌, List, length, map, sym, ap, ◌∙◌}
+use Rattle.std.proofs.lemmas.List.{length-map}
+use Rattle.list_facts.proofs.Elements.{all_weaker}
+use Rattle.lam_geom.specs.declared.boxes.Axis.TheVariants.{X, Y}
+use Rattle.lam_geom.specs.declared.boxes.MaskBox.{MaskBox}
+use Rattle.rule_table.specs.declared.technology.Tech.{Tech}
+use Rattle.rule_table.specs.Technology.{widest_of}
+use Rattle.cell_model.specs.Counts.{boxes_in}
+use Rattle.sym_items.specs.declared.items.Coords.{Coords}
+use Rattle.sym_items.specs.declared.items.Items.{Items}
+use Rattle.sym_items.specs.Layouts.{layout_at, size_in}
+use Rattle.expand.specs.declared.master.Master.{Master}
+use Rattle.expand.specs.Items.{AreItems}
+use Rattle.plan_model.specs.declared.plan.Plan.{Plan}
+use Rattle.plan_model.specs.Instances.{Spot, IsSpot, master_at_spot, spots_of}
+use Rattle.plan_model.specs.Plan.{grids_of}
+use Rattle.pitch_join.specs.Masters.{ArePlanned, master_at, no_master}
+use Rattle.mask_out.specs.declared.picture.Call.{Call}
+use Rattle.mask_out.specs.Masks.{masks_in}
+use Rattle.mask_out.specs.Pictures.{Drawing, drawings_in, call_at, masks_at}
+use Rattle.mask_out.proofs.Counted.{boxes_counted}
+use Rattle.mask_out.proofs.FlatCounted.{flat_counted}
+use Rattle.conductors.specs.Conductors.{Drawn}
+use Rattle.conductors.specs.Shapes.{shapes_of, mask_of_shape, AreShapes}
+use Rattle.conductors.proofs.PictureShapes.{spots_are, master_there, masks_drawn, picture_shows}
+use Rattle.written_masks.specs.Parts.{boxes_of_picture, boxes_at, boxes_of_instances}
+use Rattle.written_masks.proofs.Sums.{sum_same, sum_images}
+use Rattle.written_masks.proofs.InstanceSums.{instance_sum}
+
+-- the masks of a master in any layout
+items_counted : (tech : Tech) (master : Master) (c : Coords) → AreItems tech master.cell master.items → length (masks_in c master.items.list) ≡ boxes_in master.cell
+items_counted tech master c is = ap (λ (items : Items). length (masks_in c items.list)) is.are ∙ boxes_counted tech master.cell is.nets c
+
+-- of its symbol
+pub symbol_counted : (tech : Tech) (plan : Plan) (masters : List Master) (layouts : List Coords) → ArePlanned tech plan masters → length layouts ≡ length masters → (m : ℕ) → m < length masters
+    → length (masks_at (drawings_in masters layouts) m) ≡ boxes_at masters m
+symbol_counted tech plan masters layouts planned counted m lt =
+    ap length (masks_drawn masters layouts m counted lt) ∙ items_counted tech (master_at masters m) (layout_at layouts m) (planned.each m no_master lt).items
+
+-- of all instances
+pub picture_counted : (tech : Tech) (plan : Plan) (masters : List Master) (layouts : List Coords) → ArePlanned tech plan masters → length layouts ≡ length masters
+    → length (boxes_of_picture tech plan masters layouts) ≡ boxes_of_instances plan masters
+picture_counted tech plan masters layouts planned counted =
+    let grids = grids_of plan in
+    let drawings : List Drawing = drawings_in masters layouts in
+    let call : Spot → Call = call_at (size_in X layouts) (size_in Y layouts) (widest_of tech) grids in
+    let called : Spot → ℕ = λ p. length (masks_at drawings (master_at_spot grids p)) in
+    let own : Spot → ℕ = λ p. boxes_at masters (master_at_spot grids p) in
+    flat_counted drawings (map call (spots_of grids))
+    ∙ (sum_images (λ (one : Call). length (masks_at drawings one.symbol)) call (spots_of grids)
+    ∙ (sum_same called own (spots_of grids)
+    (all_weaker (IsSpot grids) (λ p. called p ≡ own p) (λ p there. symbol_counted tech plan masters layouts planned counted (master_at_spot grids p) (master_there tech plan masters planned p there)) (spots_of grids) (spots_are grids))
+    ∙ instance_sum (boxes_at masters) grids))
+
+-- boxes that show all items
+pub shown_counted : (tech : Tech) (plan : Plan) (masters : List Master) (layouts : List Coords) → ArePlanned tech plan masters → length layouts ≡ length masters
+    → (boxes : List MaskBox) → AreShapes tech plan masters layouts boxes → length boxes ≡ boxes_of_instances plan masters
+shown_counted tech plan masters layouts planned counted boxes shown =
+    let shapes : List Drawn = shapes_of plan masters in
+    shown.counted
+    ∙ (sym (length-map shapes (mask_of_shape tech plan masters layouts))
+    ∙ (sym (ap length (picture_shows tech plan masters layouts planned counted)) ∙ picture_counted tech plan masters layouts planned counted))
