@@ -11,7 +11,7 @@ mod pictures;
 use buried::BURIED;
 use cases::{EXTENTS, FAILURES, REFUSALS, REPORTS, TECHNOLOGIES, TEXTS, WORDS};
 use cif_texts::{NETLISTS, VERDICTS};
-use compact_run::{Status, run};
+use compact_run::run;
 use grids::{GRID_EXTENTS, GRID_FAULTS, GRID_WRITES, GRIDS};
 use lam_io::{FailPlan, Fetch, MemShelf, MemSink, Shelf};
 use layouts::{CYCLES, FALLS, LAYERS, LIMITS, ORDERS, USES};
@@ -58,13 +58,13 @@ impl Shelf for Noting {
     }
 }
 
-// What a call answered, with the names that it asked for.
+// What a call answered, as a case tells it.
 #[derive(Drop)]
 struct Answer {
-    status: Status,
-    asked: Vec<u8>,
-    output: MemSink,
-    report: MemSink,
+    status: String,
+    asked: String,
+    output: String,
+    report: String,
 }
 
 // The shelf of a case.
@@ -75,22 +75,36 @@ fn shelf_of(alloc: Global, case: &Case) -> Result<MemShelf, AllocError> {
     Ok(shelf)
 }
 
+// A sink that fails at the puts of these numbers.
+fn sink_of(alloc: Global, faults: &[u32]) -> Result<MemSink, AllocError> {
+    let plan = FailPlan::new(alloc, faults)?;
+    MemSink::new(alloc, 1_000_000, plan)
+}
+
+// The words of a line.
+fn words_of<'a>(alloc: Global, line: &'a str) -> Result<Vec<&'a str>, AllocError> {
+    line.split(' ').collect(alloc)
+}
+
 // What the words of a case answer over this shelf.
 fn answer_to(alloc: Global, case: &Case, shelf: MemShelf) -> Result<Answer, AllocError> {
-    let words: Vec<&str> = case.words.split(' ').collect(alloc)?;
-    let mut shelf = Noting {
-        shelf,
-        names: Vec::new(alloc),
-    };
-    let mut output = MemSink::new(alloc, 1_000_000, FailPlan::new(alloc, case.output_faults)?)?;
-    let mut report = MemSink::new(alloc, 4000, FailPlan::new(alloc, case.report_faults)?)?;
+    let words = words_of(alloc, case.words)?;
+    let names = Vec::new(alloc);
+    let mut shelf = Noting { shelf, names };
+    let mut output = sink_of(alloc, case.output_faults)?;
+    let mut report = sink_of(alloc, case.report_faults)?;
     let status = run(alloc, &words, &mut shelf, &mut output, &mut report);
     Ok(Answer {
-        status,
-        asked: shelf.names,
-        output,
-        report,
+        status: format!(in alloc; "{status:?}")?,
+        asked: String::from_utf8_lossy(alloc, &shelf.names)?,
+        output: String::from_utf8_lossy(alloc, output.bytes())?,
+        report: String::from_utf8_lossy(alloc, report.bytes())?,
     })
+}
+
+// The text that a case gave is the one that it wants.
+fn assert_same<A: Abort>(rt: &A, case: &Case, given: &str, wanted: &str) {
+    assert_eq!(rt; given, wanted, "{} of {}", case.words, case.text);
 }
 
 // The words of a case answer over this shelf as it says.
@@ -101,35 +115,10 @@ fn assert_answer<A: Abort>(
     shelf: MemShelf,
 ) -> Result<(), Fail> {
     let answer = answer_to(alloc, case, shelf)?;
-    let told = format!(in alloc; "{:?}", answer.status)?;
-    assert_eq!(rt;
-        told.as_str(),
-        case.status,
-        "{} of {}",
-        case.words,
-        case.text
-    );
-    assert_eq!(rt;
-        answer.asked.as_slice(),
-        case.asked.as_bytes(),
-        "{} of {}",
-        case.words,
-        case.text
-    );
-    assert_eq!(rt;
-        answer.output.bytes(),
-        case.output.as_bytes(),
-        "{} of {}",
-        case.words,
-        case.text
-    );
-    assert_eq!(rt;
-        answer.report.bytes(),
-        case.report.as_bytes(),
-        "{} of {}",
-        case.words,
-        case.text
-    );
+    assert_same(rt, case, &answer.status, case.status);
+    assert_same(rt, case, &answer.asked, case.asked);
+    assert_same(rt, case, &answer.output, case.output);
+    assert_same(rt, case, &answer.report, case.report);
     Ok(())
 }
 

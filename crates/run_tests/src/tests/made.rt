@@ -1,7 +1,7 @@
 //! What calls answer of texts that are made for them: long ones, and designs with many parts.
 
 use super::cases::{COMPACT, FMT};
-use super::{Case, answer_to, assert_answer, shelf_of};
+use super::{Case, answer_to, assert_answer, assert_same, shelf_of};
 use std::alloc::{AllocError, Global};
 use std::process::Abort;
 use std::test::Fail;
@@ -17,91 +17,84 @@ fn assert_made<A: Abort>(
     let mut shelf = shelf_of(alloc, case)?;
     shelf.add("d", text.as_bytes())?;
     let given = answer_to(alloc, case, shelf)?;
-    let told = format!(in alloc; "{:?}", given.status)?;
-    assert_eq!(rt; told.as_str(), case.status, "{}", report);
-    assert!(rt;
-        given.output.bytes().ends_with(case.output.as_bytes()),
-        "{}",
-        report
-    );
-    assert!(rt;
-        given.report.bytes().starts_with(report.as_bytes()),
-        "{}",
-        report
-    );
+    assert_same(rt, case, &given.status, case.status);
+    let ends = given.output.ends_with(case.output);
+    let begins = given.report.starts_with(report);
+    assert!(rt; ends && begins, "{}", report);
     Ok(())
 }
 
-// So many line ends in place of a file.
+// A case answers as it says where one of its files has this text.
+fn assert_over<A: Abort>(
+    rt: &A,
+    alloc: Global,
+    case: &Case,
+    name: &str,
+    text: &str,
+) -> Result<(), Fail> {
+    let mut shelf = shelf_of(alloc, case)?;
+    shelf.add(name, text.as_bytes())?;
+    assert_answer(rt, alloc, case, shelf)
+}
+
+// As many bytes as a design and a technology may have, and one more.
+const FULL_DESIGN: Case = Case {
+    status: "BadSticks(StickFault { line: 1048576, kind: Unended })",
+    report: "sticks: line 1048576: Unended\n",
+    ..FMT
+};
+
+const LONG_DESIGN: Case = Case {
+    status: "TooLong(Design)",
+    report: "sticks: too long: design\n",
+    ..COMPACT
+};
+
+const FULL_TECHNOLOGY: Case = Case {
+    status: "BadTech(Missing(0))",
+    asked: "t ",
+    report: "sticks: technology: Missing version\n",
+    ..COMPACT
+};
+
+const LONG_TECHNOLOGY: Case = Case {
+    status: "TooLong(Technology)",
+    asked: "t ",
+    report: "sticks: too long: technology\n",
+    ..COMPACT
+};
+
 #[test]
 fn a_file_past_its_limit_is_too_long(rt: HostRuntime) -> Result<(), Fail> {
     let alloc = rt.alloc();
-    let cases = [
-        (
-            "d",
-            1_048_576,
-            Case {
-                status: "BadSticks(StickFault { line: 1048576, kind: Unended })",
-                report: "sticks: line 1048576: Unended\n",
-                ..FMT
-            },
-        ),
-        (
-            "d",
-            1_048_577,
-            Case {
-                status: "TooLong(Design)",
-                report: "sticks: too long: design\n",
-                ..COMPACT
-            },
-        ),
-        (
-            "t",
-            65_536,
-            Case {
-                status: "BadTech(Missing(0))",
-                asked: "t ",
-                report: "sticks: technology: Missing version\n",
-                ..COMPACT
-            },
-        ),
-        (
-            "t",
-            65_537,
-            Case {
-                status: "TooLong(Technology)",
-                asked: "t ",
-                report: "sticks: too long: technology\n",
-                ..COMPACT
-            },
-        ),
-    ];
-    for (name, len, case) in cases {
-        let mut shelf = shelf_of(alloc, &case)?;
-        shelf.add(name, &vec![in alloc; b'\n'; len]?)?;
-        assert_answer(&rt, alloc, &case, shelf)?;
+    for (case, name, len) in [
+        (&FULL_DESIGN, "d", 1_048_576),
+        (&LONG_DESIGN, "d", 1_048_577),
+        (&FULL_TECHNOLOGY, "t", 65_536),
+        (&LONG_TECHNOLOGY, "t", 65_537),
+    ] {
+        let text = "\n".repeat(alloc, len)?;
+        assert_over(&rt, alloc, case, name, &text)?;
     }
     Ok(())
 }
 
 // A cell of two joints and so many limits, one with four copies of it, one of a joint, and a row of these.
-fn copies(alloc: Global, limits: u32, row: &[u8]) -> Result<Vec<u8>, AllocError> {
-    let mut text = Vec::from_slice(
-        alloc,
-        b"sticks 1\ncell a\njoint p metal 0 0\njoint q metal 1 0\n",
-    )?;
-    for _ in 0..limits {
-        text.extend_from_slice(b"limit x p q >= 1\n")?;
-    }
-    text.extend_from_slice(
-        b"end\ncell b\nuse u a 0 0\nuse v a 2 0\nuse w a 4 0\nuse x a 6 0\nend\ncell c\njoint p metal 0 0\nend\ngrid\nrow ",
-    )?;
-    text.extend_from_slice(row)?;
-    text.extend_from_slice(b"\nend\n")?;
-    Ok(text)
+fn copies(alloc: Global, limits: u32, row: &str) -> Result<String, AllocError> {
+    let limits = "limit x p q >= 1\n".repeat(alloc, limits as usize)?;
+    format!(in alloc;
+        "sticks 1\ncell a\njoint p metal 0 0\njoint q metal 1 0\n{limits}end\ncell b\nuse u a 0 0\nuse v a 2 0\nuse w a 4 0\nuse x a 6 0\nend\ncell c\njoint p metal 0 0\nend\ngrid\nrow {row}\nend\n"
+    )
 }
 
-// Too many items.
+// As many items as there may be.
+const FULL: Case = Case {
+    output: "DS 1 75 1;\n9 b;\nL NM;\nB 12 12 18 18;\nB 12 12 42 18;\nB 12 12 66 18;\nB 12 12 90 18;\nB 12 12 114 18;\nB 12 12 138 18;\nB 12 12 162 18;\nB 12 12 186 18;\nDF;\nC 1 T 0 0;\nE\n",
+    report: "pass 1 x edges 65548 backward 0 rounds 1\ncell b size 102 kept 7\n0 -> b:u.p 9 margin\nb:u.p -> b:u.q 12 space\nb:u.q -> b:v.p 12 space\nb:v.p -> b:v.q 12 space\nb:v.q -> b:w.p 12 space\nb:w.p -> b:w.q 12 space\nb:w.q -> b:x.p 12 space\nb:x.p -> b:x.q 12 space\nb:x.q -> b| 9 margin\npass 2 y edges 17 backward 0 rounds 1\ncell b size 18 kept 0\n0 -> b:u.p 9 margin\nb:u.p -> b| 9 margin\n",
+    ..COMPACT
+};
+
+// And more.
 const HEAVY: Case = Case {
     status: "TooLarge(Items)",
     report: "sticks: too large: items\n",
@@ -112,66 +105,52 @@ const HEAVY: Case = Case {
 #[test]
 fn masters_of_too_many_items_are_too_large(rt: HostRuntime) -> Result<(), Fail> {
     let alloc = rt.alloc();
-    let full = Case {
-        output: "DS 1 75 1;\n9 b;\nL NM;\nB 12 12 18 18;\nB 12 12 42 18;\nB 12 12 66 18;\nB 12 12 90 18;\nB 12 12 114 18;\nB 12 12 138 18;\nB 12 12 162 18;\nB 12 12 186 18;\nDF;\nC 1 T 0 0;\nE\n",
-        report: "pass 1 x edges 65548 backward 0 rounds 1\ncell b size 102 kept 7\n0 -> b:u.p 9 margin\nb:u.p -> b:u.q 12 space\nb:u.q -> b:v.p 12 space\nb:v.p -> b:v.q 12 space\nb:v.q -> b:w.p 12 space\nb:w.p -> b:w.q 12 space\nb:w.q -> b:x.p 12 space\nb:x.p -> b:x.q 12 space\nb:x.q -> b| 9 margin\npass 2 y edges 17 backward 0 rounds 1\ncell b size 18 kept 0\n0 -> b:u.p 9 margin\nb:u.p -> b| 9 margin\n",
-        ..COMPACT
-    };
-    let cases: [(u32, &[u8], Case); 3] = [
-        (16_381, b"b", full),
-        (16_382, b"b", HEAVY),
-        (16_381, b"b c", HEAVY),
-    ];
-    for (limits, row, case) in cases {
-        let mut shelf = shelf_of(alloc, &case)?;
-        shelf.add("d", &copies(alloc, limits, row)?)?;
-        assert_answer(&rt, alloc, &case, shelf)?;
+    for (limits, row, case) in [
+        (16_381, "b", &FULL),
+        (16_382, "b", &HEAVY),
+        (16_381, "b c", &HEAVY),
+    ] {
+        let text = copies(alloc, limits, row)?;
+        assert_over(&rt, alloc, case, "d", &text)?;
     }
     Ok(())
 }
 
-// So many names of a cell, as one row.
-fn row_of(alloc: Global, names: u32) -> Result<String, AllocError> {
-    let mut row = String::from_str(alloc, "row")?;
-    for _ in 0..names {
-        row.push_str(" a")?;
-    }
-    row.push_str("\n")?;
-    Ok(row)
-}
-
 // A column of 32 joints, 1,024 beside each other in each of 32 rows, and what follows.
 fn columns(alloc: Global, rest: &str) -> Result<String, AllocError> {
-    let row = row_of(alloc, 1024)?;
-    let (mut joints, mut rows) = (String::new(alloc), String::new(alloc));
+    let mut joints = String::new(alloc);
     for place in 0..32u32 {
         let joint = format!(in alloc; "joint j{place} metal 0 {place}\n")?;
         joints.push_str(&joint)?;
-        rows.push_str(&row)?;
     }
+    let cells = " a".repeat(alloc, 1024)?;
+    let rows = format!(in alloc; "row{cells}\n")?.repeat(alloc, 32)?;
     format!(in alloc;
         "sticks 2\ncell a\n{joints}end\ncell b\njoint p metal 0 0\nend\ngrid g\n{rows}{rest}"
     )
 }
 
-// As many boxes as there may be, 1,048,576, and one more in a second grid.
+// As many boxes as there may be, 1,048,576.
+const MOST_BOXES: Case = Case {
+    output: "C 1 T 2759400 1813500;\nC 1 T 2762100 1813500;\nE\n",
+    report: "pass 1 x edges 65 backward 0 rounds 1\ncell a size 18 kept 0\n0 -> a:j0 9 margin\na:j0 -> a| 9 margin\npass 2 y edges 96 backward 0 rounds 1\ncell a size 390 kept 31\n",
+    ..COMPACT
+};
+
+// And one more in a second grid.
+const MORE_BOXES: Case = Case {
+    status: "TooLarge(Boxes)",
+    report: "sticks: too large: boxes\n",
+    ..COMPACT
+};
+
 #[test]
 fn grids_of_too_many_boxes_are_too_large(rt: HostRuntime) -> Result<(), Fail> {
     let alloc = rt.alloc();
-    let most = Case {
-        output: "C 1 T 2759400 1813500;\nC 1 T 2762100 1813500;\nE\n",
-        report: "pass 1 x edges 65 backward 0 rounds 1\ncell a size 18 kept 0\n0 -> a:j0 9 margin\na:j0 -> a| 9 margin\npass 2 y edges 96 backward 0 rounds 1\ncell a size 390 kept 31\n",
-        ..COMPACT
-    };
-    let more = Case {
-        status: "TooLarge(Boxes)",
-        report: "sticks: too large: boxes\n",
-        ..COMPACT
-    };
-    for (rest, case) in [("end\n", most), ("end\ngrid h\nrow b\nend\n", more)] {
-        assert_made(&rt, alloc, &case, &columns(alloc, rest)?, case.report)?;
-    }
-    Ok(())
+    let most = columns(alloc, "end\n")?;
+    assert_made(&rt, alloc, &MOST_BOXES, &most, MOST_BOXES.report)?;
+    let more = columns(alloc, "end\ngrid h\nrow b\nend\n")?;
+    assert_over(&rt, alloc, &MORE_BOXES, "d", &more)
 }
 
 // Five by five points: on each a metal joint, a poly joint, a diffusion contact or nothing, by the bits of the number.
@@ -200,7 +179,7 @@ const Y_FIRST: Case = Case {
     ..COMPACT
 };
 
-// The numbers are those of a program of its own, which tries all pairs of parts, and for each pair all parts between.
+// The numbers are those that bench/kept_pairs.py counts, which tries all pairs of items, and for each all items between.
 #[test]
 fn generated_cells_keep_the_pairs_that_nothing_shadows(rt: HostRuntime) -> Result<(), Fail> {
     let alloc = rt.alloc();

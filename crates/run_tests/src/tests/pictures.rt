@@ -4,7 +4,7 @@ ghost use Rattle.std.specs.Prelude.{◌≤◌, ◌^◌, length};
 use super::grids::GRIDS;
 use super::{answer_to, shelf_of};
 use cif_read::{flatten, read_cif};
-use lam_geom::MaskBox;
+use lam_geom::{BoxXY, MaskBox};
 use std::alloc::Global;
 use std::test::Fail;
 
@@ -21,17 +21,9 @@ fn boxes_of(alloc: Global, text: &[u8]) -> Result<Vec<MaskBox>, Fail>
     Ok(boxes)
 }
 
-// The ends of the sides of a box, where there is one.
-fn sides(mask: Option<&MaskBox>) -> [i64; 4] {
-    match mask {
-        Some(mask) => [
-            mask.area.x.lo,
-            mask.area.x.hi,
-            mask.area.y.lo,
-            mask.area.y.hi,
-        ],
-        None => [0, 0, 0, 0],
-    }
+// Grid units in grains, of which there are 300 to a unit.
+fn grains(units: i32) -> i64 {
+    i64::from(units) * 300
 }
 
 #[test]
@@ -39,23 +31,24 @@ fn four_inverters_have_140_boxes(rt: HostRuntime) -> Result<(), Fail> {
     let alloc = rt.alloc();
     let inverters = &GRIDS[0];
     let written = answer_to(alloc, inverters, shelf_of(alloc, inverters)?)?.output;
-    if written.bytes().len() > 1 << 26 {
+    if written.len() > 1 << 26 {
         return Err("too long")?;
     }
-    let boxes = boxes_of(alloc, written.bytes())?;
+    let boxes = boxes_of(alloc, written.as_bytes())?;
     assert_eq!(rt; boxes.len(), 140);
-    // Of each inverter, which is 38 wide, the first box: the diffusion of its lower contact. There are 300 grains to a grid unit.
-    let grain: i64 = 300;
-    for (place, left) in [(0, 6), (35, 44), (70, 82), (105, 120)] {
-        assert_eq!(rt;
-            sides(boxes.get(place)),
-            [left * grain, (left + 8) * grain, 6 * grain, 14 * grain]
-        );
+    // Of each inverter, which is 38 wide, the first box: the diffusion of its lower contact. And the last one of the last: the
+    // implant of its load. Of each box its ends on x and on y.
+    let expected: [(usize, i32, i32, i32, i32); 5] = [
+        (0, 6, 14, 6, 14),
+        (35, 44, 52, 6, 14),
+        (70, 82, 90, 6, 14),
+        (105, 120, 128, 6, 14),
+        (139, 119, 129, 31, 45),
+    ];
+    for (place, left, right, bottom, top) in expected {
+        let BoxXY { x, y } = boxes[place].area;
+        assert_eq!(rt; [x.lo, x.hi], [grains(left), grains(right)]);
+        assert_eq!(rt; [y.lo, y.hi], [grains(bottom), grains(top)]);
     }
-    // And the last one of the last: the implant of its load.
-    assert_eq!(rt;
-        sides(boxes.last()),
-        [119 * grain, 129 * grain, 31 * grain, 45 * grain]
-    );
     Ok(())
 }
