@@ -11,7 +11,7 @@ use rule_table::Tech;
 use sym_items::{Coords, Item, box_of};
 
 // Whether two items are bound and their gap is below their spacing.
-fn is_near(tech: &Tech, coords: &Coords, a: &Item, b: &Item) -> bool
+pub(crate) fn is_near(tech: &Tech, coords: &Coords, a: &Item, b: &Item) -> bool
     requires first { HasBox coords.now a.now }
     requires second { HasBox coords.now b.now }
     ensures { result ≡ is_near tech.now coords.now a.now b.now }

@@ -10,6 +10,7 @@ mod clash;
 mod extent;
 mod laws;
 mod layout;
+mod nearby;
 #[cfg(test)]
 mod tests;
 
@@ -17,3 +18,4 @@ pub use clash::find_clash;
 pub use extent::pitch;
 pub use laws::{near_share_a_point, start_gives_boxes, start_is_a_layout, start_keeps_apart};
 pub use layout::start;
+pub use nearby::first_clash;
