@@ -2,6 +2,7 @@ pub mod Folds
 pub mod Extents
 pub mod Lines
 pub mod Nears
+pub mod NearItems
 pub mod Starts
 pub mod Reaches
 pub mod Grid

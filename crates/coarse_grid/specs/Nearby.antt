@@ -1,7 +1,6 @@
 -- The boxes of a layout's items, among which those that are too near one another are looked for.
 use Rattle.std.specs.Prelude.{◌≡◌, ℕ, ◌<◌, true, Contains, All, Option, Some, List, length, slice_get}
 use Rattle.lam_geom.specs.declared.boxes.MaskBox.{MaskBox}
-use Rattle.lam_geom.specs.declared.boxes.MaskLayer.{MaskLayer}
 use Rattle.lam_geom.specs.declared.boxes.MaskLayer.TheVariants.{ND}
 use Rattle.lam_geom.specs.Places.{IsPlacedBox}
 use Rattle.rule_table.specs.declared.technology.Tech.{Tech}

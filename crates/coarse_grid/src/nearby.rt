@@ -1,7 +1,6 @@
 //! The first pair of items that are too near one another in a layout, found among the items that lie near each item.
 
-ghost use Rattle.std.specs.Prelude.{◌≡◌, ◌<◌, ◌≤◌, ◌^◌, ℕ, pos, ◌≤ℤ◌, true, false, None, length, All, OnOk, IfOk, IfNone, IfSome};
-ghost use Rattle.rule_table.specs.Technology.{widest_of};
+ghost use Rattle.std.specs.Prelude.{◌≡◌, ◌↔◌, ◌<◌, ◌≤◌, ◌^◌, ℕ, true, false, None, length, All, IsTrue, OnOk, IfOk, IfNone, IfSome};
 ghost use Rattle.sym_items.specs.Boxes.{HasBox};
 ghost use Rattle.pair_rules.specs.Clean.{IsClean};
 ghost use Rattle.coarse_grid.specs.Clash.{is_near_at, IsFirstClash};
@@ -52,6 +51,13 @@ fn find_near(
     index.near(MaskLayer::ND, &boxes[i as usize].area, reach, found)
 }
 
+// Whether number `j` comes after `i`, and before the first one if there is one.
+fn is_between(i: u32, j: u32, first: Option<u32>) -> bool
+    ensures { IsTrue result ↔ ((i < j) × IfSome first (λ k. j < k)) }
+{
+    j > i && first.is_none_or(|k| j < k)
+}
+
 // The first item after item `i` that is too near to it, where all that are too near to it are among those found.
 fn first_found(tech: &Tech, items: &[Item], coords: &Coords, i: u32, found: &[u32]) -> Option<u32>
     requires few { length items.now < 2 ^ 32 }
@@ -64,8 +70,9 @@ fn first_found(tech: &Tech, items: &[Item], coords: &Coords, i: u32, found: &[u3
 {
     let mut first = None;
     for j in found {
-        let is_earlier = *j > i && first.is_none_or(|k| *j < k);
-        if is_earlier && is_near(tech, coords, &items[i as usize], &items[*j as usize]) {
+        if is_between(i, *j, first)
+            && is_near(tech, coords, &items[i as usize], &items[*j as usize])
+        {
             first = Some(*j);
         }
     }
