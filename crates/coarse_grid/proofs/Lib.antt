@@ -3,6 +3,7 @@ pub mod Extents
 pub mod Lines
 pub mod Nears
 pub mod NearItems
+pub mod FewItems
 pub mod Starts
 pub mod Reaches
 pub mod Grid
