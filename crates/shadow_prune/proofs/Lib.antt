@@ -1,8 +1,3 @@
-pub mod Spacings
-pub mod PairLists
-pub mod Pruning
-pub mod KeptPairs
-pub mod Chains
 pub mod Near
 pub mod KeptSoFar
 pub mod WorkedRow

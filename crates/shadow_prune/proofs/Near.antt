@@ -16,8 +16,8 @@ use Rattle.pair_rules.specs.Bound.{item_at}
 use Rattle.pair_rules.specs.Candidates.{pair_with, pairs_at, spacing_at, item_numbers, candidates_to}
 use Rattle.pair_rules.specs.Kept.{least_of, reaches, shadows, is_constant, is_kept}
 use Rattle.shadow_prune.specs.Near.{EndsIn, AreAllNear}
-use Rattle.shadow_prune.proofs.PairLists.{all_pieces_from}
-use Rattle.shadow_prune.proofs.Spacings.{facing_bounds}
+use Rattle.pair_chains.proofs.PairLists.{all_pieces_from}
+use Rattle.pair_chains.proofs.Spacings.{facing_bounds}
 
 -- a candidate that ends at item j
 pub record EndsAt (axis : Axis) (t : Tech) (c : Coords) (items : List Item) (j : ℕ) (p : Pair) : Type 0 where

@@ -5,7 +5,7 @@ use Rattle.pair_rules.specs.declared.pairs.Pair.{Pair}
 use Rattle.pair_rules.specs.Candidates.{candidates_to}
 use Rattle.pair_rules.specs.Kept.{is_kept, kept_of}
 use Rattle.shadow_prune.proofs.Near.{are_all_near}
-use Rattle.shadow_prune.proofs.KeptPairs.{AreKept, are_kept}
+use Rattle.pair_chains.proofs.KeptPairs.{AreKept, are_kept}
 use Rattle.shadow_prune.proofs.KeptSoFar.{more_for, kept_added, kept_so_far}
 use Rattle.shadow_prune.proofs.keeping.kept.Goals.{After-as_slice, After-drop-near-2}
 use Rattle.shadow_prune.proofs.keeping.kept.Goals as goal

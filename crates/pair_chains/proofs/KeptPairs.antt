@@ -18,9 +18,9 @@ use Rattle.pair_rules.specs.Bound.{item_at}
 use Rattle.pair_rules.specs.Candidates.{spacing_at, item_numbers, candidates_of, high_end, low_end, Keeps}
 use Rattle.pair_rules.specs.Kept.{Shadows, IsKept, least_of, reaches, shadows, is_constant, is_kept, kept_of}
 use Rattle.pair_rules.proofs.FacingItems.{out_of_facing, candidate_faces}
-use Rattle.shadow_prune.proofs.Spacings.{facing_bounds}
-use Rattle.shadow_prune.proofs.PairLists.{found_number, of_filtered, all_candidates, is_candidate}
-use Rattle.shadow_prune.proofs.Pruning.{reach_of, kept_among, candidates_apart}
+use Rattle.pair_chains.proofs.Spacings.{facing_bounds}
+use Rattle.pair_chains.proofs.PairLists.{found_number, of_filtered, all_candidates, is_candidate}
+use Rattle.pair_chains.proofs.Pruning.{reach_of, kept_among, candidates_apart}
 
 -- an item shadows a pair where the test says so
 does_shadow : (axis : Axis) (t : Tech) (c : Coords) (items : List Item) (p : Pair) (k : ℕ) → shadows axis t c items p k ≡ true → Shadows axis t c items p k
