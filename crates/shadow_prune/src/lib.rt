@@ -6,6 +6,7 @@
 #![tactic(auto)]
 
 mod keeping;
+mod runs;
 #[cfg(test)]
 mod tests;
 
