@@ -26,7 +26,7 @@ use Rattle.pitch_join.specs.Layouts.{LayoutsMeet}
 use Rattle.pitch_join.specs.Meeting.{MeetsPlan, HaveBoxes}
 use Rattle.pitch_join.proofs.Bases.{var_within}
 use Rattle.pitch_join.proofs.Solving.{joining_meets}
-use Rattle.shadow_prune.proofs.Pruning.{candidates_apart}
+use Rattle.pair_chains.proofs.Pruning.{candidates_apart}
 use Rattle.pass_run.specs.declared.step.Step.{Step}
 use Rattle.pass_run.specs.Laid.{IsLaidOut, AreLaidOut, AreSettled}
 use Rattle.pass_run.specs.Layouts.{joint_values, local_values, moved_by}

@@ -1,8 +1,6 @@
-pub mod Spacings
-pub mod PairLists
-pub mod Pruning
-pub mod KeptPairs
-pub mod Chains
 pub mod Near
+pub mod SameLists
+pub mod Fronts
+pub mod Skipping
 pub mod KeptSoFar
 pub mod WorkedRow

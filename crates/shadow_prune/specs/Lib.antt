@@ -1,5 +1,4 @@
 pub mod KeptFaults
-pub mod Pruning
-pub mod Near
-pub mod Chains
+pub mod Fronts
+pub mod Runs
 pub mod Worked

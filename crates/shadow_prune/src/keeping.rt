@@ -1,7 +1,7 @@
 //! The kept pairs of a layout.
 
 ghost use Rattle.std.specs.Prelude.{◌≡◌, ◌<◌, ◌≤◌, ◌^◌, ◌+◌, ◌++◌, pos, ◌≤ℤ◌, ◌+ℤ◌, int_le, Some, length, filter, All, OnOk, IfOk, IfErr};
-ghost use Rattle.std.specs.List.{Contains};
+ghost use Rattle.std.specs.List.{Contains, list_any};
 ghost use Rattle.sym_items.specs.Boxes.{HasBox};
 ghost use Rattle.sym_items.specs.Values.{value_of};
 ghost use Rattle.sym_items.specs.Transposed.{values_along};
@@ -11,11 +11,14 @@ ghost use Rattle.pair_rules.specs.Clean.{IsClean};
 ghost use Rattle.pair_rules.specs.Kept.{IsKept, least_of, reaches, is_constant, is_kept, kept_of};
 ghost use Rattle.shadow_prune.specs.declared.keeping.KeptFault.TheVariants.{OutOfMemory};
 ghost use Rattle.shadow_prune.specs.KeptFaults.{RefusesKept};
-ghost use Rattle.shadow_prune.specs.Near.{EndsIn, AreAllNear};
+ghost use Rattle.shadow_prune.specs.Fronts.{IsPairOf, IsFrontOfOne, StandsBehind, shadows_by};
+ghost use Rattle.shadow_prune.specs.Runs.{AreRuns};
 
+use crate::runs::{are_of_one_metal, mark_runs};
 use lam_geom::Axis;
-use pair_rules::{Pair, facing_spacing, push_pairs_to};
+use pair_rules::{Pair, facing_spacing};
 use rule_table::Tech;
+use scan_line::Lanes;
 use std::alloc::{AllocError, AllocFailed, Global};
 use sym_items::{Coords, Item};
 use thiserror::Error;
@@ -90,62 +93,100 @@ fn is_constant(axis: Axis, items: &[Item], pair: Pair) -> bool
     first.high(axis).var == second.low(axis).var
 }
 
-// Whether a candidate is kept, by all candidates that end where it ends. It begins with the last of them: in a design that is
-// drawn from left to right an item that shadows is then found at once.
+// Whether one of the nearer pairs of its front shadows a pair. It goes from the pair towards the nearest, and passes a run of
+// metal of the pair's own net in one step, as no spacing binds the two: so two nets that face each other with n items each
+// take some n * n steps, and not n times as many.
+fn is_shadowed(
+    axis: Axis,
+    tech: &Tech,
+    items: &[Item],
+    coords: &Coords,
+    pair: Pair,
+    nearer: &[Pair],
+    runs: &[usize],
+) -> bool
+    requires boxes { All (HasBox coords.now) items.now }
+    requires pair { IsPairOf items.now pair }
+    requires nearer { All (IsPairOf items.now) nearer.now }
+    requires each { length nearer.now ≤ length runs.now }
+    requires runs { AreRuns items.now nearer.now runs.now }
+    ensures { result ≡ list_any (shadows_by axis tech.now coords.now items.now pair) nearer.now }
+{
+    let first = &items[pair.i as usize];
+    let mut left = nearer.len();
+    while left > 0 {
+        let behind = nearer[left - 1];
+        if are_of_one_metal(first, &items[behind.i as usize]) {
+            left = runs[left - 1];
+        } else if is_shadowed_by(axis, tech, items, coords, pair, behind) {
+            return true;
+        } else {
+            left -= 1;
+        }
+    }
+    false
+}
+
+// Whether a candidate of a front is kept, by those of the front that are nearer.
 fn is_kept(
     axis: Axis,
     tech: &Tech,
     items: &[Item],
     coords: &Coords,
     pair: Pair,
-    near: &[Pair],
+    nearer: &[Pair],
+    runs: &[usize],
 ) -> bool
     requires boxes { All (HasBox coords.now) items.now }
-    requires near { EndsIn axis tech.now coords.now items.now near.now pair }
-    requires among { Contains near.now pair }
+    requires behind { StandsBehind axis tech.now coords.now items.now nearer.now pair }
+    requires each { length nearer.now ≤ length runs.now }
+    requires runs { AreRuns items.now nearer.now runs.now }
     ensures { result ≡ is_kept axis tech.now coords.now items.now pair }
 {
-    if is_constant(axis, items, pair) {
-        return false;
-    }
-    for behind in near.iter().rev() {
-        if is_shadowed_by(axis, tech, items, coords, pair, *behind) {
-            return false;
-        }
-    }
-    true
+    !is_constant(axis, items, pair) && !is_shadowed(axis, tech, items, coords, pair, nearer, runs)
 }
 
-// Adds the kept pairs among all candidates that end at an item, if there is room for them.
-fn push_kept(
-    kept: &mut Vec<Pair>,
-    limit: u32,
+// Lists the kept pairs of a front, in its order, in place of what was in `found`.
+fn keep_front(
+    found: &mut Vec<Pair>,
     axis: Axis,
     tech: &Tech,
     items: &[Item],
     coords: &Coords,
-    near: &[Pair],
-) -> Result<(), KeptFault>
+    front: &[Pair],
+    runs: &[usize],
+) -> Result<(), AllocError>
     requires boxes { All (HasBox coords.now) items.now }
-    requires near { AreAllNear axis tech.now coords.now items.now near.now }
-    requires room { length kept.old.items ≤ limit }
-    ensures pushed { OnOk result (kept.new.items ≡ kept.old.items ++ filter (is_kept axis tech.now coords.now items.now) near.now) }
-    ensures few { OnOk result (length kept.new.items ≤ limit) }
-    ensures fault { IfErr result (RefusesKept limit (length kept.old.items + length (filter (is_kept axis tech.now coords.now items.now) near.now))) }
+    requires front { IsFrontOfOne axis tech.now coords.now items.now front.now }
+    requires each { length runs.now ≡ length front.now }
+    requires runs { AreRuns items.now front.now runs.now }
+    ensures { OnOk result (found.new.items ≡ filter (is_kept axis tech.now coords.now items.now) front.now) }
 {
-    for pair in near {
-        if is_kept(axis, tech, items, coords, *pair, near) {
-            if kept.len() >= limit as usize {
-                return Err(KeptFault::TooMany);
-            }
-            kept.push(*pair)?;
+    found.clear();
+    for (place, pair) in front.iter().enumerate() {
+        if is_kept(axis, tech, items, coords, *pair, &front[..place], runs) {
+            found.push(*pair)?;
         }
     }
     Ok(())
 }
 
-/// The kept pairs of an axis in a clean layout, in order of (j, i), if there are at most `limit`. It looks at each pair of
-/// items, and for each candidate at the other candidates that end where it ends.
+// Adds the kept pairs of an item, if there is room for them.
+fn push_kept(kept: &mut Vec<Pair>, limit: u32, found: &[Pair]) -> Result<(), KeptFault>
+    requires room { length kept.old.items ≤ limit }
+    ensures pushed { OnOk result (kept.new.items ≡ kept.old.items ++ found.now) }
+    ensures few { OnOk result (length kept.new.items ≤ limit) }
+    ensures fault { IfErr result (RefusesKept limit (length kept.old.items + length found.now)) }
+{
+    if found.len() > limit as usize - kept.len() {
+        return Err(KeptFault::TooMany);
+    }
+    kept.extend_from_slice(found)?;
+    Ok(())
+}
+
+/// The kept pairs of an axis in a clean layout, in order of (j, i), if there are at most `limit`. It looks at the
+/// front of each item alone: a candidate behind it is shadowed, and what shadows a candidate of it stands in it, nearer.
 pub fn kept(
     alloc: Global,
     axis: Axis,
@@ -165,12 +206,17 @@ pub fn kept(
     ensures apart { IfOk result (λ pairs. All (Keeps axis (value_of (values_along axis coords.now)) items.now) pairs.items) }
     ensures fault { IfErr result (RefusesKept limit (length (kept_of axis tech.now coords.now items.now))) }
 {
+    let lanes = Lanes::new(alloc, axis, items, coords)?;
     let mut kept = Vec::new(alloc);
-    let mut near = Vec::new(alloc);
+    let mut front = Vec::new(alloc);
+    let mut runs = Vec::new(alloc);
+    let mut found = Vec::new(alloc);
     for j in 0..items.len() as u32 {
-        near.clear();
-        push_pairs_to(&mut near, axis, tech, items, coords, j)?;
-        push_kept(&mut kept, limit, axis, tech, items, coords, near.as_slice())?;
+        lanes.front(axis, tech, items, coords, j, &mut front)?;
+        mark_runs(&mut runs, items, &front)?;
+        keep_front(&mut found, axis, tech, items, coords, &front, &runs)?;
+        found.sort_unstable_by_key(|pair| pair.i);
+        push_kept(&mut kept, limit, &found)?;
     }
     Ok(kept)
 }

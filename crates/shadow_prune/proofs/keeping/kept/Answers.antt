@@ -1,24 +1,30 @@
-use Rattle.std.proofs.Common.{◌≡◌, ℕ, Bool, ◌+◌, ◌++◌, List, length, ap, ◌∙◌, arith}
-use Rattle.std.specs.List.{filter, flat_map, range_with_len}
+use Rattle.std.proofs.Common.{◌≡◌, ℕ, ◌<◌, Bool, ◌+◌, ◌++◌, List, length, ap, ◌∙◌, subst, sym, arith, rules}
+use Rattle.std.specs.List.{All, filter, flat_map, range_with_len}
 use Rattle.std.proofs.lemmas.Result.{err_from_is_err_and}
+use Rattle.std.proofs.lemmas.List.Sorted.{IsNonDecreasingBy-from_sort_by_key}
 use Rattle.pair_rules.specs.declared.pairs.Pair.{Pair}
 use Rattle.pair_rules.specs.Candidates.{candidates_to}
 use Rattle.pair_rules.specs.Kept.{is_kept, kept_of}
-use Rattle.shadow_prune.proofs.Near.{are_all_near}
-use Rattle.shadow_prune.proofs.KeptPairs.{AreKept, are_kept}
+use Rattle.pair_chains.proofs.KeptPairs.{AreKept, are_kept}
+use Rattle.shadow_prune.proofs.Fronts.{front_pairs, kept_of_front}
 use Rattle.shadow_prune.proofs.KeptSoFar.{more_for, kept_added, kept_so_far}
-use Rattle.shadow_prune.proofs.keeping.kept.Goals.{After-as_slice, After-drop-near-2}
+use Rattle.shadow_prune.proofs.keeping.kept.Goals.{After-deref-in-loop-j-3, After-drop-lanes-2}
 use Rattle.shadow_prune.proofs.keeping.kept.Goals as goal
 
--- the candidates that end at item j
-near_is : (c : After-as_slice) → c.as_slice.result.now ≡ candidates_to c.args.axis c.args.tech.now c.args.coords.now c.args.items.now c.loop-j.j
-near_is c =
-    let ends = candidates_to c.args.axis c.args.tech.now c.args.coords.now c.args.items.now c.loop-j.j in
-    c.as_slice.ensures.value ∙ (c.in_ok-push_pairs_to.ensures.ok ∙ ap (λ ps. ps ++ ends) c.clear.ensures.items)
+-- what was found for item j are the kept pairs that end at it
+found_is : (c : After-deref-in-loop-j-3) → c.deref-in-loop-j-3.result.now ≡ filter (is_kept c.args.axis c.args.tech.now c.args.coords.now c.args.items.now) (candidates_to c.args.axis c.args.tech.now c.args.coords.now c.args.items.now c.loop-j.j)
+found_is c =
+    c.deref-in-loop-j-3.ensures.value
+    ∙ kept_of_front c.args.axis c.args.tech.now c.args.coords.now c.args.items.now c.loop-j.j c.front.new.front.items c.keep_front.new.found.items c.sort_unstable_by_key.new.self.items c.in_ok-front.ensures
+    (c.in_ok-keep_front.ensures ∙ ap (filter (is_kept c.args.axis c.args.tech.now c.args.coords.now c.args.items.now)) c.deref-in-loop-j.ensures.value)
+    c.sort_unstable_by_key.ensures.permutation
+    (IsNonDecreasingBy-from_sort_by_key (λ (p : Pair). p.i) c.sort_unstable_by_key.new.self.items c.sort_unstable_by_key.ensures.sorted (λ a r q k. search rules))
 
-pub push_kept-requires-clause-near : goal.push_kept-requires-clause-near
-push_kept-requires-clause-near c =
-    are_all_near c.args.axis c.args.tech.now c.args.coords.now c.args.items.now c.loop-j.j c.as_slice.result.now (omega arith) (near_is (goal.at.push_kept-requires-clause-near c).After-as_slice)
+pub mark_runs-requires : goal.mark_runs-requires
+mark_runs-requires c =
+    let pairs = front_pairs c.args.axis c.args.tech.now c.args.coords.now c.args.items.now c.front.new.front.items (record { item = c.loop-j.j; among = omega arith; front = c.in_ok-front.ensures }) in
+    let A : List Pair → Type 0 = λ l. All (λ (p : Pair). p.i < length c.args.items.now) l in
+    record { among = subst A (sym c.deref.ensures.value) (λ k d lt. (pairs k d lt).among) }
 
 pub returns-in_err-push_kept-clause-fault : goal.returns-in_err-push_kept-clause-fault
 returns-in_err-push_kept-clause-fault c =
@@ -27,10 +33,10 @@ returns-in_err-push_kept-clause-fault c =
     let test : Pair → Bool = is_kept c.args.axis c.args.tech.now c.args.coords.now items in
     let few = c.requires.few in
     let below = c.loop-j-test.true in
-    let same = ap (λ ps. length (filter test ps)) (near_is (goal.at.returns-in_err-push_kept-clause-fault c).After-as_slice) in
+    let same = ap length (found_is (goal.at.returns-in_err-push_kept-clause-fault c).After-deref-in-loop-j-3) in
     let more = kept_so_far test f c.loop-j.j (length items) c.loop-j.kept.items (omega arith) c.loop-j.invariant.pushed in
     let p = err_from_is_err_and c.from_residual-in_err-push_kept.result c.from_residual-in_err-push_kept.ensures.1 in
-    rw p.1 (more_for c.args.limit (length c.loop-j.kept.items + length (filter test c.as_slice.result.now)) (length (kept_of c.args.axis c.args.tech.now c.args.coords.now items)) _
+    rw p.1 (more_for c.args.limit (length c.loop-j.kept.items + length c.deref-in-loop-j-3.result.now) (length (kept_of c.args.axis c.args.tech.now c.args.coords.now items)) _
     (omega (arith, same, more)) (rw p.2 c.in_err-push_kept.ensures.fault))
 
 pub loop-j-preserved : goal.loop-j-preserved
@@ -39,12 +45,12 @@ loop-j-preserved c =
     let test : Pair → Bool = is_kept c.args.axis c.args.tech.now c.args.coords.now c.args.items.now in
     record {
       pushed = kept_added test f c.loop-j.j c.loop-j.kept.items c.push_kept.new.kept.items c.loop-j.invariant.pushed
-          (c.in_ok-push_kept.ensures.pushed ∙ ap (λ ps. c.loop-j.kept.items ++ filter test ps) (near_is (goal.at.loop-j-preserved c).After-as_slice));
+          (c.in_ok-push_kept.ensures.pushed ∙ ap (λ ps. c.loop-j.kept.items ++ ps) (found_is (goal.at.loop-j-preserved c).After-deref-in-loop-j-3));
       few = c.in_ok-push_kept.ensures.few;
     }
 
 -- the list is that of the definition
-told : (c : After-drop-near-2) → AreKept c.args.axis c.args.tech.now c.args.coords.now c.args.items.now c.loop-j.kept.items
+told : (c : After-drop-lanes-2) → AreKept c.args.axis c.args.tech.now c.args.coords.now c.args.items.now c.loop-j.kept.items
 told c =
     let f : ℕ → List Pair = candidates_to c.args.axis c.args.tech.now c.args.coords.now c.args.items.now in
     let test : Pair → Bool = is_kept c.args.axis c.args.tech.now c.args.coords.now c.args.items.now in
@@ -53,13 +59,13 @@ told c =
     (c.loop-j.invariant.pushed ∙ ap (λ n. filter test (flat_map f (range_with_len 0 n))) all)
 
 pub returns-clause-each : goal.returns-clause-each
-returns-clause-each c = (told (goal.at.returns-clause-each c).After-drop-near-2).each
+returns-clause-each c = (told (goal.at.returns-clause-each c).After-drop-lanes-2).each
 
 pub returns-clause-all : goal.returns-clause-all
-returns-clause-all c = (told (goal.at.returns-clause-all c).After-drop-near-2).all
+returns-clause-all c = (told (goal.at.returns-clause-all c).After-drop-lanes-2).all
 
 pub returns-clause-spacings : goal.returns-clause-spacings
-returns-clause-spacings c = (told (goal.at.returns-clause-spacings c).After-drop-near-2).spacings
+returns-clause-spacings c = (told (goal.at.returns-clause-spacings c).After-drop-lanes-2).spacings
 
 pub returns-clause-apart : goal.returns-clause-apart
-returns-clause-apart c = (told (goal.at.returns-clause-apart c).After-drop-near-2).apart
+returns-clause-apart c = (told (goal.at.returns-clause-apart c).After-drop-lanes-2).apart

@@ -18,9 +18,9 @@ use Rattle.pair_rules.specs.Bound.{item_at}
 use Rattle.pair_rules.specs.Candidates.{spacing_at, item_numbers, candidates_of, high_end, low_end, Keeps}
 use Rattle.pair_rules.specs.Kept.{Shadows, IsKept, least_of, reaches, shadows, is_constant, is_kept, kept_of}
 use Rattle.pair_rules.proofs.FacingItems.{out_of_facing, candidate_faces}
-use Rattle.shadow_prune.proofs.Spacings.{facing_bounds}
-use Rattle.shadow_prune.proofs.PairLists.{found_number, of_filtered, all_candidates, is_candidate}
-use Rattle.shadow_prune.proofs.Pruning.{reach_of, kept_among, candidates_apart}
+use Rattle.pair_chains.proofs.Spacings.{facing_bounds}
+use Rattle.pair_chains.proofs.PairLists.{found_number, of_filtered, all_candidates, is_candidate}
+use Rattle.pair_chains.proofs.Pruning.{reach_of, kept_among, candidates_apart}
 
 -- an item shadows a pair where the test says so
 does_shadow : (axis : Axis) (t : Tech) (c : Coords) (items : List Item) (p : Pair) (k : ℕ) → shadows axis t c items p k ≡ true → Shadows axis t c items p k
@@ -40,14 +40,14 @@ far_enough s before least after h = grind (arith, ints)
 reaching : (s : ℤ) (o : Option ℤ) (least : ℤ) (q : Option ℤ) (before after : ℤ) → o ≡ Some before → q ≡ Some after → s ≤ℤ ((before +ℤ least) +ℤ after) → reaches s o least q ≡ true
 reaching s o least q before after e f h = rw (e, f) (far_enough s before least after h)
 
-test_shadows : (axis : Axis) (t : Tech) (c : Coords) (items : List Item) (p : Pair) (k : ℕ) → Shadows axis t c items p k → shadows axis t c items p k ≡ true
+pub test_shadows : (axis : Axis) (t : Tech) (c : Coords) (items : List Item) (p : Pair) (k : ℕ) → Shadows axis t c items p k → shadows axis t c items p k ≡ true
 test_shadows axis t c items p k h =
     reaching p.s (spacing_at axis t c items p.i k) (least_of axis items k) (spacing_at axis t c items k p.j) h.before h.after
     (candidate_faces axis t c (item_at items p.i) (item_at items k) h.before h.first)
     (candidate_faces axis t c (item_at items k) (item_at items p.j) h.after h.second) h.reaches
 
 -- a test that some number passes
-any_number : (test : ℕ → Bool) (n k : ℕ) → k < n → test k ≡ true → list_any test (range_with_len 0 n) ≡ true
+pub any_number : (test : ℕ → Bool) (n k : ℕ) → k < n → test k ≡ true → list_any test (range_with_len 0 n) ≡ true
 any_number test n k lt h =
     let at : get_or (range_with_len 0 n) k 0 ≡ k = get_or-range_with_len 0 n k 0 lt ∙ zero-add k in
     list_any_at test (range_with_len 0 n) k 0 (omega (arith, lt, length-range_with_len 0 n)) (ap test at ∙ h)

@@ -12,10 +12,10 @@ use Rattle.pair_rules.specs.Bound.{item_at}
 use Rattle.pair_rules.specs.Candidates.{high_end, low_end}
 use Rattle.pair_rules.specs.Kept.{least_of}
 use Rattle.pair_rules.proofs.FacingItems.{out_of_facing}
-use Rattle.shadow_prune.specs.Chains.{IsLink, LeadsTo, reach_of, IsChained, LeavesChains}
-use Rattle.shadow_prune.proofs.PairLists.{all_candidates}
-use Rattle.shadow_prune.proofs.Pruning.{shows_of_candidates}
-use Rattle.shadow_prune.proofs.KeptPairs.{kept_by_test}
+use Rattle.pair_chains.specs.Chains.{IsLink, LeadsTo, reach_of, IsChained, LeavesChains}
+use Rattle.pair_chains.proofs.PairLists.{all_candidates}
+use Rattle.pair_chains.proofs.Pruning.{shows_of_candidates}
+use Rattle.pair_chains.proofs.KeptPairs.{kept_by_test}
 
 one_link : (axis : Axis) (t : Tech) (c : Coords) (items : List Item) (p : Pair) → IsLink axis t c items p → IsChained axis t c items p.i p.j p.s
 one_link axis t c items p link =

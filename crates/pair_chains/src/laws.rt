@@ -1,7 +1,7 @@
 //! Pruning loses nothing.
 
-ghost use Rattle.shadow_prune.specs.Chains.{LeavesChains};
-ghost use Rattle.shadow_prune.specs.Pruning.{LosesNothing};
+ghost use Rattle.pair_chains.specs.Chains.{LeavesChains};
+ghost use Rattle.pair_chains.specs.Pruning.{LosesNothing};
 
 use lam_geom::Axis;
 use rule_table::Tech;

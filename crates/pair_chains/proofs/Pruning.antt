@@ -19,9 +19,9 @@ use Rattle.pair_rules.specs.Bound.{item_at, no_item}
 use Rattle.pair_rules.specs.Candidates.{IsCandidate, spacing_at, item_numbers, candidates_of, high_end, low_end, Keeps}
 use Rattle.pair_rules.specs.Kept.{least_of, reaches, shadows, is_constant, is_kept, kept_of}
 use Rattle.pair_rules.proofs.FacingItems.{out_of_facing}
-use Rattle.shadow_prune.specs.Pruning.{LosesNothing}
-use Rattle.shadow_prune.proofs.Spacings.{facing_bounds}
-use Rattle.shadow_prune.proofs.PairLists.{found_number, of_filtered, all_candidates, is_candidate}
+use Rattle.pair_chains.specs.Pruning.{LosesNothing}
+use Rattle.pair_chains.proofs.Spacings.{facing_bounds}
+use Rattle.pair_chains.proofs.PairLists.{found_number, of_filtered, all_candidates, is_candidate}
 
 -- ---- over plain numbers
 

@@ -1,0 +1,5 @@
+pub mod Spacings
+pub mod PairLists
+pub mod Pruning
+pub mod KeptPairs
+pub mod Chains

@@ -1,0 +1,30 @@
+-- The front of an item: its nearest candidates, behind which all are shadowed.
+use Rattle.std.specs.Prelude.{◌≡◌, ℕ, ◌<◌, ◌⊎◌, List, length, All, AllPairs, Contains}
+use Rattle.lam_geom.specs.declared.boxes.Axis.{Axis}
+use Rattle.rule_table.specs.declared.technology.Tech.{Tech}
+use Rattle.sym_items.specs.declared.items.Item.{Item}
+use Rattle.sym_items.specs.declared.items.Coords.{Coords}
+use Rattle.pair_rules.specs.declared.pairs.Pair.{Pair}
+use Rattle.pair_rules.specs.Candidates.{candidates_to}
+use Rattle.pair_rules.specs.Kept.{Shadows}
+use Rattle.scan_line.specs.Order.{ComesBefore}
+
+-- some item shadows a pair
+abbrev pub IsShadowed : Axis → Tech → Coords → List Item → Pair → Type 0
+IsShadowed axis t c items p = (k : ℕ) × (k < length items) × Shadows axis t c items p k
+
+-- of two pairs that end at one item, the first begins with the item to which the scan comes later
+abbrev pub IsNearer : Axis → Coords → List Item → Pair → Pair → Type 0
+IsNearer axis c items p q = ComesBefore axis c items q.i p.i
+
+-- a pair lies behind all pairs of a front, and is shadowed
+pub record IsBehind (axis : Axis) (t : Tech) (c : Coords) (items : List Item) (front : List Pair) (p : Pair) : Type 0 where
+  pub farther : All (λ (q : Pair). IsNearer axis c items q p) front
+  pub shadowed : IsShadowed axis t c items p
+
+-- A front of item j: candidates that end at it, nearest first; each candidate that ends there is one of them, or lies behind them and is
+-- shadowed.
+pub record IsFront (axis : Axis) (t : Tech) (c : Coords) (items : List Item) (j : ℕ) (front : List Pair) : Type 0 where
+  pub candidates : All (Contains (candidates_to axis t c items j)) front
+  pub nearest_first : AllPairs (IsNearer axis c items) front
+  pub rest : (p : Pair) → Contains (candidates_to axis t c items j) p → Contains front p ⊎ IsBehind axis t c items front p

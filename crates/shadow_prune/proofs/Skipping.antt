@@ -1,0 +1,74 @@
+-- Metal of one net is not bound, so it shadows nothing of that net, and a run of it may be passed.
+use Rattle.std.proofs.Common.{◌≡◌, ℕ, ◌+◌, ◌<◌, ◌≤◌, Bool, true, false, cond, ℤ, List, length, get_or, Option, Some, None, refl, sym, ◌∙◌, subst, inl, inr, arith, eq-eqb}
+use Rattle.std.specs.List.{list_any}
+use Rattle.std.proofs.lemmas.Bool.{cases_lt}
+use Rattle.std.proofs.lemmas.List.{get_or_default}
+use Rattle.std.proofs.lemmas.List.Folds.{list_any_none}
+use Rattle.lam_geom.specs.declared.boxes.Axis.{Axis}
+use Rattle.rule_table.specs.declared.classes.Class.TheVariants.{M}
+use Rattle.rule_table.specs.declared.keys.Numbers.{Numbers}
+use Rattle.rule_table.specs.declared.technology.Tech.{Tech}
+use Rattle.rule_table.specs.Spacing.{spacing_in}
+use Rattle.rule_table.specs.Technology.{numbers_of}
+use Rattle.sym_items.specs.declared.items.Item.{Item}
+use Rattle.sym_items.specs.declared.items.Coords.{Coords}
+use Rattle.pair_rules.specs.declared.pairs.Pair.{Pair}
+use Rattle.pair_rules.specs.Bound.{item_at, spacing_by, bound_spacing}
+use Rattle.pair_rules.specs.Kept.{least_of, reaches}
+use Rattle.pair_rules.proofs.FacingItems.{not_bound}
+use Rattle.shadow_prune.specs.Fronts.{shadows_by}
+use Rattle.shadow_prune.specs.Runs.{AreAlike, AreOfOneMetal, IsRun}
+
+free_of : (q : Bool) (n : Numbers) (k l : ℕ) → k ≡ l → cond q None (spacing_by (spacing_in n M M) k l) ≡ None
+unfolding spacing_in
+free_of true n k l e = refl
+free_of false n k l e = let same = eq-eqb k l e in rw same refl
+
+metal_is_free : (t : Tech) (a b : Item) → AreOfOneMetal a b → bound_spacing t a b ≡ None
+unfolding bound_spacing
+metal_is_free t a b h = rw (h.first, h.second) (free_of _ (numbers_of t) a.net b.net h.one_net)
+
+nothing_reached : (s : ℤ) (o : Option ℤ) (least after : ℤ) → o ≡ None → reaches s o least (Some after) ≡ false
+nothing_reached s o least after e = rw e refl
+
+-- a pair does not shadow one whose item is of its own metal
+pub not_by_own_metal : (axis : Axis) (t : Tech) (c : Coords) (items : List Item) (p q : Pair) → AreOfOneMetal (item_at items p.i) (item_at items q.i) → shadows_by axis t c items p q ≡ false
+not_by_own_metal axis t c items p q h =
+    nothing_reached p.s _ (least_of axis items q.i) q.s
+    (not_bound axis t c (item_at items p.i) (item_at items q.i) (sym (metal_is_free t (item_at items p.i) (item_at items q.i) h)))
+
+as_alike : (a b c : Item) → AreOfOneMetal a b → AreAlike c b → AreOfOneMetal a c
+as_alike a b c h same = record { first = h.first; second = same.0 ∙ h.second; one_net = h.one_net ∙ sym same.1 }
+
+-- none of a run shadows the pair where its last does not for this reason
+pub run_is_passed : (axis : Axis) (t : Tech) (c : Coords) (items : List Item) (p : Pair) (nearer : List Pair) (begin place : ℕ) (e : Pair) → place < length nearer
+    → AreOfOneMetal (item_at items p.i) (item_at items (get_or nearer place e).i) → IsRun items nearer begin place
+    → ((k : ℕ) (d : Pair) → place + 1 ≤ k → k < length nearer → shadows_by axis t c items p (get_or nearer k d) ≡ false)
+    → (k : ℕ) (d : Pair) → begin ≤ k → k < length nearer → shadows_by axis t c items p (get_or nearer k d) ≡ false
+run_is_passed axis t c items p nearer begin place e lt metal run none k d from below =
+    elim (cases_lt place k) [
+      | inl later ↦ none k d (omega arith) below
+      | inr within ↦
+          let M : Pair → Type 0 = λ r. AreOfOneMetal (item_at items p.i) (item_at items r.i) in
+          not_by_own_metal axis t c items p (get_or nearer k d)
+          (as_alike (item_at items p.i) (item_at items (get_or nearer place d).i) (item_at items (get_or nearer k d).i) (subst M (get_or_default nearer place e d lt) metal) (run.alike k d from within))
+    ]
+
+-- one more pair does not shadow it
+pub one_more : (axis : Axis) (t : Tech) (c : Coords) (items : List Item) (p : Pair) (nearer : List Pair) (place : ℕ) (e : Pair) → place < length nearer
+    → shadows_by axis t c items p (get_or nearer place e) ≡ false
+    → ((k : ℕ) (d : Pair) → place + 1 ≤ k → k < length nearer → shadows_by axis t c items p (get_or nearer k d) ≡ false)
+    → (k : ℕ) (d : Pair) → place ≤ k → k < length nearer → shadows_by axis t c items p (get_or nearer k d) ≡ false
+one_more axis t c items p nearer place e lt not none k d from below =
+    elim (cases_lt place k) [
+      | inl later ↦ none k d (omega arith) below
+      | inr within ↦
+          let S : Pair → Type 0 = λ r. shadows_by axis t c items p r ≡ false in
+          let here : place ≡ k = omega (arith, from, within) in
+          subst (λ (n : ℕ). S (get_or nearer n d)) here (subst S (get_or_default nearer place e d lt) not)
+    ]
+
+-- where none of them does
+pub none_shadows : (axis : Axis) (t : Tech) (c : Coords) (items : List Item) (p : Pair) (nearer : List Pair)
+    → ((k : ℕ) (d : Pair) → 0 ≤ k → k < length nearer → shadows_by axis t c items p (get_or nearer k d) ≡ false) → false ≡ list_any (shadows_by axis t c items p) nearer
+none_shadows axis t c items p nearer none = sym (list_any_none (shadows_by axis t c items p) nearer (λ k d below. none k d (omega arith) below))

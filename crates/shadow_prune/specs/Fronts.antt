@@ -1,0 +1,30 @@
+-- Pairs of a front.
+use Rattle.std.specs.Prelude.{ℕ, ◌<◌, pos, ◌≤ℤ◌, Bool, Some, List, ◌∷◌, ◌++◌, length}
+use Rattle.lam_geom.specs.declared.boxes.Axis.{Axis}
+use Rattle.rule_table.specs.declared.technology.Tech.{Tech}
+use Rattle.sym_items.specs.declared.items.Item.{Item}
+use Rattle.sym_items.specs.declared.items.Coords.{Coords}
+use Rattle.pair_rules.specs.declared.pairs.Pair.{Pair}
+use Rattle.pair_rules.specs.Candidates.{spacing_at}
+use Rattle.pair_rules.specs.Kept.{least_of, reaches}
+use Rattle.scan_line.specs.Front.{IsFront}
+
+-- a pair that begins with one of the items, with a spacing from 1 to 4096
+pub record IsPairOf (items : List Item) (p : Pair) : Type 0 where
+  pub among : p.i < length items
+  pub spacing : (pos 1 ≤ℤ p.s) × (p.s ≤ℤ pos 4096)
+
+-- a front of one of the items
+pub record IsFrontOfOne (axis : Axis) (t : Tech) (c : Coords) (items : List Item) (pairs : List Pair) : Type 0 where
+  pub item : ℕ
+  pub among : item < length items
+  pub front : IsFront axis t c items item pairs
+
+-- a pair of a front, with the pairs of the front that are nearer
+pub record StandsBehind (axis : Axis) (t : Tech) (c : Coords) (items : List Item) (nearer : List Pair) (p : Pair) : Type 0 where
+  pub rest : List Pair
+  pub front : IsFrontOfOne axis t c items (nearer ++ p ∷ rest)
+
+-- the item of a candidate (k, j) shadows the candidate (i, j)
+abbrev pub shadows_by : Axis → Tech → Coords → List Item → Pair → Pair → Bool
+shadows_by axis t c items p q = reaches p.s (spacing_at axis t c items p.i q.i) (least_of axis items q.i) (Some q.s)

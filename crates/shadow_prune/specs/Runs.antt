@@ -1,0 +1,25 @@
+-- Runs of a front: neighbouring pairs that begin with items of one class and one net.
+use Rattle.std.specs.Prelude.{◌≡◌, ℕ, ◌<◌, ◌≤◌, List, length, slice_index, slice_index_or}
+use Rattle.rule_table.specs.declared.classes.Class.TheVariants.{M}
+use Rattle.sym_items.specs.declared.items.Item.{Item}
+use Rattle.pair_rules.specs.declared.pairs.Pair.{Pair}
+use Rattle.pair_rules.specs.Bound.{item_at}
+
+-- two items of one class and one net
+abbrev pub AreAlike : Item → Item → Type 0
+AreAlike a b = (a.class ≡ b.class) × (a.net ≡ b.net)
+
+-- two items that are metal of one net
+pub record AreOfOneMetal (a b : Item) : Type 0 where
+  pub first : a.class ≡ M
+  pub second : b.class ≡ M
+  pub one_net : a.net ≡ b.net
+
+-- the pairs from one place of a list on, up to another, begin with items of one class and one net
+pub record IsRun (items : List Item) (pairs : List Pair) (begin place : ℕ) : Type 0 where
+  pub in_order : begin ≤ place
+  pub alike : (k : ℕ) (d : Pair) → begin ≤ k → k ≤ place → AreAlike (item_at items (slice_index_or pairs k d).i) (item_at items (slice_index_or pairs place d).i)
+
+-- where the run of each pair of a list begins, for the first of them
+abbrev pub AreRuns : List Item → List Pair → List ℕ → Type 0
+AreRuns items pairs runs = (k : ℕ) → k < length pairs → k < length runs → IsRun items pairs (slice_index runs k) k

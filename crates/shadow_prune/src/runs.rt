@@ -1,0 +1,59 @@
+//! Runs of a front: neighbouring pairs that begin with items of one class and one net.
+
+ghost use Rattle.std.specs.Prelude.{◌≡◌, ◌<◌, ◌↔◌, length, slice_index, slice_index_or, All, OnOk, IsTrue};
+ghost use Rattle.pair_rules.specs.Bound.{item_at};
+ghost use Rattle.shadow_prune.specs.Runs.{AreAlike, AreOfOneMetal, IsRun, AreRuns};
+
+use pair_rules::Pair;
+use rule_table::Class;
+use std::alloc::AllocError;
+use sym_items::Item;
+
+/// Whether two items are metal of one net, which need keep no spacing.
+pub fn are_of_one_metal(a: &Item, b: &Item) -> bool
+    ensures { IsTrue result ↔ AreOfOneMetal a.now b.now }
+{
+    matches!((a.class, b.class), (Class::M, Class::M)) && a.net == b.net
+}
+
+// Whether two items are of one class and one net.
+fn are_alike(a: &Item, b: &Item) -> bool
+    ensures { IsTrue result ↔ AreAlike a.now b.now }
+{
+    a.class == b.class && a.net == b.net
+}
+
+/// Where the run of each pair of a front begins, in place of what was in `runs`: the items from there on up to it are of one
+/// class and one net. The only refusal is want of memory.
+pub fn mark_runs(runs: &mut Vec<usize>, items: &[Item], front: &[Pair]) -> Result<(), AllocError>
+    requires among { All (λ p. p.i < length items.now) front.now }
+    ensures each { OnOk result (length runs.new.items ≡ length front.now) }
+    ensures runs { OnOk result (AreRuns items.now front.now runs.new.items) }
+{
+    runs.clear();
+    for place in 0..front.len() {
+        let begin = run_begin(runs.as_slice(), items, front, place);
+        runs.push(begin)?;
+    }
+    Ok(())
+}
+
+// Where the run of a pair begins, by those of the pairs before it.
+fn run_begin(runs: &[usize], items: &[Item], front: &[Pair], place: usize) -> usize
+    requires among { All (λ p. p.i < length items.now) front.now }
+    requires there { place < length front.now }
+    requires each { length runs.now ≡ place }
+    requires runs { AreRuns items.now front.now runs.now }
+    ensures { IsRun items.now front.now result place }
+{
+    if place == 0 {
+        return 0;
+    }
+    let before = &items[front[place - 1].i as usize];
+    let this = &items[front[place].i as usize];
+    if are_alike(before, this) {
+        runs[place - 1]
+    } else {
+        place
+    }
+}
