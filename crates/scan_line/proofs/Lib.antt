@@ -1,0 +1,4 @@
+pub mod Spacings
+pub mod MetalItems
+pub mod PairRuns
+pub mod FrontPairs
