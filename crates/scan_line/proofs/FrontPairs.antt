@@ -172,7 +172,7 @@ taken_shadows axis t c items j xs n m a s clean boxes line h le lt faces foreign
   a,
   h.among,
   cover_shadows axis t c items (get_or xs m 0) a j s h.s clean (boxes a no_item h.among) (line.in_range m 0 lt) h.among faces h.faces h.covers foreign
-  (taken_later axis t c items j xs n m a line h le lt),
+      (taken_later axis t c items j xs n m a line h le lt),
 )
 
 -- three foreign items that cover item j shadow all that lies behind them

@@ -2,3 +2,4 @@ pub mod Spacings
 pub mod MetalItems
 pub mod PairRuns
 pub mod FrontPairs
+pub mod SortedPairs

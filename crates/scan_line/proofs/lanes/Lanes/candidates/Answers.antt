@@ -1,19 +1,32 @@
-use Rattle.std.proofs.Common.{rules, ◌≡◌, ◌<◌, ◌^◌, ◌++◌, length, All, OnOk, IfOk, ℕ, ◌+◌, ◌-◌, ◌*◌, ◌≤◌, ◌/◌, ◌%◌, Bool, true, false, nat_eq, nat_lt, List, [], ◌∷◌, slice_index_or, slice_set, bit_and, bit_or, Fits, w8, w32, w64, Bor, MutBor, ℤ, pos, ◌+ℤ◌, ◌-ℤ◌, ◌*ℤ◌, ◌≤ℤ◌, ◌<ℤ◌, FitsSigned, to_z, of_z}
-use Rattle.sym_items.specs.Boxes.{HasBox}
-use Rattle.pair_rules.specs.Candidates.{candidates_to, pairs_at, is_facing}
-use Rattle.pair_rules.specs.Clean.{IsClean}
-use Rattle.scan_line.specs.Front.{IsFront}
-use Rattle.scan_line.specs.Lanes.{AreLanesOf}
+use Rattle.std.proofs.Common.{◌≡◌, get_or, take, ap, ◌∙◌, arith, rules}
+use Rattle.std.proofs.lemmas.Int.{ints}
+use Rattle.std.proofs.lemmas.List.{take_all, get_or_default}
+use Rattle.std.proofs.lemmas.List.Sorted.{IsNonDecreasingBy-from_sort_by_key}
+use Rattle.pair_rules.specs.declared.pairs.Pair.{Pair}
+use Rattle.scan_line.proofs.PairRuns.{pairs_of}
+use Rattle.scan_line.proofs.FrontPairs.{one_more}
+use Rattle.scan_line.proofs.SortedPairs.{line_to, sorted_pairs}
 use Rattle.scan_line.proofs.lanes.Lanes.candidates.Goals as goal
 
--- src/front.rt:72:9
-pub loop-i-init : goal.loop-i-init
-loop-i-init c = ?
-
--- src/front.rt:72:9
 pub loop-i-preserved : goal.loop-i-preserved
-loop-i-preserved c = ?
+loop-i-preserved c =
+    let line = c.line_to-line.result.now in
+    let n = c.loop-i.i-index in
+    let i = get_or line n 0 in
+    one_more c.args.axis c.args.tech.now c.args.coords.now c.args.items.now c.args.j line n i c.loop-i.found.items c.push_candidate.new.found.items c.loop-i-test.true
+    (get_or_default line n 0 i c.loop-i-test.true) c.loop-i.invariant c.in_ok-push_candidate.ensures.pushed
 
--- src/front.rt:55:5
 pub returns : goal.returns
-returns c = ?
+returns c =
+    let axis = c.args.axis in
+    let t = c.args.tech.now in
+    let k = c.args.coords.now in
+    let items = c.args.items.now in
+    let j = c.args.j in
+    let told = c.line_to-line.ensures in
+    let line = line_to axis t k items j c.widest.result c.line_to-line.result.now c.requires.boxes c.widest.ensures.value told.in_range told.in_order
+    (λ i i_lt before near. told.all i i_lt before (let bounds = c.widest.ensures.bounds in omega (arith, ints, near))) in
+    let whole : take c.loop-i.i-index c.line_to-line.result.now ≡ c.line_to-line.result.now = take_all c.loop-i.i-index c.line_to-line.result.now (omega (arith, c.loop-i-test.false)) in
+    let up = IsNonDecreasingBy-from_sort_by_key (λ (p : Pair). p.i) c.sort_unstable_by_key.new.self.items c.sort_unstable_by_key.ensures.sorted (λ a r q called. search rules) in
+    sorted_pairs axis t k items j c.line_to-line.result.now c.loop-i.found.items c.sort_unstable_by_key.new.self.items line (c.loop-i.invariant ∙ ap (pairs_of axis t k items j) whole)
+    c.sort_unstable_by_key.ensures.permutation up
