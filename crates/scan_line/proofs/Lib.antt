@@ -1,0 +1,4 @@
+mod Along
+mod Sorted
+mod Parts
+mod Scanned

@@ -1,3 +1,4 @@
 pub mod Order
+pub mod Begins
 pub mod Front
 pub mod Lanes

@@ -7,5 +7,6 @@
 
 mod front;
 mod lanes;
+mod sorting;
 
 pub use lanes::Lanes;
