@@ -1,31 +1,28 @@
 -- The candidates along a line of items, nearest first, and where a front of them may end.
-use Rattle.std.proofs.Common.{◌≡◌, ℕ, ◌+◌, ◌-◌, ◌<◌, ◌≤◌, ℤ, ◌<ℤ◌, ◌⊎◌, inl, inr, List, [], ◌∷◌, ◌++◌, length, get_or, take, reverse, Option, Some, None, true, refl, sym, ap, ◌∙◌, subst, arith}
+use Rattle.std.proofs.Common.{◌≡◌, ℕ, ◌+◌, ◌-◌, ◌<◌, ◌≤◌, ℤ, ◌⊎◌, inl, inr, List, [], ◌∷◌, ◌++◌, length, get_or, take, reverse, Some, true, refl, sym, ap, ◌∙◌, subst, arith}
 use Rattle.std.specs.Prelude.{is_some}
 use Rattle.std.specs.List.{All, AllPairs, Contains, flat_map}
-use Rattle.std.proofs.lemmas.Int.{ints}
 use Rattle.std.proofs.lemmas.Bool.{cases_lt}
 use Rattle.std.proofs.lemmas.List.{get_or-take, get_or-reverse, get_or_default, length-reverse, length-take-le, flat_map_more, take_more}
 use Rattle.std.proofs.lemmas.List.Sorted.{IsPermutation-reverse, All-permutation, Contains-permutation}
 use Rattle.lam_geom.specs.declared.boxes.Axis.{Axis}
 use Rattle.rule_table.specs.declared.technology.Tech.{Tech}
-use Rattle.rule_table.specs.Technology.{widest_of}
 use Rattle.sym_items.specs.declared.items.Item.{Item}
 use Rattle.sym_items.specs.declared.items.Coords.{Coords}
 use Rattle.sym_items.specs.Boxes.{HasBox}
-use Rattle.sym_items.specs.Sides.{gap_on_y}
 use Rattle.pair_rules.specs.declared.pairs.Pair.{Pair}
 use Rattle.pair_rules.specs.Bound.{item_at, no_item}
-use Rattle.pair_rules.specs.Candidates.{sides_at, spacing_at, is_facing, pairs_at, candidates_to}
+use Rattle.pair_rules.specs.Candidates.{spacing_at, is_facing, pairs_at, candidates_to}
 use Rattle.pair_rules.specs.Clean.{IsClean}
-use Rattle.pair_rules.proofs.FacingItems.{out_of_facing}
 use Rattle.scan_line.specs.declared.covering.Cover.{Cover}
 use Rattle.scan_line.specs.declared.covering.Cover.TheVariants.{Nothing, One, Two}
 use Rattle.scan_line.specs.Order.{ComesBefore}
+use Rattle.scan_line.specs.Lines.{IsLineTo}
 use Rattle.scan_line.specs.Front.{IsShadowed, IsNearer, IsBehind, IsFront}
 use Rattle.scan_line.specs.Cover.{Covers, AreForeign, IsIn, IsMixed, IsClosedBy}
-use Rattle.scan_line.proofs.Spacings.{positive, within_widest}
-use Rattle.scan_line.proofs.MetalItems.{ordered, comes_before, cover_shadows, one_of_three}
-use Rattle.scan_line.proofs.PairRuns.{pairs_of, all_pairs_of, in_order_of, contains_pair_of, IsPairTo, pair_to, candidate_of}
+use Rattle.scan_line.proofs.MetalItems.{cover_shadows, one_of_three}
+use Rattle.scan_line.proofs.Reach.{some_there}
+use Rattle.scan_line.proofs.PairRuns.{pairs_of, all_pairs_of, in_order_of, contains_pair_of, pair_to, candidate_of}
 
 -- ---- lines
 
@@ -35,38 +32,18 @@ pub record IsLineBack (axis : Axis) (t : Tech) (c : Coords) (items : List Item) 
   pub in_order : AllPairs (λ a b. ComesBefore axis c items b a) xs
   pub all : (i : ℕ) (s : ℤ) → i < length items → spacing_at axis t c items i j ≡ Some s → Contains xs i
 
--- an item that faces another lies nearer to it across than the widest spacing, and comes before it
-pub near_and_before : (axis : Axis) (t : Tech) (c : Coords) (items : List Item) (i j : ℕ) (s : ℤ) → HasBox c (item_at items i) → spacing_at axis t c items i j ≡ Some s
-    → (gap_on_y (sides_at axis c (item_at items i)) (sides_at axis c (item_at items j)) <ℤ widest_of t) × ComesBefore axis c items i j
-near_and_before axis t c items i j s box faces =
-    let a = item_at items i in
-    let b = item_at items j in
-    let h = out_of_facing axis t c a b s faces in
-    let near = h.near_across in
-    let apart = h.apart in
-    let some = positive t a b s h.bound in
-    let within = within_widest t a b s h.bound in
-    let long = ordered axis c a box in
-    (omega (arith, ints), comes_before axis c items i j (omega (arith, ints)))
-
 turned_round : {A : Type 0} (R : A → A → Type 0) (xs : List A) → AllPairs R xs → AllPairs (λ a b. R b a) (reverse xs)
 turned_round R xs h m n d less lt =
     let n_lt : n < length xs = omega (arith, lt, length-reverse xs) in
     let m_lt : m < length xs = omega (arith, n_lt, less) in
     rw (get_or-reverse xs m d m_lt, get_or-reverse xs n d n_lt) (h (length xs - 1 - n) (length xs - 1 - m) d (omega arith) (omega arith))
 
--- the line of an item, turned round
-pub line_back : (axis : Axis) (t : Tech) (c : Coords) (items : List Item) (j : ℕ) (reach : ℤ) (line : List ℕ) → All (HasBox c) items → reach ≡ widest_of t → All (λ i. i < length items) line
-    → AllPairs (ComesBefore axis c items) line
-    → ((i : ℕ) → i < length items → ComesBefore axis c items i j → gap_on_y (sides_at axis c (item_at items i)) (sides_at axis c (item_at items j)) <ℤ reach → Contains line i)
-    → IsLineBack axis t c items j (reverse line)
-line_back axis t c items j reach line boxes widest in_range in_order all = record {
-  in_range = All-permutation (λ i. i < length items) line (reverse line) (IsPermutation-reverse line) in_range;
-  in_order = turned_round (ComesBefore axis c items) line in_order;
-  all = λ i s i_lt faces.
-      let w = near_and_before axis t c items i j s (boxes i no_item i_lt) faces in
-      let near = w.0 in
-      Contains-permutation line (reverse line) i (IsPermutation-reverse line) (all i i_lt w.1 (omega (arith, ints, near, widest)));
+-- a line turned round
+pub line_back : (axis : Axis) (t : Tech) (c : Coords) (items : List Item) (j : ℕ) (line : List ℕ) → IsLineTo axis t c items j line → IsLineBack axis t c items j (reverse line)
+line_back axis t c items j line h = record {
+  in_range = All-permutation (λ i. i < length items) line (reverse line) (IsPermutation-reverse line) h.in_range;
+  in_order = turned_round (ComesBefore axis c items) line h.in_order;
+  all = λ i s i_lt faces. Contains-permutation line (reverse line) i (IsPermutation-reverse line) (h.all i i_lt (ap is_some faces));
 }
 
 -- ---- where a front may end
@@ -197,10 +174,6 @@ one_more axis t c items j xs n i now next lt is was added =
     let f = pairs_at axis t c items j in
     let more : take (n + 1) xs ≡ take n xs ++ i ∷ [] = take_more xs n i lt ∙ ap (λ k. take n xs ++ k ∷ []) (sym is) in
     added ∙ (ap (λ ps. ps ++ f i) was ∙ (flat_map_more f [] (take n xs) i ∙ ap (flat_map f) (sym more)))
-
-some_there : (o : Option ℤ) → is_some o ≡ true → (s : ℤ) × (o ≡ Some s)
-some_there None e = cc
-some_there (Some s) e = (s, refl)
 
 -- if it faces item j and covers it, it is one of the first items that do
 pub this_taken : (axis : Axis) (t : Tech) (c : Coords) (items : List Item) (j : ℕ) (xs : List ℕ) (n i : ℕ) → IsLineBack axis t c items j xs → n < length xs → i ≡ get_or xs n i

@@ -1,5 +1,5 @@
 -- Metal that covers metal: what stands far behind three such items, one of them shadows.
-use Rattle.std.proofs.Common.{◌≡◌, ◌≢◌, ℕ, ◌<◌, true, false, ℤ, pos, ◌+ℤ◌, ◌≤ℤ◌, ◌<ℤ◌, ◌⊎◌, inl, inr, List, length, Option, Some, refl, sym, ap, ◌∙◌, subst, unwrap_or, arith}
+use Rattle.std.proofs.Common.{◌≡◌, ◌≢◌, ℕ, ◌<◌, true, ℤ, pos, ◌+ℤ◌, ◌≤ℤ◌, ◌<ℤ◌, ◌⊎◌, inl, inr, List, length, Option, Some, refl, sym, ap, ◌∙◌, subst, unwrap_or, arith}
 use Rattle.std.specs.Prelude.{IfSome, ◌==◌}
 use Rattle.std.proofs.lemmas.Bool.{cases_Bool, eqb-true, eqb-false}
 use Rattle.std.proofs.lemmas.Int.{ints, clamps}
@@ -10,7 +10,7 @@ use Rattle.rule_table.specs.declared.classes.Class.{Class}
 use Rattle.rule_table.specs.declared.classes.Class.TheVariants.{M}
 use Rattle.rule_table.specs.declared.classes.Rule.{Rule}
 use Rattle.rule_table.specs.declared.technology.Tech.{Tech}
-use Rattle.rule_table.specs.Technology.{numbers_of, spacing_of}
+use Rattle.rule_table.specs.Technology.{numbers_of}
 use Rattle.rule_table.specs.Spacing.{spacing_in}
 use Rattle.sym_items.specs.declared.items.Item.{Item}
 use Rattle.sym_items.specs.declared.items.Coords.{Coords}
@@ -25,7 +25,6 @@ use Rattle.pair_rules.proofs.BoundItems.{out_of_bound, bound_exactly}
 use Rattle.pair_rules.proofs.EitherOrder.{bound_symmetric}
 use Rattle.pair_rules.proofs.FacingItems.{out_of_facing}
 use Rattle.scan_line.specs.Order.{begin_of, ComesBefore}
-use Rattle.scan_line.specs.Front.{IsShadowed}
 use Rattle.scan_line.specs.Cover.{Covers, AreForeign}
 use Rattle.scan_line.proofs.Spacings.{positive}
 

@@ -6,6 +6,7 @@ ghost use Rattle.pair_rules.specs.Candidates.{candidates_to, pairs_at, is_facing
 ghost use Rattle.pair_rules.specs.Clean.{IsClean};
 ghost use Rattle.scan_line.specs.Front.{IsFront};
 ghost use Rattle.scan_line.specs.Lanes.{AreLanesOf};
+ghost use Rattle.scan_line.specs.Lines.{IsLineTo};
 
 use crate::covering::{Cover, covers};
 use crate::lanes::Lanes;
@@ -35,7 +36,7 @@ impl Lanes {
         ensures { OnOk result (IsFront axis tech.now coords.now items.now j front.new.items) }
     {
         front.clear();
-        let line = self.line_to(axis, items, coords, tech.widest(), j);
+        let line = self.line_facing(axis, tech, items, coords, j);
         let mut cover = Cover::Nothing;
         for i in line.iter().rev() {
             let faces = push_candidate(front, axis, tech, items, coords, *i, j)?;
@@ -68,12 +69,30 @@ impl Lanes {
         ensures { OnOk result (found.new.items ≡ candidates_to axis tech.now coords.now items.now j) }
     {
         found.clear();
-        let line = self.line_to(axis, items, coords, tech.widest(), j);
+        let line = self.line_facing(axis, tech, items, coords, j);
         for i in line {
             push_candidate(found, axis, tech, items, coords, *i, j)?;
         }
         found.sort_unstable_by_key(|pair| pair.i);
         Ok(())
+    }
+
+    // Items in the order of the scan, among them all that are a candidate with item `j`.
+    fn line_facing(
+        &self,
+        axis: Axis,
+        tech: &Tech,
+        items: &[Item],
+        coords: &Coords,
+        j: u32,
+    ) -> &[u32]
+        requires few { length items.now < 2 ^ 32 }
+        requires boxes { All (HasBox coords.now) items.now }
+        requires lanes { AreLanesOf axis coords.now items.now self.now }
+        requires among { j < length items.now }
+        ensures { IsLineTo axis tech.now coords.now items.now j result.now }
+    {
+        self.line_to(axis, items, coords, tech.widest(), j)
     }
 }
 

@@ -8,5 +8,6 @@
 mod covering;
 mod front;
 mod lanes;
+mod sorting;
 
 pub use lanes::Lanes;

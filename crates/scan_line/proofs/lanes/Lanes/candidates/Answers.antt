@@ -1,16 +1,15 @@
 use Rattle.std.proofs.Common.{◌≡◌, get_or, take, ap, ◌∙◌, arith, rules}
-use Rattle.std.proofs.lemmas.Int.{ints}
 use Rattle.std.proofs.lemmas.List.{take_all, get_or_default}
 use Rattle.std.proofs.lemmas.List.Sorted.{IsNonDecreasingBy-from_sort_by_key}
 use Rattle.pair_rules.specs.declared.pairs.Pair.{Pair}
 use Rattle.scan_line.proofs.PairRuns.{pairs_of}
 use Rattle.scan_line.proofs.FrontPairs.{one_more}
-use Rattle.scan_line.proofs.SortedPairs.{line_to, sorted_pairs}
+use Rattle.scan_line.proofs.SortedPairs.{sorted_pairs}
 use Rattle.scan_line.proofs.lanes.Lanes.candidates.Goals as goal
 
 pub loop-i-preserved : goal.loop-i-preserved
 loop-i-preserved c =
-    let line = c.line_to-line.result.now in
+    let line = c.line_facing-line.result.now in
     let n = c.loop-i.i-index in
     let i = get_or line n 0 in
     one_more c.args.axis c.args.tech.now c.args.coords.now c.args.items.now c.args.j line n i c.loop-i.found.items c.push_candidate.new.found.items c.loop-i-test.true
@@ -23,10 +22,7 @@ returns c =
     let k = c.args.coords.now in
     let items = c.args.items.now in
     let j = c.args.j in
-    let told = c.line_to-line.ensures in
-    let line = line_to axis t k items j c.widest.result c.line_to-line.result.now c.requires.boxes c.widest.ensures.value told.in_range told.in_order
-    (λ i i_lt before near. told.all i i_lt before (let bounds = c.widest.ensures.bounds in omega (arith, ints, near))) in
-    let whole : take c.loop-i.i-index c.line_to-line.result.now ≡ c.line_to-line.result.now = take_all c.loop-i.i-index c.line_to-line.result.now (omega (arith, c.loop-i-test.false)) in
+    let whole : take c.loop-i.i-index c.line_facing-line.result.now ≡ c.line_facing-line.result.now = take_all c.loop-i.i-index c.line_facing-line.result.now (omega (arith, c.loop-i-test.false)) in
     let up = IsNonDecreasingBy-from_sort_by_key (λ (p : Pair). p.i) c.sort_unstable_by_key.new.self.items c.sort_unstable_by_key.ensures.sorted (λ a r q called. search rules) in
-    sorted_pairs axis t k items j c.line_to-line.result.now c.loop-i.found.items c.sort_unstable_by_key.new.self.items line (c.loop-i.invariant ∙ ap (pairs_of axis t k items j) whole)
+    sorted_pairs axis t k items j c.line_facing-line.result.now c.loop-i.found.items c.sort_unstable_by_key.new.self.items c.line_facing-line.ensures (c.loop-i.invariant ∙ ap (pairs_of axis t k items j) whole)
     c.sort_unstable_by_key.ensures.permutation up

@@ -1,11 +1,8 @@
-use Rattle.std.proofs.Common.{◌≡◌, ℕ, ◌+◌, ◌<◌, ◌≤◌, List, length, get_or, take, reverse, refl, sym, ap, ◌∙◌, subst, arith}
-use Rattle.std.proofs.lemmas.Int.{ints}
-use Rattle.std.proofs.lemmas.List.{length_push, take_all}
+use Rattle.std.proofs.Common.{◌≡◌, ℕ, ◌+◌, ◌<◌, ◌≤◌, List, length, get_or, reverse, refl, sym, ◌∙◌, subst, arith}
+use Rattle.std.proofs.lemmas.List.{length_push}
 use Rattle.std.proofs.lemmas.Iterator.Adapters.{YieldsList-from_rev_slice}
 use Rattle.std.proofs.lemmas.Iterator.Consumers.{YieldsList-turn, YieldsList-end}
-use Rattle.pair_rules.specs.declared.pairs.Pair.{Pair}
 use Rattle.scan_line.specs.Front.{IsFront}
-use Rattle.scan_line.proofs.PairRuns.{pairs_of}
 use Rattle.scan_line.proofs.FrontPairs.{IsLineBack, line_back, front_of, three_shadow, one_more, taken_more, this_taken, all_taken}
 use Rattle.scan_line.proofs.lanes.Lanes.front.Goals.{After-into_iter-i-iterator, In-Some, Then-is_closed_by, else-faces-via-then-faces+else-covers, else-faces-via-else-faces}
 use Rattle.scan_line.proofs.lanes.Lanes.front.Goals as goal
@@ -13,11 +10,9 @@ use Rattle.scan_line.proofs.lanes.Lanes.front.Goals as goal
 -- the line, turned round
 is_line : (c : After-into_iter-i-iterator) → IsLineBack c.args.axis c.args.tech.now c.args.coords.now c.args.items.now c.args.j (reverse c.into_iter-i-iterator.result.iter.rest.now)
 is_line c =
-    let same : c.line_to-line.result.now ≡ c.into_iter-i-iterator.result.iter.rest.now = cc in
-    let told = c.line_to-line.ensures in
+    let same : c.line_facing-line.result.now ≡ c.into_iter-i-iterator.result.iter.rest.now = cc in
     subst (λ (ys : List ℕ). IsLineBack c.args.axis c.args.tech.now c.args.coords.now c.args.items.now c.args.j (reverse ys)) same
-    (line_back c.args.axis c.args.tech.now c.args.coords.now c.args.items.now c.args.j c.widest.result c.line_to-line.result.now c.requires.boxes c.widest.ensures.value told.in_range told.in_order
-    (λ i i_lt before near. told.all i i_lt before (let bounds = c.widest.ensures.bounds in omega (arith, ints, near))))
+    (line_back c.args.axis c.args.tech.now c.args.coords.now c.args.items.now c.args.j c.line_facing-line.result.now c.line_facing-line.ensures)
 
 turn : (c : In-Some)
     → (length c.loop-i.yielded < length (reverse c.into_iter-i-iterator.result.iter.rest.now)) × (c.in-Some.i.now ≡ get_or (reverse c.into_iter-i-iterator.result.iter.rest.now) (length c.loop-i.yielded) c.in-Some.i.now)
