@@ -1,3 +1,6 @@
 pub mod Order
-pub mod Front
+pub mod Begins
 pub mod Lanes
+pub mod Lines
+pub mod Cover
+pub mod Front

@@ -1,15 +1,17 @@
 //! The candidates that end at an item.
 
-ghost use Rattle.std.specs.Prelude.{◌≡◌, ◌<◌, ◌^◌, length, All, OnOk};
+ghost use Rattle.std.specs.Prelude.{◌≡◌, ◌<◌, ◌^◌, ◌++◌, length, All, OnOk, IfOk};
 ghost use Rattle.sym_items.specs.Boxes.{HasBox};
-ghost use Rattle.pair_rules.specs.Candidates.{candidates_to};
+ghost use Rattle.pair_rules.specs.Candidates.{candidates_to, pairs_at, is_facing};
 ghost use Rattle.pair_rules.specs.Clean.{IsClean};
 ghost use Rattle.scan_line.specs.Front.{IsFront};
 ghost use Rattle.scan_line.specs.Lanes.{AreLanesOf};
+ghost use Rattle.scan_line.specs.Lines.{IsLineTo};
 
+use crate::covering::{Cover, covers};
 use crate::lanes::Lanes;
 use lam_geom::Axis;
-use pair_rules::Pair;
+use pair_rules::{Pair, facing_spacing};
 use rule_table::Tech;
 use std::alloc::AllocError;
 use sym_items::{Coords, Item};
@@ -34,7 +36,19 @@ impl Lanes {
         ensures { OnOk result (IsFront axis tech.now coords.now items.now j front.new.items) }
     {
         front.clear();
-        Err(AllocError)
+        let line = self.line_facing(axis, tech, items, coords, j);
+        let mut cover = Cover::Nothing;
+        for i in line.iter().rev() {
+            let faces = push_candidate(front, axis, tech, items, coords, *i, j)?;
+            if faces && covers(axis, items, coords, *i, j) {
+                // Of three foreign items that cover `j` one is bound to whatever is bound to `j`, and stands between.
+                if cover.is_closed_by(items, *i) {
+                    return Ok(());
+                }
+                cover = cover.with(items, *i);
+            }
+        }
+        Ok(())
     }
 
     /// All candidates that end at item `j`, in order of their first items, in place of what was in `found`. The only refusal is
@@ -55,6 +69,52 @@ impl Lanes {
         ensures { OnOk result (found.new.items ≡ candidates_to axis tech.now coords.now items.now j) }
     {
         found.clear();
-        Err(AllocError)
+        let line = self.line_facing(axis, tech, items, coords, j);
+        for i in line {
+            push_candidate(found, axis, tech, items, coords, *i, j)?;
+        }
+        found.sort_unstable_by_key(|pair| pair.i);
+        Ok(())
     }
+
+    // Items in the order of the scan, among them all that are a candidate with item `j`.
+    fn line_facing(
+        &self,
+        axis: Axis,
+        tech: &Tech,
+        items: &[Item],
+        coords: &Coords,
+        j: u32,
+    ) -> &[u32]
+        requires few { length items.now < 2 ^ 32 }
+        requires boxes { All (HasBox coords.now) items.now }
+        requires lanes { AreLanesOf axis coords.now items.now self.now }
+        requires among { j < length items.now }
+        ensures { IsLineTo axis tech.now coords.now items.now j result.now }
+    {
+        self.line_to(axis, items, coords, tech.widest(), j)
+    }
+}
+
+// Adds the items number `i` and `j` if they are a candidate, and says whether they are.
+fn push_candidate(
+    found: &mut Vec<Pair>,
+    axis: Axis,
+    tech: &Tech,
+    items: &[Item],
+    coords: &Coords,
+    i: u32,
+    j: u32,
+) -> Result<bool, AllocError>
+    requires boxes { All (HasBox coords.now) items.now }
+    requires i_among { i < length items.now }
+    requires j_among { j < length items.now }
+    ensures pushed { OnOk result (found.new.items ≡ found.old.items ++ pairs_at axis tech.now coords.now items.now j i) }
+    ensures faces { IfOk result (λ faces. faces ≡ is_facing axis tech.now coords.now items.now i j) }
+{
+    let spacing = facing_spacing(axis, tech, coords, &items[i as usize], &items[j as usize]);
+    if let Some(s) = spacing {
+        found.push(Pair { i, j, s })?;
+    }
+    Ok(spacing.is_some())
 }

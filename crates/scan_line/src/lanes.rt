@@ -1,13 +1,17 @@
 //! The lanes of a layout.
 
-ghost use Rattle.std.specs.Prelude.{◌≡◌, ℕ, ◌<◌, ◌^◌, ℤ, pos, ◌≤ℤ◌, ◌<ℤ◌, length, All, AllPairs, Contains, IfOk};
+ghost use Rattle.std.specs.Prelude.{◌≡◌, ℕ, ◌<◌, ◌^◌, ℤ, pos, ◌≤ℤ◌, ◌<ℤ◌, length, All, AllPairs, Contains, IfOk, List};
+ghost use Rattle.lam_geom.specs.declared.boxes.Axis.{Axis};
+ghost use Rattle.sym_items.specs.declared.items.Item.{Item};
+ghost use Rattle.sym_items.specs.declared.items.Coords.{Coords};
 ghost use Rattle.sym_items.specs.Boxes.{HasBox};
 ghost use Rattle.sym_items.specs.Sides.{gap_on_y};
 ghost use Rattle.pair_rules.specs.Bound.{item_at};
 ghost use Rattle.pair_rules.specs.Candidates.{sides_at};
-ghost use Rattle.scan_line.specs.Order.{ComesBefore};
+ghost use Rattle.scan_line.specs.Order.{ComesBefore, IsScanOrder};
 ghost use Rattle.scan_line.specs.Lanes.{AreLanesOf};
 
+use crate::sorting::{begins_of, part_before, sort_order};
 use lam_geom::Axis;
 use std::alloc::{AllocError, Global};
 use sym_items::{Coords, Item};
@@ -16,6 +20,7 @@ use sym_items::{Coords, Item};
 #[derive(Debug, Drop)]
 pub struct Lanes {
     order: Vec<u32>,
+    begins: Vec<i64>,
 }
 
 impl Lanes {
@@ -30,8 +35,16 @@ impl Lanes {
         requires boxes { All (HasBox coords.now) items.now }
         ensures { IfOk result (AreLanesOf axis coords.now items.now) }
     {
-        let _order: Vec<u32> = Vec::new(alloc);
-        Err(AllocError)
+        let begins = begins_of(alloc, axis, items, coords)?;
+        let order = sort_order(alloc, &begins)?;
+        Ok(Lanes { order, begins })
+    }
+
+    /// The numbers of all items in the order of the scan.
+    pub fn order(&self) -> &[u32]
+        ensures { (axis : Axis) (coords : Coords) (items : List Item) → AreLanesOf axis coords items self.now → IsScanOrder axis coords items result.now }
+    {
+        &self.order
     }
 
     /// Items to which the scan comes before item `j`, in its order: all that lie nearer to `j` than `reach` across the axis,
@@ -54,6 +67,20 @@ impl Lanes {
         ensures before { All (λ i. ComesBefore axis coords.now items.now i j) result.now }
         ensures all { (i : ℕ) → i < length items.now → ComesBefore axis coords.now items.now i j → gap_on_y (sides_at axis coords.now (item_at items.now i)) (sides_at axis coords.now (item_at items.now j)) <ℤ reach → Contains result.now i }
     {
-        &self.order[0..0]
+        let list = self.list_near(axis, items, coords, reach, j);
+        part_before(&self.begins, list, j)
+    }
+
+    // A list of items in the order of the scan, among them all that lie nearer to item `j` than `reach` across the axis.
+    fn list_near(&self, axis: Axis, items: &[Item], coords: &Coords, reach: i64, j: u32) -> &[u32]
+        requires boxes { All (HasBox coords.now) items.now }
+        requires lanes { AreLanesOf axis coords.now items.now self.now }
+        requires among { j < length items.now }
+        requires reach { (pos 0 ≤ℤ reach) × (reach ≤ℤ pos 4096) }
+        ensures in_range { All (λ i. i < length items.now) result.now }
+        ensures in_order { AllPairs (ComesBefore axis coords.now items.now) result.now }
+        ensures near { (i : ℕ) → i < length items.now → gap_on_y (sides_at axis coords.now (item_at items.now i)) (sides_at axis coords.now (item_at items.now j)) <ℤ reach → Contains result.now i }
+    {
+        &self.order
     }
 }

@@ -5,7 +5,9 @@
 //! For the layer above: `front` gives the nearest candidates of an item, behind which each candidate is shadowed. Lengths are in u.
 #![tactic(auto)]
 
+mod covering;
 mod front;
 mod lanes;
+mod sorting;
 
 pub use lanes::Lanes;

@@ -1,0 +1,193 @@
+-- The candidates along a line of items, nearest first, and where a front of them may end.
+use Rattle.std.proofs.Common.{◌≡◌, ℕ, ◌+◌, ◌-◌, ◌<◌, ◌≤◌, ℤ, ◌⊎◌, inl, inr, List, [], ◌∷◌, ◌++◌, length, get_or, take, reverse, Some, true, refl, sym, ap, ◌∙◌, subst, arith}
+use Rattle.std.specs.Prelude.{is_some}
+use Rattle.std.specs.List.{All, AllPairs, Contains, flat_map}
+use Rattle.std.proofs.lemmas.Bool.{cases_lt}
+use Rattle.std.proofs.lemmas.List.{get_or-take, get_or-reverse, get_or_default, length-reverse, length-take-le, flat_map_more, take_more}
+use Rattle.std.proofs.lemmas.List.Sorted.{IsPermutation-reverse, All-permutation, Contains-permutation}
+use Rattle.lam_geom.specs.declared.boxes.Axis.{Axis}
+use Rattle.rule_table.specs.declared.technology.Tech.{Tech}
+use Rattle.sym_items.specs.declared.items.Item.{Item}
+use Rattle.sym_items.specs.declared.items.Coords.{Coords}
+use Rattle.sym_items.specs.Boxes.{HasBox}
+use Rattle.pair_rules.specs.declared.pairs.Pair.{Pair}
+use Rattle.pair_rules.specs.Bound.{item_at, no_item}
+use Rattle.pair_rules.specs.Candidates.{spacing_at, is_facing, pairs_at, candidates_to}
+use Rattle.pair_rules.specs.Clean.{IsClean}
+use Rattle.scan_line.specs.declared.covering.Cover.{Cover}
+use Rattle.scan_line.specs.declared.covering.Cover.TheVariants.{Nothing, One, Two}
+use Rattle.scan_line.specs.Order.{ComesBefore}
+use Rattle.scan_line.specs.Lines.{IsLineTo}
+use Rattle.scan_line.specs.Front.{IsShadowed, IsNearer, IsBehind, IsFront}
+use Rattle.scan_line.specs.Cover.{Covers, AreForeign, IsIn, IsMixed, IsClosedBy}
+use Rattle.scan_line.proofs.MetalItems.{cover_shadows, one_of_three}
+use Rattle.scan_line.proofs.Reach.{some_there}
+use Rattle.scan_line.proofs.PairRuns.{pairs_of, all_pairs_of, in_order_of, contains_pair_of, pair_to, candidate_of}
+
+-- ---- lines
+
+-- items, those to which the scan comes later first; all that face item j are among them
+pub record IsLineBack (axis : Axis) (t : Tech) (c : Coords) (items : List Item) (j : ℕ) (xs : List ℕ) : Type 0 where
+  pub in_range : All (λ i. i < length items) xs
+  pub in_order : AllPairs (λ a b. ComesBefore axis c items b a) xs
+  pub all : (i : ℕ) (s : ℤ) → i < length items → spacing_at axis t c items i j ≡ Some s → Contains xs i
+
+turned_round : {A : Type 0} (R : A → A → Type 0) (xs : List A) → AllPairs R xs → AllPairs (λ a b. R b a) (reverse xs)
+turned_round R xs h m n d less lt =
+    let n_lt : n < length xs = omega (arith, lt, length-reverse xs) in
+    let m_lt : m < length xs = omega (arith, n_lt, less) in
+    rw (get_or-reverse xs m d m_lt, get_or-reverse xs n d n_lt) (h (length xs - 1 - n) (length xs - 1 - m) d (omega arith) (omega arith))
+
+-- a line turned round
+pub line_back : (axis : Axis) (t : Tech) (c : Coords) (items : List Item) (j : ℕ) (line : List ℕ) → IsLineTo axis t c items j line → IsLineBack axis t c items j (reverse line)
+line_back axis t c items j line h = record {
+  in_range = All-permutation (λ i. i < length items) line (reverse line) (IsPermutation-reverse line) h.in_range;
+  in_order = turned_round (ComesBefore axis c items) line h.in_order;
+  all = λ i s i_lt faces. Contains-permutation line (reverse line) i (IsPermutation-reverse line) (h.all i i_lt (ap is_some faces));
+}
+
+-- ---- where a front may end
+
+-- from number n of a line on, each item that faces item j has a shadowed pair
+abbrev pub AreShadowedFrom : Axis → Tech → Coords → List Item → ℕ → List ℕ → ℕ → Type 0
+AreShadowedFrom axis t c items j xs n =
+    (m : ℕ) → n ≤ m → m < length xs → (s : ℤ) → spacing_at axis t c items (get_or xs m 0) j ≡ Some s → IsShadowed axis t c items (record { i = get_or xs m 0; j = j; s = s })
+
+number_in : (xs : List ℕ) (i : ℕ) → Contains xs i → (m : ℕ) × (m < length xs) × (get_or xs m 0 ≡ i)
+number_in xs i among = (among.0, among.1, get_or_default xs among.0 0 i among.1 ∙ among.2)
+
+in_part : (xs : List ℕ) (n m : ℕ) → n ≤ length xs → m < n → Contains (take n xs) (get_or xs m 0)
+in_part xs n m le lt =
+    let at : get_or (take n xs) m 0 ≡ get_or xs m 0 = get_or-take n xs m 0 lt in
+    let there : m < length (take n xs) = omega (arith, lt, length-take-le n xs le) in
+    (m, there, get_or_default (take n xs) m (get_or xs m 0) 0 there ∙ at)
+
+part_in_order : {A : Type 0} (R : A → A → Type 0) (xs : List A) (n : ℕ) → n ≤ length xs → AllPairs R xs → AllPairs R (take n xs)
+part_in_order R xs n le h k m d less lt =
+    let m_lt : m < n = omega (arith, lt, length-take-le n xs le) in
+    let k_lt : k < n = omega (arith, less, m_lt) in
+    rw (get_or-take n xs k d k_lt, get_or-take n xs m d m_lt) (h k m d less (omega (arith, m_lt, le)))
+
+-- what holds of each item of the first part of a line that faces item j
+part_pairs : (axis : Axis) (t : Tech) (c : Coords) (items : List Item) (j : ℕ) (P : Pair → Type 0) (xs : List ℕ) (n : ℕ) → n ≤ length xs
+    → ((m : ℕ) → m < n → (s : ℤ) → spacing_at axis t c items (get_or xs m 0) j ≡ Some s → P (record { i = get_or xs m 0; j = j; s = s })) → All P (pairs_of axis t c items j (take n xs))
+part_pairs axis t c items j P xs n le h =
+    all_pairs_of axis t c items j P (take n xs) (λ m lt s faces.
+    let m_lt : m < n = omega (arith, lt, length-take-le n xs le) in
+    let at : get_or (take n xs) m 0 ≡ get_or xs m 0 = get_or-take n xs m 0 m_lt in
+    let Q : ℕ → Type 0 = λ i. (z : ℤ) → spacing_at axis t c items i j ≡ Some z → P (record { i = i; j = j; s = z }) in
+    subst Q (sym at) (h m m_lt) s faces)
+
+-- a pair that lies behind the part up to number n
+behind : (axis : Axis) (t : Tech) (c : Coords) (items : List Item) (j : ℕ) (xs : List ℕ) (n m : ℕ) (p : Pair) → IsLineBack axis t c items j xs → n ≤ length xs → n ≤ m → m < length xs
+    → get_or xs m 0 ≡ p.i → IsShadowed axis t c items p → IsBehind axis t c items (pairs_of axis t c items j (take n xs)) p
+behind axis t c items j xs n m p line le later lt at shadowed = record {
+  farther = part_pairs axis t c items j (λ q. IsNearer axis c items q p) xs n le (λ k k_lt s faces.
+      subst (λ (i : ℕ). ComesBefore axis c items i (get_or xs k 0)) at (line.in_order k m 0 (omega arith) lt));
+  shadowed = shadowed;
+}
+
+-- a candidate that ends at item j is a pair of the part up to number n, or lies behind it
+each_side : (axis : Axis) (t : Tech) (c : Coords) (items : List Item) (j : ℕ) (xs : List ℕ) (n : ℕ) → IsLineBack axis t c items j xs → n ≤ length xs → AreShadowedFrom axis t c items j xs n
+    → (i : ℕ) (s : ℤ) → i < length items → spacing_at axis t c items i j ≡ Some s
+    → let p : Pair = record { i = i; j = j; s = s } in let front = pairs_of axis t c items j (take n xs) in Contains front p ⊎ IsBehind axis t c items front p
+each_side axis t c items j xs n line le shadowed i s i_lt faces =
+    let p : Pair = record { i = i; j = j; s = s } in
+    let w = number_in xs i (line.all i s i_lt faces) in
+    elim (cases_lt w.0 n) [
+      | inl early ↦ inl (contains_pair_of axis t c items j (take n xs) i s (subst (Contains (take n xs)) w.2 (in_part xs n w.0 le early)) faces)
+      | inr late ↦
+          let Q : ℕ → Type 0 = λ k. spacing_at axis t c items k j ≡ Some s → IsShadowed axis t c items (record { i = k; j = j; s = s }) in
+          inr (behind axis t c items j xs n w.0 p line le late w.1 w.2 (subst Q w.2 (shadowed w.0 late w.1 s) faces))
+    ]
+
+-- the pairs of a line up to a number from which all are shadowed are a front
+pub front_of : (axis : Axis) (t : Tech) (c : Coords) (items : List Item) (j : ℕ) (xs : List ℕ) (n : ℕ) → IsLineBack axis t c items j xs → n ≤ length xs → AreShadowedFrom axis t c items j xs n
+    → IsFront axis t c items j (pairs_of axis t c items j (take n xs))
+front_of axis t c items j xs n line le shadowed =
+    let front = pairs_of axis t c items j (take n xs) in
+    let Side : Pair → Type 0 = λ p. Contains front p ⊎ IsBehind axis t c items front p in
+    record {
+      candidates = part_pairs axis t c items j (Contains (candidates_to axis t c items j)) xs n le (λ m m_lt s faces.
+          candidate_of axis t c items j (get_or xs m 0) s (line.in_range m 0 (omega (arith, m_lt, le))) faces);
+      nearest_first = in_order_of axis t c items j (λ a b. ComesBefore axis c items b a) (take n xs) (part_in_order (λ a b. ComesBefore axis c items b a) xs n le line.in_order);
+      rest = λ p among.
+          let h = pair_to axis t c items j p among in
+          let P : ℕ → Type 0 = λ k. Side (record { i = p.i; j = k; s = p.s }) in
+          subst P (sym h.ends) (each_side axis t c items j xs n line le shadowed p.i p.s h.among h.faces);
+    }
+
+-- ---- the items of a cover
+
+-- one of the first n items of a line faces item j and covers it
+pub record IsTaken (axis : Axis) (t : Tech) (c : Coords) (items : List Item) (j : ℕ) (xs : List ℕ) (n a : ℕ) : Type 0 where
+  pub place : ℕ
+  pub early : place < n
+  pub there : get_or xs place 0 ≡ a
+  pub among : a < length items
+  pub s : ℤ
+  pub faces : spacing_at axis t c items a j ≡ Some s
+  pub covers : Covers axis c items a j
+
+pub taken_more : (axis : Axis) (t : Tech) (c : Coords) (items : List Item) (j : ℕ) (xs : List ℕ) (n m a : ℕ) → n ≤ m → IsTaken axis t c items j xs n a → IsTaken axis t c items j xs m a
+taken_more axis t c items j xs n m a le h =
+    let early = h.early in
+    record { place = h.place; early = omega arith; there = h.there; among = h.among; s = h.s; faces = h.faces; covers = h.covers }
+
+-- what lies behind them comes before each of them
+taken_later : (axis : Axis) (t : Tech) (c : Coords) (items : List Item) (j : ℕ) (xs : List ℕ) (n m a : ℕ) → IsLineBack axis t c items j xs → IsTaken axis t c items j xs n a → n ≤ m → m < length xs
+    → ComesBefore axis c items (get_or xs m 0) a
+taken_later axis t c items j xs n m a line h le lt =
+    let early = h.early in
+    subst (ComesBefore axis c items (get_or xs m 0)) h.there (line.in_order h.place m 0 (omega arith) lt)
+
+-- so one that is foreign to it shadows it
+taken_shadows : (axis : Axis) (t : Tech) (c : Coords) (items : List Item) (j : ℕ) (xs : List ℕ) (n m a : ℕ) (s : ℤ) → IsClean t c items → All (HasBox c) items → IsLineBack axis t c items j xs
+    → IsTaken axis t c items j xs n a → n ≤ m → m < length xs → spacing_at axis t c items (get_or xs m 0) j ≡ Some s → AreForeign (item_at items (get_or xs m 0)) (item_at items a)
+    → IsShadowed axis t c items (record { i = get_or xs m 0; j = j; s = s })
+taken_shadows axis t c items j xs n m a s clean boxes line h le lt faces foreign = (
+  a,
+  h.among,
+  cover_shadows axis t c items (get_or xs m 0) a j s h.s clean (boxes a no_item h.among) (line.in_range m 0 lt) h.among faces h.faces h.covers foreign
+      (taken_later axis t c items j xs n m a line h le lt),
+)
+
+-- three foreign items that cover item j shadow all that lies behind them
+pub three_shadow : (axis : Axis) (t : Tech) (c : Coords) (items : List Item) (j : ℕ) (xs : List ℕ) (n k : ℕ) (cover : Cover) → IsClean t c items → All (HasBox c) items
+    → IsLineBack axis t c items j xs → IsMixed items cover → IsClosedBy items cover k → ((a : ℕ) → IsIn cover a → IsTaken axis t c items j xs n a) → IsTaken axis t c items j xs n k
+    → AreShadowedFrom axis t c items j xs n
+three_shadow axis t c items j xs n k Nothing clean boxes line mixed closed taken last m le lt s faces = absurd closed
+three_shadow axis t c items j xs n k (One a) clean boxes line mixed closed taken last m le lt s faces = absurd closed
+three_shadow axis t c items j xs n k (Two a b) clean boxes line mixed closed taken last m le lt s faces =
+    let i = get_or xs m 0 in
+    one_of_three (item_at items i) (item_at items a) (item_at items b) (item_at items k) mixed closed.0 closed.1
+    (taken_shadows axis t c items j xs n m a s clean boxes line (taken a (inl refl)) le lt faces)
+    (taken_shadows axis t c items j xs n m b s clean boxes line (taken b (inr refl)) le lt faces)
+    (taken_shadows axis t c items j xs n m k s clean boxes line last le lt faces)
+
+-- ---- one item more
+
+-- its pair is added
+pub one_more : (axis : Axis) (t : Tech) (c : Coords) (items : List Item) (j : ℕ) (xs : List ℕ) (n i : ℕ) (now next : List Pair) → n < length xs → i ≡ get_or xs n i
+    → now ≡ pairs_of axis t c items j (take n xs) → next ≡ now ++ pairs_at axis t c items j i → next ≡ pairs_of axis t c items j (take (n + 1) xs)
+one_more axis t c items j xs n i now next lt is was added =
+    let f = pairs_at axis t c items j in
+    let more : take (n + 1) xs ≡ take n xs ++ i ∷ [] = take_more xs n i lt ∙ ap (λ k. take n xs ++ k ∷ []) (sym is) in
+    added ∙ (ap (λ ps. ps ++ f i) was ∙ (flat_map_more f [] (take n xs) i ∙ ap (flat_map f) (sym more)))
+
+-- if it faces item j and covers it, it is one of the first items that do
+pub this_taken : (axis : Axis) (t : Tech) (c : Coords) (items : List Item) (j : ℕ) (xs : List ℕ) (n i : ℕ) → IsLineBack axis t c items j xs → n < length xs → i ≡ get_or xs n i
+    → is_facing axis t c items i j ≡ true → Covers axis c items i j → IsTaken axis t c items j xs (n + 1) i
+this_taken axis t c items j xs n i line lt is facing covers =
+    let w = some_there (spacing_at axis t c items i j) facing in
+    let at : get_or xs n 0 ≡ i = get_or_default xs n 0 i lt ∙ sym is in
+    record { place = n; early = omega arith; there = at; among = subst (λ k. k < length items) at (line.in_range n 0 lt); s = w.0; faces = w.1; covers = covers }
+
+-- and a cover that is made of such items and of it is made of such items
+pub all_taken : (axis : Axis) (t : Tech) (c : Coords) (items : List Item) (j : ℕ) (xs : List ℕ) (n i : ℕ) (old new : Cover) → ((a : ℕ) → IsIn old a → IsTaken axis t c items j xs n a)
+    → IsTaken axis t c items j xs (n + 1) i → ((a : ℕ) → IsIn new a → IsIn old a ⊎ (i ≡ a)) → (a : ℕ) → IsIn new a → IsTaken axis t c items j xs (n + 1) a
+all_taken axis t c items j xs n i old new taken this of_them a among =
+    elim (of_them a among) [
+      | inl before ↦ taken_more axis t c items j xs n (n + 1) a (omega arith) (taken a before)
+      | inr same ↦ subst (IsTaken axis t c items j xs (n + 1)) same this
+    ]

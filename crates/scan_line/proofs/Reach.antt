@@ -1,0 +1,37 @@
+-- What faces an item lies near it, and before it.
+use Rattle.std.proofs.Common.{◌≡◌, ℕ, true, ℤ, ◌<ℤ◌, List, Option, Some, None, refl, arith}
+use Rattle.std.specs.Prelude.{is_some}
+use Rattle.std.proofs.lemmas.Int.{ints}
+use Rattle.lam_geom.specs.declared.boxes.Axis.{Axis}
+use Rattle.rule_table.specs.declared.technology.Tech.{Tech}
+use Rattle.rule_table.specs.Technology.{widest_of}
+use Rattle.sym_items.specs.declared.items.Item.{Item}
+use Rattle.sym_items.specs.declared.items.Coords.{Coords}
+use Rattle.sym_items.specs.Boxes.{HasBox}
+use Rattle.sym_items.specs.Sides.{gap_on_y}
+use Rattle.pair_rules.specs.Bound.{item_at}
+use Rattle.pair_rules.specs.Candidates.{sides_at, spacing_at, is_facing}
+use Rattle.pair_rules.proofs.FacingItems.{out_of_facing}
+use Rattle.scan_line.specs.Order.{ComesBefore}
+use Rattle.scan_line.proofs.Spacings.{positive, within_widest}
+use Rattle.scan_line.proofs.MetalItems.{ordered, comes_before}
+
+pub some_there : (o : Option ℤ) → is_some o ≡ true → (s : ℤ) × (o ≡ Some s)
+some_there None e = cc
+some_there (Some s) e = (s, refl)
+
+-- an item that faces another lies nearer to it across than the widest spacing, and comes before it
+pub near_and_before : (axis : Axis) (t : Tech) (c : Coords) (items : List Item) (i j : ℕ) → HasBox c (item_at items i) → is_facing axis t c items i j ≡ true
+    → (gap_on_y (sides_at axis c (item_at items i)) (sides_at axis c (item_at items j)) <ℤ widest_of t) × ComesBefore axis c items i j
+near_and_before axis t c items i j box facing =
+    let w = some_there (spacing_at axis t c items i j) facing in
+    let s = w.0 in
+    let a = item_at items i in
+    let b = item_at items j in
+    let h = out_of_facing axis t c a b s w.1 in
+    let near = h.near_across in
+    let apart = h.apart in
+    let some = positive t a b s h.bound in
+    let within = within_widest t a b s h.bound in
+    let long = ordered axis c a box in
+    (omega (arith, ints), comes_before axis c items i j (omega (arith, ints)))
