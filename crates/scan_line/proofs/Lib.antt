@@ -1,4 +1,7 @@
 mod Along
-mod Sorted
+mod Lists
+mod Meeting
+mod Near
 mod Parts
 mod Scanned
+mod Sorted

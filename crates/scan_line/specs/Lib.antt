@@ -1,4 +1,6 @@
 pub mod Order
 pub mod Begins
+pub mod Stretches
+pub mod Levels
 pub mod Front
 pub mod Lanes

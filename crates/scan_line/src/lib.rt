@@ -7,6 +7,8 @@
 
 mod front;
 mod lanes;
+mod level;
 mod sorting;
+mod stretches;
 
 pub use lanes::Lanes;
