@@ -28,7 +28,7 @@ impl Stretches {
         let (low, high, sum) = extents_across(axis, items, coords);
         let count = (items.len() as u64).max(1);
         let total = low.abs_diff(high);
-        let long = (sum / count).saturating_mul(4).saturating_add(MARGIN);
+        let long = (sum / count).saturating_mul(2).saturating_add(MARGIN);
         let length = long.max(total / count).saturating_add(1);
         Stretches {
             base: low,
