@@ -1,4 +1,7 @@
 mod Along
+mod Lists
+mod Meeting
+mod Near
 mod Sorted
 mod Parts
 mod Scanned

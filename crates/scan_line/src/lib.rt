@@ -8,6 +8,8 @@
 mod covering;
 mod front;
 mod lanes;
+mod level;
 mod sorting;
+mod stretches;
 
 pub use lanes::Lanes;
