@@ -1,57 +1,68 @@
--- Metal of one net is not bound, so it shadows nothing of that net, and a run of it may be passed.
-use Rattle.std.proofs.Common.{◌≡◌, ℕ, ◌+◌, ◌<◌, ◌≤◌, Bool, true, false, cond, ℤ, List, length, get_or, Option, Some, None, refl, sym, ◌∙◌, subst, inl, inr, arith, eq-eqb}
+-- Items of one class other than cuts and of one net are not bound: none shadows a pair of another, so a run of them may be passed.
+use Rattle.std.proofs.Common.{◌≡◌, ◌≢◌, ℕ, ◌+◌, ◌==◌, ◌<◌, ◌≤◌, ◌||◌, Bool, true, false, cond, ℤ, List, length, get_or, Option, Some, None, refl, sym, ◌∙◌, subst, inl, inr, arith, eq-eqb}
 use Rattle.std.specs.List.{list_any}
 use Rattle.std.proofs.lemmas.Bool.{cases_lt}
 use Rattle.std.proofs.lemmas.List.{get_or_default}
 use Rattle.std.proofs.lemmas.List.Folds.{list_any_none}
 use Rattle.lam_geom.specs.declared.boxes.Axis.{Axis}
-use Rattle.rule_table.specs.declared.classes.Class.TheVariants.{M}
+use Rattle.rule_table.specs.declared.classes.Class.{Class}
+use Rattle.rule_table.specs.declared.classes.Class.TheVariants.{M, P, Dc, Dm, C, I, G, B}
 use Rattle.rule_table.specs.declared.keys.Numbers.{Numbers}
 use Rattle.rule_table.specs.declared.technology.Tech.{Tech}
 use Rattle.rule_table.specs.Spacing.{spacing_in}
-use Rattle.rule_table.specs.Technology.{numbers_of}
+use Rattle.rule_table.specs.Technology.{numbers_of, spacing_of}
 use Rattle.sym_items.specs.declared.items.Item.{Item}
 use Rattle.sym_items.specs.declared.items.Coords.{Coords}
 use Rattle.pair_rules.specs.declared.pairs.Pair.{Pair}
-use Rattle.pair_rules.specs.Bound.{item_at, spacing_by, bound_spacing}
+use Rattle.pair_rules.specs.Bound.{item_at, spacing_by, is_joined, bound_spacing}
 use Rattle.pair_rules.specs.Kept.{least_of, reaches}
 use Rattle.pair_rules.proofs.FacingItems.{not_bound}
 use Rattle.shadow_prune.specs.Fronts.{shadows_by}
-use Rattle.shadow_prune.specs.Runs.{AreAlike, AreOfOneMetal, IsRun}
+use Rattle.shadow_prune.specs.Runs.{AreAlike, AreFree, IsRun}
 
-free_of : (q : Bool) (n : Numbers) (k l : ℕ) → k ≡ l → cond q None (spacing_by (spacing_in n M M) k l) ≡ None
+-- a rule on one class other than cuts leaves items of one net free
+free_of : (q : Bool) (n : Numbers) (a : Class) (k l : ℕ) → a ≢ C → k ≡ l → cond q None (spacing_by (spacing_in n a a) k l) ≡ None
 unfolding spacing_in
-free_of true n k l e = refl
-free_of false n k l e = let same = eq-eqb k l e in rw same refl
+free_of true n a k l h e = refl
+free_of false n M k l h e = let same = eq-eqb k l e in rw same refl
+free_of false n P k l h e = let same = eq-eqb k l e in rw same refl
+free_of false n Dc k l h e = let same = eq-eqb k l e in rw same refl
+free_of false n Dm k l h e = refl
+free_of false n C k l h e = absurd (h refl)
+free_of false n I k l h e = refl
+free_of false n G k l h e = refl
+free_of false n B k l h e = refl
 
-metal_is_free : (t : Tech) (a b : Item) → AreOfOneMetal a b → bound_spacing t a b ≡ None
+free_items : (t : Tech) (a b : Item) → AreFree a b → bound_spacing t a b ≡ None
 unfolding bound_spacing
-metal_is_free t a b h = rw (h.first, h.second) (free_of _ (numbers_of t) a.net b.net h.one_net)
+free_items t a b h =
+    let F : Class → Type 0 = λ x. cond ((a.owner == b.owner) || is_joined a b) None (spacing_by (spacing_of t a.class x) a.net b.net) ≡ None in
+    subst F h.alike.0 (free_of ((a.owner == b.owner) || is_joined a b) (numbers_of t) a.class a.net b.net h.no_cuts h.alike.1)
 
 nothing_reached : (s : ℤ) (o : Option ℤ) (least after : ℤ) → o ≡ None → reaches s o least (Some after) ≡ false
 nothing_reached s o least after e = rw e refl
 
--- a pair does not shadow one whose item is of its own metal
-pub not_by_own_metal : (axis : Axis) (t : Tech) (c : Coords) (items : List Item) (p q : Pair) → AreOfOneMetal (item_at items p.i) (item_at items q.i) → shadows_by axis t c items p q ≡ false
-not_by_own_metal axis t c items p q h =
+-- a pair does not shadow one whose item is free of its own
+pub not_by_free : (axis : Axis) (t : Tech) (c : Coords) (items : List Item) (p q : Pair) → AreFree (item_at items p.i) (item_at items q.i) → shadows_by axis t c items p q ≡ false
+not_by_free axis t c items p q h =
     nothing_reached p.s _ (least_of axis items q.i) q.s
-    (not_bound axis t c (item_at items p.i) (item_at items q.i) (sym (metal_is_free t (item_at items p.i) (item_at items q.i) h)))
+    (not_bound axis t c (item_at items p.i) (item_at items q.i) (sym (free_items t (item_at items p.i) (item_at items q.i) h)))
 
-as_alike : (a b c : Item) → AreOfOneMetal a b → AreAlike c b → AreOfOneMetal a c
-as_alike a b c h same = record { first = h.first; second = same.0 ∙ h.second; one_net = h.one_net ∙ sym same.1 }
+as_alike : (a b c : Item) → AreFree a b → AreAlike c b → AreFree a c
+as_alike a b c h same = record { alike = (h.alike.0 ∙ sym same.0, h.alike.1 ∙ sym same.1); no_cuts = h.no_cuts }
 
 -- none of a run shadows the pair where its last does not for this reason
 pub run_is_passed : (axis : Axis) (t : Tech) (c : Coords) (items : List Item) (p : Pair) (nearer : List Pair) (begin place : ℕ) (e : Pair) → place < length nearer
-    → AreOfOneMetal (item_at items p.i) (item_at items (get_or nearer place e).i) → IsRun items nearer begin place
+    → AreFree (item_at items p.i) (item_at items (get_or nearer place e).i) → IsRun items nearer begin place
     → ((k : ℕ) (d : Pair) → place + 1 ≤ k → k < length nearer → shadows_by axis t c items p (get_or nearer k d) ≡ false)
     → (k : ℕ) (d : Pair) → begin ≤ k → k < length nearer → shadows_by axis t c items p (get_or nearer k d) ≡ false
-run_is_passed axis t c items p nearer begin place e lt metal run none k d from below =
+run_is_passed axis t c items p nearer begin place e lt free run none k d from below =
     elim (cases_lt place k) [
       | inl later ↦ none k d (omega arith) below
       | inr within ↦
-          let M : Pair → Type 0 = λ r. AreOfOneMetal (item_at items p.i) (item_at items r.i) in
-          not_by_own_metal axis t c items p (get_or nearer k d)
-          (as_alike (item_at items p.i) (item_at items (get_or nearer place d).i) (item_at items (get_or nearer k d).i) (subst M (get_or_default nearer place e d lt) metal) (run.alike k d from within))
+          let F : Pair → Type 0 = λ r. AreFree (item_at items p.i) (item_at items r.i) in
+          not_by_free axis t c items p (get_or nearer k d)
+          (as_alike (item_at items p.i) (item_at items (get_or nearer place d).i) (item_at items (get_or nearer k d).i) (subst F (get_or_default nearer place e d lt) free) (run.alike k d from within))
     ]
 
 -- one more pair does not shadow it

@@ -14,7 +14,7 @@ ghost use Rattle.shadow_prune.specs.KeptFaults.{RefusesKept};
 ghost use Rattle.shadow_prune.specs.Fronts.{IsPairOf, IsFrontOfOne, StandsBehind, shadows_by};
 ghost use Rattle.shadow_prune.specs.Runs.{AreRuns};
 
-use crate::runs::{are_of_one_metal, mark_runs};
+use crate::runs::{are_free, mark_runs};
 use lam_geom::Axis;
 use pair_rules::{Pair, facing_spacing};
 use rule_table::Tech;
@@ -94,8 +94,8 @@ fn is_constant(axis: Axis, items: &[Item], pair: Pair) -> bool
 }
 
 // Whether one of the nearer pairs of its front shadows a pair. It goes from the pair towards the nearest, and passes a run of
-// metal of the pair's own net in one step, as no spacing binds the two: so two nets that face each other with n items each
-// take some n * n steps, and not n times as many.
+// the class and net of the pair's own item in one step, as no spacing binds these: so two nets that face each other with n items
+// each take some n * n steps, and not n times as many.
 fn is_shadowed(
     axis: Axis,
     tech: &Tech,
@@ -116,7 +116,7 @@ fn is_shadowed(
     let mut left = nearer.len();
     while left > 0 {
         let behind = nearer[left - 1];
-        if are_of_one_metal(first, &items[behind.i as usize]) {
+        if are_free(first, &items[behind.i as usize]) {
             left = runs[left - 1];
         } else if is_shadowed_by(axis, tech, items, coords, pair, behind) {
             return true;

@@ -2,18 +2,18 @@
 
 ghost use Rattle.std.specs.Prelude.{◌≡◌, ◌<◌, ◌↔◌, length, slice_index, slice_index_or, All, OnOk, IsTrue};
 ghost use Rattle.pair_rules.specs.Bound.{item_at};
-ghost use Rattle.shadow_prune.specs.Runs.{AreAlike, AreOfOneMetal, IsRun, AreRuns};
+ghost use Rattle.shadow_prune.specs.Runs.{AreAlike, AreFree, IsRun, AreRuns};
 
 use pair_rules::Pair;
 use rule_table::Class;
 use std::alloc::AllocError;
 use sym_items::Item;
 
-/// Whether two items are metal of one net, which need keep no spacing.
-pub fn are_of_one_metal(a: &Item, b: &Item) -> bool
-    ensures { IsTrue result ↔ AreOfOneMetal a.now b.now }
+/// Whether two items are of one class other than cuts, and of one net: such items need keep no spacing.
+pub fn are_free(a: &Item, b: &Item) -> bool
+    ensures { IsTrue result ↔ AreFree a.now b.now }
 {
-    matches!((a.class, b.class), (Class::M, Class::M)) && a.net == b.net
+    are_alike(a, b) && !matches!(a.class, Class::C)
 }
 
 // Whether two items are of one class and one net.

@@ -2,8 +2,8 @@ use Rattle.std.proofs.Common.{◌<◌, ◌-◌, length, get_or, pos, sym, ◌∙
 use Rattle.shadow_prune.proofs.Skipping.{run_is_passed, one_more, none_shadows}
 use Rattle.shadow_prune.proofs.keeping.is_shadowed.Goals as goal
 
-pub loop-left-preserved-then-are_of_one_metal : goal.loop-left-preserved-then-are_of_one_metal
-loop-left-preserved-then-are_of_one_metal c =
+pub loop-left-preserved-then-are_free : goal.loop-left-preserved-then-are_free
+loop-left-preserved-then-are_free c =
     let place = c.loop-left.left - 1 in
     let lt : place < length c.args.nearer.now = omega arith in
     let run = c.requires.runs place lt (omega arith) in
@@ -11,7 +11,7 @@ loop-left-preserved-then-are_of_one_metal c =
     record {
       within = omega (arith, order, lt);
       none = run_is_passed c.args.axis c.args.tech.now c.args.coords.now c.args.items.now c.args.pair c.args.nearer.now (get_or c.args.runs.now place 0) place (record { i = 0; j = 0; s = pos 0 }) lt
-          (c.are_of_one_metal.ensures.0 c.if-are_of_one_metal.true) run (λ k d from below. c.loop-left.invariant.none k d (omega (arith, from)) below);
+          (c.are_free.ensures.0 c.if-are_free.true) run (λ k d from below. c.loop-left.invariant.none k d (omega (arith, from)) below);
     }
 
 pub loop-left-preserved : goal.loop-left-preserved
