@@ -13,7 +13,7 @@ use rule_table::Tech;
 use std::alloc::{AllocError, Global};
 use sym_items::{Coords, Item, box_of};
 
-// How many near items an item may have, on average, before all pairs are looked at instead.
+// How many near items an item may have on average, itself among them, before all pairs are looked at instead.
 const NEAR_ITEMS: usize = 64;
 
 // The boxes of all items, on one layer, whichever.

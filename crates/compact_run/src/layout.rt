@@ -21,7 +21,7 @@ use crate::clash::clash_line;
 use crate::extent::judge_extent;
 use crate::refusal::Refusal;
 use crate::status::Status;
-use coarse_grid::{find_clash, near_share_a_point, start, start_is_a_layout};
+use coarse_grid::{first_clash, near_share_a_point, start, start_is_a_layout};
 use expand::{Master, master_is_lawful};
 use grid_rules::{all_keep_spacing, grids_are_aligned};
 use kept_rules::boxes_keep_rules;
@@ -44,7 +44,7 @@ fn judge_start(alloc: Global, tech: &Tech, master: &Master, number: u32) -> Resu
     start_is_a_layout(tech, master);
     near_share_a_point(tech, master);
     let list = master.items.list.as_slice();
-    match find_clash(tech, list, &start) {
+    match first_clash(alloc, tech, list, &start)? {
         None => Ok(()),
         Some((a, b)) => {
             let (first, second) = (list[a as usize].owner, list[b as usize].owner);
