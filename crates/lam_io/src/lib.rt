@@ -7,12 +7,15 @@
 // answered only where the count of faults rose in that call. `put_all` puts the pieces of a text, one
 // after another, with the same contract for the whole.
 //
+// A `Gate` is told where each piece of split work begins, and answers nothing; `OpenGate` is the one that does nothing.
+//
 // `MemShelf` and `MemSink` are a shelf and a sink in memory, which fail where a `FailPlan` says.
 // `FileShelf` and `StdSink` stand over the files and the streams of the operating system.
 #![tactic(auto)]
 
 mod fail_plan;
 mod file_shelf;
+mod gate;
 mod mem_shelf;
 mod mem_sink;
 mod puts;
@@ -23,6 +26,7 @@ mod tries;
 
 pub use fail_plan::FailPlan;
 pub use file_shelf::FileShelf;
+pub use gate::{Gate, OpenGate};
 pub use mem_shelf::MemShelf;
 pub use mem_sink::MemSink;
 pub use puts::put_all;

@@ -15,3 +15,4 @@ pub mod Texts
 pub mod Chain
 pub mod Determined
 pub mod OneRefusal
+mod FoundPairs

@@ -11,3 +11,4 @@ pub mod Pruning
 pub mod OnePass
 pub mod OneStep
 pub mod Going
+pub mod Found

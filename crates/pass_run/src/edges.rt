@@ -1,31 +1,35 @@
 //! The inequalities of a pass, and the constraint graph of them.
 
-ghost use Rattle.std.specs.Prelude.{◌≡◌, ◌+◌, ◌<◌, ◌≤◌, ◌^◌, ◌++◌, length, slice_index, flat_map, All, OnOk, IfOk, IfErr};
+ghost use Rattle.std.specs.Prelude.{◌≡◌, ◌+◌, ◌<◌, ◌≤◌, ◌^◌, ◌++◌, length, slice_index, map, flat_map, All, OnOk, IfOk, IfErr};
 ghost use Rattle.cons_graph.specs.Constraints.{IsConstraintGraph};
 ghost use Rattle.expand.specs.Laws.{IsLawful};
 ghost use Rattle.expand.specs.Masters.{IsMaster};
-ghost use Rattle.pair_rules.specs.Kept.{kept_of};
+ghost use Rattle.expand.specs.Bounds.{IsNearAlong};
+ghost use Rattle.pair_rules.specs.declared.pairs.Pair.{Pair as SomePair};
 ghost use Rattle.pitch_join.specs.Masters.{ArePlanned, master_numbers};
 ghost use Rattle.pitch_join.specs.Names.{joint_names};
-ghost use Rattle.pitch_join.specs.Joined.{bases_of, joint_variables, kept_edges_at, list_over};
-ghost use Rattle.pitch_join.specs.Spaces.{EndsBelow};
+ghost use Rattle.pitch_join.specs.Joined.{bases_of, joint_variables, kept_edges_at, list_over, shifted, space_edge};
+ghost use Rattle.pitch_join.specs.Spaces.{EndsBelow, IsPairAmong};
 ghost use Rattle.shadow_prune.specs.KeptFaults.{RefusesKept};
 ghost use Rattle.pass_run.specs.Alike.{most_edges};
-ghost use Rattle.pass_run.specs.OneMaster.{own_kept_edges};
 ghost use Rattle.pass_run.specs.Passes.{kept_counts};
-ghost use Rattle.pass_run.specs.Laid.{IsLaidOut, AreLaidOut};
+ghost use Rattle.pass_run.specs.Laid.{AreLaidOut};
 
+use crate::finding::{Found, found_in_all};
 use crate::laws::masters_are_lawful;
 use cons_graph::{Graph, GraphFault, MAX_EDGES, Names};
-use expand::{Master, master_is_lawful};
+use expand::Master;
 use lam_geom::Axis;
+use lam_io::Gate;
 use lam_list::Seq;
+use pair_rules::Pair;
 use pitch_join::{Joint, join};
 use plan_model::Plan;
 use rule_table::Tech;
-use shadow_prune::{KeptFault, kept};
+use shadow_prune::KeptFault;
 use std::alloc::Global;
-use sym_items::Coords;
+use std::thread::Threads;
+use sym_items::{Coords, Items};
 
 /// The list of a pass.
 #[derive(Drop)]
@@ -41,43 +45,40 @@ pub struct Listed {
 }
 
 // Adds the inequalities of the kept pairs of a master, which is number `m`, if there is room for them, and counts them.
-fn add_kept_of(
+fn add_pairs(
     joint: &mut Joint,
-    alloc: Global,
     axis: Axis,
-    tech: &Tech,
     m: u32,
-    master: &Master,
-    layout: &Coords,
+    items: &Items,
+    pairs: &[Pair],
 ) -> Result<u32, KeptFault>
-    requires master { IsMaster tech.now master.now }
-    requires laid { IsLaidOut tech.now master.now layout.now }
     requires among { m < length joint.old.base }
-    requires below { All (EndsBelow (slice_index joint.old.base m) axis) master.now.items.list }
-    ensures edges { OnOk result (joint.new.edges.items ≡ joint.old.edges.items ++ own_kept_edges axis tech.now (slice_index joint.old.base m) master.now layout.now) }
+    requires near { All (IsNearAlong axis) items.now.list }
+    requires below { All (EndsBelow (slice_index joint.old.base m) axis) items.now.list }
+    requires pairs { All (IsPairAmong items.now.list) pairs.now }
+    ensures edges { OnOk result (joint.new.edges.items ≡ joint.old.edges.items ++ map (λ (p : SomePair). shifted (slice_index joint.old.base m) (space_edge axis items.now.list p)) pairs.now) }
     ensures others { OnOk result (joint.new ≡ record joint.old { edges = joint.new.edges }) }
-    ensures count { IfOk result (λ count. count ≡ length (kept_of axis tech.now layout.now master.now.items.list)) }
-    ensures fault { IfErr result (RefusesKept most_edges (length joint.old.edges.items + length (kept_of axis tech.now layout.now master.now.items.list))) }
+    ensures count { IfOk result (λ count. count ≡ length pairs.now) }
+    ensures fault { IfErr result (RefusesKept most_edges (length joint.old.edges.items + length pairs.now)) }
 {
-    if joint.edges.len() > MAX_EDGES {
+    if pairs.len() > MAX_EDGES || joint.edges.len() > MAX_EDGES - pairs.len() {
         return Err(KeptFault::TooMany);
     }
-    let room = (MAX_EDGES - joint.edges.len()) as u32;
-    master_is_lawful(tech, master);
-    let items = master.items.list.as_slice();
-    let pairs = kept(alloc, axis, tech, items, layout, room)?;
-    joint.add_kept(axis, m, &master.items, &pairs)?;
+    joint.add_kept(axis, m, items, pairs)?;
     Ok(pairs.len() as u32)
 }
 
-// Adds those of all masters, in order.
-fn add_all_kept(
+// Adds those of all masters, in order. They are found in as many pieces as `split` says, whatever the number of instances.
+fn add_all_kept<H: Threads + Sync, G: Gate>(
     joint: &mut Joint,
+    rt: &H,
     alloc: Global,
+    gate: &G,
     axis: Axis,
     tech: &Tech,
     masters: &[Master],
     layouts: &[Coords],
+    split: u32,
 ) -> Result<Vec<u32>, KeptFault>
     requires each { All (IsMaster tech.now) masters.now }
     requires lawful { All (IsLawful tech.now) masters.now }
@@ -85,32 +86,44 @@ fn add_all_kept(
     requires few { joint_variables axis masters.now ≤ 2 ^ 17 }
     requires laid { AreLaidOut tech.now masters.now layouts.now }
     requires bases { joint.old.base ≡ bases_of axis masters.now }
+    requires split { (1 ≤ split) × (split ≤ 64) }
     ensures edges { OnOk result (joint.new.edges.items ≡ joint.old.edges.items ++ flat_map (kept_edges_at axis tech.now masters.now layouts.now) (master_numbers masters.now)) }
     ensures others { OnOk result (joint.new ≡ record joint.old { edges = joint.new.edges }) }
     ensures counts { IfOk result (λ counts. counts.items ≡ kept_counts axis tech.now masters.now layouts.now) }
     ensures fault { IfErr result (RefusesKept most_edges (length (joint.old.edges.items ++ flat_map (kept_edges_at axis tech.now masters.now layouts.now) (master_numbers masters.now)))) }
 {
+    if joint.edges.len() > MAX_EDGES {
+        return Err(KeptFault::TooMany);
+    }
+    let room = (MAX_EDGES - joint.edges.len()) as u32;
+    let found = found_in_all(rt, alloc, gate, axis, tech, masters, layouts, room, split)?;
     let mut counts = Vec::new(alloc);
     for m in 0..masters.len() as u32 {
-        let master = &masters[m as usize];
-        let layout = &layouts[m as usize];
-        counts.push(add_kept_of(joint, alloc, axis, tech, m, master, layout)?)?;
+        let items = &masters[m as usize].items;
+        match &found[m as usize] {
+            Found::Pairs(pairs) => counts.push(add_pairs(joint, axis, m, items, pairs)?)?,
+            Found::TooMany => return Err(KeptFault::TooMany),
+        }
     }
     Ok(counts)
 }
 
 /// The list of a pass over some layouts: what holds whatever they are, and the inequalities of the kept pairs of each master.
-/// The pairs of a master are found once, whatever the number of its instances.
-pub fn list(
+/// The pairs of a master are found once, whatever the number of its instances, and in as many pieces as `split` says.
+pub fn list<H: Threads + Sync, G: Gate>(
+    rt: &H,
     alloc: Global,
+    gate: &G,
     axis: Axis,
     tech: &Tech,
     plan: &Plan,
     masters: &[Master],
     layouts: &[Coords],
+    split: u32,
 ) -> Result<Listed, KeptFault>
     requires planned { ArePlanned tech.now plan.now masters.now }
     requires laid { AreLaidOut tech.now masters.now layouts.now }
+    requires split { (1 ≤ split) × (split ≤ 64) }
     ensures vars { IfOk result (λ l. l.graph.vars ≡ joint_variables axis masters.now) }
     ensures edges { IfOk result (λ l. l.graph.edges ≡ list_over axis tech.now plan.now masters.now layouts.now) }
     ensures few { IfOk result (λ l. length l.graph.edges ≤ most_edges) }
@@ -123,7 +136,9 @@ pub fn list(
 {
     masters_are_lawful(tech, masters);
     let mut joint = join(alloc, axis, tech, plan, masters)?;
-    let kept = add_all_kept(&mut joint, alloc, axis, tech, masters, layouts)?;
+    let kept = add_all_kept(
+        &mut joint, rt, alloc, gate, axis, tech, masters, layouts, split,
+    )?;
     let Joint {
         vars,
         base,

@@ -6,6 +6,7 @@
 #![tactic(auto)]
 
 mod edges;
+mod finding;
 mod laws;
 mod layouts;
 mod pass;

@@ -27,6 +27,7 @@ use crate::text::{cycle_text, pass_text};
 use crit_path::walk_to;
 use expand::Master;
 use lam_geom::Axis;
+use lam_io::Gate;
 use lam_list::Seq;
 use liao_wong::{Solved, Unsolved, solve, sort_order};
 use plan_model::Plan;
@@ -34,6 +35,7 @@ use round_log::Log;
 use rule_table::Tech;
 use shadow_prune::KeptFault;
 use std::alloc::{AllocError, Global};
+use std::thread::Threads;
 use sym_items::Coords;
 
 /// A pass that was made, the layouts after it, and its text in the report.
@@ -154,18 +156,23 @@ fn made_of(
 }
 
 /// The pass with this number on an axis, over the layouts before it: the least values of the axis for all masters, by Liao and
-/// Wong's rounds over the listed inequalities in order of the values before.
-pub fn one_pass(
+/// Wong's rounds over the listed inequalities in order of the values before. The kept pairs are found in as many pieces as `split`
+/// says.
+pub fn one_pass<H: Threads + Sync, G: Gate>(
+    rt: &H,
     alloc: Global,
+    gate: &G,
     tech: &Tech,
     plan: &Plan,
     masters: &[Master],
     pass: u32,
     axis: Axis,
     before: &[Coords],
+    split: u32,
 ) -> Result<Made, Stop>
     requires planned { ArePlanned tech.now plan.now masters.now }
     requires laid { AreLaidOut tech.now masters.now before.now }
+    requires split { (1 ≤ split) × (split ≤ 64) }
     ensures axis { IfOk result (λ m. m.step.axis ≡ axis) }
     ensures least { IfOk result (λ m. IsLeastPass tech.now plan.now masters.now before.now m.step) }
     ensures recorded { IfOk result (λ m. IsRecorded tech.now plan.now masters.now before.now m.step) }
@@ -180,7 +187,7 @@ pub fn one_pass(
     ensures first { IfErr result (IsFirstOn tech.now plan.now masters.now before.now axis) }
 {
     masters_are_lawful(tech, masters);
-    let listed = list(alloc, axis, tech, plan, masters, before)?;
+    let listed = list(rt, alloc, gate, axis, tech, plan, masters, before, split)?;
     let order = order_along(alloc, axis, before)?;
     match solve(alloc, &listed.graph, &order) {
         Ok(solved) => Ok(made_of(alloc, tech, masters, before, pass, axis, &listed, solved)?),

@@ -20,10 +20,12 @@ use crate::pass::{Made, Stop, one_pass};
 use crate::step::Step;
 use expand::Master;
 use lam_geom::Axis;
+use lam_io::Gate;
 use lam_list::Seq;
 use plan_model::Plan;
 use rule_table::Tech;
 use std::alloc::{AllocError, AllocFailed, Global};
+use std::thread::Threads;
 use stick_lex::Text;
 use sym_items::Coords;
 use thiserror::Error;
@@ -132,15 +134,19 @@ fn cycle_report(alloc: Global, before: &[u8], text: &[u8]) -> Result<Text, Alloc
 }
 
 // Makes one more pass, on this axis.
-fn go_on(
+fn go_on<H: Threads + Sync, G: Gate>(
+    rt: &H,
     alloc: Global,
+    gate: &G,
     tech: &Tech,
     plan: &Plan,
     masters: &[Master],
     axis: Axis,
+    split: u32,
     so_far: SoFar,
 ) -> Result<SoFar, PassFault>
     requires planned { ArePlanned tech.now plan.now masters.now }
+    requires split { (1 ≤ split) × (split ≤ 64) }
     requires going { IsGoing tech.now plan.now masters.now so_far }
     requires few { length so_far.steps.items < 16 }
     ensures going { IfOk result (IsGoing tech.now plan.now masters.now) }
@@ -148,7 +154,18 @@ fn go_on(
     ensures refused { IfErr result (λ fault. (later : List SomeAxis) → RefusesPasses tech.now plan.now masters.now (axes_of so_far.steps.items ++ axis ∷ later) fault) }
 {
     let pass = so_far.steps.len() as u32 + 1;
-    match one_pass(alloc, tech, plan, masters, pass, axis, &so_far.layouts) {
+    match one_pass(
+        rt,
+        alloc,
+        gate,
+        tech,
+        plan,
+        masters,
+        pass,
+        axis,
+        &so_far.layouts,
+        split,
+    ) {
         Ok(made) => Ok(with_pass(so_far, made)?),
         Err(Stop::TooManyEdges) => Err(PassFault::TooManyEdges { pass }),
         Err(Stop::Cycle(text)) => {
@@ -180,17 +197,23 @@ fn given(alloc: Global, so_far: SoFar) -> Result<Passes, AllocError>
 
 /// Passes on these axes, one after another, over the start layouts of all masters of a plan, which are clean. Each gives its
 /// axis the least values that meet the structure of each master, keep all candidates of the layouts before it apart, and give
-/// masters that share a column or a row one size and ports that meet one line; the other axis stays.
-pub fn run_passes(
+/// masters that share a column or a row one size and ports that meet one line; the other axis stays. The kept pairs of the
+/// masters are found in as many pieces as `split` says, each of which passes the gate in each pass; want of memory aside, the
+/// answer is the same for every `split` and every gate.
+pub fn run_passes<H: Threads + Sync, G: Gate>(
+    rt: &H,
     alloc: Global,
+    gate: &G,
     tech: &Tech,
     plan: &Plan,
     masters: &[Master],
     axes: &[Axis],
+    split: u32,
 ) -> Result<Passes, PassFault>
     requires planned { ArePlanned tech.now plan.now masters.now }
     requires clean { All (StartsClean tech.now) masters.now }
     requires few { length axes.now ≤ 16 }
+    requires split { (1 ≤ split) × (split ≤ 64) }
     ensures axes { IfOk result (λ p. axes_of p.steps ≡ axes.now) }
     ensures passes { IfOk result (λ p. ArePasses tech.now plan.now masters.now (starts_of tech.now masters.now) p.steps) }
     ensures last { IfOk result (λ p. p.coords ≡ layouts_after masters.now (starts_of tech.now masters.now) p.steps) }
@@ -213,7 +236,7 @@ pub fn run_passes(
     refusals_are_determined(tech, plan, masters);
     let mut so_far = none_yet(alloc, tech, plan, masters)?;
     for axis in axes {
-        so_far = go_on(alloc, tech, plan, masters, *axis, so_far)?;
+        so_far = go_on(rt, alloc, gate, tech, plan, masters, *axis, split, so_far)?;
     }
     Ok(given(alloc, so_far)?)
 }

@@ -5,7 +5,7 @@ use Rattle.pass_run.proofs.Shape.{graph_shape}
 use Rattle.pass_run.proofs.edges.list.Goals as goal
 
 pub new-requires : goal.new-requires
-new-requires c =
+new-requires g c =
     let joint = c.in_ok-joint.joint in
     let now = c.add_all_kept.new.joint in
     let V : ℕ → Type 0 = λ n. IsConstraintGraph (record { vars = n; edges = now.edges.items }) in

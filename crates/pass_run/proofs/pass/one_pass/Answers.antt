@@ -20,21 +20,21 @@ use Rattle.pass_run.proofs.Values.{joint_length}
 use Rattle.pass_run.proofs.pass.one_pass.Goals as goal
 
 pub order_along-requires : goal.order_along-requires
-order_along-requires c =
+order_along-requires g c =
     let count = joint_length c.args.axis c.args.tech.now c.args.masters.now c.args.before.now c.requires.laid in
     let vars = c.in_ok-listed.ensures.vars in
     let few = c.in_ok-listed.ensures.shape.few_vars in
     omega arith
 
 pub solve-requires : goal.solve-requires
-solve-requires c =
+solve-requires g c =
     let O : List ℕ → Type 0 = λ ns. IsOrder c.in_ok-listed.listed.graph.vars ns in
     subst O (sym c.deref.ensures.value)
     (order_of c.args.axis c.args.tech.now c.args.plan.now c.args.masters.now c.args.before.now c.in_ok-listed.listed.graph.vars c.in_ok-order.order.items c.requires.planned c.requires.laid c.in_ok-listed.ensures.vars
     c.in_ok-order.ensures.names c.in_ok-order.ensures.in_order)
 
 pub made_of-requires-clause-ended : goal.made_of-requires-clause-ended
-made_of-requires-clause-ended c =
+made_of-requires-clause-ended g c =
     let O : List ℕ → Type 0 = λ ns. IsOrder c.in_ok-listed.listed.graph.vars ns in
     record {
       order = c.deref.result.now;
@@ -47,7 +47,7 @@ made_of-requires-clause-ended c =
     }
 
 pub returns-in-Ok : goal.returns-in-Ok
-returns-in-Ok c =
+returns-in-Ok g c =
     let tech = c.args.tech.now in
     let plan = c.args.plan.now in
     let masters = c.args.masters.now in
@@ -96,14 +96,14 @@ returns-in-Ok c =
     }
 
 pub cycle_text-requires-clause-few : goal.cycle_text-requires-clause-few
-cycle_text-requires-clause-few c =
-    let g = c.in_ok-listed.listed.graph in
-    let P : List ℕ → Type 0 = λ ns. IsSimplePositiveCycle g.edges ns in
+cycle_text-requires-clause-few g c =
+    let graph = c.in_ok-listed.listed.graph in
+    let P : List ℕ → Type 0 = λ ns. IsSimplePositiveCycle graph.edges ns in
     let I : Unsolved → Type 0 = λ u. IfCycle u P in
-    cycle_few g c.as_slice.result.now c.in_ok-listed.ensures.shape (subst P (sym c.as_slice.ensures) (subst I c.in-Err-Cycle.field-0-is c.in-Err-Cycle.ensures.cycle))
+    cycle_few graph c.as_slice.result.now c.in_ok-listed.ensures.shape (subst P (sym c.as_slice.ensures) (subst I c.in-Err-Cycle.field-0-is c.in-Err-Cycle.ensures.cycle))
 
 pub returns-in-Err-Cycle : goal.returns-in-Err-Cycle
-returns-in-Err-Cycle c =
+returns-in-Err-Cycle g c =
     let tech = c.args.tech.now in
     let plan = c.args.plan.now in
     let masters = c.args.masters.now in

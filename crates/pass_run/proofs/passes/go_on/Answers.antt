@@ -9,20 +9,20 @@ use Rattle.pass_run.proofs.Going.{going_more, refused_cyclic}
 use Rattle.pass_run.proofs.passes.go_on.Goals as goal
 
 pub returns-in-Ok-clause-going : goal.returns-in-Ok-clause-going
-returns-in-Ok-clause-going c =
+returns-in-Ok-clause-going g c =
     let m = c.in-Ok.ensures in
     let w = c.in_ok-with_pass-in-Ok.ensures in
     going_more c.args.tech.now c.args.plan.now c.args.masters.now c.args.so_far c.in_ok-with_pass-in-Ok.field-0 c.deref.result.now c.in-Ok.made.step _ _ c.args.axis c.requires.going c.deref.ensures.value
     (omega arith) m.axis m.least m.recorded m.sound_pass m.laid m.settled m.text (w.layouts ∙ m.layouts) w.steps w.report
 
 pub returns-in-Ok-clause-axes : goal.returns-in-Ok-clause-axes
-returns-in-Ok-clause-axes c =
+returns-in-Ok-clause-axes g c =
     let w = c.in_ok-with_pass-in-Ok.ensures in
     let last = ap (λ (axis : Axis). axes_of c.args.so_far.steps.items ++ axis ∷ []) c.in-Ok.ensures.axis in
     ap (λ (steps : List Step). axes_of steps) w.steps ∙ (axes_more c.args.so_far.steps.items c.in-Ok.made.step ∙ last)
 
 pub returns-in-Err-Cycle-clause-refused : goal.returns-in-Err-Cycle-clause-refused
-returns-in-Err-Cycle-clause-refused c = λ later.
+returns-in-Err-Cycle-clause-refused g c = λ later.
     let tech = c.args.tech.now in
     let plan = c.args.plan.now in
     let masters = c.args.masters.now in

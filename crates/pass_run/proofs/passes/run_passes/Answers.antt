@@ -19,7 +19,7 @@ use Rattle.pass_run.proofs.OneRefusal.{passes_solvable, stops_at_first}
 use Rattle.pass_run.proofs.passes.run_passes.Goals as goal
 
 pub go_on-requires-clause-few : goal.go_on-requires-clause-few
-go_on-requires-clause-few c =
+go_on-requires-clause-few g c =
     let counted = axes_counted c.loop-axis.so_far.steps.items in
     let axes = ap (λ (axes : List Axis). length axes) c.loop-axis.invariant.axes in
     let few = c.requires.few in
@@ -28,7 +28,7 @@ go_on-requires-clause-few c =
     omega arith
 
 pub returns-in_err-so_far-2-clause-refused : goal.returns-in_err-so_far-2-clause-refused
-returns-in_err-so_far-2-clause-refused c =
+returns-in_err-so_far-2-clause-refused g c =
     let p = err_from_is_err_and c.from_residual-in_err-so_far-2.result c.from_residual-in_err-so_far-2.ensures.1 in
     let r = c.in_err-so_far-2.ensures.refused (drop (suc c.loop-axis.axis-index) c.args.axes.now) in
     rw (p.1, p.2)
@@ -36,44 +36,44 @@ returns-in_err-so_far-2-clause-refused c =
     (omega arith) c.loop-axis.invariant.axes r)
 
 pub returns-clause-counted : goal.returns-clause-counted
-returns-clause-counted c = ap (λ (cs : List Coords). length cs) c.in_ok-given.ensures.coords ∙ c.loop-axis.invariant.going.laid.counted
+returns-clause-counted g c = ap (λ (cs : List Coords). length cs) c.in_ok-given.ensures.coords ∙ c.loop-axis.invariant.going.laid.counted
 
 pub returns-clause-laid : goal.returns-clause-laid
-returns-clause-laid c = let L : List Coords → Type 0 = AreLaidOut c.args.tech.now c.args.masters.now in subst L (sym c.in_ok-given.ensures.coords) c.loop-axis.invariant.going.laid
+returns-clause-laid g c = let L : List Coords → Type 0 = AreLaidOut c.args.tech.now c.args.masters.now in subst L (sym c.in_ok-given.ensures.coords) c.loop-axis.invariant.going.laid
 
 pub returns-clause-placed : goal.returns-clause-placed
-returns-clause-placed c =
+returns-clause-placed g c =
     let P : List Coords → Type 0 = λ layouts. AreWellPlaced c.args.tech.now c.args.masters.now layouts c.args.axes.now in
     let test = c.loop-axis-test.false in
     let all : axes_of c.loop-axis.so_far.steps.items ≡ c.args.axes.now = c.loop-axis.invariant.axes ∙ take_all c.loop-axis.axis-index c.args.axes.now (omega arith) in
     subst P (sym c.in_ok-given.ensures.coords) (going_placed c.args.tech.now c.args.plan.now c.args.masters.now c.loop-axis.so_far c.args.axes.now c.loop-axis.invariant.going all)
 
 pub returns-clause-met : goal.returns-clause-met
-returns-clause-met c =
+returns-clause-met g c =
     let M : List Coords → Type 0 = λ layouts. (axis : Axis) → Contains c.args.axes.now axis → LayoutsMeet axis c.args.tech.now c.args.plan.now c.args.masters.now layouts in
     let test = c.loop-axis-test.false in
     let all : axes_of c.loop-axis.so_far.steps.items ≡ c.args.axes.now = c.loop-axis.invariant.axes ∙ take_all c.loop-axis.axis-index c.args.axes.now (omega arith) in
     subst M (sym c.in_ok-given.ensures.coords) (going_met c.args.tech.now c.args.plan.now c.args.masters.now c.loop-axis.so_far c.args.axes.now c.loop-axis.invariant.going all)
 
 pub returns-in_err-so_far-clause-pruning : goal.returns-in_err-so_far-clause-pruning
-returns-in_err-so_far-clause-pruning c = pruning c.args.tech.now c.args.plan.now c.args.masters.now c.masters_are_lawful.ensures
+returns-in_err-so_far-clause-pruning g c = pruning c.args.tech.now c.args.plan.now c.args.masters.now c.masters_are_lawful.ensures
 
 pub returns-in_err-so_far-2-clause-pruning : goal.returns-in_err-so_far-2-clause-pruning
-returns-in_err-so_far-2-clause-pruning c = pruning c.args.tech.now c.args.plan.now c.args.masters.now c.masters_are_lawful.ensures
+returns-in_err-so_far-2-clause-pruning g c = pruning c.args.tech.now c.args.plan.now c.args.masters.now c.masters_are_lawful.ensures
 
 pub returns-in_err-given-clause-pruning : goal.returns-in_err-given-clause-pruning
-returns-in_err-given-clause-pruning c = pruning c.args.tech.now c.args.plan.now c.args.masters.now c.masters_are_lawful.ensures
+returns-in_err-given-clause-pruning g c = pruning c.args.tech.now c.args.plan.now c.args.masters.now c.masters_are_lawful.ensures
 
 pub returns-clause-pruning : goal.returns-clause-pruning
-returns-clause-pruning c = pruning c.args.tech.now c.args.plan.now c.args.masters.now c.masters_are_lawful.ensures
+returns-clause-pruning g c = pruning c.args.tech.now c.args.plan.now c.args.masters.now c.masters_are_lawful.ensures
 
 pub returns-clause-solvable : goal.returns-clause-solvable
-returns-clause-solvable c =
+returns-clause-solvable g c =
     let S : List Step → Type 0 = λ steps. AreSolvable c.args.tech.now c.args.plan.now c.args.masters.now (starts_of c.args.tech.now c.args.masters.now) steps in
     subst S (sym c.in_ok-given.ensures.steps) (passes_solvable c.args.tech.now c.args.plan.now c.args.masters.now _ _ c.loop-axis.invariant.going.made)
 
 pub returns-in_err-so_far-2-clause-first : goal.returns-in_err-so_far-2-clause-first
-returns-in_err-so_far-2-clause-first c =
+returns-in_err-so_far-2-clause-first g c =
     let p = err_from_is_err_and c.from_residual-in_err-so_far-2.result c.from_residual-in_err-so_far-2.ensures.1 in
     let r = c.in_err-so_far-2.ensures.refused (drop (suc c.loop-axis.axis-index) c.args.axes.now) in
     rw (p.1, p.2)

@@ -4,7 +4,7 @@ use Rattle.pass_run.specs.Going.{IsGoing}
 use Rattle.pass_run.proofs.passes.run_passes.Given as goal
 
 abbrev pub invariant-loop-axis : goal.invariant-loop-axis
-invariant-loop-axis l = record {
+invariant-loop-axis g l = record {
   going : IsGoing l.tech l.plan l.masters l.so_far;
   axes : axes_of l.so_far.steps.items ≡ take l.axis-index l.axes;
 }

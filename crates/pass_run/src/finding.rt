@@ -1,0 +1,94 @@
+//! The kept pairs of all masters, found in pieces that run beside each other.
+
+ghost use Rattle.std.specs.Prelude.{◌≡◌, ◌+◌, ◌<◌, ◌≤◌, length, All, IfOk};
+ghost use Rattle.expand.specs.Masters.{IsMaster};
+ghost use Rattle.sym_items.specs.Layouts.{layout_at};
+ghost use Rattle.pitch_join.specs.Masters.{master_at, master_numbers};
+ghost use Rattle.pass_run.specs.Found.{IsFoundIn, AreFound};
+ghost use Rattle.pass_run.specs.Laid.{IsLaidOut, AreLaidOut};
+
+use expand::{Master, master_is_lawful};
+use lam_geom::Axis;
+use lam_io::Gate;
+use pair_rules::Pair;
+use par_phase::map_split;
+use rule_table::Tech;
+use shadow_prune::{KeptFault, kept};
+use std::alloc::{AllocError, Global};
+use std::thread::Threads;
+use sym_items::Coords;
+
+/// What was found of a master in a layout.
+#[derive(Drop)]
+pub enum Found {
+    /// Its kept pairs.
+    Pairs(Vec<Pair>),
+    /// There are more of them than there is room for.
+    TooMany,
+}
+
+// What is found of a master, where there is this much room.
+fn found_in(
+    alloc: Global,
+    axis: Axis,
+    tech: &Tech,
+    master: &Master,
+    layout: &Coords,
+    room: u32,
+) -> Result<Found, AllocError>
+    requires master { IsMaster tech.now master.now }
+    requires laid { IsLaidOut tech.now master.now layout.now }
+    ensures { IfOk result (IsFoundIn axis tech.now room master.now layout.now) }
+{
+    master_is_lawful(tech, master);
+    match kept(
+        alloc,
+        axis,
+        tech,
+        master.items.list.as_slice(),
+        layout,
+        room,
+    ) {
+        Ok(pairs) => Ok(Found::Pairs(pairs)),
+        Err(KeptFault::TooMany) => Ok(Found::TooMany),
+        Err(KeptFault::OutOfMemory) => Err(AllocError),
+    }
+}
+
+// The numbers of the masters.
+fn numbers(alloc: Global, masters: &[Master]) -> Result<Vec<u32>, AllocError>
+    requires { length masters.now ≤ 256 }
+    ensures { IfOk result (λ numbers. numbers.items ≡ master_numbers masters.now) }
+{
+    (0..masters.len() as u32).collect(alloc)
+}
+
+/// What is found of each master, where there is this much room for the pairs of each, in as many pieces as `split` says. The
+/// only refusal is want of memory.
+pub fn found_in_all<H: Threads + Sync, G: Gate>(
+    rt: &H,
+    alloc: Global,
+    gate: &G,
+    axis: Axis,
+    tech: &Tech,
+    masters: &[Master],
+    layouts: &[Coords],
+    room: u32,
+    split: u32,
+) -> Result<Vec<Found>, AllocError>
+    requires each { All (IsMaster tech.now) masters.now }
+    requires few_masters { length masters.now ≤ 256 }
+    requires laid { AreLaidOut tech.now masters.now layouts.now }
+    requires split { (1 ≤ split) × (split ≤ 64) }
+    ensures { IfOk result (λ found. AreFound axis tech.now room masters.now layouts.now found.items) }
+{
+    let numbers = numbers(alloc, masters)?;
+    let find = |m: &u32| -> Result<Found, AllocError>
+        requires { (m.now < length masters.now) × All (IsMaster tech.now) masters.now × AreLaidOut tech.now masters.now layouts.now }
+        ensures { IfOk result (IsFoundIn axis tech.entry.now room (master_at masters.entry.now m.entry.now) (layout_at layouts.entry.now m.entry.now)) }
+    {
+        let m = *m as usize;
+        found_in(alloc, axis, tech, &masters[m], &layouts[m], room)
+    };
+    map_split(rt, alloc, gate, &numbers, split, &find)
+}
