@@ -8,3 +8,4 @@ pub mod Reach
 pub mod PairRuns
 pub mod FrontPairs
 pub mod SortedPairs
+pub mod FirstItems

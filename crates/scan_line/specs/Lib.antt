@@ -4,3 +4,4 @@ pub mod Lanes
 pub mod Lines
 pub mod Cover
 pub mod Front
+pub mod Scan

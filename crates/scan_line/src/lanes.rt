@@ -42,7 +42,8 @@ impl Lanes {
 
     /// The numbers of all items in the order of the scan.
     pub fn order(&self) -> &[u32]
-        ensures { (axis : Axis) (coords : Coords) (items : List Item) → AreLanesOf axis coords items self.now → IsScanOrder axis coords items result.now }
+        ensures value { result.now ≡ self.now.order.items }
+        ensures in_order { (axis : Axis) (coords : Coords) (items : List Item) → AreLanesOf axis coords items self.now → IsScanOrder axis coords items result.now }
     {
         &self.order
     }

@@ -8,6 +8,8 @@
 mod covering;
 mod front;
 mod lanes;
+mod scan;
 mod sorting;
 
 pub use lanes::Lanes;
+pub use scan::{Near, Scan};
