@@ -1,5 +1,4 @@
 use Rattle.std.proofs.Common.{◌≡◌, pos, get_or, take, refl, subst, arith, rules}
-use Rattle.std.proofs.lemmas.Int.{ints}
 use Rattle.std.proofs.lemmas.List.{take_all, get_or_default}
 use Rattle.pair_rules.specs.declared.pairs.Pair.{Pair}
 use Rattle.scan_line.specs.Scan.{AreFirstOf}
