@@ -9,3 +9,4 @@ pub mod PairRuns
 pub mod FrontPairs
 pub mod SortedPairs
 pub mod FirstItems
+mod WorkedRow

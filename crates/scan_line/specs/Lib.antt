@@ -5,3 +5,4 @@ pub mod Lines
 pub mod Cover
 pub mod Front
 pub mod Scan
+pub mod Worked

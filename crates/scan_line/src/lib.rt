@@ -10,6 +10,8 @@ mod front;
 mod lanes;
 mod scan;
 mod sorting;
+#[cfg(test)]
+mod tests;
 
 pub use lanes::Lanes;
 pub use scan::{Near, Scan};
