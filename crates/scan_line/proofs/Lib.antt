@@ -1,7 +1,10 @@
 mod Along
-mod Sorted
+mod Lists
+mod Meeting
+mod NearAcross
 mod Parts
 mod Scanned
+mod Sorted
 pub mod Spacings
 pub mod MetalItems
 pub mod Reach

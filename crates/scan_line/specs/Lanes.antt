@@ -1,13 +1,25 @@
 -- The lanes of a layout: which items lie where across an axis.
-use Rattle.std.specs.Prelude.{◌≡◌, List}
+use Rattle.std.specs.Prelude.{◌≡◌, ℕ, ◌<◌, ℤ, ◌<ℤ◌, List, length, All, AllPairs, Contains}
 use Rattle.lam_geom.specs.declared.boxes.Axis.{Axis}
 use Rattle.sym_items.specs.declared.items.Item.{Item}
 use Rattle.sym_items.specs.declared.items.Coords.{Coords}
+use Rattle.sym_items.specs.Sides.{Sides, gap_on_y}
+use Rattle.pair_rules.specs.Bound.{item_at}
+use Rattle.pair_rules.specs.Candidates.{sides_at}
 use Rattle.scan_line.specs.declared.lanes.Lanes.{Lanes}
 use Rattle.scan_line.specs.Begins.{begins_of}
-use Rattle.scan_line.specs.Order.{IsScanOrder}
+use Rattle.scan_line.specs.Levels.{IsLevelOf}
+use Rattle.scan_line.specs.Order.{ComesBefore, IsScanOrder}
 
 -- the lanes were made of these items in this layout
 pub record AreLanesOf (axis : Axis) (c : Coords) (items : List Item) (lanes : Lanes) : Type 0 where
   pub order : IsScanOrder axis c items lanes.order.items
   pub begins : lanes.begins.items ≡ begins_of axis c items
+  pub fine : IsLevelOf axis c items lanes.order.items lanes.fine
+  pub coarse : IsLevelOf axis c items lanes.order.items lanes.coarse
+
+-- a list of items in the order of the scan that has all that lie nearer to a box than a reach
+pub record IsListNear (axis : Axis) (c : Coords) (items : List Item) (b : Sides) (reach : ℤ) (list : List ℕ) : Type 0 where
+  pub in_range : All (λ i. i < length items) list
+  pub in_order : AllPairs (ComesBefore axis c items) list
+  pub near : (i : ℕ) → i < length items → gap_on_y (sides_at axis c (item_at items i)) b <ℤ reach → Contains list i

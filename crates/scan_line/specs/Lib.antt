@@ -1,5 +1,7 @@
 pub mod Order
 pub mod Begins
+pub mod Stretches
+pub mod Levels
 pub mod Lanes
 pub mod Lines
 pub mod Cover

@@ -9,19 +9,26 @@ ghost use Rattle.sym_items.specs.Sides.{gap_on_y};
 ghost use Rattle.pair_rules.specs.Bound.{item_at};
 ghost use Rattle.pair_rules.specs.Candidates.{sides_at};
 ghost use Rattle.scan_line.specs.Order.{ComesBefore, IsScanOrder};
-ghost use Rattle.scan_line.specs.Lanes.{AreLanesOf};
+ghost use Rattle.scan_line.specs.Lanes.{AreLanesOf, IsListNear};
 
+use crate::level::Level;
 use crate::sorting::{begins_of, part_before, sort_order};
+use crate::stretches::Stretches;
 use lam_geom::Axis;
 use std::alloc::{AllocError, Global};
-use sym_items::{Coords, Item};
+use sym_items::{Coords, Item, box_along};
 
 /// The items of a layout in the order of a scan along an axis, and which of them lie where across it.
 #[derive(Debug, Drop)]
 pub struct Lanes {
     order: Vec<u32>,
     begins: Vec<i64>,
+    fine: Level,
+    coarse: Level,
 }
+
+// So many times as long as the stretches of the fine level are those of the coarse one.
+const COARSER: u64 = 16;
 
 impl Lanes {
     /// The lanes of items in a layout. The only refusal is want of memory.
@@ -37,7 +44,16 @@ impl Lanes {
     {
         let begins = begins_of(alloc, axis, items, coords)?;
         let order = sort_order(alloc, &begins)?;
-        Ok(Lanes { order, begins })
+        let stretches = Stretches::across(axis, items, coords);
+        let fine = Level::new(alloc, stretches, &order, axis, items, coords)?;
+        let longer = stretches.longer(COARSER);
+        let coarse = Level::new(alloc, longer, &order, axis, items, coords)?;
+        Ok(Lanes {
+            order,
+            begins,
+            fine,
+            coarse,
+        })
     }
 
     /// The numbers of all items in the order of the scan.
@@ -78,10 +94,16 @@ impl Lanes {
         requires lanes { AreLanesOf axis coords.now items.now self.now }
         requires among { j < length items.now }
         requires reach { (pos 0 ≤ℤ reach) × (reach ≤ℤ pos 4096) }
-        ensures in_range { All (λ i. i < length items.now) result.now }
-        ensures in_order { AllPairs (ComesBefore axis coords.now items.now) result.now }
-        ensures near { (i : ℕ) → i < length items.now → gap_on_y (sides_at axis coords.now (item_at items.now i)) (sides_at axis coords.now (item_at items.now j)) <ℤ reach → Contains result.now i }
+        ensures { IsListNear axis coords.now items.now (sides_at axis coords.now (item_at items.now j)) reach result.now }
     {
+        let across = box_along(axis, &items[j as usize], coords).y;
+        let (low, high) = (across.lo - reach, across.hi + reach);
+        if let Some(list) = self.fine.lane_over(low, high) {
+            return list;
+        }
+        if let Some(list) = self.coarse.lane_over(low, high) {
+            return list;
+        }
         &self.order
     }
 }

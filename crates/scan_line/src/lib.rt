@@ -8,8 +8,10 @@
 mod covering;
 mod front;
 mod lanes;
+mod level;
 mod scan;
 mod sorting;
+mod stretches;
 #[cfg(test)]
 mod tests;
 

@@ -1,6 +1,30 @@
-use Rattle.std.proofs.Common.{ℕ, List, subst, sym}
-use Rattle.std.specs.List.{Contains}
+use Rattle.std.proofs.Common.{◌≡◌, ℕ, List, ap, subst, sym, arith}
+use Rattle.std.proofs.lemmas.Int.{ints}
+use Rattle.sym_items.specs.Sides.{Sides}
+use Rattle.pair_rules.specs.Bound.{item_at}
+use Rattle.pair_rules.specs.Candidates.{sides_at}
+use Rattle.scan_line.specs.Lanes.{IsListNear}
+use Rattle.scan_line.proofs.NearAcross.{order_near, lane_near}
 use Rattle.scan_line.proofs.lanes.Lanes.list_near.Goals as goal
 
-pub returns-clause-near : goal.returns-clause-near
-returns-clause-near c = λ i lt near. subst (λ (list : List ℕ). Contains list i) (sym c.deref.ensures.value) (c.requires.lanes.order.each i lt)
+pub returns-in-Some : goal.returns-in-Some
+returns-in-Some c =
+    let b : Sides = sides_at c.args.axis c.args.coords.now (item_at c.args.items.now c.args.j) in
+    let bottom : c.box_along.result.y.lo ≡ b.bottom = ap (λ (s : Sides). s.bottom) c.box_along.ensures.sides in
+    let top : c.box_along.result.y.hi ≡ b.top = ap (λ (s : Sides). s.top) c.box_along.ensures.sides in
+    let placed = c.box_along.ensures.placed in
+    lane_near c.args.axis c.args.coords.now c.args.items.now c.args.self.now.order.items c.args.self.now.fine b c.args.reach _ _ c.in-Some.list.now c.requires.lanes.order c.requires.lanes.fine c.in-Some.ensures (omega (arith, ints, bottom, placed.1, c.requires.reach)) (omega (arith, ints, top, placed.1, c.requires.reach))
+
+pub returns-in-Some-lane_over : goal.returns-in-Some-lane_over
+returns-in-Some-lane_over c =
+    let b : Sides = sides_at c.args.axis c.args.coords.now (item_at c.args.items.now c.args.j) in
+    let bottom : c.box_along.result.y.lo ≡ b.bottom = ap (λ (s : Sides). s.bottom) c.box_along.ensures.sides in
+    let top : c.box_along.result.y.hi ≡ b.top = ap (λ (s : Sides). s.top) c.box_along.ensures.sides in
+    let placed = c.box_along.ensures.placed in
+    lane_near c.args.axis c.args.coords.now c.args.items.now c.args.self.now.order.items c.args.self.now.coarse b c.args.reach _ _ c.in-Some-lane_over.list.now c.requires.lanes.order c.requires.lanes.coarse c.in-Some-lane_over.ensures (omega (arith, ints, bottom, placed.1, c.requires.reach)) (omega (arith, ints, top, placed.1, c.requires.reach))
+
+pub returns : goal.returns
+returns c =
+    let b : Sides = sides_at c.args.axis c.args.coords.now (item_at c.args.items.now c.args.j) in
+    let near = order_near c.args.axis c.args.coords.now c.args.items.now c.args.self.now.order.items b c.args.reach c.requires.lanes.order in
+    subst (λ (list : List ℕ). IsListNear c.args.axis c.args.coords.now c.args.items.now b c.args.reach list) (sym c.deref.ensures.value) near

@@ -1,5 +1,7 @@
-use Rattle.std.proofs.Common.{arith, subst, List, ℤ}
+use Rattle.std.proofs.Common.{arith, subst, List, ℕ, ℤ}
 use Rattle.scan_line.specs.Begins.{IsOrderOf}
+use Rattle.scan_line.specs.Order.{IsScanOrder}
+use Rattle.scan_line.specs.Levels.{IsLevelOf}
 use Rattle.scan_line.proofs.Scanned.{begins_len, scan_order}
 use Rattle.scan_line.proofs.lanes.Lanes.new.Goals as goal
 
@@ -12,7 +14,10 @@ pub returns : goal.returns
 returns c =
     let begins = c.in_ok-begins.begins.items in
     let order = c.in_ok-order.order.items in
+    let made : IsScanOrder c.args.axis c.args.coords.now c.args.items.now order = scan_order c.args.axis c.args.coords.now c.args.items.now begins order c.in_ok-begins.ensures (subst (λ (bs : List ℤ). IsOrderOf bs order) c.deref.ensures.value c.in_ok-order.ensures) in
     record {
-      order = scan_order c.args.axis c.args.coords.now c.args.items.now begins order c.in_ok-begins.ensures (subst (λ (bs : List ℤ). IsOrderOf bs order) c.deref.ensures.value c.in_ok-order.ensures);
+      order = made;
       begins = c.in_ok-begins.ensures;
+      fine = subst (λ (ks : List ℕ). IsLevelOf c.args.axis c.args.coords.now c.args.items.now ks c.in_ok-fine.fine) c.deref-2.ensures.value c.in_ok-fine.ensures;
+      coarse = subst (λ (ks : List ℕ). IsLevelOf c.args.axis c.args.coords.now c.args.items.now ks c.in_ok-coarse.coarse) c.deref-3.ensures.value c.in_ok-coarse.ensures;
     }
