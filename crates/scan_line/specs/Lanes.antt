@@ -15,8 +15,7 @@ use Rattle.scan_line.specs.Order.{ComesBefore, IsScanOrder}
 pub record AreLanesOf (axis : Axis) (c : Coords) (items : List Item) (lanes : Lanes) : Type 0 where
   pub order : IsScanOrder axis c items lanes.order.items
   pub begins : lanes.begins.items ≡ begins_of axis c items
-  pub fine : IsLevelOf axis c items lanes.order.items lanes.fine
-  pub coarse : IsLevelOf axis c items lanes.order.items lanes.coarse
+  pub levels : All (IsLevelOf axis c items lanes.order.items) lanes.levels.items
 
 -- a list of items in the order of the scan that has all that lie nearer to a box than a reach
 pub record IsListNear (axis : Axis) (c : Coords) (items : List Item) (b : Sides) (reach : ℤ) (list : List ℕ) : Type 0 where

@@ -6,3 +6,5 @@ pub mod Lanes
 pub mod Lines
 pub mod Cover
 pub mod Front
+pub mod Scan
+pub mod Worked

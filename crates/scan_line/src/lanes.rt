@@ -9,6 +9,7 @@ ghost use Rattle.sym_items.specs.Sides.{gap_on_y};
 ghost use Rattle.pair_rules.specs.Bound.{item_at};
 ghost use Rattle.pair_rules.specs.Candidates.{sides_at};
 ghost use Rattle.scan_line.specs.Order.{ComesBefore, IsScanOrder};
+ghost use Rattle.scan_line.specs.Levels.{IsLevelOf};
 ghost use Rattle.scan_line.specs.Lanes.{AreLanesOf, IsListNear};
 
 use crate::level::Level;
@@ -23,15 +24,16 @@ use sym_items::{Coords, Item, box_along};
 pub struct Lanes {
     order: Vec<u32>,
     begins: Vec<i64>,
-    fine: Level,
-    coarse: Level,
+    levels: Vec<Level>,
 }
 
-// So many times as long as the stretches of the fine level are those of the coarse one.
-const COARSER: u64 = 16;
+// How many levels there are, and how many times as long as those of the level before the stretches of a level are.
+const LEVELS: usize = 4;
+
+const LONGER: u64 = 4;
 
 impl Lanes {
-    /// The lanes of items in a layout. The only refusal is want of memory.
+    /// The lanes of items in a layout, in the time of a sort and some tens of bytes an item. The only refusal is want of memory.
     pub fn new(
         alloc: Global,
         axis: Axis,
@@ -44,27 +46,24 @@ impl Lanes {
     {
         let begins = begins_of(alloc, axis, items, coords)?;
         let order = sort_order(alloc, &begins)?;
-        let stretches = Stretches::across(axis, items, coords);
-        let fine = Level::new(alloc, stretches, &order, axis, items, coords)?;
-        let longer = stretches.longer(COARSER);
-        let coarse = Level::new(alloc, longer, &order, axis, items, coords)?;
+        let levels = levels_of(alloc, &order, axis, items, coords)?;
         Ok(Lanes {
             order,
             begins,
-            fine,
-            coarse,
+            levels,
         })
     }
 
     /// The numbers of all items in the order of the scan.
     pub fn order(&self) -> &[u32]
-        ensures { (axis : Axis) (coords : Coords) (items : List Item) → AreLanesOf axis coords items self.now → IsScanOrder axis coords items result.now }
+        ensures value { result.now ≡ self.now.order.items }
+        ensures in_order { (axis : Axis) (coords : Coords) (items : List Item) → AreLanesOf axis coords items self.now → IsScanOrder axis coords items result.now }
     {
         &self.order
     }
 
     /// Items to which the scan comes before item `j`, in its order: all that lie nearer to `j` than `reach` across the axis,
-    /// and perhaps others.
+    /// and perhaps others. It is a search in a list, and takes no memory.
     pub(crate) fn line_to(
         &self,
         axis: Axis,
@@ -97,12 +96,33 @@ impl Lanes {
     {
         let across = box_along(axis, &items[j as usize], coords).y;
         let (low, high) = (across.lo - reach, across.hi + reach);
-        if let Some(list) = self.fine.lane_over(low, high) {
-            return list;
-        }
-        if let Some(list) = self.coarse.lane_over(low, high) {
-            return list;
+        for level in &self.levels {
+            if let Some(list) = level.lane_over(low, high) {
+                return list;
+            }
         }
         &self.order
     }
+}
+
+// The lanes of items over shorter and longer stretches.
+fn levels_of(
+    alloc: Global,
+    order: &[u32],
+    axis: Axis,
+    items: &[Item],
+    coords: &Coords,
+) -> Result<Vec<Level>, AllocError>
+    requires few { length items.now < 2 ^ 32 }
+    requires boxes { All (HasBox coords.now) items.now }
+    requires among { All (λ k. k < length items.now) order.now }
+    ensures { IfOk result (λ levels. All (IsLevelOf axis coords.now items.now order.now) levels.items) }
+{
+    let mut levels = Vec::with_capacity(alloc, LEVELS)?;
+    let mut stretches = Stretches::across(axis, items, coords);
+    for _ in 0..LEVELS {
+        levels.push(Level::new(alloc, stretches, order, axis, items, coords)?)?;
+        stretches = stretches.longer(LONGER);
+    }
+    Ok(levels)
 }

@@ -9,7 +9,11 @@ mod covering;
 mod front;
 mod lanes;
 mod level;
+mod scan;
 mod sorting;
 mod stretches;
+#[cfg(test)]
+mod tests;
 
 pub use lanes::Lanes;
+pub use scan::{Near, Scan};

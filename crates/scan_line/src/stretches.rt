@@ -7,9 +7,6 @@ ghost use Rattle.scan_line.specs.Stretches.{stretch_of, IsCut};
 use lam_geom::Axis;
 use sym_items::{Coords, Item, box_along};
 
-// So much longer than a few items, in u, a stretch is at the least.
-const MARGIN: u64 = 32;
-
 /// An axis, cut into stretches of one length. They are numbered from `base` up; the first reaches down without end, and the last up.
 #[derive(Clone, Copy, Debug)]
 pub struct Stretches {
@@ -19,7 +16,7 @@ pub struct Stretches {
 }
 
 impl Stretches {
-    /// Stretches across an axis, each some times as long as an item lies there, and no more of them than items and one.
+    /// Stretches across an axis, each about twice as long as an item lies there, and no more of them than items and one.
     pub fn across(axis: Axis, items: &[Item], coords: &Coords) -> Stretches
         requires few { length items.now < 2 ^ 32 }
         requires boxes { All (HasBox coords.now) items.now }
@@ -28,7 +25,7 @@ impl Stretches {
         let (low, high, sum) = extents_across(axis, items, coords);
         let count = (items.len() as u64).max(1);
         let total = low.abs_diff(high);
-        let long = (sum / count).saturating_mul(2).saturating_add(MARGIN);
+        let long = (sum / count).saturating_mul(2);
         let length = long.max(total / count).saturating_add(1);
         Stretches {
             base: low,

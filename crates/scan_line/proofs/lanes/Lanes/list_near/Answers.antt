@@ -1,10 +1,14 @@
 use Rattle.std.proofs.Common.{◌≡◌, ℕ, List, ap, subst, sym, arith}
+use Rattle.std.specs.List.{All}
 use Rattle.std.proofs.lemmas.Int.{ints}
+use Rattle.std.proofs.lemmas.List.Elements.{All-same}
+use Rattle.scan_line.specs.declared.level.Level.{Level}
+use Rattle.scan_line.specs.Levels.{IsLevelOf}
 use Rattle.sym_items.specs.Sides.{Sides}
 use Rattle.pair_rules.specs.Bound.{item_at}
 use Rattle.pair_rules.specs.Candidates.{sides_at}
 use Rattle.scan_line.specs.Lanes.{IsListNear}
-use Rattle.scan_line.proofs.Near.{order_near, lane_near}
+use Rattle.scan_line.proofs.NearAcross.{order_near, lane_near}
 use Rattle.scan_line.proofs.lanes.Lanes.list_near.Goals as goal
 
 pub returns-in-Some : goal.returns-in-Some
@@ -13,15 +17,10 @@ returns-in-Some c =
     let bottom : c.box_along.result.y.lo ≡ b.bottom = ap (λ (s : Sides). s.bottom) c.box_along.ensures.sides in
     let top : c.box_along.result.y.hi ≡ b.top = ap (λ (s : Sides). s.top) c.box_along.ensures.sides in
     let placed = c.box_along.ensures.placed in
-    lane_near c.args.axis c.args.coords.now c.args.items.now c.args.self.now.order.items c.args.self.now.fine b c.args.reach _ _ c.in-Some.list.now c.requires.lanes.order c.requires.lanes.fine c.in-Some.ensures (omega (arith, ints, bottom, placed.1, c.requires.reach)) (omega (arith, ints, top, placed.1, c.requires.reach))
-
-pub returns-in-Some-lane_over : goal.returns-in-Some-lane_over
-returns-in-Some-lane_over c =
-    let b : Sides = sides_at c.args.axis c.args.coords.now (item_at c.args.items.now c.args.j) in
-    let bottom : c.box_along.result.y.lo ≡ b.bottom = ap (λ (s : Sides). s.bottom) c.box_along.ensures.sides in
-    let top : c.box_along.result.y.hi ≡ b.top = ap (λ (s : Sides). s.top) c.box_along.ensures.sides in
-    let placed = c.box_along.ensures.placed in
-    lane_near c.args.axis c.args.coords.now c.args.items.now c.args.self.now.order.items c.args.self.now.coarse b c.args.reach _ _ c.in-Some-lane_over.list.now c.requires.lanes.order c.requires.lanes.coarse c.in-Some-lane_over.ensures (omega (arith, ints, bottom, placed.1, c.requires.reach)) (omega (arith, ints, top, placed.1, c.requires.reach))
+    let P : Level → Type 0 = IsLevelOf c.args.axis c.args.coords.now c.args.items.now c.args.self.now.order.items in
+    let levels : All P c.deref-level-items.result.now = All-same P c.deref-level-items.result.now c.args.self.now.levels.items c.deref-level-items.ensures.value c.requires.lanes.levels in
+    let made : P c.level-item.result = subst P (sym c.level-item.is) (levels c.loop-level.level-index c.level-item.result c.loop-level-test.true) in
+    lane_near c.args.axis c.args.coords.now c.args.items.now c.args.self.now.order.items c.level-item.result b c.args.reach _ _ c.in-Some.list.now c.requires.lanes.order made c.in-Some.ensures (omega (arith, ints, bottom, placed.1, c.requires.reach)) (omega (arith, ints, top, placed.1, c.requires.reach))
 
 pub returns : goal.returns
 returns c =

@@ -1,4 +1,5 @@
 use Rattle.std.proofs.Common.{arith, subst, List, ℕ, ℤ}
+use Rattle.std.specs.List.{All}
 use Rattle.scan_line.specs.Begins.{IsOrderOf}
 use Rattle.scan_line.specs.Order.{IsScanOrder}
 use Rattle.scan_line.specs.Levels.{IsLevelOf}
@@ -18,6 +19,5 @@ returns c =
     record {
       order = made;
       begins = c.in_ok-begins.ensures;
-      fine = subst (λ (ks : List ℕ). IsLevelOf c.args.axis c.args.coords.now c.args.items.now ks c.in_ok-fine.fine) c.deref-2.ensures.value c.in_ok-fine.ensures;
-      coarse = subst (λ (ks : List ℕ). IsLevelOf c.args.axis c.args.coords.now c.args.items.now ks c.in_ok-coarse.coarse) c.deref-3.ensures.value c.in_ok-coarse.ensures;
+      levels = subst (λ (ks : List ℕ). All (IsLevelOf c.args.axis c.args.coords.now c.args.items.now ks) c.in_ok-levels.levels.items) c.deref-2.ensures.value c.in_ok-levels.ensures;
     }
