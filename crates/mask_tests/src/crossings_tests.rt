@@ -2,8 +2,8 @@
 ghost use Rattle.std.specs.Prelude.{◌≤◌, length};
 
 use crate::boxes_of_tests::{Row, boxes_of, span};
-use crossings::{Crossing, CrossingFault, crossings, is_buried_pair};
 use box_index::BoxIndex;
+use crossings::{Crossing, CrossingFault, crossings, is_buried_pair};
 use lam_geom::{Axis, BoxXY, MaskLayer};
 use rule_table::Tech;
 use std::alloc::Global;

@@ -4,9 +4,9 @@ ghost use Rattle.rule_table.specs.Technology.{numbers_of, shipped_numbers};
 ghost use Rattle.expand.specs.Items.{AreItems};
 ghost use Rattle.mask_tests.specs.OneJoint as worked;
 
-use design_nets::stick_netlist;
 use cell_model::{Cell, Node, NodeKind};
 use cell_nets::nets;
+use design_nets::stick_netlist;
 use expand::{Master, items_of};
 use lam_list::Seq;
 use net_extract::{Device, Part, Piece};

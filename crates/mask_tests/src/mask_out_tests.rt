@@ -3,11 +3,11 @@ ghost use Rattle.std.specs.Prelude.{◌≡◌, IfOk};
 ghost use Rattle.mask_out.specs.Worked as worked;
 
 use crate::shared_by_tests::crosses_threads;
-use mask_out::symbol_of;
 use cell_model::Cell;
 use expand::Master;
 use lam_geom::{BoxXY, MaskBox, MaskLayer, Span};
 use lam_list::Seq;
+use mask_out::symbol_of;
 use rule_table::Class;
 use std::alloc::{AllocError, Global};
 use std::test::Fail;

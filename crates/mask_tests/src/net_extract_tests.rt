@@ -2,9 +2,9 @@
 ghost use Rattle.std.specs.Prelude.{◌≤◌, length};
 
 use crate::boxes_of_tests::{Row, boxes_of, span};
-use net_extract::{Device, ExtractFault, Netlist, Part, Piece, extract};
-use lam_geom::MaskLayer::{NB, NC, ND, NM, NP};
 use lam_geom::BoxXY;
+use lam_geom::MaskLayer::{NB, NC, ND, NM, NP};
+use net_extract::{Device, ExtractFault, Netlist, Part, Piece, extract};
 use rule_table::Tech;
 use std::alloc::Global;
 use std::test::Fail;

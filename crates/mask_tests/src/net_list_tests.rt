@@ -1,9 +1,9 @@
 //! The text of an inverter's netlist.
 
-use net_list::netlist_text;
 use lam_geom::{BoxXY, MaskBox, MaskLayer, Span};
 use lam_list::Seq;
 use net_extract::{Device, Netlist, Part, Piece};
+use net_list::netlist_text;
 use std::alloc::{AllocError, Global};
 use std::test::Fail;
 

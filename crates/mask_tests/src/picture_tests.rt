@@ -5,9 +5,9 @@ ghost use Rattle.mask_out.specs.Masks.{mask_of};
 ghost use Rattle.mask_out.specs.Pictures.{drawing_of};
 ghost use Rattle.mask_out.specs.Worked as worked;
 
-use mask_out::{Call, Picture, Symbol, flat};
 use lam_geom::{BoxXY, MaskBox, MaskLayer, Span};
 use lam_list::Seq;
+use mask_out::{Call, Picture, Symbol, flat};
 use std::alloc::{AllocError, Global};
 use std::test::Fail;
 use stick_lex::Text;
