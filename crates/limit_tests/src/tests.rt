@@ -6,11 +6,12 @@ mod typed;
 
 use compact_run::run;
 use inverter::{INVERTER, MASKS, NETLIST};
-use lam_io::{FailPlan, MemShelf, MemSink};
+use lam_io::{FailPlan, MemShelf, MemSink, OpenGate};
 use made::{Long, MADE, made};
 use std::alloc::{AllocError, Global};
 use std::process::Abort;
 use std::test::Fail;
+use std::thread::Threads;
 use typed::{Asked, CHECK, COMPACT, SHIPPED, TYPED};
 
 // Which fetches, and which puts into the output and the report, fail.
@@ -36,7 +37,8 @@ struct Answer {
 }
 
 // What these words, parted by blanks, answer over a shelf that has the technology as `t` and the design, or the CIF text, as `d`.
-fn answer_to(
+fn answer_to<H: Threads + Sync>(
+    rt: &H,
     alloc: Global,
     words: &str,
     tech: &[u8],
@@ -49,7 +51,15 @@ fn answer_to(
     shelf.add("d", text)?;
     let mut output = MemSink::new(alloc, 1_000_000, FailPlan::new(alloc, faults.output)?)?;
     let mut report = MemSink::new(alloc, 1_000_000, FailPlan::new(alloc, faults.report)?)?;
-    let status = run(alloc, &words, &mut shelf, &mut output, &mut report);
+    let status = run(
+        rt,
+        alloc,
+        &words,
+        &mut shelf,
+        &mut output,
+        &mut report,
+        &OpenGate,
+    );
     Ok(Answer {
         code: status.code(),
         output: String::from_utf8_lossy(alloc, output.bytes())?,
@@ -69,10 +79,14 @@ fn assert_answer<A: Abort>(rt: &A, answer: &Answer, code: u8, report: &str) {
 }
 
 // Each of these is answered as it says.
-fn assert_typed<A: Abort>(rt: &A, alloc: Global, asked: &[Asked]) -> Result<(), Fail> {
+fn assert_typed<A: Abort + Threads + Sync>(
+    rt: &A,
+    alloc: Global,
+    asked: &[Asked],
+) -> Result<(), Fail> {
     for case in asked {
         let (tech, text) = (case.tech.as_bytes(), case.text.as_bytes());
-        let answer = answer_to(alloc, case.words, tech, text, NONE)?;
+        let answer = answer_to(rt, alloc, case.words, tech, text, NONE)?;
         assert_answer(rt, &answer, case.code, case.report);
     }
     Ok(())
@@ -84,10 +98,14 @@ fn a_limit_of_a_short_text_holds_and_one_more_is_refused(rt: HostRuntime) -> Res
 }
 
 // Each of these, once made, is answered as it says.
-fn assert_made<A: Abort>(rt: &A, alloc: Global, asked: &[Long]) -> Result<(), Fail> {
+fn assert_made<A: Abort + Threads + Sync>(
+    rt: &A,
+    alloc: Global,
+    asked: &[Long],
+) -> Result<(), Fail> {
     for case in asked {
         let (words, tech, text) = made(alloc, case.form, case.number)?;
-        let answer = answer_to(alloc, words, tech.as_bytes(), text.as_bytes(), NONE)?;
+        let answer = answer_to(rt, alloc, words, tech.as_bytes(), text.as_bytes(), NONE)?;
         assert_answer(rt, &answer, case.code, case.report);
     }
     Ok(())
@@ -99,7 +117,7 @@ fn a_limit_of_a_long_text_holds_and_one_more_is_refused(rt: HostRuntime) -> Resu
 }
 
 // Each front of a text has this code, but for the whole of it, with or without the last line end.
-fn assert_cuts<A: Abort>(
+fn assert_cuts<A: Abort + Threads + Sync>(
     rt: &A,
     alloc: Global,
     words: &str,
@@ -107,7 +125,7 @@ fn assert_cuts<A: Abort>(
     code: u8,
 ) -> Result<(), Fail> {
     for length in 0..text.len() {
-        let answer = answer_to(alloc, words, SHIPPED.as_bytes(), &text[..length], NONE)?;
+        let answer = answer_to(rt, alloc, words, SHIPPED.as_bytes(), &text[..length], NONE)?;
         let whole = length + 1 == text.len();
         assert_eq!(rt; answer.code, if whole { 0 } else { code }, "{length}");
         assert_eq!(rt; answer.output.is_empty(), !whole, "{length}");
@@ -217,7 +235,7 @@ const FAILING: [Failing; 7] = [
 ];
 
 // Each of these is answered as it says, over the whole output of the two rows.
-fn assert_failing<A: Abort>(
+fn assert_failing<A: Abort + Threads + Sync>(
     rt: &A,
     alloc: Global,
     whole: &str,
@@ -225,7 +243,7 @@ fn assert_failing<A: Abort>(
 ) -> Result<(), Fail> {
     for case in cases {
         let (tech, text) = (SHIPPED.as_bytes(), case.text.as_bytes());
-        let answer = answer_to(alloc, COMPACT, tech, text, case.faults)?;
+        let answer = answer_to(rt, alloc, COMPACT, tech, text, case.faults)?;
         assert_eq!(rt; answer.code, case.code, "{}", case.report);
         assert_eq!(rt; answer.output.len(), case.stands, "{}", case.report);
         assert!(rt;
@@ -241,20 +259,20 @@ fn assert_failing<A: Abort>(
 #[test]
 fn each_call_that_fails_is_told(rt: HostRuntime) -> Result<(), Fail> {
     let (tech, text) = (SHIPPED.as_bytes(), TWO_ROWS.as_bytes());
-    let whole = answer_to(rt.alloc(), COMPACT, tech, text, NONE)?;
+    let whole = answer_to(&rt, rt.alloc(), COMPACT, tech, text, NONE)?;
     assert_eq!(rt; whole.code, 0);
     assert_failing(&rt, rt.alloc(), &whole.output, &FAILING)
 }
 
 // These words, over this text, are done with this output.
-fn assert_done<A: Abort>(
+fn assert_done<A: Abort + Threads + Sync>(
     rt: &A,
     alloc: Global,
     words: &str,
     text: &str,
     output: &str,
 ) -> Result<(), Fail> {
-    let answer = answer_to(alloc, words, SHIPPED.as_bytes(), text.as_bytes(), NONE)?;
+    let answer = answer_to(rt, alloc, words, SHIPPED.as_bytes(), text.as_bytes(), NONE)?;
     assert_eq!(rt; answer.code, 0, "{}", words);
     assert_eq!(rt; answer.output.as_str(), output, "{}", words);
     Ok(())
