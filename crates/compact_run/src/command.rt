@@ -1,8 +1,8 @@
 //! The commands, up to the writing of their texts.
 
-ghost use Rattle.std.specs.Prelude.{◌≡◌, ℕ, ◌≤◌, length, [], Some, IfOk, IfErr};
-ghost use Rattle.lam_io.specs.Io.{Telling};
-ghost use Rattle.run_words.specs.Words.{command_of, compact, fmt, texts_of};
+ghost use Rattle.std.specs.Prelude.{◌≡◌, ℕ, ◌≤◌, length, [], Option, Some, IfOk, IfErr};
+ghost use Rattle.lam_io.specs.Io.{Files, Telling};
+ghost use Rattle.run_words.specs.Words.{bench, command_of, compact, fmt, texts_of};
 ghost use Rattle.compact_run.specs.Fetches.{IsRefusal, IsCounted, IsUsage, AsksFor};
 ghost use Rattle.compact_run.specs.Refusals.{ending_of};
 ghost use Rattle.compact_run.specs.Answers.{IsGiven, command_for, text_of};
@@ -10,6 +10,7 @@ ghost use Rattle.compact_run.specs.Designs.{HasBothAxes};
 ghost use Rattle.compact_run.specs.Limits.{most_passes};
 ghost use Rattle.stick_print.specs.Canonical.{canonical};
 
+use crate::bench::bench;
 use crate::cif::{CifJob, output_of_file};
 use crate::compact::compact;
 use crate::output::Output;
@@ -95,6 +96,19 @@ fn fmt_file<S: Shelf>(alloc: Global, shelf: &mut S, design: &str) -> Result<Outp
     Ok(formatted(alloc, &sticks)?)
 }
 
+// What `bench` writes, or why it writes nothing. It fetches nothing.
+fn benched(alloc: Global, n: u32) -> Result<Output, Refusal>
+    requires some { 1 ≤ n }
+    requires few { n ≤ 64 }
+    ensures given { (files : Files) → IsGiven (Some (bench n)) files result }
+    ensures refusal { IfErr result (λ r. IsRefusal r.status) }
+    ensures counted { (count : ℕ) → IsCounted count count (ending_of result) }
+    ensures asked { (told : Option Telling) → AsksFor (Some (bench n)) (ending_of result) told told }
+{
+    let line = bench(alloc, n)?;
+    Ok(in_one_piece(alloc, line)?)
+}
+
 /// The output that the words ask for, or why there is none. Nothing is written.
 pub fn answer<'a, S: Shelf>(
     alloc: Global,
@@ -118,5 +132,6 @@ pub fn answer<'a, S: Shelf>(
         Command::Check { cif, tech } => cif_files(alloc, shelf, CifJob::Check, cif, tech),
         Command::Extract { cif, tech } => cif_files(alloc, shelf, CifJob::Extract, cif, tech),
         Command::Fmt { design } => fmt_file(alloc, shelf, design),
+        Command::Bench { n } => benched(alloc, n),
     }
 }

@@ -9,6 +9,7 @@ ghost use Rattle.rule_table.specs.Technology.{widest_of};
 ghost use Rattle.sym_items.specs.Layouts.{size_in};
 ghost use Rattle.plan_model.specs.Plan.{grids_of};
 ghost use Rattle.pitch_join.specs.Masters.{ArePlanned};
+ghost use Rattle.grid_rules.specs.Rules.{AreFinished};
 ghost use Rattle.pass_run.specs.Laid.{StartsClean};
 ghost use Rattle.mask_out.specs.Pictures.{HaveBoxes, IsDrawable};
 ghost use Rattle.compact_run.specs.Limits.{most_boxes, most_passes};
@@ -90,6 +91,7 @@ pub fn lay_out(
     ensures report { IfOk result (λ passes. passes.report ≡ passes_text tech.now plan.now masters.now passes.steps) }
     ensures counted { IfOk result (λ passes. length passes.coords ≡ length masters.now) }
     ensures boxes { IfOk result (λ passes. HaveBoxes passes.coords masters.now) }
+    ensures finished { IfOk result (λ passes. AreFinished tech.now plan.now masters.now passes.coords) }
     ensures drawable { IfOk result (λ passes. IsDrawable (size_in X passes.coords) (size_in Y passes.coords) (widest_of tech.now) (grids_of plan.now)) }
     ensures refused { IfErr result (Refused (RefusesMasters tech.now plan.now masters.now axes.now)) }
 {

@@ -17,8 +17,9 @@ use std::alloc::Global;
 /// a pass on the axis of each letter of the list, `xy` if there is none, and puts the masks of its grids into `out` and
 /// then what it tells of the passes into `report`; `extract CIF --tech FILE` fetches the technology and then the CIF text,
 /// and puts its nets and transistors into `out`; `check CIF --tech FILE` fetches the same and puts `ok` where its boxes keep
-/// the rules; `fmt DESIGN` puts the canonical text of a design into `out`. A refusal
-/// puts its text into `report`, one line or the passes before a cycle and the cycle, and nothing into `out`.
+/// the rules; `fmt DESIGN` puts the canonical text of a design into `out`; `bench N` fetches nothing, and puts a line on the
+/// design that is made from N into `out`. A refusal puts its text into `report`, one line or the passes before a cycle and the
+/// cycle, and nothing into `out`.
 pub fn run<'a, S: Shelf, C: Sink, R: Sink>(
     alloc: Global,
     words: &'a [&'a str],

@@ -1,4 +1,4 @@
-use Rattle.std.proofs.Common.{◌≡◌, ◌^◌, ◌≤◌, List, length, ap, ◌∙◌, subst, arith}
+use Rattle.std.proofs.Common.{◌≡◌, ◌^◌, ◌≤◌, List, length, refl, ap, ◌∙◌, subst, arith}
 use Rattle.std.proofs.lemmas.Int.{ints}
 use Rattle.std.proofs.lemmas.Result.{err_from_is_err_and}
 use Rattle.lam_geom.specs.declared.boxes.Axis.TheVariants.{X, Y}
@@ -123,3 +123,8 @@ returns-clause-laid_out c =
 
 pub returns-clause-boxes : goal.returns-clause-boxes
 returns-clause-boxes c = boxed c.args.tech.now c.args.masters.now c.args.axes.now c.in_ok-passes.passes.coords c.in_ok-passes.ensures.placed
+
+pub returns-clause-finished : goal.returns-clause-finished
+returns-clause-finished c =
+    let q = c.in_ok-passes.ensures in
+    finished c.args.tech.now c.args.plan.now c.args.masters.now c.args.axes.now _ _ refl c.requires.both q.placed q.met
