@@ -16,11 +16,13 @@ use design_gen::make;
 use design_nets::stick_netlist;
 use expand::Master;
 use lam_geom::Axis;
+use lam_io::Gate;
 use made_designs::made_designs_have_no_fault;
 use net_extract::Netlist;
 use pass_run::{Passes, Step};
 use rule_table::Tech;
 use std::alloc::{AllocError, Global};
+use std::thread::Threads;
 use stick_lex::push_signed_decimal;
 
 /// What is told of a design with one cell that is laid out by two passes.
@@ -130,7 +132,12 @@ fn bench_line(alloc: Global, n: u32, tally: Tally) -> Result<Vec<u8>, AllocError
 
 /// The line on the design that is made from `n`, laid out by a pass on each axis under the technology that the program ships
 /// with.
-pub fn bench(alloc: Global, n: u32) -> Result<Vec<u8>, Refusal>
+pub fn bench<H: Threads + Sync, G: Gate>(
+    rt: &H,
+    alloc: Global,
+    gate: &G,
+    n: u32,
+) -> Result<Vec<u8>, Refusal>
     requires some { 1 ≤ n }
     requires few { n ≤ 64 }
     ensures line { IfOk result (λ line. IsBenched n line.items) }
@@ -141,7 +148,16 @@ pub fn bench(alloc: Global, n: u32) -> Result<Vec<u8>, Refusal>
     made_designs_have_no_fault(n);
     let planned = plan_of(alloc, &tech, &design)?;
     let masters = masters_of(alloc, &tech, &design, &planned)?;
-    let passes = lay_out(alloc, &tech, &planned.plan, &masters, &[Axis::X, Axis::Y])?;
+    let passes = lay_out(
+        rt,
+        alloc,
+        gate,
+        &tech,
+        &planned.plan,
+        &masters,
+        &[Axis::X, Axis::Y],
+        1,
+    )?;
     let layouts = passes.coords.as_slice();
     let list = stick_netlist(alloc, &tech, &planned.plan, &masters, layouts)?;
     Ok(bench_line(alloc, n, tally_of(&masters, &passes, &list))?)

@@ -2,7 +2,7 @@
 #![tactic(auto)]
 
 use compact_run::{Status, run};
-use lam_io::{FileShelf, Sink, StdSink};
+use lam_io::{FileShelf, OpenGate, Sink, StdSink};
 use std::alloc::AllocError;
 use std::env::{Env, args};
 use std::io;
@@ -26,7 +26,7 @@ fn answer(rt: &HostRuntime, arguments: &[String]) -> Result<Status, AllocError> 
     let mut shelf = FileShelf::new(rt);
     let mut out = StdSink::new(rt.stdout());
     let mut report = StdSink::new(rt.stderr());
-    Ok(run(rt.alloc(), &words, &mut shelf, &mut out, &mut report))
+    Ok(run(rt, rt.alloc(), &words, &mut shelf, &mut out, &mut report, &OpenGate))
 }
 
 // What is said where there is no memory even for the words.

@@ -11,56 +11,56 @@ use Rattle.compact_run.proofs.MadeDesigns.{benched, both_axes, few_names, step_r
 use Rattle.compact_run.proofs.bench.bench.Goals as goal
 
 pub returns-in_err-design-clause-refused : goal.returns-in_err-design-clause-refused
-returns-in_err-design-clause-refused c =
+returns-in_err-design-clause-refused g c =
     let p = err_from_is_err_and c.from_residual.result c.from_residual.ensures.1 in
     rw p.1 (rw p.2 tt)
 
 pub returns-in_err-planned-clause-refused : goal.returns-in_err-planned-clause-refused
-returns-in_err-planned-clause-refused c =
+returns-in_err-planned-clause-refused g c =
     let p = err_from_is_err_and c.from_residual-in_err-planned.result c.from_residual-in_err-planned.ensures.1 in
     let tech = c.shipped-tech.result in
     rw p.1 (rw p.2 (step_refused tech c.args.n c.in_ok-design.design c.in_err-planned.field-0.0 c.in_ok-design.ensures c.shipped-tech.ensures (c.made_designs_have_no_fault.ensures.checked tech)
     (no_masters c.in_err-planned.ensures.refused)))
 
 pub returns-in_err-masters-clause-refused : goal.returns-in_err-masters-clause-refused
-returns-in_err-masters-clause-refused c =
+returns-in_err-masters-clause-refused g c =
     let p = err_from_is_err_and c.from_residual-in_err-masters.result c.from_residual-in_err-masters.ensures.1 in
     let tech = c.shipped-tech.result in
     rw p.1 (rw p.2 (step_refused tech c.args.n c.in_ok-design.design c.in_err-masters.field-0.0 c.in_ok-design.ensures c.shipped-tech.ensures (c.made_designs_have_no_fault.ensures.checked tech)
     (no_masters c.in_err-masters.ensures.refused)))
 
 pub lay_out-requires-clause-both : goal.lay_out-requires-clause-both
-lay_out-requires-clause-both c = both_axes
+lay_out-requires-clause-both g c = λ κs le. both_axes
 
 pub lay_out-requires-clause-few_parts : goal.lay_out-requires-clause-few_parts
-lay_out-requires-clause-few_parts c =
+lay_out-requires-clause-few_parts g c = λ κs le.
     let F : Design → Type 0 = λ d. names_in d ≤ 2 ^ 19 in
     rw c.deref.ensures.value (few_parts c.shipped-tech.result c.in_ok-design.design c.in_ok-planned.planned.plan _ c.in_ok-masters.ensures.of_design
     (subst F (sym c.in_ok-design.ensures) (few_names c.args.n)) c.in_ok-masters.ensures.named)
 
 pub lay_out-requires-clause-few_boxes : goal.lay_out-requires-clause-few_boxes
-lay_out-requires-clause-few_boxes c =
+lay_out-requires-clause-few_boxes g c = λ κs le.
     rw c.deref.ensures.value (few_in_all c.shipped-tech.result c.in_ok-design.design c.in_ok-planned.planned.plan _ c.in_ok-masters.ensures.of_design)
 
 pub returns-in_err-passes-clause-refused : goal.returns-in_err-passes-clause-refused
-returns-in_err-passes-clause-refused c =
+returns-in_err-passes-clause-refused g c =
     let p = err_from_is_err_and c.from_residual-in_err-passes.result c.from_residual-in_err-passes.ensures.1 in
     let tech = c.shipped-tech.result in
     rw p.1 (rw p.2 (step_refused tech c.args.n c.in_ok-design.design c.in_err-passes.field-0.0 c.in_ok-design.ensures c.shipped-tech.ensures (c.made_designs_have_no_fault.ensures.checked tech)
     (no_masks c.in_ok-planned.planned.plan _ c.in_ok-masters.ensures.of_design (rw c.deref.ensures.value at c.in_err-passes.ensures.refused))))
 
 pub returns-in_err-list-clause-refused : goal.returns-in_err-list-clause-refused
-returns-in_err-list-clause-refused c =
+returns-in_err-list-clause-refused g c =
     let p = err_from_is_err_and c.from_residual-in_err-list.result c.from_residual-in_err-list.ensures.1 in
     rw p.1 (rw p.2 tt)
 
 pub returns-in_err-bench_line-clause-refused : goal.returns-in_err-bench_line-clause-refused
-returns-in_err-bench_line-clause-refused c =
+returns-in_err-bench_line-clause-refused g c =
     let p = err_from_is_err_and c.from_residual-in_err-bench_line.result c.from_residual-in_err-bench_line.ensures.1 in
     rw p.1 (rw p.2 tt)
 
 pub returns-clause-line : goal.returns-clause-line
-returns-clause-line c =
+returns-clause-line g c =
     let passes = c.in_ok-passes.passes in
     let q = c.in_ok-passes.ensures in
     let n = c.args.n in
