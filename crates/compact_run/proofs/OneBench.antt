@@ -1,10 +1,9 @@
 -- What `bench` answers is determined.
-use Rattle.std.proofs.Common.{◌≡◌, ℕ, ◌↔◌, List, [], refl, sym, ap, ◌∙◌, subst}
+use Rattle.std.proofs.Common.{◌≡◌, ℕ, List, [], refl, sym, ap, ◌∙◌, subst}
 use Rattle.lam_io.specs.Io.{Bytes}
 use Rattle.rule_table.specs.declared.technology.Tech.{Tech}
 use Rattle.expand.specs.declared.master.Master.{Master}
 use Rattle.plan_model.specs.declared.plan.Plan.{Plan}
-use Rattle.sym_items.specs.declared.items.Coords.{Coords}
 use Rattle.pass_run.specs.declared.step.Step.{Step}
 use Rattle.net_extract.specs.declared.netlist.Netlist.{Netlist}
 use Rattle.net_extract.specs.Laws.{IsExtractionDetermined}
@@ -18,7 +17,7 @@ use Rattle.compact_run.specs.Plans.{AreMastersOf}
 use Rattle.compact_run.specs.Designs.{ArePlaced, RefusesDesign, no_masters, no_masks, last_layouts, masks_text, passes_text}
 use Rattle.compact_run.specs.Bench.{IsBenched, IsMadeRefused, RefusesBench, IsShipped, bench_line, tally_of, x_then_y}
 use Rattle.compact_run.specs.OneAnswer.{IsDecided}
-use Rattle.compact_run.proofs.OneDesign.{Ends, ends_once, ends_refused, ends_compacted}
+use Rattle.compact_run.proofs.OneDesign.{ends_once, ends_refused, ends_compacted}
 use Rattle.compact_run.proofs.OneMaster.{same_tech, one_masters, one_passes, AreSame}
 
 -- The made design is refused, or laid out.
