@@ -10,8 +10,6 @@ mod clash;
 mod extent;
 mod laws;
 mod layout;
-#[cfg(test)]
-mod tests;
 
 pub use clash::find_clash;
 pub use extent::pitch;
