@@ -112,7 +112,7 @@ netlist_refused tech text (NotProper a b) named h = faulty h.boxes h.are_boxes (
 netlist_refused tech text (Broken first) named h = absurd h
 netlist_refused tech text OutOfMemory named h = absurd (named refl)
 
-extracted_same : (tech : Tech) (boxes : List MaskBox) → IsExtractionDetermined → (a b : Netlist) → IsExtracted tech boxes a → IsExtracted tech boxes b → a ≡ b
+pub extracted_same : (tech : Tech) (boxes : List MaskBox) → IsExtractionDetermined → (a b : Netlist) → IsExtracted tech boxes a → IsExtracted tech boxes b → a ≡ b
 extracted_same tech boxes determined a b h k =
     let same : k.crossings ≡ h.crossings = crossings_same tech boxes k.crossings h.crossings k.are_crossings h.are_crossings in
     determined tech boxes h.crossings a b h.netlist

@@ -1,3 +1,3 @@
-mod Determined
+pub mod Determined
 mod InRange
 mod SameBoxes

@@ -9,11 +9,11 @@ use Rattle.compact_run.specs.declared.status.Side2.TheVariants as side
 use Rattle.compact_run.specs.declared.status.Side2.TheVariants.{Output, Report}
 use Rattle.compact_run.specs.declared.status.Status.{Status}
 use Rattle.compact_run.specs.declared.status.Status.TheVariants as status
-use Rattle.run_words.specs.Words.{Command, compact, check, extract, fmt, command_of}
+use Rattle.run_words.specs.Words.{Command, compact, check, extract, fmt, bench, command_of}
 use Rattle.compact_run.specs.declared.cif.CifJob.TheVariants.{Extract, Check}
 use Rattle.compact_run.specs.Refusal.{line_of}
 use Rattle.compact_run.specs.Fetches.{IsRefusal, IsCounted, AsksFor, AsksThrough, file_of}
-use Rattle.compact_run.specs.Answers.{IsAnswer, compacted, told, formatted, refused, output_failed, report_failed, WordsWrite, RefusesWords, IsFree, NothingRefuses, Writes, Reports, Tells, IsUntouched, write_fault_line}
+use Rattle.compact_run.specs.Answers.{IsAnswer, compacted, told, formatted, benched, refused, output_failed, report_failed, WordsWrite, RefusesWords, IsFree, NothingRefuses, Writes, Reports, Tells, IsUntouched, write_fault_line}
 
 -- an answer, and what it left of the output and the report
 abbrev pub Answered : List Bytes → Files → Status → Option Bytes → Option Bytes → Option Bytes → Option Bytes → ℕ → ℕ → Type 0
@@ -38,6 +38,7 @@ done_by words files ended output report (Some (compact design tech axes split)) 
 done_by words files ended output report (Some (check cif tech)) is e writes = told Check cif tech is e writes.0 writes.1
 done_by words files ended output report (Some (extract cif tech)) is e writes = told Extract cif tech is e writes.0 writes.1
 done_by words files ended output report (Some (fmt design)) is e writes = formatted design is e writes.0 writes.1
+done_by words files ended output report (Some (bench n)) is e writes = benched n is e writes.0 writes.1
 
 pub ends_written : (words : List Bytes) (files : Files) (ended : Status) (out_old out_new told_old told_new : Option Bytes) (faults_old faults_new : ℕ) (output report : Bytes)
     → (ended ≡ status.Done) ⊎ ((ended ≡ status.WriteFault Output) ⊎ (ended ≡ status.WriteFault Report))

@@ -13,5 +13,8 @@ mod OneFile
 mod OneMaster
 mod OnePlan
 mod OneOutput
+mod MadeDesigns
+mod OneDesign
+mod OneBench
 mod OneAnswer
 mod FewParts

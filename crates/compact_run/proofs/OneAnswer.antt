@@ -8,25 +8,22 @@ use Rattle.tech_file.specs.Technology.{technology_of}
 use Rattle.stick_parse.specs.declared.design.Design.{Design as Sticks}
 use Rattle.stick_parse.specs.Order.{design_of}
 use Rattle.stick_print.specs.Canonical.{canonical}
-use Rattle.expand.specs.declared.master.Master.{Master}
-use Rattle.plan_model.specs.declared.plan.Plan.{Plan}
 use Rattle.compact_run.specs.declared.status.File.TheVariants.{Design, Technology}
 use Rattle.compact_run.specs.declared.status.Side2.TheVariants as side
 use Rattle.compact_run.specs.declared.status.Status.{Status}
 use Rattle.compact_run.specs.declared.status.Status.TheVariants as status
-use Rattle.run_words.specs.Words.{Command, compact, check, extract, fmt, command_of}
+use Rattle.run_words.specs.Words.{Command, compact, check, extract, fmt, bench, command_of}
 use Rattle.compact_run.specs.declared.cif.CifJob.{CifJob}
 use Rattle.compact_run.specs.declared.cif.CifJob.TheVariants.{Extract, Check}
 use Rattle.compact_run.specs.FaultLines.{stick_line, tech_line}
 use Rattle.compact_run.specs.Refusal.{line_of}
-use Rattle.compact_run.specs.Plans.{AreMastersOf}
-use Rattle.compact_run.specs.Designs.{CompactsTo, RefusesDesign, no_masters, no_masks as not_laid_out}
-use Rattle.compact_run.specs.Answers.{IsTechnology, IsDesign, RefusesTechnology, RefusesSticks, IsCompacted, RefusesCompact, no_technology, no_design, no_masks, IsTold, RefusesJob, no_rules, no_cif, RefusesWords, IsAnswer, compacted, told, formatted, refused, output_failed, report_failed}
+use Rattle.compact_run.specs.Answers.{IsTechnology, IsDesign, RefusesTechnology, RefusesSticks, IsCompacted, RefusesCompact, no_technology, no_design, no_masks, IsTold, RefusesJob, no_rules, no_cif, RefusesWords, IsAnswer, compacted, told, formatted, benched, refused, output_failed, report_failed}
 use Rattle.compact_run.specs.OneAnswer.{IsDecided, HasOneAnswer}
 use Rattle.compact_run.proofs.OneFile.{IsReadAs, IsNotRead, long, faulty, read_once, not_both, refused_once}
-use Rattle.compact_run.proofs.OneMaster.{same_tech, one_masters, Comes, laid_out, comes_refused, comes_once, AreSame}
+use Rattle.compact_run.proofs.OneDesign.{Ends, ends_once, ends_refused, ends_compacted}
+use Rattle.compact_run.proofs.OneMaster.{same_tech, AreSame}
+use Rattle.compact_run.proofs.OneBench.{Benches, bench_done, bench_refused, benches_once}
 use Rattle.compact_run.proofs.OneOutput.{OneOutput, Over, over_once, file_refused, file_told}
-use Rattle.compact_run.proofs.OnePlan.{HasNoMasters, plan_refused, has_masters, refused_once as not_planned_once}
 
 -- ---- the files
 
@@ -61,31 +58,6 @@ sticks_refused files name (status.ReadFault file) own why d = absurd d
 sticks_refused files name (status.TooLong Design) own why d = long why refl refl
 sticks_refused files name (status.BadSticks fault) own why d = faulty why.0.text fault why.0.file why.0.read refl why.1
 sticks_refused files name other own why d = absurd why
-
--- ---- the design
-
--- A design has no masters, or they come to something.
-data Ends (tech : Tech) (axes : List Axis) (sticks : Sticks) (ended : Status) (output report : Bytes) : Type 0 where
-  without : HasNoMasters tech sticks ended report → output ≡ [] → Ends tech axes sticks ended output report
-  from : (plan : Plan) (masters : List Master) → AreMastersOf tech sticks plan masters → Comes tech plan masters axes ended output report → Ends tech axes sticks ended output report
-
-ends_once : (tech : Tech) (axes : List Axis) (sticks : Sticks) (e f : Status) (o p r s : Bytes) → Ends tech axes sticks e o r → Ends tech axes sticks f p s → AreSame e f o p r s
-ends_once tech axes sticks e f o p r s (without c co) (without d do_) = let same = not_planned_once tech sticks e f r s c d in (same.0, co ∙ sym do_, same.1)
-ends_once tech axes sticks e f o p r s (without c co) (from plan ms is comes) = absurd (has_masters tech sticks plan ms e r is c)
-ends_once tech axes sticks e f o p r s (from plan ms is comes) (without c co) = absurd (has_masters tech sticks plan ms f s is c)
-ends_once tech axes sticks e f o p r s (from plan ms is comes) (from other ns are come) =
-    let same = one_masters tech sticks plan other ms ns is are in
-    let C : Plan → Type 0 = λ z. Comes tech z ns axes f p s in
-    let D : List Master → Type 0 = λ zs. Comes tech plan zs axes f p s in
-    comes_once tech plan ms axes e f o p r s comes (subst D (sym same.1) (subst C (sym same.0) come))
-
-ends_refused : (tech : Tech) (axes : List Axis) (sticks : Sticks) (ended : Status) (own : Bytes) → RefusesDesign tech axes sticks ended own → IsDecided ended → Ends tech axes sticks ended [] (line_of ended own)
-ends_refused tech axes sticks ended own (no_masters why) d = without (plan_refused tech sticks ended own why d) refl
-ends_refused tech axes sticks ended own (not_laid_out plan masters is why) d = from plan masters is (comes_refused tech plan masters axes ended own why d)
-
-ends_compacted : (tech : Tech) (axes : List Axis) (sticks : Sticks) (ended : Status) (output report : Bytes) → ended ≡ status.Done → CompactsTo tech axes sticks output report → Ends tech axes sticks ended output report
-ends_compacted tech axes sticks ended output report e c =
-    from c.plan c.masters c.are_masters (laid_out c.steps c.laid_out.made c.laid_out.within e c.written c.reported)
 
 -- ---- `compact`
 
@@ -171,6 +143,7 @@ Does (Some (compact design tech axes split)) files ended output report = Compact
 Does (Some (check cif tech)) files ended output report = Jobs Check cif tech files ended output report
 Does (Some (extract cif tech)) files ended output report = Jobs Extract cif tech files ended output report
 Does (Some (fmt design)) files ended output report = Formats design files ended output report
+Does (Some (bench n)) files ended output report = Benches n ended output report
 
 does_once : OneOutput → (c : Option Command) (files : Files) (e f : Status) (o p r s : Bytes) → Does c files e o r → Does c files f p s → AreSame e f o p r s
 does_once law None files e f o p r s a b = (a.0 ∙ sym b.0, a.1 ∙ sym b.1, a.2 ∙ sym b.2)
@@ -178,6 +151,7 @@ does_once law (Some (compact design tech axes split)) files e f o p r s a b = co
 does_once law (Some (check cif tech)) files e f o p r s a b = jobs_once law Check cif tech files e f o p r s a b
 does_once law (Some (extract cif tech)) files e f o p r s a b = jobs_once law Extract cif tech files e f o p r s a b
 does_once law (Some (fmt design)) files e f o p r s a b = formats_once design files e f o p r s a b
+does_once law (Some (bench n)) files e f o p r s a b = benches_once law.extraction n e f o p r s a b
 
 does_refused : (c : Option Command) (files : Files) (ended : Status) (own : Bytes) → RefusesWords c files ended own → IsDecided ended → Does c files ended [] (line_of ended own)
 does_refused None files status.OutOfMemory own why d = absurd d
@@ -187,6 +161,7 @@ does_refused (Some (compact design tech axes split)) files ended own why d = com
 does_refused (Some (check cif tech)) files ended own why d = jobs_refused Check cif tech files ended own why d
 does_refused (Some (extract cif tech)) files ended own why d = jobs_refused Extract cif tech files ended own why d
 does_refused (Some (fmt design)) files ended own why d = not_read (sticks_refused files design ended own why d) refl
+does_refused (Some (bench n)) files ended own why d = bench_refused n ended own why d
 
 -- a status that is decided is not that of a failed stream
 decided : (ended other : Status) → ended ≡ other → IsDecided ended → IsDecided other
@@ -205,6 +180,9 @@ does_answer words files e o r (told Check cif tech is done x none) d =
 does_answer words files e o r (formatted design is done c none) d =
     let D : Option Command → Type 0 = λ c. Does c files e o r in
     subst D (sym is) (is_read c.sticks (sticks_read files design c.sticks c.is_design) done c.written none)
+does_answer words files e o r (benched n is done c none) d =
+    let D : Option Command → Type 0 = λ c. Does c files e o r in
+    subst D (sym is) (bench_done n e o r done c none)
 does_answer words files e o r (refused own why out line) d =
     let O : Bytes → Type 0 = λ z. Does (command_of words) files e z r in
     let R : Bytes → Type 0 = λ z. Does (command_of words) files e [] z in

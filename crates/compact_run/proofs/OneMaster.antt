@@ -203,7 +203,7 @@ one_cause tech plan masters axes c d s t hc hd =
       | inr o ↦ elim o as (λ _. c ≡ d) [ inl e ↦ absurd (hd e) | inr same ↦ same ]
     ]
 
-one_passes : (tech : Tech) (plan : Plan) (masters : List Master) (axes : List Axis) (s t : List Step) → ArePassesOn tech plan masters axes s → ArePassesOn tech plan masters axes t → s ≡ t
+pub one_passes : (tech : Tech) (plan : Plan) (masters : List Master) (axes : List Axis) (s t : List Step) → ArePassesOn tech plan masters axes s → ArePassesOn tech plan masters axes t → s ≡ t
 one_passes tech plan masters axes s t a b = passes_determined tech plan masters (starts_of tech masters) s t a.passes b.passes (a.on_axes ∙ sym b.on_axes)
 
 not_above : (a b : ℤ) → a ≤ℤ b → b <ℤ a → ⊥

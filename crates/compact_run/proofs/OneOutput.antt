@@ -18,17 +18,19 @@ use Rattle.compact_run.specs.Answers.{HasOutput, RefusesOutput, IsOutputOf, Refu
 use Rattle.compact_run.specs.OneAnswer.{IsDecided}
 use Rattle.compact_run.proofs.OneFile.{one_text, not_long}
 use Rattle.compact_run.proofs.OneMaster.{AreSame}
+use Rattle.net_extract.specs.Laws.{IsExtractionDetermined}
 use Rattle.cif_read.specs.declared.fault.CifFault.{CifFault}
 use Rattle.cif_read.specs.Meaning.{IsFirstFault}
 use Rattle.cif_answers.specs.Texts.{HasTooManyBoxes}
 
--- the laws of netlists and of verdicts
+-- the laws of netlists, of verdicts and of extraction
 abbrev AreDetermined : CifJob → Type 0
 AreDetermined job = (tech : Tech) (text : Bytes) → length text ≤ 2 ^ 26 → AnswersAreDetermined (HasOutput job) (RefusesOutput job) tech text
 
 pub record OneOutput : Type 0 where
   pub netlist : (tech : Tech) (text : Bytes) → length text ≤ 2 ^ 26 → AnswersAreDetermined HasNetlist RefusesNetlist tech text
   pub verdict : (tech : Tech) (text : Bytes) → length text ≤ 2 ^ 26 → AnswersAreDetermined HasVerdict RefusesVerdict tech text
+  pub extraction : IsExtractionDetermined
 
 of_job : OneOutput → (job : CifJob) → AreDetermined job
 of_job laws Extract = laws.netlist

@@ -9,7 +9,7 @@ use Rattle.compact_run.specs.declared.refusal.Refusal.{Refusal}
 use Rattle.compact_run.specs.declared.status.File.TheVariants.{Cif}
 use Rattle.compact_run.specs.declared.status.Status.{Status}
 use Rattle.compact_run.specs.declared.status.Status.TheVariants as status
-use Rattle.run_words.specs.Words.{Command, compact, check, extract, fmt}
+use Rattle.run_words.specs.Words.{Command, compact, check, extract, fmt, bench}
 use Rattle.run_words.specs.declared.commands.WordsFault.{WordsFault}
 use Rattle.run_words.specs.declared.commands.WordsFault.TheVariants as words
 use Rattle.compact_run.specs.declared.cif.CifJob.{CifJob}
@@ -68,6 +68,7 @@ out_of_memory (Some (compact design tech axes split)) files own = answers.no_tec
 out_of_memory (Some (check cif tech)) files own = answers.no_rules tt
 out_of_memory (Some (extract cif tech)) files own = answers.no_rules tt
 out_of_memory (Some (fmt design)) files own = tt
+out_of_memory (Some (bench n)) files own = tt
 
 -- words that are refused
 pub words_refused : (c : Option Command) (files : Files) (fault : WordsFault) (own : Bytes) → (fault ≡ words.Usage → c ≡ None) → RefusesWords c files (ending_by fault) own

@@ -22,12 +22,13 @@ use Rattle.compact_run.specs.declared.status.Status.TheVariants as status
 use Rattle.compact_run.specs.declared.status.What.TheVariants.{Boxes}
 use Rattle.compact_run.specs.declared.cif.CifJob.{CifJob}
 use Rattle.compact_run.specs.declared.cif.CifJob.TheVariants.{Extract, Check}
-use Rattle.run_words.specs.Words.{Command, compact, check, extract, fmt, command_of}
+use Rattle.run_words.specs.Words.{Command, compact, check, extract, fmt, bench, command_of}
 use Rattle.compact_run.specs.Fetches.{HasFile, IsLongFile}
 use Rattle.compact_run.specs.FaultLines.{stick_line, tech_line, cif_line, improper_line, broken_line}
 use Rattle.compact_run.specs.Refusal.{line_of}
 use Rattle.compact_run.specs.Refusals.{Refused}
 use Rattle.compact_run.specs.Designs.{CompactsTo, RefusesDesign}
+use Rattle.compact_run.specs.Bench.{IsBenched, RefusesBench}
 
 -- A file of the shelf is this technology.
 pub record IsTechnology (files : Files) (name : Bytes) (tech : Tech) : Type 0 where
@@ -160,6 +161,7 @@ RefusesWords (Some (compact design tech axes split)) files ended own = RefusesCo
 RefusesWords (Some (check cif tech)) files ended own = RefusesJob Check cif tech files ended own
 RefusesWords (Some (extract cif tech)) files ended own = RefusesJob Extract cif tech files ended own
 RefusesWords (Some (fmt design)) files ended own = RefusesSticks design files ended own
+RefusesWords (Some (bench n)) files ended own = RefusesBench n ended own
 
 -- this may come whatever the words and the files are: memory runs out, or a file can't be read
 abbrev pub IsFree : Status → Type 0
@@ -178,6 +180,7 @@ WordsWrite (Some (compact design tech axes split)) files output report = IsCompa
 WordsWrite (Some (check cif tech)) files output report = IsTold Check cif tech files output × (report ≡ [])
 WordsWrite (Some (extract cif tech)) files output report = IsTold Extract cif tech files output × (report ≡ [])
 WordsWrite (Some (fmt design)) files output report = IsFormatted design files output × (report ≡ [])
+WordsWrite (Some (bench n)) files output report = IsBenched n output × (report ≡ [])
 
 -- the text that an output holds in pieces
 abbrev pub text_of : Output → Bytes
@@ -199,6 +202,7 @@ pub data IsAnswer (words : List Bytes) (files : Files) (ended : Status) (output 
       → ended ≡ status.Done → IsTold job cif tech files output → report ≡ [] → IsAnswer words files ended output report
   formatted : (design : Bytes) → command_of words ≡ Some (fmt design)
       → ended ≡ status.Done → IsFormatted design files output → report ≡ [] → IsAnswer words files ended output report
+  benched : (n : ℕ) → command_of words ≡ Some (bench n) → ended ≡ status.Done → IsBenched n output → report ≡ [] → IsAnswer words files ended output report
   refused : (own : Bytes) → RefusesWords (command_of words) files ended own → output ≡ [] → report ≡ line_of ended own → IsAnswer words files ended output report
   output_failed : (unsaid : Bytes) → ended ≡ status.WriteFault side.Output → WordsWrite (command_of words) files output unsaid → report ≡ write_fault_line
       → IsAnswer words files ended output report

@@ -2,7 +2,7 @@
 use Rattle.std.specs.Prelude.{◌≡◌, ℕ, ◌<◌, ◌≤◌, ◌⊎◌, Option, Some, None, List, [], ◌∷◌, length, option_map}
 use Rattle.std.specs.FinMap.{get}
 use Rattle.lam_io.specs.Io.{Bytes, Files, Telling, Asks, Rose, with_asked}
-use Rattle.run_words.specs.Words.{Command, compact, check, extract, fmt}
+use Rattle.run_words.specs.Words.{Command, compact, check, extract, fmt, bench}
 use Rattle.compact_run.specs.Limits.{most_design_bytes, most_technology_bytes, most_cif_bytes}
 use Rattle.compact_run.specs.declared.status.File.{File}
 use Rattle.compact_run.specs.declared.status.File.TheVariants.{Design, Technology, Cif}
@@ -87,6 +87,7 @@ files_of (compact design tech axes split) = tech ∷ design ∷ []
 files_of (check cif tech) = tech ∷ cif ∷ []
 files_of (extract cif tech) = tech ∷ cif ∷ []
 files_of (fmt design) = design ∷ []
+files_of (bench n) = []
 
 -- It was asked for the technology and then for the CIF text, up to this one.
 abbrev pub AsksThroughCif : Option File → Bytes → Bytes → Option Telling → Option Telling → Type 0
@@ -95,7 +96,8 @@ AsksThroughCif (Some Technology) cif tech old new = Asks old new tech
 AsksThroughCif (Some Design) cif tech old new = Asks (option_map (with_asked tech) old) new cif
 AsksThroughCif (Some Cif) cif tech old new = Asks (option_map (with_asked tech) old) new cif
 
--- It was asked for the files of a command up to this one, each once, in order. What is done, and what is too large, is so of the last file of its command.
+-- It was asked for the files of a command up to this one, each once, in order. What is done, and what is too large, is so of the last file of its command;
+-- `bench` has none.
 abbrev pub AsksThrough : Option File → Command → Option Telling → Option Telling → Type 0
 AsksThrough None command old new = ⊥
 AsksThrough (Some Technology) (compact design tech axes split) old new = Asks old new tech
@@ -106,6 +108,9 @@ AsksThrough file (extract cif tech) old new = AsksThroughCif file cif tech old n
 AsksThrough (Some Technology) (fmt design) old new = ⊥
 AsksThrough (Some Design) (fmt design) old new = Asks old new design
 AsksThrough (Some Cif) (fmt design) old new = ⊥
+AsksThrough (Some Technology) (bench n) old new = ⊥
+AsksThrough (Some Design) (bench n) old new = new ≡ old
+AsksThrough (Some Cif) (bench n) old new = ⊥
 
 -- The shelf's files are as they were, and it was asked for those of the words' command: up to the one over which the command ended, or for a
 -- front of them where memory ran out.

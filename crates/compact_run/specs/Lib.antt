@@ -6,6 +6,7 @@ pub mod Status
 pub mod Refusal
 pub mod Refusals
 pub mod Designs
+pub mod Bench
 pub mod Answers
 pub mod FaultLines
 pub mod Fetches

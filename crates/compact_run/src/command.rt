@@ -1,8 +1,8 @@
 //! The commands, up to the writing of their texts.
 
-ghost use Rattle.std.specs.Prelude.{◌≡◌, ℕ, ◌≤◌, length, [], Some, IfOk, IfErr};
-ghost use Rattle.lam_io.specs.Io.{Telling};
-ghost use Rattle.run_words.specs.Words.{command_of, compact, fmt, texts_of};
+ghost use Rattle.std.specs.Prelude.{◌≡◌, ℕ, ◌≤◌, length, [], Option, Some, IfOk, IfErr};
+ghost use Rattle.lam_io.specs.Io.{Files, Telling};
+ghost use Rattle.run_words.specs.Words.{bench, command_of, compact, fmt, texts_of};
 ghost use Rattle.compact_run.specs.Fetches.{IsRefusal, IsCounted, IsUsage, AsksFor};
 ghost use Rattle.compact_run.specs.Refusals.{ending_of};
 ghost use Rattle.compact_run.specs.Answers.{IsGiven, command_for, text_of};
@@ -10,29 +10,35 @@ ghost use Rattle.compact_run.specs.Designs.{HasBothAxes};
 ghost use Rattle.compact_run.specs.Limits.{most_passes};
 ghost use Rattle.stick_print.specs.Canonical.{canonical};
 
+use crate::bench::bench;
 use crate::cif::{CifJob, output_of_file};
 use crate::compact::compact;
 use crate::output::Output;
 use crate::reading::{read_design, read_technology};
 use crate::refusal::Refusal;
 use lam_geom::Axis;
-use lam_io::Shelf;
+use lam_io::{Gate, Shelf};
 use run_words::{Command, read_words};
 use std::alloc::{AllocError, AllocFailed, Global};
+use std::thread::Threads;
 use stick_lex::Text;
 use stick_parse::Design;
 use stick_print::print;
 
-// What `compact` writes, or why it writes nothing. The number of pieces changes nothing.
-fn compact_files<S: Shelf>(
+// What `compact` writes, or why it writes nothing. It is the same for every number of pieces and every gate.
+fn compact_files<H: Threads + Sync, S: Shelf, G: Gate>(
+    rt: &H,
     alloc: Global,
+    gate: &G,
     shelf: &mut S,
     design: &str,
     tech: &str,
     axes: &[Axis],
+    pieces: u32,
 ) -> Result<Output, Refusal>
     requires both { HasBothAxes axes.now }
     requires few { length axes.now ≤ most_passes }
+    requires pieces { (1 ≤ pieces) × (pieces ≤ 64) }
     ensures given { (t : Telling) (split : ℕ) → S.told shelf.old ≡ Some t → IsGiven (Some (compact design.now tech.now axes.now split)) t.files result }
     ensures refusal { IfErr result (λ r. IsRefusal r.status) }
     ensures counted { IsCounted (S.faults shelf.old) (S.faults shelf.new) (ending_of result) }
@@ -41,7 +47,7 @@ fn compact_files<S: Shelf>(
 {
     let technology = read_technology(alloc, shelf, tech)?;
     let sticks = read_design(alloc, shelf, design)?;
-    compact(alloc, &technology, &sticks, axes)
+    compact(rt, alloc, gate, &technology, &sticks, axes, pieces)
 }
 
 // A text in one piece, with nothing to tell.
@@ -95,9 +101,29 @@ fn fmt_file<S: Shelf>(alloc: Global, shelf: &mut S, design: &str) -> Result<Outp
     Ok(formatted(alloc, &sticks)?)
 }
 
-/// The output that the words ask for, or why there is none. Nothing is written.
-pub fn answer<'a, S: Shelf>(
+// What `bench` writes, or why it writes nothing. It fetches nothing.
+fn benched<H: Threads + Sync, G: Gate>(
+    rt: &H,
     alloc: Global,
+    gate: &G,
+    n: u32,
+) -> Result<Output, Refusal>
+    requires some { 1 ≤ n }
+    requires few { n ≤ 64 }
+    ensures given { (files : Files) → IsGiven (Some (bench n)) files result }
+    ensures refusal { IfErr result (λ r. IsRefusal r.status) }
+    ensures counted { (count : ℕ) → IsCounted count count (ending_of result) }
+    ensures asked { (told : Option Telling) → AsksFor (Some (bench n)) (ending_of result) told told }
+{
+    let line = bench(rt, alloc, gate, n)?;
+    Ok(in_one_piece(alloc, line)?)
+}
+
+/// The output that the words ask for, or why there is none. Nothing is written.
+pub fn answer<'a, H: Threads + Sync, S: Shelf, G: Gate>(
+    rt: &H,
+    alloc: Global,
+    gate: &G,
     words: &'a [&'a str],
     shelf: &mut S,
 ) -> Result<Output, Refusal>
@@ -113,10 +139,20 @@ pub fn answer<'a, S: Shelf>(
             design,
             tech,
             passes,
-            split: _,
-        } => compact_files(alloc, shelf, design, tech, passes.as_slice()),
+            split,
+        } => compact_files(
+            rt,
+            alloc,
+            gate,
+            shelf,
+            design,
+            tech,
+            passes.as_slice(),
+            split,
+        ),
         Command::Check { cif, tech } => cif_files(alloc, shelf, CifJob::Check, cif, tech),
         Command::Extract { cif, tech } => cif_files(alloc, shelf, CifJob::Extract, cif, tech),
         Command::Fmt { design } => fmt_file(alloc, shelf, design),
+        Command::Bench { n } => benched(rt, alloc, gate, n),
     }
 }

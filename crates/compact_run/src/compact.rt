@@ -22,11 +22,13 @@ use crate::refusal::Refusal;
 use cif_text::cif_pieces;
 use expand::Master;
 use lam_geom::Axis;
+use lam_io::Gate;
 use mask_out::picture_of;
 use pass_run::Passes;
 use plan_model::Plan;
 use rule_table::Tech;
 use std::alloc::{AllocError, AllocFailed, Global};
+use std::thread::Threads;
 use stick_parse::Design;
 
 // The texts of masters that are laid out: their symbols, the calls of all instances with the end, and the report of the
@@ -57,22 +59,26 @@ fn written(
 }
 
 /// The masks of the grids of a design, by the numbers of a technology and passes on these axes, and the report of the passes.
-pub fn compact(
+pub fn compact<H: Threads + Sync, G: Gate>(
+    rt: &H,
     alloc: Global,
+    gate: &G,
     tech: &Tech,
     design: &Design,
     axes: &[Axis],
+    split: u32,
 ) -> Result<Output, Refusal>
     requires writable { IsWritable design.now }
     requires few_names { names_in design.now ≤ 2 ^ 19 }
     requires both { HasBothAxes axes.now }
     requires few { length axes.now ≤ most_passes }
+    requires split { (1 ≤ split) × (split ≤ 64) }
     ensures done { IfOk result (λ output. CompactsTo tech.now axes.now design.now (text_of output) output.report) }
     ensures pieces { IfOk result (λ output. AreMasksIn tech.now axes.now design.now (map (λ piece. piece.items) output.pieces.items)) }
     ensures refused { IfErr result (Refused (RefusesDesign tech.now axes.now design.now)) }
 {
     let planned = plan_of(alloc, tech, design)?;
     let masters = masters_of(alloc, tech, design, &planned)?;
-    let passes = lay_out(alloc, tech, &planned.plan, &masters, axes)?;
+    let passes = lay_out(rt, alloc, gate, tech, &planned.plan, &masters, axes, split)?;
     Ok(written(alloc, tech, &planned.plan, &masters, passes)?)
 }

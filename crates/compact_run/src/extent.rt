@@ -32,8 +32,8 @@ fn value_at(values: &[i64], v: usize) -> i64
     }
 }
 
-// The width of a master, in u.
-fn width(layouts: &[Coords], m: u32) -> i64
+/// The width of a master, in u.
+pub fn width(layouts: &[Coords], m: u32) -> i64
     ensures { result ≡ size_in X layouts.now m }
 {
     match layouts.get(m as usize) {
@@ -42,8 +42,8 @@ fn width(layouts: &[Coords], m: u32) -> i64
     }
 }
 
-// The height of a master, in u.
-fn height(layouts: &[Coords], m: u32) -> i64
+/// The height of a master, in u.
+pub fn height(layouts: &[Coords], m: u32) -> i64
     ensures { result ≡ size_in Y layouts.now m }
 {
     match layouts.get(m as usize) {

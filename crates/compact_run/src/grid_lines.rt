@@ -7,8 +7,8 @@ use grid_plan::GridFault;
 use std::alloc::{AllocError, Global};
 use stick_lex::{Text, push_decimal};
 
-// Adds words and the number behind them.
-fn push_count(out: &mut Vec<u8>, words: &[u8], count: usize) -> Result<(), AllocError>
+/// Adds words and the number behind them.
+pub fn push_count(out: &mut Vec<u8>, words: &[u8], count: usize) -> Result<(), AllocError>
     ensures { OnOk result (out.new.items ≡ out.old.items ++ (words.now ++ decimal count)) }
 {
     out.extend_from_slice(words)?;

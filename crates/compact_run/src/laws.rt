@@ -6,6 +6,7 @@ ghost use Rattle.compact_run.specs.Checked.{MasksPassTheCheck};
 ghost use Rattle.compact_run.specs.OneAnswer.{HasOneAnswer};
 
 use cif_answers::{netlists_are_determined, verdicts_are_determined};
+use net_extract::netlist_is_determined;
 
 /// A law, with nothing to run: the words and the files determine the status, the output and the report, where memory does
 /// not run out and no file or stream fails.
@@ -14,6 +15,7 @@ pub fn answers_are_determined<'a>(words: &'a [&'a str])
 {
     netlists_are_determined();
     verdicts_are_determined();
+    netlist_is_determined();
 }
 
 /// A law, with nothing to run: where `compact` is done, `check` of what it wrote, with the same technology, is done too.

@@ -9,6 +9,7 @@ ghost use Rattle.rule_table.specs.Technology.{widest_of};
 ghost use Rattle.sym_items.specs.Layouts.{size_in};
 ghost use Rattle.plan_model.specs.Plan.{grids_of};
 ghost use Rattle.pitch_join.specs.Masters.{ArePlanned};
+ghost use Rattle.grid_rules.specs.Rules.{AreFinished};
 ghost use Rattle.pass_run.specs.Laid.{StartsClean};
 ghost use Rattle.mask_out.specs.Pictures.{HaveBoxes, IsDrawable};
 ghost use Rattle.compact_run.specs.Limits.{most_boxes, most_passes};
@@ -26,11 +27,13 @@ use expand::{Master, master_is_lawful};
 use grid_rules::{all_keep_spacing, grids_are_aligned};
 use kept_rules::boxes_keep_rules;
 use lam_geom::Axis;
+use lam_io::Gate;
 use mask_out::wholes_bound_places;
 use pass_run::{Passes, run_passes};
 use plan_model::Plan;
 use rule_table::Tech;
 use std::alloc::Global;
+use std::thread::Threads;
 use written_masks::{boxes_are_few, texts_are_short, written_nets_are_the_sticks};
 
 // Sees that the start layout of a master, which has this number, is clean.
@@ -70,17 +73,21 @@ fn judge_starts(alloc: Global, tech: &Tech, masters: &[Master]) -> Result<(), Re
     Ok(())
 }
 
-/// Lays out the masters of a plan, by passes on these axes.
-pub fn lay_out(
+/// Lays out the masters of a plan, by passes on these axes, with the work on the masters in as many pieces as `split` says.
+pub fn lay_out<H: Threads + Sync, G: Gate>(
+    rt: &H,
     alloc: Global,
+    gate: &G,
     tech: &Tech,
     plan: &Plan,
     masters: &[Master],
     axes: &[Axis],
+    split: u32,
 ) -> Result<Passes, Refusal>
     requires planned { ArePlanned tech.now plan.now masters.now }
     requires both { HasBothAxes axes.now }
     requires few { length axes.now ≤ most_passes }
+    requires split { (1 ≤ split) × (split ≤ 64) }
     requires named { All HasPlainName masters.now }
     requires stand { AllStand plan.now masters.now }
     requires few_parts { HasFewParts plan.now masters.now }
@@ -90,11 +97,12 @@ pub fn lay_out(
     ensures report { IfOk result (λ passes. passes.report ≡ passes_text tech.now plan.now masters.now passes.steps) }
     ensures counted { IfOk result (λ passes. length passes.coords ≡ length masters.now) }
     ensures boxes { IfOk result (λ passes. HaveBoxes passes.coords masters.now) }
+    ensures finished { IfOk result (λ passes. AreFinished tech.now plan.now masters.now passes.coords) }
     ensures drawable { IfOk result (λ passes. IsDrawable (size_in X passes.coords) (size_in Y passes.coords) (widest_of tech.now) (grids_of plan.now)) }
     ensures refused { IfErr result (Refused (RefusesMasters tech.now plan.now masters.now axes.now)) }
 {
     judge_starts(alloc, tech, masters)?;
-    let passes = run_passes(alloc, tech, plan, masters, axes)?;
+    let passes = run_passes(rt, alloc, gate, tech, plan, masters, axes, split)?;
     let layouts = passes.coords.as_slice();
     grids_are_aligned(tech, plan, masters, layouts);
     all_keep_spacing(tech, plan, masters, layouts);

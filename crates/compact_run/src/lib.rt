@@ -3,6 +3,7 @@
 // the masks pass the program's own check.
 #![tactic(auto)]
 
+mod bench;
 mod cif;
 mod clash;
 mod command;

@@ -10,21 +10,25 @@ ghost use Rattle.compact_run.specs.Answers.{IsAnswer, NothingRefuses, Writes, Te
 use crate::command::answer;
 use crate::delivery::{refuse, write};
 use crate::status::{Side2, Status};
-use lam_io::{Shelf, Sink};
+use lam_io::{Gate, Shelf, Sink};
 use std::alloc::Global;
+use std::thread::Threads;
 
-/// Does what the words say. `compact DESIGN --tech FILE [--passes LIST]` fetches the technology and then the design, makes
+/// Does what the words say. `compact DESIGN --tech FILE [--passes LIST] [--split N]` fetches the technology and then the design, makes
 /// a pass on the axis of each letter of the list, `xy` if there is none, and puts the masks of its grids into `out` and
 /// then what it tells of the passes into `report`; `extract CIF --tech FILE` fetches the technology and then the CIF text,
 /// and puts its nets and transistors into `out`; `check CIF --tech FILE` fetches the same and puts `ok` where its boxes keep
-/// the rules; `fmt DESIGN` puts the canonical text of a design into `out`. A refusal
-/// puts its text into `report`, one line or the passes before a cycle and the cycle, and nothing into `out`.
-pub fn run<'a, S: Shelf, C: Sink, R: Sink>(
+/// the rules; `fmt DESIGN` puts the canonical text of a design into `out`; `bench N` fetches nothing, and puts a line on the
+/// design that is made from N into `out`. A refusal puts its text into `report`, one line or the passes before a cycle and the
+/// cycle, and nothing into `out`.
+pub fn run<'a, H: Threads + Sync, S: Shelf, C: Sink, R: Sink, G: Gate>(
+    rt: &H,
     alloc: Global,
     words: &'a [&'a str],
     shelf: &mut S,
     out: &mut C,
     report: &mut R,
+    gate: &G,
 ) -> Status
     // Where the shelf tells its files, the status, the output and the report are the answer to the words and the files.
     ensures answer { (t : Telling) → S.told shelf.old ≡ Some t →
@@ -54,7 +58,7 @@ pub fn run<'a, S: Shelf, C: Sink, R: Sink>(
     ensures out_counts { C.faults out.old ≤ C.faults out.new }
     ensures report_counts { R.faults report.old ≤ R.faults report.new }
 {
-    match answer(alloc, words, shelf) {
+    match answer(rt, alloc, gate, words, shelf) {
         Ok(output) => write(out, report, &output),
         Err(refusal) => refuse(report, refusal),
     }

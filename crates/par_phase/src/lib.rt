@@ -6,5 +6,7 @@
 
 mod pieces;
 mod split;
+#[cfg(test)]
+mod tests;
 
 pub use split::map_split;

@@ -41,14 +41,8 @@ fn found_in(
     ensures { IfOk result (IsFoundIn axis tech.now room master.now layout.now) }
 {
     master_is_lawful(tech, master);
-    match kept(
-        alloc,
-        axis,
-        tech,
-        master.items.list.as_slice(),
-        layout,
-        room,
-    ) {
+    let items = master.items.list.as_slice();
+    match kept(alloc, axis, tech, items, layout, room) {
         Ok(pairs) => Ok(Found::Pairs(pairs)),
         Err(KeptFault::TooMany) => Ok(Found::TooMany),
         Err(KeptFault::OutOfMemory) => Err(AllocError),

@@ -1,5 +1,6 @@
 //! What each call of the program answers, whole.
 
+mod benches;
 mod buried;
 mod cases;
 mod cif_texts;
@@ -8,6 +9,7 @@ mod layouts;
 mod made;
 mod pictures;
 
+use benches::{BENCHES, LARGEST, LARGEST_BEGINS};
 use buried::BURIED;
 use cases::{EXTENTS, FAILURES, REFUSALS, REPORTS, TECHNOLOGIES, TEXTS, WORDS};
 use cif_texts::{NETLISTS, VERDICTS};
@@ -173,4 +175,21 @@ fn extract_writes_the_nets_and_transistors(rt: HostRuntime) -> Result<(), Fail> 
 #[test]
 fn check_tells_the_first_broken_rule(rt: HostRuntime) -> Result<(), Fail> {
     assert_answers(&rt, rt.alloc(), &VERDICTS)
+}
+
+#[test]
+fn bench_writes_a_line_on_a_made_design(rt: HostRuntime) -> Result<(), Fail> {
+    assert_answers(&rt, rt.alloc(), &BENCHES)
+}
+
+#[test]
+fn the_largest_made_design_is_laid_out(rt: HostRuntime) -> Result<(), Fail> {
+    let shelf = shelf_of(rt.alloc(), &LARGEST)?;
+    let answer = answer_to(rt.alloc(), &LARGEST, shelf)?;
+    assert_same(&rt, &LARGEST, &answer.status, LARGEST.status);
+    assert_same(&rt, &LARGEST, &answer.report, LARGEST.report);
+    let begins = answer.output.starts_with(LARGEST_BEGINS);
+    let ends = answer.output.ends_with(LARGEST.output);
+    assert!(rt; begins && ends, "{}", answer.output);
+    Ok(())
 }

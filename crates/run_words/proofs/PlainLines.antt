@@ -10,8 +10,8 @@ use Rattle.clap.specs.Kinds.{check_kinds}
 use Rattle.clap.specs.Takes.{is_given}
 use Rattle.clap.specs.Faults.{check_fault}
 use Rattle.run_words.specs.Lines.{cif_line, compact_line, found_in, operand, operand_line, option, tech, text_of, without_fault}
-use Rattle.run_words.specs.Words.{Command, compact_as, compact_of, compact_with, fmt, fmt_of, operand_of, passes_of, split_of, tech_of}
-use Rattle.run_words.specs.PlainLines.{Part, are_new, compact_from, fmt_from, is_plain_line, value_at, where_new, words_of}
+use Rattle.run_words.specs.Words.{Command, bench_as, bench_of, compact_as, compact_of, compact_with, fmt, fmt_of, operand_of, passes_of, split_of, tech_of}
+use Rattle.run_words.specs.PlainLines.{Part, are_new, bench_from, compact_from, fmt_from, is_plain_line, value_at, where_new, words_of}
 use Rattle.run_words.proofs.Steps.{IsOperand, IsOption}
 use Rattle.run_words.proofs.Refusals.{line_refused}
 use Rattle.run_words.proofs.Parts.{IsLine, first_is, given_is, line_found, row_of_part}
@@ -240,3 +240,8 @@ pub fmt_is_read : (word : Text) (parts : List Part) → is_plain_line [] parts �
 fmt_is_read word parts plain =
     once operand_line [] operand_is_line (option_map (λ rows. fmt (operand_of rows))) (fmt_from parts) refl word parts plain (λ new.
     by_operand (option_map (λ rows. fmt (operand_of rows))) (option_map fmt) refl (λ rows. refl) word parts plain new)
+
+pub bench_is_read : (word : Text) (parts : List Part) → is_plain_line [] parts ≡ true → bench_of (word ∷ flat_map words_of parts) ≡ where_new parts (bench_from parts)
+bench_is_read word parts plain =
+    once operand_line [] operand_is_line (option_and_then (λ rows. bench_as (operand_of rows))) (bench_from parts) refl word parts plain (λ new.
+    by_operand (option_and_then (λ rows. bench_as (operand_of rows))) (option_and_then bench_as) refl (λ rows. refl) word parts plain new)

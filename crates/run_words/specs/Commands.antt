@@ -1,7 +1,7 @@
 -- A command without where its words lie in memory.
-use Rattle.std.specs.Prelude.{◌≡◌, ℕ, true, List}
+use Rattle.std.specs.Prelude.{◌≡◌, ℕ, ◌≤◌, true, List}
 use Rattle.run_words.specs.declared.commands.Command.{Command}
-use Rattle.run_words.specs.declared.commands.Command.TheVariants.{Compact, Check, Extract, Fmt}
+use Rattle.run_words.specs.declared.commands.Command.TheVariants.{Compact, Check, Extract, Fmt, Bench}
 use Rattle.run_words.specs.Values.{axes_in, is_pass_list}
 use Rattle.run_words.specs.Words as commands
 
@@ -10,8 +10,15 @@ command_from (Compact design tech passes split) = commands.compact design.now te
 command_from (Check cif tech) = commands.check cif.now tech.now
 command_from (Extract cif tech) = commands.extract cif.now tech.now
 command_from (Fmt design) = commands.fmt design.now
+command_from (Bench n) = commands.bench n
 
 -- its axes are those of a list of passes
 abbrev pub HasPassList : Command → Type 0
 HasPassList (Compact design tech passes split) = (list : List ℕ) × (is_pass_list list ≡ true) × (passes ≡ axes_in list)
 HasPassList other = Unit {0}
+
+-- its number is 1 to 64
+abbrev pub IsWithinLimits : Command → Type 0
+IsWithinLimits (Compact design tech passes split) = (1 ≤ split) × (split ≤ 64)
+IsWithinLimits (Bench n) = (1 ≤ n) × (n ≤ 64)
+IsWithinLimits other = Unit {0}

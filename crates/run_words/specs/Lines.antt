@@ -28,7 +28,7 @@ compact_line = line (operand ∷ tech ∷ option (codes "passes") ∷ option (co
 abbrev pub cif_line : App
 cif_line = line (operand ∷ tech ∷ [])
 
--- `fmt DESIGN`
+-- `fmt DESIGN` and `bench N`
 abbrev pub operand_line : App
 operand_line = line (operand ∷ [])
 

@@ -2,7 +2,7 @@
 use Rattle.std.specs.Prelude.{◌≡◌, Bool, true, false, not, ◌&&◌, ◌==◌, List, [], ◌∷◌, ◌++◌, Option, None, if◌then◌else◌, codes, bytes_eq, find, flat_map, option_and_then, option_map, unwrap_or}
 use Rattle.std.specs.List.{list_all, list_any}
 use Rattle.clap.specs.Words.{Text}
-use Rattle.run_words.specs.Words.{Command, check, command_of, compact_as, extract, fmt}
+use Rattle.run_words.specs.Words.{Command, bench_as, check, command_of, compact_as, extract, fmt}
 
 -- what may stand behind the command's name: an operand, `--NAME VALUE` or `--NAME=VALUE`
 pub data Part : Type 0 where
@@ -63,6 +63,9 @@ extract_from parts = option_and_then (λ cif. option_map (extract cif) (value_at
 abbrev pub fmt_from : List Part → Option Command
 fmt_from parts = option_map fmt (value_at (codes "operand") parts)
 
+abbrev pub bench_from : List Part → Option Command
+bench_from parts = option_and_then bench_as (value_at (codes "operand") parts)
+
 -- the command of a line in which no name stands twice; another line is refused
 abbrev pub where_new : List Part → Option Command → Option Command
 where_new parts command = if are_new [] parts then command else None
@@ -77,3 +80,5 @@ pub record PlainLinesAreRead : Type 0 where
       → command_of (codes "extract" ∷ flat_map words_of parts) ≡ where_new parts (extract_from parts)
   pub fmt : (parts : List Part) → is_plain_line [] parts ≡ true
       → command_of (codes "fmt" ∷ flat_map words_of parts) ≡ where_new parts (fmt_from parts)
+  pub bench : (parts : List Part) → is_plain_line [] parts ≡ true
+      → command_of (codes "bench" ∷ flat_map words_of parts) ≡ where_new parts (bench_from parts)

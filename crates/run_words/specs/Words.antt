@@ -15,6 +15,8 @@ pub data Command : Type 0 where
   extract : List ℕ → List ℕ → Command
   -- the design
   fmt : List ℕ → Command
+  -- the number that the design is made from
+  bench : ℕ → Command
 
 -- without a list there is one pass on x, and then one on y
 abbrev pub passes_of : List Row → Text
@@ -49,6 +51,13 @@ extract_of words = option_map (λ rows. extract (operand_of rows) (tech_of rows)
 abbrev pub fmt_of : List Text → Option Command
 fmt_of words = option_map (λ rows. fmt (operand_of rows)) (found_in operand_line words)
 
+-- `bench` with this text, where it is a number of 1 to 64
+abbrev pub bench_as : Text → Option Command
+bench_as n = option_map bench (count_in n)
+
+abbrev pub bench_of : List Text → Option Command
+bench_of words = option_and_then (λ rows. bench_as (operand_of rows)) (found_in operand_line words)
+
 -- the command that the words are, if they are one: the first word names it
 abbrev pub command_of : List Text → Option Command
 command_of [] = None
@@ -56,7 +65,8 @@ command_of (word ∷ words) =
     if bytes_eq word (codes "compact") then compact_of (word ∷ words)
     else (if bytes_eq word (codes "check") then check_of (word ∷ words)
     else (if bytes_eq word (codes "extract") then extract_of (word ∷ words)
-    else (if bytes_eq word (codes "fmt") then fmt_of (word ∷ words) else None)))
+    else (if bytes_eq word (codes "fmt") then fmt_of (word ∷ words)
+    else (if bytes_eq word (codes "bench") then bench_of (word ∷ words) else None))))
 
 -- the bytes of words
 abbrev pub texts_of : List (Bor (List ℕ)) → List (List ℕ)

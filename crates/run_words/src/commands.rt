@@ -44,6 +44,11 @@ pub enum Command<'a> {
         /// The design's file.
         design: &'a str,
     },
+    /// `bench N`: a line on the compaction of the design that is made from a number.
+    Bench {
+        /// The number, 1 to 64.
+        n: u32,
+    },
 }
 
 /// Why words are no command.

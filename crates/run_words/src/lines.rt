@@ -71,7 +71,7 @@ pub(crate) fn cif<'a>(alloc: Global, words: &'a [&'a str]) -> Result<ArgMatches<
     found(cif_line(alloc)?, words)
 }
 
-// `fmt DESIGN`
+// `fmt DESIGN` and `bench N`
 pub(crate) fn only_operand<'a>(
     alloc: Global,
     words: &'a [&'a str],

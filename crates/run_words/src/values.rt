@@ -1,6 +1,6 @@
 //! What may stand in the words: lists of passes, and numbers.
 
-ghost use Rattle.std.specs.Prelude.{◌≡◌, true, IfOk};
+ghost use Rattle.std.specs.Prelude.{◌≡◌, true, IfOk, IfSome, ◌≤◌};
 ghost use Rattle.run_words.specs.Values.{axes_in, begins_above_zero, count_in, is_number, is_pass_list};
 
 use lam_geom::Axis;
@@ -47,7 +47,8 @@ fn is_number(word: &str) -> bool
 
 // The number that a word is, where it is 1 to 64.
 pub(crate) fn count(word: &str) -> Option<u32>
-    ensures { result ≡ count_in word.now }
+    ensures value { result ≡ count_in word.now }
+    ensures limits { IfSome result (λ n. (1 ≤ n) × (n ≤ 64)) }
 {
     if !is_number(word) {
         return None;

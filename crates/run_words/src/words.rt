@@ -1,8 +1,8 @@
 //! Reading a command line.
 
 ghost use Rattle.std.specs.Prelude.{◌≡◌, Some, None, Err, IfOk};
-ghost use Rattle.run_words.specs.Words.{check_of, command_of, compact_of, extract_of, fmt_of, texts_of};
-ghost use Rattle.run_words.specs.Commands.{command_from, HasPassList};
+ghost use Rattle.run_words.specs.Words.{bench_of, check_of, command_of, compact_of, extract_of, fmt_of, texts_of};
+ghost use Rattle.run_words.specs.Commands.{command_from, HasPassList, IsWithinLimits};
 ghost use Rattle.run_words.specs.declared.commands.WordsFault.TheVariants.{Usage};
 
 use crate::commands::{Command, WordsFault};
@@ -14,6 +14,7 @@ use std::alloc::Global;
 fn read_compact<'a>(alloc: Global, words: &'a [&'a str]) -> Result<Command<'a>, WordsFault>
     ensures command { IfOk result (λ command. compact_of (texts_of words.now) ≡ Some (command_from command)) }
     ensures passes { IfOk result HasPassList }
+    ensures limits { IfOk result IsWithinLimits }
     ensures usage { result ≡ Err Usage → compact_of (texts_of words.now) ≡ None }
 {
     let found = lines::compact(alloc, words)?;
@@ -33,6 +34,7 @@ fn read_compact<'a>(alloc: Global, words: &'a [&'a str]) -> Result<Command<'a>, 
 fn read_check<'a>(alloc: Global, words: &'a [&'a str]) -> Result<Command<'a>, WordsFault>
     ensures command { IfOk result (λ command. check_of (texts_of words.now) ≡ Some (command_from command)) }
     ensures passes { IfOk result HasPassList }
+    ensures limits { IfOk result IsWithinLimits }
     ensures usage { result ≡ Err Usage → check_of (texts_of words.now) ≡ None }
 {
     let found = lines::cif(alloc, words)?;
@@ -45,6 +47,7 @@ fn read_check<'a>(alloc: Global, words: &'a [&'a str]) -> Result<Command<'a>, Wo
 fn read_extract<'a>(alloc: Global, words: &'a [&'a str]) -> Result<Command<'a>, WordsFault>
     ensures command { IfOk result (λ command. extract_of (texts_of words.now) ≡ Some (command_from command)) }
     ensures passes { IfOk result HasPassList }
+    ensures limits { IfOk result IsWithinLimits }
     ensures usage { result ≡ Err Usage → extract_of (texts_of words.now) ≡ None }
 {
     let found = lines::cif(alloc, words)?;
@@ -57,6 +60,7 @@ fn read_extract<'a>(alloc: Global, words: &'a [&'a str]) -> Result<Command<'a>, 
 fn read_fmt<'a>(alloc: Global, words: &'a [&'a str]) -> Result<Command<'a>, WordsFault>
     ensures command { IfOk result (λ command. fmt_of (texts_of words.now) ≡ Some (command_from command)) }
     ensures passes { IfOk result HasPassList }
+    ensures limits { IfOk result IsWithinLimits }
     ensures usage { result ≡ Err Usage → fmt_of (texts_of words.now) ≡ None }
 {
     let found = lines::only_operand(alloc, words)?;
@@ -65,11 +69,23 @@ fn read_fmt<'a>(alloc: Global, words: &'a [&'a str]) -> Result<Command<'a>, Word
     })
 }
 
+fn read_bench<'a>(alloc: Global, words: &'a [&'a str]) -> Result<Command<'a>, WordsFault>
+    ensures command { IfOk result (λ command. bench_of (texts_of words.now) ≡ Some (command_from command)) }
+    ensures passes { IfOk result HasPassList }
+    ensures limits { IfOk result IsWithinLimits }
+    ensures usage { result ≡ Err Usage → bench_of (texts_of words.now) ≡ None }
+{
+    let found = lines::only_operand(alloc, words)?;
+    let n = count(text_of(&found, "operand")).ok_or(WordsFault::Usage)?;
+    Ok(Command::Bench { n })
+}
+
 /// The command that the words are, which are those behind the program's name. `Usage` comes exactly where they are no
 /// command. Want of memory is the one other refusal.
 pub fn read_words<'a>(alloc: Global, words: &'a [&'a str]) -> Result<Command<'a>, WordsFault>
     ensures command { IfOk result (λ command. command_of (texts_of words.now) ≡ Some (command_from command)) }
     ensures passes { IfOk result HasPassList }
+    ensures limits { IfOk result IsWithinLimits }
     ensures usage { result ≡ Err Usage → command_of (texts_of words.now) ≡ None }
 {
     match words {
@@ -83,6 +99,8 @@ pub fn read_words<'a>(alloc: Global, words: &'a [&'a str]) -> Result<Command<'a>
                 read_extract(alloc, words)
             } else if *command == "fmt" {
                 read_fmt(alloc, words)
+            } else if *command == "bench" {
+                read_bench(alloc, words)
             } else {
                 Err(WordsFault::Usage)
             }

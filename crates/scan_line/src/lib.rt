@@ -2,7 +2,8 @@
 //!
 //! The scan comes to items in order of where they begin, and of their numbers where they begin together. Across the axis the layout is cut into
 //! lanes, and each lane lists the items that lie in it in that order, so an item's candidates are found by going back in one lane.
-//! For the layer above: `front` gives the nearest candidates of an item, behind which each candidate is shadowed. Lengths are in u.
+//! For the layer above: `Lanes::front` gives the nearest candidates of an item, behind which each candidate is shadowed,
+//! `Lanes::candidates` all of them, and a `Scan` comes to one item after the other and lends all candidates that end there. Lengths are in u.
 #![tactic(auto)]
 
 mod covering;

@@ -2,11 +2,12 @@
 #![tactic(auto)]
 
 use compact_run::{Status, run};
-use lam_io::{FileShelf, Sink, StdSink};
+use lam_io::{FileShelf, OpenGate, Sink, StdSink};
 use std::alloc::AllocError;
 use std::env::{Env, args};
 use std::io;
 use std::process::ExitCode;
+use std::thread::Threads;
 
 // The words after the program's name.
 fn arguments<R: Env + AllocGlobal>(rt: &R) -> io::Result<Vec<String>> {
@@ -18,7 +19,11 @@ fn arguments<R: Env + AllocGlobal>(rt: &R) -> io::Result<Vec<String>> {
 }
 
 // Does what the words say.
-fn answer(rt: &HostRuntime, arguments: &[String]) -> Result<Status, AllocError> {
+fn answer<T: Threads + Sync>(
+    rt: &HostRuntime,
+    threads: &T,
+    arguments: &[String],
+) -> Result<Status, AllocError> {
     let words: Vec<&str> = arguments
         .iter()
         .map(|word| word.as_str())
@@ -26,7 +31,15 @@ fn answer(rt: &HostRuntime, arguments: &[String]) -> Result<Status, AllocError> 
     let mut shelf = FileShelf::new(rt);
     let mut out = StdSink::new(rt.stdout());
     let mut report = StdSink::new(rt.stderr());
-    Ok(run(rt.alloc(), &words, &mut shelf, &mut out, &mut report))
+    Ok(run(
+        threads,
+        rt.alloc(),
+        &words,
+        &mut shelf,
+        &mut out,
+        &mut report,
+        &OpenGate,
+    ))
 }
 
 // What is said where there is no memory even for the words.
@@ -37,10 +50,10 @@ fn no_memory(rt: &HostRuntime) -> Status {
 
 fn main(rt: HostRuntime) -> ExitCode {
     let status = match arguments(&rt) {
-        Ok(words) => answer(&rt, &words),
+        Ok(words) => answer(&rt, &rt, &words),
         Err(error) if error.kind() == io::ErrorKind::OutOfMemory => Err(AllocError),
         // A word that is no text is no command's.
-        Err(_) => answer(&rt, &[]),
+        Err(_) => answer(&rt, &rt, &[]),
     };
     ExitCode::from(status.unwrap_or_else(|_| no_memory(&rt)).code())
 }

@@ -83,7 +83,7 @@ pub const REFUSALS: [Case; 4] = [
 ];
 
 // Words in another order, and words that are no command.
-pub const WORDS: [Case; 10] = [
+pub const WORDS: [Case; 14] = [
     Case {
         words: "compact --tech=t d",
         ..SHRUNK
@@ -124,6 +124,23 @@ pub const WORDS: [Case; 10] = [
     },
     Case {
         words: "compact d --tech t --passes xy --passes xy",
+        ..USAGE
+    },
+    // A made design has a number of 1 to 64, and no technology of one's own.
+    Case {
+        words: "bench 65",
+        ..USAGE
+    },
+    Case {
+        words: "bench 0",
+        ..USAGE
+    },
+    Case {
+        words: "bench",
+        ..USAGE
+    },
+    Case {
+        words: "bench 2 --tech t",
         ..USAGE
     },
 ];

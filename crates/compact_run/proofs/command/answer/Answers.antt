@@ -1,4 +1,4 @@
-use Rattle.std.proofs.Common.{Option, Some, Err, List, sym, ap, ◌∙◌, subst}
+use Rattle.std.proofs.Common.{Option, Some, None, Err, List, sym, ap, ◌∙◌, subst}
 use Rattle.std.proofs.lemmas.Result.{err_from_is_err_and}
 use Rattle.lam_geom.specs.declared.boxes.Axis.{Axis}
 use Rattle.run_words.specs.Commands.{command_from}
@@ -15,7 +15,7 @@ returns-in_err-design-clause-given g c = λ t told.
     rw p.1 (rw p.2 (words_refused (command_of (texts_of c.args.words.now)) t.files c.in_err-design.field-0.0 _ (λ e. c.in_err-design.ensures.usage (ap Err e))))
 
 pub compact_files-requires-clause-both : goal.compact_files-requires-clause-both
-compact_files-requires-clause-both g c =
+compact_files-requires-clause-both g c = λ κs le.
     let own = rw (c.in-Compact.is) at c.in_ok-design.ensures.passes in
     (passes_mean c.as_slice.result.now (own.0, own.1, c.as_slice.ensures ∙ own.2)).0
 
@@ -30,3 +30,17 @@ pub returns-in-Compact-clause-usage : goal.returns-in-Compact-clause-usage
 returns-in-Compact-clause-usage g c =
     let is = c.in_ok-design.ensures.command ∙ ap (λ z. Some (command_from z)) c.in-Compact.is in
     (λ e. absurd (not_usage _ _ _ _ (c.compact_files.ensures.asked c.in-Compact.split) e), λ none. absurd (is_command _ _ is none))
+
+pub returns-in-Bench-clause-given : goal.returns-in-Bench-clause-given
+returns-in-Bench-clause-given g c = λ t told.
+    let is = c.in_ok-design.ensures.command ∙ ap (λ z. Some (command_from z)) c.in-Bench.is in
+    let C : Option words.Command → Type 0 = λ z. IsGiven z t.files c.benched.result in
+    subst C (sym is) (c.benched.ensures.given t.files)
+
+pub returns-in-Bench-clause-usage : goal.returns-in-Bench-clause-usage
+returns-in-Bench-clause-usage g c =
+    let is = c.in_ok-design.ensures.command ∙ ap (λ z. Some (command_from z)) c.in-Bench.is in
+    (λ e. absurd (not_usage _ _ _ _ (c.benched.ensures.asked None) e), λ none. absurd (is_command _ _ is none))
+
+pub returns-in-Bench-clause-counted : goal.returns-in-Bench-clause-counted
+returns-in-Bench-clause-counted g c = c.benched.ensures.counted _

@@ -1,4 +1,4 @@
-use Rattle.std.proofs.Common.{◌≡◌, ◌^◌, ◌≤◌, List, length, ap, ◌∙◌, subst, arith}
+use Rattle.std.proofs.Common.{◌≡◌, ◌^◌, ◌≤◌, List, length, refl, ap, ◌∙◌, subst, arith}
 use Rattle.std.proofs.lemmas.Int.{ints}
 use Rattle.std.proofs.lemmas.Result.{err_from_is_err_and}
 use Rattle.lam_geom.specs.declared.boxes.Axis.TheVariants.{X, Y}
@@ -16,61 +16,61 @@ use Rattle.compact_run.proofs.Layouts.{stopped, too_large, finished, sizes_above
 use Rattle.compact_run.proofs.layout.lay_out.Goals as goal
 
 pub returns-in_err-passes-clause-refused : goal.returns-in_err-passes-clause-refused
-returns-in_err-passes-clause-refused c =
+returns-in_err-passes-clause-refused g c =
     let p = err_from_is_err_and c.from_residual-in_err-passes.result c.from_residual-in_err-passes.ensures.1 in
     rw p.1 (rw p.2 (stopped c.args.tech.now c.args.plan.now c.args.masters.now c.args.axes.now _ c.in_ok-judge_starts.ensures.clean c.in_err-passes.ensures.refused))
 
 pub grids_are_aligned-requires-clause-finished : goal.grids_are_aligned-requires-clause-finished
-grids_are_aligned-requires-clause-finished c =
+grids_are_aligned-requires-clause-finished g c =
     let q = c.in_ok-passes.ensures in
     finished c.args.tech.now c.args.plan.now c.args.masters.now c.args.axes.now _ _ c.as_slice-layouts.ensures c.requires.both q.placed q.met
 
 pub all_keep_spacing-requires-clause-finished : goal.all_keep_spacing-requires-clause-finished
-all_keep_spacing-requires-clause-finished c =
+all_keep_spacing-requires-clause-finished g c =
     let q = c.in_ok-passes.ensures in
     finished c.args.tech.now c.args.plan.now c.args.masters.now c.args.axes.now _ _ c.as_slice-layouts.ensures c.requires.both q.placed q.met
 
 pub written_nets_are_the_sticks-requires-clause-finished : goal.written_nets_are_the_sticks-requires-clause-finished
-written_nets_are_the_sticks-requires-clause-finished c =
+written_nets_are_the_sticks-requires-clause-finished g c =
     let q = c.in_ok-passes.ensures in
     finished c.args.tech.now c.args.plan.now c.args.masters.now c.args.axes.now _ _ c.as_slice-layouts.ensures c.requires.both q.placed q.met
 
 pub boxes_keep_rules-requires-clause-finished : goal.boxes_keep_rules-requires-clause-finished
-boxes_keep_rules-requires-clause-finished c =
+boxes_keep_rules-requires-clause-finished g c =
     let q = c.in_ok-passes.ensures in
     finished c.args.tech.now c.args.plan.now c.args.masters.now c.args.axes.now _ _ c.as_slice-layouts.ensures c.requires.both q.placed q.met
 
 pub texts_are_short-requires-clause-finished : goal.texts_are_short-requires-clause-finished
-texts_are_short-requires-clause-finished c =
+texts_are_short-requires-clause-finished g c =
     let q = c.in_ok-passes.ensures in
     finished c.args.tech.now c.args.plan.now c.args.masters.now c.args.axes.now _ _ c.as_slice-layouts.ensures c.requires.both q.placed q.met
 
 pub boxes_are_few-requires-clause-counted : goal.boxes_are_few-requires-clause-counted
-boxes_are_few-requires-clause-counted c = ap (λ (cs : List Coords). length cs) c.as_slice-layouts.ensures ∙ c.in_ok-passes.ensures.laid.counted
+boxes_are_few-requires-clause-counted g c = ap (λ (cs : List Coords). length cs) c.as_slice-layouts.ensures ∙ c.in_ok-passes.ensures.laid.counted
 
 pub judge_extent-requires-clause-widths : goal.judge_extent-requires-clause-widths
-judge_extent-requires-clause-widths c = sizes_above c.args.tech.now c.args.masters.now _ _ c.as_slice-layouts.ensures c.in_ok-passes.ensures.laid X
+judge_extent-requires-clause-widths g c = sizes_above c.args.tech.now c.args.masters.now _ _ c.as_slice-layouts.ensures c.in_ok-passes.ensures.laid X
 
 pub judge_extent-requires-clause-heights : goal.judge_extent-requires-clause-heights
-judge_extent-requires-clause-heights c = sizes_above c.args.tech.now c.args.masters.now _ _ c.as_slice-layouts.ensures c.in_ok-passes.ensures.laid Y
+judge_extent-requires-clause-heights g c = sizes_above c.args.tech.now c.args.masters.now _ _ c.as_slice-layouts.ensures c.in_ok-passes.ensures.laid Y
 
 pub wholes_bound_places-requires-clause-widths : goal.wholes_bound_places-requires-clause-widths
-wholes_bound_places-requires-clause-widths c = sizes_above c.args.tech.now c.args.masters.now _ _ c.as_slice-layouts.ensures c.in_ok-passes.ensures.laid X
+wholes_bound_places-requires-clause-widths g c = sizes_above c.args.tech.now c.args.masters.now _ _ c.as_slice-layouts.ensures c.in_ok-passes.ensures.laid X
 
 pub wholes_bound_places-requires-clause-heights : goal.wholes_bound_places-requires-clause-heights
-wholes_bound_places-requires-clause-heights c = sizes_above c.args.tech.now c.args.masters.now _ _ c.as_slice-layouts.ensures c.in_ok-passes.ensures.laid Y
+wholes_bound_places-requires-clause-heights g c = sizes_above c.args.tech.now c.args.masters.now _ _ c.as_slice-layouts.ensures c.in_ok-passes.ensures.laid Y
 
 pub wholes_bound_places-requires-clause-widest : goal.wholes_bound_places-requires-clause-widest
-wholes_bound_places-requires-clause-widest c = let w = widest_positive c.args.tech.now.numbers (sound _ c.args.tech.now.sound) in omega (arith, ints, w)
+wholes_bound_places-requires-clause-widest g c = let w = widest_positive c.args.tech.now.numbers (sound _ c.args.tech.now.sound) in omega (arith, ints, w)
 
 pub wholes_bound_places-requires-clause-narrow : goal.wholes_bound_places-requires-clause-narrow
-wholes_bound_places-requires-clause-narrow c = within_length c.args.tech.now _ c.in_ok-judge_extent.ensures.within.width
+wholes_bound_places-requires-clause-narrow g c = within_length c.args.tech.now _ c.in_ok-judge_extent.ensures.within.width
 
 pub wholes_bound_places-requires-clause-low : goal.wholes_bound_places-requires-clause-low
-wholes_bound_places-requires-clause-low c = within_length c.args.tech.now _ c.in_ok-judge_extent.ensures.within.height
+wholes_bound_places-requires-clause-low g c = within_length c.args.tech.now _ c.in_ok-judge_extent.ensures.within.height
 
 pub written_nets_are_the_sticks-requires-clause-fit : goal.written_nets_are_the_sticks-requires-clause-fit
-written_nets_are_the_sticks-requires-clause-fit c =
+written_nets_are_the_sticks-requires-clause-fit g c =
     let within = c.in_ok-judge_extent.ensures.within in
     record {
       counted = ap (λ (cs : List Coords). length cs) c.as_slice-layouts.ensures ∙ c.in_ok-passes.ensures.laid.counted;
@@ -81,7 +81,7 @@ written_nets_are_the_sticks-requires-clause-fit c =
     }
 
 pub texts_are_short-requires-clause-fit : goal.texts_are_short-requires-clause-fit
-texts_are_short-requires-clause-fit c =
+texts_are_short-requires-clause-fit g c =
     let within = c.in_ok-judge_extent.ensures.within in
     record {
       counted = ap (λ (cs : List Coords). length cs) c.as_slice-layouts.ensures ∙ c.in_ok-passes.ensures.laid.counted;
@@ -92,7 +92,7 @@ texts_are_short-requires-clause-fit c =
     }
 
 pub returns-in_err-judge_extent-clause-refused : goal.returns-in_err-judge_extent-clause-refused
-returns-in_err-judge_extent-clause-refused c =
+returns-in_err-judge_extent-clause-refused g c =
     let p = err_from_is_err_and c.from_residual-in_err-judge_extent.result c.from_residual-in_err-judge_extent.ensures.1 in
     let q = c.in_ok-passes.ensures in
     rw p.1 (rw p.2 (too_large c.args.tech.now c.args.plan.now c.args.masters.now c.args.axes.now c.in_ok-passes.passes.steps c.as_slice-layouts.result.now _
@@ -100,7 +100,7 @@ returns-in_err-judge_extent-clause-refused c =
     c.in_err-judge_extent.ensures.past.0 c.in_err-judge_extent.ensures.past.1))
 
 pub returns-clause-laid_out : goal.returns-clause-laid_out
-returns-clause-laid_out c =
+returns-clause-laid_out g c =
     let q = c.in_ok-passes.ensures in
     let is = c.as_slice-layouts.ensures ∙ q.last in
     let W : List Coords → Type 0 = λ cs. IsWithin c.args.tech.now c.args.plan.now cs in
@@ -122,4 +122,9 @@ returns-clause-laid_out c =
     }
 
 pub returns-clause-boxes : goal.returns-clause-boxes
-returns-clause-boxes c = boxed c.args.tech.now c.args.masters.now c.args.axes.now c.in_ok-passes.passes.coords c.in_ok-passes.ensures.placed
+returns-clause-boxes g c = boxed c.args.tech.now c.args.masters.now c.args.axes.now c.in_ok-passes.passes.coords c.in_ok-passes.ensures.placed
+
+pub returns-clause-finished : goal.returns-clause-finished
+returns-clause-finished g c =
+    let q = c.in_ok-passes.ensures in
+    finished c.args.tech.now c.args.plan.now c.args.masters.now c.args.axes.now _ _ refl c.requires.both q.placed q.met

@@ -1,6 +1,6 @@
 use Rattle.std.proofs.Common.{codes}
 use Rattle.run_words.specs.Words as commands
-use Rattle.run_words.proofs.PlainLines.{cif_is_read, compact_is_read, fmt_is_read}
+use Rattle.run_words.proofs.PlainLines.{bench_is_read, cif_is_read, compact_is_read, fmt_is_read}
 use Rattle.run_words.proofs.laws.plain_lines_are_read.Goals as goal
 
 pub returns : goal.returns
@@ -9,4 +9,5 @@ returns c = record {
   check = cif_is_read commands.check (codes "check");
   extract = cif_is_read commands.extract (codes "extract");
   fmt = fmt_is_read (codes "fmt");
+  bench = bench_is_read (codes "bench");
 }

@@ -1,0 +1,72 @@
+use Rattle.std.proofs.Common.{List, sym, ap, ◌∙◌, subst, ◌^◌, ◌≤◌}
+use Rattle.std.proofs.lemmas.Result.{err_from_is_err_and}
+use Rattle.design_sizes.specs.Sizes.{names_in}
+use Rattle.stick_parse.specs.declared.design.Design.{Design}
+use Rattle.expand.specs.declared.master.Master.{Master}
+use Rattle.compact_run.specs.declared.bench.Tally.{Tally}
+use Rattle.compact_run.specs.Bench.{bench_line, tally_of}
+use Rattle.compact_run.specs.Designs.{no_masters, no_masks}
+use Rattle.compact_run.proofs.FewParts.{few_parts, few_in_all}
+use Rattle.compact_run.proofs.MadeDesigns.{benched, both_axes, few_names, step_refused}
+use Rattle.compact_run.proofs.bench.bench.Goals as goal
+
+pub returns-in_err-design-clause-refused : goal.returns-in_err-design-clause-refused
+returns-in_err-design-clause-refused g c =
+    let p = err_from_is_err_and c.from_residual.result c.from_residual.ensures.1 in
+    rw p.1 (rw p.2 tt)
+
+pub returns-in_err-planned-clause-refused : goal.returns-in_err-planned-clause-refused
+returns-in_err-planned-clause-refused g c =
+    let p = err_from_is_err_and c.from_residual-in_err-planned.result c.from_residual-in_err-planned.ensures.1 in
+    let tech = c.shipped-tech.result in
+    rw p.1 (rw p.2 (step_refused tech c.args.n c.in_ok-design.design c.in_err-planned.field-0.0 c.in_ok-design.ensures c.shipped-tech.ensures (c.made_designs_have_no_fault.ensures.checked tech)
+    (no_masters c.in_err-planned.ensures.refused)))
+
+pub returns-in_err-masters-clause-refused : goal.returns-in_err-masters-clause-refused
+returns-in_err-masters-clause-refused g c =
+    let p = err_from_is_err_and c.from_residual-in_err-masters.result c.from_residual-in_err-masters.ensures.1 in
+    let tech = c.shipped-tech.result in
+    rw p.1 (rw p.2 (step_refused tech c.args.n c.in_ok-design.design c.in_err-masters.field-0.0 c.in_ok-design.ensures c.shipped-tech.ensures (c.made_designs_have_no_fault.ensures.checked tech)
+    (no_masters c.in_err-masters.ensures.refused)))
+
+pub lay_out-requires-clause-both : goal.lay_out-requires-clause-both
+lay_out-requires-clause-both g c = λ κs le. both_axes
+
+pub lay_out-requires-clause-few_parts : goal.lay_out-requires-clause-few_parts
+lay_out-requires-clause-few_parts g c = λ κs le.
+    let F : Design → Type 0 = λ d. names_in d ≤ 2 ^ 19 in
+    rw c.deref.ensures.value (few_parts c.shipped-tech.result c.in_ok-design.design c.in_ok-planned.planned.plan _ c.in_ok-masters.ensures.of_design
+    (subst F (sym c.in_ok-design.ensures) (few_names c.args.n)) c.in_ok-masters.ensures.named)
+
+pub lay_out-requires-clause-few_boxes : goal.lay_out-requires-clause-few_boxes
+lay_out-requires-clause-few_boxes g c = λ κs le.
+    rw c.deref.ensures.value (few_in_all c.shipped-tech.result c.in_ok-design.design c.in_ok-planned.planned.plan _ c.in_ok-masters.ensures.of_design)
+
+pub returns-in_err-passes-clause-refused : goal.returns-in_err-passes-clause-refused
+returns-in_err-passes-clause-refused g c =
+    let p = err_from_is_err_and c.from_residual-in_err-passes.result c.from_residual-in_err-passes.ensures.1 in
+    let tech = c.shipped-tech.result in
+    rw p.1 (rw p.2 (step_refused tech c.args.n c.in_ok-design.design c.in_err-passes.field-0.0 c.in_ok-design.ensures c.shipped-tech.ensures (c.made_designs_have_no_fault.ensures.checked tech)
+    (no_masks c.in_ok-planned.planned.plan _ c.in_ok-masters.ensures.of_design (rw c.deref.ensures.value at c.in_err-passes.ensures.refused))))
+
+pub returns-in_err-list-clause-refused : goal.returns-in_err-list-clause-refused
+returns-in_err-list-clause-refused g c =
+    let p = err_from_is_err_and c.from_residual-in_err-list.result c.from_residual-in_err-list.ensures.1 in
+    rw p.1 (rw p.2 tt)
+
+pub returns-in_err-bench_line-clause-refused : goal.returns-in_err-bench_line-clause-refused
+returns-in_err-bench_line-clause-refused g c =
+    let p = err_from_is_err_and c.from_residual-in_err-bench_line.result c.from_residual-in_err-bench_line.ensures.1 in
+    rw p.1 (rw p.2 tt)
+
+pub returns-clause-line : goal.returns-clause-line
+returns-clause-line g c =
+    let passes = c.in_ok-passes.passes in
+    let q = c.in_ok-passes.ensures in
+    let n = c.args.n in
+    let list = c.in_ok-list.list in
+    let netlist = rw (c.deref-2.ensures.value, c.as_slice-layouts.ensures) at c.in_ok-list.ensures in
+    let tally = ap (λ (ms : List Master). tally_of ms passes.steps passes.coords list) c.deref-3.ensures.value in
+    let written = c.in_ok-bench_line.ensures ∙ ap (λ (t : Tally). bench_line n t) (c.tally_of.ensures ∙ tally) in
+    benched c.shipped-tech.result n c.in_ok-design.design c.in_ok-planned.planned.plan c.in_ok-masters.masters.items passes.steps passes.coords list c.in_ok-bench_line.field-0.items
+    c.in_ok-design.ensures c.shipped-tech.ensures c.in_ok-masters.ensures.of_design (rw c.deref.ensures.value at q.laid_out) (rw c.deref.ensures.value at q.last) netlist written

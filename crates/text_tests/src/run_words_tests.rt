@@ -1,0 +1,90 @@
+//! The commands that words mean.
+
+use run_words::{Command, WordsFault, read_words};
+use std::alloc::{AllocError, Global};
+use std::test::Fail;
+
+// What a line means, whose words are parted by blanks.
+fn meaning(alloc: Global, line: &str) -> Result<String, AllocError> {
+    let words: Vec<&str> = line.split(' ').collect(alloc)?;
+    match read_words(alloc, words.as_slice()) {
+        Ok(
+            Command::Compact {
+                design,
+                tech,
+                passes,
+                split,
+            },
+        ) => {
+            let axes = passes.as_slice();
+            format!(in alloc; "compact {design} {tech} {axes:?} {split}")
+        }
+        Ok(Command::Check { cif, tech }) => format!(in alloc; "check {cif} {tech}"),
+        Ok(Command::Extract { cif, tech }) => format!(in alloc; "extract {cif} {tech}"),
+        Ok(Command::Fmt { design }) => format!(in alloc; "fmt {design}"),
+        Err(WordsFault::Usage) => format!(in alloc; "usage"),
+        Err(WordsFault::OutOfMemory) => format!(in alloc; "out of memory"),
+    }
+}
+
+#[test]
+fn words_mean_commands(rt: HostRuntime) -> Result<(), Fail> {
+    let lines = [
+        ("compact d --tech t", "compact d t [X, Y] 1"),
+        ("compact --tech=t d", "compact d t [X, Y] 1"),
+        (
+            "compact --split 64 d --passes=yyx --tech t",
+            "compact d t [Y, Y, X] 64",
+        ),
+        ("check c --tech t", "check c t"),
+        ("extract --tech t c", "extract c t"),
+        ("fmt d", "fmt d"),
+        // a value may be empty, or begin with a dash behind `=`
+        ("check c --tech=", "check c "),
+        ("check c --tech=-t", "check c -t"),
+        // behind `--` stand operands alone
+        ("compact --tech t -- -d", "compact -d t [X, Y] 1"),
+        ("fmt -- --help", "fmt --help"),
+        ("fmt -", "fmt -"),
+    ];
+    for (line, expected) in lines {
+        assert_eq!(rt; meaning(rt.alloc(), line)?.as_str(), expected, "{line}");
+    }
+    Ok(())
+}
+
+#[test]
+fn other_words_are_refused(rt: HostRuntime) -> Result<(), Fail> {
+    let lines = [
+        "compact d",
+        "compact --tech t",
+        "compact d e --tech t",
+        "compact d --tech t --tech t",
+        "compact d --tech t --passes x",
+        "compact d --tech t --passes xyxyxyxyxyxyxyxyx",
+        "compact d --tech t --split 0",
+        "compact d --tech t --split 65",
+        "compact d --tech t --split",
+        "compact d --tech -t",
+        "compact -- -d --tech t",
+        "compact -d --tech t",
+        "check c",
+        "check c --tech t --passes xy",
+        "fmt d --tech t",
+        "fmt --help",
+        "fmt -h",
+        "compact d --tech t --split 01",
+        "compact d --tech t --split +1",
+        "compact d --tech t --split 1000",
+        "bench 1",
+        "help",
+        "--help",
+        "Fmt d",
+        "",
+    ];
+    for line in lines {
+        assert_eq!(rt; meaning(rt.alloc(), line)?.as_str(), "usage", "{line}");
+    }
+    assert!(rt; matches!(read_words(rt.alloc(), &[]), Err(WordsFault::Usage)));
+    Ok(())
+}
