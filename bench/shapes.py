@@ -1,0 +1,122 @@
+"""Designs near the limits, each made of a size, and the orders in which their lines may stand.
+
+A cell is its name, its nodes or uses, and its wires and limits; each of these lists is put into an order by itself, as what a line names has to stand
+before it. ORDERS are `listed`, as the shape lists them, `reversed` and `shuffled`, the same each time. SHAPES has for each shape what makes
+its cells, its whole size, what the size counts, and the orders that are timed.
+"""
+import os, random, re
+
+EXAMPLES = os.path.join(os.path.dirname(os.path.abspath(__file__)), "..", "examples")
+ORDERS = {
+    "listed": lambda lines: lines,
+    "reversed": lambda lines: lines[::-1],
+    "shuffled": lambda lines: random.Random(1).sample(lines, len(lines)),
+}
+
+
+def text_of(cells, order="listed"):
+    put = ORDERS[order]
+    lines = ["sticks 1"]
+    for name, nodes, wires in cells:
+        lines += ["cell " + name] + put(nodes) + put(wires) + ["end"]
+    return "\n".join(lines + ["grid", "row " + cells[-1][0], "end", ""])
+
+
+def joints_in_row(n, name="j", first=0, row=0):
+    return ["joint %s%d metal %d %d" % (name, i, first + i, row) for i in range(n)]
+
+
+def row(n):
+    return [("t", joints_in_row(n), [])]
+
+
+def uses(weight):
+    """Rows of 14 joints, doubled by uses inside uses."""
+    levels = (weight // 16).bit_length() - 1
+    cells = [("u0", joints_in_row(14), [])]
+    for k in range(levels):
+        cells.append(("u%d" % (k + 1), ["use a u%d 0 0" % k, "use b u%d 0 %d" % (k, 2 ** k)], []))
+    return cells
+
+
+def many(weight):
+    """Sixteen rows, each a use of a row of joints."""
+    return [("line", joints_in_row(weight // 16 - 1), []), ("t", ["use u%d line 0 %d" % (r, r) for r in range(16)], [])]
+
+
+def ladder(columns):
+    """Columns of 20 joints, each wired from end to end."""
+    joints = ["joint a%d_%d metal %d %d" % (c, r, c, r) for c in range(columns) for r in range(20)]
+    wires = ["wire metal a%d_%d a%d_%d" % (c, r, c, r + 1) for c in range(columns) for r in range(19)]
+    return [("t", joints, wires)]
+
+
+def nets(n):
+    """Two rows of joints, one behind the other, each wired to one net: no item of a row shadows another of it."""
+    wires = ["wire metal %s%d %s%d" % (r, i, r, i + 1) for r in "ab" for i in range(n - 1)]
+    return [("t", joints_in_row(n, "a") + joints_in_row(n, "b", n), wires)]
+
+
+def field(n):
+    """A node of each kind but transistors, drawn by lot, at each point of a square."""
+    draw = random.Random(n)
+    kinds = ["joint %s metal %d %d", "joint %s poly %d %d", "joint %s diff %d %d", "contact %s diff %d %d", "contact %s poly %d %d"]
+    side = int(n ** 0.5)
+    return [("t", [draw.choice(kinds) % ("n%d_%d" % (c, r), c, r) for r in range(side) for c in range(side)], [])]
+
+
+def inverter():
+    """The cell of the example without its ports and their wires."""
+    with open(os.path.join(EXAMPLES, "inverter.sticks")) as f:
+        lines = f.read().partition("cell inv\n")[2].partition("end\n")[0].splitlines()
+    ports = {line.split()[1] for line in lines if line.startswith("port ")}
+    nodes = [line for line in lines if not re.match("port|wire", line)]
+    return "inv", nodes, [line for line in lines if line.startswith("wire ") and not ports & set(line.split()[2:4])]
+
+
+def beside(n):
+    return [inverter(), ("t", ["use i%d inv %d 0" % (i, 2 * i) for i in range(n)], [])]
+
+
+def above(n):
+    return [inverter(), ("t", ["use i%d inv 0 %d" % (i, 5 * i) for i in range(n)], [])]
+
+
+def limits(n):
+    """A row of joints, each at most 24 lambda from the next."""
+    return [("t", joints_in_row(n), ["limit x j%d j%d <= 48" % (i, i + 1) for i in range(n - 1)])]
+
+
+def raised(n):
+    """The same row, and the last joint so far off that each limit holds with equality: the joints are raised from right to left."""
+    return [("t", joints_in_row(n), ["limit x j%d j%d <= 20" % (i, i + 1) for i in range(n - 1)] + ["limit x j0 j%d >= %d" % (n - 1, 20 * (n - 1))])]
+
+
+def edges(n):
+    """Two wired rows, one behind the other, of n and n - 2 joints; with so many limits that n = 1,024 gives as many inequalities as a pass may have."""
+    wires = ["wire metal %s%d %s%d" % (r, i, r, i + 1) for r, k in (("a", n), ("b", n - 2)) for i in range(k - 1)]
+    return [("t", joints_in_row(n, "a") + joints_in_row(n - 2, "b", n), wires + ["limit x a0 a1 >= 0"] * (2058 * n // 1024))]
+
+
+def heap(n):
+    """Joints on one spot, each wired to one joint beside it."""
+    joints = ["joint c metal 1 0"] + ["joint j%d metal 0 0" % i for i in range(n)]
+    return [("t", joints, ["wire metal j%d c" % i for i in range(n)])]
+
+
+ALL = ("listed", "reversed", "shuffled")
+BOTH = ("listed", "reversed")
+SHAPES = {
+    "uses": (uses, 65536, "items", ALL),
+    "many": (many, 65536, "items", ALL),
+    "ladder": (ladder, 1000, "columns", ALL),
+    "nets": (nets, 1000, "joints each", ALL),
+    "field": (field, 6000, "nodes", ALL),
+    "beside": (beside, 512, "inverters", BOTH),
+    "above": (above, 512, "inverters", BOTH),
+    "row": (row, 4000, "joints", BOTH),
+    "limits": (limits, 4096, "joints", BOTH),
+    "raised": (raised, 4096, "joints", BOTH),
+    "edges": (edges, 1024, "joints", BOTH),
+    "heap": (heap, 16000, "joints", BOTH),
+}
