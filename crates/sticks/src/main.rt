@@ -7,6 +7,7 @@ use std::alloc::AllocError;
 use std::env::{Env, args};
 use std::io;
 use std::process::ExitCode;
+use std::thread::Threads;
 
 // The words after the program's name.
 fn arguments<R: Env + AllocGlobal>(rt: &R) -> io::Result<Vec<String>> {
@@ -17,8 +18,12 @@ fn arguments<R: Env + AllocGlobal>(rt: &R) -> io::Result<Vec<String>> {
     Ok(words)
 }
 
-// Does what the words say.
-fn answer(rt: &HostRuntime, arguments: &[String]) -> Result<Status, AllocError> {
+// Does what the words say, with threads by this handle.
+fn answer<H: Threads + Sync>(
+    rt: &HostRuntime,
+    threads: &H,
+    arguments: &[String],
+) -> Result<Status, AllocError> {
     let words: Vec<&str> = arguments
         .iter()
         .map(|word| word.as_str())
@@ -26,7 +31,16 @@ fn answer(rt: &HostRuntime, arguments: &[String]) -> Result<Status, AllocError> 
     let mut shelf = FileShelf::new(rt);
     let mut out = StdSink::new(rt.stdout());
     let mut report = StdSink::new(rt.stderr());
-    Ok(run(rt, rt.alloc(), &words, &mut shelf, &mut out, &mut report, &OpenGate))
+    let gate = OpenGate;
+    Ok(run(
+        threads,
+        rt.alloc(),
+        &words,
+        &mut shelf,
+        &mut out,
+        &mut report,
+        &gate,
+    ))
 }
 
 // What is said where there is no memory even for the words.
@@ -37,10 +51,10 @@ fn no_memory(rt: &HostRuntime) -> Status {
 
 fn main(rt: HostRuntime) -> ExitCode {
     let status = match arguments(&rt) {
-        Ok(words) => answer(&rt, &words),
+        Ok(words) => answer(&rt, &rt, &words),
         Err(error) if error.kind() == io::ErrorKind::OutOfMemory => Err(AllocError),
         // A word that is no text is no command's.
-        Err(_) => answer(&rt, &[]),
+        Err(_) => answer(&rt, &rt, &[]),
     };
     ExitCode::from(status.unwrap_or_else(|_| no_memory(&rt)).code())
 }
