@@ -89,9 +89,10 @@ impl Meeting {
 
     // Whether the other piece came.
     fn meets(&self, own: usize) -> bool {
-        self.doors[own % 2].store(true, Ordering::SeqCst);
+        let own = own % 2;
+        self.doors[own].store(true, Ordering::SeqCst);
         for _ in 0..TURNS {
-            if self.doors[(own + 1) % 2].load(Ordering::SeqCst) {
+            if self.doors[1 - own].load(Ordering::SeqCst) {
                 return true;
             }
             thread::yield_now();
