@@ -32,9 +32,9 @@ pub const BENCHES: [Case; 5] = [
         report: "sticks: cannot write output\n",
         ..BENCH
     },
+    // There is no report, so nothing fails there.
     Case {
         report_faults: &[0],
-        status: "WriteFault(Report)",
         ..BENCH
     },
 ];
