@@ -11,6 +11,3 @@ mod nodes;
 mod search;
 
 pub use index::BoxIndex;
-
-#[cfg(test)]
-mod tests;

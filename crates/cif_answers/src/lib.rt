@@ -9,8 +9,6 @@ mod checking;
 mod fault;
 mod laws;
 mod netting;
-#[cfg(test)]
-mod tests;
 
 pub use checking::verdict_of;
 pub use fault::TextFault;

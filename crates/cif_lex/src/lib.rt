@@ -11,8 +11,6 @@ mod gaps;
 mod laws;
 mod numbers;
 mod reading;
-#[cfg(test)]
-mod tests;
 
 pub use command::{Command, Next, Tail};
 pub use laws::commands_are_determined;

@@ -13,8 +13,6 @@ mod laws;
 mod numbers;
 mod reading;
 mod state;
-#[cfg(test)]
-mod tests;
 
 pub use fault::{CifFault, CifKind, CifReadFault, FlatFault};
 pub use file::{CifFile, CifStep, CifSymbol};

@@ -11,8 +11,6 @@ mod cutting;
 mod laws;
 mod pictures;
 mod symbols;
-#[cfg(test)]
-mod tests;
 mod writing;
 
 pub use laws::pieces_are_counted;

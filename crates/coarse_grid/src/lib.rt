@@ -11,8 +11,6 @@ mod extent;
 mod laws;
 mod layout;
 mod nearby;
-#[cfg(test)]
-mod tests;
 
 pub use clash::find_clash;
 pub use extent::pitch;

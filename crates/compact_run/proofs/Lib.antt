@@ -18,3 +18,4 @@ mod OneDesign
 mod OneBench
 mod OneAnswer
 mod FewParts
+mod SplitAlike

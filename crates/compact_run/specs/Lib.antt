@@ -12,3 +12,4 @@ pub mod FaultLines
 pub mod Fetches
 pub mod OneAnswer
 pub mod Checked
+pub mod Splits

@@ -4,6 +4,7 @@ ghost use Rattle.lam_io.specs.Io.{Files};
 ghost use Rattle.run_words.specs.Words.{texts_of};
 ghost use Rattle.compact_run.specs.Checked.{MasksPassTheCheck};
 ghost use Rattle.compact_run.specs.OneAnswer.{HasOneAnswer};
+ghost use Rattle.compact_run.specs.Splits.{SplitsAnswerAlike};
 
 use cif_answers::{netlists_are_determined, verdicts_are_determined};
 use net_extract::netlist_is_determined;
@@ -21,4 +22,10 @@ pub fn answers_are_determined<'a>(words: &'a [&'a str])
 /// A law, with nothing to run: where `compact` is done, `check` of what it wrote, with the same technology, is done too.
 pub fn masks_pass_the_check()
     ensures { MasksPassTheCheck }
+{}
+
+/// A law, with nothing to run: words of `compact` that differ in the number of pieces alone have the same answers. With the
+/// first law above, each such answer is the one there is.
+pub fn splits_answer_alike()
+    ensures { SplitsAnswerAlike }
 {}

@@ -23,6 +23,6 @@ mod refusal;
 mod status;
 mod top;
 
-pub use laws::{answers_are_determined, masks_pass_the_check};
+pub use laws::{answers_are_determined, masks_pass_the_check, splits_answer_alike};
 pub use status::{File, Side2, Status, What};
 pub use top::run;

@@ -10,8 +10,6 @@ mod finding;
 mod pair_tests;
 mod partners;
 mod standings;
-#[cfg(test)]
-mod tests;
 mod windows;
 
 pub use crossing::{Crossing, CrossingFault};

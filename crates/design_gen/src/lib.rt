@@ -8,6 +8,3 @@ mod lines;
 mod making;
 
 pub use making::make;
-
-#[cfg(test)]
-mod tests;

@@ -24,4 +24,3 @@ pub mod FetBoxes
 pub mod Crossed
 pub mod SticksNetlist
 pub mod FetReads
-pub mod WorkedDesign

@@ -7,4 +7,3 @@ pub mod Meetings
 pub mod Joining
 pub mod Linking
 pub mod Transistors
-pub mod Worked

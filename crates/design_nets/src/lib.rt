@@ -17,8 +17,6 @@ mod owners;
 mod pieces;
 mod shapes;
 mod sticks;
-#[cfg(test)]
-mod tests;
 mod transistors;
 
 pub use sticks::stick_netlist;

@@ -13,8 +13,6 @@ mod items;
 mod laws;
 mod master;
 mod nodes;
-#[cfg(test)]
-mod tests;
 mod variables;
 mod wires;
 

@@ -16,8 +16,6 @@ mod piece_pairs;
 mod rule;
 mod sheet;
 mod singles;
-#[cfg(test)]
-mod tests;
 
 pub use first::first_break;
 pub use rule::{Break, Rule};

@@ -17,8 +17,6 @@ mod pairs;
 mod planning;
 mod scan;
 mod sides;
-#[cfg(test)]
-mod tests;
 
 pub use fault::{GridFault, PlanFault};
 pub use laws::plan_is_determined;

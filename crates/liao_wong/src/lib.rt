@@ -13,6 +13,3 @@ mod sorting;
 pub use laws::{one_cycle, one_order};
 pub use solving::{Solved, Unsolved, solve};
 pub use sorting::sort_order;
-
-#[cfg(test)]
-mod tests;

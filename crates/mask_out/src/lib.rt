@@ -13,8 +13,6 @@ mod picture;
 mod pictures;
 mod sizes;
 mod symbols;
-#[cfg(test)]
-mod tests;
 
 pub use flattening::flat;
 pub use laws::{boxes_are_counted, flat_is_counted, wholes_bound_places};

@@ -14,8 +14,6 @@ mod neighbours;
 mod netlist;
 mod nets;
 mod placing;
-#[cfg(test)]
-mod tests;
 
 pub use devices::devices_of;
 pub use extraction::extract;

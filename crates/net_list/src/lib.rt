@@ -6,8 +6,6 @@
 
 mod counting;
 mod lines;
-#[cfg(test)]
-mod tests;
 mod text;
 
 pub use text::netlist_text;

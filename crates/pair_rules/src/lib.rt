@@ -11,8 +11,6 @@ mod bound;
 mod candidates;
 mod laws;
 mod pairs;
-#[cfg(test)]
-mod tests;
 
 pub use bound::is_bound;
 pub use candidates::{facing, facing_spacing};

@@ -10,8 +10,6 @@ mod faults;
 mod keys;
 mod table;
 mod technology;
-#[cfg(test)]
-mod tests;
 
 pub use classes::{Class, Layer, Rule};
 pub use faults::TechFault;

@@ -15,11 +15,12 @@ use cases::{EXTENTS, FAILURES, REFUSALS, REPORTS, TECHNOLOGIES, TEXTS, WORDS};
 use cif_texts::{NETLISTS, VERDICTS};
 use compact_run::run;
 use grids::{GRID_EXTENTS, GRID_FAULTS, GRID_WRITES, GRIDS};
-use lam_io::{FailPlan, Fetch, MemShelf, MemSink, Shelf};
+use lam_io::{FailPlan, Fetch, MemShelf, MemSink, OpenGate, Shelf};
 use layouts::{CYCLES, FALLS, LAYERS, LIMITS, ORDERS, USES};
 use std::alloc::{AllocError, Global};
 use std::process::Abort;
 use std::test::Fail;
+use std::thread::Threads;
 
 // Words, parted by blanks, and what they answer. The shelf has the technology as `t` and the design, or the CIF text, as `d`. Fetches,
 // and puts into the output and the report, fail where their numbers are named. The status is as it is told for debugging, and each
@@ -89,13 +90,27 @@ fn words_of<'a>(alloc: Global, line: &'a str) -> Result<Vec<&'a str>, AllocError
 }
 
 // What the words of a case answer over this shelf.
-fn answer_to(alloc: Global, case: &Case, shelf: MemShelf) -> Result<Answer, AllocError> {
+fn answer_to<H: Threads + Sync>(
+    rt: &H,
+    alloc: Global,
+    case: &Case,
+    shelf: MemShelf,
+) -> Result<Answer, AllocError> {
     let words = words_of(alloc, case.words)?;
     let names = Vec::new(alloc);
     let mut shelf = Noting { shelf, names };
     let mut output = sink_of(alloc, case.output_faults)?;
     let mut report = sink_of(alloc, case.report_faults)?;
-    let status = run(alloc, &words, &mut shelf, &mut output, &mut report);
+    let gate = OpenGate;
+    let status = run(
+        rt,
+        alloc,
+        &words,
+        &mut shelf,
+        &mut output,
+        &mut report,
+        &gate,
+    );
     Ok(Answer {
         status: format!(in alloc; "{status:?}")?,
         asked: String::from_utf8_lossy(alloc, &shelf.names)?,
@@ -110,13 +125,13 @@ fn assert_same<A: Abort>(rt: &A, case: &Case, given: &str, wanted: &str) {
 }
 
 // The words of a case answer over this shelf as it says.
-fn assert_answer<A: Abort>(
+fn assert_answer<A: Abort + Threads + Sync>(
     rt: &A,
     alloc: Global,
     case: &Case,
     shelf: MemShelf,
 ) -> Result<(), Fail> {
-    let answer = answer_to(alloc, case, shelf)?;
+    let answer = answer_to(rt, alloc, case, shelf)?;
     assert_same(rt, case, &answer.status, case.status);
     assert_same(rt, case, &answer.asked, case.asked);
     assert_same(rt, case, &answer.output, case.output);
@@ -125,7 +140,11 @@ fn assert_answer<A: Abort>(
 }
 
 // Each of the cases is answered as it says.
-fn assert_answers<A: Abort>(rt: &A, alloc: Global, cases: &[Case]) -> Result<(), Fail> {
+fn assert_answers<A: Abort + Threads + Sync>(
+    rt: &A,
+    alloc: Global,
+    cases: &[Case],
+) -> Result<(), Fail> {
     for case in cases {
         let shelf = shelf_of(alloc, case)?;
         assert_answer(rt, alloc, case, shelf)?;
@@ -185,7 +204,7 @@ fn bench_writes_a_line_on_a_made_design(rt: HostRuntime) -> Result<(), Fail> {
 #[test]
 fn the_largest_made_design_is_laid_out(rt: HostRuntime) -> Result<(), Fail> {
     let shelf = shelf_of(rt.alloc(), &LARGEST)?;
-    let answer = answer_to(rt.alloc(), &LARGEST, shelf)?;
+    let answer = answer_to(&rt, rt.alloc(), &LARGEST, shelf)?;
     assert_same(&rt, &LARGEST, &answer.status, LARGEST.status);
     assert_same(&rt, &LARGEST, &answer.report, LARGEST.report);
     let begins = answer.output.starts_with(LARGEST_BEGINS);

@@ -27,6 +27,3 @@ mod words;
 pub use commands::{Command, WordsFault};
 pub use laws::plain_lines_are_read;
 pub use words::read_words;
-
-#[cfg(test)]
-mod tests;

@@ -7,10 +7,6 @@
 //! `specs/Refusals.antt`. Columns, rows and places are coarse coordinates; widths and sizes are in u, the grid unit.
 #![tactic(auto)]
 
-#[cfg(test)]
-mod buried_tests;
-#[cfg(test)]
-mod cell_tests;
 mod cells;
 mod checks;
 mod counts;
@@ -28,8 +24,6 @@ mod resolving;
 mod sides;
 mod steps;
 mod table;
-#[cfg(test)]
-mod tests;
 mod uses;
 mod wire_lines;
 mod wires;

@@ -12,6 +12,3 @@ pub use digits::{push_decimal, push_signed_decimal};
 pub use lexing::{LARGEST, is_name, lex_line};
 pub use text::Text;
 pub use token::{LexFault, Token, TokenKind};
-
-#[cfg(test)]
-mod tests;

@@ -20,6 +20,3 @@ pub use fault::{LineFault, ParseFault, StickFault, StickKind};
 pub use lam_geom::Side;
 pub use laws::{has_one_answer, has_words_in_range, reads_what_is_said, refuses_first_fault};
 pub use parsing::parse;
-
-#[cfg(test)]
-mod tests;

@@ -9,6 +9,3 @@ mod words;
 
 pub use laws::{canonical_says_its_design, each_statement_has_its_words};
 pub use printing::print;
-
-#[cfg(test)]
-mod tests;

@@ -1,3 +1,2 @@
 pub mod Gaps
 pub mod Together
-pub mod WorkedBoxes

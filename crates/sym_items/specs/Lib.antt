@@ -5,4 +5,3 @@ pub mod Standing
 pub mod Layouts
 pub mod Transposed
 pub mod Extents
-pub mod Worked

@@ -11,8 +11,6 @@ mod axes;
 mod boxes;
 mod items;
 mod standing;
-#[cfg(test)]
-mod tests;
 
 pub use boxes::{at, box_along, box_of, transposes_boxes};
 pub use items::{Coords, End, Item, Items, NOWHERE};

@@ -9,8 +9,6 @@ mod faults;
 mod numbers;
 mod reading;
 mod sections;
-#[cfg(test)]
-mod tests;
 mod unknown;
 
 pub use faults::{ReadTechFault, TechFileFault};

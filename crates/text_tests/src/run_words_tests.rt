@@ -22,6 +22,7 @@ fn meaning(alloc: Global, line: &str) -> Result<String, AllocError> {
         Ok(Command::Check { cif, tech }) => format!(in alloc; "check {cif} {tech}"),
         Ok(Command::Extract { cif, tech }) => format!(in alloc; "extract {cif} {tech}"),
         Ok(Command::Fmt { design }) => format!(in alloc; "fmt {design}"),
+        Ok(Command::Bench { n }) => format!(in alloc; "bench {n}"),
         Err(WordsFault::Usage) => format!(in alloc; "usage"),
         Err(WordsFault::OutOfMemory) => format!(in alloc; "out of memory"),
     }
@@ -46,6 +47,8 @@ fn words_mean_commands(rt: HostRuntime) -> Result<(), Fail> {
         ("compact --tech t -- -d", "compact -d t [X, Y] 1"),
         ("fmt -- --help", "fmt --help"),
         ("fmt -", "fmt -"),
+        ("bench 1", "bench 1"),
+        ("bench -- 64", "bench 64"),
     ];
     for (line, expected) in lines {
         assert_eq!(rt; meaning(rt.alloc(), line)?.as_str(), expected, "{line}");
@@ -76,7 +79,12 @@ fn other_words_are_refused(rt: HostRuntime) -> Result<(), Fail> {
         "compact d --tech t --split 01",
         "compact d --tech t --split +1",
         "compact d --tech t --split 1000",
-        "bench 1",
+        "bench",
+        "bench 0",
+        "bench 01",
+        "bench 65",
+        "bench 2 2",
+        "bench 2 --tech t",
         "help",
         "--help",
         "Fmt d",

@@ -5,9 +5,10 @@ use super::{Case, answer_to, assert_answer, assert_same, shelf_of};
 use std::alloc::{AllocError, Global};
 use std::process::Abort;
 use std::test::Fail;
+use std::thread::Threads;
 
 // Over this text in place of its own a case has its status, and the output ends, and the report begins, so.
-fn assert_made<A: Abort>(
+fn assert_made<A: Abort + Threads + Sync>(
     rt: &A,
     alloc: Global,
     case: &Case,
@@ -16,7 +17,7 @@ fn assert_made<A: Abort>(
 ) -> Result<(), Fail> {
     let mut shelf = shelf_of(alloc, case)?;
     shelf.add("d", text.as_bytes())?;
-    let given = answer_to(alloc, case, shelf)?;
+    let given = answer_to(rt, alloc, case, shelf)?;
     assert_same(rt, case, &given.status, case.status);
     let ends = given.output.ends_with(case.output);
     let begins = given.report.starts_with(report);
@@ -25,7 +26,7 @@ fn assert_made<A: Abort>(
 }
 
 // A case answers as it says where one of its files has this text.
-fn assert_over<A: Abort>(
+fn assert_over<A: Abort + Threads + Sync>(
     rt: &A,
     alloc: Global,
     case: &Case,

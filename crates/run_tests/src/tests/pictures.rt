@@ -30,7 +30,7 @@ fn grains(units: i32) -> i64 {
 fn four_inverters_have_140_boxes(rt: HostRuntime) -> Result<(), Fail> {
     let alloc = rt.alloc();
     let inverters = &GRIDS[0];
-    let written = answer_to(alloc, inverters, shelf_of(alloc, inverters)?)?.output;
+    let written = answer_to(&rt, alloc, inverters, shelf_of(alloc, inverters)?)?.output;
     if written.len() > 1 << 26 {
         return Err("too long")?;
     }

@@ -1,0 +1,51 @@
+#!/usr/bin/env python3
+"""Times `compact .. --split N` on a row of 64 different cells of about 1,000 items each: split.py [PROGRAM]
+
+For each N it prints the least of three wall times, and how many times as fast it is as N = 1. What it prints speaks of the machine and of what else runs on
+it, and nothing is claimed of it: on four processors that are idle, four pieces may be faster, and the answer is the same, which is compared.
+"""
+import os, random, subprocess, sys, tempfile, time
+
+HERE = os.path.dirname(os.path.abspath(__file__))
+TECH = os.path.join(HERE, "..", "examples", "nmos.toml")
+PROGRAM = os.path.abspath(sys.argv[1]) if len(sys.argv) > 1 else os.path.join(HERE, "..", "crates", "sticks", "out", "sticks")
+CELLS, SIDE = 64, 22
+
+
+def cell(number):
+    """Joints of metal, poly and diffusion, drawn by lot, at each point of a square, and wires between neighbours of one layer."""
+    draw = random.Random(number)
+    layers = [[draw.choice(["metal", "poly", "diff"]) for _ in range(SIDE)] for _ in range(SIDE)]
+    lines = ["joint n%d_%d %s %d %d" % (c, r, layers[r][c], c, r) for r in range(SIDE) for c in range(SIDE)]
+    for r in range(SIDE):
+        for c in range(SIDE - 1):
+            if layers[r][c] == layers[r][c + 1] and draw.random() < 0.7:
+                lines.append("wire %s n%d_%d n%d_%d" % (layers[r][c], c, r, c + 1, r))
+    return "cell c%d\n%s\nend\n" % (number, "\n".join(lines))
+
+
+def design():
+    return "sticks 1\n" + "".join(map(cell, range(CELLS))) + "grid\nrow %s\nend\n" % " ".join("c%d" % n for n in range(CELLS))
+
+
+def main():
+    with tempfile.TemporaryDirectory() as room:
+        path = os.path.join(room, "cells.sticks")
+        with open(path, "w") as f:
+            f.write(design())
+        first, answer = None, None
+        for pieces in (1, 2, 4):
+            times = []
+            for _ in range(3):
+                begun = time.monotonic()
+                ran = subprocess.run([PROGRAM, "compact", path, "--tech", TECH, "--split", str(pieces)], capture_output=True)
+                times.append(time.monotonic() - begun)
+            told = ran.returncode, ran.stdout, ran.stderr
+            first, answer = first or min(times), answer or told
+            if told != answer:
+                sys.exit("split %d answers otherwise than split 1" % pieces)
+            print("split %d  status %d  %6.3f s  x %.2f" % (pieces, ran.returncode, min(times), first / min(times)))
+
+
+if __name__ == "__main__":
+    main()
