@@ -1,8 +1,9 @@
 #!/usr/bin/env python3
 """Times `compact` on designs near the limits, and `fmt` on a long text: compact.py [PROGRAM [DIVISOR [NAME..]]]
 
-Each line has user seconds, the peak of memory, how many times as long the whole size takes as an eighth of it, and what the report says of the first
-pass. A DIVISOR makes each size smaller; with NAMEs only these are timed. `inverter` is the example.
+Each line has user seconds, the least of three runs, the peak of memory (the 15 MB of the script that starts it are the least that is seen), how many times as
+long the whole size takes as an eighth of it, and what the report says of the first pass. A DIVISOR makes each size smaller; with NAMEs only these are timed.
+`inverter` is the example.
 shapes.py makes the other designs, each of one cell, and lists some of them in order, reversed and shuffled:
   uses    rows of joints, doubled by uses inside uses
   many    sixteen rows of joints: every two of one row face each other, and every two of one column
@@ -44,21 +45,21 @@ def text(bytes_wanted):
 
 
 def timed(words):
-    """User seconds, the peak of memory in MB, the status and the first line of the report."""
+    """User seconds and those of the system, the peak of memory in MB, the status and the first line of the report."""
     with tempfile.TemporaryFile("w+") as report:
         child = subprocess.Popen([PROGRAM] + words, stdout=subprocess.DEVNULL, stderr=report)
         _, status, used = os.wait4(child.pid, 0)
         child.returncode = os.waitstatus_to_exitcode(status)
         report.seek(0)
-        return used.ru_utime, used.ru_maxrss / 1024, child.returncode, report.readline().rstrip("\n")
+        return used.ru_utime, used.ru_stime, used.ru_maxrss / 1024, child.returncode, report.readline().rstrip("\n")
 
 
 def run(name, size, words, tries=1, before=None):
-    """Prints a line, and gives the user seconds; `before` are those of an eighth of the size."""
-    took, peak, status, told = min(timed(words) for _ in range(tries))
-    growth = "x %.1f" % (took / before) if before else ""
-    print("%-17s %17s  %8.3f s  %5.0f MB  %7s  status %d  %s" % (name, size, took, peak, growth, status, told), flush=True)
-    return took
+    """Prints a line, and gives the seconds, with those of the system, as these two are told apart by ticks; `before` are those of an eighth of the size."""
+    user, system, peak, status, told = min((timed(words) for _ in range(tries)), key=lambda one: one[0] + one[1])
+    growth = "x %.1f" % ((user + system) / before) if before else ""
+    print("%-17s %17s  %8.3f s  %5.0f MB  %7s  status %d  %s" % (name, size, user, peak, growth, status, told), flush=True)
+    return user + system
 
 
 def run_shape(path, name, order, divisor):
@@ -67,7 +68,7 @@ def run_shape(path, name, order, divisor):
     for size in (whole // divisor // 8, whole // divisor):
         with open(path, "w") as f:
             f.write(text_of(make(size), order))
-        before = run(name + " " + order, "%d %s" % (size, what), ["compact", path, "--tech", TECH], 3 if size < whole // divisor else 1, before)
+        before = run(name + " " + order, "%d %s" % (size, what), ["compact", path, "--tech", TECH], 3, before)
 
 
 def main():
