@@ -8,11 +8,8 @@ ghost use Rattle.cif_lex.specs.Forms.{IsLedBy, IsFormAnswer, IsBodyAnswer};
 
 use crate::command::Command;
 use crate::gaps::{begins_with, gap_length};
-use crate::numbers::{Pair, read_number, read_pair};
+use crate::numbers::{LARGEST, Pair, read_number, read_pair};
 use lam_geom::MaskLayer;
-
-/// The greatest distance of a number from 0.
-const LIMIT: i64 = 1_073_741_824;
 
 /// The most bytes of a layer's name.
 const LONGEST_NAME: usize = 4;
@@ -165,7 +162,7 @@ fn layer(text: &[u8]) -> Option<Form>
 fn is_far(number: i64) -> bool
     ensures { result ≡ is_far number }
 {
-    number > LIMIT || number < -LIMIT
+    number > LARGEST || number < -LARGEST
 }
 
 // Whether one of two numbers is past the limit.

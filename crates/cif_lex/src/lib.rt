@@ -14,4 +14,5 @@ mod reading;
 
 pub use command::{Command, Next, Tail};
 pub use laws::commands_are_determined;
+pub use numbers::LARGEST;
 pub use reading::{next, tail};

@@ -6,8 +6,11 @@ ghost use Rattle.cif_lex.specs.Reading.{IsNumberAnswer, IsPairAnswer};
 
 use crate::gaps::{begins_with, gap_length};
 
-/// One past the greatest distance of a number from 0.
-const PAST_LIMIT: u64 = 1_073_741_825;
+/// The greatest distance of a number of a CIF text from 0.
+pub const LARGEST: i64 = 1_073_741_824;
+
+// One past it.
+const PAST_LARGEST: u64 = LARGEST as u64 + 1;
 
 /// A number that was read: what it is, and how many bytes it and the gap behind it take.
 #[derive(Clone, Copy)]
@@ -46,7 +49,7 @@ fn distance(digits: &[u8]) -> u64
 {
     let mut distance = 0;
     for digit in digits {
-        distance = (distance * 10 + u64::from(*digit - b'0')).min(PAST_LIMIT);
+        distance = (distance * 10 + u64::from(*digit - b'0')).min(PAST_LARGEST);
     }
     distance
 }

@@ -11,7 +11,7 @@ use lam_geom::{BoxXY, MaskBox, Span};
 use std::alloc::Global;
 
 /// The most boxes of a flattened file.
-const MOST_BOXES: usize = 1_048_576;
+pub const MOST_BOXES: usize = 1_048_576;
 
 // A span, so far along its axis.
 fn moved_span(span: Span, shift: i64) -> Span

@@ -16,6 +16,6 @@ mod state;
 
 pub use fault::{CifFault, CifKind, CifReadFault, FlatFault};
 pub use file::{CifFile, CifStep, CifSymbol};
-pub use flattening::flatten;
+pub use flattening::{MOST_BOXES, flatten};
 pub use laws::readings_are_determined;
 pub use reading::read_cif;

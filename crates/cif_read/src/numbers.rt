@@ -5,17 +5,16 @@ ghost use Rattle.cif_read.specs.Acts.{is_bad_symbol, is_bad_factor, is_bad_lengt
 ghost use Rattle.cif_read.specs.Files.{IsWithin, IsSolidWithin, drawn_of};
 ghost use Rattle.cif_read.specs.Readings.{IsFactor, IsExtent};
 
+use cif_lex::LARGEST;
 use lam_geom::{BoxXY, MaskBox, MaskLayer, Span};
 
-/// The greatest distance of a number from 0.
-const LIMIT: i64 = 1_073_741_824;
 /// The greatest factor of a scale.
 const MAX_FACTOR: i64 = 65_536;
 
 fn is_far(n: i64) -> bool
     ensures { result ≡ is_far n }
 {
-    n < -LIMIT || LIMIT < n
+    n < -LARGEST || LARGEST < n
 }
 
 /// Whether it is no number of a symbol.

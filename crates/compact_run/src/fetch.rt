@@ -10,14 +10,21 @@ use crate::status::{File, Status};
 use lam_io::{Fetch, Shelf};
 use std::alloc::Global;
 
+// The most bytes of a design, of a technology, and of a CIF text.
+const MOST_DESIGN: u64 = 1_048_576;
+
+const MOST_TECHNOLOGY: u64 = 65_536;
+
+const MOST_CIF: u64 = 67_108_864;
+
 // The most bytes that a file may have.
 fn limit_of(file: File) -> u64
     ensures { result ≡ limit_of file }
 {
     match file {
-        File::Design => 1_048_576,
-        File::Technology => 65_536,
-        File::Cif => 67_108_864,
+        File::Design => MOST_DESIGN,
+        File::Technology => MOST_TECHNOLOGY,
+        File::Cif => MOST_CIF,
     }
 }
 

@@ -19,18 +19,19 @@ use crate::planning::Planned;
 use crate::refusal::Refusal;
 use crate::status::{Status, What};
 use cell_nets::nets;
+use cif_read::MOST_BOXES;
 use expand::{Master, items_of};
 use plan_model::{Plan, PlanGrid, PlanRow};
 use rule_table::Tech;
 use std::alloc::{AllocError, Global};
-use stick_cell::{Cells, ports_are_seen};
+use stick_cell::{Cells, MOST_ITEMS, ports_are_seen};
 use stick_parse::Design;
 
 /// The greatest weight of all masters together: their items, limits and uses.
-const MAX_ITEMS: u64 = 65_536;
+const MAX_ITEMS: u64 = MOST_ITEMS as u64;
 
 /// The most mask boxes of all instances.
-const MAX_BOXES: u64 = 1_048_576;
+const MAX_BOXES: u64 = MOST_BOXES as u64;
 
 // The weights of all masters together; 65,537 where that is more than 65,536.
 fn weight_of_all(cells: &Cells, masters: &[u32]) -> u64

@@ -6,12 +6,18 @@ ghost use Rattle.run_words.specs.Values.{axes_in, begins_above_zero, count_in, i
 use lam_geom::Axis;
 use std::alloc::{AllocError, Global};
 
+// The most passes of a list.
+const MOST_PASSES: usize = 16;
+
+// The greatest number of pieces, and of a made design.
+const MOST_COUNT: u32 = 64;
+
 // Whether a word is a list of passes: one to sixteen letters x and y, with both of them.
 pub(crate) fn is_pass_list(word: &str) -> bool
     ensures { result ≡ is_pass_list word.now }
 {
     let letters = word.as_bytes();
-    letters.len() <= 16
+    letters.len() <= MOST_PASSES
         && (letters.iter().all(|b| *b == b'x' || *b == b'y')
             && (letters.iter().any(|b| *b == b'x') && letters.iter().any(|b| *b == b'y')))
 }
@@ -54,7 +60,7 @@ pub(crate) fn count(word: &str) -> Option<u32>
         return None;
     }
     match word.parse::<u32>() {
-        Ok(n) => { if n <= 64 { Some(n) } else { None } }
+        Ok(n) => { if n <= MOST_COUNT { Some(n) } else { None } }
         Err(_) => None,
     }
 }

@@ -25,18 +25,24 @@ pub fn axis_where(vertical: bool) -> Axis2
     if vertical { Axis2::Up } else { Axis2::Across }
 }
 
+/// The greatest column, row or place.
+pub const MOST_PLACE: u32 = 4095;
+
+/// The greatest width or size, in u.
+pub const MOST_SIZE: u32 = 4096;
+
 /// Whether a column, a row or a place is not too far out.
 pub fn is_place(n: u32) -> bool
     ensures { result ≡ is_place n }
 {
-    n <= 4095
+    n <= MOST_PLACE
 }
 
 /// Whether a size, in u, is even and not too large.
 pub fn is_even_size(n: u32) -> bool
     ensures { result ≡ is_even_size n }
 {
-    n % 2 == 0 && n <= 4096
+    n % 2 == 0 && n <= MOST_SIZE
 }
 
 /// The width that is given, in u, which is to be even, not 0, not too large and no less than the layer's; or else the

@@ -22,7 +22,7 @@ use std::alloc::{AllocError, Global};
 use stick_parse::{Layer as DrawnLayer, LineFault, Side, StickKind};
 
 /// The greatest weight of a cell that may be inlined.
-const MOST_ITEMS: u32 = 65536;
+pub const MOST_ITEMS: u32 = 65_536;
 
 /// The table of a cell as its lines so far make it, and of each port whether a wire ends at it yet.
 #[derive(Drop)]

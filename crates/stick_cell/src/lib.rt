@@ -33,6 +33,8 @@ pub use cell_model::{
 };
 pub use cell_nets::{nets, nets_are_determined};
 pub use cells::Cells;
+pub use checks::{MOST_PLACE, MOST_SIZE};
+pub use growing::MOST_ITEMS;
 pub use ports::ports_are_seen;
 pub use refusals::{a_refused_cell_breaks_a_rule, a_refused_line_breaks_a_rule};
 pub use resolving::resolve;

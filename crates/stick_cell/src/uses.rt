@@ -8,6 +8,7 @@ ghost use Rattle.stick_cell.specs.Tables.{IsTableOf, AreTables};
 ghost use Rattle.stick_cell.specs.Growing.{IsGrowing, Grows, usable};
 
 use crate::cells::place_of;
+use crate::checks::MOST_PLACE;
 use crate::counts::capped_sum;
 use crate::growing::Growing;
 use crate::names::{Copied, Thing};
@@ -23,7 +24,7 @@ const MOST_DEEP: u32 = 16;
 fn is_near(place: u32, shift: u32) -> bool
     ensures { result ≡ is_place (shift + place) }
 {
-    u64::from(shift) + u64::from(place) <= 4095
+    u64::from(shift) + u64::from(place) <= u64::from(MOST_PLACE)
 }
 
 /// Refuses the use of a cell that has ports or is too deep, and of one whose nodes would lie too far out.

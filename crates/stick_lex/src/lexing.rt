@@ -11,6 +11,9 @@ use std::alloc::Global;
 /// The greatest distance of a number of a stick text from 0.
 pub const LARGEST: u32 = 1_000_000;
 
+/// The most bytes of a name.
+pub const LONGEST_NAME: usize = 32;
+
 fn is_blank(b: u8) -> bool
     ensures { result ≡ is_blank b }
 {
@@ -32,7 +35,7 @@ pub fn is_name(text: &[u8]) -> bool
         [] => false,
         [first, rest @ ..] => {
             first.is_ascii_alphabetic()
-                && rest.len() <= 31
+                && rest.len() < LONGEST_NAME
                 && rest.iter().all(|b| b.is_ascii_alphanumeric() || *b == b'_')
         }
     }

@@ -9,6 +9,6 @@ mod text;
 mod token;
 
 pub use digits::{push_decimal, push_signed_decimal};
-pub use lexing::{LARGEST, is_name, lex_line};
+pub use lexing::{LARGEST, LONGEST_NAME, is_name, lex_line};
 pub use text::Text;
 pub use token::{LexFault, Token, TokenKind};
