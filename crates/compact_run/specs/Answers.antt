@@ -1,5 +1,5 @@
 -- What the program answers: the status, the output and the report, from the words of the command line and the files that they name.
-use Rattle.std.specs.Prelude.{◌≡◌, ℕ, ◌⊎◌, Option, Some, None, Result, Ok, Err, List, [], flat_map, codes}
+use Rattle.std.specs.Prelude.{◌≡◌, ℕ, ℤ, ◌⊎◌, Option, Some, None, Result, Ok, Err, List, [], flat_map, codes}
 use Rattle.lam_geom.specs.declared.boxes.Axis.{Axis}
 use Rattle.lam_io.specs.Io.{Bytes, Files, Appends, AppendsPrefix, Rose}
 use Rattle.rule_table.specs.declared.technology.Tech.{Tech}
@@ -15,20 +15,24 @@ use Rattle.stick_parse.specs.Order.{design_of}
 use Rattle.stick_print.specs.Canonical.{canonical}
 use Rattle.compact_run.specs.declared.output.Output.{Output}
 use Rattle.compact_run.specs.declared.refusal.Refusal.{Refusal}
-use Rattle.compact_run.specs.declared.status.File.TheVariants.{Design, Technology, Cif}
+use Rattle.compact_run.specs.declared.status.File.TheVariants.{Design, Technology, Cif, Script}
 use Rattle.compact_run.specs.declared.status.Side2.TheVariants as side
 use Rattle.compact_run.specs.declared.status.Status.{Status}
 use Rattle.compact_run.specs.declared.status.Status.TheVariants as status
 use Rattle.compact_run.specs.declared.status.What.TheVariants.{Boxes}
 use Rattle.compact_run.specs.declared.cif.CifJob.{CifJob}
 use Rattle.compact_run.specs.declared.cif.CifJob.TheVariants.{Extract, Check}
-use Rattle.run_words.specs.Words.{Command, compact, check, extract, fmt, bench, command_of}
+use Rattle.jog_insert.specs.declared.script.JogLine.{JogLine}
+use Rattle.jog_insert.specs.Scripts.{jogs_of}
+use Rattle.run_words.specs.Words.{Command, compact, slack, jog, check, extract, fmt, bench, command_of}
 use Rattle.compact_run.specs.Fetches.{HasFile, IsLongFile}
-use Rattle.compact_run.specs.FaultLines.{stick_line, tech_line, cif_line, improper_line, broken_line}
+use Rattle.compact_run.specs.FaultLines.{stick_line, tech_line, cif_line, improper_line, broken_line, script_line}
 use Rattle.compact_run.specs.Refusal.{line_of}
 use Rattle.compact_run.specs.Refusals.{Refused}
 use Rattle.compact_run.specs.Designs.{CompactsTo, RefusesDesign}
 use Rattle.compact_run.specs.Bench.{IsBenched, RefusesBench}
+use Rattle.compact_run.specs.Slacks.{SlacksTo}
+use Rattle.compact_run.specs.Jogs.{IsLaidOutAs, JogsTo}
 
 -- A file of the shelf is this technology.
 pub record IsTechnology (files : Files) (name : Bytes) (tech : Tech) : Type 0 where
@@ -84,6 +88,58 @@ pub data RefusesCompact (design tech : Bytes) (axes : List Axis) (files : Files)
   no_design : (technology : Tech) → IsTechnology files tech technology → RefusesSticks design files ended own → RefusesCompact design tech axes files ended own
   no_masks : (technology : Tech) (sticks : Sticks) → IsTechnology files tech technology → IsDesign files design sticks → RefusesDesign technology axes sticks ended own
       → RefusesCompact design tech axes files ended own
+
+-- ---- `slack` and `jog`
+
+-- The output of `slack`: that over the design of one file under the technology of the other.
+pub record IsSlack (design tech : Bytes) (axes : List Axis) (files : Files) (output : Bytes) : Type 0 where
+  pub technology : Tech
+  pub is_technology : IsTechnology files tech technology
+  pub sticks : Sticks
+  pub is_design : IsDesign files design sticks
+  pub slacks : SlacksTo technology axes sticks output
+
+-- A file of the shelf is a script of jogs, and these are its lines.
+pub record IsScript (files : Files) (name : Bytes) (lines : List JogLine) : Type 0 where
+  pub text : Bytes
+  pub file : HasFile files Script name text
+  pub read : jogs_of text ≡ Ok lines
+
+-- A file of the shelf is no script of jogs, and this is the number of its first line that is none.
+pub record IsNoScript (files : Files) (name : Bytes) (line : ℕ) : Type 0 where
+  pub text : Bytes
+  pub file : HasFile files Script name text
+  pub read : jogs_of text ≡ Err line
+
+-- why there is no script
+abbrev pub RefusesScript : Bytes → Files → Status → Bytes → Type 0
+RefusesScript name files status.OutOfMemory own = Unit {0}
+RefusesScript name files (status.ReadFault Script) own = Unit {0}
+RefusesScript name files (status.TooLong Script) own = IsLongFile files Script name
+RefusesScript name files (status.BadScript line) own = IsNoScript files name line × (own ≡ script_line line)
+RefusesScript name files other own = ⊥
+
+-- The output and the report of `jog`: those of the script of one file over the design of another, under the technology of the third.
+pub record IsBent (design tech script : Bytes) (axes : List Axis) (files : Files) (output report : Bytes) : Type 0 where
+  pub technology : Tech
+  pub is_technology : IsTechnology files tech technology
+  pub sticks : Sticks
+  pub is_design : IsDesign files design sticks
+  pub lines : List JogLine
+  pub is_script : IsScript files script lines
+  pub jogs : JogsTo technology axes sticks lines output report
+
+-- `compact` lays a design out
+pub record IsLaidOut (tech : Tech) (axes : List Axis) (design : Sticks) : Type 0 where
+  pub numbers : List ℕ
+  pub widths : List ℤ
+  pub laid_out : IsLaidOutAs tech axes design numbers widths
+
+-- Why `jog` is refused: as `compact` is, or else for the script.
+pub data RefusesJogs (design tech script : Bytes) (axes : List Axis) (files : Files) (ended : Status) (own : Bytes) : Type 0 where
+  no_layout : RefusesCompact design tech axes files ended own → RefusesJogs design tech script axes files ended own
+  no_script : (technology : Tech) (sticks : Sticks) → IsTechnology files tech technology → IsDesign files design sticks → IsLaidOut technology axes sticks
+      → RefusesScript script files ended own → RefusesJogs design tech script axes files ended own
 
 -- ---- what is done with a CIF text
 
@@ -158,6 +214,8 @@ RefusesWords None files status.OutOfMemory own = Unit {0}
 RefusesWords None files status.Usage own = Unit {0}
 RefusesWords None files other own = ⊥
 RefusesWords (Some (compact design tech axes split)) files ended own = RefusesCompact design tech axes files ended own
+RefusesWords (Some (slack design tech axes)) files ended own = RefusesCompact design tech axes files ended own
+RefusesWords (Some (jog design tech script axes)) files ended own = RefusesJogs design tech script axes files ended own
 RefusesWords (Some (check cif tech)) files ended own = RefusesJob Check cif tech files ended own
 RefusesWords (Some (extract cif tech)) files ended own = RefusesJob Extract cif tech files ended own
 RefusesWords (Some (fmt design)) files ended own = RefusesSticks design files ended own
@@ -177,6 +235,8 @@ NothingRefuses command files = (ended : Status) (own : Bytes) → RefusesWords c
 abbrev pub WordsWrite : Option Command → Files → Bytes → Bytes → Type 0
 WordsWrite None files output report = ⊥
 WordsWrite (Some (compact design tech axes split)) files output report = IsCompacted design tech axes files output report
+WordsWrite (Some (slack design tech axes)) files output report = IsSlack design tech axes files output × (report ≡ [])
+WordsWrite (Some (jog design tech script axes)) files output report = IsBent design tech script axes files output report
 WordsWrite (Some (check cif tech)) files output report = IsTold Check cif tech files output × (report ≡ [])
 WordsWrite (Some (extract cif tech)) files output report = IsTold Extract cif tech files output × (report ≡ [])
 WordsWrite (Some (fmt design)) files output report = IsFormatted design files output × (report ≡ [])
@@ -198,6 +258,10 @@ write_fault_line = codes "sticks: cannot write output\n"
 pub data IsAnswer (words : List Bytes) (files : Files) (ended : Status) (output report : Bytes) : Type 0 where
   compacted : (design tech : Bytes) (axes : List Axis) (split : ℕ) → command_of words ≡ Some (compact design tech axes split)
       → ended ≡ status.Done → IsCompacted design tech axes files output report → IsAnswer words files ended output report
+  measured : (design tech : Bytes) (axes : List Axis) → command_of words ≡ Some (slack design tech axes)
+      → ended ≡ status.Done → IsSlack design tech axes files output → report ≡ [] → IsAnswer words files ended output report
+  jogged : (design tech script : Bytes) (axes : List Axis) → command_of words ≡ Some (jog design tech script axes)
+      → ended ≡ status.Done → IsBent design tech script axes files output report → IsAnswer words files ended output report
   told : (job : CifJob) (cif tech : Bytes) → command_of words ≡ Some (command_for job cif tech)
       → ended ≡ status.Done → IsTold job cif tech files output → report ≡ [] → IsAnswer words files ended output report
   formatted : (design : Bytes) → command_of words ≡ Some (fmt design)

@@ -7,6 +7,8 @@ pub mod Refusal
 pub mod Refusals
 pub mod Designs
 pub mod Bench
+pub mod Slacks
+pub mod Jogs
 pub mod Answers
 pub mod FaultLines
 pub mod Fetches

@@ -13,6 +13,10 @@ most_technology_bytes = 65536
 abbrev pub most_cif_bytes : ℕ
 most_cif_bytes = 2 ^ 26
 
+-- the bytes of a script
+abbrev pub most_script_bytes : ℕ
+most_script_bytes = 65536
+
 -- the weights of all masters together
 abbrev pub most_items : ℕ
 most_items = 65536

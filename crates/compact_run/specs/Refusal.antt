@@ -1,7 +1,7 @@
 -- The line of a refused command.
 use Rattle.std.specs.Prelude.{ℕ, List, [], Option, Some, None, codes}
 use Rattle.compact_run.specs.declared.status.File.{File}
-use Rattle.compact_run.specs.declared.status.File.TheVariants.{Design, Technology, Cif}
+use Rattle.compact_run.specs.declared.status.File.TheVariants.{Design, Technology, Cif, Script}
 use Rattle.compact_run.specs.declared.status.What.{What}
 use Rattle.compact_run.specs.declared.status.What.TheVariants.{Items, Boxes, Edges, Extent}
 use Rattle.compact_run.specs.declared.status.Status.{Status}
@@ -11,11 +11,13 @@ abbrev pub read_fault_line : File → List ℕ
 read_fault_line Design = codes "sticks: cannot read design\n"
 read_fault_line Technology = codes "sticks: cannot read technology\n"
 read_fault_line Cif = codes "sticks: cannot read cif\n"
+read_fault_line Script = codes "sticks: cannot read script\n"
 
 abbrev pub too_long_line : File → List ℕ
 too_long_line Design = codes "sticks: too long: design\n"
 too_long_line Technology = codes "sticks: too long: technology\n"
 too_long_line Cif = codes "sticks: too long: cif\n"
+too_long_line Script = codes "sticks: too long: script\n"
 
 abbrev pub too_large_line : What → List ℕ
 too_large_line Items = codes "sticks: too large: items\n"

@@ -1,7 +1,7 @@
 -- The numbers with which the program ends.
 use Rattle.std.specs.Prelude.{ℕ}
 use Rattle.compact_run.specs.declared.status.Status.{Status}
-use Rattle.compact_run.specs.declared.status.Status.TheVariants.{Done, OutOfMemory, Usage, ReadFault, WriteFault, TooLong, BadTech, BadSticks, BadGrid, TooLarge, Clash, Unsatisfiable, BadCif, RuleBroken, NotProper}
+use Rattle.compact_run.specs.declared.status.Status.TheVariants.{Done, OutOfMemory, Usage, ReadFault, WriteFault, TooLong, BadTech, BadSticks, BadGrid, TooLarge, Clash, Unsatisfiable, BadCif, RuleBroken, NotProper, BadScript}
 
 abbrev pub code_of : Status → ℕ
 code_of Done = 0
@@ -19,3 +19,4 @@ code_of (Unsatisfiable pass) = 11
 code_of (BadCif fault) = 12
 code_of (RuleBroken first) = 13
 code_of (NotProper a b) = 14
+code_of (BadScript line) = 16

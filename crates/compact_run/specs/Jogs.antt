@@ -1,0 +1,99 @@
+-- What `jog` writes: the design after a script of jogs, each of which is kept where it makes its cell narrower and no cell wider.
+use Rattle.std.specs.Prelude.{◌≡◌, ℕ, suc, ◌<◌, ◌≤◌, ℤ, ◌<ℤ◌, ◌≤ℤ◌, Some, List, [], ◌∷◌, ◌++◌, length, map, slice_get, slice_index, codes, decimal}
+use Rattle.std.specs.Fmt.{signed_decimal}
+use Rattle.lam_geom.specs.declared.boxes.Axis.{Axis}
+use Rattle.lam_geom.specs.declared.boxes.Axis.TheVariants.{X}
+use Rattle.lam_io.specs.Io.{Bytes}
+use Rattle.rule_table.specs.declared.technology.Tech.{Tech}
+use Rattle.sym_items.specs.Layouts.{size_in}
+use Rattle.stick_parse.specs.declared.design.Design.{Design}
+use Rattle.stick_print.specs.Canonical.{canonical}
+use Rattle.stick_cell.specs.Known.{Known, cell_of, known_at}
+use Rattle.stick_cell.specs.Lines.{number_of}
+use Rattle.stick_cell.specs.Grids.{resolved_cells}
+use Rattle.expand.specs.declared.master.Master.{Master}
+use Rattle.plan_model.specs.declared.plan.Plan.{Plan}
+use Rattle.pitch_join.specs.Masters.{master_numbers}
+use Rattle.pass_run.specs.declared.step.Step.{Step}
+use Rattle.jog_insert.specs.declared.script.JogLine.{JogLine}
+use Rattle.jog_insert.specs.Jogs.{IsJogged}
+use Rattle.compact_run.specs.Plans.{AreMastersOf, IsPlanned}
+use Rattle.compact_run.specs.Limits.{most_design_bytes}
+use Rattle.compact_run.specs.Designs.{ArePlaced, last_layouts}
+
+-- the width of each master after passes
+abbrev pub widths_after : Tech → List Master → List Step → List ℤ
+widths_after tech masters steps = map (size_in X (last_layouts tech masters steps)) (master_numbers masters)
+
+-- A design that `compact` lays out: the cells that are its masters, by number, and their widths.
+pub record IsLaidOutAs (tech : Tech) (axes : List Axis) (design : Design) (numbers : List ℕ) (widths : List ℤ) : Type 0 where
+  pub plan : Plan
+  pub masters : List Master
+  pub are_masters : AreMastersOf tech design plan masters
+  pub steps : List Step
+  pub laid_out : ArePlaced tech plan masters axes steps
+  pub are_numbers : numbers ≡ plan.masters
+  pub are_widths : widths ≡ widths_after tech masters steps
+
+-- ---- one jog
+
+-- no master is wider than it was
+abbrev pub IsNoWider : List ℤ → List ℤ → Type 0
+IsNoWider widths after = (m : ℕ) → m < length after → slice_index after m ≤ℤ slice_index widths m
+
+-- A jog that is accepted: it applies in the design (whose masters have these numbers and widths), the new design's canonical text is not too long, `compact` lays the new
+-- design out, with these numbers and widths, the jog's master is narrower, and none is wider.
+pub record Accepts (tech : Tech) (axes : List Axis) (design : Design) (numbers : List ℕ) (widths : List ℤ) (line : JogLine) (m : ℕ) (new : Design) (after_numbers : List ℕ) (after : List ℤ)
+    : Type 0 where
+  pub cells : List Known
+  pub resolved : resolved_cells tech design ≡ Ok cells
+  pub cell : ℕ
+  pub named : number_of cells line.cell ≡ Some cell
+  pub master : slice_get numbers m ≡ Some cell
+  pub jogged : IsJogged design (cell_of (known_at cells cell)) numbers cell line.k line.r line.left new
+  pub short : length (canonical new) ≤ most_design_bytes
+  pub laid_out : IsLaidOutAs tech axes new after_numbers after
+  pub narrower : slice_index after m <ℤ slice_index widths m
+  pub no_wider : IsNoWider widths after
+
+-- no new design is accepted for it
+abbrev pub IsRejected : Tech → List Axis → Design → List ℕ → List ℤ → JogLine → Type 0
+IsRejected tech axes design numbers widths line =
+    (m : ℕ) (new : Design) (after_numbers : List ℕ) (after : List ℤ) → Accepts tech axes design numbers widths line m new after_numbers after → ⊥
+
+-- ---- a script of jogs
+
+-- `jog I CELL`
+abbrev pub jog_head : ℕ → JogLine → Bytes
+jog_head i line = codes "jog " ++ (decimal i ++ (codes " " ++ line.cell))
+
+-- `jog I CELL accepted A -> B`, with the widths before and after
+abbrev pub accepted_line : ℕ → JogLine → ℤ → ℤ → Bytes
+accepted_line i line old new = jog_head i line ++ (codes " accepted " ++ (signed_decimal old ++ (codes " -> " ++ (signed_decimal new ++ codes "\n"))))
+
+-- `jog I CELL rejected`
+abbrev pub rejected_line : ℕ → JogLine → Bytes
+rejected_line i line = jog_head i line ++ codes " rejected\n"
+
+-- The jogs of some lines, counted from a number on, one after the other, from a design to the last one; what they report.
+pub data AreJogs (tech : Tech) (axes : List Axis) : ℕ → Design → List ℕ → List ℤ → List JogLine → Design → List ℤ → Bytes → Type 0 where
+  none : (i : ℕ) (design : Design) (numbers : List ℕ) (widths : List ℤ) → AreJogs tech axes i design numbers widths [] design widths []
+  accepted : (i : ℕ) (design : Design) (numbers : List ℕ) (widths : List ℤ) (line : JogLine) (lines : List JogLine) (m : ℕ) (new : Design) (after_numbers : List ℕ) (after : List ℤ)
+      (last : Design) (at_last : List ℤ) (text : Bytes)
+      → Accepts tech axes design numbers widths line m new after_numbers after
+      → AreJogs tech axes (suc i) new after_numbers after lines last at_last text
+      → AreJogs tech axes i design numbers widths (line ∷ lines) last at_last (accepted_line i line (slice_index widths m) (slice_index after m) ++ text)
+  rejected : (i : ℕ) (design : Design) (numbers : List ℕ) (widths : List ℤ) (line : JogLine) (lines : List JogLine) (last : Design) (at_last : List ℤ) (text : Bytes)
+      → IsRejected tech axes design numbers widths line
+      → AreJogs tech axes (suc i) design numbers widths lines last at_last text
+      → AreJogs tech axes i design numbers widths (line ∷ lines) last at_last (rejected_line i line ++ text)
+
+-- What `jog` writes over a design and the lines of a script: the canonical text of the last design, and a line for each jog.
+pub record JogsTo (tech : Tech) (axes : List Axis) (design : Design) (lines : List JogLine) (output report : Bytes) : Type 0 where
+  pub numbers : List ℕ
+  pub widths : List ℤ
+  pub laid_out : IsLaidOutAs tech axes design numbers widths
+  pub last : Design
+  pub at_last : List ℤ
+  pub jogs : AreJogs tech axes 0 design numbers widths lines last at_last report
+  pub written : output ≡ canonical last
