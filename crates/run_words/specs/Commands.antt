@@ -1,20 +1,29 @@
 -- A command without where its words lie in memory.
 use Rattle.std.specs.Prelude.{◌≡◌, ℕ, ◌≤◌, true, List}
+use Rattle.lam_geom.specs.declared.boxes.Axis.{Axis}
 use Rattle.run_words.specs.declared.commands.Command.{Command}
-use Rattle.run_words.specs.declared.commands.Command.TheVariants.{Compact, Check, Extract, Fmt, Bench}
+use Rattle.run_words.specs.declared.commands.Command.TheVariants.{Compact, Slack, Jog, Check, Extract, Fmt, Bench}
 use Rattle.run_words.specs.Values.{axes_in, is_pass_list}
 use Rattle.run_words.specs.Words as commands
 
 abbrev pub command_from : Command → commands.Command
 command_from (Compact design tech passes split) = commands.compact design.now tech.now passes split
+command_from (Slack design tech passes) = commands.slack design.now tech.now passes
+command_from (Jog design tech script passes) = commands.jog design.now tech.now script.now passes
 command_from (Check cif tech) = commands.check cif.now tech.now
 command_from (Extract cif tech) = commands.extract cif.now tech.now
 command_from (Fmt design) = commands.fmt design.now
 command_from (Bench n) = commands.bench n
 
--- its axes are those of a list of passes
+-- axes that are those of a list of passes
+abbrev pub AreOfPassList : List Axis → Type 0
+AreOfPassList axes = (list : List ℕ) × (is_pass_list list ≡ true) × (axes ≡ axes_in list)
+
+-- its axes, if it has any, are those of a list of passes
 abbrev pub HasPassList : Command → Type 0
-HasPassList (Compact design tech passes split) = (list : List ℕ) × (is_pass_list list ≡ true) × (passes ≡ axes_in list)
+HasPassList (Compact design tech passes split) = AreOfPassList passes
+HasPassList (Slack design tech passes) = AreOfPassList passes
+HasPassList (Jog design tech script passes) = AreOfPassList passes
 HasPassList other = Unit {0}
 
 -- its number is 1 to 64

@@ -12,9 +12,21 @@ operand = record (new_rule (codes "operand")) { required = true; action = Some S
 abbrev pub option : Text → Rule
 option name = record (new_rule name) { long = Some name; action = Some Set }
 
--- `--tech FILE`, which has to be there
+-- `--name VALUE`, which has to be there
+abbrev pub wanted : Text → Rule
+wanted name = record (option name) { required = true }
+
+-- `--tech FILE`
 abbrev pub tech : Rule
-tech = record (option (codes "tech")) { required = true }
+tech = wanted (codes "tech")
+
+-- `--script FILE`
+abbrev pub script : Rule
+script = wanted (codes "script")
+
+-- `--passes LIST`
+abbrev pub passes : Rule
+passes = option (codes "passes")
 
 -- a command with these arguments
 abbrev pub line : List Rule → App
@@ -22,7 +34,15 @@ line rules = fold with_rule (new_app (codes "sticks")) rules
 
 -- `compact DESIGN --tech FILE [--passes LIST] [--split N]`
 abbrev pub compact_line : App
-compact_line = line (operand ∷ tech ∷ option (codes "passes") ∷ option (codes "split") ∷ [])
+compact_line = line (operand ∷ tech ∷ passes ∷ option (codes "split") ∷ [])
+
+-- `slack DESIGN --tech FILE [--passes LIST]`
+abbrev pub slack_line : App
+slack_line = line (operand ∷ tech ∷ passes ∷ [])
+
+-- `jog DESIGN --tech FILE --script FILE [--passes LIST]`
+abbrev pub jog_line : App
+jog_line = line (operand ∷ tech ∷ passes ∷ script ∷ [])
 
 -- `check CIF --tech FILE` and `extract CIF --tech FILE`
 abbrev pub cif_line : App

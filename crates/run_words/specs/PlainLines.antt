@@ -1,8 +1,8 @@
 -- Plain command lines: the operand and the options in any order.
-use Rattle.std.specs.Prelude.{◌≡◌, Bool, true, false, not, ◌&&◌, ◌==◌, List, [], ◌∷◌, ◌++◌, Option, None, if◌then◌else◌, codes, bytes_eq, find, flat_map, option_and_then, option_map, unwrap_or}
+use Rattle.std.specs.Prelude.{◌≡◌, Bool, true, false, not, ◌&&◌, ◌==◌, List, [], ◌∷◌, ◌++◌, Option, Some, None, if◌then◌else◌, codes, bytes_eq, find, flat_map, option_and_then, option_map, unwrap_or}
 use Rattle.std.specs.List.{list_all, list_any}
 use Rattle.clap.specs.Words.{Text}
-use Rattle.run_words.specs.Words.{Command, bench_as, check, command_of, compact_as, extract, fmt}
+use Rattle.run_words.specs.Words.{Command, bench_as, check, command_of, compact_as, extract, fmt, jog_as, slack_as}
 
 -- what may stand behind the command's name: an operand, `--NAME VALUE` or `--NAME=VALUE`
 pub data Part : Type 0 where
@@ -48,17 +48,29 @@ are_new before (part ∷ parts) = not (list_any (λ old. bytes_eq (name_of old) 
 abbrev pub is_plain_line : List Text → List Part → Bool
 is_plain_line names parts = list_all (is_plain names) parts
 
--- the command of a line, if it has the operand and the technology that it needs
+-- what is made of the operand and the technology, if both are there
+abbrev pub of_both : (Text → Text → Option Command) → List Part → Option Command
+of_both made parts = option_and_then (λ operand. option_and_then (made operand) (value_at (codes "tech") parts)) (value_at (codes "operand") parts)
+
+-- the list of passes, and the list that is meant without one
+abbrev pub passes_at : List Part → Text
+passes_at parts = unwrap_or (value_at (codes "passes") parts) (codes "xy")
+
+-- the command of a line, if it has the operand and the files that it needs
 abbrev pub compact_from : List Part → Option Command
-compact_from parts = option_and_then (λ design. option_and_then (λ tech. compact_as design tech
-    (unwrap_or (value_at (codes "passes") parts) (codes "xy")) (unwrap_or (value_at (codes "split") parts) (codes "1")))
-    (value_at (codes "tech") parts)) (value_at (codes "operand") parts)
+compact_from parts = of_both (λ design tech. compact_as design tech (passes_at parts) (unwrap_or (value_at (codes "split") parts) (codes "1"))) parts
+
+abbrev pub slack_from : List Part → Option Command
+slack_from parts = of_both (λ design tech. slack_as design tech (passes_at parts)) parts
+
+abbrev pub jog_from : List Part → Option Command
+jog_from parts = of_both (λ design tech. option_and_then (λ script. jog_as design tech script (passes_at parts)) (value_at (codes "script") parts)) parts
 
 abbrev pub check_from : List Part → Option Command
-check_from parts = option_and_then (λ cif. option_map (check cif) (value_at (codes "tech") parts)) (value_at (codes "operand") parts)
+check_from parts = of_both (λ cif tech. Some (check cif tech)) parts
 
 abbrev pub extract_from : List Part → Option Command
-extract_from parts = option_and_then (λ cif. option_map (extract cif) (value_at (codes "tech") parts)) (value_at (codes "operand") parts)
+extract_from parts = of_both (λ cif tech. Some (extract cif tech)) parts
 
 abbrev pub fmt_from : List Part → Option Command
 fmt_from parts = option_map fmt (value_at (codes "operand") parts)
@@ -74,6 +86,10 @@ where_new parts command = if are_new [] parts then command else None
 pub record PlainLinesAreRead : Type 0 where
   pub compact : (parts : List Part) → is_plain_line (codes "tech" ∷ codes "passes" ∷ codes "split" ∷ []) parts ≡ true
       → command_of (codes "compact" ∷ flat_map words_of parts) ≡ where_new parts (compact_from parts)
+  pub slack : (parts : List Part) → is_plain_line (codes "tech" ∷ codes "passes" ∷ []) parts ≡ true
+      → command_of (codes "slack" ∷ flat_map words_of parts) ≡ where_new parts (slack_from parts)
+  pub jog : (parts : List Part) → is_plain_line (codes "tech" ∷ codes "passes" ∷ codes "script" ∷ []) parts ≡ true
+      → command_of (codes "jog" ∷ flat_map words_of parts) ≡ where_new parts (jog_from parts)
   pub check : (parts : List Part) → is_plain_line (codes "tech" ∷ []) parts ≡ true
       → command_of (codes "check" ∷ flat_map words_of parts) ≡ where_new parts (check_from parts)
   pub extract : (parts : List Part) → is_plain_line (codes "tech" ∷ []) parts ≡ true

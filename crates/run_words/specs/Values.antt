@@ -23,6 +23,10 @@ axis_of b = if is_x b then X else Y
 abbrev pub axes_in : List ℕ → List Axis
 axes_in list = map axis_of list
 
+-- the axes of a text, where it is a list of passes
+abbrev pub passes_in : List ℕ → Option (List Axis)
+passes_in text = if is_pass_list text then Some (axes_in text) else None
+
 -- there is a first byte, and it is not the digit 0
 abbrev pub begins_above_zero : List ℕ → Bool
 begins_above_zero [] = false

@@ -3,13 +3,17 @@ use Rattle.std.specs.Prelude.{ℕ, List, [], ◌∷◌, Option, None, codes, byt
 use Rattle.std.specs.Borrow.{Bor}
 use Rattle.clap.specs.Words.{Row, Text, first_of}
 use Rattle.lam_geom.specs.declared.boxes.Axis.{Axis}
-use Rattle.run_words.specs.Values.{axes_in, count_in, is_pass_list}
-use Rattle.run_words.specs.Lines.{cif_line, compact_line, found_in, operand_line, text_of}
+use Rattle.run_words.specs.Values.{count_in, passes_in}
+use Rattle.run_words.specs.Lines.{cif_line, compact_line, found_in, jog_line, operand_line, slack_line, text_of}
 
 -- a command, with the names of its files
 pub data Command : Type 0 where
   -- the design, the technology, the axes of the passes, and the number of pieces that the work is split into
   compact : List ℕ → List ℕ → List Axis → ℕ → Command
+  -- the design, the technology, and the axes of the passes
+  slack : List ℕ → List ℕ → List Axis → Command
+  -- the design, the technology, the script, and the axes of the passes
+  jog : List ℕ → List ℕ → List ℕ → List Axis → Command
   -- the CIF text and the technology
   check : List ℕ → List ℕ → Command
   extract : List ℕ → List ℕ → Command
@@ -32,15 +36,38 @@ operand_of rows = text_of (codes "operand") rows
 abbrev pub tech_of : List Row → Text
 tech_of rows = text_of (codes "tech") rows
 
+abbrev pub script_of : List Row → Text
+script_of rows = text_of (codes "script") rows
+
 -- `compact` with these texts, where the third is a list of passes and the fourth a number of pieces
 abbrev pub compact_as : Text → Text → Text → Text → Option Command
-compact_as design tech passes split = if is_pass_list passes then option_map (compact design tech (axes_in passes)) (count_in split) else None
+compact_as design tech passes split = option_and_then (λ axes. option_map (compact design tech axes) (count_in split)) (passes_in passes)
 
 abbrev pub compact_with : List Row → Option Command
 compact_with rows = compact_as (operand_of rows) (tech_of rows) (passes_of rows) (split_of rows)
 
 abbrev pub compact_of : List Text → Option Command
 compact_of words = option_and_then compact_with (found_in compact_line words)
+
+-- `slack` with these texts, where the last is a list of passes
+abbrev pub slack_as : Text → Text → Text → Option Command
+slack_as design tech passes = option_map (slack design tech) (passes_in passes)
+
+abbrev pub slack_with : List Row → Option Command
+slack_with rows = slack_as (operand_of rows) (tech_of rows) (passes_of rows)
+
+abbrev pub slack_of : List Text → Option Command
+slack_of words = option_and_then slack_with (found_in slack_line words)
+
+-- `jog` with these texts, where the last is a list of passes
+abbrev pub jog_as : Text → Text → Text → Text → Option Command
+jog_as design tech script passes = option_map (jog design tech script) (passes_in passes)
+
+abbrev pub jog_with : List Row → Option Command
+jog_with rows = jog_as (operand_of rows) (tech_of rows) (script_of rows) (passes_of rows)
+
+abbrev pub jog_of : List Text → Option Command
+jog_of words = option_and_then jog_with (found_in jog_line words)
 
 abbrev pub check_of : List Text → Option Command
 check_of words = option_map (λ rows. check (operand_of rows) (tech_of rows)) (found_in cif_line words)
@@ -63,10 +90,12 @@ abbrev pub command_of : List Text → Option Command
 command_of [] = None
 command_of (word ∷ words) =
     if bytes_eq word (codes "compact") then compact_of (word ∷ words)
+    else (if bytes_eq word (codes "slack") then slack_of (word ∷ words)
+    else (if bytes_eq word (codes "jog") then jog_of (word ∷ words)
     else (if bytes_eq word (codes "check") then check_of (word ∷ words)
     else (if bytes_eq word (codes "extract") then extract_of (word ∷ words)
     else (if bytes_eq word (codes "fmt") then fmt_of (word ∷ words)
-    else (if bytes_eq word (codes "bench") then bench_of (word ∷ words) else None))))
+    else (if bytes_eq word (codes "bench") then bench_of (word ∷ words) else None))))))
 
 -- the bytes of words
 abbrev pub texts_of : List (Bor (List ℕ)) → List (List ℕ)

@@ -25,6 +25,26 @@ pub enum Command<'a> {
         /// The number of pieces that the work on the masters is split into: 1 to 64.
         split: u32,
     },
+    /// `slack DESIGN --tech FILE [--passes LIST]`: how far each part of a design could move under a technology.
+    Slack {
+        /// The design's file.
+        design: &'a str,
+        /// The technology's file.
+        tech: &'a str,
+        /// The axes of the passes, in their order.
+        passes: Seq<Axis>,
+    },
+    /// `jog DESIGN --tech FILE --script FILE [--passes LIST]`: bends wires of a design where that makes a cell narrower.
+    Jog {
+        /// The design's file.
+        design: &'a str,
+        /// The technology's file.
+        tech: &'a str,
+        /// The script's file.
+        script: &'a str,
+        /// The axes of the passes, in their order.
+        passes: Seq<Axis>,
+    },
     /// `check CIF --tech FILE`: the first break of a design rule in a CIF text under a technology.
     Check {
         /// The CIF text's file.

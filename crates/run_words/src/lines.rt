@@ -3,7 +3,7 @@
 ghost use Rattle.std.specs.Prelude.{◌≡◌, true, false, Some, None, Err, IfOk, codes, unwrap_or};
 ghost use Rattle.clap.specs.Words.{IsParsedFrom, app_of, first_of, found_of, is_simple_and_free, rows_of, rule_of};
 ghost use Rattle.run_words.specs.Words.{texts_of};
-ghost use Rattle.run_words.specs.Lines.{cif_line, compact_line, found_in, operand_line, option, text_of, HasText};
+ghost use Rattle.run_words.specs.Lines.{cif_line, compact_line, found_in, jog_line, operand_line, option, slack_line, text_of, HasText};
 ghost use Rattle.run_words.specs.declared.commands.WordsFault.TheVariants.{Usage};
 
 use crate::commands::WordsFault;
@@ -33,12 +33,22 @@ fn cif_line<'a>(alloc: Global) -> Result<Command<'a>, AllocError>
     operand_line(alloc)?.arg(option(alloc, "tech").required(true))
 }
 
+fn slack_line<'a>(alloc: Global) -> Result<Command<'a>, AllocError>
+    ensures { IfOk result (λ line. app_of line ≡ slack_line) }
+{
+    cif_line(alloc)?.arg(option(alloc, "passes"))
+}
+
 fn compact_line<'a>(alloc: Global) -> Result<Command<'a>, AllocError>
     ensures { IfOk result (λ line. app_of line ≡ compact_line) }
 {
-    cif_line(alloc)?
-        .arg(option(alloc, "passes"))?
-        .arg(option(alloc, "split"))
+    slack_line(alloc)?.arg(option(alloc, "split"))
+}
+
+fn jog_line<'a>(alloc: Global) -> Result<Command<'a>, AllocError>
+    ensures { IfOk result (λ line. app_of line ≡ jog_line) }
+{
+    slack_line(alloc)?.arg(option(alloc, "script").required(true))
 }
 
 // What is found for a line, of which `words` are the command's name and what stands after it.
@@ -59,6 +69,27 @@ pub(crate) fn compact<'a>(alloc: Global, words: &'a [&'a str]) -> Result<ArgMatc
     ensures usage { result ≡ Err Usage → found_in compact_line (texts_of words.now) ≡ None }
 {
     found(compact_line(alloc)?, words)
+}
+
+// `slack DESIGN --tech FILE [--passes LIST]`
+pub(crate) fn slack<'a>(alloc: Global, words: &'a [&'a str]) -> Result<ArgMatches<'a>, WordsFault>
+    ensures found { IfOk result (λ m. found_in slack_line (texts_of words.now) ≡ Some (rows_of (found_of m))) }
+    ensures operand { IfOk result (HasText (codes "operand")) }
+    ensures tech { IfOk result (HasText (codes "tech")) }
+    ensures usage { result ≡ Err Usage → found_in slack_line (texts_of words.now) ≡ None }
+{
+    found(slack_line(alloc)?, words)
+}
+
+// `jog DESIGN --tech FILE --script FILE [--passes LIST]`
+pub(crate) fn jog<'a>(alloc: Global, words: &'a [&'a str]) -> Result<ArgMatches<'a>, WordsFault>
+    ensures found { IfOk result (λ m. found_in jog_line (texts_of words.now) ≡ Some (rows_of (found_of m))) }
+    ensures operand { IfOk result (HasText (codes "operand")) }
+    ensures tech { IfOk result (HasText (codes "tech")) }
+    ensures script { IfOk result (HasText (codes "script")) }
+    ensures usage { result ≡ Err Usage → found_in jog_line (texts_of words.now) ≡ None }
+{
+    found(jog_line(alloc)?, words)
 }
 
 // `check CIF --tech FILE` and `extract CIF --tech FILE`

@@ -1,15 +1,32 @@
 //! Reading a command line.
 
 ghost use Rattle.std.specs.Prelude.{◌≡◌, Some, None, Err, IfOk};
-ghost use Rattle.run_words.specs.Words.{bench_of, check_of, command_of, compact_of, extract_of, fmt_of, texts_of};
-ghost use Rattle.run_words.specs.Commands.{command_from, HasPassList, IsWithinLimits};
+ghost use Rattle.clap.specs.Words.{found_of, rows_of};
+ghost use Rattle.run_words.specs.Values.{passes_in};
+ghost use Rattle.run_words.specs.Words.{bench_of, check_of, command_of, compact_of, extract_of, fmt_of, jog_of, passes_of, slack_of, texts_of};
+ghost use Rattle.run_words.specs.Commands.{command_from, AreOfPassList, HasPassList, IsWithinLimits};
 ghost use Rattle.run_words.specs.declared.commands.WordsFault.TheVariants.{Usage};
 
 use crate::commands::{Command, WordsFault};
 use crate::lines::{self, text_of, text_or};
 use crate::values::{axes, count, is_pass_list};
+use clap::ArgMatches;
+use lam_geom::Axis;
 use lam_list::Seq;
 use std::alloc::Global;
+
+// The axes of the list of passes, of `xy` where there is none.
+fn passes_of(alloc: Global, found: &ArgMatches) -> Result<Seq<Axis>, WordsFault>
+    ensures axes { IfOk result (λ axes. passes_in (passes_of (rows_of (found_of found.now))) ≡ Some axes) }
+    ensures list { IfOk result AreOfPassList }
+    ensures usage { result ≡ Err Usage → passes_in (passes_of (rows_of (found_of found.now))) ≡ None }
+{
+    let passes = text_or(found, "passes", "xy");
+    if !is_pass_list(passes) {
+        return Err(WordsFault::Usage);
+    }
+    Ok(Seq::from_vec(axes(alloc, passes)?))
+}
 
 fn read_compact<'a>(alloc: Global, words: &'a [&'a str]) -> Result<Command<'a>, WordsFault>
     ensures command { IfOk result (λ command. compact_of (texts_of words.now) ≡ Some (command_from command)) }
@@ -18,16 +35,42 @@ fn read_compact<'a>(alloc: Global, words: &'a [&'a str]) -> Result<Command<'a>, 
     ensures usage { result ≡ Err Usage → compact_of (texts_of words.now) ≡ None }
 {
     let found = lines::compact(alloc, words)?;
-    let passes = text_or(&found, "passes", "xy");
-    if !is_pass_list(passes) {
-        return Err(WordsFault::Usage);
-    }
+    let passes = passes_of(alloc, &found)?;
     let split = count(text_or(&found, "split", "1")).ok_or(WordsFault::Usage)?;
     Ok(Command::Compact {
         design: text_of(&found, "operand"),
         tech: text_of(&found, "tech"),
-        passes: Seq::from_vec(axes(alloc, passes)?),
+        passes,
         split,
+    })
+}
+
+fn read_slack<'a>(alloc: Global, words: &'a [&'a str]) -> Result<Command<'a>, WordsFault>
+    ensures command { IfOk result (λ command. slack_of (texts_of words.now) ≡ Some (command_from command)) }
+    ensures passes { IfOk result HasPassList }
+    ensures limits { IfOk result IsWithinLimits }
+    ensures usage { result ≡ Err Usage → slack_of (texts_of words.now) ≡ None }
+{
+    let found = lines::slack(alloc, words)?;
+    Ok(Command::Slack {
+        design: text_of(&found, "operand"),
+        tech: text_of(&found, "tech"),
+        passes: passes_of(alloc, &found)?,
+    })
+}
+
+fn read_jog<'a>(alloc: Global, words: &'a [&'a str]) -> Result<Command<'a>, WordsFault>
+    ensures command { IfOk result (λ command. jog_of (texts_of words.now) ≡ Some (command_from command)) }
+    ensures passes { IfOk result HasPassList }
+    ensures limits { IfOk result IsWithinLimits }
+    ensures usage { result ≡ Err Usage → jog_of (texts_of words.now) ≡ None }
+{
+    let found = lines::jog(alloc, words)?;
+    Ok(Command::Jog {
+        design: text_of(&found, "operand"),
+        tech: text_of(&found, "tech"),
+        script: text_of(&found, "script"),
+        passes: passes_of(alloc, &found)?,
     })
 }
 
@@ -93,6 +136,10 @@ pub fn read_words<'a>(alloc: Global, words: &'a [&'a str]) -> Result<Command<'a>
         [command, ..] => {
             if *command == "compact" {
                 read_compact(alloc, words)
+            } else if *command == "slack" {
+                read_slack(alloc, words)
+            } else if *command == "jog" {
+                read_jog(alloc, words)
             } else if *command == "check" {
                 read_check(alloc, words)
             } else if *command == "extract" {

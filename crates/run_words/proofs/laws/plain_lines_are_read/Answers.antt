@@ -6,6 +6,8 @@ use Rattle.run_words.proofs.laws.plain_lines_are_read.Goals as goal
 pub returns : goal.returns
 returns c = record {
   compact = compact_is_read (codes "compact");
+  slack = ?;
+  jog = ?;
   check = cif_is_read commands.check (codes "check");
   extract = cif_is_read commands.extract (codes "extract");
   fmt = fmt_is_read (codes "fmt");

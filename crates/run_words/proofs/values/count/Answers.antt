@@ -9,8 +9,8 @@ returns-in-Err c =
     let err = c.in-Err.is in
     cc
 
-pub returns-then-n-le64-clause-limits : goal.returns-then-n-le64-clause-limits
-returns-then-n-le64-clause-limits c =
+pub returns-then-n-le-MOST_COUNT-clause-limits : goal.returns-then-n-le-MOST_COUNT-clause-limits
+returns-then-n-le-MOST_COUNT-clause-limits c =
     let number = sym c.if-not-is_number.ensures in
     let least = positive c.args.word.now number in
     let ok = parsed c.args.word.now c.parse.result c.parse.ensures.value.0 number in
