@@ -102,7 +102,7 @@ pub fn lay_out<H: Threads + Sync, G: Gate>(
     ensures refused { IfErr result (Refused (RefusesMasters tech.now plan.now masters.now axes.now)) }
 {
     judge_starts(alloc, tech, masters)?;
-    let passes = run_passes(rt, alloc, gate, tech, plan, masters, axes, split)?;
+    let passes = run_passes(rt, alloc, gate, tech, plan, masters, axes, split, false)?;
     let layouts = passes.coords.as_slice();
     grids_are_aligned(tech, plan, masters, layouts);
     all_keep_spacing(tech, plan, masters, layouts);

@@ -12,3 +12,5 @@ pub mod OnePass
 pub mod OneStep
 pub mod Going
 pub mod Found
+pub mod Slack
+pub mod Told

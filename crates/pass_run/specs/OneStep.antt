@@ -1,13 +1,15 @@
 -- What a solved pass leaves.
-use Rattle.std.specs.Prelude.{◌≡◌, ℕ, Some, List, ◌∷◌, length, map}
+use Rattle.std.specs.Prelude.{◌≡◌, ℕ, ◌<◌, ◌≤◌, ℤ, ◌×◌, Contains, Some, List, ◌∷◌, length, map}
 use Rattle.lam_geom.specs.declared.boxes.Axis.{Axis}
 use Rattle.cons_graph.specs.declared.edges.Edge.{Edge}
 use Rattle.round_log.specs.declared.log.Log.{Log}
 use Rattle.round_log.specs.Logs.{raises_in}
 use Rattle.round_log.specs.Looks.{label}
 use Rattle.cons_graph.specs.SimpleWalks.{heads_of, length_of, HasNoRepeat, WalksFromTo}
+use Rattle.cons_graph.specs.Solutions.{value_of}
 use Rattle.round_log.specs.WalksBack.{walk_of}
 use Rattle.liao_wong.specs.declared.solving.Solved.{Solved}
+use Rattle.slack_pack.specs.Most.{HasWalk, IsMost, IsAttained}
 use Rattle.shadow_prune.specs.declared.keeping.KeptFault.{KeptFault}
 use Rattle.shadow_prune.specs.declared.keeping.KeptFault.TheVariants as faults
 use Rattle.pass_run.specs.declared.edges.Listed.{Listed}
@@ -40,6 +42,16 @@ pub record HasPath (edges : List Edge) (log : Log) (far : ℕ) : Type 0 where
   pub passes : WalksFromTo edges 0 (walk_to log far).edges far
   pub simple : HasNoRepeat (0 ∷ heads_of edges (walk_to log far).edges)
   pub as_long : label (raises_in log) far ≡ Some (length_of edges (walk_to log far).edges)
+
+-- from each variable but the origin a walk leads to a far border
+abbrev pub ReachFar : ℕ → List Edge → List ℕ → Type 0
+ReachFar vars edges fars = (v : ℕ) → 1 ≤ v → v < vars → (f : ℕ) × Contains fars f × ((long : ℤ) × HasWalk edges v f long)
+
+-- the greatest values over the list of a pass, with walks that show them
+pub record IsListedMost (vars : ℕ) (edges : List Edge) (fars : List ℕ) (x values : List ℤ) : Type 0 where
+  pub one_each : length values ≡ vars
+  pub most : IsMost vars edges fars (value_of x) (value_of values)
+  pub attained : (v : ℕ) → 1 ≤ v → v < vars → IsAttained edges fars (value_of x) v (value_of values v)
 
 -- why a pass stops that has no list
 abbrev pub stop_of : KeptFault → Stop

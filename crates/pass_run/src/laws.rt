@@ -5,6 +5,7 @@ ghost use Rattle.expand.specs.Masters.{IsMaster};
 ghost use Rattle.lam_geom.specs.declared.boxes.Axis.{Axis as SomeAxis};
 ghost use Rattle.pass_run.specs.Passes.{AreDetermined};
 ghost use Rattle.pass_run.specs.PassFaults.{AreRefusedInOneWay};
+ghost use Rattle.pass_run.specs.Slack.{HasOneMost};
 ghost use Rattle.std.specs.Prelude.{List, All};
 ghost use Rattle.pass_run.specs.Meeting.{MeetingStays};
 
@@ -41,4 +42,9 @@ pub fn passes_are_determined(tech: &Tech, plan: &Plan, masters: &[Master], befor
 /// they are made. That memory runs out may come besides.
 pub fn refusals_are_determined(tech: &Tech, plan: &Plan, masters: &[Master])
     ensures { (axes : List SomeAxis) → AreRefusedInOneWay tech.now plan.now masters.now axes }
+{}
+
+/// A law, with nothing to run: the greatest values after a pass over some layouts are determined.
+pub fn mosts_are_determined(tech: &Tech, plan: &Plan, masters: &[Master], before: &[Coords])
+    ensures { HasOneMost tech.now plan.now masters.now before.now }
 {}

@@ -14,6 +14,8 @@ mod passes;
 mod step;
 mod text;
 
-pub use laws::{meeting_stays_laid_out, passes_are_determined, refusals_are_determined};
+pub use laws::{
+    meeting_stays_laid_out, mosts_are_determined, passes_are_determined, refusals_are_determined,
+};
 pub use passes::{PassFault, Passes, run_passes};
 pub use step::{Step, Walk};

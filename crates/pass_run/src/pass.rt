@@ -1,10 +1,11 @@
 //! One pass over some layouts.
 
-ghost use Rattle.std.specs.Prelude.{◌≡◌, ◌<◌, ◌≤◌, ◌^◌, ◌∷◌, List, length, map, All, IfOk, IfErr};
+ghost use Rattle.std.specs.Prelude.{◌≡◌, ◌<◌, ◌≤◌, ◌^◌, ◌∷◌, [], false, List, length, map, All, IfOk, IfErr, IsTrue};
 ghost use Rattle.lam_geom.specs.declared.boxes.Axis.{Axis as SomeAxis};
 ghost use Rattle.round_log.specs.Logs.{IsEndedLog};
 ghost use Rattle.round_log.specs.Orders.{NamesEachOnce};
-ghost use Rattle.cons_graph.specs.Solutions.{value_of};
+ghost use Rattle.cons_graph.specs.Solutions.{value_of, IsSolution};
+ghost use Rattle.liao_wong.specs.Answers.{IsWithinLimit};
 ghost use Rattle.liao_wong.specs.Sorted.{IsInOrderOf};
 ghost use Rattle.expand.specs.Masters.{IsMaster};
 ghost use Rattle.pitch_join.specs.Masters.{ArePlanned};
@@ -17,7 +18,8 @@ ghost use Rattle.pass_run.specs.Report.{pass_text};
 ghost use Rattle.pass_run.specs.Theorems.{IsSoundPass};
 ghost use Rattle.pass_run.specs.Laid.{AreLaidOut, AreSettled};
 ghost use Rattle.pass_run.specs.OnePass.{StopsPass, IsFirstOn};
-ghost use Rattle.pass_run.specs.OneStep.{step_of, walks_to, HasPath, stop_of};
+ghost use Rattle.pass_run.specs.OneStep.{step_of, walks_to, HasPath, ReachFar, IsListedMost, stop_of};
+ghost use Rattle.pass_run.specs.Told.{IsTightMost};
 
 use crate::edges::{Listed, list};
 use crate::laws::masters_are_lawful;
@@ -34,16 +36,18 @@ use plan_model::Plan;
 use round_log::Log;
 use rule_table::Tech;
 use shadow_prune::KeptFault;
+use slack_pack::most;
 use std::alloc::{AllocError, Global};
 use std::thread::Threads;
 use sym_items::Coords;
 
-/// A pass that was made, the layouts after it, and its text in the report.
+/// A pass that was made, the layouts after it, its text in the report, and the greatest values after it, in u, if they are told.
 #[derive(Debug, Drop)]
 pub struct Made {
     pub step: Step,
     pub layouts: Vec<Coords>,
     pub text: Vec<u8>,
+    pub most: Seq<i64>,
 }
 
 /// Why a pass is not made.
@@ -120,6 +124,25 @@ fn step_from(alloc: Global, axis: Axis, listed: &Listed, solved: Solved) -> Resu
         walks: Seq::from_vec(walks),
     })
 }
+
+// The greatest values of the variables, in u, at the far borders in `x`, if they are to be told, and else nothing.
+fn most_of(alloc: Global, told: bool, listed: &Listed, x: &[i64]) -> Result<Seq<i64>, AllocError>
+    requires one_each { length x.now ≡ listed.now.graph.vars }
+    requires solves { IsSolution listed.now.graph.edges (value_of x.now) }
+    requires small { All IsWithinLimit x.now }
+    requires among { All (λ far. far < listed.now.graph.vars) listed.now.base }
+    requires reach { ReachFar listed.now.graph.vars listed.now.graph.edges listed.now.base }
+    ensures most { IfOk result (λ y. IsTrue told → IsListedMost listed.now.graph.vars listed.now.graph.edges listed.now.base x.now y) }
+    ensures none { IfOk result (λ y. told ≡ false → y ≡ []) }
+{
+    if told {
+        let values = most(alloc, &listed.graph, x, listed.base.as_slice())?;
+        Ok(Seq::from_vec(values))
+    } else {
+        Ok(Seq::from_vec(Vec::new(alloc)))
+    }
+}
+
 // A solved pass, the layouts after it, and its text.
 fn made_of(
     alloc: Global,
@@ -130,6 +153,7 @@ fn made_of(
     axis: Axis,
     listed: &Listed,
     solved: Solved,
+    told: bool,
 ) -> Result<Made, AllocError>
     requires each { All (IsMaster tech.now) masters.now }
     requires few { length masters.now ≤ 256 }
@@ -140,24 +164,31 @@ fn made_of(
     requires named { length listed.now.names ≡ listed.now.graph.vars }
     requires ended { IsEndedLog listed.now.graph solved.log }
     requires one_each { length solved.x ≡ listed.now.graph.vars }
+    requires solves { IsSolution listed.now.graph.edges (value_of solved.x) }
+    requires small { All IsWithinLimit solved.x }
+    requires reach { ReachFar listed.now.graph.vars listed.now.graph.edges listed.now.base }
     ensures step { IfOk result (λ m. m.step ≡ step_of axis listed.now solved) }
     ensures paths { IfOk result (λ _. All (HasPath listed.now.graph.edges solved.log) listed.now.base) }
     ensures layouts { IfOk result (λ m. m.layouts.items ≡ moved_by masters.now before.now m.step) }
     ensures text { IfOk result (λ m. m.text.items ≡ pass_text masters.now listed.now.graph.edges pass m.step) }
+    ensures most { IfOk result (λ m. IsTrue told → IsListedMost listed.now.graph.vars listed.now.graph.edges listed.now.base solved.x m.most) }
+    ensures none { IfOk result (λ m. told ≡ false → m.most ≡ []) }
 {
     let step = step_from(alloc, axis, listed, solved)?;
     let layouts = moved_by(alloc, tech, masters, before, listed.base.as_slice(), &step)?;
     let text = pass_text(alloc, masters, listed, pass, &step)?;
+    let most = most_of(alloc, told, listed, step.x.as_slice())?;
     Ok(Made {
         step,
         layouts,
         text,
+        most,
     })
 }
 
 /// The pass with this number on an axis, over the layouts before it: the least values of the axis for all masters, by Liao and
 /// Wong's rounds over the listed inequalities in order of the values before. The kept pairs are found in as many pieces as `split`
-/// says.
+/// says. With `told` the greatest values after it are told, too.
 pub fn one_pass<H: Threads + Sync, G: Gate>(
     rt: &H,
     alloc: Global,
@@ -169,6 +200,7 @@ pub fn one_pass<H: Threads + Sync, G: Gate>(
     axis: Axis,
     before: &[Coords],
     split: u32,
+    told: bool,
 ) -> Result<Made, Stop>
     requires planned { ArePlanned tech.now plan.now masters.now }
     requires laid { AreLaidOut tech.now masters.now before.now }
@@ -185,12 +217,16 @@ pub fn one_pass<H: Threads + Sync, G: Gate>(
     ensures text { IfOk result (λ m. m.text.items ≡ pass_text masters.now (list_over axis tech.now plan.now masters.now before.now) pass m.step) }
     ensures stopped { IfErr result (StopsPass tech.now plan.now masters.now before.now pass axis) }
     ensures first { IfErr result (IsFirstOn tech.now plan.now masters.now before.now axis) }
+    ensures most { IfOk result (λ m. IsTrue told → IsTightMost tech.now plan.now masters.now before.now m.step m.most) }
+    ensures none { IfOk result (λ m. told ≡ false → m.most ≡ []) }
 {
     masters_are_lawful(tech, masters);
     let listed = list(rt, alloc, gate, axis, tech, plan, masters, before, split)?;
     let order = order_along(alloc, axis, before)?;
     match solve(alloc, &listed.graph, &order) {
-        Ok(solved) => Ok(made_of(alloc, tech, masters, before, pass, axis, &listed, solved)?),
+        Ok(solved) => Ok(made_of(
+            alloc, tech, masters, before, pass, axis, &listed, solved, told,
+        )?),
         Err(Unsolved::Cycle(cycle)) => {
             let text = cycle_text(alloc, &listed, pass, axis, cycle.as_slice())?;
             Err(Stop::Cycle(text))

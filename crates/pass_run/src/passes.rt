@@ -1,6 +1,6 @@
 //! The passes of a plan, one after another.
 
-ghost use Rattle.std.specs.Prelude.{◌≡◌, ◌<◌, ◌≤◌, ◌∷◌, ◌++◌, [], List, length, All, Contains, IfOk, IfErr};
+ghost use Rattle.std.specs.Prelude.{◌≡◌, ◌↔◌, ◌<◌, ◌≤◌, ◌∷◌, ◌++◌, [], false, List, length, All, Contains, IfOk, IfErr, IsTrue};
 ghost use Rattle.lam_geom.specs.declared.boxes.Axis.{Axis as SomeAxis};
 ghost use Rattle.pitch_join.specs.Layouts.{LayoutsMeet};
 ghost use Rattle.pitch_join.specs.Masters.{ArePlanned};
@@ -12,6 +12,8 @@ ghost use Rattle.pass_run.specs.Laid.{StartsClean, AreLaidOut};
 ghost use Rattle.pass_run.specs.Pruning.{PruningLosesNothing};
 ghost use Rattle.pass_run.specs.PassFaults.{AreRefusedInOneWay, AreSolvable, RefusesPasses, StopsAtFirst};
 ghost use Rattle.pass_run.specs.Going.{IsGoing};
+ghost use Rattle.pass_run.specs.Slack.{AreMosts, AreTight};
+ghost use Rattle.pass_run.specs.Told.{HasTold};
 ghost use Rattle.pass_run.specs.declared.passes.PassFault.TheVariants.{OutOfMemory};
 
 use crate::laws::{masters_are_lawful, refusals_are_determined};
@@ -39,6 +41,9 @@ pub struct Passes {
     pub steps: Seq<Step>,
     /// What they report: for each pass its counts, and for each master its size and its critical path.
     pub report: Text,
+    /// Where it is asked for, an entry for each pass: for the last one on an axis the greatest values of the joint variables at the
+    /// far borders that it found, in u, and for the others an empty list. Else there are no entries.
+    pub mosts: Seq<Seq<i64>>,
 }
 
 /// Why the passes end. Passes are counted from 1.
@@ -71,12 +76,13 @@ impl<T: Drop> From<AllocFailed<T>> for PassFault {
     }
 }
 
-// The passes so far: the layouts that they leave, what is recorded of them, and what they report.
+// The passes so far: the layouts that they leave, what is recorded of them, what they report, and what is told besides.
 #[derive(Drop)]
 struct SoFar {
     layouts: Vec<Coords>,
     steps: Vec<Step>,
     report: Vec<u8>,
+    mosts: Vec<Seq<i64>>,
 }
 
 // No passes, over the start layouts.
@@ -90,37 +96,47 @@ fn none_yet(
     requires clean { All (StartsClean tech.now) masters.now }
     ensures going { IfOk result (IsGoing tech.now plan.now masters.now) }
     ensures none { IfOk result (λ s. s.steps.items ≡ []) }
+    ensures untold { IfOk result (λ s. s.mosts.items ≡ []) }
 {
     let layouts = starts(alloc, tech, masters)?;
     Ok(SoFar {
         layouts,
         steps: Vec::new(alloc),
         report: Vec::new(alloc),
+        mosts: Vec::new(alloc),
     })
 }
 
-// The passes so far and one more.
-fn with_pass(so_far: SoFar, made: Made) -> Result<SoFar, AllocError>
+// The passes so far and one more, of which something may be told.
+fn with_pass(so_far: SoFar, made: Made, with_most: bool) -> Result<SoFar, AllocError>
     ensures layouts { IfOk result (λ s. s.layouts.items ≡ made.layouts.items) }
     ensures steps { IfOk result (λ s. s.steps.items ≡ so_far.steps.items ++ made.step ∷ []) }
     ensures report { IfOk result (λ s. s.report.items ≡ so_far.report.items ++ made.text.items) }
+    ensures told { IfOk result (λ s. IsTrue with_most → s.mosts.items ≡ so_far.mosts.items ++ made.most ∷ []) }
+    ensures untold { IfOk result (λ s. with_most ≡ false → s.mosts.items ≡ so_far.mosts.items) }
 {
     let SoFar {
         layouts: _,
         mut steps,
         mut report,
+        mut mosts,
     } = so_far;
     let Made {
         step,
         layouts,
         text,
+        most,
     } = made;
     steps.push(step)?;
     report.extend_from_slice(&text)?;
+    if with_most {
+        mosts.push(most)?;
+    }
     Ok(SoFar {
         layouts,
         steps,
         report,
+        mosts,
     })
 }
 
@@ -133,7 +149,14 @@ fn cycle_report(alloc: Global, before: &[u8], text: &[u8]) -> Result<Text, Alloc
     Text::new(alloc, &report)
 }
 
-// Makes one more pass, on this axis.
+// Whether passes on these axes have one on this axis.
+fn comes_again(axis: Axis, coming: &[Axis]) -> bool
+    ensures { IsTrue result ↔ Contains coming.now axis }
+{
+    coming.contains(&axis)
+}
+
+// Makes one more pass, on this axis. Passes on some axes come after it.
 fn go_on<H: Threads + Sync, G: Gate>(
     rt: &H,
     alloc: Global,
@@ -142,17 +165,22 @@ fn go_on<H: Threads + Sync, G: Gate>(
     plan: &Plan,
     masters: &[Master],
     axis: Axis,
+    coming: &[Axis],
     split: u32,
+    with_most: bool,
     so_far: SoFar,
 ) -> Result<SoFar, PassFault>
     requires planned { ArePlanned tech.now plan.now masters.now }
     requires split { (1 ≤ split) × (split ≤ 64) }
     requires going { IsGoing tech.now plan.now masters.now so_far }
     requires few { length so_far.steps.items < 16 }
+    requires told { HasTold tech.now plan.now masters.now with_most (axis ∷ coming.now) so_far }
     ensures going { IfOk result (IsGoing tech.now plan.now masters.now) }
     ensures axes { IfOk result (λ s. axes_of s.steps.items ≡ axes_of so_far.steps.items ++ axis ∷ []) }
     ensures refused { IfErr result (λ fault. (later : List SomeAxis) → RefusesPasses tech.now plan.now masters.now (axes_of so_far.steps.items ++ axis ∷ later) fault) }
+    ensures told { IfOk result (HasTold tech.now plan.now masters.now with_most coming.now) }
 {
+    let last = with_most && !comes_again(axis, coming);
     let pass = so_far.steps.len() as u32 + 1;
     match one_pass(
         rt,
@@ -165,8 +193,9 @@ fn go_on<H: Threads + Sync, G: Gate>(
         axis,
         &so_far.layouts,
         split,
+        last,
     ) {
-        Ok(made) => Ok(with_pass(so_far, made)?),
+        Ok(made) => Ok(with_pass(so_far, made, with_most)?),
         Err(Stop::TooManyEdges) => Err(PassFault::TooManyEdges { pass }),
         Err(Stop::Cycle(text)) => {
             let report = cycle_report(alloc, &so_far.report, &text)?;
@@ -181,17 +210,20 @@ fn given(alloc: Global, so_far: SoFar) -> Result<Passes, AllocError>
     ensures coords { IfOk result (λ p. p.coords ≡ so_far.layouts.items) }
     ensures steps { IfOk result (λ p. p.steps ≡ so_far.steps.items) }
     ensures report { IfOk result (λ p. p.report ≡ so_far.report.items) }
+    ensures mosts { IfOk result (λ p. p.mosts ≡ so_far.mosts.items) }
 {
     let SoFar {
         layouts,
         steps,
         report,
+        mosts,
     } = so_far;
     let report = Text::new(alloc, &report)?;
     Ok(Passes {
         coords: Seq::from_vec(layouts),
         steps: Seq::from_vec(steps),
         report,
+        mosts: Seq::from_vec(mosts),
     })
 }
 
@@ -199,7 +231,8 @@ fn given(alloc: Global, so_far: SoFar) -> Result<Passes, AllocError>
 /// axis the least values that meet the structure of each master, keep all candidates of the layouts before it apart, and give
 /// masters that share a column or a row one size and ports that meet one line; the other axis stays. The kept pairs of the
 /// masters are found in as many pieces as `split` says, each of which passes the gate in each pass; want of memory aside, the
-/// answer is the same for every `split` and every gate.
+/// answer is the same for every `split` and every gate. With `with_most` the last pass on each axis also tells the greatest values
+/// that the variables could have while its far borders stay, from the inequalities that it has listed.
 pub fn run_passes<H: Threads + Sync, G: Gate>(
     rt: &H,
     alloc: Global,
@@ -209,6 +242,7 @@ pub fn run_passes<H: Threads + Sync, G: Gate>(
     masters: &[Master],
     axes: &[Axis],
     split: u32,
+    with_most: bool,
 ) -> Result<Passes, PassFault>
     requires planned { ArePlanned tech.now plan.now masters.now }
     requires clean { All (StartsClean tech.now) masters.now }
@@ -231,12 +265,20 @@ pub fn run_passes<H: Threads + Sync, G: Gate>(
     ensures solvable { IfOk result (λ p. AreSolvable tech.now plan.now masters.now (starts_of tech.now masters.now) p.steps) }
     ensures first { IfErr result (StopsAtFirst tech.now plan.now masters.now axes.now) }
     ensures in_one_way { AreRefusedInOneWay tech.now plan.now masters.now axes.now }
+    // how far the variables could move after the last pass on each axis
+    ensures mosts { IfOk result (λ p. IsTrue with_most → AreMosts tech.now plan.now masters.now (starts_of tech.now masters.now) p.steps p.mosts) }
+    ensures tight { IfOk result (λ p. IsTrue with_most → AreTight tech.now plan.now masters.now (starts_of tech.now masters.now) p.steps p.mosts) }
+    ensures untold { IfOk result (λ p. with_most ≡ false → p.mosts ≡ []) }
 {
     masters_are_lawful(tech, masters);
     refusals_are_determined(tech, plan, masters);
     let mut so_far = none_yet(alloc, tech, plan, masters)?;
+    let mut coming = axes;
     for axis in axes {
-        so_far = go_on(rt, alloc, gate, tech, plan, masters, *axis, split, so_far)?;
+        coming = &coming[1..];
+        so_far = go_on(
+            rt, alloc, gate, tech, plan, masters, *axis, coming, split, with_most, so_far,
+        )?;
     }
     Ok(given(alloc, so_far)?)
 }
