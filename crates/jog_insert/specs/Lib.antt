@@ -1,0 +1,5 @@
+pub mod Bends
+pub mod Numbering
+pub mod Jogs
+pub mod Nets
+pub mod Scripts

@@ -1,0 +1,44 @@
+-- A jog leaves the nets of a cell as they were: its parts are of one net where they were, and the new joints and wires are of the net of the bent wire.
+use Rattle.std.specs.Prelude.{◌↔◌, ◌⊎◌, ℕ, zero, suc, ◌+◌, ◌<◌, ◌≤◌, nat_lt, nat_le, if◌then◌else◌, List, [], ◌∷◌}
+use Rattle.stick_parse.specs.declared.design.Form.{Form}
+use Rattle.stick_parse.specs.declared.design.Form.TheVariants.{Joint, Contact, Buried, Fet, Port, Inst, Wire, Limit}
+use Rattle.stick_parse.specs.declared.design.Line.{Line}
+use Rattle.graph_search.specs.Netting.{Reaches, Attached}
+use Rattle.cell_model.specs.declared.cell.Cell.{Cell}
+use Rattle.cell_model.specs.Nets.{parts_of, node_parts, first_part, attachments_of}
+
+-- a chain of attachments joins two parts of a cell
+abbrev pub AreOneNet : Cell → ℕ → ℕ → Type 0
+AreOneNet cell p q = Reaches (Attached (attachments_of cell)) p q
+
+-- how many nodes stand before the line of wire number k
+abbrev pub nodes_before : ℕ → List Line → ℕ
+nodes_before k [] = 0
+nodes_before k (line ∷ lines) = nodes_from k line.form lines
+
+abbrev pub nodes_from : ℕ → Form → List Line → ℕ
+nodes_from zero (Wire layer a b width) lines = 0
+nodes_from (suc k) (Wire layer a b width) lines = nodes_before k lines
+nodes_from k (Joint name layer col row width) lines = suc (nodes_before k lines)
+nodes_from k (Contact name lower col row) lines = suc (nodes_before k lines)
+nodes_from k (Buried name col row) lines = suc (nodes_before k lines)
+nodes_from k (Fet name depletion vertical col row w l) lines = suc (nodes_before k lines)
+nodes_from k (Port name side layer place) lines = nodes_before k lines
+nodes_from k (Inst name cell col row) lines = nodes_before k lines
+nodes_from k (Limit vertical a b at_most n) lines = nodes_before k lines
+
+-- The number that a part has after a jog of wire number k: the two joints come behind so many nodes, and the wire becomes three, of which the first keeps its place.
+abbrev pub moved_part : Cell → ℕ → ℕ → ℕ → ℕ
+moved_part old at k p =
+    if nat_lt p (first_part old.nodes at) then p
+    else (if nat_le p (node_parts old.nodes + k) then p + 2 else p + 4)
+
+-- the two joints, and the three wires
+abbrev pub IsOfJog : Cell → ℕ → ℕ → ℕ → Type 0
+IsOfJog old at k p = ((first_part old.nodes at ≤ p) × (p < first_part old.nodes at + 2))
+    ⊎ ((node_parts old.nodes + 2 + k ≤ p) × (p < node_parts old.nodes + 5 + k))
+
+-- the cell after a jog of wire number k, whose joints come behind so many nodes, has the nets of the one before
+pub record KeepsNets (old new : Cell) (at k : ℕ) : Type 0 where
+  pub same : (p q : ℕ) → p < parts_of old → q < parts_of old → AreOneNet old p q ↔ AreOneNet new (moved_part old at k p) (moved_part old at k q)
+  pub bent : (p : ℕ) → IsOfJog old at k p → AreOneNet new p (moved_part old at k (node_parts old.nodes + k))
