@@ -1,4 +1,4 @@
--- The lines that say what is wrong with a technology, a design or a CIF text.
+-- The lines that say what is wrong with a technology, a design, a script or a CIF text.
 use Rattle.std.specs.Prelude.{ℕ, List, [], ◌∷◌, ◌++◌, codes, decimal, slice_index_or}
 use Rattle.flat_check.specs.declared.rule.Break.{Break}
 use Rattle.flat_check.specs.Breaks.{number_of}
@@ -84,6 +84,10 @@ cif_word cif.AfterEnd = codes "AfterEnd"
 
 abbrev pub cif_line : CifFault → List ℕ
 cif_line fault = codes "sticks: byte " ++ (decimal fault.offset ++ (codes ": " ++ (cif_word fault.kind ++ (10 ∷ []))))
+
+-- a line of a script, counted from 1
+abbrev pub script_line : ℕ → List ℕ
+script_line number = codes "sticks: script line " ++ (decimal number ++ (10 ∷ []))
 
 -- two boxes, by their numbers
 abbrev pub improper_line : ℕ → ℕ → List ℕ

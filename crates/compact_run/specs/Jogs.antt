@@ -1,9 +1,10 @@
 -- What `jog` writes: the design after a script of jogs, each of which is kept where it makes its cell narrower and no cell wider.
-use Rattle.std.specs.Prelude.{◌≡◌, ℕ, suc, ◌<◌, ◌≤◌, ℤ, ◌<ℤ◌, ◌≤ℤ◌, Some, List, [], ◌∷◌, ◌++◌, length, map, slice_get, slice_index, codes, decimal}
+use Rattle.std.specs.Prelude.{◌≡◌, ℕ, suc, ◌<◌, ◌≤◌, ◌==◌, ℤ, ◌<ℤ◌, ◌≤ℤ◌, Some, List, [], ◌∷◌, ◌++◌, length, map, position, codes, decimal}
 use Rattle.std.specs.Fmt.{signed_decimal}
 use Rattle.lam_geom.specs.declared.boxes.Axis.{Axis}
 use Rattle.lam_geom.specs.declared.boxes.Axis.TheVariants.{X}
 use Rattle.lam_io.specs.Io.{Bytes}
+use Rattle.cons_graph.specs.Solutions.{value_of}
 use Rattle.rule_table.specs.declared.technology.Tech.{Tech}
 use Rattle.sym_items.specs.Layouts.{size_in}
 use Rattle.stick_parse.specs.declared.design.Design.{Design}
@@ -17,7 +18,8 @@ use Rattle.pitch_join.specs.Masters.{master_numbers}
 use Rattle.pass_run.specs.declared.step.Step.{Step}
 use Rattle.jog_insert.specs.declared.script.JogLine.{JogLine}
 use Rattle.jog_insert.specs.Jogs.{IsJogged}
-use Rattle.compact_run.specs.Plans.{AreMastersOf, IsPlanned}
+use Rattle.compact_run.specs.declared.jog.Bent.{Bent}
+use Rattle.compact_run.specs.Plans.{AreMastersOf}
 use Rattle.compact_run.specs.Limits.{most_design_bytes}
 use Rattle.compact_run.specs.Designs.{ArePlaced, last_layouts}
 
@@ -39,22 +41,26 @@ pub record IsLaidOutAs (tech : Tech) (axes : List Axis) (design : Design) (numbe
 
 -- no master is wider than it was
 abbrev pub IsNoWider : List ℤ → List ℤ → Type 0
-IsNoWider widths after = (m : ℕ) → m < length after → slice_index after m ≤ℤ slice_index widths m
+IsNoWider widths after = (m : ℕ) → m < length after → value_of after m ≤ℤ value_of widths m
 
--- A jog that is accepted: it applies in the design (whose masters have these numbers and widths), the new design's canonical text is not too long, `compact` lays the new
--- design out, with these numbers and widths, the jog's master is narrower, and none is wider.
+-- The new design of a jog is kept: its canonical text is not too long, `compact` lays it out, with masters of these numbers and widths, the jog's master is
+-- narrower, and none is wider.
+pub record IsKept (tech : Tech) (axes : List Axis) (widths : List ℤ) (m : ℕ) (new : Design) (after_numbers : List ℕ) (after : List ℤ) : Type 0 where
+  pub short : length (canonical new) ≤ most_design_bytes
+  pub laid_out : IsLaidOutAs tech axes new after_numbers after
+  pub narrower : value_of after m <ℤ value_of widths m
+  pub no_wider : IsNoWider widths after
+
+-- A jog that is accepted: its cell is a master, it applies in the design, whose masters have these numbers and widths, and the new design is kept.
 pub record Accepts (tech : Tech) (axes : List Axis) (design : Design) (numbers : List ℕ) (widths : List ℤ) (line : JogLine) (m : ℕ) (new : Design) (after_numbers : List ℕ) (after : List ℤ)
     : Type 0 where
   pub cells : List Known
   pub resolved : resolved_cells tech design ≡ Ok cells
   pub cell : ℕ
   pub named : number_of cells line.cell ≡ Some cell
-  pub master : slice_get numbers m ≡ Some cell
+  pub master : position (λ n. n == cell) numbers ≡ Some m
   pub jogged : IsJogged design (cell_of (known_at cells cell)) numbers cell line.k line.r line.left new
-  pub short : length (canonical new) ≤ most_design_bytes
-  pub laid_out : IsLaidOutAs tech axes new after_numbers after
-  pub narrower : slice_index after m <ℤ slice_index widths m
-  pub no_wider : IsNoWider widths after
+  pub kept : IsKept tech axes widths m new after_numbers after
 
 -- no new design is accepted for it
 abbrev pub IsRejected : Tech → List Axis → Design → List ℕ → List ℤ → JogLine → Type 0
@@ -82,11 +88,19 @@ pub data AreJogs (tech : Tech) (axes : List Axis) : ℕ → Design → List ℕ 
       (last : Design) (at_last : List ℤ) (text : Bytes)
       → Accepts tech axes design numbers widths line m new after_numbers after
       → AreJogs tech axes (suc i) new after_numbers after lines last at_last text
-      → AreJogs tech axes i design numbers widths (line ∷ lines) last at_last (accepted_line i line (slice_index widths m) (slice_index after m) ++ text)
+      → AreJogs tech axes i design numbers widths (line ∷ lines) last at_last (accepted_line i line (value_of widths m) (value_of after m) ++ text)
   rejected : (i : ℕ) (design : Design) (numbers : List ℕ) (widths : List ℤ) (line : JogLine) (lines : List JogLine) (last : Design) (at_last : List ℤ) (text : Bytes)
       → IsRejected tech axes design numbers widths line
       → AreJogs tech axes (suc i) design numbers widths lines last at_last text
       → AreJogs tech axes i design numbers widths (line ∷ lines) last at_last (rejected_line i line ++ text)
+
+-- one jog more: what it reports is put behind the rest, and it begins all jogs that go on with what it leaves
+pub record IsJogStep (tech : Tech) (axes : List Axis) (i : ℕ) (line : JogLine) (old new : Bent) : Type 0 where
+  pub own : Bytes
+  pub told : new.report.items ≡ old.report.items ++ own
+  pub begins : (lines : List JogLine) (last : Design) (at_last : List ℤ) (text : Bytes)
+      → AreJogs tech axes (suc i) new.design new.sizes.numbers.items new.sizes.widths.items lines last at_last text
+      → AreJogs tech axes i old.design old.sizes.numbers.items old.sizes.widths.items (line ∷ lines) last at_last (own ++ text)
 
 -- What `jog` writes over a design and the lines of a script: the canonical text of the last design, and a line for each jog.
 pub record JogsTo (tech : Tech) (axes : List Axis) (design : Design) (lines : List JogLine) (output report : Bytes) : Type 0 where

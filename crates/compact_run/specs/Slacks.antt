@@ -1,5 +1,5 @@
 -- What `slack` writes: how far each part of each master could move at the found sizes, on x and then on y.
-use Rattle.std.specs.Prelude.{◌≡◌, ℕ, ℤ, List, ◌++◌}
+use Rattle.std.specs.Prelude.{◌≡◌, ℕ, ℤ, List, [], ◌++◌, slice_index_or}
 use Rattle.lam_geom.specs.declared.boxes.Axis.{Axis}
 use Rattle.lam_geom.specs.declared.boxes.Axis.TheVariants.{X, Y}
 use Rattle.lam_io.specs.Io.{Bytes}
@@ -14,6 +14,10 @@ use Rattle.pass_run.specs.Slack.{IsLastOn, IsMostAfter, IsTightWhereCritical}
 use Rattle.slack_text.specs.Slack.{axis_slack}
 use Rattle.compact_run.specs.Plans.{AreMastersOf}
 use Rattle.compact_run.specs.Designs.{ArePlaced}
+
+-- the pass with this number, from 0 on, where there is one
+abbrev pub step_at : List Step → ℕ → Step
+step_at steps k = slice_index_or steps k (record { axis = X; x = []; kept = []; edges = 0; backward = 0; rounds = 0; walks = [] })
 
 -- How far the parts of masters could move on an axis, as the last pass on it leaves them: between their least places, and the greatest that any solution of
 -- that pass's system has in which each far border is where it was found. A theorem says that just those cannot move that lie on a critical walk.

@@ -157,6 +157,7 @@ pub fn bench<H: Threads + Sync, G: Gate>(
         &masters,
         &[Axis::X, Axis::Y],
         1,
+        false,
     )?;
     let layouts = passes.coords.as_slice();
     let list = stick_netlist(alloc, &tech, &planned.plan, &masters, layouts)?;

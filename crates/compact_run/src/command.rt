@@ -2,7 +2,7 @@
 
 ghost use Rattle.std.specs.Prelude.{◌≡◌, ℕ, ◌≤◌, length, [], Option, Some, IfOk, IfErr};
 ghost use Rattle.lam_io.specs.Io.{Files, Telling};
-ghost use Rattle.run_words.specs.Words.{bench, command_of, compact, fmt, texts_of};
+ghost use Rattle.run_words.specs.Words.{bench, command_of, compact, fmt, jog, slack, texts_of};
 ghost use Rattle.compact_run.specs.Fetches.{IsRefusal, IsCounted, IsUsage, AsksFor};
 ghost use Rattle.compact_run.specs.Refusals.{ending_of};
 ghost use Rattle.compact_run.specs.Answers.{IsGiven, command_for, text_of};
@@ -13,15 +13,16 @@ ghost use Rattle.stick_print.specs.Canonical.{canonical};
 use crate::bench::bench;
 use crate::cif::{CifJob, output_of_file};
 use crate::compact::compact;
-use crate::output::Output;
-use crate::reading::{read_design, read_technology};
+use crate::jog::{jog, sizes_of};
+use crate::output::{Output, in_one_piece};
+use crate::reading::{read_design, read_script, read_technology};
 use crate::refusal::Refusal;
+use crate::slack::slack;
 use lam_geom::Axis;
 use lam_io::{Gate, Shelf};
 use run_words::{Command, read_words};
 use std::alloc::{AllocError, AllocFailed, Global};
 use std::thread::Threads;
-use stick_lex::Text;
 use stick_parse::Design;
 use stick_print::print;
 
@@ -50,15 +51,54 @@ fn compact_files<H: Threads + Sync, S: Shelf, G: Gate>(
     compact(rt, alloc, gate, &technology, &sticks, axes, pieces)
 }
 
-// A text in one piece, with nothing to tell.
-fn in_one_piece(alloc: Global, text: Vec<u8>) -> Result<Output, AllocError>
-    ensures text { IfOk result (λ output. text_of output ≡ text.items) }
-    ensures no_report { IfOk result (λ output. output.report ≡ []) }
+// What `slack` writes, or why it writes nothing.
+fn slack_files<H: Threads + Sync, S: Shelf, G: Gate>(
+    rt: &H,
+    alloc: Global,
+    gate: &G,
+    shelf: &mut S,
+    design: &str,
+    tech: &str,
+    axes: &[Axis],
+) -> Result<Output, Refusal>
+    requires both { HasBothAxes axes.now }
+    requires few { length axes.now ≤ most_passes }
+    ensures given { (t : Telling) → S.told shelf.old ≡ Some t → IsGiven (Some (slack design.now tech.now axes.now)) t.files result }
+    ensures refusal { IfErr result (λ r. IsRefusal r.status) }
+    ensures counted { IsCounted (S.faults shelf.old) (S.faults shelf.new) (ending_of result) }
+    ensures asked { AsksFor (Some (slack design.now tech.now axes.now)) (ending_of result) (S.told shelf.old) (S.told shelf.new) }
+    ensures counts { S.faults shelf.old ≤ S.faults shelf.new }
 {
-    Ok(Output {
-        pieces: vec![in alloc; text]?,
-        report: Text::new(alloc, b"")?,
-    })
+    let technology = read_technology(alloc, shelf, tech)?;
+    let sticks = read_design(alloc, shelf, design)?;
+    let text = slack(rt, alloc, gate, &technology, &sticks, axes)?;
+    Ok(in_one_piece(alloc, text, b"")?)
+}
+
+// What `jog` writes, or why it writes nothing. The design is laid out before the script is fetched.
+fn jog_files<H: Threads + Sync, S: Shelf, G: Gate>(
+    rt: &H,
+    alloc: Global,
+    gate: &G,
+    shelf: &mut S,
+    design: &str,
+    tech: &str,
+    script: &str,
+    axes: &[Axis],
+) -> Result<Output, Refusal>
+    requires both { HasBothAxes axes.now }
+    requires few { length axes.now ≤ most_passes }
+    ensures given { (t : Telling) → S.told shelf.old ≡ Some t → IsGiven (Some (jog design.now tech.now script.now axes.now)) t.files result }
+    ensures refusal { IfErr result (λ r. IsRefusal r.status) }
+    ensures counted { IsCounted (S.faults shelf.old) (S.faults shelf.new) (ending_of result) }
+    ensures asked { AsksFor (Some (jog design.now tech.now script.now axes.now)) (ending_of result) (S.told shelf.old) (S.told shelf.new) }
+    ensures counts { S.faults shelf.old ≤ S.faults shelf.new }
+{
+    let technology = read_technology(alloc, shelf, tech)?;
+    let sticks = read_design(alloc, shelf, design)?;
+    let sizes = sizes_of(rt, alloc, gate, &technology, &sticks, axes)?;
+    let lines = read_script(alloc, shelf, script)?;
+    Ok(jog(rt, alloc, gate, &technology, axes, sticks, sizes, &lines)?)
 }
 
 // What `extract` or `check` writes, or why it writes nothing.
@@ -77,7 +117,7 @@ fn cif_files<S: Shelf>(
 {
     let rules = read_technology(alloc, shelf, tech)?;
     let text = output_of_file(alloc, shelf, job, cif, &rules)?;
-    Ok(in_one_piece(alloc, text)?)
+    Ok(in_one_piece(alloc, text, b"")?)
 }
 
 // The canonical text of a design, in one piece.
@@ -86,7 +126,7 @@ fn formatted(alloc: Global, design: &Design) -> Result<Output, AllocError>
     ensures no_report { IfOk result (λ output. output.report ≡ []) }
 {
     let text = print(alloc, design)?;
-    in_one_piece(alloc, text)
+    in_one_piece(alloc, text, b"")
 }
 
 // What `fmt` writes, or why it writes nothing.
@@ -116,7 +156,7 @@ fn benched<H: Threads + Sync, G: Gate>(
     ensures asked { (told : Option Telling) → AsksFor (Some (bench n)) (ending_of result) told told }
 {
     let line = bench(rt, alloc, gate, n)?;
-    Ok(in_one_piece(alloc, line)?)
+    Ok(in_one_piece(alloc, line, b"")?)
 }
 
 /// The output that the words ask for, or why there is none. Nothing is written.
@@ -149,6 +189,26 @@ pub fn answer<'a, H: Threads + Sync, S: Shelf, G: Gate>(
             tech,
             passes.as_slice(),
             split,
+        ),
+        Command::Slack {
+            design,
+            tech,
+            passes,
+        } => slack_files(rt, alloc, gate, shelf, design, tech, passes.as_slice()),
+        Command::Jog {
+            design,
+            tech,
+            script,
+            passes,
+        } => jog_files(
+            rt,
+            alloc,
+            gate,
+            shelf,
+            design,
+            tech,
+            script,
+            passes.as_slice(),
         ),
         Command::Check { cif, tech } => cif_files(alloc, shelf, CifJob::Check, cif, tech),
         Command::Extract { cif, tech } => cif_files(alloc, shelf, CifJob::Extract, cif, tech),

@@ -1,7 +1,7 @@
-//! The lines that say what is wrong with a technology, a design or a CIF text.
+//! The lines that say what is wrong with a technology, a design, a script or a CIF text.
 
 ghost use Rattle.std.specs.Prelude.{◌≡◌, ◌++◌, OnOk, IfOk};
-ghost use Rattle.compact_run.specs.FaultLines.{key_of, numbers_words, tech_words, tech_line, kind_word, stick_line, cif_word, cif_line, improper_line, broken_line};
+ghost use Rattle.compact_run.specs.FaultLines.{key_of, numbers_words, tech_words, tech_line, kind_word, stick_line, cif_word, cif_line, improper_line, broken_line, script_line};
 
 use cif_read::{CifFault, CifKind};
 use flat_check::Break;
@@ -149,6 +149,16 @@ pub fn cif_line(alloc: Global, fault: CifFault) -> Result<Text, AllocError>
     push_decimal(&mut out, u64::from(fault.offset))?;
     out.extend_from_slice(b": ")?;
     out.extend_from_slice(cif_word(fault.kind))?;
+    out.push(b'\n')?;
+    Text::new(alloc, &out)
+}
+
+/// The line that says which line of a script is none.
+pub fn script_line(alloc: Global, number: u32) -> Result<Text, AllocError>
+    ensures { IfOk result (λ line. line ≡ script_line number) }
+{
+    let mut out = Vec::from_slice(alloc, b"sticks: script line ")?;
+    push_decimal(&mut out, u64::from(number))?;
     out.push(b'\n')?;
     Text::new(alloc, &out)
 }

@@ -10,12 +10,13 @@ use crate::status::{File, Status};
 use lam_io::{Fetch, Shelf};
 use std::alloc::Global;
 
-// The most bytes of a design, of a technology, and of a CIF text.
-const MOST_DESIGN: u64 = 1_048_576;
+// The most bytes of a design, of a technology, of a CIF text, and of a script.
+pub const MOST_DESIGN: u64 = 1_048_576;
 
 const MOST_TECHNOLOGY: u64 = 65_536;
 
 const MOST_CIF: u64 = 67_108_864;
+const MOST_SCRIPT: u64 = 65_536;
 
 // The most bytes that a file may have.
 fn limit_of(file: File) -> u64
@@ -25,6 +26,7 @@ fn limit_of(file: File) -> u64
         File::Design => MOST_DESIGN,
         File::Technology => MOST_TECHNOLOGY,
         File::Cif => MOST_CIF,
+        File::Script => MOST_SCRIPT,
     }
 }
 

@@ -1,6 +1,6 @@
 //! Masters laid out together: their passes, and that they are within the extent.
 
-ghost use Rattle.std.specs.Prelude.{◌≡◌, ◌<◌, ◌≤◌, ◌^◌, All, List, length, IfOk, IfErr};
+ghost use Rattle.std.specs.Prelude.{◌≡◌, ◌<◌, ◌≤◌, ◌^◌, All, List, length, IfOk, IfErr, IsTrue};
 ghost use Rattle.lam_geom.specs.declared.boxes.Axis.{Axis as SomeAxis};
 ghost use Rattle.plan_model.specs.declared.plan.Plan.{Plan as SomePlan};
 ghost use Rattle.expand.specs.Masters.{IsMaster};
@@ -11,6 +11,8 @@ ghost use Rattle.plan_model.specs.Plan.{grids_of};
 ghost use Rattle.pitch_join.specs.Masters.{ArePlanned};
 ghost use Rattle.grid_rules.specs.Rules.{AreFinished};
 ghost use Rattle.pass_run.specs.Laid.{StartsClean};
+ghost use Rattle.pass_run.specs.Layouts.{starts_of};
+ghost use Rattle.pass_run.specs.Slack.{AreMosts, AreTight};
 ghost use Rattle.mask_out.specs.Pictures.{HaveBoxes, IsDrawable};
 ghost use Rattle.compact_run.specs.Limits.{most_boxes, most_passes};
 ghost use Rattle.compact_run.specs.Refusals.{Refused};
@@ -73,7 +75,8 @@ fn judge_starts(alloc: Global, tech: &Tech, masters: &[Master]) -> Result<(), Re
     Ok(())
 }
 
-/// Lays out the masters of a plan, by passes on these axes, with the work on the masters in as many pieces as `split` says.
+/// Lays out the masters of a plan, by passes on these axes, with the work on the masters in as many pieces as `split` says. With `with_most` the
+/// last pass on each axis tells the greatest values at its far borders.
 pub fn lay_out<H: Threads + Sync, G: Gate>(
     rt: &H,
     alloc: Global,
@@ -83,6 +86,7 @@ pub fn lay_out<H: Threads + Sync, G: Gate>(
     masters: &[Master],
     axes: &[Axis],
     split: u32,
+    with_most: bool,
 ) -> Result<Passes, Refusal>
     requires planned { ArePlanned tech.now plan.now masters.now }
     requires both { HasBothAxes axes.now }
@@ -99,10 +103,12 @@ pub fn lay_out<H: Threads + Sync, G: Gate>(
     ensures boxes { IfOk result (λ passes. HaveBoxes passes.coords masters.now) }
     ensures finished { IfOk result (λ passes. AreFinished tech.now plan.now masters.now passes.coords) }
     ensures drawable { IfOk result (λ passes. IsDrawable (size_in X passes.coords) (size_in Y passes.coords) (widest_of tech.now) (grids_of plan.now)) }
+    ensures mosts { IfOk result (λ passes. IsTrue with_most → AreMosts tech.now plan.now masters.now (starts_of tech.now masters.now) passes.steps passes.mosts) }
+    ensures tight { IfOk result (λ passes. IsTrue with_most → AreTight tech.now plan.now masters.now (starts_of tech.now masters.now) passes.steps passes.mosts) }
     ensures refused { IfErr result (Refused (RefusesMasters tech.now plan.now masters.now axes.now)) }
 {
     judge_starts(alloc, tech, masters)?;
-    let passes = run_passes(rt, alloc, gate, tech, plan, masters, axes, split, false)?;
+    let passes = run_passes(rt, alloc, gate, tech, plan, masters, axes, split, with_most)?;
     let layouts = passes.coords.as_slice();
     grids_are_aligned(tech, plan, masters, layouts);
     all_keep_spacing(tech, plan, masters, layouts);

@@ -13,6 +13,7 @@ mod extent;
 mod fault_lines;
 mod fetch;
 mod grid_lines;
+mod jog;
 mod laws;
 mod layout;
 mod masters;
@@ -20,6 +21,7 @@ mod output;
 mod planning;
 mod reading;
 mod refusal;
+mod slack;
 mod status;
 mod top;
 

@@ -1,5 +1,9 @@
 //! What a command writes.
 
+ghost use Rattle.std.specs.Prelude.{◌≡◌, IfOk};
+ghost use Rattle.compact_run.specs.Answers.{text_of};
+
+use std::alloc::{AllocError, AllocFailed, Global};
 use stick_lex::Text;
 
 /// A text to be put piece by piece, and what is told beside it.
@@ -9,4 +13,15 @@ pub struct Output {
     pub pieces: Vec<Vec<u8>>,
     /// The report, which may be empty.
     pub report: Text,
+}
+
+/// A text in one piece, and what is told beside it.
+pub fn in_one_piece(alloc: Global, text: Vec<u8>, report: &[u8]) -> Result<Output, AllocError>
+    ensures text { IfOk result (λ output. text_of output ≡ text.items) }
+    ensures report { IfOk result (λ output. output.report ≡ report.now) }
+{
+    Ok(Output {
+        pieces: vec![in alloc; text]?,
+        report: Text::new(alloc, report)?,
+    })
 }

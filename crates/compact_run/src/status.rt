@@ -18,12 +18,14 @@ pub enum File {
     Technology,
     /// The CIF text.
     Cif,
+    /// The script.
+    Script,
 }
 
 /// A stream that the program writes.
 #[derive(Clone, Copy, Debug, PartialEq, Eq)]
 pub enum Side2 {
-    /// The masks, a netlist, or the text of a design.
+    /// The masks, a netlist, the text of a design, or what else the command writes.
     Output,
     /// What is told of the passes, or of a refusal.
     Report,
@@ -97,6 +99,11 @@ pub enum Status {
         /// The greater box.
         b: u32,
     },
+    /// The script has a line that is none: the first one.
+    BadScript {
+        /// The line, counted from 1.
+        line: u32,
+    },
 }
 
 impl Status {
@@ -120,6 +127,7 @@ impl Status {
             Status::BadCif(_) => 12,
             Status::RuleBroken(_) => 13,
             Status::NotProper { .. } => 14,
+            Status::BadScript { .. } => 16,
         }
     }
 }
