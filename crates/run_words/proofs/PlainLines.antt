@@ -1,17 +1,21 @@
--- The five commands, read from lines of parts.
-use Rattle.std.proofs.Common.{◌≡◌, ◌∙◌, ◌||◌, Bool, true, false, not, codes, refl, sym, ap, subst, List, [], ◌∷◌, map, Option, Some, None, is_some, unwrap_or, option_map, true≢false}
+-- The commands, read from lines of parts.
+use Rattle.std.proofs.Common.{◌≡◌, ◌∙◌, ◌||◌, Bool, true, false, not, codes, refl, sym, ap, subst, List, [], ◌∷◌, ◌++◌, map, Option, Some, None, is_some, unwrap_or, option_map, true≢false}
 use Rattle.std.specs.Prelude.{flat_map, if◌then◌else◌, option_and_then}
 use Rattle.std.specs.List.{list_any}
 use Rattle.std.specs.Str.{bytes_eq}
 use Rattle.std.proofs.lemmas.Slice.Eq.{bytes_eq-Decides}
 use Rattle.clap.specs.Words.{App, Kinds, Row, Rule, Text}
+use Rattle.clap.specs.Lexer.{long_of}
+use Rattle.clap.specs.Walk.{arg_by_id, arg_by_index, arg_by_long}
 use Rattle.clap.specs.Simple.{Shape, built, filled, with_index}
 use Rattle.clap.specs.Kinds.{check_kinds}
 use Rattle.clap.specs.Takes.{is_given}
 use Rattle.clap.specs.Faults.{check_fault}
-use Rattle.run_words.specs.Lines.{cif_line, compact_line, found_in, operand, operand_line, option, tech, text_of, without_fault}
-use Rattle.run_words.specs.Words.{Command, bench_as, bench_of, compact_as, compact_of, compact_with, fmt, fmt_of, operand_of, passes_of, split_of, tech_of}
-use Rattle.run_words.specs.PlainLines.{Part, are_new, bench_from, compact_from, fmt_from, is_plain_line, value_at, where_new, words_of}
+use Rattle.clap.specs.declared.builder.action.ArgAction.TheVariants.{Set}
+use Rattle.clap.specs.declared.builder.value_parser.ValueParser.TheVariants as vp
+use Rattle.run_words.specs.Lines.{cif_line, compact_line, found_in, jog_line, operand, operand_line, option, passes, script, slack_line, tech, text_of, without_fault}
+use Rattle.run_words.specs.Words.{Command, bench_as, bench_of, compact_as, compact_of, compact_with, fmt, fmt_of, jog_as, jog_of, jog_with, operand_of, passes_of, slack_as, slack_of, slack_with, split_of, tech_of}
+use Rattle.run_words.specs.PlainLines.{Part, are_new, bench_from, compact_from, fmt_from, is_plain_line, jog_from, of_both, slack_from, value_at, where_new, words_of}
 use Rattle.run_words.proofs.Steps.{IsOperand, IsOption}
 use Rattle.run_words.proofs.Refusals.{line_refused}
 use Rattle.run_words.proofs.Parts.{IsLine, first_is, given_is, line_found, row_of_part}
@@ -30,131 +34,128 @@ pick s (n ∷ names) os name e = go (bytes_eq name n) refl (λ rest. pick s name
         subst (λ (x : Text). (a : Rule) × IsOption s x a) (sym is) os.0
     go false other more = more (sym (ap (λ (b : Bool). b || list_any (bytes_eq name) names) other) ∙ e)
 
-operand_in_operand : IsOperand (built operand_line).top (with_index 1 (filled operand))
-operand_in_operand = record {
-  takes = record {
-    id = refl;
-    here = refl;
-    range = refl;
-    action = refl;
-    parser = refl;
-  };
-  first = refl;
+-- ---- the lines
+
+-- the operand, which is the same in each line
+abbrev first_operand : Rule
+first_operand = with_index 1 (filled operand)
+
+operand_in : (s : Shape) → arg_by_id s.rules (codes "operand") ≡ Some first_operand → arg_by_index s.rules 1 ≡ Some first_operand → IsOperand s first_operand
+operand_in s here first = record {
+  takes = record { id = refl; here = here; range = refl; action = refl; parser = refl };
+  first = first;
   single = refl;
 }
+
+-- an option of this name, whatever its line
+record IsNamed (name : Text) (a : Rule) : Type 0 where
+  id : a.id ≡ name
+  range : a.range ≡ Some (record { start_inclusive = 1; end_inclusive = 1 })
+  action : a.action ≡ Some Set
+  parser : a.parser ≡ Some vp.String
+  spelled : long_of (45 ∷ 45 ∷ name) ≡ Some (name, None)
+  valued : (v : Text) → long_of (45 ∷ 45 ∷ (name ++ 61 ∷ v)) ≡ Some (name, Some v)
+  named : bytes_eq (45 ∷ 45 ∷ name) (45 ∷ 45 ∷ []) ≡ false
+  named_valued : (v : Text) → bytes_eq (45 ∷ 45 ∷ (name ++ 61 ∷ v)) (45 ∷ 45 ∷ []) ≡ false
+
+option_in : (s : Shape) (name : Text) (a : Rule) → IsNamed name a → arg_by_id s.rules name ≡ Some a → arg_by_long s.rules name ≡ Some a → (a : Rule) × IsOption s name a
+option_in s name a n here long = (
+  a,
+  record {
+    takes = record { id = n.id; here = here; range = n.range; action = n.action; parser = n.parser };
+    long = long;
+    spelled = n.spelled;
+    valued = n.valued;
+    named = n.named;
+    named_valued = n.named_valued;
+  },
+)
+
+tech_named : IsNamed (codes "tech") (filled tech)
+tech_named = record { id = refl; range = refl; action = refl; parser = refl; spelled = refl; valued = λ v. refl; named = refl; named_valued = λ v. refl }
+
+passes_named : IsNamed (codes "passes") (filled passes)
+passes_named = record { id = refl; range = refl; action = refl; parser = refl; spelled = refl; valued = λ v. refl; named = refl; named_valued = λ v. refl }
+
+script_named : IsNamed (codes "script") (filled script)
+script_named = record { id = refl; range = refl; action = refl; parser = refl; spelled = refl; valued = λ v. refl; named = refl; named_valued = λ v. refl }
+
+split_named : IsNamed (codes "split") (filled (option (codes "split")))
+split_named = record { id = refl; range = refl; action = refl; parser = refl; spelled = refl; valued = λ v. refl; named = refl; named_valued = λ v. refl }
 
 operand_is_line : IsLine operand_line ([])
 operand_is_line = record {
   subs = refl;
   named = refl;
   bare = refl;
-  fits = record { operand = with_index 1 (filled operand); is_operand = operand_in_operand; options = pick (built operand_line).top ([]) tt; others = refl; second = refl; once = refl };
-}
-
-operand_in_cif : IsOperand (built cif_line).top (with_index 1 (filled operand))
-operand_in_cif = record {
-  takes = record {
-    id = refl;
-    here = refl;
-    range = refl;
-    action = refl;
-    parser = refl;
+  fits = record {
+    operand = first_operand;
+    is_operand = operand_in (built operand_line).top refl refl;
+    options = pick (built operand_line).top ([]) tt;
+    others = refl;
+    second = refl;
+    once = refl;
   };
-  first = refl;
-  single = refl;
 }
 
-tech_in_cif : IsOption (built cif_line).top (codes "tech") (filled tech)
-tech_in_cif = record {
-  takes = record {
-    id = refl;
-    here = refl;
-    range = refl;
-    action = refl;
-    parser = refl;
-  };
-  long = refl;
-  spelled = refl;
-  valued = λ v. refl;
-  named = refl;
-  named_valued = λ v. refl;
-}
-
-pub cif_is_line : IsLine cif_line (codes "tech" ∷ [])
+cif_is_line : IsLine cif_line (codes "tech" ∷ [])
 cif_is_line = record {
   subs = refl;
   named = refl;
   bare = refl;
-  fits = record { operand = with_index 1 (filled operand); is_operand = operand_in_cif; options = pick (built cif_line).top (codes "tech" ∷ []) ((filled tech, tech_in_cif), tt); others = refl; second = refl; once = refl };
+  fits = record {
+    operand = first_operand;
+    is_operand = operand_in (built cif_line).top refl refl;
+    options = pick (built cif_line).top (codes "tech" ∷ []) (option_in (built cif_line).top (codes "tech") (filled tech) tech_named refl refl, tt);
+    others = refl;
+    second = refl;
+    once = refl;
+  };
 }
 
-operand_in_compact : IsOperand (built compact_line).top (with_index 1 (filled operand))
-operand_in_compact = record {
-  takes = record {
-    id = refl;
-    here = refl;
-    range = refl;
-    action = refl;
-    parser = refl;
-  };
-  first = refl;
-  single = refl;
-}
-
-tech_in_compact : IsOption (built compact_line).top (codes "tech") (filled tech)
-tech_in_compact = record {
-  takes = record {
-    id = refl;
-    here = refl;
-    range = refl;
-    action = refl;
-    parser = refl;
-  };
-  long = refl;
-  spelled = refl;
-  valued = λ v. refl;
+slack_is_line : IsLine slack_line (codes "tech" ∷ codes "passes" ∷ [])
+slack_is_line = record {
+  subs = refl;
   named = refl;
-  named_valued = λ v. refl;
-}
-
-passes_in_compact : IsOption (built compact_line).top (codes "passes") (filled (option (codes "passes")))
-passes_in_compact = record {
-  takes = record {
-    id = refl;
-    here = refl;
-    range = refl;
-    action = refl;
-    parser = refl;
+  bare = refl;
+  fits = record {
+    operand = first_operand;
+    is_operand = operand_in (built slack_line).top refl refl;
+    options = pick (built slack_line).top (codes "tech" ∷ codes "passes" ∷ []) (option_in (built slack_line).top (codes "tech") (filled tech) tech_named refl refl, (option_in (built slack_line).top (codes "passes") (filled passes) passes_named refl refl, tt));
+    others = refl;
+    second = refl;
+    once = refl;
   };
-  long = refl;
-  spelled = refl;
-  valued = λ v. refl;
-  named = refl;
-  named_valued = λ v. refl;
 }
 
-split_in_compact : IsOption (built compact_line).top (codes "split") (filled (option (codes "split")))
-split_in_compact = record {
-  takes = record {
-    id = refl;
-    here = refl;
-    range = refl;
-    action = refl;
-    parser = refl;
-  };
-  long = refl;
-  spelled = refl;
-  valued = λ v. refl;
-  named = refl;
-  named_valued = λ v. refl;
-}
-
-pub compact_is_line : IsLine compact_line (codes "tech" ∷ codes "passes" ∷ codes "split" ∷ [])
+compact_is_line : IsLine compact_line (codes "tech" ∷ codes "passes" ∷ codes "split" ∷ [])
 compact_is_line = record {
   subs = refl;
   named = refl;
   bare = refl;
-  fits = record { operand = with_index 1 (filled operand); is_operand = operand_in_compact; options = pick (built compact_line).top (codes "tech" ∷ codes "passes" ∷ codes "split" ∷ []) ((filled tech, tech_in_compact), ((filled (option (codes "passes")), passes_in_compact), ((filled (option (codes "split")), split_in_compact), tt))); others = refl; second = refl; once = refl };
+  fits = record {
+    operand = first_operand;
+    is_operand = operand_in (built compact_line).top refl refl;
+    options = pick (built compact_line).top (codes "tech" ∷ codes "passes" ∷ codes "split" ∷ []) (option_in (built compact_line).top (codes "tech") (filled tech) tech_named refl refl, (option_in (built compact_line).top (codes "passes") (filled passes) passes_named refl refl, (option_in (built compact_line).top (codes "split") (filled (option (codes "split"))) split_named refl refl, tt)));
+    others = refl;
+    second = refl;
+    once = refl;
+  };
+}
+
+jog_is_line : IsLine jog_line (codes "tech" ∷ codes "passes" ∷ codes "script" ∷ [])
+jog_is_line = record {
+  subs = refl;
+  named = refl;
+  bare = refl;
+  fits = record {
+    operand = first_operand;
+    is_operand = operand_in (built jog_line).top refl refl;
+    options = pick (built jog_line).top (codes "tech" ∷ codes "passes" ∷ codes "script" ∷ []) (option_in (built jog_line).top (codes "tech") (filled tech) tech_named refl refl, (option_in (built jog_line).top (codes "passes") (filled passes) passes_named refl refl, (option_in (built jog_line).top (codes "script") (filled script) script_named refl refl, tt)));
+    others = refl;
+    second = refl;
+    once = refl;
+  };
 }
 
 -- ---- what is made of the rows of a line
@@ -185,25 +186,26 @@ by_operand made from none some word parts plain new =
     go None e = none
     go (Some text) e = some (rows_in parts) ∙ ap (λ (t : Text). from (Some t)) (text_is (codes "operand") parts text e)
 
--- a line that wants its operand and its technology
-module _ (app : App) (names : List Text) (line : IsLine app names)
+-- a line that wants its operand, its technology, and where `lacks` says so more
+module _ (app : App) (names : List Text) (line : IsLine app names) (lacks : List Row → Bool)
     (wants : (rows : List Row) → check_fault (built app).top rows false
-    ≡ check_kinds false false (not (is_given (codes "operand") rows) || (not (is_given (codes "tech") rows) || false))) where
+    ≡ check_kinds false false (not (is_given (codes "operand") rows) || (not (is_given (codes "tech") rows) || lacks rows))) where
   pub by_both : (made : Option (List Row) → Option Command) (from : Option Text → Option Text → List Row → Option Command)
       → ((t : Option Text) (rows : List Row) → made None ≡ from None t rows) → ((text : Text) (rows : List Row) → made None ≡ from (Some text) None rows)
-      → ((rows : List Row) → made (Some rows) ≡ from (Some (operand_of rows)) (Some (tech_of rows)) rows) → (word : Text) (parts : List Part) → is_plain_line names parts ≡ true
-      → are_new [] parts ≡ true → made (found_in app (word ∷ flat_map words_of parts)) ≡ from (operand_at parts) (tech_at parts) (rows_in parts)
-  by_both made from no_operand no_tech some word parts plain new =
+      → (word : Text) (parts : List Part)
+      → made (without_fault (check_kinds false false (lacks (rows_in parts))) (rows_in parts)) ≡ from (Some (operand_of (rows_in parts))) (Some (tech_of (rows_in parts))) (rows_in parts)
+      → is_plain_line names parts ≡ true → are_new [] parts ≡ true → made (found_in app (word ∷ flat_map words_of parts)) ≡ from (operand_at parts) (tech_at parts) (rows_in parts)
+  by_both made from no_operand no_tech word parts some plain new =
       ap made (line_found app names line word parts plain new) ∙ ap (λ (k : Kinds). made (without_fault k (rows_in parts))) (wants (rows_in parts))
-      ∙ (λ i. made (without_fault (check_kinds false false (not (given_is (codes "operand") parts i) || (not (given_is (codes "tech") parts i) || false))) (rows_in parts)))
+      ∙ (λ i. made (without_fault (check_kinds false false (not (given_is (codes "operand") parts i) || (not (given_is (codes "tech") parts i) || lacks (rows_in parts)))) (rows_in parts)))
       ∙ go (operand_at parts) refl (tech_at parts) refl
     where
       go : (o : Option Text) → operand_at parts ≡ o → (t : Option Text) → tech_at parts ≡ t
-          → made (without_fault (check_kinds false false (not (is_some o) || (not (is_some t) || false))) (rows_in parts)) ≡ from o t (rows_in parts)
+          → made (without_fault (check_kinds false false (not (is_some o) || (not (is_some t) || lacks (rows_in parts)))) (rows_in parts)) ≡ from o t (rows_in parts)
       go None e t f = no_operand t (rows_in parts)
       go (Some text) e None f = no_tech text (rows_in parts)
       go (Some text) e (Some file) f =
-          some (rows_in parts) ∙ (λ i. from (Some (text_is (codes "operand") parts text e i)) (Some (text_is (codes "tech") parts file f i)) (rows_in parts))
+          some ∙ (λ i. from (Some (text_is (codes "operand") parts text e i)) (Some (text_is (codes "tech") parts file f i)) (rows_in parts))
 
 -- a line in which a name stands twice has no command
 once : (app : App) (names : List Text) → IsLine app names → (made : Option (List Row) → Option Command) (x : Option Command) → made None ≡ None → (word : Text) (parts : List Part)
@@ -221,20 +223,51 @@ pub compact_is_read : (word : Text) (parts : List Part) → is_plain_line (codes
     → compact_of (word ∷ flat_map words_of parts) ≡ where_new parts (compact_from parts)
 compact_is_read word parts plain =
     once compact_line (codes "tech" ∷ codes "passes" ∷ codes "split" ∷ []) compact_is_line (option_and_then compact_with) (compact_from parts) refl word parts plain (λ new.
-    by_both compact_line (codes "tech" ∷ codes "passes" ∷ codes "split" ∷ []) compact_is_line (λ rows. refl) (option_and_then compact_with)
-    (λ o t rows. option_and_then (λ design. option_and_then (λ file. compact_as design file (passes_of rows) (split_of rows)) t) o) (λ t rows. refl) (λ text rows. refl) (λ rows. refl) word parts plain new
+    by_both compact_line (codes "tech" ∷ codes "passes" ∷ codes "split" ∷ []) compact_is_line (λ rows. false) (λ rows. refl) (option_and_then compact_with)
+    (λ o t rows. option_and_then (λ design. option_and_then (λ file. compact_as design file (passes_of rows) (split_of rows)) t) o) (λ t rows. refl) (λ text rows. refl) word parts refl plain new
     ∙ (λ i. option_and_then (λ design. option_and_then (λ file. compact_as design file
     (unwrap_or (first_is (codes "passes") parts i) (codes "xy")) (unwrap_or (first_is (codes "split") parts i) (codes "1"))) (tech_at parts)) (operand_at parts)))
+
+pub slack_is_read : (word : Text) (parts : List Part) → is_plain_line (codes "tech" ∷ codes "passes" ∷ []) parts ≡ true
+    → slack_of (word ∷ flat_map words_of parts) ≡ where_new parts (slack_from parts)
+slack_is_read word parts plain =
+    once slack_line (codes "tech" ∷ codes "passes" ∷ []) slack_is_line (option_and_then slack_with) (slack_from parts) refl word parts plain (λ new.
+    by_both slack_line (codes "tech" ∷ codes "passes" ∷ []) slack_is_line (λ rows. false) (λ rows. refl) (option_and_then slack_with)
+    (λ o t rows. option_and_then (λ design. option_and_then (λ file. slack_as design file (passes_of rows)) t) o) (λ t rows. refl) (λ text rows. refl) word parts refl plain new
+    ∙ (λ i. option_and_then (λ design. option_and_then (λ file. slack_as design file (unwrap_or (first_is (codes "passes") parts i) (codes "xy"))) (tech_at parts)) (operand_at parts)))
+
+-- what is made of the rows of a line that has its operand and its technology, and maybe a script
+with_script : (parts : List Part)
+    → option_and_then jog_with (without_fault (check_kinds false false (not (is_given (codes "script") (rows_in parts)) || false)) (rows_in parts))
+    ≡ option_and_then (λ script. jog_as (operand_of (rows_in parts)) (tech_of (rows_in parts)) script (passes_of (rows_in parts))) (value_at (codes "script") parts)
+with_script parts =
+    ap (λ (b : Bool). option_and_then jog_with (without_fault (check_kinds false false (not b || false)) (rows_in parts))) (given_is (codes "script") parts)
+    ∙ go (value_at (codes "script") parts) refl
+  where
+    go : (o : Option Text) → value_at (codes "script") parts ≡ o → option_and_then jog_with (without_fault (check_kinds false false (not (is_some o) || false)) (rows_in parts))
+        ≡ option_and_then (λ script. jog_as (operand_of (rows_in parts)) (tech_of (rows_in parts)) script (passes_of (rows_in parts))) o
+    go None e = refl
+    go (Some text) e = ap (λ (script : Text). jog_as (operand_of (rows_in parts)) (tech_of (rows_in parts)) script (passes_of (rows_in parts))) (text_is (codes "script") parts text e)
+
+pub jog_is_read : (word : Text) (parts : List Part) → is_plain_line (codes "tech" ∷ codes "passes" ∷ codes "script" ∷ []) parts ≡ true
+    → jog_of (word ∷ flat_map words_of parts) ≡ where_new parts (jog_from parts)
+jog_is_read word parts plain =
+    once jog_line (codes "tech" ∷ codes "passes" ∷ codes "script" ∷ []) jog_is_line (option_and_then jog_with) (jog_from parts) refl word parts plain (λ new.
+    by_both jog_line (codes "tech" ∷ codes "passes" ∷ codes "script" ∷ []) jog_is_line (λ rows. not (is_given (codes "script") rows) || false) (λ rows. refl) (option_and_then jog_with)
+    (λ o t rows. option_and_then (λ design. option_and_then (λ file. option_and_then (λ script. jog_as design file script (passes_of rows)) (value_at (codes "script") parts)) t) o)
+    (λ t rows. refl) (λ text rows. refl) word parts (with_script parts) plain new
+    ∙ (λ i. option_and_then (λ design. option_and_then (λ file. option_and_then (λ script. jog_as design file script (unwrap_or (first_is (codes "passes") parts i) (codes "xy")))
+    (value_at (codes "script") parts)) (tech_at parts)) (operand_at parts)))
 
 -- a command of a CIF text and a technology
 pub cif_is_read : (command : Text → Text → Command) (word : Text) (parts : List Part) → is_plain_line (codes "tech" ∷ []) parts ≡ true
     → option_map (λ rows. command (operand_of rows) (tech_of rows)) (found_in cif_line (word ∷ flat_map words_of parts))
-    ≡ where_new parts (option_and_then (λ cif. option_map (command cif) (tech_at parts)) (operand_at parts))
+    ≡ where_new parts (of_both (λ cif tech. Some (command cif tech)) parts)
 cif_is_read command word parts plain =
     let made = option_map (λ (rows : List Row). command (operand_of rows) (tech_of rows)) in
     once cif_line (codes "tech" ∷ []) cif_is_line made _ refl word parts plain (λ new.
-    by_both cif_line (codes "tech" ∷ []) cif_is_line (λ rows. refl) made
-    (λ o t rows. option_and_then (λ cif. option_map (command cif) t) o) (λ t rows. refl) (λ text rows. refl) (λ rows. refl) word parts plain new)
+    by_both cif_line (codes "tech" ∷ []) cif_is_line (λ rows. false) (λ rows. refl) made
+    (λ o t rows. option_and_then (λ cif. option_and_then (λ file. Some (command cif file)) t) o) (λ t rows. refl) (λ text rows. refl) word parts refl plain new)
 
 pub fmt_is_read : (word : Text) (parts : List Part) → is_plain_line [] parts ≡ true → fmt_of (word ∷ flat_map words_of parts) ≡ where_new parts (fmt_from parts)
 fmt_is_read word parts plain =

@@ -19,6 +19,27 @@ fn meaning(alloc: Global, line: &str) -> Result<String, AllocError> {
             let axes = passes.as_slice();
             format!(in alloc; "compact {design} {tech} {axes:?} {split}")
         }
+        Ok(
+            Command::Slack {
+                design,
+                tech,
+                passes,
+            },
+        ) => {
+            let axes = passes.as_slice();
+            format!(in alloc; "slack {design} {tech} {axes:?}")
+        }
+        Ok(
+            Command::Jog {
+                design,
+                tech,
+                script,
+                passes,
+            },
+        ) => {
+            let axes = passes.as_slice();
+            format!(in alloc; "jog {design} {tech} {script} {axes:?}")
+        }
         Ok(Command::Check { cif, tech }) => format!(in alloc; "check {cif} {tech}"),
         Ok(Command::Extract { cif, tech }) => format!(in alloc; "extract {cif} {tech}"),
         Ok(Command::Fmt { design }) => format!(in alloc; "fmt {design}"),
@@ -36,6 +57,13 @@ fn words_mean_commands(rt: HostRuntime) -> Result<(), Fail> {
         (
             "compact --split 64 d --passes=yyx --tech t",
             "compact d t [Y, Y, X] 64",
+        ),
+        ("slack d --tech t", "slack d t [X, Y]"),
+        ("slack d --tech=t --passes yx", "slack d t [Y, X]"),
+        ("jog d --tech t --script s", "jog d t s [X, Y]"),
+        (
+            "jog --script=s d --tech t --passes xyx",
+            "jog d t s [X, Y, X]",
         ),
         ("check c --tech t", "check c t"),
         ("extract --tech t c", "extract c t"),
@@ -71,6 +99,13 @@ fn other_words_are_refused(rt: HostRuntime) -> Result<(), Fail> {
         "compact d --tech -t",
         "compact -- -d --tech t",
         "compact -d --tech t",
+        "slack d",
+        "slack d --tech t --split 2",
+        "slack d --tech t --passes x",
+        "jog d --tech t",
+        "jog d --script s",
+        "jog d --tech t --script s --script s",
+        "jog d --tech t --script s --split 1",
         "check c",
         "check c --tech t --passes xy",
         "fmt d --tech t",
