@@ -5,9 +5,11 @@ mod buried;
 mod cases;
 mod cif_texts;
 mod grids;
+mod jogs;
 mod layouts;
 mod made;
 mod pictures;
+mod slacks;
 
 use benches::{BENCHES, LARGEST, LARGEST_BEGINS};
 use buried::BURIED;
@@ -15,14 +17,16 @@ use cases::{EXTENTS, FAILURES, REFUSALS, REPORTS, TECHNOLOGIES, TEXTS, WORDS};
 use cif_texts::{NETLISTS, VERDICTS};
 use compact_run::run;
 use grids::{GRID_EXTENTS, GRID_FAULTS, GRID_WRITES, GRIDS};
+use jogs::JOGS;
 use lam_io::{FailPlan, Fetch, MemShelf, MemSink, OpenGate, Shelf};
 use layouts::{CYCLES, FALLS, LAYERS, LIMITS, ORDERS, USES};
+use slacks::SLACKS;
 use std::alloc::{AllocError, Global};
 use std::process::Abort;
 use std::test::Fail;
 use std::thread::Threads;
 
-// Words, parted by blanks, and what they answer. The shelf has the technology as `t` and the design, or the CIF text, as `d`. Fetches,
+// Words, parted by blanks, and what they answer. The shelf has the technology as `t`, the design, or the CIF text, as `d`, and the script as `s`. Fetches,
 // and puts into the output and the report, fail where their numbers are named. The status is as it is told for debugging, and each
 // name that was asked for has a blank behind it.
 #[derive(Clone, Copy)]
@@ -30,6 +34,7 @@ struct Case {
     words: &'static str,
     tech: &'static str,
     text: &'static str,
+    script: &'static str,
     fetch_faults: &'static [u32],
     output_faults: &'static [u32],
     report_faults: &'static [u32],
@@ -75,6 +80,7 @@ fn shelf_of(alloc: Global, case: &Case) -> Result<MemShelf, AllocError> {
     let mut shelf = MemShelf::new(alloc, FailPlan::new(alloc, case.fetch_faults)?);
     shelf.add("t", case.tech.as_bytes())?;
     shelf.add("d", case.text.as_bytes())?;
+    shelf.add("s", case.script.as_bytes())?;
     Ok(shelf)
 }
 
@@ -194,6 +200,16 @@ fn extract_writes_the_nets_and_transistors(rt: HostRuntime) -> Result<(), Fail> 
 #[test]
 fn check_tells_the_first_broken_rule(rt: HostRuntime) -> Result<(), Fail> {
     assert_answers(&rt, rt.alloc(), &VERDICTS)
+}
+
+#[test]
+fn slack_tells_how_far_each_part_could_move(rt: HostRuntime) -> Result<(), Fail> {
+    assert_answers(&rt, rt.alloc(), &SLACKS)
+}
+
+#[test]
+fn jog_keeps_the_jogs_that_make_a_cell_narrower(rt: HostRuntime) -> Result<(), Fail> {
+    assert_answers(&rt, rt.alloc(), &JOGS)
 }
 
 #[test]

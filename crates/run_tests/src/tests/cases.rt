@@ -18,6 +18,7 @@ pub const COMPACT: Case = Case {
     words: "compact d --tech t",
     tech: SHIPPED,
     text: "",
+    script: "",
     fetch_faults: &[],
     output_faults: &[],
     report_faults: &[],
