@@ -45,10 +45,21 @@ fn answer_to<H: Threads + Sync>(
     text: &[u8],
     faults: Faults,
 ) -> Result<Answer, AllocError> {
-    let words: Vec<&str> = words.split(' ').collect(alloc)?;
     let mut shelf = MemShelf::new(alloc, FailPlan::new(alloc, faults.fetches)?);
     shelf.add("t", tech)?;
     shelf.add("d", text)?;
+    answer_over(rt, alloc, words, shelf, faults)
+}
+
+// What these words, parted by blanks, answer over a shelf.
+fn answer_over<H: Threads + Sync>(
+    rt: &H,
+    alloc: Global,
+    words: &str,
+    mut shelf: MemShelf,
+    faults: Faults,
+) -> Result<Answer, AllocError> {
+    let words: Vec<&str> = words.split(' ').collect(alloc)?;
     let mut output = MemSink::new(alloc, 1_000_000, FailPlan::new(alloc, faults.output)?)?;
     let mut report = MemSink::new(alloc, 1_000_000, FailPlan::new(alloc, faults.report)?)?;
     let status = run(
@@ -114,6 +125,25 @@ fn assert_made<A: Abort + Threads + Sync>(
 #[test]
 fn a_limit_of_a_long_text_holds_and_one_more_is_refused(rt: HostRuntime) -> Result<(), Fail> {
     assert_made(&rt, rt.alloc(), &MADE)
+}
+
+// What a script of so many bytes answers, all of them a comment.
+fn scripted<H: Threads + Sync>(rt: &H, alloc: Global, bytes: usize) -> Result<Answer, AllocError> {
+    let script = vec![in alloc; b'#'; bytes]?;
+    let mut shelf = MemShelf::new(alloc, FailPlan::none(alloc));
+    shelf.add("t", SHIPPED.as_bytes())?;
+    shelf.add("d", TWO_ROWS.as_bytes())?;
+    shelf.add("s", &script)?;
+    answer_over(rt, alloc, "jog d --tech t --script s", shelf, NONE)
+}
+
+#[test]
+fn a_script_has_its_limit(rt: HostRuntime) -> Result<(), Fail> {
+    let longest = scripted(&rt, rt.alloc(), 65_536)?;
+    assert_answer(&rt, &longest, 0, "");
+    let longer = scripted(&rt, rt.alloc(), 65_537)?;
+    assert_answer(&rt, &longer, 5, "sticks: too long: script\n");
+    Ok(())
 }
 
 // Each front of a text has this code, but for the whole of it, with or without the last line end.

@@ -90,7 +90,7 @@ pub const JOGS: [Case; 12] = [
         text: "sticks 1\ncell e\nend\ngrid\nrow e\nend\n",
         output_faults: &[0],
         status: "WriteFault(Output)",
-        output: "sticks 1\ncell e\nend\n",
+        output: "sticks 1\ncell e\ne",
         report: "sticks: cannot write output\n",
         ..JOG
     },
