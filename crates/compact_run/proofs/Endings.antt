@@ -1,19 +1,18 @@
 -- What stands once an answer has been delivered.
-use Rattle.std.proofs.Common.{◌≡◌, ℕ, List, [], Option, Some, None, ◌⊎◌, inl, inr, refl, sym, ap, subst}
+use Rattle.std.proofs.Common.{◌≡◌, ℕ, List, [], Option, Some, None, ◌⊎◌, inl, inr, refl, sym, ap, ◌∙◌, subst}
 use Rattle.std.proofs.lemmas.List.{append-nil}
 use Rattle.lam_io.specs.Io.{Bytes, Files, Telling, Appends, AppendsPrefix, Rose}
-use Rattle.compact_run.specs.declared.status.File.TheVariants.{Design}
 use Rattle.compact_run.specs.declared.status.File.{File}
 use Rattle.compact_run.specs.declared.status.Side2.{Side2}
 use Rattle.compact_run.specs.declared.status.Side2.TheVariants as side
 use Rattle.compact_run.specs.declared.status.Side2.TheVariants.{Output, Report}
 use Rattle.compact_run.specs.declared.status.Status.{Status}
 use Rattle.compact_run.specs.declared.status.Status.TheVariants as status
-use Rattle.run_words.specs.Words.{Command, compact, check, extract, fmt, bench, command_of}
+use Rattle.run_words.specs.Words.{Command, compact, slack, jog, check, extract, fmt, bench, command_of}
 use Rattle.compact_run.specs.declared.cif.CifJob.TheVariants.{Extract, Check}
 use Rattle.compact_run.specs.Refusal.{line_of}
-use Rattle.compact_run.specs.Fetches.{IsRefusal, IsCounted, AsksFor, AsksThrough, file_of}
-use Rattle.compact_run.specs.Answers.{IsAnswer, compacted, told, formatted, benched, refused, output_failed, report_failed, WordsWrite, RefusesWords, IsFree, NothingRefuses, Writes, Reports, Tells, IsUntouched, write_fault_line}
+use Rattle.compact_run.specs.Fetches.{IsRefusal, IsCounted, AsksFor, AsksThrough, ends_over}
+use Rattle.compact_run.specs.Answers.{IsAnswer, compacted, measured, jogged, told, formatted, benched, refused, output_failed, report_failed, WordsWrite, RefusesWords, IsFree, NothingRefuses, Writes, Reports, Tells, IsUntouched, write_fault_line}
 
 -- an answer, and what it left of the output and the report
 abbrev pub Answered : List Bytes → Files → Status → Option Bytes → Option Bytes → Option Bytes → Option Bytes → ℕ → ℕ → Type 0
@@ -35,6 +34,8 @@ done_by : (words : List Bytes) (files : Files) (ended : Status) (output report :
     → WordsWrite c files output report → IsAnswer words files ended output report
 done_by words files ended output report None is e writes = absurd writes
 done_by words files ended output report (Some (compact design tech axes split)) is e writes = compacted design tech axes split is e writes
+done_by words files ended output report (Some (slack design tech axes)) is e writes = measured design tech axes is e writes.0 writes.1
+done_by words files ended output report (Some (jog design tech script axes)) is e writes = jogged design tech script axes is e writes
 done_by words files ended output report (Some (check cif tech)) is e writes = told Check cif tech is e writes.0 writes.1
 done_by words files ended output report (Some (extract cif tech)) is e writes = told Extract cif tech is e writes.0 writes.1
 done_by words files ended output report (Some (fmt design)) is e writes = formatted design is e writes.0 writes.1
@@ -90,10 +91,19 @@ pub refuses_no_stream : (ended : Status) (stream : Side2) → IsRefusal ended �
 refuses_no_stream ended stream is e = let P : Status → Type 0 = λ s. IsRefusal s in subst P e is
 
 -- a command that has written has asked for all its files
-through_design : (ended : Status) → (ended ≡ status.Done) ⊎ ((ended ≡ status.WriteFault Output) ⊎ (ended ≡ status.WriteFault Report)) → file_of ended ≡ Some Design
-through_design ended (inl e) = ap file_of e
-through_design ended (inr (inl e)) = ap file_of e
-through_design ended (inr (inr e)) = ap file_of e
+over_all : (c : Command) (stream : Side2) → ends_over c (status.WriteFault stream) ≡ ends_over c status.Done
+over_all (compact design tech axes split) stream = refl
+over_all (slack design tech axes) stream = refl
+over_all (jog design tech script axes) stream = refl
+over_all (check cif tech) stream = refl
+over_all (extract cif tech) stream = refl
+over_all (fmt design) stream = refl
+over_all (bench n) stream = refl
+
+through_all : (c : Command) (ended : Status) → (ended ≡ status.Done) ⊎ ((ended ≡ status.WriteFault Output) ⊎ (ended ≡ status.WriteFault Report)) → ends_over c ended ≡ ends_over c status.Done
+through_all c ended (inl e) = ap (ends_over c) e
+through_all c ended (inr (inl e)) = ap (ends_over c) e ∙ over_all c Output
+through_all c ended (inr (inr e)) = ap (ends_over c) e ∙ over_all c Report
 
 done_has_memory : status.Done ≡ status.OutOfMemory → ⊥
 done_has_memory e = cc
@@ -102,7 +112,7 @@ pub asks_for_all : (c : Option Command) (ended : Status) (old new : Option Telli
     → AsksFor c status.Done old new → AsksFor c ended old new
 asks_for_all None ended old new how asks = asks
 asks_for_all (Some c) ended old new how (inl through) =
-    let P : Option File → Type 0 = λ file. AsksThrough file c old new in inl (subst P (sym (through_design ended how)) through)
+    let P : Option File → Type 0 = λ file. AsksThrough file c old new in inl (subst P (sym (through_all c ended how)) through)
 asks_for_all (Some c) ended old new how (inr p) = absurd (done_has_memory p.0)
 
 -- ---- where nothing refuses the words

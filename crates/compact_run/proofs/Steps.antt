@@ -6,15 +6,16 @@ use Rattle.rule_table.specs.declared.technology.Tech.{Tech}
 use Rattle.stick_parse.specs.declared.design.Design.{Design as Sticks}
 use Rattle.compact_run.specs.declared.output.Output.{Output}
 use Rattle.compact_run.specs.declared.refusal.Refusal.{Refusal}
+use Rattle.compact_run.specs.declared.status.File.{File}
 use Rattle.compact_run.specs.declared.status.File.TheVariants.{Cif}
 use Rattle.compact_run.specs.declared.status.Status.{Status}
 use Rattle.compact_run.specs.declared.status.Status.TheVariants as status
-use Rattle.run_words.specs.Words.{Command, compact, check, extract, fmt, bench}
+use Rattle.run_words.specs.Words.{Command, compact, slack, jog, check, extract, fmt, bench}
 use Rattle.run_words.specs.declared.commands.WordsFault.{WordsFault}
 use Rattle.run_words.specs.declared.commands.WordsFault.TheVariants as words
 use Rattle.compact_run.specs.declared.cif.CifJob.{CifJob}
 use Rattle.compact_run.specs.declared.cif.CifJob.TheVariants.{Extract, Check}
-use Rattle.compact_run.specs.Fetches.{AsksOnce, AsksFor, IsRead}
+use Rattle.compact_run.specs.Fetches.{AsksOnce, AsksFor, AsksThrough, IsRead, ends_over}
 use Rattle.compact_run.specs.Refusals.{Refused, ending_by}
 use Rattle.compact_run.specs.Answers as answers
 use Rattle.compact_run.specs.Answers.{IsTechnology, IsDesign, IsOutputOf, IsGiven, RefusesFile, RefusesText, RefusesTechnology, RefusesWords, command_for, text_of}
@@ -65,6 +66,8 @@ job_told Check cif tech files technology text o is_technology is_output written 
 out_of_memory : (c : Option Command) (files : Files) (own : Bytes) → RefusesWords c files status.OutOfMemory own
 out_of_memory None files own = tt
 out_of_memory (Some (compact design tech axes split)) files own = answers.no_technology tt
+out_of_memory (Some (slack design tech axes)) files own = answers.no_technology tt
+out_of_memory (Some (jog design tech script axes)) files own = answers.no_layout (answers.no_technology tt)
 out_of_memory (Some (check cif tech)) files own = answers.no_rules tt
 out_of_memory (Some (extract cif tech)) files own = answers.no_rules tt
 out_of_memory (Some (fmt design)) files own = tt
@@ -78,11 +81,20 @@ words_refused c files words.OutOfMemory own none = out_of_memory c files own
 usage_is_not : status.Usage ≡ status.OutOfMemory → ⊥
 usage_is_not e = cc
 
+usage_over_none : (c : Command) → ends_over c status.Usage ≡ None
+usage_over_none (compact design tech axes split) = refl
+usage_over_none (slack design tech axes) = refl
+usage_over_none (jog design tech script axes) = refl
+usage_over_none (check cif tech) = refl
+usage_over_none (extract cif tech) = refl
+usage_over_none (fmt design) = refl
+usage_over_none (bench n) = refl
+
 -- a command is not refused as no command
 pub not_usage : (c : Command) (ended : Status) (old new : Option Telling) → AsksFor (Some c) ended old new → ended ≡ status.Usage → ⊥
 not_usage c ended old new asks e = go (let P : Status → Type 0 = λ z. AsksFor (Some c) z old new in subst P e asks) where
   go : AsksFor (Some c) status.Usage old new → ⊥
-  go (inl through) = through
+  go (inl through) = let P : Option File → Type 0 = λ file. AsksThrough file c old new in subst P (usage_over_none c) through
   go (inr p) = usage_is_not p.0
 
 pub is_command : (c : Option Command) (x : Command) → c ≡ Some x → c ≡ None → ⊥
