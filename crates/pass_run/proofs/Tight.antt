@@ -1,7 +1,6 @@
 -- The greatest values over the list of a pass are those over its system, and the variables that cannot move are those on its critical walks.
 use Rattle.std.proofs.Common.{◌≡◌, ℕ, ◌<◌, ◌≤◌, ℤ, Some, List, ◌++◌, reverse, refl, sym, ap, ◌∙◌, subst, arith, append-nil}
 use Rattle.std.specs.List.{All, Any, Contains}
-use Rattle.std.proofs.lemmas.Option.{Some-injective}
 use Rattle.std.proofs.lemmas.List.Elements.{All-contains, All-map, All-weaker, Contains-get_or}
 use Rattle.lam_geom.specs.declared.boxes.Axis.{Axis}
 use Rattle.rule_table.specs.declared.technology.Tech.{Tech}
@@ -20,6 +19,7 @@ use Rattle.crit_path.proofs.Walks.{IsCriticalWalk, back_at_origin}
 use Rattle.liao_wong.specs.declared.solving.Solved.{Solved}
 use Rattle.slack_pack.specs.Most.{HasWalk, IsAttained, IsMost, AreLeastAndMost}
 use Rattle.sym_items.specs.declared.items.Coords.{Coords}
+use Rattle.pair_rules.proofs.BoundItems.{same_some}
 use Rattle.expand.specs.declared.master.Master.{Master}
 use Rattle.expand.specs.Laws.{IsLawful}
 use Rattle.plan_model.specs.declared.plan.Plan.{Plan}
@@ -59,7 +59,7 @@ reached g log x v shape ended lt is =
       walk = edges_of g.edges (reverse back);
       of_these = All-map (Contains g.edges) (edge_at g.edges) (reverse back) (λ k d among. Contains-get_or g.edges _ _ (w.passes.in_range k d among));
       leads = w.passes.follows;
-      as_long = Some-injective (sym w.as_long ∙ is);
+      as_long = same_some _ _ (sym w.as_long ∙ is);
     }
 
 -- ---- the greatest values
