@@ -20,6 +20,7 @@ use Rattle.pass_run.specs.declared.step.Step.{Step}
 use Rattle.pass_run.specs.declared.step.Walk.{Walk}
 use Rattle.pitch_join.specs.Joined.{joint_variables, system_over, list_over}
 use Rattle.pass_run.specs.Layouts.{joint_values, moved_by}
+use Rattle.pass_run.specs.Slack.{HasOneMost}
 use Rattle.pass_run.specs.Passes.{kept_counts, far_walks, IsLeastPass, IsRecorded, ArePasses, axes_of}
 
 -- least values are one list
@@ -72,3 +73,12 @@ passes_determined tech plan masters before (s ∷ a) (t ∷ b) pa pb same =
     let step : s ≡ t = one_pass tech plan masters before s t (sym first) pa.0 pb.0 pa.1 pb.1 in
     let P : Step → Type 0 = λ z. ArePasses tech plan masters (moved_by masters before z) a in
     ap (λ (z : Step). z ∷ a) step ∙ ap (λ (zs : List Step). t ∷ zs) (passes_determined tech plan masters (moved_by masters before t) a b (subst P step pa.2) pb.2 later)
+
+-- ---- the greatest values
+
+pub one_most : (tech : Tech) (plan : Plan) (masters : List Master) (before : List Coords) → HasOneMost tech plan masters before
+one_most tech plan masters before step a b one other = ext_get_or (pos 0) a b (one.one_each ∙ sym other.one_each) (λ v lt.
+    let few = one.one_each in
+    let below = other.most.above (value_of a) one.most.is_held v (omega arith) in
+    let above = one.most.above (value_of b) other.most.is_held v (omega arith) in
+    omega (arith, ints, below, above))

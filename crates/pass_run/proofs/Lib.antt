@@ -16,3 +16,6 @@ pub mod Chain
 pub mod Determined
 pub mod OneRefusal
 mod FoundPairs
+pub mod Reach
+pub mod Tight
+pub mod Told

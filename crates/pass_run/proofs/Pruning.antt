@@ -86,7 +86,7 @@ listed_among axis tech plan masters layouts =
 -- ---- the list implies each inequality of the system
 
 -- what holds of each inequality that holds whatever the layouts holds of the structure of each master
-structure_part : (P : Edge → Type 0) (axis : Axis) (tech : Tech) (plan : Plan) (masters : List Master) (m : ℕ) → All P (fixed_of axis tech plan masters) → m < length masters
+pub structure_part : (P : Edge → Type 0) (axis : Axis) (tech : Tech) (plan : Plan) (masters : List Master) (m : ℕ) → All P (fixed_of axis tech plan masters) → m < length masters
     → All P (structure_at axis tech masters m)
 unfolding fixed_of
 structure_part P axis tech plan masters m h lt =

@@ -10,7 +10,7 @@ use Rattle.round_log.specs.Implied.{IsImpliedBy}
 use Rattle.pitch_join.specs.Joined.{joined, shifted}
 use Rattle.pitch_join.proofs.Lists.{of_images}
 
-walk_shifted : (base a : ℕ) (walk : List Edge) (b : ℕ) → IsWalk a walk b → IsWalk (joined base a) (map (shifted base) walk) (joined base b)
+pub walk_shifted : (base a : ℕ) (walk : List Edge) (b : ℕ) → IsWalk a walk b → IsWalk (joined base a) (map (shifted base) walk) (joined base b)
 walk_shifted base a [] b leads = ap (joined base) leads
 walk_shifted base a (e ∷ es) b leads = (ap (joined base) leads.0, walk_shifted base e.to es b leads.1)
 

@@ -1,6 +1,6 @@
 //! The passes of a plan, one after another.
 
-ghost use Rattle.std.specs.Prelude.{◌≡◌, ◌↔◌, ◌<◌, ◌≤◌, ◌∷◌, ◌++◌, [], false, List, length, All, Contains, IfOk, IfErr, IsTrue};
+ghost use Rattle.std.specs.Prelude.{◌≡◌, ◌↔◌, ◌<◌, ◌≤◌, ◌∷◌, ◌++◌, [], ⊥, false, List, length, All, Contains, IfOk, IfErr, IsTrue};
 ghost use Rattle.lam_geom.specs.declared.boxes.Axis.{Axis as SomeAxis};
 ghost use Rattle.pitch_join.specs.Layouts.{LayoutsMeet};
 ghost use Rattle.pitch_join.specs.Masters.{ArePlanned};
@@ -149,14 +149,15 @@ fn cycle_report(alloc: Global, before: &[u8], text: &[u8]) -> Result<Text, Alloc
     Text::new(alloc, &report)
 }
 
-// Whether passes on these axes have one on this axis.
-fn comes_again(axis: Axis, coming: &[Axis]) -> bool
-    ensures { IsTrue result ↔ Contains coming.now axis }
+// Whether none of the passes that come is on this axis.
+fn is_last(axis: Axis, coming: &[Axis]) -> bool
+    ensures { IsTrue result ↔ (Contains coming.now axis → ⊥) }
 {
-    coming.contains(&axis)
+    !coming.contains(&axis)
 }
 
-// Makes one more pass, on this axis. Passes on some axes come after it.
+// Makes one more pass, on this axis, before those that come. With `with_most` it tells its greatest values if it is the last on
+// its axis.
 fn go_on<H: Threads + Sync, G: Gate>(
     rt: &H,
     alloc: Global,
@@ -180,7 +181,7 @@ fn go_on<H: Threads + Sync, G: Gate>(
     ensures refused { IfErr result (λ fault. (later : List SomeAxis) → RefusesPasses tech.now plan.now masters.now (axes_of so_far.steps.items ++ axis ∷ later) fault) }
     ensures told { IfOk result (HasTold tech.now plan.now masters.now with_most coming.now) }
 {
-    let last = with_most && !comes_again(axis, coming);
+    let last = is_last(axis, coming);
     let pass = so_far.steps.len() as u32 + 1;
     match one_pass(
         rt,
@@ -193,7 +194,7 @@ fn go_on<H: Threads + Sync, G: Gate>(
         axis,
         &so_far.layouts,
         split,
-        last,
+        with_most && last,
     ) {
         Ok(made) => Ok(with_pass(so_far, made, with_most)?),
         Err(Stop::TooManyEdges) => Err(PassFault::TooManyEdges { pass }),

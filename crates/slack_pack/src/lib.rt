@@ -4,6 +4,7 @@
 #![tactic(auto)]
 
 mod laws;
+mod lowering;
 mod moving;
 
 pub use laws::slack_is_none_on_critical_walks;
