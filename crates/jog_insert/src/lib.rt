@@ -4,3 +4,7 @@
 //! (`specs/Jogs.antt`); `jogs_keep_nets` is the law that a jog leaves the nets of the cell as they were; `read_jogs` reads a script of
 //! jogs. Columns and rows are coarse coordinates; widths are in u, the grid unit.
 #![tactic(auto)]
+
+mod script;
+
+pub use script::{JogLine, ScriptFault};
