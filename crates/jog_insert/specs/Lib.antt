@@ -2,3 +2,5 @@ pub mod Bends
 pub mod Jogs
 pub mod Nets
 pub mod Scripts
+pub mod Counts
+pub mod Building

@@ -5,6 +5,13 @@
 //! jogs. Columns and rows are coarse coordinates; widths are in u, the grid unit.
 #![tactic(auto)]
 
+mod bending;
+mod copying;
+mod forms;
+mod inserting;
+mod reading;
 mod script;
 
+pub use inserting::insert;
+pub use reading::read_jogs;
 pub use script::{JogLine, ScriptFault};
