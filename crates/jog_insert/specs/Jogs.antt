@@ -1,11 +1,12 @@
 -- Jogs: a wire of a cell that runs up is bent to the left or to the right, by two joints and a wire between them in a row of their own.
-use Rattle.std.specs.Prelude.{◌≡◌, ◌≢◌, ℕ, zero, suc, ◌+◌, ◌<◌, ◌≤◌, ◌⊎◌, pos, true, false, All, Contains, List, [], ◌∷◌, ◌++◌, length, map, slice_index_or, slice_set, Option, Some, None, codes, decimal}
+use Rattle.std.specs.Prelude.{◌≡◌, ◌≢◌, ℕ, ◌+◌, ◌<◌, ◌≤◌, pos, Bool, true, false, All, Contains, List, [], ◌∷◌, ◌++◌, length, map, count_by, slice_index_or, slice_set, Some, codes, decimal}
 use Rattle.stick_parse.specs.declared.design.Layer.{Layer}
 use Rattle.stick_parse.specs.declared.design.Form.{Form}
 use Rattle.stick_parse.specs.declared.design.Form.TheVariants.{Joint, Contact, Buried, Fet, Port, Inst, Wire, Limit}
 use Rattle.stick_parse.specs.declared.design.Line.{Line}
 use Rattle.stick_parse.specs.declared.design.CellText.{CellText}
 use Rattle.stick_parse.specs.declared.design.Design.{Design}
+use Rattle.stick_print.specs.ReadBack.{laid_out}
 use Rattle.cell_model.specs.declared.cell.Axis2.TheVariants.{Up}
 use Rattle.cell_model.specs.declared.cell.Cell.{Cell}
 use Rattle.cell_model.specs.declared.cell.Wire.{Wire as CellWire}
@@ -13,7 +14,6 @@ use Rattle.cell_model.specs.declared.cell.WireEnd.{WireEnd}
 use Rattle.cell_model.specs.declared.cell.WireEnd.TheVariants as ends
 use Rattle.cell_model.specs.Sound.{node_at, wire_at, line_at}
 use Rattle.jog_insert.specs.Bends.{Bend, part_col, moved_form}
-use Rattle.jog_insert.specs.Numbering.{numbered}
 
 -- ---- names
 
@@ -64,22 +64,24 @@ bent_forms bend n layer low high width =
     ∷ Wire layer (upper_name n) high (Some width)
     ∷ []
 
--- a line of the new cell; the numbers come later
+-- a line of the new cell, which gets its number with all others
 abbrev pub unnumbered : Form → Line
 unnumbered form = record { number = 0; form = form }
 
 abbrev pub moved_line : Bend → Line → Line
 moved_line bend line = unnumbered (moved_form bend line.form)
 
--- wire number k is put in place of by the five lines, which are made of its layer
-abbrev pub with_bent : (Layer → List Form) → Bend → ℕ → List Line → List Line
-with_bent five bend k [] = []
-with_bent five bend k (line ∷ lines) = bent_line five bend k line.form lines
+abbrev pub is_wire : Form → Bool
+is_wire (Wire layer a b width) = true
+is_wire form = false
 
-abbrev pub bent_line : (Layer → List Form) → Bend → ℕ → Form → List Line → List Line
-bent_line five bend zero (Wire layer a b width) lines = map unnumbered (five layer) ++ map (moved_line bend) lines
-bent_line five bend (suc k) (Wire layer a b width) lines = unnumbered (Wire layer a b width) ∷ with_bent five bend k lines
-bent_line five bend k form lines = unnumbered (moved_form bend form) ∷ with_bent five bend k lines
+-- the form is that of a wire of this layer
+abbrev pub IsWireOf : Layer → Form → Type 0
+IsWireOf own (Wire layer a b width) = layer ≡ own
+IsWireOf own form = ⊥
+
+abbrev pub wires_in : List Line → ℕ
+wires_in lines = count_by (λ line. is_wire line.form) lines
 
 -- ---- where a jog applies
 
@@ -92,8 +94,11 @@ abbrev pub Uses : List ℕ → Form → Type 0
 Uses used (Inst name cell col row) = cell ≡ used
 Uses used form = ⊥
 
+abbrev pub no_cell : CellText
+no_cell = record { name = []; line = 0; end_line = 0; lines = [] }
+
 abbrev pub cell_text_at : Design → ℕ → CellText
-cell_text_at design k = slice_index_or design.cells k (record { name = []; line = 0; end_line = 0; lines = [] })
+cell_text_at design k = slice_index_or design.cells k no_cell
 
 -- the end is a node, or a port, from which a wire comes from beyond every row; it is at most in this row, or at least
 abbrev pub IsFromBelow : Cell → ℕ → WireEnd → Type 0
@@ -135,20 +140,31 @@ pub record IsBendable (cell : Cell) (k row : ℕ) : Type 0 where
   pub above : row < (node_at cell.nodes high).row
   pub alone : (j : ℕ) → j < length cell.wires → j ≢ k → Crosses cell (node_at cell.nodes low).col row (wire_at cell.wires j) → ⊥
 
--- The new cell of a jog in the text of a cell, which is what the inlined cell stands for: its lines.
+-- the bend of a wire whose low end is this node
+abbrev pub bend_at : Cell → ℕ → ℕ → Bool → Bend
+bend_at cell low row left = record { col = (node_at cell.nodes low).col; row = row; left = left }
+
+-- The lines of the new cell, after a jog in wire number k of the cell of this text: the five lines stand where the wire's line stood, and the others go where the bend
+-- has them go.
 pub record IsBent (text : CellText) (cell : Cell) (k row : ℕ) (left : Bool) (lines : List Line) : Type 0 where
   pub bendable : IsBendable cell k row
   pub number : ℕ
   pub is_number : IsJogNumber text.lines number
   pub width : ℕ
   pub is_width : (wire_at cell.wires k).width ≡ pos width
-  pub bent : lines ≡ with_bent
-      (λ layer. bent_forms (record { col = (node_at cell.nodes bendable.low).col; row = row; left = left }) number layer
-        (node_at cell.nodes bendable.low).name (node_at cell.nodes bendable.high).name width)
-      (record { col = (node_at cell.nodes bendable.low).col; row = row; left = left }) k text.lines
+  pub front : List Line
+  pub wire : Line
+  pub back : List Line
+  pub split : text.lines ≡ front ++ wire ∷ back
+  pub count : wires_in front ≡ k
+  pub layer : Layer
+  pub of_wire : IsWireOf layer wire.form
+  pub bent : lines ≡ map (moved_line (bend_at cell bendable.low row left)) front
+      ++ (map unnumbered (bent_forms (bend_at cell bendable.low row left) number layer (node_at cell.nodes bendable.low).name (node_at cell.nodes bendable.high).name width)
+      ++ map (moved_line (bend_at cell bendable.low row left)) back)
 
 -- A jog in a design: the cell is one of the masters, has no uses and is used by no cell, its wire can be bent, and nothing of the new cell lies too far out. The
--- new design has the new cell in the place of the old one, and the numbers of lines of its canonical text.
+-- new design has the new cell in the place of the old one, and its lines have the numbers that they have in its canonical text.
 pub record IsJogged (design : Design) (content : Cell) (masters : List ℕ) (cell k row : ℕ) (left : Bool) (new : Design) : Type 0 where
   pub master : Contains masters cell
   pub whole : All (λ line. IsCopy line.form → ⊥) (cell_text_at design cell).lines
@@ -156,4 +172,4 @@ pub record IsJogged (design : Design) (content : Cell) (masters : List ℕ) (cel
   pub lines : List Line
   pub bent : IsBent (cell_text_at design cell) content k row left lines
   pub near : All (λ line. IsNearForm line.form) lines
-  pub made : new ≡ numbered (record design { cells = slice_set design.cells cell (record (cell_text_at design cell) { lines = lines }) })
+  pub made : new ≡ laid_out (record design { cells = slice_set design.cells cell (record (cell_text_at design cell) { lines = lines }) })

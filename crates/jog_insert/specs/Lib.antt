@@ -1,5 +1,6 @@
 pub mod Bends
-pub mod Numbering
 pub mod Jogs
 pub mod Nets
 pub mod Scripts
+pub mod Counts
+pub mod Building

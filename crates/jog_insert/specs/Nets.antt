@@ -11,21 +11,22 @@ use Rattle.cell_model.specs.Nets.{parts_of, node_parts, first_part, attachments_
 abbrev pub AreOneNet : Cell → ℕ → ℕ → Type 0
 AreOneNet cell p q = Reaches (Attached (attachments_of cell)) p q
 
+-- how many nodes stand from a line on before the line of wire number k, given how many stand behind it
+abbrev pub nodes_from : Form → ℕ → (ℕ → ℕ) → ℕ
+nodes_from (Joint name layer col row width) k behind = suc (behind k)
+nodes_from (Contact name lower col row) k behind = suc (behind k)
+nodes_from (Buried name col row) k behind = suc (behind k)
+nodes_from (Fet name depletion vertical col row w l) k behind = suc (behind k)
+nodes_from (Port name side layer place) k behind = behind k
+nodes_from (Inst name cell col row) k behind = behind k
+nodes_from (Wire layer a b width) zero behind = 0
+nodes_from (Wire layer a b width) (suc k) behind = behind k
+nodes_from (Limit vertical a b at_most n) k behind = behind k
+
 -- how many nodes stand before the line of wire number k
 abbrev pub nodes_before : ℕ → List Line → ℕ
 nodes_before k [] = 0
-nodes_before k (line ∷ lines) = nodes_from k line.form lines
-
-abbrev pub nodes_from : ℕ → Form → List Line → ℕ
-nodes_from zero (Wire layer a b width) lines = 0
-nodes_from (suc k) (Wire layer a b width) lines = nodes_before k lines
-nodes_from k (Joint name layer col row width) lines = suc (nodes_before k lines)
-nodes_from k (Contact name lower col row) lines = suc (nodes_before k lines)
-nodes_from k (Buried name col row) lines = suc (nodes_before k lines)
-nodes_from k (Fet name depletion vertical col row w l) lines = suc (nodes_before k lines)
-nodes_from k (Port name side layer place) lines = nodes_before k lines
-nodes_from k (Inst name cell col row) lines = nodes_before k lines
-nodes_from k (Limit vertical a b at_most n) lines = nodes_before k lines
+nodes_before k (line ∷ lines) = nodes_from line.form k (λ j. nodes_before j lines)
 
 -- The number that a part has after a jog of wire number k: the two joints come behind so many nodes, and the wire becomes three, of which the first keeps its place.
 abbrev pub moved_part : Cell → ℕ → ℕ → ℕ → ℕ

@@ -4,3 +4,14 @@
 //! (`specs/Jogs.antt`); `jogs_keep_nets` is the law that a jog leaves the nets of the cell as they were; `read_jogs` reads a script of
 //! jogs. Columns and rows are coarse coordinates; widths are in u, the grid unit.
 #![tactic(auto)]
+
+mod bending;
+mod copying;
+mod forms;
+mod inserting;
+mod reading;
+mod script;
+
+pub use inserting::insert;
+pub use reading::read_jogs;
+pub use script::{JogLine, ScriptFault};

@@ -1,0 +1,146 @@
+//! A design copied line by line, with the numbers that its lines have in its canonical text.
+ghost use Rattle.std.specs.Prelude.{◌≡◌, ◌+◌, ◌^◌, ◌<◌, ◌++◌, length, slice_set, sum_by, IfOk, OnOk, [], ◌∷◌};
+ghost use Rattle.stick_print.specs.ReadBack.{lines_from, cells_from, behind_cells, grids_from, laid_out};
+ghost use Rattle.jog_insert.specs.Counts.{lines_of_cell, lines_of_grid, lines_in};
+
+use crate::forms::copy_form;
+use lam_list::Seq;
+use std::alloc::{AllocError, Global};
+use stick_lex::Text;
+use stick_parse::{CellText, Design, GridText, Line, RowText};
+
+// The lines of a cell, of which the first gets this number.
+fn copy_lines(alloc: Global, first: u32, lines: &[Line]) -> Result<Seq<Line>, AllocError>
+    requires { first + length lines.now < 2 ^ 32 }
+    ensures { IfOk result (λ copy. copy ≡ lines_from first lines.now) }
+{
+    let mut copies = Vec::new(alloc);
+    let mut number = first;
+    for line in lines {
+        let form = copy_form(alloc, &line.form)?;
+        copies.push(Line { number, form })?;
+        number += 1;
+    }
+    Ok(Seq::from_vec(copies))
+}
+
+fn copy_cell(alloc: Global, number: u32, cell: &CellText) -> Result<CellText, AllocError>
+    requires { number + lines_of_cell cell.now < 2 ^ 32 }
+    ensures { IfOk result (λ copy. copy ∷ [] ≡ cells_from number (cell.now ∷ [])) }
+{
+    let name = Text::new(alloc, cell.name.bytes())?;
+    let lines = copy_lines(alloc, number + 1, cell.lines.as_slice())?;
+    Ok(CellText {
+        name,
+        line: number,
+        end_line: number + 1 + cell.lines.as_slice().len() as u32,
+        lines,
+    })
+}
+
+// Appends cells, of which the first gets this number, and tells the number of the line behind them.
+fn push_cells(
+    alloc: Global,
+    first: u32,
+    cells: &[CellText],
+    copies: &mut Vec<CellText>,
+) -> Result<u32, AllocError>
+    requires { first + sum_by lines_of_cell cells.now < 2 ^ 32 }
+    ensures cells { OnOk result (copies.new.items ≡ copies.old.items ++ cells_from first cells.now) }
+    ensures behind { IfOk result (λ number. number ≡ behind_cells first cells.now) }
+    ensures lines { IfOk result (λ number. number ≡ first + sum_by lines_of_cell cells.now) }
+{
+    let mut number = first;
+    for cell in cells {
+        let copy = copy_cell(alloc, number, cell)?;
+        copies.push(copy)?;
+        number += cell.lines.as_slice().len() as u32 + 2;
+    }
+    Ok(number)
+}
+
+fn copy_row(alloc: Global, row: &RowText) -> Result<RowText, AllocError>
+    ensures { IfOk result (λ copy. copy ≡ row.now) }
+{
+    let mut names = Vec::new(alloc);
+    for name in row.names.as_slice() {
+        names.push(Text::new(alloc, name.bytes())?)?;
+    }
+    Ok(RowText {
+        names: Seq::from_vec(names),
+    })
+}
+
+fn copy_rows(alloc: Global, rows: &[RowText]) -> Result<Seq<RowText>, AllocError>
+    ensures { IfOk result (λ copy. copy ≡ rows.now) }
+{
+    let mut copies = Vec::new(alloc);
+    for row in rows {
+        copies.push(copy_row(alloc, row)?)?;
+    }
+    Ok(Seq::from_vec(copies))
+}
+
+fn copy_name(alloc: Global, name: &Option<Text>) -> Result<Option<Text>, AllocError>
+    ensures { IfOk result (λ copy. copy ≡ name.now) }
+{
+    match name {
+        None => Ok(None),
+        Some(name) => {
+            let copy = Text::new(alloc, name.bytes())?;
+            Ok(Some(copy))
+        }
+    }
+}
+
+fn copy_grid(alloc: Global, number: u32, grid: &GridText) -> Result<GridText, AllocError>
+    ensures { IfOk result (λ copy. copy ∷ [] ≡ grids_from number (grid.now ∷ [])) }
+{
+    let name = copy_name(alloc, &grid.name)?;
+    let rows = copy_rows(alloc, grid.rows.as_slice())?;
+    Ok(GridText {
+        name,
+        line: number,
+        rows,
+    })
+}
+
+// Grids, of which the first gets this number.
+fn copy_grids(alloc: Global, first: u32, grids: &[GridText]) -> Result<Seq<GridText>, AllocError>
+    requires { first + sum_by lines_of_grid grids.now < 2 ^ 32 }
+    ensures { IfOk result (λ copy. copy ≡ grids_from first grids.now) }
+{
+    let mut copies = Vec::new(alloc);
+    let mut number = first;
+    for grid in grids {
+        copies.push(copy_grid(alloc, number, grid)?)?;
+        number += grid.rows.as_slice().len() as u32 + 2;
+    }
+    Ok(Seq::from_vec(copies))
+}
+
+/// The design with another cell in the place of one, its lines numbered as in its canonical text. The only refusal is want
+/// of memory.
+pub fn with_cell(
+    alloc: Global,
+    design: &Design,
+    number: usize,
+    cell: &CellText,
+) -> Result<Design, AllocError>
+    requires within { number < length design.now.cells }
+    requires few { lines_in design.now + lines_of_cell cell.now < 2 ^ 32 }
+    ensures { IfOk result (λ new. new ≡ laid_out (record design.now { cells = slice_set design.now.cells number cell.now })) }
+{
+    let cells = design.cells.as_slice();
+    let mut copies = Vec::new(alloc);
+    let first = push_cells(alloc, 2, &cells[..number], &mut copies)?;
+    copies.push(copy_cell(alloc, first, cell)?)?;
+    let first = first + cell.lines.as_slice().len() as u32 + 2;
+    let first = push_cells(alloc, first, &cells[number + 1..], &mut copies)?;
+    let grids = copy_grids(alloc, first, design.grids.as_slice())?;
+    Ok(Design {
+        version: design.version,
+        cells: Seq::from_vec(copies),
+        grids,
+    })
+}
