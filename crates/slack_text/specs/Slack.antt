@@ -21,10 +21,14 @@ axis_line axis pass = codes "axis " ++ (letter axis ++ (codes " pass " ++ (decim
 abbrev pub size_line : List ℕ → ℤ → List ℕ
 size_line name size = codes "cell " ++ (name ++ (codes " size " ++ (signed_decimal size ++ codes "\n")))
 
--- `NAME least L most G slack D`: the slack is how far the part could move
+-- ` least L most G slack D`: the slack is how far the part could move
+abbrev pub places_text : ℤ → ℤ → List ℕ
+places_text least most =
+    codes " least " ++ (signed_decimal least ++ (codes " most " ++ (signed_decimal most ++ (codes " slack " ++ (signed_decimal (most -ℤ least) ++ codes "\n")))))
+
+-- `NAME least L most G slack D`
 abbrev pub slack_line : List ℕ → ℤ → ℤ → List ℕ
-slack_line name least most =
-    name ++ (codes " least " ++ (signed_decimal least ++ (codes " most " ++ (signed_decimal most ++ (codes " slack " ++ (signed_decimal (most -ℤ least) ++ codes "\n"))))))
+slack_line name least most = name ++ places_text least most
 
 -- the lines of variables with these names, which follow one another from this number on
 abbrev pub slack_lines : List (List ℕ) → ℕ → List ℤ → List ℤ → List ℕ
