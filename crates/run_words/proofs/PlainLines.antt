@@ -13,7 +13,7 @@ use Rattle.clap.specs.Takes.{is_given}
 use Rattle.clap.specs.Faults.{check_fault}
 use Rattle.clap.specs.declared.builder.action.ArgAction.TheVariants.{Set}
 use Rattle.clap.specs.declared.builder.value_parser.ValueParser.TheVariants as vp
-use Rattle.run_words.specs.Lines.{cif_line, compact_line, found_in, jog_line, operand, operand_line, option, passes, script, slack_line, tech, text_of, without_fault}
+use Rattle.run_words.specs.Lines.{cif_line, compact_line, found_in, jog_line, operand, operand_line, passes, script, slack_line, split, tech, text_of, without_fault}
 use Rattle.run_words.specs.Words.{Command, bench_as, bench_of, compact_as, compact_of, compact_with, fmt, fmt_of, jog_as, jog_of, jog_with, operand_of, passes_of, slack_as, slack_of, slack_with, split_of, tech_of}
 use Rattle.run_words.specs.PlainLines.{Part, are_new, bench_from, compact_from, fmt_from, is_plain_line, jog_from, of_both, slack_from, value_at, where_new, words_of}
 use Rattle.run_words.proofs.Steps.{IsOperand, IsOption}
@@ -35,6 +35,19 @@ pick s (n ∷ names) os name e = go (bytes_eq name n) refl (λ rest. pick s name
     go false other more = more (sym (ap (λ (b : Bool). b || list_any (bytes_eq name) names) other) ∙ e)
 
 -- ---- the lines
+
+-- the options of the lines that have some
+abbrev cif_options : List Text
+cif_options = codes "tech" ∷ []
+
+abbrev slack_options : List Text
+slack_options = codes "tech" ∷ codes "passes" ∷ []
+
+abbrev compact_options : List Text
+compact_options = codes "tech" ∷ codes "passes" ∷ codes "split" ∷ []
+
+abbrev jog_options : List Text
+jog_options = codes "tech" ∷ codes "passes" ∷ codes "script" ∷ []
 
 -- the operand, which is the same in each line
 abbrev first_operand : Rule
@@ -58,8 +71,8 @@ record IsNamed (name : Text) (a : Rule) : Type 0 where
   named : bytes_eq (45 ∷ 45 ∷ name) (45 ∷ 45 ∷ []) ≡ false
   named_valued : (v : Text) → bytes_eq (45 ∷ 45 ∷ (name ++ 61 ∷ v)) (45 ∷ 45 ∷ []) ≡ false
 
-option_in : (s : Shape) (name : Text) (a : Rule) → IsNamed name a → arg_by_id s.rules name ≡ Some a → arg_by_long s.rules name ≡ Some a → (a : Rule) × IsOption s name a
-option_in s name a n here long = (
+option_in : {s : Shape} {name : Text} {a : Rule} → IsNamed name a → arg_by_id s.rules name ≡ Some a → arg_by_long s.rules name ≡ Some a → (a : Rule) × IsOption s name a
+option_in {s} {name} {a} n here long = (
   a,
   record {
     takes = record { id = n.id; here = here; range = n.range; action = n.action; parser = n.parser };
@@ -80,10 +93,10 @@ passes_named = record { id = refl; range = refl; action = refl; parser = refl; s
 script_named : IsNamed (codes "script") (filled script)
 script_named = record { id = refl; range = refl; action = refl; parser = refl; spelled = refl; valued = λ v. refl; named = refl; named_valued = λ v. refl }
 
-split_named : IsNamed (codes "split") (filled (option (codes "split")))
+split_named : IsNamed (codes "split") (filled split)
 split_named = record { id = refl; range = refl; action = refl; parser = refl; spelled = refl; valued = λ v. refl; named = refl; named_valued = λ v. refl }
 
-operand_is_line : IsLine operand_line ([])
+operand_is_line : IsLine operand_line []
 operand_is_line = record {
   subs = refl;
   named = refl;
@@ -91,14 +104,14 @@ operand_is_line = record {
   fits = record {
     operand = first_operand;
     is_operand = operand_in (built operand_line).top refl refl;
-    options = pick (built operand_line).top ([]) tt;
+    options = pick (built operand_line).top [] tt;
     others = refl;
     second = refl;
     once = refl;
   };
 }
 
-cif_is_line : IsLine cif_line (codes "tech" ∷ [])
+cif_is_line : IsLine cif_line cif_options
 cif_is_line = record {
   subs = refl;
   named = refl;
@@ -106,14 +119,14 @@ cif_is_line = record {
   fits = record {
     operand = first_operand;
     is_operand = operand_in (built cif_line).top refl refl;
-    options = pick (built cif_line).top (codes "tech" ∷ []) (option_in (built cif_line).top (codes "tech") (filled tech) tech_named refl refl, tt);
+    options = pick (built cif_line).top cif_options (option_in tech_named refl refl, tt);
     others = refl;
     second = refl;
     once = refl;
   };
 }
 
-slack_is_line : IsLine slack_line (codes "tech" ∷ codes "passes" ∷ [])
+slack_is_line : IsLine slack_line slack_options
 slack_is_line = record {
   subs = refl;
   named = refl;
@@ -121,14 +134,14 @@ slack_is_line = record {
   fits = record {
     operand = first_operand;
     is_operand = operand_in (built slack_line).top refl refl;
-    options = pick (built slack_line).top (codes "tech" ∷ codes "passes" ∷ []) (option_in (built slack_line).top (codes "tech") (filled tech) tech_named refl refl, (option_in (built slack_line).top (codes "passes") (filled passes) passes_named refl refl, tt));
+    options = pick (built slack_line).top slack_options (option_in tech_named refl refl, (option_in passes_named refl refl, tt));
     others = refl;
     second = refl;
     once = refl;
   };
 }
 
-compact_is_line : IsLine compact_line (codes "tech" ∷ codes "passes" ∷ codes "split" ∷ [])
+compact_is_line : IsLine compact_line compact_options
 compact_is_line = record {
   subs = refl;
   named = refl;
@@ -136,14 +149,14 @@ compact_is_line = record {
   fits = record {
     operand = first_operand;
     is_operand = operand_in (built compact_line).top refl refl;
-    options = pick (built compact_line).top (codes "tech" ∷ codes "passes" ∷ codes "split" ∷ []) (option_in (built compact_line).top (codes "tech") (filled tech) tech_named refl refl, (option_in (built compact_line).top (codes "passes") (filled passes) passes_named refl refl, (option_in (built compact_line).top (codes "split") (filled (option (codes "split"))) split_named refl refl, tt)));
+    options = pick (built compact_line).top compact_options (option_in tech_named refl refl, (option_in passes_named refl refl, (option_in split_named refl refl, tt)));
     others = refl;
     second = refl;
     once = refl;
   };
 }
 
-jog_is_line : IsLine jog_line (codes "tech" ∷ codes "passes" ∷ codes "script" ∷ [])
+jog_is_line : IsLine jog_line jog_options
 jog_is_line = record {
   subs = refl;
   named = refl;
@@ -151,7 +164,7 @@ jog_is_line = record {
   fits = record {
     operand = first_operand;
     is_operand = operand_in (built jog_line).top refl refl;
-    options = pick (built jog_line).top (codes "tech" ∷ codes "passes" ∷ codes "script" ∷ []) (option_in (built jog_line).top (codes "tech") (filled tech) tech_named refl refl, (option_in (built jog_line).top (codes "passes") (filled passes) passes_named refl refl, (option_in (built jog_line).top (codes "script") (filled script) script_named refl refl, tt)));
+    options = pick (built jog_line).top jog_options (option_in tech_named refl refl, (option_in passes_named refl refl, (option_in script_named refl refl, tt)));
     others = refl;
     second = refl;
     once = refl;
@@ -219,20 +232,20 @@ once app names line made x none word parts plain read = go (are_new [] parts) re
 
 -- ---- the commands
 
-pub compact_is_read : (word : Text) (parts : List Part) → is_plain_line (codes "tech" ∷ codes "passes" ∷ codes "split" ∷ []) parts ≡ true
+pub compact_is_read : (word : Text) (parts : List Part) → is_plain_line compact_options parts ≡ true
     → compact_of (word ∷ flat_map words_of parts) ≡ where_new parts (compact_from parts)
 compact_is_read word parts plain =
-    once compact_line (codes "tech" ∷ codes "passes" ∷ codes "split" ∷ []) compact_is_line (option_and_then compact_with) (compact_from parts) refl word parts plain (λ new.
-    by_both compact_line (codes "tech" ∷ codes "passes" ∷ codes "split" ∷ []) compact_is_line (λ rows. false) (λ rows. refl) (option_and_then compact_with)
+    once compact_line compact_options compact_is_line (option_and_then compact_with) (compact_from parts) refl word parts plain (λ new.
+    by_both compact_line compact_options compact_is_line (λ rows. false) (λ rows. refl) (option_and_then compact_with)
     (λ o t rows. option_and_then (λ design. option_and_then (λ file. compact_as design file (passes_of rows) (split_of rows)) t) o) (λ t rows. refl) (λ text rows. refl) word parts refl plain new
     ∙ (λ i. option_and_then (λ design. option_and_then (λ file. compact_as design file
     (unwrap_or (first_is (codes "passes") parts i) (codes "xy")) (unwrap_or (first_is (codes "split") parts i) (codes "1"))) (tech_at parts)) (operand_at parts)))
 
-pub slack_is_read : (word : Text) (parts : List Part) → is_plain_line (codes "tech" ∷ codes "passes" ∷ []) parts ≡ true
+pub slack_is_read : (word : Text) (parts : List Part) → is_plain_line slack_options parts ≡ true
     → slack_of (word ∷ flat_map words_of parts) ≡ where_new parts (slack_from parts)
 slack_is_read word parts plain =
-    once slack_line (codes "tech" ∷ codes "passes" ∷ []) slack_is_line (option_and_then slack_with) (slack_from parts) refl word parts plain (λ new.
-    by_both slack_line (codes "tech" ∷ codes "passes" ∷ []) slack_is_line (λ rows. false) (λ rows. refl) (option_and_then slack_with)
+    once slack_line slack_options slack_is_line (option_and_then slack_with) (slack_from parts) refl word parts plain (λ new.
+    by_both slack_line slack_options slack_is_line (λ rows. false) (λ rows. refl) (option_and_then slack_with)
     (λ o t rows. option_and_then (λ design. option_and_then (λ file. slack_as design file (passes_of rows)) t) o) (λ t rows. refl) (λ text rows. refl) word parts refl plain new
     ∙ (λ i. option_and_then (λ design. option_and_then (λ file. slack_as design file (unwrap_or (first_is (codes "passes") parts i) (codes "xy"))) (tech_at parts)) (operand_at parts)))
 
@@ -249,24 +262,24 @@ with_script parts =
     go None e = refl
     go (Some text) e = ap (λ (script : Text). jog_as (operand_of (rows_in parts)) (tech_of (rows_in parts)) script (passes_of (rows_in parts))) (text_is (codes "script") parts text e)
 
-pub jog_is_read : (word : Text) (parts : List Part) → is_plain_line (codes "tech" ∷ codes "passes" ∷ codes "script" ∷ []) parts ≡ true
+pub jog_is_read : (word : Text) (parts : List Part) → is_plain_line jog_options parts ≡ true
     → jog_of (word ∷ flat_map words_of parts) ≡ where_new parts (jog_from parts)
 jog_is_read word parts plain =
-    once jog_line (codes "tech" ∷ codes "passes" ∷ codes "script" ∷ []) jog_is_line (option_and_then jog_with) (jog_from parts) refl word parts plain (λ new.
-    by_both jog_line (codes "tech" ∷ codes "passes" ∷ codes "script" ∷ []) jog_is_line (λ rows. not (is_given (codes "script") rows) || false) (λ rows. refl) (option_and_then jog_with)
+    once jog_line jog_options jog_is_line (option_and_then jog_with) (jog_from parts) refl word parts plain (λ new.
+    by_both jog_line jog_options jog_is_line (λ rows. not (is_given (codes "script") rows) || false) (λ rows. refl) (option_and_then jog_with)
     (λ o t rows. option_and_then (λ design. option_and_then (λ file. option_and_then (λ script. jog_as design file script (passes_of rows)) (value_at (codes "script") parts)) t) o)
     (λ t rows. refl) (λ text rows. refl) word parts (with_script parts) plain new
     ∙ (λ i. option_and_then (λ design. option_and_then (λ file. option_and_then (λ script. jog_as design file script (unwrap_or (first_is (codes "passes") parts i) (codes "xy")))
     (value_at (codes "script") parts)) (tech_at parts)) (operand_at parts)))
 
 -- a command of a CIF text and a technology
-pub cif_is_read : (command : Text → Text → Command) (word : Text) (parts : List Part) → is_plain_line (codes "tech" ∷ []) parts ≡ true
+pub cif_is_read : (command : Text → Text → Command) (word : Text) (parts : List Part) → is_plain_line cif_options parts ≡ true
     → option_map (λ rows. command (operand_of rows) (tech_of rows)) (found_in cif_line (word ∷ flat_map words_of parts))
     ≡ where_new parts (of_both (λ cif tech. Some (command cif tech)) parts)
 cif_is_read command word parts plain =
     let made = option_map (λ (rows : List Row). command (operand_of rows) (tech_of rows)) in
-    once cif_line (codes "tech" ∷ []) cif_is_line made _ refl word parts plain (λ new.
-    by_both cif_line (codes "tech" ∷ []) cif_is_line (λ rows. false) (λ rows. refl) made
+    once cif_line cif_options cif_is_line made _ refl word parts plain (λ new.
+    by_both cif_line cif_options cif_is_line (λ rows. false) (λ rows. refl) made
     (λ o t rows. option_and_then (λ cif. option_and_then (λ file. Some (command cif file)) t) o) (λ t rows. refl) (λ text rows. refl) word parts refl plain new)
 
 pub fmt_is_read : (word : Text) (parts : List Part) → is_plain_line [] parts ≡ true → fmt_of (word ∷ flat_map words_of parts) ≡ where_new parts (fmt_from parts)

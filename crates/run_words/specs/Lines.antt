@@ -28,13 +28,17 @@ script = wanted (codes "script")
 abbrev pub passes : Rule
 passes = option (codes "passes")
 
+-- `--split N`
+abbrev pub split : Rule
+split = option (codes "split")
+
 -- a command with these arguments
 abbrev pub line : List Rule → App
 line rules = fold with_rule (new_app (codes "sticks")) rules
 
 -- `compact DESIGN --tech FILE [--passes LIST] [--split N]`
 abbrev pub compact_line : App
-compact_line = line (operand ∷ tech ∷ passes ∷ option (codes "split") ∷ [])
+compact_line = line (operand ∷ tech ∷ passes ∷ split ∷ [])
 
 -- `slack DESIGN --tech FILE [--passes LIST]`
 abbrev pub slack_line : App
