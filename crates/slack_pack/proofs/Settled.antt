@@ -1,5 +1,5 @@
 -- Slacks at the start, and slacks that no round lowers.
-use Rattle.std.proofs.Common.{◌≡◌, ℕ, ◌+◌, ◌*◌, ◌^◌, ◌<◌, ◌≤◌, ◌⊎◌, inl, inr, ltb, ℤ, pos, neg_ℤ, ◌+ℤ◌, ◌-ℤ◌, ◌≤ℤ◌, List, [], ◌∷◌, ◌++◌, length, get_or, set, take, sym, ap, subst, ◌∙◌, arith}
+use Rattle.std.proofs.Common.{◌≡◌, ℕ, ◌+◌, ◌*◌, ◌^◌, ◌<◌, ◌≤◌, ◌⊎◌, false, inl, inr, ltb, ℤ, pos, neg_ℤ, ◌+ℤ◌, ◌-ℤ◌, ◌≤ℤ◌, List, [], ◌∷◌, ◌++◌, length, get_or, set, take, sym, ap, subst, ◌∙◌, arith}
 use Rattle.std.specs.List.{All, Contains}
 use Rattle.std.proofs.lemmas.Int.{ints}
 use Rattle.std.proofs.lemmas.Bool.{cases_eq}
@@ -13,7 +13,7 @@ use Rattle.cons_graph.specs.EdgeNumbers.{edge_at}
 use Rattle.cons_graph.specs.Solutions.{Meets, IsSolution, value_of}
 use Rattle.cons_graph.specs.Walks.{IsWalk}
 use Rattle.slack_pack.specs.Most.{IsHeld, IsMost, HasWalk, IsAttained}
-use Rattle.slack_pack.specs.Slacks.{none_yet, IsPlaced, room_of, Allows, reached, AreSlacks, IsQuietAt, AreFirst}
+use Rattle.slack_pack.specs.Slacks.{none_yet, IsPlaced, room_of, Allows, reached, AreSlacks, IsLowered, IsQuietAt, AreFirst}
 use Rattle.slack_pack.proofs.Walks.{no_walk, attained_above}
 
 -- ---- the start
@@ -120,6 +120,9 @@ pub record IsSettled (g : Constraints) (far : List ℕ) (xs : List ℤ) (slacks 
   pub quiet : (v : ℕ) → v < g.vars → IsQuietAt g.edges (value_of xs) slacks v
   pub among : All (λ f. f < g.vars) far
   pub reach : ReachFar g far
+
+pub settled_after : (g : Constraints) (far : List ℕ) (xs : List ℤ) (old new : List ℕ) → IsPlaced g xs → AreSlacks g far (value_of xs) old → IsLowered g (value_of xs) old new false → ((v : ℕ) → v < g.vars → IsQuietAt g.edges (value_of xs) new v) → All (λ f. f < g.vars) far → ReachFar g far → IsSettled g far xs new
+settled_after g far xs old new p h l q among reach = record { placed = p; counted = l.counted; are = l.kept far h; quiet = q; among = among; reach = reach }
 
 -- each variable has a slack
 pub all_reached : (g : Constraints) (far : List ℕ) (xs : List ℤ) (slacks : List ℕ) → IsSettled g far xs slacks → (v : ℕ) → v < g.vars → get_or slacks v 0 < none_yet
