@@ -1,1 +1,4 @@
 pub mod Walks
+pub mod Least
+pub mod Falls
+pub mod Settled
