@@ -1,5 +1,5 @@
 -- What is told of how far each part of some masters could move on an axis.
-use Rattle.std.specs.Prelude.{ℕ, suc, ◌+◌, ℤ, ◌-ℤ◌, List, [], ◌∷◌, ◌++◌, codes, decimal, drop, flat_map}
+use Rattle.std.specs.Prelude.{ℕ, suc, ℤ, ◌-ℤ◌, List, [], ◌∷◌, ◌++◌, codes, decimal, drop, flat_map}
 use Rattle.std.specs.Fmt.{signed_decimal}
 use Rattle.lam_geom.specs.declared.boxes.Axis.{Axis}
 use Rattle.lam_geom.specs.declared.boxes.Axis.TheVariants.{X, Y}

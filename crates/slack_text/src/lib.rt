@@ -7,5 +7,4 @@
 mod lines;
 mod text;
 
-pub use expand::Master;
 pub use text::axis_slack;

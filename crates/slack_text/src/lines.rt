@@ -1,11 +1,14 @@
 //! The lines of the text: that of the axis, that of a master's size, and those of its variables.
 
-ghost use Rattle.std.specs.Prelude.{◌≡◌, ◌+◌, ◌<◌, ◌≤◌, ◌++◌, ◌∷◌, [], codes, length, map, flat_map, All, OnOk, IfOk};
+ghost use Rattle.std.specs.Prelude.{◌≡◌, ◌+◌, ◌<◌, ◌≤◌, ◌++◌, ◌∷◌, [], length, map, flat_map, decimal, All, OnOk, IfOk};
 ghost use Rattle.std.specs.List.{range_with_len};
 ghost use Rattle.std.specs.Fmt.{signed_decimal};
 ghost use Rattle.lam_geom.specs.Places.{IsPlace};
 ghost use Rattle.cons_graph.specs.Solutions.{value_of};
 ghost use Rattle.cell_model.specs.declared.cell.Node.{Node as SomeNode};
+ghost use Rattle.cell_model.specs.Sound.{wire_at};
+ghost use Rattle.cell_model.specs.Wiring.{is_same_axis};
+ghost use Rattle.expand.specs.Variables.{crossing};
 ghost use Rattle.pitch_join.specs.Names.{within_cell, cross_name};
 ghost use Rattle.slack_text.specs.Slack.{letter, axis_line, size_line, places_text, slack_line, slack_lines};
 
@@ -56,6 +59,16 @@ pub fn push_size(text: &mut Vec<u8>, cell: &Cell, size: i64) -> Result<(), Alloc
     Ok(())
 }
 
+/// The value of variable `v`, in u.
+pub fn value(values: &[i64], v: usize) -> i64
+    requires among { v < length values.now }
+    requires places { All IsPlace values.now }
+    ensures value { result ≡ value_of values.now v }
+    ensures place { IsPlace result }
+{
+    values[v]
+}
+
 // Adds the least and the greatest place of a part and how far it could move, in u, to the end of its line.
 fn push_places(text: &mut Vec<u8>, least: i64, most: i64) -> Result<(), AllocError>
     requires least { IsPlace least }
@@ -69,25 +82,22 @@ fn push_places(text: &mut Vec<u8>, least: i64, most: i64) -> Result<(), AllocErr
     Ok(())
 }
 
-// Adds the line of a node, whose centre is variable `v`.
+// Adds the line of a node, whose centre is at least at `least` and at most at `most`.
 fn push_node(
     text: &mut Vec<u8>,
     cell: &Cell,
     node: &Node,
-    v: usize,
-    least: &[i64],
-    most: &[i64],
+    least: i64,
+    most: i64,
 ) -> Result<(), AllocError>
-    requires in_least { v < length least.now }
-    requires in_most { v < length most.now }
-    requires least_places { All IsPlace least.now }
-    requires most_places { All IsPlace most.now }
-    ensures { OnOk result (text.new.items ≡ text.old.items ++ slack_line (within_cell cell.now node.now.name) (value_of least.now v) (value_of most.now v)) }
+    requires least { IsPlace least }
+    requires most { IsPlace most }
+    ensures { OnOk result (text.new.items ≡ text.old.items ++ slack_line (within_cell cell.now node.now.name) least most) }
 {
     text.extend_from_slice(cell.name.bytes())?;
     text.push(b':')?;
     text.extend_from_slice(node.name.bytes())?;
-    push_places(text, least[v], most[v])
+    push_places(text, least, most)
 }
 
 /// Adds the lines of the nodes of a cell, whose centres are the variables from `first` on.
@@ -106,14 +116,41 @@ pub fn push_nodes(
 {
     let nodes = cell.nodes.as_slice();
     for k in 0..nodes.len() {
-        push_node(text, cell, &nodes[k], first + k, least, most)?;
+        let v = first + k;
+        push_node(text, cell, &nodes[k], value(least, v), value(most, v))?;
     }
     Ok(())
 }
 
+// True where wire `k` has its cross coordinate on the axis.
+fn crosses(axis: Axis, cell: &Cell, k: usize) -> bool
+    requires { k < length cell.now.wires }
+    ensures { result ≡ is_same_axis (wire_at cell.now.wires k).along (crossing axis) }
+{
+    cell.wires.as_slice()[k].along == crossing(axis)
+}
+
+// Adds the line of wire `k`, whose cross coordinate is at least `least` and at most `most`.
+fn push_wire(
+    text: &mut Vec<u8>,
+    cell: &Cell,
+    k: usize,
+    least: i64,
+    most: i64,
+) -> Result<(), AllocError>
+    requires least { IsPlace least }
+    requires most { IsPlace most }
+    ensures { OnOk result (text.new.items ≡ text.old.items ++ slack_line (within_cell cell.now (35 ∷ decimal k)) least most) }
+{
+    text.extend_from_slice(cell.name.bytes())?;
+    text.extend_from_slice(b":#")?;
+    push_decimal(text, k as u64)?;
+    push_places(text, least, most)
+}
+
 // Adds the line of wire `k`, if it has its cross coordinate on the axis, which then is variable `v`. Gives the number of the
 // next variable.
-fn push_wire(
+fn push_crossing(
     text: &mut Vec<u8>,
     axis: Axis,
     cell: &Cell,
@@ -130,13 +167,10 @@ fn push_wire(
     ensures line { OnOk result (text.new.items ≡ text.old.items ++ slack_lines (cross_name axis cell.now k) v least.now most.now) }
     ensures next { IfOk result (λ next. next ≡ v + length (cross_name axis cell.now k)) }
 {
-    if cell.wires.as_slice()[k].along != crossing(axis) {
+    if !crosses(axis, cell, k) {
         return Ok(v);
     }
-    text.extend_from_slice(cell.name.bytes())?;
-    text.extend_from_slice(b":#")?;
-    push_decimal(text, k as u64)?;
-    push_places(text, least[v], most[v])?;
+    push_wire(text, cell, k, value(least, v), value(most, v))?;
     Ok(v + 1)
 }
 
@@ -159,7 +193,7 @@ pub fn push_wires(
 {
     let mut v = first;
     for k in 0..cell.wires.as_slice().len() {
-        v = push_wire(text, axis, cell, k, v, least, most)?;
+        v = push_crossing(text, axis, cell, k, v, least, most)?;
     }
     Ok(v)
 }

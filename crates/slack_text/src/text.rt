@@ -7,7 +7,7 @@ ghost use Rattle.pitch_join.specs.Joined.{joint_variables};
 ghost use Rattle.pitch_join.specs.Names.{own_names};
 ghost use Rattle.slack_text.specs.Slack.{size_line, slack_lines, axis_slack};
 
-use crate::lines::{push_axis, push_nodes, push_size, push_wires};
+use crate::lines::{push_axis, push_nodes, push_size, push_wires, value};
 use cell_model::Cell;
 use expand::Master;
 use lam_geom::Axis;
@@ -29,7 +29,7 @@ fn push_cell(
     ensures text { OnOk result (text.new.items ≡ text.old.items ++ (size_line cell.now.name (value_of least.now far) ++ slack_lines (drop 1 (own_names axis cell.now)) (far + 1) least.now most.now)) }
     ensures next { IfOk result (λ next. next ≡ far + length (own_names axis cell.now)) }
 {
-    push_size(text, cell, least[far])?;
+    push_size(text, cell, value(least, far))?;
     push_nodes(text, cell, far + 1, least, most)?;
     let wires = far + 1 + cell.nodes.as_slice().len();
     push_wires(text, axis, cell, wires, least, most)
