@@ -34,8 +34,8 @@ pub fn lines_are_few(text: &[u8], design: &Design)
     ensures { 4 * lines_in design.now ≤ length text.now + 1 }
 {}
 
-/// A law, with nothing to run: the canonical text of a design has four bytes or more for each line of the design, and each
-/// line has its end.
+/// A law, with nothing to run: the canonical text of a design has four bytes or more for each line of the design: a keyword
+/// of three or more, and a line feed.
 pub fn lines_are_in_the_text(design: &Design)
     ensures { 4 * lines_in design.now ≤ length (canonical design.now) }
 {}
