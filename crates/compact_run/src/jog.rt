@@ -5,7 +5,7 @@ ghost use Rattle.std.specs.List.{range_with_len};
 ghost use Rattle.cons_graph.specs.Solutions.{value_of};
 ghost use Rattle.lam_geom.specs.declared.boxes.Axis.TheVariants.{X};
 ghost use Rattle.sym_items.specs.Layouts.{size_in};
-ghost use Rattle.design_sizes.specs.Sizes.{names_in};
+ghost use Rattle.design_sizes.specs.Sizes.{lines_in, names_in};
 ghost use Rattle.stick_parse.specs.Writable.{IsWritable};
 ghost use Rattle.stick_print.specs.Canonical.{canonical};
 ghost use Rattle.compact_run.specs.Limits.{most_design_bytes, most_passes};
@@ -23,6 +23,7 @@ use crate::output::{Output, in_one_piece};
 use crate::planning::plan_of;
 use crate::refusal::Refusal;
 use crate::status::Status;
+use design_sizes::lines_are_in_the_text;
 use jog_insert::{JogLine, insert};
 use lam_geom::Axis;
 use lam_io::Gate;
@@ -148,12 +149,14 @@ fn judged<H: Threads + Sync, G: Gate>(
     requires few_names { names_in design ≤ 2 ^ 19 }
     requires both { HasBothAxes axes.now }
     requires few { length axes.now ≤ most_passes }
+    ensures few_lines { IfOk result (λ o. IfSome o (λ a. lines_in a.design ≤ 2 ^ 20)) }
     ensures kept { IfOk result (λ o. IfSome o (λ a. (a.design ≡ design) × (a.master ≡ master) × IsKept tech.now axes.now before.now master design a.sizes.numbers.items a.sizes.widths.items)) }
     ensures dropped { IfOk result (λ o. IfNone o ((numbers : List ℕ) (after : List ℤ) → IsKept tech.now axes.now before.now master design numbers after → ⊥)) }
 {
     if !is_short(alloc, &design)? {
         return Ok(None);
     }
+    lines_are_in_the_text(&design);
     match sizes_of(rt, alloc, gate, tech, &design, axes) {
         Ok(sizes) => {
             if is_narrower(before, &sizes.widths, master) && is_no_wider(before, &sizes.widths) {
@@ -194,12 +197,14 @@ fn tried<H: Threads + Sync, G: Gate>(
 ) -> Result<Option<Accepted>, AllocError>
     requires writable { IsWritable design.now }
     requires few_names { names_in design.now ≤ 2 ^ 19 }
+    requires few_lines { lines_in design.now ≤ 2 ^ 20 }
     requires laid_out { IsLaidOutAs tech.now axes.now design.now sizes.now.numbers.items sizes.now.widths.items }
     requires both { HasBothAxes axes.now }
     requires few { length axes.now ≤ most_passes }
     ensures accepted { IfOk result (λ o. IfSome o (λ a. Accepts tech.now axes.now design.now sizes.now.numbers.items sizes.now.widths.items line.now a.master a.design a.sizes.numbers.items a.sizes.widths.items)) }
     ensures writable { IfOk result (λ o. IfSome o (λ a. IsWritable a.design)) }
     ensures few_names { IfOk result (λ o. IfSome o (λ a. names_in a.design ≤ 2 ^ 19)) }
+    ensures few_lines { IfOk result (λ o. IfSome o (λ a. lines_in a.design ≤ 2 ^ 20)) }
     ensures rejected { IfOk result (λ o. IfNone o (IsRejected tech.now axes.now design.now sizes.now.numbers.items sizes.now.widths.items line.now)) }
 {
     let Ok(cells) = resolve(alloc, design, tech) else {
@@ -299,12 +304,14 @@ fn go_on<H: Threads + Sync, G: Gate>(
 ) -> Result<Bent, AllocError>
     requires writable { IsWritable so_far.design }
     requires few_names { names_in so_far.design ≤ 2 ^ 19 }
+    requires few_lines { lines_in so_far.design ≤ 2 ^ 20 }
     requires laid_out { IsLaidOutAs tech.now axes.now so_far.design so_far.sizes.numbers.items so_far.sizes.widths.items }
     requires both { HasBothAxes axes.now }
     requires few { length axes.now ≤ most_passes }
     ensures step { IfOk result (λ next. IsJogStep tech.now axes.now i line.now so_far next) }
     ensures writable { IfOk result (λ next. IsWritable next.design) }
     ensures few_names { IfOk result (λ next. names_in next.design ≤ 2 ^ 19) }
+    ensures few_lines { IfOk result (λ next. lines_in next.design ≤ 2 ^ 20) }
     ensures laid_out { IfOk result (λ next. IsLaidOutAs tech.now axes.now next.design next.sizes.numbers.items next.sizes.widths.items) }
 {
     let accepted = tried(
@@ -327,6 +334,7 @@ pub fn jog<H: Threads + Sync, G: Gate>(
 ) -> Result<Output, AllocError>
     requires writable { IsWritable design }
     requires few_names { names_in design ≤ 2 ^ 19 }
+    requires few_lines { lines_in design ≤ 2 ^ 20 }
     requires laid_out { IsLaidOutAs tech.now axes.now design sizes.numbers.items sizes.widths.items }
     requires both { HasBothAxes axes.now }
     requires few { length axes.now ≤ most_passes }

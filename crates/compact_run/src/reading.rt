@@ -2,7 +2,7 @@
 
 ghost use Rattle.std.specs.Prelude.{◌≡◌, ◌≤◌, ◌^◌, Some, IfOk, IfErr};
 ghost use Rattle.lam_io.specs.Io.{Telling};
-ghost use Rattle.design_sizes.specs.Sizes.{names_in};
+ghost use Rattle.design_sizes.specs.Sizes.{lines_in, names_in};
 ghost use Rattle.stick_parse.specs.Writable.{IsWritable};
 ghost use Rattle.compact_run.specs.declared.status.File.TheVariants as file;
 ghost use Rattle.compact_run.specs.Fetches.{IsCounted, EndsOver, AsksOnce};
@@ -13,7 +13,7 @@ use crate::fault_lines::{script_line, stick_line, tech_line};
 use crate::fetch::fetch;
 use crate::refusal::Refusal;
 use crate::status::{File, Status};
-use design_sizes::names_are_few;
+use design_sizes::{lines_are_few, names_are_few};
 use jog_insert::{JogLine, ScriptFault, read_jogs};
 use lam_io::Shelf;
 use rule_table::Tech;
@@ -49,6 +49,7 @@ pub fn read_design<S: Shelf>(alloc: Global, shelf: &mut S, name: &str) -> Result
     ensures design { IfOk result (λ design. (t : Telling) → S.told shelf.old ≡ Some t → IsDesign t.files name.now design) }
     ensures writable { IfOk result IsWritable }
     ensures few { IfOk result (λ design. names_in design ≤ 2 ^ 19) }
+    ensures few_lines { IfOk result (λ design. lines_in design ≤ 2 ^ 20) }
     ensures refused { IfErr result (λ r. (t : Telling) → S.told shelf.old ≡ Some t → Refused (RefusesSticks name.now t.files) r) }
     ensures over { IfErr result (λ r. EndsOver file.Design r.status) }
     ensures counted { IsCounted (S.faults shelf.old) (S.faults shelf.new) (ending_of result) }
@@ -59,6 +60,7 @@ pub fn read_design<S: Shelf>(alloc: Global, shelf: &mut S, name: &str) -> Result
     match parse(alloc, &text) {
         Ok(design) => {
             names_are_few(&text, &design);
+            lines_are_few(&text, &design);
             Ok(design)
         }
         Err(ParseFault::Stick(fault)) => {
