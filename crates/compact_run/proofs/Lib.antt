@@ -16,6 +16,9 @@ mod OneOutput
 mod MadeDesigns
 mod OneDesign
 mod OneBench
+mod OneCompact
+mod OneSlack
+mod OneJogs
 mod OneAnswer
 mod FewParts
 mod SplitAlike

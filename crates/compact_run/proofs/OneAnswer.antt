@@ -12,89 +12,20 @@ use Rattle.compact_run.specs.declared.status.File.TheVariants.{Design, Technolog
 use Rattle.compact_run.specs.declared.status.Side2.TheVariants as side
 use Rattle.compact_run.specs.declared.status.Status.{Status}
 use Rattle.compact_run.specs.declared.status.Status.TheVariants as status
-use Rattle.run_words.specs.Words.{Command, compact, check, extract, fmt, bench, command_of}
+use Rattle.run_words.specs.Words.{Command, compact, slack, jog, check, extract, fmt, bench, command_of}
 use Rattle.compact_run.specs.declared.cif.CifJob.{CifJob}
 use Rattle.compact_run.specs.declared.cif.CifJob.TheVariants.{Extract, Check}
 use Rattle.compact_run.specs.FaultLines.{stick_line, tech_line}
 use Rattle.compact_run.specs.Refusal.{line_of}
-use Rattle.compact_run.specs.Answers.{IsTechnology, IsDesign, RefusesTechnology, RefusesSticks, IsCompacted, RefusesCompact, no_technology, no_design, no_masks, IsTold, RefusesJob, no_rules, no_cif, RefusesWords, IsAnswer, compacted, told, formatted, benched, refused, output_failed, report_failed}
+use Rattle.compact_run.specs.Answers.{IsTold, RefusesJob, no_rules, no_cif, RefusesWords, IsAnswer, compacted, measured, jogged, told, formatted, benched, refused, output_failed, report_failed}
 use Rattle.compact_run.specs.OneAnswer.{IsDecided, HasOneAnswer}
-use Rattle.compact_run.proofs.OneFile.{IsReadAs, IsNotRead, long, faulty, read_once, not_both, refused_once}
-use Rattle.compact_run.proofs.OneDesign.{Ends, ends_once, ends_refused, ends_compacted}
+use Rattle.compact_run.proofs.OneCompact.{IsTech, NoTech, AreSticks, NoSticks, tech_read, sticks_read, tech_refused, sticks_refused, Compacts, compacts_once, compacts_refused, compacts_done}
+use Rattle.compact_run.proofs.OneFile.{read_once, not_both, refused_once}
+use Rattle.compact_run.proofs.OneJogs.{Jogs as Bends, jogs_once as bends_once, jogs_refused as bends_refused, jogs_done as bends_done}
+use Rattle.compact_run.proofs.OneSlack.{Slackens, slackens_once, slackens_refused, slackens_done}
 use Rattle.compact_run.proofs.OneMaster.{same_tech, AreSame}
 use Rattle.compact_run.proofs.OneBench.{Benches, bench_done, bench_refused, benches_once}
 use Rattle.compact_run.proofs.OneOutput.{OneOutput, Over, over_once, file_refused, file_told}
-
--- ---- the files
-
-abbrev IsTech : Files → Bytes → Tech → Type 0
-IsTech files name tech = IsReadAs technology_of files Technology name (numbers_of tech)
-
-abbrev NoTech : Files → Bytes → Status → Bytes → Type 0
-NoTech files name ended line = IsNotRead technology_of (λ fault. status.BadTech fault) tech_line files Technology name ended line
-
-abbrev AreSticks : Files → Bytes → Sticks → Type 0
-AreSticks files name sticks = IsReadAs design_of files Design name sticks
-
-abbrev NoSticks : Files → Bytes → Status → Bytes → Type 0
-NoSticks files name ended line = IsNotRead design_of (λ fault. status.BadSticks fault) stick_line files Design name ended line
-
-tech_read : (files : Files) (name : Bytes) (tech : Tech) → IsTechnology files name tech → IsTech files name tech
-tech_read files name tech t = record { text = t.text; there = t.file; is = t.read }
-
-sticks_read : (files : Files) (name : Bytes) (sticks : Sticks) → IsDesign files name sticks → AreSticks files name sticks
-sticks_read files name sticks t = record { text = t.text; there = t.file; is = t.read }
-
-tech_refused : (files : Files) (name : Bytes) (ended : Status) (own : Bytes) → RefusesTechnology name files ended own → IsDecided ended → NoTech files name ended (line_of ended own)
-tech_refused files name status.OutOfMemory own why d = absurd d
-tech_refused files name (status.ReadFault file) own why d = absurd d
-tech_refused files name (status.TooLong Technology) own why d = long why refl refl
-tech_refused files name (status.BadTech fault) own why d = faulty why.0.text fault why.0.file why.0.read refl why.1
-tech_refused files name other own why d = absurd why
-
-sticks_refused : (files : Files) (name : Bytes) (ended : Status) (own : Bytes) → RefusesSticks name files ended own → IsDecided ended → NoSticks files name ended (line_of ended own)
-sticks_refused files name status.OutOfMemory own why d = absurd d
-sticks_refused files name (status.ReadFault file) own why d = absurd d
-sticks_refused files name (status.TooLong Design) own why d = long why refl refl
-sticks_refused files name (status.BadSticks fault) own why d = faulty why.0.text fault why.0.file why.0.read refl why.1
-sticks_refused files name other own why d = absurd why
-
--- ---- `compact`
-
-data Compacts (design tech : Bytes) (axes : List Axis) (files : Files) (ended : Status) (output report : Bytes) : Type 0 where
-  no_tech : NoTech files tech ended report → output ≡ [] → Compacts design tech axes files ended output report
-  no_sticks : (technology : Tech) → IsTech files tech technology → NoSticks files design ended report → output ≡ [] → Compacts design tech axes files ended output report
-  over : (technology : Tech) (sticks : Sticks) → IsTech files tech technology → AreSticks files design sticks → Ends technology axes sticks ended output report
-      → Compacts design tech axes files ended output report
-
-compacts_once : (design tech : Bytes) (axes : List Axis) (files : Files) (e f : Status) (o p r s : Bytes) → Compacts design tech axes files e o r → Compacts design tech axes files f p s → AreSame e f o p r s
-compacts_once design tech axes files e f o p r s (no_tech c co) (no_tech d do_) =
-    let same = refused_once technology_of (λ fault. status.BadTech fault) tech_line files Technology tech e f r s c d in (same.0, co ∙ sym do_, same.1)
-compacts_once design tech axes files e f o p r s (no_tech c co) (no_sticks u is d do_) = absurd (not_both technology_of (λ fault. status.BadTech fault) tech_line files Technology tech (numbers_of u) e r is c)
-compacts_once design tech axes files e f o p r s (no_tech c co) (over u v is are d) = absurd (not_both technology_of (λ fault. status.BadTech fault) tech_line files Technology tech (numbers_of u) e r is c)
-compacts_once design tech axes files e f o p r s (no_sticks u is d do_) (no_tech c co) = absurd (not_both technology_of (λ fault. status.BadTech fault) tech_line files Technology tech (numbers_of u) f s is c)
-compacts_once design tech axes files e f o p r s (over u v is are d) (no_tech c co) = absurd (not_both technology_of (λ fault. status.BadTech fault) tech_line files Technology tech (numbers_of u) f s is c)
-compacts_once design tech axes files e f o p r s (no_sticks t is c co) (no_sticks u are d do_) =
-    let same = refused_once design_of (λ fault. status.BadSticks fault) stick_line files Design design e f r s c d in (same.0, co ∙ sym do_, same.1)
-compacts_once design tech axes files e f o p r s (no_sticks t is c co) (over u v are there d) = absurd (not_both design_of (λ fault. status.BadSticks fault) stick_line files Design design v e r there c)
-compacts_once design tech axes files e f o p r s (over u v are there d) (no_sticks t is c co) = absurd (not_both design_of (λ fault. status.BadSticks fault) stick_line files Design design v f s there c)
-compacts_once design tech axes files e f o p r s (over t x is there c) (over u y are here d) =
-    let techs : t ≡ u = same_tech t u (read_once technology_of files Technology tech (numbers_of t) (numbers_of u) is are) in
-    let sticks : x ≡ y = read_once design_of files Design design x y there here in
-    let T : Tech → Type 0 = λ z. Ends z axes y f p s in
-    let S : Sticks → Type 0 = λ z. Ends t axes z f p s in
-    ends_once t axes x e f o p r s c (subst S (sym sticks) (subst T (sym techs) d))
-
-compacts_refused : (design tech : Bytes) (axes : List Axis) (files : Files) (ended : Status) (own : Bytes) → RefusesCompact design tech axes files ended own → IsDecided ended
-    → Compacts design tech axes files ended [] (line_of ended own)
-compacts_refused design tech axes files ended own (no_technology why) d = no_tech (tech_refused files tech ended own why d) refl
-compacts_refused design tech axes files ended own (no_design t is why) d = no_sticks t (tech_read files tech t is) (sticks_refused files design ended own why d) refl
-compacts_refused design tech axes files ended own (no_masks t x is there why) d = over t x (tech_read files tech t is) (sticks_read files design x there) (ends_refused t axes x ended own why d)
-
-compacts_done : (design tech : Bytes) (axes : List Axis) (files : Files) (ended : Status) (output report : Bytes) → ended ≡ status.Done → IsCompacted design tech axes files output report
-    → Compacts design tech axes files ended output report
-compacts_done design tech axes files ended output report e c =
-    over c.technology c.sticks (tech_read files tech c.technology c.is_technology) (sticks_read files design c.sticks c.is_design) (ends_compacted c.technology axes c.sticks ended output report e c.compacts)
 
 -- ---- `extract` and `check`
 
@@ -140,6 +71,8 @@ formats_once design files e f o p r s (is_read x there ce co cr) (is_read y here
 abbrev Does : Option Command → Files → Status → Bytes → Bytes → Type 0
 Does None files ended output report = (ended ≡ status.Usage) × (output ≡ []) × (report ≡ line_of status.Usage [])
 Does (Some (compact design tech axes split)) files ended output report = Compacts design tech axes files ended output report
+Does (Some (slack design tech axes)) files ended output report = Slackens design tech axes files ended output report
+Does (Some (jog design tech script axes)) files ended output report = Bends design tech script axes files ended output report
 Does (Some (check cif tech)) files ended output report = Jobs Check cif tech files ended output report
 Does (Some (extract cif tech)) files ended output report = Jobs Extract cif tech files ended output report
 Does (Some (fmt design)) files ended output report = Formats design files ended output report
@@ -148,6 +81,8 @@ Does (Some (bench n)) files ended output report = Benches n ended output report
 does_once : OneOutput → (c : Option Command) (files : Files) (e f : Status) (o p r s : Bytes) → Does c files e o r → Does c files f p s → AreSame e f o p r s
 does_once law None files e f o p r s a b = (a.0 ∙ sym b.0, a.1 ∙ sym b.1, a.2 ∙ sym b.2)
 does_once law (Some (compact design tech axes split)) files e f o p r s a b = compacts_once design tech axes files e f o p r s a b
+does_once law (Some (slack design tech axes)) files e f o p r s a b = slackens_once design tech axes files e f o p r s a b
+does_once law (Some (jog design tech script axes)) files e f o p r s a b = bends_once design tech script axes files e f o p r s a b
 does_once law (Some (check cif tech)) files e f o p r s a b = jobs_once law Check cif tech files e f o p r s a b
 does_once law (Some (extract cif tech)) files e f o p r s a b = jobs_once law Extract cif tech files e f o p r s a b
 does_once law (Some (fmt design)) files e f o p r s a b = formats_once design files e f o p r s a b
@@ -158,6 +93,8 @@ does_refused None files status.OutOfMemory own why d = absurd d
 does_refused None files status.Usage own why d = (refl, refl, refl)
 does_refused None files other own why d = absurd why
 does_refused (Some (compact design tech axes split)) files ended own why d = compacts_refused design tech axes files ended own why d
+does_refused (Some (slack design tech axes)) files ended own why d = slackens_refused design tech axes files ended own why d
+does_refused (Some (jog design tech script axes)) files ended own why d = bends_refused design tech script axes files ended own why d
 does_refused (Some (check cif tech)) files ended own why d = jobs_refused Check cif tech files ended own why d
 does_refused (Some (extract cif tech)) files ended own why d = jobs_refused Extract cif tech files ended own why d
 does_refused (Some (fmt design)) files ended own why d = not_read (sticks_refused files design ended own why d) refl
@@ -171,6 +108,12 @@ does_answer : (words : List Bytes) (files : Files) (e : Status) (o r : Bytes) �
 does_answer words files e o r (compacted design tech axes split is done c) d =
     let D : Option Command → Type 0 = λ c. Does c files e o r in
     subst D (sym is) (compacts_done design tech axes files e o r done c)
+does_answer words files e o r (measured design tech axes is done c none) d =
+    let D : Option Command → Type 0 = λ c. Does c files e o r in
+    subst D (sym is) (slackens_done design tech axes files e o r done none c)
+does_answer words files e o r (jogged design tech script axes is done c) d =
+    let D : Option Command → Type 0 = λ c. Does c files e o r in
+    subst D (sym is) (bends_done design tech script axes files e o r done c)
 does_answer words files e o r (told Extract cif tech is done x none) d =
     let D : Option Command → Type 0 = λ c. Does c files e o r in
     subst D (sym is) (jobs_done Extract cif tech files e o r done none x)

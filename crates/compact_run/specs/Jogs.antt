@@ -1,5 +1,5 @@
 -- What `jog` writes: the design after a script of jogs, each of which is kept where it makes its cell narrower and no cell wider.
-use Rattle.std.specs.Prelude.{◌≡◌, ℕ, suc, ◌<◌, ◌≤◌, ◌==◌, ℤ, ◌<ℤ◌, ◌≤ℤ◌, Some, List, [], ◌∷◌, ◌++◌, length, map, position, codes, decimal}
+use Rattle.std.specs.Prelude.{◌≡◌, ◌×◌, ℕ, suc, ◌<◌, ◌≤◌, ◌==◌, ℤ, ◌<ℤ◌, ◌≤ℤ◌, Some, List, [], ◌∷◌, ◌++◌, length, map, position, codes, decimal}
 use Rattle.std.specs.Fmt.{signed_decimal}
 use Rattle.lam_geom.specs.declared.boxes.Axis.{Axis}
 use Rattle.lam_geom.specs.declared.boxes.Axis.TheVariants.{X}
@@ -81,26 +81,26 @@ accepted_line i line old new = jog_head i line ++ (codes " accepted " ++ (signed
 abbrev pub rejected_line : ℕ → JogLine → Bytes
 rejected_line i line = jog_head i line ++ codes " rejected\n"
 
--- The jogs of some lines, counted from a number on, one after the other, from a design to the last one; what they report.
-pub data AreJogs (tech : Tech) (axes : List Axis) : ℕ → Design → List ℕ → List ℤ → List JogLine → Design → List ℤ → Bytes → Type 0 where
-  none : (i : ℕ) (design : Design) (numbers : List ℕ) (widths : List ℤ) → AreJogs tech axes i design numbers widths [] design widths []
-  accepted : (i : ℕ) (design : Design) (numbers : List ℕ) (widths : List ℤ) (line : JogLine) (lines : List JogLine) (m : ℕ) (new : Design) (after_numbers : List ℕ) (after : List ℤ)
-      (last : Design) (at_last : List ℤ) (text : Bytes)
-      → Accepts tech axes design numbers widths line m new after_numbers after
-      → AreJogs tech axes (suc i) new after_numbers after lines last at_last text
-      → AreJogs tech axes i design numbers widths (line ∷ lines) last at_last (accepted_line i line (value_of widths m) (value_of after m) ++ text)
-  rejected : (i : ℕ) (design : Design) (numbers : List ℕ) (widths : List ℤ) (line : JogLine) (lines : List JogLine) (last : Design) (at_last : List ℤ) (text : Bytes)
-      → IsRejected tech axes design numbers widths line
-      → AreJogs tech axes (suc i) design numbers widths lines last at_last text
-      → AreJogs tech axes i design numbers widths (line ∷ lines) last at_last (rejected_line i line ++ text)
+-- What becomes of the design at a line, which has this number: the new design where a jog is accepted, and else the old one; and the line that is reported.
+pub data IsTried (tech : Tech) (axes : List Axis) (i : ℕ) (line : JogLine) (design : Design) (numbers : List ℕ) (widths : List ℤ) (new : Design) (after_numbers : List ℕ) (after : List ℤ)
+    (own : Bytes) : Type 0 where
+  accepted : (m : ℕ) → Accepts tech axes design numbers widths line m new after_numbers after → own ≡ accepted_line i line (value_of widths m) (value_of after m)
+      → IsTried tech axes i line design numbers widths new after_numbers after own
+  rejected : IsRejected tech axes design numbers widths line → new ≡ design → after_numbers ≡ numbers → after ≡ widths → own ≡ rejected_line i line
+      → IsTried tech axes i line design numbers widths new after_numbers after own
 
--- one jog more: what it reports is put behind the rest, and it begins all jogs that go on with what it leaves
-pub record IsJogStep (tech : Tech) (axes : List Axis) (i : ℕ) (line : JogLine) (old new : Bent) : Type 0 where
+-- The lines of a script, counted from a number on, one after the other, from a design to the last one; and what they report.
+abbrev pub AreJogs : Tech → List Axis → ℕ → List JogLine → Design → List ℕ → List ℤ → Design → List ℕ → List ℤ → Bytes → Type 0
+AreJogs tech axes i [] design numbers widths last last_numbers at_last report = (last ≡ design) × (last_numbers ≡ numbers) × (at_last ≡ widths) × (report ≡ [])
+AreJogs tech axes i (line ∷ lines) design numbers widths last last_numbers at_last report =
+    (new : Design) × (after_numbers : List ℕ) × (after : List ℤ) × (own : Bytes) × (rest : Bytes) × IsTried tech axes i line design numbers widths new after_numbers after own
+    × AreJogs tech axes (suc i) lines new after_numbers after last last_numbers at_last rest × (report ≡ own ++ rest)
+
+-- one line more: what it reports is put behind the rest
+pub record IsNextJog (tech : Tech) (axes : List Axis) (i : ℕ) (line : JogLine) (old new : Bent) : Type 0 where
   pub own : Bytes
   pub told : new.report.items ≡ old.report.items ++ own
-  pub begins : (lines : List JogLine) (last : Design) (at_last : List ℤ) (text : Bytes)
-      → AreJogs tech axes (suc i) new.design new.sizes.numbers.items new.sizes.widths.items lines last at_last text
-      → AreJogs tech axes i old.design old.sizes.numbers.items old.sizes.widths.items (line ∷ lines) last at_last (own ++ text)
+  pub tried : IsTried tech axes i line old.design old.sizes.numbers.items old.sizes.widths.items new.design new.sizes.numbers.items new.sizes.widths.items own
 
 -- What `jog` writes over a design and the lines of a script: the canonical text of the last design, and a line for each jog.
 pub record JogsTo (tech : Tech) (axes : List Axis) (design : Design) (lines : List JogLine) (output report : Bytes) : Type 0 where
@@ -108,6 +108,7 @@ pub record JogsTo (tech : Tech) (axes : List Axis) (design : Design) (lines : Li
   pub widths : List ℤ
   pub laid_out : IsLaidOutAs tech axes design numbers widths
   pub last : Design
+  pub last_numbers : List ℕ
   pub at_last : List ℤ
-  pub jogs : AreJogs tech axes 0 design numbers widths lines last at_last report
+  pub jogs : AreJogs tech axes 0 lines design numbers widths last last_numbers at_last report
   pub written : output ≡ canonical last

@@ -11,7 +11,7 @@ ghost use Rattle.stick_print.specs.Canonical.{canonical};
 ghost use Rattle.compact_run.specs.Limits.{most_design_bytes, most_passes};
 ghost use Rattle.compact_run.specs.Refusals.{Refused};
 ghost use Rattle.compact_run.specs.Designs.{HasBothAxes, RefusesDesign};
-ghost use Rattle.compact_run.specs.Jogs.{Accepts, IsKept, IsLaidOutAs, IsNoWider, IsRejected, IsJogStep, JogsTo, accepted_line, jog_head, rejected_line};
+ghost use Rattle.compact_run.specs.Jogs.{Accepts, IsKept, IsLaidOutAs, IsNoWider, IsRejected, IsNextJog, JogsTo, accepted_line, jog_head, rejected_line};
 ghost use Rattle.compact_run.specs.Answers.{text_of};
 
 use crate::extent::width;
@@ -308,7 +308,7 @@ fn go_on<H: Threads + Sync, G: Gate>(
     requires laid_out { IsLaidOutAs tech.now axes.now so_far.design so_far.sizes.numbers.items so_far.sizes.widths.items }
     requires both { HasBothAxes axes.now }
     requires few { length axes.now ≤ most_passes }
-    ensures step { IfOk result (λ next. IsJogStep tech.now axes.now i line.now so_far next) }
+    ensures step { IfOk result (λ next. IsNextJog tech.now axes.now i line.now so_far next) }
     ensures writable { IfOk result (λ next. IsWritable next.design) }
     ensures few_names { IfOk result (λ next. names_in next.design ≤ 2 ^ 19) }
     ensures few_lines { IfOk result (λ next. lines_in next.design ≤ 2 ^ 20) }
