@@ -144,7 +144,7 @@ pub record Grew (tech : Tech) (known : Known) (forms : List Form) (next : Known)
   pub joins : AllZip (IsJoined next) (flat_map joins_in forms) wires
 
 -- what holds of an end still holds
-end_kept : (old new : Known) (more : Sided) (name : List ℕ) (end : WireEnd) → MoreNodes old.nodes new.nodes → sides new.names ≡ sides old.names ++ more → MorePlugs old.plugs new.plugs
+pub end_kept : (old new : Known) (more : Sided) (name : List ℕ) (end : WireEnd) → MoreNodes old.nodes new.nodes → sides new.names ≡ sides old.names ++ more → MorePlugs old.plugs new.plugs
     → IsEndOf old name end → IsEndOf new name end
 end_kept old new more name (ends.Node i) nodes names plugs is =
     (omega (arith, nodes.long, is.0), ap (λ (node : Node). node.name) (nodes.same i is.0) ∙ is.1,
