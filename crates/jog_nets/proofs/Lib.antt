@@ -1,3 +1,4 @@
 pub mod Links
 pub mod Lines
 pub mod Grew
+pub mod Told
