@@ -4,3 +4,5 @@ pub mod Grew
 pub mod Told
 pub mod Turned
 pub mod Parts
+pub mod Moved
+pub mod Bent
