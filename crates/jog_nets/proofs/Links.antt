@@ -54,29 +54,32 @@ joined_mapped links more f each =
 abbrev pub both_moved : (ℕ → ℕ) → ℕ × ℕ → ℕ × ℕ
 both_moved f pair = (f pair.0, f pair.1)
 
--- Parts get other numbers, and a part that is linked to two others becomes five in a row between these, of which the first keeps its place.
-pub record AreBentLinks (old new : List (ℕ × ℕ)) (moved back : ℕ → ℕ) : Type 0 where
-  pub before : List (ℕ × ℕ)
-  pub behind : List (ℕ × ℕ)
+-- a part, and the four that come behind it
+pub record Five : Type 0 where
   pub part : ℕ
-  pub low : ℕ
-  pub high : ℕ
   pub lower : ℕ
   pub middle : ℕ
   pub upper : ℕ
   pub last : ℕ
+
+-- Parts get other numbers, and a part that is linked to two others becomes five in a row between these, of which the first keeps its place.
+pub record AreBentLinks (old new : List (ℕ × ℕ)) (moved back : ℕ → ℕ) (five : Five) : Type 0 where
+  pub before : List (ℕ × ℕ)
+  pub behind : List (ℕ × ℕ)
+  pub low : ℕ
+  pub high : ℕ
   pub between : List (ℕ × ℕ)
-  pub old_links : old ≡ before ++ (part, low) ∷ (part, high) ∷ behind
+  pub old_links : old ≡ before ++ (five.part, low) ∷ (five.part, high) ∷ behind
   pub new_links : new ≡ map (both_moved moved) before
-      ++ (moved part, moved low) ∷ (moved part, lower) ∷ (between ++ (last, upper) ∷ (last, moved high) ∷ map (both_moved moved) behind)
-  pub to_lower : Contains between (middle, lower)
-  pub to_upper : Contains between (middle, upper)
-  pub only : AllByRecursion (λ pair. (back pair.0 ≡ part) × (back pair.1 ≡ part)) between
+      ++ (moved five.part, moved low) ∷ (moved five.part, five.lower) ∷ (between ++ (five.last, five.upper) ∷ (five.last, moved high) ∷ map (both_moved moved) behind)
+  pub to_lower : Contains between (five.middle, five.lower)
+  pub to_upper : Contains between (five.middle, five.upper)
+  pub only : AllByRecursion (λ pair. (back pair.0 ≡ five.part) × (back pair.1 ≡ five.part)) between
   pub inverse : (p : ℕ) → back (moved p) ≡ p
-  pub lower_back : back lower ≡ part
-  pub middle_back : back middle ≡ part
-  pub upper_back : back upper ≡ part
-  pub last_back : back last ≡ part
+  pub lower_back : back five.lower ≡ five.part
+  pub middle_back : back five.middle ≡ five.part
+  pub upper_back : back five.upper ≡ five.part
+  pub last_back : back five.last ≡ five.part
 
 -- a step between parts that have other names
 joins_along : (links : List (ℕ × ℕ)) (a b c d : ℕ) → a ≡ c → b ≡ d → Reaches (Attached links) c d → Reaches (Attached links) a b
@@ -92,23 +95,23 @@ pub record IsRow (new : List (ℕ × ℕ)) (low first lower middle upper last hi
   pub last_upper : Reaches (Attached new) last upper
   pub last_high : Reaches (Attached new) last high
 
-row_of : (old new : List (ℕ × ℕ)) (moved back : ℕ → ℕ) → (h : AreBentLinks old new moved back)
-    → IsRow new (moved h.low) (moved h.part) h.lower h.middle h.upper h.last (moved h.high)
-row_of old new moved back h =
+row_of : (old new : List (ℕ × ℕ)) (moved back : ℕ → ℕ) (five : Five) → (h : AreBentLinks old new moved back five)
+    → IsRow new (moved h.low) (moved five.part) five.lower five.middle five.upper five.last (moved h.high)
+row_of old new moved back five h =
     let front : List (ℕ × ℕ) = map (both_moved moved) h.before in
-    let end : List (ℕ × ℕ) = (h.last, h.upper) ∷ (h.last, moved h.high) ∷ map (both_moved moved) h.behind in
-    let row : List (ℕ × ℕ) = (moved h.part, moved h.low) ∷ (moved h.part, h.lower) ∷ (h.between ++ end) in
+    let end : List (ℕ × ℕ) = (five.last, five.upper) ∷ (five.last, moved h.high) ∷ map (both_moved moved) h.behind in
+    let row : List (ℕ × ℕ) = (moved five.part, moved h.low) ∷ (moved five.part, five.lower) ∷ (h.between ++ end) in
     let among : (a b : ℕ) → Contains row (a, b) → Reaches (Attached new) a b =
     λ a b c. link_joins new a b (subst (λ (links : List (ℕ × ℕ)). Contains links (a, b)) (sym h.new_links) (Contains-append_right front row (a, b) c)) in
     let later : (a b : ℕ) → Contains (h.between ++ end) (a, b) → Reaches (Attached new) a b =
-    λ a b c. among a b (Contains-append_right ((moved h.part, moved h.low) ∷ (moved h.part, h.lower) ∷ []) (h.between ++ end) (a, b) c) in
+    λ a b c. among a b (Contains-append_right ((moved five.part, moved h.low) ∷ (moved five.part, five.lower) ∷ []) (h.between ++ end) (a, b) c) in
     record {
-      first_low = among (moved h.part) (moved h.low) (zero, omega arith, refl);
-      first_lower = among (moved h.part) h.lower (suc zero, omega arith, refl);
-      middle_lower = later h.middle h.lower (Contains-append_left h.between end (h.middle, h.lower) h.to_lower);
-      middle_upper = later h.middle h.upper (Contains-append_left h.between end (h.middle, h.upper) h.to_upper);
-      last_upper = later h.last h.upper (Contains-append_right h.between end (h.last, h.upper) (zero, omega arith, refl));
-      last_high = later h.last (moved h.high) (Contains-append_right h.between end (h.last, moved h.high) (suc zero, omega arith, refl));
+      first_low = among (moved five.part) (moved h.low) (zero, omega arith, refl);
+      first_lower = among (moved five.part) five.lower (suc zero, omega arith, refl);
+      middle_lower = later five.middle five.lower (Contains-append_left h.between end (five.middle, five.lower) h.to_lower);
+      middle_upper = later five.middle five.upper (Contains-append_left h.between end (five.middle, five.upper) h.to_upper);
+      last_upper = later five.last five.upper (Contains-append_right h.between end (five.last, five.upper) (zero, omega arith, refl));
+      last_high = later five.last (moved h.high) (Contains-append_right h.between end (five.last, moved h.high) (suc zero, omega arith, refl));
     }
 
 -- each part of the row and its ends is of the net of the first one
@@ -139,72 +142,72 @@ one_net_of_row new low first lower middle upper last high row =
     }
 
 -- the row is of one net
-pub one_net : (old new : List (ℕ × ℕ)) (moved back : ℕ → ℕ) → (h : AreBentLinks old new moved back)
-    → IsOneNet new (moved h.low) (moved h.part) h.lower h.middle h.upper h.last (moved h.high)
-one_net old new moved back h = one_net_of_row new (moved h.low) (moved h.part) h.lower h.middle h.upper h.last (moved h.high) (row_of old new moved back h)
+pub one_net : (old new : List (ℕ × ℕ)) (moved back : ℕ → ℕ) (five : Five) → (h : AreBentLinks old new moved back five)
+    → IsOneNet new (moved h.low) (moved five.part) five.lower five.middle five.upper five.last (moved h.high)
+one_net old new moved back five h = one_net_of_row new (moved h.low) (moved five.part) five.lower five.middle five.upper five.last (moved h.high) (row_of old new moved back five h)
 
 -- what a chain joins before, a chain joins afterwards
-pub joined_after : (old new : List (ℕ × ℕ)) (moved back : ℕ → ℕ) → AreBentLinks old new moved back → (p q : ℕ) → Reaches (Attached old) p q
+pub joined_after : (old new : List (ℕ × ℕ)) (moved back : ℕ → ℕ) (five : Five) → AreBentLinks old new moved back five → (p q : ℕ) → Reaches (Attached old) p q
     → Reaches (Attached new) (moved p) (moved q)
-joined_after old new moved back h =
+joined_after old new moved back five h =
     let front : List (ℕ × ℕ) = map (both_moved moved) h.before in
     let rest : List (ℕ × ℕ) = map (both_moved moved) h.behind in
-    let end : List (ℕ × ℕ) = (h.last, h.upper) ∷ (h.last, moved h.high) ∷ rest in
-    let row : List (ℕ × ℕ) = (moved h.part, moved h.low) ∷ (moved h.part, h.lower) ∷ (h.between ++ end) in
+    let end : List (ℕ × ℕ) = (five.last, five.upper) ∷ (five.last, moved h.high) ∷ rest in
+    let row : List (ℕ × ℕ) = (moved five.part, moved h.low) ∷ (moved five.part, five.lower) ∷ (h.between ++ end) in
     let among : (a b : ℕ) → Contains (front ++ row) (a, b) → Reaches (Attached new) a b =
     λ a b c. link_joins new a b (subst (λ (links : List (ℕ × ℕ)). Contains links (a, b)) (sym h.new_links) c) in
     let of_before : (pair : ℕ × ℕ) → Contains h.before pair → AreJoined new moved pair =
     λ pair c. among (moved pair.0) (moved pair.1) (Contains-append_left front row (moved pair.0, moved pair.1) (in_map (both_moved moved) h.before pair c)) in
     let of_behind : (pair : ℕ × ℕ) → Contains h.behind pair → AreJoined new moved pair =
     λ pair c. among (moved pair.0) (moved pair.1) (Contains-append_right front row (moved pair.0, moved pair.1)
-    (Contains-append_right ((moved h.part, moved h.low) ∷ (moved h.part, h.lower) ∷ []) (h.between ++ end) (moved pair.0, moved pair.1)
+    (Contains-append_right ((moved five.part, moved h.low) ∷ (moved five.part, five.lower) ∷ []) (h.between ++ end) (moved pair.0, moved pair.1)
     (Contains-append_right h.between end (moved pair.0, moved pair.1)
-    (Contains-append_right ((h.last, h.upper) ∷ (h.last, moved h.high) ∷ []) rest (moved pair.0, moved pair.1) (in_map (both_moved moved) h.behind pair c))))) in
-    let net = one_net old new moved back h in
+    (Contains-append_right ((five.last, five.upper) ∷ (five.last, moved h.high) ∷ []) rest (moved pair.0, moved pair.1) (in_map (both_moved moved) h.behind pair c))))) in
+    let net = one_net old new moved back five h in
     let turned : (a b : ℕ) → Reaches (Attached new) a b → Reaches (Attached new) b a = reaches_back (Attached new) (attached_back new) in
     joined_mapped old new moved
     (subst (λ (links : List (ℕ × ℕ)). AllByRecursion (AreJoined new moved) links) (sym h.old_links)
-    (all_append (AreJoined new moved) h.before ((h.part, h.low) ∷ (h.part, h.high) ∷ h.behind)
+    (all_append (AreJoined new moved) h.before ((five.part, h.low) ∷ (five.part, h.high) ∷ h.behind)
     (all_weaker (Contains h.before) (AreJoined new moved) of_before h.before (contains_itself h.before))
-    (turned (moved h.low) (moved h.part) net.to_low, (turned (moved h.high) (moved h.part) net.to_high,
+    (turned (moved h.low) (moved five.part) net.to_low, (turned (moved h.high) (moved five.part) net.to_high,
     all_weaker (Contains h.behind) (AreJoined new moved) of_behind h.behind (contains_itself h.behind)))))
 
 -- what a chain joins afterwards, a chain joins before
-joined_back : (old new : List (ℕ × ℕ)) (moved back : ℕ → ℕ) → AreBentLinks old new moved back → (p q : ℕ) → Reaches (Attached new) p q
+joined_back : (old new : List (ℕ × ℕ)) (moved back : ℕ → ℕ) (five : Five) → AreBentLinks old new moved back five → (p q : ℕ) → Reaches (Attached new) p q
     → Reaches (Attached old) (back p) (back q)
-joined_back old new moved back h =
-    let row : List (ℕ × ℕ) = (h.part, h.low) ∷ (h.part, h.high) ∷ h.behind in
+joined_back old new moved back five h =
+    let row : List (ℕ × ℕ) = (five.part, h.low) ∷ (five.part, h.high) ∷ h.behind in
     let among : (a b : ℕ) → Contains (h.before ++ row) (a, b) → Reaches (Attached old) a b =
     λ a b c. link_joins old a b (subst (λ (links : List (ℕ × ℕ)). Contains links (a, b)) (sym h.old_links) c) in
     let returned : (pair : ℕ × ℕ) → Contains (h.before ++ row) pair → AreJoined old back (both_moved moved pair) =
     λ pair c. joins_along old (back (moved pair.0)) (back (moved pair.1)) pair.0 pair.1 (h.inverse pair.0) (h.inverse pair.1) (among pair.0 pair.1 c) in
     let of_before : (pair : ℕ × ℕ) → Contains h.before pair → AreJoined old back (both_moved moved pair) = λ pair c. returned pair (Contains-append_left h.before row pair c) in
     let of_behind : (pair : ℕ × ℕ) → Contains h.behind pair → AreJoined old back (both_moved moved pair) =
-    λ pair c. returned pair (Contains-append_right h.before row pair (Contains-append_right ((h.part, h.low) ∷ (h.part, h.high) ∷ []) h.behind pair c)) in
-    let of_between : (pair : ℕ × ℕ) → (back pair.0 ≡ h.part) × (back pair.1 ≡ h.part) → AreJoined old back pair =
+    λ pair c. returned pair (Contains-append_right h.before row pair (Contains-append_right ((five.part, h.low) ∷ (five.part, h.high) ∷ []) h.behind pair c)) in
+    let of_between : (pair : ℕ × ℕ) → (back pair.0 ≡ five.part) × (back pair.1 ≡ five.part) → AreJoined old back pair =
     λ pair both. reaches_none (Attached old) (back pair.0) (back pair.1) (both.0 ∙ sym both.1) in
-    let first_low : Reaches (Attached old) (back (moved h.part)) (back (moved h.low)) =
-    returned (h.part, h.low) (Contains-append_right h.before row (h.part, h.low) (zero, omega arith, refl)) in
-    let first_lower : Reaches (Attached old) (back (moved h.part)) (back h.lower) =
-    reaches_none (Attached old) (back (moved h.part)) (back h.lower) (h.inverse h.part ∙ sym h.lower_back) in
-    let last_upper : Reaches (Attached old) (back h.last) (back h.upper) = reaches_none (Attached old) (back h.last) (back h.upper) (h.last_back ∙ sym h.upper_back) in
-    let last_high : Reaches (Attached old) (back h.last) (back (moved h.high)) =
-    joins_along old (back h.last) (back (moved h.high)) h.part h.high h.last_back (h.inverse h.high)
-    (among h.part h.high (Contains-append_right h.before row (h.part, h.high) (suc zero, omega arith, refl))) in
+    let first_low : Reaches (Attached old) (back (moved five.part)) (back (moved h.low)) =
+    returned (five.part, h.low) (Contains-append_right h.before row (five.part, h.low) (zero, omega arith, refl)) in
+    let first_lower : Reaches (Attached old) (back (moved five.part)) (back five.lower) =
+    reaches_none (Attached old) (back (moved five.part)) (back five.lower) (h.inverse five.part ∙ sym h.lower_back) in
+    let last_upper : Reaches (Attached old) (back five.last) (back five.upper) = reaches_none (Attached old) (back five.last) (back five.upper) (h.last_back ∙ sym h.upper_back) in
+    let last_high : Reaches (Attached old) (back five.last) (back (moved h.high)) =
+    joins_along old (back five.last) (back (moved h.high)) five.part h.high h.last_back (h.inverse h.high)
+    (among five.part h.high (Contains-append_right h.before row (five.part, h.high) (suc zero, omega arith, refl))) in
     let rest : List (ℕ × ℕ) = map (both_moved moved) h.behind in
-    let end : List (ℕ × ℕ) = (h.last, h.upper) ∷ (h.last, moved h.high) ∷ rest in
+    let end : List (ℕ × ℕ) = (five.last, five.upper) ∷ (five.last, moved h.high) ∷ rest in
     joined_mapped new old back
     (subst (λ (links : List (ℕ × ℕ)). AllByRecursion (AreJoined old back) links) (sym h.new_links)
-    (all_append (AreJoined old back) (map (both_moved moved) h.before) ((moved h.part, moved h.low) ∷ (moved h.part, h.lower) ∷ (h.between ++ end))
+    (all_append (AreJoined old back) (map (both_moved moved) h.before) ((moved five.part, moved h.low) ∷ (moved five.part, five.lower) ∷ (h.between ++ end))
     (all_map (AreJoined old back) (both_moved moved) h.before (all_weaker (Contains h.before) (λ pair. AreJoined old back (both_moved moved pair)) of_before h.before (contains_itself h.before)))
     (first_low, (first_lower,
-    all_append (AreJoined old back) h.between end (all_weaker (λ pair. (back pair.0 ≡ h.part) × (back pair.1 ≡ h.part)) (AreJoined old back) of_between h.between h.only)
+    all_append (AreJoined old back) h.between end (all_weaker (λ pair. (back pair.0 ≡ five.part) × (back pair.1 ≡ five.part)) (AreJoined old back) of_between h.between h.only)
     (last_upper, (last_high,
     all_map (AreJoined old back) (both_moved moved) h.behind (all_weaker (Contains h.behind) (λ pair. AreJoined old back (both_moved moved pair)) of_behind h.behind (contains_itself h.behind))))))))
 
 -- so the nets are the same
-pub same_nets : (old new : List (ℕ × ℕ)) (moved back : ℕ → ℕ) → AreBentLinks old new moved back → (p q : ℕ)
+pub same_nets : (old new : List (ℕ × ℕ)) (moved back : ℕ → ℕ) (five : Five) → AreBentLinks old new moved back five → (p q : ℕ)
     → Reaches (Attached old) p q ↔ Reaches (Attached new) (moved p) (moved q)
-same_nets old new moved back h p q =
-    (joined_after old new moved back h p q,
-    λ r. joins_along old p q (back (moved p)) (back (moved q)) (sym (h.inverse p)) (sym (h.inverse q)) (joined_back old new moved back h (moved p) (moved q) r))
+same_nets old new moved back five h p q =
+    (joined_after old new moved back five h p q,
+    λ r. joins_along old p q (back (moved p)) (back (moved q)) (sym (h.inverse p)) (sym (h.inverse q)) (joined_back old new moved back five h (moved p) (moved q) r))
