@@ -33,7 +33,7 @@ pub record IsBetween (wire : Wire) (layer : Layer) (i j : ℕ) : Type 0 where
   pub high : wire.high ≡ ends.Node j
 
 -- a wire between the names of two nodes
-between_names : (known : Known) (layer : DrawnLayer) (a b : List ℕ) (wire : Wire) (i j : ℕ) → AreApart known → IsEndOf known a (ends.Node i) → IsEndOf known b (ends.Node j)
+pub between_names : (known : Known) (layer : DrawnLayer) (a b : List ℕ) (wire : Wire) (i j : ℕ) → AreApart known → IsEndOf known a (ends.Node i) → IsEndOf known b (ends.Node j)
     → IsJoined known (record { layer = layer; a = a; b = b }) wire → IsBetween wire (layer_of layer) i j ⊎ IsBetween wire (layer_of layer) j i
 between_names known layer a b wire i j apart at_a at_b joined = by joined.ends
   where
@@ -43,7 +43,7 @@ between_names known layer a b wire i j apart at_a at_b joined = by joined.ends
     by (inr e) = inr (record { own = joined.layer; low = one_end known b j wire.low apart at_b e.0; high = one_end known a i wire.high apart at_a e.1 })
 
 -- of which the second lies higher
-upward_names : (tech : Tech) (known : Known) (layer : DrawnLayer) (a b : List ℕ) (wire : Wire) (i j : ℕ) → AreApart known → IsEndOf known a (ends.Node i) → IsEndOf known b (ends.Node j)
+pub upward_names : (tech : Tech) (known : Known) (layer : DrawnLayer) (a b : List ℕ) (wire : Wire) (i j : ℕ) → AreApart known → IsEndOf known a (ends.Node i) → IsEndOf known b (ends.Node j)
     → (node_at known.nodes i).row < (node_at known.nodes j).row → IsJoined known (record { layer = layer; a = a; b = b }) wire → IsWire tech (cell_of known) wire
     → IsBetween wire (layer_of layer) i j
 upward_names tech known layer a b wire i j apart at_a at_b lt joined is = by (between_names known layer a b wire i j apart at_a at_b joined)
@@ -79,11 +79,11 @@ two_parts : (p q r s : ℕ) → p ≡ r → q ≡ s → ◌≡◌ {A = List ℕ}
 two_parts p q r s e g = ap (λ x. x ∷ q ∷ []) e ∙ ap (λ x. r ∷ x ∷ []) g
 
 -- where the two new nodes stand
-lower_at : (bend : Bend) (front back : List Node) (lower upper : Node) (old new : List Node) → AreInserted bend front back lower upper old new → node_at new (length front) ≡ lower
+pub lower_at : (bend : Bend) (front back : List Node) (lower upper : Node) (old new : List Node) → AreInserted bend front back lower upper old new → node_at new (length front) ≡ lower
 lower_at bend front back lower upper old new are =
     ap (λ (nodes : List Node). node_at nodes (length front)) are.new_nodes ∙ get_or_at (map (moved_node bend) front) lower (upper ∷ map (moved_node bend) back) no_node (length front) (length-map front (moved_node bend))
 
-upper_at : (bend : Bend) (front back : List Node) (lower upper : Node) (old new : List Node) → AreInserted bend front back lower upper old new → node_at new (length front + 1) ≡ upper
+pub upper_at : (bend : Bend) (front back : List Node) (lower upper : Node) (old new : List Node) → AreInserted bend front back lower upper old new → node_at new (length front + 1) ≡ upper
 upper_at bend front back lower upper old new are =
     ap (λ (nodes : List Node). node_at nodes (length front + 1)) (are.new_nodes ∙ sym (append_assoc (map (moved_node bend) front) (lower ∷ []) (upper ∷ map (moved_node bend) back)))
     ∙ get_or_at (map (moved_node bend) front ++ lower ∷ []) upper (map (moved_node bend) back) no_node (length front + 1)
@@ -121,7 +121,7 @@ five_of place n k =
     record { part = n + k; lower = place; middle = moved_number place n k (n + k) + 1; upper = place + 1; last = moved_number place n k (n + k) + 1 + 1 }
 
 -- the links of both cells, where the other wires end where they did
-bent_links : (bend : Bend) (front back : List Node) (lower upper : Node) (old new : Known) → AreInserted bend front back lower upper old.nodes new.nodes → IsOnePart lower → IsOnePart upper
+pub bent_links : (bend : Bend) (front back : List Node) (lower upper : Node) (old new : Known) → AreInserted bend front back lower upper old.nodes new.nodes → IsOnePart lower → IsOnePart upper
     → (k low high : ℕ) (layer : Layer) (before behind its_before its_behind : List Wire) (wire first middle last : Wire) → old.wires ≡ before ++ wire ∷ behind
     → new.wires ≡ its_before ++ first ∷ middle ∷ last ∷ its_behind → length before ≡ k → AllZip (IsMovedWire (length front) old new) before its_before
     → AllZip (IsMovedWire (length front) old new) behind its_behind → low < length old.nodes → high < length old.nodes → AreThree (length front) low high layer wire first middle last

@@ -6,3 +6,6 @@ pub mod Turned
 pub mod Parts
 pub mod Moved
 pub mod Bent
+pub mod Forms
+pub mod Named
+pub mod Jogged

@@ -24,7 +24,7 @@ pub record AreInserted (bend : Bend) (front back : List Node) (lower upper : Nod
   pub one_lower : kind_parts lower.kind ≡ 1
   pub one_upper : kind_parts upper.kind ≡ 1
 
-length_new : (bend : Bend) (front back : List Node) (lower upper : Node) → length (map (moved_node bend) front ++ lower ∷ upper ∷ map (moved_node bend) back) ≡ length front + 2 + length back
+pub length_new : (bend : Bend) (front back : List Node) (lower upper : Node) → length (map (moved_node bend) front ++ lower ∷ upper ∷ map (moved_node bend) back) ≡ length front + 2 + length back
 length_new bend front back lower upper =
     omega (arith, length-append (map (moved_node bend) front) (lower ∷ upper ∷ map (moved_node bend) back), length-map front (moved_node bend), length-map back (moved_node bend))
 
