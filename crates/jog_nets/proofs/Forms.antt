@@ -123,6 +123,11 @@ forms_laid_out number [] k = refl
 forms_laid_out number (cell ∷ cells) zero = forms_of_numbered (number + 1) cell.lines
 forms_laid_out number (cell ∷ cells) (suc k) = forms_laid_out (number + 1 + length cell.lines + 1) cells k
 
+-- there are as many
+pub length_laid_out : (number : ℕ) (cells : List CellText) → length (cells_from number cells) ≡ length cells
+length_laid_out number [] = refl
+length_laid_out number (cell ∷ cells) = ap suc (length_laid_out (number + 1 + length cell.lines + 1) cells)
+
 -- ---- the line of a wire
 
 pub wire_form : (layer : Layer) (form : Form) → IsWireOf layer form → (a : List ℕ) × (b : List ℕ) × (width : Option ℕ) × (form ≡ Wire layer a b width)

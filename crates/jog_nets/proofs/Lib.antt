@@ -9,3 +9,4 @@ pub mod Bent
 pub mod Forms
 pub mod Named
 pub mod Jogged
+pub mod Kept
