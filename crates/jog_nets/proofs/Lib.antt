@@ -1,0 +1,12 @@
+pub mod Links
+pub mod Lines
+pub mod Grew
+pub mod Told
+pub mod Turned
+pub mod Parts
+pub mod Moved
+pub mod Bent
+pub mod Forms
+pub mod Named
+pub mod Jogged
+pub mod Kept
