@@ -22,3 +22,4 @@ mod OneJogs
 mod OneAnswer
 mod FewParts
 mod SplitAlike
+mod JogLaws

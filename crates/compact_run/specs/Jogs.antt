@@ -41,7 +41,7 @@ pub record IsLaidOutAs (tech : Tech) (axes : List Axis) (design : Design) (numbe
 
 -- no master is wider than it was
 abbrev pub IsNoWider : List ℤ → List ℤ → Type 0
-IsNoWider widths after = (m : ℕ) → m < length after → value_of after m ≤ℤ value_of widths m
+IsNoWider widths after = (m : ℕ) → value_of after m ≤ℤ value_of widths m
 
 -- The new design of a jog is kept: its canonical text is not too long, `compact` lays it out, with masters of these numbers and widths, the jog's master is
 -- narrower, and none is wider.

@@ -15,3 +15,4 @@ pub mod Fetches
 pub mod OneAnswer
 pub mod Checked
 pub mod Splits
+pub mod JogLaws

@@ -118,7 +118,7 @@ fn is_narrower(widths: &[i64], after: &[i64], master: usize) -> bool
 fn is_no_wider(widths: &[i64], after: &[i64]) -> bool
     ensures { IsTrue result ↔ IsNoWider widths.now after.now }
 {
-    for m in 0..after.len() {
+    for m in 0..after.len().max(widths.len()) {
         if at(widths, m) < at(after, m) {
             return false;
         }

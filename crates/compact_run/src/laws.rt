@@ -3,6 +3,7 @@
 ghost use Rattle.lam_io.specs.Io.{Files};
 ghost use Rattle.run_words.specs.Words.{texts_of};
 ghost use Rattle.compact_run.specs.Checked.{MasksPassTheCheck};
+ghost use Rattle.compact_run.specs.JogLaws.{AreJudgedAsTexts, JogsWidenNoCell};
 ghost use Rattle.compact_run.specs.OneAnswer.{HasOneAnswer};
 ghost use Rattle.compact_run.specs.Splits.{SplitsAnswerAlike};
 
@@ -28,4 +29,14 @@ pub fn masks_pass_the_check()
 /// first law above, each such answer is the one there is.
 pub fn splits_answer_alike()
     ensures { SplitsAnswerAlike }
+{}
+
+/// A law, with nothing to run: after a script of jogs the last design is laid out, and no master is wider than before them.
+pub fn jogs_widen_no_cell()
+    ensures { JogsWidenNoCell }
+{}
+
+/// A law, with nothing to run: the design that a jog makes is laid out exactly where `compact` is done with its canonical text.
+pub fn jogs_are_judged_as_texts()
+    ensures { AreJudgedAsTexts }
 {}

@@ -25,6 +25,9 @@ mod slack;
 mod status;
 mod top;
 
-pub use laws::{answers_are_determined, masks_pass_the_check, splits_answer_alike};
+pub use laws::{
+    answers_are_determined, jogs_are_judged_as_texts, jogs_widen_no_cell, masks_pass_the_check,
+    splits_answer_alike,
+};
 pub use status::{File, Side2, Status, What};
 pub use top::run;
