@@ -48,6 +48,9 @@ ROWS = [
     ("extract a grid", 0, "extract d --tech t", "library.cif"),
     ("fmt two grids", 0, "fmt d", "library.sticks"),
     ("bench", 0, "bench 2", ""),
+    ("slack of two masters in two grids", 0, "slack d --tech t", "library.sticks"),
+    ("jogs, one accepted", 0, "jog d --tech t --script s", CELL % "joint u metal 0 0\njoint a metal 1 0\njoint b metal 1 1\njoint v metal 2 1\nwire metal a b\n"),
+    ("refuse a script", 16, "jog d --tech t --script t", CELL % TWO),
     ("refuse words", 2, "compact d --tech t --passes x", ""),
     ("refuse a missing file", 3, "compact none --tech t", ""),
     ("refuse a long file", 5, "compact --tech d d", "#" * 65537),
@@ -97,6 +100,8 @@ def main():
         tries = Tries(folder)
         with open(os.path.join(EXAMPLES, "nmos.toml")) as file, open("t", "w") as copy:
             copy.write(file.read())
+        with open("s", "w") as file:
+            file.write("jog t 0 0 left\njog t 9 0 left\n")
         for name, wanted, words, text in ROWS:
             if os.path.isfile(os.path.join(EXAMPLES, text)):
                 with open(os.path.join(EXAMPLES, text)) as file:

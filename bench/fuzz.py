@@ -7,6 +7,7 @@ made ones. What is looked for:
   - an end by a signal, a number that the manual does not have, want of memory, more than 10 s or 700 MB
   - an output beside a refusal; an output, a report or a refusal's line that is not of the manual's form; a walk or a cycle that does not add up
   - masks that `compact` wrote and that `check` does not find `ok` or `extract` refuses; `check` and `extract` that contradict one another
+  - `slack` and `jog` that are refused otherwise than `compact`, a jogged design that is not laid out, or with a wider cell
   - a text of `fmt` that `fmt` changes, or that `compact` answers otherwise than the design that it was made of
   - another answer to the same words and files, or with `--split` or with `--tech=FILE`
 The files of whatever is found are kept, in `fuzz-found` if no folder is given. The last line is 'N found', and the status 1 where N is not 0."""
@@ -27,8 +28,8 @@ LINE_KINDS = (rb"BadByte|NumberTooLarge|BadLine|Unended|TooManyCells|RepeatedNam
               rb"|WrongTerminal|NotStraight|WrongLayer|WrongSide|PortWires|WideWire|BadLimit|NoBuried")
 REFUSALS = {
     2: rb"sticks: usage\n",
-    3: rb"sticks: cannot read (?:design|technology|cif)\n",
-    5: rb"sticks: too long: (?:design|technology|cif)\n",
+    3: rb"sticks: cannot read (?:design|technology|cif|script)\n",
+    5: rb"sticks: too long: (?:design|technology|cif|script)\n",
     6: rb"sticks: technology: (?:NotToml|(?:Missing|WrongType|OutOfRange|OddWidth|ZeroSpacing) [a-z_.]+|Unknown .*|OddGrid.*|ShortChannel|ShortExtension|NarrowFet|PadTooSmall)\n",
     7: rb"sticks: line [1-9]\d*: (?:%s)\n" % LINE_KINDS,
     8: rb"sticks: grid(?: %s)?: (?:Empty|UnknownCell \d+ \d+|RaggedRow \d+|PortMismatch \d+ \d+ (?:right|top) \d+)\n" % NAME,
@@ -38,12 +39,17 @@ REFUSALS = {
     12: rb"sticks: byte \d+: (?:BadCommand|BadNumber|NestedDefinition|RepeatedSymbol|UnknownSymbol|NoLayer|OddScale|NoEnd|AfterEnd)\n",
     13: rb"sticks: rule (?:[1-9]|1[012]): boxes \d+ \d+\n",
     14: rb"sticks: not proper: boxes \d+ \d+\n",
+    16: rb"sticks: script line [1-9]\d*\n",
 }
 REFUSALS = {status: re.compile(form, re.S) for status, form in REFUSALS.items()}
 BOX = rb"B [1-9]\d* [1-9]\d* %s %s;\n" % (NUMBER, NUMBER)
 MASKS = re.compile(rb"(?:DS \d+ \d+ 1;\n9 %s;\n(?:L N[DPCMIB];\n(?:%s)+)*DF;\n)+(?:C \d+ T \d+ \d+;\n)+E\n" % (NAME, BOX))
 REPORT = re.compile(rb"(?:%s)+" % PASS)
 NETS = re.compile(rb"nets (\d+) devices (\d+)\n((?:net \d+ nd \d+ np \d+ nm \d+\n)*)((?:device \d+ (?:enh|dep) w \d+ l \d+ gate \d+ low \d+ high \d+ at %s %s\n)*)" % (NUMBER, NUMBER))
+SLACKS = re.compile(rb"axis x pass \d+\n((?:cell %s size \d+\n(?:%s:%s least %s most %s slack \d+\n)*)+)axis y pass \d+\n((?:cell %s size \d+\n(?:%s:%s least %s most %s slack \d+\n)*)+)"
+                    % (NAME, NAME, OWNER, NUMBER, NUMBER, NAME, NAME, OWNER, NUMBER, NUMBER))
+SLACK = re.compile(rb"\S+ least (%s) most (%s) slack (\d+)\n" % (NUMBER, NUMBER))
+JOGS = re.compile(rb"(?:jog \d+ %s (?:rejected|accepted \d+ -> \d+)\n)*" % NAME)
 STEPS = re.compile(rb"(\S+) -> (\S+) (%s) \w+\n" % NUMBER)
 
 Answer = collections.namedtuple("Answer", "status out err")
@@ -123,6 +129,11 @@ def walks_add_up(report):
     return True
 
 
+def last_on_x(report):
+    """The part of a report that tells the last pass on x."""
+    return [part for part in re.split(rb"^(?=pass )", report, flags=re.M) if re.match(rb"pass \d+ x", part)][-1]
+
+
 def form_faults(command, answer, text):
     """What is wrong with the form of an answer, where text is what was read, or is not known."""
     status, out, err = answer
@@ -151,6 +162,10 @@ def form_faults(command, answer, text):
     elif command == b"extract":
         found = NETS.fullmatch(out)
         good = found and not err and found[3].count(b"\n") == int(found[1]) and found[4].count(b"\n") == int(found[2])
+    elif command == b"slack":
+        good = SLACKS.fullmatch(out) and not err and all(int(most) - int(least) == int(slack) for least, most, slack in SLACK.findall(out))
+    elif command == b"jog":
+        good = JOGS.fullmatch(err) and all(int(after) < int(before) for before, after in re.findall(rb"(\d+) -> (\d+)", err))
     elif command == b"bench":
         good = re.fullmatch(rb"bench \d+ items \d+ kept \d+ \d+ size \d+ \d+ nets \d+ devices \d+\n", out) and not err
     else:
@@ -186,7 +201,7 @@ class Inputs:
             wrong.append("%s: another answer, %d" % (what, answer.status))
 
     def design(self, rng, text):
-        """A design through `compact` and `fmt`, and its masks through `check` and `extract`."""
+        """A design through `compact`, `fmt`, `slack` and `jog`, and its masks through `check` and `extract`."""
         run = self.runner
         run.put("d", text)
         run.put("t", self.techs[rng.choice(sorted(self.techs))])
@@ -198,6 +213,8 @@ class Inputs:
             if self.ok([b"check", b"c", b"--tech", b"t"], wrong, "check of the masks", answer.out).out != b"ok\n":
                 wrong.append("check of the masks")
             self.ok([b"extract", b"c", b"--tech", b"t"], wrong, "extract of the masks", answer.out)
+        if rng.random() < 0.4:
+            wrong += self.moved(rng, text, answer, passes)
         formatted, faults = self.ask([b"fmt", b"d"], text)
         wrong += faults
         if formatted.status == 0:
@@ -211,6 +228,31 @@ class Inputs:
             wrong.append("compact reads what fmt refuses")
         run.put("d", text)
         return answer, wrong
+
+    def moved(self, rng, text, compacted, passes):
+        """What is wrong with how `slack` and `jog` answer over the same files: refused as `compact` is, and a jogged design is laid out."""
+        run, wrong = self.runner, []
+        slack, faults = self.ask([b"slack", b"d", b"--tech", b"t", *passes], text)
+        wrong += faults
+        if slack.status != compacted.status or slack.status and slack != compacted:
+            wrong.append("slack answers %d and compact %d" % (slack.status, compacted.status))
+        script = fuzz_texts.script(rng, text)
+        run.put("s", script)
+        jog, faults = self.ask([b"jog", b"d", b"--tech", b"t", b"--script", b"s", *passes], None)
+        wrong += faults
+        if compacted.status and jog != compacted or not compacted.status and jog.status not in (0, 16):
+            wrong.append("jog answers %d and compact %d" % (jog.status, compacted.status))
+        if jog.status == 0:
+            run.put("j", jog.out)
+            answer = self.ok([b"compact", b"j", b"--tech", b"t", *passes], wrong, "compact after jogs", jog.out)
+            accepted = re.findall(rb"jog \d+ (\S+) accepted \d+ -> (\d+)\n", jog.err)
+            sizes = dict(re.findall(rb"^cell (\S+) size (\d+)", last_on_x(answer.err), re.M)) if answer.status == 0 else {}
+            before = dict(re.findall(rb"^cell (\S+) size (\d+)", last_on_x(compacted.err), re.M))
+            if answer.status == 0 and not all(sizes[cell] == after for cell, after in dict(accepted).items() if not any(cell != c for c, _ in accepted)):
+                wrong.append("another width than the one told")
+            if answer.status == 0 and any(int(sizes[cell]) > int(before[cell]) for cell in before):
+                wrong.append("a wider cell")
+        return wrong
 
     def tech(self, rng):
         run = self.runner

@@ -189,6 +189,15 @@ def made_cell(rng, name, earlier):
     return "cell %s\n%send\n" % (name, "".join(line + "\n" for line in body)), names, bool(ports)
 
 
+def script(rng, design):
+    """A script of jogs in cells of a design, mostly without a fault."""
+    cells = re.findall(rb"^\s*cell\s+(\S+)", design, re.M) or [b"c"]
+    lines = [b"jog %s %d %d %s" % (rng.choice(cells), rng.randint(0, 6), rng.randint(0, 5), rng.choice([b"left", b"right"])) for _ in range(rng.choice([0, 1, 1, 2, 4, 8]))]
+    if rng.random() < 0.15:
+        lines.insert(rng.randint(0, len(lines)), rng.choice([b"jog", b"jog c 0 0 up", b"# jog", b"", b"jog c -1 0 left", b"jog c 1000001 0 left", b"jog a.b 0 0 left", b"jog none 0 0 left", b"\xff"]))
+    return b"".join(line + rng.choice([b"\n", b"\n", b"\r\n"]) for line in lines)
+
+
 def made_design(rng):
     cells, earlier, every = [], [], []
     for k in range(rng.choice([1, 1, 2, 3, 5])):
