@@ -1,16 +1,15 @@
 -- A slack that falls to what an edge allows, and a round of them.
-use Rattle.std.proofs.Common.{◌≡◌, ℕ, ◌+◌, ◌-◌, ◌*◌, ◌^◌, ◌<◌, ◌≤◌, Bool, true, false, cond, ltb, eqb, inl, inr, ℤ, pos, neg_ℤ, ◌+ℤ◌, ◌-ℤ◌, ◌≤ℤ◌, List, length, get_or, set, refl, sym, ap, subst, ◌∙◌, arith}
-use Rattle.std.specs.List.{All, Contains, sum, sum_by}
+use Rattle.std.proofs.Common.{◌≡◌, ℕ, ◌+◌, ◌*◌, ◌^◌, ◌<◌, ◌≤◌, Bool, true, false, cond, ltb, eqb, inl, inr, ℤ, pos, neg_ℤ, ◌+ℤ◌, ◌-ℤ◌, ◌≤ℤ◌, List, length, get_or, set, refl, sym, ap, subst, ◌∙◌, arith}
+use Rattle.std.specs.List.{All, Contains, sum}
 use Rattle.std.proofs.lemmas.Int.{ints}
 use Rattle.std.proofs.lemmas.Bool.{cases_eq, cases_lt, cond-true, cond-false, lt-ltb, le-ltb, eq-eqb, eqb-true}
-use Rattle.std.proofs.lemmas.List.{length-set, get_or-set_same, get_or-set_other, get_or_default}
+use Rattle.std.proofs.lemmas.List.{length-set, get_or-set_same, get_or-set_other}
 use Rattle.std.proofs.lemmas.List.Elements.{All-set, Contains-get_or}
 use Rattle.std.proofs.lemmas.List.Sums.{sum_by-set}
 use Rattle.cons_graph.specs.declared.edges.Edge.{Edge}
 use Rattle.cons_graph.specs.declared.edges.Why.TheVariants.{Size}
 use Rattle.cons_graph.specs.Constraints.{Constraints, IsConstraintGraph, IsEdgeAmong}
 use Rattle.cons_graph.specs.EdgeNumbers.{edge_at, all_numbers, leaving}
-use Rattle.round_log.specs.Orders.{NamesEachOnce}
 use Rattle.round_log.proofs.Chains.{In}
 use Rattle.round_log.proofs.Least.{edge_among}
 use Rattle.round_log.proofs.Members.{In-filter, In-filter-from, In-range, In-range-from}

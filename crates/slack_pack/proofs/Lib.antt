@@ -2,3 +2,4 @@ pub mod Walks
 pub mod Least
 pub mod Falls
 pub mod Settled
+pub mod WorkedRow

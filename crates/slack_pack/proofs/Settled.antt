@@ -10,10 +10,10 @@ use Rattle.cons_graph.specs.declared.edges.Edge.{Edge}
 use Rattle.cons_graph.specs.declared.edges.Why.TheVariants.{Size}
 use Rattle.cons_graph.specs.Constraints.{Constraints, IsConstraintGraph, IsEdgeAmong}
 use Rattle.cons_graph.specs.EdgeNumbers.{edge_at}
-use Rattle.cons_graph.specs.Solutions.{Meets, IsSolution, value_of}
+use Rattle.cons_graph.specs.Solutions.{value_of}
 use Rattle.cons_graph.specs.Walks.{IsWalk}
 use Rattle.slack_pack.specs.Most.{IsHeld, IsMost, HasWalk, IsAttained}
-use Rattle.slack_pack.specs.Slacks.{none_yet, IsPlaced, room_of, Allows, reached, AreSlacks, IsLowered, IsQuietAt, AreFirst}
+use Rattle.slack_pack.specs.Slacks.{none_yet, IsPlaced, Allows, reached, AreSlacks, IsLowered, IsQuietAt, AreFirst}
 use Rattle.slack_pack.proofs.Walks.{no_walk, attained_above}
 
 -- ---- the start
@@ -59,7 +59,7 @@ pub first_slacks_are : (g : Constraints) (far : List ℕ) (xs : List ℤ) (slack
 first_slacks_are g far xs slacks p h =
     let x : ℕ → ℤ = value_of xs in
     let zero : (v : ℕ) → v < g.vars → get_or slacks v 0 < none_yet → (get_or slacks v 0 ≡ 0) × ((v ≡ 0) ⊎ Contains far v) = λ v vv lt.
-        elim (h.others v vv) as (λ _. (get_or slacks v 0 ≡ 0) × ((v ≡ 0) ⊎ Contains far v)) [ inl e ↦ absurd (omega arith) | inr w ↦ w ] in
+    elim (h.others v vv) as (λ _. (get_or slacks v 0 ≡ 0) × ((v ≡ 0) ⊎ Contains far v)) [ inl e ↦ absurd (omega arith) | inr w ↦ w ] in
     record {
       origin = h.origin;
       held = h.held;

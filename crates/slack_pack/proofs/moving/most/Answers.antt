@@ -1,7 +1,7 @@
-use Rattle.std.proofs.Common.{◌≡◌, ℕ, ◌+◌, ◌^◌, ◌<◌, ◌≤◌, ℤ, pos, ◌+ℤ◌, List, length, get_or, Vec, Global, refl, sym, ap, subst, ◌∙◌, arith}
+use Rattle.std.proofs.Common.{◌≡◌, ℕ, ◌^◌, ◌<◌, ◌≤◌, ℤ, pos, ◌+ℤ◌, List, length, get_or, Vec, Global, refl, sym, subst, arith}
 use Rattle.std.specs.List.{All}
 use Rattle.std.proofs.lemmas.Result.{IfOk-weaker}
-use Rattle.cons_graph.specs.Constraints.{Constraints, IsConstraintGraph}
+use Rattle.cons_graph.specs.Constraints.{IsConstraintGraph}
 use Rattle.cons_graph.specs.Solutions.{value_of}
 use Rattle.slack_pack.specs.Most.{IsMost, IsAttained}
 use Rattle.slack_pack.specs.Slacks.{IsPlaced, AreFirst}
