@@ -1,5 +1,5 @@
 -- The links of a cell with a bent wire.
-use Rattle.std.proofs.Common.{◌≡◌, ℕ, zero, suc, ◌+◌, ◌<◌, ◌≤◌, Bool, true, false, List, [], ◌∷◌, ◌++◌, length, map, Option, Some, None, inl, inr, refl, sym, ap, subst, ◌∙◌, arith}
+use Rattle.std.proofs.Common.{◌≡◌, ℕ, zero, suc, ◌+◌, ◌<◌, ◌≤◌, Bool, true, false, List, [], ◌∷◌, ◌++◌, length, map, inl, inr, refl, sym, ap, subst, ◌∙◌, arith}
 use Rattle.std.specs.Prelude.{◌⊎◌, Contains}
 use Rattle.std.specs.List.{AllByRecursion, AllZip}
 use Rattle.std.proofs.lemmas.List.{append_assoc, length-append, length-map, get_or_at}
@@ -9,21 +9,20 @@ use Rattle.list_facts.proofs.Elements.{all_parts}
 use Rattle.rule_table.specs.declared.technology.Tech.{Tech}
 use Rattle.rule_table.specs.declared.classes.Layer.{Layer}
 use Rattle.stick_parse.specs.declared.design.Layer.{Layer as DrawnLayer}
-use Rattle.cell_model.specs.declared.cell.NodeKind.{NodeKind}
 use Rattle.cell_model.specs.declared.cell.Node.{Node}
 use Rattle.cell_model.specs.declared.cell.WireEnd.{WireEnd}
 use Rattle.cell_model.specs.declared.cell.WireEnd.TheVariants as ends
 use Rattle.cell_model.specs.declared.cell.Wire.{Wire}
-use Rattle.cell_model.specs.Sound.{node_at, no_node, wire_at, no_wire, IsWire}
+use Rattle.cell_model.specs.Sound.{node_at, no_node, IsWire}
 use Rattle.cell_model.specs.Nets.{kind_parts, node_parts, first_part, joined_part, attachments, attachments_of}
 use Rattle.stick_cell.specs.Known.{Known, cell_of}
 use Rattle.stick_cell.specs.Checks.{layer_of}
-use Rattle.jog_insert.specs.Bends.{Bend, moved_row}
-use Rattle.jog_nets.proofs.Lines.{Joining, sides, side_named, IsEndOf, IsJoined}
+use Rattle.jog_insert.specs.Bends.{Bend}
+use Rattle.jog_nets.proofs.Lines.{Joining, IsEndOf, IsJoined}
 use Rattle.jog_nets.proofs.Links.{both_moved, Five, AreBentLinks}
 use Rattle.jog_nets.proofs.Turned.{moved_node, shifted, IsRunOf, run_of_wire, upward}
-use Rattle.jog_nets.proofs.Parts.{AreInserted, node_moved, node_parts_inserted, parts_before, moved_number, number_back, number_returns, moved_between, moved_above, back_joints, back_wires}
-use Rattle.jog_nets.proofs.Moved.{AreApart, IsBentOf, one_end, node_end, IsMovedWire, moved_wires, wire_ends, part_at_end, links_moved, attachments_append, ends_between, attached_first}
+use Rattle.jog_nets.proofs.Parts.{AreInserted, node_parts_inserted, parts_before, moved_number, number_back, number_returns, moved_between, moved_above, back_joints, back_wires}
+use Rattle.jog_nets.proofs.Moved.{AreApart, one_end, IsMovedWire, wire_ends, part_at_end, links_moved, attachments_append, ends_between, attached_first}
 
 -- ---- wires between two nodes
 
@@ -106,14 +105,22 @@ pair_back place n k p q (inr e) = (back_joints place n k p (omega arith) (omega 
 middle_ends : (nodes : List Node) (at place : ℕ) (lower upper : Node) (layer : Layer) (wire : Wire) → node_at nodes at ≡ lower → node_at nodes (at + 1) ≡ upper → IsOnePart lower → IsOnePart upper
     → first_part nodes at ≡ place → first_part nodes (at + 1) ≡ place + 1 → IsBetween wire layer at (at + 1) ⊎ IsBetween wire layer (at + 1) at
     → (p : ℕ) × (q : ℕ) × ArePair place p q × (wire_ends nodes wire ≡ p ∷ q ∷ [])
-middle_ends nodes at place lower upper layer wire is_lower is_upper one_lower one_upper first second (inl h) =
-    (place, place + 1, inl (refl, refl), ends_between nodes wire layer at (at + 1) h.own h.low h.high
-    ∙ two_parts (first_part nodes at + joined_part (node_at nodes at).kind layer true) (first_part nodes (at + 1) + joined_part (node_at nodes (at + 1)).kind layer false) place (place + 1)
-    (only_part nodes at place lower layer true is_lower one_lower first) (only_part nodes (at + 1) (place + 1) upper layer false is_upper one_upper second))
-middle_ends nodes at place lower upper layer wire is_lower is_upper one_lower one_upper first second (inr h) =
-    (place + 1, place, inr (refl, refl), ends_between nodes wire layer (at + 1) at h.own h.low h.high
-    ∙ two_parts (first_part nodes (at + 1) + joined_part (node_at nodes (at + 1)).kind layer true) (first_part nodes at + joined_part (node_at nodes at).kind layer false) (place + 1) place
-    (only_part nodes (at + 1) (place + 1) upper layer true is_upper one_upper second) (only_part nodes at place lower layer false is_lower one_lower first))
+middle_ends nodes at place lower upper layer wire is_lower is_upper one_lower one_upper first second (inl h) = (
+  place,
+  place + 1,
+  inl (refl, refl),
+  ends_between nodes wire layer at (at + 1) h.own h.low h.high
+      ∙ two_parts (first_part nodes at + joined_part (node_at nodes at).kind layer true) (first_part nodes (at + 1) + joined_part (node_at nodes (at + 1)).kind layer false) place (place + 1)
+      (only_part nodes at place lower layer true is_lower one_lower first) (only_part nodes (at + 1) (place + 1) upper layer false is_upper one_upper second),
+)
+middle_ends nodes at place lower upper layer wire is_lower is_upper one_lower one_upper first second (inr h) = (
+  place + 1,
+  place,
+  inr (refl, refl),
+  ends_between nodes wire layer (at + 1) at h.own h.low h.high
+      ∙ two_parts (first_part nodes (at + 1) + joined_part (node_at nodes (at + 1)).kind layer true) (first_part nodes at + joined_part (node_at nodes at).kind layer false) (place + 1) place
+      (only_part nodes (at + 1) (place + 1) upper layer true is_upper one_upper second) (only_part nodes at place lower layer false is_lower one_lower first),
+)
 
 -- the bent wire, and the joints and wires behind its first piece
 abbrev pub five_of : ℕ → ℕ → ℕ → Five
@@ -170,7 +177,7 @@ bent_links bend front back lower upper old new are one_lower one_upper k low hig
     ap (attachments old.nodes n) old_is ∙ attachments_append old.nodes n before (wire ∷ behind)
     ∙ ap (λ (links : List (ℕ × ℕ)). links_before ++ links) (attached_first old.nodes (n + length before) part wire behind part_low part_high (sym number) ends_wire) in
     let new_links : attachments new.nodes base new.wires
-        ≡ map (both_moved m) links_before ++ (m part, m part_low) ∷ (m part, place) ∷ (second, p) ∷ (second, q) ∷ (third, place + 1) ∷ (third, m part_high) ∷ map (both_moved m) links_behind =
+    ≡ map (both_moved m) links_before ++ (m part, m part_low) ∷ (m part, place) ∷ (second, p) ∷ (second, q) ∷ (third, place + 1) ∷ (third, m part_high) ∷ map (both_moved m) links_behind =
     ap (attachments new.nodes base) new_is ∙ attachments_append new.nodes base its_before (first ∷ middle ∷ last ∷ its_behind)
     ∙ ap (λ (links : List (ℕ × ℕ)). links ++ attachments new.nodes (base + length its_before) (first ∷ middle ∷ last ∷ its_behind))
     (links_moved bend front back lower upper old new are k n base before its_before each_before zip_before)

@@ -1,10 +1,8 @@
 -- What moved lines bring, and the lines of a design that has been laid out.
-use Rattle.std.proofs.Common.{◌≡◌, ℕ, zero, suc, ◌+◌, ◌<◌, ◌≤◌, Bool, true, false, cond, List, [], ◌∷◌, ◌++◌, length, map, get_or, Option, Some, inl, inr, refl, sym, ap, subst, ◌∙◌, arith}
-use Rattle.std.specs.Prelude.{◌⊎◌, slice_set}
+use Rattle.std.proofs.Common.{◌≡◌, ℕ, zero, suc, ◌+◌, cond, List, [], ◌∷◌, ◌++◌, length, map, get_or, Option, refl, sym, ap, ◌∙◌, arith}
 use Rattle.std.specs.List.{AllByRecursion, flat_map}
-use Rattle.std.proofs.lemmas.List.{map-append, length-append, get_or-set_same}
+use Rattle.std.proofs.lemmas.List.{map-append, length-append}
 use Rattle.std.proofs.lemmas.List.Sums.{sum_by-cons}
-use Rattle.lam_geom.specs.declared.boxes.Side.{Side}
 use Rattle.rule_table.specs.declared.technology.Tech.{Tech}
 use Rattle.stick_parse.specs.declared.design.Layer.{Layer}
 use Rattle.stick_parse.specs.declared.design.Form.{Form}
@@ -16,7 +14,7 @@ use Rattle.cell_model.specs.declared.cell.Node.{Node}
 use Rattle.jog_insert.specs.Bends.{Bend, moved_form}
 use Rattle.jog_insert.specs.Jogs.{unnumbered, moved_line, is_wire, IsWireOf, wires_in, IsCopy, no_cell}
 use Rattle.jog_insert.specs.Nets.{nodes_from, nodes_before}
-use Rattle.jog_nets.proofs.Lines.{nodes_in, Sided, sides_in, Joining, joins_in, IsNoUse}
+use Rattle.jog_nets.proofs.Lines.{nodes_in, sides_in, joins_in, IsNoUse}
 use Rattle.jog_nets.proofs.Turned.{moved_node}
 
 -- the forms of some lines

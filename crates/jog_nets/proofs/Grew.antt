@@ -1,5 +1,5 @@
 -- Each line of a cell without uses adds to the cell what its form brings.
-use Rattle.std.proofs.Common.{◌≡◌, ℕ, ◌+◌, ◌<◌, ◌≤◌, ℤ, pos, Bool, true, false, cond, List, [], ◌∷◌, ◌++◌, length, map, Option, Some, None, Result, Ok, Err, inl, inr, refl, sym, ap, subst, ◌∙◌, arith}
+use Rattle.std.proofs.Common.{◌≡◌, ℕ, ℤ, pos, Bool, true, false, cond, List, [], ◌∷◌, ◌++◌, length, map, Option, Some, None, Result, Ok, inl, inr, refl, sym, ap, subst, ◌∙◌}
 use Rattle.std.specs.Prelude.{◌⊎◌, ◌&&◌, ◌||◌, ◌==◌, not, nat_lt, bytes_eq, option_map, option_and_then, IsTrue, if◌then◌else◌}
 use Rattle.std.specs.List.{AllByRecursion, AllZip, join_with_byte}
 use Rattle.std.proofs.lemmas.List.{append-nil, map-append}
@@ -7,7 +7,6 @@ use Rattle.std.proofs.lemmas.List.Splits.{join_with_byte-slice_split}
 use Rattle.list_facts.proofs.Elements.{all_append}
 use Rattle.lam_geom.specs.declared.boxes.Side.{Side}
 use Rattle.rule_table.specs.declared.technology.Tech.{Tech}
-use Rattle.rule_table.specs.declared.classes.Layer.{Layer}
 use Rattle.rule_table.specs.Technology.{has_buried_of}
 use Rattle.stick_lex.specs.Tokens.{names}
 use Rattle.stick_parse.specs.declared.fault.StickKind.{StickKind}
@@ -34,17 +33,17 @@ use Rattle.stick_cell.specs.declared.names.Terminal.TheVariants as terminals
 use Rattle.stick_cell.specs.declared.names.Found.{Found}
 use Rattle.stick_cell.specs.declared.names.Found.TheVariants.{At}
 use Rattle.stick_cell.specs.declared.names.Run.{Run}
-use Rattle.stick_cell.specs.Known.{Known, Plug, plug_at, with_node, with_port, with_wire, with_limit, plugged}
+use Rattle.stick_cell.specs.Known.{Known, Plug, with_node, with_port, with_wire, plugged}
 use Rattle.stick_cell.specs.Paths.{Names, named, names_at, behind, walk, found_at}
 use Rattle.stick_cell.specs.Checks.{demand, layer_of, is_fresh, is_place, is_channel, sized}
 use Rattle.stick_cell.specs.Lines.{axis_where, wired_of, after_joint, after_contact, after_buried, after_fet, after_form, after_lines}
-use Rattle.stick_cell.specs.Wires.{line_of, run_along, run_between, run_of, end_of, are_sides_free, wire_along}
+use Rattle.stick_cell.specs.Wires.{line_of, run_along, run_between, end_of}
 use Rattle.stick_cell.specs.Grown.{IsGrown, AreGrown}
 use Rattle.stick_cell.proofs.Accepted.{bound, two_demanded, demanded, ok_same, at_line_ok}
 use Rattle.stick_cell.proofs.Made.{IsWithPort, IsWithWire, IsWithLimit, port_made, wire_made, limit_made}
 use Rattle.stick_cell.proofs.GrownNames.{MorePlugs, IsAt, at_end_of, same_nodes, same_plugs, more_plugs}
 use Rattle.stick_cell.proofs.GrownPlugs.{more_plugged, more_plugs_twice}
-use Rattle.stick_cell.proofs.GrownRuns.{IsChecked, accepted_run, run_ends}
+use Rattle.stick_cell.proofs.GrownRuns.{accepted_run, run_ends}
 use Rattle.stick_cell.proofs.Grown.{grown-after_form}
 use Rattle.jog_nets.proofs.Lines.{size_or_none, nodes_in, Sided, sides_in, Joining, joins_in, IsNoUse, side_of, sided_entry, sides, side_named, IsOwn, AreOwn, IsEndOf, IsJoined, end_kept, Grew, grew_none, grew_more}
 

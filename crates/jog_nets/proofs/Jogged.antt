@@ -1,8 +1,8 @@
 -- A cell with a jog has the nets of the one before.
-use Rattle.std.proofs.Common.{◌≡◌, ℕ, zero, suc, ◌+◌, ◌<◌, ◌≤◌, ℤ, Bool, true, false, List, [], ◌∷◌, ◌++◌, length, map, Option, Some, None, inl, inr, refl, sym, ap, subst, ◌∙◌, arith}
+use Rattle.std.proofs.Common.{◌≡◌, ℕ, ◌+◌, ◌<◌, ◌≤◌, true, false, List, ◌∷◌, ◌++◌, length, map, Option, Some, None, inl, inr, refl, sym, ap, subst, ◌∙◌, arith}
 use Rattle.std.specs.Prelude.{◌⊎◌}
-use Rattle.std.specs.List.{AllByRecursion, AllZip, flat_map}
-use Rattle.std.proofs.lemmas.List.{map-append, get_or_at}
+use Rattle.std.specs.List.{AllZip, flat_map}
+use Rattle.std.proofs.lemmas.List.{get_or_at}
 use Rattle.std.proofs.lemmas.List.Concat.{flat_map-append}
 use Rattle.std.proofs.lemmas.List.Sums.{sum_by-take-le}
 use Rattle.std.proofs.lemmas.Slice.Zip.{AllZip-long}
@@ -10,7 +10,6 @@ use Rattle.std.proofs.lemmas.Bool.{cases_eq}
 use Rattle.std.proofs.lemmas.Bool.Decides.{nat_tests}
 use Rattle.lam_geom.specs.declared.boxes.Side.{Side}
 use Rattle.rule_table.specs.declared.technology.Tech.{Tech}
-use Rattle.rule_table.specs.declared.classes.Layer.{Layer}
 use Rattle.stick_parse.specs.declared.design.Layer.{Layer as DrawnLayer}
 use Rattle.stick_parse.specs.declared.design.Form.{Form}
 use Rattle.stick_parse.specs.declared.design.Form.TheVariants.{Wire}
@@ -25,7 +24,7 @@ use Rattle.cell_model.specs.Nets.{kind_parts, node_parts, first_part, attachment
 use Rattle.stick_cell.specs.Known.{Known, cell_of}
 use Rattle.stick_cell.specs.Checks.{layer_of, sized}
 use Rattle.jog_insert.specs.Bends.{Bend, part_col, moved_row, moved_form}
-use Rattle.jog_insert.specs.Jogs.{lower_name, upper_name, bent_forms, wires_in, IsTaken, IsFree}
+use Rattle.jog_insert.specs.Jogs.{lower_name, upper_name, bent_forms, IsFree}
 use Rattle.jog_insert.specs.Nets.{AreOneNet, moved_part, IsOfJog, KeepsNets}
 use Rattle.graph_search.specs.Netting.{Attached}
 use Rattle.graph_search.proofs.Chains.{reaches_none}
@@ -34,9 +33,9 @@ use Rattle.jog_nets.proofs.Lines.{size_or_none, nodes_in, Sided, sides_in, Joini
 use Rattle.jog_nets.proofs.Told.{IsTold}
 use Rattle.jog_nets.proofs.Turned.{moved_node, shifted}
 use Rattle.jog_nets.proofs.Parts.{AreInserted, length_new, node_moved, moved_number, moved_between, number_back}
-use Rattle.jog_nets.proofs.Moved.{AreApart, IsBentOf, node_end, moved_wires}
-use Rattle.jog_nets.proofs.Bent.{IsBetween, between_names, upward_names, AreThree, IsOnePart, lower_at, upper_at, five_of, bent_links, HasOne, has_one, HasThree, has_three}
-use Rattle.jog_nets.proofs.Forms.{forms_of, nodes_of_moved, sides_of_moved, joins_of_moved, length_joins}
+use Rattle.jog_nets.proofs.Moved.{IsBentOf, node_end, moved_wires}
+use Rattle.jog_nets.proofs.Bent.{between_names, upward_names, AreThree, IsOnePart, lower_at, upper_at, five_of, bent_links, HasOne, has_one, HasThree, has_three}
+use Rattle.jog_nets.proofs.Forms.{forms_of, nodes_of_moved, sides_of_moved, joins_of_moved}
 use Rattle.jog_nets.proofs.Named.{side_inserted, side_of_first, side_of_second, none_named, other_name}
 
 -- ---- the links
@@ -100,13 +99,16 @@ three_wires tech bend front back lower upper old new h joints low high layer a b
     let lower_row : (node_at new.nodes at).row ≡ bend.row + 1 = ap (λ (node : Node). node.row) (lower_at bend front back lower upper old.nodes new.nodes h.inserted) ∙ joints.lower_row in
     let upper_row : (node_at new.nodes (at + 1)).row ≡ bend.row + 1 = ap (λ (node : Node). node.row) (upper_at bend front back lower upper old.nodes new.nodes h.inserted) ∙ joints.upper_row in
     let rise_low : (node_at new.nodes (shifted at low)).row < (node_at new.nodes at).row = omega (arith, low_row, lower_row, row_below bend (node_at old.nodes low).row below, below) in
-    let rise_high : (node_at new.nodes (at + 1)).row < (node_at new.nodes (shifted at high)).row = omega (arith, high_row, upper_row, row_above bend (node_at old.nodes high).row above, above) in
-    (named.0.0, named.1.0, record {
-      of_wire = record { own = joined.layer; low = from; high = to };
-      of_first = upward_names tech new layer (node_at old.nodes low).name lower.name first (shifted at low) at h.apart low_end joints.lower_end rise_low first_joined first_is;
-      of_middle = between_names new layer lower.name upper.name middle at (at + 1) h.apart joints.lower_end joints.upper_end middle_joined;
-      of_last = upward_names tech new layer upper.name (node_at old.nodes high).name last (at + 1) (shifted at high) h.apart joints.upper_end high_end rise_high last_joined last_is;
-    })
+    let rise_high : (node_at new.nodes (at + 1)).row < (node_at new.nodes (shifted at high)).row = omega (arith, high_row, upper_row, row_above bend (node_at old.nodes high).row above, above) in (
+      named.0.0,
+      named.1.0,
+      record {
+        of_wire = record { own = joined.layer; low = from; high = to };
+        of_first = upward_names tech new layer (node_at old.nodes low).name lower.name first (shifted at low) at h.apart low_end joints.lower_end rise_low first_joined first_is;
+        of_middle = between_names new layer lower.name upper.name middle at (at + 1) h.apart joints.lower_end joints.upper_end middle_joined;
+        of_last = upward_names tech new layer upper.name (node_at old.nodes high).name last (at + 1) (shifted at high) h.apart joints.upper_end high_end rise_high last_joined last_is;
+      },
+    )
 
 -- the links of both cells
 links_of_wires : (tech : Tech) (bend : Bend) (front back : List Node) (lower upper : Node) (old new : Known) → IsBentOf bend front back lower upper old new → AreJoints bend front lower upper new
@@ -239,20 +241,27 @@ joints_of tech bend n layer a b low high own width lines front back old new spli
     ap (λ (names : Sided). side_named names name) its_names
     ∙ side_inserted front_names back_names (lower_name n) (upper_name n) name (other_name lines name (lower_name n) side there free.0) (other_name lines name (upper_name n) side there free.1)
     ∙ ap (λ (names : Sided). side_named names name) (sym whole) ∙ there in
-    let size : length new.nodes ≡ length front_nodes + 2 + length back_nodes = ap length inserted.new_nodes ∙ length_new bend front_nodes back_nodes lower upper in
-    (record { inserted = inserted; named = named; apart = its_told.apart },
-    record {
-      lower_end = (omega (arith, size), ap (λ (node : Node). node.name) (lower_at bend front_nodes back_nodes lower upper old.nodes new.nodes inserted),
+    let size : length new.nodes ≡ length front_nodes + 2 + length back_nodes = ap length inserted.new_nodes ∙ length_new bend front_nodes back_nodes lower upper in (
+      record { inserted = inserted; named = named; apart = its_told.apart },
+      record {
+        lower_end = (
+          omega (arith, size),
+          ap (λ (node : Node). node.name) (lower_at bend front_nodes back_nodes lower upper old.nodes new.nodes inserted),
           ap (λ (names : Sided). side_named names (lower_name n)) its_names
-          ∙ side_of_first front_names back_names (lower_name n) (upper_name n) (none_named lines back_names front_names (lower_name n) whole free.0));
-      upper_end = (omega (arith, size), ap (λ (node : Node). node.name) (upper_at bend front_nodes back_nodes lower upper old.nodes new.nodes inserted),
+              ∙ side_of_first front_names back_names (lower_name n) (upper_name n) (none_named lines back_names front_names (lower_name n) whole free.0),
+        );
+        upper_end = (
+          omega (arith, size),
+          ap (λ (node : Node). node.name) (upper_at bend front_nodes back_nodes lower upper old.nodes new.nodes inserted),
           ap (λ (names : Sided). side_named names (upper_name n)) its_names
-          ∙ side_of_second front_names back_names (lower_name n) (upper_name n) (none_named lines back_names front_names (upper_name n) whole free.1));
-      lower_row = refl;
-      upper_row = refl;
-      lower_part = record { one = refl; first = λ its_layer is_low. refl };
-      upper_part = record { one = refl; first = λ its_layer is_low. refl };
-    })
+              ∙ side_of_second front_names back_names (lower_name n) (upper_name n) (none_named lines back_names front_names (upper_name n) whole free.1),
+        );
+        lower_row = refl;
+        upper_row = refl;
+        lower_part = record { one = refl; first = λ its_layer is_low. refl };
+        upper_part = record { one = refl; first = λ its_layer is_low. refl };
+      },
+    )
 
 -- a cell whose lines are those after a jog has the nets of the one before
 pub nets_of_forms : (tech : Tech) (bend : Bend) (n : ℕ) (layer : DrawnLayer) (a b : List ℕ) (own : Option ℕ) (width k low high : ℕ) (lines : List Line) (front back : List Form) (old new : Known)

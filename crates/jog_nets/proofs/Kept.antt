@@ -1,5 +1,5 @@
 -- A jog in a design keeps the nets of its cell.
-use Rattle.std.proofs.Common.{◌≡◌, ℕ, ◌+◌, ◌<◌, Bool, List, [], ◌∷◌, ◌++◌, length, map, get_or, refl, sym, ap, subst, ◌∙◌, arith}
+use Rattle.std.proofs.Common.{◌≡◌, ℕ, ◌<◌, Bool, List, ◌∷◌, ◌++◌, length, map, get_or, sym, ap, subst, ◌∙◌, arith}
 use Rattle.std.specs.Prelude.{slice_set}
 use Rattle.std.specs.List.{AllByRecursion, flat_map}
 use Rattle.std.proofs.lemmas.List.{map-append, length-set, get_or-set_same}
@@ -43,10 +43,11 @@ forms_bent bend lines front back five e =
 -- the new cell in the new design
 forms_put : (design new : Design) (cell : ℕ) (text : CellText) → cell < length design.cells → new.cells ≡ cells_from 2 (slice_set design.cells cell text)
     → (forms_of (cell_text_at new cell).lines ≡ forms_of text.lines) × (length new.cells ≡ length design.cells)
-forms_put design new cell text lt made =
-    (ap (λ (cells : List CellText). forms_of (get_or cells cell no_cell).lines) made ∙ forms_laid_out 2 (slice_set design.cells cell text) cell
-    ∙ ap (λ (there : CellText). forms_of there.lines) (get_or-set_same design.cells cell text no_cell lt),
-    ap length made ∙ length_laid_out 2 (slice_set design.cells cell text) ∙ length-set design.cells cell text)
+forms_put design new cell text lt made = (
+  ap (λ (cells : List CellText). forms_of (get_or cells cell no_cell).lines) made ∙ forms_laid_out 2 (slice_set design.cells cell text) cell
+      ∙ ap (λ (there : CellText). forms_of there.lines) (get_or-set_same design.cells cell text no_cell lt),
+  ap length made ∙ length_laid_out 2 (slice_set design.cells cell text) ∙ length-set design.cells cell text,
+)
 
 pub nets_kept : (before after : Cells) (masters : List ℕ) (cell k row : ℕ) (left : Bool) → IsResolved before → IsResolved after → after.tech ≡ before.tech → cell < length (known_of before)
     → IsJogged before.design.now (cell_of (known_at (known_of before) cell)) masters cell k row left after.design.now

@@ -1,10 +1,9 @@
 -- What a cell without uses has, told by the forms of its lines: its nodes, which of its names are ports, and between which names its wires run.
-use Rattle.std.proofs.Common.{◌≡◌, ℕ, ◌+◌, ◌<◌, ◌≤◌, ℤ, pos, Bool, true, false, cond, List, [], ◌∷◌, ◌++◌, length, map, Option, Some, None, Result, Ok, Err, inl, inr, refl, sym, ap, subst, ◌∙◌, arith}
+use Rattle.std.proofs.Common.{◌≡◌, ℕ, ◌<◌, ℤ, pos, Bool, true, false, cond, List, [], ◌∷◌, ◌++◌, length, map, Option, Some, None, Result, Ok, Err, inl, inr, sym, ap, subst, ◌∙◌, arith}
 use Rattle.std.specs.Prelude.{◌⊎◌, bytes_eq}
 use Rattle.std.specs.List.{AllByRecursion, AllZip, flat_map}
 use Rattle.std.specs.Map.{lookup}
-use Rattle.std.proofs.lemmas.List.{append_assoc, append-nil, map-append, length-append}
-use Rattle.list_facts.proofs.Elements.{all_append}
+use Rattle.std.proofs.lemmas.List.{append_assoc, append-nil}
 use Rattle.lam_geom.specs.declared.boxes.Side.{Side}
 use Rattle.rule_table.specs.declared.technology.Tech.{Tech}
 use Rattle.stick_parse.specs.declared.fault.StickKind.{StickKind}
@@ -146,13 +145,16 @@ pub record Grew (tech : Tech) (known : Known) (forms : List Form) (next : Known)
 -- what holds of an end still holds
 pub end_kept : (old new : Known) (more : Sided) (name : List ℕ) (end : WireEnd) → MoreNodes old.nodes new.nodes → sides new.names ≡ sides old.names ++ more → MorePlugs old.plugs new.plugs
     → IsEndOf old name end → IsEndOf new name end
-end_kept old new more name (ends.Node i) nodes names plugs is =
-    (omega (arith, nodes.long, is.0), ap (λ (node : Node). node.name) (nodes.same i is.0) ∙ is.1,
-    ap (λ (table : Sided). side_named table name) names ∙ side_more (sides old.names) more name None is.2)
-end_kept old new more name (ends.Port i) nodes names plugs is =
-    (omega (arith, plugs.long, is.0),
-    ap (λ (table : Sided). side_named table name) names ∙ side_more (sides old.names) more name (Some (plug_at old.plugs i).port.side) is.1
-    ∙ ap (λ (side : Side). Some (Some side)) (sym (plugs.side i is.0)))
+end_kept old new more name (ends.Node i) nodes names plugs is = (
+  omega (arith, nodes.long, is.0),
+  ap (λ (node : Node). node.name) (nodes.same i is.0) ∙ is.1,
+  ap (λ (table : Sided). side_named table name) names ∙ side_more (sides old.names) more name None is.2,
+)
+end_kept old new more name (ends.Port i) nodes names plugs is = (
+  omega (arith, plugs.long, is.0),
+  ap (λ (table : Sided). side_named table name) names ∙ side_more (sides old.names) more name (Some (plug_at old.plugs i).port.side) is.1
+      ∙ ap (λ (side : Side). Some (Some side)) (sym (plugs.side i is.0)),
+)
 
 nodes_more : (tech : Tech) (known : Known) (forms : List Form) (next : Known) → Grew tech known forms next → MoreNodes known.nodes next.nodes
 nodes_more tech known forms next grew = subst (MoreNodes known.nodes) (sym grew.nodes) (more_nodes known.nodes (flat_map (nodes_in tech) forms))

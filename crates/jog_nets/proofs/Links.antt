@@ -1,11 +1,11 @@
 -- Links between parts, of which one becomes five in a row: what a chain joins before, a chain joins afterwards, and the other way round.
-use Rattle.std.proofs.Common.{◌≡◌, ℕ, zero, suc, ◌+◌, ◌<◌, List, [], ◌∷◌, ◌++◌, length, map, inl, inr, refl, sym, ap, subst, ◌∙◌, arith}
-use Rattle.std.specs.Prelude.{Contains, ◌⊎◌, ◌↔◌}
+use Rattle.std.proofs.Common.{◌≡◌, ℕ, zero, suc, List, [], ◌∷◌, ◌++◌, map, inl, inr, refl, sym, ap, subst, ◌∙◌, arith}
+use Rattle.std.specs.Prelude.{Contains, ◌↔◌}
 use Rattle.std.specs.List.{AllByRecursion}
 use Rattle.std.proofs.lemmas.List.Elements.{Contains-append_left, Contains-append_right, All-contains, All-from_recursion, recursion_from_All, All-contains_itself}
 use Rattle.list_facts.proofs.Elements.{all_append, all_weaker, all_map}
 use Rattle.graph_search.specs.Netting.{Chain, Reaches, Attached}
-use Rattle.graph_search.proofs.Chains.{reaches_none, reaches_one, reaches_more, reaches_trans, reaches_back}
+use Rattle.graph_search.proofs.Chains.{reaches_none, reaches_one, reaches_trans, reaches_back}
 
 -- ---- lists
 
@@ -45,6 +45,7 @@ joined_mapped links more f each =
   where
     by_link : (a b : ℕ) → Contains links (a, b) → Reaches (Attached more) (f a) (f b)
     by_link a b h = All-contains (AreJoined more f) links (a, b) (All-from_recursion (AreJoined more f) links each) h
+
     by_step : (a b : ℕ) → Attached links a b → Reaches (Attached more) (f a) (f b)
     by_step a b (inl h) = by_link a b h
     by_step a b (inr h) = reaches_back (Attached more) (attached_back more) (f b) (f a) (by_link b a h)
@@ -168,9 +169,13 @@ joined_after old new moved back five h =
     joined_mapped old new moved
     (subst (λ (links : List (ℕ × ℕ)). AllByRecursion (AreJoined new moved) links) (sym h.old_links)
     (all_append (AreJoined new moved) h.before ((five.part, h.low) ∷ (five.part, h.high) ∷ h.behind)
-    (all_weaker (Contains h.before) (AreJoined new moved) of_before h.before (contains_itself h.before))
-    (turned (moved h.low) (moved five.part) net.to_low, (turned (moved h.high) (moved five.part) net.to_high,
-    all_weaker (Contains h.behind) (AreJoined new moved) of_behind h.behind (contains_itself h.behind)))))
+    (all_weaker (Contains h.before) (AreJoined new moved) of_before h.before (contains_itself h.before)) (
+      turned (moved h.low) (moved five.part) net.to_low,
+      (
+        turned (moved h.high) (moved five.part) net.to_high,
+        all_weaker (Contains h.behind) (AreJoined new moved) of_behind h.behind (contains_itself h.behind),
+      ),
+    )))
 
 -- what a chain joins afterwards, a chain joins before
 joined_back : (old new : List (ℕ × ℕ)) (moved back : ℕ → ℕ) (five : Five) → AreBentLinks old new moved back five → (p q : ℕ) → Reaches (Attached new) p q
@@ -199,15 +204,24 @@ joined_back old new moved back five h =
     joined_mapped new old back
     (subst (λ (links : List (ℕ × ℕ)). AllByRecursion (AreJoined old back) links) (sym h.new_links)
     (all_append (AreJoined old back) (map (both_moved moved) h.before) ((moved five.part, moved h.low) ∷ (moved five.part, five.lower) ∷ (h.between ++ end))
-    (all_map (AreJoined old back) (both_moved moved) h.before (all_weaker (Contains h.before) (λ pair. AreJoined old back (both_moved moved pair)) of_before h.before (contains_itself h.before)))
-    (first_low, (first_lower,
-    all_append (AreJoined old back) h.between end (all_weaker (λ pair. (back pair.0 ≡ five.part) × (back pair.1 ≡ five.part)) (AreJoined old back) of_between h.between h.only)
-    (last_upper, (last_high,
-    all_map (AreJoined old back) (both_moved moved) h.behind (all_weaker (Contains h.behind) (λ pair. AreJoined old back (both_moved moved pair)) of_behind h.behind (contains_itself h.behind))))))))
+    (all_map (AreJoined old back) (both_moved moved) h.before (all_weaker (Contains h.before) (λ pair. AreJoined old back (both_moved moved pair)) of_before h.before (contains_itself h.before))) (
+      first_low,
+      (
+        first_lower,
+        all_append (AreJoined old back) h.between end (all_weaker (λ pair. (back pair.0 ≡ five.part) × (back pair.1 ≡ five.part)) (AreJoined old back) of_between h.between h.only) (
+          last_upper,
+          (
+            last_high,
+            all_map (AreJoined old back) (both_moved moved) h.behind (all_weaker (Contains h.behind) (λ pair. AreJoined old back (both_moved moved pair)) of_behind h.behind (contains_itself h.behind)),
+          ),
+        ),
+      ),
+    )))
 
 -- so the nets are the same
 pub same_nets : (old new : List (ℕ × ℕ)) (moved back : ℕ → ℕ) (five : Five) → AreBentLinks old new moved back five → (p q : ℕ)
     → Reaches (Attached old) p q ↔ Reaches (Attached new) (moved p) (moved q)
-same_nets old new moved back five h p q =
-    (joined_after old new moved back five h p q,
-    λ r. joins_along old p q (back (moved p)) (back (moved q)) (sym (h.inverse p)) (sym (h.inverse q)) (joined_back old new moved back five h (moved p) (moved q) r))
+same_nets old new moved back five h p q = (
+  joined_after old new moved back five h p q,
+  λ r. joins_along old p q (back (moved p)) (back (moved q)) (sym (h.inverse p)) (sym (h.inverse q)) (joined_back old new moved back five h (moved p) (moved q) r),
+)

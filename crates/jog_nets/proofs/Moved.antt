@@ -1,5 +1,5 @@
 -- The wires beside a bent one end where they did, and attach what they did.
-use Rattle.std.proofs.Common.{◌≡◌, ℕ, zero, suc, ◌+◌, ◌<◌, ◌≤◌, Bool, true, false, List, [], ◌∷◌, ◌++◌, length, map, Option, Some, None, inl, inr, refl, sym, ap, subst, ◌∙◌, arith}
+use Rattle.std.proofs.Common.{◌≡◌, ℕ, suc, ◌+◌, ◌<◌, Bool, true, false, List, [], ◌∷◌, ◌++◌, length, map, Option, Some, None, inl, inr, refl, sym, ap, ◌∙◌, arith}
 use Rattle.std.specs.Prelude.{◌⊎◌}
 use Rattle.std.specs.List.{AllByRecursion, AllZip}
 use Rattle.std.proofs.lemmas.List.{append_assoc, map-append}
@@ -17,7 +17,7 @@ use Rattle.stick_cell.specs.Known.{Known, cell_of, plug_at}
 use Rattle.jog_insert.specs.Bends.{Bend}
 use Rattle.jog_nets.proofs.Lines.{Joining, sides, side_named, IsEndOf, IsJoined}
 use Rattle.jog_nets.proofs.Links.{both_moved}
-use Rattle.jog_nets.proofs.Turned.{moved_node, shifted, IsMovedEnd, run_of_wire, not_turned}
+use Rattle.jog_nets.proofs.Turned.{shifted, IsMovedEnd, run_of_wire, not_turned}
 use Rattle.jog_nets.proofs.Parts.{AreInserted, node_moved, moved_number, joined_within, part_moved}
 
 -- no two nodes have one name
@@ -73,12 +73,15 @@ moved_wire tech bend front back lower upper old new h joining wire its joined it
   where
     layers : its.layer ≡ wire.layer
     layers = its_joined.layer ∙ sym joined.layer
+
     same : (name : List ℕ) (end other : WireEnd) → IsEndOf old name end → IsEndOf new name other → IsMovedEnd (length front) old new end other
     same name end other = moved_end bend front back lower upper old new h name end other
+
     turned : IsMovedEnd (length front) old new wire.low its.high → IsMovedEnd (length front) old new wire.high its.low → ⊥
     turned low high =
         not_turned bend (length front) old new (λ i lt. (node_moved bend front back lower upper old.nodes new.nodes h.inserted i lt).1) wire.along its.along wire.low its.high wire.high its.low low high
         (run_of_wire tech (cell_of old) wire is) (run_of_wire tech (cell_of new) its its_is)
+
     by : (IsEndOf old joining.a wire.low × IsEndOf old joining.b wire.high) ⊎ (IsEndOf old joining.b wire.low × IsEndOf old joining.a wire.high)
         → (IsEndOf new joining.a its.low × IsEndOf new joining.b its.high) ⊎ (IsEndOf new joining.b its.low × IsEndOf new joining.a its.high)
         → IsMovedWire (length front) old new wire its
@@ -95,9 +98,10 @@ moved_wires tech bend front back lower upper old new h [] (wire ∷ wires) its j
 moved_wires tech bend front back lower upper old new h [] [] (other ∷ its) joined its_joined is its_is = absurd its_joined
 moved_wires tech bend front back lower upper old new h (joining ∷ joinings) [] its joined its_joined is its_is = absurd joined
 moved_wires tech bend front back lower upper old new h (joining ∷ joinings) (wire ∷ wires) [] joined its_joined is its_is = absurd its_joined
-moved_wires tech bend front back lower upper old new h (joining ∷ joinings) (wire ∷ wires) (other ∷ its) joined its_joined is its_is =
-    (moved_wire tech bend front back lower upper old new h joining wire other joined.0 its_joined.0 is.0 its_is.0,
-    moved_wires tech bend front back lower upper old new h joinings wires its joined.1 its_joined.1 is.1 its_is.1)
+moved_wires tech bend front back lower upper old new h (joining ∷ joinings) (wire ∷ wires) (other ∷ its) joined its_joined is its_is = (
+  moved_wire tech bend front back lower upper old new h joining wire other joined.0 its_joined.0 is.0 its_is.0,
+  moved_wires tech bend front back lower upper old new h joinings wires its joined.1 its_joined.1 is.1 its_is.1,
+)
 
 -- ---- what they attach
 

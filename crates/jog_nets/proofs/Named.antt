@@ -1,5 +1,5 @@
 -- The names of a cell, among which two new ones come in.
-use Rattle.std.proofs.Common.{◌≡◌, ℕ, zero, suc, ◌+◌, ◌<◌, Bool, true, false, cond, List, [], ◌∷◌, ◌++◌, length, Option, Some, None, inl, inr, refl, sym, ap, subst, ◌∙◌, arith}
+use Rattle.std.proofs.Common.{◌≡◌, ℕ, zero, suc, Bool, true, false, cond, List, [], ◌∷◌, ◌++◌, Option, Some, None, inl, inr, refl, sym, ap, subst, ◌∙◌, arith}
 use Rattle.std.specs.Prelude.{◌⊎◌, Contains, bytes_eq}
 use Rattle.std.specs.List.{flat_map}
 use Rattle.std.proofs.lemmas.Slice.Eq.{bytes_eq-Decides}
@@ -41,6 +41,7 @@ taken_named (line ∷ lines) name side e = by (taken_named lines name side) (bri
         let one : name ≡ other = (bytes_eq-Decides name other).0 same in
         (line, (zero, omega arith, refl), subst (λ (names : List (List ℕ)). Contains names name) (sym brings) (zero, omega arith, sym one))
     found later other own brings false same h = taken_later line lines name (later h)
+
     by : (side_named (flat_map sides_in (forms_of lines)) name ≡ Some side → IsTaken lines name) → BringsOne line.form → IsTaken (line ∷ lines) name
     by later (inl none) = taken_later line lines name (later (subst (λ (here : Sided). side_named (here ++ flat_map sides_in (forms_of lines)) name ≡ Some side) none e))
     by later (inr (other, own, brings_side, brings)) =

@@ -1,6 +1,6 @@
 -- The numbers of parts where two nodes of one part each come in among the nodes of a cell.
-use Rattle.std.proofs.Common.{◌≡◌, ℕ, zero, suc, ◌+◌, ◌-◌, ◌<◌, ◌≤◌, Bool, true, false, List, [], ◌∷◌, ◌++◌, length, map, take, inl, inr, refl, sym, ap, subst, ◌∙◌, arith}
-use Rattle.std.specs.Prelude.{◌⊎◌, nat_lt, nat_le, if◌then◌else◌, sum_by}
+use Rattle.std.proofs.Common.{◌≡◌, ℕ, zero, suc, ◌+◌, ◌-◌, ◌<◌, ◌≤◌, Bool, true, false, List, [], ◌∷◌, ◌++◌, length, map, take, inl, inr, refl, sym, ap, ◌∙◌, arith}
+use Rattle.std.specs.Prelude.{nat_lt, nat_le, if◌then◌else◌}
 use Rattle.std.proofs.lemmas.List.{length-append, length-map, get_or_append_left, get_or-append_right, take-append-le, take-map, take-take, take_at, get_or_at, get_or-map}
 use Rattle.std.proofs.lemmas.List.Sums.{sum_by-append, sum_by-cons, sum_by_more, sum_by_more_le, sum_by-take-le}
 use Rattle.std.proofs.lemmas.Bool.{cases_lt, cases_eq, cond_below, cond_above}
@@ -54,15 +54,17 @@ node_moved bend front back lower upper old new are i lt =
     let size_new : length new ≡ length front + 2 + length back = ap length are.new_nodes ∙ length_new bend front back lower upper in
     elim (cases_lt i (length front)) [
       | inl less ↦
-        let at : shifted (length front) i ≡ i = sym (cond_below i (length front) i (i + 2) less) in
-        (omega (arith, at, less, size_new),
-        ap (node_at new) at ∙ ap (λ (nodes : List Node). node_at nodes i) are.new_nodes ∙ node_in_front bend front back lower upper i less
-        ∙ ap (λ (nodes : List Node). moved_node bend (node_at nodes i)) (sym are.old_nodes))
+          let at : shifted (length front) i ≡ i = sym (cond_below i (length front) i (i + 2) less) in (
+            omega (arith, at, less, size_new),
+            ap (node_at new) at ∙ ap (λ (nodes : List Node). node_at nodes i) are.new_nodes ∙ node_in_front bend front back lower upper i less
+                ∙ ap (λ (nodes : List Node). moved_node bend (node_at nodes i)) (sym are.old_nodes),
+          )
       | inr more ↦
-        let at : shifted (length front) i ≡ i + 2 = sym (cond_above i (length front) i (i + 2) (i + 2) more refl) in
-        (omega (arith, at, more, size_new, lt, length_old),
-        ap (node_at new) at ∙ ap (λ (nodes : List Node). node_at nodes (i + 2)) are.new_nodes ∙ node_in_back bend front back lower upper i more (omega (arith, lt, length_old))
-        ∙ ap (λ (nodes : List Node). moved_node bend (node_at nodes i)) (sym are.old_nodes))
+          let at : shifted (length front) i ≡ i + 2 = sym (cond_above i (length front) i (i + 2) (i + 2) more refl) in (
+            omega (arith, at, more, size_new, lt, length_old),
+            ap (node_at new) at ∙ ap (λ (nodes : List Node). node_at nodes (i + 2)) are.new_nodes ∙ node_in_back bend front back lower upper i more (omega (arith, lt, length_old))
+                ∙ ap (λ (nodes : List Node). moved_node bend (node_at nodes i)) (sym are.old_nodes),
+          )
     ]
 
 -- ---- parts
@@ -79,8 +81,18 @@ node_parts_inserted bend front back lower upper old new are =
     let parts : Node → ℕ = λ n. kind_parts n.kind in
     let rest : List Node = map (moved_node bend) back in
     let whole : node_parts new ≡ node_parts (map (moved_node bend) front) + node_parts (lower ∷ upper ∷ rest) = ap node_parts are.new_nodes ∙ sum_by-append parts (map (moved_node bend) front) (lower ∷ upper ∷ rest) in
-    omega (arith, whole, node_parts_moved bend front, node_parts_moved bend back, sum_by-cons parts lower (upper ∷ rest), sum_by-cons parts upper rest, are.one_lower, are.one_upper,
-    ap node_parts are.old_nodes, sum_by-append parts front back)
+    omega (
+      arith,
+      whole,
+      node_parts_moved bend front,
+      node_parts_moved bend back,
+      sum_by-cons parts lower (upper ∷ rest),
+      sum_by-cons parts upper rest,
+      are.one_lower,
+      are.one_upper,
+      ap node_parts are.old_nodes,
+      sum_by-append parts front back,
+    )
 
 -- the parts before those of the two nodes
 pub parts_before : (bend : Bend) (front back : List Node) (lower upper : Node) (old new : List Node) → AreInserted bend front back lower upper old new
@@ -92,10 +104,11 @@ parts_before bend front back lower upper old new are =
     let here : node_at new n ≡ lower =
     ap (λ (nodes : List Node). node_at nodes n) are.new_nodes ∙ get_or_at (map (moved_node bend) front) lower (upper ∷ map (moved_node bend) back) no_node n (length-map front (moved_node bend)) in
     let first : first_part new n ≡ node_parts front = ap node_parts taken ∙ node_parts_moved bend front in
-    let within : n < length new = omega (arith, ap length are.new_nodes, length_new bend front back lower upper) in
-    (ap node_parts (ap (take n) are.old_nodes ∙ take_at front back n refl),
-    first,
-    sum_by_more (λ (node : Node). kind_parts node.kind) new n no_node within ∙ omega (arith, first, ap (λ (node : Node). kind_parts node.kind) here, are.one_lower))
+    let within : n < length new = omega (arith, ap length are.new_nodes, length_new bend front back lower upper) in (
+      ap node_parts (ap (take n) are.old_nodes ∙ take_at front back n refl),
+      first,
+      sum_by_more (λ (node : Node). kind_parts node.kind) new n no_node within ∙ omega (arith, first, ap (λ (node : Node). kind_parts node.kind) here, are.one_lower),
+    )
 
 -- the parts before those of a node of the front
 parts_in_front : (bend : Bend) (front back : List Node) (lower upper : Node) (i : ℕ) → i ≤ length front
@@ -184,18 +197,18 @@ part_moved bend front back lower upper old new are k i d lt less =
     let all : first_part old i + kind_parts (node_at old i).kind ≤ node_parts old = sum_by_more_le parts old i no_node lt in
     elim (cases_lt i n) [
       | inl front_i ↦
-        let at : shifted n i ≡ i = sym (cond_below i n i (i + 2) front_i) in
-        let same : first_part new (shifted n i) ≡ first_part old i =
-        ap (first_part new) at ∙ ap (λ (nodes : List Node). first_part nodes i) are.new_nodes ∙ parts_in_front bend front back lower upper i (omega arith) ∙ ap (λ (nodes : List Node). first_part nodes i) (sym are.old_nodes) in
-        let below : first_part old i + d < first_part old n = omega (arith, next, less, first_part_le old (i + 1) n (omega arith)) in
-        omega (arith, same, moved_below (first_part old n) (node_parts old) k (first_part old i + d) below)
+          let at : shifted n i ≡ i = sym (cond_below i n i (i + 2) front_i) in
+          let same : first_part new (shifted n i) ≡ first_part old i =
+          ap (first_part new) at ∙ ap (λ (nodes : List Node). first_part nodes i) are.new_nodes ∙ parts_in_front bend front back lower upper i (omega arith) ∙ ap (λ (nodes : List Node). first_part nodes i) (sym are.old_nodes) in
+          let below : first_part old i + d < first_part old n = omega (arith, next, less, first_part_le old (i + 1) n (omega arith)) in
+          omega (arith, same, moved_below (first_part old n) (node_parts old) k (first_part old i + d) below)
       | inr back_i ↦
-        let at : shifted n i ≡ suc (suc i) = sym (cond_above i n i (i + 2) (i + 2) back_i refl) ∙ omega arith in
-        let same : first_part new (shifted n i) ≡ first_part old i + 2 =
-        ap (first_part new) at ∙ ap (λ (nodes : List Node). first_part nodes (suc (suc i))) are.new_nodes ∙ parts_in_back bend front back lower upper i are.one_lower are.one_upper back_i
-        ∙ ap (λ (nodes : List Node). first_part nodes i + 2) (sym are.old_nodes) in
-        let above : first_part old n ≤ first_part old i = first_part_le old n i back_i in
-        omega (arith, same, moved_between (first_part old n) (node_parts old) k (first_part old i + d) (omega (arith, above)) (omega (arith, all, less)))
+          let at : shifted n i ≡ suc (suc i) = sym (cond_above i n i (i + 2) (i + 2) back_i refl) ∙ omega arith in
+          let same : first_part new (shifted n i) ≡ first_part old i + 2 =
+          ap (first_part new) at ∙ ap (λ (nodes : List Node). first_part nodes (suc (suc i))) are.new_nodes ∙ parts_in_back bend front back lower upper i are.one_lower are.one_upper back_i
+          ∙ ap (λ (nodes : List Node). first_part nodes i + 2) (sym are.old_nodes) in
+          let above : first_part old n ≤ first_part old i = first_part_le old n i back_i in
+          omega (arith, same, moved_between (first_part old n) (node_parts old) k (first_part old i + d) (omega (arith, above)) (omega (arith, all, less)))
     ]
 
 -- which part a wire joins, of those of a node

@@ -1,9 +1,8 @@
 -- A bend turns no wire round: what lies lower or more to the left still does, as far as a wire can tell.
-use Rattle.std.proofs.Common.{◌≡◌, ℕ, ◌+◌, ◌<◌, ◌≤◌, Bool, true, false, List, length, map, refl, sym, ap, subst, ◌∙◌, arith}
-use Rattle.std.specs.Prelude.{IsTrue, not, nat_lt, if◌then◌else◌}
+use Rattle.std.proofs.Common.{◌≡◌, ℕ, ◌+◌, ◌<◌, Bool, true, false, length, refl, sym, ap, ◌∙◌, arith}
+use Rattle.std.specs.Prelude.{nat_lt, if◌then◌else◌}
 use Rattle.std.proofs.lemmas.Bool.{not-true, both_ways}
 use Rattle.std.proofs.lemmas.Bool.Decides.{nat_tests}
-use Rattle.lam_geom.specs.declared.boxes.Side.{Side}
 use Rattle.rule_table.specs.declared.technology.Tech.{Tech}
 use Rattle.cell_model.specs.declared.cell.Axis2.{Axis2}
 use Rattle.cell_model.specs.declared.cell.Axis2.TheVariants.{Across, Up}
@@ -56,12 +55,16 @@ nodes_kept bend old new along its_along i j its_i its_j at_i at_j run its_run =
   where
     row_i : (node_at new.nodes its_i).row ≡ moved_row bend (node_at old.nodes i).row
     row_i = ap (λ (node : Node). node.row) at_i
+
     row_j : (node_at new.nodes its_j).row ≡ moved_row bend (node_at old.nodes j).row
     row_j = ap (λ (node : Node). node.row) at_j
+
     col_i : (node_at new.nodes its_i).col ≡ node_col bend (node_at old.nodes i).col (node_at old.nodes i).row
     col_i = ap (λ (node : Node). node.col) at_i
+
     col_j : (node_at new.nodes its_j).col ≡ node_col bend (node_at old.nodes j).col (node_at old.nodes j).row
     col_j = ap (λ (node : Node). node.col) at_j
+
     by : (along its_along : Axis2) (a b : Node) → node_at old.nodes i ≡ a → node_at old.nodes j ≡ b → IsRunOf old along (ends.Node i) (ends.Node j)
         → IsRunOf new its_along (ends.Node its_j) (ends.Node its_i) → ⊥
     by Up Up a b ea eb run its_run =

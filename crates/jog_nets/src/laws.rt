@@ -9,7 +9,15 @@ use stick_cell::Cells;
 
 /// A law, with nothing to run: after a jog in wire number `k` of a cell, above row `r`, the cell has the nets that it had, where both
 /// designs have been checked with one technology. The joints of the jog come behind the nodes whose lines stand before the wire's line.
-pub fn jogs_keep_nets(before: &Cells, after: &Cells, masters: &[u32], cell: u32, k: u32, r: u32, left: bool)
+pub fn jogs_keep_nets(
+    before: &Cells,
+    after: &Cells,
+    masters: &[u32],
+    cell: u32,
+    k: u32,
+    r: u32,
+    left: bool,
+)
     requires resolved { IsResolved before.now }
     requires resolved_again { IsResolved after.now }
     requires one_technology { after.now.tech ≡ before.now.tech }
