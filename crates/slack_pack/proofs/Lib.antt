@@ -1,1 +1,5 @@
 pub mod Walks
+pub mod Least
+pub mod Falls
+pub mod Settled
+pub mod WorkedRow

@@ -1,14 +1,14 @@
 -- Walks against solutions.
-use Rattle.std.proofs.Common.{◌≡◌, ℕ, ◌<◌, ◌≤◌, ℤ, pos, ◌+ℤ◌, ◌-ℤ◌, ◌≤ℤ◌, List, [], ◌∷◌, get_or, refl, sym, ap, subst, inl, inr, arith}
-use Rattle.std.specs.List.{All, Any, Contains}
+use Rattle.std.proofs.Common.{◌≡◌, ℕ, ◌<◌, ℤ, pos, ◌+ℤ◌, ◌-ℤ◌, ◌≤ℤ◌, List, [], ◌∷◌, get_or, refl, sym, ap, subst, inl, inr, arith}
+use Rattle.std.specs.List.{Contains}
 use Rattle.std.proofs.lemmas.Int.{ints}
 use Rattle.std.proofs.lemmas.Bool.{cases_eq}
-use Rattle.std.proofs.lemmas.List.Elements.{All-contains, All-cons, All-nil, Contains-get_or}
+use Rattle.std.proofs.lemmas.List.Elements.{All-contains, All-cons, All-nil}
 use Rattle.cons_graph.specs.declared.edges.Edge.{Edge}
 use Rattle.cons_graph.specs.Solutions.{Meets, IsSolution}
 use Rattle.cons_graph.specs.Walks.{walk_length}
 use Rattle.round_log.proofs.Least.{walk_rises}
-use Rattle.slack_pack.specs.Most.{IsHeld, IsMost, HasWalk, IsAttained, IsOnCriticalWalk, AreLeastAndMost}
+use Rattle.slack_pack.specs.Most.{IsHeld, HasWalk, IsAttained, IsOnCriticalWalk, AreLeastAndMost}
 
 -- along a walk a solution rises by at least its length
 pub rises : (edges : List Edge) (x : ℕ → ℤ) (a b : ℕ) (long : ℤ) → IsSolution edges x → HasWalk edges a b long → long ≤ℤ (x b -ℤ x a)

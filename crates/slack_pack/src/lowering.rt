@@ -3,7 +3,7 @@ ghost use Rattle.cons_graph.specs.Constraints.{IsEdgeAmong};
 ghost use Rattle.cons_graph.specs.Solutions.{Meets, value_of};
 ghost use Rattle.edge_index.specs.Runs.{IsIndexOf};
 ghost use Rattle.round_log.specs.Orders.{NamesEachOnce};
-ghost use Rattle.slack_pack.specs.Slacks.{none_yet, IsPlaced, Allows, Grants, IsLeastAllowed, IsLowered, IsQuietAt};
+ghost use Rattle.slack_pack.specs.Slacks.{none_yet, IsPlaced, room_of, Allows, Grants, IsLeastAllowed, IsLowered, IsQuietAt};
 
 use cons_graph::{Edge, Graph};
 use edge_index::EdgeIndex;
@@ -95,6 +95,18 @@ fn allowance(slacks: &[u64], edge: &Edge, x: &[i64]) -> u64
     if head >= NONE_YET {
         return NONE_YET;
     }
-    let room = x[edge.to as usize] - x[edge.from as usize] - edge.len;
-    head + room as u64
+    head + room(edge, x) as u64
+}
+
+// By how much an edge could be longer and still hold.
+fn room(edge: &Edge, x: &[i64]) -> i64
+    requires among { IsEdgeAmong (length x.now) edge.now }
+    requires meets { Meets (value_of x.now) edge.now }
+    requires low { All (λ a. neg_ℤ (pos (2 ^ 60)) ≤ℤ a) x.now }
+    requires high { All (λ a. a ≤ℤ pos (2 ^ 60)) x.now }
+    ensures value { result ≡ room_of (value_of x.now) edge.now }
+    ensures low { pos 0 ≤ℤ result }
+    ensures high { result ≤ℤ pos (2 ^ 62) }
+{
+    x[edge.to as usize] - x[edge.from as usize] - edge.len
 }

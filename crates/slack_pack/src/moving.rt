@@ -30,9 +30,9 @@ pub fn most(alloc: Global, g: &Graph, x: &[i64], far: &[u32]) -> Result<Vec<i64>
     ensures attained { IfOk result (λ y. (v : ℕ) → 1 ≤ v → v < g.now.vars
         → IsAttained g.now.edges far.now (value_of x.now) v (value_of y.items v)) }
 {
+    let mut slacks = first_slacks(alloc, g.vars(), far)?;
     let index = EdgeIndex::new(alloc, g)?;
     let order = sort_order(alloc, x)?;
-    let mut slacks = first_slacks(alloc, g.vars(), far)?;
     'rounds: loop {
         if !lower_all(&mut slacks, g, &index, &order, x) {
             return moved(alloc, x, &slacks);
