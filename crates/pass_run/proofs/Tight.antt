@@ -17,7 +17,8 @@ use Rattle.round_log.proofs.Chains.{chain-zero}
 use Rattle.round_log.proofs.Ends.{numbers}
 use Rattle.crit_path.proofs.Walks.{IsCriticalWalk, back_at_origin}
 use Rattle.liao_wong.specs.declared.solving.Solved.{Solved}
-use Rattle.slack_pack.specs.Most.{HasWalk, IsAttained, IsMost, AreLeastAndMost}
+use Rattle.slack_pack.specs.Most.{HasWalk, IsAttained, IsMost}
+use Rattle.slack_pack.proofs.Walks.{stands}
 use Rattle.sym_items.specs.declared.items.Coords.{Coords}
 use Rattle.pair_rules.proofs.BoundItems.{same_some}
 use Rattle.expand.specs.declared.master.Master.{Master}
@@ -100,7 +101,7 @@ tight_most axis tech plan masters before listed order solved values planned lawf
     let walks : W list = subst W run.edges (subst N run.vars (λ v lt. reached listed.graph solved.log x v shape ended lt (run.labels v lt))) in
     record {
       most = record { one_each = own.one_each; most = most };
-      tight = λ v from lt. ? vars system fars x (value_of values) (record {
+      tight = λ v from lt. stands vars system fars x (value_of values) (record {
         solves = (same x).0 (subst S run.edges run.least.solves);
         reached = λ u below. walk_more list system 0 u (x u) among (walks u below);
         some_far = some_far vars list fars v (reach_far axis tech plan masters before planned) (fars_within axis masters fars vars refl refl) from lt;

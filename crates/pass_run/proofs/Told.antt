@@ -1,6 +1,6 @@
 -- What is told of passes, one pass more at a time, and of all of them.
-use Rattle.std.proofs.Common.{◌≡◌, ℕ, zero, suc, ◌+◌, ◌-◌, ◌<◌, ◌≤◌, ℤ, ⊥, Bool, true, false, List, [], ◌∷◌, ◌++◌, length, ◌⊎◌, inl, inr, refl, sym, ap, ◌∙◌, subst, arith, append_assoc, append-nil}
-use Rattle.std.specs.Prelude.{◌↔◌, ◌&&◌, IsTrue, Contains, slice_index_or}
+use Rattle.std.proofs.Common.{◌≡◌, ℕ, zero, suc, ◌+◌, ◌-◌, ◌<◌, ◌≤◌, ℤ, Bool, true, false, List, [], ◌∷◌, ◌++◌, length, ◌⊎◌, inl, inr, refl, sym, ap, ◌∙◌, subst, arith, append_assoc, append-nil}
+use Rattle.std.specs.Prelude.{◌↔◌, IsTrue, Contains, slice_index_or}
 use Rattle.std.proofs.lemmas.Bool.{false≢true}
 use Rattle.std.specs.List.{All}
 use Rattle.std.proofs.lemmas.List.Elements.{All-nil, All-cons, All-contains, Contains-append_left, Contains-append_right, Contains-append_cases}
@@ -32,13 +32,6 @@ told_more tech plan masters coming start (s ∷ steps) (m ∷ mosts) step values
     ap (λ axes. axes ++ coming) (axes_more steps step) ∙ append_assoc (axes_of steps) (step.axis ∷ []) coming in
     (subst T (sym same) told.0, told_more tech plan masters coming (moved_by masters start s) steps mosts step values told.1 one)
 
-pub has_told_none : (tech : Tech) (plan : Plan) (masters : List Master) (with_most : Bool) (coming : List Axis) (s : SoFar) → s.steps.items ≡ [] → s.mosts.items ≡ [] → HasTold tech plan masters with_most coming s
-has_told_none tech plan masters with_most coming s none untold =
-    let start : List Coords = starts_of tech masters in
-    let S : List Step → Type 0 = λ steps. AreTold tech plan masters coming start steps s.mosts.items in
-    let M : List (List ℤ) → Type 0 = λ mosts. AreTold tech plan masters coming start [] mosts in
-    record { told = λ asked. subst S (sym none) (subst M (sym untold) tt); untold = λ not. untold }
-
 -- what one more pass tells, which is the last on its axis or not
 told_one : (tech : Tech) (plan : Plan) (masters : List Master) (coming : List Axis) (before : List Coords) (step : Step) (last : Bool) (values : List ℤ)
     → IsTrue last ↔ (Contains coming step.axis → ⊥) → (IsTrue last → IsTightMost tech plan masters before step values) → (last ≡ false → values ≡ [])
@@ -48,14 +41,10 @@ told_one tech plan masters coming before step false values is most none = record
 
 pub has_told_more : (tech : Tech) (plan : Plan) (masters : List Master) (with_most last : Bool) (axis : Axis) (coming : List Axis) (s t : SoFar) (before : List Coords) (step : Step) (values : List ℤ)
     → HasTold tech plan masters with_most (axis ∷ coming) s → before ≡ layouts_after masters (starts_of tech masters) s.steps.items → step.axis ≡ axis
-    → IsTrue last ↔ (Contains coming axis → ⊥) → (IsTrue (with_most && last) → IsTightMost tech plan masters before step values) → ((with_most && last) ≡ false → values ≡ [])
+    → (IsTrue with_most → IsTrue last ↔ (Contains coming axis → ⊥)) → (IsTrue last → IsTightMost tech plan masters before step values) → (last ≡ false → values ≡ [])
     → t.steps.items ≡ s.steps.items ++ step ∷ [] → (IsTrue with_most → t.mosts.items ≡ s.mosts.items ++ values ∷ []) → (with_most ≡ false → t.mosts.items ≡ s.mosts.items)
     → HasTold tech plan masters with_most coming t
-has_told_more tech plan masters false last axis coming s t before step values told at on is most none steps more same = record {
-  told = λ asked. absurd (false≢true asked);
-  untold = λ not. same not ∙ told.untold not;
-}
-has_told_more tech plan masters true last axis coming s t before step values told at on is most none steps more same =
+has_told_more tech plan masters with_most last axis coming s t before step values told at on is most none steps more same =
     let start : List Coords = starts_of tech masters in
     let A : Axis → Type 0 = λ a. AreTold tech plan masters (a ∷ coming) start s.steps.items s.mosts.items in
     let L : Axis → Type 0 = λ a. IsTrue last ↔ (Contains coming a → ⊥) in
@@ -64,8 +53,8 @@ has_told_more tech plan masters true last axis coming s t before step values tol
     let M : List (List ℤ) → Type 0 = λ zs. AreTold tech plan masters coming start (s.steps.items ++ step ∷ []) zs in
     record {
       told = λ asked. subst S (sym steps) (subst M (sym (more asked)) (told_more tech plan masters coming start s.steps.items s.mosts.items step values (subst A (sym on) (told.told asked))
-          (subst B at (told_one tech plan masters coming before step last values (subst L (sym on) is) most none))));
-      untold = λ not. absurd (false≢true (sym not));
+          (subst B at (told_one tech plan masters coming before step last values (subst L (sym on) (is asked)) most none))));
+      untold = λ not. same not ∙ told.untold not;
     }
 
 -- ---- the last pass on an axis
@@ -171,3 +160,13 @@ mosts_of tech plan masters start steps mosts told = record {
 pub tight_of : (tech : Tech) (plan : Plan) (masters : List Master) (start : List Coords) (steps : List Step) (mosts : List (List ℤ)) → AreTold tech plan masters [] start steps mosts
     → AreTight tech plan masters start steps mosts
 tight_of tech plan masters start steps mosts told = λ axis number before step last. (last_told tech plan masters axis start steps number before step mosts last told).tight
+
+-- the same of what has been told when no pass is to come
+pub told_all : (tech : Tech) (plan : Plan) (masters : List Master) (with_most : Bool) (coming : List Axis) (s : SoFar) (steps : List Step) (mosts : List (List ℤ)) → HasTold tech plan masters with_most coming s
+    → coming ≡ [] → steps ≡ s.steps.items → mosts ≡ s.mosts.items → IsTrue with_most → AreTold tech plan masters [] (starts_of tech masters) steps mosts
+told_all tech plan masters with_most coming s steps mosts told none steps_are mosts_are asked =
+    let start : List Coords = starts_of tech masters in
+    let C : List Axis → Type 0 = λ axes. AreTold tech plan masters axes start s.steps.items s.mosts.items in
+    let S : List Step → Type 0 = λ zs. AreTold tech plan masters [] start zs s.mosts.items in
+    let M : List (List ℤ) → Type 0 = λ zs. AreTold tech plan masters [] start steps zs in
+    subst M (sym mosts_are) (subst S (sym steps_are) (subst C none (told.told asked)))

@@ -1,5 +1,5 @@
 -- What a solved pass leaves.
-use Rattle.std.specs.Prelude.{◌≡◌, ℕ, ◌<◌, ◌≤◌, ℤ, ◌×◌, Contains, Some, List, ◌∷◌, length, map}
+use Rattle.std.specs.Prelude.{◌≡◌, ℕ, ◌<◌, ◌≤◌, ℤ, Contains, Some, List, ◌∷◌, length, map}
 use Rattle.lam_geom.specs.declared.boxes.Axis.{Axis}
 use Rattle.cons_graph.specs.declared.edges.Edge.{Edge}
 use Rattle.round_log.specs.declared.log.Log.{Log}

@@ -1,6 +1,6 @@
 //! The passes of a plan, one after another.
 
-ghost use Rattle.std.specs.Prelude.{◌≡◌, ◌↔◌, ◌<◌, ◌≤◌, ◌∷◌, ◌++◌, [], ⊥, false, List, length, All, Contains, IfOk, IfErr, IsTrue};
+ghost use Rattle.std.specs.Prelude.{◌≡◌, ◌↔◌, ◌<◌, ◌≤◌, ◌∷◌, ◌++◌, [], false, List, length, All, Contains, IfOk, IfErr, IsTrue};
 ghost use Rattle.lam_geom.specs.declared.boxes.Axis.{Axis as SomeAxis};
 ghost use Rattle.pitch_join.specs.Layouts.{LayoutsMeet};
 ghost use Rattle.pitch_join.specs.Masters.{ArePlanned};
@@ -149,11 +149,12 @@ fn cycle_report(alloc: Global, before: &[u8], text: &[u8]) -> Result<Text, Alloc
     Text::new(alloc, &report)
 }
 
-// Whether none of the passes that come is on this axis.
-fn is_last(axis: Axis, coming: &[Axis]) -> bool
-    ensures { IsTrue result ↔ (Contains coming.now axis → ⊥) }
+// Whether a pass on this axis is told, before those that come: if it is the last on its axis, and something is to be told.
+fn is_told(axis: Axis, coming: &[Axis], with_most: bool) -> bool
+    ensures last { IsTrue with_most → (IsTrue result ↔ (Contains coming.now axis → ⊥)) }
+    ensures none { with_most ≡ false → result ≡ false }
 {
-    !coming.contains(&axis)
+    with_most && !coming.contains(&axis)
 }
 
 // Makes one more pass, on this axis, before those that come. With `with_most` it tells its greatest values if it is the last on
@@ -181,7 +182,7 @@ fn go_on<H: Threads + Sync, G: Gate>(
     ensures refused { IfErr result (λ fault. (later : List SomeAxis) → RefusesPasses tech.now plan.now masters.now (axes_of so_far.steps.items ++ axis ∷ later) fault) }
     ensures told { IfOk result (HasTold tech.now plan.now masters.now with_most coming.now) }
 {
-    let last = is_last(axis, coming);
+    let told = is_told(axis, coming, with_most);
     let pass = so_far.steps.len() as u32 + 1;
     match one_pass(
         rt,
@@ -194,7 +195,7 @@ fn go_on<H: Threads + Sync, G: Gate>(
         axis,
         &so_far.layouts,
         split,
-        with_most && last,
+        told,
     ) {
         Ok(made) => Ok(with_pass(so_far, made, with_most)?),
         Err(Stop::TooManyEdges) => Err(PassFault::TooManyEdges { pass }),

@@ -9,3 +9,6 @@ step_from-requires-clause-among c = fars_within c.args.axis c.args.masters.now c
 pub pass_text-requires-clause-walks : goal.pass_text-requires-clause-walks
 pass_text-requires-clause-walks c =
     walks_listed c.args.listed.now.graph.edges c.args.solved.log c.args.listed.now.base c.in_ok-step.step.walks (ap (λ (s : Step). s.walks) c.in_ok-step.ensures.value) c.in_ok-step.ensures.paths
+
+pub most_of-requires-clause-among : goal.most_of-requires-clause-among
+most_of-requires-clause-among c = fars_within c.args.axis c.args.masters.now c.args.listed.now.base c.args.listed.now.graph.vars c.requires.bases c.requires.vars

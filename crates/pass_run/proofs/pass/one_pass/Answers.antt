@@ -2,8 +2,9 @@ use Rattle.std.proofs.Common.{◌≡◌, ℕ, List, ◌∷◌, length, sym, ap, 
 use Rattle.lam_geom.specs.declared.boxes.Axis.{Axis}
 use Rattle.round_log.specs.Orders.{IsOrder}
 use Rattle.round_log.specs.Looks.{backward_numbers}
-use Rattle.round_log.specs.Logs.{raises_in}
+use Rattle.round_log.specs.Logs.{raises_in, IsEndedLog}
 use Rattle.round_log.specs.Rounds.{plan_of, EndsInRound}
+use Rattle.cons_graph.specs.declared.edges.Edge.{Edge}
 use Rattle.cons_graph.specs.SimpleWalks.{IsSimplePositiveCycle}
 use Rattle.cons_graph.specs.Walks.{HasPositiveCycle}
 use Rattle.liao_wong.specs.declared.solving.Unsolved.{Unsolved}
@@ -14,7 +15,11 @@ use Rattle.pass_run.specs.Passes.{IsLeastPass, IsRecorded}
 use Rattle.pass_run.specs.Report.{pass_text, cycle_text}
 use Rattle.pass_run.specs.Theorems.{IsSoundPass}
 use Rattle.pass_run.specs.Laid.{AreLaidOut, AreSettled}
-use Rattle.pass_run.specs.OneStep.{step_of}
+use Rattle.pass_run.specs.OneStep.{step_of, ReachFar}
+use Rattle.pass_run.specs.Told.{IsTightMost}
+use Rattle.pass_run.proofs.Reach.{reach_far}
+use Rattle.pass_run.proofs.Tight.{tight_most}
+use Rattle.pitch_join.specs.Joined.{joint_variables, list_over}
 use Rattle.pass_run.proofs.Solved.{IsSolvedPass, IsStoppedPass, order_of, cycle_few, least_pass, recorded, sound_pass, laid_next, settled_next, stopped, stopped_first}
 use Rattle.pass_run.proofs.Values.{joint_length}
 use Rattle.pass_run.proofs.pass.one_pass.Goals as goal
@@ -46,6 +51,18 @@ made_of-requires-clause-ended g c =
       ended = c.in-Ok.ensures.ended;
     }
 
+pub made_of-requires-clause-reach : goal.made_of-requires-clause-reach
+made_of-requires-clause-reach g c =
+    let axis = c.args.axis in
+    let masters = c.args.masters.now in
+    let listed = c.in_ok-listed.listed in
+    let list : List Edge = list_over axis c.args.tech.now c.args.plan.now masters c.args.before.now in
+    let V : ℕ → Type 0 = λ n. ReachFar n listed.graph.edges listed.base in
+    let E : List Edge → Type 0 = λ es. ReachFar (joint_variables axis masters) es listed.base in
+    let F : List ℕ → Type 0 = λ fars. ReachFar (joint_variables axis masters) list fars in
+    subst V (sym c.in_ok-listed.ensures.vars) (subst E (sym c.in_ok-listed.ensures.edges) (subst F (sym c.in_ok-listed.ensures.bases)
+    (reach_far axis c.args.tech.now c.args.plan.now masters c.args.before.now c.requires.planned)))
+
 pub returns-in-Ok : goal.returns-in-Ok
 returns-in-Ok g c =
     let tech = c.args.tech.now in
@@ -76,6 +93,15 @@ returns-in-Ok g c =
       labels = c.in-Ok.ensures.labels;
       paths = c.in_ok-made_of-in-Ok.ensures.paths;
     } in
+    let ended : IsEndedLog listed.graph solved.log = record {
+      order = order;
+      rounds = solved.rounds;
+      is_order = order_of axis tech plan masters before listed.graph.vars order c.requires.planned c.requires.laid c.in_ok-listed.ensures.vars c.in_ok-order.ensures.names c.in_ok-order.ensures.in_order;
+      holds = c.in-Ok.ensures.log;
+      ended = run.ended;
+    } in
+    let values = c.in_ok-made_of-in-Ok.field-0.most in
+    let M : Step → Type 0 = λ s. IsTightMost tech plan masters before s values in
     let is : step_of axis listed solved ≡ step = sym c.in_ok-made_of-in-Ok.ensures.step in
     let L : Step → Type 0 = λ s. IsLeastPass tech plan masters before s in
     let R : Step → Type 0 = λ s. IsRecorded tech plan masters before s in
@@ -93,6 +119,9 @@ returns-in-Ok g c =
       text = c.in_ok-made_of-in-Ok.ensures.text ∙ ap (λ es. pass_text masters es c.args.pass step) c.in_ok-listed.ensures.edges;
       stopped = tt;
       first = tt;
+      most = λ asked. subst M is (tight_most axis tech plan masters before listed order solved values c.requires.planned lawful c.requires.laid run c.in_ok-listed.ensures.shape ended
+          (c.in_ok-made_of-in-Ok.ensures.most asked));
+      none = c.in_ok-made_of-in-Ok.ensures.none;
     }
 
 pub cycle_text-requires-clause-few : goal.cycle_text-requires-clause-few
@@ -135,6 +164,8 @@ returns-in-Err-Cycle g c =
       laid = tt;
       settled = tt;
       text = tt;
+      most = tt;
+      none = tt;
       stopped = stopped axis tech plan masters before listed order cycle c.args.pass c.in_ok-text-in-Err-Cycle.text.items c.requires.laid run
           (c.in_ok-text-in-Err-Cycle.ensures ∙ ap (λ ns. cycle_text listed.names listed.graph.edges c.args.pass axis ns) c.as_slice.ensures);
       first = stopped_first axis tech plan masters before listed order cycle c.requires.planned c.masters_are_lawful.ensures c.requires.laid run;

@@ -6,6 +6,7 @@ use Rattle.pass_run.specs.OnePass.{StopsPass, IsFirstOn}
 use Rattle.pass_run.specs.Passes.{axes_of}
 use Rattle.pass_run.proofs.Chain.{axes_more}
 use Rattle.pass_run.proofs.Going.{going_more, refused_cyclic}
+use Rattle.pass_run.proofs.Told.{has_told_more}
 use Rattle.pass_run.proofs.passes.go_on.Goals as goal
 
 pub returns-in-Ok-clause-going : goal.returns-in-Ok-clause-going
@@ -20,6 +21,13 @@ returns-in-Ok-clause-axes g c =
     let w = c.in_ok-with_pass-in-Ok.ensures in
     let last = ap (λ (axis : Axis). axes_of c.args.so_far.steps.items ++ axis ∷ []) c.in-Ok.ensures.axis in
     ap (λ (steps : List Step). axes_of steps) w.steps ∙ (axes_more c.args.so_far.steps.items c.in-Ok.made.step ∙ last)
+
+pub returns-in-Ok-clause-told : goal.returns-in-Ok-clause-told
+returns-in-Ok-clause-told g c =
+    let m = c.in-Ok.ensures in
+    let w = c.in_ok-with_pass-in-Ok.ensures in
+    has_told_more c.args.tech.now c.args.plan.now c.args.masters.now c.args.with_most c.is_told-told.result c.args.axis c.args.coming.now c.args.so_far c.in_ok-with_pass-in-Ok.field-0 c.deref.result.now
+    c.in-Ok.made.step c.in-Ok.made.most c.requires.told (c.deref.ensures.value ∙ c.requires.going.layouts_are) m.axis c.is_told-told.ensures.last m.most m.none w.steps w.told w.untold
 
 pub returns-in-Err-Cycle-clause-refused : goal.returns-in-Err-Cycle-clause-refused
 returns-in-Err-Cycle-clause-refused g c = λ later.

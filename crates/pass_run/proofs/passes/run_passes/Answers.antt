@@ -1,6 +1,6 @@
 use Rattle.std.proofs.Common.{◌≡◌, suc, List, length, drop, sym, ap, ◌∙◌, subst, arith}
 use Rattle.std.specs.Prelude.{Contains}
-use Rattle.std.proofs.lemmas.List.{length-take-le, take_all}
+use Rattle.std.proofs.lemmas.List.{length-take-le, take_all, drop_all}
 use Rattle.std.proofs.lemmas.Result.{err_from_is_err_and}
 use Rattle.lam_geom.specs.declared.boxes.Axis.{Axis}
 use Rattle.lam_geom.specs.declared.boxes.Axis.TheVariants.{X}
@@ -16,6 +16,7 @@ use Rattle.pass_run.proofs.Chain.{axes_counted}
 use Rattle.pass_run.proofs.Going.{going_met, going_placed, refused_there}
 use Rattle.pass_run.proofs.Pruning.{pruning}
 use Rattle.pass_run.proofs.OneRefusal.{passes_solvable, stops_at_first}
+use Rattle.pass_run.proofs.Told.{mosts_of, told_all, tight_of}
 use Rattle.pass_run.proofs.passes.run_passes.Goals as goal
 
 pub go_on-requires-clause-few : goal.go_on-requires-clause-few
@@ -80,3 +81,17 @@ returns-in_err-so_far-2-clause-first g c =
     (stops_at_first c.args.tech.now c.args.plan.now c.args.masters.now c.args.axes.now _
     (refused_there c.args.tech.now c.args.plan.now c.args.masters.now c.args.axes.now (axes_of c.loop-axis.so_far.steps.items) c.loop-axis.axis-index X _
     (omega arith) c.loop-axis.invariant.axes r))
+
+pub returns-clause-mosts : goal.returns-clause-mosts
+returns-clause-mosts g c = λ asked.
+    let test = c.loop-axis-test.false in
+    let none = drop_all c.loop-axis.axis-index c.args.axes.now (omega arith) in
+    mosts_of c.args.tech.now c.args.plan.now c.args.masters.now (starts_of c.args.tech.now c.args.masters.now) c.in_ok-given.field-0.steps c.in_ok-given.field-0.mosts
+    (told_all c.args.tech.now c.args.plan.now c.args.masters.now c.args.with_most _ c.loop-axis.so_far _ _ c.loop-axis.invariant.told none c.in_ok-given.ensures.steps c.in_ok-given.ensures.mosts asked)
+
+pub returns-clause-tight : goal.returns-clause-tight
+returns-clause-tight g c = λ asked.
+    let test = c.loop-axis-test.false in
+    let none = drop_all c.loop-axis.axis-index c.args.axes.now (omega arith) in
+    tight_of c.args.tech.now c.args.plan.now c.args.masters.now (starts_of c.args.tech.now c.args.masters.now) c.in_ok-given.field-0.steps c.in_ok-given.field-0.mosts
+    (told_all c.args.tech.now c.args.plan.now c.args.masters.now c.args.with_most _ c.loop-axis.so_far _ _ c.loop-axis.invariant.told none c.in_ok-given.ensures.steps c.in_ok-given.ensures.mosts asked)
