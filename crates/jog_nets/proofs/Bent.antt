@@ -18,11 +18,12 @@ use Rattle.cell_model.specs.Nets.{kind_parts, node_parts, first_part, joined_par
 use Rattle.stick_cell.specs.Known.{Known, cell_of}
 use Rattle.stick_cell.specs.Checks.{layer_of}
 use Rattle.jog_insert.specs.Bends.{Bend}
+use Rattle.jog_nets.specs.Parts.{node_after}
 use Rattle.jog_nets.proofs.Lines.{Joining, IsEndOf, IsJoined}
 use Rattle.jog_nets.proofs.Links.{both_moved, Five, AreBentLinks}
-use Rattle.jog_nets.proofs.Turned.{moved_node, shifted, IsRunOf, run_of_wire, upward}
+use Rattle.jog_nets.proofs.Turned.{moved_node, IsRunOf, run_of_wire, upward}
 use Rattle.jog_nets.proofs.Parts.{AreInserted, node_parts_inserted, parts_before, moved_number, number_back, number_returns, moved_between, moved_above, back_joints, back_wires}
-use Rattle.jog_nets.proofs.Moved.{AreApart, one_end, IsMovedWire, wire_ends, part_at_end, links_moved, attachments_append, ends_between, attached_first}
+use Rattle.jog_nets.proofs.Moved.{AreApart, one_end, IsMovedWire, AreWiresBent, wire_ends, part_at_end, links_moved, attachments_append, ends_between, attached_first}
 
 -- ---- wires between two nodes
 
@@ -58,9 +59,9 @@ upward_names tech known layer a b wire i j apart at_a at_b lt joined is = by (be
 -- the bent wire and the three in its place
 pub record AreThree (at low high : ℕ) (layer : Layer) (wire first middle last : Wire) : Type 0 where
   pub of_wire : IsBetween wire layer low high
-  pub of_first : IsBetween first layer (shifted at low) at
+  pub of_first : IsBetween first layer (node_after at low) at
   pub of_middle : IsBetween middle layer at (at + 1) ⊎ IsBetween middle layer (at + 1) at
-  pub of_last : IsBetween last layer (at + 1) (shifted at high)
+  pub of_last : IsBetween last layer (at + 1) (node_after at high)
 
 -- a joint has one part
 pub record IsOnePart (node : Node) : Type 0 where
@@ -129,12 +130,11 @@ five_of place n k =
 
 -- the links of both cells, where the other wires end where they did
 pub bent_links : (bend : Bend) (front back : List Node) (lower upper : Node) (old new : Known) → AreInserted bend front back lower upper old.nodes new.nodes → IsOnePart lower → IsOnePart upper
-    → (k low high : ℕ) (layer : Layer) (before behind its_before its_behind : List Wire) (wire first middle last : Wire) → old.wires ≡ before ++ wire ∷ behind
-    → new.wires ≡ its_before ++ first ∷ middle ∷ last ∷ its_behind → length before ≡ k → AllZip (IsMovedWire (length front) old new) before its_before
-    → AllZip (IsMovedWire (length front) old new) behind its_behind → low < length old.nodes → high < length old.nodes → AreThree (length front) low high layer wire first middle last
+    → (k low high : ℕ) (layer : Layer) (wires : AreWiresBent (length front) k old new) → low < length old.nodes → high < length old.nodes
+    → AreThree (length front) low high layer wires.wire wires.first wires.middle wires.last
     → AreBentLinks (attachments_of (cell_of old)) (attachments_of (cell_of new)) (moved_number (first_part old.nodes (length front)) (node_parts old.nodes) k)
     (number_back (first_part old.nodes (length front)) (node_parts old.nodes) k) (five_of (first_part old.nodes (length front)) (node_parts old.nodes) k)
-bent_links bend front back lower upper old new are one_lower one_upper k low high layer before behind its_before its_behind wire first middle last old_is new_is count zip_before zip_behind lt_low lt_high three =
+bent_links bend front back lower upper old new are one_lower one_upper k low high layer wires lt_low lt_high three =
     let at : ℕ = length front in
     let place : ℕ = first_part old.nodes at in
     let n : ℕ = node_parts old.nodes in
@@ -149,46 +149,46 @@ bent_links bend front back lower upper old new are one_lower one_upper k low hig
     let is_upper : node_at new.nodes (at + 1) ≡ upper = upper_at bend front back lower upper old.nodes new.nodes are in
     let part_low : ℕ = first_part old.nodes low + joined_part (node_at old.nodes low).kind layer true in
     let part_high : ℕ = first_part old.nodes high + joined_part (node_at old.nodes high).kind layer false in
-    let ends_wire : wire_ends old.nodes wire ≡ part_low ∷ part_high ∷ [] = ends_between old.nodes wire layer low high three.of_wire.own three.of_wire.low three.of_wire.high in
-    let ends_first : wire_ends new.nodes first ≡ m part_low ∷ place ∷ [] =
-    ends_between new.nodes first layer (shifted at low) at three.of_first.own three.of_first.low three.of_first.high
-    ∙ two_parts (first_part new.nodes (shifted at low) + joined_part (node_at new.nodes (shifted at low)).kind layer true) (first_part new.nodes at + joined_part (node_at new.nodes at).kind layer false)
+    let ends_wire : wire_ends old.nodes wires.wire ≡ part_low ∷ part_high ∷ [] = ends_between old.nodes wires.wire layer low high three.of_wire.own three.of_wire.low three.of_wire.high in
+    let ends_first : wire_ends new.nodes wires.first ≡ m part_low ∷ place ∷ [] =
+    ends_between new.nodes wires.first layer (node_after at low) at three.of_first.own three.of_first.low three.of_first.high
+    ∙ two_parts (first_part new.nodes (node_after at low) + joined_part (node_at new.nodes (node_after at low)).kind layer true) (first_part new.nodes at + joined_part (node_at new.nodes at).kind layer false)
     (m part_low) place (part_at_end bend front back lower upper old.nodes new.nodes are k low layer true lt_low) (only_part new.nodes at place lower layer false is_lower one_lower place_lower) in
-    let ends_last : wire_ends new.nodes last ≡ (place + 1) ∷ m part_high ∷ [] =
-    ends_between new.nodes last layer (at + 1) (shifted at high) three.of_last.own three.of_last.low three.of_last.high
-    ∙ two_parts (first_part new.nodes (at + 1) + joined_part (node_at new.nodes (at + 1)).kind layer true) (first_part new.nodes (shifted at high) + joined_part (node_at new.nodes (shifted at high)).kind layer false)
+    let ends_last : wire_ends new.nodes wires.last ≡ (place + 1) ∷ m part_high ∷ [] =
+    ends_between new.nodes wires.last layer (at + 1) (node_after at high) three.of_last.own three.of_last.low three.of_last.high
+    ∙ two_parts (first_part new.nodes (at + 1) + joined_part (node_at new.nodes (at + 1)).kind layer true) (first_part new.nodes (node_after at high) + joined_part (node_at new.nodes (node_after at high)).kind layer false)
     (place + 1) (m part_high) (only_part new.nodes (at + 1) (place + 1) upper layer true is_upper one_upper place_upper) (part_at_end bend front back lower upper old.nodes new.nodes are k high layer false lt_high) in
-    let (p, q, pair, ends_middle) = middle_ends new.nodes at place lower upper layer middle is_lower is_upper one_lower one_upper place_lower place_upper three.of_middle in
+    let (p, q, pair, ends_middle) = middle_ends new.nodes at place lower upper layer wires.middle is_lower is_upper one_lower one_upper place_lower place_upper three.of_middle in
     let part : ℕ = n + k in
     let part_moved : m part ≡ n + k + 2 = moved_between place n k part (omega (arith, few)) (omega arith) in
-    let its_count : length its_before ≡ k = sym (length_all_zip (IsMovedWire at old new) before its_before zip_before) ∙ count in
-    let links_before : List (ℕ × ℕ) = attachments old.nodes n before in
-    let links_behind : List (ℕ × ℕ) = attachments old.nodes (part + 1) behind in
+    let its_count : length wires.its_before ≡ k = sym (length_all_zip (IsMovedWire at old new) wires.before wires.its_before wires.before_moved) ∙ wires.count in
+    let links_before : List (ℕ × ℕ) = attachments old.nodes n wires.before in
+    let links_behind : List (ℕ × ℕ) = attachments old.nodes (part + 1) wires.behind in
     let second : ℕ = m part + 1 in
     let third : ℕ = m part + 1 + 1 in
-    let number : n + length before ≡ part = omega (arith, count) in
-    let its_number : m part ≡ base + length its_before = omega (arith, part_moved, more, its_count) in
-    let each_before : (t : ℕ) → t < length before → m (n + t) ≡ base + t =
-    λ t lt. moved_between place n k (n + t) (omega (arith, few)) (omega (arith, lt, count)) ∙ omega (arith, more) in
-    let each_behind : (t : ℕ) → t < length behind → m (part + 1 + t) ≡ (third + 1) + t =
+    let number : n + length wires.before ≡ part = omega (arith, wires.count) in
+    let its_number : m part ≡ base + length wires.its_before = omega (arith, part_moved, more, its_count) in
+    let each_before : (t : ℕ) → t < length wires.before → m (n + t) ≡ base + t =
+    λ t lt. moved_between place n k (n + t) (omega (arith, few)) (omega (arith, lt, wires.count)) ∙ omega (arith, more) in
+    let each_behind : (t : ℕ) → t < length wires.behind → m (part + 1 + t) ≡ (third + 1) + t =
     λ t lt. moved_above place n k (part + 1 + t) few (omega arith) ∙ omega (arith, part_moved) in
-    let rest : List (ℕ × ℕ) = attachments new.nodes (third + 1) its_behind in
+    let rest : List (ℕ × ℕ) = attachments new.nodes (third + 1) wires.its_behind in
     let old_links : attachments old.nodes n old.wires ≡ links_before ++ (part, part_low) ∷ (part, part_high) ∷ links_behind =
-    ap (attachments old.nodes n) old_is ∙ attachments_append old.nodes n before (wire ∷ behind)
-    ∙ ap (λ (links : List (ℕ × ℕ)). links_before ++ links) (attached_first old.nodes (n + length before) part wire behind part_low part_high (sym number) ends_wire) in
+    ap (attachments old.nodes n) wires.old_wires ∙ attachments_append old.nodes n wires.before (wires.wire ∷ wires.behind)
+    ∙ ap (λ (links : List (ℕ × ℕ)). links_before ++ links) (attached_first old.nodes (n + length wires.before) part wires.wire wires.behind part_low part_high (sym number) ends_wire) in
     let new_links : attachments new.nodes base new.wires
     ≡ map (both_moved m) links_before ++ (m part, m part_low) ∷ (m part, place) ∷ (second, p) ∷ (second, q) ∷ (third, place + 1) ∷ (third, m part_high) ∷ map (both_moved m) links_behind =
-    ap (attachments new.nodes base) new_is ∙ attachments_append new.nodes base its_before (first ∷ middle ∷ last ∷ its_behind)
-    ∙ ap (λ (links : List (ℕ × ℕ)). links ++ attachments new.nodes (base + length its_before) (first ∷ middle ∷ last ∷ its_behind))
-    (links_moved bend front back lower upper old new are k n base before its_before each_before zip_before)
+    ap (attachments new.nodes base) wires.new_wires ∙ attachments_append new.nodes base wires.its_before (wires.first ∷ wires.middle ∷ wires.last ∷ wires.its_behind)
+    ∙ ap (λ (links : List (ℕ × ℕ)). links ++ attachments new.nodes (base + length wires.its_before) (wires.first ∷ wires.middle ∷ wires.last ∷ wires.its_behind))
+    (links_moved bend front back lower upper old new are k n base wires.before wires.its_before each_before wires.before_moved)
     ∙ ap (λ (links : List (ℕ × ℕ)). map (both_moved m) links_before ++ links)
-    (attached_first new.nodes (base + length its_before) (m part) first (middle ∷ last ∷ its_behind) (m part_low) place its_number ends_first
+    (attached_first new.nodes (base + length wires.its_before) (m part) wires.first (wires.middle ∷ wires.last ∷ wires.its_behind) (m part_low) place its_number ends_first
     ∙ ap (λ (links : List (ℕ × ℕ)). (m part, m part_low) ∷ (m part, place) ∷ links)
-    (attached_first new.nodes second second middle (last ∷ its_behind) p q refl ends_middle
+    (attached_first new.nodes second second wires.middle (wires.last ∷ wires.its_behind) p q refl ends_middle
     ∙ ap (λ (links : List (ℕ × ℕ)). (second, p) ∷ (second, q) ∷ links)
-    (attached_first new.nodes third third last its_behind (place + 1) (m part_high) refl ends_last
+    (attached_first new.nodes third third wires.last wires.its_behind (place + 1) (m part_high) refl ends_last
     ∙ ap (λ (links : List (ℕ × ℕ)). (third, place + 1) ∷ (third, m part_high) ∷ links)
-    (links_moved bend front back lower upper old new are k (part + 1) (third + 1) behind its_behind each_behind zip_behind)))) in
+    (links_moved bend front back lower upper old new are k (part + 1) (third + 1) wires.behind wires.its_behind each_behind wires.behind_moved)))) in
     let backs = pair_back place n k p q pair in
     let second_back : number_back place n k second ≡ part = back_wires place n k second few (omega (arith, part_moved)) (omega (arith, part_moved)) in
     record {

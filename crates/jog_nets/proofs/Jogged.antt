@@ -28,13 +28,15 @@ use Rattle.jog_insert.specs.Jogs.{lower_name, upper_name, bent_forms, IsFree}
 use Rattle.jog_insert.specs.Nets.{AreOneNet, moved_part, IsOfJog, KeepsNets}
 use Rattle.graph_search.specs.Netting.{Attached}
 use Rattle.graph_search.proofs.Chains.{reaches_none}
+use Rattle.jog_nets.specs.Parts.{node_after, KeepsParts}
 use Rattle.jog_nets.proofs.Links.{AreBentLinks, IsOneNet, same_nets, one_net}
 use Rattle.jog_nets.proofs.Lines.{size_or_none, nodes_in, Sided, sides_in, Joining, joins_in, sides, side_named, IsEndOf, IsJoined}
 use Rattle.jog_nets.proofs.Told.{IsTold}
-use Rattle.jog_nets.proofs.Turned.{moved_node, shifted}
+use Rattle.jog_nets.proofs.Turned.{moved_node}
 use Rattle.jog_nets.proofs.Parts.{AreInserted, length_new, node_moved, moved_number, moved_between, number_back}
-use Rattle.jog_nets.proofs.Moved.{IsBentOf, node_end, moved_wires}
+use Rattle.jog_nets.proofs.Moved.{IsBentOf, node_end, AreWiresBent, moved_wires}
 use Rattle.jog_nets.proofs.Bent.{between_names, upward_names, AreThree, IsOnePart, lower_at, upper_at, five_of, bent_links, HasOne, has_one, HasThree, has_three}
+use Rattle.jog_nets.proofs.KeptParts.{parts_kept}
 use Rattle.jog_nets.proofs.Forms.{forms_of, nodes_of_moved, sides_of_moved, joins_of_moved}
 use Rattle.jog_nets.proofs.Named.{side_inserted, side_of_first, side_of_second, none_named, other_name}
 
@@ -90,43 +92,25 @@ three_wires tech bend front back lower upper old new h joints low high layer a b
     let at : ℕ = length front in
     let named : IsEndOf old (node_at old.nodes low).name (ends.Node low) × IsEndOf old (node_at old.nodes high).name (ends.Node high) =
     names_of_ends old (record { layer = layer; a = a; b = b }) wire low high joined from to in
-    let low_end : IsEndOf new (node_at old.nodes low).name (ends.Node (shifted at low)) = node_end bend front back lower upper old new h (node_at old.nodes low).name low named.0 in
-    let high_end : IsEndOf new (node_at old.nodes high).name (ends.Node (shifted at high)) = node_end bend front back lower upper old new h (node_at old.nodes high).name high named.1 in
-    let low_row : (node_at new.nodes (shifted at low)).row ≡ moved_row bend (node_at old.nodes low).row =
+    let low_end : IsEndOf new (node_at old.nodes low).name (ends.Node (node_after at low)) = node_end bend front back lower upper old new h (node_at old.nodes low).name low named.0 in
+    let high_end : IsEndOf new (node_at old.nodes high).name (ends.Node (node_after at high)) = node_end bend front back lower upper old new h (node_at old.nodes high).name high named.1 in
+    let low_row : (node_at new.nodes (node_after at low)).row ≡ moved_row bend (node_at old.nodes low).row =
     ap (λ (node : Node). node.row) (node_moved bend front back lower upper old.nodes new.nodes h.inserted low named.0.0).1 in
-    let high_row : (node_at new.nodes (shifted at high)).row ≡ moved_row bend (node_at old.nodes high).row =
+    let high_row : (node_at new.nodes (node_after at high)).row ≡ moved_row bend (node_at old.nodes high).row =
     ap (λ (node : Node). node.row) (node_moved bend front back lower upper old.nodes new.nodes h.inserted high named.1.0).1 in
     let lower_row : (node_at new.nodes at).row ≡ bend.row + 1 = ap (λ (node : Node). node.row) (lower_at bend front back lower upper old.nodes new.nodes h.inserted) ∙ joints.lower_row in
     let upper_row : (node_at new.nodes (at + 1)).row ≡ bend.row + 1 = ap (λ (node : Node). node.row) (upper_at bend front back lower upper old.nodes new.nodes h.inserted) ∙ joints.upper_row in
-    let rise_low : (node_at new.nodes (shifted at low)).row < (node_at new.nodes at).row = omega (arith, low_row, lower_row, row_below bend (node_at old.nodes low).row below, below) in
-    let rise_high : (node_at new.nodes (at + 1)).row < (node_at new.nodes (shifted at high)).row = omega (arith, high_row, upper_row, row_above bend (node_at old.nodes high).row above, above) in (
+    let rise_low : (node_at new.nodes (node_after at low)).row < (node_at new.nodes at).row = omega (arith, low_row, lower_row, row_below bend (node_at old.nodes low).row below, below) in
+    let rise_high : (node_at new.nodes (at + 1)).row < (node_at new.nodes (node_after at high)).row = omega (arith, high_row, upper_row, row_above bend (node_at old.nodes high).row above, above) in (
       named.0.0,
       named.1.0,
       record {
         of_wire = record { own = joined.layer; low = from; high = to };
-        of_first = upward_names tech new layer (node_at old.nodes low).name lower.name first (shifted at low) at h.apart low_end joints.lower_end rise_low first_joined first_is;
+        of_first = upward_names tech new layer (node_at old.nodes low).name lower.name first (node_after at low) at h.apart low_end joints.lower_end rise_low first_joined first_is;
         of_middle = between_names new layer lower.name upper.name middle at (at + 1) h.apart joints.lower_end joints.upper_end middle_joined;
-        of_last = upward_names tech new layer upper.name (node_at old.nodes high).name last (at + 1) (shifted at high) h.apart joints.upper_end high_end rise_high last_joined last_is;
+        of_last = upward_names tech new layer upper.name (node_at old.nodes high).name last (at + 1) (node_after at high) h.apart joints.upper_end high_end rise_high last_joined last_is;
       },
     )
-
--- the links of both cells
-links_of_wires : (tech : Tech) (bend : Bend) (front back : List Node) (lower upper : Node) (old new : Known) → IsBentOf bend front back lower upper old new → AreJoints bend front lower upper new
-    → (k low high : ℕ) (before behind : List Joining) (layer : DrawnLayer) (a b : List ℕ) → HasOne tech old before (record { layer = layer; a = a; b = b }) behind
-    → HasThree tech new before (to_lower layer (node_at old.nodes low).name lower) (across layer lower upper) (from_upper layer upper (node_at old.nodes high).name) behind
-    → length before ≡ k → (wire_at old.wires k).low ≡ ends.Node low → (wire_at old.wires k).high ≡ ends.Node high → (node_at old.nodes low).row ≤ bend.row → bend.row < (node_at old.nodes high).row
-    → AreBentLinks (attachments_of (cell_of old)) (attachments_of (cell_of new)) (moved_number (first_part old.nodes (length front)) (node_parts old.nodes) k)
-    (number_back (first_part old.nodes (length front)) (node_parts old.nodes) k) (five_of (first_part old.nodes (length front)) (node_parts old.nodes) k)
-links_of_wires tech bend front back lower upper old new h joints k low high before behind layer a b one three count from to below above =
-    let number : length one.front ≡ k = AllZip-long (IsJoined old) before one.front one.front_joined ∙ count in
-    let here : wire_at old.wires k ≡ one.wire = ap (λ (wires : List CellWire). wire_at wires k) one.wires ∙ get_or_at one.front one.wire one.back no_wire k number in
-    let wires = three_wires tech bend front back lower upper old new h joints low high layer a b one.wire three.first three.middle three.last one.joined three.first_joined three.middle_joined three.last_joined
-    three.first_is three.last_is (ap (λ (wire : CellWire). wire.low) (sym here) ∙ from) (ap (λ (wire : CellWire). wire.high) (sym here) ∙ to) below above in
-    bent_links bend front back lower upper old new h.inserted joints.lower_part joints.upper_part k low high (layer_of layer) one.front one.back three.front three.back one.wire three.first three.middle three.last
-    one.wires three.wires number
-    (moved_wires tech bend front back lower upper old new h before one.front three.front one.front_joined three.front_joined one.front_are three.front_are)
-    (moved_wires tech bend front back lower upper old new h behind one.back three.back one.back_joined three.back_joined one.back_are three.back_are)
-    wires.0 wires.1 wires.2
 
 -- ---- the nets
 
@@ -168,6 +152,37 @@ nets_of_links old new at k few h =
           | inl e ↦ subst P (sym e) (reaches_none (Attached (attachments_of (cell_of new))) m m refl)
           | inr later ↦ elim later [ inl e ↦ subst P (sym e) net.to_middle | inr e ↦ subst P (sym e) net.to_last ]
         ]
+
+-- the nets are kept, and so are the parts
+kept_of_wires : (tech : Tech) (bend : Bend) (front back : List Node) (lower upper : Node) (old new : Known) → IsBentOf bend front back lower upper old new → AreJoints bend front lower upper new
+    → (k low high : ℕ) (before behind : List Joining) (layer : DrawnLayer) (a b : List ℕ) → HasOne tech old before (record { layer = layer; a = a; b = b }) behind
+    → HasThree tech new before (to_lower layer (node_at old.nodes low).name lower) (across layer lower upper) (from_upper layer upper (node_at old.nodes high).name) behind
+    → length before ≡ k → (wire_at old.wires k).low ≡ ends.Node low → (wire_at old.wires k).high ≡ ends.Node high → (node_at old.nodes low).row ≤ bend.row → bend.row < (node_at old.nodes high).row
+    → KeepsNets (cell_of old) (cell_of new) (length front) k × KeepsParts (cell_of old) (cell_of new) (length front) k
+kept_of_wires tech bend front back lower upper old new h joints k low high before behind layer a b one three count from to below above =
+    let number : length one.front ≡ k = AllZip-long (IsJoined old) before one.front one.front_joined ∙ count in
+    let here : wire_at old.wires k ≡ one.wire = ap (λ (wires : List CellWire). wire_at wires k) one.wires ∙ get_or_at one.front one.wire one.back no_wire k number in
+    let ends_here = three_wires tech bend front back lower upper old new h joints low high layer a b one.wire three.first three.middle three.last one.joined three.first_joined three.middle_joined three.last_joined
+    three.first_is three.last_is (ap (λ (wire : CellWire). wire.low) (sym here) ∙ from) (ap (λ (wire : CellWire). wire.high) (sym here) ∙ to) below above in
+    let wires : AreWiresBent (length front) k old new = record {
+      before = one.front;
+      wire = one.wire;
+      behind = one.back;
+      its_before = three.front;
+      first = three.first;
+      middle = three.middle;
+      last = three.last;
+      its_behind = three.back;
+      old_wires = one.wires;
+      new_wires = three.wires;
+      count = number;
+      before_moved = moved_wires tech bend front back lower upper old new h before one.front three.front one.front_joined three.front_joined one.front_are three.front_are;
+      behind_moved = moved_wires tech bend front back lower upper old new h behind one.back three.back one.back_joined three.back_joined one.back_are three.back_are;
+    } in (
+      nets_of_links old new (length front) k (sum_by-take-le (λ (node : Node). kind_parts node.kind) old.nodes (length front))
+          (bent_links bend front back lower upper old new h.inserted joints.lower_part joints.upper_part k low high (layer_of layer) wires ends_here.0 ends_here.1 ends_here.2),
+      parts_kept bend front back lower upper old new h.inserted k wires,
+    )
 
 -- ---- from the lines
 
@@ -263,13 +278,13 @@ joints_of tech bend n layer a b low high own width lines front back old new spli
       },
     )
 
--- a cell whose lines are those after a jog has the nets of the one before
-pub nets_of_forms : (tech : Tech) (bend : Bend) (n : ℕ) (layer : DrawnLayer) (a b : List ℕ) (own : Option ℕ) (width k low high : ℕ) (lines : List Line) (front back : List Form) (old new : Known)
+-- a cell whose lines are those after a jog has the nets and the parts of the one before
+pub kept_of_forms : (tech : Tech) (bend : Bend) (n : ℕ) (layer : DrawnLayer) (a b : List ℕ) (own : Option ℕ) (width k low high : ℕ) (lines : List Line) (front back : List Form) (old new : Known)
     → forms_of lines ≡ front ++ Wire layer a b own ∷ back → IsFree lines n → IsTold tech (front ++ Wire layer a b own ∷ back) old
     → IsTold tech (new_forms bend n layer (node_at old.nodes low).name (node_at old.nodes high).name width front back) new → length (flat_map joins_in front) ≡ k
     → (wire_at old.wires k).low ≡ ends.Node low → (wire_at old.wires k).high ≡ ends.Node high → (node_at old.nodes low).row ≤ bend.row → bend.row < (node_at old.nodes high).row
-    → KeepsNets (cell_of old) (cell_of new) (length (flat_map (nodes_in tech) front)) k
-nets_of_forms tech bend n layer a b own width k low high lines front back old new split free told its_told count from to below above =
+    → KeepsNets (cell_of old) (cell_of new) (length (flat_map (nodes_in tech) front)) k × KeepsParts (cell_of old) (cell_of new) (length (flat_map (nodes_in tech) front)) k
+kept_of_forms tech bend n layer a b own width k low high lines front back old new split free told its_told count from to below above =
     let name_low : List ℕ = (node_at old.nodes low).name in
     let name_high : List ℕ = (node_at old.nodes high).name in
     let front_nodes : List Node = flat_map (nodes_in tech) front in
@@ -285,5 +300,4 @@ nets_of_forms tech bend n layer a b own width k low high lines front back old ne
     let one : HasOne tech old before wire behind = has_one tech old before wire behind joins told.wires in
     let three : HasThree tech new before (to_lower layer name_low lower) (across layer lower upper) (from_upper layer upper name_high) behind =
     has_three tech new before (to_lower layer name_low lower) (across layer lower upper) (from_upper layer upper name_high) behind (new_joins tech bend n layer name_low name_high width front back new its_told) its_told.wires in
-    nets_of_links old new (length front_nodes) k (sum_by-take-le (λ (node : Node). kind_parts node.kind) old.nodes (length front_nodes))
-    (links_of_wires tech bend front_nodes back_nodes lower upper old new bent.0 bent.1 k low high before behind layer a b one three count from to below above)
+    kept_of_wires tech bend front_nodes back_nodes lower upper old new bent.0 bent.1 k low high before behind layer a b one three count from to below above

@@ -1,4 +1,4 @@
--- A jog in a design keeps the nets of its cell.
+-- A jog in a design keeps the nets and the parts of its cell.
 use Rattle.std.proofs.Common.{◌≡◌, ℕ, ◌<◌, Bool, List, ◌∷◌, ◌++◌, length, map, get_or, sym, ap, subst, ◌∙◌, arith}
 use Rattle.std.specs.Prelude.{slice_set}
 use Rattle.std.specs.List.{AllByRecursion, flat_map}
@@ -20,10 +20,11 @@ use Rattle.stick_cell.proofs.TableReads.{length-known_cells}
 use Rattle.jog_insert.specs.Bends.{Bend, moved_form}
 use Rattle.jog_insert.specs.Jogs.{unnumbered, moved_line, IsCopy, no_cell, cell_text_at, bend_at, bent_forms, IsBent, IsJogged}
 use Rattle.jog_insert.specs.Nets.{nodes_before, KeepsNets}
+use Rattle.jog_nets.specs.Parts.{KeepsParts}
 use Rattle.jog_nets.proofs.Lines.{nodes_in, IsNoUse}
 use Rattle.jog_nets.proofs.Told.{IsTold, told_at}
 use Rattle.jog_nets.proofs.Forms.{forms_of, no_use_of, no_uses_moved, forms_of_moved, forms_of_unnumbered, forms_laid_out, length_laid_out, wire_form, length_joins, nodes_before_wire}
-use Rattle.jog_nets.proofs.Jogged.{new_forms, nets_of_forms}
+use Rattle.jog_nets.proofs.Jogged.{new_forms, kept_of_forms}
 
 -- the forms of lines in two parts, with another between them
 forms_split : (lines front back : List Line) (line : Line) (form : Form) → lines ≡ front ++ line ∷ back → line.form ≡ form → forms_of lines ≡ forms_of front ++ form ∷ forms_of back
@@ -49,10 +50,11 @@ forms_put design new cell text lt made = (
   ap length made ∙ length_laid_out 2 (slice_set design.cells cell text) ∙ length-set design.cells cell text,
 )
 
-pub nets_kept : (before after : Cells) (masters : List ℕ) (cell k row : ℕ) (left : Bool) → IsResolved before → IsResolved after → after.tech ≡ before.tech → cell < length (known_of before)
+pub jog_kept : (before after : Cells) (masters : List ℕ) (cell k row : ℕ) (left : Bool) → IsResolved before → IsResolved after → after.tech ≡ before.tech → cell < length (known_of before)
     → IsJogged before.design.now (cell_of (known_at (known_of before) cell)) masters cell k row left after.design.now
     → KeepsNets (cell_of (known_at (known_of before) cell)) (cell_of (known_at (known_of after) cell)) (nodes_before k (cell_text_at before.design.now cell).lines) k
-nets_kept before after masters cell k row left resolved its_resolved same_tech lt jogged =
+    × KeepsParts (cell_of (known_at (known_of before) cell)) (cell_of (known_at (known_of after) cell)) (nodes_before k (cell_text_at before.design.now cell).lines) k
+jog_kept before after masters cell k row left resolved its_resolved same_tech lt jogged =
     let tech : Tech = before.tech in
     let design : Design = before.design.now in
     let text : CellText = cell_text_at design cell in
@@ -84,6 +86,6 @@ nets_kept before after masters cell k row left resolved its_resolved same_tech l
     (told_at after cell its_resolved (omega (arith, lt, count_old, count_new, put.1))
     (all_unmap IsNoUse (λ (line : Line). line.form) (cell_text_at after.design.now cell).lines (subst (AllByRecursion IsNoUse) (sym new_split) its_whole)))) in
     let at : nodes_before k text.lines ≡ length (flat_map (nodes_in tech) front) = ap (nodes_before k) bent.split ∙ nodes_before_wire tech bent.front bent.layer bent.wire bent.back k bent.of_wire bent.count in
-    subst (λ (n : ℕ). KeepsNets (cell_of old) (cell_of new) n k) (sym at)
-    (nets_of_forms tech bend bent.number bent.layer a b own bent.width k bent.bendable.low bent.bendable.high text.lines front back old new split bent.is_number.free told its_told
+    subst (λ (n : ℕ). KeepsNets (cell_of old) (cell_of new) n k × KeepsParts (cell_of old) (cell_of new) n k) (sym at)
+    (kept_of_forms tech bend bent.number bent.layer a b own bent.width k bent.bendable.low bent.bendable.high text.lines front back old new split bent.is_number.free told its_told
     (length_joins bent.front ∙ bent.count) bent.bendable.from bent.bendable.to bent.bendable.below bent.bendable.above)

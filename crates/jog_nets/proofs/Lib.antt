@@ -6,6 +6,7 @@ pub mod Turned
 pub mod Parts
 pub mod Moved
 pub mod Bent
+pub mod KeptParts
 pub mod Forms
 pub mod Named
 pub mod Jogged

@@ -15,9 +15,10 @@ use Rattle.cell_model.specs.Sound.{node_at, IsWire}
 use Rattle.cell_model.specs.Nets.{node_parts, first_part, joined_part, end_parts, with_each, attachments}
 use Rattle.stick_cell.specs.Known.{Known, cell_of, plug_at}
 use Rattle.jog_insert.specs.Bends.{Bend}
+use Rattle.jog_nets.specs.Parts.{node_after}
 use Rattle.jog_nets.proofs.Lines.{Joining, sides, side_named, IsEndOf, IsJoined}
 use Rattle.jog_nets.proofs.Links.{both_moved}
-use Rattle.jog_nets.proofs.Turned.{shifted, IsMovedEnd, run_of_wire, not_turned}
+use Rattle.jog_nets.proofs.Turned.{IsMovedEnd, run_of_wire, not_turned}
 use Rattle.jog_nets.proofs.Parts.{AreInserted, node_moved, moved_number, joined_within, part_moved}
 
 -- no two nodes have one name
@@ -39,7 +40,7 @@ one_end known name i (ends.Port j) apart here is = let none : ◌≡◌ {A = Opt
 
 -- a node that is the end of a name still is
 pub node_end : (bend : Bend) (front back : List Node) (lower upper : Node) (old new : Known) → IsBentOf bend front back lower upper old new → (name : List ℕ) (i : ℕ)
-    → IsEndOf old name (ends.Node i) → IsEndOf new name (ends.Node (shifted (length front) i))
+    → IsEndOf old name (ends.Node i) → IsEndOf new name (ends.Node (node_after (length front) i))
 node_end bend front back lower upper old new h name i is =
     let there = node_moved bend front back lower upper old.nodes new.nodes h.inserted i is.0 in
     (there.0, ap (λ (node : Node). node.name) there.1 ∙ is.1, h.named name None is.2)
@@ -49,7 +50,7 @@ moved_end : (bend : Bend) (front back : List Node) (lower upper : Node) (old new
     → IsEndOf old name end → IsEndOf new name its → IsMovedEnd (length front) old new end its
 moved_end bend front back lower upper old new h name (ends.Node i) (ends.Node j) is its =
     let there = node_end bend front back lower upper old new h name i is in
-    (is.0, h.apart j (shifted (length front) i) its.0 there.0 (its.1 ∙ sym there.1))
+    (is.0, h.apart j (node_after (length front) i) its.0 there.0 (its.1 ∙ sym there.1))
 moved_end bend front back lower upper old new h name (ends.Port i) (ends.Port j) is its =
     let same : ◌≡◌ {A = Option (Option Side)} (Some (Some (plug_at old.plugs i).port.side)) (Some (Some (plug_at new.plugs j).port.side)) =
     sym (h.named name (Some (plug_at old.plugs i).port.side) is.1) ∙ its.1 in
@@ -103,6 +104,22 @@ moved_wires tech bend front back lower upper old new h (joining ∷ joinings) (w
   moved_wires tech bend front back lower upper old new h joinings wires its joined.1 its_joined.1 is.1 its_is.1,
 )
 
+-- one wire of the old cell has become three, and each other one ends where it did
+pub record AreWiresBent (at k : ℕ) (old new : Known) : Type 0 where
+  pub before : List Wire
+  pub wire : Wire
+  pub behind : List Wire
+  pub its_before : List Wire
+  pub first : Wire
+  pub middle : Wire
+  pub last : Wire
+  pub its_behind : List Wire
+  pub old_wires : old.wires ≡ before ++ wire ∷ behind
+  pub new_wires : new.wires ≡ its_before ++ first ∷ middle ∷ last ∷ its_behind
+  pub count : length before ≡ k
+  pub before_moved : AllZip (IsMovedWire at old new) before its_before
+  pub behind_moved : AllZip (IsMovedWire at old new) behind its_behind
+
 -- ---- what they attach
 
 -- the parts at the two ends of a wire
@@ -111,11 +128,11 @@ wire_ends nodes wire = end_parts nodes wire.layer true wire.low ++ end_parts nod
 
 -- the part of a node at an end
 pub part_at_end : (bend : Bend) (front back : List Node) (lower upper : Node) (old new : List Node) → AreInserted bend front back lower upper old new → (k i : ℕ) (layer : Layer) (is_low : Bool) → i < length old
-    → first_part new (shifted (length front) i) + joined_part (node_at new (shifted (length front) i)).kind layer is_low
+    → first_part new (node_after (length front) i) + joined_part (node_at new (node_after (length front) i)).kind layer is_low
     ≡ moved_number (first_part old (length front)) (node_parts old) k (first_part old i + joined_part (node_at old i).kind layer is_low)
 part_at_end bend front back lower upper old new are k i layer is_low lt =
-    let kind : (node_at new (shifted (length front) i)).kind ≡ (node_at old i).kind = ap (λ (node : Node). node.kind) (node_moved bend front back lower upper old new are i lt).1 in
-    ap (λ (kind : NodeKind). first_part new (shifted (length front) i) + joined_part kind layer is_low) kind
+    let kind : (node_at new (node_after (length front) i)).kind ≡ (node_at old i).kind = ap (λ (node : Node). node.kind) (node_moved bend front back lower upper old new are i lt).1 in
+    ap (λ (kind : NodeKind). first_part new (node_after (length front) i) + joined_part kind layer is_low) kind
     ∙ part_moved bend front back lower upper old new are k i (joined_part (node_at old i).kind layer is_low) lt (joined_within (node_at old i).kind layer is_low)
 
 end_parts_moved : (bend : Bend) (front back : List Node) (lower upper : Node) (old new : Known) → AreInserted bend front back lower upper old.nodes new.nodes → (k : ℕ) (layer : Layer) (is_low : Bool)

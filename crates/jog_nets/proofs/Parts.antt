@@ -13,7 +13,8 @@ use Rattle.cell_model.specs.declared.cell.Node.{Node}
 use Rattle.cell_model.specs.Sound.{node_at, no_node}
 use Rattle.cell_model.specs.Nets.{kind_parts, node_parts, first_part, joined_part}
 use Rattle.jog_insert.specs.Bends.{Bend}
-use Rattle.jog_nets.proofs.Turned.{moved_node, shifted}
+use Rattle.jog_nets.specs.Parts.{node_after}
+use Rattle.jog_nets.proofs.Turned.{moved_node}
 
 -- ---- nodes
 
@@ -48,19 +49,19 @@ node_in_back bend front back lower upper i le lt =
 
 -- each node is there
 pub node_moved : (bend : Bend) (front back : List Node) (lower upper : Node) (old new : List Node) → AreInserted bend front back lower upper old new → (i : ℕ) → i < length old
-    → (shifted (length front) i < length new) × (node_at new (shifted (length front) i) ≡ moved_node bend (node_at old i))
+    → (node_after (length front) i < length new) × (node_at new (node_after (length front) i) ≡ moved_node bend (node_at old i))
 node_moved bend front back lower upper old new are i lt =
     let length_old : length old ≡ length front + length back = ap length are.old_nodes ∙ length-append front back in
     let size_new : length new ≡ length front + 2 + length back = ap length are.new_nodes ∙ length_new bend front back lower upper in
     elim (cases_lt i (length front)) [
       | inl less ↦
-          let at : shifted (length front) i ≡ i = sym (cond_below i (length front) i (i + 2) less) in (
+          let at : node_after (length front) i ≡ i = sym (cond_below i (length front) i (i + 2) less) in (
             omega (arith, at, less, size_new),
             ap (node_at new) at ∙ ap (λ (nodes : List Node). node_at nodes i) are.new_nodes ∙ node_in_front bend front back lower upper i less
                 ∙ ap (λ (nodes : List Node). moved_node bend (node_at nodes i)) (sym are.old_nodes),
           )
       | inr more ↦
-          let at : shifted (length front) i ≡ i + 2 = sym (cond_above i (length front) i (i + 2) (i + 2) more refl) in (
+          let at : node_after (length front) i ≡ i + 2 = sym (cond_above i (length front) i (i + 2) (i + 2) more refl) in (
             omega (arith, at, more, size_new, lt, length_old),
             ap (node_at new) at ∙ ap (λ (nodes : List Node). node_at nodes (i + 2)) are.new_nodes ∙ node_in_back bend front back lower upper i more (omega (arith, lt, length_old))
                 ∙ ap (λ (nodes : List Node). moved_node bend (node_at nodes i)) (sym are.old_nodes),
@@ -189,7 +190,7 @@ number_returns first n k p few = elim (cases_lt p first) [
 
 -- each part of a node
 pub part_moved : (bend : Bend) (front back : List Node) (lower upper : Node) (old new : List Node) → AreInserted bend front back lower upper old new → (k i d : ℕ) → i < length old
-    → d < kind_parts (node_at old i).kind → first_part new (shifted (length front) i) + d ≡ moved_number (first_part old (length front)) (node_parts old) k (first_part old i + d)
+    → d < kind_parts (node_at old i).kind → first_part new (node_after (length front) i) + d ≡ moved_number (first_part old (length front)) (node_parts old) k (first_part old i + d)
 part_moved bend front back lower upper old new are k i d lt less =
     let parts : Node → ℕ = λ n. kind_parts n.kind in
     let n : ℕ = length front in
@@ -197,14 +198,14 @@ part_moved bend front back lower upper old new are k i d lt less =
     let all : first_part old i + kind_parts (node_at old i).kind ≤ node_parts old = sum_by_more_le parts old i no_node lt in
     elim (cases_lt i n) [
       | inl front_i ↦
-          let at : shifted n i ≡ i = sym (cond_below i n i (i + 2) front_i) in
-          let same : first_part new (shifted n i) ≡ first_part old i =
+          let at : node_after n i ≡ i = sym (cond_below i n i (i + 2) front_i) in
+          let same : first_part new (node_after n i) ≡ first_part old i =
           ap (first_part new) at ∙ ap (λ (nodes : List Node). first_part nodes i) are.new_nodes ∙ parts_in_front bend front back lower upper i (omega arith) ∙ ap (λ (nodes : List Node). first_part nodes i) (sym are.old_nodes) in
           let below : first_part old i + d < first_part old n = omega (arith, next, less, first_part_le old (i + 1) n (omega arith)) in
           omega (arith, same, moved_below (first_part old n) (node_parts old) k (first_part old i + d) below)
       | inr back_i ↦
-          let at : shifted n i ≡ suc (suc i) = sym (cond_above i n i (i + 2) (i + 2) back_i refl) ∙ omega arith in
-          let same : first_part new (shifted n i) ≡ first_part old i + 2 =
+          let at : node_after n i ≡ suc (suc i) = sym (cond_above i n i (i + 2) (i + 2) back_i refl) ∙ omega arith in
+          let same : first_part new (node_after n i) ≡ first_part old i + 2 =
           ap (first_part new) at ∙ ap (λ (nodes : List Node). first_part nodes (suc (suc i))) are.new_nodes ∙ parts_in_back bend front back lower upper i are.one_lower are.one_upper back_i
           ∙ ap (λ (nodes : List Node). first_part nodes i + 2) (sym are.old_nodes) in
           let above : first_part old n ≤ first_part old i = first_part_le old n i back_i in

@@ -1,6 +1,6 @@
 -- A bend turns no wire round: what lies lower or more to the left still does, as far as a wire can tell.
-use Rattle.std.proofs.Common.{◌≡◌, ℕ, ◌+◌, ◌<◌, Bool, true, false, length, refl, sym, ap, ◌∙◌, arith}
-use Rattle.std.specs.Prelude.{nat_lt, if◌then◌else◌}
+use Rattle.std.proofs.Common.{◌≡◌, ℕ, ◌<◌, Bool, true, false, length, refl, sym, ap, ◌∙◌, arith}
+use Rattle.std.specs.Prelude.{nat_lt}
 use Rattle.std.proofs.lemmas.Bool.{not-true, both_ways}
 use Rattle.std.proofs.lemmas.Bool.Decides.{nat_tests}
 use Rattle.rule_table.specs.declared.technology.Tech.{Tech}
@@ -16,6 +16,7 @@ use Rattle.cell_model.specs.Wiring.{is_low_side}
 use Rattle.cell_model.specs.Sound.{node_at, port_at, line_at, IsInOrder, IsOnLowSide, IsOnHighSide, IsWire}
 use Rattle.stick_cell.specs.Known.{Known, cell_of, plug_at}
 use Rattle.stick_cell.proofs.GrownWires.{port_of_plug}
+use Rattle.jog_nets.specs.Parts.{node_after}
 use Rattle.jog_insert.specs.Bends.{Bend, moved_row, moved_col, node_col}
 
 -- ---- columns and rows
@@ -92,20 +93,16 @@ nodes_kept bend old new along its_along i j its_i its_j at_i at_j run its_run =
 
 -- ---- the ends of a wire before and after
 
--- the number of a node after two have come in front of some
-abbrev pub shifted : ℕ → ℕ → ℕ
-shifted at i = if nat_lt i at then i else i + 2
-
 -- a node is the same one, a port lies on the same side
 abbrev pub IsMovedEnd : ℕ → Known → Known → WireEnd → WireEnd → Type 0
-IsMovedEnd at old new (ends.Node i) (ends.Node j) = (i < length old.nodes) × (j ≡ shifted at i)
+IsMovedEnd at old new (ends.Node i) (ends.Node j) = (i < length old.nodes) × (j ≡ node_after at i)
 IsMovedEnd at old new (ends.Port i) (ends.Port j) = (plug_at old.plugs i).port.side ≡ (plug_at new.plugs j).port.side
 IsMovedEnd at old new (ends.Node i) (ends.Port j) = ⊥
 IsMovedEnd at old new (ends.Port i) (ends.Node j) = ⊥
 
 -- the nodes of the old cell are moved
 abbrev pub AreNodesMoved : Bend → ℕ → Known → Known → Type 0
-AreNodesMoved bend at old new = (i : ℕ) → i < length old.nodes → node_at new.nodes (shifted at i) ≡ moved_node bend (node_at old.nodes i)
+AreNodesMoved bend at old new = (i : ℕ) → i < length old.nodes → node_at new.nodes (node_after at i) ≡ moved_node bend (node_at old.nodes i)
 
 -- a port is not both on a low side and on a high one
 sides_kept : (old new : Known) (q its : ℕ) → (plug_at old.plugs q).port.side ≡ (plug_at new.plugs its).port.side → IsOnHighSide (cell_of old) (ends.Port q) → IsOnLowSide (cell_of new) (ends.Port its) → ⊥

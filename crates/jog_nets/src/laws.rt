@@ -4,11 +4,13 @@ ghost use Rattle.stick_cell.specs.Known.{cell_of, known_at};
 ghost use Rattle.stick_cell.specs.Tables.{known_of, IsResolved};
 ghost use Rattle.jog_insert.specs.Jogs.{cell_text_at, IsJogged};
 ghost use Rattle.jog_insert.specs.Nets.{nodes_before, KeepsNets};
+ghost use Rattle.jog_nets.specs.Parts.{KeepsParts};
 
 use stick_cell::Cells;
 
-/// A law, with nothing to run: after a jog in wire number `k` of a cell, above row `r`, the cell has the nets that it had, where both
-/// designs have been checked with one technology. The joints of the jog come behind the nodes whose lines stand before the wire's line.
+/// A law, with nothing to run: after a jog in wire number `k` of a cell, above row `r`, the cell has the nets that it had, and its nodes
+/// and other wires are the same ones, where both designs have been checked with one technology. The joints of the jog come behind the
+/// nodes whose lines stand before the wire's line, and the three wires in the place of the one.
 pub fn jogs_keep_nets(
     before: &Cells,
     after: &Cells,
@@ -23,6 +25,8 @@ pub fn jogs_keep_nets(
     requires one_technology { after.now.tech ≡ before.now.tech }
     requires within { cell < length (known_of before.now) }
     requires jogged { IsJogged before.now.design.now (cell_of (known_at (known_of before.now) cell)) masters.now cell k r left after.now.design.now }
-    ensures { KeepsNets (cell_of (known_at (known_of before.now) cell)) (cell_of (known_at (known_of after.now) cell))
+    ensures nets { KeepsNets (cell_of (known_at (known_of before.now) cell)) (cell_of (known_at (known_of after.now) cell))
+        (nodes_before k (cell_text_at before.now.design.now cell).lines) k }
+    ensures parts { KeepsParts (cell_of (known_at (known_of before.now) cell)) (cell_of (known_at (known_of after.now) cell))
         (nodes_before k (cell_text_at before.now.design.now cell).lines) k }
 {}

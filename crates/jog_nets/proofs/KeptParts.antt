@@ -1,0 +1,102 @@
+-- The nodes and the wires of a cell with a jog, and their parts, under the new numbers.
+use Rattle.std.proofs.Common.{◌≡◌, ◌≢◌, ℕ, suc, ◌+◌, ◌-◌, ◌<◌, ◌≤◌, List, ◌∷◌, length, inl, inr, refl, sym, ap, subst, ◌∙◌, arith}
+use Rattle.std.specs.List.{AllZip}
+use Rattle.std.proofs.lemmas.List.{length-append, get_or_append_left, get_or-append_right}
+use Rattle.std.proofs.lemmas.List.Elements.{length_all_zip, AllZip-get_or}
+use Rattle.std.proofs.lemmas.List.Sums.{sum_by-take-le}
+use Rattle.std.proofs.lemmas.Bool.{cases_lt}
+use Rattle.std.proofs.lemmas.Bool.Decides.{nat_tests}
+use Rattle.cell_model.specs.declared.cell.Node.{Node}
+use Rattle.cell_model.specs.declared.cell.WireEnd.{WireEnd}
+use Rattle.cell_model.specs.declared.cell.WireEnd.TheVariants as ends
+use Rattle.cell_model.specs.declared.cell.Wire.{Wire}
+use Rattle.cell_model.specs.Sound.{node_at, wire_at, no_wire}
+use Rattle.cell_model.specs.Nets.{kind_parts, node_parts, first_part}
+use Rattle.stick_cell.specs.Known.{Known, cell_of}
+use Rattle.jog_insert.specs.Bends.{Bend}
+use Rattle.jog_nets.specs.Parts.{node_after, wire_after, IsEndAfter, IsWireAfter, KeepsParts}
+use Rattle.jog_nets.proofs.Turned.{moved_node, IsMovedEnd}
+use Rattle.jog_nets.proofs.Parts.{AreInserted, length_new, node_moved, part_moved, parts_before, node_parts_inserted, moved_number, moved_between, moved_above}
+use Rattle.jog_nets.proofs.Moved.{IsMovedWire, AreWiresBent}
+
+after_few : (k j : ℕ) → j ≤ k → wire_after k j ≡ j
+after_few k j le = grind (arith, nat_tests)
+
+after_more : (k j : ℕ) → k < j → wire_after k j ≡ j + 2
+after_more k j lt = grind (arith, nat_tests)
+
+end_after : (at : ℕ) (old new : Known) (end its : WireEnd) → IsMovedEnd at old new end its → IsEndAfter at end its
+end_after at old new (ends.Node i) (ends.Node j) e = ap (λ n. ends.Node n) e.1
+end_after at old new (ends.Port i) (ends.Port j) e = (j, refl)
+end_after at old new (ends.Node i) (ends.Port j) e = absurd e
+end_after at old new (ends.Port i) (ends.Node j) e = absurd e
+
+-- each wire but the bent one
+wire_kept : (at k : ℕ) (old new : Known) → AreWiresBent at k old new → (j : ℕ) → j < length old.wires → j ≢ k → IsWireAfter at (wire_at old.wires j) (wire_at new.wires (wire_after k j))
+wire_kept at k old new h j lt other = elim (cases_lt j k) [
+  | inl less ↦ is_after (wire_at old.wires j) (wire_at new.wires (wire_after k j)) (at_before less)
+  | inr le ↦ is_after (wire_at old.wires j) (wire_at new.wires (wire_after k j)) (at_behind (omega (arith, le, other)))
+]
+  where
+    is_after : (wire its : Wire) → IsMovedWire at old new wire its → IsWireAfter at wire its
+    is_after wire its moved =
+        record { layer = moved.layer; low = end_after at old new wire.low its.low moved.low; high = end_after at old new wire.high its.high moved.high }
+
+    moved_at : (wires its_wires : List Wire) (i : ℕ) (wire its : Wire) → AllZip (IsMovedWire at old new) wires its_wires → i < length wires → wire ≡ wire_at wires i → its ≡ wire_at its_wires i
+        → IsMovedWire at old new wire its
+    moved_at wires its_wires i wire its zip less e g =
+        subst (λ (w : Wire). IsMovedWire at old new w its) (sym e) (subst (λ (w : Wire). IsMovedWire at old new (wire_at wires i) w) (sym g)
+        (AllZip-get_or (IsMovedWire at old new) wires its_wires i no_wire no_wire zip less))
+
+    at_before : j < k → IsMovedWire at old new (wire_at old.wires j) (wire_at new.wires (wire_after k j))
+    at_before less =
+        let front : j < length h.before = omega (arith, less, h.count) in
+        let its_front : j < length h.its_before = omega (arith, front, length_all_zip (IsMovedWire at old new) h.before h.its_before h.before_moved) in
+        moved_at h.before h.its_before j (wire_at old.wires j) (wire_at new.wires (wire_after k j)) h.before_moved front
+        (ap (λ (wires : List Wire). wire_at wires j) h.old_wires ∙ get_or_append_left h.before (h.wire ∷ h.behind) no_wire j front)
+        (ap (wire_at new.wires) (after_few k j (omega arith)) ∙ ap (λ (wires : List Wire). wire_at wires j) h.new_wires
+        ∙ get_or_append_left h.its_before (h.first ∷ h.middle ∷ h.last ∷ h.its_behind) no_wire j its_front)
+
+    at_behind : k < j → IsMovedWire at old new (wire_at old.wires j) (wire_at new.wires (wire_after k j))
+    at_behind more =
+        let i : ℕ = j - k - 1 in
+        let count : length old.wires ≡ length h.before + suc (length h.behind) = ap length h.old_wires ∙ length-append h.before (h.wire ∷ h.behind) in
+        let its_count : length h.its_before ≡ k = sym (length_all_zip (IsMovedWire at old new) h.before h.its_before h.before_moved) ∙ h.count in
+        let place : j - k ≡ suc i = omega arith in
+        let its_place : (j + 2) - k ≡ suc (suc (suc i)) = omega arith in
+        moved_at h.behind h.its_behind i (wire_at old.wires j) (wire_at new.wires (wire_after k j)) h.behind_moved (omega (arith, count, h.count, lt))
+        (ap (λ (wires : List Wire). wire_at wires j) h.old_wires ∙ get_or-append_right h.before (h.wire ∷ h.behind) k j no_wire h.count (omega arith) ∙ ap (wire_at (h.wire ∷ h.behind)) place)
+        (ap (wire_at new.wires) (after_more k j more) ∙ ap (λ (wires : List Wire). wire_at wires (j + 2)) h.new_wires
+        ∙ get_or-append_right h.its_before (h.first ∷ h.middle ∷ h.last ∷ h.its_behind) k (j + 2) no_wire its_count (omega arith) ∙ ap (wire_at (h.first ∷ h.middle ∷ h.last ∷ h.its_behind)) its_place)
+
+-- the nodes and the wires, with their parts
+pub parts_kept : (bend : Bend) (front back : List Node) (lower upper : Node) (old new : Known) → AreInserted bend front back lower upper old.nodes new.nodes → (k : ℕ)
+    → AreWiresBent (length front) k old new → KeepsParts (cell_of old) (cell_of new) (length front) k
+parts_kept bend front back lower upper old new are k h =
+    let at : ℕ = length front in
+    let place : ℕ = first_part old.nodes at in
+    let n : ℕ = node_parts old.nodes in
+    let few : place ≤ n = sum_by-take-le (λ (node : Node). kind_parts node.kind) old.nodes at in
+    let more : node_parts new.nodes ≡ n + 2 = node_parts_inserted bend front back lower upper old.nodes new.nodes are in
+    let joints = parts_before bend front back lower upper old.nodes new.nodes are in
+    let there : (i : ℕ) → i < length old.nodes → (node_after at i < length new.nodes) × (node_at new.nodes (node_after at i) ≡ moved_node bend (node_at old.nodes i)) =
+    node_moved bend front back lower upper old.nodes new.nodes are in
+    let old_count : length old.wires ≡ length h.before + suc (length h.behind) = ap length h.old_wires ∙ length-append h.before (h.wire ∷ h.behind) in
+    let new_count : length new.wires ≡ length h.its_before + suc (suc (suc (length h.its_behind))) = ap length h.new_wires ∙ length-append h.its_before (h.first ∷ h.middle ∷ h.last ∷ h.its_behind) in
+    let same_before : length h.before ≡ length h.its_before = length_all_zip (IsMovedWire at old new) h.before h.its_before h.before_moved in
+    let same_behind : length h.behind ≡ length h.its_behind = length_all_zip (IsMovedWire at old new) h.behind h.its_behind h.behind_moved in
+    let part : (j : ℕ) → node_parts new.nodes + wire_after k j ≡ moved_number place n k (n + j) =
+    λ j. elim (cases_lt k j) [
+      | inl lt ↦ omega (arith, more, after_more k j lt, moved_above place n k (n + j) few (omega arith))
+      | inr le ↦ omega (arith, more, after_few k j le, moved_between place n k (n + j) (omega (arith, few)) (omega arith))
+    ] in
+    record {
+      nodes = ap length are.new_nodes ∙ length_new bend front back lower upper ∙ omega (arith, ap length are.old_nodes, length-append front back);
+      name = λ i lt. ap (λ (node : Node). node.name) (there i lt).1;
+      kind = λ i lt. ap (λ (node : Node). node.kind) (there i lt).1;
+      parts = λ i d lt less. part_moved bend front back lower upper old.nodes new.nodes are k i d lt less;
+      joints = (joints.1 ∙ sym joints.0, joints.2 ∙ ap (λ x. x + 1) (sym joints.0));
+      wires = omega (arith, old_count, new_count, same_before, same_behind);
+      wire = λ j lt other. wire_kept at k old new h j lt other;
+      part = λ j lt. part j;
+    }
