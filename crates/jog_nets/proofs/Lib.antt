@@ -11,3 +11,4 @@ pub mod Forms
 pub mod Named
 pub mod Jogged
 pub mod Kept
+pub mod Determined
