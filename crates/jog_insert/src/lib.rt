@@ -9,8 +9,12 @@ mod bending;
 mod copying;
 mod forms;
 mod inserting;
+mod joints;
+mod naming;
 mod reading;
+mod runs;
 mod script;
+mod words;
 
 pub use inserting::insert;
 pub use reading::read_jogs;
