@@ -1,2 +1,5 @@
 pub mod ScriptsLeft
 pub mod Copies
+pub mod JogNames
+pub mod Marking
+pub mod Bendable

@@ -1,10 +1,10 @@
 //! The least number of a jog whose joints get new names.
-ghost use Rattle.std.specs.Prelude.{◌≡◌, ℕ, ◌-◌, ◌^◌, ◌<◌, ◌≤◌, true, [], ◌∷◌, length, min, IfOk, OnOk, MatchBool, MatchOption};
+ghost use Rattle.std.specs.Prelude.{◌≡◌, ℕ, ◌-◌, ◌^◌, ◌<◌, ◌≤◌, true, [], ◌∷◌, length, min, slice_index_or, false, IfOk, OnOk, MatchBool, MatchOption};
 ghost use Rattle.std.specs.List.{slice_range};
 ghost use Rattle.std.specs.Str.Parse.{digits_value};
 ghost use Rattle.stick_lex.specs.Tokens.{is_numeral};
 ghost use Rattle.jog_insert.specs.Jogs.{joint_name, name_in, IsJogNumber};
-ghost use Rattle.jog_insert.specs.Building.{IsNameOf, Marks};
+ghost use Rattle.jog_insert.specs.Building.{IsNameOf, Marks, marks_in};
 
 use std::alloc::{AllocError, Global};
 use stick_lex::{Text, push_decimal};
@@ -96,6 +96,21 @@ fn mark(alloc: Global, name: &[u8], taken: &mut [bool]) -> Result<(), AllocError
     Ok(())
 }
 
+// The first number that is not marked.
+fn first_unmarked(taken: &[bool]) -> usize
+    requires { marks_in taken.now < length taken.now }
+    ensures within { result < length taken.now }
+    ensures free { slice_index_or taken.now result false ≡ false }
+    ensures first { (n : ℕ) → n < result → slice_index_or taken.now n false ≡ true }
+{
+    for (n, is_taken) in taken.iter().enumerate() {
+        if !*is_taken {
+            return n;
+        }
+    }
+    unreachable!()
+}
+
 /// The least number of a jog for which the names of both joints are new among these lines. It costs time linear in the
 /// lines.
 pub fn free_number(alloc: Global, lines: &[Line]) -> Result<u32, AllocError>
@@ -109,8 +124,5 @@ pub fn free_number(alloc: Global, lines: &[Line]) -> Result<u32, AllocError>
             mark(alloc, name, &mut taken)?;
         }
     }
-    match taken.iter().position(|is_taken| !*is_taken) {
-        Some(number) => Ok(number as u32),
-        None => unreachable!(),
-    }
+    Ok(first_unmarked(&taken) as u32)
 }

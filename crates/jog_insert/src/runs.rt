@@ -1,6 +1,7 @@
 //! The wire that is bent, and whether another one reaches over the bend in its column.
-ghost use Rattle.std.specs.Prelude.{◌≡◌, ◌↔◌, ◌≢◌, ℕ, ◌+◌, ◌<◌, ◌≤◌, length, IsTrue, MatchBool, MatchOption};
+ghost use Rattle.std.specs.Prelude.{◌≡◌, ◌↔◌, ◌≢◌, ℕ, ◌+◌, ◌<◌, ◌≤◌, pos, length, IsTrue, MatchBool, MatchOption};
 ghost use Rattle.std.specs.List.{AllByRecursion};
+ghost use Rattle.rule_table.specs.Bounds.{IsSize};
 ghost use Rattle.rule_table.specs.declared.technology.Tech.{Tech};
 ghost use Rattle.cell_model.specs.declared.cell.Axis2.TheVariants.{Up};
 ghost use Rattle.cell_model.specs.declared.cell.WireEnd.TheVariants as ends;
@@ -87,6 +88,13 @@ fn node_of(end: WireEnd) -> Option<u32>
     }
 }
 
+fn unsigned(size: i64) -> u32
+    requires { IsSize size }
+    ensures { size ≡ pos result }
+{
+    size as u32
+}
+
 /// Wire `k` of a cell, where it can be bent above a row.
 pub fn run_of(cell: &Cell, k: u32, row: u32) -> Option<Run>
     requires sound { (tech : Tech) × IsSound tech cell.now }
@@ -104,17 +112,18 @@ pub fn run_of(cell: &Cell, k: u32, row: u32) -> Option<Run>
     let low = node_of(wire.low)?;
     let high = node_of(wire.high)?;
     let nodes = cell.nodes.as_slice();
-    let col = nodes[low as usize].col;
-    if row < nodes[low as usize].row || nodes[high as usize].row <= row {
+    let below = &nodes[low as usize];
+    let above = &nodes[high as usize];
+    if row < below.row || above.row <= row {
         return None;
     }
-    if is_crossed(cell, col, row, k as usize) {
+    if is_crossed(cell, below.col, row, k as usize) {
         return None;
     }
     Some(Run {
-        col,
+        col: below.col,
         low,
         high,
-        width: wire.width as u32,
+        width: unsigned(wire.width),
     })
 }

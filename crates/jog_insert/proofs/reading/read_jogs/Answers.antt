@@ -1,5 +1,6 @@
-use Rattle.std.proofs.Common.{◌+◌, ◌∙◌, List, [], arith, ap, sym}
+use Rattle.std.proofs.Common.{◌+◌, ◌∙◌, List, [], length, arith, ap, sym}
 use Rattle.std.specs.Str.Lines.{lines}
+use Rattle.stick_cell.proofs.Accepted.{eq_from_test}
 use Rattle.jog_insert.specs.Scripts.{jog_by, jogs_from, jogs_of}
 use Rattle.jog_insert.proofs.ScriptsLeft.{front_none, next_line, read_one, read_none, read_bad, read_all, none_left}
 use Rattle.jog_insert.proofs.reading.read_jogs.Goals as goal
@@ -28,4 +29,4 @@ returns-in-Err c = rw c.at_line.ensures
 
 pub returns : goal.returns
 unfolding jogs_of
-returns c = read_all c.lines.jogs.items (c.lines.number + 1) (lines c.lines.rest.now) _ (ap lines (none_left c.lines.rest.now (omega arith))) c.lines.invariant.left
+returns c = read_all c.lines.jogs.items (c.lines.number + 1) (lines c.lines.rest.now) _ (ap lines (none_left c.lines.rest.now (omega (arith, eq_from_test (length c.lines.rest.now) 0 (sym c.lines-test.ensures))))) c.lines.invariant.left
