@@ -1,12 +1,19 @@
 -- Whether a wire can be bent.
 use Rattle.std.proofs.Common.{◌≡◌, ℕ, ◌+◌, ◌<◌, ◌≤◌, ◌≢◌, ℤ, List, length, get_or, refl, sym, ap, subst, ◌∙◌, arith}
-use Rattle.std.specs.Prelude.{pos, ◌≤ℤ◌}
-use Rattle.std.proofs.lemmas.Int.{ints}
+use Rattle.std.specs.Prelude.{pos, ◌≤ℤ◌, false, not}
+use Rattle.std.proofs.lemmas.Int.{ints, to_z-of_z}
 use Rattle.std.proofs.lemmas.List.{get_or_default}
 use Rattle.list_facts.proofs.Elements.{all_at}
 use Rattle.rule_table.specs.declared.technology.Tech.{Tech}
 use Rattle.cell_model.specs.declared.cell.Node.{Node}
-use Rattle.cell_model.specs.declared.cell.Axis2.TheVariants.{Up}
+use denote.Enum.Bare.{sameb}
+use mir.Val.{to_z, of_z}
+use mir.Syntax.{w64}
+use Rattle.rule_table.specs.Bounds.{IsSize}
+use Rattle.rule_table.specs.declared.classes.Layer.TheVariants as layers
+use Rattle.cell_model.specs.contracts.cell.Axis2.{the_type as axis}
+use Rattle.cell_model.specs.declared.cell.Axis2.{Axis2}
+use Rattle.cell_model.specs.declared.cell.Axis2.TheVariants.{Across, Up}
 use Rattle.cell_model.specs.declared.cell.Cell.{Cell}
 use Rattle.cell_model.specs.declared.cell.Wire.{Wire}
 use Rattle.cell_model.specs.declared.cell.WireEnd.{WireEnd}
@@ -83,3 +90,22 @@ is_run tech cell k row col low high width sound lt up from to is_col below above
       near_row = omega arith;
       small = omega (arith, ints);
     }
+
+-- what the code reads where nothing stands
+abbrev pub unread : Wire
+unread = record { layer = layers.Diffusion; width = pos 0; low = ends.Node 0; high = ends.Node 0; along = Across }
+
+-- a size goes through 64 bits
+size_fits : (z : ℤ) → IsSize z → to_z w64 (of_z w64 z) ≡ z
+size_fits z is = to_z-of_z w64 z (omega (arith, ints, is.low, is.high))
+
+pub size_read : (z : ℤ) → IsSize z → IsSize (to_z w64 (of_z w64 z))
+size_read z is = subst IsSize (sym (size_fits z is)) is
+
+pub size_is : (z : ℤ) (n : ℕ) → IsSize z → to_z w64 (of_z w64 z) ≡ pos n → z ≡ pos n
+size_is z n is e = sym (size_fits z is) ∙ e
+
+-- the test of an axis
+pub is_up : (along : Axis2) → false ≡ not (sameb axis along Up) → along ≡ Up
+is_up Across e = absurd (cc)
+is_up Up e = refl

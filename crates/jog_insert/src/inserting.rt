@@ -149,7 +149,7 @@ fn bent_cell(
 /// The design with a jog in wire `k` (from 0) of a cell, above row `r`, to the left or else to the right; None exactly
 /// where no jog can be put there. The only refusal is want of memory.
 ///
-/// It costs time linear in the text of the design and in the cell. The design may have up to 2^31 lines, and the new one
+/// It costs time linear in the text of the design and in the cell. The design may have up to 2^30 lines, and the new one
 /// has four more.
 pub fn insert(
     alloc: Global,
@@ -166,7 +166,7 @@ pub fn insert(
     requires within { cell < length (known_of cells.now) }
     requires masters { All (λ m. m < length (known_of cells.now)) masters.now }
     requires light { All (λ m. weight_of (known_at (known_of cells.now) m) ≤ 65536) masters.now }
-    requires few { lines_in design.now ≤ 2 ^ 31 }
+    requires few { lines_in design.now ≤ 2 ^ 30 }
     ensures jogged { IfOk result (λ done. MatchOption done
         ((new : SomeDesign) → IsJogged design.now (cell_of (known_at (known_of cells.now) cell)) masters.now cell k r left new → ⊥)
         (IsJogged design.now (cell_of (known_at (known_of cells.now) cell)) masters.now cell k r left)) }
