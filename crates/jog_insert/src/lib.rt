@@ -1,8 +1,9 @@
 //! Jogs: wires that run up are bent, so that what lies beside them can move.
 //!
 //! What the layer above uses: `insert` gives the design with a jog in a wire of a cell, or None exactly where none can be put there
-//! (`specs/Jogs.antt`); `jogs_keep_nets` is the law that a jog leaves the nets of the cell as they were; `read_jogs` reads a script of
-//! jogs. Columns and rows are coarse coordinates; widths are in u, the grid unit.
+//! (`specs/Jogs.antt`, over where the parts of a cell go, `specs/Bends.antt`); `jogs_are_determined` is the law that a jog leads to one
+//! design; `read_jogs` reads a script of jogs (`specs/Scripts.antt`). What it means that a jog leaves the nets of a cell as they were is
+//! in `specs/Nets.antt`. Columns and rows are coarse coordinates; widths are in u, the grid unit.
 #![tactic(auto)]
 
 mod bending;
@@ -10,6 +11,7 @@ mod copying;
 mod forms;
 mod inserting;
 mod joints;
+mod laws;
 mod naming;
 mod reading;
 mod runs;
@@ -17,5 +19,6 @@ mod script;
 mod words;
 
 pub use inserting::insert;
+pub use laws::jogs_are_determined;
 pub use reading::read_jogs;
 pub use script::{JogLine, ScriptFault};

@@ -42,7 +42,12 @@ bent_cell-requires-clause-named c =
     subst P (sym c.in_ok-content.ensures.value) (cell_named c.args.cells.now design c.args.cell c.requires.resolved c.requires.of within c.if-not-stands_alone.ensures.whole)
 
 pub returns-in_default-clause-jogged : goal.returns-in_default-clause-jogged
-returns-in_default-clause-jogged c = let i = c.in_default.is in let n = c.in_default.not-Some in let e = c.in_ok-bent.ensures.bent in ?
+returns-in_default-clause-jogged c =
+    let design = c.args.design.now in
+    let within : c.args.cell < length design.cells = omega (arith, cells_number c.args.cells.now design c.requires.resolved c.requires.of, c.requires.within) in
+    let text = text_here design c.as_slice.result.now c.args.cell c.index-as_slice-cell.result c.as_slice.ensures within c.index-as_slice-cell.is in
+    none_jogged design (cell_of (known_at (known_of c.args.cells.now) c.args.cell)) c.in_ok-content.content c.args.masters.now c.args.cell c.args.k c.args.r c.args.left c.index-as_slice-cell.result
+        text c.in_ok-content.ensures.value (rw c.in_default.is at c.in_ok-bent.ensures.bent)
 
 pub with_cell-requires-clause-within : goal.with_cell-requires-clause-within
 with_cell-requires-clause-within c = omega (arith, cells_number c.args.cells.now c.args.design.now c.requires.resolved c.requires.of, c.requires.within)
