@@ -8,3 +8,4 @@ pub mod Bents
 pub mod NodeNames
 pub mod Laid
 pub mod Jogged
+pub mod FewLines
