@@ -33,7 +33,7 @@ name_same cell i own name e is = sym is ∙ ap (λ (j : ℕ). (node_at cell.node
 pub bent_made : (text : CellText) (cell : Cell) (k row at number : ℕ) (left : Bool) (layer : Layer) (run : Run) (low high : List ℕ) (lines : List Line)
     → IsRun cell k row run → IsJogNumber text.lines number → IsWireAt text.lines k at layer → (node_at cell.nodes run.low).name ≡ low → (node_at cell.nodes run.high).name ≡ high
     → lines ≡ map (moved_line (record { col = run.col; row = row; left = left })) (take at text.lines)
-        ++ (map unnumbered (bent_forms (record { col = run.col; row = row; left = left }) number layer low high run.width) ++ map (moved_line (record { col = run.col; row = row; left = left })) (drop (at + 1) text.lines))
+    ++ (map unnumbered (bent_forms (record { col = run.col; row = row; left = left }) number layer low high run.width) ++ map (moved_line (record { col = run.col; row = row; left = left })) (drop (at + 1) text.lines))
     → IsBent text cell k row left lines
 unfolding made_of
 bent_made text cell k row at number left layer run low high lines is is_number line low_is high_is e =
@@ -46,7 +46,7 @@ bent_made text cell k row at number left layer run low high lines is is_number l
     let backs : drop (at + 1) text.lines ≡ line.back =
     ap (drop (at + 1)) (line.split ∙ apart) ∙ drop_at (line.front ++ line.wire ∷ []) line.back (at + 1) (omega (arith, length-append line.front (line.wire ∷ []), line.place)) in
     let names : made_of own number layer low high run.width (take at text.lines) (drop (at + 1) text.lines)
-        ≡ made_of own number layer (node_at cell.nodes is.bendable.low).name (node_at cell.nodes is.bendable.high).name run.width line.front line.back =
+    ≡ made_of own number layer (node_at cell.nodes is.bendable.low).name (node_at cell.nodes is.bendable.high).name run.width line.front line.back =
     ap (λ (a : List ℕ). made_of own number layer a high run.width (take at text.lines) (drop (at + 1) text.lines)) (name_same cell is.bendable.low run.low low is.low low_is)
     ∙ ap (λ (b : List ℕ). made_of own number layer (node_at cell.nodes is.bendable.low).name b run.width (take at text.lines) (drop (at + 1) text.lines)) (name_same cell is.bendable.high run.high high is.high high_is)
     ∙ ap (λ (f : List Line). made_of own number layer (node_at cell.nodes is.bendable.low).name (node_at cell.nodes is.bendable.high).name run.width f (drop (at + 1) text.lines)) fronts
@@ -105,10 +105,10 @@ pub bent_have_text : (bend : Bend) (number : ℕ) (layer : Layer) (low high : Li
     → AllByRecursion IsLine lines
 bent_have_text bend number layer low high width at old lines few is_low is_high small is e all =
     let near = all_parts (λ (line : Line). IsNearForm line.form) (map (moved_line bend) (take at old)) (map unnumbered (bent_forms bend number layer low high width) ++ map (moved_line bend) (drop (at + 1) old))
-        (subst (AllByRecursion (λ (line : Line). IsNearForm line.form)) e (by_all (λ (line : Line). IsNearForm line.form) lines all)) in
+    (subst (AllByRecursion (λ (line : Line). IsNearForm line.form)) e (by_all (λ (line : Line). IsNearForm line.form) lines all)) in
     let behind = all_parts (λ (line : Line). IsNearForm line.form) (map unnumbered (bent_forms bend number layer low high width)) (map (moved_line bend) (drop (at + 1) old)) near.1 in
     let before = all_parts IsLine (take at old) (drop at old) (subst (AllByRecursion IsLine) (sym (take-append-drop at old)) is) in
     let after = all_parts IsLine (take (at + 1) old) (drop (at + 1) old) (subst (AllByRecursion IsLine) (sym (take-append-drop (at + 1) old)) is) in
     subst (AllByRecursion IsLine) (sym e)
     (all_append IsLine (map (moved_line bend) (take at old)) (map unnumbered (bent_forms bend number layer low high width) ++ map (moved_line bend) (drop (at + 1) old)) (moved_have_text bend (take at old) before.0 near.0)
-        (all_append IsLine (map unnumbered (bent_forms bend number layer low high width)) (map (moved_line bend) (drop (at + 1) old)) (joints_have_text bend number layer low high width few is_low is_high small behind.0) (moved_have_text bend (drop (at + 1) old) after.1 behind.1)))
+    (all_append IsLine (map unnumbered (bent_forms bend number layer low high width)) (map (moved_line bend) (drop (at + 1) old)) (joints_have_text bend number layer low high width few is_low is_high small behind.0) (moved_have_text bend (drop (at + 1) old) after.1 behind.1)))

@@ -74,8 +74,13 @@ grids_same n (grid ∷ grids) = ap (λ (l : List GridText). without_line grid �
 sum_cells : (n : ℕ) (cells : List CellText) → sum_by lines_of_cell (cells_from n cells) ≡ sum_by lines_of_cell cells
 sum_cells n [] = refl
 sum_cells n (cell ∷ cells) =
-    omega (arith, sum_by-cons lines_of_cell (record { name = cell.name; line = n; end_line = n + 1 + length cell.lines; lines = lines_from (n + 1) cell.lines }) (cells_from (n + 1 + length cell.lines + 1) cells),
-        sum_by-cons lines_of_cell cell cells, sum_cells (n + 1 + length cell.lines + 1) cells, length-lines_from (n + 1) cell.lines)
+    omega (
+      arith,
+      sum_by-cons lines_of_cell (record { name = cell.name; line = n; end_line = n + 1 + length cell.lines; lines = lines_from (n + 1) cell.lines }) (cells_from (n + 1 + length cell.lines + 1) cells),
+      sum_by-cons lines_of_cell cell cells,
+      sum_cells (n + 1 + length cell.lines + 1) cells,
+      length-lines_from (n + 1) cell.lines,
+    )
 
 sum_grids : (n : ℕ) (grids : List GridText) → sum_by lines_of_grid (grids_from n grids) ≡ sum_by lines_of_grid grids
 sum_grids n [] = refl

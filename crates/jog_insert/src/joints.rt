@@ -9,8 +9,8 @@ ghost use Rattle.jog_insert.specs.Building.{bend_of, forms_by, IsWireAt};
 use crate::bending::Place;
 use crate::forms::copy_form;
 use crate::naming::joint_name;
-use stick_cell::MOST_PLACE;
 use std::alloc::{AllocError, Global};
+use stick_cell::MOST_PLACE;
 use stick_lex::Text;
 use stick_parse::{Form, Layer, Line};
 
@@ -53,13 +53,7 @@ fn joint(
     }))
 }
 
-fn wire(
-    alloc: Global,
-    layer: Layer,
-    a: &[u8],
-    b: &[u8],
-    width: u32,
-) -> Result<Line, AllocError>
+fn wire(alloc: Global, layer: Layer, a: &[u8], b: &[u8], width: u32) -> Result<Line, AllocError>
     ensures { IfOk result (λ line. line ≡ unnumbered (forms.Wire layer a.now b.now (Some width))) }
 {
     let a = Text::new(alloc, a)?;

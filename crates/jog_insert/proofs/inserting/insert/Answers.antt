@@ -47,7 +47,7 @@ returns-in_default-clause-jogged c =
     let within : c.args.cell < length design.cells = omega (arith, cells_number c.args.cells.now design c.requires.resolved c.requires.of, c.requires.within) in
     let text = text_here design c.as_slice.result.now c.args.cell c.index-as_slice-cell.result c.as_slice.ensures within c.index-as_slice-cell.is in
     none_jogged design (cell_of (known_at (known_of c.args.cells.now) c.args.cell)) c.in_ok-content.content c.args.masters.now c.args.cell c.args.k c.args.r c.args.left c.index-as_slice-cell.result
-        text c.in_ok-content.ensures.value (rw c.in_default.is at c.in_ok-bent.ensures.bent)
+    text c.in_ok-content.ensures.value (rw c.in_default.is at c.in_ok-bent.ensures.bent)
 
 pub with_cell-requires-clause-within : goal.with_cell-requires-clause-within
 with_cell-requires-clause-within c = omega (arith, cells_number c.args.cells.now c.args.design.now c.requires.resolved c.requires.of, c.requires.within)
@@ -66,7 +66,7 @@ returns-clause-jogged c =
     let within : c.args.cell < length design.cells = omega (arith, cells_number c.args.cells.now design c.requires.resolved c.requires.of, c.requires.within) in
     let text = text_here design c.as_slice.result.now c.args.cell c.index-as_slice-cell.result c.as_slice.ensures within c.index-as_slice-cell.is in
     jogged_of design (cell_of (known_at (known_of c.args.cells.now) c.args.cell)) c.in_ok-content.content c.args.masters.now c.args.cell c.args.k c.args.r c.args.left c.index-as_slice-cell.result c.in-Some.bent c.in_ok-new.new
-        c.if-not-stands_alone.ensures text c.in_ok-content.ensures.value (rw c.in-Some.is at c.in_ok-bent.ensures.bent) c.in_ok-new.ensures
+    c.if-not-stands_alone.ensures text c.in_ok-content.ensures.value (rw c.in-Some.is at c.in_ok-bent.ensures.bent) c.in_ok-new.ensures
 
 pub returns-clause-writable : goal.returns-clause-writable
 returns-clause-writable c =

@@ -15,7 +15,7 @@ loop-line-preserved c =
     let now = c.match-name_of.taken.items in
     let more : take (i + 1) lines ≡ take i lines ++ line ∷ [] = take_more lines i line c.loop-line-test.true ∙ ap (λ (l : Line). take i lines ++ l ∷ []) (sym c.line-item.is) in
     elim c.match-name_of.branch [
-      in-Some+in_ok-mark w ↦
+      | in-Some+in_ok-mark w ↦
           let marks : Marks w.in-Some.name.now old w.mark.new.taken = subst (λ (l : List Bool). Marks w.in-Some.name.now l w.mark.new.taken) w.deref_mut.ensures.value w.in_ok-mark.ensures in
           let same : now ≡ w.mark.new.taken = ap (λ v. v.items) w.taken-is ∙ with_items_is c.loop-line.taken w.mark.new.taken (omega (arith, marks.size, c.loop-line.taken.ok.0)) in
           let are : AreMarked (take i lines ++ line ∷ []) w.mark.new.taken = marked_more (take i lines) line w.in-Some.name.now old w.mark.new.taken w.in-Some.ensures marks c.loop-line.invariant.are in
@@ -24,7 +24,7 @@ loop-line-preserved c =
             are = subst (λ (l : List Line). AreMarked l now) (sym more) (subst (AreMarked (take i lines ++ line ∷ [])) (sym same) are);
             few = omega (arith, ap marks_in same, marks.count, c.loop-line.invariant.few);
           }
-    | in_default w ↦
+      | in_default w ↦
           let same : now ≡ old = ap (λ v. v.items) w.taken-is in
           let are : AreMarked (take i lines ++ line ∷ []) old = marked_before (take i lines) line old w.in_default.ensures c.loop-line.invariant.are in
           record {

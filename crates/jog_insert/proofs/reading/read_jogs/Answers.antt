@@ -18,14 +18,14 @@ lines-preserved c = record {
 pub lines-preserved-in-Continue-1 : goal.lines-preserved-in-Continue-1
 lines-preserved-in-Continue-1 c =
     let one = read_one c.lines.jogs.items (c.lines.number + 1) (jog_by c.first_line.result.0.now) c.in-Ok-Some.jog _ _ (rw c.in-Ok-Some.field-0-is at c.in-Ok-Some.ensures)
-        (next_line c.lines.jogs.items (c.lines.number + 1) c.first_line.result.0.now _ (lines c.first_line.result.1.now) _ c.first_line.ensures.first c.lines.invariant.left) in
+    (next_line c.lines.jogs.items (c.lines.number + 1) c.first_line.result.0.now _ (lines c.first_line.result.1.now) _ c.first_line.ensures.first c.lines.invariant.left) in
     record { fits = omega arith; left = rw c.in_ok-push-in-Ok-Some.ensures.items one }
 
 pub returns-in-Err : goal.returns-in-Err
 unfolding jogs_of
 returns-in-Err c = rw c.at_line.ensures
     (read_bad c.lines.jogs.items (c.lines.number + 1) (jog_by c.first_line.result.0.now) c.in-Err.fault _ _ c.in-Err.ensures
-        (next_line c.lines.jogs.items (c.lines.number + 1) c.first_line.result.0.now _ (lines c.first_line.result.1.now) _ c.first_line.ensures.first c.lines.invariant.left))
+    (next_line c.lines.jogs.items (c.lines.number + 1) c.first_line.result.0.now _ (lines c.first_line.result.1.now) _ c.first_line.ensures.first c.lines.invariant.left))
 
 pub returns : goal.returns
 unfolding jogs_of

@@ -20,7 +20,7 @@ returns-then-is_crossed c =
     let node = node_here cell c.as_slice-nodes.result.now low c.index-nodes-low.result c.as_slice-nodes.ensures (low_within c.requires.sound.0 cell k low c.requires.sound.1 among from) c.index-nodes-low.is in
     let w = c.if-is_crossed.ensures in
     is_crossed_out cell k c.args.row low from
-        (w.0, w.1, w.2, subst (λ (col : ℕ). Crosses cell col c.args.row (wire_at cell.wires w.0)) (ap (λ (n : Node). n.col) (sym node)) w.3)
+    (w.0, w.1, w.2, subst (λ (col : ℕ). Crosses cell col c.args.row (wire_at cell.wires w.0)) (ap (λ (n : Node). n.col) (sym node)) w.3)
 
 pub unsigned-requires : goal.unsigned-requires
 unsigned-requires c =
@@ -50,4 +50,4 @@ returns c =
     let size = (wire_of_sound tech cell k sound among).size in
     let width = ap (λ (w : Wire). w.width) wire ∙ size_is _ c.unsigned.result (subst (λ (w : Wire). IsSize w.width) wire size) c.unsigned.ensures in
     is_run tech cell k c.args.row c.index-nodes-low.result.col low high c.unsigned.result sound among up from to (ap (λ (n : Node). n.col) below)
-        (omega (arith, low_row, c.if-row-below.false)) (omega (arith, high_row, c.if-above-row.false)) c.if-is_crossed.ensures width
+    (omega (arith, low_row, c.if-row-below.false)) (omega (arith, high_row, c.if-above-row.false)) c.if-is_crossed.ensures width
