@@ -1,5 +1,5 @@
 -- Whether a wire can be bent.
-use Rattle.std.proofs.Common.{◌≡◌, ℕ, ◌+◌, ◌<◌, ◌≤◌, ◌≢◌, ℤ, List, length, get_or, refl, sym, ap, subst, ◌∙◌, arith}
+use Rattle.std.proofs.Common.{◌≡◌, ℕ, ◌<◌, ◌≤◌, ◌≢◌, ℤ, List, length, get_or, refl, sym, ap, subst, ◌∙◌, arith}
 use Rattle.std.specs.Prelude.{pos, ◌≤ℤ◌, false, not}
 use Rattle.std.proofs.lemmas.Int.{ints, to_z-of_z}
 use Rattle.std.proofs.lemmas.List.{get_or_default}
@@ -23,15 +23,12 @@ use Rattle.jog_insert.specs.Jogs.{Crosses, IsBendable}
 use Rattle.jog_insert.specs.Building.{IsRun}
 
 -- one node
-same_node : (i j : ℕ) (end : WireEnd) → end ≡ ends.Node i → end ≡ ends.Node j → i ≡ j
+pub same_node : (i j : ℕ) (end : WireEnd) → end ≡ ends.Node i → end ≡ ends.Node j → i ≡ j
 same_node i j end e f = cc
 
 -- a bendable wire's low end
 pub low_is : (cell : Cell) (k row low : ℕ) (b : IsBendable cell k row) → (wire_at cell.wires k).low ≡ ends.Node low → b.low ≡ low
 low_is cell k row low b e = same_node b.low low _ b.from e
-
-pub high_is : (cell : Cell) (k row high : ℕ) (b : IsBendable cell k row) → (wire_at cell.wires k).high ≡ ends.Node high → b.high ≡ high
-high_is cell k row high b e = same_node b.high high _ b.to e
 
 -- another wire reaches over the bend
 pub is_crossed_out : (cell : Cell) (k row low : ℕ) → (wire_at cell.wires k).low ≡ ends.Node low

@@ -1,10 +1,9 @@
 -- The lines that are put together are those of the bent cell, and have a text.
-use Rattle.std.proofs.Common.{◌≡◌, ℕ, ◌+◌, ◌<◌, ◌≤◌, Bool, true, false, List, [], ◌∷◌, ◌++◌, length, map, take, drop, get_or, Some, refl, sym, ap, subst, ◌∙◌, append_assoc, arith}
-use Rattle.std.specs.Prelude.{All, pos}
+use Rattle.std.proofs.Common.{◌≡◌, ℕ, ◌+◌, ◌<◌, ◌≤◌, Bool, true, false, List, [], ◌∷◌, ◌++◌, map, take, drop, Some, sym, ap, subst, ◌∙◌, append_assoc, arith}
+use Rattle.std.specs.Prelude.{All}
 use Rattle.std.specs.List.{AllByRecursion}
 use Rattle.std.proofs.lemmas.List.{take_at, drop_at, take-append-drop, length-append}
-use Rattle.std.proofs.lemmas.List.Elements.{All-contains, Contains-get_or}
-use Rattle.list_facts.proofs.Elements.{all_append, all_parts, by_number}
+use Rattle.list_facts.proofs.Elements.{all_append, all_parts}
 use Rattle.stick_parse.specs.declared.design.Layer.{Layer}
 use Rattle.stick_parse.specs.declared.design.Form.{Form}
 use Rattle.stick_parse.specs.declared.design.Form.TheVariants.{Joint, Contact, Buried, Fet, Port, Inst, Wire, Limit}
@@ -16,7 +15,8 @@ use Rattle.cell_model.specs.declared.cell.Cell.{Cell}
 use Rattle.cell_model.specs.Sound.{node_at}
 use Rattle.jog_insert.specs.declared.runs.Run.{Run}
 use Rattle.jog_insert.specs.Bends.{Bend, part_col, moved_form}
-use Rattle.jog_insert.specs.Jogs.{lower_name, upper_name, unnumbered, moved_line, bent_forms, bend_at, wires_in, IsWireOf, IsJogNumber, IsNearForm, IsBent}
+use Rattle.jog_insert.proofs.Alls.{by_all}
+use Rattle.jog_insert.specs.Jogs.{lower_name, upper_name, unnumbered, moved_line, bent_forms, bend_at, IsJogNumber, IsNearForm, IsBent}
 use Rattle.jog_insert.specs.Building.{IsRun, IsWireAt}
 use Rattle.jog_insert.proofs.JogNames.{lower_is_name, upper_is_name}
 
@@ -68,10 +68,6 @@ bent_made text cell k row at number left layer run low high lines is is_number l
     }
 
 -- ---- they have a text
-
-by_all : {X : Type 0} (P : X → Type 0) (xs : List X) → All P xs → AllByRecursion P xs
-by_all P [] all = tt
-by_all P (x ∷ xs) all = by_number P (x ∷ xs) x (λ k lt. All-contains P (x ∷ xs) (get_or (x ∷ xs) k x) all (Contains-get_or (x ∷ xs) k x lt))
 
 moved_has_text : (bend : Bend) (form : Form) → IsForm form → IsNearForm (moved_form bend form) → IsForm (moved_form bend form)
 moved_has_text bend (Joint name layer col row width) is near = (is.0, omega (arith, near.0), omega (arith, near.1), is.3)

@@ -1,5 +1,5 @@
 -- A jog leads to one design.
-use Rattle.std.proofs.Common.{◌≡◌, ℕ, ◌+◌, ◌≤◌, Bool, true, false, cond, List, [], ◌∷◌, ◌++◌, map, refl, sym, ap, subst, ◌∙◌, arith}
+use Rattle.std.proofs.Common.{◌≡◌, ℕ, ◌+◌, Bool, true, cond, List, [], ◌∷◌, ◌++◌, map, refl, sym, ap, subst, ◌∙◌, arith}
 use Rattle.std.specs.Prelude.{pos, slice_set}
 use Rattle.std.proofs.lemmas.List.Sums.{sum_by-cons}
 use Rattle.stick_parse.specs.declared.design.Layer.{Layer}
@@ -10,18 +10,14 @@ use Rattle.stick_parse.specs.declared.design.CellText.{CellText}
 use Rattle.stick_parse.specs.declared.design.Design.{Design}
 use Rattle.stick_print.specs.ReadBack.{laid_out}
 use Rattle.cell_model.specs.declared.cell.Cell.{Cell}
-use Rattle.cell_model.specs.declared.cell.WireEnd.{WireEnd}
-use Rattle.cell_model.specs.declared.cell.WireEnd.TheVariants as ends
 use Rattle.cell_model.specs.Sound.{node_at}
+use Rattle.jog_insert.proofs.Bendable.{same_node}
 use Rattle.jog_insert.specs.Jogs.{unnumbered, moved_line, bent_forms, is_wire, IsWireOf, wires_in, bend_at, cell_text_at, IsJogNumber, IsBent, IsJogged}
 
 -- ---- the parts of a jog
 
 same_number : (lines : List Line) (n m : ℕ) → IsJogNumber lines n → IsJogNumber lines m → n ≡ m
 same_number lines n m a b = omega (arith, a.least m b.free, b.least n a.free)
-
-same_end : (i j : ℕ) (end : WireEnd) → end ≡ ends.Node i → end ≡ ends.Node j → i ≡ j
-same_end i j end e f = cc
 
 same_layer : (a b : Layer) (form : Form) → IsWireOf a form → IsWireOf b form → a ≡ b
 same_layer a b (Wire layer p q width) h k = sym h ∙ k
@@ -99,8 +95,8 @@ pub bent_is_determined : (text : CellText) (cell : Cell) (k row : ℕ) (left : B
 bent_is_determined text cell k row left lines others a b =
     let one = bent_lines text cell k row left lines a in
     let two = bent_lines text cell k row left others b in
-    let low = same_end a.bendable.low b.bendable.low _ a.bendable.from b.bendable.from in
-    let high = same_end a.bendable.high b.bendable.high _ a.bendable.to b.bendable.to in
+    let low = same_node a.bendable.low b.bendable.low _ a.bendable.from b.bendable.from in
+    let high = same_node a.bendable.high b.bendable.high _ a.bendable.to b.bendable.to in
     let number = same_number text.lines a.number b.number a.is_number b.is_number in
     let width = same_width a.width b.width (sym a.is_width ∙ b.is_width) in
     let parts = same_split a.front b.front a.wire b.wire a.back b.back (sym a.split ∙ b.split) (a.count ∙ sym b.count) (wire_of a.layer a.wire.form a.of_wire) (wire_of b.layer b.wire.form b.of_wire) in

@@ -1,5 +1,5 @@
 -- A jog in a design whose names and sizes have been checked.
-use Rattle.std.proofs.Common.{◌≡◌, ℕ, ◌+◌, ◌<◌, Bool, List, length, get_or, sym, ap, subst, ◌∙◌, arith}
+use Rattle.std.proofs.Common.{◌≡◌, ℕ, ◌<◌, Bool, List, length, get_or, sym, ap, subst, ◌∙◌, arith}
 use Rattle.std.specs.Prelude.{All, slice_set}
 use Rattle.std.specs.List.{AllByRecursion}
 use Rattle.std.proofs.lemmas.List.{get_or_default}
@@ -46,9 +46,6 @@ none_jogged design content own masters cell k row left text e f none new jogged 
     let P : CellText → Type 0 = λ t. IsBent t content k row left jogged.lines in
     let Q : Cell → Type 0 = λ c. IsBent text c k row left jogged.lines in
     none jogged.lines (subst Q (sym f) (subst P (sym e) jogged.bent)) jogged.near
-
-pub alone_of_jogged : (design : Design) (content : Cell) (masters : List ℕ) (cell k row : ℕ) (left : Bool) (new : Design) → IsJogged design content masters cell k row left new → StandsAlone design masters cell
-alone_of_jogged design content masters cell k row left new jogged = record { master = jogged.master; whole = jogged.whole; unused = jogged.unused }
 
 pub jogged_of : (design : Design) (content own : Cell) (masters : List ℕ) (cell k row : ℕ) (left : Bool) (text bent : CellText) (new : Design) → StandsAlone design masters cell → text ≡ cell_text_at design cell → own ≡ content
     → IsBentCell text own k row left bent → new ≡ laid_out (record design { cells = slice_set design.cells cell bent }) → IsJogged design content masters cell k row left new

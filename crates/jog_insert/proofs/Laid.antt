@@ -1,6 +1,6 @@
 -- A design with another cell in the place of one, with the numbers of its canonical text.
-use Rattle.std.proofs.Common.{◌≡◌, ℕ, zero, suc, ◌+◌, ◌<◌, ◌≤◌, List, [], ◌∷◌, length, map, get_or, set, Some, None, inl, inr, refl, sym, ap, subst, ◌∙◌, arith}
-use Rattle.std.specs.Prelude.{sum_by, ◌⊎◌}
+use Rattle.std.proofs.Common.{◌≡◌, ℕ, zero, suc, ◌+◌, ◌<◌, List, [], ◌∷◌, length, map, get_or, set, inl, inr, refl, ap, arith}
+use Rattle.std.specs.Prelude.{sum_by}
 use Rattle.std.specs.List.{AllByRecursion}
 use Rattle.std.proofs.lemmas.List.{length-set}
 use Rattle.std.proofs.lemmas.List.Sums.{sum_by-set, sum_by-cons, get_or-le-sum_by}
@@ -8,7 +8,7 @@ use Rattle.stick_parse.specs.declared.design.Line.{Line}
 use Rattle.stick_parse.specs.declared.design.CellText.{CellText}
 use Rattle.stick_parse.specs.declared.design.GridText.{GridText}
 use Rattle.stick_parse.specs.declared.design.Design.{Design}
-use Rattle.stick_parse.specs.Writable.{IsLine, IsCell, IsGrid, IsOneUnnamed, AreSomeNamed, HasName, AreGridsOf, IsWritable}
+use Rattle.stick_parse.specs.Writable.{IsLine, IsCell, IsGrid, IsOneUnnamed, HasName, AreGridsOf, IsWritable}
 use Rattle.stick_print.specs.ReadBack.{lines_from, cells_from, behind_cells, grids_from, laid_out, without_line}
 use Rattle.jog_insert.specs.Jogs.{no_cell}
 use Rattle.jog_insert.specs.Counts.{lines_of_cell, lines_of_grid, lines_in}

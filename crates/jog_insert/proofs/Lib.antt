@@ -1,4 +1,5 @@
 pub mod ScriptsLeft
+pub mod Alls
 pub mod Copies
 pub mod JogNames
 pub mod Marking

@@ -1,10 +1,9 @@
 -- The nodes of a cell without uses have the names of its lines.
-use Rattle.std.proofs.Common.{◌≡◌, ℕ, zero, suc, ◌+◌, ◌<◌, List, [], ◌∷◌, ◌++◌, length, get_or, Result, Ok, refl, sym, ap, subst, ◌∙◌, arith, add-one}
-use Rattle.std.specs.Prelude.{All, Contains}
+use Rattle.std.proofs.Common.{◌≡◌, ℕ, zero, suc, ◌+◌, ◌<◌, List, [], ◌∷◌, ◌++◌, length, get_or, Result, Ok, refl, sym, ap, subst, ◌∙◌, arith}
+use Rattle.std.specs.Prelude.{All}
 use Rattle.std.specs.List.{AllByRecursion}
 use Rattle.std.proofs.lemmas.List.{length-append, get_or_push, get_or_append_left}
-use Rattle.std.proofs.lemmas.List.Elements.{All-contains, Contains-get_or}
-use Rattle.list_facts.proofs.Elements.{all_append, by_number}
+use Rattle.list_facts.proofs.Elements.{all_append}
 use Rattle.rule_table.specs.declared.technology.Tech.{Tech}
 use Rattle.stick_parse.specs.declared.fault.StickKind.TheVariants.{RepeatedName, PortWires}
 use Rattle.stick_parse.specs.declared.fault.StickFault.{StickFault}
@@ -22,6 +21,7 @@ use Rattle.stick_cell.specs.Checks.{demand}
 use Rattle.stick_cell.specs.Lines.{after_form, after_lines, after_cell, is_new_cell, cells_after, is_wired, known_cells}
 use Rattle.stick_cell.proofs.Accepted.{bound, two_bound, ok_same, at_line_ok}
 use Rattle.stick_cell.proofs.Made.{IsWithNode, joint_made, contact_made, buried_made, fet_made, port_made, wire_made, limit_made}
+use Rattle.jog_insert.proofs.Alls.{by_all}
 use Rattle.jog_insert.specs.Jogs.{IsCopy}
 
 abbrev pub AreNamed : Known → Type 0
@@ -90,10 +90,6 @@ read_cell tech cells (text ∷ texts) all (suc k) d e lt =
     let rest = read_cell tech (cells ++ first.0 ∷ []) texts all k d first.2 (omega (arith, lt)) in
     let same : length (cells ++ first.0 ∷ []) + k ≡ length cells + suc k = omega (arith, length-append cells (first.0 ∷ [])) in
     (rest.0, rest.1 ∙ ap (λ (j : ℕ). Ok (known_at all j)) same)
-
-by_all : {X : Type 0} (P : X → Type 0) (xs : List X) → All P xs → AllByRecursion P xs
-by_all P [] all = tt
-by_all P (x ∷ xs) all = by_number P (x ∷ xs) x (λ k lt. All-contains P (x ∷ xs) (get_or (x ∷ xs) k x) all (Contains-get_or (x ∷ xs) k x lt))
 
 pub nodes_named : (tech : Tech) (texts : List CellText) (cells : List Known) (k : ℕ) (d : CellText) → known_cells tech texts ≡ Ok cells → k < length texts → IsCell (get_or texts k d)
     → All (λ (line : Line). IsCopy line.form → ⊥) (get_or texts k d).lines → AreNamed (known_at cells k)

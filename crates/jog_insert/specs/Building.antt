@@ -1,5 +1,5 @@
 -- What the code keeps while it bends a cell: these are no part of what a jog is.
-use Rattle.std.specs.Prelude.{◌≡◌, ℕ, ◌+◌, ◌<◌, ◌≤◌, ◌⊎◌, pos, Bool, true, false, All, Contains, List, ◌∷◌, ◌++◌, length, map, take, drop, sum_by, slice_index_or, if◌then◌else◌}
+use Rattle.std.specs.Prelude.{◌≡◌, ℕ, ◌+◌, ◌<◌, ◌≤◌, ◌⊎◌, pos, Bool, true, false, All, Contains, List, ◌∷◌, ◌++◌, length, sum_by, slice_index_or, if◌then◌else◌}
 use Rattle.stick_parse.specs.declared.design.Line.{Line}
 use Rattle.stick_parse.specs.declared.design.Layer.{Layer}
 use Rattle.stick_parse.specs.declared.design.Form.{Form}
@@ -11,7 +11,7 @@ use Rattle.jog_insert.specs.declared.bending.Place.{Place}
 use Rattle.jog_insert.specs.declared.joints.Joints.{Joints}
 use Rattle.jog_insert.specs.declared.runs.Run.{Run}
 use Rattle.jog_insert.specs.Bends.{Bend}
-use Rattle.jog_insert.specs.Jogs.{lower_name, upper_name, IsTaken, unnumbered, moved_line, bent_forms, wires_in, IsWireOf, IsBendable, IsBent, IsCopy, IsNearForm, Uses, cell_text_at}
+use Rattle.jog_insert.specs.Jogs.{lower_name, upper_name, IsTaken, bent_forms, wires_in, IsWireOf, IsBendable, IsBent, IsCopy, IsNearForm, Uses, cell_text_at}
 
 abbrev pub bend_of : Place → Bend
 bend_of place = record { col = place.col; row = place.row; left = place.left }

@@ -1,4 +1,4 @@
-use Rattle.std.proofs.Common.{◌+◌, ◌-◌, List, length, take, drop, ap, arith, ◌∙◌, sym}
+use Rattle.std.proofs.Common.{◌+◌, ◌-◌, List, length, take, drop, ap, arith, ◌∙◌}
 use Rattle.std.specs.Prelude.{sum_by}
 use Rattle.std.proofs.lemmas.List.{take_rest}
 use Rattle.stick_parse.specs.declared.design.CellText.{CellText}

@@ -1,13 +1,12 @@
-use Rattle.std.proofs.Common.{◌≡◌, ◌<◌, ℕ, List, ap, sym, subst, ◌∙◌, arith, length}
+use Rattle.std.proofs.Common.{ℕ, List, ap, sym, subst, ◌∙◌, arith, length}
 use Rattle.std.specs.Prelude.{All}
 use Rattle.list_facts.proofs.Elements.{all_at}
 use Rattle.stick_parse.specs.declared.design.Line.{Line}
-use Rattle.stick_parse.specs.declared.design.CellText.{CellText}
-use Rattle.stick_parse.specs.Writable.{IsName, IsPath, IsLine}
+use Rattle.stick_parse.specs.Writable.{IsName, IsPath}
 use Rattle.cell_model.specs.declared.cell.Node.{Node}
-use Rattle.cell_model.specs.Sound.{node_at, no_node}
+use Rattle.cell_model.specs.Sound.{no_node}
 use Rattle.jog_insert.specs.Jogs.{IsNearForm, IsJogNumber}
-use Rattle.jog_insert.specs.Building.{IsWireAt, bend_of}
+use Rattle.jog_insert.specs.Building.{IsWireAt}
 use Rattle.jog_insert.proofs.Bendable.{node_here}
 use Rattle.jog_insert.proofs.Bents.{bent_made, bent_have_text}
 use Rattle.jog_insert.proofs.Determined.{bent_is_determined}

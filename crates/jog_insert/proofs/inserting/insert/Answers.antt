@@ -1,11 +1,10 @@
-use Rattle.std.proofs.Common.{◌≡◌, ◌+◌, ◌<◌, ℕ, List, map, ap, sym, subst, ◌∙◌, arith, length}
+use Rattle.std.proofs.Common.{◌+◌, ◌<◌, map, ap, sym, subst, ◌∙◌, arith, length}
 use Rattle.std.specs.List.{AllByRecursion}
 use Rattle.std.specs.Prelude.{slice_set}
-use Rattle.stick_parse.specs.declared.design.Line.{Line}
 use Rattle.stick_parse.specs.declared.design.CellText.{CellText}
 use Rattle.stick_parse.specs.declared.design.Design.{Design}
 use Rattle.stick_parse.specs.Writable.{IsCell, IsPath, IsWritable}
-use Rattle.stick_print.specs.ReadBack.{behind_cells, laid_out, without_line}
+use Rattle.stick_print.specs.ReadBack.{behind_cells, without_line}
 use Rattle.cell_model.specs.declared.cell.Cell.{Cell}
 use Rattle.stick_cell.specs.Known.{cell_of, known_at}
 use Rattle.stick_cell.specs.Tables.{known_of}

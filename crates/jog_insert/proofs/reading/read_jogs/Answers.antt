@@ -1,4 +1,4 @@
-use Rattle.std.proofs.Common.{◌+◌, ◌∙◌, List, [], length, arith, ap, sym}
+use Rattle.std.proofs.Common.{◌+◌, length, arith, ap, sym}
 use Rattle.std.specs.Str.Lines.{lines}
 use Rattle.stick_cell.proofs.Accepted.{eq_from_test}
 use Rattle.jog_insert.specs.Scripts.{jog_by, jogs_from, jogs_of}
