@@ -1,6 +1,6 @@
 -- Where the parts of a cell go when one of its wires that run up is bent: behind the bend's row there is room for one more row, and behind its column for one
 -- more column, onto which the upper or the lower part of the wire's column moves.
-use Rattle.std.specs.Prelude.{ℕ, ◌+◌, ◌==◌, Bool, true, false, not, nat_lt, if◌then◌else◌, Option, Some, None}
+use Rattle.std.specs.Prelude.{ℕ, ◌+◌, ◌==◌, Bool, true, false, nat_lt, if◌then◌else◌}
 use Rattle.lam_geom.specs.declared.boxes.Side.{Side}
 use Rattle.lam_geom.specs.declared.boxes.Side.TheVariants.{Left, Right, Bottom, Top}
 use Rattle.stick_parse.specs.declared.design.Form.{Form}

@@ -4,3 +4,4 @@ pub mod Nets
 pub mod Scripts
 pub mod Counts
 pub mod Building
+pub mod WordViews

@@ -12,18 +12,42 @@ fn copy_text(alloc: Global, text: &Text) -> Result<Text, AllocError>
     Text::new(alloc, text.bytes())
 }
 
-fn copy_joint(alloc: Global, name: &Text, layer: Layer, col: u32, row: u32, width: Option<u32>) -> Result<Form, AllocError>
+fn copy_joint(
+    alloc: Global,
+    name: &Text,
+    layer: Layer,
+    col: u32,
+    row: u32,
+    width: Option<u32>,
+) -> Result<Form, AllocError>
     ensures { IfOk result (λ copy. copy ≡ forms.Joint name.now layer col row width) }
 {
     let name = copy_text(alloc, name)?;
-    Ok(Form::Joint { name, layer, col, row, width })
+    Ok(Form::Joint {
+        name,
+        layer,
+        col,
+        row,
+        width,
+    })
 }
 
-fn copy_contact(alloc: Global, name: &Text, lower: Layer, col: u32, row: u32) -> Result<Form, AllocError>
+fn copy_contact(
+    alloc: Global,
+    name: &Text,
+    lower: Layer,
+    col: u32,
+    row: u32,
+) -> Result<Form, AllocError>
     ensures { IfOk result (λ copy. copy ≡ forms.Contact name.now lower col row) }
 {
     let name = copy_text(alloc, name)?;
-    Ok(Form::Contact { name, lower, col, row })
+    Ok(Form::Contact {
+        name,
+        lower,
+        col,
+        row,
+    })
 }
 
 fn copy_buried(alloc: Global, name: &Text, col: u32, row: u32) -> Result<Form, AllocError>
@@ -33,18 +57,46 @@ fn copy_buried(alloc: Global, name: &Text, col: u32, row: u32) -> Result<Form, A
     Ok(Form::Buried { name, col, row })
 }
 
-fn copy_fet(alloc: Global, name: &Text, depletion: bool, vertical: bool, col: u32, row: u32, w: u32, l: u32) -> Result<Form, AllocError>
+fn copy_fet(
+    alloc: Global,
+    name: &Text,
+    depletion: bool,
+    vertical: bool,
+    col: u32,
+    row: u32,
+    w: u32,
+    l: u32,
+) -> Result<Form, AllocError>
     ensures { IfOk result (λ copy. copy ≡ forms.Fet name.now depletion vertical col row w l) }
 {
     let name = copy_text(alloc, name)?;
-    Ok(Form::Fet { name, depletion, vertical, col, row, w, l })
+    Ok(Form::Fet {
+        name,
+        depletion,
+        vertical,
+        col,
+        row,
+        w,
+        l,
+    })
 }
 
-fn copy_port(alloc: Global, name: &Text, side: Side, layer: Layer, place: u32) -> Result<Form, AllocError>
+fn copy_port(
+    alloc: Global,
+    name: &Text,
+    side: Side,
+    layer: Layer,
+    place: u32,
+) -> Result<Form, AllocError>
     ensures { IfOk result (λ copy. copy ≡ forms.Port name.now side layer place) }
 {
     let name = copy_text(alloc, name)?;
-    Ok(Form::Port { name, side, layer, place })
+    Ok(Form::Port {
+        name,
+        side,
+        layer,
+        place,
+    })
 }
 
 fn copy_use(alloc: Global, name: &Text, cell: &Text, col: u32, row: u32) -> Result<Form, AllocError>
@@ -52,10 +104,21 @@ fn copy_use(alloc: Global, name: &Text, cell: &Text, col: u32, row: u32) -> Resu
 {
     let name = copy_text(alloc, name)?;
     let cell = copy_text(alloc, cell)?;
-    Ok(Form::Inst { name, cell, col, row })
+    Ok(Form::Inst {
+        name,
+        cell,
+        col,
+        row,
+    })
 }
 
-fn copy_wire(alloc: Global, layer: Layer, a: &Text, b: &Text, width: Option<u32>) -> Result<Form, AllocError>
+fn copy_wire(
+    alloc: Global,
+    layer: Layer,
+    a: &Text,
+    b: &Text,
+    width: Option<u32>,
+) -> Result<Form, AllocError>
     ensures { IfOk result (λ copy. copy ≡ forms.Wire layer a.now b.now width) }
 {
     let a = copy_text(alloc, a)?;
@@ -63,12 +126,25 @@ fn copy_wire(alloc: Global, layer: Layer, a: &Text, b: &Text, width: Option<u32>
     Ok(Form::Wire { layer, a, b, width })
 }
 
-fn copy_limit(alloc: Global, vertical: bool, a: &Text, b: &Text, at_most: bool, n: i64) -> Result<Form, AllocError>
+fn copy_limit(
+    alloc: Global,
+    vertical: bool,
+    a: &Text,
+    b: &Text,
+    at_most: bool,
+    n: i64,
+) -> Result<Form, AllocError>
     ensures { IfOk result (λ copy. copy ≡ forms.Limit vertical a.now b.now at_most n) }
 {
     let a = copy_text(alloc, a)?;
     let b = copy_text(alloc, b)?;
-    Ok(Form::Limit { vertical, a, b, at_most, n })
+    Ok(Form::Limit {
+        vertical,
+        a,
+        b,
+        at_most,
+        n,
+    })
 }
 
 /// A copy of the form of a line. The only refusal is want of memory.
@@ -76,13 +152,48 @@ pub fn copy_form(alloc: Global, form: &Form) -> Result<Form, AllocError>
     ensures { IfOk result (λ copy. copy ≡ form.now) }
 {
     match form {
-        Form::Joint { name, layer, col, row, width } => copy_joint(alloc, name, *layer, *col, *row, *width),
-        Form::Contact { name, lower, col, row } => copy_contact(alloc, name, *lower, *col, *row),
+        Form::Joint {
+            name,
+            layer,
+            col,
+            row,
+            width,
+        } => copy_joint(alloc, name, *layer, *col, *row, *width),
+        Form::Contact {
+            name,
+            lower,
+            col,
+            row,
+        } => copy_contact(alloc, name, *lower, *col, *row),
         Form::Buried { name, col, row } => copy_buried(alloc, name, *col, *row),
-        Form::Fet { name, depletion, vertical, col, row, w, l } => copy_fet(alloc, name, *depletion, *vertical, *col, *row, *w, *l),
-        Form::Port { name, side, layer, place } => copy_port(alloc, name, *side, *layer, *place),
-        Form::Inst { name, cell, col, row } => copy_use(alloc, name, cell, *col, *row),
+        Form::Fet {
+            name,
+            depletion,
+            vertical,
+            col,
+            row,
+            w,
+            l,
+        } => copy_fet(alloc, name, *depletion, *vertical, *col, *row, *w, *l),
+        Form::Port {
+            name,
+            side,
+            layer,
+            place,
+        } => copy_port(alloc, name, *side, *layer, *place),
+        Form::Inst {
+            name,
+            cell,
+            col,
+            row,
+        } => copy_use(alloc, name, cell, *col, *row),
         Form::Wire { layer, a, b, width } => copy_wire(alloc, *layer, a, b, *width),
-        Form::Limit { vertical, a, b, at_most, n } => copy_limit(alloc, *vertical, a, b, *at_most, *n),
+        Form::Limit {
+            vertical,
+            a,
+            b,
+            at_most,
+            n,
+        } => copy_limit(alloc, *vertical, a, b, *at_most, *n),
     }
 }

@@ -1,22 +1,155 @@
 //! A jog in a wire of a design.
-ghost use Rattle.std.specs.Prelude.{◌≡◌, ◌+◌, ◌^◌, ◌<◌, ◌≤◌, All, IfOk, IfSome, MatchOption, length, map};
+ghost use Rattle.std.specs.Prelude.{◌≡◌, ◌+◌, ◌^◌, ◌<◌, ◌≤◌, All, IfOk, IfSome, List, MatchBool, MatchOption, length, map};
+ghost use Rattle.std.specs.List.{AllByRecursion};
+ghost use Rattle.rule_table.specs.declared.technology.Tech.{Tech};
 ghost use Rattle.stick_parse.specs.declared.design.Design.{Design as SomeDesign};
-ghost use Rattle.stick_parse.specs.Writable.{IsWritable};
+ghost use Rattle.stick_parse.specs.declared.design.Line.{Line};
+ghost use Rattle.stick_parse.specs.declared.design.CellText.{CellText as SomeText};
+ghost use Rattle.stick_parse.specs.Writable.{IsCell, IsPath, IsWritable};
 ghost use Rattle.stick_print.specs.ReadBack.{without_line};
+ghost use Rattle.cell_model.specs.Nets.{HasEnds};
+ghost use Rattle.cell_model.specs.Sound.{IsSound};
 ghost use Rattle.stick_cell.specs.Counts.{weight_of};
 ghost use Rattle.stick_cell.specs.Known.{cell_of, known_at};
 ghost use Rattle.stick_cell.specs.Tables.{known_of, IsResolved};
-ghost use Rattle.jog_insert.specs.Jogs.{IsJogged};
+ghost use Rattle.jog_insert.specs.Jogs.{IsBent, IsCopy, IsJogged, IsNearForm, Uses};
+ghost use Rattle.jog_insert.specs.Building.{StandsAlone, IsBentCell};
 ghost use Rattle.jog_insert.specs.Counts.{lines_in};
 
+use crate::bending::Place;
+use crate::copying::with_cell;
+use crate::joints::{Joints, are_near, bent_lines, wire_line};
+use crate::naming::free_number;
+use crate::runs::run_of;
+use lam_list::Seq;
 use std::alloc::{AllocError, Global};
-use stick_cell::Cells;
-use stick_parse::Design;
+use stick_cell::{Cell, Cells};
+use stick_lex::Text;
+use stick_parse::{CellText, Design, Form, Line as TextLine};
+
+fn is_copy(form: &Form) -> bool
+    ensures { MatchBool result (IsCopy form.now) (IsCopy form.now → ⊥) }
+{
+    matches!(form, Form::Inst { .. })
+}
+
+fn is_use_of(name: &[u8], form: &Form) -> bool
+    ensures { MatchBool result (Uses name.now form.now) (Uses name.now form.now → ⊥) }
+{
+    match form {
+        Form::Inst { cell, .. } => cell.bytes() == name,
+        _ => false,
+    }
+}
+
+// Whether none of the lines is a use.
+fn is_whole(lines: &[TextLine]) -> bool
+    ensures { MatchBool result (All (λ line. IsCopy line.form → ⊥) lines.now) (All (λ line. IsCopy line.form → ⊥) lines.now → ⊥) }
+{
+    for line in lines {
+        if is_copy(&line.form) {
+            return false;
+        }
+    }
+    true
+}
+
+// Whether none of the lines is a use of the cell with this name.
+fn is_unused_in(name: &[u8], lines: &[TextLine]) -> bool
+    ensures { MatchBool result (All (λ line. Uses name.now line.form → ⊥) lines.now) (All (λ line. Uses name.now line.form → ⊥) lines.now → ⊥) }
+{
+    for line in lines {
+        if is_use_of(name, &line.form) {
+            return false;
+        }
+    }
+    true
+}
+
+// Whether none of the cells uses the cell with this name.
+fn is_unused(name: &[u8], cells: &[CellText]) -> bool
+    ensures { MatchBool result
+        (All (λ (text : SomeText). All (λ line. Uses name.now line.form → ⊥) text.lines) cells.now)
+        (All (λ (text : SomeText). All (λ line. Uses name.now line.form → ⊥) text.lines) cells.now → ⊥) }
+{
+    for cell in cells {
+        if !is_unused_in(name, cell.lines.as_slice()) {
+            return false;
+        }
+    }
+    true
+}
+
+// Whether the cell is a master that has no uses and is used by no cell.
+fn stands_alone(design: &Design, masters: &[u32], cell: u32) -> bool
+    requires { cell < length design.now.cells }
+    ensures { MatchBool result (StandsAlone design.now masters.now cell) (StandsAlone design.now masters.now cell → ⊥) }
+{
+    let cells = design.cells.as_slice();
+    let text = &cells[cell as usize];
+    masters.contains(&cell)
+        && is_whole(text.lines.as_slice())
+        && is_unused(text.name.bytes(), cells)
+}
+
+// The cell with a jog in its wire `k`, where that can be bent and nothing comes to lie too far out.
+fn bent_cell(
+    alloc: Global,
+    text: &CellText,
+    content: &Cell,
+    k: u32,
+    r: u32,
+    left: bool,
+) -> Result<Option<CellText>, AllocError>
+    requires written { IsCell text.now }
+    requires few { length text.now.lines < 2 ^ 31 }
+    requires sound { (tech : Tech) × IsSound tech content.now }
+    requires ends { AllByRecursion (HasEnds content.now) content.now.wires }
+    requires named { AllByRecursion (λ node. IsPath node.name) content.now.nodes }
+    ensures bent { IfOk result (λ done. MatchOption done
+        ((lines : List Line) → IsBent text.now content.now k r left lines → All (λ line. IsNearForm line.form) lines → ⊥)
+        (IsBentCell text.now content.now k r left)) }
+    ensures written { IfOk result (λ done. IfSome done IsCell) }
+    ensures lines { IfOk result (λ done. IfSome done (λ new. length new.lines ≡ length text.now.lines + 4)) }
+{
+    let old = text.lines.as_slice();
+    let Some(run) = run_of(content, k, r) else {
+        return Ok(None);
+    };
+    let Some((at, layer)) = wire_line(old, k) else {
+        return Ok(None);
+    };
+    let number = free_number(alloc, old)?;
+    let nodes = content.nodes.as_slice();
+    let joints = Joints {
+        place: Place {
+            col: run.col,
+            row: r,
+            left,
+        },
+        number,
+        layer,
+        width: run.width,
+        low: nodes[run.low as usize].name.bytes(),
+        high: nodes[run.high as usize].name.bytes(),
+    };
+    let lines = bent_lines(alloc, joints, old, at)?;
+    if !are_near(&lines) {
+        return Ok(None);
+    }
+    let name = Text::new(alloc, text.name.bytes())?;
+    Ok(Some(CellText {
+        name,
+        line: text.line,
+        end_line: text.end_line,
+        lines: Seq::from_vec(lines),
+    }))
+}
 
 /// The design with a jog in wire `k` (from 0) of a cell, above row `r`, to the left or else to the right; None exactly
 /// where no jog can be put there. The only refusal is want of memory.
 ///
-/// It costs time linear in the text of the design and in the cell. The design may have up to 2^31 lines, and the new one
+/// It costs time linear in the text of the design and in the cell. The design may have up to 2^30 lines, and the new one
 /// has four more.
 pub fn insert(
     alloc: Global,
@@ -33,7 +166,7 @@ pub fn insert(
     requires within { cell < length (known_of cells.now) }
     requires masters { All (λ m. m < length (known_of cells.now)) masters.now }
     requires light { All (λ m. weight_of (known_at (known_of cells.now) m) ≤ 65536) masters.now }
-    requires few { lines_in design.now ≤ 2 ^ 31 }
+    requires few { lines_in design.now ≤ 2 ^ 30 }
     ensures jogged { IfOk result (λ done. MatchOption done
         ((new : SomeDesign) → IsJogged design.now (cell_of (known_at (known_of cells.now) cell)) masters.now cell k r left new → ⊥)
         (IsJogged design.now (cell_of (known_at (known_of cells.now) cell)) masters.now cell k r left)) }
@@ -42,5 +175,14 @@ pub fn insert(
     ensures grids { IfOk result (λ done. IfSome done (λ new. map without_line new.grids ≡ map without_line design.now.grids)) }
     ensures lines { IfOk result (λ done. IfSome done (λ new. lines_in new ≡ lines_in design.now + 4)) }
 {
-    Ok(None)
+    if !stands_alone(design, masters, cell) {
+        return Ok(None);
+    }
+    let text = &design.cells.as_slice()[cell as usize];
+    let content = cells.inline(alloc, cell)?;
+    let Some(bent) = bent_cell(alloc, text, &content, k, r, left)? else {
+        return Ok(None);
+    };
+    let new = with_cell(alloc, design, cell as usize, &bent)?;
+    Ok(Some(new))
 }

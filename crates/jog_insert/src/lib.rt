@@ -1,17 +1,28 @@
 //! Jogs: wires that run up are bent, so that what lies beside them can move.
 //!
 //! What the layer above uses: `insert` gives the design with a jog in a wire of a cell, or None exactly where none can be put there
-//! (`specs/Jogs.antt`); `jogs_keep_nets` is the law that a jog leaves the nets of the cell as they were; `read_jogs` reads a script of
-//! jogs. Columns and rows are coarse coordinates; widths are in u, the grid unit.
+//! (`specs/Jogs.antt`, over where the parts of a cell go, `specs/Bends.antt`); `jogs_are_determined` is the law that a jog leads to one
+//! design; `lines_are_few` says that a design that was read is small enough; `read_jogs` reads a script of jogs (`specs/Scripts.antt`). What it means that a jog leaves the nets of a cell as they were is
+//! in `specs/Nets.antt`. Columns and rows are coarse coordinates; widths are in u, the grid unit.
 #![tactic(auto)]
 
 mod bending;
 mod copying;
 mod forms;
 mod inserting;
+#[cfg(test)]
+mod inserting_tests;
+mod joints;
+mod laws;
+mod naming;
 mod reading;
+#[cfg(test)]
+mod reading_tests;
+mod runs;
 mod script;
+mod words;
 
 pub use inserting::insert;
+pub use laws::{jogs_are_determined, lines_are_few};
 pub use reading::read_jogs;
 pub use script::{JogLine, ScriptFault};

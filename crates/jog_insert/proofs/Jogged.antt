@@ -1,0 +1,64 @@
+-- A jog in a design whose names and sizes have been checked.
+use Rattle.std.proofs.Common.{◌≡◌, ℕ, ◌<◌, Bool, List, length, get_or, sym, ap, subst, ◌∙◌, arith}
+use Rattle.std.specs.Prelude.{All, slice_set}
+use Rattle.std.specs.List.{AllByRecursion}
+use Rattle.std.proofs.lemmas.List.{get_or_default}
+use Rattle.list_facts.proofs.Elements.{all_at}
+use Rattle.stick_parse.specs.declared.design.Line.{Line}
+use Rattle.stick_parse.specs.declared.design.CellText.{CellText}
+use Rattle.stick_parse.specs.declared.design.Design.{Design}
+use Rattle.stick_parse.specs.Writable.{IsCell}
+use Rattle.stick_print.specs.ReadBack.{laid_out}
+use Rattle.cell_model.specs.declared.cell.Cell.{Cell}
+use Rattle.stick_cell.specs.declared.cells.Cells.{Cells}
+use Rattle.stick_cell.specs.Known.{known_at}
+use Rattle.stick_cell.specs.Tables.{known_of, IsResolved}
+use Rattle.stick_cell.proofs.TableReads.{length-known_cells}
+use Rattle.jog_insert.specs.Jogs.{IsCopy, IsNearForm, IsBent, IsJogged, cell_text_at, no_cell}
+use Rattle.jog_insert.specs.Building.{StandsAlone, IsBentCell}
+use Rattle.jog_insert.proofs.NodeNames.{AreNamed, nodes_named}
+
+-- ---- the cell
+
+pub cells_number : (cells : Cells) (design : Design) → IsResolved cells → cells.design.now ≡ design → length (known_of cells) ≡ length design.cells
+cells_number cells design is of = length-known_cells cells.tech cells.design.now.cells (known_of cells) is.read ∙ ap (λ (d : Design). length d.cells) of
+
+pub cell_written : (cells : Cells) (design : Design) (k : ℕ) → IsResolved cells → cells.design.now ≡ design → k < length design.cells → IsCell (cell_text_at design k)
+cell_written cells design k is of lt =
+    all_at IsCell design.cells no_cell k (let P : Design → Type 0 = λ d. AllByRecursion IsCell d.cells in subst P of is.writable.cells) lt
+
+pub cell_named : (cells : Cells) (design : Design) (k : ℕ) → IsResolved cells → cells.design.now ≡ design → k < length design.cells
+    → All (λ (line : Line). IsCopy line.form → ⊥) (cell_text_at design k).lines → AreNamed (known_at (known_of cells) k)
+cell_named cells design k is of lt whole =
+    let before : k < length cells.design.now.cells = omega (arith, lt, ap (λ (d : Design). length d.cells) of) in
+    let P : Design → Type 0 = λ d. All (λ (line : Line). IsCopy line.form → ⊥) (cell_text_at d k).lines in
+    nodes_named cells.tech cells.design.now.cells (known_of cells) k no_cell is.read before (all_at IsCell cells.design.now.cells no_cell k is.writable.cells before) (subst P (sym of) whole)
+
+-- the text that the code reads
+pub text_here : (design : Design) (cells : List CellText) (k : ℕ) (text : CellText) → cells ≡ design.cells → k < length design.cells → text ≡ get_or cells k text → text ≡ cell_text_at design k
+text_here design cells k text e lt is = is ∙ ap (λ (l : List CellText). get_or l k text) e ∙ get_or_default design.cells k text no_cell lt
+
+-- ---- the jog
+
+pub none_jogged : (design : Design) (content own : Cell) (masters : List ℕ) (cell k row : ℕ) (left : Bool) (text : CellText) → text ≡ cell_text_at design cell → own ≡ content
+    → ((lines : List Line) → IsBent text own k row left lines → All (λ (line : Line). IsNearForm line.form) lines → ⊥) → (new : Design) → IsJogged design content masters cell k row left new → ⊥
+none_jogged design content own masters cell k row left text e f none new jogged =
+    let P : CellText → Type 0 = λ t. IsBent t content k row left jogged.lines in
+    let Q : Cell → Type 0 = λ c. IsBent text c k row left jogged.lines in
+    none jogged.lines (subst Q (sym f) (subst P (sym e) jogged.bent)) jogged.near
+
+pub jogged_of : (design : Design) (content own : Cell) (masters : List ℕ) (cell k row : ℕ) (left : Bool) (text bent : CellText) (new : Design) → StandsAlone design masters cell → text ≡ cell_text_at design cell → own ≡ content
+    → IsBentCell text own k row left bent → new ≡ laid_out (record design { cells = slice_set design.cells cell bent }) → IsJogged design content masters cell k row left new
+jogged_of design content own masters cell k row left text bent new alone e f is made =
+    let P : CellText → Type 0 = λ t. IsBent t content k row left bent.lines in
+    let Q : Cell → Type 0 = λ c. IsBent text c k row left bent.lines in
+    let same : bent ≡ record (cell_text_at design cell) { lines = bent.lines } = is.rest ∙ ap (λ (t : CellText). record t { lines = bent.lines }) e in
+    record {
+      master = alone.master;
+      whole = alone.whole;
+      unused = alone.unused;
+      lines = bent.lines;
+      bent = subst P e (subst Q f is.bent);
+      near = is.near;
+      made = made ∙ ap (λ (t : CellText). laid_out (record design { cells = slice_set design.cells cell t })) same;
+    }

@@ -1,0 +1,87 @@
+use Rattle.std.proofs.Common.{◌+◌, ◌<◌, map, ap, sym, subst, ◌∙◌, arith, length}
+use Rattle.std.specs.List.{AllByRecursion}
+use Rattle.std.specs.Prelude.{slice_set}
+use Rattle.stick_parse.specs.declared.design.CellText.{CellText}
+use Rattle.stick_parse.specs.declared.design.Design.{Design}
+use Rattle.stick_parse.specs.Writable.{IsCell, IsPath, IsWritable}
+use Rattle.stick_print.specs.ReadBack.{behind_cells, without_line}
+use Rattle.cell_model.specs.declared.cell.Cell.{Cell}
+use Rattle.stick_cell.specs.Known.{cell_of, known_at}
+use Rattle.stick_cell.specs.Tables.{known_of}
+use Rattle.jog_insert.specs.Counts.{lines_in}
+use Rattle.jog_insert.proofs.Laid.{laid_is_writable, grids_same, more_lines, few_lines}
+use Rattle.jog_insert.proofs.Jogged.{cells_number, cell_written, cell_named, text_here, none_jogged, jogged_of}
+use Rattle.jog_insert.proofs.inserting.insert.Goals as goal
+
+pub stands_alone-requires : goal.stands_alone-requires
+stands_alone-requires c = omega (arith, cells_number c.args.cells.now c.args.design.now c.requires.resolved c.requires.of, c.requires.within)
+
+pub bounds-as_slice-cell : goal.bounds-as_slice-cell
+bounds-as_slice-cell c = omega (arith, cells_number c.args.cells.now c.args.design.now c.requires.resolved c.requires.of, c.requires.within, ap length c.as_slice.ensures)
+
+pub bent_cell-requires-clause-written : goal.bent_cell-requires-clause-written
+bent_cell-requires-clause-written c =
+    let design = c.args.design.now in
+    let within : c.args.cell < length design.cells = omega (arith, cells_number c.args.cells.now design c.requires.resolved c.requires.of, c.requires.within) in
+    let text = text_here design c.as_slice.result.now c.args.cell c.index-as_slice-cell.result c.as_slice.ensures within c.index-as_slice-cell.is in
+    subst IsCell (sym text) (cell_written c.args.cells.now design c.args.cell c.requires.resolved c.requires.of within)
+
+pub bent_cell-requires-clause-few : goal.bent_cell-requires-clause-few
+bent_cell-requires-clause-few c =
+    let design = c.args.design.now in
+    let within : c.args.cell < length design.cells = omega (arith, cells_number c.args.cells.now design c.requires.resolved c.requires.of, c.requires.within) in
+    let text = text_here design c.as_slice.result.now c.args.cell c.index-as_slice-cell.result c.as_slice.ensures within c.index-as_slice-cell.is in
+    omega (arith, few_lines design c.args.cell within, c.requires.few, ap (λ (t : CellText). length t.lines) text)
+
+pub bent_cell-requires-clause-named : goal.bent_cell-requires-clause-named
+bent_cell-requires-clause-named c =
+    let design = c.args.design.now in
+    let within : c.args.cell < length design.cells = omega (arith, cells_number c.args.cells.now design c.requires.resolved c.requires.of, c.requires.within) in
+    let P : Cell → Type 0 = λ cell. AllByRecursion (λ node. IsPath node.name) cell.nodes in
+    subst P (sym c.in_ok-content.ensures.value) (cell_named c.args.cells.now design c.args.cell c.requires.resolved c.requires.of within c.if-not-stands_alone.ensures.whole)
+
+pub returns-in_default-clause-jogged : goal.returns-in_default-clause-jogged
+returns-in_default-clause-jogged c =
+    let design = c.args.design.now in
+    let within : c.args.cell < length design.cells = omega (arith, cells_number c.args.cells.now design c.requires.resolved c.requires.of, c.requires.within) in
+    let text = text_here design c.as_slice.result.now c.args.cell c.index-as_slice-cell.result c.as_slice.ensures within c.index-as_slice-cell.is in
+    none_jogged design (cell_of (known_at (known_of c.args.cells.now) c.args.cell)) c.in_ok-content.content c.args.masters.now c.args.cell c.args.k c.args.r c.args.left c.index-as_slice-cell.result
+    text c.in_ok-content.ensures.value (rw c.in_default.is at c.in_ok-bent.ensures.bent)
+
+pub with_cell-requires-clause-within : goal.with_cell-requires-clause-within
+with_cell-requires-clause-within c = omega (arith, cells_number c.args.cells.now c.args.design.now c.requires.resolved c.requires.of, c.requires.within)
+
+pub with_cell-requires-clause-few : goal.with_cell-requires-clause-few
+with_cell-requires-clause-few c =
+    let design = c.args.design.now in
+    let within : c.args.cell < length design.cells = omega (arith, cells_number c.args.cells.now design c.requires.resolved c.requires.of, c.requires.within) in
+    let text = text_here design c.as_slice.result.now c.args.cell c.index-as_slice-cell.result c.as_slice.ensures within c.index-as_slice-cell.is in
+    let more = rw c.in-Some.is at c.in_ok-bent.ensures.lines in
+    omega (arith, few_lines design c.args.cell within, c.requires.few, ap (λ (t : CellText). length t.lines) text, more)
+
+pub returns-clause-jogged : goal.returns-clause-jogged
+returns-clause-jogged c =
+    let design = c.args.design.now in
+    let within : c.args.cell < length design.cells = omega (arith, cells_number c.args.cells.now design c.requires.resolved c.requires.of, c.requires.within) in
+    let text = text_here design c.as_slice.result.now c.args.cell c.index-as_slice-cell.result c.as_slice.ensures within c.index-as_slice-cell.is in
+    jogged_of design (cell_of (known_at (known_of c.args.cells.now) c.args.cell)) c.in_ok-content.content c.args.masters.now c.args.cell c.args.k c.args.r c.args.left c.index-as_slice-cell.result c.in-Some.bent c.in_ok-new.new
+    c.if-not-stands_alone.ensures text c.in_ok-content.ensures.value (rw c.in-Some.is at c.in_ok-bent.ensures.bent) c.in_ok-new.ensures
+
+pub returns-clause-writable : goal.returns-clause-writable
+returns-clause-writable c =
+    let design = c.args.design.now in
+    let written : IsWritable design = subst IsWritable c.requires.of c.requires.resolved.writable in
+    subst IsWritable (sym c.in_ok-new.ensures) (laid_is_writable design c.args.cell c.in-Some.bent written (rw c.in-Some.is at c.in_ok-bent.ensures.written))
+
+pub returns-clause-grids : goal.returns-clause-grids
+returns-clause-grids c =
+    let design = c.args.design.now in
+    ap (λ (d : Design). map without_line d.grids) c.in_ok-new.ensures ∙ grids_same (behind_cells 2 (slice_set design.cells c.args.cell c.in-Some.bent)) design.grids
+
+pub returns-clause-lines : goal.returns-clause-lines
+returns-clause-lines c =
+    let design = c.args.design.now in
+    let within : c.args.cell < length design.cells = omega (arith, cells_number c.args.cells.now design c.requires.resolved c.requires.of, c.requires.within) in
+    let text = text_here design c.as_slice.result.now c.args.cell c.index-as_slice-cell.result c.as_slice.ensures within c.index-as_slice-cell.is in
+    let more = rw c.in-Some.is at c.in_ok-bent.ensures.lines in
+    ap lines_in c.in_ok-new.ensures ∙ more_lines design c.args.cell c.in-Some.bent within (more ∙ ap (λ (t : CellText). length t.lines + 4) text)

@@ -1,0 +1,15 @@
+-- The words as the code keeps them.
+use Rattle.std.specs.Prelude.{List, map}
+use Rattle.jog_insert.specs.declared.words.Word.{Word}
+use Rattle.jog_insert.specs.declared.words.Word.TheVariants as word
+use Rattle.stick_parse.specs.Words as said
+
+-- a word without where it lies in memory
+abbrev pub view : Word → said.Word
+view (word.Path path) = said.Path path.now
+view (word.Number n) = said.Number n
+view word.AtMost = said.AtMost
+view word.AtLeast = said.AtLeast
+
+abbrev pub views : List Word → List said.Word
+views words = map view words

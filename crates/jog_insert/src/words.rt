@@ -1,0 +1,131 @@
+//! The words of a line of a script, and what stands in front of them.
+ghost use Rattle.std.specs.Prelude.{◌≡◌, length, map, IfOk};
+ghost use Rattle.std.specs.List.{AllByRecursion};
+ghost use Rattle.stick_lex.specs.Tokens.{IsTokenOf};
+ghost use Rattle.stick_parse.specs.Reading.{GivesLine};
+ghost use Rattle.stick_parse.specs.Words.{word_of, path_at, name_at, number_at, count_of, count_at, second_of, either_at, ended};
+ghost use Rattle.jog_insert.specs.WordViews.{view, views};
+
+use std::alloc::{AllocError, Global};
+use stick_lex::{LARGEST, Token, TokenKind, is_name};
+use stick_parse::{LineFault, StickKind};
+
+/// A word of a line.
+#[derive(Clone, Copy, Debug)]
+pub enum Word<'a> {
+    Path(&'a [u8]),
+    Number(i64),
+    AtMost,
+    AtLeast,
+}
+
+const BAD_LINE: LineFault = LineFault::Kind(StickKind::BadLine);
+
+fn word_of<'a>(line: &'a [u8], token: Token) -> Word<'a>
+    requires { IsTokenOf line.now token }
+    ensures { view result ≡ word_of line.now token }
+{
+    match token.kind {
+        TokenKind::Path => Word::Path(&line[token.lo as usize..token.hi as usize]),
+        TokenKind::Number => Word::Number(token.value),
+        TokenKind::AtMost => Word::AtMost,
+        TokenKind::AtLeast => Word::AtLeast,
+    }
+}
+
+/// What the tokens of a line say.
+pub fn words_of<'a>(
+    alloc: Global,
+    line: &'a [u8],
+    tokens: &[Token],
+) -> Result<Vec<Word<'a>>, AllocError>
+    requires { AllByRecursion (IsTokenOf line.now) tokens.now }
+    ensures { IfOk result (λ v. views v.items ≡ map (word_of line.now) tokens.now) }
+{
+    let mut words = Vec::new(alloc);
+    for token in tokens {
+        words.push(word_of(line, *token))?;
+    }
+    Ok(words)
+}
+
+/// A value, and the words behind it; or that the line is bad.
+pub type Front<'w, 'a, T> = Result<(T, &'w [Word<'a>]), LineFault>;
+
+#[tactic(auto, unfolding(stick_parse::specs::Words::path_at))]
+pub fn path_at<'w, 'a>(words: &'w [Word<'a>]) -> Front<'w, 'a, &'a [u8]>
+    ensures { GivesLine (λ x. (x.0.now, views x.1.now)) result (path_at (views words.now)) }
+{
+    match words {
+        [Word::Path(path), rest @ ..] => Ok((*path, rest)),
+        _ => Err(BAD_LINE),
+    }
+}
+
+#[tactic(auto, unfolding(stick_parse::specs::Words::name_at))]
+pub fn name_at<'w, 'a>(words: &'w [Word<'a>]) -> Front<'w, 'a, &'a [u8]>
+    ensures { GivesLine (λ x. (x.0.now, views x.1.now)) result (name_at (views words.now)) }
+{
+    let (path, rest) = path_at(words)?;
+    if is_name(path) {
+        Ok((path, rest))
+    } else {
+        Err(BAD_LINE)
+    }
+}
+
+#[tactic(auto, unfolding(stick_parse::specs::Words::number_at))]
+fn number_at<'w, 'a>(words: &'w [Word<'a>]) -> Front<'w, 'a, i64>
+    ensures { GivesLine (λ x. (x.0, views x.1.now)) result (number_at (views words.now)) }
+{
+    match words {
+        [Word::Number(number), rest @ ..] => Ok((*number, rest)),
+        _ => Err(BAD_LINE),
+    }
+}
+
+#[tactic(auto, unfolding(stick_parse::specs::Words::count_at))]
+pub fn count_at<'w, 'a>(words: &'w [Word<'a>]) -> Front<'w, 'a, u32>
+    ensures { GivesLine (λ x. (x.0, views x.1.now)) result (count_at (views words.now)) }
+{
+    let (number, rest) = number_at(words)?;
+    if number >= 0 && number <= i64::from(LARGEST) {
+        Ok((number as u32, rest))
+    } else {
+        Err(BAD_LINE)
+    }
+}
+
+fn second_of(first: &[u8], second: &[u8], text: &[u8]) -> Result<bool, LineFault>
+    ensures { GivesLine (λ x. x) result (second_of first.now second.now text.now) }
+{
+    if text == first {
+        Ok(false)
+    } else if text == second {
+        Ok(true)
+    } else {
+        Err(BAD_LINE)
+    }
+}
+
+/// Whether the word in front is the second of two.
+#[tactic(auto, unfolding(stick_parse::specs::Words::either_at))]
+pub fn either_at<'w, 'a>(first: &[u8], second: &[u8], words: &'w [Word<'a>]) -> Front<'w, 'a, bool>
+    ensures { GivesLine (λ x. (x.0, views x.1.now)) result (either_at first.now second.now (views words.now)) }
+{
+    let (path, rest) = path_at(words)?;
+    let choice = second_of(first, second, path)?;
+    Ok((choice, rest))
+}
+
+/// No word is left.
+#[tactic(auto, unfolding(stick_parse::specs::Words::ended))]
+pub fn ended(words: &[Word]) -> Result<(), LineFault>
+    ensures { GivesLine (λ x. x) result (ended (views words.now)) }
+{
+    if words.is_empty() {
+        Ok(())
+    } else {
+        Err(BAD_LINE)
+    }
+}
