@@ -18,4 +18,5 @@ pub mod OneRefusal
 mod FoundPairs
 pub mod Reach
 pub mod Tight
+pub mod Lasts
 pub mod Told

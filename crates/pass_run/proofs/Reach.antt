@@ -1,6 +1,6 @@
 -- From each variable of a plan a walk of listed inequalities leads to a far border: within its master, by the extent of an item that begins there, and
 -- by the margin of that item.
-use Rattle.std.proofs.Common.{◌≡◌, ℕ, suc, ◌+◌, ◌<◌, ◌≤◌, eqb, List, [], ◌∷◌, ◌++◌, length, map, refl, sym, ap, ◌∙◌, subst, arith, inl, inr}
+use Rattle.std.proofs.Common.{◌≡◌, ℕ, suc, ◌<◌, ◌≤◌, eqb, List, [], ◌∷◌, ◌++◌, length, map, refl, sym, ap, ◌∙◌, subst, arith, inl, inr}
 use Rattle.std.specs.Prelude.{ℤ}
 use Rattle.std.specs.List.{AllByRecursion, All, Any, Contains, flat_map}
 use Rattle.std.proofs.lemmas.Bool.{cases_eq, ne_eqb}
@@ -24,7 +24,7 @@ use Rattle.cell_model.specs.declared.cell.Cell.{Cell}
 use Rattle.list_facts.proofs.Elements.{all_of, all_parts, all_pieces}
 use Rattle.expand.specs.declared.master.Master.{Master}
 use Rattle.expand.specs.Masters.{IsMaster}
-use Rattle.expand.specs.Structure.{at_least, between, extent_edges, margin_edges, extents_of, overlaps_of, margins_of, limits_of, structure_of}
+use Rattle.expand.specs.Structure.{between, extent_edges, margin_edges, extents_of, overlaps_of, margins_of, limits_of, structure_of}
 use Rattle.expand.specs.Variables.{at_origin, at_far_border, variables_of}
 use Rattle.expand.proofs.Reached.{BeginsBefore, items_begin}
 use Rattle.plan_model.specs.declared.plan.Plan.{Plan}
@@ -147,6 +147,8 @@ reach_far axis tech plan masters layouts planned u from lt =
     let o = own_of axis masters u from lt in
     let own = o.own in
     let far : ℕ = far_of axis masters o.master in
-    let L : ℕ → Type 0 = λ a. Leads all a far in
-    (far, far_among axis masters o.master o.among,
-    walk_of all u far (subst L (sym o.is) (list_leads axis tech plan masters layouts o.master (suc o.number) planned o.among (omega arith) (omega arith))))
+    let L : ℕ → Type 0 = λ a. Leads all a far in (
+      far,
+      far_among axis masters o.master o.among,
+      walk_of all u far (subst L (sym o.is) (list_leads axis tech plan masters layouts o.master (suc o.number) planned o.among (omega arith) (omega arith))),
+    )

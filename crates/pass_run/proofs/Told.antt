@@ -1,11 +1,9 @@
 -- What is told of passes, one pass more at a time, and of all of them.
-use Rattle.std.proofs.Common.{◌≡◌, ℕ, zero, suc, ◌+◌, ◌-◌, ◌<◌, ◌≤◌, ℤ, Bool, true, false, List, [], ◌∷◌, ◌++◌, length, ◌⊎◌, inl, inr, refl, sym, ap, ◌∙◌, subst, arith, append_assoc, append-nil}
+use Rattle.std.proofs.Common.{◌≡◌, ℕ, zero, suc, ◌-◌, ◌<◌, ◌≤◌, ℤ, Bool, true, false, List, [], ◌∷◌, ◌++◌, length, inl, inr, refl, sym, ap, ◌∙◌, subst, arith, append_assoc, append-nil}
 use Rattle.std.specs.Prelude.{◌↔◌, IsTrue, Contains, slice_index_or}
 use Rattle.std.proofs.lemmas.Bool.{false≢true}
-use Rattle.std.specs.List.{All}
-use Rattle.std.proofs.lemmas.List.Elements.{All-nil, All-cons, All-contains, Contains-append_left, Contains-append_right, Contains-append_cases}
+use Rattle.std.proofs.lemmas.List.Elements.{Contains-append_left}
 use Rattle.lam_geom.specs.declared.boxes.Axis.{Axis}
-use Rattle.lam_geom.specs.declared.boxes.Axis.TheVariants.{X, Y}
 use Rattle.rule_table.specs.declared.technology.Tech.{Tech}
 use Rattle.sym_items.specs.declared.items.Coords.{Coords}
 use Rattle.expand.specs.declared.master.Master.{Master}
@@ -17,6 +15,7 @@ use Rattle.pass_run.specs.Slack.{IsLastOn, here, later, most_at, AreMosts, AreTi
 use Rattle.pass_run.specs.declared.passes.SoFar.{SoFar}
 use Rattle.pass_run.specs.Told.{IsTightMost, IsTold, AreTold, HasTold}
 use Rattle.pass_run.proofs.Chain.{axes_more}
+use Rattle.pass_run.proofs.Lasts.{comes_or_not, last_counted}
 
 -- ---- one pass more
 
@@ -59,29 +58,6 @@ has_told_more tech plan masters with_most last axis coming s t before step value
 
 -- ---- the last pass on an axis
 
-pub last_counted : (masters : List Master) (axis : Axis) (start : List Coords) (steps : List Step) (number : ℕ) (before : List Coords) (step : Step)
-    → IsLastOn masters axis start steps number before step → 1 ≤ number
-last_counted masters axis start steps number before step (here _ _ _ _ _) = omega arith
-last_counted masters axis start steps number before step (later _ _ _ _ _ _ _) = omega arith
-
-last_among : (masters : List Master) (axis : Axis) (start : List Coords) (steps : List Step) (number : ℕ) (before : List Coords) (step : Step)
-    → IsLastOn masters axis start steps number before step → Contains (axes_of steps) axis
-last_among masters axis start steps number before step (here _ _ _ on _) = (0, omega arith, on)
-last_among masters axis start steps number before step (later _ first more n _ _ last) =
-    Contains-append_right (first.axis ∷ []) (axes_of more) axis (last_among masters axis (moved_by masters start first) more n before step last)
-
--- there is one last pass on an axis at most
-pub last_once : (masters : List Master) (axis : Axis) (start : List Coords) (steps : List Step) (number other : ℕ) (before between : List Coords) (step again : Step)
-    → IsLastOn masters axis start steps number before step → IsLastOn masters axis start steps other between again → (number ≡ other) × (before ≡ between) × (step ≡ again)
-last_once masters axis start steps number other before between step again (here _ _ _ _ _) (here _ _ _ _ _) = (refl, refl, refl)
-last_once masters axis start steps number other before between step again (here _ _ more _ none) (later _ first _ k _ _ last) =
-    absurd (none (last_among masters axis (moved_by masters start first) more k between again last))
-last_once masters axis start steps number other before between step again (later _ first more n _ _ last) (here _ _ _ _ none) =
-    absurd (none (last_among masters axis (moved_by masters start first) more n before step last))
-last_once masters axis start steps number other before between step again (later _ first more n _ _ last) (later _ _ _ k _ _ same) =
-    let r = last_once masters axis (moved_by masters start first) more n k before between step again last same in
-    (ap suc r.0, r.1, r.2)
-
 -- what is told of a later pass
 most_later : (m : List ℤ) (mosts : List (List ℤ)) (number : ℕ) → 1 ≤ number → most_at (m ∷ mosts) (suc number) ≡ most_at mosts number
 most_later m mosts number from =
@@ -100,28 +76,6 @@ last_told tech plan masters axis start steps number before step (m ∷ mosts) (l
     (last_told tech plan masters axis (moved_by masters start first) more n before step mosts last told.1)
 
 -- ---- the others
-
-same_axis : (a b : Axis) → (a ≡ b) ⊎ (a ≡ b → ⊥)
-same_axis X X = inl refl
-same_axis X Y = inr (λ e. cc)
-same_axis Y X = inr (λ e. cc)
-same_axis Y Y = inl refl
-
--- an axis comes among some, or does not
-comes_or_not : (axes : List Axis) (axis : Axis) → Contains axes axis ⊎ (Contains axes axis → ⊥)
-comes_or_not [] axis = inr (λ h. let lt = h.1 in omega arith)
-comes_or_not (a ∷ axes) axis =
-    elim (same_axis a axis) [
-      | inl same ↦ inl (0, omega arith, same)
-      | inr other ↦
-          elim (comes_or_not axes axis) [
-            | inl comes ↦ inl (Contains-append_right (a ∷ []) axes axis comes)
-            | inr not ↦ inr (λ h. elim (Contains-append_cases (a ∷ []) axes axis h) [ inl first ↦ other (only a axis first) | inr after ↦ not after ])
-          ]
-    ]
-  where
-    only : (a axis : Axis) → Contains (a ∷ []) axis → a ≡ axis
-    only a axis h = let P : Axis → Type 0 = λ z. a ≡ z in All-contains P (a ∷ []) axis (All-cons P a [] refl (All-nil P)) h
 
 others_silent : (tech : Tech) (plan : Plan) (masters : List Master) (start : List Coords) (steps : List Step) (mosts : List (List ℤ)) (n : ℕ) → AreTold tech plan masters [] start steps mosts → n < length steps
     → ((axis : Axis) (before : List Coords) (step : Step) → IsLastOn masters axis start steps (suc n) before step → ⊥) → most_at mosts (suc n) ≡ []

@@ -1,5 +1,5 @@
 -- What is told of the passes so far. Plumbing: `Slack` has what is told of all of them.
-use Rattle.std.specs.Prelude.{◌≡◌, ℕ, ℤ, Bool, false, IsTrue, Contains, List, [], ◌∷◌, ◌++◌}
+use Rattle.std.specs.Prelude.{◌≡◌, ℤ, Bool, false, IsTrue, Contains, List, [], ◌∷◌, ◌++◌}
 use Rattle.lam_geom.specs.declared.boxes.Axis.{Axis}
 use Rattle.rule_table.specs.declared.technology.Tech.{Tech}
 use Rattle.sym_items.specs.declared.items.Coords.{Coords}
