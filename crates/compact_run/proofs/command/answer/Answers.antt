@@ -29,7 +29,7 @@ returns-in-Compact-clause-given g c = λ t told.
 pub returns-in-Compact-clause-usage : goal.returns-in-Compact-clause-usage
 returns-in-Compact-clause-usage g c =
     let is = c.in_ok-design.ensures.command ∙ ap (λ z. Some (command_from z)) c.in-Compact.is in
-    (λ e. absurd (not_usage _ _ _ _ (c.compact_files.ensures.asked c.in-Compact.split) e), λ none. absurd (is_command _ _ is none))
+    (λ e. absurd (not_usage (words.compact c.in-Compact.design.now c.in-Compact.tech.now c.as_slice.result.now c.in-Compact.split) _ _ _ (c.compact_files.ensures.asked c.in-Compact.split) e), λ none. absurd (is_command _ _ is none))
 
 pub returns-in-Bench-clause-given : goal.returns-in-Bench-clause-given
 returns-in-Bench-clause-given g c = λ t told.
@@ -40,7 +40,41 @@ returns-in-Bench-clause-given g c = λ t told.
 pub returns-in-Bench-clause-usage : goal.returns-in-Bench-clause-usage
 returns-in-Bench-clause-usage g c =
     let is = c.in_ok-design.ensures.command ∙ ap (λ z. Some (command_from z)) c.in-Bench.is in
-    (λ e. absurd (not_usage _ _ _ _ (c.benched.ensures.asked None) e), λ none. absurd (is_command _ _ is none))
+    (λ e. absurd (not_usage (words.bench c.in-Bench.n) _ None None (c.benched.ensures.asked None) e), λ none. absurd (is_command _ _ is none))
 
 pub returns-in-Bench-clause-counted : goal.returns-in-Bench-clause-counted
 returns-in-Bench-clause-counted g c = c.benched.ensures.counted _
+
+pub slack_files-requires-clause-both : goal.slack_files-requires-clause-both
+slack_files-requires-clause-both g c = λ κs le.
+    let own = rw (c.in-Slack.is) at c.in_ok-design.ensures.passes in
+    (passes_mean c.as_slice-in-Slack.result.now (own.0, own.1, c.as_slice-in-Slack.ensures ∙ own.2)).0
+
+pub returns-in-Slack-clause-given : goal.returns-in-Slack-clause-given
+returns-in-Slack-clause-given g c = λ t told.
+    let is = c.in_ok-design.ensures.command ∙ ap (λ z. Some (command_from z)) c.in-Slack.is in
+    let A : List Axis → Type 0 = λ axes. IsGiven (Some (words.slack c.in-Slack.design.now c.in-Slack.tech.now axes)) t.files c.slack_files.result in
+    let C : Option words.Command → Type 0 = λ z. IsGiven z t.files c.slack_files.result in
+    subst C (sym is) (subst A c.as_slice-in-Slack.ensures (c.slack_files.ensures.given t told))
+
+pub returns-in-Slack-clause-usage : goal.returns-in-Slack-clause-usage
+returns-in-Slack-clause-usage g c =
+    let is = c.in_ok-design.ensures.command ∙ ap (λ z. Some (command_from z)) c.in-Slack.is in
+    (λ e. absurd (not_usage (words.slack c.in-Slack.design.now c.in-Slack.tech.now c.as_slice-in-Slack.result.now) _ _ _ c.slack_files.ensures.asked e), λ none. absurd (is_command _ _ is none))
+
+pub jog_files-requires-clause-both : goal.jog_files-requires-clause-both
+jog_files-requires-clause-both g c = λ κs le.
+    let own = rw (c.in-Jog.is) at c.in_ok-design.ensures.passes in
+    (passes_mean c.as_slice-in-Jog.result.now (own.0, own.1, c.as_slice-in-Jog.ensures ∙ own.2)).0
+
+pub returns-in-Jog-clause-given : goal.returns-in-Jog-clause-given
+returns-in-Jog-clause-given g c = λ t told.
+    let is = c.in_ok-design.ensures.command ∙ ap (λ z. Some (command_from z)) c.in-Jog.is in
+    let A : List Axis → Type 0 = λ axes. IsGiven (Some (words.jog c.in-Jog.design.now c.in-Jog.tech.now c.in-Jog.script.now axes)) t.files c.jog_files.result in
+    let C : Option words.Command → Type 0 = λ z. IsGiven z t.files c.jog_files.result in
+    subst C (sym is) (subst A c.as_slice-in-Jog.ensures (c.jog_files.ensures.given t told))
+
+pub returns-in-Jog-clause-usage : goal.returns-in-Jog-clause-usage
+returns-in-Jog-clause-usage g c =
+    let is = c.in_ok-design.ensures.command ∙ ap (λ z. Some (command_from z)) c.in-Jog.is in
+    (λ e. absurd (not_usage (words.jog c.in-Jog.design.now c.in-Jog.tech.now c.in-Jog.script.now c.as_slice-in-Jog.result.now) _ _ _ c.jog_files.ensures.asked e), λ none. absurd (is_command _ _ is none))

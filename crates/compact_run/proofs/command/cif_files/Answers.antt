@@ -18,4 +18,4 @@ pub returns-clause-given : goal.returns-clause-given
 returns-clause-given g c = λ t told.
     let then = telling_after _ _ _ t told (asked _ _ _ c.in_ok-rules.ensures.asked) in
     job_told c.args.job c.args.cif.now c.args.tech.now t.files c.in_ok-rules.rules c.in_ok-text.text.items c.in_ok-in_one_piece.field-0
-    (c.in_ok-rules.ensures.technology t told) (c.in_ok-text.ensures.output _ then) c.in_ok-in_one_piece.ensures.text c.in_ok-in_one_piece.ensures.no_report
+    (c.in_ok-rules.ensures.technology t told) (c.in_ok-text.ensures.output _ then) c.in_ok-in_one_piece.ensures.text c.in_ok-in_one_piece.ensures.report
