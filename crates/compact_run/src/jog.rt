@@ -1,6 +1,6 @@
 //! Jogs: a script bends wires of a design, and each bend is kept where it makes its cell narrower and no cell wider.
 
-ghost use Rattle.std.specs.Prelude.{◌≡◌, ◌×◌, ℕ, ℤ, ◌+◌, ◌<◌, ◌≤◌, ◌==◌, ◌<ℤ◌, ◌^◌, ◌↔◌, ◌++◌, ◌∷◌, List, length, map, position, OnOk, IfOk, IfErr, IfSome, IfNone, IsTrue};
+ghost use Rattle.std.specs.Prelude.{◌≡◌, ℕ, ℤ, ◌+◌, ◌<◌, ◌≤◌, ◌==◌, ◌<ℤ◌, ◌^◌, ◌↔◌, ◌++◌, ◌∷◌, List, length, map, position, OnOk, IfOk, IfErr, IfSome, IfNone, IsTrue};
 ghost use Rattle.std.specs.List.{range_with_len};
 ghost use Rattle.cons_graph.specs.Solutions.{value_of};
 ghost use Rattle.lam_geom.specs.declared.boxes.Axis.TheVariants.{X};

@@ -3,4 +3,3 @@ pub mod Jogs
 pub mod Nets
 pub mod Scripts
 pub mod Counts
-pub mod Building

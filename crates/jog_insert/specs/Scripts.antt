@@ -5,6 +5,8 @@ use Rattle.std.specs.Str.Lines.{lines}
 use Rattle.stick_lex.specs.Tokens.{tokens_of}
 use Rattle.stick_parse.specs.declared.fault.StickKind.{StickKind}
 use Rattle.stick_parse.specs.declared.fault.StickKind.TheVariants.{BadLine}
+use Rattle.stick_parse.specs.declared.fault.LineFault.{LineFault}
+use Rattle.stick_parse.specs.declared.fault.LineFault.TheVariants as line_faults
 use Rattle.stick_parse.specs.Reading.{◌>>=◌}
 use Rattle.stick_parse.specs.Lines.{tokens_or_kind}
 use Rattle.stick_parse.specs.Words.{Word, word_of, path_at, name_at, count_at, either_at, ended}
@@ -55,3 +57,8 @@ jogs_of text = jogs_from 1 (lines text)
 abbrev pub IsScriptFault : ScriptFault → Result (List JogLine) ℕ → Type 0
 IsScriptFault (faults.Line number) read = read ≡ Err number
 IsScriptFault faults.OutOfMemory read = Unit {0}
+
+-- a line's fault as the script's
+abbrev pub fault_at : ℕ → LineFault → ScriptFault
+fault_at number (line_faults.Kind kind) = faults.Line number
+fault_at number line_faults.OutOfMemory = faults.OutOfMemory

