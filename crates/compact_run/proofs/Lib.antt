@@ -23,3 +23,4 @@ mod OneAnswer
 mod FewParts
 mod SplitAlike
 mod JogLaws
+pub mod LastPass
