@@ -24,3 +24,5 @@ mod FewParts
 mod SplitAlike
 mod JogLaws
 pub mod LastPass
+pub mod SlackBounds
+pub mod AxisSlack

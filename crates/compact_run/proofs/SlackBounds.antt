@@ -134,10 +134,110 @@ solution_within axis tech plan masters layouts x most u planned solves far from 
 -- ---- the far borders
 
 -- an inequality leads to one of so many variables, and is short
-record IsFit (vars : ℕ) (e : Edge) : Type 0 where
+pub record IsFit (vars : ℕ) (e : Edge) : Type 0 where
   pub among : e.to < vars
   pub short : e.len ≤ℤ pos (2 ^ 21)
 
-own_fit : (axis : Axis) (tech : Tech) (masters : List Master) (layouts : List Coords) (m : ℕ) → ArePlanned tech plan masters → m < length masters
+-- the inequalities of the kept pairs of a master
+own_fit : (axis : Axis) (tech : Tech) (masters : List Master) (layouts : List Coords) (m : ℕ) → IsMaster tech (master_at masters m) → m < length masters
     → All (IsFit (joint_variables axis masters)) (kept_edges_at axis tech masters layouts m)
-own_fit axis tech masters layouts m planned lt = ?
+own_fit axis tech masters layouts m is lt =
+    let master : Master = master_at masters m in
+    let base : ℕ = base_of axis masters m in
+    let items : List Item = master.items.list in
+    let pairs : List Pair = kept_of axis tech (layout_at layouts m) items in
+    let F : Edge → Type 0 = IsFit (joint_variables axis masters) in
+    let S : Edge → Type 0 = λ e. F (shifted base e) in
+    let lie = items_lie tech master.cell master.items is.sound is.items axis in
+    All-map F (shifted base) (map (space_edge axis items) pairs)
+    (All-map S (space_edge axis items) pairs (λ k d k_lt.
+    let p : Pair = get_or pairs k d in
+    let two = kept_pairs_among axis tech (layout_at layouts m) items k d k_lt in
+    let spaced = (kept_spaced axis tech (layout_at layouts m) items k d k_lt).1 in
+    let head = (lie p.j no_item two.1).low_among in
+    let low = head.near.low in
+    let high = (lie p.i no_item two.0).high_among.near.high in
+    record { among = var_within axis masters m (item_along axis (get_or items p.j no_item)).xl.var lt head.among; short = omega (arith, ints, spaced, low, high) }))
+
+-- and all that are listed
+list_fit : (axis : Axis) (tech : Tech) (plan : Plan) (masters : List Master) (layouts : List Coords) → ArePlanned tech plan masters
+    → All (IsFit (joint_variables axis masters)) (list_over axis tech plan masters layouts)
+list_fit axis tech plan masters layouts planned =
+    let vars : ℕ = joint_variables axis masters in
+    let fixed : List Edge = fixed_of axis tech plan masters in
+    All-append (IsFit vars) fixed (flat_map (kept_edges_at axis tech masters layouts) (master_numbers masters))
+    (All-weaker (IsEdgeAmong vars) (IsFit vars) (λ e h. record { among = h.to_in_range; short = h.length_high }) fixed (fixed_shape axis tech plan masters planned).edges_among)
+    ((of_numbered (IsFit vars) (kept_edges_at axis tech masters layouts) (length masters)).1 (λ m lt. own_fit axis tech masters layouts m (planned.each m no_master lt) lt))
+
+-- a walk of such inequalities is not longer than they are many
+walk_long : (vars : ℕ) (edges : List Edge) (walk : List ℕ) → All (IsFit vars) edges → All (λ k. k < length edges) walk → length_of edges walk ≤ℤ pos (2 ^ 21 * length walk)
+walk_long vars edges [] fit in_range = omega (arith, ints)
+walk_long vars edges (k ∷ ks) fit in_range =
+    let R : ℕ → Type 0 = λ i. i < length edges in
+    let first : (edge_at edges k).len ≤ℤ pos (2 ^ 21) = (fit k (record { from = 0; to = 0; len = pos 0; why = Size }) (in_range 0 0 (omega arith))).short in
+    let rest = walk_long vars edges ks fit (All-tail R k ks in_range) in
+    let sum : length_of edges (k ∷ ks) ≡ (edge_at edges k).len +ℤ length_of edges ks = refl in
+    omega (arith, ints, first, rest, sum)
+
+-- and these are few where it meets no variable twice
+walk_few : (vars : ℕ) (edges : List Edge) (walk : List ℕ) → 1 ≤ vars → All (IsFit vars) edges → All (λ k. k < length edges) walk → HasNoRepeat (0 ∷ heads_of edges walk) → length walk ≤ vars
+walk_few vars edges walk from fit in_range once =
+    let head : ℕ → ℕ = λ k. (edge_at edges k).to in
+    let all : List ℕ = 0 ∷ heads_of edges walk in
+    let B : ℕ → Type 0 = λ v. v < vars in
+    let below : All B all = All-cons B 0 (heads_of edges walk) (omega (arith, from))
+    (All-map B head walk (λ i d lt. (fit (get_or walk i d) (record { from = 0; to = 0; len = pos 0; why = Size }) (in_range i d lt)).among)) in
+    let few = length-le_from_distinct_below all vars (IsDistinct-from_AllPairs Decides-eqb all once) (λ q t. All-contains B all q below (Contains-from_any eqb-true q all t)) in
+    let counted : length (heads_of edges walk) ≡ length walk = length-map walk head in
+    omega (arith, few, counted)
+
+-- a far border is no farther than the walk to it is long
+size_within : (tech : Tech) (plan : Plan) (masters : List Master) (before : List Coords) (step : Step) (m : ℕ) → ArePlanned tech plan masters → HasCriticalPath tech plan masters before step m
+    → value_of step.x (far_of step.axis masters m) ≤ℤ pos (2 ^ 38)
+size_within tech plan masters before step m planned path =
+    let edges : List Edge = list_over step.axis tech plan masters before in
+    let fit = list_fit step.axis tech plan masters before planned in
+    let few = joint_few step.axis masters (planned_few tech plan masters planned) planned.few_parts in
+    let in_range = path.passes.in_range in
+    let short = walk_few (joint_variables step.axis masters) edges _ (omega arith) fit in_range path.simple in
+    let long = walk_long (joint_variables step.axis masters) edges _ fit in_range in
+    let as_long = path.as_long in
+    omega (arith, ints, few, short, long, as_long)
+
+-- ---- all values of a pass
+
+place_between : (z : ℤ) → IsBetween (pos (2 ^ 38)) z → IsPlace z
+place_between z h = let low = h.0 in let high = h.1 in (omega (arith, ints, low), omega (arith, ints, high))
+
+far_among : (axis : Axis) (masters : List Master) (m : ℕ) → m < length masters → Contains (bases_of axis masters) (far_of axis masters m)
+far_among axis masters m lt =
+    let all : List ℕ = bases_of axis masters in
+    let count = bases_counted axis masters all refl in
+    let among : m < length all = omega (arith, count, lt) in
+    (m, among, get_or_default all m (far_of axis masters m) 0 among ∙ far_is axis masters all m refl lt)
+
+abbrev HasPaths : Tech → Plan → List Master → List Coords → Step → Type 0
+HasPaths tech plan masters before step = (m : ℕ) → m < length masters → HasCriticalPath tech plan masters before step m
+
+-- the values of some solution with far borders that a pass has found
+places_of : (tech : Tech) (plan : Plan) (masters : List Master) (before : List Coords) (step : Step) (values : List ℤ) → ArePlanned tech plan masters → HasPaths tech plan masters before step
+    → length values ≡ joint_variables step.axis masters → IsSolution (system_over step.axis tech plan masters before) (value_of values)
+    → ((m : ℕ) → m < length masters → value_of values (far_of step.axis masters m) ≡ value_of step.x (far_of step.axis masters m)) → All IsPlace values
+places_of tech plan masters before step values planned paths counted solves same =
+    let far : FarAtMost step.axis masters (value_of values) (pos (2 ^ 38)) = λ m lt.
+    let here = same m lt in
+    let size = size_within tech plan masters before step m planned (paths m lt) in
+    omega (arith, ints, here, size) in
+    All-from_get_or IsPlace values (pos 0) (λ u lt.
+    place_between (value_of values u) (solution_within step.axis tech plan masters before (value_of values) (pos (2 ^ 38)) u planned solves far (omega (arith, ints)) (omega (arith, lt, counted))))
+
+pub least_places : (tech : Tech) (plan : Plan) (masters : List Master) (before : List Coords) (step : Step) → ArePlanned tech plan masters → HasPaths tech plan masters before step
+    → IsLeastPass tech plan masters before step → All IsPlace step.x
+least_places tech plan masters before step planned paths least =
+    places_of tech plan masters before step step.x planned paths least.one_each least.least.solves (λ m lt. refl)
+
+pub most_places : (tech : Tech) (plan : Plan) (masters : List Master) (before : List Coords) (step : Step) (values : List ℤ) → ArePlanned tech plan masters → HasPaths tech plan masters before step
+    → IsMostAfter tech plan masters before step values → All IsPlace values
+most_places tech plan masters before step values planned paths most =
+    let held = most.most.is_held in
+    places_of tech plan masters before step values planned paths most.one_each held.solves (λ m lt. held.held (far_of step.axis masters m) (far_among step.axis masters m lt))
