@@ -1,8 +1,14 @@
-use Rattle.std.proofs.Common.{refl, sym, subst}
-use Rattle.std.specs.Prelude.{Contains, List}
+use Rattle.std.proofs.Common.{◌≡◌, ℤ, List, refl, sym, ◌∙◌, subst}
+use Rattle.std.specs.Prelude.{Contains}
 use Rattle.std.proofs.lemmas.Result.{err_from_is_err_and}
 use Rattle.lam_geom.specs.declared.boxes.Axis.{Axis}
 use Rattle.lam_geom.specs.declared.boxes.Axis.TheVariants.{X, Y}
+use Rattle.rule_table.specs.declared.technology.Tech.{Tech}
+use Rattle.expand.specs.declared.master.Master.{Master}
+use Rattle.plan_model.specs.declared.plan.Plan.{Plan}
+use Rattle.pass_run.specs.declared.step.Step.{Step}
+use Rattle.pass_run.specs.Layouts.{starts_of}
+use Rattle.pass_run.specs.Slack.{AreTight}
 use Rattle.compact_run.specs.Designs.{no_masks}
 use Rattle.compact_run.proofs.FewParts.{few_parts, few_in_all}
 use Rattle.compact_run.proofs.slack.slack.Goals as goal
@@ -23,8 +29,22 @@ returns-in_err-passes-clause-refused g c =
 pub on_axis-requires-clause-axis : goal.on_axis-requires-clause-axis
 on_axis-requires-clause-axis g c = let C : List Axis → Type 0 = λ axes. Contains axes X in subst C (sym c.in_ok-passes.ensures.laid_out.made.on_axes) (c.requires.both X)
 
+-- the masters that one call has read are those that another has
+same_masters : (tech : Tech) (plan : Plan) (steps : List Step) (mosts : List (List ℤ)) (masters read others : List Master) → read ≡ masters → others ≡ masters
+    → AreTight tech plan read (starts_of tech read) steps mosts → AreTight tech plan others (starts_of tech others) steps mosts
+same_masters tech plan steps mosts masters read others is are tight =
+    let T : List Master → Type 0 = λ ms. AreTight tech plan ms (starts_of tech ms) steps mosts in
+    subst T (is ∙ sym are) tight
+
 pub on_axis-requires-clause-tight : goal.on_axis-requires-clause-tight
-on_axis-requires-clause-tight g c = let h = c.in_ok-passes.ensures.tight refl in ?
+on_axis-requires-clause-tight g c =
+    same_masters c.args.tech.now c.in_ok-planned.planned.plan c.in_ok-passes.passes.steps c.in_ok-passes.passes.mosts c.in_ok-masters.masters.items c.deref.result.now c.deref-2.result.now c.deref.ensures.value
+    c.deref-2.ensures.value (c.in_ok-passes.ensures.tight refl)
 
 pub on_axis-requires-2-clause-axis : goal.on_axis-requires-2-clause-axis
 on_axis-requires-2-clause-axis g c = let C : List Axis → Type 0 = λ axes. Contains axes Y in subst C (sym c.in_ok-passes.ensures.laid_out.made.on_axes) (c.requires.both Y)
+
+pub on_axis-requires-2-clause-tight : goal.on_axis-requires-2-clause-tight
+on_axis-requires-2-clause-tight g c =
+    same_masters c.args.tech.now c.in_ok-planned.planned.plan c.in_ok-passes.passes.steps c.in_ok-passes.passes.mosts c.in_ok-masters.masters.items c.deref.result.now c.deref-3.result.now c.deref.ensures.value
+    c.deref-3.ensures.value (c.in_ok-passes.ensures.tight refl)
