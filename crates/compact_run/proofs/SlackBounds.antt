@@ -1,6 +1,6 @@
 -- How far the values of a pass lie from the origin: none is below it, the far borders are no farther than the walks to them are long, and no other value is
 -- much farther than the far border of its master. So it is with every solution of the pass' system that has the same far borders.
-use Rattle.std.proofs.Common.{◌≡◌, ℕ, zero, suc, ◌+◌, ◌*◌, ◌<◌, ◌≤◌, ◌^◌, ℤ, pos, neg_ℤ, ◌+ℤ◌, ◌≤ℤ◌, List, [], ◌∷◌, ◌++◌, length, get_or, map, inl, inr, refl, sym, ap, ◌∙◌, subst, arith}
+use Rattle.std.proofs.Common.{◌≡◌, ℕ, suc, ◌+◌, ◌*◌, ◌<◌, ◌≤◌, ◌^◌, ℤ, pos, ◌+ℤ◌, ◌≤ℤ◌, List, [], ◌∷◌, length, get_or, map, inl, inr, refl, sym, ap, ◌∙◌, subst, arith}
 use Rattle.std.specs.Prelude.{Contains}
 use Rattle.std.specs.List.{All, Any, flat_map}
 use Rattle.std.proofs.lemmas.Int.{ints}
@@ -22,7 +22,6 @@ use Rattle.cons_graph.specs.Constraints.{IsEdgeAmong}
 use Rattle.cons_graph.specs.EdgeNumbers.{edge_at}
 use Rattle.cons_graph.specs.SimpleWalks.{heads_of, length_of, HasNoRepeat}
 use Rattle.cons_graph.specs.Solutions.{IsSolution, Meets, value_of}
-use Rattle.slack_pack.specs.Most.{IsHeld}
 use Rattle.sym_items.specs.declared.items.Item.{Item}
 use Rattle.sym_items.specs.declared.items.Coords.{Coords}
 use Rattle.sym_items.specs.Extents.{IsLongUnder}
