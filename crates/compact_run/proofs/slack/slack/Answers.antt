@@ -1,4 +1,4 @@
-use Rattle.std.proofs.Common.{◌≡◌, ℤ, List, refl, sym, ◌∙◌, subst}
+use Rattle.std.proofs.Common.{◌≡◌, ◌≤◌, ℤ, List, length, refl, sym, ap, ◌∙◌, subst, arith}
 use Rattle.std.specs.Prelude.{Contains}
 use Rattle.std.proofs.lemmas.Result.{err_from_is_err_and}
 use Rattle.lam_geom.specs.declared.boxes.Axis.{Axis}
@@ -8,7 +8,10 @@ use Rattle.expand.specs.declared.master.Master.{Master}
 use Rattle.plan_model.specs.declared.plan.Plan.{Plan}
 use Rattle.pass_run.specs.declared.step.Step.{Step}
 use Rattle.pass_run.specs.Layouts.{starts_of}
+use Rattle.pass_run.specs.Passes.{axes_of}
 use Rattle.pass_run.specs.Slack.{AreTight}
+use Rattle.pass_run.proofs.Chain.{axes_counted}
+use Rattle.compact_run.specs.Limits.{most_passes}
 use Rattle.compact_run.specs.Designs.{no_masks}
 use Rattle.compact_run.proofs.FewParts.{few_parts, few_in_all}
 use Rattle.compact_run.proofs.slack.slack.Goals as goal
@@ -25,6 +28,19 @@ pub returns-in_err-passes-clause-refused : goal.returns-in_err-passes-clause-ref
 returns-in_err-passes-clause-refused g c =
     let p = err_from_is_err_and c.from_residual-in_err-passes.result c.from_residual-in_err-passes.ensures.1 in
     rw p.1 (rw p.2 (no_masks c.in_ok-planned.planned.plan _ c.in_ok-masters.ensures.of_design (rw c.deref.ensures.value at c.in_err-passes.ensures.refused)))
+
+-- there are as many passes as axes
+few_steps : (steps : List Step) (axes : List Axis) → axes_of steps ≡ axes → length axes ≤ most_passes → length steps ≤ most_passes
+few_steps steps axes on few =
+    let counted = axes_counted steps in
+    let same = ap (λ (zs : List Axis). length zs) on in
+    omega (arith, counted, same, few)
+
+pub on_axis-requires-clause-few : goal.on_axis-requires-clause-few
+on_axis-requires-clause-few g c = few_steps c.in_ok-passes.passes.steps c.args.axes.now c.in_ok-passes.ensures.laid_out.made.on_axes c.requires.few
+
+pub on_axis-requires-2-clause-few : goal.on_axis-requires-2-clause-few
+on_axis-requires-2-clause-few g c = few_steps c.in_ok-passes.passes.steps c.args.axes.now c.in_ok-passes.ensures.laid_out.made.on_axes c.requires.few
 
 pub on_axis-requires-clause-axis : goal.on_axis-requires-clause-axis
 on_axis-requires-clause-axis g c = let C : List Axis → Type 0 = λ axes. Contains axes X in subst C (sym c.in_ok-passes.ensures.laid_out.made.on_axes) (c.requires.both X)
