@@ -23,3 +23,6 @@ mod OneAnswer
 mod FewParts
 mod SplitAlike
 mod JogLaws
+pub mod LastPass
+pub mod SlackBounds
+pub mod AxisSlack

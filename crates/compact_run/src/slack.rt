@@ -56,6 +56,7 @@ fn on_axis(
 ) -> Result<Vec<u8>, AllocError>
     requires planned { ArePlanned tech.now plan.now masters.now }
     requires axis { Contains (axes_of passes.now.steps) axis }
+    requires few { length passes.now.steps ≤ most_passes }
     requires placed { (axes : List SomeAxis) × ArePlaced tech.now plan.now masters.now axes passes.now.steps }
     requires mosts { AreMosts tech.now plan.now masters.now (starts_of tech.now masters.now) passes.now.steps passes.now.mosts }
     requires tight { AreTight tech.now plan.now masters.now (starts_of tech.now masters.now) passes.now.steps passes.now.mosts }
