@@ -26,3 +26,5 @@ mod JogLaws
 pub mod LastPass
 pub mod SlackBounds
 pub mod AxisSlack
+pub mod OneLayout
+pub mod Jogging

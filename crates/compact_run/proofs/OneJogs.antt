@@ -12,24 +12,22 @@ use Rattle.stick_parse.specs.Order.{design_of}
 use Rattle.stick_print.specs.Canonical.{canonical}
 use Rattle.stick_cell.specs.Known.{Known, cell_of, known_at}
 use Rattle.stick_cell.specs.Lines.{number_of}
-use Rattle.expand.specs.declared.master.Master.{Master}
-use Rattle.plan_model.specs.declared.plan.Plan.{Plan}
-use Rattle.pass_run.specs.declared.step.Step.{Step}
 use Rattle.jog_insert.specs.declared.script.JogLine.{JogLine}
 use Rattle.jog_insert.specs.Jogs.{IsJogged}
 use Rattle.jog_insert.specs.Scripts.{jogs_of}
-use Rattle.jog_insert.proofs.Determined.{jogged_once}
+use Rattle.jog_nets.proofs.Determined.{jogged_once}
 use Rattle.compact_run.specs.declared.status.File.TheVariants.{Design, Technology, Script}
 use Rattle.compact_run.specs.declared.status.Status.{Status}
 use Rattle.compact_run.specs.declared.status.Status.TheVariants as status
 use Rattle.compact_run.specs.FaultLines.{script_line}
 use Rattle.compact_run.specs.Refusal.{line_of}
 use Rattle.compact_run.specs.Answers.{IsTechnology, IsDesign, IsCompacted, RefusesCompact, IsScript, RefusesScript, RefusesJogs, no_layout, no_script, IsBent}
-use Rattle.compact_run.specs.Designs.{ArePlaced, masks_text, passes_text}
-use Rattle.compact_run.specs.Jogs.{IsLaidOutAs, Accepts, IsTried, accepted, rejected, AreJogs, JogsTo, accepted_line, widths_after}
+use Rattle.compact_run.specs.Designs.{masks_text, passes_text}
+use Rattle.compact_run.specs.Jogs.{IsLaidOutAs, Accepts, IsTried, accepted, rejected, AreJogs, JogsTo, accepted_line}
 use Rattle.compact_run.specs.OneAnswer.{IsDecided}
 use Rattle.compact_run.proofs.OneFile.{IsReadAs, IsNotRead, long, faulty, read_once, not_both, refused_once}
-use Rattle.compact_run.proofs.OneMaster.{same_tech, one_masters, one_passes, AreSame}
+use Rattle.compact_run.proofs.OneMaster.{same_tech, AreSame}
+use Rattle.compact_run.proofs.OneLayout.{one_layout}
 use Rattle.compact_run.proofs.OneCompact.{tech_read, sticks_read}
 use Rattle.compact_run.proofs.OneSlack.{refused_once as unlaid_once, not_refused}
 
@@ -89,19 +87,6 @@ not_bent design tech script axes files ended own output report (no_layout h) d s
     laid_out_not_refused design tech axes files ended own s.technology s.sticks s.jogs.numbers s.jogs.widths h d s.is_technology s.is_design s.jogs.laid_out
 not_bent design tech script axes files ended own output report (no_script t x is there l h) d s =
     not_both jogs_of (λ number. status.BadScript number) script_line files Script script s.lines ended (line_of ended own) (script_read files script s.lines s.is_script) (script_refused files script ended own h d)
-
--- ---- what a design is laid out as
-
-pub one_layout : (tech : Tech) (axes : List Axis) (design : Sticks) (n m : List ℕ) (w v : List ℤ) → IsLaidOutAs tech axes design n w → IsLaidOutAs tech axes design m v → (n ≡ m) × (w ≡ v)
-one_layout tech axes design n m w v a b =
-    let masters = one_masters tech design a.plan b.plan a.masters b.masters a.are_masters b.are_masters in
-    let L : Plan → List Master → Type 0 = λ z ms. ArePlaced tech z ms axes b.steps in
-    let in_masters = subst (λ ms. L b.plan ms) (sym masters.1) b.laid_out in
-    let in_plan = subst (λ z. L z a.masters) (sym masters.0) in_masters in
-    let steps : a.steps ≡ b.steps = one_passes tech a.plan a.masters axes a.steps b.steps a.laid_out.made in_plan.made in (
-      a.are_numbers ∙ (ap (λ (z : Plan). z.masters) masters.0 ∙ sym b.are_numbers),
-      a.are_widths ∙ (ap (λ (ms : List Master). widths_after tech ms a.steps) masters.1 ∙ (ap (λ (zs : List Step). widths_after tech b.masters zs) steps ∙ sym b.are_widths)),
-    )
 
 -- ---- one jog
 

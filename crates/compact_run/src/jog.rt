@@ -9,6 +9,7 @@ ghost use Rattle.design_sizes.specs.Sizes.{lines_in, names_in};
 ghost use Rattle.stick_parse.specs.Writable.{IsWritable};
 ghost use Rattle.stick_print.specs.Canonical.{canonical};
 ghost use Rattle.compact_run.specs.Limits.{most_design_bytes, most_passes};
+ghost use Rattle.compact_run.specs.declared.status.Status.TheVariants.{OutOfMemory};
 ghost use Rattle.compact_run.specs.Refusals.{Refused};
 ghost use Rattle.compact_run.specs.Designs.{HasBothAxes, RefusesDesign};
 ghost use Rattle.compact_run.specs.Jogs.{Accepts, IsKept, IsLaidOutAs, IsNoWider, IsRejected, IsNextJog, JogsTo, accepted_line, jog_head, rejected_line};
@@ -126,6 +127,23 @@ fn is_no_wider(widths: &[i64], after: &[i64]) -> bool
     true
 }
 
+// Whether a master is narrower than it was, and none is wider.
+fn is_better(widths: &[i64], after: &[i64], master: usize) -> bool
+    ensures { IsTrue result ↔ ((value_of after.now master <ℤ value_of widths.now master) × IsNoWider widths.now after.now) }
+{
+    is_narrower(widths, after, master) && is_no_wider(widths, after)
+}
+
+// Whether a refusal is for want of memory.
+fn wants_memory(refusal: &Refusal) -> bool
+    ensures { IsTrue result ↔ (refusal.now.status ≡ OutOfMemory) }
+{
+    match refusal.status {
+        Status::OutOfMemory => true,
+        _ => false,
+    }
+}
+
 // Whether the canonical text of a design is no longer than a design's text may be.
 fn is_short(alloc: Global, design: &Design) -> Result<bool, AllocError>
     ensures { IfOk result (λ is. IsTrue is ↔ (length (canonical design.now) ≤ most_design_bytes)) }
@@ -159,7 +177,7 @@ fn judged<H: Threads + Sync, G: Gate>(
     lines_are_in_the_text(&design);
     match sizes_of(rt, alloc, gate, tech, &design, axes) {
         Ok(sizes) => {
-            if is_narrower(before, &sizes.widths, master) && is_no_wider(before, &sizes.widths) {
+            if is_better(before, &sizes.widths, master) {
                 Ok(Some(Accepted {
                     design,
                     sizes,
@@ -169,11 +187,13 @@ fn judged<H: Threads + Sync, G: Gate>(
                 Ok(None)
             }
         }
-        Err(Refusal {
-            status: Status::OutOfMemory,
-            ..
-        }) => Err(AllocError),
-        Err(_) => Ok(None),
+        Err(refusal) => {
+            if wants_memory(&refusal) {
+                Err(AllocError)
+            } else {
+                Ok(None)
+            }
+        }
     }
 }
 
