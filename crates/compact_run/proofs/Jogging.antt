@@ -88,13 +88,6 @@ one_number o n m e f = let p = sym e ∙ f in cc
 pub of_call : {A B : Type 0} (f : A → B) (given of : A) (answer is : B) → given ≡ of → answer ≡ f given → answer ≡ is → f of ≡ is
 of_call f given of answer is same by told = ap f (sym same) ∙ (sym by ∙ told)
 
--- there is no cell of the name
-pub unnamed : (tech : Tech) (axes : List Axis) (design : Design) (numbers : List ℕ) (widths : List ℤ) (line : JogLine) (cells : List Known) → resolved_cells tech design ≡ Ok cells
-    → number_of cells line.cell ≡ None → IsRejected tech axes design numbers widths line
-unnamed tech axes design numbers widths line cells resolved none m new ns ws a =
-    let same = one_resolved tech design a.cells cells a.resolved resolved in
-    no_number (number_of cells line.cell) a.cell none (ap (λ (ks : List Known). number_of ks line.cell) (sym same) ∙ a.named)
-
 -- the cell that a jog is in
 cell_same : (tech : Tech) (axes : List Axis) (design : Design) (numbers : List ℕ) (widths : List ℤ) (line : JogLine) (cells : List Known) (cell m : ℕ) (new : Design) (ns : List ℕ) (ws : List ℤ)
     → resolved_cells tech design ≡ Ok cells → number_of cells line.cell ≡ Some cell → (a : Accepts tech axes design numbers widths line m new ns ws) → (a.cells ≡ cells) × (a.cell ≡ cell)
@@ -203,17 +196,6 @@ stepped tech axes i line old next None takes none after same =
     let in_design = subst (λ d. T d old.sizes) (sym same.0) (rejected none refl refl refl refl) in
     record { own = own; told = same.2; tried = subst (λ s. T next.design s) (sym same.1) in_design }
 
--- what holds of the old design and of an accepted one holds of the next one
-pub kept_on : (P : Design → Sizes → Type 0) (i : ℕ) (line : JogLine) (old next : Bent) (o : Option Accepted) → P old.design old.sizes → IfSome o (λ a. P a.design a.sizes)
-    → IfSome o (IsAfter i line old next) → IfNone o (IsAsBefore i line old next) → P next.design next.sizes
-kept_on P i line old next (Some a) before takes after same = subst (λ s. P next.design s) (sym after.1) (subst (λ d. P d a.sizes) (sym after.0) takes)
-kept_on P i line old next None before takes after same = subst (λ s. P next.design s) (sym same.1) (subst (λ d. P d old.sizes) (sym same.0) before)
-
-pub laid_on : (tech : Tech) (axes : List Axis) (line : JogLine) (old : Bent) (o : Option Accepted) → IfSome o (AcceptsNext tech axes line old)
-    → IfSome o (λ a. IsLaidOutAs tech axes a.design a.sizes.numbers.items a.sizes.widths.items)
-laid_on tech axes line old (Some a) takes = takes.kept.laid_out
-laid_on tech axes line old None takes = tt
-
 -- what is told of each next one
 pub stepped_all : {E : Type 0} (tech : Tech) (axes : List Axis) (i : ℕ) (line : JogLine) (old : Bent) (o : Option Accepted) (r : Result Bent E) → IfSome o (AcceptsNext tech axes line old)
     → IfNone o (IsRejected tech axes old.design old.sizes.numbers.items old.sizes.widths.items line) → IfOk r (λ next. IfSome o (IsAfter i line old next))
@@ -237,10 +219,6 @@ jogs_more tech axes i (first ∷ lines) line design mid last n m q w u v report 
     let there : IsTried tech axes (suc i + length lines) line mid m u last q v own = subst (λ (k : ℕ). IsTried tech axes k line mid m u last q v own) (omega arith) tried in
     let behind = jogs_more tech axes (suc i) lines line new mid last c m q x u v rest own more there in
     (new, c, x, its, rest ++ own, one, behind, ap (λ (z : Bytes). z ++ own) e ∙ append_assoc its rest own)
-
--- none so far
-pub no_jogs : (tech : Tech) (axes : List Axis) (i : ℕ) (design : Design) (n : List ℕ) (w : List ℤ) (report : Bytes) → report ≡ [] → AreJogs tech axes i [] design n w design n w report
-no_jogs tech axes i design n w report e = (refl, refl, refl, e)
 
 -- one more of a script
 pub jogs_next : (tech : Tech) (axes : List Axis) (lines : List JogLine) (i : ℕ) (d line : JogLine) (design : Design) (n : List ℕ) (w : List ℤ) (old next : Bent) → i < length lines

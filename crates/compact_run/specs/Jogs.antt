@@ -1,5 +1,5 @@
 -- What `jog` writes: the design after a script of jogs, each of which is kept where it makes its cell narrower and no cell wider.
-use Rattle.std.specs.Prelude.{◌≡◌, ℕ, suc, ◌<◌, ◌≤◌, ◌==◌, ℤ, ◌<ℤ◌, ◌≤ℤ◌, Some, Ok, List, [], ◌∷◌, ◌++◌, length, map, position, codes, decimal}
+use Rattle.std.specs.Prelude.{◌≡◌, ℕ, suc, ◌≤◌, ◌==◌, ℤ, ◌<ℤ◌, ◌≤ℤ◌, Some, List, [], ◌∷◌, ◌++◌, length, map, position, Ok, codes, decimal}
 use Rattle.std.specs.Fmt.{signed_decimal}
 use Rattle.lam_geom.specs.declared.boxes.Axis.{Axis}
 use Rattle.lam_geom.specs.declared.boxes.Axis.TheVariants.{X}
