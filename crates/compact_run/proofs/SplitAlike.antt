@@ -5,7 +5,7 @@ use Rattle.lam_io.specs.Io.{Bytes, Files}
 use Rattle.run_words.specs.Words.{Command, compact, command_of}
 use Rattle.compact_run.specs.declared.status.Status.{Status}
 use Rattle.compact_run.specs.declared.cif.CifJob.TheVariants.{Extract, Check}
-use Rattle.compact_run.specs.Answers.{IsCompacted, RefusesWords, WordsWrite, IsAnswer, compacted, told, formatted, benched, refused, output_failed, report_failed}
+use Rattle.compact_run.specs.Answers.{IsCompacted, RefusesWords, WordsWrite, IsAnswer, compacted, told, formatted, benched, measured, jogged, refused, output_failed, report_failed}
 use Rattle.compact_run.specs.Splits.{SplitsAnswerAlike}
 
 -- what is done, if it is `compact`
@@ -25,6 +25,8 @@ splits_answer_alike words others design tech axes split other_split e f files en
 splits_answer_alike words others design tech axes split other_split e f files ended output report (told Check cif t is done x none) = absurd (subst IsOther (sym is ∙ e) tt)
 splits_answer_alike words others design tech axes split other_split e f files ended output report (formatted d is done x none) = absurd (subst IsOther (sym is ∙ e) tt)
 splits_answer_alike words others design tech axes split other_split e f files ended output report (benched n is done x none) = absurd (subst IsOther (sym is ∙ e) tt)
+splits_answer_alike words others design tech axes split other_split e f files ended output report (measured d t a is done x none) = absurd (subst IsOther (sym is ∙ e) tt)
+splits_answer_alike words others design tech axes split other_split e f files ended output report (jogged d t s a is done x) = absurd (subst IsOther (sym is ∙ e) tt)
 splits_answer_alike words others design tech axes split other_split e f files ended output report (refused own why o r) =
     let R : Option Command → Type 0 = λ z. RefusesWords z files ended own in
     refused own (subst R (sym f) (subst R e why)) o r

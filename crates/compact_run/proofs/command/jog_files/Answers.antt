@@ -1,5 +1,8 @@
+use Rattle.std.proofs.Common.{List, subst}
 use Rattle.std.proofs.lemmas.Result.{err_from_is_err_and}
-use Rattle.compact_run.specs.Answers.{IsLaidOut, no_technology, no_design, no_masks, no_layout, no_script}
+use Rattle.jog_insert.specs.declared.script.JogLine.{JogLine}
+use Rattle.compact_run.specs.Jogs.{JogsTo}
+use Rattle.compact_run.specs.Answers.{IsLaidOut, text_of, no_technology, no_design, no_masks, no_layout, no_script}
 use Rattle.compact_run.proofs.Steps.{asked, telling_after}
 use Rattle.compact_run.proofs.command.jog_files.Goals as goal
 
@@ -32,5 +35,7 @@ pub returns-clause-given : goal.returns-clause-given
 returns-clause-given g c = λ t told.
     let then = telling_after _ _ _ t told (asked _ _ _ c.in_ok-technology.ensures.asked) in
     let last = telling_after _ _ _ _ then (asked _ _ _ c.in_ok-sticks.ensures.asked) in
+    let J : List JogLine → Type 0 = λ lines. JogsTo c.in_ok-technology.technology c.args.axes.now c.in_ok-sticks.sticks lines (text_of c.in_ok-jog.field-0) c.in_ok-jog.field-0.report in
+    let jogs : J c.in_ok-lines.lines.items = subst J c.deref.ensures.value c.in_ok-jog.ensures in
     record { technology = c.in_ok-technology.technology; is_technology = c.in_ok-technology.ensures.technology t told; sticks = c.in_ok-sticks.sticks;
-      is_design = c.in_ok-sticks.ensures.design _ then; lines = c.in_ok-lines.lines.items; is_script = c.in_ok-lines.ensures.script _ last; jogs = c.in_ok-jog.ensures }
+      is_design = c.in_ok-sticks.ensures.design _ then; lines = c.in_ok-lines.lines.items; is_script = c.in_ok-lines.ensures.script _ last; jogs = jogs }
