@@ -1,12 +1,13 @@
 -- Laws on all jogs.
-use Rattle.std.proofs.Common.{◌≡◌, ◌↔◌, ℕ, suc, ℤ, ◌≤ℤ◌, List, [], ◌∷◌, sym, ap, subst, arith, ints}
+use Rattle.std.proofs.Common.{◌≡◌, ℕ, suc, ℤ, ◌≤ℤ◌, List, [], ◌∷◌, sym, ap, subst, arith}
+use Rattle.std.proofs.lemmas.Int.{ints}
 use Rattle.cons_graph.specs.Solutions.{value_of}
 use Rattle.lam_geom.specs.declared.boxes.Axis.{Axis}
-use Rattle.lam_io.specs.Io.{Bytes, Files}
+use Rattle.lam_io.specs.Io.{Bytes}
 use Rattle.rule_table.specs.declared.technology.Tech.{Tech}
 use Rattle.stick_parse.specs.declared.design.Design.{Design as Sticks}
 use Rattle.jog_insert.specs.declared.script.JogLine.{JogLine}
-use Rattle.compact_run.specs.Jogs.{IsLaidOutAs, IsNoWider, IsTried, accepted, rejected, AreJogs, JogsTo}
+use Rattle.compact_run.specs.Jogs.{IsLaidOutAs, IsNoWider, IsTried, accepted, rejected, AreJogs}
 use Rattle.compact_run.specs.JogLaws.{JogsWidenNoCell}
 
 below : (a b c : ℤ) → a ≤ℤ b → b ≤ℤ c → a ≤ℤ c

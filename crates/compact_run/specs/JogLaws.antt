@@ -1,5 +1,5 @@
 -- What holds of all jogs.
-use Rattle.std.specs.Prelude.{◌≡◌, ◌↔◌, ℕ, ℤ, Bool, List}
+use Rattle.std.specs.Prelude.{◌↔◌, ℕ, ℤ, Bool, List}
 use Rattle.lam_geom.specs.declared.boxes.Axis.{Axis}
 use Rattle.lam_io.specs.Io.{Bytes, Files}
 use Rattle.rule_table.specs.declared.technology.Tech.{Tech}

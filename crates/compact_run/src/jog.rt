@@ -1,6 +1,6 @@
 //! Jogs: a script bends wires of a design, and each bend is kept where it makes its cell narrower and no cell wider.
 
-ghost use Rattle.std.specs.Prelude.{◌≡◌, ℕ, ℤ, ◌+◌, ◌<◌, ◌≤◌, ◌==◌, ◌<ℤ◌, ◌^◌, ◌↔◌, ◌++◌, ◌∷◌, List, length, map, position, OnOk, IfOk, IfErr, IfSome, IfNone, IsTrue};
+ghost use Rattle.std.specs.Prelude.{◌≡◌, ℕ, ℤ, ◌<◌, ◌≤◌, ◌==◌, ◌<ℤ◌, ◌^◌, ◌↔◌, ◌++◌, List, length, map, position, OnOk, IfOk, IfErr, IfSome, IfNone, IsTrue};
 ghost use Rattle.std.specs.List.{range_with_len};
 ghost use Rattle.cons_graph.specs.Solutions.{value_of};
 ghost use Rattle.lam_geom.specs.declared.boxes.Axis.TheVariants.{X};
@@ -237,7 +237,14 @@ fn tried<H: Threads + Sync, G: Gate>(
         return Ok(None);
     };
     match insert(
-        alloc, design, &cells, &sizes.numbers, cell, line.k, line.r, line.left,
+        alloc,
+        design,
+        &cells,
+        &sizes.numbers,
+        cell,
+        line.k,
+        line.r,
+        line.left,
     )? {
         Some(new) => judged(rt, alloc, gate, tech, axes, &sizes.widths, master, new),
         None => Ok(None),
@@ -278,7 +285,12 @@ fn push_rejected(out: &mut Vec<u8>, i: usize, line: &JogLine) -> Result<(), Allo
 }
 
 // The jogs so far and one more, which has this number.
-fn with_jog(so_far: Bent, i: usize, line: &JogLine, accepted: Option<Accepted>) -> Result<Bent, AllocError>
+fn with_jog(
+    so_far: Bent,
+    i: usize,
+    line: &JogLine,
+    accepted: Option<Accepted>,
+) -> Result<Bent, AllocError>
     ensures accepted { IfOk result (λ next. IfSome accepted (λ a. (next.design ≡ a.design) × (next.sizes ≡ a.sizes)
         × (next.report.items ≡ so_far.report.items ++ accepted_line i line.now (value_of so_far.sizes.widths.items a.master) (value_of a.sizes.widths.items a.master)))) }
     ensures rejected { IfOk result (λ next. IfNone accepted ((next.design ≡ so_far.design) × (next.sizes ≡ so_far.sizes)
@@ -335,7 +347,14 @@ fn go_on<H: Threads + Sync, G: Gate>(
     ensures laid_out { IfOk result (λ next. IsLaidOutAs tech.now axes.now next.design next.sizes.numbers.items next.sizes.widths.items) }
 {
     let accepted = tried(
-        rt, alloc, gate, tech, axes, &so_far.design, &so_far.sizes, line,
+        rt,
+        alloc,
+        gate,
+        tech,
+        axes,
+        &so_far.design,
+        &so_far.sizes,
+        line,
     )?;
     with_jog(so_far, i, line, accepted)
 }
