@@ -1,14 +1,30 @@
 -- Laws on all jogs.
-use Rattle.std.proofs.Common.{◌≡◌, ℕ, suc, ℤ, ◌≤ℤ◌, List, [], ◌∷◌, sym, ap, subst, arith}
+use Rattle.std.proofs.Common.{◌≡◌, ℕ, suc, ℤ, ◌≤ℤ◌, Ok, List, [], ◌∷◌, refl, sym, ap, ◌∙◌, subst, arith}
 use Rattle.std.proofs.lemmas.Int.{ints}
 use Rattle.cons_graph.specs.Solutions.{value_of}
 use Rattle.lam_geom.specs.declared.boxes.Axis.{Axis}
 use Rattle.lam_io.specs.Io.{Bytes}
 use Rattle.rule_table.specs.declared.technology.Tech.{Tech}
 use Rattle.stick_parse.specs.declared.design.Design.{Design as Sticks}
+use Rattle.stick_parse.specs.Order.{design_of}
+use Rattle.stick_parse.specs.Writable.{IsWritable}
+use Rattle.stick_parse.proofs.Shapes.{design_read}
+use Rattle.stick_print.specs.Canonical.{canonical}
+use Rattle.stick_print.specs.ReadBack.{laid_out}
+use Rattle.stick_print.proofs.Whole.{said_by_canonical}
+use Rattle.cell_model.specs.declared.cell.Cell.{Cell}
+use Rattle.design_sizes.proofs.Numbered.{set_once}
+use Rattle.jog_insert.specs.Jogs.{IsJogged}
 use Rattle.jog_insert.specs.declared.script.JogLine.{JogLine}
-use Rattle.compact_run.specs.Jogs.{IsLaidOutAs, IsNoWider, IsTried, accepted, rejected, AreJogs}
-use Rattle.compact_run.specs.JogLaws.{JogsWidenNoCell}
+use Rattle.compact_run.specs.Jogs.{widths_after, IsLaidOutAs, IsNoWider, IsTried, accepted, rejected, AreJogs}
+use Rattle.compact_run.specs.JogLaws.{JogsWidenNoCell, AreJudgedAsTexts}
+use Rattle.compact_run.specs.declared.status.File.TheVariants.{Design}
+use Rattle.compact_run.specs.Fetches.{HasFile}
+use Rattle.compact_run.specs.Answers.{IsTechnology, IsDesign, IsCompacted}
+use Rattle.compact_run.specs.Designs.{masks_text, passes_text}
+use Rattle.compact_run.proofs.OneFile.{read_once}
+use Rattle.compact_run.proofs.OneMaster.{same_tech}
+use Rattle.compact_run.proofs.OneCompact.{tech_read, sticks_read}
 
 below : (a b c : ℤ) → a ≤ℤ b → b ≤ℤ c → a ≤ℤ c
 below a b c p q = omega (arith, ints, p, q)
@@ -43,3 +59,40 @@ all_well tech axes i (line ∷ lines) design last n m w v report laid (new, c, x
 
 pub widen_no_cell : JogsWidenNoCell
 widen_no_cell tech axes design lines output report j = all_well tech axes 0 lines design j.last j.numbers j.last_numbers j.widths j.at_last report j.laid_out j.jogs
+
+-- ---- a jogged design and its text
+
+-- the design that a jog makes is that of its text
+reads_itself : (new old : Sticks) → new ≡ laid_out old → IsWritable new → design_of (canonical new) ≡ Ok new
+reads_itself new old made writable =
+    let once : laid_out new ≡ new = ap laid_out made ∙ (set_once old ∙ sym made) in
+    design_read (canonical new) (laid_out new) (said_by_canonical new writable) ∙ ap Ok once
+
+abbrev IsLaidOutSo : Tech → List Axis → Sticks → Type 0
+IsLaidOutSo technology axes design = (numbers : List ℕ) × (widths : List ℤ) × IsLaidOutAs technology axes design numbers widths
+
+abbrev CompactsSo : Bytes → Bytes → List Axis → Files → Type 0
+CompactsSo name tech axes files = (output : Bytes) × (report : Bytes) × IsCompacted name tech axes files output report
+
+compacts : (technology : Tech) (axes : List Axis) (files : Files) (name tech : Bytes) (design : Sticks) → IsDesign files name design → IsTechnology files tech technology
+    → IsLaidOutSo technology axes design → CompactsSo name tech axes files
+compacts technology axes files name tech design is_design is_technology (numbers, widths, s) =
+    (masks_text technology s.plan s.masters s.steps, passes_text technology s.plan s.masters s.steps, record {
+      technology = technology; is_technology = is_technology; sticks = design; is_design = is_design;
+      compacts = record { plan = s.plan; masters = s.masters; are_masters = s.are_masters; steps = s.steps; laid_out = s.laid_out; written = refl; reported = refl } })
+
+is_laid_out : (technology : Tech) (axes : List Axis) (files : Files) (name tech : Bytes) (design : Sticks) → IsDesign files name design → IsTechnology files tech technology
+    → CompactsSo name tech axes files → IsLaidOutSo technology axes design
+is_laid_out technology axes files name tech design is_design is_technology (output, report, c) =
+    let one_technology : c.technology ≡ technology =
+      same_tech c.technology technology (read_once _ files _ tech _ _ (tech_read files tech c.technology c.is_technology) (tech_read files tech technology is_technology)) in
+    let one_design : c.sticks ≡ design = read_once design_of files Design name c.sticks design (sticks_read files name c.sticks c.is_design) (sticks_read files name design is_design) in
+    let s = c.compacts in
+    let here : IsLaidOutSo c.technology axes c.sticks = (s.plan.masters, widths_after c.technology s.masters s.steps, record {
+      plan = s.plan; masters = s.masters; are_masters = s.are_masters; steps = s.steps; laid_out = s.laid_out; are_numbers = refl; are_widths = refl }) in
+    subst (λ (d : Sticks). IsLaidOutSo technology axes d) one_design (subst (λ (t : Tech). IsLaidOutSo t axes c.sticks) one_technology here)
+
+pub judged_as_texts : AreJudgedAsTexts
+judged_as_texts design new content masters cell k row left jogged writable technology axes files name tech file is_technology =
+    let is_design : IsDesign files name new = record { text = canonical new; file = file; read = reads_itself new _ jogged.made writable } in
+    (compacts technology axes files name tech new is_design is_technology, is_laid_out technology axes files name tech new is_design is_technology)
