@@ -46,7 +46,7 @@ pub record AreMarked (lines : List Line) (taken : List Bool) : Type 0 where
 abbrev pub marks_in : List Bool → ℕ
 marks_in marks = sum_by (λ is_marked. if is_marked then 1 else 0) marks
 
--- the numbers of jogs with a joint of this name are marked, and nothing else changes; of the numbers, mark n is the one
+-- the numbers of jogs with a joint of this name are marked, and nothing else changes; there is at most one mark more
 pub record Marks (name : List ℕ) (old new : List Bool) : Type 0 where
   pub size : length new ≡ length old
   pub kept : (n : ℕ) → n < length old → slice_index_or old n false ≡ true → slice_index_or new n false ≡ true

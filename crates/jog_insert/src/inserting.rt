@@ -164,7 +164,6 @@ pub fn insert(
     requires resolved { IsResolved cells.now }
     requires of { cells.now.design.now ≡ design.now }
     requires within { cell < length (known_of cells.now) }
-    requires masters { All (λ m. m < length (known_of cells.now)) masters.now }
     requires light { All (λ m. weight_of (known_at (known_of cells.now) m) ≤ 65536) masters.now }
     requires few { lines_in design.now ≤ 2 ^ 30 }
     ensures jogged { IfOk result (λ done. MatchOption done
