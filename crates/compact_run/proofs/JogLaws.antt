@@ -3,7 +3,7 @@ use Rattle.std.proofs.Common.{◌≡◌, ℕ, suc, ℤ, ◌≤ℤ◌, Ok, List, 
 use Rattle.std.proofs.lemmas.Int.{ints}
 use Rattle.cons_graph.specs.Solutions.{value_of}
 use Rattle.lam_geom.specs.declared.boxes.Axis.{Axis}
-use Rattle.lam_io.specs.Io.{Bytes}
+use Rattle.lam_io.specs.Io.{Bytes, Files}
 use Rattle.rule_table.specs.declared.technology.Tech.{Tech}
 use Rattle.stick_parse.specs.declared.design.Design.{Design as Sticks}
 use Rattle.stick_parse.specs.Order.{design_of}

@@ -15,7 +15,7 @@ use Rattle.pass_run.specs.declared.step.Step.{Step}
 use Rattle.pass_run.specs.Layouts.{starts_of}
 use Rattle.pass_run.specs.Slack.{IsMostAfter}
 use Rattle.pass_run.proofs.Determined.{one_most}
-use Rattle.pass_run.proofs.Told.{last_once}
+use Rattle.pass_run.proofs.Lasts.{last_once}
 use Rattle.slack_text.specs.Slack.{axis_slack}
 use Rattle.compact_run.specs.declared.status.File.TheVariants.{Design, Technology}
 use Rattle.compact_run.specs.declared.status.Status.{Status}

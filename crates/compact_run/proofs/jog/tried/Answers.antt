@@ -17,13 +17,6 @@ returns-in_default-master_of-clause-rejected g c =
     let none = of_call (position (λ n. n == c.in-Some.cell)) c.deref.result.now sizes.numbers.items c.master_of.result None c.deref.ensures.value c.master_of.ensures c.in_default-master_of.is in
     no_master c.args.tech.now c.args.axes.now c.args.design.now sizes.numbers.items sizes.widths.items c.args.line.now cells c.in-Some.cell c.in-Ok.ensures.cells named none
 
-pub insert-requires-clause-masters : goal.insert-requires-clause-masters
-insert-requires-clause-masters g c =
-    let cells : List Known = known_of c.in-Ok.cells in
-    let sizes = c.args.sizes.now in
-    let light = light_numbers c.args.tech.now c.args.axes.now c.args.design.now cells sizes.numbers.items sizes.widths.items c.requires.writable c.in-Ok.ensures.cells c.requires.laid_out in
-    subst (λ (ns : List ℕ). All (λ m. m < length cells) ns) (sym c.deref-2.ensures.value) light.among
-
 pub judged-requires-clause-few_names : goal.judged-requires-clause-few_names
 judged-requires-clause-few_names g c κs within =
     few_names c.args.design.now c.in-Some-2.new (2 ^ 19) (rw c.in-Some-2.is at c.in_ok-new.ensures.grids) c.requires.few_names
