@@ -12,14 +12,11 @@ use Rattle.stick_parse.proofs.Shapes.{design_read}
 use Rattle.stick_print.specs.Canonical.{canonical}
 use Rattle.stick_print.specs.ReadBack.{laid_out}
 use Rattle.stick_print.proofs.Whole.{said_by_canonical}
-use Rattle.cell_model.specs.declared.cell.Cell.{Cell}
 use Rattle.design_sizes.proofs.Numbered.{set_once}
-use Rattle.jog_insert.specs.Jogs.{IsJogged}
 use Rattle.jog_insert.specs.declared.script.JogLine.{JogLine}
 use Rattle.compact_run.specs.Jogs.{widths_after, IsLaidOutAs, IsNoWider, IsTried, accepted, rejected, AreJogs}
 use Rattle.compact_run.specs.JogLaws.{JogsWidenNoCell, AreJudgedAsTexts}
 use Rattle.compact_run.specs.declared.status.File.TheVariants.{Design}
-use Rattle.compact_run.specs.Fetches.{HasFile}
 use Rattle.compact_run.specs.Answers.{IsTechnology, IsDesign, IsCompacted}
 use Rattle.compact_run.specs.Designs.{masks_text, passes_text}
 use Rattle.compact_run.proofs.OneFile.{read_once}
@@ -76,20 +73,38 @@ CompactsSo name tech axes files = (output : Bytes) × (report : Bytes) × IsComp
 
 compacts : (technology : Tech) (axes : List Axis) (files : Files) (name tech : Bytes) (design : Sticks) → IsDesign files name design → IsTechnology files tech technology
     → IsLaidOutSo technology axes design → CompactsSo name tech axes files
-compacts technology axes files name tech design is_design is_technology (numbers, widths, s) =
-    (masks_text technology s.plan s.masters s.steps, passes_text technology s.plan s.masters s.steps, record {
-      technology = technology; is_technology = is_technology; sticks = design; is_design = is_design;
-      compacts = record { plan = s.plan; masters = s.masters; are_masters = s.are_masters; steps = s.steps; laid_out = s.laid_out; written = refl; reported = refl } })
+compacts technology axes files name tech design is_design is_technology (numbers, widths, s) = (
+  masks_text technology s.plan s.masters s.steps,
+  passes_text technology s.plan s.masters s.steps,
+  record {
+    technology = technology;
+    is_technology = is_technology;
+    sticks = design;
+    is_design = is_design;
+    compacts = record { plan = s.plan; masters = s.masters; are_masters = s.are_masters; steps = s.steps; laid_out = s.laid_out; written = refl; reported = refl };
+  },
+)
 
 is_laid_out : (technology : Tech) (axes : List Axis) (files : Files) (name tech : Bytes) (design : Sticks) → IsDesign files name design → IsTechnology files tech technology
     → CompactsSo name tech axes files → IsLaidOutSo technology axes design
 is_laid_out technology axes files name tech design is_design is_technology (output, report, c) =
     let one_technology : c.technology ≡ technology =
-      same_tech c.technology technology (read_once _ files _ tech _ _ (tech_read files tech c.technology c.is_technology) (tech_read files tech technology is_technology)) in
+    same_tech c.technology technology (read_once _ files _ tech _ _ (tech_read files tech c.technology c.is_technology) (tech_read files tech technology is_technology)) in
     let one_design : c.sticks ≡ design = read_once design_of files Design name c.sticks design (sticks_read files name c.sticks c.is_design) (sticks_read files name design is_design) in
     let s = c.compacts in
-    let here : IsLaidOutSo c.technology axes c.sticks = (s.plan.masters, widths_after c.technology s.masters s.steps, record {
-      plan = s.plan; masters = s.masters; are_masters = s.are_masters; steps = s.steps; laid_out = s.laid_out; are_numbers = refl; are_widths = refl }) in
+    let here : IsLaidOutSo c.technology axes c.sticks = (
+      s.plan.masters,
+      widths_after c.technology s.masters s.steps,
+      record {
+        plan = s.plan;
+        masters = s.masters;
+        are_masters = s.are_masters;
+        steps = s.steps;
+        laid_out = s.laid_out;
+        are_numbers = refl;
+        are_widths = refl;
+      },
+    ) in
     subst (λ (d : Sticks). IsLaidOutSo technology axes d) one_design (subst (λ (t : Tech). IsLaidOutSo t axes c.sticks) one_technology here)
 
 pub judged_as_texts : AreJudgedAsTexts

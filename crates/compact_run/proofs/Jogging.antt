@@ -1,6 +1,6 @@
 -- One jog after another.
 use Rattle.std.proofs.Common.{◌≡◌, ℕ, suc, ◌+◌, ◌<◌, ◌≤◌, ℤ, ◌<ℤ◌, ◌≤ℤ◌, Option, Some, None, Result, Ok, Err, List, [], ◌∷◌, ◌++◌, length, map, take, get_or, refl, sym, ap, ◌∙◌, subst, arith}
-use Rattle.std.specs.Prelude.{All, IfOk, IfSome, IfNone, ◌==◌, position}
+use Rattle.std.specs.Prelude.{IfOk, IfSome, IfNone, ◌==◌, position}
 use Rattle.std.specs.List.{sum_by}
 use Rattle.std.proofs.lemmas.List.{append_assoc, append-nil, length-take-le, take_more}
 use Rattle.std.proofs.lemmas.List.Sums.{sum_by-cons}
@@ -11,11 +11,9 @@ use Rattle.rule_table.specs.declared.technology.Tech.{Tech}
 use Rattle.stick_parse.specs.declared.design.RowText.{RowText}
 use Rattle.stick_parse.specs.declared.design.GridText.{GridText}
 use Rattle.stick_parse.specs.declared.design.Design.{Design}
-use Rattle.stick_parse.specs.Writable.{IsWritable}
 use Rattle.stick_print.specs.Canonical.{canonical}
 use Rattle.stick_print.specs.ReadBack.{without_line}
 use Rattle.design_sizes.specs.Sizes.{names_in, names_in_grid, names_in_row}
-use Rattle.stick_cell.specs.Counts.{weight_of}
 use Rattle.stick_cell.specs.Known.{Known, cell_of, known_at}
 use Rattle.stick_cell.specs.Lines.{number_of}
 use Rattle.stick_cell.specs.Grids.{resolved_cells}
@@ -29,8 +27,6 @@ use Rattle.compact_run.specs.declared.output.Output.{Output}
 use Rattle.compact_run.specs.Jogs.{IsLaidOutAs, IsKept, Accepts, IsRejected, IsTried, accepted, rejected, AreJogs, IsNextJog, JogsTo, accepted_line, rejected_line}
 use Rattle.compact_run.specs.Answers.{text_of}
 use Rattle.compact_run.proofs.OneLayout.{one_layout}
-use Rattle.compact_run.proofs.Planned.{are_chosen}
-use Rattle.compact_run.proofs.Weights.{light_each}
 
 -- ---- what a new design keeps
 
@@ -53,28 +49,10 @@ same_grids (a ∷ as_) (b ∷ bs) e =
 pub few_names : (old new : Design) (most : ℕ) → map without_line new.grids ≡ map without_line old.grids → names_in old ≤ most → names_in new ≤ most
 few_names old new most e few = let same = same_grids new.grids old.grids e in omega (arith, same, few)
 
--- ---- the masters
-
-pub record AreLightNumbers (cells : List Known) (numbers : List ℕ) : Type 0 where
-  pub among : All (λ m. m < length cells) numbers
-  pub light : All (λ m. weight_of (known_at cells m) ≤ 65536) numbers
+-- ---- the cells
 
 one_resolved : (tech : Tech) (design : Design) (cells others : List Known) → resolved_cells tech design ≡ Ok cells → resolved_cells tech design ≡ Ok others → cells ≡ others
 one_resolved tech design cells others a b = let e = sym a ∙ b in cc
-
--- the masters of a design that is laid out are among its cells, and not too heavy
-pub light_numbers : (tech : Tech) (axes : List Axis) (design : Design) (cells : List Known) (numbers : List ℕ) (widths : List ℤ) → IsWritable design → resolved_cells tech design ≡ Ok cells
-    → IsLaidOutAs tech axes design numbers widths → AreLightNumbers cells numbers
-light_numbers tech axes design cells numbers widths writable resolved s =
-    let m = s.are_masters in
-    let same : m.cells ≡ cells = one_resolved tech design m.cells cells m.planned.resolved resolved in
-    let own : AreLightNumbers m.cells s.plan.masters = record {
-      among = (are_chosen m.cells design s.plan writable m.planned.planned).masters;
-      light = light_each (λ k. weight_of (known_at m.cells k)) s.plan.masters 65536 m.light.items;
-    } in
-    let L : List Known → Type 0 = λ ks. AreLightNumbers ks s.plan.masters in
-    let N : List ℕ → Type 0 = λ ns. AreLightNumbers cells ns in
-    subst N (sym s.are_numbers) (subst L same own)
 
 -- ---- no jog
 

@@ -1,11 +1,9 @@
 -- The number of pieces changes no answer: no case of an answer speaks of it.
-use Rattle.std.proofs.Common.{◌≡◌, ℕ, List, Option, Some, sym, ◌∙◌, subst}
-use Rattle.lam_geom.specs.declared.boxes.Axis.{Axis}
+use Rattle.std.proofs.Common.{Option, Some, sym, ◌∙◌, subst}
 use Rattle.lam_io.specs.Io.{Bytes, Files}
-use Rattle.run_words.specs.Words.{Command, compact, command_of}
-use Rattle.compact_run.specs.declared.status.Status.{Status}
+use Rattle.run_words.specs.Words.{Command, compact}
 use Rattle.compact_run.specs.declared.cif.CifJob.TheVariants.{Extract, Check}
-use Rattle.compact_run.specs.Answers.{IsCompacted, RefusesWords, WordsWrite, IsAnswer, compacted, told, formatted, benched, measured, jogged, refused, output_failed, report_failed}
+use Rattle.compact_run.specs.Answers.{IsCompacted, RefusesWords, WordsWrite, compacted, told, formatted, benched, measured, jogged, refused, output_failed, report_failed}
 use Rattle.compact_run.specs.Splits.{SplitsAnswerAlike}
 
 -- what is done, if it is `compact`

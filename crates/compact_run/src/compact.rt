@@ -79,6 +79,16 @@ pub fn compact<H: Threads + Sync, G: Gate>(
 {
     let planned = plan_of(alloc, tech, design)?;
     let masters = masters_of(alloc, tech, design, &planned)?;
-    let passes = lay_out(rt, alloc, gate, tech, &planned.plan, &masters, axes, split, false)?;
+    let passes = lay_out(
+        rt,
+        alloc,
+        gate,
+        tech,
+        &planned.plan,
+        &masters,
+        axes,
+        split,
+        false,
+    )?;
     Ok(written(alloc, tech, &planned.plan, &masters, passes)?)
 }

@@ -16,6 +16,7 @@ pub const MOST_DESIGN: u64 = 1_048_576;
 const MOST_TECHNOLOGY: u64 = 65_536;
 
 const MOST_CIF: u64 = 67_108_864;
+
 const MOST_SCRIPT: u64 = 65_536;
 
 // The most bytes that a file may have.

@@ -88,7 +88,17 @@ pub fn slack<H: Threads + Sync, G: Gate>(
 {
     let planned = plan_of(alloc, tech, design)?;
     let masters = masters_of(alloc, tech, design, &planned)?;
-    let passes = lay_out(rt, alloc, gate, tech, &planned.plan, &masters, axes, 1, true)?;
+    let passes = lay_out(
+        rt,
+        alloc,
+        gate,
+        tech,
+        &planned.plan,
+        &masters,
+        axes,
+        1,
+        true,
+    )?;
     let mut text = on_axis(alloc, tech, &planned.plan, &masters, &passes, Axis::X)?;
     let on_y = on_axis(alloc, tech, &planned.plan, &masters, &passes, Axis::Y)?;
     text.extend_from_slice(&on_y)?;

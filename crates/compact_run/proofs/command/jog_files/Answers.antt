@@ -37,5 +37,12 @@ returns-clause-given g c = λ t told.
     let last = telling_after _ _ _ _ then (asked _ _ _ c.in_ok-sticks.ensures.asked) in
     let J : List JogLine → Type 0 = λ lines. JogsTo c.in_ok-technology.technology c.args.axes.now c.in_ok-sticks.sticks lines (text_of c.in_ok-jog.field-0) c.in_ok-jog.field-0.report in
     let jogs : J c.in_ok-lines.lines.items = subst J c.deref.ensures.value c.in_ok-jog.ensures in
-    record { technology = c.in_ok-technology.technology; is_technology = c.in_ok-technology.ensures.technology t told; sticks = c.in_ok-sticks.sticks;
-      is_design = c.in_ok-sticks.ensures.design _ then; lines = c.in_ok-lines.lines.items; is_script = c.in_ok-lines.ensures.script _ last; jogs = jogs }
+    record {
+      technology = c.in_ok-technology.technology;
+      is_technology = c.in_ok-technology.ensures.technology t told;
+      sticks = c.in_ok-sticks.sticks;
+      is_design = c.in_ok-sticks.ensures.design _ then;
+      lines = c.in_ok-lines.lines.items;
+      is_script = c.in_ok-lines.ensures.script _ last;
+      jogs = jogs;
+    }

@@ -20,6 +20,7 @@ returns-in_err-text-clause-given g c = λ t told.
 pub returns-clause-given : goal.returns-clause-given
 returns-clause-given g c = λ t told.
     let then = telling_after _ _ _ t told (asked _ _ _ c.in_ok-technology.ensures.asked) in
-    let slacks = subst (SlacksTo c.in_ok-technology.technology c.args.axes.now c.in_ok-sticks.sticks) (sym c.in_ok-in_one_piece.ensures.text) c.in_ok-text.ensures.done in
-    (record { technology = c.in_ok-technology.technology; is_technology = c.in_ok-technology.ensures.technology t told; sticks = c.in_ok-sticks.sticks; is_design = c.in_ok-sticks.ensures.design _ then; slacks = slacks },
-      c.in_ok-in_one_piece.ensures.report)
+    let slacks = subst (SlacksTo c.in_ok-technology.technology c.args.axes.now c.in_ok-sticks.sticks) (sym c.in_ok-in_one_piece.ensures.text) c.in_ok-text.ensures.done in (
+      record { technology = c.in_ok-technology.technology; is_technology = c.in_ok-technology.ensures.technology t told; sticks = c.in_ok-sticks.sticks; is_design = c.in_ok-sticks.ensures.design _ then; slacks = slacks },
+      c.in_ok-in_one_piece.ensures.report,
+    )

@@ -1,12 +1,12 @@
-use Rattle.std.proofs.Common.{ℕ, ◌<◌, ◌≤◌, ◌^◌, List, Some, None, length, sym, subst}
-use Rattle.std.specs.Prelude.{All, ◌==◌, position}
+use Rattle.std.proofs.Common.{ℕ, ◌≤◌, ◌^◌, List, Some, None, subst}
+use Rattle.std.specs.Prelude.{◌==◌, position}
 use Rattle.design_sizes.specs.Sizes.{names_in}
 use Rattle.stick_parse.specs.declared.design.Design.{Design}
 use Rattle.stick_cell.specs.Known.{Known, cell_of, known_at}
 use Rattle.stick_cell.specs.Lines.{number_of}
 use Rattle.stick_cell.specs.Tables.{known_of}
 use Rattle.jog_insert.specs.Jogs.{IsJogged}
-use Rattle.compact_run.proofs.Jogging.{of_call, few_names, light_numbers, no_master, no_jog, not_kept, kept_with, none_kept, accepts}
+use Rattle.compact_run.proofs.Jogging.{of_call, few_names, no_master, no_jog, not_kept, kept_with, none_kept, accepts}
 use Rattle.compact_run.proofs.jog.tried.Goals as goal
 
 pub returns-in_default-master_of-clause-rejected : goal.returns-in_default-master_of-clause-rejected
