@@ -19,7 +19,7 @@ use Rattle.stick_cell.specs.Lines.{number_of}
 use Rattle.stick_cell.specs.Grids.{resolved_cells}
 use Rattle.jog_insert.specs.declared.script.JogLine.{JogLine}
 use Rattle.jog_insert.specs.Jogs.{IsJogged}
-use Rattle.jog_nets.proofs.Determined.{jogged_once}
+use Rattle.jog_insert.proofs.Determined.{jogged_is_determined}
 use Rattle.compact_run.specs.declared.jog.Accepted.{Accepted}
 use Rattle.compact_run.specs.declared.jog.Bent.{Bent}
 use Rattle.compact_run.specs.declared.jog.Sizes.{Sizes}
@@ -104,7 +104,7 @@ pub not_kept : (tech : Tech) (axes : List Axis) (design : Design) (numbers : Lis
 not_kept tech axes design numbers widths line cells cell m new resolved named master jogged none k other ns ws a =
     let same = cell_same tech axes design numbers widths line cells cell k other ns ws resolved named a in
     let also = jogged_in tech axes design numbers widths line cells cell k other ns ws resolved named a in
-    let made : other ≡ new = jogged_once design (cell_of (known_at cells cell)) numbers cell line.k line.r line.left other new also jogged in
+    let made : other ≡ new = jogged_is_determined design (cell_of (known_at cells cell)) numbers cell line.k line.r line.left other new also jogged in
     let is : k ≡ m = one_number (position (λ n. n == cell) numbers) k m (ap (λ (c : ℕ). position (λ n. n == c) numbers) (sym same.1) ∙ a.master) master in
     let K : ℕ → Design → Type 0 = λ c z. IsKept tech axes widths c z ns ws in
     none ns ws (subst (λ z. K m z) made (subst (λ c. K c other) is a.kept))

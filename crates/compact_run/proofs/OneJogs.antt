@@ -15,7 +15,7 @@ use Rattle.stick_cell.specs.Lines.{number_of}
 use Rattle.jog_insert.specs.declared.script.JogLine.{JogLine}
 use Rattle.jog_insert.specs.Jogs.{IsJogged}
 use Rattle.jog_insert.specs.Scripts.{jogs_of}
-use Rattle.jog_nets.proofs.Determined.{jogged_once}
+use Rattle.jog_insert.proofs.Determined.{jogged_is_determined}
 use Rattle.compact_run.specs.declared.status.File.TheVariants.{Design, Technology, Script}
 use Rattle.compact_run.specs.declared.status.Status.{Status}
 use Rattle.compact_run.specs.declared.status.Status.TheVariants as status
@@ -106,7 +106,7 @@ one_accepted tech axes design numbers widths line m k new other n q w v a b =
     let J : List Known → ℕ → Type 0 = λ ks c. IsJogged design (cell_of (known_at ks c)) numbers c line.k line.r line.left other in
     let in_cell = subst (λ c. J b.cells c) (sym cell) b.jogged in
     let in_cells = subst (λ ks. J ks a.cell) (sym cells) in_cell in
-    let made : new ≡ other = jogged_once design (cell_of (known_at a.cells a.cell)) numbers a.cell line.k line.r line.left new other a.jogged in_cells in
+    let made : new ≡ other = jogged_is_determined design (cell_of (known_at a.cells a.cell)) numbers a.cell line.k line.r line.left new other a.jogged in_cells in
     let L : Sticks → Type 0 = λ z. IsLaidOutAs tech axes z q v in
     let laid = one_layout tech axes new n q w v a.kept.laid_out (subst L (sym made) b.kept.laid_out) in
     (master, made, laid.0, laid.1)

@@ -8,7 +8,7 @@ use Rattle.stick_parse.specs.declared.design.GridText.{GridText}
 use Rattle.stick_parse.specs.declared.design.Design.{Design}
 use Rattle.stick_print.specs.ReadBack.{lines_from, cells_from, behind_cells, grids_from, laid_out}
 use Rattle.jog_insert.specs.Jogs.{no_cell}
-use Rattle.jog_insert.specs.Counts.{lines_of_cell}
+use Rattle.design_sizes.specs.Sizes.{lines_of_cell}
 
 abbrev numbered : ℕ → CellText → CellText
 numbered n x = record { name = x.name; line = n; end_line = n + 1 + length x.lines; lines = lines_from (n + 1) x.lines }

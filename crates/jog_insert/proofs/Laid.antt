@@ -11,7 +11,7 @@ use Rattle.stick_parse.specs.declared.design.Design.{Design}
 use Rattle.stick_parse.specs.Writable.{IsLine, IsCell, IsGrid, IsOneUnnamed, HasName, AreGridsOf, IsWritable}
 use Rattle.stick_print.specs.ReadBack.{lines_from, cells_from, behind_cells, grids_from, laid_out, without_line}
 use Rattle.jog_insert.specs.Jogs.{no_cell}
-use Rattle.jog_insert.specs.Counts.{lines_of_cell, lines_of_grid, lines_in}
+use Rattle.design_sizes.specs.Sizes.{lines_of_cell, lines_of_grid, lines_in}
 
 -- ---- what numbers do not change
 

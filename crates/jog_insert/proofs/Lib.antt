@@ -9,4 +9,3 @@ pub mod Bents
 pub mod NodeNames
 pub mod Laid
 pub mod Jogged
-pub mod FewLines

@@ -14,7 +14,7 @@ ghost use Rattle.stick_cell.specs.Known.{cell_of, known_at};
 ghost use Rattle.stick_cell.specs.Tables.{known_of, IsResolved};
 ghost use Rattle.jog_insert.specs.Jogs.{IsBent, IsCopy, IsJogged, IsNearForm, Uses};
 ghost use Rattle.jog_insert.specs.Building.{StandsAlone, IsBentCell};
-ghost use Rattle.jog_insert.specs.Counts.{lines_in};
+ghost use Rattle.design_sizes.specs.Sizes.{lines_in};
 
 use crate::bending::Place;
 use crate::copying::with_cell;

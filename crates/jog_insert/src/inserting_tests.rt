@@ -1,6 +1,6 @@
 //! What no clause of jog_insert says: that memory for a jog is there, and the canonical texts of jogged designs.
 use crate::inserting::insert;
-use crate::laws::lines_are_few;
+use design_sizes::lines_are_few;
 use rule_table::Tech;
 use std::alloc::Global;
 use std::test::Fail;

@@ -1,18 +1,18 @@
 //! A script of jogs, read line by line.
-ghost use Rattle.std.specs.Prelude.{◌≡◌, ◌+◌, ◌^◌, ◌<◌, ◌≤◌, ◌∷◌, length, IfOk, MatchResult, Ok, codes};
-ghost use Rattle.std.specs.Str.Lines.{lines, strip_carriage_return};
+ghost use Rattle.std.specs.Prelude.{◌≡◌, ◌^◌, ◌≤◌, length, MatchResult, Ok, codes};
 ghost use Rattle.stick_parse.specs.Reading.{GivesLine};
 ghost use Rattle.stick_parse.specs.declared.fault.StickKind.TheVariants.{BadLine};
 ghost use Rattle.stick_cell.specs.Checks.{demand};
 ghost use Rattle.std.specs.Str.{bytes_eq};
 ghost use Rattle.jog_insert.specs.Scripts.{jog_of, jog_by, jogs_of, fault_at, IsScriptFault};
-ghost use Rattle.jog_insert.specs.WordViews.{views};
+ghost use Rattle.stick_parse.specs.WordViews.{views};
 
 use crate::script::{JogLine, ScriptFault};
-use crate::words::{Word, count_at, either_at, ended, name_at, path_at, words_of};
 use std::alloc::Global;
 use stick_lex::{Text, lex_line};
-use stick_parse::{LineFault, StickKind};
+use stick_parse::{
+    LineFault, StickKind, Word, count_at, either_at, ended, first_line, name_at, path_at, words_of,
+};
 
 fn is_jog(keyword: &[u8]) -> Result<(), LineFault>
     ensures { GivesLine (λ x. x) result (demand (bytes_eq keyword.now (codes "jog")) BadLine) }
@@ -57,29 +57,6 @@ fn jog_by(alloc: Global, line: &[u8]) -> Result<Option<JogLine>, LineFault>
     }
     let jog = jog_of(alloc, &words)?;
     Ok(Some(jog))
-}
-
-fn without_carriage_return(line: &[u8]) -> &[u8]
-    ensures line { result.now ≡ strip_carriage_return line.now }
-    ensures within { length result.now ≤ length line.now }
-{
-    match line {
-        [front @ .., b'\r'] => front,
-        _ => line,
-    }
-}
-
-// The first line, without its end, and what stands behind it.
-fn first_line(text: &[u8]) -> (&[u8], &[u8])
-    requires { 0 < length text.now }
-    ensures first { lines text.now ≡ result.0.now ∷ lines result.1.now }
-    ensures shorter { length result.1.now < length text.now }
-    ensures within { length result.0.now ≤ length text.now }
-{
-    match text.iter().position(|b| *b == b'\n') {
-        None => (text, &text[text.len()..]),
-        Some(at) => (without_carriage_return(&text[..at]), &text[at + 1..]),
-    }
 }
 
 fn at_line(number: u32, fault: LineFault) -> ScriptFault

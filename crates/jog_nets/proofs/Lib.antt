@@ -11,4 +11,3 @@ pub mod Forms
 pub mod Named
 pub mod Jogged
 pub mod Kept
-pub mod Determined

@@ -1,10 +1,9 @@
-//! What a jog leaves as it was, and that it is determined.
+//! What a jog leaves as it was.
 ghost use Rattle.std.specs.Prelude.{◌≡◌, ◌<◌, length};
 ghost use Rattle.stick_cell.specs.Known.{cell_of, known_at};
 ghost use Rattle.stick_cell.specs.Tables.{known_of, IsResolved};
 ghost use Rattle.jog_insert.specs.Jogs.{cell_text_at, IsJogged};
 ghost use Rattle.jog_insert.specs.Nets.{nodes_before, KeepsNets};
-ghost use Rattle.jog_nets.specs.Determined.{JogsAreDetermined};
 ghost use Rattle.jog_nets.specs.Parts.{KeepsParts};
 
 use stick_cell::Cells;
@@ -30,9 +29,4 @@ pub fn jogs_keep_nets(
         (nodes_before k (cell_text_at before.now.design.now cell).lines) k }
     ensures parts { KeepsParts (cell_of (known_at (known_of before.now) cell)) (cell_of (known_at (known_of after.now) cell))
         (nodes_before k (cell_text_at before.now.design.now cell).lines) k }
-{}
-
-/// A law, with nothing to run: out of a design a jog of one wire, above one row and to one side, makes one new design at most.
-pub fn jogs_are_determined()
-    ensures { JogsAreDetermined }
 {}

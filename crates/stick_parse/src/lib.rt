@@ -4,6 +4,8 @@
 //! one behind the other), or the text's first fault (`specs/FirstFault.antt`: the first line behind which no design can
 //! begin so). What one line says is in `specs/Forms.antt`. `design_of` (`specs/Order.antt`) is the same as a function of
 //! the text, which the layers above compute with; laws say that they agree. The code walks the text once.
+//! Readers of other texts of such lines take from here the lines of a text, one by one, and the words of a line
+//! (`first_line`, `words_of`, and what stands in front: `path_at` and its like).
 #![tactic(auto)]
 
 mod cursor;
@@ -19,4 +21,8 @@ pub use design::{CellText, Design, Form, GridText, Layer, Line, RowText};
 pub use fault::{LineFault, ParseFault, StickFault, StickKind};
 pub use lam_geom::Side;
 pub use laws::{has_one_answer, has_words_in_range, reads_what_is_said, refuses_first_fault};
+pub use lines::first_line;
 pub use parsing::parse;
+pub use words::{
+    Front, Word, at_most_at, count_at, either_at, ended, name_at, number_at, path_at, words_of,
+};

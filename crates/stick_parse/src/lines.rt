@@ -13,8 +13,8 @@ use crate::words::words_of;
 use std::alloc::Global;
 use stick_lex::lex_line;
 
-/// The first line, without its end, and what stands behind it.
-fn first_line(text: &[u8]) -> (&[u8], &[u8])
+/// The first line of a text that is not empty, without its end, and what stands behind it. It costs time linear in the line.
+pub fn first_line(text: &[u8]) -> (&[u8], &[u8])
     requires { 0 < length text.now }
     ensures first { lines text.now ≡ result.0.now ∷ lines result.1.now }
     ensures shorter { length result.1.now < length text.now }

@@ -1,7 +1,7 @@
 use Rattle.std.proofs.Common.{◌≡◌, ◌+◌, ◌++◌, drop}
 use Rattle.std.specs.Prelude.{sum_by}
 use Rattle.stick_print.specs.ReadBack.{grids_from}
-use Rattle.jog_insert.specs.Counts.{lines_of_grid}
+use Rattle.design_sizes.specs.Sizes.{lines_of_grid}
 use Rattle.jog_insert.proofs.copying.copy_grids.Given as goal
 
 abbrev pub invariant-loop-grid : goal.invariant-loop-grid

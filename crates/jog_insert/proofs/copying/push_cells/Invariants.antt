@@ -1,7 +1,7 @@
 use Rattle.std.proofs.Common.{◌≡◌, ◌+◌, ◌++◌, drop}
 use Rattle.std.specs.Prelude.{sum_by}
 use Rattle.stick_print.specs.ReadBack.{cells_from, behind_cells}
-use Rattle.jog_insert.specs.Counts.{lines_of_cell}
+use Rattle.design_sizes.specs.Sizes.{lines_of_cell}
 use Rattle.jog_insert.proofs.copying.push_cells.Given as goal
 
 abbrev pub invariant-loop-cell : goal.invariant-loop-cell

@@ -5,7 +5,7 @@ use Rattle.stick_parse.specs.declared.design.CellText.{CellText}
 use Rattle.stick_parse.specs.declared.design.GridText.{GridText}
 use Rattle.stick_parse.specs.declared.design.Line.{Line}
 use Rattle.stick_print.specs.ReadBack.{grids_from}
-use Rattle.jog_insert.specs.Counts.{lines_of_cell, lines_of_grid}
+use Rattle.design_sizes.specs.Sizes.{lines_of_cell, lines_of_grid}
 use Rattle.jog_insert.proofs.Copies.{few_cells, laid_with}
 use Rattle.jog_insert.proofs.copying.with_cell.Goals as goal
 

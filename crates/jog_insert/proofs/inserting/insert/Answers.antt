@@ -8,7 +8,7 @@ use Rattle.stick_print.specs.ReadBack.{behind_cells, without_line}
 use Rattle.cell_model.specs.declared.cell.Cell.{Cell}
 use Rattle.stick_cell.specs.Known.{cell_of, known_at}
 use Rattle.stick_cell.specs.Tables.{known_of}
-use Rattle.jog_insert.specs.Counts.{lines_in}
+use Rattle.design_sizes.specs.Sizes.{lines_in}
 use Rattle.jog_insert.proofs.Laid.{laid_is_writable, grids_same, more_lines, few_lines}
 use Rattle.jog_insert.proofs.Jogged.{cells_number, cell_written, cell_named, text_here, none_jogged, jogged_of}
 use Rattle.jog_insert.proofs.inserting.insert.Goals as goal

@@ -1,7 +1,0 @@
-use Rattle.std.proofs.Common.{◌≡◌, map, take}
-use Rattle.stick_parse.specs.Words.{word_of}
-use Rattle.jog_insert.specs.WordViews.{views}
-use Rattle.jog_insert.proofs.words.words_of.Given as goal
-
-abbrev pub invariant-loop-token : goal.invariant-loop-token
-invariant-loop-token l = views l.words.items ≡ map (word_of l.line) (take l.token-index l.tokens)
