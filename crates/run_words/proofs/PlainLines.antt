@@ -13,9 +13,9 @@ use Rattle.clap.specs.Takes.{is_given}
 use Rattle.clap.specs.Faults.{check_fault}
 use Rattle.clap.specs.declared.builder.action.ArgAction.TheVariants.{Set}
 use Rattle.clap.specs.declared.builder.value_parser.ValueParser.TheVariants as vp
-use Rattle.run_words.specs.Lines.{cif_line, compact_line, found_in, jog_line, operand, operand_line, passes, script, slack_line, split, tech, text_of, without_fault}
-use Rattle.run_words.specs.Words.{Command, bench_as, bench_of, compact_as, compact_of, compact_with, fmt, fmt_of, jog_as, jog_of, jog_with, operand_of, passes_of, slack_as, slack_of, slack_with, split_of, tech_of}
-use Rattle.run_words.specs.PlainLines.{Part, are_new, bench_from, compact_from, fmt_from, is_plain_line, jog_from, of_both, slack_from, value_at, where_new, words_of}
+use Rattle.run_words.specs.Lines.{check_line, compact_line, extract_line, found_in, operand, operand_line, passes, script, script_line, slack_line, split, tech, text_of, without_fault}
+use Rattle.run_words.specs.Words.{Command, Scripted, bench_as, bench_of, check_as, check_of, check_with, compact_as, compact_of, compact_with, extract, extract_of, fmt, fmt_of, operand_of, passes_of, script_as, script_with, slack_as, slack_of, slack_with, split_of, tech_of}
+use Rattle.run_words.specs.PlainLines.{Part, are_new, bench_from, check_from, compact_from, extract_from, fmt_from, is_plain_line, script_from, slack_from, value_at, where_new, words_of}
 use Rattle.run_words.proofs.Steps.{IsOperand, IsOption}
 use Rattle.run_words.proofs.Refusals.{line_refused}
 use Rattle.run_words.proofs.Parts.{IsLine, first_is, given_is, line_found, row_of_part}
@@ -37,8 +37,11 @@ pick s (n ∷ names) os name e = go (bytes_eq name n) refl (λ rest. pick s name
 -- ---- the lines
 
 -- the options of the lines that have some
-abbrev cif_options : List Text
-cif_options = codes "tech" ∷ []
+abbrev extract_options : List Text
+extract_options = codes "tech" ∷ []
+
+abbrev check_options : List Text
+check_options = codes "tech" ∷ codes "split" ∷ []
 
 abbrev slack_options : List Text
 slack_options = codes "tech" ∷ codes "passes" ∷ []
@@ -46,8 +49,8 @@ slack_options = codes "tech" ∷ codes "passes" ∷ []
 abbrev compact_options : List Text
 compact_options = codes "tech" ∷ codes "passes" ∷ codes "split" ∷ []
 
-abbrev jog_options : List Text
-jog_options = codes "tech" ∷ codes "passes" ∷ codes "script" ∷ []
+abbrev script_options : List Text
+script_options = codes "tech" ∷ codes "passes" ∷ codes "script" ∷ []
 
 -- the operand, which is the same in each line
 abbrev first_operand : Rule
@@ -111,15 +114,30 @@ operand_is_line = record {
   };
 }
 
-cif_is_line : IsLine cif_line cif_options
-cif_is_line = record {
+extract_is_line : IsLine extract_line extract_options
+extract_is_line = record {
   subs = refl;
   named = refl;
   bare = refl;
   fits = record {
     operand = first_operand;
-    is_operand = operand_in (built cif_line).top refl refl;
-    options = pick (built cif_line).top cif_options (option_in tech_named refl refl, tt);
+    is_operand = operand_in (built extract_line).top refl refl;
+    options = pick (built extract_line).top extract_options (option_in tech_named refl refl, tt);
+    others = refl;
+    second = refl;
+    once = refl;
+  };
+}
+
+check_is_line : IsLine check_line check_options
+check_is_line = record {
+  subs = refl;
+  named = refl;
+  bare = refl;
+  fits = record {
+    operand = first_operand;
+    is_operand = operand_in (built check_line).top refl refl;
+    options = pick (built check_line).top check_options (option_in tech_named refl refl, (option_in split_named refl refl, tt));
     others = refl;
     second = refl;
     once = refl;
@@ -156,15 +174,15 @@ compact_is_line = record {
   };
 }
 
-jog_is_line : IsLine jog_line jog_options
-jog_is_line = record {
+script_is_line : IsLine script_line script_options
+script_is_line = record {
   subs = refl;
   named = refl;
   bare = refl;
   fits = record {
     operand = first_operand;
-    is_operand = operand_in (built jog_line).top refl refl;
-    options = pick (built jog_line).top jog_options (option_in tech_named refl refl, (option_in passes_named refl refl, (option_in script_named refl refl, tt)));
+    is_operand = operand_in (built script_line).top refl refl;
+    options = pick (built script_line).top script_options (option_in tech_named refl refl, (option_in passes_named refl refl, (option_in script_named refl refl, tt)));
     others = refl;
     second = refl;
     once = refl;
@@ -250,37 +268,44 @@ slack_is_read word parts plain =
     ∙ (λ i. option_and_then (λ design. option_and_then (λ file. slack_as design file (unwrap_or (first_is (codes "passes") parts i) (codes "xy"))) (tech_at parts)) (operand_at parts)))
 
 -- what is made of the rows of a line that has its operand and its technology, and maybe a script
-with_script : (parts : List Part)
-    → option_and_then jog_with (without_fault (check_kinds false false (not (is_given (codes "script") (rows_in parts)) || false)) (rows_in parts))
-    ≡ option_and_then (λ script. jog_as (operand_of (rows_in parts)) (tech_of (rows_in parts)) script (passes_of (rows_in parts))) (value_at (codes "script") parts)
-with_script parts =
-    ap (λ (b : Bool). option_and_then jog_with (without_fault (check_kinds false false (not b || false)) (rows_in parts))) (given_is (codes "script") parts)
+with_script : (command : Scripted) (parts : List Part)
+    → option_and_then (script_with command) (without_fault (check_kinds false false (not (is_given (codes "script") (rows_in parts)) || false)) (rows_in parts))
+    ≡ option_and_then (λ script. script_as command (operand_of (rows_in parts)) (tech_of (rows_in parts)) script (passes_of (rows_in parts))) (value_at (codes "script") parts)
+with_script command parts =
+    ap (λ (b : Bool). option_and_then (script_with command) (without_fault (check_kinds false false (not b || false)) (rows_in parts))) (given_is (codes "script") parts)
     ∙ go (value_at (codes "script") parts) refl
   where
-    go : (o : Option Text) → value_at (codes "script") parts ≡ o → option_and_then jog_with (without_fault (check_kinds false false (not (is_some o) || false)) (rows_in parts))
-        ≡ option_and_then (λ script. jog_as (operand_of (rows_in parts)) (tech_of (rows_in parts)) script (passes_of (rows_in parts))) o
+    go : (o : Option Text) → value_at (codes "script") parts ≡ o → option_and_then (script_with command) (without_fault (check_kinds false false (not (is_some o) || false)) (rows_in parts))
+        ≡ option_and_then (λ script. script_as command (operand_of (rows_in parts)) (tech_of (rows_in parts)) script (passes_of (rows_in parts))) o
     go None e = refl
-    go (Some text) e = ap (λ (script : Text). jog_as (operand_of (rows_in parts)) (tech_of (rows_in parts)) script (passes_of (rows_in parts))) (text_is (codes "script") parts text e)
+    go (Some text) e = ap (λ (script : Text). script_as command (operand_of (rows_in parts)) (tech_of (rows_in parts)) script (passes_of (rows_in parts))) (text_is (codes "script") parts text e)
 
-pub jog_is_read : (word : Text) (parts : List Part) → is_plain_line jog_options parts ≡ true
-    → jog_of (word ∷ flat_map words_of parts) ≡ where_new parts (jog_from parts)
-jog_is_read word parts plain =
-    once jog_line jog_options jog_is_line (option_and_then jog_with) (jog_from parts) refl word parts plain (λ new.
-    by_both jog_line jog_options jog_is_line (λ rows. not (is_given (codes "script") rows) || false) (λ rows. refl) (option_and_then jog_with)
-    (λ o t rows. option_and_then (λ design. option_and_then (λ file. option_and_then (λ script. jog_as design file script (passes_of rows)) (value_at (codes "script") parts)) t) o)
-    (λ t rows. refl) (λ text rows. refl) word parts (with_script parts) plain new
-    ∙ (λ i. option_and_then (λ design. option_and_then (λ file. option_and_then (λ script. jog_as design file script (unwrap_or (first_is (codes "passes") parts i) (codes "xy")))
+-- a command with a script
+pub script_is_read : (command : Scripted) (word : Text) (parts : List Part) → is_plain_line script_options parts ≡ true
+    → option_and_then (script_with command) (found_in script_line (word ∷ flat_map words_of parts)) ≡ where_new parts (script_from command parts)
+script_is_read command word parts plain =
+    once script_line script_options script_is_line (option_and_then (script_with command)) (script_from command parts) refl word parts plain (λ new.
+    by_both script_line script_options script_is_line (λ rows. not (is_given (codes "script") rows) || false) (λ rows. refl) (option_and_then (script_with command))
+    (λ o t rows. option_and_then (λ design. option_and_then (λ file. option_and_then (λ script. script_as command design file script (passes_of rows)) (value_at (codes "script") parts)) t) o)
+    (λ t rows. refl) (λ text rows. refl) word parts (with_script command parts) plain new
+    ∙ (λ i. option_and_then (λ design. option_and_then (λ file. option_and_then (λ script. script_as command design file script (unwrap_or (first_is (codes "passes") parts i) (codes "xy")))
     (value_at (codes "script") parts)) (tech_at parts)) (operand_at parts)))
 
--- a command of a CIF text and a technology
-pub cif_is_read : (command : Text → Text → Command) (word : Text) (parts : List Part) → is_plain_line cif_options parts ≡ true
-    → option_map (λ rows. command (operand_of rows) (tech_of rows)) (found_in cif_line (word ∷ flat_map words_of parts))
-    ≡ where_new parts (of_both (λ cif tech. Some (command cif tech)) parts)
-cif_is_read command word parts plain =
-    let made = option_map (λ (rows : List Row). command (operand_of rows) (tech_of rows)) in
-    once cif_line cif_options cif_is_line made _ refl word parts plain (λ new.
-    by_both cif_line cif_options cif_is_line (λ rows. false) (λ rows. refl) made
-    (λ o t rows. option_and_then (λ cif. option_and_then (λ file. Some (command cif file)) t) o) (λ t rows. refl) (λ text rows. refl) word parts refl plain new)
+pub check_is_read : (word : Text) (parts : List Part) → is_plain_line check_options parts ≡ true
+    → check_of (word ∷ flat_map words_of parts) ≡ where_new parts (check_from parts)
+check_is_read word parts plain =
+    once check_line check_options check_is_line (option_and_then check_with) (check_from parts) refl word parts plain (λ new.
+    by_both check_line check_options check_is_line (λ rows. false) (λ rows. refl) (option_and_then check_with)
+    (λ o t rows. option_and_then (λ cif. option_and_then (λ file. check_as cif file (split_of rows)) t) o) (λ t rows. refl) (λ text rows. refl) word parts refl plain new
+    ∙ (λ i. option_and_then (λ cif. option_and_then (λ file. check_as cif file (unwrap_or (first_is (codes "split") parts i) (codes "1"))) (tech_at parts)) (operand_at parts)))
+
+pub extract_is_read : (word : Text) (parts : List Part) → is_plain_line extract_options parts ≡ true
+    → extract_of (word ∷ flat_map words_of parts) ≡ where_new parts (extract_from parts)
+extract_is_read word parts plain =
+    let made = option_map (λ (rows : List Row). extract (operand_of rows) (tech_of rows)) in
+    once extract_line extract_options extract_is_line made (extract_from parts) refl word parts plain (λ new.
+    by_both extract_line extract_options extract_is_line (λ rows. false) (λ rows. refl) made
+    (λ o t rows. option_and_then (λ cif. option_and_then (λ file. Some (extract cif file)) t) o) (λ t rows. refl) (λ text rows. refl) word parts refl plain new)
 
 pub fmt_is_read : (word : Text) (parts : List Part) → is_plain_line [] parts ≡ true → fmt_of (word ∷ flat_map words_of parts) ≡ where_new parts (fmt_from parts)
 fmt_is_read word parts plain =

@@ -8,14 +8,17 @@ use Rattle.clap.specs.Simple.{is_ready, is_ready_leaf}
 use Rattle.clap.specs.Faults.{has_free_rules}
 use Rattle.clap.specs.declared.builder.action.ArgAction.TheVariants.{Set}
 use Rattle.clap.proofs.SimpleLemmas.{all_simple}
-use Rattle.run_words.specs.Lines.{cif_line, compact_line, jog_line, operand, operand_line, script, slack_line, tech}
+use Rattle.run_words.specs.Lines.{check_line, compact_line, extract_line, operand, operand_line, script, script_line, slack_line, tech}
 use Rattle.run_words.proofs.Given.{IsWanted, is_alone}
 
 pub operand_is_simple : is_simple_and_free operand_line ≡ true
 operand_is_simple = refl
 
-pub cif_is_simple : is_simple_and_free cif_line ≡ true
-cif_is_simple = refl
+pub extract_is_simple : is_simple_and_free extract_line ≡ true
+extract_is_simple = refl
+
+pub check_is_simple : is_simple_and_free check_line ≡ true
+check_is_simple = refl
 
 pub slack_is_simple : is_simple_and_free slack_line ≡ true
 slack_is_simple = refl
@@ -23,8 +26,8 @@ slack_is_simple = refl
 pub compact_is_simple : is_simple_and_free compact_line ≡ true
 compact_is_simple = refl
 
-pub jog_is_simple : is_simple_and_free jog_line ≡ true
-jog_is_simple = refl
+pub script_is_simple : is_simple_and_free script_line ≡ true
+script_is_simple = refl
 
 -- what holds of a line, whatever it wants
 record MayWant (app : App) : Type 0 where
@@ -37,8 +40,11 @@ record MayWant (app : App) : Type 0 where
 operand_may : MayWant operand_line
 operand_may = record { ready = refl; leaves = refl; free = refl; simple = refl; keeps = refl }
 
-cif_may : MayWant cif_line
-cif_may = record { ready = refl; leaves = refl; free = refl; simple = refl; keeps = refl }
+extract_may : MayWant extract_line
+extract_may = record { ready = refl; leaves = refl; free = refl; simple = refl; keeps = refl }
+
+check_may : MayWant check_line
+check_may = record { ready = refl; leaves = refl; free = refl; simple = refl; keeps = refl }
 
 slack_may : MayWant slack_line
 slack_may = record { ready = refl; leaves = refl; free = refl; simple = refl; keeps = refl }
@@ -46,8 +52,8 @@ slack_may = record { ready = refl; leaves = refl; free = refl; simple = refl; ke
 compact_may : MayWant compact_line
 compact_may = record { ready = refl; leaves = refl; free = refl; simple = refl; keeps = refl }
 
-jog_may : MayWant jog_line
-jog_may = record { ready = refl; leaves = refl; free = refl; simple = refl; keeps = refl }
+script_may : MayWant script_line
+script_may = record { ready = refl; leaves = refl; free = refl; simple = refl; keeps = refl }
 
 -- what holds of an argument that has to be there, whatever its line
 record IsRequired (a : Rule) : Type 0 where
@@ -89,11 +95,17 @@ wanted_at app k a may needed within at alone = record {
 pub operand_wants_operand : IsWanted operand_line 0 operand
 operand_wants_operand = wanted_at operand_line 0 operand operand_may operand_required (omega arith) (λ d. refl) refl
 
-pub cif_wants_operand : IsWanted cif_line 0 operand
-cif_wants_operand = wanted_at cif_line 0 operand cif_may operand_required (omega arith) (λ d. refl) refl
+pub extract_wants_operand : IsWanted extract_line 0 operand
+extract_wants_operand = wanted_at extract_line 0 operand extract_may operand_required (omega arith) (λ d. refl) refl
 
-pub cif_wants_tech : IsWanted cif_line 1 tech
-cif_wants_tech = wanted_at cif_line 1 tech cif_may tech_required (omega arith) (λ d. refl) refl
+pub extract_wants_tech : IsWanted extract_line 1 tech
+extract_wants_tech = wanted_at extract_line 1 tech extract_may tech_required (omega arith) (λ d. refl) refl
+
+pub check_wants_operand : IsWanted check_line 0 operand
+check_wants_operand = wanted_at check_line 0 operand check_may operand_required (omega arith) (λ d. refl) refl
+
+pub check_wants_tech : IsWanted check_line 1 tech
+check_wants_tech = wanted_at check_line 1 tech check_may tech_required (omega arith) (λ d. refl) refl
 
 pub slack_wants_operand : IsWanted slack_line 0 operand
 slack_wants_operand = wanted_at slack_line 0 operand slack_may operand_required (omega arith) (λ d. refl) refl
@@ -107,11 +119,11 @@ compact_wants_operand = wanted_at compact_line 0 operand compact_may operand_req
 pub compact_wants_tech : IsWanted compact_line 1 tech
 compact_wants_tech = wanted_at compact_line 1 tech compact_may tech_required (omega arith) (λ d. refl) refl
 
-pub jog_wants_operand : IsWanted jog_line 0 operand
-jog_wants_operand = wanted_at jog_line 0 operand jog_may operand_required (omega arith) (λ d. refl) refl
+pub script_wants_operand : IsWanted script_line 0 operand
+script_wants_operand = wanted_at script_line 0 operand script_may operand_required (omega arith) (λ d. refl) refl
 
-pub jog_wants_tech : IsWanted jog_line 1 tech
-jog_wants_tech = wanted_at jog_line 1 tech jog_may tech_required (omega arith) (λ d. refl) refl
+pub script_wants_tech : IsWanted script_line 1 tech
+script_wants_tech = wanted_at script_line 1 tech script_may tech_required (omega arith) (λ d. refl) refl
 
-pub jog_wants_script : IsWanted jog_line 3 script
-jog_wants_script = wanted_at jog_line 3 script jog_may script_required (omega arith) (λ d. refl) refl
+pub script_wants_script : IsWanted script_line 3 script
+script_wants_script = wanted_at script_line 3 script script_may script_required (omega arith) (λ d. refl) refl

@@ -2,7 +2,7 @@
 use Rattle.std.specs.Prelude.{◌≡◌, ℕ, ◌≤◌, true, List}
 use Rattle.lam_geom.specs.declared.boxes.Axis.{Axis}
 use Rattle.run_words.specs.declared.commands.Command.{Command}
-use Rattle.run_words.specs.declared.commands.Command.TheVariants.{Compact, Slack, Jog, Check, Extract, Fmt, Bench}
+use Rattle.run_words.specs.declared.commands.Command.TheVariants.{Compact, Slack, Jog, Edit, Check, Extract, Fmt, Bench}
 use Rattle.run_words.specs.Values.{axes_in, is_pass_list}
 use Rattle.run_words.specs.Words as commands
 
@@ -10,7 +10,8 @@ abbrev pub command_from : Command → commands.Command
 command_from (Compact design tech passes split) = commands.compact design.now tech.now passes split
 command_from (Slack design tech passes) = commands.slack design.now tech.now passes
 command_from (Jog design tech script passes) = commands.jog design.now tech.now script.now passes
-command_from (Check cif tech) = commands.check cif.now tech.now
+command_from (Edit design tech script passes) = commands.edit design.now tech.now script.now passes
+command_from (Check cif tech split) = commands.check cif.now tech.now split
 command_from (Extract cif tech) = commands.extract cif.now tech.now
 command_from (Fmt design) = commands.fmt design.now
 command_from (Bench n) = commands.bench n
@@ -24,10 +25,12 @@ abbrev pub HasPassList : Command → Type 0
 HasPassList (Compact design tech passes split) = AreOfPassList passes
 HasPassList (Slack design tech passes) = AreOfPassList passes
 HasPassList (Jog design tech script passes) = AreOfPassList passes
+HasPassList (Edit design tech script passes) = AreOfPassList passes
 HasPassList other = Unit {0}
 
 -- its number is 1 to 64
 abbrev pub IsWithinLimits : Command → Type 0
 IsWithinLimits (Compact design tech passes split) = (1 ≤ split) × (split ≤ 64)
+IsWithinLimits (Check cif tech split) = (1 ≤ split) × (split ≤ 64)
 IsWithinLimits (Bench n) = (1 ≤ n) × (n ≤ 64)
 IsWithinLimits other = Unit {0}

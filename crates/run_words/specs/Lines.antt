@@ -44,13 +44,17 @@ compact_line = line (operand ∷ tech ∷ passes ∷ split ∷ [])
 abbrev pub slack_line : App
 slack_line = line (operand ∷ tech ∷ passes ∷ [])
 
--- `jog DESIGN --tech FILE --script FILE [--passes LIST]`
-abbrev pub jog_line : App
-jog_line = line (operand ∷ tech ∷ passes ∷ script ∷ [])
+-- `jog DESIGN --tech FILE --script FILE [--passes LIST]`, and `edit` with the same
+abbrev pub script_line : App
+script_line = line (operand ∷ tech ∷ passes ∷ script ∷ [])
 
--- `check CIF --tech FILE` and `extract CIF --tech FILE`
-abbrev pub cif_line : App
-cif_line = line (operand ∷ tech ∷ [])
+-- `check CIF --tech FILE [--split N]`
+abbrev pub check_line : App
+check_line = line (operand ∷ tech ∷ split ∷ [])
+
+-- `extract CIF --tech FILE`
+abbrev pub extract_line : App
+extract_line = line (operand ∷ tech ∷ [])
 
 -- `fmt DESIGN` and `bench N`
 abbrev pub operand_line : App

@@ -2,7 +2,8 @@
 use Rattle.std.specs.Prelude.{◌≡◌, Bool, true, false, not, ◌&&◌, ◌==◌, List, [], ◌∷◌, ◌++◌, Option, Some, None, if◌then◌else◌, codes, bytes_eq, find, flat_map, option_and_then, option_map, unwrap_or}
 use Rattle.std.specs.List.{list_all, list_any}
 use Rattle.clap.specs.Words.{Text}
-use Rattle.run_words.specs.Words.{Command, bench_as, check, command_of, compact_as, extract, fmt, jog_as, slack_as}
+use Rattle.run_words.specs.Words as commands
+use Rattle.run_words.specs.Words.{Command, Scripted, bench_as, check_as, command_of, compact_as, extract, fmt, script_as, slack_as}
 
 -- what may stand behind the command's name: an operand, `--NAME VALUE` or `--NAME=VALUE`
 pub data Part : Type 0 where
@@ -56,18 +57,22 @@ of_both made parts = option_and_then (λ operand. option_and_then (made operand)
 abbrev pub passes_at : List Part → Text
 passes_at parts = unwrap_or (value_at (codes "passes") parts) (codes "xy")
 
+-- the number of pieces, and the number that is meant without one
+abbrev pub split_at : List Part → Text
+split_at parts = unwrap_or (value_at (codes "split") parts) (codes "1")
+
 -- the command of a line, if it has the operand and the files that it needs
 abbrev pub compact_from : List Part → Option Command
-compact_from parts = of_both (λ design tech. compact_as design tech (passes_at parts) (unwrap_or (value_at (codes "split") parts) (codes "1"))) parts
+compact_from parts = of_both (λ design tech. compact_as design tech (passes_at parts) (split_at parts)) parts
 
 abbrev pub slack_from : List Part → Option Command
 slack_from parts = of_both (λ design tech. slack_as design tech (passes_at parts)) parts
 
-abbrev pub jog_from : List Part → Option Command
-jog_from parts = of_both (λ design tech. option_and_then (λ script. jog_as design tech script (passes_at parts)) (value_at (codes "script") parts)) parts
+abbrev pub script_from : Scripted → List Part → Option Command
+script_from command parts = of_both (λ design tech. option_and_then (λ script. script_as command design tech script (passes_at parts)) (value_at (codes "script") parts)) parts
 
 abbrev pub check_from : List Part → Option Command
-check_from parts = of_both (λ cif tech. Some (check cif tech)) parts
+check_from parts = of_both (λ cif tech. check_as cif tech (split_at parts)) parts
 
 abbrev pub extract_from : List Part → Option Command
 extract_from parts = of_both (λ cif tech. Some (extract cif tech)) parts
@@ -82,19 +87,17 @@ bench_from parts = option_and_then bench_as (value_at (codes "operand") parts)
 abbrev pub where_new : List Part → Option Command → Option Command
 where_new parts command = if are_new [] parts then command else None
 
--- each plain line is read as that command, in whatever order its parts stand
+-- behind this word, plain lines with options of these names are read as these commands, in whatever order their parts stand
+abbrev pub AreRead : Text → List Text → (List Part → Option Command) → Type 0
+AreRead word names command = (parts : List Part) → is_plain_line names parts ≡ true → command_of (word ∷ flat_map words_of parts) ≡ where_new parts (command parts)
+
+-- the plain lines of all commands
 pub record PlainLinesAreRead : Type 0 where
-  pub compact : (parts : List Part) → is_plain_line (codes "tech" ∷ codes "passes" ∷ codes "split" ∷ []) parts ≡ true
-      → command_of (codes "compact" ∷ flat_map words_of parts) ≡ where_new parts (compact_from parts)
-  pub slack : (parts : List Part) → is_plain_line (codes "tech" ∷ codes "passes" ∷ []) parts ≡ true
-      → command_of (codes "slack" ∷ flat_map words_of parts) ≡ where_new parts (slack_from parts)
-  pub jog : (parts : List Part) → is_plain_line (codes "tech" ∷ codes "passes" ∷ codes "script" ∷ []) parts ≡ true
-      → command_of (codes "jog" ∷ flat_map words_of parts) ≡ where_new parts (jog_from parts)
-  pub check : (parts : List Part) → is_plain_line (codes "tech" ∷ []) parts ≡ true
-      → command_of (codes "check" ∷ flat_map words_of parts) ≡ where_new parts (check_from parts)
-  pub extract : (parts : List Part) → is_plain_line (codes "tech" ∷ []) parts ≡ true
-      → command_of (codes "extract" ∷ flat_map words_of parts) ≡ where_new parts (extract_from parts)
-  pub fmt : (parts : List Part) → is_plain_line [] parts ≡ true
-      → command_of (codes "fmt" ∷ flat_map words_of parts) ≡ where_new parts (fmt_from parts)
-  pub bench : (parts : List Part) → is_plain_line [] parts ≡ true
-      → command_of (codes "bench" ∷ flat_map words_of parts) ≡ where_new parts (bench_from parts)
+  pub compact : AreRead (codes "compact") (codes "tech" ∷ codes "passes" ∷ codes "split" ∷ []) compact_from
+  pub slack : AreRead (codes "slack") (codes "tech" ∷ codes "passes" ∷ []) slack_from
+  pub jog : AreRead (codes "jog") (codes "tech" ∷ codes "passes" ∷ codes "script" ∷ []) (script_from commands.jog)
+  pub edit : AreRead (codes "edit") (codes "tech" ∷ codes "passes" ∷ codes "script" ∷ []) (script_from commands.edit)
+  pub check : AreRead (codes "check") (codes "tech" ∷ codes "split" ∷ []) check_from
+  pub extract : AreRead (codes "extract") (codes "tech" ∷ []) extract_from
+  pub fmt : AreRead (codes "fmt") [] fmt_from
+  pub bench : AreRead (codes "bench") [] bench_from

@@ -4,7 +4,7 @@ use Rattle.std.specs.Borrow.{Bor}
 use Rattle.clap.specs.Words.{Row, Text, first_of}
 use Rattle.lam_geom.specs.declared.boxes.Axis.{Axis}
 use Rattle.run_words.specs.Values.{count_in, passes_in}
-use Rattle.run_words.specs.Lines.{cif_line, compact_line, found_in, jog_line, operand_line, slack_line, text_of}
+use Rattle.run_words.specs.Lines.{check_line, compact_line, extract_line, found_in, operand_line, script_line, slack_line, text_of}
 
 -- a command, with the names of its files
 pub data Command : Type 0 where
@@ -14,8 +14,10 @@ pub data Command : Type 0 where
   slack : List ℕ → List ℕ → List Axis → Command
   -- the design, the technology, the script, and the axes of the passes
   jog : List ℕ → List ℕ → List ℕ → List Axis → Command
+  edit : List ℕ → List ℕ → List ℕ → List Axis → Command
+  -- the CIF text, the technology, and the number of pieces
+  check : List ℕ → List ℕ → ℕ → Command
   -- the CIF text and the technology
-  check : List ℕ → List ℕ → Command
   extract : List ℕ → List ℕ → Command
   -- the design
   fmt : List ℕ → Command
@@ -59,21 +61,35 @@ slack_with rows = slack_as (operand_of rows) (tech_of rows) (passes_of rows)
 abbrev pub slack_of : List Text → Option Command
 slack_of words = option_and_then slack_with (found_in slack_line words)
 
--- `jog` with these texts, where the last is a list of passes
-abbrev pub jog_as : Text → Text → Text → Text → Option Command
-jog_as design tech script passes = option_map (jog design tech script) (passes_in passes)
+-- a command that has a script, as `jog` and `edit`
+abbrev pub Scripted : Type 0
+Scripted = Text → Text → Text → List Axis → Command
 
-abbrev pub jog_with : List Row → Option Command
-jog_with rows = jog_as (operand_of rows) (tech_of rows) (script_of rows) (passes_of rows)
+-- such a command with these texts, where the last is a list of passes
+abbrev pub script_as : Scripted → Text → Text → Text → Text → Option Command
+script_as command design tech script passes = option_map (command design tech script) (passes_in passes)
+
+abbrev pub script_with : Scripted → List Row → Option Command
+script_with command rows = script_as command (operand_of rows) (tech_of rows) (script_of rows) (passes_of rows)
 
 abbrev pub jog_of : List Text → Option Command
-jog_of words = option_and_then jog_with (found_in jog_line words)
+jog_of words = option_and_then (script_with jog) (found_in script_line words)
+
+abbrev pub edit_of : List Text → Option Command
+edit_of words = option_and_then (script_with edit) (found_in script_line words)
+
+-- `check` with these texts, where the last is a number of pieces
+abbrev pub check_as : Text → Text → Text → Option Command
+check_as cif tech split = option_map (check cif tech) (count_in split)
+
+abbrev pub check_with : List Row → Option Command
+check_with rows = check_as (operand_of rows) (tech_of rows) (split_of rows)
 
 abbrev pub check_of : List Text → Option Command
-check_of words = option_map (λ rows. check (operand_of rows) (tech_of rows)) (found_in cif_line words)
+check_of words = option_and_then check_with (found_in check_line words)
 
 abbrev pub extract_of : List Text → Option Command
-extract_of words = option_map (λ rows. extract (operand_of rows) (tech_of rows)) (found_in cif_line words)
+extract_of words = option_map (λ rows. extract (operand_of rows) (tech_of rows)) (found_in extract_line words)
 
 abbrev pub fmt_of : List Text → Option Command
 fmt_of words = option_map (λ rows. fmt (operand_of rows)) (found_in operand_line words)
@@ -85,17 +101,22 @@ bench_as n = option_map bench (count_in n)
 abbrev pub bench_of : List Text → Option Command
 bench_of words = option_and_then (λ rows. bench_as (operand_of rows)) (found_in operand_line words)
 
+-- the command that the words are, if they are one, where this is its name
+abbrev pub command_named : Text → List Text → Option Command
+command_named name words =
+    if bytes_eq name (codes "compact") then compact_of words
+    else (if bytes_eq name (codes "slack") then slack_of words
+    else (if bytes_eq name (codes "jog") then jog_of words
+    else (if bytes_eq name (codes "edit") then edit_of words
+    else (if bytes_eq name (codes "check") then check_of words
+    else (if bytes_eq name (codes "extract") then extract_of words
+    else (if bytes_eq name (codes "fmt") then fmt_of words
+    else (if bytes_eq name (codes "bench") then bench_of words else None)))))))
+
 -- the command that the words are, if they are one: the first word names it
 abbrev pub command_of : List Text → Option Command
 command_of [] = None
-command_of (word ∷ words) =
-    if bytes_eq word (codes "compact") then compact_of (word ∷ words)
-    else (if bytes_eq word (codes "slack") then slack_of (word ∷ words)
-    else (if bytes_eq word (codes "jog") then jog_of (word ∷ words)
-    else (if bytes_eq word (codes "check") then check_of (word ∷ words)
-    else (if bytes_eq word (codes "extract") then extract_of (word ∷ words)
-    else (if bytes_eq word (codes "fmt") then fmt_of (word ∷ words)
-    else (if bytes_eq word (codes "bench") then bench_of (word ∷ words) else None))))))
+command_of (name ∷ words) = command_named name (name ∷ words)
 
 -- the bytes of words
 abbrev pub texts_of : List (Bor (List ℕ)) → List (List ℕ)

@@ -45,12 +45,25 @@ pub enum Command<'a> {
         /// The axes of the passes, in their order.
         passes: Seq<Axis>,
     },
-    /// `check CIF --tech FILE`: the first break of a design rule in a CIF text under a technology.
+    /// `edit DESIGN --tech FILE --script FILE [--passes LIST]`: adds and removes limits of a design, with its sizes after each step.
+    Edit {
+        /// The design's file.
+        design: &'a str,
+        /// The technology's file.
+        tech: &'a str,
+        /// The script's file.
+        script: &'a str,
+        /// The axes of the passes, in their order.
+        passes: Seq<Axis>,
+    },
+    /// `check CIF --tech FILE [--split N]`: the first break of a design rule in a CIF text under a technology.
     Check {
         /// The CIF text's file.
         cif: &'a str,
         /// The technology's file.
         tech: &'a str,
+        /// The number of pieces that the work on the boxes is split into: 1 to 64.
+        split: u32,
     },
     /// `extract CIF --tech FILE`: the nets and transistors of a CIF text under a technology.
     Extract {

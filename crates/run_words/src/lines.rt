@@ -3,7 +3,7 @@
 ghost use Rattle.std.specs.Prelude.{◌≡◌, true, false, Some, None, Err, IfOk, codes, unwrap_or};
 ghost use Rattle.clap.specs.Words.{IsParsedFrom, app_of, first_of, found_of, is_simple_and_free, rows_of, rule_of};
 ghost use Rattle.run_words.specs.Words.{texts_of};
-ghost use Rattle.run_words.specs.Lines.{cif_line, compact_line, found_in, jog_line, operand_line, option, slack_line, text_of, HasText};
+ghost use Rattle.run_words.specs.Lines.{check_line, compact_line, extract_line, found_in, operand_line, option, script_line, slack_line, text_of, HasText};
 ghost use Rattle.run_words.specs.declared.commands.WordsFault.TheVariants.{Usage};
 
 use crate::commands::WordsFault;
@@ -27,16 +27,22 @@ fn option<'a>(alloc: Global, name: &'a str) -> Arg<'a>
     Arg::new(alloc, name).long(name).action(ArgAction::Set)
 }
 
-fn cif_line<'a>(alloc: Global) -> Result<Command<'a>, AllocError>
-    ensures { IfOk result (λ line. app_of line ≡ cif_line) }
+fn extract_line<'a>(alloc: Global) -> Result<Command<'a>, AllocError>
+    ensures { IfOk result (λ line. app_of line ≡ extract_line) }
 {
     operand_line(alloc)?.arg(option(alloc, "tech").required(true))
+}
+
+fn check_line<'a>(alloc: Global) -> Result<Command<'a>, AllocError>
+    ensures { IfOk result (λ line. app_of line ≡ check_line) }
+{
+    extract_line(alloc)?.arg(option(alloc, "split"))
 }
 
 fn slack_line<'a>(alloc: Global) -> Result<Command<'a>, AllocError>
     ensures { IfOk result (λ line. app_of line ≡ slack_line) }
 {
-    cif_line(alloc)?.arg(option(alloc, "passes"))
+    extract_line(alloc)?.arg(option(alloc, "passes"))
 }
 
 fn compact_line<'a>(alloc: Global) -> Result<Command<'a>, AllocError>
@@ -45,8 +51,8 @@ fn compact_line<'a>(alloc: Global) -> Result<Command<'a>, AllocError>
     slack_line(alloc)?.arg(option(alloc, "split"))
 }
 
-fn jog_line<'a>(alloc: Global) -> Result<Command<'a>, AllocError>
-    ensures { IfOk result (λ line. app_of line ≡ jog_line) }
+fn script_line<'a>(alloc: Global) -> Result<Command<'a>, AllocError>
+    ensures { IfOk result (λ line. app_of line ≡ script_line) }
 {
     slack_line(alloc)?.arg(option(alloc, "script").required(true))
 }
@@ -81,25 +87,35 @@ pub(crate) fn slack<'a>(alloc: Global, words: &'a [&'a str]) -> Result<ArgMatche
     found(slack_line(alloc)?, words)
 }
 
-// `jog DESIGN --tech FILE --script FILE [--passes LIST]`
-pub(crate) fn jog<'a>(alloc: Global, words: &'a [&'a str]) -> Result<ArgMatches<'a>, WordsFault>
-    ensures found { IfOk result (λ m. found_in jog_line (texts_of words.now) ≡ Some (rows_of (found_of m))) }
+// `jog DESIGN --tech FILE --script FILE [--passes LIST]`, and `edit` with the same
+pub(crate) fn script<'a>(alloc: Global, words: &'a [&'a str]) -> Result<ArgMatches<'a>, WordsFault>
+    ensures found { IfOk result (λ m. found_in script_line (texts_of words.now) ≡ Some (rows_of (found_of m))) }
     ensures operand { IfOk result (HasText (codes "operand")) }
     ensures tech { IfOk result (HasText (codes "tech")) }
     ensures script { IfOk result (HasText (codes "script")) }
-    ensures usage { result ≡ Err Usage → found_in jog_line (texts_of words.now) ≡ None }
+    ensures usage { result ≡ Err Usage → found_in script_line (texts_of words.now) ≡ None }
 {
-    found(jog_line(alloc)?, words)
+    found(script_line(alloc)?, words)
 }
 
-// `check CIF --tech FILE` and `extract CIF --tech FILE`
-pub(crate) fn cif<'a>(alloc: Global, words: &'a [&'a str]) -> Result<ArgMatches<'a>, WordsFault>
-    ensures found { IfOk result (λ m. found_in cif_line (texts_of words.now) ≡ Some (rows_of (found_of m))) }
+// `check CIF --tech FILE [--split N]`
+pub(crate) fn check<'a>(alloc: Global, words: &'a [&'a str]) -> Result<ArgMatches<'a>, WordsFault>
+    ensures found { IfOk result (λ m. found_in check_line (texts_of words.now) ≡ Some (rows_of (found_of m))) }
     ensures operand { IfOk result (HasText (codes "operand")) }
     ensures tech { IfOk result (HasText (codes "tech")) }
-    ensures usage { result ≡ Err Usage → found_in cif_line (texts_of words.now) ≡ None }
+    ensures usage { result ≡ Err Usage → found_in check_line (texts_of words.now) ≡ None }
 {
-    found(cif_line(alloc)?, words)
+    found(check_line(alloc)?, words)
+}
+
+// `extract CIF --tech FILE`
+pub(crate) fn extract<'a>(alloc: Global, words: &'a [&'a str]) -> Result<ArgMatches<'a>, WordsFault>
+    ensures found { IfOk result (λ m. found_in extract_line (texts_of words.now) ≡ Some (rows_of (found_of m))) }
+    ensures operand { IfOk result (HasText (codes "operand")) }
+    ensures tech { IfOk result (HasText (codes "tech")) }
+    ensures usage { result ≡ Err Usage → found_in extract_line (texts_of words.now) ≡ None }
+{
+    found(extract_line(alloc)?, words)
 }
 
 // `fmt DESIGN` and `bench N`

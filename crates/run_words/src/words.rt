@@ -1,9 +1,9 @@
 //! Reading a command line.
 
-ghost use Rattle.std.specs.Prelude.{◌≡◌, Some, None, Err, IfOk};
+ghost use Rattle.std.specs.Prelude.{◌≡◌, ◌≤◌, Some, None, Err, IfOk};
 ghost use Rattle.clap.specs.Words.{found_of, rows_of};
-ghost use Rattle.run_words.specs.Values.{passes_in};
-ghost use Rattle.run_words.specs.Words.{bench_of, check_of, command_of, compact_of, extract_of, fmt_of, jog_of, passes_of, slack_of, texts_of};
+ghost use Rattle.run_words.specs.Values.{count_in, passes_in};
+ghost use Rattle.run_words.specs.Words.{bench_of, check_of, command_named, command_of, compact_of, edit_of, extract_of, fmt_of, jog_of, passes_of, slack_of, split_of, texts_of};
 ghost use Rattle.run_words.specs.Commands.{command_from, AreOfPassList, HasPassList, IsWithinLimits};
 ghost use Rattle.run_words.specs.declared.commands.WordsFault.TheVariants.{Usage};
 
@@ -28,6 +28,15 @@ fn passes_of(alloc: Global, found: &ArgMatches) -> Result<Seq<Axis>, WordsFault>
     Ok(Seq::from_vec(axes(alloc, passes)?))
 }
 
+// The number of pieces, 1 where there is none.
+fn split_of(found: &ArgMatches) -> Result<u32, WordsFault>
+    ensures number { IfOk result (λ split. count_in (split_of (rows_of (found_of found.now))) ≡ Some split) }
+    ensures limits { IfOk result (λ split. (1 ≤ split) × (split ≤ 64)) }
+    ensures usage { result ≡ Err Usage → count_in (split_of (rows_of (found_of found.now))) ≡ None }
+{
+    count(text_or(found, "split", "1")).ok_or(WordsFault::Usage)
+}
+
 fn read_compact<'a>(alloc: Global, words: &'a [&'a str]) -> Result<Command<'a>, WordsFault>
     ensures command { IfOk result (λ command. compact_of (texts_of words.now) ≡ Some (command_from command)) }
     ensures passes { IfOk result HasPassList }
@@ -36,7 +45,7 @@ fn read_compact<'a>(alloc: Global, words: &'a [&'a str]) -> Result<Command<'a>, 
 {
     let found = lines::compact(alloc, words)?;
     let passes = passes_of(alloc, &found)?;
-    let split = count(text_or(&found, "split", "1")).ok_or(WordsFault::Usage)?;
+    let split = split_of(&found)?;
     Ok(Command::Compact {
         design: text_of(&found, "operand"),
         tech: text_of(&found, "tech"),
@@ -65,8 +74,23 @@ fn read_jog<'a>(alloc: Global, words: &'a [&'a str]) -> Result<Command<'a>, Word
     ensures limits { IfOk result IsWithinLimits }
     ensures usage { result ≡ Err Usage → jog_of (texts_of words.now) ≡ None }
 {
-    let found = lines::jog(alloc, words)?;
+    let found = lines::script(alloc, words)?;
     Ok(Command::Jog {
+        design: text_of(&found, "operand"),
+        tech: text_of(&found, "tech"),
+        script: text_of(&found, "script"),
+        passes: passes_of(alloc, &found)?,
+    })
+}
+
+fn read_edit<'a>(alloc: Global, words: &'a [&'a str]) -> Result<Command<'a>, WordsFault>
+    ensures command { IfOk result (λ command. edit_of (texts_of words.now) ≡ Some (command_from command)) }
+    ensures passes { IfOk result HasPassList }
+    ensures limits { IfOk result IsWithinLimits }
+    ensures usage { result ≡ Err Usage → edit_of (texts_of words.now) ≡ None }
+{
+    let found = lines::script(alloc, words)?;
+    Ok(Command::Edit {
         design: text_of(&found, "operand"),
         tech: text_of(&found, "tech"),
         script: text_of(&found, "script"),
@@ -80,10 +104,12 @@ fn read_check<'a>(alloc: Global, words: &'a [&'a str]) -> Result<Command<'a>, Wo
     ensures limits { IfOk result IsWithinLimits }
     ensures usage { result ≡ Err Usage → check_of (texts_of words.now) ≡ None }
 {
-    let found = lines::cif(alloc, words)?;
+    let found = lines::check(alloc, words)?;
+    let split = split_of(&found)?;
     Ok(Command::Check {
         cif: text_of(&found, "operand"),
         tech: text_of(&found, "tech"),
+        split,
     })
 }
 
@@ -93,7 +119,7 @@ fn read_extract<'a>(alloc: Global, words: &'a [&'a str]) -> Result<Command<'a>, 
     ensures limits { IfOk result IsWithinLimits }
     ensures usage { result ≡ Err Usage → extract_of (texts_of words.now) ≡ None }
 {
-    let found = lines::cif(alloc, words)?;
+    let found = lines::extract(alloc, words)?;
     Ok(Command::Extract {
         cif: text_of(&found, "operand"),
         tech: text_of(&found, "tech"),
@@ -123,6 +149,38 @@ fn read_bench<'a>(alloc: Global, words: &'a [&'a str]) -> Result<Command<'a>, Wo
     Ok(Command::Bench { n })
 }
 
+// The command that the words are, where `name` is its name.
+fn read_named<'a>(
+    alloc: Global,
+    name: &str,
+    words: &'a [&'a str],
+) -> Result<Command<'a>, WordsFault>
+    ensures command { IfOk result (λ command. command_named name.now (texts_of words.now) ≡ Some (command_from command)) }
+    ensures passes { IfOk result HasPassList }
+    ensures limits { IfOk result IsWithinLimits }
+    ensures usage { result ≡ Err Usage → command_named name.now (texts_of words.now) ≡ None }
+{
+    if name == "compact" {
+        read_compact(alloc, words)
+    } else if name == "slack" {
+        read_slack(alloc, words)
+    } else if name == "jog" {
+        read_jog(alloc, words)
+    } else if name == "edit" {
+        read_edit(alloc, words)
+    } else if name == "check" {
+        read_check(alloc, words)
+    } else if name == "extract" {
+        read_extract(alloc, words)
+    } else if name == "fmt" {
+        read_fmt(alloc, words)
+    } else if name == "bench" {
+        read_bench(alloc, words)
+    } else {
+        Err(WordsFault::Usage)
+    }
+}
+
 /// The command that the words are, which are those behind the program's name. `Usage` comes exactly where they are no
 /// command. Want of memory is the one other refusal.
 pub fn read_words<'a>(alloc: Global, words: &'a [&'a str]) -> Result<Command<'a>, WordsFault>
@@ -133,24 +191,6 @@ pub fn read_words<'a>(alloc: Global, words: &'a [&'a str]) -> Result<Command<'a>
 {
     match words {
         [] => Err(WordsFault::Usage),
-        [command, ..] => {
-            if *command == "compact" {
-                read_compact(alloc, words)
-            } else if *command == "slack" {
-                read_slack(alloc, words)
-            } else if *command == "jog" {
-                read_jog(alloc, words)
-            } else if *command == "check" {
-                read_check(alloc, words)
-            } else if *command == "extract" {
-                read_extract(alloc, words)
-            } else if *command == "fmt" {
-                read_fmt(alloc, words)
-            } else if *command == "bench" {
-                read_bench(alloc, words)
-            } else {
-                Err(WordsFault::Usage)
-            }
-        }
+        [name, ..] => read_named(alloc, name, words),
     }
 }
