@@ -16,7 +16,7 @@ use Rattle.edit_lines.specs.declared.script.EditLine.TheVariants.{Add, Take}
 use Rattle.edit_lines.specs.Edits.{cell_in, number_named, ChangesTo, HasText, HasLinesAfter, IsEdited}
 use Rattle.edit_lines.proofs.Lines.{changes_are_determined, changed_have_text, changed_length, HasLengthAfter}
 
-same_some : (a b : ℕ) → Some a ≡ Some b → a ≡ b
+pub same_some : (a b : ℕ) → Some a ≡ Some b → a ≡ b
 same_some a b e = cc
 
 -- the design with these lines in a cell
