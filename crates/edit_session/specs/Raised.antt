@@ -1,9 +1,9 @@
 -- Values while they rise after an edge has been appended. Only private functions cite these.
-use Rattle.std.specs.Prelude.{◌≡◌, ◌≢◌, ℕ, ◌+◌, ◌^◌, ◌<◌, ◌≤◌, Bool, false, true, ◌⊎◌, ℤ, pos, negsuc, ◌+ℤ◌, ◌-ℤ◌, ◌≤ℤ◌, List, [], ◌∷◌, ◌++◌, length, All, Contains, slice_index_or}
+use Rattle.std.specs.Prelude.{◌≡◌, ◌≢◌, ℕ, suc, ◌+◌, ◌^◌, ◌<◌, ◌≤◌, Bool, false, true, ◌⊎◌, ℤ, pos, negsuc, ◌+ℤ◌, ◌-ℤ◌, ◌≤ℤ◌, List, [], ◌∷◌, length, All, Contains, slice_index_or}
 use Rattle.cons_graph.specs.declared.edges.Edge.{Edge}
-use Rattle.cons_graph.specs.Constraints.{IsConstraintGraph, IsEdgeAmong}
+use Rattle.cons_graph.specs.Constraints.{IsConstraintGraph}
 use Rattle.cons_graph.specs.EdgeNumbers.{edge_at}
-use Rattle.cons_graph.specs.Solutions.{Meets, IsSolution, IsLeastSolution, value_of}
+use Rattle.cons_graph.specs.Solutions.{Meets, IsSolution, value_of}
 use Rattle.cons_graph.specs.Walks.{IsWalk, walk_length}
 use Rattle.liao_wong.specs.Answers.{IsWithinLimit}
 
@@ -35,15 +35,15 @@ pub record IsRaised (vars tail : ℕ) (edges : List Edge) (x : List ℤ) (marks 
   pub reached : (u : ℕ) → u < vars → (value_of x u ≡ base u) ⊎ IsReached edges tail u (value_of x u -ℤ base tail)
   pub met : (k : ℕ) → k < length edges → Meets (value_of x) (edge_at edges k) ⊎ ((slice_index_or marks (edge_at edges k).from false ≡ true) ⊎ (((edge_at edges k).from ≡ v) × (k < n)))
 
--- the least solution of all edges but the last
+-- Values that all edges but the last meet, and that no solution of all is below.
 pub record IsAppended (edges : List Edge) (x : List ℤ) (marks : List Bool) : Type 0 where
-  pub first : List Edge
-  pub last : Edge
-  pub are : edges ≡ first ++ last ∷ []
-  pub shape : IsConstraintGraph (record { vars = length x; edges = first })
-  pub among : IsEdgeAmong (length x) last
+  pub some : 1 ≤ length edges
+  pub shape : IsConstraintGraph (record { vars = length x; edges = edges })
   pub one_mark_each : length marks ≡ length x
-  pub least : IsLeastSolution (length x) first (value_of x)
+  pub small : (u : ℕ) → u < length x → IsWithinLimit (value_of x u)
+  pub origin : value_of x 0 ≡ pos 0
+  pub met : (k : ℕ) → suc k < length edges → Meets (value_of x) (edge_at edges k)
+  pub below : (y : ℕ → ℤ) → IsSolution edges y → (u : ℕ) → u < length x → value_of x u ≤ℤ y u
 
 -- a number, or 0 for one below it
 abbrev pub nat_of : ℤ → ℕ

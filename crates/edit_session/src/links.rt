@@ -1,4 +1,4 @@
-ghost use Rattle.std.specs.Prelude.{◌≡◌, ℕ, ◌+◌, ◌<◌, [], ◌∷◌, ◌++◌, length, All, IfOk, OnOk, OnErr};
+ghost use Rattle.std.specs.Prelude.{◌≡◌, ℕ, ◌+◌, ◌^◌, ◌<◌, List, [], ◌∷◌, ◌++◌, length, All, IfOk, OnOk, OnErr};
 ghost use Rattle.cons_graph.specs.declared.edges.Edge.{Edge};
 ghost use Rattle.edit_session.specs.Links.{AreLinks};
 
@@ -32,8 +32,8 @@ impl Links {
         ensures { AreLinks (length self.old.latest.items) edges.now
             self.new.latest.items self.new.before.items }
     {
-        for l in self.latest.iter_mut() {
-            *l = 0;
+        for v in 0..self.latest.len() {
+            self.latest[v] = 0;
         }
         for k in 0..edges.len() {
             let tail = edges[k].from as usize;

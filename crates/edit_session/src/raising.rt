@@ -1,5 +1,6 @@
-ghost use Rattle.std.specs.Prelude.{◌≡◌, ℕ, ◌+◌, ◌-◌, ◌<◌, ◌≤◌, false, true, length, slice_index_or};
-ghost use Rattle.cons_graph.specs.Solutions.{IsLeastSolution, value_of};
+ghost use Rattle.std.specs.Prelude.{◌≡◌, ℕ, ◌+◌, ◌*◌, ◌^◌, ◌<◌, ◌≤◌, false, true, ℤ, pos, neg_ℤ, ◌+ℤ◌, ◌≤ℤ◌, ◌<ℤ◌, length, IfSome, IfNone};
+ghost use Rattle.cons_graph.specs.Constraints.{IsEdgeAmong};
+ghost use Rattle.cons_graph.specs.Solutions.{Meets, IsLeastSolution, value_of};
 ghost use Rattle.cons_graph.specs.Walks.{HasPositiveCycle};
 ghost use Rattle.cons_graph.specs.EdgeNumbers.{edge_at};
 ghost use Rattle.edit_session.specs.Links.{AreLinks};
@@ -28,11 +29,10 @@ pub fn raise_last(
     ensures cycle { result ≡ false → HasPositiveCycle edges.now }
 {
     let last = edges[edges.len() - 1];
-    let asked = x[last.from as usize] + last.len;
-    if x[last.to as usize] >= asked {
+    let Some(value) = asked(x, &last) else {
         return true;
-    }
-    x[last.to as usize] = asked;
+    };
+    x[last.to as usize] = value;
     waiting.push(last.to);
     while let Some(v) = waiting.pop() {
         if !look_from(x, waiting, edges, links, v, last.from) {
@@ -94,14 +94,29 @@ fn look(
     ensures cycle { result ≡ false → HasPositiveCycle edges.now }
 {
     let edge = edges[k];
-    let asked = x[edge.from as usize] + edge.len;
-    if x[edge.to as usize] >= asked {
+    let Some(value) = asked(x, &edge) else {
         return true;
-    }
+    };
     if edge.to == tail {
         return false;
     }
-    x[edge.to as usize] = asked;
+    x[edge.to as usize] = value;
     waiting.push(edge.to);
     true
+}
+
+// The value that an edge asks of its head, where the head has a lower one.
+fn asked(x: &[i64], edge: &Edge) -> Option<i64>
+    requires among { IsEdgeAmong (length x.now) edge.now }
+    requires low { neg_ℤ (pos (2 ^ 60)) ≤ℤ value_of x.now edge.now.from }
+    requires high { value_of x.now edge.now.from ≤ℤ pos (2 ^ 60) }
+    ensures met { IfNone result (Meets (value_of x.now) edge.now) }
+    ensures value { IfSome result (λ a. a ≡ value_of x.now edge.now.from +ℤ edge.now.len) }
+    ensures higher { IfSome result (λ a. value_of x.now edge.now.to <ℤ a) }
+{
+    let value = x[edge.from as usize] + edge.len;
+    if x[edge.to as usize] >= value {
+        return None;
+    }
+    Some(value)
 }

@@ -1,0 +1,4 @@
+pub mod Queue
+pub mod Linked
+pub mod Rises
+pub mod Starts
