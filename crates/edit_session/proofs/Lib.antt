@@ -2,3 +2,5 @@ pub mod Queue
 pub mod Linked
 pub mod Rises
 pub mod Starts
+pub mod Sizes
+pub mod Kept

@@ -55,7 +55,7 @@ impl Waiting {
             → slice_index_or self.new.marks u false ≡ true) }
         ensures one_each { length self.new.marks ≡ length self.old.marks }
         ensures count { IfSome result (λ _. self.new.count + 1 ≡ self.old.count) }
-        ensures none { IfNone result ((u : ℕ) → slice_index_or self.new.marks u false ≡ true → ⊥) }
+        ensures none { IfNone result ((u : ℕ) → slice_index_or self.old.marks u false ≡ true → ⊥) }
     {
         let v = self.queue.pop_front()?;
         self.waits[v as usize] = false;

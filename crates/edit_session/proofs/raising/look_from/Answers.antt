@@ -59,9 +59,9 @@ loop-older-preserved c =
     let V : ℕ → Type 0 = λ v. IsRaised vars c.args.tail edges c.look.new.x.items c.look.new.waiting.marks v k in
     let L : ℕ → Type 0 = λ l. IsRaised l c.args.tail edges c.look.new.x.items c.look.new.waiting.marks (edge_at edges k).from k in
     let inside : k < length before = (let a : length before ≡ length edges = c.requires.links.one_each_edge in omega (arith, a, lt)) in
-    let read : c.index.result.now ≡ get_or before k 0 = get_or_read before k c.index.result.now inside c.index.ensures 0 in
+    let read : c.index-older-in-loop-older.result.now ≡ get_or before k 0 = get_or_read before k c.index-older-in-loop-older.result.now inside c.index-older-in-loop-older.ensures 0 in
     let I : ℕ → Type 0 = λ v. IsLatest edges v k (get_or before k 0) in
-    let h = on vars c.args.tail edges c.look.new.x.items c.look.new.waiting.marks c.args.v k c.index.result.now (get_or before k 0) (omega (arith, lt)) (subst V v_is (subst L n (c.if-not-look.ensures.raised refl))) (subst I v_is (c.requires.links.older k lt)) read in
+    let h = on vars c.args.tail edges c.look.new.x.items c.look.new.waiting.marks c.args.v k c.index-older-in-loop-older.result.now (get_or before k 0) (omega (arith, lt)) (subst V v_is (subst L n (c.if-not-look.ensures.raised refl))) (subst I v_is (c.requires.links.older k lt)) read in
     let now = c.if-not-look.ensures.less refl in
     let old = c.loop-older.invariant.less in
     record { within = h.within; leaves = h.leaves; raised = h.raised; less = omega (arith, now, old) }
