@@ -49,7 +49,10 @@ impl Links {
         ensures ok { OnOk result ((edges : List Edge) (e : Edge) → e.from ≡ tail
             → AreLinks (length self.old.latest.items) edges self.old.latest.items self.old.before.items
             → AreLinks (length self.old.latest.items) (edges ++ e ∷ []) self.new.latest.items self.new.before.items) }
-        ensures err { OnErr result (self.new ≡ self.old) }
+        ensures count { OnOk result (length self.new.before.items ≡ length self.old.before.items + 1) }
+        ensures one_each { OnOk result (length self.new.latest.items ≡ length self.old.latest.items) }
+        ensures latest_stays { OnErr result (self.new.latest.items ≡ self.old.latest.items) }
+        ensures before_stays { OnErr result (self.new.before.items ≡ self.old.before.items) }
     {
         let older = self.latest[tail as usize];
         self.before.push(older)?;

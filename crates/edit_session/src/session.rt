@@ -90,13 +90,13 @@ impl Session {
         if self.edges.len() >= MAX_EDGES {
             return Err(SessionFault::TooManyEdges);
         }
-        if self.edges.push(e).is_err() {
+        let Ok(()) = self.links.add(e.from) else {
             return Err(SessionFault::OutOfMemory);
-        }
-        if self.links.add(e.from).is_err() {
-            self.edges.pop();
+        };
+        let Ok(()) = self.edges.push(e) else {
+            self.links.shorten(&self.edges);
             return Err(SessionFault::OutOfMemory);
-        }
+        };
         if !self.cyclic {
             self.cyclic = !raise_last(&mut self.x, &mut self.waiting, &self.edges, &self.links);
         }
