@@ -30,7 +30,10 @@ fn order_near(alloc: Global, vars: u32, near: &[i64]) -> Result<Vec<u32>, AllocE
     requires one_each { length near.now ≡ vars }
     ensures { IfOk result (λ order. IsOrder vars order.items) }
 {
-    let mut values = Vec::from_slice(alloc, near)?;
-    values[0] = i64::MIN;
+    let mut values = Vec::new(alloc);
+    values.push(i64::MIN)?;
+    for v in 1..near.len() {
+        values.push(near[v])?;
+    }
     sort_order(alloc, &values)
 }

@@ -1,8 +1,7 @@
-use Rattle.std.proofs.Common.{◌≡◌, ℕ, zero, suc, ◌^◌, ◌<◌, ◌≤◌, ◌⊎◌, inl, inr, ℤ, pos, neg_ℤ, ◌≤ℤ◌, ◌<ℤ◌, w64, rules, FitsSigned, Some, Ok, Err, Result, List, [], ◌∷◌, length, get_or, set, refl, sym, ap, subst, ◌∙◌, arith}
+use Rattle.std.proofs.Common.{◌≡◌, ℕ, zero, suc, ◌^◌, ◌<◌, ◌≤◌, ◌⊎◌, inl, inr, ℤ, pos, neg_ℤ, ◌≤ℤ◌, ◌<ℤ◌, Some, Ok, Err, Result, List, [], ◌∷◌, length, get_or, set, refl, sym, ap, subst, ◌∙◌, arith}
 use Rattle.std.specs.Prelude.{IfOk, slice_get}
 use Rattle.std.proofs.lemmas.Int.{ints}
 use Rattle.std.proofs.lemmas.Bool.{cases_eq}
-use Rattle.std.proofs.lemmas.List.{length-set, get_or-set_same, get_or-set_other}
 use Rattle.cons_graph.specs.Solutions.{value_of}
 use Rattle.round_log.specs.Orders.{NamesEachOnce, IsOrder}
 use Rattle.liao_wong.specs.Sorted.{Precedes, IsInOrderOf}
@@ -39,24 +38,16 @@ origin_first n x order some least names sorted =
       ];
     }
 
--- the origin's value is set to the least that there is
-origin_least : (near values : List ℤ) (n : ℕ) → 1 ≤ n → length near ≡ n → values ≡ set near 0 (neg_ℤ (pos (2 ^ 63))) → ((u : ℕ) → u < n → neg_ℤ (pos (2 ^ 63)) ≤ℤ value_of near u) → (u : ℕ) → u < n → value_of values 0 ≤ℤ value_of values u
-origin_least near values n some count is fits u lt =
-    let P : List ℤ → Type 0 = λ l. value_of l 0 ≤ℤ value_of l u in
-    let here : value_of (set near 0 (neg_ℤ (pos (2 ^ 63)))) 0 ≡ neg_ℤ (pos (2 ^ 63)) = get_or-set_same near 0 (neg_ℤ (pos (2 ^ 63))) (pos 0) (omega (arith, count, some)) in
-    subst P (sym is) (elim (cases_eq u 0) as (λ _. value_of (set near 0 (neg_ℤ (pos (2 ^ 63)))) 0 ≤ℤ value_of (set near 0 (neg_ℤ (pos (2 ^ 63)))) u) [
-      | inl e ↦ (let Q : ℕ → Type 0 = λ v. value_of (set near 0 (neg_ℤ (pos (2 ^ 63)))) 0 ≤ℤ value_of (set near 0 (neg_ℤ (pos (2 ^ 63)))) v in subst Q (sym e) (omega (arith, ints)))
-      | inr d ↦ (let there : value_of (set near 0 (neg_ℤ (pos (2 ^ 63)))) u ≡ value_of near u = get_or-set_other near 0 u (neg_ℤ (pos (2 ^ 63))) (pos 0) d in let f : neg_ℤ (pos (2 ^ 63)) ≤ℤ value_of near u = fits u lt in omega (arith, ints))
-    ])
-
 pub returns : goal.returns
 returns c =
-    let near : List ℤ = c.args.near.now in
-    let fit : (u : ℕ) → u < c.args.vars → FitsSigned w64 (value_of near u) = λ u lt. search rules in
-    let low : (u : ℕ) → u < c.args.vars → neg_ℤ (pos (2 ^ 63)) ≤ℤ value_of near u = λ u lt. (let f : FitsSigned w64 (value_of near u) = fit u lt in omega (arith, ints)) in
-    let is : c.deref.result.now ≡ set near 0 (neg_ℤ (pos (2 ^ 63))) = c.deref.ensures.value ∙ ap (λ l. set l 0 (neg_ℤ (pos (2 ^ 63)))) c.in_ok-values.ensures.items in
-    let count : length c.deref.result.now ≡ c.args.vars = ap length is ∙ length-set near 0 (neg_ℤ (pos (2 ^ 63))) ∙ c.requires.one_each in
-    let N : ℕ → Type 0 = λ n. IfOk c.sort_order.result (λ order. NamesEachOnce n order.items) in
-    both c.sort_order.result (λ order. NamesEachOnce c.args.vars order.items) (λ order. IsInOrderOf (value_of c.deref.result.now) order.items) (λ order. IsOrder c.args.vars order.items)
-      (λ order names sorted. origin_first c.args.vars (value_of c.deref.result.now) order.items c.requires.some (origin_least near c.deref.result.now c.args.vars c.requires.some c.requires.one_each is low) names sorted)
-      (subst N count c.sort_order.ensures.names) c.sort_order.ensures.in_order
+    let values : List ℤ = c.loop-v.values.items in
+    let h = c.loop-v.invariant in
+    let count : length values ≡ c.args.vars = (let n : length values ≡ c.loop-v.v = h.count in let o = c.requires.one_each in omega (arith, n, o)) in
+    let first : value_of values 0 ≡ neg_ℤ (pos (2 ^ 63)) = h.first in
+    let least : (u : ℕ) → u < c.args.vars → value_of values 0 ≤ℤ value_of values u = λ u lt. (let f : neg_ℤ (pos (2 ^ 63)) ≤ℤ value_of values u = h.least u (omega (arith, lt, count)) in omega (arith, ints)) in
+    let N : List ℤ → Type 0 = λ l. IfOk c.sort_order.result (λ order. NamesEachOnce (length l) order.items) in
+    let M : ℕ → Type 0 = λ n. IfOk c.sort_order.result (λ order. NamesEachOnce n order.items) in
+    let S : List ℤ → Type 0 = λ l. IfOk c.sort_order.result (λ order. IsInOrderOf (value_of l) order.items) in
+    both c.sort_order.result (λ order. NamesEachOnce c.args.vars order.items) (λ order. IsInOrderOf (value_of values) order.items) (λ order. IsOrder c.args.vars order.items)
+      (λ order names sorted. origin_first c.args.vars (value_of values) order.items c.requires.some least names sorted)
+      (subst M count (subst N c.deref.ensures.value c.sort_order.ensures.names)) (subst S c.deref.ensures.value c.sort_order.ensures.in_order)
