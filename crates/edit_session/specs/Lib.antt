@@ -1,0 +1,4 @@
+pub mod Queues
+pub mod Links
+pub mod Raised
+pub mod Kept
