@@ -5,7 +5,7 @@ use Rattle.std.proofs.Math.Seq.{take-suc}
 use Rattle.std.proofs.lemmas.List.Elements.{All-from_get_or}
 use Rattle.std.proofs.lemmas.Bool.{cases_eq, cases_lt, cases_Bool}
 use Rattle.std.proofs.lemmas.Grind.{get_or-set_at}
-use Rattle.std.proofs.lemmas.List.{length-set, get_or-set_other, length-reverse, reverse-append, reverse-reverse, length-take-le}
+use Rattle.std.proofs.lemmas.List.{length-set, take_more_set, take_all, get_or-set_other, length-reverse, reverse-append, reverse-reverse, length-take-le}
 use Rattle.round_log.specs.declared.log.Entry.{Entry}
 use Rattle.round_log.specs.Kept.{new_number, renumbered, kept_part, KeepsBack, KeepsChains}
 use Rattle.round_log.specs.Looks.{latest}
@@ -144,20 +144,62 @@ raises_before (e ∷ es) (suc n) one le = ap suc (length-reverse (take n es) ∙
 array-cons : (r : Entry) (rs : List Entry) → array_of (r ∷ rs) ≡ array_of rs ++ r ∷ []
 array-cons r rs = ap (λ l. origin_entry ∷ l) (reverse-cons r rs)
 
-pub kept_more : (keeps : ℕ → Bool) (es kept : List Entry) (n prev : ℕ) (value : ℤ) (d : Entry) → 0 < n → n < length es → keeps n ≡ true → prev ≡ new_number keeps (get_or es n d).prev → value ≡ (get_or es n d).value → kept ≡ array_of (kept_part keeps (raises_of (take n es))) → kept ++ record { var = (get_or es n d).var; value = value; edge = (get_or es n d).edge; prev = prev } ∷ [] ≡ array_of (kept_part keeps (raises_of (take (n + 1) es)))
-kept_more keeps es kept n prev value d one lt t p z h =
-    let e : Entry = get_or es n d in
+kept_more : (keeps : ℕ → Bool) (es kept : List Entry) (n prev : ℕ) (value : ℤ) (e : Entry) → 0 < n → n < length es → keeps n ≡ true → e ≡ get_or es n e → prev ≡ new_number keeps e.prev → value ≡ e.value → kept ≡ array_of (kept_part keeps (raises_of (take n es))) → kept ++ record { var = e.var; value = value; edge = e.edge; prev = prev } ∷ [] ≡ array_of (kept_part keeps (raises_of (take (n + 1) es)))
+kept_more keeps es kept n prev value e one lt t q p z h =
     let rs : List Entry = raises_of (take n es) in
     let here : keeps (length (e ∷ rs)) ≡ true = ap keeps (raises_before es n one (omega arith)) ∙ t in
     let R : ℤ → ℕ → Entry = λ a k. record { var = e.var; value = a; edge = e.edge; prev = k } in
-    ap (λ a. kept ++ R a prev ∷ []) z ∙ ap (λ k. kept ++ R e.value k ∷ []) p ∙ ap (λ l. l ++ renumbered keeps e ∷ []) h ∙ sym (array-cons (renumbered keeps e) (kept_part keeps rs)) ∙ ap array_of (sym (part-kept keeps e rs here)) ∙ ap (λ l. array_of (kept_part keeps l)) (sym (raises_more es n d one lt))
+    let more : raises_of (take (n + 1) es) ≡ e ∷ rs = raises_more es n e one lt ∙ ap (λ x. x ∷ rs) (sym q) in
+    ap (λ a. kept ++ R a prev ∷ []) z ∙ ap (λ k. kept ++ R e.value k ∷ []) p ∙ ap (λ l. l ++ renumbered keeps e ∷ []) h ∙ sym (array-cons (renumbered keeps e) (kept_part keeps rs)) ∙ ap array_of (sym (part-kept keeps e rs here)) ∙ ap (λ l. array_of (kept_part keeps l)) (sym more)
 
-pub kept_same : (keeps : ℕ → Bool) (es kept : List Entry) (n : ℕ) → 0 < n → n < length es → keeps n ≡ false → kept ≡ array_of (kept_part keeps (raises_of (take n es))) → kept ≡ array_of (kept_part keeps (raises_of (take (n + 1) es)))
+kept_same : (keeps : ℕ → Bool) (es kept : List Entry) (n : ℕ) → 0 < n → n < length es → keeps n ≡ false → kept ≡ array_of (kept_part keeps (raises_of (take n es))) → kept ≡ array_of (kept_part keeps (raises_of (take (n + 1) es)))
 kept_same keeps es kept n one lt f h =
     let e : Entry = get_or es n origin_entry in
     let rs : List Entry = raises_of (take n es) in
     let here : keeps (length (e ∷ rs)) ≡ false = ap keeps (raises_before es n one (omega arith)) ∙ f in
     h ∙ ap array_of (sym (part-left keeps e rs here)) ∙ ap (λ l. array_of (kept_part keeps l)) (sym (raises_more es n origin_entry one lt))
+
+-- the array when the entries before n have been looked at: those that are kept stand at its front
+pub record IsCompacted (keeps : ℕ → Bool) (es now : List Entry) (n kept : ℕ) : Type 0 where
+  pub same_length : length now ≡ length es
+  pub some : 0 < kept
+  pub low : kept ≤ n
+  pub front : take kept now ≡ array_of (kept_part keeps (raises_of (take n es)))
+  pub rest : (k : ℕ) (d : Entry) → n ≤ k → get_or now k d ≡ get_or es k d
+
+pub compact_start : (keeps : ℕ → Bool) (es : List Entry) → es ≡ array_of (raises_of es) → IsCompacted keeps es es 1 1
+compact_start keeps es e =
+    let P : List Entry → Type 0 = λ l. take 1 l ≡ array_of (kept_part keeps (raises_of (take 1 l))) in
+    record { same_length = refl; some = omega arith; low = omega arith; front = subst P (sym e) refl; rest = λ k d le. refl }
+
+pub compact_keep : (keeps : ℕ → Bool) (es now : List Entry) (n kept prev : ℕ) (value : ℤ) (e : Entry) → IsCompacted keeps es now n kept → n < length es → keeps n ≡ true → e ≡ get_or now n e → prev ≡ new_number keeps e.prev → value ≡ e.value → IsCompacted keeps es (set now kept (record { var = e.var; value = value; edge = e.edge; prev = prev })) (n + 1) (kept + 1)
+compact_keep keeps es now n kept prev value e c lt t q p z =
+    let new : Entry = record { var = e.var; value = value; edge = e.edge; prev = prev } in
+    let some = c.some in
+    let low = c.low in
+    let long = c.same_length in
+    record {
+      same_length = length-set now kept new ∙ long;
+      some = omega arith;
+      low = omega (arith, low);
+      front = take_more_set now kept new (omega (arith, low, lt, long)) ∙ kept_more keeps es (take kept now) n prev value e (omega (arith, some, low)) lt t (q ∙ c.rest n e (omega arith)) p z c.front;
+      rest = λ k d le. get_or-set_other now kept k new d (λ x. omega (arith, low)) ∙ c.rest k d (omega arith);
+    }
+
+pub compact_drop : (keeps : ℕ → Bool) (es now : List Entry) (n kept : ℕ) → IsCompacted keeps es now n kept → n < length es → keeps n ≡ false → IsCompacted keeps es now (n + 1) kept
+compact_drop keeps es now n kept c lt f =
+    let some = c.some in
+    let low = c.low in
+    record {
+      same_length = c.same_length;
+      some = some;
+      low = omega (arith, low);
+      front = kept_same keeps es (take kept now) n (omega (arith, some, low)) lt f c.front;
+      rest = λ k d le. c.rest k d (omega arith);
+    }
+
+pub compact_end : (keeps : ℕ → Bool) (es now : List Entry) (n kept : ℕ) → IsCompacted keeps es now n kept → length es ≤ n → take kept now ≡ array_of (kept_part keeps (raises_of es))
+compact_end keeps es now n kept c le = c.front ∙ ap (λ l. array_of (kept_part keeps (raises_of l))) (take_all n es le)
 
 -- ---- the arrays that are left
 
@@ -199,3 +241,11 @@ left_by entries es es' kept last old left numbers ns flags fs fs' a e len c f n 
     let O : List ℕ → Type 0 = λ l. AreRenumbered numbers l left in
     let N : List ℕ → Type 0 = λ l. AreRenumbered l old left in
     are_left (length last) entries kept last left numbers flags refl a (len ∙ ap length e) (subst K e c) (subst F f n) (k ∙ ap (λ l. array_of (kept_part (keeps_of l) (raises_of es'))) f' ∙ ap (λ l. array_of (kept_part (keeps_of flags) (raises_of l))) e') (subst O o (subst N m r))
+
+-- an entry that is looked at comes from an older one
+pub compact_older : (keeps : ℕ → Bool) (es now : List Entry) (vars n kept : ℕ) (e : Entry) → es ≡ array_of (raises_of es) → ComeFromOlder vars (raises_of es) → IsCompacted keeps es now n kept → n < length es → e ≡ get_or now n e → e.prev < n
+compact_older keeps es now vars n kept e is o c lt q =
+    let P : Entry → Type 0 = λ x. x.prev < n in
+    let some = c.some in
+    let low = c.low in
+    subst P (sym (q ∙ c.rest n e (omega arith))) (comes_from_older es vars n e is o (omega (arith, some, low)) lt)

@@ -3,7 +3,7 @@ ghost use Rattle.round_log.specs.Looks.{label, latest, comes_back};
 ghost use Rattle.round_log.specs.Logs.{HoldsRaises, raises_in};
 ghost use Rattle.liao_wong.specs.Sweeping.{IsSwept};
 
-use crate::sweeping::{kept_entries, new_numbers, reached, renumbered};
+use crate::sweeping::{keep_entries, new_numbers, reached, renumbered};
 use lam_list::Seq;
 use round_log::{Entry, Log};
 use std::alloc::{AllocError, Global};
@@ -96,10 +96,8 @@ impl Raises {
     {
         let keeps = reached(alloc, &self.entries, &self.last)?;
         let numbers = new_numbers(alloc, &keeps)?;
-        let entries = kept_entries(alloc, &self.entries, &keeps, &numbers)?;
-        let last = renumbered(alloc, &self.last, &numbers)?;
-        self.entries = entries;
-        self.last = last;
+        self.last = renumbered(alloc, &self.last, &numbers)?;
+        keep_entries(&mut self.entries, &keeps, &numbers);
         Ok(())
     }
 

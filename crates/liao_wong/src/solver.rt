@@ -25,8 +25,8 @@ pub fn places_of(alloc: Global, order: &[u32]) -> Result<Vec<u32>, AllocError>
     Ok(places)
 }
 
-// Sweeps the log where it has a floor, and twice as many raises as the floor and as the last sweep left; gives how many
-// the last one has left, at least the floor.
+// Sweeps the log where it has a floor, and half as many raises again as the last sweep left; gives how many the last one
+// has left, at least the floor.
 fn trim(
     alloc: Global,
     raises: &mut Raises,
@@ -38,7 +38,7 @@ fn trim(
     let Some(floor) = floor else {
         return Ok(left);
     };
-    if raises.len() / 2 < left {
+    if raises.len() - raises.len() / 3 < left {
         return Ok(left);
     }
     raises.sweep(alloc)?;
@@ -46,8 +46,7 @@ fn trim(
 }
 
 // Runs the rounds from the log without a raise until they end, and gives the number of the last one; or until a raise
-// stops them, and gives None. With a floor the log is swept between rounds, once it has grown to twice what a sweep
-// left.
+// stops them, and gives None. With a floor the log is swept between rounds, once it has grown by half.
 pub fn run_rounds(
     alloc: Global,
     raises: &mut Raises,

@@ -19,7 +19,7 @@ use round_log::Log;
 use std::alloc::{AllocError, Global};
 use thiserror::Error;
 
-// As many raises as a log keeps without a sweep, at least: 1.5 MB of entries.
+// A log with fewer raises than this and half as many again is not swept: some 1.5 MB.
 const SWEEP_FLOOR: usize = 32_768;
 
 /// What the rounds leave when they end without a cycle.
@@ -70,9 +70,9 @@ pub fn solve(alloc: Global, g: &Graph, order: &[u32]) -> Result<Solved, Unsolved
 }
 
 /// What `solve` gives, in less memory: between rounds the log drops the raises that no chain from a variable's latest
-/// one reaches, once it has grown to twice what it kept the last time. Values, rounds and cycle are those of `solve`, and
-/// so are the walks that the log tells. Sweeping costs a constant time a raise; the log holds at most twice the most
-/// raises that chains reach, and those of one round, of which there are no more than edges.
+/// one reaches, once it has grown by half of what it kept the last time. Values, rounds and cycle are those of `solve`,
+/// and so are the walks that the log tells. Sweeping costs a constant time a raise; the log holds at most one and a half
+/// times the most raises that chains reach, and those of one round, of which there are no more than edges.
 pub fn solve_reached(alloc: Global, g: &Graph, order: &[u32]) -> Result<Solved, Unsolved>
     requires { IsOrder g.now.vars order.now }
     ensures least { IfOk result (λ s. IsLeastSolution g.now.vars g.now.edges (value_of s.x)) }
@@ -92,7 +92,7 @@ pub fn solve_reached(alloc: Global, g: &Graph, order: &[u32]) -> Result<Solved, 
     solve_over(alloc, g, order, Some(SWEEP_FLOOR))
 }
 
-// Solves; with a floor the log is swept once it has grown to twice as many raises as the floor and as it last kept.
+// Solves; with a floor the log is swept once it has grown by half of what it last kept, which counts as the floor at least.
 pub fn solve_over(
     alloc: Global,
     g: &Graph,

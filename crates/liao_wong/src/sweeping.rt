@@ -41,28 +41,23 @@ pub fn new_numbers(alloc: Global, keeps: &[bool]) -> Result<Vec<u64>, AllocError
     Ok(numbers)
 }
 
-// The entries that are kept, under their new numbers.
-pub fn kept_entries(
-    alloc: Global,
-    entries: &[Entry],
-    keeps: &[bool],
-    numbers: &[u64],
-) -> Result<Vec<Entry>, AllocError>
-    requires entries { AreEntriesOf entries.now }
-    requires one_each { length keeps.now ≡ length entries.now }
+// Moves the entries that are kept to the front, under their new numbers, and drops the others.
+pub fn keep_entries(entries: &mut Vec<Entry>, keeps: &[bool], numbers: &[u64])
+    requires entries { AreEntriesOf entries.old.items }
+    requires one_each { length keeps.now ≡ length entries.old.items }
     requires numbers { AreNewNumbers keeps.now numbers.now }
-    ensures { IfOk result (λ kept. kept.items ≡ array_of (kept_part (keeps_of keeps.now) (raises_of entries.now))) }
+    ensures { entries.new.items ≡ array_of (kept_part (keeps_of keeps.now) (raises_of entries.old.items)) }
 {
-    let mut kept = Vec::new(alloc);
-    kept.push(entries[0])?;
+    let mut kept = 1;
     for n in 1..entries.len() {
         if keeps[n] {
             let mut entry = entries[n];
             entry.prev = numbers[entry.prev as usize];
-            kept.push(entry)?;
+            entries[kept] = entry;
+            kept += 1;
         }
     }
-    Ok(kept)
+    entries.truncate(kept);
 }
 
 // The new numbers in the place of the old ones.
