@@ -15,18 +15,10 @@ use Rattle.round_log.proofs.Least.{edge_among, label_value, labelled}
 use Rattle.round_log.proofs.Ends.{back_of, numbers, walk_is, walk_no_repeat}
 use Rattle.round_log.proofs.Outcomes.{IsEnded, ended_from_rounds, ended_least}
 use Rattle.round_log.proofs.Entries.{array_of, IsChainStep, chain_step}
+use Rattle.round_log.proofs.Alike.{same_label, same_walk}
 
-ended : (g : Constraints) (log : Log) → IsConstraintGraph g → (h : IsEndedLog g log) → IsEnded g h.order (raises_in log)
-ended g log s h = ended_from_rounds g h.order s h.is_order.names h.rounds (raises_in log) h.ended
-
--- each raise of a log is of one of the variables and comes from an older entry
-log_older : (g : Constraints) (back : ℕ → Bool) (rs : List Entry) → IsConstraintGraph g → IsLog (edge_at g.edges) back (length g.edges) rs → ComeFromOlder g.vars rs
-log_older g back [] s l = tt
-log_older g back (r ∷ rs) s l =
-    let var : r.var ≡ (edge_at g.edges r.edge).to = l.0.raise.var_is in
-    let prev : r.prev ≡ latest rs (edge_at g.edges r.edge).from = l.0.raise.prev_is in
-    let inside = (edge_among g s r.edge l.0.among).to_in_range in
-    (omega (arith, var, inside), omega (arith, prev, latest_in_log rs (edge_at g.edges r.edge).from), log_older g back rs s l.1)
+ended : (g : Constraints) (log : Log) → IsConstraintGraph g → (h : IsEndedLog g log) → IsEnded g h.order h.of_rounds.raises
+ended g log s h = ended_from_rounds g h.order s h.is_order.names h.rounds h.of_rounds.raises h.of_rounds.ended
 
 -- one entry further back
 pub record IsNextBack (log : Log) (var n : ℕ) (walk : List ℕ) (e : Entry) : Type 0 where
@@ -38,8 +30,8 @@ next_back g log var n walk d s h some le left =
     let rs : List Entry = raises_in log in
     let P : Entry → Type 0 = λ x. IsNextBack log var n walk x in
     let e : Entry = get_or (array_of rs) n d in
-    let b : IsChainStep rs n e = chain_step g.vars rs n d (log_older g (back_of g h.order) rs s (ended g log s h).log) some le in
-    subst P (ap (λ l. get_or l n d) (sym h.holds.entries_are)) (record {
+    let b : IsChainStep rs n e = chain_step g.vars rs n d h.of_rounds.older some le in
+    subst P (ap (λ l. get_or l n d) (sym h.of_rounds.holds.entries_are)) (record {
       older = b.older;
       left = append_assoc walk (e.edge ∷ []) (numbers (chain rs e.prev)) ∙ sym (ap (λ l. walk ++ numbers l) b.chain_is) ∙ left;
     })
@@ -53,15 +45,18 @@ pub record IsCriticalWalk (g : Constraints) (log : Log) (var : ℕ) (walk : List
 
 walk_ends : (g : Constraints) (log : Log) (var : ℕ) → IsConstraintGraph g → IsEndedLog g log → var < g.vars → IsCriticalWalk g log var (walk_of (raises_in log) var)
 walk_ends g log var s h lt =
-    let rs : List Entry = raises_in log in
+    let rs : List Entry = h.of_rounds.raises in
     let end : IsEnded g h.order rs = ended g log s h in
     let has = labelled g (back_of g h.order) rs s end.log end.quiet var lt in
     let w = walk_is g (back_of g h.order) rs end.log var has.0 has.1 in
+    let same : walk_of (raises_in log) var ≡ walk_of rs var = same_walk (raises_in log) rs var h.of_rounds.alike in
+    let W : List ℕ → Type 0 = λ walk. WalksFromTo g.edges 0 walk var in
+    let R : List ℕ → Type 0 = λ walk. HasNoRepeat (0 ∷ heads_of g.edges walk) in
     record {
       value = refl;
-      passes = w.0;
-      simple = walk_no_repeat g (back_of g h.order) rs s end.log (label_value rs) (ended_least g h.order rs s end).solves var has.0 has.1;
-      as_long = has.1 ∙ ap Some (sym w.1);
+      passes = subst W (sym same) w.0;
+      simple = subst R (sym same) (walk_no_repeat g (back_of g h.order) rs s end.log (label_value rs) (ended_least g h.order rs s end).solves var has.0 has.1);
+      as_long = same_label (raises_in log) rs var (h.of_rounds.alike var) ∙ has.1 ∙ ap Some (sym w.1 ∙ ap (length_of g.edges) (sym same));
     }
 
 -- the edges met on the way back, in reverse

@@ -1,5 +1,5 @@
 -- The course of the rounds: one round after another, and how each of them goes on, ends or stops.
-use Rattle.std.proofs.Common.{◌≡◌, ℕ, zero, suc, ◌+◌, ◌<◌, ◌≤◌, Bool, true, false, not, List, [], ◌∷◌, ◌++◌, inl, inr, length, get_or, refl, sym, ap, subst, ◌∙◌, arith, eq-eqb, eqb, length-append}
+use Rattle.std.proofs.Common.{◌≡◌, ℕ, zero, suc, ◌+◌, ◌<◌, ◌≤◌, Option, Bool, true, false, not, List, [], ◌∷◌, ◌++◌, inl, inr, length, get_or, refl, sym, ap, subst, ◌∙◌, arith, eq-eqb, eqb, length-append}
 use Rattle.std.specs.List.{filter, range_with_len}
 use Rattle.std.proofs.lemmas.Bool.{cond-true, cond-false, cases_eq, cond_both, ne_eqb, true≢false}
 use Rattle.std.proofs.lemmas.List.{nil_from_length}
@@ -13,51 +13,108 @@ use Rattle.round_log.specs.Looks.{place_in, is_forward, backward_numbers}
 use Rattle.round_log.specs.Rounds.{Progress, Plan, plan_of, forward_part, round, one_more, after_rounds, IsQuietAfter, EndsInRound}
 use Rattle.round_log.proofs.Chains.{In}
 use Rattle.round_log.proofs.Members.{IsDistinct}
-use Rattle.round_log.proofs.Parts.{Keeps}
-use Rattle.round_log.proofs.RoundSteps.{going_start, forward_next, round_gives, RoundGives, IsRoundOn, busy_bound}
+use Rattle.round_log.specs.Kept.{kept_part}
+use Rattle.round_log.specs.Told.{TellAlike}
+use Rattle.round_log.proofs.Parts.{Keeps, forward_keeps, BackwardGives, backward_gives}
+use Rattle.round_log.proofs.Alike.{ProgressAlike, round_alike}
+use Rattle.round_log.proofs.Kept.{part_alike, part_log}
+use Rattle.round_log.proofs.RoundSteps.{going_start, round_gives, IsRoundOn, busy_bound}
 use Rattle.round_log.proofs.Planned.{planned, In-at, place_of_In, In-from_contains, IsDistinct-from_pairs}
-use Rattle.round_log.proofs.Ends.{GoingOf, back_of}
+use Rattle.round_log.proofs.Ends.{GoingOf, LogOf, back_of}
 use Rattle.liao_wong.specs.Held.{Held, ArePlaces}
 use Rattle.liao_wong.specs.Going.{IsReady}
-use Rattle.liao_wong.specs.Running.{StartsEmpty, IsStoppedLog, HasCome}
+use Rattle.liao_wong.specs.Sweeping.{IsSwept, IsTrimmed}
+use Rattle.liao_wong.specs.Running.{StartsEmpty, IsStoppedLog, IsLogFor, HasCome, IsEndLog}
 
-pub has_started : (g : Constraints) (order : List ℕ) (held : Held) → StartsEmpty g held → HasCome g order 0 held
-has_started g order held s =
-    let P : List Entry → Type 0 = λ rs. GoingOf g order 0 rs in
-    let E : List Entry → Type 0 = λ rs. after_rounds (plan_of g.edges order) 0 ≡ record { raises = rs; stopped = false } in
-    record { vars = s.vars; here = subst E (sym s.none) refl; going = subst P (sym s.none) (going_start (plan_of g.edges order) (back_of g order) (length g.edges)); busy = λ m lt. absurd (omega arith); few = omega arith }
+pub has_started : (g : Constraints) (order : List ℕ) (floor : Option ℕ) (held : Held) → StartsEmpty g held → HasCome g order 0 floor held
+has_started g order floor held s =
+    let P : List Entry → Type 0 = λ rs. IsLogFor g order floor rs [] in
+    record {
+      vars = s.vars;
+      all = [];
+      here = refl;
+      going = going_start (plan_of g.edges order) (back_of g order) (length g.edges);
+      held_for = subst P (sym s.none) (record { log = tt; alike = λ v. refl; whole = λ _. refl });
+      busy = λ m lt. absurd (omega arith);
+      few = omega arith;
+    }
 
-pub ready_at : (g : Constraints) (order places : List ℕ) (n : ℕ) (held : Held) → IsConstraintGraph g → NamesEachOnce g.vars order → ArePlaces order g.vars places → HasCome g order n held → IsReady g.vars g.edges order places held
-ready_at g order places n held s o p h = record { shape = s; names = o; places_are = p; same_vars = h.vars; log = h.going.log }
+pub ready_at : (g : Constraints) (order places : List ℕ) (n : ℕ) (floor : Option ℕ) (held : Held) → IsConstraintGraph g → NamesEachOnce g.vars order → ArePlaces order g.vars places → HasCome g order n floor held → IsReady g.vars g.edges order places held
+ready_at g order places n floor held s o p h = record { shape = s; names = o; places_are = p; same_vars = h.vars; log = h.held_for.log }
+
+-- the forward part of a round keeps a log one
+forward_log : (g : Constraints) (order : List ℕ) (rs : List Entry) → IsConstraintGraph g → NamesEachOnce g.vars order → LogOf g order rs → LogOf g order (forward_part (plan_of g.edges order) rs)
+forward_log g order rs s o l =
+    let kept : Keeps (edge_at g.edges) (back_of g order) (length g.edges) 0 rs (forward_part (plan_of g.edges order) rs) = forward_keeps (edge_at g.edges) (back_of g order) (length g.edges) 0 rs (plan_of g.edges order).forward (planned g order s o).forward_edges l (λ k i. inl refl) in
+    kept.log
 
 -- after the forward part the backward one may go on
-pub ready_between : (g : Constraints) (order places : List ℕ) (n : ℕ) (held : Held) → IsConstraintGraph g → NamesEachOnce g.vars order → ArePlaces order g.vars places → HasCome g order n held → IsReady g.vars g.edges order places (record { vars = g.vars; raises = forward_part (plan_of g.edges order) held.raises })
-ready_between g order places n held s o p h =
-    let kept : Keeps (edge_at g.edges) (back_of g order) (length g.edges) n held.raises (forward_part (plan_of g.edges order) held.raises) = forward_next (plan_of g.edges order) (back_of g order) (length g.edges) n held.raises (planned g order s o) h.going in
-    record { shape = s; names = o; places_are = p; same_vars = refl; log = kept.log }
+pub ready_between : (g : Constraints) (order places : List ℕ) (n : ℕ) (floor : Option ℕ) (held : Held) → IsConstraintGraph g → NamesEachOnce g.vars order → ArePlaces order g.vars places → HasCome g order n floor held → IsReady g.vars g.edges order places (record { vars = g.vars; raises = forward_part (plan_of g.edges order) held.raises })
+ready_between g order places n floor held s o p h = record { shape = s; names = o; places_are = p; same_vars = refl; log = forward_log g order held.raises s o h.held_for.log }
 
--- the next round
-next_is : (g : Constraints) (order : List ℕ) (n : ℕ) (held : Held) → HasCome g order n held → after_rounds (plan_of g.edges order) (suc n) ≡ round (plan_of g.edges order) held.raises
-next_is g order n held h = ap (one_more (plan_of g.edges order)) h.here
+-- a round of the working log
+abbrev HeldGives : Constraints → List ℕ → List Entry → Progress → Type 0
+HeldGives g order rs out = BackwardGives (edge_at g.edges) (back_of g order) (length g.edges) 0 (forward_part (plan_of g.edges order) rs) (plan_of g.edges order).backward out
 
-gives_is : (g : Constraints) (order : List ℕ) (n : ℕ) (held : Held) (out : Progress) → IsConstraintGraph g → NamesEachOnce g.vars order → HasCome g order n held → out ≡ round (plan_of g.edges order) held.raises → RoundGives (plan_of g.edges order) (back_of g order) (length g.edges) n held.raises out
-gives_is g order n held out s o h e =
-    let P : Progress → Type 0 = λ x. RoundGives (plan_of g.edges order) (back_of g order) (length g.edges) n held.raises x in
-    subst P (sym e) (round_gives (plan_of g.edges order) (back_of g order) (length g.edges) n held.raises (planned g order s o) h.going)
+held_gives : (g : Constraints) (order : List ℕ) (rs : List Entry) (out : Progress) → IsConstraintGraph g → NamesEachOnce g.vars order → LogOf g order rs → out ≡ round (plan_of g.edges order) rs → HeldGives g order rs out
+held_gives g order rs out s o l e =
+    let p : Plan = plan_of g.edges order in
+    let P : Progress → Type 0 = λ x. HeldGives g order rs x in
+    subst P (sym e) (backward_gives (edge_at g.edges) (back_of g order) (length g.edges) 0 (forward_part p rs) p.backward (planned g order s o).backward_edges (forward_log g order rs s o l) (λ k i. inl refl))
 
-pub stopped_here : (g : Constraints) (order : List ℕ) (n : ℕ) (held : Held) (raises : List Entry) → IsConstraintGraph g → NamesEachOnce g.vars order → HasCome g order n held → record { raises = raises; stopped = true } ≡ round (plan_of g.edges order) held.raises → IsStoppedLog g order raises
-stopped_here g order n held raises s o h e =
-    elim (gives_is g order n held (record { raises = raises; stopped = true }) s o h e) as (λ _. IsStoppedLog g order raises) [
+-- the next round of all raises, and that it goes as the one of the working log
+record IsNext (g : Constraints) (order : List ℕ) (n : ℕ) (rs all : List Entry) (out : Progress) : Type 0 where
+  now : after_rounds (plan_of g.edges order) (suc n) ≡ round (plan_of g.edges order) all
+  alike : ProgressAlike (forward_part (plan_of g.edges order) rs) (forward_part (plan_of g.edges order) all) out (round (plan_of g.edges order) all)
+  held : HeldGives g order rs out
+
+next_is : (g : Constraints) (order : List ℕ) (n : ℕ) (floor : Option ℕ) (held : Held) (out : Progress) → IsConstraintGraph g → NamesEachOnce g.vars order → (h : HasCome g order n floor held) → out ≡ round (plan_of g.edges order) held.raises → IsNext g order n held.raises h.all out
+next_is g order n floor held out s o h e =
+    let p : Plan = plan_of g.edges order in
+    let P : Progress → Type 0 = λ x. ProgressAlike (forward_part p held.raises) (forward_part p h.all) x (round p h.all) in
+    record {
+      now = ap (one_more p) h.here;
+      alike = subst P (sym e) (round_alike p held.raises h.all h.held_for.alike);
+      held = held_gives g order held.raises out s o h.held_for.log e;
+    }
+
+pub stopped_here : (g : Constraints) (order : List ℕ) (n : ℕ) (floor : Option ℕ) (held : Held) (raises : List Entry) → IsConstraintGraph g → NamesEachOnce g.vars order → HasCome g order n floor held → record { raises = raises; stopped = true } ≡ round (plan_of g.edges order) held.raises → IsStoppedLog g order raises
+stopped_here g order n floor held raises s o h e =
+    let p : Plan = plan_of g.edges order in
+    let next = next_is g order n floor held (record { raises = raises; stopped = true }) s o h e in
+    elim next.held as (λ _. IsStoppedLog g order raises) [
       | inl on ↦ absurd (true≢false on.0)
-      | inr t ↦ record { stops = record { rounds = suc n; stopped = ap (λ x. x.stopped) (next_is g order n held h ∙ sym e); reached = ap (λ x. x.raises) (next_is g order n held h ∙ sym e) }; at_raise = t.1 }
+      | inr t ↦ record {
+        at_raise = t.1;
+        all = (round p h.all).raises;
+        stops = record { rounds = suc n; stopped = ap (λ x. x.stopped) next.now ∙ sym next.alike.stopped; reached = ap (λ x. x.raises) next.now };
+        newest = next.alike.newest refl;
+      }
     ]
 
-went_on : (g : Constraints) (order : List ℕ) (n : ℕ) (held : Held) (raises : List Entry) → IsConstraintGraph g → NamesEachOnce g.vars order → HasCome g order n held → record { raises = raises; stopped = false } ≡ round (plan_of g.edges order) held.raises → IsRoundOn (plan_of g.edges order) (back_of g order) (length g.edges) n held.raises raises
-went_on g order n held raises s o h e =
-    elim (gives_is g order n held (record { raises = raises; stopped = false }) s o h e) as (λ _. IsRoundOn (plan_of g.edges order) (back_of g order) (length g.edges) n held.raises raises) [
+-- the rounds of all raises go on too
+went_on : (g : Constraints) (order : List ℕ) (n : ℕ) (floor : Option ℕ) (held : Held) (raises : List Entry) → IsConstraintGraph g → NamesEachOnce g.vars order → (h : HasCome g order n floor held) → record { raises = raises; stopped = false } ≡ round (plan_of g.edges order) held.raises → IsRoundOn (plan_of g.edges order) (back_of g order) (length g.edges) n h.all (round (plan_of g.edges order) h.all).raises
+went_on g order n floor held raises s o h e =
+    let p : Plan = plan_of g.edges order in
+    let next = next_is g order n floor held (record { raises = raises; stopped = false }) s o h e in
+    elim (round_gives p (back_of g order) (length g.edges) n h.all (planned g order s o) h.going) as (λ _. IsRoundOn p (back_of g order) (length g.edges) n h.all (round p h.all).raises) [
       | inl on ↦ on.1
-      | inr t ↦ absurd (true≢false (sym t.0))
+      | inr t ↦ absurd (true≢false (sym t.0 ∙ sym next.alike.stopped))
     ]
+
+-- the working log after a round that goes on
+held_next : (g : Constraints) (order : List ℕ) (n : ℕ) (floor : Option ℕ) (held : Held) (raises : List Entry) → IsConstraintGraph g → NamesEachOnce g.vars order → (h : HasCome g order n floor held) → record { raises = raises; stopped = false } ≡ round (plan_of g.edges order) held.raises → IsLogFor g order floor raises (round (plan_of g.edges order) h.all).raises
+held_next g order n floor held raises s o h e =
+    let p : Plan = plan_of g.edges order in
+    let next = next_is g order n floor held (record { raises = raises; stopped = false }) s o h e in
+    record {
+      log = elim next.held as (λ _. LogOf g order raises) [
+        | inl on ↦ on.1.log
+        | inr t ↦ absurd (true≢false (sym t.0))
+      ];
+      alike = next.alike.grow.alike;
+      whole = λ never. ap (λ x. x.raises) e ∙ ap (λ rs. (round p rs).raises) (h.held_for.whole never);
+    }
 
 -- a log that has grown to the same length is the same
 same_from_length : (raises mid new : List Entry) → raises ≡ new ++ mid → length raises ≡ length mid → raises ≡ mid
@@ -65,43 +122,81 @@ same_from_length raises mid new e l =
     let none : new ≡ [] = nil_from_length new (let a = ap length e in omega (arith, a, l, length-append new mid)) in
     e ∙ ap (λ x. x ++ mid) none
 
-pub ended_here : (g : Constraints) (order : List ℕ) (n : ℕ) (held : Held) (raises : List Entry) → IsConstraintGraph g → NamesEachOnce g.vars order → HasCome g order n held → record { raises = raises; stopped = false } ≡ round (plan_of g.edges order) held.raises → length raises ≡ length (forward_part (plan_of g.edges order) held.raises) → EndsInRound (plan_of g.edges order) (n + 1) raises
-ended_here g order n held raises s o h e l =
+pub ended_here : (g : Constraints) (order : List ℕ) (n : ℕ) (floor : Option ℕ) (held : Held) (raises : List Entry) → IsConstraintGraph g → NamesEachOnce g.vars order → HasCome g order n floor held → record { raises = raises; stopped = false } ≡ round (plan_of g.edges order) held.raises → length raises ≡ length (forward_part (plan_of g.edges order) held.raises) → IsEndLog g order (n + 1) floor raises
+ended_here g order n floor held raises s o h e l =
     let p : Plan = plan_of g.edges order in
-    let on : IsRoundOn p (back_of g order) (length g.edges) n held.raises raises = went_on g order n held raises s o h e in
-    let same : raises ≡ forward_part p held.raises = same_from_length raises (forward_part p held.raises) on.extends.new on.extends.split l in
-    let now : after_rounds p (suc n) ≡ record { raises = raises; stopped = false } = next_is g order n held h ∙ sym e in
+    let all : List Entry = (round p h.all).raises in
+    let next = next_is g order n floor held (record { raises = raises; stopped = false }) s o h e in
+    let on : IsRoundOn p (back_of g order) (length g.edges) n h.all all = went_on g order n floor held raises s o h e in
+    let long : length all ≡ length (forward_part p h.all) = (let x = next.alike.grow.grown in omega (arith, x, l)) in
+    let same : all ≡ forward_part p h.all = same_from_length all (forward_part p h.all) on.extends.new on.extends.split long in
+    let now : after_rounds p (suc n) ≡ round p h.all = next.now in
     let one : n + 1 ≡ suc n = omega arith in
-    let there : after_rounds p (n + 1) ≡ record { raises = raises; stopped = false } = ap (after_rounds p) one ∙ now in
+    let there : after_rounds p (n + 1) ≡ round p h.all = ap (after_rounds p) one ∙ now in
     record {
-      before = n;
-      count = one;
-      not_stopped = ap (λ x. x.stopped) there;
-      reached = ap (λ x. x.raises) there;
-      quiet = ap (λ x. x.raises) now ∙ same ∙ ap (forward_part p) (sym (ap (λ x. x.raises) h.here));
-      busy_before = h.busy;
+      all = all;
+      ended = record {
+        before = n;
+        count = one;
+        not_stopped = ap (λ x. x.stopped) there ∙ sym next.alike.stopped;
+        reached = ap (λ x. x.raises) there;
+        quiet = ap (λ x. x.raises) now ∙ same ∙ ap (forward_part p) (sym (ap (λ x. x.raises) h.here));
+        busy_before = h.busy;
+      };
+      held_for = held_next g order n floor held raises s o h e;
     }
 
-pub goes_on : (g : Constraints) (order : List ℕ) (n vars : ℕ) (held : Held) (raises : List Entry) → IsConstraintGraph g → NamesEachOnce g.vars order → HasCome g order n held → vars ≡ g.vars → record { raises = raises; stopped = false } ≡ round (plan_of g.edges order) held.raises → (length raises ≡ length (forward_part (plan_of g.edges order) held.raises) → ⊥) → HasCome g order (n + 1) (record { vars = vars; raises = raises })
-goes_on g order n vars held raises s o h v e l =
+pub goes_on : (g : Constraints) (order : List ℕ) (n vars : ℕ) (floor : Option ℕ) (held : Held) (raises : List Entry) → IsConstraintGraph g → NamesEachOnce g.vars order → HasCome g order n floor held → vars ≡ g.vars → record { raises = raises; stopped = false } ≡ round (plan_of g.edges order) held.raises → (length raises ≡ length (forward_part (plan_of g.edges order) held.raises) → ⊥) → HasCome g order (n + 1) floor (record { vars = vars; raises = raises })
+goes_on g order n vars floor held raises s o h v e l =
     let p : Plan = plan_of g.edges order in
-    let on : IsRoundOn p (back_of g order) (length g.edges) n held.raises raises = went_on g order n held raises s o h e in
-    let now : after_rounds p (suc n) ≡ record { raises = raises; stopped = false } = next_is g order n held h ∙ sym e in
+    let all : List Entry = (round p h.all).raises in
+    let next = next_is g order n floor held (record { raises = raises; stopped = false }) s o h e in
+    let on : IsRoundOn p (back_of g order) (length g.edges) n h.all all = went_on g order n floor held raises s o h e in
+    let now : after_rounds p (suc n) ≡ round p h.all = next.now in
     let one : suc n ≡ n + 1 = omega arith in
-    let G : ℕ → Type 0 = λ k. GoingOf g order k raises in
+    let G : ℕ → Type 0 = λ k. GoingOf g order k all in
+    let S : Bool → Progress = λ b. record { raises = all; stopped = b } in
+    let busy_now : all ≡ forward_part p h.all → ⊥ = λ x. l (let y = ap length x in let z = next.alike.grow.grown in omega (arith, y, z)) in
     record {
       vars = v;
-      here = ap (after_rounds p) (sym one) ∙ now;
+      all = all;
+      here = ap (after_rounds p) (sym one) ∙ now ∙ ap S (sym next.alike.stopped);
       going = subst G one on.going;
+      held_for = held_next g order n floor held raises s o h e;
       busy = λ m lt q. elim (cases_eq m n) as (λ _. ⊥) [
         | inr ne ↦ h.busy m (omega arith) q
         | inl same ↦ (
             let Q : ℕ → Type 0 = λ k. IsQuietAfter p k in
-            let here : raises ≡ forward_part p held.raises = sym (ap (λ x. x.raises) now) ∙ subst Q same q ∙ ap (forward_part p) (ap (λ x. x.raises) h.here) in
-            l (ap length here))
+            busy_now (sym (ap (λ x. x.raises) now) ∙ subst Q same q ∙ ap (forward_part p) (ap (λ x. x.raises) h.here)))
       ];
-      few = (let b = busy_bound p (back_of g order) (length g.edges) n held.raises raises (planned g order s o) on (λ x. l (ap length x)) in omega (arith, b));
+      few = (let b = busy_bound p (back_of g order) (length g.edges) n h.all all (planned g order s o) on busy_now in omega (arith, b));
     }
+
+-- a log that is trimmed tells the same
+pub trimmed : (g : Constraints) (order : List ℕ) (n : ℕ) (floor : Option ℕ) (old new : Held) → HasCome g order n floor old → IsTrimmed floor old new → HasCome g order n floor new
+trimmed g order n floor old new h t =
+    let P : Held → Type 0 = λ x. HasCome g order n floor x in
+    elim t as (λ _. HasCome g order n floor new) [
+      | inl same ↦ subst P (sym same) h
+      | inr w ↦ (
+          let swept : IsSwept old new = w.1 in
+          let F : List Entry → Type 0 = λ rs. IsLogFor g order floor rs h.all in
+          let part : List Entry = kept_part swept.keeps old.raises in
+          let alike : TellAlike part old.raises = part_alike old.vars swept.keeps old.raises swept.older swept.chains in
+          record {
+            vars = swept.same_vars ∙ h.vars;
+            all = h.all;
+            here = h.here;
+            going = h.going;
+            held_for = subst F (sym swept.raises) (record {
+              log = part_log old.vars (edge_at g.edges) (back_of g order) (length g.edges) swept.keeps old.raises swept.older swept.chains.back h.held_for.log;
+              alike = λ v. alike v ∙ h.held_for.alike v;
+              whole = λ never. absurd (w.0 never);
+            });
+            busy = h.busy;
+            few = h.few;
+          })
+    ]
 
 -- there are no more backward edges than edges
 pub filter_le : (p : ℕ → Bool) (xs : List ℕ) → length (filter p xs) ≤ length xs

@@ -1,5 +1,5 @@
 -- What is read out of a log of ended rounds, or of one that a raise has stopped.
-use Rattle.std.proofs.Common.{◌≡◌, ℕ, zero, suc, ◌+◌, ◌<◌, ◌≤◌, ℤ, pos, Bool, true, false, not, Some, List, [], ◌∷◌, ◌++◌, length, get_or, unwrap_or, refl, sym, ap, subst, ◌∙◌, arith, length-append}
+use Rattle.std.proofs.Common.{◌≡◌, ℕ, zero, suc, ◌+◌, ◌<◌, ◌≤◌, ℤ, pos, Bool, true, false, not, Option, Some, List, [], ◌∷◌, ◌++◌, length, get_or, unwrap_or, refl, sym, ap, subst, ◌∙◌, arith, length-append}
 use Rattle.std.specs.List.{filter, range_with_len}
 use Rattle.std.proofs.lemmas.Bool.{cond-true, cond-false, not_from_true, not_from_false}
 use Rattle.std.proofs.lemmas.List.Elements.{filter-append, All-from_get_or}
@@ -8,7 +8,7 @@ use Rattle.std.proofs.lemmas.List.FromFn.{length-range_with_len}
 use Rattle.round_log.specs.declared.log.Entry.{Entry}
 use Rattle.round_log.specs.declared.log.Log.{Log}
 use Rattle.cons_graph.specs.Constraints.{Constraints, IsConstraintGraph}
-use Rattle.round_log.specs.Logs.{HoldsRaises, IsMadeByLooks, IsLogOfLooks, raises_in}
+use Rattle.round_log.specs.Logs.{HoldsRaises, ComeFromOlder, IsMadeByLooks, IsLogOfLooks, IsLogOfRounds, raises_in}
 use Rattle.round_log.specs.Looks.{label, is_forward}
 use Rattle.cons_graph.specs.EdgeNumbers.{edge_at}
 use Rattle.round_log.specs.Orders.{NamesEachOnce}
@@ -21,13 +21,17 @@ use Rattle.round_log.proofs.Least.{labelled, label_value, label_value-is, least_
 use Rattle.round_log.proofs.Planned.{In-from_contains, IsDistinct-from_pairs}
 use Rattle.round_log.proofs.Ends.{back_of, order_length, label_small}
 use Rattle.round_log.proofs.Outcomes.{IsEnded, ended_from_rounds, ended_least, every_variable}
+use Rattle.round_log.specs.Told.{TellAlike}
+use Rattle.round_log.specs.WalksBack.{cycle_of}
+use Rattle.round_log.proofs.Alike.{same_label, same_cycle}
+use Rattle.round_log.proofs.OfRounds.{log_older}
 use Rattle.liao_wong.proofs.Course.{filter_le}
 use Rattle.liao_wong.specs.declared.solving.Unsolved.{Unsolved}
 use Rattle.liao_wong.specs.declared.solving.Unsolved.TheVariants.{Cycle, OutOfMemory}
-use Rattle.liao_wong.specs.Answers.{IfCycle, IsWithinLimit}
+use Rattle.liao_wong.specs.Answers.{IfCycle, IsCycleOf, IsWithinLimit}
 use Rattle.liao_wong.specs.Going.{backward_of}
 use Rattle.liao_wong.specs.Held.{Held}
-use Rattle.liao_wong.specs.Running.{IsEndedHeld, IsReadOut}
+use Rattle.liao_wong.specs.Running.{IsEndedHeld, IsReadOut, IsStoppedLog}
 
 -- an order has as many places as there are variables
 pub order_is_long : (vars : ℕ) (order : List ℕ) → NamesEachOnce vars order → length order ≡ vars
@@ -79,29 +83,49 @@ stop_looks g order held log v s e h =
 
 -- ---- the solution
 
-pub read_is : (g : Constraints) (order : List ℕ) (backward rounds : ℕ) (held : Held) (x : List ℤ) (log : Log) → IsEndedHeld g order rounds held → length x ≡ held.vars → ((v : ℕ) → v < held.vars → get_or x v (pos 0) ≡ unwrap_or (label held.raises v) (pos 0)) → raises_in log ≡ held.raises → HoldsRaises held.vars log held.raises → IsReadOut g order backward rounds x backward rounds log
-read_is g order backward rounds held x log e l a r h =
+-- a log handed out is one of the rounds that all raises are of
+out_log : (g : Constraints) (order : List ℕ) (rounds : ℕ) (floor : Option ℕ) (held : Held) (log : Log) → (e : IsEndedHeld g order rounds floor held) → raises_in log ≡ held.raises → HoldsRaises held.vars log held.raises → IsLogOfRounds g order rounds log
+out_log g order rounds floor held log e r h =
     let rs : List Entry = held.raises in
-    let s : IsConstraintGraph g = e.shape in
-    let end : IsEnded g order rs = ended_from_rounds g order s e.names rounds rs e.ended in
     let vars : held.vars ≡ g.vars = e.vars in
-    let same : (v : ℕ) → v < g.vars → value_of x v ≡ label_value rs v = λ v lt. a v (omega arith) in
-    let at' = labelled g (back_of g order) rs s end.log end.quiet in
     let P : List Entry → Type 0 = λ q. HoldsRaises g.vars log q in
     let Q : ℕ → Type 0 = λ n. HoldsRaises n log rs in
+    let O : List Entry → Type 0 = λ q. ComeFromOlder g.vars q in
+    let A : List Entry → Type 0 = λ q. TellAlike q e.end_log.all in
+    record {
+      holds = subst P (sym r) (subst Q vars h);
+      older = subst O (sym r) (log_older g (back_of g order) rs e.shape e.end_log.held_for.log);
+      raises = e.end_log.all;
+      ended = e.end_log.ended;
+      alike = subst A (sym r) e.end_log.held_for.alike;
+    }
+
+pub read_is : (g : Constraints) (order : List ℕ) (backward rounds : ℕ) (floor : Option ℕ) (held : Held) (x : List ℤ) (log : Log) → IsEndedHeld g order rounds floor held → length x ≡ held.vars → ((v : ℕ) → v < held.vars → get_or x v (pos 0) ≡ unwrap_or (label held.raises v) (pos 0)) → raises_in log ≡ held.raises → HoldsRaises held.vars log held.raises → IsReadOut g order backward rounds floor x backward rounds log
+read_is g order backward rounds floor held x log e l a r h =
+    let rs : List Entry = e.end_log.all in
+    let s : IsConstraintGraph g = e.shape in
+    let end : IsEnded g order rs = ended_from_rounds g order s e.names rounds rs e.end_log.ended in
+    let vars : held.vars ≡ g.vars = e.vars in
+    let alike : TellAlike held.raises rs = e.end_log.held_for.alike in
+    let told : (v : ℕ) → label held.raises v ≡ label rs v = λ v. same_label held.raises rs v (alike v) in
+    let same : (v : ℕ) → v < g.vars → value_of x v ≡ label_value rs v = λ v lt. a v (omega arith) ∙ ap (λ o. unwrap_or o (pos 0)) (told v) in
+    let at' = labelled g (back_of g order) rs s end.log end.quiet in
     let W : ℤ → Type 0 = λ z. IsWithinLimit z in
     let L : List Entry → Type 0 = λ q. (v : ℕ) → v < g.vars → label q v ≡ Some (value_of x v) in
-    let R : List Entry → Type 0 = λ q. EndsInRound (plan_of g.edges order) rounds q in
     record {
       same_backward = refl;
       same_rounds = refl;
       one_each = l ∙ vars;
-      holds = subst P (sym r) (subst Q vars h);
-      ended = subst R (sym r) e.ended;
-      labels = subst L (sym r) (λ v lt. let w = at' v lt in w.1 ∙ ap (λ z. Some z) (sym (same v lt ∙ label_value-is rs v w.0 w.1)));
+      of_rounds = out_log g order rounds floor held log e r h;
+      ended = λ never. (let R : List Entry → Type 0 = λ q. EndsInRound (plan_of g.edges order) rounds q in subst R (sym (r ∙ e.end_log.held_for.whole never)) e.end_log.ended);
+      labels = subst L (sym r) (λ v lt. let w = at' v lt in told v ∙ w.1 ∙ ap (λ z. Some z) (sym (same v lt ∙ label_value-is rs v w.0 w.1)));
       small = All-from_get_or IsWithinLimit x (pos 0) (λ v lt. let inside : v < g.vars = omega arith in let w = at' v inside in subst W (sym (same v inside ∙ label_value-is rs v w.0 w.1)) (label_small g order rs s e.names end.log v w.0 inside w.1));
       least = least_same g (label_value rs) (value_of x) s (ended_least g order rs s end) same;
     }
+
+-- the cycle of a log at which the rounds have stopped is theirs
+pub cycle_is : (g : Constraints) (order : List ℕ) (raises : List Entry) (cycle : List ℕ) → IsStoppedLog g order raises → cycle ≡ cycle_of g.edges raises → IsCycleOf g.edges order cycle
+cycle_is g order raises cycle s is = record { raises = s.all; stops = s.stops; is = is ∙ same_cycle g.edges raises s.all s.newest }
 
 -- ---- answers
 

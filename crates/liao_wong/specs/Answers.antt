@@ -1,8 +1,13 @@
-use Rattle.std.specs.Prelude.{◌≡◌, ℕ, ◌^◌, ℤ, pos, neg_ℤ, ◌≤ℤ◌, List}
+use Rattle.std.specs.Prelude.{◌≡◌, ℕ, ◌^◌, ℤ, pos, neg_ℤ, ◌≤ℤ◌, List, length}
 use Rattle.cons_graph.specs.declared.edges.Edge.{Edge}
+use Rattle.cons_graph.specs.Constraints.{Constraints}
+use Rattle.cons_graph.specs.Solutions.{IsLeastSolution, value_of}
 use Rattle.round_log.specs.declared.log.Entry.{Entry}
-use Rattle.round_log.specs.Rounds.{plan_of, Stops}
-use Rattle.round_log.specs.WalksBack.{cycle_of}
+use Rattle.round_log.specs.declared.log.Log.{Log}
+use Rattle.round_log.specs.Logs.{HoldsRaises, IsLogOfRounds, raises_in}
+use Rattle.round_log.specs.Told.{TellAlike}
+use Rattle.round_log.specs.Rounds.{plan_of, EndsInRound, Stops}
+use Rattle.round_log.specs.WalksBack.{cycle_of, walk_of}
 use Rattle.liao_wong.specs.declared.solving.Unsolved.{Unsolved}
 use Rattle.liao_wong.specs.declared.solving.Unsolved.TheVariants.{Cycle, OutOfMemory}
 
@@ -24,3 +29,26 @@ pub record IsCycleOf (edges : List Edge) (order cycle : List ℕ) : Type 0 where
 -- the rounds stop at one cycle
 abbrev pub HasOneCycle : List Edge → List ℕ → Type 0
 HasOneCycle edges order = (c d : List ℕ) → IsCycleOf edges order c → IsCycleOf edges order d → c ≡ d
+
+-- the answers over a graph and an order that have ended: their values, and the walk of each variable that their logs tell
+pub record IsEndAnswer (g : Constraints) (order : List ℕ) (x : List ℤ) (rounds : ℕ) (log : Log) : Type 0 where
+  pub one_each : length x ≡ g.vars
+  pub least : IsLeastSolution g.vars g.edges (value_of x)
+  pub of_rounds : IsLogOfRounds g order rounds log
+
+-- two answers are the same, and their logs tell the same: they have one solution, one number of rounds, and of each
+-- variable one chain and one walk
+pub record AreSameAnswers (x : List ℤ) (rounds : ℕ) (log : Log) (x' : List ℤ) (rounds' : ℕ) (log' : Log) : Type 0 where
+  pub values : x ≡ x'
+  pub same_rounds : rounds ≡ rounds'
+  pub told : TellAlike (raises_in log) (raises_in log')
+  pub walks : (v : ℕ) → walk_of (raises_in log) v ≡ walk_of (raises_in log') v
+
+-- all answers over a graph and an order are the same, those that have ended and those that a cycle stops
+pub record HasOneAnswer (g : Constraints) (order : List ℕ) : Type 0 where
+  pub ends : (x x' : List ℤ) (rounds rounds' : ℕ) (log log' : Log) → IsEndAnswer g order x rounds log → IsEndAnswer g order x' rounds' log' → AreSameAnswers x rounds log x' rounds' log'
+  pub stops : HasOneCycle g.edges order
+
+-- what `solve` says of its log makes its answer one
+abbrev pub WholeLogTells : Constraints → List ℕ → Type 0
+WholeLogTells g order = (rounds : ℕ) (log : Log) → HoldsRaises g.vars log (raises_in log) → EndsInRound (plan_of g.edges order) rounds (raises_in log) → IsLogOfRounds g order rounds log

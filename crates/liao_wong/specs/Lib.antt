@@ -1,4 +1,5 @@
 pub mod Held
+pub mod Sweeping
 pub mod Going
 pub mod Answers
 pub mod Running

@@ -1,15 +1,17 @@
-use Rattle.std.specs.Prelude.{◌≡◌, ℕ, ◌<◌, ◌≤◌, false, ℤ, Some, List, [], length, All}
+use Rattle.std.specs.Prelude.{◌≡◌, ℕ, ◌<◌, ◌≤◌, false, ℤ, Option, None, Some, List, [], length, All}
 use Rattle.round_log.specs.declared.log.Entry.{Entry}
 use Rattle.cons_graph.specs.Constraints.{Constraints, IsConstraintGraph}
 use Rattle.round_log.specs.declared.log.Log.{Log}
-use Rattle.round_log.specs.Logs.{HoldsRaises, raises_in}
+use Rattle.round_log.specs.Logs.{IsLogOfRounds, raises_in}
 use Rattle.round_log.specs.Orders.{NamesEachOnce}
 use Rattle.cons_graph.specs.Solutions.{IsLeastSolution, value_of}
 use Rattle.round_log.specs.Rounds.{plan_of, after_rounds, IsQuietAfter, Stops, EndsInRound}
 use Rattle.round_log.specs.Looks.{label, backward_numbers}
 use Rattle.cons_graph.specs.EdgeNumbers.{edge_at}
 use Rattle.round_log.proofs.Parts.{IsStopAt}
-use Rattle.round_log.proofs.Ends.{GoingOf, back_of}
+use Rattle.round_log.specs.Told.{TellAlike}
+use Rattle.round_log.proofs.Alike.{NewestAlike}
+use Rattle.round_log.proofs.Ends.{GoingOf, LogOf, back_of}
 use Rattle.liao_wong.specs.Held.{Held}
 use Rattle.liao_wong.specs.Answers.{IsWithinLimit}
 
@@ -19,33 +21,49 @@ pub record StartsEmpty (g : Constraints) (held : Held) : Type 0 where
   pub vars : held.vars ≡ g.vars
   pub none : held.raises ≡ []
 
--- a log at which the rounds have stopped
+-- a log at which the rounds have stopped: its newest raise has the chain of the one that stopped them
 pub record IsStoppedLog (g : Constraints) (order : List ℕ) (raises : List Entry) : Type 0 where
-  pub stops : Stops (plan_of g.edges order) raises
   pub at_raise : IsStopAt (edge_at g.edges) (back_of g order) (length g.edges) raises
+  pub all : List Entry
+  pub stops : Stops (plan_of g.edges order) all
+  pub newest : NewestAlike raises all
+
+-- a log that tells what all raises of the rounds tell, and has all of them where it is never swept
+pub record IsLogFor (g : Constraints) (order : List ℕ) (floor : Option ℕ) (raises all : List Entry) : Type 0 where
+  pub log : LogOf g order raises
+  pub alike : TellAlike raises all
+  pub whole : floor ≡ None → raises ≡ all
 
 -- where n rounds have come that did not stop, each with a raise in its backward part
-pub record HasCome (g : Constraints) (order : List ℕ) (n : ℕ) (held : Held) : Type 0 where
+pub record HasCome (g : Constraints) (order : List ℕ) (n : ℕ) (floor : Option ℕ) (held : Held) : Type 0 where
   pub vars : held.vars ≡ g.vars
-  pub here : after_rounds (plan_of g.edges order) n ≡ record { raises = held.raises; stopped = false }
-  pub going : GoingOf g order n held.raises
+  pub all : List Entry
+  pub here : after_rounds (plan_of g.edges order) n ≡ record { raises = all; stopped = false }
+  pub going : GoingOf g order n all
+  pub held_for : IsLogFor g order floor held.raises all
   pub busy : (m : ℕ) → m < n → IsQuietAfter (plan_of g.edges order) m → ⊥
   pub few : n ≤ length (backward_numbers g.edges order)
 
+-- a log of rounds that have ended
+pub record IsEndLog (g : Constraints) (order : List ℕ) (rounds : ℕ) (floor : Option ℕ) (raises : List Entry) : Type 0 where
+  pub all : List Entry
+  pub ended : EndsInRound (plan_of g.edges order) rounds all
+  pub held_for : IsLogFor g order floor raises all
+
 -- a working log of rounds that have ended
-pub record IsEndedHeld (g : Constraints) (order : List ℕ) (rounds : ℕ) (held : Held) : Type 0 where
+pub record IsEndedHeld (g : Constraints) (order : List ℕ) (rounds : ℕ) (floor : Option ℕ) (held : Held) : Type 0 where
   pub shape : IsConstraintGraph g
   pub names : NamesEachOnce g.vars order
   pub vars : held.vars ≡ g.vars
-  pub ended : EndsInRound (plan_of g.edges order) rounds held.raises
+  pub end_log : IsEndLog g order rounds floor held.raises
 
 -- what is read out of a log of ended rounds
-pub record IsReadOut (g : Constraints) (order : List ℕ) (backward rounds : ℕ) (x : List ℤ) (backward' rounds' : ℕ) (log : Log) : Type 0 where
+pub record IsReadOut (g : Constraints) (order : List ℕ) (backward rounds : ℕ) (floor : Option ℕ) (x : List ℤ) (backward' rounds' : ℕ) (log : Log) : Type 0 where
   pub same_backward : backward' ≡ backward
   pub same_rounds : rounds' ≡ rounds
   pub one_each : length x ≡ g.vars
-  pub holds : HoldsRaises g.vars log (raises_in log)
-  pub ended : EndsInRound (plan_of g.edges order) rounds (raises_in log)
+  pub of_rounds : IsLogOfRounds g order rounds log
+  pub ended : floor ≡ None → EndsInRound (plan_of g.edges order) rounds (raises_in log)
   pub labels : (v : ℕ) → v < g.vars → label (raises_in log) v ≡ Some (value_of x v)
   pub small : All IsWithinLimit x
   pub least : IsLeastSolution g.vars g.edges (value_of x)

@@ -1,14 +1,16 @@
 ghost use Rattle.std.specs.Prelude.{◌≡◌, ℕ, ◌^◌, ◌<◌, ◌≤◌, pos, [], ◌∷◌, length, unwrap_or, IfOk, OnOk, OnErr, slice_index_or};
 ghost use Rattle.round_log.specs.Looks.{label, latest, comes_back};
 ghost use Rattle.round_log.specs.Logs.{HoldsRaises, raises_in};
+ghost use Rattle.liao_wong.specs.Sweeping.{IsSwept};
 
+use crate::sweeping::{keep_entries, new_numbers, reached, renumbered};
 use lam_list::Seq;
 use round_log::{Entry, Log};
 use std::alloc::{AllocError, Global};
 use std::marker::Model;
 
-// The working log of the rounds, which only grows: entry 0 stands for the origin, each later one for a raise, and `last`
-// has each variable's latest entry, or 0.
+// The working log of the rounds: entry 0 stands for the origin, each later one for a raise, and `last` has each
+// variable's latest entry, or 0. It only grows, but where it is swept.
 #[derive(Drop)]
 pub struct Raises {
     entries: Vec<Entry>,
@@ -83,6 +85,19 @@ impl Raises {
         let number = self.entries.len() as u64;
         self.entries.push(raise)?;
         self.last[raise.var as usize] = number;
+        Ok(())
+    }
+
+    // Drops the raises that no chain from a latest one reaches; the others keep their order. The cost is that of a look
+    // at each entry and each variable.
+    pub fn sweep(&mut self, alloc: Global) -> Result<(), AllocError>
+        ensures ok { OnOk result (IsSwept self.old self.new) }
+        ensures err { OnErr result (self.new ≡ self.old) }
+    {
+        let keeps = reached(alloc, &self.entries, &self.last)?;
+        let numbers = new_numbers(alloc, &keeps)?;
+        self.last = renumbered(alloc, &self.last, &numbers)?;
+        keep_entries(&mut self.entries, &keeps, &numbers);
         Ok(())
     }
 

@@ -1,9 +1,9 @@
 ghost use Rattle.std.specs.Prelude.{◌≡◌, ◌+◌, ◌^◌, ◌<◌, ◌≤◌, length, All, IfOk, IfSome, IfNone};
 ghost use Rattle.round_log.specs.Orders.{NamesEachOnce};
 ghost use Rattle.round_log.specs.Looks.{backward_numbers};
-ghost use Rattle.round_log.specs.Rounds.{plan_of, EndsInRound};
 ghost use Rattle.liao_wong.specs.Held.{ArePlaces};
-ghost use Rattle.liao_wong.specs.Running.{IsStoppedLog, StartsEmpty};
+ghost use Rattle.liao_wong.specs.Running.{IsEndLog, IsStoppedLog, StartsEmpty};
+ghost use Rattle.liao_wong.specs.Sweeping.{IsTrimmed};
 
 use crate::looks::goes_up;
 use crate::raises::Raises;
@@ -25,13 +25,34 @@ pub fn places_of(alloc: Global, order: &[u32]) -> Result<Vec<u32>, AllocError>
     Ok(places)
 }
 
+// Sweeps the log where it has a floor, and half as many raises again as the last sweep left; gives how many the last one
+// has left, at least the floor.
+fn trim(
+    alloc: Global,
+    raises: &mut Raises,
+    floor: Option<usize>,
+    left: usize,
+) -> Result<usize, AllocError>
+    ensures { IfOk result (λ _. IsTrimmed floor raises.old raises.new) }
+{
+    let Some(floor) = floor else {
+        return Ok(left);
+    };
+    if raises.len() - raises.len() / 3 < left {
+        return Ok(left);
+    }
+    raises.sweep(alloc)?;
+    Ok(raises.len().max(floor))
+}
+
 // Runs the rounds from the log without a raise until they end, and gives the number of the last one; or until a raise
-// stops them, and gives None.
+// stops them, and gives None. With a floor the log is swept between rounds, once it has grown by half.
 pub fn run_rounds(
     alloc: Global,
     raises: &mut Raises,
     g: &Graph,
     order: &Order,
+    floor: Option<usize>,
 ) -> Result<Option<u32>, AllocError>
     requires start { StartsEmpty g.now raises.old }
     requires few { length g.now.edges ≤ 4194304 }
@@ -39,7 +60,7 @@ pub fn run_rounds(
     requires places { ArePlaces order.now.variables.now g.now.vars order.now.places.items }
     ensures vars { IfOk result (λ _. raises.new.vars ≡ g.now.vars) }
     ensures ended { IfOk result (λ o. IfSome o (λ rounds.
-        EndsInRound (plan_of g.now.edges order.now.variables.now) rounds raises.new.raises)) }
+        IsEndLog g.now order.now.variables.now rounds floor raises.new.raises)) }
     ensures not_many { IfOk result (λ o. IfSome o (λ rounds.
         rounds ≤ length (backward_numbers g.now.edges order.now.variables.now) + 1)) }
     ensures stopped { IfOk result (λ o. IfNone o
@@ -47,6 +68,7 @@ pub fn run_rounds(
 {
     let index = EdgeIndex::new(alloc, g)?;
     let mut rounds = 0u32;
+    let mut left = floor.unwrap_or(0);
     'rounds: loop {
         look_forward(raises, g, &index, order)?;
         let before = raises.len();
@@ -57,6 +79,7 @@ pub fn run_rounds(
         if raises.len() == before {
             return Ok(Some(rounds));
         }
+        left = trim(alloc, raises, floor, left)?;
     }
 }
 

@@ -1,6 +1,6 @@
-ghost use Rattle.std.specs.Prelude.{◌≡◌, ℕ, ◌+◌, ◌<◌, ◌≤◌, length, All, Some, IfOk, IfErr};
+ghost use Rattle.std.specs.Prelude.{◌≡◌, ℕ, ◌+◌, ◌<◌, ◌≤◌, length, All, Some, None, IfOk, IfErr};
 ghost use Rattle.round_log.specs.Looks.{label, backward_numbers};
-ghost use Rattle.round_log.specs.Logs.{HoldsRaises, raises_in};
+ghost use Rattle.round_log.specs.Logs.{HoldsRaises, IsLogOfRounds, raises_in};
 ghost use Rattle.round_log.specs.Orders.{IsOrder};
 ghost use Rattle.round_log.specs.Rounds.{plan_of, EndsInRound};
 ghost use Rattle.cons_graph.specs.SimpleWalks.{IsSimplePositiveCycle};
@@ -19,6 +19,9 @@ use round_log::Log;
 use std::alloc::{AllocError, Global};
 use thiserror::Error;
 
+// A log with fewer raises than this and half as many again is not swept: some 1.5 MB.
+const SWEEP_FLOOR: usize = 32_768;
+
 /// What the rounds leave when they end without a cycle.
 #[derive(Debug, Drop)]
 pub struct Solved {
@@ -28,7 +31,7 @@ pub struct Solved {
     pub backward: u32,
     /// The number of the first round whose backward part raises nothing.
     pub rounds: u32,
-    /// Every raise, in order.
+    /// The raises, in order: all of them, or those that its chains reach.
     pub log: Log,
 }
 
@@ -63,6 +66,56 @@ pub fn solve(alloc: Global, g: &Graph, order: &[u32]) -> Result<Solved, Unsolved
     ensures cycle { IfErr result (λ e. IfCycle e (IsSimplePositiveCycle g.now.edges)) }
     ensures stopped { IfErr result (λ e. IfCycle e (IsCycleOf g.now.edges order.now)) }
 {
+    solve_over(alloc, g, order, None)
+}
+
+/// What `solve` gives, in less memory: between rounds the log drops the raises that no chain from a variable's latest
+/// one reaches, once it has grown by half of what it kept the last time. Values, rounds and cycle are those of `solve`,
+/// and so are the walks that the log tells. Sweeping costs a constant time a raise; the log holds at most one and a half
+/// times the most raises that chains reach, and those of one round, of which there are no more than edges.
+pub fn solve_reached(alloc: Global, g: &Graph, order: &[u32]) -> Result<Solved, Unsolved>
+    requires { IsOrder g.now.vars order.now }
+    ensures least { IfOk result (λ s. IsLeastSolution g.now.vars g.now.edges (value_of s.x)) }
+    ensures one_each { IfOk result (λ s. length s.x ≡ g.now.vars) }
+    ensures small { IfOk result (λ s. All IsWithinLimit s.x) }
+    ensures backward { IfOk result (λ s. s.backward ≡ length (backward_numbers g.now.edges order.now)) }
+    ensures rounds { IfOk result (λ s. s.rounds ≤ s.backward + 1) }
+    ensures log { IfOk result (λ s. IsLogOfRounds g.now order.now s.rounds s.log) }
+    ensures labels { IfOk result (λ s. (v : ℕ) → v < g.now.vars
+        → label (raises_in s.log) v ≡ Some (value_of s.x v)) }
+    ensures no_cycle { IfOk result (λ _. HasPositiveCycle g.now.edges → ⊥) }
+
+    ensures cyclic { IfErr result (λ e. IfCycle e (λ _. HasPositiveCycle g.now.edges)) }
+    ensures cycle { IfErr result (λ e. IfCycle e (IsSimplePositiveCycle g.now.edges)) }
+    ensures stopped { IfErr result (λ e. IfCycle e (IsCycleOf g.now.edges order.now)) }
+{
+    solve_over(alloc, g, order, Some(SWEEP_FLOOR))
+}
+
+// Solves; with a floor the log is swept once it has grown by half of what it last kept, which counts as the floor at least.
+pub fn solve_over(
+    alloc: Global,
+    g: &Graph,
+    order: &[u32],
+    floor: Option<usize>,
+) -> Result<Solved, Unsolved>
+    requires { IsOrder g.now.vars order.now }
+    ensures least { IfOk result (λ s. IsLeastSolution g.now.vars g.now.edges (value_of s.x)) }
+    ensures one_each { IfOk result (λ s. length s.x ≡ g.now.vars) }
+    ensures small { IfOk result (λ s. All IsWithinLimit s.x) }
+    ensures backward { IfOk result (λ s. s.backward ≡ length (backward_numbers g.now.edges order.now)) }
+    ensures rounds { IfOk result (λ s. s.rounds ≤ s.backward + 1) }
+    ensures log { IfOk result (λ s. IsLogOfRounds g.now order.now s.rounds s.log) }
+    ensures ended { IfOk result (λ s. floor ≡ None
+        → EndsInRound (plan_of g.now.edges order.now) s.rounds (raises_in s.log)) }
+    ensures labels { IfOk result (λ s. (v : ℕ) → v < g.now.vars
+        → label (raises_in s.log) v ≡ Some (value_of s.x v)) }
+    ensures no_cycle { IfOk result (λ _. HasPositiveCycle g.now.edges → ⊥) }
+
+    ensures cyclic { IfErr result (λ e. IfCycle e (λ _. HasPositiveCycle g.now.edges)) }
+    ensures cycle { IfErr result (λ e. IfCycle e (IsSimplePositiveCycle g.now.edges)) }
+    ensures stopped { IfErr result (λ e. IfCycle e (IsCycleOf g.now.edges order.now)) }
+{
     let edges = g.edges();
     let Ok(places) = places_of(alloc, order) else {
         return Err(Unsolved::OutOfMemory);
@@ -75,10 +128,10 @@ pub fn solve(alloc: Global, g: &Graph, order: &[u32]) -> Result<Solved, Unsolved
     let Ok(mut raises) = Raises::new(alloc, g.vars()) else {
         return Err(Unsolved::OutOfMemory);
     };
-    match run_rounds(alloc, &mut raises, g, &order) {
+    match run_rounds(alloc, &mut raises, g, &order, floor) {
         Err(AllocError) => Err(Unsolved::OutOfMemory),
         Ok(None) => Err(cycle_at(alloc, g, &order, raises)),
-        Ok(Some(rounds)) => match read_out(alloc, g, &order, raises, backward, rounds) {
+        Ok(Some(rounds)) => match read_out(alloc, g, &order, raises, backward, rounds, floor) {
             Ok(solved) => Ok(solved),
             Err(AllocError) => Err(Unsolved::OutOfMemory),
         },
@@ -93,9 +146,10 @@ fn read_out(
     raises: Raises,
     backward: u32,
     rounds: u32,
+    floor: Option<usize>,
 ) -> Result<Solved, AllocError>
-    requires { IsEndedHeld g.now order.now.variables.now rounds raises }
-    ensures { IfOk result (λ s. IsReadOut g.now order.now.variables.now backward rounds
+    requires { IsEndedHeld g.now order.now.variables.now rounds floor raises }
+    ensures { IfOk result (λ s. IsReadOut g.now order.now.variables.now backward rounds floor
         s.x s.backward s.rounds s.log) }
 {
     let x = raises.labels(alloc)?;

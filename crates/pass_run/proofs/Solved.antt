@@ -14,7 +14,10 @@ use Rattle.cons_graph.specs.Solutions.{IsSolution, IsLeastSolution, value_of}
 use Rattle.cons_graph.specs.Walks.{HasPositiveCycle}
 use Rattle.cons_graph.proofs.CycleTest.{few_without_repeat}
 use Rattle.round_log.specs.declared.log.Log.{Log}
-use Rattle.round_log.specs.Logs.{raises_in}
+use Rattle.round_log.specs.declared.log.Entry.{Entry}
+use Rattle.round_log.specs.Logs.{raises_in, IsLogOfRounds}
+use Rattle.round_log.specs.Told.{TellAlike}
+use Rattle.round_log.proofs.Alike.{same_walk}
 use Rattle.round_log.specs.Looks.{label, backward_numbers}
 use Rattle.round_log.specs.Orders.{NamesEachOnce, IsOrder}
 use Rattle.round_log.specs.Rounds.{plan_of, EndsInRound}
@@ -100,11 +103,13 @@ fars_within axis masters bases vars e v =
     let within = var_within axis masters k 1 among (omega arith) in
     subst P (sym here) (omega arith))
 
-walks_are : (axis : Axis) (masters : List Master) (log : Log) (numbers : List ℕ) → map (walk_to log) (map (base_of axis masters) numbers) ≡ map (far_walk axis masters (raises_in log)) numbers
-walks_are axis masters log [] = refl
-walks_are axis masters log (m ∷ more) =
+walks_are : (axis : Axis) (masters : List Master) (log : Log) (raises : List Entry) (numbers : List ℕ) → TellAlike (raises_in log) raises → map (walk_to log) (map (base_of axis masters) numbers) ≡ map (far_walk axis masters raises) numbers
+walks_are axis masters log raises [] alike = refl
+walks_are axis masters log raises (m ∷ more) alike =
     let add : base_of axis masters m ≡ base_of axis masters m + 0 = omega arith in
-    ap (λ far. walk_to log far ∷ map (walk_to log) (map (base_of axis masters) more)) add ∙ ap (λ ws. far_walk axis masters (raises_in log) m ∷ ws) (walks_are axis masters log more)
+    let W : List ℕ → Walk = λ edges. record { edges = edges } in
+    let one : walk_to log (base_of axis masters m) ≡ far_walk axis masters raises m = ap (walk_to log) add ∙ ap W (same_walk (raises_in log) raises (base_of axis masters m + 0) alike) in
+    ap (λ w. w ∷ map (walk_to log) (map (base_of axis masters) more)) one ∙ ap (λ ws. far_walk axis masters raises m ∷ ws) (walks_are axis masters log raises more alike)
 
 -- the walk that the code has read is the log's
 pub path_of : (edges : List Edge) (log : Log) (far : ℕ) (walk : List ℕ) → walk ≡ (walk_to log far).edges → WalksFromTo edges 0 walk far → HasNoRepeat (0 ∷ heads_of edges walk)
@@ -137,7 +142,7 @@ pub record IsSolvedPass (axis : Axis) (tech : Tech) (plan : Plan) (masters : Lis
   pub one_each : length solved.x ≡ listed.graph.vars
   pub small : All IsWithinLimit solved.x
   pub backward : solved.backward ≡ length (backward_numbers listed.graph.edges order)
-  pub ended : EndsInRound (plan_of listed.graph.edges order) solved.rounds (raises_in solved.log)
+  pub of_rounds : IsLogOfRounds listed.graph order solved.rounds solved.log
   pub labels : (v : ℕ) → v < listed.graph.vars → label (raises_in solved.log) v ≡ Some (value_of solved.x v)
   pub paths : All (HasPath listed.graph.edges solved.log) listed.base
 
@@ -169,7 +174,8 @@ pub recorded : (axis : Axis) (tech : Tech) (plan : Plan) (masters : List Master)
     → IsSolvedPass axis tech plan masters before listed order solved → IsRecorded tech plan masters before (step_of axis listed solved)
 recorded axis tech plan masters before listed order solved laid run =
     let N : ℕ → Type 0 = λ n. NamesEachOnce n order in
-    let P : List Edge → Type 0 = λ es. EndsInRound (plan_of es order) solved.rounds (raises_in solved.log) in
+    let raises : List Entry = run.of_rounds.raises in
+    let P : List Edge → Type 0 = λ es. EndsInRound (plan_of es order) solved.rounds raises in
     record {
       kept = run.kept;
       edges = ap length run.edges;
@@ -178,9 +184,9 @@ recorded axis tech plan masters before listed order solved laid run =
       each_once = subst N (joint_length axis tech masters before laid) run.names;
       in_order = run.in_order;
       backward = run.backward ∙ ap (λ es. length (backward_numbers es order)) run.edges;
-      raises = raises_in solved.log;
-      ended = subst P run.edges run.ended;
-      walks = ap (walks_to solved.log) run.bases ∙ walks_are axis masters solved.log _;
+      raises = raises;
+      ended = subst P run.edges run.of_rounds.ended;
+      walks = ap (walks_to solved.log) run.bases ∙ walks_are axis masters solved.log raises _ run.of_rounds.alike;
     }
 
 -- the values after the pass solve its list

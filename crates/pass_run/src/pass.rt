@@ -31,7 +31,7 @@ use expand::Master;
 use lam_geom::Axis;
 use lam_io::Gate;
 use lam_list::Seq;
-use liao_wong::{Solved, Unsolved, solve, sort_order};
+use liao_wong::{Solved, Unsolved, solve_reached, sort_order};
 use plan_model::Plan;
 use round_log::Log;
 use rule_table::Tech;
@@ -223,7 +223,7 @@ pub fn one_pass<H: Threads + Sync, G: Gate>(
     masters_are_lawful(tech, masters);
     let listed = list(rt, alloc, gate, axis, tech, plan, masters, before, split)?;
     let order = order_along(alloc, axis, before)?;
-    match solve(alloc, &listed.graph, &order) {
+    match solve_reached(alloc, &listed.graph, &order) {
         Ok(solved) => Ok(made_of(
             alloc, tech, masters, before, pass, axis, &listed, solved, told,
         )?),

@@ -12,5 +12,8 @@ pub mod Cycles
 pub mod Ends
 pub mod Outcomes
 pub mod Entries
+pub mod Alike
+pub mod Kept
 pub mod OneOutcome
 pub mod Implied
+pub mod OfRounds

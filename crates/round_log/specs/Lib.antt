@@ -1,6 +1,8 @@
 pub mod Orders
 pub mod Looks
 pub mod Rounds
+pub mod Told
+pub mod Kept
 pub mod Logs
 pub mod WalksBack
 pub mod Outcomes

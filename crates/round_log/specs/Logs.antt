@@ -7,6 +7,7 @@ use Rattle.round_log.specs.Looks.{latest, raise_of, comes_back}
 use Rattle.cons_graph.specs.EdgeNumbers.{edge_at}
 use Rattle.round_log.specs.Orders.{IsOrder}
 use Rattle.round_log.specs.Rounds.{plan_of, EndsInRound}
+use Rattle.round_log.specs.Told.{TellAlike}
 
 -- entry 0, which stands for the origin
 abbrev pub origin_entry : Entry
@@ -30,13 +31,20 @@ pub record HoldsRaises (vars : ℕ) (log : Log) (raises : List Entry) : Type 0 w
   pub one_last_each : length log.last ≡ vars
   pub last_are : (v : ℕ) → v < vars → slice_index log.last v ≡ latest raises v
 
--- a log that the rounds of a graph in some order of its variables leave when they end without a cycle
+-- a log of the rounds that end in a round: it tells of each variable what their raises tell, and may have fewer of them
+pub record IsLogOfRounds (g : Constraints) (order : List ℕ) (rounds : ℕ) (log : Log) : Type 0 where
+  pub holds : HoldsRaises g.vars log (raises_in log)
+  pub older : ComeFromOlder g.vars (raises_in log)
+  pub raises : List Entry
+  pub ended : EndsInRound (plan_of g.edges order) rounds raises
+  pub alike : TellAlike (raises_in log) raises
+
+-- a log of the rounds of a graph in some order of its variables that end without a cycle
 pub record IsEndedLog (g : Constraints) (log : Log) : Type 0 where
   pub order : List ℕ
   pub rounds : ℕ
   pub is_order : IsOrder g.vars order
-  pub holds : HoldsRaises g.vars log (raises_in log)
-  pub ended : EndsInRound (plan_of g.edges order) rounds (raises_in log)
+  pub of_rounds : IsLogOfRounds g order rounds log
 
 -- each raise is the one that a look at its edge makes on the log before it
 abbrev pub IsMadeByLooks : (ℕ → Edge) → ℕ → List Entry → Type 0

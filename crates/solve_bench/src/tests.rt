@@ -8,7 +8,7 @@ use cons_graph::{Edge, Graph, Names, Why};
 use crit_path::{walk_lines, walk_to};
 use cycle_show::cycle_lines;
 use lam_list::Seq;
-use liao_wong::{Unsolved, solve};
+use liao_wong::{Unsolved, solve, solve_reached};
 use std::alloc::{AllocError, Global};
 use std::test::Fail;
 
@@ -98,7 +98,7 @@ fn a_pair_with_a_limit_that_just_holds(rt: HostRuntime) -> Result<(), Fail> {
 fn a_row_with_a_limit_its_walks_and_their_lines(rt: HostRuntime) -> Result<(), Fail> {
     let alloc = rt.alloc();
     let g = row(alloc)?;
-    let solved = solve(alloc, &g, &[0, 2, 3, 4, 1])?;
+    let solved = solve_reached(alloc, &g, &[0, 2, 3, 4, 1])?;
     assert_eq!(rt; solved.x.as_slice(), [0, 30, 9, 19, 21].as_slice());
     assert_eq!(rt; (solved.backward, solved.rounds), (1, 2));
     let far = walk_to(alloc, &g, &solved.log, 1)?;

@@ -10,7 +10,7 @@ use Rattle.crit_path.proofs.walk.walk_to.Goals as goal
 pub loop-n-init : goal.loop-n-init
 loop-n-init c =
     let rs : List Entry = raises_in c.args.log.now in
-    let here : slice_index_or c.as_slice.result.now c.args.var 0 ≡ latest rs c.args.var = ap (λ l. slice_index_or l c.args.var 0) c.as_slice.ensures ∙ c.requires.ended.holds.last_are c.args.var c.requires.in_range in
+    let here : slice_index_or c.as_slice.result.now c.args.var 0 ≡ latest rs c.args.var = ap (λ l. slice_index_or l c.args.var 0) c.as_slice.ensures ∙ c.requires.ended.of_rounds.holds.last_are c.args.var c.requires.in_range in
     record {
       in_log = omega (arith, here, latest_in_log rs c.args.var);
       left = ap (λ l. l ++ numbers (chain rs (slice_index_or c.as_slice.result.now c.args.var 0))) c.new-walk.ensures.items ∙ ap (λ n. numbers (chain rs n)) here;

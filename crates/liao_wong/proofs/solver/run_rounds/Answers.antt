@@ -1,4 +1,4 @@
-use Rattle.std.proofs.Common.{◌≡◌, ℕ, Bool, true, false, List, length, sym, ap, subst, ◌∙◌, arith}
+use Rattle.std.proofs.Common.{◌≡◌, ℕ, ◌+◌, Bool, true, false, List, length, sym, ap, subst, ◌∙◌, arith}
 use Rattle.round_log.specs.declared.log.Entry.{Entry}
 use Rattle.cons_graph.specs.Constraints.{Constraints}
 use Rattle.round_log.specs.Rounds.{Progress, forward_part, plan_of, round, backward_part}
@@ -6,13 +6,16 @@ use Rattle.cons_graph.specs.EdgeNumbers.{edge_at}
 use Rattle.round_log.specs.Looks.{backward_numbers}
 use Rattle.liao_wong.specs.Held.{Held}
 use Rattle.liao_wong.specs.Going.{IsReady}
-use Rattle.liao_wong.proofs.Course.{ready_between, stopped_here, ended_here, goes_on, few_backward}
+use Rattle.liao_wong.proofs.Course.{has_started, ready_between, stopped_here, ended_here, goes_on, trimmed, few_backward}
 use Rattle.liao_wong.proofs.solver.run_rounds.Goals as goal
+
+pub rounds-init : goal.rounds-init
+rounds-init c = has_started c.args.g.now c.args.order.now.variables.now c.args.floor c.args.raises.now c.requires.start
 
 pub look_backward-requires : goal.look_backward-requires
 look_backward-requires c =
     let P : Held → Type 0 = λ h. IsReady c.args.g.now.vars c.args.g.now.edges c.args.order.now.variables.now c.args.order.now.places.items h in
-    subst P (sym c.in_ok-look_forward.ensures) (ready_between c.args.g.now c.args.order.now.variables.now c.args.order.now.places.items c.rounds.rounds c.rounds.raises c.requires.start.shape c.requires.names c.requires.places c.rounds.invariant)
+    subst P (sym c.in_ok-look_forward.ensures) (ready_between c.args.g.now c.args.order.now.variables.now c.args.order.now.places.items c.rounds.rounds c.args.floor c.rounds.raises c.requires.start.shape c.requires.names c.requires.places c.rounds.invariant)
 
 pub overflow_add-rounds : goal.overflow_add-rounds
 overflow_add-rounds c =
@@ -31,7 +34,7 @@ returns-then-branch-clause-stopped c =
     let order : List ℕ = c.args.order.now.variables.now in
     let held : Held = c.rounds.raises in
     let new : List Entry = c.look_backward.new.raises.raises in
-    stopped_here g order c.rounds.rounds held new c.requires.start.shape c.requires.names c.rounds.invariant (came g order held c.look_forward.new.raises new c.in_ok-look_backward.field-0 true c.if-branch.true c.in_ok-look_backward.ensures.part c.in_ok-look_forward.ensures)
+    stopped_here g order c.rounds.rounds c.args.floor held new c.requires.start.shape c.requires.names c.rounds.invariant (came g order held c.look_forward.new.raises new c.in_ok-look_backward.field-0 true c.if-branch.true c.in_ok-look_backward.ensures.part c.in_ok-look_forward.ensures)
 
 pub returns-then-len-before-clause-ended : goal.returns-then-len-before-clause-ended
 returns-then-len-before-clause-ended c =
@@ -39,7 +42,7 @@ returns-then-len-before-clause-ended c =
     let order : List ℕ = c.args.order.now.variables.now in
     let held : Held = c.rounds.raises in
     let new : List Entry = c.look_backward.new.raises.raises in
-    ended_here g order c.rounds.rounds held new c.requires.start.shape c.requires.names c.rounds.invariant
+    ended_here g order c.rounds.rounds c.args.floor held new c.requires.start.shape c.requires.names c.rounds.invariant
     (came g order held c.look_forward.new.raises new c.in_ok-look_backward.field-0 false c.if-branch.false c.in_ok-look_backward.ensures.part c.in_ok-look_forward.ensures)
     (sym c.len.ensures ∙ c.if-len-before.true ∙ c.len-before.ensures ∙ ap (λ h. length h.raises) c.in_ok-look_forward.ensures)
 
@@ -49,6 +52,7 @@ rounds-preserved c =
     let order : List ℕ = c.args.order.now.variables.now in
     let held : Held = c.rounds.raises in
     let after : Held = c.look_backward.new.raises in
-    goes_on g order c.rounds.rounds after.vars held after.raises c.requires.start.shape c.requires.names c.rounds.invariant c.in_ok-look_backward.ensures.vars
+    let came_on = goes_on g order c.rounds.rounds after.vars c.args.floor held after.raises c.requires.start.shape c.requires.names c.rounds.invariant c.in_ok-look_backward.ensures.vars
     (came g order held c.look_forward.new.raises after.raises c.in_ok-look_backward.field-0 false c.if-branch.false c.in_ok-look_backward.ensures.part c.in_ok-look_forward.ensures)
-    (λ same. c.if-len-before.false (c.len.ensures ∙ same ∙ sym (c.len-before.ensures ∙ ap (λ h. length h.raises) c.in_ok-look_forward.ensures)))
+    (λ same. c.if-len-before.false (c.len.ensures ∙ same ∙ sym (c.len-before.ensures ∙ ap (λ h. length h.raises) c.in_ok-look_forward.ensures))) in
+    trimmed g order (c.rounds.rounds + 1) c.args.floor (record { vars = after.vars; raises = after.raises }) c.trim.new.raises came_on c.in_ok-left.ensures

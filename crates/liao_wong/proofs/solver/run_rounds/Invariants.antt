@@ -4,7 +4,7 @@ use Rattle.liao_wong.specs.Running.{HasCome}
 use Rattle.liao_wong.proofs.solver.run_rounds.Given as goal
 
 abbrev pub invariant-rounds : goal.invariant-rounds
-invariant-rounds l = HasCome l.g l.order.variables.now l.rounds l.raises
+invariant-rounds l = HasCome l.g l.order.variables.now l.rounds l.floor l.raises
 
 abbrev pub decreases-rounds : goal.decreases-rounds
 decreases-rounds l = suc (length (backward_numbers l.g.edges l.order.variables.now)) - l.rounds

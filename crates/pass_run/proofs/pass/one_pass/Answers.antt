@@ -2,8 +2,7 @@ use Rattle.std.proofs.Common.{◌≡◌, ℕ, List, ◌∷◌, length, sym, ap, 
 use Rattle.lam_geom.specs.declared.boxes.Axis.{Axis}
 use Rattle.round_log.specs.Orders.{IsOrder}
 use Rattle.round_log.specs.Looks.{backward_numbers}
-use Rattle.round_log.specs.Logs.{raises_in, IsEndedLog}
-use Rattle.round_log.specs.Rounds.{plan_of, EndsInRound}
+use Rattle.round_log.specs.Logs.{IsEndedLog, IsLogOfRounds}
 use Rattle.cons_graph.specs.declared.edges.Edge.{Edge}
 use Rattle.cons_graph.specs.SimpleWalks.{IsSimplePositiveCycle}
 use Rattle.cons_graph.specs.Walks.{HasPositiveCycle}
@@ -31,8 +30,8 @@ order_along-requires g c =
     let few = c.in_ok-listed.ensures.shape.few_vars in
     omega arith
 
-pub solve-requires : goal.solve-requires
-solve-requires g c =
+pub solve_reached-requires : goal.solve_reached-requires
+solve_reached-requires g c =
     let O : List ℕ → Type 0 = λ ns. IsOrder c.in_ok-listed.listed.graph.vars ns in
     subst O (sym c.deref.ensures.value)
     (order_of c.args.axis c.args.tech.now c.args.plan.now c.args.masters.now c.args.before.now c.in_ok-listed.listed.graph.vars c.in_ok-order.order.items c.requires.planned c.requires.laid c.in_ok-listed.ensures.vars
@@ -47,8 +46,7 @@ made_of-requires-clause-ended g c =
       is_order = subst O (sym c.deref.ensures.value)
           (order_of c.args.axis c.args.tech.now c.args.plan.now c.args.masters.now c.args.before.now c.in_ok-listed.listed.graph.vars c.in_ok-order.order.items c.requires.planned c.requires.laid
           c.in_ok-listed.ensures.vars c.in_ok-order.ensures.names c.in_ok-order.ensures.in_order);
-      holds = c.in-Ok.ensures.log;
-      ended = c.in-Ok.ensures.ended;
+      of_rounds = c.in-Ok.ensures.log;
     }
 
 pub made_of-requires-clause-reach : goal.made_of-requires-clause-reach
@@ -76,7 +74,7 @@ returns-in-Ok g c =
     let order = c.in_ok-order.order.items in
     let step = c.in_ok-made_of-in-Ok.field-0.step in
     let B : List ℕ → Type 0 = λ ns. solved.backward ≡ length (backward_numbers listed.graph.edges ns) in
-    let E : List ℕ → Type 0 = λ ns. EndsInRound (plan_of listed.graph.edges ns) solved.rounds (raises_in solved.log) in
+    let E : List ℕ → Type 0 = λ ns. IsLogOfRounds listed.graph ns solved.rounds solved.log in
     let run : IsSolvedPass axis tech plan masters before listed order solved = record {
       vars = c.in_ok-listed.ensures.vars;
       edges = c.in_ok-listed.ensures.edges;
@@ -89,7 +87,7 @@ returns-in-Ok g c =
       one_each = c.in-Ok.ensures.one_each;
       small = c.in-Ok.ensures.small;
       backward = subst B c.deref.ensures.value c.in-Ok.ensures.backward;
-      ended = subst E c.deref.ensures.value c.in-Ok.ensures.ended;
+      of_rounds = subst E c.deref.ensures.value c.in-Ok.ensures.log;
       labels = c.in-Ok.ensures.labels;
       paths = c.in_ok-made_of-in-Ok.ensures.paths;
     } in
@@ -97,8 +95,7 @@ returns-in-Ok g c =
       order = order;
       rounds = solved.rounds;
       is_order = order_of axis tech plan masters before listed.graph.vars order c.requires.planned c.requires.laid c.in_ok-listed.ensures.vars c.in_ok-order.ensures.names c.in_ok-order.ensures.in_order;
-      holds = c.in-Ok.ensures.log;
-      ended = run.ended;
+      of_rounds = run.of_rounds;
     } in
     let values = c.in_ok-made_of-in-Ok.field-0.most in
     let M : Step → Type 0 = λ s. IsTightMost tech plan masters before s values in
