@@ -1,6 +1,6 @@
 -- A jog leads to one design.
 use Rattle.std.proofs.Common.{◌≡◌, ℕ, ◌+◌, Bool, true, cond, List, [], ◌∷◌, ◌++◌, map, refl, sym, ap, subst, ◌∙◌, arith}
-use Rattle.std.specs.Prelude.{pos, slice_set}
+use Rattle.std.specs.Prelude.{pos, slice_set, count_by}
 use Rattle.std.proofs.lemmas.List.Sums.{sum_by-cons}
 use Rattle.stick_parse.specs.declared.design.Layer.{Layer}
 use Rattle.stick_parse.specs.declared.design.Form.{Form}
@@ -39,41 +39,41 @@ wire_of own (Port name side layer place) h = absurd h
 wire_of own (Inst name cell col row) h = absurd h
 wire_of own (Limit vertical p q at_most n) h = absurd h
 
--- ---- the place of the wire's line
+-- ---- the place of the wire's line, or of the line with some number among those of any kind
 
-abbrev count_of : Line → ℕ
-count_of line = cond (is_wire line.form) 1 0
+abbrev count_of : (Line → Bool) → Line → ℕ
+count_of is line = cond (is line) 1 0
 
-wires_cons : (line : Line) (lines : List Line) → wires_in (line ∷ lines) ≡ count_of line + wires_in lines
-wires_cons line lines = sum_by-cons count_of line lines
+count_cons : (is : Line → Bool) (line : Line) (lines : List Line) → count_by is (line ∷ lines) ≡ count_of is line + count_by is lines
+count_cons is line lines = sum_by-cons (count_of is) line lines
 
-one_wire : (line : Line) → is_wire line.form ≡ true → count_of line ≡ 1
-one_wire line e = ap (λ (b : Bool). cond b 1 0) e
+count_one : (is : Line → Bool) (line : Line) → is line ≡ true → count_of is line ≡ 1
+count_one is line e = ap (λ (b : Bool). cond b 1 0) e
 
 head_same : (x y : Line) (xs ys : List Line) → ◌≡◌ {A = List Line} (x ∷ xs) (y ∷ ys) → (x ≡ y) × (xs ≡ ys)
 head_same x y xs ys e = (cc, cc)
 
-pub record AreSameParts (front other : List Line) (wire second : Line) (back rest : List Line) : Type 0 where
+pub record AreSameParts (front other : List Line) (line second : Line) (back rest : List Line) : Type 0 where
   pub fronts : front ≡ other
-  pub wires : wire ≡ second
+  pub lines : line ≡ second
   pub backs : back ≡ rest
 
-pub same_split : (front other : List Line) (wire second : Line) (back rest : List Line) → front ++ wire ∷ back ≡ other ++ second ∷ rest → wires_in front ≡ wires_in other
-    → is_wire wire.form ≡ true → is_wire second.form ≡ true → AreSameParts front other wire second back rest
-same_split [] [] wire second back rest e n w v = let h = head_same wire second back rest e in record { fronts = refl; wires = h.0; backs = h.1 }
-same_split [] (y ∷ other) wire second back rest e n w v =
-    let h = head_same wire y back (other ++ second ∷ rest) e in
-    let one : count_of y ≡ 1 = sym (ap count_of h.0) ∙ one_wire wire w in
-    absurd (omega (arith, n, wires_cons y other, one))
-same_split (x ∷ front) [] wire second back rest e n w v =
-    let h = head_same x second (front ++ wire ∷ back) rest e in
-    let one : count_of x ≡ 1 = ap count_of h.0 ∙ one_wire second v in
-    absurd (omega (arith, n, wires_cons x front, one))
-same_split (x ∷ front) (y ∷ other) wire second back rest e n w v =
-    let h = head_same x y (front ++ wire ∷ back) (other ++ second ∷ rest) e in
-    let fewer : wires_in front ≡ wires_in other = omega (arith, n, wires_cons x front, wires_cons y other, ap count_of h.0) in
-    let parts = same_split front other wire second back rest h.1 fewer w v in
-    record { fronts = ap (λ (l : List Line). x ∷ l) parts.fronts ∙ ap (λ (l : Line). l ∷ other) h.0; wires = parts.wires; backs = parts.backs }
+pub same_split : (is : Line → Bool) (front other : List Line) (line second : Line) (back rest : List Line) → front ++ line ∷ back ≡ other ++ second ∷ rest → count_by is front ≡ count_by is other
+    → is line ≡ true → is second ≡ true → AreSameParts front other line second back rest
+same_split is [] [] line second back rest e n w v = let h = head_same line second back rest e in record { fronts = refl; lines = h.0; backs = h.1 }
+same_split is [] (y ∷ other) line second back rest e n w v =
+    let h = head_same line y back (other ++ second ∷ rest) e in
+    let one : count_of is y ≡ 1 = sym (ap (count_of is) h.0) ∙ count_one is line w in
+    absurd (omega (arith, n, count_cons is y other, one))
+same_split is (x ∷ front) [] line second back rest e n w v =
+    let h = head_same x second (front ++ line ∷ back) rest e in
+    let one : count_of is x ≡ 1 = ap (count_of is) h.0 ∙ count_one is second v in
+    absurd (omega (arith, n, count_cons is x front, one))
+same_split is (x ∷ front) (y ∷ other) line second back rest e n w v =
+    let h = head_same x y (front ++ line ∷ back) (other ++ second ∷ rest) e in
+    let fewer : count_by is front ≡ count_by is other = omega (arith, n, count_cons is x front, count_cons is y other, ap (count_of is) h.0) in
+    let parts = same_split is front other line second back rest h.1 fewer w v in
+    record { fronts = ap (λ (l : List Line). x ∷ l) parts.fronts ∙ ap (λ (l : Line). l ∷ other) h.0; lines = parts.lines; backs = parts.backs }
 
 -- ---- the lines of the bent cell
 
@@ -99,10 +99,10 @@ bent_is_determined text cell k row left lines others a b =
     let high = same_node a.bendable.high b.bendable.high _ a.bendable.to b.bendable.to in
     let number = same_number text.lines a.number b.number a.is_number b.is_number in
     let width = same_width a.width b.width (sym a.is_width ∙ b.is_width) in
-    let parts = same_split a.front b.front a.wire b.wire a.back b.back (sym a.split ∙ b.split) (a.count ∙ sym b.count) (wire_of a.layer a.wire.form a.of_wire) (wire_of b.layer b.wire.form b.of_wire) in
+    let parts = same_split (λ line. is_wire line.form) a.front b.front a.wire b.wire a.back b.back (sym a.split ∙ b.split) (a.count ∙ sym b.count) (wire_of a.layer a.wire.form a.of_wire) (wire_of b.layer b.wire.form b.of_wire) in
     let fronts = parts.fronts in
     let backs = parts.backs in
-    let layer = same_layer a.layer b.layer b.wire.form (let P : Line → Type 0 = λ l. IsWireOf a.layer l.form in subst P parts.wires a.of_wire) b.of_wire in
+    let layer = same_layer a.layer b.layer b.wire.form (let P : Line → Type 0 = λ l. IsWireOf a.layer l.form in subst P parts.lines a.of_wire) b.of_wire in
     cc (one, two, low, high, number, width, fronts, backs, layer)
 
 -- ---- the design

@@ -87,10 +87,15 @@ sum_grids n [] = refl
 sum_grids n (grid ∷ grids) =
     omega (arith, sum_by-cons lines_of_grid (record { name = grid.name; line = n; rows = grid.rows }) (grids_from (n + 1 + length grid.rows + 1) grids), sum_by-cons lines_of_grid grid grids, sum_grids (n + 1 + length grid.rows + 1) grids)
 
+-- as many more or fewer as the cell has
+pub lines_of_laid : (design : Design) (k : ℕ) (cell : CellText) → k < length design.cells
+    → lines_in (laid_out (record design { cells = set design.cells k cell })) + length (get_or design.cells k no_cell).lines ≡ lines_in design + length cell.lines
+lines_of_laid design k cell lt =
+    omega (arith, sum_cells 2 (set design.cells k cell), sum_grids (behind_cells 2 (set design.cells k cell)) design.grids, sum_by-set lines_of_cell design.cells k cell no_cell lt)
+
 pub more_lines : (design : Design) (k : ℕ) (cell : CellText) → k < length design.cells → length cell.lines ≡ length (get_or design.cells k no_cell).lines + 4
     → lines_in (laid_out (record design { cells = set design.cells k cell })) ≡ lines_in design + 4
-more_lines design k cell lt e =
-    omega (arith, sum_cells 2 (set design.cells k cell), sum_grids (behind_cells 2 (set design.cells k cell)) design.grids, sum_by-set lines_of_cell design.cells k cell no_cell lt, e)
+more_lines design k cell lt e = omega (arith, lines_of_laid design k cell lt, e)
 
 -- a cell has no more lines than the design
 pub few_lines : (design : Design) (k : ℕ) → k < length design.cells → 2 + length (get_or design.cells k no_cell).lines < lines_in design

@@ -11,7 +11,7 @@ use Rattle.jog_insert.specs.declared.bending.Place.{Place}
 use Rattle.jog_insert.specs.declared.joints.Joints.{Joints}
 use Rattle.jog_insert.specs.declared.runs.Run.{Run}
 use Rattle.jog_insert.specs.Bends.{Bend}
-use Rattle.jog_insert.specs.Jogs.{lower_name, upper_name, IsTaken, bent_forms, wires_in, IsWireOf, IsBendable, IsBent, IsCopy, IsNearForm, Uses, cell_text_at}
+use Rattle.jog_insert.specs.Jogs.{lower_name, upper_name, IsTaken, bent_forms, wires_in, IsWireOf, IsBendable, IsBent, IsCopy, IsNearForm, AreWithoutUse, cell_text_at}
 
 abbrev pub bend_of : Place → Bend
 bend_of place = record { col = place.col; row = place.row; left = place.left }
@@ -72,7 +72,7 @@ pub record IsWireAt (lines : List Line) (k at : ℕ) (layer : Layer) : Type 0 wh
 pub record StandsAlone (design : Design) (masters : List ℕ) (cell : ℕ) : Type 0 where
   pub master : Contains masters cell
   pub whole : All (λ line. IsCopy line.form → ⊥) (cell_text_at design cell).lines
-  pub unused : All (λ (text : CellText). All (λ line. Uses (cell_text_at design cell).name line.form → ⊥) text.lines) design.cells
+  pub unused : AreWithoutUse (cell_text_at design cell).name design.cells
 
 -- the text of a cell with other lines, which are those of a jog and lie near
 pub record IsBentCell (text : CellText) (cell : Cell) (k row : ℕ) (left : Bool) (new : CellText) : Type 0 where

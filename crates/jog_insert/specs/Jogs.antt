@@ -94,6 +94,10 @@ abbrev pub Uses : List ℕ → Form → Type 0
 Uses used (Inst name cell col row) = cell ≡ used
 Uses used form = ⊥
 
+-- no line of these cells is a use of the cell with this name
+abbrev pub AreWithoutUse : List ℕ → List CellText → Type 0
+AreWithoutUse name cells = All (λ (text : CellText). All (λ line. Uses name line.form → ⊥) text.lines) cells
+
 abbrev pub no_cell : CellText
 no_cell = record { name = []; line = 0; end_line = 0; lines = [] }
 
@@ -168,7 +172,7 @@ pub record IsBent (text : CellText) (cell : Cell) (k row : ℕ) (left : Bool) (l
 pub record IsJogged (design : Design) (content : Cell) (masters : List ℕ) (cell k row : ℕ) (left : Bool) (new : Design) : Type 0 where
   pub master : Contains masters cell
   pub whole : All (λ line. IsCopy line.form → ⊥) (cell_text_at design cell).lines
-  pub unused : All (λ (text : CellText). All (λ line. Uses (cell_text_at design cell).name line.form → ⊥) text.lines) design.cells
+  pub unused : AreWithoutUse (cell_text_at design cell).name design.cells
   pub lines : List Line
   pub bent : IsBent (cell_text_at design cell) content k row left lines
   pub near : All (λ line. IsNearForm line.form) lines

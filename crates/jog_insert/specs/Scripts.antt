@@ -1,4 +1,4 @@
--- The script of jogs: lines as those of stick text (blanks, comments and lines without words), each of which names a wire to be bent.
+-- Scripts: lines as those of stick text (blanks, comments and lines without words). A line of the script of jogs names a wire to be bent.
 use Rattle.std.specs.Prelude.{◌≡◌, ℕ, ◌+◌, not, List, [], ◌∷◌, map, Option, Some, None, Result, Ok, Err, codes}
 use Rattle.std.specs.Str.{bytes_eq}
 use Rattle.std.specs.Str.Lines.{lines}
@@ -27,34 +27,40 @@ jog_of words = do
   over ← ended right.1
   Ok (record { cell = cell.0; k = k.0; r = r.0; left = not right.0 })
 
--- what the words of a line say; a line without words says nothing
-unfoldable pub jog_by_words : List Word → Result (Option JogLine) StickKind
-jog_by_words [] = Ok None
-jog_by_words (word ∷ words) = do
-  jog ← jog_of (word ∷ words)
-  Ok (Some jog)
+-- ---- a script, given what the words of a line of it say
 
-unfoldable pub jog_by : List ℕ → Result (Option JogLine) StickKind
-jog_by line = do
+-- a line without words says nothing
+abbrev pub step_by_words : {A : Type 0} → (List Word → Result A StickKind) → List Word → Result (Option A) StickKind
+step_by_words step_of [] = Ok None
+step_by_words step_of (word ∷ words) = do
+  step ← step_of (word ∷ words)
+  Ok (Some step)
+
+abbrev pub step_by : {A : Type 0} → (List Word → Result A StickKind) → List ℕ → Result (Option A) StickKind
+step_by step_of line = do
   tokens ← tokens_or_kind (tokens_of line)
-  jog_by_words (map (word_of line) tokens)
+  step_by_words step_of (map (word_of line) tokens)
 
--- the jogs of some lines of which the first has this number, or the number of the first that is no line of a script
-abbrev pub with_jog : ℕ → Result (Option JogLine) StickKind → Result (List JogLine) ℕ → Result (List JogLine) ℕ
-with_jog number (Ok None) read = read
-with_jog number (Ok (Some jog)) read = read >>= λ jogs. Ok (jog ∷ jogs)
-with_jog number (Err kind) read = Err number
+-- what some lines say of which the first has this number, or the number of the first that is no line of the script
+abbrev pub with_step : {A : Type 0} → ℕ → Result (Option A) StickKind → Result (List A) ℕ → Result (List A) ℕ
+with_step number (Ok None) read = read
+with_step number (Ok (Some step)) read = read >>= λ steps. Ok (step ∷ steps)
+with_step number (Err kind) read = Err number
 
-abbrev pub jogs_from : ℕ → List (List ℕ) → Result (List JogLine) ℕ
-jogs_from number [] = Ok []
-jogs_from number (line ∷ lines) = with_jog number (jog_by line) (jogs_from (number + 1) lines)
+abbrev pub steps_from : {A : Type 0} → (List Word → Result A StickKind) → ℕ → List (List ℕ) → Result (List A) ℕ
+steps_from step_of number [] = Ok []
+steps_from step_of number (line ∷ lines) = with_step number (step_by step_of line) (steps_from step_of (number + 1) lines)
 
--- the jogs of a script, or the number of its first bad line
+-- what the lines of a script say, or the number of its first bad line
+abbrev pub steps_of : {A : Type 0} → (List Word → Result A StickKind) → List ℕ → Result (List A) ℕ
+steps_of step_of text = steps_from step_of 1 (lines text)
+
+-- the jogs of a script
 unfoldable pub jogs_of : List ℕ → Result (List JogLine) ℕ
-jogs_of text = jogs_from 1 (lines text)
+jogs_of text = steps_of jog_of text
 
 -- the fault is the bad line of the script; nothing is said where memory ran out
-abbrev pub IsScriptFault : ScriptFault → Result (List JogLine) ℕ → Type 0
+abbrev pub IsScriptFault : {A : Type 0} → ScriptFault → Result (List A) ℕ → Type 0
 IsScriptFault (faults.Line number) read = read ≡ Err number
 IsScriptFault faults.OutOfMemory read = Unit {0}
 

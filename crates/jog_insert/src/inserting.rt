@@ -4,7 +4,6 @@ ghost use Rattle.std.specs.List.{AllByRecursion};
 ghost use Rattle.rule_table.specs.declared.technology.Tech.{Tech};
 ghost use Rattle.stick_parse.specs.declared.design.Design.{Design as SomeDesign};
 ghost use Rattle.stick_parse.specs.declared.design.Line.{Line};
-ghost use Rattle.stick_parse.specs.declared.design.CellText.{CellText as SomeText};
 ghost use Rattle.stick_parse.specs.Writable.{IsCell, IsPath, IsWritable};
 ghost use Rattle.stick_print.specs.ReadBack.{without_line};
 ghost use Rattle.cell_model.specs.Nets.{HasEnds};
@@ -12,7 +11,7 @@ ghost use Rattle.cell_model.specs.Sound.{IsSound};
 ghost use Rattle.stick_cell.specs.Counts.{weight_of};
 ghost use Rattle.stick_cell.specs.Known.{cell_of, known_at};
 ghost use Rattle.stick_cell.specs.Tables.{known_of, IsResolved};
-ghost use Rattle.jog_insert.specs.Jogs.{IsBent, IsCopy, IsJogged, IsNearForm, Uses};
+ghost use Rattle.jog_insert.specs.Jogs.{AreWithoutUse, IsBent, IsCopy, IsJogged, IsNearForm, Uses};
 ghost use Rattle.jog_insert.specs.Building.{StandsAlone, IsBentCell};
 ghost use Rattle.design_sizes.specs.Sizes.{lines_in};
 
@@ -66,11 +65,9 @@ fn is_unused_in(name: &[u8], lines: &[TextLine]) -> bool
     true
 }
 
-// Whether none of the cells uses the cell with this name.
-fn is_unused(name: &[u8], cells: &[CellText]) -> bool
-    ensures { MatchBool result
-        (All (λ (text : SomeText). All (λ line. Uses name.now line.form → ⊥) text.lines) cells.now)
-        (All (λ (text : SomeText). All (λ line. Uses name.now line.form → ⊥) text.lines) cells.now → ⊥) }
+/// Whether none of the cells uses the cell with this name.
+pub fn is_unused(name: &[u8], cells: &[CellText]) -> bool
+    ensures { MatchBool result (AreWithoutUse name.now cells.now) (AreWithoutUse name.now cells.now → ⊥) }
 {
     for cell in cells {
         if !is_unused_in(name, cell.lines.as_slice()) {

@@ -4,7 +4,7 @@ ghost use Rattle.stick_parse.specs.Reading.{GivesLine};
 ghost use Rattle.stick_parse.specs.declared.fault.StickKind.TheVariants.{BadLine};
 ghost use Rattle.stick_cell.specs.Checks.{demand};
 ghost use Rattle.std.specs.Str.{bytes_eq};
-ghost use Rattle.jog_insert.specs.Scripts.{jog_of, jog_by, jogs_of, fault_at, IsScriptFault};
+ghost use Rattle.jog_insert.specs.Scripts.{jog_of, step_by, jogs_of, fault_at, IsScriptFault};
 ghost use Rattle.stick_parse.specs.WordViews.{views};
 
 use crate::script::{JogLine, ScriptFault};
@@ -45,10 +45,9 @@ fn jog_of(alloc: Global, words: &[Word]) -> Result<JogLine, LineFault>
 }
 
 // The jog of a line, if it has words.
-#[tactic(auto, unfolding(crate::specs::Scripts::jog_by, crate::specs::Scripts::jog_by_words))]
 fn jog_by(alloc: Global, line: &[u8]) -> Result<Option<JogLine>, LineFault>
     requires { length line.now ≤ 2 ^ 20 }
-    ensures { GivesLine (λ x. x) result (jog_by line.now) }
+    ensures { GivesLine (λ x. x) result (step_by jog_of line.now) }
 {
     let tokens = lex_line(alloc, line)?;
     let words = words_of(alloc, line, &tokens)?;
@@ -59,7 +58,8 @@ fn jog_by(alloc: Global, line: &[u8]) -> Result<Option<JogLine>, LineFault>
     Ok(Some(jog))
 }
 
-fn at_line(number: u32, fault: LineFault) -> ScriptFault
+/// The fault of a line, which has this number, as the script's.
+pub fn at_line(number: u32, fault: LineFault) -> ScriptFault
     ensures { result ≡ fault_at number fault }
 {
     match fault {

@@ -1,0 +1,14 @@
+-- What the code keeps while it edits a cell: this is no part of what an edit is.
+use Rattle.std.specs.Prelude.{◌≡◌, ℕ, true, List, ◌∷◌, ◌++◌, length}
+use Rattle.stick_parse.specs.declared.design.Line.{Line}
+use Rattle.edit_lines.specs.Edits.{is_limit, limits_in}
+
+-- the line of limit number k stands at this place
+pub record IsLimitAt (lines : List Line) (k at : ℕ) : Type 0 where
+  pub front : List Line
+  pub limit : Line
+  pub back : List Line
+  pub split : lines ≡ front ++ limit ∷ back
+  pub place : length front ≡ at
+  pub count : limits_in front ≡ k
+  pub of_limit : is_limit limit.form ≡ true
