@@ -101,18 +101,22 @@ bench_as n = option_map bench (count_in n)
 abbrev pub bench_of : List Text → Option Command
 bench_of words = option_and_then (λ rows. bench_as (operand_of rows)) (found_in operand_line words)
 
+-- the command that the words are, if they are one, where this is its name
+abbrev pub command_named : Text → List Text → Option Command
+command_named name words =
+    if bytes_eq name (codes "compact") then compact_of words
+    else (if bytes_eq name (codes "slack") then slack_of words
+    else (if bytes_eq name (codes "jog") then jog_of words
+    else (if bytes_eq name (codes "edit") then edit_of words
+    else (if bytes_eq name (codes "check") then check_of words
+    else (if bytes_eq name (codes "extract") then extract_of words
+    else (if bytes_eq name (codes "fmt") then fmt_of words
+    else (if bytes_eq name (codes "bench") then bench_of words else None)))))))
+
 -- the command that the words are, if they are one: the first word names it
 abbrev pub command_of : List Text → Option Command
 command_of [] = None
-command_of (word ∷ words) =
-    if bytes_eq word (codes "compact") then compact_of (word ∷ words)
-    else (if bytes_eq word (codes "slack") then slack_of (word ∷ words)
-    else (if bytes_eq word (codes "jog") then jog_of (word ∷ words)
-    else (if bytes_eq word (codes "edit") then edit_of (word ∷ words)
-    else (if bytes_eq word (codes "check") then check_of (word ∷ words)
-    else (if bytes_eq word (codes "extract") then extract_of (word ∷ words)
-    else (if bytes_eq word (codes "fmt") then fmt_of (word ∷ words)
-    else (if bytes_eq word (codes "bench") then bench_of (word ∷ words) else None)))))))
+command_of (name ∷ words) = command_named name (name ∷ words)
 
 -- the bytes of words
 abbrev pub texts_of : List (Bor (List ℕ)) → List (List ℕ)

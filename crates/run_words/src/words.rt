@@ -3,7 +3,7 @@
 ghost use Rattle.std.specs.Prelude.{◌≡◌, ◌≤◌, Some, None, Err, IfOk};
 ghost use Rattle.clap.specs.Words.{found_of, rows_of};
 ghost use Rattle.run_words.specs.Values.{count_in, passes_in};
-ghost use Rattle.run_words.specs.Words.{bench_of, check_of, command_of, compact_of, edit_of, extract_of, fmt_of, jog_of, passes_of, slack_of, split_of, texts_of};
+ghost use Rattle.run_words.specs.Words.{bench_of, check_of, command_named, command_of, compact_of, edit_of, extract_of, fmt_of, jog_of, passes_of, slack_of, split_of, texts_of};
 ghost use Rattle.run_words.specs.Commands.{command_from, AreOfPassList, HasPassList, IsWithinLimits};
 ghost use Rattle.run_words.specs.declared.commands.WordsFault.TheVariants.{Usage};
 
@@ -149,6 +149,38 @@ fn read_bench<'a>(alloc: Global, words: &'a [&'a str]) -> Result<Command<'a>, Wo
     Ok(Command::Bench { n })
 }
 
+// The command that the words are, where `name` is its name.
+fn read_named<'a>(
+    alloc: Global,
+    name: &str,
+    words: &'a [&'a str],
+) -> Result<Command<'a>, WordsFault>
+    ensures command { IfOk result (λ command. command_named name.now (texts_of words.now) ≡ Some (command_from command)) }
+    ensures passes { IfOk result HasPassList }
+    ensures limits { IfOk result IsWithinLimits }
+    ensures usage { result ≡ Err Usage → command_named name.now (texts_of words.now) ≡ None }
+{
+    if name == "compact" {
+        read_compact(alloc, words)
+    } else if name == "slack" {
+        read_slack(alloc, words)
+    } else if name == "jog" {
+        read_jog(alloc, words)
+    } else if name == "edit" {
+        read_edit(alloc, words)
+    } else if name == "check" {
+        read_check(alloc, words)
+    } else if name == "extract" {
+        read_extract(alloc, words)
+    } else if name == "fmt" {
+        read_fmt(alloc, words)
+    } else if name == "bench" {
+        read_bench(alloc, words)
+    } else {
+        Err(WordsFault::Usage)
+    }
+}
+
 /// The command that the words are, which are those behind the program's name. `Usage` comes exactly where they are no
 /// command. Want of memory is the one other refusal.
 pub fn read_words<'a>(alloc: Global, words: &'a [&'a str]) -> Result<Command<'a>, WordsFault>
@@ -159,26 +191,6 @@ pub fn read_words<'a>(alloc: Global, words: &'a [&'a str]) -> Result<Command<'a>
 {
     match words {
         [] => Err(WordsFault::Usage),
-        [command, ..] => {
-            if *command == "compact" {
-                read_compact(alloc, words)
-            } else if *command == "slack" {
-                read_slack(alloc, words)
-            } else if *command == "jog" {
-                read_jog(alloc, words)
-            } else if *command == "edit" {
-                read_edit(alloc, words)
-            } else if *command == "check" {
-                read_check(alloc, words)
-            } else if *command == "extract" {
-                read_extract(alloc, words)
-            } else if *command == "fmt" {
-                read_fmt(alloc, words)
-            } else if *command == "bench" {
-                read_bench(alloc, words)
-            } else {
-                Err(WordsFault::Usage)
-            }
-        }
+        [name, ..] => read_named(alloc, name, words),
     }
 }

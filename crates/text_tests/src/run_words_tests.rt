@@ -40,7 +40,18 @@ fn meaning(alloc: Global, line: &str) -> Result<String, AllocError> {
             let axes = passes.as_slice();
             format!(in alloc; "jog {design} {tech} {script} {axes:?}")
         }
-        Ok(Command::Check { cif, tech }) => format!(in alloc; "check {cif} {tech}"),
+        Ok(
+            Command::Edit {
+                design,
+                tech,
+                script,
+                passes,
+            },
+        ) => {
+            let axes = passes.as_slice();
+            format!(in alloc; "edit {design} {tech} {script} {axes:?}")
+        }
+        Ok(Command::Check { cif, tech, split }) => format!(in alloc; "check {cif} {tech} {split}"),
         Ok(Command::Extract { cif, tech }) => format!(in alloc; "extract {cif} {tech}"),
         Ok(Command::Fmt { design }) => format!(in alloc; "fmt {design}"),
         Ok(Command::Bench { n }) => format!(in alloc; "bench {n}"),
@@ -65,12 +76,18 @@ fn words_mean_commands(rt: HostRuntime) -> Result<(), Fail> {
             "jog --script=s d --tech t --passes xyx",
             "jog d t s [X, Y, X]",
         ),
-        ("check c --tech t", "check c t"),
+        ("edit d --tech t --script s", "edit d t s [X, Y]"),
+        (
+            "edit --passes=yx --script s --tech t d",
+            "edit d t s [Y, X]",
+        ),
+        ("check c --tech t", "check c t 1"),
+        ("check --split=64 c --tech t", "check c t 64"),
         ("extract --tech t c", "extract c t"),
         ("fmt d", "fmt d"),
         // a value may be empty, or begin with a dash behind `=`
-        ("check c --tech=", "check c "),
-        ("check c --tech=-t", "check c -t"),
+        ("check c --tech=", "check c  1"),
+        ("check c --tech=-t", "check c -t 1"),
         // behind `--` stand operands alone
         ("compact --tech t -- -d", "compact -d t [X, Y] 1"),
         ("fmt -- --help", "fmt --help"),
@@ -106,8 +123,19 @@ fn other_words_are_refused(rt: HostRuntime) -> Result<(), Fail> {
         "jog d --script s",
         "jog d --tech t --script s --script s",
         "jog d --tech t --script s --split 1",
+        "edit d --tech t",
+        "edit d --script s",
+        "edit d --tech t --script",
+        "edit d --tech t --script s --script s",
+        "edit d --tech t --script s --passes y",
+        "edit d --tech t --script s --split 1",
         "check c",
         "check c --tech t --passes xy",
+        "check c --tech t --split 0",
+        "check c --tech t --split 65",
+        "check c --tech t --split 2 --split 2",
+        "check c --split 2",
+        "extract c --tech t --split 1",
         "fmt d --tech t",
         "fmt --help",
         "fmt -h",
