@@ -1,3 +1,4 @@
 pub mod Edits
 pub mod Scripts
 pub mod Building
+pub mod Faults

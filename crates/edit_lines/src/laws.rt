@@ -1,8 +1,10 @@
 //! What the definitions promise.
 ghost use Rattle.std.specs.Prelude.{◌≡◌};
 ghost use Rattle.edit_lines.specs.Edits.{IsEdited};
+ghost use Rattle.edit_lines.specs.Faults.{IsAtFaultAlone};
 
 use crate::script::EditLine;
+use rule_table::Tech;
 use stick_parse::Design;
 
 /// A law, with nothing to run: an edit leads to one design.
@@ -16,4 +18,18 @@ pub fn edits_are_determined(
     requires new { IsEdited design.now masters.now edit.now new.now }
     requires other { IsEdited design.now masters.now edit.now other.now }
     ensures { new.now ≡ other.now }
+{}
+
+/// A law, with nothing to run: in a design without fault in names and sizes, the limit that an edit adds is the only thing
+/// that can have one. Where it has a fault, the first fault of the new design is of its kind; and else the new design has
+/// none.
+pub fn edits_are_at_fault_alone(
+    tech: &Tech,
+    design: &Design,
+    masters: &[u32],
+    edit: &EditLine,
+    new: &Design,
+)
+    requires { IsEdited design.now masters.now edit.now new.now }
+    ensures { IsAtFaultAlone tech.now design.now edit.now new.now }
 {}

@@ -15,5 +15,8 @@ pub enum EditLine {
         n: i64,
     },
     /// Limit `k` of a cell, from 0, is taken away.
-    Take { cell: Text, k: u32 },
+    Take {
+        cell: Text,
+        k: u32,
+    },
 }

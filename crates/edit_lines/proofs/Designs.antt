@@ -1,0 +1,46 @@
+-- A design with an edited cell.
+use Rattle.std.proofs.Common.{◌≡◌, ℕ, ◌+◌, ◌<◌, ◌≤◌, List, length, get_or, set, Some, refl, sym, ap, subst, ◌∙◌, arith}
+use Rattle.std.specs.Prelude.{Contains, position, slice_set}
+use Rattle.std.specs.Str.{bytes_eq}
+use Rattle.list_facts.proofs.Elements.{all_at}
+use Rattle.stick_parse.specs.declared.design.Line.{Line}
+use Rattle.stick_parse.specs.declared.design.CellText.{CellText}
+use Rattle.stick_parse.specs.declared.design.Design.{Design}
+use Rattle.stick_parse.specs.Writable.{IsLine, IsCell, IsWritable}
+use Rattle.stick_print.specs.ReadBack.{laid_out}
+use Rattle.design_sizes.specs.Sizes.{lines_in}
+use Rattle.jog_insert.specs.Jogs.{no_cell, cell_text_at, AreWithoutUse}
+use Rattle.jog_insert.proofs.Laid.{lines_of_laid}
+use Rattle.edit_lines.specs.declared.script.EditLine.{EditLine}
+use Rattle.edit_lines.specs.declared.script.EditLine.TheVariants.{Add, Take}
+use Rattle.edit_lines.specs.Edits.{cell_in, number_named, ChangesTo, HasText, HasLinesAfter, IsEdited}
+use Rattle.edit_lines.proofs.Lines.{changes_are_determined, changed_have_text, changed_length, HasLengthAfter}
+
+pub same_some : (a b : ℕ) → Some a ≡ Some b → a ≡ b
+same_some a b e = cc
+
+-- the design with these lines in a cell
+abbrev with_lines : Design → ℕ → List Line → Design
+with_lines design cell lines = laid_out (record design { cells = slice_set design.cells cell (record (cell_text_at design cell) { lines = lines }) })
+
+pub edited_is_determined : (design : Design) (masters : List ℕ) (edit : EditLine) (new other : Design) → IsEdited design masters edit new → IsEdited design masters edit other → new ≡ other
+edited_is_determined design masters edit new other a b =
+    let cells : b.cell ≡ a.cell = same_some b.cell a.cell (sym b.named ∙ a.named) in
+    let P : ℕ → Type 0 = λ k. ChangesTo edit (cell_text_at design k).lines b.lines in
+    let lines : a.lines ≡ b.lines = changes_are_determined edit (cell_text_at design a.cell).lines a.lines b.lines a.changed (subst P cells b.changed) in
+    a.made ∙ ap (with_lines design a.cell) lines ∙ ap (λ (k : ℕ). with_lines design k b.lines) (sym cells) ∙ sym b.made
+
+-- ---- where there is none
+
+pub not_named : (design : Design) (masters : List ℕ) (edit : EditLine) (new : Design) (k : ℕ) → number_named design.cells (cell_in edit) ≡ Some k → IsEdited design masters edit new
+    → (Contains masters k) × AreWithoutUse (cell_in edit) design.cells × ((lines : List Line) × ChangesTo edit (cell_text_at design k).lines lines)
+not_named design masters edit new k e is =
+    let same : is.cell ≡ k = same_some is.cell k (sym is.named ∙ e) in
+    (subst (Contains masters) same is.master, is.unused, (is.lines, (let P : ℕ → Type 0 = λ i. ChangesTo edit (cell_text_at design i).lines is.lines in subst P same is.changed)))
+
+-- ---- how many lines
+
+pub lines_after : (edit : EditLine) (design : Design) (k : ℕ) (cell : CellText) → k < length design.cells → HasLengthAfter edit (length (get_or design.cells k no_cell).lines) (length cell.lines)
+    → HasLinesAfter edit design (laid_out (record design { cells = set design.cells k cell }))
+lines_after (Add own vertical a b at_most n) design k cell lt e = omega (arith, lines_of_laid design k cell lt, e)
+lines_after (Take own j) design k cell lt e = omega (arith, lines_of_laid design k cell lt, e)

@@ -1,0 +1,78 @@
+-- The lines of a cell after an edit.
+use Rattle.std.proofs.Common.{◌≡◌, ℕ, ◌+◌, ◌<◌, ◌≤◌, Bool, true, List, [], ◌∷◌, ◌++◌, length, take, drop, cond, refl, sym, ap, ◌∙◌, append_assoc, arith}
+use Rattle.std.specs.Prelude.{count_by}
+use Rattle.std.specs.List.{AllByRecursion}
+use Rattle.std.proofs.lemmas.List.{take_at, drop_at, length-append}
+use Rattle.std.proofs.lemmas.List.Sums.{sum_by-cons, sum_by-append}
+use Rattle.list_facts.proofs.Elements.{all_append, all_parts}
+use Rattle.stick_parse.specs.declared.design.Line.{Line}
+use Rattle.stick_parse.specs.Writable.{IsLine}
+use Rattle.jog_insert.proofs.Determined.{same_split}
+use Rattle.edit_lines.specs.declared.script.EditLine.{EditLine}
+use Rattle.edit_lines.specs.declared.script.EditLine.TheVariants.{Add, Take}
+use Rattle.edit_lines.specs.Edits.{is_limit, limits_in, HasText, ChangesTo, IsWithoutLimit}
+use Rattle.edit_lines.specs.Building.{IsLimitAt}
+
+-- ---- without a limit
+
+one_of : Line → ℕ
+one_of line = cond (is_limit line.form) 1 0
+
+-- a limit has fewer limits before it than there are
+pub some_limit : (lines new : List Line) (k : ℕ) → limits_in lines ≤ k → IsWithoutLimit lines k new → ⊥
+some_limit lines new k few is =
+    let all : limits_in lines ≡ limits_in (is.front ++ is.limit ∷ is.back) = ap limits_in is.split in
+    let here : cond (is_limit is.limit.form) 1 0 ≡ 1 = ap (λ (b : Bool). cond b 1 0) is.of_limit in
+    omega (
+      arith,
+      all,
+      here,
+      few,
+      is.count,
+      sum_by-append (λ (line : Line). cond (is_limit line.form) 1 0) is.front (is.limit ∷ is.back),
+      sum_by-cons (λ (line : Line). cond (is_limit line.form) 1 0) is.limit is.back,
+    )
+
+-- the lines before it and behind it
+pub without_limit : (lines : List Line) (k at : ℕ) (new : List Line) → IsLimitAt lines k at → new ≡ take at lines ++ drop (at + 1) lines → IsWithoutLimit lines k new
+without_limit lines k at new is e =
+    let fronts : take at lines ≡ is.front = ap (take at) is.split ∙ take_at is.front (is.limit ∷ is.back) at is.place in
+    let apart : is.front ++ is.limit ∷ is.back ≡ (is.front ++ is.limit ∷ []) ++ is.back = sym (append_assoc is.front (is.limit ∷ []) is.back) in
+    let backs : drop (at + 1) lines ≡ is.back = ap (drop (at + 1)) (is.split ∙ apart) ∙ drop_at (is.front ++ is.limit ∷ []) is.back (at + 1) (omega (arith, length-append is.front (is.limit ∷ []), is.place)) in
+    record {
+      front = is.front;
+      limit = is.limit;
+      back = is.back;
+      split = is.split;
+      count = is.count;
+      of_limit = is.of_limit;
+      kept = e ∙ ap (λ (l : List Line). l ++ drop (at + 1) lines) fronts ∙ ap (λ (l : List Line). is.front ++ l) backs;
+    }
+
+pub limit_within : (lines : List Line) (k at : ℕ) → IsLimitAt lines k at → at < length lines
+limit_within lines k at is = omega (arith, ap length is.split, length-append is.front (is.limit ∷ is.back), is.place)
+
+-- ---- after an edit
+
+pub changes_are_determined : (edit : EditLine) (lines new other : List Line) → ChangesTo edit lines new → ChangesTo edit lines other → new ≡ other
+changes_are_determined (Add cell vertical a b at_most n) lines new other e f = e ∙ sym f
+changes_are_determined (Take cell k) lines new other e f =
+    let parts = same_split (λ line. is_limit line.form) e.front f.front e.limit f.limit e.back f.back (sym e.split ∙ f.split) (e.count ∙ sym f.count) e.of_limit f.of_limit in
+    e.kept ∙ ap (λ (l : List Line). l ++ e.back) parts.fronts ∙ ap (λ (l : List Line). f.front ++ l) parts.backs ∙ sym f.kept
+
+-- they have a text
+pub changed_have_text : (edit : EditLine) (lines new : List Line) → HasText edit → AllByRecursion IsLine lines → ChangesTo edit lines new → AllByRecursion IsLine new
+changed_have_text (Add cell vertical a b at_most n) lines new text are e = rw e (all_append IsLine lines _ are (text, tt))
+changed_have_text (Take cell k) lines new text are e =
+    let parts = all_parts IsLine e.front (e.limit ∷ e.back) (rw e.split at are) in
+    rw e.kept (all_append IsLine e.front e.back parts.0 parts.1.1)
+
+-- there is one more, or one less
+abbrev pub HasLengthAfter : EditLine → ℕ → ℕ → Type 0
+HasLengthAfter (Add cell vertical a b at_most n) old new = new ≡ old + 1
+HasLengthAfter (Take cell k) old new = new + 1 ≡ old
+
+pub changed_length : (edit : EditLine) (lines new : List Line) → ChangesTo edit lines new → HasLengthAfter edit (length lines) (length new)
+changed_length (Add cell vertical a b at_most n) lines new e = omega (arith, ap length e, length-append lines _)
+changed_length (Take cell k) lines new e =
+    omega (arith, ap length e.kept, ap length e.split, length-append e.front e.back, length-append e.front (e.limit ∷ e.back))
