@@ -1,7 +1,6 @@
 -- Laws on all edits.
-use Rattle.std.proofs.Common.{◌≡◌, ℕ, Ok, List, inl, inr, refl, sym, ap, ◌∙◌, subst, ◌≤◌, ◌<◌, length, arith}
+use Rattle.std.proofs.Common.{◌≡◌, ◌≤◌, ◌<◌, Some, Ok, List, [], length, refl, sym, ap, ◌∙◌, subst}
 use Rattle.std.specs.FinMap.{get}
-use Rattle.std.proofs.lemmas.Bool.{cases_lt}
 use Rattle.lam_geom.specs.declared.boxes.Axis.{Axis}
 use Rattle.lam_io.specs.Io.{Bytes, Files}
 use Rattle.rule_table.specs.declared.technology.Tech.{Tech}
@@ -14,11 +13,10 @@ use Rattle.compact_run.specs.declared.status.File.TheVariants.{Design, Technolog
 use Rattle.compact_run.specs.declared.status.Status.{Status}
 use Rattle.compact_run.specs.declared.status.Status.TheVariants as status
 use Rattle.compact_run.specs.Limits.{most_design_bytes}
-use Rattle.compact_run.specs.Fetches.{HasFile}
 use Rattle.compact_run.specs.Refusal.{line_of}
-use Rattle.compact_run.specs.Designs.{CompactsTo, RefusesDesign, last_layouts, masks_text, passes_text}
+use Rattle.compact_run.specs.Designs.{RefusesDesign, masks_text, passes_text}
 use Rattle.compact_run.specs.Edits as edits
-use Rattle.compact_run.specs.Edits.{IsAnswered, done, too_long, code_word, done_word}
+use Rattle.compact_run.specs.Edits.{IsAnswered, done, too_long, code_word}
 use Rattle.compact_run.specs.Answers.{IsTechnology, IsDesign, IsCompacted, RefusesCompact, no_technology, no_design, no_masks, RefusesSticks}
 use Rattle.compact_run.specs.EditLaws.{AreEditsJudgedAsTexts, CompactAnswers, compacted, refused}
 use Rattle.compact_run.specs.OneAnswer.{IsDecided}

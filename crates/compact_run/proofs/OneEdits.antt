@@ -10,7 +10,7 @@ use Rattle.stick_parse.specs.Order.{design_of}
 use Rattle.edit_lines.specs.declared.script.EditLine.{EditLine}
 use Rattle.edit_lines.specs.Edits.{IsEdited}
 use Rattle.edit_lines.specs.Scripts.{edits_of}
-use Rattle.edit_lines.proofs.Determined.{edited_is_determined}
+use Rattle.edit_lines.proofs.Designs.{edited_is_determined}
 use Rattle.expand.specs.declared.master.Master.{Master}
 use Rattle.plan_model.specs.declared.plan.Plan.{Plan}
 use Rattle.pass_run.specs.declared.step.Step.{Step}

@@ -64,7 +64,8 @@ fn push_size(out: &mut Vec<u8>, name: &[u8], width: i64, height: i64) -> Result<
     out.push(b' ')?;
     push_signed_decimal(out, width)?;
     out.push(b' ')?;
-    push_signed_decimal(out, height)
+    push_signed_decimal(out, height)?;
+    Ok(())
 }
 
 // The word on masters in these layouts.
@@ -75,7 +76,12 @@ fn done_word(alloc: Global, masters: &[Master], layouts: &[Coords]) -> Result<Ve
     let mut word = Vec::from_slice(alloc, b"done")?;
     for m in 0..masters.len() {
         let name = masters[m].cell.name.bytes();
-        push_size(&mut word, name, width(layouts, m as u32), height(layouts, m as u32))?;
+        push_size(
+            &mut word,
+            name,
+            width(layouts, m as u32),
+            height(layouts, m as u32),
+        )?;
     }
     Ok(word)
 }
