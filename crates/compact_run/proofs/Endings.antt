@@ -8,11 +8,11 @@ use Rattle.compact_run.specs.declared.status.Side2.TheVariants as side
 use Rattle.compact_run.specs.declared.status.Side2.TheVariants.{Output, Report}
 use Rattle.compact_run.specs.declared.status.Status.{Status}
 use Rattle.compact_run.specs.declared.status.Status.TheVariants as status
-use Rattle.run_words.specs.Words.{Command, compact, slack, jog, check, extract, fmt, bench, command_of}
+use Rattle.run_words.specs.Words.{Command, compact, slack, jog, edit, check, extract, fmt, bench, command_of}
 use Rattle.compact_run.specs.declared.cif.CifJob.TheVariants.{Extract, Check}
 use Rattle.compact_run.specs.Refusal.{line_of}
 use Rattle.compact_run.specs.Fetches.{IsRefusal, IsCounted, AsksFor, AsksThrough, ends_over}
-use Rattle.compact_run.specs.Answers.{IsAnswer, compacted, measured, jogged, told, formatted, benched, refused, output_failed, report_failed, WordsWrite, RefusesWords, IsFree, NothingRefuses, Writes, Reports, Tells, IsUntouched, write_fault_line}
+use Rattle.compact_run.specs.Answers.{IsAnswer, compacted, measured, jogged, edited, told, formatted, benched, refused, output_failed, report_failed, WordsWrite, RefusesWords, IsFree, NothingRefuses, Writes, Reports, Tells, IsUntouched, write_fault_line}
 
 -- an answer, and what it left of the output and the report
 abbrev pub Answered : List Bytes → Files → Status → Option Bytes → Option Bytes → Option Bytes → Option Bytes → ℕ → ℕ → Type 0
@@ -36,8 +36,9 @@ done_by words files ended output report None is e writes = absurd writes
 done_by words files ended output report (Some (compact design tech axes split)) is e writes = compacted design tech axes split is e writes
 done_by words files ended output report (Some (slack design tech axes)) is e writes = measured design tech axes is e writes.0 writes.1
 done_by words files ended output report (Some (jog design tech script axes)) is e writes = jogged design tech script axes is e writes
-done_by words files ended output report (Some (check cif tech)) is e writes = told Check cif tech is e writes.0 writes.1
-done_by words files ended output report (Some (extract cif tech)) is e writes = told Extract cif tech is e writes.0 writes.1
+done_by words files ended output report (Some (edit design tech script axes)) is e writes = edited design tech script axes is e writes.0 writes.1
+done_by words files ended output report (Some (check cif tech split)) is e writes = told Check cif tech split is e writes.0 writes.1
+done_by words files ended output report (Some (extract cif tech)) is e writes = told Extract cif tech 1 is e writes.0 writes.1
 done_by words files ended output report (Some (fmt design)) is e writes = formatted design is e writes.0 writes.1
 done_by words files ended output report (Some (bench n)) is e writes = benched n is e writes.0 writes.1
 
@@ -95,7 +96,8 @@ over_all : (c : Command) (stream : Side2) → ends_over c (status.WriteFault str
 over_all (compact design tech axes split) stream = refl
 over_all (slack design tech axes) stream = refl
 over_all (jog design tech script axes) stream = refl
-over_all (check cif tech) stream = refl
+over_all (edit design tech script axes) stream = refl
+over_all (check cif tech split) stream = refl
 over_all (extract cif tech) stream = refl
 over_all (fmt design) stream = refl
 over_all (bench n) stream = refl

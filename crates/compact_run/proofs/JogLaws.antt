@@ -60,7 +60,7 @@ widen_no_cell tech axes design lines output report j = all_well tech axes 0 line
 -- ---- a jogged design and its text
 
 -- the design that a jog makes is that of its text
-reads_itself : (new old : Sticks) → new ≡ laid_out old → IsWritable new → design_of (canonical new) ≡ Ok new
+pub reads_itself : (new old : Sticks) → new ≡ laid_out old → IsWritable new → design_of (canonical new) ≡ Ok new
 reads_itself new old made writable =
     let once : laid_out new ≡ new = ap laid_out made ∙ (set_once old ∙ sym made) in
     design_read (canonical new) (laid_out new) (said_by_canonical new writable) ∙ ap Ok once

@@ -19,12 +19,16 @@ mod OneBench
 mod OneCompact
 mod OneSlack
 mod OneJogs
+mod OneEdits
 mod OneAnswer
 mod FewParts
 mod SplitAlike
 mod JogLaws
+mod EditLaws
 pub mod LastPass
 pub mod SlackBounds
 pub mod AxisSlack
 pub mod OneLayout
 pub mod Jogging
+pub mod Editing
+pub mod Scripts

@@ -11,16 +11,17 @@ use Rattle.compact_run.specs.declared.status.File.TheVariants.{Design, Technolog
 use Rattle.compact_run.specs.declared.status.Side2.TheVariants as side
 use Rattle.compact_run.specs.declared.status.Status.{Status}
 use Rattle.compact_run.specs.declared.status.Status.TheVariants as status
-use Rattle.run_words.specs.Words.{Command, compact, slack, jog, check, extract, fmt, bench, command_of}
+use Rattle.run_words.specs.Words.{Command, compact, slack, jog, edit, check, extract, fmt, bench, command_of}
 use Rattle.compact_run.specs.declared.cif.CifJob.{CifJob}
 use Rattle.compact_run.specs.declared.cif.CifJob.TheVariants.{Extract, Check}
 use Rattle.compact_run.specs.FaultLines.{stick_line, tech_line}
 use Rattle.compact_run.specs.Refusal.{line_of}
-use Rattle.compact_run.specs.Answers.{IsTold, RefusesJob, no_rules, no_cif, RefusesWords, IsAnswer, compacted, measured, jogged, told, formatted, benched, refused, output_failed, report_failed}
+use Rattle.compact_run.specs.Answers.{IsTold, RefusesJob, no_rules, no_cif, RefusesWords, IsAnswer, compacted, measured, jogged, edited, told, formatted, benched, refused, output_failed, report_failed}
 use Rattle.compact_run.specs.OneAnswer.{IsDecided, HasOneAnswer}
 use Rattle.compact_run.proofs.OneCompact.{IsTech, NoTech, AreSticks, NoSticks, tech_read, sticks_read, tech_refused, sticks_refused, Compacts, compacts_once, compacts_refused, compacts_done}
 use Rattle.compact_run.proofs.OneFile.{read_once, not_both, refused_once}
 use Rattle.compact_run.proofs.OneJogs.{Jogs as Bends, jogs_once as bends_once, jogs_refused as bends_refused, jogs_done as bends_done}
+use Rattle.compact_run.proofs.OneEdits.{Steps, steps_once, steps_refused, steps_done}
 use Rattle.compact_run.proofs.OneSlack.{Slackens, slackens_once, slackens_refused, slackens_done}
 use Rattle.compact_run.proofs.OneMaster.{same_tech, AreSame}
 use Rattle.compact_run.proofs.OneBench.{Benches, bench_done, bench_refused, benches_once}
@@ -72,7 +73,8 @@ Does None files ended output report = (ended ≡ status.Usage) × (output ≡ []
 Does (Some (compact design tech axes split)) files ended output report = Compacts design tech axes files ended output report
 Does (Some (slack design tech axes)) files ended output report = Slackens design tech axes files ended output report
 Does (Some (jog design tech script axes)) files ended output report = Bends design tech script axes files ended output report
-Does (Some (check cif tech)) files ended output report = Jobs Check cif tech files ended output report
+Does (Some (edit design tech script axes)) files ended output report = Steps design tech script axes files ended output report
+Does (Some (check cif tech split)) files ended output report = Jobs Check cif tech files ended output report
 Does (Some (extract cif tech)) files ended output report = Jobs Extract cif tech files ended output report
 Does (Some (fmt design)) files ended output report = Formats design files ended output report
 Does (Some (bench n)) files ended output report = Benches n ended output report
@@ -82,7 +84,8 @@ does_once law None files e f o p r s a b = (a.0 ∙ sym b.0, a.1 ∙ sym b.1, a.
 does_once law (Some (compact design tech axes split)) files e f o p r s a b = compacts_once design tech axes files e f o p r s a b
 does_once law (Some (slack design tech axes)) files e f o p r s a b = slackens_once design tech axes files e f o p r s a b
 does_once law (Some (jog design tech script axes)) files e f o p r s a b = bends_once design tech script axes files e f o p r s a b
-does_once law (Some (check cif tech)) files e f o p r s a b = jobs_once law Check cif tech files e f o p r s a b
+does_once law (Some (edit design tech script axes)) files e f o p r s a b = steps_once design tech script axes files e f o p r s a b
+does_once law (Some (check cif tech split)) files e f o p r s a b = jobs_once law Check cif tech files e f o p r s a b
 does_once law (Some (extract cif tech)) files e f o p r s a b = jobs_once law Extract cif tech files e f o p r s a b
 does_once law (Some (fmt design)) files e f o p r s a b = formats_once design files e f o p r s a b
 does_once law (Some (bench n)) files e f o p r s a b = benches_once law.extraction n e f o p r s a b
@@ -94,7 +97,8 @@ does_refused None files other own why d = absurd why
 does_refused (Some (compact design tech axes split)) files ended own why d = compacts_refused design tech axes files ended own why d
 does_refused (Some (slack design tech axes)) files ended own why d = slackens_refused design tech axes files ended own why d
 does_refused (Some (jog design tech script axes)) files ended own why d = bends_refused design tech script axes files ended own why d
-does_refused (Some (check cif tech)) files ended own why d = jobs_refused Check cif tech files ended own why d
+does_refused (Some (edit design tech script axes)) files ended own why d = steps_refused design tech script axes files ended own why d
+does_refused (Some (check cif tech split)) files ended own why d = jobs_refused Check cif tech files ended own why d
 does_refused (Some (extract cif tech)) files ended own why d = jobs_refused Extract cif tech files ended own why d
 does_refused (Some (fmt design)) files ended own why d = not_read (sticks_refused files design ended own why d) refl
 does_refused (Some (bench n)) files ended own why d = bench_refused n ended own why d
@@ -113,10 +117,13 @@ does_answer words files e o r (measured design tech axes is done c none) d =
 does_answer words files e o r (jogged design tech script axes is done c) d =
     let D : Option Command → Type 0 = λ c. Does c files e o r in
     subst D (sym is) (bends_done design tech script axes files e o r done c)
-does_answer words files e o r (told Extract cif tech is done x none) d =
+does_answer words files e o r (edited design tech script axes is done c none) d =
+    let D : Option Command → Type 0 = λ c. Does c files e o r in
+    subst D (sym is) (steps_done design tech script axes files e o r done none c)
+does_answer words files e o r (told Extract cif tech split is done x none) d =
     let D : Option Command → Type 0 = λ c. Does c files e o r in
     subst D (sym is) (jobs_done Extract cif tech files e o r done none x)
-does_answer words files e o r (told Check cif tech is done x none) d =
+does_answer words files e o r (told Check cif tech split is done x none) d =
     let D : Option Command → Type 0 = λ c. Does c files e o r in
     subst D (sym is) (jobs_done Check cif tech files e o r done none x)
 does_answer words files e o r (formatted design is done c none) d =

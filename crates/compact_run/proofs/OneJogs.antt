@@ -21,13 +21,14 @@ use Rattle.compact_run.specs.declared.status.Status.{Status}
 use Rattle.compact_run.specs.declared.status.Status.TheVariants as status
 use Rattle.compact_run.specs.FaultLines.{script_line}
 use Rattle.compact_run.specs.Refusal.{line_of}
-use Rattle.compact_run.specs.Answers.{IsTechnology, IsDesign, IsCompacted, RefusesCompact, IsScript, RefusesScript, RefusesJogs, no_layout, no_script, IsBent}
+use Rattle.compact_run.specs.Answers.{IsTechnology, IsDesign, IsCompacted, RefusesCompact, RefusesJogs, no_layout, no_script, IsBent}
 use Rattle.compact_run.specs.Designs.{masks_text, passes_text}
 use Rattle.compact_run.specs.Jogs.{IsLaidOutAs, Accepts, IsTried, accepted, rejected, AreJogs, JogsTo, accepted_line}
 use Rattle.compact_run.specs.OneAnswer.{IsDecided}
-use Rattle.compact_run.proofs.OneFile.{IsReadAs, IsNotRead, long, faulty, read_once, not_both, refused_once}
+use Rattle.compact_run.proofs.OneFile.{read_once, not_both, refused_once}
 use Rattle.compact_run.proofs.OneMaster.{same_tech, AreSame}
 use Rattle.compact_run.proofs.OneLayout.{one_layout}
+use Rattle.compact_run.proofs.Scripts.{script_read, script_refused}
 use Rattle.compact_run.proofs.OneCompact.{tech_read, sticks_read}
 use Rattle.compact_run.proofs.OneSlack.{refused_once as unlaid_once, not_refused}
 
@@ -35,21 +36,6 @@ use Rattle.compact_run.proofs.OneSlack.{refused_once as unlaid_once, not_refused
 pub data Jogs (design tech script : Bytes) (axes : List Axis) (files : Files) (ended : Status) (output report : Bytes) : Type 0 where
   refused : (own : Bytes) → RefusesJogs design tech script axes files ended own → IsDecided ended → output ≡ [] → report ≡ line_of ended own → Jogs design tech script axes files ended output report
   bent : IsBent design tech script axes files output report → ended ≡ status.Done → Jogs design tech script axes files ended output report
-
--- ---- the script
-
-abbrev NoScript : Files → Bytes → Status → Bytes → Type 0
-NoScript files name ended line = IsNotRead jogs_of (λ number. status.BadScript number) script_line files Script name ended line
-
-script_read : (files : Files) (name : Bytes) (lines : List JogLine) → IsScript files name lines → IsReadAs jogs_of files Script name lines
-script_read files name lines t = record { text = t.text; there = t.file; is = t.read }
-
-script_refused : (files : Files) (name : Bytes) (ended : Status) (own : Bytes) → RefusesScript name files ended own → IsDecided ended → NoScript files name ended (line_of ended own)
-script_refused files name status.OutOfMemory own why d = absurd d
-script_refused files name (status.ReadFault file) own why d = absurd d
-script_refused files name (status.TooLong Script) own why d = long why refl refl
-script_refused files name (status.BadScript line) own why d = faulty why.0.text line why.0.file why.0.read refl why.1
-script_refused files name other own why d = absurd why
 
 -- ---- refusals
 
@@ -79,14 +65,14 @@ jogs_refused_once design tech script axes files e f a b (no_layout h) (no_script
 jogs_refused_once design tech script axes files e f a b (no_script t x is there l k) (no_layout h) d g =
     absurd (laid_out_not_refused design tech axes files f b t x l.numbers l.widths h g is there l.laid_out)
 jogs_refused_once design tech script axes files e f a b (no_script t x is there l h) (no_script u y are here m k) d g =
-    refused_once jogs_of (λ number. status.BadScript number) script_line files Script script e f (line_of e a) (line_of f b) (script_refused files script e a h d) (script_refused files script f b k g)
+    refused_once jogs_of (λ number. status.BadScript number) script_line files Script script e f (line_of e a) (line_of f b) (script_refused jogs_of files script e a h d) (script_refused jogs_of files script f b k g)
 
 not_bent : (design tech script : Bytes) (axes : List Axis) (files : Files) (ended : Status) (own output report : Bytes) → RefusesJogs design tech script axes files ended own → IsDecided ended
     → IsBent design tech script axes files output report → ⊥
 not_bent design tech script axes files ended own output report (no_layout h) d s =
     laid_out_not_refused design tech axes files ended own s.technology s.sticks s.jogs.numbers s.jogs.widths h d s.is_technology s.is_design s.jogs.laid_out
 not_bent design tech script axes files ended own output report (no_script t x is there l h) d s =
-    not_both jogs_of (λ number. status.BadScript number) script_line files Script script s.lines ended (line_of ended own) (script_read files script s.lines s.is_script) (script_refused files script ended own h d)
+    not_both jogs_of (λ number. status.BadScript number) script_line files Script script s.lines ended (line_of ended own) (script_read jogs_of files script s.lines s.is_script) (script_refused jogs_of files script ended own h d)
 
 -- ---- one jog
 
@@ -151,7 +137,7 @@ one_bent design tech script axes files o p r s a b =
     let techs : a.technology ≡ b.technology = same_tech a.technology b.technology
     (read_once technology_of files Technology tech (numbers_of a.technology) (numbers_of b.technology) (tech_read files tech a.technology a.is_technology) (tech_read files tech b.technology b.is_technology)) in
     let sticks : a.sticks ≡ b.sticks = read_once design_of files Design design a.sticks b.sticks (sticks_read files design a.sticks a.is_design) (sticks_read files design b.sticks b.is_design) in
-    let lines : a.lines ≡ b.lines = read_once jogs_of files Script script a.lines b.lines (script_read files script a.lines a.is_script) (script_read files script b.lines b.is_script) in
+    let lines : a.lines ≡ b.lines = read_once jogs_of files Script script a.lines b.lines (script_read jogs_of files script a.lines a.is_script) (script_read jogs_of files script b.lines b.is_script) in
     let J : Tech → Sticks → List JogLine → Type 0 = λ t x ls. JogsTo t axes x ls p s in
     let in_lines = subst (λ ls. J b.technology b.sticks ls) (sym lines) b.jogs in
     let in_sticks = subst (λ x. J b.technology x a.lines) (sym sticks) in_lines in

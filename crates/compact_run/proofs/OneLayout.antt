@@ -10,6 +10,7 @@ use Rattle.pass_run.specs.declared.step.Step.{Step}
 use Rattle.compact_run.specs.declared.status.Status.{Status}
 use Rattle.compact_run.specs.declared.status.Status.TheVariants as status
 use Rattle.compact_run.specs.Refusal.{line_of}
+use Rattle.compact_run.specs.Plans.{AreMastersOf}
 use Rattle.compact_run.specs.Designs.{ArePlaced, RefusesDesign, no_masters, no_masks as not_laid_out, masks_text, passes_text}
 use Rattle.compact_run.specs.Jogs.{IsLaidOutAs, widths_after}
 use Rattle.compact_run.specs.OneAnswer.{IsDecided}
@@ -32,7 +33,7 @@ one_layout tech axes design n m w v a b =
 -- ---- no refusal
 
 -- a refusal that is not want of memory is decided
-refused_decided : (tech : Tech) (axes : List Axis) (design : Sticks) (ended : Status) (own : Bytes) → RefusesDesign tech axes design ended own → (ended ≡ status.OutOfMemory → ⊥) → IsDecided ended
+pub refused_decided : (tech : Tech) (axes : List Axis) (design : Sticks) (ended : Status) (own : Bytes) → RefusesDesign tech axes design ended own → (ended ≡ status.OutOfMemory → ⊥) → IsDecided ended
 refused_decided tech axes design status.OutOfMemory own why has = has refl
 refused_decided tech axes design (status.ReadFault file) own (no_masters why) has = why
 refused_decided tech axes design (status.ReadFault file) own (not_laid_out plan masters are why) has = why
@@ -45,12 +46,16 @@ not_done tech axes design own (no_masters why) = why
 not_done tech axes design own (not_laid_out plan masters are why) = why
 
 -- a design that is refused, and not for want of memory, is not laid out
-pub not_laid_out_too : (tech : Tech) (axes : List Axis) (design : Sticks) (ended : Status) (own : Bytes) → RefusesDesign tech axes design ended own → (ended ≡ status.OutOfMemory → ⊥)
-    → (numbers : List ℕ) (widths : List ℤ) → IsLaidOutAs tech axes design numbers widths → ⊥
-not_laid_out_too tech axes design ended own why has numbers widths s =
+pub placed_not_refused : (tech : Tech) (axes : List Axis) (design : Sticks) (ended : Status) (own : Bytes) → RefusesDesign tech axes design ended own → (ended ≡ status.OutOfMemory → ⊥)
+    → (plan : Plan) (masters : List Master) (steps : List Step) → AreMastersOf tech design plan masters → ArePlaced tech plan masters axes steps → ⊥
+placed_not_refused tech axes design ended own why has plan masters steps are placed =
     let refused = ends_refused tech axes design ended own why (refused_decided tech axes design ended own why has) in
-    let done = ends_compacted tech axes design status.Done (masks_text tech s.plan s.masters s.steps) (passes_text tech s.plan s.masters s.steps) refl
-    (record { plan = s.plan; masters = s.masters; are_masters = s.are_masters; steps = s.steps; laid_out = s.laid_out; written = refl; reported = refl }) in
-    let same = ends_once tech axes design ended status.Done [] (masks_text tech s.plan s.masters s.steps) (line_of ended own) (passes_text tech s.plan s.masters s.steps) refused done in
+    let done = ends_compacted tech axes design status.Done (masks_text tech plan masters steps) (passes_text tech plan masters steps) refl
+    (record { plan = plan; masters = masters; are_masters = are; steps = steps; laid_out = placed; written = refl; reported = refl }) in
+    let same = ends_once tech axes design ended status.Done [] (masks_text tech plan masters steps) (line_of ended own) (passes_text tech plan masters steps) refused done in
     let R : Status → Type 0 = λ z. RefusesDesign tech axes design z own in
     not_done tech axes design own (subst R same.0 why)
+
+pub not_laid_out_too : (tech : Tech) (axes : List Axis) (design : Sticks) (ended : Status) (own : Bytes) → RefusesDesign tech axes design ended own → (ended ≡ status.OutOfMemory → ⊥)
+    → (numbers : List ℕ) (widths : List ℤ) → IsLaidOutAs tech axes design numbers widths → ⊥
+not_laid_out_too tech axes design ended own why has numbers widths s = placed_not_refused tech axes design ended own why has s.plan s.masters s.steps s.are_masters s.laid_out

@@ -187,7 +187,7 @@ one_unclean tech masters m n a b c d line told p q =
     ]
 
 -- where one has a clash, not all are clean
-not_all_clean : (tech : Tech) (masters : List Master) (number a b : ℕ) (line : Bytes) → IsFirstUnclean tech masters number a b line → All (StartsClean tech) masters → ⊥
+pub not_all_clean : (tech : Tech) (masters : List Master) (number a b : ℕ) (line : Bytes) → IsFirstUnclean tech masters number a b line → All (StartsClean tech) masters → ⊥
 not_all_clean tech masters number a b line p all = not_clean tech (master_at masters number) a b line p.clash (clean_at tech masters number p.among all)
 
 -- passes that are made are not refused

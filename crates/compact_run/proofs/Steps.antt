@@ -10,7 +10,7 @@ use Rattle.compact_run.specs.declared.status.File.{File}
 use Rattle.compact_run.specs.declared.status.File.TheVariants.{Cif}
 use Rattle.compact_run.specs.declared.status.Status.{Status}
 use Rattle.compact_run.specs.declared.status.Status.TheVariants as status
-use Rattle.run_words.specs.Words.{Command, compact, slack, jog, check, extract, fmt, bench}
+use Rattle.run_words.specs.Words.{Command, compact, slack, jog, edit, check, extract, fmt, bench}
 use Rattle.run_words.specs.declared.commands.WordsFault.{WordsFault}
 use Rattle.run_words.specs.declared.commands.WordsFault.TheVariants as words
 use Rattle.compact_run.specs.declared.cif.CifJob.{CifJob}
@@ -48,16 +48,17 @@ file_refused job tech name text told (Ok x) read why = tt
 file_refused job tech name text told (Err e) read why = λ t is. answers.no_output text (read t is) why
 
 -- and so is the command
-pub job_refused : (job : CifJob) (cif tech : Bytes) (files : Files) (ended : Status) (own : Bytes) → answers.RefusesJob job cif tech files ended own → RefusesWords (Some (command_for job cif tech)) files ended own
-job_refused Extract cif tech files ended own why = why
-job_refused Check cif tech files ended own why = why
+pub job_refused : (job : CifJob) (cif tech : Bytes) (split : ℕ) (files : Files) (ended : Status) (own : Bytes) → answers.RefusesJob job cif tech files ended own
+    → RefusesWords (Some (command_for job cif tech split)) files ended own
+job_refused Extract cif tech split files ended own why = why
+job_refused Check cif tech split files ended own why = why
 
 -- the output is what the command writes
-pub job_told : (job : CifJob) (cif tech : Bytes) (files : Files) (technology : Tech) (text : Bytes) (o : Output) → IsTechnology files tech technology → IsOutputOf job technology cif files text
-    → text_of o ≡ text → o.report ≡ [] → IsGiven (Some (command_for job cif tech)) files (Ok o)
-job_told Extract cif tech files technology text o is_technology is_output written none =
+pub job_told : (job : CifJob) (cif tech : Bytes) (split : ℕ) (files : Files) (technology : Tech) (text : Bytes) (o : Output) → IsTechnology files tech technology → IsOutputOf job technology cif files text
+    → text_of o ≡ text → o.report ≡ [] → IsGiven (Some (command_for job cif tech split)) files (Ok o)
+job_told Extract cif tech split files technology text o is_technology is_output written none =
     (record { technology = technology; is_technology = is_technology; is_output = subst (IsOutputOf Extract technology cif files) (sym written) is_output }, none)
-job_told Check cif tech files technology text o is_technology is_output written none =
+job_told Check cif tech split files technology text o is_technology is_output written none =
     (record { technology = technology; is_technology = is_technology; is_output = subst (IsOutputOf Check technology cif files) (sym written) is_output }, none)
 
 -- ---- the words
@@ -68,7 +69,8 @@ out_of_memory None files own = tt
 out_of_memory (Some (compact design tech axes split)) files own = answers.no_technology tt
 out_of_memory (Some (slack design tech axes)) files own = answers.no_technology tt
 out_of_memory (Some (jog design tech script axes)) files own = answers.no_layout (answers.no_technology tt)
-out_of_memory (Some (check cif tech)) files own = answers.no_rules tt
+out_of_memory (Some (edit design tech script axes)) files own = answers.no_start (answers.no_technology tt) tt
+out_of_memory (Some (check cif tech split)) files own = answers.no_rules tt
 out_of_memory (Some (extract cif tech)) files own = answers.no_rules tt
 out_of_memory (Some (fmt design)) files own = tt
 out_of_memory (Some (bench n)) files own = tt
@@ -85,7 +87,8 @@ usage_over_none : (c : Command) → ends_over c status.Usage ≡ None
 usage_over_none (compact design tech axes split) = refl
 usage_over_none (slack design tech axes) = refl
 usage_over_none (jog design tech script axes) = refl
-usage_over_none (check cif tech) = refl
+usage_over_none (edit design tech script axes) = refl
+usage_over_none (check cif tech split) = refl
 usage_over_none (extract cif tech) = refl
 usage_over_none (fmt design) = refl
 usage_over_none (bench n) = refl

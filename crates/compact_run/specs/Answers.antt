@@ -24,15 +24,18 @@ use Rattle.compact_run.specs.declared.cif.CifJob.{CifJob}
 use Rattle.compact_run.specs.declared.cif.CifJob.TheVariants.{Extract, Check}
 use Rattle.jog_insert.specs.declared.script.JogLine.{JogLine}
 use Rattle.jog_insert.specs.Scripts.{jogs_of}
-use Rattle.run_words.specs.Words.{Command, compact, slack, jog, check, extract, fmt, bench, command_of}
+use Rattle.edit_lines.specs.declared.script.EditLine.{EditLine}
+use Rattle.edit_lines.specs.Scripts.{edits_of}
+use Rattle.run_words.specs.Words.{Command, compact, slack, jog, edit, check, extract, fmt, bench, command_of}
 use Rattle.compact_run.specs.Fetches.{HasFile, IsLongFile}
 use Rattle.compact_run.specs.FaultLines.{stick_line, tech_line, cif_line, improper_line, broken_line, script_line}
 use Rattle.compact_run.specs.Refusal.{line_of}
 use Rattle.compact_run.specs.Refusals.{Refused}
-use Rattle.compact_run.specs.Designs.{CompactsTo, RefusesDesign}
+use Rattle.compact_run.specs.Designs.{CompactsTo, IsBeforePasses, RefusesDesign}
 use Rattle.compact_run.specs.Bench.{IsBenched, RefusesBench}
 use Rattle.compact_run.specs.Slacks.{SlacksTo}
 use Rattle.compact_run.specs.Jogs.{IsLaidOutAs, JogsTo}
+use Rattle.compact_run.specs.Edits.{EditsTo, HasStart}
 
 -- A file of the shelf is this technology.
 pub record IsTechnology (files : Files) (name : Bytes) (tech : Tech) : Type 0 where
@@ -89,7 +92,7 @@ pub data RefusesCompact (design tech : Bytes) (axes : List Axis) (files : Files)
   no_masks : (technology : Tech) (sticks : Sticks) → IsTechnology files tech technology → IsDesign files design sticks → RefusesDesign technology axes sticks ended own
       → RefusesCompact design tech axes files ended own
 
--- ---- `slack` and `jog`
+-- ---- `slack`, `jog` and `edit`
 
 -- The output of `slack`: that over the design of one file under the technology of the other.
 pub record IsSlack (design tech : Bytes) (axes : List Axis) (files : Files) (output : Bytes) : Type 0 where
@@ -99,25 +102,29 @@ pub record IsSlack (design tech : Bytes) (axes : List Axis) (files : Files) (out
   pub is_design : IsDesign files design sticks
   pub slacks : SlacksTo technology axes sticks output
 
--- A file of the shelf is a script of jogs, and these are its lines.
-pub record IsScript (files : Files) (name : Bytes) (lines : List JogLine) : Type 0 where
-  pub text : Bytes
-  pub file : HasFile files Script name text
-  pub read : jogs_of text ≡ Ok lines
+-- what a script is read as: its lines, or the number of the first that is none
+abbrev pub Reading : Type 0 → Type 0
+Reading Line = Bytes → Result (List Line) ℕ
 
--- A file of the shelf is no script of jogs, and this is the number of its first line that is none.
-pub record IsNoScript (files : Files) (name : Bytes) (line : ℕ) : Type 0 where
+-- A file of the shelf is a script, and these are its lines.
+pub record IsScript {Line : Type 0} (lines_of : Reading Line) (files : Files) (name : Bytes) (lines : List Line) : Type 0 where
   pub text : Bytes
   pub file : HasFile files Script name text
-  pub read : jogs_of text ≡ Err line
+  pub read : lines_of text ≡ Ok lines
+
+-- A file of the shelf is no script, and this is the number of its first line that is none.
+pub record IsNoScript {Line : Type 0} (lines_of : Reading Line) (files : Files) (name : Bytes) (line : ℕ) : Type 0 where
+  pub text : Bytes
+  pub file : HasFile files Script name text
+  pub read : lines_of text ≡ Err line
 
 -- why there is no script
-abbrev pub RefusesScript : Bytes → Files → Status → Bytes → Type 0
-RefusesScript name files status.OutOfMemory own = Unit {0}
-RefusesScript name files (status.ReadFault Script) own = Unit {0}
-RefusesScript name files (status.TooLong Script) own = IsLongFile files Script name
-RefusesScript name files (status.BadScript line) own = IsNoScript files name line × (own ≡ script_line line)
-RefusesScript name files other own = ⊥
+abbrev pub RefusesScript : {Line : Type 0} → Reading Line → Bytes → Files → Status → Bytes → Type 0
+RefusesScript lines_of name files status.OutOfMemory own = Unit {0}
+RefusesScript lines_of name files (status.ReadFault Script) own = Unit {0}
+RefusesScript lines_of name files (status.TooLong Script) own = IsLongFile files Script name
+RefusesScript lines_of name files (status.BadScript line) own = IsNoScript lines_of files name line × (own ≡ script_line line)
+RefusesScript lines_of name files other own = ⊥
 
 -- The output and the report of `jog`: those of the script of one file over the design of another, under the technology of the third.
 pub record IsBent (design tech script : Bytes) (axes : List Axis) (files : Files) (output report : Bytes) : Type 0 where
@@ -126,7 +133,7 @@ pub record IsBent (design tech script : Bytes) (axes : List Axis) (files : Files
   pub sticks : Sticks
   pub is_design : IsDesign files design sticks
   pub lines : List JogLine
-  pub is_script : IsScript files script lines
+  pub is_script : IsScript jogs_of files script lines
   pub jogs : JogsTo technology axes sticks lines output report
 
 -- `compact` lays a design out
@@ -139,7 +146,23 @@ pub record IsLaidOut (tech : Tech) (axes : List Axis) (design : Sticks) : Type 0
 pub data RefusesJogs (design tech script : Bytes) (axes : List Axis) (files : Files) (ended : Status) (own : Bytes) : Type 0 where
   no_layout : RefusesCompact design tech axes files ended own → RefusesJogs design tech script axes files ended own
   no_script : (technology : Tech) (sticks : Sticks) → IsTechnology files tech technology → IsDesign files design sticks → IsLaidOut technology axes sticks
-      → RefusesScript script files ended own → RefusesJogs design tech script axes files ended own
+      → RefusesScript jogs_of script files ended own → RefusesJogs design tech script axes files ended own
+
+-- The output of `edit`: that of the script of one file over the design of another, under the technology of the third.
+pub record IsStepped (design tech script : Bytes) (axes : List Axis) (files : Files) (output : Bytes) : Type 0 where
+  pub technology : Tech
+  pub is_technology : IsTechnology files tech technology
+  pub sticks : Sticks
+  pub is_design : IsDesign files design sticks
+  pub lines : List EditLine
+  pub is_script : IsScript edits_of files script lines
+  pub edits : EditsTo technology axes sticks lines output
+
+-- Why `edit` is refused: as `compact` is before its passes, or else for the script.
+pub data RefusesEdits (design tech script : Bytes) (axes : List Axis) (files : Files) (ended : Status) (own : Bytes) : Type 0 where
+  no_start : RefusesCompact design tech axes files ended own → IsBeforePasses ended → RefusesEdits design tech script axes files ended own
+  no_edits : (technology : Tech) (sticks : Sticks) (numbers : List ℕ) → IsTechnology files tech technology → IsDesign files design sticks → HasStart technology sticks numbers
+      → RefusesScript edits_of script files ended own → RefusesEdits design tech script axes files ended own
 
 -- ---- what is done with a CIF text
 
@@ -195,10 +218,10 @@ pub data RefusesJob (job : CifJob) (cif tech : Bytes) (files : Files) (ended : S
   no_rules : RefusesTechnology tech files ended own → RefusesJob job cif tech files ended own
   no_cif : (technology : Tech) → IsTechnology files tech technology → RefusesFile job technology cif files ended own → RefusesJob job cif tech files ended own
 
--- the command that asks for it
-abbrev pub command_for : CifJob → Bytes → Bytes → Command
-command_for Extract = extract
-command_for Check = check
+-- the command that asks for it; the number of pieces is that of `check`
+abbrev pub command_for : CifJob → Bytes → Bytes → ℕ → Command
+command_for Extract cif tech split = extract cif tech
+command_for Check cif tech split = check cif tech split
 
 -- ---- the other commands
 
@@ -216,7 +239,8 @@ RefusesWords None files other own = ⊥
 RefusesWords (Some (compact design tech axes split)) files ended own = RefusesCompact design tech axes files ended own
 RefusesWords (Some (slack design tech axes)) files ended own = RefusesCompact design tech axes files ended own
 RefusesWords (Some (jog design tech script axes)) files ended own = RefusesJogs design tech script axes files ended own
-RefusesWords (Some (check cif tech)) files ended own = RefusesJob Check cif tech files ended own
+RefusesWords (Some (edit design tech script axes)) files ended own = RefusesEdits design tech script axes files ended own
+RefusesWords (Some (check cif tech split)) files ended own = RefusesJob Check cif tech files ended own
 RefusesWords (Some (extract cif tech)) files ended own = RefusesJob Extract cif tech files ended own
 RefusesWords (Some (fmt design)) files ended own = RefusesSticks design files ended own
 RefusesWords (Some (bench n)) files ended own = RefusesBench n ended own
@@ -237,7 +261,8 @@ WordsWrite None files output report = ⊥
 WordsWrite (Some (compact design tech axes split)) files output report = IsCompacted design tech axes files output report
 WordsWrite (Some (slack design tech axes)) files output report = IsSlack design tech axes files output × (report ≡ [])
 WordsWrite (Some (jog design tech script axes)) files output report = IsBent design tech script axes files output report
-WordsWrite (Some (check cif tech)) files output report = IsTold Check cif tech files output × (report ≡ [])
+WordsWrite (Some (edit design tech script axes)) files output report = IsStepped design tech script axes files output × (report ≡ [])
+WordsWrite (Some (check cif tech split)) files output report = IsTold Check cif tech files output × (report ≡ [])
 WordsWrite (Some (extract cif tech)) files output report = IsTold Extract cif tech files output × (report ≡ [])
 WordsWrite (Some (fmt design)) files output report = IsFormatted design files output × (report ≡ [])
 WordsWrite (Some (bench n)) files output report = IsBenched n output × (report ≡ [])
@@ -262,7 +287,9 @@ pub data IsAnswer (words : List Bytes) (files : Files) (ended : Status) (output 
       → ended ≡ status.Done → IsSlack design tech axes files output → report ≡ [] → IsAnswer words files ended output report
   jogged : (design tech script : Bytes) (axes : List Axis) → command_of words ≡ Some (jog design tech script axes)
       → ended ≡ status.Done → IsBent design tech script axes files output report → IsAnswer words files ended output report
-  told : (job : CifJob) (cif tech : Bytes) → command_of words ≡ Some (command_for job cif tech)
+  edited : (design tech script : Bytes) (axes : List Axis) → command_of words ≡ Some (edit design tech script axes)
+      → ended ≡ status.Done → IsStepped design tech script axes files output → report ≡ [] → IsAnswer words files ended output report
+  told : (job : CifJob) (cif tech : Bytes) (split : ℕ) → command_of words ≡ Some (command_for job cif tech split)
       → ended ≡ status.Done → IsTold job cif tech files output → report ≡ [] → IsAnswer words files ended output report
   formatted : (design : Bytes) → command_of words ≡ Some (fmt design)
       → ended ≡ status.Done → IsFormatted design files output → report ≡ [] → IsAnswer words files ended output report

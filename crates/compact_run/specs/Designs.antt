@@ -178,6 +178,13 @@ RefusesMasters tech plan masters axes (status.Clash number a b) own = IsFirstUnc
 RefusesMasters tech plan masters axes (status.Unsatisfiable pass) own = IsStopped tech plan masters axes (stop.Unsatisfiable pass own)
 RefusesMasters tech plan masters axes other own = ⊥
 
+-- a refusal so is not of a pass, or of what the passes leave
+abbrev pub IsBeforePasses : Status → Type 0
+IsBeforePasses (status.TooLarge Edges) = ⊥
+IsBeforePasses (status.TooLarge Extent) = ⊥
+IsBeforePasses (status.Unsatisfiable pass) = ⊥
+IsBeforePasses other = Unit {0}
+
 -- Why a design has no masks: it has no masters, or they are refused.
 pub data RefusesDesign (tech : Tech) (axes : List Axis) (design : Design) (ended : Status) (own : Bytes) : Type 0 where
   no_masters : RefusesPlan tech design ended own → RefusesDesign tech axes design ended own

@@ -2,7 +2,7 @@
 use Rattle.std.specs.Prelude.{◌≡◌, ℕ, ◌<◌, ◌≤◌, ◌⊎◌, Option, Some, None, List, [], ◌∷◌, length, option_map}
 use Rattle.std.specs.FinMap.{get}
 use Rattle.lam_io.specs.Io.{Bytes, Files, Telling, Asks, Rose, with_asked}
-use Rattle.run_words.specs.Words.{Command, compact, slack, jog, check, extract, fmt, bench}
+use Rattle.run_words.specs.Words.{Command, compact, slack, jog, edit, check, extract, fmt, bench}
 use Rattle.compact_run.specs.Limits.{most_design_bytes, most_technology_bytes, most_cif_bytes, most_script_bytes}
 use Rattle.compact_run.specs.declared.status.File.{File}
 use Rattle.compact_run.specs.declared.status.File.TheVariants.{Design, Technology, Cif, Script}
@@ -88,7 +88,8 @@ abbrev pub files_of : Command → List Bytes
 files_of (compact design tech axes split) = tech ∷ design ∷ []
 files_of (slack design tech axes) = tech ∷ design ∷ []
 files_of (jog design tech script axes) = tech ∷ design ∷ script ∷ []
-files_of (check cif tech) = tech ∷ cif ∷ []
+files_of (edit design tech script axes) = tech ∷ design ∷ script ∷ []
+files_of (check cif tech split) = tech ∷ cif ∷ []
 files_of (extract cif tech) = tech ∷ cif ∷ []
 files_of (fmt design) = design ∷ []
 files_of (bench n) = []
@@ -124,7 +125,8 @@ AsksThrough None command old new = ⊥
 AsksThrough file (compact design tech axes split) old new = AsksThroughDesign file design tech old new
 AsksThrough file (slack design tech axes) old new = AsksThroughDesign file design tech old new
 AsksThrough file (jog design tech script axes) old new = AsksThroughScript file design tech script old new
-AsksThrough file (check cif tech) old new = AsksThroughCif file cif tech old new
+AsksThrough file (edit design tech script axes) old new = AsksThroughScript file design tech script old new
+AsksThrough file (check cif tech split) old new = AsksThroughCif file cif tech old new
 AsksThrough file (extract cif tech) old new = AsksThroughCif file cif tech old new
 AsksThrough (Some Technology) (fmt design) old new = ⊥
 AsksThrough (Some Design) (fmt design) old new = Asks old new design
@@ -135,10 +137,12 @@ AsksThrough (Some Design) (bench n) old new = new ≡ old
 AsksThrough (Some Cif) (bench n) old new = ⊥
 AsksThrough (Some Script) (bench n) old new = ⊥
 
--- the file over which a command ends so: `jog` is done over its script
+-- the file over which a command ends so: `jog` and `edit` are done over their script
 abbrev pub ends_over : Command → Status → Option File
 ends_over (jog design tech script axes) status.Done = Some Script
 ends_over (jog design tech script axes) (status.WriteFault stream) = Some Script
+ends_over (edit design tech script axes) status.Done = Some Script
+ends_over (edit design tech script axes) (status.WriteFault stream) = Some Script
 ends_over command ended = file_of ended
 
 -- The shelf's files are as they were, and it was asked for those of the words' command: up to the one over which the command ended, or for a

@@ -9,6 +9,7 @@ pub mod Designs
 pub mod Bench
 pub mod Slacks
 pub mod Jogs
+pub mod Edits
 pub mod Answers
 pub mod FaultLines
 pub mod Fetches
@@ -16,3 +17,4 @@ pub mod OneAnswer
 pub mod Checked
 pub mod Splits
 pub mod JogLaws
+pub mod EditLaws

@@ -2,12 +2,15 @@
 use Rattle.std.specs.Prelude.{List, ℕ, Some, None, Result, Ok, Err}
 use Rattle.pass_run.specs.declared.passes.PassFault.{PassFault}
 use Rattle.pass_run.specs.declared.passes.PassFault.TheVariants as stop
+use Rattle.jog_insert.specs.declared.script.ScriptFault.{ScriptFault}
+use Rattle.jog_insert.specs.declared.script.ScriptFault.TheVariants as script
 use Rattle.run_words.specs.declared.commands.WordsFault.{WordsFault}
 use Rattle.run_words.specs.declared.commands.WordsFault.TheVariants as words
 use Rattle.compact_run.specs.declared.refusal.Refusal.{Refusal}
 use Rattle.compact_run.specs.declared.status.What.TheVariants.{Edges}
 use Rattle.compact_run.specs.declared.status.Status.{Status}
 use Rattle.compact_run.specs.declared.status.Status.TheVariants as status
+use Rattle.compact_run.specs.FaultLines.{script_line}
 use Rattle.compact_run.specs.Refusal.{own_text}
 
 -- with no text of its own
@@ -28,6 +31,11 @@ abbrev pub refusal_of : PassFault → Refusal
 refusal_of (stop.TooManyEdges pass) = plain (status.TooLarge Edges)
 refusal_of (stop.Unsatisfiable pass report) = told (status.Unsatisfiable pass) report
 refusal_of stop.OutOfMemory = plain status.OutOfMemory
+
+-- why a script is refused
+abbrev pub script_refusal : ScriptFault → Refusal
+script_refusal (script.Line line) = told (status.BadScript line) (script_line line)
+script_refusal script.OutOfMemory = plain status.OutOfMemory
 
 -- a refusal with such a status and such a text of its own
 abbrev pub Refused : (Status → List ℕ → Type 0) → Refusal → Type 0

@@ -2,7 +2,7 @@
 
 ghost use Rattle.std.specs.Prelude.{◌≡◌, ℕ, ◌≤◌, length, [], Option, Some, IfOk, IfErr};
 ghost use Rattle.lam_io.specs.Io.{Files, Telling};
-ghost use Rattle.run_words.specs.Words.{bench, command_of, compact, fmt, jog, slack, texts_of};
+ghost use Rattle.run_words.specs.Words.{bench, command_of, compact, edit, fmt, jog, slack, texts_of};
 ghost use Rattle.compact_run.specs.Fetches.{IsRefusal, IsCounted, IsUsage, AsksFor};
 ghost use Rattle.compact_run.specs.Refusals.{ending_of};
 ghost use Rattle.compact_run.specs.Answers.{IsGiven, command_for, text_of};
@@ -13,9 +13,10 @@ ghost use Rattle.stick_print.specs.Canonical.{canonical};
 use crate::bench::bench;
 use crate::cif::{CifJob, output_of_file};
 use crate::compact::compact;
+use crate::edit::{edit, started};
 use crate::jog::{jog, sizes_of};
 use crate::output::{Output, in_one_piece};
-use crate::reading::{read_design, read_script, read_technology};
+use crate::reading::{read_design, read_edit_script, read_jog_script, read_technology};
 use crate::refusal::Refusal;
 use crate::slack::slack;
 use lam_geom::Axis;
@@ -97,11 +98,38 @@ fn jog_files<H: Threads + Sync, S: Shelf, G: Gate>(
     let technology = read_technology(alloc, shelf, tech)?;
     let sticks = read_design(alloc, shelf, design)?;
     let sizes = sizes_of(rt, alloc, gate, &technology, &sticks, axes)?;
-    let lines = read_script(alloc, shelf, script)?;
+    let lines = read_jog_script(alloc, shelf, script)?;
     Ok(jog(rt, alloc, gate, &technology, axes, sticks, sizes, &lines)?)
 }
 
-// What `extract` or `check` writes, or why it writes nothing.
+// What `edit` writes, or why it writes nothing. The start layouts are judged before the script is fetched.
+fn edit_files<H: Threads + Sync, S: Shelf, G: Gate>(
+    rt: &H,
+    alloc: Global,
+    gate: &G,
+    shelf: &mut S,
+    design: &str,
+    tech: &str,
+    script: &str,
+    axes: &[Axis],
+) -> Result<Output, Refusal>
+    requires both { HasBothAxes axes.now }
+    requires few { length axes.now ≤ most_passes }
+    ensures given { (t : Telling) → S.told shelf.old ≡ Some t → IsGiven (Some (edit design.now tech.now script.now axes.now)) t.files result }
+    ensures refusal { IfErr result (λ r. IsRefusal r.status) }
+    ensures counted { IsCounted (S.faults shelf.old) (S.faults shelf.new) (ending_of result) }
+    ensures asked { AsksFor (Some (edit design.now tech.now script.now axes.now)) (ending_of result) (S.told shelf.old) (S.told shelf.new) }
+    ensures counts { S.faults shelf.old ≤ S.faults shelf.new }
+{
+    let technology = read_technology(alloc, shelf, tech)?;
+    let sticks = read_design(alloc, shelf, design)?;
+    let numbers = started(alloc, &technology, &sticks)?;
+    let lines = read_edit_script(alloc, shelf, script)?;
+    let text = edit(rt, alloc, gate, &technology, axes, sticks, &numbers, &lines)?;
+    Ok(in_one_piece(alloc, text, b"")?)
+}
+
+// What `extract` or `check` writes, or why it writes nothing. It is the same for every number of pieces.
 fn cif_files<S: Shelf>(
     alloc: Global,
     shelf: &mut S,
@@ -109,10 +137,10 @@ fn cif_files<S: Shelf>(
     cif: &str,
     tech: &str,
 ) -> Result<Output, Refusal>
-    ensures given { (t : Telling) → S.told shelf.old ≡ Some t → IsGiven (Some (command_for job cif.now tech.now)) t.files result }
+    ensures given { (t : Telling) (split : ℕ) → S.told shelf.old ≡ Some t → IsGiven (Some (command_for job cif.now tech.now split)) t.files result }
     ensures refusal { IfErr result (λ r. IsRefusal r.status) }
     ensures counted { IsCounted (S.faults shelf.old) (S.faults shelf.new) (ending_of result) }
-    ensures asked { AsksFor (Some (command_for job cif.now tech.now)) (ending_of result) (S.told shelf.old) (S.told shelf.new) }
+    ensures asked { (split : ℕ) → AsksFor (Some (command_for job cif.now tech.now split)) (ending_of result) (S.told shelf.old) (S.told shelf.new) }
     ensures counts { S.faults shelf.old ≤ S.faults shelf.new }
 {
     let rules = read_technology(alloc, shelf, tech)?;
@@ -210,7 +238,22 @@ pub fn answer<'a, H: Threads + Sync, S: Shelf, G: Gate>(
             script,
             passes.as_slice(),
         ),
-        Command::Check { cif, tech } => cif_files(alloc, shelf, CifJob::Check, cif, tech),
+        Command::Edit {
+            design,
+            tech,
+            script,
+            passes,
+        } => edit_files(
+            rt,
+            alloc,
+            gate,
+            shelf,
+            design,
+            tech,
+            script,
+            passes.as_slice(),
+        ),
+        Command::Check { cif, tech, .. } => cif_files(alloc, shelf, CifJob::Check, cif, tech),
         Command::Extract { cif, tech } => cif_files(alloc, shelf, CifJob::Extract, cif, tech),
         Command::Fmt { design } => fmt_file(alloc, shelf, design),
         Command::Bench { n } => benched(rt, alloc, gate, n),

@@ -7,23 +7,17 @@ ghost use Rattle.lam_geom.specs.declared.boxes.Axis.TheVariants.{X};
 ghost use Rattle.sym_items.specs.Layouts.{size_in};
 ghost use Rattle.design_sizes.specs.Sizes.{lines_in, names_in};
 ghost use Rattle.stick_parse.specs.Writable.{IsWritable};
-ghost use Rattle.stick_print.specs.Canonical.{canonical};
-ghost use Rattle.compact_run.specs.Limits.{most_design_bytes, most_passes};
-ghost use Rattle.compact_run.specs.declared.status.Status.TheVariants.{OutOfMemory};
+ghost use Rattle.compact_run.specs.Limits.{most_passes};
 ghost use Rattle.compact_run.specs.Refusals.{Refused};
 ghost use Rattle.compact_run.specs.Designs.{HasBothAxes, RefusesDesign};
 ghost use Rattle.compact_run.specs.Jogs.{Accepts, IsKept, IsLaidOutAs, IsNoWider, IsRejected, IsNextJog, JogsTo, accepted_line, jog_head, rejected_line};
 ghost use Rattle.compact_run.specs.Answers.{text_of};
 
 use crate::extent::width;
-use crate::fetch::MOST_DESIGN;
 use crate::grid_lines::push_count;
-use crate::layout::lay_out;
-use crate::masters::masters_of;
+use crate::laid_out::{is_short, layout_of};
 use crate::output::{Output, in_one_piece};
-use crate::planning::plan_of;
 use crate::refusal::Refusal;
-use crate::status::Status;
 use design_sizes::lines_are_in_the_text;
 use jog_insert::{JogLine, insert};
 use lam_geom::Axis;
@@ -88,13 +82,10 @@ pub fn sizes_of<H: Threads + Sync, G: Gate>(
     ensures laid_out { IfOk result (λ sizes. IsLaidOutAs tech.now axes.now design.now sizes.numbers.items sizes.widths.items) }
     ensures refused { IfErr result (Refused (RefusesDesign tech.now axes.now design.now)) }
 {
-    let planned = plan_of(alloc, tech, design)?;
-    let masters = masters_of(alloc, tech, design, &planned)?;
-    let plan = &planned.plan;
-    let passes = lay_out(rt, alloc, gate, tech, plan, &masters, axes, 1, false)?;
+    let laid = layout_of(rt, alloc, gate, tech, design, axes)?;
     Ok(Sizes {
-        numbers: Vec::from_slice(alloc, plan.masters.as_slice())?,
-        widths: widths(alloc, passes.coords.as_slice(), masters.len())?,
+        numbers: Vec::from_slice(alloc, laid.plan.masters.as_slice())?,
+        widths: widths(alloc, laid.passes.coords.as_slice(), laid.masters.len())?,
     })
 }
 
@@ -134,24 +125,6 @@ fn is_better(widths: &[i64], after: &[i64], master: usize) -> bool
     is_narrower(widths, after, master) && is_no_wider(widths, after)
 }
 
-// Whether a refusal is for want of memory.
-fn wants_memory(refusal: &Refusal) -> bool
-    ensures { IsTrue result ↔ (refusal.now.status ≡ OutOfMemory) }
-{
-    match refusal.status {
-        Status::OutOfMemory => true,
-        _ => false,
-    }
-}
-
-// Whether the canonical text of a design is no longer than a design's text may be.
-fn is_short(alloc: Global, design: &Design) -> Result<bool, AllocError>
-    ensures { IfOk result (λ is. IsTrue is ↔ (length (canonical design.now) ≤ most_design_bytes)) }
-{
-    let text = print(alloc, design)?;
-    Ok(text.len() as u64 <= MOST_DESIGN)
-}
-
 // The new design of a jog, where it is kept: its text is not too long, it is laid out, and it makes the jog's master narrower and none wider.
 fn judged<H: Threads + Sync, G: Gate>(
     rt: &H,
@@ -188,7 +161,7 @@ fn judged<H: Threads + Sync, G: Gate>(
             }
         }
         Err(refusal) => {
-            if wants_memory(&refusal) {
+            if refusal.wants_memory() {
                 Err(AllocError)
             } else {
                 Ok(None)

@@ -3,6 +3,7 @@
 ghost use Rattle.lam_io.specs.Io.{Files};
 ghost use Rattle.run_words.specs.Words.{texts_of};
 ghost use Rattle.compact_run.specs.Checked.{MasksPassTheCheck};
+ghost use Rattle.compact_run.specs.EditLaws.{AreEditsJudgedAsTexts};
 ghost use Rattle.compact_run.specs.JogLaws.{AreJudgedAsTexts, JogsWidenNoCell};
 ghost use Rattle.compact_run.specs.OneAnswer.{HasOneAnswer};
 ghost use Rattle.compact_run.specs.Splits.{SplitsAnswerAlike};
@@ -39,4 +40,10 @@ pub fn jogs_widen_no_cell()
 /// A law, with nothing to run: the design that a jog makes is laid out exactly where `compact` is done with its canonical text.
 pub fn jogs_are_judged_as_texts()
     ensures { AreJudgedAsTexts }
+{}
+
+/// A law, with nothing to run: the word on a design that a line of `edit` makes is what `compact` answers over its canonical text: its sizes
+/// where that is done, and else the number of the cause for which it is refused.
+pub fn edits_are_judged_as_texts()
+    ensures { AreEditsJudgedAsTexts }
 {}

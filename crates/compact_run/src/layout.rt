@@ -18,7 +18,7 @@ ghost use Rattle.compact_run.specs.Limits.{most_boxes, most_passes};
 ghost use Rattle.compact_run.specs.Refusals.{Refused};
 ghost use Rattle.written_masks.specs.Parts.{boxes_of_instances, HasFewParts};
 ghost use Rattle.written_masks.specs.Written.{AllStand};
-ghost use Rattle.compact_run.specs.Designs.{ArePlaced, HasBothAxes, HasPlainName, RefusesStart, RefusesMasters, last_layouts, passes_text};
+ghost use Rattle.compact_run.specs.Designs.{ArePlaced, HasBothAxes, HasPlainName, IsBeforePasses, RefusesStart, RefusesMasters, last_layouts, passes_text};
 
 use crate::clash::clash_line;
 use crate::extent::judge_extent;
@@ -43,6 +43,7 @@ fn judge_start(alloc: Global, tech: &Tech, master: &Master, number: u32) -> Resu
     requires { IsMaster tech.now master.now }
     ensures clean { IfOk result (λ _. StartsClean tech.now master.now) }
     ensures refused { IfErr result (Refused (RefusesStart tech.now master.now number)) }
+    ensures before { IfErr result (λ r. IsBeforePasses r.status) }
 {
     let start = start(alloc, tech, &master.cell)?;
     master_is_lawful(tech, master);
@@ -62,12 +63,13 @@ fn judge_start(alloc: Global, tech: &Tech, master: &Master, number: u32) -> Resu
     }
 }
 
-// Sees that the start layouts of all masters are clean, whatever passes follow.
-fn judge_starts(alloc: Global, tech: &Tech, masters: &[Master]) -> Result<(), Refusal>
+/// Sees that the start layouts of all masters are clean, whatever passes follow.
+pub fn judge_starts(alloc: Global, tech: &Tech, masters: &[Master]) -> Result<(), Refusal>
     requires masters { All (IsMaster tech.now) masters.now }
     requires few { length masters.now < 2 ^ 32 }
     ensures clean { IfOk result (λ _. All (StartsClean tech.now) masters.now) }
     ensures refused { IfErr result (λ r. (plan : SomePlan) (axes : List SomeAxis) → Refused (RefusesMasters tech.now plan masters.now axes) r) }
+    ensures before { IfErr result (λ r. IsBeforePasses r.status) }
 {
     for number in 0..masters.len() {
         judge_start(alloc, tech, &masters[number], number as u32)?;

@@ -1,20 +1,25 @@
-//! Reading a technology, a design and a script, each from its file.
+//! Reading a technology, a design and the scripts, each from its file.
 
-ghost use Rattle.std.specs.Prelude.{◌≡◌, ◌≤◌, ◌^◌, Some, IfOk, IfErr};
+ghost use Rattle.std.specs.Prelude.{◌≡◌, ◌≤◌, ◌^◌, length, Some, IfOk, IfErr};
+ghost use Rattle.std.specs.List.{AllByRecursion};
 ghost use Rattle.lam_io.specs.Io.{Telling};
 ghost use Rattle.design_sizes.specs.Sizes.{lines_in, names_in};
 ghost use Rattle.stick_parse.specs.Writable.{IsWritable};
+ghost use Rattle.jog_insert.specs.Scripts.{jogs_of};
+ghost use Rattle.edit_lines.specs.Edits.{HasText};
+ghost use Rattle.edit_lines.specs.Scripts.{edits_of};
 ghost use Rattle.compact_run.specs.declared.status.File.TheVariants as file;
 ghost use Rattle.compact_run.specs.Fetches.{IsCounted, EndsOver, AsksOnce};
 ghost use Rattle.compact_run.specs.Refusals.{Refused, ending_of};
 ghost use Rattle.compact_run.specs.Answers.{IsTechnology, RefusesTechnology, IsDesign, RefusesSticks, IsScript, RefusesScript};
 
-use crate::fault_lines::{script_line, stick_line, tech_line};
+use crate::fault_lines::{stick_line, tech_line};
 use crate::fetch::fetch;
-use crate::refusal::Refusal;
+use crate::refusal::{Refusal, script_refusal};
 use crate::status::{File, Status};
 use design_sizes::{lines_are_few, names_are_few};
-use jog_insert::{JogLine, ScriptFault, read_jogs};
+use edit_lines::{EditLine, read_edits};
+use jog_insert::{JogLine, read_jogs};
 use lam_io::Shelf;
 use rule_table::Tech;
 use std::alloc::Global;
@@ -75,13 +80,13 @@ pub fn read_design<S: Shelf>(alloc: Global, shelf: &mut S, name: &str) -> Result
 }
 
 /// The lines of a script of jogs.
-pub fn read_script<S: Shelf>(
+pub fn read_jog_script<S: Shelf>(
     alloc: Global,
     shelf: &mut S,
     name: &str,
 ) -> Result<Vec<JogLine>, Refusal>
-    ensures script { IfOk result (λ lines. (t : Telling) → S.told shelf.old ≡ Some t → IsScript t.files name.now lines.items) }
-    ensures refused { IfErr result (λ r. (t : Telling) → S.told shelf.old ≡ Some t → Refused (RefusesScript name.now t.files) r) }
+    ensures script { IfOk result (λ lines. (t : Telling) → S.told shelf.old ≡ Some t → IsScript jogs_of t.files name.now lines.items) }
+    ensures refused { IfErr result (λ r. (t : Telling) → S.told shelf.old ≡ Some t → Refused (RefusesScript jogs_of name.now t.files) r) }
     ensures over { IfErr result (λ r. EndsOver file.Script r.status) }
     ensures counted { IsCounted (S.faults shelf.old) (S.faults shelf.new) (ending_of result) }
     ensures asked { AsksOnce (ending_of result) (S.told shelf.old) (S.told shelf.new) name.now }
@@ -90,13 +95,28 @@ pub fn read_script<S: Shelf>(
     let text = fetch(alloc, shelf, File::Script, name)?;
     match read_jogs(alloc, &text) {
         Ok(lines) => Ok(lines),
-        Err(ScriptFault::Line(line)) => {
-            let own = script_line(alloc, line)?;
-            Err(Refusal {
-                status: Status::BadScript { line },
-                line: Some(own),
-            })
-        }
-        Err(ScriptFault::OutOfMemory) => Err(Refusal::from(Status::OutOfMemory)),
+        Err(fault) => Err(script_refusal(alloc, fault)?),
+    }
+}
+
+/// The lines of a script of edits.
+pub fn read_edit_script<S: Shelf>(
+    alloc: Global,
+    shelf: &mut S,
+    name: &str,
+) -> Result<Vec<EditLine>, Refusal>
+    ensures script { IfOk result (λ lines. (t : Telling) → S.told shelf.old ≡ Some t → IsScript edits_of t.files name.now lines.items) }
+    ensures written { IfOk result (λ lines. AllByRecursion HasText lines.items) }
+    ensures few { IfOk result (λ lines. length lines.items ≤ 2 ^ 20) }
+    ensures refused { IfErr result (λ r. (t : Telling) → S.told shelf.old ≡ Some t → Refused (RefusesScript edits_of name.now t.files) r) }
+    ensures over { IfErr result (λ r. EndsOver file.Script r.status) }
+    ensures counted { IsCounted (S.faults shelf.old) (S.faults shelf.new) (ending_of result) }
+    ensures asked { AsksOnce (ending_of result) (S.told shelf.old) (S.told shelf.new) name.now }
+    ensures counts { S.faults shelf.old ≤ S.faults shelf.new }
+{
+    let text = fetch(alloc, shelf, File::Script, name)?;
+    match read_edits(alloc, &text) {
+        Ok(lines) => Ok(lines),
+        Err(fault) => Err(script_refusal(alloc, fault)?),
     }
 }

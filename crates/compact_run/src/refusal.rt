@@ -1,14 +1,16 @@
 //! Why a command is refused, and the text that says so.
 
-ghost use Rattle.std.specs.Prelude.{◌≡◌};
+ghost use Rattle.std.specs.Prelude.{◌≡◌, ◌↔◌, IfOk, IsTrue};
 ghost use Rattle.compact_run.specs.declared.status.Status.TheVariants.{OutOfMemory};
 ghost use Rattle.compact_run.specs.Refusal.{line_of, own_text};
-ghost use Rattle.compact_run.specs.Refusals.{plain, ending_by, refusal_of};
+ghost use Rattle.compact_run.specs.Refusals.{plain, ending_by, refusal_of, script_refusal};
 
+use crate::fault_lines::script_line;
 use crate::status::{File, Status, What};
+use jog_insert::ScriptFault;
 use pass_run::PassFault;
 use run_words::WordsFault;
-use std::alloc::{AllocError, AllocFailed};
+use std::alloc::{AllocError, AllocFailed, Global};
 use stick_lex::Text;
 
 /// Why a command is refused before anything is written.
@@ -70,7 +72,33 @@ impl From<PassFault> for Refusal {
     }
 }
 
+/// Why a script is refused.
+pub fn script_refusal(alloc: Global, fault: ScriptFault) -> Result<Refusal, AllocError>
+    ensures { IfOk result (λ r. r ≡ script_refusal fault) }
+{
+    match fault {
+        ScriptFault::Line(line) => {
+            let own = script_line(alloc, line)?;
+            Ok(Refusal {
+                status: Status::BadScript { line },
+                line: Some(own),
+            })
+        }
+        ScriptFault::OutOfMemory => Ok(Refusal::from(Status::OutOfMemory)),
+    }
+}
+
 impl Refusal {
+    /// Whether it is for want of memory.
+    pub fn wants_memory(&self) -> bool
+        ensures { IsTrue result ↔ (self.now.status ≡ OutOfMemory) }
+    {
+        match self.status {
+            Status::OutOfMemory => true,
+            _ => false,
+        }
+    }
+
     // The text that was made for the refusal.
     fn own(&self) -> &[u8]
         ensures { result.now ≡ own_text self.now.line }

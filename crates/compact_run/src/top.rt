@@ -18,8 +18,9 @@ use std::thread::Threads;
 /// a pass on the axis of each letter of the list, `xy` if there is none, and puts the masks of its grids into `out` and
 /// then what it tells of the passes into `report`; `slack DESIGN --tech FILE [--passes LIST]` fetches the same, and puts how far each
 /// part could move into `out`; `jog DESIGN --tech FILE --script FILE [--passes LIST]` fetches the same and then the script, and puts the design
-/// with its jogs into `out` and a line on each of them into `report`; `extract CIF --tech FILE` fetches the technology and then the CIF text,
-/// and puts its nets and transistors into `out`; `check CIF --tech FILE` fetches the same and puts `ok` where its boxes keep
+/// with its jogs into `out` and a line on each of them into `report`; `edit DESIGN --tech FILE --script FILE [--passes LIST]` fetches the same three, and puts what
+/// the design comes to after each line of the script into `out`; `extract CIF --tech FILE` fetches the technology and then the CIF text,
+/// and puts its nets and transistors into `out`; `check CIF --tech FILE [--split N]` fetches the same and puts `ok` where its boxes keep
 /// the rules; `fmt DESIGN` puts the canonical text of a design into `out`; `bench N` fetches nothing, and puts a line on the
 /// design that is made from N into `out`. A refusal puts its text into `report`, one line or the passes before a cycle and the
 /// cycle, and nothing into `out`.

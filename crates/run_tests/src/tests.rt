@@ -4,6 +4,7 @@ mod benches;
 mod buried;
 mod cases;
 mod cif_texts;
+mod edits;
 mod grids;
 mod jogs;
 mod layouts;
@@ -16,6 +17,7 @@ use buried::BURIED;
 use cases::{EXTENTS, FAILURES, REFUSALS, REPORTS, TECHNOLOGIES, TEXTS, WORDS};
 use cif_texts::{NETLISTS, VERDICTS};
 use compact_run::run;
+use edits::EDITS;
 use grids::{GRID_EXTENTS, GRID_FAULTS, GRID_WRITES, GRIDS};
 use jogs::JOGS;
 use lam_io::{FailPlan, Fetch, MemShelf, MemSink, OpenGate, Shelf};
@@ -210,6 +212,11 @@ fn slack_tells_how_far_each_part_could_move(rt: HostRuntime) -> Result<(), Fail>
 #[test]
 fn jog_keeps_the_jogs_that_make_a_cell_narrower(rt: HostRuntime) -> Result<(), Fail> {
     assert_answers(&rt, rt.alloc(), &JOGS)
+}
+
+#[test]
+fn edit_tells_what_the_design_comes_to_after_each_line(rt: HostRuntime) -> Result<(), Fail> {
+    assert_answers(&rt, rt.alloc(), &EDITS)
 }
 
 #[test]

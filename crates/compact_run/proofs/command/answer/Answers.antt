@@ -78,3 +78,20 @@ pub returns-in-Jog-clause-usage : goal.returns-in-Jog-clause-usage
 returns-in-Jog-clause-usage g c =
     let is = c.in_ok-design.ensures.command ∙ ap (λ z. Some (command_from z)) c.in-Jog.is in
     (λ e. absurd (not_usage (words.jog c.in-Jog.design.now c.in-Jog.tech.now c.in-Jog.script.now c.as_slice-in-Jog.result.now) _ _ _ c.jog_files.ensures.asked e), λ none. absurd (is_command _ _ is none))
+
+pub edit_files-requires-clause-both : goal.edit_files-requires-clause-both
+edit_files-requires-clause-both g c = λ κs le.
+    let own = rw (c.in-Edit.is) at c.in_ok-design.ensures.passes in
+    (passes_mean c.as_slice-in-Edit.result.now (own.0, own.1, c.as_slice-in-Edit.ensures ∙ own.2)).0
+
+pub returns-in-Edit-clause-given : goal.returns-in-Edit-clause-given
+returns-in-Edit-clause-given g c = λ t told.
+    let is = c.in_ok-design.ensures.command ∙ ap (λ z. Some (command_from z)) c.in-Edit.is in
+    let A : List Axis → Type 0 = λ axes. IsGiven (Some (words.edit c.in-Edit.design.now c.in-Edit.tech.now c.in-Edit.script.now axes)) t.files c.edit_files.result in
+    let C : Option words.Command → Type 0 = λ z. IsGiven z t.files c.edit_files.result in
+    subst C (sym is) (subst A c.as_slice-in-Edit.ensures (c.edit_files.ensures.given t told))
+
+pub returns-in-Edit-clause-usage : goal.returns-in-Edit-clause-usage
+returns-in-Edit-clause-usage g c =
+    let is = c.in_ok-design.ensures.command ∙ ap (λ z. Some (command_from z)) c.in-Edit.is in
+    (λ e. absurd (not_usage (words.edit c.in-Edit.design.now c.in-Edit.tech.now c.in-Edit.script.now c.as_slice-in-Edit.result.now) _ _ _ c.edit_files.ensures.asked e), λ none. absurd (is_command _ _ is none))

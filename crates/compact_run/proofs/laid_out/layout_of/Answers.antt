@@ -1,7 +1,7 @@
 use Rattle.std.proofs.lemmas.Result.{err_from_is_err_and}
 use Rattle.compact_run.specs.Designs.{no_masks}
 use Rattle.compact_run.proofs.FewParts.{few_parts, few_in_all}
-use Rattle.compact_run.proofs.jog.sizes_of.Goals as goal
+use Rattle.compact_run.proofs.laid_out.layout_of.Goals as goal
 
 pub lay_out-requires-clause-few_parts : goal.lay_out-requires-clause-few_parts
 lay_out-requires-clause-few_parts g c κs within =

@@ -1,0 +1,128 @@
+-- One edit after another.
+use Rattle.std.proofs.Common.{◌≡◌, ℕ, suc, ◌+◌, ◌<◌, ◌≤◌, ℤ, Bool, true, false, inl, inr, List, [], ◌∷◌, ◌++◌, length, take, get_or, refl, sym, ap, ◌∙◌, subst, arith}
+use Rattle.std.specs.Prelude.{codes, flat_map}
+use Rattle.std.specs.Fmt.{signed_decimal}
+use Rattle.std.specs.List.{range_with_len}
+use Rattle.std.proofs.lemmas.Bool.{cases_lt, true≢false}
+use Rattle.std.proofs.lemmas.List.{append_assoc, append-nil, length-take-le, take_more}
+use Rattle.std.proofs.lemmas.List.Concat.{flat_map-cons}
+use Rattle.std.proofs.lemmas.Grind.{flat_map-append}
+use Rattle.design_gen.proofs.Growing.{range_more}
+use Rattle.lam_geom.specs.declared.boxes.Axis.{Axis}
+use Rattle.lam_geom.specs.declared.boxes.Axis.TheVariants.{X, Y}
+use Rattle.lam_io.specs.Io.{Bytes, Files}
+use Rattle.rule_table.specs.declared.technology.Tech.{Tech}
+use Rattle.stick_parse.specs.declared.design.Design.{Design}
+use Rattle.design_sizes.specs.Sizes.{lines_in}
+use Rattle.edit_lines.specs.declared.script.EditLine.{EditLine}
+use Rattle.edit_lines.specs.declared.script.EditLine.TheVariants.{Add, Take}
+use Rattle.edit_lines.specs.Edits.{HasLinesAfter}
+use Rattle.expand.specs.declared.master.Master.{Master}
+use Rattle.pitch_join.specs.Masters.{master_at, master_numbers}
+use Rattle.sym_items.specs.declared.items.Coords.{Coords}
+use Rattle.sym_items.specs.Layouts.{size_in}
+use Rattle.compact_run.specs.declared.edit.Stepped.{Stepped}
+use Rattle.compact_run.specs.declared.status.File.TheVariants as file
+use Rattle.compact_run.specs.declared.status.What.TheVariants.{Items, Boxes}
+use Rattle.compact_run.specs.declared.status.Status.{Status}
+use Rattle.compact_run.specs.declared.status.Status.TheVariants as status
+use Rattle.compact_run.specs.Plans.{RefusesPlan}
+use Rattle.compact_run.specs.Designs.{IsBeforePasses}
+use Rattle.compact_run.specs.Edits.{IsStep, AreSteps, IsNextStep, size_word, step_line}
+use Rattle.compact_run.specs.Answers.{RefusesTechnology, RefusesSticks}
+
+-- ---- refusals before the passes
+
+pub technology_early : (name : Bytes) (files : Files) (ended : Status) (own : Bytes) → RefusesTechnology name files ended own → IsBeforePasses ended
+technology_early name files status.OutOfMemory own why = tt
+technology_early name files (status.ReadFault file.Technology) own why = tt
+technology_early name files (status.TooLong file.Technology) own why = tt
+technology_early name files (status.BadTech fault) own why = tt
+technology_early name files other own why = absurd why
+
+pub sticks_early : (name : Bytes) (files : Files) (ended : Status) (own : Bytes) → RefusesSticks name files ended own → IsBeforePasses ended
+sticks_early name files status.OutOfMemory own why = tt
+sticks_early name files (status.ReadFault file.Design) own why = tt
+sticks_early name files (status.TooLong file.Design) own why = tt
+sticks_early name files (status.BadSticks fault) own why = tt
+sticks_early name files other own why = absurd why
+
+pub plan_early : (tech : Tech) (design : Design) (ended : Status) (own : Bytes) → RefusesPlan tech design ended own → IsBeforePasses ended
+plan_early tech design status.OutOfMemory own why = tt
+plan_early tech design (status.BadSticks fault) own why = tt
+plan_early tech design (status.BadGrid grid fault) own why = tt
+plan_early tech design (status.TooLarge Items) own why = tt
+plan_early tech design (status.TooLarge Boxes) own why = tt
+plan_early tech design other own why = absurd why
+
+-- ---- a word
+
+-- one master more
+pub words_more : (f : ℕ → Bytes) (m : ℕ) (head : Bytes) → (head ++ flat_map f (range_with_len 0 m)) ++ f m ≡ head ++ flat_map f (range_with_len 0 (m + 1))
+words_more f m head =
+    let last : flat_map f (range_with_len 0 (m + 1)) ≡ flat_map f (range_with_len 0 m) ++ f m =
+    ap (λ (ks : List ℕ). flat_map f ks) (range_more m) ∙ (flat_map-append f (range_with_len 0 m) (m ∷ []) ∙ ap (λ (z : Bytes). flat_map f (range_with_len 0 m) ++ z) (flat_map-cons f m [] ∙ append-nil (f m))) in
+    append_assoc head (flat_map f (range_with_len 0 m)) (f m) ∙ ap (λ (z : Bytes). head ++ z) (sym last)
+
+pub size_more : (masters : List Master) (layouts : List Coords) (m : ℕ) (head old new : Bytes) (one : Master) (name : Bytes) (w h : ℤ) → one ≡ master_at masters m → name ≡ one.cell.name
+    → w ≡ size_in X layouts m → h ≡ size_in Y layouts m → old ≡ head ++ flat_map (size_word masters layouts) (range_with_len 0 m)
+    → new ≡ old ++ (codes " " ++ (name ++ (codes " " ++ (signed_decimal w ++ (codes " " ++ signed_decimal h))))) → new ≡ head ++ flat_map (size_word masters layouts) (range_with_len 0 (m + 1))
+size_more masters layouts m head old new one name w h is named wide high before e =
+    let N : Bytes → ℤ → ℤ → Bytes = λ n a b. codes " " ++ (n ++ (codes " " ++ (signed_decimal a ++ (codes " " ++ signed_decimal b)))) in
+    let own : N name w h ≡ size_word masters layouts m =
+    ap (λ (n : Bytes). N n w h) (named ∙ ap (λ (z : Master). z.cell.name) is) ∙ (ap (λ (a : ℤ). N (master_at masters m).cell.name a h) wide ∙ ap (λ (b : ℤ). N (master_at masters m).cell.name (size_in X layouts m) b) high) in
+    e ∙ (ap (λ (z : Bytes). z ++ N name w h) before ∙ (ap (λ (z : Bytes). (head ++ flat_map (size_word masters layouts) (range_with_len 0 m)) ++ z) own ∙ words_more (size_word masters layouts) m head))
+
+pub size_all : (masters : List Master) (layouts : List Coords) (m : ℕ) (head word : Bytes) → m ≡ length masters → word ≡ head ++ flat_map (size_word masters layouts) (range_with_len 0 m)
+    → word ≡ head ++ flat_map (size_word masters layouts) (master_numbers masters)
+size_all masters layouts m head word all is = is ∙ ap (λ (k : ℕ). head ++ flat_map (size_word masters layouts) (range_with_len 0 k)) all
+
+-- ---- one line
+
+-- what is not short is too long
+pub not_short : (is : Bool) (n most : ℕ) → (n ≤ most → is ≡ true) → is ≡ false → most < n
+not_short is n most short no =
+    elim (cases_lt most n) as (λ _. most < n) [
+      | inl long ↦ long
+      | inr few ↦ absurd (true≢false (sym (short few) ∙ no))
+    ]
+
+-- an edit makes one line more at most
+pub few_after : (edit : EditLine) (design new : Design) → HasLinesAfter edit design new → lines_in new ≤ lines_in design + 1
+few_after (Add cell vertical a b at_most n) design new more = omega (arith, more)
+few_after (Take cell k) design new less = omega (arith, less)
+
+-- ---- all lines
+
+-- one line behind the others
+steps_more : (tech : Tech) (axes : List Axis) (numbers : List ℕ) (i : ℕ) (lines : List EditLine) (line : EditLine) (design mid last : Design) (output word : Bytes)
+    → AreSteps tech axes numbers i lines design mid output → IsStep tech axes numbers line mid last word
+    → AreSteps tech axes numbers i (lines ++ line ∷ []) design last (output ++ step_line (i + length lines) word)
+steps_more tech axes numbers i [] line design mid last output word none step =
+    let here : IsStep tech axes numbers line design last word = subst (λ (d : Design). IsStep tech axes numbers line d last word) none.0 step in
+    let number : i + 0 ≡ i = omega arith in
+    let own : Bytes = step_line i word in
+    (last, word, [], here, (refl, refl), ap (λ (z : Bytes). z ++ step_line (i + 0) word) none.1 ∙ (ap (λ (k : ℕ). step_line k word) number ∙ sym (append-nil own)))
+steps_more tech axes numbers i (first ∷ lines) line design mid last output word (new, its, rest, one, more, e) step =
+    let behind = steps_more tech axes numbers (suc i) lines line new mid last rest word more step in
+    let number : i + length (first ∷ lines) ≡ suc i + length lines = omega arith in (
+      new,
+      its,
+      rest ++ step_line (suc i + length lines) word,
+      one,
+      behind,
+      ap (λ (z : Bytes). z ++ step_line (i + length (first ∷ lines)) word) e ∙ (append_assoc (step_line i its) rest (step_line (i + length (first ∷ lines)) word)
+          ∙ ap (λ (k : ℕ). step_line i its ++ (rest ++ step_line k word)) number),
+    )
+
+-- one more of a script
+pub steps_next : (tech : Tech) (axes : List Axis) (numbers : List ℕ) (lines : List EditLine) (i : ℕ) (d line : EditLine) (design : Design) (old next : Stepped) → i < length lines
+    → line ≡ get_or lines i d → AreSteps tech axes numbers 0 (take i lines) design old.design old.text.items → IsNextStep tech axes numbers i line old next
+    → AreSteps tech axes numbers 0 (take (i + 1) lines) design next.design next.text.items
+steps_next tech axes numbers lines i d line design old next lt is before s =
+    let count : 0 + length (take i lines) ≡ i = let e = length-take-le i lines (omega (arith, lt)) in omega (arith, e) in
+    let all = steps_more tech axes numbers 0 (take i lines) line design old.design next.design old.text.items s.word before s.step in
+    let A : List EditLine → Bytes → Type 0 = λ ls z. AreSteps tech axes numbers 0 ls design next.design z in
+    let more : take i lines ++ line ∷ [] ≡ take (i + 1) lines = ap (λ l. take i lines ++ l ∷ []) is ∙ sym (take_more lines i d lt) in
+    let told : old.text.items ++ step_line (0 + length (take i lines)) s.word ≡ next.text.items = ap (λ (k : ℕ). old.text.items ++ step_line k s.word) count ∙ sym s.told in
+    subst (λ z. A (take (i + 1) lines) z) told (subst (λ ls. A ls (old.text.items ++ step_line (0 + length (take i lines)) s.word)) more all)

@@ -1,0 +1,38 @@
+use Rattle.std.proofs.Common.{◌≤◌, ◌+◌, List, take, sym, ◌∙◌, subst, arith}
+use Rattle.std.specs.Prelude.{◌^◌}
+use Rattle.std.proofs.lemmas.List.{get_or_default, take_all}
+use Rattle.list_facts.proofs.Elements.{all_at}
+use Rattle.edit_lines.specs.declared.script.EditLine.{EditLine}
+use Rattle.edit_lines.specs.Edits.{HasText}
+use Rattle.compact_run.specs.Edits.{AreSteps}
+use Rattle.compact_run.proofs.Editing.{steps_next}
+use Rattle.compact_run.proofs.edit.edit.Goals as goal
+
+pub go_on-so_far-requires-clause-written : goal.go_on-so_far-requires-clause-written
+go_on-so_far-requires-clause-written g c κs within =
+    let lines = c.args.lines.now in
+    let i = c.loop-i.i in
+    subst HasText (sym c.index-lines-i.is) (all_at HasText lines c.index-lines-i.result i c.requires.written c.loop-i-test.true)
+
+pub go_on-so_far-requires-clause-few_lines : goal.go_on-so_far-requires-clause-few_lines
+go_on-so_far-requires-clause-few_lines g c κs within = omega (arith, c.loop-i.invariant.lines, c.loop-i-test.true, c.requires.few_steps)
+
+pub loop-i-preserved : goal.loop-i-preserved
+loop-i-preserved g c =
+    let told = c.in_ok-so_far.ensures in
+    let lines = c.args.lines.now in
+    let i = c.loop-i.i in
+    let line = c.index-lines-i.result in
+    record {
+      writable = told.writable;
+      names = told.names;
+      lines = (let more = told.lines in let before = c.loop-i.invariant.lines in omega (arith, more, before));
+      steps = steps_next c.args.tech.now c.args.axes.now c.args.numbers.now lines i line line c.args.design c.loop-i.so_far c.in_ok-so_far.so_far c.loop-i-test.true
+          (c.index-lines-i.is ∙ get_or_default lines i _ line c.loop-i-test.true) c.loop-i.invariant.steps told.step;
+    }
+
+pub returns : goal.returns
+returns g c =
+    let lines = c.args.lines.now in
+    let S : List EditLine → Type 0 = λ ls. AreSteps c.args.tech.now c.args.axes.now c.args.numbers.now 0 ls c.args.design c.loop-i.so_far.design c.loop-i.so_far.text.items in
+    record { numbers = c.args.numbers.now; start = c.requires.start; last = c.loop-i.so_far.design; steps = subst S (take_all c.loop-i.i lines c.loop-i-test.false) c.loop-i.invariant.steps }

@@ -1,0 +1,28 @@
+-- What holds of all edits.
+use Rattle.std.specs.Prelude.{◌≡◌, ◌↔◌, ℕ, List, Some}
+use Rattle.std.specs.FinMap.{get}
+use Rattle.lam_geom.specs.declared.boxes.Axis.{Axis}
+use Rattle.lam_io.specs.Io.{Bytes, Files}
+use Rattle.rule_table.specs.declared.technology.Tech.{Tech}
+use Rattle.stick_parse.specs.declared.design.Design.{Design as Sticks}
+use Rattle.stick_parse.specs.Writable.{IsWritable}
+use Rattle.stick_print.specs.Canonical.{canonical}
+use Rattle.edit_lines.specs.declared.script.EditLine.{EditLine}
+use Rattle.compact_run.specs.declared.status.Status.{Status}
+use Rattle.compact_run.specs.Designs.{last_layouts}
+use Rattle.compact_run.specs.Edits.{Changes, IsAnswered, code_word, done_word}
+use Rattle.compact_run.specs.Answers.{IsTechnology, IsCompacted, RefusesCompact}
+use Rattle.compact_run.specs.OneAnswer.{IsDecided}
+
+-- What `compact` answers over the design of one file under the technology of the other, in a word: the sizes of the masters that it lays out, or why it is refused.
+pub data CompactAnswers (design tech : Bytes) (axes : List Axis) (files : Files) (word : Bytes) : Type 0 where
+  compacted : (output report : Bytes) (c : IsCompacted design tech axes files output report)
+      → word ≡ done_word c.compacts.masters (last_layouts c.technology c.compacts.masters c.compacts.steps) → CompactAnswers design tech axes files word
+  refused : (ended : Status) (own : Bytes) → RefusesCompact design tech axes files ended own → IsDecided ended → word ≡ code_word ended → CompactAnswers design tech axes files word
+
+-- The word on a design that a line has made is what `compact` answers over its canonical text in a file.
+abbrev pub AreEditsJudgedAsTexts : Type 0
+AreEditsJudgedAsTexts =
+    (technology : Tech) (axes : List Axis) (design new : Sticks) (numbers : List ℕ) (line : EditLine) → Changes technology design numbers line new → IsWritable new
+    → (files : Files) (name tech word : Bytes) → get files name ≡ Some (canonical new) → IsTechnology files tech technology
+    → IsAnswered technology axes new word ↔ CompactAnswers name tech axes files word

@@ -1,0 +1,100 @@
+-- What `edit` writes: after each line of a script, what the design so far comes to, in a word.
+use Rattle.std.specs.Prelude.{◌≡◌, ◌≢◌, ℕ, suc, ◌<◌, ◌≤◌, All, List, [], ◌∷◌, ◌++◌, length, flat_map, Ok, codes, decimal}
+use Rattle.std.specs.Fmt.{signed_decimal}
+use Rattle.lam_geom.specs.declared.boxes.Axis.{Axis}
+use Rattle.lam_geom.specs.declared.boxes.Axis.TheVariants.{X, Y}
+use Rattle.lam_io.specs.Io.{Bytes}
+use Rattle.rule_table.specs.declared.technology.Tech.{Tech}
+use Rattle.sym_items.specs.declared.items.Coords.{Coords}
+use Rattle.sym_items.specs.Layouts.{size_in}
+use Rattle.stick_parse.specs.declared.design.Design.{Design}
+use Rattle.stick_print.specs.Canonical.{canonical}
+use Rattle.stick_cell.specs.Known.{Known}
+use Rattle.stick_cell.specs.Grids.{resolved_cells}
+use Rattle.edit_lines.specs.declared.script.EditLine.{EditLine}
+use Rattle.edit_lines.specs.Edits.{IsEdited}
+use Rattle.expand.specs.declared.master.Master.{Master}
+use Rattle.plan_model.specs.declared.plan.Plan.{Plan}
+use Rattle.pitch_join.specs.Masters.{master_at, master_numbers}
+use Rattle.pass_run.specs.declared.step.Step.{Step}
+use Rattle.pass_run.specs.Laid.{StartsClean}
+use Rattle.compact_run.specs.declared.edit.Stepped.{Stepped}
+use Rattle.compact_run.specs.declared.status.File.TheVariants as file
+use Rattle.compact_run.specs.declared.status.Status.{Status}
+use Rattle.compact_run.specs.declared.status.Status.TheVariants as status
+use Rattle.compact_run.specs.Limits.{most_design_bytes}
+use Rattle.compact_run.specs.Status.{code_of}
+use Rattle.compact_run.specs.Plans.{AreMastersOf}
+use Rattle.compact_run.specs.Designs.{ArePlaced, RefusesDesign, last_layouts}
+
+-- ---- the word
+
+-- ` CELL W H`: a master, with its width and its height in u
+abbrev pub size_word : List Master → List Coords → ℕ → Bytes
+size_word masters layouts m =
+    codes " " ++ ((master_at masters m).cell.name ++ (codes " " ++ (signed_decimal (size_in X layouts m) ++ (codes " " ++ signed_decimal (size_in Y layouts m)))))
+
+-- `done`, and each master
+abbrev pub done_word : List Master → List Coords → Bytes
+done_word masters layouts = codes "done" ++ flat_map (size_word masters layouts) (master_numbers masters)
+
+-- `code N`, with the number of a cause
+abbrev pub code_word : Status → Bytes
+code_word ended = codes "code " ++ decimal (code_of ended)
+
+abbrev pub refused_word : Bytes
+refused_word = codes "refused"
+
+-- What `compact` comes to over the canonical text of a design: the sizes of its masters, or why it is refused, which is not for want of memory.
+pub data IsAnswered (tech : Tech) (axes : List Axis) (design : Design) (word : Bytes) : Type 0 where
+  done : length (canonical design) ≤ most_design_bytes → (plan : Plan) (masters : List Master) → AreMastersOf tech design plan masters → (steps : List Step)
+      → ArePlaced tech plan masters axes steps → word ≡ done_word masters (last_layouts tech masters steps) → IsAnswered tech axes design word
+  too_long : most_design_bytes < length (canonical design) → word ≡ code_word (status.TooLong file.Design) → IsAnswered tech axes design word
+  no_masks : length (canonical design) ≤ most_design_bytes → (ended : Status) (own : Bytes) → RefusesDesign tech axes design ended own → ended ≢ status.OutOfMemory
+      → word ≡ code_word ended → IsAnswered tech axes design word
+
+-- ---- one line
+
+-- A line changes a design, whose masters have these numbers, into another one: that is its edit, and has no fault of names or sizes.
+pub record Changes (tech : Tech) (design : Design) (numbers : List ℕ) (line : EditLine) (new : Design) : Type 0 where
+  pub edited : IsEdited design numbers line new
+  pub cells : List Known
+  pub resolved : resolved_cells tech new ≡ Ok cells
+
+-- What becomes of the design at a line, and the word on it: what the new design comes to, or that the line is refused and the design stays.
+pub data IsStep (tech : Tech) (axes : List Axis) (numbers : List ℕ) (line : EditLine) (design new : Design) (word : Bytes) : Type 0 where
+  changed : Changes tech design numbers line new → IsAnswered tech axes new word → IsStep tech axes numbers line design new word
+  refused : ((other : Design) → Changes tech design numbers line other → ⊥) → new ≡ design → word ≡ refused_word → IsStep tech axes numbers line design new word
+
+-- ---- a script
+
+-- `step I`, and the word on it
+abbrev pub step_line : ℕ → Bytes → Bytes
+step_line i word = codes "step " ++ (decimal i ++ (codes " " ++ (word ++ codes "\n")))
+
+-- The lines of a script, counted from a number on, one after the other, from a design to the last one; and what is written.
+abbrev pub AreSteps : Tech → List Axis → List ℕ → ℕ → List EditLine → Design → Design → Bytes → Type 0
+AreSteps tech axes numbers i [] design last output = (last ≡ design) × (output ≡ [])
+AreSteps tech axes numbers i (line ∷ lines) design last output =
+    (new : Design) × (word : Bytes) × (rest : Bytes) × IsStep tech axes numbers line design new word × AreSteps tech axes numbers (suc i) lines new last rest × (output ≡ step_line i word ++ rest)
+
+-- one line more, which has this number: what is written of it is put behind the rest
+pub record IsNextStep (tech : Tech) (axes : List Axis) (numbers : List ℕ) (i : ℕ) (line : EditLine) (old new : Stepped) : Type 0 where
+  pub word : Bytes
+  pub told : new.text.items ≡ old.text.items ++ step_line i word
+  pub step : IsStep tech axes numbers line old.design new.design word
+
+-- A design whose start layouts are clean, and the cells that are its masters, by number.
+pub record HasStart (tech : Tech) (design : Design) (numbers : List ℕ) : Type 0 where
+  pub plan : Plan
+  pub masters : List Master
+  pub are_masters : AreMastersOf tech design plan masters
+  pub clean : All (StartsClean tech) masters
+  pub are_numbers : numbers ≡ plan.masters
+
+-- What `edit` writes over a design and the lines of a script. No edit changes a grid, so the numbers of the masters are those of the first design throughout.
+pub record EditsTo (tech : Tech) (axes : List Axis) (design : Design) (lines : List EditLine) (output : Bytes) : Type 0 where
+  pub numbers : List ℕ
+  pub start : HasStart tech design numbers
+  pub last : Design
+  pub steps : AreSteps tech axes numbers 0 lines design last output

@@ -1,0 +1,246 @@
+//! An edit session: a script adds limits to the cells of a design and drops them, and after each line it is told what the design comes to.
+
+ghost use Rattle.std.specs.Prelude.{◌≡◌, ℕ, ℤ, ◌+◌, ◌<◌, ◌≤◌, ◌^◌, ◌↔◌, ◌++◌, List, length, codes, OnOk, IfOk, IfErr, IfSome, MatchOption, IsTrue, Ok};
+ghost use Rattle.std.specs.Fmt.{signed_decimal};
+ghost use Rattle.std.specs.List.{AllByRecursion};
+ghost use Rattle.lam_geom.specs.declared.boxes.Axis.{Axis as SomeAxis};
+ghost use Rattle.design_sizes.specs.Sizes.{lines_in, names_in};
+ghost use Rattle.stick_parse.specs.declared.design.Design.{Design as SomeDesign};
+ghost use Rattle.stick_parse.specs.Writable.{IsWritable};
+ghost use Rattle.stick_print.specs.ReadBack.{without_line};
+ghost use Rattle.stick_cell.specs.Known.{Known};
+ghost use Rattle.stick_cell.specs.Grids.{resolved_cells};
+ghost use Rattle.edit_lines.specs.Edits.{HasText};
+ghost use Rattle.compact_run.specs.Limits.{most_passes};
+ghost use Rattle.compact_run.specs.Refusals.{Refused};
+ghost use Rattle.compact_run.specs.Designs.{HasBothAxes, IsBeforePasses, RefusesDesign};
+ghost use Rattle.compact_run.specs.Edits.{Changes, EditsTo, HasStart, IsAnswered, IsNextStep, code_word, done_word, size_word, step_line};
+
+use crate::extent::{height, width};
+use crate::grid_lines::push_count;
+use crate::laid_out::{is_short, layout_of};
+use crate::layout::judge_starts;
+use crate::masters::masters_of;
+use crate::planning::plan_of;
+use crate::refusal::Refusal;
+use crate::status::{File, Status};
+use edit_lines::{EditLine, edited};
+use expand::Master;
+use lam_geom::Axis;
+use lam_io::Gate;
+use rule_table::Tech;
+use std::alloc::{AllocError, Global};
+use std::thread::Threads;
+use stick_cell::resolve;
+use stick_lex::push_signed_decimal;
+use stick_parse::{Design, ParseFault};
+use sym_items::Coords;
+
+/// The steps so far: the design that they have made, and what is written.
+#[derive(Debug, Drop)]
+pub struct Stepped {
+    pub design: Design,
+    pub text: Vec<u8>,
+}
+
+/// The cells that are the masters of a design, by number, where the start layouts of all of them are clean.
+pub fn started(alloc: Global, tech: &Tech, design: &Design) -> Result<Vec<u32>, Refusal>
+    requires { IsWritable design.now }
+    ensures start { IfOk result (λ numbers. HasStart tech.now design.now numbers.items) }
+    ensures refused { IfErr result (λ r. (axes : List SomeAxis) → Refused (RefusesDesign tech.now axes design.now) r) }
+    ensures before { IfErr result (λ r. IsBeforePasses r.status) }
+{
+    let planned = plan_of(alloc, tech, design)?;
+    let masters = masters_of(alloc, tech, design, &planned)?;
+    judge_starts(alloc, tech, &masters)?;
+    Ok(Vec::from_slice(alloc, planned.plan.masters.as_slice())?)
+}
+
+fn push_size(out: &mut Vec<u8>, name: &[u8], width: i64, height: i64) -> Result<(), AllocError>
+    ensures { OnOk result (out.new.items ≡ out.old.items ++ (codes " " ++ (name.now ++ (codes " " ++ (signed_decimal width ++ (codes " " ++ signed_decimal height)))))) }
+{
+    out.push(b' ')?;
+    out.extend_from_slice(name)?;
+    out.push(b' ')?;
+    push_signed_decimal(out, width)?;
+    out.push(b' ')?;
+    push_signed_decimal(out, height)?;
+    Ok(())
+}
+
+// The word on masters in these layouts.
+fn done_word(alloc: Global, masters: &[Master], layouts: &[Coords]) -> Result<Vec<u8>, AllocError>
+    requires { length masters.now < 2 ^ 32 }
+    ensures { IfOk result (λ word. word.items ≡ done_word masters.now layouts.now) }
+{
+    let mut word = Vec::from_slice(alloc, b"done")?;
+    for m in 0..masters.len() {
+        let name = masters[m].cell.name.bytes();
+        push_size(
+            &mut word,
+            name,
+            width(layouts, m as u32),
+            height(layouts, m as u32),
+        )?;
+    }
+    Ok(word)
+}
+
+// The word on a cause for which there are no masks.
+fn code_word(alloc: Global, status: &Status) -> Result<Vec<u8>, AllocError>
+    ensures { IfOk result (λ word. word.items ≡ code_word status.now) }
+{
+    let mut word = Vec::new(alloc);
+    push_count(&mut word, b"code ", status.code() as usize)?;
+    Ok(word)
+}
+
+// What `compact` comes to over the canonical text of a design, in a word.
+fn word_on<H: Threads + Sync, G: Gate>(
+    rt: &H,
+    alloc: Global,
+    gate: &G,
+    tech: &Tech,
+    axes: &[Axis],
+    design: &Design,
+) -> Result<Vec<u8>, AllocError>
+    requires writable { IsWritable design.now }
+    requires few_names { names_in design.now ≤ 2 ^ 19 }
+    requires both { HasBothAxes axes.now }
+    requires few { length axes.now ≤ most_passes }
+    ensures { IfOk result (λ word. IsAnswered tech.now axes.now design.now word.items) }
+{
+    if !is_short(alloc, design)? {
+        return code_word(alloc, &Status::TooLong(File::Design));
+    }
+    match layout_of(rt, alloc, gate, tech, design, axes) {
+        Ok(laid) => done_word(alloc, &laid.masters, laid.passes.coords.as_slice()),
+        Err(refusal) => {
+            if refusal.wants_memory() {
+                Err(AllocError)
+            } else {
+                code_word(alloc, &refusal.status)
+            }
+        }
+    }
+}
+
+// Whether the names and sizes of a design have no fault.
+fn is_resolved(alloc: Global, tech: &Tech, design: &Design) -> Result<bool, AllocError>
+    requires { IsWritable design.now }
+    ensures { IfOk result (λ is. IsTrue is ↔ ((cells : List Known) × (resolved_cells tech.now design.now ≡ Ok cells))) }
+{
+    match resolve(alloc, design, tech) {
+        Ok(_) => Ok(true),
+        Err(ParseFault::Stick(_)) => Ok(false),
+        Err(ParseFault::OutOfMemory) => Err(AllocError),
+    }
+}
+
+// The design into which a line changes a design whose masters have these numbers, if it does.
+fn changed(
+    alloc: Global,
+    tech: &Tech,
+    design: &Design,
+    numbers: &[u32],
+    line: &EditLine,
+) -> Result<Option<Design>, AllocError>
+    requires writable { IsWritable design.now }
+    requires written { HasText line.now }
+    requires few_lines { lines_in design.now ≤ 2 ^ 30 }
+    requires few_names { names_in design.now ≤ 2 ^ 19 }
+    ensures changed { IfOk result (λ o. MatchOption o
+        ((new : SomeDesign) → Changes tech.now design.now numbers.now line.now new → ⊥)
+        (Changes tech.now design.now numbers.now line.now)) }
+    ensures writable { IfOk result (λ o. IfSome o IsWritable) }
+    ensures lines { IfOk result (λ o. IfSome o (λ new. lines_in new ≤ lines_in design.now + 1)) }
+    ensures names { IfOk result (λ o. IfSome o (λ new. names_in new ≤ 2 ^ 19)) }
+{
+    let Some(new) = edited(alloc, design, numbers, line)? else {
+        return Ok(None);
+    };
+    if !is_resolved(alloc, tech, &new)? {
+        return Ok(None);
+    }
+    Ok(Some(new))
+}
+
+fn push_step(out: &mut Vec<u8>, i: usize, word: &[u8]) -> Result<(), AllocError>
+    ensures { OnOk result (out.new.items ≡ out.old.items ++ step_line i word.now) }
+{
+    push_count(out, b"step ", i)?;
+    out.push(b' ')?;
+    out.extend_from_slice(word)?;
+    out.push(b'\n')?;
+    Ok(())
+}
+
+// One line more, which has this number.
+fn go_on<H: Threads + Sync, G: Gate>(
+    rt: &H,
+    alloc: Global,
+    gate: &G,
+    tech: &Tech,
+    axes: &[Axis],
+    numbers: &[u32],
+    so_far: Stepped,
+    i: usize,
+    line: &EditLine,
+) -> Result<Stepped, AllocError>
+    requires writable { IsWritable so_far.design }
+    requires written { HasText line.now }
+    requires few_lines { lines_in so_far.design ≤ 2 ^ 30 }
+    requires few_names { names_in so_far.design ≤ 2 ^ 19 }
+    requires both { HasBothAxes axes.now }
+    requires few { length axes.now ≤ most_passes }
+    ensures step { IfOk result (λ next. IsNextStep tech.now axes.now numbers.now i line.now so_far next) }
+    ensures writable { IfOk result (λ next. IsWritable next.design) }
+    ensures lines { IfOk result (λ next. lines_in next.design ≤ lines_in so_far.design + 1) }
+    ensures names { IfOk result (λ next. names_in next.design ≤ 2 ^ 19) }
+{
+    let Stepped { design, mut text } = so_far;
+    match changed(alloc, tech, &design, numbers, line)? {
+        Some(new) => {
+            let word = word_on(rt, alloc, gate, tech, axes, &new)?;
+            push_step(&mut text, i, &word)?;
+            Ok(Stepped { design: new, text })
+        }
+        None => {
+            push_step(&mut text, i, b"refused")?;
+            Ok(Stepped { design, text })
+        }
+    }
+}
+
+/// What is written of the lines of a script of edits over a design, whose masters have these numbers: after each line, what the design so far
+/// comes to. A line costs what a compaction costs.
+pub fn edit<H: Threads + Sync, G: Gate>(
+    rt: &H,
+    alloc: Global,
+    gate: &G,
+    tech: &Tech,
+    axes: &[Axis],
+    design: Design,
+    numbers: &[u32],
+    lines: &[EditLine],
+) -> Result<Vec<u8>, AllocError>
+    requires writable { IsWritable design }
+    requires few_names { names_in design ≤ 2 ^ 19 }
+    requires few_lines { lines_in design ≤ 2 ^ 20 }
+    requires start { HasStart tech.now design numbers.now }
+    requires written { AllByRecursion HasText lines.now }
+    requires few_steps { length lines.now ≤ 2 ^ 20 }
+    requires both { HasBothAxes axes.now }
+    requires few { length axes.now ≤ most_passes }
+    ensures { IfOk result (λ text. EditsTo tech.now axes.now design lines.now text.items) }
+{
+    let mut so_far = Stepped {
+        design,
+        text: Vec::new(alloc),
+    };
+    for i in 0..lines.len() {
+        so_far = go_on(rt, alloc, gate, tech, axes, numbers, so_far, i, &lines[i])?;
+    }
+    let Stepped { design: _, text } = so_far;
+    Ok(text)
+}
