@@ -13,9 +13,8 @@ use Rattle.stick_parse.specs.declared.design.CellText.{CellText}
 use Rattle.stick_parse.specs.declared.design.Design.{Design}
 use Rattle.stick_parse.specs.Reading.{◌>>=◌}
 use Rattle.stick_parse.specs.Order.{at_line}
-use Rattle.stick_print.specs.ReadBack.{laid_out}
 use Rattle.stick_cell.specs.Known.{Known, begun, known_at}
-use Rattle.stick_cell.specs.Lines.{after_form, after_lines, after_cell, cells_after, known_cells}
+use Rattle.stick_cell.specs.Lines.{after_form, after_lines, cells_after, known_cells}
 use Rattle.stick_cell.specs.Grids.{grids_after, resolved_cells}
 use Rattle.stick_cell.proofs.Accepted.{two_bound, ok_same}
 use Rattle.stick_cell.proofs.Made.{limit_made}

@@ -1,20 +1,19 @@
 -- A design with an edited cell.
-use Rattle.std.proofs.Common.{◌≡◌, ℕ, ◌+◌, ◌<◌, ◌≤◌, List, length, get_or, set, Some, refl, sym, ap, subst, ◌∙◌, arith}
-use Rattle.std.specs.Prelude.{Contains, position, slice_set}
+use Rattle.std.proofs.Common.{◌≡◌, ℕ, ◌<◌, List, length, get_or, set, Some, sym, ap, subst, ◌∙◌, arith}
+use Rattle.std.specs.Prelude.{Contains, slice_set}
 use Rattle.std.specs.Str.{bytes_eq}
 use Rattle.std.proofs.lemmas.List.Quantifiers.{position-Some}
 use Rattle.stick_parse.specs.declared.design.Line.{Line}
 use Rattle.stick_parse.specs.declared.design.CellText.{CellText}
 use Rattle.stick_parse.specs.declared.design.Design.{Design}
 use Rattle.stick_print.specs.ReadBack.{laid_out}
-use Rattle.design_sizes.specs.Sizes.{lines_in}
 use Rattle.jog_insert.specs.Jogs.{no_cell, cell_text_at, AreWithoutUse}
 use Rattle.jog_insert.proofs.Laid.{lines_of_laid}
 use Rattle.jog_insert.proofs.Jogged.{text_here}
 use Rattle.edit_lines.specs.declared.script.EditLine.{EditLine}
 use Rattle.edit_lines.specs.declared.script.EditLine.TheVariants.{Add, Take}
-use Rattle.edit_lines.specs.Edits.{cell_in, number_named, ChangesTo, HasText, HasLinesAfter, IsEdited}
-use Rattle.edit_lines.proofs.Lines.{changes_are_determined, changed_have_text, changed_length, HasLengthAfter}
+use Rattle.edit_lines.specs.Edits.{cell_in, number_named, ChangesTo, HasLinesAfter, IsEdited}
+use Rattle.edit_lines.proofs.Lines.{changes_are_determined, HasLengthAfter}
 
 pub same_some : (a b : ℕ) → Some a ≡ Some b → a ≡ b
 same_some a b e = cc

@@ -1,6 +1,5 @@
 -- The limits of a script can stand in a stick text.
 use Rattle.std.proofs.Common.{◌≡◌, ℕ, Bool, true, false, cond, List, [], ◌∷◌, Option, Some, None, Result, Ok, Err, refl, subst, codes}
-use Rattle.std.specs.List.{AllByRecursion}
 use Rattle.std.specs.Str.{bytes_eq}
 use Rattle.stick_lex.specs.declared.token.Token.{Token}
 use Rattle.stick_lex.specs.declared.token.LexFault.{LexFault}
@@ -10,16 +9,14 @@ use Rattle.stick_parse.specs.declared.fault.StickKind.{StickKind}
 use Rattle.stick_parse.specs.declared.fault.StickKind.TheVariants.{BadLine}
 use Rattle.stick_parse.specs.declared.design.Form.{Form}
 use Rattle.stick_parse.specs.declared.design.Form.TheVariants.{Joint, Contact, Buried, Fet, Port, Inst, Wire, Limit}
-use Rattle.stick_parse.specs.Laws.{IsWord}
 use Rattle.stick_parse.specs.Lines.{tokens_or_kind}
-use Rattle.stick_parse.specs.Reading.{◌>>=◌}
-use Rattle.stick_parse.specs.Words.{Word, Path, Number, AtMost, AtLeast, Front, path_at, name_at, number_at, count_at, at_most_at, second_of, either_at, ended, word_of}
+use Rattle.stick_parse.specs.Words.{Word, Path, Number, AtMost, AtLeast, Front, path_at, name_at, number_at, count_at, at_most_at, second_of, either_at, ended}
 use Rattle.stick_parse.specs.Writable.{IsPath, IsForm}
-use Rattle.stick_parse.specs.Forms.{start, ◌&◌, whole, limit_of}
+use Rattle.stick_parse.specs.Forms.{start, ◌&◌, limit_of}
 use Rattle.stick_parse.proofs.Written.{Holds, then_holds, AreWords, words_in_range}
 use Rattle.jog_insert.specs.Scripts.{step_by_words, step_by}
 use Rattle.edit_lines.specs.declared.script.EditLine.{EditLine}
-use Rattle.edit_lines.specs.declared.script.EditLine.TheVariants.{Add, Take}
+use Rattle.edit_lines.specs.declared.script.EditLine.TheVariants.{Take}
 use Rattle.edit_lines.specs.Edits.{HasText}
 use Rattle.edit_lines.specs.Scripts.{added, add_of, take_of, edit_named, edit_of}
 

@@ -1,8 +1,7 @@
-use Rattle.std.proofs.Common.{◌≡◌, ◌<◌, ℕ, List, get_or, map, ap, sym, subst, ◌∙◌, length}
+use Rattle.std.proofs.Common.{◌≡◌, ℕ, get_or, map, ap, sym, subst, ◌∙◌, length}
 use Rattle.std.specs.List.{AllByRecursion}
 use Rattle.list_facts.proofs.Elements.{all_at}
 use Rattle.stick_parse.specs.declared.design.CellText.{CellText}
-use Rattle.stick_parse.specs.declared.design.Line.{Line}
 use Rattle.stick_parse.specs.declared.design.Design.{Design}
 use Rattle.stick_parse.specs.Writable.{IsName, IsLine, IsCell, IsWritable}
 use Rattle.stick_print.specs.ReadBack.{without_line}

@@ -1,11 +1,9 @@
-use Rattle.std.proofs.Common.{◌+◌, List, [], ◌∷◌, length, arith, ap, sym, subst}
-use Rattle.std.specs.List.{AllByRecursion}
+use Rattle.std.proofs.Common.{◌+◌, [], ◌∷◌, length, arith, ap, sym}
 use Rattle.std.specs.Str.Lines.{lines}
 use Rattle.list_facts.proofs.Elements.{all_append}
 use Rattle.stick_cell.proofs.Accepted.{eq_from_test}
 use Rattle.jog_insert.specs.Scripts.{step_by, steps_from}
 use Rattle.jog_insert.proofs.ScriptsLeft.{front_none, next_line, read_one, read_none, read_bad, read_all, none_left}
-use Rattle.edit_lines.specs.declared.script.EditLine.{EditLine}
 use Rattle.edit_lines.specs.Edits.{HasText}
 use Rattle.edit_lines.specs.Scripts.{edit_of, edits_of}
 use Rattle.edit_lines.proofs.Texts.{edit_has_text}
