@@ -133,8 +133,7 @@ without tech design masters (Add cell vertical a b at_most n) new is cells k e n
     let same : is.cell ≡ k = same_some is.cell k (sym is.named ∙ named) in
     let lines = lines_here design masters (Add cell vertical a b at_most n) new k is same in
     let next = read_or (after_form tech (take k cells) (known_at cells k) (Limit vertical a b at_most n)) none in
-    let read = add_read tech design cells k vertical a b at_most n next.0 (parts tech design cells e) (within design cell k named) next.1 in
-    (
+    let read = add_read tech design cells k vertical a b at_most n next.0 (parts tech design cells e) (within design cell k named) next.1 in (
       read.0,
       read_of (resolved_cells tech new) (resolved_cells tech (changed design k is.lines)) read.0 (new_kinds tech design masters (Add cell vertical a b at_most n) new k is same) (ap (λ (l : List Line). resolved_cells tech (changed design k l)) lines ∙ read.1),
     )

@@ -2,15 +2,15 @@
 use Rattle.std.proofs.Common.{◌≡◌, ℕ, ◌+◌, ◌<◌, ◌≤◌, List, length, get_or, set, Some, refl, sym, ap, subst, ◌∙◌, arith}
 use Rattle.std.specs.Prelude.{Contains, position, slice_set}
 use Rattle.std.specs.Str.{bytes_eq}
-use Rattle.list_facts.proofs.Elements.{all_at}
+use Rattle.std.proofs.lemmas.List.Quantifiers.{position-Some}
 use Rattle.stick_parse.specs.declared.design.Line.{Line}
 use Rattle.stick_parse.specs.declared.design.CellText.{CellText}
 use Rattle.stick_parse.specs.declared.design.Design.{Design}
-use Rattle.stick_parse.specs.Writable.{IsLine, IsCell, IsWritable}
 use Rattle.stick_print.specs.ReadBack.{laid_out}
 use Rattle.design_sizes.specs.Sizes.{lines_in}
 use Rattle.jog_insert.specs.Jogs.{no_cell, cell_text_at, AreWithoutUse}
 use Rattle.jog_insert.proofs.Laid.{lines_of_laid}
+use Rattle.jog_insert.proofs.Jogged.{text_here}
 use Rattle.edit_lines.specs.declared.script.EditLine.{EditLine}
 use Rattle.edit_lines.specs.declared.script.EditLine.TheVariants.{Add, Take}
 use Rattle.edit_lines.specs.Edits.{cell_in, number_named, ChangesTo, HasText, HasLinesAfter, IsEdited}
@@ -37,6 +37,15 @@ pub not_named : (design : Design) (masters : List ℕ) (edit : EditLine) (new : 
 not_named design masters edit new k e is =
     let same : is.cell ≡ k = same_some is.cell k (sym is.named ∙ e) in
     (subst (Contains masters) same is.master, is.unused, (is.lines, (let P : ℕ → Type 0 = λ i. ChangesTo edit (cell_text_at design i).lines is.lines in subst P same is.changed)))
+
+-- ---- the cell that the code reads
+
+pub text_of_cell : (design : Design) (cells : List CellText) (name : List ℕ) (k : ℕ) (text : CellText) → cells ≡ design.cells → Some k ≡ number_named cells name → text ≡ get_or cells k text
+    → (k < length design.cells) × (text ≡ get_or design.cells k no_cell)
+text_of_cell design cells name k text e named is =
+    let found : k < length cells = (position-Some (λ (t : CellText). bytes_eq name t.name) cells k no_cell (sym named)).0 in
+    let lt : k < length design.cells = omega (arith, found, ap length e) in
+    (lt, text_here design cells k text e lt is)
 
 -- ---- how many lines
 

@@ -63,7 +63,7 @@ is_read tech cells text known e =
     }
 
 -- with other lines, which come to the same but for limits
-pub with_lines : CellText → List Line → CellText
+unfoldable pub with_lines : CellText → List Line → CellText
 with_lines text lines = record text { lines = lines }
 
 pub lines_read : (tech : Tech) (cells : List Known) (text : CellText) (known new : Known) (lines : List Line) → IsRead tech cells text known → after_lines tech cells (begun text.name) lines ≡ Ok new → limitless new ≡ limitless known
@@ -144,8 +144,7 @@ placed tech cells (first ∷ texts) all zero text e lt =
     bound (after_cell tech cells first) (λ known. cells_after tech (cells ++ known ∷ []) texts) all e in
     let more = cells_grow tech (cells ++ one.0 ∷ []) texts all one.2 in
     let whole : all ≡ cells ++ one.0 ∷ more.0 = more.1 ∙ append_assoc cells (one.0 ∷ []) more.0 in
-    let here : length cells + 0 ≡ length cells = omega arith in
-    (
+    let here : length cells + 0 ≡ length cells = omega arith in (
       cells,
       one.0,
       record {
@@ -160,8 +159,7 @@ placed tech cells (first ∷ texts) all (suc k) text e lt =
     let one : (known : Known) × (after_cell tech cells first ≡ Ok known) × (cells_after tech (cells ++ known ∷ []) texts ≡ Ok all) =
     bound (after_cell tech cells first) (λ known. cells_after tech (cells ++ known ∷ []) texts) all e in
     let rest = placed tech (cells ++ one.0 ∷ []) texts all k text one.2 (omega (arith, lt)) in
-    let same : length cells + suc k ≡ length (cells ++ one.0 ∷ []) + k = omega (arith, length-append cells (one.0 ∷ [])) in
-    (
+    let same : length cells + suc k ≡ length (cells ++ one.0 ∷ []) + k = omega (arith, length-append cells (one.0 ∷ [])) in (
       rest.0,
       rest.1,
       record {

@@ -1,5 +1,5 @@
 -- No check of a line asks for the limits of a cell.
-use Rattle.std.proofs.Common.{◌≡◌, ℕ, zero, suc, ◌+◌, Bool, List, [], ◌∷◌, ◌++◌, map, Option, Some, None, Result, Ok, Err, refl, sym, ap, ◌∙◌}
+use Rattle.std.proofs.Common.{◌≡◌, ℕ, zero, suc, ◌+◌, Bool, List, [], ◌∷◌, ◌++◌, map, Option, Some, None, Result, Ok, Err, refl, sym, ap, ◌∙◌, arith}
 use Rattle.std.specs.Prelude.{◌&&◌, ◌==◌, not, nat_lt, is_none, option_map, bytes_eq}
 use Rattle.rule_table.specs.declared.technology.Tech.{Tech}
 use Rattle.rule_table.specs.Technology.{has_buried_of}
@@ -70,7 +70,7 @@ found_limitless cells known path = ap (λ (t : List Names). walk t known.names (
 
 number_limitless : (cells : List Known) (name : List ℕ) → number_of cells name ≡ number_of (map limitless cells) name
 number_limitless [] name = refl
-number_limitless (cell ∷ cells) name = grind (number_limitless cells name)
+number_limitless (cell ∷ cells) name = grind (arith, number_limitless cells name)
 
 known_limitless : (cells : List Known) (k : ℕ) → known_at (map limitless cells) k ≡ limitless (known_at cells k)
 known_limitless [] k = refl

@@ -6,7 +6,9 @@ use Rattle.std.proofs.lemmas.List.{take_at, drop_at, length-append}
 use Rattle.std.proofs.lemmas.List.Sums.{sum_by-cons, sum_by-append}
 use Rattle.list_facts.proofs.Elements.{all_append, all_parts}
 use Rattle.stick_parse.specs.declared.design.Line.{Line}
+use Rattle.stick_parse.specs.declared.design.Form.TheVariants.{Limit}
 use Rattle.stick_parse.specs.Writable.{IsLine}
+use Rattle.jog_insert.specs.Jogs.{unnumbered}
 use Rattle.jog_insert.proofs.Determined.{same_split}
 use Rattle.edit_lines.specs.declared.script.EditLine.{EditLine}
 use Rattle.edit_lines.specs.declared.script.EditLine.TheVariants.{Add, Take}
@@ -15,14 +17,11 @@ use Rattle.edit_lines.specs.Building.{IsLimitAt}
 
 -- ---- without a limit
 
-one_of : Line → ℕ
-one_of line = cond (is_limit line.form) 1 0
-
 -- a limit has fewer limits before it than there are
 pub some_limit : (lines new : List Line) (k : ℕ) → limits_in lines ≤ k → IsWithoutLimit lines k new → ⊥
 some_limit lines new k few is =
     let all : limits_in lines ≡ limits_in (is.front ++ is.limit ∷ is.back) = ap limits_in is.split in
-    let here : cond (is_limit is.limit.form) 1 0 ≡ 1 = ap (λ (b : Bool). cond b 1 0) is.of_limit in
+    let here : ◌≡◌ {A = ℕ} (cond (is_limit is.limit.form) 1 0) 1 = ap (λ (b : Bool). cond b 1 0) is.of_limit in
     omega (
       arith,
       all,
@@ -73,6 +72,6 @@ HasLengthAfter (Add cell vertical a b at_most n) old new = new ≡ old + 1
 HasLengthAfter (Take cell k) old new = new + 1 ≡ old
 
 pub changed_length : (edit : EditLine) (lines new : List Line) → ChangesTo edit lines new → HasLengthAfter edit (length lines) (length new)
-changed_length (Add cell vertical a b at_most n) lines new e = omega (arith, ap length e, length-append lines _)
+changed_length (Add cell vertical a b at_most n) lines new e = omega (arith, ap length e, length-append lines (unnumbered (Limit vertical a b at_most n) ∷ []))
 changed_length (Take cell k) lines new e =
     omega (arith, ap length e.kept, ap length e.split, length-append e.front e.back, length-append e.front (e.limit ∷ e.back))

@@ -15,9 +15,9 @@ with_front front read = read >>= λ steps. Ok (front ++ steps)
 -- a line that says something
 pub read_one : {A : Type 0} (front : List A) (number : ℕ) (said : Result (Option A) StickKind) (step : A) (read total : Result (List A) ℕ)
     → said ≡ Ok (Some step) → with_front front (with_step number said read) ≡ total → with_front (front ++ step ∷ []) read ≡ total
-read_one front number said jog (Ok steps) total e so_far =
+read_one {A} front number said step (Ok steps) total e so_far =
     ap (λ (l : List A). Ok l) (append_assoc front (step ∷ []) steps) ∙ sym (ap (λ s. with_front front (with_step number s (Ok steps))) e) ∙ so_far
-read_one front number said jog (Err n) total e so_far = sym (ap (λ s. with_front front (with_step number s (Err n))) e) ∙ so_far
+read_one {A} front number said step (Err n) total e so_far = sym (ap (λ s. with_front front (with_step number s (Err n))) e) ∙ so_far
 
 -- a line without words
 pub read_none : {A : Type 0} (front : List A) (number : ℕ) (said : Result (Option A) StickKind) (read total : Result (List A) ℕ)
@@ -32,7 +32,7 @@ read_bad front number said line_faults.OutOfMemory read total e so_far = tt
 
 -- no line is left
 pub read_all : {A : Type 0} (step_of : List Word → Result A StickKind) (front : List A) (number : ℕ) (rest : List (List ℕ)) (total : Result (List A) ℕ) → rest ≡ [] → with_front front (steps_from step_of number rest) ≡ total → total ≡ Ok front
-read_all step_of front number rest total e so_far = sym so_far ∙ ap (λ l. with_front front (steps_from step_of number l)) e ∙ ap (λ (l : List A). Ok l) (append-nil front)
+read_all {A} step_of front number rest total e so_far = sym so_far ∙ ap (λ l. with_front front (steps_from step_of number l)) e ∙ ap (λ (l : List A). Ok l) (append-nil front)
 
 -- the first of the lines that are left
 pub next_line : {A : Type 0} (step_of : List Word → Result A StickKind) (front : List A) (number : ℕ) (line : List ℕ) (rest after : List (List ℕ)) (total : Result (List A) ℕ) → rest ≡ line ∷ after

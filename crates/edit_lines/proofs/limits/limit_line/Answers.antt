@@ -15,5 +15,5 @@ returns-then-left-eq0 c =
       split = sym (take-append-drop at lines) ∙ ap (λ (l : List Line). take at lines ++ l) (drop_more lines at line c.loop-at-test.true ∙ ap (λ (l : Line). l ∷ drop (at + 1) lines) (sym c.index-lines-at.is));
       place = length-take-le at lines (omega arith);
       count = omega arith;
-      of_limit = ?;
+      of_limit = sym c.is_limit.ensures ∙ c.if-is_limit.true;
     }

@@ -34,9 +34,9 @@ lines-preserved-in-Continue-1 c =
     let written = all_append HasText c.lines.edits.items (c.in-Ok-Some.edit ∷ []) c.lines.invariant.written (edit_has_text c.first_line.result.0.now c.in-Ok-Some.edit said, tt) in
     record { fits = omega arith; left = rw c.in_ok-push-in-Ok-Some.ensures.items one; written = rw c.in_ok-push-in-Ok-Some.ensures.items written }
 
-pub returns-in-Err : goal.returns-in-Err
+pub returns-in-Err-clause-read : goal.returns-in-Err-clause-read
 unfolding edits_of
-returns-in-Err c = rw c.at_line.ensures
+returns-in-Err-clause-read c = rw c.at_line.ensures
     (read_bad c.lines.edits.items (c.lines.number + 1) (step_by edit_of c.first_line.result.0.now) c.in-Err.fault _ _ c.in-Err.ensures
     (next_line edit_of c.lines.edits.items (c.lines.number + 1) c.first_line.result.0.now _ (lines c.first_line.result.1.now) _ c.first_line.ensures.first c.lines.invariant.left))
 
