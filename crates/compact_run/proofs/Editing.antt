@@ -81,10 +81,10 @@ size_all masters layouts m head word all is = is ∙ ap (λ (k : ℕ). head ++ f
 
 -- what is not short is too long
 pub not_short : (is : Bool) (n most : ℕ) → (n ≤ most → is ≡ true) → is ≡ false → most < n
-not_short is n most short no =
+not_short is n most short fails =
     elim (cases_lt most n) as (λ _. most < n) [
       | inl long ↦ long
-      | inr few ↦ absurd (true≢false (sym (short few) ∙ no))
+      | inr few ↦ absurd (true≢false (sym (short few) ∙ fails))
     ]
 
 -- an edit makes one line more at most

@@ -9,8 +9,8 @@ pub loop-m-preserved : goal.loop-m-preserved
 loop-m-preserved c =
     let masters = c.args.masters.now in
     let m = c.loop-m.m in
-    size_more masters c.args.layouts.now m (codes "done") c.loop-m.word.items _ c.index-masters-m.result c.bytes.result.now c.width.result c.height.result
-    (c.index-masters-m.is ∙ get_or_default masters m _ no_master c.loop-m-test.true) c.bytes.ensures c.width.ensures c.height.ensures c.loop-m.invariant c.in_ok-push_size.ensures
+    size_more masters c.args.layouts.now m (codes "done") c.loop-m.word.items _ c.index-masters-m.result c.bytes-name.result.now c.width.result c.height.result
+    (c.index-masters-m.is ∙ get_or_default masters m _ no_master c.loop-m-test.true) c.bytes-name.ensures c.width.ensures c.height.ensures c.loop-m.invariant c.in_ok-push_size.ensures
 
 pub returns : goal.returns
 returns c =
