@@ -1,5 +1,5 @@
 -- One edit after another.
-use Rattle.std.proofs.Common.{◌≡◌, ℕ, suc, ◌+◌, ◌<◌, ◌≤◌, ℤ, Bool, true, false, inl, inr, List, [], ◌∷◌, ◌++◌, length, take, get_or, refl, sym, ap, ◌∙◌, subst, arith}
+use Rattle.std.proofs.Common.{◌≡◌, ℕ, suc, ◌+◌, ◌<◌, ◌≤◌, ℤ, Bool, true, false, Ok, inl, inr, List, [], ◌∷◌, ◌++◌, length, take, get_or, refl, sym, ap, ◌∙◌, subst, arith}
 use Rattle.std.specs.Prelude.{codes, flat_map}
 use Rattle.std.specs.Fmt.{signed_decimal}
 use Rattle.std.specs.List.{range_with_len}
@@ -16,8 +16,14 @@ use Rattle.stick_parse.specs.declared.design.Design.{Design}
 use Rattle.design_sizes.specs.Sizes.{lines_in}
 use Rattle.edit_lines.specs.declared.script.EditLine.{EditLine}
 use Rattle.edit_lines.specs.declared.script.EditLine.TheVariants.{Add, Take}
-use Rattle.edit_lines.specs.Edits.{HasLinesAfter}
+use Rattle.edit_lines.specs.Edits.{HasLinesAfter, IsEdited}
+use Rattle.edit_lines.proofs.Designs.{edited_is_determined}
+use Rattle.stick_print.specs.Canonical.{canonical}
+use Rattle.stick_cell.specs.Known.{Known}
+use Rattle.stick_cell.specs.Grids.{resolved_cells}
 use Rattle.expand.specs.declared.master.Master.{Master}
+use Rattle.plan_model.specs.declared.plan.Plan.{Plan}
+use Rattle.pass_run.specs.declared.step.Step.{Step}
 use Rattle.pitch_join.specs.Masters.{master_at, master_numbers}
 use Rattle.sym_items.specs.declared.items.Coords.{Coords}
 use Rattle.sym_items.specs.Layouts.{size_in}
@@ -26,9 +32,10 @@ use Rattle.compact_run.specs.declared.status.File.TheVariants as file
 use Rattle.compact_run.specs.declared.status.What.TheVariants.{Items, Boxes}
 use Rattle.compact_run.specs.declared.status.Status.{Status}
 use Rattle.compact_run.specs.declared.status.Status.TheVariants as status
-use Rattle.compact_run.specs.Plans.{RefusesPlan}
-use Rattle.compact_run.specs.Designs.{IsBeforePasses}
-use Rattle.compact_run.specs.Edits.{IsStep, AreSteps, IsNextStep, size_word, step_line}
+use Rattle.compact_run.specs.Limits.{most_design_bytes}
+use Rattle.compact_run.specs.Plans.{AreMastersOf, RefusesPlan}
+use Rattle.compact_run.specs.Designs.{ArePlaced, IsBeforePasses, last_layouts}
+use Rattle.compact_run.specs.Edits.{IsAnswered, done, Changes, IsStep, AreSteps, IsNextStep, done_word, size_word, step_line}
 use Rattle.compact_run.specs.Answers.{RefusesTechnology, RefusesSticks}
 
 -- ---- refusals before the passes
@@ -86,6 +93,24 @@ not_short is n most short fails =
       | inl long ↦ long
       | inr few ↦ absurd (true≢false (sym (short few) ∙ fails))
     ]
+
+-- what is no edit changes nothing
+pub not_edited : (tech : Tech) (design : Design) (numbers : List ℕ) (line : EditLine) → ((new : Design) → IsEdited design numbers line new → ⊥) → (new : Design) → Changes tech design numbers line new → ⊥
+not_edited tech design numbers line none new change = none new change.edited
+
+-- nor does an edit whose design has a fault
+pub at_fault : (tech : Tech) (design new : Design) (numbers : List ℕ) (line : EditLine) → IsEdited design numbers line new → ((cells : List Known) × (resolved_cells tech new ≡ Ok cells) → ⊥)
+    → (other : Design) → Changes tech design numbers line other → ⊥
+at_fault tech design new numbers line edit none other change =
+    let same : other ≡ new = edited_is_determined design numbers line other new change.edited edit in
+    none (change.cells, ap (λ (d : Design). resolved_cells tech d) (sym same) ∙ change.resolved)
+
+-- what is told of a design that is laid out
+pub laid_word : (tech : Tech) (axes : List Axis) (design : Design) (plan : Plan) (masters read : List Master) (steps : List Step) (coords layouts : List Coords) (word : Bytes)
+    → length (canonical design) ≤ most_design_bytes → AreMastersOf tech design plan masters → ArePlaced tech plan masters axes steps → coords ≡ last_layouts tech masters steps
+    → read ≡ masters → layouts ≡ coords → word ≡ done_word read layouts → IsAnswered tech axes design word
+laid_word tech axes design plan masters read steps coords layouts word short are placed last same there e =
+    done short plan masters are steps placed (e ∙ (ap (λ (ms : List Master). done_word ms layouts) same ∙ ap (λ (cs : List Coords). done_word masters cs) (there ∙ last)))
 
 -- an edit makes one line more at most
 pub few_after : (edit : EditLine) (design new : Design) → HasLinesAfter edit design new → lines_in new ≤ lines_in design + 1
