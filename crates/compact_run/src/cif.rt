@@ -13,9 +13,10 @@ use crate::fetch::fetch;
 use crate::refusal::Refusal;
 use crate::status::{File, Status, What};
 use cif_answers::{TextFault, netlist_of, verdict_of};
-use lam_io::Shelf;
+use lam_io::{Gate, Shelf};
 use rule_table::Tech;
 use std::alloc::{AllocError, Global};
+use std::thread::Threads;
 use stick_lex::Text;
 
 /// What is asked of a CIF text.
@@ -27,14 +28,24 @@ pub enum CifJob {
     Check,
 }
 
-fn output_text(alloc: Global, job: CifJob, tech: &Tech, text: &[u8]) -> Result<Text, TextFault>
-    requires { length text.now ≤ 2 ^ 26 }
+// The text that is asked for; a check works in so many pieces.
+fn output_text<H: Threads + Sync, G: Gate>(
+    rt: &H,
+    alloc: Global,
+    gate: &G,
+    job: CifJob,
+    tech: &Tech,
+    text: &[u8],
+    pieces: u32,
+) -> Result<Text, TextFault>
+    requires short { length text.now ≤ 2 ^ 26 }
+    requires pieces { (1 ≤ pieces) × (pieces ≤ 64) }
     ensures output { IfOk result (HasOutput job tech.now text.now) }
     ensures refused { IfErr result (RefusesOutput job tech.now text.now) }
 {
     match job {
         CifJob::Extract => netlist_of(alloc, tech, text),
-        CifJob::Check => verdict_of(alloc, tech, text),
+        CifJob::Check => verdict_of(rt, alloc, gate, tech, text, pieces),
     }
 }
 
@@ -62,26 +73,39 @@ fn refusal_for(alloc: Global, fault: TextFault) -> Result<Refusal, AllocError>
 }
 
 // The output over a CIF text, or why there is none.
-fn output_over(alloc: Global, job: CifJob, tech: &Tech, text: &[u8]) -> Result<Vec<u8>, Refusal>
-    requires { length text.now ≤ 2 ^ 26 }
+fn output_over<H: Threads + Sync, G: Gate>(
+    rt: &H,
+    alloc: Global,
+    gate: &G,
+    job: CifJob,
+    tech: &Tech,
+    text: &[u8],
+    pieces: u32,
+) -> Result<Vec<u8>, Refusal>
+    requires short { length text.now ≤ 2 ^ 26 }
+    requires pieces { (1 ≤ pieces) × (pieces ≤ 64) }
     ensures output { IfOk result (λ output. HasOutput job tech.now text.now output.items) }
     ensures refused { IfErr result (Refused (RefusesText job tech.now text.now)) }
     ensures over { IfErr result (λ r. EndsOverCif r.status) }
 {
-    match output_text(alloc, job, tech, text) {
+    match output_text(rt, alloc, gate, job, tech, text, pieces) {
         Ok(output) => Ok(Vec::from_slice(alloc, output.bytes())?),
         Err(fault) => Err(refusal_for(alloc, fault)?),
     }
 }
 
-/// The output over the CIF text of a file.
-pub fn output_of_file<S: Shelf>(
+/// The output over the CIF text of a file. A check works in so many pieces, and says the same for every number.
+pub fn output_of_file<H: Threads + Sync, S: Shelf, G: Gate>(
+    rt: &H,
     alloc: Global,
+    gate: &G,
     shelf: &mut S,
     job: CifJob,
     name: &str,
     tech: &Tech,
+    pieces: u32,
 ) -> Result<Vec<u8>, Refusal>
+    requires pieces { (1 ≤ pieces) × (pieces ≤ 64) }
     ensures output { IfOk result (λ output. (t : Telling) → S.told shelf.old ≡ Some t → IsOutputOf job tech.now name.now t.files output.items) }
     ensures refused { IfErr result (λ r. (t : Telling) → S.told shelf.old ≡ Some t → Refused (RefusesFile job tech.now name.now t.files) r) }
     ensures over { IfErr result (λ r. EndsOverCif r.status) }
@@ -90,5 +114,5 @@ pub fn output_of_file<S: Shelf>(
     ensures counts { S.faults shelf.old ≤ S.faults shelf.new }
 {
     let text = fetch(alloc, shelf, File::Cif, name)?;
-    output_over(alloc, job, tech, &text)
+    output_over(rt, alloc, gate, job, tech, &text, pieces)
 }

@@ -130,13 +130,17 @@ fn edit_files<H: Threads + Sync, S: Shelf, G: Gate>(
 }
 
 // What `extract` or `check` writes, or why it writes nothing. It is the same for every number of pieces.
-fn cif_files<S: Shelf>(
+fn cif_files<H: Threads + Sync, S: Shelf, G: Gate>(
+    rt: &H,
     alloc: Global,
+    gate: &G,
     shelf: &mut S,
     job: CifJob,
     cif: &str,
     tech: &str,
+    pieces: u32,
 ) -> Result<Output, Refusal>
+    requires pieces { (1 ≤ pieces) × (pieces ≤ 64) }
     ensures given { (t : Telling) (split : ℕ) → S.told shelf.old ≡ Some t → IsGiven (Some (command_for job cif.now tech.now split)) t.files result }
     ensures refusal { IfErr result (λ r. IsRefusal r.status) }
     ensures counted { IsCounted (S.faults shelf.old) (S.faults shelf.new) (ending_of result) }
@@ -144,7 +148,7 @@ fn cif_files<S: Shelf>(
     ensures counts { S.faults shelf.old ≤ S.faults shelf.new }
 {
     let rules = read_technology(alloc, shelf, tech)?;
-    let text = output_of_file(alloc, shelf, job, cif, &rules)?;
+    let text = output_of_file(rt, alloc, gate, shelf, job, cif, &rules, pieces)?;
     Ok(in_one_piece(alloc, text, b"")?)
 }
 
@@ -253,8 +257,12 @@ pub fn answer<'a, H: Threads + Sync, S: Shelf, G: Gate>(
             script,
             passes.as_slice(),
         ),
-        Command::Check { cif, tech, .. } => cif_files(alloc, shelf, CifJob::Check, cif, tech),
-        Command::Extract { cif, tech } => cif_files(alloc, shelf, CifJob::Extract, cif, tech),
+        Command::Check { cif, tech, split } => {
+            cif_files(rt, alloc, gate, shelf, CifJob::Check, cif, tech, split)
+        }
+        Command::Extract { cif, tech } => {
+            cif_files(rt, alloc, gate, shelf, CifJob::Extract, cif, tech, 1)
+        }
         Command::Fmt { design } => fmt_file(alloc, shelf, design),
         Command::Bench { n } => benched(rt, alloc, gate, n),
     }
