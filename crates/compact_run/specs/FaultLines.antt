@@ -79,6 +79,7 @@ cif_word cif.RepeatedSymbol = codes "RepeatedSymbol"
 cif_word cif.UnknownSymbol = codes "UnknownSymbol"
 cif_word cif.NoLayer = codes "NoLayer"
 cif_word cif.OddScale = codes "OddScale"
+cif_word cif.TooDeep = codes "TooDeep"
 cif_word cif.NoEnd = codes "NoEnd"
 cif_word cif.AfterEnd = codes "AfterEnd"
 

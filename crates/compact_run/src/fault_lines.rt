@@ -136,6 +136,7 @@ fn cif_word(kind: CifKind) -> &'static [u8]
         CifKind::UnknownSymbol => b"UnknownSymbol",
         CifKind::NoLayer => b"NoLayer",
         CifKind::OddScale => b"OddScale",
+        CifKind::TooDeep => b"TooDeep",
         CifKind::NoEnd => b"NoEnd",
         CifKind::AfterEnd => b"AfterEnd",
     }
