@@ -1,13 +1,14 @@
 //! Sessions whose edges come and go, beside solving from scratch; and many edges that raise one variable.
-ghost use Rattle.std.specs.Prelude.{◌≡◌, ℕ, ◌+◌, ◌≤◌, ◌<◌, IfOk};
-ghost use Rattle.cons_graph.specs.Constraints.{IsConstraintGraph};
+ghost use Rattle.std.specs.Prelude.{◌≡◌, ◌≤◌, IfOk};
+ghost use Rattle.cons_graph.specs.Constraints.{IsConstraintGraph, IsEdgeAmong};
 
-use crate::session::{Session, SessionFault};
+use crate::session::Session;
 use cons_graph::{Edge, Graph, Why};
 use std::alloc::{AllocError, Global};
 use std::test::Fail;
 
 const MANY: u32 = 65_536;
+
 const FEW: u32 = 6;
 
 fn edge(from: u32, to: u32, len: i64, why: Why) -> Edge
@@ -63,14 +64,27 @@ fn agrees(alloc: Global, session: &Session, vars: u32) -> Result<bool, Fail>
     })
 }
 
+// An edge between the last two of many variables.
+fn last_edge(len: u32) -> Edge
+    requires { len ≤ 1000001 }
+    ensures { IsEdgeAmong 65536 result }
+{
+    Edge {
+        from: MANY - 2,
+        to: MANY - 1,
+        len: i64::from(len),
+        why: Why::Limit,
+    }
+}
+
 #[test]
 fn many_adds(rt: HostRuntime) -> Result<(), Fail> {
     let alloc = rt.alloc();
     let g = Graph::new(MANY, chain(alloc, MANY)?)?;
     let mut session = Session::new(alloc, g)?;
-    for len in 2..1_000_002i64 {
-        session.add(edge(MANY - 2, MANY - 1, len, Why::Limit))?;
-        assert_eq!(rt; value_at(&session, MANY - 1), Some(65_533 + len));
+    for len in 2..1_000_002u32 {
+        session.add(last_edge(len))?;
+        assert_eq!(rt; value_at(&session, MANY - 1), Some(65_533 + i64::from(len)));
     }
     assert_eq!(rt; value_at(&session, MANY - 1), Some(1_065_534));
     Ok(())
