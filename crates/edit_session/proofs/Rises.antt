@@ -1,15 +1,15 @@
 -- Values that rise from those of a least solution: one look at an edge, and the end.
-use Rattle.std.proofs.Common.{◌≡◌, ◌≢◌, ℕ, zero, suc, ◌+◌, ◌*◌, ◌^◌, ◌<◌, ◌≤◌, Bool, true, false, ◌⊎◌, inl, inr, ℤ, pos, negsuc, neg_ℤ, ◌+ℤ◌, ◌-ℤ◌, ◌≤ℤ◌, ◌<ℤ◌, List, [], ◌∷◌, ◌++◌, length, get_or, set, refl, sym, ap, subst, ◌∙◌, arith}
-use Rattle.std.specs.List.{All, Contains}
+use Rattle.std.proofs.Common.{◌≡◌, ◌≢◌, ℕ, zero, suc, ◌^◌, ◌<◌, ◌≤◌, Bool, true, false, ◌⊎◌, inl, inr, ℤ, pos, negsuc, neg_ℤ, ◌+ℤ◌, ◌-ℤ◌, ◌≤ℤ◌, ◌<ℤ◌, List, [], ◌∷◌, ◌++◌, length, get_or, set, refl, sym, subst, ◌∙◌, arith}
+use Rattle.std.specs.List.{Contains}
 use Rattle.std.proofs.lemmas.Int.{ints}
 use Rattle.std.proofs.lemmas.Bool.{cases_eq, cases_lt}
 use Rattle.std.proofs.lemmas.List.{length-set, get_or-set_same, get_or-set_other}
-use Rattle.std.proofs.lemmas.List.Elements.{All-from_get_or, All-contains, All-push, Contains-get_or}
+use Rattle.std.proofs.lemmas.List.Elements.{All-from_get_or, All-push, Contains-get_or}
 use Rattle.cons_graph.specs.declared.edges.Edge.{Edge}
-use Rattle.cons_graph.specs.Constraints.{Constraints, IsConstraintGraph, IsEdgeAmong}
+use Rattle.cons_graph.specs.Constraints.{IsEdgeAmong}
 use Rattle.cons_graph.specs.EdgeNumbers.{edge_at}
-use Rattle.cons_graph.specs.Solutions.{Meets, IsSolution, IsLeastSolution, value_of}
-use Rattle.cons_graph.specs.Walks.{IsWalk, walk_length, IsCycle, IsPositiveCycle, HasPositiveCycle}
+use Rattle.cons_graph.specs.Solutions.{Meets, IsLeastSolution, value_of}
+use Rattle.cons_graph.specs.Walks.{IsWalk, walk_length, HasPositiveCycle}
 use Rattle.cons_graph.proofs.CycleTest.{cycle_from_walk}
 use Rattle.round_log.proofs.Least.{edge_among, meets_at}
 use Rattle.edit_session.specs.Links.{IsLatest}

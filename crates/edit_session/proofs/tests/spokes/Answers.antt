@@ -1,4 +1,4 @@
-use Rattle.std.proofs.Common.{◌≡◌, ℕ, ◌+◌, List, sym, ap, subst, arith}
+use Rattle.std.proofs.Common.{◌+◌, List, sym, ap, subst, arith}
 use Rattle.cons_graph.specs.declared.edges.Edge.{Edge}
 use Rattle.cons_graph.specs.Constraints.{IsConstraintGraph}
 use Rattle.edit_session.proofs.Spokes.{graph_wider}
