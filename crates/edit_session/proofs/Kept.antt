@@ -1,18 +1,18 @@
 -- What a session keeps when an edge comes or goes.
-use Rattle.std.proofs.Common.{◌≡◌, ◌≢◌, ℕ, suc, ◌+◌, ◌-◌, ◌<◌, ◌≤◌, Bool, true, false, inl, inr, ℤ, pos, ◌≤ℤ◌, List, [], ◌∷◌, ◌++◌, length, get_or, refl, sym, ap, subst, ◌∙◌, arith}
-use Rattle.std.specs.List.{All, Any, Contains, remove}
-use Rattle.std.proofs.lemmas.Bool.{cases_eq, cases_lt}
+use Rattle.std.proofs.Common.{◌≡◌, ◌≢◌, ℕ, suc, ◌+◌, ◌-◌, ◌<◌, Bool, inl, inr, ℤ, List, [], ◌∷◌, ◌++◌, length, get_or, sym, ap, subst, ◌∙◌, arith}
+use Rattle.std.specs.List.{Any, remove}
+use Rattle.std.proofs.lemmas.Bool.{cases_lt}
 use Rattle.std.proofs.lemmas.List.{get_or_default}
 use Rattle.std.proofs.lemmas.List.Edits.{length-remove, get_or-remove_below, get_or-remove_above}
 use Rattle.std.proofs.lemmas.List.Elements.{All-from_get_or, All-push, Contains-append_left}
 use Rattle.cons_graph.specs.declared.edges.Edge.{Edge}
-use Rattle.cons_graph.specs.Constraints.{Constraints, IsConstraintGraph, IsSmallGraph, IsEdgeAmong, LeadsFromOrigin}
+use Rattle.cons_graph.specs.Constraints.{IsConstraintGraph, IsEdgeAmong, LeadsFromOrigin}
 use Rattle.cons_graph.specs.EdgeNumbers.{edge_at}
 use Rattle.cons_graph.specs.Solutions.{Meets, IsSolution, IsLeastSolution, value_of}
-use Rattle.cons_graph.specs.Walks.{IsPositiveCycle, HasPositiveCycle}
+use Rattle.cons_graph.specs.Walks.{HasPositiveCycle}
 use Rattle.round_log.proofs.Least.{edge_among, from_origin, meets_at, positive_cycle_excludes}
 use Rattle.edit_session.specs.Raised.{IsAppended}
-use Rattle.edit_session.proofs.Linked.{none, edge_before, edge_last, length_more}
+use Rattle.edit_session.proofs.Linked.{none, edge_before, length_more}
 use Rattle.edit_session.proofs.Sizes.{least_small}
 
 -- ---- an edge comes
@@ -23,10 +23,10 @@ graph_more vars edges e s among = record {
   few_vars = s.few_vars;
   edges_among = All-push (IsEdgeAmong vars) edges e s.edges_among among;
   all_from_origin = λ v a b.
-    let w = from_origin (record { vars = vars; edges = edges }) s v a b in
-    let same : edge_at (edges ++ e ∷ []) w.0 ≡ edge_at edges w.0 = edge_before edges e w.0 w.1 in
-    let long : length (edges ++ e ∷ []) ≡ suc (length edges) = length_more edges e in
-    (w.0, edge_at edges w.0, (let l = w.1 in omega (arith, l, long)), get_default (edges ++ e ∷ []) w.0 (edge_at edges w.0) (let l = w.1 in omega (arith, l, long)) same, (w.2, w.3));
+      let w = from_origin (record { vars = vars; edges = edges }) s v a b in
+      let same : edge_at (edges ++ e ∷ []) w.0 ≡ edge_at edges w.0 = edge_before edges e w.0 w.1 in
+      let long : length (edges ++ e ∷ []) ≡ suc (length edges) = length_more edges e in
+      (w.0, edge_at edges w.0, (let l = w.1 in omega (arith, l, long)), get_default (edges ++ e ∷ []) w.0 (edge_at edges w.0) (let l = w.1 in omega (arith, l, long)) same, (w.2, w.3));
 }
   where
     get_default : (es : List Edge) (k : ℕ) (x : Edge) → k < length es → edge_at es k ≡ x → get_or es k x ≡ x
@@ -36,9 +36,9 @@ pub solution_before : (edges : List Edge) (e : Edge) (y : ℕ → ℤ) → IsSol
 solution_before edges e y h = record {
   origin = h.origin;
   meets = All-from_get_or (Meets y) edges none (λ k lt. (
-    let P : Edge → Type 0 = λ d. Meets y d in
-    let long : length (edges ++ e ∷ []) ≡ suc (length edges) = length_more edges e in
-    subst P (edge_before edges e k lt) (meets_at (edges ++ e ∷ []) y h.meets k (omega (arith, lt, long)))));
+      let P : Edge → Type 0 = λ d. Meets y d in
+      let long : length (edges ++ e ∷ []) ≡ suc (length edges) = length_more edges e in
+      subst P (edge_before edges e k lt) (meets_at (edges ++ e ∷ []) y h.meets k (omega (arith, lt, long)))));
 }
 
 -- the values before an edge is appended
@@ -75,23 +75,23 @@ graph_less vars edges place s lt free =
       has_origin = s.has_origin;
       few_vars = s.few_vars;
       edges_among = All-from_get_or (IsEdgeAmong vars) left none (λ k kk.
-        let P : Edge → Type 0 = λ d. IsEdgeAmong vars d in
-        elim (cases_lt k place) as (λ _. IsEdgeAmong vars (edge_at left k)) [
-          | inl l ↦ subst P (sym (get_or-remove_below edges place none k l lt)) (edge_among (record { vars = vars; edges = edges }) s k (omega arith))
-          | inr le ↦ subst P (sym (get_or-remove_above edges place none k le lt)) (edge_among (record { vars = vars; edges = edges }) s (k + 1) (omega (arith, count, kk)))
-        ]);
+          let P : Edge → Type 0 = λ d. IsEdgeAmong vars d in
+          elim (cases_lt k place) as (λ _. IsEdgeAmong vars (edge_at left k)) [
+            | inl l ↦ subst P (sym (get_or-remove_below edges place none k l lt)) (edge_among (record { vars = vars; edges = edges }) s k (omega arith))
+            | inr le ↦ subst P (sym (get_or-remove_above edges place none k le lt)) (edge_among (record { vars = vars; edges = edges }) s (k + 1) (omega (arith, count, kk)))
+          ]);
       all_from_origin = λ v a b.
-        let w = from_origin (record { vars = vars; edges = edges }) s v a b in
-        let k : ℕ = w.0 in
-        let e : Edge = edge_at edges k in
-        let kk : k < length edges = w.1 in
-        let other : k ≢ place = λ i. free (ap (λ n. (edge_at edges n).from) (sym i) ∙ w.2) in
-        elim (cases_lt k place) as (λ _. Any (LeadsFromOrigin v) left) [
-          | inl l ↦ (k, e, omega arith, get_or-remove_below edges place e k l lt ∙ get_or_default edges k e none kk, (w.2, w.3))
-          | inr le ↦
-              let over : place < k = omega arith in
-              let one : k - 1 + 1 ≡ k = omega arith in
-              let P : ℕ → Type 0 = λ n. get_or edges n e ≡ e in
-              (k - 1, e, omega (arith, count, kk), get_or-remove_above edges place e (k - 1) (omega arith) lt ∙ subst P (sym one) (get_or_default edges k e none kk), (w.2, w.3))
-        ];
+          let w = from_origin (record { vars = vars; edges = edges }) s v a b in
+          let k : ℕ = w.0 in
+          let e : Edge = edge_at edges k in
+          let kk : k < length edges = w.1 in
+          let other : k ≢ place = λ i. free (ap (λ n. (edge_at edges n).from) (sym i) ∙ w.2) in
+          elim (cases_lt k place) as (λ _. Any (LeadsFromOrigin v) left) [
+            | inl l ↦ (k, e, omega arith, get_or-remove_below edges place e k l lt ∙ get_or_default edges k e none kk, (w.2, w.3))
+            | inr le ↦
+                let over : place < k = omega arith in
+                let one : k - 1 + 1 ≡ k = omega arith in
+                let P : ℕ → Type 0 = λ n. get_or edges n e ≡ e in
+                (k - 1, e, omega (arith, count, kk), get_or-remove_above edges place e (k - 1) (omega arith) lt ∙ subst P (sym one) (get_or_default edges k e none kk), (w.2, w.3))
+          ];
     }

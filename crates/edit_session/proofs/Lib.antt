@@ -4,3 +4,4 @@ pub mod Rises
 pub mod Starts
 pub mod Sizes
 pub mod Kept
+pub mod Spokes

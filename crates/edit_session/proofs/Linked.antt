@@ -1,5 +1,5 @@
 -- Links between edges of one tail: made one after another.
-use Rattle.std.proofs.Common.{◌≡◌, ◌≢◌, ℕ, suc, ◌+◌, ◌<◌, ◌≤◌, ℤ, pos, List, [], ◌∷◌, ◌++◌, inl, inr, length, get_or, set, refl, sym, ap, subst, ◌∙◌, arith}
+use Rattle.std.proofs.Common.{◌≡◌, ◌≢◌, ℕ, suc, ◌<◌, ◌≤◌, pos, List, [], ◌∷◌, ◌++◌, inl, inr, length, get_or, set, refl, sym, ap, subst, ◌∙◌, arith}
 use Rattle.std.proofs.lemmas.Bool.{cases_eq}
 use Rattle.std.proofs.lemmas.List.{length-set, length-append, get_or-set_same, get_or-set_other, get_or_append_left, set-get_or}
 use Rattle.std.proofs.Math.Seq.{get_or-append_seam}
@@ -107,9 +107,9 @@ links_more vars edges e latest before tail link number low is count f h =
       one_each_edge = (let l = length-append before (link ∷ []) in omega (arith, l, b, long));
       newest = λ v vv. latest_alike edges more v n (get_or latest v 0) (alike n (omega arith)) (h.newest v vv);
       older = λ k kk. (
-        let P : Edge → Type 0 = λ x. IsLatest more x.from k (get_or wide k 0) in
-        let Q : ℕ → Type 0 = λ l. IsLatest more (edge_at edges k).from k l in
-        subst P (sym (edge_before edges e k kk)) (subst Q (sym (get_or_append_left before (link ∷ []) 0 k (omega arith))) (latest_alike edges more (edge_at edges k).from k (get_or before k 0) (alike k (omega arith)) (h.older k kk))));
+          let P : Edge → Type 0 = λ x. IsLatest more x.from k (get_or wide k 0) in
+          let Q : ℕ → Type 0 = λ l. IsLatest more (edge_at edges k).from k l in
+          subst P (sym (edge_before edges e k kk)) (subst Q (sym (get_or_append_left before (link ∷ []) 0 k (omega arith))) (latest_alike edges more (edge_at edges k).from k (get_or before k 0) (alike k (omega arith)) (h.older k kk))));
     } in
     let one : AreLinksUpTo vars more (suc n) (set latest (edge_at more n).from (suc n)) (set wide n (get_or latest (edge_at more n).from 0)) = links_one vars more n latest wide kept (omega arith) (omega (arith, tail_is, low)) in
     let L : ℕ → Type 0 = λ t. AreLinksUpTo vars more (suc n) (set latest t (suc n)) (set wide n (get_or latest t 0)) in

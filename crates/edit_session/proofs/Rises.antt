@@ -1,15 +1,15 @@
 -- Values that rise from those of a least solution: one look at an edge, and the end.
-use Rattle.std.proofs.Common.{◌≡◌, ◌≢◌, ℕ, zero, suc, ◌+◌, ◌*◌, ◌^◌, ◌<◌, ◌≤◌, Bool, true, false, ◌⊎◌, inl, inr, ℤ, pos, negsuc, neg_ℤ, ◌+ℤ◌, ◌-ℤ◌, ◌≤ℤ◌, ◌<ℤ◌, List, [], ◌∷◌, ◌++◌, length, get_or, set, refl, sym, ap, subst, ◌∙◌, arith}
-use Rattle.std.specs.List.{All, Contains}
+use Rattle.std.proofs.Common.{◌≡◌, ◌≢◌, ℕ, zero, suc, ◌^◌, ◌<◌, ◌≤◌, Bool, true, false, ◌⊎◌, inl, inr, ℤ, pos, negsuc, neg_ℤ, ◌+ℤ◌, ◌-ℤ◌, ◌≤ℤ◌, ◌<ℤ◌, List, [], ◌∷◌, ◌++◌, length, get_or, set, refl, sym, subst, ◌∙◌, arith}
+use Rattle.std.specs.List.{Contains}
 use Rattle.std.proofs.lemmas.Int.{ints}
 use Rattle.std.proofs.lemmas.Bool.{cases_eq, cases_lt}
 use Rattle.std.proofs.lemmas.List.{length-set, get_or-set_same, get_or-set_other}
-use Rattle.std.proofs.lemmas.List.Elements.{All-from_get_or, All-contains, All-push, Contains-get_or}
+use Rattle.std.proofs.lemmas.List.Elements.{All-from_get_or, All-push, Contains-get_or}
 use Rattle.cons_graph.specs.declared.edges.Edge.{Edge}
-use Rattle.cons_graph.specs.Constraints.{Constraints, IsConstraintGraph, IsEdgeAmong}
+use Rattle.cons_graph.specs.Constraints.{IsEdgeAmong}
 use Rattle.cons_graph.specs.EdgeNumbers.{edge_at}
-use Rattle.cons_graph.specs.Solutions.{Meets, IsSolution, IsLeastSolution, value_of}
-use Rattle.cons_graph.specs.Walks.{IsWalk, walk_length, IsCycle, IsPositiveCycle, HasPositiveCycle}
+use Rattle.cons_graph.specs.Solutions.{Meets, IsLeastSolution, value_of}
+use Rattle.cons_graph.specs.Walks.{IsWalk, walk_length, HasPositiveCycle}
 use Rattle.cons_graph.proofs.CycleTest.{cycle_from_walk}
 use Rattle.round_log.proofs.Least.{edge_among, meets_at}
 use Rattle.edit_session.specs.Links.{IsLatest}
@@ -77,15 +77,15 @@ with_met vars tail edges x marks marks' v n w m h count met = record {
 -- the edge is met
 pub look_met : (vars tail : ℕ) (edges : List Edge) (x : List ℤ) (marks : List Bool) (v k : ℕ) → IsRaised vars tail edges x marks v (suc k) → Meets (value_of x) (edge_at edges k) → IsRaised vars tail edges x marks v k
 look_met vars tail edges x marks v k h m = with_met vars tail edges x marks marks v (suc k) v k h refl (λ j lt. elim (h.met j lt) as (λ _. Meets (value_of x) (edge_at edges j) ⊎ ((get_or marks (edge_at edges j).from false ≡ true) ⊎ (((edge_at edges j).from ≡ v) × (j < k)))) [
-    | inl a ↦ inl a
-    | inr b ↦ elim b as (λ _. Meets (value_of x) (edge_at edges j) ⊎ ((get_or marks (edge_at edges j).from false ≡ true) ⊎ (((edge_at edges j).from ≡ v) × (j < k)))) [
-      | inl w ↦ inr (inl w)
-      | inr p ↦ elim (cases_eq j k) as (λ _. Meets (value_of x) (edge_at edges j) ⊎ ((get_or marks (edge_at edges j).from false ≡ true) ⊎ (((edge_at edges j).from ≡ v) × (j < k)))) [
-        | inl e ↦ (let P : ℕ → Type 0 = λ i. Meets (value_of x) (edge_at edges i) in inl (subst P (sym e) m))
-        | inr d ↦ inr (inr (p.0, (let l = p.1 in omega (arith, l, d))))
-      ]
+  | inl a ↦ inl a
+  | inr b ↦ elim b as (λ _. Meets (value_of x) (edge_at edges j) ⊎ ((get_or marks (edge_at edges j).from false ≡ true) ⊎ (((edge_at edges j).from ≡ v) × (j < k)))) [
+    | inl w ↦ inr (inl w)
+    | inr p ↦ elim (cases_eq j k) as (λ _. Meets (value_of x) (edge_at edges j) ⊎ ((get_or marks (edge_at edges j).from false ≡ true) ⊎ (((edge_at edges j).from ≡ v) × (j < k)))) [
+      | inl e ↦ (let P : ℕ → Type 0 = λ i. Meets (value_of x) (edge_at edges i) in inl (subst P (sym e) m))
+      | inr d ↦ inr (inr (p.0, (let l = p.1 in omega (arith, l, d))))
     ]
-  ])
+  ]
+])
 
 -- the values with one raised
 pub record IsSet (x : List ℤ) (v : ℕ) (asked : ℤ) : Type 0 where
@@ -170,27 +170,27 @@ look_raised vars tail edges x marks marks' k asked h lt ne is less count waits s
       at_most = at (λ u. u < vars → value_of y u ≤ℤ (h.base u +ℤ pos h.most)) (λ lt. omega (arith, ints)) (λ u d lt. (let p : value_of y u ≡ value_of x u = s.there u d in let q : value_of x u ≤ℤ (h.base u +ℤ pos h.most) = h.at_most u lt in omega (arith, ints)));
       below = λ z sol. at (λ u. u < vars → value_of y u ≤ℤ z u) (λ _. (let m : e.len ≤ℤ (z e.to -ℤ z e.from) = meets_at edges z sol.meets k lt in let b : value_of x e.from ≤ℤ z e.from = h.below z sol e.from a.among.from_in_range in omega (arith, ints))) (λ u d uu. (let p : value_of y u ≡ value_of x u = s.there u d in let q : value_of x u ≤ℤ z u = h.below z sol u uu in omega (arith, ints)));
       reached = at (λ u. u < vars → (value_of y u ≡ h.base u) ⊎ IsReached edges tail u (value_of y u -ℤ h.base tail))
-        (λ _. elim (h.reached e.from a.among.from_in_range) as (λ _. (value_of y e.to ≡ h.base e.to) ⊎ IsReached edges tail e.to (value_of y e.to -ℤ h.base tail)) [
-          | inl same ↦ absurd (let p : h.base e.to ≤ℤ value_of x e.to = h.at_least e.to a.among.to_in_range in omega (arith, ints))
-          | inr w ↦ inr (reached_more edges tail e (value_of x e.from -ℤ h.base tail) (value_of y e.to -ℤ h.base tail) (Contains-get_or edges k none lt) w (omega (arith, ints)))
-        ])
-        (λ u d uu. (let P : ℤ → Type 0 = λ b. (b ≡ h.base u) ⊎ IsReached edges tail u (b -ℤ h.base tail) in subst P (sym (s.there u d)) (h.reached u uu)));
+          (λ _. elim (h.reached e.from a.among.from_in_range) as (λ _. (value_of y e.to ≡ h.base e.to) ⊎ IsReached edges tail e.to (value_of y e.to -ℤ h.base tail)) [
+            | inl same ↦ absurd (let p : h.base e.to ≤ℤ value_of x e.to = h.at_least e.to a.among.to_in_range in omega (arith, ints))
+            | inr w ↦ inr (reached_more edges tail e (value_of x e.from -ℤ h.base tail) (value_of y e.to -ℤ h.base tail) (Contains-get_or edges k none lt) w (omega (arith, ints)))
+          ])
+          (λ u d uu. (let P : ℤ → Type 0 = λ b. (b ≡ h.base u) ⊎ IsReached edges tail u (b -ℤ h.base tail) in subst P (sym (s.there u d)) (h.reached u uu)));
       met = λ j jj.
-        let d : Edge = edge_at edges j in
-        let Done : Type 0 = Meets (value_of y) d ⊎ ((get_or marks' d.from false ≡ true) ⊎ ((d.from ≡ e.from) × (j < k))) in
-        elim (cases_eq d.from e.to) as (λ _. Done) [
-          | inl i ↦ (let P : ℕ → Type 0 = λ u. get_or marks' u false ≡ true in inr (inl (subst P (sym i) waits)))
-          | inr ne' ↦ elim (h.met j jj) as (λ _. Done) [
-            | inl m ↦ inl (still_met (value_of x) (value_of y) d m (s.higher d.to) (s.there d.from ne'))
-            | inr o ↦ elim o as (λ _. Done) [
-              | inl w ↦ inr (inl (still d.from w))
-              | inr p ↦ elim (cases_eq j k) as (λ _. Done) [
-                | inl i ↦ (let P : ℕ → Type 0 = λ n. Meets (value_of y) (edge_at edges n) in let m : Meets (value_of y) e = omega (arith, ints) in inl (subst P (sym i) m))
-                | inr dk ↦ inr (inr (p.0, (let l = p.1 in omega (arith, l, dk))))
+          let d : Edge = edge_at edges j in
+          let Done : Type 0 = Meets (value_of y) d ⊎ ((get_or marks' d.from false ≡ true) ⊎ ((d.from ≡ e.from) × (j < k))) in
+          elim (cases_eq d.from e.to) as (λ _. Done) [
+            | inl i ↦ (let P : ℕ → Type 0 = λ u. get_or marks' u false ≡ true in inr (inl (subst P (sym i) waits)))
+            | inr ne' ↦ elim (h.met j jj) as (λ _. Done) [
+              | inl m ↦ inl (still_met (value_of x) (value_of y) d m (s.higher d.to) (s.there d.from ne'))
+              | inr o ↦ elim o as (λ _. Done) [
+                | inl w ↦ inr (inl (still d.from w))
+                | inr p ↦ elim (cases_eq j k) as (λ _. Done) [
+                  | inl i ↦ (let P : ℕ → Type 0 = λ n. Meets (value_of y) (edge_at edges n) in let m : Meets (value_of y) e = omega (arith, ints) in inl (subst P (sym i) m))
+                  | inr dk ↦ inr (inr (p.0, (let l = p.1 in omega (arith, l, dk))))
+                ]
               ]
             ]
-          ]
-        ];
+          ];
     }
 
 -- ---- between looks

@@ -1,15 +1,14 @@
 -- The values when an edge has been appended.
-use Rattle.std.proofs.Common.{◌≡◌, ◌≢◌, ℕ, suc, ◌+◌, ◌-◌, ◌^◌, ◌<◌, ◌≤◌, Bool, true, false, ◌⊎◌, inl, inr, ℤ, pos, neg_ℤ, ◌+ℤ◌, ◌-ℤ◌, ◌≤ℤ◌, ◌<ℤ◌, List, [], ◌∷◌, ◌++◌, length, get_or, set, refl, sym, ap, subst, ◌∙◌, arith}
-use Rattle.std.specs.List.{All, Contains}
+use Rattle.std.proofs.Common.{◌≡◌, ◌≢◌, ℕ, suc, ◌-◌, ◌^◌, ◌<◌, ◌≤◌, Bool, true, false, ◌⊎◌, inl, inr, ℤ, pos, neg_ℤ, ◌+ℤ◌, ◌-ℤ◌, ◌≤ℤ◌, ◌<ℤ◌, List, [], length, get_or, set, refl, sym, ap, subst, ◌∙◌, arith}
+use Rattle.std.specs.List.{Contains}
 use Rattle.std.proofs.lemmas.Int.{ints}
 use Rattle.std.proofs.lemmas.Bool.{cases_eq}
 use Rattle.std.proofs.lemmas.List.{length-set}
-use Rattle.std.proofs.lemmas.List.Elements.{All-from_get_or, All-push, All-nil, Contains-get_or}
+use Rattle.std.proofs.lemmas.List.Elements.{All-from_get_or, All-nil, Contains-get_or}
 use Rattle.cons_graph.specs.declared.edges.Edge.{Edge}
-use Rattle.cons_graph.specs.Constraints.{Constraints, IsConstraintGraph, IsEdgeAmong}
+use Rattle.cons_graph.specs.Constraints.{IsEdgeAmong}
 use Rattle.cons_graph.specs.EdgeNumbers.{edge_at}
-use Rattle.cons_graph.specs.Solutions.{Meets, IsSolution, IsLeastSolution, value_of}
-use Rattle.cons_graph.specs.Walks.{walk_length}
+use Rattle.cons_graph.specs.Solutions.{Meets, IsLeastSolution, value_of}
 use Rattle.round_log.proofs.Least.{edge_among, meets_at}
 use Rattle.edit_session.specs.Raised.{IsReached, IsRaised, IsAppended, nat_of}
 use Rattle.edit_session.proofs.Linked.{none}
@@ -89,16 +88,16 @@ last_raised edges x marks marks' asked h is less count waits =
       at_most = at (λ u. u < length x → value_of y u ≤ℤ (value_of x u +ℤ pos most)) (λ _. omega (arith, ints)) (λ u d _. (let p : value_of y u ≡ value_of x u = s.there u d in omega (arith, ints)));
       below = λ z sol. at (λ u. u < length x → value_of y u ≤ℤ z u) (λ _. (let m : e.len ≤ℤ (z e.to -ℤ z e.from) = meets_at edges z sol.meets k lt in let b : value_of x e.from ≤ℤ z e.from = h.below z sol e.from among.from_in_range in omega (arith, ints))) (λ u d uu. (let p : value_of y u ≡ value_of x u = s.there u d in let q : value_of x u ≤ℤ z u = h.below z sol u uu in omega (arith, ints)));
       reached = at (λ u. u < length x → (value_of y u ≡ value_of x u) ⊎ IsReached edges e.from u (value_of y u -ℤ value_of x e.from))
-        (λ _. inr (reached_more edges e.from e (pos 0) (value_of y e.to -ℤ value_of x e.from) (Contains-get_or edges k none lt) (record { walk = []; of_these = All-nil (Contains edges); leads = refl; as_long = refl }) (omega (arith, ints))))
-        (λ u d _. inl (s.there u d));
+          (λ _. inr (reached_more edges e.from e (pos 0) (value_of y e.to -ℤ value_of x e.from) (Contains-get_or edges k none lt) (record { walk = []; of_these = All-nil (Contains edges); leads = refl; as_long = refl }) (omega (arith, ints))))
+          (λ u d _. inl (s.there u d));
       met = λ j jj.
-        let d : Edge = edge_at edges j in
-        let Done : Type 0 = Meets (value_of y) d ⊎ ((get_or marks' d.from false ≡ true) ⊎ ((d.from ≡ 0) × (j < 0))) in
-        elim (cases_eq d.from e.to) as (λ _. Done) [
-          | inl i ↦ (let P : ℕ → Type 0 = λ u. get_or marks' u false ≡ true in inr (inl (subst P (sym i) waits)))
-          | inr ne ↦ elim (old_or_last edges j jj) as (λ _. Done) [
-            | inl o ↦ inl (still_met (value_of x) (value_of y) d (h.met j o) (s.higher d.to) (s.there d.from ne))
-            | inr i ↦ inl (last_at j i)
-          ]
-        ];
+          let d : Edge = edge_at edges j in
+          let Done : Type 0 = Meets (value_of y) d ⊎ ((get_or marks' d.from false ≡ true) ⊎ ((d.from ≡ 0) × (j < 0))) in
+          elim (cases_eq d.from e.to) as (λ _. Done) [
+            | inl i ↦ (let P : ℕ → Type 0 = λ u. get_or marks' u false ≡ true in inr (inl (subst P (sym i) waits)))
+            | inr ne ↦ elim (old_or_last edges j jj) as (λ _. Done) [
+              | inl o ↦ inl (still_met (value_of x) (value_of y) d (h.met j o) (s.higher d.to) (s.there d.from ne))
+              | inr i ↦ inl (last_at j i)
+            ]
+          ];
     }

@@ -15,12 +15,7 @@ use cons_graph::Edge;
 //
 // Each value rises by at most as much as the head of the last edge, since the old values meet all other edges. Those
 // that wait are taken in the order in which they came (Bellman, Ford and Moore).
-pub fn raise_last(
-    x: &mut Vec<i64>,
-    waiting: &mut Waiting,
-    edges: &[Edge],
-    links: &Links,
-) -> bool
+pub fn raise_last(x: &mut Vec<i64>, waiting: &mut Waiting, edges: &[Edge], links: &Links) -> bool
     requires appended { IsAppended edges.now x.old.items waiting.old.marks }
     requires links { AreLinks (length x.old.items) edges.now links.now.latest.items links.now.before.items }
     ensures one_each { length x.new.items ≡ length x.old.items }
@@ -75,13 +70,7 @@ fn look_from(
 
 // Raises the head of an edge to what the edge asks for and lets it wait, unless the edge is met. Gives false where
 // the head is `tail`.
-fn look(
-    x: &mut Vec<i64>,
-    waiting: &mut Waiting,
-    edges: &[Edge],
-    k: usize,
-    tail: u32,
-) -> bool
+fn look(x: &mut Vec<i64>, waiting: &mut Waiting, edges: &[Edge], k: usize, tail: u32) -> bool
     requires in_range { k < length edges.now }
     requires raised { IsRaised (length x.old.items) tail edges.now x.old.items waiting.old.marks
         (edge_at edges.now k).from (k + 1) }

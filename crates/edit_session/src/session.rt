@@ -103,9 +103,8 @@ impl Session {
         Ok(())
     }
 
-    /// Removes the edge at a place; the later ones move one place down. The time goes with the number of edges where the edge
-    /// is met with room to spare, and is that of solving anew elsewhere. The only refusal is want of memory, which leaves
-    /// the session as it was.
+    /// Removes the edge at a place; the later ones move one place down. Solves the edges that are left anew, in the order of
+    /// the values so far. The only refusal is want of memory, which leaves the session as it was.
     pub fn take(&mut self, place: u32) -> Result<(), AllocError>
         requires in_range { place < length self.old.edges }
         requires not_from_origin { (edge_at self.old.edges place).from ≢ 0 }

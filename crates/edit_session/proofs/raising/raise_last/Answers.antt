@@ -1,12 +1,10 @@
-use Rattle.std.proofs.Common.{◌≡◌, ℕ, suc, ◌+◌, ◌-◌, ◌*◌, ◌<◌, ◌≤◌, Bool, true, false, w64, rules, ℤ, pos, neg_ℤ, ◌+ℤ◌, ◌≤ℤ◌, ◌<ℤ◌, FitsSigned, to_z, of_z, List, length, get_or, set, sym, ap, subst, ◌∙◌, refl, arith}
-use Rattle.std.proofs.lemmas.Int.{ints, to_z-of_z}
+use Rattle.std.proofs.Common.{◌≡◌, ℕ, w64, rules, ℤ, ◌+ℤ◌, ◌<ℤ◌, FitsSigned, to_z, of_z, List, length, sym, subst, ◌∙◌, refl}
+use Rattle.std.proofs.lemmas.Int.{to_z-of_z}
 use Rattle.cons_graph.specs.declared.edges.Edge.{Edge}
-use Rattle.cons_graph.specs.Constraints.{IsEdgeAmong}
-use Rattle.cons_graph.specs.EdgeNumbers.{edge_at}
 use Rattle.cons_graph.specs.Solutions.{Meets, value_of}
-use Rattle.edit_session.specs.Raised.{IsRaised, IsAppended, room_left}
+use Rattle.edit_session.specs.Raised.{IsRaised}
 use Rattle.edit_session.proofs.Rises.{look_next, look_done, settled}
-use Rattle.edit_session.proofs.Starts.{last_of, last_among, last_small, last_met, last_raised}
+use Rattle.edit_session.proofs.Starts.{last_of, last_met, last_raised}
 use Rattle.edit_session.proofs.raising.raise_last.Goals as goal
 
 pub returns-in_default-clause-least : goal.returns-in_default-clause-least

@@ -1,4 +1,4 @@
-use Rattle.std.proofs.Common.{ℕ, ◌+◌, ◌*◌, length}
+use Rattle.std.proofs.Common.{◌+◌, ◌*◌, length}
 use Rattle.edit_session.specs.Raised.{IsRaised, room_left}
 use Rattle.edit_session.proofs.raising.raise_last.Given as goal
 

@@ -1,4 +1,4 @@
-use Rattle.std.proofs.Common.{◌≡◌, ℕ, zero, suc, ◌^◌, ◌<◌, ◌≤◌, ◌⊎◌, inl, inr, ℤ, pos, neg_ℤ, ◌≤ℤ◌, ◌<ℤ◌, Some, Ok, Err, Result, List, [], ◌∷◌, length, get_or, set, refl, sym, ap, subst, ◌∙◌, arith}
+use Rattle.std.proofs.Common.{◌≡◌, ℕ, ◌^◌, ◌<◌, ◌≤◌, inl, inr, ℤ, pos, neg_ℤ, ◌≤ℤ◌, Some, Ok, Err, Result, List, [], ◌∷◌, length, get_or, ap, subst, arith}
 use Rattle.std.specs.Prelude.{IfOk, slice_get}
 use Rattle.std.proofs.lemmas.Int.{ints}
 use Rattle.std.proofs.lemmas.Bool.{cases_eq}
@@ -49,5 +49,5 @@ returns c =
     let M : ℕ → Type 0 = λ n. IfOk c.sort_order.result (λ order. NamesEachOnce n order.items) in
     let S : List ℤ → Type 0 = λ l. IfOk c.sort_order.result (λ order. IsInOrderOf (value_of l) order.items) in
     both c.sort_order.result (λ order. NamesEachOnce c.args.vars order.items) (λ order. IsInOrderOf (value_of values) order.items) (λ order. IsOrder c.args.vars order.items)
-      (λ order names sorted. origin_first c.args.vars (value_of values) order.items c.requires.some least names sorted)
-      (subst M count (subst N c.deref.ensures.value c.sort_order.ensures.names)) (subst S c.deref.ensures.value c.sort_order.ensures.in_order)
+    (λ order names sorted. origin_first c.args.vars (value_of values) order.items c.requires.some least names sorted)
+    (subst M count (subst N c.deref.ensures.value c.sort_order.ensures.names)) (subst S c.deref.ensures.value c.sort_order.ensures.in_order)

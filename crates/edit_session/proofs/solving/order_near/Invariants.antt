@@ -1,4 +1,4 @@
-use Rattle.std.proofs.Common.{◌≡◌, ℕ, ◌^◌, ◌<◌, ℤ, pos, neg_ℤ, ◌≤ℤ◌, length}
+use Rattle.std.proofs.Common.{◌≡◌, ℕ, ◌^◌, ◌<◌, pos, neg_ℤ, ◌≤ℤ◌, length}
 use Rattle.cons_graph.specs.Solutions.{value_of}
 use Rattle.edit_session.proofs.solving.order_near.Given as goal
 

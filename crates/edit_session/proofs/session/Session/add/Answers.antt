@@ -1,4 +1,4 @@
-use Rattle.std.proofs.Common.{◌≡◌, ℕ, suc, ◌<◌, ◌≤◌, Bool, true, false, not, ℤ, List, [], ◌∷◌, ◌++◌, length, sym, ap, subst, ◌∙◌, refl, arith}
+use Rattle.std.proofs.Common.{◌≡◌, ℕ, suc, ◌<◌, Bool, true, false, not, ℤ, List, [], ◌∷◌, ◌++◌, length, sym, ap, subst, ◌∙◌, refl, arith}
 use Rattle.std.proofs.lemmas.Bool.{true≢false}
 use Rattle.cons_graph.specs.declared.edges.Edge.{Edge}
 use Rattle.cons_graph.specs.Constraints.{IsConstraintGraph, IsSmallGraph, IsEdgeAmong}
@@ -57,8 +57,8 @@ invariant_of-self-then-not-self c =
     let M : List Edge → Type 0 = λ es. IsLeastSolution s.vars es (value_of c.raise_last.new.x.items) in
     let C : List Edge → Type 0 = λ es. HasPositiveCycle es in
     kept s.vars s.edges.items c.push.new.self.items c.args.e c.add.new.self.latest.items c.add.new.self.before.items c.raise_last.new.x.items (not c.raise_last.result) c.raise_last.new.waiting.marks c.self.invariant.shape c.in-Ok-push.ensures.items (omega arith) among links (r.one_each ∙ same) (r.one_mark_each ∙ same)
-      (λ f. subst M c.deref-then-not-self.ensures.value (subst L same (r.least (not_false c.raise_last.result f))))
-      (λ t. subst C c.deref-then-not-self.ensures.value (r.cycle (not_true c.raise_last.result t)))
+    (λ f. subst M c.deref-then-not-self.ensures.value (subst L same (r.least (not_false c.raise_last.result f))))
+    (λ t. subst C c.deref-then-not-self.ensures.value (r.cycle (not_true c.raise_last.result t)))
 
 pub invariant_of-self-else-not-self : goal.invariant_of-self-else-not-self
 invariant_of-self-else-not-self c =
@@ -72,5 +72,5 @@ invariant_of-self-else-not-self c =
     let yes' : s.cyclic ≡ true = c.if-not-self.false in
     let C : List Edge → Type 0 = λ es. HasPositiveCycle es in
     kept s.vars s.edges.items c.push.new.self.items c.args.e c.add.new.self.latest.items c.add.new.self.before.items s.x.items s.cyclic s.waiting.marks c.self.invariant.shape c.in-Ok-push.ensures.items (omega arith) among links c.self.invariant.one_each c.self.invariant.one_mark_each
-      (λ f. absurd (true≢false (sym yes' ∙ f)))
-      (λ t. subst C (sym c.in-Ok-push.ensures.items) (cycle_more s.edges.items c.args.e (c.self.invariant.cycle t)))
+    (λ f. absurd (true≢false (sym yes' ∙ f)))
+    (λ t. subst C (sym c.in-Ok-push.ensures.items) (cycle_more s.edges.items c.args.e (c.self.invariant.cycle t)))

@@ -1,4 +1,4 @@
-use Rattle.std.proofs.Common.{◌≡◌, ℕ, Bool, false, true, List, ◌∷◌, length, get_or, set, sym, ap, subst, ◌∙◌, ◌<◌, refl, inl, arith}
+use Rattle.std.proofs.Common.{ℕ, false, List, ◌∷◌, length, set, sym, ap, subst, ◌<◌, refl, inl, arith}
 use Rattle.std.specs.VecDeque.{deque_capacity}
 use Rattle.edit_session.specs.Queues.{IsQueueOf}
 use Rattle.edit_session.proofs.Queue.{queue_pop}
