@@ -13,5 +13,5 @@ mod sorting;
 mod sweeping;
 
 pub use laws::{one_answer, one_cycle, one_order};
-pub use solving::{Solved, Unsolved, solve, solve_reached};
+pub use solving::{Solved, Unsolved, solve, solve_reached, solve_with_floor};
 pub use sorting::sort_order;

@@ -19,7 +19,7 @@ use round_log::Log;
 use std::alloc::{AllocError, Global};
 use thiserror::Error;
 
-// A log with fewer raises than this and half as many again is not swept: some 1.5 MB.
+// The floor of `solve_reached`: entries of some 1.5 MB are not swept.
 const SWEEP_FLOOR: usize = 32_768;
 
 /// What the rounds leave when they end without a cycle.
@@ -66,7 +66,7 @@ pub fn solve(alloc: Global, g: &Graph, order: &[u32]) -> Result<Solved, Unsolved
     ensures cycle { IfErr result (λ e. IfCycle e (IsSimplePositiveCycle g.now.edges)) }
     ensures stopped { IfErr result (λ e. IfCycle e (IsCycleOf g.now.edges order.now)) }
 {
-    solve_over(alloc, g, order, None)
+    solve_with_floor(alloc, g, order, None)
 }
 
 /// What `solve` gives, in less memory: between rounds the log drops the raises that no chain from a variable's latest
@@ -89,11 +89,12 @@ pub fn solve_reached(alloc: Global, g: &Graph, order: &[u32]) -> Result<Solved, 
     ensures cycle { IfErr result (λ e. IfCycle e (IsSimplePositiveCycle g.now.edges)) }
     ensures stopped { IfErr result (λ e. IfCycle e (IsCycleOf g.now.edges order.now)) }
 {
-    solve_over(alloc, g, order, Some(SWEEP_FLOOR))
+    solve_with_floor(alloc, g, order, Some(SWEEP_FLOOR))
 }
 
-// Solves; with a floor the log is swept once it has grown by half of what it last kept, which counts as the floor at least.
-pub fn solve_over(
+/// `solve` without a floor, and else `solve_reached` with this one: a log with fewer raises than the floor and half as
+/// many again is not swept.
+pub fn solve_with_floor(
     alloc: Global,
     g: &Graph,
     order: &[u32],

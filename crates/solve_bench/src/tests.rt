@@ -1,6 +1,6 @@
 //! Worked graphs, from their edges through the rounds to the lines of a walk or a cycle.
-ghost use Rattle.std.specs.Prelude.{◌≡◌, ◌+◌, length, IfOk, IfSome};
-ghost use Rattle.cons_graph.specs.Constraints.{IsConstraintGraph};
+ghost use Rattle.std.specs.Prelude.{◌≡◌, ◌+◌, ◌≤◌, length, IfOk, IfSome};
+ghost use Rattle.cons_graph.specs.Constraints.{IsConstraintGraph, IsEdgeAmong};
 ghost use Rattle.cons_graph.specs.SimpleWalks.{IsSimplePositiveCycle};
 ghost use Rattle.solve_bench.specs.Worked.{pair_graph, row_graph};
 
@@ -8,7 +8,9 @@ use cons_graph::{Edge, Graph, Names, Why};
 use crit_path::{walk_lines, walk_to};
 use cycle_show::cycle_lines;
 use lam_list::Seq;
-use liao_wong::{Unsolved, solve, solve_reached};
+use crate::made::{backward_edge, draw, edges_of, push_edge, variables};
+use crate::size::Size;
+use liao_wong::{Unsolved, solve, solve_reached, solve_with_floor};
 use std::alloc::{AllocError, Global};
 use std::test::Fail;
 
@@ -83,6 +85,65 @@ fn cycle_in(alloc: Global, g: &Graph) -> Option<Seq<u32>>
         Err(Unsolved::Cycle(cycle)) => Some(cycle),
         _ => None,
     }
+}
+
+// A backward edge, as one of those that are made, but up to twice as tight, so that it may close a positive cycle.
+fn tight_edge(vars: u32, state: &mut u32) -> Edge
+    requires some { 3 ≤ vars }
+    requires few { vars ≤ 65536 }
+    ensures { IsEdgeAmong vars result }
+{
+    let edge = backward_edge(vars, state);
+    Edge {
+        len: edge.len / 2 - i64::from(draw(state) % 8),
+        ..edge
+    }
+}
+
+// A made graph with some tight edges.
+fn tight_graph(alloc: Global, size: &Size, tight: u32) -> Result<Graph, Fail>
+    ensures { IfOk result (λ g. g.vars ≡ size.now.vars) }
+{
+    let mut edges = edges_of(alloc, size)?;
+    let mut state = size.edges;
+    for _ in 0..tight {
+        let edge = tight_edge(size.vars, &mut state);
+        push_edge(&mut edges, size.vars, edge)?;
+    }
+    Ok(Graph::new(size.vars, edges)?)
+}
+
+// What the rounds answer over a graph, as a text: values, rounds and walks, or the cycle.
+fn told(alloc: Global, g: &Graph, floor: Option<usize>) -> Result<String, Fail> {
+    let order = variables(alloc, g.vars())?;
+    match solve_with_floor(alloc, g, &order, floor) {
+        Ok(solved) => {
+            let mut walks = Vec::new(alloc);
+            for v in 0..g.vars() {
+                walks.push(walk_to(alloc, g, &solved.log, v)?)?;
+            }
+            Ok(format!(in alloc; "{:?} {} {:?}", solved.x.as_slice(), solved.rounds, walks)?)
+        }
+        Err(Unsolved::Cycle(cycle)) => Ok(format!(in alloc; "{:?}", cycle.as_slice())?),
+        Err(Unsolved::OutOfMemory) => Err(Fail::new("out of memory")),
+    }
+}
+
+#[test]
+fn a_log_that_is_swept_tells_the_same(rt: HostRuntime) -> Result<(), Fail> {
+    let alloc = rt.alloc();
+    for edges in 60..100u32 {
+        let size = Size {
+            vars: 20,
+            edges,
+            back: 20,
+        };
+        let g = tight_graph(alloc, &size, edges % 4)?;
+        let whole = told(alloc, &g, None)?;
+        assert_eq!(rt; told(alloc, &g, Some(0))?.as_str(), whole.as_str());
+        assert_eq!(rt; told(alloc, &g, Some(7))?.as_str(), whole.as_str());
+    }
+    Ok(())
 }
 
 #[test]

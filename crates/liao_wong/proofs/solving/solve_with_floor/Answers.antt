@@ -8,7 +8,7 @@ use Rattle.round_log.proofs.Least.{positive_cycle_excludes}
 use Rattle.round_log.proofs.Outcomes.{has_cycle}
 use Rattle.liao_wong.specs.Held.{ArePlaces}
 use Rattle.liao_wong.proofs.Outputs.{order_is_long, IfCycle-map}
-use Rattle.liao_wong.proofs.solving.solve_over.Goals as goal
+use Rattle.liao_wong.proofs.solving.solve_with_floor.Goals as goal
 
 pub places_of-requires-clause-names : goal.places_of-requires-clause-names
 places_of-requires-clause-names c =
