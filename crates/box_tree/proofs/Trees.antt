@@ -3,11 +3,9 @@ use Rattle.std.proofs.Common.{◌≡◌, ℕ, zero, suc, ◌+◌, ◌-◌, ◌<�
 use Rattle.std.proofs.lemmas.Bool.{cases_lt}
 use Rattle.std.proofs.lemmas.List.{drop-append-le, drop_more, drop_all, drop-drop, get_or_default, set_at}
 use Rattle.std.proofs.lemmas.Option.{get_or_from_slice_get, slice_get_within}
-use Rattle.box_tree.specs.declared.query.Query.{Query}
 use Rattle.box_tree.specs.declared.spots.Group.{Group}
 use Rattle.box_tree.specs.declared.spots.Spot.{Spot}
-use Rattle.box_tree.specs.Queries.{Holds, HoldsAt}
-use Rattle.box_tree.specs.Tree.{AreGroups, IsBounded, IsGroupOf, IsOrderOf, IsPlacedGroup, IsTreeOf, begin_of, no_spot, spot_at}
+use Rattle.box_tree.specs.Tree.{AreGroups, IsBounded, IsGroupOf, IsPlacedGroup, IsTreeOf, begin_of, no_spot, spot_at}
 use Rattle.box_tree.specs.Grown.{IsGrown}
 
 -- a spot that was read is the one at its place
@@ -110,28 +108,28 @@ group_here spots order end at groups group h lt is =
     let here = subst (AreGroups spots order end) (drop_more groups at group lt) (groups_drop spots order end at groups h) in
     subst (λ (g : Group). IsGroupOf spots order end g (drop (at + 1) groups)) (sym is) here.0
 
--- no spot before the run of the group at a place holds a query
-pub record IsPassed (spots : List Spot) (order : List ℕ) (groups : List Group) (query : Query) (at : ℕ) : Type 0 where
+-- no spot before the run of the group at a place has a property
+pub record IsPassed (spots : List Spot) (order : List ℕ) (groups : List Group) (P : Spot → Type 0) (at : ℕ) : Type 0 where
   pub within : at ≤ length groups
-  pub none : (p : ℕ) → p < begin_of (drop at groups) (length order) → Holds query (spot_at spots order p) → ⊥
+  pub none : (p : ℕ) → p < begin_of (drop at groups) (length order) → P (spot_at spots order p) → ⊥
 
-pub passed_none : (spots : List Spot) (order : List ℕ) (groups : List Group) (query : Query) → IsTreeOf spots order groups → IsPassed spots order groups query 0
-passed_none spots order groups query t = record { within = omega arith; none = λ p lt _. absurd (omega (arith, t.first, lt)) }
+pub passed_none : (spots : List Spot) (order : List ℕ) (groups : List Group) (P : Spot → Type 0) → IsTreeOf spots order groups → IsPassed spots order groups P 0
+passed_none spots order groups P t = record { within = omega arith; none = λ p lt _. absurd (omega (arith, t.first, lt)) }
 
--- no spot of the run of a group holds a query
-abbrev pub IsBarren : List Spot → List ℕ → Group → Query → Type 0
-IsBarren spots order group query = (p : ℕ) → group.start ≤ p → p < group.start + group.count → Holds query (spot_at spots order p) → ⊥
+-- no spot of the run of a group has it
+abbrev pub IsBarren : List Spot → List ℕ → Group → (Spot → Type 0) → Type 0
+IsBarren spots order group P = (p : ℕ) → group.start ≤ p → p < group.start + group.count → P (spot_at spots order p) → ⊥
 
-pub barren_bounds : (spots : List Spot) (order : List ℕ) (end : ℕ) (group : Group) (rest : List Group) (query : Query) → IsGroupOf spots order end group rest → ((s : Spot) → IsBounded group s → Holds query s → ⊥) → IsBarren spots order group query
-barren_bounds spots order end group rest query g none = λ p low high holds. none (spot_at spots order p) (g.within p low high) holds
+pub barren_bounds : (spots : List Spot) (order : List ℕ) (end : ℕ) (group : Group) (rest : List Group) (P : Spot → Type 0) → IsGroupOf spots order end group rest → ((s : Spot) → IsBounded group s → P s → ⊥) → IsBarren spots order group P
+barren_bounds spots order end group rest P g none = λ p low high holds. none (spot_at spots order p) (g.within p low high) holds
 
 begin_here : (groups : List Group) (at end : ℕ) (group : Group) → at < length groups → group ≡ get_or groups at group → begin_of (drop at groups) end ≡ group.start
 begin_here groups at end group lt is = ap (λ (gs : List Group). begin_of gs end) (drop_more groups at group lt) ∙ ap (λ (g : Group). g.start) (sym is)
 
 -- past a group none of whose spots holds it
-pub passed_group : (spots : List Spot) (order : List ℕ) (groups : List Group) (query : Query) (at : ℕ) (group : Group) → IsTreeOf spots order groups → at < length groups → group ≡ get_or groups at group
-    → IsBarren spots order group query → IsPassed spots order groups query at → IsPassed spots order groups query (at + 1 + group.inside)
-passed_group spots order groups query at group t lt is barren h =
+pub passed_group : (spots : List Spot) (order : List ℕ) (groups : List Group) (P : Spot → Type 0) (at : ℕ) (group : Group) → IsTreeOf spots order groups → at < length groups → group ≡ get_or groups at group
+    → IsBarren spots order group P → IsPassed spots order groups P at → IsPassed spots order groups P (at + 1 + group.inside)
+passed_group spots order groups P at group t lt is barren h =
     let g = group_here spots order (length order) at groups group t.groups_of lt is in
     let left : length (drop (at + 1) groups) + (at + 1) ≡ length groups = omega (arith, length-drop (at + 1) groups) in
     let begins = begin_here groups at (length order) group lt is in
@@ -146,20 +144,21 @@ passed_group spots order groups query at group t lt is barren h =
     }
 
 -- into a group with others inside
-pub passed_into : (spots : List Spot) (order : List ℕ) (groups : List Group) (query : Query) (at : ℕ) (group : Group) → IsTreeOf spots order groups → at < length groups → group ≡ get_or groups at group
-    → 0 < group.inside → IsPassed spots order groups query at → IsPassed spots order groups query (at + 1)
-passed_into spots order groups query at group t lt is some h =
+pub passed_into : (spots : List Spot) (order : List ℕ) (groups : List Group) (P : Spot → Type 0) (at : ℕ) (group : Group) → IsTreeOf spots order groups → at < length groups → group ≡ get_or groups at group
+    → 0 < group.inside → IsPassed spots order groups P at → IsPassed spots order groups P (at + 1)
+passed_into spots order groups P at group t lt is some h =
     let g = group_here spots order (length order) at groups group t.groups_of lt is in
     let same : begin_of (drop (at + 1) groups) (length order) ≡ begin_of (drop at groups) (length order) = g.opens some ∙ sym (begin_here groups at (length order) group lt is) in
     record { within = omega arith; none = λ p low holds. h.none p (omega (arith, low, same)) holds }
 
 -- past all groups
-pub passed_all : (spots : List Spot) (order : List ℕ) (groups : List Group) (query : Query) (at : ℕ) → IsTreeOf spots order groups → length groups ≤ at → IsPassed spots order groups query at → (k : ℕ) → HoldsAt spots query k → ⊥
-passed_all spots order groups query at t ge h k held =
-    let among = slice_get_within spots k held.spot held.there in
+pub passed_all : (spots : List Spot) (order : List ℕ) (groups : List Group) (P : Spot → Type 0) (at : ℕ) → IsTreeOf spots order groups → length groups ≤ at → IsPassed spots order groups P at
+    → (k : ℕ) (s : Spot) → slice_get spots k ≡ Some s → P s → ⊥
+passed_all spots order groups P at t ge h k s is holds =
+    let among = slice_get_within spots k s is in
     let listed = t.order_of.each k among in
     let place = listed.0 in
     let there : get_or order place 0 ≡ k = get_or_default order place 0 k listed.1 ∙ listed.2 in
-    let spot : spot_at spots order place ≡ held.spot = ap (λ (n : ℕ). get_or spots n no_spot) there ∙ get_or_from_slice_get spots k held.spot no_spot held.there in
+    let spot : spot_at spots order place ≡ s = ap (λ (n : ℕ). get_or spots n no_spot) there ∙ get_or_from_slice_get spots k s no_spot is in
     let end : begin_of (drop at groups) (length order) ≡ length order = ap (λ (gs : List Group). begin_of gs (length order)) (drop_all at groups ge) in
-    h.none place (omega (arith, listed.1, end)) (subst (Holds query) (sym spot) held.holds)
+    h.none place (omega (arith, listed.1, end)) (subst P (sym spot) holds)

@@ -9,7 +9,7 @@ use Rattle.crossings.proofs.Facing.{near_faces, overlap_near}
 use Rattle.crossings.proofs.Leasts.{least_alike}
 use Rattle.crossings.proofs.Meetings.{meets_overlap}
 use Rattle.crossings.proofs.NearBoxes.{near_alike}
-use Rattle.crossings.proofs.standings.least_unburied.Goals as goal
+use Rattle.crossings.proofs.unburied.least_unburied.Goals as goal
 
 pub least_among-requires-clause-facing : goal.least_among-requires-clause-facing
 least_among-requires-clause-facing c =

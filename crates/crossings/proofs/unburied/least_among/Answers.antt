@@ -2,8 +2,8 @@ use Rattle.std.proofs.Common.{◌≡◌, ℕ, ◌+◌, get_or, Option, true, fal
 use Rattle.crossings.specs.Pairs.{Least, Meets, IsBelow}
 use Rattle.crossings.proofs.Counts.{FirstWith}
 use Rattle.crossings.proofs.Leasts.{least_kept, least_stays, least_falls, least_all}
-use Rattle.crossings.proofs.standings.least_among.Goals.{then-is_below+in_ok-meets+then-branch, else-is_below, else-is_below-via-then-is_below+in_ok-meets+else-branch, else-is_below-via-else-is_below}
-use Rattle.crossings.proofs.standings.least_among.Goals as goal
+use Rattle.crossings.proofs.unburied.least_among.Goals.{then-is_below+in_ok-meets+then-branch, else-is_below, else-is_below-via-then-is_below+in_ok-meets+else-branch, else-is_below-via-else-is_below}
+use Rattle.crossings.proofs.unburied.least_among.Goals as goal
 
 pub loop-other-preserved : goal.loop-other-preserved
 loop-other-preserved c =
