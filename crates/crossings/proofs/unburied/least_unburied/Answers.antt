@@ -1,10 +1,9 @@
 use Rattle.std.proofs.Common.{ℕ, pos, get_or, sym, ap, ◌∙◌, subst, Contains}
 use Rattle.std.proofs.lemmas.List.{get_or_read, get_or_default}
-use Rattle.std.proofs.lemmas.Result.{IfOk-weaker}
 use Rattle.lam_geom.specs.declared.boxes.MaskBox.{MaskBox}
 use Rattle.box_index.specs.Near.{AreNear}
 use Rattle.crossings.specs.Boxes.{no_box}
-use Rattle.crossings.specs.Pairs.{facing_of, Least, Meets}
+use Rattle.crossings.specs.Pairs.{facing_of, Meets}
 use Rattle.crossings.proofs.Facing.{near_faces, overlap_near}
 use Rattle.crossings.proofs.Leasts.{least_alike}
 use Rattle.crossings.proofs.Meetings.{meets_overlap}
@@ -36,6 +35,4 @@ returns c =
     let facing = ap (λ (b : MaskBox). facing_of b.layer) (sym own_is) ∙ sym c.in-Some.ensures in
     let P : ℕ → Type 0 = Meets tech boxes number in
     let Q : ℕ → Type 0 = λ k. Contains shown k × Meets tech boxes number k in
-    IfOk-weaker c.least_among.result (Least Q) (Least P)
-    (λ w. least_alike Q P w (λ k m. m.1) (λ k m. (overlap_near boxes layer number shown facing near_own k (meets_overlap tech boxes number k m), m)))
-    c.least_among.ensures
+    least_alike Q P c.least_among.result (λ k m. m.1) (λ k m. (overlap_near boxes layer number shown facing near_own k (meets_overlap tech boxes number k m), m)) c.least_among.ensures
