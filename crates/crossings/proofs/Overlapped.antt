@@ -1,5 +1,5 @@
 -- How many boxes a box overlaps, by one after another.
-use Rattle.std.proofs.Common.{◌≡◌, ◌≢◌, ℕ, ℤ, pos, negsuc, ◌≤ℤ◌, ◌<ℤ◌, inl, inr, Some, List, length, slice_get, refl, sym, ◌∙◌, arith}
+use Rattle.std.proofs.Common.{◌≡◌, ◌≢◌, ℕ, negsuc, ◌≤ℤ◌, inl, inr, List, sym, arith}
 use Rattle.std.proofs.lemmas.Bool.{cases_eq}
 use Rattle.std.proofs.lemmas.Int.{ints}
 use Rattle.lam_geom.specs.declared.boxes.BoxXY.{BoxXY}
@@ -9,8 +9,7 @@ use Rattle.box_tree.specs.declared.query.Question.TheVariants.{NearOfOther}
 use Rattle.box_tree.specs.declared.spots.Spot.{Spot}
 use Rattle.box_tree.specs.Queries.{HoldsAt}
 use Rattle.crossings.specs.Boxes.{area_at}
-use Rattle.crossings.specs.declared.partners.Partners.TheVariants.{One}
-use Rattle.crossings.specs.Pairs.{AreTwo, DoOverlap, HowMany}
+use Rattle.crossings.specs.Pairs.{AreTwo, DoOverlap}
 use Rattle.crossings.specs.Spots.{AreSpotsFacing, box_spot}
 use Rattle.crossings.proofs.Facing.{area_overlap}
 use Rattle.crossings.proofs.Meetings.{not_both}

@@ -1,6 +1,5 @@
 -- The spots of a tree, by the boxes that they are of.
-use Rattle.std.proofs.Common.{◌≡◌, ◌↔◌, ℕ, ◌^◌, ◌≤◌, ℤ, Some, Bool, IsTrue, List, length, get_or, slice_get, All, refl, sym, ap, ◌∙◌, subst, arith}
-use Rattle.std.proofs.lemmas.List.Elements.{All-get_or}
+use Rattle.std.proofs.Common.{◌≡◌, ◌↔◌, ℕ, ◌^◌, ◌≤◌, ℤ, Some, Bool, IsTrue, List, length, slice_get, All, sym, ap, ◌∙◌, subst, arith}
 use Rattle.std.proofs.lemmas.Option.{get_or_from_slice_get, slice_get_within, slice_get-get_or}
 use Rattle.lam_geom.specs.declared.boxes.BoxXY.{BoxXY}
 use Rattle.lam_geom.specs.declared.boxes.MaskBox.{MaskBox}
@@ -14,7 +13,7 @@ use Rattle.box_tree.specs.Tree.{no_spot}
 use Rattle.crossings.specs.Boxes.{AreSearchable, IsOn, area_at, box_at, layer_at, no_box}
 use Rattle.crossings.specs.Pairs.{AreFacing, DoOverlap, IsCovered}
 use Rattle.crossings.specs.Spots.{AreBoxesOn, AreSpotsFacing, box_spot}
-use Rattle.crossings.proofs.Facing.{area_overlap, overlap_by_area, overlap_faces}
+use Rattle.crossings.proofs.Facing.{overlap_by_area, overlap_faces}
 
 -- a spot that is of a box on a layer
 pub record IsSpotOf (boxes : List MaskBox) (layer : MaskLayer) (s : Spot) : Type 0 where
@@ -66,11 +65,14 @@ covered_by_spot boxes layer spots area margin held r same h on = (
         covers = subst (λ (m : ℤ). Encloses (area_at boxes of.number) area m) same (subst (λ (s : Spot). Encloses s.area area held) of.is covers);
       },
   λ w. let there = spot_there boxes layer spots w.cover on w.is_on in
-      h.1 (there.0, record {
-        spot = box_spot boxes w.cover;
-        there = there.1;
-        holds = subst (λ (m : ℤ). Encloses (area_at boxes w.cover) area m) (sym same) w.covers;
-      }),
+      h.1 (
+        there.0,
+        record {
+          spot = box_spot boxes w.cover;
+          there = there.1;
+          holds = subst (λ (m : ℤ). Encloses (area_at boxes w.cover) area m) (sym same) w.covers;
+        },
+      ),
 )
 
 -- ---- boxes of the other's layer

@@ -23,11 +23,7 @@ pub struct Trees {
 
 /// The boxes on a layer as spots, in order of their numbers, which are their owners; their tags are 0. The only refusal is
 /// want of memory.
-pub fn spots_on(
-    alloc: Global,
-    boxes: &[MaskBox],
-    layer: MaskLayer,
-) -> Result<Vec<Spot>, AllocError>
+pub fn spots_on(alloc: Global, boxes: &[MaskBox], layer: MaskLayer) -> Result<Vec<Spot>, AllocError>
     requires { AreSearchable boxes.now }
     ensures { IfOk result (λ spots. AreBoxesOn boxes.now layer spots.items) }
 {
@@ -47,11 +43,7 @@ pub fn spots_on(
 }
 
 /// A tree of the boxes on a layer. The only refusal is want of memory.
-pub fn tree_on(
-    alloc: Global,
-    boxes: &[MaskBox],
-    layer: MaskLayer,
-) -> Result<BoxTree, AllocError>
+pub fn tree_on(alloc: Global, boxes: &[MaskBox], layer: MaskLayer) -> Result<BoxTree, AllocError>
     requires { AreSearchable boxes.now }
     ensures { IfOk result (AreBoxesOn boxes.now layer) }
 {

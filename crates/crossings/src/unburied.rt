@@ -34,13 +34,7 @@ pub fn meets_some(tech: &Tech, boxes: &[MaskBox], trees: &Trees, number: u32) ->
 }
 
 // The same by trees of the windows and of the boxes of the other's layer.
-fn meets_in(
-    tech: &Tech,
-    boxes: &[MaskBox],
-    windows: &BoxTree,
-    tree: &BoxTree,
-    number: u32,
-) -> bool
+fn meets_in(tech: &Tech, boxes: &[MaskBox], windows: &BoxTree, tree: &BoxTree, number: u32) -> bool
     requires searchable { AreSearchable boxes.now }
     requires windows { AreBoxesOn boxes.now NB windows.now }
     requires tree { AreSpotsFacing boxes.now number tree.now }

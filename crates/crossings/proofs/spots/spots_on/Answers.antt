@@ -1,9 +1,8 @@
 use denote.Enum.Bare.{same_false, same_true}
-use Rattle.std.proofs.Common.{◌≡◌, ℕ, ◌+◌, List, Vec, Global, length, sym, ap, ◌∙◌, subst, arith, rules}
+use Rattle.std.proofs.Common.{◌≡◌, ℕ, ◌+◌, Vec, Global, length, sym, ap, ◌∙◌, subst, arith, rules}
 use Rattle.std.proofs.lemmas.List.{get_or_read}
 use Rattle.lam_geom.specs.contracts.boxes.MaskLayer.{the_type}
 use Rattle.lam_geom.specs.declared.boxes.MaskBox.{MaskBox}
-use Rattle.lam_geom.specs.declared.boxes.MaskLayer.{MaskLayer}
 use Rattle.box_tree.specs.declared.spots.Spot.{Spot}
 use Rattle.crossings.specs.Boxes.{IsOn, no_box}
 use Rattle.crossings.specs.Spots.{AreSpotsBelow, box_spot}

@@ -16,8 +16,8 @@ returns-then-not-overlaps c = λ _ k inside met.
     let outer = c.args.outer.now in
     let own_is = get_or_default boxes number c.index-boxes-number.result no_box c.requires.among in
     let apart = λ (over : Overlaps (area_at boxes number) outer).
-        let t : false ≡ true = c.if-not-overlaps.ensures.1 (subst (λ (b : MaskBox). Overlaps b.area outer) (sym own_is) over) in
-        let none : ⊥ = cc in none in
+    let t : false ≡ true = c.if-not-overlaps.ensures.1 (subst (λ (b : MaskBox). Overlaps b.area outer) (sym own_is) over) in
+    let none : ⊥ = cc in none in
     apart_meets_none c.args.tech.now boxes number k outer apart inside met
 
 pub is_covered-requires-clause-margin : goal.is_covered-requires-clause-margin
