@@ -6,9 +6,7 @@ use Rattle.lam_geom.specs.declared.boxes.MaskLayer.TheVariants.{ND, NP, NC, NM, 
 use Rattle.lam_geom.specs.Gaps.{Overlaps}
 use Rattle.box_index.specs.Near.{AreNear}
 use Rattle.crossings.specs.Boxes.{area_at, layer_at}
-use Rattle.crossings.specs.Pairs.{facing_of, AreFacing, DoOverlap, HowMany}
-use Rattle.crossings.specs.declared.partners.Partners.{Partners}
-use Rattle.crossings.proofs.Counts.{how_many_alike}
+use Rattle.crossings.specs.Pairs.{facing_of, AreFacing, DoOverlap}
 use Rattle.crossings.proofs.NearBoxes.{near_is_on, near_by_gap, overlap_is_near, overlap_turned}
 
 facing_cases : (l m : MaskLayer) → facing_of l ≡ Some m → ((l ≡ NP) × (m ≡ ND)) ⊎ ((l ≡ ND) × (m ≡ NP))
@@ -57,13 +55,6 @@ overlap_near boxes layer a found facing near k h =
     let on : layer_at boxes k ≡ layer = cc in
     near.complete k (near_by_gap boxes layer (area_at boxes a) (pos 0) k (record { among = faces.b_among; on = on })
     (overlap_is_near (area_at boxes a) (area_at boxes k) (area_overlap boxes a k h)))
-
-pub partners_near : (boxes : List MaskBox) (layer : MaskLayer) (a : ℕ) (found : List ℕ) (w : Partners) → a < length boxes → facing_of (layer_at boxes a) ≡ Some layer
-    → AreNear boxes layer (area_at boxes a) (pos 0) found → HowMany (λ k. Contains found k × Overlaps (area_at boxes a) (area_at boxes k)) w → HowMany (DoOverlap boxes a) w
-partners_near boxes layer a found w among facing near h =
-    how_many_alike (λ k. Contains found k × Overlaps (area_at boxes a) (area_at boxes k)) (DoOverlap boxes a) w
-    (λ k m. overlap_by_area boxes a k (near_faces boxes layer a found among facing near k m.0) m.1)
-    (λ k m. (overlap_near boxes layer a found facing near k m, area_overlap boxes a k m)) h
 
 -- a box of another layer overlaps none
 pub none_faces : (boxes : List MaskBox) (a : ℕ) → facing_of (layer_at boxes a) ≡ None → (k : ℕ) → DoOverlap boxes a k → ⊥

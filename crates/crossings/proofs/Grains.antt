@@ -1,9 +1,11 @@
 -- A length of the technology in grains is a product of two small numbers.
-use Rattle.std.proofs.Common.{◌≡◌, ◌*◌, ◌^◌, ◌≤◌, ℤ, pos, negsuc, ◌≤ℤ◌, ◌*ℤ◌, ap, ◌∙◌, of_z, to_z, w64, arith}
+use Rattle.std.proofs.Common.{◌≡◌, ◌*◌, ◌^◌, ◌≤◌, ℤ, pos, negsuc, ◌≤ℤ◌, ◌*ℤ◌, sym, ap, ◌∙◌, subst, of_z, to_z, w64, arith}
 use Rattle.std.proofs.Math.Nat.{mul-le-mul}
 use Rattle.std.proofs.lemmas.Int.{ints, to_z-of_z}
 use Rattle.rule_table.specs.Bounds.{IsLength}
 use Rattle.rule_table.specs.declared.technology.Tech.{Tech}
+use Rattle.box_tree.specs.Queries.{IsMargin}
+use Rattle.box_tree.proofs.Within.{margin_held}
 use Rattle.crossings.specs.Boxes.{grains}
 use mir.Val.{SFits}
 
@@ -38,3 +40,10 @@ grains_held tech n m r h same low high is =
     let first : SFits w64 n = omega (arith, ints, h) in
     let second : SFits w64 r = omega (arith, ints) in
     to_z-of_z w64 r second ∙ (is ∙ ap (grains tech) (to_z-of_z w64 n first ∙ same))
+
+-- a margin that is passed on is one
+pub margin_passed : (margin : ℤ) → IsMargin margin → IsMargin (held margin)
+margin_passed margin h = subst IsMargin (sym (margin_held margin h)) h
+
+pub margin_of_grains : (r : ℤ) → pos 0 ≤ℤ r → r ≤ℤ pos (2 ^ 25) → IsMargin r
+margin_of_grains r low high = (low, omega (arith, ints, high))

@@ -6,7 +6,7 @@ use Rattle.std.proofs.lemmas.List.Elements.{All-push, All-weaker, All-map, All-g
 use Rattle.lam_geom.specs.declared.boxes.MaskBox.{MaskBox}
 use Rattle.rule_table.specs.declared.technology.Tech.{Tech}
 use Rattle.crossings.specs.declared.crossing.Crossing.{Crossing}
-use Rattle.crossings.specs.declared.standings.Pair.{Pair}
+use Rattle.crossings.specs.declared.pairs.Pair.{Pair}
 use Rattle.crossings.specs.Crossings.{IsIncreasing, IsMeeting, IsCrossing, AreCrossings}
 use Rattle.crossings.specs.Pairs.{AreCrossingsBelow, AddsCrossing}
 

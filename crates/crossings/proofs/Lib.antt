@@ -4,9 +4,15 @@ mod Covered
 mod Facing
 mod Firsts
 mod Grains
+mod Improper
 mod InOrder
 mod Leasts
 mod Meetings
 mod NearBoxes
+mod Overlapped
 mod Settled
+mod Settling
 mod SpansPast
+pub mod SpotBoxes
+pub mod SpotLists
+mod Walks

@@ -45,8 +45,3 @@ near_among boxes layer area reach found h = λ i d lt.
 pub near_alike : (index boxes : List MaskBox) (layer : MaskLayer) (area : BoxXY) (reach : ℤ) (found shown : List ℕ) → index ≡ boxes → shown ≡ found → AreNear index layer area reach found → AreNear boxes layer area reach shown
 near_alike index boxes layer area reach found shown p q h =
     subst (λ (ks : List ℕ). AreNear boxes layer area reach ks) (sym q) (subst (λ (bs : List MaskBox). AreNear bs layer area reach found) p h)
-
--- the gap of a box that is near
-pub near_gap : (boxes : List MaskBox) (layer : MaskLayer) (area : BoxXY) (reach : ℤ) (k : ℕ) → IsNear boxes layer area reach k → gap_of_boxes area (area_at boxes k) ≤ℤ reach
-near_gap boxes layer area reach k h =
-    subst (λ (b : MaskBox). gap_of_boxes area b.area ≤ℤ reach) (sym (get_or_from_slice_get boxes k h.box no_box h.there)) h.near

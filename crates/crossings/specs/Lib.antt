@@ -1,3 +1,4 @@
 pub mod Boxes
 pub mod Crossings
 pub mod Pairs
+pub mod Spots

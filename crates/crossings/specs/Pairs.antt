@@ -1,5 +1,5 @@
 -- What the search says of boxes, one after another.
-use Rattle.std.specs.Prelude.{◌≡◌, ℕ, ◌<◌, ◌≤◌, ◌⊎◌, ℤ, All, Contains, Option, Some, None, List, [], ◌∷◌, ◌++◌, length}
+use Rattle.std.specs.Prelude.{◌≡◌, ℕ, ◌<◌, ◌≤◌, ◌⊎◌, ℤ, All, Contains, IsTrue, Option, Some, None, List, [], ◌∷◌, ◌++◌, length}
 use Rattle.lam_geom.specs.declared.boxes.Axis.{Axis}
 use Rattle.lam_geom.specs.declared.boxes.BoxXY.{BoxXY}
 use Rattle.lam_geom.specs.declared.boxes.MaskBox.{MaskBox}
@@ -7,13 +7,14 @@ use Rattle.lam_geom.specs.declared.boxes.MaskLayer.{MaskLayer}
 use Rattle.lam_geom.specs.declared.boxes.MaskLayer.TheVariants.{ND, NP, NC, NM, NI, NB}
 use Rattle.lam_geom.specs.Gaps.{Encloses}
 use Rattle.rule_table.specs.declared.technology.Tech.{Tech}
+use Rattle.rule_table.specs.Technology.{has_buried_of}
 use Rattle.crossings.specs.declared.crossing.Crossing.{Crossing}
+use Rattle.crossings.specs.declared.pairs.Pair.{Pair}
 use Rattle.crossings.specs.declared.partners.Partners.{Partners}
 use Rattle.crossings.specs.declared.partners.Partners.TheVariants.{Nothing, One, Several}
-use Rattle.crossings.specs.declared.standings.Pair.{Pair}
 use Rattle.crossings.specs.declared.standings.Standing.{Standing}
 use Rattle.crossings.specs.declared.standings.Standing.TheVariants.{Clear, Crosses, Bad}
-use Rattle.crossings.specs.Boxes.{area_at, layer_at, IsOn}
+use Rattle.crossings.specs.Boxes.{area_at, layer_at, IsOn, IsCommon}
 use Rattle.crossings.specs.Crossings.{IsOverlap, IsMeeting, CrossAlong, CrossProperly, IsImproper, IsCrossing, AreInOrder}
 
 -- a box of a layer goes past an area by a margin on all sides
@@ -21,6 +22,12 @@ pub record IsCovered (boxes : List MaskBox) (layer : MaskLayer) (area : BoxXY) (
   pub cover : ℕ
   pub is_on : IsOn boxes layer cover
   pub covers : Encloses (area_at boxes cover) area margin
+
+-- what poly and diffusion have in common, where a window that goes past it makes them a buried pair
+pub record IsShared (tech : Tech) (boxes : List MaskBox) (p d : ℕ) (shared : BoxXY) : Type 0 where
+  pub has_buried : IsTrue (has_buried_of tech)
+  pub overlap : IsOverlap boxes p d
+  pub common : IsCommon (area_at boxes p) (area_at boxes d) shared
 
 -- ---- poly and diffusion, in either order
 

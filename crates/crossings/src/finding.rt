@@ -3,19 +3,23 @@ ghost use Rattle.std.specs.Prelude.{◌≡◌, OnOk, IfOk, IfErr};
 ghost use Rattle.crossings.specs.Boxes.{AreSearchable, area_at};
 ghost use Rattle.crossings.specs.Crossings.{AreProper, AreCrossings, CrossAlong, IsMeeting, IsCauseOf};
 ghost use Rattle.crossings.specs.Pairs.{AddsCrossing};
+ghost use Rattle.crossings.specs.Spots.{AreBoxesOn};
+ghost use Rattle.lam_geom.specs.declared.boxes.MaskLayer.TheVariants.{NI};
 
 use crate::crossing::{Crossing, CrossingFault};
 use crate::pair_tests::{common_box, in_grains};
-use crate::standings::{Buffers, Pair, Standing, standing_of};
-use crate::windows::is_covered;
+use crate::pairs::Pair;
+use crate::spots::{is_covered, trees_of};
+use crate::standings::{Standing, standing_of};
 use box_index::BoxIndex;
-use lam_geom::{Axis, MaskBox, MaskLayer};
+use box_tree::BoxTree;
+use lam_geom::{Axis, MaskBox};
 use rule_table::Tech;
 use std::alloc::{AllocError, Global};
 
 /// All crossings of some boxes, in order of their diffusion, or the first pair that does not cross properly. `index` is
-/// one of these boxes. It is asked once for each box of poly and of diffusion, again for each that overlaps the other's
-/// layer, and, where the technology has buried contacts, for each overlap from both sides.
+/// one of these boxes, and is asked once at most, where such a pair has been found. Trees of poly, diffusion, windows and
+/// implants are made, of some 70 bytes a box, and let go again: each box asks them a few times, whether one or many lie on it.
 pub fn crossings(
     alloc: Global,
     tech: &Tech,
@@ -29,16 +33,13 @@ pub fn crossings(
     ensures fault { IfErr result (IsCauseOf tech.now boxes.now) }
 {
     let mut crossings = Vec::new(alloc);
-    let mut buffers = Buffers {
-        near: Vec::new(alloc),
-        windows: Vec::new(alloc),
-    };
+    let trees = trees_of(alloc, boxes)?;
     for number in 0..boxes.len() as u32 {
-        match standing_of(tech, boxes, index, number, &mut buffers)? {
+        match standing_of(alloc, tech, boxes, index, &trees, number)? {
             Standing::Bad(other) => return Err(CrossingFault::NotProper(number, other)),
             Standing::Crosses(pair, axis) => {
                 if pair.diffusion == number {
-                    add_crossing(tech, boxes, index, pair, axis, &mut buffers, &mut crossings)?;
+                    add_crossing(tech, boxes, &trees.implants, pair, axis, &mut crossings)?;
                 }
             }
             Standing::Clear => {}
@@ -51,14 +52,13 @@ pub fn crossings(
 fn add_crossing(
     tech: &Tech,
     boxes: &[MaskBox],
-    index: &BoxIndex,
+    implants: &BoxTree,
     pair: Pair,
     axis: Axis,
-    buffers: &mut Buffers,
     crossings: &mut Vec<Crossing>,
 ) -> Result<(), AllocError>
     requires searchable { AreSearchable boxes.now }
-    requires indexed { index.now ≡ boxes.now }
+    requires implants { AreBoxesOn boxes.now NI implants.now }
     requires meeting { IsMeeting tech.now boxes.now pair.poly pair.diffusion }
     requires along { CrossAlong tech.now axis (area_at boxes.now pair.poly) (area_at boxes.now pair.diffusion) }
     ensures { OnOk result (AddsCrossing tech.now boxes.now pair crossings.old.items crossings.new.items) }
@@ -67,14 +67,7 @@ fn add_crossing(
     let diffusion = &boxes[pair.diffusion as usize].area;
     let channel = common_box(poly, diffusion);
     let margin = in_grains(tech, tech.numbers().extension_implant);
-    let depletion = is_covered(
-        boxes,
-        index,
-        MaskLayer::NI,
-        &channel,
-        margin,
-        &mut buffers.near,
-    )?;
+    let depletion = is_covered(implants, &channel, margin);
     crossings.push(Crossing {
         poly: pair.poly,
         diffusion: pair.diffusion,

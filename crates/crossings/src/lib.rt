@@ -8,10 +8,14 @@
 mod crossing;
 mod finding;
 mod pair_tests;
+mod pairs;
 mod partners;
+mod spots;
 mod standings;
+mod unburied;
 mod windows;
 
 pub use crossing::{Crossing, CrossingFault};
 pub use finding::crossings;
-pub use windows::is_buried_pair;
+pub use spots::{is_covered, spots_on, tree_on};
+pub use windows::{is_buried, is_buried_pair};

@@ -1,14 +1,12 @@
 //! What a box of poly or diffusion overlaps on the other's layer.
-ghost use Rattle.std.specs.Prelude.{◌≡◌, ℕ, ◌<◌, All, Contains, IfOk, length};
-ghost use Rattle.lam_geom.specs.Gaps.{Overlaps};
-ghost use Rattle.lam_geom.specs.Places.{IsPlacedBox};
-ghost use Rattle.box_index.specs.Near.{AreDistinct};
-ghost use Rattle.crossings.specs.Boxes.{AreSearchable, area_at};
+ghost use Rattle.std.specs.Prelude.{◌≡◌, ◌≢◌, ℕ, ◌<◌, MatchOption, length};
+ghost use Rattle.crossings.specs.Boxes.{AreSearchable};
 ghost use Rattle.crossings.specs.Pairs.{facing_of, DoOverlap, HowMany};
+ghost use Rattle.crossings.specs.Spots.{AreSpotsFacing, AreTreesOf};
 
-use box_index::BoxIndex;
-use lam_geom::{BoxXY, MaskBox, MaskLayer, overlaps};
-use std::alloc::AllocError;
+use crate::spots::{Trees, facing_tree};
+use box_tree::{BoxTree, Query, Question};
+use lam_geom::{MaskBox, MaskLayer};
 
 /// How many boxes have something in common with a box, and which one where it is the only one.
 #[derive(Clone, Copy, Debug, PartialEq, Eq)]
@@ -29,42 +27,42 @@ pub fn facing(layer: MaskLayer) -> Option<MaskLayer>
     }
 }
 
-/// Which boxes of poly a box of diffusion overlaps, or the other way round; nothing for a box of another layer. `found` is a buffer.
-pub fn partners_of(
-    boxes: &[MaskBox],
-    index: &BoxIndex,
-    number: u32,
-    found: &mut Vec<u32>,
-) -> Result<Partners, AllocError>
+/// Which boxes of poly a box of diffusion overlaps, or the other way round; nothing for a box of another layer.
+pub fn partners_of(boxes: &[MaskBox], trees: &Trees, number: u32) -> Partners
     requires searchable { AreSearchable boxes.now }
-    requires indexed { index.now ≡ boxes.now }
+    requires trees { AreTreesOf boxes.now trees.now }
     requires among { number < length boxes.now }
-    ensures { IfOk result (HowMany (DoOverlap boxes.now number)) }
+    ensures { HowMany (DoOverlap boxes.now number) result }
 {
-    let own = boxes[number as usize];
-    let Some(layer) = facing(own.layer) else {
-        return Ok(Partners::Nothing);
+    let Some(tree) = facing_tree(boxes, trees, number) else {
+        return Partners::Nothing;
     };
-    index.near(layer, &own.area, 0, found)?;
-    Ok(partners_among(boxes, &own.area, found))
+    let Some(first) = overlapped(boxes, tree, number, number) else {
+        return Partners::Nothing;
+    };
+    match overlapped(boxes, tree, number, first) {
+        Some(_) => Partners::Several,
+        None => Partners::One(first),
+    }
 }
 
-// Which boxes, out of those with some numbers, overlap an area.
-fn partners_among(boxes: &[MaskBox], area: &BoxXY, numbers: &[u32]) -> Partners
+// The number of some box that a box overlaps, out of those of a tree of the other's layer, and that is not `known`.
+fn overlapped(boxes: &[MaskBox], tree: &BoxTree, number: u32, known: u32) -> Option<u32>
     requires searchable { AreSearchable boxes.now }
-    requires area { IsPlacedBox area.now }
-    requires numbers { All (λ k. k < length boxes.now) numbers.now }
-    requires distinct { AreDistinct numbers.now }
-    ensures { HowMany (λ k. Contains numbers.now k × Overlaps area.now (area_at boxes.now k)) result }
+    requires tree { AreSpotsFacing boxes.now number tree.now }
+    ensures { MatchOption result
+        ((k : ℕ) → DoOverlap boxes.now number k → k ≡ known)
+        (λ k. DoOverlap boxes.now number k × (k ≢ known)) }
 {
-    let mut partners = Partners::Nothing;
-    for number in numbers {
-        if overlaps(area, &boxes[*number as usize].area) {
-            match partners {
-                Partners::Nothing => partners = Partners::One(*number),
-                _ => return Partners::Several,
-            }
-        }
+    let query = Query {
+        area: boxes[number as usize].area,
+        question: Question::NearOfOther {
+            reach: -1,
+            owner: known,
+        },
+    };
+    match tree.find(&query) {
+        Some(place) => Some(tree.spots()[place as usize].owner),
+        None => None,
     }
-    partners
 }

@@ -1,13 +1,19 @@
-//! Windows over what poly and diffusion have in common, and other boxes that cover an area.
-ghost use Rattle.std.specs.Prelude.{◌≡◌, ◌↔◌, ℕ, ◌^◌, ◌<◌, pos, ◌≤ℤ◌, All, Contains, IsTrue, IfOk, MatchBool, length};
+//! Windows over what poly and diffusion have in common.
+ghost use Rattle.std.specs.Prelude.{◌≡◌, ◌↔◌, ℕ, ◌^◌, ◌<◌, pos, ◌≤ℤ◌, All, Contains, IsTrue, IfOk, MatchBool, MatchOption, IfSome, length};
+ghost use Rattle.lam_geom.specs.declared.boxes.MaskLayer.TheVariants.{NB};
 ghost use Rattle.lam_geom.specs.Gaps.{Encloses};
 ghost use Rattle.lam_geom.specs.Places.{IsPlacedBox};
-ghost use Rattle.crossings.specs.Boxes.{AreSearchable, area_at};
+ghost use Rattle.rule_table.specs.Technology.{numbers_of};
+ghost use Rattle.box_tree.specs.Queries.{IsMargin};
+ghost use Rattle.crossings.specs.Boxes.{AreSearchable, area_at, grains};
 ghost use Rattle.crossings.specs.Crossings.{IsBuriedPair};
-ghost use Rattle.crossings.specs.Pairs.{IsCovered};
+ghost use Rattle.crossings.specs.Pairs.{IsCovered, IsShared};
+ghost use Rattle.crossings.specs.Spots.{AreBoxesOn};
 
 use crate::pair_tests::{common_box, in_grains};
+use crate::spots::is_covered;
 use box_index::BoxIndex;
+use box_tree::BoxTree;
 use lam_geom::{BoxXY, MaskBox, MaskLayer, contains_by, overlaps};
 use rule_table::Tech;
 use std::alloc::AllocError;
@@ -28,45 +34,68 @@ pub fn is_buried_pair(
     requires diffusion { diffusion < length boxes.now }
     ensures { IfOk result (λ is_buried. IsTrue is_buried ↔ IsBuriedPair tech.now boxes.now poly diffusion) }
 {
+    let Some(shared) = shared_area(tech, boxes, poly, diffusion) else {
+        return Ok(false);
+    };
+    index.near(MaskLayer::NB, &shared, 0, found)?;
+    Ok(any_covers(boxes, found, &shared, window_margin(tech)))
+}
+
+/// Whether poly and diffusion with these numbers are a buried pair, by a tree of the windows. Takes no memory.
+pub fn is_buried(
+    tech: &Tech,
+    boxes: &[MaskBox],
+    windows: &BoxTree,
+    poly: u32,
+    diffusion: u32,
+) -> bool
+    requires searchable { AreSearchable boxes.now }
+    requires windows { AreBoxesOn boxes.now NB windows.now }
+    requires poly { poly < length boxes.now }
+    requires diffusion { diffusion < length boxes.now }
+    ensures { IsTrue result ↔ IsBuriedPair tech.now boxes.now poly diffusion }
+{
+    match shared_area(tech, boxes, poly, diffusion) {
+        Some(shared) => is_covered(windows, &shared, window_margin(tech)),
+        None => false,
+    }
+}
+
+// What poly and diffusion have in common, where a window over it makes them a buried pair.
+fn shared_area(tech: &Tech, boxes: &[MaskBox], poly: u32, diffusion: u32) -> Option<BoxXY>
+    requires searchable { AreSearchable boxes.now }
+    requires poly { poly < length boxes.now }
+    requires diffusion { diffusion < length boxes.now }
+    ensures shared { MatchOption result
+        (IsBuriedPair tech.now boxes.now poly diffusion → ⊥)
+        (IsShared tech.now boxes.now poly diffusion) }
+    ensures placed { IfSome result IsPlacedBox }
+{
     let upper = boxes[poly as usize];
     let lower = boxes[diffusion as usize];
     if !tech.has_buried() || upper.layer != MaskLayer::NP || lower.layer != MaskLayer::ND {
-        return Ok(false);
+        return None;
     }
     if !overlaps(&upper.area, &lower.area) {
-        return Ok(false);
+        return None;
     }
-    let shared = common_box(&upper.area, &lower.area);
-    let margin = in_grains(tech, tech.numbers().extension_buried);
-    is_covered(boxes, index, MaskLayer::NB, &shared, margin, found)
+    Some(common_box(&upper.area, &lower.area))
 }
 
-/// Whether a box of a layer goes past an area by a margin on all sides. `found` is a buffer.
-pub fn is_covered(
-    boxes: &[MaskBox],
-    index: &BoxIndex,
-    layer: MaskLayer,
-    area: &BoxXY,
-    margin: i64,
-    found: &mut Vec<u32>,
-) -> Result<bool, AllocError>
-    requires searchable { AreSearchable boxes.now }
-    requires indexed { index.now ≡ boxes.now }
-    requires area { IsPlacedBox area.now }
-    requires not_negative { pos 0 ≤ℤ margin }
-    requires within { margin ≤ℤ pos (2 ^ 30) }
-    ensures { IfOk result (λ is_covered. IsTrue is_covered ↔ IsCovered boxes.now layer area.now margin) }
+/// How far a window goes past what a buried pair has in common, in grains.
+pub fn window_margin(tech: &Tech) -> i64
+    ensures value { result ≡ grains tech.now (numbers_of tech.now).extension_buried }
+    ensures margin { IsMargin result }
 {
-    index.near(layer, area, 0, found)?;
-    Ok(any_covers(boxes, found, area, margin))
+    in_grains(tech, tech.numbers().extension_buried)
 }
 
+// Whether one of the boxes with some numbers goes past an area by a margin on all sides.
 fn any_covers(boxes: &[MaskBox], numbers: &[u32], area: &BoxXY, margin: i64) -> bool
     requires searchable { AreSearchable boxes.now }
     requires numbers { All (λ k. k < length boxes.now) numbers.now }
     requires area { IsPlacedBox area.now }
-    requires not_negative { pos 0 ≤ℤ margin }
-    requires within { margin ≤ℤ pos (2 ^ 30) }
+    requires margin { IsMargin margin }
     ensures { MatchBool result ((k : ℕ) × Contains numbers.now k × Encloses (area_at boxes.now k) area.now margin) (All (λ k. Encloses (area_at boxes.now k) area.now margin → ⊥) numbers.now) }
 {
     for k in numbers {

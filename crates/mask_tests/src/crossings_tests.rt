@@ -10,7 +10,7 @@ use std::alloc::Global;
 use std::test::Fail;
 
 fn found(alloc: Global, tech: &Tech, rows: &[Row]) -> Result<Vec<Crossing>, CrossingFault>
-    requires { length rows.now ≤ 4 }
+    requires { length rows.now ≤ 8 }
 {
     let boxes = boxes_of(alloc, rows)?;
     let index = BoxIndex::new(alloc, &boxes)?;
@@ -39,6 +39,30 @@ fn poly_beside_diffusion_is_a_buried_pair_under_a_window(rt: HostRuntime) -> Res
         found(rt.alloc(), &new, &[diffusion, poly, narrow]).err(),
         bad
     );
+    Ok(())
+}
+
+#[test]
+fn piles_under_one_window_are_buried_pairs(rt: HostRuntime) -> Result<(), Fail> {
+    let diffusion = Row(MaskLayer::ND, -1200, -1200, 2400, 2400);
+    let poly = Row(MaskLayer::NP, -600, -1200, 2400, 2400);
+    let window = Row(MaskLayer::NB, -1800, -2400, 4200, 4800);
+    let beside = Row(MaskLayer::NP, -600, -1800, 2400, 3000);
+    let new = Tech::shipped2();
+    let buried = [diffusion, poly, diffusion, window, poly, diffusion, poly];
+    assert_eq!(rt; found(rt.alloc(), &new, &buried).err(), None);
+    let one_is_not = [
+        diffusion,
+        poly,
+        diffusion,
+        window,
+        poly,
+        Row(MaskLayer::ND, 600, -1200, 2400, 2400),
+    ];
+    let bad = Some(CrossingFault::NotProper(1, 5));
+    assert_eq!(rt; found(rt.alloc(), &new, &one_is_not).err(), bad);
+    let all_are = [diffusion, beside, poly, diffusion, window];
+    assert_eq!(rt; found(rt.alloc(), &new, &all_are).err(), None);
     Ok(())
 }
 

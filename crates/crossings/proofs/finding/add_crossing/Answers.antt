@@ -1,14 +1,16 @@
-use Rattle.std.proofs.Common.{of_z, to_z, w64, refl, ap, arith}
-use Rattle.std.proofs.lemmas.Int.{ints}
+use Rattle.std.proofs.Common.{of_z, to_z, w64, refl, ap}
 use Rattle.std.proofs.lemmas.List.{get_or_default}
+use Rattle.lam_geom.specs.declared.boxes.MaskLayer.TheVariants.{NI}
 use Rattle.crossings.specs.Boxes.{no_box}
 use Rattle.crossings.proofs.Buried.{common_read}
 use Rattle.crossings.proofs.Covered.{implanted_by_cover}
-use Rattle.crossings.proofs.Grains.{grains_held}
+use Rattle.crossings.proofs.Grains.{grains_held, margin_of_grains, margin_passed}
 use Rattle.crossings.proofs.finding.add_crossing.Goals as goal
 
-pub is_covered-requires-clause-within : goal.is_covered-requires-clause-within
-is_covered-requires-clause-within c = omega (arith, ints)
+pub is_covered-depletion-requires-clause-margin : goal.is_covered-depletion-requires-clause-margin
+is_covered-depletion-requires-clause-margin c =
+    let margin = c.in_grains-margin in
+    margin_passed margin.result (margin_of_grains margin.result margin.ensures.not_negative margin.ensures.within)
 
 pub returns : goal.returns
 returns c =
@@ -19,7 +21,7 @@ returns c =
     let margin = c.in_grains-margin in
     let numbers = c.numbers.ensures in
     let meeting = c.requires.meeting in
-    let depletion = c.in_ok-depletion.depletion in
+    let depletion = c.is_covered-depletion.result in
     let p_is = get_or_default boxes pair.poly c.index-boxes-pair.result no_box meeting.overlap.poly.among in
     let d_is = get_or_default boxes pair.diffusion c.index-boxes-pair-2.result no_box meeting.overlap.diffusion.among in
     let by_implant = grains_held tech _ _ margin.result numbers.sound.in_range.extension_implant (ap (λ n. n.extension_implant) numbers.value) margin.ensures.not_negative margin.ensures.within margin.ensures.value in
@@ -30,7 +32,7 @@ returns c =
         meeting = meeting;
         along = c.requires.along;
         channel = common_read boxes pair.poly pair.diffusion _ _ channel p_is d_is c.common_box-channel.ensures.common;
-        depletion = implanted_by_cover tech boxes channel (to_z w64 (of_z w64 margin.result)) depletion by_implant c.in_ok-depletion.ensures;
+        depletion = implanted_by_cover tech boxes channel (to_z w64 (of_z w64 margin.result)) depletion by_implant (c.is_covered-depletion.ensures boxes NI c.requires.implants);
       };
       poly = refl;
       diffusion = refl;

@@ -22,7 +22,7 @@ loop-number-preserved c =
     let n = c.loop-number.number in
     let old = c.loop-number.crossings.items in
     let invariant = c.loop-number.invariant in
-    elim c.match-branch-2.branch [
+    elim c.match-branch-3.branch [
       | in-Crosses+then-pair-number+in_ok-add_crossing-in-Crosses w ↦
           let pair = w.in-Crosses.pair in
           let crossed = subst (StandsAs tech boxes n) w.in-Crosses.is c.in_ok-other.ensures in

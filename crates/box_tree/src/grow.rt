@@ -1,0 +1,84 @@
+//! The making of the groups.
+ghost use Rattle.std.specs.Prelude.{◌≡◌, ℕ, ◌+◌, ◌*◌, ◌^◌, ◌<◌, ◌≤◌, All, IfOk, OnOk, length};
+ghost use Rattle.lam_geom.specs.Places.{IsPlacedBox};
+ghost use Rattle.box_tree.specs.declared.spots.Spot.{Spot};
+ghost use Rattle.box_tree.specs.Grown.{IsGrown};
+ghost use Rattle.box_tree.specs.Tree.{AreGroups, IsBounded, IsOrderOf, IsPlacedGroup, IsTreeOf, spot_at};
+
+use crate::bounds::{joined, of_spot};
+use crate::spots::{Group, Spot};
+use std::alloc::{AllocError, Global};
+
+// As many spots at most stand in a group that is not divided further.
+const RUN: u32 = 8;
+
+/// The groups of a tree of all spots, which stand in this order.
+pub fn grown(alloc: Global, spots: &[Spot], order: &[u32]) -> Result<Vec<Group>, AllocError>
+    requires few { length spots.now ≤ 2 ^ 21 }
+    requires placed { All (λ (spot : Spot). IsPlacedBox spot.area) spots.now }
+    requires order { IsOrderOf (length spots.now) order.now }
+    ensures { IfOk result (λ groups. IsTreeOf spots.now order.now groups.items) }
+{
+    let mut groups = Vec::with_capacity(alloc, order.len() / 2)?;
+    if !order.is_empty() {
+        add_tree(&mut groups, spots, order, 0, order.len() as u32)?;
+    }
+    Ok(groups)
+}
+
+// Adds a group of the run from one place to another, with those inside it, and gives that group.
+fn add_tree(
+    groups: &mut Vec<Group>,
+    spots: &[Spot],
+    order: &[u32],
+    start: u32,
+    end: u32,
+) -> Result<Group, AllocError>
+    requires some { start < end }
+    requires within { end ≤ length order.now }
+    requires few { length order.now ≤ 2 ^ 21 }
+    requires placed { All (λ (spot : Spot). IsPlacedBox spot.area) spots.now }
+    requires below { All (λ k. k < length spots.now) order.now }
+    ensures grown { IfOk result (IsGrown spots.now order.now start end groups.old.items groups.new.items) }
+    ensures few { OnOk result (length groups.new.items + 2 * start + 1 ≤ length groups.old.items + 2 * end) }
+{
+    if end - start <= RUN {
+        let leaf = leaf_of(spots, order, start, end);
+        groups.push(leaf)?;
+        return Ok(leaf);
+    }
+    let at = groups.len();
+    groups.push(of_spot(&spots[order[start as usize] as usize], start))?;
+    let middle = start + (end - start) / 2;
+    let left = add_tree(groups, spots, order, start, middle)?;
+    let right = add_tree(groups, spots, order, middle, end)?;
+    let group = Group {
+        inside: (groups.len() - 1 - at) as u32,
+        ..joined(&left, &right)
+    };
+    groups[at] = group;
+    Ok(group)
+}
+
+// The group of the run from one place to another, with none inside.
+fn leaf_of(spots: &[Spot], order: &[u32], start: u32, end: u32) -> Group
+    requires some { start < end }
+    requires within { end ≤ length order.now }
+    requires few { length order.now ≤ 2 ^ 21 }
+    requires placed { All (λ (spot : Spot). IsPlacedBox spot.area) spots.now }
+    requires below { All (λ k. k < length spots.now) order.now }
+    ensures placed { IsPlacedGroup result }
+    ensures starts { result.start ≡ start }
+    ensures ends { start + result.count ≡ end }
+    ensures inside { result.inside ≡ 0 }
+    ensures within { (p : ℕ) → start ≤ p → p < end → IsBounded result (spot_at spots.now order.now p) }
+{
+    let mut leaf = of_spot(&spots[order[start as usize] as usize], start);
+    for place in start + 1..end {
+        leaf = joined(
+            &leaf,
+            &of_spot(&spots[order[place as usize] as usize], place),
+        );
+    }
+    leaf
+}

@@ -1,0 +1,18 @@
+//! Whether a box with a property lies among some boxes: a tree over a list of spots, which are areas with an owner and a tag.
+//!
+//! What the layer above uses: `find` gives the number of some spot that holds a query, or finds that there is none, without a
+//! list of all that lie near. A group of spots is left out as a whole where its bounds show that none of them holds the query,
+//! so that heaps of equal boxes cost no more than one of them. How the spots are ordered matters for time alone.
+#![tactic(auto)]
+
+mod bounds;
+mod grow;
+mod keys;
+mod query;
+mod search;
+mod spots;
+mod tree;
+
+pub use query::{Query, Question};
+pub use spots::{Ends, Group, Inner, Spot};
+pub use tree::{BoxTree, Parts};

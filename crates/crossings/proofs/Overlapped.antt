@@ -1,0 +1,49 @@
+-- How many boxes a box overlaps, by one after another.
+use Rattle.std.proofs.Common.{◌≡◌, ◌≢◌, ℕ, negsuc, ◌≤ℤ◌, inl, inr, List, sym, arith}
+use Rattle.std.proofs.lemmas.Bool.{cases_eq}
+use Rattle.std.proofs.lemmas.Int.{ints}
+use Rattle.lam_geom.specs.declared.boxes.BoxXY.{BoxXY}
+use Rattle.lam_geom.specs.declared.boxes.MaskBox.{MaskBox}
+use Rattle.lam_geom.specs.Gaps.{Overlaps, gap_of_boxes}
+use Rattle.box_tree.specs.declared.query.Question.TheVariants.{NearOfOther}
+use Rattle.box_tree.specs.declared.spots.Spot.{Spot}
+use Rattle.box_tree.specs.Queries.{HoldsAt}
+use Rattle.crossings.specs.Boxes.{area_at}
+use Rattle.crossings.specs.Pairs.{AreTwo, DoOverlap}
+use Rattle.crossings.specs.Spots.{AreSpotsFacing, box_spot}
+use Rattle.crossings.proofs.Facing.{area_overlap}
+use Rattle.crossings.proofs.Meetings.{not_both}
+use Rattle.crossings.proofs.SpotBoxes.{spot_overlaps, overlapped_there}
+
+pub not_itself : (boxes : List MaskBox) (a : ℕ) → DoOverlap boxes a a → ⊥
+not_itself boxes a (inl h) = not_both boxes a h.poly.on h.diffusion.on
+not_itself boxes a (inr h) = not_both boxes a h.poly.on h.diffusion.on
+
+-- a gap of at most -1 is an overlap
+near_overlaps : (a b : BoxXY) → gap_of_boxes a b ≤ℤ negsuc 0 → Overlaps a b
+near_overlaps a b h = omega (arith, ints, h)
+
+overlaps_near : (a b : BoxXY) → Overlaps a b → gap_of_boxes a b ≤ℤ negsuc 0
+overlaps_near a b h = omega (arith, ints, h)
+
+pub found_overlaps : (boxes : List MaskBox) (a known k : ℕ) (spots : List Spot) → AreSpotsFacing boxes a spots
+    → (h : HoldsAt spots (record { area = area_at boxes a; question = NearOfOther (negsuc 0) known }) k) → DoOverlap boxes a h.spot.owner × (h.spot.owner ≢ known)
+found_overlaps boxes a known k spots facing h =
+    (spot_overlaps boxes a spots k h.spot facing h.there (near_overlaps (area_at boxes a) h.spot.area h.holds.0), h.holds.1)
+
+pub none_overlaps : (boxes : List MaskBox) (a known : ℕ) (spots : List Spot) → AreSpotsFacing boxes a spots
+    → ((k : ℕ) → HoldsAt spots (record { area = area_at boxes a; question = NearOfOther (negsuc 0) known }) k → ⊥) → (k : ℕ) → DoOverlap boxes a k → k ≡ known
+none_overlaps boxes a known spots facing none k over = elim (cases_eq k known) [
+  | inl same ↦ same
+  | inr apart ↦
+      let there = overlapped_there boxes a k spots facing over in
+      absurd (none there.0 (record {
+        spot = box_spot boxes k;
+        there = there.1;
+        holds = (overlaps_near (area_at boxes a) (area_at boxes k) (area_overlap boxes a k over), apart);
+      }))
+]
+
+-- two of them
+pub two_overlap : (boxes : List MaskBox) (a first second : ℕ) → DoOverlap boxes a first → DoOverlap boxes a second → second ≢ first → AreTwo (DoOverlap boxes a)
+two_overlap boxes a first second h k apart = record { a = first; b = second; apart = λ e. apart (sym e); at_a = h; at_b = k }

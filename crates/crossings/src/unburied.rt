@@ -1,0 +1,160 @@
+//! The boxes that a box overlaps and is no buried pair with.
+ghost use Rattle.std.specs.Prelude.{◌≡◌, ◌↔◌, ℕ, ◌+◌, ◌<◌, ◌≤◌, pos, All, Contains, IsTrue, IfOk, MatchBool, length};
+ghost use Rattle.lam_geom.specs.declared.boxes.MaskLayer.TheVariants.{NB};
+ghost use Rattle.lam_geom.specs.Gaps.{Encloses};
+ghost use Rattle.lam_geom.specs.Places.{IsPlacedBox};
+ghost use Rattle.box_tree.specs.Tree.{spot_at};
+ghost use Rattle.crossings.specs.Boxes.{AreSearchable, area_at};
+ghost use Rattle.crossings.specs.Pairs.{AreFacing, IsBelow, Least, Meets};
+ghost use Rattle.crossings.specs.Spots.{AreBoxesOn, AreSpotsFacing, AreTreesOf};
+
+use crate::pair_tests::common_box;
+use crate::pairs::meets;
+use crate::partners::facing;
+use crate::spots::{Trees, facing_tree, is_covered};
+use crate::windows::window_margin;
+use box_index::BoxIndex;
+use box_tree::{BoxTree, Group, Parts};
+use lam_geom::{BoxXY, MaskBox, overlaps};
+use rule_table::Tech;
+use std::alloc::{AllocError, Global};
+
+/// Whether a box overlaps some box of the other's layer and is no buried pair with it. Boxes under one window are left out
+/// together. Takes no memory.
+pub fn meets_some(tech: &Tech, boxes: &[MaskBox], trees: &Trees, number: u32) -> bool
+    requires searchable { AreSearchable boxes.now }
+    requires trees { AreTreesOf boxes.now trees.now }
+    requires among { number < length boxes.now }
+    ensures { IsTrue result ↔ ((k : ℕ) × Meets tech.now boxes.now number k) }
+{
+    match facing_tree(boxes, trees, number) {
+        Some(tree) => meets_in(tech, boxes, &trees.windows, tree, number),
+        None => false,
+    }
+}
+
+// The same by trees of the windows and of the boxes of the other's layer.
+fn meets_in(tech: &Tech, boxes: &[MaskBox], windows: &BoxTree, tree: &BoxTree, number: u32) -> bool
+    requires searchable { AreSearchable boxes.now }
+    requires windows { AreBoxesOn boxes.now NB windows.now }
+    requires tree { AreSpotsFacing boxes.now number tree.now }
+    ensures { IsTrue result ↔ ((k : ℕ) × Meets tech.now boxes.now number k) }
+{
+    let parts = tree.parts();
+    let mut at = 0;
+    while at < parts.groups.len() {
+        let group = &parts.groups[at];
+        at += 1;
+        if meets_none_inside(tech, boxes, windows, number, &group.outer) {
+            at += group.inside as usize;
+        } else if group.inside == 0 && meets_spot(tech, boxes, windows, number, &parts, group) {
+            return true;
+        }
+    }
+    false
+}
+
+// Whether it is plain that a box meets none that lies inside an area: it does not overlap the area, or one window goes past all
+// that they have in common. Where the answer is no, it may meet none all the same.
+fn meets_none_inside(
+    tech: &Tech,
+    boxes: &[MaskBox],
+    windows: &BoxTree,
+    number: u32,
+    outer: &BoxXY,
+) -> bool
+    requires searchable { AreSearchable boxes.now }
+    requires windows { AreBoxesOn boxes.now NB windows.now }
+    requires among { number < length boxes.now }
+    requires outer { IsPlacedBox outer.now }
+    ensures { IsTrue result → (k : ℕ) → Encloses outer.now (area_at boxes.now k) (pos 0) → Meets tech.now boxes.now number k → ⊥ }
+{
+    let own = &boxes[number as usize].area;
+    if !overlaps(own, outer) {
+        return true;
+    }
+    tech.has_buried() && is_covered(windows, &common_box(own, outer), window_margin(tech))
+}
+
+// Whether a box meets one of the spots of a group.
+fn meets_spot(
+    tech: &Tech,
+    boxes: &[MaskBox],
+    windows: &BoxTree,
+    number: u32,
+    parts: &Parts<'_>,
+    group: &Group,
+) -> bool
+    requires searchable { AreSearchable boxes.now }
+    requires windows { AreBoxesOn boxes.now NB windows.now }
+    requires tree { AreSpotsFacing boxes.now number parts.now.spots.now }
+    requires below { All (λ k. k < length parts.now.spots.now) parts.now.order.now }
+    requires within { group.now.start + group.now.count ≤ length parts.now.order.now }
+    ensures { MatchBool result
+        ((k : ℕ) × Meets tech.now boxes.now number k)
+        ((p : ℕ) → group.now.start ≤ p → p < group.now.start + group.now.count → Meets tech.now boxes.now number (spot_at parts.now.spots.now parts.now.order.now p).owner → ⊥) }
+{
+    let start = group.start as usize;
+    for place in start..start + group.count as usize {
+        let spot = &parts.spots[parts.order[place] as usize];
+        if meets(tech, boxes, windows, number, spot.owner) {
+            return true;
+        }
+    }
+    false
+}
+
+/// The least of the boxes that a box overlaps and is no buried pair with. It takes a list of all that lie near. The only
+/// refusal is want of memory.
+pub fn least_unburied(
+    alloc: Global,
+    tech: &Tech,
+    boxes: &[MaskBox],
+    index: &BoxIndex,
+    windows: &BoxTree,
+    number: u32,
+) -> Result<Option<u32>, AllocError>
+    requires searchable { AreSearchable boxes.now }
+    requires indexed { index.now ≡ boxes.now }
+    requires windows { AreBoxesOn boxes.now NB windows.now }
+    requires among { number < length boxes.now }
+    ensures { IfOk result (Least (Meets tech.now boxes.now number)) }
+{
+    let own = boxes[number as usize];
+    let Some(layer) = facing(own.layer) else {
+        return Ok(None);
+    };
+    let mut near = Vec::new(alloc);
+    index.near(layer, &own.area, 0, &mut near)?;
+    Ok(least_among(tech, boxes, windows, number, &near))
+}
+
+fn least_among(
+    tech: &Tech,
+    boxes: &[MaskBox],
+    windows: &BoxTree,
+    number: u32,
+    others: &[u32],
+) -> Option<u32>
+    requires searchable { AreSearchable boxes.now }
+    requires windows { AreBoxesOn boxes.now NB windows.now }
+    requires facing { All (AreFacing boxes.now number) others.now }
+    ensures { Least (λ k. Contains others.now k × Meets tech.now boxes.now number k) result }
+{
+    let mut least = None;
+    for other in others {
+        if is_below(*other, least) && meets(tech, boxes, windows, number, *other) {
+            least = Some(*other);
+        }
+    }
+    least
+}
+
+fn is_below(number: u32, least: Option<u32>) -> bool
+    ensures { IsTrue result ↔ IsBelow number least }
+{
+    match least {
+        Some(least) => number < least,
+        None => true,
+    }
+}
