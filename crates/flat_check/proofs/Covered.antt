@@ -9,44 +9,30 @@ use Rattle.lam_geom.specs.declared.boxes.MaskBox.{MaskBox}
 use Rattle.lam_geom.specs.declared.boxes.MaskLayer.{MaskLayer}
 use Rattle.lam_geom.specs.declared.boxes.MaskLayer.TheVariants.{ND, NP, NC, NM}
 use Rattle.lam_geom.specs.Gaps.{gap_of_boxes, Encloses}
-use Rattle.box_index.specs.Near.{IsNear, AreNear}
+use Rattle.box_tree.specs.declared.query.Question.TheVariants.{Covers}
+use Rattle.box_tree.specs.declared.spots.Spot.{Spot}
+use Rattle.box_tree.specs.Queries.{HoldsAt}
 use Rattle.rule_table.specs.declared.technology.Tech.{Tech}
 use Rattle.rule_table.specs.Technology.{numbers_of}
 use Rattle.crossings.specs.Boxes.{area_at, box_at, no_box, IsOn, grains}
 use Rattle.crossings.specs.Pairs.{IsCovered}
 use Rattle.flat_check.specs.Breaks.{IsSquare, IsOddCut, IsUncovered}
+use Rattle.flat_check.specs.Trees.{AreBoxesOn, box_spot}
+use Rattle.flat_check.proofs.Spots.{contains_there, held_by}
 
--- ---- what an index gives
+-- ---- what a tree tells
 
-near_is_on : (boxes : List MaskBox) (layer : MaskLayer) (area : BoxXY) (reach : ℤ) (k : ℕ) → IsNear boxes layer area reach k → IsOn boxes layer k
-near_is_on boxes layer area reach k h =
-    let at = get_or_from_slice_get boxes k h.box no_box h.there in
-    record { among = slice_get_within boxes k h.box h.there; on = ap (λ (b : MaskBox). b.layer) at ∙ h.on_layer }
-
-near_by_gap : (boxes : List MaskBox) (layer : MaskLayer) (area : BoxXY) (reach : ℤ) (k : ℕ) → IsOn boxes layer k → gap_of_boxes area (area_at boxes k) ≤ℤ reach → IsNear boxes layer area reach k
-near_by_gap boxes layer area reach k h gap = record { box = box_at boxes k; there = slice_get-get_or boxes k no_box h.among; on_layer = h.on; near = gap }
-
--- what goes past an area is near it
-cover_is_near : (outer inner : BoxXY) (margin : ℤ) → pos 0 ≤ℤ margin → Encloses outer inner margin → gap_of_boxes inner outer ≤ℤ pos 0
-cover_is_near outer inner margin low h =
-    let x_ordered = inner.x.ordered in
-    let y_ordered = inner.y.ordered in
-    let left = h.0.0 in
-    let right = h.0.1 in
-    let bottom = h.1.0 in
-    let top = h.1.1 in
-    omega (arith, ints, clamps)
-
-pub covered_among : (boxes : List MaskBox) (layer : MaskLayer) (area : BoxXY) (margin : ℤ) (found : List ℕ) (b : Bool) → pos 0 ≤ℤ margin → AreNear boxes layer area (pos 0) found
-    → MatchBool b ((k : ℕ) × Contains found k × Encloses (area_at boxes k) area margin) (All (λ k. Encloses (area_at boxes k) area margin → ⊥) found)
-    → IsTrue b ↔ IsCovered boxes layer area margin
-covered_among boxes layer area margin found true low near h =
-    (λ _. record { cover = h.0; is_on = near_is_on boxes layer area (pos 0) h.0 (near.sound h.0 h.1); covers = h.2 }, λ _. refl)
-covered_among boxes layer area margin found false low near h = (
-  λ t. let no : ⊥ = cc in absurd no,
-  λ is. let gap = cover_is_near (area_at boxes is.cover) area margin low is.covers in
-      let there = near.complete is.cover (near_by_gap boxes layer area (pos 0) is.cover is.is_on gap) in
-      absurd (All-contains (λ k. Encloses (area_at boxes k) area margin → ⊥) found is.cover h there is.covers),
+-- whether some spot covers an area
+pub covered_told : (boxes : List MaskBox) (layer : MaskLayer) (area : BoxXY) (margin : ℤ) (spots : List Spot) (b : Bool) → AreBoxesOn boxes layer spots
+    → IsTrue b ↔ ((k : ℕ) × HoldsAt spots (record { area = area; question = Covers margin }) k) → IsTrue b ↔ IsCovered boxes layer area margin
+covered_told boxes layer area margin spots b are h = (
+  λ t.
+      let found = h.0 t in
+      let held = found.1 in
+      let there = All-contains (λ (s : Spot). (k : ℕ) × IsOn boxes layer k × (s ≡ box_spot boxes k)) spots held.spot are.sound (contains_there spots found.0 held.spot held.there) in
+      let is = there.2 in
+      record { cover = there.0; is_on = there.1; covers = subst (λ (s : Spot). Encloses s.area area margin) is held.holds },
+  λ c. h.1 (held_by (record { area = area; question = Covers margin }) spots (box_spot boxes c.cover) (are.complete c.cover c.is_on.among c.is_on) c.covers),
 )
 
 -- ---- cuts

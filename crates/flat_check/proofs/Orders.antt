@@ -8,7 +8,9 @@ use Rattle.flat_check.specs.declared.rule.Rule.{Rule}
 use Rattle.flat_check.specs.declared.rule.Rule.TheVariants.{Width, CutSize, ProperCrossing, PolyToDiffusion, CutCover, MetalSpacing, PolySpacing, DiffusionSpacing, CutSpacing, CutToChannel, ImplantToChannel, WindowToChannel}
 use Rattle.crossings.specs.Crossings.{IsFirstBadPair}
 use Rattle.flat_check.specs.Breaks.{number_of, IsBreak, IsFirstBreak, IsNotAfter}
-use Rattle.flat_check.specs.Order.{IsKept, KeepBefore, IsFirstOf}
+use Rattle.flat_check.specs.Order.{IsKept, KeepBefore, IsFirstOf, next_of}
+use Rattle.flat_check.specs.Sheets.{IsByTrees}
+use Rattle.flat_check.specs.Starts.{AreByTrees}
 
 -- ---- rules by number
 
@@ -91,3 +93,22 @@ first_of_all tech boxes rule first before found = record {
 -- the first pair that does not cross properly
 pub first_bad_pair : (tech : Tech) (boxes : List MaskBox) (a b : ℕ) → IsFirstBadPair tech boxes a b → IsFirstOf tech boxes ProperCrossing (record { rule = ProperCrossing; a = a; b = b })
 first_bad_pair tech boxes a b h = record { of_rule = refl; broken = h.bad; least = h.first }
+
+-- ---- the rules that are checked by trees
+
+-- behind one of them come others
+pub next_by_trees : (rule : Rule) → IsByTrees rule → AreByTrees (next_of rule)
+next_by_trees Width (inl on) = absurd on
+next_by_trees Width (inr is) = let no : ⊥ = cc in absurd no
+next_by_trees CutSize (inl on) = absurd on
+next_by_trees CutSize (inr is) = let no : ⊥ = cc in absurd no
+next_by_trees ProperCrossing h = inl tt
+next_by_trees PolyToDiffusion h = inr refl
+next_by_trees CutCover h = inl tt
+next_by_trees MetalSpacing h = inl tt
+next_by_trees PolySpacing h = inl tt
+next_by_trees DiffusionSpacing h = inl tt
+next_by_trees CutSpacing h = inl tt
+next_by_trees CutToChannel h = inl tt
+next_by_trees ImplantToChannel h = inl tt
+next_by_trees WindowToChannel h = tt

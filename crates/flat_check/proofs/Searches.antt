@@ -1,15 +1,15 @@
 -- A search for breaks of one rule, box by box.
-use Rattle.std.proofs.Common.{◌≡◌, ◌↔◌, ℕ, ◌+◌, ◌<◌, ◌≤◌, inl, inr, Bool, IsTrue, List, length, refl, sym, subst, arith}
+use Rattle.std.proofs.Common.{◌≡◌, ℕ, ◌+◌, ◌<◌, ◌≤◌, inl, inr, Some, None, List, length, refl, sym, subst, arith}
 use Rattle.std.proofs.lemmas.Bool.{cases_lt}
-use Rattle.std.proofs.lemmas.Option.{slice_get_within}
+use Rattle.crossings.specs.Pairs.{Least}
 use Rattle.lam_geom.specs.declared.boxes.MaskBox.{MaskBox}
 use Rattle.rule_table.specs.declared.technology.Tech.{Tech}
 use Rattle.flat_check.specs.declared.rule.Rule.{Rule}
 use Rattle.flat_check.specs.declared.rule.Rule.TheVariants.{Width, CutSize, ProperCrossing, PolyToDiffusion, CutCover, MetalSpacing, PolySpacing, DiffusionSpacing, CutSpacing, CutToChannel, ImplantToChannel, WindowToChannel}
 use Rattle.flat_check.specs.Breaks.{IsBreak, IsUncovered}
 use Rattle.flat_check.specs.Order.{IsOnOne, IsKept, IsFirstOf}
-use Rattle.flat_check.specs.Sheets.{IsOnPairs}
-use Rattle.flat_check.proofs.NearBroken.{near_if_broken}
+use Rattle.flat_check.specs.Sheets.{IsByTrees, IsOnPairs}
+use Rattle.flat_check.proofs.Among.{second_among}
 
 -- a rule is broken at no first box below n
 abbrev pub IsKeptBelow : Tech → List MaskBox → Rule → ℕ → Type 0
@@ -47,7 +47,6 @@ first_here tech boxes rule a b below broken least = record {
 pub at_one_box : (tech : Tech) (boxes : List MaskBox) (rule : Rule) (a b : ℕ) → IsOnOne rule → IsBreak tech boxes rule a b → (b ≡ a) × (a < length boxes)
 at_one_box tech boxes Width a b on h = (h.1, h.0.among)
 at_one_box tech boxes CutSize a b on h = (h.1, h.0.is_cut.among)
-at_one_box tech boxes CutCover a b on h = (h.1, h.0.is_cut.among)
 at_one_box tech boxes rule a b on h = absurd on
 
 pub at_itself : (tech : Tech) (boxes : List MaskBox) (rule : Rule) (a b : ℕ) → IsOnOne rule → IsBreak tech boxes rule a b → IsBreak tech boxes rule a a
@@ -64,27 +63,43 @@ in_order tech boxes ImplantToChannel a b on h = h.0
 in_order tech boxes WindowToChannel a b on h = h.0
 in_order tech boxes rule a b on h = absurd on
 
-pub at_two_boxes : (tech : Tech) (boxes : List MaskBox) (rule : Rule) (a b : ℕ) → IsOnPairs rule → IsBreak tech boxes rule a b → a < length boxes
-at_two_boxes tech boxes rule a b on h =
-    let near = (near_if_broken tech boxes rule a b on h).2 in
-    let lt = in_order tech boxes rule a b on h in
-    let within = slice_get_within boxes b near.box near.there in
-    omega arith
+pub at_two_boxes : (tech : Tech) (boxes : List MaskBox) (rule : Rule) (a b : ℕ) → IsOnPairs rule → IsBreak tech boxes rule a b → (a < b) × (b < length boxes)
+at_two_boxes tech boxes rule a b on h = (in_order tech boxes rule a b on h, second_among tech boxes rule a b on h)
 
--- ---- what is left of the rules
+-- ---- a search in the trees
 
--- of those on one box, that on the cover of cuts
-pub cover_left : (tech : Tech) (boxes : List MaskBox) (rule : Rule) (a : ℕ) (b : Bool) → IsOnOne rule → (rule ≡ Width → ⊥) → (rule ≡ CutSize → ⊥) → IsTrue b ↔ IsUncovered tech boxes a
-    → IsTrue b ↔ IsBreak tech boxes rule a a
-cover_left tech boxes CutCover a b on not_width not_size h = (λ t. (h.0 t, refl), λ k. h.1 k.0)
-cover_left tech boxes Width a b on not_width not_size h = absurd (not_width refl)
-cover_left tech boxes CutSize a b on not_width not_size h = absurd (not_size refl)
-cover_left tech boxes rule a b on not_width not_size h = absurd on
+cover_among : (tech : Tech) (boxes : List MaskBox) (rule : Rule) (a b : ℕ) → rule ≡ CutCover → IsBreak tech boxes rule a b → a < length boxes
+cover_among tech boxes rule a b is h = let broken = subst (λ (r : Rule). IsBreak tech boxes r a b) is h in broken.0.is_cut.among
 
--- of all, those on pairs
-pub pairs_left : (rule : Rule) → (rule ≡ Width → ⊥) → (rule ≡ CutSize → ⊥) → (rule ≡ ProperCrossing → ⊥) → (rule ≡ CutCover → ⊥) → IsOnPairs rule
-pairs_left Width not_width not_size not_crossing not_cover = absurd (not_width refl)
-pairs_left CutSize not_width not_size not_crossing not_cover = absurd (not_size refl)
-pairs_left ProperCrossing not_width not_size not_crossing not_cover = absurd (not_crossing refl)
-pairs_left CutCover not_width not_size not_crossing not_cover = absurd (not_cover refl)
-pairs_left rule not_width not_size not_crossing not_cover = tt
+-- the first box of a break
+pub first_among : (tech : Tech) (boxes : List MaskBox) (rule : Rule) (a b : ℕ) → IsByTrees rule → IsBreak tech boxes rule a b → a < length boxes
+first_among tech boxes rule a b (inl on) h = let two = at_two_boxes tech boxes rule a b on h in omega (arith, two.0, two.1)
+first_among tech boxes rule a b (inr is) h = cover_among tech boxes rule a b is h
+
+-- a cut that is not covered breaks the rule with itself
+pub cover_least : (tech : Tech) (boxes : List MaskBox) (rule : Rule) (a : ℕ) → rule ≡ CutCover → IsUncovered tech boxes a → Least (IsBreak tech boxes rule a) (Some a)
+cover_least tech boxes rule a is h =
+    subst (λ (r : Rule). Least (IsBreak tech boxes r a) (Some a)) (sym is) ((h, refl), λ k broken. let same = broken.1 in omega (arith, same))
+
+pub cover_none : (tech : Tech) (boxes : List MaskBox) (rule : Rule) (a : ℕ) → rule ≡ CutCover → (IsUncovered tech boxes a → ⊥) → Least (IsBreak tech boxes rule a) None
+cover_none tech boxes rule a is none = λ k broken. none (subst (λ (r : Rule). IsBreak tech boxes r a k) is broken).0
+
+-- of the rules that are checked by trees, those on pairs
+pub pairs_left : (rule : Rule) → IsByTrees rule → (rule ≡ CutCover → ⊥) → IsOnPairs rule
+pairs_left rule (inl on) not_cover = on
+pairs_left rule (inr is) not_cover = absurd (not_cover is)
+
+-- of all rules, those that are checked by trees
+pub trees_left : (rule : Rule) → (rule ≡ Width → ⊥) → (rule ≡ CutSize → ⊥) → (rule ≡ ProperCrossing → ⊥) → IsByTrees rule
+trees_left Width not_width not_size not_crossing = absurd (not_width refl)
+trees_left CutSize not_width not_size not_crossing = absurd (not_size refl)
+trees_left ProperCrossing not_width not_size not_crossing = absurd (not_crossing refl)
+trees_left CutCover not_width not_size not_crossing = inr refl
+trees_left rule not_width not_size not_crossing = inl tt
+
+-- ---- what is left of the rules on one box
+
+pub size_left : (rule : Rule) → IsOnOne rule → (rule ≡ Width → ⊥) → rule ≡ CutSize
+size_left Width on not_width = absurd (not_width refl)
+size_left CutSize on not_width = refl
+size_left rule on not_width = absurd on

@@ -7,11 +7,10 @@ use Rattle.flat_check.specs.declared.rule.Rule.{Rule}
 use Rattle.flat_check.specs.declared.rule.Rule.TheVariants.{Width, CutSize, ProperCrossing, PolyToDiffusion, CutCover, MetalSpacing, PolySpacing, DiffusionSpacing, CutSpacing, CutToChannel, ImplantToChannel, WindowToChannel}
 use Rattle.flat_check.specs.Breaks.{number_of, IsBreak, KeepRules, IsFirstBreak}
 
--- a rule on one box
+-- a rule on one box that looks at no other
 abbrev pub IsOnOne : Rule → Type 0
 IsOnOne Width = Unit {0}
 IsOnOne CutSize = Unit {0}
-IsOnOne CutCover = Unit {0}
 IsOnOne rule = ⊥
 
 -- the rule behind this one, if there is one

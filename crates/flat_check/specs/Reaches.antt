@@ -24,3 +24,7 @@ spacing_of_rule tech WindowToChannel = (numbers_of tech).spacing_buried_channel
 -- the greatest gap that is below that spacing, in grains
 abbrev pub reach_of : Tech → Rule → ℤ
 reach_of tech rule = grains tech (spacing_of_rule tech rule) -ℤ pos 1
+
+-- how far an implant goes past its channel, in grains
+abbrev pub extension_of : Tech → ℤ
+extension_of tech = grains tech (numbers_of tech).extension_implant

@@ -1,7 +1,5 @@
 -- Boxes with what is known of them, and the rules on pairs.
-use Rattle.std.specs.Prelude.{◌≡◌, ◌⊎◌, Option, Some, None}
-use Rattle.lam_geom.specs.declared.boxes.MaskLayer.{MaskLayer}
-use Rattle.lam_geom.specs.declared.boxes.MaskLayer.TheVariants.{ND, NP, NC, NM, NI, NB}
+use Rattle.std.specs.Prelude.{◌≡◌, ◌⊎◌}
 use Rattle.crossings.specs.Boxes.{AreSearchable}
 use Rattle.crossings.specs.Crossings.{AreProper, AreCrossings}
 use Rattle.net_extract.specs.Extraction.{AreNets}
@@ -10,10 +8,9 @@ use Rattle.flat_check.specs.declared.rule.Rule.{Rule}
 use Rattle.flat_check.specs.declared.rule.Rule.TheVariants.{Width, CutSize, ProperCrossing, PolyToDiffusion, CutCover, MetalSpacing, PolySpacing, DiffusionSpacing, CutSpacing, CutToChannel, ImplantToChannel, WindowToChannel}
 use Rattle.flat_check.specs.declared.sheet.Sheet.{Sheet}
 
--- The boxes can be searched, the index is theirs, poly and diffusion cross properly, and the pieces and their nets are those of the boxes.
+-- The boxes can be searched, poly and diffusion cross properly, and the pieces and their nets are those of the boxes.
 pub record IsSheet (sheet : Sheet) : Type 0 where
   pub searchable : AreSearchable sheet.boxes.now
-  pub indexed : sheet.index.now ≡ sheet.boxes.now
   pub proper : AreProper sheet.tech.now sheet.boxes.now
   pub crossings : AreCrossings sheet.tech.now sheet.boxes.now sheet.pieces.now.crossings.items
   pub pieces : ArePiecesOf sheet.boxes.now sheet.pieces.now
@@ -38,18 +35,6 @@ IsOnPairs WindowToChannel = Unit {0}
 abbrev pub IsOnNets : Rule → Type 0
 IsOnNets rule = (rule ≡ MetalSpacing) ⊎ ((rule ≡ PolySpacing) ⊎ (rule ≡ DiffusionSpacing))
 
--- the layer on which the other box of a broken pair stands, if there can be one
-abbrev pub facing_of : Rule → MaskLayer → Option MaskLayer
-facing_of PolyToDiffusion NP = Some ND
-facing_of PolyToDiffusion ND = Some NP
-facing_of MetalSpacing NM = Some NM
-facing_of PolySpacing NP = Some NP
-facing_of DiffusionSpacing ND = Some ND
-facing_of CutSpacing NC = Some NC
-facing_of CutToChannel NC = Some ND
-facing_of CutToChannel ND = Some NC
-facing_of ImplantToChannel NI = Some ND
-facing_of ImplantToChannel ND = Some NI
-facing_of WindowToChannel NB = Some ND
-facing_of WindowToChannel ND = Some NB
-facing_of rule layer = None
+-- a rule behind that on crossings, which is checked by trees
+abbrev pub IsByTrees : Rule → Type 0
+IsByTrees rule = IsOnPairs rule ⊎ (rule ≡ CutCover)

@@ -79,8 +79,8 @@ fn is_near_channel(
     are_nearer(sheet.tech, &own.area, &channel, spacing)
 }
 
-// The channel of a diffusion box, if it has one.
-fn channel_of(sheet: &Sheet, diffusion: u32) -> Option<BoxXY>
+/// The channel of a diffusion box, if it has one.
+pub fn channel_of(sheet: &Sheet, diffusion: u32) -> Option<BoxXY>
     requires { IsSheet sheet.now }
     ensures channel { MatchOption result
         ((channel : BoxXY) → IsChannel sheet.now.tech.now sheet.now.boxes.now diffusion channel → ⊥)

@@ -1,22 +1,22 @@
 //! The first break of all rules.
-ghost use Rattle.std.specs.Prelude.{◌≡◌, Some, IfOk, MatchOption};
+ghost use Rattle.std.specs.Prelude.{◌≤◌, Some, IfOk, MatchOption};
 ghost use Rattle.crossings.specs.Boxes.{AreSearchable};
-ghost use Rattle.crossings.specs.Crossings.{AreCrossings, AreProper};
-ghost use Rattle.flat_check.specs.declared.rule.Rule.TheVariants.{PolyToDiffusion, ProperCrossing};
-ghost use Rattle.flat_check.specs.Breaks.{IsFirstBreak, KeepRules};
+ghost use Rattle.flat_check.specs.declared.rule.Rule.TheVariants.{PolyToDiffusion};
+ghost use Rattle.flat_check.specs.Breaks.{IsFirstBreak, KeepRules, ShapesHold};
 ghost use Rattle.flat_check.specs.Order.{IsFound, IsFoundOf, KeepBefore};
-ghost use Rattle.flat_check.specs.Sheets.{IsSheet};
+ghost use Rattle.flat_check.specs.Sheets.{IsByTrees, IsOnNets, IsSheet};
 
-use crate::partners::first_pair;
+use crate::partners::{Range, first_in};
+use crate::ranges::first_in_pieces;
 use crate::rule::{Break, Rule};
 use crate::sheet::Sheet;
-use crate::singles::first_at_one;
-use box_index::BoxIndex;
-use crossings::{Crossing, CrossingFault, crossings};
+use crate::start::{Start, check_first_rules};
+use crate::trees::trees_for;
 use lam_geom::MaskBox;
-use net_extract::{nets_of, pieces_of};
+use lam_io::Gate;
 use rule_table::Tech;
 use std::alloc::{AllocError, Global};
+use std::thread::Threads;
 
 /// The first break of the rules: the least rule that is broken, then the least first box, then the least second; or None where
 /// the boxes keep all rules. The only refusal is want of memory.
@@ -29,50 +29,49 @@ pub fn first_break(
     ensures { IfOk result (λ first.
         MatchOption first (KeepRules tech.now boxes.now) (IsFirstBreak tech.now boxes.now)) }
 {
-    let index = BoxIndex::new(alloc, boxes)?;
-    let mut buffer = Vec::new(alloc);
-    if let Some(narrow) = first_at_one(tech, boxes, &index, Rule::Width, &mut buffer)? {
-        return Ok(Some(narrow));
-    }
-    if let Some(odd) = first_at_one(tech, boxes, &index, Rule::CutSize, &mut buffer)? {
-        return Ok(Some(odd));
-    }
-    match crossings(alloc, tech, boxes, &index) {
-        Ok(found) => first_behind(alloc, tech, boxes, &index, found),
-        Err(CrossingFault::NotProper(a, b)) => Ok(Some(Break {
-            rule: Rule::ProperCrossing,
-            a,
-            b,
-        })),
-        Err(CrossingFault::OutOfMemory) => Err(AllocError),
+    match check_first_rules(alloc, tech, boxes)? {
+        Start::Broken(first) => Ok(Some(first)),
+        Start::Kept { pieces, nets } => {
+            let sheet = Sheet {
+                tech,
+                boxes,
+                pieces: &pieces,
+                nets: nets.as_slice(),
+            };
+            first_on(alloc, &sheet)
+        }
     }
 }
 
-// The first break of all rules where boxes have these crossings, and no rule up to that on crossings is broken.
-fn first_behind(
+/// The same, whatever the number of pieces and whatever the gate. Under each rule behind that on crossings the boxes are split
+/// into ranges, as many as there are pieces, which run in threads of their own where these can be made; each piece passes the
+/// gate once for each such rule, up to the first that is broken. The only refusal is want of memory.
+pub fn first_break_split<H: Threads + Sync, G: Gate>(
+    rt: &H,
     alloc: Global,
+    gate: &G,
     tech: &Tech,
     boxes: &[MaskBox],
-    index: &BoxIndex,
-    found: Vec<Crossing>,
+    pieces: u32,
 ) -> Result<Option<Break>, AllocError>
     requires searchable { AreSearchable boxes.now }
-    requires indexed { index.now ≡ boxes.now }
-    requires proper { AreProper tech.now boxes.now }
-    requires crossings { AreCrossings tech.now boxes.now found.items }
-    requires before { KeepBefore tech.now boxes.now (Some ProperCrossing) }
-    ensures { IfOk result (IsFound tech.now boxes.now) }
+    requires pieces { (1 ≤ pieces) × (pieces ≤ 64) }
+    ensures { IfOk result (λ first.
+        MatchOption first (KeepRules tech.now boxes.now) (IsFirstBreak tech.now boxes.now)) }
 {
-    let pieces = pieces_of(alloc, boxes, found)?;
-    let (nets, _count) = nets_of(alloc, tech, boxes, index, &pieces)?;
-    let sheet = Sheet {
-        tech,
-        boxes,
-        index,
-        pieces: &pieces,
-        nets: nets.as_slice(),
-    };
-    first_on(alloc, &sheet)
+    let split = pieces;
+    match check_first_rules(alloc, tech, boxes)? {
+        Start::Broken(first) => Ok(Some(first)),
+        Start::Kept { pieces, nets } => {
+            let sheet = Sheet {
+                tech,
+                boxes,
+                pieces: &pieces,
+                nets: nets.as_slice(),
+            };
+            first_on_split(rt, alloc, gate, &sheet, split)
+        }
+    }
 }
 
 // The first break of all rules where no rule up to that on crossings is broken.
@@ -81,10 +80,9 @@ fn first_on(alloc: Global, sheet: &Sheet) -> Result<Option<Break>, AllocError>
     requires before { KeepBefore sheet.now.tech.now sheet.now.boxes.now (Some PolyToDiffusion) }
     ensures { IfOk result (IsFound sheet.now.tech.now sheet.now.boxes.now) }
 {
-    let mut buffer = Vec::new(alloc);
     let mut next = Some(Rule::PolyToDiffusion);
     while let Some(rule) = next {
-        if let Some(first) = first_of(sheet, rule, &mut buffer)? {
+        if let Some(first) = first_of(alloc, sheet, rule)? {
             return Ok(Some(first));
         }
         next = rule.next();
@@ -92,17 +90,59 @@ fn first_on(alloc: Global, sheet: &Sheet) -> Result<Option<Break>, AllocError>
     Ok(None)
 }
 
-// The first break of one rule where no rule before it is broken, or None where it is kept.
-fn first_of(sheet: &Sheet, rule: Rule, buffer: &mut Vec<u32>) -> Result<Option<Break>, AllocError>
+// The same in so many pieces.
+fn first_on_split<H: Threads + Sync, G: Gate>(
+    rt: &H,
+    alloc: Global,
+    gate: &G,
+    sheet: &Sheet,
+    pieces: u32,
+) -> Result<Option<Break>, AllocError>
     requires sheet { IsSheet sheet.now }
-    requires before { KeepBefore sheet.now.tech.now sheet.now.boxes.now (Some rule) }
+    requires pieces { (1 ≤ pieces) × (pieces ≤ 64) }
+    requires before { KeepBefore sheet.now.tech.now sheet.now.boxes.now (Some PolyToDiffusion) }
+    ensures { IfOk result (IsFound sheet.now.tech.now sheet.now.boxes.now) }
+{
+    let mut next = Some(Rule::PolyToDiffusion);
+    while let Some(rule) = next {
+        if let Some(first) = first_of_split(rt, alloc, gate, sheet, rule, pieces)? {
+            return Ok(Some(first));
+        }
+        next = rule.next();
+    }
+    Ok(None)
+}
+
+// The first break of one rule that is checked by trees, where no rule before it is broken, or None where it is kept.
+fn first_of(alloc: Global, sheet: &Sheet, rule: Rule) -> Result<Option<Break>, AllocError>
+    requires sheet { IsSheet sheet.now }
+    requires by_trees { IsByTrees rule }
+    requires shapes { IsOnNets rule → ShapesHold sheet.now.tech.now sheet.now.boxes.now }
     ensures { IfOk result (IsFoundOf sheet.now.tech.now sheet.now.boxes.now rule) }
 {
-    match rule {
-        Rule::Width | Rule::CutSize | Rule::CutCover => {
-            first_at_one(sheet.tech, sheet.boxes, sheet.index, rule, buffer)
-        }
-        Rule::ProperCrossing => Ok(None),
-        _ => first_pair(sheet, rule, buffer),
-    }
+    let trees = trees_for(alloc, sheet, rule)?;
+    let all = Range {
+        from: 0,
+        to: sheet.boxes.len() as u32,
+    };
+    Ok(first_in(sheet, rule, &trees, &all))
+}
+
+// The same in so many pieces.
+fn first_of_split<H: Threads + Sync, G: Gate>(
+    rt: &H,
+    alloc: Global,
+    gate: &G,
+    sheet: &Sheet,
+    rule: Rule,
+    pieces: u32,
+) -> Result<Option<Break>, AllocError>
+    requires sheet { IsSheet sheet.now }
+    requires by_trees { IsByTrees rule }
+    requires shapes { IsOnNets rule → ShapesHold sheet.now.tech.now sheet.now.boxes.now }
+    requires pieces { (1 ≤ pieces) × (pieces ≤ 64) }
+    ensures { IfOk result (IsFoundOf sheet.now.tech.now sheet.now.boxes.now rule) }
+{
+    let trees = trees_for(alloc, sheet, rule)?;
+    first_in_pieces(rt, alloc, gate, sheet, rule, &trees, pieces)
 }

@@ -1,21 +1,25 @@
 //! The rules of a technology, checked on mask boxes.
 //!
 //! What the layer above uses: `first_break` gives the first break of the rules over all boxes and pairs of boxes, or finds that
-//! there is none. It knows boxes and a technology alone; nets are those that the boxes make. Lengths are in grains, half
+//! there is none. `first_break_split` gives the same with each rule's boxes in pieces that run beside each other. It knows boxes and a technology alone; nets are those that the boxes make. Lengths are in grains, half
 //! hundredths of a micron.
 #![tactic(auto)]
 
 mod channels;
 mod covers;
+mod facing;
 mod first;
 mod lengths;
 mod nearness;
 mod pairs;
 mod partners;
 mod piece_pairs;
+mod ranges;
 mod rule;
 mod sheet;
 mod singles;
+mod start;
+mod trees;
 
-pub use first::first_break;
+pub use first::{first_break, first_break_split};
 pub use rule::{Break, Rule};

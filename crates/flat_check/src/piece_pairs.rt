@@ -79,8 +79,8 @@ fn are_near_pieces(sheet: &Sheet, spacing: i64, i: u32, j: u32) -> bool
     are_nearer(sheet.tech, &one, &other, spacing)
 }
 
-// The area of a piece by its number.
-fn piece_area(sheet: &Sheet, i: u32) -> BoxXY
+/// The area of a piece by its number.
+pub fn piece_area(sheet: &Sheet, i: u32) -> BoxXY
     requires sheet { IsSheet sheet.now }
     requires among { i < length sheet.now.pieces.now.placed.items }
     ensures value { result ≡ area_of sheet.now.pieces.now.placed.items i }

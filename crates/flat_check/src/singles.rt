@@ -1,5 +1,5 @@
 //! Rules on single boxes.
-ghost use Rattle.std.specs.Prelude.{◌≡◌, ◌↔◌, ◌<◌, ◌-ℤ◌, ◌<ℤ◌, IsTrue, IfOk, IfSome, length};
+ghost use Rattle.std.specs.Prelude.{◌≡◌, ◌↔◌, ◌<◌, ◌-ℤ◌, ◌<ℤ◌, IsTrue, IfSome, length};
 ghost use Rattle.lam_geom.specs.declared.boxes.Axis.{Axis};
 ghost use Rattle.lam_geom.specs.Places.{IsPlacedBox, IsPlacedSpan};
 ghost use Rattle.rule_table.specs.Bounds.{IsLength};
@@ -7,55 +7,35 @@ ghost use Rattle.crossings.specs.Boxes.{AreSearchable, extent};
 ghost use Rattle.flat_check.specs.Breaks.{IsBreak, IsNarrow, IsOddCut, IsSquare, width_on};
 ghost use Rattle.flat_check.specs.Order.{IsFoundOf, IsOnOne};
 
-use crate::covers::is_uncovered;
 use crate::lengths::in_grains;
 use crate::rule::{Break, Rule};
-use box_index::BoxIndex;
 use lam_geom::{BoxXY, MaskBox, MaskLayer, Span};
 use rule_table::Tech;
-use std::alloc::AllocError;
 
-/// The first break of a rule on single boxes, or None where it is kept. `index` is one of the boxes, and `buffer` is for
-/// numbers of boxes. The only refusal is want of memory.
-pub fn first_at_one(
-    tech: &Tech,
-    boxes: &[MaskBox],
-    index: &BoxIndex,
-    rule: Rule,
-    buffer: &mut Vec<u32>,
-) -> Result<Option<Break>, AllocError>
+/// The first break of a rule that looks at single boxes alone, or None where it is kept.
+pub fn first_at_one(tech: &Tech, boxes: &[MaskBox], rule: Rule) -> Option<Break>
     requires searchable { AreSearchable boxes.now }
-    requires indexed { index.now ≡ boxes.now }
     requires on_one { IsOnOne rule }
-    ensures { IfOk result (IsFoundOf tech.now boxes.now rule) }
+    ensures { IsFoundOf tech.now boxes.now rule result }
 {
     for a in 0..boxes.len() as u32 {
-        if is_broken_at(tech, boxes, index, rule, a, buffer)? {
-            return Ok(Some(Break { rule, a, b: a }));
+        if is_broken_at(tech, boxes, rule, a) {
+            return Some(Break { rule, a, b: a });
         }
     }
-    Ok(None)
+    None
 }
 
-// Whether a rule on single boxes is broken at a box.
-fn is_broken_at(
-    tech: &Tech,
-    boxes: &[MaskBox],
-    index: &BoxIndex,
-    rule: Rule,
-    a: u32,
-    buffer: &mut Vec<u32>,
-) -> Result<bool, AllocError>
+// Whether such a rule is broken at a box.
+fn is_broken_at(tech: &Tech, boxes: &[MaskBox], rule: Rule, a: u32) -> bool
     requires searchable { AreSearchable boxes.now }
-    requires indexed { index.now ≡ boxes.now }
     requires on_one { IsOnOne rule }
     requires among { a < length boxes.now }
-    ensures { IfOk result (λ is_broken. IsTrue is_broken ↔ IsBreak tech.now boxes.now rule a a) }
+    ensures { IsTrue result ↔ IsBreak tech.now boxes.now rule a a }
 {
     match rule {
-        Rule::Width => Ok(is_narrow(tech, boxes, a)),
-        Rule::CutSize => Ok(is_odd_cut(tech, boxes, a)),
-        _ => is_uncovered(tech, boxes, index, a, buffer),
+        Rule::Width => is_narrow(tech, boxes, a),
+        _ => is_odd_cut(tech, boxes, a),
     }
 }
 

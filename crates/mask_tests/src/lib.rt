@@ -20,6 +20,8 @@ mod crossings_tests;
 #[cfg(test)]
 mod design_nets_tests;
 #[cfg(test)]
+mod first_break_tests;
+#[cfg(test)]
 mod flat_check_tests;
 #[cfg(test)]
 mod mask_out_tests;

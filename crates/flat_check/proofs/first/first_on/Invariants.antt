@@ -1,4 +1,5 @@
 use Rattle.flat_check.specs.Order.{KeepBefore}
+use Rattle.flat_check.specs.Starts.{AreByTrees}
 use Rattle.flat_check.proofs.Orders.{left_from}
 use Rattle.flat_check.proofs.first.first_on.Given as goal
 
@@ -6,4 +7,7 @@ abbrev pub decreases-loop-next : goal.decreases-loop-next
 decreases-loop-next l = left_from l.next
 
 abbrev pub invariant-loop-next : goal.invariant-loop-next
-invariant-loop-next l = KeepBefore l.sheet.tech.now l.sheet.boxes.now l.next
+invariant-loop-next l = record {
+  before : KeepBefore l.sheet.tech.now l.sheet.boxes.now l.next;
+  by_trees : AreByTrees l.next
+}

@@ -1,0 +1,82 @@
+-- Searches in ranges of boxes, one behind another.
+use Rattle.std.proofs.Common.{◌≡◌, ℕ, ◌+◌, ◌<◌, ◌≤◌, inl, inr, Option, Some, None, List, [], ◌∷◌, ◌++◌, length, get_or, zero, suc, refl, sym, ◌∙◌, subst, arith}
+use Rattle.std.specs.List.{AllZip}
+use Rattle.std.proofs.lemmas.Bool.{cases_lt}
+use Rattle.lam_geom.specs.declared.boxes.MaskBox.{MaskBox}
+use Rattle.rule_table.specs.declared.technology.Tech.{Tech}
+use Rattle.crossings.specs.Pairs.{Least}
+use Rattle.flat_check.specs.declared.partners.Range.{Range}
+use Rattle.flat_check.specs.declared.rule.Break.{Break}
+use Rattle.flat_check.specs.declared.rule.Rule.{Rule}
+use Rattle.flat_check.specs.Breaks.{IsBreak}
+use Rattle.flat_check.specs.Order.{IsFoundOf}
+use Rattle.flat_check.specs.Ranges.{AreRanges, IsFirstIn, first_or, first_some}
+use Rattle.flat_check.specs.Sheets.{IsByTrees}
+use Rattle.flat_check.proofs.Searches.{first_among}
+
+-- a range is split into no more than itself
+pub ranges_more : (from mid to : ℕ) (ranges : List Range) → AreRanges from ranges mid → mid ≤ to → AreRanges from (ranges ++ record { from = mid; to = to } ∷ []) to
+ranges_more from mid to [] h le = (sym h, le, refl)
+ranges_more from mid to (range ∷ rest) h le = (h.0, h.1, ranges_more range.to mid to rest h.2 le)
+
+-- no range goes past the end
+pub ranges_within : (from to : ℕ) (ranges : List Range) → AreRanges from ranges to → (from ≤ to) × ((k : ℕ) (d : Range) → k < length ranges → (get_or ranges k d).to ≤ to)
+ranges_within from to [] h = (omega (arith, h), λ k d lt. absurd (omega arith))
+ranges_within from to (range ∷ rest) h =
+    let behind = ranges_within range.to to rest h.2 in (omega (arith, h.0, h.1, behind.0), go behind) where
+  go : (range.to ≤ to) × ((k : ℕ) (d : Range) → k < length rest → (get_or rest k d).to ≤ to) → (k : ℕ) (d : Range) → k < length (range ∷ rest) → (get_or (range ∷ rest) k d).to ≤ to
+  go behind zero d lt = behind.0
+  go behind (suc k) d lt = behind.1 k d (omega arith)
+
+module _ (tech : Tech) (boxes : List MaskBox) (rule : Rule) where
+  -- one more first box, with no break
+  pub none_more : (from n : ℕ) → ((a b : ℕ) → from ≤ a → a < n → IsBreak tech boxes rule a b → ⊥) → ((b : ℕ) → IsBreak tech boxes rule n b → ⊥) → (a b : ℕ) → from ≤ a → a < n + 1 → IsBreak tech boxes rule a b → ⊥
+  none_more from n before here a b low lt broken = elim (cases_lt a n) [
+    | inl less ↦ before a b low less broken
+    | inr more ↦ let e : a ≡ n = omega arith in here b (subst (λ (k : ℕ). IsBreak tech boxes rule k b) e broken)
+  ]
+
+  -- the first box with one
+  pub first_there : (from to a b : ℕ) → from ≤ a → a < to → ((c d : ℕ) → from ≤ c → c < a → IsBreak tech boxes rule c d → ⊥) → Least (IsBreak tech boxes rule a) (Some b)
+      → IsFirstIn tech boxes rule from to (Some (record { rule = rule; a = a; b = b }))
+  first_there from to a b low high before least = record {
+    of_rule = refl;
+    low = low;
+    high = high;
+    broken = least.0;
+    least = λ c d from_c broken. elim (cases_lt a c) [
+      | inl less ↦ inl less
+      | inr more ↦ elim (cases_lt c a) [
+        | inl under ↦ absurd (before c d from_c under broken)
+        | inr over ↦ let e : a ≡ c = omega arith in inr (e, least.1 d (subst (λ (k : ℕ). IsBreak tech boxes rule k d) (sym e) broken))
+      ]
+    ];
+  }
+
+  -- a range, and what is behind it
+  pub first_both : (from mid to : ℕ) (first rest : Option Break) → from ≤ mid → mid ≤ to → IsFirstIn tech boxes rule from mid first → IsFirstIn tech boxes rule mid to rest → IsFirstIn tech boxes rule from to (first_or first rest)
+  first_both from mid to (Some first) rest le more h k = record { of_rule = h.of_rule; low = h.low; high = omega (arith, h.high, more); broken = h.broken; least = h.least }
+  first_both from mid to None None le more h k = λ a b low high broken. elim (cases_lt a mid) [ inl less ↦ h a b low less broken | inr past ↦ k a b past high broken ]
+  first_both from mid to None (Some rest) le more h k = record {
+    of_rule = k.of_rule;
+    low = omega (arith, k.low, le);
+    high = k.high;
+    broken = k.broken;
+    least = λ a b low broken. elim (cases_lt a mid) [ inl less ↦ absurd (h a b low less broken) | inr past ↦ k.least a b past broken ];
+  }
+
+  -- all ranges
+  pub first_in_all : (Q : Range → Option Break → Type 0) → ((range : Range) (first : Option Break) → Q range first → IsFirstIn tech boxes rule range.from range.to first) → (ranges : List Range) (found : List (Option Break)) (from to : ℕ)
+      → AreRanges from ranges to → AllZip Q ranges found → IsFirstIn tech boxes rule from to (first_some found)
+  first_in_all Q says [] [] from to are zipped = λ a b low high broken. absurd (omega (arith, are))
+  first_in_all Q says [] (first ∷ found) from to are zipped = absurd zipped
+  first_in_all Q says (range ∷ ranges) [] from to are zipped = absurd zipped
+  first_in_all Q says (range ∷ ranges) (first ∷ found) from to are zipped =
+      let here = subst (λ (n : ℕ). IsFirstIn tech boxes rule n range.to first) are.0 (says range first zipped.0) in
+      first_both from range.to to first (first_some found) (omega (arith, are.0, are.1)) (ranges_within range.to to ranges are.2).0 here
+      (first_in_all Q says ranges found range.to to are.2 zipped.1)
+
+  -- that of all boxes is that of the rule
+  pub found_in_all : (first : Option Break) → IsByTrees rule → IsFirstIn tech boxes rule 0 (length boxes) first → IsFoundOf tech boxes rule first
+  found_in_all None by h = λ a b broken. h a b (omega arith) (first_among tech boxes rule a b by broken) broken
+  found_in_all (Some first) by h = record { of_rule = h.of_rule; broken = h.broken; least = λ a b broken. h.least a b (omega arith) broken }

@@ -1,0 +1,73 @@
+//! The first break of a rule, found in ranges of boxes that run beside each other.
+ghost use Rattle.std.specs.Prelude.{◌≡◌, ◌^◌, ◌≤◌, IfOk, length};
+ghost use Rattle.flat_check.specs.Breaks.{ShapesHold};
+ghost use Rattle.flat_check.specs.Order.{IsFoundOf};
+ghost use Rattle.flat_check.specs.Ranges.{AreRanges, IsFirstIn, first_some};
+ghost use Rattle.flat_check.specs.Sheets.{IsByTrees, IsOnNets, IsSheet};
+ghost use Rattle.flat_check.specs.Trees.{AreTreesOf};
+
+use crate::partners::{Range, first_in};
+use crate::rule::{Break, Rule};
+use crate::sheet::Sheet;
+use crate::trees::Trees;
+use lam_io::Gate;
+use par_phase::map_split;
+use std::alloc::{AllocError, Global};
+use std::thread::Threads;
+
+/// The first break of a rule that is checked by trees, or None where it is kept, found in so many pieces. The only refusal is
+/// want of memory.
+pub fn first_in_pieces<H: Threads + Sync, G: Gate>(
+    rt: &H,
+    alloc: Global,
+    gate: &G,
+    sheet: &Sheet,
+    rule: Rule,
+    trees: &Trees,
+    pieces: u32,
+) -> Result<Option<Break>, AllocError>
+    requires sheet { IsSheet sheet.now }
+    requires by_trees { IsByTrees rule }
+    requires shapes { IsOnNets rule → ShapesHold sheet.now.tech.now sheet.now.boxes.now }
+    requires trees { AreTreesOf sheet.now rule trees.now }
+    requires pieces { (1 ≤ pieces) × (pieces ≤ 64) }
+    ensures { IfOk result (IsFoundOf sheet.now.tech.now sheet.now.boxes.now rule) }
+{
+    let ranges = ranges(alloc, sheet.boxes.len() as u32, pieces)?;
+    let find = |range: &Range| -> Result<Option<Break>, AllocError>
+        requires { IsSheet sheet.now × IsByTrees rule × (IsOnNets rule → ShapesHold sheet.now.tech.now sheet.now.boxes.now)
+            × AreTreesOf sheet.now rule trees.now × (range.now.to ≤ length sheet.now.boxes.now) }
+        ensures { IfOk result (IsFirstIn sheet.entry.now.tech.now sheet.entry.now.boxes.now rule range.entry.now.from range.entry.now.to) }
+    { Ok(first_in(sheet, rule, trees, range)) };
+    let found = map_split(rt, alloc, gate, &ranges, pieces, &find)?;
+    Ok(first_of_all(&found))
+}
+
+// So many numbers in ranges, one behind another, of which there are no more than the pieces.
+fn ranges(alloc: Global, len: u32, pieces: u32) -> Result<Vec<Range>, AllocError>
+    requires some { 1 ≤ pieces }
+    requires few { len ≤ 2 ^ 20 }
+    ensures { IfOk result (λ ranges. AreRanges 0 ranges.items len) }
+{
+    let size = len / pieces + 1;
+    let mut ranges = Vec::new(alloc);
+    let mut from = 0;
+    while from < len {
+        let to = len.min(from.saturating_add(size));
+        ranges.push(Range { from, to })?;
+        from = to;
+    }
+    Ok(ranges)
+}
+
+// The first break of those found one range after another.
+fn first_of_all(found: &[Option<Break>]) -> Option<Break>
+    ensures { result ≡ first_some found.now }
+{
+    for first in found {
+        if first.is_some() {
+            return *first;
+        }
+    }
+    None
+}
