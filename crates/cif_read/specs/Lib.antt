@@ -1,4 +1,5 @@
 pub mod Sheets
+pub mod Readers
 pub mod Acts
 pub mod Meaning
 pub mod Files

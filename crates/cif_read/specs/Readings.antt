@@ -1,15 +1,10 @@
 -- What a reader keeps, as a state; and what holds of it.
-use Rattle.std.specs.Prelude.{◌≡◌, ℕ, ◌≤◌, ◌^◌, ℤ, pos, ◌≤ℤ◌, All, IfSome, false, if◌then◌else◌, Option, Some, None, Result, Err, List, map, length, option_map}
+use Rattle.std.specs.Prelude.{◌≡◌, ℕ, ◌≤◌, ◌^◌, ℤ, pos, ◌≤ℤ◌, All, IfSome, false, if◌then◌else◌, Option, Some, None, List, map, length, option_map}
 use Rattle.std.specs.Ordering.{nat_cmp}
 use Rattle.std.specs.BTreeMap.{BTreeMap, get}
 use Rattle.lam_geom.specs.declared.boxes.MaskBox.{MaskBox}
 use Rattle.cif_lex.specs.declared.command.Next.TheVariants.{End}
 use Rattle.cif_lex.specs.Commands.{IsNext}
-use Rattle.cif_read.specs.declared.fault.CifKind.{CifKind}
-use Rattle.cif_read.specs.declared.fault.Stop.{Stop}
-use Rattle.cif_read.specs.declared.fault.Stop.TheVariants.{Refused, OutOfMemory}
-use Rattle.cif_read.specs.declared.fault.CifReadFault.{CifReadFault}
-use Rattle.cif_read.specs.declared.fault.CifReadFault.TheVariants as faults
 use Rattle.cif_read.specs.declared.file.CifSymbol.{CifSymbol}
 use Rattle.cif_read.specs.declared.file.CifStep.{CifStep}
 use Rattle.cif_read.specs.declared.state.Begun.{Begun}
@@ -32,16 +27,6 @@ state_of r = record { symbols = map symbol_of r.symbols.items; steps = map (step
 
 abbrev pub sheet_of_state : State → Sheet
 sheet_of_state state = record { symbols = state.symbols; steps = state.steps }
-
--- why a command is not carried out
-abbrev pub IsCauseOfStop : Result State CifKind → Stop → Type 0
-IsCauseOfStop answer (Refused kind) = answer ≡ Err kind
-IsCauseOfStop answer OutOfMemory = Unit {0}
-
--- the same, of a text in which the command stands there
-abbrev pub cause_of : ℕ → Stop → CifReadFault
-cause_of begin (Refused kind) = faults.Cif (record { offset = begin; kind = kind })
-cause_of begin OutOfMemory = faults.OutOfMemory
 
 -- ---- numbers
 

@@ -45,10 +45,10 @@ pub fn is_bad_area(l: i64, w: i64, x: i64, y: i64) -> bool
 }
 
 /// Whether one of the numbers of a call is too large, or too small.
-pub fn is_bad_call(n: i64, x: i64, y: i64, far: bool) -> bool
-    ensures { result ≡ is_bad_call n x y far }
+pub fn is_bad_call(n: i64, x: i64, y: i64, bad: bool) -> bool
+    ensures { result ≡ is_bad_call n x y bad }
 {
-    is_bad_symbol(n) || far || is_far(x) || is_far(y)
+    is_bad_symbol(n) || bad || is_far(x) || is_far(y)
 }
 
 /// Whether a number of a definition is no whole number of hundredths of a micron.

@@ -3,7 +3,8 @@ ghost use Rattle.std.specs.Prelude.{◌≡◌, ℕ, ◌+◌, ◌^◌, Some, None
 ghost use Rattle.cif_lex.specs.declared.command.Command.TheVariants as commands;
 ghost use Rattle.cif_read.specs.Acts.{State, start, act, is_bad_area, is_odd_area, scaled, drawn_box, defined, finished, named, placed, placed_in, boxed, called_at};
 ghost use Rattle.cif_read.specs.Files.{drawn_of, IsSolidWithin};
-ghost use Rattle.cif_read.specs.Readings.{state_of, definition_of, IsCauseOfStop, IsSound, IsSoundBegun};
+ghost use Rattle.cif_read.specs.Readers.{IsCauseOfStop};
+ghost use Rattle.cif_read.specs.Readings.{state_of, definition_of, IsSound, IsSoundBegun};
 
 use crate::fault::{CifKind, Stop};
 use crate::file::{CifStep, CifSymbol};
@@ -202,16 +203,16 @@ impl Reading {
     }
 
     // A call, which shifts by hundredths of a micron, each two grains.
-    fn call(&mut self, number: i64, x: i64, y: i64, far: bool) -> Result<(), Stop>
+    fn call(&mut self, number: i64, x: i64, y: i64, bad: bool) -> Result<(), Stop>
         requires sound { IsSound (2 ^ 26) self.old }
-        ensures done { OnOk result (called_at (state_of self.old) number x y far ≡ Ok (state_of self.new)) }
-        ensures refused { IfErr result (IsCauseOfStop (called_at (state_of self.old) number x y far)) }
+        ensures done { OnOk result (called_at (state_of self.old) number x y bad ≡ Ok (state_of self.new)) }
+        ensures refused { IfErr result (IsCauseOfStop (called_at (state_of self.old) number x y bad)) }
         ensures sound { OnOk result ((count : ℕ) → IsSound count self.old → IsSound (count + 1) self.new) }
     {
         if self.begun.is_some() {
             return Err(Stop::Refused(CifKind::BadCommand));
         }
-        if is_bad_call(number, x, y, far) {
+        if is_bad_call(number, x, y, bad) {
             return Err(Stop::Refused(CifKind::BadNumber));
         }
         let Some(symbol) = self.places.get(&(number as u32)).copied() else {
@@ -225,7 +226,7 @@ impl Reading {
         Ok(())
     }
 
-    /// Carries out a command. After a refusal nothing more may be read.
+    /// Carries out a command; a call that does more than shift is no form here. After a refusal nothing more may be read.
     pub fn act(&mut self, alloc: Global, command: Command) -> Result<(), Stop>
         requires sound { IsSound (2 ^ 26) self.old }
         ensures done { OnOk result (act (state_of self.old) command ≡ Ok (state_of self.new)) }
@@ -245,7 +246,17 @@ impl Reading {
                 Ok(())
             }
             Command::Area { l, w, x, y } => self.area(l, w, x, y),
-            Command::Call { number, x, y, far } => self.call(number, x, y, far),
+            Command::Call {
+                number,
+                place,
+                bad,
+                turned,
+            } => {
+                if turned {
+                    return Err(Stop::Refused(CifKind::BadCommand));
+                }
+                self.call(number, place.x, place.y, bad)
+            }
         }
     }
 }

@@ -1,0 +1,128 @@
+-- What each command makes of what has been read, and why it may not stand where it stands.
+use Rattle.std.specs.Prelude.{ℕ, ◌+◌, ℤ, pos, ◌*ℤ◌, nat_le, Bool, ◌&&◌, ◌||◌, if◌then◌else◌, Option, Some, None, is_some, Result, Ok, Err, List, [], ◌∷◌, ◌++◌, map, slice_index_or}
+use Rattle.std.specs.List.{list_any}
+use Rattle.std.specs.Ordering.{int_eq}
+use Rattle.cif_lex.specs.declared.command.Command.{Command}
+use Rattle.cif_lex.specs.declared.command.Command.TheVariants.{Nothing, Define, Finish, Layer, Area, Call, Extension}
+use Rattle.cif_lex.specs.declared.placement.Placement.{Placement}
+use Rattle.cif_read.specs.declared.fault.CifKind.{CifKind}
+use Rattle.cif_read.specs.declared.fault.CifKind.TheVariants.{BadCommand, BadNumber, NestedDefinition, RepeatedSymbol, UnknownSymbol, NoLayer, OddScale, TooDeep}
+use Rattle.cif_read.specs.Sheets.{Drawn}
+use Rattle.cif_read.specs.Acts.{Named, is_bad_symbol, is_bad_factor, is_bad_area, is_bad_call, scaled, is_odd, is_odd_area, kept}
+use Rattle.cif_foreign.specs.Sheets.{Step, Symbol, own, called, depths_of, most_depth}
+
+-- ---- what has been read so far
+
+-- what is drawn at the top, or in a definition: its scale, the layer that was named there, and its steps
+pub record Level : Type 0 where
+  pub above : ℤ
+  pub below : ℤ
+  pub layer : Option Named
+  pub steps : List Step
+
+pub record Definition : Type 0 where
+  pub number : ℤ
+  pub level : Level
+
+-- definitions that have ended, the top, and the definition that has begun and not ended
+pub record State : Type 0 where
+  pub symbols : List Symbol
+  pub top : Level
+  pub begun : Option Definition
+
+-- nothing yet; the top has no scale
+abbrev pub empty : ℤ → ℤ → Level
+empty above below = record { above = above; below = below; layer = None; steps = [] }
+
+abbrev pub start : State
+start = record { symbols = []; top = empty (pos 1) (pos 1); begun = None }
+
+-- where a command draws: in the definition that has begun, or else at the top
+abbrev pub level_of : State → Option Definition → Level
+level_of state None = state.top
+level_of state (Some d) = d.level
+
+abbrev pub with_level : State → Option Definition → Level → State
+with_level state None level = record state { top = level }
+with_level state (Some d) level = record state { begun = Some (record d { level = level }) }
+
+abbrev pub drawn_on : State → Result Level CifKind → Result State CifKind
+drawn_on state (Ok level) = Ok (with_level state state.begun level)
+drawn_on state (Err kind) = Err kind
+
+-- ---- symbols
+
+abbrev pub has_number : ℤ → Symbol → Bool
+has_number n symbol = int_eq symbol.number n
+
+abbrev pub is_known : ℤ → List Symbol → Bool
+is_known n symbols = list_any (has_number n) symbols
+
+-- the position of the symbol with this number
+abbrev pub place_of : ℤ → List Symbol → ℕ
+place_of n [] = 0
+place_of n (symbol ∷ symbols) = if has_number n symbol then 0 else place_of n symbols + 1
+
+-- ---- boxes and calls
+
+abbrev pub with_steps : Level → List Step → Level
+with_steps level steps = record level { steps = level.steps ++ steps }
+
+-- a box, in hundredths of a micron by the scale
+abbrev pub boxed : Level → Option Named → ℤ → ℤ → ℤ → ℤ → Result Level CifKind
+boxed level None l w x y = Err NoLayer
+boxed level (Some layer) l w x y =
+    if is_odd_area level.above level.below l w x y then Err OddScale
+    else (let s = scaled level.above level.below in Ok (with_steps level (map own (kept layer (s l) (s w) (s x) (s y)))))
+
+-- the same for a shift, of which each hundredth of a micron is two grains; what is called is not scaled again
+abbrev pub scaled_place : Level → Placement → Placement
+scaled_place level place = record { turn = place.turn; x = pos 2 *ℤ scaled level.above level.below place.x; y = pos 2 *ℤ scaled level.above level.below place.y }
+
+abbrev pub is_odd_shift : Level → Placement → Bool
+is_odd_shift level place = is_odd level.above level.below place.x || is_odd level.above level.below place.y
+
+-- a call of the symbol in this position; in a definition one of the greatest depth may not be called
+abbrev pub called_on : State → Level → ℕ → Placement → Result Level CifKind
+called_on state level symbol place =
+    if is_odd_shift level place then Err OddScale
+    else (if is_some state.begun && nat_le most_depth (slice_index_or (depths_of state.symbols) symbol 0) then Err TooDeep
+    else Ok (with_steps level (called symbol (scaled_place level place) ∷ [])))
+
+-- ---- the commands
+
+abbrev pub defined : State → ℤ → ℤ → ℤ → Result State CifKind
+defined state n above below =
+    if is_bad_symbol n || is_bad_factor above || is_bad_factor below then Err BadNumber
+    else (if is_some state.begun then Err NestedDefinition
+    else (if is_known n state.symbols then Err RepeatedSymbol
+    else Ok (record state { begun = Some (record { number = n; level = empty above below }) })))
+
+abbrev pub finished : State → Option Definition → Result State CifKind
+finished state None = Err BadCommand
+finished state (Some d) = Ok (record state { symbols = state.symbols ++ (record { number = d.number; steps = d.level.steps } ∷ []); begun = None })
+
+abbrev pub named : State → Named → State
+named state layer = with_level state state.begun (record (level_of state state.begun) { layer = Some layer })
+
+abbrev pub area : State → ℤ → ℤ → ℤ → ℤ → Result State CifKind
+area state l w x y =
+    if is_bad_area l w x y then Err BadNumber
+    else (let level = level_of state state.begun in drawn_on state (boxed level level.layer l w x y))
+
+-- a symbol that is being defined is not known yet
+abbrev pub call : State → ℤ → Placement → Bool → Result State CifKind
+call state n place bad =
+    if is_bad_call n place.x place.y bad then Err BadNumber
+    else (if is_known n state.symbols then drawn_on state (called_on state (level_of state state.begun) (place_of n state.symbols) place)
+    else Err UnknownSymbol)
+
+-- what a command makes of what has been read, or the first of its faults
+unfoldable pub act : State → Command → Result State CifKind
+act state Nothing = Ok state
+act state (Define n above below) = defined state n above below
+act state Finish = finished state state.begun
+act state (Layer layer) = Ok (named state layer)
+act state (Area l w x y) = area state l w x y
+act state (Call n place bad is_turned) = call state n place bad
+act state Extension = Ok state

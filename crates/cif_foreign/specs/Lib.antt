@@ -1,0 +1,4 @@
+pub mod Sheets
+pub mod Acts
+pub mod Meaning
+pub mod Files
