@@ -20,35 +20,23 @@ pub record Level : Type 0 where
   pub layer : Option Named
   pub steps : List Step
 
-pub record Definition : Type 0 where
+-- a definition that has begun and not ended: its number, and the top, which goes on behind it
+pub record Begun : Type 0 where
   pub number : ℤ
-  pub level : Level
+  pub top : Level
 
--- definitions that have ended, the top, and the definition that has begun and not ended
+-- definitions that have ended; where commands draw, in the definition that has begun or else at the top; and that definition
 pub record State : Type 0 where
   pub symbols : List Symbol
-  pub top : Level
-  pub begun : Option Definition
+  pub level : Level
+  pub begun : Option Begun
 
--- nothing yet; the top has no scale
+-- nothing yet, by this scale; the top has none
 abbrev pub empty : ℤ → ℤ → Level
 empty above below = record { above = above; below = below; layer = None; steps = [] }
 
 abbrev pub start : State
-start = record { symbols = []; top = empty (pos 1) (pos 1); begun = None }
-
--- where a command draws: in the definition that has begun, or else at the top
-abbrev pub level_of : State → Option Definition → Level
-level_of state None = state.top
-level_of state (Some d) = d.level
-
-abbrev pub with_level : State → Option Definition → Level → State
-with_level state None level = record state { top = level }
-with_level state (Some d) level = record state { begun = Some (record d { level = level }) }
-
-abbrev pub drawn_on : State → Result Level CifKind → Result State CifKind
-drawn_on state (Ok level) = Ok (with_level state state.begun level)
-drawn_on state (Err kind) = Err kind
+start = record { symbols = []; level = empty (pos 1) (pos 1); begun = None }
 
 -- ---- symbols
 
@@ -82,39 +70,45 @@ scaled_place level place = record { turn = place.turn; x = pos 2 *ℤ scaled lev
 abbrev pub is_odd_shift : Level → Placement → Bool
 is_odd_shift level place = is_odd level.above level.below place.x || is_odd level.above level.below place.y
 
--- a call of the symbol in this position; in a definition one of the greatest depth may not be called
-abbrev pub called_on : State → Level → ℕ → Placement → Result Level CifKind
-called_on state level symbol place =
+-- a call of the symbol in this position, which may be too deep
+abbrev pub called_on : Level → Bool → ℕ → Placement → Result Level CifKind
+called_on level too_deep symbol place =
     if is_odd_shift level place then Err OddScale
-    else (if is_some state.begun && nat_le most_depth (slice_index_or (depths_of state.symbols) symbol 0) then Err TooDeep
+    else (if too_deep then Err TooDeep
     else Ok (with_steps level (called symbol (scaled_place level place) ∷ [])))
 
+-- in a definition a symbol of the greatest depth may not be called
+abbrev pub is_too_deep : State → ℕ → Bool
+is_too_deep state symbol = is_some state.begun && nat_le most_depth (slice_index_or (depths_of state.symbols) symbol 0)
+
 -- ---- the commands
+
+abbrev pub drawn_on : State → Result Level CifKind → Result State CifKind
+drawn_on state (Ok level) = Ok (record state { level = level })
+drawn_on state (Err kind) = Err kind
 
 abbrev pub defined : State → ℤ → ℤ → ℤ → Result State CifKind
 defined state n above below =
     if is_bad_symbol n || is_bad_factor above || is_bad_factor below then Err BadNumber
     else (if is_some state.begun then Err NestedDefinition
     else (if is_known n state.symbols then Err RepeatedSymbol
-    else Ok (record state { begun = Some (record { number = n; level = empty above below }) })))
+    else Ok (record state { level = empty above below; begun = Some (record { number = n; top = state.level }) })))
 
-abbrev pub finished : State → Option Definition → Result State CifKind
+abbrev pub finished : State → Option Begun → Result State CifKind
 finished state None = Err BadCommand
-finished state (Some d) = Ok (record state { symbols = state.symbols ++ (record { number = d.number; steps = d.level.steps } ∷ []); begun = None })
+finished state (Some b) = Ok (record { symbols = state.symbols ++ (record { number = b.number; steps = state.level.steps } ∷ []); level = b.top; begun = None })
 
 abbrev pub named : State → Named → State
-named state layer = with_level state state.begun (record (level_of state state.begun) { layer = Some layer })
+named state layer = record state { level = record state.level { layer = Some layer } }
 
 abbrev pub area : State → ℤ → ℤ → ℤ → ℤ → Result State CifKind
-area state l w x y =
-    if is_bad_area l w x y then Err BadNumber
-    else (let level = level_of state state.begun in drawn_on state (boxed level level.layer l w x y))
+area state l w x y = if is_bad_area l w x y then Err BadNumber else drawn_on state (boxed state.level state.level.layer l w x y)
 
 -- a symbol that is being defined is not known yet
 abbrev pub call : State → ℤ → Placement → Bool → Result State CifKind
 call state n place bad =
     if is_bad_call n place.x place.y bad then Err BadNumber
-    else (if is_known n state.symbols then drawn_on state (called_on state (level_of state state.begun) (place_of n state.symbols) place)
+    else (if is_known n state.symbols then (let symbol = place_of n state.symbols in drawn_on state (called_on state.level (is_too_deep state symbol) symbol place))
     else Err UnknownSymbol)
 
 -- what a command makes of what has been read, or the first of its faults

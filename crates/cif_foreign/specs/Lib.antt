@@ -2,3 +2,4 @@ pub mod Sheets
 pub mod Acts
 pub mod Meaning
 pub mod Files
+pub mod Readings

@@ -9,7 +9,7 @@ use Rattle.cif_foreign.specs.Acts.{State, start, act}
 
 -- the reader to which a call may turn, and may stand in a definition
 abbrev pub reader : Reader State Sheet
-reader = record { start = start; act = act; is_open = λ state. is_some state.begun; drawn = λ state. record { symbols = state.symbols; steps = state.top.steps } }
+reader = record { start = start; act = act; is_open = λ state. is_some state.begun; drawn = λ state. record { symbols = state.symbols; steps = state.level.steps } }
 
 abbrev pub BeginsWell : List ℕ → ℕ → State → Type 0
 BeginsWell text read state = BeginsWellBy reader text read state

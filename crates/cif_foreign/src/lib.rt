@@ -11,6 +11,7 @@ mod file;
 mod flattening;
 mod laws;
 mod reading;
+mod state;
 
 pub use file::{ForeignFile, ForeignStep, ForeignSymbol};
 pub use flattening::flatten_foreign;

@@ -62,7 +62,7 @@ record IsBehind {S D : Type 0} (reader : Reader S D) (text : List ℕ) (state : 
 
 abbrev Says : {S D : Type 0} → Reader S D → List ℕ → S → Next → ℕ → CifKind → Type 0
 Says reader text state (Whole begin command after) offset kind = (offset ≡ begin) × (reader.act state command ≡ Err kind)
-Says reader text state (Cut begin command) offset kind = ((offset ≡ begin) × (reader.act state command ≡ Err kind)) ⊎ ((done : S) × (reader.act state command ≡ Ok done) × (offset ≡ length text) × (kind ≡ NoEnd))
+Says {S = S} reader text state (Cut begin command) offset kind = ((offset ≡ begin) × (reader.act state command ≡ Err kind)) ⊎ ((done : S) × (reader.act state command ≡ Ok done) × (offset ≡ length text) × (kind ≡ NoEnd))
 Says reader text state (Bad begin) offset kind = (offset ≡ begin) × (kind ≡ BadCommand)
 Says reader text state (End begin) offset kind = ((reader.is_open state ≡ true) × (offset ≡ begin) × (kind ≡ NestedDefinition)) ⊎ IsBehind reader text state begin offset kind
 Says reader text state Missing offset kind = (offset ≡ length text) × (kind ≡ NoEnd)
@@ -178,7 +178,7 @@ not_both reader one tail text sheet fault m n =
       | inr (inr g) ↦ fault_stops reader one text n.state n.read fault.offset fault.kind f g
     ]
 
-pub determined : {S D : Type 0} (reader : Reader S D) NextIsDetermined → TailIsDetermined → IsDeterminedBy reader
+pub determined : {S D : Type 0} (reader : Reader S D) → NextIsDetermined → TailIsDetermined → IsDeterminedBy reader
 determined reader one tail = record {
   one_sheet = λ text a b _ m n. one_sheet reader one text a b m n;
   one_fault = λ text a b _ m n. one_fault reader one tail text a b m n;

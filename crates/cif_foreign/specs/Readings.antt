@@ -1,0 +1,86 @@
+-- What a reader keeps, as a state; and what holds of it.
+use Rattle.std.specs.Prelude.{◌≡◌, ℕ, ◌<◌, ◌≤◌, ◌^◌, ℤ, pos, All, IfSome, true, false, if◌then◌else◌, Option, Some, None, List, map, max, fold, length, option_map, slice_index_or, IsTrue}
+use Rattle.std.specs.Ordering.{nat_cmp}
+use Rattle.std.specs.BTreeMap.{BTreeMap, get}
+use Rattle.cif_lex.specs.declared.command.Command.{Command}
+use Rattle.cif_lex.specs.declared.command.Command.TheVariants.{Call}
+use Rattle.cif_lex.specs.declared.command.Next.TheVariants.{End}
+use Rattle.cif_lex.specs.Commands.{IsNext}
+use Rattle.cif_read.specs.Readings.{IsFactor}
+use Rattle.cif_foreign.specs.declared.file.ForeignSymbol.{ForeignSymbol}
+use Rattle.cif_foreign.specs.declared.file.ForeignStep.{ForeignStep}
+use Rattle.cif_foreign.specs.declared.state.Drawing.{Drawing}
+use Rattle.cif_foreign.specs.declared.state.Begun.{Begun}
+use Rattle.cif_foreign.specs.declared.state.Reading.{Reading}
+use Rattle.cif_foreign.specs.Sheets.{Step, Symbol, Sheet, depth_of_step, depths_of, most_depth}
+use Rattle.cif_foreign.specs.Acts.{State, Level, is_known, place_of}
+use Rattle.cif_foreign.specs.Acts as acts
+use Rattle.cif_foreign.specs.Meaning.{BeginsWell}
+use Rattle.cif_foreign.specs.Files.{step_of, symbol_of, IsStepOf, no_symbol}
+
+-- ---- as a state
+
+abbrev pub level_from : Drawing → Level
+level_from d = record { above = d.above; below = d.below; layer = d.layer; steps = map step_of d.steps.items }
+
+abbrev pub definition_of : Begun → acts.Begun
+definition_of b = record { number = pos b.number; top = level_from b.top }
+
+abbrev pub begun_of : Option Begun → Option acts.Begun
+begun_of begun = option_map definition_of begun
+
+abbrev pub symbols_of : Reading → List Symbol
+symbols_of r = map symbol_of r.symbols.items
+
+abbrev pub state_of : Reading → State
+state_of r = record { symbols = symbols_of r; level = level_from r.drawing; begun = begun_of r.begun }
+
+-- the turn of a command that calls
+abbrev pub HasTurn : Command → Type 0
+HasTurn (Call n place bad is_turned) = place.turn < 8
+HasTurn command = Unit {0}
+
+-- ---- what holds
+
+-- the greatest depth of the symbols that steps call, where those of the symbols are these
+abbrev pub called_depth : List ℕ → List Step → ℕ
+called_depth depths steps = fold max 0 (map (depth_of_step depths) steps)
+
+-- a level whose steps are such, of so many symbols of these depths
+pub record IsSoundLevel (depths : List ℕ) (d : Drawing) : Type 0 where
+  pub above : IsFactor d.above
+  pub below : IsFactor d.below
+  pub steps : All (IsStepOf (length depths)) d.steps.items
+  pub called : d.called ≡ called_depth depths (map step_of d.steps.items)
+
+-- the place of the symbol with this number, if there is one
+abbrev pub place_among : ℤ → List Symbol → Option ℕ
+place_among n symbols = if is_known n symbols then Some (place_of n symbols) else None
+
+pub record HasPlaces (places : BTreeMap ℕ ℕ) (symbols : List Symbol) : Type 0 where
+  pub each : (n : ℕ) → get nat_cmp places n ≡ place_among (pos n) symbols
+
+-- at most so many symbols, each of which calls those before it alone, and none too deep
+pub record IsSound (count : ℕ) (r : Reading) : Type 0 where
+  pub few : length r.symbols.items ≤ count
+  pub counted : length r.depths.items ≡ length r.symbols.items
+  pub depths : r.depths.items ≡ depths_of (symbols_of r)
+  pub shallow : All (λ depth. depth ≤ most_depth) r.depths.items
+  pub symbols : (k : ℕ) → k < length r.symbols.items → All (IsStepOf k) (slice_index_or r.symbols.items k no_symbol).steps
+  pub places : HasPlaces r.places (symbols_of r)
+  pub drawing : IsSoundLevel r.depths.items r.drawing
+  pub top : IfSome r.begun (λ b. IsSoundLevel r.depths.items b.top)
+  pub fresh : IfSome r.begun (λ b. is_known (pos b.number) (symbols_of r) ≡ false)
+  pub not_deep : IfSome r.begun (λ b. r.drawing.called < most_depth)
+
+-- so many bytes have been read, and this was made of them
+pub record HasRead (text : List ℕ) (read : ℕ) (r : Reading) : Type 0 where
+  pub within : read ≤ length text
+  pub well : BeginsWell text read (state_of r)
+  pub sound : IsSound read r
+
+-- all commands have been read, and the letter E stands there
+pub record HasReadAll (text : List ℕ) (begin : ℕ) (r : Reading) : Type 0 where
+  pub read : ℕ
+  pub reading : HasRead text read r
+  pub ended : IsNext text read (End begin)
