@@ -1,0 +1,3 @@
+pub mod Placing
+pub mod Building
+pub mod Symbols

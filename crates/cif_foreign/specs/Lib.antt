@@ -3,3 +3,4 @@ pub mod Acts
 pub mod Meaning
 pub mod Files
 pub mod Readings
+pub mod Counts

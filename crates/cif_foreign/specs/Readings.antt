@@ -6,7 +6,7 @@ use Rattle.cif_lex.specs.declared.command.Command.{Command}
 use Rattle.cif_lex.specs.declared.command.Command.TheVariants.{Call}
 use Rattle.cif_lex.specs.declared.command.Next.TheVariants.{End}
 use Rattle.cif_lex.specs.Commands.{IsNext}
-use Rattle.cif_read.specs.Readings.{IsFactor}
+use Rattle.cif_read.specs.Scales.{IsScale}
 use Rattle.cif_foreign.specs.declared.file.ForeignSymbol.{ForeignSymbol}
 use Rattle.cif_foreign.specs.declared.file.ForeignStep.{ForeignStep}
 use Rattle.cif_foreign.specs.declared.state.Drawing.{Drawing}
@@ -21,7 +21,7 @@ use Rattle.cif_foreign.specs.Files.{step_of, symbol_of, IsStepOf, no_symbol}
 -- ---- as a state
 
 abbrev pub level_from : Drawing → Level
-level_from d = record { above = d.above; below = d.below; layer = d.layer; steps = map step_of d.steps.items }
+level_from d = record { above = d.scale.above; below = d.scale.below; layer = d.layer; steps = map step_of d.steps.items }
 
 abbrev pub definition_of : Begun → acts.Begun
 definition_of b = record { number = pos b.number; top = level_from b.top }
@@ -48,8 +48,7 @@ called_depth depths steps = fold max 0 (map (depth_of_step depths) steps)
 
 -- a level whose steps are such, of so many symbols of these depths
 pub record IsSoundLevel (depths : List ℕ) (d : Drawing) : Type 0 where
-  pub above : IsFactor d.above
-  pub below : IsFactor d.below
+  pub scale : IsScale d.scale
   pub steps : All (IsStepOf (length depths)) d.steps.items
   pub called : d.called ≡ called_depth depths (map step_of d.steps.items)
 

@@ -1,18 +1,18 @@
 //! What has been read so far, and what each command makes of it.
 ghost use Rattle.std.specs.Prelude.{◌≡◌, ℕ, ◌+◌, ◌<◌, ◌^◌, pos, ◌*ℤ◌, max, List, Ok, OnOk, IfErr, false, length, slice_index_or};
-ghost use Rattle.cif_read.specs.Acts.{is_bad_area, is_odd_area, scaled, drawn_box};
-ghost use Rattle.cif_read.specs.Files.{drawn_of, IsSolidWithin, IsWithin};
+ghost use Rattle.cif_read.specs.Acts.{is_bad_area, is_odd, scaled};
+ghost use Rattle.cif_read.specs.Files.{IsWithin};
 ghost use Rattle.cif_read.specs.Readers.{IsCauseOfStop};
-ghost use Rattle.cif_read.specs.Readings.{IsFactor};
+ghost use Rattle.cif_read.specs.Scales.{IsScale};
 ghost use Rattle.cif_foreign.specs.Acts.{start, act, empty, boxed, called_on, defined, finished, area, call};
 ghost use Rattle.cif_foreign.specs.Readings.{state_of, level_from, IsSound, IsSoundLevel, HasTurn};
 
 use crate::file::{ForeignStep, ForeignSymbol};
 use cif_lex::{Command, Placement};
 use cif_read::{
-    CifKind, Stop, drawn_box, is_bad_area, is_bad_call, is_bad_factor, is_bad_symbol, is_odd, scaled,
+    CifKind, Scale, Stop, is_bad_area, is_bad_call, is_bad_factor, is_bad_symbol, is_odd, scaled,
 };
-use lam_geom::{MaskBox, MaskLayer};
+use lam_geom::MaskLayer;
 use lam_list::Seq;
 use std::alloc::Global;
 use std::collections::BTreeMap;
@@ -25,8 +25,7 @@ pub const MOST_DEPTH: u8 = 64;
 /// depth of a symbol that it calls, 0 where it calls none.
 #[derive(Drop)]
 pub struct Drawing {
-    pub above: i64,
-    pub below: i64,
+    pub scale: Scale,
     pub layer: Option<Option<MaskLayer>>,
     pub steps: Vec<ForeignStep>,
     pub called: u8,
@@ -52,55 +51,22 @@ pub struct Reading {
 
 impl Drawing {
     /// Nothing, by this scale.
-    pub fn new(alloc: Global, above: i64, below: i64) -> Drawing
-        ensures value { level_from result ≡ empty above below }
-        ensures sound { IsFactor above → IsFactor below → (depths : List ℕ) → IsSoundLevel depths result }
+    pub fn new(alloc: Global, scale: Scale) -> Drawing
+        ensures value { level_from result ≡ empty scale.above scale.below }
+        ensures sound { IsScale scale → (depths : List ℕ) → IsSoundLevel depths result }
         ensures shallow { result.called ≡ 0 }
     {
         Drawing {
-            above,
-            below,
+            scale,
             layer: None,
             steps: Vec::new(alloc),
             called: 0,
         }
     }
 
-    // Whether one of the numbers of a box is no whole number of hundredths of a micron.
-    fn is_odd_area(&self, l: i64, w: i64, x: i64, y: i64) -> bool
-        requires above { IsFactor self.now.above }
-        requires below { IsFactor self.now.below }
-        requires good { is_bad_area l w x y ≡ false }
-        ensures { result ≡ is_odd_area self.now.above self.now.below l w x y }
-    {
-        is_odd(self.above, self.below, l)
-            || is_odd(self.above, self.below, w)
-            || is_odd(self.above, self.below, x)
-            || is_odd(self.above, self.below, y)
-    }
-
-    // The box on a layer that is kept.
-    fn scaled_box(&self, layer: MaskLayer, l: i64, w: i64, x: i64, y: i64) -> MaskBox
-        requires above { IsFactor self.now.above }
-        requires below { IsFactor self.now.below }
-        requires good { is_bad_area l w x y ≡ false }
-        requires even { is_odd_area self.now.above self.now.below l w x y ≡ false }
-        ensures value { let s = scaled self.now.above self.now.below in drawn_of result ≡ drawn_box layer (s l) (s w) (s x) (s y) }
-        ensures solid { IsSolidWithin (2 ^ 50) (drawn_of result) }
-    {
-        drawn_box(
-            layer,
-            scaled(self.above, self.below, l),
-            scaled(self.above, self.below, w),
-            scaled(self.above, self.below, x),
-            scaled(self.above, self.below, y),
-        )
-    }
-
     // A box.
     fn area(&mut self, l: i64, w: i64, x: i64, y: i64) -> Result<(), Stop>
-        requires above { IsFactor self.old.above }
-        requires below { IsFactor self.old.below }
+        requires scale { IsScale self.old.scale }
         requires good { is_bad_area l w x y ≡ false }
         ensures done { OnOk result (boxed (level_from self.old) self.old.layer l w x y ≡ Ok (level_from self.new)) }
         ensures refused { IfErr result (IsCauseOfStop (boxed (level_from self.old) self.old.layer l w x y)) }
@@ -110,31 +76,38 @@ impl Drawing {
         let Some(named) = self.layer else {
             return Err(Stop::Refused(CifKind::NoLayer));
         };
-        if self.is_odd_area(l, w, x, y) {
+        if self.scale.is_odd_area(l, w, x, y) {
             return Err(Stop::Refused(CifKind::OddScale));
         }
         if let Some(layer) = named {
-            let scaled = self.scaled_box(layer, l, w, x, y);
+            let scaled = self.scale.scaled_box(layer, l, w, x, y);
             self.steps.push(ForeignStep::Own(scaled))?;
         }
         Ok(())
     }
 
+    // Whether a number is no whole number of hundredths of a micron.
+    fn is_odd(&self, n: i64) -> bool
+        requires scale { IsScale self.now.scale }
+        requires near { IsWithin (2 ^ 30) n }
+        ensures { result ≡ is_odd self.now.scale.above self.now.scale.below n }
+    {
+        is_odd(self.scale.above, self.scale.below, n)
+    }
+
     // A shift's number in grains, each half a hundredth of a micron.
     fn in_grains(&self, n: i64) -> i64
-        requires above { IsFactor self.now.above }
-        requires below { IsFactor self.now.below }
+        requires scale { IsScale self.now.scale }
         requires near { IsWithin (2 ^ 30) n }
-        ensures value { result ≡ pos 2 *ℤ scaled self.now.above self.now.below n }
+        ensures value { result ≡ pos 2 *ℤ scaled self.now.scale.above self.now.scale.below n }
         ensures near { IsWithin (2 ^ 47) result }
     {
-        2 * scaled(self.above, self.below, n)
+        2 * scaled(self.scale.above, self.scale.below, n)
     }
 
     // A call of the symbol in this position, which has this depth.
     fn call(&mut self, symbol: u32, depth: u8, too_deep: bool, place: Placement) -> Result<(), Stop>
-        requires above { IsFactor self.old.above }
-        requires below { IsFactor self.old.below }
+        requires scale { IsScale self.old.scale }
         requires turn { place.turn < 8 }
         requires x { IsWithin (2 ^ 30) place.x }
         requires y { IsWithin (2 ^ 30) place.y }
@@ -144,7 +117,7 @@ impl Drawing {
         ensures called { OnOk result (self.new.called ≡ max self.old.called depth) }
         ensures not_deep { OnOk result (too_deep ≡ false) }
     {
-        if is_odd(self.above, self.below, place.x) || is_odd(self.above, self.below, place.y) {
+        if self.is_odd(place.x) || self.is_odd(place.y) {
             return Err(Stop::Refused(CifKind::OddScale));
         }
         if too_deep {
@@ -173,7 +146,7 @@ impl Reading {
             symbols: Vec::new(alloc),
             depths: Vec::new(alloc),
             places: BTreeMap::new(alloc),
-            drawing: Drawing::new(alloc, 1, 1),
+            drawing: Drawing::new(alloc, Scale { above: 1, below: 1 }),
             begun: None,
         }
     }
@@ -195,7 +168,7 @@ impl Reading {
         if self.places.contains_key(&number) {
             return Err(Stop::Refused(CifKind::RepeatedSymbol));
         }
-        let top = mem::replace(&mut self.drawing, Drawing::new(alloc, above, below));
+        let top = mem::replace(&mut self.drawing, Drawing::new(alloc, Scale { above, below }));
         self.begun = Some(Begun { number, top });
         Ok(())
     }

@@ -12,12 +12,13 @@ use Rattle.cif_read.specs.declared.state.Reading.{Reading}
 use Rattle.cif_read.specs.Sheets.{Symbol, Sheet}
 use Rattle.cif_read.specs.Acts.{State, Definition, is_known, place_of}
 use Rattle.cif_read.specs.Meaning.{BeginsWell}
+use Rattle.cif_read.specs.Scales.{IsScale}
 use Rattle.cif_read.specs.Files.{drawn_of, symbol_of, step_of, IsSolidWithin, IsStepOf}
 
 -- ---- as a state
 
 abbrev pub definition_of : Begun → Definition
-definition_of b = record { number = pos b.number; above = b.above; below = b.below; layer = b.layer; boxes = map drawn_of b.boxes.items }
+definition_of b = record { number = pos b.number; above = b.scale.above; below = b.scale.below; layer = b.layer; boxes = map drawn_of b.boxes.items }
 
 abbrev pub begun_of : Option Begun → Option Definition
 begun_of begun = option_map definition_of begun
@@ -30,9 +31,6 @@ sheet_of_state state = record { symbols = state.symbols; steps = state.steps }
 
 -- ---- numbers
 
-abbrev pub IsFactor : ℤ → Type 0
-IsFactor n = (pos 1 ≤ℤ n) × (n ≤ℤ pos (2 ^ 16))
-
 abbrev pub IsExtent : ℤ → Type 0
 IsExtent n = (pos 1 ≤ℤ n) × (n ≤ℤ pos (2 ^ 46))
 
@@ -40,8 +38,7 @@ IsExtent n = (pos 1 ≤ℤ n) × (n ≤ℤ pos (2 ^ 46))
 
 -- a definition that has begun: its scale, and at most so many boxes, each with an inside
 pub record IsSoundBegun (count : ℕ) (b : Begun) : Type 0 where
-  pub above : IsFactor b.above
-  pub below : IsFactor b.below
+  pub scale : IsScale b.scale
   pub boxes : All (IsSolidWithin (2 ^ 50)) (map drawn_of b.boxes.items)
   pub few : length b.boxes.items ≤ count
 

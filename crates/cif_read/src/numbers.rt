@@ -3,7 +3,8 @@ ghost use Rattle.std.specs.Prelude.{◌≡◌, ◌^◌, pos, ◌+ℤ◌, ◌-ℤ
 ghost use Rattle.cif_lex.specs.Commands.{is_far};
 ghost use Rattle.cif_read.specs.Acts.{is_bad_symbol, is_bad_factor, is_bad_length, is_bad_area, is_bad_call, scaled, is_odd, drawn_box};
 ghost use Rattle.cif_read.specs.Files.{IsWithin, IsSolidWithin, drawn_of};
-ghost use Rattle.cif_read.specs.Readings.{IsFactor, IsExtent};
+ghost use Rattle.cif_read.specs.Scales.{IsFactor};
+ghost use Rattle.cif_read.specs.Readings.{IsExtent};
 
 use cif_lex::LARGEST;
 use lam_geom::{BoxXY, MaskBox, MaskLayer, Span};

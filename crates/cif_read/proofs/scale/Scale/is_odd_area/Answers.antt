@@ -1,6 +1,6 @@
 use Rattle.std.proofs.Common.{arith}
 use Rattle.cif_read.proofs.Scales.{good_area, seen_within, seen_odd}
-use Rattle.cif_read.proofs.state.Begun.is_odd_area.Goals as goal
+use Rattle.cif_read.proofs.scale.Scale.is_odd_area.Goals as goal
 
 pub is_odd-requires-else-is_odd-clause-near : goal.is_odd-requires-else-is_odd-clause-near
 is_odd-requires-else-is_odd-clause-near c =
