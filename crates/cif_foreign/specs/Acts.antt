@@ -1,13 +1,12 @@
 -- What each command makes of what has been read, and why it may not stand where it stands.
-use Rattle.std.specs.Prelude.{ℕ, ◌+◌, ℤ, pos, ◌*ℤ◌, nat_le, Bool, ◌&&◌, ◌||◌, if◌then◌else◌, Option, Some, None, is_some, Result, Ok, Err, List, [], ◌∷◌, ◌++◌, map, slice_index_or}
-use Rattle.std.specs.List.{list_any}
-use Rattle.std.specs.Ordering.{int_eq}
+use Rattle.std.specs.Prelude.{ℕ, ℤ, pos, ◌*ℤ◌, nat_le, Bool, ◌&&◌, ◌||◌, if◌then◌else◌, Option, Some, None, is_some, Result, Ok, Err, List, [], ◌∷◌, ◌++◌, map, slice_index_or}
 use Rattle.cif_lex.specs.declared.command.Command.{Command}
 use Rattle.cif_lex.specs.declared.command.Command.TheVariants.{Nothing, Define, Finish, Layer, Area, Call, Extension}
 use Rattle.cif_lex.specs.declared.placement.Placement.{Placement}
 use Rattle.cif_read.specs.declared.fault.CifKind.{CifKind}
 use Rattle.cif_read.specs.declared.fault.CifKind.TheVariants.{BadCommand, BadNumber, NestedDefinition, RepeatedSymbol, UnknownSymbol, NoLayer, OddScale, TooDeep}
-use Rattle.cif_read.specs.Sheets.{Drawn}
+use Rattle.cif_read.specs.Sheets as flat_sheets
+use Rattle.cif_read.specs.Acts as flat
 use Rattle.cif_read.specs.Acts.{Named, is_bad_symbol, is_bad_factor, is_bad_area, is_bad_call, scaled, is_odd, is_odd_area, kept}
 use Rattle.cif_foreign.specs.Sheets.{Step, Symbol, own, called, depths_of, most_depth}
 
@@ -40,16 +39,16 @@ start = record { symbols = []; level = empty (pos 1) (pos 1); begun = None }
 
 -- ---- symbols
 
-abbrev pub has_number : ℤ → Symbol → Bool
-has_number n symbol = int_eq symbol.number n
+-- a symbol's number alone
+abbrev pub numbered : Symbol → flat_sheets.Symbol
+numbered symbol = record { number = symbol.number; boxes = [] }
 
 abbrev pub is_known : ℤ → List Symbol → Bool
-is_known n symbols = list_any (has_number n) symbols
+is_known n symbols = flat.is_known n (map numbered symbols)
 
 -- the position of the symbol with this number
 abbrev pub place_of : ℤ → List Symbol → ℕ
-place_of n [] = 0
-place_of n (symbol ∷ symbols) = if has_number n symbol then 0 else place_of n symbols + 1
+place_of n symbols = flat.place_of n (map numbered symbols)
 
 -- ---- boxes and calls
 

@@ -1,11 +1,10 @@
 -- What a reader keeps, as a state; and what holds of it.
-use Rattle.std.specs.Prelude.{◌≡◌, ℕ, ◌<◌, ◌≤◌, ◌^◌, ℤ, pos, All, IfSome, true, false, if◌then◌else◌, Option, Some, None, List, map, max, fold, length, option_map, slice_index_or, IsTrue}
-use Rattle.std.specs.Ordering.{nat_cmp}
-use Rattle.std.specs.BTreeMap.{BTreeMap, get}
+use Rattle.std.specs.Prelude.{◌≡◌, ℕ, ◌<◌, ◌≤◌, ◌^◌, ℤ, pos, All, IfSome, false, Option, List, map, max, fold, length, option_map, slice_index_or}
 use Rattle.cif_lex.specs.declared.command.Command.{Command}
 use Rattle.cif_lex.specs.declared.command.Command.TheVariants.{Call}
 use Rattle.cif_lex.specs.declared.command.Next.TheVariants.{End}
 use Rattle.cif_lex.specs.Commands.{IsNext}
+use Rattle.cif_read.specs.Readings.{HasPlaces}
 use Rattle.cif_read.specs.Scales.{IsScale}
 use Rattle.cif_foreign.specs.declared.file.ForeignSymbol.{ForeignSymbol}
 use Rattle.cif_foreign.specs.declared.file.ForeignStep.{ForeignStep}
@@ -13,7 +12,7 @@ use Rattle.cif_foreign.specs.declared.state.Drawing.{Drawing}
 use Rattle.cif_foreign.specs.declared.state.Begun.{Begun}
 use Rattle.cif_foreign.specs.declared.state.Reading.{Reading}
 use Rattle.cif_foreign.specs.Sheets.{Step, Symbol, Sheet, depth_of_step, depths_of, most_depth}
-use Rattle.cif_foreign.specs.Acts.{State, Level, is_known, place_of}
+use Rattle.cif_foreign.specs.Acts.{State, Level, numbered, is_known}
 use Rattle.cif_foreign.specs.Acts as acts
 use Rattle.cif_foreign.specs.Meaning.{BeginsWell}
 use Rattle.cif_foreign.specs.Files.{step_of, symbol_of, IsStepOf, no_symbol}
@@ -52,21 +51,17 @@ pub record IsSoundLevel (depths : List ℕ) (d : Drawing) : Type 0 where
   pub steps : All (IsStepOf (length depths)) d.steps.items
   pub called : d.called ≡ called_depth depths (map step_of d.steps.items)
 
--- the place of the symbol with this number, if there is one
-abbrev pub place_among : ℤ → List Symbol → Option ℕ
-place_among n symbols = if is_known n symbols then Some (place_of n symbols) else None
+-- at most so many symbols, of these depths, each of which calls those before it alone, and none too deep
+pub record AreSoundSymbols (count : ℕ) (symbols : List ForeignSymbol) (depths : List ℕ) : Type 0 where
+  pub few : length symbols ≤ count
+  pub counted : length depths ≡ length symbols
+  pub told : depths ≡ depths_of (map symbol_of symbols)
+  pub shallow : All (λ depth. depth ≤ most_depth) depths
+  pub in_order : (k : ℕ) → k < length symbols → All (IsStepOf k) (slice_index_or symbols k no_symbol).steps
 
-pub record HasPlaces (places : BTreeMap ℕ ℕ) (symbols : List Symbol) : Type 0 where
-  pub each : (n : ℕ) → get nat_cmp places n ≡ place_among (pos n) symbols
-
--- at most so many symbols, each of which calls those before it alone, and none too deep
 pub record IsSound (count : ℕ) (r : Reading) : Type 0 where
-  pub few : length r.symbols.items ≤ count
-  pub counted : length r.depths.items ≡ length r.symbols.items
-  pub depths : r.depths.items ≡ depths_of (symbols_of r)
-  pub shallow : All (λ depth. depth ≤ most_depth) r.depths.items
-  pub symbols : (k : ℕ) → k < length r.symbols.items → All (IsStepOf k) (slice_index_or r.symbols.items k no_symbol).steps
-  pub places : HasPlaces r.places (symbols_of r)
+  pub symbols : AreSoundSymbols count r.symbols.items r.depths.items
+  pub places : HasPlaces r.places (map numbered (symbols_of r))
   pub drawing : IsSoundLevel r.depths.items r.drawing
   pub top : IfSome r.begun (λ b. IsSoundLevel r.depths.items b.top)
   pub fresh : IfSome r.begun (λ b. is_known (pos b.number) (symbols_of r) ≡ false)

@@ -1,9 +1,10 @@
 //! What has been read so far, and what each command makes of it.
-ghost use Rattle.std.specs.Prelude.{◌≡◌, ℕ, ◌+◌, ◌<◌, ◌^◌, pos, ◌*ℤ◌, max, List, Ok, OnOk, IfErr, false, length, slice_index_or};
+ghost use Rattle.std.specs.Prelude.{◌≡◌, ℕ, ◌+◌, ◌<◌, ◌^◌, pos, ◌*ℤ◌, max, List, Ok, OnOk, IfErr, false, length, slice_index_or, is_some, ◌&&◌, nat_le};
 ghost use Rattle.cif_read.specs.Acts.{is_bad_area, is_odd, scaled};
 ghost use Rattle.cif_read.specs.Files.{IsWithin};
 ghost use Rattle.cif_read.specs.Readers.{IsCauseOfStop};
 ghost use Rattle.cif_read.specs.Scales.{IsScale};
+ghost use Rattle.cif_foreign.specs.Sheets.{most_depth};
 ghost use Rattle.cif_foreign.specs.Acts.{start, act, empty, boxed, called_on, defined, finished, area, call};
 ghost use Rattle.cif_foreign.specs.Readings.{state_of, level_from, IsSound, IsSoundLevel, HasTurn};
 
@@ -207,7 +208,14 @@ impl Reading {
         self.drawing.area(l, w, x, y)
     }
 
-    // A call. In a definition a symbol of the greatest depth may not be called.
+    // Whether a symbol of this depth may not be called here: in a definition one of the greatest depth may not.
+    fn is_too_deep(&self, depth: u8) -> bool
+        ensures { result ≡ (is_some self.now.begun && nat_le most_depth depth) }
+    {
+        self.begun.is_some() && depth >= MOST_DEPTH
+    }
+
+    // A call.
     fn call(&mut self, number: i64, place: Placement, bad: bool) -> Result<(), Stop>
         requires sound { IsSound (2 ^ 26) self.old }
         requires turn { place.turn < 8 }
@@ -222,7 +230,7 @@ impl Reading {
             return Err(Stop::Refused(CifKind::UnknownSymbol));
         };
         let depth = self.depths[symbol as usize];
-        let too_deep = self.begun.is_some() && depth >= MOST_DEPTH;
+        let too_deep = self.is_too_deep(depth);
         self.drawing.call(symbol, depth, too_deep, place)
     }
 
