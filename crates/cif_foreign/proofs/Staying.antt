@@ -1,5 +1,5 @@
 -- What means something where calls only shift, and stand at the top alone, means the same here.
-use Rattle.std.proofs.Common.{◌≡◌, ℕ, zero, suc, ◌<◌, ℤ, pos, ◌+ℤ◌, ◌-ℤ◌, ◌*ℤ◌, ◌≤ℤ◌, int_eq, int_div, int_rem, neg_ℤ, negsuc, not, ◌%◌, div-one, Bool, true, false, cond, ◌||◌, Option, Some, None, IfSome, is_some, Result, Ok, Err, List, [], ◌∷◌, ◌++◌, map, flat_map, fold, length, get_or, inl, inr, refl, sym, ap, ◌∙◌, subst, arith}
+use Rattle.std.proofs.Common.{◌≡◌, ℕ, zero, suc, ◌+◌, ℤ, pos, ◌+ℤ◌, ◌-ℤ◌, ◌*ℤ◌, ◌≤ℤ◌, int_eq, int_div, int_rem, neg_ℤ, negsuc, not, ◌%◌, div-one, Bool, true, false, cond, ◌||◌, Option, Some, None, IfSome, is_some, Result, Ok, Err, List, [], ◌∷◌, ◌++◌, map, flat_map, fold, length, get_or, inl, inr, refl, sym, ap, ◌∙◌, subst, arith}
 use Rattle.std.specs.List.{AllByRecursion, AllZip, list_any}
 use Rattle.std.specs.Int.{int_min, int_max}
 use Rattle.std.proofs.lemmas.Int.{ints, clamps}
@@ -252,7 +252,7 @@ turn_of_body (Call n place bad false) body (inr is) = let e = is.0 in absurd cc
 turn_of_body Extension body is = tt
 
 act_agrees : (s : flat.State) (command : Command) → HasNoTurn command → AreFine s.symbols s.begun → Agrees (flat.act s command) (act (lifted s) command)
-unfolding act, flat.act
+unfolding act flat.act
 act_agrees s Nothing none fine = (refl, fine)
 act_agrees s (Define n above below) none fine = defined_agrees s.symbols s.steps s.layer s.begun n above below fine
 act_agrees s Finish none fine = finished_agrees s.symbols s.steps s.layer s.begun fine
@@ -272,14 +272,18 @@ all_agree : (s : flat.State) (commands : List Command) (pieces : List (List ℕ)
     → fold (then_act_by flat_meaning.reader) (Ok s) commands ≡ Ok done → (fold (then_act_by reader) (Ok (lifted s)) commands ≡ Ok (lifted done)) × AreFine done.symbols done.begun
 all_agree s [] pieces done all fine e = let same : s ≡ done = cc in (ap (λ (t : flat.State). Ok (lifted t)) same, subst (λ (t : flat.State). AreFine t.symbols t.begun) same fine)
 all_agree s (c ∷ commands) [] done all fine e = absurd all
-all_agree s (c ∷ commands) (piece ∷ pieces) done all fine e = by (flat.act s c) refl (act_agrees s c (turn_of_body c all.0.body all.0.is_body) fine)
+all_agree s (c ∷ commands) (piece ∷ pieces) done all fine e =
+    by (flat.act s c) refl (act_agrees s c (turn_of_body c all.0.body all.0.is_body) fine) (λ next good f. all_agree next commands pieces done all.1 good f)
   where
-    by : (answer : Result flat.State CifKind) → flat.act s c ≡ answer → Agrees answer (act (lifted s) c) → (fold (then_act_by reader) (act (lifted s) c) commands ≡ Ok (lifted done)) × AreFine done.symbols done.begun
-    by (Err kind) is agrees =
+    by : (answer : Result flat.State CifKind) → flat.act s c ≡ answer → Agrees answer (act (lifted s) c)
+        → ((next : flat.State) → AreFine next.symbols next.begun → fold (then_act_by flat_meaning.reader) (Ok next) commands ≡ Ok done
+        → (fold (then_act_by reader) (Ok (lifted next)) commands ≡ Ok (lifted done)) × AreFine done.symbols done.begun)
+        → (fold (then_act_by reader) (act (lifted s) c) commands ≡ Ok (lifted done)) × AreFine done.symbols done.begun
+    by (Err kind) is agrees goes_on =
         let failed : Err kind ≡ Ok done = sym (err_stays kind commands) ∙ (ap (λ (a : Result flat.State CifKind). fold (then_act_by flat_meaning.reader) a commands) (sym is) ∙ e) in
         absurd cc
-    by (Ok next) is agrees =
-        let rest = all_agree next commands pieces done all.1 agrees.1 (ap (λ (a : Result flat.State CifKind). fold (then_act_by flat_meaning.reader) a commands) (sym is) ∙ e) in
+    by (Ok next) is agrees goes_on =
+        let rest = goes_on next agrees.1 (ap (λ (a : Result flat.State CifKind). fold (then_act_by flat_meaning.reader) a commands) (sym is) ∙ e) in
         (ap (λ (a : Result State CifKind). fold (then_act_by reader) a commands) agrees.0 ∙ rest.0, rest.1)
 
 -- ---- boxes
