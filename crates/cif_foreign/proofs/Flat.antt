@@ -1,9 +1,10 @@
 -- All boxes of a file, step by step.
-use Rattle.std.proofs.Common.{◌≡◌, ℕ, ◌+◌, ◌*◌, ◌-◌, ◌<◌, ◌≤◌, ◌^◌, min, max, ℤ, List, [], ◌∷◌, ◌++◌, map, length, get_or, take, fold, refl, sym, ap, ◌∙◌, subst, arith, length-append}
-use Rattle.std.specs.List.{All, flat_map}
+use Rattle.std.proofs.Common.{◌≡◌, ℕ, zero, suc, ◌+◌, ◌<◌, ◌≤◌, ◌^◌, min, max, ℤ, pos, ◌+ℤ◌, ◌≤ℤ◌, List, [], ◌∷◌, ◌++◌, map, length, get_or, take, fold, refl, sym, ap, ◌∙◌, subst, arith, length-append}
+use Rattle.std.specs.List.{All, AllByRecursion, flat_map}
+use Rattle.std.specs.Int.{int_min, int_max}
 use Rattle.std.proofs.lemmas.List.{append-nil, append_assoc, map_push, map-append, length-map, get_or-map, get_or_default}
 use Rattle.std.proofs.lemmas.List.Elements.{All-push}
-use Rattle.std.proofs.lemmas.Int.{ints}
+use Rattle.std.proofs.lemmas.Int.{ints, clamps}
 use Rattle.lam_geom.specs.declared.boxes.MaskBox.{MaskBox}
 use Rattle.lam_geom.specs.Places.{IsPlace, IsPlacedBox}
 use Rattle.cif_lex.specs.declared.placement.Placement.{Placement}
@@ -13,8 +14,9 @@ use Rattle.cif_read.specs.Files.{drawn_of, most_boxes, IsSolid, IsSolidWithin, I
 use Rattle.cif_read.proofs.Flat.{flat_more, flat_all}
 use Rattle.cif_foreign.specs.declared.file.ForeignStep.{ForeignStep}
 use Rattle.cif_foreign.specs.declared.file.ForeignStep.TheVariants.{Own, Called}
-use Rattle.cif_foreign.specs.Sheets.{Step, placed_box, boxes_of_step, boxes_of_steps}
+use Rattle.cif_foreign.specs.Sheets.{placed_box, boxes_of_step, boxes_of_steps, depth_of_step}
 use Rattle.cif_foreign.specs.Files.{step_of, IsStepOf}
+use Rattle.cif_foreign.specs.Readings.{called_depth}
 use Rattle.cif_foreign.specs.Counts.{counted, AreCounts}
 use Rattle.cif_foreign.proofs.Placing.{placed_twice}
 
@@ -120,3 +122,87 @@ all_placed boxes h = λ k d lt. placed_one (get_or boxes k d) (solid_each boxes 
 
 pub all_solid : (boxes : List MaskBox) → All (IsSolidWithin (2 ^ 55)) (map drawn_of boxes) → All IsSolid boxes
 all_solid boxes h = λ k d lt. let one = solid_each boxes h k d lt in (one.wide, one.high)
+
+-- ---- boxes whose sides are in their order stay where they are not turned nor shifted
+
+abbrev pub IsSorted : Drawn → Type 0
+IsSorted box = (box.left ≤ℤ box.right) × (box.bottom ≤ℤ box.top)
+
+low_stays : (a b : ℤ) → a ≤ℤ b → int_min (a +ℤ pos 0) (b +ℤ pos 0) ≡ a
+low_stays a b h = omega (arith, ints, clamps, h)
+
+high_stays : (a b : ℤ) → a ≤ℤ b → int_max (a +ℤ pos 0) (b +ℤ pos 0) ≡ b
+high_stays a b h = omega (arith, ints, clamps, h)
+
+abbrev pub still : Placement
+still = record { turn = 0; x = pos 0; y = pos 0 }
+
+box_stays : (box : Drawn) → IsSorted box → placed_box still box ≡ box
+box_stays box h = rw (low_stays box.left box.right h.0, high_stays box.left box.right h.0, low_stays box.bottom box.top h.1, high_stays box.bottom box.top h.1) refl
+
+pub boxes_stay : (boxes : List Drawn) → AllByRecursion IsSorted boxes → map (placed_box still) boxes ≡ boxes
+boxes_stay [] h = refl
+boxes_stay (box ∷ boxes) h = ap (λ (b : Drawn). b ∷ map (placed_box still) boxes) (box_stays box h.0) ∙ ap (λ (bs : List Drawn). box ∷ bs) (boxes_stay boxes h.1)
+
+in_order : (a b : ℤ) → int_min a b ≤ℤ int_max a b
+in_order a b = omega (arith, ints, clamps)
+
+placed_sorted : (place : Placement) (box : Drawn) → IsSorted (placed_box place box)
+placed_sorted place box =
+    let p = placed place (box.left, box.bottom) in
+    let q = placed place (box.right, box.top) in
+    (in_order p.0 q.0, in_order p.1 q.1)
+
+all_placed_sorted : (place : Placement) (boxes : List Drawn) → AllByRecursion IsSorted (map (placed_box place) boxes)
+all_placed_sorted place [] = tt
+all_placed_sorted place (box ∷ boxes) = (placed_sorted place box, all_placed_sorted place boxes)
+
+sorted_append : (a b : List Drawn) → AllByRecursion IsSorted a → AllByRecursion IsSorted b → AllByRecursion IsSorted (a ++ b)
+sorted_append [] b h k = k
+sorted_append (box ∷ a) b h k = (h.0, sorted_append a b h.1 k)
+
+step_sorted : (n : ℕ) (boxes : List (List Drawn)) (step : ForeignStep) → IsStepOf n step → AllByRecursion IsSorted (drawn_by boxes step)
+step_sorted n boxes (Own box) h = let wide = h.wide in let high = h.high in ((omega (arith, ints, wide), omega (arith, ints, high)), tt)
+step_sorted n boxes (Called symbol turn x y) h = all_placed_sorted (record { turn = turn; x = x; y = y }) (get_or boxes symbol [])
+
+pub steps_sorted : (n : ℕ) (boxes : List (List Drawn)) (steps : List ForeignStep) → AllByRecursion (IsStepOf n) steps → AllByRecursion IsSorted (boxes_of_steps boxes (map step_of steps))
+steps_sorted n boxes [] h = tt
+steps_sorted n boxes (step ∷ steps) h = sorted_append (drawn_by boxes step) (boxes_of_steps boxes (map step_of steps)) (step_sorted n boxes step h.0) (steps_sorted n boxes steps h.1)
+
+-- ---- depths
+
+max_within : (most first : ℕ) (xs : List ℕ) → first ≤ most → AllByRecursion (λ n. n ≤ most) xs → fold max first xs ≤ most
+max_within most first [] h k = h
+max_within most first (x ∷ xs) h k = max_within most (max first x) xs (let a = k.0 in omega (arith, h, a)) k.1
+
+step_within : (most n : ℕ) (depths : List ℕ) (step : ForeignStep) → All (λ d. d ≤ most) depths → length depths ≡ n → IsStepOf n step → depth_of_step depths (step_of step) ≤ most
+step_within most n depths (Own box) h size is = omega arith
+step_within most n depths (Called symbol turn x y) h size is = h symbol 0 (omega (arith, is.0, size))
+
+each_within : (most n : ℕ) (depths : List ℕ) (steps : List ForeignStep) → All (λ d. d ≤ most) depths → length depths ≡ n → AllByRecursion (IsStepOf n) steps → AllByRecursion (λ d. d ≤ most) (map (depth_of_step depths) (map step_of steps))
+each_within most n depths [] h size is = tt
+each_within most n depths (step ∷ steps) h size is = (step_within most n depths step h size is.0, each_within most n depths steps h size is.1)
+
+pub called_within : (most n : ℕ) (depths : List ℕ) (steps : List ForeignStep) → All (λ d. d ≤ most) depths → length depths ≡ n → AllByRecursion (IsStepOf n) steps → called_depth depths (map step_of steps) ≤ most
+called_within most n depths steps h size is = max_within most 0 (map (depth_of_step depths) (map step_of steps)) (omega arith) (each_within most n depths steps h size is)
+
+first_in_max : (first : ℕ) (xs : List ℕ) → first ≤ fold max first xs
+first_in_max first [] = omega arith
+first_in_max first (x ∷ xs) = let e = first_in_max (max first x) xs in omega (arith, e)
+
+one_in_max : (first : ℕ) (xs : List ℕ) (i : ℕ) → i < length xs → get_or xs i 0 ≤ fold max first xs
+one_in_max first [] i h = absurd (omega (arith, h))
+one_in_max first (x ∷ xs) zero h = let e = first_in_max (max first x) xs in omega (arith, e)
+one_in_max first (x ∷ xs) (suc i) h = one_in_max (max first x) xs i (omega (arith, h))
+
+-- the depth of what a step calls
+pub called_below : (depths : List ℕ) (steps : List ForeignStep) (i symbol turn : ℕ) (x y : ℤ) (step : ForeignStep) → i < length steps → step ≡ get_or steps i step → step ≡ Called symbol turn x y
+    → get_or depths symbol 0 ≤ called_depth depths (map step_of steps)
+called_below depths steps i symbol turn x y step lt at is =
+    let list = map (depth_of_step depths) (map step_of steps) in
+    let size : length list ≡ length steps = length-map (map step_of steps) (depth_of_step depths) ∙ length-map steps step_of in
+    let one : get_or list i 0 ≡ get_or depths symbol 0 =
+    get_or-map (depth_of_step depths) (map step_of steps) i (step_of step) 0 (omega (arith, lt, length-map steps step_of))
+    ∙ ap (depth_of_step depths) (get_or-map step_of steps i step (step_of step) lt ∙ ap step_of (sym at ∙ is)) in
+    let e = one_in_max 0 list i (omega (arith, lt, size)) in
+    omega (arith, e, one)

@@ -4,4 +4,5 @@ pub mod Symbols
 pub mod Sound
 pub mod Flat
 pub mod Commands
+pub mod Walking
 pub mod Staying

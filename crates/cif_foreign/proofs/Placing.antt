@@ -117,7 +117,7 @@ opposite : (a b : ℤ) → (a <ℤ b) ⊎ (b <ℤ a) → (neg_ℤ a <ℤ neg_ℤ
 opposite a b (inl h) = inr (omega (arith, ints, h))
 opposite a b (inr h) = inl (omega (arith, ints, h))
 
-further : (a b x : ℤ) → (a <ℤ b) ⊎ (b <ℤ a) → (a +ℤ x <ℤ b +ℤ x) ⊎ (b +ℤ x <ℤ a +ℤ x)
+further : (a b x : ℤ) → (a <ℤ b) ⊎ (b <ℤ a) → ((a +ℤ x) <ℤ (b +ℤ x)) ⊎ ((b +ℤ x) <ℤ (a +ℤ x))
 further a b x (inl h) = inl (omega (arith, ints, h))
 further a b x (inr h) = inr (omega (arith, ints, h))
 

@@ -78,7 +78,7 @@ sound_more count more r le h = record {
   not_deep = h.not_deep;
 }
 
-step_later : (m n : ℕ) (step : ForeignStep) → m ≤ n → IsStepOf m step → IsStepOf n step
+pub step_later : (m n : ℕ) (step : ForeignStep) → m ≤ n → IsStepOf m step → IsStepOf n step
 step_later m n (Own box) le h = h
 step_later m n (Called symbol turn x y) le h = (omega (arith, le, h.0), h.1, h.2, h.3)
 
