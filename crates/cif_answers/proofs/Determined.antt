@@ -6,8 +6,9 @@ use Rattle.rule_table.specs.declared.technology.Tech.{Tech}
 use Rattle.graph_search.specs.Netting.{Reaches}
 use Rattle.cif_read.specs.declared.fault.CifFault.{CifFault}
 use Rattle.cif_read.specs.Files.{drawn_of}
-use Rattle.cif_read.specs.Meaning.{IsFirstFault, ReadingsAreDetermined}
-use Rattle.cif_read.specs.Sheets.{Drawn, flattened}
+use Rattle.cif_foreign.specs.Meaning.{IsFirstFault, ForeignReadingsAreDetermined}
+use Rattle.cif_foreign.specs.Sheets.{flattened}
+use Rattle.cif_read.specs.Sheets.{Drawn}
 use Rattle.crossings.specs.declared.crossing.Crossing.{Crossing}
 use Rattle.crossings.specs.Crossings.{AreProper, IsImproper, IsFirstBadPair}
 use Rattle.flat_check.specs.declared.rule.Break.{Break}
@@ -30,7 +31,7 @@ use Rattle.flat_check.proofs.SameCrossings.{crossings_same}
 -- a text whose readings are determined
 record Premises (text : List ℕ) : Type 0 where
   short : length text ≤ 2 ^ 26
-  readings : ReadingsAreDetermined
+  readings : ForeignReadingsAreDetermined
 
 boxes_same : (text : List ℕ) → Premises text → (a b : List MaskBox) → HasBoxes text a → HasBoxes text b → a ≡ b
 boxes_same text g a b h k =
@@ -124,7 +125,7 @@ one_netlist tech text g extraction a b h k =
     let list : h.list ≡ k.list = extracted_same tech h.boxes extraction h.list k.list h.extracted (subst (λ (bs : List MaskBox). IsExtracted tech bs k.list) boxes k.extracted) in
     h.written ∙ (ap (text_of_netlist h.boxes) list ∙ (ap (λ (bs : List MaskBox). text_of_netlist bs k.list) (sym boxes) ∙ sym k.written))
 
-pub netlists : (tech : Tech) (text : List ℕ) → length text ≤ 2 ^ 26 → ReadingsAreDetermined → IsExtractionDetermined → AnswersAreDetermined HasNetlist RefusesNetlist tech text
+pub netlists : (tech : Tech) (text : List ℕ) → length text ≤ 2 ^ 26 → ForeignReadingsAreDetermined → IsExtractionDetermined → AnswersAreDetermined HasNetlist RefusesNetlist tech text
 netlists tech text short readings extraction =
     let g : Premises text = record { short = short; readings = readings } in
     record {
@@ -166,7 +167,7 @@ verdict_refused tech text (NotProper a b) named h = absurd h
 verdict_refused tech text (Broken first) named h = faulty h.boxes h.are_boxes (record { first = first; is_first = h.first_break; is = refl })
 verdict_refused tech text OutOfMemory named h = absurd (named refl)
 
-pub verdicts : (tech : Tech) (text : List ℕ) → length text ≤ 2 ^ 26 → ReadingsAreDetermined → AnswersAreDetermined HasVerdict RefusesVerdict tech text
+pub verdicts : (tech : Tech) (text : List ℕ) → length text ≤ 2 ^ 26 → ForeignReadingsAreDetermined → AnswersAreDetermined HasVerdict RefusesVerdict tech text
 verdicts tech text short readings =
     let g : Premises text = record { short = short; readings = readings } in
     record {

@@ -3,8 +3,8 @@ use Rattle.std.specs.Prelude.{◌≡◌, ℕ, ◌<◌, ◌≤◌, List, length, 
 use Rattle.lam_geom.specs.declared.boxes.MaskBox.{MaskBox}
 use Rattle.rule_table.specs.declared.technology.Tech.{Tech}
 use Rattle.cif_read.specs.Files.{drawn_of, most_boxes}
-use Rattle.cif_read.specs.Meaning.{Means, IsFirstFault}
-use Rattle.cif_read.specs.Sheets.{Sheet, flattened}
+use Rattle.cif_foreign.specs.Meaning.{Means, IsFirstFault}
+use Rattle.cif_foreign.specs.Sheets.{Sheet, flattened}
 use Rattle.crossings.specs.Crossings.{IsFirstBadPair}
 use Rattle.net_extract.specs.declared.netlist.Netlist.{Netlist}
 use Rattle.net_extract.specs.Extraction.{IsExtracted}

@@ -3,7 +3,7 @@ ghost use Rattle.std.specs.Prelude.{◌^◌, ◌≤◌, IfOk, IfErr, length};
 ghost use Rattle.cif_answers.specs.Texts.{HasVerdict, RefusesVerdict};
 
 use crate::fault::TextFault;
-use cif_read::{flatten, read_cif};
+use cif_foreign::{flatten_foreign, read_foreign};
 use flat_check::first_break;
 use rule_table::Tech;
 use std::alloc::Global;
@@ -15,8 +15,8 @@ pub fn verdict_of(alloc: Global, tech: &Tech, text: &[u8]) -> Result<Text, TextF
     ensures verdict { IfOk result (HasVerdict tech.now text.now) }
     ensures refused { IfErr result (RefusesVerdict tech.now text.now) }
 {
-    let file = read_cif(alloc, text)?;
-    let boxes = flatten(alloc, &file)?;
+    let file = read_foreign(alloc, text)?;
+    let boxes = flatten_foreign(alloc, &file)?;
     if let Some(first) = first_break(alloc, tech, &boxes)? {
         return Err(TextFault::Broken(first));
     }

@@ -3,7 +3,7 @@ ghost use Rattle.std.specs.Prelude.{List, ℕ, ◌^◌, ◌≤◌, length};
 ghost use Rattle.rule_table.specs.declared.technology.Tech.{Tech};
 ghost use Rattle.cif_answers.specs.Texts.{AnswersAreDetermined, HasNetlist, HasVerdict, RefusesNetlist, RefusesVerdict};
 
-use cif_read::readings_are_determined;
+use cif_foreign::foreign_readings_are_determined;
 use net_extract::netlist_is_determined;
 
 /// A law, with nothing to run: want of memory aside, a text of at most 67,108,864 bytes has one netlist or one cause why it
@@ -11,7 +11,7 @@ use net_extract::netlist_is_determined;
 pub fn netlists_are_determined()
     ensures { (tech : Tech) (text : List ℕ) → length text ≤ 2 ^ 26 → AnswersAreDetermined HasNetlist RefusesNetlist tech text }
 {
-    readings_are_determined();
+    foreign_readings_are_determined();
     netlist_is_determined();
 }
 
@@ -20,5 +20,5 @@ pub fn netlists_are_determined()
 pub fn verdicts_are_determined()
     ensures { (tech : Tech) (text : List ℕ) → length text ≤ 2 ^ 26 → AnswersAreDetermined HasVerdict RefusesVerdict tech text }
 {
-    readings_are_determined();
+    foreign_readings_are_determined();
 }

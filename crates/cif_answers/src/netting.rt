@@ -3,7 +3,7 @@ ghost use Rattle.std.specs.Prelude.{◌^◌, ◌≤◌, IfOk, IfErr, length};
 ghost use Rattle.cif_answers.specs.Texts.{HasNetlist, RefusesNetlist};
 
 use crate::fault::TextFault;
-use cif_read::{flatten, read_cif};
+use cif_foreign::{flatten_foreign, read_foreign};
 use net_extract::extract;
 use net_list::netlist_text;
 use rule_table::Tech;
@@ -16,8 +16,8 @@ pub fn netlist_of(alloc: Global, tech: &Tech, text: &[u8]) -> Result<Text, TextF
     ensures netlist { IfOk result (HasNetlist tech.now text.now) }
     ensures refused { IfErr result (RefusesNetlist tech.now text.now) }
 {
-    let file = read_cif(alloc, text)?;
-    let boxes = flatten(alloc, &file)?;
+    let file = read_foreign(alloc, text)?;
+    let boxes = flatten_foreign(alloc, &file)?;
     let list = extract(alloc, tech, &boxes)?;
     let written = netlist_text(alloc, &list, &boxes)?;
     Ok(written)

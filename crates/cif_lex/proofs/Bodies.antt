@@ -7,7 +7,10 @@ use Rattle.cif_lex.specs.declared.command.Command.{Command}
 use Rattle.cif_lex.specs.declared.command.Command.TheVariants.{Nothing, Define, Finish, Layer, Area, Call, Extension}
 use Rattle.cif_lex.specs.Blanks.{is_blank, IsCutOff, IsFilled}
 use Rattle.cif_lex.specs.Words.{Word, letter, number, name, is_name_byte, IsWhole, StopsAt, AreSpelled}
-use Rattle.cif_lex.specs.Commands.{HasWords, IsBody, IsExtension, shift_words}
+use Rattle.cif_lex.specs.declared.placement.Transformation.{Transformation}
+use Rattle.cif_lex.specs.declared.placement.Transformation.TheVariants.{Shift, MirrorX, MirrorY, Turn}
+use Rattle.cif_lex.specs.Transformations.{words_of}
+use Rattle.cif_lex.specs.Commands.{HasWords, IsBody, IsExtension}
 use Rattle.cif_lex.specs.Reading.{IsStop, AreRead}
 use Rattle.cif_lex.specs.Forms.{IsLedBy, Ends, MayEnd, Takes, Reaches}
 use Rattle.cif_lex.proofs.OneGap.{filled}
@@ -106,9 +109,12 @@ spelled_read (w ∷ words) body rest visible is stop quiet =
       spelled_read words more rest visible.1 is.7 stop quiet,
     )
 
-visible_shifts : (shifts : List (ℤ × ℤ)) → AllByRecursion IsVisible (flat_map shift_words shifts)
-visible_shifts [] = tt
-visible_shifts (s ∷ shifts) = (refl, (tt, (tt, visible_shifts shifts)))
+visible_transformations : (ts : List Transformation) → AllByRecursion IsVisible (flat_map words_of ts)
+visible_transformations [] = tt
+visible_transformations (Shift x y ∷ ts) = (refl, (tt, (tt, visible_transformations ts)))
+visible_transformations (MirrorX ∷ ts) = (refl, (refl, visible_transformations ts))
+visible_transformations (MirrorY ∷ ts) = (refl, (refl, visible_transformations ts))
+visible_transformations (Turn a b ∷ ts) = (refl, (tt, (tt, visible_transformations ts)))
 
 visible_words : (c : Command) (words : List Word) → HasWords c words → AllByRecursion IsVisible words
 visible_words Nothing words h = subst (AllByRecursion IsVisible) (sym h) tt
@@ -117,7 +123,7 @@ visible_words (Define n a b) words (inr h) = subst (AllByRecursion IsVisible) (s
 visible_words Finish words h = subst (AllByRecursion IsVisible) (sym h) (refl, (refl, tt))
 visible_words (Layer layer) words h = subst (AllByRecursion IsVisible) (sym h.1) (refl, (tt, tt))
 visible_words (Area l w x y) words h = subst (AllByRecursion IsVisible) (sym h) (refl, (tt, (tt, (tt, (tt, tt)))))
-visible_words (Call n x y far) words h = subst (AllByRecursion IsVisible) (sym h.1) (refl, (tt, visible_shifts h.0))
+visible_words (Call n place bad is_turned) words h = subst (AllByRecursion IsVisible) (sym h.1) (refl, (tt, visible_transformations h.0))
 visible_words Extension words h = absurd h
 
 -- a user extension in its text

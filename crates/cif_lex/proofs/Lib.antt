@@ -4,6 +4,7 @@ pub mod Numerals
 pub mod Stops
 pub mod OneWord
 pub mod ReadNumbers
+pub mod Turning
 pub mod CommandWords
 pub mod AreaForm
 pub mod BracketForm

@@ -1,6 +1,7 @@
 -- The commands of CIF, by their words, and where they stand in a text.
-use Rattle.std.specs.Prelude.{◌≡◌, ◌≢◌, ℕ, ◌+◌, ◌<◌, ◌≤◌, ℤ, pos, ◌+ℤ◌, nat_abs, nat_lt, Bool, ◌||◌, ◌⊎◌, All, IsTrue, Option, Some, None, List, [], ◌∷◌, ◌++◌, length, codes, flat_map, drop, if◌then◌else◌}
+use Rattle.std.specs.Prelude.{◌≡◌, ◌≢◌, ℕ, ◌+◌, ◌<◌, ◌≤◌, ℤ, pos, nat_abs, nat_lt, Bool, true, false, not, ◌||◌, ◌⊎◌, All, IsTrue, Option, Some, None, List, [], ◌∷◌, ◌++◌, length, codes, flat_map, drop, if◌then◌else◌}
 use Rattle.std.specs.List.{list_any}
+use Rattle.std.specs.Ordering.{int_eq}
 use Rattle.std.specs.Char.{is_ascii_digit}
 use Rattle.std.specs.Str.{bytes_eq}
 use Rattle.lam_geom.specs.declared.boxes.MaskLayer.{MaskLayer}
@@ -11,7 +12,10 @@ use Rattle.cif_lex.specs.declared.command.Next.{Next}
 use Rattle.cif_lex.specs.declared.command.Next.TheVariants.{Whole, Cut, Bad, End, Missing}
 use Rattle.cif_lex.specs.declared.command.Tail.{Tail}
 use Rattle.cif_lex.specs.declared.command.Tail.TheVariants as tails
+use Rattle.cif_lex.specs.declared.placement.Transformation.{Transformation}
+use Rattle.cif_lex.specs.declared.placement.Transformation.TheVariants.{Shift, MirrorX, MirrorY, Turn}
 use Rattle.cif_lex.specs.Blanks.{semicolon, IsGap, IsUnclosed, IsCutOff, IsFilled}
+use Rattle.cif_lex.specs.Transformations.{words_of, IsComposedOf}
 use Rattle.cif_lex.specs.Words.{Word, letter, number, name, limit, AreSpelled}
 
 -- ---- the layers that are kept
@@ -25,25 +29,32 @@ layer_named bytes = if bytes_eq bytes (codes "ND") then Some ND
     else (if bytes_eq bytes (codes "NB") then Some NB
     else None)))))
 
--- ---- shifts of a call
-
-abbrev pub shift_words : ℤ × ℤ → List Word
-shift_words shift = letter 84 ∷ number shift.0 ∷ number shift.1 ∷ []
-
-abbrev pub total_x : List (ℤ × ℤ) → ℤ
-total_x [] = pos 0
-total_x (shift ∷ shifts) = shift.0 +ℤ total_x shifts
-
-abbrev pub total_y : List (ℤ × ℤ) → ℤ
-total_y [] = pos 0
-total_y (shift ∷ shifts) = shift.1 +ℤ total_y shifts
+-- ---- numbers of a call
 
 abbrev pub is_far : ℤ → Bool
 is_far n = nat_lt limit (nat_abs n)
 
+-- a turn along no axis: both of its numbers are 0, or neither is
+abbrev pub is_no_axis : ℤ → ℤ → Bool
+is_no_axis a b = if int_eq a (pos 0) then int_eq b (pos 0) else not (int_eq b (pos 0))
+
+-- a number is past the limit, or a turn is along no axis
+abbrev pub is_bad : Transformation → Bool
+is_bad (Shift x y) = is_far x || is_far y
+is_bad MirrorX = false
+is_bad MirrorY = false
+is_bad (Turn a b) = is_far a || is_far b || is_no_axis a b
+
+-- all but shifts
+abbrev pub is_turn : Transformation → Bool
+is_turn (Shift x y) = false
+is_turn MirrorX = true
+is_turn MirrorY = true
+is_turn (Turn a b) = true
+
 -- ---- the words of each command
 
--- `DS n a b`, or `DS n` with the scale 1/1; `DF`; `L name`; `B l w x y`; `C n` and any number of `T x y`. An empty command has no words.
+-- `DS n a b`, or `DS n` with the scale 1/1; `DF`; `L name`; `B l w x y`; `C n` and any number of transformations. An empty command has no words.
 abbrev pub HasWords : Command → List Word → Type 0
 HasWords Nothing words = words ≡ []
 HasWords (Define n above below) words =
@@ -52,9 +63,8 @@ HasWords (Define n above below) words =
 HasWords Finish words = words ≡ letter 68 ∷ letter 70 ∷ []
 HasWords (Layer layer) words = (bytes : List ℕ) × (words ≡ letter 76 ∷ name bytes ∷ []) × (length bytes ≤ 4) × (layer ≡ layer_named bytes)
 HasWords (Area l w x y) words = words ≡ letter 66 ∷ number l ∷ number w ∷ number x ∷ number y ∷ []
-HasWords (Call n x y far) words =
-    (shifts : List (ℤ × ℤ)) × (words ≡ letter 67 ∷ number n ∷ flat_map shift_words shifts) × (x ≡ total_x shifts) × (y ≡ total_y shifts)
-    × (far ≡ list_any (λ shift. is_far shift.0 || is_far shift.1) shifts)
+HasWords (Call n place bad is_turned) words =
+    (ts : List Transformation) × (words ≡ letter 67 ∷ number n ∷ flat_map words_of ts) × IsComposedOf ts place × (bad ≡ list_any is_bad ts) × (is_turned ≡ list_any is_turn ts)
 HasWords Extension words = ⊥
 
 -- A user extension: a digit, and behind it any bytes but a semicolon.

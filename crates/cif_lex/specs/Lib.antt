@@ -1,5 +1,6 @@
 pub mod Blanks
 pub mod Words
+pub mod Transformations
 pub mod Commands
 pub mod Reading
 pub mod Forms

@@ -2,7 +2,11 @@
 use Rattle.std.specs.Prelude.{◌≡◌, ℕ, ◌<◌, ◌≤◌, ℤ, pos, neg_ℤ, ◌≤ℤ◌, ◌⊎◌, Option, MatchOption, List, [], ◌∷◌, ◌++◌, length, drop}
 use Rattle.cif_lex.specs.declared.numbers.Number.{Number}
 use Rattle.cif_lex.specs.declared.numbers.Pair.{Pair}
+use Rattle.cif_lex.specs.declared.placement.Transformation.{Transformation}
+use Rattle.cif_lex.specs.declared.placement.Transformation.TheVariants.{Shift, MirrorX, MirrorY, Turn}
+use Rattle.cif_lex.specs.declared.calls.Transformed.{Transformed}
 use Rattle.cif_lex.specs.Blanks.{IsGap, IsCutOff, IsFilled}
+use Rattle.cif_lex.specs.Transformations.{words_of}
 use Rattle.cif_lex.specs.Words.{Word, number, IsSpelled, IsWhole}
 
 -- what stands behind a gap: the end, a comment that has no end, or something filled
@@ -58,3 +62,21 @@ pub record IsPairRead (text : List ℕ) (read : Pair) : Type 0 where
 abbrev pub IsPairAnswer : List ℕ → Option Pair → Type 0
 IsPairAnswer text answer =
     MatchOption answer ((m n : ℤ) (rest : List ℕ) → AreRead (number m ∷ number n ∷ []) text rest → ⊥) (IsPairRead text)
+
+-- ---- transformations
+
+abbrev pub HasSmallNumbers : Transformation → Type 0
+HasSmallNumbers (Shift x y) = IsSmall x × IsSmall y
+HasSmallNumbers MirrorX = Unit {0}
+HasSmallNumbers MirrorY = Unit {0}
+HasSmallNumbers (Turn a b) = IsSmall a × IsSmall b
+
+pub record IsTransformationRead (text : List ℕ) (read : Transformed) : Type 0 where
+  pub some : 0 < read.length
+  pub within : read.length ≤ length text
+  pub small : HasSmallNumbers read.transformation
+  pub are_read : AreRead (words_of read.transformation) text (drop read.length text)
+
+-- the transformation that a text begins with, or that there is none
+abbrev pub IsTransformationAnswer : List ℕ → Option Transformed → Type 0
+IsTransformationAnswer text answer = MatchOption answer ((t : Transformation) (rest : List ℕ) → AreRead (words_of t) text rest → ⊥) (IsTransformationRead text)

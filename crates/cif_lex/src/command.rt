@@ -1,5 +1,6 @@
 //! What a reader of CIF meets in a text.
 
+use crate::placement::Placement;
 use lam_geom::MaskLayer;
 
 /// A command. A number past 2^30 on either side of 0 stands as one past it.
@@ -24,13 +25,14 @@ pub enum Command {
         x: i64,
         y: i64,
     },
-    /// `C n` and any number of `T x y`: a symbol is placed, shifted by the sum; whether one of the numbers of its shifts is
-    /// past the limit.
+    /// `C n` and any number of `T x y`, `M X`, `M Y` and `R a b`: a symbol is placed. What its transformations come to, from left to
+    /// right; whether a number of them is past the limit, or both or neither number of a turn is 0; and whether one of them is no
+    /// shift.
     Call {
         number: i64,
-        x: i64,
-        y: i64,
-        far: bool,
+        place: Placement,
+        bad: bool,
+        turned: bool,
     },
     /// A digit and any bytes: a user extension.
     Extension,

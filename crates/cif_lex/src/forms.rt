@@ -1,14 +1,15 @@
 //! The forms of commands.
-ghost use Rattle.std.specs.Prelude.{◌≡◌, ◌+◌, ◌<◌, ◌≤◌, ◌^◌, ◌≢◌, ◌||◌, IsTrue, All, take, drop, length, slice_index};
+ghost use Rattle.std.specs.Prelude.{◌≡◌, ◌+◌, ◌<◌, ◌≤◌, ◌^◌, ◌≢◌, IsTrue, All, take, drop, length, slice_index};
 ghost use Rattle.cif_lex.specs.Blanks.{semicolon, IsFilled};
-ghost use Rattle.cif_lex.specs.Words.{is_name_byte, StopsAt, letter, limit};
-ghost use Rattle.cif_lex.specs.Commands.{layer_named, is_far};
+ghost use Rattle.cif_lex.specs.Words.{is_name_byte, StopsAt, letter};
+ghost use Rattle.cif_lex.specs.Commands.{layer_named};
 ghost use Rattle.cif_lex.specs.Reading.{IsRead};
 ghost use Rattle.cif_lex.specs.Forms.{IsLedBy, IsFormAnswer, IsBodyAnswer};
 
+use crate::calls::call;
 use crate::command::Command;
 use crate::gaps::{begins_with, gap_length};
-use crate::numbers::{LARGEST, Pair, read_number, read_pair};
+use crate::numbers::{read_number, read_pair};
 use lam_geom::MaskLayer;
 
 /// The most bytes of a layer's name.
@@ -22,7 +23,7 @@ pub(crate) struct Form {
 }
 
 // How many bytes the letter takes that a text begins with, and the gap behind it.
-fn letter_length(text: &[u8]) -> usize
+pub(crate) fn letter_length(text: &[u8]) -> usize
     requires { 0 < length text.now }
     ensures within { result ≤ length text.now }
     ensures some { 0 < result }
@@ -156,50 +157,6 @@ fn layer(text: &[u8]) -> Option<Form>
     Some(Form {
         command: Command::Layer(layer),
         length: end + gap_length(&text[end..]),
-    })
-}
-
-fn is_far(number: i64) -> bool
-    ensures { result ≡ is_far number }
-{
-    number > LARGEST || number < -LARGEST
-}
-
-// Whether one of two numbers is past the limit.
-fn either_is_far(pair: &Pair) -> bool
-    ensures { result ≡ (is_far pair.now.first || is_far pair.now.second) }
-{
-    is_far(pair.first) || is_far(pair.second)
-}
-
-// `C n` and any number of `T x y`
-fn call(text: &[u8]) -> Option<Form>
-    requires led { IsLedBy 67 text.now }
-    requires few { length text.now ≤ 2 ^ 26 }
-    ensures { IsFormAnswer text.now result }
-{
-    let begin = letter_length(text);
-    let symbol = read_number(&text[begin..])?;
-    let mut at = begin + symbol.length;
-    let mut x = 0;
-    let mut y = 0;
-    let mut far = false;
-    while begins_with(&text[at..], b'T') {
-        at += letter_length(&text[at..]);
-        let shift = read_pair(&text[at..])?;
-        at += shift.length;
-        x += shift.first;
-        y += shift.second;
-        far = far | either_is_far(&shift);
-    }
-    Some(Form {
-        command: Command::Call {
-            number: symbol.value,
-            x,
-            y,
-            far,
-        },
-        length: at,
     })
 }
 

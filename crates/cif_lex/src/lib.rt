@@ -5,14 +5,17 @@
 //! layer above. `commands_are_determined` is the law that each place of a text has one answer.
 #![tactic(auto)]
 
+mod calls;
 mod command;
 mod forms;
 mod gaps;
 mod laws;
 mod numbers;
+mod placement;
 mod reading;
 
 pub use command::{Command, Next, Tail};
 pub use laws::commands_are_determined;
 pub use numbers::LARGEST;
+pub use placement::Placement;
 pub use reading::{next, tail};

@@ -13,7 +13,7 @@ use Rattle.cif_read.specs.Acts.{State, has_number, is_known, place_of, is_bad_ca
 use Rattle.cif_meaning.specs.Written.{IsWritableCall, symbol_at, step_of_call}
 use Rattle.cif_meaning.proofs.Numbers.{shift}
 use Rattle.cif_meaning.proofs.Spelled.{not_far}
-use Rattle.cif_meaning.proofs.Commands.{call_command}
+use Rattle.cif_meaning.proofs.Commands.{shift_by, call_command}
 use Rattle.cif_meaning.proofs.DefinitionActs.{going, then_goes, if_not, outside, none_of_four}
 use Rattle.cif_meaning.proofs.SymbolActs.{fine_symbol, all_symbols, other_number}
 
@@ -60,7 +60,7 @@ abbrev with_call : List Symbol → List Step → Step → Result State CifKind
 with_call symbols steps step = Ok (outside symbols (steps ++ (step ∷ [])))
 
 called_acts : (symbols : List Symbol) (steps : List Step) (n x y : ℤ) (place : ℕ) → is_bad_call n x y false ≡ false → Stands n symbols place
-    → act (outside symbols steps) (Call n x y false) ≡ with_call symbols steps (called place (pos 2 *ℤ x) (pos 2 *ℤ y))
+    → act (outside symbols steps) (Call n (shift_by x y) false false) ≡ with_call symbols steps (called place (pos 2 *ℤ x) (pos 2 *ℤ y))
 unfolding act
 called_acts symbols steps n x y place fine is =
     if_not (is_bad_call n x y false) _ _ fine

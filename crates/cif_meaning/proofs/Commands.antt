@@ -5,6 +5,7 @@ use Rattle.lam_geom.specs.declared.boxes.MaskLayer.{MaskLayer}
 use Rattle.mask_out.specs.declared.picture.Call as drawn
 use Rattle.mask_out.specs.Masks.{Mask, is_same_layer, mask_layers}
 use Rattle.mask_out.specs.Pictures.{Drawing, no_drawing}
+use Rattle.cif_lex.specs.declared.placement.Placement.{Placement}
 use Rattle.cif_lex.specs.declared.command.Command.{Command}
 use Rattle.cif_lex.specs.declared.command.Command.TheVariants.{Define, Finish, Layer, Area, Call, Extension}
 
@@ -33,8 +34,12 @@ commands_at half drawings k = symbol_commands (k + 1) half (get_or drawings k no
 abbrev pub symbols_commands : ℤ → List Drawing → List Command
 symbols_commands half drawings = flat_map (commands_at half drawings) (range_with_len 0 (length drawings))
 
+-- a shift alone
+abbrev pub shift_by : ℤ → ℤ → Placement
+shift_by x y = record { turn = 0; x = x; y = y }
+
 abbrev pub call_command : ℤ → drawn.Call → Command
-call_command unit call = Call (pos (call.symbol + 1)) (call.x *ℤ unit) (call.y *ℤ unit) false
+call_command unit call = Call (pos (call.symbol + 1)) (shift_by (call.x *ℤ unit) (call.y *ℤ unit)) false false
 
 abbrev pub picture_commands : ℤ → ℤ → List Drawing → List drawn.Call → List Command
 picture_commands unit half drawings calls = symbols_commands half drawings ++ map (call_command unit) calls

@@ -3,8 +3,8 @@ use Rattle.std.proofs.Common.{◌≡◌, ℕ, ℤ, Ok, List, [], ◌∷◌, ◌+
 use Rattle.mask_out.specs.declared.picture.Call as drawn
 use Rattle.mask_out.specs.Pictures.{Drawing}
 use Rattle.cif_text.specs.Calls.{cif_of}
-use Rattle.cif_read.specs.Meaning.{Means, joined}
-use Rattle.cif_read.specs.Acts.{acts}
+use Rattle.cif_read.specs.Readers.{joined}
+use Rattle.cif_read.specs.Meaning.{Means, acts}
 use Rattle.cif_meaning.specs.Written.{IsWritablePicture, step_of_call, sheet_of_picture}
 use Rattle.cif_meaning.proofs.CommandLines.{no_gap, one_blank}
 use Rattle.cif_meaning.proofs.Commands.{symbols_commands, call_command, picture_commands}

@@ -4,7 +4,7 @@ use Rattle.std.specs.List.{AllByRecursion, AllZip}
 use Rattle.cif_lex.specs.declared.command.Command.{Command}
 use Rattle.cif_lex.specs.Blanks.{IsGap}
 use Rattle.cif_lex.specs.Commands.{IsPiece}
-use Rattle.cif_read.specs.Meaning.{joined}
+use Rattle.cif_read.specs.Readers.{joined}
 use Rattle.cif_meaning.proofs.CommandLines.{IsLineOf, one_blank}
 
 -- ---- lines

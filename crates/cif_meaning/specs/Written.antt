@@ -5,6 +5,8 @@ use Rattle.mask_out.specs.declared.picture.Call.{Call}
 use Rattle.mask_out.specs.Masks.{Mask, is_same_layer, mask_layers}
 use Rattle.mask_out.specs.Pictures.{Drawing, no_drawing, flat_of}
 use Rattle.cif_text.specs.Calls.{cif_of}
+use Rattle.cif_foreign.specs.Sheets as foreign
+use Rattle.cif_foreign.specs.Meaning as foreign_meaning
 use Rattle.cif_read.specs.Meaning.{Means}
 use Rattle.cif_read.specs.Sheets.{Drawn, Symbol, Step, called, Sheet, flattened}
 
@@ -78,3 +80,9 @@ pub record TextsMeanTheirPictures : Type 0 where
   pub means : (unit : ℤ) (drawings : List Drawing) (calls : List Call) → IsWritablePicture unit drawings calls → Means (cif_of unit drawings calls) (sheet_of_picture unit drawings calls)
   pub flat : (unit : ℤ) (drawings : List Drawing) (calls : List Call) → IsWritablePicture unit drawings calls
       → flattened (sheet_of_picture unit drawings calls) ≡ map (drawn_mask unit) (flat_of drawings calls)
+
+-- The same to the reader of the texts of other tools: there is a sheet that the text means, and its boxes are those of the picture.
+abbrev pub TextsMeanTheirPicturesToOthers : Type 0
+TextsMeanTheirPicturesToOthers =
+    (unit : ℤ) (drawings : List Drawing) (calls : List Call) → IsWritablePicture unit drawings calls
+    → (sheet : foreign.Sheet) × foreign_meaning.Means (cif_of unit drawings calls) sheet × (foreign.flattened sheet ≡ map (drawn_mask unit) (flat_of drawings calls))

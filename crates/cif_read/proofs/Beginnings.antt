@@ -12,17 +12,15 @@ use Rattle.cif_read.specs.declared.fault.CifKind.{CifKind}
 use Rattle.cif_read.specs.declared.fault.Stop.{Stop}
 use Rattle.cif_read.specs.declared.fault.Stop.TheVariants.{Refused, OutOfMemory}
 use Rattle.cif_read.specs.declared.state.Begun.{Begun}
-use Rattle.cif_read.specs.Acts.{State, Definition, start, act, acts, then_act}
-use Rattle.cif_read.specs.Meaning.{BeginsWell, Means, joined, refused, cut_and_refused}
-use Rattle.cif_read.specs.Files.{IsCauseOf}
-use Rattle.cif_read.specs.Readings.{definition_of, begun_of, sheet_of_state, cause_of, IsCauseOfStop}
+use Rattle.cif_read.specs.Readers.{Reader, then_act_by, acts_by, BeginsWellBy, MeansBy, joined, refused, cut_and_refused, IsCauseBy, cause_of, IsCauseOfStop}
+use Rattle.cif_read.specs.Readings.{begun_of}
 
-pub begins_none : (text : List ℕ) → BeginsWell text 0 start
-begins_none text = record { pieces = []; commands = []; spelled = tt; rest = text; cut = refl; counted = refl; done = refl }
+pub begins_none : {S D : Type 0} (reader : Reader S D) (text : List ℕ) → BeginsWellBy reader text 0 reader.start
+begins_none reader text = record { pieces = []; commands = []; spelled = tt; rest = text; cut = refl; counted = refl; done = refl }
 
 -- what is left behind so many bytes
-pub left_of : (text : List ℕ) (read : ℕ) (state : State) (well : BeginsWell text read state) → drop read text ≡ well.rest
-left_of text read state well = ap (drop read) well.cut ∙ drop_at (joined well.pieces) well.rest read (sym well.counted)
+pub left_of : {S D : Type 0} (reader : Reader S D) (text : List ℕ) (read : ℕ) (state : S) (well : BeginsWellBy reader text read state) → drop read text ≡ well.rest
+left_of reader text read state well = ap (drop read) well.cut ∙ drop_at (joined well.pieces) well.rest read (sym well.counted)
 
 pub begin_within : (text rest : List ℕ) (read begin : ℕ) → read ≤ length text → Follows text read begin rest → begin + length rest ≤ length text
 begin_within text rest read begin h f = omega (arith, f.begins, ap length f.joined, length-drop read text, length-append f.gap rest)
@@ -30,20 +28,21 @@ begin_within text rest read begin h f = omega (arith, f.begins, ap length f.join
 joined_push : (pieces : List (List ℕ)) (piece : List ℕ) → joined (pieces ++ piece ∷ []) ≡ joined pieces ++ piece
 joined_push pieces piece = flat_map-append (λ p. p) pieces (piece ∷ []) ∙ ap (λ zs. joined pieces ++ zs) (append-nil piece)
 
-acts_push_from : (answer : Result State CifKind) (commands : List Command) (command : Command) → fold then_act answer (commands ++ command ∷ []) ≡ then_act (fold then_act answer commands) command
-acts_push_from answer [] command = refl
-acts_push_from answer (first ∷ commands) command = acts_push_from (then_act answer first) commands command
+acts_push_from : {S D : Type 0} (reader : Reader S D) (answer : Result S CifKind) (commands : List Command) (command : Command)
+    → fold (then_act_by reader) answer (commands ++ command ∷ []) ≡ then_act_by reader (fold (then_act_by reader) answer commands) command
+acts_push_from reader answer [] command = refl
+acts_push_from reader answer (first ∷ commands) command = acts_push_from reader (then_act_by reader answer first) commands command
 
-pub closed_from : (begun : Option Begun) → false ≡ is_some begun → begun_of begun ≡ None
+pub closed_from : (begun : Option Begun) → false ≡ is_some begun → is_some (begun_of begun) ≡ false
 closed_from None e = refl
 closed_from (Some b) e = absurd (false≢true e)
 
-pub open_from : (begun : Option Begun) → true ≡ is_some begun → (d : Definition) × (begun_of begun ≡ Some d)
+pub open_from : (begun : Option Begun) → true ≡ is_some begun → is_some (begun_of begun) ≡ true
 open_from None e = absurd (false≢true (sym e))
-open_from (Some b) e = (definition_of b, refl)
+open_from (Some b) e = refl
 
-pub acts_push : (commands : List Command) (command : Command) (state : State) → acts commands ≡ Ok state → acts (commands ++ command ∷ []) ≡ act state command
-acts_push commands command state e = acts_push_from (Ok start) commands command ∙ ap (λ answer. then_act answer command) e
+pub acts_push : {S D : Type 0} (reader : Reader S D) (commands : List Command) (command : Command) (state : S) → acts_by reader commands ≡ Ok state → acts_by reader (commands ++ command ∷ []) ≡ reader.act state command
+acts_push reader commands command state e = acts_push_from reader (Ok reader.start) commands command ∙ ap (λ answer. then_act_by reader answer command) e
 
 spelled_push : (commands : List Command) (pieces : List (List ℕ)) (command : Command) (piece : List ℕ) → AllZip IsPiece commands pieces → IsPiece command piece
     → AllZip IsPiece (commands ++ command ∷ []) (pieces ++ piece ∷ [])
@@ -59,11 +58,11 @@ pub piece_length : (gap body : List ℕ) → length (gap ++ (body ++ (semicolon 
 piece_length gap body = length-append gap (body ++ (semicolon ∷ [])) ∙ ap (λ n. length gap + n) (length-append body (semicolon ∷ []))
 
 -- one more command
-pub begins_more : (text : List ℕ) (read begin after : ℕ) (state done : State) (command : Command) → BeginsWell text read state → IsNext text read (Whole begin command after)
-    → act state command ≡ Ok done → BeginsWell text after done
-begins_more text read begin after state done command well (body, rest, is_body, follows, end, within) acted =
+pub begins_more : {S D : Type 0} (reader : Reader S D) (text : List ℕ) (read begin after : ℕ) (state done : S) (command : Command) → BeginsWellBy reader text read state → IsNext text read (Whole begin command after)
+    → reader.act state command ≡ Ok done → BeginsWellBy reader text after done
+begins_more reader text read begin after state done command well (body, rest, is_body, follows, end, within) acted =
     let piece = follows.gap ++ (body ++ (semicolon ∷ [])) in
-    let left : well.rest ≡ piece ++ rest = sym (left_of text read state well) ∙ (follows.joined ∙ sym (piece_left follows.gap body rest)) in
+    let left : well.rest ≡ piece ++ rest = sym (left_of reader text read state well) ∙ (follows.joined ∙ sym (piece_left follows.gap body rest)) in
     let size = ap length (joined_push well.pieces piece) ∙ length-append (joined well.pieces) piece in
     record {
       pieces = well.pieces ++ piece ∷ [];
@@ -72,7 +71,7 @@ begins_more text read begin after state done command well (body, rest, is_body, 
       rest = rest;
       cut = well.cut ∙ (ap (λ zs. joined well.pieces ++ zs) left ∙ (sym (append_assoc (joined well.pieces) piece rest) ∙ ap (λ zs. zs ++ rest) (sym (joined_push well.pieces piece))));
       counted = omega (arith, size, piece_length follows.gap body, well.counted, follows.begins, end);
-      done = acts_push well.commands command state well.done ∙ acted;
+      done = acts_push reader well.commands command state well.done ∙ acted;
     }
 
 pub end_left : (front gap rest : List ℕ) → front ++ (gap ++ (69 ∷ rest)) ≡ (front ++ (gap ++ (69 ∷ []))) ++ rest
@@ -82,10 +81,10 @@ pub end_length : (front gap : List ℕ) → length (front ++ (gap ++ (69 ∷ [])
 end_length front gap = length-append front (gap ++ (69 ∷ [])) ∙ ap (λ n. length front + n) (length-append gap (69 ∷ []))
 
 -- the end, and what stands behind it
-pub means_whole : (text : List ℕ) (read begin : ℕ) (state : State) → BeginsWell text read state → IsNext text read (End begin) → IsGap (drop (begin + 1) text) → state.begun ≡ None
-    → Means text (sheet_of_state state)
-means_whole text read begin state well (rest, follows, within) behind closed =
-    let whole : text ≡ joined well.pieces ++ (follows.gap ++ (69 ∷ rest)) = well.cut ∙ ap (λ zs. joined well.pieces ++ zs) (sym (left_of text read state well) ∙ follows.joined) in
+pub means_whole : {S D : Type 0} (reader : Reader S D) (text : List ℕ) (read begin : ℕ) (state : S) → BeginsWellBy reader text read state → IsNext text read (End begin) → IsGap (drop (begin + 1) text) → reader.is_open state ≡ false
+    → MeansBy reader text (reader.drawn state)
+means_whole reader text read begin state well (rest, follows, within) behind closed =
+    let whole : text ≡ joined well.pieces ++ (follows.gap ++ (69 ∷ rest)) = well.cut ∙ ap (λ zs. joined well.pieces ++ zs) (sym (left_of reader text read state well) ∙ follows.joined) in
     let front = joined well.pieces ++ (follows.gap ++ (69 ∷ [])) in
     let size : length front ≡ begin + 1 = omega (arith, end_length (joined well.pieces) follows.gap, well.counted, follows.begins) in
     let left : drop (begin + 1) text ≡ rest = ap (drop (begin + 1)) (whole ∙ end_left (joined well.pieces) follows.gap rest) ∙ drop_at front rest (begin + 1) size in
@@ -106,12 +105,12 @@ means_whole text read begin state well (rest, follows, within) behind closed =
 
 -- ---- why there is none
 
-pub cause_of_whole : (text : List ℕ) (read begin after : ℕ) (state : State) (command : Command) (stop : Stop) → BeginsWell text read state → IsNext text read (Whole begin command after)
-    → IsCauseOfStop (act state command) stop → IsCauseOf text (cause_of begin stop)
-cause_of_whole text read begin after state command (Refused kind) well next h = record { read = read; state = state; well = well; is_fault = refused begin after command kind next h }
-cause_of_whole text read begin after state command OutOfMemory well next h = tt
+pub cause_of_whole : {S D : Type 0} (reader : Reader S D) (text : List ℕ) (read begin after : ℕ) (state : S) (command : Command) (stop : Stop) → BeginsWellBy reader text read state → IsNext text read (Whole begin command after)
+    → IsCauseOfStop (reader.act state command) stop → IsCauseBy reader text (cause_of begin stop)
+cause_of_whole reader text read begin after state command (Refused kind) well next h = record { read = read; state = state; well = well; is_fault = refused begin after command kind next h }
+cause_of_whole reader text read begin after state command OutOfMemory well next h = tt
 
-pub cause_of_cut : (text : List ℕ) (read begin : ℕ) (state : State) (command : Command) (stop : Stop) → BeginsWell text read state → IsNext text read (Cut begin command)
-    → IsCauseOfStop (act state command) stop → IsCauseOf text (cause_of begin stop)
-cause_of_cut text read begin state command (Refused kind) well next h = record { read = read; state = state; well = well; is_fault = cut_and_refused begin command kind next h }
-cause_of_cut text read begin state command OutOfMemory well next h = tt
+pub cause_of_cut : {S D : Type 0} (reader : Reader S D) (text : List ℕ) (read begin : ℕ) (state : S) (command : Command) (stop : Stop) → BeginsWellBy reader text read state → IsNext text read (Cut begin command)
+    → IsCauseOfStop (reader.act state command) stop → IsCauseBy reader text (cause_of begin stop)
+cause_of_cut reader text read begin state command (Refused kind) well next h = record { read = read; state = state; well = well; is_fault = cut_and_refused begin command kind next h }
+cause_of_cut reader text read begin state command OutOfMemory well next h = tt

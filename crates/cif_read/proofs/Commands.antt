@@ -1,8 +1,10 @@
 -- What each command is answered.
-use Rattle.std.proofs.Common.{◌≡◌, ℤ, FitsSigned, of_z, to_z, w64, Bool, Ok, refl}
+use Rattle.std.proofs.Common.{◌≡◌, ℤ, FitsSigned, of_z, to_z, w64, Bool, true, false, Ok, Err, refl}
 use Rattle.std.proofs.lemmas.Int.{to_z-of_z}
 use Rattle.cif_lex.specs.declared.command.Command.{Command}
 use Rattle.cif_lex.specs.declared.command.Command.TheVariants.{Nothing, Define, Finish, Layer, Call, Extension}
+use Rattle.cif_lex.specs.declared.placement.Placement.{Placement}
+use Rattle.cif_read.specs.declared.fault.CifKind.TheVariants.{BadCommand}
 use Rattle.cif_read.specs.Acts.{State, Named, act, defined, finished, named, called_at}
 
 pub nothing_is : (state : State) (command : Command) → command ≡ Nothing → act state command ≡ Ok state
@@ -26,7 +28,11 @@ pub layer_is : (state : State) (command : Command) (layer : Named) → command �
 unfolding act
 layer_is state command layer e = rw e refl
 
-pub call_is : (state : State) (command : Command) (n x y : ℤ) (far : Bool) → command ≡ Call n x y far → FitsSigned w64 n → FitsSigned w64 x → FitsSigned w64 y
-    → act state command ≡ called_at state (to_z w64 (of_z w64 n)) (to_z w64 (of_z w64 x)) (to_z w64 (of_z w64 y)) far
+pub call_is : (state : State) (command : Command) (n : ℤ) (place : Placement) (bad is_turned : Bool) → command ≡ Call n place bad is_turned → is_turned ≡ false → FitsSigned w64 n → FitsSigned w64 place.x → FitsSigned w64 place.y
+    → act state command ≡ called_at state (to_z w64 (of_z w64 n)) (to_z w64 (of_z w64 place.x)) (to_z w64 (of_z w64 place.y)) bad
 unfolding act
-call_is state command n x y far e fn fx fy = rw (e, to_z-of_z w64 n fn, to_z-of_z w64 x fx, to_z-of_z w64 y fy) refl
+call_is state command n place bad is_turned e plain fn fx fy = rw (e, plain, to_z-of_z w64 n fn, to_z-of_z w64 place.x fx, to_z-of_z w64 place.y fy) refl
+
+pub turned_is : (state : State) (command : Command) (n : ℤ) (place : Placement) (bad is_turned : Bool) → command ≡ Call n place bad is_turned → is_turned ≡ true → act state command ≡ Err BadCommand
+unfolding act
+turned_is state command n place bad is_turned e turns = rw (e, turns) refl

@@ -1,5 +1,6 @@
 -- A text means one sheet or has one first fault.
-use Rattle.std.proofs.Common.{◌≡◌, ℕ, ◌+◌, ◌⊎◌, inl, inr, Some, None, Ok, Err, List, [], ◌∷◌, ◌++◌, length, drop, refl, sym, ap, ◌∙◌, subst, arith, length-append}
+use Rattle.std.proofs.Common.{◌≡◌, ℕ, ◌+◌, ◌⊎◌, inl, inr, true, false, Ok, Err, List, [], ◌∷◌, ◌++◌, length, drop, refl, sym, ap, ◌∙◌, subst, arith, length-append}
+use Rattle.std.proofs.lemmas.Bool.{false≢true}
 use Rattle.std.proofs.lemmas.List.{drop_at}
 use Rattle.cif_lex.specs.declared.command.Next.{Next}
 use Rattle.cif_lex.specs.declared.command.Next.TheVariants.{Whole, Cut, Bad, End, Missing}
@@ -10,25 +11,22 @@ use Rattle.cif_lex.specs.Commands.{IsNext, IsTail, NextIsDetermined, TailIsDeter
 use Rattle.cif_read.specs.declared.fault.CifFault.{CifFault}
 use Rattle.cif_read.specs.declared.fault.CifKind.{CifKind}
 use Rattle.cif_read.specs.declared.fault.CifKind.TheVariants.{BadCommand, NestedDefinition, NoEnd, AfterEnd}
-use Rattle.cif_read.specs.Sheets.{Sheet}
-use Rattle.cif_read.specs.Acts.{State, Definition, act}
-use Rattle.cif_read.specs.Meaning.{joined, BeginsWell, Means, IsFaultOf, no_command, refused, cut_and_refused, cut, missing, end_inside, filled, unclosed, IsFirstFault, ReadingsAreDetermined}
-use Rattle.cif_read.specs.Readings.{sheet_of_state}
+use Rattle.cif_read.specs.Readers.{Reader, joined, BeginsWellBy, MeansBy, IsFaultBy, no_command, refused, cut_and_refused, cut, missing, end_inside, filled, unclosed, IsFirstFaultBy, IsDeterminedBy}
 use Rattle.cif_read.proofs.Beginnings.{end_left, end_length}
 use Rattle.cif_read.proofs.Walks.{walks_well, GoesOn, Compared, compared}
 
 -- ---- where a reading of a meaning ends
 
 -- at the letter E, outside of a definition, with nothing but a gap behind it
-record EndsWell (text : List ℕ) (read : ℕ) (state : State) : Type 0 where
-  well : BeginsWell text read state
+record EndsWell {S D : Type 0} (reader : Reader S D) (text : List ℕ) (read : ℕ) (state : S) : Type 0 where
+  well : BeginsWellBy reader text read state
   begin : ℕ
   ended : IsNext text read (End begin)
-  closed : state.begun ≡ None
+  closed : reader.is_open state ≡ false
   behind : IsGap (drop (begin + 1) text)
 
-ends_well : (text : List ℕ) (sheet : Sheet) (means : Means text sheet) → EndsWell text (length (joined means.pieces)) means.state
-ends_well text sheet means =
+ends_well : {S D : Type 0} (reader : Reader S D) (text : List ℕ) (sheet : D) (means : MeansBy reader text sheet) → EndsWell reader text (length (joined means.pieces)) means.state
+ends_well reader text sheet means =
     let read = length (joined means.pieces) in
     let rest = means.gap ++ (69 ∷ means.behind) in
     let left : drop read text ≡ rest = ap (drop read) means.whole ∙ drop_at (joined means.pieces) rest read refl in
@@ -46,8 +44,8 @@ ends_well text sheet means =
     }
 
 -- nothing goes on there
-end_stops : (one : NextIsDetermined) (text : List ℕ) (read : ℕ) (state : State) → EndsWell text read state → GoesOn text read state → ⊥
-end_stops one text read state e g = let same = one text read (End e.begin) (Whole g.begin g.command g.after) e.ended g.found in absurd cc
+end_stops : {S D : Type 0} (reader : Reader S D) (one : NextIsDetermined) (text : List ℕ) (read : ℕ) (state : S) → EndsWell reader text read state → GoesOn reader text read state → ⊥
+end_stops reader one text read state e g = let same = one text read (End e.begin) (Whole g.begin g.command g.after) e.ended g.found in absurd cc
 
 -- ---- what comes next at a fault, and what it makes of the fault
 
@@ -56,39 +54,39 @@ SaysTail text tails.Clean offset kind = ⊥
 SaysTail text (tails.Filled place) offset kind = (offset ≡ place) × (kind ≡ AfterEnd)
 SaysTail text tails.Unclosed offset kind = (offset ≡ length text) × (kind ≡ NoEnd)
 
-record IsBehind (text : List ℕ) (state : State) (begin offset : ℕ) (kind : CifKind) : Type 0 where
-  closed : state.begun ≡ None
+record IsBehind {S D : Type 0} (reader : Reader S D) (text : List ℕ) (state : S) (begin offset : ℕ) (kind : CifKind) : Type 0 where
+  closed : reader.is_open state ≡ false
   tail : Tail
   found : IsTail text (begin + 1) tail
   says : SaysTail text tail offset kind
 
-abbrev Says : List ℕ → State → Next → ℕ → CifKind → Type 0
-Says text state (Whole begin command after) offset kind = (offset ≡ begin) × (act state command ≡ Err kind)
-Says text state (Cut begin command) offset kind = ((offset ≡ begin) × (act state command ≡ Err kind)) ⊎ ((done : State) × (act state command ≡ Ok done) × (offset ≡ length text) × (kind ≡ NoEnd))
-Says text state (Bad begin) offset kind = (offset ≡ begin) × (kind ≡ BadCommand)
-Says text state (End begin) offset kind = ((d : Definition) × (state.begun ≡ Some d) × (offset ≡ begin) × (kind ≡ NestedDefinition)) ⊎ IsBehind text state begin offset kind
-Says text state Missing offset kind = (offset ≡ length text) × (kind ≡ NoEnd)
+abbrev Says : {S D : Type 0} → Reader S D → List ℕ → S → Next → ℕ → CifKind → Type 0
+Says reader text state (Whole begin command after) offset kind = (offset ≡ begin) × (reader.act state command ≡ Err kind)
+Says {S = S} reader text state (Cut begin command) offset kind = ((offset ≡ begin) × (reader.act state command ≡ Err kind)) ⊎ ((done : S) × (reader.act state command ≡ Ok done) × (offset ≡ length text) × (kind ≡ NoEnd))
+Says reader text state (Bad begin) offset kind = (offset ≡ begin) × (kind ≡ BadCommand)
+Says reader text state (End begin) offset kind = ((reader.is_open state ≡ true) × (offset ≡ begin) × (kind ≡ NestedDefinition)) ⊎ IsBehind reader text state begin offset kind
+Says reader text state Missing offset kind = (offset ≡ length text) × (kind ≡ NoEnd)
 
-record IsSaid (text : List ℕ) (state : State) (read offset : ℕ) (kind : CifKind) : Type 0 where
+record IsSaid {S D : Type 0} (reader : Reader S D) (text : List ℕ) (state : S) (read offset : ℕ) (kind : CifKind) : Type 0 where
   next : Next
   found : IsNext text read next
-  says : Says text state next offset kind
+  says : Says reader text state next offset kind
 
-said : (text : List ℕ) (state : State) (read offset : ℕ) (kind : CifKind) → IsFaultOf text state read offset kind → IsSaid text state read offset kind
-said text state read offset kind (no_command begin next) = record { next = Bad begin; found = next; says = (refl, refl) }
-said text state read offset kind (refused begin after command k next acted) = record { next = Whole begin command after; found = next; says = (refl, acted) }
-said text state read offset kind (cut_and_refused begin command k next acted) = record { next = Cut begin command; found = next; says = inl (refl, acted) }
-said text state read offset kind (cut begin command done next acted) = record { next = Cut begin command; found = next; says = inr (done, acted, refl, refl) }
-said text state read offset kind (missing next) = record { next = Missing; found = next; says = (refl, refl) }
-said text state read offset kind (end_inside begin d next begun) = record { next = End begin; found = next; says = inl (d, begun, refl, refl) }
-said text state read offset kind (filled begin place next closed tail) = record { next = End begin; found = next; says = inr (record { closed = closed; tail = tails.Filled place; found = tail; says = (refl, refl) }) }
-said text state read offset kind (unclosed begin next closed tail) = record { next = End begin; found = next; says = inr (record { closed = closed; tail = tails.Unclosed; found = tail; says = (refl, refl) }) }
+said : {S D : Type 0} (reader : Reader S D) (text : List ℕ) (state : S) (read offset : ℕ) (kind : CifKind) → IsFaultBy reader text state read offset kind → IsSaid reader text state read offset kind
+said reader text state read offset kind (no_command begin next) = record { next = Bad begin; found = next; says = (refl, refl) }
+said reader text state read offset kind (refused begin after command k next acted) = record { next = Whole begin command after; found = next; says = (refl, acted) }
+said reader text state read offset kind (cut_and_refused begin command k next acted) = record { next = Cut begin command; found = next; says = inl (refl, acted) }
+said reader text state read offset kind (cut begin command done next acted) = record { next = Cut begin command; found = next; says = inr (done, acted, refl, refl) }
+said reader text state read offset kind (missing next) = record { next = Missing; found = next; says = (refl, refl) }
+said reader text state read offset kind (end_inside begin next begun) = record { next = End begin; found = next; says = inl (begun, refl, refl) }
+said reader text state read offset kind (filled begin place next closed tail) = record { next = End begin; found = next; says = inr (record { closed = closed; tail = tails.Filled place; found = tail; says = (refl, refl) }) }
+said reader text state read offset kind (unclosed begin next closed tail) = record { next = End begin; found = next; says = inr (record { closed = closed; tail = tails.Unclosed; found = tail; says = (refl, refl) }) }
 
 -- nothing goes on there
-fault_stops : (one : NextIsDetermined) (text : List ℕ) (state : State) (read offset : ℕ) (kind : CifKind) → IsSaid text state read offset kind → GoesOn text read state → ⊥
-fault_stops one text state read offset kind s g = no_way s.next (one text read s.next (Whole g.begin g.command g.after) s.found g.found) s.says
+fault_stops : {S D : Type 0} (reader : Reader S D) (one : NextIsDetermined) (text : List ℕ) (state : S) (read offset : ℕ) (kind : CifKind) → IsSaid reader text state read offset kind → GoesOn reader text read state → ⊥
+fault_stops reader one text state read offset kind s g = no_way s.next (one text read s.next (Whole g.begin g.command g.after) s.found g.found) s.says
   where
-    no_way : (next : Next) → next ≡ Whole g.begin g.command g.after → Says text state next offset kind → ⊥
+    no_way : (next : Next) → next ≡ Whole g.begin g.command g.after → Says reader text state next offset kind → ⊥
     no_way (Whole begin command after) e h = let same : command ≡ g.command = cc in let acted = g.acted in let err = h.1 in cc
     no_way (Cut begin command) e h = cc
     no_way (Bad begin) e h = cc
@@ -102,56 +100,56 @@ same_tail text tails.Clean o p k l a b = absurd a
 same_tail text (tails.Filled place) o p k l a b = (a.0 ∙ sym b.0, a.1 ∙ sym b.1)
 same_tail text tails.Unclosed o p k l a b = (a.0 ∙ sym b.0, a.1 ∙ sym b.1)
 
-same_behind : (one : TailIsDetermined) (text : List ℕ) (state : State) (begin o p : ℕ) (k l : CifKind) → IsBehind text state begin o k → IsBehind text state begin p l → (o ≡ p) × (k ≡ l)
-same_behind one text state begin o p k l a b =
+same_behind : {S D : Type 0} (reader : Reader S D) (one : TailIsDetermined) (text : List ℕ) (state : S) (begin o p : ℕ) (k l : CifKind) → IsBehind reader text state begin o k → IsBehind reader text state begin p l → (o ≡ p) × (k ≡ l)
+same_behind reader one text state begin o p k l a b =
     same_tail text a.tail o p k l a.says (subst (λ t. SaysTail text t p l) (one text (begin + 1) b.tail a.tail b.found a.found) b.says)
 
-same_says : (one : TailIsDetermined) (text : List ℕ) (state : State) (next : Next) (o p : ℕ) (k l : CifKind) → Says text state next o k → Says text state next p l → (o ≡ p) × (k ≡ l)
-same_says one text state (Whole begin command after) o p k l (a, e) (b, f) = (a ∙ sym b, cc)
-same_says one text state (Cut begin command) o p k l (inl (a, e)) (inl (b, f)) = (a ∙ sym b, cc)
-same_says one text state (Cut begin command) o p k l (inl (a, e)) (inr (done, f, _, _)) = absurd cc
-same_says one text state (Cut begin command) o p k l (inr (done, f, _, _)) (inl (a, e)) = absurd cc
-same_says one text state (Cut begin command) o p k l (inr (done, e, a, c)) (inr (done', f, b, d)) = (a ∙ sym b, c ∙ sym d)
-same_says one text state (Bad begin) o p k l a b = (a.0 ∙ sym b.0, a.1 ∙ sym b.1)
-same_says one text state (End begin) o p k l (inl (d, e, a, c)) (inl (d', f, b, g)) = (a ∙ sym b, c ∙ sym g)
-same_says one text state (End begin) o p k l (inl (d, e, a, c)) (inr b) = let closed = b.closed in absurd cc
-same_says one text state (End begin) o p k l (inr a) (inl (d, e, b, c)) = let closed = a.closed in absurd cc
-same_says one text state (End begin) o p k l (inr a) (inr b) = same_behind one text state begin o p k l a b
-same_says one text state Missing o p k l a b = (a.0 ∙ sym b.0, a.1 ∙ sym b.1)
+same_says : {S D : Type 0} (reader : Reader S D) (one : TailIsDetermined) (text : List ℕ) (state : S) (next : Next) (o p : ℕ) (k l : CifKind) → Says reader text state next o k → Says reader text state next p l → (o ≡ p) × (k ≡ l)
+same_says reader one text state (Whole begin command after) o p k l (a, e) (b, f) = (a ∙ sym b, cc)
+same_says reader one text state (Cut begin command) o p k l (inl (a, e)) (inl (b, f)) = (a ∙ sym b, cc)
+same_says reader one text state (Cut begin command) o p k l (inl (a, e)) (inr (done, f, _, _)) = absurd cc
+same_says reader one text state (Cut begin command) o p k l (inr (done, f, _, _)) (inl (a, e)) = absurd cc
+same_says reader one text state (Cut begin command) o p k l (inr (done, e, a, c)) (inr (done', f, b, d)) = (a ∙ sym b, c ∙ sym d)
+same_says reader one text state (Bad begin) o p k l a b = (a.0 ∙ sym b.0, a.1 ∙ sym b.1)
+same_says reader one text state (End begin) o p k l (inl (e, a, c)) (inl (f, b, g)) = (a ∙ sym b, c ∙ sym g)
+same_says reader one text state (End begin) o p k l (inl (e, a, c)) (inr b) = absurd (false≢true (sym b.closed ∙ e))
+same_says reader one text state (End begin) o p k l (inr a) (inl (e, b, c)) = absurd (false≢true (sym a.closed ∙ e))
+same_says reader one text state (End begin) o p k l (inr a) (inr b) = same_behind reader one text state begin o p k l a b
+same_says reader one text state Missing o p k l a b = (a.0 ∙ sym b.0, a.1 ∙ sym b.1)
 
-same_said : (one : NextIsDetermined) (tail : TailIsDetermined) (text : List ℕ) (state : State) (read o p : ℕ) (k l : CifKind) → IsSaid text state read o k → IsSaid text state read p l → (o ≡ p) × (k ≡ l)
-same_said one tail text state read o p k l a b =
-    same_says tail text state a.next o p k l a.says (subst (λ n. Says text state n p l) (one text read b.next a.next b.found a.found) b.says)
+same_said : {S D : Type 0} (reader : Reader S D) (one : NextIsDetermined) (tail : TailIsDetermined) (text : List ℕ) (state : S) (read o p : ℕ) (k l : CifKind) → IsSaid reader text state read o k → IsSaid reader text state read p l → (o ≡ p) × (k ≡ l)
+same_said reader one tail text state read o p k l a b =
+    same_says reader tail text state a.next o p k l a.says (subst (λ n. Says reader text state n p l) (one text read b.next a.next b.found a.found) b.says)
 
 -- ---- none where a meaning ends
 
 clean_says : (text : List ℕ) (tail : Tail) (o : ℕ) (k : CifKind) → tail ≡ tails.Clean → SaysTail text tail o k → ⊥
 clean_says text tail o k e says = subst (λ t. SaysTail text t o k) e says
 
-no_says : (tail : TailIsDetermined) (text : List ℕ) (read : ℕ) (state : State) (e : EndsWell text read state) (o : ℕ) (k : CifKind) → Says text state (End e.begin) o k → ⊥
-no_says tail text read state e o k (inl (d, begun, _, _)) = let closed = e.closed in absurd cc
-no_says tail text read state e o k (inr b) = clean_says text b.tail o k (tail text (e.begin + 1) b.tail tails.Clean b.found e.behind) b.says
+no_says : {S D : Type 0} (reader : Reader S D) (tail : TailIsDetermined) (text : List ℕ) (read : ℕ) (state : S) (e : EndsWell reader text read state) (o : ℕ) (k : CifKind) → Says reader text state (End e.begin) o k → ⊥
+no_says reader tail text read state e o k (inl (begun, _, _)) = absurd (false≢true (sym e.closed ∙ begun))
+no_says reader tail text read state e o k (inr b) = clean_says text b.tail o k (tail text (e.begin + 1) b.tail tails.Clean b.found e.behind) b.says
 
-no_fault : (one : NextIsDetermined) (tail : TailIsDetermined) (text : List ℕ) (read : ℕ) (state : State) (o : ℕ) (k : CifKind) → EndsWell text read state → IsSaid text state read o k → ⊥
-no_fault one tail text read state o k e s = no_says tail text read state e o k (subst (λ n. Says text state n o k) (one text read s.next (End e.begin) s.found e.ended) s.says)
+no_fault : {S D : Type 0} (reader : Reader S D) (one : NextIsDetermined) (tail : TailIsDetermined) (text : List ℕ) (read : ℕ) (state : S) (o : ℕ) (k : CifKind) → EndsWell reader text read state → IsSaid reader text state read o k → ⊥
+no_fault reader one tail text read state o k e s = no_says reader tail text read state e o k (subst (λ n. Says reader text state n o k) (one text read s.next (End e.begin) s.found e.ended) s.says)
 
 -- ---- the law
 
-walked : (one : NextIsDetermined) (text : List ℕ) (r q : ℕ) (s t : State) → BeginsWell text r s → BeginsWell text q t → Compared text r s q t
-walked one text r q s t a b = compared one (length a.commands) (length b.commands) text 0 _ r s q t (walks_well text r s a) (walks_well text q t b)
+walked : {S D : Type 0} (reader : Reader S D) (one : NextIsDetermined) (text : List ℕ) (r q : ℕ) (s t : S) → BeginsWellBy reader text r s → BeginsWellBy reader text q t → Compared reader text r s q t
+walked reader one text r q s t a b = compared reader one (length a.commands) (length b.commands) text 0 _ r s q t (walks_well reader text r s a) (walks_well reader text q t b)
 
-one_sheet : (one : NextIsDetermined) (text : List ℕ) (a b : Sheet) → Means text a → Means text b → a ≡ b
-one_sheet one text a b m n =
-    let e = ends_well text a m in
-    let f = ends_well text b n in
-    elim (walked one text (length (joined m.pieces)) (length (joined n.pieces)) m.state n.state e.well f.well) [
-      | inl same ↦ m.drawn ∙ (ap sheet_of_state same.1 ∙ sym n.drawn)
-      | inr (inl g) ↦ absurd (end_stops one text (length (joined m.pieces)) m.state e g)
-      | inr (inr g) ↦ absurd (end_stops one text (length (joined n.pieces)) n.state f g)
+one_sheet : {S D : Type 0} (reader : Reader S D) (one : NextIsDetermined) (text : List ℕ) (a b : D) → MeansBy reader text a → MeansBy reader text b → a ≡ b
+one_sheet reader one text a b m n =
+    let e = ends_well reader text a m in
+    let f = ends_well reader text b n in
+    elim (walked reader one text (length (joined m.pieces)) (length (joined n.pieces)) m.state n.state e.well f.well) [
+      | inl same ↦ m.drawn ∙ (ap reader.drawn same.1 ∙ sym n.drawn)
+      | inr (inl g) ↦ absurd (end_stops reader one text (length (joined m.pieces)) m.state e g)
+      | inr (inr g) ↦ absurd (end_stops reader one text (length (joined n.pieces)) n.state f g)
     ]
 
-said_at : (text : List ℕ) (r q : ℕ) (s t : State) (o : ℕ) (k : CifKind) → r ≡ q → s ≡ t → IsSaid text t q o k → IsSaid text s r o k
-said_at text r q s t o k e f h = subst (λ n. IsSaid text s n o k) (sym e) (subst (λ u. IsSaid text u q o k) (sym f) h)
+said_at : {S D : Type 0} (reader : Reader S D) (text : List ℕ) (r q : ℕ) (s t : S) (o : ℕ) (k : CifKind) → r ≡ q → s ≡ t → IsSaid reader text t q o k → IsSaid reader text s r o k
+said_at reader text r q s t o k e f h = subst (λ n. IsSaid reader text s n o k) (sym e) (subst (λ u. IsSaid reader text u q o k) (sym f) h)
 
 same_fault : (x y : CifFault) → (x.offset ≡ y.offset) × (x.kind ≡ y.kind) → x ≡ y
 same_fault x y h =
@@ -159,30 +157,30 @@ same_fault x y h =
     let of : CifKind → CifFault = λ k. record { offset = y.offset; kind = k } in
     ap at h.0 ∙ ap of h.1
 
-one_fault : (one : NextIsDetermined) (tail : TailIsDetermined) (text : List ℕ) (a b : CifFault) → IsFirstFault text a → IsFirstFault text b → a ≡ b
-one_fault one tail text a b m n =
-    let e = said text m.state m.read a.offset a.kind m.is_fault in
-    let f = said text n.state n.read b.offset b.kind n.is_fault in
-    elim (walked one text m.read n.read m.state n.state m.well n.well) [
-      | inl same ↦ same_fault a b (same_said one tail text m.state m.read a.offset b.offset a.kind b.kind e (said_at text m.read n.read m.state n.state b.offset b.kind same.0 same.1 f))
-      | inr (inl g) ↦ absurd (fault_stops one text m.state m.read a.offset a.kind e g)
-      | inr (inr g) ↦ absurd (fault_stops one text n.state n.read b.offset b.kind f g)
+one_fault : {S D : Type 0} (reader : Reader S D) (one : NextIsDetermined) (tail : TailIsDetermined) (text : List ℕ) (a b : CifFault) → IsFirstFaultBy reader text a → IsFirstFaultBy reader text b → a ≡ b
+one_fault reader one tail text a b m n =
+    let e = said reader text m.state m.read a.offset a.kind m.is_fault in
+    let f = said reader text n.state n.read b.offset b.kind n.is_fault in
+    elim (walked reader one text m.read n.read m.state n.state m.well n.well) [
+      | inl same ↦ same_fault a b (same_said reader one tail text m.state m.read a.offset b.offset a.kind b.kind e (said_at reader text m.read n.read m.state n.state b.offset b.kind same.0 same.1 f))
+      | inr (inl g) ↦ absurd (fault_stops reader one text m.state m.read a.offset a.kind e g)
+      | inr (inr g) ↦ absurd (fault_stops reader one text n.state n.read b.offset b.kind f g)
     ]
 
-not_both : (one : NextIsDetermined) (tail : TailIsDetermined) (text : List ℕ) (sheet : Sheet) (fault : CifFault) → Means text sheet → IsFirstFault text fault → ⊥
-not_both one tail text sheet fault m n =
-    let e = ends_well text sheet m in
-    let f = said text n.state n.read fault.offset fault.kind n.is_fault in
+not_both : {S D : Type 0} (reader : Reader S D) (one : NextIsDetermined) (tail : TailIsDetermined) (text : List ℕ) (sheet : D) (fault : CifFault) → MeansBy reader text sheet → IsFirstFaultBy reader text fault → ⊥
+not_both reader one tail text sheet fault m n =
+    let e = ends_well reader text sheet m in
+    let f = said reader text n.state n.read fault.offset fault.kind n.is_fault in
     let read = length (joined m.pieces) in
-    elim (walked one text read n.read m.state n.state e.well n.well) [
-      | inl same ↦ no_fault one tail text read m.state fault.offset fault.kind e (said_at text read n.read m.state n.state fault.offset fault.kind same.0 same.1 f)
-      | inr (inl g) ↦ end_stops one text read m.state e g
-      | inr (inr g) ↦ fault_stops one text n.state n.read fault.offset fault.kind f g
+    elim (walked reader one text read n.read m.state n.state e.well n.well) [
+      | inl same ↦ no_fault reader one tail text read m.state fault.offset fault.kind e (said_at reader text read n.read m.state n.state fault.offset fault.kind same.0 same.1 f)
+      | inr (inl g) ↦ end_stops reader one text read m.state e g
+      | inr (inr g) ↦ fault_stops reader one text n.state n.read fault.offset fault.kind f g
     ]
 
-pub determined : NextIsDetermined → TailIsDetermined → ReadingsAreDetermined
-determined one tail = record {
-  one_sheet = λ text a b _ m n. one_sheet one text a b m n;
-  one_fault = λ text a b _ m n. one_fault one tail text a b m n;
-  not_both = λ text sheet fault _ m n. not_both one tail text sheet fault m n;
+pub determined : {S D : Type 0} (reader : Reader S D) → NextIsDetermined → TailIsDetermined → IsDeterminedBy reader
+determined reader one tail = record {
+  one_sheet = λ text a b _ m n. one_sheet reader one text a b m n;
+  one_fault = λ text a b _ m n. one_fault reader one tail text a b m n;
+  not_both = λ text sheet fault _ m n. not_both reader one tail text sheet fault m n;
 }

@@ -7,3 +7,4 @@ pub mod Flat
 pub mod Beginnings
 pub mod Walks
 pub mod Faults
+pub mod NotTooDeep

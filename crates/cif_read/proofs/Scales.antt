@@ -11,7 +11,8 @@ use Rattle.cif_lex.specs.Words.{limit}
 use Rattle.cif_lex.specs.Commands.{is_far}
 use Rattle.cif_read.specs.Acts.{scaled, is_odd, is_odd_area, is_bad_length, is_bad_factor, is_bad_area}
 use Rattle.cif_read.specs.Files.{IsWithin}
-use Rattle.cif_read.specs.Readings.{IsFactor, IsExtent}
+use Rattle.cif_read.specs.Scales.{IsFactor}
+use Rattle.cif_read.specs.Readings.{IsExtent}
 
 pub distance : (reach : ℕ) (z : ℤ) → IsWithin reach z → unsigned_abs z ≤ reach
 distance reach (pos n) h = omega (arith, ints)

@@ -43,7 +43,7 @@ pub none_few : (boxes : List MaskBox) (count : ℕ) → boxes ≡ [] → length 
 none_few boxes count e = omega (arith, ap length e)
 
 begun_one : (count more : ℕ) (b : Begun) → count ≤ more → IsSoundBegun count b → IsSoundBegun more b
-begun_one count more b le h = record { above = h.above; below = h.below; boxes = h.boxes; few = omega arith }
+begun_one count more b le h = record { scale = h.scale; boxes = h.boxes; few = omega arith }
 
 begun_more : (count more : ℕ) (begun : Option Begun) → count ≤ more → IfSome begun (IsSoundBegun count) → IfSome begun (IsSoundBegun more)
 begun_more count more None le h = tt

@@ -1,5 +1,5 @@
 -- What each command of CIF does, and why it may not stand where it stands.
-use Rattle.std.specs.Prelude.{ℕ, ◌+◌, ℤ, pos, ◌+ℤ◌, ◌-ℤ◌, ◌*ℤ◌, int_lt, int_div, int_rem, Bool, not, ◌||◌, if◌then◌else◌, Option, Some, None, is_some, Result, Ok, Err, List, [], ◌∷◌, ◌++◌, fold}
+use Rattle.std.specs.Prelude.{ℕ, ◌+◌, ℤ, pos, ◌+ℤ◌, ◌-ℤ◌, ◌*ℤ◌, int_lt, int_div, int_rem, Bool, not, ◌||◌, if◌then◌else◌, Option, Some, None, is_some, Result, Ok, Err, List, [], ◌∷◌, ◌++◌}
 use Rattle.std.specs.List.{list_any}
 use Rattle.std.specs.Ordering.{int_eq}
 use Rattle.lam_geom.specs.declared.boxes.MaskLayer.{MaskLayer}
@@ -63,7 +63,7 @@ abbrev pub is_bad_area : ℤ → ℤ → ℤ → ℤ → Bool
 is_bad_area l w x y = is_bad_length l || is_bad_length w || is_far x || is_far y
 
 abbrev pub is_bad_call : ℤ → ℤ → ℤ → Bool → Bool
-is_bad_call n x y far = is_bad_symbol n || far || is_far x || is_far y
+is_bad_call n x y bad = is_bad_symbol n || bad || is_far x || is_far y
 
 -- ---- boxes
 
@@ -125,26 +125,18 @@ boxed state (Some d) l w x y = placed_in state d d.layer l w x y
 
 -- a call shifts by hundredths of a micron, each two grains
 abbrev pub called_at : State → ℤ → ℤ → ℤ → Bool → Result State CifKind
-called_at state n x y far =
+called_at state n x y bad =
     if is_some state.begun then Err BadCommand
-    else (if is_bad_call n x y far then Err BadNumber
+    else (if is_bad_call n x y bad then Err BadNumber
     else (if is_known n state.symbols then Ok (record state { steps = state.steps ++ (called (place_of n state.symbols) (pos 2 *ℤ x) (pos 2 *ℤ y) ∷ []) })
     else Err UnknownSymbol))
 
--- what a command makes of what has been read, or the first of its faults
+-- What a command makes of what has been read, or the first of its faults. A call that does more than shift is no form here.
 unfoldable pub act : State → Command → Result State CifKind
 act state Nothing = Ok state
 act state (Define n above below) = defined state n above below
 act state Finish = finished state state.begun
 act state (Layer layer) = Ok (named state state.begun layer)
 act state (Area l w x y) = if is_bad_area l w x y then Err BadNumber else boxed state state.begun l w x y
-act state (Call n x y far) = called_at state n x y far
+act state (Call n place bad is_turned) = if is_turned then Err BadCommand else called_at state n place.x place.y bad
 act state Extension = Ok state
-
--- commands one after another, from the first
-abbrev pub then_act : Result State CifKind → Command → Result State CifKind
-then_act (Ok state) command = act state command
-then_act (Err kind) command = Err kind
-
-abbrev pub acts : List Command → Result State CifKind
-acts commands = fold then_act (Ok start) commands

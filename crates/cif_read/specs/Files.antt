@@ -1,5 +1,5 @@
 -- What a file that has been read holds, as a sheet.
-use Rattle.std.specs.Prelude.{ℕ, ◌<◌, ◌≤◌, ◌^◌, ℤ, pos, neg_ℤ, ◌≤ℤ◌, ◌<ℤ◌, All, List, map, length, slice_index_or}
+use Rattle.std.specs.Prelude.{ℕ, ◌≢◌, ◌<◌, ◌≤◌, ◌^◌, ℤ, pos, neg_ℤ, ◌≤ℤ◌, ◌<ℤ◌, All, List, map, length, slice_index_or}
 use Rattle.lam_geom.specs.declared.boxes.MaskBox.{MaskBox}
 use Rattle.lam_geom.specs.declared.boxes.MaskLayer.TheVariants.{ND}
 use Rattle.cif_read.specs.declared.fault.CifReadFault.{CifReadFault}
@@ -9,7 +9,9 @@ use Rattle.cif_read.specs.declared.file.CifSymbol.{CifSymbol}
 use Rattle.cif_read.specs.declared.file.CifStep.{CifStep}
 use Rattle.cif_read.specs.declared.file.CifStep.TheVariants.{Own, Called}
 use Rattle.cif_read.specs.Sheets.{Drawn, Symbol, Step, own, called, Sheet, boxes_of_step}
-use Rattle.cif_read.specs.Meaning.{IsFirstFault}
+use Rattle.cif_read.specs.declared.fault.CifKind.TheVariants.{TooDeep}
+use Rattle.cif_read.specs.Readers.{IsCauseBy}
+use Rattle.cif_read.specs.Meaning.{reader}
 
 abbrev pub drawn_of : MaskBox → Drawn
 drawn_of box = record { layer = box.layer; left = box.area.x.lo; right = box.area.x.hi; bottom = box.area.y.lo; top = box.area.y.hi }
@@ -67,8 +69,12 @@ IsSolid box = (box.area.x.lo <ℤ box.area.x.hi) × (box.area.y.lo <ℤ box.area
 -- ---- why a text could not be read
 
 abbrev pub IsCauseOf : List ℕ → CifReadFault → Type 0
-IsCauseOf text (Cif fault) = IsFirstFault text fault
-IsCauseOf text OutOfMemory = Unit {0}
+IsCauseOf text fault = IsCauseBy reader text fault
+
+-- no fault of calls inside definitions, which are no form here
+abbrev pub IsNotTooDeep : CifReadFault → Type 0
+IsNotTooDeep (Cif fault) = fault.kind ≢ TooDeep
+IsNotTooDeep OutOfMemory = Unit {0}
 
 -- the most boxes of a flattened file
 abbrev pub most_boxes : ℕ

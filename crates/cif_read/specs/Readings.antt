@@ -1,15 +1,10 @@
 -- What a reader keeps, as a state; and what holds of it.
-use Rattle.std.specs.Prelude.{◌≡◌, ℕ, ◌≤◌, ◌^◌, ℤ, pos, ◌≤ℤ◌, All, IfSome, false, if◌then◌else◌, Option, Some, None, Result, Err, List, map, length, option_map}
+use Rattle.std.specs.Prelude.{◌≡◌, ℕ, ◌≤◌, ◌^◌, ℤ, pos, ◌≤ℤ◌, All, IfSome, false, if◌then◌else◌, Option, Some, None, List, map, length, option_map}
 use Rattle.std.specs.Ordering.{nat_cmp}
 use Rattle.std.specs.BTreeMap.{BTreeMap, get}
 use Rattle.lam_geom.specs.declared.boxes.MaskBox.{MaskBox}
 use Rattle.cif_lex.specs.declared.command.Next.TheVariants.{End}
 use Rattle.cif_lex.specs.Commands.{IsNext}
-use Rattle.cif_read.specs.declared.fault.CifKind.{CifKind}
-use Rattle.cif_read.specs.declared.fault.Stop.{Stop}
-use Rattle.cif_read.specs.declared.fault.Stop.TheVariants.{Refused, OutOfMemory}
-use Rattle.cif_read.specs.declared.fault.CifReadFault.{CifReadFault}
-use Rattle.cif_read.specs.declared.fault.CifReadFault.TheVariants as faults
 use Rattle.cif_read.specs.declared.file.CifSymbol.{CifSymbol}
 use Rattle.cif_read.specs.declared.file.CifStep.{CifStep}
 use Rattle.cif_read.specs.declared.state.Begun.{Begun}
@@ -17,12 +12,13 @@ use Rattle.cif_read.specs.declared.state.Reading.{Reading}
 use Rattle.cif_read.specs.Sheets.{Symbol, Sheet}
 use Rattle.cif_read.specs.Acts.{State, Definition, is_known, place_of}
 use Rattle.cif_read.specs.Meaning.{BeginsWell}
+use Rattle.cif_read.specs.Scales.{IsScale}
 use Rattle.cif_read.specs.Files.{drawn_of, symbol_of, step_of, IsSolidWithin, IsStepOf}
 
 -- ---- as a state
 
 abbrev pub definition_of : Begun → Definition
-definition_of b = record { number = pos b.number; above = b.above; below = b.below; layer = b.layer; boxes = map drawn_of b.boxes.items }
+definition_of b = record { number = pos b.number; above = b.scale.above; below = b.scale.below; layer = b.layer; boxes = map drawn_of b.boxes.items }
 
 abbrev pub begun_of : Option Begun → Option Definition
 begun_of begun = option_map definition_of begun
@@ -33,20 +29,7 @@ state_of r = record { symbols = map symbol_of r.symbols.items; steps = map (step
 abbrev pub sheet_of_state : State → Sheet
 sheet_of_state state = record { symbols = state.symbols; steps = state.steps }
 
--- why a command is not carried out
-abbrev pub IsCauseOfStop : Result State CifKind → Stop → Type 0
-IsCauseOfStop answer (Refused kind) = answer ≡ Err kind
-IsCauseOfStop answer OutOfMemory = Unit {0}
-
--- the same, of a text in which the command stands there
-abbrev pub cause_of : ℕ → Stop → CifReadFault
-cause_of begin (Refused kind) = faults.Cif (record { offset = begin; kind = kind })
-cause_of begin OutOfMemory = faults.OutOfMemory
-
 -- ---- numbers
-
-abbrev pub IsFactor : ℤ → Type 0
-IsFactor n = (pos 1 ≤ℤ n) × (n ≤ℤ pos (2 ^ 16))
 
 abbrev pub IsExtent : ℤ → Type 0
 IsExtent n = (pos 1 ≤ℤ n) × (n ≤ℤ pos (2 ^ 46))
@@ -55,8 +38,7 @@ IsExtent n = (pos 1 ≤ℤ n) × (n ≤ℤ pos (2 ^ 46))
 
 -- a definition that has begun: its scale, and at most so many boxes, each with an inside
 pub record IsSoundBegun (count : ℕ) (b : Begun) : Type 0 where
-  pub above : IsFactor b.above
-  pub below : IsFactor b.below
+  pub scale : IsScale b.scale
   pub boxes : All (IsSolidWithin (2 ^ 50)) (map drawn_of b.boxes.items)
   pub few : length b.boxes.items ≤ count
 

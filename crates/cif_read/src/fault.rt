@@ -1,6 +1,8 @@
 //! Why a CIF text has no meaning.
 
-ghost use Rattle.std.specs.Prelude.{◌≡◌};
+ghost use Rattle.std.specs.Prelude.{◌≡◌, ◌≤◌, ◌^◌};
+ghost use Rattle.cif_read.specs.declared.fault.CifReadFault.TheVariants as faults;
+ghost use Rattle.cif_read.specs.Readers.{cause_of};
 ghost use Rattle.cif_read.specs.declared.fault.Stop.TheVariants as stops;
 ghost use Rattle.cif_read.specs.declared.fault.FlatFault.TheVariants as flats;
 
@@ -24,6 +26,8 @@ pub enum CifKind {
     NoLayer,
     /// A number of a box that is no whole number of hundredths of a micron in its definition's scale.
     OddScale,
+    /// Inside a definition, a call of a symbol that has calls 64 deep. A reader that knows no calls inside definitions never says so.
+    TooDeep,
     /// The text ends before the letter E, or a command or a comment has no end.
     NoEnd,
     /// Something stands behind the letter E.
@@ -79,5 +83,27 @@ impl<T: Drop> From<AllocFailed<T>> for FlatFault {
 
     fn from(_failed: AllocFailed<T>) -> FlatFault {
         FlatFault::OutOfMemory
+    }
+}
+
+/// The fault at a place of a text.
+pub fn fault_at(offset: usize, kind: CifKind) -> CifReadFault
+    requires { offset ≤ 2 ^ 26 }
+    ensures { result ≡ faults.Cif (record { offset = offset; kind = kind }) }
+{
+    CifReadFault::Cif(CifFault {
+        offset: offset as u32,
+        kind,
+    })
+}
+
+/// Why the command at this place is not carried out.
+pub fn cause_at(begin: usize, stop: Stop) -> CifReadFault
+    requires { begin ≤ 2 ^ 26 }
+    ensures { result ≡ cause_of begin stop }
+{
+    match stop {
+        Stop::Refused(kind) => fault_at(begin, kind),
+        Stop::OutOfMemory => CifReadFault::OutOfMemory,
     }
 }

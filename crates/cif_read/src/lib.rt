@@ -12,10 +12,13 @@ mod flattening;
 mod laws;
 mod numbers;
 mod reading;
+mod scale;
 mod state;
 
-pub use fault::{CifFault, CifKind, CifReadFault, FlatFault};
+pub use fault::{CifFault, CifKind, CifReadFault, FlatFault, Stop, cause_at, fault_at};
 pub use file::{CifFile, CifStep, CifSymbol};
 pub use flattening::{MOST_BOXES, flatten};
 pub use laws::readings_are_determined;
+pub use numbers::{is_bad_area, is_bad_call, is_bad_factor, is_bad_symbol, is_odd, scaled};
 pub use reading::read_cif;
+pub use scale::Scale;

@@ -3,7 +3,8 @@ ghost use Rattle.std.specs.Prelude.{◌≡◌, ◌^◌, pos, ◌+ℤ◌, ◌-ℤ
 ghost use Rattle.cif_lex.specs.Commands.{is_far};
 ghost use Rattle.cif_read.specs.Acts.{is_bad_symbol, is_bad_factor, is_bad_length, is_bad_area, is_bad_call, scaled, is_odd, drawn_box};
 ghost use Rattle.cif_read.specs.Files.{IsWithin, IsSolidWithin, drawn_of};
-ghost use Rattle.cif_read.specs.Readings.{IsFactor, IsExtent};
+ghost use Rattle.cif_read.specs.Scales.{IsFactor};
+ghost use Rattle.cif_read.specs.Readings.{IsExtent};
 
 use cif_lex::LARGEST;
 use lam_geom::{BoxXY, MaskBox, MaskLayer, Span};
@@ -45,10 +46,10 @@ pub fn is_bad_area(l: i64, w: i64, x: i64, y: i64) -> bool
 }
 
 /// Whether one of the numbers of a call is too large, or too small.
-pub fn is_bad_call(n: i64, x: i64, y: i64, far: bool) -> bool
-    ensures { result ≡ is_bad_call n x y far }
+pub fn is_bad_call(n: i64, x: i64, y: i64, bad: bool) -> bool
+    ensures { result ≡ is_bad_call n x y bad }
 {
-    is_bad_symbol(n) || far || is_far(x) || is_far(y)
+    is_bad_symbol(n) || bad || is_far(x) || is_far(y)
 }
 
 /// Whether a number of a definition is no whole number of hundredths of a micron.

@@ -2,38 +2,16 @@
 ghost use Rattle.std.specs.Prelude.{◌≡◌, ◌^◌, ◌<◌, ◌≤◌, None, IfOk, IfErr, OnOk, MatchOption, length};
 ghost use Rattle.cif_lex.specs.declared.command.Next.TheVariants as nexts;
 ghost use Rattle.cif_lex.specs.Commands.{IsNext};
-ghost use Rattle.cif_read.specs.declared.fault.CifReadFault.TheVariants as faults;
 ghost use Rattle.cif_read.specs.Meaning.{Means};
-ghost use Rattle.cif_read.specs.Files.{sheet_of, CanBeFlattened, IsCauseOf};
-ghost use Rattle.cif_read.specs.Readings.{state_of, sheet_of_state, cause_of, IsSound, HasRead, HasReadAll};
+ghost use Rattle.cif_read.specs.Files.{sheet_of, CanBeFlattened, IsCauseOf, IsNotTooDeep};
+ghost use Rattle.cif_read.specs.Readings.{state_of, sheet_of_state, IsSound, HasRead, HasReadAll};
 
-use crate::fault::{CifFault, CifKind, CifReadFault, Stop};
+use crate::fault::{CifKind, CifReadFault, cause_at, fault_at};
 use crate::file::CifFile;
 use crate::state::Reading;
 use cif_lex::{Next, Tail, next, tail};
 use lam_list::Seq;
 use std::alloc::Global;
-
-fn fault_at(offset: usize, kind: CifKind) -> CifReadFault
-    requires { offset ≤ 2 ^ 26 }
-    ensures { result ≡ faults.Cif (record { offset = offset; kind = kind }) }
-{
-    CifReadFault::Cif(CifFault {
-        offset: offset as u32,
-        kind,
-    })
-}
-
-// Why the command at this place is not carried out.
-fn cause_at(begin: usize, stop: Stop) -> CifReadFault
-    requires { begin ≤ 2 ^ 26 }
-    ensures { result ≡ cause_of begin stop }
-{
-    match stop {
-        Stop::Refused(kind) => fault_at(begin, kind),
-        Stop::OutOfMemory => CifReadFault::OutOfMemory,
-    }
-}
 
 // Reads the next command, and goes behind it. Where the letter E stands there, it answers its place.
 fn read_next(
@@ -120,6 +98,7 @@ pub fn read_cif(alloc: Global, bytes: &[u8]) -> Result<CifFile, CifReadFault>
     ensures means { IfOk result (λ file. Means bytes.now (sheet_of file)) }
     ensures flat { IfOk result CanBeFlattened }
     ensures fault { IfErr result (IsCauseOf bytes.now) }
+    ensures shallow { IfErr result IsNotTooDeep }
 {
     let mut reading = Reading::new(alloc);
     let begin = read_commands(alloc, bytes, &mut reading)?;

@@ -1,15 +1,14 @@
 //! What has been read so far, and what each command makes of it.
 ghost use Rattle.std.specs.Prelude.{◌≡◌, ℕ, ◌+◌, ◌^◌, Some, None, Ok, OnOk, IfErr, false};
 ghost use Rattle.cif_lex.specs.declared.command.Command.TheVariants as commands;
-ghost use Rattle.cif_read.specs.Acts.{State, start, act, is_bad_area, is_odd_area, scaled, drawn_box, defined, finished, named, placed, placed_in, boxed, called_at};
-ghost use Rattle.cif_read.specs.Files.{drawn_of, IsSolidWithin};
-ghost use Rattle.cif_read.specs.Readings.{state_of, definition_of, IsCauseOfStop, IsSound, IsSoundBegun};
+ghost use Rattle.cif_read.specs.Acts.{State, start, act, is_bad_area, defined, finished, named, placed, placed_in, boxed, called_at};
+ghost use Rattle.cif_read.specs.Readers.{IsCauseOfStop};
+ghost use Rattle.cif_read.specs.Readings.{state_of, definition_of, IsSound, IsSoundBegun};
 
 use crate::fault::{CifKind, Stop};
 use crate::file::{CifStep, CifSymbol};
-use crate::numbers::{
-    drawn_box, is_bad_area, is_bad_call, is_bad_factor, is_bad_symbol, is_odd, scaled,
-};
+use crate::numbers::{drawn_box, is_bad_area, is_bad_call, is_bad_factor, is_bad_symbol};
+use crate::scale::Scale;
 use cif_lex::Command;
 use lam_geom::{MaskBox, MaskLayer};
 use lam_list::Seq;
@@ -20,8 +19,7 @@ use std::collections::BTreeMap;
 #[derive(Drop)]
 pub struct Begun {
     pub number: u32,
-    pub above: i64,
-    pub below: i64,
+    pub scale: Scale,
     pub layer: Option<Option<MaskLayer>>,
     pub boxes: Vec<MaskBox>,
 }
@@ -39,35 +37,6 @@ pub struct Reading {
 }
 
 impl Begun {
-    // Whether one of the numbers of a box is no whole number of hundredths of a micron.
-    fn is_odd_area(&self, l: i64, w: i64, x: i64, y: i64) -> bool
-        requires sound { IsSoundBegun (2 ^ 26) self.now }
-        requires good { is_bad_area l w x y ≡ false }
-        ensures { result ≡ is_odd_area self.now.above self.now.below l w x y }
-    {
-        is_odd(self.above, self.below, l)
-            || is_odd(self.above, self.below, w)
-            || is_odd(self.above, self.below, x)
-            || is_odd(self.above, self.below, y)
-    }
-
-    // The box on a layer that is kept.
-    fn scaled_box(&self, layer: MaskLayer, l: i64, w: i64, x: i64, y: i64) -> MaskBox
-        requires sound { IsSoundBegun (2 ^ 26) self.now }
-        requires good { is_bad_area l w x y ≡ false }
-        requires even { is_odd_area self.now.above self.now.below l w x y ≡ false }
-        ensures value { let s = scaled self.now.above self.now.below in drawn_of result ≡ drawn_box layer (s l) (s w) (s x) (s y) }
-        ensures solid { IsSolidWithin (2 ^ 50) (drawn_of result) }
-    {
-        drawn_box(
-            layer,
-            scaled(self.above, self.below, l),
-            scaled(self.above, self.below, w),
-            scaled(self.above, self.below, x),
-            scaled(self.above, self.below, y),
-        )
-    }
-
     // A box in the definition.
     fn place(&mut self, l: i64, w: i64, x: i64, y: i64) -> Result<(), Stop>
         requires sound { IsSoundBegun (2 ^ 26) self.old }
@@ -80,11 +49,11 @@ impl Begun {
         let Some(named) = self.layer else {
             return Err(Stop::Refused(CifKind::NoLayer));
         };
-        if self.is_odd_area(l, w, x, y) {
+        if self.scale.is_odd_area(l, w, x, y) {
             return Err(Stop::Refused(CifKind::OddScale));
         }
         if let Some(layer) = named {
-            let scaled = self.scaled_box(layer, l, w, x, y);
+            let scaled = self.scale.scaled_box(layer, l, w, x, y);
             self.boxes.push(scaled)?;
         }
         Ok(())
@@ -126,8 +95,7 @@ impl Reading {
         }
         self.begun = Some(Begun {
             number,
-            above,
-            below,
+            scale: Scale { above, below },
             layer: None,
             boxes: Vec::new(alloc),
         });
@@ -202,16 +170,16 @@ impl Reading {
     }
 
     // A call, which shifts by hundredths of a micron, each two grains.
-    fn call(&mut self, number: i64, x: i64, y: i64, far: bool) -> Result<(), Stop>
+    fn call(&mut self, number: i64, x: i64, y: i64, bad: bool) -> Result<(), Stop>
         requires sound { IsSound (2 ^ 26) self.old }
-        ensures done { OnOk result (called_at (state_of self.old) number x y far ≡ Ok (state_of self.new)) }
-        ensures refused { IfErr result (IsCauseOfStop (called_at (state_of self.old) number x y far)) }
+        ensures done { OnOk result (called_at (state_of self.old) number x y bad ≡ Ok (state_of self.new)) }
+        ensures refused { IfErr result (IsCauseOfStop (called_at (state_of self.old) number x y bad)) }
         ensures sound { OnOk result ((count : ℕ) → IsSound count self.old → IsSound (count + 1) self.new) }
     {
         if self.begun.is_some() {
             return Err(Stop::Refused(CifKind::BadCommand));
         }
-        if is_bad_call(number, x, y, far) {
+        if is_bad_call(number, x, y, bad) {
             return Err(Stop::Refused(CifKind::BadNumber));
         }
         let Some(symbol) = self.places.get(&(number as u32)).copied() else {
@@ -225,7 +193,7 @@ impl Reading {
         Ok(())
     }
 
-    /// Carries out a command. After a refusal nothing more may be read.
+    /// Carries out a command; a call that does more than shift is no form here. After a refusal nothing more may be read.
     pub fn act(&mut self, alloc: Global, command: Command) -> Result<(), Stop>
         requires sound { IsSound (2 ^ 26) self.old }
         ensures done { OnOk result (act (state_of self.old) command ≡ Ok (state_of self.new)) }
@@ -245,7 +213,17 @@ impl Reading {
                 Ok(())
             }
             Command::Area { l, w, x, y } => self.area(l, w, x, y),
-            Command::Call { number, x, y, far } => self.call(number, x, y, far),
+            Command::Call {
+                number,
+                place,
+                bad,
+                turned,
+            } => {
+                if turned {
+                    return Err(Stop::Refused(CifKind::BadCommand));
+                }
+                self.call(number, place.x, place.y, bad)
+            }
         }
     }
 }

@@ -1,7 +1,7 @@
 //! The commands of typed-in texts.
 
 use crate::shared_by_tests::crosses_threads;
-use cif_lex::{Command, Next, Tail, next, tail};
+use cif_lex::{Command, Next, Placement, Tail, next, tail};
 use lam_geom::MaskLayer;
 use std::test::Fail;
 
@@ -31,8 +31,17 @@ fn area(l: i64, w: i64, x: i64, y: i64) -> Command {
     Command::Area { l, w, x, y }
 }
 
-fn call(number: i64, x: i64, y: i64, far: bool) -> Command {
-    Command::Call { number, x, y, far }
+fn call(number: i64, x: i64, y: i64, bad: bool) -> Command {
+    turned(number, 0, x, y, bad, false)
+}
+
+fn turned(number: i64, turn: u8, x: i64, y: i64, bad: bool, turned: bool) -> Command {
+    Command::Call {
+        number,
+        place: Placement { turn, x, y },
+        bad,
+        turned,
+    }
 }
 
 #[test]
@@ -56,6 +65,14 @@ fn each_form_is_read(rt: HostRuntime) -> Result<(), Fail> {
         whole(0, call(7, 31, 38, false), 19)
     );
     assert_eq!(rt; next(b"C 7;", 0), whole(0, call(7, 0, 0, false), 4));
+    assert_eq!(rt;
+        next(b"C7MXR0-4(x)T1 2M Y;", 0),
+        whole(0, turned(7, 3, 1, -2, false, true), 19)
+    );
+    assert_eq!(rt;
+        next(b"C 1 M X M X R 2 2;", 0),
+        whole(0, turned(1, 0, 0, 0, true, true), 18)
+    );
     assert_eq!(rt; next(b"9 (x;", 0), whole(0, Command::Extension, 5));
     assert_eq!(rt; next(b"; E", 1), Next::End { begin: 2 });
     Ok(())

@@ -81,7 +81,14 @@ fn each_number_of_pieces_gives_the_same(rt: HostRuntime) -> Result<(), Fail> {
     let boxes = boxes_of(rt.alloc(), &METAL)?;
     let first = first_break(rt.alloc(), &Tech::shipped(), &boxes)?;
     for pieces in 1..65 {
-        let split = first_break_split(&rt, rt.alloc(), &OpenGate, &Tech::shipped(), &boxes, pieces)?;
+        let split = first_break_split(
+            &rt,
+            rt.alloc(),
+            &OpenGate,
+            &Tech::shipped(),
+            &boxes,
+            pieces,
+        )?;
         assert_eq!(rt; split, first);
     }
     Ok(())

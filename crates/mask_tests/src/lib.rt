@@ -8,6 +8,8 @@ mod boxes_of_tests;
 #[cfg(test)]
 mod cif_answers_tests;
 #[cfg(test)]
+mod cif_foreign_tests;
+#[cfg(test)]
 mod cif_lex_tests;
 #[cfg(test)]
 mod cif_pieces_tests;

@@ -1,5 +1,6 @@
 use Rattle.std.proofs.Common.{◌+◌, ◌≤◌, length, sym, subst, arith}
-use Rattle.cif_read.specs.Meaning.{end_inside, filled, unclosed}
+use Rattle.cif_read.specs.Readers.{end_inside, filled, unclosed}
+use Rattle.cif_read.specs.Meaning.{reader}
 use Rattle.cif_read.specs.Files.{IsCauseOf}
 use Rattle.cif_read.specs.Readings.{state_of}
 use Rattle.cif_read.proofs.Beginnings.{begin_within, closed_from, open_from, means_whole}
@@ -11,7 +12,7 @@ returns-then-is_some-clause-fault c =
     let so_far = c.requires.so_far in
     let begun = open_from r.begun c.if-is_some.ensures in
     subst (IsCauseOf c.args.bytes.now) (sym c.fault_at.ensures)
-    (record { read = so_far.read; state = state_of r; well = so_far.reading.well; is_fault = end_inside c.args.begin begun.0 so_far.ended begun.1 })
+    (record { read = so_far.read; state = state_of r; well = so_far.reading.well; is_fault = end_inside c.args.begin so_far.ended begun })
 
 pub fault_at-requires-in-Filled : goal.fault_at-requires-in-Filled
 fault_at-requires-in-Filled c =
@@ -23,7 +24,7 @@ pub returns-in-Clean-clause-means : goal.returns-in-Clean-clause-means
 returns-in-Clean-clause-means c =
     let r = c.args.reading.now in
     let so_far = c.requires.so_far in
-    means_whole c.args.bytes.now so_far.read c.args.begin (state_of r) so_far.reading.well so_far.ended c.in-Clean.ensures (closed_from r.begun c.if-is_some.ensures)
+    means_whole reader c.args.bytes.now so_far.read c.args.begin (state_of r) so_far.reading.well so_far.ended c.in-Clean.ensures (closed_from r.begun c.if-is_some.ensures)
 
 pub returns-in-Filled-clause-fault : goal.returns-in-Filled-clause-fault
 returns-in-Filled-clause-fault c =

@@ -1,5 +1,6 @@
 use Rattle.std.proofs.Common.{◌+◌, ◌≤◌, sym, subst, arith}
-use Rattle.cif_read.specs.Meaning.{no_command, cut, missing}
+use Rattle.cif_read.specs.Readers.{no_command, cut, missing}
+use Rattle.cif_read.specs.Meaning.{reader}
 use Rattle.cif_read.specs.Files.{IsCauseOf}
 use Rattle.cif_read.specs.Readings.{state_of}
 use Rattle.cif_read.proofs.Sound.{sound_more}
@@ -11,7 +12,7 @@ returns-in-Err-clause-fault c =
     let text = c.args.bytes.now in
     let w = c.in-Whole in
     subst (IsCauseOf text) (sym c.cause_at.ensures)
-    (cause_of_whole text c.args.read.now w.begin w.after (state_of c.args.reading.now) w.command c.in-Err.stop c.requires.so_far.well w.ensures c.in-Err.ensures.refused)
+    (cause_of_whole reader text c.args.read.now w.begin w.after (state_of c.args.reading.now) w.command c.in-Err.stop c.requires.so_far.well w.ensures c.in-Err.ensures.refused)
 
 pub returns-in_default-clause-reading : goal.returns-in_default-clause-reading
 returns-in_default-clause-reading c =
@@ -22,7 +23,7 @@ returns-in_default-clause-reading c =
     let further : c.args.read.now + 1 ≤ w.after = omega (arith, next.4, next.3.begins) in
     record {
       within = next.5;
-      well = begins_more text c.args.read.now w.begin w.after (state_of c.args.reading.now) (state_of c.act.new.self) w.command so_far.well next c.in_default.ensures.done;
+      well = begins_more reader text c.args.read.now w.begin w.after (state_of c.args.reading.now) (state_of c.act.new.self) w.command so_far.well next c.in_default.ensures.done;
       sound = sound_more (c.args.read.now + 1) w.after c.act.new.self further (c.in_default.ensures.sound c.args.read.now so_far.sound);
     }
 
@@ -37,7 +38,7 @@ pub returns-in-Err-act-clause-fault : goal.returns-in-Err-act-clause-fault
 returns-in-Err-act-clause-fault c =
     let text = c.args.bytes.now in
     subst (IsCauseOf text) (sym c.cause_at-in-Err-act.ensures)
-    (cause_of_cut text c.args.read.now c.in-Cut.begin (state_of c.args.reading.now) c.in-Cut.command c.in-Err-act.stop c.requires.so_far.well c.in-Cut.ensures c.in-Err-act.ensures.refused)
+    (cause_of_cut reader text c.args.read.now c.in-Cut.begin (state_of c.args.reading.now) c.in-Cut.command c.in-Err-act.stop c.requires.so_far.well c.in-Cut.ensures c.in-Err-act.ensures.refused)
 
 pub returns-in-Bad-clause-fault : goal.returns-in-Bad-clause-fault
 returns-in-Bad-clause-fault c =

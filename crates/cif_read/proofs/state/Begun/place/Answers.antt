@@ -10,9 +10,9 @@ returns-in_ok-push-clause-done c =
     let a = c.args in
     let r = c.ranges in
     let b = a.self.now in
-    let even = c.if-is_odd_area.ensures ∙ seen_all (is_odd_area b.above b.below) a.l a.w a.x a.y r.l r.w r.x r.y in
+    let even = c.if-is_odd_area.ensures ∙ seen_all (is_odd_area b.scale.above b.scale.below) a.l a.w a.x a.y r.l r.w r.x r.y in
     let layer = c.in-Some-named.layer in
-    let value = c.scaled_box-scaled.ensures.value ∙ seen_all (λ l w x y. drawn_box layer (scaled b.above b.below l) (scaled b.above b.below w) (scaled b.above b.below x) (scaled b.above b.below y)) a.l a.w a.x a.y r.l r.w r.x r.y in
+    let value = c.scaled_box-scaled.ensures.value ∙ seen_all (λ l w x y. drawn_box layer (scaled b.scale.above b.scale.below l) (scaled b.scale.above b.scale.below w) (scaled b.scale.above b.scale.below x) (scaled b.scale.above b.scale.below y)) a.l a.w a.x a.y r.l r.w r.x r.y in
     let drawn = drawn_more b.boxes.items c.push.new.self.items c.scaled_box-scaled.result _ c.in_ok-push.ensures.items value in
     λ state. placed_in_done state (definition_of b) b.layer layer a.l a.w a.x a.y _ (c.in-Some.is ∙ ap Some c.in-Some-named.is) even drawn
 
@@ -20,7 +20,7 @@ pub returns-in_ok-push-clause-sound : goal.returns-in_ok-push-clause-sound
 returns-in_ok-push-clause-sound c =
     let b = c.args.self.now in
     let items = c.in_ok-push.ensures.items in
-    λ count h. record { above = h.above; below = h.below; boxes = solid_more b.boxes.items _ c.scaled_box-scaled.result items h.boxes c.scaled_box-scaled.ensures.solid; few = count_more b.boxes.items _ c.scaled_box-scaled.result count items h.few }
+    λ count h. record { scale = h.scale; boxes = solid_more b.boxes.items _ c.scaled_box-scaled.result items h.boxes c.scaled_box-scaled.ensures.solid; few = count_more b.boxes.items _ c.scaled_box-scaled.result count items h.few }
 
 pub returns-in_default-named-clause-sound : goal.returns-in_default-named-clause-sound
-returns-in_default-named-clause-sound c = λ count h. record { above = h.above; below = h.below; boxes = h.boxes; few = omega arith }
+returns-in_default-named-clause-sound c = λ count h. record { scale = h.scale; boxes = h.boxes; few = omega arith }

@@ -1,7 +1,8 @@
 use Rattle.std.proofs.Common.{◌∙◌, ap, sym, subst, Ok, FitsSigned, w64, ⊎_elim, rules}
-use Rattle.cif_read.specs.Readings.{state_of, IsCauseOfStop}
+use Rattle.cif_read.specs.Readers.{IsCauseOfStop}
+use Rattle.cif_read.specs.Readings.{state_of}
 use Rattle.cif_read.proofs.Calling.{ok_weaker, err_weaker}
-use Rattle.cif_read.proofs.Commands.{nothing_is, extension_is, define_is, finish_is, layer_is, call_is}
+use Rattle.cif_read.proofs.Commands.{nothing_is, extension_is, define_is, finish_is, layer_is, call_is, turned_is}
 use Rattle.cif_read.proofs.state.Reading.act.Goals as goal
 
 pub returns-in-Nothing-clause-done : goal.returns-in-Nothing-clause-done
@@ -41,20 +42,23 @@ pub returns-in-Layer-clause-done : goal.returns-in-Layer-clause-done
 returns-in-Layer-clause-done c =
     layer_is (state_of c.args.self.now) c.args.command c.in-Layer.layer c.in-Layer.is ∙ ap Ok c.name.ensures.done
 
-pub returns-in-Call-clause-done : goal.returns-in-Call-clause-done
-returns-in-Call-clause-done c =
+pub returns-then-turned-clause-refused : goal.returns-then-turned-clause-refused
+returns-then-turned-clause-refused c = let d = c.in-Call in turned_is (state_of c.args.self.now) c.args.command d.number d.place d.bad d.turned d.is c.if-turned.true
+
+pub returns-else-turned-clause-done : goal.returns-else-turned-clause-done
+returns-else-turned-clause-done c =
     let d = c.in-Call in
     let n : FitsSigned w64 d.number = search rules in
-    let x : FitsSigned w64 d.x = search rules in
-    let y : FitsSigned w64 d.y = search rules in
-    let same = call_is (state_of c.args.self.now) c.args.command d.number d.x d.y d.far d.is n x y in
+    let x : FitsSigned w64 d.place.x = search rules in
+    let y : FitsSigned w64 d.place.y = search rules in
+    let same = call_is (state_of c.args.self.now) c.args.command d.number d.place d.bad d.turned d.is c.if-turned.false n x y in
     ok_weaker c.call.result _ _ (λ done. same ∙ done) c.call.ensures.done
 
-pub returns-in-Call-clause-refused : goal.returns-in-Call-clause-refused
-returns-in-Call-clause-refused c =
+pub returns-else-turned-clause-refused : goal.returns-else-turned-clause-refused
+returns-else-turned-clause-refused c =
     let d = c.in-Call in
     let n : FitsSigned w64 d.number = search rules in
-    let x : FitsSigned w64 d.x = search rules in
-    let y : FitsSigned w64 d.y = search rules in
-    let same = call_is (state_of c.args.self.now) c.args.command d.number d.x d.y d.far d.is n x y in
+    let x : FitsSigned w64 d.place.x = search rules in
+    let y : FitsSigned w64 d.place.y = search rules in
+    let same = call_is (state_of c.args.self.now) c.args.command d.number d.place d.bad d.turned d.is c.if-turned.false n x y in
     err_weaker c.call.result _ _ (λ stop h. subst (λ answer. IsCauseOfStop answer stop) (sym same) h) c.call.ensures.refused

@@ -9,18 +9,18 @@ pub returns-clause-done : goal.returns-clause-done
 returns-clause-done c =
     let a = c.args in
     let r = a.self.now in
-    let bad = sym (c.if-is_bad_call.ensures ∙ seen_call a.number a.x a.y a.far c.ranges.number c.ranges.x c.ranges.y) in
-    let good = good_call a.number a.x a.y a.far bad in
+    let bad = sym (c.if-is_bad_call.ensures ∙ seen_call a.number a.x a.y a.bad c.ranges.number c.ranges.x c.ranges.y) in
+    let good = good_call a.number a.x a.y a.bad bad in
     let place = place_found r.places r.symbols.items a.number c.in-Some.symbol c.ranges.number good.number c.requires.sound.places (sym (c.in-Some.ensures ∙ c.get.ensures.value)) in
     let steps = call_drawn r.boxes.items r.order.items c.push.new.self.items c.in-Some.symbol (pos 2 *ℤ a.x) (pos 2 *ℤ a.y) _ _ c.in_ok-push.ensures.items (doubled a.x c.ranges.x good.x_near) (doubled a.y c.ranges.y good.y_near) in
-    called_done (state_of r) a.number a.x a.y a.far c.in-Some.symbol _ (none_begun r.begun c.if-is_some.ensures) bad place.known place.place steps
+    called_done (state_of r) a.number a.x a.y a.bad c.in-Some.symbol _ (none_begun r.begun c.if-is_some.ensures) bad place.known place.place steps
 
 pub returns-clause-sound : goal.returns-clause-sound
 returns-clause-sound c =
     let a = c.args in
     let r = a.self.now in
-    let bad = sym (c.if-is_bad_call.ensures ∙ seen_call a.number a.x a.y a.far c.ranges.number c.ranges.x c.ranges.y) in
-    let good = good_call a.number a.x a.y a.far bad in
+    let bad = sym (c.if-is_bad_call.ensures ∙ seen_call a.number a.x a.y a.bad c.ranges.number c.ranges.x c.ranges.y) in
+    let good = good_call a.number a.x a.y a.bad bad in
     let place = place_found r.places r.symbols.items a.number c.in-Some.symbol c.ranges.number good.number c.requires.sound.places (sym (c.in-Some.ensures ∙ c.get.ensures.value)) in
     λ count h. record {
       done = step_added count r.symbols.items r.boxes.items r.order.items c.push.new.self.items _ c.in_ok-push.ensures.items h.done (place.below, subst (IsWithin (2 ^ 31)) (sym (doubled a.x c.ranges.x good.x_near)) (doubled_within a.x good.x_near), subst (IsWithin (2 ^ 31)) (sym (doubled a.y c.ranges.y good.y_near)) (doubled_within a.y good.y_near));

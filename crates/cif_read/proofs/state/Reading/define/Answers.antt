@@ -10,6 +10,6 @@ returns-clause-sound c =
     λ count h. record {
       done = done_later count r.symbols.items r.boxes.items r.order.items h.done;
       places = h.places;
-      begun = record { above = factor_from _ (sym c.if-is_bad_factor.ensures); below = factor_from _ (sym c.if-is_bad_factor-2.ensures); boxes = none_solid c.new.result.items c.new.ensures.items; few = none_few c.new.result.items (count + 1) c.new.ensures.items };
+      begun = record { scale = record { above = factor_from _ (sym c.if-is_bad_factor.ensures); below = factor_from _ (sym c.if-is_bad_factor-2.ensures) }; boxes = none_solid c.new.result.items c.new.ensures.items; few = none_few c.new.result.items (count + 1) c.new.ensures.items };
       fresh = fresh_from r.places (map symbol_of r.symbols.items) _ h.places c.if-contains_key.ensures;
     }

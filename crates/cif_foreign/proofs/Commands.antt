@@ -1,0 +1,39 @@
+-- What each command is answered.
+use Rattle.std.proofs.Common.{◌≡◌, ℤ, FitsSigned, of_z, to_z, w64, Bool, Ok, refl}
+use Rattle.std.proofs.lemmas.Int.{to_z-of_z}
+use Rattle.cif_lex.specs.declared.command.Command.{Command}
+use Rattle.cif_lex.specs.declared.command.Command.TheVariants.{Nothing, Define, Finish, Layer, Area, Call, Extension}
+use Rattle.cif_lex.specs.declared.placement.Placement.{Placement}
+use Rattle.cif_read.specs.Acts.{Named}
+use Rattle.cif_foreign.specs.Acts.{State, act, defined, finished, named, area, call}
+
+pub nothing_is : (state : State) (command : Command) → command ≡ Nothing → act state command ≡ Ok state
+unfolding act
+nothing_is state command e = rw e refl
+
+pub extension_is : (state : State) (command : Command) → command ≡ Extension → act state command ≡ Ok state
+unfolding act
+extension_is state command e = rw e refl
+
+pub define_is : (state : State) (command : Command) (n above below : ℤ) → command ≡ Define n above below → FitsSigned w64 n → FitsSigned w64 above → FitsSigned w64 below
+    → act state command ≡ defined state (to_z w64 (of_z w64 n)) (to_z w64 (of_z w64 above)) (to_z w64 (of_z w64 below))
+unfolding act
+define_is state command n above below e fn fa fb = rw (e, to_z-of_z w64 n fn, to_z-of_z w64 above fa, to_z-of_z w64 below fb) refl
+
+pub finish_is : (state : State) (command : Command) → command ≡ Finish → act state command ≡ finished state state.begun
+unfolding act
+finish_is state command e = rw e refl
+
+pub layer_is : (state : State) (command : Command) (layer : Named) → command ≡ Layer layer → act state command ≡ Ok (named state layer)
+unfolding act
+layer_is state command layer e = rw e refl
+
+pub area_is : (state : State) (command : Command) (l w x y : ℤ) → command ≡ Area l w x y → FitsSigned w64 l → FitsSigned w64 w → FitsSigned w64 x → FitsSigned w64 y
+    → act state command ≡ area state (to_z w64 (of_z w64 l)) (to_z w64 (of_z w64 w)) (to_z w64 (of_z w64 x)) (to_z w64 (of_z w64 y))
+unfolding act
+area_is state command l w x y e fl fw fx fy = rw (e, to_z-of_z w64 l fl, to_z-of_z w64 w fw, to_z-of_z w64 x fx, to_z-of_z w64 y fy) refl
+
+pub call_is : (state : State) (command : Command) (n : ℤ) (place : Placement) (bad is_turned : Bool) → command ≡ Call n place bad is_turned → FitsSigned w64 n
+    → act state command ≡ call state (to_z w64 (of_z w64 n)) place bad
+unfolding act
+call_is state command n place bad is_turned e fn = rw (e, to_z-of_z w64 n fn) refl

@@ -1,0 +1,64 @@
+-- The walk over the steps of a file.
+use Rattle.std.proofs.Common.{◌≡◌, ℕ, ◌+◌, ◌*◌, ◌-◌, ◌<◌, ◌≤◌, ◌^◌, ℤ, List, [], ◌∷◌, ◌++◌, All, map, length, get_or, take, refl, sym, ap, ◌∙◌, subst, arith}
+use Rattle.std.proofs.lemmas.List.{take_more, map_push, length_push, get_or_default}
+use Rattle.std.proofs.lemmas.List.Elements.{All-weaker}
+use Rattle.cif_lex.specs.declared.placement.Placement.{Placement}
+use Rattle.cif_read.specs.Sheets.{Drawn}
+use Rattle.cif_foreign.specs.declared.file.ForeignSymbol.{ForeignSymbol}
+use Rattle.cif_foreign.specs.declared.file.ForeignStep.{ForeignStep}
+use Rattle.cif_foreign.specs.declared.file.ForeignStep.TheVariants.{Own, Called}
+use Rattle.cif_foreign.specs.Sheets.{Symbol, boxes_of_steps, boxes_of_symbols, depths_of}
+use Rattle.cif_foreign.specs.Files.{step_of, symbol_of, no_symbol, IsStepOf}
+use Rattle.cif_foreign.specs.Readings.{called_depth}
+use Rattle.cif_foreign.specs.Counts.{counted, AreCounts}
+use Rattle.cif_foreign.proofs.Building.{built_push}
+use Rattle.cif_foreign.proofs.Symbols.{AreInOrder, depth_at}
+use Rattle.cif_foreign.proofs.Sound.{step_later}
+use Rattle.cif_foreign.proofs.Flat.{called_below}
+
+-- ---- counts
+
+pub steps_here : (symbols : List ForeignSymbol) (i : ℕ) (symbol : ForeignSymbol) (steps : List ForeignStep) (n : ℕ) → AreInOrder symbols → i < length symbols → symbol ≡ get_or symbols i symbol → steps ≡ symbol.steps → n ≡ i
+    → All (IsStepOf n) steps
+steps_here symbols i symbol steps n order lt at same e =
+    let here : get_or symbols i no_symbol ≡ symbol = get_or_default symbols i no_symbol symbol lt ∙ sym at in
+    subst (λ (k : ℕ). All (IsStepOf k) steps) (sym e) (subst (All (IsStepOf i)) (ap (λ (s : ForeignSymbol). s.steps) here ∙ sym same) (order i lt))
+
+pub counts_more : (symbols : List ForeignSymbol) (i : ℕ) (symbol : ForeignSymbol) (steps : List ForeignStep) (counts more : List ℕ) (count : ℕ) → i < length symbols → symbol ≡ get_or symbols i symbol → steps ≡ symbol.steps
+    → AreCounts counts (boxes_of_symbols (map symbol_of (take i symbols))) → count ≡ counted (boxes_of_steps (boxes_of_symbols (map symbol_of (take i symbols))) (map step_of steps)) → more ≡ counts ++ count ∷ []
+    → AreCounts more (boxes_of_symbols (map symbol_of (take (i + 1) symbols)))
+counts_more symbols i symbol steps counts more count lt at same are is e =
+    let before : List Symbol = map symbol_of (take i symbols) in
+    let boxes : List (List Drawn) = boxes_of_symbols before in
+    let next : take (i + 1) symbols ≡ take i symbols ++ symbol ∷ [] = take_more symbols i symbol lt ∙ ap (λ (s : ForeignSymbol). take i symbols ++ s ∷ []) (sym at) in
+    let built : boxes_of_symbols (map symbol_of (take (i + 1) symbols)) ≡ boxes ++ (boxes_of_steps boxes (map step_of symbol.steps) ∷ []) =
+    ap (λ (ss : List ForeignSymbol). boxes_of_symbols (map symbol_of ss)) next
+    ∙ (ap boxes_of_symbols (map_push symbol_of (take i symbols) symbol) ∙ built_push (λ (bs : List (List Drawn)) (s : Symbol). boxes_of_steps bs s.steps) before (symbol_of symbol)) in
+    e ∙ (ap (λ (cs : List ℕ). cs ++ count ∷ []) are
+    ∙ (ap (λ (n : ℕ). map counted boxes ++ n ∷ []) (is ∙ ap (λ (ss : List ForeignStep). counted (boxes_of_steps boxes (map step_of ss))) same)
+    ∙ (sym (map_push counted boxes (boxes_of_steps boxes (map step_of symbol.steps))) ∙ ap (map counted) (sym built))))
+
+-- ---- calls
+
+pub valid_step : (n : ℕ) (steps : List ForeignStep) (i : ℕ) (step : ForeignStep) → All (IsStepOf n) steps → i < length steps → step ≡ get_or steps i step → IsStepOf n step
+valid_step n steps i step all lt at = subst (IsStepOf n) (sym at) (all i step lt)
+
+-- what is known of a symbol that is called
+pub record IsCalled (symbols : List ForeignSymbol) (steps : List ForeignStep) (symbol : ℕ) : Type 0 where
+  pub below : symbol < length symbols
+  pub valid : All (IsStepOf (length symbols)) (get_or symbols symbol no_symbol).steps
+  pub shallower : called_depth (depths_of (map symbol_of symbols)) (map step_of (get_or symbols symbol no_symbol).steps) + 1 ≤ called_depth (depths_of (map symbol_of symbols)) (map step_of steps)
+
+pub is_called : (symbols : List ForeignSymbol) (steps : List ForeignStep) (i symbol turn : ℕ) (x y : ℤ) (step : ForeignStep) → AreInOrder symbols → All (IsStepOf (length symbols)) steps → i < length steps → step ≡ get_or steps i step
+    → step ≡ Called symbol turn x y → IsCalled symbols steps symbol
+is_called symbols steps i symbol turn x y step order all lt at is =
+    let valid : IsStepOf (length symbols) (Called symbol turn x y) = subst (IsStepOf (length symbols)) is (valid_step (length symbols) steps i step all lt at) in
+    let below : symbol < length symbols = valid.0 in
+    let own = (get_or symbols symbol no_symbol).steps in
+    let deep = depth_at symbols symbol order below in
+    let high = called_below (depths_of (map symbol_of symbols)) steps i symbol turn x y step lt at is in
+    record {
+      below = below;
+      valid = All-weaker (IsStepOf symbol) (IsStepOf (length symbols)) (λ s h. step_later symbol (length symbols) s (omega (arith, below)) h) own (order symbol below);
+      shallower = omega (arith, deep, high);
+    }

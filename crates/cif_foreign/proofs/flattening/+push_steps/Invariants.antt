@@ -1,0 +1,15 @@
+use Rattle.std.proofs.Common.{◌≡◌, ◌^◌, All, map, take}
+use Rattle.cif_read.specs.Files.{drawn_of, IsSolidWithin}
+use Rattle.cif_foreign.specs.Sheets.{boxes_of_symbols}
+use Rattle.cif_foreign.specs.Files.{symbol_of}
+use Rattle.cif_foreign.proofs.Flat.{Adds}
+use Rattle.cif_foreign.proofs.flattening.+push_steps.Given as goal
+
+abbrev pub invariant-loop-step : goal.invariant-loop-step
+invariant-loop-step l = record {
+  boxes : Adds (map drawn_of l.initial.out.items) (map drawn_of l.out.items) l.place (boxes_of_symbols (map symbol_of l.file.symbols)) (take l.step-index l.steps);
+  solid : All (IsSolidWithin (2 ^ 55)) (map drawn_of l.initial.out.items) → All (IsSolidWithin (2 ^ 55)) (map drawn_of l.out.items);
+}
+
+abbrev pub decreases-push_steps : goal.decreases-push_steps
+decreases-push_steps l = l.depth

@@ -1,0 +1,13 @@
+use Rattle.std.proofs.Common.{◌≡◌, ◌+◌, ◌≤◌, List, take}
+use Rattle.std.specs.List.{flat_map}
+use Rattle.cif_read.specs.Sheets.{Drawn}
+use Rattle.cif_read.specs.Files.{most_boxes}
+use Rattle.cif_foreign.specs.Counts.{counted, AreCounts}
+use Rattle.cif_foreign.proofs.Flat.{drawn_by}
+use Rattle.cif_foreign.proofs.flattening.count_steps.Given as goal
+
+abbrev pub invariant-loop-step : goal.invariant-loop-step
+invariant-loop-step l = record {
+  total : (boxes : List (List Drawn)) → AreCounts l.counts boxes → l.total ≡ counted (flat_map (drawn_by boxes) (take l.step-index l.steps));
+  few : l.total ≤ most_boxes + 1;
+}

@@ -1,0 +1,6 @@
+use Rattle.cif_read.proofs.Faults.{determined}
+use Rattle.cif_foreign.specs.Meaning.{reader}
+use Rattle.cif_foreign.proofs.laws.foreign_readings_are_determined.Goals as goal
+
+pub returns : goal.returns
+returns c = determined reader c.commands_are_determined.ensures.next c.commands_are_determined.ensures.tail

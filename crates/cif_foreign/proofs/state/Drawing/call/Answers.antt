@@ -1,0 +1,22 @@
+use Rattle.std.proofs.Common.{◌≡◌, ◌∙◌, max, ℕ, ap, sym, refl, of_z, to_z, w64}
+use Rattle.cif_foreign.specs.declared.file.ForeignStep.TheVariants.{Called}
+use Rattle.cif_foreign.specs.Readings.{level_from}
+use Rattle.cif_foreign.proofs.Sound.{seen_even, seen_shift, called_done, steps_called, still_within, level_step}
+use Rattle.cif_foreign.proofs.state.Drawing.call.Goals as goal
+
+pub returns-clause-done : goal.returns-clause-done
+returns-clause-done c =
+    let a = c.args in
+    let d = a.self.now in
+    let s = d.scale in
+    let x = seen_shift s.above s.below a.place.x c.in_grains-x.result c.requires.x c.in_grains-x.ensures.near c.in_grains-x.ensures.value in
+    let y = seen_shift s.above s.below a.place.y c.in_grains-y.result c.requires.y c.in_grains-y.ensures.near c.in_grains-y.ensures.value in
+    let steps = steps_called d.steps.items c.push.new.self.items (level_from d) a.symbol a.place _ _ c.in_ok-push.ensures.items x y in
+    called_done (level_from d) a.too_deep a.symbol a.place _ (seen_even s.above s.below a.place.x c.requires.x c.if-is_odd.ensures) (seen_even s.above s.below a.place.y c.requires.y c.if-is_odd-2.ensures) c.if-too_deep.false steps
+
+pub returns-clause-sound : goal.returns-clause-sound
+returns-clause-sound c = λ depths below same h.
+    let a = c.args in
+    level_step depths a.self.now _ (Called a.symbol a.place.turn (to_z w64 (of_z w64 c.in_grains-x.result)) (to_z w64 (of_z w64 c.in_grains-y.result))) h refl c.in_ok-push.ensures.items
+    (below, c.requires.turn, still_within c.in_grains-x.result a.place.x c.in_grains-x.ensures.near, still_within c.in_grains-y.result a.place.y c.in_grains-y.ensures.near)
+    (c.max-self.ensures ∙ ap (λ (n : ℕ). max a.self.now.called n) same)

@@ -1,0 +1,6 @@
+pub mod Sheets
+pub mod Acts
+pub mod Meaning
+pub mod Files
+pub mod Readings
+pub mod Counts

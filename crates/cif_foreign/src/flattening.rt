@@ -1,0 +1,158 @@
+//! All boxes of a file.
+ghost use Rattle.std.specs.Prelude.{◌≡◌, ◌+◌, ◌*◌, ◌-◌, ◌≤◌, ◌<◌, ◌^◌, ◌++◌, All, List, IfOk, IfErr, OnOk, length, map};
+ghost use Rattle.lam_geom.specs.Places.{IsPlacedBox};
+ghost use Rattle.std.specs.Int.{int_min, int_max};
+ghost use Rattle.cif_lex.specs.Transformations.{IsNear, shift_of};
+ghost use Rattle.cif_read.specs.declared.fault.FlatFault.TheVariants.{TooMany, OutOfMemory};
+ghost use Rattle.cif_read.specs.Sheets.{Drawn};
+ghost use Rattle.cif_read.specs.Files.{drawn_of, most_boxes, IsSolid, IsSolidWithin};
+ghost use Rattle.cif_foreign.specs.Sheets.{placed_box, boxes_of_step, boxes_of_steps, boxes_of_symbols, flattened, depths_of};
+ghost use Rattle.cif_foreign.specs.Files.{step_of, symbol_of, sheet_of, IsStepOf, CanBeFlattened};
+ghost use Rattle.cif_foreign.specs.Readings.{called_depth};
+ghost use Rattle.cif_foreign.specs.Counts.{counted, AreCounts};
+
+use crate::file::{ForeignFile, ForeignStep};
+use crate::state::MOST_DEPTH;
+use cif_lex::Placement;
+use cif_read::{FlatFault, MOST_BOXES};
+use lam_geom::{BoxXY, MaskBox, Span};
+use std::alloc::Global;
+
+// Between two coordinates.
+fn spanning(a: i64, b: i64) -> Span
+    ensures low { result.lo ≡ int_min a b }
+    ensures high { result.hi ≡ int_max a b }
+{
+    Span {
+        lo: a.min(b),
+        hi: a.max(b),
+    }
+}
+
+// A box, turned and shifted.
+fn placed(mask: MaskBox, place: Placement) -> MaskBox
+    requires solid { IsSolidWithin (2 ^ 50) (drawn_of mask) }
+    requires turn { place.turn < 8 }
+    requires near { IsNear (2 ^ 54) (shift_of place) }
+    ensures value { drawn_of result ≡ placed_box place (drawn_of mask) }
+    ensures solid { IsSolidWithin (2 ^ 55) (drawn_of result) }
+{
+    let (left, bottom) = place.image(mask.area.x.lo, mask.area.y.lo);
+    let (right, top) = place.image(mask.area.x.hi, mask.area.y.hi);
+    MaskBox {
+        layer: mask.layer,
+        area: BoxXY {
+            x: spanning(left, right),
+            y: spanning(bottom, top),
+        },
+    }
+}
+
+// How many boxes a step has, and never more than one past the most, where those of each symbol are so many.
+fn count_step(counts: &[usize], step: ForeignStep) -> usize
+    requires step { IsStepOf (length counts.now) step }
+    requires few { All (λ count. count ≤ most_boxes + 1) counts.now }
+    ensures value { (boxes : List (List Drawn)) → AreCounts counts.now boxes → result ≡ counted (boxes_of_step boxes (step_of step)) }
+    ensures few { result ≤ most_boxes + 1 }
+{
+    match step {
+        ForeignStep::Own(_) => 1,
+        ForeignStep::Called { symbol, .. } => counts[symbol as usize],
+    }
+}
+
+// The same for some steps.
+fn count_steps(counts: &[usize], steps: &[ForeignStep]) -> usize
+    requires steps { All (IsStepOf (length counts.now)) steps.now }
+    requires few { All (λ count. count ≤ most_boxes + 1) counts.now }
+    ensures value { (boxes : List (List Drawn)) → AreCounts counts.now boxes → result ≡ counted (boxes_of_steps boxes (map step_of steps.now)) }
+    ensures few { result ≤ most_boxes + 1 }
+{
+    let mut total = 0;
+    for step in steps {
+        total = (total + count_step(counts, *step)).min(MOST_BOXES + 1);
+    }
+    total
+}
+
+// How many boxes each symbol has, and never more than one past the most: each symbol is counted once.
+fn count_symbols(alloc: Global, file: &ForeignFile) -> Result<Vec<usize>, FlatFault>
+    requires { CanBeFlattened file.now }
+    ensures counts { IfOk result (λ counts. AreCounts counts.items (boxes_of_symbols (map symbol_of file.now.symbols))) }
+    ensures few { IfOk result (λ counts. All (λ count. count ≤ most_boxes + 1) counts.items) }
+    ensures all { IfOk result (λ counts. length counts.items ≡ length file.now.symbols) }
+    ensures fault { IfErr result (λ fault. fault ≡ OutOfMemory) }
+{
+    let mut counts = Vec::with_capacity(alloc, file.symbols.as_slice().len())?;
+    for symbol in file.symbols.as_slice() {
+        let count = count_steps(&counts, symbol.steps.as_slice());
+        counts.push(count)?;
+    }
+    Ok(counts)
+}
+
+// Adds the boxes of some steps, turned and shifted. The symbols that they call are at most so deep, and those without boxes are
+// passed over.
+fn push_steps(
+    out: &mut Vec<MaskBox>,
+    file: &ForeignFile,
+    counts: &[usize],
+    steps: &[ForeignStep],
+    place: Placement,
+    depth: u8,
+) -> Result<(), FlatFault>
+    requires flat { CanBeFlattened file.now }
+    requires counted { AreCounts counts.now (boxes_of_symbols (map symbol_of file.now.symbols)) }
+    requires all { length counts.now ≡ length file.now.symbols }
+    requires steps { All (IsStepOf (length file.now.symbols)) steps.now }
+    requires deep { called_depth (depths_of (map symbol_of file.now.symbols)) (map step_of steps.now) ≤ depth }
+    requires shallow { depth ≤ 64 }
+    requires turn { place.turn < 8 }
+    requires near { IsNear (2 ^ 47 * (64 - depth)) (shift_of place) }
+    ensures boxes { OnOk result (map drawn_of out.new.items ≡ map drawn_of out.old.items ++ map (placed_box place) (boxes_of_steps (boxes_of_symbols (map symbol_of file.now.symbols)) (map step_of steps.now))) }
+    ensures solid { OnOk result (All (IsSolidWithin (2 ^ 55)) (map drawn_of out.old.items) → All (IsSolidWithin (2 ^ 55)) (map drawn_of out.new.items)) }
+    ensures fault { IfErr result (λ fault. fault ≡ OutOfMemory) }
+{
+    for step in steps {
+        match *step {
+            ForeignStep::Own(mask) => out.push(placed(mask, place))?,
+            ForeignStep::Called { symbol, turn, x, y } => {
+                if counts[symbol as usize] > 0 {
+                    let steps = file.symbols.as_slice()[symbol as usize].steps.as_slice();
+                    let inner = place.after(Placement { turn, x, y });
+                    push_steps(out, file, counts, steps, inner, depth - 1)?;
+                }
+            }
+        }
+    }
+    Ok(())
+}
+
+/// The boxes of the layers that are kept, in the order of the file, calls in place, in grains. `TooMany` comes exactly where there
+/// are more than 1,048,576. Linear in the steps of the file, and in the steps of the symbols with boxes, each as often as it is
+/// called.
+pub fn flatten_foreign(alloc: Global, file: &ForeignFile) -> Result<Vec<MaskBox>, FlatFault>
+    requires { CanBeFlattened file.now }
+    ensures boxes { IfOk result (λ boxes. map drawn_of boxes.items ≡ flattened (sheet_of file.now)) }
+    ensures few { IfOk result (λ boxes. length boxes.items ≤ most_boxes) }
+    ensures placed { IfOk result (λ boxes. All (λ box. IsPlacedBox box.area) boxes.items) }
+    ensures solid { IfOk result (λ boxes. All IsSolid boxes.items) }
+    ensures too_many { IfErr result (λ fault. fault ≡ TooMany → most_boxes < length (flattened (sheet_of file.now))) }
+{
+    let counts = count_symbols(alloc, file)?;
+    let total = count_steps(&counts, file.top.as_slice());
+    if total > MOST_BOXES {
+        return Err(FlatFault::TooMany);
+    }
+    let mut out = Vec::with_capacity(alloc, total)?;
+    let still = Placement::still();
+    push_steps(
+        &mut out,
+        file,
+        &counts,
+        file.top.as_slice(),
+        still,
+        MOST_DEPTH,
+    )?;
+    Ok(out)
+}

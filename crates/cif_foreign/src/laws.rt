@@ -1,0 +1,16 @@
+//! What holds of the meanings of texts.
+ghost use Rattle.cif_foreign.specs.Meaning.{ForeignReadingsAreDetermined, MeaningsStay};
+
+use cif_lex::commands_are_determined;
+
+/// A law, with nothing to run: a text means one sheet or has one first fault, and never both.
+pub fn foreign_readings_are_determined()
+    ensures { ForeignReadingsAreDetermined }
+{
+    commands_are_determined()
+}
+
+/// A law, with nothing to run: a text that means a sheet to `cif_read` means one here with the same boxes, one by one.
+pub fn meanings_stay()
+    ensures { MeaningsStay }
+{}
