@@ -1,5 +1,5 @@
 -- Groups one behind another, and the walk over them.
-use Rattle.std.proofs.Common.{◌≡◌, ℕ, zero, suc, ◌+◌, ◌-◌, ◌<◌, ◌≤◌, inl, inr, Some, List, [], ◌∷◌, ◌++◌, length, set, get_or, drop, slice_get, All, refl, sym, ap, ◌∙◌, subst, arith, length-append, length-drop, append_assoc}
+use Rattle.std.proofs.Common.{◌≡◌, ℕ, zero, suc, ◌+◌, ◌-◌, ◌<◌, ◌≤◌, inl, inr, List, [], ◌∷◌, ◌++◌, length, set, get_or, drop, All, refl, sym, ap, ◌∙◌, subst, arith, length-append, length-drop, append_assoc}
 use Rattle.std.proofs.lemmas.Bool.{cases_lt}
 use Rattle.std.proofs.lemmas.List.{drop-append-le, drop_more, drop_all, drop-drop, get_or_default, set_at}
 use Rattle.std.proofs.lemmas.Option.{get_or_from_slice_get, slice_get_within}
@@ -7,7 +7,7 @@ use Rattle.box_tree.specs.declared.query.Query.{Query}
 use Rattle.box_tree.specs.declared.spots.Group.{Group}
 use Rattle.box_tree.specs.declared.spots.Spot.{Spot}
 use Rattle.box_tree.specs.Queries.{Holds, HoldsAt}
-use Rattle.box_tree.specs.Tree.{AreGroups, IsBounded, IsGroupOf, IsOrderOf, IsPlacedGroup, IsTreeOf, begin_of, no_spot, spot_at}
+use Rattle.box_tree.specs.Tree.{AreGroups, IsBounded, IsGroupOf, IsPlacedGroup, IsTreeOf, begin_of, no_spot, spot_at}
 use Rattle.box_tree.specs.Grown.{IsGrown}
 
 -- a spot that was read is the one at its place

@@ -1,5 +1,5 @@
 -- What the bounds of a group say of the spots within them.
-use Rattle.std.proofs.Common.{◌≡◌, ◌↔◌, ℤ, pos, ◌+ℤ◌, ◌≤ℤ◌, ◌<ℤ◌, Some, None, Bool, true, false, IsTrue, IsFalse, refl, sym, subst, w64, arith}
+use Rattle.std.proofs.Common.{◌≡◌, ◌↔◌, ℤ, pos, ◌+ℤ◌, ◌≤ℤ◌, ◌<ℤ◌, Some, Bool, true, false, IsTrue, IsFalse, refl, sym, subst, w64, arith}
 use Rattle.std.specs.Prelude.{not}
 use Rattle.std.specs.Int.{int_max}
 use Rattle.std.proofs.lemmas.Int.{ints, clamps, to_z-of_z}

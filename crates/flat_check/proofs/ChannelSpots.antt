@@ -1,5 +1,5 @@
 -- The channels of crossings, as spots.
-use Rattle.std.proofs.Common.{◌≡◌, ℕ, zero, suc, ◌+◌, ◌^◌, ◌<◌, ◌≤◌, inl, inr, List, length, map, take, get_or, All, sym, ap, ◌∙◌, subst, arith, length-take}
+use Rattle.std.proofs.Common.{◌≡◌, ℕ, zero, suc, ◌^◌, ◌<◌, ◌≤◌, inl, inr, List, length, map, take, get_or, All, sym, ap, ◌∙◌, subst, arith, length-take}
 use Rattle.std.proofs.lemmas.Bool.{cases_lt}
 use Rattle.std.proofs.lemmas.List.{length-map}
 use Rattle.std.proofs.lemmas.List.Elements.{All-map, All-take}
@@ -22,7 +22,7 @@ few_rise : (xs : List ℕ) (n : ℕ) → IsIncreasing xs → ((k : ℕ) → k < 
 few_rise xs n h below = elim (cases_lt n (length xs)) [ inl less ↦ (let up = rises xs h n less in let low = below n less in absurd (omega (arith, up, low))) | inr more ↦ more ]
 
 module _ (tech : Tech) (boxes : List MaskBox) (crossings shown : List Crossing) (spots : List Spot) (n : ℕ) (searchable : AreSearchable boxes) (are : AreCrossings tech boxes crossings) (same : shown ≡ crossings)
-  (listed : spots ≡ map channel_spot (take n shown)) where
+    (listed : spots ≡ map channel_spot (take n shown)) where
   -- there are no more of them than boxes
   pub crossings_few : length spots ≤ 2 ^ 21
   crossings_few =

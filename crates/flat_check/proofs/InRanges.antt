@@ -1,5 +1,5 @@
 -- Searches in ranges of boxes, one behind another.
-use Rattle.std.proofs.Common.{◌≡◌, ℕ, ◌+◌, ◌<◌, ◌≤◌, inl, inr, Option, Some, None, List, [], ◌∷◌, ◌++◌, length, get_or, zero, suc, refl, sym, ◌∙◌, subst, arith}
+use Rattle.std.proofs.Common.{◌≡◌, ℕ, ◌+◌, ◌<◌, ◌≤◌, inl, inr, Option, Some, None, List, [], ◌∷◌, ◌++◌, length, get_or, zero, suc, refl, sym, subst, arith}
 use Rattle.std.specs.List.{AllZip}
 use Rattle.std.proofs.lemmas.Bool.{cases_lt}
 use Rattle.lam_geom.specs.declared.boxes.MaskBox.{MaskBox}
@@ -24,9 +24,9 @@ pub ranges_within : (from to : ℕ) (ranges : List Range) → AreRanges from ran
 ranges_within from to [] h = (omega (arith, h), λ k d lt. absurd (omega arith))
 ranges_within from to (range ∷ rest) h =
     let behind = ranges_within range.to to rest h.2 in (omega (arith, h.0, h.1, behind.0), go behind) where
-  go : (range.to ≤ to) × ((k : ℕ) (d : Range) → k < length rest → (get_or rest k d).to ≤ to) → (k : ℕ) (d : Range) → k < length (range ∷ rest) → (get_or (range ∷ rest) k d).to ≤ to
-  go behind zero d lt = behind.0
-  go behind (suc k) d lt = behind.1 k d (omega arith)
+      go : (range.to ≤ to) × ((k : ℕ) (d : Range) → k < length rest → (get_or rest k d).to ≤ to) → (k : ℕ) (d : Range) → k < length (range ∷ rest) → (get_or (range ∷ rest) k d).to ≤ to
+      go behind zero d lt = behind.0
+      go behind (suc k) d lt = behind.1 k d (omega arith)
 
 module _ (tech : Tech) (boxes : List MaskBox) (rule : Rule) where
   -- one more first box, with no break

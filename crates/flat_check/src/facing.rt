@@ -143,13 +143,7 @@ fn faces_channel(sheet: &Sheet, rule: Rule, layer: MaskLayer, trees: &Trees, a: 
 }
 
 // Whether a box is on a layer, and the channel of another box lies too near.
-fn box_faces_channel(
-    sheet: &Sheet,
-    rule: Rule,
-    layer: MaskLayer,
-    tree: &BoxTree,
-    a: u32,
-) -> bool
+fn box_faces_channel(sheet: &Sheet, rule: Rule, layer: MaskLayer, tree: &BoxTree, a: u32) -> bool
     requires sheet { IsSheet sheet.now }
     requires channels { AreChannels sheet.now.pieces.now.crossings.items tree.now }
     requires among { a < length sheet.now.boxes.now }
@@ -170,13 +164,7 @@ fn box_faces_channel(
 }
 
 // Whether a box has a channel, and another box of a layer lies too near it.
-fn channel_faces_box(
-    sheet: &Sheet,
-    rule: Rule,
-    layer: MaskLayer,
-    tree: &BoxTree,
-    a: u32,
-) -> bool
+fn channel_faces_box(sheet: &Sheet, rule: Rule, layer: MaskLayer, tree: &BoxTree, a: u32) -> bool
     requires sheet { IsSheet sheet.now }
     requires boxes { AreBoxesOn sheet.now.boxes.now layer tree.now }
     ensures { IsFalse result → (b : ℕ) → a ≢ b

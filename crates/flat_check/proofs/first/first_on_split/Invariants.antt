@@ -9,5 +9,5 @@ decreases-loop-next g l = left_from l.next
 abbrev pub invariant-loop-next : goal.invariant-loop-next
 invariant-loop-next g l = record {
   before : KeepBefore l.sheet.tech.now l.sheet.boxes.now l.next;
-  by_trees : AreByTrees l.next
+  by_trees : AreByTrees l.next;
 }
