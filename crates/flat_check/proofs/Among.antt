@@ -9,7 +9,7 @@ use Rattle.lam_geom.specs.declared.boxes.MaskLayer.{MaskLayer}
 use Rattle.lam_geom.specs.declared.boxes.MaskLayer.TheVariants.{ND, NP}
 use Rattle.rule_table.specs.declared.technology.Tech.{Tech}
 use Rattle.crossings.specs.declared.crossing.Crossing.{Crossing}
-use Rattle.crossings.specs.Boxes.{layer_at, IsOn}
+use Rattle.crossings.specs.Boxes.{layer_at}
 use Rattle.net_extract.specs.declared.netlist.Part.{Part}
 use Rattle.net_extract.specs.declared.netlist.Part.TheVariants.{Whole}
 use Rattle.net_extract.specs.Places.{Place, place, parts_on, is_crossed, places_at, places_of}

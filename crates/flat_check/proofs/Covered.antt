@@ -1,20 +1,18 @@
 -- Whether some box goes past an area, by those that an index gives, and whether a cut is covered.
-use Rattle.std.proofs.Common.{◌≡◌, ◌↔◌, ℕ, ◌<◌, ◌⊎◌, inl, inr, ℤ, pos, ◌≤ℤ◌, Bool, true, false, List, MatchBool, IsTrue, length, refl, sym, ap, ◌∙◌, subst, All, Contains, arith}
+use Rattle.std.proofs.Common.{◌≡◌, ◌↔◌, ℕ, ◌<◌, ◌⊎◌, inl, inr, ℤ, Bool, true, false, List, IsTrue, length, refl, sym, ap, ◌∙◌, subst}
 use Rattle.std.specs.Prelude.{not}
-use Rattle.std.proofs.lemmas.Int.{ints, clamps}
 use Rattle.std.proofs.lemmas.List.Elements.{All-contains}
-use Rattle.std.proofs.lemmas.Option.{get_or_from_slice_get, slice_get_within, slice_get-get_or}
 use Rattle.lam_geom.specs.declared.boxes.BoxXY.{BoxXY}
 use Rattle.lam_geom.specs.declared.boxes.MaskBox.{MaskBox}
 use Rattle.lam_geom.specs.declared.boxes.MaskLayer.{MaskLayer}
 use Rattle.lam_geom.specs.declared.boxes.MaskLayer.TheVariants.{ND, NP, NC, NM}
-use Rattle.lam_geom.specs.Gaps.{gap_of_boxes, Encloses}
+use Rattle.lam_geom.specs.Gaps.{Encloses}
 use Rattle.box_tree.specs.declared.query.Question.TheVariants.{Covers}
 use Rattle.box_tree.specs.declared.spots.Spot.{Spot}
 use Rattle.box_tree.specs.Queries.{HoldsAt}
 use Rattle.rule_table.specs.declared.technology.Tech.{Tech}
 use Rattle.rule_table.specs.Technology.{numbers_of}
-use Rattle.crossings.specs.Boxes.{area_at, box_at, no_box, IsOn, grains}
+use Rattle.crossings.specs.Boxes.{area_at, box_at, IsOn, grains}
 use Rattle.crossings.specs.Pairs.{IsCovered}
 use Rattle.flat_check.specs.Breaks.{IsSquare, IsOddCut, IsUncovered}
 use Rattle.flat_check.specs.Trees.{AreBoxesOn, box_spot}

@@ -1,14 +1,9 @@
-//! The first break of made lists: the same as over all pairs, and the same in pieces that run beside each other.
-ghost use Rattle.std.specs.Prelude.{◌≤◌, IfOk, length};
-ghost use Rattle.crossings.specs.Boxes.{AreSearchable};
-
+//! The first break, found in pieces that run beside each other.
 use crate::boxes_of_tests::{Row, boxes_of};
 use flat_check::{Break, Rule, first_break, first_break_split};
-use lam_geom::MaskLayer::{NB, NC, ND, NI, NM, NP};
-use lam_geom::{MaskBox, MaskLayer, contains_by, gap_box};
+use lam_geom::MaskLayer::NM;
 use lam_io::{Gate, OpenGate};
 use rule_table::Tech;
-use std::alloc::{AllocError, Global};
 use std::sync::atomic::{AtomicBool, AtomicU64, Ordering};
 use std::test::Fail;
 use std::thread;

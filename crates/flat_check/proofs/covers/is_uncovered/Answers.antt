@@ -1,5 +1,5 @@
 use denote.Enum.Bare.{differs_false}
-use Rattle.std.proofs.Common.{◌≡◌, ◌↔◌, IsTrue, false, true, inl, refl, sym, ap, rules}
+use Rattle.std.proofs.Common.{◌≡◌, false, true, inl, refl, sym, ap, rules}
 use Rattle.lam_geom.specs.contracts.boxes.MaskLayer.{the_type}
 use Rattle.lam_geom.specs.declared.boxes.MaskLayer.TheVariants.{ND, NP, NC, NM}
 use Rattle.flat_check.proofs.Covered.{IsCoveredCut, cut_read, covered_read, no_metal, covered_twice, uncovered_by_diffusion}

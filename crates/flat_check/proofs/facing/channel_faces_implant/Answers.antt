@@ -1,4 +1,3 @@
-use Rattle.std.proofs.Common.{sym}
 use Rattle.crossings.specs.Boxes.{area_at, grains}
 use Rattle.flat_check.specs.Trees.{box_spot}
 use Rattle.flat_check.specs.Reaches.{extension_of, spacing_of_rule}

@@ -1,4 +1,4 @@
-use Rattle.std.proofs.Common.{◌≡◌, ◌≢◌, ℕ, ◌<◌, ◌≤◌}
+use Rattle.std.proofs.Common.{◌≢◌, ℕ, ◌<◌, ◌≤◌}
 use Rattle.net_extract.specs.Pieces.{box_of}
 use Rattle.flat_check.specs.PiecePairs.{AreNearPieces}
 use Rattle.flat_check.specs.Reaches.{spacing_of_rule}

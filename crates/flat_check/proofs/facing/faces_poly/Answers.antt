@@ -4,7 +4,7 @@ use Rattle.crossings.specs.Boxes.{area_at, grains}
 use Rattle.flat_check.specs.Trees.{box_spot}
 use Rattle.flat_check.specs.Reaches.{spacing_of_rule}
 use Rattle.flat_check.specs.declared.rule.Rule.TheVariants.{PolyToDiffusion}
-use Rattle.flat_check.proofs.Faced.{reach_held, poly_other, diffusion_other, neither, read_near, read_apart}
+use Rattle.flat_check.proofs.Faced.{reach_held, poly_other, diffusion_other, read_near, read_apart}
 use Rattle.flat_check.proofs.Spots.{none_holds}
 use Rattle.flat_check.proofs.facing.faces_poly.Goals as goal
 

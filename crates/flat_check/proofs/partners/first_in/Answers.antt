@@ -1,4 +1,4 @@
-use Rattle.std.proofs.Common.{◌≡◌, Some, None, subst, arith}
+use Rattle.std.proofs.Common.{subst, arith}
 use Rattle.crossings.specs.Pairs.{Least}
 use Rattle.flat_check.specs.Breaks.{IsBreak}
 use Rattle.flat_check.proofs.InRanges.{none_more, first_there}

@@ -1,6 +1,5 @@
-use Rattle.std.proofs.Common.{◌≡◌, ℕ, true, false, refl}
-use Rattle.flat_check.specs.Breaks.{IsUncovered}
-use Rattle.flat_check.proofs.Searches.{cover_least, cover_none, pairs_left}
+use Rattle.std.proofs.Common.{◌≡◌, true, false}
+use Rattle.flat_check.proofs.Searches.{cover_least, cover_none}
 use Rattle.flat_check.proofs.partners.partner_of.Goals as goal
 
 pub returns-then-is_uncovered : goal.returns-then-is_uncovered
