@@ -5,7 +5,7 @@ use Rattle.std.proofs.lemmas.Int.{ints, clamps}
 use Rattle.lam_geom.specs.declared.boxes.MaskLayer.{MaskLayer}
 use Rattle.cif_lex.specs.declared.placement.Placement.{Placement}
 use Rattle.cif_lex.specs.Transformations.{Point, shifted, x_mirrored, quarter, quarters, turned, placed, shift_of, IsNear}
-use Rattle.cif_lex.proofs.Turning.{placed_near}
+use Rattle.cif_lex.proofs.Turning.{placed_near, by_words, words_back, nearer}
 use Rattle.cif_read.specs.Sheets.{Drawn}
 use Rattle.cif_read.specs.Files.{IsWithin, IsSolidWithin}
 use Rattle.cif_foreign.specs.Sheets.{placed_box}
@@ -176,3 +176,34 @@ placed_solid place r s box near h =
       wide = apart_sorted p.0 q.0 c.0;
       high = apart_sorted p.1 q.1 c.1;
     }
+
+-- ---- by machine words
+
+-- where a corner comes to
+corner_is : (place : Placement) (p at : Point) → at ≡ placed place (by_words p) → IsNear (2 ^ 54) (shift_of place) → IsNear (2 ^ 50) p → by_words at ≡ placed place p
+corner_is place p at e near small =
+    let f : at ≡ placed place p = e ∙ ap (placed place) (words_back p (nearer (2 ^ 50) (2 ^ 61) p (omega arith) small)) in
+    let g : IsNear (2 ^ 61) at = nearer (2 ^ 54 + 2 ^ 50) (2 ^ 61) at (omega arith) (subst (IsNear (2 ^ 54 + 2 ^ 50)) (sym f) (placed_near place (2 ^ 54) (2 ^ 50) p near small)) in
+    words_back at g ∙ f
+
+pub placed_is : (place : Placement) (box : Drawn) (p q : Point) (left right bottom top : ℤ) → p ≡ placed place (by_words (box.left, box.bottom)) → q ≡ placed place (by_words (box.right, box.top))
+    → IsNear (2 ^ 54) (shift_of place) → IsSolidWithin (2 ^ 50) box → left ≡ int_min (by_words p).0 (by_words q).0 → right ≡ int_max (by_words p).0 (by_words q).0 → bottom ≡ int_min (by_words p).1 (by_words q).1
+    → top ≡ int_max (by_words p).1 (by_words q).1 → ◌≡◌ {A = Drawn} (record { layer = box.layer; left = left; right = right; bottom = bottom; top = top }) (placed_box place box)
+placed_is place box p q left right bottom top e f near solid l r b t =
+    let a = corner_is place (box.left, box.bottom) p e near (low_near (2 ^ 50) box solid) in
+    let z = corner_is place (box.right, box.top) q f near (high_near (2 ^ 50) box solid) in
+    drawn_same box.layer left right bottom top _ _ _ _ l r b t
+    ∙ (ap (λ (k : Point). between box.layer k (by_words q)) a ∙ ap (λ (k : Point). between box.layer (placed place (box.left, box.bottom)) k) z)
+
+within_more : (r s : ℕ) (z : ℤ) → r ≤ s → IsWithin r z → IsWithin s z
+within_more r s z le h = (omega (arith, ints, h.0), omega (arith, ints, h.1))
+
+pub solid_more : (r s : ℕ) (box : Drawn) → r ≤ s → IsSolidWithin r box → IsSolidWithin s box
+solid_more r s box le h = record {
+  left = within_more r s box.left le h.left;
+  right = within_more r s box.right le h.right;
+  bottom = within_more r s box.bottom le h.bottom;
+  top = within_more r s box.top le h.top;
+  wide = h.wide;
+  high = h.high;
+}

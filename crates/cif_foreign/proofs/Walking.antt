@@ -1,8 +1,10 @@
 -- The walk over the steps of a file.
-use Rattle.std.proofs.Common.{◌≡◌, ℕ, ◌+◌, ◌*◌, ◌-◌, ◌<◌, ◌≤◌, ◌^◌, ℤ, List, [], ◌∷◌, ◌++◌, All, map, length, get_or, take, refl, sym, ap, ◌∙◌, subst, arith}
+use Rattle.std.proofs.Common.{◌≡◌, ℕ, ◌+◌, ◌<◌, ◌≤◌, ◌^◌, of_z, to_z, w64, ℤ, List, [], ◌∷◌, ◌++◌, All, map, length, get_or, take, refl, sym, ap, ◌∙◌, subst, arith}
 use Rattle.std.proofs.lemmas.List.{take_more, map_push, length_push, get_or_default}
 use Rattle.std.proofs.lemmas.List.Elements.{All-weaker}
 use Rattle.cif_lex.specs.declared.placement.Placement.{Placement}
+use Rattle.cif_lex.specs.Transformations.{Point, placed, IsNear}
+use Rattle.cif_read.specs.Files.{IsWithin}
 use Rattle.cif_read.specs.Sheets.{Drawn}
 use Rattle.cif_foreign.specs.declared.file.ForeignSymbol.{ForeignSymbol}
 use Rattle.cif_foreign.specs.declared.file.ForeignStep.{ForeignStep}
@@ -13,7 +15,7 @@ use Rattle.cif_foreign.specs.Readings.{called_depth}
 use Rattle.cif_foreign.specs.Counts.{counted, AreCounts}
 use Rattle.cif_foreign.proofs.Building.{built_push}
 use Rattle.cif_foreign.proofs.Symbols.{AreInOrder, depth_at}
-use Rattle.cif_foreign.proofs.Sound.{step_later}
+use Rattle.cif_foreign.proofs.Sound.{step_later, word_is, still_within}
 use Rattle.cif_foreign.proofs.Flat.{called_below}
 
 -- ---- counts
@@ -62,3 +64,22 @@ is_called symbols steps i symbol turn x y step order all lt at is =
       valid = All-weaker (IsStepOf symbol) (IsStepOf (length symbols)) (λ s h. step_later symbol (length symbols) s (omega (arith, below)) h) own (order symbol below);
       shallower = omega (arith, deep, high);
     }
+
+-- its steps, as they are found
+pub steps_found : (symbols list : List ForeignSymbol) (k : ℕ) (symbol : ForeignSymbol) (steps : List ForeignStep) → k < length symbols → list ≡ symbols → steps ≡ (get_or list k symbol).steps → steps ≡ (get_or symbols k no_symbol).steps
+steps_found symbols list k symbol steps lt same e =
+    e ∙ ap (λ (s : ForeignSymbol). s.steps) (ap (λ (ss : List ForeignSymbol). get_or ss k symbol) same ∙ get_or_default symbols k symbol no_symbol lt)
+
+-- the placement of a call by machine words
+pub call_near : (x y : ℤ) → IsWithin (2 ^ 47) x → IsWithin (2 ^ 47) y → IsNear (2 ^ 47) (to_z w64 (of_z w64 x), to_z w64 (of_z w64 y))
+call_near x y hx hy =
+    let a = still_within x x hx in
+    let b = still_within y y hy in
+    record { left = a.0; right = a.1; below = b.0; above = b.1 }
+
+pub call_words : (turn : ℕ) (x y : ℤ) → IsWithin (2 ^ 47) x → IsWithin (2 ^ 47) y → ◌≡◌ {A = Placement} (record { turn = turn; x = to_z w64 (of_z w64 x); y = to_z w64 (of_z w64 y) }) (record { turn = turn; x = x; y = y })
+call_words turn x y hx hy = rw (word_is x hx, word_is y hy) refl
+
+pub call_places : (outer all : Placement) (turn : ℕ) (x y : ℤ) → IsWithin (2 ^ 47) x → IsWithin (2 ^ 47) y → ((p : Point) → placed all p ≡ placed outer (placed (record { turn = turn; x = to_z w64 (of_z w64 x); y = to_z w64 (of_z w64 y) }) p))
+    → (p : Point) → placed all p ≡ placed outer (placed (record { turn = turn; x = x; y = y }) p)
+call_places outer all turn x y hx hy same p = same p ∙ ap (λ (k : Placement). placed outer (placed k p)) (call_words turn x y hx hy)

@@ -1,12 +1,16 @@
-use Rattle.std.proofs.Common.{◌≡◌, ℕ, ◌+◌, ◌<◌, ◌≤◌, List, [], map, length, get_or, sym, ap, ◌∙◌, subst, arith}
-use Rattle.std.proofs.lemmas.List.{length-map}
+use Rattle.std.proofs.Common.{◌≡◌, ◌≤◌, ◌^◌, List, [], ◌++◌, map, length, refl, sym, ap, ◌∙◌, subst, arith}
+use Rattle.std.specs.List.{All, AllByRecursion}
+use Rattle.lam_geom.specs.declared.boxes.MaskBox.{MaskBox}
+use Rattle.cif_lex.specs.declared.placement.Placement.{Placement}
+use Rattle.cif_read.specs.Sheets.{Drawn}
+use Rattle.cif_read.specs.Files.{drawn_of, IsSolidWithin}
 use Rattle.std.proofs.lemmas.List.Elements.{recursion_from_All, All-nil}
-use Rattle.cif_foreign.specs.Sheets.{boxes_of_symbols, depths_of, flattened}
+use Rattle.cif_foreign.specs.Sheets.{placed_box, boxes_of_steps, boxes_of_symbols, depths_of, flattened}
 use Rattle.cif_foreign.specs.Files.{symbol_of, step_of, sheet_of, IsStepOf}
 use Rattle.cif_foreign.specs.Readings.{called_depth}
 use Rattle.cif_foreign.specs.declared.file.ForeignStep.{ForeignStep}
 use Rattle.cif_foreign.proofs.Symbols.{length_depths}
-use Rattle.cif_foreign.proofs.Flat.{called_within, boxes_stay, steps_sorted, all_placed, all_solid}
+use Rattle.cif_foreign.proofs.Flat.{IsSorted, still, called_within, boxes_stay, steps_sorted, all_placed, all_solid}
 use Rattle.cif_foreign.proofs.flattening.flatten_foreign.Goals as goal
 
 pub push_steps-requires-clause-deep : goal.push_steps-requires-clause-deep
@@ -17,5 +21,24 @@ push_steps-requires-clause-deep c =
     subst (λ (steps : List ForeignStep). called_depth depths (map step_of steps) ≤ 64) (sym c.as_slice-2.ensures)
     (called_within 64 n depths file.top c.requires.shallow (length_depths file.symbols) (recursion_from_All (IsStepOf n) file.top c.requires.top))
 
+nothing_first : (before now boxes : List Drawn) (out : List MaskBox) (place : Placement) → out ≡ [] → before ≡ map drawn_of out → place ≡ still → AllByRecursion IsSorted boxes → now ≡ before ++ map (placed_box place) boxes → now ≡ boxes
+nothing_first before now boxes out place none is e sorted added =
+    added ∙ (ap (λ (zs : List Drawn). zs ++ map (placed_box place) boxes) (is ∙ ap (map drawn_of) none) ∙ (ap (λ (p : Placement). map (placed_box p) boxes) e ∙ boxes_stay boxes sorted))
+
 pub returns-clause-boxes : goal.returns-clause-boxes
-returns-clause-boxes c = let a = c.in_ok-push_steps.ensures.boxes in let b = c.with_capacity.ensures.items in let d = c.still-still.ensures in ?
+returns-clause-boxes c =
+    let file = c.args.file.now in
+    let n = length file.symbols in
+    let boxes = boxes_of_symbols (map symbol_of file.symbols) in
+    let sorted = steps_sorted n boxes file.top (recursion_from_All (IsStepOf n) file.top c.requires.top) in
+    nothing_first (map drawn_of c.in_ok-out.out.items) (map drawn_of c.push_steps.new.out.items) (flattened (sheet_of file)) c.in_ok-out.out.items c.still-still.result c.in_ok-out.ensures.items refl c.still-still.ensures sorted
+    (c.in_ok-push_steps.ensures.boxes ∙ ap (λ (ss : List ForeignStep). map drawn_of c.in_ok-out.out.items ++ map (placed_box c.still-still.result) (boxes_of_steps boxes (map step_of ss))) c.as_slice-2.ensures)
+
+none_solid : (out : List MaskBox) → out ≡ [] → All (IsSolidWithin (2 ^ 55)) (map drawn_of out)
+none_solid out e = subst (λ (bs : List MaskBox). All (IsSolidWithin (2 ^ 55)) (map drawn_of bs)) (sym e) (All-nil (IsSolidWithin (2 ^ 55)))
+
+pub returns-clause-placed : goal.returns-clause-placed
+returns-clause-placed c = all_placed c.push_steps.new.out.items (c.in_ok-push_steps.ensures.solid (none_solid c.in_ok-out.out.items c.in_ok-out.ensures.items))
+
+pub returns-clause-solid : goal.returns-clause-solid
+returns-clause-solid c = all_solid c.push_steps.new.out.items (c.in_ok-push_steps.ensures.solid (none_solid c.in_ok-out.out.items c.in_ok-out.ensures.items))
