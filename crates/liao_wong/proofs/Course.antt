@@ -10,7 +10,7 @@ use Rattle.cons_graph.specs.Constraints.{Constraints, IsConstraintGraph}
 use Rattle.round_log.specs.Orders.{NamesEachOnce}
 use Rattle.cons_graph.specs.EdgeNumbers.{edge_at}
 use Rattle.round_log.specs.Looks.{place_in, is_forward, backward_numbers}
-use Rattle.round_log.specs.Rounds.{Progress, Plan, plan_of, forward_part, round, one_more, after_rounds, IsQuietAfter, EndsInRound}
+use Rattle.round_log.specs.Rounds.{Progress, Plan, plan_of, forward_part, round, one_more, after_rounds, IsQuietAfter}
 use Rattle.round_log.proofs.Chains.{In}
 use Rattle.round_log.proofs.Members.{IsDistinct}
 use Rattle.round_log.specs.Kept.{kept_part}

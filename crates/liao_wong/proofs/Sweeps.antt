@@ -1,5 +1,5 @@
 -- The steps of a sweep: which entries are kept, their new numbers, and the arrays that are left.
-use Rattle.std.proofs.Common.{◌≡◌, ◌≢◌, ℕ, zero, suc, ◌+◌, ◌-◌, ◌<◌, ◌≤◌, ℤ, Bool, true, false, List, [], ◌∷◌, ◌++◌, reverse, take, drop, inl, inr, length, get_or, set, refl, sym, ap, subst, ◌∙◌, arith}
+use Rattle.std.proofs.Common.{◌≡◌, ◌≢◌, ℕ, zero, suc, ◌+◌, ◌-◌, ◌<◌, ◌≤◌, ℤ, Bool, true, false, List, [], ◌∷◌, ◌++◌, take, inl, inr, length, get_or, set, refl, sym, ap, subst, ◌∙◌, arith}
 use Rattle.std.specs.List.{All}
 use Rattle.std.proofs.Math.Seq.{take-suc}
 use Rattle.std.proofs.lemmas.List.Elements.{All-from_get_or}
@@ -14,8 +14,8 @@ use Rattle.round_log.proofs.Entries.{array_of, length-array, entry-newest, entry
 use Rattle.round_log.proofs.Kept.{number-kept, number-left, part-kept, part-left, part_older, part_latest}
 use Rattle.round_log.proofs.Raises.{latest-other, latest_in_log}
 use Rattle.round_log.proofs.Walking.{reverse-cons}
-use Rattle.liao_wong.specs.Held.{Held, AreArraysOf}
-use Rattle.liao_wong.specs.Sweeping.{keeps_of, AreEntriesOf, AreNewNumbers, AreRenumbered, IsSwept}
+use Rattle.liao_wong.specs.Held.{AreArraysOf}
+use Rattle.liao_wong.specs.Sweeping.{keeps_of, AreNewNumbers, AreRenumbered, IsSwept}
 
 -- ---- flags
 
@@ -42,8 +42,7 @@ latest_outside vars (r ∷ rs) v o le = latest-other r rs v (λ e. let lt : r.va
 keeps_back : (keeps : ℕ → Bool) (rs : List Entry) → ((k : ℕ) → 0 < k → k ≤ length rs → keeps k ≡ true → keeps (get_or (array_of rs) k origin_entry).prev ≡ true) → KeepsBack keeps rs
 keeps_back keeps [] h = tt
 keeps_back keeps (r ∷ rs) h =
-    let P : Entry → Type 0 = λ e. keeps e.prev ≡ true in
-    (
+    let P : Entry → Type 0 = λ e. keeps e.prev ≡ true in (
       λ t. subst P (entry-newest r rs origin_entry) (h (length (r ∷ rs)) (omega arith) (omega arith) t),
       keeps_back keeps rs (λ k one le t. subst P (entry-older r rs k origin_entry le) (h k one (omega arith) t)),
     )

@@ -1,10 +1,10 @@
 -- A part of a log that keeps what its chains reach tells alike, and is a log of looks too.
-use Rattle.std.proofs.Common.{◌≡◌, ℕ, zero, suc, ◌<◌, ◌≤◌, ℤ, ◌≤ℤ◌, ◌<ℤ◌, Bool, true, false, eqb, if◌then◌else◌, Some, List, [], ◌∷◌, map, inl, inr, length, refl, sym, ap, subst, ◌∙◌, arith}
+use Rattle.std.proofs.Common.{◌≡◌, ℕ, zero, suc, ◌≤◌, ℤ, ◌≤ℤ◌, ◌<ℤ◌, Bool, true, false, Some, List, [], ◌∷◌, map, inl, inr, length, refl, sym, ap, subst, ◌∙◌, arith}
 use Rattle.std.proofs.lemmas.Int.{ints}
 use Rattle.std.proofs.lemmas.Bool.{cases_eq, cond-true, cond-false, cases_Bool}
 use Rattle.cons_graph.specs.declared.edges.Edge.{Edge}
 use Rattle.round_log.specs.declared.log.Entry.{Entry}
-use Rattle.round_log.specs.Looks.{label, latest, chain, comes_back}
+use Rattle.round_log.specs.Looks.{label, latest, chain}
 use Rattle.round_log.specs.Logs.{ComeFromOlder}
 use Rattle.round_log.specs.Told.{said, told_by, TellAlike}
 use Rattle.round_log.specs.Kept.{new_number, renumbered, kept_part, KeepsBack, KeepsChains}

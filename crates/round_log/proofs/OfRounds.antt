@@ -1,5 +1,5 @@
 -- Logs of rounds that end: one with all their raises is such a log, and any two of one graph and order tell alike.
-use Rattle.std.proofs.Common.{◌≡◌, ℕ, Bool, List, [], ◌∷◌, length, refl, sym, ap, subst, ◌∙◌, arith}
+use Rattle.std.proofs.Common.{◌≡◌, ℕ, Bool, List, [], ◌∷◌, length, refl, sym, ap, ◌∙◌, arith}
 use Rattle.round_log.specs.declared.log.Entry.{Entry}
 use Rattle.round_log.specs.declared.log.Log.{Log}
 use Rattle.cons_graph.specs.Constraints.{Constraints, IsConstraintGraph}

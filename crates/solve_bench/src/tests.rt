@@ -4,12 +4,12 @@ ghost use Rattle.cons_graph.specs.Constraints.{IsConstraintGraph, IsEdgeAmong};
 ghost use Rattle.cons_graph.specs.SimpleWalks.{IsSimplePositiveCycle};
 ghost use Rattle.solve_bench.specs.Worked.{pair_graph, row_graph};
 
+use crate::made::{backward_edge, draw, edges_of, push_edge, variables};
+use crate::size::Size;
 use cons_graph::{Edge, Graph, Names, Why};
 use crit_path::{walk_lines, walk_to};
 use cycle_show::cycle_lines;
 use lam_list::Seq;
-use crate::made::{backward_edge, draw, edges_of, push_edge, variables};
-use crate::size::Size;
 use liao_wong::{Unsolved, solve, solve_reached, solve_with_floor};
 use std::alloc::{AllocError, Global};
 use std::test::Fail;
@@ -102,6 +102,7 @@ fn tight_edge(vars: u32, state: &mut u32) -> Edge
 
 // A made graph with some tight edges.
 fn tight_graph(alloc: Global, size: &Size, tight: u32) -> Result<Graph, Fail>
+    requires { 3 ≤ size.now.vars }
     ensures { IfOk result (λ g. g.vars ≡ size.now.vars) }
 {
     let mut edges = edges_of(alloc, size)?;

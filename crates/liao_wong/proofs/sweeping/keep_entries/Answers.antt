@@ -1,4 +1,4 @@
-use Rattle.std.proofs.Common.{◌≡◌, ℕ, ◌+◌, ◌<◌, ◌*◌, List, length, get_or, refl, sym, ap, subst, arith}
+use Rattle.std.proofs.Common.{ℕ, ◌+◌, ◌<◌, List, length, get_or, refl, sym, ap, subst, arith}
 use Rattle.round_log.specs.declared.log.Entry.{Entry}
 use Rattle.liao_wong.specs.Sweeping.{keeps_of}
 use Rattle.liao_wong.proofs.Sweeps.{IsCompacted, compact_older, compact_keep, compact_drop}

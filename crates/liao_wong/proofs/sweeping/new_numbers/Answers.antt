@@ -1,6 +1,5 @@
-use Rattle.std.proofs.Common.{◌-◌, ◌≡◌, length, arith}
+use Rattle.std.proofs.Common.{◌-◌, arith}
 use Rattle.std.proofs.lemmas.List.{get_or_read}
-use Rattle.round_log.specs.Kept.{new_number}
 use Rattle.liao_wong.specs.Sweeping.{keeps_of}
 use Rattle.liao_wong.proofs.Sweeps.{number_low}
 use Rattle.liao_wong.proofs.sweeping.new_numbers.Goals as goal
