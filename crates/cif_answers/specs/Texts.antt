@@ -54,6 +54,14 @@ pub record IsBroken (tech : Tech) (text : List ℕ) (first : Break) : Type 0 whe
   pub are_boxes : HasBoxes text boxes
   pub first_break : IsFirstBreak tech boxes first
 
+-- why its boxes are not given: it has no meaning, or too many boxes
+abbrev pub RefusesBoxes : List ℕ → TextFault → Type 0
+RefusesBoxes text (Cif fault) = IsFirstFault text fault
+RefusesBoxes text TooMany = HasTooManyBoxes text
+RefusesBoxes text (NotProper a b) = ⊥
+RefusesBoxes text (Broken first) = ⊥
+RefusesBoxes text OutOfMemory = Unit {0}
+
 -- Why a text has no netlist: it has no meaning, too many boxes, or a pair that does not cross properly.
 abbrev pub RefusesNetlist : Tech → List ℕ → TextFault → Type 0
 RefusesNetlist tech text (Cif fault) = IsFirstFault text fault

@@ -3,21 +3,31 @@ ghost use Rattle.std.specs.Prelude.{◌^◌, ◌≤◌, IfOk, IfErr, length};
 ghost use Rattle.cif_answers.specs.Texts.{HasVerdict, RefusesVerdict};
 
 use crate::fault::TextFault;
-use cif_foreign::{flatten_foreign, read_foreign};
-use flat_check::first_break;
+use crate::netting::boxes_of;
+use flat_check::first_break_split;
+use lam_io::Gate;
 use rule_table::Tech;
 use std::alloc::Global;
+use std::thread::Threads;
 use stick_lex::Text;
 
-/// That the boxes of a CIF text keep the rules, as a text: `ok` and the end of its line.
-pub fn verdict_of(alloc: Global, tech: &Tech, text: &[u8]) -> Result<Text, TextFault>
-    requires { length text.now ≤ 2 ^ 26 }
+/// That the boxes of a CIF text keep the rules, as a text: `ok` and the end of its line. The work is split into so many pieces,
+/// each of which passes the gate under each rule; the answer is the same for every number of pieces and every gate.
+pub fn verdict_of<H: Threads + Sync, G: Gate>(
+    rt: &H,
+    alloc: Global,
+    gate: &G,
+    tech: &Tech,
+    text: &[u8],
+    pieces: u32,
+) -> Result<Text, TextFault>
+    requires short { length text.now ≤ 2 ^ 26 }
+    requires pieces { (1 ≤ pieces) × (pieces ≤ 64) }
     ensures verdict { IfOk result (HasVerdict tech.now text.now) }
     ensures refused { IfErr result (RefusesVerdict tech.now text.now) }
 {
-    let file = read_foreign(alloc, text)?;
-    let boxes = flatten_foreign(alloc, &file)?;
-    if let Some(first) = first_break(alloc, tech, &boxes)? {
+    let boxes = boxes_of(alloc, text)?;
+    if let Some(first) = first_break_split(rt, alloc, gate, tech, &boxes, pieces)? {
         return Err(TextFault::Broken(first));
     }
     let written = Text::new(alloc, b"ok\n")?;

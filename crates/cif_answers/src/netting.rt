@@ -1,14 +1,28 @@
 //! From a text to its netlist.
 ghost use Rattle.std.specs.Prelude.{◌^◌, ◌≤◌, IfOk, IfErr, length};
-ghost use Rattle.cif_answers.specs.Texts.{HasNetlist, RefusesNetlist};
+ghost use Rattle.crossings.specs.Boxes.{AreSearchable};
+ghost use Rattle.cif_answers.specs.Texts.{HasBoxes, HasNetlist, RefusesBoxes, RefusesNetlist};
 
 use crate::fault::TextFault;
 use cif_foreign::{flatten_foreign, read_foreign};
+use lam_geom::MaskBox;
 use net_extract::extract;
 use net_list::netlist_text;
 use rule_table::Tech;
 use std::alloc::Global;
 use stick_lex::Text;
+
+/// The boxes that a CIF text means, one by one. What was read of it is kept no longer.
+pub fn boxes_of(alloc: Global, text: &[u8]) -> Result<Vec<MaskBox>, TextFault>
+    requires { length text.now ≤ 2 ^ 26 }
+    ensures boxes { IfOk result (λ boxes. HasBoxes text.now boxes.items) }
+    ensures searchable { IfOk result (λ boxes. AreSearchable boxes.items) }
+    ensures refused { IfErr result (RefusesBoxes text.now) }
+{
+    let file = read_foreign(alloc, text)?;
+    let boxes = flatten_foreign(alloc, &file)?;
+    Ok(boxes)
+}
 
 /// The netlist of a CIF text, as a text.
 pub fn netlist_of(alloc: Global, tech: &Tech, text: &[u8]) -> Result<Text, TextFault>
@@ -16,8 +30,7 @@ pub fn netlist_of(alloc: Global, tech: &Tech, text: &[u8]) -> Result<Text, TextF
     ensures netlist { IfOk result (HasNetlist tech.now text.now) }
     ensures refused { IfErr result (RefusesNetlist tech.now text.now) }
 {
-    let file = read_foreign(alloc, text)?;
-    let boxes = flatten_foreign(alloc, &file)?;
+    let boxes = boxes_of(alloc, text)?;
     let list = extract(alloc, tech, &boxes)?;
     let written = netlist_text(alloc, &list, &boxes)?;
     Ok(written)

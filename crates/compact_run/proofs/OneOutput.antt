@@ -20,7 +20,7 @@ use Rattle.compact_run.proofs.OneFile.{one_text, not_long}
 use Rattle.compact_run.proofs.OneMaster.{AreSame}
 use Rattle.net_extract.specs.Laws.{IsExtractionDetermined}
 use Rattle.cif_read.specs.declared.fault.CifFault.{CifFault}
-use Rattle.cif_read.specs.Meaning.{IsFirstFault}
+use Rattle.cif_foreign.specs.Meaning.{IsFirstFault}
 use Rattle.cif_answers.specs.Texts.{HasTooManyBoxes}
 
 -- the laws of netlists, of verdicts and of extraction

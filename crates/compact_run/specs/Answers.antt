@@ -4,7 +4,7 @@ use Rattle.lam_geom.specs.declared.boxes.Axis.{Axis}
 use Rattle.lam_io.specs.Io.{Bytes, Files, Appends, AppendsPrefix, Rose}
 use Rattle.rule_table.specs.declared.technology.Tech.{Tech}
 use Rattle.rule_table.specs.Technology.{numbers_of}
-use Rattle.cif_read.specs.Meaning.{IsFirstFault}
+use Rattle.cif_foreign.specs.Meaning.{IsFirstFault}
 use Rattle.cif_answers.specs.declared.fault.TextFault.{TextFault}
 use Rattle.cif_answers.specs.Texts.{HasNetlist, HasVerdict, HasTooManyBoxes, IsNotProper, IsBroken, RefusesNetlist, RefusesVerdict}
 use Rattle.tech_file.specs.declared.faults.TechFileFault.{TechFileFault}

@@ -11,9 +11,7 @@ use Rattle.plan_model.specs.declared.plan.Plan.{Plan}
 use Rattle.plan_model.specs.Plan.{grids_of}
 use Rattle.mask_out.specs.declared.picture.Call.{Call}
 use Rattle.mask_out.specs.Pictures.{Drawing, drawings_in, calls_of}
-use Rattle.cif_meaning.specs.Written.{drawn_mask, sheet_of_picture}
-use Rattle.cif_meaning.proofs.FlatPictures.{flat_picture}
-use Rattle.cif_meaning.proofs.MeantPictures.{picture_meant}
+use Rattle.cif_meaning.specs.Written.{drawn_mask, TextsMeanTheirPicturesToOthers}
 use Rattle.conductors.specs.Shapes.{AreShapes}
 use Rattle.conductors.specs.Sticks.{NetsAreTheSticks}
 use Rattle.written_masks.specs.Written.{unit_of, text_of_layouts, HasSticksNets}
@@ -23,22 +21,23 @@ use Rattle.written_masks.proofs.Pictures.{picture_writable}
 use Rattle.written_masks.proofs.Symbols.{FitFinished}
 
 -- where boxes that show the items of all instances have the sticks' nets
-pub text_has_nets : (tech : Tech) (plan : Plan) (masters : List Master) (layouts : List Coords) → FitFinished tech plan masters layouts
+pub text_has_nets : (tech : Tech) (plan : Plan) (masters : List Master) (layouts : List Coords) → FitFinished tech plan masters layouts → TextsMeanTheirPicturesToOthers
     → ((boxes : List MaskBox) → AreShapes tech plan masters layouts boxes → NetsAreTheSticks tech plan masters layouts boxes)
     → HasSticksNets tech plan masters layouts (text_of_layouts tech plan masters layouts)
-text_has_nets tech plan masters layouts h extracted =
+text_has_nets tech plan masters layouts h meant extracted =
     let unit : ℤ = unit_of tech in
     let drawings : List Drawing = drawings_in masters layouts in
     let calls : List Call = calls_of (size_in X layouts) (size_in Y layouts) (widest_of tech) (grids_of plan) in
     let writable = picture_writable tech plan masters layouts h in
+    let meaning = meant unit drawings calls writable in
     let drawn = picture_drawn unit drawings calls writable in
     let shown = picture_shows tech plan masters layouts h.planned h.fit.counted in
     let shapes = boxes_show tech plan masters layouts drawn.boxes (drawn.drawn ∙ ap (map (drawn_mask unit)) shown) in
     record {
-      sheet = sheet_of_picture unit drawings calls;
-      means = picture_meant unit drawings calls writable;
+      sheet = meaning.0;
+      means = meaning.1;
       boxes = drawn.boxes;
-      drawn = drawn.drawn ∙ sym (flat_picture unit drawings calls writable);
+      drawn = drawn.drawn ∙ sym meaning.2;
       shapes = shapes;
       nets = extracted drawn.boxes shapes;
     }

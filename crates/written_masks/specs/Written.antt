@@ -13,8 +13,8 @@ use Rattle.plan_model.specs.Plan.{grids_of}
 use Rattle.mask_out.specs.Pictures.{drawings_in, calls_of}
 use Rattle.cif_text.specs.Calls.{cif_of}
 use Rattle.cif_read.specs.Files.{drawn_of}
-use Rattle.cif_read.specs.Meaning.{Means}
-use Rattle.cif_read.specs.Sheets.{Sheet, flattened}
+use Rattle.cif_foreign.specs.Meaning.{Means}
+use Rattle.cif_foreign.specs.Sheets.{Sheet, flattened}
 use Rattle.conductors.specs.Shapes.{AreShapes}
 use Rattle.conductors.specs.Sticks.{NetsAreTheSticks}
 

@@ -3,6 +3,7 @@ ghost use Rattle.pitch_join.specs.Masters.{ArePlanned};
 ghost use Rattle.grid_rules.specs.Rules.{AreFinished};
 ghost use Rattle.written_masks.specs.Written.{FitIntoText, HasSticksNets, text_of_layouts};
 
+use cif_meaning::texts_mean_their_pictures_to_others;
 use conductors::extracted_nets_are_the_sticks;
 use expand::Master;
 use plan_model::Plan;
@@ -17,5 +18,6 @@ pub fn written_nets_are_the_sticks(tech: &Tech, plan: &Plan, masters: &[Master],
     requires fit { FitIntoText tech.now plan.now masters.now layouts.now }
     ensures { HasSticksNets tech.now plan.now masters.now layouts.now (text_of_layouts tech.now plan.now masters.now layouts.now) }
 {
+    texts_mean_their_pictures_to_others();
     extracted_nets_are_the_sticks(tech, plan, masters, layouts);
 }

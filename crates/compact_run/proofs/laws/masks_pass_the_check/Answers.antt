@@ -1,6 +1,6 @@
 use Rattle.std.proofs.Common.{◌≡◌, ◌≤◌, length, refl, sym, ◌∙◌, subst}
 use Rattle.compact_run.specs.Limits.{most_cif_bytes}
-use Rattle.cif_read.specs.Meaning.{Means}
+use Rattle.cif_foreign.specs.Meaning.{Means}
 use Rattle.lam_io.specs.Io.{Bytes}
 use Rattle.compact_run.proofs.laws.masks_pass_the_check.Goals as goal
 
