@@ -1,0 +1,105 @@
+-- Searches, as one of their groves is looked through.
+use Rattle.std.proofs.Common.{◌≡◌, ◌⊎◌, ℕ, List, length, sym, ◌∙◌, subst}
+use Rattle.graph_search.specs.Search.{AreKept}
+use Rattle.box_tree.specs.declared.spots.Spot.{Spot}
+use Rattle.lam_geom.specs.declared.boxes.MaskBox.{MaskBox}
+use Rattle.rule_table.specs.declared.technology.Tech.{Tech}
+use Rattle.net_extract.specs.declared.groves.Grove.{Grove}
+use Rattle.net_extract.specs.declared.groves.Plan.{Plan}
+use Rattle.net_extract.specs.declared.placing.Placed.{Placed}
+use Rattle.net_extract.specs.declared.reaching.Front.{Front}
+use Rattle.net_extract.specs.declared.searches.Search.{Search}
+use Rattle.net_extract.specs.Spreading.{AreReached, IsFrontReached, IsGroveReached, IsGroveOf, IsSearch, IsStep}
+use Rattle.net_extract.proofs.Spread.{reached_as, reached_more, reached_none}
+use Rattle.net_extract.proofs.Walk.{grove_kept}
+
+-- the grove that was looked through
+grown : (Are : List Spot → Type 0) (Is : ℕ → Type 0) (net : ℕ) (grove new : Grove) (old front : Front) → IsGroveReached Is net grove new old front → IsGroveOf Are old grove → IsGroveOf Are front new
+grown Are Is net grove new old front r g =
+    let P : Plan → Type 0 = λ p. Are p.spots.items in
+    record { stands = r.stands; shows = subst P (sym r.plan) g.shows }
+
+-- the others
+pub others : (Are : List Spot → Type 0) (grove : Grove) (old front : Front) → length front.marks.items ≡ length old.marks.items → AreKept old.marks.items front.marks.items → IsGroveOf Are old grove → IsGroveOf Are front grove
+others Are grove old front counted kept g = record { stands = grove_kept old.marks.items front.marks.items grove counted kept g.stands; shows = g.shows }
+
+-- all of them, with more marks
+pub search_kept : (tech : Tech) (boxes : List MaskBox) (pieces : List Placed) (search : Search) (front : Front) → length front.marks.items ≡ length search.front.marks.items → AreKept search.front.marks.items front.marks.items
+    → IsSearch tech boxes pieces search → IsSearch tech boxes pieces (record search { front = front })
+search_kept tech boxes pieces search front counted kept s = record {
+  counted = counted ∙ s.counted;
+  diffusion = others _ search.diffusion search.front front counted kept s.diffusion;
+  poly = others _ search.poly search.front front counted kept s.poly;
+  metal = others _ search.metal search.front front counted kept s.metal;
+  cuts = others _ search.cuts search.front front counted kept s.cuts;
+  under = others _ search.under search.front front counted kept s.under;
+  over = others _ search.over search.front front counted kept s.over;
+}
+
+pub step_diffusion : (tech : Tech) (boxes : List MaskBox) (pieces : List Placed) (Is As : ℕ → Type 0) (net : ℕ) (search : Search) (new : Grove) (front : Front) → ((y : ℕ) → Is y → As y) → ((y : ℕ) → As y → Is y)
+    → IsSearch tech boxes pieces search → IsGroveReached Is net search.diffusion new search.front front → IsStep tech boxes pieces As net search (record search { diffusion = new; front = front })
+step_diffusion tech boxes pieces Is As net search new front forth back s r =
+    let k : IsSearch tech boxes pieces (record search { front = front }) = search_kept tech boxes pieces search front r.reached.counted r.reached.kept s in
+    record {
+      search = record { counted = k.counted; diffusion = grown _ Is net search.diffusion new search.front front r s.diffusion; poly = k.poly; metal = k.metal; cuts = k.cuts; under = k.under; over = k.over };
+      reached = reached_as Is As net _ _ _ _ forth back r.reached;
+    }
+
+pub step_poly : (tech : Tech) (boxes : List MaskBox) (pieces : List Placed) (Is As : ℕ → Type 0) (net : ℕ) (search : Search) (new : Grove) (front : Front) → ((y : ℕ) → Is y → As y) → ((y : ℕ) → As y → Is y)
+    → IsSearch tech boxes pieces search → IsGroveReached Is net search.poly new search.front front → IsStep tech boxes pieces As net search (record search { poly = new; front = front })
+step_poly tech boxes pieces Is As net search new front forth back s r =
+    let k : IsSearch tech boxes pieces (record search { front = front }) = search_kept tech boxes pieces search front r.reached.counted r.reached.kept s in
+    record {
+      search = record { counted = k.counted; diffusion = k.diffusion; poly = grown _ Is net search.poly new search.front front r s.poly; metal = k.metal; cuts = k.cuts; under = k.under; over = k.over };
+      reached = reached_as Is As net _ _ _ _ forth back r.reached;
+    }
+
+pub step_metal : (tech : Tech) (boxes : List MaskBox) (pieces : List Placed) (Is As : ℕ → Type 0) (net : ℕ) (search : Search) (new : Grove) (front : Front) → ((y : ℕ) → Is y → As y) → ((y : ℕ) → As y → Is y)
+    → IsSearch tech boxes pieces search → IsGroveReached Is net search.metal new search.front front → IsStep tech boxes pieces As net search (record search { metal = new; front = front })
+step_metal tech boxes pieces Is As net search new front forth back s r =
+    let k : IsSearch tech boxes pieces (record search { front = front }) = search_kept tech boxes pieces search front r.reached.counted r.reached.kept s in
+    record {
+      search = record { counted = k.counted; diffusion = k.diffusion; poly = k.poly; metal = grown _ Is net search.metal new search.front front r s.metal; cuts = k.cuts; under = k.under; over = k.over };
+      reached = reached_as Is As net _ _ _ _ forth back r.reached;
+    }
+
+pub step_cuts : (tech : Tech) (boxes : List MaskBox) (pieces : List Placed) (Is As : ℕ → Type 0) (net : ℕ) (search : Search) (new : Grove) (front : Front) → ((y : ℕ) → Is y → As y) → ((y : ℕ) → As y → Is y)
+    → IsSearch tech boxes pieces search → IsGroveReached Is net search.cuts new search.front front → IsStep tech boxes pieces As net search (record search { cuts = new; front = front })
+step_cuts tech boxes pieces Is As net search new front forth back s r =
+    let k : IsSearch tech boxes pieces (record search { front = front }) = search_kept tech boxes pieces search front r.reached.counted r.reached.kept s in
+    record {
+      search = record { counted = k.counted; diffusion = k.diffusion; poly = k.poly; metal = k.metal; cuts = grown _ Is net search.cuts new search.front front r s.cuts; under = k.under; over = k.over };
+      reached = reached_as Is As net _ _ _ _ forth back r.reached;
+    }
+
+pub step_under : (tech : Tech) (boxes : List MaskBox) (pieces : List Placed) (Is As : ℕ → Type 0) (net : ℕ) (search : Search) (new : Grove) (front : Front) → ((y : ℕ) → Is y → As y) → ((y : ℕ) → As y → Is y)
+    → IsSearch tech boxes pieces search → IsGroveReached Is net search.under new search.front front → IsStep tech boxes pieces As net search (record search { under = new; front = front })
+step_under tech boxes pieces Is As net search new front forth back s r =
+    let k : IsSearch tech boxes pieces (record search { front = front }) = search_kept tech boxes pieces search front r.reached.counted r.reached.kept s in
+    record {
+      search = record { counted = k.counted; diffusion = k.diffusion; poly = k.poly; metal = k.metal; cuts = k.cuts; under = grown _ Is net search.under new search.front front r s.under; over = k.over };
+      reached = reached_as Is As net _ _ _ _ forth back r.reached;
+    }
+
+pub step_over : (tech : Tech) (boxes : List MaskBox) (pieces : List Placed) (Is As : ℕ → Type 0) (net : ℕ) (search : Search) (new : Grove) (front : Front) → ((y : ℕ) → Is y → As y) → ((y : ℕ) → As y → Is y)
+    → IsSearch tech boxes pieces search → IsGroveReached Is net search.over new search.front front → IsStep tech boxes pieces As net search (record search { over = new; front = front })
+step_over tech boxes pieces Is As net search new front forth back s r =
+    let k : IsSearch tech boxes pieces (record search { front = front }) = search_kept tech boxes pieces search front r.reached.counted r.reached.kept s in
+    record {
+      search = record { counted = k.counted; diffusion = k.diffusion; poly = k.poly; metal = k.metal; cuts = k.cuts; under = k.under; over = grown _ Is net search.over new search.front front r s.over };
+      reached = reached_as Is As net _ _ _ _ forth back r.reached;
+    }
+
+-- nothing is there to be reached
+pub step_none : (tech : Tech) (boxes : List MaskBox) (pieces : List Placed) (Is : ℕ → Type 0) (net : ℕ) (search : Search) → ((y : ℕ) → Is y → ⊥) → IsSearch tech boxes pieces search → IsStep tech boxes pieces Is net search search
+step_none tech boxes pieces Is net search none s = record { search = s; reached = reached_none Is net search.front.marks.items search.front.queue.items none }
+
+-- three steps, one after another
+pub step_three : (tech : Tech) (boxes : List MaskBox) (pieces : List Placed) (P Q R S : ℕ → Type 0) (net : ℕ) (old second third new : Search) → ((y : ℕ) → P y ⊎ (Q y ⊎ R y) → S y) → ((y : ℕ) → S y → P y ⊎ (Q y ⊎ R y))
+    → IsStep tech boxes pieces P net old second → IsStep tech boxes pieces Q net second third → IsStep tech boxes pieces R net third new → IsStep tech boxes pieces S net old new
+step_three tech boxes pieces P Q R S net old second third new forth back f g h =
+    let QR : ℕ → Type 0 = λ y. Q y ⊎ R y in
+    record {
+      search = h.search;
+      reached = reached_more P QR S net _ _ _ _ _ _ forth back f.reached (reached_more Q R QR net _ _ _ _ _ _ (λ y x. x) (λ y x. x) g.reached h.reached);
+    }

@@ -1,0 +1,6 @@
+use Rattle.net_extract.proofs.Beside.{no_partner}
+use Rattle.net_extract.proofs.Searched.{step_none}
+use Rattle.net_extract.proofs.searches.visit_piece.Goals as goal
+
+pub returns : goal.returns
+returns c = ?
