@@ -1,5 +1,5 @@
 -- What is asked of spots, in words of gaps.
-use Rattle.std.specs.Prelude.{◌≡◌, ◌≢◌, ℕ, ◌^◌, ℤ, pos, ◌≤ℤ◌, List, Some, slice_get}
+use Rattle.std.specs.Prelude.{◌≡◌, ◌≢◌, ℕ, ◌^◌, ℤ, pos, ◌≤ℤ◌, List, Option, Some, None, slice_get}
 use Rattle.lam_geom.specs.declared.boxes.BoxXY.{BoxXY}
 use Rattle.lam_geom.specs.Gaps.{gap_of_boxes, Overlaps, Encloses}
 use Rattle.lam_geom.specs.Places.{IsPlacedBox}
@@ -15,7 +15,7 @@ IsNear area reach other = gap_of_boxes area other ≤ℤ reach
 -- what a question asks of a spot beside an area
 abbrev pub Answers : Question → BoxXY → Spot → Type 0
 Answers (NearOfOther reach owner) area spot = IsNear area reach spot.area × (spot.owner ≢ owner)
-Answers (NearOfOtherTag reach tag) area spot = IsNear area reach spot.area × (spot.tag ≢ tag)
+Answers (NearOfOtherTag reach owner tag) area spot = IsNear area reach spot.area × (spot.owner ≢ owner) × (spot.tag ≢ tag)
 Answers (NearApart reach) area spot = IsNear area reach spot.area × (Overlaps area spot.area → ⊥)
 Answers (Covers margin) area spot = Encloses spot.area area margin
 Answers (NearShort reach margin) area spot = IsNear area reach spot.area × (Encloses spot.area area margin → ⊥)
@@ -38,7 +38,7 @@ IsMargin margin = (pos 0 ≤ℤ margin) × (margin ≤ℤ pos (2 ^ 30))
 -- a margin is not negative, and not too great; a reach is any number
 abbrev pub IsQuestion : Question → Type 0
 IsQuestion (NearOfOther reach owner) = Unit {0}
-IsQuestion (NearOfOtherTag reach tag) = Unit {0}
+IsQuestion (NearOfOtherTag reach owner tag) = Unit {0}
 IsQuestion (NearApart reach) = Unit {0}
 IsQuestion (Covers margin) = IsMargin margin
 IsQuestion (NearShort reach margin) = IsMargin margin
@@ -47,3 +47,12 @@ IsQuestion (NearOutside reach margin) = IsMargin margin
 pub record IsQuery (query : Query) : Type 0 where
   pub placed : IsPlacedBox query.area
   pub question : IsQuestion query.question
+
+-- how far a spot may lie from the area, if that is asked
+abbrev pub reach_of : Question → Option ℤ
+reach_of (NearOfOther reach owner) = Some reach
+reach_of (NearOfOtherTag reach owner tag) = Some reach
+reach_of (NearApart reach) = Some reach
+reach_of (Covers margin) = None
+reach_of (NearShort reach margin) = Some reach
+reach_of (NearOutside reach margin) = Some reach

@@ -1,11 +1,11 @@
 //! The bounds of groups, and what they say of the spots.
-ghost use Rattle.std.specs.Prelude.{◌≡◌, ◌+◌, ◌^◌, ◌<◌, ◌≤◌, ◌↔◌, pos, IsFalse, IsTrue};
+ghost use Rattle.std.specs.Prelude.{◌≡◌, ℕ, ◌+◌, ◌^◌, ◌≤◌, ◌↔◌, pos, ◌<ℤ◌, IsFalse, IsTrue, Some};
 ghost use Rattle.lam_geom.specs.Places.{IsPlacedBox, IsPlacedSpan};
 ghost use Rattle.lam_geom.specs.Gaps.{Encloses, EnclosesSpan, Overlaps, gap_of};
 ghost use Rattle.lam_geom.specs.declared.boxes.BoxXY.{BoxXY};
 ghost use Rattle.lam_geom.specs.declared.boxes.Span.{Span};
 ghost use Rattle.box_tree.specs.declared.spots.Spot.{Spot};
-ghost use Rattle.box_tree.specs.Queries.{Holds, IsMargin, IsQuery};
+ghost use Rattle.box_tree.specs.Queries.{Holds, IsMargin, IsQuery, reach_of};
 ghost use Rattle.box_tree.specs.Tree.{ArePlacedEnds, ArePlacedInner, IsBounded, IsOneTag, IsPlacedGroup, Reaches, ReachesBoth};
 
 use crate::query::{Query, Question};
@@ -20,20 +20,41 @@ impl Group {
         requires query { IsQuery query.now }
         ensures { IsFalse result → (spot : Spot) → IsBounded self.now spot → Holds query.now spot → ⊥ }
     {
-        let area = &query.area;
-        let gap = gap_box(area, &self.outer);
-        match query.question {
-            Question::NearOfOther { reach, .. } => gap <= reach,
-            Question::NearOfOtherTag { reach, tag } => gap <= reach && !is_tag(self.tag, tag),
-            Question::NearApart { reach } => gap <= reach && !all_overlap(&self.inner, area),
-            Question::Covers { margin } => contains_by(&self.outer, area, margin),
-            Question::NearShort { reach, margin } => {
-                gap <= reach && !all_cover(&self.inner, area, margin)
-            }
-            Question::NearOutside { reach, margin } => {
-                gap <= reach && !contains_by(area, &self.outer, margin)
-            }
+        match reach_of(query.question) {
+            Some(reach) if gap_box(&query.area, &self.outer) > reach => false,
+            _ => self.may_answer(query),
         }
+    }
+
+    // The same beside what is asked of the spot's distance.
+    fn may_answer(&self, query: &Query) -> bool
+        requires group { IsPlacedGroup self.now }
+        requires query { IsQuery query.now }
+        ensures { IsFalse result → (spot : Spot) → IsBounded self.now spot → Holds query.now spot → ⊥ }
+    {
+        let area = &query.area;
+        match query.question {
+            Question::NearOfOther { .. } => true,
+            Question::NearOfOtherTag { tag, .. } => !is_tag(self.tag, tag),
+            Question::NearApart { .. } => !all_overlap(&self.inner, area),
+            Question::Covers { margin } => contains_by(&self.outer, area, margin),
+            Question::NearShort { margin, .. } => !all_cover(&self.inner, area, margin),
+            Question::NearOutside { margin, .. } => !contains_by(area, &self.outer, margin),
+        }
+    }
+}
+
+// How far a spot may lie from the area, if that is asked.
+fn reach_of(question: Question) -> Option<i64>
+    ensures { result ≡ reach_of question }
+{
+    match question {
+        Question::NearOfOther { reach, .. } => Some(reach),
+        Question::NearOfOtherTag { reach, .. } => Some(reach),
+        Question::NearApart { reach } => Some(reach),
+        Question::Covers { .. } => None,
+        Question::NearShort { reach, .. } => Some(reach),
+        Question::NearOutside { reach, .. } => Some(reach),
     }
 }
 

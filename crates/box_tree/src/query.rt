@@ -11,8 +11,8 @@ use lam_geom::{BoxXY, contains_by, gap_box, overlaps};
 pub enum Question {
     /// It lies no farther than `reach` from the area, and has another owner.
     NearOfOther { reach: i64, owner: u32 },
-    /// It lies no farther than `reach` from the area, and has another tag.
-    NearOfOtherTag { reach: i64, tag: u32 },
+    /// It lies no farther than `reach` from the area, and has another owner and another tag.
+    NearOfOtherTag { reach: i64, owner: u32, tag: u32 },
     /// It lies no farther than `reach` from the area, and does not overlap it.
     NearApart { reach: i64 },
     /// It goes past the area by `margin` on all sides.
@@ -41,7 +41,9 @@ impl Query {
         let gap = gap_box(area, &spot.area);
         match self.question {
             Question::NearOfOther { reach, owner } => gap <= reach && spot.owner != owner,
-            Question::NearOfOtherTag { reach, tag } => gap <= reach && spot.tag != tag,
+            Question::NearOfOtherTag { reach, owner, tag } => {
+                gap <= reach && spot.owner != owner && spot.tag != tag
+            }
             Question::NearApart { reach } => gap <= reach && !overlaps(area, &spot.area),
             Question::Covers { margin } => contains_by(&spot.area, area, margin),
             Question::NearShort { reach, margin } => {

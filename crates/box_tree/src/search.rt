@@ -23,9 +23,8 @@ pub fn search(spots: &[Spot], order: &[u32], groups: &[Group], query: &Query) ->
         if !group.may_hold(query) {
             at += group.inside as usize;
         } else if group.inside == 0 {
-            let found = search_run(spots, order, group.start, group.count, query);
-            if found.is_some() {
-                return found;
+            if let Some(found) = search_run(spots, order, group.start, group.count, query) {
+                return Some(found);
             }
         }
     }

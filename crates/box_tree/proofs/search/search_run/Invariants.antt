@@ -1,0 +1,7 @@
+use Rattle.std.proofs.Common.{ℕ, ◌<◌, ◌≤◌}
+use Rattle.box_tree.specs.Queries.{Holds}
+use Rattle.box_tree.specs.Tree.{spot_at}
+use Rattle.box_tree.proofs.search.search_run.Given as goal
+
+abbrev pub invariant-loop-place : goal.invariant-loop-place
+invariant-loop-place l = (p : ℕ) → l.start ≤ p → p < l.place → Holds l.query (spot_at l.spots l.order p) → ⊥
