@@ -9,6 +9,7 @@ pub mod Shown
 pub mod Steps
 pub mod Beside
 pub mod Searched
+pub mod Begun
 pub mod Netted
 pub mod BoxByBox
 pub mod NetOfPlace

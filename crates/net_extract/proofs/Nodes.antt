@@ -1,5 +1,5 @@
 -- Chains over nodes lead from piece to piece exactly where chains of links do.
-use Rattle.std.proofs.Common.{◌≡◌, ◌≢◌, ℕ, zero, suc, ◌+◌, ◌<◌, List, length, ◌⊎◌, inl, inr, refl, sym, ◌∙◌, ap, subst, arith}
+use Rattle.std.proofs.Common.{◌≡◌, ◌≢◌, ℕ, zero, suc, ◌+◌, ◌-◌, ◌<◌, ◌≤◌, List, length, ◌⊎◌, inl, inr, refl, sym, ◌∙◌, ap, subst, arith}
 use Rattle.std.proofs.lemmas.Bool.{cases_eq}
 use Rattle.lam_geom.specs.declared.boxes.MaskBox.{MaskBox}
 use Rattle.lam_geom.specs.Gaps.{Overlaps}
@@ -142,3 +142,11 @@ chain_nodes tech boxes crossings pieces starts (suc n) a b ordered p (c, s, ch) 
 pub links_nodes : (tech : Tech) (boxes : List MaskBox) (crossings : List Crossing) (pieces : List Placed) (starts : List ℕ) (a b : ℕ) → AreInOrder crossings → ArePieces boxes crossings pieces starts
     → Reaches (IsLink tech boxes crossings) a b → Reaches (AreBeside tech boxes pieces) a b
 links_nodes tech boxes crossings pieces starts a b ordered p r = chain_nodes tech boxes crossings pieces starts r.0 a b ordered p r.1
+
+-- the cut of a node that is no piece
+pub node_cut : (boxes : List MaskBox) (pieces : List Placed) (node count : ℕ) → count ≡ length pieces → count ≤ node → IsNode boxes pieces node → IsJoining boxes pieces (node - count) × (cut_node pieces (node - count) ≡ node)
+node_cut boxes pieces node count e le (inl lt) = absurd (omega arith)
+node_cut boxes pieces node count e le (inr (k, at, joins)) =
+    let same : k ≡ node - count = omega arith in
+    let P : ℕ → Type 0 = IsJoining boxes pieces in
+    (subst P same joins, omega arith)

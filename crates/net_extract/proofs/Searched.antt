@@ -1,5 +1,14 @@
 -- Searches, as one of their groves is looked through.
-use Rattle.std.proofs.Common.{◌≡◌, ◌⊎◌, ℕ, List, length, sym, ◌∙◌, subst}
+use Rattle.std.proofs.Common.{◌≡◌, ◌⊎◌, ℕ, ◌<◌, All, List, length, sym, ◌∙◌, subst}
+use Rattle.std.specs.Prelude.{ℤ}
+use Rattle.box_tree.specs.declared.query.Query.{Query}
+use Rattle.box_tree.specs.declared.query.Question.TheVariants.{NearOfOther}
+use Rattle.box_tree.specs.Queries.{IsQuery}
+use Rattle.lam_geom.specs.declared.boxes.BoxXY.{BoxXY}
+use Rattle.lam_geom.specs.declared.boxes.MaskLayer.{MaskLayer}
+use Rattle.lam_geom.specs.Places.{IsPlacedBox}
+use Rattle.crossings.specs.declared.crossing.Crossing.{Crossing}
+use Rattle.crossings.specs.Boxes.{AreSearchable, area_at, no_box}
 use Rattle.graph_search.specs.Search.{AreKept}
 use Rattle.box_tree.specs.declared.spots.Spot.{Spot}
 use Rattle.lam_geom.specs.declared.boxes.MaskBox.{MaskBox}
@@ -9,7 +18,11 @@ use Rattle.net_extract.specs.declared.groves.Plan.{Plan}
 use Rattle.net_extract.specs.declared.placing.Placed.{Placed}
 use Rattle.net_extract.specs.declared.reaching.Front.{Front}
 use Rattle.net_extract.specs.declared.searches.Search.{Search}
+use Rattle.net_extract.specs.Groves.{spot_of, AreTagsWithin}
+use Rattle.net_extract.specs.Pieces.{box_of, area_of, no_piece, piece_at, IsPiece, IsOfBoxes, ArePieces}
+use Rattle.net_extract.specs.Spots.{MayBeBuried, box_spot, AreBoxSpots}
 use Rattle.net_extract.specs.Spreading.{AreReached, IsFrontReached, IsGroveReached, IsGroveOf, IsSearch, IsStep}
+use Rattle.net_extract.proofs.Geometry.{placed_inner}
 use Rattle.net_extract.proofs.Spread.{reached_as, reached_more, reached_none}
 use Rattle.net_extract.proofs.Walk.{grove_kept}
 
@@ -103,3 +116,28 @@ step_three tech boxes pieces P Q R S net old second third new forth back f g h =
       search = h.search;
       reached = reached_more P QR S net _ _ _ _ _ _ forth back f.reached (reached_more Q R QR net _ _ _ _ _ _ (λ y x. x) (λ y x. x) g.reached h.reached);
     }
+
+-- ---- which spots and queries
+
+pub near_asked : (area : BoxXY) (reach : ℤ) (owner : ℕ) (query : Query) → query ≡ record { area = area; question = NearOfOther reach owner } → IsPlacedBox area → IsQuery query
+near_asked area reach owner query is placed =
+    let P : Query → Type 0 = IsQuery in
+    subst P (sym is) (record { placed = placed; question = tt })
+
+-- the tags of boxes' spots are numbers of pieces
+pub box_tags : (tech : Tech) (boxes : List MaskBox) (pieces : List Placed) (layer : MaskLayer) (spots : List Spot) → AreBoxSpots tech boxes pieces layer spots → AreTagsWithin (length pieces) spots
+box_tags tech boxes pieces layer spots s = λ k lt.
+    let f : (a : ℕ) × (a < length pieces) × MayBeBuried tech boxes pieces layer a × (spot_of spots k ≡ box_spot boxes pieces a) = s.each k lt in
+    let P : Spot → Type 0 = λ x. x.tag < length pieces in
+    subst P (sym f.3) f.1
+
+pub piece_placed : (boxes : List MaskBox) (crossings : List Crossing) (pieces : List Placed) (starts : List ℕ) (a : ℕ) → AreSearchable boxes → ArePieces boxes crossings pieces starts → a < length pieces → IsPlacedBox (area_of pieces a)
+piece_placed boxes crossings pieces starts a s p lt =
+    let piece : IsPiece boxes crossings (piece_at pieces a) = p.each a no_piece lt in
+    placed_inner (area_at boxes (box_of pieces a)) (area_of pieces a) (s.placed (box_of pieces a) no_box piece.of_box) piece.inside
+
+pub all_of_boxes : (boxes : List MaskBox) (crossings : List Crossing) (pieces given : List Placed) (starts : List ℕ) → given ≡ pieces → ArePieces boxes crossings pieces starts → All (IsOfBoxes boxes) given
+all_of_boxes boxes crossings pieces given starts same p =
+    let all : All (IsOfBoxes boxes) pieces = λ k d lt. (p.each k d lt).of_box in
+    let P : List Placed → Type 0 = All (IsOfBoxes boxes) in
+    subst P (sym same) all

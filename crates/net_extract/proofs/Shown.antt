@@ -129,13 +129,16 @@ pub joining_two : (boxes : List MaskBox) (pieces : List Placed) (area : BoxXY) (
     → IsJoining boxes pieces cut
 joining_two boxes pieces area cut owner second at on (x, hx, ex) (y, hy, ey) =
     let P : BoxXY → Type 0 = λ s. Overlaps s (area_of pieces x) in
-    let Q : BoxXY → Type 0 = λ s. Overlaps s (area_of pieces y) in
-    (x, y, record {
-      is_cut = on;
-      apart = record { first = hx.among; second = hy.among; apart = λ e. hy.apart (e ∙ ex) };
-      first = overlaps_back (area_at boxes cut) (area_of pieces x) (subst P at hx.over);
-      second = overlaps_back (area_at boxes cut) (area_of pieces y) (subst Q at hy.over);
-    })
+    let Q : BoxXY → Type 0 = λ s. Overlaps s (area_of pieces y) in (
+      x,
+      y,
+      record {
+        is_cut = on;
+        apart = record { first = hx.among; second = hy.among; apart = λ e. hy.apart (e ∙ ex) };
+        first = overlaps_back (area_at boxes cut) (area_of pieces x) (subst P at hx.over);
+        second = overlaps_back (area_at boxes cut) (area_of pieces y) (subst Q at hy.over);
+      },
+    )
 
 over_other : (boxes : List MaskBox) (pieces : List Placed) (area : BoxXY) (cut box_no x : ℕ) → area ≡ area_at boxes cut → x < length pieces → Overlaps (area_of pieces x) (area_at boxes cut) → box_of pieces x ≢ box_no
     → IsOverOther pieces area box_no x

@@ -7,7 +7,7 @@ ghost use Rattle.crossings.specs.Crossings.{AreInOrder};
 ghost use Rattle.net_extract.specs.Extraction.{AreNets};
 ghost use Rattle.net_extract.specs.Linking.{AreBeside};
 ghost use Rattle.net_extract.specs.Pieces.{ArePiecesOf};
-ghost use Rattle.net_extract.specs.Spots.{ArePieceSpots};
+ghost use Rattle.net_extract.specs.Spots.{ArePieceSpots, AreBoxSpots, AreCutSpots, ArePieceTrees};
 ghost use Rattle.net_extract.specs.Spreading.{IsSearch, IsNewSearch, IsNewFront, AreWhole};
 
 use crate::groves::new_grove;
@@ -89,15 +89,16 @@ fn new_search(
     requires pieces { ArePiecesOf boxes.now pieces.now }
     ensures { IfOk result (IsNewSearch tech.now boxes.now pieces.now.placed.items) }
 {
-    let front = new_front(alloc, pieces.placed.len() + boxes.len())?;
+    let count = pieces.placed.len() + boxes.len();
+    let front = new_front(alloc, count)?;
     let trees = PieceTrees {
         diffusion: tree_on(alloc, boxes, pieces, MaskLayer::ND)?,
         poly: tree_on(alloc, boxes, pieces, MaskLayer::NP)?,
         metal: tree_on(alloc, boxes, pieces, MaskLayer::NM)?,
     };
-    let cuts = BoxTree::new(alloc, cut_spots(alloc, boxes, pieces, &trees)?)?;
-    let under = BoxTree::new(alloc, box_spots(alloc, tech, boxes, pieces, MaskLayer::ND)?)?;
-    let over = BoxTree::new(alloc, box_spots(alloc, tech, boxes, pieces, MaskLayer::NP)?)?;
+    let cuts = cut_tree(alloc, boxes, pieces, &trees)?;
+    let under = box_tree_on(alloc, tech, boxes, pieces, MaskLayer::ND)?;
+    let over = box_tree_on(alloc, tech, boxes, pieces, MaskLayer::NP)?;
     let PieceTrees {
         diffusion,
         poly,
@@ -125,7 +126,43 @@ fn tree_on(
     requires pieces { ArePiecesOf boxes.now pieces.now }
     ensures { IfOk result (ArePieceSpots boxes.now pieces.now.placed.items layer) }
 {
-    BoxTree::new(alloc, piece_spots(alloc, boxes, pieces, layer)?)
+    let spots = piece_spots(alloc, boxes, pieces, layer)?;
+    let tree = BoxTree::new(alloc, spots)?;
+    Ok(tree)
+}
+
+// A tree of the pieces on a layer by the areas of their boxes.
+fn box_tree_on(
+    alloc: Global,
+    tech: &Tech,
+    boxes: &[MaskBox],
+    pieces: &Pieces,
+    layer: MaskLayer,
+) -> Result<BoxTree, AllocError>
+    requires searchable { AreSearchable boxes.now }
+    requires pieces { ArePiecesOf boxes.now pieces.now }
+    ensures { IfOk result (AreBoxSpots tech.now boxes.now pieces.now.placed.items layer) }
+{
+    let spots = box_spots(alloc, tech, boxes, pieces, layer)?;
+    let tree = BoxTree::new(alloc, spots)?;
+    Ok(tree)
+}
+
+// A tree of the cuts that join.
+fn cut_tree(
+    alloc: Global,
+    boxes: &[MaskBox],
+    pieces: &Pieces,
+    trees: &PieceTrees,
+) -> Result<BoxTree, AllocError>
+    requires searchable { AreSearchable boxes.now }
+    requires pieces { ArePiecesOf boxes.now pieces.now }
+    requires trees { ArePieceTrees boxes.now pieces.now.placed.items trees.now }
+    ensures { IfOk result (AreCutSpots boxes.now pieces.now.placed.items) }
+{
+    let spots = cut_spots(alloc, boxes, pieces, trees)?;
+    let tree = BoxTree::new(alloc, spots)?;
+    Ok(tree)
 }
 
 // Marks for so many nodes, none of which has been reached.

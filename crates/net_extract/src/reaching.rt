@@ -40,8 +40,19 @@ pub fn reach(
     ensures { OnOk result (IsGroveReached (IsOf grove.old.plan.spots.items (Holds query.now)) net grove.old grove.new front.old front.new) }
 {
     let marks = front.marks.as_slice();
-    unreached(&grove.plan, &mut grove.spent, marks, query, &mut front.found)?;
-    visit(front.found.as_slice(), net, &mut front.marks, &mut front.queue)?;
+    unreached(
+        &grove.plan,
+        &mut grove.spent,
+        marks,
+        query,
+        &mut front.found,
+    )?;
+    visit(
+        front.found.as_slice(),
+        net,
+        &mut front.marks,
+        &mut front.queue,
+    )?;
     Ok(())
 }
 
@@ -67,7 +78,13 @@ pub fn reach_buried(
     ensures { OnOk result (IsGroveReached (IsBuriedOf tech.now boxes.now placed.now box_no grove.old.plan.spots.items query.now) net grove.old grove.new front.old front.new) }
 {
     let marks = front.marks.as_slice();
-    unreached(&grove.plan, &mut grove.spent, marks, query, &mut front.found)?;
+    unreached(
+        &grove.plan,
+        &mut grove.spent,
+        marks,
+        query,
+        &mut front.found,
+    )?;
     front.kept.clear();
     keep_buried(
         tech,
@@ -79,7 +96,12 @@ pub fn reach_buried(
         &mut front.windows,
         &mut front.kept,
     )?;
-    visit(front.kept.as_slice(), net, &mut front.marks, &mut front.queue)?;
+    visit(
+        front.kept.as_slice(),
+        net,
+        &mut front.marks,
+        &mut front.queue,
+    )?;
     Ok(())
 }
 

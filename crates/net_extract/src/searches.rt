@@ -217,10 +217,26 @@ fn reach_partners(
     let front = &mut search.front;
     match own.layer {
         MaskLayer::NP => reach_buried(
-            tech, boxes, index, placed, box_no, &mut search.under, &over, net, front,
+            tech,
+            boxes,
+            index,
+            placed,
+            box_no,
+            &mut search.under,
+            &over,
+            net,
+            front,
         ),
         MaskLayer::ND => reach_buried(
-            tech, boxes, index, placed, box_no, &mut search.over, &over, net, front,
+            tech,
+            boxes,
+            index,
+            placed,
+            box_no,
+            &mut search.over,
+            &over,
+            net,
+            front,
         ),
         MaskLayer::NM | MaskLayer::NC | MaskLayer::NI | MaskLayer::NB => Ok(()),
     }

@@ -32,8 +32,10 @@ loop-place-preserved c =
           one_within plan query marks first p spot c.args.found.now.items c.loop-place.found.items c.if-is_none.found.items le is
           (elim c.if-is_none.branch [
             | then-is_none+then-holds+in_ok-push w ↦
-                inl ((w.holds.ensures.0 w.if-holds.true, none_told (mark_of marks spot.tag) c.is_none.result c.is_none.ensures w.if-is_none.true),
-                ap (λ (x : Vec ℕ Global). x.items) w.found-is ∙ w.in_ok-push.ensures.items)
+                inl (
+                  (w.holds.ensures.0 w.if-holds.true, none_told (mark_of marks spot.tag) c.is_none.result c.is_none.ensures w.if-is_none.true),
+                  ap (λ (x : Vec ℕ Global). x.items) w.found-is ∙ w.in_ok-push.ensures.items,
+                )
             | then-is_none+else-holds w ↦ inr (λ h. iff_false w.holds.ensures w.if-holds.false h.0, ap (λ (x : Vec ℕ Global). x.items) w.found-is)
             | else-is_none w ↦
                 (let m : IsMarked marks spot.tag = some_told (mark_of marks spot.tag) c.is_none.result c.is_none.ensures w.if-is_none.false in
