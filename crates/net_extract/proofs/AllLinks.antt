@@ -3,20 +3,18 @@ use Rattle.std.proofs.Common.{◌≡◌, ◌≢◌, ℕ, ◌<◌, List, Some, le
 use Rattle.std.specs.Prelude.{slice_get, option_map}
 use Rattle.std.proofs.lemmas.List.{length-map}
 use Rattle.std.proofs.lemmas.Option.{slice_get-map, slice_get-get_or, slice_get_within, same_Some}
-use Rattle.smallvec.specs.SmallVec.{SmallVec}
 use Rattle.lam_geom.specs.declared.boxes.BoxXY.{BoxXY}
 use Rattle.lam_geom.specs.declared.boxes.MaskBox.{MaskBox}
-use Rattle.lam_geom.specs.declared.boxes.MaskLayer.TheVariants.{ND, NP}
 use Rattle.lam_geom.specs.Gaps.{Touches, Overlaps}
 use Rattle.rule_table.specs.declared.technology.Tech.{Tech}
 use Rattle.crossings.specs.declared.crossing.Crossing.{Crossing}
 use Rattle.crossings.specs.Boxes.{area_at, layer_at}
-use Rattle.crossings.specs.Crossings.{IsBuriedPair, AreInOrder}
+use Rattle.crossings.specs.Crossings.{AreInOrder}
 use Rattle.net_extract.specs.declared.placing.Placed.{Placed}
 use Rattle.net_extract.specs.Places.{Place, places_of}
 use Rattle.net_extract.specs.Extraction.{AreLinked, by_touch, by_cut, by_contact, by_contact_back, IsLink}
 use Rattle.net_extract.specs.Pieces.{no_piece, piece_at, box_of, area_of, stand_of, IsPiece, ArePieces}
-use Rattle.net_extract.specs.Linking.{AreAdded, AreEmpty, IsTouch, IsOverBoth, IsCutLink, ArePairOf, IsContact, AreLinks}
+use Rattle.net_extract.specs.Linking.{IsTouch, IsOverBoth, IsContact}
 use Rattle.net_extract.proofs.Areas.{area_same}
 
 -- where a piece stands
@@ -42,47 +40,32 @@ link_from tech boxes crossings pieces starts a b p la lb linked = record {
 
 -- ---- from the kinds
 
-touch_is_link : (tech : Tech) (boxes : List MaskBox) (crossings : List Crossing) (pieces : List Placed) (starts : List ℕ) (a b : ℕ) → ArePieces boxes crossings pieces starts → IsTouch boxes pieces a b → IsLink tech boxes crossings a b
+pub touch_is_link : (tech : Tech) (boxes : List MaskBox) (crossings : List Crossing) (pieces : List Placed) (starts : List ℕ) (a b : ℕ) → ArePieces boxes crossings pieces starts → IsTouch boxes pieces a b → IsLink tech boxes crossings a b
 touch_is_link tech boxes crossings pieces starts a b p h =
     let pa : IsPiece boxes crossings (piece_at pieces a) = p.each a no_piece h.apart.first in
     let pb : IsPiece boxes crossings (piece_at pieces b) = p.each b no_piece h.apart.second in
     link_from tech boxes crossings pieces starts a b p h.apart.first h.apart.second
     (by_touch (area_of pieces a) (area_of pieces b) (λ e. h.apart.apart (sym e)) h.one_layer pa.area pb.area h.touch)
 
-cut_is_link : (tech : Tech) (boxes : List MaskBox) (crossings : List Crossing) (pieces : List Placed) (starts : List ℕ) (k a b : ℕ) → ArePieces boxes crossings pieces starts → IsOverBoth boxes pieces k a b → IsLink tech boxes crossings a b
+pub cut_is_link : (tech : Tech) (boxes : List MaskBox) (crossings : List Crossing) (pieces : List Placed) (starts : List ℕ) (k a b : ℕ) → ArePieces boxes crossings pieces starts → IsOverBoth boxes pieces k a b → IsLink tech boxes crossings a b
 cut_is_link tech boxes crossings pieces starts k a b p h =
     let pa : IsPiece boxes crossings (piece_at pieces a) = p.each a no_piece h.apart.first in
     let pb : IsPiece boxes crossings (piece_at pieces b) = p.each b no_piece h.apart.second in
     link_from tech boxes crossings pieces starts a b p h.apart.first h.apart.second
     (by_cut (area_of pieces a) (area_of pieces b) k (λ e. h.apart.apart (sym e)) h.is_cut pa.area pb.area h.first h.second)
 
-contact_is_link : (tech : Tech) (boxes : List MaskBox) (crossings : List Crossing) (pieces : List Placed) (starts : List ℕ) (k l a b : ℕ) → ArePieces boxes crossings pieces starts → IsBuriedPair tech boxes k l
-    → ArePairOf pieces k l a b → IsLink tech boxes crossings a b
-contact_is_link tech boxes crossings pieces starts k l a b p buried h =
-    let P : ℕ → Type 0 = λ x. IsBuriedPair tech boxes x l in
-    elim h.ends [
-      | inl ends ↦
-          (let Q : ℕ → Type 0 = λ y. IsBuriedPair tech boxes (box_of pieces a) y in
-          link_from tech boxes crossings pieces starts a b p h.apart.first h.apart.second (by_contact (subst Q (sym ends.1) (subst P (sym ends.0) buried))))
-      | inr ends ↦
-          (let Q : ℕ → Type 0 = λ y. IsBuriedPair tech boxes (box_of pieces b) y in
-          link_from tech boxes crossings pieces starts a b p h.apart.first h.apart.second (by_contact_back (subst Q (sym ends.0) (subst P (sym ends.1) buried))))
-    ]
+pub contact_is_link : (tech : Tech) (boxes : List MaskBox) (crossings : List Crossing) (pieces : List Placed) (starts : List ℕ) (a b : ℕ) → ArePieces boxes crossings pieces starts → IsContact tech boxes pieces a b
+    → IsLink tech boxes crossings a b
+contact_is_link tech boxes crossings pieces starts a b p h = elim h.pair [
+  | inl buried ↦ link_from tech boxes crossings pieces starts a b p h.first h.second (by_contact buried)
+  | inr buried ↦ link_from tech boxes crossings pieces starts a b p h.first h.second (by_contact_back buried)
+]
 
 -- ---- to the kinds
 
 -- a link is of one of the kinds
-abbrev IsOfKind : Tech → List MaskBox → List Placed → ℕ → ℕ → Type 0
-IsOfKind tech boxes pieces a b = IsTouch boxes pieces a b ⊎ (IsCutLink boxes pieces (length boxes) a b ⊎ IsContact tech boxes pieces (length boxes) a b)
-
--- the boxes of a buried pair differ
-buried_apart : (tech : Tech) (boxes : List MaskBox) (k l : ℕ) → IsBuriedPair tech boxes k l → k ≢ l
-buried_apart tech boxes k l h e =
-    let poly : layer_at boxes k ≡ NP = h.overlap.poly.on in
-    let diffusion : layer_at boxes l ≡ ND = h.overlap.diffusion.on in
-    let same : layer_at boxes k ≡ layer_at boxes l = ap (layer_at boxes) e in
-    let clash : NP ≡ ND = sym poly ∙ same ∙ diffusion in
-    cc
+abbrev pub IsOfKind : Tech → List MaskBox → List Placed → ℕ → ℕ → Type 0
+IsOfKind tech boxes pieces a b = IsTouch boxes pieces a b ⊎ (((k : ℕ) × IsOverBoth boxes pieces k a b) ⊎ IsContact tech boxes pieces a b)
 
 linked_kind : (tech : Tech) (boxes : List MaskBox) (crossings : List Crossing) (pieces : List Placed) (starts : List ℕ) (a b : ℕ) → AreInOrder crossings → ArePieces boxes crossings pieces starts
     → a < length pieces → b < length pieces → AreLinked tech boxes crossings (stand_of (piece_at pieces a)) (stand_of (piece_at pieces b)) → IsOfKind tech boxes pieces a b
@@ -100,15 +83,11 @@ linked_kind tech boxes crossings pieces starts a b ordered p la lb (by_cut s t c
     let ea : s ≡ area_of pieces a = area_same boxes crossings (stand_of (piece_at pieces a)) s (area_of pieces a) ordered at_a pa.area in
     let eb : t ≡ area_of pieces b = area_same boxes crossings (stand_of (piece_at pieces b)) t (area_of pieces b) ordered at_b pb.area in
     let P : BoxXY → Type 0 = λ x. Overlaps x (area_at boxes cut) in
-    inr (inl (cut, on.among, record { is_cut = on; apart = record { first = la; second = lb; apart = λ e. ne (sym e) }; first = subst P ea over_a; second = subst P eb over_b }))
-linked_kind tech boxes crossings pieces starts a b ordered p la lb (by_contact buried) =
-    let ne = buried_apart tech boxes (box_of pieces a) (box_of pieces b) buried in
-    inr (inr (box_of pieces a, buried.overlap.poly.among, (box_of pieces b, buried, record { apart = record { first = la; second = lb; apart = λ e. ne (sym e) }; ends = inl (refl, refl) })))
-linked_kind tech boxes crossings pieces starts a b ordered p la lb (by_contact_back buried) =
-    let ne = buried_apart tech boxes (box_of pieces b) (box_of pieces a) buried in
-    inr (inr (box_of pieces b, buried.overlap.poly.among, (box_of pieces a, buried, record { apart = record { first = la; second = lb; apart = ne }; ends = inr (refl, refl) })))
+    inr (inl (cut, record { is_cut = on; apart = record { first = la; second = lb; apart = λ e. ne (sym e) }; first = subst P ea over_a; second = subst P eb over_b }))
+linked_kind tech boxes crossings pieces starts a b ordered p la lb (by_contact buried) = inr (inr (record { first = la; second = lb; pair = inl buried }))
+linked_kind tech boxes crossings pieces starts a b ordered p la lb (by_contact_back buried) = inr (inr (record { first = la; second = lb; pair = inr buried }))
 
-link_kind : (tech : Tech) (boxes : List MaskBox) (crossings : List Crossing) (pieces : List Placed) (starts : List ℕ) (a b : ℕ) → AreInOrder crossings → ArePieces boxes crossings pieces starts
+pub link_kind : (tech : Tech) (boxes : List MaskBox) (crossings : List Crossing) (pieces : List Placed) (starts : List ℕ) (a b : ℕ) → AreInOrder crossings → ArePieces boxes crossings pieces starts
     → IsLink tech boxes crossings a b → IsOfKind tech boxes pieces a b
 link_kind tech boxes crossings pieces starts a b ordered p h =
     let n = pieces_counted boxes crossings pieces p.places in
@@ -121,26 +100,3 @@ link_kind tech boxes crossings pieces starts a b ordered p h =
     let P : Place → Type 0 = λ x. AreLinked tech boxes crossings x h.q in
     let Q : Place → Type 0 = λ y. AreLinked tech boxes crossings (stand_of (piece_at pieces a)) y in
     linked_kind tech boxes crossings pieces starts a b ordered p la lb (subst Q eq (subst P ep h.linked))
-
--- lists to which the links of all kinds have been added say exactly the links
-pub all_links : (tech : Tech) (boxes : List MaskBox) (crossings : List Crossing) (pieces : List Placed) (starts : List ℕ) (empty first second third : List (SmallVec ℕ)) → AreInOrder crossings
-    → ArePieces boxes crossings pieces starts → AreEmpty (length pieces) empty → AreAdded (IsTouch boxes pieces) empty first → AreAdded (IsCutLink boxes pieces (length boxes)) first second
-    → AreAdded (IsContact tech boxes pieces (length boxes)) second third → AreLinks tech boxes crossings third
-all_links tech boxes crossings pieces starts empty first second third ordered p none touches cuts contacts = record {
-  counted = contacts.counted ∙ cuts.counted ∙ touches.counted ∙ none.counted ∙ sym (pieces_counted boxes crossings pieces p.places);
-  sound = λ a b c. elim ((contacts.each a).sound b c) [
-    | inl c ↦ elim ((cuts.each a).sound b c) [
-      | inl c ↦ elim ((touches.each a).sound b c) [
-        | inl c ↦ absurd (none.empty a b c)
-        | inr h ↦ touch_is_link tech boxes crossings pieces starts a b p h
-      ]
-      | inr (k, _, h) ↦ cut_is_link tech boxes crossings pieces starts k a b p h
-    ]
-    | inr (k, _, (l, buried, h)) ↦ contact_is_link tech boxes crossings pieces starts k l a b p buried h
-  ];
-  complete = λ a b h. elim (link_kind tech boxes crossings pieces starts a b ordered p h) [
-    | inl h ↦ (contacts.each a).kept b ((cuts.each a).kept b ((touches.each a).complete b h))
-    | inr (inl h) ↦ (contacts.each a).kept b ((cuts.each a).complete b h)
-    | inr (inr h) ↦ (contacts.each a).complete b h
-  ];
-}

@@ -1,12 +1,8 @@
--- Lists that grow by exactly the numbers with a property, and lists of neighbours that grow by exactly some links.
-use Rattle.std.proofs.Common.{◌≡◌, ℕ, ◌+◌, ◌<◌, List, [], ◌∷◌, ◌++◌, length, take, get_or, set, Contains, ◌⊎◌, inl, inr, refl, sym, ◌∙◌, ap, subst, arith, length-set}
-use Rattle.std.proofs.lemmas.List.{take_more, get_or_append_left, get_or_push, length_push, get_or-set_same, get_or-set_other}
+-- Lists that grow by exactly the numbers with a property.
+use Rattle.std.proofs.Common.{◌≡◌, ℕ, ◌+◌, ◌<◌, List, [], ◌∷◌, ◌++◌, length, take, get_or, Contains, ◌⊎◌, inl, inr, sym, subst, arith}
+use Rattle.std.proofs.lemmas.List.{take_more}
 use Rattle.std.proofs.lemmas.List.Elements.{Contains-append_left, Contains-push, Contains-push_cases}
-use Rattle.std.proofs.lemmas.Bool.{cases_eq}
-use Rattle.smallvec.specs.SmallVec.{SmallVec}
-use Rattle.graph_search.specs.Search.{no_neighbours, neighbours_of}
-use Rattle.graph_search.proofs.Neighbours.{none_in_empty, beside_within}
-use Rattle.net_extract.specs.Linking.{AreGathered, AreAdded, AreEmpty}
+use Rattle.net_extract.specs.Linking.{AreGathered}
 
 -- ---- one list
 
@@ -71,59 +67,3 @@ pub taken_cases : (xs : List ℕ) (i x : ℕ) → i < length xs → Contains (ta
 taken_cases xs i x lt c =
     let P : List ℕ → Type 0 = λ ys. Contains ys x in
     elim (Contains-push_cases (take i xs) (get_or xs i 0) x (subst P (take_more xs i 0 lt) c)) [ inl o ↦ inl o | inr e ↦ inr (sym e) ]
-
--- ---- lists of neighbours
-
-pub added_none : (Link : ℕ → ℕ → Type 0) (lists : List (SmallVec ℕ)) → ((a b : ℕ) → Link a b → ⊥) → AreAdded Link lists lists
-added_none Link lists none = record { counted = refl; each = λ a. gathered_none (Link a) (neighbours_of lists a) (none a) }
-
-pub added_as : (P Q : ℕ → ℕ → Type 0) (old new : List (SmallVec ℕ)) → ((a b : ℕ) → P a b → Q a b) → ((a b : ℕ) → Q a b → P a b) → AreAdded P old new → AreAdded Q old new
-added_as P Q old new forth back g = record {
-  counted = g.counted;
-  each = λ a. gathered_as (P a) (Q a) (neighbours_of old a) (neighbours_of new a) (forth a) (back a) (g.each a);
-}
-
-pub added_more : (P Q R : ℕ → ℕ → Type 0) (old middle new : List (SmallVec ℕ)) → ((a b : ℕ) → P a b ⊎ Q a b → R a b) → ((a b : ℕ) → R a b → P a b ⊎ Q a b)
-    → AreAdded P old middle → AreAdded Q middle new → AreAdded R old new
-added_more P Q R old middle new forth back f g = record {
-  counted = g.counted ∙ f.counted;
-  each = λ a. gathered_more (P a) (Q a) (R a) (neighbours_of old a) (neighbours_of middle a) (neighbours_of new a) (forth a) (back a) (f.each a) (g.each a);
-}
-
--- one list has grown
-pub added_set : (Is : ℕ → Type 0) (lists : List (SmallVec ℕ)) (a : ℕ) (list : SmallVec ℕ) → a < length lists → AreGathered Is (neighbours_of lists a) list.items
-    → AreAdded (λ x y. (x ≡ a) × Is y) lists (set lists a list)
-added_set Is lists a list lt g =
-    let new : List (SmallVec ℕ) = set lists a list in
-    record {
-      counted = length-set lists a list;
-      each = λ x. elim (cases_eq x a) [
-        | inl e ↦
-            (let here : neighbours_of new a ≡ list.items = ap (λ (v : SmallVec ℕ). v.items) (get_or-set_same lists a list no_neighbours lt) in
-            let P : List ℕ → Type 0 = λ ys. AreGathered Is (neighbours_of lists a) ys in
-            let Q : ℕ → Type 0 = λ z. AreGathered (λ y. (z ≡ a) × Is y) (neighbours_of lists z) (neighbours_of new z) in
-            let at : AreGathered Is (neighbours_of lists a) (neighbours_of new a) = subst P (sym here) g in
-            subst Q (sym e) (gathered_as Is (λ y. (a ≡ a) × Is y) (neighbours_of lists a) (neighbours_of new a) (λ y h. (refl, h)) (λ y h. h.1) at))
-        | inr ne ↦
-            (let same : neighbours_of new x ≡ neighbours_of lists x = ap (λ (v : SmallVec ℕ). v.items) (get_or-set_other lists a x list no_neighbours ne) in
-            let P : List ℕ → Type 0 = λ ys. AreGathered (λ y. (x ≡ a) × Is y) (neighbours_of lists x) ys in
-            subst P (sym same) (gathered_none (λ y. (x ≡ a) × Is y) (neighbours_of lists x) (λ y h. ne h.0)))
-      ];
-    }
-
--- ---- lists with nothing in them
-
-pub empty_none : AreEmpty 0 []
-empty_none = record { counted = refl; empty = λ a b c. (let lt = beside_within [] a b c in omega arith) }
-
-pub empty_more : (count : ℕ) (lists : List (SmallVec ℕ)) (list : SmallVec ℕ) → list.items ≡ [] → AreEmpty count lists → AreEmpty (count + 1) (lists ++ list ∷ [])
-empty_more count lists list e h =
-    let l = length_push lists list in
-    let n = h.counted in
-    record {
-      counted = omega arith;
-      empty = λ a b c. elim (below_cases a (length lists) (let lt = beside_within (lists ++ list ∷ []) a b c in omega arith)) [
-        | inl lt ↦ (let P : SmallVec ℕ → Type 0 = λ v. Contains v.items b in h.empty a b (subst P (get_or_append_left lists (list ∷ []) no_neighbours a lt) c))
-        | inr at ↦ none_in_empty b (neighbours_of (lists ++ list ∷ []) a) (ap (λ (v : SmallVec ℕ). v.items) (get_or_push lists list no_neighbours a (sym at)) ∙ e) c
-      ];
-    }

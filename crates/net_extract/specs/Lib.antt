@@ -3,6 +3,9 @@ pub mod Netlists
 pub mod Extraction
 pub mod Pieces
 pub mod Linking
+pub mod Groves
+pub mod Spots
+pub mod Spreading
 pub mod Placing
 pub mod Devices
 pub mod Faults

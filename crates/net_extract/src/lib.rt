@@ -7,13 +7,14 @@
 
 mod devices;
 mod extraction;
-mod gathering;
+mod groves;
 mod laws;
-mod linking;
-mod neighbours;
 mod netlist;
 mod nets;
 mod placing;
+mod reaching;
+mod searches;
+mod spots;
 
 pub use devices::devices_of;
 pub use extraction::extract;

@@ -1,0 +1,143 @@
+-- Searches, as one of their groves is looked through.
+use Rattle.std.proofs.Common.{◌≡◌, ◌⊎◌, ℕ, ◌<◌, All, List, length, sym, ◌∙◌, subst}
+use Rattle.std.specs.Prelude.{ℤ}
+use Rattle.box_tree.specs.declared.query.Query.{Query}
+use Rattle.box_tree.specs.declared.query.Question.TheVariants.{NearOfOther}
+use Rattle.box_tree.specs.Queries.{IsQuery}
+use Rattle.lam_geom.specs.declared.boxes.BoxXY.{BoxXY}
+use Rattle.lam_geom.specs.declared.boxes.MaskLayer.{MaskLayer}
+use Rattle.lam_geom.specs.Places.{IsPlacedBox}
+use Rattle.crossings.specs.declared.crossing.Crossing.{Crossing}
+use Rattle.crossings.specs.Boxes.{AreSearchable, area_at, no_box}
+use Rattle.graph_search.specs.Search.{AreKept}
+use Rattle.box_tree.specs.declared.spots.Spot.{Spot}
+use Rattle.lam_geom.specs.declared.boxes.MaskBox.{MaskBox}
+use Rattle.rule_table.specs.declared.technology.Tech.{Tech}
+use Rattle.net_extract.specs.declared.groves.Grove.{Grove}
+use Rattle.net_extract.specs.declared.groves.Plan.{Plan}
+use Rattle.net_extract.specs.declared.placing.Placed.{Placed}
+use Rattle.net_extract.specs.declared.reaching.Front.{Front}
+use Rattle.net_extract.specs.declared.searches.Search.{Search}
+use Rattle.net_extract.specs.Groves.{spot_of, AreTagsWithin}
+use Rattle.net_extract.specs.Pieces.{box_of, area_of, no_piece, piece_at, IsPiece, IsOfBoxes, ArePieces}
+use Rattle.net_extract.specs.Spots.{MayBeBuried, box_spot, AreBoxSpots}
+use Rattle.net_extract.specs.Spreading.{AreReached, IsFrontReached, IsGroveReached, IsGroveOf, IsSearch, IsStep}
+use Rattle.net_extract.proofs.Geometry.{placed_inner}
+use Rattle.net_extract.proofs.Spread.{reached_as, reached_more, reached_none}
+use Rattle.net_extract.proofs.Walk.{grove_kept}
+
+-- the grove that was looked through
+grown : (Are : List Spot → Type 0) (Is : ℕ → Type 0) (net : ℕ) (grove new : Grove) (old front : Front) → IsGroveReached Is net grove new old front → IsGroveOf Are old grove → IsGroveOf Are front new
+grown Are Is net grove new old front r g =
+    let P : Plan → Type 0 = λ p. Are p.spots.items in
+    record { stands = r.stands; shows = subst P (sym r.plan) g.shows }
+
+-- the others
+pub others : (Are : List Spot → Type 0) (grove : Grove) (old front : Front) → length front.marks.items ≡ length old.marks.items → AreKept old.marks.items front.marks.items → IsGroveOf Are old grove → IsGroveOf Are front grove
+others Are grove old front counted kept g = record { stands = grove_kept old.marks.items front.marks.items grove counted kept g.stands; shows = g.shows }
+
+-- all of them, with more marks
+pub search_kept : (tech : Tech) (boxes : List MaskBox) (pieces : List Placed) (search : Search) (front : Front) → length front.marks.items ≡ length search.front.marks.items → AreKept search.front.marks.items front.marks.items
+    → IsSearch tech boxes pieces search → IsSearch tech boxes pieces (record search { front = front })
+search_kept tech boxes pieces search front counted kept s = record {
+  counted = counted ∙ s.counted;
+  diffusion = others _ search.diffusion search.front front counted kept s.diffusion;
+  poly = others _ search.poly search.front front counted kept s.poly;
+  metal = others _ search.metal search.front front counted kept s.metal;
+  cuts = others _ search.cuts search.front front counted kept s.cuts;
+  under = others _ search.under search.front front counted kept s.under;
+  over = others _ search.over search.front front counted kept s.over;
+}
+
+pub step_diffusion : (tech : Tech) (boxes : List MaskBox) (pieces : List Placed) (Is As : ℕ → Type 0) (net : ℕ) (search : Search) (new : Grove) (front : Front) → ((y : ℕ) → Is y → As y) → ((y : ℕ) → As y → Is y)
+    → IsSearch tech boxes pieces search → IsGroveReached Is net search.diffusion new search.front front → IsStep tech boxes pieces As net search (record search { diffusion = new; front = front })
+step_diffusion tech boxes pieces Is As net search new front forth back s r =
+    let k : IsSearch tech boxes pieces (record search { front = front }) = search_kept tech boxes pieces search front r.reached.counted r.reached.kept s in
+    record {
+      search = record { counted = k.counted; diffusion = grown _ Is net search.diffusion new search.front front r s.diffusion; poly = k.poly; metal = k.metal; cuts = k.cuts; under = k.under; over = k.over };
+      reached = reached_as Is As net _ _ _ _ forth back r.reached;
+    }
+
+pub step_poly : (tech : Tech) (boxes : List MaskBox) (pieces : List Placed) (Is As : ℕ → Type 0) (net : ℕ) (search : Search) (new : Grove) (front : Front) → ((y : ℕ) → Is y → As y) → ((y : ℕ) → As y → Is y)
+    → IsSearch tech boxes pieces search → IsGroveReached Is net search.poly new search.front front → IsStep tech boxes pieces As net search (record search { poly = new; front = front })
+step_poly tech boxes pieces Is As net search new front forth back s r =
+    let k : IsSearch tech boxes pieces (record search { front = front }) = search_kept tech boxes pieces search front r.reached.counted r.reached.kept s in
+    record {
+      search = record { counted = k.counted; diffusion = k.diffusion; poly = grown _ Is net search.poly new search.front front r s.poly; metal = k.metal; cuts = k.cuts; under = k.under; over = k.over };
+      reached = reached_as Is As net _ _ _ _ forth back r.reached;
+    }
+
+pub step_metal : (tech : Tech) (boxes : List MaskBox) (pieces : List Placed) (Is As : ℕ → Type 0) (net : ℕ) (search : Search) (new : Grove) (front : Front) → ((y : ℕ) → Is y → As y) → ((y : ℕ) → As y → Is y)
+    → IsSearch tech boxes pieces search → IsGroveReached Is net search.metal new search.front front → IsStep tech boxes pieces As net search (record search { metal = new; front = front })
+step_metal tech boxes pieces Is As net search new front forth back s r =
+    let k : IsSearch tech boxes pieces (record search { front = front }) = search_kept tech boxes pieces search front r.reached.counted r.reached.kept s in
+    record {
+      search = record { counted = k.counted; diffusion = k.diffusion; poly = k.poly; metal = grown _ Is net search.metal new search.front front r s.metal; cuts = k.cuts; under = k.under; over = k.over };
+      reached = reached_as Is As net _ _ _ _ forth back r.reached;
+    }
+
+pub step_cuts : (tech : Tech) (boxes : List MaskBox) (pieces : List Placed) (Is As : ℕ → Type 0) (net : ℕ) (search : Search) (new : Grove) (front : Front) → ((y : ℕ) → Is y → As y) → ((y : ℕ) → As y → Is y)
+    → IsSearch tech boxes pieces search → IsGroveReached Is net search.cuts new search.front front → IsStep tech boxes pieces As net search (record search { cuts = new; front = front })
+step_cuts tech boxes pieces Is As net search new front forth back s r =
+    let k : IsSearch tech boxes pieces (record search { front = front }) = search_kept tech boxes pieces search front r.reached.counted r.reached.kept s in
+    record {
+      search = record { counted = k.counted; diffusion = k.diffusion; poly = k.poly; metal = k.metal; cuts = grown _ Is net search.cuts new search.front front r s.cuts; under = k.under; over = k.over };
+      reached = reached_as Is As net _ _ _ _ forth back r.reached;
+    }
+
+pub step_under : (tech : Tech) (boxes : List MaskBox) (pieces : List Placed) (Is As : ℕ → Type 0) (net : ℕ) (search : Search) (new : Grove) (front : Front) → ((y : ℕ) → Is y → As y) → ((y : ℕ) → As y → Is y)
+    → IsSearch tech boxes pieces search → IsGroveReached Is net search.under new search.front front → IsStep tech boxes pieces As net search (record search { under = new; front = front })
+step_under tech boxes pieces Is As net search new front forth back s r =
+    let k : IsSearch tech boxes pieces (record search { front = front }) = search_kept tech boxes pieces search front r.reached.counted r.reached.kept s in
+    record {
+      search = record { counted = k.counted; diffusion = k.diffusion; poly = k.poly; metal = k.metal; cuts = k.cuts; under = grown _ Is net search.under new search.front front r s.under; over = k.over };
+      reached = reached_as Is As net _ _ _ _ forth back r.reached;
+    }
+
+pub step_over : (tech : Tech) (boxes : List MaskBox) (pieces : List Placed) (Is As : ℕ → Type 0) (net : ℕ) (search : Search) (new : Grove) (front : Front) → ((y : ℕ) → Is y → As y) → ((y : ℕ) → As y → Is y)
+    → IsSearch tech boxes pieces search → IsGroveReached Is net search.over new search.front front → IsStep tech boxes pieces As net search (record search { over = new; front = front })
+step_over tech boxes pieces Is As net search new front forth back s r =
+    let k : IsSearch tech boxes pieces (record search { front = front }) = search_kept tech boxes pieces search front r.reached.counted r.reached.kept s in
+    record {
+      search = record { counted = k.counted; diffusion = k.diffusion; poly = k.poly; metal = k.metal; cuts = k.cuts; under = k.under; over = grown _ Is net search.over new search.front front r s.over };
+      reached = reached_as Is As net _ _ _ _ forth back r.reached;
+    }
+
+-- nothing is there to be reached
+pub step_none : (tech : Tech) (boxes : List MaskBox) (pieces : List Placed) (Is : ℕ → Type 0) (net : ℕ) (search : Search) → ((y : ℕ) → Is y → ⊥) → IsSearch tech boxes pieces search → IsStep tech boxes pieces Is net search search
+step_none tech boxes pieces Is net search none s = record { search = s; reached = reached_none Is net search.front.marks.items search.front.queue.items none }
+
+-- three steps, one after another
+pub step_three : (tech : Tech) (boxes : List MaskBox) (pieces : List Placed) (P Q R S : ℕ → Type 0) (net : ℕ) (old second third new : Search) → ((y : ℕ) → P y ⊎ (Q y ⊎ R y) → S y) → ((y : ℕ) → S y → P y ⊎ (Q y ⊎ R y))
+    → IsStep tech boxes pieces P net old second → IsStep tech boxes pieces Q net second third → IsStep tech boxes pieces R net third new → IsStep tech boxes pieces S net old new
+step_three tech boxes pieces P Q R S net old second third new forth back f g h =
+    let QR : ℕ → Type 0 = λ y. Q y ⊎ R y in
+    record {
+      search = h.search;
+      reached = reached_more P QR S net _ _ _ _ _ _ forth back f.reached (reached_more Q R QR net _ _ _ _ _ _ (λ y x. x) (λ y x. x) g.reached h.reached);
+    }
+
+-- ---- which spots and queries
+
+pub near_asked : (area : BoxXY) (reach : ℤ) (owner : ℕ) (query : Query) → query ≡ record { area = area; question = NearOfOther reach owner } → IsPlacedBox area → IsQuery query
+near_asked area reach owner query is placed =
+    let P : Query → Type 0 = IsQuery in
+    subst P (sym is) (record { placed = placed; question = tt })
+
+-- the tags of boxes' spots are numbers of pieces
+pub box_tags : (tech : Tech) (boxes : List MaskBox) (pieces : List Placed) (layer : MaskLayer) (spots : List Spot) → AreBoxSpots tech boxes pieces layer spots → AreTagsWithin (length pieces) spots
+box_tags tech boxes pieces layer spots s = λ k lt.
+    let f : (a : ℕ) × (a < length pieces) × MayBeBuried tech boxes pieces layer a × (spot_of spots k ≡ box_spot boxes pieces a) = s.each k lt in
+    let P : Spot → Type 0 = λ x. x.tag < length pieces in
+    subst P (sym f.3) f.1
+
+pub piece_placed : (boxes : List MaskBox) (crossings : List Crossing) (pieces : List Placed) (starts : List ℕ) (a : ℕ) → AreSearchable boxes → ArePieces boxes crossings pieces starts → a < length pieces → IsPlacedBox (area_of pieces a)
+piece_placed boxes crossings pieces starts a s p lt =
+    let piece : IsPiece boxes crossings (piece_at pieces a) = p.each a no_piece lt in
+    placed_inner (area_at boxes (box_of pieces a)) (area_of pieces a) (s.placed (box_of pieces a) no_box piece.of_box) piece.inside
+
+pub all_of_boxes : (boxes : List MaskBox) (crossings : List Crossing) (pieces given : List Placed) (starts : List ℕ) → given ≡ pieces → ArePieces boxes crossings pieces starts → All (IsOfBoxes boxes) given
+all_of_boxes boxes crossings pieces given starts same p =
+    let all : All (IsOfBoxes boxes) pieces = λ k d lt. (p.each k d lt).of_box in
+    let P : List Placed → Type 0 = All (IsOfBoxes boxes) in
+    subst P (sym same) all

@@ -1,0 +1,100 @@
+-- Steps of a search: from the spots that were found to the nodes that they show.
+use Rattle.std.proofs.Common.{◌≡◌, ◌≢◌, ℕ, ◌+◌, ◌<◌, ◌≤◌, Bool, Option, Some, None, List, All, [], ◌∷◌, ◌++◌, length, take, get_or, pos, Contains, ◌⊎◌, inl, inr, refl, sym, ◌∙◌, ap, subst, arith}
+use Rattle.std.proofs.lemmas.List.Elements.{Contains-get_or}
+use Rattle.std.proofs.lemmas.Option.{none-some}
+use Rattle.box_tree.specs.declared.query.Query.{Query}
+use Rattle.box_tree.specs.declared.spots.Spot.{Spot}
+use Rattle.box_tree.specs.Queries.{Holds}
+use Rattle.graph_search.specs.Search.{mark_of, IsMarked, AreKept, AreVisited}
+use Rattle.graph_search.proofs.Marks.{mark_cases}
+use Rattle.lam_geom.specs.declared.boxes.MaskBox.{MaskBox}
+use Rattle.rule_table.specs.declared.technology.Tech.{Tech}
+use Rattle.net_extract.specs.declared.groves.Grove.{Grove}
+use Rattle.net_extract.specs.declared.groves.Plan.{Plan}
+use Rattle.net_extract.specs.declared.placing.Placed.{Placed}
+use Rattle.net_extract.specs.Groves.{spot_of, AreTagsWithin, AreSpent, IsGrove, IsOf, IsUnreached}
+use Rattle.net_extract.specs.Linking.{AreGathered, IsPairWith}
+use Rattle.net_extract.specs.Pieces.{box_of}
+use Rattle.net_extract.specs.Spreading.{AreReached, IsBuriedOf, IsOfPair}
+use Rattle.net_extract.proofs.Growth.{gathered_if, taken_earlier, taken_last, taken_cases}
+use Rattle.net_extract.proofs.Spread.{reached_from}
+use Rattle.net_extract.proofs.Walk.{grove_kept}
+
+-- ---- what is found in a grove
+
+nothing : (y : ℕ) → Contains [] y → ⊥
+nothing y (i, lt, e) = absurd (omega arith)
+
+found_is : (Is : ℕ → Type 0) (found : List ℕ) (y : ℕ) → AreGathered Is [] found → Contains found y → Is y
+found_is Is found y g c = elim (g.sound y c) [ inl none ↦ absurd (nothing y none) | inr is ↦ is ]
+
+-- the nodes of spots within bounds
+pub found_within : (spots : List Spot) (query : Query) (marks : List (Option ℕ)) (count : ℕ) (found given : List ℕ) → given ≡ found → AreTagsWithin count spots → AreGathered (IsUnreached spots query marks) [] found
+    → All (λ y. y < count) given
+found_within spots query marks count found given same tags g =
+    let all : All (λ y. y < count) found = λ k d lt.
+    (let h : IsUnreached spots query marks (get_or found k d) = found_is (IsUnreached spots query marks) found (get_or found k d) g (Contains-get_or found k d lt) in
+    let P : ℕ → Type 0 = λ y. y < count in
+    subst P h.of.tag (tags h.of.k h.of.among)) in
+    let Q : List ℕ → Type 0 = λ xs. All (λ y. y < count) xs in
+    subst Q (sym same) all
+
+-- all of them are reached
+pub found_reached : (spots : List Spot) (query : Query) (net : ℕ) (old new : List (Option ℕ)) (before after found given : List ℕ) → given ≡ found → AreGathered (IsUnreached spots query old) [] found
+    → AreVisited given net old new before after → AreReached (IsOf spots (Holds query)) net old new before after
+found_reached spots query net old new before after found given same g v =
+    let V : List ℕ → Type 0 = λ xs. AreVisited xs net old new before after in
+    reached_from (IsOf spots (Holds query)) found net old new before after (λ y c. (found_is (IsUnreached spots query old) found y g c).of)
+    (λ y of. elim (mark_cases old y) [ inl none ↦ inr (g.complete y (record { of = of; unmarked = none })) | inr m ↦ inl m ])
+    (subst V same v)
+
+-- those of which the boxes are buried pairs with a box
+pub buried_reached : (tech : Tech) (boxes : List MaskBox) (pieces : List Placed) (box_no : ℕ) (spots : List Spot) (query : Query) (net : ℕ) (old new : List (Option ℕ)) (before after found looked kept given empty : List ℕ)
+    → looked ≡ found → given ≡ kept → empty ≡ [] → AreGathered (IsUnreached spots query old) [] found → AreGathered (IsOfPair tech boxes pieces box_no looked) empty kept
+    → AreVisited given net old new before after → AreReached (IsBuriedOf tech boxes pieces box_no spots query) net old new before after
+buried_reached tech boxes pieces box_no spots query net old new before after found looked kept given empty same_found same_kept none g h v =
+    let V : List ℕ → Type 0 = λ xs. AreVisited xs net old new before after in
+    let H : List ℕ → Type 0 = λ xs. AreGathered (IsOfPair tech boxes pieces box_no xs) [] kept in
+    let E : List ℕ → Type 0 = λ xs. AreGathered (IsOfPair tech boxes pieces box_no looked) xs kept in
+    let k : AreGathered (IsOfPair tech boxes pieces box_no found) [] kept = subst H same_found (subst E none h) in
+    reached_from (IsBuriedOf tech boxes pieces box_no spots query) kept net old new before after
+    (λ y c. (let is : IsOfPair tech boxes pieces box_no found y = found_is (IsOfPair tech boxes pieces box_no found) kept y k c in
+    record { of = (found_is (IsUnreached spots query old) found y g is.0).of; pair = is.1 }))
+    (λ y is. elim (mark_cases old y) [ inl none ↦ inr (k.complete y (g.complete y (record { of = is.of; unmarked = none }), is.pair)) | inr m ↦ inl m ])
+    (subst V same_kept v)
+
+pub kept_within : (tech : Tech) (boxes : List MaskBox) (pieces : List Placed) (box_no : ℕ) (spots : List Spot) (query : Query) (marks : List (Option ℕ)) (count : ℕ) (found looked kept given empty : List ℕ) → looked ≡ found
+    → given ≡ kept → empty ≡ [] → AreTagsWithin count spots → AreGathered (IsUnreached spots query marks) [] found → AreGathered (IsOfPair tech boxes pieces box_no looked) empty kept → All (λ y. y < count) given
+kept_within tech boxes pieces box_no spots query marks count found looked kept given empty same_found same_kept none tags g h =
+    let E : List ℕ → Type 0 = λ xs. AreGathered (IsOfPair tech boxes pieces box_no looked) xs kept in
+    let H : List ℕ → Type 0 = λ xs. AreGathered (IsOfPair tech boxes pieces box_no xs) [] kept in
+    let k : AreGathered (IsOfPair tech boxes pieces box_no found) [] kept = subst H same_found (subst E none h) in
+    let all : All (λ y. y < count) kept = λ j d lt.
+    (let is : IsOfPair tech boxes pieces box_no found (get_or kept j d) = found_is (IsOfPair tech boxes pieces box_no found) kept (get_or kept j d) k (Contains-get_or kept j d lt) in
+    let u : IsUnreached spots query marks (get_or kept j d) = found_is (IsUnreached spots query marks) found (get_or kept j d) g is.0 in
+    let P : ℕ → Type 0 = λ y. y < count in
+    subst P u.of.tag (tags u.of.k u.of.among)) in
+    let Q : List ℕ → Type 0 = λ xs. All (λ y. y < count) xs in
+    subst Q (sym same_kept) all
+
+-- one more of those that were found
+pub pair_more : (tech : Tech) (boxes : List MaskBox) (pieces : List Placed) (box_no : ℕ) (numbers : List ℕ) (i : ℕ) (old middle new : List ℕ) → i < length numbers
+    → (IsPairWith tech boxes box_no (box_of pieces (get_or numbers i 0)) × (new ≡ middle ++ get_or numbers i 0 ∷ [])) ⊎ ((IsPairWith tech boxes box_no (box_of pieces (get_or numbers i 0)) → ⊥) × (new ≡ middle))
+    → AreGathered (IsOfPair tech boxes pieces box_no (take i numbers)) old middle → AreGathered (IsOfPair tech boxes pieces box_no (take (i + 1) numbers)) old new
+pair_more tech boxes pieces box_no numbers i old middle new lt =
+    let P : ℕ → Type 0 = λ y. IsPairWith tech boxes box_no (box_of pieces y) in
+    gathered_if (IsOfPair tech boxes pieces box_no (take i numbers)) (IsOfPair tech boxes pieces box_no (take (i + 1) numbers)) (P (get_or numbers i 0)) old middle new (get_or numbers i 0)
+    (λ y h. elim h [
+      | inl p ↦ (taken_earlier numbers i y lt p.0, p.1)
+      | inr q ↦ (taken_last numbers i y lt q.0, subst P (sym q.0) q.1)
+    ])
+    (λ y h. elim (taken_cases numbers i y lt h.0) [
+      | inl o ↦ inl (o, h.1)
+      | inr e ↦ inr (e, subst P e h.1)
+    ])
+
+-- the grove, with more marks
+pub grove_reached : (old new : List (Option ℕ)) (grove grown : Grove) → IsGrove old grove → grown.plan ≡ grove.plan → AreSpent grove.plan old grown.spent.items → length new ≡ length old → AreKept old new → IsGrove new grown
+grove_reached old new grove grown g plan_is spent counted kept =
+    let P : Plan → Type 0 = λ p. IsGrove old (record { plan = p; spent = grown.spent }) in
+    grove_kept old new grown counted kept (subst P (sym plan_is) (record { plan = g.plan; tags = g.tags; spent = spent }))

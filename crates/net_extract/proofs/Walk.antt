@@ -1,0 +1,300 @@
+-- Steps of the walk through a grove.
+use Rattle.std.proofs.Common.{◌≡◌, ◌≢◌, ℕ, zero, suc, ◌+◌, ◌<◌, ◌≤◌, Bool, false, true, Option, None, Some, List, [], ◌∷◌, ◌++◌, length, set, get_or, drop, Contains, ◌⊎◌, inl, inr, refl, sym, ◌∙◌, ap, subst, arith, length-drop, length-set, get_or-set_other, get_or-set_same}
+use Rattle.std.specs.Prelude.{IsTrue, is_some, max, nat_eq, not}
+use Rattle.std.proofs.lemmas.Bool.{cases_lt, cases_eq, eqb-true}
+use Rattle.std.proofs.lemmas.List.{drop_more, drop_all, drop-drop, get_or_default, get_or_read}
+use Rattle.std.proofs.lemmas.Option.{none-some}
+use Rattle.box_tree.specs.declared.query.Query.{Query}
+use Rattle.box_tree.specs.declared.spots.Group.{Group}
+use Rattle.box_tree.specs.declared.spots.Spot.{Spot}
+use Rattle.box_tree.specs.Queries.{Holds}
+use Rattle.box_tree.specs.Tree.{IsBounded, IsGroupOf, IsPlacedGroup, begin_of, no_spot}
+use Rattle.box_tree.proofs.Trees.{group_here}
+use Rattle.graph_search.specs.Search.{mark_of, IsMarked, AreKept}
+use Rattle.net_extract.specs.declared.groves.Grove.{Grove}
+use Rattle.net_extract.specs.declared.groves.Plan.{Plan}
+use Rattle.net_extract.specs.Groves.{spot_of, no_group, group_at, spot_in, IsPlan, IsInRun, InSpent, IsRunSpent, IsMarkedAt, IsRunMarked, AreSpent, AreTagsWithin, IsGrove, IsOf, IsUnreached, IsUnreachedWithin}
+use Rattle.net_extract.specs.Linking.{AreGathered}
+use Rattle.net_extract.proofs.Growth.{gathered_as, gathered_more, gathered_none, gathered_if, below_cases}
+
+-- ---- tests
+
+pub not_false : (b v : Bool) → v ≡ not b → v ≡ true → b ≡ false
+not_false true v e t = cc
+not_false false v e t = refl
+
+pub flag_read : (spent : List Bool) (at : ℕ) (b : Bool) → at < length spent → b ≡ get_or spent at b → b ≡ true → IsTrue (get_or spent at false)
+flag_read spent at b lt read t = sym (get_or_read spent at b lt read false) ∙ t
+
+pub none_told : (o : Option ℕ) (b : Bool) → is_some o ≡ not b → b ≡ true → o ≡ None
+none_told None b test answer = refl
+none_told (Some n) true test answer = cc
+none_told (Some n) false test answer = cc
+
+pub some_told : (o : Option ℕ) (b : Bool) → is_some o ≡ not b → b ≡ false → (n : ℕ) × (o ≡ Some n)
+some_told (Some n) b test answer = (n, refl)
+some_told None true test answer = absurd (cc)
+some_told None false test answer = absurd (cc)
+
+-- ---- where runs begin
+
+abbrev groups_of : Plan → List Group
+groups_of plan = plan.groups.items
+
+-- where the run of the group at a place begins, or all end
+abbrev pub begin_at : Plan → ℕ → ℕ
+begin_at plan at = begin_of (drop at plan.groups.items) (length plan.order.items)
+
+-- a group that was read: its run, and that of the one behind it
+pub record IsRead (plan : Plan) (at : ℕ) (group : Group) : Type 0 where
+  pub is : group_at plan.groups.items at ≡ group
+  pub placed : IsPlacedGroup group
+  pub begins : begin_at plan at ≡ group.start
+  pub closes : begin_at plan (at + 1 + group.inside) ≡ group.start + group.count
+  pub opens : 0 < group.inside → begin_at plan (at + 1) ≡ group.start
+  pub ends : group.start + group.count ≤ length plan.order.items
+  pub within : at + 1 + group.inside ≤ length plan.groups.items
+  pub bounded : (p : ℕ) → group.start ≤ p → p < group.start + group.count → IsBounded group (spot_in plan p)
+
+pub group_read : (plan : Plan) (at : ℕ) (group : Group) → IsPlan plan → at < length plan.groups.items → group ≡ get_or plan.groups.items at group → IsRead plan at group
+group_read plan at group t lt is =
+    let groups = plan.groups.items in
+    let end : ℕ = length plan.order.items in
+    let g : IsGroupOf plan.spots.items plan.order.items end group (drop (at + 1) groups) = group_here plan.spots.items plan.order.items end at groups group t.groups_of lt is in
+    let left : length (drop (at + 1) groups) + (at + 1) ≡ length groups = omega (arith, length-drop (at + 1) groups) in
+    let i = g.inside in
+    record {
+      is = sym (is ∙ get_or_default groups at group no_group lt);
+      placed = g.placed;
+      begins = ap (λ (gs : List Group). begin_of gs end) (drop_more groups at group lt) ∙ ap (λ (x : Group). x.start) (sym is);
+      closes = ap (λ (gs : List Group). begin_of gs end) (sym (drop-drop group.inside (at + 1) groups)) ∙ g.closes;
+      opens = g.opens;
+      ends = g.ends;
+      within = omega arith;
+      bounded = g.within;
+    }
+
+-- ---- nodes without a mark, as far as the walk has come
+
+pub record IsWalked (plan : Plan) (query : Query) (marks : List (Option ℕ)) (at : ℕ) (found : List ℕ) : Type 0 where
+  pub within : at ≤ length plan.groups.items
+  pub gathered : AreGathered (IsUnreachedWithin plan query marks 0 (begin_at plan at)) [] found
+
+pub walked_none : (plan : Plan) (query : Query) (marks : List (Option ℕ)) (found : List ℕ) → IsPlan plan → found ≡ [] → IsWalked plan query marks 0 found
+walked_none plan query marks found t e =
+    let f = t.first in
+    let P : List ℕ → Type 0 = λ xs. AreGathered (IsUnreachedWithin plan query marks 0 (begin_at plan 0)) [] xs in
+    record { within = omega arith; gathered = subst P (sym e) (gathered_none (IsUnreachedWithin plan query marks 0 (begin_at plan 0)) [] (λ y h. (let b = h.before in omega arith))) }
+
+-- nodes of places up to one more
+more_within : (plan : Plan) (query : Query) (marks : List (Option ℕ)) (first mid end y : ℕ) → mid ≤ end → IsUnreachedWithin plan query marks first mid y → IsUnreachedWithin plan query marks first end y
+more_within plan query marks first mid end y le h = record {
+  p = h.p;
+  from = h.from;
+  before = (let b = h.before in omega arith);
+  tag = h.tag;
+  holds = h.holds;
+  unmarked = h.unmarked;
+}
+
+-- past a group with nothing to be found
+pub walked_past : (plan : Plan) (query : Query) (marks : List (Option ℕ)) (at next : ℕ) (group : Group) (found : List ℕ) → next ≡ at + 1 + group.inside → IsRead plan at group
+    → ((p : ℕ) → group.start ≤ p → p < group.start + group.count → Holds query (spot_in plan p) → mark_of marks (spot_in plan p).tag ≡ None → ⊥)
+    → IsWalked plan query marks at found → IsWalked plan query marks next found
+walked_past plan query marks at next group found is_next g barren w =
+    let here = g.begins in
+    let after : begin_at plan next ≡ group.start + group.count = ap (begin_at plan) is_next ∙ g.closes in
+    let l = g.within in
+    record {
+      within = omega arith;
+      gathered = gathered_as (IsUnreachedWithin plan query marks 0 (begin_at plan at)) (IsUnreachedWithin plan query marks 0 (begin_at plan next)) [] found
+          (λ y h. more_within plan query marks 0 (begin_at plan at) (begin_at plan next) y (omega arith) h)
+          (λ y h. elim (cases_lt h.p group.start) [
+            | inl lt ↦ record { p = h.p; from = h.from; before = omega arith; tag = h.tag; holds = h.holds; unmarked = h.unmarked }
+            | inr ge ↦ (let b = h.before in absurd (barren h.p ge (omega arith) h.holds (ap (mark_of marks) h.tag ∙ h.unmarked)))
+          ])
+          w.gathered;
+    }
+
+-- past a leaf
+pub walked_leaf : (plan : Plan) (query : Query) (marks : List (Option ℕ)) (at : ℕ) (group : Group) (end : ℕ) (found new : List ℕ) → IsRead plan at group → group.inside ≡ 0 → end ≡ group.start + group.count
+    → AreGathered (IsUnreachedWithin plan query marks group.start end) found new → IsWalked plan query marks at found → IsWalked plan query marks (at + 1) new
+walked_leaf plan query marks at group end found new g leaf is_end some w =
+    let here = g.begins in
+    let after : begin_at plan (at + 1) ≡ begin_at plan (at + 1 + group.inside) = ap (begin_at plan) (let e : at + 1 ≡ at + 1 + group.inside = omega arith in e) in
+    let next = g.closes in
+    let lt = g.within in
+    record {
+      within = omega arith;
+      gathered = gathered_more (IsUnreachedWithin plan query marks 0 (begin_at plan at)) (IsUnreachedWithin plan query marks group.start end) (IsUnreachedWithin plan query marks 0 (begin_at plan (at + 1))) [] found new
+          (λ y h. elim h [
+            | inl before ↦ more_within plan query marks 0 (begin_at plan at) (begin_at plan (at + 1)) y (omega arith) before
+            | inr inside ↦ (let b = inside.before in record { p = inside.p; from = omega arith; before = omega arith; tag = inside.tag; holds = inside.holds; unmarked = inside.unmarked })
+          ])
+          (λ y h. elim (cases_lt h.p group.start) [
+            | inl lt ↦ inl (record { p = h.p; from = h.from; before = omega arith; tag = h.tag; holds = h.holds; unmarked = h.unmarked })
+            | inr ge ↦ (let b = h.before in inr (record { p = h.p; from = ge; before = omega arith; tag = h.tag; holds = h.holds; unmarked = h.unmarked }))
+          ])
+          w.gathered some;
+    }
+
+-- into a group with others inside
+pub walked_into : (plan : Plan) (query : Query) (marks : List (Option ℕ)) (at : ℕ) (group : Group) (found : List ℕ) → IsRead plan at group → group.inside ≢ 0
+    → IsWalked plan query marks at found → IsWalked plan query marks (at + 1) found
+walked_into plan query marks at group found g some w =
+    let pos : 0 < group.inside = omega arith in
+    let same : begin_at plan at ≡ begin_at plan (at + 1) = g.begins ∙ sym (g.opens pos) in
+    let P : ℕ → Type 0 = λ b. AreGathered (IsUnreachedWithin plan query marks 0 b) [] found in
+    let l = g.within in
+    record { within = omega arith; gathered = subst P same w.gathered }
+
+-- past all groups
+pub walked_all : (plan : Plan) (query : Query) (marks : List (Option ℕ)) (at : ℕ) (found : List ℕ) → IsPlan plan → length plan.groups.items ≤ at → IsWalked plan query marks at found
+    → AreGathered (IsUnreached plan.spots.items query marks) [] found
+walked_all plan query marks at found t past w =
+    let spots = plan.spots.items in
+    let order = plan.order.items in
+    let end : begin_at plan at ≡ length order = ap (λ (gs : List Group). begin_of gs (length order)) (drop_all at plan.groups.items past) in
+    gathered_as (IsUnreachedWithin plan query marks 0 (begin_at plan at)) (IsUnreached spots query marks) [] found
+    (λ y h. (let b = h.before in
+    record {
+      of = record { k = get_or order h.p 0; among = t.order_of.below h.p 0 (omega arith); tag = h.tag; is = h.holds };
+      unmarked = h.unmarked;
+    }))
+    (λ y h. (let k : ℕ = h.of.k in
+    let listed = t.order_of.each k h.of.among in
+    let place : ℕ = listed.0 in
+    let there : k ≡ get_or order place 0 = sym (get_or_default order place 0 k listed.1 ∙ listed.2) in
+    let l = listed.1 in
+    let T : ℕ → Type 0 = λ n. (spot_of spots n).tag ≡ y in
+    let H : ℕ → Type 0 = λ n. Holds query (spot_of spots n) in
+    record { p = place; from = omega arith; before = omega arith; tag = subst T there h.of.tag; holds = subst H there h.of.is; unmarked = h.unmarked }))
+    w.gathered
+
+-- ---- the spots of a leaf
+
+pub none_within : (plan : Plan) (query : Query) (marks : List (Option ℕ)) (first : ℕ) (found : List ℕ) → AreGathered (IsUnreachedWithin plan query marks first first) found found
+none_within plan query marks first found = gathered_none (IsUnreachedWithin plan query marks first first) found (λ y h. (let a = h.from in let b = h.before in omega arith))
+
+-- one more spot, which is found or not
+pub one_within : (plan : Plan) (query : Query) (marks : List (Option ℕ)) (first p : ℕ) (spot : Spot) (old middle new : List ℕ) → first ≤ p → spot_in plan p ≡ spot
+    → ((Holds query spot × (mark_of marks spot.tag ≡ None)) × (new ≡ middle ++ spot.tag ∷ [])) ⊎ ((Holds query spot × (mark_of marks spot.tag ≡ None) → ⊥) × (new ≡ middle))
+    → AreGathered (IsUnreachedWithin plan query marks first p) old middle → AreGathered (IsUnreachedWithin plan query marks first (p + 1)) old new
+one_within plan query marks first p spot old middle new le is =
+    let H : Spot → Type 0 = λ s. Holds query s × (mark_of marks s.tag ≡ None) in
+    gathered_if (IsUnreachedWithin plan query marks first p) (IsUnreachedWithin plan query marks first (p + 1)) (Holds query spot × (mark_of marks spot.tag ≡ None)) old middle new spot.tag
+    (λ y h. elim h [
+      | inl before ↦ more_within plan query marks first p (p + 1) y (omega arith) before
+      | inr here ↦
+          (let held : H (spot_in plan p) = subst H (sym is) here.1 in
+          record { p = p; from = le; before = omega arith; tag = ap (λ (s : Spot). s.tag) is ∙ sym here.0; holds = held.0; unmarked = ap (mark_of marks) here.0 ∙ here.1.1 })
+    ])
+    (λ y h. elim (below_cases h.p p h.before) [
+      | inl lt ↦ inl (record { p = h.p; from = h.from; before = lt; tag = h.tag; holds = h.holds; unmarked = h.unmarked })
+      | inr at ↦
+          (let there : spot_in plan h.p ≡ spot = ap (spot_in plan) at ∙ is in
+          let tag : y ≡ spot.tag = sym h.tag ∙ ap (λ (s : Spot). s.tag) there in
+          let Q : Spot → Type 0 = λ s. Holds query s in
+          inr (tag, (subst Q there h.holds, ap (mark_of marks) (sym tag) ∙ h.unmarked)))
+    ])
+
+-- one more spot with a mark
+pub run_marked_more : (plan : Plan) (marks : List (Option ℕ)) (first p : ℕ) (spot : Spot) → spot_in plan p ≡ spot → IsMarked marks spot.tag → IsRunMarked plan marks first p → IsRunMarked plan marks first (p + 1)
+run_marked_more plan marks first p spot is marked before = λ q le lt. elim (below_cases q p lt) [
+  | inl below ↦ before q le below
+  | inr at ↦ (let P : Spot → Type 0 = λ s. IsMarked marks s.tag in subst P (sym (ap (spot_in plan) at ∙ is)) marked)
+]
+
+pub within_end : (plan : Plan) (query : Query) (marks : List (Option ℕ)) (first p end : ℕ) (old new : List ℕ) → p ≤ max first end → end ≤ p
+    → AreGathered (IsUnreachedWithin plan query marks first p) old new → AreGathered (IsUnreachedWithin plan query marks first end) old new
+within_end plan query marks first p end old new so_far past =
+    gathered_as (IsUnreachedWithin plan query marks first p) (IsUnreachedWithin plan query marks first end) old new
+    (λ y h. (let a = h.from in let b = h.before in record { p = h.p; from = h.from; before = omega arith; tag = h.tag; holds = h.holds; unmarked = h.unmarked }))
+    (λ y h. more_within plan query marks first end p y past h)
+
+-- ---- groups that are spent
+
+-- a group of which it is told whether all its nodes are marked
+pub spent_set : (plan : Plan) (marks : List (Option ℕ)) (spent : List Bool) (at : ℕ) (group : Group) (all : Bool) → IsRead plan at group
+    → (IsTrue all → IsRunMarked plan marks group.start (group.start + group.count)) → AreSpent plan marks spent → AreSpent plan marks (set spent at all)
+spent_set plan marks spent at group all g marked s =
+    let n = s.counted in
+    let w = g.within in
+    record {
+      counted = length-set spent at all ∙ s.counted;
+      each = λ p h. elim (cases_eq h.g at) [
+        | inl e ↦
+            (let F : ℕ → Type 0 = λ x. IsTrue (get_or (set spent at all) x false) in
+            let T : Bool → Type 0 = IsTrue in
+            let R : Group → Type 0 = λ x. IsInRun x p in
+            let yes : IsTrue all = subst T (get_or-set_same spent at all false (omega arith)) (subst F e h.flagged) in
+            let run : IsInRun group p = subst R (ap (group_at plan.groups.items) e ∙ g.is) h.in_run in
+            marked yes p run.0 run.1)
+        | inr ne ↦
+            (let T : Bool → Type 0 = IsTrue in
+            s.each p (record { g = h.g; flagged = subst T (get_or-set_other spent at h.g all false ne) h.flagged; in_run = h.in_run }))
+      ];
+    }
+
+-- a group that is spent has no node without a mark
+pub spent_barren : (plan : Plan) (query : Query) (marks : List (Option ℕ)) (spent : List Bool) (at : ℕ) (group : Group) → IsRead plan at group → AreSpent plan marks spent → IsTrue (get_or spent at false)
+    → (p : ℕ) → group.start ≤ p → p < group.start + group.count → Holds query (spot_in plan p) → mark_of marks (spot_in plan p).tag ≡ None → ⊥
+spent_barren plan query marks spent at group g s flagged = λ p low high _ none.
+    let R : Group → Type 0 = λ x. IsInRun x p in
+    let m : IsMarkedAt plan marks p = s.each p (record { g = at; flagged = flagged; in_run = subst R (sym g.is) (low, high) }) in
+    none-some m.0 (sym none ∙ m.1)
+
+-- the places of a group up to the run of the next one inside it are in groups that are spent
+pub record IsCovered (plan : Plan) (spent : List Bool) (at next : ℕ) : Type 0 where
+  pub within : next ≤ length plan.groups.items
+  pub covered : (p : ℕ) → (group_at plan.groups.items at).start ≤ p → p < begin_at plan next → InSpent plan.groups.items spent p
+
+pub covered_none : (plan : Plan) (spent : List Bool) (at : ℕ) (group : Group) → IsRead plan at group → 0 < (group_at plan.groups.items at).inside → IsCovered plan spent at (at + 1)
+covered_none plan spent at group g some =
+    let P : Group → Type 0 = λ x. 0 < x.inside in
+    let o = g.opens (subst P g.is some) in
+    let w = g.within in
+    let s : (group_at plan.groups.items at).start ≡ group.start = ap (λ (x : Group). x.start) g.is in
+    record { within = omega arith; covered = λ p low high. absurd (omega arith) }
+
+pub covered_more : (plan : Plan) (spent : List Bool) (at next further : ℕ) (group : Group) → further ≡ next + 1 + group.inside → IsRead plan next group → IsTrue (get_or spent next false) → IsCovered plan spent at next
+    → IsCovered plan spent at further
+covered_more plan spent at next further group e g flagged h =
+    let here = g.begins in
+    let after : begin_at plan further ≡ group.start + group.count = ap (begin_at plan) e ∙ g.closes in
+    let l = g.within in
+    record {
+      within = omega arith;
+      covered = λ p low high. elim (cases_lt p group.start) [
+        | inl lt ↦ h.covered p low (omega arith)
+        | inr ge ↦ (let R : Group → Type 0 = λ x. IsInRun x p in record { g = next; flagged = flagged; in_run = subst R (sym g.is) (ge, omega arith) })
+      ];
+    }
+
+pub covered_all : (plan : Plan) (spent : List Bool) (at next : ℕ) (group : Group) → IsRead plan at group → next ≡ at + 1 + group.inside → IsCovered plan spent at next → IsRunSpent plan.groups.items spent at
+covered_all plan spent at next group g e h =
+    let c = g.closes in
+    let b : begin_at plan next ≡ begin_at plan (at + 1 + group.inside) = ap (begin_at plan) e in
+    let s : (group_at plan.groups.items at).start ≡ group.start = ap (λ (x : Group). x.start) g.is in
+    let n : (group_at plan.groups.items at).count ≡ group.count = ap (λ (x : Group). x.count) g.is in
+    λ p run. (let low = run.0 in let high = run.1 in h.covered p run.0 (omega arith))
+
+-- so the nodes of that group are marked
+pub run_spent_marked : (plan : Plan) (marks : List (Option ℕ)) (spent : List Bool) (at : ℕ) (group : Group) → IsRead plan at group → AreSpent plan marks spent → IsRunSpent plan.groups.items spent at
+    → IsRunMarked plan marks group.start (group.start + group.count)
+run_spent_marked plan marks spent at group g s run = λ p low high.
+    let R : Group → Type 0 = λ x. IsInRun x p in
+    s.each p (run p (subst R (sym g.is) (low, high)))
+
+-- ---- groves
+
+-- groups that were spent stay so as marks are added
+pub grove_kept : (old new : List (Option ℕ)) (grove : Grove) → length new ≡ length old → AreKept old new → IsGrove old grove → IsGrove new grove
+grove_kept old new grove counted kept g = record {
+  plan = g.plan;
+  tags = λ k lt. (let l = g.tags k lt in omega arith);
+  spent = record { counted = g.spent.counted; each = λ p h. (let m = g.spent.each p h in (m.0, kept (spot_in grove.plan p).tag m.0 m.1)) };
+}
+
+pub same_number : (a b : ℕ) → IsTrue (nat_eq a b) → a ≡ b
+same_number a b t = eqb-true a b t

@@ -1,0 +1,57 @@
+use Rattle.std.proofs.Common.{arith, ◌≡◌, ℕ, ◌+◌, ◌<◌, Bool, true, false, Vec, Global, None, length, get_or, inl, inr, sym, ◌∙◌, ap, subst}
+use Rattle.std.specs.Prelude.{IsTrue}
+use Rattle.std.proofs.lemmas.Bool.{iff_false}
+use Rattle.std.proofs.lemmas.List.{get_or_read}
+use Rattle.std.proofs.lemmas.Option.{none-some}
+use Rattle.box_tree.specs.declared.spots.Spot.{Spot}
+use Rattle.box_tree.specs.Queries.{Holds}
+use Rattle.box_tree.proofs.Trees.{spot_read}
+use Rattle.graph_search.specs.Search.{mark_of, IsMarked}
+use Rattle.net_extract.specs.Groves.{spot_in, IsRunMarked}
+use Rattle.net_extract.proofs.Walk.{one_within, none_told, some_told, run_marked_more, within_end}
+use Rattle.net_extract.proofs.groves.look_through.Goals as goal
+use Rattle.net_extract.proofs.groves.look_through.Goals.{then-is_none+then-holds+in_ok-push, then-is_none+else-holds, else-is_none}
+
+pub loop-place-preserved : goal.loop-place-preserved
+loop-place-preserved c =
+    let plan = c.args.plan.now in
+    let query = c.args.query.now in
+    let marks = c.args.marks.now in
+    let first = c.args.first in
+    let p = c.loop-place.place in
+    let t = c.loop-place-test.true in
+    let w = c.requires.within in
+    let le = c.loop-place.auto.place in
+    let lt : p < length plan.order.items = omega arith in
+    let spot = c.index-in-loop-place.result.now in
+    let is : spot_in plan p ≡ spot = sym (spot_read plan.spots.items plan.order.items p spot c.requires.plan.order_of.below lt (c.index-in-loop-place.ensures ∙ ap (λ (n : ℕ). get_or plan.spots.items n spot) (get_or_read plan.order.items p c.index.result.now lt c.index.ensures 0))) in
+    let inv = c.loop-place.invariant in
+    record {
+      so_far = omega arith;
+      gathered =
+          one_within plan query marks first p spot c.args.found.now.items c.loop-place.found.items c.if-is_none.found.items le is
+          (elim c.if-is_none.branch [
+            | then-is_none+then-holds+in_ok-push w ↦
+                inl (
+                  (w.holds.ensures.0 w.if-holds.true, none_told (mark_of marks spot.tag) c.is_none.result c.is_none.ensures w.if-is_none.true),
+                  ap (λ (x : Vec ℕ Global). x.items) w.found-is ∙ w.in_ok-push.ensures.items,
+                )
+            | then-is_none+else-holds w ↦ inr (λ h. iff_false w.holds.ensures w.if-holds.false h.0, ap (λ (x : Vec ℕ Global). x.items) w.found-is)
+            | else-is_none w ↦
+                (let m : IsMarked marks spot.tag = some_told (mark_of marks spot.tag) c.is_none.result c.is_none.ensures w.if-is_none.false in
+                inr (λ h. none-some m.0 (sym h.1 ∙ m.1), ap (λ (x : Vec ℕ Global). x.items) w.found-is))
+          ])
+          inv.gathered;
+      marked = elim c.if-is_none.branch [
+        | then-is_none+then-holds+in_ok-push w ↦ (λ all. (let no : false ≡ true = sym w.all-is ∙ all in absurd (cc)))
+        | then-is_none+else-holds w ↦ (λ all. (let no : false ≡ true = sym w.all-is ∙ all in absurd (cc)))
+        | else-is_none w ↦
+            (let m : IsMarked marks spot.tag = some_told (mark_of marks spot.tag) c.is_none.result c.is_none.ensures w.if-is_none.false in
+            λ all. run_marked_more plan marks first p spot is m (inv.marked (sym w.all-is ∙ all)))
+      ];
+    }
+
+pub returns-clause-found : goal.returns-clause-found
+returns-clause-found c =
+    within_end c.args.plan.now c.args.query.now c.args.marks.now c.args.first c.loop-place.place c.args.end c.args.found.now.items c.loop-place.found.items c.loop-place.invariant.so_far c.loop-place-test.false
+    c.loop-place.invariant.gathered

@@ -1,0 +1,53 @@
+use Rattle.std.proofs.Common.{arith, ◌≡◌, ℕ, ◌+◌, ◌<◌, ◌≤◌, None, Some, length, sym, ◌∙◌, subst}
+use Rattle.std.specs.Prelude.{max}
+use Rattle.std.proofs.lemmas.List.{get_or_read}
+use Rattle.graph_search.specs.Search.{mark_of}
+use Rattle.net_extract.specs.Linking.{AreBeside}
+use Rattle.net_extract.specs.Spreading.{AreWhole}
+use Rattle.net_extract.proofs.Nodes.{beside_back}
+use Rattle.net_extract.proofs.Spread.{whole_more, whole_below}
+use Rattle.net_extract.proofs.nets.net_of.Goals as goal
+
+pub returns-in-Some : goal.returns-in-Some
+returns-in-Some c =
+    let marks = c.args.search.now.front.marks.items in
+    let n = c.requires.search.counted in
+    let lt = c.requires.in_range in
+    let there : mark_of marks c.args.a ≡ Some c.in-Some.net = sym (get_or_read marks c.args.a c.index.result.now (omega arith) c.index.ensures None) ∙ c.in-Some.is in
+    let below : c.in-Some.net < c.args.next = c.requires.whole.below c.args.a c.in-Some.net there in
+    record {
+      search = c.requires.search;
+      kept = λ k m e. e;
+      net = there;
+      whole = whole_below (AreBeside c.args.tech.now c.args.boxes.now c.args.pieces.now.placed.items) c.args.next (max c.args.next (c.in-Some.net + 1)) marks (omega arith) c.requires.whole;
+      below = omega arith;
+    }
+
+pub spread-requires : goal.spread-requires
+spread-requires c =
+    let marks = c.args.search.now.front.marks.items in
+    let n = c.requires.search.counted in
+    let lt = c.requires.in_range in
+    record {
+      searchable = c.requires.searchable;
+      indexed = c.requires.indexed;
+      pieces = c.requires.pieces;
+      search = c.requires.search;
+      in_range = c.requires.in_range;
+      unmarked = sym (get_or_read marks c.args.a c.index.result.now (omega arith) c.index.ensures None) ∙ c.in_default.is;
+    }
+
+pub returns : goal.returns
+returns c =
+    let Beside : ℕ → ℕ → Type 0 = AreBeside c.args.tech.now c.args.boxes.now c.args.pieces.now.placed.items in
+    let new = c.spread.new.search.front.marks.items in
+    let P : ℕ → Type 0 = λ n. AreWhole Beside n new in
+    let e : c.args.next + 1 ≡ max c.args.next (c.args.next + 1) = omega arith in
+    let s = c.in_ok-spread.ensures.spread in
+    record {
+      search = c.in_ok-spread.ensures.search;
+      kept = s.kept;
+      net = s.begun;
+      whole = subst P e (whole_more Beside c.args.a c.args.next c.args.search.now.front.marks.items new (beside_back c.args.tech.now c.args.boxes.now c.args.pieces.now.placed.items) c.requires.whole s);
+      below = omega arith;
+    }

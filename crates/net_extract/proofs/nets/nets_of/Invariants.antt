@@ -1,0 +1,12 @@
+use Rattle.std.proofs.Common.{◌≡◌, length}
+use Rattle.net_extract.specs.Linking.{AreBeside}
+use Rattle.net_extract.specs.Spreading.{IsSearch}
+use Rattle.net_extract.proofs.Netted.{IsNumbering}
+use Rattle.net_extract.proofs.nets.nets_of.Given as goal
+
+abbrev pub invariant-loop-a : goal.invariant-loop-a
+invariant-loop-a l = record {
+  search : IsSearch l.tech l.boxes l.pieces.placed.items l.search;
+  numbering : IsNumbering (AreBeside l.tech l.boxes l.pieces.placed.items) l.search.front.marks.items l.nets.items l.count;
+  counted : length l.nets.items ≡ l.a;
+}

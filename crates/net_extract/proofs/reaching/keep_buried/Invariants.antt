@@ -1,0 +1,7 @@
+use Rattle.std.proofs.Common.{take}
+use Rattle.net_extract.specs.Linking.{AreGathered}
+use Rattle.net_extract.specs.Spreading.{IsOfPair}
+use Rattle.net_extract.proofs.reaching.keep_buried.Given as goal
+
+abbrev pub invariant-loop-y : goal.invariant-loop-y
+invariant-loop-y l = AreGathered (IsOfPair l.tech l.boxes l.placed l.box_no (take l.y-index l.numbers)) l.fn.kept.items l.kept.items

@@ -1,0 +1,31 @@
+use Rattle.std.proofs.Common.{ℕ, ◌<◌, Option, Some, List, length, take, get_or, set, sym, ◌∙◌, ap, subst, arith, Vec, Global, ◌+◌}
+use Rattle.graph_search.specs.Search.{AreVisited}
+use Rattle.graph_search.proofs.Marks.{visited_seen, visited_new, read_none, read_marked}
+use Rattle.net_extract.proofs.reaching.visit.Goals as goal
+use Rattle.net_extract.proofs.reaching.visit.Goals.{then-is_none+in_ok-push, else-is_none}
+
+pub loop-node-preserved : goal.loop-node-preserved
+loop-node-preserved c =
+    let nodes = c.args.nodes.now in
+    let i = c.loop-node.node-index in
+    let old = c.args.marks.now.items in
+    let marks = c.loop-node.marks.items in
+    let before = c.args.queue.now.items in
+    let queue = c.loop-node.queue.items in
+    let v = c.loop-node.invariant in
+    let lt : i < length nodes = omega arith in
+    let within : get_or nodes i 0 < length marks = (let r = c.requires i 0 lt in let n = v.counted in omega arith) in
+    elim c.if-is_none.branch [
+      | then-is_none+in_ok-push w ↦
+          (let none = read_none marks (get_or nodes i 0) c.index.result.now c.is_none.result within c.index.ensures c.is_none.ensures w.if-is_none.true in
+          let new = visited_new nodes c.args.net old marks before queue i lt within none v in
+          let P : List (Option ℕ) → Type 0 = λ m. AreVisited (take (i + 1) nodes) c.args.net old m before c.if-is_none.queue.items in
+          let Q : List ℕ → Type 0 = λ q. AreVisited (take (i + 1) nodes) c.args.net old (set marks (get_or nodes i 0) (Some c.args.net)) before q in
+          subst P (sym (ap (λ (x : Vec (Option ℕ) Global). x.items) w.marks-is)) (subst Q (sym (ap (λ (x : Vec ℕ Global). x.items) w.queue-is ∙ w.in_ok-push.ensures.items)) new))
+      | else-is_none w ↦
+          (let seen = read_marked marks (get_or nodes i 0) c.index.result.now c.is_none.result within c.index.ensures c.is_none.ensures w.if-is_none.false in
+          let same = visited_seen nodes c.args.net old marks before queue i lt seen v in
+          let P : List (Option ℕ) → Type 0 = λ m. AreVisited (take (i + 1) nodes) c.args.net old m before c.if-is_none.queue.items in
+          let Q : List ℕ → Type 0 = λ q. AreVisited (take (i + 1) nodes) c.args.net old marks before q in
+          subst P (sym (ap (λ (x : Vec (Option ℕ) Global). x.items) w.marks-is)) (subst Q (sym (ap (λ (x : Vec ℕ Global). x.items) w.queue-is)) same))
+    ]

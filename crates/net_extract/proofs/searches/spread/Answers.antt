@@ -1,0 +1,80 @@
+use Rattle.std.proofs.Common.{arith, ◌≡◌, ℕ, ◌+◌, ◌<◌, length, get_or, sym, subst}
+use Rattle.std.proofs.lemmas.List.{get_or_read}
+use Rattle.std.proofs.lemmas.List.Elements.{Contains-get_or}
+use Rattle.net_extract.specs.Linking.{AreBeside, IsNode}
+use Rattle.net_extract.specs.Spreading.{AreReached}
+use Rattle.net_extract.proofs.Nodes.{reached_node}
+use Rattle.net_extract.proofs.Spread.{IsSpreading, spreading_begun, spreading_more, spreading_done}
+use Rattle.net_extract.proofs.Searched.{search_kept}
+use Rattle.net_extract.proofs.searches.spread.Goals as goal
+
+pub begin-requires : goal.begin-requires
+begin-requires c =
+    let n = c.requires.search.counted in
+    let lt = c.requires.in_range in
+    record { in_range = omega arith }
+
+pub loop-passed-init : goal.loop-passed-init
+loop-passed-init c =
+    let tech = c.args.tech.now in
+    let boxes = c.args.boxes.now in
+    let pieces = c.args.pieces.now.placed.items in
+    let old = c.args.search.now.front.marks.items in
+    let new = c.begin.new.front in
+    let n = c.requires.search.counted in
+    let lt = c.requires.in_range in
+    let begun : IsSpreading (AreBeside tech boxes pieces) c.args.start c.args.net old new.marks.items new.queue.items 0 =
+    spreading_begun (AreBeside tech boxes pieces) c.args.start c.args.net old new.marks.items new.queue.items (omega arith) c.requires.unmarked c.in_ok-begin.ensures.marks c.in_ok-begin.ensures.queue in
+    record { search = search_kept tech boxes pieces c.args.search.now new begun.counted begun.kept c.requires.search; spreading = begun }
+
+pub visit_node-requires : goal.visit_node-requires
+visit_node-requires c =
+    let tech = c.args.tech.now in
+    let boxes = c.args.boxes.now in
+    let pieces = c.args.pieces.now.placed.items in
+    let queue = c.loop-passed.search.front.queue.items in
+    let n = c.len.ensures in
+    let lt : c.loop-passed.passed < length queue = omega arith in
+    let read : c.index-node.result.now ≡ get_or queue c.loop-passed.passed 0 = get_or_read queue c.loop-passed.passed c.index-node.result.now lt c.index-node.ensures 0 in
+    let P : ℕ → Type 0 = IsNode boxes pieces in
+    record {
+      searchable = c.requires.searchable;
+      indexed = c.requires.indexed;
+      pieces = c.requires.pieces;
+      search = c.loop-passed.invariant.search;
+      node = subst P (sym read)
+          (reached_node tech boxes pieces c.args.start (get_or queue c.loop-passed.passed 0) c.requires.in_range (c.loop-passed.invariant.spreading.queued (get_or queue c.loop-passed.passed 0) (Contains-get_or queue c.loop-passed.passed 0 lt)).2);
+    }
+
+pub loop-passed-preserved : goal.loop-passed-preserved
+loop-passed-preserved c =
+    let tech = c.args.tech.now in
+    let boxes = c.args.boxes.now in
+    let pieces = c.args.pieces.now.placed.items in
+    let front = c.loop-passed.search.front in
+    let new = c.visit_node.new.search.front in
+    let queue = front.queue.items in
+    let passed = c.loop-passed.passed in
+    let n = c.len.ensures in
+    let lt : passed < length queue = omega arith in
+    let read : c.index-node.result.now ≡ get_or queue passed 0 = get_or_read queue passed c.index-node.result.now lt c.index-node.ensures 0 in
+    let P : ℕ → Type 0 = λ x. AreReached (AreBeside tech boxes pieces x) c.args.net front.marks.items new.marks.items queue new.queue.items in
+    record {
+      search = c.in_ok-visit_node.ensures.search;
+      spreading = spreading_more (AreBeside tech boxes pieces) c.args.start c.args.net c.args.search.now.front.marks.items front.marks.items new.marks.items queue new.queue.items passed lt c.loop-passed.invariant.spreading
+          (subst P read c.in_ok-visit_node.ensures.reached);
+    }
+
+pub loop-passed-smaller : goal.loop-passed-smaller
+loop-passed-smaller c =
+    let l = c.in_ok-visit_node.ensures.reached.left in
+    let t = c.loop-passed-test.true in
+    let n = c.len.ensures in
+    omega arith
+
+pub returns-clause-spread : goal.returns-clause-spread
+returns-clause-spread c =
+    let n = c.len.ensures in
+    let past = c.loop-passed-test.false in
+    spreading_done (AreBeside c.args.tech.now c.args.boxes.now c.args.pieces.now.placed.items) c.args.start c.args.net c.args.search.now.front.marks.items c.loop-passed.search.front.marks.items c.loop-passed.search.front.queue.items
+    c.loop-passed.passed (omega arith) c.loop-passed.invariant.spreading

@@ -1,0 +1,99 @@
+-- Trees of spots that stand for nodes, marks of nodes, and groups of which all nodes are marked.
+use Rattle.std.specs.Prelude.{◌≡◌, ℕ, ◌+◌, ◌<◌, ◌≤◌, pos, Bool, false, IsTrue, None, Option, List, length, slice_index_or}
+use Rattle.box_tree.specs.declared.query.Query.{Query}
+use Rattle.box_tree.specs.declared.spots.Group.{Group}
+use Rattle.box_tree.specs.declared.spots.Spot.{Spot}
+use Rattle.box_tree.specs.Queries.{Holds}
+use Rattle.box_tree.specs.Tree.{no_spot, spot_at, IsTreeOf}
+use Rattle.graph_search.specs.Search.{mark_of, IsMarked}
+use Rattle.net_extract.specs.declared.groves.Grove.{Grove}
+use Rattle.net_extract.specs.declared.groves.Plan.{Plan}
+
+-- ---- spots and groups by number
+
+abbrev pub spot_of : List Spot → ℕ → Spot
+spot_of spots k = slice_index_or spots k no_spot
+
+abbrev pub no_group : Group
+no_group = record {
+  outer = no_spot.area;
+  inner = record { x = record { lo = pos 0; hi = pos 0 }; y = record { lo = pos 0; hi = pos 0 } };
+  tag = None;
+  start = 0;
+  count = 0;
+  inside = 0;
+}
+
+abbrev pub group_at : List Group → ℕ → Group
+group_at groups g = slice_index_or groups g no_group
+
+-- the spot at a place
+abbrev pub spot_in : Plan → ℕ → Spot
+spot_in plan p = spot_at plan.spots.items plan.order.items p
+
+abbrev pub IsPlan : Plan → Type 0
+IsPlan plan = IsTreeOf plan.spots.items plan.order.items plan.groups.items
+
+-- the tags of spots are numbers of nodes
+abbrev pub AreTagsWithin : ℕ → List Spot → Type 0
+AreTagsWithin count spots = (k : ℕ) → k < length spots → (spot_of spots k).tag < count
+
+-- ---- groups of which all nodes are marked
+
+abbrev pub IsInRun : Group → ℕ → Type 0
+IsInRun group p = (group.start ≤ p) × (p < group.start + group.count)
+
+-- a place in a group that is spent
+pub record InSpent (groups : List Group) (spent : List Bool) (p : ℕ) : Type 0 where
+  pub g : ℕ
+  pub flagged : IsTrue (slice_index_or spent g false)
+  pub in_run : IsInRun (group_at groups g) p
+
+abbrev pub IsRunSpent : List Group → List Bool → ℕ → Type 0
+IsRunSpent groups spent at = (p : ℕ) → IsInRun (group_at groups at) p → InSpent groups spent p
+
+abbrev pub IsMarkedAt : Plan → List (Option ℕ) → ℕ → Type 0
+IsMarkedAt plan marks p = IsMarked marks (spot_in plan p).tag
+
+abbrev pub IsRunMarked : Plan → List (Option ℕ) → ℕ → ℕ → Type 0
+IsRunMarked plan marks first end = (p : ℕ) → first ≤ p → p < end → IsMarkedAt plan marks p
+
+-- all nodes of groups that are spent are marked
+pub record AreSpent (plan : Plan) (marks : List (Option ℕ)) (spent : List Bool) : Type 0 where
+  pub counted : length spent ≡ length plan.groups.items
+  pub each : (p : ℕ) → InSpent plan.groups.items spent p → IsMarkedAt plan marks p
+
+pub record IsGrove (marks : List (Option ℕ)) (grove : Grove) : Type 0 where
+  pub plan : IsPlan grove.plan
+  pub tags : AreTagsWithin (length marks) grove.plan.spots.items
+  pub spent : AreSpent grove.plan marks grove.spent.items
+
+-- a grove of these spots, of which no group is spent
+pub record IsNewGrove (spots : List Spot) (grove : Grove) : Type 0 where
+  pub plan : IsPlan grove.plan
+  pub spots_are : grove.plan.spots.items ≡ spots
+  pub counted : length grove.spent.items ≡ length grove.plan.groups.items
+  pub unspent : (g : ℕ) → IsTrue (slice_index_or grove.spent.items g false) → ⊥
+
+-- ---- what is found
+
+-- the node of a spot that has a property
+pub record IsOf (spots : List Spot) (Is : Spot → Type 0) (y : ℕ) : Type 0 where
+  pub k : ℕ
+  pub among : k < length spots
+  pub tag : (spot_of spots k).tag ≡ y
+  pub is : Is (spot_of spots k)
+
+-- the node of a spot that holds a query, without a mark
+pub record IsUnreached (spots : List Spot) (query : Query) (marks : List (Option ℕ)) (y : ℕ) : Type 0 where
+  pub of : IsOf spots (Holds query) y
+  pub unmarked : mark_of marks y ≡ None
+
+-- the same of a spot at some places
+pub record IsUnreachedWithin (plan : Plan) (query : Query) (marks : List (Option ℕ)) (first end y : ℕ) : Type 0 where
+  pub p : ℕ
+  pub from : first ≤ p
+  pub before : p < end
+  pub tag : (spot_in plan p).tag ≡ y
+  pub holds : Holds query (spot_in plan p)
+  pub unmarked : mark_of marks y ≡ None

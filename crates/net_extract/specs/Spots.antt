@@ -1,0 +1,69 @@
+-- The spots of nodes, and trees of them.
+use Rattle.std.specs.Prelude.{◌≡◌, ◌≢◌, ℕ, ◌+◌, ◌<◌, ◌≤◌, IsTrue, List, length}
+use Rattle.box_tree.specs.declared.spots.Spot.{Spot}
+use Rattle.lam_geom.specs.declared.boxes.BoxXY.{BoxXY}
+use Rattle.lam_geom.specs.declared.boxes.MaskBox.{MaskBox}
+use Rattle.lam_geom.specs.declared.boxes.MaskLayer.{MaskLayer}
+use Rattle.lam_geom.specs.declared.boxes.MaskLayer.TheVariants.{ND, NP, NM}
+use Rattle.lam_geom.specs.Gaps.{Overlaps}
+use Rattle.rule_table.specs.declared.technology.Tech.{Tech}
+use Rattle.rule_table.specs.Technology.{has_buried_of}
+use Rattle.crossings.specs.Boxes.{area_at, layer_at}
+use Rattle.net_extract.specs.declared.placing.Placed.{Placed}
+use Rattle.net_extract.specs.declared.spots.PieceTrees.{PieceTrees}
+use Rattle.net_extract.specs.Groves.{spot_of}
+use Rattle.net_extract.specs.Linking.{cut_node, IsJoining}
+use Rattle.net_extract.specs.Pieces.{box_of, area_of}
+
+-- the spots of the numbers below n that have a property
+pub record AreSpots (n : ℕ) (P : ℕ → Type 0) (spot_at : ℕ → Spot) (spots : List Spot) : Type 0 where
+  pub each : (k : ℕ) → k < length spots → (a : ℕ) × (a < n) × P a × (spot_of spots k ≡ spot_at a)
+  pub all : (a : ℕ) → a < n → P a → (k : ℕ) × (k < length spots) × (spot_of spots k ≡ spot_at a)
+  pub few : length spots ≤ n
+
+-- a piece by the area that it covers
+abbrev pub piece_spot : List Placed → ℕ → Spot
+piece_spot pieces a = record { area = area_of pieces a; owner = box_of pieces a; tag = a }
+
+-- a piece by the area of its box
+abbrev pub box_spot : List MaskBox → List Placed → ℕ → Spot
+box_spot boxes pieces a = record { area = area_at boxes (box_of pieces a); owner = box_of pieces a; tag = a }
+
+-- a cut
+abbrev pub cut_spot : List MaskBox → List Placed → ℕ → Spot
+cut_spot boxes pieces k = record { area = area_at boxes k; owner = k; tag = cut_node pieces k }
+
+abbrev pub IsPieceOn : List MaskBox → List Placed → MaskLayer → ℕ → Type 0
+IsPieceOn boxes pieces layer a = layer_at boxes (box_of pieces a) ≡ layer
+
+abbrev pub MayBeBuried : Tech → List MaskBox → List Placed → MaskLayer → ℕ → Type 0
+MayBeBuried tech boxes pieces layer a = IsTrue (has_buried_of tech) × IsPieceOn boxes pieces layer a
+
+-- the pieces on a layer
+abbrev pub ArePieceSpots : List MaskBox → List Placed → MaskLayer → List Spot → Type 0
+ArePieceSpots boxes pieces layer spots = AreSpots (length pieces) (IsPieceOn boxes pieces layer) (piece_spot pieces) spots
+
+-- the same by their boxes, where there are buried contacts
+abbrev pub AreBoxSpots : Tech → List MaskBox → List Placed → MaskLayer → List Spot → Type 0
+AreBoxSpots tech boxes pieces layer spots = AreSpots (length pieces) (MayBeBuried tech boxes pieces layer) (box_spot boxes pieces) spots
+
+-- the cuts that join
+abbrev pub AreCutSpots : List MaskBox → List Placed → List Spot → Type 0
+AreCutSpots boxes pieces spots = AreSpots (length boxes) (IsJoining boxes pieces) (cut_spot boxes pieces) spots
+
+pub record ArePieceTrees (boxes : List MaskBox) (pieces : List Placed) (trees : PieceTrees) : Type 0 where
+  pub diffusion : ArePieceSpots boxes pieces ND trees.diffusion
+  pub poly : ArePieceSpots boxes pieces NP trees.poly
+  pub metal : ArePieceSpots boxes pieces NM trees.metal
+
+-- ---- what lies over a cut
+
+-- a piece that overlaps an area, and is not of this box
+pub record IsOverOther (pieces : List Placed) (area : BoxXY) (box_no x : ℕ) : Type 0 where
+  pub among : x < length pieces
+  pub over : Overlaps area (area_of pieces x)
+  pub apart : box_of pieces x ≢ box_no
+
+-- the box of such a piece
+abbrev pub IsOwnerOver : List Placed → BoxXY → ℕ → ℕ → Type 0
+IsOwnerOver pieces area box_no owner = (x : ℕ) × IsOverOther pieces area box_no x × (box_of pieces x ≡ owner)

@@ -1,0 +1,119 @@
+-- A search over nodes: what one step reaches, what one search reaches, and what all of them leave.
+use Rattle.std.specs.Prelude.{◌≡◌, ℕ, ◌+◌, ◌<◌, ◌≤◌, ◌⊎◌, Option, Some, None, Contains, List, [], ◌∷◌, length, slice_index, slice_set}
+use Rattle.lam_geom.specs.declared.boxes.MaskBox.{MaskBox}
+use Rattle.lam_geom.specs.declared.boxes.MaskLayer.{MaskLayer}
+use Rattle.lam_geom.specs.declared.boxes.MaskLayer.TheVariants.{ND, NP, NM}
+use Rattle.rule_table.specs.declared.technology.Tech.{Tech}
+use Rattle.box_tree.specs.declared.query.Query.{Query}
+use Rattle.box_tree.specs.declared.spots.Spot.{Spot}
+use Rattle.box_tree.specs.Queries.{Answers, Holds}
+use Rattle.graph_search.specs.Netting.{Reaches}
+use Rattle.graph_search.specs.Search.{mark_of, IsMarked, unmarked, AreKept}
+use Rattle.net_extract.specs.declared.groves.Grove.{Grove}
+use Rattle.net_extract.specs.declared.reaching.Front.{Front}
+use Rattle.net_extract.specs.declared.searches.Search.{Search}
+use Rattle.net_extract.specs.declared.placing.Placed.{Placed}
+use Rattle.net_extract.specs.Groves.{IsGrove, IsOf}
+use Rattle.net_extract.specs.Linking.{cut_node, IsJoining, IsPairWith}
+use Rattle.net_extract.specs.Pieces.{box_of}
+use Rattle.net_extract.specs.Spots.{IsPieceOn, piece_spot, cut_spot, ArePieceSpots, AreBoxSpots, AreCutSpots}
+
+-- ---- one step
+
+-- the nodes with a property that had no mark have been given a net and put at the end of the queue
+pub record AreReached (Is : ℕ → Type 0) (net : ℕ) (old new : List (Option ℕ)) (before after : List ℕ) : Type 0 where
+  pub counted : length new ≡ length old
+  pub kept : AreKept old new
+  pub fresh : (k n : ℕ) → mark_of old k ≡ None → mark_of new k ≡ Some n → (n ≡ net) × Contains after k
+  pub marked : (k : ℕ) → Is k → IsMarked new k
+  pub longer : length before ≤ length after
+  pub front : (j : ℕ) → j < length before → slice_index after j ≡ slice_index before j
+  pub queued : (k : ℕ) → Contains after k → Contains before k ⊎ ((mark_of old k ≡ None) × (mark_of new k ≡ Some net) × Is k)
+  pub left : unmarked new + length after ≡ unmarked old + length before
+
+abbrev pub IsFrontReached : (ℕ → Type 0) → ℕ → Front → Front → Type 0
+IsFrontReached Is net old new = AreReached Is net old.marks.items new.marks.items old.queue.items new.queue.items
+
+-- the same of the nodes of a grove
+pub record IsGroveReached (Is : ℕ → Type 0) (net : ℕ) (grove grown : Grove) (old new : Front) : Type 0 where
+  pub plan : grown.plan ≡ grove.plan
+  pub stands : IsGrove new.marks.items grown
+  pub reached : IsFrontReached Is net old new
+
+-- a search begins at one node
+pub record IsBegun (start net : ℕ) (old new : Front) : Type 0 where
+  pub marks : new.marks.items ≡ slice_set old.marks.items start (Some net)
+  pub queue : new.queue.items ≡ start ∷ []
+
+-- a node of a spot that holds a query, of which the box is a buried pair with this one
+pub record IsBuriedOf (tech : Tech) (boxes : List MaskBox) (pieces : List Placed) (box_no : ℕ) (spots : List Spot) (query : Query) (y : ℕ) : Type 0 where
+  pub of : IsOf spots (Holds query) y
+  pub pair : IsPairWith tech boxes box_no (box_of pieces y)
+
+-- the same of some numbers
+abbrev pub IsOfPair : Tech → List MaskBox → List Placed → ℕ → List ℕ → ℕ → Type 0
+IsOfPair tech boxes pieces box_no numbers y = Contains numbers y × IsPairWith tech boxes box_no (box_of pieces y)
+
+-- ---- the groves of a search
+
+-- a grove of spots of a kind
+pub record IsGroveOf (Are : List Spot → Type 0) (front : Front) (grove : Grove) : Type 0 where
+  pub stands : IsGrove front.marks.items grove
+  pub shows : Are grove.plan.spots.items
+
+pub record IsSearch (tech : Tech) (boxes : List MaskBox) (pieces : List Placed) (search : Search) : Type 0 where
+  pub counted : length search.front.marks.items ≡ length pieces + length boxes
+  pub diffusion : IsGroveOf (ArePieceSpots boxes pieces ND) search.front search.diffusion
+  pub poly : IsGroveOf (ArePieceSpots boxes pieces NP) search.front search.poly
+  pub metal : IsGroveOf (ArePieceSpots boxes pieces NM) search.front search.metal
+  pub cuts : IsGroveOf (AreCutSpots boxes pieces) search.front search.cuts
+  pub under : IsGroveOf (AreBoxSpots tech boxes pieces ND) search.front search.under
+  pub over : IsGroveOf (AreBoxSpots tech boxes pieces NP) search.front search.over
+
+-- a step of a search
+pub record IsStep (tech : Tech) (boxes : List MaskBox) (pieces : List Placed) (Is : ℕ → Type 0) (net : ℕ) (old new : Search) : Type 0 where
+  pub search : IsSearch tech boxes pieces new
+  pub reached : IsFrontReached Is net old.front new.front
+
+-- a piece on a layer that answers a query
+pub record IsAnswer (boxes : List MaskBox) (pieces : List Placed) (layer : MaskLayer) (query : Query) (y : ℕ) : Type 0 where
+  pub among : y < length pieces
+  pub on_layer : IsPieceOn boxes pieces layer y
+  pub answers : Answers query.question query.area (piece_spot pieces y)
+
+-- a cut that joins and answers a query
+pub record IsCutAnswer (boxes : List MaskBox) (pieces : List Placed) (query : Query) (y : ℕ) : Type 0 where
+  pub cut : ℕ
+  pub node : y ≡ cut_node pieces cut
+  pub joins : IsJoining boxes pieces cut
+  pub answers : Answers query.question query.area (cut_spot boxes pieces cut)
+
+-- a piece of which the box is a buried pair with this one
+pub record IsPartner (tech : Tech) (boxes : List MaskBox) (pieces : List Placed) (box_no y : ℕ) : Type 0 where
+  pub among : y < length pieces
+  pub pair : IsPairWith tech boxes box_no (box_of pieces y)
+
+-- marks of so many nodes, of which none has been reached
+pub record IsNewFront (count : ℕ) (front : Front) : Type 0 where
+  pub counted : length front.marks.items ≡ count
+  pub unmarked : (k : ℕ) → mark_of front.marks.items k ≡ None
+
+pub record IsNewSearch (tech : Tech) (boxes : List MaskBox) (pieces : List Placed) (search : Search) : Type 0 where
+  pub ready : IsSearch tech boxes pieces search
+  pub unmarked : (k : ℕ) → mark_of search.front.marks.items k ≡ None
+
+-- ---- whole searches, where some nodes are beside others
+
+-- all that a node reaches over nodes with no mark has been given a net
+pub record IsSpread (Beside : ℕ → ℕ → Type 0) (start net : ℕ) (old new : List (Option ℕ)) : Type 0 where
+  pub counted : length new ≡ length old
+  pub kept : AreKept old new
+  pub fresh : (k n : ℕ) → mark_of old k ≡ None → mark_of new k ≡ Some n → (n ≡ net) × Reaches Beside start k
+  pub begun : mark_of new start ≡ Some net
+  pub closed : (k n b : ℕ) → mark_of old k ≡ None → mark_of new k ≡ Some n → Beside k b → IsMarked new b
+
+-- the marks are nets below `next`, each of them whole
+pub record AreWhole (Beside : ℕ → ℕ → Type 0) (next : ℕ) (marks : List (Option ℕ)) : Type 0 where
+  pub below : (a net : ℕ) → mark_of marks a ≡ Some net → net < next
+  pub joined : (a b net : ℕ) → mark_of marks a ≡ Some net → mark_of marks b ≡ Some net → Reaches Beside a b
+  pub closed : (a b net : ℕ) → mark_of marks a ≡ Some net → Beside a b → mark_of marks b ≡ Some net

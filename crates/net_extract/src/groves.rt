@@ -1,0 +1,120 @@
+//! Trees of spots from which those that have been reached are left out: as the search goes on, ever fewer groups are walked
+//! through.
+ghost use Rattle.std.specs.Prelude.{◌≡◌, ◌+◌, ◌<◌, ◌≤◌, [], IfOk, IsTrue, List, OnOk, length};
+ghost use Rattle.box_tree.specs.declared.spots.Group.{Group};
+ghost use Rattle.box_tree.specs.declared.spots.Spot.{Spot};
+ghost use Rattle.box_tree.specs.Queries.{IsQuery};
+ghost use Rattle.net_extract.specs.Linking.{AreGathered};
+ghost use Rattle.net_extract.specs.Groves.{group_at, IsPlan, AreSpent, AreTagsWithin, IsUnreached, IsUnreachedWithin, IsRunSpent, IsRunMarked, IsNewGrove};
+
+use box_tree::{BoxTree, Group, Query, Spot};
+use std::alloc::{AllocError, Global};
+
+/// A tree as it stands: its spots, their numbers in the order in which the groups have them, and the groups.
+#[derive(Debug, Drop)]
+pub struct Plan {
+    pub spots: Vec<Spot>,
+    pub order: Vec<u32>,
+    pub groups: Vec<Group>,
+}
+
+/// A tree of spots, of which the tags are numbers of nodes, and of each group whether it is known that all its nodes have been
+/// reached.
+#[derive(Debug, Drop)]
+pub struct Grove {
+    pub plan: Plan,
+    pub spent: Vec<bool>,
+}
+
+/// A grove of a tree, of which nothing has been reached. The only refusal is want of memory.
+pub fn new_grove(alloc: Global, tree: BoxTree) -> Result<Grove, AllocError>
+    ensures { IfOk result (IsNewGrove tree) }
+{
+    let parts = tree.parts();
+    let plan = Plan {
+        spots: Vec::from_slice(alloc, parts.spots)?,
+        order: Vec::from_slice(alloc, parts.order)?,
+        groups: Vec::from_slice(alloc, parts.groups)?,
+    };
+    let spent = vec![in alloc; false; parts.groups.len()]?;
+    Ok(Grove { plan, spent })
+}
+
+/// The nodes that have no mark, of spots that hold a query, in place of what was in `found`. The only refusal is want of
+/// memory.
+pub fn unreached(
+    plan: &Plan,
+    spent: &mut Vec<bool>,
+    marks: &[Option<u32>],
+    query: &Query,
+    found: &mut Vec<u32>,
+) -> Result<(), AllocError>
+    requires plan { IsPlan plan.now }
+    requires tags { AreTagsWithin (length marks.now) plan.now.spots.items }
+    requires spent { AreSpent plan.now marks.now spent.old.items }
+    requires query { IsQuery query.now }
+    ensures found { OnOk result (AreGathered (IsUnreached plan.now.spots.items query.now marks.now) [] found.new.items) }
+    ensures spent { OnOk result (AreSpent plan.now marks.now spent.new.items) }
+{
+    found.clear();
+    let mut at = 0;
+    while at < plan.groups.len() {
+        let group = plan.groups[at];
+        if spent[at] || !group.may_hold(query) {
+            at += 1 + group.inside as usize;
+        } else if group.inside == 0 {
+            let end = group.start + group.count;
+            spent[at] = look_through(plan, group.start, end, marks, query, found)?;
+            at += 1;
+        } else {
+            spent[at] = is_spent_inside(plan, spent.as_slice(), at);
+            at += 1;
+        }
+    }
+    Ok(())
+}
+
+// Puts the nodes that have no mark, of spots at some places that hold a query, behind those in `found`. Whether all have one.
+fn look_through(
+    plan: &Plan,
+    first: u32,
+    end: u32,
+    marks: &[Option<u32>],
+    query: &Query,
+    found: &mut Vec<u32>,
+) -> Result<bool, AllocError>
+    requires plan { IsPlan plan.now }
+    requires tags { AreTagsWithin (length marks.now) plan.now.spots.items }
+    requires query { IsQuery query.now }
+    requires within { end ≤ length plan.now.order.items }
+    ensures found { OnOk result (AreGathered (IsUnreachedWithin plan.now query.now marks.now first end) found.old.items found.new.items) }
+    ensures all { IfOk result (λ all. IsTrue all → IsRunMarked plan.now marks.now first end) }
+{
+    let mut all = true;
+    for place in first..end {
+        let spot = plan.spots[plan.order[place as usize] as usize];
+        if marks[spot.tag as usize].is_none() {
+            all = false;
+            if query.holds(&spot) {
+                found.push(spot.tag)?;
+            }
+        }
+    }
+    Ok(all)
+}
+
+// Whether it is known of all groups inside a group that all their nodes have been reached.
+fn is_spent_inside(plan: &Plan, spent: &[bool], at: usize) -> bool
+    requires plan { IsPlan plan.now }
+    requires among { at < length plan.now.groups.items }
+    requires some { 0 < (group_at plan.now.groups.items at).inside }
+    requires counted { length spent.now ≡ length plan.now.groups.items }
+    ensures { IsTrue result → IsRunSpent plan.now.groups.items spent.now at }
+{
+    let end = at + 1 + plan.groups[at].inside as usize;
+    let mut next = at + 1;
+    while next < end && spent[next] {
+        next += 1 + plan.groups[next].inside as usize;
+    }
+    next == end
+}

@@ -1,0 +1,172 @@
+//! One step of a search: the nodes without a mark that some spots show are given a net.
+ghost use Rattle.std.specs.Prelude.{◌≡◌, ℕ, ◌<◌, ◌↔◌, [], All, IfOk, IsTrue, OnOk, length};
+ghost use Rattle.box_tree.specs.Queries.{Holds, IsQuery};
+ghost use Rattle.crossings.specs.Boxes.{AreSearchable};
+ghost use Rattle.graph_search.specs.Search.{AreVisited};
+ghost use Rattle.net_extract.specs.Groves.{AreTagsWithin, IsGrove, IsOf};
+ghost use Rattle.net_extract.specs.Linking.{AreGathered, IsPairWith};
+ghost use Rattle.net_extract.specs.Pieces.{box_of, IsOfBoxes};
+ghost use Rattle.net_extract.specs.Spreading.{IsGroveReached, IsBuriedOf, IsOfPair};
+
+use crate::groves::{Grove, unreached};
+use crate::placing::Placed;
+use box_index::BoxIndex;
+use box_tree::Query;
+use crossings::is_buried_pair;
+use lam_geom::MaskBox;
+use rule_table::Tech;
+use std::alloc::AllocError;
+
+/// How far a search has come: the net of each node that has one, and the nodes that this search has reached, in order. The
+/// others are buffers.
+#[derive(Debug, Drop)]
+pub struct Front {
+    pub marks: Vec<Option<u32>>,
+    pub queue: Vec<u32>,
+    pub found: Vec<u32>,
+    pub kept: Vec<u32>,
+    pub windows: Vec<u32>,
+}
+
+/// Gives a net to the nodes without one whose spots hold a query. The only refusal is want of memory.
+pub fn reach(
+    grove: &mut Grove,
+    query: &Query,
+    net: u32,
+    front: &mut Front,
+) -> Result<(), AllocError>
+    requires grove { IsGrove front.old.marks.items grove.old }
+    requires query { IsQuery query.now }
+    ensures { OnOk result (IsGroveReached (IsOf grove.old.plan.spots.items (Holds query.now)) net grove.old grove.new front.old front.new) }
+{
+    let marks = front.marks.as_slice();
+    unreached(
+        &grove.plan,
+        &mut grove.spent,
+        marks,
+        query,
+        &mut front.found,
+    )?;
+    visit(
+        front.found.as_slice(),
+        net,
+        &mut front.marks,
+        &mut front.queue,
+    )?;
+    Ok(())
+}
+
+/// The same of those of which the boxes are buried pairs with a box. The only refusal is want of memory.
+pub fn reach_buried(
+    tech: &Tech,
+    boxes: &[MaskBox],
+    index: &BoxIndex,
+    placed: &[Placed],
+    box_no: u32,
+    grove: &mut Grove,
+    query: &Query,
+    net: u32,
+    front: &mut Front,
+) -> Result<(), AllocError>
+    requires searchable { AreSearchable boxes.now }
+    requires indexed { index.now ≡ boxes.now }
+    requires placed { All (IsOfBoxes boxes.now) placed.now }
+    requires box_no { box_no < length boxes.now }
+    requires grove { IsGrove front.old.marks.items grove.old }
+    requires tags { AreTagsWithin (length placed.now) grove.old.plan.spots.items }
+    requires query { IsQuery query.now }
+    ensures { OnOk result (IsGroveReached (IsBuriedOf tech.now boxes.now placed.now box_no grove.old.plan.spots.items query.now) net grove.old grove.new front.old front.new) }
+{
+    let marks = front.marks.as_slice();
+    unreached(
+        &grove.plan,
+        &mut grove.spent,
+        marks,
+        query,
+        &mut front.found,
+    )?;
+    front.kept.clear();
+    keep_buried(
+        tech,
+        boxes,
+        index,
+        placed,
+        box_no,
+        front.found.as_slice(),
+        &mut front.windows,
+        &mut front.kept,
+    )?;
+    visit(
+        front.kept.as_slice(),
+        net,
+        &mut front.marks,
+        &mut front.queue,
+    )?;
+    Ok(())
+}
+
+// Puts those of some pieces of which the boxes are buried pairs with a box behind those in `kept`.
+fn keep_buried(
+    tech: &Tech,
+    boxes: &[MaskBox],
+    index: &BoxIndex,
+    placed: &[Placed],
+    box_no: u32,
+    numbers: &[u32],
+    windows: &mut Vec<u32>,
+    kept: &mut Vec<u32>,
+) -> Result<(), AllocError>
+    requires searchable { AreSearchable boxes.now }
+    requires indexed { index.now ≡ boxes.now }
+    requires placed { All (IsOfBoxes boxes.now) placed.now }
+    requires box_no { box_no < length boxes.now }
+    requires numbers { All (λ y. y < length placed.now) numbers.now }
+    ensures { OnOk result (AreGathered (IsOfPair tech.now boxes.now placed.now box_no numbers.now) kept.old.items kept.new.items) }
+{
+    for &y in numbers {
+        let other = placed[y as usize].box_no;
+        if is_pair_with(tech, boxes, index, box_no, other, windows)? {
+            kept.push(y)?;
+        }
+    }
+    Ok(())
+}
+
+// Whether two boxes, in either order, are a buried pair.
+fn is_pair_with(
+    tech: &Tech,
+    boxes: &[MaskBox],
+    index: &BoxIndex,
+    a: u32,
+    b: u32,
+    windows: &mut Vec<u32>,
+) -> Result<bool, AllocError>
+    requires searchable { AreSearchable boxes.now }
+    requires indexed { index.now ≡ boxes.now }
+    requires first { a < length boxes.now }
+    requires second { b < length boxes.now }
+    ensures { IfOk result (λ is_pair. IsTrue is_pair ↔ IsPairWith tech.now boxes.now a b) }
+{
+    let forth = is_buried_pair(tech, boxes, index, a, b, windows)?;
+    let back = is_buried_pair(tech, boxes, index, b, a, windows)?;
+    Ok(forth || back)
+}
+
+// Gives a net to those of some nodes that have none, and puts them at the end of the queue.
+fn visit(
+    nodes: &[u32],
+    net: u32,
+    marks: &mut Vec<Option<u32>>,
+    queue: &mut Vec<u32>,
+) -> Result<(), AllocError>
+    requires { All (λ k. k < length marks.old.items) nodes.now }
+    ensures { OnOk result (AreVisited nodes.now net marks.old.items marks.new.items queue.old.items queue.new.items) }
+{
+    for &node in nodes {
+        if marks[node as usize].is_none() {
+            queue.push(node)?;
+            marks[node as usize] = Some(net);
+        }
+    }
+    Ok(())
+}

@@ -1,0 +1,243 @@
+//! Searches over pieces and cuts: from each node to those that are beside it.
+ghost use Rattle.std.specs.Prelude.{◌≡◌, ◌<◌, pos, negsuc, OnOk, None, length};
+ghost use Rattle.box_tree.specs.declared.query.Question.TheVariants.{NearOfOther};
+ghost use Rattle.box_tree.specs.Queries.{IsQuery};
+ghost use Rattle.crossings.specs.Boxes.{AreSearchable};
+ghost use Rattle.graph_search.specs.Search.{mark_of};
+ghost use Rattle.net_extract.specs.Linking.{AreBeside, IsNode, cut_node};
+ghost use Rattle.net_extract.specs.Linking.{IsJoining};
+ghost use Rattle.net_extract.specs.Pieces.{ArePiecesOf, Conducts};
+ghost use Rattle.net_extract.specs.Spreading.{IsSearch, IsStep, IsAnswer, IsCutAnswer, IsPartner, IsSpread, IsBegun};
+
+use crate::groves::Grove;
+use crate::placing::Pieces;
+use crate::reaching::{Front, reach, reach_buried};
+use box_index::BoxIndex;
+use box_tree::{Query, Question};
+use lam_geom::{BoxXY, MaskBox, MaskLayer};
+use rule_table::Tech;
+use std::alloc::AllocError;
+
+/// The nodes of some pieces: pieces on each layer by their areas, cuts that join, and where there are buried contacts pieces of
+/// diffusion and of poly by the areas of their boxes.
+#[derive(Debug, Drop)]
+pub struct Search {
+    pub diffusion: Grove,
+    pub poly: Grove,
+    pub metal: Grove,
+    pub cuts: Grove,
+    pub under: Grove,
+    pub over: Grove,
+    pub front: Front,
+}
+
+/// Gives a net to a piece that has none and to all nodes that it reaches. The only refusal is want of memory.
+pub fn spread(
+    tech: &Tech,
+    boxes: &[MaskBox],
+    index: &BoxIndex,
+    pieces: &Pieces,
+    start: u32,
+    net: u32,
+    search: &mut Search,
+) -> Result<(), AllocError>
+    requires searchable { AreSearchable boxes.now }
+    requires indexed { index.now ≡ boxes.now }
+    requires pieces { ArePiecesOf boxes.now pieces.now }
+    requires search { IsSearch tech.now boxes.now pieces.now.placed.items search.old }
+    requires in_range { start < length pieces.now.placed.items }
+    requires unmarked { mark_of search.old.front.marks.items start ≡ None }
+    ensures search { OnOk result (IsSearch tech.now boxes.now pieces.now.placed.items search.new) }
+    ensures spread { OnOk result (IsSpread (AreBeside tech.now boxes.now pieces.now.placed.items) start net search.old.front.marks.items search.new.front.marks.items) }
+{
+    begin(start, net, &mut search.front)?;
+    let mut passed = 0;
+    while passed < search.front.queue.len() {
+        let node = search.front.queue[passed];
+        visit_node(tech, boxes, index, pieces, node, net, search)?;
+        passed += 1;
+    }
+    Ok(())
+}
+
+// Gives a net to the piece from which a search begins.
+fn begin(start: u32, net: u32, front: &mut Front) -> Result<(), AllocError>
+    requires in_range { start < length front.old.marks.items }
+    ensures { OnOk result (IsBegun start net front.old front.new) }
+{
+    front.queue.clear();
+    front.queue.push(start)?;
+    front.marks[start as usize] = Some(net);
+    Ok(())
+}
+
+// Gives a net to the nodes without one that are beside a node.
+fn visit_node(
+    tech: &Tech,
+    boxes: &[MaskBox],
+    index: &BoxIndex,
+    pieces: &Pieces,
+    node: u32,
+    net: u32,
+    search: &mut Search,
+) -> Result<(), AllocError>
+    requires searchable { AreSearchable boxes.now }
+    requires indexed { index.now ≡ boxes.now }
+    requires pieces { ArePiecesOf boxes.now pieces.now }
+    requires search { IsSearch tech.now boxes.now pieces.now.placed.items search.old }
+    requires node { IsNode boxes.now pieces.now.placed.items node }
+    ensures { OnOk result (IsStep tech.now boxes.now pieces.now.placed.items (AreBeside tech.now boxes.now pieces.now.placed.items node) net search.old search.new) }
+{
+    let count = pieces.placed.len() as u32;
+    if node < count {
+        visit_piece(tech, boxes, index, pieces, node, net, search)
+    } else {
+        visit_cut(tech, boxes, pieces, node - count, net, search)
+    }
+}
+
+// The same beside a piece.
+fn visit_piece(
+    tech: &Tech,
+    boxes: &[MaskBox],
+    index: &BoxIndex,
+    pieces: &Pieces,
+    a: u32,
+    net: u32,
+    search: &mut Search,
+) -> Result<(), AllocError>
+    requires searchable { AreSearchable boxes.now }
+    requires indexed { index.now ≡ boxes.now }
+    requires pieces { ArePiecesOf boxes.now pieces.now }
+    requires search { IsSearch tech.now boxes.now pieces.now.placed.items search.old }
+    requires in_range { a < length pieces.now.placed.items }
+    ensures { OnOk result (IsStep tech.now boxes.now pieces.now.placed.items (AreBeside tech.now boxes.now pieces.now.placed.items a) net search.old search.new) }
+{
+    let piece = pieces.placed[a as usize];
+    let layer = boxes[piece.box_no as usize].layer;
+    let touching = near(&piece.area, 0, piece.box_no);
+    let over = near(&piece.area, -1, piece.box_no);
+    reach_pieces(tech, boxes, pieces, layer, &touching, net, search)?;
+    reach_cuts(tech, boxes, pieces, &over, net, search)?;
+    reach_partners(tech, boxes, index, pieces, piece.box_no, net, search)?;
+    Ok(())
+}
+
+// The same beside a cut that joins.
+fn visit_cut(
+    tech: &Tech,
+    boxes: &[MaskBox],
+    pieces: &Pieces,
+    cut: u32,
+    net: u32,
+    search: &mut Search,
+) -> Result<(), AllocError>
+    requires searchable { AreSearchable boxes.now }
+    requires pieces { ArePiecesOf boxes.now pieces.now }
+    requires search { IsSearch tech.now boxes.now pieces.now.placed.items search.old }
+    requires joining { IsJoining boxes.now pieces.now.placed.items cut }
+    ensures { OnOk result (IsStep tech.now boxes.now pieces.now.placed.items (AreBeside tech.now boxes.now pieces.now.placed.items (cut_node pieces.now.placed.items cut)) net search.old search.new) }
+{
+    let over = near(&boxes[cut as usize].area, -1, cut);
+    reach_pieces(tech, boxes, pieces, MaskLayer::ND, &over, net, search)?;
+    reach_pieces(tech, boxes, pieces, MaskLayer::NP, &over, net, search)?;
+    reach_pieces(tech, boxes, pieces, MaskLayer::NM, &over, net, search)?;
+    Ok(())
+}
+
+// What lies no farther than so much from an area, and is of another box.
+fn near(area: &BoxXY, reach: i64, owner: u32) -> Query
+    ensures { result ≡ record { area = area.now; question = NearOfOther reach owner } }
+{
+    Query {
+        area: *area,
+        question: Question::NearOfOther { reach, owner },
+    }
+}
+
+// Gives a net to the pieces without one on a layer that hold a query.
+fn reach_pieces(
+    tech: &Tech,
+    boxes: &[MaskBox],
+    pieces: &Pieces,
+    layer: MaskLayer,
+    query: &Query,
+    net: u32,
+    search: &mut Search,
+) -> Result<(), AllocError>
+    requires query { IsQuery query.now }
+    requires conducts { Conducts layer }
+    requires search { IsSearch tech.now boxes.now pieces.now.placed.items search.old }
+    ensures { OnOk result (IsStep tech.now boxes.now pieces.now.placed.items (IsAnswer boxes.now pieces.now.placed.items layer query.now) net search.old search.new) }
+{
+    match layer {
+        MaskLayer::ND => reach(&mut search.diffusion, query, net, &mut search.front),
+        MaskLayer::NP => reach(&mut search.poly, query, net, &mut search.front),
+        MaskLayer::NM => reach(&mut search.metal, query, net, &mut search.front),
+        MaskLayer::NC | MaskLayer::NI | MaskLayer::NB => Ok(()),
+    }
+}
+
+// Gives a net to the cuts without one that join and hold a query.
+fn reach_cuts(
+    tech: &Tech,
+    boxes: &[MaskBox],
+    pieces: &Pieces,
+    query: &Query,
+    net: u32,
+    search: &mut Search,
+) -> Result<(), AllocError>
+    requires query { IsQuery query.now }
+    requires search { IsSearch tech.now boxes.now pieces.now.placed.items search.old }
+    ensures { OnOk result (IsStep tech.now boxes.now pieces.now.placed.items (IsCutAnswer boxes.now pieces.now.placed.items query.now) net search.old search.new) }
+{
+    reach(&mut search.cuts, query, net, &mut search.front)
+}
+
+// Gives a net to the pieces without one of which the boxes are buried pairs with a box.
+fn reach_partners(
+    tech: &Tech,
+    boxes: &[MaskBox],
+    index: &BoxIndex,
+    pieces: &Pieces,
+    box_no: u32,
+    net: u32,
+    search: &mut Search,
+) -> Result<(), AllocError>
+    requires searchable { AreSearchable boxes.now }
+    requires indexed { index.now ≡ boxes.now }
+    requires pieces { ArePiecesOf boxes.now pieces.now }
+    requires search { IsSearch tech.now boxes.now pieces.now.placed.items search.old }
+    requires in_range { box_no < length boxes.now }
+    ensures { OnOk result (IsStep tech.now boxes.now pieces.now.placed.items (IsPartner tech.now boxes.now pieces.now.placed.items box_no) net search.old search.new) }
+{
+    let own = boxes[box_no as usize];
+    let over = near(&own.area, -1, box_no);
+    let placed = pieces.placed.as_slice();
+    let front = &mut search.front;
+    match own.layer {
+        MaskLayer::NP => reach_buried(
+            tech,
+            boxes,
+            index,
+            placed,
+            box_no,
+            &mut search.under,
+            &over,
+            net,
+            front,
+        ),
+        MaskLayer::ND => reach_buried(
+            tech,
+            boxes,
+            index,
+            placed,
+            box_no,
+            &mut search.over,
+            &over,
+            net,
+            front,
+        ),
+        MaskLayer::NM | MaskLayer::NC | MaskLayer::NI | MaskLayer::NB => Ok(()),
+    }
+}
