@@ -1,5 +1,5 @@
 -- What a reader keeps stays sound.
-use Rattle.std.proofs.Common.{◌≡◌, ◌≢◌, ℕ, zero, suc, unsigned_abs, FitsSigned, of_z, to_z, w64, ◌+◌, ◌<◌, ◌≤◌, ◌^◌, max, ℤ, pos, negsuc, int_lt, ◌*ℤ◌, Result, Ok, Err, OnOk, nat_le, ◌&&◌, Bool, true, false, cond, ◌||◌, Option, Some, None, IfSome, is_some, List, [], ◌∷◌, ◌++◌, All, map, fold, length, get_or, refl, sym, ap, ◌∙◌, subst, arith, nat_lt, ◌⊎◌, inl, inr}
+use Rattle.std.proofs.Common.{◌≡◌, ℕ, unsigned_abs, FitsSigned, of_z, to_z, w64, ◌+◌, ◌<◌, ◌≤◌, ◌^◌, max, ℤ, pos, negsuc, int_lt, ◌*ℤ◌, Result, Ok, Err, OnOk, nat_le, ◌&&◌, Bool, true, false, Option, Some, None, IfSome, is_some, List, [], ◌∷◌, ◌++◌, All, map, fold, length, get_or, refl, sym, ap, ◌∙◌, subst, arith, nat_lt, ◌⊎◌, inl, inr}
 use Rattle.std.specs.Ordering.{nat_cmp}
 use Rattle.std.specs.BTreeMap.{BTreeMap, get, Updates}
 use Rattle.std.proofs.lemmas.Int.{ints, to_z-of_z}
@@ -136,7 +136,7 @@ pub symbol_added : (count : ℕ) (symbols : List ForeignSymbol) (more : List For
     → AreSoundSymbols count symbols depths → AreSoundSymbols (count + 1) more deeper
 symbol_added count symbols more depths deeper symbol drawing e f same level shallow h =
     let steps : All (IsStepOf (length symbols)) symbol.steps =
-        subst (λ (n : ℕ). All (IsStepOf n) symbol.steps) h.counted (subst (All (IsStepOf (length depths))) (sym same) level.steps) in
+    subst (λ (n : ℕ). All (IsStepOf n) symbol.steps) h.counted (subst (All (IsStepOf (length depths))) (sym same) level.steps) in
     let deepest : drawing.called ≡ called_depth depths (map step_of symbol.steps) = level.called ∙ ap (λ (ss : List ForeignStep). called_depth depths (map step_of ss)) (sym same) in
     subst (λ (ss : List ForeignSymbol). AreSoundSymbols (count + 1) ss deeper) (sym e)
     (subst (AreSoundSymbols (count + 1) (symbols ++ symbol ∷ [])) (sym f) (record {

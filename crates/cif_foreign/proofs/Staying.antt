@@ -1,17 +1,16 @@
 -- What means something where calls only shift, and stand at the top alone, means the same here.
-use Rattle.std.proofs.Common.{◌≡◌, ℕ, zero, suc, ◌+◌, ℤ, pos, ◌+ℤ◌, ◌-ℤ◌, ◌*ℤ◌, ◌≤ℤ◌, int_eq, int_div, int_rem, neg_ℤ, negsuc, not, ◌%◌, div-one, Bool, true, false, cond, ◌||◌, Option, Some, None, IfSome, is_some, Result, Ok, Err, List, [], ◌∷◌, ◌++◌, map, flat_map, fold, length, get_or, inl, inr, refl, sym, ap, ◌∙◌, subst, arith}
-use Rattle.std.specs.List.{AllByRecursion, AllZip, list_any}
+use Rattle.std.proofs.Common.{◌≡◌, ℕ, zero, suc, ◌+◌, ℤ, pos, ◌+ℤ◌, ◌*ℤ◌, ◌≤ℤ◌, int_eq, int_div, int_rem, neg_ℤ, negsuc, not, ◌%◌, div-one, Bool, true, false, cond, ◌||◌, Option, Some, None, IfSome, is_some, Result, Ok, Err, List, [], ◌∷◌, ◌++◌, map, flat_map, fold, get_or, inl, inr, refl, sym, ap, ◌∙◌, subst, arith}
+use Rattle.std.specs.List.{AllByRecursion, AllZip}
 use Rattle.std.specs.Int.{int_min, int_max}
 use Rattle.std.proofs.lemmas.Int.{ints, clamps}
 use Rattle.std.proofs.lemmas.List.{map_push, map-append, append-nil, append_assoc}
-use Rattle.lam_geom.specs.declared.boxes.MaskLayer.{MaskLayer}
 use Rattle.cif_lex.specs.declared.command.Command.{Command}
 use Rattle.cif_lex.specs.declared.command.Command.TheVariants.{Nothing, Define, Finish, Layer, Area, Call, Extension}
 use Rattle.cif_lex.specs.declared.placement.Placement.{Placement}
 use Rattle.cif_lex.specs.Commands.{IsPiece, IsBody}
 use Rattle.cif_lex.proofs.Turning.{no_turn}
 use Rattle.cif_read.specs.declared.fault.CifKind.{CifKind}
-use Rattle.cif_read.specs.declared.fault.CifKind.TheVariants.{BadCommand, BadNumber, NestedDefinition, RepeatedSymbol, UnknownSymbol, NoLayer, OddScale}
+use Rattle.cif_read.specs.declared.fault.CifKind.TheVariants.{BadNumber, NestedDefinition, RepeatedSymbol, UnknownSymbol, OddScale}
 use Rattle.cif_read.specs.Sheets.{Drawn, moved}
 use Rattle.cif_read.specs.Sheets as sheets
 use Rattle.cif_read.specs.Acts.{Named, is_bad_symbol, is_bad_factor, is_bad_area, is_bad_call, scaled, is_odd, is_odd_area, drawn_box, kept, steps_of}
@@ -20,8 +19,8 @@ use Rattle.cif_read.specs.Meaning as flat_meaning
 use Rattle.cif_read.specs.Scales.{IsFactor}
 use Rattle.cif_read.specs.Readers.{then_act_by}
 use Rattle.cif_read.proofs.Scales.{neither, good_area, even_area, scaled_positive, factor_from}
-use Rattle.cif_foreign.specs.Sheets.{Step, Symbol, Sheet, own, called, placed_box, boxes_of_step, boxes_of_steps, then_boxes, boxes_of_symbols}
-use Rattle.cif_foreign.specs.Acts.{State, Level, numbered, is_known, place_of, drawn_on, boxed, called_on, act, defined, finished, named, area, call}
+use Rattle.cif_foreign.specs.Sheets.{Step, Symbol, Sheet, own, called, placed_box, boxes_of_step, boxes_of_steps, then_boxes}
+use Rattle.cif_foreign.specs.Acts.{State, Level, is_known, place_of, drawn_on, boxed, called_on, act, defined, finished, named, call}
 use Rattle.cif_foreign.specs.Meaning.{reader, MeaningsStay}
 
 -- ---- a state there, and here
@@ -131,9 +130,9 @@ defined_agrees symbols steps layer None n above below fine =
     subst (λ (known : Bool). Agrees (cond bad (Err BadNumber) (cond (flat.is_known n symbols) (Err RepeatedSymbol) there)) (cond bad (Err BadNumber) (cond known (Err RepeatedSymbol) here))) (sym (known_same n symbols))
     (agrees_if bad (Err BadNumber) _ (Err BadNumber) _ tt (λ good. agrees_if (flat.is_known n symbols) (Err RepeatedSymbol) there (Err RepeatedSymbol) here tt
     (λ fresh.
-        let factors = neither (is_bad_symbol n || is_bad_factor above) (is_bad_factor below) good in
-        let first = neither (is_bad_symbol n) (is_bad_factor above) factors.0 in
-        (refl, record { symbols_sorted = fine.symbols_sorted; begun_fine = record { above = factor_from above first.1; below = factor_from below factors.1; sorted = tt } }))))
+    let factors = neither (is_bad_symbol n || is_bad_factor above) (is_bad_factor below) good in
+    let first = neither (is_bad_symbol n) (is_bad_factor above) factors.0 in
+    (refl, record { symbols_sorted = fine.symbols_sorted; begun_fine = record { above = factor_from above first.1; below = factor_from below factors.1; sorted = tt } }))))
 
 finished_agrees : (symbols : List sheets.Symbol) (steps : List sheets.Step) (layer : Option Named) (begun : Option flat.Definition) → AreFine symbols begun
     → Agrees (flat.finished (record { symbols = symbols; steps = steps; layer = layer; begun = begun }) begun) (finished (lifted_by symbols steps layer begun) (lifted_by symbols steps layer begun).begun)
@@ -164,8 +163,8 @@ placed_agrees symbols steps old (Some layer) l w x y fine =
     let level = λ (ss : List Step). let k : Level = record { above = pos 1; below = pos 1; layer = old; steps = ss } in k in
     let boxes = kept layer (scaled (pos 1) (pos 1) l) (scaled (pos 1) (pos 1) w) (scaled (pos 1) (pos 1) x) (scaled (pos 1) (pos 1) y) in (
       ap (λ (b : Bool). drawn_on state (cond b (Err OddScale) (Ok (level (map up_step steps ++ map own boxes))))) (odd_area_one l w x y)
-      ∙ (ap (λ (bs : List Drawn). drawn_on state (Ok (level (map up_step steps ++ map own bs)))) (kept_one layer l w x y)
-      ∙ ap (λ (ss : List Step). drawn_on state (Ok (level ss))) (ap (λ (ss : List Step). map up_step steps ++ ss) (sym (up_own (kept layer l w x y))) ∙ sym (map-append up_step steps (steps_of (kept layer l w x y))))),
+          ∙ (ap (λ (bs : List Drawn). drawn_on state (Ok (level (map up_step steps ++ map own bs)))) (kept_one layer l w x y)
+          ∙ ap (λ (ss : List Step). drawn_on state (Ok (level ss))) (ap (λ (ss : List Step). map up_step steps ++ ss) (sym (up_own (kept layer l w x y))) ∙ sym (map-append up_step steps (steps_of (kept layer l w x y))))),
       fine,
     )
 
@@ -180,10 +179,24 @@ placed_in_agrees symbols steps old d None l w x y good fine = tt
 placed_in_agrees symbols steps old d (Some layer) l w x y good fine = by (is_odd_area d.above d.below l w x y) refl
   where
     by : (odd : Bool) → is_odd_area d.above d.below l w x y ≡ odd
-        → Agrees (cond odd (Err OddScale) (Ok (record { symbols = symbols; steps = steps; layer = old; begun = Some (record { number = d.number; above = d.above; below = d.below; layer = d.layer;
-        boxes = d.boxes ++ kept layer (scaled d.above d.below l) (scaled d.above d.below w) (scaled d.above d.below x) (scaled d.above d.below y) }) })))
-        (drawn_on (lifted_by symbols steps old (Some d)) (cond odd (Err OddScale) (Ok (record { above = d.above; below = d.below; layer = d.layer;
-        steps = map own d.boxes ++ map own (kept layer (scaled d.above d.below l) (scaled d.above d.below w) (scaled d.above d.below x) (scaled d.above d.below y)) }))))
+        → Agrees (cond odd (Err OddScale) (Ok (record {
+          symbols = symbols;
+          steps = steps;
+          layer = old;
+          begun = Some (record {
+            number = d.number;
+            above = d.above;
+            below = d.below;
+            layer = d.layer;
+            boxes = d.boxes ++ kept layer (scaled d.above d.below l) (scaled d.above d.below w) (scaled d.above d.below x) (scaled d.above d.below y);
+          });
+        })))
+        (drawn_on (lifted_by symbols steps old (Some d)) (cond odd (Err OddScale) (Ok (record {
+          above = d.above;
+          below = d.below;
+          layer = d.layer;
+          steps = map own d.boxes ++ map own (kept layer (scaled d.above d.below l) (scaled d.above d.below w) (scaled d.above d.below x) (scaled d.above d.below y));
+        }))))
     by true e = tt
     by false e =
         let more = kept layer (scaled d.above d.below l) (scaled d.above d.below w) (scaled d.above d.below x) (scaled d.above d.below y) in
@@ -369,5 +382,5 @@ meanings_stay text sheet is =
         drawn = refl;
       },
       ap (λ (bs : List (List Drawn)). boxes_of_steps bs (map up_step s.steps)) (symbols_from [] s.symbols)
-      ∙ (steps_same s.symbols s.steps all.1.symbols_sorted ∙ ap sheets.flattened (sym is.drawn)),
+          ∙ (steps_same s.symbols s.steps all.1.symbols_sorted ∙ ap sheets.flattened (sym is.drawn)),
     )

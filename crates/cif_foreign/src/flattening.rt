@@ -146,6 +146,13 @@ pub fn flatten_foreign(alloc: Global, file: &ForeignFile) -> Result<Vec<MaskBox>
     }
     let mut out = Vec::with_capacity(alloc, total)?;
     let still = Placement::still();
-    push_steps(&mut out, file, &counts, file.top.as_slice(), still, MOST_DEPTH)?;
+    push_steps(
+        &mut out,
+        file,
+        &counts,
+        file.top.as_slice(),
+        still,
+        MOST_DEPTH,
+    )?;
     Ok(out)
 }

@@ -169,7 +169,10 @@ impl Reading {
         if self.places.contains_key(&number) {
             return Err(Stop::Refused(CifKind::RepeatedSymbol));
         }
-        let top = mem::replace(&mut self.drawing, Drawing::new(alloc, Scale { above, below }));
+        let top = mem::replace(
+            &mut self.drawing,
+            Drawing::new(alloc, Scale { above, below }),
+        );
         self.begun = Some(Begun { number, top });
         Ok(())
     }

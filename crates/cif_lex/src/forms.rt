@@ -6,9 +6,9 @@ ghost use Rattle.cif_lex.specs.Commands.{layer_named};
 ghost use Rattle.cif_lex.specs.Reading.{IsRead};
 ghost use Rattle.cif_lex.specs.Forms.{IsLedBy, IsFormAnswer, IsBodyAnswer};
 
+use crate::calls::call;
 use crate::command::Command;
 use crate::gaps::{begins_with, gap_length};
-use crate::calls::call;
 use crate::numbers::{read_number, read_pair};
 use lam_geom::MaskLayer;
 

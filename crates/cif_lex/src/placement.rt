@@ -141,8 +141,16 @@ impl Transformation {
     {
         match self {
             Transformation::Shift { x, y } => Placement { turn: 0, x, y },
-            Transformation::MirrorX => Placement { turn: 4, x: 0, y: 0 },
-            Transformation::MirrorY => Placement { turn: 6, x: 0, y: 0 },
+            Transformation::MirrorX => Placement {
+                turn: 4,
+                x: 0,
+                y: 0,
+            },
+            Transformation::MirrorY => Placement {
+                turn: 6,
+                x: 0,
+                y: 0,
+            },
             Transformation::Turn { a, b } => Placement {
                 turn: quarters_towards(a, b),
                 x: 0,

@@ -7,9 +7,7 @@ ghost use Rattle.cif_read.specs.Readings.{state_of, definition_of, IsSound, IsSo
 
 use crate::fault::{CifKind, Stop};
 use crate::file::{CifStep, CifSymbol};
-use crate::numbers::{
-    drawn_box, is_bad_area, is_bad_call, is_bad_factor, is_bad_symbol,
-};
+use crate::numbers::{drawn_box, is_bad_area, is_bad_call, is_bad_factor, is_bad_symbol};
 use crate::scale::Scale;
 use cif_lex::Command;
 use lam_geom::{MaskBox, MaskLayer};
