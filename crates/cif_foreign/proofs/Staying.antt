@@ -1,17 +1,16 @@
 -- What means something where calls only shift, and stand at the top alone, means the same here.
-use Rattle.std.proofs.Common.{◌≡◌, ℕ, zero, suc, ◌+◌, ℤ, pos, ◌+ℤ◌, ◌-ℤ◌, ◌*ℤ◌, ◌≤ℤ◌, int_eq, int_div, int_rem, neg_ℤ, negsuc, not, ◌%◌, div-one, Bool, true, false, cond, ◌||◌, Option, Some, None, IfSome, is_some, Result, Ok, Err, List, [], ◌∷◌, ◌++◌, map, flat_map, fold, length, get_or, inl, inr, refl, sym, ap, ◌∙◌, subst, arith}
-use Rattle.std.specs.List.{AllByRecursion, AllZip, list_any}
+use Rattle.std.proofs.Common.{◌≡◌, ℕ, zero, suc, ◌+◌, ℤ, pos, ◌+ℤ◌, ◌*ℤ◌, ◌≤ℤ◌, int_eq, int_div, int_rem, neg_ℤ, negsuc, not, ◌%◌, div-one, Bool, true, false, cond, ◌||◌, Option, Some, None, IfSome, is_some, Result, Ok, Err, List, [], ◌∷◌, ◌++◌, map, flat_map, fold, get_or, inl, inr, refl, sym, ap, ◌∙◌, subst, arith}
+use Rattle.std.specs.List.{AllByRecursion, AllZip}
 use Rattle.std.specs.Int.{int_min, int_max}
 use Rattle.std.proofs.lemmas.Int.{ints, clamps}
 use Rattle.std.proofs.lemmas.List.{map_push, map-append, append-nil, append_assoc}
-use Rattle.lam_geom.specs.declared.boxes.MaskLayer.{MaskLayer}
 use Rattle.cif_lex.specs.declared.command.Command.{Command}
 use Rattle.cif_lex.specs.declared.command.Command.TheVariants.{Nothing, Define, Finish, Layer, Area, Call, Extension}
 use Rattle.cif_lex.specs.declared.placement.Placement.{Placement}
 use Rattle.cif_lex.specs.Commands.{IsPiece, IsBody}
 use Rattle.cif_lex.proofs.Turning.{no_turn}
 use Rattle.cif_read.specs.declared.fault.CifKind.{CifKind}
-use Rattle.cif_read.specs.declared.fault.CifKind.TheVariants.{BadCommand, BadNumber, NestedDefinition, RepeatedSymbol, UnknownSymbol, NoLayer, OddScale}
+use Rattle.cif_read.specs.declared.fault.CifKind.TheVariants.{BadNumber, NestedDefinition, RepeatedSymbol, UnknownSymbol, OddScale}
 use Rattle.cif_read.specs.Sheets.{Drawn, moved}
 use Rattle.cif_read.specs.Sheets as sheets
 use Rattle.cif_read.specs.Acts.{Named, is_bad_symbol, is_bad_factor, is_bad_area, is_bad_call, scaled, is_odd, is_odd_area, drawn_box, kept, steps_of}
@@ -20,8 +19,8 @@ use Rattle.cif_read.specs.Meaning as flat_meaning
 use Rattle.cif_read.specs.Scales.{IsFactor}
 use Rattle.cif_read.specs.Readers.{then_act_by}
 use Rattle.cif_read.proofs.Scales.{neither, good_area, even_area, scaled_positive, factor_from}
-use Rattle.cif_foreign.specs.Sheets.{Step, Symbol, Sheet, own, called, placed_box, boxes_of_step, boxes_of_steps, then_boxes, boxes_of_symbols}
-use Rattle.cif_foreign.specs.Acts.{State, Level, numbered, is_known, place_of, drawn_on, boxed, called_on, act, defined, finished, named, area, call}
+use Rattle.cif_foreign.specs.Sheets.{Step, Symbol, Sheet, own, called, placed_box, boxes_of_step, boxes_of_steps, then_boxes}
+use Rattle.cif_foreign.specs.Acts.{State, Level, is_known, place_of, drawn_on, boxed, called_on, act, defined, finished, named, call}
 use Rattle.cif_foreign.specs.Meaning.{reader, MeaningsStay}
 
 -- ---- a state there, and here

@@ -1,6 +1,6 @@
 -- The walk over the steps of a file.
 use Rattle.std.proofs.Common.{◌≡◌, ℕ, ◌+◌, ◌<◌, ◌≤◌, ◌^◌, of_z, to_z, w64, ℤ, List, [], ◌∷◌, ◌++◌, All, map, length, get_or, take, refl, sym, ap, ◌∙◌, subst, arith}
-use Rattle.std.proofs.lemmas.List.{take_more, map_push, length_push, get_or_default}
+use Rattle.std.proofs.lemmas.List.{take_more, map_push, get_or_default}
 use Rattle.std.proofs.lemmas.List.Elements.{All-weaker}
 use Rattle.cif_lex.specs.declared.placement.Placement.{Placement}
 use Rattle.cif_lex.specs.Transformations.{Point, placed, IsNear}
@@ -8,7 +8,7 @@ use Rattle.cif_read.specs.Files.{IsWithin}
 use Rattle.cif_read.specs.Sheets.{Drawn}
 use Rattle.cif_foreign.specs.declared.file.ForeignSymbol.{ForeignSymbol}
 use Rattle.cif_foreign.specs.declared.file.ForeignStep.{ForeignStep}
-use Rattle.cif_foreign.specs.declared.file.ForeignStep.TheVariants.{Own, Called}
+use Rattle.cif_foreign.specs.declared.file.ForeignStep.TheVariants.{Called}
 use Rattle.cif_foreign.specs.Sheets.{Symbol, boxes_of_steps, boxes_of_symbols, depths_of}
 use Rattle.cif_foreign.specs.Files.{step_of, symbol_of, no_symbol, IsStepOf}
 use Rattle.cif_foreign.specs.Readings.{called_depth}

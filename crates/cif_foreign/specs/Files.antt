@@ -1,6 +1,5 @@
 -- What a file that has been read holds, as a sheet.
 use Rattle.std.specs.Prelude.{ℕ, ◌<◌, ◌≤◌, ◌^◌, pos, All, List, [], map, length, slice_index_or}
-use Rattle.cif_lex.specs.declared.placement.Placement.{Placement}
 use Rattle.cif_read.specs.declared.fault.CifReadFault.{CifReadFault}
 use Rattle.cif_read.specs.Files.{drawn_of, IsWithin, IsSolidWithin}
 use Rattle.cif_read.specs.Readers.{IsCauseBy}

@@ -1,5 +1,5 @@
 -- The meaning of a CIF text of any tool, and the first fault of one that has none.
-use Rattle.std.specs.Prelude.{◌≡◌, ℕ, ◌^◌, ◌≤◌, is_some, List, length, map}
+use Rattle.std.specs.Prelude.{◌≡◌, ℕ, is_some, List}
 use Rattle.cif_read.specs.declared.fault.CifFault.{CifFault}
 use Rattle.cif_read.specs.Readers.{Reader, BeginsWellBy, MeansBy, IsFirstFaultBy, IsDeterminedBy}
 use Rattle.cif_read.specs.Meaning as flat

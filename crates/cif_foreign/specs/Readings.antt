@@ -1,5 +1,5 @@
 -- What a reader keeps, as a state; and what holds of it.
-use Rattle.std.specs.Prelude.{◌≡◌, ℕ, ◌<◌, ◌≤◌, ◌^◌, ℤ, pos, All, IfSome, false, Option, List, map, max, fold, length, option_map, slice_index_or}
+use Rattle.std.specs.Prelude.{◌≡◌, ℕ, ◌<◌, ◌≤◌, pos, All, IfSome, false, Option, List, map, max, fold, length, option_map, slice_index_or}
 use Rattle.cif_lex.specs.declared.command.Command.{Command}
 use Rattle.cif_lex.specs.declared.command.Command.TheVariants.{Call}
 use Rattle.cif_lex.specs.declared.command.Next.TheVariants.{End}
@@ -7,11 +7,10 @@ use Rattle.cif_lex.specs.Commands.{IsNext}
 use Rattle.cif_read.specs.Readings.{HasPlaces}
 use Rattle.cif_read.specs.Scales.{IsScale}
 use Rattle.cif_foreign.specs.declared.file.ForeignSymbol.{ForeignSymbol}
-use Rattle.cif_foreign.specs.declared.file.ForeignStep.{ForeignStep}
 use Rattle.cif_foreign.specs.declared.state.Drawing.{Drawing}
 use Rattle.cif_foreign.specs.declared.state.Begun.{Begun}
 use Rattle.cif_foreign.specs.declared.state.Reading.{Reading}
-use Rattle.cif_foreign.specs.Sheets.{Step, Symbol, Sheet, depth_of_step, depths_of, most_depth}
+use Rattle.cif_foreign.specs.Sheets.{Step, Symbol, depth_of_step, depths_of, most_depth}
 use Rattle.cif_foreign.specs.Acts.{State, Level, numbered, is_known}
 use Rattle.cif_foreign.specs.Acts as acts
 use Rattle.cif_foreign.specs.Meaning.{BeginsWell}

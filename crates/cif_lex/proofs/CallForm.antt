@@ -1,5 +1,5 @@
 -- A call, as the code reads it: transformation by transformation.
-use Rattle.std.proofs.Common.{◌≡◌, ℕ, ◌+◌, ◌*◌, ◌^◌, ◌<◌, ◌≤◌, ℤ, pos, ◌+ℤ◌, eqb, Bool, true, false, ◌||◌, List, [], ◌∷◌, ◌++◌, length, drop, refl, sym, ap, ◌∙◌, subst, arith}
+use Rattle.std.proofs.Common.{◌≡◌, ℕ, ◌+◌, ◌*◌, ◌<◌, ◌≤◌, ℤ, pos, ◌+ℤ◌, eqb, Bool, true, false, ◌||◌, List, [], ◌∷◌, ◌++◌, length, drop, refl, sym, ap, ◌∙◌, subst, arith}
 use Rattle.std.specs.List.{flat_map, list_any}
 use Rattle.std.proofs.lemmas.Bool.{eqb-false}
 use Rattle.std.proofs.lemmas.Int.{ints}
@@ -14,7 +14,7 @@ use Rattle.cif_lex.specs.declared.placement.Transformation.{Transformation}
 use Rattle.cif_lex.specs.declared.placement.Transformation.TheVariants.{Shift, MirrorX, MirrorY, Turn}
 use Rattle.cif_lex.specs.declared.calls.Transformed.{Transformed}
 use Rattle.cif_lex.specs.Words.{Word, letter, number}
-use Rattle.cif_lex.specs.Transformations.{Point, words_of, applied, all_applied, placed, shift_of, IsComposedOf, IsNear}
+use Rattle.cif_lex.specs.Transformations.{Point, words_of, applied, placed, shift_of, IsComposedOf, IsNear}
 use Rattle.cif_lex.specs.Commands.{is_bad, is_turn}
 use Rattle.cif_lex.specs.Reading.{IsRead, AreRead, IsNumberRead, IsPairRead, IsTransformationRead}
 use Rattle.cif_lex.specs.Forms.{IsLedBy, Ends, Takes, IsForm}

@@ -1,5 +1,4 @@
-use Rattle.std.proofs.Common.{◌≡◌, ℕ, ◌+◌, ◌*◌, ◌-◌, ◌<◌, ◌≤◌, ◌^◌, All, List, [], ◌++◌, map, length, get_or, take, sym, ap, ◌∙◌, subst, arith}
-use Rattle.std.proofs.lemmas.List.{get_or_default}
+use Rattle.std.proofs.Common.{◌≡◌, ◌+◌, ◌*◌, ◌-◌, ◌<◌, ◌≤◌, ◌^◌, All, List, [], ◌++◌, map, length, get_or, take, sym, ap, ◌∙◌, subst, arith}
 use Rattle.cif_lex.specs.Transformations.{shift_of, IsNear}
 use Rattle.cif_lex.proofs.Turning.{nearer}
 use Rattle.cif_read.specs.Sheets.{Drawn}
@@ -7,7 +6,7 @@ use Rattle.cif_read.specs.Files.{drawn_of, IsSolidWithin}
 use Rattle.cif_foreign.specs.declared.file.ForeignStep.{ForeignStep}
 use Rattle.cif_foreign.specs.declared.file.ForeignStep.TheVariants.{Called}
 use Rattle.cif_foreign.specs.Sheets.{placed_box, boxes_of_steps, boxes_of_symbols, depths_of}
-use Rattle.cif_foreign.specs.Files.{symbol_of, step_of, no_symbol, IsStepOf}
+use Rattle.cif_foreign.specs.Files.{symbol_of, step_of, IsStepOf}
 use Rattle.cif_foreign.specs.Readings.{called_depth}
 use Rattle.cif_foreign.proofs.Symbols.{boxes_at}
 use Rattle.cif_foreign.proofs.Flat.{Adds, adds_all, adds_more, adds_own, adds_called, adds_nothing, none_counted, solid_pushed}

@@ -1,4 +1,4 @@
-use Rattle.std.proofs.Common.{◌≡◌, ◌^◌, All, map, take}
+use Rattle.std.proofs.Common.{◌^◌, All, map, take}
 use Rattle.cif_read.specs.Files.{drawn_of, IsSolidWithin}
 use Rattle.cif_foreign.specs.Sheets.{boxes_of_symbols}
 use Rattle.cif_foreign.specs.Files.{symbol_of}

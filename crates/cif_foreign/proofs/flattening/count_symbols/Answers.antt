@@ -1,6 +1,5 @@
-use Rattle.std.proofs.Common.{◌≡◌, ◌<◌, length, get_or, sym, ap, ◌∙◌, arith}
-use Rattle.cif_foreign.specs.declared.file.ForeignSymbol.{ForeignSymbol}
-use Rattle.cif_foreign.proofs.Walking.{steps_here, counts_more}
+use Rattle.std.proofs.Common.{◌<◌, length, get_or, ap, ◌∙◌, arith}
+use Rattle.cif_foreign.proofs.Walking.{steps_here}
 use Rattle.cif_foreign.proofs.flattening.count_symbols.Goals as goal
 
 pub count_steps-count-requires-clause-steps : goal.count_steps-count-requires-clause-steps

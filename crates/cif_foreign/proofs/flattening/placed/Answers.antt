@@ -1,4 +1,4 @@
-use Rattle.std.proofs.Common.{◌≡◌, ◌+◌, ◌^◌, ◌≤◌, sym, subst, arith}
+use Rattle.std.proofs.Common.{◌+◌, ◌^◌, sym, subst, arith}
 use Rattle.cif_read.specs.Files.{drawn_of, IsSolidWithin}
 use Rattle.cif_foreign.specs.Sheets.{placed_box}
 use Rattle.cif_foreign.proofs.Placing.{placed_is, placed_solid, solid_more}

@@ -1,9 +1,9 @@
-use Rattle.std.proofs.Common.{◌≡◌, ℕ, ◌+◌, ◌*◌, ◌^◌, ℤ, Bool, false, ◌||◌, List, [], ◌∷◌, drop, sym, ap, ◌∙◌, subst, arith}
+use Rattle.std.proofs.Common.{◌≡◌, ℕ, ◌+◌, ◌*◌, ◌^◌, ℤ, Bool, false, ◌||◌, List, drop, sym, ap, ◌∙◌, subst, arith}
 use Rattle.std.proofs.lemmas.List.{take_rest}
 use Rattle.cif_lex.specs.declared.placement.Placement.{Placement}
 use Rattle.cif_lex.specs.declared.command.Command.TheVariants.{Call}
 use Rattle.cif_lex.specs.Transformations.{Point, words_of, applied, placed, shift_of}
-use Rattle.cif_lex.specs.Commands.{is_bad, is_turn}
+use Rattle.cif_lex.specs.Commands.{is_bad}
 use Rattle.cif_lex.specs.Words.{number}
 use Rattle.cif_lex.specs.Reading.{IsRead, AreRead, IsNumberRead, IsTransformationRead}
 use Rattle.cif_lex.specs.Forms.{IsForm, IsFormAnswer}

@@ -1,4 +1,4 @@
-use Rattle.std.proofs.Common.{◌+◌, drop, sym, subst}
+use Rattle.std.proofs.Common.{drop, sym, subst}
 use Rattle.std.proofs.lemmas.List.{take_rest}
 use Rattle.cif_lex.specs.Forms.{IsLedBy}
 use Rattle.cif_lex.proofs.Stops.{led_letter, letter_there, within_rest}

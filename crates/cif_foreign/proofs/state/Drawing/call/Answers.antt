@@ -1,4 +1,4 @@
-use Rattle.std.proofs.Common.{◌≡◌, ◌∙◌, max, ℕ, ap, sym, refl, of_z, to_z, w64}
+use Rattle.std.proofs.Common.{◌∙◌, max, ℕ, ap, refl, of_z, to_z, w64}
 use Rattle.cif_foreign.specs.declared.file.ForeignStep.TheVariants.{Called}
 use Rattle.cif_foreign.specs.Readings.{level_from}
 use Rattle.cif_foreign.proofs.Sound.{seen_even, seen_shift, called_done, steps_called, still_within, level_step}

@@ -1,4 +1,4 @@
-use Rattle.std.proofs.Common.{◌∙◌, ap, sym, subst, Ok, FitsSigned, w64, ⊎_elim, rules}
+use Rattle.std.proofs.Common.{◌∙◌, sym, subst, FitsSigned, w64, ⊎_elim, rules}
 use Rattle.cif_read.specs.Readers.{IsCauseOfStop}
 use Rattle.cif_foreign.specs.Readings.{state_of}
 use Rattle.cif_read.proofs.Calling.{ok_weaker, err_weaker}

@@ -1,4 +1,4 @@
-use Rattle.std.proofs.Common.{ℕ, ◌+◌, ◌<◌, ◌≤◌, sym, subst, arith}
+use Rattle.std.proofs.Common.{ℕ, ◌+◌, ◌<◌, sym, subst, arith}
 use Rattle.cif_read.proofs.Calling.{ok_weaker}
 use Rattle.cif_foreign.proofs.Sound.{symbols_more, if_same}
 use Rattle.cif_foreign.proofs.state.Reading.area.Goals as goal

@@ -1,10 +1,10 @@
-use Rattle.std.proofs.Common.{◌≡◌, ℕ, ◌+◌, ◌<◌, ◌≤◌, length, Bool, Ok, FitsSigned, w64, sym, ap, ◌∙◌, subst, arith, rules}
+use Rattle.std.proofs.Common.{◌+◌, ◌<◌, length, Bool, FitsSigned, w64, sym, ap, ◌∙◌, subst, arith, rules}
 use Rattle.std.proofs.lemmas.List.{get_or_default}
 use Rattle.cif_read.proofs.Calling.{good_call, seen_call, ok_weaker, err_weaker}
 use Rattle.cif_read.specs.Readers.{IsCauseOfStop}
-use Rattle.cif_foreign.specs.Acts.{call, called_on, drawn_on, is_too_deep}
+use Rattle.cif_foreign.specs.Acts.{called_on, drawn_on}
 use Rattle.cif_foreign.specs.Readings.{state_of, level_from}
-use Rattle.cif_foreign.proofs.Sound.{IsFound, found, call_found, deep_is, stop_stays, ok_both, not_deep_after, symbols_more}
+use Rattle.cif_foreign.proofs.Sound.{found, call_found, deep_is, stop_stays, ok_both, not_deep_after, symbols_more}
 use Rattle.cif_foreign.proofs.state.Reading.call.Goals as goal
 
 pub index-depth-requires : goal.index-depth-requires

@@ -1,11 +1,10 @@
-use Rattle.std.proofs.Common.{◌≡◌, ℕ, ℤ, ◌+◌, ◌≤◌, pos, Some, Ok, false, unsigned_abs, of_z, to_z, w64, map, sym, ap, ◌∙◌, subst, arith}
-use Rattle.std.proofs.lemmas.Int.{to_z-of_z}
+use Rattle.std.proofs.Common.{◌+◌, unsigned_abs, of_z, to_z, w64, map, sym, ap, ◌∙◌, subst, arith}
 use Rattle.cif_read.specs.Scales.{IsScale}
-use Rattle.cif_read.proofs.Scales.{neither, factor_from}
+use Rattle.cif_read.proofs.Scales.{factor_from}
 use Rattle.cif_read.proofs.Sound.{fresh_from}
 use Rattle.cif_foreign.specs.declared.state.Drawing.{Drawing}
-use Rattle.cif_foreign.specs.Acts.{State, numbered}
-use Rattle.cif_foreign.specs.Readings.{state_of, level_from, symbols_of, IsSoundLevel}
+use Rattle.cif_foreign.specs.Acts.{numbered}
+use Rattle.cif_foreign.specs.Readings.{level_from, symbols_of, IsSoundLevel}
 use Rattle.cif_foreign.proofs.Sound.{defined_by_words, closed_from, symbols_more}
 use Rattle.cif_foreign.proofs.state.Reading.define.Goals as goal
 

@@ -1,4 +1,4 @@
-use Rattle.std.proofs.Common.{ℕ, ◌+◌, sym, subst}
+use Rattle.std.proofs.Common.{◌+◌, sym, subst}
 use Rattle.cif_lex.specs.Transformations.{Point, shift_of, IsNear}
 use Rattle.cif_lex.proofs.Turning.{placed_after, composed_at, placed_near, by_words}
 use Rattle.cif_lex.proofs.placement.Placement.after.Goals as goal

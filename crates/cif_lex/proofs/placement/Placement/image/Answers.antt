@@ -1,4 +1,3 @@
-use Rattle.std.proofs.Common.{◌≡◌}
 use Rattle.cif_lex.proofs.Turning.{turned_is_near, sum_fits, image_is}
 use Rattle.cif_lex.proofs.placement.Placement.image.Goals as goal
 
