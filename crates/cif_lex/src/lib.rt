@@ -17,5 +17,5 @@ mod reading;
 pub use command::{Command, Next, Tail};
 pub use laws::commands_are_determined;
 pub use numbers::LARGEST;
-pub use placement::Placement;
+pub use placement::{Placement, Transformation};
 pub use reading::{next, tail};

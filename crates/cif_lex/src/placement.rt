@@ -5,7 +5,7 @@ ghost use Rattle.cif_lex.specs.Reading.{HasSmallNumbers};
 
 /// A transformation of a call.
 #[derive(Clone, Copy, Debug, PartialEq, Eq)]
-pub(crate) enum Transformation {
+pub enum Transformation {
     /// `T x y`: a shift.
     Shift { x: i64, y: i64 },
     /// `M X`: x times -1.
