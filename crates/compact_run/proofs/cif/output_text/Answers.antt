@@ -1,7 +1,7 @@
 use Rattle.compact_run.proofs.cif.output_text.Goals as goal
 
 pub returns-in-Extract-clause-output : goal.returns-in-Extract-clause-output
-returns-in-Extract-clause-output c = rw c.in-Extract.is c.netlist_of.ensures.netlist
+returns-in-Extract-clause-output g c = rw c.in-Extract.is c.netlist_of.ensures.netlist
 
 pub returns-in-Check-clause-output : goal.returns-in-Check-clause-output
-returns-in-Check-clause-output c = rw c.in-Check.is c.verdict_of.ensures.verdict
+returns-in-Check-clause-output g c = rw c.in-Check.is c.verdict_of.ensures.verdict
