@@ -1,22 +1,19 @@
 -- One edit after another.
-use Rattle.std.proofs.Common.{◌≡◌, ℕ, suc, ◌+◌, ◌<◌, ◌≤◌, ℤ, Bool, true, false, Ok, inl, inr, List, [], ◌∷◌, ◌++◌, length, take, get_or, refl, sym, ap, ◌∙◌, subst, arith}
+use Rattle.std.proofs.Common.{◌≡◌, ℕ, suc, ◌+◌, ◌<◌, ◌≤◌, ℤ, Option, Some, Ok, ◌⊎◌, inl, inr, List, [], ◌∷◌, ◌++◌, length, take, get_or, option_map, refl, sym, ap, ◌∙◌, subst, arith}
 use Rattle.std.specs.Prelude.{codes, flat_map}
 use Rattle.std.specs.Fmt.{signed_decimal}
 use Rattle.std.specs.List.{range_with_len}
-use Rattle.std.proofs.lemmas.Bool.{cases_lt, true≢false}
 use Rattle.std.proofs.lemmas.List.{append_assoc, append-nil, length-take-le, take_more}
 use Rattle.std.proofs.lemmas.List.Concat.{flat_map-cons}
 use Rattle.std.proofs.lemmas.Grind.{flat_map-append}
 use Rattle.design_gen.proofs.Growing.{range_more}
 use Rattle.lam_geom.specs.declared.boxes.Axis.{Axis}
 use Rattle.lam_geom.specs.declared.boxes.Axis.TheVariants.{X, Y}
-use Rattle.lam_io.specs.Io.{Bytes, Files}
+use Rattle.lam_io.specs.Io.{Bytes, Files, Telling, Asks, with_asked}
 use Rattle.rule_table.specs.declared.technology.Tech.{Tech}
 use Rattle.stick_parse.specs.declared.design.Design.{Design}
-use Rattle.design_sizes.specs.Sizes.{lines_in}
 use Rattle.edit_lines.specs.declared.script.EditLine.{EditLine}
-use Rattle.edit_lines.specs.declared.script.EditLine.TheVariants.{Add, Take}
-use Rattle.edit_lines.specs.Edits.{HasLinesAfter, IsEdited}
+use Rattle.edit_lines.specs.Edits.{IsEdited}
 use Rattle.edit_lines.proofs.Designs.{edited_is_determined}
 use Rattle.stick_print.specs.Canonical.{canonical}
 use Rattle.stick_cell.specs.Known.{Known}
@@ -28,13 +25,16 @@ use Rattle.pitch_join.specs.Masters.{master_at, master_numbers}
 use Rattle.sym_items.specs.declared.items.Coords.{Coords}
 use Rattle.sym_items.specs.Layouts.{size_in}
 use Rattle.compact_run.specs.declared.edit.Stepped.{Stepped}
+use Rattle.run_words.specs.Words.{edit}
+use Rattle.compact_run.specs.declared.status.File.{File}
 use Rattle.compact_run.specs.declared.status.File.TheVariants as file
-use Rattle.compact_run.specs.declared.status.What.TheVariants.{Items, Boxes}
+use Rattle.compact_run.specs.declared.status.What.TheVariants.{Items, Boxes, Edges, Extent}
 use Rattle.compact_run.specs.declared.status.Status.{Status}
 use Rattle.compact_run.specs.declared.status.Status.TheVariants as status
 use Rattle.compact_run.specs.Limits.{most_design_bytes}
 use Rattle.compact_run.specs.Plans.{AreMastersOf, RefusesPlan}
-use Rattle.compact_run.specs.Designs.{ArePlaced, IsBeforePasses, last_layouts}
+use Rattle.compact_run.specs.Fetches.{AsksFor, AsksThrough, IsRefusal, ends_over}
+use Rattle.compact_run.specs.Designs.{ArePlaced, IsBeforePasses, RefusesDesign, RefusesMasters, last_layouts, no_masters, no_masks}
 use Rattle.compact_run.specs.Edits.{IsAnswered, done, Changes, IsStep, AreSteps, IsNextStep, done_word, size_word, step_line}
 use Rattle.compact_run.specs.Answers.{RefusesTechnology, RefusesSticks}
 
@@ -62,6 +62,45 @@ plan_early tech design (status.TooLarge Items) own why = tt
 plan_early tech design (status.TooLarge Boxes) own why = tt
 plan_early tech design other own why = absurd why
 
+-- ---- a refusal of the design
+
+-- the command is refused over its design, and not for a file that could not be read
+abbrev pub IsJudged : Bytes → Bytes → Bytes → List Axis → Status → Type 0
+IsJudged design tech script axes ended =
+    IsRefusal ended × ((f : File) → ended ≡ status.ReadFault f → ⊥) × ((ended ≡ status.OutOfMemory) ⊎ (ends_over (edit design tech script axes) ended ≡ Some file.Design))
+
+plan_judged : (d t s : Bytes) (axes : List Axis) (tech : Tech) (design : Design) (ended : Status) (own : Bytes) → RefusesPlan tech design ended own → IsJudged d t s axes ended
+plan_judged d t s axes tech design status.OutOfMemory own why = (tt, λ f e. cc, inl refl)
+plan_judged d t s axes tech design (status.BadSticks fault) own why = (tt, λ f e. cc, inr refl)
+plan_judged d t s axes tech design (status.BadGrid grid fault) own why = (tt, λ f e. cc, inr refl)
+plan_judged d t s axes tech design (status.TooLarge Items) own why = (tt, λ f e. cc, inr refl)
+plan_judged d t s axes tech design (status.TooLarge Boxes) own why = (tt, λ f e. cc, inr refl)
+plan_judged d t s axes tech design other own why = absurd why
+
+masters_judged : (d t s : Bytes) (axes : List Axis) (tech : Tech) (plan : Plan) (masters : List Master) (on : List Axis) (ended : Status) (own : Bytes) → RefusesMasters tech plan masters on ended own
+    → IsJudged d t s axes ended
+masters_judged d t s axes tech plan masters on status.OutOfMemory own why = (tt, λ f e. cc, inl refl)
+masters_judged d t s axes tech plan masters on (status.TooLarge Edges) own why = (tt, λ f e. cc, inr refl)
+masters_judged d t s axes tech plan masters on (status.TooLarge Extent) own why = (tt, λ f e. cc, inr refl)
+masters_judged d t s axes tech plan masters on (status.Clash number a b) own why = (tt, λ f e. cc, inr refl)
+masters_judged d t s axes tech plan masters on (status.Unsatisfiable pass) own why = (tt, λ f e. cc, inr refl)
+masters_judged d t s axes tech plan masters on other own why = absurd why
+
+pub design_judged : (d t s : Bytes) (axes : List Axis) (tech : Tech) (design : Design) (ended : Status) (own : Bytes) → RefusesDesign tech axes design ended own → IsJudged d t s axes ended
+design_judged d t s axes tech design ended own (no_masters why) = plan_judged d t s axes tech design ended own why
+design_judged d t s axes tech design ended own (no_masks plan masters are why) = masters_judged d t s axes tech plan masters axes ended own why
+
+-- so the technology and the design were asked for
+pub start_asks : (d t s : Bytes) (axes : List Axis) (ended : Status) (old mid new : Option Telling) → IsJudged d t s axes ended → Asks old mid t → Asks mid new d
+    → AsksFor (Some (edit d t s axes)) ended old new
+start_asks d t s axes ended old mid new judged first then = go judged.2
+  where
+    both : new ≡ option_map (with_asked d) (option_map (with_asked t) old)
+    both = then ∙ ap (option_map (with_asked d)) first
+    go : (ended ≡ status.OutOfMemory) ⊎ (ends_over (edit d t s axes) ended ≡ Some file.Design) → AsksFor (Some (edit d t s axes)) ended old new
+    go (inl e) = inr (e, inr (inr (inl both)))
+    go (inr e) = let A : Option File → Type 0 = λ z. AsksThrough z (edit d t s axes) old new in inl (subst A (sym e) both)
+
 -- ---- a word
 
 -- one master more
@@ -86,14 +125,6 @@ size_all masters layouts m head word all is = is ∙ ap (λ (k : ℕ). head ++ f
 
 -- ---- one line
 
--- what is not short is too long
-pub not_short : (is : Bool) (n most : ℕ) → (n ≤ most → is ≡ true) → is ≡ false → most < n
-not_short is n most short fails =
-    elim (cases_lt most n) as (λ _. most < n) [
-      | inl long ↦ long
-      | inr few ↦ absurd (true≢false (sym (short few) ∙ fails))
-    ]
-
 -- what is no edit changes nothing
 pub not_edited : (tech : Tech) (design : Design) (numbers : List ℕ) (line : EditLine) → ((new : Design) → IsEdited design numbers line new → ⊥) → (new : Design) → Changes tech design numbers line new → ⊥
 not_edited tech design numbers line none new change = none new change.edited
@@ -101,8 +132,8 @@ not_edited tech design numbers line none new change = none new change.edited
 -- nor does an edit whose design has a fault
 pub at_fault : (tech : Tech) (design new : Design) (numbers : List ℕ) (line : EditLine) → IsEdited design numbers line new → ((cells : List Known) × (resolved_cells tech new ≡ Ok cells) → ⊥)
     → (other : Design) → Changes tech design numbers line other → ⊥
-at_fault tech design new numbers line edit none other change =
-    let same : other ≡ new = edited_is_determined design numbers line other new change.edited edit in
+at_fault tech design new numbers line is none other change =
+    let same : other ≡ new = edited_is_determined design numbers line other new change.edited is in
     none (change.cells, ap (λ (d : Design). resolved_cells tech d) (sym same) ∙ change.resolved)
 
 -- what is told of a design that is laid out
@@ -111,11 +142,6 @@ pub laid_word : (tech : Tech) (axes : List Axis) (design : Design) (plan : Plan)
     → read ≡ masters → layouts ≡ coords → word ≡ done_word read layouts → IsAnswered tech axes design word
 laid_word tech axes design plan masters read steps coords layouts word short are placed last same there e =
     done short plan masters are steps placed (e ∙ (ap (λ (ms : List Master). done_word ms layouts) same ∙ ap (λ (cs : List Coords). done_word masters cs) (there ∙ last)))
-
--- an edit makes one line more at most
-pub few_after : (edit : EditLine) (design new : Design) → HasLinesAfter edit design new → lines_in new ≤ lines_in design + 1
-few_after (Add cell vertical a b at_most n) design new more = omega (arith, more)
-few_after (Take cell k) design new less = omega (arith, less)
 
 -- ---- all lines
 

@@ -7,18 +7,14 @@ use Rattle.stick_lex.proofs.Loop.{width}
 use Rattle.stick_parse.specs.declared.fault.StickKind.{StickKind}
 use Rattle.stick_parse.specs.Words.{Word}
 use Rattle.lam_io.specs.Io.{Bytes, Files}
-use Rattle.jog_insert.specs.declared.script.ScriptFault.{ScriptFault}
-use Rattle.jog_insert.specs.declared.script.ScriptFault.TheVariants as fault
-use Rattle.jog_insert.specs.Scripts.{IsScriptFault, step_by, steps_from, steps_of, with_step}
+use Rattle.jog_insert.specs.Scripts.{step_by, steps_from, steps_of, with_step}
 use Rattle.edit_lines.specs.declared.script.EditLine.{EditLine}
 use Rattle.edit_lines.specs.Scripts.{edit_of, edits_of}
 use Rattle.compact_run.specs.declared.status.File.TheVariants.{Script}
 use Rattle.compact_run.specs.declared.status.Status.{Status}
 use Rattle.compact_run.specs.declared.status.Status.TheVariants as status
 use Rattle.compact_run.specs.FaultLines.{script_line}
-use Rattle.compact_run.specs.Fetches.{HasFile}
-use Rattle.compact_run.specs.Refusal.{line_of, own_text}
-use Rattle.compact_run.specs.Refusals.{Refused, script_refusal}
+use Rattle.compact_run.specs.Refusal.{line_of}
 use Rattle.compact_run.specs.Answers.{Reading, IsScript, RefusesScript}
 use Rattle.compact_run.specs.OneAnswer.{IsDecided}
 use Rattle.compact_run.proofs.OneFile.{IsReadAs, IsNotRead, long, faulty}
@@ -68,13 +64,6 @@ few_steps step_of text steps e =
 pub few_edits : (text : List ℕ) (steps : List EditLine) → edits_of text ≡ Ok steps → length text ≤ 65536 → length steps ≤ 2 ^ 20
 unfolding edits_of
 few_edits text steps e short = let n = few_steps edit_of text steps e in omega (arith, n, short)
-
--- ---- a refusal
-
-pub refused_by : {L : Type 0} (lines_of : Reading L) (files : Files) (name text : Bytes) (f : ScriptFault) → HasFile files Script name text → IsScriptFault f (lines_of text)
-    → Refused (RefusesScript lines_of name files) (script_refusal f)
-refused_by lines_of files name text (fault.Line number) file bad = (record { text = text; file = file; read = bad }, refl)
-refused_by lines_of files name text fault.OutOfMemory file bad = tt
 
 -- ---- the file
 

@@ -3,7 +3,7 @@ use Rattle.std.proofs.lemmas.Result.{err_from_is_err_and}
 use Rattle.edit_lines.specs.declared.script.EditLine.{EditLine}
 use Rattle.compact_run.specs.Edits.{EditsTo, HasStart}
 use Rattle.compact_run.specs.Answers.{no_technology, no_design, no_masks, no_start, no_edits}
-use Rattle.compact_run.proofs.Editing.{technology_early, sticks_early}
+use Rattle.compact_run.proofs.Editing.{technology_early, sticks_early, design_judged, start_asks}
 use Rattle.compact_run.proofs.Steps.{asked, telling_after}
 use Rattle.compact_run.proofs.command.edit_files.Goals as goal
 
@@ -26,6 +26,23 @@ returns-in_err-numbers-clause-given g c = λ t told.
     let then = telling_after _ _ _ t told (asked _ _ _ c.in_ok-technology.ensures.asked) in
     let why = c.in_err-numbers.ensures in
     rw p.1 (rw p.2 (no_start (no_masks c.in_ok-technology.technology c.in_ok-sticks.sticks (c.in_ok-technology.ensures.technology t told) (c.in_ok-sticks.ensures.design _ then) (why.refused c.args.axes.now)) why.before))
+
+pub returns-in_err-numbers-clause-refusal : goal.returns-in_err-numbers-clause-refusal
+returns-in_err-numbers-clause-refusal g c =
+    let p = err_from_is_err_and c.from_residual-in_err-numbers.result c.from_residual-in_err-numbers.ensures.1 in
+    rw p.1 (rw p.2 (design_judged c.args.design.now c.args.tech.now c.args.script.now c.args.axes.now _ _ _ _ (c.in_err-numbers.ensures.refused c.args.axes.now)).0)
+
+pub returns-in_err-numbers-clause-counted : goal.returns-in_err-numbers-clause-counted
+returns-in_err-numbers-clause-counted g c =
+    let p = err_from_is_err_and c.from_residual-in_err-numbers.result c.from_residual-in_err-numbers.ensures.1 in
+    let judged = design_judged c.args.design.now c.args.tech.now c.args.script.now c.args.axes.now _ _ _ _ (c.in_err-numbers.ensures.refused c.args.axes.now) in
+    rw p.1 (rw p.2 (λ file is. absurd (judged.1 file is)))
+
+pub returns-in_err-numbers-clause-asked : goal.returns-in_err-numbers-clause-asked
+returns-in_err-numbers-clause-asked g c =
+    let p = err_from_is_err_and c.from_residual-in_err-numbers.result c.from_residual-in_err-numbers.ensures.1 in
+    let judged = design_judged c.args.design.now c.args.tech.now c.args.script.now c.args.axes.now _ _ _ _ (c.in_err-numbers.ensures.refused c.args.axes.now) in
+    rw p.1 (rw p.2 (start_asks c.args.design.now c.args.tech.now c.args.script.now c.args.axes.now _ _ _ _ judged (asked _ _ _ c.in_ok-technology.ensures.asked) (asked _ _ _ c.in_ok-sticks.ensures.asked)))
 
 pub returns-in_err-lines-clause-given : goal.returns-in_err-lines-clause-given
 returns-in_err-lines-clause-given g c = λ t told.

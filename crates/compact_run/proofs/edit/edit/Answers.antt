@@ -8,14 +8,14 @@ use Rattle.compact_run.specs.Edits.{AreSteps}
 use Rattle.compact_run.proofs.Editing.{steps_next}
 use Rattle.compact_run.proofs.edit.edit.Goals as goal
 
-pub go_on-so_far-requires-clause-written : goal.go_on-so_far-requires-clause-written
-go_on-so_far-requires-clause-written g c κs within =
+pub go_on-requires-clause-written : goal.go_on-requires-clause-written
+go_on-requires-clause-written g c κs within =
     let lines = c.args.lines.now in
     let i = c.loop-i.i in
     subst HasText (sym c.index-lines-i.is) (all_at HasText lines c.index-lines-i.result i c.requires.written c.loop-i-test.true)
 
-pub go_on-so_far-requires-clause-few_lines : goal.go_on-so_far-requires-clause-few_lines
-go_on-so_far-requires-clause-few_lines g c κs within = omega (arith, c.loop-i.invariant.lines, c.loop-i-test.true, c.requires.few_steps)
+pub go_on-requires-clause-few_lines : goal.go_on-requires-clause-few_lines
+go_on-requires-clause-few_lines g c κs within = omega (arith, c.loop-i.invariant.lines, c.loop-i-test.true, c.requires.few_steps)
 
 pub loop-i-preserved : goal.loop-i-preserved
 loop-i-preserved g c =

@@ -4,9 +4,9 @@ use Rattle.compact_run.proofs.Editing.{plan_early}
 use Rattle.compact_run.proofs.edit.started.Goals as goal
 
 pub returns-in_err-planned-clause-refused : goal.returns-in_err-planned-clause-refused
-returns-in_err-planned-clause-refused c = λ axes.
+returns-in_err-planned-clause-refused c =
     let p = err_from_is_err_and c.from_residual.result c.from_residual.ensures.1 in
-    rw p.1 (rw p.2 (no_masters c.in_err-planned.ensures.refused))
+    rw p.1 (rw p.2 (λ axes. no_masters c.in_err-planned.ensures.refused))
 
 pub returns-in_err-planned-clause-before : goal.returns-in_err-planned-clause-before
 returns-in_err-planned-clause-before c =
@@ -14,9 +14,9 @@ returns-in_err-planned-clause-before c =
     rw p.1 (rw p.2 (plan_early _ _ _ _ c.in_err-planned.ensures.refused))
 
 pub returns-in_err-masters-clause-refused : goal.returns-in_err-masters-clause-refused
-returns-in_err-masters-clause-refused c = λ axes.
+returns-in_err-masters-clause-refused c =
     let p = err_from_is_err_and c.from_residual-in_err-masters.result c.from_residual-in_err-masters.ensures.1 in
-    rw p.1 (rw p.2 (no_masters c.in_err-masters.ensures.refused))
+    rw p.1 (rw p.2 (λ axes. no_masters c.in_err-masters.ensures.refused))
 
 pub returns-in_err-masters-clause-before : goal.returns-in_err-masters-clause-before
 returns-in_err-masters-clause-before c =
@@ -24,6 +24,6 @@ returns-in_err-masters-clause-before c =
     rw p.1 (rw p.2 (plan_early _ _ _ _ c.in_err-masters.ensures.refused))
 
 pub returns-in_err-judge_starts-clause-refused : goal.returns-in_err-judge_starts-clause-refused
-returns-in_err-judge_starts-clause-refused c = λ axes.
+returns-in_err-judge_starts-clause-refused c =
     let p = err_from_is_err_and c.from_residual-in_err-judge_starts.result c.from_residual-in_err-judge_starts.ensures.1 in
-    rw p.1 (rw p.2 (no_masks c.in_ok-planned.planned.plan _ c.in_ok-masters.ensures.of_design (rw c.deref.ensures.value at c.in_err-judge_starts.ensures.refused c.in_ok-planned.planned.plan axes)))
+    rw p.1 (rw p.2 (λ axes. no_masks c.in_ok-planned.planned.plan _ c.in_ok-masters.ensures.of_design (rw c.deref.ensures.value at c.in_err-judge_starts.ensures.refused c.in_ok-planned.planned.plan axes)))
