@@ -57,7 +57,8 @@ fn a_foreign_file_crosses_threads(rt: HostRuntime) {
 #[test]
 fn each_of_the_eight_turns_is_drawn(rt: HostRuntime) -> Result<(), Fail> {
     let alloc = rt.alloc();
-    let text = b"DS 1; L NM; B 4 2 12 21; DF; C 1; C 1 R 0 1; C 1 R -5 0; C 1 R 0 -1; C 1 M X; C 1 M X R 0 9; C 1 M Y; C 1 M X R 0 -1; E";
+    let text =
+        b"DS 1; L NM; B 4 2 12 21; DF; C 1; C 1 R 0 1; C 1 R -5 0; C 1 R 0 -1; C 1 M X; C 1 M X R 0 9; C 1 M Y; C 1 M X R 0 -1; E";
     let boxes = boxes_of(alloc, text)?;
     assert_eq!(rt;
         boxes.as_slice(),
@@ -79,7 +80,8 @@ fn each_of_the_eight_turns_is_drawn(rt: HostRuntime) -> Result<(), Fail> {
 #[test]
 fn calls_in_definitions_are_placed(rt: HostRuntime) -> Result<(), Fail> {
     let alloc = rt.alloc();
-    let text = b"DS 1 1 1; L NM; B 1200 1800 600 900; DF; DS 2 1 1; C 1 M X T 3000 0; C 1 R 0 1; DF; C 2 T 100 0; E";
+    let text =
+        b"DS 1 1 1; L NM; B 1200 1800 600 900; DF; DS 2 1 1; C 1 M X T 3000 0; C 1 R 0 1; DF; C 2 T 100 0; E";
     let boxes = boxes_of(alloc, text)?;
     assert_eq!(rt;
         boxes.as_slice(),
@@ -93,7 +95,7 @@ fn calls_in_definitions_are_placed(rt: HostRuntime) -> Result<(), Fail> {
         alloc,
         b"DS 1 2 1; L ND; B 2 2 1 1; DF; DS 2 3 2; C 1 T 2 0; B 2 2 0 0; DF; E",
     );
-    assert_eq!(rt; scaled.err(), fault(49, CifKind::NoLayer));
+    assert_eq!(rt; scaled.err(), fault(52, CifKind::NoLayer));
     let twice = boxes_of(
         alloc,
         b"DS 1 2 1; L ND; B 2 2 1 1; DF; DS 2 3 2; C 1 T 2 0; DF; C 2 T 10 0; E",
@@ -129,10 +131,7 @@ fn each_fault_of_a_call_is_told_with_its_place(rt: HostRuntime) -> Result<(), Fa
         fault(10, CifKind::BadNumber)
     );
     assert_eq!(rt;
-        fault_of(
-            alloc,
-            b"DS 1; DF; C 1 T 1073741824 0 T 1 0 T -1 0; E"
-        ),
+        fault_of(alloc, b"DS 1; DF; C 1 T 1073741824 0 T 1 0 T -1 0; E"),
         None
     );
     assert_eq!(rt;
@@ -147,13 +146,15 @@ fn each_fault_of_a_call_is_told_with_its_place(rt: HostRuntime) -> Result<(), Fa
         fault_of(alloc, b"DS 1; DF; DS 2 1 2; C 1 T 0 1 T 0 1; DF; E"),
         None
     );
-    assert_eq!(rt; fault_of(alloc, b"DS 1; DF; C 1 M X"), fault(17, CifKind::NoEnd));
+    assert_eq!(rt;
+        fault_of(alloc, b"DS 1; DF; C 1 M X"),
+        fault(17, CifKind::NoEnd)
+    );
     Ok(())
 }
 
 // Symbols from 1 on, each after the first with so many calls of the one before.
-fn chain(alloc: Global, first: &str, last: u32, calls: u32) -> Result<String, Fail>
-{
+fn chain(alloc: Global, first: &str, last: u32, calls: u32) -> Result<String, Fail> {
     let mut text = String::new(alloc);
     text.push_str("DS 1;")?;
     text.push_str(first)?;
@@ -183,11 +184,17 @@ fn symbols_are_called_64_deep(rt: HostRuntime) -> Result<(), Fail> {
     let mut deeper = chain(alloc, "", 64, 1)?;
     let at = deeper.len() as u32 + 10;
     deeper.push_str("DS 65 1 2;C 64;DF;E")?;
-    assert_eq!(rt; fault_of(alloc, deeper.as_bytes()), fault(at, CifKind::TooDeep));
+    assert_eq!(rt;
+        fault_of(alloc, deeper.as_bytes()),
+        fault(at, CifKind::TooDeep)
+    );
     let mut odd = chain(alloc, "", 64, 1)?;
     let at = odd.len() as u32 + 10;
     odd.push_str("DS 65 1 2;C 64 T 1 0;DF;E")?;
-    assert_eq!(rt; fault_of(alloc, odd.as_bytes()), fault(at, CifKind::OddScale));
+    assert_eq!(rt;
+        fault_of(alloc, odd.as_bytes()),
+        fault(at, CifKind::OddScale)
+    );
     Ok(())
 }
 
@@ -201,7 +208,10 @@ fn symbols_without_boxes_are_passed_over(rt: HostRuntime) -> Result<(), Fail> {
     let mut full = chain(alloc, "L NM;B 900 900 0 0;", 64, 2)?;
     full.push_str("C 64;E")?;
     let file = read_foreign(alloc, full.as_bytes())?;
-    assert_eq!(rt; flatten_foreign(alloc, &file).err(), Some(FlatFault::TooMany));
+    assert_eq!(rt;
+        flatten_foreign(alloc, &file).err(),
+        Some(FlatFault::TooMany)
+    );
     let mut most = chain(alloc, "L NM;B 900 900 0 0;", 21, 2)?;
     most.push_str("C 21;E")?;
     let many = boxes_of(alloc, most.as_bytes())?;
