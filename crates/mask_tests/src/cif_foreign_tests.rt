@@ -95,7 +95,7 @@ fn calls_in_definitions_are_placed(rt: HostRuntime) -> Result<(), Fail> {
         alloc,
         b"DS 1 2 1; L ND; B 2 2 1 1; DF; DS 2 3 2; C 1 T 2 0; B 2 2 0 0; DF; E",
     );
-    assert_eq!(rt; scaled.err(), fault(49, CifKind::NoLayer));
+    assert_eq!(rt; scaled.err(), fault(52, CifKind::NoLayer));
     let twice = boxes_of(
         alloc,
         b"DS 1 2 1; L ND; B 2 2 1 1; DF; DS 2 3 2; C 1 T 2 0; DF; C 2 T 10 0; E",
