@@ -95,3 +95,30 @@ pub returns-in-Edit-clause-usage : goal.returns-in-Edit-clause-usage
 returns-in-Edit-clause-usage g c =
     let is = c.in_ok-design.ensures.command ∙ ap (λ z. Some (command_from z)) c.in-Edit.is in
     (λ e. absurd (not_usage (words.edit c.in-Edit.design.now c.in-Edit.tech.now c.in-Edit.script.now c.as_slice-in-Edit.result.now) _ _ _ c.edit_files.ensures.asked e), λ none. absurd (is_command _ _ is none))
+
+pub returns-in-Check-clause-given : goal.returns-in-Check-clause-given
+returns-in-Check-clause-given g c = λ t told.
+    let is = c.in_ok-design.ensures.command ∙ ap (λ z. Some (command_from z)) c.in-Check.is in
+    let C : Option words.Command → Type 0 = λ z. IsGiven z t.files c.cif_files.result in
+    subst C (sym is) (c.cif_files.ensures.given t c.in-Check.split told)
+
+pub returns-in-Check-clause-usage : goal.returns-in-Check-clause-usage
+returns-in-Check-clause-usage g c =
+    let is = c.in_ok-design.ensures.command ∙ ap (λ z. Some (command_from z)) c.in-Check.is in
+    (λ e. absurd (not_usage (words.check c.in-Check.cif.now c.in-Check.tech.now c.in-Check.split) _ _ _ (c.cif_files.ensures.asked c.in-Check.split) e), λ none. absurd (is_command _ _ is none))
+
+pub returns-in-Extract-clause-given : goal.returns-in-Extract-clause-given
+returns-in-Extract-clause-given g c = λ t told.
+    let is = c.in_ok-design.ensures.command ∙ ap (λ z. Some (command_from z)) c.in-Extract.is in
+    let C : Option words.Command → Type 0 = λ z. IsGiven z t.files c.cif_files-in-Extract.result in
+    subst C (sym is) (c.cif_files-in-Extract.ensures.given t 1 told)
+
+pub returns-in-Extract-clause-usage : goal.returns-in-Extract-clause-usage
+returns-in-Extract-clause-usage g c =
+    let is = c.in_ok-design.ensures.command ∙ ap (λ z. Some (command_from z)) c.in-Extract.is in
+    (λ e. absurd (not_usage (words.extract c.in-Extract.cif.now c.in-Extract.tech.now) _ _ _ (c.cif_files-in-Extract.ensures.asked 1) e), λ none. absurd (is_command _ _ is none))
+
+pub returns-in-Extract-clause-asked : goal.returns-in-Extract-clause-asked
+returns-in-Extract-clause-asked g c =
+    let is = c.in_ok-design.ensures.command ∙ ap (λ z. Some (command_from z)) c.in-Extract.is in
+    rw is (c.cif_files-in-Extract.ensures.asked 1)
