@@ -1,5 +1,5 @@
 -- The links of the three kinds are all links.
-use Rattle.std.proofs.Common.{◌≡◌, ◌≢◌, ℕ, ◌<◌, List, Some, length, map, ◌⊎◌, inl, inr, refl, sym, ◌∙◌, ap, subst, arith}
+use Rattle.std.proofs.Common.{◌≡◌, ℕ, ◌<◌, List, Some, length, map, ◌⊎◌, inl, inr, sym, ◌∙◌, ap, subst, arith}
 use Rattle.std.specs.Prelude.{slice_get, option_map}
 use Rattle.std.proofs.lemmas.List.{length-map}
 use Rattle.std.proofs.lemmas.Option.{slice_get-map, slice_get-get_or, slice_get_within, same_Some}
@@ -8,12 +8,12 @@ use Rattle.lam_geom.specs.declared.boxes.MaskBox.{MaskBox}
 use Rattle.lam_geom.specs.Gaps.{Touches, Overlaps}
 use Rattle.rule_table.specs.declared.technology.Tech.{Tech}
 use Rattle.crossings.specs.declared.crossing.Crossing.{Crossing}
-use Rattle.crossings.specs.Boxes.{area_at, layer_at}
+use Rattle.crossings.specs.Boxes.{area_at}
 use Rattle.crossings.specs.Crossings.{AreInOrder}
 use Rattle.net_extract.specs.declared.placing.Placed.{Placed}
 use Rattle.net_extract.specs.Places.{Place, places_of}
 use Rattle.net_extract.specs.Extraction.{AreLinked, by_touch, by_cut, by_contact, by_contact_back, IsLink}
-use Rattle.net_extract.specs.Pieces.{no_piece, piece_at, box_of, area_of, stand_of, IsPiece, ArePieces}
+use Rattle.net_extract.specs.Pieces.{no_piece, piece_at, area_of, stand_of, IsPiece, ArePieces}
 use Rattle.net_extract.specs.Linking.{IsTouch, IsOverBoth, IsContact}
 use Rattle.net_extract.proofs.Areas.{area_same}
 

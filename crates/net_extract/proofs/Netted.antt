@@ -18,7 +18,7 @@ use Rattle.net_extract.specs.Spreading.{AreWhole}
 use Rattle.net_extract.proofs.AllLinks.{pieces_counted}
 use Rattle.net_extract.proofs.Growth.{below_cases}
 use Rattle.net_extract.proofs.Nodes.{nodes_link, links_nodes}
-use Rattle.net_extract.proofs.Spread.{whole_none, whole_reaches}
+use Rattle.net_extract.proofs.Spread.{whole_reaches}
 
 -- the numbers of the first pieces, and how many numbers there are
 pub record IsNumbering (Beside : ℕ → ℕ → Type 0) (marks : List (Option ℕ)) (nets : List ℕ) (count : ℕ) : Type 0 where

@@ -21,7 +21,7 @@ use Rattle.net_extract.specs.declared.searches.Search.{Search}
 use Rattle.net_extract.specs.Groves.{spot_of, AreTagsWithin}
 use Rattle.net_extract.specs.Pieces.{box_of, area_of, no_piece, piece_at, IsPiece, IsOfBoxes, ArePieces}
 use Rattle.net_extract.specs.Spots.{MayBeBuried, box_spot, AreBoxSpots}
-use Rattle.net_extract.specs.Spreading.{AreReached, IsFrontReached, IsGroveReached, IsGroveOf, IsSearch, IsStep}
+use Rattle.net_extract.specs.Spreading.{IsGroveReached, IsGroveOf, IsSearch, IsStep}
 use Rattle.net_extract.proofs.Geometry.{placed_inner}
 use Rattle.net_extract.proofs.Spread.{reached_as, reached_more, reached_none}
 use Rattle.net_extract.proofs.Walk.{grove_kept}

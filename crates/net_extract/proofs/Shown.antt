@@ -1,5 +1,5 @@
 -- Lists of spots: one more, and what lies over a cut.
-use Rattle.std.proofs.Common.{◌≡◌, ◌≢◌, ℕ, ◌+◌, ◌<◌, ◌≤◌, pos, Some, List, [], ◌∷◌, ◌++◌, length, get_or, ◌⊎◌, inl, inr, refl, sym, ◌∙◌, ap, subst, arith}
+use Rattle.std.proofs.Common.{◌≡◌, ◌≢◌, ℕ, ◌+◌, ◌<◌, pos, Some, List, [], ◌∷◌, ◌++◌, length, get_or, ◌⊎◌, inl, inr, refl, sym, ◌∙◌, ap, subst, arith}
 use Rattle.std.specs.Prelude.{Bool, IsTrue, MatchOption, None, Option, is_some, negsuc, ◌<ℤ◌, ◌≤ℤ◌, ℤ}
 use Rattle.std.proofs.lemmas.Bool.{cases_eq, false≢true}
 use Rattle.std.proofs.lemmas.Int.{ints}
@@ -20,7 +20,7 @@ use Rattle.crossings.specs.Boxes.{area_at, layer_at, IsOn, box_at, no_box}
 use Rattle.net_extract.specs.declared.placing.Placed.{Placed}
 use Rattle.net_extract.specs.declared.spots.PieceTrees.{PieceTrees}
 use Rattle.net_extract.specs.Groves.{spot_of}
-use Rattle.net_extract.specs.Linking.{IsOverBoth, IsJoining}
+use Rattle.net_extract.specs.Linking.{IsJoining}
 use Rattle.net_extract.specs.Pieces.{Conducts, box_of, area_of, no_piece, piece_at, IsPiece, ArePieces}
 use Rattle.net_extract.specs.Spots.{AreSpots, IsPieceOn, piece_spot, ArePieceSpots, ArePieceTrees, IsOverOther, IsOwnerOver}
 use Rattle.net_extract.proofs.Geometry.{overlaps_back}

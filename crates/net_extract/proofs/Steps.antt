@@ -1,18 +1,17 @@
 -- Steps of a search: from the spots that were found to the nodes that they show.
-use Rattle.std.proofs.Common.{◌≡◌, ◌≢◌, ℕ, ◌+◌, ◌<◌, ◌≤◌, Bool, Option, Some, None, List, All, [], ◌∷◌, ◌++◌, length, take, get_or, pos, Contains, ◌⊎◌, inl, inr, refl, sym, ◌∙◌, ap, subst, arith}
+use Rattle.std.proofs.Common.{◌≡◌, ℕ, ◌+◌, ◌<◌, Option, List, All, [], ◌∷◌, ◌++◌, length, take, get_or, Contains, ◌⊎◌, inl, inr, sym, subst, arith}
 use Rattle.std.proofs.lemmas.List.Elements.{Contains-get_or}
-use Rattle.std.proofs.lemmas.Option.{none-some}
 use Rattle.box_tree.specs.declared.query.Query.{Query}
 use Rattle.box_tree.specs.declared.spots.Spot.{Spot}
 use Rattle.box_tree.specs.Queries.{Holds}
-use Rattle.graph_search.specs.Search.{mark_of, IsMarked, AreKept, AreVisited}
+use Rattle.graph_search.specs.Search.{AreKept, AreVisited}
 use Rattle.graph_search.proofs.Marks.{mark_cases}
 use Rattle.lam_geom.specs.declared.boxes.MaskBox.{MaskBox}
 use Rattle.rule_table.specs.declared.technology.Tech.{Tech}
 use Rattle.net_extract.specs.declared.groves.Grove.{Grove}
 use Rattle.net_extract.specs.declared.groves.Plan.{Plan}
 use Rattle.net_extract.specs.declared.placing.Placed.{Placed}
-use Rattle.net_extract.specs.Groves.{spot_of, AreTagsWithin, AreSpent, IsGrove, IsOf, IsUnreached}
+use Rattle.net_extract.specs.Groves.{AreTagsWithin, AreSpent, IsGrove, IsOf, IsUnreached}
 use Rattle.net_extract.specs.Linking.{AreGathered, IsPairWith}
 use Rattle.net_extract.specs.Pieces.{box_of}
 use Rattle.net_extract.specs.Spreading.{AreReached, IsBuriedOf, IsOfPair}

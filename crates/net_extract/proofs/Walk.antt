@@ -1,5 +1,5 @@
 -- Steps of the walk through a grove.
-use Rattle.std.proofs.Common.{◌≡◌, ◌≢◌, ℕ, zero, suc, ◌+◌, ◌<◌, ◌≤◌, Bool, false, true, Option, None, Some, List, [], ◌∷◌, ◌++◌, length, set, get_or, drop, Contains, ◌⊎◌, inl, inr, refl, sym, ◌∙◌, ap, subst, arith, length-drop, length-set, get_or-set_other, get_or-set_same}
+use Rattle.std.proofs.Common.{◌≡◌, ◌≢◌, ℕ, ◌+◌, ◌<◌, ◌≤◌, Bool, false, true, Option, None, Some, List, [], ◌∷◌, ◌++◌, length, set, get_or, drop, ◌⊎◌, inl, inr, refl, sym, ◌∙◌, ap, subst, arith, length-drop, length-set, get_or-set_other, get_or-set_same}
 use Rattle.std.specs.Prelude.{IsTrue, is_some, max, nat_eq, not}
 use Rattle.std.proofs.lemmas.Bool.{cases_lt, cases_eq, eqb-true}
 use Rattle.std.proofs.lemmas.List.{drop_more, drop_all, drop-drop, get_or_default, get_or_read}
@@ -8,12 +8,12 @@ use Rattle.box_tree.specs.declared.query.Query.{Query}
 use Rattle.box_tree.specs.declared.spots.Group.{Group}
 use Rattle.box_tree.specs.declared.spots.Spot.{Spot}
 use Rattle.box_tree.specs.Queries.{Holds}
-use Rattle.box_tree.specs.Tree.{IsBounded, IsGroupOf, IsPlacedGroup, begin_of, no_spot}
+use Rattle.box_tree.specs.Tree.{IsBounded, IsGroupOf, IsPlacedGroup, begin_of}
 use Rattle.box_tree.proofs.Trees.{group_here}
 use Rattle.graph_search.specs.Search.{mark_of, IsMarked, AreKept}
 use Rattle.net_extract.specs.declared.groves.Grove.{Grove}
 use Rattle.net_extract.specs.declared.groves.Plan.{Plan}
-use Rattle.net_extract.specs.Groves.{spot_of, no_group, group_at, spot_in, IsPlan, IsInRun, InSpent, IsRunSpent, IsMarkedAt, IsRunMarked, AreSpent, AreTagsWithin, IsGrove, IsOf, IsUnreached, IsUnreachedWithin}
+use Rattle.net_extract.specs.Groves.{spot_of, no_group, group_at, spot_in, IsPlan, IsInRun, InSpent, IsRunSpent, IsMarkedAt, IsRunMarked, AreSpent, IsGrove, IsUnreached, IsUnreachedWithin}
 use Rattle.net_extract.specs.Linking.{AreGathered}
 use Rattle.net_extract.proofs.Growth.{gathered_as, gathered_more, gathered_none, gathered_if, below_cases}
 

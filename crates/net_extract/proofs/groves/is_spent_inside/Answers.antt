@@ -1,6 +1,5 @@
-use Rattle.std.proofs.Common.{arith, ◌≡◌, ◌+◌, length}
-use Rattle.std.specs.Prelude.{IsTrue, nat_eq}
-use Rattle.net_extract.proofs.Walk.{IsRead, group_read, flag_read, covered_none, covered_more, covered_all, same_number}
+use Rattle.std.proofs.Common.{arith, ◌+◌}
+use Rattle.net_extract.proofs.Walk.{IsRead, group_read, covered_none, covered_more, covered_all, same_number}
 use Rattle.net_extract.proofs.groves.is_spent_inside.Goals as goal
 
 pub loop-next-init : goal.loop-next-init

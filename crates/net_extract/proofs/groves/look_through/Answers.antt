@@ -1,13 +1,10 @@
-use Rattle.std.proofs.Common.{arith, ◌≡◌, ℕ, ◌+◌, ◌<◌, Bool, true, false, Vec, Global, None, length, get_or, inl, inr, sym, ◌∙◌, ap, subst}
-use Rattle.std.specs.Prelude.{IsTrue}
+use Rattle.std.proofs.Common.{arith, ◌≡◌, ℕ, ◌<◌, true, false, Vec, Global, length, get_or, inl, inr, sym, ◌∙◌, ap}
 use Rattle.std.proofs.lemmas.Bool.{iff_false}
 use Rattle.std.proofs.lemmas.List.{get_or_read}
 use Rattle.std.proofs.lemmas.Option.{none-some}
-use Rattle.box_tree.specs.declared.spots.Spot.{Spot}
-use Rattle.box_tree.specs.Queries.{Holds}
 use Rattle.box_tree.proofs.Trees.{spot_read}
 use Rattle.graph_search.specs.Search.{mark_of, IsMarked}
-use Rattle.net_extract.specs.Groves.{spot_in, IsRunMarked}
+use Rattle.net_extract.specs.Groves.{spot_in}
 use Rattle.net_extract.proofs.Walk.{one_within, none_told, some_told, run_marked_more, within_end}
 use Rattle.net_extract.proofs.groves.look_through.Goals as goal
 use Rattle.net_extract.proofs.groves.look_through.Goals.{then-is_none+then-holds+in_ok-push, then-is_none+else-holds, else-is_none}

@@ -1,5 +1,4 @@
-use Rattle.std.proofs.Common.{arith, ◌≡◌, ℕ, ◌+◌, ◌<◌, ◌≤◌, Bool, true, false, None, List, length, inl, inr, sym, ◌∙◌, subst, set}
-use Rattle.std.specs.Prelude.{IsTrue}
+use Rattle.std.proofs.Common.{arith, ◌≡◌, ℕ, ◌+◌, ◌<◌, ◌≤◌, Bool, false, None, List, subst}
 use Rattle.box_tree.specs.Queries.{Holds}
 use Rattle.graph_search.specs.Search.{mark_of}
 use Rattle.net_extract.specs.Groves.{spot_in, IsRunSpent}

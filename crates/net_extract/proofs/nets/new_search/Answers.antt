@@ -1,4 +1,4 @@
-use Rattle.std.proofs.Common.{arith, ◌≡◌, ℕ, ◌+◌, length}
+use Rattle.std.proofs.Common.{arith, ◌≡◌, ◌+◌, length}
 use Rattle.lam_geom.specs.declared.boxes.MaskLayer.TheVariants.{ND, NP, NM}
 use Rattle.net_extract.proofs.Begun.{begun_pieces, begun_boxes, begun_cuts}
 use Rattle.net_extract.proofs.nets.new_search.Goals as goal

@@ -1,4 +1,4 @@
-use Rattle.std.proofs.Common.{arith, ◌≡◌, ℕ, ap, ◌∙◌, inl, inr, ◌<◌, length, get_or, subst, Vec, Global}
+use Rattle.std.proofs.Common.{arith, ℕ, ap, ◌∙◌, inl, inr, ◌<◌, length, get_or, subst, Vec, Global}
 use Rattle.std.proofs.lemmas.Bool.{iff_false}
 use Rattle.std.proofs.lemmas.List.{get_or_default}
 use Rattle.net_extract.specs.declared.placing.Placed.{Placed}

@@ -1,4 +1,4 @@
-use Rattle.std.proofs.Common.{◌≡◌, ℕ, ◌<◌, length, get_or, sym, ◌∙◌, ap, subst}
+use Rattle.std.proofs.Common.{◌≡◌, ◌<◌, length, get_or, sym, ◌∙◌, ap, subst}
 use Rattle.std.specs.Prelude.{negsuc}
 use Rattle.std.proofs.lemmas.List.{get_or_default}
 use Rattle.box_tree.specs.declared.query.Query.{Query}

@@ -1,6 +1,6 @@
-use Rattle.std.proofs.Common.{arith, ◌≡◌, ℕ, ◌+◌, ◌-◌, ◌<◌, length, inl, inr, sym, ap, subst}
+use Rattle.std.proofs.Common.{arith, ℕ, subst}
 use Rattle.std.proofs.lemmas.Result.{on_ok_weaker}
-use Rattle.net_extract.specs.Linking.{AreBeside, IsJoining, cut_node}
+use Rattle.net_extract.specs.Linking.{AreBeside}
 use Rattle.net_extract.specs.Spreading.{IsStep}
 use Rattle.net_extract.proofs.Nodes.{node_cut}
 use Rattle.net_extract.proofs.searches.visit_node.Goals as goal

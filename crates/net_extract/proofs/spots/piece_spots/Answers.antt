@@ -1,4 +1,4 @@
-use Rattle.std.proofs.Common.{arith, rules, ◌≡◌, ℕ, ◌+◌, ◌<◌, List, Vec, Global, get_or, length, refl, sym, ◌∙◌, ap, subst}
+use Rattle.std.proofs.Common.{arith, rules, ◌≡◌, ◌+◌, ◌<◌, List, Vec, Global, get_or, length, refl, sym, ◌∙◌, ap, subst}
 use denote.Enum.Bare.{same_true, same_false}
 use Rattle.lam_geom.specs.contracts.boxes.MaskLayer.{the_type}
 use Rattle.box_tree.specs.declared.spots.Spot.{Spot}
