@@ -97,6 +97,7 @@ start_asks d t s axes ended old mid new judged first then = go judged.2
   where
     both : new ≡ option_map (with_asked d) (option_map (with_asked t) old)
     both = then ∙ ap (option_map (with_asked d)) first
+
     go : (ended ≡ status.OutOfMemory) ⊎ (ends_over (edit d t s axes) ended ≡ Some file.Design) → AsksFor (Some (edit d t s axes)) ended old new
     go (inl e) = inr (e, inr (inr (inl both)))
     go (inr e) = let A : Option File → Type 0 = λ z. AsksThrough z (edit d t s axes) old new in inl (subst A (sym e) both)
