@@ -1,84 +1,167 @@
 #!/usr/bin/env python3
-"""Times `check` and `extract` on CIF texts made to be slow: hostile.py [PROGRAM [NAME..]]
+"""Times `check` and `extract` on CIF texts that are made to be slow: hostile.py [SHARE [PROGRAM]]
 
-Each text has 1,048,576 boxes or a few less, by calls and none inside another, and most of its boxes lie near most others, so that a list of all near
-pairs would never end. Each line gives the user seconds and the greatest memory (MB) of either, and the first line of what it said; a run is cut off after SECONDS.
+Each text has 1,048,576 boxes (or that many divided by SHARE), as many as the program takes, and often a few hundred bytes: symbols of many boxes that are called many times. Their boxes lie on one another, so that pairs
+of near boxes number up to 2^39. Each line gives the seconds and the most memory (peak resident set, in MB) of `check` and of `extract`, and how each ended. The first line is a plain text of as many boxes that lie apart; the last line
+tells how many times as long the slowest took. The status is 1 where one took more than ten times as long as the plain one and more than ten seconds, or more than 400 MB.
 """
-import os, random, subprocess, sys, tempfile
+import os, random, resource, subprocess, sys, tempfile, time
+from compact import PROGRAM
 
-HERE = os.path.dirname(os.path.abspath(__file__))
-PROGRAM = sys.argv[1] if len(sys.argv) > 1 else os.path.join(HERE, "..", "bin", "sticks")
-TECH = os.path.join(HERE, "..", "examples", "nmos.toml")
-SECONDS, MANY = 300, 1024
-U = 150  # a unit of the shipped technology, in hundredths of a micron
-
-
-def box(layer, x, y, length, width):
-    """A box by its low corner and its sides, in units."""
-    return "L %s;B %d %d %d %d;" % (layer, length * U, width * U, x * U + length * U // 2, y * U + width * U // 2)
+ROOT = os.path.dirname(os.path.dirname(os.path.abspath(__file__)))
+TECHS = [os.path.join(ROOT, "examples", name) for name in ("nmos.toml", "nmos2.toml")]
+U = 150  # hundredths of a micron
 
 
-def text(symbol, calls):
-    """A symbol of these boxes, called at these places, in units."""
-    return "DS 1 1 1;\n%s\nDF;\n%s\nE\n" % ("\n".join(symbol), "\n".join("C 1 T %d %d;" % (x * U, y * U) for x, y in calls))
+class Text:
+    """A CIF text, written symbol by symbol. Lengths are in u."""
+
+    def __init__(self):
+        self.parts, self.count = [], 0
+
+    def boxes(self, boxes):
+        """The lines of boxes: layer, low and high end on x, low and high end on y."""
+        lines, last = [], None
+        for layer, x0, x1, y0, y1 in boxes:
+            if layer != last:
+                lines.append(f"L {layer};")
+                last = layer
+            lines.append(f"B {(x1 - x0) * U} {(y1 - y0) * U} {(x0 + x1) * U // 2} {(y0 + y1) * U // 2};")
+        return "".join(lines)
+
+    def symbol(self, boxes):
+        self.count += 1
+        self.parts.append(f"DS {self.count};{self.boxes(boxes)}DF;")
+        return self.count
+
+    def call(self, symbol, x=0, y=0):
+        self.parts.append(f"C {symbol} T {x * U} {y * U};")
+
+    def top(self, boxes):
+        self.parts.append(self.boxes(boxes))
+
+    def text(self):
+        return "".join(self.parts) + "E\n"
 
 
-def heaps(gap):
-    """Two heaps of metal, with so much between them."""
-    half = MANY // 2
-    return text([box("NM", 0, 0, 6, 6)] * MANY, [(0, 0)] * half + [(6 + gap, 0)] * half)
+def array(box, across, up, steps, text=None):
+    """Copies of a box: `across` in a symbol and `up` calls, shifted by steps on x and y."""
+    text = text or Text()
+    layer, x0, x1, y0, y1 = box
+    (ax, ay), (bx, by) = steps
+    symbol = text.symbol([(layer, x0 + i * ax, x1 + i * ax, y0 + i * ay, y1 + i * ay) for i in range(across)])
+    for j in range(up):
+        text.call(symbol, j * bx, j * by)
+    return text
 
 
-def sliding(gap):
-    """Two heaps, each of boxes that slide past one another, with so much between them."""
-    half = MANY // 2
-    return text([box("NM", i, 0, 4096, 6) for i in range(MANY)], [(2 * j, 0) for j in range(half)] + [(2 * j, 6 + gap) for j in range(half)])
+def texts(n):
+    """The texts, by name, with the technology: n is 1,024 at the limit, so that n * n boxes are made."""
+    metal = ("NM", 0, 20, 0, 20)
+    yield "apart", 0, array(metal, n, n, ((40, 0), (0, 40)))
+    yield "equal", 0, array(metal, n, n, ((0, 0), (0, 0)))
+    yield "sliding", 0, array(("NM", 0, 2000, 0, 20), n, n, ((2, 0), (2 * n, 0)))
+    yield "sliding both ways", 0, array(("NM", 0, 2000, 0, 2000), n, n, ((2, 0), (0, 2)))
+    for name, gap in (("two heaps, touching", 0), ("two heaps, too near", 4), ("two heaps, clear", 8)):
+        text = array(metal, n, n // 2, ((0, 0), (0, 0)))
+        yield name, 0, array(("NM", 20 + gap, 40 + gap, 0, 20), n, n // 2, ((0, 0), (0, 0)), text)
+    wide = 12 * n * n // 2 if n <= 256 else 12 * n * 64
+    text = Text()
+    rows, half = min(n * n // 2, wide // 12), n * n // 2
+    for turned in (False, True):
+        bars = [("NM", *((0, wide, 12 * i, 12 * i + 6) if not turned else (12 * i, 12 * i + 6, 0, wide))) for i in range(min(n, rows))]
+        symbol = text.symbol(bars)
+        for j in range(half // len(bars)):
+            place = 12 * len(bars) * (j % max(1, rows // len(bars)))
+            text.call(symbol, *((0, place) if not turned else (place, 0)))
+    yield "crossing bars of metal", 0, text
+    text = Text()
+    for turned, layer in ((False, "NM"), (True, "NP")):
+        symbol = text.symbol([(layer, *((0, wide, 12 * i, 12 * i + 6) if not turned else (12 * i, 12 * i + 6, 0, wide))) for i in range(n)])
+        for j in range(n // 2):
+            text.call(symbol, *((0, 12 * n * (j % 64)) if not turned else (12 * n * (j % 64), 0)))
+    yield "bars of metal and poly", 0, text
+    text = Text()
+    for j in range(n):
+        text.call(text.symbol([("NM", -10 - j * n - i, 10 + j * n + i, -10 - j * n - i, 10 + j * n + i) for i in range(n)]))
+    yield "nested", 0, text
+    yield "one column", 0, array(("NM", 0, 20, 0, 20), n, n, ((0, 30), (0, 30 * n)))
+    yield "one column, overlapping", 0, array(("NM", 0, 20, 0, 20), n, n, ((0, 2), (0, 2 * n)))
+    text = Text()
+    third = n * n // 3
+    for box, count in ((("NP", 0, 8, 0, 8), third), (("NM", 0, 8, 0, 8), third), (("NC", 2, 6, 2, 6), third)):
+        symbol = text.symbol([box] * min(n, count))
+        for j in range(count // min(n, count)):
+            text.call(symbol)
+    yield "cuts under piles", 0, text
+    text = Text()
+    for box, count in ((("NP", -4, 8, 0, 4), 1), (("ND", 0, 4, -4, 8), 1)):
+        text.top([box])
+    side = 64 * n // 1024 or 1
+    symbol = text.symbol([("NP", 20 * i - 4, 20 * i + 8, 0, 4) for i in range(n // 4)])
+    other = text.symbol([("ND", 20 * i, 20 * i + 4, -4, 8) for i in range(n // 4)])
+    implant = text.symbol([("NI", -10, 20 * (n // 4) + 10, -10, 20 * n + 10)] * (n // 2))
+    for j in range(1, n):
+        text.call(symbol, 0, 20 * j)
+        text.call(other, 0, 20 * j)
+        text.call(implant)
+    yield "implants over transistors", 0, text
+    text = Text()
+    for box in (("NP", 4, 8, 4, 8), ("ND", 4, 8, 4, 8)):
+        symbol = text.symbol([box] * n)
+        for j in range(n // 2 - 1):
+            text.call(symbol)
+    text.top([("NB", 0, 12, 0, 12)])
+    yield "piles under a window", 1, text
+    text = array(("NM", 0, 2000, 0, 20), n, n // 2, ((2, 0), (2 * n, 0)))
+    yield "sliding heaps, too near", 0, array(("NM", 0, 2000, 24, 44), n, n // 2, ((2, 0), (2 * n, 0)), text)
+    text = array(("NM", 0, 2000, 0, 20), n, n // 2, ((2, 0), (2 * n, 0)))
+    yield "sliding heaps, clear", 0, array(("NM", 0, 2000, 26, 46), n, n // 2, ((2, 0), (2 * n, 0)), text)
+    rng, text = random.Random(1), Text()
+    for j in range(16):
+        boxes = []
+        for _ in range(n):
+            x, y, l, w = rng.randrange(0, 40 * n), rng.randrange(0, 40 * n), 2 * rng.randrange(3, 200), 2 * rng.randrange(3, 200)
+            boxes.append(("NM", x, x + l, y, y + w))
+        symbol = text.symbol(boxes)
+        for _ in range(n // 16):
+            text.call(symbol, rng.randrange(0, 400 * n), rng.randrange(0, 400 * n))
+    yield "random, crowded", 0, text
 
 
-def scattered():
-    made = random.Random(1)
-    return text([box("NM", made.randrange(100000), made.randrange(100000), made.randrange(6, 900), made.randrange(6, 900)) for _ in range(MANY)],
-                [(made.randrange(100000), made.randrange(100000)) for _ in range(MANY)])
-
-
-TRANSISTOR = [box("ND", 4, 0, 4, 12), box("NP", 0, 4, 12, 4)]
-CUT = [box("NC", 2, 2, 4, 4)]
-TEXTS = {
-    "equal": lambda: text([box("NM", 0, 0, 6, 6)] * MANY, [(0, 0)] * MANY),
-    "heaps_touch": lambda: heaps(0),
-    "heaps_near": lambda: heaps(5),
-    "heaps_clear": lambda: heaps(6),
-    "sliding_touch": lambda: sliding(0),
-    "sliding_near": lambda: sliding(5),
-    "sliding_clear": lambda: sliding(6),
-    "nested": lambda: text([box("NM", i, i, 2 * (3000 - i), 2 * (3000 - i)) for i in range(MANY)], [(0, 0)] * MANY),
-    "column": lambda: text([box("NM", 0, 12 * i, 6, 6) for i in range(MANY)], [(0, 12 * MANY * j) for j in range(MANY)]),
-    "bars": lambda: text([box("NM", 0, 12 * i, 12 * MANY, 6) for i in range(MANY // 2)] + [box("NP", 12 * i, 0, 6, 12 * MANY) for i in range(MANY // 2)], [(0, 0)] * MANY),
-    "cuts_covered": lambda: text(CUT + [box("NM", 0, 0, 8, 8)] * (MANY // 2) + [box("NP", 0, 0, 8, 8)] * (MANY // 2 - 1), [(20 * i, 0) for i in range(MANY)]),
-    "cuts_buried": lambda: text([box("NM", 0, 0, 8, 8)] * (MANY // 2) + [box("NP", 0, 0, 8, 8)] * (MANY // 2 - 1) + CUT, [(0, 0)] * MANY),
-    "implants": lambda: text(TRANSISTOR + [box("NI", 1, 1, 10, 10)] * (MANY - 2), [(24 * i, 0) for i in range(MANY)]),
-    "implant_piles": lambda: text(TRANSISTOR + [box("NI", -400, -400, 800, 800)] * (MANY - 2), [(24 * (i % 32), 24 * (i // 32)) for i in range(MANY)]),
-    "random": scattered,
-}
-
-
-def run(words):
-    """The user seconds, the megabytes and the first line of a run, or what ended it. Each run is a child of a process of its own, which measures it."""
-    code = ("import resource,subprocess,sys\n"
-            "try: r=subprocess.run(sys.argv[2:],capture_output=True,timeout=float(sys.argv[1])); said=(r.stdout or r.stderr).split(b'\\n')[0][:60].decode()\n"
-            "except subprocess.TimeoutExpired: said='cut off'\n"
-            "u=resource.getrusage(resource.RUSAGE_CHILDREN); print('%8.2f s %6.0f MB  %s'%(u.ru_utime,u.ru_maxrss/1024,said))")
-    return subprocess.run([sys.executable, "-c", code, str(SECONDS), *words], capture_output=True, text=True).stdout.strip()
+def measured(words, program):
+    begun = time.time()
+    child = subprocess.Popen([program, *words], stdout=subprocess.PIPE, stderr=subprocess.PIPE)
+    said = child.stdout.read()[:60].split(b"\n")[0].decode()
+    wrong = child.stderr.read()[:60].split(b"\n")[0].decode()
+    _, status, used = os.wait4(child.pid, 0)
+    child.returncode = os.waitstatus_to_exitcode(status)
+    return time.time() - begun, used.ru_utime, used.ru_maxrss // 1024, said or wrong or f"status {child.returncode}"
 
 
 def main():
+    share = int(sys.argv[1]) if len(sys.argv) > 1 else 1
+    program = sys.argv[2] if len(sys.argv) > 2 else PROGRAM
+    n = 1024
+    while share >= 4:
+        n, share = n // 2, share // 4
+    slow, plain, worst = False, {}, 0
+    print(f"{n * n} boxes")
     with tempfile.TemporaryDirectory() as folder:
-        path = os.path.join(folder, "hostile.cif")
-        for name in sys.argv[2:] or TEXTS:
-            with open(path, "w") as file:
-                file.write(TEXTS[name]())
+        for name, kind, text in texts(n):
+            file = os.path.join(folder, "cif")
+            with open(file, "w") as it:
+                it.write(text.text())
+            line = f"{name:28}"
             for word in ("check", "extract"):
-                print("%-14s %-8s %s" % (name, word, run([PROGRAM, word, path, "--tech", TECH])), flush=True)
+                took, user, held, said = measured([word, file, "--tech", TECHS[kind]], program)
+                plain.setdefault(word, user)
+                worst = max(worst, user / max(plain[word], 0.01))
+                slow |= held > 400 or (user > 10 * plain[word] and user > 10)
+                line += f"  {word} {user:6.2f} s {held:4} MB  {said:24}"
+            print(line, flush=True)
+    print(f"the slowest took {worst:.1f} times as long as boxes that lie apart")
+    sys.exit(slow)
 
 
 if __name__ == "__main__":

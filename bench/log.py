@@ -41,7 +41,7 @@ def pushed(row, chain, limit, step, rows, shrinks):
 def by_lot(seed):
     lot = random.Random(seed)
     rows = lot.choice((1, 1, 2))
-    return pushed(lot.randrange(1000, 6000) // rows, lot.randrange(1000, 5000), lot.choice((13, 14, 17)), lot.choice((1, 2, 3)), rows, lot.random() < 0.5)
+    return pushed(lot.randrange(1000, 4096) // rows, lot.randrange(1000, 4096), lot.choice((13, 14, 17)), lot.choice((1, 2, 3)), rows, lot.random() < 0.5)
 
 
 def main():
