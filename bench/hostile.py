@@ -85,7 +85,6 @@ def texts(n):
     for j in range(n):
         text.call(text.symbol([("NM", -10 - j * n - i, 10 + j * n + i, -10 - j * n - i, 10 + j * n + i) for i in range(n)]))
     yield "nested", 0, text
-    yield "one column", 0, array(("NM", 0, 20, 0, 20), n, n, ((0, 30), (0, 30 * n)))
     yield "one column, overlapping", 0, array(("NM", 0, 20, 0, 20), n, n, ((0, 2), (0, 2 * n)))
     text = Text()
     third = n * n // 3
