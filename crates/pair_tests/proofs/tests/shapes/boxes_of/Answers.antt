@@ -1,0 +1,18 @@
+use Rattle.std.proofs.Common.{◌∷◌, [], ◌++◌, arith}
+use Rattle.std.proofs.lemmas.List.Elements.{All-push, All-same}
+use Rattle.lam_geom.specs.declared.boxes.MaskBox.{MaskBox}
+use Rattle.lam_geom.specs.Places.{IsPlacedBox}
+use Rattle.crossings.specs.Boxes.{IsSolid}
+use Rattle.pair_tests.proofs.tests.shapes.boxes_of.Goals as goal
+
+pub loop-shape-preserved : goal.loop-shape-preserved
+loop-shape-preserved c =
+    let old = c.loop-shape.boxes.items in
+    let added = c.mask_box.result in
+    let items = c.in_ok-push.ensures.items in
+    let placed = λ (b : MaskBox). IsPlacedBox b.area in
+    let before = c.loop-shape.invariant in (
+      omega (arith, c.in_ok-push.ensures.len),
+      All-same placed _ (old ++ added ∷ []) items (All-push placed old added before.1 c.mask_box.ensures.placed),
+      All-same IsSolid _ (old ++ added ∷ []) items (All-push IsSolid old added before.2 c.mask_box.ensures.solid),
+    )
