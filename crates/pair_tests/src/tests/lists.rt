@@ -16,6 +16,12 @@ use std::alloc::{AllocError, Global};
 use std::process::Abort;
 use std::test::Fail;
 
+// As many lists are made for a technology.
+const LISTS: u32 = 4_000;
+
+// So many of them at least have each thing that is looked for.
+const SEVERAL: usize = 5;
+
 // What a list was like: the first rule that it breaks, whether all overlaps are proper, and whether there are transistors.
 #[derive(Clone, Copy)]
 struct Seen {
@@ -110,51 +116,53 @@ fn look_at<A: Abort>(
     })
 }
 
-// So many lists on which all is as the definitions say.
-fn add_lists<A: Abort>(
-    rt: &A,
-    alloc: Global,
-    tech: &Tech,
-    count: u32,
-    all: &mut Vec<Seen>,
-) -> Result<(), Fail> {
+// Lists on which all is as the definitions say, made from this seed.
+fn all_lists<A: Abort>(rt: &A, alloc: Global, tech: &Tech, seed: u32) -> Result<Vec<Seen>, Fail> {
     let numbers = tech.numbers();
-    let mut state = count;
-    for list in 0..count {
+    let mut all = Vec::new(alloc);
+    let mut state = seed;
+    for list in 0..LISTS {
         all.push(look_at(rt, alloc, tech, &numbers, &mut state, list)?)?;
     }
-    Ok(())
+    Ok(all)
 }
 
-// Each of some rules is the first that is broken in some of the lists.
+// Each of some rules is the first that is broken in several lists.
 fn assert_rules<A: Abort>(rt: &A, all: &[Seen], rules: &[Rule]) {
     for rule in rules {
-        let is_first = all.iter().any(|own| own.first == Some(*rule));
-        assert!(rt; is_first, "{rule:?}");
+        let times = all.iter().filter(|own| own.first == Some(*rule)).count();
+        assert!(rt; times >= SEVERAL, "{rule:?} {times}");
     }
 }
 
-// Some lists keep all rules, some have transistors, and some a pair that does not cross properly.
-fn assert_several<A: Abort>(rt: &A, all: &[Seen]) {
-    assert!(rt; all.iter().any(|own| own.first.is_none()));
-    assert!(rt; all.iter().any(|own| own.has_devices));
-    assert!(rt; all.iter().any(|own| !own.is_proper));
+// Several lists keep all rules, several have transistors, and several a pair that does not cross properly.
+fn assert_others<A: Abort>(rt: &A, all: &[Seen]) {
+    assert!(rt; all.iter().filter(|own| own.first.is_none()).count() >= SEVERAL);
+    assert!(rt; all.iter().filter(|own| own.has_devices).count() >= SEVERAL);
+    assert!(rt; all.iter().filter(|own| !own.is_proper).count() >= SEVERAL);
 }
 
 #[test]
 fn lists_are_as_the_definitions_say(rt: HostRuntime) -> Result<(), Fail> {
-    let mut all = Vec::new(rt.alloc());
-    add_lists(&rt, rt.alloc(), &Tech::shipped(), 1_200, &mut all)?;
+    let all = all_lists(&rt, rt.alloc(), &Tech::shipped(), 1)?;
     assert_rules(&rt, &all, &RULES[..11]);
-    assert_several(&rt, &all);
+    assert_others(&rt, &all);
     Ok(())
 }
 
-// Buried contacts, and an implant that goes less far past a channel than it keeps off one.
+#[test]
+fn lists_with_buried_contacts_are_as_the_definitions_say(rt: HostRuntime) -> Result<(), Fail> {
+    let all = all_lists(&rt, rt.alloc(), &Tech::shipped2(), 2)?;
+    assert_rules(&rt, &all, &RULES);
+    assert_others(&rt, &all);
+    Ok(())
+}
+
+// Buried contacts, wider spacings, and an implant that goes less far past a channel than it keeps off one.
 fn short_implants() -> Numbers {
     Numbers {
         spacing_metal: 8,
-        spacing_cut_channel: 3,
+        spacing_cut_channel: 5,
         spacing_implant_channel: 5,
         extension_implant: 2,
         extension_buried: 3,
@@ -163,14 +171,14 @@ fn short_implants() -> Numbers {
 }
 
 #[test]
-fn lists_with_buried_contacts_are_as_the_definitions_say(rt: HostRuntime) -> Result<(), Fail> {
-    let mut all = Vec::new(rt.alloc());
-    add_lists(&rt, rt.alloc(), &Tech::shipped2(), 800, &mut all)?;
+fn lists_with_short_implants_are_as_the_definitions_say(rt: HostRuntime) -> Result<(), Fail> {
     match Tech::new(short_implants()) {
-        Ok(tech) => add_lists(&rt, rt.alloc(), &tech, 401, &mut all)?,
+        Ok(tech) => {
+            let all = all_lists(&rt, rt.alloc(), &tech, 3)?;
+            assert_rules(&rt, &all, &RULES);
+            assert_others(&rt, &all);
+        }
         Err(_) => return Err("no technology")?,
     }
-    assert_rules(&rt, &all, &RULES);
-    assert_several(&rt, &all);
     Ok(())
 }
