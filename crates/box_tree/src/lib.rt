@@ -15,4 +15,4 @@ mod tree;
 
 pub use query::{Query, Question};
 pub use spots::{Ends, Group, Inner, Spot};
-pub use tree::{BoxTree, Parts};
+pub use tree::{BoxTree, OwnedParts, Parts};

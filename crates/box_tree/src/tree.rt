@@ -30,6 +30,15 @@ pub struct Parts<'a> {
     pub groups: &'a [Group],
 }
 
+/// A tree that is taken apart: its spots, their numbers in the order in which the groups have them, and the groups, each before
+/// what is inside it.
+#[derive(Debug, Drop)]
+pub struct OwnedParts {
+    pub spots: Vec<Spot>,
+    pub order: Vec<u32>,
+    pub groups: Vec<Group>,
+}
+
 impl Model for BoxTree {
     ghost use Rattle.std.specs.Prelude.{List};
     ghost use Rattle.box_tree.specs.declared.spots.Spot.{Spot};
@@ -75,6 +84,18 @@ impl BoxTree {
             spots: &self.spots,
             order: &self.order,
             groups: &self.groups,
+        }
+    }
+
+    /// The same as a tree no more, with nothing copied.
+    pub fn into_parts(self) -> OwnedParts
+        ensures spots { result.spots.items ≡ self }
+        ensures tree { IsTreeOf self result.order.items result.groups.items }
+    {
+        OwnedParts {
+            spots: self.spots,
+            order: self.order,
+            groups: self.groups,
         }
     }
 

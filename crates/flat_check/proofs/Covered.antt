@@ -1,37 +1,15 @@
--- Whether some box goes past an area, by those that an index gives, and whether a cut is covered.
+-- Whether a cut is covered.
 use Rattle.std.proofs.Common.{◌≡◌, ◌↔◌, ℕ, ◌<◌, ◌⊎◌, inl, inr, ℤ, Bool, true, false, List, IsTrue, length, refl, sym, ap, ◌∙◌, subst}
 use Rattle.std.specs.Prelude.{not}
-use Rattle.std.proofs.lemmas.List.Elements.{All-contains}
 use Rattle.lam_geom.specs.declared.boxes.BoxXY.{BoxXY}
 use Rattle.lam_geom.specs.declared.boxes.MaskBox.{MaskBox}
 use Rattle.lam_geom.specs.declared.boxes.MaskLayer.{MaskLayer}
 use Rattle.lam_geom.specs.declared.boxes.MaskLayer.TheVariants.{ND, NP, NC, NM}
-use Rattle.lam_geom.specs.Gaps.{Encloses}
-use Rattle.box_tree.specs.declared.query.Question.TheVariants.{Covers}
-use Rattle.box_tree.specs.declared.spots.Spot.{Spot}
-use Rattle.box_tree.specs.Queries.{HoldsAt}
 use Rattle.rule_table.specs.declared.technology.Tech.{Tech}
 use Rattle.rule_table.specs.Technology.{numbers_of}
 use Rattle.crossings.specs.Boxes.{area_at, box_at, IsOn, grains}
 use Rattle.crossings.specs.Pairs.{IsCovered}
 use Rattle.flat_check.specs.Breaks.{IsSquare, IsOddCut, IsUncovered}
-use Rattle.flat_check.specs.Trees.{AreBoxesOn, box_spot}
-use Rattle.flat_check.proofs.Spots.{contains_there, held_by}
-
--- ---- what a tree tells
-
--- whether some spot covers an area
-pub covered_told : (boxes : List MaskBox) (layer : MaskLayer) (area : BoxXY) (margin : ℤ) (spots : List Spot) (b : Bool) → AreBoxesOn boxes layer spots
-    → IsTrue b ↔ ((k : ℕ) × HoldsAt spots (record { area = area; question = Covers margin }) k) → IsTrue b ↔ IsCovered boxes layer area margin
-covered_told boxes layer area margin spots b are h = (
-  λ t.
-      let found = h.0 t in
-      let held = found.1 in
-      let there = All-contains (λ (s : Spot). (k : ℕ) × IsOn boxes layer k × (s ≡ box_spot boxes k)) spots held.spot are.sound (contains_there spots found.0 held.spot held.there) in
-      let is = there.2 in
-      record { cover = there.0; is_on = there.1; covers = subst (λ (s : Spot). Encloses s.area area margin) is held.holds },
-  λ c. h.1 (held_by (record { area = area; question = Covers margin }) spots (box_spot boxes c.cover) (are.complete c.cover c.is_on.among c.is_on) c.covers),
-)
 
 -- ---- cuts
 

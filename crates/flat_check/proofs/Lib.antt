@@ -13,3 +13,4 @@ pub mod SameCrossings
 pub mod Searches
 pub mod Shapes
 pub mod Spots
+pub mod Wholes

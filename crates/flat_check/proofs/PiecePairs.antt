@@ -119,12 +119,12 @@ AreThere tech boxes i j p q s t crossings =
     × IsAreaOf boxes crossings p s × IsAreaOf boxes crossings q t × (Reaches (IsLink tech boxes crossings) i j → ⊥)
 
 -- a piece of a box on the sheet
-record IsPlacedAt (sheet : Sheet) (k i : ℕ) (s : BoxXY) : Type 0 where
-  within : i < length (pieces_on sheet)
-  of_box : IsPieceOf sheet k i
-  covers : s ≡ area_of (pieces_on sheet) i
+pub record IsPlacedAt (sheet : Sheet) (k i : ℕ) (s : BoxXY) : Type 0 where
+  pub within : i < length (pieces_on sheet)
+  pub of_box : IsPieceOf sheet k i
+  pub covers : s ≡ area_of (pieces_on sheet) i
 
-placed_at : (sheet : Sheet) (k i : ℕ) (p : Place) (s : BoxXY) → IsSheet sheet → slice_get (places_of sheet.pieces.now.crossings.items sheet.boxes.now) i ≡ Some p → p.box_no ≡ k
+pub placed_at : (sheet : Sheet) (k i : ℕ) (p : Place) (s : BoxXY) → IsSheet sheet → slice_get (places_of sheet.pieces.now.crossings.items sheet.boxes.now) i ≡ Some p → p.box_no ≡ k
     → IsAreaOf sheet.boxes.now sheet.pieces.now.crossings.items p s → IsPlacedAt sheet k i s
 placed_at sheet k i p s is at of covers =
     let boxes : List MaskBox = sheet.boxes.now in

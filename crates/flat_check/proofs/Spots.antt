@@ -9,7 +9,7 @@ use Rattle.box_tree.specs.declared.query.Query.{Query}
 use Rattle.box_tree.specs.declared.spots.Spot.{Spot}
 use Rattle.box_tree.specs.Queries.{Holds, HoldsAt}
 use Rattle.lam_geom.specs.Places.{IsPlacedBox}
-use Rattle.flat_check.specs.Trees.{AreSpotsBelow}
+use Rattle.crossings.specs.Spots.{AreSpotsBelow}
 
 -- ---- what a tree tells
 

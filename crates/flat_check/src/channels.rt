@@ -79,6 +79,21 @@ fn is_near_channel(
     are_nearer(sheet.tech, &own.area, &channel, spacing)
 }
 
+/// The channel of a box, if it is diffusion that has one. Of boxes on other layers the layer alone is read.
+pub fn channel_at(sheet: &Sheet, number: u32) -> Option<BoxXY>
+    requires sheet { IsSheet sheet.now }
+    requires among { number < length sheet.now.boxes.now }
+    ensures channel { MatchOption result
+        ((channel : BoxXY) → IsChannel sheet.now.tech.now sheet.now.boxes.now number channel → ⊥)
+        (IsChannel sheet.now.tech.now sheet.now.boxes.now number) }
+    ensures placed { IfSome result IsPlacedBox }
+{
+    match numbered(sheet.boxes, number).layer {
+        MaskLayer::ND => channel_of(sheet, number),
+        _ => None,
+    }
+}
+
 /// The channel of a diffusion box, if it has one.
 pub fn channel_of(sheet: &Sheet, diffusion: u32) -> Option<BoxXY>
     requires { IsSheet sheet.now }

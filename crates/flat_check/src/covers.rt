@@ -1,51 +1,49 @@
 //! Boxes that cover a cut.
-ghost use Rattle.std.specs.Prelude.{◌↔◌, ◌^◌, ◌<◌, pos, ◌≤ℤ◌, IsTrue, List, length};
+ghost use Rattle.std.specs.Prelude.{◌↔◌, ◌<◌, IsTrue, length};
 ghost use Rattle.lam_geom.specs.Places.{IsPlacedBox};
-ghost use Rattle.lam_geom.specs.declared.boxes.MaskBox.{MaskBox};
 ghost use Rattle.lam_geom.specs.declared.boxes.MaskLayer.{MaskLayer};
-ghost use Rattle.lam_geom.specs.declared.boxes.MaskLayer.TheVariants.{ND, NP, NM};
-ghost use Rattle.crossings.specs.Boxes.{AreSearchable};
+ghost use Rattle.box_tree.specs.Queries.{IsMargin};
 ghost use Rattle.crossings.specs.Pairs.{IsCovered};
+ghost use Rattle.flat_check.specs.declared.sheet.Sheet.{Sheet};
 ghost use Rattle.flat_check.specs.Breaks.{IsUncovered};
-ghost use Rattle.flat_check.specs.Trees.{AreBoxesOn};
+ghost use Rattle.flat_check.specs.Sheets.{IsSheet};
+ghost use Rattle.flat_check.specs.Trees.{ArePiecesOn, AreTreesOf, IsUncut};
 
 use crate::lengths::in_grains;
 use crate::nearness::numbered;
+use crate::sheet::Sheet;
 use crate::trees::Trees;
 use box_tree::{BoxTree, Query, Question};
-use lam_geom::{BoxXY, MaskBox, MaskLayer};
-use rule_table::Tech;
+use crossings::is_covered;
+use lam_geom::{BoxXY, MaskLayer};
 
-/// Whether a box is a cut that does not lie inside metal, or inside neither poly nor diffusion, by the enclosure. The trees are
-/// of metal, poly and diffusion.
-pub fn is_uncovered(tech: &Tech, boxes: &[MaskBox], trees: &Trees, a: u32) -> bool
-    requires searchable { AreSearchable boxes.now }
-    requires metal { AreBoxesOn boxes.now NM trees.now.first }
-    requires poly { AreBoxesOn boxes.now NP trees.now.second }
-    requires diffusion { AreBoxesOn boxes.now ND trees.now.third }
-    requires among { a < length boxes.now }
-    ensures { IsTrue result ↔ IsUncovered tech.now boxes.now a }
+/// Whether a box is a cut that does not lie inside metal, or inside neither poly nor diffusion, by the enclosure.
+pub fn is_uncovered(sheet: &Sheet, trees: &Trees, a: u32) -> bool
+    requires sheet { IsSheet sheet.now }
+    requires trees { AreTreesOf sheet.now trees.now }
+    requires among { a < length sheet.now.boxes.now }
+    ensures { IsTrue result ↔ IsUncovered sheet.now.tech.now sheet.now.boxes.now a }
 {
-    let own = numbered(boxes, a);
+    let own = numbered(sheet.boxes, a);
     if own.layer != MaskLayer::NC {
         return false;
     }
-    let margin = in_grains(tech, tech.numbers().cut_enclosure);
-    if !is_covered(&trees.first, &own.area, margin) {
+    let margin = in_grains(sheet.tech, sheet.tech.numbers().cut_enclosure);
+    if !is_covered_whole(&trees.metal, &own.area, margin) {
         return true;
     }
-    if is_covered(&trees.second, &own.area, margin) {
+    if is_covered_whole(&trees.poly, &own.area, margin) {
         return false;
     }
-    !is_covered(&trees.third, &own.area, margin)
+    !is_covered(&trees.diffusion, &own.area, margin)
 }
 
-// Whether a box of a layer, whose boxes the tree has, goes past an area by a margin on all sides.
-fn is_covered(tree: &BoxTree, area: &BoxXY, margin: i64) -> bool
+// Whether a box of poly or metal, whose pieces the tree has, goes past an area by a margin on all sides.
+fn is_covered_whole(tree: &BoxTree, area: &BoxXY, margin: i64) -> bool
     requires area { IsPlacedBox area.now }
-    requires not_negative { pos 0 ≤ℤ margin }
-    requires within { margin ≤ℤ pos (2 ^ 30) }
-    ensures { (boxes : List MaskBox) (layer : MaskLayer) → AreBoxesOn boxes layer tree.now → IsTrue result ↔ IsCovered boxes layer area.now margin }
+    requires margin { IsMargin margin }
+    ensures { (sheet : Sheet) (layer : MaskLayer) → IsSheet sheet → IsUncut layer → ArePiecesOn sheet layer tree.now
+        → IsTrue result ↔ IsCovered sheet.boxes.now layer area.now margin }
 {
     tree.any(&Query {
         area: *area,

@@ -2,14 +2,15 @@
 ghost use Rattle.std.specs.Prelude.{◌≡◌, ◌≢◌, ℕ, ◌<◌, ◌⊎◌, ◌≤ℤ◌, ◌^◌, ◌-ℤ◌, pos, IsFalse, length};
 ghost use Rattle.lam_geom.specs.declared.boxes.MaskLayer.TheVariants.{ND, NP, NC, NI};
 ghost use Rattle.rule_table.specs.Bounds.{IsLength};
+ghost use Rattle.crossings.specs.Spots.{AreBoxesOn};
 ghost use Rattle.net_extract.specs.Pieces.{box_of};
 ghost use Rattle.flat_check.specs.Breaks.{ArePiecesTooNear, AreCutsTooNear, IsBreak, IsImplantTooNear, IsNearChannel, IsPolyTooNear};
 ghost use Rattle.flat_check.specs.PiecePairs.{AreNearPieces};
 ghost use Rattle.flat_check.specs.Reaches.{extension_of, reach_of, spacing_of_rule};
 ghost use Rattle.flat_check.specs.Sheets.{IsOnPairs, IsSheet};
-ghost use Rattle.flat_check.specs.Trees.{AreBoxesOn, AreChannels, ArePiecesOn, AreTreesOf, IsPieceOn};
+ghost use Rattle.flat_check.specs.Trees.{AreChannels, ArePiecesOn, AreTreesOf, IsPieceOn};
 
-use crate::channels::channel_of;
+use crate::channels::channel_at;
 use crate::lengths::in_grains;
 use crate::nearness::numbered;
 use crate::rule::Rule;
@@ -23,23 +24,35 @@ use rule_table::Tech;
 pub fn may_break(sheet: &Sheet, rule: Rule, trees: &Trees, a: u32) -> bool
     requires sheet { IsSheet sheet.now }
     requires on_pairs { IsOnPairs rule }
-    requires trees { AreTreesOf sheet.now rule trees.now }
+    requires trees { AreTreesOf sheet.now trees.now }
     requires among { a < length sheet.now.boxes.now }
     ensures { IsFalse result → (b : ℕ) → IsBreak sheet.now.tech.now sheet.now.boxes.now rule a b → ⊥ }
 {
     match rule {
         Rule::PolyToDiffusion => faces_poly(sheet, trees, a),
-        Rule::MetalSpacing => faces_net(sheet, rule, MaskLayer::NM, &trees.first, a),
-        Rule::PolySpacing => faces_net(sheet, rule, MaskLayer::NP, &trees.first, a),
-        Rule::DiffusionSpacing => faces_net(sheet, rule, MaskLayer::ND, &trees.first, a),
-        Rule::CutSpacing => faces_cut(sheet, &trees.first, a),
-        Rule::CutToChannel => faces_channel(sheet, rule, MaskLayer::NC, trees, a),
+        Rule::MetalSpacing => faces_net(sheet, rule, MaskLayer::NM, &trees.metal, a),
+        Rule::PolySpacing => faces_net(sheet, rule, MaskLayer::NP, &trees.poly, a),
+        Rule::DiffusionSpacing => {
+            faces_net(sheet, rule, MaskLayer::ND, &trees.diffusion_pieces, a)
+        }
+        Rule::CutSpacing => faces_cut(sheet, &trees.cuts, a),
+        Rule::CutToChannel => {
+            faces_channel(sheet, rule, MaskLayer::NC, &trees.cuts, &trees.channels, a)
+        }
         Rule::ImplantToChannel => {
-            implant_faces_channel(sheet, &trees.second, a)
-                || channel_faces_implant(sheet, &trees.first, a)
+            implant_faces_channel(sheet, &trees.channels, a)
+                || channel_faces_implant(sheet, &trees.implants, a)
         }
         Rule::WindowToChannel => {
-            sheet.tech.has_buried() && faces_channel(sheet, rule, MaskLayer::NB, trees, a)
+            sheet.tech.has_buried()
+                && faces_channel(
+                    sheet,
+                    rule,
+                    MaskLayer::NB,
+                    &trees.windows,
+                    &trees.channels,
+                    a,
+                )
         }
         Rule::Width | Rule::CutSize | Rule::ProperCrossing | Rule::CutCover => false,
     }
@@ -48,8 +61,7 @@ pub fn may_break(sheet: &Sheet, rule: Rule, trees: &Trees, a: u32) -> bool
 // Whether a box is poly or diffusion, and one of the other layer lies too near without an overlap.
 fn faces_poly(sheet: &Sheet, trees: &Trees, a: u32) -> bool
     requires sheet { IsSheet sheet.now }
-    requires poly { AreBoxesOn sheet.now.boxes.now NP trees.now.first }
-    requires diffusion { AreBoxesOn sheet.now.boxes.now ND trees.now.second }
+    requires trees { AreTreesOf sheet.now trees.now }
     requires among { a < length sheet.now.boxes.now }
     ensures { IsFalse result → (b : ℕ) → IsPolyTooNear sheet.now.tech.now sheet.now.boxes.now a b → ⊥ }
 {
@@ -61,8 +73,8 @@ fn faces_poly(sheet: &Sheet, trees: &Trees, a: u32) -> bool
         },
     };
     match own.layer {
-        MaskLayer::NP => trees.second.any(&query),
-        MaskLayer::ND => trees.first.any(&query),
+        MaskLayer::NP => trees.diffusion.any(&query),
+        MaskLayer::ND => trees.poly.any(&query),
         _ => false,
     }
 }
@@ -130,16 +142,23 @@ fn faces_cut(sheet: &Sheet, tree: &BoxTree, a: u32) -> bool
 }
 
 // Whether a box of a layer and a channel lie too near one another, of which one is of this box, and the other of another.
-fn faces_channel(sheet: &Sheet, rule: Rule, layer: MaskLayer, trees: &Trees, a: u32) -> bool
+fn faces_channel(
+    sheet: &Sheet,
+    rule: Rule,
+    layer: MaskLayer,
+    boxes: &BoxTree,
+    channels: &BoxTree,
+    a: u32,
+) -> bool
     requires sheet { IsSheet sheet.now }
-    requires boxes { AreBoxesOn sheet.now.boxes.now layer trees.now.first }
-    requires channels { AreChannels sheet.now.pieces.now.crossings.items trees.now.second }
+    requires boxes { AreBoxesOn sheet.now.boxes.now layer boxes.now }
+    requires channels { AreChannels sheet.now.pieces.now.crossings.items channels.now }
     requires among { a < length sheet.now.boxes.now }
     ensures { let IsNear = IsNearChannel sheet.now.tech.now sheet.now.boxes.now layer (spacing_of_rule sheet.now.tech.now rule) in
         IsFalse result → (b : ℕ) → a ≢ b → IsNear a b ⊎ IsNear b a → ⊥ }
 {
-    box_faces_channel(sheet, rule, layer, &trees.second, a)
-        || channel_faces_box(sheet, rule, layer, &trees.first, a)
+    box_faces_channel(sheet, rule, layer, channels, a)
+        || channel_faces_box(sheet, rule, layer, boxes, a)
 }
 
 // Whether a box is on a layer, and the channel of another box lies too near.
@@ -167,10 +186,11 @@ fn box_faces_channel(sheet: &Sheet, rule: Rule, layer: MaskLayer, tree: &BoxTree
 fn channel_faces_box(sheet: &Sheet, rule: Rule, layer: MaskLayer, tree: &BoxTree, a: u32) -> bool
     requires sheet { IsSheet sheet.now }
     requires boxes { AreBoxesOn sheet.now.boxes.now layer tree.now }
+    requires among { a < length sheet.now.boxes.now }
     ensures { IsFalse result → (b : ℕ) → a ≢ b
         → IsNearChannel sheet.now.tech.now sheet.now.boxes.now layer (spacing_of_rule sheet.now.tech.now rule) b a → ⊥ }
 {
-    match channel_of(sheet, a) {
+    match channel_at(sheet, a) {
         Some(channel) => tree.any(&Query {
             area: channel,
             question: Question::NearOfOther {
@@ -206,9 +226,10 @@ fn implant_faces_channel(sheet: &Sheet, tree: &BoxTree, a: u32) -> bool
 fn channel_faces_implant(sheet: &Sheet, tree: &BoxTree, a: u32) -> bool
     requires sheet { IsSheet sheet.now }
     requires implants { AreBoxesOn sheet.now.boxes.now NI tree.now }
+    requires among { a < length sheet.now.boxes.now }
     ensures { IsFalse result → (b : ℕ) → IsImplantTooNear sheet.now.tech.now sheet.now.boxes.now b a → ⊥ }
 {
-    match channel_of(sheet, a) {
+    match channel_at(sheet, a) {
         Some(channel) => tree.any(&Query {
             area: channel,
             question: Question::NearShort {

@@ -5,13 +5,14 @@ ghost use Rattle.flat_check.specs.declared.rule.Rule.TheVariants.{PolyToDiffusio
 ghost use Rattle.flat_check.specs.Breaks.{IsFirstBreak, KeepRules, ShapesHold};
 ghost use Rattle.flat_check.specs.Order.{IsFound, IsFoundOf, KeepBefore};
 ghost use Rattle.flat_check.specs.Sheets.{IsByTrees, IsOnNets, IsSheet};
+ghost use Rattle.flat_check.specs.Trees.{AreTreesOf};
 
 use crate::partners::{Range, first_in};
 use crate::ranges::first_in_pieces;
 use crate::rule::{Break, Rule};
 use crate::sheet::Sheet;
 use crate::start::{Start, check_first_rules};
-use crate::trees::trees_for;
+use crate::trees::{Trees, trees_of};
 use lam_geom::MaskBox;
 use lam_io::Gate;
 use rule_table::Tech;
@@ -80,14 +81,25 @@ fn first_on(alloc: Global, sheet: &Sheet) -> Result<Option<Break>, AllocError>
     requires before { KeepBefore sheet.now.tech.now sheet.now.boxes.now (Some PolyToDiffusion) }
     ensures { IfOk result (IsFound sheet.now.tech.now sheet.now.boxes.now) }
 {
+    let trees = trees_of(alloc, sheet)?;
+    Ok(first_by_trees(sheet, &trees))
+}
+
+// The same by trees.
+fn first_by_trees(sheet: &Sheet, trees: &Trees) -> Option<Break>
+    requires sheet { IsSheet sheet.now }
+    requires trees { AreTreesOf sheet.now trees.now }
+    requires before { KeepBefore sheet.now.tech.now sheet.now.boxes.now (Some PolyToDiffusion) }
+    ensures { IsFound sheet.now.tech.now sheet.now.boxes.now result }
+{
     let mut next = Some(Rule::PolyToDiffusion);
     while let Some(rule) = next {
-        if let Some(first) = first_of(alloc, sheet, rule)? {
-            return Ok(Some(first));
+        if let Some(first) = first_of(sheet, trees, rule) {
+            return Some(first);
         }
         next = rule.next();
     }
-    Ok(None)
+    None
 }
 
 // The same in so many pieces.
@@ -103,9 +115,28 @@ fn first_on_split<H: Threads + Sync, G: Gate>(
     requires before { KeepBefore sheet.now.tech.now sheet.now.boxes.now (Some PolyToDiffusion) }
     ensures { IfOk result (IsFound sheet.now.tech.now sheet.now.boxes.now) }
 {
+    let trees = trees_of(alloc, sheet)?;
+    first_by_trees_split(rt, alloc, gate, sheet, &trees, pieces)
+}
+
+// The same by trees.
+fn first_by_trees_split<H: Threads + Sync, G: Gate>(
+    rt: &H,
+    alloc: Global,
+    gate: &G,
+    sheet: &Sheet,
+    trees: &Trees,
+    pieces: u32,
+) -> Result<Option<Break>, AllocError>
+    requires sheet { IsSheet sheet.now }
+    requires trees { AreTreesOf sheet.now trees.now }
+    requires pieces { (1 ≤ pieces) × (pieces ≤ 64) }
+    requires before { KeepBefore sheet.now.tech.now sheet.now.boxes.now (Some PolyToDiffusion) }
+    ensures { IfOk result (IsFound sheet.now.tech.now sheet.now.boxes.now) }
+{
     let mut next = Some(Rule::PolyToDiffusion);
     while let Some(rule) = next {
-        if let Some(first) = first_of_split(rt, alloc, gate, sheet, rule, pieces)? {
+        if let Some(first) = first_in_pieces(rt, alloc, gate, sheet, rule, trees, pieces)? {
             return Ok(Some(first));
         }
         next = rule.next();
@@ -114,35 +145,16 @@ fn first_on_split<H: Threads + Sync, G: Gate>(
 }
 
 // The first break of one rule that is checked by trees, where no rule before it is broken, or None where it is kept.
-fn first_of(alloc: Global, sheet: &Sheet, rule: Rule) -> Result<Option<Break>, AllocError>
+fn first_of(sheet: &Sheet, trees: &Trees, rule: Rule) -> Option<Break>
     requires sheet { IsSheet sheet.now }
+    requires trees { AreTreesOf sheet.now trees.now }
     requires by_trees { IsByTrees rule }
     requires shapes { IsOnNets rule → ShapesHold sheet.now.tech.now sheet.now.boxes.now }
-    ensures { IfOk result (IsFoundOf sheet.now.tech.now sheet.now.boxes.now rule) }
+    ensures { IsFoundOf sheet.now.tech.now sheet.now.boxes.now rule result }
 {
-    let trees = trees_for(alloc, sheet, rule)?;
     let all = Range {
         from: 0,
         to: sheet.boxes.len() as u32,
     };
-    Ok(first_in(sheet, rule, &trees, &all))
-}
-
-// The same in so many pieces.
-fn first_of_split<H: Threads + Sync, G: Gate>(
-    rt: &H,
-    alloc: Global,
-    gate: &G,
-    sheet: &Sheet,
-    rule: Rule,
-    pieces: u32,
-) -> Result<Option<Break>, AllocError>
-    requires sheet { IsSheet sheet.now }
-    requires by_trees { IsByTrees rule }
-    requires shapes { IsOnNets rule → ShapesHold sheet.now.tech.now sheet.now.boxes.now }
-    requires pieces { (1 ≤ pieces) × (pieces ≤ 64) }
-    ensures { IfOk result (IsFoundOf sheet.now.tech.now sheet.now.boxes.now rule) }
-{
-    let trees = trees_for(alloc, sheet, rule)?;
-    first_in_pieces(rt, alloc, gate, sheet, rule, &trees, pieces)
+    first_in(sheet, rule, trees, &all)
 }

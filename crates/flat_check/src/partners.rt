@@ -26,7 +26,7 @@ pub fn first_in(sheet: &Sheet, rule: Rule, trees: &Trees, range: &Range) -> Opti
     requires sheet { IsSheet sheet.now }
     requires by_trees { IsByTrees rule }
     requires shapes { IsOnNets rule → ShapesHold sheet.now.tech.now sheet.now.boxes.now }
-    requires trees { AreTreesOf sheet.now rule trees.now }
+    requires trees { AreTreesOf sheet.now trees.now }
     requires within { range.now.to ≤ length sheet.now.boxes.now }
     ensures { IsFirstIn sheet.now.tech.now sheet.now.boxes.now rule range.now.from range.now.to result }
 {
@@ -43,13 +43,13 @@ fn partner_of(sheet: &Sheet, rule: Rule, trees: &Trees, a: u32) -> Option<u32>
     requires sheet { IsSheet sheet.now }
     requires by_trees { IsByTrees rule }
     requires shapes { IsOnNets rule → ShapesHold sheet.now.tech.now sheet.now.boxes.now }
-    requires trees { AreTreesOf sheet.now rule trees.now }
+    requires trees { AreTreesOf sheet.now trees.now }
     requires among { a < length sheet.now.boxes.now }
     ensures { Least (IsBreak sheet.now.tech.now sheet.now.boxes.now rule a) result }
 {
     match rule {
         Rule::CutCover => {
-            if is_uncovered(sheet.tech, sheet.boxes, trees, a) {
+            if is_uncovered(sheet, trees, a) {
                 Some(a)
             } else {
                 None

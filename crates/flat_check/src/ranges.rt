@@ -29,14 +29,14 @@ pub fn first_in_pieces<H: Threads + Sync, G: Gate>(
     requires sheet { IsSheet sheet.now }
     requires by_trees { IsByTrees rule }
     requires shapes { IsOnNets rule → ShapesHold sheet.now.tech.now sheet.now.boxes.now }
-    requires trees { AreTreesOf sheet.now rule trees.now }
+    requires trees { AreTreesOf sheet.now trees.now }
     requires pieces { (1 ≤ pieces) × (pieces ≤ 64) }
     ensures { IfOk result (IsFoundOf sheet.now.tech.now sheet.now.boxes.now rule) }
 {
     let ranges = ranges(alloc, sheet.boxes.len() as u32, pieces)?;
     let find = |range: &Range| -> Result<Option<Break>, AllocError>
         requires { IsSheet sheet.now × IsByTrees rule × (IsOnNets rule → ShapesHold sheet.now.tech.now sheet.now.boxes.now)
-            × AreTreesOf sheet.now rule trees.now × (range.now.to ≤ length sheet.now.boxes.now) }
+            × AreTreesOf sheet.now trees.now × (range.now.to ≤ length sheet.now.boxes.now) }
         ensures { IfOk result (IsFirstIn sheet.entry.now.tech.now sheet.entry.now.boxes.now rule range.entry.now.from range.entry.now.to) }
     { Ok(first_in(sheet, rule, trees, range)) };
     let found = map_split(rt, alloc, gate, &ranges, pieces, &find)?;

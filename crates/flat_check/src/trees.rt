@@ -1,104 +1,55 @@
 //! The trees by which it is found out fast whether a box breaks a rule.
-ghost use Rattle.std.specs.Prelude.{◌≡◌, ◌<◌, ◌≤◌, ◌^◌, All, IfOk, length};
+ghost use Rattle.std.specs.Prelude.{◌≡◌, ◌<◌, IfOk, length};
 ghost use Rattle.lam_geom.specs.Places.{IsPlacedBox};
-ghost use Rattle.box_tree.specs.declared.spots.Spot.{Spot};
-ghost use Rattle.crossings.specs.Boxes.{AreSearchable, layer_at};
-ghost use Rattle.net_extract.specs.Pieces.{box_of};
 ghost use Rattle.flat_check.specs.Sheets.{IsSheet};
-ghost use Rattle.flat_check.specs.Trees.{AreBoxesOn, AreChannels, ArePiecesOn, AreTreesOf, IsFirstTree, IsSecondTree, IsThirdTree, piece_spot};
+ghost use Rattle.flat_check.specs.Trees.{AreChannels, ArePiecesOn, AreTreesOf, piece_spot};
 
 use crate::nearness::numbered;
 use crate::piece_pairs::piece_area;
-use crate::rule::Rule;
 use crate::sheet::Sheet;
 use box_tree::{BoxTree, Spot};
-use lam_geom::{MaskBox, MaskLayer};
+use crossings::tree_on;
+use lam_geom::MaskLayer;
 use std::alloc::{AllocError, Global};
 
-/// The trees that a rule needs: of the areas that can break it, and of those that they face. Poly and diffusion stand in two
-/// trees for the spacing between them; metal, poly and diffusion in three for the cover of cuts; the pieces of a layer in one;
-/// cuts in one; cuts, implants or windows and the channels in two. A tree that a rule does not need is empty.
+/// The trees that the rules need, each built once: of the pieces of metal, of poly and of diffusion, with their nets; of the
+/// boxes of diffusion, and of cuts, implants and windows; and of the channels. Boxes of metal and poly are pieces as a whole, so
+/// that their pieces stand for them.
 #[derive(Debug, Drop)]
 pub struct Trees {
-    pub first: BoxTree,
-    pub second: BoxTree,
-    pub third: BoxTree,
+    pub metal: BoxTree,
+    pub poly: BoxTree,
+    pub diffusion: BoxTree,
+    pub diffusion_pieces: BoxTree,
+    pub cuts: BoxTree,
+    pub implants: BoxTree,
+    pub windows: BoxTree,
+    pub channels: BoxTree,
 }
 
-/// The trees for a rule. The only refusal is want of memory.
-pub fn trees_for(alloc: Global, sheet: &Sheet, rule: Rule) -> Result<Trees, AllocError>
+/// The trees for all rules. The only refusal is want of memory.
+pub fn trees_of(alloc: Global, sheet: &Sheet) -> Result<Trees, AllocError>
     requires { IsSheet sheet.now }
-    ensures { IfOk result (AreTreesOf sheet.now rule) }
+    ensures { IfOk result (AreTreesOf sheet.now) }
 {
-    let first = first_tree(alloc, sheet, rule)?;
-    let second = second_tree(alloc, sheet, rule)?;
-    let third = third_tree(alloc, sheet, rule)?;
+    let metal = pieces_on(alloc, sheet, MaskLayer::NM)?;
+    let poly = pieces_on(alloc, sheet, MaskLayer::NP)?;
+    let diffusion = tree_on(alloc, sheet.boxes, MaskLayer::ND)?;
+    let diffusion_pieces = pieces_on(alloc, sheet, MaskLayer::ND)?;
+    let cuts = tree_on(alloc, sheet.boxes, MaskLayer::NC)?;
+    let implants = tree_on(alloc, sheet.boxes, MaskLayer::NI)?;
+    let windows = tree_on(alloc, sheet.boxes, MaskLayer::NB)?;
+    let channels = channels(alloc, sheet)?;
     Ok(Trees {
-        first,
-        second,
-        third,
+        metal,
+        poly,
+        diffusion,
+        diffusion_pieces,
+        cuts,
+        implants,
+        windows,
+        channels,
     })
-}
-
-fn first_tree(alloc: Global, sheet: &Sheet, rule: Rule) -> Result<BoxTree, AllocError>
-    requires { IsSheet sheet.now }
-    ensures { IfOk result (IsFirstTree sheet.now rule) }
-{
-    match rule {
-        Rule::PolyToDiffusion => boxes_on(alloc, sheet.boxes, MaskLayer::NP),
-        Rule::CutCover => boxes_on(alloc, sheet.boxes, MaskLayer::NM),
-        Rule::MetalSpacing => pieces_on(alloc, sheet, MaskLayer::NM),
-        Rule::PolySpacing => pieces_on(alloc, sheet, MaskLayer::NP),
-        Rule::DiffusionSpacing => pieces_on(alloc, sheet, MaskLayer::ND),
-        Rule::CutSpacing => boxes_on(alloc, sheet.boxes, MaskLayer::NC),
-        Rule::CutToChannel => boxes_on(alloc, sheet.boxes, MaskLayer::NC),
-        Rule::ImplantToChannel => boxes_on(alloc, sheet.boxes, MaskLayer::NI),
-        Rule::WindowToChannel => boxes_on(alloc, sheet.boxes, MaskLayer::NB),
-        Rule::Width | Rule::CutSize | Rule::ProperCrossing => BoxTree::new(alloc, Vec::new(alloc)),
-    }
-}
-
-fn second_tree(alloc: Global, sheet: &Sheet, rule: Rule) -> Result<BoxTree, AllocError>
-    requires { IsSheet sheet.now }
-    ensures { IfOk result (IsSecondTree sheet.now rule) }
-{
-    match rule {
-        Rule::PolyToDiffusion => boxes_on(alloc, sheet.boxes, MaskLayer::ND),
-        Rule::CutCover => boxes_on(alloc, sheet.boxes, MaskLayer::NP),
-        Rule::CutToChannel => channels(alloc, sheet),
-        Rule::ImplantToChannel => channels(alloc, sheet),
-        Rule::WindowToChannel => channels(alloc, sheet),
-        _ => BoxTree::new(alloc, Vec::new(alloc)),
-    }
-}
-
-fn third_tree(alloc: Global, sheet: &Sheet, rule: Rule) -> Result<BoxTree, AllocError>
-    requires { IsSheet sheet.now }
-    ensures { IfOk result (IsThirdTree sheet.now rule) }
-{
-    match rule {
-        Rule::CutCover => boxes_on(alloc, sheet.boxes, MaskLayer::ND),
-        _ => BoxTree::new(alloc, Vec::new(alloc)),
-    }
-}
-
-// The boxes of a layer, by their numbers.
-fn boxes_on(alloc: Global, boxes: &[MaskBox], layer: MaskLayer) -> Result<BoxTree, AllocError>
-    requires { AreSearchable boxes.now }
-    ensures { IfOk result (AreBoxesOn boxes.now layer) }
-{
-    let mut spots = Vec::with_capacity(alloc, boxes.len())?;
-    for number in 0..boxes.len() as u32 {
-        let own = numbered(boxes, number);
-        if own.layer == layer {
-            spots.push(Spot {
-                area: own.area,
-                owner: number,
-                tag: 0,
-            })?;
-        }
-    }
-    BoxTree::new(alloc, spots)
 }
 
 // The pieces of a layer, by the numbers of their boxes and of their nets.

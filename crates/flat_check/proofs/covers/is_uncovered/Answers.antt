@@ -1,36 +1,36 @@
 use denote.Enum.Bare.{differs_false}
-use Rattle.std.proofs.Common.{◌≡◌, false, true, inl, refl, sym, ap, rules}
+use Rattle.std.proofs.Common.{◌≡◌, false, true, inl, inr, refl, sym, ap, rules}
 use Rattle.lam_geom.specs.contracts.boxes.MaskLayer.{the_type}
 use Rattle.lam_geom.specs.declared.boxes.MaskLayer.TheVariants.{ND, NP, NC, NM}
 use Rattle.flat_check.proofs.Covered.{IsCoveredCut, cut_read, covered_read, no_metal, covered_twice, uncovered_by_diffusion}
 use Rattle.flat_check.proofs.Grains.{grains_held}
 use Rattle.flat_check.proofs.covers.is_uncovered.Goals as goal
 
-pub returns-then-not-is_covered : goal.returns-then-not-is_covered
-returns-then-not-is_covered c =
-    let tech = c.args.tech.now in let boxes = c.args.boxes.now in let a = c.args.a in let margin = c.in_grains-margin in let own = c.numbered-own in
+pub returns-then-not-is_covered_whole : goal.returns-then-not-is_covered_whole
+returns-then-not-is_covered_whole c =
+    let sheet = c.args.sheet.now in let tech = sheet.tech.now in let boxes = sheet.boxes.now in let a = c.args.a in let margin = c.in_grains-margin in let own = c.numbered-own in
     let on : own.result.layer ≡ NC = differs_false the_type (search rules) _ _ (sym c.if-ne.ensures) in
     let cut = cut_read boxes a _ c.requires.among own.ensures.value on in
     let length = grains_held tech _ _ margin.result c.numbers.ensures.sound.in_range.cut_enclosure (ap (λ n. n.cut_enclosure) c.numbers.ensures.value) margin.ensures.not_negative margin.ensures.within margin.ensures.value in
-    let metal = covered_read tech boxes a NM _ _ c.is_covered.result own.ensures.value length (c.is_covered.ensures boxes NM c.requires.metal) in
-    (λ _. no_metal tech boxes a c.is_covered.result cut metal c.if-not-is_covered.true, λ _. refl)
+    let metal = covered_read tech boxes a NM _ _ c.is_covered_whole.result own.ensures.value length (c.is_covered_whole.ensures sheet NM c.requires.sheet (inr refl) c.requires.trees.metal) in
+    (λ _. no_metal tech boxes a c.is_covered_whole.result cut metal c.if-not-is_covered_whole.true, λ _. refl)
 
-pub returns-then-is_covered : goal.returns-then-is_covered
-returns-then-is_covered c =
-    let tech = c.args.tech.now in let boxes = c.args.boxes.now in let a = c.args.a in let margin = c.in_grains-margin in let own = c.numbered-own in
+pub returns-then-is_covered_whole : goal.returns-then-is_covered_whole
+returns-then-is_covered_whole c =
+    let sheet = c.args.sheet.now in let tech = sheet.tech.now in let boxes = sheet.boxes.now in let a = c.args.a in let margin = c.in_grains-margin in let own = c.numbered-own in
     let length = grains_held tech _ _ margin.result c.numbers.ensures.sound.in_range.cut_enclosure (ap (λ n. n.cut_enclosure) c.numbers.ensures.value) margin.ensures.not_negative margin.ensures.within margin.ensures.value in
-    let metal = covered_read tech boxes a NM _ _ c.is_covered.result own.ensures.value length (c.is_covered.ensures boxes NM c.requires.metal) in
-    let poly = covered_read tech boxes a NP _ _ c.is_covered-2.result own.ensures.value length (c.is_covered-2.ensures boxes NP c.requires.poly) in
-    (λ t. absurd cc, λ h. absurd (covered_twice tech boxes a (metal.0 c.if-not-is_covered.false) (inl (poly.0 c.if-is_covered.true)) h))
+    let metal = covered_read tech boxes a NM _ _ c.is_covered_whole.result own.ensures.value length (c.is_covered_whole.ensures sheet NM c.requires.sheet (inr refl) c.requires.trees.metal) in
+    let poly = covered_read tech boxes a NP _ _ c.is_covered_whole-2.result own.ensures.value length (c.is_covered_whole-2.ensures sheet NP c.requires.sheet (inl refl) c.requires.trees.poly) in
+    (λ t. absurd cc, λ h. absurd (covered_twice tech boxes a (metal.0 c.if-not-is_covered_whole.false) (inl (poly.0 c.if-is_covered_whole.true)) h))
 
 pub returns : goal.returns
 returns c =
-    let tech = c.args.tech.now in let boxes = c.args.boxes.now in let a = c.args.a in let margin = c.in_grains-margin in let own = c.numbered-own in
+    let sheet = c.args.sheet.now in let tech = sheet.tech.now in let boxes = sheet.boxes.now in let a = c.args.a in let margin = c.in_grains-margin in let own = c.numbered-own in
     let on : own.result.layer ≡ NC = differs_false the_type (search rules) _ _ (sym c.if-ne.ensures) in
     let cut = cut_read boxes a _ c.requires.among own.ensures.value on in
     let length = grains_held tech _ _ margin.result c.numbers.ensures.sound.in_range.cut_enclosure (ap (λ n. n.cut_enclosure) c.numbers.ensures.value) margin.ensures.not_negative margin.ensures.within margin.ensures.value in
-    let metal = covered_read tech boxes a NM _ _ c.is_covered.result own.ensures.value length (c.is_covered.ensures boxes NM c.requires.metal) in
-    let poly = covered_read tech boxes a NP _ _ c.is_covered-2.result own.ensures.value length (c.is_covered-2.ensures boxes NP c.requires.poly) in
-    let diffusion = covered_read tech boxes a ND _ _ c.is_covered-3.result own.ensures.value length (c.is_covered-3.ensures boxes ND c.requires.diffusion) in
-    let no_poly = λ (h : IsCoveredCut tech boxes a NP). let t : c.is_covered-2.result ≡ true = poly.1 h in let e : c.is_covered-2.result ≡ false = c.if-is_covered.false in let none : ⊥ = cc in none in
-    uncovered_by_diffusion tech boxes a c.is_covered-3.result cut (metal.0 c.if-not-is_covered.false) no_poly diffusion
+    let metal = covered_read tech boxes a NM _ _ c.is_covered_whole.result own.ensures.value length (c.is_covered_whole.ensures sheet NM c.requires.sheet (inr refl) c.requires.trees.metal) in
+    let poly = covered_read tech boxes a NP _ _ c.is_covered_whole-2.result own.ensures.value length (c.is_covered_whole-2.ensures sheet NP c.requires.sheet (inl refl) c.requires.trees.poly) in
+    let diffusion = covered_read tech boxes a ND _ _ c.is_covered.result own.ensures.value length (c.is_covered.ensures boxes ND c.requires.trees.diffusion) in
+    let no_poly = λ (h : IsCoveredCut tech boxes a NP). let t : c.is_covered_whole-2.result ≡ true = poly.1 h in let e : c.is_covered_whole-2.result ≡ false = c.if-is_covered_whole.false in let none : ⊥ = cc in none in
+    uncovered_by_diffusion tech boxes a c.is_covered.result cut (metal.0 c.if-not-is_covered_whole.false) no_poly diffusion

@@ -1,5 +1,5 @@
 use Rattle.crossings.specs.Boxes.{area_at, grains}
-use Rattle.flat_check.specs.Trees.{box_spot}
+use Rattle.crossings.specs.Spots.{box_spot}
 use Rattle.flat_check.specs.Reaches.{extension_of, spacing_of_rule}
 use Rattle.flat_check.specs.declared.rule.Rule.TheVariants.{ImplantToChannel}
 use Rattle.flat_check.proofs.Faced.{reach_held, margin_held, channel_near, channel_short}

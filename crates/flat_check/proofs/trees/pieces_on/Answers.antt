@@ -5,7 +5,8 @@ use Rattle.lam_geom.specs.declared.boxes.MaskBox.{MaskBox}
 use Rattle.box_tree.specs.declared.spots.Spot.{Spot}
 use Rattle.crossings.specs.Boxes.{layer_at}
 use Rattle.net_extract.specs.Pieces.{no_piece}
-use Rattle.flat_check.specs.Trees.{AreSpotsBelow, IsPieceOn, piece_spot}
+use Rattle.crossings.specs.Spots.{AreSpotsBelow}
+use Rattle.flat_check.specs.Trees.{IsPieceOn, piece_spot}
 use Rattle.flat_check.proofs.PiecePairs.{nets_counted, piece_placed}
 use Rattle.flat_check.proofs.Spots.{below_more, below_skip, below_placed}
 use Rattle.flat_check.proofs.trees.pieces_on.Goals.{then-eq+in_ok-push, else-eq}

@@ -1,4 +1,5 @@
-use Rattle.flat_check.specs.Trees.{AreSpotsBelow, IsPieceOn, piece_spot}
+use Rattle.crossings.specs.Spots.{AreSpotsBelow}
+use Rattle.flat_check.specs.Trees.{IsPieceOn, piece_spot}
 use Rattle.flat_check.proofs.trees.pieces_on.Given as goal
 
 abbrev pub invariant-loop-number : goal.invariant-loop-number

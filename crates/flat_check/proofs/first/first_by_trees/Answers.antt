@@ -2,7 +2,7 @@ use Rattle.std.proofs.Common.{subst}
 use Rattle.flat_check.specs.Order.{KeepBefore}
 use Rattle.flat_check.specs.Starts.{AreByTrees}
 use Rattle.flat_check.proofs.Shapes.{shapes_hold}
-use Rattle.flat_check.proofs.first.first_on.Goals as goal
+use Rattle.flat_check.proofs.first.first_by_trees.Goals as goal
 
 pub first_of-requires-clause-by_trees : goal.first_of-requires-clause-by_trees
 first_of-requires-clause-by_trees c = subst AreByTrees c.in-Some.is c.loop-next.invariant.by_trees

@@ -1,0 +1,88 @@
+-- Boxes of poly and metal are pieces as a whole: what the tree of their pieces tells of boxes.
+use Rattle.std.proofs.Common.{◌≡◌, ◌↔◌, ℕ, ◌<◌, ◌⊎◌, inl, inr, ℤ, Bool, Some, List, [], ◌∷◌, map, Contains, IsTrue, length, slice_index, refl, sym, ap, ◌∙◌, subst, arith}
+use Rattle.std.specs.Prelude.{slice_get}
+use Rattle.std.specs.List.{range_with_len, Any}
+use Rattle.std.proofs.lemmas.List.Elements.{All-contains}
+use Rattle.std.proofs.lemmas.Option.{slice_get-get_or}
+use Rattle.list_facts.proofs.Some.{any_here, any_flat_map, any_range}
+use Rattle.lam_geom.specs.declared.boxes.BoxXY.{BoxXY}
+use Rattle.lam_geom.specs.declared.boxes.MaskBox.{MaskBox}
+use Rattle.lam_geom.specs.declared.boxes.MaskLayer.{MaskLayer}
+use Rattle.lam_geom.specs.declared.boxes.MaskLayer.TheVariants.{NP, NM}
+use Rattle.lam_geom.specs.Gaps.{Encloses}
+use Rattle.box_tree.specs.declared.query.Question.TheVariants.{Covers}
+use Rattle.box_tree.specs.declared.spots.Spot.{Spot}
+use Rattle.box_tree.specs.Queries.{HoldsAt}
+use Rattle.box_tree.proofs.Within.{encloses_past}
+use Rattle.crossings.specs.declared.crossing.Crossing.{Crossing}
+use Rattle.crossings.specs.Boxes.{area_at, layer_at, IsOn}
+use Rattle.crossings.specs.Pairs.{IsCovered}
+use Rattle.net_extract.specs.declared.netlist.Part.TheVariants.{Whole}
+use Rattle.net_extract.specs.Places.{Place, place, parts_on, is_crossed, places_at, places_of}
+use Rattle.net_extract.specs.Pieces.{no_piece, piece_at, box_of, area_of, IsPiece}
+use Rattle.flat_check.specs.declared.sheet.Sheet.{Sheet}
+use Rattle.flat_check.specs.Sheets.{IsSheet}
+use Rattle.flat_check.specs.Trees.{ArePiecesOn, IsPieceOn, IsUncut, piece_spot}
+use Rattle.flat_check.proofs.PiecePairs.{pieces_on, nets_counted, placed_at}
+use Rattle.flat_check.proofs.Spots.{contains_there, held_by}
+
+parts_whole : (layer : MaskLayer) (crossed : Bool) → IsUncut layer → parts_on layer crossed ≡ Whole ∷ []
+parts_whole layer crossed (inl is) = subst (λ (l : MaskLayer). parts_on l crossed ≡ Whole ∷ []) (sym is) refl
+parts_whole layer crossed (inr is) = subst (λ (l : MaskLayer). parts_on l crossed ≡ Whole ∷ []) (sym is) refl
+
+-- such a box as a whole stands among the pieces
+whole_there : (boxes : List MaskBox) (crossings : List Crossing) (layer : MaskLayer) (k : ℕ) → IsUncut layer → IsOn boxes layer k → Any (λ (p : Place). p ≡ place k Whole) (places_of crossings boxes)
+whole_there boxes crossings layer k uncut on =
+    let crossed = is_crossed crossings k in
+    let Q : Place → Type 0 = λ p. p ≡ place k Whole in
+    let parts : parts_on (layer_at boxes k) crossed ≡ Whole ∷ [] = subst (λ (l : MaskLayer). parts_on l crossed ≡ Whole ∷ []) (sym on.on) (parts_whole layer crossed uncut) in
+    let here : places_at crossings boxes k ≡ place k Whole ∷ [] = ap (map (place k)) parts in
+    let own : Any Q (places_at crossings boxes k) = subst (Any Q) (sym here) (any_here Q (place k Whole) [] refl) in
+    let among = on.among in
+    any_flat_map (λ (n : ℕ). n ≡ k) Q (places_at crossings boxes) (range_with_len 0 (length boxes))
+    (λ n e. subst (λ (m : ℕ). Any Q (places_at crossings boxes m)) (sym e) own)
+    (any_range (λ (n : ℕ). n ≡ k) 0 (length boxes) k (omega arith) (omega (arith, among)) refl)
+
+-- its piece, with a net
+pub whole_listed : (sheet : Sheet) (layer : MaskLayer) (spots : List Spot) (k : ℕ) → IsSheet sheet → IsUncut layer → ArePiecesOn sheet layer spots → IsOn sheet.boxes.now layer k
+    → (tag : ℕ) × Contains spots (record { area = area_at sheet.boxes.now k; owner = k; tag = tag })
+whole_listed sheet layer spots k is uncut are on =
+    let boxes = sheet.boxes.now in let crossings = sheet.pieces.now.crossings.items in let pieces = pieces_on sheet in
+    let found = whole_there boxes crossings layer k uncut on in
+    let i : ℕ = found.0 in
+    let at : slice_get (places_of crossings boxes) i ≡ Some (place k Whole) = slice_get-get_or (places_of crossings boxes) i found.1 found.2 ∙ ap Some (found.3 ∙ found.4) in
+    let placed = placed_at sheet k i (place k Whole) (area_at boxes k) is at refl refl in
+    let box : box_of pieces i ≡ k = is.pieces.ranges.of_box k i on.among placed.of_box.low placed.of_box.high in
+    let counted = nets_counted sheet is in
+    let within = placed.within in
+    let there : Contains spots (piece_spot sheet i) = are.complete i (omega (arith, counted, within)) (omega (arith, counted, within), ap (layer_at boxes) box ∙ on.on) in
+    let tag = slice_index sheet.nets.now i in (
+      tag,
+      subst (λ (n : ℕ). Contains spots (record { area = area_at boxes k; owner = n; tag = tag })) box
+          (subst (λ (a : BoxXY). Contains spots (record { area = a; owner = box_of pieces i; tag = tag })) (sym placed.covers) there),
+    )
+
+-- whether some piece covers an area
+pub covered_by_whole : (sheet : Sheet) (layer : MaskLayer) (area : BoxXY) (margin : ℤ) (spots : List Spot) (b : Bool) → IsTrue b ↔ ((k : ℕ) × HoldsAt spots (record { area = area; question = Covers margin }) k)
+    → IsSheet sheet → IsUncut layer → ArePiecesOn sheet layer spots → IsTrue b ↔ IsCovered sheet.boxes.now layer area margin
+covered_by_whole sheet layer area margin spots b h is uncut are = (
+  λ t.
+      let boxes = sheet.boxes.now in let pieces = pieces_on sheet in
+      let found = h.0 t in
+      let held = found.1 in
+      let there = All-contains (λ (s : Spot). (i : ℕ) × IsPieceOn sheet layer i × (s ≡ piece_spot sheet i)) spots held.spot are.sound (contains_there spots found.0 held.spot held.there) in
+      let i : ℕ = there.0 in
+      let on : IsPieceOn sheet layer i = there.1 in
+      let counted = nets_counted sheet is in
+      let low = on.0 in
+      let piece : IsPiece boxes sheet.pieces.now.crossings.items (piece_at pieces i) = is.pieces.each i no_piece (omega (arith, counted, low)) in
+      let covers : Encloses (area_of pieces i) area margin = subst (λ (s : Spot). Encloses s.area area margin) there.2 held.holds in
+      record {
+        cover = box_of pieces i;
+        is_on = record { among = piece.of_box; on = on.1 };
+        covers = encloses_past (area_at boxes (box_of pieces i)) (area_of pieces i) area margin piece.inside covers;
+      },
+  λ c.
+      let listed = whole_listed sheet layer spots c.cover is uncut are c.is_on in
+      h.1 (held_by (record { area = area; question = Covers margin }) spots (record { area = area_at sheet.boxes.now c.cover; owner = c.cover; tag = listed.0 }) listed.1 c.covers),
+)

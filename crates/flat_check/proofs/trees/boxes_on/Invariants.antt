@@ -1,6 +1,0 @@
-use Rattle.crossings.specs.Boxes.{IsOn}
-use Rattle.flat_check.specs.Trees.{AreSpotsBelow, box_spot}
-use Rattle.flat_check.proofs.trees.boxes_on.Given as goal
-
-abbrev pub invariant-loop-number : goal.invariant-loop-number
-invariant-loop-number l = AreSpotsBelow (IsOn l.boxes l.layer) (box_spot l.boxes) l.number l.spots.items
