@@ -83,3 +83,17 @@ only_crosses tech boxes axis a b p d w h back few along = record {
 
 pub along_alike : (tech : Tech) (axis : Axis) (a b s t : BoxXY) → a ≡ b → s ≡ t → CrossAlong tech axis a s → CrossAlong tech axis b t
 along_alike tech axis a b s t p q h = subst (λ (x : BoxXY). CrossAlong tech axis b x) q (subst (λ (x : BoxXY). CrossAlong tech axis x s) p h)
+
+-- of several, each that a box meets is bad with it
+several_bad : (tech : Tech) (boxes : List MaskBox) (a k : ℕ) → HowMany (DoOverlap boxes a) Several → Meets tech boxes a k → IsBadWith tech boxes a k
+several_bad tech boxes a k two (inl met) = inl (record {
+  meeting = met;
+  improper = λ proper. let alone = poly_alone tech boxes a k met.overlap proper in two.apart (alone two.a two.at_a ∙ sym (alone two.b two.at_b));
+})
+several_bad tech boxes a k two (inr met) = inr (record {
+  meeting = met;
+  improper = λ proper. let alone = diffusion_alone tech boxes k a met.overlap proper in two.apart (alone two.a two.at_a ∙ sym (alone two.b two.at_b));
+})
+
+pub least_bad : (tech : Tech) (boxes : List MaskBox) (a k : ℕ) → HowMany (DoOverlap boxes a) Several → Meets tech boxes a k → ((c : ℕ) → Meets tech boxes a c → k ≤ c) → IsBadWith tech boxes a k × ((c : ℕ) → IsBadWith tech boxes a c → k ≤ c)
+least_bad tech boxes a k two met least = (several_bad tech boxes a k two met, λ c bad. least c (bad_meets tech boxes a c bad))

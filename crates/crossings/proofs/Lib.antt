@@ -8,7 +8,6 @@ mod Improper
 mod InOrder
 mod Leasts
 mod Meetings
-mod NearBoxes
 mod Overlapped
 mod Settled
 mod Settling

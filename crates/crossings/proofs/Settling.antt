@@ -12,9 +12,8 @@ use Rattle.rule_table.specs.Technology.{has_buried_of, numbers_of}
 use Rattle.crossings.specs.Boxes.{IsCommon, IsCommonSpan, area_at, grains}
 use Rattle.crossings.specs.Crossings.{IsBuriedPair, IsOverlap}
 use Rattle.crossings.specs.Pairs.{IsCovered, Meets}
-use Rattle.crossings.proofs.Facing.{area_overlap}
+use Rattle.crossings.proofs.Facing.{area_overlap, overlap_turned}
 use Rattle.crossings.proofs.Meetings.{meets_overlap}
-use Rattle.crossings.proofs.NearBoxes.{overlap_turned}
 
 -- ---- what has nothing in common with an area has nothing in common with what lies inside
 

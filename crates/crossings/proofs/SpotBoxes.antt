@@ -1,5 +1,6 @@
 -- The spots of a tree, by the boxes that they are of.
-use Rattle.std.proofs.Common.{◌≡◌, ◌↔◌, ℕ, ◌^◌, ◌≤◌, ℤ, Some, Bool, IsTrue, List, length, slice_get, All, sym, ap, ◌∙◌, subst, arith}
+use Rattle.std.proofs.Common.{◌≡◌, ◌↔◌, ℕ, ◌^◌, ◌<◌, ◌≤◌, ℤ, Some, Bool, IsTrue, List, length, get_or, map, slice_get, All, Contains, sym, ap, ◌∙◌, subst, arith}
+use Rattle.std.proofs.lemmas.List.{get_or-map, length-map}
 use Rattle.std.proofs.lemmas.Option.{get_or_from_slice_get, slice_get_within, slice_get-get_or}
 use Rattle.lam_geom.specs.declared.boxes.BoxXY.{BoxXY}
 use Rattle.lam_geom.specs.declared.boxes.MaskBox.{MaskBox}
@@ -102,3 +103,19 @@ pub spot_area : (boxes : List MaskBox) (a : ℕ) (spots : List Spot) (k : ℕ) (
 spot_area boxes a spots k s h there =
     let of = spot_sound boxes h.layer spots k s h.spots_of there in
     ap (λ (x : Spot). x.area) of.is ∙ ap (λ (n : ℕ). area_at boxes n) (sym (ap (λ (x : Spot). x.owner) of.is))
+
+-- ---- the boxes of some spots, by their numbers
+
+abbrev pub owners : List Spot → List ℕ
+owners spots = map (λ (s : Spot). s.owner) spots
+
+pub owner_read : (spots : List Spot) (i : ℕ) (s : Spot) → i < length spots → s ≡ get_or spots i s → get_or (owners spots) i 0 ≡ s.owner
+owner_read spots i s lt is = get_or-map (λ (x : Spot). x.owner) spots i s 0 lt ∙ sym (ap (λ (x : Spot). x.owner) is)
+
+-- the box of each spot that box a meets is among them
+pub met_is_owner : (boxes : List MaskBox) (a k : ℕ) (spots : List Spot) → AreSpotsFacing boxes a spots → DoOverlap boxes a k → Contains (owners spots) k
+met_is_owner boxes a k spots facing over =
+    let there = overlapped_there boxes a k spots facing over in
+    let lt = slice_get_within spots there.0 (box_spot boxes k) there.1 in
+    let at = get_or_from_slice_get spots there.0 (box_spot boxes k) no_spot there.1 in
+    (there.0, omega (arith, lt, length-map spots (λ (x : Spot). x.owner)), get_or-map (λ (x : Spot). x.owner) spots there.0 no_spot k lt ∙ ap (λ (x : Spot). x.owner) at)

@@ -11,23 +11,21 @@ use crate::pair_tests::{common_box, in_grains};
 use crate::pairs::Pair;
 use crate::spots::{is_covered, trees_of};
 use crate::standings::{Standing, standing_of};
-use box_index::BoxIndex;
 use box_tree::BoxTree;
 use lam_geom::{Axis, MaskBox};
 use rule_table::Tech;
 use std::alloc::{AllocError, Global};
 
-/// All crossings of some boxes, in order of their diffusion, or the first pair that does not cross properly. `index` is
-/// one of these boxes, and is asked once at most, where such a pair has been found. Trees of poly, diffusion, windows and
-/// implants are made, of some 70 bytes a box, and let go again: each box asks them a few times, whether one or many lie on it.
+/// All crossings of some boxes, in order of their diffusion, or the first pair that does not cross properly. Trees of poly,
+/// diffusion, windows and implants are made, of some 70 bytes a box, and let go again: each box asks them a few times,
+/// whether one or many lie on it. Only for the pair that is named all boxes of a layer are
+/// walked through.
 pub fn crossings(
     alloc: Global,
     tech: &Tech,
     boxes: &[MaskBox],
-    index: &BoxIndex,
 ) -> Result<Vec<Crossing>, CrossingFault>
     requires searchable { AreSearchable boxes.now }
-    requires indexed { index.now ≡ boxes.now }
     ensures proper { IfOk result (λ _. AreProper tech.now boxes.now) }
     ensures crossings { IfOk result (λ found. AreCrossings tech.now boxes.now found.items) }
     ensures fault { IfErr result (IsCauseOf tech.now boxes.now) }
@@ -35,7 +33,7 @@ pub fn crossings(
     let mut crossings = Vec::new(alloc);
     let trees = trees_of(alloc, boxes)?;
     for number in 0..boxes.len() as u32 {
-        match standing_of(alloc, tech, boxes, index, &trees, number)? {
+        match standing_of(tech, boxes, &trees, number) {
             Standing::Bad(other) => return Err(CrossingFault::NotProper(number, other)),
             Standing::Crosses(pair, axis) => {
                 if pair.diffusion == number {

@@ -1,8 +1,8 @@
 //! Where poly crosses diffusion: transistors, and buried contacts.
 //!
 //! What the layer above uses: `crossings` gives all crossings with their channels, in order of their diffusion, or the first
-//! pair of poly and diffusion that overlap and neither cross properly nor are a buried pair; `is_buried_pair` tests one pair.
-//! Both take an index of the boxes, which the layer above makes once. Lengths are in grains, half hundredths of a micron.
+//! pair of poly and diffusion that overlap and neither cross properly nor are a buried pair; `is_buried` tests one pair
+//! by a tree of the windows, as `tree_on` makes it. Lengths are in grains, half hundredths of a micron.
 #![tactic(auto)]
 
 mod crossing;
@@ -18,4 +18,4 @@ mod windows;
 pub use crossing::{Crossing, CrossingFault};
 pub use finding::crossings;
 pub use spots::{is_covered, spots_on, tree_on};
-pub use windows::{is_buried, is_buried_pair};
+pub use windows::is_buried;

@@ -1,12 +1,12 @@
 //! What a box of poly or diffusion overlaps on the other's layer.
 ghost use Rattle.std.specs.Prelude.{◌≡◌, ◌≢◌, ℕ, ◌<◌, MatchOption, length};
 ghost use Rattle.crossings.specs.Boxes.{AreSearchable};
-ghost use Rattle.crossings.specs.Pairs.{facing_of, DoOverlap, HowMany};
+ghost use Rattle.crossings.specs.Pairs.{DoOverlap, HowMany};
 ghost use Rattle.crossings.specs.Spots.{AreSpotsFacing, AreTreesOf};
 
 use crate::spots::{Trees, facing_tree};
 use box_tree::{BoxTree, Query, Question};
-use lam_geom::{MaskBox, MaskLayer};
+use lam_geom::MaskBox;
 
 /// How many boxes have something in common with a box, and which one where it is the only one.
 #[derive(Clone, Copy, Debug, PartialEq, Eq)]
@@ -14,17 +14,6 @@ pub enum Partners {
     Nothing,
     One(u32),
     Several,
-}
-
-/// The layer that crosses this one.
-pub fn facing(layer: MaskLayer) -> Option<MaskLayer>
-    ensures { result ≡ facing_of layer }
-{
-    match layer {
-        MaskLayer::ND => Some(MaskLayer::NP),
-        MaskLayer::NP => Some(MaskLayer::ND),
-        _ => None,
-    }
 }
 
 /// Which boxes of poly a box of diffusion overlaps, or the other way round; nothing for a box of another layer.

@@ -11,10 +11,8 @@ use crate::partners::{Partners, partners_of};
 use crate::spots::Trees;
 use crate::unburied::{least_unburied, meets_some};
 use crate::windows::is_buried;
-use box_index::BoxIndex;
 use lam_geom::{Axis, MaskBox};
 use rule_table::Tech;
-use std::alloc::{AllocError, Global};
 
 /// How a box stands to those of the other's layer that it overlaps.
 #[derive(Clone, Copy, Debug, PartialEq, Eq)]
@@ -27,31 +25,23 @@ pub enum Standing {
     Bad(u32),
 }
 
-/// How a box stands. The only refusal is want of memory, and may come only where it stands badly.
-pub fn standing_of(
-    alloc: Global,
-    tech: &Tech,
-    boxes: &[MaskBox],
-    index: &BoxIndex,
-    trees: &Trees,
-    number: u32,
-) -> Result<Standing, AllocError>
+/// How a box stands. Takes no memory.
+pub fn standing_of(tech: &Tech, boxes: &[MaskBox], trees: &Trees, number: u32) -> Standing
     requires searchable { AreSearchable boxes.now }
-    requires indexed { index.now ≡ boxes.now }
     requires trees { AreTreesOf boxes.now trees.now }
     requires among { number < length boxes.now }
-    ensures { IfOk result (StandsAs tech.now boxes.now number) }
+    ensures { StandsAs tech.now boxes.now number result }
 {
     match partners_of(boxes, trees, number) {
-        Partners::Nothing => Ok(Standing::Clear),
-        Partners::One(partner) => Ok(standing_with(tech, boxes, trees, number, partner)),
+        Partners::Nothing => Standing::Clear,
+        Partners::One(partner) => standing_with(tech, boxes, trees, number, partner),
         Partners::Several => {
             if !meets_some(tech, boxes, trees, number) {
-                return Ok(Standing::Clear);
+                return Standing::Clear;
             }
-            match least_unburied(alloc, tech, boxes, index, &trees.windows, number)? {
-                Some(least) => Ok(Standing::Bad(least)),
-                None => Ok(Standing::Clear),
+            match least_unburied(tech, boxes, trees, number) {
+                Some(least) => Standing::Bad(least),
+                None => Standing::Clear,
             }
         }
     }

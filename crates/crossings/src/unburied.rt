@@ -10,14 +10,11 @@ ghost use Rattle.crossings.specs.Spots.{AreBoxesOn, AreSpotsFacing, AreTreesOf};
 
 use crate::pair_tests::common_box;
 use crate::pairs::meets;
-use crate::partners::facing;
 use crate::spots::{Trees, facing_tree, is_covered};
 use crate::windows::window_margin;
-use box_index::BoxIndex;
-use box_tree::{BoxTree, Group, Parts};
+use box_tree::{BoxTree, Group, Parts, Spot};
 use lam_geom::{BoxXY, MaskBox, overlaps};
 use rule_table::Tech;
-use std::alloc::{AllocError, Global};
 
 /// Whether a box overlaps some box of the other's layer and is no buried pair with it. Boxes under one window are left out
 /// together. Takes no memory.
@@ -104,47 +101,37 @@ fn meets_spot(
     false
 }
 
-/// The least of the boxes that a box overlaps and is no buried pair with. It takes a list of all that lie near. The only
-/// refusal is want of memory.
-pub fn least_unburied(
-    alloc: Global,
-    tech: &Tech,
-    boxes: &[MaskBox],
-    index: &BoxIndex,
-    windows: &BoxTree,
-    number: u32,
-) -> Result<Option<u32>, AllocError>
+/// The least of the boxes that a box overlaps and is no buried pair with. In the time of a walk over all boxes of the
+/// other's layer. Takes no memory.
+pub fn least_unburied(tech: &Tech, boxes: &[MaskBox], trees: &Trees, number: u32) -> Option<u32>
     requires searchable { AreSearchable boxes.now }
-    requires indexed { index.now ≡ boxes.now }
-    requires windows { AreBoxesOn boxes.now NB windows.now }
+    requires trees { AreTreesOf boxes.now trees.now }
     requires among { number < length boxes.now }
-    ensures { IfOk result (Least (Meets tech.now boxes.now number)) }
+    ensures { Least (Meets tech.now boxes.now number) result }
 {
-    let own = boxes[number as usize];
-    let Some(layer) = facing(own.layer) else {
-        return Ok(None);
-    };
-    let mut near = Vec::new(alloc);
-    index.near(layer, &own.area, 0, &mut near)?;
-    Ok(least_among(tech, boxes, windows, number, &near))
+    match facing_tree(boxes, trees, number) {
+        Some(tree) => least_among(tech, boxes, &trees.windows, number, tree.spots()),
+        None => None,
+    }
 }
 
+// The least of the boxes of some spots that a box meets.
 fn least_among(
     tech: &Tech,
     boxes: &[MaskBox],
     windows: &BoxTree,
     number: u32,
-    others: &[u32],
+    spots: &[Spot],
 ) -> Option<u32>
     requires searchable { AreSearchable boxes.now }
     requires windows { AreBoxesOn boxes.now NB windows.now }
-    requires facing { All (AreFacing boxes.now number) others.now }
-    ensures { Least (λ k. Contains others.now k × Meets tech.now boxes.now number k) result }
+    requires spots { AreSpotsFacing boxes.now number spots.now }
+    ensures { Least (Meets tech.now boxes.now number) result }
 {
     let mut least = None;
-    for other in others {
-        if is_below(*other, least) && meets(tech, boxes, windows, number, *other) {
-            least = Some(*other);
+    for spot in spots {
+        if is_below(spot.owner, least) && meets(tech, boxes, windows, number, spot.owner) {
+            least = Some(spot.owner);
         }
     }
     least

@@ -12,34 +12,9 @@ ghost use Rattle.crossings.specs.Spots.{AreBoxesOn};
 
 use crate::pair_tests::{common_box, in_grains};
 use crate::spots::is_covered;
-use box_index::BoxIndex;
 use box_tree::BoxTree;
-use lam_geom::{BoxXY, MaskBox, MaskLayer, contains_by, overlaps};
+use lam_geom::{BoxXY, MaskBox, MaskLayer, overlaps};
 use rule_table::Tech;
-use std::alloc::AllocError;
-
-/// Whether poly and diffusion with these numbers are a buried pair. `index` is one of these boxes, and `found` a buffer.
-/// The only refusal is want of memory.
-pub fn is_buried_pair(
-    tech: &Tech,
-    boxes: &[MaskBox],
-    index: &BoxIndex,
-    poly: u32,
-    diffusion: u32,
-    found: &mut Vec<u32>,
-) -> Result<bool, AllocError>
-    requires searchable { AreSearchable boxes.now }
-    requires indexed { index.now ≡ boxes.now }
-    requires poly { poly < length boxes.now }
-    requires diffusion { diffusion < length boxes.now }
-    ensures { IfOk result (λ is_buried. IsTrue is_buried ↔ IsBuriedPair tech.now boxes.now poly diffusion) }
-{
-    let Some(shared) = shared_area(tech, boxes, poly, diffusion) else {
-        return Ok(false);
-    };
-    index.near(MaskLayer::NB, &shared, 0, found)?;
-    Ok(any_covers(boxes, found, &shared, window_margin(tech)))
-}
 
 /// Whether poly and diffusion with these numbers are a buried pair, by a tree of the windows. Takes no memory.
 pub fn is_buried(
@@ -88,20 +63,4 @@ pub fn window_margin(tech: &Tech) -> i64
     ensures margin { IsMargin result }
 {
     in_grains(tech, tech.numbers().extension_buried)
-}
-
-// Whether one of the boxes with some numbers goes past an area by a margin on all sides.
-fn any_covers(boxes: &[MaskBox], numbers: &[u32], area: &BoxXY, margin: i64) -> bool
-    requires searchable { AreSearchable boxes.now }
-    requires numbers { All (λ k. k < length boxes.now) numbers.now }
-    requires area { IsPlacedBox area.now }
-    requires margin { IsMargin margin }
-    ensures { MatchBool result ((k : ℕ) × Contains numbers.now k × Encloses (area_at boxes.now k) area.now margin) (All (λ k. Encloses (area_at boxes.now k) area.now margin → ⊥) numbers.now) }
-{
-    for k in numbers {
-        if contains_by(&boxes[*k as usize].area, area, margin) {
-            return true;
-        }
-    }
-    false
 }

@@ -8,7 +8,6 @@ ghost use Rattle.flat_check.specs.Starts.{IsStart};
 
 use crate::rule::{Break, Rule};
 use crate::singles::first_at_one;
-use box_index::BoxIndex;
 use crossings::{Crossing, CrossingFault, crossings};
 use lam_geom::MaskBox;
 use net_extract::{Pieces, nets_of, pieces_of};
@@ -35,9 +34,8 @@ pub fn check_first_rules(alloc: Global, tech: &Tech, boxes: &[MaskBox]) -> Resul
     if let Some(odd) = first_at_one(tech, boxes, Rule::CutSize) {
         return Ok(Start::Broken(odd));
     }
-    let index = BoxIndex::new(alloc, boxes)?;
-    match crossings(alloc, tech, boxes, &index) {
-        Ok(found) => start_behind(alloc, tech, boxes, &index, found),
+    match crossings(alloc, tech, boxes) {
+        Ok(found) => start_behind(alloc, tech, boxes, found),
         Err(CrossingFault::NotProper(a, b)) => Ok(Start::Broken(Break {
             rule: Rule::ProperCrossing,
             a,
@@ -52,17 +50,15 @@ fn start_behind(
     alloc: Global,
     tech: &Tech,
     boxes: &[MaskBox],
-    index: &BoxIndex,
     found: Vec<Crossing>,
 ) -> Result<Start, AllocError>
     requires searchable { AreSearchable boxes.now }
-    requires indexed { index.now ≡ boxes.now }
     requires proper { AreProper tech.now boxes.now }
     requires crossings { AreCrossings tech.now boxes.now found.items }
     requires before { KeepBefore tech.now boxes.now (Some ProperCrossing) }
     ensures { IfOk result (IsStart tech.now boxes.now) }
 {
     let pieces = pieces_of(alloc, boxes, found)?;
-    let (nets, _count) = nets_of(alloc, tech, boxes, index, &pieces)?;
+    let (nets, _count) = nets_of(alloc, tech, boxes, &pieces)?;
     Ok(Start::Kept { pieces, nets })
 }

@@ -2,8 +2,7 @@
 ghost use Rattle.std.specs.Prelude.{◌≤◌, length};
 
 use crate::boxes_of_tests::{Row, boxes_of, span};
-use box_index::BoxIndex;
-use crossings::{Crossing, CrossingFault, crossings, is_buried_pair};
+use crossings::{Crossing, CrossingFault, crossings, is_buried, tree_on};
 use lam_geom::{Axis, BoxXY, MaskLayer};
 use rule_table::Tech;
 use std::alloc::Global;
@@ -13,8 +12,7 @@ fn found(alloc: Global, tech: &Tech, rows: &[Row]) -> Result<Vec<Crossing>, Cros
     requires { length rows.now ≤ 8 }
 {
     let boxes = boxes_of(alloc, rows)?;
-    let index = BoxIndex::new(alloc, &boxes)?;
-    crossings(alloc, tech, &boxes, &index)
+    crossings(alloc, tech, &boxes)
 }
 
 #[test]
@@ -74,10 +72,8 @@ fn a_window_makes_a_buried_pair(rt: HostRuntime) -> Result<(), Fail> {
         Row(MaskLayer::NB, -1800, -2400, 4200, 4800),
     ];
     let boxes = boxes_of(rt.alloc(), &rows)?;
-    let index = BoxIndex::new(rt.alloc(), &boxes)?;
-    let mut buffer = Vec::new(rt.alloc());
-    let is_buried = is_buried_pair(&Tech::shipped2(), &boxes, &index, 1, 0, &mut buffer)?;
-    assert!(rt; is_buried);
+    let windows = tree_on(rt.alloc(), &boxes, MaskLayer::NB)?;
+    assert!(rt; is_buried(&Tech::shipped2(), &boxes, &windows, 1, 0));
     Ok(())
 }
 

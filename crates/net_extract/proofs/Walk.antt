@@ -1,15 +1,22 @@
 -- Steps of the walk through a grove.
 use Rattle.std.proofs.Common.{◌≡◌, ◌≢◌, ℕ, ◌+◌, ◌<◌, ◌≤◌, Bool, false, true, Option, None, Some, List, [], ◌∷◌, ◌++◌, length, set, get_or, drop, ◌⊎◌, inl, inr, refl, sym, ◌∙◌, ap, subst, arith, length-drop, length-set, get_or-set_other, get_or-set_same}
-use Rattle.std.specs.Prelude.{IsTrue, is_some, max, nat_eq, not}
+use Rattle.std.specs.Prelude.{IsTrue, ℤ, ◌<ℤ◌, is_some, max, nat_eq, not}
+use Rattle.std.specs.Int.{int_max}
+use Rattle.std.proofs.lemmas.Int.{ints, clamps}
 use Rattle.std.proofs.lemmas.Bool.{cases_lt, cases_eq, eqb-true}
 use Rattle.std.proofs.lemmas.List.{drop_more, drop_all, drop-drop, get_or_default, get_or_read}
 use Rattle.std.proofs.lemmas.Option.{none-some}
 use Rattle.box_tree.specs.declared.query.Query.{Query}
 use Rattle.box_tree.specs.declared.spots.Group.{Group}
 use Rattle.box_tree.specs.declared.spots.Spot.{Spot}
-use Rattle.box_tree.specs.Queries.{Holds}
+use Rattle.box_tree.specs.declared.query.Question.{Question}
+use Rattle.box_tree.specs.declared.query.Question.TheVariants.{NearOfOther}
+use Rattle.box_tree.specs.Queries.{Holds, reach_of}
+use Rattle.lam_geom.specs.declared.boxes.BoxXY.{BoxXY}
+use Rattle.lam_geom.specs.Gaps.{gap_of, gap_of_boxes}
 use Rattle.box_tree.specs.Tree.{IsBounded, IsGroupOf, IsPlacedGroup, begin_of}
 use Rattle.box_tree.proofs.Trees.{group_here}
+use Rattle.box_tree.proofs.Within.{too_far}
 use Rattle.graph_search.specs.Search.{mark_of, IsMarked, AreKept}
 use Rattle.net_extract.specs.declared.groves.Grove.{Grove}
 use Rattle.net_extract.specs.declared.groves.Plan.{Plan}
@@ -19,9 +26,9 @@ use Rattle.net_extract.proofs.Growth.{gathered_as, gathered_more, gathered_none,
 
 -- ---- tests
 
-pub not_false : (b v : Bool) → v ≡ not b → v ≡ true → b ≡ false
-not_false true v e t = cc
-not_false false v e t = refl
+pub not_true : (b : Bool) → IsTrue (not b) → b ≡ false
+not_true true t = cc
+not_true false t = refl
 
 pub flag_read : (spent : List Bool) (at : ℕ) (b : Bool) → at < length spent → b ≡ get_or spent at b → b ≡ true → IsTrue (get_or spent at false)
 flag_read spent at b lt read t = sym (get_or_read spent at b lt read false) ∙ t
@@ -298,3 +305,20 @@ grove_kept old new grove counted kept g = record {
 
 pub same_number : (a b : ℕ) → IsTrue (nat_eq a b) → a ≡ b
 same_number a b t = eqb-true a b t
+
+-- ---- groups that lie off
+
+int_before : (a b c : ℤ) → c <ℤ a → c <ℤ int_max a b
+int_before a b c h = omega (arith, ints, clamps)
+
+int_behind : (a b c : ℤ) → c <ℤ b → c <ℤ int_max a b
+int_behind a b c h = omega (arith, ints, clamps)
+
+pub off_x : (area outer : BoxXY) (reach : ℤ) → reach <ℤ gap_of area.x outer.x → reach <ℤ gap_of_boxes area outer
+off_x area outer reach h = int_before (gap_of area.x outer.x) (gap_of area.y outer.y) reach h
+
+pub off_y : (area outer : BoxXY) (reach : ℤ) → reach <ℤ gap_of area.y outer.y → reach <ℤ gap_of_boxes area outer
+off_y area outer reach h = int_behind (gap_of area.x outer.x) (gap_of area.y outer.y) reach h
+
+pub off_none : (query : Query) (group : Group) (reach : ℤ) (owner : ℕ) (spot : Spot) → query.question ≡ NearOfOther reach owner → reach <ℤ gap_of_boxes query.area group.outer → IsBounded group spot → Holds query spot → ⊥
+off_none query group reach owner spot is off b holds = too_far query.question query.area group.outer spot reach (ap (λ (q : Question). reach_of q) is) off b.outer holds

@@ -7,7 +7,6 @@ use crate::devices::{devices_of, netted};
 use crate::netlist::{ExtractFault, Netlist};
 use crate::nets::nets_of;
 use crate::placing::pieces_of;
-use box_index::BoxIndex;
 use crossings::crossings;
 use lam_geom::MaskBox;
 use lam_list::Seq;
@@ -20,10 +19,9 @@ pub fn extract(alloc: Global, tech: &Tech, boxes: &[MaskBox]) -> Result<Netlist,
     ensures extracted { IfOk result (IsExtracted tech.now boxes.now) }
     ensures fault { IfErr result (IsCauseOf tech.now boxes.now) }
 {
-    let index = BoxIndex::new(alloc, boxes)?;
-    let found = crossings(alloc, tech, boxes, &index)?;
+    let found = crossings(alloc, tech, boxes)?;
     let split = pieces_of(alloc, boxes, found)?;
-    let (nets, count) = nets_of(alloc, tech, boxes, &index, &split)?;
+    let (nets, count) = nets_of(alloc, tech, boxes, &split)?;
     let pieces = netted(alloc, split.placed.as_slice(), nets.as_slice())?;
     let devices = devices_of(
         alloc,

@@ -1,13 +1,17 @@
 //! Trees of spots from which those that have been reached are left out: as the search goes on, ever fewer groups are walked
 //! through.
-ghost use Rattle.std.specs.Prelude.{◌≡◌, ◌+◌, ◌<◌, ◌≤◌, [], IfOk, IsTrue, List, OnOk, length};
+ghost use Rattle.std.specs.Prelude.{◌≡◌, ◌+◌, ◌<◌, ◌≤◌, ◌<ℤ◌, [], IfOk, IsTrue, List, OnOk, length};
 ghost use Rattle.box_tree.specs.declared.spots.Group.{Group};
 ghost use Rattle.box_tree.specs.declared.spots.Spot.{Spot};
-ghost use Rattle.box_tree.specs.Queries.{IsQuery};
+ghost use Rattle.box_tree.specs.Queries.{Holds, IsQuery};
+ghost use Rattle.box_tree.specs.Tree.{IsBounded, IsPlacedGroup};
+ghost use Rattle.lam_geom.specs.Gaps.{gap_of};
+ghost use Rattle.lam_geom.specs.Places.{IsPlacedSpan};
 ghost use Rattle.net_extract.specs.Linking.{AreGathered};
 ghost use Rattle.net_extract.specs.Groves.{group_at, IsPlan, AreSpent, AreTagsWithin, IsUnreached, IsUnreachedWithin, IsRunSpent, IsRunMarked, IsNewGrove};
 
-use box_tree::{BoxTree, Group, Query, Spot};
+use box_tree::{BoxTree, Group, Query, Question, Spot};
+use lam_geom::Span;
 use std::alloc::{AllocError, Global};
 
 /// A tree as it stands: its spots, their numbers in the order in which the groups have them, and the groups.
@@ -26,17 +30,17 @@ pub struct Grove {
     pub spent: Vec<bool>,
 }
 
-/// A grove of a tree, of which nothing has been reached. The only refusal is want of memory.
+/// A grove of a tree, of which nothing has been reached. Nothing of the tree is copied. The only refusal is want of memory.
 pub fn new_grove(alloc: Global, tree: BoxTree) -> Result<Grove, AllocError>
     ensures { IfOk result (IsNewGrove tree) }
 {
-    let parts = tree.parts();
-    let plan = Plan {
-        spots: Vec::from_slice(alloc, parts.spots)?,
-        order: Vec::from_slice(alloc, parts.order)?,
-        groups: Vec::from_slice(alloc, parts.groups)?,
-    };
+    let parts = tree.into_parts();
     let spent = vec![in alloc; false; parts.groups.len()]?;
+    let plan = Plan {
+        spots: parts.spots,
+        order: parts.order,
+        groups: parts.groups,
+    };
     Ok(Grove { plan, spent })
 }
 
@@ -59,8 +63,8 @@ pub fn unreached(
     found.clear();
     let mut at = 0;
     while at < plan.groups.len() {
-        let group = plan.groups[at];
-        if spent[at] || !group.may_hold(query) {
+        let group = &plan.groups[at];
+        if spent[at] || is_passed_over(group, query) {
             at += 1 + group.inside as usize;
         } else if group.inside == 0 {
             let end = group.start + group.count;
@@ -72,6 +76,30 @@ pub fn unreached(
         }
     }
     Ok(())
+}
+
+// Whether it is plain that no spot within the bounds of a group holds a query. What lies near is asked in most searches, and is
+// answered here by the ends alone.
+fn is_passed_over(group: &Group, query: &Query) -> bool
+    requires group { IsPlacedGroup group.now }
+    requires query { IsQuery query.now }
+    ensures { IsTrue result → (spot : Spot) → IsBounded group.now spot → Holds query.now spot → ⊥ }
+{
+    match query.question {
+        Question::NearOfOther { reach, .. } => {
+            is_off(group.outer.x, query.area.x, reach) || is_off(group.outer.y, query.area.y, reach)
+        }
+        _ => !group.may_hold(query),
+    }
+}
+
+// Whether a span lies farther than so much from another.
+fn is_off(outer: Span, span: Span, reach: i64) -> bool
+    requires outer { IsPlacedSpan outer }
+    requires span { IsPlacedSpan span }
+    ensures { IsTrue result → reach <ℤ gap_of span outer }
+{
+    outer.lo - span.hi > reach || span.lo - outer.hi > reach
 }
 
 // Puts the nodes that have no mark, of spots at some places that hold a query, behind those in `found`. Whether all have one.
@@ -92,10 +120,10 @@ fn look_through(
 {
     let mut all = true;
     for place in first..end {
-        let spot = plan.spots[plan.order[place as usize] as usize];
+        let spot = &plan.spots[plan.order[place as usize] as usize];
         if marks[spot.tag as usize].is_none() {
             all = false;
-            if query.holds(&spot) {
+            if query.holds(spot) {
                 found.push(spot.tag)?;
             }
         }

@@ -3,6 +3,8 @@ ghost use Rattle.std.specs.Prelude.{◌≡◌, ◌+◌, ◌<◌, ◌≤◌, max,
 ghost use Rattle.graph_search.specs.Netting.{next_net};
 ghost use Rattle.graph_search.specs.Search.{mark_of, AreKept};
 ghost use Rattle.crossings.specs.Boxes.{AreSearchable};
+ghost use Rattle.crossings.specs.Spots.{AreBoxesOn};
+ghost use Rattle.lam_geom.specs.declared.boxes.MaskLayer.TheVariants.{NB};
 ghost use Rattle.crossings.specs.Crossings.{AreInOrder};
 ghost use Rattle.net_extract.specs.Extraction.{AreNets};
 ghost use Rattle.net_extract.specs.Linking.{AreBeside};
@@ -15,34 +17,32 @@ use crate::placing::Pieces;
 use crate::reaching::Front;
 use crate::searches::{Search, spread};
 use crate::spots::{PieceTrees, box_spots, cut_spots, piece_spots};
-use box_index::BoxIndex;
 use box_tree::BoxTree;
 use lam_geom::{MaskBox, MaskLayer};
 use rule_table::Tech;
 use std::alloc::{AllocError, Global};
 
-/// The net of each piece of some boxes, and how many nets there are. `index` is one of the boxes. The only refusal is want of
-/// memory. In the time of some searches in trees for each piece and each cut, heaps of boxes too; only where poly overlaps
-/// diffusion that is no buried pair with it, each such pair is tested.
+/// The net of each piece of some boxes, and how many nets there are. The only refusal is want of memory. In the time of some
+/// searches in trees for each piece and each cut, heaps of boxes too; only where poly overlaps diffusion that is no buried
+/// pair with it, each such pair is tested.
 pub fn nets_of(
     alloc: Global,
     tech: &Tech,
     boxes: &[MaskBox],
-    index: &BoxIndex,
     pieces: &Pieces,
 ) -> Result<(Vec<u32>, u32), AllocError>
     requires searchable { AreSearchable boxes.now }
-    requires indexed { index.now ≡ boxes.now }
     requires in_order { AreInOrder pieces.now.crossings.items }
     requires pieces { ArePiecesOf boxes.now pieces.now }
     ensures nets { IfOk result (λ nets. AreNets tech.now boxes.now pieces.now.crossings.items nets.0.items) }
     ensures count { IfOk result (λ nets. nets.1 ≡ next_net nets.0.items) }
 {
+    let windows = crossings::tree_on(alloc, boxes, MaskLayer::NB)?;
     let mut search = new_search(alloc, tech, boxes, pieces)?;
     let mut nets = Vec::with_capacity(alloc, pieces.placed.len())?;
     let mut count = 0;
     for a in 0..pieces.placed.len() {
-        let net = net_of(tech, boxes, index, pieces, a as u32, count, &mut search)?;
+        let net = net_of(tech, boxes, &windows, pieces, a as u32, count, &mut search)?;
         nets.push(net)?;
         count = count.max(net + 1);
     }
@@ -53,14 +53,14 @@ pub fn nets_of(
 fn net_of(
     tech: &Tech,
     boxes: &[MaskBox],
-    index: &BoxIndex,
+    windows: &BoxTree,
     pieces: &Pieces,
     a: u32,
     next: u32,
     search: &mut Search,
 ) -> Result<u32, AllocError>
     requires searchable { AreSearchable boxes.now }
-    requires indexed { index.now ≡ boxes.now }
+    requires windows { AreBoxesOn boxes.now NB windows.now }
     requires pieces { ArePiecesOf boxes.now pieces.now }
     requires search { IsSearch tech.now boxes.now pieces.now.placed.items search.old }
     requires whole { AreWhole (AreBeside tech.now boxes.now pieces.now.placed.items) next search.old.front.marks.items }
@@ -74,7 +74,7 @@ fn net_of(
     if let Some(net) = search.front.marks[a as usize] {
         return Ok(net);
     }
-    spread(tech, boxes, index, pieces, a, next, search)?;
+    spread(tech, boxes, windows, pieces, a, next, search)?;
     Ok(next)
 }
 
@@ -174,6 +174,5 @@ fn new_front(alloc: Global, count: usize) -> Result<Front, AllocError>
         queue: Vec::new(alloc),
         found: Vec::new(alloc),
         kept: Vec::new(alloc),
-        windows: Vec::new(alloc),
     })
 }

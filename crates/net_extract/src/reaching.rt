@@ -2,6 +2,8 @@
 ghost use Rattle.std.specs.Prelude.{◌≡◌, ℕ, ◌<◌, ◌↔◌, [], All, IfOk, IsTrue, OnOk, length};
 ghost use Rattle.box_tree.specs.Queries.{Holds, IsQuery};
 ghost use Rattle.crossings.specs.Boxes.{AreSearchable};
+ghost use Rattle.crossings.specs.Spots.{AreBoxesOn};
+ghost use Rattle.lam_geom.specs.declared.boxes.MaskLayer.TheVariants.{NB};
 ghost use Rattle.graph_search.specs.Search.{AreVisited};
 ghost use Rattle.net_extract.specs.Groves.{AreTagsWithin, IsGrove, IsOf};
 ghost use Rattle.net_extract.specs.Linking.{AreGathered, IsPairWith};
@@ -10,9 +12,8 @@ ghost use Rattle.net_extract.specs.Spreading.{IsGroveReached, IsBuriedOf, IsOfPa
 
 use crate::groves::{Grove, unreached};
 use crate::placing::Placed;
-use box_index::BoxIndex;
-use box_tree::Query;
-use crossings::is_buried_pair;
+use box_tree::{BoxTree, Query};
+use crossings::is_buried;
 use lam_geom::MaskBox;
 use rule_table::Tech;
 use std::alloc::AllocError;
@@ -25,7 +26,6 @@ pub struct Front {
     pub queue: Vec<u32>,
     pub found: Vec<u32>,
     pub kept: Vec<u32>,
-    pub windows: Vec<u32>,
 }
 
 /// Gives a net to the nodes without one whose spots hold a query. The only refusal is want of memory.
@@ -60,7 +60,7 @@ pub fn reach(
 pub fn reach_buried(
     tech: &Tech,
     boxes: &[MaskBox],
-    index: &BoxIndex,
+    windows: &BoxTree,
     placed: &[Placed],
     box_no: u32,
     grove: &mut Grove,
@@ -69,7 +69,7 @@ pub fn reach_buried(
     front: &mut Front,
 ) -> Result<(), AllocError>
     requires searchable { AreSearchable boxes.now }
-    requires indexed { index.now ≡ boxes.now }
+    requires windows { AreBoxesOn boxes.now NB windows.now }
     requires placed { All (IsOfBoxes boxes.now) placed.now }
     requires box_no { box_no < length boxes.now }
     requires grove { IsGrove front.old.marks.items grove.old }
@@ -89,11 +89,10 @@ pub fn reach_buried(
     keep_buried(
         tech,
         boxes,
-        index,
+        windows,
         placed,
         box_no,
         front.found.as_slice(),
-        &mut front.windows,
         &mut front.kept,
     )?;
     visit(
@@ -109,15 +108,14 @@ pub fn reach_buried(
 fn keep_buried(
     tech: &Tech,
     boxes: &[MaskBox],
-    index: &BoxIndex,
+    windows: &BoxTree,
     placed: &[Placed],
     box_no: u32,
     numbers: &[u32],
-    windows: &mut Vec<u32>,
     kept: &mut Vec<u32>,
 ) -> Result<(), AllocError>
     requires searchable { AreSearchable boxes.now }
-    requires indexed { index.now ≡ boxes.now }
+    requires windows { AreBoxesOn boxes.now NB windows.now }
     requires placed { All (IsOfBoxes boxes.now) placed.now }
     requires box_no { box_no < length boxes.now }
     requires numbers { All (λ y. y < length placed.now) numbers.now }
@@ -125,7 +123,7 @@ fn keep_buried(
 {
     for &y in numbers {
         let other = placed[y as usize].box_no;
-        if is_pair_with(tech, boxes, index, box_no, other, windows)? {
+        if is_pair_with(tech, boxes, windows, box_no, other) {
             kept.push(y)?;
         }
     }
@@ -133,23 +131,14 @@ fn keep_buried(
 }
 
 // Whether two boxes, in either order, are a buried pair.
-fn is_pair_with(
-    tech: &Tech,
-    boxes: &[MaskBox],
-    index: &BoxIndex,
-    a: u32,
-    b: u32,
-    windows: &mut Vec<u32>,
-) -> Result<bool, AllocError>
+fn is_pair_with(tech: &Tech, boxes: &[MaskBox], windows: &BoxTree, a: u32, b: u32) -> bool
     requires searchable { AreSearchable boxes.now }
-    requires indexed { index.now ≡ boxes.now }
+    requires windows { AreBoxesOn boxes.now NB windows.now }
     requires first { a < length boxes.now }
     requires second { b < length boxes.now }
-    ensures { IfOk result (λ is_pair. IsTrue is_pair ↔ IsPairWith tech.now boxes.now a b) }
+    ensures { IsTrue result ↔ IsPairWith tech.now boxes.now a b }
 {
-    let forth = is_buried_pair(tech, boxes, index, a, b, windows)?;
-    let back = is_buried_pair(tech, boxes, index, b, a, windows)?;
-    Ok(forth || back)
+    is_buried(tech, boxes, windows, a, b) || is_buried(tech, boxes, windows, b, a)
 }
 
 // Gives a net to those of some nodes that have none, and puts them at the end of the queue.

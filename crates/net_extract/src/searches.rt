@@ -3,6 +3,8 @@ ghost use Rattle.std.specs.Prelude.{◌≡◌, ◌<◌, pos, negsuc, OnOk, None,
 ghost use Rattle.box_tree.specs.declared.query.Question.TheVariants.{NearOfOther};
 ghost use Rattle.box_tree.specs.Queries.{IsQuery};
 ghost use Rattle.crossings.specs.Boxes.{AreSearchable};
+ghost use Rattle.crossings.specs.Spots.{AreBoxesOn};
+ghost use Rattle.lam_geom.specs.declared.boxes.MaskLayer.TheVariants.{NB};
 ghost use Rattle.graph_search.specs.Search.{mark_of};
 ghost use Rattle.net_extract.specs.Linking.{AreBeside, IsNode, cut_node};
 ghost use Rattle.net_extract.specs.Linking.{IsJoining};
@@ -12,8 +14,7 @@ ghost use Rattle.net_extract.specs.Spreading.{IsSearch, IsStep, IsAnswer, IsCutA
 use crate::groves::Grove;
 use crate::placing::Pieces;
 use crate::reaching::{Front, reach, reach_buried};
-use box_index::BoxIndex;
-use box_tree::{Query, Question};
+use box_tree::{BoxTree, Query, Question};
 use lam_geom::{BoxXY, MaskBox, MaskLayer};
 use rule_table::Tech;
 use std::alloc::AllocError;
@@ -35,14 +36,14 @@ pub struct Search {
 pub fn spread(
     tech: &Tech,
     boxes: &[MaskBox],
-    index: &BoxIndex,
+    windows: &BoxTree,
     pieces: &Pieces,
     start: u32,
     net: u32,
     search: &mut Search,
 ) -> Result<(), AllocError>
     requires searchable { AreSearchable boxes.now }
-    requires indexed { index.now ≡ boxes.now }
+    requires windows { AreBoxesOn boxes.now NB windows.now }
     requires pieces { ArePiecesOf boxes.now pieces.now }
     requires search { IsSearch tech.now boxes.now pieces.now.placed.items search.old }
     requires in_range { start < length pieces.now.placed.items }
@@ -54,7 +55,7 @@ pub fn spread(
     let mut passed = 0;
     while passed < search.front.queue.len() {
         let node = search.front.queue[passed];
-        visit_node(tech, boxes, index, pieces, node, net, search)?;
+        visit_node(tech, boxes, windows, pieces, node, net, search)?;
         passed += 1;
     }
     Ok(())
@@ -75,14 +76,14 @@ fn begin(start: u32, net: u32, front: &mut Front) -> Result<(), AllocError>
 fn visit_node(
     tech: &Tech,
     boxes: &[MaskBox],
-    index: &BoxIndex,
+    windows: &BoxTree,
     pieces: &Pieces,
     node: u32,
     net: u32,
     search: &mut Search,
 ) -> Result<(), AllocError>
     requires searchable { AreSearchable boxes.now }
-    requires indexed { index.now ≡ boxes.now }
+    requires windows { AreBoxesOn boxes.now NB windows.now }
     requires pieces { ArePiecesOf boxes.now pieces.now }
     requires search { IsSearch tech.now boxes.now pieces.now.placed.items search.old }
     requires node { IsNode boxes.now pieces.now.placed.items node }
@@ -90,7 +91,7 @@ fn visit_node(
 {
     let count = pieces.placed.len() as u32;
     if node < count {
-        visit_piece(tech, boxes, index, pieces, node, net, search)
+        visit_piece(tech, boxes, windows, pieces, node, net, search)
     } else {
         visit_cut(tech, boxes, pieces, node - count, net, search)
     }
@@ -100,14 +101,14 @@ fn visit_node(
 fn visit_piece(
     tech: &Tech,
     boxes: &[MaskBox],
-    index: &BoxIndex,
+    windows: &BoxTree,
     pieces: &Pieces,
     a: u32,
     net: u32,
     search: &mut Search,
 ) -> Result<(), AllocError>
     requires searchable { AreSearchable boxes.now }
-    requires indexed { index.now ≡ boxes.now }
+    requires windows { AreBoxesOn boxes.now NB windows.now }
     requires pieces { ArePiecesOf boxes.now pieces.now }
     requires search { IsSearch tech.now boxes.now pieces.now.placed.items search.old }
     requires in_range { a < length pieces.now.placed.items }
@@ -119,7 +120,7 @@ fn visit_piece(
     let over = near(&piece.area, -1, piece.box_no);
     reach_pieces(tech, boxes, pieces, layer, &touching, net, search)?;
     reach_cuts(tech, boxes, pieces, &over, net, search)?;
-    reach_partners(tech, boxes, index, pieces, piece.box_no, net, search)?;
+    reach_partners(tech, boxes, windows, pieces, piece.box_no, net, search)?;
     Ok(())
 }
 
@@ -198,14 +199,14 @@ fn reach_cuts(
 fn reach_partners(
     tech: &Tech,
     boxes: &[MaskBox],
-    index: &BoxIndex,
+    windows: &BoxTree,
     pieces: &Pieces,
     box_no: u32,
     net: u32,
     search: &mut Search,
 ) -> Result<(), AllocError>
     requires searchable { AreSearchable boxes.now }
-    requires indexed { index.now ≡ boxes.now }
+    requires windows { AreBoxesOn boxes.now NB windows.now }
     requires pieces { ArePiecesOf boxes.now pieces.now }
     requires search { IsSearch tech.now boxes.now pieces.now.placed.items search.old }
     requires in_range { box_no < length boxes.now }
@@ -219,7 +220,7 @@ fn reach_partners(
         MaskLayer::NP => reach_buried(
             tech,
             boxes,
-            index,
+            windows,
             placed,
             box_no,
             &mut search.under,
@@ -230,7 +231,7 @@ fn reach_partners(
         MaskLayer::ND => reach_buried(
             tech,
             boxes,
-            index,
+            windows,
             placed,
             box_no,
             &mut search.over,

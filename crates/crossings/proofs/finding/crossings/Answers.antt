@@ -12,7 +12,7 @@ returns-in-Bad-clause-fault c =
     let tech = c.args.tech.now in
     let boxes = c.args.boxes.now in
     let number = c.loop-number.number in
-    let bad = subst (StandsAs tech boxes number) c.in-Bad.is c.in_ok-other.ensures in
+    let bad = subst (StandsAs tech boxes number) c.in-Bad.is c.standing_of.ensures in
     first_bad tech boxes number c.in-Bad.other c.loop-number.invariant.1 bad.0 bad.1
 
 pub loop-number-preserved : goal.loop-number-preserved
@@ -22,10 +22,10 @@ loop-number-preserved c =
     let n = c.loop-number.number in
     let old = c.loop-number.crossings.items in
     let invariant = c.loop-number.invariant in
-    elim c.match-branch-3.branch [
+    elim c.match-standing_of.branch [
       | in-Crosses+then-pair-number+in_ok-add_crossing-in-Crosses w ↦
           let pair = w.in-Crosses.pair in
-          let crossed = subst (StandsAs tech boxes n) w.in-Crosses.is c.in_ok-other.ensures in
+          let crossed = subst (StandsAs tech boxes n) w.in-Crosses.is c.standing_of.ensures in
           let settled = crossed_settles tech boxes n pair.poly pair.diffusion w.in-Crosses.axis crossed in
           let only = λ (p : ℕ) (h : IsMeeting tech boxes p n).
           poly_meets tech boxes pair.poly pair.diffusion p crossed.meeting crossed.proper (subst (λ (k : ℕ). IsMeeting tech boxes p k) (sym w.if-pair-number.true) h) in
@@ -33,7 +33,7 @@ loop-number-preserved c =
           (subst (λ (v : Vec Crossing Global). AreCrossingsBelow tech boxes (n + 1) v.items) (sym w.crossings-is) below, settled_more tech boxes n invariant.1 settled)
       | in-Crosses+else-pair-number w ↦
           let pair = w.in-Crosses.pair in
-          let crossed = subst (StandsAs tech boxes n) w.in-Crosses.is c.in_ok-other.ensures in
+          let crossed = subst (StandsAs tech boxes n) w.in-Crosses.is c.standing_of.ensures in
           let settled = crossed_settles tech boxes n pair.poly pair.diffusion w.in-Crosses.axis crossed in
           let none = λ (p : ℕ) (h : IsMeeting tech boxes p n). elim crossed.one as (λ _. ⊥) [
             | inl at ↦ poly_no_diffusion tech boxes pair.poly pair.diffusion p n crossed.meeting h at
@@ -42,7 +42,7 @@ loop-number-preserved c =
           let below = below_skip tech boxes n old invariant.0 none in
           (subst (λ (v : Vec Crossing Global). AreCrossingsBelow tech boxes (n + 1) v.items) (sym w.crossings-is) below, settled_more tech boxes n invariant.1 settled)
       | in-Clear w ↦
-          let clear = subst (StandsAs tech boxes n) w.in-Clear.is c.in_ok-other.ensures in
+          let clear = subst (StandsAs tech boxes n) w.in-Clear.is c.standing_of.ensures in
           let below = below_skip tech boxes n old invariant.0 (λ p h. clear p (inr h)) in (
             subst (λ (v : Vec Crossing Global). AreCrossingsBelow tech boxes (n + 1) v.items) (sym w.crossings-is) below,
             settled_more tech boxes n invariant.1 (clear_settles tech boxes n clear),

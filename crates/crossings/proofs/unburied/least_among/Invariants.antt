@@ -1,6 +1,7 @@
 use Rattle.crossings.specs.Pairs.{Least, Meets}
 use Rattle.crossings.proofs.Counts.{FirstWith}
+use Rattle.crossings.proofs.SpotBoxes.{owners}
 use Rattle.crossings.proofs.unburied.least_among.Given as goal
 
-abbrev pub invariant-loop-other : goal.invariant-loop-other
-invariant-loop-other l = Least (FirstWith l.others l.other-index (Meets l.tech l.boxes l.number)) l.least
+abbrev pub invariant-loop-spot : goal.invariant-loop-spot
+invariant-loop-spot l = Least (FirstWith (owners l.spots) l.spot-index (Meets l.tech l.boxes l.number)) l.least

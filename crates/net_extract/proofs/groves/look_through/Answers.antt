@@ -20,8 +20,8 @@ loop-place-preserved c =
     let w = c.requires.within in
     let le = c.loop-place.auto.place in
     let lt : p < length plan.order.items = omega arith in
-    let spot = c.index-in-loop-place.result.now in
-    let is : spot_in plan p ≡ spot = sym (spot_read plan.spots.items plan.order.items p spot c.requires.plan.order_of.below lt (c.index-in-loop-place.ensures ∙ ap (λ (n : ℕ). get_or plan.spots.items n spot) (get_or_read plan.order.items p c.index.result.now lt c.index.ensures 0))) in
+    let spot = c.index-spot.result.now in
+    let is : spot_in plan p ≡ spot = sym (spot_read plan.spots.items plan.order.items p spot c.requires.plan.order_of.below lt (c.index-spot.ensures ∙ ap (λ (n : ℕ). get_or plan.spots.items n spot) (get_or_read plan.order.items p c.index.result.now lt c.index.ensures 0))) in
     let inv = c.loop-place.invariant in
     record {
       so_far = omega arith;

@@ -30,7 +30,7 @@ spread-requires c =
     let lt = c.requires.in_range in
     record {
       searchable = c.requires.searchable;
-      indexed = c.requires.indexed;
+      windows = c.requires.windows;
       pieces = c.requires.pieces;
       search = c.requires.search;
       in_range = c.requires.in_range;

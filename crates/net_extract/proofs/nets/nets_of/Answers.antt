@@ -23,7 +23,7 @@ net_of-requires c =
     let t = c.loop-a-test.true in
     record {
       searchable = c.requires.searchable;
-      indexed = c.requires.indexed;
+      windows = c.in_ok-windows.ensures;
       pieces = c.requires.pieces;
       search = c.loop-a.invariant.search;
       whole = c.loop-a.invariant.numbering.whole;

@@ -6,7 +6,7 @@ use Rattle.net_extract.specs.Linking.{IsPairWith}
 use Rattle.net_extract.specs.Pieces.{no_piece}
 use Rattle.net_extract.proofs.Steps.{pair_more}
 use Rattle.net_extract.proofs.reaching.keep_buried.Goals as goal
-use Rattle.net_extract.proofs.reaching.keep_buried.Goals.{then-branch+in_ok-push, else-branch}
+use Rattle.net_extract.proofs.reaching.keep_buried.Goals.{then-is_pair_with+in_ok-push, else-is_pair_with}
 
 pub loop-y-preserved : goal.loop-y-preserved
 loop-y-preserved c =
@@ -22,9 +22,9 @@ loop-y-preserved c =
     let read = get_or_default placed y c.index-placed-y.result no_piece within in
     let Is : Placed → Type 0 = λ piece. IsPairWith tech boxes c.args.box_no piece.box_no in
     let No : Placed → Type 0 = λ piece. IsPairWith tech boxes c.args.box_no piece.box_no → ⊥ in
-    pair_more tech boxes placed c.args.box_no numbers i c.args.kept.now.items c.loop-y.kept.items c.if-branch.kept.items lt
-    (elim c.if-branch.branch [
-      | then-branch+in_ok-push w ↦ inl (subst Is read (c.in_ok-is_pair_with.ensures.0 w.if-branch.true), ap (λ (x : Vec ℕ Global). x.items) w.kept-is ∙ w.in_ok-push.ensures.items)
-      | else-branch w ↦ inr (subst No read (iff_false c.in_ok-is_pair_with.ensures w.if-branch.false), ap (λ (x : Vec ℕ Global). x.items) w.kept-is)
+    pair_more tech boxes placed c.args.box_no numbers i c.args.kept.now.items c.loop-y.kept.items c.if-is_pair_with.kept.items lt
+    (elim c.if-is_pair_with.branch [
+      | then-is_pair_with+in_ok-push w ↦ inl (subst Is read (c.is_pair_with.ensures.0 w.if-is_pair_with.true), ap (λ (x : Vec ℕ Global). x.items) w.kept-is ∙ w.in_ok-push.ensures.items)
+      | else-is_pair_with w ↦ inr (subst No read (iff_false c.is_pair_with.ensures w.if-is_pair_with.false), ap (λ (x : Vec ℕ Global). x.items) w.kept-is)
     ])
     c.loop-y.invariant

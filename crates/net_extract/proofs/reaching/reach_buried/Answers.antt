@@ -17,7 +17,7 @@ keep_buried-requires c =
     let spots = c.args.grove.now.plan.spots.items in
     record {
       searchable = c.requires.searchable;
-      indexed = c.requires.indexed;
+      windows = c.requires.windows;
       placed = c.requires.placed;
       box_no = c.requires.box_no;
       numbers = found_within spots c.args.query.now c.as_slice-marks.result.now (length c.args.placed.now) c.unreached.new.found.items c.as_slice.result.now c.as_slice.ensures.value c.requires.tags c.in_ok-unreached.ensures.found;

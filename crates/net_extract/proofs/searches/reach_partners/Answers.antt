@@ -24,7 +24,7 @@ reach_buried-requires c =
     let T : List Placed → Type 0 = λ ps. AreTagsWithin (length ps) grove.plan.spots.items in
     record {
       searchable = c.requires.searchable;
-      indexed = c.requires.indexed;
+      windows = c.requires.windows;
       placed = all_of_boxes boxes c.args.pieces.now.crossings.items pieces c.as_slice-placed.result.now c.args.pieces.now.starts.items c.as_slice-placed.ensures.value c.requires.pieces;
       box_no = c.requires.in_range;
       grove = c.requires.search.under.stands;
@@ -61,7 +61,7 @@ reach_buried-requires-in-ND c =
     let T : List Placed → Type 0 = λ ps. AreTagsWithin (length ps) grove.plan.spots.items in
     record {
       searchable = c.requires.searchable;
-      indexed = c.requires.indexed;
+      windows = c.requires.windows;
       placed = all_of_boxes boxes c.args.pieces.now.crossings.items pieces c.as_slice-placed.result.now c.args.pieces.now.starts.items c.as_slice-placed.ensures.value c.requires.pieces;
       box_no = c.requires.in_range;
       grove = c.requires.search.over.stands;

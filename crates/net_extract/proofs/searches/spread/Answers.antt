@@ -39,7 +39,7 @@ visit_node-requires c =
     let P : ℕ → Type 0 = IsNode boxes pieces in
     record {
       searchable = c.requires.searchable;
-      indexed = c.requires.indexed;
+      windows = c.requires.windows;
       pieces = c.requires.pieces;
       search = c.loop-passed.invariant.search;
       node = subst P (sym read)

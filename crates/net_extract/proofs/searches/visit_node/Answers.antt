@@ -9,7 +9,7 @@ pub visit_piece-requires : goal.visit_piece-requires
 visit_piece-requires c =
     let n = c.len-count.ensures in
     let t = c.if-node-count.true in
-    record { searchable = c.requires.searchable; indexed = c.requires.indexed; pieces = c.requires.pieces; search = c.requires.search; in_range = omega (arith, c.args.pieces.now.placed.ok.0) }
+    record { searchable = c.requires.searchable; windows = c.requires.windows; pieces = c.requires.pieces; search = c.requires.search; in_range = omega (arith, c.args.pieces.now.placed.ok.0) }
 
 pub visit_cut-requires : goal.visit_cut-requires
 visit_cut-requires c =

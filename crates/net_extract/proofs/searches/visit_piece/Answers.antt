@@ -55,7 +55,7 @@ reach_partners-requires c =
     let is : piece ≡ piece_at pieces a = piece_read pieces a piece c.requires.in_range c.index.ensures in
     record {
       searchable = c.requires.searchable;
-      indexed = c.requires.indexed;
+      windows = c.requires.windows;
       pieces = c.requires.pieces;
       search = c.in_ok-reach_cuts.ensures.search;
       in_range = in_boxes boxes c.args.pieces.now.crossings.items pieces c.args.pieces.now.starts.items a piece c.requires.pieces c.requires.in_range is;
