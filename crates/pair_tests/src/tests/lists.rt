@@ -6,7 +6,6 @@ use super::breaks::RULES;
 use super::made::made;
 use super::netlists::Sheet;
 use super::shapes::boxes_of;
-use box_index::BoxIndex;
 use crossings::{CrossingFault, crossings};
 use flat_check::{Rule, first_break};
 use lam_geom::MaskBox;
@@ -41,8 +40,7 @@ fn assert_crossings<A: Abort>(
 ) -> Result<(), Fail>
     requires { AreSearchable boxes.now }
 {
-    let index = BoxIndex::new(alloc, boxes)?;
-    let (found, bad_pair) = match crossings(alloc, tech, boxes, &index) {
+    let (found, bad_pair) = match crossings(alloc, tech, boxes) {
         Ok(found) => (found, None),
         Err(CrossingFault::NotProper(a, b)) => (Vec::new(alloc), Some((a, b))),
         Err(CrossingFault::OutOfMemory) => return Err(AllocError)?,
