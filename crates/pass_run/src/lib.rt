@@ -9,13 +9,18 @@ mod edges;
 mod finding;
 mod laws;
 mod layouts;
+mod least;
 mod pass;
 mod passes;
 mod step;
 mod text;
 
+pub use edges::{Listed, list};
 pub use laws::{
-    meeting_stays_laid_out, mosts_are_determined, passes_are_determined, refusals_are_determined,
+    meeting_stays_laid_out, mosts_are_determined, passes_are_determined, passes_lead_to_one_place,
+    pruning_loses_nothing, refusals_are_determined,
 };
+pub use layouts::starts;
+pub use least::{lead_on, with_values};
 pub use passes::{PassFault, Passes, run_passes};
 pub use step::{Step, Walk};
