@@ -38,6 +38,10 @@ LeadTo tech plan masters [] before after = after ≡ before
 LeadTo tech plan masters (axis ∷ axes) before after =
     (x : List ℤ) × AreLeastValues tech plan masters before axis x × LeadTo tech plan masters axes (with_values axis masters before x) after
 
+-- they lead to no layouts, as one of them has no values
+abbrev pub LeadNowhere : Tech → Plan → List Master → List Axis → List Coords → Type 0
+LeadNowhere tech plan masters axes before = (after : List Coords) → LeadTo tech plan masters axes before after → ⊥
+
 -- After least values another pass may be made over the layouts, which meet the plan on each axis that has had a pass.
 pub record StaySettled (tech : Tech) (plan : Plan) (masters : List Master) (before : List Coords) (axis : Axis) (after : List Coords) : Type 0 where
   pub laid : AreLaidOut tech masters after
