@@ -1,4 +1,3 @@
-use Rattle.std.specs.Prelude.{IfOk}
 use Rattle.std.proofs.lemmas.Result.{IfOk-weaker}
 use Rattle.pass_run.proofs.Leading.{stay_settled}
 use Rattle.pass_run.proofs.least.with_values.Goals as goal
