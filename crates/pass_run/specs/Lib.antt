@@ -5,6 +5,7 @@ pub mod Passes
 pub mod Report
 pub mod Theorems
 pub mod PassFaults
+pub mod Least
 pub mod Laid
 pub mod Meeting
 pub mod Pruning

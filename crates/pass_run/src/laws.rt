@@ -8,6 +8,8 @@ ghost use Rattle.pass_run.specs.PassFaults.{AreRefusedInOneWay};
 ghost use Rattle.pass_run.specs.Slack.{HasOneMost};
 ghost use Rattle.std.specs.Prelude.{List, All};
 ghost use Rattle.pass_run.specs.Meeting.{MeetingStays};
+ghost use Rattle.pass_run.specs.Least.{LeadToOnePlace};
+ghost use Rattle.pass_run.specs.Pruning.{PruningLosesNothing};
 
 use expand::{Master, master_is_lawful};
 use plan_model::Plan;
@@ -47,4 +49,18 @@ pub fn refusals_are_determined(tech: &Tech, plan: &Plan, masters: &[Master])
 /// A law, with nothing to run: the greatest values after a pass over some layouts are determined.
 pub fn mosts_are_determined(tech: &Tech, plan: &Plan, masters: &[Master], before: &[Coords])
     ensures { HasOneMost tech.now plan.now masters.now before.now }
+{}
+
+/// A law, with nothing to run: over layouts that give every item a box the list of a pass has the solutions of its system.
+pub fn pruning_loses_nothing(tech: &Tech, plan: &Plan, masters: &[Master])
+    requires { All (IsMaster tech.now) masters.now }
+    ensures { PruningLosesNothing tech.now plan.now masters.now }
+{
+    masters_are_lawful(tech, masters);
+}
+
+/// A law, with nothing to run: passes on some axes lead to one place at most, which is where made passes lead, and no refusal but want of
+/// memory comes where they lead to a place from the start layouts.
+pub fn passes_lead_to_one_place(tech: &Tech, plan: &Plan, masters: &[Master])
+    ensures { LeadToOnePlace tech.now plan.now masters.now }
 {}

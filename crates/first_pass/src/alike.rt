@@ -1,0 +1,1 @@
+//! Whether masters differ in their limits alone.

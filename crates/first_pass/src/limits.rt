@@ -1,0 +1,1 @@
+//! The inequalities of limits over joint variables.
