@@ -10,10 +10,10 @@ ghost use Rattle.first_pass.specs.First.{IsFirstPass};
 ghost use Rattle.first_pass.specs.Limits.{joint_limits};
 
 use crate::alike::{ask_alike, differ_in_limits};
+use crate::bared::stripped;
 use crate::following::follow;
 use crate::limits::joint_limits;
 use crate::shown::shown_least;
-use crate::bared::stripped;
 use cons_graph::Edge;
 use edit_session::Session;
 use expand::Master;
@@ -67,9 +67,7 @@ impl FirstPass {
     {
         let masters = stripped(alloc, masters)?;
         let starts = starts(alloc, tech, &masters)?;
-        let listed = match list(
-            rt, alloc, gate, axis, tech, &plan, &masters, &starts, 1,
-        ) {
+        let listed = match list(rt, alloc, gate, axis, tech, &plan, &masters, &starts, 1) {
             Ok(listed) => listed,
             Err(KeptFault::TooMany) => return Ok(None),
             Err(KeptFault::OutOfMemory) => return Err(AllocError),
@@ -118,7 +116,13 @@ impl FirstPass {
             return Ok(None);
         }
         let limits = joint_limits(alloc, self.axis, tech, masters, self.base.as_slice())?;
-        if !follow(&mut self.session, self.listed, &mut self.places, &self.limits, &limits)? {
+        if !follow(
+            &mut self.session,
+            self.listed,
+            &mut self.places,
+            &self.limits,
+            &limits,
+        )? {
             return Ok(None);
         }
         self.limits = limits;
@@ -147,9 +151,7 @@ impl FirstPass {
             return Ok(None);
         };
         let base = self.base.as_slice();
-        let layouts = with_values(
-            alloc, tech, plan, masters, &self.starts, base, self.axis, x,
-        )?;
+        let layouts = with_values(alloc, tech, plan, masters, &self.starts, base, self.axis, x)?;
         Ok(Some(layouts))
     }
 }

@@ -13,5 +13,4 @@ mod following;
 mod limits;
 mod shown;
 
-
 pub use first::FirstPass;
