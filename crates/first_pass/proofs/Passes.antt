@@ -1,6 +1,7 @@
 -- The first pass of masters that differ from those of a first pass in their limits alone.
 use Rattle.std.proofs.Common.{◌≡◌, ℕ, ◌≤◌, ℤ, List, [], ◌∷◌, ◌++◌, length, take, refl, sym, ap, ◌∙◌, subst, arith}
 use Rattle.std.specs.List.{All}
+use Rattle.std.specs.Prelude.{◌^◌}
 use Rattle.std.proofs.lemmas.List.Elements.{All-map, All-weaker}
 use Rattle.std.proofs.Math.Seq.{take-length}
 use Rattle.lam_geom.specs.declared.boxes.Axis.{Axis}
@@ -15,6 +16,7 @@ use Rattle.pair_rules.specs.Clean.{IsClean}
 use Rattle.plan_model.specs.declared.plan.Plan.{Plan}
 use Rattle.pitch_join.specs.Masters.{ArePlanned}
 use Rattle.pitch_join.specs.Joined.{bases_of, joint_variables, list_over, system_over}
+use Rattle.pitch_join.proofs.Bases.{planned_few, planned_joined}
 use Rattle.pitch_join.proofs.Lists.{of_images}
 use Rattle.pass_run.specs.Alike.{HaveSameSolutions, most_edges}
 use Rattle.pass_run.specs.Laid.{AreLaidOut, StartsClean}
@@ -26,7 +28,7 @@ use Rattle.pass_run.proofs.Going.{starts_laid}
 use Rattle.pass_run.proofs.Settled.{boxes_of}
 use Rattle.first_pass.specs.declared.first.FirstPass.{FirstPass}
 use Rattle.first_pass.specs.Bare.{bare, bare_of, AskAlike}
-use Rattle.first_pass.specs.First.{IsFirstPass}
+use Rattle.first_pass.specs.First.{AreMore, IsFirstPass}
 use Rattle.first_pass.specs.Following.{Stays, listed_with}
 use Rattle.first_pass.specs.Limits.{joint_limits}
 use Rattle.first_pass.proofs.Cells.{start_kept}
@@ -88,14 +90,21 @@ first_stays tech first after is stays same =
       begins = stays.begins ∙ is.begins;
     })
 
--- ---- masters with limits
+pub more_stays : (tech : Tech) (plan : Plan) (masters : List Master) (first after : FirstPass) → AreMore tech plan masters first → Stays first.listed first.session after.session
+    → after ≡ record first { session = after.session; limits = after.limits; places = after.places } → AreMore tech plan masters after
+more_stays tech plan masters first after more stays same =
+    subst (λ (f : FirstPass). AreMore tech plan masters f) (sym same) (record {
+      is_first = first_stays tech first (record first { session = after.session; limits = after.limits; places = after.places }) more.is_first stays refl;
+      planned = more.planned;
+      ask = more.ask;
+      bared = more.bared;
+    })
 
--- masters that differ from those of a first pass in their limits alone
-pub record AreMore (tech : Tech) (plan : Plan) (masters : List Master) (first : FirstPass) : Type 0 where
-  pub is_first : IsFirstPass tech first
-  pub planned : ArePlanned tech plan masters
-  pub ask : AskAlike first.axis plan first.plan
-  pub bared : bare_of masters ≡ first.masters.items
+-- the joint variables are few
+pub few_joint : (tech : Tech) (plan : Plan) (masters : List Master) (axis : Axis) → ArePlanned tech plan masters → joint_variables axis masters ≤ 2 ^ 17
+few_joint tech plan masters axis planned = (planned_joined tech plan masters planned).few axis
+
+-- ---- masters with limits
 
 pub clean_of : (tech : Tech) (plan : Plan) (masters : List Master) (first : FirstPass) → AreMore tech plan masters first → All (StartsClean tech) masters
 clean_of tech plan masters first more = clean_before tech masters (subst (λ (ms : List Master). All (StartsClean tech) ms) (sym more.bared) more.is_first.clean)
@@ -181,3 +190,21 @@ leads tech plan masters first x layouts more least is =
 pub settles : (tech : Tech) (plan : Plan) (masters : List Master) (first : FirstPass) (layouts : List Coords) → AreMore tech plan masters first
     → StaySettled tech plan masters first.starts.items first.axis layouts → StaySettled tech plan masters (starts_of tech masters) first.axis layouts
 settles tech plan masters first layouts more stay = subst (λ (ls : List Coords). StaySettled tech plan masters ls first.axis layouts) (starts_are tech plan masters first more) stay
+
+-- ---- a new one
+
+pub first_made : (tech : Tech) (first : FirstPass) (graph : Constraints) → AreBared tech first.plan first.masters.items → first.starts.items ≡ starts_of tech first.masters.items
+    → first.base ≡ bases_of first.axis first.masters.items → first.session ≡ graph → graph.vars ≡ joint_variables first.axis first.masters.items
+    → graph.edges ≡ list_over first.axis tech first.plan first.masters.items first.starts.items → first.listed ≡ length graph.edges → IsFirstPass tech first
+first_made tech first graph are starts bases same vars edges listed =
+    let n : length first.session.edges ≡ length graph.edges = ap (λ (z : Constraints). length z.edges) same in
+    record {
+      planned = are.planned;
+      are_bare = are.are_bare;
+      clean = are.clean;
+      starts = starts;
+      bases = bases;
+      vars = ap (λ (z : Constraints). z.vars) same ∙ vars;
+      within = omega arith;
+      begins = ap (λ k. take k first.session.edges) (listed ∙ sym n) ∙ (take-length first.session.edges ∙ (ap (λ (z : Constraints). z.edges) same ∙ edges));
+    }

@@ -1,12 +1,11 @@
 //! The first pass.
 
-ghost use Rattle.std.specs.Prelude.{◌≡◌, [], ◌∷◌, All, IfOk, IfSome, OnOk};
+ghost use Rattle.std.specs.Prelude.{◌≡◌, true, [], ◌∷◌, All, IfOk, IfSome, OnOk};
 ghost use Rattle.pitch_join.specs.Masters.{ArePlanned};
 ghost use Rattle.pass_run.specs.Laid.{StartsClean};
 ghost use Rattle.pass_run.specs.Layouts.{starts_of};
 ghost use Rattle.pass_run.specs.Least.{LeadTo, StaySettled};
-ghost use Rattle.first_pass.specs.Bare.{AskAlike, bare_of};
-ghost use Rattle.first_pass.specs.First.{IsFirstPass};
+ghost use Rattle.first_pass.specs.First.{AreMore, IsFirstPass};
 ghost use Rattle.first_pass.specs.Limits.{joint_limits};
 
 use crate::alike::{ask_alike, differ_in_limits};
@@ -110,23 +109,44 @@ impl FirstPass {
         ensures lead { OnOk result (IfOk result (λ o. IfSome o (λ layouts. LeadTo tech.now plan.now masters.now (self.old.axis ∷ []) (starts_of tech.now masters.now) layouts.items))) }
         ensures settled { OnOk result (IfOk result (λ o. IfSome o (λ layouts. StaySettled tech.now plan.now masters.now (starts_of tech.now masters.now) self.old.axis layouts.items))) }
     {
-        if !ask_alike(self.axis, plan, &self.plan)
-            || !differ_in_limits(tech, masters, &self.masters)
-        {
+        if !self.is_like(tech, plan, masters) || !self.brought_to(alloc, tech, plan, masters)? {
             return Ok(None);
         }
+        self.moved(alloc, tech, plan, masters)
+    }
+
+    // Whether a plan asks the same, and masters differ in their limits alone.
+    fn is_like(&self, tech: &Tech, plan: &Plan, masters: &[Master]) -> bool
+        requires first { IsFirstPass tech.now self.now }
+        requires planned { ArePlanned tech.now plan.now masters.now }
+        ensures { result ≡ true → AreMore tech.now plan.now masters.now self.now }
+    {
+        ask_alike(self.axis, plan, &self.plan) && differ_in_limits(tech, masters, &self.masters)
+    }
+
+    // Brings the session to the limits of masters; gives false where that does not go.
+    fn brought_to(
+        &mut self,
+        alloc: Global,
+        tech: &Tech,
+        plan: &Plan,
+        masters: &[Master],
+    ) -> Result<bool, AllocError>
+        requires more { AreMore tech.now plan.now masters.now self.old }
+        ensures axis { OnOk result (self.new.axis ≡ self.old.axis) }
+        ensures more { OnOk result (AreMore tech.now plan.now masters.now self.new) }
+        ensures limits { IfOk result (λ done. done ≡ true → self.new.limits.items ≡ joint_limits self.old.axis masters.now) }
+    {
         let limits = joint_limits(alloc, self.axis, tech, masters, self.base.as_slice())?;
-        if !follow(
+        let done = follow(
             &mut self.session,
             self.listed,
             &mut self.places,
             &self.limits,
             &limits,
-        )? {
-            return Ok(None);
-        }
+        )?;
         self.limits = limits;
-        self.moved(alloc, tech, plan, masters)
+        Ok(done)
     }
 
     // The layouts after the pass of masters with the limits that the session follows.
@@ -137,12 +157,9 @@ impl FirstPass {
         plan: &Plan,
         masters: &[Master],
     ) -> Result<Option<Vec<Coords>>, AllocError>
-        requires first { IsFirstPass tech.now self.now }
-        requires planned { ArePlanned tech.now plan.now masters.now }
-        requires ask { AskAlike self.now.axis plan.now self.now.plan }
-        requires masters { bare_of masters.now ≡ self.now.masters.items }
+        requires more { AreMore tech.now plan.now masters.now self.now }
         requires limits { self.now.limits.items ≡ joint_limits self.now.axis masters.now }
-        ensures clean { All (StartsClean tech.now) masters.now }
+        ensures clean { IfOk result (λ o. IfSome o (λ _. All (StartsClean tech.now) masters.now)) }
         ensures lead { IfOk result (λ o. IfSome o (λ layouts. LeadTo tech.now plan.now masters.now (self.now.axis ∷ []) (starts_of tech.now masters.now) layouts.items)) }
         ensures settled { IfOk result (λ o. IfSome o (λ layouts. StaySettled tech.now plan.now masters.now (starts_of tech.now masters.now) self.now.axis layouts.items)) }
     {
