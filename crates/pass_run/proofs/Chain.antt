@@ -79,6 +79,17 @@ last_first axes last axis h =
       | inr own ↦ Contains-append_left (last ∷ []) axes axis own
     ]
 
+pub first_later : (first : Axis) (later had : List Axis) (axis : Axis) → Contains ((first ∷ later) ++ had) axis → Contains (later ++ first ∷ had) axis
+first_later first later had axis h =
+    elim (Contains-append_cases (first ∷ []) (later ++ had) axis h) [
+      | inl own ↦ Contains-append_right later (first ∷ had) axis (Contains-append_left (first ∷ []) had axis own)
+      | inr more ↦
+          elim (Contains-append_cases later had axis more) [
+            | inl among ↦ Contains-append_left later (first ∷ had) axis among
+            | inr old ↦ Contains-append_right later (first ∷ had) axis (Contains-append_right (first ∷ []) had axis old)
+          ]
+    ]
+
 -- on no axis is anything settled
 pub none_settled : (tech : Tech) (plan : Plan) (masters : List Master) (layouts : List Coords) → AreSettled tech plan masters [] layouts
 none_settled tech plan masters layouts = record { met = λ axis h. absurd (none_among axis h); long = λ axis h. absurd (none_among axis h) }

@@ -24,7 +24,7 @@ use Rattle.pass_run.specs.Slack.{HasOneMost}
 use Rattle.pass_run.specs.Passes.{kept_counts, far_walks, IsLeastPass, IsRecorded, ArePasses, axes_of}
 
 -- least values are one list
-one_least : (vars : ℕ) (system : List Edge) (x y : List ℤ) → length x ≡ vars → length y ≡ vars → IsLeastSolution vars system (value_of x) → IsLeastSolution vars system (value_of y) → x ≡ y
+pub one_least : (vars : ℕ) (system : List Edge) (x y : List ℤ) → length x ≡ vars → length y ≡ vars → IsLeastSolution vars system (value_of x) → IsLeastSolution vars system (value_of y) → x ≡ y
 one_least vars system x y n m a b = ext_get_or (pos 0) x y (n ∙ sym m) (λ v lt.
     let below = a.below (value_of y) b.solves v (omega (arith, n, lt)) in
     let above = b.below (value_of x) a.solves v (omega (arith, n, lt)) in

@@ -15,6 +15,7 @@ pub mod Texts
 pub mod Chain
 pub mod Determined
 pub mod OneRefusal
+pub mod Leading
 mod FoundPairs
 pub mod Reach
 pub mod Tight

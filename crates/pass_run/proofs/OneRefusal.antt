@@ -23,7 +23,7 @@ use Rattle.pass_run.specs.PassFaults.{IsSolvable, AreSolvable, ComesTo, HasManyE
 use Rattle.pass_run.proofs.Determined.{one_pass}
 
 -- a pass that is made has values
-made_solvable : (tech : Tech) (plan : Plan) (masters : List Master) (c : List Coords) (s : Step) → IsLeastPass tech plan masters c s → IsRecorded tech plan masters c s → IsSolvable tech plan masters c s.axis
+pub made_solvable : (tech : Tech) (plan : Plan) (masters : List Master) (c : List Coords) (s : Step) → IsLeastPass tech plan masters c s → IsRecorded tech plan masters c s → IsSolvable tech plan masters c s.axis
 made_solvable tech plan masters c s least recorded = record {
   few = let few = recorded.few in let e = recorded.edges in omega (arith, few, e);
   acyclic = λ cycle. positive_cycle_excludes _ cycle.0 (value_of s.x) cycle.1 least.least.solves;
@@ -33,7 +33,7 @@ pub passes_solvable : (tech : Tech) (plan : Plan) (masters : List Master) (befor
 passes_solvable tech plan masters before [] made = tt
 passes_solvable tech plan masters before (s ∷ steps) made = (made_solvable tech plan masters before s made.0 made.1, passes_solvable tech plan masters (moved_by masters before s) steps made.2)
 
-many_unsolvable : (tech : Tech) (plan : Plan) (masters : List Master) (c : List Coords) (axis : Axis) → most_edges < length (list_over axis tech plan masters c) → IsSolvable tech plan masters c axis → ⊥
+pub many_unsolvable : (tech : Tech) (plan : Plan) (masters : List Master) (c : List Coords) (axis : Axis) → most_edges < length (list_over axis tech plan masters c) → IsSolvable tech plan masters c axis → ⊥
 many_unsolvable tech plan masters c axis many s = let few = s.few in omega (arith, many, few)
 
 -- where passes come to one without values, no passes are made on all axes
@@ -88,7 +88,7 @@ one_text tech plan masters c pass axis s t a b =
     let cycle : a.cycle ≡ b.cycle = has_one_cycle listed a.order a.cycle b.cycle a.stops (subst C (sym order) b.stops) in
     a.says ∙ ap (cycle_text (joint_names axis masters) listed pass axis) cycle ∙ sym b.says
 
-cyclic_unsolvable : (tech : Tech) (plan : Plan) (masters : List Master) (c : List Coords) (pass : ℕ) (axis : Axis) (text : List ℕ) → IsCyclicOver tech plan masters c pass axis text → IsSolvable tech plan masters c axis → ⊥
+pub cyclic_unsolvable : (tech : Tech) (plan : Plan) (masters : List Master) (c : List Coords) (pass : ℕ) (axis : Axis) (text : List ℕ) → IsCyclicOver tech plan masters c pass axis text → IsSolvable tech plan masters c axis → ⊥
 cyclic_unsolvable tech plan masters c pass axis text cyclic s = s.acyclic cyclic.cyclic
 
 -- a pass with too many inequalities and one with a cycle do not both come

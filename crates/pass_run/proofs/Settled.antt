@@ -27,15 +27,15 @@ use Rattle.pitch_join.specs.Meeting.{MeetsPlan, HaveBoxes}
 use Rattle.pitch_join.proofs.Bases.{var_within}
 use Rattle.pitch_join.proofs.Solving.{joining_meets}
 use Rattle.pair_chains.proofs.Pruning.{candidates_apart}
-use Rattle.pass_run.specs.declared.step.Step.{Step}
 use Rattle.pass_run.specs.Laid.{IsLaidOut, AreLaidOut, AreSettled}
-use Rattle.pass_run.specs.Layouts.{joint_values, local_values, moved_by}
+use Rattle.pass_run.specs.Layouts.{joint_values, local_values}
+use Rattle.pass_run.specs.Least.{with_values}
 use Rattle.pass_run.specs.Meeting.{IsNextFor}
 use Rattle.pass_run.specs.Theorems.{AreWellPlaced}
 use Rattle.pass_run.proofs.Alike.{AgreeOn, structure_alike, pairs_alike, layouts_meet, plan_met}
 use Rattle.pass_run.proofs.Moved.{stays}
 use Rattle.pass_run.proofs.Pairs.{candidates_among, kept_pairs_among}
-use Rattle.pass_run.proofs.Values.{joint_at, local_length, local_at, moved_layout, moved_counted}
+use Rattle.pass_run.proofs.Values.{joint_at, local_length, local_at, layout_with, layouts_counted}
 
 -- ---- the values of a solution
 
@@ -77,14 +77,14 @@ next_of axis tech plan masters before x m lawful laid values lt =
 
 -- ---- after a pass
 
-pub laid_next : (tech : Tech) (plan : Plan) (masters : List Master) (before : List Coords) (step : Step) → All (IsLawful tech) masters → AreLaidOut tech masters before
-    → SolvesPass step.axis tech plan masters before step.x → AreLaidOut tech masters (moved_by masters before step)
-laid_next tech plan masters before step lawful laid values = record {
-  counted = moved_counted masters before step;
+pub laid_next : (axis : Axis) (tech : Tech) (plan : Plan) (masters : List Master) (before : List Coords) (x : List ℤ) → All (IsLawful tech) masters → AreLaidOut tech masters before
+    → SolvesPass axis tech plan masters before x → AreLaidOut tech masters (with_values axis masters before x)
+laid_next axis tech plan masters before x lawful laid values = record {
+  counted = layouts_counted axis masters before x;
   each = λ m lt.
       let L : Coords → Type 0 = IsLaidOut tech (master_at masters m) in
-      let next = next_of step.axis tech plan masters before step.x m lawful laid values lt in
-      subst L (sym (moved_layout masters before step m lt)) (stays step.axis tech (master_at masters m) (layout_at before m) _ (lawful m no_master lt) (laid.each m lt) next).laid;
+      let next = next_of axis tech plan masters before x m lawful laid values lt in
+      subst L (sym (layout_with axis masters before x m lt)) (stays axis tech (master_at masters m) (layout_at before m) _ (lawful m no_master lt) (laid.each m lt) next).laid;
 }
 
 -- the values of the axis of a pass, and of the other
@@ -109,16 +109,16 @@ had_before : (axis a : Axis) (had : List Axis) → (axis ≡ a → ⊥) → Cont
 had_before axis a had differ (zero, lt, e) = absurd (differ e)
 had_before axis a had differ (suc k, lt, e) = (k, omega arith, e)
 
-met_next : (tech : Tech) (plan : Plan) (masters : List Master) (before : List Coords) (step : Step) → ArePlanned tech plan masters → All (IsLawful tech) masters
-    → SolvesPass step.axis tech plan masters before step.x → LayoutsMeet step.axis tech plan masters (moved_by masters before step)
-met_next tech plan masters before step planned lawful values =
-    let axis : Axis = step.axis in
-    let met = ((joining_meets tech plan masters).of_list axis before (value_of step.x)).0 values.solves in
-    let agree : AgreeOn axis masters (moved_by masters before step) (value_of step.x) = λ m v lt own.
-    let now : values_along axis (layout_at (moved_by masters before step) m) ≡ local_values axis masters m step.x =
-    ap (values_along axis) (moved_layout masters before step m lt) ∙ along_moved axis (layout_at before m) (local_values axis masters m step.x) in
-    sym (local_at axis masters m v step.x own) ∙ ap (λ vs. value_of vs v) (sym now) in
-    layouts_meet axis tech plan masters (moved_by masters before step) (value_of step.x) planned lawful agree met.0
+met_next : (axis : Axis) (tech : Tech) (plan : Plan) (masters : List Master) (before : List Coords) (x : List ℤ) → ArePlanned tech plan masters → All (IsLawful tech) masters
+    → SolvesPass axis tech plan masters before x → LayoutsMeet axis tech plan masters (with_values axis masters before x)
+met_next axis tech plan masters before x planned lawful values =
+    let now : List Coords = with_values axis masters before x in
+    let met = ((joining_meets tech plan masters).of_list axis before (value_of x)).0 values.solves in
+    let agree : AgreeOn axis masters now (value_of x) = λ m v lt own.
+    let own_are : values_along axis (layout_at now m) ≡ local_values axis masters m x =
+    ap (values_along axis) (layout_with axis masters before x m lt) ∙ along_moved axis (layout_at before m) (local_values axis masters m x) in
+    sym (local_at axis masters m v x own) ∙ ap (λ vs. value_of vs v) (sym own_are) in
+    layouts_meet axis tech plan masters now (value_of x) planned lawful agree met.0
 
 -- the values of some layouts agree with them, and meet the plan where they do
 joint_meets : (axis : Axis) (tech : Tech) (plan : Plan) (masters : List Master) (before : List Coords) → ArePlanned tech plan masters → All (IsLawful tech) masters
@@ -126,25 +126,26 @@ joint_meets : (axis : Axis) (tech : Tech) (plan : Plan) (masters : List Master) 
 joint_meets axis tech plan masters before planned lawful laid met =
     plan_met axis tech plan masters before (value_of (joint_values axis before)) planned lawful (λ m v lt own. joint_at axis tech masters before m v laid lt own) refl met
 
-met_still : (a : Axis) (tech : Tech) (plan : Plan) (masters : List Master) (before : List Coords) (step : Step) → ArePlanned tech plan masters → All (IsLawful tech) masters
-    → AreLaidOut tech masters before → (step.axis ≡ a → ⊥) → LayoutsMeet a tech plan masters before → LayoutsMeet a tech plan masters (moved_by masters before step)
-met_still a tech plan masters before step planned lawful laid differ met =
-    let agree : AgreeOn a masters (moved_by masters before step) (value_of (joint_values a before)) = λ m v lt own.
-    let now : values_along a (layout_at (moved_by masters before step) m) ≡ values_along a (layout_at before m) =
-    ap (values_along a) (moved_layout masters before step m lt) ∙ along_other step.axis a (layout_at before m) (local_values step.axis masters m step.x) differ in
-    joint_at a tech masters before m v laid lt own ∙ ap (λ vs. value_of vs v) (sym now) in
-    layouts_meet a tech plan masters (moved_by masters before step) (value_of (joint_values a before)) planned lawful agree (joint_meets a tech plan masters before planned lawful laid met)
+met_still : (axis a : Axis) (tech : Tech) (plan : Plan) (masters : List Master) (before : List Coords) (x : List ℤ) → ArePlanned tech plan masters → All (IsLawful tech) masters
+    → AreLaidOut tech masters before → (axis ≡ a → ⊥) → LayoutsMeet a tech plan masters before → LayoutsMeet a tech plan masters (with_values axis masters before x)
+met_still axis a tech plan masters before x planned lawful laid differ met =
+    let now : List Coords = with_values axis masters before x in
+    let agree : AgreeOn a masters now (value_of (joint_values a before)) = λ m v lt own.
+    let still : values_along a (layout_at now m) ≡ values_along a (layout_at before m) =
+    ap (values_along a) (layout_with axis masters before x m lt) ∙ along_other axis a (layout_at before m) (local_values axis masters m x) differ in
+    joint_at a tech masters before m v laid lt own ∙ ap (λ vs. value_of vs v) (sym still) in
+    layouts_meet a tech plan masters now (value_of (joint_values a before)) planned lawful agree (joint_meets a tech plan masters before planned lawful laid met)
 
-pub settled_next : (tech : Tech) (plan : Plan) (masters : List Master) (before : List Coords) (step : Step) → ArePlanned tech plan masters → All (IsLawful tech) masters
-    → AreLaidOut tech masters before → SolvesPass step.axis tech plan masters before step.x → (had : List Axis) → AreSettled tech plan masters had before
-    → AreSettled tech plan masters (step.axis ∷ had) (moved_by masters before step)
-settled_next tech plan masters before step planned lawful laid values had settled =
-    let now : List Coords = moved_by masters before step in
+pub settled_next : (axis : Axis) (tech : Tech) (plan : Plan) (masters : List Master) (before : List Coords) (x : List ℤ) → ArePlanned tech plan masters → All (IsLawful tech) masters
+    → AreLaidOut tech masters before → SolvesPass axis tech plan masters before x → (had : List Axis) → AreSettled tech plan masters had before
+    → AreSettled tech plan masters (axis ∷ had) (with_values axis masters before x)
+settled_next axis tech plan masters before x planned lawful laid values had settled =
+    let now : List Coords = with_values axis masters before x in
     let M : Axis → Type 0 = λ a. LayoutsMeet a tech plan masters now in
-    let met : (a : Axis) → Contains (step.axis ∷ had) a → M a = λ a among.
-    elim (is_axis step.axis a) [
-      | inl same ↦ subst M same (met_next tech plan masters before step planned lawful values)
-      | inr differ ↦ met_still a tech plan masters before step planned lawful laid differ (settled.met a (had_before step.axis a had differ among))
+    let met : (a : Axis) → Contains (axis ∷ had) a → M a = λ a among.
+    elim (is_axis axis a) [
+      | inl same ↦ subst M same (met_next axis tech plan masters before x planned lawful values)
+      | inr differ ↦ met_still axis a tech plan masters before x planned lawful laid differ (settled.met a (had_before axis a had differ among))
     ] in
     record {
       met = met;

@@ -199,13 +199,13 @@ solves_pass axis tech plan masters before listed order solved run =
 pub laid_next : (axis : Axis) (tech : Tech) (plan : Plan) (masters : List Master) (before : List Coords) (listed : Listed) (order : List ℕ) (solved : Solved) → All (IsLawful tech) masters
     → AreLaidOut tech masters before → IsSolvedPass axis tech plan masters before listed order solved → AreLaidOut tech masters (moved_by masters before (step_of axis listed solved))
 laid_next axis tech plan masters before listed order solved lawful laid run =
-    settling.laid_next tech plan masters before (step_of axis listed solved) lawful laid (solves_pass axis tech plan masters before listed order solved run)
+    settling.laid_next axis tech plan masters before solved.x lawful laid (solves_pass axis tech plan masters before listed order solved run)
 
 pub settled_next : (axis : Axis) (tech : Tech) (plan : Plan) (masters : List Master) (before : List Coords) (listed : Listed) (order : List ℕ) (solved : Solved) → ArePlanned tech plan masters
     → All (IsLawful tech) masters → AreLaidOut tech masters before → IsSolvedPass axis tech plan masters before listed order solved → (had : List Axis) → AreSettled tech plan masters had before
     → AreSettled tech plan masters (axis ∷ had) (moved_by masters before (step_of axis listed solved))
 settled_next axis tech plan masters before listed order solved planned lawful laid run had settled =
-    settling.settled_next tech plan masters before (step_of axis listed solved) planned lawful laid (solves_pass axis tech plan masters before listed order solved run) had settled
+    settling.settled_next axis tech plan masters before solved.x planned lawful laid (solves_pass axis tech plan masters before listed order solved run) had settled
 
 critical : (axis : Axis) (tech : Tech) (plan : Plan) (masters : List Master) (before : List Coords) (listed : Listed) (order : List ℕ) (solved : Solved)
     → IsSolvedPass axis tech plan masters before listed order solved → (m : ℕ) → m < length masters → HasCriticalPath tech plan masters before (step_of axis listed solved) m

@@ -19,10 +19,10 @@ use Rattle.pitch_join.specs.Masters.{master_at}
 use Rattle.pitch_join.specs.Joined.{own_variables, base_of, joint_variables, var_of, local_of}
 use Rattle.pitch_join.specs.Variables.{VariablesAreJoined}
 use Rattle.pitch_join.proofs.Bases.{base_next, base_end}
-use Rattle.pass_run.specs.declared.step.Step.{Step}
 use Rattle.pass_run.specs.Laid.{AreLaidOut}
 use Rattle.pass_run.specs.OneMaster.{part_from, own_part}
-use Rattle.pass_run.specs.Layouts.{own_values, joint_values, local_values, moved_at, moved_by}
+use Rattle.pass_run.specs.Layouts.{own_values, joint_values, local_values}
+use Rattle.pass_run.specs.Least.{with_values_at, with_values}
 
 -- ---- the values of some layouts
 
@@ -103,14 +103,14 @@ local_at axis masters m v x lt =
     let e : 0 + v ≡ v = omega arith in
     get_or-map-range_with_len (local_of axis masters m (value_of x)) 0 (variables_of axis (master_at masters m).cell) v v (pos 0) lt e
 
--- the layout of a master after a pass
-pub moved_layout : (masters : List Master) (before : List Coords) (step : Step) (m : ℕ) → m < length masters → layout_at (moved_by masters before step) m ≡ moved_at masters before step m
-moved_layout masters before step m lt =
+-- the layout of a master with values on an axis
+pub layout_with : (axis : Axis) (masters : List Master) (before : List Coords) (x : List ℤ) (m : ℕ) → m < length masters → layout_at (with_values axis masters before x) m ≡ with_values_at axis masters before x m
+layout_with axis masters before x m lt =
     let e : 0 + m ≡ m = omega arith in
-    get_or-map-range_with_len (moved_at masters before step) 0 (length masters) m m no_layout lt e
+    get_or-map-range_with_len (with_values_at axis masters before x) 0 (length masters) m m no_layout lt e
 
-pub moved_counted : (masters : List Master) (before : List Coords) (step : Step) → length (moved_by masters before step) ≡ length masters
-moved_counted masters before step = length-map-range_with_len (moved_at masters before step) 0 (length masters)
+pub layouts_counted : (axis : Axis) (masters : List Master) (before : List Coords) (x : List ℤ) → length (with_values axis masters before x) ≡ length masters
+layouts_counted axis masters before x = length-map-range_with_len (with_values_at axis masters before x) 0 (length masters)
 
 -- ---- what the code has of them
 
@@ -146,10 +146,10 @@ pub part_own : (axis : Axis) (base vars : ℕ) (master : Master) (x read values 
 part_own axis base vars master x read values v is are =
     are ∙ (ap (λ n. map (part_from base read) (range_with_len 0 n)) v ∙ ap (λ xs. own_part axis base master xs) is)
 
-pub part_moved : (masters : List Master) (before : List Coords) (step : Step) (m base : ℕ) (master : Master) (layout moved_layout : Coords) → master ≡ master_at masters m → layout ≡ layout_at before m
-    → base ≡ base_of step.axis masters m → moved_layout ≡ moved step.axis layout (own_part step.axis base master step.x) → moved_layout ≡ moved_at masters before step m
-part_moved masters before step m base master layout moved_layout is at b are =
+pub part_moved : (axis : Axis) (masters : List Master) (before : List Coords) (x : List ℤ) (m base : ℕ) (master : Master) (layout moved_layout : Coords) → master ≡ master_at masters m → layout ≡ layout_at before m
+    → base ≡ base_of axis masters m → moved_layout ≡ moved axis layout (own_part axis base master x) → moved_layout ≡ with_values_at axis masters before x m
+part_moved axis masters before x m base master layout moved_layout is at b are =
     are
-    ∙ (ap (λ z. moved step.axis z (own_part step.axis base master step.x)) at
-    ∙ ap (moved step.axis (layout_at before m))
-    (ap (λ k. own_part step.axis k master step.x) b ∙ ap (λ x. own_part step.axis (base_of step.axis masters m) x step.x) is))
+    ∙ (ap (λ z. moved axis z (own_part axis base master x)) at
+    ∙ ap (moved axis (layout_at before m))
+    (ap (λ k. own_part axis k master x) b ∙ ap (λ z. own_part axis (base_of axis masters m) z x) is))

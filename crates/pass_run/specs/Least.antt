@@ -1,9 +1,8 @@
 -- The layouts to which passes lead, whatever is recorded of them.
-use Rattle.std.specs.Prelude.{◌≡◌, ℕ, ℤ, All, List, [], ◌∷◌, length, map}
+use Rattle.std.specs.Prelude.{◌≡◌, ℕ, ℤ, List, [], ◌∷◌, length, map}
 use Rattle.lam_geom.specs.declared.boxes.Axis.{Axis}
 use Rattle.rule_table.specs.declared.technology.Tech.{Tech}
 use Rattle.cons_graph.specs.Solutions.{IsLeastSolution, value_of}
-use Rattle.liao_wong.specs.Answers.{IsWithinLimit}
 use Rattle.sym_items.specs.declared.items.Coords.{Coords}
 use Rattle.sym_items.specs.Layouts.{layout_at}
 use Rattle.expand.specs.declared.master.Master.{Master}
@@ -37,6 +36,10 @@ abbrev pub LeadTo : Tech → Plan → List Master → List Axis → List Coords 
 LeadTo tech plan masters [] before after = after ≡ before
 LeadTo tech plan masters (axis ∷ axes) before after =
     (x : List ℤ) × AreLeastValues tech plan masters before axis x × LeadTo tech plan masters axes (with_values axis masters before x) after
+
+-- they lead to no layouts, as one of them has no values
+abbrev pub LeadNowhere : Tech → Plan → List Master → List Axis → List Coords → Type 0
+LeadNowhere tech plan masters axes before = (after : List Coords) → LeadTo tech plan masters axes before after → ⊥
 
 -- After least values another pass may be made over the layouts, which meet the plan on each axis that has had a pass.
 pub record StaySettled (tech : Tech) (plan : Plan) (masters : List Master) (before : List Coords) (axis : Axis) (after : List Coords) : Type 0 where

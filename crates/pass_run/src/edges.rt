@@ -31,7 +31,7 @@ use std::alloc::Global;
 use std::thread::Threads;
 use sym_items::{Coords, Items};
 
-/// The list of a pass.
+/// The list of a pass on an axis over some layouts: the inequalities of its system, but of the candidates only the kept pairs.
 #[derive(Drop)]
 pub struct Listed {
     /// Its constraint graph.
@@ -109,7 +109,8 @@ fn add_all_kept<H: Threads + Sync, G: Gate>(
 }
 
 /// The list of a pass over some layouts: what holds whatever they are, and the inequalities of the kept pairs of each master.
-/// The pairs of a master are found once, whatever the number of its instances, and in as many pieces as `split` says.
+/// The pairs of a master are found once, whatever the number of its instances, and in as many pieces as `split` says, each of which
+/// passes the gate. It is refused where it has more than 4,194,304 inequalities, and for want of memory.
 pub fn list<H: Threads + Sync, G: Gate>(
     rt: &H,
     alloc: Global,

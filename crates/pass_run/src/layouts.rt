@@ -6,10 +6,10 @@ ghost use Rattle.expand.specs.Masters.{IsMaster};
 ghost use Rattle.expand.specs.Variables.{variables_of};
 ghost use Rattle.pair_rules.specs.Laws.{moved};
 ghost use Rattle.pitch_join.specs.Joined.{bases_of, joint_variables};
-ghost use Rattle.pass_run.specs.Layouts.{starts_of, own_values, joint_values, moved_by};
+ghost use Rattle.pass_run.specs.Layouts.{starts_of, own_values, joint_values};
+ghost use Rattle.pass_run.specs.Least.{with_values};
 ghost use Rattle.pass_run.specs.OneMaster.{part_from, own_part};
 
-use crate::step::Step;
 use coarse_grid::start;
 use expand::{Master, master_is_lawful};
 use lam_geom::Axis;
@@ -18,7 +18,7 @@ use rule_table::Tech;
 use std::alloc::{AllocError, Global};
 use sym_items::Coords;
 
-/// The start layout of each master. The only refusal is want of memory.
+/// The start layout of each master, over which the first pass is made. The only refusal is want of memory.
 pub fn starts(alloc: Global, tech: &Tech, masters: &[Master]) -> Result<Vec<Coords>, AllocError>
     requires { All (IsMaster tech.now) masters.now }
     ensures { IfOk result (λ layouts. layouts.items ≡ starts_of tech.now masters.now) }
@@ -91,47 +91,49 @@ fn copied(alloc: Global, list: &Seq<i64>) -> Result<Seq<i64>, AllocError>
     Ok(Seq::from_vec(Vec::from_slice(alloc, list.as_slice())?))
 }
 
-// The layout of a master after a pass, whose joint variables beside the origin begin with `base`.
-fn moved_by_part(
+// The layout of a master with its part of values of the joint variables on an axis, those beside the origin from `base` on.
+fn with_part(
     alloc: Global,
     tech: &Tech,
     master: &Master,
     layout: &Coords,
     base: u32,
-    step: &Step,
+    axis: Axis,
+    x: &[i64],
 ) -> Result<Coords, AllocError>
     requires master { IsMaster tech.now master.now }
-    requires within { base + variables_of step.now.axis master.now.cell ≤ length step.now.x + 1 }
-    requires origin { 1 ≤ length step.now.x }
-    ensures { IfOk result (λ c. c ≡ moved step.now.axis layout.now (own_part step.now.axis base master.now step.now.x)) }
+    requires within { base + variables_of axis master.now.cell ≤ length x.now + 1 }
+    requires origin { 1 ≤ length x.now }
+    ensures { IfOk result (λ c. c ≡ moved axis layout.now (own_part axis base master.now x.now)) }
 {
     master_is_lawful(tech, master);
-    let vars = master.items.vars(step.axis);
-    let values = local_values(alloc, base, vars, step.x.as_slice())?;
-    moved(alloc, step.axis, layout, values)
+    let vars = master.items.vars(axis);
+    let values = local_values(alloc, base, vars, x)?;
+    moved(alloc, axis, layout, values)
 }
 
-/// The layouts after a pass: in each its master has its own part of the new values, and the other axis stays. The only
-/// refusal is want of memory.
-pub fn moved_by(
+/// The layouts with these values of the joint variables on an axis: in each its master has its own part of them, and the other
+/// axis stays. The only refusal is want of memory.
+pub fn with_parts(
     alloc: Global,
     tech: &Tech,
     masters: &[Master],
     before: &[Coords],
     base: &[u32],
-    step: &Step,
+    axis: Axis,
+    x: &[i64],
 ) -> Result<Vec<Coords>, AllocError>
     requires each { All (IsMaster tech.now) masters.now }
     requires few { length masters.now ≤ 256 }
     requires counted { length before.now ≡ length masters.now }
-    requires bases { base.now ≡ bases_of step.now.axis masters.now }
-    requires one_each { length step.now.x ≡ joint_variables step.now.axis masters.now }
-    ensures { IfOk result (λ layouts. layouts.items ≡ moved_by masters.now before.now step.now) }
+    requires bases { base.now ≡ bases_of axis masters.now }
+    requires one_each { length x.now ≡ joint_variables axis masters.now }
+    ensures { IfOk result (λ layouts. layouts.items ≡ with_values axis masters.now before.now x.now) }
 {
     let mut layouts = Vec::new(alloc);
     for m in 0..masters.len() {
         let master = &masters[m];
-        layouts.push(moved_by_part(alloc, tech, master, &before[m], base[m], step)?)?;
+        layouts.push(with_part(alloc, tech, master, &before[m], base[m], axis, x)?)?;
     }
     Ok(layouts)
 }

@@ -1,13 +1,16 @@
 //! Passes of which nothing is recorded but the layouts to which they lead.
 
-ghost use Rattle.std.specs.Prelude.{◌≡◌, ◌++◌, List, All, IfOk, IfSome};
+ghost use Rattle.std.specs.Prelude.{◌≡◌, ◌++◌, List, All, IfNone, IfOk, IfSome};
 ghost use Rattle.lam_geom.specs.declared.boxes.Axis.{Axis as SomeAxis};
 ghost use Rattle.liao_wong.specs.Answers.{IsWithinLimit};
 ghost use Rattle.pitch_join.specs.Masters.{ArePlanned};
 ghost use Rattle.pitch_join.specs.Joined.{bases_of};
 ghost use Rattle.pass_run.specs.Laid.{AreLaidOut, AreSettled};
-ghost use Rattle.pass_run.specs.Least.{AreLeastValues, LeadTo, StaySettled, with_values};
+ghost use Rattle.pass_run.specs.Least.{AreLeastValues, LeadNowhere, LeadTo, StaySettled, with_values};
 
+use crate::laws::masters_are_lawful;
+use crate::layouts::with_parts;
+use crate::pass::{Stop, one_pass};
 use expand::Master;
 use lam_geom::Axis;
 use lam_io::Gate;
@@ -37,11 +40,13 @@ pub fn with_values(
     ensures value { IfOk result (λ layouts. layouts.items ≡ with_values axis masters.now before.now x.now) }
     ensures settled { IfOk result (λ layouts. StaySettled tech.now plan.now masters.now before.now axis layouts.items) }
 {
-    Err(AllocError)
+    masters_are_lawful(tech, masters);
+    with_parts(alloc, tech, masters, before, base, axis, x)
 }
 
-/// The layouts to which passes on these axes lead from some layouts; None where a pass has no values. The only refusal is want of
-/// memory.
+/// The layouts to which passes on these axes, one after another, lead from some layouts; None where one of them has no values, as its
+/// list is too long or its system has a positive cycle. In each pass the kept pairs are found in one piece, which passes the gate. The
+/// only refusal is want of memory.
 pub fn lead_on<H: Threads + Sync, G: Gate>(
     rt: &H,
     alloc: Global,
@@ -55,9 +60,22 @@ pub fn lead_on<H: Threads + Sync, G: Gate>(
     requires planned { ArePlanned tech.now plan.now masters.now }
     requires laid { AreLaidOut tech.now masters.now before.items }
     ensures lead { IfOk result (λ o. IfSome o (λ layouts. LeadTo tech.now plan.now masters.now axes.now before.items layouts.items)) }
+    ensures none { IfOk result (λ o. IfNone o (LeadNowhere tech.now plan.now masters.now axes.now before.items)) }
     ensures laid { IfOk result (λ o. IfSome o (λ layouts. AreLaidOut tech.now masters.now layouts.items)) }
     ensures settled { IfOk result (λ o. IfSome o (λ layouts. (had : List SomeAxis) → AreSettled tech.now plan.now masters.now had before.items
         → AreSettled tech.now plan.now masters.now (axes.now ++ had) layouts.items)) }
 {
-    Ok(None)
+    match axes.split_first() {
+        None => Ok(Some(before)),
+        Some((axis, later)) => {
+            match one_pass(
+                rt, alloc, gate, tech, plan, masters, 1, *axis, &before, 1, false,
+            ) {
+                Ok(made) => lead_on(rt, alloc, gate, tech, plan, masters, later, made.layouts),
+                Err(Stop::TooManyEdges) => Ok(None),
+                Err(Stop::Cycle(_)) => Ok(None),
+                Err(Stop::OutOfMemory) => Err(AllocError),
+            }
+        }
+    }
 }

@@ -3,6 +3,11 @@
 //! What the layer above uses: `run_passes` gives after each pass the least values of its axis that meet the structure of each
 //! master and what the plan asks of its neighbours, and keep every candidate of the layouts before it apart, with the critical
 //! path of each master's size; or the text of a positive cycle exactly where there is one. Lengths are in u.
+//!
+//! Where only the layouts are wanted, and nothing that is recorded of the passes: `starts` has the layouts before the first pass, `list`
+//! the inequalities of a pass, which has the solutions of its system by the law `pruning_loses_nothing`, `with_values` the layouts
+//! after a pass whose least values are known, and `lead_on` those to which further passes lead. The law `passes_lead_to_one_place`
+//! says that these are the layouts that `run_passes` leaves.
 #![tactic(auto)]
 
 mod edges;

@@ -23,7 +23,7 @@ ghost use Rattle.pass_run.specs.Told.{IsTightMost};
 
 use crate::edges::{Listed, list};
 use crate::laws::masters_are_lawful;
-use crate::layouts::{joint_values, moved_by};
+use crate::layouts::{joint_values, with_parts};
 use crate::step::{Step, Walk};
 use crate::text::{cycle_text, pass_text};
 use crit_path::walk_to;
@@ -175,9 +175,11 @@ fn made_of(
     ensures none { IfOk result (λ m. told ≡ false → m.most ≡ []) }
 {
     let step = step_from(alloc, axis, listed, solved)?;
-    let layouts = moved_by(alloc, tech, masters, before, listed.base.as_slice(), &step)?;
+    let base = listed.base.as_slice();
+    let x = step.x.as_slice();
+    let layouts = with_parts(alloc, tech, masters, before, base, axis, x)?;
     let text = pass_text(alloc, masters, listed, pass, &step)?;
-    let most = most_of(alloc, told, listed, step.x.as_slice())?;
+    let most = most_of(alloc, told, listed, x)?;
     Ok(Made {
         step,
         layouts,

@@ -5,20 +5,20 @@ use Rattle.expand.specs.declared.master.Master.{Master}
 use Rattle.expand.specs.Variables.{variables_of}
 use Rattle.pitch_join.specs.Masters.{no_master}
 use Rattle.pitch_join.proofs.Bases.{base_at, base_within, bases_counted}
-use Rattle.pass_run.specs.Layouts.{moved_at}
+use Rattle.pass_run.specs.Least.{with_values_at}
 use Rattle.pass_run.proofs.Lists.{image_added}
 use Rattle.pass_run.proofs.Values.{part_moved}
-use Rattle.pass_run.proofs.layouts.moved_by.Goals as goal
+use Rattle.pass_run.proofs.layouts.with_parts.Goals as goal
 
 pub bounds-base-m : goal.bounds-base-m
 bounds-base-m c =
-    let count = bases_counted c.args.step.now.axis c.args.masters.now c.args.base.now c.requires.bases in
+    let count = bases_counted c.args.axis c.args.masters.now c.args.base.now c.requires.bases in
     let lt = c.loop-m-test.true in
     omega arith
 
-pub moved_by_part-requires-clause-within : goal.moved_by_part-requires-clause-within
-moved_by_part-requires-clause-within c =
-    let axis = c.args.step.now.axis in
+pub with_part-requires-clause-within : goal.with_part-requires-clause-within
+with_part-requires-clause-within c =
+    let axis = c.args.axis in
     let masters = c.args.masters.now in
     let m = c.loop-m.m in
     let lt = c.loop-m-test.true in
@@ -32,11 +32,12 @@ pub loop-m-preserved : goal.loop-m-preserved
 loop-m-preserved c =
     let masters = c.args.masters.now in
     let before = c.args.before.now in
-    let step = c.args.step.now in
+    let axis = c.args.axis in
+    let x = c.args.x.now in
     let m = c.loop-m.m in
     let lt = c.loop-m-test.true in
     let counted = c.requires.counted in
-    image_added (moved_at masters before step) m c.in_ok-moved_by_part.field-0 c.loop-m.layouts.items c.push.new.self.items c.loop-m.invariant
-    (part_moved masters before step m _ c.index-masters-m.result c.index-before-m.result c.in_ok-moved_by_part.field-0 (c.index-masters-m.is ∙ get_or_default masters m _ no_master lt)
-    (c.index-before-m.is ∙ get_or_default before m _ no_layout (omega arith)) (base_at step.axis masters c.args.base.now m c.requires.bases lt) c.in_ok-moved_by_part.ensures)
+    image_added (with_values_at axis masters before x) m c.in_ok-with_part.field-0 c.loop-m.layouts.items c.push.new.self.items c.loop-m.invariant
+    (part_moved axis masters before x m _ c.index-masters-m.result c.index-before-m.result c.in_ok-with_part.field-0 (c.index-masters-m.is ∙ get_or_default masters m _ no_master lt)
+    (c.index-before-m.is ∙ get_or_default before m _ no_layout (omega arith)) (base_at axis masters c.args.base.now m c.requires.bases lt) c.in_ok-with_part.ensures)
     c.in_ok-push.ensures.items
