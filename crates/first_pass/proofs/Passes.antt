@@ -90,16 +90,6 @@ first_stays tech first after is stays same =
       begins = stays.begins ∙ is.begins;
     })
 
-pub more_stays : (tech : Tech) (plan : Plan) (masters : List Master) (first after : FirstPass) → AreMore tech plan masters first → Stays first.listed first.session after.session
-    → after ≡ record first { session = after.session; limits = after.limits; places = after.places } → AreMore tech plan masters after
-more_stays tech plan masters first after more stays same =
-    subst (λ (f : FirstPass). AreMore tech plan masters f) (sym same) (record {
-      is_first = first_stays tech first (record first { session = after.session; limits = after.limits; places = after.places }) more.is_first stays refl;
-      planned = more.planned;
-      ask = more.ask;
-      bared = more.bared;
-    })
-
 -- the joint variables are few
 pub few_joint : (tech : Tech) (plan : Plan) (masters : List Master) (axis : Axis) → ArePlanned tech plan masters → joint_variables axis masters ≤ 2 ^ 17
 few_joint tech plan masters axis planned = (planned_joined tech plan masters planned).few axis
