@@ -1,6 +1,5 @@
 pub mod Cells
 pub mod Masters
 pub mod Equals
-pub mod Stays
-pub mod Pushed
+pub mod Shows
 pub mod Passes

@@ -74,22 +74,6 @@ are_bared tech plan masters bared is planned clean =
 pub bared_laid : (tech : Tech) (plan : Plan) (bared : List Master) (starts : List Coords) → AreBared tech plan bared → starts ≡ starts_of tech bared → AreLaidOut tech bared starts
 bared_laid tech plan bared starts are is = subst (λ (ls : List Coords). AreLaidOut tech bared ls) (sym is) (starts_laid tech bared are.planned.each are.clean)
 
--- ---- a first pass stays one
-
-pub first_stays : (tech : Tech) (first after : FirstPass) → IsFirstPass tech first → Stays first.listed first.session after.session
-    → after ≡ record first { session = after.session; limits = after.limits; places = after.places } → IsFirstPass tech after
-first_stays tech first after is stays same =
-    subst (λ (f : FirstPass). IsFirstPass tech f) (sym same) (record {
-      planned = is.planned;
-      are_bare = is.are_bare;
-      clean = is.clean;
-      starts = is.starts;
-      bases = is.bases;
-      vars = stays.vars ∙ is.vars;
-      within = stays.within;
-      begins = stays.begins ∙ is.begins;
-    })
-
 -- the joint variables are few
 pub few_joint : (tech : Tech) (plan : Plan) (masters : List Master) (axis : Axis) → ArePlanned tech plan masters → joint_variables axis masters ≤ 2 ^ 17
 few_joint tech plan masters axis planned = (planned_joined tech plan masters planned).few axis

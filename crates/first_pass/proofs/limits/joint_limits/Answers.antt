@@ -10,8 +10,6 @@ use Rattle.pitch_join.specs.Masters.{master_at, no_master}
 use Rattle.pitch_join.specs.Joined.{base_of, shifted}
 use Rattle.pitch_join.proofs.Bases.{base_at, base_within, bases_counted}
 use Rattle.first_pass.specs.Limits.{limits_at}
-use Rattle.first_pass.proofs.Masters.{list_split}
-use Rattle.first_pass.proofs.Pushed.{limits_near}
 use Rattle.first_pass.proofs.limits.joint_limits.Goals as goal
 
 pub bounds-base-m : goal.bounds-base-m

@@ -3,7 +3,7 @@ use Rattle.std.specs.List.{All, Contains}
 use Rattle.std.proofs.lemmas.List.{take_rest}
 use Rattle.cons_graph.specs.declared.edges.Edge.{Edge}
 use Rattle.cons_graph.specs.Solutions.{value_of}
-use Rattle.first_pass.proofs.Stays.{least_shown}
+use Rattle.first_pass.proofs.Shows.{least_shown}
 use Rattle.first_pass.proofs.shown.shown_least.Goals as goal
 
 pub returns-clause-least : goal.returns-clause-least

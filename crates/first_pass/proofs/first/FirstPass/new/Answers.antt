@@ -13,11 +13,11 @@ starts-requires g c =
     (are_bared c.args.tech.now c.args.plan c.args.masters.items c.deref.result.now (c.deref.ensures.value ∙ c.in_ok-masters.ensures) c.requires.planned c.requires.clean).planned.each
 
 pub list-requires-clause-planned : goal.list-requires-clause-planned
-list-requires-clause-planned g c =
+list-requires-clause-planned g c = λ κs le.
     (are_bared c.args.tech.now c.args.plan c.args.masters.items c.deref-2.result.now (c.deref-2.ensures.value ∙ c.in_ok-masters.ensures) c.requires.planned c.requires.clean).planned
 
 pub list-requires-clause-laid : goal.list-requires-clause-laid
-list-requires-clause-laid g c =
+list-requires-clause-laid g c = λ κs le.
     bared_laid c.args.tech.now c.args.plan c.deref-2.result.now c.deref-3.result.now (are_bared c.args.tech.now c.args.plan c.args.masters.items c.deref-2.result.now (c.deref-2.ensures.value ∙ c.in_ok-masters.ensures) c.requires.planned c.requires.clean)
     (c.deref-3.ensures.value ∙ (c.in_ok-starts.ensures ∙ ap (starts_of c.args.tech.now) (c.deref.ensures.value ∙ sym c.deref-2.ensures.value)))
 
