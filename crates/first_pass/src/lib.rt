@@ -7,7 +7,10 @@
 #![tactic(auto)]
 
 mod alike;
+mod bared;
 mod first;
+mod following;
 mod limits;
+mod shown;
 
 pub use first::FirstPass;
