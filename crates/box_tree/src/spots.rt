@@ -29,8 +29,6 @@ pub struct Inner {
 pub struct Group {
     /// An area that encloses those of the spots.
     pub outer: BoxXY,
-    /// The ends of the areas of the spots.
-    pub inner: Inner,
     /// The tag, if it is one for all spots.
     pub tag: Option<u32>,
     /// Where the run begins.
@@ -39,4 +37,6 @@ pub struct Group {
     pub count: u32,
     /// How many of the groups that follow are inside this one. A group with none inside is a leaf, of a few spots.
     pub inside: u32,
+    /// The ends of the areas of the spots.
+    pub inner: Inner,
 }

@@ -52,7 +52,7 @@ impl Model for BoxTree {
 }
 
 impl BoxTree {
-    /// A tree of some spots, in the time of a few sorts and about 70 bytes of memory a spot, beside the spots. The only refusal is
+    /// A tree of some spots, in the time of a sort and about 30 bytes of memory a spot, beside the spots. The only refusal is
     /// want of memory.
     pub fn new(alloc: Global, spots: Vec<Spot>) -> Result<BoxTree, AllocError>
         requires few { length spots.items ≤ 2 ^ 21 }
