@@ -12,8 +12,13 @@ use std::alloc::{AllocError, Global};
 // As many spots at most stand in a group that is not divided further.
 const RUN: u32 = 8;
 
-/// The groups of a tree of all spots, which stand in this order.
-pub fn grown(alloc: Global, spots: &[Spot], order: &[u32]) -> Result<Vec<Group>, AllocError>
+/// The groups of a tree of all spots, which stand in this order, that of their keys.
+pub fn grown(
+    alloc: Global,
+    spots: &[Spot],
+    order: &[u32],
+    keys: &[u64],
+) -> Result<Vec<Group>, AllocError>
     requires few { length spots.now ≤ 2 ^ 21 }
     requires placed { All (λ (spot : Spot). IsPlacedBox spot.area) spots.now }
     requires order { IsOrderOf (length spots.now) order.now }
@@ -21,7 +26,7 @@ pub fn grown(alloc: Global, spots: &[Spot], order: &[u32]) -> Result<Vec<Group>,
 {
     let mut groups = Vec::with_capacity(alloc, order.len() / 2)?;
     if !order.is_empty() {
-        add_tree(&mut groups, spots, order, 0, order.len() as u32)?;
+        add_tree(&mut groups, spots, order, keys, 0, order.len() as u32)?;
     }
     Ok(groups)
 }
@@ -31,6 +36,7 @@ fn add_tree(
     groups: &mut Vec<Group>,
     spots: &[Spot],
     order: &[u32],
+    keys: &[u64],
     start: u32,
     end: u32,
 ) -> Result<Group, AllocError>
@@ -49,15 +55,44 @@ fn add_tree(
     }
     let at = groups.len();
     groups.push(of_spot(&spots[order[start as usize] as usize], start))?;
-    let middle = start + (end - start) / 2;
-    let left = add_tree(groups, spots, order, start, middle)?;
-    let right = add_tree(groups, spots, order, middle, end)?;
+    let middle = middle_of(keys, start, end);
+    let left = add_tree(groups, spots, order, keys, start, middle)?;
+    let right = add_tree(groups, spots, order, keys, middle, end)?;
     let group = Group {
         inside: (groups.len() - 1 - at) as u32,
         ..joined(&left, &right)
     };
     groups[at] = group;
     Ok(group)
+}
+
+// Where a run is divided: near its middle, where the highest bit changes that does so there, so that the areas on either side
+// lie in other cells.
+fn middle_of(keys: &[u64], start: u32, end: u32) -> u32
+    requires { start + 1 < end }
+    ensures after { start < result }
+    ensures before { result < end }
+{
+    let middle = start + (end - start) / 2;
+    let slack = (end - start) / 8;
+    let low = (middle - slack) as usize;
+    let Some(near) = keys.get(low..(middle + slack) as usize) else {
+        return middle;
+    };
+    let (Some(first), Some(last)) = (near.first(), near.last()) else {
+        return middle;
+    };
+    let change = first ^ last;
+    if change == 0 {
+        return middle;
+    }
+    let top = 1u64.rotate_right(change.leading_zeros() + 1);
+    let divided = middle - slack + near.partition_point(|key| key & top == 0) as u32;
+    if start < divided && divided < end {
+        divided
+    } else {
+        middle
+    }
 }
 
 // The group of the run from one place to another, with none inside.

@@ -59,8 +59,8 @@ impl BoxTree {
         requires placed { All (λ (spot : Spot). IsPlacedBox spot.area) spots.items }
         ensures { IfOk result (λ tree. tree ≡ spots.items) }
     {
-        let order = ordered(alloc, &spots)?;
-        let groups = grown(alloc, &spots, &order)?;
+        let (order, keys) = ordered(alloc, &spots)?;
+        let groups = grown(alloc, &spots, &order, &keys)?;
         Ok(BoxTree {
             spots,
             order,
