@@ -26,13 +26,14 @@ loop-i-preserved g c =
     record {
       writable = told.writable;
       names = told.names;
+      first = told.first;
       lines = (let more = told.lines in let before = c.loop-i.invariant.lines in omega (arith, more, before));
-      steps = steps_next c.args.tech.now c.args.axes.now c.args.numbers.now lines i line line c.args.design c.loop-i.so_far c.in_ok-so_far.so_far c.loop-i-test.true
+      steps = steps_next c.args.tech.now c.args.axes.now c.in_ok-numbers.numbers.items lines i line line c.args.design c.loop-i.so_far c.in_ok-so_far.so_far c.loop-i-test.true
           (c.index-lines-i.is ∙ get_or_default lines i _ line c.loop-i-test.true) c.loop-i.invariant.steps told.step;
     }
 
 pub returns : goal.returns
 returns g c =
     let lines = c.args.lines.now in
-    let S : List EditLine → Type 0 = λ ls. AreSteps c.args.tech.now c.args.axes.now c.args.numbers.now 0 ls c.args.design c.loop-i.so_far.design c.loop-i.so_far.text.items in
-    record { numbers = c.args.numbers.now; start = c.requires.start; last = c.loop-i.so_far.design; steps = subst S (take_all c.loop-i.i lines c.loop-i-test.false) c.loop-i.invariant.steps }
+    let S : List EditLine → Type 0 = λ ls. AreSteps c.args.tech.now c.args.axes.now c.in_ok-numbers.numbers.items 0 ls c.args.design c.loop-i.so_far.design c.loop-i.so_far.text.items in
+    record { numbers = c.in_ok-numbers.numbers.items; start = c.requires.start; last = c.loop-i.so_far.design; steps = subst S (take_all c.loop-i.i lines c.loop-i-test.false) c.loop-i.invariant.steps }
