@@ -1,5 +1,6 @@
 -- Least layouts of masters: what passes place, and one place at most.
 use Rattle.std.proofs.Common.{◌≡◌, List, [], ◌∷◌, refl, sym, subst}
+use Rattle.std.specs.Prelude.{All}
 use Rattle.lam_geom.specs.declared.boxes.Axis.{Axis}
 use Rattle.lam_io.specs.Io.{Bytes}
 use Rattle.rule_table.specs.declared.technology.Tech.{Tech}
@@ -9,6 +10,7 @@ use Rattle.expand.specs.declared.master.Master.{Master}
 use Rattle.plan_model.specs.declared.plan.Plan.{Plan}
 use Rattle.pass_run.specs.declared.step.Step.{Step}
 use Rattle.pass_run.specs.declared.passes.PassFault.TheVariants as stop
+use Rattle.pass_run.specs.Laid.{StartsClean}
 use Rattle.pass_run.specs.Layouts.{starts_of}
 use Rattle.pass_run.specs.Least.{LeadTo}
 use Rattle.pass_run.proofs.Leading.{lead_to_one_place}
@@ -17,7 +19,7 @@ use Rattle.compact_run.specs.declared.status.Status.{Status}
 use Rattle.compact_run.specs.declared.status.Status.TheVariants as status
 use Rattle.compact_run.specs.Refusal.{line_of}
 use Rattle.compact_run.specs.Plans.{AreMastersOf}
-use Rattle.compact_run.specs.Designs.{ArePassesOn, ArePlaced, IsPast, RefusesDesign, RefusesMasters, last_layouts, no_masters, no_masks}
+use Rattle.compact_run.specs.Designs.{ArePassesOn, ArePlaced, IsPast, IsWithin, RefusesDesign, RefusesMasters, last_layouts, no_masters, no_masks}
 use Rattle.compact_run.specs.Edits.{AreLeastLayouts}
 use Rattle.compact_run.proofs.OneLayout.{refused_decided}
 use Rattle.compact_run.proofs.OneMaster.{one_masters, not_all_clean, not_within}
@@ -39,11 +41,21 @@ placed_least tech plan masters axes steps placed =
     record { clean = placed.made.clean; lead = passes_lead tech plan masters axes steps placed.made; within = placed.within }
 
 -- a pass, and those behind it
-pub lead_behind : (tech : Tech) (plan : Plan) (masters : List Master) (axis : Axis) (later : List Axis) (before mid after : List Coords) → LeadTo tech plan masters (axis ∷ []) before mid
+lead_behind : (tech : Tech) (plan : Plan) (masters : List Master) (axis : Axis) (later : List Axis) (before mid after : List Coords) → LeadTo tech plan masters (axis ∷ []) before mid
     → LeadTo tech plan masters later mid after → LeadTo tech plan masters (axis ∷ later) before after
 lead_behind tech plan masters axis later before mid after first then =
     let L : List Coords → Type 0 = λ cs. LeadTo tech plan masters later cs after in
     (first.0, first.1, subst L first.2 then)
+
+-- the passes behind a first one that is known
+pub after_first : (tech : Tech) (plan : Plan) (masters : List Master) (axes later : List Axis) (axis own : Axis) (before layouts : List Coords) → axes ≡ axis ∷ later → own ≡ axis
+    → All (StartsClean tech) masters → LeadTo tech plan masters (own ∷ []) (starts_of tech masters) before → LeadTo tech plan masters later before layouts → IsWithin tech plan layouts
+    → AreLeastLayouts tech plan masters axes layouts
+after_first tech plan masters axes later axis own before layouts are same clean first then within =
+    let F : Axis → Type 0 = λ a. LeadTo tech plan masters (a ∷ []) (starts_of tech masters) before in
+    let L : List Axis → Type 0 = λ on. LeadTo tech plan masters on (starts_of tech masters) layouts in
+    let lead : L (axis ∷ later) = lead_behind tech plan masters axis later (starts_of tech masters) before layouts (subst F same first) then in
+    record { clean = clean; lead = subst L (sym are) lead; within = within }
 
 -- ---- one place
 
