@@ -51,8 +51,10 @@ pub fn layout_of<H: Threads + Sync, G: Gate>(
     ensures few_masters { IfOk result (λ laid. length laid.masters.items < 2 ^ 32) }
     ensures refused { IfErr result (Refused (RefusesDesign tech.now axes.now design.now)) }
 {
-    let DesignMasters { plan, masters } = design_masters(alloc, tech, design)?;
-    let passes = lay_out(rt, alloc, gate, tech, &plan, &masters, axes, 1, false)?;
+    let made = design_masters(alloc, tech, design)?;
+    let (plan, masters) = (&made.plan, &made.masters);
+    let passes = lay_out(rt, alloc, gate, tech, plan, masters, axes, 1, false)?;
+    let DesignMasters { plan, masters } = made;
     Ok(LaidOut {
         plan,
         masters,
