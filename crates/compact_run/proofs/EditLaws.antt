@@ -14,7 +14,7 @@ use Rattle.compact_run.specs.declared.status.Status.{Status}
 use Rattle.compact_run.specs.declared.status.Status.TheVariants as status
 use Rattle.compact_run.specs.Limits.{most_design_bytes}
 use Rattle.compact_run.specs.Refusal.{line_of}
-use Rattle.compact_run.specs.Designs.{RefusesDesign, masks_text, passes_text}
+use Rattle.compact_run.specs.Designs.{RefusesDesign, last_layouts}
 use Rattle.compact_run.specs.Edits as edits
 use Rattle.compact_run.specs.Edits.{IsAnswered, done, too_long, code_word}
 use Rattle.compact_run.specs.Answers.{IsTechnology, IsDesign, IsCompacted, RefusesCompact, no_technology, no_design, no_masks, RefusesSticks}
@@ -22,28 +22,12 @@ use Rattle.compact_run.specs.EditLaws.{AreEditsJudgedAsTexts, CompactAnswers, co
 use Rattle.compact_run.specs.OneAnswer.{IsDecided}
 use Rattle.compact_run.proofs.OneFile.{read_once, not_both}
 use Rattle.compact_run.proofs.OneMaster.{same_tech}
-use Rattle.compact_run.proofs.OneLayout.{refused_decided}
+use Rattle.compact_run.proofs.LeastLayouts.{placed_least}
+use Rattle.compact_run.proofs.OneEdits.{one_word}
 use Rattle.compact_run.proofs.OneCompact.{tech_read, sticks_read, tech_refused, sticks_refused}
 use Rattle.compact_run.proofs.JogLaws.{reads_itself}
 
--- ---- to the answer
-
-answers : (technology : Tech) (axes : List Axis) (files : Files) (name tech word : Bytes) (new : Sticks) → design_of (canonical new) ≡ Ok new → get files name ≡ Some (canonical new)
-    → IsTechnology files tech technology → IsAnswered technology axes new word → CompactAnswers name tech axes files word
-answers technology axes files name tech word new itself file is (done short plan masters are steps placed e) =
-    compacted (masks_text technology plan masters steps) (passes_text technology plan masters steps) (record {
-      technology = technology;
-      is_technology = is;
-      sticks = new;
-      is_design = record { text = canonical new; file = record { there = file; short = short }; read = itself };
-      compacts = record { plan = plan; masters = masters; are_masters = are; steps = steps; laid_out = placed; written = refl; reported = refl };
-    }) e
-answers technology axes files name tech word new itself file is (too_long long e) =
-    refused (status.TooLong Design) [] (no_design technology is (record { text = canonical new; there = file; long = long })) tt e
-answers technology axes files name tech word new itself file is (edits.no_masks short ended own why has e) =
-    refused ended own (no_masks technology new is (record { text = canonical new; file = record { there = file; short = short }; read = itself }) why) (refused_decided technology axes new ended own why has) e
-
--- ---- from the answer
+-- ---- from an answer
 
 has_memory : (ended : Status) → IsDecided ended → ended ≡ status.OutOfMemory → ⊥
 has_memory ended d e = subst IsDecided e d
@@ -81,7 +65,7 @@ of_answer technology axes files name tech word new itself file is (compacted out
     let s = c.compacts in
     let here : IsAnswered c.technology axes c.sticks word =
     done (subst (λ (d : Sticks). length (canonical d) ≤ most_design_bytes) (sym (same_design files name new c.sticks itself file c.is_design)) (short_text files name new c.sticks file c.is_design))
-    s.plan s.masters s.are_masters s.steps s.laid_out e in
+    s.plan s.masters s.are_masters (last_layouts c.technology s.masters s.steps) (placed_least c.technology s.plan s.masters axes s.steps s.laid_out) e in
     subst (λ (d : Sticks). IsAnswered technology axes d word) (same_design files name new c.sticks itself file c.is_design)
     (subst (λ (t : Tech). IsAnswered t axes c.sticks word) (same_technology files tech c.technology technology c.is_technology is) here)
 of_answer technology axes files name tech word new itself file is (refused ended own (no_technology why) d e) =
@@ -94,6 +78,8 @@ of_answer technology axes files name tech word new itself file is (refused ended
     edits.no_masks (short_text files name new x file there) ended own here (has_memory ended d) e
 
 pub judged_as_texts : AreEditsJudgedAsTexts
-judged_as_texts technology axes design new numbers line change writable files name tech word file is =
+judged_as_texts technology axes design new numbers line change writable files name tech answer file is answers word =
     let itself = reads_itself new _ change.edited.made writable in
-    (answers technology axes files name tech word new itself file is, of_answer technology axes files name tech word new itself file is)
+    let own = of_answer technology axes files name tech answer new itself file is answers in
+    let A : Bytes → Type 0 = λ w. IsAnswered technology axes new w in
+    (λ told. one_word technology axes new word answer told own, λ same. subst A (sym same) own)

@@ -35,8 +35,9 @@ use Rattle.compact_run.specs.Limits.{most_design_bytes}
 use Rattle.compact_run.specs.Plans.{AreMastersOf, RefusesPlan}
 use Rattle.compact_run.specs.Fetches.{AsksFor, AsksThrough, IsRefusal, ends_over}
 use Rattle.compact_run.specs.Designs.{ArePlaced, IsBeforePasses, RefusesDesign, RefusesMasters, last_layouts, no_masters, no_masks}
-use Rattle.compact_run.specs.Edits.{IsAnswered, done, Changes, IsStep, AreSteps, IsNextStep, done_word, size_word, step_line}
+use Rattle.compact_run.specs.Edits.{AreLeastLayouts, IsAnswered, done, Changes, IsStep, AreSteps, IsNextStep, done_word, size_word, step_line}
 use Rattle.compact_run.specs.Answers.{RefusesTechnology, RefusesSticks}
+use Rattle.compact_run.proofs.LeastLayouts.{placed_least}
 
 -- ---- refusals before the passes
 
@@ -137,12 +138,19 @@ at_fault tech design new numbers line is none other change =
     let same : other ≡ new = edited_is_determined design numbers line other new change.edited is in
     none (change.cells, ap (λ (d : Design). resolved_cells tech d) (sym same) ∙ change.resolved)
 
--- what is told of a design that is laid out
+-- what is told of a design with least layouts
+pub least_word : (tech : Tech) (axes : List Axis) (design : Design) (plan : Plan) (masters read : List Master) (least layouts : List Coords) (word : Bytes)
+    → length (canonical design) ≤ most_design_bytes → AreMastersOf tech design plan masters → AreLeastLayouts tech plan masters axes least → read ≡ masters → layouts ≡ least
+    → word ≡ done_word read layouts → IsAnswered tech axes design word
+least_word tech axes design plan masters read least layouts word short are fits same there e =
+    done short plan masters are least fits (e ∙ (ap (λ (ms : List Master). done_word ms layouts) same ∙ ap (λ (cs : List Coords). done_word masters cs) there))
+
+-- what is told of one that passes lay out
 pub laid_word : (tech : Tech) (axes : List Axis) (design : Design) (plan : Plan) (masters read : List Master) (steps : List Step) (coords layouts : List Coords) (word : Bytes)
     → length (canonical design) ≤ most_design_bytes → AreMastersOf tech design plan masters → ArePlaced tech plan masters axes steps → coords ≡ last_layouts tech masters steps
     → read ≡ masters → layouts ≡ coords → word ≡ done_word read layouts → IsAnswered tech axes design word
 laid_word tech axes design plan masters read steps coords layouts word short are placed last same there e =
-    done short plan masters are steps placed (e ∙ (ap (λ (ms : List Master). done_word ms layouts) same ∙ ap (λ (cs : List Coords). done_word masters cs) (there ∙ last)))
+    least_word tech axes design plan masters read (last_layouts tech masters steps) layouts word short are (placed_least tech plan masters axes steps placed) same (there ∙ last) e
 
 -- ---- all lines
 

@@ -29,6 +29,7 @@ pub mod LastPass
 pub mod SlackBounds
 pub mod AxisSlack
 pub mod OneLayout
+pub mod LeastLayouts
 pub mod Jogging
 pub mod Editing
 pub mod Scripts

@@ -13,7 +13,7 @@ use Rattle.edit_lines.specs.Scripts.{edits_of}
 use Rattle.edit_lines.proofs.Designs.{edited_is_determined}
 use Rattle.expand.specs.declared.master.Master.{Master}
 use Rattle.plan_model.specs.declared.plan.Plan.{Plan}
-use Rattle.pass_run.specs.declared.step.Step.{Step}
+use Rattle.sym_items.specs.declared.items.Coords.{Coords}
 use Rattle.pass_run.specs.Laid.{StartsClean}
 use Rattle.compact_run.specs.declared.status.File.TheVariants.{Design, Technology, Script}
 use Rattle.compact_run.specs.declared.status.What.TheVariants.{Edges, Extent}
@@ -22,16 +22,17 @@ use Rattle.compact_run.specs.declared.status.Status.TheVariants as status
 use Rattle.compact_run.specs.FaultLines.{script_line}
 use Rattle.compact_run.specs.Refusal.{line_of}
 use Rattle.compact_run.specs.Plans.{AreMastersOf}
-use Rattle.compact_run.specs.Designs.{ArePlaced, IsBeforePasses, RefusesDesign, RefusesMasters, last_layouts, no_masters, no_masks as not_laid_out}
+use Rattle.compact_run.specs.Designs.{IsBeforePasses, RefusesDesign, RefusesMasters, no_masters, no_masks as not_laid_out}
 use Rattle.compact_run.specs.Answers.{IsTechnology, IsDesign, RefusesCompact, no_technology, no_design, no_masks, RefusesEdits, no_start, no_edits, IsStepped}
 use Rattle.compact_run.specs.Edits as edits
-use Rattle.compact_run.specs.Edits.{IsAnswered, done, too_long, Changes, IsStep, AreSteps, HasStart, EditsTo, code_word, done_word, step_line}
+use Rattle.compact_run.specs.Edits.{AreLeastLayouts, IsAnswered, done, too_long, Changes, IsStep, AreSteps, HasStart, EditsTo, code_word, done_word, step_line}
 use Rattle.compact_run.specs.OneAnswer.{IsDecided}
 use Rattle.compact_run.proofs.OneFile.{read_once, not_both, refused_once}
-use Rattle.compact_run.proofs.OneMaster.{same_tech, one_masters, one_passes, not_all_clean, AreSame}
+use Rattle.compact_run.proofs.OneMaster.{same_tech, one_masters, not_all_clean, AreSame}
 use Rattle.compact_run.proofs.OnePlan.{plan_refused, has_masters}
 use Rattle.compact_run.proofs.OneDesign.{ends_once, ends_refused}
-use Rattle.compact_run.proofs.OneLayout.{placed_not_refused, refused_decided}
+use Rattle.compact_run.proofs.OneLayout.{refused_decided}
+use Rattle.compact_run.proofs.LeastLayouts.{one_layouts, least_not_refused}
 use Rattle.compact_run.proofs.OneCompact.{tech_read, sticks_read, tech_refused, sticks_refused}
 use Rattle.compact_run.proofs.OneSlack.{refused_once as unlaid_once}
 use Rattle.compact_run.proofs.Scripts.{script_read, script_refused}
@@ -97,15 +98,14 @@ not_stepped design tech script axes files ended own output (no_edits t x n is th
 long_and_short : (n most : ℕ) → n ≤ most → most < n → ⊥
 long_and_short n most short long = omega (arith, short, long)
 
-one_done : (tech : Tech) (axes : List Axis) (design : Sticks) (p q : Plan) (ms ns : List Master) (s t : List Step) → AreMastersOf tech design p ms → AreMastersOf tech design q ns
-    → ArePlaced tech p ms axes s → ArePlaced tech q ns axes t → done_word ms (last_layouts tech ms s) ≡ done_word ns (last_layouts tech ns t)
-one_done tech axes design p q ms ns s t are also placed laid =
+one_done : (tech : Tech) (axes : List Axis) (design : Sticks) (p q : Plan) (ms ns : List Master) (c d : List Coords) → AreMastersOf tech design p ms → AreMastersOf tech design q ns
+    → AreLeastLayouts tech p ms axes c → AreLeastLayouts tech q ns axes d → done_word ms c ≡ done_word ns d
+one_done tech axes design p q ms ns c d are also least also_least =
     let masters = one_masters tech design p q ms ns are also in
-    let L : Plan → List Master → Type 0 = λ z zs. ArePlaced tech z zs axes t in
-    let in_masters = subst (λ zs. L q zs) (sym masters.1) laid in
+    let L : Plan → List Master → Type 0 = λ z zs. AreLeastLayouts tech z zs axes d in
+    let in_masters = subst (λ zs. L q zs) (sym masters.1) also_least in
     let in_plan = subst (λ z. L z ms) (sym masters.0) in_masters in
-    let steps : s ≡ t = one_passes tech p ms axes s t placed.made in_plan.made in
-    ap (λ (zs : List Step). done_word ms (last_layouts tech ms zs)) steps ∙ ap (λ (zs : List Master). done_word zs (last_layouts tech zs t)) masters.1
+    ap (λ (cs : List Coords). done_word ms cs) (one_layouts tech p ms axes c d least in_plan) ∙ ap (λ (zs : List Master). done_word zs d) masters.1
 
 one_code : (tech : Tech) (axes : List Axis) (design : Sticks) (e f : Status) (a b : Bytes) → RefusesDesign tech axes design e a → RefusesDesign tech axes design f b → (e ≡ status.OutOfMemory → ⊥)
     → (f ≡ status.OutOfMemory → ⊥) → e ≡ f
@@ -114,13 +114,13 @@ one_code tech axes design e f a b h k has also =
     (ends_refused tech axes design f b k (refused_decided tech axes design f b k also))).0
 
 pub one_word : (tech : Tech) (axes : List Axis) (design : Sticks) (word told : Bytes) → IsAnswered tech axes design word → IsAnswered tech axes design told → word ≡ told
-one_word tech axes design word told (done short p ms are s placed e) (done also q ns is t laid f) = e ∙ (one_done tech axes design p q ms ns s t are is placed laid ∙ sym f)
-one_word tech axes design word told (done short p ms are s placed e) (too_long long f) = absurd (long_and_short _ _ short long)
-one_word tech axes design word told (done short p ms are s placed e) (edits.no_masks also ended own why has f) = absurd (placed_not_refused tech axes design ended own why has p ms s are placed)
-one_word tech axes design word told (too_long long e) (done short p ms are s placed f) = absurd (long_and_short _ _ short long)
+one_word tech axes design word told (done short p ms are c least e) (done also q ns is d fits f) = e ∙ (one_done tech axes design p q ms ns c d are is least fits ∙ sym f)
+one_word tech axes design word told (done short p ms are c least e) (too_long long f) = absurd (long_and_short _ _ short long)
+one_word tech axes design word told (done short p ms are c least e) (edits.no_masks also ended own why has f) = absurd (least_not_refused tech axes design ended own why has p ms c are least)
+one_word tech axes design word told (too_long long e) (done short p ms are c least f) = absurd (long_and_short _ _ short long)
 one_word tech axes design word told (too_long long e) (too_long also f) = e ∙ sym f
 one_word tech axes design word told (too_long long e) (edits.no_masks short ended own why has f) = absurd (long_and_short _ _ short long)
-one_word tech axes design word told (edits.no_masks short ended own why has e) (done also p ms are s placed f) = absurd (placed_not_refused tech axes design ended own why has p ms s are placed)
+one_word tech axes design word told (edits.no_masks short ended own why has e) (done also p ms are c least f) = absurd (least_not_refused tech axes design ended own why has p ms c are least)
 one_word tech axes design word told (edits.no_masks short ended own why has e) (too_long long f) = absurd (long_and_short _ _ short long)
 one_word tech axes design word told (edits.no_masks short ended own why has e) (edits.no_masks also other says reason had f) =
     e ∙ (ap (λ (z : Status). code_word z) (one_code tech axes design ended other own says why reason has had) ∙ sym f)

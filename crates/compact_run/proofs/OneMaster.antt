@@ -210,7 +210,7 @@ not_above : (a b : ℤ) → a ≤ℤ b → b <ℤ a → ⊥
 not_above a b le lt = omega (arith, ints, le, lt)
 
 -- layouts are not within the extent and past it
-not_within : (tech : Tech) (plan : Plan) (layouts : List Coords) → IsWithin tech plan layouts → IsPast tech plan layouts → ⊥
+pub not_within : (tech : Tech) (plan : Plan) (layouts : List Coords) → IsWithin tech plan layouts → IsPast tech plan layouts → ⊥
 not_within tech plan layouts w (inl past) = not_above _ _ w.width past
 not_within tech plan layouts w (inr past) = not_above _ _ w.height past
 

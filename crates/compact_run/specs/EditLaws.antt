@@ -20,9 +20,10 @@ pub data CompactAnswers (design tech : Bytes) (axes : List Axis) (files : Files)
       → word ≡ done_word c.compacts.masters (last_layouts c.technology c.compacts.masters c.compacts.steps) → CompactAnswers design tech axes files word
   refused : (ended : Status) (own : Bytes) → RefusesCompact design tech axes files ended own → IsDecided ended → word ≡ code_word ended → CompactAnswers design tech axes files word
 
--- The word on a design that a line has made is what `compact` answers over its canonical text in a file.
+-- Where `compact` answers over the canonical text, in a file, of a design that a line has made, its answer is the word on that design, and there is no
+-- other.
 abbrev pub AreEditsJudgedAsTexts : Type 0
 AreEditsJudgedAsTexts =
     (technology : Tech) (axes : List Axis) (design new : Sticks) (numbers : List ℕ) (line : EditLine) → Changes technology design numbers line new → IsWritable new
-    → (files : Files) (name tech word : Bytes) → get files name ≡ Some (canonical new) → IsTechnology files tech technology
-    → IsAnswered technology axes new word ↔ CompactAnswers name tech axes files word
+    → (files : Files) (name tech answer : Bytes) → get files name ≡ Some (canonical new) → IsTechnology files tech technology → CompactAnswers name tech axes files answer
+    → (word : Bytes) → IsAnswered technology axes new word ↔ (word ≡ answer)

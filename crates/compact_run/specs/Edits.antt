@@ -16,8 +16,9 @@ use Rattle.edit_lines.specs.Edits.{IsEdited}
 use Rattle.expand.specs.declared.master.Master.{Master}
 use Rattle.plan_model.specs.declared.plan.Plan.{Plan}
 use Rattle.pitch_join.specs.Masters.{master_at, master_numbers}
-use Rattle.pass_run.specs.declared.step.Step.{Step}
 use Rattle.pass_run.specs.Laid.{StartsClean}
+use Rattle.pass_run.specs.Layouts.{starts_of}
+use Rattle.pass_run.specs.Least.{LeadTo}
 use Rattle.compact_run.specs.declared.edit.Stepped.{Stepped}
 use Rattle.compact_run.specs.declared.status.File.TheVariants as file
 use Rattle.compact_run.specs.declared.status.Status.{Status}
@@ -25,7 +26,7 @@ use Rattle.compact_run.specs.declared.status.Status.TheVariants as status
 use Rattle.compact_run.specs.Limits.{most_design_bytes}
 use Rattle.compact_run.specs.Status.{code_of}
 use Rattle.compact_run.specs.Plans.{AreMastersOf}
-use Rattle.compact_run.specs.Designs.{ArePlaced, RefusesDesign, last_layouts}
+use Rattle.compact_run.specs.Designs.{IsWithin, RefusesDesign}
 
 -- ---- the word
 
@@ -45,10 +46,18 @@ code_word ended = codes "code " ++ decimal (code_of ended)
 abbrev pub refused_word : Bytes
 refused_word = codes "refused"
 
--- What `compact` comes to over the canonical text of a design: the sizes of its masters, or why it is refused, which is not for want of memory.
+-- The layouts to which passes on these axes lead from the clean start layouts of all masters, and which are not too large together. Each pass gives its
+-- axis the least values that any solution of its system has; nothing else is said of how they are found.
+pub record AreLeastLayouts (tech : Tech) (plan : Plan) (masters : List Master) (axes : List Axis) (layouts : List Coords) : Type 0 where
+  pub clean : All (StartsClean tech) masters
+  pub lead : LeadTo tech plan masters axes (starts_of tech masters) layouts
+  pub within : IsWithin tech plan layouts
+
+-- What a design comes to, whose canonical text is not too long: the sizes of its masters in their least layouts, or why it is refused, which is not for
+-- want of memory.
 pub data IsAnswered (tech : Tech) (axes : List Axis) (design : Design) (word : Bytes) : Type 0 where
-  done : length (canonical design) ≤ most_design_bytes → (plan : Plan) (masters : List Master) → AreMastersOf tech design plan masters → (steps : List Step)
-      → ArePlaced tech plan masters axes steps → word ≡ done_word masters (last_layouts tech masters steps) → IsAnswered tech axes design word
+  done : length (canonical design) ≤ most_design_bytes → (plan : Plan) (masters : List Master) → AreMastersOf tech design plan masters → (layouts : List Coords)
+      → AreLeastLayouts tech plan masters axes layouts → word ≡ done_word masters layouts → IsAnswered tech axes design word
   too_long : most_design_bytes < length (canonical design) → word ≡ code_word (status.TooLong file.Design) → IsAnswered tech axes design word
   no_masks : length (canonical design) ≤ most_design_bytes → (ended : Status) (own : Bytes) → RefusesDesign tech axes design ended own → ended ≢ status.OutOfMemory
       → word ≡ code_word ended → IsAnswered tech axes design word

@@ -123,9 +123,9 @@ fn edit_files<H: Threads + Sync, S: Shelf, G: Gate>(
 {
     let technology = read_technology(alloc, shelf, tech)?;
     let sticks = read_design(alloc, shelf, design)?;
-    let numbers = started(alloc, &technology, &sticks)?;
+    let start = started(alloc, &technology, &sticks)?;
     let lines = read_edit_script(alloc, shelf, script)?;
-    let text = edit(rt, alloc, gate, &technology, axes, sticks, &numbers, &lines)?;
+    let text = edit(rt, alloc, gate, &technology, axes, sticks, start, &lines)?;
     Ok(in_one_piece(alloc, text, b"")?)
 }
 

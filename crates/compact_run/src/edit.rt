@@ -1,6 +1,6 @@
 //! An edit session: a script adds limits to the cells of a design and drops them, and after each line it is told what the design comes to.
 
-ghost use Rattle.std.specs.Prelude.{◌≡◌, ℕ, ℤ, ◌+◌, ◌<◌, ◌≤◌, ◌^◌, ◌↔◌, ◌++◌, List, length, codes, OnOk, IfOk, IfErr, IfSome, MatchOption, IsTrue, Ok};
+ghost use Rattle.std.specs.Prelude.{◌≡◌, ◌≢◌, ℕ, ℤ, ◌+◌, ◌<◌, ◌≤◌, ◌^◌, ◌↔◌, ◌++◌, All, List, length, codes, OnOk, IfOk, IfErr, IfSome, MatchOption, IsTrue, Ok};
 ghost use Rattle.std.specs.Fmt.{signed_decimal};
 ghost use Rattle.std.specs.List.{AllByRecursion};
 ghost use Rattle.lam_geom.specs.declared.boxes.Axis.{Axis as SomeAxis};
@@ -11,6 +11,10 @@ ghost use Rattle.stick_print.specs.ReadBack.{without_line};
 ghost use Rattle.stick_cell.specs.Known.{Known};
 ghost use Rattle.stick_cell.specs.Grids.{resolved_cells};
 ghost use Rattle.edit_lines.specs.Edits.{HasText};
+ghost use Rattle.pitch_join.specs.Masters.{ArePlanned};
+ghost use Rattle.pass_run.specs.Laid.{StartsClean};
+ghost use Rattle.first_pass.specs.First.{IsFirstPass};
+ghost use Rattle.compact_run.specs.declared.status.Status.TheVariants.{OutOfMemory};
 ghost use Rattle.compact_run.specs.Limits.{most_passes};
 ghost use Rattle.compact_run.specs.Refusals.{Refused};
 ghost use Rattle.compact_run.specs.Designs.{HasBothAxes, IsBeforePasses, RefusesDesign};
@@ -18,14 +22,15 @@ ghost use Rattle.compact_run.specs.Edits.{Changes, EditsTo, HasStart, IsAnswered
 
 use crate::extent::{height, width};
 use crate::grid_lines::push_count;
-use crate::laid_out::{is_short, layout_of};
-use crate::layout::judge_starts;
-use crate::masters::masters_of;
-use crate::planning::plan_of;
+use crate::laid_out::is_short;
+use crate::layout::{judge_starts, lay_out};
+use crate::least::{first_of, kept_layouts};
+use crate::masters::{DesignMasters, design_masters};
 use crate::refusal::Refusal;
 use crate::status::{File, Status};
 use edit_lines::{EditLine, edited};
 use expand::Master;
+use first_pass::FirstPass;
 use lam_geom::Axis;
 use lam_io::Gate;
 use rule_table::Tech;
@@ -36,24 +41,27 @@ use stick_lex::push_signed_decimal;
 use stick_parse::{Design, ParseFault};
 use sym_items::Coords;
 
-/// The steps so far: the design that they have made, and what is written.
-#[derive(Debug, Drop)]
+/// The steps so far: the design that they have made, what is written, and the first pass that is kept.
+#[derive(Drop)]
 pub struct Stepped {
     pub design: Design,
     pub text: Vec<u8>,
+    pub first: Option<FirstPass>,
 }
 
-/// The cells that are the masters of a design, by number, where the start layouts of all of them are clean.
-pub fn started(alloc: Global, tech: &Tech, design: &Design) -> Result<Vec<u32>, Refusal>
-    requires { IsWritable design.now }
-    ensures start { IfOk result (λ numbers. HasStart tech.now design.now numbers.items) }
+/// The masters of a design, where the start layouts of all of them are clean.
+pub fn started(alloc: Global, tech: &Tech, design: &Design) -> Result<DesignMasters, Refusal>
+    requires writable { IsWritable design.now }
+    requires few_names { names_in design.now ≤ 2 ^ 19 }
+    ensures start { IfOk result (λ made. HasStart tech.now design.now made.plan.masters) }
+    ensures planned { IfOk result (λ made. ArePlanned tech.now made.plan made.masters.items) }
+    ensures clean { IfOk result (λ made. All (StartsClean tech.now) made.masters.items) }
     ensures refused { IfErr result (λ r. (axes : List SomeAxis) → Refused (RefusesDesign tech.now axes design.now) r) }
     ensures before { IfErr result (λ r. IsBeforePasses r.status) }
 {
-    let planned = plan_of(alloc, tech, design)?;
-    let masters = masters_of(alloc, tech, design, &planned)?;
-    judge_starts(alloc, tech, &masters)?;
-    Ok(Vec::from_slice(alloc, planned.plan.masters.as_slice())?)
+    let made = design_masters(alloc, tech, design)?;
+    judge_starts(alloc, tech, &made.masters)?;
+    Ok(made)
 }
 
 fn push_size(out: &mut Vec<u8>, name: &[u8], width: i64, height: i64) -> Result<(), AllocError>
@@ -95,7 +103,17 @@ fn code_word(alloc: Global, status: &Status) -> Result<Vec<u8>, AllocError>
     Ok(word)
 }
 
-// What `compact` comes to over the canonical text of a design, in a word.
+// The word on a refusal. Want of memory has none.
+fn refused_word(alloc: Global, refusal: &Refusal) -> Result<Vec<u8>, AllocError>
+    ensures { IfOk result (λ word. (refusal.now.status ≢ OutOfMemory) × (word.items ≡ code_word refusal.now.status)) }
+{
+    if refusal.wants_memory() {
+        return Err(AllocError);
+    }
+    code_word(alloc, &refusal.status)
+}
+
+// What a design comes to, in a word: by the first pass that is kept, or else by passes from the start.
 fn word_on<H: Threads + Sync, G: Gate>(
     rt: &H,
     alloc: Global,
@@ -103,25 +121,30 @@ fn word_on<H: Threads + Sync, G: Gate>(
     tech: &Tech,
     axes: &[Axis],
     design: &Design,
+    first: &mut Option<FirstPass>,
 ) -> Result<Vec<u8>, AllocError>
     requires writable { IsWritable design.now }
     requires few_names { names_in design.now ≤ 2 ^ 19 }
     requires both { HasBothAxes axes.now }
     requires few { length axes.now ≤ most_passes }
-    ensures { IfOk result (λ word. IsAnswered tech.now axes.now design.now word.items) }
+    requires first { IfSome first.old (IsFirstPass tech.now) }
+    ensures answered { IfOk result (λ word. IsAnswered tech.now axes.now design.now word.items) }
+    ensures first { OnOk result (IfSome first.new (IsFirstPass tech.now)) }
 {
     if !is_short(alloc, design)? {
         return code_word(alloc, &Status::TooLong(File::Design));
     }
-    match layout_of(rt, alloc, gate, tech, design, axes) {
-        Ok(laid) => done_word(alloc, &laid.masters, laid.passes.coords.as_slice()),
-        Err(refusal) => {
-            if refusal.wants_memory() {
-                Err(AllocError)
-            } else {
-                code_word(alloc, &refusal.status)
-            }
-        }
+    let made = match design_masters(alloc, tech, design) {
+        Ok(made) => made,
+        Err(refusal) => return refused_word(alloc, &refusal),
+    };
+    let (plan, masters) = (&made.plan, made.masters.as_slice());
+    if let Some(layouts) = kept_layouts(rt, alloc, gate, tech, plan, masters, axes, first)? {
+        return done_word(alloc, masters, &layouts);
+    }
+    match lay_out(rt, alloc, gate, tech, plan, masters, axes, 1, false) {
+        Ok(passes) => done_word(alloc, masters, passes.coords.as_slice()),
+        Err(refusal) => refused_word(alloc, &refusal),
     }
 }
 
@@ -193,27 +216,41 @@ fn go_on<H: Threads + Sync, G: Gate>(
     requires few_names { names_in so_far.design ≤ 2 ^ 19 }
     requires both { HasBothAxes axes.now }
     requires few { length axes.now ≤ most_passes }
+    requires first { IfSome so_far.first (IsFirstPass tech.now) }
     ensures step { IfOk result (λ next. IsNextStep tech.now axes.now numbers.now i line.now so_far next) }
     ensures writable { IfOk result (λ next. IsWritable next.design) }
     ensures lines { IfOk result (λ next. lines_in next.design ≤ lines_in so_far.design + 1) }
     ensures names { IfOk result (λ next. names_in next.design ≤ 2 ^ 19) }
+    ensures first { IfOk result (λ next. IfSome next.first (IsFirstPass tech.now)) }
 {
-    let Stepped { design, mut text } = so_far;
+    let Stepped {
+        design,
+        mut text,
+        mut first,
+    } = so_far;
     match changed(alloc, tech, &design, numbers, line)? {
         Some(new) => {
-            let word = word_on(rt, alloc, gate, tech, axes, &new)?;
+            let word = word_on(rt, alloc, gate, tech, axes, &new, &mut first)?;
             push_step(&mut text, i, &word)?;
-            Ok(Stepped { design: new, text })
+            Ok(Stepped {
+                design: new,
+                text,
+                first,
+            })
         }
         None => {
             push_step(&mut text, i, b"refused")?;
-            Ok(Stepped { design, text })
+            Ok(Stepped {
+                design,
+                text,
+                first,
+            })
         }
     }
 }
 
-/// What is written of the lines of a script of edits over a design, whose masters have these numbers: after each line, what the design so far
-/// comes to. A line costs what a compaction costs.
+/// What is written of the lines of a script of edits over a design, whose masters are these: after each line, what the design so far comes to.
+/// A line costs the passes behind the first; the whole compaction where the design is refused, or where no first pass is kept.
 pub fn edit<H: Threads + Sync, G: Gate>(
     rt: &H,
     alloc: Global,
@@ -221,26 +258,35 @@ pub fn edit<H: Threads + Sync, G: Gate>(
     tech: &Tech,
     axes: &[Axis],
     design: Design,
-    numbers: &[u32],
+    start: DesignMasters,
     lines: &[EditLine],
 ) -> Result<Vec<u8>, AllocError>
     requires writable { IsWritable design }
     requires few_names { names_in design ≤ 2 ^ 19 }
     requires few_lines { lines_in design ≤ 2 ^ 20 }
-    requires start { HasStart tech.now design numbers.now }
+    requires start { HasStart tech.now design start.plan.masters }
+    requires planned { ArePlanned tech.now start.plan start.masters.items }
+    requires clean { All (StartsClean tech.now) start.masters.items }
     requires written { AllByRecursion HasText lines.now }
     requires few_steps { length lines.now ≤ 2 ^ 20 }
     requires both { HasBothAxes axes.now }
     requires few { length axes.now ≤ most_passes }
     ensures { IfOk result (λ text. EditsTo tech.now axes.now design lines.now text.items) }
 {
+    let numbers = Vec::from_slice(alloc, start.plan.masters.as_slice())?;
+    let first = first_of(rt, alloc, gate, tech, start, axes)?;
     let mut so_far = Stepped {
         design,
         text: Vec::new(alloc),
+        first,
     };
     for i in 0..lines.len() {
-        so_far = go_on(rt, alloc, gate, tech, axes, numbers, so_far, i, &lines[i])?;
+        so_far = go_on(rt, alloc, gate, tech, axes, &numbers, so_far, i, &lines[i])?;
     }
-    let Stepped { design: _, text } = so_far;
+    let Stepped {
+        design: _,
+        text,
+        first: _,
+    } = so_far;
     Ok(text)
 }

@@ -11,8 +11,7 @@ ghost use Rattle.compact_run.specs.Designs.{ArePlaced, HasBothAxes, RefusesDesig
 
 use crate::fetch::MOST_DESIGN;
 use crate::layout::lay_out;
-use crate::masters::masters_of;
-use crate::planning::{Planned, plan_of};
+use crate::masters::{DesignMasters, design_masters};
 use crate::refusal::Refusal;
 use expand::Master;
 use lam_geom::Axis;
@@ -52,11 +51,10 @@ pub fn layout_of<H: Threads + Sync, G: Gate>(
     ensures few_masters { IfOk result (λ laid. length laid.masters.items < 2 ^ 32) }
     ensures refused { IfErr result (Refused (RefusesDesign tech.now axes.now design.now)) }
 {
-    let planned = plan_of(alloc, tech, design)?;
-    let masters = masters_of(alloc, tech, design, &planned)?;
-    let plan = &planned.plan;
-    let passes = lay_out(rt, alloc, gate, tech, plan, &masters, axes, 1, false)?;
-    let Planned { cells: _, plan } = planned;
+    let made = design_masters(alloc, tech, design)?;
+    let (plan, masters) = (&made.plan, &made.masters);
+    let passes = lay_out(rt, alloc, gate, tech, plan, masters, axes, 1, false)?;
+    let DesignMasters { plan, masters } = made;
     Ok(LaidOut {
         plan,
         masters,

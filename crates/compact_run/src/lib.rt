@@ -18,6 +18,7 @@ mod jog;
 mod laid_out;
 mod laws;
 mod layout;
+mod least;
 mod masters;
 mod output;
 mod planning;

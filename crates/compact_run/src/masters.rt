@@ -9,13 +9,16 @@ ghost use Rattle.expand.specs.Items.{AreItems};
 ghost use Rattle.expand.specs.Masters.{IsMaster};
 ghost use Rattle.pitch_join.specs.Masters.{ArePlanned};
 ghost use Rattle.plan_model.specs.Rows.{rows_of};
+ghost use Rattle.design_sizes.specs.Sizes.{names_in};
+ghost use Rattle.stick_parse.specs.Writable.{IsWritable};
+ghost use Rattle.written_masks.specs.Parts.{boxes_of_instances, HasFewParts};
 ghost use Rattle.written_masks.specs.Written.{AllStand};
 ghost use Rattle.compact_run.specs.Designs.{HasPlainName, HasShortName};
 ghost use Rattle.compact_run.specs.Plans.{AreChosen, AreMastersOf, IsLightPlan, IsPlanned, RefusesPlan, RefusesSize};
 ghost use Rattle.compact_run.specs.Refusals.{Refused};
 ghost use Rattle.compact_run.specs.Limits.{most_items, most_boxes, capped_boxes};
 
-use crate::planning::Planned;
+use crate::planning::{Planned, plan_of};
 use crate::refusal::Refusal;
 use crate::status::{Status, What};
 use cell_nets::nets;
@@ -32,6 +35,13 @@ const MAX_ITEMS: u64 = MOST_ITEMS as u64;
 
 /// The most mask boxes of all instances.
 const MAX_BOXES: u64 = MOST_BOXES as u64;
+
+/// The masters of a design, and the plan of its grids.
+#[derive(Drop)]
+pub struct DesignMasters {
+    pub plan: Plan,
+    pub masters: Vec<Master>,
+}
 
 // The weights of all masters together; 65,537 where that is more than 65,536.
 fn weight_of_all(cells: &Cells, masters: &[u32]) -> u64
@@ -178,4 +188,23 @@ pub fn masters_of(
     judge_size(alloc, &planned.cells, &planned.plan)?;
     ports_are_seen();
     Ok(made(alloc, tech, &planned.cells, planned.plan.masters.as_slice())?)
+}
+
+/// The masters of a design, and the plan of its grids.
+pub fn design_masters(alloc: Global, tech: &Tech, design: &Design) -> Result<DesignMasters, Refusal>
+    requires writable { IsWritable design.now }
+    requires few_names { names_in design.now ≤ 2 ^ 19 }
+    ensures of_design { IfOk result (λ d. AreMastersOf tech.now design.now d.plan d.masters.items) }
+    ensures planned { IfOk result (λ d. ArePlanned tech.now d.plan d.masters.items) }
+    ensures plain { IfOk result (λ d. All HasPlainName d.masters.items) }
+    ensures stand { IfOk result (λ d. AllStand d.plan d.masters.items) }
+    ensures few_parts { IfOk result (λ d. HasFewParts d.plan d.masters.items) }
+    ensures few_boxes { IfOk result (λ d. boxes_of_instances d.plan d.masters.items ≤ most_boxes) }
+    ensures few { IfOk result (λ d. length d.masters.items < 2 ^ 32) }
+    ensures refused { IfErr result (Refused (RefusesPlan tech.now design.now)) }
+{
+    let planned = plan_of(alloc, tech, design)?;
+    let masters = masters_of(alloc, tech, design, &planned)?;
+    let Planned { cells: _, plan } = planned;
+    Ok(DesignMasters { plan, masters })
 }

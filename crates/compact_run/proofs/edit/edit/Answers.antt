@@ -1,10 +1,10 @@
-use Rattle.std.proofs.Common.{◌≤◌, ◌+◌, List, take, sym, ◌∙◌, subst, arith}
+use Rattle.std.proofs.Common.{ℕ, ◌≤◌, ◌+◌, List, take, sym, ◌∙◌, subst, arith}
 use Rattle.std.specs.Prelude.{◌^◌}
 use Rattle.std.proofs.lemmas.List.{get_or_default, take_all}
 use Rattle.list_facts.proofs.Elements.{all_at}
 use Rattle.edit_lines.specs.declared.script.EditLine.{EditLine}
 use Rattle.edit_lines.specs.Edits.{HasText}
-use Rattle.compact_run.specs.Edits.{AreSteps}
+use Rattle.compact_run.specs.Edits.{AreSteps, HasStart, IsNextStep}
 use Rattle.compact_run.proofs.Editing.{steps_next}
 use Rattle.compact_run.proofs.edit.edit.Goals as goal
 
@@ -23,16 +23,21 @@ loop-i-preserved g c =
     let lines = c.args.lines.now in
     let i = c.loop-i.i in
     let line = c.index-lines-i.result in
+    let N : List ℕ → Type 0 = λ ns. IsNextStep c.args.tech.now c.args.axes.now ns i line c.loop-i.so_far c.in_ok-so_far.so_far in
+    let step : N c.in_ok-numbers.numbers.items = subst N c.deref.ensures.value told.step in
     record {
       writable = told.writable;
       names = told.names;
+      first = told.first;
       lines = (let more = told.lines in let before = c.loop-i.invariant.lines in omega (arith, more, before));
-      steps = steps_next c.args.tech.now c.args.axes.now c.args.numbers.now lines i line line c.args.design c.loop-i.so_far c.in_ok-so_far.so_far c.loop-i-test.true
-          (c.index-lines-i.is ∙ get_or_default lines i _ line c.loop-i-test.true) c.loop-i.invariant.steps told.step;
+      steps = steps_next c.args.tech.now c.args.axes.now c.in_ok-numbers.numbers.items lines i line line c.args.design c.loop-i.so_far c.in_ok-so_far.so_far c.loop-i-test.true
+          (c.index-lines-i.is ∙ get_or_default lines i _ line c.loop-i-test.true) c.loop-i.invariant.steps step;
     }
 
 pub returns : goal.returns
 returns g c =
     let lines = c.args.lines.now in
-    let S : List EditLine → Type 0 = λ ls. AreSteps c.args.tech.now c.args.axes.now c.args.numbers.now 0 ls c.args.design c.loop-i.so_far.design c.loop-i.so_far.text.items in
-    record { numbers = c.args.numbers.now; start = c.requires.start; last = c.loop-i.so_far.design; steps = subst S (take_all c.loop-i.i lines c.loop-i-test.false) c.loop-i.invariant.steps }
+    let S : List EditLine → Type 0 = λ ls. AreSteps c.args.tech.now c.args.axes.now c.in_ok-numbers.numbers.items 0 ls c.args.design c.loop-i.so_far.design c.loop-i.so_far.text.items in
+    let H : List ℕ → Type 0 = λ ns. HasStart c.args.tech.now c.args.design ns in
+    let start : H c.in_ok-numbers.numbers.items = subst H (sym (c.in_ok-numbers.ensures.items ∙ c.as_slice.ensures)) c.requires.start in
+    record { numbers = c.in_ok-numbers.numbers.items; start = start; last = c.loop-i.so_far.design; steps = subst S (take_all c.loop-i.i lines c.loop-i-test.false) c.loop-i.invariant.steps }

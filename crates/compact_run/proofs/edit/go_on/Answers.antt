@@ -6,7 +6,7 @@ pub returns-in_ok-push_step-in-Some-clause-step : goal.returns-in_ok-push_step-i
 returns-in_ok-push_step-in-Some-clause-step g c = record {
   word = c.in_ok-word-in-Some.word.items;
   told = rw c.deref.ensures.value at c.in_ok-push_step-in-Some.ensures;
-  step = changed (rw c.in-Some.is at c.in_ok-new.ensures.changed) c.in_ok-word-in-Some.ensures;
+  step = changed (rw c.in-Some.is at c.in_ok-new.ensures.changed) c.in_ok-word-in-Some.ensures.answered;
 }
 
 pub returns-in_ok-push_step-in-None-clause-step : goal.returns-in_ok-push_step-in-None-clause-step

@@ -1,0 +1,92 @@
+-- Least layouts of masters: what passes place, and one place at most.
+use Rattle.std.proofs.Common.{◌≡◌, List, [], ◌∷◌, refl, sym, subst}
+use Rattle.std.specs.Prelude.{All}
+use Rattle.lam_geom.specs.declared.boxes.Axis.{Axis}
+use Rattle.lam_io.specs.Io.{Bytes}
+use Rattle.rule_table.specs.declared.technology.Tech.{Tech}
+use Rattle.sym_items.specs.declared.items.Coords.{Coords}
+use Rattle.stick_parse.specs.declared.design.Design.{Design as Sticks}
+use Rattle.expand.specs.declared.master.Master.{Master}
+use Rattle.plan_model.specs.declared.plan.Plan.{Plan}
+use Rattle.pass_run.specs.declared.step.Step.{Step}
+use Rattle.pass_run.specs.declared.passes.PassFault.TheVariants as stop
+use Rattle.pass_run.specs.Laid.{StartsClean}
+use Rattle.pass_run.specs.Layouts.{starts_of}
+use Rattle.pass_run.specs.Least.{LeadTo}
+use Rattle.pass_run.proofs.Leading.{lead_to_one_place}
+use Rattle.compact_run.specs.declared.status.What.TheVariants.{Edges, Extent}
+use Rattle.compact_run.specs.declared.status.Status.{Status}
+use Rattle.compact_run.specs.declared.status.Status.TheVariants as status
+use Rattle.compact_run.specs.Refusal.{line_of}
+use Rattle.compact_run.specs.Plans.{AreMastersOf}
+use Rattle.compact_run.specs.Designs.{ArePassesOn, ArePlaced, IsPast, IsWithin, RefusesDesign, RefusesMasters, last_layouts, no_masters, no_masks}
+use Rattle.compact_run.specs.Edits.{AreLeastLayouts}
+use Rattle.compact_run.proofs.OneLayout.{refused_decided}
+use Rattle.compact_run.proofs.OneMaster.{one_masters, not_all_clean, not_within}
+use Rattle.compact_run.proofs.OnePlan.{plan_refused, has_masters}
+
+-- ---- passes
+
+-- passes on some axes lead to the layouts that they leave
+passes_lead : (tech : Tech) (plan : Plan) (masters : List Master) (axes : List Axis) (steps : List Step) → ArePassesOn tech plan masters axes steps
+    → LeadTo tech plan masters axes (starts_of tech masters) (last_layouts tech masters steps)
+passes_lead tech plan masters axes steps made =
+    let L : List Axis → Type 0 = λ on. LeadTo tech plan masters on (starts_of tech masters) (last_layouts tech masters steps) in
+    subst L made.on_axes ((lead_to_one_place tech plan masters).steps (starts_of tech masters) steps made.passes)
+
+-- layouts that are placed are least
+pub placed_least : (tech : Tech) (plan : Plan) (masters : List Master) (axes : List Axis) (steps : List Step) → ArePlaced tech plan masters axes steps
+    → AreLeastLayouts tech plan masters axes (last_layouts tech masters steps)
+placed_least tech plan masters axes steps placed =
+    record { clean = placed.made.clean; lead = passes_lead tech plan masters axes steps placed.made; within = placed.within }
+
+-- a pass, and those behind it
+lead_behind : (tech : Tech) (plan : Plan) (masters : List Master) (axis : Axis) (later : List Axis) (before mid after : List Coords) → LeadTo tech plan masters (axis ∷ []) before mid
+    → LeadTo tech plan masters later mid after → LeadTo tech plan masters (axis ∷ later) before after
+lead_behind tech plan masters axis later before mid after first then =
+    let L : List Coords → Type 0 = λ cs. LeadTo tech plan masters later cs after in
+    (first.0, first.1, subst L first.2 then)
+
+-- the passes behind a first one that is known
+pub after_first : (tech : Tech) (plan : Plan) (masters : List Master) (axes later : List Axis) (axis own : Axis) (before layouts : List Coords) → axes ≡ axis ∷ later → own ≡ axis
+    → All (StartsClean tech) masters → LeadTo tech plan masters (own ∷ []) (starts_of tech masters) before → LeadTo tech plan masters later before layouts → IsWithin tech plan layouts
+    → AreLeastLayouts tech plan masters axes layouts
+after_first tech plan masters axes later axis own before layouts are same clean first then within =
+    let F : Axis → Type 0 = λ a. LeadTo tech plan masters (a ∷ []) (starts_of tech masters) before in
+    let L : List Axis → Type 0 = λ on. LeadTo tech plan masters on (starts_of tech masters) layouts in
+    let lead : L (axis ∷ later) = lead_behind tech plan masters axis later (starts_of tech masters) before layouts (subst F same first) then in
+    record { clean = clean; lead = subst L (sym are) lead; within = within }
+
+-- ---- one place
+
+-- masters have one list of least layouts at most
+pub one_layouts : (tech : Tech) (plan : Plan) (masters : List Master) (axes : List Axis) (a b : List Coords) → AreLeastLayouts tech plan masters axes a → AreLeastLayouts tech plan masters axes b → a ≡ b
+one_layouts tech plan masters axes a b p q = (lead_to_one_place tech plan masters).one axes (starts_of tech masters) a b p.lead q.lead
+
+-- ---- no refusal
+
+-- masters with least layouts are not refused, but for want of memory
+least_masters : (tech : Tech) (plan : Plan) (masters : List Master) (axes : List Axis) (layouts : List Coords) (ended : Status) (own : Bytes) → AreLeastLayouts tech plan masters axes layouts
+    → RefusesMasters tech plan masters axes ended own → (ended ≡ status.OutOfMemory → ⊥) → ⊥
+least_masters tech plan masters axes layouts status.OutOfMemory own least why has = has refl
+least_masters tech plan masters axes layouts (status.TooLarge Edges) own least why has =
+    let e : stop.TooManyEdges why.0 ≡ stop.OutOfMemory = (lead_to_one_place tech plan masters).not_refused axes layouts (stop.TooManyEdges why.0) least.lead why.1.why in cc
+least_masters tech plan masters axes layouts (status.TooLarge Extent) own least why has =
+    let P : List Coords → Type 0 = λ cs. IsPast tech plan cs in
+    let same = (lead_to_one_place tech plan masters).one axes (starts_of tech masters) layouts (last_layouts tech masters why.steps) least.lead (passes_lead tech plan masters axes why.steps why.made) in
+    not_within tech plan layouts least.within (subst P (sym same) why.past)
+least_masters tech plan masters axes layouts (status.Clash number a b) own least why has = not_all_clean tech masters number a b own why least.clean
+least_masters tech plan masters axes layouts (status.Unsatisfiable pass) own least why has =
+    let e : stop.Unsatisfiable pass own ≡ stop.OutOfMemory = (lead_to_one_place tech plan masters).not_refused axes layouts (stop.Unsatisfiable pass own) least.lead why.why in cc
+least_masters tech plan masters axes layouts other own least why has = absurd why
+
+-- nor is a design with such masters
+pub least_not_refused : (tech : Tech) (axes : List Axis) (design : Sticks) (ended : Status) (own : Bytes) → RefusesDesign tech axes design ended own → (ended ≡ status.OutOfMemory → ⊥)
+    → (plan : Plan) (masters : List Master) (layouts : List Coords) → AreMastersOf tech design plan masters → AreLeastLayouts tech plan masters axes layouts → ⊥
+least_not_refused tech axes design ended own (no_masters why) has plan masters layouts are least =
+    has_masters tech design plan masters ended (line_of ended own) are (plan_refused tech design ended own why (refused_decided tech axes design ended own (no_masters why) has))
+least_not_refused tech axes design ended own (no_masks other others also why) has plan masters layouts are least =
+    let same = one_masters tech design plan other masters others are also in
+    let L : Plan → List Master → Type 0 = λ p ms. AreLeastLayouts tech p ms axes layouts in
+    let in_plan : L other masters = subst (λ p. L p masters) same.0 least in
+    least_masters tech other others axes layouts ended own (subst (λ ms. L other ms) same.1 in_plan) why has
