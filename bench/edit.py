@@ -1,0 +1,97 @@
+#!/usr/bin/env python3
+"""Times `edit` on one large cell, beside as many answers of `compact`: edit.py [PROGRAM [JOINTS [LINES]]]
+
+The cell has 4,000 joints in rows of 63, and the script 1,000 lines: each adds a limit between two neighbours, and each tenth drops one again. Printed are, in user seconds:
+  edit      the whole script
+  compact   as many answers of `compact` in one process: the time of one over the first and over the last design, less that of a start of the program, so many times
+  ratio     compact by edit
+Where perf is found it also counts samples: the share of the first passes in `edit` (what runs below FirstPass of first_pass), and how many times as long the first pass of `compact` takes. The status is 1
+where `edit` is not faster, or where the first passes take more than a tenth of what they take in `compact`.
+"""
+import os, re, shutil, subprocess, sys, tempfile
+from compact import TECH
+
+HERE = os.path.dirname(os.path.abspath(__file__))
+PROGRAM = os.path.abspath(sys.argv[1]) if len(sys.argv) > 1 else os.path.join(HERE, "..", "crates", "sticks", "out", "sticks")
+JOINTS = int(sys.argv[2]) if len(sys.argv) > 2 else 4000
+LINES = int(sys.argv[3]) if len(sys.argv) > 3 else 1000
+ACROSS = 63
+
+
+def joints():
+    return "".join("joint j%d metal %d %d\n" % (k, k % ACROSS, k // ACROSS) for k in range(JOINTS))
+
+
+def design(limits):
+    return "sticks 1\ncell t\n" + joints() + "".join(limits) + "end\ngrid\nrow t\nend\n"
+
+
+def script():
+    """The lines, and the limits that the cell has at the end."""
+    lines, limits = [], []
+    for i in range(LINES):
+        if i % 10 == 9:
+            lines.append("drop t %d\n" % (len(limits) // 2))
+            del limits[len(limits) // 2]
+        else:
+            k = (i * 37) % (JOINTS - 1)
+            if k % ACROSS == ACROSS - 1:
+                k -= 1
+            limits.append("x j%d j%d >= %d\n" % (k, k + 1, 12 + i % 20))
+            lines.append("add t " + limits[-1])
+    return lines, ["limit " + limit for limit in limits]
+
+
+def seconds(words, times):
+    """User seconds of a run, the mean of so many."""
+    before = os.times().children_user
+    for _ in range(times):
+        ran = subprocess.run([PROGRAM] + words, stdout=subprocess.PIPE, stderr=subprocess.PIPE)
+        if ran.returncode:
+            sys.exit("%s: status %d: %s" % (" ".join(words), ran.returncode, ran.stderr.decode()))
+    return (os.times().children_user - before) / times, ran.stdout.decode()
+
+
+PASS = ("pass_run", "shadow_prune", "scan_line", "pitch_join", "liao_wong", "round_log", "edge_index", "crit_path", "cons_graph", "par_phase")
+FIRST = ("first_pass", "edit_session")
+
+
+def share(words, crates, times):
+    """The share of a run's samples that lie in functions of these crates, by their names; None where perf is not found."""
+    if not shutil.which("perf"):
+        return None
+    with tempfile.NamedTemporaryFile() as data:
+        for _ in range(times):
+            subprocess.run(["perf", "record", "-q", "-F", "9999", "-o", data.name, PROGRAM] + words, stdout=subprocess.DEVNULL, stderr=subprocess.DEVNULL)
+        told = subprocess.run(["perf", "report", "-q", "--stdio", "-i", data.name, "-F", "overhead,symbol"], stdout=subprocess.PIPE, stderr=subprocess.DEVNULL).stdout.decode()
+    rows = re.findall(r"^\s*([0-9.]+)%\s+\[\.\]\s+(.*)$", told, re.M)
+    return sum(float(percent) for percent, symbol in rows if any(crate in symbol for crate in crates)) / 100
+
+
+def main():
+    lines, limits = script()
+    with tempfile.TemporaryDirectory() as folder:
+        path = lambda name, text: (open(os.path.join(folder, name), "w").write(text), os.path.join(folder, name))[1]
+        first, last = path("first", design([])), path("last", design(limits))
+        told = path("script", "".join(lines))
+        start, _ = seconds(["fmt", path("none", "sticks 1\n")], 20)
+        edits = ["edit", first, "--tech", TECH, "--script", told]
+        edit, said = seconds(edits, 1)
+        if said.count(" done ") != LINES:
+            sys.exit("not every line is done: " + said[:200])
+        one = sum(seconds(["compact", d, "--tech", TECH], 20)[0] - start for d in (first, last)) / 2
+        print("edit      %7.3f s  %d lines over %d joints" % (edit, LINES, JOINTS))
+        print("compact   %7.3f s  as many answers, %.2f ms each" % (one * LINES, one * 1000))
+        print("ratio     %7.2f" % (one * LINES / edit))
+        quick, whole = share(edits, FIRST, 1), share(["compact", last, "--tech", TECH], PASS, 1)
+        slow = edit > one * LINES
+        if quick is not None:
+            # a compaction makes two passes
+            here, there = quick * edit / LINES, whole * one / 2
+            print("first pass  %.3f ms of each line, %.3f ms of a compaction: x %.1f" % (here * 1000, there * 1000, there / max(here, 1e-9)))
+            slow = slow or there < 10 * here
+    sys.exit(slow)
+
+
+if __name__ == "__main__":
+    main()
