@@ -74,7 +74,7 @@ def main():
         path = lambda name, text: (open(os.path.join(folder, name), "w").write(text), os.path.join(folder, name))[1]
         first, last = path("first", design([])), path("last", design(limits))
         told = path("script", "".join(lines))
-        start, _ = seconds(["fmt", path("none", "sticks 1\n")], 20)
+        start, _ = seconds(["fmt", path("one", "sticks 1\ncell t\njoint a metal 0 0\nend\ngrid\nrow t\nend\n")], 20)
         edits = ["edit", first, "--tech", TECH, "--script", told]
         edit, said = seconds(edits, 1)
         if said.count(" done ") != LINES:
