@@ -47,3 +47,6 @@ returns-clause-answered g c =
     let why : R made.masters.items = subst R c.as_slice-masters.ensures.value c.in-Err-lay_out.ensures.refused in
     IfOk-weaker c.refused_word-in-Err-lay_out.result _ _
     (λ word told. no_masks short refusal.status (own_text refusal.line) (not_laid_out made.plan made.masters.items c.in-Ok.ensures.of_design why) told.0 told.1) c.refused_word-in-Err-lay_out.ensures
+
+pub lay_out-requires-clause-few_boxes : goal.lay_out-requires-clause-few_boxes
+lay_out-requires-clause-few_boxes g c κs within = rw c.as_slice-masters.ensures.value c.in-Ok.ensures.few_boxes

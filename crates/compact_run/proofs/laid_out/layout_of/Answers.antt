@@ -6,3 +6,6 @@ pub returns-in_err-passes-clause-refused : goal.returns-in_err-passes-clause-ref
 returns-in_err-passes-clause-refused g c =
     let p = err_from_is_err_and c.from_residual-in_err-passes.result c.from_residual-in_err-passes.ensures.1 in
     rw p.1 (rw p.2 (no_masks c.in_ok-made.made.plan _ c.in_ok-made.ensures.of_design (rw c.deref.ensures.value at c.in_err-passes.ensures.refused)))
+
+pub lay_out-requires-clause-few_boxes : goal.lay_out-requires-clause-few_boxes
+lay_out-requires-clause-few_boxes g c κs within = rw c.deref.ensures.value c.in_ok-made.ensures.few_boxes
