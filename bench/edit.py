@@ -3,10 +3,10 @@
 
 The cell has 4,000 joints in rows of 63, and the script 1,000 lines: each adds a limit between two neighbours, and each tenth drops one again. Printed are, in user seconds:
   edit      the whole script
-  compact   as many answers of `compact` in one process: the time of one over the first and over the last design, less that of a start of the program, so many times
+  compact   as many answers of `compact` in one process: the time of one, over the designs at the start and after each tenth of the script, less that of a start of the program, so many times
   ratio     compact by edit
-Where perf is found it also counts samples: the share of the first passes in `edit` (what runs below FirstPass of first_pass), and how many times as long the first pass of `compact` takes. The status is 1
-where `edit` is not faster, or where the first passes take more than a tenth of what they take in `compact`.
+Where perf is found it also counts samples, by the names of functions: the share of the first passes in `edit` (at most, as the compiler puts small functions into others), and how many times as long a pass of `compact` takes.
+The status is 1 where `edit` is not faster, or where its first passes take more than a tenth of what a pass takes in `compact`.
 """
 import os, re, shutil, subprocess, sys, tempfile
 from compact import TECH
@@ -27,9 +27,11 @@ def design(limits):
 
 
 def script():
-    """The lines, and the limits that the cell has at the end."""
-    lines, limits = [], []
+    """The lines, and the limits that the cell has at the start and after each tenth of them."""
+    lines, limits, seen = [], [], []
     for i in range(LINES):
+        if i % max(1, LINES // 10) == 0:
+            seen.append(["limit " + limit for limit in limits])
         if i % 10 == 9:
             lines.append("drop t %d\n" % (len(limits) // 2))
             del limits[len(limits) // 2]
@@ -39,7 +41,7 @@ def script():
                 k -= 1
             limits.append("x j%d j%d >= %d\n" % (k, k + 1, 12 + i % 20))
             lines.append("add t " + limits[-1])
-    return lines, ["limit " + limit for limit in limits]
+    return lines, seen + [["limit " + limit for limit in limits]]
 
 
 def seconds(words, times):
@@ -52,8 +54,9 @@ def seconds(words, times):
     return (os.times().children_user - before) / times, ran.stdout.decode()
 
 
-PASS = ("pass_run", "shadow_prune", "scan_line", "pitch_join", "liao_wong", "round_log", "edge_index", "crit_path", "cons_graph", "par_phase")
-FIRST = ("first_pass", "edit_session")
+# where passes run, and the first passes of `edit`: functions of these crates, and those into which the compiler puts such functions
+PASS = ("pass_run", "shadow_prune", "scan_line", "pair_rules", "pitch_join", "liao_wong", "round_log", "edge_index", "crit_path", "cons_graph", "par_phase", "fork::calls_from")
+FIRST = ("first_pass", "edit_session", "edit::word_on", "compact_run::least")
 
 
 def share(words, crates, times):
@@ -69,21 +72,21 @@ def share(words, crates, times):
 
 
 def main():
-    lines, limits = script()
+    lines, seen = script()
     with tempfile.TemporaryDirectory() as folder:
         path = lambda name, text: (open(os.path.join(folder, name), "w").write(text), os.path.join(folder, name))[1]
-        first, last = path("first", design([])), path("last", design(limits))
+        designs = [path("d%d" % i, design(limits)) for i, limits in enumerate(seen)]
         told = path("script", "".join(lines))
         start, _ = seconds(["fmt", path("one", "sticks 1\ncell t\njoint a metal 0 0\nend\ngrid\nrow t\nend\n")], 20)
-        edits = ["edit", first, "--tech", TECH, "--script", told]
+        edits = ["edit", designs[0], "--tech", TECH, "--script", told]
         edit, said = seconds(edits, 1)
         if said.count(" done ") != LINES:
             sys.exit("not every line is done: " + said[:200])
-        one = sum(seconds(["compact", d, "--tech", TECH], 20)[0] - start for d in (first, last)) / 2
+        one = sum(seconds(["compact", d, "--tech", TECH], 5)[0] - start for d in designs) / len(designs)
         print("edit      %7.3f s  %d lines over %d joints" % (edit, LINES, JOINTS))
         print("compact   %7.3f s  as many answers, %.2f ms each" % (one * LINES, one * 1000))
         print("ratio     %7.2f" % (one * LINES / edit))
-        quick, whole = share(edits, FIRST, 1), share(["compact", last, "--tech", TECH], PASS, 1)
+        quick, whole = share(edits, FIRST, 1), share(["compact", designs[-1], "--tech", TECH], PASS, 1)
         slow = edit > one * LINES
         if quick is not None:
             # a compaction makes two passes
