@@ -3,7 +3,7 @@ mod Counts
 mod Covered
 mod Facing
 mod Firsts
-mod Grains
+pub mod Grains
 mod Improper
 mod InOrder
 mod Leasts

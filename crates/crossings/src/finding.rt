@@ -7,7 +7,8 @@ ghost use Rattle.crossings.specs.Spots.{AreBoxesOn};
 ghost use Rattle.lam_geom.specs.declared.boxes.MaskLayer.TheVariants.{NI};
 
 use crate::crossing::{Crossing, CrossingFault};
-use crate::pair_tests::{common_box, in_grains};
+use crate::lengths::in_grains;
+use crate::pair_tests::common_box;
 use crate::pairs::Pair;
 use crate::spots::{is_covered, trees_of};
 use crate::standings::{Standing, standing_of};

@@ -2,11 +2,13 @@
 //!
 //! What the layer above uses: `crossings` gives all crossings with their channels, in order of their diffusion, or the first
 //! pair of poly and diffusion that overlap and neither cross properly nor are a buried pair; `is_buried` tests one pair
-//! by a tree of the windows, as `tree_on` makes it. Lengths are in grains, half hundredths of a micron.
+//! by a tree of the windows, as `tree_on` makes it. Lengths are in grains, half hundredths of a micron; `in_grains` has those of a
+//! technology.
 #![tactic(auto)]
 
 mod crossing;
 mod finding;
+mod lengths;
 mod pair_tests;
 mod pairs;
 mod partners;
@@ -17,5 +19,6 @@ mod windows;
 
 pub use crossing::{Crossing, CrossingFault};
 pub use finding::crossings;
+pub use lengths::in_grains;
 pub use spots::{is_covered, spots_on, tree_on};
 pub use windows::is_buried;

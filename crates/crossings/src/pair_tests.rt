@@ -7,18 +7,9 @@ ghost use Rattle.rule_table.specs.Bounds.{IsLength};
 ghost use Rattle.crossings.specs.Boxes.{other, grains, IsCommon, IsCommonSpan};
 ghost use Rattle.crossings.specs.Crossings.{CrossAlong};
 
+use crate::lengths::in_grains;
 use lam_geom::{Axis, BoxXY, Span, span_of};
 use rule_table::Tech;
-
-/// A length of the technology in grains.
-pub fn in_grains(tech: &Tech, length: i64) -> i64
-    requires { IsLength length }
-    ensures value { result ≡ grains tech.now length }
-    ensures not_negative { pos 0 ≤ℤ result }
-    ensures within { result ≤ℤ pos (2 ^ 25) }
-{
-    length * (2 * tech.numbers().unit)
-}
 
 /// What two boxes that overlap have in common.
 pub fn common_box(a: &BoxXY, b: &BoxXY) -> BoxXY

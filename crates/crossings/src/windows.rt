@@ -10,7 +10,8 @@ ghost use Rattle.crossings.specs.Crossings.{IsBuriedPair};
 ghost use Rattle.crossings.specs.Pairs.{IsCovered, IsShared};
 ghost use Rattle.crossings.specs.Spots.{AreBoxesOn};
 
-use crate::pair_tests::{common_box, in_grains};
+use crate::lengths::in_grains;
+use crate::pair_tests::common_box;
 use crate::spots::is_covered;
 use box_tree::BoxTree;
 use lam_geom::{BoxXY, MaskBox, MaskLayer, overlaps};

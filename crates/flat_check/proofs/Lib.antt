@@ -3,7 +3,6 @@ pub mod ChannelSpots
 pub mod Covered
 pub mod Faced
 pub mod FacingPairs
-pub mod Grains
 pub mod InRanges
 pub mod NearAreas
 pub mod OneChannel

@@ -8,7 +8,7 @@ use Rattle.lam_geom.specs.Gaps.{gap_of_boxes, Encloses}
 use Rattle.rule_table.specs.Bounds.{IsLength}
 use Rattle.rule_table.specs.declared.technology.Tech.{Tech}
 use Rattle.crossings.specs.Boxes.{box_at, IsOn, grains}
-use Rattle.flat_check.proofs.Grains.{held}
+use Rattle.crossings.proofs.Grains.{held}
 use mir.Val.{SFits}
 
 -- a length that is passed on stays as it is

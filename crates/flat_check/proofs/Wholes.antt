@@ -1,5 +1,5 @@
 -- Boxes of poly and metal are pieces as a whole: what the tree of their pieces tells of boxes.
-use Rattle.std.proofs.Common.{◌≡◌, ◌↔◌, ℕ, ◌<◌, ◌⊎◌, inl, inr, ℤ, Bool, Some, List, [], ◌∷◌, map, Contains, IsTrue, length, slice_index, refl, sym, ap, ◌∙◌, subst, arith}
+use Rattle.std.proofs.Common.{◌≡◌, ◌↔◌, ℕ, inl, inr, ℤ, Bool, Some, List, [], ◌∷◌, map, Contains, IsTrue, length, slice_index, refl, sym, ap, ◌∙◌, subst, arith}
 use Rattle.std.specs.Prelude.{slice_get}
 use Rattle.std.specs.List.{range_with_len, Any}
 use Rattle.std.proofs.lemmas.List.Elements.{All-contains}
@@ -8,7 +8,6 @@ use Rattle.list_facts.proofs.Some.{any_here, any_flat_map, any_range}
 use Rattle.lam_geom.specs.declared.boxes.BoxXY.{BoxXY}
 use Rattle.lam_geom.specs.declared.boxes.MaskBox.{MaskBox}
 use Rattle.lam_geom.specs.declared.boxes.MaskLayer.{MaskLayer}
-use Rattle.lam_geom.specs.declared.boxes.MaskLayer.TheVariants.{NP, NM}
 use Rattle.lam_geom.specs.Gaps.{Encloses}
 use Rattle.box_tree.specs.declared.query.Question.TheVariants.{Covers}
 use Rattle.box_tree.specs.declared.spots.Spot.{Spot}

@@ -6,9 +6,9 @@ ghost use Rattle.rule_table.specs.Bounds.{IsLength};
 ghost use Rattle.flat_check.specs.Breaks.{IsChannel, IsNearChannel, IsCutNearChannel, IsImplantTooNear, IsWindowTooNear};
 ghost use Rattle.flat_check.specs.Sheets.{IsSheet};
 
-use crate::lengths::in_grains;
 use crate::nearness::{are_nearer, numbered};
 use crate::sheet::Sheet;
+use crossings::in_grains;
 use lam_geom::{BoxXY, MaskLayer, contains_by};
 
 /// Whether a box is a cut that lies too near the channel of another.

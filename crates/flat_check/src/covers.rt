@@ -9,12 +9,11 @@ ghost use Rattle.flat_check.specs.Breaks.{IsUncovered};
 ghost use Rattle.flat_check.specs.Sheets.{IsSheet};
 ghost use Rattle.flat_check.specs.Trees.{ArePiecesOn, AreTreesOf, IsUncut};
 
-use crate::lengths::in_grains;
 use crate::nearness::numbered;
 use crate::sheet::Sheet;
 use crate::trees::Trees;
 use box_tree::{BoxTree, Query, Question};
-use crossings::is_covered;
+use crossings::{in_grains, is_covered};
 use lam_geom::{BoxXY, MaskLayer};
 
 /// Whether a box is a cut that does not lie inside metal, or inside neither poly nor diffusion, by the enclosure.

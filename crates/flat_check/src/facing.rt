@@ -11,12 +11,12 @@ ghost use Rattle.flat_check.specs.Sheets.{IsOnPairs, IsSheet};
 ghost use Rattle.flat_check.specs.Trees.{AreChannels, ArePiecesOn, AreTreesOf, IsPieceOn};
 
 use crate::channels::channel_at;
-use crate::lengths::in_grains;
 use crate::nearness::numbered;
 use crate::rule::Rule;
 use crate::sheet::Sheet;
 use crate::trees::{Trees, spot_of_piece};
 use box_tree::{BoxTree, Query, Question};
+use crossings::in_grains;
 use lam_geom::MaskLayer;
 use rule_table::Tech;
 

@@ -9,7 +9,6 @@ mod channels;
 mod covers;
 mod facing;
 mod first;
-mod lengths;
 mod nearness;
 mod pairs;
 mod partners;

@@ -5,7 +5,7 @@ ghost use Rattle.lam_geom.specs.Places.{IsPlacedBox};
 ghost use Rattle.rule_table.specs.Bounds.{IsLength};
 ghost use Rattle.crossings.specs.Boxes.{AreSearchable, box_at, grains};
 
-use crate::lengths::in_grains;
+use crossings::in_grains;
 use lam_geom::{BoxXY, MaskBox, gap_box};
 use rule_table::Tech;
 

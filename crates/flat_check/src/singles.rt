@@ -7,8 +7,8 @@ ghost use Rattle.crossings.specs.Boxes.{AreSearchable, extent};
 ghost use Rattle.flat_check.specs.Breaks.{IsBreak, IsNarrow, IsOddCut, IsSquare, width_on};
 ghost use Rattle.flat_check.specs.Order.{IsFoundOf, IsOnOne};
 
-use crate::lengths::in_grains;
 use crate::rule::{Break, Rule};
+use crossings::in_grains;
 use lam_geom::{BoxXY, MaskBox, MaskLayer, Span};
 use rule_table::Tech;
 

@@ -142,14 +142,14 @@ fn owner_over(
             owner: box_no,
         },
     };
+    if let Some(k) = trees.metal.find(&query) {
+        return Some(trees.metal.spots()[k as usize].owner);
+    }
     if let Some(k) = trees.diffusion.find(&query) {
         return Some(trees.diffusion.spots()[k as usize].owner);
     }
     if let Some(k) = trees.poly.find(&query) {
         return Some(trees.poly.spots()[k as usize].owner);
-    }
-    if let Some(k) = trees.metal.find(&query) {
-        return Some(trees.metal.spots()[k as usize].owner);
     }
     None
 }

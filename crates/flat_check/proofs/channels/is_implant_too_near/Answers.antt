@@ -6,7 +6,7 @@ use Rattle.lam_geom.specs.declared.boxes.MaskBox.{MaskBox}
 use Rattle.lam_geom.specs.declared.boxes.MaskLayer.TheVariants.{NI}
 use Rattle.rule_table.specs.declared.keys.Numbers.{Numbers}
 use Rattle.crossings.specs.Boxes.{area_at}
-use Rattle.flat_check.proofs.Grains.{grains_held, held}
+use Rattle.crossings.proofs.Grains.{grains_held, held}
 use Rattle.flat_check.proofs.NearAreas.{nearer_read, on_layer, past_read}
 use Rattle.flat_check.proofs.OneChannel.{implant_if_found, no_implant_near, past_is_not_near}
 use Rattle.flat_check.proofs.channels.is_implant_too_near.Goals as goal

@@ -3,7 +3,7 @@ use Rattle.std.proofs.Common.{◌≡◌, false, true, inl, inr, refl, sym, ap, r
 use Rattle.lam_geom.specs.contracts.boxes.MaskLayer.{the_type}
 use Rattle.lam_geom.specs.declared.boxes.MaskLayer.TheVariants.{ND, NP, NC, NM}
 use Rattle.flat_check.proofs.Covered.{IsCoveredCut, cut_read, covered_read, no_metal, covered_twice, uncovered_by_diffusion}
-use Rattle.flat_check.proofs.Grains.{grains_held}
+use Rattle.crossings.proofs.Grains.{grains_held}
 use Rattle.flat_check.proofs.covers.is_uncovered.Goals as goal
 
 pub returns-then-not-is_covered_whole : goal.returns-then-not-is_covered_whole

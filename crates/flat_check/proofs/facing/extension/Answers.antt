@@ -1,6 +1,6 @@
 use Rattle.std.proofs.Common.{ap}
 use Rattle.rule_table.specs.declared.keys.Numbers.{Numbers}
-use Rattle.flat_check.proofs.Grains.{grains_held}
+use Rattle.crossings.proofs.Grains.{grains_held}
 use Rattle.flat_check.proofs.facing.extension.Goals as goal
 
 pub returns-clause-value : goal.returns-clause-value

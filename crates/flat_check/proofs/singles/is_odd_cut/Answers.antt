@@ -5,7 +5,7 @@ use Rattle.lam_geom.specs.contracts.boxes.MaskLayer.{the_type}
 use Rattle.lam_geom.specs.declared.boxes.MaskLayer.TheVariants.{NC}
 use Rattle.crossings.specs.Boxes.{no_box}
 use Rattle.flat_check.proofs.Covered.{cut_read, odd_by_square}
-use Rattle.flat_check.proofs.Grains.{grains_held}
+use Rattle.crossings.proofs.Grains.{grains_held}
 use Rattle.flat_check.proofs.singles.is_odd_cut.Goals as goal
 
 pub returns : goal.returns

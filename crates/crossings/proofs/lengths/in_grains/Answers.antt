@@ -1,6 +1,6 @@
 use Rattle.std.proofs.Common.{◌*ℤ◌, pos, ap, ◌∙◌}
 use Rattle.crossings.proofs.Grains.{small_product, product_held}
-use Rattle.crossings.proofs.pair_tests.in_grains.Goals as goal
+use Rattle.crossings.proofs.lengths.in_grains.Goals as goal
 
 pub returns-clause-value : goal.returns-clause-value
 returns-clause-value c =
