@@ -54,13 +54,13 @@ def seconds(words, times):
     return (os.times().children_user - before) / times, ran.stdout.decode()
 
 
-# where passes run, and the first passes of `edit`: functions of these crates, and those into which the compiler puts such functions
-PASS = ("pass_run", "shadow_prune", "scan_line", "pair_rules", "pitch_join", "liao_wong", "round_log", "edge_index", "crit_path", "cons_graph", "par_phase", "fork::calls_from")
-FIRST = ("first_pass", "edit_session", "edit::word_on", "compact_run::least")
+# where passes run, and the first passes of `edit`: functions of these crates and modules, and those into which the compiler puts such functions
+PASS = ("pass_run", "shadow_prune", "scan_line", "pair_rules", "pitch_join", "liao_wong", "round_log", "edge_index", "cons_graph", "par_phase", "fork::calls_from")
+FIRST = tuple("pass_run::" + module for module in ("first", "following", "bared", "compared", "limits", "shown")) + ("edit_session", "edit::word_on", "compact_run::least")
 
 
-def share(words, crates, times):
-    """The share of a run's samples that lie in functions of these crates, by their names; None where perf is not found."""
+def share(words, homes, others, times):
+    """The share of a run's samples that lie in functions of these crates and modules and not of the others, by their names; None where perf is not found."""
     if not shutil.which("perf"):
         return None
     with tempfile.NamedTemporaryFile() as data:
@@ -68,7 +68,7 @@ def share(words, crates, times):
             subprocess.run(["perf", "record", "-q", "-F", "9999", "-o", data.name, PROGRAM] + words, stdout=subprocess.DEVNULL, stderr=subprocess.DEVNULL)
         told = subprocess.run(["perf", "report", "-q", "--stdio", "-i", data.name, "-F", "overhead,symbol"], stdout=subprocess.PIPE, stderr=subprocess.DEVNULL).stdout.decode()
     rows = re.findall(r"^\s*([0-9.]+)%\s+\[\.\]\s+(.*)$", told, re.M)
-    return sum(float(percent) for percent, symbol in rows if any(crate in symbol for crate in crates)) / 100
+    return sum(float(percent) for percent, symbol in rows if any(home in symbol for home in homes) and not any(home in symbol for home in others)) / 100
 
 
 def main():
@@ -86,7 +86,7 @@ def main():
         print("edit      %7.3f s  %d lines over %d joints" % (edit, LINES, JOINTS))
         print("compact   %7.3f s  as many answers, %.2f ms each" % (one * LINES, one * 1000))
         print("ratio     %7.2f" % (one * LINES / edit))
-        quick, whole = share(edits, FIRST, 1), share(["compact", designs[-1], "--tech", TECH], PASS, 1)
+        quick, whole = share(edits, FIRST, (), 1), share(["compact", designs[-1], "--tech", TECH], PASS, FIRST, 1)
         slow = edit > one * LINES
         if quick is not None:
             # a compaction makes two passes

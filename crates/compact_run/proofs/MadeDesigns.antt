@@ -17,7 +17,7 @@ use Rattle.grid_plan.specs.Numbered.{masters_in}
 use Rattle.sym_items.specs.declared.items.Coords.{Coords}
 use Rattle.pass_run.specs.declared.step.Step.{Step}
 use Rattle.net_extract.specs.declared.netlist.Netlist.{Netlist}
-use Rattle.conductors.specs.Sticks.{IsSticksNetlist}
+use Rattle.grid_rules.specs.Sticks.{IsSticksNetlist}
 use Rattle.compact_run.specs.declared.status.Status.{Status}
 use Rattle.compact_run.specs.declared.status.Status.TheVariants as status
 use Rattle.compact_run.specs.Plans.{AreMastersOf}

@@ -7,7 +7,7 @@ use Rattle.plan_model.specs.declared.plan.Plan.{Plan}
 use Rattle.pass_run.specs.declared.step.Step.{Step}
 use Rattle.net_extract.specs.declared.netlist.Netlist.{Netlist}
 use Rattle.net_extract.specs.Laws.{IsExtractionDetermined}
-use Rattle.conductors.specs.Sticks.{IsSticksNetlist}
+use Rattle.grid_rules.specs.Sticks.{IsSticksNetlist}
 use Rattle.design_gen.specs.Made.{made}
 use Rattle.cif_answers.proofs.Determined.{extracted_same}
 use Rattle.compact_run.specs.declared.status.Status.{Status}

@@ -13,7 +13,7 @@ use Rattle.plan_model.specs.declared.plan.Plan.{Plan}
 use Rattle.pitch_join.specs.Masters.{master_at}
 use Rattle.pass_run.specs.declared.step.Step.{Step}
 use Rattle.net_extract.specs.declared.netlist.Netlist.{Netlist}
-use Rattle.conductors.specs.Sticks.{IsSticksNetlist}
+use Rattle.grid_rules.specs.Sticks.{IsSticksNetlist}
 use Rattle.design_gen.specs.Made.{made}
 use Rattle.compact_run.specs.declared.bench.Tally.{Tally}
 use Rattle.compact_run.specs.declared.status.Status.{Status}

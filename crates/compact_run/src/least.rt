@@ -3,16 +3,15 @@
 ghost use Rattle.std.specs.Prelude.{All, IfOk, IfSome, OnOk};
 ghost use Rattle.pitch_join.specs.Masters.{ArePlanned};
 ghost use Rattle.pass_run.specs.Laid.{StartsClean};
-ghost use Rattle.first_pass.specs.First.{IsFirstPass};
+ghost use Rattle.pass_run.specs.First.{IsFirstPass};
 ghost use Rattle.compact_run.specs.Edits.{AreLeastLayouts};
 
 use crate::extent::judge_extent;
 use crate::masters::DesignMasters;
 use expand::Master;
-use first_pass::FirstPass;
 use lam_geom::Axis;
 use lam_io::Gate;
-use pass_run::lead_on;
+use pass_run::{FirstPass, lead_on};
 use plan_model::Plan;
 use rule_table::Tech;
 use std::alloc::{AllocError, Global};

@@ -20,13 +20,13 @@ use Rattle.pair_rules.specs.Bound.{no_item, item_at}
 use Rattle.plan_model.specs.Instances.{master_at_spot}
 use Rattle.plan_model.specs.Plan.{grids_of}
 use Rattle.pitch_join.specs.Masters.{no_master, master_at}
-use Rattle.conductors.specs.Conductors.{Drawn, item_of}
-use Rattle.conductors.specs.Meetings.{at, IsOwned, IsTransistorAt, TransistorsHaveBoxes}
-use Rattle.conductors.specs.Shapes.{shapes_of, Shows}
-use Rattle.conductors.specs.Sticks.{is_of_transistor, IsTransistor, IsOfNode, AreTransistors}
-use Rattle.conductors.proofs.NetlistLists.{has_left, has_right}
-use Rattle.conductors.proofs.NetlistPlaces.{has_of_contains, contains_of_has, item_fet}
-use Rattle.conductors.proofs.NetlistShapes.{number, shown_below, one_item}
+use Rattle.grid_rules.specs.Conductors.{Drawn, item_of}
+use Rattle.grid_rules.specs.Meetings.{at, IsOwned, IsTransistorAt, TransistorsHaveBoxes}
+use Rattle.grid_rules.specs.Shapes.{shapes_of, Shows}
+use Rattle.grid_rules.specs.Sticks.{is_of_transistor, IsTransistor, IsOfNode, AreTransistors}
+use Rattle.grid_rules.proofs.NetlistLists.{has_left, has_right}
+use Rattle.grid_rules.proofs.NetlistPlaces.{has_of_contains, contains_of_has, item_fet}
+use Rattle.grid_rules.proofs.NetlistShapes.{number, shown_below, one_item}
 use Rattle.mask_out.specs.declared.picture.Call.{Call}
 use Rattle.cell_model.specs.declared.cell.Cell.{Cell}
 use Rattle.sym_items.specs.declared.items.Item.{Item}

@@ -27,12 +27,12 @@ use Rattle.grid_rules.specs.Rules.{items_at, shifted_sides}
 use Rattle.mask_out.specs.declared.picture.Call.{Call}
 use Rattle.crossings.specs.Boxes.{extent, other}
 use Rattle.crossings.specs.declared.crossing.Crossing.{Crossing}
-use Rattle.conductors.specs.Conductors.{Drawn, sides_of_drawn}
-use Rattle.conductors.specs.Meetings.{at, IsOwned, IsTransistorAt, HasBoxes, TransistorsHaveBoxes}
-use Rattle.conductors.specs.Shapes.{Shows, sides_in_grains}
-use Rattle.conductors.specs.Sticks.{IsTransistor}
-use Rattle.conductors.proofs.NetlistCross.{channel_extents}
-use Rattle.conductors.proofs.NetlistShapes.{number, shown_below, one_item}
+use Rattle.grid_rules.specs.Conductors.{Drawn, sides_of_drawn}
+use Rattle.grid_rules.specs.Meetings.{at, IsOwned, IsTransistorAt, HasBoxes, TransistorsHaveBoxes}
+use Rattle.grid_rules.specs.Shapes.{Shows, sides_in_grains}
+use Rattle.grid_rules.specs.Sticks.{IsTransistor}
+use Rattle.grid_rules.proofs.NetlistCross.{channel_extents}
+use Rattle.grid_rules.proofs.NetlistShapes.{number, shown_below, one_item}
 use Rattle.design_nets.specs.declared.instances.Instance.{Instance}
 use Rattle.design_nets.specs.declared.node_items.NodeItems.{NodeItems}
 use Rattle.design_nets.specs.declared.shapes.Shape.{Shape}

@@ -17,10 +17,10 @@ use Rattle.pitch_join.specs.Masters.{master_at, no_master}
 use Rattle.grid_rules.specs.Rules.{shifted_sides}
 use Rattle.mask_out.specs.declared.picture.Call.{Call}
 use Rattle.crossings.specs.declared.crossing.Crossing.{Crossing}
-use Rattle.conductors.specs.Meetings.{at, TransistorsHaveBoxes}
-use Rattle.conductors.specs.Shapes.{sides_in_grains}
-use Rattle.conductors.specs.Sticks.{IsTransistor}
-use Rattle.conductors.proofs.NetlistShapes.{shown_below}
+use Rattle.grid_rules.specs.Meetings.{at, TransistorsHaveBoxes}
+use Rattle.grid_rules.specs.Shapes.{sides_in_grains}
+use Rattle.grid_rules.specs.Sticks.{IsTransistor}
+use Rattle.grid_rules.proofs.NetlistShapes.{shown_below}
 use Rattle.design_nets.specs.declared.instances.Instance.{Instance}
 use Rattle.design_nets.specs.declared.node_items.NodeItems.{NodeItems}
 use Rattle.design_nets.specs.declared.shapes.Shape.{Shape}

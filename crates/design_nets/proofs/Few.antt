@@ -24,8 +24,8 @@ use Rattle.pair_rules.specs.Bound.{item_at, no_item}
 use Rattle.pitch_join.specs.Masters.{master_at, no_master}
 use Rattle.mask_out.specs.Masks.{is_drawn, masks_on, mask_layers, masks_in}
 use Rattle.mask_out.proofs.Counted.{boxes_counted}
-use Rattle.conductors.specs.Shapes.{items_on, drawn_items}
-use Rattle.conductors.proofs.PictureLists.{picked_images, by_numbers}
+use Rattle.grid_rules.specs.Shapes.{items_on, drawn_items}
+use Rattle.grid_rules.proofs.PictureLists.{picked_images, by_numbers}
 use Rattle.design_nets.specs.declared.instances.Instance.{Instance}
 use Rattle.design_nets.specs.declared.shapes.Shape.{Shape}
 use Rattle.design_nets.specs.Firsts.{together}

@@ -25,7 +25,7 @@ use Rattle.expand.specs.NodeItems.{item_running, on_layer, channel_items, kind_i
 use Rattle.expand.specs.Variables.{half, cross_of}
 use Rattle.expand.specs.WireItems.{low_end_of, high_end_of, contact_at, run_item, wire_items}
 use Rattle.list_facts.proofs.Elements.{all_append, all_flat, all_numbers}
-use Rattle.conductors.proofs.ChainParts.{parts_within, node_nets_are}
+use Rattle.grid_rules.proofs.ChainParts.{parts_within, node_nets_are}
 use Rattle.design_nets.proofs.Counted.{part_below, wire_below, wire_count}
 
 abbrev pub HasNetBelow : ℕ → Item → Type 0

@@ -14,7 +14,7 @@ use Rattle.pair_rules.specs.Bound.{item_at}
 use Rattle.expand.specs.declared.master.Master.{Master}
 use Rattle.pitch_join.specs.Masters.{master_at}
 use Rattle.mask_out.specs.Masks.{is_drawn, mask_layers}
-use Rattle.conductors.specs.Shapes.{items_on, drawn_items}
+use Rattle.grid_rules.specs.Shapes.{items_on, drawn_items}
 use Rattle.design_nets.specs.declared.node_items.NodeItems.{NodeItems}
 use Rattle.design_nets.specs.Transistors.{IsOf, AreOfOwners, AreNodeItems}
 

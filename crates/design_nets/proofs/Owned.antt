@@ -23,8 +23,8 @@ use Rattle.pitch_join.specs.Masters.{ArePlanned, master_at, no_master}
 use Rattle.net_extract.specs.declared.netlist.Part.{Part}
 use Rattle.net_extract.specs.declared.netlist.Part.TheVariants.{Whole, Low, High}
 use Rattle.net_extract.specs.Places.{parts_on}
-use Rattle.conductors.specs.Sticks.{is_transistor}
-use Rattle.conductors.proofs.NetlistLists.{Has}
+use Rattle.grid_rules.specs.Sticks.{is_transistor}
+use Rattle.grid_rules.proofs.NetlistLists.{Has}
 use Rattle.design_nets.specs.declared.instances.Instance.{Instance}
 use Rattle.design_nets.specs.declared.owners.OwnNet.{OwnNet}
 use Rattle.design_nets.specs.declared.pieces.Placed.{Placed}

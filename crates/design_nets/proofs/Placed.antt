@@ -17,13 +17,13 @@ use Rattle.pitch_join.specs.Masters.{master_at, ports_of_masters}
 use Rattle.net_extract.specs.declared.netlist.Part.{Part}
 use Rattle.net_extract.specs.declared.netlist.Part.TheVariants.{Whole, Low, High}
 use Rattle.net_extract.specs.Places.{Place, place}
-use Rattle.conductors.specs.Conductors.{Drawn, item_of}
-use Rattle.conductors.specs.Shapes.{Shows}
-use Rattle.conductors.specs.Sticks.{places_of_shape, places_of_sticks, net_of_part, AreOfOne}
-use Rattle.conductors.proofs.NetlistLists.{Has, has_at, from_map}
-use Rattle.conductors.proofs.NetlistPlaces.{places_shown}
-use Rattle.conductors.proofs.NetlistShapes.{one_item}
-use Rattle.conductors.proofs.PictureLists.{image_of_pieces}
+use Rattle.grid_rules.specs.Conductors.{Drawn, item_of}
+use Rattle.grid_rules.specs.Shapes.{Shows}
+use Rattle.grid_rules.specs.Sticks.{places_of_shape, places_of_sticks, net_of_part, AreOfOne}
+use Rattle.grid_rules.proofs.NetlistLists.{Has, has_at, from_map}
+use Rattle.grid_rules.proofs.NetlistPlaces.{places_shown}
+use Rattle.grid_rules.proofs.NetlistShapes.{one_item}
+use Rattle.grid_rules.proofs.PictureLists.{image_of_pieces}
 use Rattle.design_nets.specs.declared.instances.Instance.{Instance}
 use Rattle.design_nets.specs.declared.pieces.Placed.{Placed}
 use Rattle.design_nets.specs.declared.shapes.Shape.{Shape}

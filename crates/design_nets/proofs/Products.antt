@@ -7,7 +7,7 @@ use Rattle.rule_table.specs.Bounds.{IsLength}
 use Rattle.rule_table.specs.declared.technology.Tech.{Tech}
 use Rattle.rule_table.specs.Technology.{numbers_of}
 use Rattle.crossings.specs.Boxes.{grains}
-use Rattle.conductors.proofs.NetlistScale.{scaled, scale_positive}
+use Rattle.grid_rules.proofs.NetlistScale.{scaled, scale_positive}
 use mir.Val.{SFits}
 
 abbrev pub IsNearProduct : ℤ → ℤ → Type 0

@@ -13,10 +13,10 @@ use Rattle.plan_model.specs.Instances.{Spot, spot, spots_of}
 use Rattle.plan_model.specs.Plan.{grids_of}
 use Rattle.pitch_join.specs.Masters.{master_at}
 use Rattle.grid_rules.specs.Rules.{items_at}
-use Rattle.conductors.specs.Conductors.{Drawn}
-use Rattle.conductors.specs.Meetings.{at}
-use Rattle.conductors.specs.Shapes.{drawn_items, shapes_at, shapes_of, Shows}
-use Rattle.conductors.proofs.PictureLists.{image_of_pieces, by_numbers}
+use Rattle.grid_rules.specs.Conductors.{Drawn}
+use Rattle.grid_rules.specs.Meetings.{at}
+use Rattle.grid_rules.specs.Shapes.{drawn_items, shapes_at, shapes_of, Shows}
+use Rattle.grid_rules.proofs.PictureLists.{image_of_pieces, by_numbers}
 use Rattle.design_nets.specs.declared.instances.Instance.{Instance}
 use Rattle.design_nets.specs.declared.shapes.Shape.{Shape}
 use Rattle.design_nets.specs.Firsts.{together}

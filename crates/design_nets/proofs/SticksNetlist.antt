@@ -21,11 +21,11 @@ use Rattle.net_extract.specs.declared.netlist.Piece.{Piece}
 use Rattle.net_extract.specs.Devices.{HasBoxes}
 use Rattle.net_extract.specs.Netlists.{place_of, nets_of, device_of}
 use Rattle.net_extract.specs.Places.{Place}
-use Rattle.conductors.specs.Conductors.{Drawn}
-use Rattle.conductors.specs.Meetings.{at}
-use Rattle.conductors.specs.Shapes.{shapes_of}
-use Rattle.conductors.specs.Sticks.{places_of_sticks, AreOfOne, IsTransistor, AreTransistors, IsSticksNetlist}
-use Rattle.conductors.proofs.NetlistShapes.{shown_below}
+use Rattle.grid_rules.specs.Conductors.{Drawn}
+use Rattle.grid_rules.specs.Meetings.{at}
+use Rattle.grid_rules.specs.Shapes.{shapes_of}
+use Rattle.grid_rules.specs.Sticks.{places_of_sticks, AreOfOne, IsTransistor, AreTransistors, IsSticksNetlist}
+use Rattle.grid_rules.proofs.NetlistShapes.{shown_below}
 use Rattle.design_nets.specs.declared.instances.Instance.{Instance}
 use Rattle.design_nets.specs.declared.owners.OwnNet.{OwnNet}
 use Rattle.design_nets.specs.declared.pieces.Placed.{Placed}

@@ -16,7 +16,7 @@ use Rattle.mask_out.specs.Masks.{layer_drawn}
 use Rattle.net_extract.specs.declared.netlist.Part.{Part}
 use Rattle.net_extract.specs.declared.netlist.Part.TheVariants.{Whole, Low, High}
 use Rattle.net_extract.specs.Places.{Place, place, parts_on}
-use Rattle.conductors.specs.Sticks.{is_transistor}
+use Rattle.grid_rules.specs.Sticks.{is_transistor}
 use Rattle.design_nets.specs.declared.instances.Instance.{Instance}
 use Rattle.design_nets.specs.declared.owners.OwnNet.{OwnNet}
 use Rattle.design_nets.specs.declared.pieces.Placed.{Placed}

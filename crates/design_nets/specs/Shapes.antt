@@ -2,9 +2,9 @@
 use Rattle.std.specs.Prelude.{◌≡◌, ℕ, List, length, map, slice_index_or}
 use Rattle.expand.specs.declared.master.Master.{Master}
 use Rattle.pitch_join.specs.Masters.{master_at}
-use Rattle.conductors.specs.Conductors.{Drawn}
-use Rattle.conductors.specs.Meetings.{at}
-use Rattle.conductors.specs.Shapes.{drawn_items}
+use Rattle.grid_rules.specs.Conductors.{Drawn}
+use Rattle.grid_rules.specs.Meetings.{at}
+use Rattle.grid_rules.specs.Shapes.{drawn_items}
 use Rattle.design_nets.specs.declared.instances.Instance.{Instance}
 use Rattle.design_nets.specs.declared.shapes.Shape.{Shape}
 use Rattle.design_nets.specs.Firsts.{together, AreFirsts}

@@ -5,7 +5,7 @@ ghost use Rattle.sym_items.specs.Boxes.{HasBox};
 ghost use Rattle.sym_items.specs.Sides.{sides_of, sides_in};
 ghost use Rattle.grid_rules.specs.Rules.{shifted_sides};
 ghost use Rattle.crossings.specs.Boxes.{grains};
-ghost use Rattle.conductors.specs.Shapes.{sides_in_grains};
+ghost use Rattle.grid_rules.specs.Shapes.{sides_in_grains};
 ghost use Rattle.design_nets.specs.Transistors.{LiesNear};
 
 use lam_geom::{BoxXY, Span};

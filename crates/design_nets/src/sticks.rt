@@ -7,8 +7,8 @@ ghost use Rattle.plan_model.specs.Plan.{grids_of};
 ghost use Rattle.pitch_join.specs.Masters.{ArePlanned};
 ghost use Rattle.grid_rules.specs.Rules.{AreFinished};
 ghost use Rattle.mask_out.specs.Pictures.{HaveBoxes, IsDrawable};
-ghost use Rattle.conductors.specs.Shapes.{shapes_of};
-ghost use Rattle.conductors.specs.Sticks.{IsSticksNetlist};
+ghost use Rattle.grid_rules.specs.Shapes.{shapes_of};
+ghost use Rattle.grid_rules.specs.Sticks.{IsSticksNetlist};
 
 use crate::instances::instances;
 use crate::masters::{drawn_in_masters, nets_of_masters};

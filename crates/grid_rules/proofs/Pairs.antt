@@ -43,13 +43,13 @@ master_of plan masters p = master_at masters (master_at_spot (grids_of plan) p)
 
 -- In the cell of one instance an item with this owner stands for one of the next instance: it is of the same class, ends on the border between
 -- them, and lies along that border where the other does.
-record StandsFor (axis : Axis) (plan : Plan) (masters : List Master) (layouts : List Coords) (nets : ℕ → Nets) (p q : Spot) (owner : ℕ) (b c : Item) : Type 0 where
-  among : Contains (items_at plan masters p) c
-  class : c.class ≡ b.class
-  owner_is : c.owner ≡ owner
-  ends : EndsOnBorder axis c
-  low : low_in (other axis) (values_at (other axis) plan layouts p) c ≡ low_in (other axis) (values_at (other axis) plan layouts q) b
-  high : high_in (other axis) (values_at (other axis) plan layouts p) c ≡ high_in (other axis) (values_at (other axis) plan layouts q) b
+pub record StandsFor (axis : Axis) (plan : Plan) (masters : List Master) (layouts : List Coords) (p q : Spot) (owner : ℕ) (b c : Item) : Type 0 where
+  pub among : Contains (items_at plan masters p) c
+  pub class : c.class ≡ b.class
+  pub owner_is : c.owner ≡ owner
+  pub ends : EndsOnBorder axis c
+  pub low : low_in (other axis) (values_at (other axis) plan layouts p) c ≡ low_in (other axis) (values_at (other axis) plan layouts q) b
+  pub high : high_in (other axis) (values_at (other axis) plan layouts p) c ≡ high_in (other axis) (values_at (other axis) plan layouts q) b
 
 -- the net of the wire that meets that of b is b's
 pub joins : (axis : Axis) (tech : Tech) (plan : Plan) (masters : List Master) (layouts : List Coords) (nets : ℕ → Nets) (p q : Spot) (b : Item) (bp : CellPort) → (done : IsDone tech plan masters layouts) → AreNetsOf masters nets
@@ -69,12 +69,12 @@ joins axis tech plan masters layouts nets p q b bp done are at_p at_q v box wire
     let start : IsOneNet ports nets grids p n p (net_of_port nets m met.a) = subst (IsOneNet ports nets grids p n p) from the_same in
     subst (IsOneNet ports nets grids p n q) to (met_before (other axis) p q met.a bp start met.met)
 
-stands_for : (axis : Axis) (tech : Tech) (plan : Plan) (masters : List Master) (layouts : List Coords) (nets : ℕ → Nets) (p q : Spot) (b : Item) (bp : CellPort) → (done : IsDone tech plan masters layouts)
+pub stands_for : (axis : Axis) (tech : Tech) (plan : Plan) (masters : List Master) (layouts : List Coords) (p q : Spot) (b : Item) (bp : CellPort) → (done : IsDone tech plan masters layouts)
     → (at_p : IsSpot (grids_of plan) p) → (at_q : IsSpot (grids_of plan) q) → (end : EndsAtPort axis tech (master_of plan masters q).cell (master_is tech plan masters q done.planned at_q).items.nets true b)
     → IsPortOf axis (master_of plan masters q).cell true end.wire bp → (met : Meets axis plan masters layouts p q end.wire bp)
     → LayerHas (wire_at (master_of plan masters p).cell.wires met.a.wire).layer b.class
-    → StandsFor axis plan masters layouts nets p q (length (master_of plan masters p).cell.nodes + met.a.wire) b (wire_box tech (master_of plan masters p).cell (master_is tech plan masters p done.planned at_p).items.nets met.a.wire b.class)
-stands_for axis tech plan masters layouts nets p q b bp done at_p at_q end port met has =
+    → StandsFor axis plan masters layouts p q (length (master_of plan masters p).cell.nodes + met.a.wire) b (wire_box tech (master_of plan masters p).cell (master_is tech plan masters p done.planned at_p).items.nets met.a.wire b.class)
+stands_for axis tech plan masters layouts p q b bp done at_p at_q end port met has =
     let cell : Cell = (master_of plan masters p).cell in
     let mp = master_is tech plan masters p done.planned at_p in
     let mq = master_is tech plan masters q done.planned at_q in
@@ -126,7 +126,7 @@ apart_at_ports axis tech plan masters layouts nets p q a b s done are item_a ite
       | inr apart ↦
           let c : Item = wire_box tech cell own u b.class in
           let box_c : IsBoxOfWire tech cell own c u = record { among = met.own.among; class = has; is = refl } in
-          let stands = stands_for axis tech plan masters layouts nets p q b of_b.0 done item_a.at item_b.at end_b of_b.1 met has in
+          let stands = stands_for axis tech plan masters layouts p q b of_b.0 done item_a.at item_b.at end_b of_b.1 met has in
           let owner_a : a.owner ≡ length cell.nodes + end_a.wire = (item_keeps tech cell own a end_a.wire end_a.box).owner in
           let owner_c : c.owner ≡ length cell.nodes + u = stands.owner_is in
           let in_cell : IsBound tech a c s = record {

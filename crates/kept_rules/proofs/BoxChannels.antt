@@ -14,12 +14,12 @@ use Rattle.plan_model.specs.declared.plan.Plan.{Plan}
 use Rattle.crossings.specs.Boxes.{area_at}
 use Rattle.flat_check.specs.Breaks.{IsChannel, IsNearChannel, IsCutNearChannel, IsImplantTooNear, IsWindowTooNear}
 use Rattle.grid_rules.proofs.Gaps.{IsDone}
-use Rattle.conductors.specs.Conductors.{Drawn, sides_of_drawn}
-use Rattle.conductors.specs.Meetings.{at, IsOfClass}
-use Rattle.conductors.specs.Shapes.{sides_in_grains, AreShapes}
-use Rattle.conductors.proofs.NetlistBoxes.{encloses_there, sides_at, on_item}
-use Rattle.conductors.proofs.NetlistCrossings.{crossing_is}
-use Rattle.conductors.proofs.NetlistShapes.{class_of_layer}
+use Rattle.grid_rules.specs.Conductors.{Drawn, sides_of_drawn}
+use Rattle.grid_rules.specs.Meetings.{at, IsOfClass}
+use Rattle.grid_rules.specs.Shapes.{sides_in_grains, AreShapes}
+use Rattle.grid_rules.proofs.NetlistBoxes.{encloses_there, sides_at, on_item}
+use Rattle.grid_rules.proofs.NetlistCrossings.{crossing_is}
+use Rattle.grid_rules.proofs.NetlistShapes.{class_of_layer}
 use Rattle.kept_rules.specs.Items.{KeepOff, CutsKeepOffChannels, ImplantsCoverOrKeepOff, WindowsKeepOff}
 use Rattle.kept_rules.proofs.BoxPlain.{not_nearer}
 

@@ -24,16 +24,16 @@ use Rattle.net_extract.specs.Places.{Place, places_of}
 use Rattle.flat_check.specs.Breaks.{ArePiecesTooNear}
 use Rattle.grid_rules.specs.Rules.{AreNetsOf}
 use Rattle.grid_rules.proofs.Gaps.{IsDone}
-use Rattle.conductors.specs.Conductors.{Drawn, item_of, sides_of_drawn, AreOfOneBox, AreOfOneNet}
-use Rattle.conductors.specs.Meetings.{IsOfClass}
-use Rattle.conductors.specs.Shapes.{AreShapes}
-use Rattle.conductors.specs.Sticks.{places_of_sticks, net_of_part, NetsAreTheSticks}
-use Rattle.conductors.proofs.MeetingGaps.{nets_there}
-use Rattle.conductors.proofs.NetlistBoxes.{class_shown}
-use Rattle.conductors.proofs.NetlistLinks.{same_box}
-use Rattle.conductors.proofs.NetlistPieces.{conducting, IsPiece, piece_of_part}
-use Rattle.conductors.proofs.NetlistPlaces.{place_back}
-use Rattle.conductors.proofs.NetlistShapes.{class_of_layer}
+use Rattle.grid_rules.specs.Conductors.{Drawn, item_of, sides_of_drawn, AreOfOneBox, AreOfOneNet}
+use Rattle.grid_rules.specs.Meetings.{IsOfClass}
+use Rattle.grid_rules.specs.Shapes.{AreShapes}
+use Rattle.grid_rules.specs.Sticks.{places_of_sticks, net_of_part, NetsAreTheSticks}
+use Rattle.grid_rules.proofs.MeetingGaps.{nets_there}
+use Rattle.grid_rules.proofs.NetlistBoxes.{class_shown}
+use Rattle.grid_rules.proofs.NetlistLinks.{same_box}
+use Rattle.grid_rules.proofs.NetlistPieces.{conducting, IsPiece, piece_of_part}
+use Rattle.grid_rules.proofs.NetlistPlaces.{place_back}
+use Rattle.grid_rules.proofs.NetlistShapes.{class_of_layer}
 use Rattle.kept_rules.specs.Items.{spacing_of_class, NetsKeepOff}
 use Rattle.kept_rules.proofs.BoxPlain.{not_nearer}
 

@@ -18,11 +18,11 @@ use Rattle.plan_model.specs.declared.plan.Plan.{Plan}
 use Rattle.grid_rules.proofs.Gaps.{gap_turned}
 use Rattle.crossings.specs.Boxes.{area_at, layer_at, IsOn, extent, grains}
 use Rattle.crossings.specs.Pairs.{IsCovered}
-use Rattle.conductors.specs.Conductors.{Drawn, sides_of_drawn, gap_of_drawn}
-use Rattle.conductors.specs.Shapes.{Shows, sides_in_grains, AreShapes}
-use Rattle.conductors.proofs.NetlistScale.{scaled, scale_positive, gap_in_grains, length_in_grains}
-use Rattle.conductors.proofs.NetlistShapes.{class_of_layer, each_shown, one_number}
-use Rattle.conductors.proofs.NetlistBoxes.{encloses_there, sides_at, class_shown, on_item, box_of, boxes_overlap}
+use Rattle.grid_rules.specs.Conductors.{Drawn, sides_of_drawn, gap_of_drawn}
+use Rattle.grid_rules.specs.Shapes.{Shows, sides_in_grains, AreShapes}
+use Rattle.grid_rules.proofs.NetlistScale.{scaled, scale_positive, gap_in_grains, length_in_grains}
+use Rattle.grid_rules.proofs.NetlistShapes.{class_of_layer, each_shown, one_number}
+use Rattle.grid_rules.proofs.NetlistBoxes.{encloses_there, sides_at, class_shown, on_item, box_of, boxes_overlap}
 use Rattle.flat_check.specs.Breaks.{width_on, IsNarrow, IsOddCut, IsUncovered, ArePairOf, IsPolyTooNear, AreCutsTooNear}
 use Rattle.kept_rules.specs.Items.{width_of_class, ConductorsAreWide, CutsAreSquare, IsCoveredBy, CutsAreCovered, PolyKeepsOff, CutsKeepOff}
 

@@ -11,8 +11,8 @@ use Rattle.crossings.specs.Crossings.{AreProper, IsBadPair}
 use Rattle.flat_check.specs.declared.rule.Rule.TheVariants.{Width, CutSize, ProperCrossing, PolyToDiffusion, CutCover, MetalSpacing, PolySpacing, DiffusionSpacing, CutSpacing, CutToChannel, ImplantToChannel, WindowToChannel}
 use Rattle.flat_check.specs.Breaks.{AtEither, KeepRules}
 use Rattle.grid_rules.proofs.Gaps.{IsDone}
-use Rattle.conductors.specs.Shapes.{AreShapes}
-use Rattle.conductors.specs.Sticks.{NetsAreTheSticks}
+use Rattle.grid_rules.specs.Shapes.{AreShapes}
+use Rattle.grid_rules.specs.Sticks.{NetsAreTheSticks}
 use Rattle.kept_rules.specs.Items.{ConductorsAreWide, CutsAreSquare, CutsAreCovered, PolyKeepsOff, NetsKeepOff, CutsKeepOff, CutsKeepOffChannels, ImplantsCoverOrKeepOff, WindowsKeepOff}
 use Rattle.kept_rules.proofs.BoxPlain.{none_narrow, none_odd, none_uncovered, poly_keeps_off, cuts_keep_off}
 use Rattle.kept_rules.proofs.BoxPieces.{pieces_keep_off}

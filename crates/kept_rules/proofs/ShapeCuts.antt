@@ -32,12 +32,12 @@ use Rattle.plan_model.specs.declared.plan.Plan.{Plan}
 use Rattle.grid_rules.specs.Rules.{shifted_sides, items_at}
 use Rattle.grid_rules.proofs.Gaps.{IsDone}
 use Rattle.grid_rules.proofs.Meeting.{master_is}
-use Rattle.conductors.specs.Conductors.{Drawn, item_of, sides_of_drawn}
-use Rattle.conductors.specs.Meetings.{master_of, at, IsOfClass, EnclosesBy}
-use Rattle.conductors.proofs.MeetingRuns.{IsRun, found}
-use Rattle.conductors.proofs.MeetingBlocks.{run_node, stands_in, only_place}
-use Rattle.conductors.proofs.MeetingCuts.{ContactOf, contact_of}
-use Rattle.conductors.proofs.MeetingGaps.{layout_of, x_of, y_of}
+use Rattle.grid_rules.specs.Conductors.{Drawn, item_of, sides_of_drawn}
+use Rattle.grid_rules.specs.Meetings.{master_of, at, IsOfClass, EnclosesBy}
+use Rattle.grid_rules.proofs.MeetingRuns.{IsRun, found}
+use Rattle.grid_rules.proofs.MeetingBlocks.{run_node, stands_in, only_place}
+use Rattle.grid_rules.proofs.MeetingCuts.{ContactOf, contact_of}
+use Rattle.grid_rules.proofs.MeetingGaps.{layout_of, x_of, y_of}
 use Rattle.kept_rules.specs.Items.{IsSquare, CutsAreSquare, IsCoveredBy, CutsAreCovered, OwnersHaveOneCut}
 
 -- ---- in the block of a contact

@@ -43,9 +43,9 @@ use Rattle.plan_model.specs.declared.plan.Plan.{Plan}
 use Rattle.grid_rules.specs.Rules.{shifted_sides}
 use Rattle.grid_rules.proofs.Gaps.{IsDone}
 use Rattle.grid_rules.proofs.Meeting.{master_is}
-use Rattle.conductors.specs.Conductors.{item_of}
-use Rattle.conductors.specs.Meetings.{master_of}
-use Rattle.conductors.proofs.MeetingGaps.{layout_of, finished_at, x_of, y_of}
+use Rattle.grid_rules.specs.Conductors.{item_of}
+use Rattle.grid_rules.specs.Meetings.{master_of}
+use Rattle.grid_rules.proofs.MeetingGaps.{layout_of, finished_at, x_of, y_of}
 use Rattle.kept_rules.specs.Items.{width_of_class, IsWide, ConductorsAreWide}
 
 -- ---- least extents and widths

@@ -28,9 +28,9 @@ use Rattle.expand.specs.Variables.{half}
 use Rattle.expand.proofs.Among.{sound_numbers, buried_size}
 use Rattle.expand.proofs.Cells.{node_sound}
 use Rattle.grid_rules.specs.Rules.{shifted_sides}
-use Rattle.conductors.specs.Meetings.{EnclosesBy}
-use Rattle.conductors.proofs.MeetingRuns.{IsRun, places, IsIn, found}
-use Rattle.conductors.proofs.MeetingBlocks.{run_node, run_wire, stands_in, OwnerOf, a_node, a_wire, owner_of, only_place}
+use Rattle.grid_rules.specs.Meetings.{EnclosesBy}
+use Rattle.grid_rules.proofs.MeetingRuns.{IsRun, places, IsIn, found}
+use Rattle.grid_rules.proofs.MeetingBlocks.{run_node, run_wire, stands_in, OwnerOf, a_node, a_wire, owner_of, only_place}
 
 -- ---- two items of one owner stand in one block
 

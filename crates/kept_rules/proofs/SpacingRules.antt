@@ -21,10 +21,10 @@ use Rattle.grid_rules.specs.Rules.{AreNetsOf}
 use Rattle.grid_rules.proofs.Apart.{all_apart}
 use Rattle.grid_rules.proofs.Gaps.{IsDone}
 use Rattle.grid_rules.proofs.Meeting.{master_is}
-use Rattle.conductors.specs.Conductors.{Drawn, AreOfOneNet, item_of, sides_of_drawn, gap_of_drawn}
-use Rattle.conductors.specs.Meetings.{master_of, at, IsOfClass, EnclosesBy, OwnersHaveOne}
-use Rattle.conductors.proofs.MeetingGaps.{spots_differ, layout_of, x_of, y_of, nets_there, of_classes}
-use Rattle.conductors.proofs.MeetingPoly.{contacts_are_buried}
+use Rattle.grid_rules.specs.Conductors.{Drawn, AreOfOneNet, item_of, sides_of_drawn, gap_of_drawn}
+use Rattle.grid_rules.specs.Meetings.{master_of, at, IsOfClass, EnclosesBy, OwnersHaveOne}
+use Rattle.grid_rules.proofs.MeetingGaps.{spots_differ, layout_of, x_of, y_of, nets_there, of_classes}
+use Rattle.grid_rules.proofs.MeetingPoly.{contacts_are_buried}
 use Rattle.kept_rules.specs.Items.{PolyKeepsOff, spacing_of_class, NetsKeepOff, CutsKeepOff, CutsKeepOffChannels, WindowsKeepOff, ImplantsCoverOrKeepOff}
 use Rattle.kept_rules.proofs.SpacingOwners.{HoldsInBlocks, of_one_owner, AreNeverBoth, no_cut_with_channel, no_window_with_channel, GoesPast, implant_past_channel, DoCross, poly_crosses_diffusion}
 

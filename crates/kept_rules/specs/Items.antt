@@ -10,8 +10,8 @@ use Rattle.sym_items.specs.Sides.{Sides}
 use Rattle.expand.specs.declared.master.Master.{Master}
 use Rattle.plan_model.specs.declared.plan.Plan.{Plan}
 use Rattle.grid_rules.specs.Rules.{AreNetsOf}
-use Rattle.conductors.specs.Conductors.{Drawn, AreOfOneBox, AreOfOneNet, sides_of_drawn, gap_of_drawn}
-use Rattle.conductors.specs.Meetings.{IsOfClass, EnclosesBy, OwnersHaveOne}
+use Rattle.grid_rules.specs.Conductors.{Drawn, AreOfOneBox, AreOfOneNet, sides_of_drawn, gap_of_drawn}
+use Rattle.grid_rules.specs.Meetings.{IsOfClass, EnclosesBy, OwnersHaveOne}
 
 -- ---- shapes
 

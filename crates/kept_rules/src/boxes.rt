@@ -3,13 +3,13 @@ ghost use Rattle.std.specs.Prelude.{List};
 ghost use Rattle.lam_geom.specs.declared.boxes.MaskBox.{MaskBox};
 ghost use Rattle.pitch_join.specs.Masters.{ArePlanned};
 ghost use Rattle.grid_rules.specs.Rules.{AreFinished};
-ghost use Rattle.conductors.specs.Shapes.{AreShapes};
+ghost use Rattle.grid_rules.specs.Shapes.{AreShapes};
 ghost use Rattle.flat_check.specs.Breaks.{KeepRules};
 
 use crate::shapes::items_have_shapes;
 use crate::spacings::items_keep_off;
-use conductors::extracted_nets_are_the_sticks;
 use expand::Master;
+use grid_rules::extracted_nets_are_the_sticks;
 use plan_model::Plan;
 use rule_table::Tech;
 use sym_items::Coords;

@@ -13,9 +13,8 @@ use crate::raises::Raises;
 use crate::rounds::Order;
 use crate::solver::{backward_count, places_of, run_rounds};
 use cons_graph::Graph;
-use cycle_show::cycle_of;
 use lam_list::Seq;
-use round_log::Log;
+use round_log::{Log, cycle_of};
 use std::alloc::{AllocError, Global};
 use thiserror::Error;
 

@@ -34,7 +34,7 @@ use Rattle.pitch_join.specs.Layouts.{AreEquallyLong, LieOnOneLine}
 use Rattle.pitch_join.specs.Masters.{ArePlanned, master_at}
 use Rattle.mask_out.specs.Pictures.{HaveBoxes}
 use Rattle.grid_rules.specs.Rules.{AreFinished}
-use Rattle.conductors.specs.Shapes.{shapes_of}
+use Rattle.grid_rules.specs.Shapes.{shapes_of}
 use Rattle.list_facts.proofs.Elements.{all_of}
 use Rattle.mask_tests.specs.OneJoint.{cell, plan, layout}
 

@@ -4,3 +4,5 @@ pub mod Candidates
 pub mod Kept
 pub mod Laws
 pub mod Worked
+pub mod Pruning
+pub mod Chains

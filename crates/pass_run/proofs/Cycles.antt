@@ -29,8 +29,8 @@ use Rattle.pair_rules.specs.declared.pairs.Pair.{Pair}
 use Rattle.pair_rules.specs.Bound.{item_at, no_item}
 use Rattle.pair_rules.specs.Candidates.{spacing_at, candidates_of, high_end, low_end, Keeps}
 use Rattle.pair_rules.specs.Kept.{is_kept, kept_of}
-use Rattle.pair_chains.proofs.PairLists.{of_filtered, all_candidates, is_candidate}
-use Rattle.pair_chains.proofs.Pruning.{shows_of_candidates, candidates_apart}
+use Rattle.pair_rules.proofs.PairLists.{of_filtered, all_candidates, is_candidate}
+use Rattle.pair_rules.proofs.Pruning.{shows_of_candidates, candidates_apart}
 use Rattle.pitch_join.specs.Joined.{space_edges, space_edge}
 
 -- the structure of a master, and the inequalities of its kept pairs, over its own variables

@@ -17,8 +17,8 @@ use Rattle.pass_run.specs.declared.passes.PassFault.TheVariants.{TooManyEdges, U
 use Rattle.pass_run.specs.declared.step.Step.{Step}
 use Rattle.pass_run.specs.Alike.{most_edges}
 use Rattle.pass_run.specs.Laid.{AreLaidOut, AreSettled}
-use Rattle.pass_run.specs.Layouts.{starts_of, moved_by, layouts_after}
-use Rattle.pass_run.specs.Least.{with_values, AreLeastValues, LeadTo, LeadNowhere, StaySettled, LeadToOnePlace}
+use Rattle.pass_run.specs.Layouts.{starts_of, moved_by, layouts_after, with_values}
+use Rattle.pass_run.specs.Least.{AreLeastValues, LeadTo, LeadNowhere, StaySettled, LeadToOnePlace}
 use Rattle.pass_run.specs.PassFaults.{IsSolvable, IsCyclicOver, RefusesPasses}
 use Rattle.pass_run.specs.Passes.{IsLeastPass, IsRecorded, ArePasses, axes_of}
 use Rattle.pass_run.proofs.Chain.{first_later, settled_less}

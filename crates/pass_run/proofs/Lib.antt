@@ -21,3 +21,8 @@ pub mod Reach
 pub mod Tight
 pub mod Lasts
 pub mod Told
+pub mod Cells
+pub mod Masters
+pub mod Equals
+pub mod Shows
+pub mod SamePasses

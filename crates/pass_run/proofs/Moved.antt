@@ -20,7 +20,7 @@ use Rattle.expand.specs.Laws.{EndsAbove, IsLawful}
 use Rattle.pair_rules.specs.Laws.{moved}
 use Rattle.pair_rules.proofs.Staying.{stays_clean}
 use Rattle.pair_rules.specs.Candidates.{candidates_of, Keeps}
-use Rattle.pair_chains.proofs.Pruning.{pruning_loses_nothing}
+use Rattle.pair_rules.proofs.Pruning.{pruning_loses_nothing}
 use Rattle.pass_run.specs.Laid.{IsLaidOut}
 use Rattle.pass_run.specs.Meeting.{MeetsMaster, IsNextFor, StaysLaidOut}
 

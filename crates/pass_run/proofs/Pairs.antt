@@ -9,9 +9,9 @@ use Rattle.pair_rules.specs.declared.pairs.Pair.{Pair}
 use Rattle.pair_rules.specs.Bound.{item_at}
 use Rattle.pair_rules.specs.Candidates.{candidates_of}
 use Rattle.pair_rules.specs.Kept.{kept_of}
-use Rattle.pair_chains.proofs.Spacings.{facing_bounds}
-use Rattle.pair_chains.proofs.PairLists.{all_candidates}
-use Rattle.pair_chains.proofs.Pruning.{kept_among}
+use Rattle.pair_rules.proofs.Spacings.{facing_bounds}
+use Rattle.pair_rules.proofs.PairLists.{all_candidates}
+use Rattle.pair_rules.proofs.Pruning.{kept_among}
 
 -- a pair of two of the items
 abbrev pub IsAmong : List Item → Pair → Type 0

@@ -24,7 +24,7 @@ use Rattle.pitch_join.specs.Joined.{base_of, local_of, shifted, space_edge, spac
 use Rattle.pitch_join.specs.Meeting.{MeetsPlan, KeepsKept, KeepsCandidates, HaveBoxes}
 use Rattle.pitch_join.proofs.Lists.{of_both, of_images, of_numbered}
 use Rattle.pitch_join.proofs.Solving.{joining_meets}
-use Rattle.pair_chains.proofs.Pruning.{pruning_loses_nothing, kept_among, kept_differs}
+use Rattle.pair_rules.proofs.Pruning.{pruning_loses_nothing, kept_among, kept_differs}
 use Rattle.pass_run.specs.Alike.{HaveSameSolutions}
 use Rattle.pass_run.specs.Pruning.{PruningLosesNothing}
 use Rattle.pass_run.proofs.Cycles.{the_one, own_list, own_implied}

@@ -26,10 +26,9 @@ use Rattle.pitch_join.specs.Layouts.{LayoutsMeet}
 use Rattle.pitch_join.specs.Meeting.{MeetsPlan, HaveBoxes}
 use Rattle.pitch_join.proofs.Bases.{var_within}
 use Rattle.pitch_join.proofs.Solving.{joining_meets}
-use Rattle.pair_chains.proofs.Pruning.{candidates_apart}
+use Rattle.pair_rules.proofs.Pruning.{candidates_apart}
 use Rattle.pass_run.specs.Laid.{IsLaidOut, AreLaidOut, AreSettled}
-use Rattle.pass_run.specs.Layouts.{joint_values, local_values}
-use Rattle.pass_run.specs.Least.{with_values}
+use Rattle.pass_run.specs.Layouts.{joint_values, local_values, with_values}
 use Rattle.pass_run.specs.Meeting.{IsNextFor}
 use Rattle.pass_run.specs.Theorems.{AreWellPlaced}
 use Rattle.pass_run.proofs.Alike.{AgreeOn, structure_alike, pairs_alike, layouts_meet, plan_met}

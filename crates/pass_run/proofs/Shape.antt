@@ -27,7 +27,7 @@ use Rattle.pitch_join.specs.Masters.{master_at, master_numbers, no_master}
 use Rattle.pitch_join.specs.Joined.{base_of, joint_variables, shifted, space_edge, kept_edges_at}
 use Rattle.pitch_join.proofs.Lists.{of_numbered}
 use Rattle.pitch_join.proofs.Shape.{shifted_among}
-use Rattle.pair_chains.proofs.Pruning.{kept_among, kept_differs, candidates_apart}
+use Rattle.pair_rules.proofs.Pruning.{kept_among, kept_differs, candidates_apart}
 use Rattle.pass_run.specs.Laid.{IsLaidOut, AreLaidOut}
 use Rattle.pass_run.proofs.Pairs.{IsSpaced, kept_pairs_among, kept_spaced}
 

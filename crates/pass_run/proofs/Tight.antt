@@ -15,7 +15,7 @@ use Rattle.round_log.specs.Logs.{raises_in, IsEndedLog}
 use Rattle.round_log.specs.Looks.{label, latest, chain}
 use Rattle.round_log.proofs.Chains.{chain-zero}
 use Rattle.round_log.proofs.Ends.{numbers}
-use Rattle.crit_path.proofs.Walks.{IsCriticalWalk, back_at_origin}
+use Rattle.round_log.proofs.Walks.{IsCriticalWalk, back_at_origin}
 use Rattle.liao_wong.specs.declared.solving.Solved.{Solved}
 use Rattle.slack_pack.specs.Most.{HasWalk, IsAttained, IsMost}
 use Rattle.slack_pack.proofs.Walks.{stands}

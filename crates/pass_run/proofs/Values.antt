@@ -21,8 +21,7 @@ use Rattle.pitch_join.specs.Variables.{VariablesAreJoined}
 use Rattle.pitch_join.proofs.Bases.{base_next, base_end}
 use Rattle.pass_run.specs.Laid.{AreLaidOut}
 use Rattle.pass_run.specs.OneMaster.{part_from, own_part}
-use Rattle.pass_run.specs.Layouts.{own_values, joint_values, local_values}
-use Rattle.pass_run.specs.Least.{with_values_at, with_values}
+use Rattle.pass_run.specs.Layouts.{own_values, joint_values, local_values, with_values_at, with_values}
 
 -- ---- the values of some layouts
 

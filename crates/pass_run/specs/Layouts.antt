@@ -33,12 +33,16 @@ joint_values axis layouts = pos 0 ∷ flat_map (own_values axis) layouts
 abbrev pub local_values : Axis → List Master → ℕ → List ℤ → List ℤ
 local_values axis masters m x = map (local_of axis masters m (value_of x)) (range_with_len 0 (variables_of axis (master_at masters m).cell))
 
--- the layouts after a pass: in each its master has its own part of the new values on the axis, and the other axis stays
-abbrev pub moved_at : List Master → List Coords → Step → ℕ → Coords
-moved_at masters before step m = moved step.axis (layout_at before m) (local_values step.axis masters m step.x)
+-- the layouts with these values of the joint variables on an axis: in each its master has its own part of them, and the other axis stays
+abbrev pub with_values_at : Axis → List Master → List Coords → List ℤ → ℕ → Coords
+with_values_at axis masters before x m = moved axis (layout_at before m) (local_values axis masters m x)
 
+abbrev pub with_values : Axis → List Master → List Coords → List ℤ → List Coords
+with_values axis masters before x = map (with_values_at axis masters before x) (master_numbers masters)
+
+-- the layouts after a pass
 abbrev pub moved_by : List Master → List Coords → Step → List Coords
-moved_by masters before step = map (moved_at masters before step) (master_numbers masters)
+moved_by masters before step = with_values step.axis masters before step.x
 
 -- and those after some passes
 abbrev pub layouts_after : List Master → List Coords → List Step → List Coords

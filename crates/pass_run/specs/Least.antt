@@ -1,29 +1,19 @@
 -- The layouts to which passes lead, whatever is recorded of them.
-use Rattle.std.specs.Prelude.{◌≡◌, ℕ, ℤ, List, [], ◌∷◌, length, map}
+use Rattle.std.specs.Prelude.{◌≡◌, ℤ, List, [], ◌∷◌, length}
 use Rattle.lam_geom.specs.declared.boxes.Axis.{Axis}
 use Rattle.rule_table.specs.declared.technology.Tech.{Tech}
 use Rattle.cons_graph.specs.Solutions.{IsLeastSolution, value_of}
 use Rattle.sym_items.specs.declared.items.Coords.{Coords}
-use Rattle.sym_items.specs.Layouts.{layout_at}
 use Rattle.expand.specs.declared.master.Master.{Master}
-use Rattle.pair_rules.specs.Laws.{moved}
 use Rattle.plan_model.specs.declared.plan.Plan.{Plan}
-use Rattle.pitch_join.specs.Masters.{master_numbers}
 use Rattle.pitch_join.specs.Joined.{joint_variables, system_over}
 use Rattle.pass_run.specs.declared.passes.PassFault.{PassFault}
 use Rattle.pass_run.specs.declared.passes.PassFault.TheVariants.{OutOfMemory}
 use Rattle.pass_run.specs.declared.step.Step.{Step}
 use Rattle.pass_run.specs.Laid.{AreLaidOut, AreSettled}
-use Rattle.pass_run.specs.Layouts.{local_values, starts_of, layouts_after}
+use Rattle.pass_run.specs.Layouts.{with_values, starts_of, layouts_after}
 use Rattle.pass_run.specs.PassFaults.{IsSolvable, RefusesPasses}
 use Rattle.pass_run.specs.Passes.{ArePasses, axes_of}
-
--- the layouts with these values of the joint variables on an axis: in each its master has its own part of them, and the other axis stays
-abbrev pub with_values_at : Axis → List Master → List Coords → List ℤ → ℕ → Coords
-with_values_at axis masters before x m = moved axis (layout_at before m) (local_values axis masters m x)
-
-abbrev pub with_values : Axis → List Master → List Coords → List ℤ → List Coords
-with_values axis masters before x = map (with_values_at axis masters before x) (master_numbers masters)
 
 -- A pass on an axis over some layouts has values, and these are its least: no solution of the system of all masters has a lesser one anywhere.
 pub record AreLeastValues (tech : Tech) (plan : Plan) (masters : List Master) (before : List Coords) (axis : Axis) (x : List ℤ) : Type 0 where

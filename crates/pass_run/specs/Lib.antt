@@ -15,3 +15,7 @@ pub mod Going
 pub mod Found
 pub mod Slack
 pub mod Told
+pub mod Bare
+pub mod Following
+pub mod Limits
+pub mod First

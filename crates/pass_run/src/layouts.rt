@@ -6,8 +6,7 @@ ghost use Rattle.expand.specs.Masters.{IsMaster};
 ghost use Rattle.expand.specs.Variables.{variables_of};
 ghost use Rattle.pair_rules.specs.Laws.{moved};
 ghost use Rattle.pitch_join.specs.Joined.{bases_of, joint_variables};
-ghost use Rattle.pass_run.specs.Layouts.{starts_of, own_values, joint_values};
-ghost use Rattle.pass_run.specs.Least.{with_values};
+ghost use Rattle.pass_run.specs.Layouts.{starts_of, own_values, joint_values, with_values};
 ghost use Rattle.pass_run.specs.OneMaster.{part_from, own_part};
 
 use coarse_grid::start;

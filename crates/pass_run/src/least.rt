@@ -6,7 +6,8 @@ ghost use Rattle.liao_wong.specs.Answers.{IsWithinLimit};
 ghost use Rattle.pitch_join.specs.Masters.{ArePlanned};
 ghost use Rattle.pitch_join.specs.Joined.{bases_of};
 ghost use Rattle.pass_run.specs.Laid.{AreLaidOut, AreSettled};
-ghost use Rattle.pass_run.specs.Least.{AreLeastValues, LeadNowhere, LeadTo, StaySettled, with_values};
+ghost use Rattle.pass_run.specs.Least.{AreLeastValues, LeadNowhere, LeadTo, StaySettled};
+ghost use Rattle.pass_run.specs.Layouts.{with_values};
 
 use crate::laws::masters_are_lawful;
 use crate::layouts::with_parts;

@@ -14,10 +14,9 @@ use crate::edges::Listed;
 use crate::step::Step;
 use cell_model::Cell;
 use cons_graph::Graph;
-use crit_path::walk_lines;
-use cycle_show::cycle_lines;
 use expand::Master;
 use lam_geom::Axis;
+use round_log::{cycle_lines, walk_lines};
 use std::alloc::{AllocError, Global};
 use stick_lex::{push_decimal, push_signed_decimal};
 

@@ -28,7 +28,7 @@ use Rattle.plan_model.specs.declared.plan.Match.{Match}
 use Rattle.plan_model.specs.declared.plan.Plan.{Plan}
 use Rattle.plan_model.specs.declared.plan.Same.{Same}
 use Rattle.plan_model.specs.Plan.{matches_in, pitch_in}
-use Rattle.pair_chains.proofs.Pruning.{candidates_apart}
+use Rattle.pair_rules.proofs.Pruning.{candidates_apart}
 use Rattle.pitch_join.specs.Masters.{master_at, master_numbers}
 use Rattle.pitch_join.specs.Joined.{base_of, candidate_edges_at, equal_edges, far_of, fixed_of, kept_edges_at, local_of, pitch_edges, pitches_of, port_edges, ports_of, shifted, space_edge, space_edges, structures_of, tied_edges, wire_var}
 use Rattle.pitch_join.specs.Meeting.{HasOneBorder, HasOneLine, JoiningIsMeeting, KeepsCandidates, KeepsKept, MeetsPlan}

@@ -17,3 +17,6 @@ pub mod Kept
 pub mod OneOutcome
 pub mod Implied
 pub mod OfRounds
+pub mod Paths
+pub mod Logged
+pub mod Walks

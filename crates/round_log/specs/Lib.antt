@@ -7,3 +7,4 @@ pub mod Logs
 pub mod WalksBack
 pub mod Outcomes
 pub mod Implied
+pub mod Entries

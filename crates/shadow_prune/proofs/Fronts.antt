@@ -25,10 +25,10 @@ use Rattle.pair_rules.specs.Candidates.{IsCandidate, spacing_at, pairs_at, item_
 use Rattle.pair_rules.specs.Kept.{least_of, reaches, shadows, is_constant, is_kept}
 use Rattle.pair_rules.proofs.FacingItems.{out_of_facing}
 use Rattle.pair_rules.proofs.Pieces.{contains_piece_of, contains_pair}
-use Rattle.pair_chains.proofs.Spacings.{facing_bounds}
-use Rattle.pair_chains.proofs.PairLists.{found_number}
-use Rattle.pair_chains.proofs.Pruning.{reach_of}
-use Rattle.pair_chains.proofs.KeptPairs.{any_number, test_shadows}
+use Rattle.pair_rules.proofs.Spacings.{facing_bounds}
+use Rattle.pair_rules.proofs.PairLists.{found_number}
+use Rattle.pair_rules.proofs.Pruning.{reach_of}
+use Rattle.pair_rules.proofs.KeptPairs.{any_number, test_shadows}
 use Rattle.scan_line.specs.Order.{begin_of, ComesBefore}
 use Rattle.scan_line.specs.Front.{IsShadowed, IsNearer, IsFront}
 use Rattle.shadow_prune.specs.Fronts.{IsPairOf, IsFrontOfOne, StandsBehind, shadows_by}

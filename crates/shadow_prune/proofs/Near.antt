@@ -10,8 +10,8 @@ use Rattle.sym_items.specs.declared.items.Coords.{Coords}
 use Rattle.pair_rules.specs.declared.pairs.Pair.{Pair}
 use Rattle.pair_rules.specs.Bound.{item_at}
 use Rattle.pair_rules.specs.Candidates.{pair_with, pairs_at, spacing_at, candidates_to}
-use Rattle.pair_chains.proofs.PairLists.{all_pieces_from}
-use Rattle.pair_chains.proofs.Spacings.{facing_bounds}
+use Rattle.pair_rules.proofs.PairLists.{all_pieces_from}
+use Rattle.pair_rules.proofs.Spacings.{facing_bounds}
 
 -- a candidate that ends at item j
 pub record EndsAt (axis : Axis) (t : Tech) (c : Coords) (items : List Item) (j : ℕ) (p : Pair) : Type 0 where

@@ -7,10 +7,9 @@ ghost use Rattle.solve_bench.specs.Worked.{pair_graph, row_graph};
 use crate::made::{backward_edge, draw, edges_of, push_edge, variables};
 use crate::size::Size;
 use cons_graph::{Edge, Graph, Names, Why};
-use crit_path::{walk_lines, walk_to};
-use cycle_show::cycle_lines;
 use lam_list::Seq;
 use liao_wong::{Unsolved, solve, solve_reached, solve_with_floor};
+use round_log::{cycle_lines, walk_lines, walk_to};
 use std::alloc::{AllocError, Global};
 use std::test::Fail;
 

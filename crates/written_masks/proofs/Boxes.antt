@@ -19,9 +19,9 @@ use Rattle.mask_out.specs.Pictures.{Drawing, no_drawing, shifted, masks_at, mask
 use Rattle.crossings.specs.Boxes.{no_box, box_at}
 use Rattle.cif_read.specs.Files.{drawn_of}
 use Rattle.cif_read.specs.Sheets as sheets
-use Rattle.cif_meaning.specs.Written.{IsUnit, IsWritableMask, IsWritableCall, IsWritablePicture, in_grains, drawn_mask}
-use Rattle.conductors.specs.Conductors.{Drawn}
-use Rattle.conductors.specs.Shapes.{shapes_of, mask_of_shape, AreShapes}
+use Rattle.written_masks.specs.TextMeanings.{IsUnit, IsWritableMask, IsWritableCall, IsWritablePicture, in_grains, drawn_mask}
+use Rattle.grid_rules.specs.Conductors.{Drawn}
+use Rattle.grid_rules.specs.Shapes.{shapes_of, mask_of_shape, AreShapes}
 use Rattle.written_masks.specs.Written.{unit_of}
 
 -- ---- masks whose sides are in order

@@ -21,9 +21,9 @@ use Rattle.mask_out.specs.Masks.{masks_in}
 use Rattle.mask_out.specs.Pictures.{Drawing, drawings_in, call_at, masks_at}
 use Rattle.mask_out.proofs.Counted.{boxes_counted}
 use Rattle.mask_out.proofs.FlatCounted.{flat_counted}
-use Rattle.conductors.specs.Conductors.{Drawn}
-use Rattle.conductors.specs.Shapes.{shapes_of, mask_of_shape, AreShapes}
-use Rattle.conductors.proofs.PictureShapes.{spots_are, master_there, masks_drawn, picture_shows}
+use Rattle.grid_rules.specs.Conductors.{Drawn}
+use Rattle.grid_rules.specs.Shapes.{shapes_of, mask_of_shape, AreShapes}
+use Rattle.grid_rules.proofs.PictureShapes.{spots_are, master_there, masks_drawn, picture_shows}
 use Rattle.written_masks.specs.Parts.{boxes_of_picture, boxes_at, boxes_of_instances}
 use Rattle.written_masks.proofs.Sums.{sum_same, sum_images}
 use Rattle.written_masks.proofs.InstanceSums.{instance_sum}

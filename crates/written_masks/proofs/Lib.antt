@@ -11,3 +11,16 @@ pub mod ShortLines
 pub mod ShortSymbols
 pub mod ShortTexts
 pub mod Listed
+pub mod Numbers
+pub mod Spelled
+pub mod CommandLines
+pub mod Commands
+pub mod TextLines
+pub mod PictureLines
+pub mod DefinitionActs
+pub mod SymbolActs
+pub mod CallActs
+pub mod FlatPictures
+pub mod MeantPictures
+pub mod LayersApart
+pub mod DrawnExtents

@@ -11,11 +11,11 @@ use Rattle.plan_model.specs.declared.plan.Plan.{Plan}
 use Rattle.plan_model.specs.Plan.{grids_of}
 use Rattle.mask_out.specs.declared.picture.Call.{Call}
 use Rattle.mask_out.specs.Pictures.{Drawing, drawings_in, calls_of}
-use Rattle.cif_meaning.specs.Written.{drawn_mask, TextsMeanTheirPicturesToOthers}
-use Rattle.conductors.specs.Shapes.{AreShapes}
-use Rattle.conductors.specs.Sticks.{NetsAreTheSticks}
+use Rattle.written_masks.specs.TextMeanings.{drawn_mask, TextsMeanTheirPicturesToOthers}
+use Rattle.grid_rules.specs.Shapes.{AreShapes}
+use Rattle.grid_rules.specs.Sticks.{NetsAreTheSticks}
 use Rattle.written_masks.specs.Written.{unit_of, text_of_layouts, HasSticksNets}
-use Rattle.conductors.proofs.PictureShapes.{picture_shows}
+use Rattle.grid_rules.proofs.PictureShapes.{picture_shows}
 use Rattle.written_masks.proofs.Boxes.{picture_drawn, boxes_show}
 use Rattle.written_masks.proofs.Pictures.{picture_writable}
 use Rattle.written_masks.proofs.Symbols.{FitFinished}

@@ -17,10 +17,10 @@ use Rattle.plan_model.specs.Plan.{grids_of}
 use Rattle.pitch_join.specs.Masters.{master_at, no_master, ports_of_masters, master_ports}
 use Rattle.mask_out.specs.declared.picture.Call.{Call}
 use Rattle.mask_out.specs.Pictures.{drawing_in, drawings_in, call_at, calls_of}
-use Rattle.cif_meaning.specs.Written.{IsWritableDrawing, IsWritableCall, IsWritablePicture}
-use Rattle.cif_meaning.proofs.Extents.{StaysInside, call_inside}
+use Rattle.written_masks.specs.TextMeanings.{IsWritableDrawing, IsWritableCall, IsWritablePicture}
+use Rattle.written_masks.proofs.DrawnExtents.{StaysInside, call_inside}
 use Rattle.written_masks.specs.Written.{unit_of}
-use Rattle.conductors.proofs.PictureShapes.{spots_are, master_there}
+use Rattle.grid_rules.proofs.PictureShapes.{spots_are, master_there}
 use Rattle.written_masks.proofs.Symbols.{FitFinished, width_of_whole, height_of_whole, is_unit, size_low, all_inside, symbol_writable}
 
 pub drawings_counted : (masters : List Master) (layouts : List Coords) → length layouts ≡ length masters → length (drawings_in masters layouts) ≡ length masters

@@ -7,7 +7,7 @@ use Rattle.std.proofs.lemmas.Int.{ints}
 use Rattle.std.proofs.lemmas.List.{length-append}
 use Rattle.cif_text.specs.Cif.{box_line, scale_line}
 use Rattle.cif_text.specs.Calls.{call_line}
-use Rattle.cif_meaning.specs.Written.{IsNumber}
+use Rattle.written_masks.specs.TextMeanings.{IsNumber}
 
 -- one text behind another
 pub behind : (front text : List ℕ) (m n : ℕ) → length front ≤ m → length text ≤ n → length (front ++ text) ≤ m + n

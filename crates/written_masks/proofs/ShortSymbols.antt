@@ -10,10 +10,10 @@ use Rattle.lam_geom.specs.declared.boxes.MaskLayer.TheVariants.{ND, NP, NC, NM, 
 use Rattle.mask_out.specs.Masks.{Mask, is_same_layer, mask_layers}
 use Rattle.mask_out.specs.Pictures.{Drawing}
 use Rattle.cif_text.specs.Cif.{box_text, layer_name, layer_text, layers_text, scale_line, symbol_text}
-use Rattle.cif_meaning.specs.Written.{IsNumber, IsUnit, IsWritableMask, IsWritableDrawing}
-use Rattle.cif_meaning.proofs.Commands.{on_layer}
-use Rattle.cif_meaning.proofs.Numbers.{half_of}
-use Rattle.cif_meaning.proofs.PictureLines.{all_every}
+use Rattle.written_masks.specs.TextMeanings.{IsNumber, IsUnit, IsWritableMask, IsWritableDrawing}
+use Rattle.written_masks.proofs.Commands.{on_layer}
+use Rattle.written_masks.proofs.Numbers.{half_of}
+use Rattle.written_masks.proofs.PictureLines.{all_every}
 use Rattle.written_masks.proofs.Sums.{pieces_short, sum_of_parts, sum_ones}
 use Rattle.written_masks.proofs.ShortLines.{behind, box_line_short, scale_line_short}
 

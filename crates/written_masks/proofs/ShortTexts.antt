@@ -20,7 +20,7 @@ use Rattle.pitch_join.specs.Masters.{master_at, no_master, ports_of_masters, mas
 use Rattle.mask_out.specs.declared.picture.Call.{Call}
 use Rattle.mask_out.specs.Pictures.{Drawing, no_drawing, drawing_in, drawings_in, call_at, calls_of}
 use Rattle.cif_text.specs.Calls.{call_text, calls_text, text_at, texts_of}
-use Rattle.cif_meaning.specs.Written.{IsWritableCall, IsWritablePicture}
+use Rattle.written_masks.specs.TextMeanings.{IsWritableCall, IsWritablePicture}
 use Rattle.written_masks.specs.Written.{unit_of, text_of_layouts}
 use Rattle.written_masks.proofs.Pictures.{drawings_counted, picture_writable}
 use Rattle.written_masks.proofs.Symbols.{FitFinished}

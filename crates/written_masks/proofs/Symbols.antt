@@ -33,10 +33,10 @@ use Rattle.grid_rules.proofs.Aligned.{all_aligned}
 use Rattle.grid_rules.proofs.InCell.{low_in, high_in, LiesBetween, items_between, cell_long}
 use Rattle.mask_out.specs.Masks.{Mask, is_drawn, masks_on, mask_layers, masks_in}
 use Rattle.mask_out.specs.Pictures.{drawing_in}
-use Rattle.cif_meaning.specs.Written.{IsUnit, IsWritableMask, IsWritableDrawing}
-use Rattle.cif_meaning.proofs.Extents.{unit_of_size, LiesInside, mask_inside}
-use Rattle.cif_meaning.proofs.LayersApart.{masks_by_layer}
-use Rattle.cif_meaning.proofs.PictureLines.{all_every}
+use Rattle.written_masks.specs.TextMeanings.{IsUnit, IsWritableMask, IsWritableDrawing}
+use Rattle.written_masks.proofs.DrawnExtents.{unit_of_size, LiesInside, mask_inside}
+use Rattle.written_masks.proofs.LayersApart.{masks_by_layer}
+use Rattle.written_masks.proofs.PictureLines.{all_every}
 use Rattle.written_masks.specs.Written.{unit_of, FitIntoText}
 use Rattle.written_masks.proofs.Extents.{HasExtents, long_along, items_long}
 use Rattle.written_masks.proofs.Wholes.{StandsInside, stands_inside}

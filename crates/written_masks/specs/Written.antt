@@ -15,8 +15,8 @@ use Rattle.cif_text.specs.Calls.{cif_of}
 use Rattle.cif_read.specs.Files.{drawn_of}
 use Rattle.cif_foreign.specs.Meaning.{Means}
 use Rattle.cif_foreign.specs.Sheets.{Sheet, flattened}
-use Rattle.conductors.specs.Shapes.{AreShapes}
-use Rattle.conductors.specs.Sticks.{NetsAreTheSticks}
+use Rattle.grid_rules.specs.Shapes.{AreShapes}
+use Rattle.grid_rules.specs.Sticks.{NetsAreTheSticks}
 
 -- u in hundredths of a micron
 abbrev pub unit_of : Tech → ℤ

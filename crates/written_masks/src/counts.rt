@@ -2,7 +2,7 @@
 ghost use Rattle.std.specs.Prelude.{◌≡◌, List, length};
 ghost use Rattle.lam_geom.specs.declared.boxes.MaskBox.{MaskBox};
 ghost use Rattle.pitch_join.specs.Masters.{ArePlanned};
-ghost use Rattle.conductors.specs.Shapes.{AreShapes};
+ghost use Rattle.grid_rules.specs.Shapes.{AreShapes};
 ghost use Rattle.written_masks.specs.Parts.{boxes_of_picture, boxes_of_instances};
 
 use expand::Master;

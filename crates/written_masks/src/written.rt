@@ -3,9 +3,9 @@ ghost use Rattle.pitch_join.specs.Masters.{ArePlanned};
 ghost use Rattle.grid_rules.specs.Rules.{AreFinished};
 ghost use Rattle.written_masks.specs.Written.{FitIntoText, HasSticksNets, text_of_layouts};
 
-use cif_meaning::texts_mean_their_pictures_to_others;
-use conductors::extracted_nets_are_the_sticks;
+use crate::meanings::texts_mean_their_pictures_to_others;
 use expand::Master;
+use grid_rules::extracted_nets_are_the_sticks;
 use plan_model::Plan;
 use rule_table::Tech;
 use sym_items::Coords;

@@ -1,7 +1,7 @@
 use Rattle.std.proofs.Common.{◌+◌, ◌≤◌, take}
 use Rattle.std.specs.Prelude.{◌^◌, IfSome}
 use Rattle.stick_parse.specs.Writable.{IsWritable}
-use Rattle.first_pass.specs.First.{IsFirstPass}
+use Rattle.pass_run.specs.First.{IsFirstPass}
 use Rattle.design_sizes.specs.Sizes.{lines_in, names_in}
 use Rattle.compact_run.specs.Edits.{AreSteps}
 use Rattle.compact_run.proofs.edit.edit.Given as goal

@@ -7,7 +7,7 @@ use Rattle.rule_table.proofs.Sound.{sound}
 use Rattle.sym_items.specs.declared.items.Coords.{Coords}
 use Rattle.grid_rules.specs.Rules.{AllKeepSpacing}
 use Rattle.lam_geom.specs.declared.boxes.MaskBox.{MaskBox}
-use Rattle.conductors.specs.Shapes.{AreShapes}
+use Rattle.grid_rules.specs.Shapes.{AreShapes}
 use Rattle.flat_check.specs.Breaks.{KeepRules}
 use Rattle.written_masks.specs.Parts.{boxes_of_instances}
 use Rattle.written_masks.specs.Written.{HasSticksNets, text_of_layouts}

@@ -1,7 +1,7 @@
 use Rattle.std.proofs.Common.{◌≡◌, take}
 use Rattle.std.specs.Prelude.{flat_map}
 use Rattle.mask_out.specs.Masks.{mask_layers}
-use Rattle.conductors.specs.Shapes.{items_on}
+use Rattle.grid_rules.specs.Shapes.{items_on}
 use Rattle.design_nets.proofs.masters.drawn_items.Given as goal
 
 abbrev pub invariant-loop-layer : goal.invariant-loop-layer

@@ -8,7 +8,7 @@ use Rattle.pitch_join.specs.Masters.{no_master}
 use Rattle.sym_items.specs.Sides.{sides_in}
 use Rattle.sym_items.specs.declared.items.Coords.{Coords}
 use Rattle.pair_rules.specs.Bound.{item_at}
-use Rattle.conductors.specs.Shapes.{sides_in_grains}
+use Rattle.grid_rules.specs.Shapes.{sides_in_grains}
 use Rattle.grid_rules.specs.Rules.{shifted_sides}
 use Rattle.design_nets.specs.Shapes.{no_shape}
 use Rattle.design_nets.specs.Transistors.{LiesNear}

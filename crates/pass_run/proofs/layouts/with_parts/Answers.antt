@@ -5,7 +5,7 @@ use Rattle.expand.specs.declared.master.Master.{Master}
 use Rattle.expand.specs.Variables.{variables_of}
 use Rattle.pitch_join.specs.Masters.{no_master}
 use Rattle.pitch_join.proofs.Bases.{base_at, base_within, bases_counted}
-use Rattle.pass_run.specs.Least.{with_values_at}
+use Rattle.pass_run.specs.Layouts.{with_values_at}
 use Rattle.pass_run.proofs.Lists.{image_added}
 use Rattle.pass_run.proofs.Values.{part_moved}
 use Rattle.pass_run.proofs.layouts.with_parts.Goals as goal

@@ -1,6 +1,6 @@
 use Rattle.std.proofs.Common.{◌≡◌, map}
 use Rattle.std.specs.List.{range_with_len}
-use Rattle.pass_run.specs.Least.{with_values_at}
+use Rattle.pass_run.specs.Layouts.{with_values_at}
 use Rattle.pass_run.proofs.layouts.with_parts.Given as goal
 
 abbrev pub invariant-loop-m : goal.invariant-loop-m

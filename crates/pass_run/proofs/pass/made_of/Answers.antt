@@ -1,7 +1,7 @@
 use Rattle.std.proofs.Common.{ℤ, List, sym, ap, ◌∙◌}
 use Rattle.lam_geom.specs.declared.boxes.Axis.{Axis}
 use Rattle.pass_run.specs.declared.step.Step.{Step}
-use Rattle.pass_run.specs.Least.{with_values}
+use Rattle.pass_run.specs.Layouts.{with_values}
 use Rattle.pass_run.proofs.Solved.{fars_within, walks_listed}
 use Rattle.pass_run.proofs.pass.made_of.Goals as goal
 

@@ -1,4 +1,0 @@
-pub mod Conductors
-pub mod Meetings
-pub mod Shapes
-pub mod Sticks

@@ -1,5 +1,0 @@
-pub mod Cells
-pub mod Masters
-pub mod Equals
-pub mod Shows
-pub mod Passes

@@ -1,4 +1,0 @@
-pub mod Bare
-pub mod Following
-pub mod Limits
-pub mod First

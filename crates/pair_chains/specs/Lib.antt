@@ -1,2 +1,0 @@
-pub mod Pruning
-pub mod Chains
