@@ -3,8 +3,7 @@ ghost use Rattle.std.specs.Prelude.{◌≡◌, ◌↔◌, ◌^◌, pos, ◌≤�
 ghost use Rattle.lam_geom.specs.declared.boxes.Axis.{Axis};
 ghost use Rattle.lam_geom.specs.Gaps.{gap_of, Overlaps, EnclosesSpan};
 ghost use Rattle.lam_geom.specs.Places.{IsPlacedSpan, IsPlacedBox};
-ghost use Rattle.rule_table.specs.Bounds.{IsLength};
-ghost use Rattle.crossings.specs.Boxes.{other, grains, IsCommon, IsCommonSpan};
+ghost use Rattle.crossings.specs.Boxes.{other, IsCommon, IsCommonSpan};
 ghost use Rattle.crossings.specs.Crossings.{CrossAlong};
 
 use crate::lengths::in_grains;

@@ -76,28 +76,28 @@ fn spread(
         let part = reached[passed];
         visit(
             neighbours[part as usize].as_slice(),
+            net,
             marks,
             &mut reached,
-            net,
         )?;
         passed += 1;
     }
     Ok(())
 }
 
-// Gives a net to those of some parts that have none, and puts them at the end of the queue.
-fn visit(
+/// Gives a net to those of some parts that have none, and puts them at the end of the queue. The only refusal is want of memory.
+pub fn visit(
     parts: &[u32],
-    marks: &mut Vec<Option<u32>>,
-    reached: &mut Vec<u32>,
     net: u32,
+    marks: &mut Vec<Option<u32>>,
+    queue: &mut Vec<u32>,
 ) -> Result<(), AllocError>
     requires { All (λ k. k < length marks.old.items) parts.now }
-    ensures { OnOk result (AreVisited parts.now net marks.old.items marks.new.items reached.old.items reached.new.items) }
+    ensures { OnOk result (AreVisited parts.now net marks.old.items marks.new.items queue.old.items queue.new.items) }
 {
     for &part in parts {
         if marks[part as usize].is_none() {
-            reached.push(part)?;
+            queue.push(part)?;
             marks[part as usize] = Some(net);
         }
     }

@@ -13,9 +13,9 @@ use Rattle.net_extract.specs.declared.groves.Grove.{Grove}
 use Rattle.net_extract.specs.declared.placing.Placed.{Placed}
 use Rattle.net_extract.specs.declared.reaching.Front.{Front}
 use Rattle.net_extract.specs.Groves.{spot_of, AreTagsWithin, IsNewGrove}
-use Rattle.net_extract.specs.Linking.{IsJoining}
 use Rattle.net_extract.specs.Pieces.{box_of, no_piece, ArePieces}
-use Rattle.net_extract.specs.Spots.{AreSpots, IsPieceOn, MayBeBuried, piece_spot, box_spot, cut_spot, ArePieceSpots, AreBoxSpots, AreCutSpots}
+use Rattle.net_extract.specs.Spots.{AreSpots, IsPieceOn, MayBeBuried, piece_spot, box_spot, cut_spot, ArePieceSpots, AreBoxSpots}
+use Rattle.net_extract.specs.CutLists.{AreCrowdedSpots, IsCrowded, IsNewPieceGrove, IsPieceGrove, IsPlanWithin}
 use Rattle.net_extract.specs.Spreading.{IsGroveOf}
 use Rattle.net_extract.proofs.Searched.{piece_placed}
 
@@ -53,12 +53,13 @@ boxes_fit tech boxes crossings pieces starts layer spots s p h =
       all_placed (length pieces) (MayBeBuried tech boxes pieces layer) (box_spot boxes pieces) spots (λ a lt _. s.placed (box_of pieces a) no_box (p.each a no_piece lt).of_box) h,
     )
 
-pub cuts_fit : (boxes : List MaskBox) (pieces : List Placed) (spots : List Spot) → AreSearchable boxes → AreCutSpots boxes pieces spots → (length spots ≤ 2 ^ 21) × All (λ (spot : Spot). IsPlacedBox spot.area) spots
-cuts_fit boxes pieces spots s h =
+pub crowded_fit : (boxes : List MaskBox) (pieces : List Placed) (starts : List ℕ) (spots : List Spot) → AreSearchable boxes → AreCrowdedSpots boxes pieces starts (length boxes) spots
+    → (length spots ≤ 2 ^ 21) × All (λ (spot : Spot). IsPlacedBox spot.area) spots
+crowded_fit boxes pieces starts spots s h =
     let f = s.few in
     let l = h.few in (
       omega arith,
-      all_placed (length boxes) (IsJoining boxes pieces) (cut_spot boxes pieces) spots (λ k lt _. s.placed k no_box lt) h,
+      all_placed (length boxes) (IsCrowded boxes pieces starts) (cut_spot boxes pieces) spots (λ k lt _. s.placed k no_box lt) h,
     )
 
 -- ---- new groves
@@ -75,11 +76,24 @@ begun Are spots grove front are tags g =
       shows = subst Are (sym g.spots_are) are;
     }
 
-pub begun_pieces : (boxes : List MaskBox) (pieces : List Placed) (layer : MaskLayer) (spots : List Spot) (grove : Grove) (front : Front) → length front.marks.items ≡ length pieces + length boxes
-    → ArePieceSpots boxes pieces layer spots → IsNewGrove spots grove → IsGroveOf (ArePieceSpots boxes pieces layer) front grove
-begun_pieces boxes pieces layer spots grove front n h =
-    begun (ArePieceSpots boxes pieces layer) spots grove front h
-    (tags_within (length pieces) (length front.marks.items) (IsPieceOn boxes pieces layer) (piece_spot pieces) spots (λ a lt. omega arith) h)
+pub begun_pieces : (boxes : List MaskBox) (pieces : List Placed) (layer : MaskLayer) (grove : Grove) (front : Front) → length front.marks.items ≡ length pieces + length boxes
+    → IsNewPieceGrove boxes pieces layer grove → IsGroveOf (ArePieceSpots boxes pieces layer) front grove
+begun_pieces boxes pieces layer grove front n h =
+    begun (ArePieceSpots boxes pieces layer) h.spots grove front h.shows
+    (tags_within (length pieces) (length front.marks.items) (IsPieceOn boxes pieces layer) (piece_spot pieces) h.spots (λ a lt. omega arith) h.shows) h.new
+
+-- a new grove of pieces, of which nothing is asked but what it shows
+pub shown_pieces : (boxes : List MaskBox) (pieces : List Placed) (layer : MaskLayer) (grove : Grove) → IsNewPieceGrove boxes pieces layer grove → IsPieceGrove boxes pieces layer grove
+shown_pieces boxes pieces layer grove h =
+    let P : List Spot → Type 0 = ArePieceSpots boxes pieces layer in
+    record { plan = h.new.plan; shows = subst P (sym h.new.spots_are) h.shows }
+
+-- its spots are of pieces
+pub pieces_within : (boxes : List MaskBox) (pieces : List Placed) (layer : MaskLayer) (grove : Grove) → IsPieceGrove boxes pieces layer grove → IsPlanWithin (length pieces) grove.plan
+pieces_within boxes pieces layer grove h = record {
+  stands = h.plan;
+  tags = tags_within (length pieces) (length pieces) (IsPieceOn boxes pieces layer) (piece_spot pieces) grove.plan.spots.items (λ a lt. lt) h.shows;
+}
 
 pub begun_boxes : (tech : Tech) (boxes : List MaskBox) (pieces : List Placed) (layer : MaskLayer) (spots : List Spot) (grove : Grove) (front : Front) → length front.marks.items ≡ length pieces + length boxes
     → AreBoxSpots tech boxes pieces layer spots → IsNewGrove spots grove → IsGroveOf (AreBoxSpots tech boxes pieces layer) front grove
@@ -87,8 +101,8 @@ begun_boxes tech boxes pieces layer spots grove front n h =
     begun (AreBoxSpots tech boxes pieces layer) spots grove front h
     (tags_within (length pieces) (length front.marks.items) (MayBeBuried tech boxes pieces layer) (box_spot boxes pieces) spots (λ a lt. omega arith) h)
 
-pub begun_cuts : (boxes : List MaskBox) (pieces : List Placed) (spots : List Spot) (grove : Grove) (front : Front) → length front.marks.items ≡ length pieces + length boxes
-    → AreCutSpots boxes pieces spots → IsNewGrove spots grove → IsGroveOf (AreCutSpots boxes pieces) front grove
-begun_cuts boxes pieces spots grove front n h =
-    begun (AreCutSpots boxes pieces) spots grove front h
-    (tags_within (length boxes) (length front.marks.items) (IsJoining boxes pieces) (cut_spot boxes pieces) spots (λ a lt. omega arith) h)
+pub begun_cuts : (boxes : List MaskBox) (pieces : List Placed) (starts : List ℕ) (spots : List Spot) (grove : Grove) (front : Front) → length front.marks.items ≡ length pieces + length boxes
+    → AreCrowdedSpots boxes pieces starts (length boxes) spots → IsNewGrove spots grove → IsGroveOf (AreCrowdedSpots boxes pieces starts (length boxes)) front grove
+begun_cuts boxes pieces starts spots grove front n h =
+    begun (AreCrowdedSpots boxes pieces starts (length boxes)) spots grove front h
+    (tags_within (length boxes) (length front.marks.items) (IsCrowded boxes pieces starts) (cut_spot boxes pieces) spots (λ a lt. omega arith) h)

@@ -1,5 +1,7 @@
 -- What is beside a node, by the spots that are found.
-use Rattle.std.proofs.Common.{◌≡◌, ◌≢◌, ℕ, ◌<◌, List, length, pos, ◌⊎◌, inl, inr, refl, sym, ◌∙◌, ap, subst, arith}
+use Rattle.std.proofs.Common.{◌≡◌, ◌≢◌, ℕ, ◌+◌, ◌<◌, All, Contains, List, length, get_or, pos, ◌⊎◌, inl, inr, refl, sym, ◌∙◌, ap, subst, arith}
+use Rattle.std.proofs.lemmas.Bool.{cases_lt}
+use Rattle.std.proofs.lemmas.List.{get_or_default}
 use Rattle.std.specs.Prelude.{IsTrue}
 use Rattle.box_tree.specs.declared.query.Query.{Query}
 use Rattle.box_tree.specs.declared.query.Question.TheVariants.{NearOfOther}
@@ -8,18 +10,19 @@ use Rattle.box_tree.specs.Queries.{Holds}
 use Rattle.lam_geom.specs.declared.boxes.BoxXY.{BoxXY}
 use Rattle.lam_geom.specs.declared.boxes.MaskBox.{MaskBox}
 use Rattle.lam_geom.specs.declared.boxes.MaskLayer.{MaskLayer}
-use Rattle.lam_geom.specs.declared.boxes.MaskLayer.TheVariants.{ND, NP, NM}
+use Rattle.lam_geom.specs.declared.boxes.MaskLayer.TheVariants.{ND, NP, NM, NC}
 use Rattle.lam_geom.specs.Gaps.{gap_of_boxes, Overlaps}
 use Rattle.rule_table.specs.declared.technology.Tech.{Tech}
 use Rattle.rule_table.specs.Technology.{has_buried_of}
 use Rattle.crossings.specs.declared.crossing.Crossing.{Crossing}
-use Rattle.crossings.specs.Boxes.{area_at, layer_at}
+use Rattle.crossings.specs.Boxes.{IsOn, area_at, layer_at}
 use Rattle.net_extract.specs.declared.placing.Placed.{Placed}
 use Rattle.net_extract.specs.Groves.{spot_of, IsOf}
-use Rattle.net_extract.specs.Linking.{IsPairWith, IsJoining, cut_node, AreBeside}
+use Rattle.net_extract.specs.Linking.{IsPairWith, IsJoining, IsOverCut, cut_node, AreBeside}
 use Rattle.net_extract.specs.Pieces.{box_of, area_of, no_piece, piece_at, IsPiece, ArePieces}
-use Rattle.net_extract.specs.Spots.{IsPieceOn, MayBeBuried, piece_spot, box_spot, cut_spot, AreSpots, ArePieceSpots, AreBoxSpots, AreCutSpots}
-use Rattle.net_extract.specs.Spreading.{IsAnswer, IsCutAnswer, IsPartner, IsBuriedOf}
+use Rattle.net_extract.specs.Spots.{IsPieceOn, MayBeBuried, piece_spot, box_spot, cut_spot, AreSpots, ArePieceSpots, AreBoxSpots}
+use Rattle.net_extract.specs.CutLists.{IsOver, AreOfTwo, AreLists, IsInList, IsCrowded, AreCrowdedSpots, IsListedOver}
+use Rattle.net_extract.specs.Spreading.{IsAnswer, IsCrowdedAnswer, IsPartner, IsBuriedOf}
 use Rattle.net_extract.proofs.Geometry.{overlaps_back}
 use Rattle.net_extract.proofs.Shown.{over_query, on_layers, not_a_cut, below_zero, at_most_below}
 
@@ -45,15 +48,17 @@ answers_forth boxes pieces layer spots query s y h =
 pub answers_back : (boxes : List MaskBox) (pieces : List Placed) (layer : MaskLayer) (spots : List Spot) (query : Query) → ArePieceSpots boxes pieces layer spots → (y : ℕ) → IsAnswer boxes pieces layer query y → IsOf spots (Holds query) y
 answers_back boxes pieces layer spots query s y h = to_spots (length pieces) (IsPieceOn boxes pieces layer) (piece_spot pieces) spots (Holds query) y s h.among h.on_layer h.answers
 
-pub cuts_forth : (boxes : List MaskBox) (pieces : List Placed) (spots : List Spot) (query : Query) → AreCutSpots boxes pieces spots → (y : ℕ) → IsOf spots (Holds query) y → IsCutAnswer boxes pieces query y
-cuts_forth boxes pieces spots query s y h =
-    let f : (k : ℕ) × (k < length boxes) × IsJoining boxes pieces k × (y ≡ cut_node pieces k) × Holds query (cut_spot boxes pieces k) = of_spots (length boxes) (IsJoining boxes pieces) (cut_spot boxes pieces) spots (Holds query) y s h in
-    record { cut = f.0; node = f.3; joins = f.2; answers = f.4 }
+pub crowded_forth : (boxes : List MaskBox) (pieces : List Placed) (starts : List ℕ) (spots : List Spot) (query : Query) → AreCrowdedSpots boxes pieces starts (length boxes) spots
+    → (y : ℕ) → IsOf spots (Holds query) y → IsCrowdedAnswer boxes pieces starts query y
+crowded_forth boxes pieces starts spots query s y h =
+    let f : (k : ℕ) × (k < length boxes) × IsCrowded boxes pieces starts k × (y ≡ cut_node pieces k) × Holds query (cut_spot boxes pieces k) = of_spots (length boxes) (IsCrowded boxes pieces starts) (cut_spot boxes pieces) spots (Holds query) y s h in
+    record { cut = f.0; node = f.3; crowded = f.2; answers = f.4 }
 
-pub cuts_back : (boxes : List MaskBox) (pieces : List Placed) (spots : List Spot) (query : Query) → AreCutSpots boxes pieces spots → (y : ℕ) → IsCutAnswer boxes pieces query y → IsOf spots (Holds query) y
-cuts_back boxes pieces spots query s y h =
+pub crowded_back : (boxes : List MaskBox) (pieces : List Placed) (starts : List ℕ) (spots : List Spot) (query : Query) → AreCrowdedSpots boxes pieces starts (length boxes) spots
+    → (y : ℕ) → IsCrowdedAnswer boxes pieces starts query y → IsOf spots (Holds query) y
+crowded_back boxes pieces starts spots query s y h =
     let P : ℕ → Type 0 = IsOf spots (Holds query) in
-    subst P (sym h.node) (to_spots (length boxes) (IsJoining boxes pieces) (cut_spot boxes pieces) spots (Holds query) h.cut s h.joins.2.is_cut.among h.joins h.answers)
+    subst P (sym h.node) (to_spots (length boxes) (IsCrowded boxes pieces starts) (cut_spot boxes pieces) spots (Holds query) h.cut s h.crowded.0.2.is_cut.among h.crowded h.answers)
 
 -- ---- buried pairs
 
@@ -116,24 +121,80 @@ touch_query area owner = record { area = area; question = NearOfOther (pos 0) ow
 abbrev pub IsBesidePiece : Tech → List MaskBox → List Placed → ℕ → ℕ → Type 0
 IsBesidePiece tech boxes pieces a y =
     IsAnswer boxes pieces (layer_at boxes (box_of pieces a)) (touch_query (area_of pieces a) (box_of pieces a)) y
-    ⊎ (IsCutAnswer boxes pieces (over_query (area_of pieces a) (box_of pieces a)) y ⊎ IsPartner tech boxes pieces (box_of pieces a) y)
+    ⊎ (IsOverCut boxes pieces a y ⊎ IsPartner tech boxes pieces (box_of pieces a) y)
 
 pub piece_forth : (tech : Tech) (boxes : List MaskBox) (pieces : List Placed) (a : ℕ) → a < length pieces → (y : ℕ) → IsBesidePiece tech boxes pieces a y → AreBeside tech boxes pieces a y
 piece_forth tech boxes pieces a lt y (inl h) =
     inl (record { apart = record { first = lt; second = h.among; apart = h.answers.1 }; one_layer = sym h.on_layer; touch = h.answers.0 })
-piece_forth tech boxes pieces a lt y (inr (inl h)) =
-    inr (inl (record { among = lt; cut = h.cut; node = h.node; joins = h.joins; over = at_most_below (gap_of_boxes (area_of pieces a) (area_at boxes h.cut)) h.answers.0 }))
+piece_forth tech boxes pieces a lt y (inr (inl h)) = inr (inl h)
 piece_forth tech boxes pieces a lt y (inr (inr h)) = inr (inr (inr (record { first = lt; second = h.among; pair = h.pair })))
 
-pub piece_back : (tech : Tech) (boxes : List MaskBox) (crossings : List Crossing) (pieces : List Placed) (starts : List ℕ) (a : ℕ) → ArePieces boxes crossings pieces starts → a < length pieces
-    → (y : ℕ) → AreBeside tech boxes pieces a y → IsBesidePiece tech boxes pieces a y
-piece_back tech boxes crossings pieces starts a p lt y (inl t) = inl (record { among = t.apart.second; on_layer = sym t.one_layer; answers = (t.touch, t.apart.apart) })
-piece_back tech boxes crossings pieces starts a p lt y (inr (inl o)) =
-    let piece : IsPiece boxes crossings (piece_at pieces a) = p.each a no_piece lt in
-    let ne : box_of pieces a ≢ o.cut = not_a_cut boxes (box_of pieces a) o.cut piece.conducts o.joins.2.is_cut.on in
-    inr (inl (record { cut = o.cut; node = o.node; joins = o.joins; answers = (below_zero (gap_of_boxes (area_of pieces a) (area_at boxes o.cut)) o.over, λ e. ne (sym e)) }))
-piece_back tech boxes crossings pieces starts a p lt y (inr (inr (inl o))) = (let n = o.node in absurd (omega arith))
-piece_back tech boxes crossings pieces starts a p lt y (inr (inr (inr c))) = inr (inr (record { among = c.second; pair = c.pair }))
+pub piece_back : (tech : Tech) (boxes : List MaskBox) (pieces : List Placed) (a : ℕ) → a < length pieces → (y : ℕ) → AreBeside tech boxes pieces a y → IsBesidePiece tech boxes pieces a y
+piece_back tech boxes pieces a lt y (inl t) = inl (record { among = t.apart.second; on_layer = sym t.one_layer; answers = (t.touch, t.apart.apart) })
+piece_back tech boxes pieces a lt y (inr (inl o)) = inr (inl o)
+piece_back tech boxes pieces a lt y (inr (inr (inl o))) = (let n = o.node in absurd (omega arith))
+piece_back tech boxes pieces a lt y (inr (inr (inr c))) = inr (inr (record { among = c.second; pair = c.pair }))
+
+-- ---- over a cut
+
+-- a crowded cut that answers is one over the piece
+pub crowded_over : (boxes : List MaskBox) (pieces : List Placed) (starts : List ℕ) (a y : ℕ) → a < length pieces → IsCrowdedAnswer boxes pieces starts (over_query (area_of pieces a) (box_of pieces a)) y → IsOverCut boxes pieces a y
+crowded_over boxes pieces starts a y lt h =
+    record { among = lt; cut = h.cut; node = h.node; joins = h.crowded.0; over = at_most_below (gap_of_boxes (area_of pieces a) (area_at boxes h.cut)) h.answers.0 }
+
+-- a cut over a piece is in one of the piece's lists, or crowded
+pub over_cases : (boxes : List MaskBox) (crossings : List Crossing) (pieces : List Placed) (firsts starts nodes cuts : List ℕ) (a y : ℕ) → ArePieces boxes crossings pieces firsts → a < length pieces
+    → AreLists boxes pieces (length boxes) starts nodes cuts → IsOverCut boxes pieces a y → IsCrowdedAnswer boxes pieces starts (over_query (area_of pieces a) (box_of pieces a)) y ⊎ IsListedOver nodes cuts (length pieces) a y
+over_cases boxes crossings pieces firsts starts nodes cuts a y p lt l o =
+    let among : o.cut < length boxes = o.joins.2.is_cut.among in
+    elim (cases_lt (get_or starts o.cut 0) (get_or starts (o.cut + 1) 0)) [
+      | inl listed ↦
+          (let f : (e : ℕ) × IsInList starts o.cut e × (get_or nodes e 0 ≡ a) = l.complete o.cut a among listed (record { among = lt; over = o.over }) in
+          let in_list = f.1 in
+          let before = in_list.before in
+          let within = l.within (o.cut + 1) (omega arith) in
+          let cut = (l.sound o.cut f.0 among f.1).0 in
+          inr (record { e = f.0; among = omega arith; of = f.2; node = o.node ∙ ap (cut_node pieces) (sym cut) }))
+      | inr not ↦
+          (let piece : IsPiece boxes crossings (piece_at pieces a) = p.each a no_piece lt in
+          let ne : box_of pieces a ≢ o.cut = not_a_cut boxes (box_of pieces a) o.cut piece.conducts o.joins.2.is_cut.on in
+          inl (record {
+            cut = o.cut;
+            node = o.node;
+            crowded = (o.joins, λ listed. absurd (omega arith));
+            answers = (below_zero (gap_of_boxes (area_of pieces a) (area_at boxes o.cut)) o.over, λ e. ne (sym e));
+          }))
+    ]
+
+-- a cut in one of the piece's lists is over it
+pub listed_over : (boxes : List MaskBox) (pieces : List Placed) (starts nodes cuts : List ℕ) (a y : ℕ) → a < length pieces → AreLists boxes pieces (length boxes) starts nodes cuts → IsListedOver nodes cuts (length pieces) a y → IsOverCut boxes pieces a y
+listed_over boxes pieces starts nodes cuts a y lt l h =
+    let k : ℕ = get_or cuts h.e 0 in
+    let at = l.cuts_are h.e h.among in
+    let s : (get_or cuts h.e 0 ≡ k) × IsJoining boxes pieces k × IsOver boxes pieces k (get_or nodes h.e 0) = l.sound k h.e at.0 at.1 in
+    let P : ℕ → Type 0 = λ x. Overlaps (area_of pieces x) (area_at boxes k) in
+    record { among = lt; cut = k; node = h.node; joins = s.1; over = subst P h.of s.2.over }
+
+-- its node is one of so many
+pub listed_within : (boxes : List MaskBox) (pieces : List Placed) (starts nodes cuts : List ℕ) (count a n y : ℕ) → count ≡ length pieces → n ≡ length pieces + length boxes → AreLists boxes pieces (length boxes) starts nodes cuts
+    → IsListedOver nodes cuts count a y → y < n
+listed_within boxes pieces starts nodes cuts count a n y is_count is_n l h =
+    let at = l.cuts_are h.e h.among in
+    let below = at.0 in
+    let node = h.node in
+    omega arith
+
+-- what the lists have are pieces
+pub nodes_within : (boxes : List MaskBox) (pieces : List Placed) (starts nodes cuts given : List ℕ) (count : ℕ) → count ≡ length pieces → given ≡ nodes → AreLists boxes pieces (length boxes) starts nodes cuts → All (λ a. a < count) given
+nodes_within boxes pieces starts nodes cuts given count is_count same l =
+    let all : All (λ a. a < count) nodes = λ e d lt.
+    (let at = l.cuts_are e lt in
+    let over : IsOver boxes pieces (get_or cuts e 0) (get_or nodes e 0) = (l.sound (get_or cuts e 0) e at.0 at.1).2 in
+    let among = over.among in
+    let read = get_or_default nodes e d 0 lt in
+    omega arith) in
+    let P : List ℕ → Type 0 = λ xs. All (λ a. a < count) xs in
+    subst P (sym same) all
 
 -- ---- beside a cut
 
@@ -141,33 +202,20 @@ abbrev pub IsBesideCut : List MaskBox → List Placed → ℕ → ℕ → Type 0
 IsBesideCut boxes pieces k y =
     IsAnswer boxes pieces ND (over_query (area_at boxes k) k) y ⊎ (IsAnswer boxes pieces NP (over_query (area_at boxes k) k) y ⊎ IsAnswer boxes pieces NM (over_query (area_at boxes k) k) y)
 
-answer_over : (tech : Tech) (boxes : List MaskBox) (pieces : List Placed) (layer : MaskLayer) (k y : ℕ) → IsJoining boxes pieces k → IsAnswer boxes pieces layer (over_query (area_at boxes k) k) y → AreBeside tech boxes pieces (cut_node pieces k) y
-answer_over tech boxes pieces layer k y joins h =
-    inr (inr (inl (record {
-      among = h.among;
-      cut = k;
-      node = refl;
-      joins = joins;
-      over = overlaps_back (area_at boxes k) (area_of pieces y) (at_most_below (gap_of_boxes (area_at boxes k) (area_of pieces y)) h.answers.0);
-    })))
+over_answer : (boxes : List MaskBox) (pieces : List Placed) (layer : MaskLayer) (k y : ℕ) → IsAnswer boxes pieces layer (over_query (area_at boxes k) k) y → IsOver boxes pieces k y
+over_answer boxes pieces layer k y h =
+    record { among = h.among; over = overlaps_back (area_at boxes k) (area_of pieces y) (at_most_below (gap_of_boxes (area_at boxes k) (area_of pieces y)) h.answers.0) }
 
-pub cut_forth : (tech : Tech) (boxes : List MaskBox) (pieces : List Placed) (k : ℕ) → IsJoining boxes pieces k → (y : ℕ) → IsBesideCut boxes pieces k y → AreBeside tech boxes pieces (cut_node pieces k) y
-cut_forth tech boxes pieces k joins y (inl h) = answer_over tech boxes pieces ND k y joins h
-cut_forth tech boxes pieces k joins y (inr (inl h)) = answer_over tech boxes pieces NP k y joins h
-cut_forth tech boxes pieces k joins y (inr (inr h)) = answer_over tech boxes pieces NM k y joins h
+pub over_forth : (boxes : List MaskBox) (pieces : List Placed) (k y : ℕ) → IsBesideCut boxes pieces k y → IsOver boxes pieces k y
+over_forth boxes pieces k y (inl h) = over_answer boxes pieces ND k y h
+over_forth boxes pieces k y (inr (inl h)) = over_answer boxes pieces NP k y h
+over_forth boxes pieces k y (inr (inr h)) = over_answer boxes pieces NM k y h
 
-pub cut_back : (tech : Tech) (boxes : List MaskBox) (crossings : List Crossing) (pieces : List Placed) (starts : List ℕ) (k : ℕ) → ArePieces boxes crossings pieces starts → IsJoining boxes pieces k
-    → (y : ℕ) → AreBeside tech boxes pieces (cut_node pieces k) y → IsBesideCut boxes pieces k y
-cut_back tech boxes crossings pieces starts k p joins y (inl t) = (let l = t.apart.first in absurd (omega arith))
-cut_back tech boxes crossings pieces starts k p joins y (inr (inl o)) = (let l = o.among in absurd (omega arith))
-cut_back tech boxes crossings pieces starts k p joins y (inr (inr (inr c))) = (let l = c.first in absurd (omega arith))
-cut_back tech boxes crossings pieces starts k p joins y (inr (inr (inl o))) =
-    let n = o.node in
-    let same : o.cut ≡ k = omega arith in
+pub over_back : (boxes : List MaskBox) (crossings : List Crossing) (pieces : List Placed) (starts : List ℕ) (k : ℕ) → ArePieces boxes crossings pieces starts → layer_at boxes k ≡ NC → (y : ℕ) → IsOver boxes pieces k y → IsBesideCut boxes pieces k y
+over_back boxes crossings pieces starts k p is_cut y o =
     let piece : IsPiece boxes crossings (piece_at pieces y) = p.each y no_piece o.among in
-    let ne : box_of pieces y ≢ k = not_a_cut boxes (box_of pieces y) k piece.conducts joins.2.is_cut.on in
-    let P : ℕ → Type 0 = λ j. Overlaps (area_of pieces y) (area_at boxes j) in
-    let over : Overlaps (area_at boxes k) (area_of pieces y) = overlaps_back (area_of pieces y) (area_at boxes k) (subst P same o.over) in
+    let ne : box_of pieces y ≢ k = not_a_cut boxes (box_of pieces y) k piece.conducts is_cut in
+    let over : Overlaps (area_at boxes k) (area_of pieces y) = overlaps_back (area_of pieces y) (area_at boxes k) o.over in
     let answer : (layer : MaskLayer) → layer_at boxes (box_of pieces y) ≡ layer → IsAnswer boxes pieces layer (over_query (area_at boxes k) k) y = λ layer on.
     (record { among = o.among; on_layer = on; answers = (below_zero (gap_of_boxes (area_at boxes k) (area_of pieces y)) over, ne) }) in
     elim (on_layers (layer_at boxes (box_of pieces y)) piece.conducts) [
@@ -175,3 +223,36 @@ cut_back tech boxes crossings pieces starts k p joins y (inr (inr (inl o))) =
       | inr (inl e) ↦ inr (inl (answer NP e))
       | inr (inr e) ↦ inr (inr (answer NM e))
     ]
+
+pub over_beside : (tech : Tech) (boxes : List MaskBox) (pieces : List Placed) (k : ℕ) → IsJoining boxes pieces k → (y : ℕ) → IsOver boxes pieces k y → AreBeside tech boxes pieces (cut_node pieces k) y
+over_beside tech boxes pieces k joins y o = inr (inr (inl (record { among = o.among; cut = k; node = refl; joins = joins; over = o.over })))
+
+pub beside_over : (tech : Tech) (boxes : List MaskBox) (pieces : List Placed) (k y : ℕ) → AreBeside tech boxes pieces (cut_node pieces k) y → IsOver boxes pieces k y
+beside_over tech boxes pieces k y (inl t) = (let l = t.apart.first in absurd (omega arith))
+beside_over tech boxes pieces k y (inr (inl o)) = (let l = o.among in absurd (omega arith))
+beside_over tech boxes pieces k y (inr (inr (inr c))) = (let l = c.first in absurd (omega arith))
+beside_over tech boxes pieces k y (inr (inr (inl o))) =
+    let n = o.node in
+    let same : o.cut ≡ k = omega arith in
+    let P : ℕ → Type 0 = λ j. Overlaps (area_of pieces y) (area_at boxes j) in
+    record { among = o.among; over = subst P same o.over }
+
+pub cut_forth : (tech : Tech) (boxes : List MaskBox) (pieces : List Placed) (k : ℕ) → IsJoining boxes pieces k → (y : ℕ) → IsBesideCut boxes pieces k y → AreBeside tech boxes pieces (cut_node pieces k) y
+cut_forth tech boxes pieces k joins y h = over_beside tech boxes pieces k joins y (over_forth boxes pieces k y h)
+
+pub cut_back : (tech : Tech) (boxes : List MaskBox) (crossings : List Crossing) (pieces : List Placed) (starts : List ℕ) (k : ℕ) → ArePieces boxes crossings pieces starts → IsJoining boxes pieces k
+    → (y : ℕ) → AreBeside tech boxes pieces (cut_node pieces k) y → IsBesideCut boxes pieces k y
+cut_back tech boxes crossings pieces starts k p joins y h = over_back boxes crossings pieces starts k p joins.2.is_cut.on y (beside_over tech boxes pieces k y h)
+
+-- ---- cuts that join
+
+-- what lies over a cut is of two boxes exactly where it joins
+pub two_joins : (boxes : List MaskBox) (pieces : List Placed) (k : ℕ) (found : List ℕ) → IsOn boxes NC k → ((x : ℕ) → Contains found x → IsOver boxes pieces k x) → AreOfTwo pieces found → IsJoining boxes pieces k
+two_joins boxes pieces k found on sound (x, y, cx, cy, ne) =
+    let ox = sound x cx in
+    let oy = sound y cy in
+    (x, y, record { is_cut = on; apart = record { first = ox.among; second = oy.among; apart = ne }; first = ox.over; second = oy.over })
+
+pub joins_two : (boxes : List MaskBox) (pieces : List Placed) (k : ℕ) (found : List ℕ) → ((x : ℕ) → IsOver boxes pieces k x → Contains found x) → IsJoining boxes pieces k → AreOfTwo pieces found
+joins_two boxes pieces k found complete (x, y, both) =
+    (x, y, complete x (record { among = both.apart.first; over = both.first }), complete y (record { among = both.apart.second; over = both.second }), both.apart.apart)

@@ -8,6 +8,8 @@ pub mod Walk
 pub mod Shown
 pub mod Steps
 pub mod Beside
+pub mod Found
+pub mod Listed
 pub mod Searched
 pub mod Begun
 pub mod Netted

@@ -21,7 +21,7 @@ use Rattle.net_extract.specs.declared.searches.Search.{Search}
 use Rattle.net_extract.specs.Groves.{spot_of, AreTagsWithin}
 use Rattle.net_extract.specs.Pieces.{box_of, area_of, no_piece, piece_at, IsPiece, IsOfBoxes, ArePieces}
 use Rattle.net_extract.specs.Spots.{MayBeBuried, box_spot, AreBoxSpots}
-use Rattle.net_extract.specs.Spreading.{IsGroveReached, IsGroveOf, IsSearch, IsStep}
+use Rattle.net_extract.specs.Spreading.{IsFrontReached, IsGroveReached, IsGroveOf, IsSearch, IsStep}
 use Rattle.net_extract.proofs.Geometry.{placed_inner}
 use Rattle.net_extract.proofs.Spread.{reached_as, reached_more, reached_none}
 use Rattle.net_extract.proofs.Walk.{grove_kept}
@@ -44,6 +44,8 @@ search_kept tech boxes pieces search front counted kept s = record {
   diffusion = others _ search.diffusion search.front front counted kept s.diffusion;
   poly = others _ search.poly search.front front counted kept s.poly;
   metal = others _ search.metal search.front front counted kept s.metal;
+  lists = s.lists;
+  chains = s.chains;
   cuts = others _ search.cuts search.front front counted kept s.cuts;
   under = others _ search.under search.front front counted kept s.under;
   over = others _ search.over search.front front counted kept s.over;
@@ -54,7 +56,7 @@ pub step_diffusion : (tech : Tech) (boxes : List MaskBox) (pieces : List Placed)
 step_diffusion tech boxes pieces Is As net search new front forth back s r =
     let k : IsSearch tech boxes pieces (record search { front = front }) = search_kept tech boxes pieces search front r.reached.counted r.reached.kept s in
     record {
-      search = record { counted = k.counted; diffusion = grown _ Is net search.diffusion new search.front front r s.diffusion; poly = k.poly; metal = k.metal; cuts = k.cuts; under = k.under; over = k.over };
+      search = record { counted = k.counted; lists = k.lists; chains = k.chains; diffusion = grown _ Is net search.diffusion new search.front front r s.diffusion; poly = k.poly; metal = k.metal; cuts = k.cuts; under = k.under; over = k.over };
       reached = reached_as Is As net _ _ _ _ forth back r.reached;
     }
 
@@ -63,7 +65,7 @@ pub step_poly : (tech : Tech) (boxes : List MaskBox) (pieces : List Placed) (Is 
 step_poly tech boxes pieces Is As net search new front forth back s r =
     let k : IsSearch tech boxes pieces (record search { front = front }) = search_kept tech boxes pieces search front r.reached.counted r.reached.kept s in
     record {
-      search = record { counted = k.counted; diffusion = k.diffusion; poly = grown _ Is net search.poly new search.front front r s.poly; metal = k.metal; cuts = k.cuts; under = k.under; over = k.over };
+      search = record { counted = k.counted; lists = k.lists; chains = k.chains; diffusion = k.diffusion; poly = grown _ Is net search.poly new search.front front r s.poly; metal = k.metal; cuts = k.cuts; under = k.under; over = k.over };
       reached = reached_as Is As net _ _ _ _ forth back r.reached;
     }
 
@@ -72,7 +74,7 @@ pub step_metal : (tech : Tech) (boxes : List MaskBox) (pieces : List Placed) (Is
 step_metal tech boxes pieces Is As net search new front forth back s r =
     let k : IsSearch tech boxes pieces (record search { front = front }) = search_kept tech boxes pieces search front r.reached.counted r.reached.kept s in
     record {
-      search = record { counted = k.counted; diffusion = k.diffusion; poly = k.poly; metal = grown _ Is net search.metal new search.front front r s.metal; cuts = k.cuts; under = k.under; over = k.over };
+      search = record { counted = k.counted; lists = k.lists; chains = k.chains; diffusion = k.diffusion; poly = k.poly; metal = grown _ Is net search.metal new search.front front r s.metal; cuts = k.cuts; under = k.under; over = k.over };
       reached = reached_as Is As net _ _ _ _ forth back r.reached;
     }
 
@@ -81,7 +83,7 @@ pub step_cuts : (tech : Tech) (boxes : List MaskBox) (pieces : List Placed) (Is 
 step_cuts tech boxes pieces Is As net search new front forth back s r =
     let k : IsSearch tech boxes pieces (record search { front = front }) = search_kept tech boxes pieces search front r.reached.counted r.reached.kept s in
     record {
-      search = record { counted = k.counted; diffusion = k.diffusion; poly = k.poly; metal = k.metal; cuts = grown _ Is net search.cuts new search.front front r s.cuts; under = k.under; over = k.over };
+      search = record { counted = k.counted; lists = k.lists; chains = k.chains; diffusion = k.diffusion; poly = k.poly; metal = k.metal; cuts = grown _ Is net search.cuts new search.front front r s.cuts; under = k.under; over = k.over };
       reached = reached_as Is As net _ _ _ _ forth back r.reached;
     }
 
@@ -90,7 +92,7 @@ pub step_under : (tech : Tech) (boxes : List MaskBox) (pieces : List Placed) (Is
 step_under tech boxes pieces Is As net search new front forth back s r =
     let k : IsSearch tech boxes pieces (record search { front = front }) = search_kept tech boxes pieces search front r.reached.counted r.reached.kept s in
     record {
-      search = record { counted = k.counted; diffusion = k.diffusion; poly = k.poly; metal = k.metal; cuts = k.cuts; under = grown _ Is net search.under new search.front front r s.under; over = k.over };
+      search = record { counted = k.counted; lists = k.lists; chains = k.chains; diffusion = k.diffusion; poly = k.poly; metal = k.metal; cuts = k.cuts; under = grown _ Is net search.under new search.front front r s.under; over = k.over };
       reached = reached_as Is As net _ _ _ _ forth back r.reached;
     }
 
@@ -99,7 +101,7 @@ pub step_over : (tech : Tech) (boxes : List MaskBox) (pieces : List Placed) (Is 
 step_over tech boxes pieces Is As net search new front forth back s r =
     let k : IsSearch tech boxes pieces (record search { front = front }) = search_kept tech boxes pieces search front r.reached.counted r.reached.kept s in
     record {
-      search = record { counted = k.counted; diffusion = k.diffusion; poly = k.poly; metal = k.metal; cuts = k.cuts; under = k.under; over = grown _ Is net search.over new search.front front r s.over };
+      search = record { counted = k.counted; lists = k.lists; chains = k.chains; diffusion = k.diffusion; poly = k.poly; metal = k.metal; cuts = k.cuts; under = k.under; over = grown _ Is net search.over new search.front front r s.over };
       reached = reached_as Is As net _ _ _ _ forth back r.reached;
     }
 
@@ -107,15 +109,23 @@ step_over tech boxes pieces Is As net search new front forth back s r =
 pub step_none : (tech : Tech) (boxes : List MaskBox) (pieces : List Placed) (Is : ℕ → Type 0) (net : ℕ) (search : Search) → ((y : ℕ) → Is y → ⊥) → IsSearch tech boxes pieces search → IsStep tech boxes pieces Is net search search
 step_none tech boxes pieces Is net search none s = record { search = s; reached = reached_none Is net search.front.marks.items search.front.queue.items none }
 
+-- nodes that were listed are reached
+pub step_listed : (tech : Tech) (boxes : List MaskBox) (pieces : List Placed) (Is : ℕ → Type 0) (net : ℕ) (search : Search) (front : Front) → IsSearch tech boxes pieces search → IsFrontReached Is net search.front front
+    → IsStep tech boxes pieces Is net search (record search { front = front })
+step_listed tech boxes pieces Is net search front s r = record { search = search_kept tech boxes pieces search front r.counted r.kept s; reached = r }
+
+-- two steps, one after another
+pub step_two : (tech : Tech) (boxes : List MaskBox) (pieces : List Placed) (P Q S : ℕ → Type 0) (net : ℕ) (old second new : Search) → ((y : ℕ) → P y ⊎ Q y → S y) → ((y : ℕ) → S y → P y ⊎ Q y)
+    → IsStep tech boxes pieces P net old second → IsStep tech boxes pieces Q net second new → IsStep tech boxes pieces S net old new
+step_two tech boxes pieces P Q S net old second new forth back f g =
+    record { search = g.search; reached = reached_more P Q S net _ _ _ _ _ _ forth back f.reached g.reached }
+
 -- three steps, one after another
 pub step_three : (tech : Tech) (boxes : List MaskBox) (pieces : List Placed) (P Q R S : ℕ → Type 0) (net : ℕ) (old second third new : Search) → ((y : ℕ) → P y ⊎ (Q y ⊎ R y) → S y) → ((y : ℕ) → S y → P y ⊎ (Q y ⊎ R y))
     → IsStep tech boxes pieces P net old second → IsStep tech boxes pieces Q net second third → IsStep tech boxes pieces R net third new → IsStep tech boxes pieces S net old new
 step_three tech boxes pieces P Q R S net old second third new forth back f g h =
     let QR : ℕ → Type 0 = λ y. Q y ⊎ R y in
-    record {
-      search = h.search;
-      reached = reached_more P QR S net _ _ _ _ _ _ forth back f.reached (reached_more Q R QR net _ _ _ _ _ _ (λ y x. x) (λ y x. x) g.reached h.reached);
-    }
+    step_two tech boxes pieces P QR S net old second new forth back f (step_two tech boxes pieces Q R QR net second third new (λ y x. x) (λ y x. x) g h)
 
 -- ---- which spots and queries
 

@@ -27,16 +27,29 @@ nothing y (i, lt, e) = absurd (omega arith)
 found_is : (Is : ℕ → Type 0) (found : List ℕ) (y : ℕ) → AreGathered Is [] found → Contains found y → Is y
 found_is Is found y g c = elim (g.sound y c) [ inl none ↦ absurd (nothing y none) | inr is ↦ is ]
 
+pub all_among : (count : ℕ) (xs : List ℕ) → ((y : ℕ) → Contains xs y → y < count) → All (λ y. y < count) xs
+all_among count xs below = λ k d lt. below (get_or xs k d) (Contains-get_or xs k d lt)
+
+-- what has been gathered is within bounds
+pub gathered_within : (Is : ℕ → Type 0) (count : ℕ) (found given : List ℕ) → given ≡ found → ((y : ℕ) → Is y → y < count) → AreGathered Is [] found → All (λ y. y < count) given
+gathered_within Is count found given same within g =
+    let all : All (λ y. y < count) found = all_among count found (λ y c. within y (found_is Is found y g c)) in
+    let Q : List ℕ → Type 0 = λ xs. All (λ y. y < count) xs in
+    subst Q (sym same) all
+
+-- and is reached
+pub gathered_reached : (Is : ℕ → Type 0) (net : ℕ) (old new : List (Option ℕ)) (before after found given : List ℕ) → given ≡ found → AreGathered Is [] found → AreVisited given net old new before after → AreReached Is net old new before after
+gathered_reached Is net old new before after found given same g v =
+    let V : List ℕ → Type 0 = λ xs. AreVisited xs net old new before after in
+    reached_from Is found net old new before after (λ y c. found_is Is found y g c) (λ y is. inr (g.complete y is)) (subst V same v)
+
+tag_within : (spots : List Spot) (query : Query) (marks : List (Option ℕ)) (count : ℕ) → AreTagsWithin count spots → (y : ℕ) → IsUnreached spots query marks y → y < count
+tag_within spots query marks count tags y h = let P : ℕ → Type 0 = λ x. x < count in subst P h.of.tag (tags h.of.k h.of.among)
+
 -- the nodes of spots within bounds
 pub found_within : (spots : List Spot) (query : Query) (marks : List (Option ℕ)) (count : ℕ) (found given : List ℕ) → given ≡ found → AreTagsWithin count spots → AreGathered (IsUnreached spots query marks) [] found
     → All (λ y. y < count) given
-found_within spots query marks count found given same tags g =
-    let all : All (λ y. y < count) found = λ k d lt.
-    (let h : IsUnreached spots query marks (get_or found k d) = found_is (IsUnreached spots query marks) found (get_or found k d) g (Contains-get_or found k d lt) in
-    let P : ℕ → Type 0 = λ y. y < count in
-    subst P h.of.tag (tags h.of.k h.of.among)) in
-    let Q : List ℕ → Type 0 = λ xs. All (λ y. y < count) xs in
-    subst Q (sym same) all
+found_within spots query marks count found given same tags g = gathered_within (IsUnreached spots query marks) count found given same (tag_within spots query marks count tags) g
 
 -- all of them are reached
 pub found_reached : (spots : List Spot) (query : Query) (net : ℕ) (old new : List (Option ℕ)) (before after found given : List ℕ) → given ≡ found → AreGathered (IsUnreached spots query old) [] found
@@ -68,13 +81,7 @@ kept_within tech boxes pieces box_no spots query marks count found looked kept g
     let E : List ℕ → Type 0 = λ xs. AreGathered (IsOfPair tech boxes pieces box_no looked) xs kept in
     let H : List ℕ → Type 0 = λ xs. AreGathered (IsOfPair tech boxes pieces box_no xs) [] kept in
     let k : AreGathered (IsOfPair tech boxes pieces box_no found) [] kept = subst H same_found (subst E none h) in
-    let all : All (λ y. y < count) kept = λ j d lt.
-    (let is : IsOfPair tech boxes pieces box_no found (get_or kept j d) = found_is (IsOfPair tech boxes pieces box_no found) kept (get_or kept j d) k (Contains-get_or kept j d lt) in
-    let u : IsUnreached spots query marks (get_or kept j d) = found_is (IsUnreached spots query marks) found (get_or kept j d) g is.0 in
-    let P : ℕ → Type 0 = λ y. y < count in
-    subst P u.of.tag (tags u.of.k u.of.among)) in
-    let Q : List ℕ → Type 0 = λ xs. All (λ y. y < count) xs in
-    subst Q (sym same_kept) all
+    gathered_within (IsOfPair tech boxes pieces box_no found) count kept given same_kept (λ y is. tag_within spots query marks count tags y (found_is (IsUnreached spots query marks) found y g is.0)) k
 
 -- one more of those that were found
 pub pair_more : (tech : Tech) (boxes : List MaskBox) (pieces : List Placed) (box_no : ℕ) (numbers : List ℕ) (i : ℕ) (old middle new : List ℕ) → i < length numbers

@@ -20,7 +20,7 @@ use Rattle.box_tree.proofs.Within.{too_far}
 use Rattle.graph_search.specs.Search.{mark_of, IsMarked, AreKept}
 use Rattle.net_extract.specs.declared.groves.Grove.{Grove}
 use Rattle.net_extract.specs.declared.groves.Plan.{Plan}
-use Rattle.net_extract.specs.Groves.{spot_of, no_group, group_at, spot_in, IsPlan, IsInRun, InSpent, IsRunSpent, IsMarkedAt, IsRunMarked, AreSpent, IsGrove, IsUnreached, IsUnreachedWithin}
+use Rattle.net_extract.specs.Groves.{spot_of, no_group, group_at, spot_in, IsOf, IsPlan, IsInRun, InSpent, IsRunSpent, IsMarkedAt, IsRunMarked, AreSpent, IsGrove, IsUnreached, IsUnreachedWithin}
 use Rattle.net_extract.specs.Linking.{AreGathered}
 use Rattle.net_extract.proofs.Growth.{gathered_as, gathered_more, gathered_none, gathered_if, below_cases}
 
@@ -83,15 +83,15 @@ group_read plan at group t lt is =
 
 -- ---- nodes without a mark, as far as the walk has come
 
-pub record IsWalked (plan : Plan) (query : Query) (marks : List (Option ℕ)) (at : ℕ) (found : List ℕ) : Type 0 where
+pub record IsWalked (plan : Plan) (query : Query) (marks : List (Option ℕ)) (before : List ℕ) (at : ℕ) (found : List ℕ) : Type 0 where
   pub within : at ≤ length plan.groups.items
-  pub gathered : AreGathered (IsUnreachedWithin plan query marks 0 (begin_at plan at)) [] found
+  pub gathered : AreGathered (IsUnreachedWithin plan query marks 0 (begin_at plan at)) before found
 
-pub walked_none : (plan : Plan) (query : Query) (marks : List (Option ℕ)) (found : List ℕ) → IsPlan plan → found ≡ [] → IsWalked plan query marks 0 found
-walked_none plan query marks found t e =
+pub walked_none : (plan : Plan) (query : Query) (marks : List (Option ℕ)) (before found : List ℕ) → IsPlan plan → found ≡ before → IsWalked plan query marks before 0 found
+walked_none plan query marks before found t e =
     let f = t.first in
-    let P : List ℕ → Type 0 = λ xs. AreGathered (IsUnreachedWithin plan query marks 0 (begin_at plan 0)) [] xs in
-    record { within = omega arith; gathered = subst P (sym e) (gathered_none (IsUnreachedWithin plan query marks 0 (begin_at plan 0)) [] (λ y h. (let b = h.before in omega arith))) }
+    let P : List ℕ → Type 0 = λ xs. AreGathered (IsUnreachedWithin plan query marks 0 (begin_at plan 0)) before xs in
+    record { within = omega arith; gathered = subst P (sym e) (gathered_none (IsUnreachedWithin plan query marks 0 (begin_at plan 0)) before (λ y h. (let b = h.before in omega arith))) }
 
 -- nodes of places up to one more
 more_within : (plan : Plan) (query : Query) (marks : List (Option ℕ)) (first mid end y : ℕ) → mid ≤ end → IsUnreachedWithin plan query marks first mid y → IsUnreachedWithin plan query marks first end y
@@ -105,16 +105,16 @@ more_within plan query marks first mid end y le h = record {
 }
 
 -- past a group with nothing to be found
-pub walked_past : (plan : Plan) (query : Query) (marks : List (Option ℕ)) (at next : ℕ) (group : Group) (found : List ℕ) → next ≡ at + 1 + group.inside → IsRead plan at group
+pub walked_past : (plan : Plan) (query : Query) (marks : List (Option ℕ)) (before : List ℕ) (at next : ℕ) (group : Group) (found : List ℕ) → next ≡ at + 1 + group.inside → IsRead plan at group
     → ((p : ℕ) → group.start ≤ p → p < group.start + group.count → Holds query (spot_in plan p) → mark_of marks (spot_in plan p).tag ≡ None → ⊥)
-    → IsWalked plan query marks at found → IsWalked plan query marks next found
-walked_past plan query marks at next group found is_next g barren w =
+    → IsWalked plan query marks before at found → IsWalked plan query marks before next found
+walked_past plan query marks before at next group found is_next g barren w =
     let here = g.begins in
     let after : begin_at plan next ≡ group.start + group.count = ap (begin_at plan) is_next ∙ g.closes in
     let l = g.within in
     record {
       within = omega arith;
-      gathered = gathered_as (IsUnreachedWithin plan query marks 0 (begin_at plan at)) (IsUnreachedWithin plan query marks 0 (begin_at plan next)) [] found
+      gathered = gathered_as (IsUnreachedWithin plan query marks 0 (begin_at plan at)) (IsUnreachedWithin plan query marks 0 (begin_at plan next)) before found
           (λ y h. more_within plan query marks 0 (begin_at plan at) (begin_at plan next) y (omega arith) h)
           (λ y h. elim (cases_lt h.p group.start) [
             | inl lt ↦ record { p = h.p; from = h.from; before = omega arith; tag = h.tag; holds = h.holds; unmarked = h.unmarked }
@@ -124,16 +124,16 @@ walked_past plan query marks at next group found is_next g barren w =
     }
 
 -- past a leaf
-pub walked_leaf : (plan : Plan) (query : Query) (marks : List (Option ℕ)) (at : ℕ) (group : Group) (end : ℕ) (found new : List ℕ) → IsRead plan at group → group.inside ≡ 0 → end ≡ group.start + group.count
-    → AreGathered (IsUnreachedWithin plan query marks group.start end) found new → IsWalked plan query marks at found → IsWalked plan query marks (at + 1) new
-walked_leaf plan query marks at group end found new g leaf is_end some w =
+pub walked_leaf : (plan : Plan) (query : Query) (marks : List (Option ℕ)) (before : List ℕ) (at : ℕ) (group : Group) (end : ℕ) (found new : List ℕ) → IsRead plan at group → group.inside ≡ 0 → end ≡ group.start + group.count
+    → AreGathered (IsUnreachedWithin plan query marks group.start end) found new → IsWalked plan query marks before at found → IsWalked plan query marks before (at + 1) new
+walked_leaf plan query marks before at group end found new g leaf is_end some w =
     let here = g.begins in
     let after : begin_at plan (at + 1) ≡ begin_at plan (at + 1 + group.inside) = ap (begin_at plan) (let e : at + 1 ≡ at + 1 + group.inside = omega arith in e) in
     let next = g.closes in
     let lt = g.within in
     record {
       within = omega arith;
-      gathered = gathered_more (IsUnreachedWithin plan query marks 0 (begin_at plan at)) (IsUnreachedWithin plan query marks group.start end) (IsUnreachedWithin plan query marks 0 (begin_at plan (at + 1))) [] found new
+      gathered = gathered_more (IsUnreachedWithin plan query marks 0 (begin_at plan at)) (IsUnreachedWithin plan query marks group.start end) (IsUnreachedWithin plan query marks 0 (begin_at plan (at + 1))) before found new
           (λ y h. elim h [
             | inl before ↦ more_within plan query marks 0 (begin_at plan at) (begin_at plan (at + 1)) y (omega arith) before
             | inr inside ↦ (let b = inside.before in record { p = inside.p; from = omega arith; before = omega arith; tag = inside.tag; holds = inside.holds; unmarked = inside.unmarked })
@@ -146,28 +146,30 @@ walked_leaf plan query marks at group end found new g leaf is_end some w =
     }
 
 -- into a group with others inside
-pub walked_into : (plan : Plan) (query : Query) (marks : List (Option ℕ)) (at : ℕ) (group : Group) (found : List ℕ) → IsRead plan at group → group.inside ≢ 0
-    → IsWalked plan query marks at found → IsWalked plan query marks (at + 1) found
-walked_into plan query marks at group found g some w =
+pub walked_into : (plan : Plan) (query : Query) (marks : List (Option ℕ)) (before : List ℕ) (at : ℕ) (group : Group) (found : List ℕ) → IsRead plan at group → group.inside ≢ 0
+    → IsWalked plan query marks before at found → IsWalked plan query marks before (at + 1) found
+walked_into plan query marks before at group found g some w =
     let pos : 0 < group.inside = omega arith in
     let same : begin_at plan at ≡ begin_at plan (at + 1) = g.begins ∙ sym (g.opens pos) in
-    let P : ℕ → Type 0 = λ b. AreGathered (IsUnreachedWithin plan query marks 0 b) [] found in
+    let P : ℕ → Type 0 = λ b. AreGathered (IsUnreachedWithin plan query marks 0 b) before found in
     let l = g.within in
     record { within = omega arith; gathered = subst P same w.gathered }
 
+-- a node of a spot at some places
+pub within_of : (plan : Plan) (query : Query) (marks : List (Option ℕ)) (first end y : ℕ) → IsPlan plan → end ≤ length plan.order.items → IsUnreachedWithin plan query marks first end y → IsOf plan.spots.items (Holds query) y
+within_of plan query marks first end y t le h =
+    let b = h.before in
+    record { k = get_or plan.order.items h.p 0; among = t.order_of.below h.p 0 (omega arith); tag = h.tag; is = h.holds }
+
 -- past all groups
-pub walked_all : (plan : Plan) (query : Query) (marks : List (Option ℕ)) (at : ℕ) (found : List ℕ) → IsPlan plan → length plan.groups.items ≤ at → IsWalked plan query marks at found
-    → AreGathered (IsUnreached plan.spots.items query marks) [] found
-walked_all plan query marks at found t past w =
+pub walked_all : (plan : Plan) (query : Query) (marks : List (Option ℕ)) (before : List ℕ) (at : ℕ) (found : List ℕ) → IsPlan plan → length plan.groups.items ≤ at → IsWalked plan query marks before at found
+    → AreGathered (IsUnreached plan.spots.items query marks) before found
+walked_all plan query marks before at found t past w =
     let spots = plan.spots.items in
     let order = plan.order.items in
     let end : begin_at plan at ≡ length order = ap (λ (gs : List Group). begin_of gs (length order)) (drop_all at plan.groups.items past) in
-    gathered_as (IsUnreachedWithin plan query marks 0 (begin_at plan at)) (IsUnreached spots query marks) [] found
-    (λ y h. (let b = h.before in
-    record {
-      of = record { k = get_or order h.p 0; among = t.order_of.below h.p 0 (omega arith); tag = h.tag; is = h.holds };
-      unmarked = h.unmarked;
-    }))
+    gathered_as (IsUnreachedWithin plan query marks 0 (begin_at plan at)) (IsUnreached spots query marks) before found
+    (λ y h. record { of = within_of plan query marks 0 (begin_at plan at) y t (omega arith) h; unmarked = h.unmarked })
     (λ y h. (let k : ℕ = h.of.k in
     let listed = t.order_of.each k h.of.among in
     let place : ℕ = listed.0 in

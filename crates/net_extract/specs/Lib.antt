@@ -5,6 +5,7 @@ pub mod Pieces
 pub mod Linking
 pub mod Groves
 pub mod Spots
+pub mod CutLists
 pub mod Spreading
 pub mod Placing
 pub mod Devices

@@ -1,18 +1,14 @@
--- The spots of nodes, and trees of them.
-use Rattle.std.specs.Prelude.{◌≡◌, ◌≢◌, ℕ, ◌<◌, ◌≤◌, IsTrue, List, length}
+-- The spots of nodes.
+use Rattle.std.specs.Prelude.{◌≡◌, ℕ, ◌<◌, ◌≤◌, IsTrue, List, length}
 use Rattle.box_tree.specs.declared.spots.Spot.{Spot}
-use Rattle.lam_geom.specs.declared.boxes.BoxXY.{BoxXY}
 use Rattle.lam_geom.specs.declared.boxes.MaskBox.{MaskBox}
 use Rattle.lam_geom.specs.declared.boxes.MaskLayer.{MaskLayer}
-use Rattle.lam_geom.specs.declared.boxes.MaskLayer.TheVariants.{ND, NP, NM}
-use Rattle.lam_geom.specs.Gaps.{Overlaps}
 use Rattle.rule_table.specs.declared.technology.Tech.{Tech}
 use Rattle.rule_table.specs.Technology.{has_buried_of}
 use Rattle.crossings.specs.Boxes.{area_at, layer_at}
 use Rattle.net_extract.specs.declared.placing.Placed.{Placed}
-use Rattle.net_extract.specs.declared.spots.PieceTrees.{PieceTrees}
 use Rattle.net_extract.specs.Groves.{spot_of}
-use Rattle.net_extract.specs.Linking.{cut_node, IsJoining}
+use Rattle.net_extract.specs.Linking.{cut_node}
 use Rattle.net_extract.specs.Pieces.{box_of, area_of}
 
 -- the spots of the numbers below n that have a property
@@ -46,24 +42,3 @@ ArePieceSpots boxes pieces layer spots = AreSpots (length pieces) (IsPieceOn box
 -- the same by their boxes, where there are buried contacts
 abbrev pub AreBoxSpots : Tech → List MaskBox → List Placed → MaskLayer → List Spot → Type 0
 AreBoxSpots tech boxes pieces layer spots = AreSpots (length pieces) (MayBeBuried tech boxes pieces layer) (box_spot boxes pieces) spots
-
--- the cuts that join
-abbrev pub AreCutSpots : List MaskBox → List Placed → List Spot → Type 0
-AreCutSpots boxes pieces spots = AreSpots (length boxes) (IsJoining boxes pieces) (cut_spot boxes pieces) spots
-
-pub record ArePieceTrees (boxes : List MaskBox) (pieces : List Placed) (trees : PieceTrees) : Type 0 where
-  pub diffusion : ArePieceSpots boxes pieces ND trees.diffusion
-  pub poly : ArePieceSpots boxes pieces NP trees.poly
-  pub metal : ArePieceSpots boxes pieces NM trees.metal
-
--- ---- what lies over a cut
-
--- a piece that overlaps an area, and is not of this box
-pub record IsOverOther (pieces : List Placed) (area : BoxXY) (box_no x : ℕ) : Type 0 where
-  pub among : x < length pieces
-  pub over : Overlaps area (area_of pieces x)
-  pub apart : box_of pieces x ≢ box_no
-
--- the box of such a piece
-abbrev pub IsOwnerOver : List Placed → BoxXY → ℕ → ℕ → Type 0
-IsOwnerOver pieces area box_no owner = (x : ℕ) × IsOverOther pieces area box_no x × (box_of pieces x ≡ owner)

@@ -14,9 +14,10 @@ use Rattle.net_extract.specs.declared.reaching.Front.{Front}
 use Rattle.net_extract.specs.declared.searches.Search.{Search}
 use Rattle.net_extract.specs.declared.placing.Placed.{Placed}
 use Rattle.net_extract.specs.Groves.{IsGrove, IsOf}
-use Rattle.net_extract.specs.Linking.{cut_node, IsJoining, IsPairWith}
+use Rattle.net_extract.specs.Linking.{cut_node, IsPairWith}
 use Rattle.net_extract.specs.Pieces.{box_of}
-use Rattle.net_extract.specs.Spots.{IsPieceOn, piece_spot, cut_spot, ArePieceSpots, AreBoxSpots, AreCutSpots}
+use Rattle.net_extract.specs.Spots.{IsPieceOn, piece_spot, cut_spot, ArePieceSpots, AreBoxSpots}
+use Rattle.net_extract.specs.CutLists.{AreLists, AreChains, AreCrowdedSpots, IsCrowded}
 
 -- ---- one step
 
@@ -66,7 +67,9 @@ pub record IsSearch (tech : Tech) (boxes : List MaskBox) (pieces : List Placed) 
   pub diffusion : IsGroveOf (ArePieceSpots boxes pieces ND) search.front search.diffusion
   pub poly : IsGroveOf (ArePieceSpots boxes pieces NP) search.front search.poly
   pub metal : IsGroveOf (ArePieceSpots boxes pieces NM) search.front search.metal
-  pub cuts : IsGroveOf (AreCutSpots boxes pieces) search.front search.cuts
+  pub lists : AreLists boxes pieces (length boxes) search.lists.starts.items search.lists.nodes.items search.lists.cuts.items
+  pub chains : AreChains (length pieces) search.lists.nodes.items (length search.lists.nodes.items) search.chains.heads.items search.chains.nexts.items
+  pub cuts : IsGroveOf (AreCrowdedSpots boxes pieces search.lists.starts.items (length boxes)) search.front search.cuts
   pub under : IsGroveOf (AreBoxSpots tech boxes pieces ND) search.front search.under
   pub over : IsGroveOf (AreBoxSpots tech boxes pieces NP) search.front search.over
 
@@ -81,11 +84,11 @@ pub record IsAnswer (boxes : List MaskBox) (pieces : List Placed) (layer : MaskL
   pub on_layer : IsPieceOn boxes pieces layer y
   pub answers : Answers query.question query.area (piece_spot pieces y)
 
--- a cut that joins and answers a query
-pub record IsCutAnswer (boxes : List MaskBox) (pieces : List Placed) (query : Query) (y : ℕ) : Type 0 where
+-- a cut without a list that joins and answers a query
+pub record IsCrowdedAnswer (boxes : List MaskBox) (pieces : List Placed) (starts : List ℕ) (query : Query) (y : ℕ) : Type 0 where
   pub cut : ℕ
   pub node : y ≡ cut_node pieces cut
-  pub joins : IsJoining boxes pieces cut
+  pub crowded : IsCrowded boxes pieces starts cut
   pub answers : Answers query.question query.area (cut_spot boxes pieces cut)
 
 -- a piece of which the box is a buried pair with this one

@@ -78,9 +78,9 @@ pub fn unreached(
     Ok(())
 }
 
-// Whether it is plain that no spot within the bounds of a group holds a query. What lies near is asked in most searches, and is
-// answered here by the ends alone.
-fn is_passed_over(group: &Group, query: &Query) -> bool
+/// Whether it is plain that no spot within the bounds of a group holds a query. What lies near is asked in most searches, and is
+/// answered here by the ends alone.
+pub fn is_passed_over(group: &Group, query: &Query) -> bool
     requires group { IsPlacedGroup group.now }
     requires query { IsQuery query.now }
     ensures { IsTrue result → (spot : Spot) → IsBounded group.now spot → Holds query.now spot → ⊥ }

@@ -5,12 +5,14 @@
 //! other, `pieces_of`, `nets_of` and `devices_of`, can be had alone. Lengths are in grains, half hundredths of a micron.
 #![tactic(auto)]
 
+mod cut_lists;
 mod devices;
 mod extraction;
 mod groves;
 mod laws;
 mod netlist;
 mod nets;
+mod over;
 mod placing;
 mod reaching;
 mod searches;

@@ -9,14 +9,17 @@ ghost use Rattle.crossings.specs.Crossings.{AreInOrder};
 ghost use Rattle.net_extract.specs.Extraction.{AreNets};
 ghost use Rattle.net_extract.specs.Linking.{AreBeside};
 ghost use Rattle.net_extract.specs.Pieces.{ArePiecesOf};
-ghost use Rattle.net_extract.specs.Spots.{ArePieceSpots, AreBoxSpots, AreCutSpots, ArePieceTrees};
+ghost use Rattle.net_extract.specs.CutLists.{IsNewPieceGrove};
+ghost use Rattle.net_extract.specs.Spots.{AreBoxSpots};
 ghost use Rattle.net_extract.specs.Spreading.{IsSearch, IsNewSearch, IsNewFront, AreWhole};
 
-use crate::groves::new_grove;
+use crate::cut_lists::{chains_of, cut_lists};
+use crate::groves::{Grove, new_grove};
+use crate::over::PieceGroves;
 use crate::placing::Pieces;
 use crate::reaching::Front;
 use crate::searches::{Search, spread};
-use crate::spots::{PieceTrees, box_spots, cut_spots, piece_spots};
+use crate::spots::{box_spots, piece_spots};
 use box_tree::BoxTree;
 use lam_geom::{MaskBox, MaskLayer};
 use rule_table::Tech;
@@ -91,23 +94,27 @@ fn new_search(
 {
     let count = pieces.placed.len() + boxes.len();
     let front = new_front(alloc, count)?;
-    let trees = PieceTrees {
-        diffusion: tree_on(alloc, boxes, pieces, MaskLayer::ND)?,
-        poly: tree_on(alloc, boxes, pieces, MaskLayer::NP)?,
-        metal: tree_on(alloc, boxes, pieces, MaskLayer::NM)?,
+    let groves = PieceGroves {
+        diffusion: grove_on(alloc, boxes, pieces, MaskLayer::ND)?,
+        poly: grove_on(alloc, boxes, pieces, MaskLayer::NP)?,
+        metal: grove_on(alloc, boxes, pieces, MaskLayer::NM)?,
     };
-    let cuts = cut_tree(alloc, boxes, pieces, &trees)?;
+    let (lists, spots) = cut_lists(alloc, boxes, pieces, &groves)?;
+    let chains = chains_of(alloc, pieces.placed.len(), lists.nodes.as_slice())?;
+    let cuts = BoxTree::new(alloc, spots)?;
     let under = box_tree_on(alloc, tech, boxes, pieces, MaskLayer::ND)?;
     let over = box_tree_on(alloc, tech, boxes, pieces, MaskLayer::NP)?;
-    let PieceTrees {
+    let PieceGroves {
         diffusion,
         poly,
         metal,
-    } = trees;
+    } = groves;
     Ok(Search {
-        diffusion: new_grove(alloc, diffusion)?,
-        poly: new_grove(alloc, poly)?,
-        metal: new_grove(alloc, metal)?,
+        diffusion,
+        poly,
+        metal,
+        lists,
+        chains,
         cuts: new_grove(alloc, cuts)?,
         under: new_grove(alloc, under)?,
         over: new_grove(alloc, over)?,
@@ -115,20 +122,20 @@ fn new_search(
     })
 }
 
-// A tree of the pieces on a layer.
-fn tree_on(
+// A grove of the pieces on a layer.
+fn grove_on(
     alloc: Global,
     boxes: &[MaskBox],
     pieces: &Pieces,
     layer: MaskLayer,
-) -> Result<BoxTree, AllocError>
+) -> Result<Grove, AllocError>
     requires searchable { AreSearchable boxes.now }
     requires pieces { ArePiecesOf boxes.now pieces.now }
-    ensures { IfOk result (ArePieceSpots boxes.now pieces.now.placed.items layer) }
+    ensures { IfOk result (IsNewPieceGrove boxes.now pieces.now.placed.items layer) }
 {
     let spots = piece_spots(alloc, boxes, pieces, layer)?;
     let tree = BoxTree::new(alloc, spots)?;
-    Ok(tree)
+    new_grove(alloc, tree)
 }
 
 // A tree of the pieces on a layer by the areas of their boxes.
@@ -144,23 +151,6 @@ fn box_tree_on(
     ensures { IfOk result (AreBoxSpots tech.now boxes.now pieces.now.placed.items layer) }
 {
     let spots = box_spots(alloc, tech, boxes, pieces, layer)?;
-    let tree = BoxTree::new(alloc, spots)?;
-    Ok(tree)
-}
-
-// A tree of the cuts that join.
-fn cut_tree(
-    alloc: Global,
-    boxes: &[MaskBox],
-    pieces: &Pieces,
-    trees: &PieceTrees,
-) -> Result<BoxTree, AllocError>
-    requires searchable { AreSearchable boxes.now }
-    requires pieces { ArePiecesOf boxes.now pieces.now }
-    requires trees { ArePieceTrees boxes.now pieces.now.placed.items trees.now }
-    ensures { IfOk result (AreCutSpots boxes.now pieces.now.placed.items) }
-{
-    let spots = cut_spots(alloc, boxes, pieces, trees)?;
     let tree = BoxTree::new(alloc, spots)?;
     Ok(tree)
 }

@@ -4,7 +4,6 @@ ghost use Rattle.box_tree.specs.Queries.{Holds, IsQuery};
 ghost use Rattle.crossings.specs.Boxes.{AreSearchable};
 ghost use Rattle.crossings.specs.Spots.{AreBoxesOn};
 ghost use Rattle.lam_geom.specs.declared.boxes.MaskLayer.TheVariants.{NB};
-ghost use Rattle.graph_search.specs.Search.{AreVisited};
 ghost use Rattle.net_extract.specs.Groves.{AreTagsWithin, IsGrove, IsOf};
 ghost use Rattle.net_extract.specs.Linking.{AreGathered, IsPairWith};
 ghost use Rattle.net_extract.specs.Pieces.{box_of, IsOfBoxes};
@@ -14,6 +13,7 @@ use crate::groves::{Grove, unreached};
 use crate::placing::Placed;
 use box_tree::{BoxTree, Query};
 use crossings::is_buried;
+use graph_search::visit;
 use lam_geom::MaskBox;
 use rule_table::Tech;
 use std::alloc::AllocError;
@@ -139,23 +139,4 @@ fn is_pair_with(tech: &Tech, boxes: &[MaskBox], windows: &BoxTree, a: u32, b: u3
     ensures { IsTrue result ↔ IsPairWith tech.now boxes.now a b }
 {
     is_buried(tech, boxes, windows, a, b) || is_buried(tech, boxes, windows, b, a)
-}
-
-// Gives a net to those of some nodes that have none, and puts them at the end of the queue.
-fn visit(
-    nodes: &[u32],
-    net: u32,
-    marks: &mut Vec<Option<u32>>,
-    queue: &mut Vec<u32>,
-) -> Result<(), AllocError>
-    requires { All (λ k. k < length marks.old.items) nodes.now }
-    ensures { OnOk result (AreVisited nodes.now net marks.old.items marks.new.items queue.old.items queue.new.items) }
-{
-    for &node in nodes {
-        if marks[node as usize].is_none() {
-            queue.push(node)?;
-            marks[node as usize] = Some(net);
-        }
-    }
-    Ok(())
 }

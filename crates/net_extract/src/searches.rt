@@ -6,26 +6,30 @@ ghost use Rattle.crossings.specs.Boxes.{AreSearchable};
 ghost use Rattle.crossings.specs.Spots.{AreBoxesOn};
 ghost use Rattle.lam_geom.specs.declared.boxes.MaskLayer.TheVariants.{NB};
 ghost use Rattle.graph_search.specs.Search.{mark_of};
-ghost use Rattle.net_extract.specs.Linking.{AreBeside, IsNode, cut_node};
+ghost use Rattle.net_extract.specs.Linking.{AreBeside, IsNode, IsOverCut, cut_node};
 ghost use Rattle.net_extract.specs.Linking.{IsJoining};
 ghost use Rattle.net_extract.specs.Pieces.{ArePiecesOf, Conducts};
-ghost use Rattle.net_extract.specs.Spreading.{IsSearch, IsStep, IsAnswer, IsCutAnswer, IsPartner, IsSpread, IsBegun};
+ghost use Rattle.net_extract.specs.Spreading.{IsSearch, IsStep, IsAnswer, IsPartner, IsSpread, IsBegun};
 
+use crate::cut_lists::{Chains, CutLists, cuts_of};
 use crate::groves::Grove;
 use crate::placing::Pieces;
 use crate::reaching::{Front, reach, reach_buried};
 use box_tree::{BoxTree, Query, Question};
+use graph_search::visit;
 use lam_geom::{BoxXY, MaskBox, MaskLayer};
 use rule_table::Tech;
 use std::alloc::AllocError;
 
-/// The nodes of some pieces: pieces on each layer by their areas, cuts that join, and where there are buried contacts pieces of
-/// diffusion and of poly by the areas of their boxes.
+/// The nodes of some pieces: pieces on each layer by their areas, cuts that join, in lists or, where they are crowded, by their
+/// areas, and where there are buried contacts pieces of diffusion and of poly by the areas of their boxes.
 #[derive(Debug, Drop)]
 pub struct Search {
     pub diffusion: Grove,
     pub poly: Grove,
     pub metal: Grove,
+    pub lists: CutLists,
+    pub chains: Chains,
     pub cuts: Grove,
     pub under: Grove,
     pub over: Grove,
@@ -117,9 +121,8 @@ fn visit_piece(
     let piece = pieces.placed[a as usize];
     let layer = boxes[piece.box_no as usize].layer;
     let touching = near(&piece.area, 0, piece.box_no);
-    let over = near(&piece.area, -1, piece.box_no);
     reach_pieces(tech, boxes, pieces, layer, &touching, net, search)?;
-    reach_cuts(tech, boxes, pieces, &over, net, search)?;
+    reach_cuts(tech, boxes, pieces, a, net, search)?;
     reach_partners(tech, boxes, windows, pieces, piece.box_no, net, search)?;
     Ok(())
 }
@@ -139,6 +142,13 @@ fn visit_cut(
     requires joining { IsJoining boxes.now pieces.now.placed.items cut }
     ensures { OnOk result (IsStep tech.now boxes.now pieces.now.placed.items (AreBeside tech.now boxes.now pieces.now.placed.items (cut_node pieces.now.placed.items cut)) net search.old search.new) }
 {
+    let first = search.lists.starts[cut as usize] as usize;
+    let end = search.lists.starts[cut as usize + 1] as usize;
+    if first < end {
+        let front = &mut search.front;
+        let nodes = &search.lists.nodes[first..end];
+        return visit(nodes, net, &mut front.marks, &mut front.queue);
+    }
     let over = near(&boxes[cut as usize].area, -1, cut);
     reach_pieces(tech, boxes, pieces, MaskLayer::ND, &over, net, search)?;
     reach_pieces(tech, boxes, pieces, MaskLayer::NP, &over, net, search)?;
@@ -179,20 +189,33 @@ fn reach_pieces(
     }
 }
 
-// Gives a net to the cuts without one that join and hold a query.
+// Gives a net to the cuts without one that join and are over a piece.
 fn reach_cuts(
     tech: &Tech,
     boxes: &[MaskBox],
     pieces: &Pieces,
-    query: &Query,
+    a: u32,
     net: u32,
     search: &mut Search,
 ) -> Result<(), AllocError>
-    requires query { IsQuery query.now }
+    requires searchable { AreSearchable boxes.now }
+    requires pieces { ArePiecesOf boxes.now pieces.now }
     requires search { IsSearch tech.now boxes.now pieces.now.placed.items search.old }
-    ensures { OnOk result (IsStep tech.now boxes.now pieces.now.placed.items (IsCutAnswer boxes.now pieces.now.placed.items query.now) net search.old search.new) }
+    requires in_range { a < length pieces.now.placed.items }
+    ensures { OnOk result (IsStep tech.now boxes.now pieces.now.placed.items (IsOverCut boxes.now pieces.now.placed.items a) net search.old search.new) }
 {
-    reach(&mut search.cuts, query, net, &mut search.front)
+    let piece = pieces.placed[a as usize];
+    let over = near(&piece.area, -1, piece.box_no);
+    let front = &mut search.front;
+    reach(&mut search.cuts, &over, net, front)?;
+    let count = pieces.placed.len() as u32;
+    cuts_of(&search.lists, &search.chains, count, a, &mut front.found)?;
+    visit(
+        front.found.as_slice(),
+        net,
+        &mut front.marks,
+        &mut front.queue,
+    )
 }
 
 // Gives a net to the pieces without one of which the boxes are buried pairs with a box.

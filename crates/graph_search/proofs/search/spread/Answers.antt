@@ -27,8 +27,8 @@ loop-passed-preserved c =
     let lt : c.loop-passed.passed < length queue = omega arith in
     let q = read_queue _ _ _ _ _ _ _ c.index-part.result.now c.requires.counted c.loop-passed.invariant lt c.index-part.ensures in
     let e = c.as_slice.ensures ∙ read_list lists c.index-part.result.now c.index-neighbours-part.result q.1 c.index-neighbours-part.is in
-    let P : List ℕ → Type 0 = λ xs. AreVisited xs c.args.net old c.visit.new.marks.items queue c.visit.new.reached.items in
-    spreading_more lists c.args.start c.args.net c.args.marks.now.items old c.visit.new.marks.items queue c.visit.new.reached.items c.loop-passed.passed lt c.loop-passed.invariant
+    let P : List ℕ → Type 0 = λ xs. AreVisited xs c.args.net old c.visit.new.marks.items queue c.visit.new.queue.items in
+    spreading_more lists c.args.start c.args.net c.args.marks.now.items old c.visit.new.marks.items queue c.visit.new.queue.items c.loop-passed.passed lt c.loop-passed.invariant
     (subst P (e ∙ ap (neighbours_of lists) q.0) c.in_ok-visit.ensures)
 
 pub returns : goal.returns

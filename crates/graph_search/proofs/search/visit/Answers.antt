@@ -10,8 +10,8 @@ loop-part-preserved c =
     let i = c.loop-part.part-index in
     let old = c.args.marks.now.items in
     let marks = c.loop-part.marks.items in
-    let before = c.args.reached.now.items in
-    let queue = c.loop-part.reached.items in
+    let before = c.args.queue.now.items in
+    let queue = c.loop-part.queue.items in
     let v = c.loop-part.invariant in
     let lt : i < length parts = omega arith in
     let within : get_or parts i 0 < length marks = (let r = c.requires i 0 lt in let n = v.counted in omega arith) in
@@ -19,13 +19,13 @@ loop-part-preserved c =
       | then-is_none+in_ok-push w ↦
           (let none = read_none marks (get_or parts i 0) c.index.result.now c.is_none.result within c.index.ensures c.is_none.ensures w.if-is_none.true in
           let new = visited_new parts c.args.net old marks before queue i lt within none v in
-          let P : List (Option ℕ) → Type 0 = λ m. AreVisited (take (i + 1) parts) c.args.net old m before c.if-is_none.reached.items in
+          let P : List (Option ℕ) → Type 0 = λ m. AreVisited (take (i + 1) parts) c.args.net old m before c.if-is_none.queue.items in
           let Q : List ℕ → Type 0 = λ q. AreVisited (take (i + 1) parts) c.args.net old (set marks (get_or parts i 0) (Some c.args.net)) before q in
-          subst P (sym (ap (λ (x : Vec (Option ℕ) Global). x.items) w.marks-is)) (subst Q (sym (ap (λ (x : Vec ℕ Global). x.items) w.reached-is ∙ w.in_ok-push.ensures.items)) new))
+          subst P (sym (ap (λ (x : Vec (Option ℕ) Global). x.items) w.marks-is)) (subst Q (sym (ap (λ (x : Vec ℕ Global). x.items) w.queue-is ∙ w.in_ok-push.ensures.items)) new))
       | else-is_none w ↦
           (let seen = read_marked marks (get_or parts i 0) c.index.result.now c.is_none.result within c.index.ensures c.is_none.ensures w.if-is_none.false in
           let same = visited_seen parts c.args.net old marks before queue i lt seen v in
-          let P : List (Option ℕ) → Type 0 = λ m. AreVisited (take (i + 1) parts) c.args.net old m before c.if-is_none.reached.items in
+          let P : List (Option ℕ) → Type 0 = λ m. AreVisited (take (i + 1) parts) c.args.net old m before c.if-is_none.queue.items in
           let Q : List ℕ → Type 0 = λ q. AreVisited (take (i + 1) parts) c.args.net old marks before q in
-          subst P (sym (ap (λ (x : Vec (Option ℕ) Global). x.items) w.marks-is)) (subst Q (sym (ap (λ (x : Vec ℕ Global). x.items) w.reached-is)) same))
+          subst P (sym (ap (λ (x : Vec (Option ℕ) Global). x.items) w.marks-is)) (subst Q (sym (ap (λ (x : Vec ℕ Global). x.items) w.queue-is)) same))
     ]

@@ -1,4 +1,4 @@
-use Rattle.std.proofs.Common.{arith, ◌≡◌, ℕ, ◌+◌, ◌<◌, ◌≤◌, Bool, true, None, List, sym, ◌∙◌, subst}
+use Rattle.std.proofs.Common.{arith, [], ◌≡◌, ℕ, ◌+◌, ◌<◌, ◌≤◌, Bool, true, None, List, sym, ◌∙◌, subst}
 use Rattle.box_tree.specs.Queries.{Holds}
 use Rattle.graph_search.specs.Search.{mark_of}
 use Rattle.net_extract.specs.Groves.{spot_in, IsRunSpent}
@@ -55,7 +55,7 @@ loop-at-preserved-then-is_passed_over c =
           λ p low high holds none. w.is_passed_over.ensures yes (spot_in plan p) (g.bounded p low high) holds)
     ] in
     record {
-      walked = walked_past plan query marks at (at + (1 + group.inside)) group c.loop-at.found.items (omega arith) g barren inv.walked;
+      walked = walked_past plan query marks [] at (at + (1 + group.inside)) group c.loop-at.found.items (omega arith) g barren inv.walked;
       spent = inv.spent;
     }
 
@@ -82,7 +82,7 @@ loop-at-preserved-then-group-eq0 c =
     let inv = c.loop-at.invariant in
     let g : IsRead plan at group = group_read plan at group c.requires.plan (omega arith) c.index-group.ensures in
     record {
-      walked = walked_leaf plan query marks at group (group.start + group.count) c.loop-at.found.items c.look_through.new.found.items g c.if-group-eq0.true (omega arith) c.in_ok-spent.ensures.found inv.walked;
+      walked = walked_leaf plan query marks [] at group (group.start + group.count) c.loop-at.found.items c.look_through.new.found.items g c.if-group-eq0.true (omega arith) c.in_ok-spent.ensures.found inv.walked;
       spent = spent_set plan marks c.loop-at.spent.items at group c.in_ok-spent.field-0 g c.in_ok-spent.ensures.all inv.spent;
     }
 
@@ -97,10 +97,10 @@ loop-at-preserved c =
     let g : IsRead plan at group = group_read plan at group c.requires.plan (omega arith) c.index-group.ensures in
     let R : List Bool → Type 0 = λ xs. IsRunSpent plan.groups.items xs at in
     record {
-      walked = walked_into plan query marks at group c.loop-at.found.items g c.if-group-eq0.false inv.walked;
+      walked = walked_into plan query marks [] at group c.loop-at.found.items g c.if-group-eq0.false inv.walked;
       spent = spent_set plan marks c.loop-at.spent.items at group c.is_spent_inside.result g
           (λ t. run_spent_marked plan marks c.loop-at.spent.items at group g inv.spent (subst R c.as_slice.ensures.value (c.is_spent_inside.ensures t))) inv.spent;
     }
 
 pub returns-clause-found : goal.returns-clause-found
-returns-clause-found c = walked_all c.args.plan.now c.args.query.now c.args.marks.now c.loop-at.at c.loop-at.found.items c.requires.plan (omega arith) c.loop-at.invariant.walked
+returns-clause-found c = walked_all c.args.plan.now c.args.query.now c.args.marks.now [] c.loop-at.at c.loop-at.found.items c.requires.plan (omega arith) c.loop-at.invariant.walked

@@ -1,11 +1,11 @@
-use Rattle.std.proofs.Common.{◌-◌, length}
+use Rattle.std.proofs.Common.{[], ◌-◌, length}
 use Rattle.net_extract.specs.Groves.{AreSpent}
 use Rattle.net_extract.proofs.Walk.{IsWalked}
 use Rattle.net_extract.proofs.groves.unreached.Given as goal
 
 abbrev pub invariant-loop-at : goal.invariant-loop-at
 invariant-loop-at l = record {
-  walked : IsWalked l.plan l.query l.marks l.at l.found.items;
+  walked : IsWalked l.plan l.query l.marks [] l.at l.found.items;
   spent : AreSpent l.plan l.marks l.spent.items;
 }
 

@@ -1,19 +1,76 @@
+use Rattle.std.proofs.Common.{arith, ◌≡◌, ℕ, [], length, inl, inr, sym, ◌∙◌, ap, subst}
+use Rattle.std.specs.Prelude.{negsuc}
 use Rattle.std.proofs.lemmas.Result.{on_ok_weaker}
+use Rattle.box_tree.specs.declared.query.Query.{Query}
 use Rattle.box_tree.specs.Queries.{Holds}
+use Rattle.lam_geom.specs.Places.{IsPlacedBox}
+use Rattle.net_extract.specs.declared.placing.Placed.{Placed}
+use Rattle.net_extract.specs.CutLists.{IsListedOver}
 use Rattle.net_extract.specs.Groves.{IsOf}
-use Rattle.net_extract.specs.Spreading.{IsCutAnswer}
-use Rattle.net_extract.proofs.Beside.{cuts_forth, cuts_back}
-use Rattle.net_extract.proofs.Searched.{step_cuts}
+use Rattle.net_extract.specs.Linking.{AreGathered, IsOverCut}
+use Rattle.net_extract.specs.Pieces.{area_of, box_of, piece_at}
+use Rattle.net_extract.specs.Spreading.{IsCrowdedAnswer}
+use Rattle.net_extract.proofs.Beside.{crowded_forth, crowded_back, crowded_over, listed_over, listed_within, over_cases}
+use Rattle.net_extract.proofs.Searched.{near_asked, piece_placed, step_cuts, step_listed, step_two}
+use Rattle.net_extract.proofs.Shown.{over_query, piece_read}
+use Rattle.net_extract.proofs.Steps.{gathered_reached, gathered_within}
 use Rattle.net_extract.proofs.searches.reach_cuts.Goals as goal
+
+pub reach-requires-clause-query : goal.reach-requires-clause-query
+reach-requires-clause-query c =
+    let pieces = c.args.pieces.now.placed.items in
+    let piece : Placed = c.index.result.now in
+    let is : piece ≡ piece_at pieces c.args.a = piece_read pieces c.args.a piece c.requires.in_range c.index.ensures in
+    let P : Placed → Type 0 = λ p. IsPlacedBox p.area in
+    near_asked piece.area (negsuc 0) piece.box_no c.near-over.result c.near-over.ensures
+    (subst P (sym is) (piece_placed c.args.boxes.now c.args.pieces.now.crossings.items pieces c.args.pieces.now.starts.items c.args.a c.requires.searchable c.requires.pieces c.requires.in_range))
+
+pub visit-requires : goal.visit-requires
+visit-requires c =
+    let boxes = c.args.boxes.now in
+    let pieces = c.args.pieces.now.placed.items in
+    let lists = c.args.search.now.lists in
+    let count = c.len-count.result in
+    let same : count ≡ length pieces = omega (arith, c.len-count.ensures, c.args.pieces.now.placed.ok.0) in
+    let n = c.in_ok-reach.ensures.reached.counted in
+    let m = c.requires.search.counted in
+    gathered_within (IsListedOver lists.nodes.items lists.cuts.items count c.args.a) (length c.reach.new.front.marks.items) c.cuts_of.new.found.items c.as_slice.result.now c.as_slice.ensures.value
+    (λ y h. listed_within boxes pieces lists.starts.items lists.nodes.items lists.cuts.items count c.args.a (length c.reach.new.front.marks.items) y same (omega arith) c.requires.search.lists h) c.in_ok-cuts_of.ensures
 
 pub returns : goal.returns
 returns c =
+    let tech = c.args.tech.now in
     let boxes = c.args.boxes.now in
     let pieces = c.args.pieces.now.placed.items in
+    let a = c.args.a in
+    let net = c.args.net in
     let search = c.args.search.now in
-    let query = c.args.query.now in
+    let lists = search.lists in
+    let starts = lists.starts.items in
+    let nodes = lists.nodes.items in
+    let cuts = lists.cuts.items in
+    let query = over_query (area_of pieces a) (box_of pieces a) in
     let spots = search.cuts.plan.spots.items in
-    on_ok_weaker c.reach.result
-    (step_cuts c.args.tech.now boxes pieces (IsOf spots (Holds query)) (IsCutAnswer boxes pieces query) c.args.net search c.reach.new.grove c.reach.new.front
-    (cuts_forth boxes pieces spots query c.requires.search.cuts.shows) (cuts_back boxes pieces spots query c.requires.search.cuts.shows) c.requires.search)
-    c.reach.ensures
+    let front = c.reach.new.front in
+    let second = record search { cuts = c.reach.new.grove; front = front } in
+    let last = record front { marks = c.visit.new.marks; queue = c.visit.new.queue; found = c.cuts_of.new.found } in
+    let is : c.near-over.result ≡ query = c.near-over.ensures ∙ ap (λ (p : Placed). over_query p.area p.box_no) (piece_read pieces a c.index.result.now c.requires.in_range c.index.ensures) in
+    let C : ℕ → Type 0 = IsCrowdedAnswer boxes pieces starts query in
+    let L : ℕ → Type 0 = IsListedOver nodes cuts (length pieces) a in
+    let same : c.len-count.result ≡ length pieces = omega (arith, c.len-count.ensures, c.args.pieces.now.placed.ok.0) in
+    let G : ℕ → Type 0 = λ count. AreGathered (IsListedOver nodes cuts count a) [] c.cuts_of.new.found.items in
+    let crowded = step_cuts tech boxes pieces (IsOf spots (Holds c.near-over.result)) C net search c.reach.new.grove front
+    (λ y h. crowded_forth boxes pieces starts spots query c.requires.search.cuts.shows y (let P : Query → Type 0 = λ q. IsOf spots (Holds q) y in subst P is h))
+    (λ y h. (let P : Query → Type 0 = λ q. IsOf spots (Holds q) y in subst P (sym is) (crowded_back boxes pieces starts spots query c.requires.search.cuts.shows y h)))
+    c.requires.search c.in_ok-reach.ensures in
+    on_ok_weaker c.visit.result
+    (λ v. step_two tech boxes pieces C L (IsOverCut boxes pieces a) net search second (record second { front = last })
+    (λ y h. elim h [
+      | inl o ↦ crowded_over boxes pieces starts a y c.requires.in_range o
+      | inr o ↦ listed_over boxes pieces starts nodes cuts a y c.requires.in_range c.requires.search.lists o
+    ])
+    (λ y h. over_cases boxes c.args.pieces.now.crossings.items pieces c.args.pieces.now.starts.items starts nodes cuts a y c.requires.pieces c.requires.in_range c.requires.search.lists h)
+    crowded
+    (step_listed tech boxes pieces L net second last crowded.search
+    (gathered_reached L net front.marks.items c.visit.new.marks.items front.queue.items c.visit.new.queue.items c.cuts_of.new.found.items c.as_slice.result.now c.as_slice.ensures.value (subst G same c.in_ok-cuts_of.ensures) v)))
+    c.visit.ensures

@@ -1,6 +1,6 @@
-use Rattle.std.proofs.Common.{◌≡◌, ◌<◌, length, get_or, sym, ◌∙◌, ap, subst}
+use Rattle.std.proofs.Common.{arith, ℕ, ◌+◌, ◌-◌, inr, List, take, drop, ◌≡◌, ◌<◌, length, get_or, sym, ◌∙◌, ap, subst}
 use Rattle.std.specs.Prelude.{negsuc}
-use Rattle.std.proofs.lemmas.List.{get_or_default}
+use Rattle.std.proofs.lemmas.List.{get_or_default, get_or_read}
 use Rattle.box_tree.specs.declared.query.Query.{Query}
 use Rattle.lam_geom.specs.declared.boxes.BoxXY.{BoxXY}
 use Rattle.lam_geom.specs.declared.boxes.MaskBox.{MaskBox}
@@ -11,9 +11,14 @@ use Rattle.crossings.specs.Boxes.{area_at, no_box}
 use Rattle.net_extract.specs.declared.searches.Search.{Search}
 use Rattle.net_extract.specs.Linking.{AreBeside, cut_node}
 use Rattle.net_extract.specs.Spreading.{IsAnswer, IsStep}
-use Rattle.net_extract.proofs.Beside.{cut_forth, cut_back}
+use Rattle.net_extract.specs.CutLists.{IsOver}
+use Rattle.std.proofs.lemmas.Result.{on_ok_weaker}
+use Rattle.net_extract.proofs.Beside.{beside_over, cut_forth, cut_back, over_beside}
+use Rattle.net_extract.proofs.Listed.{over_part, part_over}
+use Rattle.net_extract.proofs.Spread.{reached_from}
+use Rattle.net_extract.proofs.Steps.{all_among}
 use Rattle.net_extract.proofs.Shown.{over_query}
-use Rattle.net_extract.proofs.Searched.{step_three, near_asked}
+use Rattle.net_extract.proofs.Searched.{step_listed, step_three, near_asked}
 use Rattle.net_extract.proofs.searches.visit_cut.Goals as goal
 
 pub reach_pieces-requires : goal.reach_pieces-requires
@@ -75,3 +80,61 @@ returns c =
     step_three tech boxes pieces (IsAnswer boxes pieces ND query) (IsAnswer boxes pieces NP query) (IsAnswer boxes pieces NM query) (AreBeside tech boxes pieces (cut_node pieces cut)) net c.args.search.now first second third
     (cut_forth tech boxes pieces cut c.requires.joining) (cut_back tech boxes crossings pieces starts cut c.requires.pieces c.requires.joining)
     (subst (F ND c.args.search.now first) is c.in_ok-reach_pieces.ensures) (subst (F NP first second) is c.in_ok-reach_pieces-2.ensures) (subst (F NM second third) is c.in_ok-reach_pieces-3.ensures)
+
+pub slice_bounds-nodes-end : goal.slice_bounds-nodes-end
+slice_bounds-nodes-end c =
+    let lists = c.args.search.now.lists in
+    let starts = lists.starts.items in
+    let cut = c.args.cut in
+    let l = c.requires.search.lists in
+    let among : cut < length c.args.boxes.now = c.requires.joining.2.is_cut.among in
+    let counted = l.counted in
+    let end : c.index-2.result.now ≡ get_or starts (cut + 1) 0 = get_or_read starts (cut + 1) c.index-2.result.now (omega arith) c.index-2.ensures 0 in
+    let w = l.within (cut + 1) (omega arith) in
+    let same : length c.deref.result.now ≡ length lists.nodes.items = ap (λ (xs : List ℕ). length xs) c.deref.ensures.value in
+    omega arith
+
+pub visit-requires : goal.visit-requires
+visit-requires c =
+    let boxes = c.args.boxes.now in
+    let pieces = c.args.pieces.now.placed.items in
+    let lists = c.args.search.now.lists in
+    let starts = lists.starts.items in
+    let cut = c.args.cut in
+    let l = c.requires.search.lists in
+    let among : cut < length boxes = c.requires.joining.2.is_cut.among in
+    let counted = l.counted in
+    let n = c.requires.search.counted in
+    let first : c.index.result.now ≡ get_or starts cut 0 = get_or_read starts cut c.index.result.now (omega arith) c.index.ensures 0 in
+    let end : c.index-2.result.now ≡ get_or starts (cut + 1) 0 = get_or_read starts (cut + 1) c.index-2.result.now (omega arith) c.index-2.ensures 0 in
+    all_among (length c.args.search.now.front.marks.items) (take (c.index-2.result.now - c.index.result.now) (drop c.index.result.now c.deref.result.now))
+    (λ y h. (let over : IsOver boxes pieces cut y =
+    part_over boxes pieces (length boxes) cut c.index.result.now c.index-2.result.now starts lists.nodes.items lists.cuts.items c.deref.result.now c.deref.ensures.value among first end l y h in
+    let lt = over.among in
+    omega arith))
+
+pub returns-then-first-end : goal.returns-then-first-end
+returns-then-first-end c =
+    let tech = c.args.tech.now in
+    let boxes = c.args.boxes.now in
+    let pieces = c.args.pieces.now.placed.items in
+    let search = c.args.search.now in
+    let lists = search.lists in
+    let starts = lists.starts.items in
+    let cut = c.args.cut in
+    let net = c.args.net in
+    let l = c.requires.search.lists in
+    let among : cut < length boxes = c.requires.joining.2.is_cut.among in
+    let counted = l.counted in
+    let first : c.index.result.now ≡ get_or starts cut 0 = get_or_read starts cut c.index.result.now (omega arith) c.index.ensures 0 in
+    let end : c.index-2.result.now ≡ get_or starts (cut + 1) 0 = get_or_read starts (cut + 1) c.index-2.result.now (omega arith) c.index-2.ensures 0 in
+    let part = take (c.index-2.result.now - c.index.result.now) (drop c.index.result.now c.deref.result.now) in
+    on_ok_weaker c.visit.result
+    (λ v. step_listed tech boxes pieces (AreBeside tech boxes pieces (cut_node pieces cut)) net search (record search.front { marks = c.visit.new.marks; queue = c.visit.new.queue }) c.requires.search
+    (reached_from (AreBeside tech boxes pieces (cut_node pieces cut)) part net search.front.marks.items c.visit.new.marks.items search.front.queue.items c.visit.new.queue.items
+    (λ y h. over_beside tech boxes pieces cut c.requires.joining y
+    (part_over boxes pieces (length boxes) cut c.index.result.now c.index-2.result.now starts lists.nodes.items lists.cuts.items c.deref.result.now c.deref.ensures.value among first end l y h))
+    (λ y h. inr (over_part boxes pieces (length boxes) cut c.index.result.now c.index-2.result.now starts lists.nodes.items lists.cuts.items c.deref.result.now c.deref.ensures.value among first end l c.if-first-end.true y
+    (beside_over tech boxes pieces cut y h)))
+    v))
+    c.visit.ensures

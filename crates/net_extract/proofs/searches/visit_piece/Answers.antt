@@ -1,16 +1,15 @@
 use Rattle.std.proofs.Common.{◌≡◌, get_or, pos, sym, ◌∙◌, ap, subst}
-use Rattle.std.specs.Prelude.{negsuc}
 use Rattle.box_tree.specs.declared.query.Query.{Query}
 use Rattle.lam_geom.specs.declared.boxes.MaskBox.{MaskBox}
 use Rattle.lam_geom.specs.declared.boxes.MaskLayer.{MaskLayer}
 use Rattle.lam_geom.specs.Places.{IsPlacedBox}
 use Rattle.crossings.specs.Boxes.{box_at, layer_at}
 use Rattle.net_extract.specs.declared.placing.Placed.{Placed}
-use Rattle.net_extract.specs.Linking.{AreBeside}
+use Rattle.net_extract.specs.Linking.{AreBeside, IsOverCut}
 use Rattle.net_extract.specs.Pieces.{Conducts, box_of, area_of, no_piece, piece_at}
-use Rattle.net_extract.specs.Spreading.{IsAnswer, IsCutAnswer, IsPartner, IsStep}
+use Rattle.net_extract.specs.Spreading.{IsAnswer, IsPartner, IsStep}
 use Rattle.net_extract.proofs.Beside.{touch_query, piece_forth, piece_back}
-use Rattle.net_extract.proofs.Shown.{over_query, piece_read, box_read, in_boxes}
+use Rattle.net_extract.proofs.Shown.{piece_read, box_read, in_boxes}
 use Rattle.net_extract.proofs.Searched.{step_three, near_asked, piece_placed}
 use Rattle.net_extract.proofs.searches.visit_piece.Goals as goal
 
@@ -30,20 +29,6 @@ reach_pieces-requires c =
       query = near_asked piece.area (pos 0) piece.box_no c.near-touching.result c.near-touching.ensures (subst P (sym is) (piece_placed boxes crossings pieces starts a c.requires.searchable c.requires.pieces c.requires.in_range));
       conducts = subst C (sym own) (c.requires.pieces.each a no_piece c.requires.in_range).conducts;
       search = c.requires.search;
-    }
-
-pub reach_cuts-requires : goal.reach_cuts-requires
-reach_cuts-requires c =
-    let boxes = c.args.boxes.now in
-    let pieces = c.args.pieces.now.placed.items in
-    let a = c.args.a in
-    let piece : Placed = c.index.result.now in
-    let is : piece ≡ piece_at pieces a = piece_read pieces a piece c.requires.in_range c.index.ensures in
-    let P : Placed → Type 0 = λ p. IsPlacedBox p.area in
-    record {
-      query = near_asked piece.area (negsuc 0) piece.box_no c.near-over.result c.near-over.ensures
-          (subst P (sym is) (piece_placed boxes c.args.pieces.now.crossings.items pieces c.args.pieces.now.starts.items a c.requires.searchable c.requires.pieces c.requires.in_range));
-      search = c.in_ok-reach_pieces.ensures.search;
     }
 
 pub reach_partners-requires : goal.reach_partners-requires
@@ -79,10 +64,7 @@ returns c =
     let Q : Query → Type 0 = λ query. IsStep tech boxes pieces (IsAnswer boxes pieces (layer_at boxes (box_of pieces a)) query) net c.args.search.now first in
     let touching : IsStep tech boxes pieces (IsAnswer boxes pieces (layer_at boxes (box_of pieces a)) (touch_query (area_of pieces a) (box_of pieces a))) net c.args.search.now first =
     subst Q (c.near-touching.ensures ∙ ap (λ (p : Placed). touch_query p.area p.box_no) is) (subst L (ap (λ (m : MaskBox). m.layer) own) c.in_ok-reach_pieces.ensures) in
-    let C : Query → Type 0 = λ query. IsStep tech boxes pieces (IsCutAnswer boxes pieces query) net first second in
-    let over : IsStep tech boxes pieces (IsCutAnswer boxes pieces (over_query (area_of pieces a) (box_of pieces a))) net first second =
-    subst C (c.near-over.ensures ∙ ap (λ (p : Placed). over_query p.area p.box_no) is) c.in_ok-reach_cuts.ensures in
     let B : Placed → Type 0 = λ p. IsStep tech boxes pieces (IsPartner tech boxes pieces p.box_no) net second c.reach_partners.new.search in
-    step_three tech boxes pieces (IsAnswer boxes pieces (layer_at boxes (box_of pieces a)) (touch_query (area_of pieces a) (box_of pieces a))) (IsCutAnswer boxes pieces (over_query (area_of pieces a) (box_of pieces a)))
+    step_three tech boxes pieces (IsAnswer boxes pieces (layer_at boxes (box_of pieces a)) (touch_query (area_of pieces a) (box_of pieces a))) (IsOverCut boxes pieces a)
     (IsPartner tech boxes pieces (box_of pieces a)) (AreBeside tech boxes pieces a) net c.args.search.now first second c.reach_partners.new.search
-    (piece_forth tech boxes pieces a c.requires.in_range) (piece_back tech boxes crossings pieces starts a c.requires.pieces c.requires.in_range) touching over (subst B is c.in_ok-reach_partners.ensures)
+    (piece_forth tech boxes pieces a c.requires.in_range) (piece_back tech boxes pieces a c.requires.in_range) touching c.in_ok-reach_cuts.ensures (subst B is c.in_ok-reach_partners.ensures)

@@ -1,16 +1,8 @@
-use Rattle.std.proofs.Common.{List, sym, subst}
-use Rattle.box_tree.specs.declared.spots.Spot.{Spot}
-use Rattle.net_extract.specs.Spots.{ArePieceSpots}
 use Rattle.net_extract.proofs.Begun.{pieces_fit}
-use Rattle.net_extract.proofs.nets.tree_on.Goals as goal
+use Rattle.net_extract.proofs.nets.grove_on.Goals as goal
 
 pub new-requires-clause-few : goal.new-requires-clause-few
 new-requires-clause-few c = (pieces_fit c.args.boxes.now c.args.pieces.now.crossings.items c.args.pieces.now.placed.items c.args.pieces.now.starts.items c.args.layer c.in_ok-spots.spots.items c.requires.searchable c.requires.pieces c.in_ok-spots.ensures).0
 
 pub new-requires-clause-placed : goal.new-requires-clause-placed
 new-requires-clause-placed c = (pieces_fit c.args.boxes.now c.args.pieces.now.crossings.items c.args.pieces.now.placed.items c.args.pieces.now.starts.items c.args.layer c.in_ok-spots.spots.items c.requires.searchable c.requires.pieces c.in_ok-spots.ensures).1
-
-pub returns : goal.returns
-returns c =
-    let P : List Spot → Type 0 = λ spots. ArePieceSpots c.args.boxes.now c.args.pieces.now.placed.items c.args.layer spots in
-    subst P (sym c.in_ok-tree.ensures) c.in_ok-spots.ensures

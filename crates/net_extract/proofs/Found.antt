@@ -1,0 +1,182 @@
+-- What is found over a cut: from the spots of groves to all pieces over it, or to pieces of two boxes.
+use Rattle.std.proofs.Common.{◌≡◌, ℕ, ◌+◌, ◌<◌, ◌≤◌, All, Bool, true, false, List, [], length, Contains, ◌⊎◌, inl, inr, refl, sym, ◌∙◌, ap, subst, arith}
+use Rattle.box_tree.specs.declared.query.Query.{Query}
+use Rattle.box_tree.specs.declared.spots.Group.{Group}
+use Rattle.box_tree.specs.declared.spots.Spot.{Spot}
+use Rattle.box_tree.specs.Queries.{Holds}
+use Rattle.lam_geom.specs.declared.boxes.MaskBox.{MaskBox}
+use Rattle.lam_geom.specs.declared.boxes.MaskLayer.TheVariants.{ND, NP, NC, NM}
+use Rattle.crossings.specs.declared.crossing.Crossing.{Crossing}
+use Rattle.crossings.specs.Boxes.{IsOn, area_at, box_at, layer_at}
+use Rattle.net_extract.specs.declared.groves.Plan.{Plan}
+use Rattle.net_extract.specs.declared.over.PieceGroves.{PieceGroves}
+use Rattle.net_extract.specs.declared.placing.Placed.{Placed}
+use Rattle.net_extract.specs.CutLists.{AreFound, AreOfTwo, ArePieceGroves, IsListOver, IsOfAny, IsOver}
+use Rattle.net_extract.specs.Groves.{AreTagsWithin, IsOf, IsPlan, IsUnreached, IsUnreachedWithin}
+use Rattle.net_extract.specs.Linking.{AreGathered, IsJoining}
+use Rattle.net_extract.specs.Pieces.{ArePieces}
+use Rattle.net_extract.proofs.Beside.{answers_forth, answers_back, over_forth, over_back, two_joins, joins_two}
+use Rattle.net_extract.proofs.Shown.{over_query}
+use Rattle.net_extract.proofs.Steps.{all_among}
+use Rattle.net_extract.proofs.Walk.{IsRead, IsWalked, begin_at, walked_leaf, walked_all, within_of}
+
+-- ---- in one grove
+
+-- numbers that are found are of pieces
+pub all_within : (Is : ℕ → Type 0) (count : ℕ) (old new : List ℕ) → ((y : ℕ) → Is y → y < count) → All (λ a. a < count) old → ((b : ℕ) → Contains new b → Contains old b ⊎ Is b) → All (λ a. a < count) new
+all_within Is count old new within before sound =
+    all_among count new (λ y c. elim (sound y c) [
+      | inl (i, below, e) ↦ (let P : ℕ → Type 0 = λ a. a < count in subst P e (before i y below))
+      | inr is ↦ within y is
+    ])
+
+pub of_within : (count : ℕ) (spots : List Spot) (query : Query) → AreTagsWithin count spots → (y : ℕ) → IsOf spots (Holds query) y → y < count
+of_within count spots query tags y h = let P : ℕ → Type 0 = λ a. a < count in subst P h.tag (tags h.k h.among)
+
+-- a leaf, as far as the walk has come
+leaf_walked : (plan : Plan) (query : Query) (at : ℕ) (group : Group) (end : ℕ) (before found new : List ℕ) → IsPlan plan → IsRead plan at group → group.inside ≡ 0 → end ≡ group.start + group.count
+    → AreGathered (IsUnreachedWithin plan query [] group.start end) found new → IsWalked plan query [] before at found → (b : ℕ) → Contains new b → Contains before b ⊎ IsOf plan.spots.items (Holds query) b
+leaf_walked plan query at group end before found new t g leaf is_end some w b c =
+    let walked : IsWalked plan query [] before (at + 1) new = walked_leaf plan query [] before at group end found new g leaf is_end some w in
+    let after : begin_at plan (at + 1) ≡ begin_at plan (at + 1 + group.inside) = ap (begin_at plan) (let e : at + 1 ≡ at + 1 + group.inside = omega arith in e) in
+    let closes = g.closes in
+    let ends = g.ends in
+    elim (walked.gathered.sound b c) [
+      | inl old ↦ inl old
+      | inr h ↦ inr (within_of plan query [] 0 (begin_at plan (at + 1)) b t (omega arith) h)
+    ]
+
+pub leaf_within : (count : ℕ) (plan : Plan) (query : Query) (at : ℕ) (group : Group) (end : ℕ) (before found new given : List ℕ) → given ≡ new → IsPlan plan → AreTagsWithin count plan.spots.items → IsRead plan at group → group.inside ≡ 0
+    → end ≡ group.start + group.count → All (λ a. a < count) before → AreGathered (IsUnreachedWithin plan query [] group.start end) found new → IsWalked plan query [] before at found → All (λ a. a < count) given
+leaf_within count plan query at group end before found new given same t tags g leaf is_end within some w =
+    let P : List ℕ → Type 0 = λ xs. All (λ a. a < count) xs in
+    subst P (sym same) (all_within (IsOf plan.spots.items (Holds query)) count before new (of_within count plan.spots.items query tags) within (leaf_walked plan query at group end before found new t g leaf is_end some w))
+
+-- enough has been found
+pub found_enough : (pieces : List Placed) (plan : Plan) (query : Query) (at : ℕ) (group : Group) (end : ℕ) (before found new given : List ℕ) → given ≡ new → IsPlan plan → IsRead plan at group → group.inside ≡ 0 → end ≡ group.start + group.count
+    → AreOfTwo pieces given → AreGathered (IsUnreachedWithin plan query [] group.start end) found new → IsWalked plan query [] before at found → AreFound pieces (IsOf plan.spots.items (Holds query)) false before new
+found_enough pieces plan query at group end before found new given same t g leaf is_end two some w =
+    let P : List ℕ → Type 0 = AreOfTwo pieces in
+    record {
+      sound = leaf_walked plan query at group end before found new t g leaf is_end some w;
+      kept = λ b c. some.kept b (w.gathered.kept b c);
+      complete = λ t. absurd (cc);
+      two = λ _. subst P same two;
+    }
+
+-- all has been found
+pub found_all : (pieces : List Placed) (plan : Plan) (query : Query) (at : ℕ) (before found : List ℕ) → IsPlan plan → length plan.groups.items ≤ at → IsWalked plan query [] before at found
+    → AreFound pieces (IsOf plan.spots.items (Holds query)) true before found
+found_all pieces plan query at before found t past w =
+    let g : AreGathered (IsUnreached plan.spots.items query []) before found = walked_all plan query [] before at found t past w in
+    record {
+      sound = λ b c. elim (g.sound b c) [ inl old ↦ inl old | inr h ↦ inr h.of ];
+      kept = g.kept;
+      complete = λ _ b h. g.complete b (record { of = h; unmarked = refl });
+      two = λ t. absurd (cc);
+    }
+
+-- ---- in several groves
+
+pub found_more : (pieces : List Placed) (P Q : ℕ → Type 0) (first all : Bool) (old middle new : List ℕ) → first ≡ true → AreFound pieces P first old middle → AreFound pieces Q all middle new → AreFound pieces (λ y. P y ⊎ Q y) all old new
+found_more pieces P Q first all old middle new whole f g = record {
+  sound = λ b c. elim (g.sound b c) [
+    | inl m ↦ elim (f.sound b m) [ inl o ↦ inl o | inr p ↦ inr (inl p) ]
+    | inr q ↦ inr (inr q)
+  ];
+  kept = λ b c. g.kept b (f.kept b c);
+  complete = λ t b h. elim h [ inl p ↦ g.kept b (f.complete whole b p) | inr q ↦ g.complete t b q ];
+  two = g.two;
+}
+
+pub found_less : (pieces : List Placed) (P Q : ℕ → Type 0) (all : Bool) (old new : List ℕ) → all ≡ false → AreFound pieces P all old new → AreFound pieces (λ y. P y ⊎ Q y) false old new
+found_less pieces P Q all old new part f = record {
+  sound = λ b c. elim (f.sound b c) [ inl o ↦ inl o | inr p ↦ inr (inl p) ];
+  kept = f.kept;
+  complete = λ t. absurd (cc);
+  two = λ _. f.two part;
+}
+
+-- ---- over a cut
+
+-- what is found is the pieces over a cut that was read
+pub found_over : (boxes : List MaskBox) (crossings : List Crossing) (pieces : List Placed) (starts : List ℕ) (groves : PieceGroves) (own : MaskBox) (k : ℕ) (all : Bool) (empty found : List ℕ) → ArePieces boxes crossings pieces starts
+    → ArePieceGroves boxes pieces groves → own ≡ box_at boxes k → own.layer ≡ NC → empty ≡ [] → AreFound pieces (IsOfAny groves (over_query own.area k)) all empty found → AreFound pieces (IsOver boxes pieces k) all [] found
+found_over boxes crossings pieces starts groves own k all empty found p g is on none f =
+    let over = over_query (area_at boxes k) k in
+    let is_cut : layer_at boxes k ≡ NC = sym (ap (λ (m : MaskBox). m.layer) is) ∙ on in
+    let F : MaskBox → Type 0 = λ m. AreFound pieces (IsOfAny groves (over_query m.area k)) all [] found in
+    let E : List ℕ → Type 0 = λ xs. AreFound pieces (IsOfAny groves (over_query own.area k)) all xs found in
+    let h : AreFound pieces (IsOfAny groves over) all [] found = subst F is (subst E none f) in
+    record {
+      sound = λ b c. elim (h.sound b c) [
+        | inl old ↦ inl old
+        | inr (inl d) ↦ inr (over_forth boxes pieces k b (inl (answers_forth boxes pieces ND groves.diffusion.plan.spots.items over g.diffusion.shows b d)))
+        | inr (inr (inl q)) ↦ inr (over_forth boxes pieces k b (inr (inl (answers_forth boxes pieces NP groves.poly.plan.spots.items over g.poly.shows b q))))
+        | inr (inr (inr m)) ↦ inr (over_forth boxes pieces k b (inr (inr (answers_forth boxes pieces NM groves.metal.plan.spots.items over g.metal.shows b m))))
+      ];
+      kept = h.kept;
+      complete = λ t b o. h.complete t b (elim (over_back boxes crossings pieces starts k p is_cut b o) [
+        | inl d ↦ inl (answers_back boxes pieces ND groves.diffusion.plan.spots.items over g.diffusion.shows b d)
+        | inr (inl q) ↦ inr (inl (answers_back boxes pieces NP groves.poly.plan.spots.items over g.poly.shows b q))
+        | inr (inr m) ↦ inr (inr (answers_back boxes pieces NM groves.metal.plan.spots.items over g.metal.shows b m))
+      ]);
+      two = h.two;
+    }
+
+pub over_within : (boxes : List MaskBox) (pieces : List Placed) (k : ℕ) (all : Bool) (found : List ℕ) → AreFound pieces (IsOver boxes pieces k) all [] found → All (λ a. a < length pieces) found
+over_within boxes pieces k all found f = all_within (IsOver boxes pieces k) (length pieces) [] found (λ y o. o.among) (λ i d lt. absurd (omega arith)) f.sound
+
+nothing : (x : ℕ) → Contains [] x → ⊥
+nothing x (i, lt, e) = absurd (omega arith)
+
+over_of : (boxes : List MaskBox) (pieces : List Placed) (k : ℕ) (all : Bool) (found : List ℕ) → AreFound pieces (IsOver boxes pieces k) all [] found → (x : ℕ) → Contains found x → IsOver boxes pieces k x
+over_of boxes pieces k all found f x c = elim (f.sound x c) [ inl none ↦ absurd (nothing x none) | inr o ↦ o ]
+
+-- nothing is listed where nothing joins
+pub list_none : (boxes : List MaskBox) (pieces : List Placed) (k : ℕ) (found : List ℕ) → found ≡ [] → (IsJoining boxes pieces k → ⊥) → IsListOver boxes pieces k false found
+list_none boxes pieces k found none apart =
+    let P : List ℕ → Type 0 = IsListOver boxes pieces k false in
+    subst P (sym none) (record {
+      few = omega arith;
+      sound = λ x c. absurd (nothing x c);
+      complete = λ some. absurd (omega arith);
+      is_crowded = λ t. absurd (cc);
+      is_listed = λ _ joins. absurd (apart joins);
+    })
+
+-- all that lies over it is of one box
+pub joins_found : (boxes : List MaskBox) (pieces : List Placed) (k : ℕ) (all : Bool) (found : List ℕ) → AreFound pieces (IsOver boxes pieces k) all [] found → IsJoining boxes pieces k → AreOfTwo pieces found
+joins_found boxes pieces k true found f joins = joins_two boxes pieces k found (f.complete refl) joins
+joins_found boxes pieces k false found f joins = f.two refl
+
+some_of_two : (pieces : List Placed) (found : List ℕ) → AreOfTwo pieces found → 0 < length found
+some_of_two pieces found (x, y, (i, lt, e), cy, ne) = omega arith
+
+-- all pieces are listed
+pub list_few : (boxes : List MaskBox) (pieces : List Placed) (k : ℕ) (all : Bool) (found : List ℕ) → IsOn boxes NC k → AreFound pieces (IsOver boxes pieces k) all [] found → AreOfTwo pieces found → all ≡ true → length found ≤ 16
+    → IsListOver boxes pieces k false found
+list_few boxes pieces k all found on f two whole few =
+    let over = over_of boxes pieces k all found f in
+    let joins : IsJoining boxes pieces k = two_joins boxes pieces k found on over two in
+    record {
+      few = few;
+      sound = λ x c. (joins, over x c);
+      complete = λ _. f.complete whole;
+      is_crowded = λ t. absurd (cc);
+      is_listed = λ _ _. some_of_two pieces found two;
+    }
+
+-- they are too many
+pub list_many : (boxes : List MaskBox) (pieces : List Placed) (k : ℕ) (all : Bool) (found empty : List ℕ) → IsOn boxes NC k → AreFound pieces (IsOver boxes pieces k) all [] found → AreOfTwo pieces found → empty ≡ []
+    → IsListOver boxes pieces k true empty
+list_many boxes pieces k all found empty on f two none =
+    let P : List ℕ → Type 0 = IsListOver boxes pieces k true in
+    let joins : IsJoining boxes pieces k = two_joins boxes pieces k found on (over_of boxes pieces k all found f) two in
+    subst P (sym none) (record {
+      few = omega arith;
+      sound = λ x c. absurd (nothing x c);
+      complete = λ some. absurd (omega arith);
+      is_crowded = λ _. (joins, refl);
+      is_listed = λ t. absurd (cc);
+    })

@@ -1,0 +1,347 @@
+-- Lists of the pieces over cuts, one cut after another, and the chains of their entries.
+use Rattle.std.proofs.Common.{◌≡◌, ℕ, ◌+◌, ◌-◌, ◌<◌, ◌≤◌, Bool, List, [], ◌∷◌, ◌++◌, length, set, get_or, take, drop, Contains, inl, inr, refl, sym, ◌∙◌, ap, subst, arith, length-append, length-drop, length-set, length-take, get_or-set_other, get_or-set_same}
+use Rattle.std.specs.Prelude.{IsFalse, IsTrue}
+use Rattle.std.proofs.lemmas.Bool.{cases_lt, cases_eq}
+use Rattle.std.proofs.lemmas.Int.{clamps}
+use Rattle.std.proofs.lemmas.List.{get_or-append-add, get_or-drop, get_or-take, get_or_append_left, get_or_default, get_or_push, length_push}
+use Rattle.std.proofs.lemmas.List.Elements.{Contains-get_or}
+use Rattle.box_tree.specs.declared.spots.Spot.{Spot}
+use Rattle.lam_geom.specs.declared.boxes.MaskBox.{MaskBox}
+use Rattle.net_extract.specs.declared.placing.Placed.{Placed}
+use Rattle.net_extract.specs.CutLists.{AreChains, AreCrowdedSpots, AreLists, IsCrowded, IsInList, IsLastOf, IsListOver, IsListed, IsListedOver, IsOver}
+use Rattle.net_extract.specs.Linking.{AreGathered, IsJoining}
+use Rattle.net_extract.specs.Spots.{AreSpots, cut_spot}
+use Rattle.net_extract.proofs.Growth.{below_cases, gathered_more, gathered_none, gathered_push}
+use Rattle.net_extract.proofs.Shown.{shown_push, shown_skip}
+
+-- ---- one cut after another
+
+pub lists_none : (boxes : List MaskBox) (pieces : List Placed) (starts nodes cuts : List ℕ) → starts ≡ 0 ∷ [] → nodes ≡ [] → cuts ≡ [] → AreLists boxes pieces 0 starts nodes cuts
+lists_none boxes pieces starts nodes cuts s n c =
+    let P : List ℕ → List ℕ → List ℕ → Type 0 = AreLists boxes pieces 0 in
+    let empty : AreLists boxes pieces 0 (0 ∷ []) [] [] = record {
+      counted = refl;
+      one_each = refl;
+      few = omega arith;
+      within = λ k le. (let z : k ≡ 0 = omega arith in let Q : ℕ → Type 0 = λ x. get_or (0 ∷ []) x 0 ≤ 0 in subst Q (sym z) (omega arith));
+      ends = refl;
+      sound = λ k e lt _. absurd (omega arith);
+      complete = λ k x lt _ _. absurd (omega arith);
+      cuts_are = λ e lt. absurd (omega arith);
+    } in
+    subst (λ (xs : List ℕ). P xs nodes cuts) (sym s) (subst (λ (xs : List ℕ). P (0 ∷ []) xs cuts) (sym n) (subst (λ (xs : List ℕ). P (0 ∷ []) [] xs) (sym c) empty))
+
+start_old : (starts : List ℕ) (m n k : ℕ) → length starts ≡ n + 1 → k ≤ n → get_or (starts ++ m ∷ []) k 0 ≡ get_or starts k 0
+start_old starts m n k counted le = get_or_append_left starts (m ∷ []) 0 k (omega arith)
+
+start_new : (starts : List ℕ) (m n : ℕ) → length starts ≡ n + 1 → get_or (starts ++ m ∷ []) (n + 1) 0 ≡ m
+start_new starts m n counted = get_or_push starts m 0 (n + 1) counted
+
+-- an entry of an earlier list
+in_old : (starts : List ℕ) (m n k e : ℕ) → length starts ≡ n + 1 → k < n → IsInList (starts ++ m ∷ []) k e → IsInList starts k e
+in_old starts m n k e counted lt h =
+    let a = start_old starts m n k counted (omega arith) in
+    let b = start_old starts m n (k + 1) counted (omega arith) in
+    let f = h.from in
+    let g = h.before in
+    record { from = omega arith; before = omega arith }
+
+in_new : (starts : List ℕ) (m n k e : ℕ) → length starts ≡ n + 1 → k < n → IsInList starts k e → IsInList (starts ++ m ∷ []) k e
+in_new starts m n k e counted lt h =
+    let a = start_old starts m n k counted (omega arith) in
+    let b = start_old starts m n (k + 1) counted (omega arith) in
+    let f = h.from in
+    let g = h.before in
+    record { from = omega arith; before = omega arith }
+
+listed_old : (starts : List ℕ) (m n k : ℕ) → length starts ≡ n + 1 → k < n → IsListed (starts ++ m ∷ []) k → IsListed starts k
+listed_old starts m n k counted lt h =
+    let a = start_old starts m n k counted (omega arith) in
+    let b = start_old starts m n (k + 1) counted (omega arith) in
+    omega arith
+
+listed_new : (starts : List ℕ) (m n k : ℕ) → length starts ≡ n + 1 → k < n → IsListed starts k → IsListed (starts ++ m ∷ []) k
+listed_new starts m n k counted lt h =
+    let a = start_old starts m n k counted (omega arith) in
+    let b = start_old starts m n (k + 1) counted (omega arith) in
+    omega arith
+
+-- cuts with as many entries more, all of one cut
+pub record AreCutsMore (cuts new : List ℕ) (count k : ℕ) : Type 0 where
+  pub counted : length new ≡ count
+  pub old : (e : ℕ) → e < length cuts → get_or new e 0 ≡ get_or cuts e 0
+  pub last : (e : ℕ) → length cuts ≤ e → e < count → get_or new e 0 ≡ k
+
+-- one list more
+pub lists_more : (boxes : List MaskBox) (pieces : List Placed) (n : ℕ) (starts nodes cuts found new_starts new_nodes new_cuts : List ℕ) (crowded : Bool) → new_nodes ≡ nodes ++ found → new_starts ≡ starts ++ length new_nodes ∷ []
+    → AreCutsMore cuts new_cuts (length new_nodes) n → IsListOver boxes pieces n crowded found → AreLists boxes pieces n starts nodes cuts → AreLists boxes pieces (n + 1) new_starts new_nodes new_cuts
+lists_more boxes pieces n starts nodes cuts found new_starts new_nodes new_cuts crowded nodes_are starts_are more list l =
+    let m : ℕ = length new_nodes in
+    let counted = l.counted in
+    let len : m ≡ length nodes + length found = ap (λ (xs : List ℕ). length xs) nodes_are ∙ length-append nodes found in
+    let one = l.one_each in
+    let few = l.few in
+    let short = list.few in
+    let ends = l.ends in
+    let at_n = start_old starts m n n counted (omega arith) in
+    let at_end = start_new starts m n counted in
+    let long = length_push starts m in
+    let node_old : (e : ℕ) → e < length nodes → get_or new_nodes e 0 ≡ get_or nodes e 0 = λ e lt. ap (λ (xs : List ℕ). get_or xs e 0) nodes_are ∙ get_or_append_left nodes found 0 e lt in
+    let node_new : (i : ℕ) → get_or new_nodes (length nodes + i) 0 ≡ get_or found i 0 = λ i. ap (λ (xs : List ℕ). get_or xs (length nodes + i) 0) nodes_are ∙ get_or-append-add nodes found i 0 in
+    let P : List ℕ → Type 0 = λ xs. AreLists boxes pieces (n + 1) xs new_nodes new_cuts in
+    subst P (sym starts_are) (record {
+      counted = omega arith;
+      one_each = more.counted;
+      few = omega arith;
+      within = λ k le. elim (below_cases k (n + 1) (omega arith)) [
+        | inl lt ↦ (let a = start_old starts m n k counted (omega arith) in let w = l.within k (omega arith) in omega arith)
+        | inr e ↦ (let Q : ℕ → Type 0 = λ x. get_or (starts ++ m ∷ []) x 0 ≤ m in subst Q (sym e) (omega arith))
+      ];
+      ends = at_end;
+      sound = λ k e lt h. elim (below_cases k n lt) [
+        | inl before ↦
+            (let i : IsInList starts k e = in_old starts m n k e counted before h in
+            let w = l.within (k + 1) (omega arith) in
+            let b = i.before in
+            let inside : e < length nodes = omega arith in
+            let s : (get_or cuts e 0 ≡ k) × IsJoining boxes pieces k × IsOver boxes pieces k (get_or nodes e 0) = l.sound k e before i in
+            let Q : ℕ → Type 0 = λ x. IsOver boxes pieces k x in
+            (more.old e (omega arith) ∙ s.0, s.1, subst Q (sym (node_old e inside)) s.2))
+        | inr at ↦
+            (let P : ℕ → Type 0 = λ j. IsInList (starts ++ m ∷ []) j e in
+            let i : IsInList (starts ++ m ∷ []) n e = subst P at h in
+            let a = i.from in
+            let b = i.before in
+            let j : ℕ = e - length nodes in
+            let there : e ≡ length nodes + j = omega arith in
+            let s : IsJoining boxes pieces n × IsOver boxes pieces n (get_or found j 0) = list.sound (get_or found j 0) (Contains-get_or found j 0 (omega arith)) in
+            let node : get_or new_nodes e 0 ≡ get_or found j 0 = ap (λ (x : ℕ). get_or new_nodes x 0) there ∙ node_new j in
+            let Q : ℕ → Type 0 = λ x. IsOver boxes pieces n x in
+            let R : ℕ → Type 0 = λ x. (get_or new_cuts e 0 ≡ x) × IsJoining boxes pieces x × IsOver boxes pieces x (get_or new_nodes e 0) in
+            subst R (sym at) (more.last e (omega arith) (omega arith), s.0, subst Q (sym node) s.1))
+      ];
+      complete = λ k x lt h o. elim (below_cases k n lt) [
+        | inl before ↦
+            (let f : (e : ℕ) × IsInList starts k e × (get_or nodes e 0 ≡ x) = l.complete k x before (listed_old starts m n k counted before h) o in
+            let i = f.1 in
+            let w = l.within (k + 1) (omega arith) in
+            let b = i.before in
+            (f.0, in_new starts m n k f.0 counted before f.1, node_old f.0 (omega arith) ∙ f.2))
+        | inr at ↦
+            (let L : ℕ → Type 0 = λ j. IsListed (starts ++ m ∷ []) j in
+            let O : ℕ → Type 0 = λ j. IsOver boxes pieces j x in
+            let some = subst L at h in
+            let c : Contains found x = list.complete (omega arith) x (subst O at o) in
+            let i : ℕ = c.0 in
+            let within = c.1 in
+            let R : ℕ → Type 0 = λ j. (e : ℕ) × IsInList (starts ++ m ∷ []) j e × (get_or new_nodes e 0 ≡ x) in
+            subst R (sym at) (length nodes + i, record { from = omega arith; before = omega arith }, node_new i ∙ get_or_default found i 0 x c.1 ∙ c.2))
+      ];
+      cuts_are = λ e lt. elim (cases_lt e (length nodes)) [
+        | inl inside ↦
+            (let c : (get_or cuts e 0 < n) × IsInList starts (get_or cuts e 0) e = l.cuts_are e inside in
+            let same : get_or new_cuts e 0 ≡ get_or cuts e 0 = more.old e (omega arith) in
+            let R : ℕ → Type 0 = λ k. (k < n + 1) × IsInList (starts ++ m ∷ []) k e in
+            let below = c.0 in
+            subst R (sym same) (omega arith, in_new starts m n (get_or cuts e 0) e counted c.0 c.1))
+        | inr past ↦
+            (let R : ℕ → Type 0 = λ k. (k < n + 1) × IsInList (starts ++ m ∷ []) k e in
+            subst R (sym (more.last e (omega arith) lt)) (omega arith, record { from = omega arith; before = omega arith }))
+      ];
+    })
+
+-- ---- one list
+
+in_part : (nodes : List ℕ) (first end y : ℕ) → end ≤ length nodes → Contains (take (end - first) (drop first nodes)) y → (e : ℕ) × (first ≤ e) × (e < end) × (get_or nodes e 0 ≡ y)
+in_part nodes first end y le (i, lt, is) =
+    let n = length-take (end - first) (drop first nodes) in
+    let d = length-drop first nodes in
+    let below : i < end - first = omega (arith, clamps) in
+    (first + i, omega arith, omega arith, sym (get_or_default nodes (first + i) y 0 (omega arith)) ∙ sym (get_or-drop first nodes i y) ∙ sym (get_or-take (end - first) (drop first nodes) i y below) ∙ is)
+
+of_part : (nodes : List ℕ) (first end e y : ℕ) → end ≤ length nodes → first ≤ e → e < end → get_or nodes e 0 ≡ y → Contains (take (end - first) (drop first nodes)) y
+of_part nodes first end e y le from before is =
+    let n = length-take (end - first) (drop first nodes) in
+    let d = length-drop first nodes in
+    let i : ℕ = e - first in
+    let there : first + i ≡ e = omega arith in
+    (i, omega (arith, clamps), get_or-take (end - first) (drop first nodes) i y (omega arith) ∙ get_or-drop first nodes i y ∙ ap (λ (j : ℕ). get_or nodes j y) there ∙ get_or_default nodes e y 0 (omega arith) ∙ is)
+
+-- what the list of a cut has is over it
+pub part_over : (boxes : List MaskBox) (pieces : List Placed) (n k first end : ℕ) (starts nodes cuts given : List ℕ) → given ≡ nodes → k < n → first ≡ get_or starts k 0 → end ≡ get_or starts (k + 1) 0 → AreLists boxes pieces n starts nodes cuts
+    → (y : ℕ) → Contains (take (end - first) (drop first given)) y → IsOver boxes pieces k y
+part_over boxes pieces n k first end starts nodes cuts given same lt begins ends l y c =
+    let w = l.within (k + 1) (omega arith) in
+    let P : List ℕ → Type 0 = λ xs. Contains (take (end - first) (drop first xs)) y in
+    let h : (e : ℕ) × (first ≤ e) × (e < end) × (get_or nodes e 0 ≡ y) = in_part nodes first end y (omega arith) (subst P same c) in
+    let a = h.1 in
+    let b = h.2 in
+    let Q : ℕ → Type 0 = λ x. IsOver boxes pieces k x in
+    subst Q h.3 (l.sound k h.0 lt (record { from = omega arith; before = omega arith })).2
+
+-- and all that is
+pub over_part : (boxes : List MaskBox) (pieces : List Placed) (n k first end : ℕ) (starts nodes cuts given : List ℕ) → given ≡ nodes → k < n → first ≡ get_or starts k 0 → end ≡ get_or starts (k + 1) 0 → AreLists boxes pieces n starts nodes cuts → first < end
+    → (y : ℕ) → IsOver boxes pieces k y → Contains (take (end - first) (drop first given)) y
+over_part boxes pieces n k first end starts nodes cuts given same lt begins ends l some y o =
+    let w = l.within (k + 1) (omega arith) in
+    let P : List ℕ → Type 0 = λ xs. Contains (take (end - first) (drop first xs)) y in
+    let h : (e : ℕ) × IsInList starts k e × (get_or nodes e 0 ≡ y) = l.complete k y lt (omega arith) o in
+    let i = h.1 in
+    let a = i.from in
+    let b = i.before in
+    subst P (sym same) (of_part nodes first end h.0 y (omega arith) (omega arith) (omega arith) h.2)
+
+-- the same spots by another property
+shown_as : (P Q : ℕ → Type 0) (show : ℕ → Spot) (n : ℕ) (spots : List Spot) → ((a : ℕ) → a < n → P a → Q a) → ((a : ℕ) → a < n → Q a → P a) → AreSpots n P show spots → AreSpots n Q show spots
+shown_as P Q show n spots forth back s = record {
+  each = λ k lt. (let f : (a : ℕ) × (a < n) × P a × (get_or spots k _ ≡ show a) = s.each k lt in (f.0, f.1, forth f.0 f.1 f.2, f.3));
+  all = λ a lt q. s.all a lt (back a lt q);
+  few = s.few;
+}
+
+crowded_as : (boxes : List MaskBox) (pieces : List Placed) (starts : List ℕ) (m n : ℕ) (spots : List Spot) → length starts ≡ n + 1 → AreCrowdedSpots boxes pieces starts n spots → AreCrowdedSpots boxes pieces (starts ++ m ∷ []) n spots
+crowded_as boxes pieces starts m n spots counted =
+    shown_as (IsCrowded boxes pieces starts) (IsCrowded boxes pieces (starts ++ m ∷ [])) (cut_spot boxes pieces) n spots
+    (λ k lt h. (h.0, λ l. h.1 (listed_old starts m n k counted lt l))) (λ k lt h. (h.0, λ l. h.1 (listed_new starts m n k counted lt l)))
+
+-- one crowded cut more, or one that is not
+pub crowded_push : (boxes : List MaskBox) (pieces : List Placed) (n : ℕ) (starts nodes found new_starts new_nodes : List ℕ) (crowded : Bool) (spots new : List Spot) (spot : Spot) → length starts ≡ n + 1 → get_or starts n 0 ≡ length nodes
+    → new_nodes ≡ nodes ++ found → new_starts ≡ starts ++ length new_nodes ∷ [] → IsListOver boxes pieces n crowded found → IsTrue crowded → spot ≡ cut_spot boxes pieces n → new ≡ spots ++ spot ∷ []
+    → AreCrowdedSpots boxes pieces starts n spots → AreCrowdedSpots boxes pieces new_starts (n + 1) new
+crowded_push boxes pieces n starts nodes found new_starts new_nodes crowded spots new spot counted ends nodes_are starts_are list t is pushed s =
+    let m : ℕ = length new_nodes in
+    let len : m ≡ length nodes + length found = ap (λ (xs : List ℕ). length xs) nodes_are ∙ length-append nodes found in
+    let at_n = start_old starts m n n counted (omega arith) in
+    let at_end = start_new starts m n counted in
+    let none = (list.is_crowded t).1 in
+    let P : List ℕ → Type 0 = λ xs. AreCrowdedSpots boxes pieces xs (n + 1) new in
+    subst P (sym starts_are)
+    (shown_push (IsCrowded boxes pieces (starts ++ m ∷ [])) (cut_spot boxes pieces) n spots new spot ((list.is_crowded t).0, λ l. absurd (omega arith)) is pushed (crowded_as boxes pieces starts m n spots counted s))
+
+pub crowded_skip : (boxes : List MaskBox) (pieces : List Placed) (n : ℕ) (starts nodes found new_starts new_nodes : List ℕ) (crowded : Bool) (spots : List Spot) → length starts ≡ n + 1 → get_or starts n 0 ≡ length nodes
+    → new_nodes ≡ nodes ++ found → new_starts ≡ starts ++ length new_nodes ∷ [] → IsListOver boxes pieces n crowded found → IsFalse crowded
+    → AreCrowdedSpots boxes pieces starts n spots → AreCrowdedSpots boxes pieces new_starts (n + 1) spots
+crowded_skip boxes pieces n starts nodes found new_starts new_nodes crowded spots counted ends nodes_are starts_are list t s =
+    let m : ℕ = length new_nodes in
+    let len : m ≡ length nodes + length found = ap (λ (xs : List ℕ). length xs) nodes_are ∙ length-append nodes found in
+    let at_n = start_old starts m n n counted (omega arith) in
+    let at_end = start_new starts m n counted in
+    let P : List ℕ → Type 0 = λ xs. AreCrowdedSpots boxes pieces xs (n + 1) spots in
+    subst P (sym starts_are)
+    (shown_skip (IsCrowded boxes pieces (starts ++ m ∷ [])) (cut_spot boxes pieces) n spots (λ h. (let some = list.is_listed t h.0 in h.1 (omega arith))) (crowded_as boxes pieces starts m n spots counted s))
+
+-- ---- chains
+
+pub chains_none : (count : ℕ) (nodes heads nexts : List ℕ) → length heads ≡ count → ((a : ℕ) → get_or heads a 0 ≡ 0) → nexts ≡ [] → AreChains count nodes 0 heads nexts
+chains_none count nodes heads nexts counted zeros none = record {
+  one_head_each = counted;
+  one_next_each = ap (λ (xs : List ℕ). length xs) none;
+  heads_are = λ a lt. (let z = zeros a in record { within = omega arith; is = λ some. absurd (omega arith); none = λ e le below. absurd (omega arith) });
+  nexts_are = λ e lt. absurd (omega arith);
+}
+
+-- one entry more, of piece a
+pub chains_more : (count : ℕ) (nodes : List ℕ) (n a : ℕ) (heads nexts new_heads new_nexts : List ℕ) → get_or nodes n 0 ≡ a → a < count → new_heads ≡ set heads a (n + 1) → new_nexts ≡ nexts ++ get_or heads a 0 ∷ []
+    → AreChains count nodes n heads nexts → AreChains count nodes (n + 1) new_heads new_nexts
+chains_more count nodes n a heads nexts new_heads new_nexts of lt heads_are nexts_are h =
+    let l = h.one_head_each in
+    let long = length_push nexts (get_or heads a 0) in
+    let n_is = h.one_next_each in
+    let P : List ℕ → List ℕ → Type 0 = λ xs ys. AreChains count nodes (n + 1) xs ys in
+    let made : P (set heads a (n + 1)) (nexts ++ get_or heads a 0 ∷ []) = record {
+      one_head_each = length-set heads a (n + 1) ∙ h.one_head_each;
+      one_next_each = omega arith;
+      heads_are = λ b below. elim (cases_eq b a) [
+        | inl same ↦
+            (let Q : ℕ → Type 0 = λ x. IsLastOf nodes x (n + 1) (get_or (set heads a (n + 1)) x 0) in
+            let R : ℕ → Type 0 = λ x. IsLastOf nodes a (n + 1) x in
+            subst Q (sym same) (subst R (sym (get_or-set_same heads a (n + 1) 0 (omega arith)))
+            (record {
+              within = omega arith;
+              is = λ some. (let z : n + 1 - 1 ≡ n = omega arith in ap (λ (x : ℕ). get_or nodes x 0) z ∙ of);
+              none = λ e le under. absurd (omega arith);
+            })))
+        | inr other ↦
+            (let R : ℕ → Type 0 = λ x. IsLastOf nodes b (n + 1) x in
+            let g : IsLastOf nodes b n (get_or heads b 0) = h.heads_are b below in
+            let w = g.within in
+            subst R (sym (get_or-set_other heads a b (n + 1) 0 other))
+            (record {
+              within = omega arith;
+              is = g.is;
+              none = λ e le under. elim (below_cases e n under) [
+                | inl before ↦ g.none e le before
+                | inr at ↦ (λ is. other (sym is ∙ ap (λ (x : ℕ). get_or nodes x 0) at ∙ of))
+              ];
+            }))
+      ];
+      nexts_are = λ e below. elim (below_cases e n below) [
+        | inl before ↦
+            (let R : ℕ → Type 0 = λ x. IsLastOf nodes (get_or nodes e 0) e x in
+            subst R (sym (get_or_append_left nexts (get_or heads a 0 ∷ []) 0 e (omega arith))) (h.nexts_are e before))
+        | inr at ↦
+            (let R : ℕ → Type 0 = λ x. IsLastOf nodes (get_or nodes x 0) x (get_or (nexts ++ get_or heads a 0 ∷ []) x 0) in
+            let S : ℕ → Type 0 = λ x. IsLastOf nodes (get_or nodes n 0) n x in
+            let T : ℕ → Type 0 = λ x. IsLastOf nodes x n (get_or heads a 0) in
+            subst R (sym at) (subst S (sym (get_or_push nexts (get_or heads a 0) 0 n n_is)) (subst T (sym of) (h.heads_are a lt))))
+      ];
+    } in
+    subst (λ (xs : List ℕ). P xs new_nexts) (sym heads_are) (subst (λ (ys : List ℕ). P (set heads a (n + 1)) ys) (sym nexts_are) made)
+
+-- ---- down a chain
+
+-- the same of the entries from one on
+pub record IsListedFrom (nodes cuts : List ℕ) (count a from y : ℕ) : Type 0 where
+  pub e : ℕ
+  pub not_before : from ≤ e
+  pub among : e < length nodes
+  pub of : get_or nodes e 0 ≡ a
+  pub node : y ≡ count + get_or cuts e 0
+
+-- how far down a walk has come: the next entry is number at - 1, and those from there on have been seen
+pub record IsDown (nodes cuts : List ℕ) (count a at : ℕ) (found : List ℕ) : Type 0 where
+  pub within : at ≤ length nodes
+  pub is : 0 < at → get_or nodes (at - 1) 0 ≡ a
+  pub gathered : AreGathered (IsListedFrom nodes cuts count a at) [] found
+
+pub down_none : (nodes cuts : List ℕ) (count a at : ℕ) (found : List ℕ) → IsLastOf nodes a (length nodes) at → found ≡ [] → IsDown nodes cuts count a at found
+down_none nodes cuts count a at found l none =
+    let P : List ℕ → Type 0 = λ xs. AreGathered (IsListedFrom nodes cuts count a at) [] xs in
+    record { within = l.within; is = l.is; gathered = subst P (sym none) (gathered_none (IsListedFrom nodes cuts count a at) [] (λ y h. l.none h.e h.not_before h.among h.of)) }
+
+pub down_more : (nodes cuts : List ℕ) (count a at next : ℕ) (heads nexts found new : List ℕ) → 0 < at → AreChains count nodes (length nodes) heads nexts → next ≡ get_or nexts (at - 1) 0 → new ≡ found ++ (count + get_or cuts (at - 1) 0) ∷ []
+    → IsDown nodes cuts count a at found → IsDown nodes cuts count a next new
+down_more nodes cuts count a at next heads nexts found new some chains is pushed d =
+    let e : ℕ = at - 1 in
+    let w = d.within in
+    let of : get_or nodes e 0 ≡ a = d.is some in
+    let R : ℕ → Type 0 = λ x. IsLastOf nodes x e (get_or nexts e 0) in
+    let S : ℕ → Type 0 = λ x. IsLastOf nodes a e x in
+    let l : IsLastOf nodes a e next = subst S (sym is) (subst R of (chains.nexts_are e (omega arith))) in
+    let lw = l.within in
+    let y : ℕ = count + get_or cuts e 0 in
+    let P : List ℕ → Type 0 = λ xs. AreGathered (IsListedFrom nodes cuts count a next) [] xs in
+    record {
+      within = omega arith;
+      is = l.is;
+      gathered = subst P (sym pushed) (gathered_more (IsListedFrom nodes cuts count a at) (λ x. x ≡ y) (IsListedFrom nodes cuts count a next) [] found (found ++ y ∷ [])
+          (λ x h. elim h [
+            | inl g ↦ (let b = g.not_before in record { e = g.e; not_before = omega arith; among = g.among; of = g.of; node = g.node })
+            | inr here ↦ record { e = e; not_before = omega arith; among = omega arith; of = of; node = here }
+          ])
+          (λ x h. elim (cases_lt h.e at) [
+            | inr behind ↦ inl (record { e = h.e; not_before = behind; among = h.among; of = h.of; node = h.node })
+            | inl lt ↦ elim (cases_lt h.e e) [
+              | inl before ↦ absurd (l.none h.e h.not_before before h.of)
+              | inr not ↦ (let here : h.e ≡ e = omega arith in inr (h.node ∙ ap (λ (j : ℕ). count + get_or cuts j 0) here))
+            ]
+          ])
+          d.gathered (gathered_push found y));
+    }
+
+pub down_all : (nodes cuts : List ℕ) (count a at : ℕ) (found : List ℕ) → at ≡ 0 → IsDown nodes cuts count a at found → AreGathered (IsListedOver nodes cuts count a) [] found
+down_all nodes cuts count a at found bottom d = record {
+  sound = λ b c. elim (d.gathered.sound b c) [ inl o ↦ inl o | inr h ↦ inr (record { e = h.e; among = h.among; of = h.of; node = h.node }) ];
+  kept = d.gathered.kept;
+  complete = λ b h. d.gathered.complete b (record { e = h.e; not_before = omega arith; among = h.among; of = h.of; node = h.node });
+}

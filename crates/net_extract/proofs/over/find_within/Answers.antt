@@ -1,0 +1,37 @@
+use Rattle.std.proofs.Common.{arith, ◌≡◌, ℕ, ◌<◌, Vec, Global, [], length, get_or, inl, inr, refl, sym, ◌∙◌, ap}
+use Rattle.std.proofs.lemmas.Bool.{iff_false}
+use Rattle.std.proofs.lemmas.List.{get_or_read}
+use Rattle.box_tree.proofs.Trees.{spot_read}
+use Rattle.net_extract.specs.Groves.{spot_in}
+use Rattle.net_extract.proofs.Walk.{one_within, within_end}
+use Rattle.net_extract.proofs.over.find_within.Goals as goal
+use Rattle.net_extract.proofs.over.find_within.Goals.{then-holds+in_ok-push, else-holds}
+
+pub loop-place-preserved : goal.loop-place-preserved
+loop-place-preserved c =
+    let plan = c.args.plan.now in
+    let query = c.args.query.now in
+    let first = c.args.first in
+    let p = c.loop-place.place in
+    let t = c.loop-place-test.true in
+    let w = c.requires.within in
+    let le = c.loop-place.auto.place in
+    let lt : p < length plan.order.items = omega arith in
+    let spot = c.index-spot.result.now in
+    let is : spot_in plan p ≡ spot = sym (spot_read plan.spots.items plan.order.items p spot c.requires.plan.order_of.below lt (c.index-spot.ensures ∙ ap (λ (n : ℕ). get_or plan.spots.items n spot) (get_or_read plan.order.items p c.index.result.now lt c.index.ensures 0))) in
+    let inv = c.loop-place.invariant in
+    record {
+      so_far = omega arith;
+      gathered =
+          one_within plan query [] first p spot c.args.found.now.items c.loop-place.found.items c.if-holds.found.items le is
+          (elim c.if-holds.branch [
+            | then-holds+in_ok-push w ↦ inl ((c.holds.ensures.0 w.if-holds.true, refl), ap (λ (x : Vec ℕ Global). x.items) w.found-is ∙ w.in_ok-push.ensures.items)
+            | else-holds w ↦ inr (λ h. iff_false c.holds.ensures w.if-holds.false h.0, ap (λ (x : Vec ℕ Global). x.items) w.found-is)
+          ])
+          inv.gathered;
+    }
+
+pub returns : goal.returns
+returns c =
+    within_end c.args.plan.now c.args.query.now [] c.args.first c.loop-place.place c.args.end c.args.found.now.items c.loop-place.found.items c.loop-place.invariant.so_far c.loop-place-test.false
+    c.loop-place.invariant.gathered

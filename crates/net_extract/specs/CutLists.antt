@@ -1,0 +1,120 @@
+-- The pieces over cuts: what is found over one, lists of them for all cuts, and the entries of each piece.
+use Rattle.std.specs.Prelude.{◌≡◌, ◌≢◌, ℕ, ◌+◌, ◌-◌, ◌*◌, ◌<◌, ◌≤◌, ◌⊎◌, Bool, IsTrue, IsFalse, Contains, List, length, slice_index}
+use Rattle.box_tree.specs.declared.query.Query.{Query}
+use Rattle.box_tree.specs.declared.spots.Spot.{Spot}
+use Rattle.box_tree.specs.Queries.{Holds}
+use Rattle.lam_geom.specs.declared.boxes.MaskBox.{MaskBox}
+use Rattle.lam_geom.specs.declared.boxes.MaskLayer.{MaskLayer}
+use Rattle.lam_geom.specs.declared.boxes.MaskLayer.TheVariants.{ND, NP, NM}
+use Rattle.lam_geom.specs.Gaps.{Overlaps}
+use Rattle.crossings.specs.Boxes.{area_at}
+use Rattle.net_extract.specs.declared.groves.Grove.{Grove}
+use Rattle.net_extract.specs.declared.groves.Plan.{Plan}
+use Rattle.net_extract.specs.declared.over.PieceGroves.{PieceGroves}
+use Rattle.net_extract.specs.declared.placing.Placed.{Placed}
+use Rattle.net_extract.specs.Groves.{AreTagsWithin, IsNewGrove, IsOf, IsPlan}
+use Rattle.net_extract.specs.Linking.{IsJoining}
+use Rattle.net_extract.specs.Pieces.{box_of, area_of}
+use Rattle.net_extract.specs.Spots.{AreSpots, ArePieceSpots, cut_spot}
+
+-- ---- what is found over one cut
+
+-- a piece overlaps box number k
+pub record IsOver (boxes : List MaskBox) (pieces : List Placed) (k x : ℕ) : Type 0 where
+  pub among : x < length pieces
+  pub over : Overlaps (area_of pieces x) (area_at boxes k)
+
+-- some pieces are of two boxes at least
+abbrev pub AreOfTwo : List Placed → List ℕ → Type 0
+AreOfTwo pieces xs = (x : ℕ) × (y : ℕ) × Contains xs x × Contains xs y × (box_of pieces y ≢ box_of pieces x)
+
+-- to a list have been added numbers with a property: all of them, or else so many that the list has pieces of two boxes
+pub record AreFound (pieces : List Placed) (Is : ℕ → Type 0) (all : Bool) (old new : List ℕ) : Type 0 where
+  pub sound : (b : ℕ) → Contains new b → Contains old b ⊎ Is b
+  pub kept : (b : ℕ) → Contains old b → Contains new b
+  pub complete : IsTrue all → (b : ℕ) → Is b → Contains new b
+  pub two : IsFalse all → AreOfTwo pieces new
+
+-- a tree of which the spots are of pieces, of which there are so many
+pub record IsPlanWithin (count : ℕ) (plan : Plan) : Type 0 where
+  pub stands : IsPlan plan
+  pub tags : AreTagsWithin count plan.spots.items
+
+-- a node of a spot of one of three groves that holds a query
+abbrev pub IsOfAny : PieceGroves → Query → ℕ → Type 0
+IsOfAny groves query y = IsOf groves.diffusion.plan.spots.items (Holds query) y ⊎ (IsOf groves.poly.plan.spots.items (Holds query) y ⊎ IsOf groves.metal.plan.spots.items (Holds query) y)
+
+-- a grove of the pieces on a layer
+pub record IsPieceGrove (boxes : List MaskBox) (pieces : List Placed) (layer : MaskLayer) (grove : Grove) : Type 0 where
+  pub plan : IsPlan grove.plan
+  pub shows : ArePieceSpots boxes pieces layer grove.plan.spots.items
+
+-- a new one, of which nothing has been reached
+pub record IsNewPieceGrove (boxes : List MaskBox) (pieces : List Placed) (layer : MaskLayer) (grove : Grove) : Type 0 where
+  pub spots : List Spot
+  pub shows : ArePieceSpots boxes pieces layer spots
+  pub new : IsNewGrove spots grove
+
+pub record ArePieceGroves (boxes : List MaskBox) (pieces : List Placed) (groves : PieceGroves) : Type 0 where
+  pub diffusion : IsPieceGrove boxes pieces ND groves.diffusion
+  pub poly : IsPieceGrove boxes pieces NP groves.poly
+  pub metal : IsPieceGrove boxes pieces NM groves.metal
+
+-- All pieces over box number k if it is a cut that joins, unless that is told to be crowded; otherwise none.
+pub record IsListOver (boxes : List MaskBox) (pieces : List Placed) (k : ℕ) (crowded : Bool) (found : List ℕ) : Type 0 where
+  pub few : length found ≤ 16
+  pub sound : (x : ℕ) → Contains found x → IsJoining boxes pieces k × IsOver boxes pieces k x
+  pub complete : 0 < length found → (x : ℕ) → IsOver boxes pieces k x → Contains found x
+  pub is_crowded : IsTrue crowded → IsJoining boxes pieces k × (length found ≡ 0)
+  pub is_listed : IsFalse crowded → IsJoining boxes pieces k → 0 < length found
+
+-- ---- lists for all cuts
+
+-- entry number e stands in the list of cut k
+pub record IsInList (starts : List ℕ) (k e : ℕ) : Type 0 where
+  pub from : slice_index starts k ≤ e
+  pub before : e < slice_index starts (k + 1)
+
+-- the list of cut k is not empty
+abbrev pub IsListed : List ℕ → ℕ → Type 0
+IsListed starts k = slice_index starts k < slice_index starts (k + 1)
+
+-- Lists for the boxes before box number n: where those of each start and, of each entry, the piece and the cut. Each is empty or has all pieces over a cut that joins.
+pub record AreLists (boxes : List MaskBox) (pieces : List Placed) (n : ℕ) (starts nodes cuts : List ℕ) : Type 0 where
+  pub counted : length starts ≡ n + 1
+  pub one_each : length cuts ≡ length nodes
+  pub few : length nodes ≤ 16 * n
+  pub within : (k : ℕ) → k ≤ n → slice_index starts k ≤ length nodes
+  pub ends : slice_index starts n ≡ length nodes
+  pub sound : (k e : ℕ) → k < n → IsInList starts k e → (slice_index cuts e ≡ k) × IsJoining boxes pieces k × IsOver boxes pieces k (slice_index nodes e)
+  pub complete : (k x : ℕ) → k < n → IsListed starts k → IsOver boxes pieces k x → (e : ℕ) × IsInList starts k e × (slice_index nodes e ≡ x)
+  pub cuts_are : (e : ℕ) → e < length nodes → (slice_index cuts e < n) × IsInList starts (slice_index cuts e) e
+
+-- a cut that joins and has no list
+abbrev pub IsCrowded : List MaskBox → List Placed → List ℕ → ℕ → Type 0
+IsCrowded boxes pieces starts k = IsJoining boxes pieces k × (IsListed starts k → ⊥)
+
+abbrev pub AreCrowdedSpots : List MaskBox → List Placed → List ℕ → ℕ → List Spot → Type 0
+AreCrowdedSpots boxes pieces starts n spots = AreSpots n (IsCrowded boxes pieces starts) (cut_spot boxes pieces) spots
+
+-- ---- the entries of each piece
+
+-- one more than the last of the first n entries that is of piece a, or 0 where none is
+pub record IsLastOf (nodes : List ℕ) (a n last : ℕ) : Type 0 where
+  pub within : last ≤ n
+  pub is : 0 < last → slice_index nodes (last - 1) ≡ a
+  pub none : (e : ℕ) → last ≤ e → e < n → slice_index nodes e ≢ a
+
+-- the last of the first n entries that is of each piece, and for each of them the last before it of its piece
+pub record AreChains (count : ℕ) (nodes : List ℕ) (n : ℕ) (heads nexts : List ℕ) : Type 0 where
+  pub one_head_each : length heads ≡ count
+  pub one_next_each : length nexts ≡ n
+  pub heads_are : (a : ℕ) → a < count → IsLastOf nodes a n (slice_index heads a)
+  pub nexts_are : (e : ℕ) → e < n → IsLastOf nodes (slice_index nodes e) e (slice_index nexts e)
+
+-- the node of a cut in whose list is piece a, where so many pieces stand before the cuts
+pub record IsListedOver (nodes cuts : List ℕ) (count a y : ℕ) : Type 0 where
+  pub e : ℕ
+  pub among : e < length nodes
+  pub of : slice_index nodes e ≡ a
+  pub node : y ≡ count + slice_index cuts e

@@ -1,0 +1,112 @@
+//! The pieces over each cut, in lists, and the cuts over each piece.
+ghost use Rattle.std.specs.Prelude.{◌≡◌, ℕ, ◌+◌, ◌^◌, ◌<◌, [], All, IfOk, OnOk, length, slice_index};
+ghost use Rattle.crossings.specs.Boxes.{AreSearchable};
+ghost use Rattle.net_extract.specs.CutLists.{AreChains, AreCrowdedSpots, AreLists, ArePieceGroves, IsListedOver};
+ghost use Rattle.net_extract.specs.Linking.{AreGathered};
+ghost use Rattle.net_extract.specs.Pieces.{ArePiecesOf};
+
+use crate::over::{PieceGroves, list_over};
+use crate::placing::Pieces;
+use box_tree::Spot;
+use lam_geom::MaskBox;
+use std::alloc::{AllocError, Global};
+
+/// The pieces over cuts: over cut k lie `nodes[starts[k]..starts[k + 1]]`. A cut that joins nothing has none here, and one that is
+/// crowded neither. Entry e, of piece `nodes[e]`, stands in the list of cut `cuts[e]`.
+#[derive(Debug, Drop)]
+pub struct CutLists {
+    pub starts: Vec<u32>,
+    pub nodes: Vec<u32>,
+    pub cuts: Vec<u32>,
+}
+
+/// The entries of each piece, from the last one back: `heads` has for each piece one more than its last entry, and `nexts` for
+/// each entry one more than the last before it of its piece; 0 where there is none.
+#[derive(Debug, Drop)]
+pub struct Chains {
+    pub heads: Vec<u32>,
+    pub nexts: Vec<u32>,
+}
+
+/// The lists of all cuts, and the spots of those that are crowded. The only refusal is want of memory.
+pub fn cut_lists(
+    alloc: Global,
+    boxes: &[MaskBox],
+    pieces: &Pieces,
+    groves: &PieceGroves,
+) -> Result<(CutLists, Vec<Spot>), AllocError>
+    requires searchable { AreSearchable boxes.now }
+    requires pieces { ArePiecesOf boxes.now pieces.now }
+    requires groves { ArePieceGroves boxes.now pieces.now.placed.items groves.now }
+    ensures lists { IfOk result (λ made. AreLists boxes.now pieces.now.placed.items (length boxes.now) made.0.starts.items made.0.nodes.items made.0.cuts.items) }
+    ensures spots { IfOk result (λ made. AreCrowdedSpots boxes.now pieces.now.placed.items made.0.starts.items (length boxes.now) made.1.items) }
+{
+    let mut starts = Vec::with_capacity(alloc, boxes.len() + 1)?;
+    let mut nodes = Vec::new(alloc);
+    let mut cuts = Vec::new(alloc);
+    let mut spots = Vec::new(alloc);
+    let mut found = Vec::new(alloc);
+    starts.push(0)?;
+    for k in 0..boxes.len() {
+        let owner = k as u32;
+        let crowded = list_over(boxes, pieces, groves, owner, &mut found)?;
+        nodes.extend_from_slice(found.as_slice())?;
+        cuts.resize(nodes.len(), owner)?;
+        starts.push(nodes.len() as u32)?;
+        if crowded {
+            let tag = pieces.placed.len() as u32 + owner;
+            spots.push(Spot {
+                area: boxes[k].area,
+                owner,
+                tag,
+            })?;
+        }
+    }
+    let lists = CutLists {
+        starts,
+        nodes,
+        cuts,
+    };
+    Ok((lists, spots))
+}
+
+/// The chains of the entries of so many pieces. The only refusal is want of memory.
+pub fn chains_of(alloc: Global, count: usize, nodes: &[u32]) -> Result<Chains, AllocError>
+    requires within { All (λ a. a < count) nodes.now }
+    requires few { length nodes.now < 2 ^ 32 }
+    ensures { IfOk result (λ chains. AreChains count nodes.now (length nodes.now) chains.heads.items chains.nexts.items) }
+{
+    let mut heads = vec![in alloc; 0u32; count]?;
+    let mut nexts = Vec::with_capacity(alloc, nodes.len())?;
+    for e in 0..nodes.len() {
+        let a = nodes[e] as usize;
+        nexts.push(heads[a])?;
+        heads[a] = e as u32 + 1;
+    }
+    Ok(Chains { heads, nexts })
+}
+
+/// The nodes of the cuts in whose lists a piece is, in place of what was in `found`, where so many pieces stand before the cuts.
+/// The only refusal is want of memory.
+pub fn cuts_of(
+    lists: &CutLists,
+    chains: &Chains,
+    count: u32,
+    a: u32,
+    found: &mut Vec<u32>,
+) -> Result<(), AllocError>
+    requires chains { AreChains count lists.now.nodes.items (length lists.now.nodes.items) chains.now.heads.items chains.now.nexts.items }
+    requires one_each { length lists.now.cuts.items ≡ length lists.now.nodes.items }
+    requires few { (e : ℕ) → e < length lists.now.cuts.items → count + slice_index lists.now.cuts.items e < 2 ^ 32 }
+    requires in_range { a < count }
+    ensures { OnOk result (AreGathered (IsListedOver lists.now.nodes.items lists.now.cuts.items count a) [] found.new.items) }
+{
+    found.clear();
+    let mut at = chains.heads[a as usize];
+    while at > 0 {
+        let entry = at as usize - 1;
+        found.push(count + lists.cuts[entry])?;
+        at = chains.nexts[entry];
+    }
+    Ok(())
+}

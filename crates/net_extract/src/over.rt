@@ -1,0 +1,158 @@
+//! What lies over a cut: all pieces over it, or where they are many, so many that they are of two boxes.
+ghost use Rattle.std.specs.Prelude.{◌≡◌, ℕ, ◌<◌, ◌≤◌, ◌↔◌, [], All, IfOk, IsTrue, OnOk, length};
+ghost use Rattle.box_tree.specs.Queries.{Holds, IsQuery};
+ghost use Rattle.crossings.specs.Boxes.{AreSearchable};
+ghost use Rattle.net_extract.specs.CutLists.{AreFound, AreOfTwo, ArePieceGroves, IsListOver, IsOfAny, IsPlanWithin};
+ghost use Rattle.net_extract.specs.Groves.{IsOf, IsPlan, IsUnreachedWithin};
+ghost use Rattle.net_extract.specs.Linking.{AreGathered};
+ghost use Rattle.net_extract.specs.Pieces.{ArePiecesOf};
+
+use crate::groves::{Grove, Plan, is_passed_over};
+use crate::placing::Pieces;
+use box_tree::{Query, Question};
+use lam_geom::{MaskBox, MaskLayer};
+use std::alloc::AllocError;
+
+// As many pieces at most are listed over a cut.
+const LISTED: usize = 16;
+
+/// The pieces on each layer that conducts.
+#[derive(Debug, Drop)]
+pub struct PieceGroves {
+    pub diffusion: Grove,
+    pub poly: Grove,
+    pub metal: Grove,
+}
+
+/// The pieces over a box that is a cut and joins something, in place of what was in `found`, where they are few; where they are
+/// many, true, and no piece; and for any other box no piece. The only refusal is want of memory.
+pub fn list_over(
+    boxes: &[MaskBox],
+    pieces: &Pieces,
+    groves: &PieceGroves,
+    box_no: u32,
+    found: &mut Vec<u32>,
+) -> Result<bool, AllocError>
+    requires searchable { AreSearchable boxes.now }
+    requires pieces { ArePiecesOf boxes.now pieces.now }
+    requires groves { ArePieceGroves boxes.now pieces.now.placed.items groves.now }
+    requires in_range { box_no < length boxes.now }
+    ensures { IfOk result (λ crowded. IsListOver boxes.now pieces.now.placed.items box_no crowded found.new.items) }
+{
+    found.clear();
+    let own = boxes[box_no as usize];
+    if own.layer != MaskLayer::NC {
+        return Ok(false);
+    }
+    let query = Query {
+        area: own.area,
+        question: Question::NearOfOther {
+            reach: -1,
+            owner: box_no,
+        },
+    };
+    let all = find_all(pieces, groves, &query, found)?;
+    if !is_of_two(pieces, found.as_slice()) {
+        found.clear();
+        return Ok(false);
+    }
+    if all && found.len() <= LISTED {
+        return Ok(false);
+    }
+    found.clear();
+    Ok(true)
+}
+
+// Puts the pieces on all layers that hold a query behind those in `found`, until they are many and of two boxes. Whether these are
+// all.
+fn find_all(
+    pieces: &Pieces,
+    groves: &PieceGroves,
+    query: &Query,
+    found: &mut Vec<u32>,
+) -> Result<bool, AllocError>
+    requires diffusion { IsPlanWithin (length pieces.now.placed.items) groves.now.diffusion.plan }
+    requires poly { IsPlanWithin (length pieces.now.placed.items) groves.now.poly.plan }
+    requires metal { IsPlanWithin (length pieces.now.placed.items) groves.now.metal.plan }
+    requires query { IsQuery query.now }
+    requires found { All (λ a. a < length pieces.now.placed.items) found.old.items }
+    ensures { IfOk result (λ all. AreFound pieces.now.placed.items (IsOfAny groves.now query.now) all found.old.items found.new.items) }
+{
+    if !find_on(pieces, &groves.diffusion.plan, query, found)? {
+        return Ok(false);
+    }
+    if !find_on(pieces, &groves.poly.plan, query, found)? {
+        return Ok(false);
+    }
+    find_on(pieces, &groves.metal.plan, query, found)
+}
+
+// The same of the pieces of one layer.
+fn find_on(
+    pieces: &Pieces,
+    plan: &Plan,
+    query: &Query,
+    found: &mut Vec<u32>,
+) -> Result<bool, AllocError>
+    requires plan { IsPlanWithin (length pieces.now.placed.items) plan.now }
+    requires query { IsQuery query.now }
+    requires found { All (λ a. a < length pieces.now.placed.items) found.old.items }
+    ensures { IfOk result (λ all. AreFound pieces.now.placed.items (IsOf plan.now.spots.items (Holds query.now)) all found.old.items found.new.items) }
+{
+    let mut at = 0;
+    while at < plan.groups.len() {
+        let group = &plan.groups[at];
+        if is_passed_over(group, query) {
+            at += 1 + group.inside as usize;
+        } else if group.inside == 0 {
+            let end = group.start + group.count;
+            find_within(plan, group.start, end, query, found)?;
+            if found.len() > LISTED && is_of_two(pieces, found.as_slice()) {
+                return Ok(false);
+            }
+            at += 1;
+        } else {
+            at += 1;
+        }
+    }
+    Ok(true)
+}
+
+// Puts the nodes of spots at some places that hold a query behind those in `found`.
+fn find_within(
+    plan: &Plan,
+    first: u32,
+    end: u32,
+    query: &Query,
+    found: &mut Vec<u32>,
+) -> Result<(), AllocError>
+    requires plan { IsPlan plan.now }
+    requires query { IsQuery query.now }
+    requires within { end ≤ length plan.now.order.items }
+    ensures { OnOk result (AreGathered (IsUnreachedWithin plan.now query.now [] first end) found.old.items found.new.items) }
+{
+    for place in first..end {
+        let spot = &plan.spots[plan.order[place as usize] as usize];
+        if query.holds(spot) {
+            found.push(spot.tag)?;
+        }
+    }
+    Ok(())
+}
+
+// Whether some pieces are of two boxes at least.
+fn is_of_two(pieces: &Pieces, found: &[u32]) -> bool
+    requires { All (λ a. a < length pieces.now.placed.items) found.now }
+    ensures { IsTrue result ↔ AreOfTwo pieces.now.placed.items found.now }
+{
+    let Some(&first) = found.first() else {
+        return false;
+    };
+    let box_no = pieces.placed[first as usize].box_no;
+    for &a in found {
+        if pieces.placed[a as usize].box_no != box_no {
+            return true;
+        }
+    }
+    false
+}
