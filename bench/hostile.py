@@ -93,6 +93,9 @@ def texts(n):
         for j in range(count // min(n, count)):
             text.call(symbol)
     yield "cuts under piles", 0, text
+    text = array(("NC", 0, 4, 0, 4), n, n - 1, ((12, 0), (0, 12)))
+    text.top([(layer, -10 - i, 12 * n + 10, -10, 12 * n + 10) for layer in ("NM", "NP") for i in range(8)])
+    yield "cuts under sixteen sheets", 0, text
     text = Text()
     for box, count in ((("NP", -4, 8, 0, 4), 1), (("ND", 0, 4, -4, 8), 1)):
         text.top([box])

@@ -71,6 +71,7 @@ visited_none net marks queue = record {
   counted = refl;
   kept = λ _ _ e. e;
   fresh = λ k n none some. absurd (none-some n (sym none ∙ some));
+  among = λ k n none some. absurd (none-some n (sym none ∙ some));
   marked = λ k (j, lt, _). absurd (omega arith);
   longer = omega arith;
   front = λ _ _. refl;
@@ -95,6 +96,7 @@ visited_seen parts net old new before after i lt seen v = record {
   counted = v.counted;
   kept = v.kept;
   fresh = v.fresh;
+  among = λ k n none some. contains_more parts i k lt (v.among k n none some);
   marked = λ k c. elim (contains_more_cases parts i k lt c) [ inl c ↦ v.marked k c | inr e ↦ (let P : ℕ → Type 0 = IsMarked new in subst P e seen) ];
   longer = v.longer;
   front = v.front;
@@ -117,6 +119,10 @@ visited_new parts net old new before after i lt in_range none v =
       fresh = λ k n before_none some. elim (mark_set_cases new p net k in_range) [
         | inl (e, set_to) ↦ (same_Some n net (sym some ∙ set_to), (let P : ℕ → Type 0 = λ x. Contains (after ++ p ∷ []) x in subst P (sym e) (Contains-push after p)))
         | inr (_, same) ↦ (let f : (n ≡ net) × Contains after k = v.fresh k n before_none (sym same ∙ some) in (f.0, Contains-append_left after (p ∷ []) k f.1))
+      ];
+      among = λ k n before_none some. elim (mark_set_cases new p net k in_range) [
+        | inl (e, _) ↦ (let P : ℕ → Type 0 = λ x. Contains (take (i + 1) parts) x in subst P (sym e) (contains_last parts i lt))
+        | inr (_, same) ↦ contains_more parts i k lt (v.among k n before_none (sym same ∙ some))
       ];
       marked = λ k c. elim (contains_more_cases parts i k lt c) [
         | inl c ↦ (let m : IsMarked new k = v.marked k c in (m.0, keeps k m.0 m.1))

@@ -42,11 +42,12 @@ unmarked marks = count_by is_none marks
 abbrev pub AreKept : List (Option ℕ) → List (Option ℕ) → Type 0
 AreKept old new = (k net : ℕ) → mark_of old k ≡ Some net → mark_of new k ≡ Some net
 
--- some parts have been looked at: those with no mark have been given a net and put at the end of the queue
+-- some parts have been looked at: those with no mark, and no others, have been given a net and put at the end of the queue
 pub record AreVisited (parts : List ℕ) (net : ℕ) (old new : List (Option ℕ)) (before after : List ℕ) : Type 0 where
   pub counted : length new ≡ length old
   pub kept : AreKept old new
   pub fresh : (k n : ℕ) → mark_of old k ≡ None → mark_of new k ≡ Some n → (n ≡ net) × Contains after k
+  pub among : (k n : ℕ) → mark_of old k ≡ None → mark_of new k ≡ Some n → Contains parts k
   pub marked : (k : ℕ) → Contains parts k → IsMarked new k
   pub longer : length before ≤ length after
   pub front : (j : ℕ) → j < length before → slice_index after j ≡ slice_index before j

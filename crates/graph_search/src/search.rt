@@ -85,7 +85,8 @@ fn spread(
     Ok(())
 }
 
-/// Gives a net to those of some parts that have none, and puts them at the end of the queue. The only refusal is want of memory.
+/// Gives a net to those of some parts that have none, and puts them at the end of the queue: a step of a search over neighbours of
+/// one's own. In time of the parts. The only refusal is want of memory.
 pub fn visit(
     parts: &[u32],
     net: u32,
