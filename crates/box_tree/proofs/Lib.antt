@@ -1,3 +1,4 @@
 pub mod Within
 pub mod Trees
+pub mod Taken
 pub mod Orders

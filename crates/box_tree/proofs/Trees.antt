@@ -123,7 +123,7 @@ IsBarren spots order group P = (p : ℕ) → group.start ≤ p → p < group.sta
 pub barren_bounds : (spots : List Spot) (order : List ℕ) (end : ℕ) (group : Group) (rest : List Group) (P : Spot → Type 0) → IsGroupOf spots order end group rest → ((s : Spot) → IsBounded group s → P s → ⊥) → IsBarren spots order group P
 barren_bounds spots order end group rest P g none = λ p low high holds. none (spot_at spots order p) (g.within p low high) holds
 
-begin_here : (groups : List Group) (at end : ℕ) (group : Group) → at < length groups → group ≡ get_or groups at group → begin_of (drop at groups) end ≡ group.start
+pub begin_here : (groups : List Group) (at end : ℕ) (group : Group) → at < length groups → group ≡ get_or groups at group → begin_of (drop at groups) end ≡ group.start
 begin_here groups at end group lt is = ap (λ (gs : List Group). begin_of gs end) (drop_more groups at group lt) ∙ ap (λ (g : Group). g.start) (sym is)
 
 -- past a group none of whose spots holds it

@@ -1,3 +1,4 @@
 pub mod Queries
 pub mod Tree
+pub mod Found
 pub mod Grown

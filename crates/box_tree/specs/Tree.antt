@@ -1,5 +1,5 @@
 -- The tree over a list of spots: an order of their numbers, and groups, each of which has a run of them and stands before the groups inside it.
-use Rattle.std.specs.Prelude.{◌≡◌, ℕ, ◌+◌, ◌*◌, ◌^◌, ◌<◌, ◌≤◌, pos, ◌≤ℤ◌, All, Contains, Option, Some, None, List, [], ◌∷◌, length, drop, slice_index_or}
+use Rattle.std.specs.Prelude.{◌≡◌, ℕ, ◌+◌, ◌*◌, ◌^◌, ◌<◌, ◌≤◌, pos, ◌≤ℤ◌, All, Contains, Option, Some, None, List, [], ◌∷◌, length, drop, slice_index, slice_index_or}
 use Rattle.lam_geom.specs.declared.boxes.BoxXY.{BoxXY}
 use Rattle.lam_geom.specs.declared.boxes.Span.{Span}
 use Rattle.lam_geom.specs.Gaps.{Encloses}
@@ -74,11 +74,16 @@ AreGroups spots order end (group ∷ rest) = IsGroupOf spots order end group res
 
 -- ---- the tree
 
+-- no number stands twice
+abbrev pub AreDistinct : List ℕ → Type 0
+AreDistinct numbers = (i j : ℕ) → i < length numbers → j < length numbers → slice_index numbers i ≡ slice_index numbers j → i ≡ j
+
 -- the numbers below n, each once, in some order
 pub record IsOrderOf (n : ℕ) (order : List ℕ) : Type 0 where
   pub counted : length order ≡ n
   pub below : All (λ k. k < n) order
   pub each : (k : ℕ) → k < n → Contains order k
+  pub once : AreDistinct order
 
 -- groups of all spots
 pub record IsTreeOf (spots : List Spot) (order : List ℕ) (groups : List Group) : Type 0 where

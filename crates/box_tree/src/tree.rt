@@ -1,14 +1,15 @@
 //! The tree: the spots that it is of, and the groups in which one with a property is found.
-ghost use Rattle.std.specs.Prelude.{◌≡◌, ◌↔◌, ℕ, ◌^◌, ◌≤◌, All, IfOk, IsTrue, MatchOption, length};
+ghost use Rattle.std.specs.Prelude.{◌≡◌, ◌↔◌, ℕ, ◌^◌, ◌≤◌, All, IfOk, IsTrue, MatchOption, OnOk, length};
 ghost use Rattle.lam_geom.specs.Places.{IsPlacedBox};
 ghost use Rattle.box_tree.specs.declared.spots.Spot.{Spot};
+ghost use Rattle.box_tree.specs.Found.{AreHolding};
 ghost use Rattle.box_tree.specs.Queries.{HoldsAt, IsQuery};
 ghost use Rattle.box_tree.specs.Tree.{IsTreeOf};
 
 use crate::grow::grown;
 use crate::keys::ordered;
 use crate::query::Query;
-use crate::search::search;
+use crate::search::{search, search_all};
 use crate::spots::{Group, Spot};
 use std::alloc::{AllocError, Global};
 use std::marker::Model;
@@ -107,6 +108,15 @@ impl BoxTree {
             (HoldsAt self.now query.now) }
     {
         search(&self.spots, &self.order, &self.groups, query)
+    }
+
+    /// The numbers of all spots that hold a query, in no order, in place of what was in `found`. The only refusal is want of memory.
+    pub fn all(&self, query: &Query, found: &mut Vec<u32>) -> Result<(), AllocError>
+        requires { IsQuery query.now }
+        ensures { OnOk result (AreHolding self.now query.now found.new.items) }
+    {
+        found.clear();
+        search_all(&self.spots, &self.order, &self.groups, query, found)
     }
 
     /// Whether some spot holds a query. Takes no memory.

@@ -1,14 +1,15 @@
--- The items near an item, by an index of their boxes, and the first of them that is too near.
+-- The items near an item, by a tree of their boxes, and the first of them that is too near.
 use Rattle.std.proofs.Common.{◌≡◌, ◌∙◌, ℕ, ◌+◌, ◌<◌, ◌≤◌, Bool, true, false, ℤ, pos, ◌-ℤ◌, ◌≤ℤ◌, ◌<ℤ◌, List, [], ◌∷◌, ◌++◌, length, get_or, Option, Some, None, Contains, refl, sym, ap, subst, arith}
 use Rattle.std.specs.Prelude.{IfNone, IfSome, slice_get}
 use Rattle.std.proofs.lemmas.Int.{ints, by_lt_z}
 use Rattle.std.proofs.lemmas.List.{get_or_default, get_or_append_left, get_or_push, length_push}
 use Rattle.std.proofs.lemmas.Option.{get_or_from_slice_get, slice_get_within, slice_get-get_or}
 use Rattle.lam_geom.specs.declared.boxes.BoxXY.{BoxXY}
-use Rattle.lam_geom.specs.declared.boxes.MaskBox.{MaskBox}
-use Rattle.lam_geom.specs.declared.boxes.MaskLayer.TheVariants.{ND}
 use Rattle.lam_geom.specs.Gaps.{gap_of_boxes}
-use Rattle.box_index.specs.Near.{AreNear}
+use Rattle.box_tree.specs.declared.query.Query.{Query}
+use Rattle.box_tree.specs.declared.query.Question.TheVariants.{NearOfOther}
+use Rattle.box_tree.specs.declared.spots.Spot.{Spot}
+use Rattle.box_tree.specs.Found.{AreHolding}
 use Rattle.rule_table.specs.declared.technology.Tech.{Tech}
 use Rattle.rule_table.specs.Technology.{widest_of}
 use Rattle.sym_items.specs.declared.items.Item.{Item}
@@ -16,39 +17,39 @@ use Rattle.sym_items.specs.declared.items.Coords.{Coords}
 use Rattle.sym_items.specs.Sides.{sides_of, sides_in, gap_of_sides, gap_in}
 use Rattle.pair_rules.specs.Bound.{item_at}
 use Rattle.coarse_grid.specs.Clash.{is_near, is_near_at}
-use Rattle.coarse_grid.specs.Nearby.{IsBoxOfItem, AreBoxesOf, HasAllNear}
+use Rattle.coarse_grid.specs.Nearby.{IsSpotOfItem, AreSpotsOf, HasAllNear}
 use Rattle.coarse_grid.proofs.Nears.{by_lt, near_not_wide}
 
--- ---- boxes
+-- ---- spots
 
--- a box, and one more behind it
-box_there : (c : Coords) (item : Item) (boxes : List MaskBox) (k : ℕ) (own : MaskBox) → IsBoxOfItem c item (slice_get boxes k) → IsBoxOfItem c item (slice_get (boxes ++ own ∷ []) k)
-box_there c item boxes k own h =
-    let lt = slice_get_within boxes k h.box h.there in
-    let within : k < length (boxes ++ own ∷ []) = omega (arith, lt, length_push boxes own) in
+-- a spot, and one more behind it
+spot_there : (c : Coords) (item : Item) (spots : List Spot) (k : ℕ) (own : Spot) → IsSpotOfItem c item (slice_get spots k) → IsSpotOfItem c item (slice_get (spots ++ own ∷ []) k)
+spot_there c item spots k own h =
+    let lt = slice_get_within spots k h.spot h.there in
+    let within : k < length (spots ++ own ∷ []) = omega (arith, lt, length_push spots own) in
     record {
-      box = h.box;
-      there = slice_get-get_or (boxes ++ own ∷ []) k own within ∙ ap Some (get_or_append_left boxes (own ∷ []) own k lt ∙ get_or_from_slice_get boxes k h.box own h.there);
-      layer = h.layer;
+      spot = h.spot;
+      there = slice_get-get_or (spots ++ own ∷ []) k own within ∙ ap Some (get_or_append_left spots (own ∷ []) own k lt ∙ get_or_from_slice_get spots k h.spot own h.there);
+      owner = h.owner;
       sides = h.sides;
     }
 
--- the last box of all
-box_last : (c : Coords) (item : Item) (boxes : List MaskBox) (k : ℕ) (own : MaskBox) → length boxes ≡ k → own.layer ≡ ND → sides_of own.area ≡ sides_in c item → IsBoxOfItem c item (slice_get (boxes ++ own ∷ []) k)
-box_last c item boxes k own counted layer sides =
-    let within : k < length (boxes ++ own ∷ []) = omega (arith, counted, length_push boxes own) in
-    record { box = own; there = slice_get-get_or (boxes ++ own ∷ []) k own within ∙ ap Some (get_or_push boxes own own k counted); layer = layer; sides = sides }
+-- the last of all
+spot_last : (c : Coords) (item : Item) (spots : List Spot) (k : ℕ) (own : Spot) → length spots ≡ k → own.owner ≡ 0 → sides_of own.area ≡ sides_in c item → IsSpotOfItem c item (slice_get (spots ++ own ∷ []) k)
+spot_last c item spots k own counted owner sides =
+    let within : k < length (spots ++ own ∷ []) = omega (arith, counted, length_push spots own) in
+    record { spot = own; there = slice_get-get_or (spots ++ own ∷ []) k own within ∙ ap Some (get_or_push spots own own k counted); owner = owner; sides = sides }
 
--- of the first n items, each has its box
-abbrev pub HaveBoxes : Coords → List Item → ℕ → List MaskBox → Type 0
-HaveBoxes c items n boxes = (k : ℕ) → k < n → IsBoxOfItem c (item_at items k) (slice_get boxes k)
+-- of the first n items, each has its spot
+abbrev pub HaveSpots : Coords → List Item → ℕ → List Spot → Type 0
+HaveSpots c items n spots = (k : ℕ) → k < n → IsSpotOfItem c (item_at items k) (slice_get spots k)
 
-pub box_more : (c : Coords) (items : List Item) (n : ℕ) (boxes : List MaskBox) (own : MaskBox) → HaveBoxes c items n boxes → length boxes ≡ n → own.layer ≡ ND → sides_of own.area ≡ sides_in c (item_at items n)
-    → HaveBoxes c items (n + 1) (boxes ++ own ∷ [])
-box_more c items n boxes own h counted layer sides k lt = by_lt k n
-    (λ before. box_there c (item_at items k) boxes k own (h k before))
+pub spot_more : (c : Coords) (items : List Item) (n : ℕ) (spots : List Spot) (own : Spot) → HaveSpots c items n spots → length spots ≡ n → own.owner ≡ 0 → sides_of own.area ≡ sides_in c (item_at items n)
+    → HaveSpots c items (n + 1) (spots ++ own ∷ [])
+spot_more c items n spots own h counted owner sides k lt = by_lt k n
+    (λ before. spot_there c (item_at items k) spots k own (h k before))
     (λ at. let same : n ≡ k = omega arith in
-    subst (λ (j : ℕ). IsBoxOfItem c (item_at items j) (slice_get (boxes ++ own ∷ []) j)) same (box_last c (item_at items n) boxes n own counted layer sides))
+    subst (λ (j : ℕ). IsSpotOfItem c (item_at items j) (slice_get (spots ++ own ∷ []) j)) same (spot_last c (item_at items n) spots n own counted owner sides))
 
 -- ---- near items
 
@@ -66,36 +67,43 @@ near_within tech c x y near =
     within : (gap w : ℤ) → gap <ℤ w → gap ≤ℤ (w -ℤ pos 1)
     within gap w h = omega (arith, ints, h)
 
--- so the index finds them
-near_found : (tech : Tech) (c : Coords) (items : List Item) (boxes : List MaskBox) (i k : ℕ) (own : MaskBox) (reach : ℤ) (found : List ℕ) → AreBoxesOf c items boxes → i < length items → k < length items
-    → slice_get boxes i ≡ Some own → reach ≡ widest_of tech -ℤ pos 1 → AreNear boxes ND own.area reach found → is_near_at tech c items i k ≡ true → Contains found k
-near_found tech c items boxes i k own reach found h i_among k_among own_is reach_is near too_near =
+-- what is asked of the tree beside the spot of an item
+abbrev pub near_query : BoxXY → ℤ → Query
+near_query area reach = record { area = area; question = NearOfOther reach 1 }
+
+-- so the tree has them
+near_found : (tech : Tech) (c : Coords) (items : List Item) (spots : List Spot) (i k : ℕ) (own : Spot) (reach : ℤ) (found : List ℕ) → AreSpotsOf c items spots → i < length items → k < length items
+    → slice_get spots i ≡ Some own → reach ≡ widest_of tech -ℤ pos 1 → AreHolding spots (near_query own.area reach) found → is_near_at tech c items i k ≡ true → Contains found k
+near_found tech c items spots i k own reach found h i_among k_among own_is reach_is holding too_near =
     let first = h.each i i_among in
     let other = h.each k k_among in
-    let same : own ≡ first.box = let e : Some own ≡ Some first.box = sym own_is ∙ first.there in cc in
-    let own_sides : sides_of own.area ≡ sides_in c (item_at items i) = ap (λ (b : MaskBox). sides_of b.area) same ∙ first.sides in
-    let gap_is = gap_by_sides c (item_at items i) (item_at items k) own.area other.box.area own_sides other.sides in
+    let same : own ≡ first.spot = let e : Some own ≡ Some first.spot = sym own_is ∙ first.there in cc in
+    let own_sides : sides_of own.area ≡ sides_in c (item_at items i) = ap (λ (s : Spot). sides_of s.area) same ∙ first.sides in
+    let gap_is = gap_by_sides c (item_at items i) (item_at items k) own.area other.spot.area own_sides other.sides in
     let gap = near_within tech c (item_at items i) (item_at items k) too_near in
-    near.complete k (record { box = other.box; there = other.there; on_layer = other.layer; near = subst (λ (g : ℤ). g ≤ℤ reach) (sym gap_is) (subst (λ (r : ℤ). gap_in c (item_at items i) (item_at items k) ≤ℤ r) (sym reach_is) gap) })
+    let near : gap_of_boxes own.area other.spot.area ≤ℤ reach = subst (λ (g : ℤ). g ≤ℤ reach) (sym gap_is) (subst (λ (r : ℤ). gap_in c (item_at items i) (item_at items k) ≤ℤ r) (sym reach_is) gap) in
+    holding.complete k (record { spot = other.spot; there = other.there; holds = (near, λ e. (let no : 0 ≡ 1 = sym other.owner ∙ e in absurd (omega (arith, no)))) })
 
-near_listed : (tech : Tech) (c : Coords) (items : List Item) (boxes : List MaskBox) (i : ℕ) (own : MaskBox) (reach : ℤ) (found : List ℕ) → AreBoxesOf c items boxes → i < length items
-    → slice_get boxes i ≡ Some own → reach ≡ widest_of tech -ℤ pos 1 → AreNear boxes ND own.area reach found → HasAllNear tech c items i found
-near_listed tech c items boxes i own reach found h i_among own_is reach_is near = record {
+near_listed : (tech : Tech) (c : Coords) (items : List Item) (spots : List Spot) (i : ℕ) (own : Spot) (reach : ℤ) (found : List ℕ) → AreSpotsOf c items spots → i < length items
+    → slice_get spots i ≡ Some own → reach ≡ widest_of tech -ℤ pos 1 → AreHolding spots (near_query own.area reach) found → HasAllNear tech c items i found
+near_listed tech c items spots i own reach found h i_among own_is reach_is holding = record {
   in_range = λ m d lt.
       let k : ℕ = get_or found m d in
-      let there = near.sound k (m, lt, get_or_default found m k d lt) in
-      let within = slice_get_within boxes k there.box there.there in
+      let there = holding.sound k (m, lt, get_or_default found m k d lt) in
+      let within = slice_get_within spots k there.spot there.there in
       let counted = h.counted in
       omega (arith, within, counted);
-  all = λ k k_among too_near. near_found tech c items boxes i k own reach found h i_among k_among own_is reach_is near too_near;
+  all = λ k k_among too_near. near_found tech c items spots i k own reach found h i_among k_among own_is reach_is holding too_near;
 }
 
 -- by the names that the code has
-pub all_near : (tech : Tech) (c : Coords) (items : List Item) (index boxes : List MaskBox) (i : ℕ) (own : MaskBox) (area : BoxXY) (reach : ℤ) (found : List ℕ) → AreNear index ND area reach found
-    → AreBoxesOf c items boxes → i < length items → index ≡ boxes → slice_get boxes i ≡ Some own → area ≡ own.area → reach ≡ widest_of tech -ℤ pos 1 → HasAllNear tech c items i found
-all_near tech c items index boxes i own area reach found near h i_among index_is own_is area_is reach_is =
-    near_listed tech c items boxes i own reach found h i_among own_is reach_is
-    (subst (λ (s : BoxXY). AreNear boxes ND s reach found) area_is (subst (λ (bs : List MaskBox). AreNear bs ND area reach found) index_is near))
+pub all_near : (tech : Tech) (c : Coords) (items : List Item) (spots given : List Spot) (i : ℕ) (read : Spot) (reach : ℤ) (found : List ℕ) → AreHolding spots (near_query (get_or given i read).area reach) found
+    → AreSpotsOf c items spots → i < length items → given ≡ spots → reach ≡ widest_of tech -ℤ pos 1 → HasAllNear tech c items i found
+all_near tech c items spots given i read reach found holding h i_among same reach_is =
+    let counted = h.counted in
+    let within : i < length spots = omega (arith, counted) in
+    near_listed tech c items spots i (get_or spots i read) reach found h i_among (slice_get-get_or spots i read within) reach_is
+    (subst (λ (ss : List Spot). AreHolding spots (near_query (get_or ss i read).area reach) found) same holding)
 
 -- ---- the first that is too near
 

@@ -4,11 +4,10 @@ ghost use Rattle.std.specs.Prelude.{◌≡◌, ◌↔◌, ◌<◌, ◌≤◌, �
 ghost use Rattle.sym_items.specs.Boxes.{HasBox};
 ghost use Rattle.pair_rules.specs.Clean.{IsClean};
 ghost use Rattle.coarse_grid.specs.Clash.{is_near_at, IsFirstClash};
-ghost use Rattle.coarse_grid.specs.Nearby.{AreBoxesOf, HasAllNear};
+ghost use Rattle.coarse_grid.specs.Nearby.{AreSpotsOf, HasAllNear};
 
 use crate::clash::{find_clash, is_near};
-use box_index::BoxIndex;
-use lam_geom::{MaskBox, MaskLayer};
+use box_tree::{BoxTree, Query, Question, Spot};
 use rule_table::Tech;
 use std::alloc::{AllocError, Global};
 use sym_items::{Coords, Item, box_of};
@@ -16,20 +15,21 @@ use sym_items::{Coords, Item, box_of};
 // How many near items an item may have on average, itself among them, before all pairs are looked at instead.
 const NEAR_ITEMS: usize = 64;
 
-// The boxes of all items, on one layer, whichever.
-fn boxes_of(alloc: Global, items: &[Item], coords: &Coords) -> Result<Vec<MaskBox>, AllocError>
+// The spots of all items, by their boxes; owner and tag stand for nothing.
+fn spots_of(alloc: Global, items: &[Item], coords: &Coords) -> Result<Vec<Spot>, AllocError>
     requires boxes { All (HasBox coords.now) items.now }
-    ensures { IfOk result (λ boxes. AreBoxesOf coords.now items.now boxes.items) }
+    ensures { IfOk result (λ spots. AreSpotsOf coords.now items.now spots.items) }
 {
-    let mut boxes = Vec::with_capacity(alloc, items.len())?;
+    let mut spots = Vec::with_capacity(alloc, items.len())?;
     for item in items {
         let area = box_of(item, coords);
-        boxes.push(MaskBox {
-            layer: MaskLayer::ND,
+        spots.push(Spot {
             area,
+            owner: 0,
+            tag: 0,
         })?;
     }
-    Ok(boxes)
+    Ok(spots)
 }
 
 // The numbers of items that lie less than the widest spacing from item `i`, in place of what was in `found`.
@@ -37,18 +37,20 @@ fn find_near(
     tech: &Tech,
     items: &[Item],
     coords: &Coords,
-    index: &BoxIndex,
-    boxes: &[MaskBox],
+    tree: &BoxTree,
     i: u32,
     found: &mut Vec<u32>,
 ) -> Result<(), AllocError>
-    requires boxes { AreBoxesOf coords.now items.now boxes.now }
-    requires index { index.now ≡ boxes.now }
+    requires tree { AreSpotsOf coords.now items.now tree.now }
     requires among { i < length items.now }
     ensures { OnOk result (HasAllNear tech.now coords.now items.now i found.new.items) }
 {
     let reach = tech.widest() - 1;
-    index.near(MaskLayer::ND, &boxes[i as usize].area, reach, found)
+    let query = Query {
+        area: tree.spots()[i as usize].area,
+        question: Question::NearOfOther { reach, owner: 1 },
+    };
+    tree.all(&query, found)
 }
 
 // Whether number `j` comes after `i`, and before the first one if there is one.
@@ -93,12 +95,12 @@ pub fn first_clash(
     ensures clean { IfOk result (λ found. IsClean tech.now coords.now items.now → found ≡ None) }
     ensures clash { IfOk result (λ found. IfSome found (λ p. IsFirstClash tech.now coords.now items.now p.0 p.1)) }
 {
-    let boxes = boxes_of(alloc, items, coords)?;
-    let index = BoxIndex::new(alloc, &boxes)?;
+    let spots = spots_of(alloc, items, coords)?;
+    let tree = BoxTree::new(alloc, spots)?;
     let mut left = NEAR_ITEMS * items.len();
     let mut found = Vec::new(alloc);
     for i in 0..items.len() as u32 {
-        find_near(tech, items, coords, &index, &boxes, i, &mut found)?;
+        find_near(tech, items, coords, &tree, i, &mut found)?;
         if found.len() > left {
             return Ok(find_clash(tech, items, coords));
         }

@@ -2,7 +2,7 @@
 #![tactic(auto)]
 
 #[cfg(test)]
-mod box_index_tests;
+mod box_tree_tests;
 #[cfg(test)]
 mod boxes_of_tests;
 #[cfg(test)]

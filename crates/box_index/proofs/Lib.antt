@@ -1,5 +1,0 @@
-pub mod Tallies
-pub mod Areas
-pub mod Trees
-pub mod Searched
-pub mod Grown

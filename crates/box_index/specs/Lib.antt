@@ -1,4 +1,0 @@
-pub mod Near
-pub mod Tree
-pub mod Found
-pub mod Grown

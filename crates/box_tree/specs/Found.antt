@@ -1,0 +1,26 @@
+-- The spots that hold a query.
+use Rattle.std.specs.Prelude.{◌≡◌, ℕ, ◌<◌, ◌≤◌, Contains, List, length, slice_index}
+use Rattle.box_tree.specs.declared.query.Query.{Query}
+use Rattle.box_tree.specs.declared.spots.Spot.{Spot}
+use Rattle.box_tree.specs.Queries.{HoldsAt}
+use Rattle.box_tree.specs.Tree.{AreDistinct, spot_at}
+
+-- the numbers of the spots that hold a query: all of them, each once, in any order
+pub record AreHolding (spots : List Spot) (query : Query) (found : List ℕ) : Type 0 where
+  pub sound : (k : ℕ) → Contains found k → HoldsAt spots query k
+  pub complete : (k : ℕ) → HoldsAt spots query k → Contains found k
+  pub once : AreDistinct found
+
+-- the number of a spot at a place before another, which has a property
+pub record IsAtPlace (spots : List Spot) (order : List ℕ) (P : Spot → Type 0) (end k : ℕ) : Type 0 where
+  pub p : ℕ
+  pub before : p < end
+  pub number : slice_index order p ≡ k
+  pub is : P (spot_at spots order p)
+
+-- the numbers of the spots before a place that have a property
+pub record IsTaken (spots : List Spot) (order : List ℕ) (P : Spot → Type 0) (end : ℕ) (found : List ℕ) : Type 0 where
+  pub within : end ≤ length order
+  pub sound : (k : ℕ) → Contains found k → IsAtPlace spots order P end k
+  pub complete : (k : ℕ) → IsAtPlace spots order P end k → Contains found k
+  pub once : AreDistinct found
