@@ -140,18 +140,14 @@ list_none boxes pieces k found none apart =
     subst P (sym none) (record {
       few = omega arith;
       sound = λ x c. absurd (nothing x c);
-      complete = λ some. absurd (omega arith);
+      complete = λ _ joins. absurd (apart joins);
       is_crowded = λ t. absurd (cc);
-      is_listed = λ _ joins. absurd (apart joins);
     })
 
 -- all that lies over it is of one box
 pub joins_found : (boxes : List MaskBox) (pieces : List Placed) (k : ℕ) (all : Bool) (found : List ℕ) → AreFound pieces (IsOver boxes pieces k) all [] found → IsJoining boxes pieces k → AreOfTwo pieces found
 joins_found boxes pieces k true found f joins = joins_two boxes pieces k found (f.complete refl) joins
 joins_found boxes pieces k false found f joins = f.two refl
-
-some_of_two : (pieces : List Placed) (found : List ℕ) → AreOfTwo pieces found → 0 < length found
-some_of_two pieces found (x, y, (i, lt, e), cy, ne) = omega arith
 
 -- all pieces are listed
 pub list_few : (boxes : List MaskBox) (pieces : List Placed) (k : ℕ) (all : Bool) (found : List ℕ) → IsOn boxes NC k → AreFound pieces (IsOver boxes pieces k) all [] found → AreOfTwo pieces found → all ≡ true → length found ≤ 16
@@ -162,9 +158,8 @@ list_few boxes pieces k all found on f two whole few =
     record {
       few = few;
       sound = λ x c. (joins, over x c);
-      complete = λ _. f.complete whole;
+      complete = λ _ _. f.complete whole;
       is_crowded = λ t. absurd (cc);
-      is_listed = λ _ _. some_of_two pieces found two;
     }
 
 -- they are too many
@@ -176,7 +171,6 @@ list_many boxes pieces k all found empty on f two none =
     subst P (sym none) (record {
       few = omega arith;
       sound = λ x c. absurd (nothing x c);
-      complete = λ some. absurd (omega arith);
+      complete = λ t. absurd (cc);
       is_crowded = λ _. (joins, refl);
-      is_listed = λ t. absurd (cc);
     })

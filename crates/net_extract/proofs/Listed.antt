@@ -1,5 +1,5 @@
 -- Lists of the pieces over cuts, one cut after another, and the chains of their entries.
-use Rattle.std.proofs.Common.{◌≡◌, ℕ, ◌+◌, ◌-◌, ◌<◌, ◌≤◌, Bool, List, [], ◌∷◌, ◌++◌, length, set, get_or, take, drop, Contains, inl, inr, refl, sym, ◌∙◌, ap, subst, arith, length-append, length-drop, length-set, length-take, get_or-set_other, get_or-set_same}
+use Rattle.std.proofs.Common.{◌≡◌, ℕ, ◌+◌, ◌-◌, ◌<◌, ◌≤◌, Bool, true, false, List, [], ◌∷◌, ◌++◌, length, set, get_or, take, drop, Contains, inl, inr, refl, sym, ◌∙◌, ap, subst, arith, length-append, length-drop, length-set, length-take, get_or-set_other, get_or-set_same}
 use Rattle.std.specs.Prelude.{IsFalse, IsTrue}
 use Rattle.std.proofs.lemmas.Bool.{cases_lt, cases_eq}
 use Rattle.std.proofs.lemmas.Int.{clamps}
@@ -72,6 +72,18 @@ pub record AreCutsMore (cuts new : List ℕ) (count k : ℕ) : Type 0 where
   pub old : (e : ℕ) → e < length cuts → get_or new e 0 ≡ get_or cuts e 0
   pub last : (e : ℕ) → length cuts ≤ e → e < count → get_or new e 0 ≡ k
 
+-- a list that is not empty has all that lies over its cut
+all_listed : (boxes : List MaskBox) (pieces : List Placed) (k : ℕ) (crowded : Bool) (found : List ℕ) → IsListOver boxes pieces k crowded found → 0 < length found → (x : ℕ) → IsOver boxes pieces k x → Contains found x
+all_listed boxes pieces k true found list some x o = (let none = (list.is_crowded refl).1 in absurd (omega arith))
+all_listed boxes pieces k false found list some x o = list.complete refl (list.sound (get_or found 0 0) (Contains-get_or found 0 0 some)).0 x o
+
+-- and it is not empty where the cut joins
+some_listed : (boxes : List MaskBox) (pieces : List Placed) (k : ℕ) (crowded : Bool) (found : List ℕ) → IsListOver boxes pieces k crowded found → IsFalse crowded → IsJoining boxes pieces k → 0 < length found
+some_listed boxes pieces k crowded found list t (x, y, o) =
+    let c : Contains found x = list.complete t (x, y, o) x (record { among = o.apart.first; over = o.first }) in
+    let lt = c.1 in
+    omega arith
+
 -- one list more
 pub lists_more : (boxes : List MaskBox) (pieces : List Placed) (n : ℕ) (starts nodes cuts found new_starts new_nodes new_cuts : List ℕ) (crowded : Bool) → new_nodes ≡ nodes ++ found → new_starts ≡ starts ++ length new_nodes ∷ []
     → AreCutsMore cuts new_cuts (length new_nodes) n → IsListOver boxes pieces n crowded found → AreLists boxes pieces n starts nodes cuts → AreLists boxes pieces (n + 1) new_starts new_nodes new_cuts
@@ -131,7 +143,7 @@ lists_more boxes pieces n starts nodes cuts found new_starts new_nodes new_cuts 
             (let L : ℕ → Type 0 = λ j. IsListed (starts ++ m ∷ []) j in
             let O : ℕ → Type 0 = λ j. IsOver boxes pieces j x in
             let some = subst L at h in
-            let c : Contains found x = list.complete (omega arith) x (subst O at o) in
+            let c : Contains found x = all_listed boxes pieces n crowded found list (omega arith) x (subst O at o) in
             let i : ℕ = c.0 in
             let within = c.1 in
             let R : ℕ → Type 0 = λ j. (e : ℕ) × IsInList (starts ++ m ∷ []) j e × (get_or new_nodes e 0 ≡ x) in
@@ -228,7 +240,7 @@ crowded_skip boxes pieces n starts nodes found new_starts new_nodes crowded spot
     let at_end = start_new starts m n counted in
     let P : List ℕ → Type 0 = λ xs. AreCrowdedSpots boxes pieces xs (n + 1) spots in
     subst P (sym starts_are)
-    (shown_skip (IsCrowded boxes pieces (starts ++ m ∷ [])) (cut_spot boxes pieces) n spots (λ h. (let some = list.is_listed t h.0 in h.1 (omega arith))) (crowded_as boxes pieces starts m n spots counted s))
+    (shown_skip (IsCrowded boxes pieces (starts ++ m ∷ [])) (cut_spot boxes pieces) n spots (λ h. (let some = some_listed boxes pieces n crowded found list t h.0 in h.1 (omega arith))) (crowded_as boxes pieces starts m n spots counted s))
 
 -- ---- chains
 

@@ -64,9 +64,8 @@ pub record ArePieceGroves (boxes : List MaskBox) (pieces : List Placed) (groves 
 pub record IsListOver (boxes : List MaskBox) (pieces : List Placed) (k : ℕ) (crowded : Bool) (found : List ℕ) : Type 0 where
   pub few : length found ≤ 16
   pub sound : (x : ℕ) → Contains found x → IsJoining boxes pieces k × IsOver boxes pieces k x
-  pub complete : 0 < length found → (x : ℕ) → IsOver boxes pieces k x → Contains found x
+  pub complete : IsFalse crowded → IsJoining boxes pieces k → (x : ℕ) → IsOver boxes pieces k x → Contains found x
   pub is_crowded : IsTrue crowded → IsJoining boxes pieces k × (length found ≡ 0)
-  pub is_listed : IsFalse crowded → IsJoining boxes pieces k → 0 < length found
 
 -- ---- lists for all cuts
 
