@@ -79,14 +79,12 @@ begun Are spots grove front are tags g =
 pub begun_pieces : (boxes : List MaskBox) (pieces : List Placed) (layer : MaskLayer) (grove : Grove) (front : Front) → length front.marks.items ≡ length pieces + length boxes
     → IsNewPieceGrove boxes pieces layer grove → IsGroveOf (ArePieceSpots boxes pieces layer) front grove
 begun_pieces boxes pieces layer grove front n h =
-    begun (ArePieceSpots boxes pieces layer) h.spots grove front h.shows
-    (tags_within (length pieces) (length front.marks.items) (IsPieceOn boxes pieces layer) (piece_spot pieces) h.spots (λ a lt. omega arith) h.shows) h.new
+    begun (ArePieceSpots boxes pieces layer) grove.plan.spots.items grove front h.shows
+    (tags_within (length pieces) (length front.marks.items) (IsPieceOn boxes pieces layer) (piece_spot pieces) grove.plan.spots.items (λ a lt. omega arith) h.shows) h.new
 
 -- a new grove of pieces, of which nothing is asked but what it shows
 pub shown_pieces : (boxes : List MaskBox) (pieces : List Placed) (layer : MaskLayer) (grove : Grove) → IsNewPieceGrove boxes pieces layer grove → IsPieceGrove boxes pieces layer grove
-shown_pieces boxes pieces layer grove h =
-    let P : List Spot → Type 0 = ArePieceSpots boxes pieces layer in
-    record { plan = h.new.plan; shows = subst P (sym h.new.spots_are) h.shows }
+shown_pieces boxes pieces layer grove h = record { plan = h.new.plan; shows = h.shows }
 
 -- its spots are of pieces
 pub pieces_within : (boxes : List MaskBox) (pieces : List Placed) (layer : MaskLayer) (grove : Grove) → IsPieceGrove boxes pieces layer grove → IsPlanWithin (length pieces) grove.plan

@@ -51,9 +51,8 @@ pub record IsPieceGrove (boxes : List MaskBox) (pieces : List Placed) (layer : M
 
 -- a new one, of which nothing has been reached
 pub record IsNewPieceGrove (boxes : List MaskBox) (pieces : List Placed) (layer : MaskLayer) (grove : Grove) : Type 0 where
-  pub spots : List Spot
-  pub shows : ArePieceSpots boxes pieces layer spots
-  pub new : IsNewGrove spots grove
+  pub shows : ArePieceSpots boxes pieces layer grove.plan.spots.items
+  pub new : IsNewGrove grove.plan.spots.items grove
 
 pub record ArePieceGroves (boxes : List MaskBox) (pieces : List Placed) (groves : PieceGroves) : Type 0 where
   pub diffusion : IsPieceGrove boxes pieces ND groves.diffusion

@@ -1,15 +1,12 @@
 //! The spots of pieces, by their areas and by the areas of their boxes.
-ghost use Rattle.std.specs.Prelude.{◌≡◌, ℕ, ◌<◌, ◌↔◌, IfOk, IsTrue, MatchOption, length};
-ghost use Rattle.lam_geom.specs.Places.{IsPlacedBox};
-ghost use Rattle.crossings.specs.Boxes.{AreSearchable, IsOn, area_at};
-ghost use Rattle.lam_geom.specs.declared.boxes.MaskLayer.TheVariants.{NC};
-ghost use Rattle.net_extract.specs.Linking.{IsJoining};
+ghost use Rattle.std.specs.Prelude.{IfOk};
+ghost use Rattle.crossings.specs.Boxes.{AreSearchable};
 ghost use Rattle.net_extract.specs.Pieces.{ArePiecesOf};
 ghost use Rattle.net_extract.specs.Spots.{ArePieceSpots, AreBoxSpots};
 
 use crate::placing::{Pieces, Placed};
-use box_tree::{BoxTree, Query, Question, Spot};
-use lam_geom::{BoxXY, MaskBox, MaskLayer};
+use box_tree::Spot;
+use lam_geom::{MaskBox, MaskLayer};
 use rule_table::Tech;
 use std::alloc::{AllocError, Global};
 
