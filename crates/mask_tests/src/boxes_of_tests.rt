@@ -32,7 +32,7 @@ fn mask_box(row: &Row) -> MaskBox
 
 /// A box for each of a few rows, in their order.
 pub fn boxes_of(alloc: Global, rows: &[Row]) -> Result<Vec<MaskBox>, AllocError>
-    requires { length rows.now ≤ 8 }
+    requires { length rows.now ≤ 32 }
     ensures searchable { IfOk result (λ boxes. AreSearchable boxes.items) }
     ensures all { IfOk result (λ boxes. length boxes.items ≡ length rows.now) }
 {

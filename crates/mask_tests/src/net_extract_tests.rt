@@ -10,14 +10,14 @@ use std::alloc::Global;
 use std::test::Fail;
 
 fn extracted(alloc: Global, tech: &Tech, rows: &[Row]) -> Result<Netlist, ExtractFault>
-    requires { length rows.now ≤ 4 }
+    requires { length rows.now ≤ 32 }
 {
     let boxes = boxes_of(alloc, rows)?;
     extract(alloc, tech, &boxes)
 }
 
 fn count(alloc: Global, tech: &Tech, rows: &[Row]) -> Result<u32, ExtractFault>
-    requires { length rows.now ≤ 4 }
+    requires { length rows.now ≤ 32 }
 {
     let list = extracted(alloc, tech, rows)?;
     Ok(list.nets)
@@ -86,5 +86,38 @@ fn links_make_nets(rt: HostRuntime) -> Result<(), Fail> {
         count(alloc, &old, &[buried_diffusion, buried_poly, window]).err(),
         Some(ExtractFault::NotProper(0, 1))
     );
+    Ok(())
+}
+
+// A cut, and seventeen strips of metal over it, each apart from the others.
+const CROWD: [Row; 18] = [
+    Row(NC, 300, 0, 600, 9900),
+    Row(NM, 0, 0, 1200, 300),
+    Row(NM, 0, 600, 1200, 300),
+    Row(NM, 0, 1200, 1200, 300),
+    Row(NM, 0, 1800, 1200, 300),
+    Row(NM, 0, 2400, 1200, 300),
+    Row(NM, 0, 3000, 1200, 300),
+    Row(NM, 0, 3600, 1200, 300),
+    Row(NM, 0, 4200, 1200, 300),
+    Row(NM, 0, 4800, 1200, 300),
+    Row(NM, 0, 5400, 1200, 300),
+    Row(NM, 0, 6000, 1200, 300),
+    Row(NM, 0, 6600, 1200, 300),
+    Row(NM, 0, 7200, 1200, 300),
+    Row(NM, 0, 7800, 1200, 300),
+    Row(NM, 0, 8400, 1200, 300),
+    Row(NM, 0, 9000, 1200, 300),
+    Row(NM, 0, 9600, 1200, 300),
+];
+
+#[test]
+fn a_cut_joins_few_strips_and_many(rt: HostRuntime) -> Result<(), Fail> {
+    let old = Tech::shipped();
+    let alloc = rt.alloc();
+    assert_eq!(rt; count(alloc, &old, &CROWD[..3])?, 1);
+    assert_eq!(rt; count(alloc, &old, &CROWD[..17])?, 1);
+    assert_eq!(rt; count(alloc, &old, &CROWD)?, 1);
+    assert_eq!(rt; count(alloc, &old, &CROWD[1..])?, 17);
     Ok(())
 }

@@ -142,7 +142,7 @@ pub crowded_over : (boxes : List MaskBox) (pieces : List Placed) (starts : List 
 crowded_over boxes pieces starts a y lt h =
     record { among = lt; cut = h.cut; node = h.node; joins = h.crowded.0; over = at_most_below (gap_of_boxes (area_of pieces a) (area_at boxes h.cut)) h.answers.0 }
 
--- a cut over a piece is in one of the piece's lists, or crowded
+-- a cut over a piece has the piece in its list, or is crowded
 pub over_cases : (boxes : List MaskBox) (crossings : List Crossing) (pieces : List Placed) (firsts starts nodes cuts : List ℕ) (a y : ℕ) → ArePieces boxes crossings pieces firsts → a < length pieces
     → AreLists boxes pieces (length boxes) starts nodes cuts → IsOverCut boxes pieces a y → IsCrowdedAnswer boxes pieces starts (over_query (area_of pieces a) (box_of pieces a)) y ⊎ IsListedOver nodes cuts (length pieces) a y
 over_cases boxes crossings pieces firsts starts nodes cuts a y p lt l o =
@@ -166,7 +166,7 @@ over_cases boxes crossings pieces firsts starts nodes cuts a y p lt l o =
           }))
     ]
 
--- a cut in one of the piece's lists is over it
+-- a cut that has a piece in its list is over it
 pub listed_over : (boxes : List MaskBox) (pieces : List Placed) (starts nodes cuts : List ℕ) (a y : ℕ) → a < length pieces → AreLists boxes pieces (length boxes) starts nodes cuts → IsListedOver nodes cuts (length pieces) a y → IsOverCut boxes pieces a y
 listed_over boxes pieces starts nodes cuts a y lt l h =
     let k : ℕ = get_or cuts h.e 0 in

@@ -144,7 +144,7 @@ list_none boxes pieces k found none apart =
       is_crowded = λ t. absurd (cc);
     })
 
--- all that lies over it is of one box
+-- where it joins, what was found is of two boxes
 pub joins_found : (boxes : List MaskBox) (pieces : List Placed) (k : ℕ) (all : Bool) (found : List ℕ) → AreFound pieces (IsOver boxes pieces k) all [] found → IsJoining boxes pieces k → AreOfTwo pieces found
 joins_found boxes pieces k true found f joins = joins_two boxes pieces k found (f.complete refl) joins
 joins_found boxes pieces k false found f joins = f.two refl

@@ -19,6 +19,10 @@ use Rattle.net_extract.specs.Spots.{AreSpots, ArePieceSpots, cut_spot}
 
 -- ---- what is found over one cut
 
+-- at most so many pieces are listed over a cut
+abbrev pub most_listed : ℕ
+most_listed = 16
+
 -- a piece overlaps box number k
 pub record IsOver (boxes : List MaskBox) (pieces : List Placed) (k x : ℕ) : Type 0 where
   pub among : x < length pieces
@@ -35,14 +39,16 @@ pub record AreFound (pieces : List Placed) (Is : ℕ → Type 0) (all : Bool) (o
   pub complete : IsTrue all → (b : ℕ) → Is b → Contains new b
   pub two : IsFalse all → AreOfTwo pieces new
 
--- a tree of which the spots are of pieces, of which there are so many
+-- a tree of which the tags are below a number, that of the pieces
 pub record IsPlanWithin (count : ℕ) (plan : Plan) : Type 0 where
   pub stands : IsPlan plan
   pub tags : AreTagsWithin count plan.spots.items
 
 -- a node of a spot of one of three groves that holds a query
 abbrev pub IsOfAny : PieceGroves → Query → ℕ → Type 0
-IsOfAny groves query y = IsOf groves.diffusion.plan.spots.items (Holds query) y ⊎ (IsOf groves.poly.plan.spots.items (Holds query) y ⊎ IsOf groves.metal.plan.spots.items (Holds query) y)
+IsOfAny groves query y =
+    IsOf groves.diffusion.plan.spots.items (Holds query) y
+    ⊎ (IsOf groves.poly.plan.spots.items (Holds query) y ⊎ IsOf groves.metal.plan.spots.items (Holds query) y)
 
 -- a grove of the pieces on a layer
 pub record IsPieceGrove (boxes : List MaskBox) (pieces : List Placed) (layer : MaskLayer) (grove : Grove) : Type 0 where
@@ -61,7 +67,7 @@ pub record ArePieceGroves (boxes : List MaskBox) (pieces : List Placed) (groves 
 
 -- All pieces over box number k if it is a cut that joins, unless that is told to be crowded; otherwise none.
 pub record IsListOver (boxes : List MaskBox) (pieces : List Placed) (k : ℕ) (crowded : Bool) (found : List ℕ) : Type 0 where
-  pub few : length found ≤ 16
+  pub few : length found ≤ most_listed
   pub sound : (x : ℕ) → Contains found x → IsJoining boxes pieces k × IsOver boxes pieces k x
   pub complete : IsFalse crowded → IsJoining boxes pieces k → (x : ℕ) → IsOver boxes pieces k x → Contains found x
   pub is_crowded : IsTrue crowded → IsJoining boxes pieces k × (length found ≡ 0)
@@ -77,11 +83,11 @@ pub record IsInList (starts : List ℕ) (k e : ℕ) : Type 0 where
 abbrev pub IsListed : List ℕ → ℕ → Type 0
 IsListed starts k = slice_index starts k < slice_index starts (k + 1)
 
--- Lists for the boxes before box number n: where those of each start and, of each entry, the piece and the cut. Each is empty or has all pieces over a cut that joins.
+-- The lists of the boxes before box number n, one behind another: where each starts, and of each entry the piece and the cut. A list is empty or has all pieces over a cut that joins.
 pub record AreLists (boxes : List MaskBox) (pieces : List Placed) (n : ℕ) (starts nodes cuts : List ℕ) : Type 0 where
   pub counted : length starts ≡ n + 1
   pub one_each : length cuts ≡ length nodes
-  pub few : length nodes ≤ 16 * n
+  pub few : length nodes ≤ most_listed * n
   pub within : (k : ℕ) → k ≤ n → slice_index starts k ≤ length nodes
   pub ends : slice_index starts n ≡ length nodes
   pub sound : (k e : ℕ) → k < n → IsInList starts k e → (slice_index cuts e ≡ k) × IsJoining boxes pieces k × IsOver boxes pieces k (slice_index nodes e)
@@ -103,7 +109,7 @@ pub record IsLastOf (nodes : List ℕ) (a n last : ℕ) : Type 0 where
   pub is : 0 < last → slice_index nodes (last - 1) ≡ a
   pub none : (e : ℕ) → last ≤ e → e < n → slice_index nodes e ≢ a
 
--- the last of the first n entries that is of each piece, and for each of them the last before it of its piece
+-- for each piece its last entry among the first n, and for each of these the one before it of the same piece
 pub record AreChains (count : ℕ) (nodes : List ℕ) (n : ℕ) (heads nexts : List ℕ) : Type 0 where
   pub one_head_each : length heads ≡ count
   pub one_next_each : length nexts ≡ n

@@ -1,5 +1,5 @@
 //! The pieces over each cut, in lists, and the cuts over each piece.
-ghost use Rattle.std.specs.Prelude.{◌≡◌, ℕ, ◌+◌, ◌^◌, ◌<◌, [], All, IfOk, OnOk, length, slice_index};
+ghost use Rattle.std.specs.Prelude.{◌≡◌, ◌+◌, ◌^◌, ◌<◌, [], All, IfOk, OnOk, length};
 ghost use Rattle.crossings.specs.Boxes.{AreSearchable};
 ghost use Rattle.net_extract.specs.CutLists.{AreChains, AreCrowdedSpots, AreLists, ArePieceGroves, IsListedOver};
 ghost use Rattle.net_extract.specs.Linking.{AreGathered};
@@ -21,7 +21,7 @@ pub struct CutLists {
 }
 
 /// The entries of each piece, from the last one back: `heads` has for each piece one more than its last entry, and `nexts` for
-/// each entry one more than the last before it of its piece; 0 where there is none.
+/// each entry one more than the last before it of its piece; 0 where there is none, so that each takes four bytes.
 #[derive(Debug, Drop)]
 pub struct Chains {
     pub heads: Vec<u32>,
@@ -97,7 +97,7 @@ pub fn cuts_of(
 ) -> Result<(), AllocError>
     requires chains { AreChains count lists.now.nodes.items (length lists.now.nodes.items) chains.now.heads.items chains.now.nexts.items }
     requires one_each { length lists.now.cuts.items ≡ length lists.now.nodes.items }
-    requires few { (e : ℕ) → e < length lists.now.cuts.items → count + slice_index lists.now.cuts.items e < 2 ^ 32 }
+    requires few { All (λ k. count + k < 2 ^ 32) lists.now.cuts.items }
     requires in_range { a < count }
     ensures { OnOk result (AreGathered (IsListedOver lists.now.nodes.items lists.now.cuts.items count a) [] found.new.items) }
 {

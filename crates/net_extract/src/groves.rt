@@ -1,6 +1,6 @@
 //! Trees of spots from which those that have been reached are left out: as the search goes on, ever fewer groups are walked
 //! through.
-ghost use Rattle.std.specs.Prelude.{◌≡◌, ◌+◌, ◌<◌, ◌≤◌, ◌<ℤ◌, [], IfOk, IsTrue, List, OnOk, length};
+ghost use Rattle.std.specs.Prelude.{◌≡◌, ◌+◌, ◌<◌, ◌≤◌, ◌<ℤ◌, [], IfOk, IsTrue, OnOk, length};
 ghost use Rattle.box_tree.specs.declared.spots.Group.{Group};
 ghost use Rattle.box_tree.specs.declared.spots.Spot.{Spot};
 ghost use Rattle.box_tree.specs.Queries.{Holds, IsQuery};

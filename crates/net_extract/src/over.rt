@@ -1,5 +1,5 @@
 //! What lies over a cut: all pieces over it, or where they are many, so many that they are of two boxes.
-ghost use Rattle.std.specs.Prelude.{◌≡◌, ℕ, ◌<◌, ◌≤◌, ◌↔◌, [], All, IfOk, IsTrue, OnOk, length};
+ghost use Rattle.std.specs.Prelude.{◌<◌, ◌≤◌, ◌↔◌, [], All, IfOk, IsTrue, OnOk, length};
 ghost use Rattle.box_tree.specs.Queries.{Holds, IsQuery};
 ghost use Rattle.crossings.specs.Boxes.{AreSearchable};
 ghost use Rattle.net_extract.specs.CutLists.{AreFound, AreOfTwo, ArePieceGroves, IsListOver, IsOfAny, IsPlanWithin};
@@ -13,7 +13,7 @@ use box_tree::{Query, Question};
 use lam_geom::{MaskBox, MaskLayer};
 use std::alloc::AllocError;
 
-// As many pieces at most are listed over a cut.
+// At most so many pieces are listed over a cut.
 const LISTED: usize = 16;
 
 /// The pieces on each layer that conducts.
@@ -24,8 +24,9 @@ pub struct PieceGroves {
     pub metal: Grove,
 }
 
-/// The pieces over a box that is a cut and joins something, in place of what was in `found`, where they are few; where they are
-/// many, true, and no piece; and for any other box no piece. The only refusal is want of memory.
+/// Puts into `found`, in place of what was there, the pieces over a box that is a cut and joins something. Where they are many,
+/// the cut is crowded: that is true, and `found` is empty. For any other box `found` is empty. The only refusal is want of
+/// memory.
 pub fn list_over(
     boxes: &[MaskBox],
     pieces: &Pieces,
@@ -107,6 +108,7 @@ fn find_on(
         } else if group.inside == 0 {
             let end = group.start + group.count;
             find_within(plan, group.start, end, query, found)?;
+            // A box has two pieces at most, so that many are always of two boxes.
             if found.len() > LISTED && is_of_two(pieces, found.as_slice()) {
                 return Ok(false);
             }
@@ -118,7 +120,7 @@ fn find_on(
     Ok(true)
 }
 
-// Puts the nodes of spots at some places that hold a query behind those in `found`.
+// Puts the nodes of spots at some places that hold a query behind those in `found`, marks or no marks.
 fn find_within(
     plan: &Plan,
     first: u32,

@@ -1,12 +1,12 @@
 //! One step of a search: the nodes without a mark that some spots show are given a net.
-ghost use Rattle.std.specs.Prelude.{◌≡◌, ℕ, ◌<◌, ◌↔◌, [], All, IfOk, IsTrue, OnOk, length};
+ghost use Rattle.std.specs.Prelude.{◌<◌, ◌↔◌, All, IsTrue, OnOk, length};
 ghost use Rattle.box_tree.specs.Queries.{Holds, IsQuery};
 ghost use Rattle.crossings.specs.Boxes.{AreSearchable};
 ghost use Rattle.crossings.specs.Spots.{AreBoxesOn};
 ghost use Rattle.lam_geom.specs.declared.boxes.MaskLayer.TheVariants.{NB};
 ghost use Rattle.net_extract.specs.Groves.{AreTagsWithin, IsGrove, IsOf};
 ghost use Rattle.net_extract.specs.Linking.{AreGathered, IsPairWith};
-ghost use Rattle.net_extract.specs.Pieces.{box_of, IsOfBoxes};
+ghost use Rattle.net_extract.specs.Pieces.{IsOfBoxes};
 ghost use Rattle.net_extract.specs.Spreading.{IsGroveReached, IsBuriedOf, IsOfPair};
 
 use crate::groves::{Grove, unreached};

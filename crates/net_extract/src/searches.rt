@@ -1,13 +1,12 @@
 //! Searches over pieces and cuts: from each node to those that are beside it.
-ghost use Rattle.std.specs.Prelude.{◌≡◌, ◌<◌, pos, negsuc, OnOk, None, length};
+ghost use Rattle.std.specs.Prelude.{◌≡◌, ◌<◌, OnOk, None, length};
 ghost use Rattle.box_tree.specs.declared.query.Question.TheVariants.{NearOfOther};
 ghost use Rattle.box_tree.specs.Queries.{IsQuery};
 ghost use Rattle.crossings.specs.Boxes.{AreSearchable};
 ghost use Rattle.crossings.specs.Spots.{AreBoxesOn};
 ghost use Rattle.lam_geom.specs.declared.boxes.MaskLayer.TheVariants.{NB};
 ghost use Rattle.graph_search.specs.Search.{mark_of};
-ghost use Rattle.net_extract.specs.Linking.{AreBeside, IsNode, IsOverCut, cut_node};
-ghost use Rattle.net_extract.specs.Linking.{IsJoining};
+ghost use Rattle.net_extract.specs.Linking.{AreBeside, IsJoining, IsNode, IsOverCut, cut_node};
 ghost use Rattle.net_extract.specs.Pieces.{ArePiecesOf, Conducts};
 ghost use Rattle.net_extract.specs.Spreading.{IsSearch, IsStep, IsAnswer, IsPartner, IsSpread, IsBegun};
 
