@@ -18,10 +18,10 @@ use Rattle.crossings.specs.declared.crossing.Crossing.{Crossing}
 use Rattle.crossings.specs.Boxes.{IsOn, area_at, layer_at}
 use Rattle.net_extract.specs.declared.placing.Placed.{Placed}
 use Rattle.net_extract.specs.Groves.{spot_of, IsOf}
-use Rattle.net_extract.specs.Linking.{IsPairWith, IsJoining, IsOverCut, cut_node, AreBeside}
+use Rattle.net_extract.specs.Linking.{IsPairWith, IsJoining, IsOverCut, cut_node, AreBeside, IsOver}
 use Rattle.net_extract.specs.Pieces.{box_of, area_of, no_piece, piece_at, IsPiece, ArePieces}
 use Rattle.net_extract.specs.Spots.{IsPieceOn, MayBeBuried, piece_spot, box_spot, cut_spot, AreSpots, ArePieceSpots, AreBoxSpots}
-use Rattle.net_extract.specs.CutLists.{IsOver, AreOfTwo, AreLists, IsInList, IsCrowded, AreCrowdedSpots, IsListedOver}
+use Rattle.net_extract.specs.CutLists.{AreOfTwo, AreLists, IsInList, IsCrowded, AreCrowdedSpots, IsListedOver}
 use Rattle.net_extract.specs.Spreading.{IsAnswer, IsCrowdedAnswer, IsPartner, IsBuriedOf}
 use Rattle.net_extract.proofs.Geometry.{overlaps_back}
 use Rattle.net_extract.proofs.Shown.{over_query, on_layers, not_a_cut, below_zero, at_most_below}
@@ -140,7 +140,7 @@ piece_back tech boxes pieces a lt y (inr (inr (inr c))) = inr (inr (record { amo
 -- a crowded cut that answers is one over the piece
 pub crowded_over : (boxes : List MaskBox) (pieces : List Placed) (starts : List ℕ) (a y : ℕ) → a < length pieces → IsCrowdedAnswer boxes pieces starts (over_query (area_of pieces a) (box_of pieces a)) y → IsOverCut boxes pieces a y
 crowded_over boxes pieces starts a y lt h =
-    record { among = lt; cut = h.cut; node = h.node; joins = h.crowded.0; over = at_most_below (gap_of_boxes (area_of pieces a) (area_at boxes h.cut)) h.answers.0 }
+    record { cut = h.cut; node = h.node; joins = h.crowded.0; is = record { among = lt; over = at_most_below (gap_of_boxes (area_of pieces a) (area_at boxes h.cut)) h.answers.0 } }
 
 -- a cut over a piece has the piece in its list, or is crowded
 pub over_cases : (boxes : List MaskBox) (crossings : List Crossing) (pieces : List Placed) (firsts starts nodes cuts : List ℕ) (a y : ℕ) → ArePieces boxes crossings pieces firsts → a < length pieces
@@ -149,7 +149,7 @@ over_cases boxes crossings pieces firsts starts nodes cuts a y p lt l o =
     let among : o.cut < length boxes = o.joins.2.is_cut.among in
     elim (cases_lt (get_or starts o.cut 0) (get_or starts (o.cut + 1) 0)) [
       | inl listed ↦
-          (let f : (e : ℕ) × IsInList starts o.cut e × (get_or nodes e 0 ≡ a) = l.complete o.cut a among listed (record { among = lt; over = o.over }) in
+          (let f : (e : ℕ) × IsInList starts o.cut e × (get_or nodes e 0 ≡ a) = l.complete o.cut a among listed o.is in
           let in_list = f.1 in
           let before = in_list.before in
           let within = l.within (o.cut + 1) (omega arith) in
@@ -162,18 +162,17 @@ over_cases boxes crossings pieces firsts starts nodes cuts a y p lt l o =
             cut = o.cut;
             node = o.node;
             crowded = (o.joins, λ listed. absurd (omega arith));
-            answers = (below_zero (gap_of_boxes (area_of pieces a) (area_at boxes o.cut)) o.over, λ e. ne (sym e));
+            answers = (below_zero (gap_of_boxes (area_of pieces a) (area_at boxes o.cut)) o.is.over, λ e. ne (sym e));
           }))
     ]
 
 -- a cut that has a piece in its list is over it
-pub listed_over : (boxes : List MaskBox) (pieces : List Placed) (starts nodes cuts : List ℕ) (a y : ℕ) → a < length pieces → AreLists boxes pieces (length boxes) starts nodes cuts → IsListedOver nodes cuts (length pieces) a y → IsOverCut boxes pieces a y
-listed_over boxes pieces starts nodes cuts a y lt l h =
+pub listed_over : (boxes : List MaskBox) (pieces : List Placed) (starts nodes cuts : List ℕ) (a y : ℕ) → AreLists boxes pieces (length boxes) starts nodes cuts → IsListedOver nodes cuts (length pieces) a y → IsOverCut boxes pieces a y
+listed_over boxes pieces starts nodes cuts a y l h =
     let k : ℕ = get_or cuts h.e 0 in
     let at = l.cuts_are h.e h.among in
     let s : (get_or cuts h.e 0 ≡ k) × IsJoining boxes pieces k × IsOver boxes pieces k (get_or nodes h.e 0) = l.sound k h.e at.0 at.1 in
-    let P : ℕ → Type 0 = λ x. Overlaps (area_of pieces x) (area_at boxes k) in
-    record { among = lt; cut = k; node = h.node; joins = s.1; over = subst P h.of s.2.over }
+    record { cut = k; node = h.node; joins = s.1; is = subst (IsOver boxes pieces k) h.of s.2 }
 
 -- its node is one of so many
 pub listed_within : (boxes : List MaskBox) (pieces : List Placed) (starts nodes cuts : List ℕ) (count a n y : ℕ) → count ≡ length pieces → n ≡ length pieces + length boxes → AreLists boxes pieces (length boxes) starts nodes cuts
@@ -225,17 +224,16 @@ over_back boxes crossings pieces starts k p is_cut y o =
     ]
 
 pub over_beside : (tech : Tech) (boxes : List MaskBox) (pieces : List Placed) (k : ℕ) → IsJoining boxes pieces k → (y : ℕ) → IsOver boxes pieces k y → AreBeside tech boxes pieces (cut_node pieces k) y
-over_beside tech boxes pieces k joins y o = inr (inr (inl (record { among = o.among; cut = k; node = refl; joins = joins; over = o.over })))
+over_beside tech boxes pieces k joins y o = inr (inr (inl (record { cut = k; node = refl; joins = joins; is = o })))
 
 pub beside_over : (tech : Tech) (boxes : List MaskBox) (pieces : List Placed) (k y : ℕ) → AreBeside tech boxes pieces (cut_node pieces k) y → IsOver boxes pieces k y
 beside_over tech boxes pieces k y (inl t) = (let l = t.apart.first in absurd (omega arith))
-beside_over tech boxes pieces k y (inr (inl o)) = (let l = o.among in absurd (omega arith))
+beside_over tech boxes pieces k y (inr (inl o)) = (let l = o.is.among in absurd (omega arith))
 beside_over tech boxes pieces k y (inr (inr (inr c))) = (let l = c.first in absurd (omega arith))
 beside_over tech boxes pieces k y (inr (inr (inl o))) =
     let n = o.node in
     let same : o.cut ≡ k = omega arith in
-    let P : ℕ → Type 0 = λ j. Overlaps (area_of pieces y) (area_at boxes j) in
-    record { among = o.among; over = subst P same o.over }
+    subst (λ (j : ℕ). IsOver boxes pieces j y) same o.is
 
 pub cut_forth : (tech : Tech) (boxes : List MaskBox) (pieces : List Placed) (k : ℕ) → IsJoining boxes pieces k → (y : ℕ) → IsBesideCut boxes pieces k y → AreBeside tech boxes pieces (cut_node pieces k) y
 cut_forth tech boxes pieces k joins y h = over_beside tech boxes pieces k joins y (over_forth boxes pieces k y h)

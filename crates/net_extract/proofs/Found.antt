@@ -1,5 +1,5 @@
 -- What is found over a cut: from the spots of groves to all pieces over it, or to pieces of two boxes.
-use Rattle.std.proofs.Common.{◌≡◌, ℕ, ◌+◌, ◌<◌, ◌≤◌, All, Bool, true, false, List, [], length, Contains, ◌⊎◌, inl, inr, refl, sym, ◌∙◌, ap, subst, arith}
+use Rattle.std.proofs.Common.{◌≡◌, ℕ, ◌+◌, ◌<◌, ◌≤◌, All, Bool, true, false, List, [], length, Contains, ◌⊎◌, inl, inr, refl, sym, ap, subst, arith}
 use Rattle.box_tree.specs.declared.query.Query.{Query}
 use Rattle.box_tree.specs.declared.spots.Group.{Group}
 use Rattle.box_tree.specs.declared.spots.Spot.{Spot}
@@ -11,9 +11,9 @@ use Rattle.crossings.specs.Boxes.{IsOn, area_at, box_at, layer_at}
 use Rattle.net_extract.specs.declared.groves.Plan.{Plan}
 use Rattle.net_extract.specs.declared.over.PieceGroves.{PieceGroves}
 use Rattle.net_extract.specs.declared.placing.Placed.{Placed}
-use Rattle.net_extract.specs.CutLists.{AreFound, AreOfTwo, ArePieceGroves, IsListOver, IsOfAny, IsOver}
+use Rattle.net_extract.specs.CutLists.{AreFound, AreOfTwo, ArePieceGroves, IsListOver, IsOfAny}
 use Rattle.net_extract.specs.Groves.{AreTagsWithin, IsOf, IsPlan, IsUnreached, IsUnreachedWithin}
-use Rattle.net_extract.specs.Linking.{AreGathered, IsJoining}
+use Rattle.net_extract.specs.Linking.{AreGathered, IsJoining, IsOver}
 use Rattle.net_extract.specs.Pieces.{ArePieces}
 use Rattle.net_extract.proofs.Beside.{answers_forth, answers_back, over_forth, over_back, two_joins, joins_two}
 use Rattle.net_extract.proofs.Shown.{over_query}
@@ -101,10 +101,9 @@ found_less pieces P Q all old new part f = record {
 
 -- what is found is the pieces over a cut that was read
 pub found_over : (boxes : List MaskBox) (crossings : List Crossing) (pieces : List Placed) (starts : List ℕ) (groves : PieceGroves) (own : MaskBox) (k : ℕ) (all : Bool) (empty found : List ℕ) → ArePieces boxes crossings pieces starts
-    → ArePieceGroves boxes pieces groves → own ≡ box_at boxes k → own.layer ≡ NC → empty ≡ [] → AreFound pieces (IsOfAny groves (over_query own.area k)) all empty found → AreFound pieces (IsOver boxes pieces k) all [] found
-found_over boxes crossings pieces starts groves own k all empty found p g is on none f =
+    → ArePieceGroves boxes pieces groves → own ≡ box_at boxes k → layer_at boxes k ≡ NC → empty ≡ [] → AreFound pieces (IsOfAny groves (over_query own.area k)) all empty found → AreFound pieces (IsOver boxes pieces k) all [] found
+found_over boxes crossings pieces starts groves own k all empty found p g is is_cut none f =
     let over = over_query (area_at boxes k) k in
-    let is_cut : layer_at boxes k ≡ NC = sym (ap (λ (m : MaskBox). m.layer) is) ∙ on in
     let F : MaskBox → Type 0 = λ m. AreFound pieces (IsOfAny groves (over_query m.area k)) all [] found in
     let E : List ℕ → Type 0 = λ xs. AreFound pieces (IsOfAny groves (over_query own.area k)) all xs found in
     let h : AreFound pieces (IsOfAny groves over) all [] found = subst F is (subst E none f) in

@@ -8,8 +8,8 @@ use Rattle.std.proofs.lemmas.List.Elements.{Contains-get_or}
 use Rattle.box_tree.specs.declared.spots.Spot.{Spot}
 use Rattle.lam_geom.specs.declared.boxes.MaskBox.{MaskBox}
 use Rattle.net_extract.specs.declared.placing.Placed.{Placed}
-use Rattle.net_extract.specs.CutLists.{AreChains, AreCrowdedSpots, AreLists, IsCrowded, IsInList, IsLastOf, IsListOver, IsListed, IsListedOver, IsOver}
-use Rattle.net_extract.specs.Linking.{AreGathered, IsJoining}
+use Rattle.net_extract.specs.CutLists.{AreChains, AreCrowdedSpots, AreLists, IsCrowded, IsInList, IsLastOf, IsListOver, IsListed, IsListedOver}
+use Rattle.net_extract.specs.Linking.{AreGathered, IsJoining, IsOver}
 use Rattle.net_extract.specs.Spots.{AreSpots, cut_spot}
 use Rattle.net_extract.proofs.Growth.{below_cases, gathered_more, gathered_none, gathered_push}
 use Rattle.net_extract.proofs.Shown.{shown_push, shown_skip}

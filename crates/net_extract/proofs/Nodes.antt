@@ -40,7 +40,7 @@ pub beside_node : (tech : Tech) (boxes : List MaskBox) (pieces : List Placed) (x
 beside_node tech boxes pieces x y h = elim h [
   | inl t ↦ inl t.apart.second
   | inr (inl o) ↦ inr (o.cut, o.node, o.joins)
-  | inr (inr (inl o)) ↦ inl o.among
+  | inr (inr (inl o)) ↦ inl o.is.among
   | inr (inr (inr c)) ↦ inl c.second
 ]
 
@@ -93,12 +93,12 @@ step_links tech boxes crossings pieces starts x z a p h stands =
       ]
       | inr over ↦ (let n = over.node in elim h [
         | inl t ↦ (let l = t.apart.first in absurd (omega arith))
-        | inr (inl o) ↦ (let l = o.among in absurd (omega arith))
+        | inr (inl o) ↦ (let l = o.is.among in absurd (omega arith))
         | inr (inr (inl o)) ↦
             (let m = o.node in
             let same : o.cut ≡ over.cut = omega arith in
             let P : ℕ → Type 0 = λ k. Overlaps (area_of pieces z) (area_at boxes k) in
-            (z, inl (o.among, refl), over_joined tech boxes crossings pieces starts over.cut a z p over.joins over.among o.among over.over (subst P same o.over)))
+            (z, inl (o.is.among, refl), over_joined tech boxes crossings pieces starts over.cut a z p over.joins over.is.among o.is.among over.is.over (subst P same o.is.over)))
         | inr (inr (inr c)) ↦ (let l = c.first in absurd (omega arith))
       ])
     ]
@@ -128,8 +128,8 @@ link_nodes tech boxes crossings pieces starts a b ordered p h =
       | inr (inl (k, both)) ↦
           (let joins : IsJoining boxes pieces k = (a, b, both) in
           let n : ℕ = cut_node pieces k in
-          reaches_more Step a n b (inr (inl (record { among = both.apart.first; cut = k; node = refl; joins = joins; over = both.first })))
-          (reaches_one Step n b (inr (inr (inl (record { among = both.apart.second; cut = k; node = refl; joins = joins; over = both.second }))))))
+          reaches_more Step a n b (inr (inl (record { cut = k; node = refl; joins = joins; is = record { among = both.apart.first; over = both.first } })))
+          (reaches_one Step n b (inr (inr (inl (record { cut = k; node = refl; joins = joins; is = record { among = both.apart.second; over = both.second } }))))))
       | inr (inr c) ↦ reaches_one Step a b (inr (inr (inr c)))
     ]
 

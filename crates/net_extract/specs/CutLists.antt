@@ -6,15 +6,13 @@ use Rattle.box_tree.specs.Queries.{Holds}
 use Rattle.lam_geom.specs.declared.boxes.MaskBox.{MaskBox}
 use Rattle.lam_geom.specs.declared.boxes.MaskLayer.{MaskLayer}
 use Rattle.lam_geom.specs.declared.boxes.MaskLayer.TheVariants.{ND, NP, NM}
-use Rattle.lam_geom.specs.Gaps.{Overlaps}
-use Rattle.crossings.specs.Boxes.{area_at}
 use Rattle.net_extract.specs.declared.groves.Grove.{Grove}
 use Rattle.net_extract.specs.declared.groves.Plan.{Plan}
 use Rattle.net_extract.specs.declared.over.PieceGroves.{PieceGroves}
 use Rattle.net_extract.specs.declared.placing.Placed.{Placed}
 use Rattle.net_extract.specs.Groves.{AreTagsWithin, IsNewGrove, IsOf, IsPlan}
-use Rattle.net_extract.specs.Linking.{IsJoining}
-use Rattle.net_extract.specs.Pieces.{box_of, area_of}
+use Rattle.net_extract.specs.Linking.{IsJoining, IsOver}
+use Rattle.net_extract.specs.Pieces.{box_of}
 use Rattle.net_extract.specs.Spots.{AreSpots, ArePieceSpots, cut_spot}
 
 -- ---- what is found over one cut
@@ -22,11 +20,6 @@ use Rattle.net_extract.specs.Spots.{AreSpots, ArePieceSpots, cut_spot}
 -- at most so many pieces are listed over a cut
 abbrev pub most_listed : ℕ
 most_listed = 16
-
--- a piece overlaps box number k
-pub record IsOver (boxes : List MaskBox) (pieces : List Placed) (k x : ℕ) : Type 0 where
-  pub among : x < length pieces
-  pub over : Overlaps (area_of pieces x) (area_at boxes k)
 
 -- some pieces are of two boxes at least
 abbrev pub AreOfTwo : List Placed → List ℕ → Type 0

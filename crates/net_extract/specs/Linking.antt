@@ -56,13 +56,17 @@ IsJoining boxes pieces k = (x : ℕ) × (y : ℕ) × IsOverBoth boxes pieces k x
 abbrev pub cut_node : List Placed → ℕ → ℕ
 cut_node pieces k = length pieces + k
 
+-- piece x overlaps box number k
+pub record IsOver (boxes : List MaskBox) (pieces : List Placed) (k x : ℕ) : Type 0 where
+  pub among : x < length pieces
+  pub over : Overlaps (area_of pieces x) (area_at boxes k)
+
 -- piece x overlaps a cut that joins, and n is its node
 pub record IsOverCut (boxes : List MaskBox) (pieces : List Placed) (x n : ℕ) : Type 0 where
-  pub among : x < length pieces
   pub cut : ℕ
   pub node : n ≡ cut_node pieces cut
   pub joins : IsJoining boxes pieces cut
-  pub over : Overlaps (area_of pieces x) (area_at boxes cut)
+  pub is : IsOver boxes pieces cut x
 
 -- a piece, or a cut that joins
 abbrev pub IsNode : List MaskBox → List Placed → ℕ → Type 0

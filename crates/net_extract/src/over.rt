@@ -1,10 +1,11 @@
 //! What lies over a cut: all pieces over it, or where they are many, so many that they are of two boxes.
 ghost use Rattle.std.specs.Prelude.{◌<◌, ◌≤◌, ◌↔◌, [], All, IfOk, IsTrue, OnOk, length};
 ghost use Rattle.box_tree.specs.Queries.{Holds, IsQuery};
-ghost use Rattle.crossings.specs.Boxes.{AreSearchable};
+ghost use Rattle.crossings.specs.Boxes.{AreSearchable, IsOn};
+ghost use Rattle.lam_geom.specs.declared.boxes.MaskLayer.TheVariants.{NC};
 ghost use Rattle.net_extract.specs.CutLists.{AreFound, AreOfTwo, ArePieceGroves, IsListOver, IsOfAny, IsPlanWithin};
 ghost use Rattle.net_extract.specs.Groves.{IsOf, IsPlan, IsUnreachedWithin};
-ghost use Rattle.net_extract.specs.Linking.{AreGathered};
+ghost use Rattle.net_extract.specs.Linking.{AreGathered, IsOver};
 ghost use Rattle.net_extract.specs.Pieces.{ArePiecesOf};
 
 use crate::groves::{Grove, Plan, is_passed_over};
@@ -40,19 +41,11 @@ pub fn list_over(
     requires in_range { box_no < length boxes.now }
     ensures { IfOk result (λ crowded. IsListOver boxes.now pieces.now.placed.items box_no crowded found.new.items) }
 {
-    found.clear();
-    let own = boxes[box_no as usize];
-    if own.layer != MaskLayer::NC {
+    if boxes[box_no as usize].layer != MaskLayer::NC {
+        found.clear();
         return Ok(false);
     }
-    let query = Query {
-        area: own.area,
-        question: Question::NearOfOther {
-            reach: -1,
-            owner: box_no,
-        },
-    };
-    let all = find_all(pieces, groves, &query, found)?;
+    let all = find_over(boxes, pieces, groves, box_no, found)?;
     if !is_of_two(pieces, found.as_slice()) {
         found.clear();
         return Ok(false);
@@ -64,8 +57,32 @@ pub fn list_over(
     Ok(true)
 }
 
-// Puts the pieces on all layers that hold a query behind those in `found`, until they are many and of two boxes. Whether these are
-// all.
+// Puts the pieces over a cut in place of what was in `found`, until they are many and of two boxes. Whether these are all.
+fn find_over(
+    boxes: &[MaskBox],
+    pieces: &Pieces,
+    groves: &PieceGroves,
+    cut: u32,
+    found: &mut Vec<u32>,
+) -> Result<bool, AllocError>
+    requires searchable { AreSearchable boxes.now }
+    requires pieces { ArePiecesOf boxes.now pieces.now }
+    requires groves { ArePieceGroves boxes.now pieces.now.placed.items groves.now }
+    requires cut { IsOn boxes.now NC cut }
+    ensures { IfOk result (λ all. AreFound pieces.now.placed.items (IsOver boxes.now pieces.now.placed.items cut) all [] found.new.items) }
+{
+    found.clear();
+    let query = Query {
+        area: boxes[cut as usize].area,
+        question: Question::NearOfOther {
+            reach: -1,
+            owner: cut,
+        },
+    };
+    find_all(pieces, groves, &query, found)
+}
+
+// The same of the pieces on all layers that hold a query, behind those in `found`.
 fn find_all(
     pieces: &Pieces,
     groves: &PieceGroves,

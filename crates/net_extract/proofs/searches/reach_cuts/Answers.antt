@@ -67,7 +67,7 @@ returns c =
     (λ v. step_two tech boxes pieces C L (IsOverCut boxes pieces a) net search second (record second { front = last })
     (λ y h. elim h [
       | inl o ↦ crowded_over boxes pieces starts a y c.requires.in_range o
-      | inr o ↦ listed_over boxes pieces starts nodes cuts a y c.requires.in_range c.requires.search.lists o
+      | inr o ↦ listed_over boxes pieces starts nodes cuts a y c.requires.search.lists o
     ])
     (λ y h. over_cases boxes c.args.pieces.now.crossings.items pieces c.args.pieces.now.starts.items starts nodes cuts a y c.requires.pieces c.requires.in_range c.requires.search.lists h)
     crowded

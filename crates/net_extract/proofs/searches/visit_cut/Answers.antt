@@ -9,9 +9,8 @@ use Rattle.lam_geom.specs.declared.boxes.MaskLayer.TheVariants.{ND, NP, NM}
 use Rattle.lam_geom.specs.Places.{IsPlacedBox}
 use Rattle.crossings.specs.Boxes.{area_at, no_box}
 use Rattle.net_extract.specs.declared.searches.Search.{Search}
-use Rattle.net_extract.specs.Linking.{AreBeside, cut_node}
+use Rattle.net_extract.specs.Linking.{AreBeside, cut_node, IsOver}
 use Rattle.net_extract.specs.Spreading.{IsAnswer, IsStep}
-use Rattle.net_extract.specs.CutLists.{IsOver}
 use Rattle.std.proofs.lemmas.Result.{on_ok_weaker}
 use Rattle.net_extract.proofs.Beside.{beside_over, cut_forth, cut_back, over_beside}
 use Rattle.net_extract.proofs.Listed.{over_part, part_over}
