@@ -2,8 +2,12 @@
 """Times `check` and `extract` on CIF texts that are made to be slow: hostile.py [SHARE [PROGRAM]]
 
 Each text has 1,048,576 boxes (or that many divided by SHARE), as many as the program takes, and often a few hundred bytes: symbols of many boxes that are called many times. Their boxes lie on one another, so that pairs
-of near boxes number up to 2^39. Each line gives the seconds and the most memory (peak resident set, in MB) of `check` and of `extract`, and how each ended. The first line is a plain text of as many boxes that lie apart; the last line
-tells how many times as long the slowest took. The status is 1 where one took more than ten times as long as the plain one and more than ten seconds, or more than 400 MB.
+of near boxes number up to 2^39. Two texts besides have many calls of a symbol that draws nothing. Each line gives the seconds and the most memory (peak resident set, in MB) of `check` and of `extract`, how each ended, and
+how many times as long as in one piece `check` takes in 2 and in 64 pieces, by the clock or by the processor, whichever is less. The first line is a plain text of as many boxes that lie apart; the last line tells how many
+times as long the slowest took. A run ends after 120 seconds of the processor. The status is 1, and the line ends with SLOW, where a text
+  takes more than ten times as long as the plain one and more than ten seconds, or more than 400 MB,
+  takes more than 1.5 times as long in some number of pieces as in one, and a fifth of a second more, or
+  takes more than twice as long as its twin in TWINS, and a fifth of a second more.
 """
 import os, random, resource, subprocess, sys, tempfile, time
 from compact import PROGRAM
@@ -11,6 +15,10 @@ from compact import PROGRAM
 ROOT = os.path.dirname(os.path.dirname(os.path.abspath(__file__)))
 TECHS = [os.path.join(ROOT, "examples", name) for name in ("nmos.toml", "nmos2.toml")]
 U = 150  # hundredths of a micron
+SPLITS = (2, 64)
+LONGEST = 120  # seconds of the processor
+# Texts with the same boxes and as many commands as another: a symbol that draws nothing is called no more often for being called where a box is.
+TWINS = {"calls of nothing, inside": "calls of nothing, outside"}
 
 
 class Text:
@@ -34,8 +42,9 @@ class Text:
         self.parts.append(f"DS {self.count};{self.boxes(boxes)}DF;")
         return self.count
 
-    def call(self, symbol, x=0, y=0):
-        self.parts.append(f"C {symbol} T {x * U} {y * U};")
+    def call(self, symbol, x=0, y=0, more=0):
+        """A call, shifted by x and y, and by so many hundredths of a micron more on x."""
+        self.parts.append(f"C {symbol} T {x * U + more} {y * U};")
 
     def top(self, boxes):
         self.parts.append(self.boxes(boxes))
@@ -129,11 +138,24 @@ def texts(n):
         for _ in range(n // 16):
             text.call(symbol, rng.randrange(0, 400 * n), rng.randrange(0, 400 * n))
     yield "random, crowded", 0, text
+    # The partner of each box, which is too near, stands half the text behind it: so all that break a rule with a box of the later half stand before it.
+    text = array(metal, n, n // 2, ((80, 0), (0, 40)))
+    for j in range(n // 2):
+        text.call(1, 20, 40 * j, more=1)
+    yield "partners in the other half", 0, text
+    many = 40 * n
+    for name, inside in (("calls of nothing, outside", False), ("calls of nothing, inside", True)):
+        text, nothing = Text(), "C 1;" * many
+        text.symbol([])
+        text.parts += ["DS 2;", text.boxes([metal]), nothing if inside else "", "DF;", "" if inside else nothing, "C 2;" * many]
+        yield name, 0, text
 
 
 def measured(words, program):
+    """The seconds of a run by the clock and by the processor, the memory, and the first line that it says."""
     begun = time.time()
-    child = subprocess.Popen([program, *words], stdout=subprocess.PIPE, stderr=subprocess.PIPE)
+    limit = lambda: resource.setrlimit(resource.RLIMIT_CPU, (LONGEST, LONGEST))
+    child = subprocess.Popen([program, *words], stdout=subprocess.PIPE, stderr=subprocess.PIPE, preexec_fn=limit)
     said = child.stdout.read()[:60].split(b"\n")[0].decode()
     wrong = child.stderr.read()[:60].split(b"\n")[0].decode()
     _, status, used = os.wait4(child.pid, 0)
@@ -147,23 +169,30 @@ def main():
     n = 1024
     while share >= 4:
         n, share = n // 2, share // 4
-    slow, plain, worst = False, {}, 0
+    any_slow, plain, worst, of = False, {}, 0, {}
     print(f"{n * n} boxes")
     with tempfile.TemporaryDirectory() as folder:
         for name, kind, text in texts(n):
             file = os.path.join(folder, "cif")
             with open(file, "w") as it:
                 it.write(text.text())
-            line = f"{name:28}"
+            line, slow = f"{name:28}", False
             for word in ("check", "extract"):
                 took, user, held, said = measured([word, file, "--tech", TECHS[kind]], program)
                 plain.setdefault(word, user)
+                of[name, word] = took, user
                 worst = max(worst, user / max(plain[word], 0.01))
                 slow |= held > 400 or (user > 10 * plain[word] and user > 10)
+                slow |= name in TWINS and user > 2 * of[TWINS[name], word][1] + 0.2
                 line += f"  {word} {user:6.2f} s {held:4} MB  {said:24}"
-            print(line, flush=True)
+            for split in SPLITS:
+                in_one, (took, user, _, said) = of[name, "check"], measured(["check", file, "--tech", TECHS[kind], "--split", str(split)], program)
+                slow |= took > 1.5 * in_one[0] + 0.2 and user > 1.5 * in_one[1] + 0.2
+                line += f"  split {split} {min(took / in_one[0], user / max(in_one[1], 0.001)):5.1f}"
+            any_slow |= slow
+            print(line + "  SLOW" * slow, flush=True)
     print(f"the slowest took {worst:.1f} times as long as boxes that lie apart")
-    sys.exit(slow)
+    sys.exit(any_slow)
 
 
 if __name__ == "__main__":

@@ -15,8 +15,11 @@ def lines_of(pattern):
 
 def code_and_tests(crate):
     code = tests = 0
-    for path, lines in lines_of(f"{TOP}/crates/{crate}/src/**/*.rt").items():
-        if "tests" in os.path.relpath(path, f"{TOP}/crates/{crate}/src"):
+    files = lines_of(f"{TOP}/crates/{crate}/src/**/*.rt")
+    roots = [lines for path, lines in files.items() if os.path.basename(path) in ("lib.rt", "main.rt")]
+    modules = {lines[k + 1][len("mod "):-1] for lines in roots for k in range(len(lines) - 1) if lines[k] == "#[cfg(test)]" and lines[k + 1].endswith(";")}
+    for path, lines in files.items():
+        if os.path.relpath(path, f"{TOP}/crates/{crate}/src").removesuffix(".rt").split(os.sep)[0] in modules:
             tests += len(lines)
             continue
         begin = next((k for k in range(len(lines) - 1) if lines[k] == "#[cfg(test)]" and lines[k + 1].startswith("mod tests {")), len(lines))

@@ -2,7 +2,7 @@
 """Runs every command of a walk in docs/ and compares what it writes: tutorial.py [PROGRAM [FILE]]
 
 PROGRAM is the built program, bin/sticks of this checkout if none is given; FILE is docs/TUTORIAL.md if none is given. The walk runs in a
-folder of its own, with this checkout's examples/ and with bin/sticks and bin/picture. In the text
+folder of its own, with this checkout's examples/ and with bin/sticks, bin/picture and bin/explain. In the text
 
 - a block ``` sticks NAME is written to the file NAME, so is a block ``` toml NAME;
 - in a block ``` console each line that begins with `$ ` is a command, and the lines below it are what it has to write, standard output
@@ -46,6 +46,9 @@ def walk(program, path, folder):
     for name, target in [("bin/sticks", program), ("bin/picture", HERE / "bin/picture"), ("examples", HERE / "examples")]:
         (folder / name).parent.mkdir(exist_ok=True)
         (folder / name).symlink_to(target)
+    explain = folder / "bin/explain"
+    explain.write_text(f"#!/bin/sh\nexec '{HERE}/bin/explain' --program '{program}' \"$@\"\n", encoding="utf-8")
+    explain.chmod(0o755)
     status = runs = 0
     for line, kind, what, body in steps(path.read_text(encoding="utf-8")):
         if kind == "file":
@@ -61,7 +64,8 @@ def walk(program, path, folder):
 
 def stale_pictures():
     for cif in sorted((HERE / "examples").glob("*.cif")):
-        ran = subprocess.run([str(HERE / "bin/picture"), str(cif)], stdout=subprocess.PIPE)
+        words = [cif, "--design", cif.with_suffix(".sticks"), "--report", cif.with_suffix(".report")]
+        ran = subprocess.run([str(it) for it in [HERE / "bin/picture", *words]], stdout=subprocess.PIPE)
         if ran.returncode or ran.stdout != cif.with_suffix(".svg").read_bytes():
             yield cif.with_suffix(".svg").name
 

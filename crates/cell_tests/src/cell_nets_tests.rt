@@ -46,8 +46,8 @@ fn node(alloc: Global, name: &[u8], kind: NodeKind, row: u32) -> Result<Node, Al
     })
 }
 
-// The nets of two joints, with a node between them that a diffusion wire leaves upwards, and of a joint apart. A wire of
-// the layer given leads up to the node.
+// The nets of two joints, with a node between them that a diffusion wire leaves upwards, and of a joint apart. A wire
+// of the layer given leads up to the node.
 fn nets_through(alloc: Global, between: NodeKind, below: Layer) -> Result<Nets, AllocError> {
     let low = NodeKind::Joint {
         layer: below,

@@ -10,8 +10,8 @@ use std::test::Fail;
 use stick_cell::resolve;
 use stick_parse::Design;
 
-// Cells `a` and `b` whose ports on the border that they share are of other layers; and `s` and `t`, of which the first has a
-// port on top where the second has one on its bottom.
+// Cells `a` and `b` whose ports on the border that they share are of other layers; and `s` and `t`, of which the first
+// has a port on top where the second has one on its bottom.
 const CELLS: &str =
     "cell a\njoint m metal 0 0\njoint p poly 0 1\nport x right metal 0\nport y right poly 1\nwire metal m x\nwire poly p y\nend\n\
 cell b\njoint p poly 0 0\njoint m metal 0 1\nport x left poly 0\nport y left metal 1\nwire poly x p\nwire metal y m\nend\n\

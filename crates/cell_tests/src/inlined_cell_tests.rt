@@ -5,12 +5,12 @@ ghost use Rattle.cell_model.specs.Sound.{IsLight};
 ghost use Rattle.cell_model.specs.Nets.{HasEnds};
 ghost use Rattle.stick_cell.specs.Tables.{IsResolved};
 
-use crate::stick_cell_tests::{checked, design};
+use crate::stick_cell_tests::{chain, checked, design};
 use cell_nets::nets;
 use rule_table::Layer;
-use std::alloc::Global;
+use std::alloc::{AllocError, Global};
 use std::test::Fail;
-use stick_cell::{Axis2, Cell, CellPort, Cells, WireEnd};
+use stick_cell::{Cell, CellPort, Cells};
 use stick_parse::Side;
 
 /// Cell `a` of a design whose first line is `sticks 1` and whose first cell begins in line 2.
@@ -26,6 +26,29 @@ fn inlined(alloc: Global, cells: &str) -> Result<Cell, Fail>
     }
     let cell = cells.inline(alloc, k)?;
     Ok(cell)
+}
+
+// The names and the places of a cell's nodes.
+fn nodes_of(alloc: Global, cell: &Cell) -> Result<String, AllocError> {
+    let mut words = String::new(alloc);
+    for node in cell.nodes.as_slice() {
+        let name = std::str::from_utf8(node.name.bytes()).unwrap_or("?");
+        write!(words, "{name} {} {}/", node.col, node.row)?;
+    }
+    Ok(words)
+}
+
+// The ends of a cell's wires, the ways in which they lie, and their widths.
+fn wires_of(alloc: Global, cell: &Cell) -> Result<String, AllocError> {
+    let mut words = String::new(alloc);
+    for wire in cell.wires.as_slice() {
+        write!(
+            words,
+            "{:?} {:?} {:?} {}/",
+            wire.low, wire.high, wire.along, wire.width
+        )?;
+    }
+    Ok(words)
 }
 
 #[test]
@@ -49,35 +72,14 @@ wire metal s w.p
 end
 ";
     let cell = inlined(rt.alloc(), cells)?;
-    let nodes = cell.nodes.as_slice();
-    let want: [(&[u8], u32, u32); 6] = [
-        (b"s", 0, 0),
-        (b"v.r", 11, 20),
-        (b"v.u.p", 11, 23),
-        (b"v.u.q", 13, 23),
-        (b"w.p", 0, 1),
-        (b"w.q", 2, 1),
-    ];
-    assert_eq!(rt; nodes.len(), want.len());
-    for (node, (name, col, row)) in nodes.iter().zip(want) {
-        assert_eq!(rt; node.name.bytes(), name);
-        assert_eq!(rt; (node.col, node.row), (col, row));
-    }
-    let wires = cell.wires.as_slice();
-    let want = [
-        (2, 3, Axis2::Across),
-        (1, 2, Axis2::Up),
-        (4, 5, Axis2::Across),
-        (0, 4, Axis2::Up),
-    ];
-    assert_eq!(rt; wires.len(), want.len());
-    for (wire, (low, high, along)) in wires.iter().zip(want) {
-        assert_eq!(rt;
-            (wire.low, wire.high),
-            (WireEnd::Node(low), WireEnd::Node(high))
-        );
-        assert_eq!(rt; (wire.along, wire.width), (along, 6));
-    }
+    let nodes = nodes_of(rt.alloc(), &cell)?;
+    assert_eq!(rt;
+        nodes.as_str(),
+        "s 0 0/v.r 11 20/v.u.p 11 23/v.u.q 13 23/w.p 0 1/w.q 2 1/"
+    );
+    let wires =
+        "Node(2) Node(3) Across 6/Node(1) Node(2) Up 6/Node(4) Node(5) Across 6/Node(0) Node(4) Up 6/";
+    assert_eq!(rt; wires_of(rt.alloc(), &cell)?.as_str(), wires);
     let limits = cell.limits.as_slice();
     assert_eq!(rt; limits.len(), 2);
     assert_eq!(rt; (limits[0].a, limits[0].b, limits[0].n), (2, 3, -3));
@@ -103,17 +105,9 @@ wire poly n m 8
 end
 ";
     let cell = inlined(rt.alloc(), cells)?;
-    let want = [
-        (WireEnd::Node(0), WireEnd::Port(0)),
-        (WireEnd::Port(1), WireEnd::Node(0)),
-        (WireEnd::Node(0), WireEnd::Port(2)),
-        (WireEnd::Port(3), WireEnd::Node(0)),
-        (WireEnd::Port(4), WireEnd::Port(5)),
-    ];
-    assert_eq!(rt; cell.wires.as_slice().len(), want.len());
-    for (wire, (low, high)) in cell.wires.as_slice().iter().zip(want) {
-        assert_eq!(rt; (wire.low, wire.high), (low, high));
-    }
+    let wires =
+        "Node(0) Port(0) Across 6/Port(1) Node(0) Across 6/Node(0) Port(2) Up 6/Port(3) Node(0) Up 6/Port(4) Port(5) Across 8/";
+    assert_eq!(rt; wires_of(rt.alloc(), &cell)?.as_str(), wires);
     assert_eq!(rt; cell.ports.as_slice().len(), 6);
     for (port, wire) in cell.ports.as_slice().iter().zip([0, 1, 2, 3, 4, 4]) {
         assert_eq!(rt; port.wire, wire);
@@ -224,16 +218,7 @@ fn an_inverter_has_48_items_35_boxes_and_six_ports(rt: HostRuntime) -> Result<()
 #[test]
 fn what_is_past_65536_counts_as_65537(rt: HostRuntime) -> Result<(), Fail> {
     // Each cell uses the one before it twice: it has twice its weight and 2 more.
-    let mut text = String::new(rt.alloc());
-    text.push_str("cell c0\njoint p metal 0 0\nend\n")?;
-    for k in 1..16u32 {
-        let cell = format!(in rt.alloc();
-            "cell c{k}\nuse u c{} 0 0\nuse v c{} 0 0\nend\n",
-            k - 1,
-            k - 1
-        )?;
-        text.push_str(&cell)?;
-    }
+    let mut text = chain(rt.alloc(), "joint p metal 0 0\n", 16, true)?;
     // The number of a port's wire, 1 here, is not told where the cell is too heavy.
     text.push_str(
         "cell h\nuse u c14 0 0\nuse v c14 0 0\njoint m metal 0 0\njoint n metal 1 0\nwire metal m n\nport l left metal 0\nwire metal l m\nend\n",

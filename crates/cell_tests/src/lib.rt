@@ -2,8 +2,6 @@
 #![tactic(auto)]
 
 #[cfg(test)]
-mod buried_contact_tests;
-#[cfg(test)]
 mod cell_nets_tests;
 #[cfg(test)]
 mod grid_plan_tests;

@@ -142,19 +142,21 @@ record HasBreak (tech : Tech) (boxes : List MaskBox) (fault : TextFault) : Type 
   is_first : IsFirstBreak tech boxes first
   is : fault ≡ Broken first
 
-ends_same : (first second : Break) → IsNotAfter first second.rule second.a second.b → IsNotAfter second first.rule first.a first.b → (first.rule ≡ second.rule) × (first.a ≡ second.a) × (first.b ≡ second.b)
-ends_same first second (inl less) (inl more) = absurd (omega arith)
-ends_same first second (inl less) (inr back) = let e = ap number_of back.0 in absurd (omega (arith, less, e))
-ends_same first second (inr here) (inl more) = let e = ap number_of here.0 in absurd (omega (arith, more, e))
-ends_same first second (inr (e, inl less)) (inr (d, inl more)) = absurd (omega arith)
-ends_same first second (inr (e, inl less)) (inr (d, inr back)) = let same = back.0 in absurd (omega (arith, less, same))
-ends_same first second (inr (e, inr here)) (inr (d, inl more)) = let same = here.0 in absurd (omega (arith, more, same))
-ends_same first second (inr (e, inr here)) (inr (d, inr back)) = let le = here.1 in let ge = back.1 in (e, here.0, omega (arith, le, ge))
+-- neither of two is after the other
+ends_same : (first second : Break) (rule other : Rule) → first.rule ≡ number_of rule → second.rule ≡ number_of other → IsNotAfter first other second.a second.b → IsNotAfter second rule first.a first.b
+    → (first.rule ≡ second.rule) × (first.a ≡ second.a) × (first.b ≡ second.b)
+ends_same first second rule other is at (inl less) (inl more) = absurd (omega (arith, is, at, less, more))
+ends_same first second rule other is at (inl less) (inr back) = let e = back.0 in absurd (omega (arith, is, at, less, e))
+ends_same first second rule other is at (inr here) (inl more) = let e = here.0 in absurd (omega (arith, is, at, more, e))
+ends_same first second rule other is at (inr (e, inl less)) (inr (d, inl more)) = absurd (omega (arith, less, more))
+ends_same first second rule other is at (inr (e, inl less)) (inr (d, inr back)) = let same = back.0 in absurd (omega (arith, less, same))
+ends_same first second rule other is at (inr (e, inr here)) (inr (d, inl more)) = let same = here.0 in absurd (omega (arith, more, same))
+ends_same first second rule other is at (inr (e, inr here)) (inr (d, inr back)) = let le = here.1 in let ge = back.1 in (e ∙ sym at, here.0, omega (arith, le, ge))
 
 breaks_same : (tech : Tech) (boxes : List MaskBox) (first second : Break) → IsFirstBreak tech boxes first → IsFirstBreak tech boxes second → first ≡ second
 breaks_same tech boxes first second h k =
-    let same = ends_same first second (h.least second.rule second.a second.b k.broken) (k.least first.rule first.a first.b h.broken) in
-    ap (λ (rule : Rule). record { rule = rule; a = first.a; b = first.b }) same.0
+    let same = ends_same first second h.rule k.rule h.numbered k.numbered (h.least k.rule second.a second.b k.broken) (k.least h.rule first.a first.b h.broken) in
+    ap (λ (n : ℕ). record { rule = n; a = first.a; b = first.b }) same.0
     ∙ (ap (λ (n : ℕ). record { rule = second.rule; a = n; b = first.b }) same.1 ∙ ap (λ (n : ℕ). record { rule = second.rule; a = second.a; b = n }) same.2)
 
 one_break : (tech : Tech) → HaveOneFault (HasBreak tech)
@@ -174,5 +176,5 @@ verdicts tech text short readings =
       one_output = λ a b h k. h.written ∙ sym k.written;
       one_cause = λ a b na nb h k. refused_once (HasBreak tech) (one_break tech) text g a b (verdict_refused tech text a na h) (verdict_refused tech text b nb k);
       not_both = λ output fault named h k.
-          not_refused (HasBreak tech) text g h.boxes h.are_boxes (λ fault broken. h.keep broken.first.rule broken.first.a broken.first.b broken.is_first.broken) fault (verdict_refused tech text fault named k);
+          not_refused (HasBreak tech) text g h.boxes h.are_boxes (λ fault broken. h.keep broken.is_first.rule broken.first.a broken.first.b broken.is_first.broken) fault (verdict_refused tech text fault named k);
     }

@@ -7,20 +7,26 @@ use cif_read::{CifFault, CifReadFault, FlatFault};
 use flat_check::Break;
 use net_extract::ExtractFault;
 use std::alloc::AllocError;
+use thiserror::Error;
 
 /// Why a text has no netlist, or does not keep the rules.
-#[derive(Clone, Copy, Debug, PartialEq, Eq)]
+#[derive(Clone, Copy, Debug, PartialEq, Eq, Error)]
 pub enum TextFault {
     /// It has no meaning: its first fault.
+    #[error("the text has a fault")]
     Cif(CifFault),
     /// It has more than 1,048,576 boxes.
+    #[error("too many boxes")]
     TooMany,
     /// It has no netlist: two of its boxes, poly and diffusion, overlap and do not cross properly. The first pair, by their
     /// numbers.
+    #[error("two boxes do not cross properly")]
     NotProper(u32, u32),
     /// It does not keep the rules: the first break.
+    #[error("a rule is broken")]
     Broken(Break),
     /// Memory ran out.
+    #[error("out of memory")]
     OutOfMemory,
 }
 

@@ -1,5 +1,5 @@
 -- What each command is answered.
-use Rattle.std.proofs.Common.{◌≡◌, ℤ, FitsSigned, of_z, to_z, w64, Bool, Ok, refl}
+use Rattle.std.proofs.Common.{◌≡◌, ℕ, ℤ, FitsSigned, of_z, to_z, w64, Bool, Ok, refl}
 use Rattle.std.proofs.lemmas.Int.{to_z-of_z}
 use Rattle.cif_lex.specs.declared.command.Command.{Command}
 use Rattle.cif_lex.specs.declared.command.Command.TheVariants.{Nothing, Define, Finish, Layer, Area, Call, Extension}
@@ -33,7 +33,7 @@ pub area_is : (state : State) (command : Command) (l w x y : ℤ) → command �
 unfolding act
 area_is state command l w x y e fl fw fx fy = rw (e, to_z-of_z w64 l fl, to_z-of_z w64 w fw, to_z-of_z w64 x fx, to_z-of_z w64 y fy) refl
 
-pub call_is : (state : State) (command : Command) (n : ℤ) (place : Placement) (bad is_turned : Bool) → command ≡ Call n place bad is_turned → FitsSigned w64 n
-    → act state command ≡ call state (to_z w64 (of_z w64 n)) place bad
+pub call_is : (state : State) (command : Command) (n : ℤ) (place : Placement) (bad is_turned : Bool) (divisor : ℕ) → command ≡ Call n place bad is_turned divisor → FitsSigned w64 n
+    → act state command ≡ call state (to_z w64 (of_z w64 n)) place bad divisor
 unfolding act
-call_is state command n place bad is_turned e fn = rw (e, to_z-of_z w64 n fn) refl
+call_is state command n place bad is_turned divisor e fn = rw (e, to_z-of_z w64 n fn) refl

@@ -96,13 +96,6 @@ pub adds_called : (now after : List Drawn) (place all : Placement) (boxes : List
 adds_called now after place all boxes symbol turn x y step is same e =
     e ∙ (ap (λ (zs : List Drawn). now ++ zs) (map_twice place (record { turn = turn; x = x; y = y }) all (get_or boxes symbol []) same) ∙ ap (λ (s : ForeignStep). now ++ map (placed_box place) (drawn_by boxes s)) (sym is))
 
--- a symbol without boxes
-pub adds_nothing : (now : List Drawn) (place : Placement) (boxes : List (List Drawn)) (symbol turn : ℕ) (x y : ℤ) (step : ForeignStep) → step ≡ Called symbol turn x y → get_or boxes symbol [] ≡ []
-    → now ≡ now ++ map (placed_box place) (drawn_by boxes step)
-adds_nothing now place boxes symbol turn x y step is none =
-    sym (append-nil now)
-    ∙ (ap (λ (zs : List Drawn). now ++ map (placed_box place) (map (placed_box (record { turn = turn; x = x; y = y })) zs)) (sym none) ∙ ap (λ (s : ForeignStep). now ++ map (placed_box place) (drawn_by boxes s)) (sym is))
-
 -- ---- sizes
 
 pub solid_pushed : (now after : List MaskBox) (one : MaskBox) → after ≡ now ++ one ∷ [] → IsSolidWithin (2 ^ 55) (drawn_of one) → All (IsSolidWithin (2 ^ 55)) (map drawn_of now) → All (IsSolidWithin (2 ^ 55)) (map drawn_of after)

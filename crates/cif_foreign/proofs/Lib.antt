@@ -6,3 +6,4 @@ pub mod Flat
 pub mod Commands
 pub mod Walking
 pub mod Staying
+pub mod Filling

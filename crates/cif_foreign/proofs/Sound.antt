@@ -27,12 +27,13 @@ use Rattle.cif_foreign.specs.Sheets.{Step, Symbol, own, called, depth_of_step, d
 use Rattle.cif_foreign.specs.Files.{step_of, symbol_of, no_symbol, IsStepOf}
 use Rattle.cif_foreign.specs.Readings.{begun_of, symbols_of, state_of, level_from, called_depth, HasTurn, IsSoundLevel, AreSoundSymbols, IsSound}
 use Rattle.cif_lex.specs.Commands.{is_far}
+use Rattle.cif_lex.specs.Shifts.{is_odd}
 use Rattle.cif_read.proofs.Scales.{neither}
 use Rattle.cif_read.proofs.Sound.{places_added, known_at, place_below}
 use Rattle.lam_geom.specs.declared.boxes.MaskLayer.{MaskLayer}
 use Rattle.cif_read.specs.Files.{IsWithin}
 use Rattle.cif_lex.specs.declared.placement.Placement.{Placement}
-use Rattle.cif_read.specs.Acts.{Named, is_bad_symbol, is_bad_factor, is_bad_call, is_odd, is_odd_area, scaled, drawn_box}
+use Rattle.cif_read.specs.Acts.{Named, is_bad_symbol, is_bad_factor, is_bad_call, is_odd_area, scaled, drawn_box}
 use Rattle.cif_foreign.specs.Acts.{State, Level, empty, numbered, is_known, place_of, boxed, scaled_place, called_on, is_too_deep, drawn_on, defined, call}
 use Rattle.cif_foreign.proofs.Building.{built_push}
 use Rattle.cif_foreign.proofs.Symbols.{depths_same, AreInOrder}
@@ -45,8 +46,8 @@ turn_of (Define n above below) body is = tt
 turn_of Finish body is = tt
 turn_of (Layer layer) body is = tt
 turn_of (Area l w x y) body is = tt
-turn_of (Call n place bad is_turned) body (inl is) = is.1.2.turn
-turn_of (Call n place bad is_turned) body (inr is) = let e = is.0 in absurd cc
+turn_of (Call n place bad is_turned divisor) body (inl is) = is.1.2.turn
+turn_of (Call n place bad is_turned divisor) body (inr is) = let e = is.0 in absurd cc
 turn_of Extension body is = tt
 
 -- ---- whether a definition is open
@@ -205,16 +206,16 @@ word_is z near = omega (arith, ints, near.0, near.1)
 pub farther : (z : ℤ) → IsWithin (2 ^ 30) z → IsWithin (2 ^ 47) z
 farther z near = (omega (arith, ints, near.0), omega (arith, ints, near.1))
 
--- a number of a shift by machine words, as it is seen
-pub seen_even : (above below z : ℤ) → IsWithin (2 ^ 30) z → false ≡ is_odd above below (to_z w64 (of_z w64 z)) → is_odd above below z ≡ false
-seen_even above below z near e = ap (is_odd above below) (sym (word_is z (farther z near))) ∙ sym e
+pub divisor_word : (n : ℕ) → n < 2 ^ 32 → to_z w64 n ≡ pos n
+divisor_word n h = omega (arith, ints, h)
 
+-- a number of a shift by machine words, as it is seen
 pub seen_shift : (above below z r : ℤ) → IsWithin (2 ^ 30) z → IsWithin (2 ^ 47) r → r ≡ pos 2 *ℤ scaled above below (to_z w64 (of_z w64 z)) → to_z w64 (of_z w64 r) ≡ pos 2 *ℤ scaled above below z
 seen_shift above below z r near small e = word_is r small ∙ (e ∙ ap (λ (k : ℤ). pos 2 *ℤ scaled above below k) (word_is z (farther z near)))
 
-pub called_done : (level : Level) (too_deep : Bool) (symbol : ℕ) (place : Placement) (steps : List Step) → is_odd level.above level.below place.x ≡ false → is_odd level.above level.below place.y ≡ false → too_deep ≡ false
-    → steps ≡ level.steps ++ called symbol (scaled_place level place) ∷ [] → called_on level too_deep symbol place ≡ Ok (record level { steps = steps })
-called_done level too_deep symbol place steps ox oy deep e = rw (ox, oy, deep, e) refl
+pub called_done : (level : Level) (divisor : ℕ) (too_deep : Bool) (symbol : ℕ) (place : Placement) (steps : List Step) → is_odd level.above level.below (pos divisor) ≡ false → too_deep ≡ false
+    → steps ≡ level.steps ++ called symbol (scaled_place level place) ∷ [] → called_on level divisor too_deep symbol place ≡ Ok (record level { steps = steps })
+called_done level divisor too_deep symbol place steps even deep e = rw (even, deep, e) refl
 
 pub steps_called : (before after : List ForeignStep) (level : Level) (symbol : ℕ) (place : Placement) (x y : ℤ) → after ≡ before ++ Called symbol place.turn x y ∷ [] → x ≡ (scaled_place level place).x → y ≡ (scaled_place level place).y
     → map step_of after ≡ map step_of before ++ called symbol (scaled_place level place) ∷ []
@@ -239,9 +240,9 @@ if_same (Some x) P Q imp h = imp x h
 
 -- ---- a call that finds its symbol
 
-pub call_found : (state : State) (n : ℤ) (place : Placement) (bad : Bool) (at : ℕ) → is_bad_call n place.x place.y bad ≡ false → is_known n state.symbols ≡ true → place_of n state.symbols ≡ at
-    → call state n place bad ≡ drawn_on state (called_on state.level (is_too_deep state at) at place)
-call_found state n place bad at good known here = rw (good, known, here) refl
+pub call_found : (state : State) (n : ℤ) (place : Placement) (bad : Bool) (divisor at : ℕ) → is_bad_call n place.x place.y bad ≡ false → is_known n state.symbols ≡ true → place_of n state.symbols ≡ at
+    → call state n place bad divisor ≡ drawn_on state (called_on state.level divisor (is_too_deep state at) at place)
+call_found state n place bad divisor at good known here = rw (good, known, here) refl
 
 pub deep_is : (r : Reading) (at depth : ℕ) (deep : Bool) → r.depths.items ≡ depths_of (symbols_of r) → at < length r.depths.items → depth ≡ get_or r.depths.items at depth → deep ≡ (is_some r.begun && nat_le 64 depth)
     → deep ≡ is_too_deep (state_of r) at

@@ -7,13 +7,14 @@ use Rattle.std.proofs.lemmas.List.{map_push, map-append, append-nil, append_asso
 use Rattle.cif_lex.specs.declared.command.Command.{Command}
 use Rattle.cif_lex.specs.declared.command.Command.TheVariants.{Nothing, Define, Finish, Layer, Area, Call, Extension}
 use Rattle.cif_lex.specs.declared.placement.Placement.{Placement}
+use Rattle.cif_lex.specs.Shifts.{is_odd}
 use Rattle.cif_lex.specs.Commands.{IsPiece, IsBody}
 use Rattle.cif_lex.proofs.Turning.{no_turn}
 use Rattle.cif_read.specs.declared.fault.CifKind.{CifKind}
 use Rattle.cif_read.specs.declared.fault.CifKind.TheVariants.{BadNumber, NestedDefinition, RepeatedSymbol, UnknownSymbol, OddScale}
 use Rattle.cif_read.specs.Sheets.{Drawn, moved}
 use Rattle.cif_read.specs.Sheets as sheets
-use Rattle.cif_read.specs.Acts.{Named, is_bad_symbol, is_bad_factor, is_bad_area, is_bad_call, scaled, is_odd, is_odd_area, drawn_box, kept, steps_of}
+use Rattle.cif_read.specs.Acts.{Named, is_bad_symbol, is_bad_factor, is_bad_area, is_bad_call, scaled, is_odd_area, drawn_box, kept, steps_of}
 use Rattle.cif_read.specs.Acts as flat
 use Rattle.cif_read.specs.Meaning as flat_meaning
 use Rattle.cif_read.specs.Scales.{IsFactor}
@@ -215,10 +216,10 @@ area_agrees : (symbols : List sheets.Symbol) (steps : List sheets.Step) (layer :
 area_agrees symbols steps layer None l w x y good fine = placed_agrees symbols steps layer layer l w x y fine
 area_agrees symbols steps layer (Some d) l w x y good fine = placed_in_agrees symbols steps layer d d.layer l w x y good fine
 
-called_is : (symbols : List sheets.Symbol) (steps : List sheets.Step) (layer : Option Named) (at : ℕ) (place : Placement) → place.turn ≡ 0
-    → drawn_on (lifted_by symbols steps layer None) (called_on (top_level steps layer) false at place)
+called_is : (symbols : List sheets.Symbol) (steps : List sheets.Step) (layer : Option Named) (at : ℕ) (place : Placement) (divisor : ℕ) → place.turn ≡ 0
+    → drawn_on (lifted_by symbols steps layer None) (called_on (top_level steps layer) divisor false at place)
     ≡ Ok (record { symbols = map up_symbol symbols; level = top_level (steps ++ sheets.called at (pos 2 *ℤ place.x) (pos 2 *ℤ place.y) ∷ []) layer; begun = None })
-called_is symbols steps layer at place still =
+called_is symbols steps layer at place divisor still =
     let state : State = lifted_by symbols steps layer None in
     let level = top_level steps layer in
     let step = λ (turn : ℕ) (x y : ℤ). let p : Placement = record { turn = turn; x = pos 2 *ℤ x; y = pos 2 *ℤ y } in called at p in
@@ -226,22 +227,21 @@ called_is symbols steps layer at place still =
     let one : step place.turn (scaled (pos 1) (pos 1) place.x) (scaled (pos 1) (pos 1) place.y) ≡ step 0 place.x place.y =
     ap (λ (t : ℕ). step t (scaled (pos 1) (pos 1) place.x) (scaled (pos 1) (pos 1) place.y)) still
     ∙ (ap (λ (z : ℤ). step 0 z (scaled (pos 1) (pos 1) place.y)) (scaled_one place.x) ∙ ap (λ (z : ℤ). step 0 place.x z) (scaled_one place.y)) in
-    ap (λ (b : Bool). drawn_on state (cond (b || is_odd (pos 1) (pos 1) place.y) (Err OddScale) (Ok (ending (map up_step steps ++ step place.turn (scaled (pos 1) (pos 1) place.x) (scaled (pos 1) (pos 1) place.y) ∷ []))))) (odd_one place.x)
-    ∙ (ap (λ (b : Bool). drawn_on state (cond b (Err OddScale) (Ok (ending (map up_step steps ++ step place.turn (scaled (pos 1) (pos 1) place.x) (scaled (pos 1) (pos 1) place.y) ∷ []))))) (odd_one place.y)
+    ap (λ (b : Bool). drawn_on state (cond b (Err OddScale) (Ok (ending (map up_step steps ++ step place.turn (scaled (pos 1) (pos 1) place.x) (scaled (pos 1) (pos 1) place.y) ∷ []))))) (odd_one (pos divisor))
     ∙ (ap (λ (t : Step). drawn_on state (Ok (ending (map up_step steps ++ t ∷ [])))) one
-    ∙ ap (λ (ss : List Step). drawn_on state (Ok (ending ss))) (sym (map_push up_step steps (sheets.called at (pos 2 *ℤ place.x) (pos 2 *ℤ place.y))))))
+    ∙ ap (λ (ss : List Step). drawn_on state (Ok (ending ss))) (sym (map_push up_step steps (sheets.called at (pos 2 *ℤ place.x) (pos 2 *ℤ place.y)))))
 
-call_agrees : (symbols : List sheets.Symbol) (steps : List sheets.Step) (layer : Option Named) (begun : Option flat.Definition) (n : ℤ) (place : Placement) (bad : Bool) → place.turn ≡ 0 → AreFine symbols begun
-    → Agrees (flat.called_at (record { symbols = symbols; steps = steps; layer = layer; begun = begun }) n place.x place.y bad) (call (lifted_by symbols steps layer begun) n place bad)
-call_agrees symbols steps layer (Some d) n place bad still fine = tt
-call_agrees symbols steps layer None n place bad still fine =
+call_agrees : (symbols : List sheets.Symbol) (steps : List sheets.Step) (layer : Option Named) (begun : Option flat.Definition) (n : ℤ) (place : Placement) (bad : Bool) (divisor : ℕ) → place.turn ≡ 0 → AreFine symbols begun
+    → Agrees (flat.called_at (record { symbols = symbols; steps = steps; layer = layer; begun = begun }) n place.x place.y bad) (call (lifted_by symbols steps layer begun) n place bad divisor)
+call_agrees symbols steps layer (Some d) n place bad divisor still fine = tt
+call_agrees symbols steps layer None n place bad divisor still fine =
     let state : State = lifted_by symbols steps layer None in
     let level = top_level steps layer in
     let there = flat.place_of n symbols in
     let moved_step : sheets.Step = sheets.called there (pos 2 *ℤ place.x) (pos 2 *ℤ place.y) in
     let drawn : Result flat.State CifKind = Ok (record { symbols = symbols; steps = steps ++ moved_step ∷ []; layer = layer; begun = None }) in
-    let answer = λ (at : ℕ). drawn_on state (called_on level false at place) in
-    let is : answer there ≡ Ok (record { symbols = map up_symbol symbols; level = top_level (steps ++ moved_step ∷ []) layer; begun = None }) = called_is symbols steps layer there place still in
+    let answer = λ (at : ℕ). drawn_on state (called_on level divisor false at place) in
+    let is : answer there ≡ Ok (record { symbols = map up_symbol symbols; level = top_level (steps ++ moved_step ∷ []) layer; begun = None }) = called_is symbols steps layer there place divisor still in
     subst (λ (at : ℕ). Agrees (cond (is_bad_call n place.x place.y bad) (Err BadNumber) (cond (flat.is_known n symbols) drawn (Err UnknownSymbol)))
     (cond (is_bad_call n place.x place.y bad) (Err BadNumber) (cond (is_known n (map up_symbol symbols)) (answer at) (Err UnknownSymbol)))) (sym (place_same n symbols))
     (subst (λ (known : Bool). Agrees (cond (is_bad_call n place.x place.y bad) (Err BadNumber) (cond (flat.is_known n symbols) drawn (Err UnknownSymbol)))
@@ -250,7 +250,7 @@ call_agrees symbols steps layer None n place bad still fine =
 
 -- the turn of a call that only shifts
 abbrev HasNoTurn : Command → Type 0
-HasNoTurn (Call n place bad false) = place.turn ≡ 0
+HasNoTurn (Call n place bad false divisor) = place.turn ≡ 0
 HasNoTurn command = Unit {0}
 
 turn_of_body : (command : Command) (body : List ℕ) → IsBody command body → HasNoTurn command
@@ -259,9 +259,9 @@ turn_of_body (Define n above below) body is = tt
 turn_of_body Finish body is = tt
 turn_of_body (Layer layer) body is = tt
 turn_of_body (Area l w x y) body is = tt
-turn_of_body (Call n place bad true) body is = tt
-turn_of_body (Call n place bad false) body (inl is) = no_turn is.1.0 place is.1.2 (sym is.1.4)
-turn_of_body (Call n place bad false) body (inr is) = let e = is.0 in absurd cc
+turn_of_body (Call n place bad true divisor) body is = tt
+turn_of_body (Call n place bad false divisor) body (inl is) = no_turn is.1.0 place is.1.2 (sym is.1.4)
+turn_of_body (Call n place bad false divisor) body (inr is) = let e = is.0 in absurd cc
 turn_of_body Extension body is = tt
 
 act_agrees : (s : flat.State) (command : Command) → HasNoTurn command → AreFine s.symbols s.begun → Agrees (flat.act s command) (act (lifted s) command)
@@ -271,8 +271,8 @@ act_agrees s (Define n above below) none fine = defined_agrees s.symbols s.steps
 act_agrees s Finish none fine = finished_agrees s.symbols s.steps s.layer s.begun fine
 act_agrees s (Layer layer) none fine = named_agrees s.symbols s.steps s.layer s.begun layer fine
 act_agrees s (Area l w x y) none fine = agrees_if (is_bad_area l w x y) (Err BadNumber) _ (Err BadNumber) _ tt (λ good. area_agrees s.symbols s.steps s.layer s.begun l w x y good fine)
-act_agrees s (Call n place bad true) none fine = tt
-act_agrees s (Call n place bad false) none fine = call_agrees s.symbols s.steps s.layer s.begun n place bad none fine
+act_agrees s (Call n place bad true divisor) none fine = tt
+act_agrees s (Call n place bad false divisor) none fine = call_agrees s.symbols s.steps s.layer s.begun n place bad divisor none fine
 act_agrees s Extension none fine = (refl, fine)
 
 -- ---- commands one after another

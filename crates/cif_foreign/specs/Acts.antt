@@ -3,11 +3,12 @@ use Rattle.std.specs.Prelude.{ℕ, ℤ, pos, ◌*ℤ◌, nat_le, Bool, ◌&&◌,
 use Rattle.cif_lex.specs.declared.command.Command.{Command}
 use Rattle.cif_lex.specs.declared.command.Command.TheVariants.{Nothing, Define, Finish, Layer, Area, Call, Extension}
 use Rattle.cif_lex.specs.declared.placement.Placement.{Placement}
+use Rattle.cif_lex.specs.Shifts.{is_odd}
 use Rattle.cif_read.specs.declared.fault.CifKind.{CifKind}
 use Rattle.cif_read.specs.declared.fault.CifKind.TheVariants.{BadCommand, BadNumber, NestedDefinition, RepeatedSymbol, UnknownSymbol, NoLayer, OddScale, TooDeep}
 use Rattle.cif_read.specs.Sheets as flat_sheets
 use Rattle.cif_read.specs.Acts as flat
-use Rattle.cif_read.specs.Acts.{Named, is_bad_symbol, is_bad_factor, is_bad_area, is_bad_call, scaled, is_odd, is_odd_area, kept}
+use Rattle.cif_read.specs.Acts.{Named, is_bad_symbol, is_bad_factor, is_bad_area, is_bad_call, scaled, is_odd_area, kept}
 use Rattle.cif_foreign.specs.Sheets.{Step, Symbol, own, called, depths_of, most_depth}
 
 -- ---- what has been read so far
@@ -66,13 +67,14 @@ boxed level (Some layer) l w x y =
 abbrev pub scaled_place : Level → Placement → Placement
 scaled_place level place = record { turn = place.turn; x = pos 2 *ℤ scaled level.above level.below place.x; y = pos 2 *ℤ scaled level.above level.below place.y }
 
-abbrev pub is_odd_shift : Level → Placement → Bool
-is_odd_shift level place = is_odd level.above level.below place.x || is_odd level.above level.below place.y
+-- one of the numbers of a call's shifts, as they stand in the text, comes out odd: exactly then their greatest common divisor does
+abbrev pub is_odd_call : Level → ℕ → Bool
+is_odd_call level divisor = is_odd level.above level.below (pos divisor)
 
 -- a call of the symbol in this position, which may be too deep
-abbrev pub called_on : Level → Bool → ℕ → Placement → Result Level CifKind
-called_on level too_deep symbol place =
-    if is_odd_shift level place then Err OddScale
+abbrev pub called_on : Level → ℕ → Bool → ℕ → Placement → Result Level CifKind
+called_on level divisor too_deep symbol place =
+    if is_odd_call level divisor then Err OddScale
     else (if too_deep then Err TooDeep
     else Ok (with_steps level (called symbol (scaled_place level place) ∷ [])))
 
@@ -104,10 +106,10 @@ abbrev pub area : State → ℤ → ℤ → ℤ → ℤ → Result State CifKind
 area state l w x y = if is_bad_area l w x y then Err BadNumber else drawn_on state (boxed state.level state.level.layer l w x y)
 
 -- a symbol that is being defined is not known yet
-abbrev pub call : State → ℤ → Placement → Bool → Result State CifKind
-call state n place bad =
+abbrev pub call : State → ℤ → Placement → Bool → ℕ → Result State CifKind
+call state n place bad divisor =
     if is_bad_call n place.x place.y bad then Err BadNumber
-    else (if is_known n state.symbols then (let symbol = place_of n state.symbols in drawn_on state (called_on state.level (is_too_deep state symbol) symbol place))
+    else (if is_known n state.symbols then (let symbol = place_of n state.symbols in drawn_on state (called_on state.level divisor (is_too_deep state symbol) symbol place))
     else Err UnknownSymbol)
 
 -- what a command makes of what has been read, or the first of its faults
@@ -117,5 +119,5 @@ act state (Define n above below) = defined state n above below
 act state Finish = finished state state.begun
 act state (Layer layer) = Ok (named state layer)
 act state (Area l w x y) = area state l w x y
-act state (Call n place bad is_turned) = call state n place bad
+act state (Call n place bad is_turned divisor) = call state n place bad divisor
 act state Extension = Ok state

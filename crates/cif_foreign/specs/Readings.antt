@@ -35,7 +35,7 @@ state_of r = record { symbols = symbols_of r; level = level_from r.drawing; begu
 
 -- the turn of a command that calls
 abbrev pub HasTurn : Command → Type 0
-HasTurn (Call n place bad is_turned) = place.turn < 8
+HasTurn (Call n place bad is_turned divisor) = place.turn < 8
 HasTurn command = Unit {0}
 
 -- ---- what holds

@@ -1,5 +1,5 @@
 //! All boxes of a file.
-ghost use Rattle.std.specs.Prelude.{◌≡◌, ◌+◌, ◌*◌, ◌-◌, ◌≤◌, ◌<◌, ◌^◌, ◌++◌, All, List, IfOk, IfErr, OnOk, length, map};
+ghost use Rattle.std.specs.Prelude.{◌≡◌, ◌+◌, ◌*◌, ◌-◌, ◌≤◌, ◌<◌, ◌^◌, ◌++◌, ◌↔◌, All, List, IfOk, IfErr, OnOk, length, map};
 ghost use Rattle.lam_geom.specs.Places.{IsPlacedBox};
 ghost use Rattle.std.specs.Int.{int_min, int_max};
 ghost use Rattle.cif_lex.specs.Transformations.{IsNear, shift_of};
@@ -9,13 +9,15 @@ ghost use Rattle.cif_read.specs.Files.{drawn_of, most_boxes, IsSolid, IsSolidWit
 ghost use Rattle.cif_foreign.specs.Sheets.{placed_box, boxes_of_step, boxes_of_steps, boxes_of_symbols, flattened, depths_of};
 ghost use Rattle.cif_foreign.specs.Files.{step_of, symbol_of, sheet_of, IsStepOf, CanBeFlattened};
 ghost use Rattle.cif_foreign.specs.Readings.{called_depth};
-ghost use Rattle.cif_foreign.specs.Counts.{counted, AreCounts};
+ghost use Rattle.std.specs.List.{filter};
+ghost use Rattle.cif_foreign.specs.Counts.{counted, AreCounts, has_boxes, filled_file};
 
-use crate::file::{ForeignFile, ForeignStep};
+use crate::file::{ForeignFile, ForeignStep, ForeignSymbol};
 use crate::state::MOST_DEPTH;
 use cif_lex::Placement;
 use cif_read::{FlatFault, MOST_BOXES};
 use lam_geom::{BoxXY, MaskBox, Span};
+use lam_list::Seq;
 use std::alloc::Global;
 
 // Between two coordinates.
@@ -91,19 +93,71 @@ fn count_symbols(alloc: Global, file: &ForeignFile) -> Result<Vec<usize>, FlatFa
     Ok(counts)
 }
 
-// Adds the boxes of some steps, turned and shifted. The symbols that they call are at most so deep, and those without boxes are
-// passed over.
+// Whether a step has boxes, where the symbols have so many each.
+fn has_boxes(counts: &[usize], step: ForeignStep) -> bool
+    requires { IsStepOf (length counts.now) step }
+    ensures { result ≡ has_boxes counts.now step }
+{
+    match step {
+        ForeignStep::Own(_) => true,
+        ForeignStep::Called { symbol, .. } => counts[symbol as usize] > 0,
+    }
+}
+
+// The steps that have boxes.
+fn filled_steps(
+    alloc: Global,
+    counts: &[usize],
+    steps: &[ForeignStep],
+) -> Result<Seq<ForeignStep>, FlatFault>
+    requires { All (IsStepOf (length counts.now)) steps.now }
+    ensures steps { IfOk result (λ filled. filled ≡ filter (has_boxes counts.now) steps.now) }
+    ensures fault { IfErr result (λ fault. fault ≡ OutOfMemory) }
+{
+    let mut filled = Vec::new(alloc);
+    for step in steps {
+        if has_boxes(counts, *step) {
+            filled.push(*step)?;
+        }
+    }
+    Ok(Seq::from_vec(filled))
+}
+
+// The file without the steps that have no boxes.
+fn filled_file(
+    alloc: Global,
+    counts: &[usize],
+    file: &ForeignFile,
+) -> Result<ForeignFile, FlatFault>
+    requires flat { CanBeFlattened file.now }
+    requires all { length counts.now ≡ length file.now.symbols }
+    ensures file { IfOk result (λ filled. filled ≡ filled_file counts.now file.now) }
+    ensures fault { IfErr result (λ fault. fault ≡ OutOfMemory) }
+{
+    let mut symbols = Vec::with_capacity(alloc, file.symbols.as_slice().len())?;
+    for symbol in file.symbols.as_slice() {
+        let steps = filled_steps(alloc, counts, symbol.steps.as_slice())?;
+        symbols.push(ForeignSymbol {
+            number: symbol.number,
+            steps,
+        })?;
+    }
+    let top = filled_steps(alloc, counts, file.top.as_slice())?;
+    Ok(ForeignFile {
+        symbols: Seq::from_vec(symbols),
+        top,
+    })
+}
+
+// Adds the boxes of some steps, turned and shifted. The symbols that they call are at most so deep.
 fn push_steps(
     out: &mut Vec<MaskBox>,
     file: &ForeignFile,
-    counts: &[usize],
     steps: &[ForeignStep],
     place: Placement,
     depth: u8,
 ) -> Result<(), FlatFault>
     requires flat { CanBeFlattened file.now }
-    requires counted { AreCounts counts.now (boxes_of_symbols (map symbol_of file.now.symbols)) }
-    requires all { length counts.now ≡ length file.now.symbols }
     requires steps { All (IsStepOf (length file.now.symbols)) steps.now }
     requires deep { called_depth (depths_of (map symbol_of file.now.symbols)) (map step_of steps.now) ≤ depth }
     requires shallow { depth ≤ 64 }
@@ -117,20 +171,46 @@ fn push_steps(
         match *step {
             ForeignStep::Own(mask) => out.push(placed(mask, place))?,
             ForeignStep::Called { symbol, turn, x, y } => {
-                if counts[symbol as usize] > 0 {
-                    let steps = file.symbols.as_slice()[symbol as usize].steps.as_slice();
-                    let inner = place.after(Placement { turn, x, y });
-                    push_steps(out, file, counts, steps, inner, depth - 1)?;
-                }
+                let steps = file.symbols.as_slice()[symbol as usize].steps.as_slice();
+                let inner = place.after(Placement { turn, x, y });
+                push_steps(out, file, steps, inner, depth - 1)?;
             }
         }
     }
     Ok(())
 }
 
+// The boxes of a file whose symbols have so many each. The test of their number takes no memory: `OutOfMemory` comes only where
+// there are not too many.
+fn flatten_counted(
+    alloc: Global,
+    counts: &[usize],
+    file: &ForeignFile,
+) -> Result<Vec<MaskBox>, FlatFault>
+    requires flat { CanBeFlattened file.now }
+    requires counted { AreCounts counts.now (boxes_of_symbols (map symbol_of file.now.symbols)) }
+    requires few { All (λ count. count ≤ most_boxes + 1) counts.now }
+    requires all { length counts.now ≡ length file.now.symbols }
+    ensures boxes { IfOk result (λ boxes. map drawn_of boxes.items ≡ flattened (sheet_of file.now)) }
+    ensures few { IfOk result (λ boxes. length boxes.items ≤ most_boxes) }
+    ensures placed { IfOk result (λ boxes. All (λ box. IsPlacedBox box.area) boxes.items) }
+    ensures solid { IfOk result (λ boxes. All IsSolid boxes.items) }
+    ensures too_many { IfErr result (λ fault. (fault ≡ TooMany) ↔ (most_boxes < length (flattened (sheet_of file.now)))) }
+{
+    let total = count_steps(counts, file.top.as_slice());
+    if total > MOST_BOXES {
+        return Err(FlatFault::TooMany);
+    }
+    let filled = filled_file(alloc, counts, file)?;
+    let mut out = Vec::with_capacity(alloc, total)?;
+    let still = Placement::still();
+    push_steps(&mut out, &filled, filled.top.as_slice(), still, MOST_DEPTH)?;
+    Ok(out)
+}
+
 /// The boxes of the layers that are kept, in the order of the file, calls in place, in grains. `TooMany` comes exactly where there
-/// are more than 1,048,576. Linear in the steps of the file, and in the steps of the symbols with boxes, each as often as it is
-/// called.
+/// are more than 1,048,576, if there is memory for the counts of the symbols. Linear in the steps of the file and in the boxes,
+/// each of which stands at most 64 calls deep.
 pub fn flatten_foreign(alloc: Global, file: &ForeignFile) -> Result<Vec<MaskBox>, FlatFault>
     requires { CanBeFlattened file.now }
     ensures boxes { IfOk result (λ boxes. map drawn_of boxes.items ≡ flattened (sheet_of file.now)) }
@@ -140,19 +220,5 @@ pub fn flatten_foreign(alloc: Global, file: &ForeignFile) -> Result<Vec<MaskBox>
     ensures too_many { IfErr result (λ fault. fault ≡ TooMany → most_boxes < length (flattened (sheet_of file.now))) }
 {
     let counts = count_symbols(alloc, file)?;
-    let total = count_steps(&counts, file.top.as_slice());
-    if total > MOST_BOXES {
-        return Err(FlatFault::TooMany);
-    }
-    let mut out = Vec::with_capacity(alloc, total)?;
-    let still = Placement::still();
-    push_steps(
-        &mut out,
-        file,
-        &counts,
-        file.top.as_slice(),
-        still,
-        MOST_DEPTH,
-    )?;
-    Ok(out)
+    flatten_counted(alloc, &counts, file)
 }

@@ -1,6 +1,7 @@
 //! What has been read so far, and what each command makes of it.
 ghost use Rattle.std.specs.Prelude.{◌≡◌, ℕ, ◌+◌, ◌<◌, ◌^◌, pos, ◌*ℤ◌, max, List, Ok, OnOk, IfErr, false, length, slice_index_or, is_some, ◌&&◌, nat_le};
-ghost use Rattle.cif_read.specs.Acts.{is_bad_area, is_odd, scaled};
+ghost use Rattle.cif_lex.specs.Shifts.{is_odd};
+ghost use Rattle.cif_read.specs.Acts.{is_bad_area, scaled};
 ghost use Rattle.cif_read.specs.Files.{IsWithin};
 ghost use Rattle.cif_read.specs.Readers.{IsCauseOfStop};
 ghost use Rattle.cif_read.specs.Scales.{IsScale};
@@ -90,7 +91,7 @@ impl Drawing {
     // Whether a number is no whole number of hundredths of a micron.
     fn is_odd(&self, n: i64) -> bool
         requires scale { IsScale self.now.scale }
-        requires near { IsWithin (2 ^ 30) n }
+        requires near { IsWithin (2 ^ 32) n }
         ensures { result ≡ is_odd self.now.scale.above self.now.scale.below n }
     {
         is_odd(self.scale.above, self.scale.below, n)
@@ -106,19 +107,26 @@ impl Drawing {
         2 * scaled(self.scale.above, self.scale.below, n)
     }
 
-    // A call of the symbol in this position, which has this depth.
-    fn call(&mut self, symbol: u32, depth: u8, too_deep: bool, place: Placement) -> Result<(), Stop>
+    // A call of the symbol in this position, which has this depth, by shifts whose numbers have this greatest common divisor.
+    fn call(
+        &mut self,
+        symbol: u32,
+        depth: u8,
+        too_deep: bool,
+        place: Placement,
+        divisor: u32,
+    ) -> Result<(), Stop>
         requires scale { IsScale self.old.scale }
         requires turn { place.turn < 8 }
         requires x { IsWithin (2 ^ 30) place.x }
         requires y { IsWithin (2 ^ 30) place.y }
-        ensures done { OnOk result (called_on (level_from self.old) too_deep symbol place ≡ Ok (level_from self.new)) }
-        ensures refused { IfErr result (IsCauseOfStop (called_on (level_from self.old) too_deep symbol place)) }
+        ensures done { OnOk result (called_on (level_from self.old) divisor too_deep symbol place ≡ Ok (level_from self.new)) }
+        ensures refused { IfErr result (IsCauseOfStop (called_on (level_from self.old) divisor too_deep symbol place)) }
         ensures sound { OnOk result ((depths : List ℕ) → symbol < length depths → depth ≡ slice_index_or depths symbol 0 → IsSoundLevel depths self.old → IsSoundLevel depths self.new) }
         ensures called { OnOk result (self.new.called ≡ max self.old.called depth) }
         ensures not_deep { OnOk result (too_deep ≡ false) }
     {
-        if self.is_odd(place.x) || self.is_odd(place.y) {
+        if self.is_odd(divisor as i64) {
             return Err(Stop::Refused(CifKind::OddScale));
         }
         if too_deep {
@@ -219,11 +227,11 @@ impl Reading {
     }
 
     // A call.
-    fn call(&mut self, number: i64, place: Placement, bad: bool) -> Result<(), Stop>
+    fn call(&mut self, number: i64, place: Placement, bad: bool, divisor: u32) -> Result<(), Stop>
         requires sound { IsSound (2 ^ 26) self.old }
         requires turn { place.turn < 8 }
-        ensures done { OnOk result (call (state_of self.old) number place bad ≡ Ok (state_of self.new)) }
-        ensures refused { IfErr result (IsCauseOfStop (call (state_of self.old) number place bad)) }
+        ensures done { OnOk result (call (state_of self.old) number place bad divisor ≡ Ok (state_of self.new)) }
+        ensures refused { IfErr result (IsCauseOfStop (call (state_of self.old) number place bad divisor)) }
         ensures sound { OnOk result ((count : ℕ) → IsSound count self.old → IsSound (count + 1) self.new) }
     {
         if is_bad_call(number, place.x, place.y, bad) {
@@ -234,7 +242,7 @@ impl Reading {
         };
         let depth = self.depths[symbol as usize];
         let too_deep = self.is_too_deep(depth);
-        self.drawing.call(symbol, depth, too_deep, place)
+        self.drawing.call(symbol, depth, too_deep, place, divisor)
     }
 
     /// Carries out a command. After a refusal nothing more may be read.
@@ -263,7 +271,8 @@ impl Reading {
                 place,
                 bad,
                 turned: _,
-            } => self.call(number, place, bad),
+                divisor,
+            } => self.call(number, place, bad, divisor),
         }
     }
 }

@@ -123,7 +123,7 @@ visible_words (Define n a b) words (inr h) = subst (AllByRecursion IsVisible) (s
 visible_words Finish words h = subst (AllByRecursion IsVisible) (sym h) (refl, (refl, tt))
 visible_words (Layer layer) words h = subst (AllByRecursion IsVisible) (sym h.1) (refl, (tt, tt))
 visible_words (Area l w x y) words h = subst (AllByRecursion IsVisible) (sym h) (refl, (tt, (tt, (tt, (tt, tt)))))
-visible_words (Call n place bad is_turned) words h = subst (AllByRecursion IsVisible) (sym h.1) (refl, (tt, visible_transformations h.0))
+visible_words (Call n place bad is_turned divisor) words h = subst (AllByRecursion IsVisible) (sym h.1) (refl, (tt, visible_transformations h.0))
 visible_words Extension words h = absurd h
 
 -- a user extension in its text

@@ -15,6 +15,7 @@ use Rattle.cif_lex.specs.declared.placement.Transformation.TheVariants.{Shift, M
 use Rattle.cif_lex.specs.declared.calls.Transformed.{Transformed}
 use Rattle.cif_lex.specs.Words.{Word, letter, number}
 use Rattle.cif_lex.specs.Transformations.{Point, words_of, applied, placed, shift_of, IsComposedOf, IsNear}
+use Rattle.cif_lex.specs.Shifts.{is_odd, is_odd_shift, IsOddWhere}
 use Rattle.cif_lex.specs.Commands.{is_bad, is_turn}
 use Rattle.cif_lex.specs.Reading.{IsRead, AreRead, IsNumberRead, IsPairRead, IsTransformationRead}
 use Rattle.cif_lex.specs.Forms.{IsLedBy, Ends, Takes, IsForm}
@@ -23,6 +24,7 @@ use Rattle.cif_lex.proofs.CommandWords.{begins, call_words}
 use Rattle.cif_lex.proofs.AreaForm.{same_pair}
 use Rattle.cif_lex.proofs.BracketForm.{led_by_letter}
 use Rattle.cif_lex.proofs.Turning.{all_applied_push, nearer, same_point}
+use Rattle.cif_lex.proofs.Divisors.{zero_even}
 
 -- ---- one transformation
 
@@ -128,13 +130,14 @@ visible_first (Turn a b) text after rest is ends = no_word_ends (letter 82) text
 -- ---- so far
 
 -- the text behind `C n`, of which some transformations have been read
-pub record SoFar (text : List ℕ) (n : ℤ) (at : ℕ) (place : Placement) (bad is_turned : Bool) : Type 0 where
+pub record SoFar (text : List ℕ) (n : ℤ) (at : ℕ) (place : Placement) (bad is_turned : Bool) (divisor : ℕ) : Type 0 where
   pub within : at ≤ length text
   pub ts : List Transformation
   pub read : AreRead (letter 67 ∷ number n ∷ flat_map words_of ts) text (drop at text)
   pub composed : IsComposedOf ts place
   pub bad_is : bad ≡ list_any is_bad ts
   pub turned_is : is_turned ≡ list_any is_turn ts
+  pub divisor_is : IsOddWhere (λ above below. list_any (is_odd_shift above below) ts) divisor
   pub near : IsNear (1073741825 * at) (shift_of place)
   pub only : (c : Command) (rest : List ℕ) → Takes c text rest → Ends rest → (left : List Transformation) × AreRead (flat_map words_of left) (drop at text) rest
 
@@ -146,7 +149,7 @@ no_called text mid is none c rest takes ends =
     none shape.0 read.0 read.1
 
 pub so_far_none : (text : List ℕ) (begin : ℕ) (symbol : Number) → begin ≤ length text → IsRead (letter 67) text (drop begin text) → IsNumberRead (drop begin text) symbol
-    → SoFar text symbol.value (begin + symbol.length) (record { turn = 0; x = pos 0; y = pos 0 }) false false
+    → SoFar text symbol.value (begin + symbol.length) (record { turn = 0; x = pos 0; y = pos 0 }) false false 0
 so_far_none text begin symbol le is it = record {
   within = omega (arith, length-drop begin text, it.within);
   ts = [];
@@ -154,6 +157,7 @@ so_far_none text begin symbol le is it = record {
   composed = record { turn = omega arith; same = λ p. same_point (p.0 +ℤ pos 0, p.1 +ℤ pos 0) p (omega (arith, ints)) (omega (arith, ints)) };
   bad_is = refl;
   turned_is = refl;
+  divisor_is = λ above below some. zero_even above below;
   near = record { left = omega (arith, ints); right = omega (arith, ints); below = omega (arith, ints); above = omega (arith, ints) };
   only = λ c rest takes ends.
       let b = begins c text (drop begin text) rest 67 refl is takes ends in
@@ -170,16 +174,19 @@ words_push : (text : List ℕ) (n : ℤ) (ts : List Transformation) (t : Transfo
     → AreRead (letter 67 ∷ number n ∷ flat_map words_of (ts ++ t ∷ [])) text rest
 words_push text n ts t mid rest is it = (is.0, is.1, (is.2.0, is.2.1, read_push ts t is.2.0 mid rest is.2.2 it))
 
-pub so_far_more : (text : List ℕ) (n : ℤ) (at : ℕ) (place next : Placement) (bad is_turned : Bool) (one : Transformed) → SoFar text n at place bad is_turned → IsTransformationRead (drop at text) one
+pub so_far_more : (text : List ℕ) (n : ℤ) (at : ℕ) (place next : Placement) (bad is_turned : Bool) (divisor more : ℕ) (one : Transformed) → SoFar text n at place bad is_turned divisor → IsTransformationRead (drop at text) one
     → next.turn < 8 → ((p : Point) → placed next p ≡ applied one.transformation (placed place p)) → IsNear (1073741825 + 1073741825 * at) (shift_of next)
-    → SoFar text n (at + one.length) next (bad || is_bad one.transformation) (is_turned || is_turn one.transformation)
-so_far_more text n at place next bad is_turned one so it turn same near = record {
+    → IsOddWhere (λ above below. is_odd above below (pos divisor) || is_odd_shift above below one.transformation) more
+    → SoFar text n (at + one.length) next (bad || is_bad one.transformation) (is_turned || is_turn one.transformation) more
+so_far_more text n at place next bad is_turned divisor more one so it turn same near odd = record {
   within = omega (arith, length-drop at text, it.within, so.within);
   ts = so.ts ++ one.transformation ∷ [];
   read = words_push text n so.ts one.transformation (drop at text) (drop (at + one.length) text) so.read read;
   composed = record { turn = turn; same = λ p. same p ∙ (ap (applied one.transformation) (so.composed.same p) ∙ sym (all_applied_push so.ts one.transformation p)) };
   bad_is = ap (λ (b : Bool). b || is_bad one.transformation) so.bad_is ∙ sym (any_push is_bad so.ts one.transformation);
   turned_is = ap (λ (b : Bool). b || is_turn one.transformation) so.turned_is ∙ sym (any_push is_turn so.ts one.transformation);
+  divisor_is = λ above below some.
+      odd above below some ∙ (ap (λ (b : Bool). b || is_odd_shift (pos above) (pos below) one.transformation) (so.divisor_is above below some) ∙ sym (any_push (is_odd_shift (pos above) (pos below)) so.ts one.transformation));
   near = nearer (1073741825 + 1073741825 * at) (1073741825 * (at + one.length)) (shift_of next) (omega (arith, it.some)) near;
   only = λ c rest takes ends. let left = so.only c rest takes ends in go rest left.0 left.1 ends;
 }
@@ -194,11 +201,11 @@ so_far_more text n at place next bad is_turned one so it turn same near = record
         let same : first.0 ≡ drop (at + one.length) text = same_rest t one.transformation (drop at text) first.0 (drop (at + one.length) text) first.1 read in
         (left, subst (λ (k : List ℕ). AreRead (flat_map words_of left) k rest) same first.2)
 
-pub call_form : (text : List ℕ) (n : ℤ) (at : ℕ) (place : Placement) (bad is_turned : Bool) → SoFar text n at place bad is_turned → ((t : Transformation) (rest : List ℕ) → AreRead (words_of t) (drop at text) rest → ⊥)
-    → IsForm text (record { command = Call n place bad is_turned; length = at })
-call_form text n at place bad is_turned so no_more = record {
+pub call_form : (text : List ℕ) (n : ℤ) (at : ℕ) (place : Placement) (bad is_turned : Bool) (divisor : ℕ) → SoFar text n at place bad is_turned divisor → ((t : Transformation) (rest : List ℕ) → AreRead (words_of t) (drop at text) rest → ⊥)
+    → IsForm text (record { command = Call n place bad is_turned divisor; length = at })
+call_form text n at place bad is_turned divisor so no_more = record {
   within = so.within;
-  takes = (letter 67 ∷ number n ∷ flat_map words_of so.ts, (so.ts, refl, so.composed, so.bad_is, so.turned_is), so.read);
+  takes = (letter 67 ∷ number n ∷ flat_map words_of so.ts, (so.ts, refl, so.composed, so.bad_is, so.turned_is, so.divisor_is), so.read);
   only = λ c rest takes ends. let left = so.only c rest takes ends in go rest left.0 left.1;
 }
   where

@@ -1,5 +1,5 @@
 -- The words of commands: how they begin, and that they tell the command.
-use Rattle.std.proofs.Common.{◌≡◌, ℕ, ◌≤◌, ℤ, true, false, eqb, ◌⊎◌, inl, inr, List, [], ◌∷◌, length, refl, sym, ap, ◌∙◌, subst}
+use Rattle.std.proofs.Common.{◌≡◌, ℕ, ◌≤◌, ℤ, Bool, true, false, eqb, ◌⊎◌, inl, inr, List, [], ◌∷◌, length, refl, sym, ap, ◌∙◌, subst}
 use Rattle.std.specs.List.{AllByRecursion, flat_map, list_any}
 use Rattle.std.specs.Char.{is_ascii_uppercase}
 use Rattle.std.proofs.lemmas.Bool.{eqb-false}
@@ -9,10 +9,12 @@ use Rattle.cif_lex.specs.Words.{Word, letter, number, name}
 use Rattle.cif_lex.specs.declared.placement.Transformation.{Transformation}
 use Rattle.cif_lex.specs.declared.placement.Transformation.TheVariants.{Shift, MirrorX, MirrorY, Turn}
 use Rattle.cif_lex.specs.Transformations.{words_of, IsComposedOf}
+use Rattle.cif_lex.specs.Shifts.{is_odd_shift, IsOddWhere}
 use Rattle.cif_lex.specs.Commands.{HasWords, layer_named, is_bad, is_turn}
 use Rattle.cif_lex.specs.Reading.{IsRead, AreRead}
 use Rattle.cif_lex.specs.Forms.{Ends, Takes}
 use Rattle.cif_lex.proofs.Turning.{one_composed}
+use Rattle.cif_lex.proofs.Divisors.{one_divisor}
 use Rattle.cif_lex.proofs.OneWord.{IsPlain, same_letter, no_word_ends}
 
 -- ---- the first word
@@ -31,7 +33,7 @@ has_head (Define n a b) words (inr h) = inr (record { first = 68; more = letter 
 has_head Finish words h = inr (record { first = 68; more = letter 70 ∷ []; begun = h; capital = refl })
 has_head (Layer layer) words h = inr (record { first = 76; more = name h.0 ∷ []; begun = h.1; capital = refl })
 has_head (Area l w x y) words h = inr (record { first = 66; more = number l ∷ number w ∷ number x ∷ number y ∷ []; begun = h; capital = refl })
-has_head (Call n place bad is_turned) words h = inr (record { first = 67; more = number n ∷ flat_map words_of h.0; begun = h.1; capital = refl })
+has_head (Call n place bad is_turned divisor) words h = inr (record { first = 67; more = number n ∷ flat_map words_of h.0; begun = h.1; capital = refl })
 has_head Extension words h = absurd h
 
 -- where a capital letter is read, a command's words begin with it
@@ -60,7 +62,7 @@ area_words (Define n a b) more (inr h) = absurd (other 66 68 more _ h.0 refl)
 area_words Finish more h = absurd (other 66 68 more _ h refl)
 area_words (Layer layer) more h = absurd (other 66 76 more _ h.1 refl)
 area_words (Area l w x y) more h = (l, w, x, y, refl, cc)
-area_words (Call n place bad is_turned) more h = absurd (other 66 67 more _ h.1 refl)
+area_words (Call n place bad is_turned divisor) more h = absurd (other 66 67 more _ h.1 refl)
 area_words Extension more h = absurd h
 
 abbrev pub AreBracketWords : List Word → Type 0
@@ -74,7 +76,7 @@ bracket_words (Define n a b) more (inr h) = inr (inl (n, let e = h.0 in cc))
 bracket_words Finish more h = inr (inr cc)
 bracket_words (Layer layer) more h = absurd (other 68 76 more _ h.1 refl)
 bracket_words (Area l w x y) more h = absurd (other 68 66 more _ h refl)
-bracket_words (Call n place bad is_turned) more h = absurd (other 68 67 more _ h.1 refl)
+bracket_words (Call n place bad is_turned divisor) more h = absurd (other 68 67 more _ h.1 refl)
 bracket_words Extension more h = absurd h
 
 pub layer_words : (c : Command) (more : List Word) → HasWords c (letter 76 ∷ more) → (bytes : List ℕ) × (more ≡ name bytes ∷ []) × (length bytes ≤ 4)
@@ -84,7 +86,7 @@ layer_words (Define n a b) more (inr h) = absurd (other 76 68 more _ h.0 refl)
 layer_words Finish more h = absurd (other 76 68 more _ h refl)
 layer_words (Layer layer) more h = (h.0, let e = h.1 in cc, h.2)
 layer_words (Area l w x y) more h = absurd (other 76 66 more _ h refl)
-layer_words (Call n place bad is_turned) more h = absurd (other 76 67 more _ h.1 refl)
+layer_words (Call n place bad is_turned divisor) more h = absurd (other 76 67 more _ h.1 refl)
 layer_words Extension more h = absurd h
 
 pub call_words : (c : Command) (more : List Word) → HasWords c (letter 67 ∷ more) → (n : ℤ) × (ts : List Transformation) × (more ≡ number n ∷ flat_map words_of ts)
@@ -94,7 +96,7 @@ call_words (Define n a b) more (inr h) = absurd (other 67 68 more _ h.0 refl)
 call_words Finish more h = absurd (other 67 68 more _ h refl)
 call_words (Layer layer) more h = absurd (other 67 76 more _ h.1 refl)
 call_words (Area l w x y) more h = absurd (other 67 66 more _ h refl)
-call_words (Call n place bad is_turned) more h = (n, h.0, let e = h.1 in cc)
+call_words (Call n place bad is_turned divisor) more h = (n, h.0, let e = h.1 in cc)
 call_words Extension more h = absurd h
 
 -- the first letter of a command with words is one of four
@@ -105,7 +107,7 @@ four_letters (Define n x y) b more (inr h) = inr (inr (inl (let e = h.0 in cc)))
 four_letters Finish b more h = inr (inr (inl cc))
 four_letters (Layer layer) b more h = inr (inr (inr (let e = h.1 in cc)))
 four_letters (Area l w x y) b more h = inl cc
-four_letters (Call n place bad is_turned) b more h = inr (inl (let e = h.1 in cc))
+four_letters (Call n place bad is_turned divisor) b more h = inr (inl (let e = h.1 in cc))
 four_letters Extension b more h = absurd h
 
 -- ---- one command for some words
@@ -125,7 +127,7 @@ plain_words (Define n x y) b more (inr h) = inr (let e = h.0 in let same : more 
 plain_words Finish b more h = inr (let same : more ≡ letter 70 ∷ [] = cc in subst (AllByRecursion IsPlain) (sym same) (refl, tt))
 plain_words (Layer layer) b more h = inl (let e = h.1 in cc)
 plain_words (Area l w x y) b more h = inr (let same : more ≡ number l ∷ number w ∷ number x ∷ number y ∷ [] = cc in subst (AllByRecursion IsPlain) (sym same) (tt, (tt, (tt, (tt, tt)))))
-plain_words (Call n place bad is_turned) b more h = inr (let e = h.1 in let same : more ≡ number n ∷ flat_map words_of h.0 = cc in subst (AllByRecursion IsPlain) (sym same) (tt, plain_transformations h.0))
+plain_words (Call n place bad is_turned divisor) b more h = inr (let e = h.1 in let same : more ≡ number n ∷ flat_map words_of h.0 = cc in subst (AllByRecursion IsPlain) (sym same) (tt, plain_transformations h.0))
 plain_words Extension b more h = absurd h
 
 same_transformations : (s t : List Transformation) → flat_map words_of s ≡ flat_map words_of t → s ≡ t
@@ -188,7 +190,7 @@ first_of (Define n a b) = 68
 first_of Finish = 68
 first_of (Layer layer) = 76
 first_of (Area l w x y) = 66
-first_of (Call n place bad is_turned) = 67
+first_of (Call n place bad is_turned divisor) = 67
 first_of Extension = 0
 
 abbrev second_of : Command → ℕ
@@ -197,7 +199,7 @@ second_of (Define n a b) = 83
 second_of Finish = 70
 second_of (Layer layer) = 0
 second_of (Area l w x y) = 0
-second_of (Call n place bad is_turned) = 0
+second_of (Call n place bad is_turned divisor) = 0
 second_of Extension = 0
 
 letters_are : (c : Command) (words : List Word) → HasWords c words → (first_letter words ≡ first_of c) × (second_letter words ≡ second_of c)
@@ -207,7 +209,7 @@ letters_are (Define n a b) words (inr h) = (ap first_letter h.0, ap second_lette
 letters_are Finish words h = (ap first_letter h, ap second_letter h)
 letters_are (Layer layer) words h = (ap first_letter h.1, ap second_letter h.1)
 letters_are (Area l w x y) words h = (ap first_letter h, ap second_letter h)
-letters_are (Call n place bad is_turned) words h = (ap first_letter h.1, ap second_letter h.1)
+letters_are (Call n place bad is_turned divisor) words h = (ap first_letter h.1, ap second_letter h.1)
 letters_are Extension words h = absurd h
 
 apart : (c d : Command) (words : List Word) → HasWords c words → HasWords d words → (eqb (first_of c) (first_of d) ≡ false) ⊎ (eqb (second_of c) (second_of d) ≡ false) → ⊥
@@ -228,7 +230,7 @@ same_command (Layer layer) (Layer second) words h k =
     let e = h.1 in let d = k.1 in let same : h.0 ≡ k.0 = cc in
     ap Layer (h.3 ∙ (ap layer_named same ∙ sym k.3))
 same_command (Area l w x y) (Area m n p q) words h k = cc
-same_command (Call n place bad is_turned) (Call m other_place worse is_mirrored) words h k =
+same_command (Call n place bad is_turned divisor) (Call m other_place worse is_mirrored other_divisor) words h k =
     let e = h.1 in let d = k.1 in
     let number_same : n ≡ m = cc in
     let words_same : flat_map words_of h.0 ≡ flat_map words_of k.0 = cc in
@@ -236,6 +238,8 @@ same_command (Call n place bad is_turned) (Call m other_place worse is_mirrored)
     let a : place ≡ other_place = one_composed k.0 place other_place (subst (λ (ts : List Transformation). IsComposedOf ts place) same h.2) k.2 in
     let b : bad ≡ worse = h.3 ∙ (ap (λ (ts : List Transformation). list_any is_bad ts) same ∙ sym k.3) in
     let g : is_turned ≡ is_mirrored = h.4 ∙ (ap (λ (ts : List Transformation). list_any is_turn ts) same ∙ sym k.4) in
+    let odd : List Transformation → ℤ → ℤ → Bool = λ ts above below. list_any (is_odd_shift above below) ts in
+    let d : divisor ≡ other_divisor = one_divisor divisor other_divisor (odd k.0) (subst (λ (ts : List Transformation). IsOddWhere (odd ts) divisor) same h.5) k.5 in
     cc
 same_command Nothing d words h k = absurd (apart Nothing d words h k (inl refl))
 same_command (Define n a b) Finish words h k = absurd (apart (Define n a b) Finish words h k (inr refl))
@@ -244,4 +248,4 @@ same_command (Define n a b) d words h k = absurd (apart (Define n a b) d words h
 same_command Finish d words h k = absurd (apart Finish d words h k (inl refl))
 same_command (Layer layer) d words h k = absurd (apart (Layer layer) d words h k (inl refl))
 same_command (Area l w x y) d words h k = absurd (apart (Area l w x y) d words h k (inl refl))
-same_command (Call n place bad is_turned) d words h k = absurd (apart (Call n place bad is_turned) d words h k (inl refl))
+same_command (Call n place bad is_turned divisor) d words h k = absurd (apart (Call n place bad is_turned divisor) d words h k (inl refl))

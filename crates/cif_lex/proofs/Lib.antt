@@ -5,6 +5,7 @@ pub mod Stops
 pub mod OneWord
 pub mod ReadNumbers
 pub mod Turning
+pub mod Divisors
 pub mod CommandWords
 pub mod AreaForm
 pub mod BracketForm

@@ -16,6 +16,7 @@ use Rattle.cif_lex.specs.declared.placement.Transformation.{Transformation}
 use Rattle.cif_lex.specs.declared.placement.Transformation.TheVariants.{Shift, MirrorX, MirrorY, Turn}
 use Rattle.cif_lex.specs.Blanks.{semicolon, IsGap, IsUnclosed, IsCutOff, IsFilled}
 use Rattle.cif_lex.specs.Transformations.{words_of, IsComposedOf}
+use Rattle.cif_lex.specs.Shifts.{is_odd_shift, IsOddWhere}
 use Rattle.cif_lex.specs.Words.{Word, letter, number, name, limit, AreSpelled}
 
 -- ---- the layers that are kept
@@ -63,8 +64,9 @@ HasWords (Define n above below) words =
 HasWords Finish words = words ≡ letter 68 ∷ letter 70 ∷ []
 HasWords (Layer layer) words = (bytes : List ℕ) × (words ≡ letter 76 ∷ name bytes ∷ []) × (length bytes ≤ 4) × (layer ≡ layer_named bytes)
 HasWords (Area l w x y) words = words ≡ letter 66 ∷ number l ∷ number w ∷ number x ∷ number y ∷ []
-HasWords (Call n place bad is_turned) words =
+HasWords (Call n place bad is_turned divisor) words =
     (ts : List Transformation) × (words ≡ letter 67 ∷ number n ∷ flat_map words_of ts) × IsComposedOf ts place × (bad ≡ list_any is_bad ts) × (is_turned ≡ list_any is_turn ts)
+    × IsOddWhere (λ above below. list_any (is_odd_shift above below) ts) divisor
 HasWords Extension words = ⊥
 
 -- A user extension: a digit, and behind it any bytes but a semicolon.

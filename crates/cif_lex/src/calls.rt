@@ -1,8 +1,9 @@
 //! Calls, and their transformations.
-ghost use Rattle.std.specs.Prelude.{◌≡◌, ◌<◌, ◌≤◌, ◌^◌, length, drop};
+ghost use Rattle.std.specs.Prelude.{◌≡◌, ◌<◌, ◌≤◌, ◌^◌, ◌||◌, pos, length, drop};
 ghost use Rattle.cif_lex.specs.Words.{letter};
+ghost use Rattle.cif_lex.specs.Shifts.{is_odd, is_odd_shift, IsOddWhere};
 ghost use Rattle.cif_lex.specs.Commands.{is_far, is_no_axis, is_bad, is_turn};
-ghost use Rattle.cif_lex.specs.Reading.{IsRead, IsTransformationAnswer};
+ghost use Rattle.cif_lex.specs.Reading.{HasSmallNumbers, IsRead, IsTransformationAnswer};
 ghost use Rattle.cif_lex.specs.Forms.{IsLedBy, IsFormAnswer};
 
 use crate::command::Command;
@@ -49,6 +50,34 @@ fn is_turn(transformation: Transformation) -> bool
     match transformation {
         Transformation::Shift { .. } => false,
         Transformation::MirrorX | Transformation::MirrorY | Transformation::Turn { .. } => true,
+    }
+}
+
+// The greatest common divisor: what divides a multiple of both numbers divides that multiple of it, and the other way round.
+fn common_divisor(a: u32, b: u32) -> u32
+    ensures { IsOddWhere (λ above below. is_odd above below (pos a) || is_odd above below (pos b)) result }
+{
+    let mut divisor = a;
+    let mut rest = b;
+    while rest > 0 {
+        let next = divisor % rest;
+        divisor = rest;
+        rest = next;
+    }
+    divisor
+}
+
+// The same for this number and those of one transformation more, if it is a shift.
+fn divisor_with(divisor: u32, transformation: Transformation) -> u32
+    requires { HasSmallNumbers transformation }
+    ensures { IsOddWhere (λ above below. is_odd above below (pos divisor) || is_odd_shift above below transformation) result }
+{
+    match transformation {
+        Transformation::Shift { x, y } => {
+            let with_x = common_divisor(divisor, x.unsigned_abs() as u32);
+            common_divisor(with_x, y.unsigned_abs() as u32)
+        }
+        Transformation::MirrorX | Transformation::MirrorY | Transformation::Turn { .. } => divisor,
     }
 }
 
@@ -134,11 +163,13 @@ pub(crate) fn call(text: &[u8]) -> Option<Form>
     let mut place = Placement::still();
     let mut bad = false;
     let mut turned = false;
+    let mut divisor = 0;
     while let Some(read) = read_transformation(&text[at..]) {
         at += read.length;
         place = read.transformation.placement().after(place);
         bad = bad | is_bad(read.transformation);
         turned = turned | is_turn(read.transformation);
+        divisor = divisor_with(divisor, read.transformation);
     }
     Some(Form {
         command: Command::Call {
@@ -146,6 +177,7 @@ pub(crate) fn call(text: &[u8]) -> Option<Form>
             place,
             bad,
             turned,
+            divisor,
         },
         length: at,
     })

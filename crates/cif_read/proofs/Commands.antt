@@ -1,5 +1,5 @@
 -- What each command is answered.
-use Rattle.std.proofs.Common.{◌≡◌, ℤ, FitsSigned, of_z, to_z, w64, Bool, true, false, Ok, Err, refl}
+use Rattle.std.proofs.Common.{◌≡◌, ℕ, ℤ, FitsSigned, of_z, to_z, w64, Bool, true, false, Ok, Err, refl}
 use Rattle.std.proofs.lemmas.Int.{to_z-of_z}
 use Rattle.cif_lex.specs.declared.command.Command.{Command}
 use Rattle.cif_lex.specs.declared.command.Command.TheVariants.{Nothing, Define, Finish, Layer, Call, Extension}
@@ -28,11 +28,11 @@ pub layer_is : (state : State) (command : Command) (layer : Named) → command �
 unfolding act
 layer_is state command layer e = rw e refl
 
-pub call_is : (state : State) (command : Command) (n : ℤ) (place : Placement) (bad is_turned : Bool) → command ≡ Call n place bad is_turned → is_turned ≡ false → FitsSigned w64 n → FitsSigned w64 place.x → FitsSigned w64 place.y
+pub call_is : (state : State) (command : Command) (n : ℤ) (place : Placement) (bad is_turned : Bool) (divisor : ℕ) → command ≡ Call n place bad is_turned divisor → is_turned ≡ false → FitsSigned w64 n → FitsSigned w64 place.x → FitsSigned w64 place.y
     → act state command ≡ called_at state (to_z w64 (of_z w64 n)) (to_z w64 (of_z w64 place.x)) (to_z w64 (of_z w64 place.y)) bad
 unfolding act
-call_is state command n place bad is_turned e plain fn fx fy = rw (e, plain, to_z-of_z w64 n fn, to_z-of_z w64 place.x fx, to_z-of_z w64 place.y fy) refl
+call_is state command n place bad is_turned divisor e plain fn fx fy = rw (e, plain, to_z-of_z w64 n fn, to_z-of_z w64 place.x fx, to_z-of_z w64 place.y fy) refl
 
-pub turned_is : (state : State) (command : Command) (n : ℤ) (place : Placement) (bad is_turned : Bool) → command ≡ Call n place bad is_turned → is_turned ≡ true → act state command ≡ Err BadCommand
+pub turned_is : (state : State) (command : Command) (n : ℤ) (place : Placement) (bad is_turned : Bool) (divisor : ℕ) → command ≡ Call n place bad is_turned divisor → is_turned ≡ true → act state command ≡ Err BadCommand
 unfolding act
-turned_is state command n place bad is_turned e turns = rw (e, turns) refl
+turned_is state command n place bad is_turned divisor e turns = rw (e, turns) refl

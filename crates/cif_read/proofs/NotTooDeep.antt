@@ -62,7 +62,7 @@ shallow state (Define n above below) =
 shallow state Finish = finished_shallow state state.begun
 shallow state (Layer layer) = fine _
 shallow state (Area l w x y) = either _ _ _ bad_number (boxed_shallow state state.begun l w x y)
-shallow state (Call n place bad is_turned) = either is_turned (Err BadCommand) (called_at state n place.x place.y bad) bad_command (called_shallow state n place.x place.y bad)
+shallow state (Call n place bad is_turned divisor) = either is_turned (Err BadCommand) (called_at state n place.x place.y bad) bad_command (called_shallow state n place.x place.y bad)
 shallow state Extension = fine state
 
 not_deep : (answer : Result State CifKind) (kind : CifKind) → IsShallow answer → answer ≡ Err kind → kind ≡ TooDeep → ⊥

@@ -9,7 +9,8 @@ use lib.Signed.{mag_rem}
 use borrow.Author.Tests.{eqb-true, ltb-false}
 use Rattle.cif_lex.specs.Words.{limit}
 use Rattle.cif_lex.specs.Commands.{is_far}
-use Rattle.cif_read.specs.Acts.{scaled, is_odd, is_odd_area, is_bad_length, is_bad_factor, is_bad_area}
+use Rattle.cif_lex.specs.Shifts.{is_odd}
+use Rattle.cif_read.specs.Acts.{scaled, is_odd_area, is_bad_length, is_bad_factor, is_bad_area}
 use Rattle.cif_read.specs.Files.{IsWithin}
 use Rattle.cif_read.specs.Scales.{IsFactor}
 use Rattle.cif_read.specs.Readings.{IsExtent}
@@ -26,8 +27,11 @@ factor_distance : (a : ℤ) → IsFactor a → unsigned_abs a ≤ 2 ^ 16
 factor_distance (pos n) h = omega (arith, ints)
 factor_distance (negsuc n) h = absurd (omega (arith, ints))
 
-pub product_fits : (n a : ℤ) → IsWithin (2 ^ 30) n → IsFactor a → FitsSigned w64 (n *ℤ a)
-product_fits n a near factor = fits_signed_mul w64 n a (2 ^ 30) (2 ^ 16) (distance (2 ^ 30) n near) (factor_distance a factor) (omega arith)
+pub farther : (n : ℤ) → IsWithin (2 ^ 30) n → IsWithin (2 ^ 32) n
+farther n near = (omega (arith, ints, near.0), omega (arith, ints, near.1))
+
+pub product_fits : (n a : ℤ) → IsWithin (2 ^ 32) n → IsFactor a → FitsSigned w64 (n *ℤ a)
+product_fits n a near factor = fits_signed_mul w64 n a (2 ^ 32) (2 ^ 16) (distance (2 ^ 32) n near) (factor_distance a factor) (omega arith)
 
 pub is_no : (b : Bool) → (b ≡ true → ⊥) → b ≡ false
 is_no true h = absurd (h refl)

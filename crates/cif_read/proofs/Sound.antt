@@ -1,9 +1,10 @@
 -- What a reader keeps stays sound.
-use Rattle.std.proofs.Common.{◌≡◌, ◌≢◌, ℕ, suc, ◌+◌, ◌<◌, ◌≤◌, ◌^◌, ℤ, pos, Bool, true, false, cond, ◌||◌, Option, Some, None, IfSome, is_some, List, [], ◌∷◌, ◌++◌, map, length, get_or, refl, sym, ap, ◌∙◌, subst, arith, inl, inr}
-use Rattle.std.specs.List.{All, AllByRecursion}
+use Rattle.std.proofs.Common.{◌≡◌, ◌≢◌, ℕ, zero, suc, ◌+◌, ◌<◌, ◌≤◌, ◌^◌, ℤ, pos, Bool, true, false, cond, ◌||◌, Option, Some, None, IfSome, is_some, List, [], ◌∷◌, ◌++◌, map, length, get_or, refl, sym, ap, ◌∙◌, subst, arith, inl, inr}
+use Rattle.std.specs.List.{All, AllByRecursion, flat_map, range_with_len}
 use Rattle.std.specs.Ordering.{nat_cmp, is_eq}
 use Rattle.std.specs.BTreeMap.{BTreeMap, get, Updates}
-use Rattle.std.proofs.lemmas.List.{map_push, length_push, length-map, get_or_append_left, get_or_at}
+use Rattle.std.proofs.lemmas.Grind.{flat_map-append}
+use Rattle.std.proofs.lemmas.List.{append-nil, map_push, length_push, length-map, get_or_append_left, get_or_at}
 use Rattle.std.proofs.lemmas.List.Elements.{All-push, All-nil, All-weaker, recursion_from_All}
 use Rattle.std.proofs.lemmas.Bool.{cases_eq, false≢true}
 use Rattle.cif_read.proofs.Scales.{is_no}
@@ -16,7 +17,7 @@ use Rattle.cif_read.specs.declared.state.Begun.{Begun}
 use Rattle.cif_read.specs.declared.state.Reading.{Reading}
 use Rattle.cif_read.specs.Sheets.{Symbol, Drawn, own}
 use Rattle.cif_read.specs.Acts.{is_known, place_of, has_number}
-use Rattle.cif_read.specs.Files.{drawn_of, symbol_of, step_of, no_box, IsSolidWithin, IsStepOf}
+use Rattle.cif_read.specs.Files.{drawn_of, symbol_of, step_of, no_box, places_of_step, NamesInOrder, IsSolidWithin, IsStepOf}
 use Rattle.cif_read.specs.Readings.{IsSoundBegun, AreSound, IsSound, HasPlaces, place_among}
 use Rattle.cif_read.proofs.Placing.{solid_more}
 
@@ -31,6 +32,7 @@ done_more count more symbols boxes order le h = record {
   few_boxes = omega arith;
   few_steps = omega arith;
   few_in_symbols = All-weaker (λ (symbol : CifSymbol). length symbol.boxes ≤ count) (λ (symbol : CifSymbol). length symbol.boxes ≤ more) (λ symbol few. omega arith) symbols h.few_in_symbols;
+  named = h.named;
 }
 
 pub done_later : (count : ℕ) (symbols : List CifSymbol) (boxes : List MaskBox) (order : List CifStep) → AreSound count symbols boxes order → AreSound (count + 1) symbols boxes order
@@ -82,11 +84,28 @@ symbol_added count symbols after boxes order symbol e h solid few =
       few_boxes = omega arith;
       few_steps = omega arith;
       few_in_symbols = All-push (λ (s : CifSymbol). length s.boxes ≤ count + 1) symbols symbol later.few_in_symbols (omega arith);
+      named = h.named;
     })
 
-pub step_added : (count : ℕ) (symbols : List CifSymbol) (boxes : List MaskBox) (order after : List CifStep) (step : CifStep) → after ≡ order ++ step ∷ []
+-- ---- the places of boxes
+
+range_push : (a n : ℕ) → range_with_len a (suc n) ≡ range_with_len a n ++ (a + n) ∷ []
+range_push a zero = ap (λ (k : ℕ). k ∷ []) (let e : a ≡ a + 0 = omega arith in e)
+range_push a (suc n) =
+    ap (λ (ks : List ℕ). a ∷ ks) (range_push (a + 1) n ∙ ap (λ (k : ℕ). range_with_len (a + 1) n ++ k ∷ []) (let e : a + 1 + n ≡ a + suc n = omega arith in e))
+
+named_more : (order : List CifStep) (n : ℕ) → NamesInOrder order n → NamesInOrder (order ++ Own n ∷ []) (suc n)
+named_more order n h = flat_map-append places_of_step order (Own n ∷ []) ∙ (ap (λ (ks : List ℕ). ks ++ n ∷ []) h ∙ sym (range_push 0 n ∙ ap (λ (k : ℕ). range_with_len 0 n ++ k ∷ []) (let e : 0 + n ≡ n = omega arith in e)))
+
+named_still : (order : List CifStep) (step : CifStep) (n : ℕ) → places_of_step step ≡ [] → NamesInOrder order n → NamesInOrder (order ++ step ∷ []) n
+named_still order step n none h =
+    flat_map-append places_of_step order (step ∷ []) ∙ (ap (λ (ks : List ℕ). flat_map places_of_step order ++ (ks ++ [])) none ∙ (append-nil (flat_map places_of_step order) ∙ h))
+
+-- ---- one more step
+
+pub step_added : (count : ℕ) (symbols : List CifSymbol) (boxes : List MaskBox) (order after : List CifStep) (step : CifStep) → after ≡ order ++ step ∷ [] → places_of_step step ≡ []
     → AreSound count symbols boxes order → IsStepOf (length symbols) (length boxes) step → AreSound (count + 1) symbols boxes after
-step_added count symbols boxes order after step e h is_step =
+step_added count symbols boxes order after step e none h is_step =
     let later = done_later count symbols boxes order h in
     let more = length_push order step in
     subst (AreSound (count + 1) symbols boxes) (sym e) (record {
@@ -97,6 +116,7 @@ step_added count symbols boxes order after step e h is_step =
       few_boxes = omega arith;
       few_steps = omega arith;
       few_in_symbols = later.few_in_symbols;
+      named = named_still order step (length boxes) none h.named;
     })
 
 pub box_added : (count : ℕ) (symbols : List CifSymbol) (boxes more_boxes : List MaskBox) (order more_order : List CifStep) (box : MaskBox)
@@ -117,6 +137,7 @@ box_added count symbols boxes more_boxes order more_order box e f h solid =
       few_boxes = omega arith;
       few_steps = omega arith;
       few_in_symbols = later.few_in_symbols;
+      named = subst (λ (n : ℕ). NamesInOrder more_order n) (let n : suc (length boxes) ≡ length more_boxes = omega (arith, one) in n) (subst (λ (os : List CifStep). NamesInOrder os (suc (length boxes))) (sym f) (named_more order (length boxes) h.named));
     }
 
 -- ---- steps, as they are drawn

@@ -1,11 +1,12 @@
 -- What each command of CIF does, and why it may not stand where it stands.
-use Rattle.std.specs.Prelude.{ℕ, ◌+◌, ℤ, pos, ◌+ℤ◌, ◌-ℤ◌, ◌*ℤ◌, int_lt, int_div, int_rem, Bool, not, ◌||◌, if◌then◌else◌, Option, Some, None, is_some, Result, Ok, Err, List, [], ◌∷◌, ◌++◌}
+use Rattle.std.specs.Prelude.{ℕ, ◌+◌, ℤ, pos, ◌+ℤ◌, ◌-ℤ◌, ◌*ℤ◌, int_lt, int_div, Bool, ◌||◌, if◌then◌else◌, Option, Some, None, is_some, Result, Ok, Err, List, [], ◌∷◌, ◌++◌}
 use Rattle.std.specs.List.{list_any}
 use Rattle.std.specs.Ordering.{int_eq}
 use Rattle.lam_geom.specs.declared.boxes.MaskLayer.{MaskLayer}
 use Rattle.cif_lex.specs.declared.command.Command.{Command}
 use Rattle.cif_lex.specs.declared.command.Command.TheVariants.{Nothing, Define, Finish, Layer, Area, Call, Extension}
 use Rattle.cif_lex.specs.Commands.{is_far}
+use Rattle.cif_lex.specs.Shifts.{is_odd}
 use Rattle.cif_read.specs.declared.fault.CifKind.{CifKind}
 use Rattle.cif_read.specs.declared.fault.CifKind.TheVariants.{BadCommand, BadNumber, NestedDefinition, RepeatedSymbol, UnknownSymbol, NoLayer, OddScale}
 use Rattle.cif_read.specs.Sheets.{Drawn, Symbol, Step, own, called}
@@ -67,13 +68,11 @@ is_bad_call n x y bad = is_bad_symbol n || bad || is_far x || is_far y
 
 -- ---- boxes
 
--- a number of a definition in hundredths of a micron, and whether that is no whole number
+-- a number of a definition in hundredths of a micron
 abbrev pub scaled : ℤ → ℤ → ℤ → ℤ
 scaled above below n = int_div (n *ℤ above) below
 
-abbrev pub is_odd : ℤ → ℤ → ℤ → Bool
-is_odd above below n = not (int_eq (int_rem (n *ℤ above) below) (pos 0))
-
+-- one of the four numbers of a box is no whole number of them
 abbrev pub is_odd_area : ℤ → ℤ → ℤ → ℤ → ℤ → ℤ → Bool
 is_odd_area above below l w x y = is_odd above below l || is_odd above below w || is_odd above below x || is_odd above below y
 
@@ -138,5 +137,5 @@ act state (Define n above below) = defined state n above below
 act state Finish = finished state state.begun
 act state (Layer layer) = Ok (named state state.begun layer)
 act state (Area l w x y) = if is_bad_area l w x y then Err BadNumber else boxed state state.begun l w x y
-act state (Call n place bad is_turned) = if is_turned then Err BadCommand else called_at state n place.x place.y bad
+act state (Call n place bad is_turned divisor) = if is_turned then Err BadCommand else called_at state n place.x place.y bad
 act state Extension = Ok state

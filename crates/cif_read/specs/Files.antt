@@ -1,5 +1,6 @@
 -- What a file that has been read holds, as a sheet.
-use Rattle.std.specs.Prelude.{ℕ, ◌≢◌, ◌<◌, ◌≤◌, ◌^◌, ℤ, pos, neg_ℤ, ◌≤ℤ◌, ◌<ℤ◌, All, List, map, length, slice_index_or}
+use Rattle.std.specs.Prelude.{◌≡◌, ℕ, ◌≢◌, ◌<◌, ◌≤◌, ◌^◌, ℤ, pos, neg_ℤ, ◌≤ℤ◌, ◌<ℤ◌, All, List, [], ◌∷◌, map, length, slice_index_or}
+use Rattle.std.specs.List.{flat_map, range_with_len}
 use Rattle.lam_geom.specs.declared.boxes.MaskBox.{MaskBox}
 use Rattle.lam_geom.specs.declared.boxes.MaskLayer.TheVariants.{ND}
 use Rattle.cif_read.specs.declared.fault.CifReadFault.{CifReadFault}
@@ -29,6 +30,14 @@ drawn_at boxes k = slice_index_or (map drawn_of boxes) k no_box
 abbrev pub step_of : List MaskBox → CifStep → Step
 step_of boxes (Own k) = own (drawn_at boxes k)
 step_of boxes (Called symbol x y) = called symbol x y
+
+-- steps name so many boxes once each, in their order: the places are 0, 1, 2, ..
+abbrev pub places_of_step : CifStep → List ℕ
+places_of_step (Own k) = k ∷ []
+places_of_step (Called symbol x y) = []
+
+abbrev pub NamesInOrder : List CifStep → ℕ → Type 0
+NamesInOrder order boxes = flat_map places_of_step order ≡ range_with_len 0 boxes
 
 abbrev pub sheet_of : CifFile → Sheet
 sheet_of file = record { symbols = map symbol_of file.symbols; steps = map (step_of file.boxes) file.order }

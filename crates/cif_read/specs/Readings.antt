@@ -13,7 +13,7 @@ use Rattle.cif_read.specs.Sheets.{Symbol, Sheet}
 use Rattle.cif_read.specs.Acts.{State, Definition, is_known, place_of}
 use Rattle.cif_read.specs.Meaning.{BeginsWell}
 use Rattle.cif_read.specs.Scales.{IsScale}
-use Rattle.cif_read.specs.Files.{drawn_of, symbol_of, step_of, IsSolidWithin, IsStepOf}
+use Rattle.cif_read.specs.Files.{drawn_of, symbol_of, step_of, NamesInOrder, IsSolidWithin, IsStepOf}
 
 -- ---- as a state
 
@@ -51,6 +51,7 @@ pub record AreSound (count : ℕ) (symbols : List CifSymbol) (boxes : List MaskB
   pub few_boxes : length boxes ≤ count
   pub few_steps : length order ≤ count
   pub few_in_symbols : All (λ (symbol : CifSymbol). length symbol.boxes ≤ count) symbols
+  pub named : NamesInOrder order (length boxes)
 
 -- the place of the symbol with this number, if there is one
 abbrev pub place_among : ℤ → List Symbol → Option ℕ

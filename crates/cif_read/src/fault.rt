@@ -7,6 +7,7 @@ ghost use Rattle.cif_read.specs.declared.fault.Stop.TheVariants as stops;
 ghost use Rattle.cif_read.specs.declared.fault.FlatFault.TheVariants as flats;
 
 use std::alloc::{AllocError, AllocFailed};
+use thiserror::Error;
 
 /// What is wrong at a place of a text.
 #[derive(Clone, Copy, Debug, PartialEq, Eq)]
@@ -24,7 +25,7 @@ pub enum CifKind {
     UnknownSymbol,
     /// A box before any layer was named.
     NoLayer,
-    /// A number of a box that is no whole number of hundredths of a micron in its definition's scale.
+    /// A number of a box, or of a shift of a call, that is no whole number of hundredths of a micron in its definition's scale.
     OddScale,
     /// Inside a definition, a call of a symbol that has calls 64 deep. A reader that knows no calls inside definitions never says so.
     TooDeep,
@@ -42,9 +43,11 @@ pub struct CifFault {
 }
 
 /// Why a text could not be read: its first fault, or want of memory.
-#[derive(Clone, Copy, Debug, PartialEq, Eq)]
+#[derive(Clone, Copy, Debug, PartialEq, Eq, Error)]
 pub enum CifReadFault {
+    #[error("the text has a fault")]
     Cif(CifFault),
+    #[error("out of memory")]
     OutOfMemory,
 }
 
@@ -64,9 +67,11 @@ impl<T: Drop> From<AllocFailed<T>> for Stop {
 }
 
 /// Why a file could not be flattened: it has more than 1,048,576 boxes, or want of memory.
-#[derive(Clone, Copy, Debug, PartialEq, Eq)]
+#[derive(Clone, Copy, Debug, PartialEq, Eq, Error)]
 pub enum FlatFault {
+    #[error("too many boxes")]
     TooMany,
+    #[error("out of memory")]
     OutOfMemory,
 }
 

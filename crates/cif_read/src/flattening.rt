@@ -1,5 +1,5 @@
 //! All boxes of a file.
-ghost use Rattle.std.specs.Prelude.{◌≡◌, ◌≤◌, ◌<◌, ◌^◌, ◌+ℤ◌, ◌++◌, All, IfOk, IfErr, OnOk, IfSome, IfNone, length, map};
+ghost use Rattle.std.specs.Prelude.{◌≡◌, ◌≤◌, ◌<◌, ◌^◌, ◌+ℤ◌, ◌++◌, ◌↔◌, All, IfOk, IfErr, OnOk, IfSome, IfNone, length, map};
 ghost use Rattle.lam_geom.specs.Places.{IsPlacedBox};
 ghost use Rattle.cif_read.specs.Sheets.{flattened, moved};
 ghost use Rattle.cif_read.specs.Files.{sheet_of, drawn_of, drawn_in_step, most_boxes, CanBeFlattened, IsSolid, IsSolidWithin, IsStepOf, IsWithin};
@@ -114,14 +114,14 @@ fn push_step(out: &mut Vec<MaskBox>, file: &CifFile, step: CifStep) -> Result<()
 }
 
 /// The boxes of the layers that are kept, in the order of the file, calls in place, in grains. `TooMany` comes exactly where there
-/// are more than 1,048,576. Linear in the steps and the boxes.
+/// are more than 1,048,576: counting takes no memory. Linear in the steps and the boxes.
 pub fn flatten(alloc: Global, file: &CifFile) -> Result<Vec<MaskBox>, FlatFault>
     requires { CanBeFlattened file.now }
     ensures boxes { IfOk result (λ boxes. map drawn_of boxes.items ≡ flattened (sheet_of file.now)) }
     ensures few { IfOk result (λ boxes. length boxes.items ≤ most_boxes) }
     ensures placed { IfOk result (λ boxes. All (λ box. IsPlacedBox box.area) boxes.items) }
     ensures solid { IfOk result (λ boxes. All IsSolid boxes.items) }
-    ensures too_many { IfErr result (λ fault. fault ≡ TooMany → most_boxes < length (flattened (sheet_of file.now))) }
+    ensures too_many { IfErr result (λ fault. (fault ≡ TooMany) ↔ (most_boxes < length (flattened (sheet_of file.now)))) }
 {
     let Some(total) = count(file) else {
         return Err(FlatFault::TooMany);

@@ -1,7 +1,8 @@
 //! The numbers of commands, and the boxes that they make.
 ghost use Rattle.std.specs.Prelude.{◌≡◌, ◌^◌, pos, ◌+ℤ◌, ◌-ℤ◌, ◌*ℤ◌, ◌≤ℤ◌, false};
 ghost use Rattle.cif_lex.specs.Commands.{is_far};
-ghost use Rattle.cif_read.specs.Acts.{is_bad_symbol, is_bad_factor, is_bad_length, is_bad_area, is_bad_call, scaled, is_odd, drawn_box};
+ghost use Rattle.cif_lex.specs.Shifts.{is_odd};
+ghost use Rattle.cif_read.specs.Acts.{is_bad_symbol, is_bad_factor, is_bad_length, is_bad_area, is_bad_call, scaled, drawn_box};
 ghost use Rattle.cif_read.specs.Files.{IsWithin, IsSolidWithin, drawn_of};
 ghost use Rattle.cif_read.specs.Scales.{IsFactor};
 ghost use Rattle.cif_read.specs.Readings.{IsExtent};
@@ -56,7 +57,7 @@ pub fn is_bad_call(n: i64, x: i64, y: i64, bad: bool) -> bool
 pub fn is_odd(above: i64, below: i64, n: i64) -> bool
     requires above { IsFactor above }
     requires below { IsFactor below }
-    requires near { IsWithin (2 ^ 30) n }
+    requires near { IsWithin (2 ^ 32) n }
     ensures { result ≡ is_odd above below n }
 {
     n * above % below != 0

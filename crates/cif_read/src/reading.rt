@@ -3,7 +3,7 @@ ghost use Rattle.std.specs.Prelude.{◌≡◌, ◌^◌, ◌<◌, ◌≤◌, None
 ghost use Rattle.cif_lex.specs.declared.command.Next.TheVariants as nexts;
 ghost use Rattle.cif_lex.specs.Commands.{IsNext};
 ghost use Rattle.cif_read.specs.Meaning.{Means};
-ghost use Rattle.cif_read.specs.Files.{sheet_of, CanBeFlattened, IsCauseOf, IsNotTooDeep};
+ghost use Rattle.cif_read.specs.Files.{sheet_of, NamesInOrder, CanBeFlattened, IsCauseOf, IsNotTooDeep};
 ghost use Rattle.cif_read.specs.Readings.{state_of, sheet_of_state, IsSound, HasRead, HasReadAll};
 
 use crate::fault::{CifKind, CifReadFault, cause_at, fault_at};
@@ -83,6 +83,7 @@ fn read_end(bytes: &[u8], begin: usize, reading: &Reading) -> Result<(), CifRead
 fn file_of(reading: Reading) -> CifFile
     requires { IsSound (2 ^ 26) reading }
     ensures sheet { sheet_of result ≡ sheet_of_state (state_of reading) }
+    ensures named { NamesInOrder result.order (length result.boxes) }
     ensures flat { CanBeFlattened result }
 {
     CifFile {
@@ -96,6 +97,7 @@ fn file_of(reading: Reading) -> CifFile
 pub fn read_cif(alloc: Global, bytes: &[u8]) -> Result<CifFile, CifReadFault>
     requires few { length bytes.now ≤ 2 ^ 26 }
     ensures means { IfOk result (λ file. Means bytes.now (sheet_of file)) }
+    ensures named { IfOk result (λ file. NamesInOrder file.order (length file.boxes)) }
     ensures flat { IfOk result CanBeFlattened }
     ensures fault { IfErr result (IsCauseOf bytes.now) }
     ensures shallow { IfErr result IsNotTooDeep }

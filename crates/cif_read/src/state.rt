@@ -218,6 +218,7 @@ impl Reading {
                 place,
                 bad,
                 turned,
+                divisor: _,
             } => {
                 if turned {
                     return Err(Stop::Refused(CifKind::BadCommand));

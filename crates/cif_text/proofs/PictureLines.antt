@@ -12,8 +12,8 @@ use Rattle.rule_table.specs.Bounds.{IsSize}
 use Rattle.rule_table.specs.Technology.{numbers_of}
 use Rattle.rule_table.specs.declared.technology.Tech.{Tech}
 use Rattle.list_facts.proofs.Elements.{all_map}
-use Rattle.mask_out.specs.declared.picture.Call.{Call}
-use Rattle.mask_out.specs.declared.picture.Symbol.{Symbol}
+use Rattle.mask_out.specs.declared.drawing.Call.{Call}
+use Rattle.mask_out.specs.declared.drawing.Symbol.{Symbol}
 use Rattle.mask_out.specs.Masks.{Mask, mask_of, is_same_layer, mask_layers}
 use Rattle.mask_out.specs.Pictures.{IsCallOf}
 use Rattle.cif_text.specs.Cif.{box_text, layer_name, layer_text, layers_text, scale_line, symbol_text}

@@ -3,9 +3,9 @@ use Rattle.std.specs.Prelude.{ℕ, ◌+◌, ◌^◌, ◌<◌, ◌≤◌, ℤ, �
 use Rattle.std.specs.Fmt.{signed_decimal}
 use Rattle.std.specs.List.{range_with_len}
 use Rattle.lam_geom.specs.Places.{IsPlacedBox}
-use Rattle.mask_out.specs.declared.picture.Call.{Call}
-use Rattle.mask_out.specs.declared.picture.Picture.{Picture}
-use Rattle.mask_out.specs.declared.picture.Symbol.{Symbol}
+use Rattle.mask_out.specs.declared.drawing.Call.{Call}
+use Rattle.mask_out.specs.declared.drawing.Picture.{Picture}
+use Rattle.mask_out.specs.declared.drawing.Symbol.{Symbol}
 use Rattle.mask_out.specs.Pictures.{Drawing, no_drawing, IsWithin, IsCallOf}
 use Rattle.cif_text.specs.Cif.{symbol_text}
 

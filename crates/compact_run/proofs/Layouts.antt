@@ -1,5 +1,5 @@
 -- How masters are laid out, or refused.
-use Rattle.std.proofs.Common.{◌≡◌, ℕ, ◌*◌, ℤ, pos, negsuc, List, get_or, take, inl, inr, sym, subst, arith, ◌<◌, ◌≤◌, length}
+use Rattle.std.proofs.Common.{◌≡◌, ℕ, ◌*◌, ℤ, pos, negsuc, List, [], get_or, take, inl, inr, sym, subst, arith, ◌<◌, ◌≤◌, length}
 use Rattle.std.specs.Prelude.{All, Contains, ◌≤ℤ◌, ◌*ℤ◌, ◌^◌}
 use Rattle.std.proofs.Math.IntN.{pos-*ℤ-pos}
 use Rattle.std.proofs.Math.Nat.{le-mul_of_pos_right}
@@ -29,7 +29,8 @@ use Rattle.pitch_join.specs.Masters.{master_at, no_master}
 use Rattle.grid_rules.specs.Rules.{AreFinished}
 use Rattle.mask_out.specs.Pictures.{HaveBoxes}
 use Rattle.pass_run.specs.Laid.{AreLaidOut, StartsClean}
-use Rattle.pass_run.specs.Theorems.{AreWellPlaced}
+use Rattle.pass_run.specs.Layouts.{starts_of}
+use Rattle.pass_run.specs.Theorems.{AreSound, AreWellPlaced}
 use Rattle.pass_run.specs.declared.step.Step.{Step}
 use Rattle.pass_run.specs.declared.passes.PassFault.{PassFault}
 use Rattle.pass_run.specs.declared.passes.PassFault.TheVariants as stop
@@ -68,11 +69,11 @@ stopped tech plan masters axes (stop.Unsatisfiable pass report) clean why = reco
 stopped tech plan masters axes stop.OutOfMemory clean why = tt
 
 pub too_large : (tech : Tech) (plan : Plan) (masters : List Master) (axes : List Axis) (steps : List Step) (layouts : List Coords) (ended : Status)
-    → ArePassesOn tech plan masters axes steps → layouts ≡ last_layouts tech masters steps
+    → ArePassesOn tech plan masters axes steps → AreSound tech plan masters [] (starts_of tech masters) steps → layouts ≡ last_layouts tech masters steps
     → ended ≡ status.TooLarge Extent → IsPast tech plan layouts → Refused (RefusesMasters tech plan masters axes) (plain ended)
-too_large tech plan masters axes steps layouts ended made is e past =
+too_large tech plan masters axes steps layouts ended made sound is e past =
     let P : List Coords → Type 0 = λ cs. IsPast tech plan cs in
-    let large : HasLargeExtent tech plan masters axes = record { steps = steps; made = made; past = subst P is past } in
+    let large : HasLargeExtent tech plan masters axes = record { steps = steps; made = made; sound = sound; past = subst P is past } in
     rw e large
 
 -- ---- what the passes leave

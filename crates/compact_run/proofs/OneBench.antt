@@ -10,6 +10,7 @@ use Rattle.net_extract.specs.Laws.{IsExtractionDetermined}
 use Rattle.grid_rules.specs.Sticks.{IsSticksNetlist}
 use Rattle.design_gen.specs.Made.{made}
 use Rattle.cif_answers.proofs.Determined.{extracted_same}
+use Rattle.compact_run.specs.declared.status.What.TheVariants.{Extent}
 use Rattle.compact_run.specs.declared.status.Status.{Status}
 use Rattle.compact_run.specs.declared.status.Status.TheVariants as status
 use Rattle.compact_run.specs.Refusal.{line_of}
@@ -105,6 +106,7 @@ benches_once extraction n e f o p r s (told h ce cr) (told k de dr) = (ce ∙ sy
 as_made : (n : ℕ) (ended : Status) (own : Bytes) → RefusesBench n ended own → IsDecided ended → IsMadeRefused n ended own
 as_made n status.OutOfMemory own why d = absurd d
 as_made n (status.BadSticks fault) own why d = absurd why
+as_made n (status.TooLarge Extent) own why d = absurd why
 as_made n other own why d = why
 
 pub bench_refused : (n : ℕ) (ended : Status) (own : Bytes) → RefusesBench n ended own → IsDecided ended → Benches n ended [] (line_of ended own)

@@ -5,6 +5,7 @@ use Rattle.rule_table.specs.declared.technology.Tech.{Tech}
 use Rattle.cif_answers.specs.declared.fault.TextFault.{TextFault}
 use Rattle.cif_answers.specs.declared.fault.TextFault.TheVariants as fault
 use Rattle.cif_answers.specs.Texts.{HasNetlist, HasVerdict, RefusesNetlist, RefusesVerdict, AnswersAreDetermined}
+use Rattle.compact_run.specs.Refusals.{status_for}
 use Rattle.compact_run.specs.declared.cif.CifJob.{CifJob}
 use Rattle.compact_run.specs.declared.cif.CifJob.TheVariants.{Extract, Check}
 use Rattle.compact_run.specs.declared.status.File.TheVariants.{Cif}
@@ -36,26 +37,19 @@ of_job : OneOutput → (job : CifJob) → AreDetermined job
 of_job laws Extract = laws.netlist
 of_job laws Check = laws.verdict
 
--- the status and the line of a text's fault
-abbrev pub status_of : TextFault → Status
-status_of (fault.Cif f) = status.BadCif f
-status_of fault.TooMany = status.TooLarge Boxes
-status_of (fault.NotProper a b) = status.NotProper a b
-status_of (fault.Broken first) = status.RuleBroken first
-status_of fault.OutOfMemory = status.OutOfMemory
-
+-- the line of a text's fault
 abbrev says : TextFault → Bytes
 says (fault.Cif f) = cif_line f
 says fault.TooMany = too_large_line Boxes
 says (fault.NotProper a b) = improper_line a b
-says (fault.Broken first) = broken_line first
+says (fault.Broken first) = broken_line first.rule first.a first.b
 says fault.OutOfMemory = []
 
 -- The file is too long, or its text has an output, or a fault.
 pub data Over (job : CifJob) (tech : Tech) (name : Bytes) (files : Files) (ended : Status) (output report : Bytes) : Type 0 where
   long : IsLongFile files Cif name → ended ≡ status.TooLong Cif → output ≡ [] → report ≡ too_long_line Cif → Over job tech name files ended output report
   given : (text : Bytes) → HasFile files Cif name text → HasOutput job tech text output → ended ≡ status.Done → report ≡ [] → Over job tech name files ended output report
-  faulty : (text : Bytes) (f : TextFault) → HasFile files Cif name text → (f ≡ fault.OutOfMemory → ⊥) → RefusesOutput job tech text f → ended ≡ status_of f → output ≡ [] → report ≡ says f
+  faulty : (text : Bytes) (f : TextFault) → HasFile files Cif name text → (f ≡ fault.OutOfMemory → ⊥) → RefusesOutput job tech text f → ended ≡ status_for f → output ≡ [] → report ≡ says f
       → Over job tech name files ended output report
 
 pub over_once : OneOutput → (job : CifJob) (tech : Tech) (name : Bytes) (files : Files) (e f : Status) (o p r s : Bytes) → Over job tech name files e o r → Over job tech name files f p s → AreSame e f o p r s
@@ -76,7 +70,7 @@ over_once laws job tech name files e f o p r s (faulty u y here n d de do_ dr) (
 over_once laws job tech name files e f o p r s (faulty t x there m c ce co cr) (faulty u y here n d de do_ dr) =
     let d : RefusesOutput job tech t y = subst (λ (z : Bytes). RefusesOutput job tech z y) (one_text files Cif name u t here there) d in
     let same = (of_job laws job tech t there.short).one_cause x y m n c d in
-    (ce ∙ ap status_of same ∙ sym de, co ∙ sym do_, cr ∙ ap says same ∙ sym dr)
+    (ce ∙ ap status_for same ∙ sym de, co ∙ sym do_, cr ∙ ap says same ∙ sym dr)
 
 -- a meaning or too many boxes refuse either
 reading_refused : (job : CifJob) (tech : Tech) (text : Bytes) (f : CifFault) → IsFirstFault text f → RefusesOutput job tech text (fault.Cif f)
@@ -94,7 +88,7 @@ file_refused job tech name files (status.TooLong Cif) own (no_text l) d = long l
 file_refused job tech name files (status.BadCif f) own (no_output text there why) d = faulty text (fault.Cif f) there (λ e. cc) (reading_refused job tech text f why.0) refl refl why.1
 file_refused job tech name files (status.TooLarge Boxes) own (no_output text there why) d = faulty text fault.TooMany there (λ e. cc) (many_refused job tech text why) refl refl refl
 file_refused Extract tech name files (status.NotProper a b) own (no_output text there why) d = faulty text (fault.NotProper a b) there (λ e. cc) why.0 refl refl why.1
-file_refused Check tech name files (status.RuleBroken first) own (no_output text there why) d = faulty text (fault.Broken first) there (λ e. cc) why.0 refl refl why.1
+file_refused Check tech name files (status.RuleBroken rule a b) own (no_output text there why) d = faulty text (fault.Broken (record { rule = rule; a = a; b = b })) there (λ e. cc) why.0 refl refl why.1
 file_refused job tech name files other own (no_text why) d = absurd why
 file_refused job tech name files other own (no_output text there why) d = absurd why
 

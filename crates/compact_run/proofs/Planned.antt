@@ -27,7 +27,7 @@ use Rattle.plan_model.specs.Plan.{AreOfMasters, IsPlanOver, grids_of}
 use Rattle.pitch_join.specs.Masters.{no_master, ArePlanned, master_ports, ports_of_masters, parts_in}
 use Rattle.grid_plan.specs.Numbered.{ports_of_chosen}
 use Rattle.grid_plan.specs.Planned.{IsPlanOf}
-use Rattle.mask_out.specs.declared.picture.Symbol.{Symbol}
+use Rattle.mask_out.specs.declared.drawing.Symbol.{Symbol}
 use Rattle.mask_out.specs.Pictures.{Drawing, drawing_of, drawing_in}
 use Rattle.cif_text.specs.Calls.{CanBeWritten}
 use Rattle.compact_run.specs.Designs.{HasShortName}

@@ -3,6 +3,7 @@
 use Rattle.std.proofs.Common.{◌≡◌, ℕ, suc, ◌+◌, ◌*◌, ◌<◌, ◌≤◌, ◌^◌, ℤ, pos, ◌+ℤ◌, ◌≤ℤ◌, List, [], ◌∷◌, length, get_or, map, inl, inr, refl, sym, ap, ◌∙◌, subst, arith}
 use Rattle.std.specs.Prelude.{Contains}
 use Rattle.std.specs.List.{All, Any, flat_map}
+use Rattle.std.proofs.Math.Nat.{mul-zero, mul-suc}
 use Rattle.std.proofs.lemmas.Int.{ints}
 use Rattle.std.proofs.lemmas.Bool.{cases_eq, eqb-true}
 use Rattle.std.proofs.lemmas.Bool.Decides.{Decides-eqb}
@@ -52,6 +53,7 @@ use Rattle.pitch_join.proofs.Shape.{fixed_shape}
 use Rattle.pitch_join.proofs.Solving.{joining_meets}
 use Rattle.pass_run.specs.declared.step.Step.{Step}
 use Rattle.pass_run.specs.Passes.{IsLeastPass}
+use Rattle.pass_run.specs.Report.{walk_at}
 use Rattle.pass_run.specs.Slack.{IsMostAfter}
 use Rattle.pass_run.specs.Theorems.{HasCriticalPath}
 use Rattle.pass_run.proofs.Pairs.{kept_pairs_among, kept_spaced}
@@ -168,15 +170,15 @@ list_fit axis tech plan masters layouts planned =
     (All-weaker (IsEdgeAmong vars) (IsFit vars) (λ e h. record { among = h.to_in_range; short = h.length_high }) fixed (fixed_shape axis tech plan masters planned).edges_among)
     ((of_numbered (IsFit vars) (kept_edges_at axis tech masters layouts) (length masters)).1 (λ m lt. own_fit axis tech masters layouts m (planned.each m no_master lt) lt))
 
--- a walk of such inequalities is not longer than they are many
-walk_long : (vars : ℕ) (edges : List Edge) (walk : List ℕ) → All (IsFit vars) edges → All (λ k. k < length edges) walk → length_of edges walk ≤ℤ pos (2 ^ 21 * length walk)
-walk_long vars edges [] fit in_range = omega (arith, ints)
-walk_long vars edges (k ∷ ks) fit in_range =
+-- a walk of inequalities that are at most so long is not longer than they are many
+walk_long : (most : ℕ) (edges : List Edge) (walk : List ℕ) → All (λ (e : Edge). e.len ≤ℤ pos most) edges → All (λ k. k < length edges) walk → length_of edges walk ≤ℤ pos (most * length walk)
+walk_long most edges [] short in_range = omega (arith, ints, mul-zero most)
+walk_long most edges (k ∷ ks) short in_range =
     let R : ℕ → Type 0 = λ i. i < length edges in
-    let first : (edge_at edges k).len ≤ℤ pos (2 ^ 21) = (fit k (record { from = 0; to = 0; len = pos 0; why = Size }) (in_range 0 0 (omega arith))).short in
-    let rest = walk_long vars edges ks fit (All-tail R k ks in_range) in
+    let first : (edge_at edges k).len ≤ℤ pos most = short k (record { from = 0; to = 0; len = pos 0; why = Size }) (in_range 0 0 (omega arith)) in
+    let rest = walk_long most edges ks short (All-tail R k ks in_range) in
     let sum : length_of edges (k ∷ ks) ≡ (edge_at edges k).len +ℤ length_of edges ks = refl in
-    omega (arith, ints, first, rest, sum)
+    omega (arith, ints, first, rest, sum, mul-suc most (length ks))
 
 -- and these are few where it meets no variable twice
 walk_few : (vars : ℕ) (edges : List Edge) (walk : List ℕ) → 1 ≤ vars → All (IsFit vars) edges → All (λ k. k < length edges) walk → HasNoRepeat (0 ∷ heads_of edges walk) → length walk ≤ vars
@@ -190,18 +192,28 @@ walk_few vars edges walk from fit in_range once =
     let counted : length (heads_of edges walk) ≡ length walk = length-map walk head in
     omega (arith, few, counted)
 
--- a far border is no farther than the walk to it is long
+-- a far border is no farther than the walk to it is long, which has at most an inequality for each variable
+pub size_under : (most : ℕ) (tech : Tech) (plan : Plan) (masters : List Master) (before : List Coords) (step : Step) (m : ℕ) → ArePlanned tech plan masters → HasCriticalPath tech plan masters before step m
+    → All (λ (e : Edge). e.len ≤ℤ pos most) (list_over step.axis tech plan masters before)
+    → (n : ℕ) × (n ≤ joint_variables step.axis masters) × (value_of step.x (far_of step.axis masters m) ≤ℤ pos (most * n))
+size_under most tech plan masters before step m planned path short =
+    let edges : List Edge = list_over step.axis tech plan masters before in
+    let walk : List ℕ = (walk_at step m).edges in
+    let in_range = path.passes.in_range in
+    let few = walk_few (joint_variables step.axis masters) edges walk (omega arith) (list_fit step.axis tech plan masters before planned) in_range path.simple in
+    let long : length_of edges walk ≤ℤ pos (most * length walk) = walk_long most edges walk short in_range in
+    (length walk, few, subst (λ z. z ≤ℤ pos (most * length walk)) path.as_long long)
+
 size_within : (tech : Tech) (plan : Plan) (masters : List Master) (before : List Coords) (step : Step) (m : ℕ) → ArePlanned tech plan masters → HasCriticalPath tech plan masters before step m
     → value_of step.x (far_of step.axis masters m) ≤ℤ pos (2 ^ 38)
 size_within tech plan masters before step m planned path =
-    let edges : List Edge = list_over step.axis tech plan masters before in
-    let fit = list_fit step.axis tech plan masters before planned in
+    let F : Edge → Type 0 = IsFit (joint_variables step.axis masters) in
+    let short = All-weaker F (λ e. e.len ≤ℤ pos (2 ^ 21)) (λ e h. h.short) (list_over step.axis tech plan masters before) (list_fit step.axis tech plan masters before planned) in
     let few = joint_few step.axis masters (planned_few tech plan masters planned) planned.few_parts in
-    let in_range = path.passes.in_range in
-    let short = walk_few (joint_variables step.axis masters) edges _ (omega arith) fit in_range path.simple in
-    let long = walk_long (joint_variables step.axis masters) edges _ fit in_range in
-    let as_long = path.as_long in
-    omega (arith, ints, few, short, long, as_long)
+    let size = size_under (2 ^ 21) tech plan masters before step m planned path short in
+    let walk = size.1 in
+    let long = size.2 in
+    omega (arith, ints, few, walk, long)
 
 -- ---- all values of a pass
 

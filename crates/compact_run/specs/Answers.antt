@@ -198,7 +198,7 @@ RefusesText job tech text status.OutOfMemory own = Unit {0}
 RefusesText job tech text (status.BadCif fault) own = IsFirstFault text fault × (own ≡ cif_line fault)
 RefusesText job tech text (status.TooLarge Boxes) own = HasTooManyBoxes text
 RefusesText Extract tech text (status.NotProper a b) own = IsNotProper tech text a b × (own ≡ improper_line a b)
-RefusesText Check tech text (status.RuleBroken first) own = IsBroken tech text first × (own ≡ broken_line first)
+RefusesText Check tech text (status.RuleBroken rule a b) own = IsBroken tech text (record { rule = rule; a = a; b = b }) × (own ≡ broken_line rule a b)
 RefusesText job tech text other own = ⊥
 
 -- why there is no CIF text

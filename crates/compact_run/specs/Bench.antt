@@ -16,6 +16,7 @@ use Rattle.net_extract.specs.declared.netlist.Netlist.{Netlist}
 use Rattle.grid_rules.specs.Sticks.{IsSticksNetlist}
 use Rattle.design_gen.specs.Made.{made}
 use Rattle.compact_run.specs.declared.bench.Tally.{Tally}
+use Rattle.compact_run.specs.declared.status.What.TheVariants.{Extent}
 use Rattle.compact_run.specs.declared.status.Status.{Status}
 use Rattle.compact_run.specs.declared.status.Status.TheVariants as status
 use Rattle.compact_run.specs.Plans.{AreMastersOf}
@@ -85,8 +86,9 @@ pub record IsMadeRefused (n : ℕ) (ended : Status) (own : Bytes) : Type 0 where
   pub shipped : IsShipped technology
   pub why : RefusesDesign technology x_then_y (made n) ended own
 
--- Why `bench N` is refused: as its design is, which has no fault of names or sizes.
+-- Why `bench N` is refused: as its design is, which has no fault of names or sizes, and is not too large when it is laid out.
 abbrev pub RefusesBench : ℕ → Status → Bytes → Type 0
 RefusesBench n status.OutOfMemory own = Unit {0}
 RefusesBench n (status.BadSticks fault) own = ⊥
+RefusesBench n (status.TooLarge Extent) own = ⊥
 RefusesBench n ended own = IsMadeRefused n ended own

@@ -6,9 +6,9 @@ use Rattle.lam_io.specs.Io.{Bytes, Files}
 use Rattle.compact_run.specs.declared.cif.CifJob.TheVariants.{Check}
 use Rattle.compact_run.specs.Answers.{IsCompacted, IsTold}
 
--- What `compact` writes, put on a shelf with the same technology, is answered `ok` by `check`.
+-- What `compact` writes, put on a shelf with the same technology, under whatever names, is answered `ok` by `check`.
 abbrev pub MasksPassTheCheck : Type 0
 MasksPassTheCheck =
     (design tech : Bytes) (axes : List Axis) (files : Files) (output report : Bytes) → IsCompacted design tech axes files output report
-    → (others : Files) (cif : Bytes) → get others cif ≡ Some output → get others tech ≡ get files tech
-    → IsTold Check cif tech others (codes "ok\n")
+    → (others : Files) (cif rules : Bytes) → get others cif ≡ Some output → get others rules ≡ get files tech
+    → IsTold Check cif rules others (codes "ok\n")

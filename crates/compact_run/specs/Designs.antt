@@ -139,10 +139,11 @@ pub record AreMasksIn (tech : Tech) (axes : List Axis) (design : Design) (pieces
   pub laid_out : ArePlaced tech plan masters axes steps
   pub cut : AreCut (masks_parts tech plan masters steps) pieces
 
--- The last layouts are too large together: too wide or too high.
+-- The last layouts are too large together: too wide or too high. The walks of each pass are critical paths all the same.
 pub record HasLargeExtent (tech : Tech) (plan : Plan) (masters : List Master) (axes : List Axis) : Type 0 where
   pub steps : List Step
   pub made : ArePassesOn tech plan masters axes steps
+  pub sound : AreSound tech plan masters [] (starts_of tech masters) steps
   pub past : IsPast tech plan (last_layouts tech masters steps)
 
 -- The start layouts are clean, and a pass is the first that is refused, for this cause.

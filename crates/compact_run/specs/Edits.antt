@@ -1,5 +1,5 @@
 -- What `edit` writes: after each line of a script, what the design so far comes to, in a word.
-use Rattle.std.specs.Prelude.{◌≡◌, ◌≢◌, ℕ, suc, ◌<◌, ◌≤◌, All, List, [], ◌∷◌, ◌++◌, length, flat_map, Ok, codes, decimal}
+use Rattle.std.specs.Prelude.{◌≡◌, ◌≢◌, ℕ, suc, ◌<◌, ◌≤◌, All, List, [], ◌∷◌, ◌++◌, length, flat_map, Bool, true, false, Option, Some, None, Result, Ok, Err, codes, decimal}
 use Rattle.std.specs.Fmt.{signed_decimal}
 use Rattle.lam_geom.specs.declared.boxes.Axis.{Axis}
 use Rattle.lam_geom.specs.declared.boxes.Axis.TheVariants.{X, Y}
@@ -8,6 +8,8 @@ use Rattle.rule_table.specs.declared.technology.Tech.{Tech}
 use Rattle.sym_items.specs.declared.items.Coords.{Coords}
 use Rattle.sym_items.specs.Layouts.{size_in}
 use Rattle.stick_parse.specs.declared.design.Design.{Design}
+use Rattle.stick_parse.specs.declared.fault.ParseFault.{ParseFault}
+use Rattle.stick_parse.specs.declared.fault.ParseFault.TheVariants as resolving
 use Rattle.stick_print.specs.Canonical.{canonical}
 use Rattle.stick_cell.specs.Known.{Known}
 use Rattle.stick_cell.specs.Grids.{resolved_cells}
@@ -63,6 +65,12 @@ pub data IsAnswered (tech : Tech) (axes : List Axis) (design : Design) (word : B
       → word ≡ code_word ended → IsAnswered tech axes design word
 
 -- ---- one line
+
+-- whether a design was resolved; None where memory ran out
+abbrev pub was_resolved : {A : Type 0} → Result A ParseFault → Option Bool
+was_resolved (Ok cells) = Some true
+was_resolved (Err (resolving.Stick fault)) = Some false
+was_resolved (Err resolving.OutOfMemory) = None
 
 -- A line changes a design, whose masters have these numbers, into another one: that is its edit, and has no fault of names or sizes.
 pub record Changes (tech : Tech) (design : Design) (numbers : List ℕ) (line : EditLine) (new : Design) : Type 0 where

@@ -1,7 +1,5 @@
 -- The lines that say what is wrong with a technology, a design, a script or a CIF text.
 use Rattle.std.specs.Prelude.{ℕ, List, [], ◌∷◌, ◌++◌, codes, decimal, slice_index_or}
-use Rattle.flat_check.specs.declared.rule.Break.{Break}
-use Rattle.flat_check.specs.Breaks.{number_of}
 use Rattle.stick_parse.specs.declared.fault.StickKind.{StickKind}
 use Rattle.stick_parse.specs.declared.fault.StickKind.TheVariants as kinds
 use Rattle.stick_parse.specs.declared.fault.StickFault.{StickFault}
@@ -95,6 +93,5 @@ abbrev pub improper_line : ℕ → ℕ → List ℕ
 improper_line a b = codes "sticks: not proper: boxes " ++ (decimal a ++ (codes " " ++ (decimal b ++ (10 ∷ []))))
 
 -- a rule and two boxes, by their numbers
-abbrev pub broken_line : Break → List ℕ
-broken_line first =
-    codes "sticks: rule " ++ (decimal (number_of first.rule) ++ (codes ": boxes " ++ (decimal first.a ++ (codes " " ++ (decimal first.b ++ (10 ∷ []))))))
+abbrev pub broken_line : ℕ → ℕ → ℕ → List ℕ
+broken_line rule a b = codes "sticks: rule " ++ (decimal rule ++ (codes ": boxes " ++ (decimal a ++ (codes " " ++ (decimal b ++ (10 ∷ []))))))

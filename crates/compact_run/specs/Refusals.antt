@@ -4,10 +4,12 @@ use Rattle.pass_run.specs.declared.passes.PassFault.{PassFault}
 use Rattle.pass_run.specs.declared.passes.PassFault.TheVariants as stop
 use Rattle.jog_insert.specs.declared.script.ScriptFault.{ScriptFault}
 use Rattle.jog_insert.specs.declared.script.ScriptFault.TheVariants as script
+use Rattle.cif_answers.specs.declared.fault.TextFault.{TextFault}
+use Rattle.cif_answers.specs.declared.fault.TextFault.TheVariants as cif
 use Rattle.run_words.specs.declared.commands.WordsFault.{WordsFault}
 use Rattle.run_words.specs.declared.commands.WordsFault.TheVariants as words
 use Rattle.compact_run.specs.declared.refusal.Refusal.{Refusal}
-use Rattle.compact_run.specs.declared.status.What.TheVariants.{Edges}
+use Rattle.compact_run.specs.declared.status.What.TheVariants.{Boxes, Edges}
 use Rattle.compact_run.specs.declared.status.Status.{Status}
 use Rattle.compact_run.specs.declared.status.Status.TheVariants as status
 use Rattle.compact_run.specs.FaultLines.{script_line}
@@ -36,6 +38,14 @@ refusal_of stop.OutOfMemory = plain status.OutOfMemory
 abbrev pub script_refusal : ScriptFault → Refusal
 script_refusal (script.Line line) = told (status.BadScript line) (script_line line)
 script_refusal script.OutOfMemory = plain status.OutOfMemory
+
+-- the status for a fault of a CIF text
+abbrev pub status_for : TextFault → Status
+status_for (cif.Cif fault) = status.BadCif fault
+status_for cif.TooMany = status.TooLarge Boxes
+status_for (cif.NotProper a b) = status.NotProper a b
+status_for (cif.Broken first) = status.RuleBroken first.rule first.a first.b
+status_for cif.OutOfMemory = status.OutOfMemory
 
 -- a refusal with such a status and such a text of its own
 abbrev pub Refused : (Status → List ℕ → Type 0) → Refusal → Type 0

@@ -17,6 +17,6 @@ code_of (TooLarge what) = 9
 code_of (Clash cell a b) = 10
 code_of (Unsatisfiable pass) = 11
 code_of (BadCif fault) = 12
-code_of (RuleBroken first) = 13
+code_of (RuleBroken rule a b) = 13
 code_of (NotProper a b) = 14
 code_of (BadScript line) = 16

@@ -17,7 +17,7 @@ use design_nets::stick_netlist;
 use expand::Master;
 use lam_geom::Axis;
 use lam_io::Gate;
-use made_designs::made_designs_have_no_fault;
+use made_designs::{made_designs_have_no_fault, made_designs_stay_small};
 use net_extract::Netlist;
 use pass_run::{Passes, Step};
 use rule_table::Tech;
@@ -131,7 +131,7 @@ fn bench_line(alloc: Global, n: u32, tally: Tally) -> Result<Vec<u8>, AllocError
 }
 
 /// The line on the design that is made from `n`, laid out by a pass on each axis under the technology that the program ships
-/// with.
+/// with. Its extent is never too large: inequalities of a pass are too short and too few for that.
 pub fn bench<H: Threads + Sync, G: Gate>(
     rt: &H,
     alloc: Global,
@@ -148,6 +148,7 @@ pub fn bench<H: Threads + Sync, G: Gate>(
     made_designs_have_no_fault(n);
     let planned = plan_of(alloc, &tech, &design)?;
     let masters = masters_of(alloc, &tech, &design, &planned)?;
+    made_designs_stay_small(n, &tech, &planned.plan, &masters);
     let passes = lay_out(
         rt,
         alloc,

@@ -1,11 +1,14 @@
 //! What is done with a CIF text: its nets and transistors are extracted, or it is checked against the rules.
 
-ghost use Rattle.std.specs.Prelude.{◌≡◌, ◌^◌, ◌≤◌, length, Some, IfOk, IfErr};
+ghost use Rattle.std.specs.Prelude.{◌≡◌, ◌^◌, ◌≤◌, length, Some, Ok, IfOk, IfErr};
 ghost use Rattle.lam_io.specs.Io.{Bytes, Telling};
 ghost use Rattle.rule_table.specs.declared.technology.Tech.{Tech};
+ghost use Rattle.cif_answers.specs.declared.fault.TextFault.TheVariants.{TooMany};
 ghost use Rattle.compact_run.specs.declared.cif.CifJob.{CifJob};
 ghost use Rattle.compact_run.specs.Fetches.{IsCounted, EndsOverCif, AsksOnce};
-ghost use Rattle.compact_run.specs.Refusals.{Refused, ending_of};
+ghost use Rattle.compact_run.specs.Refusals.{Refused, ending_of, plain, status_for};
+ghost use Rattle.compact_run.specs.declared.status.Status.TheVariants.{TooLarge};
+ghost use Rattle.compact_run.specs.declared.status.What.TheVariants.{Boxes};
 ghost use Rattle.compact_run.specs.Answers.{HasOutput, RefusesOutput, IsOutputOf, RefusesFile, RefusesText};
 
 use crate::fault_lines::{broken_line, cif_line, improper_line};
@@ -13,6 +16,7 @@ use crate::fetch::fetch;
 use crate::refusal::Refusal;
 use crate::status::{File, Status, What};
 use cif_answers::{TextFault, netlist_of, verdict_of};
+use flat_check::Break;
 use lam_io::{Gate, Shelf};
 use rule_table::Tech;
 use std::alloc::{AllocError, Global};
@@ -49,8 +53,10 @@ fn output_text<H: Threads + Sync, G: Gate>(
     }
 }
 
-// The refusal for a text's fault, and its line.
+// The refusal for a text's fault, and its line. That there are too many boxes takes no memory.
 fn refusal_for(alloc: Global, fault: TextFault) -> Result<Refusal, AllocError>
+    ensures status { IfOk result (λ r. r.status ≡ status_for fault) }
+    ensures many { fault ≡ TooMany → result ≡ Ok (plain (TooLarge Boxes)) }
     ensures refused { IfOk result (λ r. (job : CifJob) (tech : Tech) (text : Bytes) → RefusesOutput job tech text fault → Refused (RefusesText job tech text) r) }
     ensures over { IfOk result (λ r. EndsOverCif r.status) }
 {
@@ -64,9 +70,9 @@ fn refusal_for(alloc: Global, fault: TextFault) -> Result<Refusal, AllocError>
             status: Status::NotProper { a, b },
             line: Some(improper_line(alloc, a, b)?),
         }),
-        TextFault::Broken(first) => Ok(Refusal {
-            status: Status::RuleBroken(first),
-            line: Some(broken_line(alloc, first)?),
+        TextFault::Broken(Break { rule, a, b }) => Ok(Refusal {
+            status: Status::RuleBroken { rule, a, b },
+            line: Some(broken_line(alloc, rule, a, b)?),
         }),
         TextFault::OutOfMemory => Ok(Refusal::from(Status::OutOfMemory)),
     }

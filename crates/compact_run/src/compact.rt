@@ -23,7 +23,7 @@ use cif_text::cif_pieces;
 use expand::Master;
 use lam_geom::Axis;
 use lam_io::Gate;
-use mask_out::picture_of;
+use mask_out::picture;
 use pass_run::Passes;
 use plan_model::Plan;
 use rule_table::Tech;
@@ -51,7 +51,7 @@ fn written(
     ensures pieces { IfOk result (λ output. AreCut (masks_parts tech.now plan.now masters.now passes.steps) (map (λ piece. piece.items) output.pieces.items)) }
     ensures report { IfOk result (λ output. output.report ≡ passes.report) }
 {
-    let picture = picture_of(alloc, tech, plan, masters, passes.coords.as_slice())?;
+    let picture = picture(alloc, tech, plan, masters, passes.coords.as_slice())?;
     Ok(Output {
         pieces: cif_pieces(alloc, tech, &picture)?,
         report: passes.report,

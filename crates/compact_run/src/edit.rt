@@ -18,7 +18,7 @@ ghost use Rattle.compact_run.specs.declared.status.Status.TheVariants.{OutOfMemo
 ghost use Rattle.compact_run.specs.Limits.{most_passes};
 ghost use Rattle.compact_run.specs.Refusals.{Refused};
 ghost use Rattle.compact_run.specs.Designs.{HasBothAxes, IsBeforePasses, RefusesDesign};
-ghost use Rattle.compact_run.specs.Edits.{Changes, EditsTo, HasStart, IsAnswered, IsNextStep, code_word, done_word, size_word, step_line};
+ghost use Rattle.compact_run.specs.Edits.{Changes, EditsTo, HasStart, IsAnswered, IsNextStep, code_word, done_word, size_word, step_line, was_resolved};
 
 use crate::extent::{height, width};
 use crate::grid_lines::push_count;
@@ -36,9 +36,9 @@ use pass_run::FirstPass;
 use rule_table::Tech;
 use std::alloc::{AllocError, Global};
 use std::thread::Threads;
-use stick_cell::resolve;
+use stick_cell::{Cells, ResolveFault, resolve};
 use stick_lex::push_signed_decimal;
-use stick_parse::{Design, ParseFault};
+use stick_parse::Design;
 use sym_items::Coords;
 
 /// The steps so far: the design that they have made, what is written, and the first pass that is kept.
@@ -148,15 +148,26 @@ fn word_on<H: Threads + Sync, G: Gate>(
     }
 }
 
+// Whether a design was resolved; None where memory ran out. Takes no memory.
+fn was_resolved(resolved: &Result<Cells, ResolveFault>) -> Option<bool>
+    ensures { result ≡ was_resolved resolved.now }
+{
+    match resolved {
+        Ok(_) => Some(true),
+        Err(ResolveFault::Stick(_)) => Some(false),
+        Err(ResolveFault::OutOfMemory) => None,
+    }
+}
+
 // Whether the names and sizes of a design have no fault.
 fn is_resolved(alloc: Global, tech: &Tech, design: &Design) -> Result<bool, AllocError>
     requires { IsWritable design.now }
     ensures { IfOk result (λ is. IsTrue is ↔ ((cells : List Known) × (resolved_cells tech.now design.now ≡ Ok cells))) }
 {
-    match resolve(alloc, design, tech) {
-        Ok(_) => Ok(true),
-        Err(ParseFault::Stick(_)) => Ok(false),
-        Err(ParseFault::OutOfMemory) => Err(AllocError),
+    let resolved = resolve(alloc, design, tech);
+    match was_resolved(&resolved) {
+        Some(is) => Ok(is),
+        None => Err(AllocError),
     }
 }
 

@@ -4,7 +4,6 @@ ghost use Rattle.std.specs.Prelude.{◌≡◌, ◌++◌, OnOk, IfOk};
 ghost use Rattle.compact_run.specs.FaultLines.{key_of, numbers_words, tech_words, tech_line, kind_word, stick_line, cif_word, cif_line, improper_line, broken_line, script_line};
 
 use cif_read::{CifFault, CifKind};
-use flat_check::Break;
 use rule_table::TechFault;
 use std::alloc::{AllocError, Global};
 use stick_lex::{Text, push_decimal};
@@ -176,16 +175,16 @@ pub fn improper_line(alloc: Global, a: u32, b: u32) -> Result<Text, AllocError>
     Text::new(alloc, &out)
 }
 
-/// The line that names a rule, and the boxes at which it is broken.
-pub fn broken_line(alloc: Global, first: Break) -> Result<Text, AllocError>
-    ensures { IfOk result (λ line. line ≡ broken_line first) }
+/// The line that names a rule by its number, and the boxes at which it is broken.
+pub fn broken_line(alloc: Global, rule: u32, a: u32, b: u32) -> Result<Text, AllocError>
+    ensures { IfOk result (λ line. line ≡ broken_line rule a b) }
 {
     let mut out = Vec::from_slice(alloc, b"sticks: rule ")?;
-    push_decimal(&mut out, u64::from(first.rule.number()))?;
+    push_decimal(&mut out, u64::from(rule))?;
     out.extend_from_slice(b": boxes ")?;
-    push_decimal(&mut out, u64::from(first.a))?;
+    push_decimal(&mut out, u64::from(a))?;
     out.push(b' ')?;
-    push_decimal(&mut out, u64::from(first.b))?;
+    push_decimal(&mut out, u64::from(b))?;
     out.push(b'\n')?;
     Text::new(alloc, &out)
 }

@@ -16,11 +16,11 @@ pub fn push_count(out: &mut Vec<u8>, words: &[u8], count: usize) -> Result<(), A
 }
 
 // Adds words and the place of an instance behind them.
-fn push_place(out: &mut Vec<u8>, words: &[u8], row: usize, col: usize) -> Result<(), AllocError>
+fn push_place(out: &mut Vec<u8>, words: &[u8], row: u32, col: u32) -> Result<(), AllocError>
     ensures { OnOk result (out.new.items ≡ out.old.items ++ place_words words.now row col) }
 {
-    push_count(out, words, row)?;
-    push_count(out, b" ", col)
+    push_count(out, words, row as usize)?;
+    push_count(out, b" ", col as usize)
 }
 
 fn border_word(top: bool) -> &'static [u8]
@@ -35,7 +35,7 @@ fn push_fault(out: &mut Vec<u8>, fault: GridFault) -> Result<(), AllocError>
     match fault {
         GridFault::Empty => out.extend_from_slice(b"Empty"),
         GridFault::UnknownCell { row, col } => push_place(out, b"UnknownCell ", row, col),
-        GridFault::RaggedRow { row } => push_count(out, b"RaggedRow ", row),
+        GridFault::RaggedRow { row } => push_count(out, b"RaggedRow ", row as usize),
         GridFault::PortMismatch {
             row,
             col,
@@ -43,7 +43,7 @@ fn push_fault(out: &mut Vec<u8>, fault: GridFault) -> Result<(), AllocError>
             index,
         } => {
             push_place(out, b"PortMismatch ", row, col)?;
-            push_count(out, border_word(top), index)
+            push_count(out, border_word(top), index as usize)
         }
     }
 }

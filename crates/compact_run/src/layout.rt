@@ -12,6 +12,8 @@ ghost use Rattle.pitch_join.specs.Masters.{ArePlanned};
 ghost use Rattle.grid_rules.specs.Rules.{AreFinished};
 ghost use Rattle.pass_run.specs.Laid.{StartsClean};
 ghost use Rattle.pass_run.specs.Layouts.{starts_of};
+ghost use Rattle.pass_run.specs.PassFaults.{RefusesPasses};
+ghost use Rattle.pass_run.specs.PassesOn.{ArePassesOn};
 ghost use Rattle.pass_run.specs.Slack.{AreMosts, AreTight};
 ghost use Rattle.mask_out.specs.Pictures.{HaveBoxes, IsDrawable};
 ghost use Rattle.compact_run.specs.Limits.{most_boxes, most_passes};
@@ -31,7 +33,7 @@ use kept_rules::boxes_keep_rules;
 use lam_geom::Axis;
 use lam_io::Gate;
 use mask_out::wholes_bound_places;
-use pass_run::{Passes, run_passes};
+use pass_run::{PassFault, Passes, passes_with_greatest, run_passes};
 use plan_model::Plan;
 use rule_table::Tech;
 use std::alloc::Global;
@@ -77,6 +79,34 @@ pub fn judge_starts(alloc: Global, tech: &Tech, masters: &[Master]) -> Result<()
     Ok(())
 }
 
+// The passes of the masters of a plan on these axes, of which the last one on each axis tells its greatest values with `with_most`.
+fn passes_of<H: Threads + Sync, G: Gate>(
+    rt: &H,
+    alloc: Global,
+    gate: &G,
+    tech: &Tech,
+    plan: &Plan,
+    masters: &[Master],
+    axes: &[Axis],
+    split: u32,
+    with_most: bool,
+) -> Result<Passes, PassFault>
+    requires planned { ArePlanned tech.now plan.now masters.now }
+    requires clean { All (StartsClean tech.now) masters.now }
+    requires few { length axes.now ≤ most_passes }
+    requires split { (1 ≤ split) × (split ≤ 64) }
+    ensures made { IfOk result (ArePassesOn tech.now plan.now masters.now axes.now) }
+    ensures refused { IfErr result (RefusesPasses tech.now plan.now masters.now axes.now) }
+    ensures mosts { IfOk result (λ passes. IsTrue with_most → AreMosts tech.now plan.now masters.now (starts_of tech.now masters.now) passes.steps passes.mosts) }
+    ensures tight { IfOk result (λ passes. IsTrue with_most → AreTight tech.now plan.now masters.now (starts_of tech.now masters.now) passes.steps passes.mosts) }
+{
+    if with_most {
+        passes_with_greatest(rt, alloc, gate, tech, plan, masters, axes, split)
+    } else {
+        run_passes(rt, alloc, gate, tech, plan, masters, axes, split)
+    }
+}
+
 /// Lays out the masters of a plan, by passes on these axes, with the work on the masters in as many pieces as `split` says. With `with_most` the
 /// last pass on each axis tells the greatest values at its far borders.
 pub fn lay_out<H: Threads + Sync, G: Gate>(
@@ -110,7 +140,7 @@ pub fn lay_out<H: Threads + Sync, G: Gate>(
     ensures refused { IfErr result (Refused (RefusesMasters tech.now plan.now masters.now axes.now)) }
 {
     judge_starts(alloc, tech, masters)?;
-    let passes = run_passes(rt, alloc, gate, tech, plan, masters, axes, split, with_most)?;
+    let passes = passes_of(rt, alloc, gate, tech, plan, masters, axes, split, with_most)?;
     let layouts = passes.coords.as_slice();
     grids_are_aligned(tech, plan, masters, layouts);
     all_keep_spacing(tech, plan, masters, layouts);

@@ -1,6 +1,6 @@
 //! The masters of a design: the cells of its plan, with their uses inlined, and their items.
 
-ghost use Rattle.std.specs.Prelude.{◌≡◌, ◌+◌, ◌<◌, ◌≤◌, ◌^◌, All, List, min, length, map, slice_index, sum_by, IfOk, IfErr};
+ghost use Rattle.std.specs.Prelude.{◌≡◌, Err, ◌+◌, ◌<◌, ◌≤◌, ◌^◌, All, List, min, length, map, slice_index, sum_by, IfOk, IfErr};
 ghost use Rattle.stick_cell.specs.Counts.{weight_of, boxes_of, capped};
 ghost use Rattle.stick_cell.specs.Known.{cell_of, known_at};
 ghost use Rattle.stick_cell.specs.Tables.{known_of, IsResolved};
@@ -14,8 +14,10 @@ ghost use Rattle.stick_parse.specs.Writable.{IsWritable};
 ghost use Rattle.written_masks.specs.Parts.{boxes_of_instances, HasFewParts};
 ghost use Rattle.written_masks.specs.Written.{AllStand};
 ghost use Rattle.compact_run.specs.Designs.{HasPlainName, HasShortName};
-ghost use Rattle.compact_run.specs.Plans.{AreChosen, AreMastersOf, IsLightPlan, IsPlanned, RefusesPlan, RefusesSize};
-ghost use Rattle.compact_run.specs.Refusals.{Refused};
+ghost use Rattle.compact_run.specs.Plans.{AreChosen, AreMastersOf, IsLightPlan, IsPlanned, RefusesPlan, RefusesSize, weights_of};
+ghost use Rattle.compact_run.specs.Refusals.{Refused, plain};
+ghost use Rattle.compact_run.specs.declared.status.Status.TheVariants.{TooLarge};
+ghost use Rattle.compact_run.specs.declared.status.What.TheVariants.{Items, Boxes};
 ghost use Rattle.compact_run.specs.Limits.{most_items, most_boxes, capped_boxes};
 
 use crate::planning::{Planned, plan_of};
@@ -150,22 +152,44 @@ fn made(
     Ok(masters)
 }
 
+// Sees that the masters with these numbers have no more items than there may be. Takes no memory.
+fn judge_items(cells: &Cells, numbers: &[u32]) -> Result<(), Refusal>
+    requires resolved { IsResolved cells.now }
+    requires among { All (λ k. k < length (known_of cells.now)) numbers.now }
+    ensures few { IfOk result (λ done. sum_by (λ k. weight_of (known_at (known_of cells.now) k)) numbers.now ≤ most_items) }
+    ensures many { IfErr result (λ r. (most_items < sum_by (λ k. weight_of (known_at (known_of cells.now) k)) numbers.now) × (r ≡ plain (TooLarge Items))) }
+{
+    if weight_of_all(cells, numbers) > MAX_ITEMS {
+        return Err(Refusal::from(Status::TooLarge(What::Items)));
+    }
+    Ok(())
+}
+
+// Sees that all instances have no more mask boxes than there may be, of which each master has so many. Takes no memory.
+fn judge_boxes(boxes: &[u64], grids: &[PlanGrid]) -> Result<(), Refusal>
+    requires few { All (λ n. n ≤ most_items) boxes.now }
+    requires among { All (All (All (λ m. m < length boxes.now))) (map rows_of grids.now) }
+    ensures few { IfOk result (λ done. sum_by (sum_by (sum_by (slice_index boxes.now))) (map rows_of grids.now) ≤ most_boxes) }
+    ensures many { IfErr result (λ r. (most_boxes < sum_by (sum_by (sum_by (slice_index boxes.now))) (map rows_of grids.now)) × (r ≡ plain (TooLarge Boxes))) }
+{
+    if boxes_of_all(boxes, grids) > MAX_BOXES {
+        return Err(Refusal::from(Status::TooLarge(What::Boxes)));
+    }
+    Ok(())
+}
+
 // Sees that a plan has neither too many items nor too many mask boxes.
 fn judge_size(alloc: Global, cells: &Cells, plan: &Plan) -> Result<(), Refusal>
     requires resolved { IsResolved cells.now }
     requires chosen { AreChosen (known_of cells.now) plan.now }
     ensures light { IfOk result (λ done. IsLightPlan (known_of cells.now) plan.now) }
     ensures refused { IfErr result (Refused (RefusesSize (known_of cells.now) plan.now)) }
+    ensures heavy { most_items < weights_of (known_of cells.now) plan.now → result ≡ Err (plain (TooLarge Items)) }
 {
     let numbers = plan.masters.as_slice();
-    if weight_of_all(cells, numbers) > MAX_ITEMS {
-        return Err(Refusal::from(Status::TooLarge(What::Items)));
-    }
+    judge_items(cells, numbers)?;
     let boxes = boxes_of_each(alloc, cells, numbers)?;
-    if boxes_of_all(&boxes, plan.grids.as_slice()) > MAX_BOXES {
-        return Err(Refusal::from(Status::TooLarge(What::Boxes)));
-    }
-    Ok(())
+    judge_boxes(&boxes, plan.grids.as_slice())
 }
 
 /// The masters of a design that has a plan.

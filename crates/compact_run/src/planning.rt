@@ -47,10 +47,10 @@ fn read_cells<'a>(alloc: Global, tech: &Tech, design: &'a Design) -> Result<Cell
 }
 
 // The name of a grid, where it has one.
-fn grid_name(design: &Design, grid: usize) -> Option<&[u8]>
+fn grid_name(design: &Design, grid: u32) -> Option<&[u8]>
     ensures { option_map (λ bytes. bytes.now) result ≡ grid_name design.now grid }
 {
-    match design.grids.as_slice().get(grid) {
+    match design.grids.as_slice().get(grid as usize) {
         Some(grid) => match &grid.name {
             Some(name) => Some(name.bytes()),
             None => None,

@@ -4,7 +4,6 @@ ghost use Rattle.std.specs.Prelude.{◌≡◌};
 ghost use Rattle.compact_run.specs.Status.{code_of};
 
 use cif_read::CifFault;
-use flat_check::Break;
 use grid_plan::GridFault;
 use stick_parse::StickFault;
 use tech_file::TechFileFault;
@@ -66,7 +65,7 @@ pub enum Status {
     /// A grid of the design has no plan.
     BadGrid {
         /// The first grid with a fault, counted from 0.
-        grid: usize,
+        grid: u32,
         /// Its first fault.
         fault: GridFault,
     },
@@ -89,8 +88,15 @@ pub enum Status {
     },
     /// The CIF text has no meaning: its first fault.
     BadCif(CifFault),
-    /// The boxes of a CIF text do not keep the rules: the first break.
-    RuleBroken(Break),
+    /// The boxes of a CIF text do not keep the rules: the first break, the boxes by their numbers among the boxes of the text.
+    RuleBroken {
+        /// The rule's number, from 1 to 12.
+        rule: u32,
+        /// The lesser box.
+        a: u32,
+        /// The greater box; the same one where the rule is on single boxes.
+        b: u32,
+    },
     /// Two boxes of a CIF text, poly and diffusion, overlap and neither cross properly nor are a buried pair, or one of them overlaps
     /// a further box of the other's layer: the first pair, by their numbers among the boxes of the text.
     NotProper {
@@ -125,7 +131,7 @@ impl Status {
             Status::Clash { .. } => 10,
             Status::Unsatisfiable { .. } => 11,
             Status::BadCif(_) => 12,
-            Status::RuleBroken(_) => 13,
+            Status::RuleBroken { .. } => 13,
             Status::NotProper { .. } => 14,
             Status::BadScript { .. } => 16,
         }

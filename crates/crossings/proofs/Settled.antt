@@ -1,13 +1,15 @@
 -- Boxes that are settled, and the first bad pair behind them.
-use Rattle.std.proofs.Common.{◌≡◌, ℕ, ◌+◌, ◌<◌, ◌≤◌, ◌⊎◌, inl, inr, List, length, refl, sym, ◌∙◌, subst, arith}
+use Rattle.std.proofs.Common.{◌≡◌, ℕ, ◌+◌, ◌<◌, ◌≤◌, ◌⊎◌, inl, inr, List, Result, Ok, Err, IfErr, length, refl, sym, ◌∙◌, subst, arith}
 use Rattle.std.proofs.lemmas.Bool.{cases_lt}
 use Rattle.lam_geom.specs.declared.boxes.Axis.{Axis}
 use Rattle.lam_geom.specs.declared.boxes.MaskBox.{MaskBox}
 use Rattle.lam_geom.specs.declared.boxes.MaskLayer.TheVariants.{ND}
 use Rattle.rule_table.specs.declared.technology.Tech.{Tech}
+use Rattle.crossings.specs.declared.crossing.CrossingFault.{CrossingFault}
+use Rattle.crossings.specs.declared.crossing.CrossingFault.TheVariants.{NotProper, OutOfMemory}
 use Rattle.crossings.specs.Boxes.{layer_at}
-use Rattle.crossings.specs.Crossings.{IsMeeting, IsFirstBadPair, CrossProperly, AreProper}
-use Rattle.crossings.specs.Pairs.{Meets, IsBadWith, IsCrossed, IsSettled}
+use Rattle.crossings.specs.Crossings.{IsCauseOf, IsMeeting, IsBadPair, IsFirstBadPair, CrossProperly, AreProper}
+use Rattle.crossings.specs.Pairs.{Meets, IsBadWith, IsCrossed, IsCrossingBeforeBad, IsSettled, EndsSearch}
 use Rattle.crossings.proofs.Meetings.{not_both}
 
 -- ---- a box that is settled
@@ -94,3 +96,24 @@ first_bad tech boxes a b below bad least = record {
     ]
   ];
 }
+
+-- ---- a crossing before the first bad pair
+
+-- where the boxes below n are settled, each bad pair stands behind them
+bad_behind : (tech : Tech) (boxes : List MaskBox) (n : ℕ) → ((c : ℕ) → c < n → IsSettled tech boxes c) → (a b : ℕ) → IsBadPair tech boxes a b → n ≤ a
+bad_behind tech boxes n below a b h = elim (cases_lt a n) [ inl less ↦ absurd (settled_not_bad tech boxes a b (below a less) h.1) | inr more ↦ more ]
+
+pub crossing_before_bad : (tech : Tech) (boxes : List MaskBox) (p d : ℕ) (axis : Axis) → ((c : ℕ) → c < d → IsSettled tech boxes c) → IsCrossed tech boxes d p d axis → IsCrossingBeforeBad tech boxes
+crossing_before_bad tech boxes p d axis below crossed = record {
+  p = p;
+  d = d;
+  meeting = crossed.meeting;
+  proper = crossed.proper;
+  before = λ a b h. let behind = bad_behind tech boxes (d + 1) (settled_more tech boxes d below (crossed_settles tech boxes d p d axis crossed)) a b h in omega (arith, behind);
+}
+
+-- why the search by trees gives none is why there are none
+pub cause_of_end : {T : Type 0} (tech : Tech) (boxes : List MaskBox) (r : Result T CrossingFault) → IfErr r (EndsSearch tech boxes) → IfErr r (IsCauseOf tech boxes)
+cause_of_end tech boxes (Ok found) h = tt
+cause_of_end tech boxes (Err (NotProper a b)) h = h
+cause_of_end tech boxes (Err OutOfMemory) h = tt

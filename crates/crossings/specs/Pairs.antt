@@ -9,13 +9,15 @@ use Rattle.lam_geom.specs.Gaps.{Encloses}
 use Rattle.rule_table.specs.declared.technology.Tech.{Tech}
 use Rattle.rule_table.specs.Technology.{has_buried_of}
 use Rattle.crossings.specs.declared.crossing.Crossing.{Crossing}
+use Rattle.crossings.specs.declared.crossing.CrossingFault.{CrossingFault}
+use Rattle.crossings.specs.declared.crossing.CrossingFault.TheVariants.{NotProper, OutOfMemory}
 use Rattle.crossings.specs.declared.pairs.Pair.{Pair}
 use Rattle.crossings.specs.declared.partners.Partners.{Partners}
 use Rattle.crossings.specs.declared.partners.Partners.TheVariants.{Nothing, One, Several}
 use Rattle.crossings.specs.declared.standings.Standing.{Standing}
 use Rattle.crossings.specs.declared.standings.Standing.TheVariants.{Clear, Crosses, Bad}
 use Rattle.crossings.specs.Boxes.{area_at, layer_at, IsOn, IsCommon}
-use Rattle.crossings.specs.Crossings.{IsOverlap, IsMeeting, CrossAlong, CrossProperly, IsImproper, IsCrossing, AreInOrder}
+use Rattle.crossings.specs.Crossings.{IsOverlap, IsMeeting, CrossAlong, CrossProperly, IsImproper, IsBadPair, IsFirstBadPair, IsCrossing, AreInOrder}
 
 -- a box of a layer goes past an area by a margin on all sides
 pub record IsCovered (boxes : List MaskBox) (layer : MaskLayer) (area : BoxXY) (margin : ℤ) : Type 0 where
@@ -118,3 +120,18 @@ pub record AddsCrossing (tech : Tech) (boxes : List MaskBox) (pair : Pair) (old 
   pub is_crossing : IsCrossing tech boxes added
   pub poly : added.poly ≡ pair.poly
   pub diffusion : added.diffusion ≡ pair.diffusion
+
+-- ---- the end of the search
+
+-- poly and diffusion that cross properly, and each pair that does not stands behind the diffusion
+pub record IsCrossingBeforeBad (tech : Tech) (boxes : List MaskBox) : Type 0 where
+  pub p : ℕ
+  pub d : ℕ
+  pub meeting : IsMeeting tech boxes p d
+  pub proper : CrossProperly tech boxes p d
+  pub before : (a b : ℕ) → IsBadPair tech boxes a b → d < a
+
+-- why the search by trees, which takes memory for each crossing, gives none
+abbrev pub EndsSearch : Tech → List MaskBox → CrossingFault → Type 0
+EndsSearch tech boxes (NotProper a b) = IsFirstBadPair tech boxes a b
+EndsSearch tech boxes OutOfMemory = IsCrossingBeforeBad tech boxes

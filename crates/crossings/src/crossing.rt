@@ -5,6 +5,7 @@ ghost use Rattle.crossings.specs.declared.crossing.CrossingFault.TheVariants.{Ou
 
 use lam_geom::{Axis, BoxXY};
 use std::alloc::AllocError;
+use thiserror::Error;
 
 /// Poly that crosses diffusion, by the numbers of their boxes.
 #[derive(Clone, Copy, Debug, PartialEq, Eq)]
@@ -21,9 +22,11 @@ pub struct Crossing {
 
 /// Why there are no crossings: the first pair of poly and diffusion that overlap, are no buried pair and do not cross properly,
 /// or of which one overlaps a further box of the other's layer; or want of memory.
-#[derive(Clone, Copy, Debug, PartialEq, Eq)]
+#[derive(Clone, Copy, Debug, PartialEq, Eq, Error)]
 pub enum CrossingFault {
+    #[error("poly and diffusion do not cross properly")]
     NotProper(u32, u32),
+    #[error("out of memory")]
     OutOfMemory,
 }
 

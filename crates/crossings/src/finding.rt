@@ -2,15 +2,15 @@
 ghost use Rattle.std.specs.Prelude.{◌≡◌, OnOk, IfOk, IfErr};
 ghost use Rattle.crossings.specs.Boxes.{AreSearchable, area_at};
 ghost use Rattle.crossings.specs.Crossings.{AreProper, AreCrossings, CrossAlong, IsMeeting, IsCauseOf};
-ghost use Rattle.crossings.specs.Pairs.{AddsCrossing};
-ghost use Rattle.crossings.specs.Spots.{AreBoxesOn};
+ghost use Rattle.crossings.specs.Pairs.{AddsCrossing, EndsSearch};
+ghost use Rattle.crossings.specs.Spots.{AreBoxesOn, AreTreesOf};
 ghost use Rattle.lam_geom.specs.declared.boxes.MaskLayer.TheVariants.{NI};
 
 use crate::crossing::{Crossing, CrossingFault};
 use crate::lengths::in_grains;
 use crate::pair_tests::common_box;
 use crate::pairs::Pair;
-use crate::spots::{is_covered, trees_of};
+use crate::spots::{Trees, is_covered, trees_of};
 use crate::standings::{Standing, standing_of};
 use box_tree::BoxTree;
 use lam_geom::{Axis, MaskBox};
@@ -31,10 +31,26 @@ pub fn crossings(
     ensures crossings { IfOk result (λ found. AreCrossings tech.now boxes.now found.items) }
     ensures fault { IfErr result (IsCauseOf tech.now boxes.now) }
 {
-    let mut crossings = Vec::new(alloc);
     let trees = trees_of(alloc, boxes)?;
+    crossings_by(alloc, tech, boxes, &trees)
+}
+
+// The same by the trees. Memory is wanted only for a crossing that stands before each pair that does not cross properly.
+fn crossings_by(
+    alloc: Global,
+    tech: &Tech,
+    boxes: &[MaskBox],
+    trees: &Trees,
+) -> Result<Vec<Crossing>, CrossingFault>
+    requires searchable { AreSearchable boxes.now }
+    requires trees { AreTreesOf boxes.now trees.now }
+    ensures proper { IfOk result (λ _. AreProper tech.now boxes.now) }
+    ensures crossings { IfOk result (λ found. AreCrossings tech.now boxes.now found.items) }
+    ensures fault { IfErr result (EndsSearch tech.now boxes.now) }
+{
+    let mut crossings = Vec::new(alloc);
     for number in 0..boxes.len() as u32 {
-        match standing_of(tech, boxes, &trees, number) {
+        match standing_of(tech, boxes, trees, number) {
             Standing::Bad(other) => return Err(CrossingFault::NotProper(number, other)),
             Standing::Crosses(pair, axis) => {
                 if pair.diffusion == number {

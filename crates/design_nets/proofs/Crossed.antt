@@ -27,7 +27,7 @@ use Rattle.grid_rules.specs.Sticks.{is_of_transistor, IsTransistor, IsOfNode, Ar
 use Rattle.grid_rules.proofs.NetlistLists.{has_left, has_right}
 use Rattle.grid_rules.proofs.NetlistPlaces.{has_of_contains, contains_of_has, item_fet}
 use Rattle.grid_rules.proofs.NetlistShapes.{number, shown_below, one_item}
-use Rattle.mask_out.specs.declared.picture.Call.{Call}
+use Rattle.mask_out.specs.declared.drawing.Call.{Call}
 use Rattle.cell_model.specs.declared.cell.Cell.{Cell}
 use Rattle.sym_items.specs.declared.items.Item.{Item}
 use Rattle.design_nets.specs.declared.instances.Instance.{Instance}

@@ -1,7 +1,9 @@
 -- The transistor of which a box shows the diffusion, by its poly and its channel.
-use Rattle.std.proofs.Common.{◌≡◌, ℕ, ◌+◌, ◌<◌, List, length, Some, refl, sym, ap, ◌∙◌, subst, arith, zero-add}
+use Rattle.std.proofs.Common.{◌≡◌, ℕ, ◌+◌, ◌<◌, ℤ, ◌+ℤ◌, List, length, Some, refl, sym, ap, ◌∙◌, subst, arith, zero-add}
 use Rattle.std.specs.Prelude.{slice_get, slice_index}
 use Rattle.std.specs.List.{range_with_len}
+use Rattle.std.specs.Int.{int_max, int_min}
+use Rattle.std.proofs.lemmas.Int.{ints, clamps}
 use Rattle.std.proofs.lemmas.List.FromFn.{length-range_with_len, get_or-range_with_len}
 use Rattle.std.proofs.lemmas.Option.{slice_get-get_or}
 use Rattle.lam_geom.specs.declared.boxes.Axis.{Axis}
@@ -11,20 +13,23 @@ use Rattle.rule_table.specs.declared.technology.Tech.{Tech}
 use Rattle.rule_table.specs.Technology.{widest_of}
 use Rattle.rule_table.specs.declared.classes.Class.{Class}
 use Rattle.rule_table.specs.declared.classes.Class.TheVariants.{P, Dm, G}
+use Rattle.cell_model.specs.declared.cell.Axis2.{Axis2}
+use Rattle.cell_model.specs.declared.cell.Axis2.TheVariants.{Across, Up}
 use Rattle.cell_model.specs.declared.cell.NodeKind.TheVariants as kinds
 use Rattle.sym_items.specs.declared.items.Coords.{Coords}
 use Rattle.sym_items.specs.declared.items.Item.{Item}
 use Rattle.sym_items.specs.Layouts.{layout_at, size_in}
-use Rattle.sym_items.specs.Sides.{sides_in, sides_of}
+use Rattle.sym_items.specs.Sides.{Sides, sides_in, sides_of}
+use Rattle.sym_items.specs.Transposed.{sides_along}
 use Rattle.pair_rules.specs.Bound.{item_at}
 use Rattle.expand.specs.declared.master.Master.{Master}
-use Rattle.buried_contacts.specs.Contacts.{axis_along, kind_of}
+use Rattle.buried_contacts.specs.Contacts.{axis_along, common, kind_of}
 use Rattle.plan_model.specs.declared.plan.Plan.{Plan}
 use Rattle.plan_model.specs.Instances.{Spot, master_at_spot, left_of, bottom_of}
 use Rattle.plan_model.specs.Plan.{grids_of}
 use Rattle.pitch_join.specs.Masters.{master_at}
 use Rattle.grid_rules.specs.Rules.{items_at, shifted_sides}
-use Rattle.mask_out.specs.declared.picture.Call.{Call}
+use Rattle.mask_out.specs.declared.drawing.Call.{Call}
 use Rattle.crossings.specs.Boxes.{extent, other}
 use Rattle.crossings.specs.declared.crossing.Crossing.{Crossing}
 use Rattle.grid_rules.specs.Conductors.{Drawn, sides_of_drawn}
@@ -40,12 +45,39 @@ use Rattle.design_nets.specs.declared.shapes.Shapes.{Shapes}
 use Rattle.design_nets.specs.declared.transistors.Fet.{Fet}
 use Rattle.design_nets.specs.Instances.{instances_of, spot_no, master_no}
 use Rattle.design_nets.specs.Shapes.{drawn_by, drawn_in, no_shape, shape_no}
-use Rattle.design_nets.specs.Transistors.{IsOf, AreNodeItems, AreItemsOfNodes, IsFetItem, IsLaidOut, cell_shown, item_shown}
+use Rattle.design_nets.specs.Transistors.{IsOf, AreNodeItems, AreItemsOfNodes, IsFetItem, LiesNear, IsLaidOut, cell_shown, item_shown}
 use Rattle.design_nets.proofs.Fets.{shape_among}
 use Rattle.design_nets.proofs.LaidOut.{shape_seen, IsCalled}
 use Rattle.design_nets.proofs.NodeItems.{drawn_within}
 use Rattle.design_nets.proofs.Shown.{own_items, shapes_counted, shape_shows, item_shows}
 use Rattle.design_nets.proofs.Spots.{number_of_spot, instance_stands}
+
+-- a box that begins where another one does or behind, and ends where it does or before
+sides_near : (x y : ℤ) (poly diffusion channel : Sides) → (x +ℤ channel.left) ≡ int_max (x +ℤ poly.left) (x +ℤ diffusion.left) → (x +ℤ channel.right) ≡ int_min (x +ℤ poly.right) (x +ℤ diffusion.right)
+    → (y +ℤ channel.bottom) ≡ int_max (y +ℤ poly.bottom) (y +ℤ diffusion.bottom) → (y +ℤ channel.top) ≡ int_min (y +ℤ poly.top) (y +ℤ diffusion.top) → LiesNear poly → LiesNear channel
+sides_near x y poly diffusion channel left right bottom top near =
+    let low_x = near.left in
+    let high_x = near.right in
+    let low_y = near.bottom in
+    let high_y = near.top in
+    record { left = omega (arith, ints, clamps, left, low_x); right = omega (arith, ints, clamps, right, high_x); bottom = omega (arith, ints, clamps, bottom, low_y); top = omega (arith, ints, clamps, top, high_y) }
+
+-- what poly and diffusion have in common lies where the poly does
+common_near : (gate : Axis2) (x y : ℤ) (poly diffusion channel : Sides)
+    → sides_along (axis_along gate) (shifted_sides x y channel) ≡ common (sides_along (axis_along gate) (shifted_sides x y poly)) (sides_along (axis_along gate) (shifted_sides x y diffusion))
+    → LiesNear poly → LiesNear channel
+common_near Across x y poly diffusion channel shared near =
+    let left : (x +ℤ channel.left) ≡ int_max (x +ℤ poly.left) (x +ℤ diffusion.left) = ap (λ (s : Sides). s.left) shared in
+    let right : (x +ℤ channel.right) ≡ int_min (x +ℤ poly.right) (x +ℤ diffusion.right) = ap (λ (s : Sides). s.right) shared in
+    let bottom : (y +ℤ channel.bottom) ≡ int_max (y +ℤ poly.bottom) (y +ℤ diffusion.bottom) = ap (λ (s : Sides). s.bottom) shared in
+    let top : (y +ℤ channel.top) ≡ int_min (y +ℤ poly.top) (y +ℤ diffusion.top) = ap (λ (s : Sides). s.top) shared in
+    sides_near x y poly diffusion channel left right bottom top near
+common_near Up x y poly diffusion channel shared near =
+    let left : (x +ℤ channel.left) ≡ int_max (x +ℤ poly.left) (x +ℤ diffusion.left) = ap (λ (s : Sides). s.bottom) shared in
+    let right : (x +ℤ channel.right) ≡ int_min (x +ℤ poly.right) (x +ℤ diffusion.right) = ap (λ (s : Sides). s.top) shared in
+    let bottom : (y +ℤ channel.bottom) ≡ int_max (y +ℤ poly.bottom) (y +ℤ diffusion.bottom) = ap (λ (s : Sides). s.left) shared in
+    let top : (y +ℤ channel.top) ≡ int_min (y +ℤ poly.top) (y +ℤ diffusion.top) = ap (λ (s : Sides). s.right) shared in
+    sides_near x y poly diffusion channel left right bottom top near
 
 module _ (tech : Tech) (plan : Plan) (masters : List Master) (layouts : List Coords) (calls : List Call) (shapes : Shapes) (out : IsLaidOut tech plan masters layouts calls shapes)
     (laws : TransistorsHaveBoxes tech plan masters layouts) (k : ℕ) (lt : k < length shapes.all.items) (fet : Fet) (is : IsFetItem (cell_shown plan masters shapes k) (item_shown plan masters shapes k) fet) where
@@ -73,6 +105,9 @@ module _ (tech : Tech) (plan : Plan) (masters : List Master) (layouts : List Coo
 
   abbrev K : ℕ
   K = (item_shown plan masters shapes k).owner
+
+  abbrev Gate : Axis2
+  Gate = is.gate
 
   s_lt : S < length Instances
   s_lt = (shape_seen tech plan masters layouts calls shapes out k lt).instance
@@ -194,6 +229,37 @@ module _ (tech : Tech) (plan : Plan) (masters : List Master) (layouts : List Coo
         item_shows plan masters Instances refl shapes.all.items shapes.firsts.items out.shown S (slice_index own.polys.items K) (slice_index (drawn_in Own) (slice_index own.polys.items K)) s_lt
         (slice_get-get_or (drawn_in Own) (slice_index own.polys.items K) 0 poly_of.within)
 
+    -- ---- the channel
+
+    channel_there : IsOwned plan masters G K (at Place (slice_index own.channels.items K))
+    channel_there =
+        let channel : ℕ = slice_index own.channels.items K in
+        let g = channel_of in
+        let same : slice_index (range_with_len 0 (length Own.items.list)) channel ≡ channel = every channel channel_within in
+        owned_there G channel (record {
+          among = channel_within;
+          of_class = ap (λ (n : ℕ). (item_at Own.items.list n).class) (sym same) ∙ g.of_class;
+          owned = ap (λ (n : ℕ). (item_at Own.items.list n).owner) (sym same) ∙ g.owned;
+        })
+
+    channel_is : slice_index own.channels.items K ≡ boxes.channel
+    channel_is = boxes.one_channel (slice_index own.channels.items K) channel_there
+
+    -- it lies near, as the poly does
+    pub channel_near : LiesNear (sides_in (layout_at layouts (master_no (instances_of (grids_of plan)) (shape_no shapes.all.items k).instance))
+        (item_at (master_at masters (master_no (instances_of (grids_of plan)) (shape_no shapes.all.items k).instance)).items.list (slice_index own.channels.items (item_shown plan masters shapes k).owner)))
+    channel_near =
+        let at_spot : ℕ = master_at_spot Grids Place in
+        let there : ℕ → ℕ → Sides = λ m n. sides_in (layout_at layouts m) (item_at (master_at masters m).items.list n) in
+        let p = poly_among in
+        let within : p.0 < length (drawn_in (master_at masters at_spot)) = subst (λ (m : ℕ). p.0 < length (drawn_in (master_at masters m))) m_is p.1.within in
+        let poly_place : slice_index (drawn_in (master_at masters at_spot)) p.0 ≡ boxes.poly = subst (λ (m : ℕ). slice_index (drawn_in (master_at masters m)) p.0 ≡ boxes.poly) m_is p.1.item in
+        let poly : LiesNear (there at_spot boxes.poly) = subst (λ (n : ℕ). LiesNear (there at_spot n)) poly_place (out.near Place fet_there.there p.0 0 within) in
+        let here : LiesNear (there at_spot boxes.channel) =
+        common_near Gate (left_of (size_in X layouts) (widest_of tech) Grids Place) (bottom_of (size_in Y layouts) Grids Place) (there at_spot boxes.poly) (there at_spot boxes.diffusion) (there at_spot boxes.channel)
+        boxes.cross.shared poly in
+        subst (λ (m : ℕ). LiesNear (there m (slice_index own.channels.items K))) (sym m_is) (subst (λ (n : ℕ). LiesNear (there at_spot n)) (sym channel_is) here)
+
     -- ---- the transistor
 
     pub transistor_is : (call : Call) (c : Crossing) → IsCalled tech plan masters layouts calls shapes out S call
@@ -205,18 +271,11 @@ module _ (tech : Tech) (plan : Plan) (masters : List Master) (layouts : List Coo
         let poly : ℕ = slice_index (drawn_in Own) (slice_index own.polys.items K) in
         let channel : ℕ = slice_index own.channels.items K in
         let p = poly_of in
-        let g = channel_of in
         let seen = shape_seen tech plan masters layouts calls shapes out k lt in
-        let at_channel : slice_index (range_with_len 0 (length Own.items.list)) channel ≡ channel = every channel channel_within in
         let poly_among_items = poly_below p.within in
         let is_poly = owned_there P poly (record { among = poly_among_items; of_class = p.of_class; owned = p.owned }) in
         let is_diffusion = owned_there Dm One.item (record { among = seen.item; of_class = is.diffusion; owned = refl }) in
-        let is_channel = owned_there G channel (record {
-          among = channel_within;
-          of_class = ap (λ (n : ℕ). (item_at Own.items.list n).class) (sym at_channel) ∙ g.of_class;
-          owned = ap (λ (n : ℕ). (item_at Own.items.list n).owner) (sym at_channel) ∙ g.owned;
-        }) in
-        let same_channel : channel ≡ boxes.channel = boxes.one_channel channel is_channel in
+        let same_channel : channel ≡ boxes.channel = channel_is in
         let lies : sides_of c.channel ≡ sides_in_grains tech (sides_of_drawn tech plan masters layouts (at Place channel)) =
         there ∙ (ap (λ (z : Call). sides_in_grains tech (shifted_sides z.x z.y (sides_in (layout_at layouts M) (item_at Own.items.list channel)))) calls_it.is
         ∙ (ap (λ (m : ℕ). sides_in_grains tech (shifted_sides (left_of (size_in X layouts) (widest_of tech) Grids Place) (bottom_of (size_in Y layouts) Grids Place) (sides_in (layout_at layouts m) (item_at (master_at masters m).items.list channel)))) m_is)) in
@@ -239,7 +298,7 @@ module _ (tech : Tech) (plan : Plan) (masters : List Master) (layouts : List Coo
           channel = channel;
           is_poly = is_poly;
           is_diffusion = is_diffusion;
-          is_channel = is_channel;
+          is_channel = channel_there;
           shows_poly = subst (λ (n : ℕ). Shows plan masters n (at Place poly)) (sym poly_no) poly_shown;
           shows_diffusion = subst (λ (n : ℕ). Shows plan masters n (at Place One.item)) (sym diffusion_no) shows;
           runs = along;

@@ -15,7 +15,7 @@ use Rattle.plan_model.specs.declared.plan.Plan.{Plan}
 use Rattle.plan_model.specs.Plan.{grids_of}
 use Rattle.pitch_join.specs.Masters.{master_at, no_master}
 use Rattle.grid_rules.specs.Rules.{shifted_sides}
-use Rattle.mask_out.specs.declared.picture.Call.{Call}
+use Rattle.mask_out.specs.declared.drawing.Call.{Call}
 use Rattle.crossings.specs.declared.crossing.Crossing.{Crossing}
 use Rattle.grid_rules.specs.Meetings.{at, TransistorsHaveBoxes}
 use Rattle.grid_rules.specs.Shapes.{sides_in_grains}
@@ -29,8 +29,8 @@ use Rattle.design_nets.specs.declared.transistors.Fet.{Fet}
 use Rattle.design_nets.specs.Instances.{instances_of, no_instance, spot_no, master_no}
 use Rattle.design_nets.specs.Shapes.{drawn_in, shape_no}
 use Rattle.design_nets.specs.Transistors.{AreItemsOfNodes, IsFetItem, IsLaidOut, LiesNear, cell_shown, item_shown}
-use Rattle.design_nets.proofs.FetBoxes.{channel_within, polys_counted, channels_counted, poly_shown, transistor_is}
-use Rattle.design_nets.proofs.LaidOut.{instances_among, shape_seen, IsCalled, called, calls_counted, lies_near, has_box}
+use Rattle.design_nets.proofs.FetBoxes.{channel_within, polys_counted, channels_counted, poly_shown, channel_near, transistor_is}
+use Rattle.design_nets.proofs.LaidOut.{instances_among, shape_seen, IsCalled, called, calls_counted, has_box}
 use Rattle.design_nets.proofs.Shown.{shapes_counted}
 
 abbrev pub no_call : Call
@@ -99,7 +99,7 @@ module _ (tech : Tech) (plan : Plan) (masters : List Master) (layouts : List Coo
           channel = inside;
           few = omega (arith, below, all, shapes_counted plan masters Instances refl shapes.all.items shapes.firsts.items out.shown);
           has_box = has_box tech plan masters layouts calls shapes out Own.instance (slice_index own.channels.items (item_shown plan masters shapes k).owner) s.instance inside;
-          near = lies_near tech plan masters layouts calls shapes out Own.instance (slice_index own.channels.items (item_shown plan masters shapes k).owner) s.instance inside;
+          near = channel_near tech plan masters layouts calls shapes out laws k lt fet is tables found own there;
           transistor = λ c. transistor_is tech plan masters layouts calls shapes out laws k lt fet is tables found own there (get_or calls Own.instance no_call) c call;
         }
 

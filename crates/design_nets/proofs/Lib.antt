@@ -24,3 +24,4 @@ pub mod FetBoxes
 pub mod Crossed
 pub mod SticksNetlist
 pub mod FetReads
+pub mod Finished

@@ -1,5 +1,5 @@
 -- A coordinate in grains is a product that fits.
-use Rattle.std.proofs.Common.{◌≡◌, ◌*◌, ◌^◌, ◌≤◌, ℤ, pos, negsuc, ◌≤ℤ◌, ◌+ℤ◌, ◌*ℤ◌, ap, ◌∙◌, of_z, to_z, w64, arith}
+use Rattle.std.proofs.Common.{◌≡◌, zero, suc, ◌*◌, ◌^◌, ◌≤◌, ℤ, pos, negsuc, neg_ℤ, ◌≤ℤ◌, ◌+ℤ◌, ◌*ℤ◌, ap, ◌∙◌, of_z, to_z, w64, arith}
 use Rattle.std.proofs.Math.Nat.{mul-le-mul}
 use Rattle.std.proofs.lemmas.Int.{ints, to_z-of_z}
 use Rattle.lam_geom.specs.Places.{IsPlace}
@@ -11,36 +11,42 @@ use Rattle.grid_rules.proofs.NetlistScale.{scaled, scale_positive}
 use mir.Val.{SFits}
 
 abbrev pub IsNearProduct : ℤ → ℤ → Type 0
-IsNearProduct a b = (pos 0 ≤ℤ (a *ℤ (pos 2 *ℤ b))) × ((a *ℤ (pos 2 *ℤ b)) ≤ℤ pos (2 ^ 55))
+IsNearProduct a b = (neg_ℤ (pos (2 ^ 55)) ≤ℤ (a *ℤ (pos 2 *ℤ b))) × ((a *ℤ (pos 2 *ℤ b)) ≤ℤ pos (2 ^ 55))
 
-pub near_product : (a b : ℤ) → pos 0 ≤ℤ a → a ≤ℤ pos (2 ^ 42) → IsLength b → IsNearProduct a b
+pub near_product : (a b : ℤ) → neg_ℤ (pos (2 ^ 40)) ≤ℤ a → a ≤ℤ pos (2 ^ 42) → IsLength b → IsNearProduct a b
 near_product (pos a) (pos b) low high k =
     let first : a ≤ 2 ^ 42 = omega (arith, ints, high) in
     let second : 2 * b ≤ 2 * 4096 = omega (arith, ints, k) in
     let below : a * (2 * b) ≤ 2 ^ 42 * (2 * 4096) = mul-le-mul first second in
     (omega (arith, ints), omega (arith, ints, below))
-near_product (negsuc a) b low high k = absurd (omega (arith, ints, low))
+near_product (negsuc a) (pos zero) low high k = (omega (arith, ints), omega (arith, ints))
+near_product (negsuc a) (pos (suc b)) low high k =
+    let s : ℤ = pos 2 *ℤ pos (suc b) in
+    let above = scaled s (neg_ℤ (pos (2 ^ 40))) (negsuc a) (omega (arith, ints)) low in
+    let below = scaled s (negsuc a) (pos 0) (omega (arith, ints)) (omega (arith, ints)) in
+    (omega (arith, ints, above, k), omega (arith, ints, below))
 near_product (pos a) (negsuc b) low high k = absurd (omega (arith, ints, k))
+near_product (negsuc a) (negsuc b) low high k = absurd (omega (arith, ints, k))
 
 abbrev held : ℤ → ℤ
 held z = to_z w64 (of_z w64 z)
 
 -- no product on the way wraps
-pub near_held : (a b : ℤ) → pos 0 ≤ℤ a → a ≤ℤ pos (2 ^ 42) → IsLength b → to_z w64 (of_z w64 a) *ℤ to_z w64 (of_z w64 (pos 2 *ℤ to_z w64 (of_z w64 b))) ≡ a *ℤ (pos 2 *ℤ b)
+pub near_held : (a b : ℤ) → neg_ℤ (pos (2 ^ 40)) ≤ℤ a → a ≤ℤ pos (2 ^ 42) → IsLength b → to_z w64 (of_z w64 a) *ℤ to_z w64 (of_z w64 (pos 2 *ℤ to_z w64 (of_z w64 b))) ≡ a *ℤ (pos 2 *ℤ b)
 near_held a b low high k =
     let first : SFits w64 a = omega (arith, ints, low, high) in
     let second : SFits w64 b = omega (arith, ints, k) in
     let doubled : SFits w64 (pos 2 *ℤ b) = omega (arith, ints, k) in
     simp to_z-of_z
 
-pub near_fits : (a b : ℤ) → pos 0 ≤ℤ a → a ≤ℤ pos (2 ^ 42) → IsLength b → to_z w64 (of_z w64 (a *ℤ (pos 2 *ℤ b))) ≡ a *ℤ (pos 2 *ℤ b)
+pub near_fits : (a b : ℤ) → neg_ℤ (pos (2 ^ 40)) ≤ℤ a → a ≤ℤ pos (2 ^ 42) → IsLength b → to_z w64 (of_z w64 (a *ℤ (pos 2 *ℤ b))) ≡ a *ℤ (pos 2 *ℤ b)
 near_fits a b low high k =
     let near = near_product a b low high k in
     let product : SFits w64 (a *ℤ (pos 2 *ℤ b)) = omega (arith, ints, near.0, near.1) in
     to_z-of_z w64 (a *ℤ (pos 2 *ℤ b)) product
 
 -- a place that is shifted, and then made grains
-pub shifted_held : (tech : Tech) (by z r : ℤ) → (pos 0 ≤ℤ by) × (by ≤ℤ pos (2 ^ 41)) → pos 0 ≤ℤ z → z ≤ℤ pos (2 ^ 40) → r ≡ grains tech (to_z w64 (of_z w64 (to_z w64 (of_z w64 by) +ℤ to_z w64 (of_z w64 z)))) → IsPlace r
+pub shifted_held : (tech : Tech) (by z r : ℤ) → (pos 0 ≤ℤ by) × (by ≤ℤ pos (2 ^ 41)) → neg_ℤ (pos (2 ^ 40)) ≤ℤ z → z ≤ℤ pos (2 ^ 40) → r ≡ grains tech (to_z w64 (of_z w64 (to_z w64 (of_z w64 by) +ℤ to_z w64 (of_z w64 z)))) → IsPlace r
     → to_z w64 (of_z w64 r) ≡ grains tech (by +ℤ z)
 shifted_held tech by z r within low high is placed =
     let first : SFits w64 by = omega (arith, ints, within.0, within.1) in

@@ -1,5 +1,5 @@
 -- Which items of a master are of which of its nodes, and what a transistor is by its diffusion.
-use Rattle.std.specs.Prelude.{◌≡◌, ℕ, ◌<◌, ◌≤◌, ◌^◌, ℤ, pos, ◌≤ℤ◌, List, length, slice_index, slice_get, Some}
+use Rattle.std.specs.Prelude.{◌≡◌, ℕ, ◌<◌, ◌≤◌, ◌^◌, ℤ, pos, neg_ℤ, ◌≤ℤ◌, All, List, length, slice_index, slice_get, Some}
 use Rattle.std.specs.List.{range_with_len}
 use Rattle.lam_geom.specs.declared.boxes.Axis.TheVariants.{X, Y}
 use Rattle.rule_table.specs.declared.classes.Class.{Class}
@@ -12,16 +12,17 @@ use Rattle.cell_model.specs.declared.cell.NodeKind.TheVariants as kinds
 use Rattle.cell_model.specs.Sound.{node_at}
 use Rattle.sym_items.specs.declared.items.Coords.{Coords}
 use Rattle.sym_items.specs.declared.items.Item.{Item}
-use Rattle.sym_items.specs.Layouts.{size_in}
-use Rattle.sym_items.specs.Sides.{Sides}
+use Rattle.sym_items.specs.Layouts.{layout_at, size_in}
+use Rattle.sym_items.specs.Sides.{Sides, sides_in}
 use Rattle.pair_rules.specs.Bound.{item_at}
 use Rattle.expand.specs.declared.master.Master.{Master}
 use Rattle.buried_contacts.specs.Contacts.{axis_along}
 use Rattle.plan_model.specs.declared.plan.Plan.{Plan}
+use Rattle.plan_model.specs.Instances.{Spot, IsSpot, master_at_spot}
 use Rattle.plan_model.specs.Plan.{grids_of}
 use Rattle.pitch_join.specs.Masters.{ArePlanned, master_at}
-use Rattle.grid_rules.specs.Rules.{AreFinished}
-use Rattle.mask_out.specs.declared.picture.Call.{Call}
+use Rattle.grid_rules.specs.Rules.{item_in}
+use Rattle.mask_out.specs.declared.drawing.Call.{Call}
 use Rattle.mask_out.specs.Pictures.{HaveBoxes, IsDrawable, calls_of}
 use Rattle.design_nets.specs.declared.node_items.NodeItems.{NodeItems}
 use Rattle.design_nets.specs.declared.shapes.Shapes.{Shapes}
@@ -66,10 +67,23 @@ pub record IsFetItem (cell : Cell) (item : Item) (fet : Fet) : Type 0 where
 
 -- ---- where they lie
 
+-- a box within 2^40 of the origin, on either side
+pub record LiesNear (s : Sides) : Type 0 where
+  pub left : neg_ℤ (pos (2 ^ 40)) ≤ℤ s.left
+  pub right : s.right ≤ℤ pos (2 ^ 40)
+  pub bottom : neg_ℤ (pos (2 ^ 40)) ≤ℤ s.bottom
+  pub top : s.top ≤ℤ pos (2 ^ 40)
+
+-- each box of an instance lies within 2^40 of where the instance stands
+abbrev pub BoxesLieNear : Plan → List Master → List Coords → Type 0
+BoxesLieNear plan masters layouts =
+    (p : Spot) → IsSpot (grids_of plan) p
+    → All (λ n. LiesNear (sides_in (layout_at layouts (master_at_spot (grids_of plan) p)) (item_in plan masters p n))) (drawn_in (master_at masters (master_at_spot (grids_of plan) p)))
+
 -- A plan of masters and its layouts, with a call for each instance and a box for each item that is one: all within reach, and not too many.
 pub record IsLaidOut (tech : Tech) (plan : Plan) (masters : List Master) (layouts : List Coords) (calls : List Call) (shapes : Shapes) : Type 0 where
   pub planned : ArePlanned tech plan masters
-  pub finished : AreFinished tech plan masters layouts
+  pub near : BoxesLieNear plan masters layouts
   pub counted : length layouts ≡ length masters
   pub boxes : HaveBoxes layouts masters
   pub drawable : IsDrawable (size_in X layouts) (size_in Y layouts) (widest_of tech) (grids_of plan)
@@ -86,10 +100,3 @@ cell_shown plan masters shapes k = (master_shown plan masters shapes k).cell
 
 abbrev pub item_shown : Plan → List Master → Shapes → ℕ → Item
 item_shown plan masters shapes k = item_at (master_shown plan masters shapes k).items.list (shape_no shapes.all.items k).item
-
--- a box within 2^40 of the origin, to the right and up
-pub record LiesNear (s : Sides) : Type 0 where
-  pub left : pos 0 ≤ℤ s.left
-  pub right : s.right ≤ℤ pos (2 ^ 40)
-  pub bottom : pos 0 ≤ℤ s.bottom
-  pub top : s.top ≤ℤ pos (2 ^ 40)

@@ -1,5 +1,5 @@
 //! Where channels lie in grains.
-ghost use Rattle.std.specs.Prelude.{◌≡◌, ◌^◌, pos, ◌+ℤ◌, ◌≤ℤ◌};
+ghost use Rattle.std.specs.Prelude.{◌≡◌, ◌^◌, pos, neg_ℤ, ◌+ℤ◌, ◌≤ℤ◌};
 ghost use Rattle.lam_geom.specs.Places.{IsPlace, IsPlacedSpan, IsPlacedBox};
 ghost use Rattle.sym_items.specs.Boxes.{HasBox};
 ghost use Rattle.sym_items.specs.Sides.{sides_of, sides_in};
@@ -31,7 +31,7 @@ pub fn channel_at(tech: &Tech, item: &Item, layout: &Coords, call: Call) -> BoxX
 
 // A span in grains, shifted by so much.
 fn span_in_grains(tech: &Tech, span: Span, by: i64) -> Span
-    requires low { pos 0 ≤ℤ span.lo }
+    requires low { neg_ℤ (pos (2 ^ 40)) ≤ℤ span.lo }
     requires high { span.hi ≤ℤ pos (2 ^ 40) }
     requires by { (pos 0 ≤ℤ by) × (by ≤ℤ pos (2 ^ 41)) }
     ensures low { result.lo ≡ grains tech.now (by +ℤ span.lo) }
@@ -45,7 +45,7 @@ fn span_in_grains(tech: &Tech, span: Span, by: i64) -> Span
 
 // A coordinate in grains.
 fn in_grains(tech: &Tech, place: i64) -> i64
-    requires low { pos 0 ≤ℤ place }
+    requires low { neg_ℤ (pos (2 ^ 40)) ≤ℤ place }
     requires high { place ≤ℤ pos (2 ^ 42) }
     ensures value { result ≡ grains tech.now place }
     ensures placed { IsPlace result }

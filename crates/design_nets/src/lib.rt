@@ -1,4 +1,4 @@
-//! The netlist of the sticks of all instances, made from the plan and the masters, whatever lies where.
+//! The netlist of the sticks of all instances, made from the plan, the masters, and layouts that give each item a box and can be drawn.
 //!
 //! What the layer above uses: `stick_netlist` gives the pieces of all boxes with the nets of the parts of the sticks that they
 //! belong to, and a device for each transistor. It takes time linear in the boxes, the nets of all instances and the ports that

@@ -5,10 +5,10 @@ ghost use Rattle.rule_table.specs.Technology.{widest_of};
 ghost use Rattle.sym_items.specs.Layouts.{size_in};
 ghost use Rattle.plan_model.specs.Plan.{grids_of};
 ghost use Rattle.pitch_join.specs.Masters.{ArePlanned};
-ghost use Rattle.grid_rules.specs.Rules.{AreFinished};
 ghost use Rattle.mask_out.specs.Pictures.{HaveBoxes, IsDrawable};
 ghost use Rattle.grid_rules.specs.Shapes.{shapes_of};
 ghost use Rattle.grid_rules.specs.Sticks.{IsSticksNetlist};
+ghost use Rattle.design_nets.specs.Transistors.{BoxesLieNear};
 
 use crate::instances::instances;
 use crate::masters::{drawn_in_masters, nets_of_masters};
@@ -18,15 +18,16 @@ use crate::shapes::shapes_of;
 use crate::transistors::transistors;
 use expand::Master;
 use lam_list::Seq;
-use mask_out::picture_of;
+use mask_out::picture;
 use net_extract::{Netlist, devices_of};
 use plan_model::Plan;
 use rule_table::Tech;
 use std::alloc::{AllocError, Global};
 use sym_items::Coords;
 
-/// The netlist of the sticks of all instances: the pieces of their boxes with the nets of the parts that these belong to, and a
-/// device for each transistor, whose channel is in grains. The only refusal is want of memory.
+/// The netlist of the sticks of all instances: the pieces of their boxes with the nets of the parts that these belong
+/// to, and a device for each transistor, whose channel is in grains. The layouts need not be finished: it asks for what
+/// can be drawn, and for no more than 2^20 boxes. The only refusal is want of memory.
 pub fn stick_netlist(
     alloc: Global,
     tech: &Tech,
@@ -35,9 +36,9 @@ pub fn stick_netlist(
     layouts: &[Coords],
 ) -> Result<Netlist, AllocError>
     requires planned { ArePlanned tech.now plan.now masters.now }
-    requires finished { AreFinished tech.now plan.now masters.now layouts.now }
     requires counted { length layouts.now ≡ length masters.now }
     requires boxes { HaveBoxes layouts.now masters.now }
+    requires near { BoxesLieNear plan.now masters.now layouts.now }
     requires drawable { IsDrawable (size_in X layouts.now) (size_in Y layouts.now) (widest_of tech.now) (grids_of plan.now) }
     requires few { length (shapes_of plan.now masters.now) ≤ 2 ^ 20 }
     ensures { IfOk result (IsSticksNetlist tech.now plan.now masters.now layouts.now) }
@@ -50,7 +51,7 @@ pub fn stick_netlist(
     let owners = owners(alloc, &pieces.all)?;
     let numbers = net_numbers(alloc, plan, &nets, &instances, &owners)?;
     let netted = netted(alloc, &pieces.all, &numbers)?;
-    let picture = picture_of(alloc, tech, plan, masters, layouts)?;
+    let picture = picture(alloc, tech, plan, masters, layouts)?;
     let calls = picture.calls.as_slice();
     let crossings = transistors(alloc, tech, plan, masters, layouts, calls, &drawn, &shapes)?;
     let devices = devices_of(alloc, &netted, &pieces.starts, &crossings)?;

@@ -12,7 +12,6 @@ ghost use Rattle.expand.specs.Structure.{between, extent_edges, margin_edges, ti
 ghost use Rattle.expand.specs.Bounds.{IsSmall, IsNear, IsNearAlong, AreCrosses};
 
 use crate::boxes::{centre, half, negated};
-use crate::master::Master;
 use crate::variables::{crosses, crossing};
 use crate::wires::kind_at;
 use cell_model::{Axis2, Cell, Limit, Wire, WireEnd};
@@ -20,7 +19,7 @@ use cons_graph::{Edge, Why};
 use lam_geom::Axis;
 use rule_table::Tech;
 use std::alloc::{AllocError, Global};
-use sym_items::{End, Item};
+use sym_items::{End, Item, Items};
 
 /// The length between two variables, in u, that keeps so much between ends that lie past them.
 pub fn between_variables(len: i64, low_off: i64, high_off: i64) -> i64
@@ -280,27 +279,28 @@ fn size_edge(tech: &Tech) -> Edge
     }
 }
 
-/// The inequalities of a master on an axis, over the local variables of that axis: its size, the items' least extents,
-/// the wires on the pads at their ends, the items' margins to the borders, and the limits. The only refusal is want of
-/// memory.
+/// The inequalities of a cell and its items on an axis, over the local variables of that axis: the cell's size, the items'
+/// least extents, the wires on the pads at their ends, the items' margins to the borders, and the limits. The only refusal is
+/// want of memory.
 pub fn structure(
     alloc: Global,
     axis: Axis,
     tech: &Tech,
-    master: &Master,
+    cell: &Cell,
+    items: &Items,
 ) -> Result<Vec<Edge>, AllocError>
-    requires { IsMaster tech.now master.now }
-    ensures value { IfOk result (λ edges. edges.items ≡ structure_of axis tech.now master.now.cell master.now.items.list) }
+    requires { IsMaster tech.now (record { cell = cell.now; items = items.now }) }
+    ensures value { IfOk result (λ edges. edges.items ≡ structure_of axis tech.now cell.now items.now.list) }
     // a constraint graph can be made of them
-    ensures shape { IfOk result (λ edges. IsConstraintGraph (record { vars = variables_of axis master.now.cell; edges = edges.items })) }
+    ensures shape { IfOk result (λ edges. IsConstraintGraph (record { vars = variables_of axis cell.now; edges = edges.items })) }
 {
-    let crosses = crosses(alloc, &master.cell)?;
-    let list = master.items.list.as_slice();
+    let crosses = crosses(alloc, cell)?;
+    let list = items.list.as_slice();
     let mut edges = Vec::new(alloc);
     edges.push(size_edge(tech))?;
     push_extents(&mut edges, axis, list)?;
-    push_overlaps(&mut edges, axis, tech, &master.cell, &crosses)?;
+    push_overlaps(&mut edges, axis, tech, cell, &crosses)?;
     push_margins(&mut edges, axis, tech, list)?;
-    push_limits(&mut edges, axis, &master.cell)?;
+    push_limits(&mut edges, axis, cell)?;
     Ok(edges)
 }

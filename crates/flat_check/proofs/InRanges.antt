@@ -8,9 +8,9 @@ use Rattle.crossings.specs.Pairs.{Least}
 use Rattle.flat_check.specs.declared.partners.Range.{Range}
 use Rattle.flat_check.specs.declared.rule.Break.{Break}
 use Rattle.flat_check.specs.declared.rule.Rule.{Rule}
-use Rattle.flat_check.specs.Breaks.{IsBreak}
+use Rattle.flat_check.specs.Breaks.{number_of, IsBreak}
 use Rattle.flat_check.specs.Order.{IsFoundOf}
-use Rattle.flat_check.specs.Ranges.{AreRanges, IsFirstIn, first_or, first_some}
+use Rattle.flat_check.specs.Ranges.{AreRanges, IsBrokenBefore, IsFirstIn, IsFirstUnlessBefore, first_or, first_some}
 use Rattle.flat_check.specs.Sheets.{IsByTrees}
 use Rattle.flat_check.proofs.Searches.{first_among}
 
@@ -37,10 +37,10 @@ module _ (tech : Tech) (boxes : List MaskBox) (rule : Rule) where
   ]
 
   -- the first box with one
-  pub first_there : (from to a b : ℕ) → from ≤ a → a < to → ((c d : ℕ) → from ≤ c → c < a → IsBreak tech boxes rule c d → ⊥) → Least (IsBreak tech boxes rule a) (Some b)
-      → IsFirstIn tech boxes rule from to (Some (record { rule = rule; a = a; b = b }))
-  first_there from to a b low high before least = record {
-    of_rule = refl;
+  pub first_there : (from to a b number : ℕ) → number ≡ number_of rule → from ≤ a → a < to → ((c d : ℕ) → from ≤ c → c < a → IsBreak tech boxes rule c d → ⊥) → Least (IsBreak tech boxes rule a) (Some b)
+      → IsFirstIn tech boxes rule from to (Some (record { rule = number; a = a; b = b }))
+  first_there from to a b number is low high before least = record {
+    of_rule = is;
     low = low;
     high = high;
     broken = least.0;
@@ -53,30 +53,46 @@ module _ (tech : Tech) (boxes : List MaskBox) (rule : Rule) where
     ];
   }
 
+  -- no break before a range and none in it
+  none_behind : (from mid : ℕ) → (IsBrokenBefore tech boxes rule from → ⊥) → ((a b : ℕ) → from ≤ a → a < mid → IsBreak tech boxes rule a b → ⊥) → IsBrokenBefore tech boxes rule mid → ⊥
+  none_behind from mid none within h = elim (cases_lt h.a from) [
+    | inl less ↦ none (record { a = h.a; b = h.b; before = less; broken = h.broken })
+    | inr past ↦ within h.a h.b past h.before h.broken
+  ]
+
   -- a range, and what is behind it
-  pub first_both : (from mid to : ℕ) (first rest : Option Break) → from ≤ mid → mid ≤ to → IsFirstIn tech boxes rule from mid first → IsFirstIn tech boxes rule mid to rest → IsFirstIn tech boxes rule from to (first_or first rest)
-  first_both from mid to (Some first) rest le more h k = record { of_rule = h.of_rule; low = h.low; high = omega (arith, h.high, more); broken = h.broken; least = h.least }
-  first_both from mid to None None le more h k = λ a b low high broken. elim (cases_lt a mid) [ inl less ↦ h a b low less broken | inr past ↦ k a b past high broken ]
-  first_both from mid to None (Some rest) le more h k = record {
-    of_rule = k.of_rule;
-    low = omega (arith, k.low, le);
-    high = k.high;
-    broken = k.broken;
-    least = λ a b low broken. elim (cases_lt a mid) [ inl less ↦ absurd (h a b low less broken) | inr past ↦ k.least a b past broken ];
-  }
+  pub first_both : (from mid to : ℕ) (first rest : Option Break) → from ≤ mid → mid ≤ to → IsFirstUnlessBefore tech boxes rule from mid first → IsFirstUnlessBefore tech boxes rule mid to rest
+      → IsFirstUnlessBefore tech boxes rule from to (first_or first rest)
+  first_both from mid to (Some first) rest le more h k none =
+      let here = h none in
+      record { of_rule = here.of_rule; low = here.low; high = omega (arith, here.high, more); broken = here.broken; least = here.least }
+  first_both from mid to None None le more h k none =
+      let here = h none in let there = k (none_behind from mid none here) in
+      λ a b low high broken. elim (cases_lt a mid) [ inl less ↦ here a b low less broken | inr past ↦ there a b past high broken ]
+  first_both from mid to None (Some rest) le more h k none =
+      let here = h none in let there = k (none_behind from mid none here) in
+      record {
+        of_rule = there.of_rule;
+        low = omega (arith, there.low, le);
+        high = there.high;
+        broken = there.broken;
+        least = λ a b low broken. elim (cases_lt a mid) [ inl less ↦ absurd (here a b low less broken) | inr past ↦ there.least a b past broken ];
+      }
 
   -- all ranges
-  pub first_in_all : (Q : Range → Option Break → Type 0) → ((range : Range) (first : Option Break) → Q range first → IsFirstIn tech boxes rule range.from range.to first) → (ranges : List Range) (found : List (Option Break)) (from to : ℕ)
-      → AreRanges from ranges to → AllZip Q ranges found → IsFirstIn tech boxes rule from to (first_some found)
-  first_in_all Q says [] [] from to are zipped = λ a b low high broken. absurd (omega (arith, are))
-  first_in_all Q says [] (first ∷ found) from to are zipped = absurd zipped
-  first_in_all Q says (range ∷ ranges) [] from to are zipped = absurd zipped
-  first_in_all Q says (range ∷ ranges) (first ∷ found) from to are zipped =
-      let here = subst (λ (n : ℕ). IsFirstIn tech boxes rule n range.to first) are.0 (says range first zipped.0) in
+  pub first_in_all : (Q : Range → Option Break → Type 0) → ((range : Range) (first : Option Break) → Q range first → IsFirstUnlessBefore tech boxes rule range.from range.to first) → (ranges : List Range) (found : List (Option Break)) (from to : ℕ)
+      → AreRanges from ranges to → AllZip Q ranges found → IsFirstUnlessBefore tech boxes rule from to (first_some found)
+  first_in_all Q says [] [] from to are zipped none = λ a b low high broken. absurd (omega (arith, are, low, high))
+  first_in_all Q says [] (first ∷ found) from to are zipped none = absurd zipped
+  first_in_all Q says (range ∷ ranges) [] from to are zipped none = absurd zipped
+  first_in_all Q says (range ∷ ranges) (first ∷ found) from to are zipped none =
+      let here = subst (λ (n : ℕ). IsFirstUnlessBefore tech boxes rule n range.to first) are.0 (says range first zipped.0) in
       first_both from range.to to first (first_some found) (omega (arith, are.0, are.1)) (ranges_within range.to to ranges are.2).0 here
-      (first_in_all Q says ranges found range.to to are.2 zipped.1)
+      (first_in_all Q says ranges found range.to to are.2 zipped.1) none
 
   -- that of all boxes is that of the rule
-  pub found_in_all : (first : Option Break) → IsByTrees rule → IsFirstIn tech boxes rule 0 (length boxes) first → IsFoundOf tech boxes rule first
-  found_in_all None by h = λ a b broken. h a b (omega arith) (first_among tech boxes rule a b by broken) broken
-  found_in_all (Some first) by h = record { of_rule = h.of_rule; broken = h.broken; least = λ a b broken. h.least a b (omega arith) broken }
+  pub found_in_all : (first : Option Break) → IsByTrees rule → IsFirstUnlessBefore tech boxes rule 0 (length boxes) first → IsFoundOf tech boxes rule first
+  found_in_all first by h = go first (h (λ before. let lt = before.before in omega (arith, lt))) where
+    go : (first : Option Break) → IsFirstIn tech boxes rule 0 (length boxes) first → IsFoundOf tech boxes rule first
+    go None all = λ a b broken. all a b (omega arith) (first_among tech boxes rule a b by broken) broken
+    go (Some first) all = record { of_rule = all.of_rule; broken = all.broken; least = λ a b broken. all.least a b (omega arith) broken }

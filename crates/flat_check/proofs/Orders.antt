@@ -1,16 +1,18 @@
 -- The order of the rules, and of breaks.
-use Rattle.std.proofs.Common.{◌≡◌, ℕ, ◌+◌, ◌-◌, ◌<◌, inl, inr, Option, Some, None, List, [], ◌∷◌, get_or, refl, sym, ap, ◌∙◌, subst, lit<, arith}
+use Rattle.std.proofs.Common.{◌≡◌, ℕ, ◌+◌, ◌-◌, ◌<◌, inl, inr, Option, Some, None, Result, Ok, Err, IfOk, OnErr, List, [], ◌∷◌, get_or, refl, sym, ap, ◌∙◌, subst, lit<, arith}
 use Rattle.std.proofs.lemmas.Bool.{cases_lt}
 use Rattle.lam_geom.specs.declared.boxes.MaskBox.{MaskBox}
 use Rattle.rule_table.specs.declared.technology.Tech.{Tech}
 use Rattle.flat_check.specs.declared.rule.Break.{Break}
 use Rattle.flat_check.specs.declared.rule.Rule.{Rule}
 use Rattle.flat_check.specs.declared.rule.Rule.TheVariants.{Width, CutSize, ProperCrossing, PolyToDiffusion, CutCover, MetalSpacing, PolySpacing, DiffusionSpacing, CutSpacing, CutToChannel, ImplantToChannel, WindowToChannel}
-use Rattle.crossings.specs.Crossings.{IsFirstBadPair}
+use Rattle.crossings.specs.declared.crossing.CrossingFault.{CrossingFault}
+use Rattle.crossings.specs.declared.crossing.CrossingFault.TheVariants.{NotProper, OutOfMemory}
+use Rattle.crossings.specs.Crossings.{IsCauseOf, IsFirstBadPair}
 use Rattle.flat_check.specs.Breaks.{number_of, IsBreak, IsFirstBreak, IsNotAfter}
 use Rattle.flat_check.specs.Order.{IsKept, KeepBefore, IsFirstOf, next_of}
 use Rattle.flat_check.specs.Sheets.{IsByTrees}
-use Rattle.flat_check.specs.Starts.{AreByTrees}
+use Rattle.flat_check.specs.Starts.{AreByTrees, IsStart, start_of}
 
 -- ---- rules by number
 
@@ -74,25 +76,37 @@ keep_before_all tech boxes earlier lt = let low = number_from earlier in absurd 
 -- that of the first rule that is broken
 pub first_of_all : (tech : Tech) (boxes : List MaskBox) (rule : Rule) (first : Break) → KeepBefore tech boxes (Some rule) → IsFirstOf tech boxes rule first → IsFirstBreak tech boxes first
 first_of_all tech boxes rule first before found = record {
-  broken = subst (λ (r : Rule). IsBreak tech boxes r first.a first.b) (sym found.of_rule) found.broken;
+  rule = rule;
+  numbered = found.of_rule;
+  broken = found.broken;
   least = not_after;
 } where
   not_after : (other : Rule) (a b : ℕ) → IsBreak tech boxes other a b → IsNotAfter first other a b
   not_after other a b broken =
-      let own : number_of first.rule ≡ number_of rule = ap number_of found.of_rule in
+      let own = found.of_rule in
       elim (cases_lt (number_of other) (number_of rule)) [
         | inl less ↦ absurd (before other less a b broken)
         | inr more ↦ elim (cases_lt (number_of rule) (number_of other)) [
-          | inl behind ↦ inl (omega arith)
+          | inl behind ↦ inl (omega (arith, own, behind))
           | inr not_behind ↦
               let same : other ≡ rule = one_number other rule (omega arith) in
-              inr (found.of_rule ∙ sym same, found.least a b (subst (λ (r : Rule). IsBreak tech boxes r a b) same broken))
+              inr (own ∙ ap number_of (sym same), found.least a b (subst (λ (r : Rule). IsBreak tech boxes r a b) same broken))
         ]
       ]
 
+-- what holds in any case holds where memory is wanted
+pub where_kept : {T E P : Type 0} (r : Result T E) → P → OnErr r P
+where_kept (Ok found) h = tt
+where_kept (Err e) h = h
+
 -- the first pair that does not cross properly
-pub first_bad_pair : (tech : Tech) (boxes : List MaskBox) (a b : ℕ) → IsFirstBadPair tech boxes a b → IsFirstOf tech boxes ProperCrossing (record { rule = ProperCrossing; a = a; b = b })
+pub first_bad_pair : (tech : Tech) (boxes : List MaskBox) (a b : ℕ) → IsFirstBadPair tech boxes a b → IsFirstOf tech boxes ProperCrossing (record { rule = number_of ProperCrossing; a = a; b = b })
 first_bad_pair tech boxes a b h = record { of_rule = refl; broken = h.bad; least = h.first }
+
+-- a fault of the crossings, where the rules before are kept
+pub fault_starts : (tech : Tech) (boxes : List MaskBox) → KeepBefore tech boxes (Some ProperCrossing) → (fault : CrossingFault) → IsCauseOf tech boxes fault → IfOk (start_of fault) (IsStart tech boxes)
+fault_starts tech boxes before (NotProper a b) h = first_of_all tech boxes ProperCrossing (record { rule = number_of ProperCrossing; a = a; b = b }) before (first_bad_pair tech boxes a b h)
+fault_starts tech boxes before OutOfMemory h = tt
 
 -- ---- the rules that are checked by trees
 

@@ -6,7 +6,7 @@ use Rattle.lam_geom.specs.declared.boxes.MaskBox.{MaskBox}
 use Rattle.rule_table.specs.declared.technology.Tech.{Tech}
 use Rattle.flat_check.specs.declared.rule.Rule.{Rule}
 use Rattle.flat_check.specs.declared.rule.Rule.TheVariants.{Width, CutSize, ProperCrossing, PolyToDiffusion, CutCover, MetalSpacing, PolySpacing, DiffusionSpacing, CutSpacing, CutToChannel, ImplantToChannel, WindowToChannel}
-use Rattle.flat_check.specs.Breaks.{IsBreak, IsUncovered}
+use Rattle.flat_check.specs.Breaks.{number_of, IsBreak, IsUncovered}
 use Rattle.flat_check.specs.Order.{IsOnOne, IsKept, IsFirstOf}
 use Rattle.flat_check.specs.Sheets.{IsByTrees, IsOnPairs}
 use Rattle.flat_check.proofs.Among.{second_among}
@@ -29,9 +29,9 @@ kept_all tech boxes rule n all among below a b broken = let lt = among a b broke
 
 -- the first box at which a rule is broken, with the least second box
 pub first_here : (tech : Tech) (boxes : List MaskBox) (rule : Rule) (a b : ℕ) → IsKeptBelow tech boxes rule a → IsBreak tech boxes rule a b → ((d : ℕ) → IsBreak tech boxes rule a d → b ≤ d)
-    → IsFirstOf tech boxes rule (record { rule = rule; a = a; b = b })
-first_here tech boxes rule a b below broken least = record {
-  of_rule = refl;
+    → (number : ℕ) → number ≡ number_of rule → IsFirstOf tech boxes rule (record { rule = number; a = a; b = b })
+first_here tech boxes rule a b below broken least number is = record {
+  of_rule = is;
   broken = broken;
   least = λ c d h. elim (cases_lt a c) [
     | inl less ↦ inl less

@@ -195,8 +195,10 @@ KeepRules tech boxes = (rule : Rule) (a b : ℕ) → IsBreak tech boxes rule a b
 -- by rule, then by the first box, then by the second
 abbrev pub IsNotAfter : Break → Rule → ℕ → ℕ → Type 0
 IsNotAfter first rule a b =
-    (number_of first.rule < number_of rule) ⊎ ((first.rule ≡ rule) × ((first.a < a) ⊎ ((first.a ≡ a) × (first.b ≤ b))))
+    (first.rule < number_of rule) ⊎ ((first.rule ≡ number_of rule) × ((first.a < a) ⊎ ((first.a ≡ a) × (first.b ≤ b))))
 
 pub record IsFirstBreak (tech : Tech) (boxes : List MaskBox) (first : Break) : Type 0 where
-  pub broken : IsBreak tech boxes first.rule first.a first.b
-  pub least : (rule : Rule) (a b : ℕ) → IsBreak tech boxes rule a b → IsNotAfter first rule a b
+  pub rule : Rule
+  pub numbered : first.rule ≡ number_of rule
+  pub broken : IsBreak tech boxes rule first.a first.b
+  pub least : (other : Rule) (a b : ℕ) → IsBreak tech boxes other a b → IsNotAfter first other a b

@@ -39,7 +39,7 @@ KeepBefore tech boxes None = KeepRules tech boxes
 
 -- the first break of one rule
 pub record IsFirstOf (tech : Tech) (boxes : List MaskBox) (rule : Rule) (first : Break) : Type 0 where
-  pub of_rule : first.rule ≡ rule
+  pub of_rule : first.rule ≡ number_of rule
   pub broken : IsBreak tech boxes rule first.a first.b
   pub least : (a b : ℕ) → IsBreak tech boxes rule a b → (first.a < a) ⊎ ((first.a ≡ a) × (first.b ≤ b))
 

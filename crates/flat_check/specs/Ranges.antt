@@ -2,23 +2,43 @@
 use Rattle.std.specs.Prelude.{◌≡◌, ℕ, ◌<◌, ◌≤◌, ◌⊎◌, Option, Some, None, List, [], ◌∷◌}
 use Rattle.lam_geom.specs.declared.boxes.MaskBox.{MaskBox}
 use Rattle.rule_table.specs.declared.technology.Tech.{Tech}
+use Rattle.crossings.specs.Pairs.{Least}
 use Rattle.flat_check.specs.declared.partners.Range.{Range}
+use Rattle.flat_check.specs.declared.partners.Standing.{Standing}
+use Rattle.flat_check.specs.declared.partners.Standing.TheVariants.{Keeps, BreaksWith, BrokenBefore}
 use Rattle.flat_check.specs.declared.rule.Break.{Break}
 use Rattle.flat_check.specs.declared.rule.Rule.{Rule}
-use Rattle.flat_check.specs.Breaks.{IsBreak}
+use Rattle.flat_check.specs.Breaks.{number_of, IsBreak}
 
 -- the first break of a rule whose first box has a number from one on
 pub record IsFirstFrom (tech : Tech) (boxes : List MaskBox) (rule : Rule) (from to : ℕ) (first : Break) : Type 0 where
-  pub of_rule : first.rule ≡ rule
+  pub of_rule : first.rule ≡ number_of rule
   pub low : from ≤ first.a
   pub high : first.a < to
   pub broken : IsBreak tech boxes rule first.a first.b
   pub least : (a b : ℕ) → from ≤ a → IsBreak tech boxes rule a b → (first.a < a) ⊎ ((first.a ≡ a) × (first.b ≤ b))
 
--- what a search for the breaks of a rule in a range of first boxes finds: the first one, or that there is none
+-- the first break of a rule at a first box in a range, or that there is none
 abbrev pub IsFirstIn : Tech → List MaskBox → Rule → ℕ → ℕ → Option Break → Type 0
 IsFirstIn tech boxes rule from to None = (a b : ℕ) → from ≤ a → a < to → IsBreak tech boxes rule a b → ⊥
 IsFirstIn tech boxes rule from to (Some first) = IsFirstFrom tech boxes rule from to first
+
+-- a rule is broken at a first box before this one
+pub record IsBrokenBefore (tech : Tech) (boxes : List MaskBox) (rule : Rule) (from : ℕ) : Type 0 where
+  pub a : ℕ
+  pub b : ℕ
+  pub before : a < from
+  pub broken : IsBreak tech boxes rule a b
+
+-- What a search in a range finds. Where the rule is broken before the range, which then is of no account, it may end early and find anything.
+abbrev pub IsFirstUnlessBefore : Tech → List MaskBox → Rule → ℕ → ℕ → Option Break → Type 0
+IsFirstUnlessBefore tech boxes rule from to found = (IsBrokenBefore tech boxes rule from → ⊥) → IsFirstIn tech boxes rule from to found
+
+-- how a box stands to a rule in a search that begins at a box
+abbrev pub StandsTo : Tech → List MaskBox → Rule → ℕ → ℕ → Standing → Type 0
+StandsTo tech boxes rule from a Keeps = (b : ℕ) → IsBreak tech boxes rule a b → ⊥
+StandsTo tech boxes rule from a (BreaksWith b) = Least (IsBreak tech boxes rule a) (Some b)
+StandsTo tech boxes rule from a BrokenBefore = IsBrokenBefore tech boxes rule from
 
 -- ranges one behind another, from here to there
 abbrev pub AreRanges : ℕ → List Range → ℕ → Type 0

@@ -1,16 +1,19 @@
 -- What is known of boxes before the rules that are checked by trees.
-use Rattle.std.specs.Prelude.{ℕ, Option, Some, None, List}
+use Rattle.std.specs.Prelude.{ℕ, Option, Some, None, Result, Ok, Err, alloc_error, List}
+use Rattle.std.specs.declared.alloc.AllocError.{AllocError}
 use Rattle.lam_geom.specs.declared.boxes.MaskBox.{MaskBox}
 use Rattle.rule_table.specs.declared.technology.Tech.{Tech}
+use Rattle.crossings.specs.declared.crossing.CrossingFault.{CrossingFault}
+use Rattle.crossings.specs.declared.crossing.CrossingFault.TheVariants.{NotProper, OutOfMemory}
 use Rattle.crossings.specs.Crossings.{AreProper, AreCrossings}
 use Rattle.net_extract.specs.declared.placing.Pieces.{Pieces}
 use Rattle.net_extract.specs.Extraction.{AreNets}
 use Rattle.net_extract.specs.Pieces.{ArePiecesOf}
 use Rattle.flat_check.specs.declared.rule.Rule.{Rule}
-use Rattle.flat_check.specs.declared.rule.Rule.TheVariants.{PolyToDiffusion}
+use Rattle.flat_check.specs.declared.rule.Rule.TheVariants.{ProperCrossing, PolyToDiffusion}
 use Rattle.flat_check.specs.declared.start.Start.{Start}
 use Rattle.flat_check.specs.declared.start.Start.TheVariants.{Broken, Kept}
-use Rattle.flat_check.specs.Breaks.{IsFirstBreak}
+use Rattle.flat_check.specs.Breaks.{number_of, IsFirstBreak}
 use Rattle.flat_check.specs.Order.{KeepBefore}
 use Rattle.flat_check.specs.Sheets.{IsByTrees}
 
@@ -25,6 +28,11 @@ pub record AreKept (tech : Tech) (boxes : List MaskBox) (pieces : Pieces) (nets 
 abbrev pub IsStart : Tech → List MaskBox → Start → Type 0
 IsStart tech boxes (Broken first) = IsFirstBreak tech boxes first
 IsStart tech boxes (Kept pieces nets) = AreKept tech boxes pieces nets.items
+
+-- what a fault of the crossings leaves: its pair is a break
+abbrev pub start_of : CrossingFault → Result Start AllocError
+start_of (NotProper a b) = Ok (Broken (record { rule = number_of ProperCrossing; a = a; b = b }))
+start_of OutOfMemory = Err alloc_error
 
 -- the rules from this one on are checked by trees
 abbrev pub AreByTrees : Option Rule → Type 0

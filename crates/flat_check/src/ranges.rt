@@ -2,7 +2,7 @@
 ghost use Rattle.std.specs.Prelude.{◌≡◌, ◌^◌, ◌≤◌, IfOk, length};
 ghost use Rattle.flat_check.specs.Breaks.{ShapesHold};
 ghost use Rattle.flat_check.specs.Order.{IsFoundOf};
-ghost use Rattle.flat_check.specs.Ranges.{AreRanges, IsFirstIn, first_some};
+ghost use Rattle.flat_check.specs.Ranges.{AreRanges, IsFirstUnlessBefore, first_some};
 ghost use Rattle.flat_check.specs.Sheets.{IsByTrees, IsOnNets, IsSheet};
 ghost use Rattle.flat_check.specs.Trees.{AreTreesOf};
 
@@ -37,7 +37,7 @@ pub fn first_in_pieces<H: Threads + Sync, G: Gate>(
     let find = |range: &Range| -> Result<Option<Break>, AllocError>
         requires { IsSheet sheet.now × IsByTrees rule × (IsOnNets rule → ShapesHold sheet.now.tech.now sheet.now.boxes.now)
             × AreTreesOf sheet.now trees.now × (range.now.to ≤ length sheet.now.boxes.now) }
-        ensures { IfOk result (IsFirstIn sheet.entry.now.tech.now sheet.entry.now.boxes.now rule range.entry.now.from range.entry.now.to) }
+        ensures { IfOk result (IsFirstUnlessBefore sheet.entry.now.tech.now sheet.entry.now.boxes.now rule range.entry.now.from range.entry.now.to) }
     { Ok(first_in(sheet, rule, trees, range)) };
     let found = map_split(rt, alloc, gate, &ranges, pieces, &find)?;
     Ok(first_of_all(&found))
@@ -60,7 +60,7 @@ fn ranges(alloc: Global, len: u32, pieces: u32) -> Result<Vec<Range>, AllocError
     Ok(ranges)
 }
 
-// The first break of those found one range after another.
+// The first break of those found one range after another. A range ends early only where one before it has a break.
 fn first_of_all(found: &[Option<Break>]) -> Option<Break>
     ensures { result ≡ first_some found.now }
 {

@@ -75,11 +75,11 @@ impl Rule {
     }
 }
 
-/// A rule that is broken at two boxes, by their numbers, the lesser one first; or at one box, and then both are its number. A
-/// channel, and a piece of diffusion, goes by the number of its diffusion box.
+/// A rule by its number, from 1 to 12, that is broken at two boxes, by their numbers, the lesser one first; or at one box, and
+/// then both are its number. A channel, and a piece of diffusion, goes by the number of its diffusion box.
 #[derive(Clone, Copy, Debug, PartialEq, Eq)]
 pub struct Break {
-    pub rule: Rule,
+    pub rule: u32,
     pub a: u32,
     pub b: u32,
 }

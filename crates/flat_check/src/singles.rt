@@ -20,7 +20,11 @@ pub fn first_at_one(tech: &Tech, boxes: &[MaskBox], rule: Rule) -> Option<Break>
 {
     for a in 0..boxes.len() as u32 {
         if is_broken_at(tech, boxes, rule, a) {
-            return Some(Break { rule, a, b: a });
+            return Some(Break {
+                rule: rule.number(),
+                a,
+                b: a,
+            });
         }
     }
     None

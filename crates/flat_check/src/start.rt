@@ -1,10 +1,10 @@
 //! What is known of boxes before the rules that are checked by trees.
-ghost use Rattle.std.specs.Prelude.{◌≡◌, Some, IfOk};
+ghost use Rattle.std.specs.Prelude.{◌≡◌, Some, IfOk, IfErr, OnErr};
 ghost use Rattle.crossings.specs.Boxes.{AreSearchable};
-ghost use Rattle.crossings.specs.Crossings.{AreCrossings, AreProper};
+ghost use Rattle.crossings.specs.Crossings.{AreCrossings, AreProper, IsCauseOf};
 ghost use Rattle.flat_check.specs.declared.rule.Rule.TheVariants.{ProperCrossing};
 ghost use Rattle.flat_check.specs.Order.{KeepBefore};
-ghost use Rattle.flat_check.specs.Starts.{IsStart};
+ghost use Rattle.flat_check.specs.Starts.{IsStart, start_of};
 
 use crate::rule::{Break, Rule};
 use crate::singles::first_at_one;
@@ -23,10 +23,12 @@ pub enum Start {
     Kept { pieces: Pieces, nets: Vec<u32> },
 }
 
-/// The rules up to that on crossings, checked. The only refusal is want of memory.
+/// The rules up to that on crossings, checked. The only refusal is want of memory, which comes only where each single box keeps
+/// the rules on single boxes.
 pub fn check_first_rules(alloc: Global, tech: &Tech, boxes: &[MaskBox]) -> Result<Start, AllocError>
     requires { AreSearchable boxes.now }
-    ensures { IfOk result (IsStart tech.now boxes.now) }
+    ensures start { IfOk result (IsStart tech.now boxes.now) }
+    ensures memory { OnErr result (KeepBefore tech.now boxes.now (Some ProperCrossing)) }
 {
     if let Some(narrow) = first_at_one(tech, boxes, Rule::Width) {
         return Ok(Start::Broken(narrow));
@@ -34,14 +36,42 @@ pub fn check_first_rules(alloc: Global, tech: &Tech, boxes: &[MaskBox]) -> Resul
     if let Some(odd) = first_at_one(tech, boxes, Rule::CutSize) {
         return Ok(Start::Broken(odd));
     }
-    match crossings(alloc, tech, boxes) {
-        Ok(found) => start_behind(alloc, tech, boxes, found),
-        Err(CrossingFault::NotProper(a, b)) => Ok(Start::Broken(Break {
-            rule: Rule::ProperCrossing,
+    let found = crossings(alloc, tech, boxes);
+    start_with(alloc, tech, boxes, found)
+}
+
+// What boxes leave that keep the rules on single boxes, by their crossings or the fault of these, whose pair is the first break.
+fn start_with(
+    alloc: Global,
+    tech: &Tech,
+    boxes: &[MaskBox],
+    found: Result<Vec<Crossing>, CrossingFault>,
+) -> Result<Start, AllocError>
+    requires searchable { AreSearchable boxes.now }
+    requires proper { IfOk found (λ _. AreProper tech.now boxes.now) }
+    requires crossings { IfOk found (λ crossings. AreCrossings tech.now boxes.now crossings.items) }
+    requires fault { IfErr found (IsCauseOf tech.now boxes.now) }
+    requires before { KeepBefore tech.now boxes.now (Some ProperCrossing) }
+    ensures start { IfOk result (IsStart tech.now boxes.now) }
+    ensures fault { IfErr found (λ fault. result ≡ start_of fault) }
+{
+    match found {
+        Ok(crossings) => start_behind(alloc, tech, boxes, crossings),
+        Err(fault) => start_at(fault),
+    }
+}
+
+// What a fault of the crossings leaves.
+fn start_at(fault: CrossingFault) -> Result<Start, AllocError>
+    ensures { result ≡ start_of fault }
+{
+    match fault {
+        CrossingFault::NotProper(a, b) => Ok(Start::Broken(Break {
+            rule: Rule::ProperCrossing.number(),
             a,
             b,
         })),
-        Err(CrossingFault::OutOfMemory) => Err(AllocError),
+        CrossingFault::OutOfMemory => Err(AllocError),
     }
 }
 

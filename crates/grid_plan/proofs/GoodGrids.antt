@@ -36,7 +36,7 @@ good_grid cells grid is none =
     let good = good_rows cells grid grid.rows is.1 none in
     record { rectangular = good.0; fits = λ axis. all_fit axis (ports_of_cells cells) (numbers_in_grid cells grid) good.1 }
 
-no_grid : GridText
+pub no_grid : GridText
 no_grid = record { name = None; line = 0; rows = [] }
 
 pub good_grids : (cells : List Known) (grids : List GridText) → AllByRecursion IsGrid grids → plan_fault cells grids ≡ None → AllByRecursion (IsGood cells) (map (numbers_in_grid cells) grids)

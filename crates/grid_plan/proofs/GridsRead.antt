@@ -38,7 +38,7 @@ as_long columns row text e = elim (eqb_tells (length text.names) columns) [
   | inr other ↦ absurd (let h : ragged_row columns row text ≡ Some (RaggedRow row) = ap (λ b. cond b None (Some (RaggedRow row))) other.0 in cc)
 ]
 
-no_text : RowText
+pub no_text : RowText
 no_text = record { names = [] }
 
 pub equal_rows : (cells : List Known) (rows : List RowText) → ragged_in rows ≡ None → All (λ row. length row ≡ length (first_row (map (numbers_in_row cells) rows))) (map (numbers_in_row cells) rows)

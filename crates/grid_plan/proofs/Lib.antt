@@ -4,6 +4,8 @@ pub mod Ordered
 pub mod CellPorts
 pub mod Placing
 pub mod GridsRead
+pub mod KnownNames
+pub mod Judged
 pub mod PairsWithin
 pub mod Mapped
 pub mod GridsFit

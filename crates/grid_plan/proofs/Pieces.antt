@@ -1,7 +1,8 @@
 -- Lists of pairs and of images, one more element at a time.
-use Rattle.std.proofs.Common.{◌≡◌, ℕ, zero, suc, ◌+◌, ◌-◌, ◌<◌, ◌≤◌, min, Bool, true, false, cond, Option, Some, None, List, [], ◌∷◌, ◌++◌, length, map, take, get_or, refl, ap, sym, ◌∙◌, arith, append_assoc, add-one}
+use Rattle.std.proofs.Common.{◌≡◌, ℕ, zero, suc, ◌+◌, ◌-◌, ◌<◌, ◌≤◌, min, Bool, true, false, cond, Option, Some, None, List, [], ◌∷◌, ◌++◌, length, map, take, get_or, refl, ap, sym, subst, ◌∙◌, arith, append_assoc, add-one}
 use Rattle.std.specs.List.{zip}
-use Rattle.std.proofs.lemmas.List.{map_more}
+use Rattle.std.proofs.lemmas.List.{map_more, get_or_default}
+use borrow.Author.Count.{below_more}
 use Rattle.std.specs.Option.{option_map}
 use Rattle.cell_model.specs.declared.cell.CellPort.{CellPort}
 use Rattle.plan_model.specs.Borders.{may_meet, misfit}
@@ -99,3 +100,11 @@ ended_first (x ∷ xs) (y ∷ ys) zero other e was = absurd (omega arith)
 ended_first (x ∷ xs) (y ∷ ys) (suc k) other e was =
     let first = under (may_meet x y) (misfit (take k xs) (take k ys)) was in
     ap (λ p. cond p (option_map suc (misfit xs ys)) (Some 0)) first.0 ∙ ap (option_map suc) (ended_first xs ys k (λ same. other (omega arith)) (omega arith) first.1)
+
+-- ---- elements so far
+
+-- what holds of the elements before one, and of that one
+pub one_further : {A : Type 0} (P : A → Type 0) (xs : List A) (i : ℕ) (x : A) → i < length xs → x ≡ get_or xs i x → ((k : ℕ) (d : A) → k < i → P (get_or xs k d)) → P x
+    → (k : ℕ) (d : A) → k < i + 1 → P (get_or xs k d)
+one_further {A = A} P xs i x lt is so_far here k d less =
+    below_more (λ j. (e : A) → P (get_or xs j e)) i (λ j below e. so_far j e below) (λ e. subst P (is ∙ get_or_default xs i x e lt) here) k less d

@@ -1,5 +1,5 @@
 -- What is wrong with grids.
-use Rattle.std.specs.Prelude.{◌≡◌, ℕ, suc, ◌+◌, ◌==◌, nat_lt, true, false, Option, Some, None, is_none, List, [], ◌∷◌, length, if◌then◌else◌, slice_index}
+use Rattle.std.specs.Prelude.{◌≡◌, ℕ, suc, ◌+◌, ◌==◌, nat_lt, true, false, Option, Some, None, is_none, Result, Ok, Err, List, [], ◌∷◌, length, if◌then◌else◌, slice_index}
 use Rattle.std.specs.Option.{option_map, option_or}
 use Rattle.lam_geom.specs.declared.boxes.Axis.TheVariants.{X, Y}
 use Rattle.cell_model.specs.declared.cell.CellPort.{CellPort}
@@ -83,6 +83,11 @@ numbered_fault cells g grid = option_map (λ fault. (g, fault)) (grid_fault cell
 
 unfoldable pub plan_fault : List Known → List GridText → Option (ℕ × GridFault)
 plan_fault cells grids = first_found (numbered_fault cells) 0 grids
+
+-- what is answered to the first fault
+abbrev pub judged : Option (ℕ × GridFault) → Result (Unit {0}) PlanFault
+judged None = Ok tt
+judged (Some found) = Err (Grid found.0 found.1)
 
 -- why there is no plan; that memory runs out may come whatever the grids are
 abbrev pub RefusesPlan : List Known → List GridText → PlanFault → Type 0

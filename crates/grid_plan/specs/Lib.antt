@@ -4,6 +4,5 @@ pub mod Small
 pub mod Tables
 pub mod BorderSides
 pub mod Scan
-pub mod Reading
 pub mod Planned
 pub mod Building

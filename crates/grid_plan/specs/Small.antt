@@ -1,5 +1,7 @@
 -- Numbers below a bound.
-use Rattle.std.specs.Prelude.{◌≡◌, ℕ, ◌<◌, All, List, length}
+use Rattle.std.specs.Prelude.{◌≡◌, ℕ, ◌^◌, ◌<◌, All, List, length}
+use Rattle.stick_parse.specs.declared.design.GridText.{GridText}
+use Rattle.stick_parse.specs.declared.design.RowText.{RowText}
 use Rattle.plan_model.specs.Rows.{first_row, row_at}
 
 -- both numbers of a pair are below a count
@@ -25,3 +27,18 @@ pub record IsInstanceOf (count : ℕ) (rows : List (List ℕ)) (r c : ℕ) : Typ
 pub record IsGridOf (count : ℕ) (rows : List (List ℕ)) : Type 0 where
   pub some_rows : 0 < length rows
   pub are : AreRowsOf count rows
+
+-- ---- what a u32 has room for
+
+pub record AreFewRows (texts : List RowText) : Type 0 where
+  pub rows : length texts < 2 ^ 32
+  pub names : All (λ row. length row.names < 2 ^ 32) texts
+
+pub record AreFewGrids (texts : List GridText) : Type 0 where
+  pub grids : length texts < 2 ^ 32
+  pub rows : All (λ grid. AreFewRows grid.rows) texts
+
+-- the same of a grid by its cells' numbers, row by row
+pub record AreFewCells (grid : List (List ℕ)) : Type 0 where
+  pub rows : length grid < 2 ^ 32
+  pub cells : All (λ row. length row < 2 ^ 32) grid

@@ -1,6 +1,6 @@
 //! What meets at the borders of cells, and where it does not fit.
 
-ghost use Rattle.std.specs.Prelude.{◌≡◌, ℕ, ◌+◌, ◌*◌, ◌<◌, ◌≤◌, ◌++◌, true, false, None, List, length, map, flat_map, vec_len, slice_index_or, All, OnOk, IfOk};
+ghost use Rattle.std.specs.Prelude.{◌≡◌, ℕ, ◌+◌, ◌*◌, ◌^◌, ◌<◌, ◌≤◌, ◌++◌, true, false, None, List, length, map, flat_map, vec_len, slice_index_or, All, OnOk, IfOk};
 ghost use Rattle.std.specs.List.{zip};
 ghost use Rattle.std.proofs.Props.{props};
 ghost use Rattle.plan_model.specs.Borders.{side_before, side_behind, may_meet, misfit, match_of};
@@ -44,19 +44,20 @@ fn may_meet(a: &CellPort, b: &CellPort) -> bool
 }
 
 /// The first number at which the ports may not meet, or one list has ended.
-fn misfit(before: &[CellPort], behind: &[CellPort]) -> Option<usize>
+fn misfit(before: &[CellPort], behind: &[CellPort]) -> Option<u32>
+    requires { length before.now < 2 ^ 32 }
     ensures { result ≡ misfit before.now behind.now }
 {
     let shorter = before.len().min(behind.len());
     for k in 0..shorter {
         if !may_meet(&before[k], &behind[k]) {
-            return Some(k);
+            return Some(k as u32);
         }
     }
     if before.len() == behind.len() {
         None
     } else {
-        Some(shorter)
+        Some(shorter as u32)
     }
 }
 
@@ -69,6 +70,7 @@ pub struct Borders {
     fits: Vec<bool>,
     ghost one_length: { vec_len behind ≡ vec_len before },
     ghost few: { vec_len before ≤ 256 },
+    ghost short: { All (λ side. length side < 2 ^ 32) before.items } by { Prim.hlevel props },
     ghost room: { vec_len fits ≡ 65536 },
     ghost told: { (a b : ℕ) → a < 256 → b < 256 → slice_index_or fits.items (a * 256 + b) false ≡ true → misfit (side_at before.items a) (side_at behind.items b) ≡ None } by { Prim.hlevel props },
 }
@@ -89,7 +91,7 @@ impl Borders {
     }
 
     /// The first port at which the cells do not fit, the first cell before the border and the second behind it.
-    pub fn misfit(&mut self, a: u32, b: u32) -> Option<usize>
+    pub fn misfit(&mut self, a: u32, b: u32) -> Option<u32>
         requires a { a < vec_len self.old.before }
         requires b { b < vec_len self.old.before }
         ensures value { result ≡ misfit (side_at self.old.before.items a) (side_at self.old.behind.items b) }

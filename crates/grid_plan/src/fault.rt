@@ -2,9 +2,8 @@
 
 ghost use Rattle.std.specs.Prelude.{◌≡◌};
 ghost use Rattle.grid_plan.specs.declared.fault.PlanFault.TheVariants.{OutOfMemory};
-ghost use Rattle.grid_plan.specs.declared.fault.Stop.TheVariants as stops;
 
-use std::alloc::{AllocError, AllocFailed};
+use std::alloc::AllocError;
 use thiserror::Error;
 
 /// What is wrong with a grid. Rows are counted from the bottom and columns from the left, both from 0.
@@ -14,20 +13,20 @@ pub enum GridFault {
     Empty,
     /// No cell has the name that stands here.
     UnknownCell {
-        row: usize,
-        col: usize,
+        row: u32,
+        col: u32,
     },
     /// The row is not as long as the first.
     RaggedRow {
-        row: usize,
+        row: u32,
     },
     /// The ports on the right border of the instance here, or on its top border, are not those of its neighbour: in order, the
     /// ports of this number are of different layers or widths, or one side has no more.
     PortMismatch {
-        row: usize,
-        col: usize,
+        row: u32,
+        col: u32,
         top: bool,
-        index: usize,
+        index: u32,
     },
 }
 
@@ -36,15 +35,8 @@ pub enum GridFault {
 pub enum PlanFault {
     /// The first grid that has a fault, counted from 0, and its first fault.
     #[error("a grid has a fault")]
-    Grid { grid: usize, fault: GridFault },
+    Grid { grid: u32, fault: GridFault },
     #[error("out of memory")]
-    OutOfMemory,
-}
-
-/// Why a grid is read no further.
-#[derive(Debug, Drop)]
-pub enum Stop {
-    Fault(GridFault),
     OutOfMemory,
 }
 
@@ -53,21 +45,5 @@ impl From<AllocError> for PlanFault {
 
     fn from(_error: AllocError) -> PlanFault {
         PlanFault::OutOfMemory
-    }
-}
-
-impl<T: Drop> From<AllocFailed<T>> for PlanFault {
-    ghost from_gives = { λ _ fault. fault ≡ OutOfMemory };
-
-    fn from(_failed: AllocFailed<T>) -> PlanFault {
-        PlanFault::OutOfMemory
-    }
-}
-
-impl<T: Drop> From<AllocFailed<T>> for Stop {
-    ghost from_gives = { λ _ stop. stop ≡ stops.OutOfMemory };
-
-    fn from(_failed: AllocFailed<T>) -> Stop {
-        Stop::OutOfMemory
     }
 }

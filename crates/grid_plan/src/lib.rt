@@ -8,7 +8,9 @@
 #![tactic(auto)]
 
 mod borders;
+mod counts;
 mod fault;
+mod judging;
 mod laws;
 mod masters;
 mod names;

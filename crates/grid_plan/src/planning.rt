@@ -13,8 +13,9 @@ ghost use Rattle.grid_plan.specs.Building.{IsBuilt};
 
 use crate::borders::Borders;
 use crate::fault::PlanFault;
+use crate::judging::judge_grids;
 use crate::masters::Masters;
-use crate::names::read_grids;
+use crate::names::number_grids;
 use crate::once::{each_pair, each_same};
 use crate::pairs::{above, beside, columns_of};
 use crate::scan::Scan;
@@ -111,15 +112,18 @@ fn build(
     })
 }
 
-/// The plan of a design's grids over its cells.
+/// The plan of a design's grids over its cells. Where a grid, a row or a side of a cell has 2^32 parts or more it is refused as
+/// want of memory.
 pub fn plan(alloc: Global, design: &Design, cells: &Cells) -> Result<Plan, PlanFault>
     requires resolved { IsResolved cells.now }
     requires of { cells.now.design.now ≡ design.now }
     ensures plan { IfOk result (IsPlanOf (known_of cells.now) design.now.grids) }
     ensures fault { IfErr result (RefusesPlan (known_of cells.now) design.now.grids) }
 {
+    let texts = design.grids.as_slice();
     let mut scan = Scan::new(alloc, cells)?;
-    let numbers = read_grids(alloc, cells, &mut scan, design.grids.as_slice())?;
+    let numbers = number_grids(alloc, cells, texts)?;
+    judge_grids(cells, &mut scan, texts, numbers.as_slice())?;
     let masters = Masters::of(alloc, numbers.as_slice())?;
     let grids = masters.place_grids(alloc, numbers.as_slice())?;
     Ok(build(alloc, &scan, masters.cells, grids)?)

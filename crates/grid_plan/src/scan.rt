@@ -1,14 +1,14 @@
 //! The scan of a grid's borders: rows from the bottom, each from the left, and of an instance the right border before the top
 //! one.
 
-ghost use Rattle.std.specs.Prelude.{◌≡◌, ◌+◌, ◌<◌, List, length, vec_len, IfOk};
+ghost use Rattle.std.specs.Prelude.{◌≡◌, ◌+◌, ◌^◌, ◌<◌, List, length, vec_len, IfOk};
 ghost use Rattle.cell_model.specs.declared.cell.CellPort.{CellPort};
 ghost use Rattle.plan_model.specs.Rows.{row_at};
 ghost use Rattle.stick_cell.specs.Tables.{known_of, IsResolved};
 ghost use Rattle.grid_plan.specs.Numbered.{ports_of_cells};
 ghost use Rattle.grid_plan.specs.declared.fault.GridFault.TheVariants.{PortMismatch};
 ghost use Rattle.grid_plan.specs.Faults.{misfit_on_right, misfit_on_top, misfit_of, misfit_in_row, misfit_in};
-ghost use Rattle.grid_plan.specs.Small.{AreRowsOf, IsInstanceOf};
+ghost use Rattle.grid_plan.specs.Small.{AreRowsOf, IsInstanceOf, AreFewCells};
 
 use crate::borders::Borders;
 use crate::fault::GridFault;
@@ -26,12 +26,14 @@ pub struct Scan {
 }
 
 /// The fault of an instance on its right border, or on its top one.
-fn mismatch(row: usize, col: usize, top: bool, index: usize) -> GridFault
+fn mismatch(row: usize, col: usize, top: bool, index: u32) -> GridFault
+    requires row { row < 2 ^ 32 }
+    requires col { col < 2 ^ 32 }
     ensures { result ≡ PortMismatch row col top index }
 {
     GridFault::PortMismatch {
-        row,
-        col,
+        row: row as u32,
+        col: col as u32,
         top,
         index,
     }
@@ -52,7 +54,8 @@ impl Scan {
 
     /// The misfit on the right border of an instance.
     fn on_right(&mut self, rows: &[Seq<u32>], r: usize, c: usize) -> Option<GridFault>
-        requires { IsInstanceOf (vec_len self.old.beside.before) rows.now r c }
+        requires instance { IsInstanceOf (vec_len self.old.beside.before) rows.now r c }
+        requires few { AreFewCells rows.now }
         ensures len { vec_len self.new.beside.before ≡ vec_len self.old.beside.before }
         ensures found { (ports : List (List CellPort)) → IsScanOf ports self.old → FindsMisfit ports (misfit_on_right ports rows.now r c) result self.new }
     {
@@ -66,7 +69,8 @@ impl Scan {
 
     /// The misfit on its top border.
     fn on_top(&mut self, rows: &[Seq<u32>], r: usize, c: usize) -> Option<GridFault>
-        requires { IsInstanceOf (vec_len self.old.beside.before) rows.now r c }
+        requires instance { IsInstanceOf (vec_len self.old.beside.before) rows.now r c }
+        requires few { AreFewCells rows.now }
         ensures len { vec_len self.new.beside.before ≡ vec_len self.old.beside.before }
         ensures found { (ports : List (List CellPort)) → IsScanOf ports self.old → FindsMisfit ports (misfit_on_top ports rows.now r c) result self.new }
     {
@@ -81,7 +85,8 @@ impl Scan {
 
     /// The first misfit of an instance.
     fn at(&mut self, rows: &[Seq<u32>], r: usize, c: usize) -> Option<GridFault>
-        requires { IsInstanceOf (vec_len self.old.beside.before) rows.now r c }
+        requires instance { IsInstanceOf (vec_len self.old.beside.before) rows.now r c }
+        requires few { AreFewCells rows.now }
         ensures len { vec_len self.new.beside.before ≡ vec_len self.old.beside.before }
         ensures found { (ports : List (List CellPort)) → IsScanOf ports self.old → FindsMisfit ports (misfit_of ports rows.now r c) result self.new }
     {
@@ -95,6 +100,7 @@ impl Scan {
     fn in_row(&mut self, rows: &[Seq<u32>], r: usize) -> Option<GridFault>
         requires rows { AreRowsOf (vec_len self.old.beside.before) rows.now }
         requires row { r < length rows.now }
+        requires few { AreFewCells rows.now }
         ensures len { vec_len self.new.beside.before ≡ vec_len self.old.beside.before }
         ensures found { (ports : List (List CellPort)) → IsScanOf ports self.old → FindsMisfit ports (misfit_in_row ports rows.now r (row_at rows.now r)) result self.new }
     {
@@ -109,6 +115,7 @@ impl Scan {
     /// The first misfit of a grid.
     pub fn misfit(&mut self, rows: &[Seq<u32>]) -> Option<GridFault>
         requires rows { AreRowsOf (vec_len self.old.beside.before) rows.now }
+        requires few { AreFewCells rows.now }
         ensures len { vec_len self.new.beside.before ≡ vec_len self.old.beside.before }
         ensures found { (ports : List (List CellPort)) → IsScanOf ports self.old → FindsMisfit ports (misfit_in ports rows.now) result self.new }
     {

@@ -1,10 +1,11 @@
 //! The ports of a side in order.
 
-ghost use Rattle.std.specs.Prelude.{◌≡◌, ◌≤◌, ◌<◌, length, map, filter, All, IfOk};
+ghost use Rattle.std.specs.Prelude.{◌≡◌, ◌^◌, ◌≤◌, ◌<◌, length, map, filter, All, IfOk};
 ghost use Rattle.plan_model.specs.Borders.{layer_rank, port_rank, is_on_side, side_ports};
 ghost use Rattle.stick_cell.specs.Tables.{known_of, IsResolved};
 ghost use Rattle.grid_plan.specs.Numbered.{ports_of_cells};
 
+use crate::counts::numbered;
 use cell_model::CellPort;
 use lam_geom::Side;
 use lam_list::Seq;
@@ -45,7 +46,8 @@ fn on_side(alloc: Global, ports: &[CellPort], side: Side) -> Result<Vec<CellPort
 /// The ports on a side, in the order of the side.
 fn side_ports(alloc: Global, ports: &[CellPort], side: Side) -> Result<Seq<CellPort>, AllocError>
     requires places { All (λ port. port.place ≤ 4095) ports.now }
-    ensures { IfOk result (λ found. found ≡ side_ports side ports.now) }
+    ensures ports { IfOk result (λ found. found ≡ side_ports side ports.now) }
+    ensures short { IfOk result (λ found. length found < 2 ^ 32) }
 {
     let mut found = on_side(alloc, ports, side)?;
     found.sort_by_key(
@@ -53,13 +55,15 @@ fn side_ports(alloc: Global, ports: &[CellPort], side: Side) -> Result<Seq<CellP
             ensures { result ≡ port_rank port.now }
         { port_rank(port) },
     )?;
+    numbered(found.len())?;
     Ok(Seq::from_vec(found))
 }
 
 /// The ports on a side of each cell.
 pub fn sides_of(alloc: Global, cells: &Cells, side: Side) -> Result<Vec<Seq<CellPort>>, AllocError>
     requires resolved { IsResolved cells.now }
-    ensures { IfOk result (λ sides. sides.items ≡ map (side_ports side) (ports_of_cells (known_of cells.now))) }
+    ensures short { IfOk result (λ sides. All (λ side. length side < 2 ^ 32) sides.items) }
+    ensures sides { IfOk result (λ sides. sides.items ≡ map (side_ports side) (ports_of_cells (known_of cells.now))) }
 {
     let mut sides = Vec::new(alloc);
     for k in 0..cells.tables.len() as u32 {

@@ -40,6 +40,7 @@ use Rattle.plan_model.specs.declared.plan.Plan.{Plan}
 use Rattle.plan_model.specs.Instances.{Spot, master_at_spot}
 use Rattle.plan_model.specs.Plan.{grids_of}
 use Rattle.grid_rules.specs.Rules.{AreNetsOf, shifted_sides, item_in, items_at}
+use Rattle.pitch_join.specs.Masters.{ArePlanned}
 use Rattle.grid_rules.proofs.Gaps.{IsDone}
 use Rattle.grid_rules.proofs.Meeting.{master_among, master_is}
 use Rattle.grid_rules.specs.Conductors.{Drawn, item_of, sides_of_drawn}
@@ -211,10 +212,10 @@ pub record KnowsFet (tech : Tech) (plan : Plan) (masters : List Master) (layouts
 
 -- ---- a transistor of an instance
 
-module _ (tech : Tech) (plan : Plan) (masters : List Master) (layouts : List Coords) (done : IsDone tech plan masters layouts) (spot : Spot) (k : ℕ) (depletion : Bool) (gate : Axis2) (w l : ℤ)
+module _ (tech : Tech) (plan : Plan) (masters : List Master) (layouts : List Coords) (planned : ArePlanned tech plan masters) (spot : Spot) (k : ℕ) (depletion : Bool) (gate : Axis2) (w l : ℤ)
     (fet : IsTransistorAt plan masters spot k depletion gate w l) where
   own_master : IsMaster tech (master_of plan masters spot)
-  own_master = master_is tech plan masters spot done.planned fet.there
+  own_master = master_is tech plan masters spot planned fet.there
 
   abbrev own_nets : NodeNets
   own_nets = nets_at own_master.items.nets.node k
@@ -312,7 +313,7 @@ module _ (tech : Tech) (plan : Plan) (masters : List Master) (layouts : List Coo
   nets_are_own : (nets : ℕ → Nets) → AreNetsOf masters nets → own_nets ≡ nets_at (nets (master_at_spot (grids_of plan) spot)).node k
   nets_are_own nets are =
       let m : ℕ = master_at_spot (grids_of plan) spot in
-      let same = nets_same (master_of plan masters spot).cell own_master.items.nets (nets m) own_master.items.of_cell (are m (master_among tech plan masters spot done.planned fet.there)) in
+      let same = nets_same (master_of plan masters spot).cell own_master.items.nets (nets m) own_master.items.of_cell (are m (master_among tech plan masters spot planned fet.there)) in
       ap (λ (z : Nets). nets_at z.node k) same
 
   pub knows : KnowsFet tech plan masters layouts spot k gate w l
@@ -360,9 +361,9 @@ module _ (tech : Tech) (plan : Plan) (masters : List Master) (layouts : List Coo
       (at spot (run.first + 5), record { drawn = own.drawn; of_class = own.of_class }, both)
 
   -- none goes past the channel of an enhancement transistor
-  none_past : depletion ≡ false → (channel : ℕ) → IsOwned plan masters G k (at spot channel) → (a : Drawn) → IsOfClass plan masters I a
+  none_past : IsDone tech plan masters layouts → depletion ≡ false → (channel : ℕ) → IsOwned plan masters G k (at spot channel) → (a : Drawn) → IsOfClass plan masters I a
       → EnclosesBy (sides_of_drawn tech plan masters layouts a) (sides_of_drawn tech plan masters layouts (at spot channel)) (numbers_of tech).extension_implant → ⊥
-  none_past enhanced channel h a is_a past =
+  none_past done enhanced channel h a is_a past =
       let b : Drawn = at spot channel in
       let not_own : a.spot ≡ spot → (item_of plan masters a).owner ≢ (item_of plan masters b).owner = λ same owner. (
       let Q : Spot → Type 0 = λ s. IsOfClass plan masters I (at s a.item) → (item_in plan masters s a.item).owner ≡ k → ⊥ in
@@ -386,14 +387,14 @@ module _ (tech : Tech) (plan : Plan) (masters : List Master) (layouts : List Coo
       (sound_numbers tech).in_range.extension_implant.0 past inside.0 inside.1 in
       omega (arith, ints, far, over)
 
-pub transistors_have : (tech : Tech) (plan : Plan) (masters : List Master) (layouts : List Coords) → IsDone tech plan masters layouts → TransistorsHaveBoxes tech plan masters layouts
-transistors_have tech plan masters layouts done spot k depletion gate w l fet = boxes tech plan masters layouts done spot k depletion gate w l fet
+pub transistors_have : (tech : Tech) (plan : Plan) (masters : List Master) (layouts : List Coords) → ArePlanned tech plan masters → TransistorsHaveBoxes tech plan masters layouts
+transistors_have tech plan masters layouts planned spot k depletion gate w l fet = boxes tech plan masters layouts planned spot k depletion gate w l fet
 
 pub implants_tell : (tech : Tech) (plan : Plan) (masters : List Master) (layouts : List Coords) → IsDone tech plan masters layouts → ImplantsTellDepletion tech plan masters layouts
 implants_tell tech plan masters layouts done spot k depletion gate w l fet channel h = (
-  λ depleted. has_implant tech plan masters layouts done spot k depletion gate w l fet depleted channel h,
+  λ depleted. has_implant tech plan masters layouts done.planned spot k depletion gate w l fet depleted channel h,
   λ some. elim (cases_Bool depletion) [
     | inl depleted ↦ depleted
-    | inr enhanced ↦ absurd (none_past tech plan masters layouts done spot k depletion gate w l fet enhanced channel h some.0 some.1 some.2)
+    | inr enhanced ↦ absurd (none_past tech plan masters layouts done.planned spot k depletion gate w l fet done enhanced channel h some.0 some.1 some.2)
   ],
 )

@@ -215,7 +215,7 @@ module _ (tech : Tech) (plan : Plan) (masters : List Master) (layouts : List Coo
   fet_covers : (a : Drawn) (k : ℕ) (depletion : Bool) (gate : Axis2) (w l : ℤ) → IsOwned plan masters Dc k a → IsTransistorAt plan masters a.spot k depletion gate w l → (n : ℕ) → IsOwned plan masters Dm k (at a.spot n)
       → EnclosesBy (sides_of_drawn tech plan masters layouts (at a.spot n)) (sides_of_drawn tech plan masters layouts a) (pos 0)
   fet_covers a k depletion gate w l owned fet n mask =
-      let boxes = transistors_have tech plan masters layouts done a.spot k depletion gate w l fet in
+      let boxes = transistors_have tech plan masters layouts done.planned a.spot k depletion gate w l fet in
       let S : ℕ → Sides = seen tech plan masters layouts gate a.spot in
       let low_l = fet_sizes a.spot k depletion gate w l fet in
       let bottom = boxes.cross.bottom in

@@ -1,8 +1,7 @@
 -- Two items of all instances whose classes have a rule keep its spacing, or are of one net.
 use Rattle.std.proofs.Common.{◌≡◌, ◌≢◌, ℕ, suc, ◌+◌, ◌<◌, ℤ, ◌+ℤ◌, ◌≤ℤ◌, true, List, length, Some, refl, sym, ap, ◌∙◌, subst, arith, inl, inr, ◌⊎◌}
-use Rattle.std.specs.Prelude.{IsTrue, slice_index, neg_ℤ}
+use Rattle.std.specs.Prelude.{IsTrue, slice_index}
 use Rattle.std.specs.Int.{int_max}
-use Rattle.std.specs.List.{Contains}
 use Rattle.std.proofs.lemmas.Bool.{cases_eq, cases_lt}
 use Rattle.std.proofs.lemmas.Int.{ints, clamps}
 use Rattle.lam_geom.specs.declared.boxes.Axis.{Axis}
@@ -20,29 +19,27 @@ use Rattle.sym_items.specs.Sides.{Sides, sides_in, gap_of_sides}
 use Rattle.sym_items.specs.Standing.{StandTogether}
 use Rattle.sym_items.specs.Transposed.{item_along}
 use Rattle.cell_model.specs.declared.cell.Cell.{Cell}
-use Rattle.cell_model.specs.declared.cell.CellPort.{CellPort}
 use Rattle.cell_model.specs.declared.cell.Nets.{Nets}
 use Rattle.cell_model.specs.Sound.{wire_at}
 use Rattle.pair_rules.specs.Bound.{is_poly_on_diffusion, IsBound}
 use Rattle.pair_rules.proofs.EitherOrder.{lies_either}
 use Rattle.expand.specs.declared.master.Master.{Master}
-use Rattle.expand.specs.Variables.{half, cross_of}
-use Rattle.buried_contacts.proofs.Owners.{LayerHas, IsBoxOfWire, item_keeps, run_of, wire_box}
+use Rattle.buried_contacts.proofs.Owners.{LayerHas, IsBoxOfWire, item_keeps, wire_box}
 use Rattle.plan_model.specs.declared.plan.Plan.{Plan}
 use Rattle.plan_model.specs.GridNets.{IsBehind, IsOneNet, the_same}
-use Rattle.plan_model.specs.Instances.{Spot, IsSpot, master_at_spot}
+use Rattle.plan_model.specs.Instances.{Spot, master_at_spot}
 use Rattle.plan_model.specs.Plan.{grids_of}
 use Rattle.pitch_join.specs.Masters.{ports_of_masters}
 use Rattle.grid_rules.specs.Rules.{AreNetsOf, sides_at_spot, items_at}
-use Rattle.grid_rules.proofs.AtPorts.{spaced_in, net_of_box, not_together, apart_on_other, both_far, lies_along, ends_on_border, low_side, high_side}
+use Rattle.grid_rules.proofs.AtPorts.{spaced_in, net_of_box, not_together, apart_on_other, both_far}
 use Rattle.grid_rules.proofs.Gaps.{IsDone, IsItemAt, IsRuled, ruled, values_at, gap_at, gap_suffices, gap_turned, gap_at_turned, lies_there, grids_laid, apart_with_cell_between, apart_off_border, apart_in_grids}
-use Rattle.grid_rules.proofs.InCell.{low_in, high_in, BeginsOnBorder, EndsOnBorder}
-use Rattle.grid_rules.proofs.Meeting.{master_among, master_is, Meets, port_meets, spot_is}
-use Rattle.grid_rules.proofs.OnBorder.{other, LiesAsRun, EndsAtPort, cross_off, items_border, box_among}
+use Rattle.grid_rules.proofs.InCell.{BeginsOnBorder, EndsOnBorder}
+use Rattle.grid_rules.proofs.Meeting.{master_among, master_is, port_meets, spot_is}
+use Rattle.grid_rules.proofs.OnBorder.{other, cross_off, items_border}
 use Rattle.grid_rules.proofs.OneNet.{one_net_back}
 use Rattle.grid_rules.proofs.Pairs.{joins, stands_for}
 use Rattle.grid_rules.proofs.Places.{place_of, stands_level}
-use Rattle.grid_rules.proofs.Ports.{IsPortOf, port_of_wire}
+use Rattle.grid_rules.proofs.Ports.{port_of_wire}
 use Rattle.grid_rules.specs.Meetings.{master_of}
 use Rattle.grid_rules.proofs.MeetingGaps.{spots_differ, x_of, y_of, shift_together}
 

@@ -87,7 +87,7 @@ module _ (tech : Tech) (plan : Plan) (masters : List Master) (layouts : List Coo
       let p : ℕ = c.poly in
       let d : ℕ = c.diffusion in
       let pair = meeting_fet tech plan masters layouts boxes done shapes p d h.meeting in
-      let know = knows tech plan masters layouts done pair.spot pair.k pair.depletion pair.gate pair.w pair.l pair.fet in
+      let know = knows tech plan masters layouts done.planned pair.spot pair.k pair.depletion pair.gate pair.w pair.l pair.fet in
       let channel : ℕ = know.boxes.channel in
       let runs : c.axis ≡ axis_along pair.gate = one_axis tech c.axis (axis_along pair.gate) (area_at boxes p) (area_at boxes d) h.along (pair_along tech plan masters layouts boxes done shapes p d pair) in
       let there : sides_of c.channel ≡ sides_in_grains tech (Lies (at pair.spot channel)) =
@@ -123,7 +123,7 @@ module _ (tech : Tech) (plan : Plan) (masters : List Master) (layouts : List Coo
       let p : ℕ = c.poly in
       let d : ℕ = c.diffusion in
       let pair : IsFetPair plan masters c.poly c.diffusion = pair_of c t in
-      let know = knows tech plan masters layouts done t.spot t.k t.depletion t.gate t.w t.l t.transistor in
+      let know = knows tech plan masters layouts done.planned t.spot t.k t.depletion t.gate t.w t.l t.transistor in
       let one : t.channel ≡ know.boxes.channel = know.boxes.one_channel t.channel t.is_channel in
       let there : sides_of c.channel ≡ common (sides_of (area_at boxes p)) (sides_of (area_at boxes d)) =
       t.there ∙ (ap (λ (n : ℕ). sides_in_grains tech (Lies (at t.spot n))) one ∙ sym (channel_is tech plan masters layouts boxes done shapes p d pair)) in
@@ -144,7 +144,7 @@ module _ (tech : Tech) (plan : Plan) (masters : List Master) (layouts : List Coo
     each = All-weaker (IsCrossing tech boxes) (IsTransistor tech plan masters layouts) crossing_is cs h.each;
     in_order = h.in_order;
     complete = λ spot k depletion gate w l fet. (
-        let b = (knows tech plan masters layouts done spot k depletion gate w l fet).boxes in
+        let b = (knows tech plan masters layouts done.planned spot k depletion gate w l fet).boxes in
         let p = box_of tech plan masters layouts boxes shapes NP (at spot b.poly) (record { drawn = b.is_poly.drawn; of_class = b.is_poly.of_class }) in
         let d = box_of tech plan masters layouts boxes shapes ND (at spot b.diffusion) (record { drawn = b.is_diffusion.drawn; of_class = b.is_diffusion.of_class }) in
         let pair : IsFetPair plan masters p.0 d.0 = record {
@@ -178,7 +178,7 @@ module _ (tech : Tech) (plan : Plan) (masters : List Master) (layouts : List Coo
     in_order = h.in_order;
     complete = λ p d meets. (
         let pair = meeting_fet tech plan masters layouts boxes done shapes p d meets in
-        let b = (knows tech plan masters layouts done pair.spot pair.k pair.depletion pair.gate pair.w pair.l pair.fet).boxes in
+        let b = (knows tech plan masters layouts done.planned pair.spot pair.k pair.depletion pair.gate pair.w pair.l pair.fet).boxes in
         let c = h.complete pair.spot pair.k pair.depletion pair.gate pair.w pair.l pair.fet in
         let node = c.2 in
         let same : node.diffusion ≡ pair.diffusion = b.one_diffusion node.diffusion node.owned ∙ sym (b.one_diffusion pair.diffusion pair.is_diffusion) in

@@ -67,7 +67,7 @@ module _ (tech : Tech) (plan : Plan) (masters : List Master) (layouts : List Coo
       elim (cases_Bool (is_of_transistor plan masters a)) [
         | inl on ↦
             let f = fet_item plan masters a h.drawn on in
-            let b = (knows tech plan masters layouts done spot (item_of plan masters a).owner f.depletion f.gate f.w f.l f.fet).boxes in
+            let b = (knows tech plan masters layouts done.planned spot (item_of plan masters a).owner f.depletion f.gate f.w f.l f.fet).boxes in
             b.one_diffusion m own ∙ sym (b.one_diffusion n other)
         | inr off ↦ sym ((one_piece_at tech plan masters layouts boxes done shapes cs are a is_a off).0.one_mask n other)
       ]

@@ -54,7 +54,7 @@ module _ (tech : Tech) (plan : Plan) (masters : List Master) (layouts : List Coo
   Lies a = sides_of_drawn tech plan masters layouts a
 
   abbrev pub fet_knows : (p d : ℕ) (pair : IsFetPair plan masters p d) → KnowsFet tech plan masters layouts pair.spot pair.k pair.gate pair.w pair.l
-  fet_knows p d pair = knows tech plan masters layouts done pair.spot pair.k pair.depletion pair.gate pair.w pair.l pair.fet
+  fet_knows p d pair = knows tech plan masters layouts done.planned pair.spot pair.k pair.depletion pair.gate pair.w pair.l pair.fet
 
   -- its boxes cross
   pub pair_cross : (p d : ℕ) (pair : IsFetPair plan masters p d) → CrossAt tech pair.w pair.l (seen tech plan masters layouts pair.gate pair.spot pair.poly) (seen tech plan masters layouts pair.gate pair.spot pair.diffusion)

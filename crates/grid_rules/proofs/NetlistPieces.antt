@@ -157,7 +157,7 @@ module _ (tech : Tech) (plan : Plan) (masters : List Master) (layouts : List Coo
   -- ---- the pieces of a transistor
 
   abbrev know : (a : Drawn) (f : IsFetItem plan masters a) → KnowsFet tech plan masters layouts a.spot (item_of plan masters a).owner f.gate f.w f.l
-  know a f = knows tech plan masters layouts done a.spot (item_of plan masters a).owner f.depletion f.gate f.w f.l f.fet
+  know a f = knows tech plan masters layouts done.planned a.spot (item_of plan masters a).owner f.depletion f.gate f.w f.l f.fet
 
   -- each crossing of its diffusion is the transistor
   record IsCrossingOf (a : Drawn) (f : IsFetItem plan masters a) (c : Crossing) : Type 0 where

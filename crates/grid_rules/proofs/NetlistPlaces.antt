@@ -174,7 +174,7 @@ module _ (tech : Tech) (plan : Plan) (masters : List Master) (layouts : List Coo
   pub fet_crossed : (k : ℕ) (a : Drawn) → Shows plan masters k a → IsOfClass plan masters Dm a → IsFetItem plan masters a → (c : Crossing) × Contains cs c × (c.diffusion ≡ k)
   fet_crossed k a h is_a f =
       let owner : ℕ = (item_of plan masters a).owner in
-      let b = (knows tech plan masters layouts done a.spot owner f.depletion f.gate f.w f.l f.fet).boxes in
+      let b = (knows tech plan masters layouts done.planned a.spot owner f.depletion f.gate f.w f.l f.fet).boxes in
       let c = are.complete a.spot owner f.depletion f.gate f.w f.l f.fet in
       let own : IsOwned plan masters Dm owner a = record { drawn = is_a.drawn; of_class = is_a.of_class; owned = refl } in
       let same : c.2.diffusion ≡ a.item = b.one_diffusion c.2.diffusion c.2.owned ∙ sym (b.one_diffusion a.item own) in

@@ -26,7 +26,7 @@ use Rattle.plan_model.specs.Plan.{grids_of}
 use Rattle.plan_model.specs.Rows.{row_at}
 use Rattle.pitch_join.specs.Masters.{ArePlanned, master_at, no_master, ports_of_masters, master_ports}
 use Rattle.grid_rules.specs.Rules.{items_at}
-use Rattle.mask_out.specs.declared.picture.Call.{Call}
+use Rattle.mask_out.specs.declared.drawing.Call.{Call}
 use Rattle.mask_out.specs.Masks.{Mask, layer_drawn, is_drawn, masks_on, mask_layers, masks_in}
 use Rattle.mask_out.specs.Pictures.{Drawing, drawing_in, drawings_in, call_at, shifted, masks_at, masks_called, no_drawing}
 use Rattle.grid_rules.specs.Conductors.{Drawn}

@@ -19,6 +19,7 @@ mod netlists;
 pub use chains::nets_are_connected;
 pub use laws::{all_keep_spacing, grids_are_aligned, instances_meet};
 pub use meetings::{
-    items_are_of_owners, links_keep_nets, poly_meets_diffusion, transistors_have_boxes,
+    implants_tell_depletion, items_are_of_owners, links_keep_nets, poly_meets_diffusion,
+    transistors_have_boxes,
 };
 pub use netlists::{extracted_nets_are_the_sticks, pictures_show_shapes};

@@ -19,12 +19,17 @@ pub fn items_are_of_owners(tech: &Tech, plan: &Plan, masters: &[Master], layouts
     ensures metal { OwnersHaveOne plan.now masters.now M }
 {}
 
-/// A law, with nothing to run: the boxes of transistors, how they cross, and which have implants.
+/// A law, with nothing to run: the boxes of transistors, and how they cross. They lie so in every layout.
 pub fn transistors_have_boxes(tech: &Tech, plan: &Plan, masters: &[Master], layouts: &[Coords])
+    requires { ArePlanned tech.now plan.now masters.now }
+    ensures { TransistorsHaveBoxes tech.now plan.now masters.now layouts.now }
+{}
+
+/// A law, with nothing to run: which transistors have implants.
+pub fn implants_tell_depletion(tech: &Tech, plan: &Plan, masters: &[Master], layouts: &[Coords])
     requires planned { ArePlanned tech.now plan.now masters.now }
     requires finished { AreFinished tech.now plan.now masters.now layouts.now }
-    ensures boxes { TransistorsHaveBoxes tech.now plan.now masters.now layouts.now }
-    ensures implants { ImplantsTellDepletion tech.now plan.now masters.now layouts.now }
+    ensures { ImplantsTellDepletion tech.now plan.now masters.now layouts.now }
 {}
 
 /// A law, with nothing to run: poly overlaps diffusion in transistors and at buried contacts alone; there a window covers what they

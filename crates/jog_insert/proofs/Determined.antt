@@ -12,7 +12,7 @@ use Rattle.stick_print.specs.ReadBack.{laid_out}
 use Rattle.cell_model.specs.declared.cell.Cell.{Cell}
 use Rattle.cell_model.specs.Sound.{node_at}
 use Rattle.jog_insert.proofs.Bendable.{same_node}
-use Rattle.jog_insert.specs.Jogs.{unnumbered, moved_line, bent_forms, is_wire, IsWireOf, wires_in, bend_at, cell_text_at, IsJogNumber, IsBent, IsJogged}
+use Rattle.jog_insert.specs.Jogs.{unnumbered, moved_line, bent_forms, is_wire, IsWireOf, bend_at, cell_text_at, IsJogNumber, IsBent, IsJogged}
 
 -- ---- the parts of a jog
 

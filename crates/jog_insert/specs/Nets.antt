@@ -1,15 +1,25 @@
--- A jog leaves the nets of a cell as they were: its parts are of one net where they were, and the new joints and wires are of the net of the bent wire.
-use Rattle.std.specs.Prelude.{◌↔◌, ◌⊎◌, ℕ, zero, suc, ◌+◌, ◌<◌, ◌≤◌, nat_lt, nat_le, if◌then◌else◌, List, [], ◌∷◌}
+-- A jog leaves the nets of a cell as they were: its parts are of one net where they were, and the new joints and wires are of the net of the bent wire's terminals.
+use Rattle.std.specs.Prelude.{◌≡◌, ◌↔◌, ◌⊎◌, ℕ, zero, suc, ◌+◌, ◌<◌, ◌≤◌, true, false, nat_lt, nat_le, if◌then◌else◌, List, [], ◌∷◌, ◌++◌, length, Contains}
 use Rattle.stick_parse.specs.declared.design.Form.{Form}
 use Rattle.stick_parse.specs.declared.design.Form.TheVariants.{Joint, Contact, Buried, Fet, Port, Inst, Wire, Limit}
 use Rattle.stick_parse.specs.declared.design.Line.{Line}
 use Rattle.graph_search.specs.Netting.{Reaches, Attached}
 use Rattle.cell_model.specs.declared.cell.Cell.{Cell}
-use Rattle.cell_model.specs.Nets.{parts_of, node_parts, first_part, attachments_of}
+use Rattle.cell_model.specs.declared.cell.Node.{Node}
+use Rattle.cell_model.specs.declared.cell.Wire.{Wire as CellWire}
+use Rattle.cell_model.specs.Sound.{wire_at}
+use Rattle.cell_model.specs.Nets.{parts_of, node_parts, first_part, end_parts, attachments_of}
 
 -- a chain of attachments joins two parts of a cell
 abbrev pub AreOneNet : Cell → ℕ → ℕ → Type 0
 AreOneNet cell p q = Reaches (Attached (attachments_of cell)) p q
+
+-- the terminals of a wire: the parts at its two ends
+abbrev pub wire_ends : List Node → CellWire → List ℕ
+wire_ends nodes wire = end_parts nodes wire.layer true wire.low ++ end_parts nodes wire.layer false wire.high
+
+abbrev pub terminals_of : Cell → ℕ → List ℕ
+terminals_of cell k = wire_ends cell.nodes (wire_at cell.wires k)
 
 -- how many nodes stand from a line on before the line of wire number k, given how many stand behind it
 abbrev pub nodes_from : Form → ℕ → (ℕ → ℕ) → ℕ
@@ -39,7 +49,9 @@ abbrev pub IsOfJog : Cell → ℕ → ℕ → ℕ → Type 0
 IsOfJog old at k p = ((first_part old.nodes at ≤ p) × (p < first_part old.nodes at + 2))
     ⊎ ((node_parts old.nodes + 2 + k ≤ p) × (p < node_parts old.nodes + 5 + k))
 
--- the cell after a jog of wire number k, whose joints come behind so many nodes, has the nets of the one before
+-- The cell after a jog of wire number k, whose joints come behind so many nodes, has the nets of the one before: parts are of one net where they were, and each of the
+-- five new parts is of the net of the wire's terminals, which are two.
 pub record KeepsNets (old new : Cell) (at k : ℕ) : Type 0 where
   pub same : (p q : ℕ) → p < parts_of old → q < parts_of old → AreOneNet old p q ↔ AreOneNet new (moved_part old at k p) (moved_part old at k q)
-  pub bent : (p : ℕ) → IsOfJog old at k p → AreOneNet new p (moved_part old at k (node_parts old.nodes + k))
+  pub two : length (terminals_of old k) ≡ 2
+  pub bent : (p terminal : ℕ) → IsOfJog old at k p → Contains (terminals_of old k) terminal → AreOneNet new p (moved_part old at k terminal)

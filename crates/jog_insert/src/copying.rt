@@ -1,5 +1,5 @@
 //! A design copied line by line, with the numbers that its lines have in its canonical text.
-ghost use Rattle.std.specs.Prelude.{◌≡◌, ◌+◌, ◌^◌, ◌<◌, ◌++◌, length, slice_set, sum_by, IfOk, OnOk, [], ◌∷◌};
+ghost use Rattle.std.specs.Prelude.{◌≡◌, ◌+◌, ◌^◌, ◌<◌, ◌≤◌, ◌++◌, length, slice_set, sum_by, IfOk, MatchBool, MatchOption, OnOk, [], ◌∷◌};
 ghost use Rattle.stick_print.specs.ReadBack.{lines_from, cells_from, behind_cells, grids_from, laid_out};
 ghost use Rattle.design_sizes.specs.Sizes.{lines_of_cell, lines_of_grid, lines_in};
 
@@ -8,6 +8,8 @@ use lam_list::Seq;
 use std::alloc::{AllocError, Global};
 use stick_lex::Text;
 use stick_parse::{CellText, Design, GridText, Line, RowText};
+
+const MOST_LINES: usize = 1 << 30;
 
 // The lines of a cell, of which the first gets this number.
 fn copy_lines(alloc: Global, first: u32, lines: &[Line]) -> Result<Seq<Line>, AllocError>
@@ -117,6 +119,46 @@ fn copy_grids(alloc: Global, first: u32, grids: &[GridText]) -> Result<Seq<GridT
         number += grid.rows.as_slice().len() as u32 + 2;
     }
     Ok(Seq::from_vec(copies))
+}
+
+// What is left of so many lines without those of these cells, if they are no more.
+fn without_cells(most: usize, cells: &[CellText]) -> Option<usize>
+    ensures { MatchOption result (most < sum_by lines_of_cell cells.now) (λ left. left + sum_by lines_of_cell cells.now ≡ most) }
+{
+    let mut left = most;
+    for cell in cells {
+        let lines = cell.lines.as_slice().len() + 2;
+        if left < lines {
+            return None;
+        }
+        left -= lines;
+    }
+    Some(left)
+}
+
+// The same without those of these grids.
+fn without_grids(most: usize, grids: &[GridText]) -> Option<usize>
+    ensures { MatchOption result (most < sum_by lines_of_grid grids.now) (λ left. left + sum_by lines_of_grid grids.now ≡ most) }
+{
+    let mut left = most;
+    for grid in grids {
+        let lines = grid.rows.as_slice().len() + 2;
+        if left < lines {
+            return None;
+        }
+        left -= lines;
+    }
+    Some(left)
+}
+
+/// Whether the canonical text of a design has at most 2^30 lines, so that they can be numbered.
+pub fn is_short(design: &Design) -> bool
+    ensures { MatchBool result (lines_in design.now ≤ 2 ^ 30) (2 ^ 30 < lines_in design.now) }
+{
+    let Some(left) = without_cells(MOST_LINES - 1, design.cells.as_slice()) else {
+        return false;
+    };
+    without_grids(left, design.grids.as_slice()).is_some()
 }
 
 /// The design with another cell in the place of one, its lines numbered as in its canonical text. The only refusal is want

@@ -16,7 +16,7 @@ ghost use Rattle.jog_insert.specs.Building.{StandsAlone, IsBentCell};
 ghost use Rattle.design_sizes.specs.Sizes.{lines_in};
 
 use crate::bending::Place;
-use crate::copying::with_cell;
+use crate::copying::{is_short, with_cell};
 use crate::joints::{Joints, are_near, bent_lines, wire_line};
 use crate::naming::free_number;
 use crate::runs::run_of;
@@ -144,10 +144,10 @@ fn bent_cell(
 }
 
 /// The design with a jog in wire `k` (from 0) of a cell, above row `r`, to the left or else to the right; None exactly
-/// where no jog can be put there. The only refusal is want of memory.
+/// where no jog can be put there. The only refusal is want of memory: so is a design refused that has more than 2^30
+/// lines.
 ///
-/// It costs time linear in the text of the design and in the cell. The design may have up to 2^30 lines, and the new one
-/// has four more.
+/// It costs time linear in the text of the design and in the cell. The new design has four more lines.
 pub fn insert(
     alloc: Global,
     design: &Design,
@@ -162,7 +162,6 @@ pub fn insert(
     requires of { cells.now.design.now ≡ design.now }
     requires within { cell < length (known_of cells.now) }
     requires light { All (λ m. weight_of (known_at (known_of cells.now) m) ≤ 65536) masters.now }
-    requires few { lines_in design.now ≤ 2 ^ 30 }
     ensures jogged { IfOk result (λ done. MatchOption done
         ((new : SomeDesign) → IsJogged design.now (cell_of (known_at (known_of cells.now) cell)) masters.now cell k r left new → ⊥)
         (IsJogged design.now (cell_of (known_at (known_of cells.now) cell)) masters.now cell k r left)) }
@@ -173,6 +172,9 @@ pub fn insert(
 {
     if !stands_alone(design, masters, cell) {
         return Ok(None);
+    }
+    if !is_short(design) {
+        return Err(AllocError);
     }
     let text = &design.cells.as_slice()[cell as usize];
     let content = cells.inline(alloc, cell)?;

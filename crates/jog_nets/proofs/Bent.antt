@@ -18,12 +18,13 @@ use Rattle.cell_model.specs.Nets.{kind_parts, node_parts, first_part, joined_par
 use Rattle.stick_cell.specs.Known.{Known, cell_of}
 use Rattle.stick_cell.specs.Checks.{layer_of}
 use Rattle.jog_insert.specs.Bends.{Bend}
+use Rattle.jog_insert.specs.Nets.{wire_ends}
 use Rattle.jog_nets.specs.Parts.{node_after}
 use Rattle.jog_nets.proofs.Lines.{Joining, IsEndOf, IsJoined}
 use Rattle.jog_nets.proofs.Links.{both_moved, Five, AreBentLinks}
 use Rattle.jog_nets.proofs.Turned.{moved_node, IsRunOf, run_of_wire, upward}
 use Rattle.jog_nets.proofs.Parts.{AreInserted, node_parts_inserted, parts_before, moved_number, number_back, number_returns, moved_between, moved_above, back_joints, back_wires}
-use Rattle.jog_nets.proofs.Moved.{AreApart, one_end, IsMovedWire, AreWiresBent, wire_ends, part_at_end, links_moved, attachments_append, ends_between, attached_first}
+use Rattle.jog_nets.proofs.Moved.{AreApart, one_end, IsMovedWire, AreWiresBent, part_at_end, links_moved, attachments_append, ends_between, attached_first}
 
 -- ---- wires between two nodes
 
@@ -128,12 +129,13 @@ abbrev pub five_of : ℕ → ℕ → ℕ → Five
 five_of place n k =
     record { part = n + k; lower = place; middle = moved_number place n k (n + k) + 1; upper = place + 1; last = moved_number place n k (n + k) + 1 + 1 }
 
--- the links of both cells, where the other wires end where they did
+-- the links of both cells, where the other wires end where they did, and the ends of the bent one
 pub bent_links : (bend : Bend) (front back : List Node) (lower upper : Node) (old new : Known) → AreInserted bend front back lower upper old.nodes new.nodes → IsOnePart lower → IsOnePart upper
     → (k low high : ℕ) (layer : Layer) (wires : AreWiresBent (length front) k old new) → low < length old.nodes → high < length old.nodes
     → AreThree (length front) low high layer wires.wire wires.first wires.middle wires.last
-    → AreBentLinks (attachments_of (cell_of old)) (attachments_of (cell_of new)) (moved_number (first_part old.nodes (length front)) (node_parts old.nodes) k)
-    (number_back (first_part old.nodes (length front)) (node_parts old.nodes) k) (five_of (first_part old.nodes (length front)) (node_parts old.nodes) k)
+    → (links : AreBentLinks (attachments_of (cell_of old)) (attachments_of (cell_of new)) (moved_number (first_part old.nodes (length front)) (node_parts old.nodes) k)
+    (number_back (first_part old.nodes (length front)) (node_parts old.nodes) k) (five_of (first_part old.nodes (length front)) (node_parts old.nodes) k))
+    × (wire_ends old.nodes wires.wire ≡ links.low ∷ links.high ∷ [])
 bent_links bend front back lower upper old new are one_lower one_upper k low high layer wires lt_low lt_high three =
     let at : ℕ = length front in
     let place : ℕ = first_part old.nodes at in
@@ -190,24 +192,26 @@ bent_links bend front back lower upper old new are one_lower one_upper k low hig
     ∙ ap (λ (links : List (ℕ × ℕ)). (third, place + 1) ∷ (third, m part_high) ∷ links)
     (links_moved bend front back lower upper old new are k (part + 1) (third + 1) wires.behind wires.its_behind each_behind wires.behind_moved)))) in
     let backs = pair_back place n k p q pair in
-    let second_back : number_back place n k second ≡ part = back_wires place n k second few (omega (arith, part_moved)) (omega (arith, part_moved)) in
-    record {
-      before = links_before;
-      behind = links_behind;
-      low = part_low;
-      high = part_high;
-      between = (second, p) ∷ (second, q) ∷ [];
-      old_links = old_links;
-      new_links = new_links;
-      to_lower = (pair_has second place p q pair).0;
-      to_upper = (pair_has second place p q pair).1;
-      only = ((second_back, backs.0), ((second_back, backs.1), tt));
-      inverse = λ x. number_returns place n k x few;
-      lower_back = back_joints place n k place (omega arith) (omega arith);
-      middle_back = second_back;
-      upper_back = back_joints place n k (place + 1) (omega arith) (omega arith);
-      last_back = back_wires place n k third few (omega (arith, part_moved)) (omega (arith, part_moved));
-    }
+    let second_back : number_back place n k second ≡ part = back_wires place n k second few (omega (arith, part_moved)) (omega (arith, part_moved)) in (
+      record {
+        before = links_before;
+        behind = links_behind;
+        low = part_low;
+        high = part_high;
+        between = (second, p) ∷ (second, q) ∷ [];
+        old_links = old_links;
+        new_links = new_links;
+        to_lower = (pair_has second place p q pair).0;
+        to_upper = (pair_has second place p q pair).1;
+        only = ((second_back, backs.0), ((second_back, backs.1), tt));
+        inverse = λ x. number_returns place n k x few;
+        lower_back = back_joints place n k place (omega arith) (omega arith);
+        middle_back = second_back;
+        upper_back = back_joints place n k (place + 1) (omega arith) (omega arith);
+        last_back = back_wires place n k third few (omega (arith, part_moved)) (omega (arith, part_moved));
+      },
+      ends_wire,
+    )
 
 -- ---- from the names of the wires' ends
 

@@ -1,6 +1,6 @@
 -- A cell with a jog has the nets of the one before.
-use Rattle.std.proofs.Common.{◌≡◌, ℕ, ◌+◌, ◌<◌, ◌≤◌, true, false, List, ◌∷◌, ◌++◌, length, map, Option, Some, None, inl, inr, refl, sym, ap, subst, ◌∙◌, arith}
-use Rattle.std.specs.Prelude.{◌⊎◌}
+use Rattle.std.proofs.Common.{◌≡◌, ℕ, ◌+◌, ◌<◌, ◌≤◌, true, false, List, [], ◌∷◌, ◌++◌, length, map, Option, Some, None, inl, inr, refl, sym, ap, subst, ◌∙◌, arith}
+use Rattle.std.specs.Prelude.{◌⊎◌, Contains}
 use Rattle.std.specs.List.{AllZip, flat_map}
 use Rattle.std.proofs.lemmas.List.{get_or_at}
 use Rattle.std.proofs.lemmas.List.Concat.{flat_map-append}
@@ -25,11 +25,11 @@ use Rattle.stick_cell.specs.Known.{Known, cell_of}
 use Rattle.stick_cell.specs.Checks.{layer_of, sized}
 use Rattle.jog_insert.specs.Bends.{Bend, part_col, moved_row, moved_form}
 use Rattle.jog_insert.specs.Jogs.{lower_name, upper_name, bent_forms, IsFree}
-use Rattle.jog_insert.specs.Nets.{AreOneNet, moved_part, IsOfJog, KeepsNets}
+use Rattle.jog_insert.specs.Nets.{wire_ends, terminals_of, AreOneNet, moved_part, IsOfJog, KeepsNets}
 use Rattle.graph_search.specs.Netting.{Attached}
-use Rattle.graph_search.proofs.Chains.{reaches_none}
+use Rattle.graph_search.proofs.Chains.{reaches_none, reaches_trans}
 use Rattle.jog_nets.specs.Parts.{node_after, KeepsParts}
-use Rattle.jog_nets.proofs.Links.{AreBentLinks, IsOneNet, same_nets, one_net}
+use Rattle.jog_nets.proofs.Links.{AreBentLinks, IsOneNet, same_nets, one_net, to_end}
 use Rattle.jog_nets.proofs.Lines.{size_or_none, nodes_in, Sided, sides_in, Joining, joins_in, sides, side_named, IsEndOf, IsJoined}
 use Rattle.jog_nets.proofs.Told.{IsTold}
 use Rattle.jog_nets.proofs.Turned.{moved_node}
@@ -125,16 +125,19 @@ one_of_three first p le lt = elim (cases_eq p first) [
 
 -- cells with such links have the same nets
 nets_of_links : (old new : Known) (at k : ℕ) → first_part old.nodes at ≤ node_parts old.nodes
-    → AreBentLinks (attachments_of (cell_of old)) (attachments_of (cell_of new)) (moved_number (first_part old.nodes at) (node_parts old.nodes) k)
-    (number_back (first_part old.nodes at) (node_parts old.nodes) k) (five_of (first_part old.nodes at) (node_parts old.nodes) k)
-    → KeepsNets (cell_of old) (cell_of new) at k
-nets_of_links old new at k few h =
+    → (links : AreBentLinks (attachments_of (cell_of old)) (attachments_of (cell_of new)) (moved_number (first_part old.nodes at) (node_parts old.nodes) k)
+    (number_back (first_part old.nodes at) (node_parts old.nodes) k) (five_of (first_part old.nodes at) (node_parts old.nodes) k))
+    → terminals_of (cell_of old) k ≡ links.low ∷ links.high ∷ [] → KeepsNets (cell_of old) (cell_of new) at k
+nets_of_links old new at k few h terminals =
+    let net = one_net (attachments_of (cell_of old)) (attachments_of (cell_of new)) (moved_number (first_part old.nodes at) (node_parts old.nodes) k)
+    (number_back (first_part old.nodes at) (node_parts old.nodes) k) (five_of (first_part old.nodes at) (node_parts old.nodes) k) h in
+    let moved : ℕ → ℕ = moved_number (first_part old.nodes at) (node_parts old.nodes) k in
     record {
       same = λ p q lt_p lt_q. same_nets (attachments_of (cell_of old)) (attachments_of (cell_of new)) (moved_number (first_part old.nodes at) (node_parts old.nodes) k)
           (number_back (first_part old.nodes at) (node_parts old.nodes) k) (five_of (first_part old.nodes at) (node_parts old.nodes) k) h p q;
-      bent = λ p is. by p
-          (one_net (attachments_of (cell_of old)) (attachments_of (cell_of new)) (moved_number (first_part old.nodes at) (node_parts old.nodes) k)
-          (number_back (first_part old.nodes at) (node_parts old.nodes) k) (five_of (first_part old.nodes at) (node_parts old.nodes) k) h) is;
+      two = ap length terminals;
+      bent = λ p terminal is among. reaches_trans (Attached (attachments_of (cell_of new))) p (moved (node_parts old.nodes + k)) (moved terminal) (by p net is)
+          (to_end (attachments_of (cell_of new)) moved h.low h.high (moved (node_parts old.nodes + k)) terminal net.to_low net.to_high (subst (λ (ends_of : List ℕ). Contains ends_of terminal) terminals among));
     }
   where
     by : (p : ℕ) → IsOneNet (attachments_of (cell_of new)) (moved_number (first_part old.nodes at) (node_parts old.nodes) k h.low) (moved_number (first_part old.nodes at) (node_parts old.nodes) k (node_parts old.nodes + k))
@@ -178,9 +181,10 @@ kept_of_wires tech bend front back lower upper old new h joints k low high befor
       count = number;
       before_moved = moved_wires tech bend front back lower upper old new h before one.front three.front one.front_joined three.front_joined one.front_are three.front_are;
       behind_moved = moved_wires tech bend front back lower upper old new h behind one.back three.back one.back_joined three.back_joined one.back_are three.back_are;
-    } in (
-      nets_of_links old new (length front) k (sum_by-take-le (λ (node : Node). kind_parts node.kind) old.nodes (length front))
-          (bent_links bend front back lower upper old new h.inserted joints.lower_part joints.upper_part k low high (layer_of layer) wires ends_here.0 ends_here.1 ends_here.2),
+    } in
+    let links = bent_links bend front back lower upper old new h.inserted joints.lower_part joints.upper_part k low high (layer_of layer) wires ends_here.0 ends_here.1 ends_here.2 in (
+      nets_of_links old new (length front) k (sum_by-take-le (λ (node : Node). kind_parts node.kind) old.nodes (length front)) links.0
+          (ap (wire_ends old.nodes) here ∙ links.1),
       parts_kept bend front back lower upper old new h.inserted k wires,
     )
 

@@ -147,6 +147,15 @@ pub one_net : (old new : List (ℕ × ℕ)) (moved back : ℕ → ℕ) (five : F
     → IsOneNet new (moved h.low) (moved five.part) five.lower five.middle five.upper five.last (moved h.high)
 one_net old new moved back five h = one_net_of_row new (moved h.low) (moved five.part) five.lower five.middle five.upper five.last (moved h.high) (row_of old new moved back five h)
 
+-- a part of which two others are of the net is of the net of each of these
+pub to_end : (links : List (ℕ × ℕ)) (f : ℕ → ℕ) (low high first end : ℕ) → Reaches (Attached links) (f low) first → Reaches (Attached links) (f high) first
+    → Contains (low ∷ high ∷ []) end → Reaches (Attached links) first (f end)
+to_end links f low high first end from_low from_high (zero, lt, e) =
+    subst (λ x. Reaches (Attached links) first (f x)) e (reaches_back (Attached links) (attached_back links) (f low) first from_low)
+to_end links f low high first end from_low from_high (suc zero, lt, e) =
+    subst (λ x. Reaches (Attached links) first (f x)) e (reaches_back (Attached links) (attached_back links) (f high) first from_high)
+to_end links f low high first end from_low from_high (suc (suc n), lt, e) = absurd (omega (arith, lt))
+
 -- what a chain joins before, a chain joins afterwards
 pub joined_after : (old new : List (ℕ × ℕ)) (moved back : ℕ → ℕ) (five : Five) → AreBentLinks old new moved back five → (p q : ℕ) → Reaches (Attached old) p q
     → Reaches (Attached new) (moved p) (moved q)

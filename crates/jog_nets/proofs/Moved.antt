@@ -15,6 +15,7 @@ use Rattle.cell_model.specs.Sound.{node_at, IsWire}
 use Rattle.cell_model.specs.Nets.{node_parts, first_part, joined_part, end_parts, with_each, attachments}
 use Rattle.stick_cell.specs.Known.{Known, cell_of, plug_at}
 use Rattle.jog_insert.specs.Bends.{Bend}
+use Rattle.jog_insert.specs.Nets.{wire_ends}
 use Rattle.jog_nets.specs.Parts.{node_after}
 use Rattle.jog_nets.proofs.Lines.{Joining, sides, side_named, IsEndOf, IsJoined}
 use Rattle.jog_nets.proofs.Links.{both_moved}
@@ -121,10 +122,6 @@ pub record AreWiresBent (at k : ℕ) (old new : Known) : Type 0 where
   pub behind_moved : AllZip (IsMovedWire at old new) behind its_behind
 
 -- ---- what they attach
-
--- the parts at the two ends of a wire
-abbrev pub wire_ends : List Node → Wire → List ℕ
-wire_ends nodes wire = end_parts nodes wire.layer true wire.low ++ end_parts nodes wire.layer false wire.high
 
 -- the part of a node at an end
 pub part_at_end : (bend : Bend) (front back : List Node) (lower upper : Node) (old new : List Node) → AreInserted bend front back lower upper old new → (k i : ℕ) (layer : Layer) (is_low : Bool) → i < length old

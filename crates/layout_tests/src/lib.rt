@@ -1,16 +1,12 @@
-//! Tests of the crates that lay a cell out: its items, the pairs that keep a spacing, the start layout and the solver's order. There is no
-//! other code.
+//! Tests of the crates that lay a cell out: its items, the pairs that keep a spacing, the start layout and the solver's
+//! order. There is no other code.
 #![tactic(auto)]
 
 #[cfg(test)]
 mod coarse_grid_tests;
 #[cfg(test)]
-mod expand_tests;
-#[cfg(test)]
 mod liao_wong_tests;
 #[cfg(test)]
 mod pair_rules_tests;
-#[cfg(test)]
-mod shared_by_tests;
 #[cfg(test)]
 mod sym_items_tests;

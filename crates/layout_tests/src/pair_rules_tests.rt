@@ -4,7 +4,6 @@ ghost use Rattle.sym_items.specs.Boxes.{HasBox};
 ghost use Rattle.sym_items.specs.Transposed.{transposed_coords};
 ghost use Rattle.pair_rules.specs.Worked as worked;
 
-use crate::shared_by_tests::is_shared;
 use lam_geom::Axis;
 use lam_list::Seq;
 use pair_rules::{Pair, all_pairs, facing, is_bound};
@@ -154,49 +153,37 @@ fn the_one_before_faces_the_one_behind(rt: HostRuntime) -> Result<(), Fail> {
     Ok(())
 }
 
-#[test]
-fn items_are_bound_by_classes_owners_and_nets(rt: HostRuntime) {
-    let tech = Tech::shipped();
-    let item = joint(0, 0);
-    assert_eq!(rt;
-        is_bound(
-            &tech,
-            &item,
-            &Item {
-                owner: 1,
-                net: 1,
-                ..item
-            }
-        ),
-        Some(6)
-    );
-    assert_eq!(rt; is_bound(&tech, &item, &Item { owner: 1, ..item }), None);
-    assert_eq!(rt; is_bound(&tech, &item, &Item { net: 1, ..item }), None);
-    let cut = Item {
-        class: Class::C,
-        ..item
-    };
-    assert_eq!(rt; is_bound(&tech, &item, &Item { owner: 1, ..cut }), None);
-    assert_eq!(rt; is_bound(&tech, &cut, &Item { owner: 1, ..cut }), Some(4));
-    assert_eq!(rt;
-        is_bound(
-            &tech,
-            &cut,
-            &Item {
-                class: Class::G,
-                owner: 1,
-                ..cut
-            }
-        ),
-        Some(4)
-    );
-}
+// The class of an item, its owner, its net, and the buried contacts at which it stands.
+type Kind = (Class, u32, u32, u32, u32);
 
-// A box of an owner, of net 0, that stands at two buried contacts.
-fn standing(class: Class, owner: u32, at_low: u32, at_high: u32) -> Item {
+const NO: u32 = NOWHERE;
+
+// Two items, and the spacing by which they are bound: by their classes, owners and nets, and poly and diffusion that
+// stand at one buried contact not at all.
+const BOUND: [(Kind, Kind, Option<i64>); 15] = [
+    ((Class::M, 0, 0, NO, NO), (Class::M, 1, 1, NO, NO), Some(6)),
+    ((Class::M, 0, 0, NO, NO), (Class::M, 1, 0, NO, NO), None),
+    ((Class::M, 0, 0, NO, NO), (Class::M, 0, 1, NO, NO), None),
+    ((Class::M, 0, 0, NO, NO), (Class::C, 1, 0, NO, NO), None),
+    ((Class::C, 0, 0, NO, NO), (Class::C, 1, 0, NO, NO), Some(4)),
+    ((Class::C, 0, 0, NO, NO), (Class::G, 1, 0, NO, NO), Some(4)),
+    ((Class::P, 1, 0, 3, 7), (Class::Dm, 2, 0, 3, 3), None),
+    ((Class::Dm, 2, 0, 3, 3), (Class::P, 1, 0, 3, 7), None),
+    ((Class::P, 1, 0, 3, 7), (Class::Dm, 2, 0, 7, 7), None),
+    ((Class::P, 1, 0, 3, 7), (Class::Dm, 2, 0, NO, 3), None),
+    ((Class::P, 1, 0, 3, 7), (Class::Dm, 2, 0, 5, 5), Some(2)),
+    ((Class::P, 1, 0, 3, 7), (Class::Dm, 2, 1, 3, 3), None),
+    ((Class::P, 1, 0, 3, NO), (Class::P, 2, 1, 3, NO), Some(4)),
+    ((Class::P, 1, 0, 3, NO), (Class::Dm, 2, 0, NO, NO), Some(2)),
+    ((Class::P, 1, 0, NO, NO), (Class::Dm, 2, 0, NO, NO), Some(2)),
+];
+
+fn item(kind: Kind) -> Item {
+    let (class, owner, net, at_low, at_high) = kind;
     Item {
         class,
         owner,
+        net,
         at_low,
         at_high,
         ..joint(0, 0)
@@ -204,42 +191,10 @@ fn standing(class: Class, owner: u32, at_low: u32, at_high: u32) -> Item {
 }
 
 #[test]
-fn a_buried_contact_joins_the_poly_and_the_diffusion_that_stand_at_it(rt: HostRuntime) {
+fn items_are_bound_by_classes_owners_nets_and_buried_contacts(rt: HostRuntime) {
     let tech = Tech::shipped();
-    let wire = standing(Class::P, 1, 3, 7);
-    let pad = standing(Class::Dm, 2, 3, 3);
-    assert_eq!(rt; is_bound(&tech, &wire, &pad), None);
-    assert_eq!(rt; is_bound(&tech, &pad, &wire), None);
-    assert_eq!(rt; is_bound(&tech, &wire, &standing(Class::Dm, 2, 7, 7)), None);
-    assert_eq!(rt;
-        is_bound(&tech, &wire, &standing(Class::Dm, 2, NOWHERE, 3)),
-        None
-    );
-    assert_eq!(rt;
-        is_bound(&tech, &wire, &standing(Class::Dm, 2, 5, 5)),
-        Some(2)
-    );
-    assert_eq!(rt; is_bound(&tech, &wire, &Item { net: 1, ..pad }), None);
-}
-
-#[test]
-fn other_items_of_a_buried_contact_are_bound(rt: HostRuntime) {
-    let tech = Tech::shipped();
-    let wire = standing(Class::P, 1, 3, NOWHERE);
-    let other = standing(Class::P, 2, 3, NOWHERE);
-    assert_eq!(rt; is_bound(&tech, &wire, &Item { net: 1, ..other }), Some(4));
-    assert_eq!(rt;
-        is_bound(&tech, &wire, &standing(Class::Dm, 2, NOWHERE, NOWHERE)),
-        Some(2)
-    );
-    let apart = standing(Class::P, 1, NOWHERE, NOWHERE);
-    assert_eq!(rt;
-        is_bound(&tech, &apart, &standing(Class::Dm, 2, NOWHERE, NOWHERE)),
-        Some(2)
-    );
-}
-
-#[test]
-fn pairs_may_be_shared_by_threads(rt: HostRuntime) {
-    assert!(rt; is_shared(&apart(0, 1)));
+    for (place, (first, second, spacing)) in BOUND.iter().enumerate() {
+        let found = is_bound(&tech, &item(*first), &item(*second));
+        assert_eq!(rt; found, *spacing, "row {place}");
+    }
 }

@@ -2,12 +2,15 @@
 ghost use Rattle.std.specs.Prelude.{◌≡◌, IfOk};
 ghost use Rattle.layout_tests.specs.Wire as worked;
 
-use crate::shared_by_tests::is_shared;
+use cell_model::Cell;
+use expand::Master;
 use lam_geom::{BoxXY, Span};
 use lam_list::Seq;
+use pair_rules::Pair;
 use rule_table::Class;
 use std::alloc::{AllocError, Global};
 use std::test::Fail;
+use stick_lex::Text;
 use sym_items::{Coords, End, Item, Items, NOWHERE, at, box_of};
 
 // A metal wire from a joint at x variable 2 to one at 3, along y variable 2; each joint is 6 wide.
@@ -77,14 +80,27 @@ fn a_wire_stands_at_the_buried_contacts_of_its_ends(rt: HostRuntime) {
     assert!(rt; !stands(3, NOWHERE).stands_with(&stands(NOWHERE, 7)));
 }
 
+fn is_shared<T: Send + Sync>(_value: &T) -> bool {
+    true
+}
+
 #[test]
-fn items_and_coordinates_may_be_shared_by_threads(rt: HostRuntime) -> Result<(), Fail> {
+fn masters_items_coordinates_and_pairs_may_be_shared(rt: HostRuntime) -> Result<(), Fail> {
+    let alloc = rt.alloc();
+    let cell = Cell {
+        name: Text::new(alloc, b"t")?,
+        nodes: Seq::from_vec(Vec::new(alloc)),
+        wires: Seq::from_vec(Vec::new(alloc)),
+        ports: Seq::from_vec(Vec::new(alloc)),
+        limits: Seq::from_vec(Vec::new(alloc)),
+    };
     let items = Items {
-        list: Seq::from_vec([wire()].to_vec(rt.alloc())?),
+        list: Seq::from_vec([wire()].to_vec(alloc)?),
         x_vars: 4,
         y_vars: 3,
     };
-    let coords = start(rt.alloc())?;
-    assert!(rt; is_shared(&wire()) && is_shared(&items) && is_shared(&coords));
+    let (coords, pair) = (start(alloc)?, Pair { i: 0, j: 1, s: 6 });
+    assert!(rt; is_shared(&wire()) && is_shared(&items) && is_shared(&coords) && is_shared(&pair));
+    assert!(rt; is_shared(&Master { cell, items }));
     Ok(())
 }

@@ -1,5 +1,6 @@
 //! What the program answers at its limits and past them, to texts that are cut, and where reading or writing fails.
 
+mod facing;
 mod inverter;
 mod made;
 mod typed;
@@ -7,26 +8,12 @@ mod typed;
 use compact_run::run;
 use inverter::{INVERTER, MASKS, NETLIST};
 use lam_io::{FailPlan, MemShelf, MemSink, OpenGate};
-use made::{Long, MADE, made};
+use made::{EDGES, LONGEST, MOST, made};
 use std::alloc::{AllocError, Global};
 use std::process::Abort;
 use std::test::Fail;
 use std::thread::Threads;
-use typed::{Asked, CHECK, COMPACT, SHIPPED, TYPED};
-
-// Which fetches, and which puts into the output and the report, fail.
-#[derive(Clone, Copy)]
-struct Faults {
-    fetches: &'static [u32],
-    output: &'static [u32],
-    report: &'static [u32],
-}
-
-const NONE: Faults = Faults {
-    fetches: &[],
-    output: &[],
-    report: &[],
-};
+use typed::{CHECK, CIF_TEXTS, COMPACT, DESIGNS, EMPTY, SHIPPED, TECHNOLOGIES, WORDS};
 
 // What a call answered.
 #[derive(Drop)]
@@ -36,19 +23,30 @@ struct Answer {
     report: String,
 }
 
-// What these words, parted by blanks, answer over a shelf that has the technology as `t` and the design, or the CIF text, as `d`.
+// A plan by which a call fails where it is the one that is named, as `output 1`.
+fn plan_of(alloc: Global, fails: &str, calls: &str) -> Result<FailPlan, AllocError> {
+    match fails.split_once(' ') {
+        Some((name, number)) if name == calls => {
+            FailPlan::new(alloc, [number.parse().unwrap_or(0)].as_slice())
+        }
+        _ => Ok(FailPlan::none(alloc)),
+    }
+}
+
+// What these words, parted by blanks, answer over a shelf that has the technology as `t` and the design, or the CIF
+// text, as `d`.
 fn answer_to<H: Threads + Sync>(
     rt: &H,
     alloc: Global,
     words: &str,
     tech: &[u8],
     text: &[u8],
-    faults: Faults,
+    fails: &str,
 ) -> Result<Answer, AllocError> {
-    let mut shelf = MemShelf::new(alloc, FailPlan::new(alloc, faults.fetches)?);
+    let mut shelf = MemShelf::new(alloc, plan_of(alloc, fails, "fetch")?);
     shelf.add("t", tech)?;
     shelf.add("d", text)?;
-    answer_over(rt, alloc, words, shelf, faults)
+    answer_over(rt, alloc, words, shelf, fails)
 }
 
 // What these words, parted by blanks, answer over a shelf.
@@ -57,11 +55,11 @@ fn answer_over<H: Threads + Sync>(
     alloc: Global,
     words: &str,
     mut shelf: MemShelf,
-    faults: Faults,
+    fails: &str,
 ) -> Result<Answer, AllocError> {
     let words: Vec<&str> = words.split(' ').collect(alloc)?;
-    let mut output = MemSink::new(alloc, 1_000_000, FailPlan::new(alloc, faults.output)?)?;
-    let mut report = MemSink::new(alloc, 1_000_000, FailPlan::new(alloc, faults.report)?)?;
+    let mut output = MemSink::new(alloc, 1_000_000, plan_of(alloc, fails, "output")?)?;
+    let mut report = MemSink::new(alloc, 1_000_000, plan_of(alloc, fails, "report")?)?;
     let status = run(
         rt,
         alloc,
@@ -78,7 +76,8 @@ fn answer_over<H: Threads + Sync>(
     })
 }
 
-// An answer has this code; its report is this one, or begins so where all is done; and beside a refusal there is no output.
+// An answer has this code; its report is this one, or begins so where all is done; and beside a refusal there is no
+// output.
 fn assert_answer<A: Abort>(rt: &A, answer: &Answer, code: u8, report: &str) {
     assert_eq!(rt; answer.code, code, "{}", report);
     if code == 0 {
@@ -89,42 +88,93 @@ fn assert_answer<A: Abort>(rt: &A, answer: &Answer, code: u8, report: &str) {
     }
 }
 
-// Each of these is answered as it says.
+// The code and the report of a line of a table, without its line end, and what is asked; none in a comment.
+fn case_in(line: &str) -> Result<Option<(u8, &str, &str)>, Fail> {
+    if line.is_empty() || line.starts_with('#') {
+        return Ok(None);
+    }
+    let (answer, asked) = line.split_once('=').ok_or("a line without a case")?;
+    let (code, report) = answer.split_once(' ').ok_or("no code")?;
+    Ok(Some((code.parse()?, report.trim_end(), asked.trim_start())))
+}
+
+// What a line of a table asks: other words, another technology, another design, or a CIF text.
+#[derive(Clone, Copy)]
+enum Kind {
+    Words,
+    Technology,
+    Design,
+    Cif,
+}
+
+// Each line of a table is answered as it says.
 fn assert_typed<A: Abort + Threads + Sync>(
     rt: &A,
     alloc: Global,
-    asked: &[Asked],
+    kind: Kind,
+    table: &str,
 ) -> Result<(), Fail> {
-    for case in asked {
-        let (tech, text) = (case.tech.as_bytes(), case.text.as_bytes());
-        let answer = answer_to(rt, alloc, case.words, tech, text, NONE)?;
-        assert_answer(rt, &answer, case.code, case.report);
+    for line in table.lines() {
+        if let Some((code, report, asked)) = case_in(line)? {
+            let report = report_of(alloc, code, report)?;
+            let text = asked.replace(alloc, '/', "\n")?;
+            let (words, tech, text) = match kind {
+                Kind::Words => (text.as_str(), SHIPPED, EMPTY),
+                Kind::Technology => (COMPACT, text.as_str(), EMPTY),
+                Kind::Design => (COMPACT, SHIPPED, text.as_str()),
+                Kind::Cif => (CHECK, SHIPPED, text.as_str()),
+            };
+            let answer = answer_to(rt, alloc, words, tech.as_bytes(), text.as_bytes(), "")?;
+            assert_answer(rt, &answer, code, &report);
+        }
     }
     Ok(())
+}
+
+// The report of a line of a table.
+fn report_of(alloc: Global, code: u8, report: &str) -> Result<String, AllocError> {
+    let report = report.replace(alloc, '/', "\n")?;
+    if code == 0 {
+        return Ok(report);
+    }
+    format!(in alloc; "{report}\n")
 }
 
 #[test]
 fn a_limit_of_a_short_text_holds_and_one_more_is_refused(rt: HostRuntime) -> Result<(), Fail> {
-    assert_typed(&rt, rt.alloc(), &TYPED)
+    assert_typed(&rt, rt.alloc(), Kind::Words, WORDS)?;
+    assert_typed(&rt, rt.alloc(), Kind::Technology, TECHNOLOGIES)?;
+    assert_typed(&rt, rt.alloc(), Kind::Design, DESIGNS)?;
+    assert_typed(&rt, rt.alloc(), Kind::Cif, CIF_TEXTS)
 }
 
-// Each of these, once made, is answered as it says.
-fn assert_made<A: Abort + Threads + Sync>(
-    rt: &A,
-    alloc: Global,
-    asked: &[Long],
-) -> Result<(), Fail> {
-    for case in asked {
-        let (words, tech, text) = made(alloc, case.form, case.number)?;
-        let answer = answer_to(rt, alloc, words, tech.as_bytes(), text.as_bytes(), NONE)?;
-        assert_answer(rt, &answer, case.code, case.report);
+// That each text that is made answers as its line says.
+fn assert_made<A: Abort + Threads + Sync>(rt: &A, alloc: Global, lines: &str) -> Result<(), Fail> {
+    for line in lines.lines() {
+        if let Some((code, report, asked)) = case_in(line)? {
+            let report = report_of(alloc, code, report)?;
+            let (form, number) = asked.split_once(' ').ok_or("no number")?;
+            let (words, tech, text) = made(alloc, form, number.parse()?)?;
+            let answer = answer_to(rt, alloc, words, tech.as_bytes(), text.as_bytes(), "")?;
+            assert_answer(rt, &answer, code, &report);
+        }
     }
     Ok(())
 }
 
 #[test]
+fn the_longest_texts_are_read_and_no_longer_ones(rt: HostRuntime) -> Result<(), Fail> {
+    assert_made(&rt, rt.alloc(), LONGEST)
+}
+
+#[test]
 fn a_limit_of_a_long_text_holds_and_one_more_is_refused(rt: HostRuntime) -> Result<(), Fail> {
-    assert_made(&rt, rt.alloc(), &MADE)
+    assert_made(&rt, rt.alloc(), MOST)
+}
+
+#[test]
+fn one_inequality_too_many_is_told_as_such(rt: HostRuntime) -> Result<(), Fail> {
+    assert_made(&rt, rt.alloc(), EDGES)
 }
 
 // What a script of so many bytes answers, all of them a comment.
@@ -134,7 +184,7 @@ fn scripted<H: Threads + Sync>(rt: &H, alloc: Global, bytes: usize) -> Result<An
     shelf.add("t", SHIPPED.as_bytes())?;
     shelf.add("d", TWO_ROWS.as_bytes())?;
     shelf.add("s", &script)?;
-    answer_over(rt, alloc, "jog d --tech t --script s", shelf, NONE)
+    answer_over(rt, alloc, "jog d --tech t --script s", shelf, "")
 }
 
 #[test]
@@ -155,7 +205,7 @@ fn assert_cuts<A: Abort + Threads + Sync>(
     code: u8,
 ) -> Result<(), Fail> {
     for length in 0..text.len() {
-        let answer = answer_to(rt, alloc, words, SHIPPED.as_bytes(), &text[..length], NONE)?;
+        let answer = answer_to(rt, alloc, words, SHIPPED.as_bytes(), &text[..length], "")?;
         let whole = length + 1 == text.len();
         assert_eq!(rt; answer.code, if whole { 0 } else { code }, "{length}");
         assert_eq!(rt; answer.output.is_empty(), !whole, "{length}");
@@ -177,121 +227,52 @@ const TWO_ROWS: &str =
 const CYCLE: &str =
     "sticks 1\ncell t\njoint a metal 0 0\njoint b metal 1 0\nlimit x a b <= 11\nend\ngrid\nrow t\nend\n";
 
-const NO_OUTPUT: &str = "sticks: cannot write output\n";
-
-// A design, what fails, the code, how many bytes of the output of the two rows stand, and the report.
-#[derive(Clone, Copy)]
-struct Failing {
-    text: &'static str,
-    faults: Faults,
-    code: u8,
-    stands: usize,
-    report: &'static str,
-}
-
-// The symbols have 56 and 71 bytes, and the calls 27: of the piece that fails the first half stands, rounded down. Where the report
-// fails its first half stands, and so does the whole output.
-const FAILING: [Failing; 7] = [
-    Failing {
-        text: TWO_ROWS,
-        faults: Faults {
-            fetches: &[0],
-            ..NONE
-        },
-        code: 3,
-        stands: 0,
-        report: "sticks: cannot read technology\n",
-    },
-    Failing {
-        text: TWO_ROWS,
-        faults: Faults {
-            fetches: &[1],
-            ..NONE
-        },
-        code: 3,
-        stands: 0,
-        report: "sticks: cannot read design\n",
-    },
-    Failing {
-        text: TWO_ROWS,
-        faults: Faults {
-            output: &[0],
-            ..NONE
-        },
-        code: 4,
-        stands: 28,
-        report: NO_OUTPUT,
-    },
-    Failing {
-        text: TWO_ROWS,
-        faults: Faults {
-            output: &[1],
-            ..NONE
-        },
-        code: 4,
-        stands: 91,
-        report: NO_OUTPUT,
-    },
-    Failing {
-        text: TWO_ROWS,
-        faults: Faults {
-            output: &[2],
-            ..NONE
-        },
-        code: 4,
-        stands: 140,
-        report: NO_OUTPUT,
-    },
-    Failing {
-        text: TWO_ROWS,
-        faults: Faults {
-            report: &[0],
-            ..NONE
-        },
-        code: 4,
-        stands: 154,
-        report: "pass 1 x edges 17 backward 1 rounds 2\ncell s size 42 kept 1\n0 -> t:a 9 margin\nt:a -> t:b 12 space\nt:b -> t:c 12 space\nt:c -> t| 9 margin\nt| -> s| 0 pitch\ncell t size 42 kept 2\n0 -> t:a 9 margin\nt:a -> t:b",
-    },
-    Failing {
-        text: CYCLE,
-        faults: Faults {
-            report: &[0],
-            ..NONE
-        },
-        code: 11,
-        stands: 0,
-        report: "pass 1 x unsatisfiable length 1\nt:a ",
-    },
+// What fails and at which number, the code, how many bytes of the output of the two rows stand, and the report. The
+// symbols have 56 and 71 bytes, and the calls 27: of the piece that fails the first half stands, rounded down. Where
+// the report fails its first half stands, and so does the whole output.
+const FAILING: [(&str, &str, u8, usize, &str); 7] = [
+    (
+        TWO_ROWS,
+        "fetch 0",
+        3,
+        0,
+        "sticks: cannot read technology\n",
+    ),
+    (TWO_ROWS, "fetch 1", 3, 0, "sticks: cannot read design\n"),
+    (TWO_ROWS, "output 0", 4, 28, NO_OUTPUT),
+    (TWO_ROWS, "output 1", 4, 91, NO_OUTPUT),
+    (TWO_ROWS, "output 2", 4, 140, NO_OUTPUT),
+    (TWO_ROWS, "report 0", 4, 154, HALF_REPORT),
+    (
+        CYCLE,
+        "report 0",
+        11,
+        0,
+        "pass 1 x unsatisfiable length 1\nt:a ",
+    ),
 ];
 
-// Each of these is answered as it says, over the whole output of the two rows.
-fn assert_failing<A: Abort + Threads + Sync>(
-    rt: &A,
-    alloc: Global,
-    whole: &str,
-    cases: &[Failing],
-) -> Result<(), Fail> {
-    for case in cases {
-        let (tech, text) = (SHIPPED.as_bytes(), case.text.as_bytes());
-        let answer = answer_to(rt, alloc, COMPACT, tech, text, case.faults)?;
-        assert_eq!(rt; answer.code, case.code, "{}", case.report);
-        assert_eq!(rt; answer.output.len(), case.stands, "{}", case.report);
-        assert!(rt;
-            whole.starts_with(answer.output.as_str()),
-            "{}",
-            case.report
-        );
-        assert_eq!(rt; answer.report.as_str(), case.report);
-    }
-    Ok(())
-}
+const NO_OUTPUT: &str = "sticks: cannot write output\n";
+
+const HALF_REPORT: &str =
+    "pass 1 x edges 17 backward 1 rounds 2\ncell s size 42 kept 1\n0 -> t:a 9 margin\nt:a -> t:b 12 space\nt:b -> t:c 12 space\nt:c -> t| 9 margin\nt| -> s| 0 pitch\ncell t size 42 kept 2\n0 -> t:a 9 margin\nt:a -> t:b";
 
 #[test]
 fn each_call_that_fails_is_told(rt: HostRuntime) -> Result<(), Fail> {
-    let (tech, text) = (SHIPPED.as_bytes(), TWO_ROWS.as_bytes());
-    let whole = answer_to(&rt, rt.alloc(), COMPACT, tech, text, NONE)?;
+    let (alloc, tech) = (rt.alloc(), SHIPPED.as_bytes());
+    let whole = answer_to(&rt, alloc, COMPACT, tech, TWO_ROWS.as_bytes(), "")?;
     assert_eq!(rt; whole.code, 0);
-    assert_failing(&rt, rt.alloc(), &whole.output, &FAILING)
+    for (text, fails, code, stands, report) in FAILING {
+        let answer = answer_to(&rt, alloc, COMPACT, tech, text.as_bytes(), fails)?;
+        assert_eq!(rt;
+            (answer.code, answer.output.len()),
+            (code, stands),
+            "{fails}"
+        );
+        assert!(rt; whole.output.starts_with(answer.output.as_str()), "{fails}");
+        assert_eq!(rt; answer.report.as_str(), report, "{fails}");
+    }
+    Ok(())
 }
 
 // These words, over this text, are done with this output.
@@ -302,7 +283,7 @@ fn assert_done<A: Abort + Threads + Sync>(
     text: &str,
     output: &str,
 ) -> Result<(), Fail> {
-    let answer = answer_to(rt, alloc, words, SHIPPED.as_bytes(), text.as_bytes(), NONE)?;
+    let answer = answer_to(rt, alloc, words, SHIPPED.as_bytes(), text.as_bytes(), "")?;
     assert_eq!(rt; answer.code, 0, "{}", words);
     assert_eq!(rt; answer.output.as_str(), output, "{}", words);
     Ok(())

@@ -1,7 +1,11 @@
 mod Names
 mod Tables
 mod Passing
+mod Plain
 mod Nodes
 mod Wires
 mod Checked
 mod Written
+mod Tight
+mod Short
+mod Small

@@ -3,9 +3,12 @@ use Rattle.std.proofs.Common.{◌≡◌, ℕ, zero, suc, ◌+◌, ◌*◌, ◌/�
 use Rattle.std.specs.Prelude.{bytes_eq, is_none}
 use Rattle.std.specs.List.{filter_map, cons_option, range_with_len}
 use Rattle.std.proofs.lemmas.Bool.{le-leb, cases_lt}
+use Rattle.std.proofs.lemmas.List.{length-append}
+use Rattle.list_facts.proofs.Elements.{all_append}
 use Rattle.rule_table.specs.declared.technology.Tech.{Tech}
 use Rattle.rule_table.specs.declared.classes.Layer.TheVariants as layers
 use Rattle.rule_table.specs.Technology.{width_of}
+use Rattle.cell_model.specs.declared.cell.Node.{Node}
 use Rattle.cell_model.specs.declared.cell.NodeKind.{NodeKind}
 use Rattle.cell_model.specs.declared.cell.NodeKind.TheVariants as kinds
 use Rattle.stick_parse.specs.declared.fault.StickKind.TheVariants.{RepeatedName, FarPlace}
@@ -18,7 +21,7 @@ use Rattle.stick_parse.specs.Order.{at_line}
 use Rattle.stick_cell.specs.declared.names.Thing.{Thing}
 use Rattle.stick_cell.specs.declared.names.Thing.TheVariants as things
 use Rattle.stick_cell.specs.declared.names.Spot.{Spot}
-use Rattle.stick_cell.specs.Known.{Known, begun, with_node}
+use Rattle.stick_cell.specs.Known.{Known, begun, cell_of, with_node}
 use Rattle.stick_cell.specs.Paths.{Names, named}
 use Rattle.stick_cell.specs.Checks.{layer_of, is_fresh, is_place, sized}
 use Rattle.stick_cell.specs.Lines.{after_form, after_joint, after_contact, after_lines}
@@ -29,6 +32,7 @@ use Rattle.design_gen.specs.Made.{name_at, node_of, node_at, is_metal, lines_fro
 use Rattle.made_designs.proofs.Names.{IsPoint, col_below, row_below, other_name, own_name}
 use Rattle.made_designs.proofs.Tables.{found_before, found_behind}
 use Rattle.made_designs.proofs.Passing.{both_pass}
+use Rattle.made_designs.proofs.Plain.{IsPlainKind, IsPlainNode, IsPlain}
 
 -- the metal joint at point k, which is node number i of its cell
 abbrev pub joint_at : Tech → ℕ → ℕ → ℕ → Spot
@@ -38,11 +42,12 @@ joint_at tech n k i = record { number = i; kind = kinds.Joint layers.Metal (widt
 abbrev pub StandsForJoint : Tech → ℕ → Names → ℕ → Type 0
 StandsForJoint tech n table k = (i : ℕ) × (named table (name_at n k) ≡ Some (things.Node (joint_at tech n k i)))
 
--- after the nodes of the points below k: no later point has its name yet, each metal joint is there, and the cell has no ports
+-- after the nodes of the points below k: no later point has its name yet, each metal joint is there, and the cell has plain nodes and nothing else
 pub record IsAfter (tech : Tech) (n k : ℕ) (known : Known) : Type 0 where
   pub fresh : (j : ℕ) → IsPoint n j → k ≤ j → named known.names (name_at n j) ≡ None
   pub joints : (j : ℕ) → IsPoint n j → j < k → is_metal (point_at n j).stand ≡ true → StandsForJoint tech n known.names j
   pub closed : known.plugs ≡ []
+  pub plain : IsPlain tech k 0 (cell_of known)
 
 -- ---- a point with a node
 
@@ -56,16 +61,26 @@ found_own name table thing none = found_behind (λ other. bytes_eq name other) t
 
 -- a point whose node is added
 added : (tech : Tech) (n k : ℕ) (known : Known) (kind : NodeKind) → IsPoint n k → IsAfter tech n k known → (is_metal (point_at n k).stand ≡ true → kind ≡ kinds.Joint layers.Metal (width_of tech layers.Metal))
-    → IsAfter tech n (k + 1) (with_node known (name_at n k) kind (k % n) (k / n))
-added tech n k known kind q after metal_kind = record {
+    → IsPlainKind tech kind → IsAfter tech n (k + 1) (with_node known (name_at n k) kind (k % n) (k / n))
+added tech n k known kind q after metal_kind plain_kind = record {
   fresh = λ j p le. fresh_behind n j k known.names thing p q (λ same. omega (arith, same, le)) (after.fresh j p (omega (arith, le)));
   joints = λ j p lt metal. elim (cases_lt j k) as (λ _. StandsForJoint tech n next j) [
     | inl before ↦ let at = after.joints j p before metal in (at.0, found_before (λ other. bytes_eq (name_at n j) other) known.names ((name_at n k, thing) ∷ []) (things.Node (joint_at tech n j at.0)) at.1)
     | inr not_before ↦ let same : k ≡ j = omega (arith, not_before, lt) in subst (λ i. is_metal (point_at n i).stand ≡ true → StandsForJoint tech n next i) same here metal
   ];
   closed = after.closed;
+  plain = record {
+    nodes = all_append (IsPlainNode tech) known.nodes (node ∷ []) after.plain.nodes (plain_kind, tt);
+    few_nodes = (let few = after.plain.few_nodes in omega (arith, few, length-append known.nodes (node ∷ [])));
+    wires = after.plain.wires;
+    few_wires = after.plain.few_wires;
+    limits = after.plain.limits;
+  };
 }
   where
+    node : Node
+    node = record { name = name_at n k; kind = kind; col = k % n; row = k / n }
+
     thing : Thing
     thing = things.Node (record { number = length known.nodes; kind = kind; col = k % n; row = k / n })
 
@@ -86,6 +101,13 @@ passed tech n k known after none = record {
     | inr not_before ↦ let same : j ≡ k = omega (arith, not_before, lt) in let wrong : false ≡ true = sym none ∙ ap (λ i. is_metal (point_at n i).stand) (sym same) ∙ metal in absurd cc
   ];
   closed = after.closed;
+  plain = record {
+    nodes = after.plain.nodes;
+    few_nodes = (let few = after.plain.few_nodes in omega (arith, few));
+    wires = after.plain.wires;
+    few_wires = after.plain.few_wires;
+    limits = after.plain.limits;
+  };
 }
 
 -- ---- the lines of nodes
@@ -119,21 +141,21 @@ step tech n k known p after Metal e = inr (
   with_node known (name_at n k) (kinds.Joint layers.Metal (width_of tech layers.Metal)) (k % n) (k / n),
   ap (λ s. node_of s (name_at n k) (k % n) (k / n)) e,
   joint_accepted tech n k known drawn.Metal p after,
-  added tech n k known (kinds.Joint layers.Metal (width_of tech layers.Metal)) p after (λ metal. refl),
+  added tech n k known (kinds.Joint layers.Metal (width_of tech layers.Metal)) p after (λ metal. refl) refl,
 )
 step tech n k known p after Poly e = inr (
   forms.Joint (name_at n k) drawn.Poly (k % n) (k / n) None,
   with_node known (name_at n k) (kinds.Joint layers.Poly (width_of tech layers.Poly)) (k % n) (k / n),
   ap (λ s. node_of s (name_at n k) (k % n) (k / n)) e,
   joint_accepted tech n k known drawn.Poly p after,
-  added tech n k known (kinds.Joint layers.Poly (width_of tech layers.Poly)) p after (λ metal. let wrong : false ≡ true = sym (ap is_metal e) ∙ metal in absurd cc),
+  added tech n k known (kinds.Joint layers.Poly (width_of tech layers.Poly)) p after (λ metal. let wrong : false ≡ true = sym (ap is_metal e) ∙ metal in absurd cc) refl,
 )
 step tech n k known p after Contact e = inr (
   forms.Contact (name_at n k) drawn.Diffusion (k % n) (k / n),
   with_node known (name_at n k) (kinds.Contact layers.Diffusion) (k % n) (k / n),
   ap (λ s. node_of s (name_at n k) (k % n) (k / n)) e,
   contact_accepted tech n k known drawn.Diffusion p after,
-  added tech n k known (kinds.Contact layers.Diffusion) p after (λ metal. let wrong : false ≡ true = sym (ap is_metal e) ∙ metal in absurd cc),
+  added tech n k known (kinds.Contact layers.Diffusion) p after (λ metal. let wrong : false ≡ true = sym (ap is_metal e) ∙ metal in absurd cc) tt,
 )
 
 -- ---- all nodes
@@ -181,4 +203,9 @@ all_nodes tech n (suc m) k known few within after =
 
 -- no name is taken before the first line
 pub none_before : (tech : Tech) (n : ℕ) (name : List ℕ) → IsAfter tech n 0 (begun name)
-none_before tech n name = record { fresh = λ j p le. refl; joints = λ j p lt metal. absurd (omega (arith, lt)); closed = refl }
+none_before tech n name = record {
+  fresh = λ j p le. refl;
+  joints = λ j p lt metal. absurd (omega (arith, lt));
+  closed = refl;
+  plain = record { nodes = tt; few_nodes = omega arith; wires = tt; few_wires = omega arith; limits = refl };
+}

@@ -1,11 +1,13 @@
 -- Each wire of the cell is accepted: it runs from a metal joint to the next one of its row.
-use Rattle.std.proofs.Common.{◌≡◌, ℕ, zero, suc, ◌+◌, ◌-◌, ◌*◌, ◌/◌, ◌%◌, ◌<◌, ◌≤◌, ℤ, Bool, true, false, ◌&&◌, List, [], Option, Some, None, Ok, refl, ap, ◌∙◌, arith}
+use Rattle.std.proofs.Common.{◌≡◌, ℕ, zero, suc, ◌+◌, ◌-◌, ◌*◌, ◌/◌, ◌%◌, ◌<◌, ◌≤◌, ℤ, Bool, true, false, ◌&&◌, List, [], ◌∷◌, Option, Some, None, Ok, refl, sym, ap, subst, ◌∙◌, add-zero, arith}
 use Rattle.std.specs.Prelude.{◌==◌, nat_lt, int_le, option_and_then, if◌then◌else◌}
 use Rattle.std.specs.List.{filter_map, cons_option, range_with_len}
+use Rattle.std.proofs.lemmas.List.{length-append}
 use Rattle.std.proofs.lemmas.Bool.{and_parts}
 use Rattle.std.proofs.lemmas.Bool.Decides.{nat_tests}
 use Rattle.std.proofs.lemmas.Int.{ints}
 use Rattle.std.proofs.lemmas.Nat.{div-add-mod', div-mul-add, mod-mul-add}
+use Rattle.list_facts.proofs.Elements.{all_append}
 use Rattle.rule_table.specs.declared.technology.Tech.{Tech}
 use Rattle.rule_table.specs.declared.classes.Layer.TheVariants as layers
 use Rattle.rule_table.specs.Technology.{width_of}
@@ -24,7 +26,7 @@ use Rattle.stick_parse.specs.declared.design.Layer.TheVariants as drawn
 use Rattle.stick_parse.specs.Reading.{◌>>=◌}
 use Rattle.stick_parse.specs.Order.{at_line}
 use Rattle.stick_cell.specs.declared.names.Thing.TheVariants as things
-use Rattle.stick_cell.specs.Known.{Known, with_wire}
+use Rattle.stick_cell.specs.Known.{Known, cell_of, with_wire}
 use Rattle.stick_cell.specs.Paths.{named, names_at, behind, walk, found_at}
 use Rattle.stick_cell.specs.Checks.{sized}
 use Rattle.stick_cell.specs.Lines.{wired_of, after_form, after_wire, after_lines}
@@ -34,6 +36,7 @@ use Rattle.design_gen.specs.Draws.{point_at}
 use Rattle.design_gen.specs.Made.{name_at, is_metal, are_joined, is_wired, wire_at, lines_from}
 use Rattle.made_designs.proofs.Names.{IsPoint, col_below, one_name}
 use Rattle.made_designs.proofs.Passing.{one_passes}
+use Rattle.made_designs.proofs.Plain.{IsPlainWire, IsPlain}
 use Rattle.made_designs.proofs.Nodes.{joint_at, StandsForJoint, IsAfter}
 
 -- ---- two metal joints in one row
@@ -77,13 +80,28 @@ left_of n k p some =
 
 -- ---- the lines of wires
 
--- each metal joint is there, and the cell has no ports
-pub record HasJoints (tech : Tech) (n : ℕ) (known : Known) : Type 0 where
+-- after the wires to the points below k: each metal joint is there, and the cell has plain nodes and wires and nothing else
+pub record HasJoints (tech : Tech) (n k : ℕ) (known : Known) : Type 0 where
   pub joints : (j : ℕ) → IsPoint n j → is_metal (point_at n j).stand ≡ true → StandsForJoint tech n known.names j
   pub closed : known.plugs ≡ []
+  pub plain : IsPlain tech (n * n) k (cell_of known)
 
-pub has_joints : (tech : Tech) (n : ℕ) (known : Known) → IsAfter tech n (n * n) known → HasJoints tech n known
-has_joints tech n known after = record { joints = λ j p metal. after.joints j p p.within metal; closed = after.closed }
+pub has_joints : (tech : Tech) (n : ℕ) (known : Known) → IsAfter tech n (n * n) known → HasJoints tech n 0 known
+has_joints tech n known after = record { joints = λ j p metal. after.joints j p p.within metal; closed = after.closed; plain = after.plain }
+
+-- no wire leads to a point
+no_wire_joints : (tech : Tech) (n k : ℕ) (known : Known) → HasJoints tech n k known → HasJoints tech n (k + 1) known
+no_wire_joints tech n k known has = record {
+  joints = has.joints;
+  closed = has.closed;
+  plain = record {
+    nodes = has.plain.nodes;
+    few_nodes = has.plain.few_nodes;
+    wires = has.plain.wires;
+    few_wires = (let few = has.plain.few_wires in omega (arith, few));
+    limits = has.plain.limits;
+  };
+}
 
 -- a path that is the name of a metal joint
 found_joint : (tech : Tech) (n j i : ℕ) (known : Known) → IsPoint n j → named known.names (name_at n j) ≡ Some (things.Node (joint_at tech n j i)) → found_at [] known (name_at n j) ≡ Some (At (terminals.Node (joint_at tech n j i)))
@@ -92,8 +110,18 @@ found_joint tech n j i known p there =
     ap (walk [] known.names) (one_name n j p) ∙ ap (option_and_then (λ thing. behind thing [] (λ k. walk [] (names_at [] k) []))) there
 
 -- one more wire changes no names and no ports
-with_wire_joints : (tech : Tech) (n i j : ℕ) (known : Known) → HasJoints tech n known → HasJoints tech n (with_wire known (wire tech i j))
-with_wire_joints tech n i j known has = record { joints = has.joints; closed = has.closed }
+with_wire_joints : (tech : Tech) (n k i j : ℕ) (known : Known) → HasJoints tech n k known → HasJoints tech n (k + 1) (with_wire known (wire tech i j))
+with_wire_joints tech n k i j known has = record {
+  joints = has.joints;
+  closed = has.closed;
+  plain = record {
+    nodes = has.plain.nodes;
+    few_nodes = has.plain.few_nodes;
+    wires = all_append (IsPlainWire tech) known.wires (wire tech i j ∷ []) has.plain.wires (refl, tt);
+    few_wires = (let few = has.plain.few_wires in omega (arith, few, length-append known.wires (wire tech i j ∷ [])));
+    limits = has.plain.limits;
+  };
+}
 
 -- a wire between what two paths come to
 between : (tech : Tech) (known : Known) (from to : Option Found) (a b : Found) (taken : Wire) → from ≡ Some a → to ≡ Some b → wire_between tech (wired_of known) known.wires layers.Metal a b None ≡ Ok taken → (do
@@ -108,9 +136,9 @@ between tech known from to a b taken e f g =
 
 -- the wire to a point is accepted
 abbrev IsTaken : Tech → ℕ → ℕ → Known → Type 0
-IsTaken tech n k known = (next : Known) × (after_form tech [] known (forms.Wire drawn.Metal (name_at n (k - 1)) (name_at n k) None) ≡ Ok next) × HasJoints tech n next
+IsTaken tech n k known = (next : Known) × (after_form tech [] known (forms.Wire drawn.Metal (name_at n (k - 1)) (name_at n k) None) ≡ Ok next) × HasJoints tech n (k + 1) next
 
-wire_accepted : (tech : Tech) (n k : ℕ) (known : Known) → IsPoint n k → HasJoints tech n known → is_wired n k ≡ true → IsTaken tech n k known
+wire_accepted : (tech : Tech) (n k : ℕ) (known : Known) → IsPoint n k → HasJoints tech n k known → is_wired n k ≡ true → IsTaken tech n k known
 unfolding after_wire
 wire_accepted tech n k known p has wired =
     let apart = and_parts (nat_lt 0 (k % n)) (are_joined (point_at n (k - 1)) (point_at n k)) wired in
@@ -124,23 +152,27 @@ wire_accepted tech n k known p has wired =
     found_joint tech n (k - 1) a.0 known q a.1 ∙ ap (λ row. Some (At (terminals.Node (joint tech a.0 ((k - 1) % n) row)))) left.1 in
     let to = found_joint tech n k b.0 known p b.1 in
     let taken = wire_taken tech (wired_of known) known.wires a.0 b.0 ((k - 1) % n) (k % n) (k / n) (omega (arith, left.0)) in
-    (with_wire known (wire tech a.0 b.0), between tech known _ _ _ _ (wire tech a.0 b.0) from to taken, with_wire_joints tech n a.0 b.0 known has)
+    (with_wire known (wire tech a.0 b.0), between tech known _ _ _ _ (wire tech a.0 b.0) from to taken, with_wire_joints tech n k a.0 b.0 known has)
 
 -- ---- all wires
 
 pub record Ends (tech : Tech) (n k m : ℕ) (known : Known) : Type 0 where
   pub last : Known
-  pub has : HasJoints tech n last
+  pub has : HasJoints tech n (k + m) last
   pub on : (number : ℕ) → after_lines tech [] known (lines_from number (filter_map (wire_at n) (range_with_len k m))) ≡ Ok last
 
-one_more : (tech : Tech) (n k m : ℕ) (known : Known) (wired : Bool) → is_wired n k ≡ wired → HasJoints tech n known → (is_wired n k ≡ true → IsTaken tech n k known) → ((next : Known) → HasJoints tech n next → Ends tech n (k + 1) m next) → Ends tech n k (suc m) known
+counted : (tech : Tech) (n k m : ℕ) (last : Known) → HasJoints tech n (k + 1 + m) last → HasJoints tech n (k + suc m) last
+counted tech n k m last has = let same : k + 1 + m ≡ k + suc m = omega arith in subst (λ i. HasJoints tech n i last) same has
+
+one_more : (tech : Tech) (n k m : ℕ) (known : Known) (wired : Bool) → is_wired n k ≡ wired → HasJoints tech n k known → (is_wired n k ≡ true → IsTaken tech n k known)
+    → ((next : Known) → HasJoints tech n (k + 1) next → Ends tech n (k + 1) m next) → Ends tech n k (suc m) known
 unfolding wire_at
 one_more tech n k m known false e has taken rest =
-    let behind = rest known has in
+    let behind = rest known (no_wire_joints tech n k known has) in
     let later = filter_map (wire_at n) (range_with_len (k + 1) m) in
     record {
       last = behind.last;
-      has = behind.has;
+      has = counted tech n k m behind.last behind.has;
       on = λ number. ap (λ b. after_lines tech [] known (lines_from number (cons_option (if b then Some (forms.Wire drawn.Metal (name_at n (k - 1)) (name_at n k) None) else None) later))) e ∙ behind.on number;
     }
 one_more tech n k m known true e has taken rest =
@@ -149,14 +181,14 @@ one_more tech n k m known true e has taken rest =
     let later = filter_map (wire_at n) (range_with_len (k + 1) m) in
     record {
       last = behind.last;
-      has = behind.has;
+      has = counted tech n k m behind.last behind.has;
       on = λ number. ap (λ b. after_lines tech [] known (lines_from number (cons_option (if b then Some (forms.Wire drawn.Metal (name_at n (k - 1)) (name_at n k) None) else None) later))) e
           ∙ ap (λ found. at_line number found >>= λ now. after_lines tech [] now (lines_from (number + 1) later)) next.1
           ∙ behind.on (number + 1);
     }
 
-pub all_wires : (tech : Tech) (n m k : ℕ) (known : Known) → n ≤ 64 → k + m ≤ n * n → HasJoints tech n known → Ends tech n k m known
-all_wires tech n zero k known few within has = record { last = known; has = has; on = λ number. refl }
+pub all_wires : (tech : Tech) (n m k : ℕ) (known : Known) → n ≤ 64 → k + m ≤ n * n → HasJoints tech n k known → Ends tech n k m known
+all_wires tech n zero k known few within has = record { last = known; has = subst (λ i. HasJoints tech n i known) (sym (add-zero k)) has; on = λ number. refl }
 all_wires tech n (suc m) k known few within has =
     let here : k < n * n = omega (arith, within) in
     let behind : k + 1 + m ≤ n * n = omega (arith, within) in

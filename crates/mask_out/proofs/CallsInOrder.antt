@@ -4,7 +4,7 @@ use Rattle.std.specs.List.{flat_map, range_with_len}
 use Rattle.std.proofs.lemmas.List.{map-append}
 use Rattle.plan_model.specs.Instances.{grid_at, spot, spots_in_row, spots_in_grid, left_of_grid}
 use Rattle.plan_model.specs.Rows.{row_at}
-use Rattle.mask_out.specs.declared.picture.Call.{Call}
+use Rattle.mask_out.specs.declared.drawing.Call.{Call}
 use Rattle.mask_out.specs.Pictures.{call_at, calls_of}
 use Rattle.mask_out.specs.RowCalls.{calls_in_row_at, calls_in_grid}
 

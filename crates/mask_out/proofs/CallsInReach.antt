@@ -6,7 +6,7 @@ use Rattle.list_facts.proofs.Elements.{all_map, all_flat, all_numbers, all_of}
 use Rattle.plan_model.specs.Instances.{Spot, spot, grid_at, spots_in_row, spots_in_grid, spots_of}
 use Rattle.plan_model.specs.Plan.{AreOfMasters}
 use Rattle.plan_model.specs.Rows.{row_at}
-use Rattle.mask_out.specs.declared.picture.Call.{Call}
+use Rattle.mask_out.specs.declared.drawing.Call.{Call}
 use Rattle.mask_out.specs.Pictures.{call_at, calls_of, IsDrawable, IsCallOf}
 
 -- the call of one instance

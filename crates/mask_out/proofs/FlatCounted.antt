@@ -4,7 +4,7 @@ use Rattle.std.specs.List.{sum_by}
 use Rattle.std.proofs.lemmas.List.{length-map}
 use Rattle.std.proofs.lemmas.List.Concat.{length-flat_map}
 use Rattle.std.proofs.lemmas.List.Sums.{sum_by-cons}
-use Rattle.mask_out.specs.declared.picture.Call.{Call}
+use Rattle.mask_out.specs.declared.drawing.Call.{Call}
 use Rattle.mask_out.specs.Pictures.{Drawing, shifted, masks_at, masks_called, flat_of, boxes_called}
 
 shifting_keeps : (drawings : List Drawing) (calls : List Call) → sum_by (λ (call : Call). length (masks_called drawings call)) calls ≡ boxes_called drawings calls

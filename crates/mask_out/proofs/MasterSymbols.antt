@@ -5,7 +5,7 @@ use Rattle.std.proofs.lemmas.List.{take_more, map-append}
 use Rattle.std.proofs.lemmas.Slice.Zip.{get_or-zip}
 use Rattle.sym_items.specs.declared.items.Coords.{Coords}
 use Rattle.expand.specs.declared.master.Master.{Master}
-use Rattle.mask_out.specs.declared.picture.Symbol.{Symbol}
+use Rattle.mask_out.specs.declared.drawing.Symbol.{Symbol}
 use Rattle.mask_out.specs.Masks.{Mask, mask_of, masks_in}
 use Rattle.mask_out.specs.Pictures.{Drawing, drawing_of, drawing_in}
 

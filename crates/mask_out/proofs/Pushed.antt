@@ -7,7 +7,7 @@ use Rattle.std.proofs.lemmas.List.FromFn.{map-range_with_len_more}
 use Rattle.list_facts.proofs.Pieces.{piece_added}
 use Rattle.plan_model.specs.Instances.{left_in_row, bottom_in_grid}
 use Rattle.plan_model.specs.Rows.{row_at}
-use Rattle.mask_out.specs.declared.picture.Call.{Call}
+use Rattle.mask_out.specs.declared.drawing.Call.{Call}
 use Rattle.mask_out.specs.RowCalls.{call_in_row, calls_in_row, calls_in_row_at}
 
 -- what stands at a place of the images, from the element there

@@ -3,8 +3,8 @@ use Rattle.std.proofs.Common.{◌≡◌, ℕ, ◌+◌, ◌^◌, ◌<◌, pos, ge
 use Rattle.std.proofs.lemmas.List.{take_more, map-append, length-map, append-nil}
 use Rattle.std.proofs.lemmas.List.Concat.{flat_map-append}
 use Rattle.lam_geom.specs.declared.boxes.MaskBox.{MaskBox}
-use Rattle.mask_out.specs.declared.picture.Call.{Call}
-use Rattle.mask_out.specs.declared.picture.Symbol.{Symbol}
+use Rattle.mask_out.specs.declared.drawing.Call.{Call}
+use Rattle.mask_out.specs.declared.drawing.Symbol.{Symbol}
 use Rattle.mask_out.specs.Masks.{Mask, mask_of}
 use Rattle.mask_out.specs.Pictures.{Drawing, drawing_of, no_drawing, shifted, masks_at, masks_called, flat_of, LiesWithin, CanBeFlattened}
 use Rattle.mask_out.proofs.Pushed.{image_at}

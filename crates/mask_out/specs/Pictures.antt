@@ -9,8 +9,8 @@ use Rattle.expand.specs.declared.master.Master.{Master}
 use Rattle.plan_model.specs.Instances.{Spot, grid_at, master_at_spot, spots_of, left_in_row, bottom_in_grid, left_of_grid, left_of, bottom_of}
 use Rattle.plan_model.specs.Rows.{row_at}
 use Rattle.mask_out.specs.Masks.{Mask, mask_of, masks_in}
-use Rattle.mask_out.specs.declared.picture.Symbol.{Symbol}
-use Rattle.mask_out.specs.declared.picture.Call.{Call}
+use Rattle.mask_out.specs.declared.drawing.Symbol.{Symbol}
+use Rattle.mask_out.specs.declared.drawing.Call.{Call}
 
 -- ---- symbols
 

@@ -3,7 +3,7 @@ use Rattle.std.specs.Prelude.{ℕ, ℤ, ◌+ℤ◌, List, length, map, flat_map,
 use Rattle.std.specs.List.{range_with_len}
 use Rattle.plan_model.specs.Instances.{left_in_row, bottom_in_grid}
 use Rattle.plan_model.specs.Rows.{row_at}
-use Rattle.mask_out.specs.declared.picture.Call.{Call}
+use Rattle.mask_out.specs.declared.drawing.Call.{Call}
 
 -- instance number c of a row, from the left border of the row's grid and the row's bottom
 abbrev pub call_in_row : (ℕ → ℤ) → ℤ → ℤ → List ℕ → ℕ → Call

@@ -7,7 +7,7 @@ ghost use Rattle.plan_model.specs.Plan.{grids_of};
 ghost use Rattle.mask_out.specs.Pictures.{calls_of, IsInReach, IsRowInReach, IsGridInReach, IsDrawable};
 ghost use Rattle.mask_out.specs.RowCalls.{calls_in_row, calls_in_grid};
 
-use crate::picture::Call;
+use crate::drawing::Call;
 use crate::sizes::{height_of_row, size_of, width_of_grid};
 use lam_geom::Axis;
 use plan_model::{Plan, PlanRow};

@@ -4,7 +4,7 @@ ghost use Rattle.lam_geom.specs.Places.{IsPlacedBox, IsPlacedSpan};
 ghost use Rattle.mask_out.specs.Masks.{mask_of};
 ghost use Rattle.mask_out.specs.Pictures.{drawing_of, shifted, flat_of, IsWithin, LiesWithin, CanBeFlattened};
 
-use crate::picture::{Call, Picture};
+use crate::drawing::{Call, Picture};
 use lam_geom::{BoxXY, MaskBox, Span};
 use std::alloc::{AllocError, Global};
 

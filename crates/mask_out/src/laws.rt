@@ -11,7 +11,7 @@ ghost use Rattle.plan_model.specs.Rows.{IsRectangular};
 ghost use Rattle.mask_out.specs.Masks.{masks_in};
 ghost use Rattle.mask_out.specs.Pictures.{drawing_of, flat_of, boxes_called, IsDrawable};
 
-use crate::picture::Picture;
+use crate::drawing::Picture;
 use cell_model::{Cell, Nets};
 use plan_model::Plan;
 use rule_table::Tech;

@@ -8,8 +8,8 @@ ghost use Rattle.plan_model.specs.Plan.{grids_of, AreOfMasters};
 ghost use Rattle.mask_out.specs.Pictures.{drawing_of, drawings_in, calls_of, HaveBoxes, IsDrawable, IsCallOf};
 
 use crate::calls::calls_in;
-use crate::picture::{Picture, Symbol};
-use crate::symbols::symbol_of;
+use crate::drawing::{Picture, Symbol};
+use crate::symbols::symbol;
 use expand::Master;
 use lam_list::Seq;
 use plan_model::Plan;
@@ -30,7 +30,7 @@ fn symbols_in(
 {
     let mut symbols = Vec::new(alloc);
     for m in 0..masters.len() {
-        let symbol = symbol_of(alloc, &masters[m], &coords[m])?;
+        let symbol = symbol(alloc, &masters[m], &coords[m])?;
         symbols.push(symbol)?;
     }
     Ok(symbols)
@@ -40,7 +40,7 @@ fn symbols_in(
 /// order, of each the rows from the bottom, and each row from the left. A call is shifted by the widths of the instances to
 /// its left and the heights of the rows below in its grid, and to the right by the widths of the grids before and the widest
 /// spacing for each of them. The only refusal is want of memory.
-pub fn picture_of(
+pub fn picture(
     alloc: Global,
     tech: &Tech,
     plan: &Plan,

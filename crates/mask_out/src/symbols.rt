@@ -4,7 +4,7 @@ ghost use Rattle.lam_geom.specs.Places.{IsPlacedBox};
 ghost use Rattle.sym_items.specs.Boxes.{HasBox};
 ghost use Rattle.mask_out.specs.Masks.{mask_of, layer_drawn, is_same_layer, is_drawn, masks_on, masks_in};
 
-use crate::picture::Symbol;
+use crate::drawing::Symbol;
 use expand::Master;
 use lam_geom::{MaskBox, MaskLayer};
 use lam_list::Seq;
@@ -67,7 +67,7 @@ fn push_layer(
 }
 
 /// The symbol of a master in a layout. The only refusal is want of memory.
-pub fn symbol_of(alloc: Global, master: &Master, coords: &Coords) -> Result<Symbol, AllocError>
+pub fn symbol(alloc: Global, master: &Master, coords: &Coords) -> Result<Symbol, AllocError>
     requires { All (HasBox coords.now) master.now.items.list }
     ensures name { IfOk result (λ s. s.name ≡ master.now.cell.name) }
     ensures placed { IfOk result (λ s. All (λ box. IsPlacedBox box.area) s.boxes) }

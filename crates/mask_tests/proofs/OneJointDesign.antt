@@ -7,34 +7,31 @@ use Rattle.rule_table.specs.declared.technology.Tech.{Tech}
 use Rattle.rule_table.specs.declared.keys.Numbers.{Numbers}
 use Rattle.rule_table.specs.declared.classes.Class.TheVariants.{M}
 use Rattle.rule_table.specs.declared.classes.Layer.TheVariants.{Metal}
-use Rattle.rule_table.specs.Keys.{has_buried}
-use Rattle.rule_table.specs.Spacing.{spacing_in, greatest, margin_in, widest_in, width_in}
-use Rattle.rule_table.specs.Technology.{numbers_of, widest_of, margin_of, width_of, shipped_numbers}
+use Rattle.rule_table.specs.Spacing.{width_in}
+use Rattle.rule_table.specs.Technology.{numbers_of, width_of, shipped_numbers}
 use Rattle.sym_items.specs.declared.items.Coords.{Coords}
 use Rattle.sym_items.specs.declared.items.Item.{Item}
 use Rattle.sym_items.specs.declared.items.Items.{Items}
 use Rattle.sym_items.specs.Boxes.{HasBox}
-use Rattle.sym_items.specs.Layouts.{layout_at, value_in}
-use Rattle.cons_graph.specs.Solutions.{Meets}
+use Rattle.sym_items.specs.Layouts.{layout_at}
+use Rattle.sym_items.specs.Sides.{sides_in}
 use Rattle.cell_model.specs.declared.cell.Cell.{Cell}
 use Rattle.cell_model.specs.Ports.{ports_of_cell}
 use Rattle.cell_model.specs.Sound.{IsSound}
 use Rattle.expand.specs.declared.master.Master.{Master}
 use Rattle.expand.specs.Items.{nets_at, item_list, AreItems}
-use Rattle.expand.specs.Laws.{MeetsStructure}
 use Rattle.expand.specs.Masters.{IsMaster}
 use Rattle.expand.specs.NodeItems.{square_round}
-use Rattle.expand.specs.Structure.{size_edge, margin_edges, structure_of}
-use Rattle.pair_rules.specs.Bound.{bound_spacing}
-use Rattle.pair_rules.specs.Clean.{IsClean}
+use Rattle.pair_rules.specs.Bound.{item_at}
 use Rattle.plan_model.specs.Borders.{FitsAt}
 use Rattle.plan_model.specs.Plan.{grids_of, borders_of, pitch_in, pitch_of, matches_in, ports_matched, AreOfMasters, IsPlanOver}
+use Rattle.plan_model.specs.Instances.{master_at_spot}
 use Rattle.plan_model.specs.Rows.{IsRectangular}
-use Rattle.pitch_join.specs.Layouts.{AreEquallyLong, LieOnOneLine}
 use Rattle.pitch_join.specs.Masters.{ArePlanned, master_at}
 use Rattle.mask_out.specs.Pictures.{HaveBoxes}
-use Rattle.grid_rules.specs.Rules.{AreFinished}
-use Rattle.grid_rules.specs.Shapes.{shapes_of}
+use Rattle.grid_rules.specs.Shapes.{drawn_items, shapes_of}
+use Rattle.design_nets.specs.Shapes.{drawn_in}
+use Rattle.design_nets.specs.Transistors.{LiesNear, BoxesLieNear}
 use Rattle.list_facts.proofs.Elements.{all_of}
 use Rattle.mask_tests.specs.OneJoint.{cell, plan, layout}
 
@@ -102,66 +99,6 @@ planned tech master e same items = record {
   planned = subst (λ (c : Cell). IsPlanOver (ports_of_cell c ∷ []) plan) (sym same) plan_over;
 }
 
--- ---- the layout
-
-widest : (tech : Tech) → numbers_of tech ≡ shipped_numbers → widest_of tech ≡ pos 6
-unfolding widest_in margin_in spacing_in greatest has_buried
-widest tech e = ap widest_in e
-
-margin : (tech : Tech) → numbers_of tech ≡ shipped_numbers → margin_of tech M ≡ pos 6
-unfolding margin_in spacing_in greatest has_buried
-margin tech e = ap (λ (n : Numbers). margin_in n M) e
-
-meets : (axis : Axis) (tech : Tech) (net : ℕ) → numbers_of tech ≡ shipped_numbers → All (Meets (value_in axis (layout ∷ []) 0)) (structure_of axis tech cell (item net ∷ []))
-unfolding structure_of
-meets X tech net e =
-    let wide = widest tech e in
-    let far = margin tech e in
-    all_of (Meets (value_in X (layout ∷ []) 0)) (size_edge tech ∷ margin_edges tech (item net)) (omega (arith, ints, wide), (omega (arith, ints, far), (omega (arith, ints, far), tt)))
-meets Y tech net e =
-    let wide = widest tech e in
-    let far = margin tech e in
-    all_of (Meets (value_in Y (layout ∷ []) 0)) (size_edge tech ∷ margin_edges tech (item net)) (omega (arith, ints, wide), (omega (arith, ints, far), (omega (arith, ints, far), tt)))
-
-origin : (axis : Axis) → value_in axis (layout ∷ []) 0 0 ≡ pos 0
-origin X = refl
-origin Y = refl
-
-no_borders : (axis : Axis) → All (AreEquallyLong axis (layout ∷ [])) (pitch_in axis plan)
-no_borders X k d lt = absurd (omega arith)
-no_borders Y k d lt = absurd (omega arith)
-
-no_lines : (axis : Axis) (masters : List Master) → All (LieOnOneLine axis masters (layout ∷ [])) (matches_in axis plan)
-no_lines X masters k d lt = absurd (omega arith)
-no_lines Y masters k d lt = absurd (omega arith)
-
--- an item is not bound to itself
-clean_alone : (tech : Tech) (net : ℕ) → IsClean tech layout (item net ∷ [])
-unfolding bound_spacing
-clean_alone tech net zero zero i_among j_among = tt
-clean_alone tech net (suc i) j i_among j_among = absurd (omega arith)
-clean_alone tech net zero (suc j) i_among j_among = absurd (omega arith)
-
-is_clean : (tech : Tech) (master : Master) → AreItems tech cell master.items
-    → (m : ℕ) → m < 1 → IsClean tech (layout_at (layout ∷ []) m) (master_at (master ∷ []) m).items.list
-is_clean tech master items zero lt = subst (λ (is : List Item). IsClean tech layout is) (sym (one_item tech master.items items)) (clean_alone tech (net_of tech master.items items))
-is_clean tech master items (suc m) lt = absurd (omega arith)
-
-structured : (axis : Axis) (tech : Tech) (master : Master) → numbers_of tech ≡ shipped_numbers → master.cell ≡ cell → AreItems tech cell master.items
-    → (m : ℕ) → m < 1 → MeetsStructure axis tech (master_at (master ∷ []) m) (value_in axis (layout ∷ []) m)
-structured axis tech master e same items zero lt = record { origin = origin axis; meets = rw (same, one_item tech master.items items) (meets axis tech (net_of tech master.items items) e) }
-structured axis tech master e same items (suc m) lt = absurd (omega arith)
-
-pub finished : (tech : Tech) (master : Master) → numbers_of tech ≡ shipped_numbers → master.cell ≡ cell → AreItems tech cell master.items → AreFinished tech plan (master ∷ []) (layout ∷ [])
-finished tech master e same items = record {
-  clean = is_clean tech master items;
-  meet = λ axis. record {
-    structures = structured axis tech master e same items;
-    borders = no_borders axis;
-    lines = no_lines axis (master ∷ []);
-  };
-}
-
 -- ---- boxes
 
 box_alone : (net : ℕ) → All (HasBox layout) (item net ∷ [])
@@ -179,6 +116,20 @@ boxes_in tech master items (suc m) d lt = absurd (omega arith)
 
 pub boxes : (tech : Tech) (master : Master) (l : Coords) → l ≡ layout → AreItems tech cell master.items → HaveBoxes (l ∷ []) (master ∷ [])
 boxes tech master l e items = subst (λ (k : Coords). HaveBoxes (k ∷ []) (master ∷ [])) (sym e) (boxes_in tech master items)
+
+-- it lies near
+near_alone : (net : ℕ) → All (λ n. LiesNear (sides_in layout (item_at (item net ∷ []) n))) (drawn_items (item net ∷ []))
+near_alone net =
+    all_of (λ n. LiesNear (sides_in layout (item_at (item net ∷ []) n))) (0 ∷ []) (record { left = omega (arith, ints); right = omega (arith, ints); bottom = omega (arith, ints); top = omega (arith, ints) }, tt)
+
+near_in : (tech : Tech) (master : Master) → AreItems tech cell master.items
+    → (m : ℕ) → All (λ n. LiesNear (sides_in (layout_at (layout ∷ []) m) (item_at (master_at (master ∷ []) m).items.list n))) (drawn_in (master_at (master ∷ []) m))
+near_in tech master items zero =
+    subst (λ (is : List Item). All (λ n. LiesNear (sides_in layout (item_at is n))) (drawn_items is)) (sym (one_item tech master.items items)) (near_alone (net_of tech master.items items))
+near_in tech master items (suc m) = λ j d lt. absurd (omega (arith, lt))
+
+pub near : (tech : Tech) (master : Master) (c : Coords) → c ≡ layout → AreItems tech cell master.items → BoxesLieNear plan (master ∷ []) (c ∷ [])
+near tech master c is items = subst (λ (z : Coords). BoxesLieNear plan (master ∷ []) (z ∷ [])) (sym is) (λ p at. near_in tech master items (master_at_spot (grids_of plan) p))
 
 pub few : (tech : Tech) (master : Master) → AreItems tech cell master.items → length (shapes_of plan (master ∷ [])) ≤ 2 ^ 20
 few tech master items = rw (one_item tech master.items items) (omega arith)

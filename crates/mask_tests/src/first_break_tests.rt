@@ -1,7 +1,7 @@
 //! The first break, found in pieces that run beside each other.
-use crate::boxes_of_tests::{Row, boxes_of};
-use flat_check::{Break, Rule, first_break, first_break_split};
-use lam_geom::MaskLayer::NM;
+use crate::boxes_of_tests::boxes_in;
+use crate::flat_check_tests::told;
+use flat_check::{first_break, first_break_split};
 use lam_io::{Gate, OpenGate};
 use rule_table::Tech;
 use std::sync::atomic::{AtomicBool, AtomicU64, Ordering};
@@ -11,8 +11,8 @@ use std::thread;
 // How often one of two pieces looks for the other.
 const TURNS: u32 = 1 << 24;
 
-// A gate at which pieces 0 and 1 wait for each other where they first arrive. It counts how often either arrived and saw the
-// other.
+// A gate at which pieces 0 and 1 wait for each other where they first arrive. It counts how often either arrived and
+// saw the other.
 #[derive(Drop)]
 struct Meeting {
     doors: [AtomicBool; 2],
@@ -46,25 +46,15 @@ impl Gate for Meeting {
 }
 
 // Two metal boxes that are too near, and others before and behind them that keep off.
-const METAL: [Row; 5] = [
-    Row(NM, 0, 0, 1800, 1800),
-    Row(NM, 0, 9000, 1800, 1800),
-    Row(NM, 9000, 0, 1800, 1800),
-    Row(NM, 9000, 9000, 1800, 1800),
-    Row(NM, 9000, 3599, 1800, 1800),
-];
+const METAL: &str =
+    "NM 0 0 1800 1800, NM 0 9000 1800 1800, NM 9000 0 1800 1800, NM 9000 9000 1800 1800, NM 9000 3599 1800 1800";
 
 #[test]
 fn pieces_meet_under_each_rule(rt: HostRuntime) -> Result<(), Fail> {
-    let boxes = boxes_of(rt.alloc(), &METAL)?;
+    let boxes = boxes_in(rt.alloc(), METAL)?;
     let gate = Meeting::new();
     let first = first_break_split(&rt, rt.alloc(), &gate, &Tech::shipped(), &boxes, 2)?;
-    let expected = Break {
-        rule: Rule::MetalSpacing,
-        a: 2,
-        b: 4,
-    };
-    assert_eq!(rt; first, Some(expected));
+    assert_eq!(rt; told(rt.alloc(), first)?.as_str(), "6 2 4");
     // The spacing of poly and diffusion, the cover of cuts, and the spacing of metal.
     assert_eq!(rt; gate.arrivals.load(Ordering::SeqCst), 6);
     assert_eq!(rt; gate.meetings.load(Ordering::SeqCst), 6);
@@ -73,7 +63,7 @@ fn pieces_meet_under_each_rule(rt: HostRuntime) -> Result<(), Fail> {
 
 #[test]
 fn each_number_of_pieces_gives_the_same(rt: HostRuntime) -> Result<(), Fail> {
-    let boxes = boxes_of(rt.alloc(), &METAL)?;
+    let boxes = boxes_in(rt.alloc(), METAL)?;
     let first = first_break(rt.alloc(), &Tech::shipped(), &boxes)?;
     for pieces in 1..65 {
         let split = first_break_split(

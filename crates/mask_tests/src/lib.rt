@@ -1,4 +1,5 @@
-//! Tests of the crates that write and read masks and look at what they make: nets, transistors and kept rules. There is no other code.
+//! Tests of the crates that write and read masks and look at what they make: nets, transistors and kept rules. There is
+//! no other code.
 #![tactic(auto)]
 
 #[cfg(test)]
@@ -7,8 +8,6 @@ mod box_tree_tests;
 mod boxes_of_tests;
 #[cfg(test)]
 mod cif_answers_tests;
-#[cfg(test)]
-mod cif_foreign_tests;
 #[cfg(test)]
 mod cif_lex_tests;
 #[cfg(test)]

@@ -2,12 +2,12 @@
 ghost use Rattle.std.specs.Prelude.{◌≡◌, IfOk};
 ghost use Rattle.mask_out.specs.Worked as worked;
 
+use crate::boxes_of_tests::words_of;
 use crate::shared_by_tests::crosses_threads;
 use cell_model::Cell;
 use expand::Master;
-use lam_geom::{BoxXY, MaskBox, MaskLayer, Span};
 use lam_list::Seq;
-use mask_out::symbol_of;
+use mask_out::symbol;
 use rule_table::Class;
 use std::alloc::{AllocError, Global};
 use std::test::Fail;
@@ -34,8 +34,8 @@ fn square(class: Class, var: u32, half: u8) -> Item
     }
 }
 
-// A diffusion contact, whose conducting piece is no box, and a metal joint; a window round the one, an implant round the
-// other.
+// A diffusion contact, whose conducting piece is no box, and a metal joint; a window round the one, an implant round
+// the other.
 fn squares(alloc: Global) -> Result<Seq<Item>, AllocError>
     ensures { IfOk result (λ items. items ≡ worked.squares) }
 {
@@ -82,38 +82,11 @@ fn boxes_come_layer_by_layer(rt: HostRuntime) -> Result<(), Fail> {
             y_vars: 3,
         },
     };
-    let symbol = symbol_of(alloc, &master, &layout(alloc)?)?;
-    let pad = Span { lo: 8, hi: 16 };
-    let cut = Span { lo: 10, hi: 14 };
-    let window = Span { lo: 6, hi: 18 };
-    let joint = BoxXY {
-        x: Span { lo: 27, hi: 33 },
-        y: Span { lo: 9, hi: 15 },
-    };
-    let implant = BoxXY {
-        x: Span { lo: 25, hi: 35 },
-        y: Span { lo: 7, hi: 17 },
-    };
-    let drawn = |layer, area| MaskBox { layer, area };
+    let symbol = symbol(alloc, &master, &layout(alloc)?)?;
     crosses_threads(&symbol);
     assert_eq!(rt; symbol.name.bytes(), b"c".as_slice());
-    assert_eq!(rt;
-        symbol.boxes.as_slice(),
-        [
-            drawn(MaskLayer::ND, BoxXY { x: pad, y: pad }),
-            drawn(MaskLayer::NC, BoxXY { x: cut, y: cut }),
-            drawn(MaskLayer::NM, BoxXY { x: pad, y: pad }),
-            drawn(MaskLayer::NM, joint),
-            drawn(MaskLayer::NI, implant),
-            drawn(
-                MaskLayer::NB,
-                BoxXY {
-                    x: window,
-                    y: window
-                }
-            ),
-        ]
-        .as_slice()
-    );
+    let boxes = words_of(alloc, symbol.boxes.as_slice())?;
+    let wanted = "ND 8 8 8 8, NC 10 10 4 4, NM 8 8 8 8, NM 27 9 6 6, NI 25 7 10 10, NB 6 6 12 12";
+    assert_eq!(rt; boxes.as_str(), wanted);
     Ok(())
 }

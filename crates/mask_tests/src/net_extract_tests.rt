@@ -1,123 +1,120 @@
 //! Nets and transistors of a few boxes.
-ghost use Rattle.std.specs.Prelude.{◌≤◌, length};
 
-use crate::boxes_of_tests::{Row, boxes_of, span};
-use lam_geom::BoxXY;
-use lam_geom::MaskLayer::{NB, NC, ND, NM, NP};
+use crate::boxes_of_tests::{boxes_in, case_in, words_of};
+use lam_geom::{MaskBox, MaskLayer};
 use net_extract::{Device, ExtractFault, Netlist, Part, Piece, extract};
 use rule_table::Tech;
 use std::alloc::Global;
+use std::process::Abort;
 use std::test::Fail;
 
-fn extracted(alloc: Global, tech: &Tech, rows: &[Row]) -> Result<Netlist, ExtractFault>
-    requires { length rows.now ≤ 32 }
-{
-    let boxes = boxes_of(alloc, rows)?;
-    extract(alloc, tech, &boxes)
+fn extracted(
+    alloc: Global,
+    tech: &Tech,
+    boxes: &str,
+) -> Result<Result<Netlist, ExtractFault>, Fail> {
+    Ok(extract(alloc, tech, &boxes_in(alloc, boxes)?))
 }
 
-fn count(alloc: Global, tech: &Tech, rows: &[Row]) -> Result<u32, ExtractFault>
-    requires { length rows.now ≤ 32 }
-{
-    let list = extracted(alloc, tech, rows)?;
-    Ok(list.nets)
+// How many nets some boxes have, or why they have none.
+fn count(alloc: Global, tech: &Tech, boxes: &str) -> Result<String, Fail> {
+    let words = match extracted(alloc, tech, boxes)? {
+        Ok(list) => format!(in alloc; "{}", list.nets),
+        Err(fault) => format!(in alloc; "{fault:?}"),
+    };
+    Ok(words?)
 }
-
-fn piece(box_no: u32, part: Part, net: u32) -> Piece {
-    Piece { box_no, part, net }
-}
-
-const DIFFUSION: Row = Row(ND, 2400, 1800, 1200, 3600);
-
-const POLY: Row = Row(NP, 1200, 3000, 3600, 1200);
 
 #[test]
 fn a_transistor_has_three_nets(rt: HostRuntime) -> Result<(), Fail> {
-    let list = extracted(rt.alloc(), &Tech::shipped(), &[DIFFUSION, POLY])?;
+    let boxes = "ND 2400 1800 1200 3600, NP 1200 3000 3600 1200";
+    let list = extracted(rt.alloc(), &Tech::shipped(), boxes)??;
+    let piece = |box_no, part, net| Piece { box_no, part, net };
     let pieces = [
         piece(0, Part::Low, 0),
         piece(0, Part::High, 1),
         piece(1, Part::Whole, 2),
     ];
-    let device = Device {
-        gate: 2,
-        low: 0,
-        high: 1,
-        w: 1200,
-        l: 1200,
-        depletion: false,
-        channel: BoxXY {
-            x: span(2400, 1200),
-            y: span(3000, 1200),
-        },
-    };
     assert_eq!(rt; list.pieces.as_slice(), pieces.as_slice());
     assert_eq!(rt; list.nets, 3);
-    assert_eq!(rt; list.devices.as_slice(), [device].as_slice());
+    let [device] = list.devices.as_slice() else {
+        return Err("another number of devices")?;
+    };
+    let Device {
+        gate,
+        low,
+        high,
+        w,
+        l,
+        depletion,
+        channel,
+    } = *device;
+    assert_eq!(rt;
+        (gate, low, high, w, l, depletion),
+        (2, 0, 1, 1200, 1200, false)
+    );
+    let channel = MaskBox {
+        layer: MaskLayer::ND,
+        area: channel,
+    };
+    let place = words_of(rt.alloc(), [channel].as_slice())?;
+    assert_eq!(rt; place.as_str(), "ND 2400 3000 1200 1200");
+    Ok(())
+}
+
+// The nets of a transistor under a cut over all of it, and over its low end; of metal that touches, that is apart, and
+// that is apart under a cut over both and over one; and of poly and diffusion under a window that is nothing.
+const SHIPPED: &str = "
+1: ND 2400 1800 1200 3600, NP 1200 3000 3600 1200, NC 2400 2400 1200 2400
+3: ND 2400 1800 1200 3600, NP 1200 3000 3600 1200, NC 2400 1800 1200 1200
+1: NM 0 0 1200 1200, NM 1200 1200 1200 1200
+2: NM 0 0 1200 1200, NM 1800 0 1200 1200
+1: NM 0 0 1200 1200, NM 1800 0 1200 1200, NC 600 0 1800 600
+2: NM 0 0 1200 1200, NM 1800 0 1200 1200, NC 600 0 1200 600
+NotProper(0, 1): ND -1200 -1200 2400 2400, NP -600 -1200 2400 2400, NB -1800 -2400 4200 4800
+";
+
+const BURIED: &str =
+    "1: ND -1200 -1200 2400 2400, NP -600 -1200 2400 2400, NB -1800 -2400 4200 4800";
+
+// As many nets are in each case of a table as it says.
+fn assert_counts<A: Abort>(rt: &A, alloc: Global, tech: &Tech, table: &str) -> Result<(), Fail> {
+    for line in table.lines() {
+        if let Some((nets, boxes)) = case_in(line)? {
+            assert_eq!(rt; count(alloc, tech, boxes)?.as_str(), nets, "{line}");
+        }
+    }
     Ok(())
 }
 
 #[test]
 fn links_make_nets(rt: HostRuntime) -> Result<(), Fail> {
-    let old = Tech::shipped();
-    let new = Tech::shipped2();
-    let cut_over_all = Row(NC, 2400, 2400, 1200, 2400);
-    let cut_over_low = Row(NC, 2400, 1800, 1200, 1200);
-    let metal = Row(NM, 0, 0, 1200, 1200);
-    let next = Row(NM, 1200, 1200, 1200, 1200);
-    let apart = Row(NM, 1800, 0, 1200, 1200);
-    let under_both = Row(NC, 600, 0, 1800, 600);
-    let under_one = Row(NC, 600, 0, 1200, 600);
-    let buried_diffusion = Row(ND, -1200, -1200, 2400, 2400);
-    let buried_poly = Row(NP, -600, -1200, 2400, 2400);
-    let window = Row(NB, -1800, -2400, 4200, 4800);
-    let alloc = rt.alloc();
-    assert_eq!(rt; count(alloc, &old, &[DIFFUSION, POLY, cut_over_all])?, 1);
-    assert_eq!(rt; count(alloc, &old, &[DIFFUSION, POLY, cut_over_low])?, 3);
-    assert_eq!(rt; count(alloc, &old, &[metal, next])?, 1);
-    assert_eq!(rt; count(alloc, &old, &[metal, apart])?, 2);
-    assert_eq!(rt; count(alloc, &old, &[metal, apart, under_both])?, 1);
-    assert_eq!(rt; count(alloc, &old, &[metal, apart, under_one])?, 2);
-    assert_eq!(rt;
-        count(alloc, &new, &[buried_diffusion, buried_poly, window])?,
-        1
-    );
-    assert_eq!(rt;
-        count(alloc, &old, &[buried_diffusion, buried_poly, window]).err(),
-        Some(ExtractFault::NotProper(0, 1))
-    );
-    Ok(())
+    assert_counts(&rt, rt.alloc(), &Tech::shipped(), SHIPPED)?;
+    assert_counts(&rt, rt.alloc(), &Tech::shipped2(), BURIED)
 }
 
-// A cut, and seventeen strips of metal over it, each apart from the others.
-const CROWD: [Row; 18] = [
-    Row(NC, 300, 0, 600, 9900),
-    Row(NM, 0, 0, 1200, 300),
-    Row(NM, 0, 600, 1200, 300),
-    Row(NM, 0, 1200, 1200, 300),
-    Row(NM, 0, 1800, 1200, 300),
-    Row(NM, 0, 2400, 1200, 300),
-    Row(NM, 0, 3000, 1200, 300),
-    Row(NM, 0, 3600, 1200, 300),
-    Row(NM, 0, 4200, 1200, 300),
-    Row(NM, 0, 4800, 1200, 300),
-    Row(NM, 0, 5400, 1200, 300),
-    Row(NM, 0, 6000, 1200, 300),
-    Row(NM, 0, 6600, 1200, 300),
-    Row(NM, 0, 7200, 1200, 300),
-    Row(NM, 0, 7800, 1200, 300),
-    Row(NM, 0, 8400, 1200, 300),
-    Row(NM, 0, 9000, 1200, 300),
-    Row(NM, 0, 9600, 1200, 300),
-];
+// A first box, and so many strips of metal, each apart from the others.
+fn strips(alloc: Global, first: &str, count: u32) -> Result<String, Fail> {
+    let mut boxes = String::from_str(alloc, first)?;
+    for k in 0..count {
+        write!(boxes, ", NM 0 {} 1200 300", k.wrapping_mul(600))?;
+    }
+    Ok(boxes)
+}
 
 #[test]
 fn a_cut_joins_few_strips_and_many(rt: HostRuntime) -> Result<(), Fail> {
-    let old = Tech::shipped();
-    let alloc = rt.alloc();
-    assert_eq!(rt; count(alloc, &old, &CROWD[..3])?, 1);
-    assert_eq!(rt; count(alloc, &old, &CROWD[..17])?, 1);
-    assert_eq!(rt; count(alloc, &old, &CROWD)?, 1);
-    assert_eq!(rt; count(alloc, &old, &CROWD[1..])?, 17);
+    let cut = "NC 300 0 600 9900";
+    let poly = "NP 9000 0 1200 1200";
+    for (first, strips_of, nets) in [
+        (cut, 2, "1"),
+        (cut, 16, "1"),
+        (cut, 17, "1"),
+        (poly, 17, "18"),
+    ] {
+        let boxes = strips(rt.alloc(), first, strips_of)?;
+        let found = count(rt.alloc(), &Tech::shipped(), &boxes)?;
+        assert_eq!(rt; found.as_str(), nets, "{boxes}");
+    }
     Ok(())
 }

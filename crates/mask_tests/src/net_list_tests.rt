@@ -23,14 +23,23 @@ fn boxes_on(alloc: Global, counts: &[(MaskLayer, usize)]) -> Result<Vec<MaskBox>
     Ok(boxes)
 }
 
-fn pieces_of(alloc: Global, pieces: &[(u32, Part, u32)]) -> Result<Seq<Piece>, AllocError> {
+// A piece by the number of its box, its part and its net.
+fn piece_of(words: &str) -> Option<Piece> {
+    let mut words = words.split_whitespace();
+    let box_no = words.next()?.parse().ok()?;
+    let part = match words.next()? {
+        "L" => Part::Low,
+        "H" => Part::High,
+        _ => Part::Whole,
+    };
+    let net = words.next()?.parse().ok()?;
+    Some(Piece { box_no, part, net })
+}
+
+fn pieces_of(alloc: Global, line: &str) -> Result<Seq<Piece>, Fail> {
     let mut made = Vec::new(alloc);
-    for (box_no, part, net) in pieces {
-        made.push(Piece {
-            box_no: *box_no,
-            part: *part,
-            net: *net,
-        })?;
+    for words in line.split(',') {
+        made.push(piece_of(words).ok_or("no piece")?)?;
     }
     Ok(Seq::from_vec(made))
 }
@@ -67,40 +76,12 @@ fn devices() -> [Device; 2] {
     [pull_down, load]
 }
 
-// The pieces into which the masks of an inverter fall, in the order of its symbol, and their nets.
-const PIECES: [(u32, Part, u32); 31] = [
-    (0, Part::Whole, 0),
-    (1, Part::Low, 0),
-    (1, Part::High, 1),
-    (2, Part::Whole, 1),
-    (3, Part::Low, 1),
-    (3, Part::High, 2),
-    (4, Part::Whole, 2),
-    (5, Part::Whole, 0),
-    (6, Part::Whole, 1),
-    (7, Part::Whole, 1),
-    (8, Part::Whole, 2),
-    (9, Part::Whole, 3),
-    (10, Part::Whole, 1),
-    (11, Part::Whole, 1),
-    (12, Part::Whole, 1),
-    (13, Part::Whole, 3),
-    (14, Part::Whole, 1),
-    (15, Part::Whole, 1),
-    (21, Part::Whole, 0),
-    (22, Part::Whole, 1),
-    (23, Part::Whole, 2),
-    (24, Part::Whole, 1),
-    (25, Part::Whole, 1),
-    (26, Part::Whole, 1),
-    (27, Part::Whole, 0),
-    (28, Part::Whole, 0),
-    (29, Part::Whole, 2),
-    (30, Part::Whole, 2),
-    (31, Part::Whole, 1),
-    (32, Part::Whole, 1),
-    (33, Part::Whole, 1),
-];
+// The pieces into which the masks of an inverter fall, in the order of its symbol, and their nets: whole, or low or
+// high of a channel.
+const PIECES: &str =
+    "0 W 0, 1 L 0, 1 H 1, 2 W 1, 3 L 1, 3 H 2, 4 W 2, 5 W 0, 6 W 1, 7 W 1, 8 W 2, 9 W 3, 10 W 1, 11 W 1, 12 W 1, \
+    13 W 3, 14 W 1, 15 W 1, 21 W 0, 22 W 1, 23 W 2, 24 W 1, 25 W 1, 26 W 1, 27 W 0, 28 W 0, 29 W 2, 30 W 2, \
+    31 W 1, 32 W 1, 33 W 1";
 
 #[test]
 fn an_inverter_has_four_nets_and_two_devices(rt: HostRuntime) -> Result<(), Fail> {
@@ -114,7 +95,7 @@ fn an_inverter_has_four_nets_and_two_devices(rt: HostRuntime) -> Result<(), Fail
     ];
     let boxes = boxes_on(alloc, &layers)?;
     let list = Netlist {
-        pieces: pieces_of(alloc, &PIECES)?,
+        pieces: pieces_of(alloc, PIECES)?,
         nets: 4,
         devices: Seq::from_vec(devices().to_vec(alloc)?),
     };

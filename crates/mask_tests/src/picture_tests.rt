@@ -5,6 +5,7 @@ ghost use Rattle.mask_out.specs.Masks.{mask_of};
 ghost use Rattle.mask_out.specs.Pictures.{drawing_of};
 ghost use Rattle.mask_out.specs.Worked as worked;
 
+use crate::boxes_of_tests::words_of;
 use lam_geom::{BoxXY, MaskBox, MaskLayer, Span};
 use lam_list::Seq;
 use mask_out::{Call, Picture, Symbol, flat};
@@ -71,37 +72,10 @@ fn picture(alloc: Global) -> Result<Picture, AllocError>
     })
 }
 
-// Its boxes.
-fn boxes(alloc: Global) -> Result<Vec<MaskBox>, AllocError> {
-    flat(alloc, &picture(alloc)?)
-}
-
 #[test]
 fn boxes_are_shifted_call_by_call(rt: HostRuntime) -> Result<(), Fail> {
-    let drawn = |layer, x, y| MaskBox {
-        layer,
-        area: BoxXY { x, y },
-    };
-    let side = Span { lo: 0, hi: 6 };
-    let wide = Span { lo: 38, hi: 44 };
-    let high = Span { lo: 0, hi: 8 };
-    assert_eq!(rt;
-        boxes(rt.alloc())?.as_slice(),
-        [
-            drawn(MaskLayer::NM, side, side),
-            drawn(
-                MaskLayer::ND,
-                Span { lo: 39, hi: 43 },
-                Span { lo: 2, hi: 4 }
-            ),
-            drawn(MaskLayer::NM, wide, high),
-            drawn(
-                MaskLayer::NM,
-                Span { lo: 6, hi: 12 },
-                Span { lo: 27, hi: 33 }
-            ),
-        ]
-        .as_slice()
-    );
+    let boxes = flat(rt.alloc(), &picture(rt.alloc())?)?;
+    let wanted = "NM 0 0 6 6, ND 39 2 4 2, NM 38 0 6 8, NM 6 27 6 6";
+    assert_eq!(rt; words_of(rt.alloc(), &boxes)?.as_str(), wanted);
     Ok(())
 }

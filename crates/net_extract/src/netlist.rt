@@ -7,6 +7,7 @@ use crossings::CrossingFault;
 use lam_geom::BoxXY;
 use lam_list::Seq;
 use std::alloc::AllocError;
+use thiserror::Error;
 
 /// Which part of a box a piece is: all of it, or of crossed diffusion what lies before or behind the channel.
 #[derive(Clone, Copy, Debug, PartialEq, Eq)]
@@ -47,9 +48,11 @@ pub struct Netlist {
 
 /// Why nothing was extracted: the first pair of poly and diffusion that overlap, are no buried pair and do not cross properly, or of
 /// which one overlaps a further box of the other's layer; or want of memory.
-#[derive(Clone, Copy, Debug, PartialEq, Eq)]
+#[derive(Clone, Copy, Debug, PartialEq, Eq, Error)]
 pub enum ExtractFault {
+    #[error("poly and diffusion do not cross properly")]
     NotProper(u32, u32),
+    #[error("out of memory")]
     OutOfMemory,
 }
 

@@ -19,8 +19,8 @@ use Rattle.pitch_join.specs.Joined.{base_of, joint_variables, shifted, space_edg
 use Rattle.pitch_join.specs.Spaces.{EndsBelow}
 use Rattle.pitch_join.proofs.Bases.{base_within}
 use Rattle.shadow_prune.specs.declared.keeping.KeptFault.{KeptFault}
-use Rattle.shadow_prune.specs.declared.keeping.KeptFault.TheVariants.{TooMany, OutOfMemory}
-use Rattle.shadow_prune.specs.KeptFaults.{RefusesKept}
+use Rattle.shadow_prune.specs.KeptFaults.{RefusesExactly, RefusesKept}
+use Rattle.shadow_prune.proofs.KeptSoFar.{more_for}
 use Rattle.pass_run.specs.Laid.{IsLaidOut, AreLaidOut}
 use Rattle.pass_run.specs.OneMaster.{own_kept_edges}
 use Rattle.pass_run.specs.Passes.{kept_count}
@@ -67,13 +67,9 @@ own_counted axis tech masters layouts m master c is at =
 
 -- ---- refusals
 
-refused_more : (limit few many : ℕ) (fault : KeptFault) → few ≤ many → RefusesKept limit few fault → RefusesKept limit many fault
-refused_more limit few many TooMany le h = omega arith
-refused_more limit few many OutOfMemory le h = tt
-
 -- where the kept pairs of the first masters and of master m are too many, those of all are
 pub refused_so_far : (axis : Axis) (tech : Tech) (masters : List Master) (layouts : List Coords) (m limit count : ℕ) (old now : List Edge) (fault : KeptFault) → m < length masters
-    → now ≡ old ++ flat_map (kept_edges_at axis tech masters layouts) (range_with_len 0 m) → count ≡ kept_count axis tech masters layouts m → RefusesKept limit (length now + count) fault
+    → now ≡ old ++ flat_map (kept_edges_at axis tech masters layouts) (range_with_len 0 m) → count ≡ kept_count axis tech masters layouts m → RefusesExactly limit (length now + count) fault
     → RefusesKept limit (length (old ++ flat_map (kept_edges_at axis tech masters layouts) (master_numbers masters))) fault
 refused_so_far axis tech masters layouts m limit count old now fault lt is is_count refused =
     let piece : ℕ → List Edge = kept_edges_at axis tech masters layouts in
@@ -88,4 +84,4 @@ refused_so_far axis tech masters layouts m limit count old now fault lt is is_co
     let counted : length (piece m) ≡ kept_count axis tech masters layouts m = length-map _ _ ∙ length-map _ _ in
     let now_is : length now ≡ length old + length (flat_map piece (range_with_len 0 m)) = ap (λ es. length es) is ∙ length-append old _ in
     let all_is = length-append old (flat_map piece numbers) in
-    refused_more limit _ _ fault (omega arith) refused
+    more_for limit _ _ fault (omega arith) refused

@@ -11,12 +11,13 @@ use Rattle.sym_items.specs.declared.items.Coords.{Coords}
 use Rattle.sym_items.specs.Layouts.{layout_at}
 use Rattle.expand.specs.declared.master.Master.{Master}
 use Rattle.shadow_prune.specs.declared.keeping.KeptFault.TheVariants as faults
+use Rattle.pair_rules.specs.declared.pairs.Pair.{Pair}
 use Rattle.pitch_join.specs.Masters.{master_at, master_numbers}
 use Rattle.pitch_join.specs.Joined.{kept_edges_at}
 use Rattle.pass_run.specs.declared.finding.Found.{Found}
 use Rattle.pass_run.specs.declared.finding.Found.TheVariants.{Pairs, TooMany}
 use Rattle.pass_run.specs.Alike.{most_edges}
-use Rattle.pass_run.specs.Found.{AreKeptPairs, IsFoundIn, AreFound}
+use Rattle.pass_run.specs.Found.{AreKeptPairs, HasPairs, IsFoundIn, AreFound}
 use Rattle.pass_run.specs.Passes.{kept_count}
 use Rattle.pass_run.proofs.Adding.{refused_so_far}
 
@@ -43,12 +44,17 @@ module _ (axis : Axis) (tech : Tech) (room : ℕ) (masters : List Master) (layou
             (says (get_or numbers m 0) (get_or found m d) (zipped_at Q numbers found m 0 d zipped (omega arith)));
       }
 
+  own_pairs : (m : ℕ) (found : Found) (pairs : List Pair) → HasPairs found pairs → IsFoundIn axis tech room (master_at masters m) (layout_at layouts m) found
+      → AreKeptPairs axis tech (layout_at layouts m) (master_at masters m).items.list pairs
+  own_pairs m (Pairs own) pairs has is = subst (AreKeptPairs axis tech (layout_at layouts m) (master_at masters m).items.list) has is
+  own_pairs m TooMany pairs has is = absurd has
+
   -- what the code has of master m: its kept pairs
-  pub pairs_found : (found : List Found) (m : ℕ) (read : Found) (pairs : _) → AreFound axis tech room masters layouts found → m < length masters → read ≡ get_or found m read → read ≡ Pairs pairs
-      → AreKeptPairs axis tech (layout_at layouts m) (master_at masters m).items.list pairs.items
-  pairs_found found m read pairs are lt at is =
+  pub pairs_found : (found : List Found) (m : ℕ) (read : Found) (pairs : List Pair) → AreFound axis tech room masters layouts found → m < length masters → read ≡ get_or found m read → HasPairs read pairs
+      → AreKeptPairs axis tech (layout_at layouts m) (master_at masters m).items.list pairs
+  pairs_found found m read pairs are lt at has =
       let I : Found → Type 0 = IsFoundIn axis tech room (master_at masters m) (layout_at layouts m) in
-      subst I is (subst I (sym at) (are.each m read lt))
+      own_pairs m read pairs has (subst I (sym at) (are.each m read lt))
 
   -- or that they are more than there is room for
   pub too_many_found : (found : List Found) (m : ℕ) (read : Found) → AreFound axis tech room masters layouts found → m < length masters → read ≡ get_or found m read → read ≡ TooMany

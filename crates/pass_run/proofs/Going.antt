@@ -11,6 +11,8 @@ use Rattle.expand.specs.declared.master.Master.{Master}
 use Rattle.expand.specs.Masters.{IsMaster}
 use Rattle.plan_model.specs.declared.plan.Plan.{Plan}
 use Rattle.coarse_grid.proofs.StartLaid.{start_laid}
+use Rattle.pass_run.specs.declared.pass.Stop.{Stop}
+use Rattle.pass_run.specs.declared.pass.Stop.TheVariants.{TooManyEdges, Cycle, OutOfMemory}
 use Rattle.pass_run.specs.declared.step.Step.{Step}
 use Rattle.pass_run.specs.declared.passes.PassFault.{PassFault}
 use Rattle.pass_run.specs.declared.passes.SoFar.{SoFar}
@@ -23,7 +25,9 @@ use Rattle.pass_run.specs.Report.{pass_text, report_of}
 use Rattle.pass_run.specs.Theorems.{IsSoundPass, AreWellPlaced, AreSound}
 use Rattle.pass_run.specs.PassFaults.{IsCyclicOver, IsUnsatisfiable, RefusesPasses}
 use Rattle.pass_run.specs.Laid.{StartsClean, IsLaidOut, AreLaidOut, AreSettled}
+use Rattle.pass_run.specs.Alike.{most_edges}
 use Rattle.pass_run.specs.Going.{IsGoing}
+use Rattle.pass_run.specs.OnePass.{EndsPasses, StopsPass}
 use Rattle.pass_run.proofs.Settled.{placed_of}
 use Rattle.pass_run.proofs.Chain.{layouts_more, axes_more, passes_more, report_more, had_after, had_first, last_first, none_settled, settled_less, sound_more, axes_split}
 
@@ -114,6 +118,24 @@ refused_cyclic tech plan masters s c pass axis later text report g at pass_is cy
       cyclic = subst C (at ∙ g.layouts_are) cyclic;
       says = says ∙ ap (λ ns. ns ++ text) g.report_is;
     }
+
+-- a pass that stops without a cycle refuses them, too
+pub refused_stopped : (tech : Tech) (plan : Plan) (masters : List Master) (s : SoFar) (c : List Coords) (pass : ℕ) (axis : Axis) (later : List Axis) (stop : Stop) (fault : PassFault)
+    → IsGoing tech plan masters s → c ≡ s.layouts.items → pass ≡ suc (length s.steps.items) → StopsPass tech plan masters c pass axis stop → EndsPasses pass stop fault
+    → RefusesPasses tech plan masters (axes_of s.steps.items ++ axis ∷ later) fault
+refused_stopped tech plan masters s c pass axis later TooManyEdges fault g at pass_is many ends =
+    let R : PassFault → Type 0 = RefusesPasses tech plan masters (axes_of s.steps.items ++ axis ∷ later) in
+    let M : List Coords → Type 0 = λ ls. most_edges < length (list_over axis tech plan masters ls) in
+    subst R (sym ends) (record {
+      axis = axis;
+      done = s.steps.items;
+      comes = record { made = g.made; later = later; axes_are = refl; count = pass_is };
+      many = subst M (at ∙ g.layouts_are) many;
+    })
+refused_stopped tech plan masters s c pass axis later (Cycle text) fault g at pass_is cyclic ends = absurd ends
+refused_stopped tech plan masters s c pass axis later OutOfMemory fault g at pass_is free ends =
+    let R : PassFault → Type 0 = RefusesPasses tech plan masters (axes_of s.steps.items ++ axis ∷ later) in
+    subst R (sym ends) tt
 
 -- what is left of the layouts of all passes
 pub going_placed : (tech : Tech) (plan : Plan) (masters : List Master) (s : SoFar) (axes : List Axis) → IsGoing tech plan masters s → axes_of s.steps.items ≡ axes

@@ -18,6 +18,11 @@ pub record AreKeptPairs (axis : Axis) (tech : Tech) (layout : Coords) (items : L
   pub value : pairs ≡ kept_of axis tech layout items
   pub among : All (IsPairAmong items) pairs
 
+-- the pairs that were found
+abbrev pub HasPairs : Found → List Pair → Type 0
+HasPairs (Pairs pairs) list = pairs.items ≡ list
+HasPairs TooMany list = ⊥
+
 -- what is found of a master in a layout: its kept pairs, or that there are more than there is room for
 abbrev pub IsFoundIn : Axis → Tech → ℕ → Master → Coords → Found → Type 0
 IsFoundIn axis tech room master layout (Pairs pairs) = AreKeptPairs axis tech layout master.items.list pairs.items

@@ -12,6 +12,7 @@ pub mod Pruning
 pub mod OnePass
 pub mod OneStep
 pub mod Going
+pub mod PassesOn
 pub mod Found
 pub mod Slack
 pub mod Told

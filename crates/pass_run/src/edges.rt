@@ -1,6 +1,6 @@
 //! The inequalities of a pass, and the constraint graph of them.
 
-ghost use Rattle.std.specs.Prelude.{◌≡◌, ◌+◌, ◌<◌, ◌≤◌, ◌^◌, ◌++◌, length, slice_index, map, flat_map, All, OnOk, IfOk, IfErr};
+ghost use Rattle.std.specs.Prelude.{◌≡◌, ◌+◌, ◌<◌, ◌≤◌, ◌^◌, ◌++◌, length, slice_index, map, flat_map, All, OnOk, IfOk, IfErr, MatchResult};
 ghost use Rattle.cons_graph.specs.Constraints.{IsConstraintGraph};
 ghost use Rattle.expand.specs.Laws.{IsLawful};
 ghost use Rattle.expand.specs.Masters.{IsMaster};
@@ -10,12 +10,12 @@ ghost use Rattle.pitch_join.specs.Masters.{ArePlanned, master_numbers};
 ghost use Rattle.pitch_join.specs.Names.{joint_names};
 ghost use Rattle.pitch_join.specs.Joined.{bases_of, joint_variables, kept_edges_at, list_over, shifted, space_edge};
 ghost use Rattle.pitch_join.specs.Spaces.{EndsBelow, IsPairAmong};
-ghost use Rattle.shadow_prune.specs.KeptFaults.{RefusesKept};
+ghost use Rattle.shadow_prune.specs.KeptFaults.{RefusesExactly, RefusesKept};
 ghost use Rattle.pass_run.specs.Alike.{most_edges};
 ghost use Rattle.pass_run.specs.Passes.{kept_counts};
 ghost use Rattle.pass_run.specs.Laid.{AreLaidOut};
 
-use crate::finding::{Found, found_in_all};
+use crate::finding::found_in_all;
 use crate::laws::masters_are_lawful;
 use cons_graph::{Graph, GraphFault, MAX_EDGES, Names};
 use expand::Master;
@@ -44,6 +44,16 @@ pub struct Listed {
     pub names: Names,
 }
 
+// How many more inequalities a list has room for, of which so many are held.
+fn room_for(held: usize) -> Result<u32, KeptFault>
+    ensures { MatchResult result (λ room. held + room ≡ most_edges) (λ fault. (fault ≡ KeptFault.TooMany) × (most_edges < held)) }
+{
+    if held > MAX_EDGES {
+        return Err(KeptFault::TooMany);
+    }
+    Ok((MAX_EDGES - held) as u32)
+}
+
 // Adds the inequalities of the kept pairs of a master, which is number `m`, if there is room for them, and counts them.
 fn add_pairs(
     joint: &mut Joint,
@@ -59,7 +69,7 @@ fn add_pairs(
     ensures edges { OnOk result (joint.new.edges.items ≡ joint.old.edges.items ++ map (λ (p : SomePair). shifted (slice_index joint.old.base m) (space_edge axis items.now.list p)) pairs.now) }
     ensures others { OnOk result (joint.new ≡ record joint.old { edges = joint.new.edges }) }
     ensures count { IfOk result (λ count. count ≡ length pairs.now) }
-    ensures fault { IfErr result (RefusesKept most_edges (length joint.old.edges.items + length pairs.now)) }
+    ensures fault { IfErr result (RefusesExactly most_edges (length joint.old.edges.items + length pairs.now)) }
 {
     if pairs.len() > MAX_EDGES || joint.edges.len() > MAX_EDGES - pairs.len() {
         return Err(KeptFault::TooMany);
@@ -92,20 +102,25 @@ fn add_all_kept<H: Threads + Sync, G: Gate>(
     ensures counts { IfOk result (λ counts. counts.items ≡ kept_counts axis tech.now masters.now layouts.now) }
     ensures fault { IfErr result (RefusesKept most_edges (length (joint.old.edges.items ++ flat_map (kept_edges_at axis tech.now masters.now layouts.now) (master_numbers masters.now)))) }
 {
-    if joint.edges.len() > MAX_EDGES {
-        return Err(KeptFault::TooMany);
-    }
-    let room = (MAX_EDGES - joint.edges.len()) as u32;
+    let room = room_for(joint.edges.len())?;
     let found = found_in_all(rt, alloc, gate, axis, tech, masters, layouts, room, split)?;
     let mut counts = Vec::new(alloc);
     for m in 0..masters.len() as u32 {
         let items = &masters[m as usize].items;
-        match &found[m as usize] {
-            Found::Pairs(pairs) => counts.push(add_pairs(joint, axis, m, items, pairs)?)?,
-            Found::TooMany => return Err(KeptFault::TooMany),
-        }
+        let pairs = found[m as usize].pairs()?;
+        let count = add_pairs(joint, axis, m, items, pairs)?;
+        counts.push(count)?;
     }
     Ok(counts)
+}
+
+// Why there is no list where there is no graph: there are too many inequalities.
+fn no_graph(fault: GraphFault) -> KeptFault
+    ensures { result ≡ KeptFault.TooMany }
+{
+    match fault {
+        GraphFault::TooManyEdges => KeptFault::TooMany,
+    }
 }
 
 /// The list of a pass over some layouts: what holds whatever they are, and the inequalities of the kept pairs of each master.
@@ -153,6 +168,6 @@ pub fn list<H: Threads + Sync, G: Gate>(
             base,
             names,
         }),
-        Err(GraphFault::TooManyEdges) => Err(KeptFault::TooMany),
+        Err(fault) => Err(no_graph(fault)),
     }
 }

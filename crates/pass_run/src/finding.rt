@@ -1,10 +1,10 @@
 //! The kept pairs of all masters, found in pieces that run beside each other.
 
-ghost use Rattle.std.specs.Prelude.{◌≡◌, ◌+◌, ◌<◌, ◌≤◌, length, All, IfOk};
+ghost use Rattle.std.specs.Prelude.{◌≡◌, ◌+◌, ◌<◌, ◌≤◌, length, All, IfOk, MatchResult};
 ghost use Rattle.expand.specs.Masters.{IsMaster};
 ghost use Rattle.sym_items.specs.Layouts.{layout_at};
 ghost use Rattle.pitch_join.specs.Masters.{master_at, master_numbers};
-ghost use Rattle.pass_run.specs.Found.{IsFoundIn, AreFound};
+ghost use Rattle.pass_run.specs.Found.{HasPairs, IsFoundIn, AreFound};
 ghost use Rattle.pass_run.specs.Laid.{IsLaidOut, AreLaidOut};
 
 use expand::{Master, master_is_lawful};
@@ -27,6 +27,28 @@ pub enum Found {
     TooMany,
 }
 
+impl Found {
+    /// The pairs, where there was room for them.
+    pub fn pairs(&self) -> Result<&[Pair], KeptFault>
+        ensures { MatchResult result (λ pairs. HasPairs self.now pairs.now) (λ fault. (fault ≡ KeptFault.TooMany) × (self.now ≡ Found.TooMany)) }
+    {
+        match self {
+            Found::Pairs(pairs) => Ok(pairs.as_slice()),
+            Found::TooMany => Err(KeptFault::TooMany),
+        }
+    }
+}
+
+/// Hands on want of memory; else there were too many pairs.
+pub fn unless_too_many(fault: KeptFault) -> Result<(), AllocError>
+    ensures { MatchResult result (λ _. fault ≡ KeptFault.TooMany) (λ _. fault ≡ KeptFault.OutOfMemory) }
+{
+    match fault {
+        KeptFault::TooMany => Ok(()),
+        KeptFault::OutOfMemory => Err(AllocError),
+    }
+}
+
 // What is found of a master, where there is this much room.
 fn found_in(
     alloc: Global,
@@ -44,8 +66,10 @@ fn found_in(
     let items = master.items.list.as_slice();
     match kept(alloc, axis, tech, items, layout, room) {
         Ok(pairs) => Ok(Found::Pairs(pairs)),
-        Err(KeptFault::TooMany) => Ok(Found::TooMany),
-        Err(KeptFault::OutOfMemory) => Err(AllocError),
+        Err(fault) => {
+            unless_too_many(fault)?;
+            Ok(Found::TooMany)
+        }
     }
 }
 

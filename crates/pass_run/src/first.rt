@@ -11,6 +11,7 @@ ghost use Rattle.pass_run.specs.Limits.{joint_limits};
 use crate::bared::stripped;
 use crate::compared::{ask_alike, differ_in_limits};
 use crate::edges::{Listed, list};
+use crate::finding::unless_too_many;
 use crate::following::follow;
 use crate::laws::pruning_loses_nothing;
 use crate::layouts::starts;
@@ -25,7 +26,6 @@ use lam_io::Gate;
 use lam_list::Seq;
 use plan_model::Plan;
 use rule_table::Tech;
-use shadow_prune::KeptFault;
 use std::alloc::{AllocError, Global};
 use std::thread::Threads;
 use sym_items::Coords;
@@ -71,8 +71,10 @@ impl FirstPass {
         let starts = starts(alloc, tech, &masters)?;
         let listed = match list(rt, alloc, gate, axis, tech, &plan, &masters, &starts, 1) {
             Ok(listed) => listed,
-            Err(KeptFault::TooMany) => return Ok(None),
-            Err(KeptFault::OutOfMemory) => return Err(AllocError),
+            Err(fault) => {
+                unless_too_many(fault)?;
+                return Ok(None);
+            }
         };
         let Listed {
             graph,

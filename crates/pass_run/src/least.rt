@@ -1,6 +1,6 @@
 //! Passes of which nothing is recorded but the layouts to which they lead.
 
-ghost use Rattle.std.specs.Prelude.{◌≡◌, ◌++◌, List, All, IfNone, IfOk, IfSome};
+ghost use Rattle.std.specs.Prelude.{◌≡◌, ◌++◌, List, All, IfNone, IfOk, IfSome, MatchResult};
 ghost use Rattle.lam_geom.specs.declared.boxes.Axis.{Axis as SomeAxis};
 ghost use Rattle.liao_wong.specs.Answers.{IsWithinLimit};
 ghost use Rattle.pitch_join.specs.Masters.{ArePlanned};
@@ -8,6 +8,7 @@ ghost use Rattle.pitch_join.specs.Joined.{bases_of};
 ghost use Rattle.pass_run.specs.Laid.{AreLaidOut, AreSettled};
 ghost use Rattle.pass_run.specs.Least.{AreLeastValues, LeadNowhere, LeadTo, StaySettled};
 ghost use Rattle.pass_run.specs.Layouts.{with_values};
+ghost use Rattle.pass_run.specs.OnePass.{HasNoValues};
 
 use crate::laws::masters_are_lawful;
 use crate::layouts::with_parts;
@@ -45,6 +46,16 @@ pub fn with_values(
     with_parts(alloc, tech, masters, before, base, axis, x)
 }
 
+// Hands on want of memory; else the pass that stops has no values.
+fn unless_no_values(stop: Stop) -> Result<(), AllocError>
+    ensures { MatchResult result (λ _. HasNoValues stop) (λ _. stop ≡ Stop.OutOfMemory) }
+{
+    match stop {
+        Stop::TooManyEdges | Stop::Cycle(_) => Ok(()),
+        Stop::OutOfMemory => Err(AllocError),
+    }
+}
+
 /// The layouts to which passes on these axes, one after another, lead from some layouts; None where one of them has no values, as its
 /// list is too long or its system has a positive cycle. In each pass the kept pairs are found in one piece, which passes the gate. The
 /// only refusal is want of memory.
@@ -73,9 +84,10 @@ pub fn lead_on<H: Threads + Sync, G: Gate>(
                 rt, alloc, gate, tech, plan, masters, 1, *axis, &before, 1, false,
             ) {
                 Ok(made) => lead_on(rt, alloc, gate, tech, plan, masters, later, made.layouts),
-                Err(Stop::TooManyEdges) => Ok(None),
-                Err(Stop::Cycle(_)) => Ok(None),
-                Err(Stop::OutOfMemory) => Err(AllocError),
+                Err(stop) => {
+                    unless_no_values(stop)?;
+                    Ok(None)
+                }
             }
         }
     }

@@ -2,7 +2,8 @@
 //!
 //! What the layer above uses: `run_passes` gives after each pass the least values of its axis that meet the structure of each
 //! master and what the plan asks of its neighbours, and keep every candidate of the layouts before it apart, with the critical
-//! path of each master's size; or the text of a positive cycle exactly where there is one. Lengths are in u.
+//! path of each master's size; or the text of a positive cycle exactly where there is one. `passes_with_greatest` gives the same, and how far
+//! the variables could move after the last pass on each axis. Lengths are in u.
 //!
 //! Where only the layouts are wanted, and nothing that is recorded of the passes: `starts` has the layouts before the first pass, `list`
 //! the inequalities of a pass, which has the solutions of its system by the law `pruning_loses_nothing`, `with_values` the layouts
@@ -40,5 +41,5 @@ pub use laws::{
 };
 pub use layouts::starts;
 pub use least::{lead_on, with_values};
-pub use passes::{PassFault, Passes, run_passes};
+pub use passes::{PassFault, Passes, passes_with_greatest, run_passes};
 pub use step::{Step, Walk};

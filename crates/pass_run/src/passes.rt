@@ -1,22 +1,21 @@
 //! The passes of a plan, one after another.
 
-ghost use Rattle.std.specs.Prelude.{◌≡◌, ◌↔◌, ◌<◌, ◌≤◌, ◌∷◌, ◌++◌, [], false, List, length, All, Contains, IfOk, IfErr, IsTrue};
+ghost use Rattle.std.specs.Prelude.{◌≡◌, ◌↔◌, ◌<◌, ◌≤◌, ◌∷◌, ◌++◌, [], false, List, length, All, Contains, IfOk, IfErr, IsTrue, MatchResult};
 ghost use Rattle.lam_geom.specs.declared.boxes.Axis.{Axis as SomeAxis};
-ghost use Rattle.pitch_join.specs.Layouts.{LayoutsMeet};
 ghost use Rattle.pitch_join.specs.Masters.{ArePlanned};
-ghost use Rattle.pass_run.specs.Layouts.{starts_of, layouts_after};
-ghost use Rattle.pass_run.specs.Passes.{ArePasses, axes_of};
-ghost use Rattle.pass_run.specs.Report.{report_of};
-ghost use Rattle.pass_run.specs.Theorems.{AreWellPlaced, AreSound};
-ghost use Rattle.pass_run.specs.Laid.{StartsClean, AreLaidOut};
+ghost use Rattle.pass_run.specs.Layouts.{starts_of};
+ghost use Rattle.pass_run.specs.Passes.{axes_of};
+ghost use Rattle.pass_run.specs.Laid.{StartsClean};
 ghost use Rattle.pass_run.specs.Pruning.{PruningLosesNothing};
-ghost use Rattle.pass_run.specs.PassFaults.{AreRefusedInOneWay, AreSolvable, RefusesPasses, StopsAtFirst};
+ghost use Rattle.pass_run.specs.PassFaults.{AreRefusedInOneWay, RefusesPasses, StopsAtFirst};
 ghost use Rattle.pass_run.specs.Going.{IsGoing};
+ghost use Rattle.pass_run.specs.OnePass.{EndsPasses};
+ghost use Rattle.pass_run.specs.PassesOn.{ArePassesOn};
 ghost use Rattle.pass_run.specs.Slack.{AreMosts, AreTight};
 ghost use Rattle.pass_run.specs.Told.{HasTold};
 ghost use Rattle.pass_run.specs.declared.passes.PassFault.TheVariants.{OutOfMemory};
 
-use crate::laws::{masters_are_lawful, refusals_are_determined};
+use crate::laws::{pruning_loses_nothing, refusals_are_determined};
 use crate::layouts::starts;
 use crate::pass::{Made, Stop, one_pass};
 use crate::step::Step;
@@ -41,8 +40,8 @@ pub struct Passes {
     pub steps: Seq<Step>,
     /// What they report: for each pass its counts, and for each master its size and its critical path.
     pub report: Text,
-    /// Where it is asked for, an entry for each pass: for the last one on an axis the greatest values of the joint variables at the
-    /// far borders that it found, in u, and for the others an empty list. Else there are no entries.
+    /// From `run_passes` nothing; from `passes_with_greatest` an entry for each pass: for the last one on an axis the greatest values of
+    /// the joint variables at the far borders that it found, in u, and for the others an empty list.
     pub mosts: Seq<Seq<i64>>,
 }
 
@@ -157,6 +156,17 @@ fn is_told(axis: Axis, coming: &[Axis], with_most: bool) -> bool
     with_most && !coming.contains(&axis)
 }
 
+// The text of the cycle at which a pass stops, or why the passes end there.
+fn cycle_at(pass: u32, stop: Stop) -> Result<Vec<u8>, PassFault>
+    ensures { MatchResult result (λ text. stop ≡ Stop.Cycle text) (EndsPasses pass stop) }
+{
+    match stop {
+        Stop::TooManyEdges => Err(PassFault::TooManyEdges { pass }),
+        Stop::Cycle(text) => Ok(text),
+        Stop::OutOfMemory => Err(PassFault::OutOfMemory),
+    }
+}
+
 // Makes one more pass, on this axis, before those that come. With `with_most` it tells its greatest values if it is the last on
 // its axis.
 fn go_on<H: Threads + Sync, G: Gate>(
@@ -198,12 +208,11 @@ fn go_on<H: Threads + Sync, G: Gate>(
         told,
     ) {
         Ok(made) => Ok(with_pass(so_far, made, with_most)?),
-        Err(Stop::TooManyEdges) => Err(PassFault::TooManyEdges { pass }),
-        Err(Stop::Cycle(text)) => {
+        Err(stop) => {
+            let text = cycle_at(pass, stop)?;
             let report = cycle_report(alloc, &so_far.report, &text)?;
             Err(PassFault::Unsatisfiable { pass, report })
         }
-        Err(Stop::OutOfMemory) => Err(PassFault::OutOfMemory),
     }
 }
 
@@ -229,13 +238,8 @@ fn given(alloc: Global, so_far: SoFar) -> Result<Passes, AllocError>
     })
 }
 
-/// Passes on these axes, one after another, over the start layouts of all masters of a plan, which are clean. Each gives its
-/// axis the least values that meet the structure of each master, keep all candidates of the layouts before it apart, and give
-/// masters that share a column or a row one size and ports that meet one line; the other axis stays. The kept pairs of the
-/// masters are found in as many pieces as `split` says, each of which passes the gate in each pass; want of memory aside, the
-/// answer is the same for every `split` and every gate. With `with_most` the last pass on each axis also tells the greatest values
-/// that the variables could have while its far borders stay, from the inequalities that it has listed.
-pub fn run_passes<H: Threads + Sync, G: Gate>(
+// Passes on these axes, as `run_passes` makes them. With `with_most` the last one on each axis tells its greatest values.
+fn passes_on<H: Threads + Sync, G: Gate>(
     rt: &H,
     alloc: Global,
     gate: &G,
@@ -250,30 +254,13 @@ pub fn run_passes<H: Threads + Sync, G: Gate>(
     requires clean { All (StartsClean tech.now) masters.now }
     requires few { length axes.now ≤ 16 }
     requires split { (1 ≤ split) × (split ≤ 64) }
-    ensures axes { IfOk result (λ p. axes_of p.steps ≡ axes.now) }
-    ensures passes { IfOk result (λ p. ArePasses tech.now plan.now masters.now (starts_of tech.now masters.now) p.steps) }
-    ensures last { IfOk result (λ p. p.coords ≡ layouts_after masters.now (starts_of tech.now masters.now) p.steps) }
-    ensures report { IfOk result (λ p. p.report ≡ report_of tech.now plan.now masters.now (starts_of tech.now masters.now) p.steps) }
-    // what holds of each pass, and of the last layouts
-    ensures sound_passes { IfOk result (λ p. AreSound tech.now plan.now masters.now [] (starts_of tech.now masters.now) p.steps) }
-    ensures counted { IfOk result (λ p. length p.coords ≡ length masters.now) }
-    ensures laid { IfOk result (λ p. AreLaidOut tech.now masters.now p.coords) }
-    ensures placed { IfOk result (λ p. AreWellPlaced tech.now masters.now p.coords axes.now) }
-    ensures met { IfOk result (λ p. (axis : SomeAxis) → Contains axes.now axis → LayoutsMeet axis tech.now plan.now masters.now p.coords) }
-    // pruning loses nothing, whatever the answer
-    ensures pruning { PruningLosesNothing tech.now plan.now masters.now }
+    ensures made { IfOk result (ArePassesOn tech.now plan.now masters.now axes.now) }
     ensures refused { IfErr result (RefusesPasses tech.now plan.now masters.now axes.now) }
-    // Passes are made exactly where each has values, and a refusal names the first that has none. No other refusal fits these axes.
-    ensures solvable { IfOk result (λ p. AreSolvable tech.now plan.now masters.now (starts_of tech.now masters.now) p.steps) }
     ensures first { IfErr result (StopsAtFirst tech.now plan.now masters.now axes.now) }
-    ensures in_one_way { AreRefusedInOneWay tech.now plan.now masters.now axes.now }
-    // how far the variables could move after the last pass on each axis
     ensures mosts { IfOk result (λ p. IsTrue with_most → AreMosts tech.now plan.now masters.now (starts_of tech.now masters.now) p.steps p.mosts) }
     ensures tight { IfOk result (λ p. IsTrue with_most → AreTight tech.now plan.now masters.now (starts_of tech.now masters.now) p.steps p.mosts) }
     ensures untold { IfOk result (λ p. with_most ≡ false → p.mosts ≡ []) }
 {
-    masters_are_lawful(tech, masters);
-    refusals_are_determined(tech, plan, masters);
     let mut so_far = none_yet(alloc, tech, plan, masters)?;
     let mut coming = axes;
     for axis in axes {
@@ -283,4 +270,63 @@ pub fn run_passes<H: Threads + Sync, G: Gate>(
         )?;
     }
     Ok(given(alloc, so_far)?)
+}
+
+/// Passes on these axes, one after another, over the start layouts of all masters of a plan, which are clean. Each gives its
+/// axis the least values that meet the structure of each master, keep all candidates of the layouts before it apart, and give
+/// masters that share a column or a row one size and ports that meet one line; the other axis stays. The kept pairs of the
+/// masters are found in as many pieces as `split` says, each of which passes the gate in each pass; want of memory aside, the
+/// answer is the same for every `split` and every gate.
+pub fn run_passes<H: Threads + Sync, G: Gate>(
+    rt: &H,
+    alloc: Global,
+    gate: &G,
+    tech: &Tech,
+    plan: &Plan,
+    masters: &[Master],
+    axes: &[Axis],
+    split: u32,
+) -> Result<Passes, PassFault>
+    requires planned { ArePlanned tech.now plan.now masters.now }
+    requires clean { All (StartsClean tech.now) masters.now }
+    requires few { length axes.now ≤ 16 }
+    requires split { (1 ≤ split) × (split ≤ 64) }
+    ensures made { IfOk result (ArePassesOn tech.now plan.now masters.now axes.now) }
+    // pruning loses nothing, whatever the answer
+    ensures pruning { PruningLosesNothing tech.now plan.now masters.now }
+    ensures refused { IfErr result (RefusesPasses tech.now plan.now masters.now axes.now) }
+    // A refusal names the first pass that has no values. No other refusal fits these axes.
+    ensures first { IfErr result (StopsAtFirst tech.now plan.now masters.now axes.now) }
+    ensures in_one_way { AreRefusedInOneWay tech.now plan.now masters.now axes.now }
+    ensures untold { IfOk result (λ p. p.mosts ≡ []) }
+{
+    pruning_loses_nothing(tech, plan, masters);
+    refusals_are_determined(tech, plan, masters);
+    passes_on(rt, alloc, gate, tech, plan, masters, axes, split, false)
+}
+
+/// The same passes as those of `run_passes`, of which the last one on each axis also tells the greatest values that the variables
+/// could have while its far borders stay, from the inequalities that it has listed.
+pub fn passes_with_greatest<H: Threads + Sync, G: Gate>(
+    rt: &H,
+    alloc: Global,
+    gate: &G,
+    tech: &Tech,
+    plan: &Plan,
+    masters: &[Master],
+    axes: &[Axis],
+    split: u32,
+) -> Result<Passes, PassFault>
+    requires planned { ArePlanned tech.now plan.now masters.now }
+    requires clean { All (StartsClean tech.now) masters.now }
+    requires few { length axes.now ≤ 16 }
+    requires split { (1 ≤ split) × (split ≤ 64) }
+    ensures made { IfOk result (ArePassesOn tech.now plan.now masters.now axes.now) }
+    ensures refused { IfErr result (RefusesPasses tech.now plan.now masters.now axes.now) }
+    ensures first { IfErr result (StopsAtFirst tech.now plan.now masters.now axes.now) }
+    // how far the variables could move after the last pass on each axis
+    ensures mosts { IfOk result (λ p. AreMosts tech.now plan.now masters.now (starts_of tech.now masters.now) p.steps p.mosts) }
+    ensures tight { IfOk result (λ p. AreTight tech.now plan.now masters.now (starts_of tech.now masters.now) p.steps p.mosts) }
+{
+    passes_on(rt, alloc, gate, tech, plan, masters, axes, split, true)
 }

@@ -1,10 +1,11 @@
 -- Where the joint variables of each master begin.
-use Rattle.std.proofs.Common.{◌≡◌, ℕ, zero, suc, ◌+◌, ◌-◌, ◌<◌, ◌≤◌, List, [], ◌∷◌, ◌++◌, length, get_or, map, refl, sym, ap, ◌∙◌, subst, arith, ◌⊎◌, inl, inr}
-use Rattle.std.specs.List.{range_with_len, sum_by}
+use Rattle.std.proofs.Common.{◌≡◌, ℕ, zero, suc, ◌+◌, ◌-◌, ◌*◌, ◌<◌, ◌≤◌, List, [], ◌∷◌, ◌++◌, length, get_or, map, refl, sym, ap, ◌∙◌, subst, arith, ◌⊎◌, inl, inr}
+use Rattle.std.specs.List.{All, range_with_len, sum_by}
 use Rattle.std.specs.Prelude.{◌^◌, slice_index}
 use Rattle.std.proofs.Math.Seq.{take-length}
 use Rattle.std.proofs.lemmas.Bool.{cases_lt}
-use Rattle.std.proofs.lemmas.List.Sums.{sum_by_more, sum_by_more_le, count_by-le-length}
+use Rattle.std.proofs.lemmas.List.Elements.{All-weaker}
+use Rattle.std.proofs.lemmas.List.Sums.{sum_by_more, sum_by_more_le, sum_by-le, count_by-le-length}
 use Rattle.std.proofs.lemmas.List.{get_or_default, length-map}
 use Rattle.std.proofs.lemmas.List.FromFn.{get_or-map-range_with_len, length-map-range_with_len, map-range_with_len_more}
 use Rattle.rule_table.specs.declared.technology.Tech.{Tech}
@@ -12,8 +13,10 @@ use Rattle.lam_geom.specs.declared.boxes.Axis.{Axis}
 use Rattle.cell_model.specs.declared.cell.Wire.{Wire}
 use Rattle.cell_model.specs.Wiring.{is_same_axis}
 use Rattle.expand.specs.declared.master.Master.{Master}
+use Rattle.expand.specs.Masters.{IsMaster}
 use Rattle.expand.specs.Variables.{crossing, variables_of}
 use Rattle.plan_model.specs.declared.plan.Plan.{Plan}
+use Rattle.plan_model.specs.Plan.{IsPlanOver}
 use Rattle.pitch_join.specs.Masters.{master_at, no_master, parts_in, master_ports, ports_of_masters, ArePlanned}
 use Rattle.pitch_join.specs.Joined.{own_variables, base_of, bases_of, joined, joint_variables, var_of}
 use Rattle.pitch_join.specs.Variables.{IsOfMaster, VariablesAreJoined}
@@ -29,6 +32,14 @@ own_few axis master =
 pub joint_few : (axis : Axis) (masters : List Master) → length masters ≤ 256 → sum_by parts_in masters ≤ 65536 → joint_variables axis masters ≤ 2 ^ 17
 joint_few axis masters few parts =
     let h = sum_by_one_more (own_variables axis) parts_in masters (own_few axis) in
+    omega arith
+
+-- however many parts they have: each of so few masters has few
+pub joint_small : (axis : Axis) (tech : Tech) (masters : List Master) → All (IsMaster tech) masters → length masters ≤ 256 → joint_variables axis masters ≤ 2 ^ 25
+joint_small axis tech masters each few =
+    let F : Master → Type 0 = λ master. own_variables axis master ≤ 65537 in
+    let own : All F masters = All-weaker (IsMaster tech) F (λ master is. let light = is.light in let own = own_few axis master in omega arith) masters each in
+    let sum : sum_by (own_variables axis) masters ≤ length masters * 65537 = sum_by-le (own_variables axis) 65537 masters own in
     omega arith
 
 -- ---- one master after the other
@@ -153,11 +164,14 @@ variables_joined masters few parts = record {
 }
 
 -- the masters of a plan are few
-pub planned_few : (tech : Tech) (plan : Plan) (masters : List Master) → ArePlanned tech plan masters → length masters ≤ 256
-planned_few tech plan masters planned =
-    let few = planned.planned.few_masters in
+pub few_of_plan : (plan : Plan) (masters : List Master) → IsPlanOver (ports_of_masters masters) plan → length masters ≤ 256
+few_of_plan plan masters planned =
+    let few = planned.few_masters in
     let n : length (ports_of_masters masters) ≡ length masters = length-map masters master_ports in
     omega arith
+
+pub planned_few : (tech : Tech) (plan : Plan) (masters : List Master) → ArePlanned tech plan masters → length masters ≤ 256
+planned_few tech plan masters planned = few_of_plan plan masters planned.planned
 
 pub planned_joined : (tech : Tech) (plan : Plan) (masters : List Master) → ArePlanned tech plan masters → VariablesAreJoined masters
 planned_joined tech plan masters planned = variables_joined masters (planned_few tech plan masters planned) planned.few_parts

@@ -124,14 +124,17 @@ planned_grids ports plan planned =
 master_count : (masters : List Master) → length (ports_of_masters masters) ≡ length masters
 master_count masters = length-map masters master_ports
 
-pub pitch_among : (axis : Axis) (tech : Tech) (plan : Plan) (masters : List Master) → ArePlanned tech plan masters → All (IsSameAmong (length masters)) (pitch_in axis plan)
-pitch_among axis tech plan masters planned =
+pub pitch_of_plan : (axis : Axis) (plan : Plan) (masters : List Master) → IsPlanOver (ports_of_masters masters) plan → All (IsSameAmong (length masters)) (pitch_in axis plan)
+pitch_of_plan axis plan masters planned =
     let ports = ports_of_masters masters in
     let N : ℕ → Type 0 = λ n. All (IsSameAmong n) (pitch_in axis plan) in
     let S : List Same → Type 0 = All (IsSameAmong (length ports)) in
     subst N (master_count masters)
-    (subst S (sym (planned.planned.pitch axis))
-    (all_of (IsSameAmong (length ports)) (pitch_of axis (grids_of plan)) (pitch_of_among axis (length ports) (grids_of plan) (planned_grids ports plan planned.planned))))
+    (subst S (sym (planned.pitch axis))
+    (all_of (IsSameAmong (length ports)) (pitch_of axis (grids_of plan)) (pitch_of_among axis (length ports) (grids_of plan) (planned_grids ports plan planned))))
+
+pub pitch_among : (axis : Axis) (tech : Tech) (plan : Plan) (masters : List Master) → ArePlanned tech plan masters → All (IsSameAmong (length masters)) (pitch_in axis plan)
+pitch_among axis tech plan masters planned = pitch_of_plan axis plan masters planned.planned
 
 -- ---- ports that meet
 
@@ -230,8 +233,9 @@ border_among axis tech masters pair each two =
     (all_weaker P (λ met. IsMatchAmong axis masters (match_of pair met)) (λ met h. record { a = h.0; b = h.1 }) (meeting_ports axis ports pair)
     (all_zip A B (ports_before axis ports pair) (ports_behind axis ports pair) before behind))
 
-pub matches_among : (axis : Axis) (tech : Tech) (plan : Plan) (masters : List Master) → ArePlanned tech plan masters → All (IsMatchAmong axis masters) (matches_in axis plan)
-matches_among axis tech plan masters planned =
+pub matches_of_plan : (axis : Axis) (tech : Tech) (plan : Plan) (masters : List Master) → All (IsMaster tech) masters → IsPlanOver (ports_of_masters masters) plan
+    → All (IsMatchAmong axis masters) (matches_in axis plan)
+matches_of_plan axis tech plan masters masters_are planned =
     let ports = ports_of_masters masters in
     let grids = grids_of plan in
     let count : ℕ = length ports in
@@ -240,7 +244,10 @@ matches_among axis tech plan masters planned =
     let L : List Match → Type 0 = All M in
     let n = master_count masters in
     let two = all_flat (AreTwo count) (meeting axis) grids
-    (all_weaker (IsGridOf count) (λ rows. AllByRecursion (AreTwo count) (meeting axis rows)) (meeting_two axis count) grids (planned_grids ports plan planned.planned)) in
-    let each = all_weaker (AreTwo count) P (λ pair h. let a = h.0 in let b = h.1 in border_among axis tech masters pair planned.each (omega arith, omega arith)) (borders_of axis grids) two in
-    subst L (sym (planned.planned.matched axis))
+    (all_weaker (IsGridOf count) (λ rows. AllByRecursion (AreTwo count) (meeting axis rows)) (meeting_two axis count) grids (planned_grids ports plan planned)) in
+    let each = all_weaker (AreTwo count) P (λ pair h. let a = h.0 in let b = h.1 in border_among axis tech masters pair masters_are (omega arith, omega arith)) (borders_of axis grids) two in
+    subst L (sym (planned.matched axis))
     (all_of M (ports_matched axis ports grids) (all_flat M (matches_at axis ports) (firsts is_pair (borders_of axis grids)) (all_firsts P is_pair (borders_of axis grids) each)))
+
+pub matches_among : (axis : Axis) (tech : Tech) (plan : Plan) (masters : List Master) → ArePlanned tech plan masters → All (IsMatchAmong axis masters) (matches_in axis plan)
+matches_among axis tech plan masters planned = matches_of_plan axis tech plan masters planned.each planned.planned

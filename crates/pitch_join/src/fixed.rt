@@ -4,7 +4,7 @@ ghost use Rattle.std.specs.Prelude.{◌≡◌, ◌<◌, ◌≤◌, ◌^◌, ◌+
 ghost use Rattle.expand.specs.Masters.{IsMaster};
 ghost use Rattle.expand.specs.Structure.{structure_of};
 ghost use Rattle.pitch_join.specs.Among.{IsSameAmong, IsListedWire, IsListedMatch, listed_pitch, listed_ports, listed_wire};
-ghost use Rattle.pitch_join.specs.Joined.{bases_of, equal_edges, joint_variables, shifted, structures_of, tied_edges};
+ghost use Rattle.pitch_join.specs.Joined.{bases_of, equal_edges, shifted, structures_of, tied_edges};
 
 use crate::numbering::joined;
 use cons_graph::{Edge, Why};
@@ -17,7 +17,7 @@ use std::alloc::{AllocError, Global};
 
 // Adds inequalities of a master, over the joint variables.
 fn push_shifted(edges: &mut Vec<Edge>, base: u32, local: &[Edge]) -> Result<(), AllocError>
-    requires base { base ≤ 2 ^ 17 }
+    requires base { base ≤ 2 ^ 25 }
     requires below { All (λ e. (e.from < 2 ^ 17) × (e.to < 2 ^ 17)) local.now }
     ensures { OnOk result (edges.new.items ≡ edges.old.items ++ map (shifted base) local.now) }
 {
@@ -42,10 +42,10 @@ fn push_structure(
     base: u32,
 ) -> Result<(), AllocError>
     requires master { IsMaster tech.now master.now }
-    requires base { base ≤ 2 ^ 17 }
+    requires base { base ≤ 2 ^ 25 }
     ensures { OnOk result (edges.new.items ≡ edges.old.items ++ map (shifted base) (structure_of axis tech.now master.now.cell master.now.items.list)) }
 {
-    let local = structure(alloc, axis, tech, master)?;
+    let local = structure(alloc, axis, tech, &master.cell, &master.items)?;
     push_shifted(edges, base, &local)
 }
 
@@ -60,7 +60,6 @@ pub fn push_structures(
 ) -> Result<(), AllocError>
     requires each { All (IsMaster tech.now) masters.now }
     requires few_masters { length masters.now ≤ 256 }
-    requires few { joint_variables axis masters.now ≤ 2 ^ 17 }
     requires base { base.now ≡ bases_of axis masters.now }
     ensures { OnOk result (edges.new.items ≡ edges.old.items ++ structures_of axis tech.now masters.now) }
 {

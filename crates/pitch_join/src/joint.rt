@@ -1,11 +1,12 @@
 //! The joint variables and inequalities of masters.
 
-ghost use Rattle.std.specs.Prelude.{◌≡◌, ◌+◌, ◌<◌, ◌≤◌, ◌^◌, ◌++◌, length, map, slice_index, All, OnOk, OnErr, IfOk};
+ghost use Rattle.std.specs.Prelude.{◌≡◌, ◌+◌, ◌<◌, ◌≤◌, ◌^◌, ◌++◌, length, map, slice_index, sum_by, All, OnOk, OnErr, IfOk};
 ghost use Rattle.cons_graph.specs.Constraints.{IsConstraintGraph};
 ghost use Rattle.expand.specs.Bounds.{IsNearAlong};
+ghost use Rattle.expand.specs.Masters.{IsMaster};
 ghost use Rattle.pair_rules.specs.declared.pairs.Pair.{Pair as SomePair};
-ghost use Rattle.plan_model.specs.Plan.{matches_in, pitch_in};
-ghost use Rattle.pitch_join.specs.Masters.{ArePlanned};
+ghost use Rattle.plan_model.specs.Plan.{IsPlanOver, matches_in, pitch_in};
+ghost use Rattle.pitch_join.specs.Masters.{parts_in, ports_of_masters};
 ghost use Rattle.pitch_join.specs.Names.{joint_names};
 ghost use Rattle.pitch_join.specs.Joined.{bases_of, joint_variables, shifted, space_edge, fixed_of};
 ghost use Rattle.pitch_join.specs.Spaces.{EndsBelow, IsPairAmong};
@@ -59,7 +60,8 @@ fn ports(axis: Axis, plan: &Plan) -> &[Match]
 }
 
 /// The inequalities of an axis that hold whatever the layouts: the structure of each master, equal far borders of masters that
-/// share a column (on y a row), and one cross coordinate for wires of ports that meet. The only refusal is want of memory.
+/// share a column (on y a row), and one cross coordinate for wires of ports that meet. However many parts the masters have, the only
+/// refusal is want of memory.
 pub fn join(
     alloc: Global,
     axis: Axis,
@@ -67,13 +69,15 @@ pub fn join(
     plan: &Plan,
     masters: &[Master],
 ) -> Result<Joint, AllocError>
-    requires { ArePlanned tech.now plan.now masters.now }
+    requires each { All (IsMaster tech.now) masters.now }
+    requires planned { IsPlanOver (ports_of_masters masters.now) plan.now }
     ensures vars { IfOk result (λ joint. joint.vars ≡ joint_variables axis masters.now) }
     ensures bases { IfOk result (λ joint. joint.base ≡ bases_of axis masters.now) }
     ensures edges { IfOk result (λ joint. joint.edges.items ≡ fixed_of axis tech.now plan.now masters.now) }
     ensures names { IfOk result (λ joint. joint.names ≡ joint_names axis masters.now) }
     ensures named { IfOk result (λ joint. length joint.names ≡ joint.vars) }
-    ensures shape { IfOk result (λ joint. IsConstraintGraph (record { vars = joint.vars; edges = joint.edges.items })) }
+    // a constraint graph can be made of them where the masters have few parts together
+    ensures shape { IfOk result (λ joint. sum_by parts_in masters.now ≤ 65536 → IsConstraintGraph (record { vars = joint.vars; edges = joint.edges.items })) }
 {
     let Numbering { vars, base } = number(alloc, axis, tech, masters)?;
     let crosses = all_crosses(alloc, masters)?;

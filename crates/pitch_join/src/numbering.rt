@@ -1,10 +1,10 @@
 //! The numbers of the joint variables.
 
-ghost use Rattle.std.specs.Prelude.{◌≡◌, ◌+◌, ◌<◌, ◌≤◌, ◌^◌, length, sum_by, All, IfOk};
+ghost use Rattle.std.specs.Prelude.{◌≡◌, ◌+◌, ◌<◌, ◌≤◌, ◌^◌, length, All, IfOk};
 ghost use Rattle.expand.specs.Masters.{IsMaster};
 ghost use Rattle.pitch_join.specs.Among.{AreAllCrosses};
 ghost use Rattle.pitch_join.specs.Joined.{bases_of, joined, joint_variables, own_variables};
-ghost use Rattle.pitch_join.specs.Masters.{IsLightMaster, parts_in};
+ghost use Rattle.pitch_join.specs.Masters.{IsLightMaster};
 
 use expand::{Master, crosses, master_is_lawful};
 use lam_geom::Axis;
@@ -32,8 +32,7 @@ pub fn joined(base: u32, v: u32) -> u32
 // How many variables a master has beside the origin.
 fn own_variables(axis: Axis, tech: &Tech, master: &Master) -> u32
     requires { IsMaster tech.now master.now }
-    ensures value { result ≡ own_variables axis master.now }
-    ensures few { result ≤ 1 + parts_in master.now }
+    ensures { result ≡ own_variables axis master.now }
 {
     master_is_lawful(tech, master);
     master.items.vars(axis) - 1
@@ -48,7 +47,6 @@ pub fn number(
 ) -> Result<Numbering, AllocError>
     requires each { All (IsMaster tech.now) masters.now }
     requires few_masters { length masters.now ≤ 256 }
-    requires few_parts { sum_by parts_in masters.now ≤ 65536 }
     ensures vars { IfOk result (λ n. n.vars ≡ joint_variables axis masters.now) }
     ensures base { IfOk result (λ n. n.base.items ≡ bases_of axis masters.now) }
 {

@@ -1,45 +1,39 @@
 //! What each call of the program answers, whole.
 
-mod benches;
-mod buried;
 mod cases;
-mod cif_texts;
-mod edits;
+mod commands;
 mod grids;
-mod jogs;
 mod layouts;
 mod made;
 mod pictures;
-mod slacks;
 
-use benches::{BENCHES, LARGEST, LARGEST_BEGINS};
-use buried::BURIED;
-use cases::{EXTENTS, FAILURES, REFUSALS, REPORTS, TECHNOLOGIES, TEXTS, WORDS};
-use cif_texts::{NETLISTS, VERDICTS};
+use cases::{COMPACT, FAILURES, FMT, REFUSALS, SHRUNK, TEXTS, USAGE};
+use commands::{
+    BENCH, BENCHES, BURIED, CHECK, EDIT, EDITS, EXTRACT, JOG, JOGS, LARGEST, LARGEST_BEGINS, LOAD,
+    NETLISTS, SLACK, SLACKS, VERDICTS,
+};
 use compact_run::run;
-use edits::EDITS;
-use grids::{GRID_EXTENTS, GRID_FAULTS, GRID_WRITES, GRIDS};
-use jogs::JOGS;
+use grids::{GRID_EXTENTS, GRID_FAULTS, GRID_WRITES, GRIDS, TWO_ROWS, WIDE};
 use lam_io::{FailPlan, Fetch, MemShelf, MemSink, OpenGate, Shelf};
-use layouts::{CYCLES, FALLS, LAYERS, LIMITS, ORDERS, USES};
-use slacks::SLACKS;
+use layouts::{CYCLES, LAYOUTS};
 use std::alloc::{AllocError, Global};
 use std::process::Abort;
 use std::test::Fail;
 use std::thread::Threads;
 
-// Words, parted by blanks, and what they answer. The shelf has the technology as `t`, the design, or the CIF text, as `d`, and the script as `s`. Fetches,
-// and puts into the output and the report, fail where their numbers are named. The status is as it is told for debugging, and each
-// name that was asked for has a blank behind it.
+// Words, parted by blanks, and what they answer. In each text a stroke stands for the end of a line. The shelf has the
+// technology as `t`, the design, or the CIF text, as `d`, and the script as `s`. Of the fetches, and of the puts into
+// the output and the report, the one with the number that is named fails. The status is as it is told for debugging,
+// and `asked` has the names that were asked for.
 #[derive(Clone, Copy)]
 struct Case {
     words: &'static str,
     tech: &'static str,
     text: &'static str,
     script: &'static str,
-    fetch_faults: &'static [u32],
-    output_faults: &'static [u32],
-    report_faults: &'static [u32],
+    fetch_faults: &'static str,
+    output_faults: &'static str,
+    report_faults: &'static str,
     status: &'static str,
     asked: &'static str,
     output: &'static str,
@@ -77,19 +71,63 @@ struct Answer {
     report: String,
 }
 
+// A case that differs from another in the lines of a paragraph, but for comments. What is refused has its status and
+// its report.
+fn case_of(other: &Case, paragraph: &'static str) -> Result<Case, Fail> {
+    let mut case = *other;
+    for line in paragraph.lines() {
+        if line.is_empty() || line.starts_with('#') {
+            continue;
+        }
+        let (name, value) = line.split_once(':').ok_or("a line without a name")?;
+        let value = value.trim_start();
+        match name {
+            "words" => case.words = value,
+            "tech" => case.tech = value,
+            "text" => case.text = value,
+            "script" => case.script = value,
+            "fetch_faults" => case.fetch_faults = value,
+            "output_faults" => case.output_faults = value,
+            "report_faults" => case.report_faults = value,
+            "asked" => case.asked = value,
+            "output" => case.output = value,
+            "report" => case.report = value,
+            "refused" => {
+                let (status, report) = value.split_once('=').ok_or("no report")?;
+                case.status = status.trim_end();
+                case.report = report.trim_start();
+            }
+            _ => return Err("another name")?,
+        }
+    }
+    Ok(case)
+}
+
+// The text for which a text of a case stands.
+fn unfolded(alloc: Global, text: &str) -> Result<String, AllocError> {
+    text.replace(alloc, '/', "\n")
+}
+
 // The shelf of a case.
 fn shelf_of(alloc: Global, case: &Case) -> Result<MemShelf, AllocError> {
-    let mut shelf = MemShelf::new(alloc, FailPlan::new(alloc, case.fetch_faults)?);
-    shelf.add("t", case.tech.as_bytes())?;
-    shelf.add("d", case.text.as_bytes())?;
-    shelf.add("s", case.script.as_bytes())?;
+    let mut shelf = MemShelf::new(alloc, plan_of(alloc, case.fetch_faults)?);
+    for (name, text) in [("t", case.tech), ("d", case.text), ("s", case.script)] {
+        shelf.add(name, unfolded(alloc, text)?.as_bytes())?;
+    }
     Ok(shelf)
 }
 
-// A sink that fails at the puts of these numbers.
-fn sink_of(alloc: Global, faults: &[u32]) -> Result<MemSink, AllocError> {
-    let plan = FailPlan::new(alloc, faults)?;
-    MemSink::new(alloc, 1_000_000, plan)
+// A plan by which the call of this number fails, if there is one.
+fn plan_of(alloc: Global, number: &str) -> Result<FailPlan, AllocError> {
+    match number.parse::<u32>() {
+        Ok(number) => FailPlan::new(alloc, [number].as_slice()),
+        Err(_) => Ok(FailPlan::none(alloc)),
+    }
+}
+
+// A sink that fails so.
+fn sink_of(alloc: Global, number: &str) -> Result<MemSink, AllocError> {
+    MemSink::new(alloc, 1_000_000, plan_of(alloc, number)?)
 }
 
 // The words of a line.
@@ -128,8 +166,16 @@ fn answer_to<H: Threads + Sync>(
 }
 
 // The text that a case gave is the one that it wants.
-fn assert_same<A: Abort>(rt: &A, case: &Case, given: &str, wanted: &str) {
-    assert_eq!(rt; given, wanted, "{} of {}", case.words, case.text);
+fn assert_same<A: Abort>(
+    rt: &A,
+    alloc: Global,
+    case: &Case,
+    given: &str,
+    wanted: &str,
+) -> Result<(), Fail> {
+    let wanted = unfolded(alloc, wanted)?;
+    assert_eq!(rt; given, wanted.as_str(), "{} of {}", case.words, case.text);
+    Ok(())
 }
 
 // The words of a case answer over this shelf as it says.
@@ -140,98 +186,95 @@ fn assert_answer<A: Abort + Threads + Sync>(
     shelf: MemShelf,
 ) -> Result<(), Fail> {
     let answer = answer_to(rt, alloc, case, shelf)?;
-    assert_same(rt, case, &answer.status, case.status);
-    assert_same(rt, case, &answer.asked, case.asked);
-    assert_same(rt, case, &answer.output, case.output);
-    assert_same(rt, case, &answer.report, case.report);
-    Ok(())
+    assert_same(rt, alloc, case, &answer.status, case.status)?;
+    assert_same(rt, alloc, case, answer.asked.trim_end(), case.asked)?;
+    assert_same(rt, alloc, case, &answer.output, case.output)?;
+    assert_same(rt, alloc, case, &answer.report, case.report)
 }
 
-// Each of the cases is answered as it says.
-fn assert_answers<A: Abort + Threads + Sync>(
+// Each case of a table, whose paragraphs differ from a case, is answered as it says.
+fn assert_table<A: Abort + Threads + Sync>(
     rt: &A,
     alloc: Global,
-    cases: &[Case],
+    other: &Case,
+    table: &'static str,
 ) -> Result<(), Fail> {
-    for case in cases {
-        let shelf = shelf_of(alloc, case)?;
-        assert_answer(rt, alloc, case, shelf)?;
+    for paragraph in table.split("\n\n") {
+        let case = case_of(other, paragraph)?;
+        let shelf = shelf_of(alloc, &case)?;
+        assert_answer(rt, alloc, &case, shelf)?;
     }
     Ok(())
 }
 
 #[test]
 fn designs_are_laid_out(rt: HostRuntime) -> Result<(), Fail> {
-    let tables: [&[Case]; 7] = [&FALLS, &LAYERS, &BURIED, &USES, &ORDERS, &LIMITS, &GRIDS];
-    for table in tables {
-        assert_answers(&rt, rt.alloc(), table)?;
-    }
-    Ok(())
+    assert_table(&rt, rt.alloc(), &COMPACT, LAYOUTS)?;
+    assert_table(&rt, rt.alloc(), &LOAD, BURIED)?;
+    assert_table(&rt, rt.alloc(), &COMPACT, GRIDS)
 }
 
 #[test]
 fn designs_without_a_layout_are_refused(rt: HostRuntime) -> Result<(), Fail> {
-    let tables: [&[Case]; 5] = [&REFUSALS, &CYCLES, &EXTENTS, &GRID_FAULTS, &GRID_EXTENTS];
-    for table in tables {
-        assert_answers(&rt, rt.alloc(), table)?;
+    assert_table(&rt, rt.alloc(), &COMPACT, REFUSALS)?;
+    assert_table(&rt, rt.alloc(), &COMPACT, CYCLES)?;
+    assert_table(&rt, rt.alloc(), &COMPACT, GRID_FAULTS)?;
+    assert_table(&rt, rt.alloc(), &WIDE, GRID_EXTENTS)
+}
+
+#[test]
+fn texts_files_and_streams_are_judged(rt: HostRuntime) -> Result<(), Fail> {
+    assert_table(&rt, rt.alloc(), &FMT, TEXTS)?;
+    assert_table(&rt, rt.alloc(), &SHRUNK, FAILURES)?;
+    assert_table(&rt, rt.alloc(), &TWO_ROWS, GRID_WRITES)
+}
+
+#[test]
+fn words_that_are_no_command_ask_for_no_file(rt: HostRuntime) -> Result<(), Fail> {
+    for words in USAGE {
+        let case = Case {
+            words,
+            status: "Usage",
+            asked: "",
+            report: "sticks: usage/",
+            ..COMPACT
+        };
+        let shelf = shelf_of(rt.alloc(), &case)?;
+        assert_answer(&rt, rt.alloc(), &case, shelf)?;
     }
     Ok(())
 }
 
 #[test]
-fn words_files_and_streams_are_judged(rt: HostRuntime) -> Result<(), Fail> {
-    let tables: [&[Case]; 6] = [
-        &WORDS,
-        &TECHNOLOGIES,
-        &TEXTS,
-        &FAILURES,
-        &GRID_WRITES,
-        &REPORTS,
-    ];
-    for table in tables {
-        assert_answers(&rt, rt.alloc(), table)?;
+fn the_commands_on_files_answer(rt: HostRuntime) -> Result<(), Fail> {
+    for (case, table) in [
+        (&EXTRACT, NETLISTS),
+        (&CHECK, VERDICTS),
+        (&SLACK, SLACKS),
+        (&JOG, JOGS),
+        (&EDIT, EDITS),
+    ] {
+        assert_table(&rt, rt.alloc(), case, table)?;
     }
     Ok(())
-}
-
-#[test]
-fn extract_writes_the_nets_and_transistors(rt: HostRuntime) -> Result<(), Fail> {
-    assert_answers(&rt, rt.alloc(), &NETLISTS)
-}
-
-#[test]
-fn check_tells_the_first_broken_rule(rt: HostRuntime) -> Result<(), Fail> {
-    assert_answers(&rt, rt.alloc(), &VERDICTS)
-}
-
-#[test]
-fn slack_tells_how_far_each_part_could_move(rt: HostRuntime) -> Result<(), Fail> {
-    assert_answers(&rt, rt.alloc(), &SLACKS)
-}
-
-#[test]
-fn jog_keeps_the_jogs_that_make_a_cell_narrower(rt: HostRuntime) -> Result<(), Fail> {
-    assert_answers(&rt, rt.alloc(), &JOGS)
-}
-
-#[test]
-fn edit_tells_what_the_design_comes_to_after_each_line(rt: HostRuntime) -> Result<(), Fail> {
-    assert_answers(&rt, rt.alloc(), &EDITS)
 }
 
 #[test]
 fn bench_writes_a_line_on_a_made_design(rt: HostRuntime) -> Result<(), Fail> {
-    assert_answers(&rt, rt.alloc(), &BENCHES)
+    assert_table(&rt, rt.alloc(), &BENCH, BENCHES)
 }
 
 #[test]
 fn the_largest_made_design_is_laid_out(rt: HostRuntime) -> Result<(), Fail> {
     let shelf = shelf_of(rt.alloc(), &LARGEST)?;
     let answer = answer_to(&rt, rt.alloc(), &LARGEST, shelf)?;
-    assert_same(&rt, &LARGEST, &answer.status, LARGEST.status);
-    assert_same(&rt, &LARGEST, &answer.report, LARGEST.report);
-    let begins = answer.output.starts_with(LARGEST_BEGINS);
-    let ends = answer.output.ends_with(LARGEST.output);
-    assert!(rt; begins && ends, "{}", answer.output);
+    assert_same(&rt, rt.alloc(), &LARGEST, &answer.status, LARGEST.status)?;
+    assert_same(&rt, rt.alloc(), &LARGEST, &answer.report, LARGEST.report)?;
+    let ends = unfolded(rt.alloc(), LARGEST.output)?;
+    assert!(rt;
+        answer.output.starts_with(LARGEST_BEGINS) && answer.output.ends_with(ends.as_str()),
+        "{}",
+        answer.output
+    );
     Ok(())
 }

@@ -1,5 +1,5 @@
 -- What may stand in the words of the command line: lists of passes, and numbers.
-use Rattle.std.specs.Prelude.{ℕ, Bool, false, not, ◌&&◌, ◌||◌, ◌==◌, nat_le, List, [], ◌∷◌, length, map, Option, Some, None, if◌then◌else◌}
+use Rattle.std.specs.Prelude.{ℕ, Bool, ◌&&◌, ◌||◌, ◌==◌, nat_le, List, length, map, Option, Some, None, if◌then◌else◌}
 use Rattle.std.specs.List.{list_any, list_all}
 use Rattle.std.specs.Char.{is_ascii_digit}
 use Rattle.std.specs.Str.Parse.{digits_value}
@@ -27,15 +27,10 @@ axes_in list = map axis_of list
 abbrev pub passes_in : List ℕ → Option (List Axis)
 passes_in text = if is_pass_list text then Some (axes_in text) else None
 
--- there is a first byte, and it is not the digit 0
-abbrev pub begins_above_zero : List ℕ → Bool
-begins_above_zero [] = false
-begins_above_zero (b ∷ bs) = not (b == 48)
-
--- a number: one to three decimal digits, of which the first is not 0
+-- a number: one to three decimal digits
 abbrev pub is_number : List ℕ → Bool
-is_number text = nat_le (length text) 3 && (list_all is_ascii_digit text && begins_above_zero text)
+is_number text = nat_le 1 (length text) && (nat_le (length text) 3 && list_all is_ascii_digit text)
 
--- the number of a text, where it is one and at most 64
+-- a count: the number of a text, where it is one of 1 to 64
 abbrev pub count_in : List ℕ → Option ℕ
-count_in text = if is_number text && nat_le (digits_value 10 text) 64 then Some (digits_value 10 text) else None
+count_in text = if is_number text && (nat_le 1 (digits_value 10 text) && nat_le (digits_value 10 text) 64) then Some (digits_value 10 text) else None

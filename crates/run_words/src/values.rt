@@ -1,7 +1,7 @@
 //! What may stand in the words: lists of passes, and numbers.
 
 ghost use Rattle.std.specs.Prelude.{◌≡◌, true, IfOk, IfSome, ◌≤◌};
-ghost use Rattle.run_words.specs.Values.{axes_in, begins_above_zero, count_in, is_number, is_pass_list};
+ghost use Rattle.run_words.specs.Values.{axes_in, count_in, is_number, is_pass_list};
 
 use lam_geom::Axis;
 use std::alloc::{AllocError, Global};
@@ -33,22 +33,12 @@ pub(crate) fn axes(alloc: Global, passes: &str) -> Result<Vec<Axis>, AllocError>
     Ok(axes)
 }
 
-// Whether digits begin with another than 0.
-fn begins_above_zero(digits: &[u8]) -> bool
-    ensures { result ≡ begins_above_zero digits.now }
-{
-    match digits {
-        [first, ..] => *first != b'0',
-        [] => false,
-    }
-}
-
-// Whether a word is a number: one to three decimal digits, of which the first is not 0.
+// Whether a word is a number: one to three decimal digits.
 fn is_number(word: &str) -> bool
     ensures { result ≡ is_number word.now }
 {
     let digits = word.as_bytes();
-    digits.len() <= 3 && (digits.iter().all(|b| b.is_ascii_digit()) && begins_above_zero(digits))
+    1 <= digits.len() && (digits.len() <= 3 && digits.iter().all(|b| b.is_ascii_digit()))
 }
 
 // The number that a word is, where it is 1 to 64.
@@ -60,7 +50,13 @@ pub(crate) fn count(word: &str) -> Option<u32>
         return None;
     }
     match word.parse::<u32>() {
-        Ok(n) => { if n <= MOST_COUNT { Some(n) } else { None } }
+        Ok(n) => {
+            if 1 <= n && n <= MOST_COUNT {
+                Some(n)
+            } else {
+                None
+            }
+        }
         Err(_) => None,
     }
 }

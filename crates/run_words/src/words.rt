@@ -1,6 +1,6 @@
 //! Reading a command line.
 
-ghost use Rattle.std.specs.Prelude.{◌≡◌, ◌≤◌, Some, None, Err, IfOk};
+ghost use Rattle.std.specs.Prelude.{◌≡◌, ◌≤◌, Some, None, Err, IfOk, IfErr, []};
 ghost use Rattle.clap.specs.Words.{found_of, rows_of};
 ghost use Rattle.run_words.specs.Values.{count_in, passes_in};
 ghost use Rattle.run_words.specs.Words.{bench_of, check_of, command_named, command_of, compact_of, edit_of, extract_of, fmt_of, jog_of, passes_of, slack_of, split_of, texts_of};
@@ -33,6 +33,7 @@ fn split_of(found: &ArgMatches) -> Result<u32, WordsFault>
     ensures number { IfOk result (λ split. count_in (split_of (rows_of (found_of found.now))) ≡ Some split) }
     ensures limits { IfOk result (λ split. (1 ≤ split) × (split ≤ 64)) }
     ensures usage { result ≡ Err Usage → count_in (split_of (rows_of (found_of found.now))) ≡ None }
+    ensures alone { IfErr result (λ fault. fault ≡ Usage) }
 {
     count(text_or(found, "split", "1")).ok_or(WordsFault::Usage)
 }
@@ -182,12 +183,13 @@ fn read_named<'a>(
 }
 
 /// The command that the words are, which are those behind the program's name. `Usage` comes exactly where they are no
-/// command. Want of memory is the one other refusal.
+/// command, and without words nothing else comes. Want of memory is the one other refusal.
 pub fn read_words<'a>(alloc: Global, words: &'a [&'a str]) -> Result<Command<'a>, WordsFault>
     ensures command { IfOk result (λ command. command_of (texts_of words.now) ≡ Some (command_from command)) }
     ensures passes { IfOk result HasPassList }
     ensures limits { IfOk result IsWithinLimits }
     ensures usage { result ≡ Err Usage → command_of (texts_of words.now) ≡ None }
+    ensures bare { words.now ≡ [] → result ≡ Err Usage }
 {
     match words {
         [] => Err(WordsFault::Usage),

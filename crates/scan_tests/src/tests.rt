@@ -1,7 +1,4 @@
-//! What the scans find, and what the definitions say.
+//! What the scans find among many items, and the first clash of few.
 
 mod boxed;
-mod clashes;
-mod definition;
-mod made;
 mod many;

@@ -7,10 +7,10 @@ use Rattle.std.proofs.lemmas.List.Filters.{length-filter_more}
 use Rattle.list_facts.proofs.Pieces.{piece_added}
 use Rattle.shadow_prune.specs.declared.keeping.KeptFault.{KeptFault}
 use Rattle.shadow_prune.specs.declared.keeping.KeptFault.TheVariants.{TooMany, OutOfMemory}
-use Rattle.shadow_prune.specs.KeptFaults.{RefusesKept}
+use Rattle.shadow_prune.specs.KeptFaults.{RefusesExactly, RefusesKept}
 
 -- a count that is past the limit stays so where it grows
-pub more_for : (limit m n : ℕ) (fault : KeptFault) → m ≤ n → RefusesKept limit m fault → RefusesKept limit n fault
+pub more_for : (limit m n : ℕ) (fault : KeptFault) → m ≤ n → RefusesExactly limit m fault → RefusesKept limit n fault
 more_for limit m n TooMany le h = omega arith
 more_for limit m n OutOfMemory le h = tt
 

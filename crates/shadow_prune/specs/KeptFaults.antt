@@ -1,5 +1,5 @@
 -- Why there is no list of kept pairs.
-use Rattle.std.specs.Prelude.{ℕ, ◌<◌}
+use Rattle.std.specs.Prelude.{ℕ, ◌<◌, ◌≤◌}
 use Rattle.shadow_prune.specs.declared.keeping.KeptFault.{KeptFault}
 use Rattle.shadow_prune.specs.declared.keeping.KeptFault.TheVariants.{TooMany, OutOfMemory}
 
@@ -7,3 +7,8 @@ use Rattle.shadow_prune.specs.declared.keeping.KeptFault.TheVariants.{TooMany, O
 abbrev pub RefusesKept : ℕ → ℕ → KeptFault → Type 0
 RefusesKept limit count TooMany = limit < count
 RefusesKept limit count OutOfMemory = Unit {0}
+
+-- the same where memory is asked for only once they are known to be few enough
+abbrev pub RefusesExactly : ℕ → ℕ → KeptFault → Type 0
+RefusesExactly limit count TooMany = limit < count
+RefusesExactly limit count OutOfMemory = count ≤ limit

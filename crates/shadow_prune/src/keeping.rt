@@ -10,7 +10,7 @@ ghost use Rattle.pair_rules.specs.Candidates.{spacing_at, Keeps};
 ghost use Rattle.pair_rules.specs.Clean.{IsClean};
 ghost use Rattle.pair_rules.specs.Kept.{IsKept, least_of, reaches, is_constant, is_kept, kept_of};
 ghost use Rattle.shadow_prune.specs.declared.keeping.KeptFault.TheVariants.{OutOfMemory};
-ghost use Rattle.shadow_prune.specs.KeptFaults.{RefusesKept};
+ghost use Rattle.shadow_prune.specs.KeptFaults.{RefusesExactly, RefusesKept};
 ghost use Rattle.shadow_prune.specs.Fronts.{IsPairOf, IsFrontOfOne, StandsBehind, shadows_by};
 ghost use Rattle.shadow_prune.specs.Runs.{AreRuns};
 
@@ -176,7 +176,7 @@ fn push_kept(kept: &mut Vec<Pair>, limit: u32, found: &[Pair]) -> Result<(), Kep
     requires room { length kept.old.items ≤ limit }
     ensures pushed { OnOk result (kept.new.items ≡ kept.old.items ++ found.now) }
     ensures few { OnOk result (length kept.new.items ≤ limit) }
-    ensures fault { IfErr result (RefusesKept limit (length kept.old.items + length found.now)) }
+    ensures fault { IfErr result (RefusesExactly limit (length kept.old.items + length found.now)) }
 {
     if found.len() > limit as usize - kept.len() {
         return Err(KeptFault::TooMany);

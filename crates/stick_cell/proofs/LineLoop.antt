@@ -13,7 +13,7 @@ use Rattle.stick_parse.specs.declared.fault.ParseFault.TheVariants.{Stick, OutOf
 use Rattle.stick_parse.specs.declared.fault.StickKind.TheVariants.{RepeatedName, PortWires}
 use Rattle.stick_parse.specs.declared.design.Line.{Line}
 use Rattle.stick_parse.specs.declared.design.CellText.{CellText}
-use Rattle.stick_parse.specs.Reading.{◌>>=◌, Fails, FailsLine}
+use Rattle.stick_parse.specs.Reading.{◌>>=◌, Fails}
 use Rattle.stick_parse.specs.Order.{at_line}
 use Rattle.stick_parse.specs.Writable.{IsForm, IsLine}
 use Rattle.list_facts.proofs.Elements.{all_at}
@@ -22,6 +22,7 @@ use Rattle.stick_cell.specs.Lines.{after_form, after_lines, is_wired, is_new_cel
 use Rattle.stick_cell.specs.Checks.{demand}
 use Rattle.stick_cell.specs.declared.table.Table.{Table}
 use Rattle.stick_cell.specs.Tables.{AreTables}
+use Rattle.stick_cell.specs.Growing.{RefusesLine}
 use Rattle.stick_cell.specs.Resolving.{fault_at_line, TellsTable}
 use Rattle.stick_cell.proofs.TableReads.{position-name}
 
@@ -38,13 +39,13 @@ lines-next tech cells known next lines i line lt e ok =
 
 -- a line that is refused
 pub lines-refused : (tech : Tech) (cells : List Known) (known : Known) (lines : List Line) (i : ℕ) (line : Line) (fault : LineFault) (r : ParseFault) (whole : Result Known StickFault)
-    → i < length lines → line ≡ get_or lines i line → FailsLine fault (after_form tech cells known line.form) → r ≡ fault_at_line line.number fault
+    → i < length lines → line ≡ get_or lines i line → RefusesLine fault (after_form tech cells known line.form) → r ≡ fault_at_line line.number fault
     → after_lines tech cells known (drop i lines) ≡ whole → Fails r whole
 lines-refused tech cells known lines i line fault r whole lt e fails is same =
     let P : ParseFault → Type 0 = λ fault. Fails fault whole in
     subst P (sym is) (by fault fails)
   where
-    by : (fault : LineFault) → FailsLine fault (after_form tech cells known line.form) → Fails (fault_at_line line.number fault) whole
+    by : (fault : LineFault) → RefusesLine fault (after_form tech cells known line.form) → Fails (fault_at_line line.number fault) whole
     by (line_faults.Kind kind) refused = sym same ∙ lines-at tech cells known lines i line lt e ∙ ap (λ r. at_line line.number r >>= (λ next. after_lines tech cells next (drop (i + 1) lines))) refused
     by line_faults.OutOfMemory refused = tt
 

@@ -6,8 +6,8 @@ use Rattle.std.specs.Str.{bytes_eq}
 use Rattle.stick_parse.specs.declared.fault.StickKind.{StickKind}
 use Rattle.stick_parse.specs.declared.fault.StickKind.TheVariants.{RepeatedName, FarPlace, BadSize, NoBuried}
 use Rattle.stick_parse.specs.declared.fault.LineFault.{LineFault}
-use Rattle.stick_parse.specs.declared.fault.LineFault.TheVariants.{Kind}
-use Rattle.stick_parse.specs.Reading.{◌>>=◌, FailsLine}
+use Rattle.stick_parse.specs.declared.fault.LineFault.TheVariants.{Kind, OutOfMemory}
+use Rattle.stick_parse.specs.Reading.{◌>>=◌}
 use Rattle.stick_cell.specs.declared.growing.Growing.{Growing}
 use Rattle.stick_cell.specs.declared.names.Thing.{Thing}
 use Rattle.std.specs.Prelude.{ℤ, pos}
@@ -21,7 +21,7 @@ use Rattle.stick_cell.specs.Known.{Known, Plug, with_node, with_port}
 use Rattle.stick_cell.specs.Lines.{axis_where, after_joint, after_contact, after_buried, after_fet, after_port}
 use Rattle.stick_cell.specs.Paths.{Names, named}
 use Rattle.stick_cell.specs.Kept.{capped_thing, capped_names}
-use Rattle.stick_cell.specs.Growing.{Grows, IsWiredBelow, placed}
+use Rattle.stick_cell.specs.Growing.{Grows, RefusesLine, IsWiredBelow, placed}
 
 -- two steps and a third
 pub bind_assoc : {A B C E : Type 0} (m : Result A E) (f : A → Result B E) (g : B → Result C E) → ((m >>= f) >>= g) ≡ (m >>= (λ x. f x >>= g))
@@ -137,4 +137,10 @@ port-by known name side layer place r is =
 pub grows-residual : {X : Type 0} (cells : List Known) (result : Result X LineFault) (growing : Growing) (read : Result Known StickKind) (kind : StickKind)
     → IsErrAnd result (λ e. e ≡ Kind kind) → read ≡ Err kind → Grows cells result growing read
 grows-residual cells (Ok x) growing read kind is refused = absurd is
-grows-residual cells (Err e) growing read kind is refused = let P : LineFault → Type 0 = λ f. FailsLine f read in subst P (sym is) refused
+grows-residual cells (Err e) growing read kind is refused = let P : LineFault → Type 0 = λ f. RefusesLine f read in subst P (sym is) refused
+
+-- and where memory ran out at a line that has no fault
+pub grows-memory : {X : Type 0} (cells : List Known) (result : Result X LineFault) (growing : Growing) (read : Result Known StickKind) (next : Known)
+    → IsErrAnd result (λ e. e ≡ OutOfMemory) → read ≡ Ok next → Grows cells result growing read
+grows-memory cells (Ok x) growing read next is told = absurd is
+grows-memory cells (Err e) growing read next is told = let P : LineFault → Type 0 = λ f. RefusesLine f read in subst P (sym is) (next, told)

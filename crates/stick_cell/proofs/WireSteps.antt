@@ -16,10 +16,10 @@ use Rattle.stick_cell.specs.declared.names.Terminal.{Terminal}
 use Rattle.rule_table.specs.declared.classes.Layer.{Layer}
 use Rattle.rule_table.specs.declared.technology.Tech.{Tech}
 use Rattle.stick_parse.specs.declared.design.Layer.{Layer as DrawnLayer}
-use Rattle.stick_parse.specs.Reading.{◌>>=◌, FailsLine}
+use Rattle.stick_parse.specs.Reading.{◌>>=◌}
 use Rattle.std.specs.Result.{IsErrAnd}
 use Rattle.stick_parse.specs.declared.fault.LineFault.{LineFault}
-use Rattle.stick_parse.specs.declared.fault.LineFault.TheVariants.{Kind}
+use Rattle.stick_parse.specs.declared.fault.LineFault.TheVariants.{Kind, OutOfMemory}
 use Rattle.stick_cell.specs.declared.sides.SideMap.{SideMap}
 use Rattle.stick_parse.specs.Writable.{IsPath}
 use Rattle.stick_cell.specs.declared.names.Found.TheVariants.{At}
@@ -48,7 +48,7 @@ use Rattle.stick_cell.proofs.KeptWires.{result_map, capped_run, run_of-kept, wir
 use Rattle.stick_cell.specs.Known.{Known, Plug, cell_of, no_plug, plug_at, plugged, with_wire, with_limit}
 use Rattle.stick_cell.specs.Counts.{weight_of, capped}
 use Rattle.stick_cell.specs.Kept.{kept_found, capped_end, capped_wire, capped_spot, IsNearFound}
-use Rattle.stick_cell.specs.Growing.{IsGrowing, GrowsWith, port_so_far, IsWiredBelow, plugged_ports, plugged_marks, found_or_unknown}
+use Rattle.stick_cell.specs.Growing.{IsGrowing, GrowsWith, port_so_far, IsWiredBelow, plugged_ports, plugged_marks, found_or_unknown, RefusesLine}
 
 -- what a path comes to, or that its name is unknown
 pub found-known : (found : Option Found) (kept : Option Found) (r : Result Found StickKind) → r ≡ ok_or kept UnknownName → kept ≡ option_map kept_found found → r ≡ found_or_unknown found
@@ -190,7 +190,12 @@ other_sides cells known growing sides is =
 pub with-residual : {X : Type 0} (cells : List Known) (result : Result X LineFault) (growing : Growing) (read : Result Known StickKind) (kind : StickKind)
     → IsErrAnd result (λ e. e ≡ Kind kind) → read ≡ Err kind → GrowsWith cells result growing read
 with-residual cells (Ok x) growing read kind is refused = absurd is
-with-residual cells (Err e) growing read kind is refused = let P : LineFault → Type 0 = λ f. FailsLine f read in subst P (sym is) refused
+with-residual cells (Err e) growing read kind is refused = let P : LineFault → Type 0 = λ f. RefusesLine f read in subst P (sym is) refused
+
+pub with-memory : {X : Type 0} (cells : List Known) (result : Result X LineFault) (growing : Growing) (read : Result Known StickKind) (next : Known)
+    → IsErrAnd result (λ e. e ≡ OutOfMemory) → read ≡ Ok next → GrowsWith cells result growing read
+with-memory cells (Ok x) growing read next is told = absurd is
+with-memory cells (Err e) growing read next is told = let P : LineFault → Type 0 = λ f. RefusesLine f read in subst P (sym is) (next, told)
 
 -- an `Ok` or an `Err` that is seen by view
 pub result_map-err : {A B E : Type 0} (view : A → B) (read : Result A E) (kind : E) → result_map view read ≡ Err kind → read ≡ Err kind

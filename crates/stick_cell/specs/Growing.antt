@@ -4,7 +4,8 @@ use Rattle.std.specs.List.{AllByRecursion}
 use Rattle.stick_parse.specs.declared.fault.StickKind.{StickKind}
 use Rattle.stick_parse.specs.declared.fault.StickKind.TheVariants.{RepeatedName, UnknownName, UseDepth, UsedPorts, FarPlace}
 use Rattle.stick_parse.specs.declared.fault.LineFault.{LineFault}
-use Rattle.stick_parse.specs.Reading.{◌>>=◌, FailsLine}
+use Rattle.stick_parse.specs.declared.fault.LineFault.TheVariants as line_faults
+use Rattle.stick_parse.specs.Reading.{◌>>=◌}
 use Rattle.cell_model.specs.declared.cell.CellPort.{CellPort}
 use Rattle.cell_model.specs.declared.cell.WireEnd.{WireEnd}
 use Rattle.cell_model.specs.declared.cell.WireEnd.TheVariants as ends
@@ -36,16 +37,20 @@ pub record IsGrowing (cells : List Known) (known : Known) (growing : Growing) : 
   pub steps : AreStepsOf cells known growing.table.steps.items
   pub below : AllByRecursion (IsWiredBelow (length known.wires)) known.plugs
 
--- A line that is read gives what the definition says is known after it; one that is refused, the same kind. Nothing is said where memory
--- ran out.
+-- a line is refused with its kind, and with want of memory only where it has no fault
+abbrev pub RefusesLine : LineFault → Result Known StickKind → Type 0
+RefusesLine (line_faults.Kind kind) read = read ≡ Err kind
+RefusesLine line_faults.OutOfMemory read = (next : Known) × (read ≡ Ok next)
+
+-- a line that is read gives what the definition says is known after it
 abbrev pub Grows : {X : Type 0} → List Known → Result X LineFault → Growing → Result Known StickKind → Type 0
 Grows cells (Ok x) growing read = (next : Known) × (read ≡ Ok next) × IsGrowing cells next growing
-Grows cells (Err fault) growing read = FailsLine fault read
+Grows cells (Err fault) growing read = RefusesLine fault read
 
 -- and the sides that are kept tell of the cell's own wires
 abbrev pub GrowsWith : {X : Type 0} → List Known → Result X LineFault → Growing → Result Known StickKind → Type 0
 GrowsWith cells (Ok x) growing read = (next : Known) × (read ≡ Ok next) × IsGrowing cells next growing × AreSidesOf cells next (side_entries growing.table.sides)
-GrowsWith cells (Err fault) growing read = FailsLine fault read
+GrowsWith cells (Err fault) growing read = RefusesLine fault read
 
 -- a new name, and a column and a row that are not too far out
 unfoldable pub placed : Names → List ℕ → ℕ → ℕ → Result (Unit {0}) StickKind

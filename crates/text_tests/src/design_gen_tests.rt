@@ -100,8 +100,8 @@ fn a_square_of_four_points_has_one_node_of_each_kind(rt: HostRuntime) -> Result<
     assert_made(&rt, rt.alloc(), 2, 6, &lines)
 }
 
-// At y = 2 the draws are 5, 4, 5, 5 and 1: the wire comes where a draw of 5 stands behind a metal joint, and neither at column 0 nor at
-// the draw of 1.
+// At y = 2 the draws are 5, 4, 5, 5 and 1: the wire comes where a draw of 5 stands behind a metal joint, and neither at
+// column 0 nor at the draw of 1.
 #[test]
 fn a_wire_stands_behind_the_nodes(rt: HostRuntime) -> Result<(), Fail> {
     let lines = [

@@ -1,4 +1,5 @@
-//! Tests of the crates that read and write texts: designs, technologies and the words of the command line. There is no other code.
+//! Tests of the crates that read and write texts: designs, technologies and the words of the command line. There is no
+//! other code.
 #![tactic(auto)]
 
 #[cfg(test)]

@@ -94,6 +94,10 @@ fn words_mean_commands(rt: HostRuntime) -> Result<(), Fail> {
         ("fmt -", "fmt -"),
         ("bench 1", "bench 1"),
         ("bench -- 64", "bench 64"),
+        // a number is one to three digits
+        ("bench 01", "bench 1"),
+        ("bench 064", "bench 64"),
+        ("check c --tech t --split 008", "check c t 8"),
     ];
     for (line, expected) in lines {
         assert_eq!(rt; meaning(rt.alloc(), line)?.as_str(), expected, "{line}");
@@ -139,12 +143,13 @@ fn other_words_are_refused(rt: HostRuntime) -> Result<(), Fail> {
         "fmt d --tech t",
         "fmt --help",
         "fmt -h",
-        "compact d --tech t --split 01",
+        "compact d --tech t --split 0001",
         "compact d --tech t --split +1",
         "compact d --tech t --split 1000",
         "bench",
         "bench 0",
-        "bench 01",
+        "bench 00",
+        "bench 065",
         "bench 65",
         "bench 2 2",
         "bench 2 --tech t",

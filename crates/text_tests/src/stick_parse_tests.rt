@@ -1,10 +1,8 @@
 //! Designs out of texts, and the first fault of a text.
-ghost use Rattle.std.specs.Prelude.{◌^◌, ◌≤◌, length};
-
 use std::alloc::Global;
 use std::process::Abort;
 use std::test::Fail;
-use stick_parse::{ParseFault, StickKind, parse};
+use stick_parse::{ParseFault, parse};
 
 /// A text that has each kind of line.
 const EACH_LINE: &[u8] = b"sticks 1
@@ -27,113 +25,109 @@ row n
 end
 ";
 
-/// The line and the kind of the first fault; line 0 where there is a design.
-fn fault_of(alloc: Global, text: &[u8]) -> Result<(u32, StickKind), Fail>
-    requires { length text.now ≤ 2 ^ 20 }
-{
+/// The line and the kind of the first fault, or that there is a design.
+fn fault_of(alloc: Global, text: &[u8]) -> Result<String, Fail> {
+    if text.len() > 1 << 20 {
+        return Err("a short text")?;
+    }
     match parse(alloc, text) {
-        Ok(_) => Ok((0, StickKind::BadLine)),
-        Err(ParseFault::Stick(fault)) => Ok((fault.line, fault.kind)),
+        Ok(_) => Ok(String::from_str(alloc, "none")?),
+        Err(ParseFault::Stick(fault)) => {
+            Ok(format!(in alloc; "{} {:?}", fault.line, fault.kind)?)
+        }
         Err(ParseFault::OutOfMemory) => Err("want of memory")?,
     }
 }
 
-/// Each text has its first fault at the line and of the kind beside it.
+// A table has a line for each text, but for comments: its fault, and what stands between a front and a back. A stroke
+// stands for the end of a line.
 fn assert_faults<A: Abort>(
     rt: &A,
     alloc: Global,
-    cases: &[(&[u8], u32, StickKind)],
+    front: &str,
+    table: &str,
+    back: &str,
 ) -> Result<(), Fail> {
-    for (text, line, kind) in cases {
-        if text.len() > 4000 {
-            return Err("a short text")?;
+    for line in table.lines() {
+        if line.is_empty() || line.starts_with('#') {
+            continue;
         }
-        assert_eq!(rt; fault_of(alloc, text)?, (*line, *kind));
+        let (wanted, middle) = line.split_once(':').ok_or("a line without a fault")?;
+        let text = format!(in alloc; "{front}{}{back}", middle.trim_start())?;
+        let text = text.replace(alloc, '/', "\n")?;
+        let fault = fault_of(alloc, text.as_bytes())?;
+        assert_eq!(rt; fault.as_str(), wanted, "{text}");
     }
     Ok(())
 }
 
-/// The line and the kind of the first fault where this is the only line of the only cell, which is the third of the text.
-fn fault_of_line(rt: &HostRuntime, line: &[u8]) -> Result<(u32, StickKind), Fail> {
-    let mut text = Vec::from_slice(rt.alloc(), b"sticks 1\ncell a\n")?;
-    text.extend_from_slice(line)?;
-    text.extend_from_slice(b"\nend\ngrid\nend\n")?;
-    if text.len() > 4000 {
-        return Err("a short line")?;
-    }
-    fault_of(rt.alloc(), &text)
-}
+// The only line of the only cell, the third of the text.
+const LINES: &str = "
+3 BadByte: abcdefghijklmnopqrstuvwxyz_012345
+3 NumberTooLarge: joint p metal 0 1000001 %/%
+3 BadLine: joint p metal -1 0
+3 BadLine: contact c metal 0 0
+3 BadLine: buried b 1
+3 BadLine: buried b 1 0 8
+3 BadLine: buried b poly 1 0
+3 BadLine: buried u.b 1 0
+3 BadLine: buried b 1 -1
+3 NumberTooLarge: buried b 1 1000001
+3 BadLine: fet f dep h 0 0 4
+3 BadLine: limit x p q <= 1 2
+3 BadLine: cell b
+3 BadLine: row a
+";
 
-#[test]
-fn a_line_of_a_cell_with_a_fault_is_refused(rt: HostRuntime) -> Result<(), Fail> {
-    let cases: [(&[u8], StickKind); 15] = [
-        (b"abcdefghijklmnopqrstuvwxyz_012345", StickKind::BadByte),
-        (b"joint p\x80 metal 0 0", StickKind::BadByte),
-        (b"joint p metal 0 1000001 %\n%", StickKind::NumberTooLarge),
-        (b"joint p metal -1 0", StickKind::BadLine),
-        (b"contact c metal 0 0", StickKind::BadLine),
-        (b"buried b 1", StickKind::BadLine),
-        (b"buried b 1 0 8", StickKind::BadLine),
-        (b"buried b poly 1 0", StickKind::BadLine),
-        (b"buried u.b 1 0", StickKind::BadLine),
-        (b"buried b 1 -1", StickKind::BadLine),
-        (b"buried b 1 1000001", StickKind::NumberTooLarge),
-        (b"fet f dep h 0 0 4", StickKind::BadLine),
-        (b"limit x p q <= 1 2", StickKind::BadLine),
-        (b"cell b", StickKind::BadLine),
-        (b"row a", StickKind::BadLine),
-    ];
-    for (line, kind) in cases {
-        assert_eq!(rt; fault_of_line(&rt, line)?, (3, kind));
-    }
-    Ok(())
-}
+// Whole texts: the first fault with its line, names of grids, which are of version 2 alone, and what may vary.
+const TEXTS: &str = "
+1 Unended:
+3 BadLine: sticks 1/cell a/wire metal p
+2 BadByte: sticks 1/cell a\0/
+2 BadLine: sticks 1/cell a.b/
+2 BadLine: sticks 1/joint p metal 0 0/
+3 BadLine: sticks 1/grid/row/
+4 BadLine: sticks 1/grid/end/grid/
+1 BadLine: grid/end/
+# Grids.
+1 BadLine: sticks 0/grid/end/
+1 BadLine: sticks 3/grid a/end/
+2 BadLine: sticks 1/grid a/end/
+4 BadLine: sticks 1/grid/end/grid b/end/
+2 BadLine: sticks 2/grid/end/
+2 BadLine: sticks 2/grid a.b/end/
+2 BadLine: sticks 2/grid a b/end/
+3 BadLine: sticks 2/grid a/grid b/end/
+4 BadLine: sticks 2/grid a/end/grid/end/
+4 BadLine: sticks 2/grid a/end/cell c/end/
+4 BadLine: sticks 2/grid a/end/row c/
+1 Unended: sticks 2/
+4 Unended: sticks 2/cell c/end//
+3 Unended: sticks 2/grid a/row c/
+6 Unended: sticks 2/grid a/end/grid b/row c/# c
+# No fault.
+none: sticks 2/grid a/end
+none: sticks 02/cell a/end/grid a/row a/end//grid  b # behind it/row b a/end/
+none: sticks 1/cell abcdefghijklmnopqrstuvwxyz_01234/joint p metal -0 0004095 1000000/end/grid/end/
+none: sticks 1/cell a/limit y u.p q >= -1000000/end/grid/row a a/row b/end/
+";
 
 #[test]
 fn the_first_fault_is_told_with_its_line(rt: HostRuntime) -> Result<(), Fail> {
-    let cases: [(&[u8], u32, StickKind); 10] = [
-        (b"", 1, StickKind::Unended),
-        (b"\n\n", 2, StickKind::Unended),
-        (b"sticks 1\ncell a\nwire metal p", 3, StickKind::BadLine),
-        (b"sticks 1\r\n# all\r\ngrid\r", 3, StickKind::BadByte),
-        (b"sticks 1\ncell a\0\n", 2, StickKind::BadByte),
-        (b"sticks 1\ncell a.b\n", 2, StickKind::BadLine),
-        (b"sticks 1\njoint p metal 0 0\n", 2, StickKind::BadLine),
-        (b"sticks 1\ngrid\nrow\n", 3, StickKind::BadLine),
-        (b"sticks 1\ngrid\nend\ngrid\n", 4, StickKind::BadLine),
-        (b"grid\nend\n", 1, StickKind::BadLine),
+    let alloc = rt.alloc();
+    assert_faults(&rt, alloc, "sticks 1/cell a/", LINES, "/end/grid/end/")?;
+    assert_faults(&rt, alloc, "", TEXTS, "")?;
+    let texts: [(&[u8], &str); 5] = [
+        (b"sticks 1\ncell a\njoint p\x80 metal 0 0\n", "3 BadByte"),
+        (b"\n\n", "2 Unended"),
+        (b"sticks 1\r\n# all\r\ngrid\r", "3 BadByte"),
+        (b"\t sticks 01 \r\n\n# \x80\ngrid\nend", "none"),
+        (EACH_LINE, "none"),
     ];
-    assert_faults(&rt, rt.alloc(), &cases)
-}
-
-#[test]
-fn grids_have_names_under_version_2_alone(rt: HostRuntime) -> Result<(), Fail> {
-    let cases: [(&[u8], u32, StickKind); 15] = [
-        (b"sticks 0\ngrid\nend\n", 1, StickKind::BadLine),
-        (b"sticks 3\ngrid a\nend\n", 1, StickKind::BadLine),
-        (b"sticks 1\ngrid a\nend\n", 2, StickKind::BadLine),
-        (b"sticks 1\ngrid\nend\ngrid b\nend\n", 4, StickKind::BadLine),
-        (b"sticks 2\ngrid\nend\n", 2, StickKind::BadLine),
-        (b"sticks 2\ngrid a.b\nend\n", 2, StickKind::BadLine),
-        (b"sticks 2\ngrid a b\nend\n", 2, StickKind::BadLine),
-        (b"sticks 2\ngrid a\ngrid b\nend\n", 3, StickKind::BadLine),
-        (b"sticks 2\ngrid a\nend\ngrid\nend\n", 4, StickKind::BadLine),
-        (
-            b"sticks 2\ngrid a\nend\ncell c\nend\n",
-            4,
-            StickKind::BadLine,
-        ),
-        (b"sticks 2\ngrid a\nend\nrow c\n", 4, StickKind::BadLine),
-        (b"sticks 2\n", 1, StickKind::Unended),
-        (b"sticks 2\ncell c\nend\n\n", 4, StickKind::Unended),
-        (b"sticks 2\ngrid a\nrow c\n", 3, StickKind::Unended),
-        (
-            b"sticks 2\ngrid a\nend\ngrid b\nrow c\n# c",
-            6,
-            StickKind::Unended,
-        ),
-    ];
-    assert_faults(&rt, rt.alloc(), &cases)
+    for (text, wanted) in texts {
+        assert_eq!(rt; fault_of(alloc, text)?.as_str(), wanted);
+    }
+    Ok(())
 }
 
 #[test]
@@ -153,48 +147,20 @@ fn grids_keep_their_names_and_lines(rt: HostRuntime) -> Result<(), Fail> {
 }
 
 #[test]
-fn what_may_vary_is_read(rt: HostRuntime) -> Result<(), Fail> {
-    let cases: [&[u8]; 6] = [
-        b"sticks 2\ngrid a\nend",
-        b"sticks 02\ncell a\nend\ngrid a\nrow a\nend\n\ngrid  b # behind it\nrow b a\nend\n",
-        b"\t sticks 01 \r\n\n# \x80\ngrid\nend",
-        b"sticks 1\ncell abcdefghijklmnopqrstuvwxyz_01234\njoint p metal -0 0004095 1000000\nend\ngrid\nend\n",
-        b"sticks 1\ncell a\nlimit y u.p q >= -1000000\nend\ngrid\nrow a a\nrow b\nend\n",
-        EACH_LINE,
-    ];
-    for text in cases {
-        assert_eq!(rt; fault_of(rt.alloc(), text)?.0, 0);
-    }
-    Ok(())
-}
-
-#[test]
 fn each_cut_of_a_text_is_refused_but_at_the_last_line_end(rt: HostRuntime) -> Result<(), Fail> {
     for length in 0..EACH_LINE.len() {
-        let line = fault_of(rt.alloc(), &EACH_LINE[..length])?.0;
-        assert_eq!(rt; line == 0, length + 1 == EACH_LINE.len());
+        let fault = fault_of(rt.alloc(), &EACH_LINE[..length])?;
+        assert_eq!(rt; fault.as_str() == "none", length + 1 == EACH_LINE.len());
     }
     Ok(())
 }
 
 #[test]
 fn the_cell_after_the_256th_is_refused(rt: HostRuntime) -> Result<(), Fail> {
-    let mut text = Vec::from_slice(rt.alloc(), b"sticks 1\n")?;
-    for _ in 0..256 {
-        text.extend_from_slice(b"cell a\nend\n")?;
-    }
-    let cells = text.len();
-    text.extend_from_slice(b"grid\nend\n")?;
-    assert!(rt; text.len() < 4000);
-    assert_eq!(rt; fault_of(rt.alloc(), &text)?.0, 0);
-    text.truncate(cells);
-    text.extend_from_slice(b"cell a\n")?;
-    assert!(rt; text.len() < 4000);
-    assert_eq!(rt;
-        fault_of(rt.alloc(), &text)?,
-        (514, StickKind::TooManyCells)
-    );
-    Ok(())
+    let cells = "cell a/end/".repeat(rt.alloc(), 256)?;
+    let front = format!(in rt.alloc(); "sticks 1/{cells}")?;
+    let table = "none: grid/end/\n514 TooManyCells: cell a/";
+    assert_faults(&rt, rt.alloc(), &front, table, "")
 }
 
 #[test]

@@ -13,13 +13,30 @@ fn formatted(rt: &HostRuntime, text: &[u8]) -> Result<Vec<u8>, Fail>
     Ok(print(rt.alloc(), &design)?)
 }
 
+// Texts and their canonical forms: blanks and line ends, numbers that lose leading zeros and the minus of zero, and
+// grids with names, of which two may have one. A stroke stands for the end of a line.
+const TEXTS: &str = "
+sticks 1//cell e # empty/end/grid/row  e/end => sticks 1/cell e/end/grid/row e/end/
+sticks 01\r/cell a\r/joint p metal 007 -0 00\r/limit x p p >= -000\r/end\r/grid\r/end\r/ => sticks 1/cell a/joint p metal 7 0 0/limit x p p >= 0/end/grid/end/
+sticks 2/cell c/end/grid a/row c/end/grid b/row c c/row c c/end/ => sticks 2/cell c/end/grid a/row c/end/grid b/row c c/row c c/end/
+sticks 02 # two//grid  b/end//grid a/ row  c/end => sticks 2/grid b/end/grid a/row c/end/
+sticks 2/grid a/end/grid a/end => sticks 2/grid a/end/grid a/end/
+";
+
 #[test]
-fn comments_blanks_and_line_ends_are_laid_out(rt: HostRuntime) -> Result<(), Fail> {
-    let text = formatted(&rt, b"sticks 1\n\ncell e # empty\nend\ngrid\nrow  e\nend")?;
-    assert_eq!(rt;
-        text.as_slice(),
-        b"sticks 1\ncell e\nend\ngrid\nrow e\nend\n".as_slice()
-    );
+fn texts_are_laid_out(rt: HostRuntime) -> Result<(), Fail> {
+    for line in TEXTS.lines() {
+        if let Some((text, canonical)) = line.split_once(" => ") {
+            let text = text.replace(rt.alloc(), '/', "\n")?;
+            let canonical = canonical.replace(rt.alloc(), '/', "\n")?;
+            let text = text.as_bytes();
+            assert!(rt; text.len() < 4000);
+            let found = formatted(&rt, text)?;
+            assert_eq!(rt; found.as_slice(), canonical.as_bytes());
+        } else {
+            assert!(rt; line.is_empty(), "{line}");
+        }
+    }
     Ok(())
 }
 
@@ -52,41 +69,5 @@ row b b
 end
 ";
     assert_eq!(rt; formatted(&rt, text)?.as_slice(), text.as_slice());
-    Ok(())
-}
-
-#[test]
-fn numbers_lose_leading_zeros_and_the_minus_of_zero(rt: HostRuntime) -> Result<(), Fail> {
-    let text = formatted(
-        &rt,
-        b"sticks 01\r\ncell a\r\njoint p metal 007 -0 00\r\nlimit x p p >= -000\r\nend\r\ngrid\r\nend\r\n",
-    )?;
-    assert_eq!(rt;
-        text.as_slice(),
-        b"sticks 1\ncell a\njoint p metal 7 0 0\nlimit x p p >= 0\nend\ngrid\nend\n".as_slice()
-    );
-    Ok(())
-}
-
-#[test]
-fn grids_of_version_2_are_printed_with_their_names(rt: HostRuntime) -> Result<(), Fail> {
-    let cases: [(&[u8], &[u8]); 3] = [
-        (
-            b"sticks 2\ncell c\nend\ngrid a\nrow c\nend\ngrid b\nrow c c\nrow c c\nend\n",
-            b"sticks 2\ncell c\nend\ngrid a\nrow c\nend\ngrid b\nrow c c\nrow c c\nend\n",
-        ),
-        (
-            b"sticks 02 # two\n\ngrid  b\nend\n\ngrid a\n row  c\nend",
-            b"sticks 2\ngrid b\nend\ngrid a\nrow c\nend\n",
-        ),
-        (
-            b"sticks 2\ngrid a\nend\ngrid a\nend",
-            b"sticks 2\ngrid a\nend\ngrid a\nend\n",
-        ),
-    ];
-    for (text, canonical) in cases {
-        assert!(rt; text.len() < 4000);
-        assert_eq!(rt; formatted(&rt, text)?.as_slice(), canonical);
-    }
     Ok(())
 }

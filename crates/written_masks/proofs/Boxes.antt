@@ -13,7 +13,7 @@ use Rattle.sym_items.specs.declared.items.Coords.{Coords}
 use Rattle.sym_items.specs.Sides.{Sides}
 use Rattle.expand.specs.declared.master.Master.{Master}
 use Rattle.plan_model.specs.declared.plan.Plan.{Plan}
-use Rattle.mask_out.specs.declared.picture.Call.{Call}
+use Rattle.mask_out.specs.declared.drawing.Call.{Call}
 use Rattle.mask_out.specs.Masks.{Mask}
 use Rattle.mask_out.specs.Pictures.{Drawing, no_drawing, shifted, masks_at, masks_called, flat_of}
 use Rattle.crossings.specs.Boxes.{no_box, box_at}

@@ -3,7 +3,7 @@ use Rattle.std.proofs.Common.{◌≡◌, ℕ, zero, suc, ◌+◌, ◌^◌, ◌<�
 use Rattle.std.specs.List.{AllByRecursion, range_with_len}
 use Rattle.std.proofs.lemmas.Bool.Decides.{Decides-int_eq}
 use Rattle.std.proofs.lemmas.List.Elements.{recursion_from_All}
-use Rattle.mask_out.specs.declared.picture.Call as drawn
+use Rattle.mask_out.specs.declared.drawing.Call as drawn
 use Rattle.mask_out.specs.Pictures.{Drawing}
 use Rattle.cif_lex.specs.declared.command.Command.TheVariants.{Call}
 use Rattle.cif_lex.specs.Commands.{is_far}
@@ -59,10 +59,10 @@ stands unit drawings k lt = let first : 0 + k + 1 ≡ k + 1 = omega arith in sub
 abbrev with_call : List Symbol → List Step → Step → Result State CifKind
 with_call symbols steps step = Ok (outside symbols (steps ++ (step ∷ [])))
 
-called_acts : (symbols : List Symbol) (steps : List Step) (n x y : ℤ) (place : ℕ) → is_bad_call n x y false ≡ false → Stands n symbols place
-    → act (outside symbols steps) (Call n (shift_by x y) false false) ≡ with_call symbols steps (called place (pos 2 *ℤ x) (pos 2 *ℤ y))
+called_acts : (symbols : List Symbol) (steps : List Step) (n x y : ℤ) (divisor place : ℕ) → is_bad_call n x y false ≡ false → Stands n symbols place
+    → act (outside symbols steps) (Call n (shift_by x y) false false divisor) ≡ with_call symbols steps (called place (pos 2 *ℤ x) (pos 2 *ℤ y))
 unfolding act
-called_acts symbols steps n x y place fine is =
+called_acts symbols steps n x y divisor place fine is =
     if_not (is_bad_call n x y false) _ _ fine
     ∙ (if_so (is_known n symbols) _ _ is.known ∙ ap (λ (k : ℕ). with_call symbols steps (called k (pos 2 *ℤ x) (pos 2 *ℤ y))) is.at)
 
@@ -75,7 +75,7 @@ call_acts unit drawings steps call few is =
     let x : ℤ = call.x *ℤ unit in
     let y : ℤ = call.y *ℤ unit in
     let end = λ (a b : ℤ). with_call (all_symbols unit drawings) steps (called call.symbol a b) in
-    called_acts (all_symbols unit drawings) steps (pos n) x y call.symbol
+    called_acts (all_symbols unit drawings) steps (pos n) x y _ call.symbol
     (none_of_four (is_bad_symbol (pos n)) false (is_far x) (is_far y) (fine_symbol n small) refl (not_far x is.x) (not_far y is.y)) (stands unit drawings call.symbol known)
     ∙ (ap (λ (a : ℤ). end a (pos 2 *ℤ y)) (shift call.x unit) ∙ ap (λ (b : ℤ). end (call.x *ℤ (pos 2 *ℤ unit)) b) (shift call.y unit))
 

@@ -17,6 +17,7 @@ use Rattle.written_masks.specs.TextMeanings.{IsNumber}
 use Rattle.written_masks.proofs.Spelled.{is_spelled, not_far, small_number}
 use Rattle.cif_lex.specs.declared.placement.Transformation.TheVariants.{Shift}
 use Rattle.cif_lex.specs.Transformations.{IsComposedOf}
+use Rattle.cif_lex.proofs.Divisors.{divisor_of_shift, one_shift_odd}
 use Rattle.written_masks.proofs.Commands.{shift_by}
 
 -- ---- gaps
@@ -85,10 +86,10 @@ neither false false h k = refl
 neither true b h k = absurd cc
 neither false true h k = absurd cc
 
-pub call_is_line : (n : ℕ) (x y : ℤ) → n ≤ 2 ^ 30 → IsNumber x → IsNumber y → IsLineOf (Call (pos n) (shift_by x y) false false) (call_line n x y)
+pub call_is_line : (n : ℕ) (x y : ℤ) → n ≤ 2 ^ 30 → IsNumber x → IsNumber y → IsLineOf (Call (pos n) (shift_by x y) false false (divisor_of_shift x y)) (call_line n x y)
 call_is_line n x y small nx ny =
     let composed : IsComposedOf (Shift x y ∷ []) (shift_by x y) = record { turn = omega arith; same = λ p. refl } in
-    of_words (Call (pos n) (shift_by x y) false false) (Shift x y ∷ [], refl, composed, neither (is_far x) (is_far y) (not_far x nx) (not_far y ny), refl)
+    of_words (Call (pos n) (shift_by x y) false false (divisor_of_shift x y)) (Shift x y ∷ [], refl, composed, neither (is_far x) (is_far y) (not_far x nx) (not_far y ny), refl, one_shift_odd x y)
     (then_letter_blank 67 (then_number (pos n) (small_number n small) (then_letter_blank 84 (then_number x nx (last_number y ny)))))
 
 pub layer_is_line : (layer : MaskLayer) → IsLineOf (Layer (Some layer)) (codes "L " ++ (layer_name layer ++ codes ";\n"))

@@ -2,12 +2,13 @@
 use Rattle.std.proofs.Common.{ℕ, ◌+◌, ℤ, pos, ◌+ℤ◌, ◌-ℤ◌, ◌*ℤ◌, false, Some, List, [], ◌∷◌, ◌++◌, length, map, filter, flat_map, get_or}
 use Rattle.std.specs.List.{range_with_len}
 use Rattle.lam_geom.specs.declared.boxes.MaskLayer.{MaskLayer}
-use Rattle.mask_out.specs.declared.picture.Call as drawn
+use Rattle.mask_out.specs.declared.drawing.Call as drawn
 use Rattle.mask_out.specs.Masks.{Mask, is_same_layer, mask_layers}
 use Rattle.mask_out.specs.Pictures.{Drawing, no_drawing}
 use Rattle.cif_lex.specs.declared.placement.Placement.{Placement}
 use Rattle.cif_lex.specs.declared.command.Command.{Command}
 use Rattle.cif_lex.specs.declared.command.Command.TheVariants.{Define, Finish, Layer, Area, Call, Extension}
+use Rattle.cif_lex.proofs.Divisors.{divisor_of_shift}
 
 abbrev pub box_command : Mask → Command
 box_command m = Area (pos 2 *ℤ (m.sides.right -ℤ m.sides.left)) (pos 2 *ℤ (m.sides.top -ℤ m.sides.bottom)) (m.sides.left +ℤ m.sides.right) (m.sides.bottom +ℤ m.sides.top)
@@ -39,7 +40,10 @@ abbrev pub shift_by : ℤ → ℤ → Placement
 shift_by x y = record { turn = 0; x = x; y = y }
 
 abbrev pub call_command : ℤ → drawn.Call → Command
-call_command unit call = Call (pos (call.symbol + 1)) (shift_by (call.x *ℤ unit) (call.y *ℤ unit)) false false
+call_command unit call =
+    let x = call.x *ℤ unit in
+    let y = call.y *ℤ unit in
+    Call (pos (call.symbol + 1)) (shift_by x y) false false (divisor_of_shift x y)
 
 abbrev pub picture_commands : ℤ → ℤ → List Drawing → List drawn.Call → List Command
 picture_commands unit half drawings calls = symbols_commands half drawings ++ map (call_command unit) calls

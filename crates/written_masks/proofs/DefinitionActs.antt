@@ -11,7 +11,8 @@ use Rattle.cif_lex.specs.declared.command.Command.TheVariants.{Layer, Area}
 use Rattle.cif_lex.specs.Commands.{is_far}
 use Rattle.cif_read.specs.declared.fault.CifKind.{CifKind}
 use Rattle.cif_read.specs.Sheets.{Drawn, Symbol, Step}
-use Rattle.cif_read.specs.Acts.{Named, State, is_bad_length, is_bad_area, scaled, is_odd, is_odd_area, drawn_box, act}
+use Rattle.cif_lex.specs.Shifts.{is_odd}
+use Rattle.cif_read.specs.Acts.{Named, State, is_bad_length, is_bad_area, scaled, is_odd_area, drawn_box, act}
 use Rattle.cif_read.specs.Meaning.{then_act}
 use Rattle.written_masks.specs.TextMeanings.{IsNumber, IsUnit, IsWritableMask, drawn_mask}
 use Rattle.written_masks.proofs.Numbers.{over_one, left_by_one, not_below, lower, upper}

@@ -3,7 +3,7 @@ use Rattle.std.proofs.Common.{ℕ, ◌*◌, ◌^◌, ◌<◌, ◌≤◌, ℤ, po
 use Rattle.std.proofs.lemmas.Int.{ints}
 use Rattle.std.proofs.Math.Nat.{mul-le-mul}
 use Rattle.rule_table.specs.Bounds.{IsSize}
-use Rattle.mask_out.specs.declared.picture.Call.{Call}
+use Rattle.mask_out.specs.declared.drawing.Call.{Call}
 use Rattle.mask_out.specs.Masks.{Mask}
 use Rattle.written_masks.specs.TextMeanings.{IsNumber, IsUnit, IsWritableMask, IsWritableCall}
 

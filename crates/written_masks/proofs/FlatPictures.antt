@@ -5,7 +5,7 @@ use Rattle.std.proofs.lemmas.List.{map-append}
 use Rattle.std.proofs.lemmas.List.Elements.{recursion_from_All}
 use Rattle.std.proofs.lemmas.List.FromFn.{get_or-map-range_with_len}
 use Rattle.lam_geom.specs.declared.boxes.MaskLayer.{MaskLayer}
-use Rattle.mask_out.specs.declared.picture.Call as drawn
+use Rattle.mask_out.specs.declared.drawing.Call as drawn
 use Rattle.mask_out.specs.Masks.{Mask}
 use Rattle.mask_out.specs.Pictures.{Drawing, shifted, masks_at, masks_called, flat_of}
 use Rattle.cif_read.specs.Sheets.{Drawn, Symbol, moved, no_symbol, boxes_of_symbol, boxes_of_step, flattened}

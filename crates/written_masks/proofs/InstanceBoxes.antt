@@ -16,7 +16,7 @@ use Rattle.plan_model.specs.declared.plan.Plan.{Plan}
 use Rattle.plan_model.specs.Instances.{Spot, IsSpot, master_at_spot, spots_of}
 use Rattle.plan_model.specs.Plan.{grids_of}
 use Rattle.pitch_join.specs.Masters.{ArePlanned, master_at, no_master}
-use Rattle.mask_out.specs.declared.picture.Call.{Call}
+use Rattle.mask_out.specs.declared.drawing.Call.{Call}
 use Rattle.mask_out.specs.Masks.{masks_in}
 use Rattle.mask_out.specs.Pictures.{Drawing, drawings_in, call_at, masks_at}
 use Rattle.mask_out.proofs.Counted.{boxes_counted}

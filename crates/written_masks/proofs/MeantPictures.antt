@@ -1,6 +1,6 @@
 -- The text of a picture means the picture.
 use Rattle.std.proofs.Common.{◌≡◌, ℕ, ℤ, Ok, List, [], ◌∷◌, ◌++◌, map, refl, ap, ◌∙◌, append_assoc, codes}
-use Rattle.mask_out.specs.declared.picture.Call as drawn
+use Rattle.mask_out.specs.declared.drawing.Call as drawn
 use Rattle.mask_out.specs.Pictures.{Drawing}
 use Rattle.cif_text.specs.Calls.{cif_of}
 use Rattle.cif_read.specs.Readers.{joined}

@@ -9,7 +9,7 @@ use Rattle.sym_items.specs.Layouts.{size_in}
 use Rattle.expand.specs.declared.master.Master.{Master}
 use Rattle.plan_model.specs.declared.plan.Plan.{Plan}
 use Rattle.plan_model.specs.Plan.{grids_of}
-use Rattle.mask_out.specs.declared.picture.Call.{Call}
+use Rattle.mask_out.specs.declared.drawing.Call.{Call}
 use Rattle.mask_out.specs.Pictures.{Drawing, drawings_in, calls_of}
 use Rattle.written_masks.specs.TextMeanings.{drawn_mask, TextsMeanTheirPicturesToOthers}
 use Rattle.grid_rules.specs.Shapes.{AreShapes}

@@ -8,7 +8,7 @@ use Rattle.std.proofs.lemmas.List.Folds.{flat_map-map}
 use Rattle.std.proofs.lemmas.List.Elements.{All-filter, recursion_from_All}
 use Rattle.list_facts.proofs.Elements.{all_weaker, all_numbers}
 use Rattle.lam_geom.specs.declared.boxes.MaskLayer.{MaskLayer}
-use Rattle.mask_out.specs.declared.picture.Call as drawn
+use Rattle.mask_out.specs.declared.drawing.Call as drawn
 use Rattle.mask_out.specs.Masks.{Mask, is_same_layer, mask_layers}
 use Rattle.mask_out.specs.Pictures.{Drawing, no_drawing}
 use Rattle.cif_lex.specs.declared.command.Command.TheVariants.{Define, Finish}

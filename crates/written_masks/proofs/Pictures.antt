@@ -15,7 +15,7 @@ use Rattle.plan_model.specs.declared.plan.Plan.{Plan}
 use Rattle.plan_model.specs.Instances.{Spot, IsSpot, master_at_spot, spots_of}
 use Rattle.plan_model.specs.Plan.{grids_of}
 use Rattle.pitch_join.specs.Masters.{master_at, no_master, ports_of_masters, master_ports}
-use Rattle.mask_out.specs.declared.picture.Call.{Call}
+use Rattle.mask_out.specs.declared.drawing.Call.{Call}
 use Rattle.mask_out.specs.Pictures.{drawing_in, drawings_in, call_at, calls_of}
 use Rattle.written_masks.specs.TextMeanings.{IsWritableDrawing, IsWritableCall, IsWritablePicture}
 use Rattle.written_masks.proofs.DrawnExtents.{StaysInside, call_inside}

@@ -1,7 +1,7 @@
 -- What the text of a picture means: its boxes, in grains, half hundredths of a micron.
 use Rattle.std.specs.Prelude.{◌≡◌, ℕ, ◌+◌, ◌^◌, ◌<◌, ℤ, pos, neg_ℤ, ◌+ℤ◌, ◌-ℤ◌, ◌*ℤ◌, ◌≤ℤ◌, ◌<ℤ◌, ◌≢◌, All, List, length, map, filter, flat_map, slice_index_or}
 use Rattle.std.specs.List.{range_with_len}
-use Rattle.mask_out.specs.declared.picture.Call.{Call}
+use Rattle.mask_out.specs.declared.drawing.Call.{Call}
 use Rattle.mask_out.specs.Masks.{Mask, is_same_layer, mask_layers}
 use Rattle.mask_out.specs.Pictures.{Drawing, no_drawing, flat_of}
 use Rattle.cif_text.specs.Calls.{cif_of}

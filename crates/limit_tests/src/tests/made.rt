@@ -1,145 +1,45 @@
 //! Limits that only a long text comes to.
 
+use super::facing::facing;
 use super::typed::{CHECK, COMPACT, SHIPPED};
 use std::alloc::{AllocError, Global};
 
-/// What a long text is made of, up to a number of its parts.
-#[derive(Clone, Copy)]
-pub enum Form {
-    /// A design, filled with a comment up to this many bytes.
-    Design,
-    /// A technology, filled likewise.
-    Technology,
-    /// An end and this many bytes in all, the others blanks.
-    Masks,
-    /// This many empty cells.
-    Cells,
-    /// This many cells, each with a use of the one before.
-    Uses,
-    /// A cell with 256 copies of one with this many joints.
-    Copies,
-    /// A grid with this many copies of a column of 1,024 joints.
-    Columns,
-    /// 1,024 copies of 1,024 boxes, and this many boxes besides.
-    Boxes,
-    /// Nine joints, of which all but the last two are a million apart, and these so far.
-    Extent,
-}
+/// Texts as long as they may be, and one byte longer: the code and the report, or how it begins where all is done; and
+/// the form of the text with a number. `Design` is a design, filled with a comment up to this many bytes; `Technology` a
+/// technology, filled likewise; and `Masks` a box without numbers and this many bytes in all, the others blanks: it is
+/// refused for the box, and not read to its end.
+pub const LONGEST: &str = "
+0 pass 1 x edges 11 backward 2 rounds 1/cell a size 18 kept 0/ = Design 1048576
+5 sticks: too long: design = Design 1048577
+0 pass 1 x edges 11 backward 2 rounds 1/cell a size 18 kept 0/ = Technology 65536
+5 sticks: too long: technology = Technology 65537
+12 sticks: byte 0: BadCommand = Masks 67108864
+5 sticks: too long: cif = Masks 67108865
+";
 
-/// A long text, and what it answers: the code, and the report, or how it begins where all is done.
-#[derive(Clone, Copy)]
-pub struct Long {
-    pub form: Form,
-    pub number: u32,
-    pub code: u8,
-    pub report: &'static str,
-}
+/// At each other limit that only a long text comes to, and one past it. `Cells` is this many empty cells; `Uses` this
+/// many cells, each with a use of the one before; `Copies` a cell with 256 copies of one with this many joints;
+/// `Columns` a grid with this many copies of a column of 1,024 joints; `Boxes` 1,024 copies of 1,024 boxes, and this
+/// many boxes besides; and `Extent` nine joints, of which all but the last two are a million apart, and these so far.
+pub const MOST: &str = "
+0 pass 1 x edges 1 backward 0 rounds 1/cell c0 size 6 kept 0/ = Cells 256
+7 sticks: line 514: TooManyCells = Cells 257
+0 pass 1 x edges 1 backward 0 rounds 1/cell c16 size 6 kept 0/ = Uses 16
+7 sticks: line 50: UseDepth = Uses 17
+9 sticks: too large: items = Copies 256
+0 pass 1 x edges 2049 backward 0 rounds 1/cell a size 18 kept 0/ = Columns 1024
+9 sticks: too large: boxes = Columns 1025
+13 sticks: rule 1: boxes 0 0 = Boxes 0
+9 sticks: too large: boxes = Boxes 1
+0 pass 1 x edges 35 backward 0 rounds 1/cell t size 7158278 kept 8/ = Extent 158260
+9 sticks: too large: extent = Extent 158261
+";
 
-/// At each limit that only a long text comes to, and one past it.
-pub const MADE: [Long; 17] = [
-    Long {
-        form: Form::Design,
-        number: 1_048_576,
-        code: 0,
-        report: "pass 1 x edges 11 backward 2 rounds 1\ncell a size 18 kept 0\n",
-    },
-    Long {
-        form: Form::Design,
-        number: 1_048_577,
-        code: 5,
-        report: "sticks: too long: design\n",
-    },
-    Long {
-        form: Form::Technology,
-        number: 65_536,
-        code: 0,
-        report: "pass 1 x edges 11 backward 2 rounds 1\ncell a size 18 kept 0\n",
-    },
-    Long {
-        form: Form::Technology,
-        number: 65_537,
-        code: 5,
-        report: "sticks: too long: technology\n",
-    },
-    Long {
-        form: Form::Masks,
-        number: 67_108_864,
-        code: 0,
-        report: "",
-    },
-    Long {
-        form: Form::Masks,
-        number: 67_108_865,
-        code: 5,
-        report: "sticks: too long: cif\n",
-    },
-    Long {
-        form: Form::Cells,
-        number: 256,
-        code: 0,
-        report: "pass 1 x edges 1 backward 0 rounds 1\ncell c0 size 6 kept 0\n",
-    },
-    Long {
-        form: Form::Cells,
-        number: 257,
-        code: 7,
-        report: "sticks: line 514: TooManyCells\n",
-    },
-    Long {
-        form: Form::Uses,
-        number: 16,
-        code: 0,
-        report: "pass 1 x edges 1 backward 0 rounds 1\ncell c16 size 6 kept 0\n",
-    },
-    Long {
-        form: Form::Uses,
-        number: 17,
-        code: 7,
-        report: "sticks: line 50: UseDepth\n",
-    },
-    Long {
-        form: Form::Copies,
-        number: 256,
-        code: 9,
-        report: "sticks: too large: items\n",
-    },
-    Long {
-        form: Form::Columns,
-        number: 1024,
-        code: 0,
-        report: "pass 1 x edges 2049 backward 0 rounds 1\ncell a size 18 kept 0\n",
-    },
-    Long {
-        form: Form::Columns,
-        number: 1025,
-        code: 9,
-        report: "sticks: too large: boxes\n",
-    },
-    Long {
-        form: Form::Boxes,
-        number: 0,
-        code: 0,
-        report: "",
-    },
-    Long {
-        form: Form::Boxes,
-        number: 1,
-        code: 9,
-        report: "sticks: too large: boxes\n",
-    },
-    Long {
-        form: Form::Extent,
-        number: 158_260,
-        code: 0,
-        report: "pass 1 x edges 35 backward 0 rounds 1\ncell t size 7158278 kept 8\n",
-    },
-    Long {
-        form: Form::Extent,
-        number: 158_261,
-        code: 9,
-        report: "sticks: too large: extent\n",
-    },
-];
+/// One inequality more than a pass may list: 12,284 that hold whatever the layout, and 4,182,021 kept pairs. `Facing` is
+/// two rows of joints on two nets, one behind the other, each of which faces each of the other, and this many limits.
+pub const EDGES: &str = "
+9 sticks: too large: edges = Facing 2059
+";
 
 const UPRIGHT: &str =
     "sticks 1\ncell a\njoint p metal 0 0\njoint q metal 0 1\nwire metal p q\nend\ngrid\nrow a\nend\n";
@@ -199,12 +99,12 @@ fn columns(alloc: Global, number: u32) -> Result<String, AllocError> {
     Ok(text)
 }
 
-// Implants, which no rule looks at where there is no channel.
+// Boxes of metal, of which the first is too narrow: no rule has to look at the others.
 fn boxes(alloc: Global, besides: u32) -> Result<String, AllocError> {
     let symbol = "B 2 2 0 0;".repeat(alloc, 1024)?;
     let calls = "C 1;".repeat(alloc, 1024)?;
     let more = "B 2 2 0 0;".repeat(alloc, besides as usize)?;
-    format!(in alloc; "DS 1; L NI; {symbol} DF; {calls} L NI; {more} E")
+    format!(in alloc; "DS 1; L NM; {symbol} DF; {calls} L NM; {more} E")
 }
 
 // Nine joints in a row, the last two of them so far apart.
@@ -225,29 +125,30 @@ fn extent(alloc: Global, last: u32) -> Result<String, AllocError> {
 /// The words, the technology and the text that are made for a limit.
 pub fn made(
     alloc: Global,
-    form: Form,
+    form: &str,
     number: u32,
 ) -> Result<(&'static str, String, String), AllocError> {
     let tech = match form {
-        Form::Technology => filled(alloc, SHIPPED, number)?,
+        "Technology" => filled(alloc, SHIPPED, number)?,
         _ => String::from_str(alloc, SHIPPED)?,
     };
     let text = match form {
-        Form::Design => filled(alloc, UPRIGHT, number)?,
-        Form::Technology => String::from_str(alloc, UPRIGHT)?,
-        Form::Masks => format!(in alloc;
-            "E{}",
-            " ".repeat(alloc, (number as usize).saturating_sub(1))?
-        )?,
-        Form::Cells => cells(alloc, number)?,
-        Form::Uses => uses(alloc, number)?,
-        Form::Copies => copies(alloc, number)?,
-        Form::Columns => columns(alloc, number)?,
-        Form::Boxes => boxes(alloc, number)?,
-        Form::Extent => extent(alloc, number)?,
+        "Design" => filled(alloc, UPRIGHT, number)?,
+        "Technology" => String::from_str(alloc, UPRIGHT)?,
+        "Cells" => cells(alloc, number)?,
+        "Uses" => uses(alloc, number)?,
+        "Copies" => copies(alloc, number)?,
+        "Columns" => columns(alloc, number)?,
+        "Extent" => extent(alloc, number)?,
+        "Boxes" => boxes(alloc, number)?,
+        "Facing" => facing(alloc, number)?,
+        _ => {
+            let blanks = " ".repeat(alloc, (number as usize).saturating_sub(2))?;
+            format!(in alloc; "B;{blanks}")?
+        }
     };
     let words = match form {
-        Form::Masks | Form::Boxes => CHECK,
+        "Masks" | "Boxes" => CHECK,
         _ => COMPACT,
     };
     Ok((words, tech, text))

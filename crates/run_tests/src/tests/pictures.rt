@@ -1,8 +1,9 @@
 //! The boxes of all instances, read from the masks as they were written.
 ghost use Rattle.std.specs.Prelude.{◌≤◌, ◌^◌, length};
 
+use super::cases::COMPACT;
 use super::grids::GRIDS;
-use super::{answer_to, shelf_of};
+use super::{answer_to, case_of, shelf_of};
 use cif_read::{flatten, read_cif};
 use lam_geom::{BoxXY, MaskBox};
 use std::alloc::Global;
@@ -29,15 +30,16 @@ fn grains(units: i32) -> i64 {
 #[test]
 fn four_inverters_have_140_boxes(rt: HostRuntime) -> Result<(), Fail> {
     let alloc = rt.alloc();
-    let inverters = &GRIDS[0];
-    let written = answer_to(&rt, alloc, inverters, shelf_of(alloc, inverters)?)?.output;
+    let (inverters, _) = GRIDS.split_once("\n\n").ok_or("no case")?;
+    let inverters = case_of(&COMPACT, inverters)?;
+    let written = answer_to(&rt, alloc, &inverters, shelf_of(alloc, &inverters)?)?.output;
     if written.len() > 1 << 26 {
         return Err("too long")?;
     }
     let boxes = boxes_of(alloc, written.as_bytes())?;
     assert_eq!(rt; boxes.len(), 140);
-    // Of each inverter, which is 38 wide, the first box: the diffusion of its lower contact. And the last one of the last: the
-    // implant of its load. Of each box its ends on x and on y.
+    // Of each inverter, which is 38 wide, the first box: the diffusion of its lower contact. And the last one of the
+    // last: the implant of its load. Of each box its ends on x and on y.
     let expected: [(usize, i32, i32, i32, i32); 5] = [
         (0, 6, 14, 6, 14),
         (35, 44, 52, 6, 14),

@@ -1,6 +1,7 @@
 //! As many items as a layout may have, side by side and above one another.
 
-use super::boxed::lie_clean;
+use super::boxed::{have_boxes, lie_clean};
+use coarse_grid::{find_clash, first_clash};
 use lam_geom::Axis;
 use lam_list::Seq;
 use pair_rules::Pair;
@@ -17,7 +18,7 @@ const SQUARES: u32 = 65_536;
 const ROWS: u32 = 16;
 
 // A metal square of a part and a net of its own, about the variable of that number on each axis.
-pub fn square(k: u32) -> Item {
+fn square(k: u32) -> Item {
     let (low, high) = (End { var: k, off: -3 }, End { var: k, off: 3 });
     Item {
         class: Class::M,
@@ -87,6 +88,24 @@ fn many_pairs(rt: HostRuntime) -> Result<(), Fail> {
     match kept(alloc, Axis::X, &tech, &items, &coords, 65_520) {
         Ok(pairs) => assert_pairs(&rt, &pairs, 65_520, ROWS),
         Err(_) => return Err("no kept pairs on x")?,
+    }
+    Ok(())
+}
+
+#[test]
+fn the_first_clash_is_that_of_squares_a_unit_too_near(rt: HostRuntime) -> Result<(), Fail> {
+    let (alloc, tech) = (rt.alloc(), Tech::shipped());
+    let items = [square(0), square(1), square(2), square(3)];
+    for (last, clash) in [(36, None), (35, Some((2, 3)))] {
+        let coords = Coords {
+            x: Seq::from_vec([0i64, 12, 12, 12].to_vec(alloc)?),
+            y: Seq::from_vec([12i64, 12, 24, last].to_vec(alloc)?),
+        };
+        if !have_boxes(&items, &coords) {
+            return Err("an item has no box")?;
+        }
+        assert_eq!(rt; find_clash(&tech, &items, &coords), clash);
+        assert_eq!(rt; first_clash(alloc, &tech, &items, &coords)?, clash);
     }
     Ok(())
 }

@@ -9,10 +9,10 @@ use Rattle.cif_foreign.specs.Sheets.{placed_box, boxes_of_steps, boxes_of_symbol
 use Rattle.cif_foreign.specs.Files.{symbol_of, step_of, IsStepOf}
 use Rattle.cif_foreign.specs.Readings.{called_depth}
 use Rattle.cif_foreign.proofs.Symbols.{boxes_at}
-use Rattle.cif_foreign.proofs.Flat.{Adds, adds_all, adds_more, adds_own, adds_called, adds_nothing, none_counted, solid_pushed}
+use Rattle.cif_foreign.proofs.Flat.{Adds, adds_all, adds_more, adds_own, adds_called, solid_pushed}
 use Rattle.cif_foreign.proofs.Walking.{valid_step, is_called, steps_found, call_near, call_places}
 use Rattle.cif_foreign.proofs.flattening.+push_steps.Goals as goal
-use Rattle.cif_foreign.proofs.flattening.+push_steps.Goals.{in-Own+in_ok-push-in-Own, in-Called+then-counts-symbol-gt0+in_ok-push_steps-in-Called, in-Called+else-counts-symbol-gt0}
+use Rattle.cif_foreign.proofs.flattening.+push_steps.Goals.{in-Own+in_ok-push-in-Own, in-Called+in_ok-push_steps-in-Called}
 
 pub placed-requires-clause-near : goal.placed-requires-clause-near
 placed-requires-clause-near t c = nearer (2 ^ 47 * (64 - c.args.depth)) (2 ^ 54) (shift_of c.args.place) (omega arith) c.requires.near
@@ -41,7 +41,7 @@ push_steps-requires t c =
     let near = c.after-inner.ensures.near (2 ^ 47 * (64 - c.args.depth)) (2 ^ 47) c.requires.near (call_near d.x d.y valid.2 valid.3) in
     let nearly : IsNear (2 ^ 47 * (64 - (c.args.depth - 1))) (shift_of c.after-inner.result) =
     nearer (2 ^ 47 * (64 - c.args.depth) + 2 ^ 47) (2 ^ 47 * (64 - (c.args.depth - 1))) (shift_of c.after-inner.result) (omega (arith, some, c.requires.shallow)) near in
-    (omega (arith, some, c.decreases), (c.requires.flat, (c.requires.counted, (c.requires.all, (steps, (deep, (omega (arith, c.requires.shallow), (c.after-inner.ensures.turn, nearly))))))))
+    (omega (arith, some, c.decreases), (c.requires.flat, (steps, (deep, (omega (arith, c.requires.shallow), (c.after-inner.ensures.turn, nearly))))))
 
 pub loop-step-preserved : goal.loop-step-preserved
 loop-step-preserved t c =
@@ -64,7 +64,7 @@ loop-step-preserved t c =
             boxes = subst (λ v. Adds before (map drawn_of v.items) c.args.place boxes (take (i + 1) steps)) (sym w.out-is) (adds_more before now (map drawn_of w.push.new.self.items) c.args.place boxes steps i step lt at was.boxes one);
             solid = λ h. subst (λ v. All (IsSolidWithin (2 ^ 55)) (map drawn_of v.items)) (sym w.out-is) (solid_pushed c.loop-step.out.items w.push.new.self.items w.placed.result items w.placed.ensures.solid (was.solid h));
           }
-      | in-Called+then-counts-symbol-gt0+in_ok-push_steps-in-Called w ↦
+      | in-Called+in_ok-push_steps-in-Called w ↦
           let d = w.in-Called in
           let it = is_called file.symbols steps i d.symbol d.turn d.x d.y step c.requires.flat.symbols c.requires.steps lt at d.is in
           let valid : IsStepOf n (Called d.symbol d.turn d.x d.y) = subst (IsStepOf n) d.is (valid_step n steps i step c.requires.steps lt at) in
@@ -77,16 +77,6 @@ loop-step-preserved t c =
           record {
             boxes = subst (λ v. Adds before (map drawn_of v.items) c.args.place boxes (take (i + 1) steps)) (sym w.out-is) (adds_more before now (map drawn_of w.push_steps.new.out.items) c.args.place boxes steps i step lt at was.boxes one);
             solid = λ h. subst (λ v. All (IsSolidWithin (2 ^ 55)) (map drawn_of v.items)) (sym w.out-is) (w.in_ok-push_steps-in-Called.ensures.solid (was.solid h));
-          }
-      | in-Called+else-counts-symbol-gt0 w ↦
-          let d = w.in-Called in
-          let it = is_called file.symbols steps i d.symbol d.turn d.x d.y step c.requires.flat.symbols c.requires.steps lt at d.is in
-          let few = w.if-counts-symbol-gt0.false in
-          let none = none_counted boxes c.args.counts.now d.symbol c.requires.counted (omega (arith, it.below, c.requires.all)) (omega (arith, few)) in
-          let one = adds_nothing now c.args.place boxes d.symbol d.turn d.x d.y step d.is none in
-          record {
-            boxes = subst (λ v. Adds before (map drawn_of v.items) c.args.place boxes (take (i + 1) steps)) (sym w.out-is) (adds_more before now now c.args.place boxes steps i step lt at was.boxes one);
-            solid = λ h. subst (λ v. All (IsSolidWithin (2 ^ 55)) (map drawn_of v.items)) (sym w.out-is) (was.solid h);
           }
     ]
 

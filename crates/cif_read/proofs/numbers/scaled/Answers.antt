@@ -1,12 +1,12 @@
 use Rattle.std.proofs.Common.{sym, subst, pos, ◌≤ℤ◌, ◌^◌}
 use Rattle.cif_read.specs.Files.{IsWithin}
-use Rattle.cif_read.proofs.Scales.{product_fits, quotient_is, quotient_fits, scaled_within, scaled_positive}
+use Rattle.cif_read.proofs.Scales.{product_fits, farther, quotient_is, quotient_fits, scaled_within, scaled_positive}
 use Rattle.cif_read.proofs.numbers.scaled.Goals as goal
 
 value : goal.returns-clause-value
 value c =
     let a = c.args in
-    quotient_is a.n a.above a.below c.ranges.n c.ranges.above c.ranges.below (product_fits a.n a.above c.requires.near c.requires.above)
+    quotient_is a.n a.above a.below c.ranges.n c.ranges.above c.ranges.below (product_fits a.n a.above (farther a.n c.requires.near) c.requires.above)
     (quotient_fits a.n a.above a.below c.requires.near c.requires.above)
 
 pub returns-clause-value : goal.returns-clause-value

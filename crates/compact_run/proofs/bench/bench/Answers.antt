@@ -5,9 +5,10 @@ use Rattle.stick_parse.specs.declared.design.Design.{Design}
 use Rattle.expand.specs.declared.master.Master.{Master}
 use Rattle.compact_run.specs.declared.bench.Tally.{Tally}
 use Rattle.compact_run.specs.Bench.{bench_line, tally_of}
-use Rattle.compact_run.specs.Designs.{no_masters, no_masks}
+use Rattle.compact_run.specs.Plans.{AreMastersOf}
 use Rattle.compact_run.proofs.FewParts.{few_parts, few_in_all}
-use Rattle.compact_run.proofs.MadeDesigns.{benched, both_axes, few_names, step_refused}
+use Rattle.compact_run.proofs.MadeDesigns.{benched, both_axes, few_names, masters_refused, one_master, plan_refused}
+use Rattle.design_nets.proofs.Finished.{finished_near}
 use Rattle.compact_run.proofs.bench.bench.Goals as goal
 
 pub returns-in_err-design-clause-refused : goal.returns-in_err-design-clause-refused
@@ -19,15 +20,20 @@ pub returns-in_err-planned-clause-refused : goal.returns-in_err-planned-clause-r
 returns-in_err-planned-clause-refused g c =
     let p = err_from_is_err_and c.from_residual-in_err-planned.result c.from_residual-in_err-planned.ensures.1 in
     let tech = c.shipped-tech.result in
-    rw p.1 (rw p.2 (step_refused tech c.args.n c.in_ok-design.design c.in_err-planned.field-0.0 c.in_ok-design.ensures c.shipped-tech.ensures (c.made_designs_have_no_fault.ensures.checked tech)
-    (no_masters c.in_err-planned.ensures.refused)))
+    rw p.1 (rw p.2 (plan_refused tech c.args.n c.in_ok-design.design c.in_err-planned.field-0.0 c.in_ok-design.ensures c.shipped-tech.ensures (c.made_designs_have_no_fault.ensures.checked tech)
+    c.in_err-planned.ensures.refused))
 
 pub returns-in_err-masters-clause-refused : goal.returns-in_err-masters-clause-refused
 returns-in_err-masters-clause-refused g c =
     let p = err_from_is_err_and c.from_residual-in_err-masters.result c.from_residual-in_err-masters.ensures.1 in
     let tech = c.shipped-tech.result in
-    rw p.1 (rw p.2 (step_refused tech c.args.n c.in_ok-design.design c.in_err-masters.field-0.0 c.in_ok-design.ensures c.shipped-tech.ensures (c.made_designs_have_no_fault.ensures.checked tech)
-    (no_masters c.in_err-masters.ensures.refused)))
+    rw p.1 (rw p.2 (plan_refused tech c.args.n c.in_ok-design.design c.in_err-masters.field-0.0 c.in_ok-design.ensures c.shipped-tech.ensures (c.made_designs_have_no_fault.ensures.checked tech)
+    c.in_err-masters.ensures.refused))
+
+pub made_designs_stay_small-requires-clause-alone : goal.made_designs_stay_small-requires-clause-alone
+made_designs_stay_small-requires-clause-alone g c =
+    let M : Design → Type 0 = λ d. AreMastersOf c.shipped-tech.result d c.in_ok-planned.planned.plan c.in_ok-masters.masters.items in
+    rw c.deref.ensures.value (one_master c.shipped-tech.result c.args.n c.in_ok-planned.planned.plan c.in_ok-masters.masters.items (subst M c.in_ok-design.ensures c.in_ok-masters.ensures.of_design))
 
 pub lay_out-requires-clause-both : goal.lay_out-requires-clause-both
 lay_out-requires-clause-both g c = λ κs le. both_axes
@@ -35,19 +41,27 @@ lay_out-requires-clause-both g c = λ κs le. both_axes
 pub lay_out-requires-clause-few_parts : goal.lay_out-requires-clause-few_parts
 lay_out-requires-clause-few_parts g c = λ κs le.
     let F : Design → Type 0 = λ d. names_in d ≤ 2 ^ 19 in
-    rw c.deref.ensures.value (few_parts c.shipped-tech.result c.in_ok-design.design c.in_ok-planned.planned.plan _ c.in_ok-masters.ensures.of_design
+    rw c.deref-2.ensures.value (few_parts c.shipped-tech.result c.in_ok-design.design c.in_ok-planned.planned.plan _ c.in_ok-masters.ensures.of_design
     (subst F (sym c.in_ok-design.ensures) (few_names c.args.n)) c.in_ok-masters.ensures.named)
 
 pub lay_out-requires-clause-few_boxes : goal.lay_out-requires-clause-few_boxes
 lay_out-requires-clause-few_boxes g c = λ κs le.
-    rw c.deref.ensures.value (few_in_all c.shipped-tech.result c.in_ok-design.design c.in_ok-planned.planned.plan _ c.in_ok-masters.ensures.of_design)
+    rw c.deref-2.ensures.value (few_in_all c.shipped-tech.result c.in_ok-design.design c.in_ok-planned.planned.plan _ c.in_ok-masters.ensures.of_design)
 
 pub returns-in_err-passes-clause-refused : goal.returns-in_err-passes-clause-refused
 returns-in_err-passes-clause-refused g c =
     let p = err_from_is_err_and c.from_residual-in_err-passes.result c.from_residual-in_err-passes.ensures.1 in
     let tech = c.shipped-tech.result in
-    rw p.1 (rw p.2 (step_refused tech c.args.n c.in_ok-design.design c.in_err-passes.field-0.0 c.in_ok-design.ensures c.shipped-tech.ensures (c.made_designs_have_no_fault.ensures.checked tech)
-    (no_masks c.in_ok-planned.planned.plan _ c.in_ok-masters.ensures.of_design (rw c.deref.ensures.value at c.in_err-passes.ensures.refused))))
+    rw p.1 (rw p.2 (masters_refused tech c.args.n c.in_ok-design.design c.in_ok-planned.planned.plan c.in_ok-masters.masters.items c.in_err-passes.field-0.0 c.in_ok-design.ensures c.shipped-tech.ensures
+    (c.made_designs_have_no_fault.ensures.checked tech) c.in_ok-masters.ensures.of_design c.in_ok-masters.ensures.planned
+    (record { short = rw c.deref.ensures.value at c.made_designs_stay_small.ensures.short; few = rw c.deref.ensures.value at c.made_designs_stay_small.ensures.few_variables })
+    (rw c.deref-2.ensures.value at c.in_err-passes.ensures.refused)))
+
+pub stick_netlist-requires-clause-near : goal.stick_netlist-requires-clause-near
+stick_netlist-requires-clause-near g c =
+    let q = c.in_ok-passes.ensures in
+    rw (c.deref-3.ensures.value, c.as_slice-layouts.ensures) (finished_near c.shipped-tech.result c.in_ok-planned.planned.plan c.in_ok-masters.masters.items c.in_ok-passes.passes.coords c.in_ok-masters.ensures.planned
+    (rw c.deref-2.ensures.value at q.finished) q.drawable)
 
 pub returns-in_err-list-clause-refused : goal.returns-in_err-list-clause-refused
 returns-in_err-list-clause-refused g c =
@@ -65,8 +79,8 @@ returns-clause-line g c =
     let q = c.in_ok-passes.ensures in
     let n = c.args.n in
     let list = c.in_ok-list.list in
-    let netlist = rw (c.deref-2.ensures.value, c.as_slice-layouts.ensures) at c.in_ok-list.ensures in
-    let tally = ap (λ (ms : List Master). tally_of ms passes.steps passes.coords list) c.deref-3.ensures.value in
+    let netlist = rw (c.deref-3.ensures.value, c.as_slice-layouts.ensures) at c.in_ok-list.ensures in
+    let tally = ap (λ (ms : List Master). tally_of ms passes.steps passes.coords list) c.deref-4.ensures.value in
     let written = c.in_ok-bench_line.ensures ∙ ap (λ (t : Tally). bench_line n t) (c.tally_of.ensures ∙ tally) in
     benched c.shipped-tech.result n c.in_ok-design.design c.in_ok-planned.planned.plan c.in_ok-masters.masters.items passes.steps passes.coords list c.in_ok-bench_line.field-0.items
-    c.in_ok-design.ensures c.shipped-tech.ensures c.in_ok-masters.ensures.of_design (rw c.deref.ensures.value at q.laid_out) (rw c.deref.ensures.value at q.last) netlist written
+    c.in_ok-design.ensures c.shipped-tech.ensures c.in_ok-masters.ensures.of_design (rw c.deref-2.ensures.value at q.laid_out) (rw c.deref-2.ensures.value at q.last) netlist written

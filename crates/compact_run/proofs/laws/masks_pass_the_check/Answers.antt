@@ -5,7 +5,7 @@ use Rattle.lam_io.specs.Io.{Bytes}
 use Rattle.compact_run.proofs.laws.masks_pass_the_check.Goals as goal
 
 pub returns : goal.returns
-returns c = λ design tech axes files output report done others cif there same.
+returns c = λ design tech axes files output report done others cif rules there same.
     (let t = done.is_technology in
     let laid = done.compacts.laid_out in
     let written : output ≡ _ = done.compacts.written in

@@ -22,43 +22,43 @@ returns-in_err-passes-clause-refused g c =
 
 pub grids_are_aligned-requires-clause-finished : goal.grids_are_aligned-requires-clause-finished
 grids_are_aligned-requires-clause-finished g c =
-    let q = c.in_ok-passes.ensures in
+    let q = c.in_ok-passes.ensures.made in
     finished c.args.tech.now c.args.plan.now c.args.masters.now c.args.axes.now _ _ c.as_slice-layouts.ensures c.requires.both q.placed q.met
 
 pub all_keep_spacing-requires-clause-finished : goal.all_keep_spacing-requires-clause-finished
 all_keep_spacing-requires-clause-finished g c =
-    let q = c.in_ok-passes.ensures in
+    let q = c.in_ok-passes.ensures.made in
     finished c.args.tech.now c.args.plan.now c.args.masters.now c.args.axes.now _ _ c.as_slice-layouts.ensures c.requires.both q.placed q.met
 
 pub written_nets_are_the_sticks-requires-clause-finished : goal.written_nets_are_the_sticks-requires-clause-finished
 written_nets_are_the_sticks-requires-clause-finished g c =
-    let q = c.in_ok-passes.ensures in
+    let q = c.in_ok-passes.ensures.made in
     finished c.args.tech.now c.args.plan.now c.args.masters.now c.args.axes.now _ _ c.as_slice-layouts.ensures c.requires.both q.placed q.met
 
 pub boxes_keep_rules-requires-clause-finished : goal.boxes_keep_rules-requires-clause-finished
 boxes_keep_rules-requires-clause-finished g c =
-    let q = c.in_ok-passes.ensures in
+    let q = c.in_ok-passes.ensures.made in
     finished c.args.tech.now c.args.plan.now c.args.masters.now c.args.axes.now _ _ c.as_slice-layouts.ensures c.requires.both q.placed q.met
 
 pub texts_are_short-requires-clause-finished : goal.texts_are_short-requires-clause-finished
 texts_are_short-requires-clause-finished g c =
-    let q = c.in_ok-passes.ensures in
+    let q = c.in_ok-passes.ensures.made in
     finished c.args.tech.now c.args.plan.now c.args.masters.now c.args.axes.now _ _ c.as_slice-layouts.ensures c.requires.both q.placed q.met
 
 pub boxes_are_few-requires-clause-counted : goal.boxes_are_few-requires-clause-counted
-boxes_are_few-requires-clause-counted g c = ap (λ (cs : List Coords). length cs) c.as_slice-layouts.ensures ∙ c.in_ok-passes.ensures.laid.counted
+boxes_are_few-requires-clause-counted g c = ap (λ (cs : List Coords). length cs) c.as_slice-layouts.ensures ∙ c.in_ok-passes.ensures.made.laid.counted
 
 pub judge_extent-requires-clause-widths : goal.judge_extent-requires-clause-widths
-judge_extent-requires-clause-widths g c = sizes_above c.args.tech.now c.args.masters.now _ _ c.as_slice-layouts.ensures c.in_ok-passes.ensures.laid X
+judge_extent-requires-clause-widths g c = sizes_above c.args.tech.now c.args.masters.now _ _ c.as_slice-layouts.ensures c.in_ok-passes.ensures.made.laid X
 
 pub judge_extent-requires-clause-heights : goal.judge_extent-requires-clause-heights
-judge_extent-requires-clause-heights g c = sizes_above c.args.tech.now c.args.masters.now _ _ c.as_slice-layouts.ensures c.in_ok-passes.ensures.laid Y
+judge_extent-requires-clause-heights g c = sizes_above c.args.tech.now c.args.masters.now _ _ c.as_slice-layouts.ensures c.in_ok-passes.ensures.made.laid Y
 
 pub wholes_bound_places-requires-clause-widths : goal.wholes_bound_places-requires-clause-widths
-wholes_bound_places-requires-clause-widths g c = sizes_above c.args.tech.now c.args.masters.now _ _ c.as_slice-layouts.ensures c.in_ok-passes.ensures.laid X
+wholes_bound_places-requires-clause-widths g c = sizes_above c.args.tech.now c.args.masters.now _ _ c.as_slice-layouts.ensures c.in_ok-passes.ensures.made.laid X
 
 pub wholes_bound_places-requires-clause-heights : goal.wholes_bound_places-requires-clause-heights
-wholes_bound_places-requires-clause-heights g c = sizes_above c.args.tech.now c.args.masters.now _ _ c.as_slice-layouts.ensures c.in_ok-passes.ensures.laid Y
+wholes_bound_places-requires-clause-heights g c = sizes_above c.args.tech.now c.args.masters.now _ _ c.as_slice-layouts.ensures c.in_ok-passes.ensures.made.laid Y
 
 pub wholes_bound_places-requires-clause-widest : goal.wholes_bound_places-requires-clause-widest
 wholes_bound_places-requires-clause-widest g c = let w = widest_positive c.args.tech.now.numbers (sound _ c.args.tech.now.sound) in omega (arith, ints, w)
@@ -73,7 +73,7 @@ pub written_nets_are_the_sticks-requires-clause-fit : goal.written_nets_are_the_
 written_nets_are_the_sticks-requires-clause-fit g c =
     let within = c.in_ok-judge_extent.ensures.within in
     record {
-      counted = ap (λ (cs : List Coords). length cs) c.as_slice-layouts.ensures ∙ c.in_ok-passes.ensures.laid.counted;
+      counted = ap (λ (cs : List Coords). length cs) c.as_slice-layouts.ensures ∙ c.in_ok-passes.ensures.made.laid.counted;
       named = c.requires.named;
       stand = c.requires.stand;
       width = within.width;
@@ -84,7 +84,7 @@ pub texts_are_short-requires-clause-fit : goal.texts_are_short-requires-clause-f
 texts_are_short-requires-clause-fit g c =
     let within = c.in_ok-judge_extent.ensures.within in
     record {
-      counted = ap (λ (cs : List Coords). length cs) c.as_slice-layouts.ensures ∙ c.in_ok-passes.ensures.laid.counted;
+      counted = ap (λ (cs : List Coords). length cs) c.as_slice-layouts.ensures ∙ c.in_ok-passes.ensures.made.laid.counted;
       named = c.requires.named;
       stand = c.requires.stand;
       width = within.width;
@@ -94,14 +94,14 @@ texts_are_short-requires-clause-fit g c =
 pub returns-in_err-judge_extent-clause-refused : goal.returns-in_err-judge_extent-clause-refused
 returns-in_err-judge_extent-clause-refused g c =
     let p = err_from_is_err_and c.from_residual-in_err-judge_extent.result c.from_residual-in_err-judge_extent.ensures.1 in
-    let q = c.in_ok-passes.ensures in
+    let q = c.in_ok-passes.ensures.made in
     rw p.1 (rw p.2 (too_large c.args.tech.now c.args.plan.now c.args.masters.now c.args.axes.now c.in_ok-passes.passes.steps c.as_slice-layouts.result.now _
-    (record { clean = c.in_ok-judge_starts.ensures.clean; on_axes = q.axes; passes = q.passes }) (c.as_slice-layouts.ensures ∙ q.last)
+    (record { clean = c.in_ok-judge_starts.ensures.clean; on_axes = q.on_axes; passes = q.passes }) q.sound_passes (c.as_slice-layouts.ensures ∙ q.last)
     c.in_err-judge_extent.ensures.past.0 c.in_err-judge_extent.ensures.past.1))
 
 pub returns-clause-laid_out : goal.returns-clause-laid_out
 returns-clause-laid_out g c =
-    let q = c.in_ok-passes.ensures in
+    let q = c.in_ok-passes.ensures.made in
     let is = c.as_slice-layouts.ensures ∙ q.last in
     let W : List Coords → Type 0 = λ cs. IsWithin c.args.tech.now c.args.plan.now cs in
     let S : List Coords → Type 0 = λ cs. AllKeepSpacing c.args.tech.now c.args.plan.now c.args.masters.now cs in
@@ -111,7 +111,7 @@ returns-clause-laid_out g c =
     let T : List Coords → Type 0 = λ cs. length (text_of_layouts c.args.tech.now c.args.plan.now c.args.masters.now cs) ≤ 2 ^ 26 in
     let nets = subst N is c.written_nets_are_the_sticks.ensures in
     record {
-      made = record { clean = c.in_ok-judge_starts.ensures.clean; on_axes = q.axes; passes = q.passes };
+      made = record { clean = c.in_ok-judge_starts.ensures.clean; on_axes = q.on_axes; passes = q.passes };
       sound = q.sound_passes;
       within = subst W is c.in_ok-judge_extent.ensures.within;
       spaced = subst S is c.all_keep_spacing.ensures;
@@ -122,9 +122,9 @@ returns-clause-laid_out g c =
     }
 
 pub returns-clause-boxes : goal.returns-clause-boxes
-returns-clause-boxes g c = boxed c.args.tech.now c.args.masters.now c.args.axes.now c.in_ok-passes.passes.coords c.in_ok-passes.ensures.placed
+returns-clause-boxes g c = boxed c.args.tech.now c.args.masters.now c.args.axes.now c.in_ok-passes.passes.coords c.in_ok-passes.ensures.made.placed
 
 pub returns-clause-finished : goal.returns-clause-finished
 returns-clause-finished g c =
-    let q = c.in_ok-passes.ensures in
+    let q = c.in_ok-passes.ensures.made in
     finished c.args.tech.now c.args.plan.now c.args.masters.now c.args.axes.now _ _ refl c.requires.both q.placed q.met

@@ -1,24 +1,20 @@
-use Rattle.std.proofs.Common.{arith}
+use Rattle.std.proofs.lemmas.Result.{IfErr-weaker, IfOk-weaker}
 use Rattle.compact_run.proofs.masters.judge_size.Goals as goal
-
-pub returns-then-boxes_of_all-gt-MAX_BOXES-clause-refused : goal.returns-then-boxes_of_all-gt-MAX_BOXES-clause-refused
-returns-then-boxes_of_all-gt-MAX_BOXES-clause-refused c =
-    let w = rw c.as_slice-numbers.ensures at c.weight_of_all.ensures in
-    let a = rw c.as_slice.ensures at c.boxes_of_all.ensures in
-    let b = rw c.deref.ensures.value at a in
-    let d = rw c.in_ok-boxes.ensures.value at b in
-    let n = rw c.as_slice-numbers.ensures at d in
-    let light = c.if-weight_of_all-gt-MAX_ITEMS.false in
-    let heavy = c.if-boxes_of_all-gt-MAX_BOXES.true in
-    rw c.from-then-boxes_of_all-gt-MAX_BOXES.ensures (omega (arith, w, light), omega (arith, n, heavy))
 
 pub returns-clause-light : goal.returns-clause-light
 returns-clause-light c =
-    let w = rw c.as_slice-numbers.ensures at c.weight_of_all.ensures in
-    let a = rw c.as_slice.ensures at c.boxes_of_all.ensures in
+    let items = rw c.as_slice-numbers.ensures at c.in_ok-judge_items.ensures.few in
+    let a = rw c.as_slice.ensures at c.judge_boxes.ensures.few in
     let b = rw c.deref.ensures.value at a in
     let d = rw c.in_ok-boxes.ensures.value at b in
-    let n = rw c.as_slice-numbers.ensures at d in
-    let light = c.if-weight_of_all-gt-MAX_ITEMS.false in
-    let few = c.if-boxes_of_all-gt-MAX_BOXES.false in
-    record { items = omega (arith, w, light); boxes = omega (arith, n, few) }
+    let boxes = rw c.as_slice-numbers.ensures at d in
+    IfOk-weaker c.judge_boxes.result _ _ (λ done few. record { items = items; boxes = few }) boxes
+
+pub returns-clause-refused : goal.returns-clause-refused
+returns-clause-refused c =
+    let items = rw c.as_slice-numbers.ensures at c.in_ok-judge_items.ensures.few in
+    let a = rw c.as_slice.ensures at c.judge_boxes.ensures.many in
+    let b = rw c.deref.ensures.value at a in
+    let d = rw c.in_ok-boxes.ensures.value at b in
+    let boxes = rw c.as_slice-numbers.ensures at d in
+    IfErr-weaker c.judge_boxes.result _ _ (λ r many. rw many.1 (items, many.0)) boxes

@@ -83,8 +83,8 @@ net_numbers-requires-clause-few c =
     let counted = ap (λ (os : List OwnNet). length os) is in
     omega (arith, few, counted)
 
-pub picture_of-requires-clause-of_masters : goal.picture_of-requires-clause-of_masters
-picture_of-requires-clause-of_masters c =
+pub picture-requires-clause-of_masters : goal.picture-requires-clause-of_masters
+picture-requires-clause-of_masters c =
     subst (λ (n : ℕ). All (AreOfMasters n) (grids_of c.args.plan.now)) (length-map c.args.masters.now master_ports) c.requires.planned.planned.of_masters
 
 pub transistors-requires-clause-laid_out : goal.transistors-requires-clause-laid_out
@@ -95,7 +95,7 @@ transistors-requires-clause-laid_out c =
     let few = c.requires.few in
     record {
       planned = c.requires.planned;
-      finished = c.requires.finished;
+      near = c.requires.near;
       counted = c.requires.counted;
       boxes = c.requires.boxes;
       drawable = c.requires.drawable;

@@ -70,7 +70,7 @@ index-requires-2 c =
     let one_is = get_or_read c.args.shapes.now.all.items c.args.k c.index.result.now c.requires.among c.index.ensures no_shape in
     let sees = seen c.args.tech.now c.args.plan.now c.args.masters.now c.args.layouts.now c.args.calls.now c.args.shapes.now out c.args.k c.requires.among c.index.result.now one_is in
     let reads = read c.args.tech.now c.args.plan.now c.args.masters.now c.args.layouts.now c.args.calls.now c.args.shapes.now out c.args.k c.requires.among
-    c.transistors_have_boxes.ensures.boxes c.args.fet c.requires.fet c.args.found.now c.requires.found
+    c.transistors_have_boxes.ensures c.args.fet c.requires.fet c.args.found.now c.requires.found
     c.index.result.now (get_or c.args.calls.now c.index.result.now.instance no_call).symbol c.index-masters-master.result c.as_slice-items.result.now c.index-found-master.result c.index-found-master.result
     one_is refl c.as_slice-items.ensures c.index-found-master.is in
     (let few = reads.channels in omega (arith, few, c.index-found-master.result.channels.ok.0))
@@ -81,7 +81,7 @@ bounds-items-index c =
     let one_is = get_or_read c.args.shapes.now.all.items c.args.k c.index.result.now c.requires.among c.index.ensures no_shape in
     let sees = seen c.args.tech.now c.args.plan.now c.args.masters.now c.args.layouts.now c.args.calls.now c.args.shapes.now out c.args.k c.requires.among c.index.result.now one_is in
     let reads = read c.args.tech.now c.args.plan.now c.args.masters.now c.args.layouts.now c.args.calls.now c.args.shapes.now out c.args.k c.requires.among
-    c.transistors_have_boxes.ensures.boxes c.args.fet c.requires.fet c.args.found.now c.requires.found
+    c.transistors_have_boxes.ensures c.args.fet c.requires.fet c.args.found.now c.requires.found
     c.index.result.now (get_or c.args.calls.now c.index.result.now.instance no_call).symbol c.index-masters-master.result c.as_slice-items.result.now c.index-found-master.result c.index-found-master.result
     one_is refl c.as_slice-items.ensures c.index-found-master.is in
     let channel = get_or_read c.index-found-master.result.channels.items (item_at c.as_slice-items.result.now c.index.result.now.item).owner c.index-2.result.now reads.channels c.index-2.ensures 0 in
@@ -94,7 +94,7 @@ offset_bounds-items-index c =
     let one_is = get_or_read c.args.shapes.now.all.items c.args.k c.index.result.now c.requires.among c.index.ensures no_shape in
     let sees = seen c.args.tech.now c.args.plan.now c.args.masters.now c.args.layouts.now c.args.calls.now c.args.shapes.now out c.args.k c.requires.among c.index.result.now one_is in
     let reads = read c.args.tech.now c.args.plan.now c.args.masters.now c.args.layouts.now c.args.calls.now c.args.shapes.now out c.args.k c.requires.among
-    c.transistors_have_boxes.ensures.boxes c.args.fet c.requires.fet c.args.found.now c.requires.found
+    c.transistors_have_boxes.ensures c.args.fet c.requires.fet c.args.found.now c.requires.found
     c.index.result.now (get_or c.args.calls.now c.index.result.now.instance no_call).symbol c.index-masters-master.result c.as_slice-items.result.now c.index-found-master.result c.index-found-master.result
     one_is refl c.as_slice-items.ensures c.index-found-master.is in
     let channel = get_or_read c.index-found-master.result.channels.items (item_at c.as_slice-items.result.now c.index.result.now.item).owner c.index-2.result.now reads.channels c.index-2.ensures 0 in
@@ -114,7 +114,7 @@ index-requires-4 c =
     let one_is = get_or_read c.args.shapes.now.all.items c.args.k c.index.result.now c.requires.among c.index.ensures no_shape in
     let sees = seen c.args.tech.now c.args.plan.now c.args.masters.now c.args.layouts.now c.args.calls.now c.args.shapes.now out c.args.k c.requires.among c.index.result.now one_is in
     let reads = read c.args.tech.now c.args.plan.now c.args.masters.now c.args.layouts.now c.args.calls.now c.args.shapes.now out c.args.k c.requires.among
-    c.transistors_have_boxes.ensures.boxes c.args.fet c.requires.fet c.args.found.now c.requires.found
+    c.transistors_have_boxes.ensures c.args.fet c.requires.fet c.args.found.now c.requires.found
     c.index.result.now (get_or c.args.calls.now c.index.result.now.instance no_call).symbol c.index-masters-master.result c.as_slice-items.result.now c.index-found-master.result c.index-found-master.result
     one_is refl c.as_slice-items.ensures c.index-found-master.is in
     (let few = reads.polys in omega (arith, few, c.index-found-master.result.polys.ok.0))
@@ -125,7 +125,7 @@ overflow_cast-result c =
     let one_is = get_or_read c.args.shapes.now.all.items c.args.k c.index.result.now c.requires.among c.index.ensures no_shape in
     let sees = seen c.args.tech.now c.args.plan.now c.args.masters.now c.args.layouts.now c.args.calls.now c.args.shapes.now out c.args.k c.requires.among c.index.result.now one_is in
     let reads = read c.args.tech.now c.args.plan.now c.args.masters.now c.args.layouts.now c.args.calls.now c.args.shapes.now out c.args.k c.requires.among
-    c.transistors_have_boxes.ensures.boxes c.args.fet c.requires.fet c.args.found.now c.requires.found
+    c.transistors_have_boxes.ensures c.args.fet c.requires.fet c.args.found.now c.requires.found
     c.index.result.now (get_or c.args.calls.now c.index.result.now.instance no_call).symbol c.index-masters-master.result c.as_slice-items.result.now c.index-found-master.result c.index-found-master.result
     one_is refl c.as_slice-items.ensures c.index-found-master.is in
     let poly = get_or_read c.index-found-master.result.polys.items (item_at c.as_slice-items.result.now c.index.result.now.item).owner c.index-4.result.now reads.polys c.index-4.ensures 0 in
@@ -138,7 +138,7 @@ overflow_add-result c =
     let one_is = get_or_read c.args.shapes.now.all.items c.args.k c.index.result.now c.requires.among c.index.ensures no_shape in
     let sees = seen c.args.tech.now c.args.plan.now c.args.masters.now c.args.layouts.now c.args.calls.now c.args.shapes.now out c.args.k c.requires.among c.index.result.now one_is in
     let reads = read c.args.tech.now c.args.plan.now c.args.masters.now c.args.layouts.now c.args.calls.now c.args.shapes.now out c.args.k c.requires.among
-    c.transistors_have_boxes.ensures.boxes c.args.fet c.requires.fet c.args.found.now c.requires.found
+    c.transistors_have_boxes.ensures c.args.fet c.requires.fet c.args.found.now c.requires.found
     c.index.result.now (get_or c.args.calls.now c.index.result.now.instance no_call).symbol c.index-masters-master.result c.as_slice-items.result.now c.index-found-master.result c.index-found-master.result
     one_is refl c.as_slice-items.ensures c.index-found-master.is in
     let poly = get_or_read c.index-found-master.result.polys.items (item_at c.as_slice-items.result.now c.index.result.now.item).owner c.index-4.result.now reads.polys c.index-4.ensures 0 in
@@ -161,7 +161,7 @@ channel_at-requires-clause-has_box c =
     let one_is = get_or_read c.args.shapes.now.all.items c.args.k c.index.result.now c.requires.among c.index.ensures no_shape in
     let sees = seen c.args.tech.now c.args.plan.now c.args.masters.now c.args.layouts.now c.args.calls.now c.args.shapes.now out c.args.k c.requires.among c.index.result.now one_is in
     let reads = read c.args.tech.now c.args.plan.now c.args.masters.now c.args.layouts.now c.args.calls.now c.args.shapes.now out c.args.k c.requires.among
-    c.transistors_have_boxes.ensures.boxes c.args.fet c.requires.fet c.args.found.now c.requires.found
+    c.transistors_have_boxes.ensures c.args.fet c.requires.fet c.args.found.now c.requires.found
     c.index.result.now (get_or c.args.calls.now c.index.result.now.instance no_call).symbol c.index-masters-master.result c.as_slice-items.result.now c.index-found-master.result c.index-found-master.result
     one_is refl c.as_slice-items.ensures c.index-found-master.is in
     let channel = get_or_read c.index-found-master.result.channels.items (item_at c.as_slice-items.result.now c.index.result.now.item).owner c.index-2.result.now reads.channels c.index-2.ensures 0 in
@@ -175,7 +175,7 @@ channel_at-requires-clause-near c =
     let one_is = get_or_read c.args.shapes.now.all.items c.args.k c.index.result.now c.requires.among c.index.ensures no_shape in
     let sees = seen c.args.tech.now c.args.plan.now c.args.masters.now c.args.layouts.now c.args.calls.now c.args.shapes.now out c.args.k c.requires.among c.index.result.now one_is in
     let reads = read c.args.tech.now c.args.plan.now c.args.masters.now c.args.layouts.now c.args.calls.now c.args.shapes.now out c.args.k c.requires.among
-    c.transistors_have_boxes.ensures.boxes c.args.fet c.requires.fet c.args.found.now c.requires.found
+    c.transistors_have_boxes.ensures c.args.fet c.requires.fet c.args.found.now c.requires.found
     c.index.result.now (get_or c.args.calls.now c.index.result.now.instance no_call).symbol c.index-masters-master.result c.as_slice-items.result.now c.index-found-master.result c.index-found-master.result
     one_is refl c.as_slice-items.ensures c.index-found-master.is in
     let channel = get_or_read c.index-found-master.result.channels.items (item_at c.as_slice-items.result.now c.index.result.now.item).owner c.index-2.result.now reads.channels c.index-2.ensures 0 in
@@ -203,7 +203,7 @@ returns-clause-transistor c =
     let one_is = get_or_read c.args.shapes.now.all.items c.args.k c.index.result.now c.requires.among c.index.ensures no_shape in
     let sees = seen c.args.tech.now c.args.plan.now c.args.masters.now c.args.layouts.now c.args.calls.now c.args.shapes.now out c.args.k c.requires.among c.index.result.now one_is in
     let reads = read c.args.tech.now c.args.plan.now c.args.masters.now c.args.layouts.now c.args.calls.now c.args.shapes.now out c.args.k c.requires.among
-    c.transistors_have_boxes.ensures.boxes c.args.fet c.requires.fet c.args.found.now c.requires.found
+    c.transistors_have_boxes.ensures c.args.fet c.requires.fet c.args.found.now c.requires.found
     c.index.result.now (get_or c.args.calls.now c.index.result.now.instance no_call).symbol c.index-masters-master.result c.as_slice-items.result.now c.index-found-master.result c.index-found-master.result
     one_is refl c.as_slice-items.ensures c.index-found-master.is in
     let channel = get_or_read c.index-found-master.result.channels.items (item_at c.as_slice-items.result.now c.index.result.now.item).owner c.index-2.result.now reads.channels c.index-2.ensures 0 in

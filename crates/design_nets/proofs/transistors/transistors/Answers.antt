@@ -90,4 +90,4 @@ returns-clause-all c =
     let auto = c.loop-k.auto.k-end in
     let long = c.len-k-end.ensures in
     let h = shapes.all.ok in
-    all_crossed c.args.tech.now c.args.plan.now c.args.masters.now c.args.layouts.now c.loop-k.k c.loop-k.all.items c.transistors_have_boxes.ensures.boxes (omega (arith, counted, ended, auto, long, h)) c.loop-k.invariant
+    all_crossed c.args.tech.now c.args.plan.now c.args.masters.now c.args.layouts.now c.loop-k.k c.loop-k.all.items c.transistors_have_boxes.ensures (omega (arith, counted, ended, auto, long, h)) c.loop-k.invariant

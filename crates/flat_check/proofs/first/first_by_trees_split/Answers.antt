@@ -1,6 +1,7 @@
 use Rattle.std.proofs.Common.{subst}
-use Rattle.flat_check.specs.Order.{KeepBefore}
+use Rattle.flat_check.specs.Order.{IsFoundOf, KeepBefore}
 use Rattle.flat_check.specs.Starts.{AreByTrees}
+use Rattle.flat_check.proofs.Orders.{first_of_all}
 use Rattle.flat_check.proofs.Shapes.{shapes_hold}
 use Rattle.flat_check.proofs.first.first_by_trees_split.Goals as goal
 
@@ -11,3 +12,8 @@ pub first_in_pieces-requires-clause-shapes : goal.first_in_pieces-requires-claus
 first_in_pieces-requires-clause-shapes g c = λ κs le.
     let tech = c.args.sheet.now.tech.now in let boxes = c.args.sheet.now.boxes.now in
     shapes_hold tech boxes c.in-Some.rule c.requires.sheet.proper (subst (KeepBefore tech boxes) c.in-Some.is c.loop-next.invariant.before)
+
+pub returns-in-Some-2 : goal.returns-in-Some-2
+returns-in-Some-2 g c =
+    let tech = c.args.sheet.now.tech.now in let boxes = c.args.sheet.now.boxes.now in let rule = c.in-Some.rule in
+    first_of_all tech boxes rule c.in-Some-2.first (subst (KeepBefore tech boxes) c.in-Some.is c.loop-next.invariant.before) (subst (IsFoundOf tech boxes rule) c.in-Some-2.is c.in_ok-first.ensures)

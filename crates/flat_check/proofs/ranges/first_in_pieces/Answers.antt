@@ -1,6 +1,6 @@
 use Rattle.std.proofs.Common.{◌≤◌, List, length, sym, ap, ◌∙◌, subst}
 use Rattle.flat_check.specs.declared.partners.Range.{Range}
-use Rattle.flat_check.specs.Ranges.{AreRanges, IsFirstIn, first_some}
+use Rattle.flat_check.specs.Ranges.{AreRanges, IsFirstUnlessBefore, first_some}
 use Rattle.flat_check.proofs.InRanges.{ranges_within, first_in_all, found_in_all}
 use Rattle.flat_check.proofs.ranges.first_in_pieces.Goals as goal
 
@@ -16,6 +16,6 @@ returns g c =
     let tech = c.args.sheet.now.tech.now in let boxes = c.args.sheet.now.boxes.now in let rule = c.args.rule in let len = length boxes in
     let are = subst (λ (rs : List Range). AreRanges 0 rs len) (sym c.deref.ensures.value) c.in_ok-ranges.ensures in
     let all = first_in_all tech boxes rule _ (λ range first h.
-    let I : Range → Type 0 = λ r. IsFirstIn tech boxes rule r.from r.to first in
+    let I : Range → Type 0 = λ r. IsFirstUnlessBefore tech boxes rule r.from r.to first in
     subst I h.shows h.says.met) c.deref.result.now c.in_ok-found.found.items 0 len are c.in_ok-found.ensures.answers in
-    found_in_all tech boxes rule c.first_of_all.result c.requires.by_trees (subst (IsFirstIn tech boxes rule 0 len) (sym (c.first_of_all.ensures ∙ ap first_some c.deref-2.ensures.value)) all)
+    found_in_all tech boxes rule c.first_of_all.result c.requires.by_trees (subst (IsFirstUnlessBefore tech boxes rule 0 len) (sym (c.first_of_all.ensures ∙ ap first_some c.deref-2.ensures.value)) all)

@@ -6,8 +6,8 @@ use Rattle.plan_model.specs.Borders.{port_rank, is_on_side, in_order}
 use Rattle.grid_plan.proofs.Ordered.{sorted_in_order}
 use Rattle.grid_plan.proofs.sides.side_ports.Goals as goal
 
-pub returns : goal.returns
-returns c =
+pub returns-clause-ports : goal.returns-clause-ports
+returns-clause-ports c =
     let ports = c.args.ports.now in
     let side = c.args.side in
     let sorted = c.in_ok-sort_by_key.ensures in

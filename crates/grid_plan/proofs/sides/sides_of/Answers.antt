@@ -1,5 +1,6 @@
-use Rattle.std.proofs.Common.{◌≡◌, ◌++◌, ◌∙◌, ◌∷◌, [], List, ap, sym, map, ◌<◌, length, get_or, arith}
+use Rattle.std.proofs.Common.{◌≡◌, ◌^◌, All, ◌++◌, ◌∙◌, ◌∷◌, [], List, ap, sym, subst, map, ◌<◌, length, get_or, arith}
 use Rattle.std.proofs.lemmas.List.{take_all, length-map}
+use Rattle.std.proofs.lemmas.List.Elements.{All-push}
 use Rattle.cell_model.specs.declared.cell.CellPort.{CellPort}
 use Rattle.plan_model.specs.Borders.{side_ports}
 use Rattle.stick_cell.specs.Ports.{ports_of}
@@ -43,14 +44,19 @@ loop-k-preserved c =
     let wide = length-map cells ports_of in
     let lt : k < length cells = omega arith in
     let made : c.in_ok-side_ports.field-0 ≡ f (get_or (ports_of_cells cells) k []) =
-    c.in_ok-side_ports.ensures ∙ ap f (◌∙◌ {A = List CellPort} c.ports.ensures (sym (ports_at cells k lt))) in
-    map_step f [] (ports_of_cells cells) k [] now _ (omega arith) c.loop-k.invariant (c.in_ok-push.ensures.items ∙ ap (λ z. now ++ z ∷ []) made)
+    c.in_ok-side_ports.ensures.ports ∙ ap f (◌∙◌ {A = List CellPort} c.ports.ensures (sym (ports_at cells k lt))) in
+    let P : List CellPort → Type 0 = λ side. length side < 2 ^ 32 in
+    let Q : List (List CellPort) → Type 0 = All P in
+    record {
+      short = subst Q (sym c.in_ok-push.ensures.items) (All-push P now c.in_ok-side_ports.field-0 c.loop-k.invariant.short c.in_ok-side_ports.ensures.short);
+      sides = map_step f [] (ports_of_cells cells) k [] now _ (omega arith) c.loop-k.invariant.sides (c.in_ok-push.ensures.items ∙ ap (λ z. now ++ z ∷ []) made);
+    }
 
-pub returns : goal.returns
-returns c =
+pub returns-clause-sides : goal.returns-clause-sides
+returns-clause-sides c =
     let cells = known_of c.args.cells.now in
     let many = vec_len-tables c.args.cells.now c.requires.resolved in
     let e = c.len-k-end.ensures in
     let test = c.loop-k-test.false in
     let wide = length-map cells ports_of in
-    c.loop-k.invariant ∙ ap (map (side_ports c.args.side)) (take_all c.loop-k.k (ports_of_cells cells) (omega arith))
+    c.loop-k.invariant.sides ∙ ap (map (side_ports c.args.side)) (take_all c.loop-k.k (ports_of_cells cells) (omega arith))

@@ -1,9 +1,6 @@
--- The law is the lemmas on the boxes of a transistor.
-use Rattle.grid_rules.proofs.MeetingBoxes.{transistors_have, implants_tell}
+-- The law is the lemma on the boxes of a transistor.
+use Rattle.grid_rules.proofs.MeetingBoxes.{transistors_have}
 use Rattle.grid_rules.proofs.meetings.transistors_have_boxes.Goals as goal
 
-pub returns-clause-boxes : goal.returns-clause-boxes
-returns-clause-boxes c = transistors_have c.args.tech.now c.args.plan.now c.args.masters.now c.args.layouts.now (record { planned = c.requires.planned; finished = c.requires.finished })
-
-pub returns-clause-implants : goal.returns-clause-implants
-returns-clause-implants c = implants_tell c.args.tech.now c.args.plan.now c.args.masters.now c.args.layouts.now (record { planned = c.requires.planned; finished = c.requires.finished })
+pub returns : goal.returns
+returns c = transistors_have c.args.tech.now c.args.plan.now c.args.masters.now c.args.layouts.now c.requires

@@ -31,7 +31,7 @@ bent_cell-requires-clause-few c =
     let design = c.args.design.now in
     let within : c.args.cell < length design.cells = omega (arith, cells_number c.args.cells.now design c.requires.resolved c.requires.of, c.requires.within) in
     let text = text_here design c.as_slice.result.now c.args.cell c.index-as_slice-cell.result c.as_slice.ensures within c.index-as_slice-cell.is in
-    omega (arith, few_lines design c.args.cell within, c.requires.few, ap (λ (t : CellText). length t.lines) text)
+    omega (arith, few_lines design c.args.cell within, c.if-not-is_short.ensures, ap (λ (t : CellText). length t.lines) text)
 
 pub bent_cell-requires-clause-named : goal.bent_cell-requires-clause-named
 bent_cell-requires-clause-named c =
@@ -57,7 +57,7 @@ with_cell-requires-clause-few c =
     let within : c.args.cell < length design.cells = omega (arith, cells_number c.args.cells.now design c.requires.resolved c.requires.of, c.requires.within) in
     let text = text_here design c.as_slice.result.now c.args.cell c.index-as_slice-cell.result c.as_slice.ensures within c.index-as_slice-cell.is in
     let more = rw c.in-Some.is at c.in_ok-bent.ensures.lines in
-    omega (arith, few_lines design c.args.cell within, c.requires.few, ap (λ (t : CellText). length t.lines) text, more)
+    omega (arith, few_lines design c.args.cell within, c.if-not-is_short.ensures, ap (λ (t : CellText). length t.lines) text, more)
 
 pub returns-clause-jogged : goal.returns-clause-jogged
 returns-clause-jogged c =

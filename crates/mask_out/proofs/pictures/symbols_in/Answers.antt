@@ -3,7 +3,7 @@ use Rattle.std.specs.List.{zip}
 use Rattle.std.proofs.lemmas.List.{take_all}
 use Rattle.std.proofs.lemmas.Slice.Zip.{length-zip}
 use Rattle.lam_geom.specs.Places.{IsPlacedBox}
-use Rattle.mask_out.specs.declared.picture.Symbol.{Symbol}
+use Rattle.mask_out.specs.declared.drawing.Symbol.{Symbol}
 use Rattle.mask_out.specs.Pictures.{drawing_in}
 use Rattle.mask_out.proofs.Drawn.{one_more}
 use Rattle.mask_out.proofs.MasterSymbols.{symbol_pushed}

@@ -12,4 +12,4 @@ new-requires g c =
     let vars = ap (λ (j : Joint). j.vars) c.in_ok-kept.ensures.others in
     subst V (sym vars)
     (graph_shape c.args.axis c.args.tech.now c.args.masters.now c.args.layouts.now joint.vars joint.edges.items now.edges.items c.masters_are_lawful.ensures c.requires.laid c.in_ok-joint.ensures.vars
-    c.in_ok-joint.ensures.shape c.in_ok-kept.ensures.edges)
+    (c.in_ok-joint.ensures.shape c.requires.planned.few_parts) c.in_ok-kept.ensures.edges)

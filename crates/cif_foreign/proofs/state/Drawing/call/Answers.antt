@@ -1,7 +1,8 @@
-use Rattle.std.proofs.Common.{◌∙◌, max, ℕ, ap, refl, of_z, to_z, w64}
+use Rattle.std.proofs.Common.{◌≡◌, ◌∙◌, max, ℕ, pos, false, sym, ap, refl, of_z, to_z, w64, arith}
+use Rattle.cif_lex.specs.Shifts.{is_odd}
 use Rattle.cif_foreign.specs.declared.file.ForeignStep.TheVariants.{Called}
 use Rattle.cif_foreign.specs.Readings.{level_from}
-use Rattle.cif_foreign.proofs.Sound.{seen_even, seen_shift, called_done, steps_called, still_within, level_step}
+use Rattle.cif_foreign.proofs.Sound.{divisor_word, seen_shift, called_done, steps_called, still_within, level_step}
 use Rattle.cif_foreign.proofs.state.Drawing.call.Goals as goal
 
 pub returns-clause-done : goal.returns-clause-done
@@ -11,8 +12,9 @@ returns-clause-done c =
     let s = d.scale in
     let x = seen_shift s.above s.below a.place.x c.in_grains-x.result c.requires.x c.in_grains-x.ensures.near c.in_grains-x.ensures.value in
     let y = seen_shift s.above s.below a.place.y c.in_grains-y.result c.requires.y c.in_grains-y.ensures.near c.in_grains-y.ensures.value in
+    let even : is_odd s.above s.below (pos a.divisor) ≡ false = ap (is_odd s.above s.below) (sym (divisor_word a.divisor (omega (arith, c.ranges.divisor.fits)))) ∙ sym c.if-is_odd.ensures in
     let steps = steps_called d.steps.items c.push.new.self.items (level_from d) a.symbol a.place _ _ c.in_ok-push.ensures.items x y in
-    called_done (level_from d) a.too_deep a.symbol a.place _ (seen_even s.above s.below a.place.x c.requires.x c.if-is_odd.ensures) (seen_even s.above s.below a.place.y c.requires.y c.if-is_odd-2.ensures) c.if-too_deep.false steps
+    called_done (level_from d) a.divisor a.too_deep a.symbol a.place _ even c.if-too_deep.false steps
 
 pub returns-clause-sound : goal.returns-clause-sound
 returns-clause-sound c = λ depths below same h.

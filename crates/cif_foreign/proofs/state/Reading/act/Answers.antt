@@ -66,12 +66,12 @@ pub returns-in-Call-clause-done : goal.returns-in-Call-clause-done
 returns-in-Call-clause-done c =
     let d = c.in-Call in
     let n : FitsSigned w64 d.number = search rules in
-    let same = call_is (state_of c.args.self.now) c.args.command d.number d.place d.bad _ d.is n in
+    let same = call_is (state_of c.args.self.now) c.args.command d.number d.place d.bad _ d.divisor d.is n in
     ok_weaker c.call.result _ _ (λ done. same ∙ done) c.call.ensures.done
 
 pub returns-in-Call-clause-refused : goal.returns-in-Call-clause-refused
 returns-in-Call-clause-refused c =
     let d = c.in-Call in
     let n : FitsSigned w64 d.number = search rules in
-    let same = call_is (state_of c.args.self.now) c.args.command d.number d.place d.bad _ d.is n in
+    let same = call_is (state_of c.args.self.now) c.args.command d.number d.place d.bad _ d.divisor d.is n in
     err_weaker c.call.result _ _ (λ stop h. subst (λ answer. IsCauseOfStop answer stop) (sym same) h) c.call.ensures.refused

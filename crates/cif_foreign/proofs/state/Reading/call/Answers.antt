@@ -28,9 +28,9 @@ returns-clause-done c =
     let good = good_call a.number a.place.x a.place.y a.bad bad in
     let it = found r.places r.symbols.items a.number c.in-Some.symbol c.ranges.number good.number c.requires.sound.places (sym (c.in-Some.ensures ∙ c.get.ensures.value)) in
     let deep = deep_is r c.in-Some.symbol c.index-depth.result.now c.is_too_deep-too_deep.result c.requires.sound.symbols.told (omega (arith, it.below, c.requires.sound.symbols.counted)) c.index-depth.ensures c.is_too_deep-too_deep.ensures in
-    let same = call_found (state_of r) a.number a.place a.bad c.in-Some.symbol bad it.known it.place in
+    let same = call_found (state_of r) a.number a.place a.bad a.divisor c.in-Some.symbol bad it.known it.place in
     ok_weaker c.call.result _ _
-    (λ done. same ∙ (ap (λ (t : Bool). drawn_on (state_of r) (called_on (level_from r.drawing) t c.in-Some.symbol a.place)) (sym deep) ∙ ap (drawn_on (state_of r)) done)) c.call.ensures.done
+    (λ done. same ∙ (ap (λ (t : Bool). drawn_on (state_of r) (called_on (level_from r.drawing) a.divisor t c.in-Some.symbol a.place)) (sym deep) ∙ ap (drawn_on (state_of r)) done)) c.call.ensures.done
 
 pub returns-clause-refused : goal.returns-clause-refused
 returns-clause-refused c =
@@ -42,9 +42,9 @@ returns-clause-refused c =
     let good = good_call a.number a.place.x a.place.y a.bad bad in
     let it = found r.places r.symbols.items a.number c.in-Some.symbol c.ranges.number good.number c.requires.sound.places (sym (c.in-Some.ensures ∙ c.get.ensures.value)) in
     let deep = deep_is r c.in-Some.symbol c.index-depth.result.now c.is_too_deep-too_deep.result c.requires.sound.symbols.told (omega (arith, it.below, c.requires.sound.symbols.counted)) c.index-depth.ensures c.is_too_deep-too_deep.ensures in
-    let same = call_found (state_of r) a.number a.place a.bad c.in-Some.symbol bad it.known it.place ∙ ap (λ (t : Bool). drawn_on (state_of r) (called_on (level_from r.drawing) t c.in-Some.symbol a.place)) (sym deep) in
+    let same = call_found (state_of r) a.number a.place a.bad a.divisor c.in-Some.symbol bad it.known it.place ∙ ap (λ (t : Bool). drawn_on (state_of r) (called_on (level_from r.drawing) a.divisor t c.in-Some.symbol a.place)) (sym deep) in
     err_weaker c.call.result _ _
-    (λ stop h. subst (λ answer. IsCauseOfStop answer stop) (sym same) (stop_stays (state_of r) (called_on (level_from r.drawing) c.is_too_deep-too_deep.result c.in-Some.symbol a.place) stop h)) c.call.ensures.refused
+    (λ stop h. subst (λ answer. IsCauseOfStop answer stop) (sym same) (stop_stays (state_of r) (called_on (level_from r.drawing) a.divisor c.is_too_deep-too_deep.result c.in-Some.symbol a.place) stop h)) c.call.ensures.refused
 
 pub returns-clause-sound : goal.returns-clause-sound
 returns-clause-sound c =

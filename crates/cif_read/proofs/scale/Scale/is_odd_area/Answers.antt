@@ -1,21 +1,21 @@
 use Rattle.std.proofs.Common.{arith}
-use Rattle.cif_read.proofs.Scales.{good_area, seen_within, seen_odd}
+use Rattle.cif_read.proofs.Scales.{good_area, farther, seen_within, seen_odd}
 use Rattle.cif_read.proofs.scale.Scale.is_odd_area.Goals as goal
 
 pub is_odd-requires-else-is_odd-clause-near : goal.is_odd-requires-else-is_odd-clause-near
 is_odd-requires-else-is_odd-clause-near c =
     let a = c.args in
-    seen_within _ a.w c.ranges.w (good_area a.l a.w a.x a.y c.requires.good).w_near
+    seen_within _ a.w c.ranges.w (farther a.w (good_area a.l a.w a.x a.y c.requires.good).w_near)
 
 pub is_odd-requires-else-is_odd-2-clause-near : goal.is_odd-requires-else-is_odd-2-clause-near
 is_odd-requires-else-is_odd-2-clause-near c =
     let a = c.args in
-    seen_within _ a.x c.ranges.x (good_area a.l a.w a.x a.y c.requires.good).x_near
+    seen_within _ a.x c.ranges.x (farther a.x (good_area a.l a.w a.x a.y c.requires.good).x_near)
 
 pub is_odd-requires-else-is_odd-3-clause-near : goal.is_odd-requires-else-is_odd-3-clause-near
 is_odd-requires-else-is_odd-3-clause-near c =
     let a = c.args in
-    seen_within _ a.y c.ranges.y (good_area a.l a.w a.x a.y c.requires.good).y_near
+    seen_within _ a.y c.ranges.y (farther a.y (good_area a.l a.w a.x a.y c.requires.good).y_near)
 
 pub returns-then-is_odd-3 : goal.returns-then-is_odd-3
 returns-then-is_odd-3 c =

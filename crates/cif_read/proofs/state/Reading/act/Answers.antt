@@ -43,7 +43,7 @@ returns-in-Layer-clause-done c =
     layer_is (state_of c.args.self.now) c.args.command c.in-Layer.layer c.in-Layer.is ∙ ap Ok c.name.ensures.done
 
 pub returns-then-turned-clause-refused : goal.returns-then-turned-clause-refused
-returns-then-turned-clause-refused c = let d = c.in-Call in turned_is (state_of c.args.self.now) c.args.command d.number d.place d.bad d.turned d.is c.if-turned.true
+returns-then-turned-clause-refused c = let d = c.in-Call in turned_is (state_of c.args.self.now) c.args.command d.number d.place d.bad d.turned d.divisor d.is c.if-turned.true
 
 pub returns-else-turned-clause-done : goal.returns-else-turned-clause-done
 returns-else-turned-clause-done c =
@@ -51,7 +51,7 @@ returns-else-turned-clause-done c =
     let n : FitsSigned w64 d.number = search rules in
     let x : FitsSigned w64 d.place.x = search rules in
     let y : FitsSigned w64 d.place.y = search rules in
-    let same = call_is (state_of c.args.self.now) c.args.command d.number d.place d.bad d.turned d.is c.if-turned.false n x y in
+    let same = call_is (state_of c.args.self.now) c.args.command d.number d.place d.bad d.turned d.divisor d.is c.if-turned.false n x y in
     ok_weaker c.call.result _ _ (λ done. same ∙ done) c.call.ensures.done
 
 pub returns-else-turned-clause-refused : goal.returns-else-turned-clause-refused
@@ -60,5 +60,5 @@ returns-else-turned-clause-refused c =
     let n : FitsSigned w64 d.number = search rules in
     let x : FitsSigned w64 d.place.x = search rules in
     let y : FitsSigned w64 d.place.y = search rules in
-    let same = call_is (state_of c.args.self.now) c.args.command d.number d.place d.bad d.turned d.is c.if-turned.false n x y in
+    let same = call_is (state_of c.args.self.now) c.args.command d.number d.place d.bad d.turned d.divisor d.is c.if-turned.false n x y in
     err_weaker c.call.result _ _ (λ stop h. subst (λ answer. IsCauseOfStop answer stop) (sym same) h) c.call.ensures.refused

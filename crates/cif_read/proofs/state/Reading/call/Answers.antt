@@ -1,4 +1,4 @@
-use Rattle.std.proofs.Common.{◌∙◌, ◌^◌, sym, subst, pos, ◌*ℤ◌}
+use Rattle.std.proofs.Common.{◌∙◌, ◌^◌, refl, sym, subst, pos, ◌*ℤ◌}
 use Rattle.cif_read.specs.Files.{IsWithin}
 use Rattle.cif_read.specs.Readings.{state_of}
 use Rattle.cif_read.proofs.Sound.{step_added, begun_later}
@@ -23,7 +23,7 @@ returns-clause-sound c =
     let good = good_call a.number a.x a.y a.bad bad in
     let place = place_found r.places r.symbols.items a.number c.in-Some.symbol c.ranges.number good.number c.requires.sound.places (sym (c.in-Some.ensures ∙ c.get.ensures.value)) in
     λ count h. record {
-      done = step_added count r.symbols.items r.boxes.items r.order.items c.push.new.self.items _ c.in_ok-push.ensures.items h.done (place.below, subst (IsWithin (2 ^ 31)) (sym (doubled a.x c.ranges.x good.x_near)) (doubled_within a.x good.x_near), subst (IsWithin (2 ^ 31)) (sym (doubled a.y c.ranges.y good.y_near)) (doubled_within a.y good.y_near));
+      done = step_added count r.symbols.items r.boxes.items r.order.items c.push.new.self.items _ c.in_ok-push.ensures.items refl h.done (place.below, subst (IsWithin (2 ^ 31)) (sym (doubled a.x c.ranges.x good.x_near)) (doubled_within a.x good.x_near), subst (IsWithin (2 ^ 31)) (sym (doubled a.y c.ranges.y good.y_near)) (doubled_within a.y good.y_near));
       places = h.places;
       begun = begun_later count r.begun h.begun;
       fresh = h.fresh;

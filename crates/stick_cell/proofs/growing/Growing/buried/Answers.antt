@@ -3,7 +3,7 @@ use Rattle.rule_table.specs.Technology.{has_buried_of}
 use Rattle.cell_model.specs.declared.cell.NodeKind.TheVariants as kinds
 use Rattle.stick_cell.specs.Known.{with_node}
 use Rattle.stick_cell.specs.NameEntries.{entries_of}
-use Rattle.stick_cell.proofs.LineSteps.{grows-residual, placed-kept, buried-by}
+use Rattle.stick_cell.proofs.LineSteps.{grows-memory, grows-residual, placed-kept, buried-by}
 use Rattle.stick_cell.proofs.growing.Growing.buried.Goals as goal
 
 pub returns-in_err-check_place-clause-grows : goal.returns-in_err-check_place-clause-grows
@@ -19,6 +19,14 @@ returns-then-not-has_buried-clause-grows c = λ cells known grown.
     let b : has_buried_of a.tech.now ≡ false = search rules in
     buried-by a.tech.now known a.name.now a.col a.row (Ok tt) false
     (placed-kept (entries_of a.self.now.table.names) known.names a.name.now a.col a.row _ grown.tells.names (sym c.in_ok-check_place.was ∙ c.check_place.ensures.placed)) b
+
+pub returns-in_err-add_node-clause-grows : goal.returns-in_err-add_node-clause-grows
+returns-in_err-add_node-clause-grows c = λ cells known grown.
+    let a = c.args in
+    let b : has_buried_of a.tech.now ≡ true = search rules in
+    grows-memory cells c.from_residual-in_err-add_node.result c.add_node.new.self _ (with_node known a.name.now kinds.Buried a.col a.row) c.from_residual-in_err-add_node.ensures.1
+    (buried-by a.tech.now known a.name.now a.col a.row (Ok tt) true
+    (placed-kept (entries_of a.self.now.table.names) known.names a.name.now a.col a.row _ grown.tells.names (sym c.in_ok-check_place.was ∙ c.check_place.ensures.placed)) b)
 
 pub returns-clause-grows : goal.returns-clause-grows
 returns-clause-grows c = λ cells known grown.

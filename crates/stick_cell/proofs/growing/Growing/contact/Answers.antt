@@ -5,7 +5,7 @@ use Rattle.stick_cell.specs.Growing.{IsGrowing}
 use Rattle.stick_cell.specs.Checks.{layer_of}
 use Rattle.stick_cell.specs.Known.{with_node}
 use Rattle.stick_cell.specs.NameEntries.{entries_of}
-use Rattle.stick_cell.proofs.LineSteps.{grows-residual, placed-kept, contact-by}
+use Rattle.stick_cell.proofs.LineSteps.{grows-memory, grows-residual, placed-kept, contact-by}
 use Rattle.stick_cell.proofs.growing.Growing.contact.Goals as goal
 
 pub returns-in_err-check_place-clause-grows : goal.returns-in_err-check_place-clause-grows
@@ -14,6 +14,13 @@ returns-in_err-check_place-clause-grows c = λ cells known grown.
     grows-residual cells c.from_residual.result a.self.now _ c.in_err-check_place.field-0.0 c.from_residual.ensures.1
     (contact-by known a.name.now a.lower a.col a.row (Err c.in_err-check_place.field-0.0)
     (placed-kept (entries_of a.self.now.table.names) known.names a.name.now a.col a.row _ grown.tells.names (sym c.in_err-check_place.was ∙ c.check_place.ensures.placed)))
+
+pub returns-in_err-add_node-clause-grows : goal.returns-in_err-add_node-clause-grows
+returns-in_err-add_node-clause-grows c = λ cells known grown.
+    let a = c.args in
+    grows-memory cells c.from_residual-in_err-add_node.result c.add_node.new.self _ (with_node known a.name.now (kinds.Contact (layer_of a.lower)) a.col a.row) c.from_residual-in_err-add_node.ensures.1
+    (contact-by known a.name.now a.lower a.col a.row (Ok tt)
+    (placed-kept (entries_of a.self.now.table.names) known.names a.name.now a.col a.row _ grown.tells.names (sym c.in_ok-check_place.was ∙ c.check_place.ensures.placed)))
 
 pub returns-clause-grows : goal.returns-clause-grows
 returns-clause-grows c = λ cells known grown.

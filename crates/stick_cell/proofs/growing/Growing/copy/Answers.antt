@@ -5,7 +5,7 @@ use Rattle.stick_cell.specs.Known.{known_at, with_copy}
 use Rattle.stick_cell.specs.Lines.{number_of}
 use Rattle.stick_cell.specs.NameEntries.{entries_of}
 use Rattle.stick_cell.proofs.TableReads.{position-name}
-use Rattle.stick_cell.proofs.LineSteps.{grows-residual, is_fresh-capped}
+use Rattle.stick_cell.proofs.LineSteps.{grows-memory, grows-residual, is_fresh-capped}
 use Rattle.stick_cell.proofs.UseSteps.{use-by, use-found}
 use Rattle.stick_cell.proofs.growing.Growing.copy.Goals as goal
 
@@ -45,6 +45,16 @@ returns-in_err-check_use-clause-grows c = λ cells known are grown.
     grows-residual cells c.from_residual.result a.self.now _ k c.from_residual.ensures.1
     (use-found cells known a.tables.now a.self.now a.name.now a.cell.now a.col a.row c.in-Some.place c.index-tables-place.result (Err k) are grown fresh other
     (sym c.in-Some.ensures) c.index-tables-place.is (sym c.in_err-check_use.was ∙ c.check_use.ensures.usable)).0
+
+pub returns-in_err-add_copy-clause-grows : goal.returns-in_err-add_copy-clause-grows
+returns-in_err-add_copy-clause-grows c = λ cells known are grown.
+    let a = c.args in
+    let fresh : is_fresh (entries_of a.self.now.table.names) a.name.now ≡ true = search rules in
+    let other : not (bytes_eq a.cell.now a.self.now.table.name.now) ≡ true = search rules in
+    let place = c.in-Some.place in
+    let found = use-found cells known a.tables.now a.self.now a.name.now a.cell.now a.col a.row place c.index-tables-place.result (Ok tt) are grown fresh other
+    (sym c.in-Some.ensures) c.index-tables-place.is (sym c.in_ok-check_use.was ∙ c.check_use.ensures.usable) in
+    grows-memory cells c.from_residual-in_err-add_copy.result c.add_copy.new.self _ (with_copy known a.name.now place (known_at cells place) a.col a.row) c.from_residual-in_err-add_copy.ensures.1 found.0
 
 pub returns-clause-grows : goal.returns-clause-grows
 returns-clause-grows c = λ cells known are grown.

@@ -7,7 +7,7 @@ use Rattle.stick_cell.specs.Checks.{is_channel}
 use Rattle.stick_cell.specs.Lines.{axis_where}
 use Rattle.stick_cell.specs.Known.{with_node}
 use Rattle.stick_cell.specs.NameEntries.{entries_of}
-use Rattle.stick_cell.proofs.LineSteps.{grows-residual, placed-kept, fet-by}
+use Rattle.stick_cell.proofs.LineSteps.{grows-memory, grows-residual, placed-kept, fet-by}
 use Rattle.stick_cell.proofs.growing.Growing.fet.Goals as goal
 
 pub returns-in_err-check_place-clause-grows : goal.returns-in_err-check_place-clause-grows
@@ -23,6 +23,14 @@ returns-then-not-is_channel-clause-grows c = λ cells known grown.
     let b : is_channel a.tech.now a.w a.l ≡ false = search rules in
     fet-by a.tech.now known a.name.now a.depletion a.vertical a.col a.row a.w a.l (Ok tt) false
     (placed-kept (entries_of a.self.now.table.names) known.names a.name.now a.col a.row _ grown.tells.names (sym c.in_ok-check_place.was ∙ c.check_place.ensures.placed)) b
+
+pub returns-in_err-add_node-clause-grows : goal.returns-in_err-add_node-clause-grows
+returns-in_err-add_node-clause-grows c = λ cells known grown.
+    let a = c.args in
+    let b : is_channel a.tech.now a.w a.l ≡ true = search rules in
+    grows-memory cells c.from_residual-in_err-add_node.result c.add_node.new.self _ (with_node known a.name.now (kinds.Fet a.depletion (axis_where a.vertical) (pos a.w) (pos a.l)) a.col a.row) c.from_residual-in_err-add_node.ensures.1
+    (fet-by a.tech.now known a.name.now a.depletion a.vertical a.col a.row a.w a.l (Ok tt) true
+    (placed-kept (entries_of a.self.now.table.names) known.names a.name.now a.col a.row _ grown.tells.names (sym c.in_ok-check_place.was ∙ c.check_place.ensures.placed)) b)
 
 pub returns-clause-grows : goal.returns-clause-grows
 returns-clause-grows c = λ cells known grown.

@@ -5,7 +5,7 @@ use Rattle.stick_cell.specs.Growing.{IsGrowing}
 use Rattle.stick_cell.specs.Checks.{layer_of, sized}
 use Rattle.stick_cell.specs.Known.{with_node}
 use Rattle.stick_cell.specs.NameEntries.{entries_of}
-use Rattle.stick_cell.proofs.LineSteps.{grows-residual, placed-kept, joint-by}
+use Rattle.stick_cell.proofs.LineSteps.{grows-memory, grows-residual, placed-kept, joint-by}
 use Rattle.stick_cell.proofs.growing.Growing.joint.Goals as goal
 
 pub returns-in_err-check_place-clause-grows : goal.returns-in_err-check_place-clause-grows
@@ -23,6 +23,15 @@ returns-in_err-width-clause-grows c = λ cells known grown.
     (joint-by a.tech.now known a.name.now a.layer a.col a.row a.width (Ok tt) (Err k)
     (placed-kept (entries_of a.self.now.table.names) known.names a.name.now a.col a.row _ grown.tells.names (sym c.in_ok-check_place.was ∙ c.check_place.ensures.placed))
     (ap (λ layer. sized a.tech.now layer a.width) (sym c.layer_of-layer.ensures) ∙ sym c.sized.ensures ∙ c.in_err-width.was))
+
+pub returns-in_err-add_node-clause-grows : goal.returns-in_err-add_node-clause-grows
+returns-in_err-add_node-clause-grows c = λ cells known grown.
+    let a = c.args in
+    let width = c.in_ok-width.width in
+    grows-memory cells c.from_residual-in_err-add_node.result c.add_node.new.self _ (with_node known a.name.now (kinds.Joint (layer_of a.layer) width) a.col a.row) c.from_residual-in_err-add_node.ensures.1
+    (joint-by a.tech.now known a.name.now a.layer a.col a.row a.width (Ok tt) (Ok width)
+    (placed-kept (entries_of a.self.now.table.names) known.names a.name.now a.col a.row _ grown.tells.names (sym c.in_ok-check_place.was ∙ c.check_place.ensures.placed))
+    (ap (λ layer. sized a.tech.now layer a.width) (sym c.layer_of-layer.ensures) ∙ sym c.sized.ensures ∙ c.in_ok-width.was))
 
 pub returns-clause-grows : goal.returns-clause-grows
 returns-clause-grows c = λ cells known grown.

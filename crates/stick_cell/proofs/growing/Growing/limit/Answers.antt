@@ -9,7 +9,7 @@ use Rattle.stick_cell.specs.Known.{with_limit}
 use Rattle.stick_cell.specs.Kept.{capped_spot}
 use Rattle.stick_cell.specs.Counts.{weight_of, capped}
 use Rattle.stick_cell.proofs.Counting.{counted, weight-with_limit, boxes-with_limit}
-use Rattle.stick_cell.proofs.LineSteps.{grows-residual}
+use Rattle.stick_cell.proofs.LineSteps.{grows-memory, grows-residual}
 use Rattle.stick_cell.proofs.WireSteps.{limit-unknown, limit-unknown_end, limit-ends, limit_of, limits_of, limit-exact, result_map-err, result_map-ok}
 use Rattle.stick_cell.proofs.Stepping.{steps-push}
 use Rattle.stick_cell.proofs.growing.Growing.limit.Goals as goal
@@ -60,6 +60,19 @@ returns-then-eq-clause-grows c = λ tech cells known are tables path_a path_b gr
     found.2 ∙ ap (λ low. low >>= (λ low. found.1 >>= (λ high. limits_of known a.vertical a.at_most a.n low high))) low.1
     ∙ ap (λ high. high >>= (λ high. limits_of known a.vertical a.at_most a.n low.0 high)) high.1
     ∙ ap (λ b. demand (not b) BadLimit >>= (λ _. Ok (with_limit known (limit_of a.vertical a.at_most a.n low.0 high.0)))) (found.5 low.0 high.0 low.1 high.1 ∙ same)
+
+pub returns-in_err-push-clause-grows : goal.returns-in_err-push-clause-grows
+returns-in_err-push-clause-grows c = λ tech cells known are tables path_a path_b grown is.
+    let a = c.args in
+    let found = limit-ends tech cells known a.vertical a.a.now a.b.now a.at_most a.n c.in_ok-from.from c.in_ok-to.to c.limited.result c.limited-2.result are path_a path_b grown
+    (sym (c.found.ensures cells known tables is) ∙ c.in_ok-from.was) (sym (c.found-2.ensures cells known tables is) ∙ c.in_ok-to.was) c.limited.ensures c.limited-2.ensures in
+    let low = result_map-ok capped_spot found.0 c.in_ok-low.low (sym found.3 ∙ c.in_ok-low.was) in
+    let high = result_map-ok capped_spot found.1 c.in_ok-high.high (sym found.4 ∙ c.in_ok-high.was) in
+    let other : bytes_eq a.a.now a.b.now ≡ false = search rules in
+    grows-memory cells c.from_residual-in_err-push.result (record a.self.now { table = record a.self.now.table { steps = c.push.new.self } }) _ (with_limit known (limit_of a.vertical a.at_most a.n low.0 high.0)) c.from_residual-in_err-push.ensures.1
+    (found.2 ∙ ap (λ low. low >>= (λ low. found.1 >>= (λ high. limits_of known a.vertical a.at_most a.n low high))) low.1
+    ∙ ap (λ high. high >>= (λ high. limits_of known a.vertical a.at_most a.n low.0 high)) high.1
+    ∙ ap (λ b. demand (not b) BadLimit >>= (λ _. Ok (with_limit known (limit_of a.vertical a.at_most a.n low.0 high.0)))) (found.5 low.0 high.0 low.1 high.1 ∙ other))
 
 pub returns-clause-grows : goal.returns-clause-grows
 returns-clause-grows c = λ tech cells known are tables path_a path_b grown is.

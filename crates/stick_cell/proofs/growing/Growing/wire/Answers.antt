@@ -15,7 +15,7 @@ use Rattle.stick_cell.proofs.GrownRuns.{IsRunBetween, checks_met}
 use Rattle.stick_cell.proofs.Made.{wire_made}
 use Rattle.stick_cell.proofs.KeptWires.{result_map, capped_run}
 use Rattle.stick_cell.proofs.SidesFree.{open-free, sides_marked}
-use Rattle.stick_cell.proofs.WireSteps.{wire-unknown, wire-unknown_end, wire-run, wire-along, wired_along, other_sides, with-residual, ends_of_added, result_map-err, result_map-ok}
+use Rattle.stick_cell.proofs.WireSteps.{wire-unknown, wire-unknown_end, wire-run, wire-along, wired_along, other_sides, with-memory, with-residual, ends_of_added, result_map-err, result_map-ok}
 use Rattle.stick_parse.specs.Writable.{IsPath}
 use Rattle.stick_cell.specs.Grown.{IsGrown, AreGrown}
 use Rattle.stick_cell.specs.Tables.{AreTables}
@@ -80,6 +80,26 @@ returns-in_err-wire c = λ cells known are tables have path_a path_b grown is si
     with-residual cells c.from_residual-in_err-wire.result a.self.now _ k c.from_residual-in_err-wire.ensures.1
     (read ∙ ap (λ r. r >>= (λ wire. Ok (with_wire known wire)))
     (result_map-err capped_wire (wire_where (are_sides_free known.wires (layer_of a.layer) real) a.tech.now (wired_of known) (layer_of a.layer) a.width real) k (sym seen ∙ c.in_err-wire.was)))
+
+pub returns-in_err-add_wire : goal.returns-in_err-add_wire
+returns-in_err-add_wire c = λ cells known are tables have path_a path_b grown is sides.
+    let a = c.args in
+    let layer : Layer = layer_of a.layer in
+    let (real, read, kept, between, seen) = along ((goal.at.returns-in_err-add_wire c).After-wire_where) cells known are tables have path_a path_b grown is sides in
+    let made = wire_where (are_sides_free known.wires layer real) a.tech.now (wired_of known) layer a.width real in
+    let next = result_map-ok capped_wire made c.in_ok-wire.wire (sym seen ∙ c.in_ok-wire.was) in
+    with-memory cells c.from_residual-in_err-add_wire.result c.add_wire.new.self _ (with_wire known next.0) c.from_residual-in_err-add_wire.ensures.1
+    (read ∙ ap (λ r. r >>= (λ wire. Ok (with_wire known wire))) next.1)
+
+pub returns-in_err-mark_ends : goal.returns-in_err-mark_ends
+returns-in_err-mark_ends c = λ cells known are tables have path_a path_b grown is sides.
+    let a = c.args in
+    let layer : Layer = layer_of a.layer in
+    let (real, read, kept, between, seen) = along ((goal.at.returns-in_err-mark_ends c).After-wire_where) cells known are tables have path_a path_b grown is sides in
+    let made = wire_where (are_sides_free known.wires layer real) a.tech.now (wired_of known) layer a.width real in
+    let next = result_map-ok capped_wire made c.in_ok-wire.wire (sym seen ∙ c.in_ok-wire.was) in
+    with-memory cells c.from_residual-in_err-mark_ends.result (record c.add_wire.new.self { table = record c.add_wire.new.self.table { sides = c.mark_ends.new.sides } }) _ (with_wire known next.0) c.from_residual-in_err-mark_ends.ensures.1
+    (read ∙ ap (λ r. r >>= (λ wire. Ok (with_wire known wire))) next.1)
 
 pub returns : goal.returns
 returns c = λ cells known are tables have path_a path_b grown is sides.

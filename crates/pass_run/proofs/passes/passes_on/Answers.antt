@@ -1,0 +1,60 @@
+use Rattle.std.proofs.Common.{◌≡◌, suc, List, length, drop, ap, ◌∙◌, arith}
+use Rattle.std.proofs.lemmas.List.{length-take-le, take_all, drop_all}
+use Rattle.std.proofs.lemmas.Result.{err_from_is_err_and}
+use Rattle.lam_geom.specs.declared.boxes.Axis.{Axis}
+use Rattle.lam_geom.specs.declared.boxes.Axis.TheVariants.{X}
+use Rattle.pass_run.specs.Layouts.{starts_of}
+use Rattle.pass_run.specs.Passes.{axes_of}
+use Rattle.pass_run.proofs.Chain.{axes_counted}
+use Rattle.pass_run.proofs.PassesGiven.{passes_given}
+use Rattle.pass_run.proofs.Going.{refused_there}
+use Rattle.pass_run.proofs.OneRefusal.{stops_at_first}
+use Rattle.pass_run.proofs.Told.{mosts_of, told_all, tight_of}
+use Rattle.pass_run.proofs.passes.passes_on.Goals as goal
+
+pub go_on-requires-clause-few : goal.go_on-requires-clause-few
+go_on-requires-clause-few g c =
+    let counted = axes_counted c.loop-axis.so_far.steps.items in
+    let axes = ap (λ (axes : List Axis). length axes) c.loop-axis.invariant.axes in
+    let few = c.requires.few in
+    let test = c.loop-axis-test.true in
+    let shorter = length-take-le c.loop-axis.axis-index c.args.axes.now (omega arith) in
+    omega arith
+
+pub returns-in_err-so_far-2-clause-refused : goal.returns-in_err-so_far-2-clause-refused
+returns-in_err-so_far-2-clause-refused g c =
+    let p = err_from_is_err_and c.from_residual-in_err-so_far-2.result c.from_residual-in_err-so_far-2.ensures.1 in
+    let r = c.in_err-so_far-2.ensures.refused (drop (suc c.loop-axis.axis-index) c.args.axes.now) in
+    rw (p.1, p.2)
+    (refused_there c.args.tech.now c.args.plan.now c.args.masters.now c.args.axes.now (axes_of c.loop-axis.so_far.steps.items) c.loop-axis.axis-index X _
+    (omega arith) c.loop-axis.invariant.axes r)
+
+pub returns-clause-made : goal.returns-clause-made
+returns-clause-made g c =
+    let e = c.in_ok-given.ensures in
+    let test = c.loop-axis-test.false in
+    let all : axes_of c.loop-axis.so_far.steps.items ≡ c.args.axes.now = c.loop-axis.invariant.axes ∙ take_all c.loop-axis.axis-index c.args.axes.now (omega arith) in
+    passes_given c.args.tech.now c.args.plan.now c.args.masters.now c.args.axes.now c.loop-axis.so_far c.in_ok-given.field-0 c.loop-axis.invariant.going all e.coords e.steps e.report
+
+pub returns-in_err-so_far-2-clause-first : goal.returns-in_err-so_far-2-clause-first
+returns-in_err-so_far-2-clause-first g c =
+    let p = err_from_is_err_and c.from_residual-in_err-so_far-2.result c.from_residual-in_err-so_far-2.ensures.1 in
+    let r = c.in_err-so_far-2.ensures.refused (drop (suc c.loop-axis.axis-index) c.args.axes.now) in
+    rw (p.1, p.2)
+    (stops_at_first c.args.tech.now c.args.plan.now c.args.masters.now c.args.axes.now _
+    (refused_there c.args.tech.now c.args.plan.now c.args.masters.now c.args.axes.now (axes_of c.loop-axis.so_far.steps.items) c.loop-axis.axis-index X _
+    (omega arith) c.loop-axis.invariant.axes r))
+
+pub returns-clause-mosts : goal.returns-clause-mosts
+returns-clause-mosts g c = λ asked.
+    let test = c.loop-axis-test.false in
+    let none = drop_all c.loop-axis.axis-index c.args.axes.now (omega arith) in
+    mosts_of c.args.tech.now c.args.plan.now c.args.masters.now (starts_of c.args.tech.now c.args.masters.now) c.in_ok-given.field-0.steps c.in_ok-given.field-0.mosts
+    (told_all c.args.tech.now c.args.plan.now c.args.masters.now c.args.with_most _ c.loop-axis.so_far _ _ c.loop-axis.invariant.told none c.in_ok-given.ensures.steps c.in_ok-given.ensures.mosts asked)
+
+pub returns-clause-tight : goal.returns-clause-tight
+returns-clause-tight g c = λ asked.
+    let test = c.loop-axis-test.false in
+    let none = drop_all c.loop-axis.axis-index c.args.axes.now (omega arith) in
+    tight_of c.args.tech.now c.args.plan.now c.args.masters.now (starts_of c.args.tech.now c.args.masters.now) c.in_ok-given.field-0.steps c.in_ok-given.field-0.mosts
+    (told_all c.args.tech.now c.args.plan.now c.args.masters.now c.args.with_most _ c.loop-axis.so_far _ _ c.loop-axis.invariant.told none c.in_ok-given.ensures.steps c.in_ok-given.ensures.mosts asked)
