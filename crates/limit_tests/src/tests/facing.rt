@@ -13,14 +13,17 @@ fn push_row(
     for k in begin..end {
         text.push_str(&format!(in alloc; "joint {name}{k} metal {k} 0\n")?)?;
     }
-    for k in begin + 1..end {
-        text.push_str(&format!(in alloc; "wire metal {name}{} {name}{k}\n", k - 1)?)?;
+    for k in begin..end {
+        if k > begin {
+            text.push_str(&format!(in alloc; "wire metal {name}{} {name}{k}\n", k - 1)?)?;
+        }
     }
     Ok(())
 }
 
-/// Two rows of 1,024 and 1,022 joints, each of one net, one behind the other, and so many limits that say nothing new. With 2,059 limits
-/// its pass on x lists 4,194,305 inequalities: 12,284 that hold whatever the layout, and 4,182,021 kept pairs.
+/// Two rows of 1,024 and 1,022 joints, each of one net, one behind the other, and so many limits that say nothing new.
+/// With 2,059 limits its pass on x lists 4,194,305 inequalities: 12,284 that hold whatever the layout, and 4,182,021
+/// kept pairs.
 pub fn facing(alloc: Global, limits: u32) -> Result<String, AllocError> {
     let mut text = String::from_str(alloc, "sticks 1\ncell t\n")?;
     push_row(&mut text, alloc, 'a', 0, 1024)?;

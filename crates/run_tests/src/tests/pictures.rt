@@ -7,6 +7,7 @@ use super::{answer_to, case_of, shelf_of};
 use cif_read::{flatten, read_cif};
 use lam_geom::{BoxXY, MaskBox};
 use std::alloc::Global;
+use std::process::Abort;
 use std::test::Fail;
 
 // The boxes of a CIF text.
@@ -27,6 +28,26 @@ fn grains(units: i32) -> i64 {
     i64::from(units) * 300
 }
 
+// Of each inverter, which is 38 wide, the first box: the diffusion of its lower contact. And the last one of the last: the
+// implant of its load. Of each box its ends on x and on y.
+const ENDS: [(usize, i32, i32, i32, i32); 5] = [
+    (0, 6, 14, 6, 14),
+    (35, 44, 52, 6, 14),
+    (70, 82, 90, 6, 14),
+    (105, 120, 128, 6, 14),
+    (139, 119, 129, 31, 45),
+];
+
+// Some of the boxes have these ends.
+fn assert_ends<A: Abort>(rt: &A, boxes: &[MaskBox]) -> Result<(), Fail> {
+    for (place, left, right, bottom, top) in ENDS {
+        let BoxXY { x, y } = boxes.get(place).ok_or("too few boxes")?.area;
+        assert_eq!(rt; [x.lo, x.hi], [grains(left), grains(right)]);
+        assert_eq!(rt; [y.lo, y.hi], [grains(bottom), grains(top)]);
+    }
+    Ok(())
+}
+
 #[test]
 fn four_inverters_have_140_boxes(rt: HostRuntime) -> Result<(), Fail> {
     let alloc = rt.alloc();
@@ -38,19 +59,5 @@ fn four_inverters_have_140_boxes(rt: HostRuntime) -> Result<(), Fail> {
     }
     let boxes = boxes_of(alloc, written.as_bytes())?;
     assert_eq!(rt; boxes.len(), 140);
-    // Of each inverter, which is 38 wide, the first box: the diffusion of its lower contact. And the last one of the
-    // last: the implant of its load. Of each box its ends on x and on y.
-    let expected: [(usize, i32, i32, i32, i32); 5] = [
-        (0, 6, 14, 6, 14),
-        (35, 44, 52, 6, 14),
-        (70, 82, 90, 6, 14),
-        (105, 120, 128, 6, 14),
-        (139, 119, 129, 31, 45),
-    ];
-    for (place, left, right, bottom, top) in expected {
-        let BoxXY { x, y } = boxes[place].area;
-        assert_eq!(rt; [x.lo, x.hi], [grains(left), grains(right)]);
-        assert_eq!(rt; [y.lo, y.hi], [grains(bottom), grains(top)]);
-    }
-    Ok(())
+    assert_ends(&rt, &boxes)
 }
