@@ -1,6 +1,6 @@
 -- One jog after another.
 use Rattle.std.proofs.Common.{◌≡◌, ℕ, suc, ◌+◌, ◌<◌, ◌≤◌, ℤ, ◌<ℤ◌, ◌≤ℤ◌, Option, Some, None, Result, Ok, Err, List, [], ◌∷◌, ◌++◌, length, map, take, get_or, refl, sym, ap, ◌∙◌, subst, arith}
-use Rattle.std.specs.Prelude.{IfOk, IfSome, IfNone, ◌==◌, position}
+use Rattle.std.specs.Prelude.{IfOk, IfErr, IfSome, IfNone, ◌==◌, position}
 use Rattle.std.specs.List.{sum_by}
 use Rattle.std.proofs.lemmas.List.{append_assoc, append-nil, length-take-le, take_more}
 use Rattle.std.proofs.lemmas.List.Sums.{sum_by-cons}
@@ -65,6 +65,13 @@ one_number o n m e f = let p = sym e ∙ f in cc
 -- what a call answered, of what it was given
 pub of_call : {A B : Type 0} (f : A → B) (given of : A) (answer is : B) → given ≡ of → answer ≡ f given → answer ≡ is → f of ≡ is
 of_call f given of answer is same by told = ap f (sym same) ∙ (sym by ∙ told)
+
+-- no cell has the name
+pub no_cell : (tech : Tech) (axes : List Axis) (design : Design) (numbers : List ℕ) (widths : List ℤ) (line : JogLine) (cells : List Known) → resolved_cells tech design ≡ Ok cells
+    → number_of cells line.cell ≡ None → IsRejected tech axes design numbers widths line
+no_cell tech axes design numbers widths line cells resolved none m new ns ws a =
+    let same = one_resolved tech design a.cells cells a.resolved resolved in
+    no_number (number_of cells line.cell) a.cell none (ap (λ (ks : List Known). number_of ks line.cell) (sym same) ∙ a.named)
 
 -- the cell that a jog is in
 cell_same : (tech : Tech) (axes : List Axis) (design : Design) (numbers : List ℕ) (widths : List ℤ) (line : JogLine) (cells : List Known) (cell m : ℕ) (new : Design) (ns : List ℕ) (ws : List ℤ)
@@ -133,6 +140,10 @@ pub none_kept : {E X Y : Type 0} (r : Result (Option Accepted) E) → (X → Y) 
 none_kept (Ok (Some a)) f none = tt
 none_kept (Ok None) f none = f none
 none_kept (Err e) f none = tt
+
+pub if_wanted : {A E N : Type 0} (r : Result A E) → N → IfErr r (λ _. N)
+if_wanted (Ok a) n = tt
+if_wanted (Err e) n = n
 
 -- a jog that is kept is accepted
 pub accepts : {E : Type 0} (tech : Tech) (axes : List Axis) (design : Design) (numbers : List ℕ) (widths : List ℤ) (line : JogLine) (cells : List Known) (cell m : ℕ) (new : Design)

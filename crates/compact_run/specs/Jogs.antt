@@ -51,6 +51,13 @@ pub record IsKept (tech : Tech) (axes : List Axis) (widths : List ℤ) (m : ℕ)
   pub narrower : value_of after m <ℤ value_of widths m
   pub no_wider : IsNoWider widths after
 
+-- a line names a cell that is a master
+pub record NamesMaster (cells : List Known) (numbers : List ℕ) (line : JogLine) : Type 0 where
+  pub cell : ℕ
+  pub named : number_of cells line.cell ≡ Some cell
+  pub m : ℕ
+  pub master : position (λ n. n == cell) numbers ≡ Some m
+
 -- A jog that is accepted: its cell is a master, it applies in the design, whose masters have these numbers and widths, and the new design is kept.
 pub record Accepts (tech : Tech) (axes : List Axis) (design : Design) (numbers : List ℕ) (widths : List ℤ) (line : JogLine) (m : ℕ) (new : Design) (after_numbers : List ℕ) (after : List ℤ)
     : Type 0 where

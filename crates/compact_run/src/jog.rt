@@ -1,16 +1,18 @@
 //! Jogs: a script bends wires of a design, and each bend is kept where it makes its cell narrower and no cell wider.
 
-ghost use Rattle.std.specs.Prelude.{◌≡◌, ℕ, ℤ, ◌<◌, ◌≤◌, ◌==◌, ◌<ℤ◌, ◌^◌, ◌↔◌, ◌++◌, List, length, map, position, OnOk, IfOk, IfErr, IfSome, IfNone, IsTrue};
+ghost use Rattle.std.specs.Prelude.{◌≡◌, ℕ, ℤ, ◌<◌, ◌≤◌, ◌==◌, ◌<ℤ◌, ◌^◌, ◌↔◌, ◌++◌, List, Ok, length, map, position, OnOk, IfOk, IfErr, IfSome, IfNone, IsTrue};
 ghost use Rattle.std.specs.List.{range_with_len};
 ghost use Rattle.cons_graph.specs.Solutions.{value_of};
 ghost use Rattle.lam_geom.specs.declared.boxes.Axis.TheVariants.{X};
 ghost use Rattle.sym_items.specs.Layouts.{size_in};
 ghost use Rattle.design_sizes.specs.Sizes.{lines_in, names_in};
 ghost use Rattle.stick_parse.specs.Writable.{IsWritable};
+ghost use Rattle.stick_cell.specs.Grids.{resolved_cells};
+ghost use Rattle.stick_cell.specs.Tables.{IsResolved, known_of};
 ghost use Rattle.compact_run.specs.Limits.{most_passes};
 ghost use Rattle.compact_run.specs.Refusals.{Refused};
 ghost use Rattle.compact_run.specs.Designs.{HasBothAxes, RefusesDesign};
-ghost use Rattle.compact_run.specs.Jogs.{Accepts, IsKept, IsLaidOutAs, IsNoWider, IsRejected, IsNextJog, JogsTo, accepted_line, jog_head, rejected_line};
+ghost use Rattle.compact_run.specs.Jogs.{Accepts, IsKept, IsLaidOutAs, IsNoWider, IsRejected, IsNextJog, NamesMaster, JogsTo, accepted_line, jog_head, rejected_line};
 ghost use Rattle.compact_run.specs.Answers.{text_of};
 
 use crate::extent::width;
@@ -25,7 +27,7 @@ use lam_io::Gate;
 use rule_table::Tech;
 use std::alloc::{AllocError, AllocFailed, Global};
 use std::thread::Threads;
-use stick_cell::resolve;
+use stick_cell::{Cells, resolve};
 use stick_lex::push_signed_decimal;
 use stick_parse::Design;
 use stick_print::print;
@@ -177,6 +179,56 @@ fn master_of(numbers: &[u32], cell: u32) -> Option<usize>
     numbers.iter().position(|n| *n == cell)
 }
 
+// The jog of a line in a design that is laid out so and has these cells, if it is accepted. Memory is wanted only where the
+// line names a master.
+fn tried_in<H: Threads + Sync, G: Gate>(
+    rt: &H,
+    alloc: Global,
+    gate: &G,
+    tech: &Tech,
+    axes: &[Axis],
+    design: &Design,
+    cells: &Cells,
+    sizes: &Sizes,
+    line: &JogLine,
+) -> Result<Option<Accepted>, AllocError>
+    requires writable { IsWritable design.now }
+    requires few_names { names_in design.now ≤ 2 ^ 19 }
+    requires few_lines { lines_in design.now ≤ 2 ^ 20 }
+    requires laid_out { IsLaidOutAs tech.now axes.now design.now sizes.now.numbers.items sizes.now.widths.items }
+    requires both { HasBothAxes axes.now }
+    requires few { length axes.now ≤ most_passes }
+    requires cells { resolved_cells tech.now design.now ≡ Ok (known_of cells.now) }
+    requires resolved { IsResolved cells.now }
+    requires of { cells.now.design.now ≡ design.now }
+    ensures accepted { IfOk result (λ o. IfSome o (λ a. Accepts tech.now axes.now design.now sizes.now.numbers.items sizes.now.widths.items line.now a.master a.design a.sizes.numbers.items a.sizes.widths.items)) }
+    ensures writable { IfOk result (λ o. IfSome o (λ a. IsWritable a.design)) }
+    ensures few_names { IfOk result (λ o. IfSome o (λ a. names_in a.design ≤ 2 ^ 19)) }
+    ensures few_lines { IfOk result (λ o. IfSome o (λ a. lines_in a.design ≤ 2 ^ 20)) }
+    ensures rejected { IfOk result (λ o. IfNone o (IsRejected tech.now axes.now design.now sizes.now.numbers.items sizes.now.widths.items line.now)) }
+    ensures wanted { IfErr result (λ _. NamesMaster (known_of cells.now) sizes.now.numbers.items line.now) }
+{
+    let Some(cell) = cells.find(line.cell.bytes()) else {
+        return Ok(None);
+    };
+    let Some(master) = master_of(&sizes.numbers, cell) else {
+        return Ok(None);
+    };
+    match insert(
+        alloc,
+        design,
+        cells,
+        &sizes.numbers,
+        cell,
+        line.k,
+        line.r,
+        line.left,
+    )? {
+        Some(new) => judged(rt, alloc, gate, tech, axes, &sizes.widths, master, new),
+        None => Ok(None),
+    }
+}
+
 // The jog of a line in a design that is laid out so, if it is accepted.
 fn tried<H: Threads + Sync, G: Gate>(
     rt: &H,
@@ -203,25 +255,7 @@ fn tried<H: Threads + Sync, G: Gate>(
     let Ok(cells) = resolve(alloc, design, tech) else {
         return Err(AllocError);
     };
-    let Some(cell) = cells.find(line.cell.bytes()) else {
-        return Ok(None);
-    };
-    let Some(master) = master_of(&sizes.numbers, cell) else {
-        return Ok(None);
-    };
-    match insert(
-        alloc,
-        design,
-        &cells,
-        &sizes.numbers,
-        cell,
-        line.k,
-        line.r,
-        line.left,
-    )? {
-        Some(new) => judged(rt, alloc, gate, tech, axes, &sizes.widths, master, new),
-        None => Ok(None),
-    }
+    tried_in(rt, alloc, gate, tech, axes, design, &cells, sizes, line)
 }
 
 fn push_head(out: &mut Vec<u8>, i: usize, line: &JogLine) -> Result<(), AllocError>
