@@ -8,13 +8,9 @@
 #![tactic(auto)]
 
 mod editing;
-#[cfg(test)]
-mod editing_tests;
 mod laws;
 mod limits;
 mod reading;
-#[cfg(test)]
-mod reading_tests;
 mod script;
 
 pub use editing::edited;

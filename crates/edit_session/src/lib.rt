@@ -7,8 +7,6 @@ mod links;
 mod raising;
 mod session;
 mod solving;
-#[cfg(test)]
-mod tests;
 mod waiting;
 
 pub use session::{Session, SessionFault};

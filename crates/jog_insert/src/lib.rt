@@ -11,14 +11,10 @@ mod bending;
 mod copying;
 mod forms;
 mod inserting;
-#[cfg(test)]
-mod inserting_tests;
 mod joints;
 mod laws;
 mod naming;
 mod reading;
-#[cfg(test)]
-mod reading_tests;
 mod runs;
 mod script;
 

@@ -1,9 +1,11 @@
-//! Tests of the crates that lay a cell out: its items, the pairs that keep a spacing, the start layout and the solver's
-//! order. There is no other code.
+//! Tests of the crates that lay a cell out: its items, the pairs that keep a spacing, the start layout, the solver's
+//! order, and sessions of edits. There is no other code.
 #![tactic(auto)]
 
 #[cfg(test)]
 mod coarse_grid_tests;
+#[cfg(test)]
+mod edit_session_tests;
 #[cfg(test)]
 mod liao_wong_tests;
 #[cfg(test)]

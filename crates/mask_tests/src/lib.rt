@@ -31,6 +31,8 @@ mod net_extract_tests;
 #[cfg(test)]
 mod net_list_tests;
 #[cfg(test)]
+mod par_phase_tests;
+#[cfg(test)]
 mod picture_tests;
 #[cfg(test)]
 mod shared_by_tests;

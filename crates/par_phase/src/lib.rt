@@ -6,7 +6,5 @@
 
 mod pieces;
 mod split;
-#[cfg(test)]
-mod tests;
 
 pub use split::map_split;

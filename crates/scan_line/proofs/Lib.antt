@@ -12,4 +12,3 @@ pub mod PairRuns
 pub mod FrontPairs
 pub mod SortedPairs
 pub mod FirstItems
-mod WorkedRow

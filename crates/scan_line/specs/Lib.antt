@@ -7,4 +7,3 @@ pub mod Lines
 pub mod Cover
 pub mod Front
 pub mod Scan
-pub mod Worked

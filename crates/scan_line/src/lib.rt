@@ -13,8 +13,6 @@ mod level;
 mod scan;
 mod sorting;
 mod stretches;
-#[cfg(test)]
-mod tests;
 
 pub use lanes::Lanes;
 pub use scan::{Near, Scan};

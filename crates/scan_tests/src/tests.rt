@@ -2,3 +2,4 @@
 
 mod boxed;
 mod many;
+mod rows;

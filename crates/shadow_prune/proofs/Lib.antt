@@ -3,4 +3,3 @@ pub mod SameLists
 pub mod Fronts
 pub mod Skipping
 pub mod KeptSoFar
-pub mod WorkedRow

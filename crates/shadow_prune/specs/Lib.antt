@@ -1,4 +1,3 @@
 pub mod KeptFaults
 pub mod Fronts
 pub mod Runs
-pub mod Worked

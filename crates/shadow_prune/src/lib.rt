@@ -7,7 +7,5 @@
 
 mod keeping;
 mod runs;
-#[cfg(test)]
-mod tests;
 
 pub use keeping::{KeptFault, kept};

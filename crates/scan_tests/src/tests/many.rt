@@ -18,7 +18,7 @@ const SQUARES: u32 = 65_536;
 const ROWS: u32 = 16;
 
 // A metal square of a part and a net of its own, about the variable of that number on each axis.
-fn square(k: u32) -> Item {
+pub fn square(k: u32) -> Item {
     let (low, high) = (End { var: k, off: -3 }, End { var: k, off: 3 });
     Item {
         class: Class::M,

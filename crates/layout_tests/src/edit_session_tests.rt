@@ -2,8 +2,8 @@
 ghost use Rattle.std.specs.Prelude.{◌≡◌, ◌≤◌, IfOk};
 ghost use Rattle.cons_graph.specs.Constraints.{IsConstraintGraph, IsEdgeAmong};
 
-use crate::session::Session;
 use cons_graph::{Edge, Graph, Why};
+use edit_session::Session;
 use std::alloc::{AllocError, Global};
 use std::test::Fail;
 

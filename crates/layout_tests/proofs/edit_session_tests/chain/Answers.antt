@@ -4,7 +4,7 @@ use Rattle.cons_graph.specs.declared.edges.Edge.{Edge}
 use Rattle.cons_graph.specs.declared.edges.Why.TheVariants.{Space}
 use Rattle.cons_graph.specs.Constraints.{IsConstraintGraph, IsEdgeAmong}
 use Rattle.edit_session.proofs.Kept.{graph_more}
-use Rattle.edit_session.proofs.tests.chain.Goals as goal
+use Rattle.layout_tests.proofs.edit_session_tests.chain.Goals as goal
 
 pub loop-v-preserved : goal.loop-v-preserved
 loop-v-preserved c =

@@ -2,7 +2,7 @@ use Rattle.std.proofs.Common.{◌+◌, List, sym, ap, subst, arith}
 use Rattle.cons_graph.specs.declared.edges.Edge.{Edge}
 use Rattle.cons_graph.specs.Constraints.{IsConstraintGraph}
 use Rattle.edit_session.proofs.Spokes.{graph_wider}
-use Rattle.edit_session.proofs.tests.spokes.Goals as goal
+use Rattle.layout_tests.proofs.edit_session_tests.spokes.Goals as goal
 
 pub loop-v-preserved : goal.loop-v-preserved
 loop-v-preserved c =

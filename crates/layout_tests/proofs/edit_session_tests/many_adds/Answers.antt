@@ -1,6 +1,6 @@
 use Rattle.std.proofs.Common.{ℕ, sym, subst}
 use Rattle.cons_graph.specs.Constraints.{IsEdgeAmong}
-use Rattle.edit_session.proofs.tests.many_adds.Goals as goal
+use Rattle.layout_tests.proofs.edit_session_tests.many_adds.Goals as goal
 
 pub add-requires : goal.add-requires
 add-requires g c =

@@ -1,5 +1,5 @@
 use Rattle.std.proofs.Common.{◌≡◌}
-use Rattle.edit_session.proofs.tests.many_adds.Given as goal
+use Rattle.layout_tests.proofs.edit_session_tests.many_adds.Given as goal
 
 abbrev pub invariant-loop-len : goal.invariant-loop-len
 invariant-loop-len g l = l.session.vars ≡ 65536

@@ -1,7 +1,7 @@
-//! What no contract says: that pieces run beside each other, and how often they pass the gate.
+//! What no contract of par_phase says: that pieces run beside each other, and how often they pass the gate.
 
-use crate::map_split;
 use lam_io::{Gate, OpenGate};
+use par_phase::map_split;
 use std::alloc::AllocError;
 use std::sync::atomic::{AtomicBool, AtomicU64, Ordering};
 use std::test::Fail;
