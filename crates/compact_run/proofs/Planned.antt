@@ -24,6 +24,7 @@ use Rattle.expand.specs.declared.master.Master.{Master}
 use Rattle.expand.specs.Masters.{IsMaster}
 use Rattle.plan_model.specs.declared.plan.Plan.{Plan}
 use Rattle.plan_model.specs.Plan.{AreOfMasters, IsPlanOver, grids_of}
+use Rattle.grid_rules.specs.Planned.{AreOfPlan}
 use Rattle.pitch_join.specs.Masters.{no_master, ArePlanned, master_ports, ports_of_masters, parts_in}
 use Rattle.grid_plan.specs.Numbered.{ports_of_chosen}
 use Rattle.grid_plan.specs.Planned.{IsPlanOf}
@@ -147,3 +148,7 @@ few_symbols symbols masters layouts same few =
     let zipped = length-map (zip masters layouts) drawing_in in
     let both = length-zip masters layouts in
     omega (arith, count, drawings, zipped, both, few)
+
+-- the masters of a plan, however many parts they have
+pub of_plan : {tech : Tech} {plan : Plan} {masters : List Master} → ArePlanned tech plan masters → AreOfPlan tech plan masters
+of_plan planned = record { each = planned.each; planned = planned.planned }

@@ -15,7 +15,8 @@ use Rattle.plan_model.specs.declared.plan.Plan.{Plan}
 use Rattle.plan_model.specs.Instances.{grid_at, master_at_spot, row_height}
 use Rattle.plan_model.specs.Plan.{grids_of}
 use Rattle.plan_model.specs.Rows.{row_at}
-use Rattle.pitch_join.specs.Masters.{ArePlanned, master_at}
+use Rattle.pitch_join.specs.Masters.{master_at}
+use Rattle.grid_rules.specs.Planned.{AreOfPlan}
 use Rattle.grid_rules.specs.Rules.{AreFinished}
 use Rattle.grid_rules.proofs.Gaps.{grids_laid}
 use Rattle.grid_rules.proofs.InCell.{items_between}
@@ -26,7 +27,7 @@ use Rattle.design_nets.specs.Shapes.{drawn_in}
 use Rattle.design_nets.specs.Transistors.{BoxesLieNear}
 use Rattle.design_nets.proofs.NodeItems.{drawn_within}
 
-pub finished_near : (tech : Tech) (plan : Plan) (masters : List Master) (layouts : List Coords) → ArePlanned tech plan masters → AreFinished tech plan masters layouts
+pub finished_near : (tech : Tech) (plan : Plan) (masters : List Master) (layouts : List Coords) → AreOfPlan tech plan masters → AreFinished tech plan masters layouts
     → IsDrawable (size_in X layouts) (size_in Y layouts) (widest_of tech) (grids_of plan) → BoxesLieNear plan masters layouts
 finished_near tech plan masters layouts planned finished drawable p at j d lt =
     let grids : List (List (List ℕ)) = grids_of plan in

@@ -16,7 +16,8 @@ use Rattle.expand.specs.declared.master.Master.{Master}
 use Rattle.plan_model.specs.declared.plan.Plan.{Plan}
 use Rattle.plan_model.specs.Instances.{Spot, spots_of}
 use Rattle.plan_model.specs.Plan.{grids_of}
-use Rattle.pitch_join.specs.Masters.{ArePlanned, master_at, no_master}
+use Rattle.pitch_join.specs.Masters.{master_at, no_master}
+use Rattle.grid_rules.specs.Planned.{AreOfPlan}
 use Rattle.grid_rules.proofs.Meeting.{master_among}
 use Rattle.mask_out.specs.declared.drawing.Call.{Call}
 use Rattle.mask_out.specs.Pictures.{call_at}
@@ -30,7 +31,7 @@ use Rattle.design_nets.proofs.Fets.{shape_of}
 use Rattle.design_nets.proofs.Spots.{instance_stands}
 
 -- the instances are of masters
-pub instances_among : (tech : Tech) (plan : Plan) (masters : List Master) → ArePlanned tech plan masters → All (λ (i : Instance). i.master < length masters) (instances_of (grids_of plan))
+pub instances_among : (tech : Tech) (plan : Plan) (masters : List Master) → AreOfPlan tech plan masters → All (λ (i : Instance). i.master < length masters) (instances_of (grids_of plan))
 instances_among tech plan masters planned = All-from_get_or (λ (i : Instance). i.master < length masters) (instances_of (grids_of plan)) no_instance (λ s lt.
     (let i = instance_stands (grids_of plan) (instances_of (grids_of plan)) s refl lt in
     let among = master_among tech plan masters (spot_no (instances_of (grids_of plan)) s) planned i.spot in

@@ -19,7 +19,8 @@ use Rattle.list_facts.proofs.Elements.{all_at}
 use Rattle.pair_rules.specs.Bound.{item_at, no_item}
 use Rattle.plan_model.specs.declared.plan.Plan.{Plan}
 use Rattle.plan_model.specs.Plan.{grids_of}
-use Rattle.pitch_join.specs.Masters.{ArePlanned, master_at, no_master}
+use Rattle.pitch_join.specs.Masters.{master_at, no_master}
+use Rattle.grid_rules.specs.Planned.{AreOfPlan}
 use Rattle.net_extract.specs.declared.netlist.Part.{Part}
 use Rattle.net_extract.specs.declared.netlist.Part.TheVariants.{Whole, Low, High}
 use Rattle.net_extract.specs.Places.{parts_on}
@@ -69,7 +70,7 @@ part_below tech masters nets m n part each are lt among has = by part has
     by Low has = (node Low has (λ e. cc)).low
     by High has = (node High has (λ e. cc)).high
 
-pub owners_own : (tech : Tech) (plan : Plan) (masters : List Master) (nets : List Nets) (instances : List Instance) → ArePlanned tech plan masters → AreNetsOfAll masters nets → (are : instances ≡ instances_of (grids_of plan))
+pub owners_own : (tech : Tech) (plan : Plan) (masters : List Master) (nets : List Nets) (instances : List Instance) → AreOfPlan tech plan masters → AreNetsOfAll masters nets → (are : instances ≡ instances_of (grids_of plan))
     → (shapes : List Shape) (firsts : List ℕ) (made : AreShapesOf masters instances shapes firsts) (each : (k : ℕ) → k < length shapes → IsShapeOf masters instances (shape_no shapes k))
     → (pieces : List Placed) (starts : List ℕ) (all : ArePiecesOf masters nets instances shapes pieces starts) → All (IsOwn nets instances) (map own_of pieces)
 owners_own tech plan masters nets instances planned of_all are shapes firsts made each pieces starts all =

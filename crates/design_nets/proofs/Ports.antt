@@ -16,8 +16,9 @@ use Rattle.plan_model.specs.Instances.{Spot, IsSpot, master_at_spot}
 use Rattle.plan_model.specs.Plan.{grids_of, borders_of, matches_in}
 use Rattle.plan_model.specs.Rows.{firsts, is_pair}
 use Rattle.pitch_join.specs.Among.{IsMatchAmong}
-use Rattle.pitch_join.specs.Masters.{ArePlanned, master_at, ports_of_masters}
-use Rattle.pitch_join.proofs.Planned.{matches_among}
+use Rattle.pitch_join.specs.Masters.{master_at, ports_of_masters}
+use Rattle.grid_rules.specs.Planned.{AreOfPlan}
+use Rattle.pitch_join.proofs.Planned.{matches_of_plan}
 use Rattle.grid_rules.proofs.Lists.{out_of_flat_map, out_of_map}
 use Rattle.grid_rules.proofs.Meeting.{master_among, match_listed}
 use Rattle.design_nets.specs.declared.instances.Instance.{Instance}
@@ -32,7 +33,7 @@ use Rattle.design_nets.proofs.Spots.{number_of_spot, spot_there, instance_stands
 
 -- ---- the nets of the masters of a plan
 
-pub have_nets : (tech : Tech) (plan : Plan) (masters : List Master) (nets : List Nets) (instances : List Instance) → ArePlanned tech plan masters → AreNetsOfAll masters nets → instances ≡ instances_of (grids_of plan)
+pub have_nets : (tech : Tech) (plan : Plan) (masters : List Master) (nets : List Nets) (instances : List Instance) → AreOfPlan tech plan masters → AreNetsOfAll masters nets → instances ≡ instances_of (grids_of plan)
     → HaveNets plan nets instances
 have_nets tech plan masters nets instances planned all are =
     let counted = all.counted in
@@ -58,12 +59,12 @@ have_nets tech plan masters nets instances planned all are =
             second = omega (arith, second, counted);
             first_wire = omega (arith, first_wire, first_counted);
             second_wire = omega (arith, second_wire, second_counted);
-          })) (matches_in axis plan) (matches_among axis tech plan masters planned);
+          })) (matches_in axis plan) (matches_of_plan axis tech plan masters planned.each planned.planned);
     }
 
 -- ---- ports that meet, and matches of the plan
 
-module _ (tech : Tech) (plan : Plan) (masters : List Master) (nets : List Nets) (instances : List Instance) (planned : ArePlanned tech plan masters) (are : instances ≡ instances_of (grids_of plan)) where
+module _ (tech : Tech) (plan : Plan) (masters : List Master) (nets : List Nets) (instances : List Instance) (planned : AreOfPlan tech plan masters) (are : instances ≡ instances_of (grids_of plan)) where
   abbrev Grids : List (List (List ℕ))
   Grids = grids_of plan
 

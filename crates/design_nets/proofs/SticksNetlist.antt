@@ -13,7 +13,7 @@ use Rattle.expand.specs.declared.master.Master.{Master}
 use Rattle.graph_search.specs.Netting.{next_net, IsNumberedInOrder}
 use Rattle.plan_model.specs.declared.plan.Plan.{Plan}
 use Rattle.plan_model.specs.Plan.{grids_of}
-use Rattle.pitch_join.specs.Masters.{ArePlanned}
+use Rattle.grid_rules.specs.Planned.{AreOfPlan}
 use Rattle.crossings.specs.declared.crossing.Crossing.{Crossing}
 use Rattle.net_extract.specs.declared.netlist.Device.{Device}
 use Rattle.net_extract.specs.declared.netlist.Part.TheVariants.{Whole}
@@ -59,7 +59,7 @@ numbers_moved plan n m i j o p numbers e f g h =
 
 -- ---- instances and shapes
 
-module _ (tech : Tech) (plan : Plan) (masters : List Master) (nets : List Nets) (instances : List Instance) (planned : ArePlanned tech plan masters) (all : AreNetsOfAll masters nets)
+module _ (tech : Tech) (plan : Plan) (masters : List Master) (nets : List Nets) (instances : List Instance) (planned : AreOfPlan tech plan masters) (all : AreNetsOfAll masters nets)
     (are : instances ≡ instances_of (grids_of plan)) where
   pub masters_among : All (λ (i : Instance). i.master < length masters) instances
   masters_among s d lt =

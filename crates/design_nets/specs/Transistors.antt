@@ -20,7 +20,8 @@ use Rattle.buried_contacts.specs.Contacts.{axis_along}
 use Rattle.plan_model.specs.declared.plan.Plan.{Plan}
 use Rattle.plan_model.specs.Instances.{Spot, IsSpot, master_at_spot}
 use Rattle.plan_model.specs.Plan.{grids_of}
-use Rattle.pitch_join.specs.Masters.{ArePlanned, master_at}
+use Rattle.pitch_join.specs.Masters.{master_at}
+use Rattle.grid_rules.specs.Planned.{AreOfPlan}
 use Rattle.grid_rules.specs.Rules.{item_in}
 use Rattle.mask_out.specs.declared.drawing.Call.{Call}
 use Rattle.mask_out.specs.Pictures.{HaveBoxes, IsDrawable, calls_of}
@@ -82,7 +83,7 @@ BoxesLieNear plan masters layouts =
 
 -- A plan of masters and its layouts, with a call for each instance and a box for each item that is one: all within reach, and not too many.
 pub record IsLaidOut (tech : Tech) (plan : Plan) (masters : List Master) (layouts : List Coords) (calls : List Call) (shapes : Shapes) : Type 0 where
-  pub planned : ArePlanned tech plan masters
+  pub planned : AreOfPlan tech plan masters
   pub near : BoxesLieNear plan masters layouts
   pub counted : length layouts ≡ length masters
   pub boxes : HaveBoxes layouts masters

@@ -4,7 +4,7 @@ ghost use Rattle.lam_geom.specs.declared.boxes.Axis.TheVariants.{X, Y};
 ghost use Rattle.rule_table.specs.Technology.{widest_of};
 ghost use Rattle.sym_items.specs.Layouts.{size_in};
 ghost use Rattle.plan_model.specs.Plan.{grids_of};
-ghost use Rattle.pitch_join.specs.Masters.{ArePlanned};
+ghost use Rattle.grid_rules.specs.Planned.{AreOfPlan};
 ghost use Rattle.mask_out.specs.Pictures.{HaveBoxes, IsDrawable};
 ghost use Rattle.grid_rules.specs.Shapes.{shapes_of};
 ghost use Rattle.grid_rules.specs.Sticks.{IsSticksNetlist};
@@ -35,7 +35,7 @@ pub fn stick_netlist(
     masters: &[Master],
     layouts: &[Coords],
 ) -> Result<Netlist, AllocError>
-    requires planned { ArePlanned tech.now plan.now masters.now }
+    requires planned { AreOfPlan tech.now plan.now masters.now }
     requires counted { length layouts.now ≡ length masters.now }
     requires boxes { HaveBoxes layouts.now masters.now }
     requires near { BoxesLieNear plan.now masters.now layouts.now }

@@ -17,7 +17,8 @@ use Rattle.plan_model.specs.Instances.{Spot, IsSpot, spot, grid_at, master_at_sp
 use Rattle.plan_model.specs.Plan.{grids_of, is_of_two, same_of, sharing, meeting, borders_of, pitch_in, pitch_of, matches_in, ports_matched}
 use Rattle.plan_model.specs.Rows.{neighbours, zipped_rows, row_at, column_at, columns_of, first_row, firsts, is_pair, is_pair_either_way, IsRectangular}
 use Rattle.pitch_join.specs.Joined.{far_of}
-use Rattle.pitch_join.specs.Masters.{ports_of_masters, ArePlanned}
+use Rattle.pitch_join.specs.Masters.{ports_of_masters}
+use Rattle.grid_rules.specs.Planned.{AreOfPlan}
 use Rattle.pitch_join.specs.Meeting.{HasOneLine}
 use Rattle.pitch_join.proofs.Lists.{all_firsts, all_kept}
 use Rattle.grid_rules.specs.InstanceSystem.{InstancesMeet, StandInLine, ListsSpeakOfInstances, line_at}
@@ -111,7 +112,7 @@ to_pitch axis plan f is rect each =
     let listed = all_map (AreEqual f) same_of (firsts is_pair_either_way two) (all_firsts (IsLevel f) is_pair_either_way two level) in
     subst (All (AreEqual f)) (sym is) (all_of (AreEqual f) (pitch_of axis (grids_of plan)) listed)
 
-to_matches : (axis : Axis) (tech : Tech) (plan : Plan) (masters : List Master) (x : ℕ → ℤ) → ArePlanned tech plan masters → InstancesMeet axis tech plan masters x → All (HasOneLine axis masters x) (matches_in axis plan)
+to_matches : (axis : Axis) (tech : Tech) (plan : Plan) (masters : List Master) (x : ℕ → ℤ) → AreOfPlan tech plan masters → InstancesMeet axis tech plan masters x → All (HasOneLine axis masters x) (matches_in axis plan)
 to_matches axis tech plan masters x planned h =
     let grids : List (List (List ℕ)) = grids_of plan in
     let ports : List (List CellPort) = ports_of_masters masters in
@@ -132,7 +133,7 @@ to_matches axis tech plan masters x planned h =
 -- ---- from the lists to instances
 
 -- the wires of two ports that meet lie on one line
-to_line : (axis : Axis) (tech : Tech) (plan : Plan) (masters : List Master) (x : ℕ → ℤ) → ArePlanned tech plan masters → All (HasOneLine axis masters x) (matches_in axis plan) → (p q : Spot) (a b : CellPort)
+to_line : (axis : Axis) (tech : Tech) (plan : Plan) (masters : List Master) (x : ℕ → ℤ) → AreOfPlan tech plan masters → All (HasOneLine axis masters x) (matches_in axis plan) → (p q : Spot) (a b : CellPort)
     → MeetAt axis (ports_of_masters masters) (grids_of plan) p q a b → line_at axis plan masters x p a ≡ line_at axis plan masters x q b
 to_line axis tech plan masters x planned h p q a b meets =
     let pair : ℕ × ℕ = (master_at_spot (grids_of plan) p, master_at_spot (grids_of plan) q) in
@@ -140,7 +141,7 @@ to_line axis tech plan masters x planned h p q a b meets =
 
 -- ---- both
 
-pub instances_meet : (tech : Tech) (plan : Plan) (masters : List Master) → ArePlanned tech plan masters → ListsSpeakOfInstances tech plan masters
+pub instances_meet : (tech : Tech) (plan : Plan) (masters : List Master) → AreOfPlan tech plan masters → ListsSpeakOfInstances tech plan masters
 instances_meet tech plan masters planned = λ axis x.
     let far : ℕ → ℤ = λ m. x (far_of axis masters m) in (
       λ h. record {

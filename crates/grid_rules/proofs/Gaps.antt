@@ -21,7 +21,8 @@ use Rattle.plan_model.specs.declared.plan.Plan.{Plan}
 use Rattle.std.specs.Int.{int_max}
 use Rattle.plan_model.specs.Instances.{Spot, IsSpot, IsAligned, master_at_spot}
 use Rattle.plan_model.specs.Plan.{grids_of}
-use Rattle.pitch_join.specs.Masters.{master_at, ports_of_masters, ArePlanned}
+use Rattle.pitch_join.specs.Masters.{master_at, ports_of_masters}
+use Rattle.grid_rules.specs.Planned.{AreOfPlan}
 use Rattle.grid_rules.specs.Rules.{AreFinished, sides_at_spot, items_at}
 use Rattle.grid_rules.proofs.Aligned.{all_aligned}
 use Rattle.grid_rules.proofs.InCell.{low_in, high_in, BeginsOnBorder, EndsOnBorder, LiesBetween, items_between, cell_long}
@@ -32,7 +33,7 @@ use Rattle.grid_rules.proofs.Places.{place_of, low_of, AreLaid, stands_behind, s
 
 -- the masters of a plan, and their layouts
 pub record IsDone (tech : Tech) (plan : Plan) (masters : List Master) (layouts : List Coords) : Type 0 where
-  pub planned : ArePlanned tech plan masters
+  pub planned : AreOfPlan tech plan masters
   pub finished : AreFinished tech plan masters layouts
 
 pub grids_laid : (axis : Axis) (tech : Tech) (plan : Plan) (masters : List Master) (layouts : List Coords) → IsDone tech plan masters layouts → AreLaid axis (size_in axis layouts) (widest_of tech) (grids_of plan)

@@ -20,7 +20,8 @@ use Rattle.plan_model.specs.Instances.{Spot, IsSpot, grid_at, master_at_spot}
 use Rattle.plan_model.specs.Plan.{grids_of, meeting, borders_of, ports_matched, matches_in, IsPlanOver}
 use Rattle.plan_model.specs.Rows.{neighbours, zipped_rows, row_at, firsts, is_pair}
 use Rattle.pitch_join.specs.Layouts.{line_in, LieOnOneLine}
-use Rattle.pitch_join.specs.Masters.{master_at, no_master, master_ports, ports_of_masters, ArePlanned}
+use Rattle.pitch_join.specs.Masters.{master_at, no_master, master_ports, ports_of_masters}
+use Rattle.grid_rules.specs.Planned.{AreOfPlan}
 use Rattle.grid_rules.proofs.Lists.{in_flat_map, in_map, in_zip, in_neighbours, in_firsts}
 use Rattle.grid_rules.proofs.OnBorder.{other}
 use Rattle.grid_rules.proofs.Ports.{IsPortOf, wire_of_port, port_met, met_alike}
@@ -31,13 +32,13 @@ ports_counted : (masters : List Master) → length (ports_of_masters masters) �
 ports_counted masters = length-map masters master_ports
 
 -- an instance is of a master of the plan
-pub master_among : (tech : Tech) (plan : Plan) (masters : List Master) (p : Spot) → ArePlanned tech plan masters → IsSpot (grids_of plan) p → master_at_spot (grids_of plan) p < length masters
+pub master_among : (tech : Tech) (plan : Plan) (masters : List Master) (p : Spot) → AreOfPlan tech plan masters → IsSpot (grids_of plan) p → master_at_spot (grids_of plan) p < length masters
 master_among tech plan masters p planned at =
     let lt = planned.planned.of_masters p.grid [] at.grid p.row [] at.row p.col 0 at.col in
     let counted = ports_counted masters in
     omega (arith, lt, counted)
 
-pub master_is : (tech : Tech) (plan : Plan) (masters : List Master) (p : Spot) → ArePlanned tech plan masters → IsSpot (grids_of plan) p → IsMaster tech (master_at masters (master_at_spot (grids_of plan) p))
+pub master_is : (tech : Tech) (plan : Plan) (masters : List Master) (p : Spot) → AreOfPlan tech plan masters → IsSpot (grids_of plan) p → IsMaster tech (master_at masters (master_at_spot (grids_of plan) p))
 master_is tech plan masters p planned at = planned.each (master_at_spot (grids_of plan) p) no_master (master_among tech plan masters p planned at)
 
 own_ports : (masters : List Master) (m : ℕ) → m < length masters → ports_of_master (ports_of_masters masters) m ≡ ports_of_cell (master_at masters m).cell
@@ -110,7 +111,7 @@ pub record Meets (axis : Axis) (plan : Plan) (masters : List Master) (layouts : 
   pub width : a.width ≡ b.width
   pub line : line_in (other axis) masters layouts (master_at_spot (grids_of plan) p) a.wire ≡ line_in (other axis) masters layouts (master_at_spot (grids_of plan) q) v
 
-pub port_meets : (axis : Axis) (tech : Tech) (plan : Plan) (masters : List Master) (layouts : List Coords) (p q : Spot) (v : ℕ) (b : CellPort) → ArePlanned tech plan masters
+pub port_meets : (axis : Axis) (tech : Tech) (plan : Plan) (masters : List Master) (layouts : List Coords) (p q : Spot) (v : ℕ) (b : CellPort) → AreOfPlan tech plan masters
     → All (LieOnOneLine (other axis) masters layouts) (matches_in (other axis) plan) → IsSpot (grids_of plan) p → IsSpot (grids_of plan) q → IsBehind (other axis) p q
     → IsPortOf axis (master_at masters (master_at_spot (grids_of plan) q)).cell true v b → Meets axis plan masters layouts p q v b
 port_meets axis tech plan masters layouts p q v b planned lines at_p at_q next port =

@@ -40,7 +40,7 @@ use Rattle.plan_model.specs.declared.plan.Plan.{Plan}
 use Rattle.plan_model.specs.Instances.{Spot, master_at_spot}
 use Rattle.plan_model.specs.Plan.{grids_of}
 use Rattle.grid_rules.specs.Rules.{AreNetsOf, shifted_sides, item_in, items_at}
-use Rattle.pitch_join.specs.Masters.{ArePlanned}
+use Rattle.grid_rules.specs.Planned.{AreOfPlan}
 use Rattle.grid_rules.proofs.Gaps.{IsDone}
 use Rattle.grid_rules.proofs.Meeting.{master_among, master_is}
 use Rattle.grid_rules.specs.Conductors.{Drawn, item_of, sides_of_drawn}
@@ -212,7 +212,7 @@ pub record KnowsFet (tech : Tech) (plan : Plan) (masters : List Master) (layouts
 
 -- ---- a transistor of an instance
 
-module _ (tech : Tech) (plan : Plan) (masters : List Master) (layouts : List Coords) (planned : ArePlanned tech plan masters) (spot : Spot) (k : ℕ) (depletion : Bool) (gate : Axis2) (w l : ℤ)
+module _ (tech : Tech) (plan : Plan) (masters : List Master) (layouts : List Coords) (planned : AreOfPlan tech plan masters) (spot : Spot) (k : ℕ) (depletion : Bool) (gate : Axis2) (w l : ℤ)
     (fet : IsTransistorAt plan masters spot k depletion gate w l) where
   own_master : IsMaster tech (master_of plan masters spot)
   own_master = master_is tech plan masters spot planned fet.there
@@ -387,7 +387,7 @@ module _ (tech : Tech) (plan : Plan) (masters : List Master) (layouts : List Coo
       (sound_numbers tech).in_range.extension_implant.0 past inside.0 inside.1 in
       omega (arith, ints, far, over)
 
-pub transistors_have : (tech : Tech) (plan : Plan) (masters : List Master) (layouts : List Coords) → ArePlanned tech plan masters → TransistorsHaveBoxes tech plan masters layouts
+pub transistors_have : (tech : Tech) (plan : Plan) (masters : List Master) (layouts : List Coords) → AreOfPlan tech plan masters → TransistorsHaveBoxes tech plan masters layouts
 transistors_have tech plan masters layouts planned spot k depletion gate w l fet = boxes tech plan masters layouts planned spot k depletion gate w l fet
 
 pub implants_tell : (tech : Tech) (plan : Plan) (masters : List Master) (layouts : List Coords) → IsDone tech plan masters layouts → ImplantsTellDepletion tech plan masters layouts

@@ -10,7 +10,7 @@ use Rattle.list_facts.proofs.Elements.{all_at}
 use Rattle.pair_rules.specs.Bound.{no_item, item_at}
 use Rattle.expand.specs.declared.master.Master.{Master}
 use Rattle.plan_model.specs.declared.plan.Plan.{Plan}
-use Rattle.pitch_join.specs.Masters.{ArePlanned}
+use Rattle.grid_rules.specs.Planned.{AreOfPlan}
 use Rattle.grid_rules.specs.Rules.{items_at, sides_at_spot}
 use Rattle.grid_rules.proofs.Meeting.{master_is}
 use Rattle.grid_rules.specs.Conductors.{Drawn, item_of}
@@ -67,7 +67,7 @@ one_of c list block owner m n one run lt less em en cm cn =
 
 -- ---- in all instances
 
-module _ (tech : Tech) (plan : Plan) (masters : List Master) (planned : ArePlanned tech plan masters) where
+module _ (tech : Tech) (plan : Plan) (masters : List Master) (planned : AreOfPlan tech plan masters) where
   placed_at : (a : Drawn) (c : Class) → IsOfClass plan masters c a → IsPlaced (items_at plan masters a.spot) (IsOfTransistor (master_of plan masters a.spot).cell (item_of plan masters a).owner) a.item
   placed_at a c h = placed tech (master_of plan masters a.spot) (master_is tech plan masters a.spot planned h.drawn.spot) a.item h.drawn.among
 

@@ -24,7 +24,8 @@ use Rattle.plan_model.specs.declared.plan.Plan.{Plan}
 use Rattle.plan_model.specs.Instances.{Spot, IsSpot, spot, grid_at, master_at_spot, spots_in_row, spots_in_grid, spots_of}
 use Rattle.plan_model.specs.Plan.{grids_of}
 use Rattle.plan_model.specs.Rows.{row_at}
-use Rattle.pitch_join.specs.Masters.{ArePlanned, master_at, no_master, ports_of_masters, master_ports}
+use Rattle.pitch_join.specs.Masters.{master_at, no_master, ports_of_masters, master_ports}
+use Rattle.grid_rules.specs.Planned.{AreOfPlan}
 use Rattle.grid_rules.specs.Rules.{items_at}
 use Rattle.mask_out.specs.declared.drawing.Call.{Call}
 use Rattle.mask_out.specs.Masks.{Mask, layer_drawn, is_drawn, masks_on, mask_layers, masks_in}
@@ -44,7 +45,7 @@ spots_are grids =
     all_map Holds (spot g r) (range_with_len 0 (length (row_at (grid_at grids g) r))) (all_numbers (λ c. Holds (spot g r c)) 0 (length (row_at (grid_at grids g) r)) (λ c _ in_row.
     record { grid = omega (arith, in_grids); row = omega (arith, in_rows); col = omega (arith, in_row) }))))))
 
-pub master_there : (tech : Tech) (plan : Plan) (masters : List Master) → ArePlanned tech plan masters → (p : Spot) → IsSpot (grids_of plan) p → master_at_spot (grids_of plan) p < length masters
+pub master_there : (tech : Tech) (plan : Plan) (masters : List Master) → AreOfPlan tech plan masters → (p : Spot) → IsSpot (grids_of plan) p → master_at_spot (grids_of plan) p < length masters
 master_there tech plan masters planned p there =
     let counted : length (ports_of_masters masters) ≡ length masters = length-map masters master_ports in
     subst (λ n. master_at_spot (grids_of plan) p < n) counted (planned.planned.of_masters p.grid [] there.grid p.row [] there.row p.col 0 there.col)
@@ -113,7 +114,7 @@ masks_drawn masters layouts m counted lt =
     ap (λ (d : Drawing). d.masks) (get_or-map drawing_in (zip masters layouts) m pair no_drawing few)
     ∙ ap (λ (one : Master × Coords). (drawing_in one).masks) (get_or-zip masters layouts m pair lt (omega (arith, counted, lt)))
 
-spot_shown : (tech : Tech) (plan : Plan) (masters : List Master) (layouts : List Coords) → ArePlanned tech plan masters → length layouts ≡ length masters → (p : Spot) → IsSpot (grids_of plan) p
+spot_shown : (tech : Tech) (plan : Plan) (masters : List Master) (layouts : List Coords) → AreOfPlan tech plan masters → length layouts ≡ length masters → (p : Spot) → IsSpot (grids_of plan) p
     → masks_called (drawings_in masters layouts) (call_at (size_in X layouts) (size_in Y layouts) (widest_of tech) (grids_of plan) p)
     ≡ map (mask_of_shape tech plan masters layouts) (shapes_at plan masters p)
 spot_shown tech plan masters layouts planned counted p there =
@@ -122,7 +123,7 @@ spot_shown tech plan masters layouts planned counted p there =
     ap (map (shifted call)) (masks_drawn masters layouts m counted (master_there tech plan masters planned p there))
     ∙ masks_shown tech plan masters layouts p (layout_at layouts m) refl
 
-pub picture_shows : (tech : Tech) (plan : Plan) (masters : List Master) (layouts : List Coords) → ArePlanned tech plan masters → length layouts ≡ length masters → PictureShowsShapes tech plan masters layouts
+pub picture_shows : (tech : Tech) (plan : Plan) (masters : List Master) (layouts : List Coords) → AreOfPlan tech plan masters → length layouts ≡ length masters → PictureShowsShapes tech plan masters layouts
 picture_shows tech plan masters layouts planned counted =
     let grids = grids_of plan in
     let call : Spot → Call = call_at (size_in X layouts) (size_in Y layouts) (widest_of tech) grids in

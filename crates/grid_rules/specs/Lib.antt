@@ -1,3 +1,4 @@
+pub mod Planned
 pub mod Rules
 pub mod InstanceSystem
 pub mod Conductors

@@ -1,5 +1,5 @@
 //! That the sticks' nets are joined by what lies where.
-ghost use Rattle.pitch_join.specs.Masters.{ArePlanned};
+ghost use Rattle.grid_rules.specs.Planned.{AreOfPlan};
 ghost use Rattle.grid_rules.specs.Rules.{AreFinished};
 ghost use Rattle.grid_rules.specs.Conductors.{NetsAreConnected};
 
@@ -10,7 +10,7 @@ use sym_items::Coords;
 
 /// A law, with nothing to run: conducting items of one net of the sticks are joined by a chain of links.
 pub fn nets_are_connected(tech: &Tech, plan: &Plan, masters: &[Master], layouts: &[Coords])
-    requires planned { ArePlanned tech.now plan.now masters.now }
+    requires planned { AreOfPlan tech.now plan.now masters.now }
     requires finished { AreFinished tech.now plan.now masters.now layouts.now }
     ensures { NetsAreConnected tech.now plan.now masters.now layouts.now }
 {}

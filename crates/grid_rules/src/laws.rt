@@ -5,7 +5,7 @@ ghost use Rattle.plan_model.specs.Instances.{IsAligned};
 ghost use Rattle.plan_model.specs.Plan.{grids_of};
 ghost use Rattle.sym_items.specs.Layouts.{size_in};
 ghost use Rattle.lam_geom.specs.declared.boxes.Axis.TheVariants.{X, Y};
-ghost use Rattle.pitch_join.specs.Masters.{ArePlanned};
+ghost use Rattle.grid_rules.specs.Planned.{AreOfPlan};
 ghost use Rattle.grid_rules.specs.InstanceSystem.{ListsSpeakOfInstances};
 ghost use Rattle.grid_rules.specs.Rules.{AreFinished, AllKeepSpacing};
 
@@ -17,14 +17,14 @@ use sym_items::Coords;
 /// A law, with nothing to run: masters that share a column of a grid are equally wide, and masters that share a row equally
 /// high.
 pub fn grids_are_aligned(tech: &Tech, plan: &Plan, masters: &[Master], layouts: &[Coords])
-    requires planned { ArePlanned tech.now plan.now masters.now }
+    requires planned { AreOfPlan tech.now plan.now masters.now }
     requires finished { AreFinished tech.now plan.now masters.now layouts.now }
     ensures { All (IsAligned (size_in X layouts.now) (size_in Y layouts.now)) (grids_of plan.now) }
 {}
 
 /// A law, with nothing to run: every two items of all instances that are bound keep their spacing.
 pub fn all_keep_spacing(tech: &Tech, plan: &Plan, masters: &[Master], layouts: &[Coords])
-    requires planned { ArePlanned tech.now plan.now masters.now }
+    requires planned { AreOfPlan tech.now plan.now masters.now }
     requires finished { AreFinished tech.now plan.now masters.now layouts.now }
     ensures { AllKeepSpacing tech.now plan.now masters.now layouts.now }
 {}
@@ -32,6 +32,6 @@ pub fn all_keep_spacing(tech: &Tech, plan: &Plan, masters: &[Master], layouts: &
 /// A law, with nothing to run: values of the joint variables meet a plan exactly where all its instances meet: those of one
 /// column have one far border on x and those of one row on y, and the wires of every two ports that meet lie on one line.
 pub fn instances_meet(tech: &Tech, plan: &Plan, masters: &[Master])
-    requires planned { ArePlanned tech.now plan.now masters.now }
+    requires planned { AreOfPlan tech.now plan.now masters.now }
     ensures { ListsSpeakOfInstances tech.now plan.now masters.now }
 {}

@@ -1,6 +1,6 @@
 //! What meets where.
 ghost use Rattle.rule_table.specs.declared.classes.Class.TheVariants.{M, P};
-ghost use Rattle.pitch_join.specs.Masters.{ArePlanned};
+ghost use Rattle.grid_rules.specs.Planned.{AreOfPlan};
 ghost use Rattle.grid_rules.specs.Rules.{AreFinished};
 ghost use Rattle.grid_rules.specs.Conductors.{LinksKeepNets};
 ghost use Rattle.grid_rules.specs.Meetings.{TransistorsHaveBoxes, ImplantsTellDepletion, PolyMeetsDiffusion, ContactsAreBuried, WindowsKeepOff, DiffusionConducts, PiecesHaveMasks, OwnersHaveOne};
@@ -12,7 +12,7 @@ use sym_items::Coords;
 
 /// A law, with nothing to run: what items each owner has. They lie so in every layout.
 pub fn items_are_of_owners(tech: &Tech, plan: &Plan, masters: &[Master], layouts: &[Coords])
-    requires { ArePlanned tech.now plan.now masters.now }
+    requires { AreOfPlan tech.now plan.now masters.now }
     ensures diffusion { DiffusionConducts tech.now plan.now masters.now layouts.now }
     ensures masks { PiecesHaveMasks plan.now masters.now }
     ensures poly { OwnersHaveOne plan.now masters.now P }
@@ -21,13 +21,13 @@ pub fn items_are_of_owners(tech: &Tech, plan: &Plan, masters: &[Master], layouts
 
 /// A law, with nothing to run: the boxes of transistors, and how they cross. They lie so in every layout.
 pub fn transistors_have_boxes(tech: &Tech, plan: &Plan, masters: &[Master], layouts: &[Coords])
-    requires { ArePlanned tech.now plan.now masters.now }
+    requires { AreOfPlan tech.now plan.now masters.now }
     ensures { TransistorsHaveBoxes tech.now plan.now masters.now layouts.now }
 {}
 
 /// A law, with nothing to run: which transistors have implants.
 pub fn implants_tell_depletion(tech: &Tech, plan: &Plan, masters: &[Master], layouts: &[Coords])
-    requires planned { ArePlanned tech.now plan.now masters.now }
+    requires planned { AreOfPlan tech.now plan.now masters.now }
     requires finished { AreFinished tech.now plan.now masters.now layouts.now }
     ensures { ImplantsTellDepletion tech.now plan.now masters.now layouts.now }
 {}
@@ -35,7 +35,7 @@ pub fn implants_tell_depletion(tech: &Tech, plan: &Plan, masters: &[Master], lay
 /// A law, with nothing to run: poly overlaps diffusion in transistors and at buried contacts alone; there a window covers what they
 /// have in common, and windows keep off channels.
 pub fn poly_meets_diffusion(tech: &Tech, plan: &Plan, masters: &[Master], layouts: &[Coords])
-    requires planned { ArePlanned tech.now plan.now masters.now }
+    requires planned { AreOfPlan tech.now plan.now masters.now }
     requires finished { AreFinished tech.now plan.now masters.now layouts.now }
     ensures meet { PolyMeetsDiffusion tech.now plan.now masters.now layouts.now }
     ensures buried { ContactsAreBuried tech.now plan.now masters.now layouts.now }
@@ -44,7 +44,7 @@ pub fn poly_meets_diffusion(tech: &Tech, plan: &Plan, masters: &[Master], layout
 
 /// A law, with nothing to run: conducting items that are linked are of one net of the sticks.
 pub fn links_keep_nets(tech: &Tech, plan: &Plan, masters: &[Master], layouts: &[Coords])
-    requires planned { ArePlanned tech.now plan.now masters.now }
+    requires planned { AreOfPlan tech.now plan.now masters.now }
     requires finished { AreFinished tech.now plan.now masters.now layouts.now }
     ensures { LinksKeepNets tech.now plan.now masters.now layouts.now }
 {}

@@ -1,7 +1,7 @@
 //! That what is extracted from the boxes of all instances is the sticks' netlist.
 ghost use Rattle.std.specs.Prelude.{◌≡◌, List, length};
 ghost use Rattle.lam_geom.specs.declared.boxes.MaskBox.{MaskBox};
-ghost use Rattle.pitch_join.specs.Masters.{ArePlanned};
+ghost use Rattle.grid_rules.specs.Planned.{AreOfPlan};
 ghost use Rattle.grid_rules.specs.Rules.{AreFinished};
 ghost use Rattle.grid_rules.specs.Shapes.{PictureShowsShapes, AreShapes};
 ghost use Rattle.grid_rules.specs.Sticks.{NetsAreTheSticks};
@@ -13,7 +13,7 @@ use sym_items::Coords;
 
 /// A law, with nothing to run: the boxes of a picture show the items of all instances, one by one.
 pub fn pictures_show_shapes(tech: &Tech, plan: &Plan, masters: &[Master], layouts: &[Coords])
-    requires planned { ArePlanned tech.now plan.now masters.now }
+    requires planned { AreOfPlan tech.now plan.now masters.now }
     requires counted { length layouts.now ≡ length masters.now }
     ensures { PictureShowsShapes tech.now plan.now masters.now layouts.now }
 {}
@@ -26,7 +26,7 @@ pub fn extracted_nets_are_the_sticks(
     masters: &[Master],
     layouts: &[Coords],
 )
-    requires planned { ArePlanned tech.now plan.now masters.now }
+    requires planned { AreOfPlan tech.now plan.now masters.now }
     requires finished { AreFinished tech.now plan.now masters.now layouts.now }
     ensures { (boxes : List MaskBox) → AreShapes tech.now plan.now masters.now layouts.now boxes → NetsAreTheSticks tech.now plan.now masters.now layouts.now boxes }
 {}

@@ -1,7 +1,7 @@
 //! That boxes keep the rules.
 ghost use Rattle.std.specs.Prelude.{List};
 ghost use Rattle.lam_geom.specs.declared.boxes.MaskBox.{MaskBox};
-ghost use Rattle.pitch_join.specs.Masters.{ArePlanned};
+ghost use Rattle.grid_rules.specs.Planned.{AreOfPlan};
 ghost use Rattle.grid_rules.specs.Rules.{AreFinished};
 ghost use Rattle.grid_rules.specs.Shapes.{AreShapes};
 ghost use Rattle.flat_check.specs.Breaks.{KeepRules};
@@ -16,7 +16,7 @@ use sym_items::Coords;
 
 /// A law, with nothing to run: boxes that show the items of all instances of finished layouts keep every rule.
 pub fn boxes_keep_rules(tech: &Tech, plan: &Plan, masters: &[Master], layouts: &[Coords])
-    requires planned { ArePlanned tech.now plan.now masters.now }
+    requires planned { AreOfPlan tech.now plan.now masters.now }
     requires finished { AreFinished tech.now plan.now masters.now layouts.now }
     ensures { (boxes : List MaskBox) → AreShapes tech.now plan.now masters.now layouts.now boxes → KeepRules tech.now boxes }
 {

@@ -1,5 +1,5 @@
 //! How wide items are, and what covers cuts.
-ghost use Rattle.pitch_join.specs.Masters.{ArePlanned};
+ghost use Rattle.grid_rules.specs.Planned.{AreOfPlan};
 ghost use Rattle.grid_rules.specs.Rules.{AreFinished};
 ghost use Rattle.kept_rules.specs.Items.{ConductorsAreWide, CutsAreSquare, CutsAreCovered, OwnersHaveOneCut};
 
@@ -11,7 +11,7 @@ use sym_items::Coords;
 /// A law, with nothing to run: diffusion, poly and metal are as wide as their layer's width; cuts are squares of the cut's size, one for each
 /// contact, and lie inside metal, and inside poly or diffusion, by the enclosure.
 pub fn items_have_shapes(tech: &Tech, plan: &Plan, masters: &[Master], layouts: &[Coords])
-    requires planned { ArePlanned tech.now plan.now masters.now }
+    requires planned { AreOfPlan tech.now plan.now masters.now }
     requires finished { AreFinished tech.now plan.now masters.now layouts.now }
     ensures wide { ConductorsAreWide tech.now plan.now masters.now layouts.now }
     ensures square { CutsAreSquare tech.now plan.now masters.now layouts.now }

@@ -1,5 +1,5 @@
 //! How far items lie apart.
-ghost use Rattle.pitch_join.specs.Masters.{ArePlanned};
+ghost use Rattle.grid_rules.specs.Planned.{AreOfPlan};
 ghost use Rattle.grid_rules.specs.Rules.{AreFinished};
 ghost use Rattle.kept_rules.specs.Items.{PolyKeepsOff, NetsKeepOff, CutsKeepOff, CutsKeepOffChannels, ImplantsCoverOrKeepOff, WindowsKeepOff};
 
@@ -11,7 +11,7 @@ use sym_items::Coords;
 
 /// A law, with nothing to run: items of all instances keep the spacings that the rules on boxes ask for.
 pub fn items_keep_off(tech: &Tech, plan: &Plan, masters: &[Master], layouts: &[Coords])
-    requires planned { ArePlanned tech.now plan.now masters.now }
+    requires planned { AreOfPlan tech.now plan.now masters.now }
     requires finished { AreFinished tech.now plan.now masters.now layouts.now }
     ensures poly { PolyKeepsOff tech.now plan.now masters.now layouts.now }
     ensures nets { NetsKeepOff tech.now plan.now masters.now layouts.now }

@@ -27,7 +27,8 @@ use Rattle.plan_model.specs.Borders.{FitsAt}
 use Rattle.plan_model.specs.Plan.{grids_of, borders_of, pitch_in, pitch_of, matches_in, ports_matched, AreOfMasters, IsPlanOver}
 use Rattle.plan_model.specs.Instances.{master_at_spot}
 use Rattle.plan_model.specs.Rows.{IsRectangular}
-use Rattle.pitch_join.specs.Masters.{ArePlanned, master_at}
+use Rattle.pitch_join.specs.Masters.{master_at}
+use Rattle.grid_rules.specs.Planned.{AreOfPlan}
 use Rattle.mask_out.specs.Pictures.{HaveBoxes}
 use Rattle.grid_rules.specs.Shapes.{drawn_items, shapes_of}
 use Rattle.design_nets.specs.Shapes.{drawn_in}
@@ -91,11 +92,10 @@ plan_over = record {
   matched = matched;
 }
 
-pub planned : (tech : Tech) (master : Master) → numbers_of tech ≡ shipped_numbers → master.cell ≡ cell → AreItems tech cell master.items → ArePlanned tech plan (master ∷ [])
+pub planned : (tech : Tech) (master : Master) → numbers_of tech ≡ shipped_numbers → master.cell ≡ cell → AreItems tech cell master.items → AreOfPlan tech plan (master ∷ [])
 planned tech master e same items = record {
   each = all_of (IsMaster tech) (master ∷ [])
       (record { sound = rw same (sound tech e); light = rw same (omega arith); items = rw same items }, tt);
-  few_parts = rw same (omega arith);
   planned = subst (λ (c : Cell). IsPlanOver (ports_of_cell c ∷ []) plan) (sym same) plan_over;
 }
 

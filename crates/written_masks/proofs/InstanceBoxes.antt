@@ -15,7 +15,8 @@ use Rattle.expand.specs.Items.{AreItems}
 use Rattle.plan_model.specs.declared.plan.Plan.{Plan}
 use Rattle.plan_model.specs.Instances.{Spot, IsSpot, master_at_spot, spots_of}
 use Rattle.plan_model.specs.Plan.{grids_of}
-use Rattle.pitch_join.specs.Masters.{ArePlanned, master_at, no_master}
+use Rattle.pitch_join.specs.Masters.{master_at, no_master}
+use Rattle.grid_rules.specs.Planned.{AreOfPlan}
 use Rattle.mask_out.specs.declared.drawing.Call.{Call}
 use Rattle.mask_out.specs.Masks.{masks_in}
 use Rattle.mask_out.specs.Pictures.{Drawing, drawings_in, call_at, masks_at}
@@ -33,13 +34,13 @@ items_counted : (tech : Tech) (master : Master) (c : Coords) → AreItems tech m
 items_counted tech master c is = ap (λ (items : Items). length (masks_in c items.list)) is.are ∙ boxes_counted tech master.cell is.nets c
 
 -- of its symbol
-pub symbol_counted : (tech : Tech) (plan : Plan) (masters : List Master) (layouts : List Coords) → ArePlanned tech plan masters → length layouts ≡ length masters → (m : ℕ) → m < length masters
+pub symbol_counted : (tech : Tech) (plan : Plan) (masters : List Master) (layouts : List Coords) → AreOfPlan tech plan masters → length layouts ≡ length masters → (m : ℕ) → m < length masters
     → length (masks_at (drawings_in masters layouts) m) ≡ boxes_at masters m
 symbol_counted tech plan masters layouts planned counted m lt =
     ap length (masks_drawn masters layouts m counted lt) ∙ items_counted tech (master_at masters m) (layout_at layouts m) (planned.each m no_master lt).items
 
 -- of all instances
-pub picture_counted : (tech : Tech) (plan : Plan) (masters : List Master) (layouts : List Coords) → ArePlanned tech plan masters → length layouts ≡ length masters
+pub picture_counted : (tech : Tech) (plan : Plan) (masters : List Master) (layouts : List Coords) → AreOfPlan tech plan masters → length layouts ≡ length masters
     → length (boxes_of_picture tech plan masters layouts) ≡ boxes_of_instances plan masters
 picture_counted tech plan masters layouts planned counted =
     let grids = grids_of plan in
@@ -54,7 +55,7 @@ picture_counted tech plan masters layouts planned counted =
     ∙ instance_sum (boxes_at masters) grids))
 
 -- boxes that show all items
-pub shown_counted : (tech : Tech) (plan : Plan) (masters : List Master) (layouts : List Coords) → ArePlanned tech plan masters → length layouts ≡ length masters
+pub shown_counted : (tech : Tech) (plan : Plan) (masters : List Master) (layouts : List Coords) → AreOfPlan tech plan masters → length layouts ≡ length masters
     → (boxes : List MaskBox) → AreShapes tech plan masters layouts boxes → length boxes ≡ boxes_of_instances plan masters
 shown_counted tech plan masters layouts planned counted boxes shown =
     let shapes : List Drawn = shapes_of plan masters in

@@ -27,7 +27,8 @@ use Rattle.expand.proofs.Standing.{stands}
 use Rattle.plan_model.specs.declared.plan.Plan.{Plan}
 use Rattle.plan_model.specs.Instances.{Spot, IsSpot, whole_width, whole_height}
 use Rattle.plan_model.specs.Plan.{grids_of}
-use Rattle.pitch_join.specs.Masters.{ArePlanned, master_at, no_master, ports_of_masters}
+use Rattle.pitch_join.specs.Masters.{master_at, no_master, ports_of_masters}
+use Rattle.grid_rules.specs.Planned.{AreOfPlan}
 use Rattle.grid_rules.specs.Rules.{AreFinished}
 use Rattle.grid_rules.proofs.Aligned.{all_aligned}
 use Rattle.grid_rules.proofs.InCell.{low_in, high_in, LiesBetween, items_between, cell_long}
@@ -43,7 +44,7 @@ use Rattle.written_masks.proofs.Wholes.{StandsInside, stands_inside}
 
 -- finished layouts that fit into a text
 pub record FitFinished (tech : Tech) (plan : Plan) (masters : List Master) (layouts : List Coords) : Type 0 where
-  pub planned : ArePlanned tech plan masters
+  pub planned : AreOfPlan tech plan masters
   pub finished : AreFinished tech plan masters layouts
   pub fit : FitIntoText tech plan masters layouts
 

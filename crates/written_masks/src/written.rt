@@ -1,5 +1,5 @@
 //! That the written text has the sticks' nets.
-ghost use Rattle.pitch_join.specs.Masters.{ArePlanned};
+ghost use Rattle.grid_rules.specs.Planned.{AreOfPlan};
 ghost use Rattle.grid_rules.specs.Rules.{AreFinished};
 ghost use Rattle.written_masks.specs.Written.{FitIntoText, HasSticksNets, text_of_layouts};
 
@@ -13,7 +13,7 @@ use sym_items::Coords;
 /// A law, with nothing to run: the CIF text of finished layouts means boxes that show the items of all instances one by one, and what
 /// is extracted from these is the netlist of the sticks.
 pub fn written_nets_are_the_sticks(tech: &Tech, plan: &Plan, masters: &[Master], layouts: &[Coords])
-    requires planned { ArePlanned tech.now plan.now masters.now }
+    requires planned { AreOfPlan tech.now plan.now masters.now }
     requires finished { AreFinished tech.now plan.now masters.now layouts.now }
     requires fit { FitIntoText tech.now plan.now masters.now layouts.now }
     ensures { HasSticksNets tech.now plan.now masters.now layouts.now (text_of_layouts tech.now plan.now masters.now layouts.now) }

@@ -9,6 +9,7 @@ use Rattle.compact_run.specs.Plans.{AreMastersOf}
 use Rattle.compact_run.proofs.FewParts.{few_parts, few_in_all}
 use Rattle.compact_run.proofs.MadeDesigns.{benched, both_axes, few_names, masters_refused, one_master, plan_refused}
 use Rattle.design_nets.proofs.Finished.{finished_near}
+use Rattle.compact_run.proofs.Planned.{of_plan}
 use Rattle.compact_run.proofs.bench.bench.Goals as goal
 
 pub returns-in_err-design-clause-refused : goal.returns-in_err-design-clause-refused
@@ -57,10 +58,13 @@ returns-in_err-passes-clause-refused g c =
     (record { short = rw c.deref.ensures.value at c.made_designs_stay_small.ensures.short; few = rw c.deref.ensures.value at c.made_designs_stay_small.ensures.few_variables })
     (rw c.deref-2.ensures.value at c.in_err-passes.ensures.refused)))
 
+pub stick_netlist-requires-clause-planned : goal.stick_netlist-requires-clause-planned
+stick_netlist-requires-clause-planned g c = rw c.deref-3.ensures.value (of_plan c.in_ok-masters.ensures.planned)
+
 pub stick_netlist-requires-clause-near : goal.stick_netlist-requires-clause-near
 stick_netlist-requires-clause-near g c =
     let q = c.in_ok-passes.ensures in
-    rw (c.deref-3.ensures.value, c.as_slice-layouts.ensures) (finished_near c.shipped-tech.result c.in_ok-planned.planned.plan c.in_ok-masters.masters.items c.in_ok-passes.passes.coords c.in_ok-masters.ensures.planned
+    rw (c.deref-3.ensures.value, c.as_slice-layouts.ensures) (finished_near c.shipped-tech.result c.in_ok-planned.planned.plan c.in_ok-masters.masters.items c.in_ok-passes.passes.coords (of_plan c.in_ok-masters.ensures.planned)
     (rw c.deref-2.ensures.value at q.finished) q.drawable)
 
 pub returns-in_err-list-clause-refused : goal.returns-in_err-list-clause-refused

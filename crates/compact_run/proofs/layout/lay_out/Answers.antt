@@ -13,12 +13,31 @@ use Rattle.written_masks.specs.Parts.{boxes_of_instances}
 use Rattle.written_masks.specs.Written.{HasSticksNets, text_of_layouts}
 use Rattle.compact_run.specs.Designs.{IsWithin}
 use Rattle.compact_run.proofs.Layouts.{stopped, too_large, finished, sizes_above, boxed, within_length}
+use Rattle.compact_run.proofs.Planned.{of_plan}
 use Rattle.compact_run.proofs.layout.lay_out.Goals as goal
 
 pub returns-in_err-passes-clause-refused : goal.returns-in_err-passes-clause-refused
 returns-in_err-passes-clause-refused g c =
     let p = err_from_is_err_and c.from_residual-in_err-passes.result c.from_residual-in_err-passes.ensures.1 in
     rw p.1 (rw p.2 (stopped c.args.tech.now c.args.plan.now c.args.masters.now c.args.axes.now _ c.in_ok-judge_starts.ensures.clean c.in_err-passes.ensures.refused))
+
+pub grids_are_aligned-requires-clause-planned : goal.grids_are_aligned-requires-clause-planned
+grids_are_aligned-requires-clause-planned g c = of_plan c.requires.planned
+
+pub all_keep_spacing-requires-clause-planned : goal.all_keep_spacing-requires-clause-planned
+all_keep_spacing-requires-clause-planned g c = of_plan c.requires.planned
+
+pub written_nets_are_the_sticks-requires-clause-planned : goal.written_nets_are_the_sticks-requires-clause-planned
+written_nets_are_the_sticks-requires-clause-planned g c = of_plan c.requires.planned
+
+pub boxes_keep_rules-requires-clause-planned : goal.boxes_keep_rules-requires-clause-planned
+boxes_keep_rules-requires-clause-planned g c = of_plan c.requires.planned
+
+pub boxes_are_few-requires-clause-planned : goal.boxes_are_few-requires-clause-planned
+boxes_are_few-requires-clause-planned g c = of_plan c.requires.planned
+
+pub texts_are_short-requires-clause-planned : goal.texts_are_short-requires-clause-planned
+texts_are_short-requires-clause-planned g c = of_plan c.requires.planned
 
 pub grids_are_aligned-requires-clause-finished : goal.grids_are_aligned-requires-clause-finished
 grids_are_aligned-requires-clause-finished g c =
