@@ -322,11 +322,15 @@ pub fn passes_with_greatest<H: Threads + Sync, G: Gate>(
     requires few { length axes.now ≤ 16 }
     requires split { (1 ≤ split) × (split ≤ 64) }
     ensures made { IfOk result (ArePassesOn tech.now plan.now masters.now axes.now) }
+    ensures pruning { PruningLosesNothing tech.now plan.now masters.now }
     ensures refused { IfErr result (RefusesPasses tech.now plan.now masters.now axes.now) }
     ensures first { IfErr result (StopsAtFirst tech.now plan.now masters.now axes.now) }
+    ensures in_one_way { AreRefusedInOneWay tech.now plan.now masters.now axes.now }
     // how far the variables could move after the last pass on each axis
     ensures mosts { IfOk result (λ p. AreMosts tech.now plan.now masters.now (starts_of tech.now masters.now) p.steps p.mosts) }
     ensures tight { IfOk result (λ p. AreTight tech.now plan.now masters.now (starts_of tech.now masters.now) p.steps p.mosts) }
 {
+    pruning_loses_nothing(tech, plan, masters);
+    refusals_are_determined(tech, plan, masters);
     passes_on(rt, alloc, gate, tech, plan, masters, axes, split, true)
 }
