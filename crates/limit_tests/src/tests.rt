@@ -8,7 +8,7 @@ mod typed;
 use compact_run::run;
 use inverter::{INVERTER, MASKS, NETLIST};
 use lam_io::{FailPlan, MemShelf, MemSink, OpenGate};
-use made::{EDGES, LONGEST, MOST, made};
+use made::{BOXES, EDGES, LONGEST, MOST, made};
 use std::alloc::{AllocError, Global};
 use std::process::Abort;
 use std::test::Fail;
@@ -170,6 +170,11 @@ fn the_longest_texts_are_read_and_no_longer_ones(rt: HostRuntime) -> Result<(), 
 #[test]
 fn a_limit_of_a_long_text_holds_and_one_more_is_refused(rt: HostRuntime) -> Result<(), Fail> {
     assert_made(&rt, rt.alloc(), MOST)
+}
+
+#[test]
+fn a_text_has_as_many_boxes_as_it_may(rt: HostRuntime) -> Result<(), Fail> {
+    assert_made(&rt, rt.alloc(), BOXES)
 }
 
 #[test]

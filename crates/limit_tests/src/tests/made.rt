@@ -6,21 +6,20 @@ use std::alloc::{AllocError, Global};
 
 /// Texts as long as they may be, and one byte longer: the code and the report, or how it begins where all is done; and
 /// the form of the text with a number. `Design` is a design, filled with a comment up to this many bytes; `Technology` a
-/// technology, filled likewise; and `Masks` a box without numbers and this many bytes in all, the others blanks: it is
-/// refused for the box, and not read to its end.
+/// technology, filled likewise; and `Masks` an end and this many bytes in all, the others blanks.
 pub const LONGEST: &str = "
 0 pass 1 x edges 11 backward 2 rounds 1/cell a size 18 kept 0/ = Design 1048576
 5 sticks: too long: design = Design 1048577
 0 pass 1 x edges 11 backward 2 rounds 1/cell a size 18 kept 0/ = Technology 65536
 5 sticks: too long: technology = Technology 65537
-12 sticks: byte 0: BadCommand = Masks 67108864
+0 = Masks 67108864
 5 sticks: too long: cif = Masks 67108865
 ";
 
 /// At each other limit that only a long text comes to, and one past it. `Cells` is this many empty cells; `Uses` this
 /// many cells, each with a use of the one before; `Copies` a cell with 256 copies of one with this many joints;
-/// `Columns` a grid with this many copies of a column of 1,024 joints; `Boxes` 1,024 copies of 1,024 boxes, and this
-/// many boxes besides; and `Extent` nine joints, of which all but the last two are a million apart, and these so far.
+/// `Columns` a grid with this many copies of a column of 1,024 joints; and `Extent` nine joints, of which all but the
+/// last two are a million apart, and these so far.
 pub const MOST: &str = "
 0 pass 1 x edges 1 backward 0 rounds 1/cell c0 size 6 kept 0/ = Cells 256
 7 sticks: line 514: TooManyCells = Cells 257
@@ -29,15 +28,21 @@ pub const MOST: &str = "
 9 sticks: too large: items = Copies 256
 0 pass 1 x edges 2049 backward 0 rounds 1/cell a size 18 kept 0/ = Columns 1024
 9 sticks: too large: boxes = Columns 1025
-13 sticks: rule 1: boxes 0 0 = Boxes 0
-9 sticks: too large: boxes = Boxes 1
 0 pass 1 x edges 35 backward 0 rounds 1/cell t size 7158278 kept 8/ = Extent 158260
 9 sticks: too large: extent = Extent 158261
 ";
 
-/// One inequality more than a pass may list: 12,284 that hold whatever the layout, and 4,182,021 kept pairs. `Facing` is
-/// two rows of joints on two nets, one behind the other, each of which faces each of the other, and this many limits.
+/// As many boxes as a CIF text may have, and one more: 1,024 copies of 1,024 boxes, and this many besides.
+pub const BOXES: &str = "
+0 = Boxes 0
+9 sticks: too large: boxes = Boxes 1
+";
+
+/// As many inequalities as a pass may list, and one more: 12,284 that hold whatever the layout with all of these limits but
+/// one, and 4,182,021 kept pairs. `Facing` is two rows of joints on two nets, one behind the other, each of which faces
+/// each of the other, and this many limits.
 pub const EDGES: &str = "
+0 pass 1 x edges 4194304 backward = Facing 2058
 9 sticks: too large: edges = Facing 2059
 ";
 
@@ -99,12 +104,12 @@ fn columns(alloc: Global, number: u32) -> Result<String, AllocError> {
     Ok(text)
 }
 
-// Boxes of metal, of which the first is too narrow: no rule has to look at the others.
+// Implants, all in one place.
 fn boxes(alloc: Global, besides: u32) -> Result<String, AllocError> {
     let symbol = "B 2 2 0 0;".repeat(alloc, 1024)?;
     let calls = "C 1;".repeat(alloc, 1024)?;
     let more = "B 2 2 0 0;".repeat(alloc, besides as usize)?;
-    format!(in alloc; "DS 1; L NM; {symbol} DF; {calls} L NM; {more} E")
+    format!(in alloc; "DS 1; L NI; {symbol} DF; {calls} L NI; {more} E")
 }
 
 // Nine joints in a row, the last two of them so far apart.
@@ -143,8 +148,8 @@ pub fn made(
         "Boxes" => boxes(alloc, number)?,
         "Facing" => facing(alloc, number)?,
         _ => {
-            let blanks = " ".repeat(alloc, (number as usize).saturating_sub(2))?;
-            format!(in alloc; "B;{blanks}")?
+            let blanks = " ".repeat(alloc, (number as usize).saturating_sub(1))?;
+            format!(in alloc; "E{blanks}")?
         }
     };
     let words = match form {
