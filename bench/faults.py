@@ -2,8 +2,8 @@
 """Tries each fault of the manual's tables of faults, and each repair: faults.py [PROGRAM]
 
 PROGRAM is the built program, bin/sticks of this checkout if none is given. A fault has to be refused with the number of its table and with its
-KIND; a repaired text has to be taken. The three faults of a design that need more than a line are tried beside. What is otherwise is told, and
-the status is 1.
+KIND; a repaired text has to be taken. What is in the way of whole texts is tried beside. What is otherwise is told,
+and the status is 1.
 """
 import os, re, subprocess, sys, tempfile
 from pathlib import Path
@@ -91,6 +91,23 @@ def long_ones(trials, tech):
     trials.one("end", "Unended", 7, (cells(1)[: -len("end\n")], tech), (cells(1), tech))
 
 
+def whole_texts(trials, tech):
+    """What the manual says of whole texts: byte order marks, a single `-`, and a text of the other kind."""
+    design = "sticks 1\ncell c\njoint a metal 0 0\nend\ngrid\nrow c\nend\n"
+    masks = "L NM; B 1800 1800 0 0; E"
+    trials.one("a byte order mark", "BadByte", 7, ("\ufeff" + design, tech), (design, "\ufeff" + tech))
+    trials.one("a design, to check", "NoEnd", 12, (design, tech), ("\ufeff" + masks, tech), verb="check")
+    trials.one("a design with a capital, to extract", "BadCommand", 12, ("# A\n" + design, tech), (masks, tech), "extract")
+    trials.one("masks, to compact", "BadByte", 7, ("DS 1 75 1;\n", tech), (design, tech))
+    for name, wanted in (("-", (3, "sticks: cannot read design\n")), ("/dev/stdin", (0, ""))):
+        words = [str(trials.program), "fmt", name]
+        ran = subprocess.run(words, cwd=trials.folder, input=design, capture_output=True, text=True, timeout=60)
+        trials.count += 1
+        if (ran.returncode, ran.stderr) != wanted:
+            trials.wrong += 1
+            print(f"{name} as a file: {ran.returncode} '{ran.stderr}'")
+
+
 def main(words):
     program = Path(words[0] if words else HERE / "bin/sticks").resolve()
     if not os.access(program, os.X_OK):
@@ -100,6 +117,7 @@ def main(words):
         trials = Trials(program, Path(folder))
         tables(trials, tech)
         long_ones(trials, tech)
+        whole_texts(trials, tech)
     print(f"{trials.count} faults tried, {trials.wrong} not as the manual says")
     return 1 if trials.wrong else 0
 

@@ -135,7 +135,8 @@ def main(words):
             try:
                 runs = walk(text, folder)
                 shown = pictures(text, folder, write)
-                print(f"{path.name}: {runs} commands write what it says, {shown} pictures are up to date")
+                told = f", and the {shown} pictures are those of its designs" if shown else ""
+                print(f"{path.name}: the {runs} commands write what it says{told}")
             except Wrong as it:
                 wrong += 1
                 print(f"{path.name}: {it}")
