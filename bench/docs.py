@@ -15,6 +15,8 @@ given, it looks at
                      each has to be a clause of a function of that name, or a field or case of that definition; alone,
                      of one in the crate of the section, and without a section of any
   heads of sections  each of one small word has to be a crate
+In these, the other documents of docs/ and those at the top it looks at
+  links              each to a file has to lead to one, and behind a # to a head of a section in it
 Each name that is gone is told with its file and line, and the status is 1; else one line counts what was held.
 """
 import re
@@ -192,6 +194,24 @@ class Document:
                 self.hold(place + it.start(2), f"[{part}] of {names[-1] if names else section}", part in within)
 
 
+def heads(text):
+    """The heads of the sections of a text, as links name them."""
+    found = re.findall(r"(?m)^#+ (.*)", re.sub(r"(?ms)^```.*?^```$", "", text))
+    return {re.sub(r"[^\w -]", "", head.lower()).replace(" ", "-") for head in found}
+
+
+def links(top):
+    """Gives each link of the documents to a file, with its document, its line, and whether it leads to something."""
+    for path in sorted([*top.glob("*.md"), *top.glob("docs/*.md")]):
+        text = path.read_text(encoding="utf-8")
+        for it in re.finditer(r"\]\(([^()\s]+)\)|\bsrc=\"([^\"]+)\"", text):
+            name, _, head = (it[1] or it[2]).partition("#")
+            if ":" not in name:
+                target = path.parent / name if name else path
+                there = target.exists() and (not head or head in heads(target.read_text(encoding="utf-8")))
+                yield path.relative_to(top).as_posix(), text.count("\n", 0, it.start()) + 1, it[1] or it[2], there
+
+
 def main(words):
     if words[:1] in (["--help"], ["-h"]) or len(words) > 1:
         print(__doc__.strip())
@@ -204,7 +224,11 @@ def main(words):
         held, gone = held + document.held, gone + len(document.gone)
         for line, what in sorted(document.gone):
             print(f"{name}:{line}: {what}")
-    print(f"{held} names held, {gone} gone")
+    for name, line, link, there in links(tree.top):
+        held, gone = held + 1, gone + (not there)
+        if not there:
+            print(f"{name}:{line}: the link {link}")
+    print(f"{held} names and links held, {gone} gone")
     return 1 if gone else 0
 
 
