@@ -151,6 +151,11 @@ NAMES = [
             told=["d:5: wire diff k b 6", "is more than the pad of 'k', 4 u"]),
     compact("a wire wider than a joint", *TWO, "wire metal a b 8",
             told=["d:6: wire metal a b 8", "the width 8 is more than the pad of 'a', 6 u (the joint's width): d:3"]),
+    compact("a rail wider than the pad of a contact", "contact k diff 0 0", "port in left metal 0",
+            "wire metal in k 16",
+            told=["d:5: wire metal in k 16",
+                  "the width 16 is more than the pad of 'k', 8 u (the cut and twice its enclosure): d:3",
+                  "beside a contact a joint as wide"]),
     compact("a port with two wires", *PORT, "joint b metal 2 0", "wire metal in b",
             told=["d:7: wire metal in b", "the port 'in' has a wire already: d:5: wire metal in k"]),
     compact("a port without a wire", *TWO, "port in left metal 0",
@@ -207,6 +212,7 @@ WORDS = [
           "word 5, '--tech', stands there for a second time"),
     words("a file that is not there", "compact invertr.sticks --tech nmos.toml",
           "there is no file 'invertr.sticks'; did you mean 'inverter.sticks'?"),
+    words("a single - for standard input", "fmt -", "there is no file '-'", "standard input is the file '/dev/stdin'"),
     words("no script", "jog inverter.sticks --tech nmos.toml", "--script FILE is missing"),
 ]
 

@@ -206,6 +206,8 @@ def cannot_read(call, kind):
     else:
         names = [it.name for it in here.parent.iterdir()] if here.parent.is_dir() else []
         yield f"{where}: there is no file '{path}'{near(here.name, names)}"
+        if path == "-":
+            yield "'-' is a name as any other; standard input is the file '/dev/stdin'"
         if not here.parent.is_dir():
             yield f"its folder '{here.parent}' is not there either"
 
