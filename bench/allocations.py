@@ -134,8 +134,8 @@ def main():
                         unchanged += 1
                     elif answer != whole and answer != [1, b"", b"sticks: out of memory\n"]:
                         found += 1
-                        print("%s, allocation %d%s: %r" % (name, place, "" if last == place else " and all after it",
-                                                           [answer[0], answer[1][:80], answer[2][:80]]))
+                        how, told = "" if last == place else " and all after it", [it[:80] for it in answer[1:]]
+                        print("%s, allocation %d%s: %r" % (name, place, how, [answer[0], *told]))
             every += len(places)
             print("%s: status %d, %d allocations, %d let fail, after %d of which alone the answer was unchanged"
                   % (name, wanted, count, len(places), unchanged), flush=True)

@@ -136,8 +136,8 @@ def walks_add_up(report):
         steps = STEPS.findall(part)
         if head[0] == b"cell" and not adds_up(steps, int(head[3]), b"0", head[1] + b"|"):
             return False
-        if (b" unsatisfiable length " in part and not adds_up(steps, int(re.search(rb"length (\d+)", part)[1]), None,
-                                                              None)):
+        excess = re.search(rb" unsatisfiable length (\d+)", part)
+        if excess and not adds_up(steps, int(excess[1]), None, None):
             return False
     return True
 
@@ -368,8 +368,8 @@ def main():
             shutil.copytree(runner.folder, folder)
             print("input %d, %s: %s" % (number, kind, "; ".join(wrong)), flush=True)
         if (number + 1 - asked.first) % 10000 == 0:
-            print("%d inputs, %d runs, %.0f s, %d found" % (number + 1 - asked.first, runner.runs,
-                                                            time.monotonic() - began, found), flush=True)
+            so_far = (number + 1 - asked.first, runner.runs, time.monotonic() - began, found)
+            print("%d inputs, %d runs, %.0f s, %d found" % so_far, flush=True)
     shutil.rmtree(runner.folder)
     for kind in sorted({kind for kind, _ in answers}):
         print(kind + ": " + ", ".join("%d with %d" % (n, status) for (k, status), n in sorted(answers.items())

@@ -8,19 +8,17 @@ MOST_PLACE, MOST_SIZE, LARGEST = 4095, 4096, 1_000_000
 NAME = r"[A-Za-z][A-Za-z0-9_]{0,31}"
 PATH, NUMBER, COUNT = rf"{NAME}(\.{NAME})*", r"-?[0-9]+", r"-?0+|[0-9]+"
 WORDS = {
-    "NAME": (NAME, "a name"), "CELL": (NAME, "the name of a cell"), "A": (PATH, "a name or a path"),
-    "B": (PATH, "a name or a path"),
+    "NAME": (NAME, "a name"), "CELL": (NAME, "the name of a cell"),
+    "A": (PATH, "a name or a path"), "B": (PATH, "a name or a path"),
     "LAYER": ("diff|poly|metal", "diff, poly or metal"), "LOWER": ("diff|poly", "diff or poly"),
-    "KIND": ("enh|dep", "enh or dep"),
-    "DIR": ("h|v", "h or v"), "SIDE": ("left|right|bottom|top", "left, right, bottom or top"),
-    "AXIS": ("x|y", "x or y"),
+    "KIND": ("enh|dep", "enh or dep"), "DIR": ("h|v", "h or v"), "AXIS": ("x|y", "x or y"),
+    "SIDE": ("left|right|bottom|top", "left, right, bottom or top"),
     "OP": ("<=|>=", "<= or >="), "N": (NUMBER, "a number"), "WAY": ("left|right", "left or right"),
 }
 FORMS = {
     "joint": "NAME LAYER COL ROW [WIDTH]", "contact": "NAME LOWER COL ROW", "buried": "NAME COL ROW",
-    "fet": "NAME KIND DIR COL ROW W L",
-    "port": "NAME SIDE LAYER PLACE", "use": "NAME CELL COL ROW", "wire": "LAYER A B [WIDTH]", "limit": "AXIS A B OP N",
-    "cell": "NAME",
+    "fet": "NAME KIND DIR COL ROW W L", "port": "NAME SIDE LAYER PLACE", "use": "NAME CELL COL ROW",
+    "wire": "LAYER A B [WIDTH]", "limit": "AXIS A B OP N", "cell": "NAME",
     "end": "", "grid": "[NAME]", "row": "NAME ..", "sticks": "VERSION",
 }
 IN_CELL = ("joint", "contact", "buried", "fet", "port", "use", "wire", "limit")
