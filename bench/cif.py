@@ -1,8 +1,8 @@
 #!/usr/bin/env python3
 """Times `extract` and `check` on CIF texts: cif.py [PROGRAM]
 
-Each line gives the least of three times of either, in user seconds, beside the time that `fmt` takes for a text of 2^20 bytes, and the first line of the netlist and the verdict. Time
-should grow with the boxes, whatever their order.
+Each line gives the least of three times of either, in user seconds, beside the time that `fmt` takes for a text of 2^20
+bytes, and the first line of the netlist and the verdict. Time should grow with the boxes, whatever their order.
   inverters  a square of inverters, as `compact` writes it; 170 x 170 have 1,011,500 boxes
   flat       the same boxes without symbols or calls, in the order of the calls and in a shuffled order
 """
@@ -49,9 +49,14 @@ def main():
                     random.Random(1).shuffle(lines)
                     text = "".join(lines) + "E\n"
                 file, line = path("cif", text), lambda said: said.split(b"\n")[0].decode()
-                (nets, netlist), (rules, verdict) = [timed([word, file, "--tech", TECH]) for word in ("extract", "check")]
-                print("%-10s %3d x %3d  extract %.3f s  check %.3f s  %s  %s" % (name, side, side, nets, rules, line(netlist), line(verdict)))
+                (nets, netlist), (rules, verdict) = [timed([word, file, "--tech", TECH])
+                                                     for word in ("extract", "check")]
+                print("%-10s %3d x %3d  extract %.3f s  check %.3f s  %s  %s"
+                      % (name, side, side, nets, rules, line(netlist), line(verdict)))
 
 
 if __name__ == "__main__":
+    if sys.argv[1:2] in (["--help"], ["-h"]):
+        print(__doc__.strip())
+        sys.exit()
     main()

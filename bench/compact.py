@@ -1,19 +1,21 @@
 #!/usr/bin/env python3
 """Times `compact` on designs near the limits, and `fmt` on a long text: compact.py [PROGRAM [DIVISOR [NAME..]]]
 
-Each line has user seconds, the least of three runs, the peak of memory (the 15 MB of the script that starts it are the least that is seen), how many times as
-long the whole size takes as an eighth of it, and what the report says of the first pass. A DIVISOR makes each size smaller; with NAMEs only these are timed.
-`inverter` is the example.
-shapes.py makes the other designs, each of one cell, and lists some of them in order, reversed and shuffled:
+Each line has user seconds, the least of three runs, the peak of memory (the 15 MB of the script that starts it are the
+least that is seen), how many times as long the whole size takes as an eighth of it, and what the report says of the
+first pass. A DIVISOR makes each size smaller; with NAMEs only these are timed. `inverter` is the example. shapes.py
+makes the other designs, each of one cell, and lists some of them in order, reversed and shuffled:
   uses    rows of joints, doubled by uses inside uses
   many    sixteen rows of joints: every two of one row face each other, and every two of one column
   ladder  columns of 20 joints, each tied by wires
-  nets    two rows of joints, each tied by wires to one net, so that no item of a row shadows another of it: half of all pairs are kept
+  nets    two rows of joints, each tied by wires to one net, so that no item of a row shadows another of it: half of all
+          pairs are kept
   field   joints of all layers and contacts, by lot, on a square
   beside, above  inverters without ports by uses, side by side and on top of one another
   row     joints side by side, so that every two of them face each other, and all but neighbours are shadowed
   limits  the same, with a limit from each joint to the next
-  raised  the same, where the last joint is so far off that the others are raised one after the other, from right to left
+  raised  the same, where the last joint is so far off that the others are raised one after the other, from right to
+          left
   edges   two nets as in `nets`, and limits: with 1,024 joints as many inequalities as a pass may have
   heap    joints of one net on one spot, each wired to one joint
   names   13,000 wires between two joints that lie sixteen uses deep
@@ -25,7 +27,8 @@ from shapes import EXAMPLES, SHAPES, text_of
 
 HERE = os.path.dirname(os.path.abspath(__file__))
 TECH = os.path.join(EXAMPLES, "nmos.toml")
-PROGRAM = os.path.abspath(sys.argv[1]) if len(sys.argv) > 1 else os.path.join(HERE, "..", "crates", "sticks", "out", "sticks")
+PROGRAM = (os.path.abspath(sys.argv[1]) if len(sys.argv) > 1
+           else os.path.join(HERE, "..", "crates", "sticks", "out", "sticks"))
 
 
 def names(wires):
@@ -55,10 +58,13 @@ def timed(words):
 
 
 def run(name, size, words, tries=1, before=None):
-    """Prints a line, and gives the seconds, with those of the system, as these two are told apart by ticks; `before` are those of an eighth of the size."""
+    """Prints a line, and gives the seconds, with those of the system, as these two are told apart by ticks; `before`
+    are those of an eighth of the size.
+    """
     user, system, peak, status, told = min((timed(words) for _ in range(tries)), key=lambda one: one[0] + one[1])
     growth = "x %.1f" % ((user + system) / before) if before else ""
-    print("%-17s %17s  %8.3f s  %5.0f MB  %7s  status %d  %s" % (name, size, user, peak, growth, status, told), flush=True)
+    print("%-17s %17s  %8.3f s  %5.0f MB  %7s  status %d  %s" % (name, size, user, peak, growth, status, told),
+          flush=True)
     return user + system
 
 
@@ -93,4 +99,7 @@ def main():
 
 
 if __name__ == "__main__":
+    if sys.argv[1:2] in (["--help"], ["-h"]):
+        print(__doc__.strip())
+        sys.exit()
     main()

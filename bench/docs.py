@@ -1,15 +1,22 @@
 #!/usr/bin/env python3
 """Holds what the documents cite against the tree: docs.py [FOLDER]
 
-In docs/THEOREM.md, PROOFS.md, DEFINITIONS.md, ARCHITECTURE.md and CONTRIBUTING.md of FOLDER, this checkout if none is given, it looks at
+In docs/THEOREM.md, PROOFS.md, DEFINITIONS.md, ARCHITECTURE.md and CONTRIBUTING.md of FOLDER, this checkout if none is
+given, it looks at
   words in code, and words with _ outside of it
-                     each has to stand as a word of the crates' code, definitions, proofs or edits (comments aside), of the examples, or as a
-                     file's name; in the section of a crate, in that crate, in one on which it stands, or in one that the paragraph names
-  files              each has to be there, from the top or in the crate of the section, or in one that the paragraph names
-  names behind a file, as `specs/Kept.antt` (`Shadows`, `IsKept`), up to a word `over`: each has to begin a line of that file
-  names in brackets behind a name, as `put` [ok, err], or alone: each has to be a clause of a function of that name, or a field or case of
-                     that definition; alone, of one in the crate of the section, and without a section of any
+                     each has to stand as a word of the crates' code, definitions, proofs or edits (comments aside), of
+                     the examples, or as a file's name; in the section of a crate, in that crate, in one on which it
+                     stands, or in one that the paragraph names
+  files              each has to be there, from the top or in the crate of the section, or in one that the paragraph
+                     names
+  names behind a file, as `specs/Kept.antt` (`Shadows`, `IsKept`), up to a word `over`
+                     each has to begin a line of that file
+  names in brackets behind a name, as `put` [ok, err], or alone
+                     each has to be a clause of a function of that name, or a field or case of that definition; alone,
+                     of one in the crate of the section, and without a section of any
   heads of sections  each of one small word has to be a crate
+In these, the other documents of docs/ and those at the top it looks at
+  links              each to a file has to lead to one, and behind a # to a head of a section in it
 Each name that is gone is told with its file and line, and the status is 1; else one line counts what was held.
 """
 import re
@@ -19,7 +26,8 @@ from pathlib import Path
 DOCUMENTS = [f"docs/{name}.md" for name in ("THEOREM", "PROOFS", "DEFINITIONS", "ARCHITECTURE", "CONTRIBUTING")]
 WORD = re.compile(r"[A-Za-z_][A-Za-z0-9_]*(?:-[A-Za-z0-9_]+)*")
 SPAN = re.compile(r"(?<!`)`([^`]+)`(?!`)")
-FILE = re.compile(r"(?<![\w/.-])(?:(?:[\w.-]+/)*[\w-]+\.(?:rt|antt|md|toml|py|sticks|cif|svg|edit|tech|lyp|report|txt|1)\b|(?:[\w.-]+/)+\w*)")
+ENDS = "rt|antt|md|toml|py|sticks|cif|svg|edit|tech|lyp|report|txt|1"
+FILE = re.compile(rf"(?<![\w/.-])(?:(?:[\w.-]+/)*[\w-]+\.(?:{ENDS})\b|(?:[\w.-]+/)+\w*)")
 # Where a function, a type, a record or a data begins, and where a clause, a field or a case stands.
 BEGINS = {
     "rt": re.compile(r"\b(?:fn|struct|enum|trait|impl) (?:<[^>]*> )?(\w+)").search,
@@ -29,7 +37,8 @@ PART = {
     "rt": re.compile(r"\s*(?:(?:requires|ensures) (?=\w+ \{)|(?:pub )?(?:ghost )?(?=\w+:))(\w+)").match,
     "antt": re.compile(r"\s+(?:pub )?([\w-]+) :").match,
 }
-# What is no name of this tree: lines that begin with a command, words that stand for others in a form, and the kit's pages.
+# What is no name of this tree: lines that begin with a command, words that stand for others in a form, and the kit's
+# pages.
 COMMANDS = ("rt", "git", "nice", "grep", "python3")
 NOT_HERE = re.compile(r"(?:\]\(|https?:|KIT/|\.\./)\S*$")
 FREE = {"FROM", "TO", "LEN", "WHY", "NAME", "out/", "START-HERE.md", "CONTRACTS.md", "ANTT.md", "FIRST_PROOFS.md"}
@@ -47,11 +56,14 @@ def words_of(text):
 
 
 class Tree:
-    """What stands in a checkout: the words of each file, and the parts (clauses, fields, cases) of each name, crate by crate."""
+    """What stands in a checkout: the words of each file, and the parts (clauses, fields, cases) of each name, crate by
+    crate.
+    """
 
     def __init__(self, top):
         self.top, self.begun, self.parts, self.known, self.paths = top, {}, {}, set(FREE), {"crates"}
-        lines = [re.split(r"[ :]+", line) for line in (top / "crates.txt").read_text(encoding="utf-8").splitlines() if re.match(r"[a-z]", line)]
+        lines = [re.split(r"[ :]+", line) for line in (top / "crates.txt").read_text(encoding="utf-8").splitlines()
+                 if re.match(r"[a-z]", line)]
         self.below = {crate: below for crate, *below in lines}
         self.crates = list(self.below)
         self.words = {crate: set() for crate in self.crates}
@@ -59,7 +71,8 @@ class Tree:
             for room, kind in (("src", "rt"), ("specs", "antt"), ("proofs", "antt"), ("must-fail", "edit")):
                 for path in sorted((top / "crates" / crate / room).rglob(f"*.{kind}")):
                     self.take(crate, path, kind)
-        for path in [*top.glob("examples/**/*"), *top.glob("bin/*"), *top.glob("bench/*.py"), *top.glob("docs/*"), *top.glob("*"), top / ".ci/run"]:
+        for path in [*top.glob("examples/**/*"), *top.glob("bin/*"), *top.glob("bench/*.py"), *top.glob("docs/*"),
+                     *top.glob("*"), top / ".ci/run"]:
             self.add_path(path)
             if path.parent.name == "examples" or path.name in ("sticks", "crates.txt"):
                 self.known |= words_of(path.read_text(encoding="utf-8")) if path.is_file() else set()
@@ -75,7 +88,8 @@ class Tree:
         text = plain(path.read_text(encoding="utf-8"), "--" if kind == "antt" else "//")
         self.words[crate] |= words_of(text) | {path.name, path.stem, *path.relative_to(self.top).parts}
         if kind == "antt":
-            self.begun[path.relative_to(self.top).as_posix()] = set(re.findall(r"(?m)^\s*(?:(?:abbrev|pub|record|data|unfoldable) )*([\w-]+)", text))
+            self.begun[path.relative_to(self.top).as_posix()] = set(
+                re.findall(r"(?m)^\s*(?:(?:abbrev|pub|record|data|unfoldable) )*([\w-]+)", text))
         if "proofs" in path.parts or kind == "edit":
             return
         name = None
@@ -88,13 +102,16 @@ class Tree:
                 self.parts.setdefault(name, {}).setdefault(crate, set()).add(part[1])
 
     def knows(self, word, section, named):
-        """Whether a word stands in the crate of the section, in one right below it or in one that is named, or without a section in any."""
+        """Whether a word stands in the crate of the section, in one right below it or in one that is named, or without
+        a section in any.
+        """
         homes = [section, *self.below[section], *named] if section else self.crates
         return word in self.known or any(word in self.words.get(crate, ()) for crate in homes)
 
     def part_names(self, crate=None):
         """All parts of the names of a crate, or of all crates."""
-        return {part for of in self.parts.values() for where, those in of.items() if crate in (None, where) for part in those}
+        return {part for of in self.parts.values() for where, those in of.items() if crate in (None, where)
+                for part in those}
 
 
 class Document:
@@ -156,8 +173,10 @@ class Document:
 
     def check_named(self, place, text, section, named):
         """Names in brackets behind a file, or one after the other behind a file of proofs/."""
-        for it in re.finditer(r"([\w/]+\.antt)`?\s*\(([^()]*)\)|`(proofs/\w+\.antt)`((?:,?\s+(?:and\s+)?`[\w-]+`)+)", text):
-            within = {word for file in self.files(it[1] or it[3], section, named) for word in self.tree.begun.get(file, ())}
+        for it in re.finditer(r"([\w/]+\.antt)`?\s*\(([^()]*)\)|`(proofs/\w+\.antt)`((?:,?\s+(?:and\s+)?`[\w-]+`)+)",
+                              text):
+            within = {word for file in self.files(it[1] or it[3], section, named)
+                      for word in self.tree.begun.get(file, ())}
             group = 2 if it[1] else 4
             for name in SPAN.finditer(re.split(r"[,(;]?\s*\bover\b", it[group])[0]):
                 for word in WORD.findall(name[1]):
@@ -175,6 +194,24 @@ class Document:
                 self.hold(place + it.start(2), f"[{part}] of {names[-1] if names else section}", part in within)
 
 
+def heads(text):
+    """The heads of the sections of a text, as links name them."""
+    found = re.findall(r"(?m)^#+ (.*)", re.sub(r"(?ms)^```.*?^```$", "", text))
+    return {re.sub(r"[^\w -]", "", head.lower()).replace(" ", "-") for head in found}
+
+
+def links(top):
+    """Gives each link of the documents to a file, with its document, its line, and whether it leads to something."""
+    for path in sorted([*top.glob("*.md"), *top.glob("docs/*.md")]):
+        text = path.read_text(encoding="utf-8")
+        for it in re.finditer(r"\]\(([^()\s]+)\)|\bsrc=\"([^\"]+)\"", text):
+            name, _, head = (it[1] or it[2]).partition("#")
+            if ":" not in name:
+                target = path.parent / name if name else path
+                there = target.exists() and (not head or head in heads(target.read_text(encoding="utf-8")))
+                yield path.relative_to(top).as_posix(), text.count("\n", 0, it.start()) + 1, it[1] or it[2], there
+
+
 def main(words):
     if words[:1] in (["--help"], ["-h"]) or len(words) > 1:
         print(__doc__.strip())
@@ -187,7 +224,11 @@ def main(words):
         held, gone = held + document.held, gone + len(document.gone)
         for line, what in sorted(document.gone):
             print(f"{name}:{line}: {what}")
-    print(f"{held} names held, {gone} gone")
+    for name, line, link, there in links(tree.top):
+        held, gone = held + 1, gone + (not there)
+        if not there:
+            print(f"{name}:{line}: the link {link}")
+    print(f"{held} names and links held, {gone} gone")
     return 1 if gone else 0
 
 

@@ -1,9 +1,10 @@
 #!/usr/bin/env python3
 """Tries the edge to the operating system: edges.py [PROGRAM]
 
-Streams that are full, closed or broken, files that cannot be read or never end, names of every kind, little memory and a small stack. Each line says what
-was tried and how the program ended, and ends with 'WRONG' where that is not what the manual says. Run as root it also reads a file that nobody else may read. The last line
-is 'N wrong', and the status 1 where N is not 0."""
+Streams that are full, closed or broken, files that cannot be read or never end, names of every kind, little memory and
+a small stack. Each line says what was tried and how the program ended, and ends with 'WRONG' where that is not what the
+manual says. Run as root it also reads a file that nobody else may read. The last line is 'N wrong', and the status 1
+where N is not 0."""
 import os, resource, shutil, signal, subprocess, sys, tempfile, time
 from compact import PROGRAM
 
@@ -28,10 +29,13 @@ class Edge:
         return ran.returncode, ran.stdout, ran.stderr
 
     def tell(self, what, answer, *wanted):
-        """Says how it ended, which has to be one of these: each a status, an output and a report, where None may be anything."""
+        """Says how it ended, which has to be one of these: each a status, an output and a report, where None may be
+        anything.
+        """
         good = any(all(w is None or w == a for w, a in zip(want, answer)) for want in wanted)
         line = (answer[2] or b"").split(b"\n")[0].decode("utf-8", "replace")
-        print("%s: %s%s%s" % (what, answer[0] if answer[0] >= 0 else signal.Signals(-answer[0]).name, ", " + line if line and answer[0] else "", "" if good else " WRONG"), flush=True)
+        print("%s: %s%s%s" % (what, answer[0] if answer[0] >= 0 else signal.Signals(-answer[0]).name,
+                              ", " + line if line and answer[0] else "", "" if good else " WRONG"), flush=True)
         self.wrong += not good
         self.tried += 1
 
@@ -55,7 +59,8 @@ def broken_pipe(edge, words, ignored, stream):
     """The answer where this stream is a pipe that nobody reads."""
     reads, writes = os.pipe()
     os.close(reads)
-    before = (lambda: signal.signal(signal.SIGPIPE, signal.SIG_IGN)) if ignored else (lambda: signal.signal(signal.SIGPIPE, signal.SIG_DFL))
+    before = ((lambda: signal.signal(signal.SIGPIPE, signal.SIG_IGN)) if ignored
+              else (lambda: signal.signal(signal.SIGPIPE, signal.SIG_DFL)))
     answer = edge.run(words, before, **{stream: writes})
     os.close(writes)
     return answer
@@ -87,7 +92,9 @@ def streams(edge):
         edge.tell(how + ", as report", broken_pipe(edge, COMPACT, ignored, "stderr"), (4, masks, None))
         edge.tell(how + ", at a refusal", broken_pipe(edge, refused, ignored, "stderr"), (7, b"", None))
     with open("small", "wb") as small:
-        answer = edge.run(COMPACT, limiting(resource.RLIMIT_FSIZE, 100, lambda: signal.signal(signal.SIGXFSZ, signal.SIG_IGN)), stdout=small)
+        answer = edge.run(COMPACT,
+                          limiting(resource.RLIMIT_FSIZE, 100, lambda: signal.signal(signal.SIGXFSZ, signal.SIG_IGN)),
+                          stdout=small)
     edge.tell("an output file that may have 100 bytes", answer, (4, None, NO_OUTPUT))
     with open("small", "rb") as small:
         written = small.read()
@@ -95,12 +102,17 @@ def streams(edge):
 
 
 def files(edge):
-    for name, words, file in (("a design", ["fmt"], b"design"), ("a technology", ["compact", "d", "--tech"], b"technology"), ("a CIF text", ["check", "--tech", "t"], b"cif")):
+    for name, words, file in (("a design", ["fmt"], b"design"),
+                              ("a technology", ["compact", "d", "--tech"], b"technology"),
+                              ("a CIF text", ["check", "--tech", "t"], b"cif")):
         line = b"sticks: cannot read %s\n" % file
-        for what, path in (("missing", "none"), ("a folder", "folder"), ("a loop of links", "loop"), ("a link to nothing", "dangling"), ("no name", ""), ("a name too long", LONG),
-                           ("a path too deep", "folder/" * 1000 + "d"), ("below a file", "d/d"), ("memory of no process", "/proc/self/mem")):
+        for what, path in (("missing", "none"), ("a folder", "folder"), ("a loop of links", "loop"),
+                           ("a link to nothing", "dangling"), ("no name", ""), ("a name too long", LONG),
+                           ("a path too deep", "folder/" * 1000 + "d"), ("below a file", "d/d"),
+                           ("memory of no process", "/proc/self/mem")):
             edge.tell("%s: %s" % (name, what), edge.run([*words, path]), (3, b"", line))
-        edge.tell("%s that never ends" % name, edge.run([*words, "/dev/zero"]), (5, b"", b"sticks: too long: %s\n" % file))
+        edge.tell("%s that never ends" % name, edge.run([*words, "/dev/zero"]),
+                  (5, b"", b"sticks: too long: %s\n" % file))
         empty = {b"design": (7, b"", None), b"technology": (6, b"", None), b"cif": (12, b"", None)}[file]
         edge.tell("%s that is empty" % name, edge.run([*words, "/dev/null"]), empty)
     for name in (" d", "d ", "a b", "\u00e4", "d\n", "*", "~", "$HOME", "a;b", "."*3):
@@ -110,21 +122,26 @@ def files(edge):
     edge.tell("a design named '-d'", edge.run(["compact", "-d", "--tech", "t"]), (2, b"", b"sticks: usage\n"))
     edge.tell("a name that is no text", edge.run(["compact", b"\xff", "--tech", "t"]), (2, b"", b"sticks: usage\n"))
     edge.tell("the design from a pipe", (lambda ran: (ran.returncode, ran.stdout, ran.stderr))(
-        subprocess.run([PROGRAM, "compact", "/dev/stdin", "--tech", "t"], input=open("d", "rb").read(), capture_output=True, timeout=SECONDS)), edge.whole)
+        subprocess.run([PROGRAM, "compact", "/dev/stdin", "--tech", "t"], input=open("d", "rb").read(),
+                       capture_output=True, timeout=SECONDS)), edge.whole)
     edge.tell("a design that is one byte too long", edge.run(["fmt", "long"]), (5, b"", b"sticks: too long: design\n"))
     if os.geteuid() == 0:
         def nobody():
             os.setgroups([])
             os.setgid(65534)
             os.setuid(65534)
-        edge.tell("a design that may not be read", edge.run(["fmt", "secret"], nobody), (3, b"", b"sticks: cannot read design\n"))
-        edge.tell("a folder that may not be entered", edge.run(["fmt", "closed/d"], nobody), (3, b"", b"sticks: cannot read design\n"))
+        edge.tell("a design that may not be read", edge.run(["fmt", "secret"], nobody),
+                  (3, b"", b"sticks: cannot read design\n"))
+        edge.tell("a folder that may not be entered", edge.run(["fmt", "closed/d"], nobody),
+                  (3, b"", b"sticks: cannot read design\n"))
 
 
 def memory(edge):
     """All sizes of the address space in which the program starts at all."""
     no_memory = (1, b"", b"sticks: out of memory\n")
-    for what, words in (("compact", COMPACT), ("check", CHECK), ("compact of many joints", ["compact", "many", "--tech", "t"]), ("check of many boxes", ["check", "boxes", "--tech", "t"])):
+    for what, words in (("compact", COMPACT), ("check", CHECK),
+                        ("compact of many joints", ["compact", "many", "--tech", "t"]),
+                        ("check of many boxes", ["check", "boxes", "--tech", "t"])):
         whole, ends, least = edge.run(words), {}, None
         for size in range(1, 129):
             try:
@@ -139,7 +156,9 @@ def memory(edge):
             if answer == whole and size > 32 and size > min(ends["whole"]) + 8:
                 break
         good = set(ends) <= {"whole", "want of memory"}
-        print("%s in an address space of %s MB on: %s%s" % (what, least, "; ".join("%s from %d to %d MB" % (k, min(v), max(v)) for k, v in ends.items()), "" if good else " WRONG"), flush=True)
+        print("%s in an address space of %s MB on: %s%s"
+              % (what, least, "; ".join("%s from %d to %d MB" % (k, min(v), max(v)) for k, v in ends.items()),
+                 "" if good else " WRONG"), flush=True)
         edge.wrong += not good
         edge.tried += 1
 
@@ -158,7 +177,8 @@ def nested():
         yield "an array of tables of %d names" % n, "[[%s]]" % names(n), 256
     yield "arrays of tables, each in the one before, 80 deep", "".join("[[%s]]\n" % names(k) for k in range(1, 81)), 256
     yield "inline tables 80 deep, of 80 names each", "a = " + ("{" + names(80) + "=") * 79 + "1" + "}" * 79, 2048
-    yield "the same, below a table of 80 names", "[%s]\n%s = " % (names(80), names(80)) + ("{" + names(80) + "=") * 79 + "1" + "}" * 79, 2048
+    yield ("the same, below a table of 80 names", "[%s]\n%s = " % (names(80), names(80)) + ("{" + names(80) + "=") * 79
+           + "1" + "}" * 79, 2048)
 
 
 def least_stack(edge, words, wanted):
@@ -181,17 +201,24 @@ def stack(edge):
         words = ["compact", "d", "--tech", "nested"]
         wanted = edge.run(words)
         answer = edge.run(words, limiting(resource.RLIMIT_STACK, kilobytes << 10))
-        edge.tell("%s in a stack of %d KB (needs %d KB)" % (name, kilobytes, least_stack(edge, words, wanted)), answer, (6, b"", wanted[2]))
-    for name, words in (("an inverter", COMPACT), ("its masks", CHECK), ("uses 16 deep", ["compact", "deep", "--tech", "t"]), ("many joints", ["compact", "many", "--tech", "t"]),
-                        ("parentheses 1,000,000 deep", ["check", "parentheses", "--tech", "t"]), ("many boxes", ["extract", "boxes", "--tech", "t"]), ("a path of 400,000 names", ["fmt", "path"])):
+        edge.tell("%s in a stack of %d KB (needs %d KB)" % (name, kilobytes, least_stack(edge, words, wanted)), answer,
+                  (6, b"", wanted[2]))
+    for name, words in (("an inverter", COMPACT), ("its masks", CHECK),
+                        ("uses 16 deep", ["compact", "deep", "--tech", "t"]),
+                        ("many joints", ["compact", "many", "--tech", "t"]),
+                        ("parentheses 1,000,000 deep", ["check", "parentheses", "--tech", "t"]),
+                        ("many boxes", ["extract", "boxes", "--tech", "t"]),
+                        ("a path of 400,000 names", ["fmt", "path"])):
         wanted = edge.run(words)
         answer = edge.run(words, limiting(resource.RLIMIT_STACK, 64 << 10))
-        edge.tell("%s in a stack of 64 KB (needs %d KB)" % (name, least_stack(edge, words, wanted)), answer, (0, *wanted[1:]))
+        edge.tell("%s in a stack of 64 KB (needs %d KB)" % (name, least_stack(edge, words, wanted)), answer,
+                  (0, *wanted[1:]))
 
 
 def place():
     """The files that are tried, in this folder."""
-    for name, copy in (("inverter.sticks", "d"), ("inverter.cif", "c"), ("nmos.toml", "t"), ("inverter.sticks", "-d"), ("inverter.sticks", "secret")):
+    for name, copy in (("inverter.sticks", "d"), ("inverter.cif", "c"), ("nmos.toml", "t"), ("inverter.sticks", "-d"),
+                       ("inverter.sticks", "secret")):
         shutil.copy(os.path.join(EXAMPLES, name), copy)
     os.chmod("secret", 0o600)
     os.mkdir("folder")
@@ -200,10 +227,14 @@ def place():
     os.chmod("closed", 0o700)
     os.symlink("loop", "loop")
     os.symlink("none", "dangling")
-    deep = "sticks 1\ncell c1\njoint p metal 0 0\nend\n" + "".join("cell c%d\nuse u c%d 0 0\nend\n" % (k, k - 1) for k in range(2, 17)) + "grid\nrow c16\nend\n"
-    many = "sticks 1\ncell a\n" + "".join("joint j%d metal %d %d\n" % (k, k % 64, k // 64) for k in range(2048)) + "end\ngrid\nrow a\nend\n"
-    boxes = "DS 1; L NM; %s DF; %s E" % ("".join("B 1200 1200 %d 0;" % (3000 * k) for k in range(100)), "".join("C 1 T 0 %d;" % (3000 * k) for k in range(300)))
-    texts = {"bad": "stick\n", "deep": deep, "many": many, "boxes": boxes, "parentheses": "(" * 1000000 + ")" * 1000000 + "E", "long": "#" * 1048577,
+    deep = ("sticks 1\ncell c1\njoint p metal 0 0\nend\n"
+            + "".join("cell c%d\nuse u c%d 0 0\nend\n" % (k, k - 1) for k in range(2, 17)) + "grid\nrow c16\nend\n")
+    many = ("sticks 1\ncell a\n" + "".join("joint j%d metal %d %d\n" % (k, k % 64, k // 64) for k in range(2048))
+            + "end\ngrid\nrow a\nend\n")
+    boxes = "DS 1; L NM; %s DF; %s E" % ("".join("B 1200 1200 %d 0;" % (3000 * k) for k in range(100)),
+                                         "".join("C 1 T 0 %d;" % (3000 * k) for k in range(300)))
+    texts = {"bad": "stick\n", "deep": deep, "many": many, "boxes": boxes, "parentheses": "(" * 1000000 + ")" * 1000000
+             + "E", "long": "#" * 1048577,
              "path": "sticks 1\ncell a\nlimit x " + "a." * 400000 + "a b >= 1\nend\ngrid\nend\n"}
     for name, text in texts.items():
         with open(name, "w") as file:
@@ -227,4 +258,7 @@ def main():
 
 
 if __name__ == "__main__":
+    if sys.argv[1:2] in (["--help"], ["-h"]):
+        print(__doc__.strip())
+        sys.exit()
     sys.exit(main())

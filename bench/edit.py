@@ -1,18 +1,22 @@
 #!/usr/bin/env python3
 """Times `edit` on one large cell, beside as many answers of `compact`: edit.py [PROGRAM [JOINTS [LINES]]]
 
-The cell has 4,000 joints in rows of 63, and the script 1,000 lines: each adds a limit between two neighbours, and each tenth drops one again. Printed are, in user seconds:
+The cell has 4,000 joints in rows of 63, and the script 1,000 lines: each adds a limit between two neighbours, and each
+tenth drops one again. Printed are, in user seconds:
   edit      the whole script
-  compact   as many answers of `compact` in one process: the time of one, over the designs at the start and after each tenth of the script, less that of a start of the program, so many times
+  compact   as many answers of `compact` in one process: the time of one, over the designs at the start and after each
+            tenth of the script, less that of a start of the program, so many times
   ratio     compact by edit
-Where perf is found it also counts samples, by the names of functions: the share of the first passes in `edit` (at most, as the compiler puts small functions into others), and how many times as long a pass of `compact` takes.
-The status is 1 where `edit` is not faster, or where its first passes take more than a tenth of what a pass takes in `compact`.
+Where perf is found it also counts samples, by the names of functions: the share of the first passes in `edit` (at most,
+as the compiler puts small functions into others), and how many times as long a pass of `compact` takes. The status is 1
+where `edit` is not faster, or where its first passes take more than a tenth of what a pass takes in `compact`.
 """
 import os, re, shutil, subprocess, sys, tempfile
 from compact import TECH
 
 HERE = os.path.dirname(os.path.abspath(__file__))
-PROGRAM = os.path.abspath(sys.argv[1]) if len(sys.argv) > 1 else os.path.join(HERE, "..", "crates", "sticks", "out", "sticks")
+PROGRAM = (os.path.abspath(sys.argv[1]) if len(sys.argv) > 1
+           else os.path.join(HERE, "..", "crates", "sticks", "out", "sticks"))
 JOINTS = int(sys.argv[2]) if len(sys.argv) > 2 else 4000
 LINES = int(sys.argv[3]) if len(sys.argv) > 3 else 1000
 ACROSS = 63
@@ -54,21 +58,29 @@ def seconds(words, times):
     return (os.times().children_user - before) / times, ran.stdout.decode()
 
 
-# where passes run, and the first passes of `edit`: functions of these crates and modules, and those into which the compiler puts such functions
-PASS = ("pass_run", "shadow_prune", "scan_line", "pair_rules", "pitch_join", "liao_wong", "round_log", "edge_index", "cons_graph", "par_phase", "fork::calls_from")
-FIRST = tuple("pass_run::" + module for module in ("first", "following", "bared", "compared", "limits", "shown")) + ("edit_session", "edit::word_on", "compact_run::least")
+# where passes run, and the first passes of `edit`: functions of these crates and modules, and those into which the
+# compiler puts such functions
+PASS = ("pass_run", "shadow_prune", "scan_line", "pair_rules", "pitch_join", "liao_wong", "round_log", "edge_index",
+        "cons_graph", "par_phase", "fork::calls_from")
+FIRST = (tuple("pass_run::" + module for module in ("first", "following", "bared", "compared", "limits", "shown"))
+         + ("edit_session", "edit::word_on", "compact_run::least"))
 
 
 def share(words, homes, others, times):
-    """The share of a run's samples that lie in functions of these crates and modules and not of the others, by their names; None where perf is not found."""
+    """The share of a run's samples that lie in functions of these crates and modules and not of the others, by their
+    names; None where perf is not found.
+    """
     if not shutil.which("perf"):
         return None
     with tempfile.NamedTemporaryFile() as data:
         for _ in range(times):
-            subprocess.run(["perf", "record", "-q", "-F", "9999", "-o", data.name, PROGRAM] + words, stdout=subprocess.DEVNULL, stderr=subprocess.DEVNULL)
-        told = subprocess.run(["perf", "report", "-q", "--stdio", "-i", data.name, "-F", "overhead,symbol"], stdout=subprocess.PIPE, stderr=subprocess.DEVNULL).stdout.decode()
+            subprocess.run(["perf", "record", "-q", "-F", "9999", "-o", data.name, PROGRAM] + words,
+                           stdout=subprocess.DEVNULL, stderr=subprocess.DEVNULL)
+        told = subprocess.run(["perf", "report", "-q", "--stdio", "-i", data.name, "-F", "overhead,symbol"],
+                              stdout=subprocess.PIPE, stderr=subprocess.DEVNULL).stdout.decode()
     rows = re.findall(r"^\s*([0-9.]+)%\s+\[\.\]\s+(.*)$", told, re.M)
-    return sum(float(percent) for percent, symbol in rows if any(home in symbol for home in homes) and not any(home in symbol for home in others)) / 100
+    return sum(float(percent) for percent, symbol in rows if any(home in symbol for home in homes)
+               and not any(home in symbol for home in others)) / 100
 
 
 def main():
@@ -91,10 +103,14 @@ def main():
         if quick is not None:
             # a compaction makes two passes
             here, there = quick * edit / LINES, whole * one / 2
-            print("first pass  %.3f ms of each line, %.3f ms of a compaction: x %.1f" % (here * 1000, there * 1000, there / max(here, 1e-9)))
+            print("first pass  %.3f ms of each line, %.3f ms of a compaction: x %.1f"
+                  % (here * 1000, there * 1000, there / max(here, 1e-9)))
             slow = slow or there < 10 * here
     sys.exit(slow)
 
 
 if __name__ == "__main__":
+    if sys.argv[1:2] in (["--help"], ["-h"]):
+        print(__doc__.strip())
+        sys.exit()
     main()

@@ -1,15 +1,21 @@
 #!/usr/bin/env python3
 """Holds `edit` against `compact` on small designs and scripts by lot: edits.py [COUNT [SEED [PROGRAM]]]
 
-Each design has up to three cells of joints with limits, in a grid of one or two rows; each of the ten lines of its script adds a limit to a cell of the grid or drops one. After each line the sizes, or the number of the
-refusal, have to be those that `compact` ends with over the design that was edited here, with the same passes. The last line is 'N lines, M wrong', and the status 1 where M is not 0.
+Each design has up to three cells of joints with limits, in a grid of one or two rows; each of the ten lines of its
+script adds a limit to a cell of the grid or drops one. After each line the sizes, or the number of the refusal, have to
+be those that `compact` ends with over the design that was edited here, with the same passes. The last line is 'N lines,
+M wrong', and the status 1 where M is not 0.
 """
 import os, random, re, subprocess, sys, tempfile
 from compact import TECH
 
 HERE = os.path.dirname(os.path.abspath(__file__))
+if sys.argv[1:2] in (["--help"], ["-h"]):
+    print(__doc__.strip())
+    sys.exit()
 COUNT, SEED = [int(sys.argv[k]) if len(sys.argv) > k else default for k, default in ((1, 200), (2, 1))]
-PROGRAM = os.path.abspath(sys.argv[3]) if len(sys.argv) > 3 else os.path.join(HERE, "..", "crates", "sticks", "out", "sticks")
+PROGRAM = (os.path.abspath(sys.argv[3]) if len(sys.argv) > 3
+           else os.path.join(HERE, "..", "crates", "sticks", "out", "sticks"))
 
 
 class Design:
@@ -23,11 +29,13 @@ class Design:
 
     def cell(self):
         places = self.lot.sample([(col, row) for col in range(4) for row in range(4)], self.lot.randint(2, 5))
-        return ["joint j%d %s %d %d\n" % (k, self.lot.choice(("metal", "metal", "poly")), *place) for k, place in enumerate(places)]
+        layers = ("metal", "metal", "poly")
+        return ["joint j%d %s %d %d\n" % (k, self.lot.choice(layers), *place) for k, place in enumerate(places)]
 
     def limit(self, name):
         a, b = self.lot.sample(range(len(self.joints[name])), 2)
-        return "%s j%d j%d %s %d" % (self.lot.choice("xy"), a, b, self.lot.choice(("<=", ">=", ">=")), self.lot.randint(-10, 60))
+        return "%s j%d j%d %s %d" % (self.lot.choice("xy"), a, b, self.lot.choice(("<=", ">=", ">=")),
+                                     self.lot.randint(-10, 60))
 
     def line(self):
         """A line of a script, whose edit is made."""
@@ -41,13 +49,16 @@ class Design:
         return "add %s %s\n" % (name, limits[-1])
 
     def text(self):
-        cells = "".join("cell %s\n%s%send\n" % (name, "".join(joints), "".join("limit %s\n" % it for it in self.limits[name])) for name, joints in self.joints.items())
+        cells = "".join("cell %s\n%s%send\n"
+                        % (name, "".join(joints), "".join("limit %s\n" % it for it in self.limits[name]))
+                        for name, joints in self.joints.items())
         return "sticks 1\n" + cells + "grid\n" + "".join("row %s\n" % " ".join(row) for row in self.rows) + "end\n"
 
 
 def compacted(path, masters, passes):
     """What `compact` comes to, in the word of `edit`."""
-    ran = subprocess.run([PROGRAM, "compact", path, "--tech", TECH, "--passes", passes], stdout=subprocess.DEVNULL, stderr=subprocess.PIPE)
+    ran = subprocess.run([PROGRAM, "compact", path, "--tech", TECH, "--passes", passes], stdout=subprocess.DEVNULL,
+                         stderr=subprocess.PIPE)
     if ran.returncode:
         return "code %d" % ran.returncode
     sizes, axis = {}, ""
@@ -69,11 +80,13 @@ def main():
             for i in range(10):
                 script.append(design.line())
                 wanted.append("step %d %s" % (i, compacted(path("after", design.text()), design.masters, passes)))
-            ran = subprocess.run([PROGRAM, "edit", first, "--tech", TECH, "--script", path("script", "".join(script)), "--passes", passes], stdout=subprocess.PIPE, stderr=subprocess.DEVNULL)
+            ran = subprocess.run([PROGRAM, "edit", first, "--tech", TECH, "--script", path("script", "".join(script)),
+                                  "--passes", passes], stdout=subprocess.PIPE, stderr=subprocess.DEVNULL)
             if ran.returncode == 10:
                 continue  # the start layout has a clash
             told = ran.stdout.decode().splitlines()
-            lines, off = lines + len(wanted), [(one, other) for one, other in zip(told + [""] * len(wanted), wanted) if one != other]
+            lines, off = (lines + len(wanted), [(one, other) for one, other in zip(told + [""] * len(wanted), wanted)
+                                                if one != other])
             wrong += len(off)
             if off:
                 print("%r and not %r\n%s%s" % (*off[0], open(first).read(), "".join(script)))

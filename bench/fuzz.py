@@ -1,16 +1,20 @@
 #!/usr/bin/env python3
-"""Runs the program on many hostile inputs: fuzz.py SEED COUNT [--from I] [--program P] [--corpus FOLDER].. [--keep FOLDER]
+"""Runs the program on hostile inputs: fuzz.py SEED COUNT [--from I] [--program P] [--corpus FOLDER].. [--keep FOLDER]
 
-Each input is made from SEED and its number alone (from I on, 0 if not given), so `fuzz.py SEED 1 --from I` makes input I again. Inputs are
-designs, technologies, CIF texts and words: changed examples (and changed files of the corpora: *.sticks, *.toml, *.cif, or d, t and c) and
-made ones. What is looked for:
+Each input is made from SEED and its number alone (from I on, 0 if not given), so `fuzz.py SEED 1 --from I` makes input
+I again. Inputs are designs, technologies, CIF texts and words: changed examples (and changed files of the corpora:
+*.sticks, *.toml, *.cif, or d, t and c) and made ones. What is looked for:
   - an end by a signal, a number that the manual does not have, want of memory, more than 10 s or 700 MB
-  - an output beside a refusal; an output, a report or a refusal's line that is not of the manual's form; a walk or a cycle that does not add up
-  - masks that `compact` wrote and that `check` does not find `ok` or `extract` refuses; `check` and `extract` that contradict one another
-  - `slack` and `jog` that are refused otherwise than `compact`, a jogged design that is not laid out, or with a wider cell
+  - an output beside a refusal; an output, a report or a refusal's line that is not of the manual's form; a walk or a
+    cycle that does not add up
+  - masks that `compact` wrote and that `check` does not find `ok` or `extract` refuses; `check` and `extract` that
+    contradict one another
+  - `slack` and `jog` that are refused otherwise than `compact`, a jogged design that is not laid out, or with a wider
+    cell
   - a text of `fmt` that `fmt` changes, or that `compact` answers otherwise than the design that it was made of
   - another answer to the same words and files, or with `--split` or with `--tech=FILE`
-The files of whatever is found are kept, in `fuzz-found` if no folder is given. The last line is 'N found', and the status 1 where N is not 0."""
+The files of whatever is found are kept, in `fuzz-found` if no folder is given. The last line is 'N found', and the
+status 1 where N is not 0."""
 import argparse, collections, os, random, re, resource, shutil, signal, sys, tempfile, time
 import fuzz_texts
 
@@ -24,29 +28,36 @@ OWNER = rb"(?:%s(?:\.%s)*|#\d+)" % (NAME, NAME)
 PLACE = rb"(?:0|%s:%s|%s\|)" % (NAME, OWNER, NAME)
 STEP = rb"%s -> %s %s (?:size|extent|overlap|margin|limit|pitch|port|space)\n" % (PLACE, PLACE, NUMBER)
 PASS = rb"pass \d+ [xy] edges \d+ backward \d+ rounds \d+\n(?:cell %s size \d+ kept \d+\n(?:%s)+)+" % (NAME, STEP)
-LINE_KINDS = (rb"BadByte|NumberTooLarge|BadLine|Unended|TooManyCells|RepeatedName|UsedPorts|UnknownName|UseCycle|UseDepth|FarPlace|BadSize|NarrowWire"
-              rb"|WrongTerminal|NotStraight|WrongLayer|WrongSide|PortWires|WideWire|BadLimit|NoBuried")
+LINE_KINDS = (rb"BadByte|NumberTooLarge|BadLine|Unended|TooManyCells|RepeatedName|UsedPorts|UnknownName|UseCycle"
+              rb"|UseDepth|FarPlace|BadSize|NarrowWire|WrongTerminal|NotStraight|WrongLayer|WrongSide|PortWires"
+              rb"|WideWire|BadLimit|NoBuried")
 REFUSALS = {
     2: rb"sticks: usage\n",
     3: rb"sticks: cannot read (?:design|technology|cif|script)\n",
     5: rb"sticks: too long: (?:design|technology|cif|script)\n",
-    6: rb"sticks: technology: (?:NotToml|(?:Missing|WrongType|OutOfRange|OddWidth|ZeroSpacing) [a-z_.]+|Unknown .*|OddGrid.*|ShortChannel|ShortExtension|NarrowFet|PadTooSmall)\n",
+    6: rb"sticks: technology: (?:NotToml|(?:Missing|WrongType|OutOfRange|OddWidth|ZeroSpacing) [a-z_.]+|Unknown "
+       rb".*|OddGrid.*|ShortChannel|ShortExtension|NarrowFet|PadTooSmall)\n",
     7: rb"sticks: line [1-9]\d*: (?:%s)\n" % LINE_KINDS,
-    8: rb"sticks: grid(?: %s)?: (?:Empty|UnknownCell \d+ \d+|RaggedRow \d+|PortMismatch \d+ \d+ (?:right|top) \d+)\n" % NAME,
+    8: rb"sticks: grid(?: %s)?: (?:Empty|UnknownCell \d+ \d+|RaggedRow \d+|PortMismatch \d+ \d+ (?:right|top) \d+)\n"
+    % NAME,
     9: rb"sticks: too large: (?:items|boxes|edges|extent)\n",
     10: rb"sticks: clash in %s between %s and %s\n" % (NAME, OWNER, OWNER),
     11: rb"(?:%s)*pass \d+ [xy] unsatisfiable length [1-9]\d*\n(?:%s)+" % (PASS, STEP),
-    12: rb"sticks: byte \d+: (?:BadCommand|BadNumber|NestedDefinition|RepeatedSymbol|UnknownSymbol|NoLayer|OddScale|NoEnd|AfterEnd)\n",
+    12: rb"sticks: byte \d+: (?:BadCommand|BadNumber|NestedDefinition|RepeatedSymbol|UnknownSymbol|NoLayer|OddScale"
+        rb"|TooDeep|NoEnd|AfterEnd)\n",
     13: rb"sticks: rule (?:[1-9]|1[012]): boxes \d+ \d+\n",
     14: rb"sticks: not proper: boxes \d+ \d+\n",
     16: rb"sticks: script line [1-9]\d*\n",
 }
 REFUSALS = {status: re.compile(form, re.S) for status, form in REFUSALS.items()}
 BOX = rb"B [1-9]\d* [1-9]\d* %s %s;\n" % (NUMBER, NUMBER)
-MASKS = re.compile(rb"(?:DS \d+ \d+ 1;\n9 %s;\n(?:L N[DPCMIB];\n(?:%s)+)*DF;\n)+(?:C \d+ T \d+ \d+;\n)+E\n" % (NAME, BOX))
+MASKS = re.compile(rb"(?:DS \d+ \d+ 1;\n9 %s;\n(?:L N[DPCMIB];\n(?:%s)+)*DF;\n)+(?:C \d+ T \d+ \d+;\n)+E\n"
+                   % (NAME, BOX))
 REPORT = re.compile(rb"(?:%s)+" % PASS)
-NETS = re.compile(rb"nets (\d+) devices (\d+)\n((?:net \d+ nd \d+ np \d+ nm \d+\n)*)((?:device \d+ (?:enh|dep) w \d+ l \d+ gate \d+ low \d+ high \d+ at %s %s\n)*)" % (NUMBER, NUMBER))
-SLACKS = re.compile(rb"axis x pass \d+\n((?:cell %s size \d+\n(?:%s:%s least %s most %s slack \d+\n)*)+)axis y pass \d+\n((?:cell %s size \d+\n(?:%s:%s least %s most %s slack \d+\n)*)+)"
+NETS = re.compile(rb"nets (\d+) devices (\d+)\n((?:net \d+ nd \d+ np \d+ nm \d+\n)*)((?:device \d+ (?:enh|dep) w \d+ l "
+                  rb"\d+ gate \d+ low \d+ high \d+ at %s %s\n)*)" % (NUMBER, NUMBER))
+SLACKS = re.compile(rb"axis x pass \d+\n((?:cell %s size \d+\n(?:%s:%s least %s most %s slack \d+\n)*)+)axis y pass "
+                    rb"\d+\n((?:cell %s size \d+\n(?:%s:%s least %s most %s slack \d+\n)*)+)"
                     % (NAME, NAME, OWNER, NUMBER, NUMBER, NAME, NAME, OWNER, NUMBER, NUMBER))
 SLACK = re.compile(rb"\S+ least (%s) most (%s) slack (\d+)\n" % (NUMBER, NUMBER))
 JOGS = re.compile(rb"(?:jog \d+ %s (?:rejected|accepted \d+ -> \d+)\n)*" % NAME)
@@ -96,7 +107,8 @@ class Runner:
             _, code, used = os.wait4(pid, 0)
         signal.setitimer(signal.ITIMER_REAL, 0)
         took = time.monotonic() - began
-        self.runs, self.seconds, self.kilobytes = self.runs + 1, max(self.seconds, used.ru_utime), max(self.kilobytes, used.ru_maxrss)
+        self.runs, self.seconds, self.kilobytes = (self.runs + 1, max(self.seconds, used.ru_utime),
+                                                   max(self.kilobytes, used.ru_maxrss))
         out, err = (os.pread(stream, os.fstat(stream).st_size, 0) for stream in self.streams)
         status = os.waitstatus_to_exitcode(code)
         wrong = []
@@ -124,7 +136,8 @@ def walks_add_up(report):
         steps = STEPS.findall(part)
         if head[0] == b"cell" and not adds_up(steps, int(head[3]), b"0", head[1] + b"|"):
             return False
-        if b" unsatisfiable length " in part and not adds_up(steps, int(re.search(rb"length (\d+)", part)[1]), None, None):
+        excess = re.search(rb" unsatisfiable length (\d+)", part)
+        if excess and not adds_up(steps, int(excess[1]), None, None):
             return False
     return True
 
@@ -163,9 +176,11 @@ def form_faults(command, answer, text):
         found = NETS.fullmatch(out)
         good = found and not err and found[3].count(b"\n") == int(found[1]) and found[4].count(b"\n") == int(found[2])
     elif command == b"slack":
-        good = SLACKS.fullmatch(out) and not err and all(int(most) - int(least) == int(slack) for least, most, slack in SLACK.findall(out))
+        good = (SLACKS.fullmatch(out) and not err
+                and all(int(most) - int(least) == int(slack) for least, most, slack in SLACK.findall(out)))
     elif command == b"jog":
-        good = JOGS.fullmatch(err) and all(int(after) < int(before) for before, after in re.findall(rb"(\d+) -> (\d+)", err))
+        good = (JOGS.fullmatch(err)
+                and all(int(after) < int(before) for before, after in re.findall(rb"(\d+) -> (\d+)", err)))
     elif command == b"bench":
         good = re.fullmatch(rb"bench \d+ items \d+ kept \d+ \d+ size \d+ \d+ nets \d+ devices \d+\n", out) and not err
     else:
@@ -205,7 +220,8 @@ class Inputs:
         run = self.runner
         run.put("d", text)
         run.put("t", self.techs[rng.choice(sorted(self.techs))])
-        passes = [] if rng.random() < 0.7 else [b"--passes", b"".join(rng.choices([b"x", b"y"], k=rng.randint(0, 6))) + b"xy"]
+        passes = ([] if rng.random() < 0.7 else [b"--passes", b"".join(rng.choices([b"x", b"y"], k=rng.randint(0, 6)))
+                                                 + b"xy"])
         words = [b"compact", b"d", b"--tech", b"t", *passes]
         answer, wrong = self.ask(words, text)
         if answer.status == 0:
@@ -222,7 +238,8 @@ class Inputs:
             if self.ok([b"fmt", b"d"], wrong, "fmt of fmt", formatted.out).out != formatted.out:
                 wrong.append("fmt changes its own text")
             if answer.status != 7:
-                other = [b"compact", b"--tech=t", b"d", *passes] + rng.choice([[], [b"--split", b"%d" % rng.randint(1, 64)]])
+                other = ([b"compact", b"--tech=t", b"d", *passes]
+                         + rng.choice([[], [b"--split", b"%d" % rng.randint(1, 64)]]))
                 self.same(other, answer, wrong, "compact of the canonical text", formatted.out)
         elif answer.status != 7 and answer.status > 0 and answer.status != 5:
             wrong.append("compact reads what fmt refuses")
@@ -230,7 +247,9 @@ class Inputs:
         return answer, wrong
 
     def moved(self, rng, text, compacted, passes):
-        """What is wrong with how `slack` and `jog` answer over the same files: refused as `compact` is, and a jogged design is laid out."""
+        """What is wrong with how `slack` and `jog` answer over the same files: refused as `compact` is, and a jogged
+        design is laid out.
+        """
         run, wrong = self.runner, []
         slack, faults = self.ask([b"slack", b"d", b"--tech", b"t", *passes], text)
         wrong += faults
@@ -246,9 +265,11 @@ class Inputs:
             run.put("j", jog.out)
             answer = self.ok([b"compact", b"j", b"--tech", b"t", *passes], wrong, "compact after jogs", jog.out)
             accepted = re.findall(rb"jog \d+ (\S+) accepted \d+ -> (\d+)\n", jog.err)
-            sizes = dict(re.findall(rb"^cell (\S+) size (\d+)", last_on_x(answer.err), re.M)) if answer.status == 0 else {}
+            sizes = (dict(re.findall(rb"^cell (\S+) size (\d+)", last_on_x(answer.err), re.M)) if answer.status == 0
+                     else {})
             before = dict(re.findall(rb"^cell (\S+) size (\d+)", last_on_x(compacted.err), re.M))
-            if answer.status == 0 and not all(sizes[cell] == after for cell, after in dict(accepted).items() if not any(cell != c for c, _ in accepted)):
+            if (answer.status == 0 and not all(sizes[cell] == after for cell, after in dict(accepted).items()
+                                               if not any(cell != c for c, _ in accepted))):
                 wrong.append("another width than the one told")
             if answer.status == 0 and any(int(sizes[cell]) > int(before[cell]) for cell in before):
                 wrong.append("a wider cell")
@@ -306,7 +327,8 @@ class Inputs:
 
     def make(self, rng):
         """One input: its kind, the answer and what is wrong."""
-        kind = rng.choices(["changed design", "made design", "technology", "changed cif", "made cif", "words"], [30, 25, 13, 12, 10, 10])[0]
+        kind = rng.choices(["changed design", "made design", "technology", "changed cif", "made cif", "words"],
+                           [30, 25, 13, 12, 10, 10])[0]
         if kind == "changed design":
             found = self.design(rng, fuzz_texts.mutated_design(rng, self.designs))
         elif kind == "made design":
@@ -346,12 +368,15 @@ def main():
             shutil.copytree(runner.folder, folder)
             print("input %d, %s: %s" % (number, kind, "; ".join(wrong)), flush=True)
         if (number + 1 - asked.first) % 10000 == 0:
-            print("%d inputs, %d runs, %.0f s, %d found" % (number + 1 - asked.first, runner.runs, time.monotonic() - began, found), flush=True)
+            so_far = (number + 1 - asked.first, runner.runs, time.monotonic() - began, found)
+            print("%d inputs, %d runs, %.0f s, %d found" % so_far, flush=True)
     shutil.rmtree(runner.folder)
     for kind in sorted({kind for kind, _ in answers}):
-        print(kind + ": " + ", ".join("%d with %d" % (n, status) for (k, status), n in sorted(answers.items()) if k == kind))
+        print(kind + ": " + ", ".join("%d with %d" % (n, status) for (k, status), n in sorted(answers.items())
+                                      if k == kind))
     print("seed %d: %d inputs from %d on, %d runs in %.0f s; at most %.2f s of user time and %d MB"
-          % (asked.seed, asked.count, asked.first, runner.runs, time.monotonic() - began, runner.seconds, runner.kilobytes // 1024))
+          % (asked.seed, asked.count, asked.first, runner.runs, time.monotonic() - began, runner.seconds,
+             runner.kilobytes // 1024))
     print("%d found" % found)
     return 1 if found else 0
 

@@ -1,14 +1,19 @@
 """The inputs of fuzz.py: changed files, and texts made from nothing but a generator of random numbers."""
 import os, re
 
-NUMBERS = [0, 1, 2, 3, 4, 5, 6, 8, 9, 10, 12, 16, 24, 75, 150, 255, 256, 1200, 4094, 4095, 4096, 4097, 65535, 65536, 65537, 999999, 1000000, 1000001,
-           2 ** 29, 2 ** 30, 2 ** 30 + 1, 2 ** 31 - 1, 2 ** 31, 2 ** 32, 2 ** 53, 2 ** 63 - 1, 2 ** 63, 2 ** 64, 10 ** 30]
-BYTES = [b"\0", b"\n", b"\r", b"\r\n", b"\t", b" ", b"#", b".", b"-", b"<", b">=", b"<=", b";", b"(", b")", b"((", b'"', b"'", b"=", b"[", b"]", b"{", b"}", b",",
+NUMBERS = [0, 1, 2, 3, 4, 5, 6, 8, 9, 10, 12, 16, 24, 75, 150, 255, 256, 1200, 4094, 4095, 4096, 4097, 65535, 65536,
+           65537, 999999, 1000000, 1000001,
+           2 ** 29, 2 ** 30, 2 ** 30 + 1, 2 ** 31 - 1, 2 ** 31, 2 ** 32, 2 ** 53, 2 ** 63 - 1, 2 ** 63, 2 ** 64,
+           10 ** 30]
+BYTES = [b"\0", b"\n", b"\r", b"\r\n", b"\t", b" ", b"#", b".", b"-", b"<", b">=", b"<=", b";", b"(", b")", b"((",
+         b'"', b"'", b"=", b"[", b"]", b"{", b"}", b",",
          b"\x7f", b"\x80", b"\xff", b"\xc3\xa4", b"\xef\xbb\xbf", b"_", b"0", b"E", b"A" * 33, b"[" * 81]
-DESIGN_WORDS = (b"sticks 1 2 cell end grid row joint contact buried fet port use wire limit diff poly metal enh dep h v left right bottom top x y <= >= "
+DESIGN_WORDS = (b"sticks 1 2 cell end grid row joint contact buried fet port use wire limit diff poly metal enh dep h "
+                b"v left right bottom top x y <= >= "
                 b"a b p q in out a.b u.p u.u.p").split()
 CIF_WORDS = b"DS DF DD L B C T M X Y R E P W 9 ND NP NC NM NI NB XX ; ( ) -".split()
-TECH_WORDS = (b"version unit width spacing extension cut diffusion poly metal poly_diffusion cut_channel implant_channel implant size enclosure buried "
+TECH_WORDS = (b"version unit width spacing extension cut diffusion poly metal poly_diffusion cut_channel "
+              b"implant_channel implant size enclosure buried "
               b"buried_channel true 1.5 nan inf 1979-05-27 [ ] [[ ]] { } = . , \"\" ''").split()
 TOKEN = re.compile(rb"[A-Za-z_.]+|\d+|\s+|[^A-Za-z_.\d\s]")
 
@@ -34,7 +39,8 @@ def number(rng):
 def near(rng, digits):
     """A number near this one, or another one."""
     n = int(digits) if len(digits) < 30 else 0
-    return rng.choice([b"%d" % (n + 1), b"%d" % max(0, n - 1), b"%d" % (2 * n), b"0" + digits, b"-" + digits, number(rng), number(rng)])
+    return rng.choice([b"%d" % (n + 1), b"%d" % max(0, n - 1), b"%d" % (2 * n), b"0" + digits, b"-" + digits,
+                       number(rng), number(rng)])
 
 
 def by_bytes(rng, text):
@@ -111,7 +117,8 @@ def mutated_design(rng, texts):
 def mutated_tech(rng, texts):
     if rng.random() < 0.05:
         depth = rng.choice([1, 79, 80, 81, 1000, 20000])
-        text = rng.choice([b"a = " + b"[" * depth + b"]" * depth, b"a = " + b"{a=" * depth + b"1" + b"}" * depth, b"[" * depth, b"[" + b"a." * depth + b"a]", b"a." * depth + b"a = 1"])
+        text = rng.choice([b"a = " + b"[" * depth + b"]" * depth, b"a = " + b"{a=" * depth + b"1" + b"}" * depth,
+                           b"[" * depth, b"[" + b"a." * depth + b"a]", b"a." * depth + b"a = 1"])
         return text[:65536]
     return mutated(rng, texts, TECH_WORDS, b"\n")
 
@@ -120,10 +127,12 @@ def mutated_cif(rng, texts):
     return mutated(rng, texts, CIF_WORDS, rng.choice([b";", b"\n"]))
 
 
-# A made design: cells of nodes on a small square, wires between neighbours in a line, ports, limits and uses; mostly without a fault.
+# A made design: cells of nodes on a small square, wires between neighbours in a line, ports, limits and uses; mostly
+# without a fault.
 
 def pad_layers(node):
-    return {"metal": ["metal"], "poly": ["poly"], "diff": ["diff"], "cd": ["metal", "diff"], "cp": ["metal", "poly"], "buried": ["poly", "diff"],
+    return {"metal": ["metal"], "poly": ["poly"], "diff": ["diff"], "cd": ["metal", "diff"], "cp": ["metal", "poly"],
+            "buried": ["poly", "diff"],
             "h": ["poly", "diff"], "v": ["poly", "diff"]}[node]
 
 
@@ -136,7 +145,8 @@ def node_line(rng, kind, name, col, row):
         return "contact %s %s %d %d" % (name, "diff" if kind == "cd" else "poly", col, row)
     if kind == "buried":
         return "buried %s %d %d" % (name, col, row)
-    return "fet %s %s %s %d %d %d %d" % (name, rng.choice(["enh", "dep"]), kind, col, row, 4 + 2 * rng.randint(0, 4), 4 + 2 * rng.randint(0, 3))
+    return "fet %s %s %s %d %d %d %d" % (name, rng.choice(["enh", "dep"]), kind, col, row, 4 + 2 * rng.randint(0, 4),
+                                         4 + 2 * rng.randint(0, 3))
 
 
 def made_wires(rng, nodes, spread):
@@ -163,13 +173,15 @@ def made_ports(rng, nodes, prefix):
             side, layer = rng.choice(["left", "right", "bottom", "top"]), rng.choice(pad_layers(kind))
             port = "%s%d" % (prefix, len(ports))
             ports.append("port %s %s %s %d" % (port, side, layer, row if side in ("left", "right") else col))
-            wires.append("wire %s %s" % (layer, "%s %s" % ((port, name) if side in ("left", "bottom") else (name, port))))
+            wires.append("wire %s %s"
+                         % (layer, "%s %s" % ((port, name) if side in ("left", "bottom") else (name, port))))
     return ports, wires
 
 
 def made_cell(rng, name, earlier):
     side = rng.randint(1, 6)
-    kinds = rng.choice([["metal"], ["metal", "poly"], ["metal", "poly", "diff", "cd", "cp", "h", "v"], ["metal", "poly", "diff", "cd", "cp", "h", "v", "buried"]])
+    kinds = rng.choice([["metal"], ["metal", "poly"], ["metal", "poly", "diff", "cd", "cp", "h", "v"],
+                        ["metal", "poly", "diff", "cd", "cp", "h", "v", "buried"]])
     places = [(c, r) for c in range(side) for r in range(side)]
     chosen = rng.sample(places, rng.randint(0, min(len(places), 14)))
     nodes = {at: ("n%d" % k, rng.choice(kinds)) for k, at in enumerate(chosen)}
@@ -184,7 +196,8 @@ def made_cell(rng, name, earlier):
     limits = []
     if len(names) > 1:
         for _ in range(rng.choice([0, 0, 0, 1, 3])):
-            limits.append("limit %s %s %s %s %d" % (rng.choice("xy"), *rng.sample(names, 2), rng.choice(["<=", ">="]), rng.randint(-40, 60)))
+            limits.append("limit %s %s %s %s %d" % (rng.choice("xy"), *rng.sample(names, 2), rng.choice(["<=", ">="]),
+                                                    rng.randint(-40, 60)))
     body = lines + ports + uses + wires + port_wires + limits
     return "cell %s\n%send\n" % (name, "".join(line + "\n" for line in body)), names, bool(ports)
 
@@ -192,9 +205,12 @@ def made_cell(rng, name, earlier):
 def script(rng, design):
     """A script of jogs in cells of a design, mostly without a fault."""
     cells = re.findall(rb"^\s*cell\s+(\S+)", design, re.M) or [b"c"]
-    lines = [b"jog %s %d %d %s" % (rng.choice(cells), rng.randint(0, 6), rng.randint(0, 5), rng.choice([b"left", b"right"])) for _ in range(rng.choice([0, 1, 1, 2, 4, 8]))]
+    lines = [b"jog %s %d %d %s" % (rng.choice(cells), rng.randint(0, 6), rng.randint(0, 5),
+                                   rng.choice([b"left", b"right"])) for _ in range(rng.choice([0, 1, 1, 2, 4, 8]))]
     if rng.random() < 0.15:
-        lines.insert(rng.randint(0, len(lines)), rng.choice([b"jog", b"jog c 0 0 up", b"# jog", b"", b"jog c -1 0 left", b"jog c 1000001 0 left", b"jog a.b 0 0 left", b"jog none 0 0 left", b"\xff"]))
+        lines.insert(rng.randint(0, len(lines)),
+                     rng.choice([b"jog", b"jog c 0 0 up", b"# jog", b"", b"jog c -1 0 left", b"jog c 1000001 0 left",
+                                 b"jog a.b 0 0 left", b"jog none 0 0 left", b"\xff"]))
     return b"".join(line + rng.choice([b"\n", b"\n", b"\r\n"]) for line in lines)
 
 
@@ -219,7 +235,8 @@ def made_design(rng):
 
 def made_box(rng, layer):
     if layer == "NC":
-        return "B %d %d %d %d;" % (*rng.choice([(1200, 1200)] * 9 + [(1200, 600)]), 300 * rng.randint(-12, 12), 300 * rng.randint(-12, 12))
+        return "B %d %d %d %d;" % (*rng.choice([(1200, 1200)] * 9 + [(1200, 600)]), 300 * rng.randint(-12, 12),
+                                   300 * rng.randint(-12, 12))
     short, long = 300 * rng.randint(3, 8), 300 * rng.randint(4, 20)
     width = (short, long) if rng.random() < 0.5 else (long, short)
     return "B %d %d %d %d;" % (*width, 150 * rng.randint(-30, 30), 150 * rng.randint(-30, 30))
@@ -243,7 +260,8 @@ def made_cif(rng):
         texts.append("DS %d%s;%sDF;" % (k + 1, scale, made_boxes(rng, 8)))
     texts.append(made_boxes(rng, rng.choice([2, 4, 12])))
     for _ in range(rng.randint(0, 5) if symbols else 0):
-        shifts = "".join(" T %d %d" % (150 * rng.randint(-60, 60), 150 * rng.randint(-60, 60)) for _ in range(rng.randint(0, 2)))
+        shifts = "".join(" T %d %d" % (150 * rng.randint(-60, 60), 150 * rng.randint(-60, 60))
+                         for _ in range(rng.randint(0, 2)))
         texts.append("C %d%s;" % (rng.randint(1, symbols), shifts))
     texts.append("E")
     return "\n".join(texts).encode()
@@ -251,10 +269,14 @@ def made_cif(rng):
 
 # Words.
 
-WORDS = (b"compact check extract fmt bench slack jog edit help version --help --version -h -V d d d t t c c --tech --tech --tech=t --tech= --tech=none "
-         b"--passes --passes=xy --passes=x xy yx xyxyxyxyxyxyxyxy xyxyxyxyxyxyxyxyx --split --split=1 --split=64 --split=65 --split=064 0 1 2 3 12 64 65 064 999 1000 -1 "
-         b"- -- --- -x none . /dev/null /dev/zero \xff \xc3\xa4").split() + [b"", b" ", b"d ", b"a" * 5000, b"=", b"--=", b"\n"]
-GOOD = [b"compact d --tech t", b"compact --tech t d --passes yx --split 3", b"check c --tech t", b"extract --tech=t c", b"fmt d", b"bench 1", b"bench 3"]
+WORDS = (b"compact check extract fmt bench slack jog edit help version --help --version -h -V d d d t t c c --tech "
+         b"--tech --tech=t --tech= --tech=none "
+         b"--passes --passes=xy --passes=x xy yx xyxyxyxyxyxyxyxy xyxyxyxyxyxyxyxyx --split --split=1 --split=64 "
+         b"--split=65 --split=064 0 1 2 3 12 64 65 064 999 1000 -1 "
+         b"- -- --- -x none . /dev/null /dev/zero \xff \xc3\xa4").split() + [b"", b" ", b"d ", b"a" * 5000, b"=",
+                 b"--=", b"\n"]
+GOOD = [b"compact d --tech t", b"compact --tech t d --passes yx --split 3", b"check c --tech t", b"extract --tech=t c",
+        b"fmt d", b"bench 1", b"bench 3"]
 
 
 def words(rng):

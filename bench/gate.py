@@ -1,12 +1,14 @@
 #!/usr/bin/env python3
 """Tells what a run of the gate from nothing costs: gate.py [NAME..]
 
-It runs `rt ci --anew` in a fresh clone of what is committed here, in a folder for the time being (TMPDIR says where: it takes up to 10 GB), over all
-crates, or over the crates NAME.. and those below them. What rt prints goes to standard error. Twice a second it looks at each process below rt and notes
-what processor time it has used: a `rattle` goes to its crate, and to edits where it runs on an edited copy, to tests where it was started with --test, and
-else to proofs; what it starts goes with it. The table has a row for each crate, in processor minutes, the most first, and the sums. `not noted` is what the
-system counts for the whole run besides: rt itself, the programs and tests as they run, and what was used after the last look at a process.
-The last lines are the minutes that the clock went on, and rt's own last line; the status is that of rt.
+It runs `rt ci --anew` in a fresh clone of what is committed here, in a folder for the time being (TMPDIR says where: it
+takes up to 10 GB), over all crates, or over the crates NAME.. and those below them. What rt prints goes to standard
+error. Twice a second it looks at each process below rt and notes what processor time it has used: a `rattle` goes to
+its crate, and to edits where it runs on an edited copy, to tests where it was started with --test, and else to proofs;
+what it starts goes with it. The table has a row for each crate, in processor minutes, the most first, and the sums.
+`not noted` is what the system counts for the whole run besides: rt itself, the programs and tests as they run, and what
+was used after the last look at a process. The last lines are the minutes that the clock went on, and rt's own last
+line; the status is that of rt.
 """
 import os
 import re
@@ -95,7 +97,8 @@ class Run:
     def __init__(self, names, folder):
         self.last, self.begun = "", time.time()
         self.child = subprocess.Popen(
-            ["rt", "ci", "--anew", *names], cwd=folder, stdin=subprocess.DEVNULL, stdout=subprocess.PIPE, stderr=subprocess.STDOUT, text=True, errors="replace"
+            ["rt", "ci", "--anew", *names], cwd=folder, stdin=subprocess.DEVNULL, stdout=subprocess.PIPE,
+            stderr=subprocess.STDOUT, text=True, errors="replace"
         )
         self.reader = threading.Thread(target=self.read, daemon=True)
         self.reader.start()

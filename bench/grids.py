@@ -1,18 +1,20 @@
 #!/usr/bin/env python3
 """Times `compact` on grids: grids.py [PROGRAM]
 
-Each line gives the least of three times, and what the report says of the first pass. A grid should cost hardly more than its masters do: nothing is
-done for an instance but its call, and a plan takes time linear in its names and in the ports of its cells. `one` is the example inverter by itself.
+Each line gives the least of three times, and what the report says of the first pass. A grid should cost hardly more
+than its masters do: nothing is done for an instance but its call, and a plan takes time linear in its names and in the
+ports of its cells. `one` is the example inverter by itself.
   inverter  a square of inverters; 170 x 170 have 1,011,500 mask boxes
   full      1,024 names in one row, of a cell with 1,024 joints: as many mask boxes as there may be
 The others are designs of up to 1,048,576 bytes, as long as one may be:
   names     one row of an empty cell, half a million times
   square    as many rows as names in a row, of a cell with one joint
   pairs     one row of 256 cells that hand one wire on, in which each of them stands beside each, if there is room
-  ports     one row of a cell whose text has half the bytes and is all ports; it has too many mask boxes, so its plan alone is made
+  ports     one row of a cell whose text has half the bytes and is all ports; it has too many mask boxes, so its plan
+            alone is made
   grids     as many grids of one instance as there is room for
 """
-import itertools, os, tempfile
+import itertools, os, sys, tempfile
 from compact import HERE, TECH, run
 
 INVERTER = os.path.join(HERE, "..", "examples", "inverter.sticks")
@@ -54,7 +56,8 @@ def square(room):
 
 def pairs(room):
     cells = (list(LETTERS) + [a + b for a in LETTERS for b in LETTERS])[:256]
-    texts = "".join("cell %s\nport l left metal 0\nport r right metal 0\nwire metal l r\nend\n" % cell for cell in cells)
+    texts = "".join("cell %s\nport l left metal 0\nport r right metal 0\nwire metal l r\nend\n" % cell
+                    for cell in cells)
     left, row = room - len(design(texts, [[]])), []
     for a, b in itertools.cycle(itertools.product(cells, cells)):
         left -= len(a) + len(b) + 2
@@ -67,7 +70,8 @@ def ports(room):
     lines, left = [], room // 2
     for k in range(8192):
         layer = ("metal", "poly")[k % 2]
-        line = "port l%d left %s %d\nport r%d right %s %d\nwire %s l%d r%d\n" % (k, layer, k // 2, k, layer, k // 2, layer, k, k)
+        line = "port l%d left %s %d\nport r%d right %s %d\nwire %s l%d r%d\n" % (k, layer, k // 2, k, layer, k // 2,
+                layer, k, k)
         left -= len(line)
         if left < 0:
             break
@@ -105,4 +109,7 @@ def main():
 
 
 if __name__ == "__main__":
+    if sys.argv[1:2] in (["--help"], ["-h"]):
+        print(__doc__.strip())
+        sys.exit()
     main()

@@ -1,10 +1,13 @@
 #!/usr/bin/env python3
 """Times `check` and `extract` on CIF texts that are made to be slow: hostile.py [SHARE [PROGRAM]]
 
-Each text has 1,048,576 boxes (or that many divided by SHARE), as many as the program takes, and often a few hundred bytes: symbols of many boxes that are called many times. Their boxes lie on one another, so that pairs
-of near boxes number up to 2^39. Two texts besides have many calls of a symbol that draws nothing. Each line gives the seconds and the most memory (peak resident set, in MB) of `check` and of `extract`, how each ended, and
-how many times as long as in one piece `check` takes in 2 and in 64 pieces, by the clock or by the processor, whichever is less. The first line is a plain text of as many boxes that lie apart; the last line tells how many
-times as long the slowest took. A run ends after 120 seconds of the processor. The status is 1, and the line ends with SLOW, where a text
+Each text has 1,048,576 boxes (or that many divided by SHARE), as many as the program takes, and often a few hundred
+bytes: symbols of many boxes that are called many times. Their boxes lie on one another, so that pairs of near boxes
+number up to 2^39. Two texts besides have many calls of a symbol that draws nothing. Each line gives the seconds and the
+most memory (peak resident set, in MB) of `check` and of `extract`, how each ended, and how many times as long as in one
+piece `check` takes in 2 and in 64 pieces, by the clock or by the processor, whichever is less. The first line is a
+plain text of as many boxes that lie apart; the last line tells how many times as long the slowest took. A run ends
+after 120 seconds of the processor. The status is 1, and the line ends with SLOW, where a text
   takes more than ten times as long as the plain one and more than ten seconds, or more than 400 MB,
   takes more than 1.5 times as long in some number of pieces as in one, and a fifth of a second more, or
   takes more than twice as long as its twin in TWINS, and a fifth of a second more.
@@ -17,7 +20,8 @@ TECHS = [os.path.join(ROOT, "examples", name) for name in ("nmos.toml", "nmos2.t
 U = 150  # hundredths of a micron
 SPLITS = (2, 64)
 LONGEST = 120  # seconds of the processor
-# Texts with the same boxes and as many commands as another: a symbol that draws nothing is called no more often for being called where a box is.
+# Texts with the same boxes and as many commands as another: a symbol that draws nothing is called no more often for
+# being called where a box is.
 TWINS = {"calls of nothing, inside": "calls of nothing, outside"}
 
 
@@ -78,7 +82,8 @@ def texts(n):
     text = Text()
     rows, half = min(n * n // 2, wide // 12), n * n // 2
     for turned in (False, True):
-        bars = [("NM", *((0, wide, 12 * i, 12 * i + 6) if not turned else (12 * i, 12 * i + 6, 0, wide))) for i in range(min(n, rows))]
+        bars = [("NM", *((0, wide, 12 * i, 12 * i + 6) if not turned else (12 * i, 12 * i + 6, 0, wide)))
+                for i in range(min(n, rows))]
         symbol = text.symbol(bars)
         for j in range(half // len(bars)):
             place = 12 * len(bars) * (j % max(1, rows // len(bars)))
@@ -86,13 +91,16 @@ def texts(n):
     yield "crossing bars of metal", 0, text
     text = Text()
     for turned, layer in ((False, "NM"), (True, "NP")):
-        symbol = text.symbol([(layer, *((0, wide, 12 * i, 12 * i + 6) if not turned else (12 * i, 12 * i + 6, 0, wide))) for i in range(n)])
+        symbol = text.symbol(
+            [(layer, *((0, wide, 12 * i, 12 * i + 6) if not turned else (12 * i, 12 * i + 6, 0, wide)))
+             for i in range(n)])
         for j in range(n // 2):
             text.call(symbol, *((0, 12 * n * (j % 64)) if not turned else (12 * n * (j % 64), 0)))
     yield "bars of metal and poly", 0, text
     text = Text()
     for j in range(n):
-        text.call(text.symbol([("NM", -10 - j * n - i, 10 + j * n + i, -10 - j * n - i, 10 + j * n + i) for i in range(n)]))
+        text.call(text.symbol([("NM", -10 - j * n - i, 10 + j * n + i, -10 - j * n - i, 10 + j * n + i)
+                               for i in range(n)]))
     yield "nested", 0, text
     yield "one column, overlapping", 0, array(("NM", 0, 20, 0, 20), n, n, ((0, 2), (0, 2 * n)))
     text = Text()
@@ -132,13 +140,15 @@ def texts(n):
     for j in range(16):
         boxes = []
         for _ in range(n):
-            x, y, l, w = rng.randrange(0, 40 * n), rng.randrange(0, 40 * n), 2 * rng.randrange(3, 200), 2 * rng.randrange(3, 200)
+            x, y, l, w = rng.randrange(0, 40 * n), rng.randrange(0, 40 * n), 2 * rng.randrange(
+                3, 200), 2 * rng.randrange(3, 200)
             boxes.append(("NM", x, x + l, y, y + w))
         symbol = text.symbol(boxes)
         for _ in range(n // 16):
             text.call(symbol, rng.randrange(0, 400 * n), rng.randrange(0, 400 * n))
     yield "random, crowded", 0, text
-    # The partner of each box, which is too near, stands half the text behind it: so all that break a rule with a box of the later half stand before it.
+    # The partner of each box, which is too near, stands half the text behind it: so all that break a rule with a box of
+    # the later half stand before it.
     text = array(metal, n, n // 2, ((80, 0), (0, 40)))
     for j in range(n // 2):
         text.call(1, 20, 40 * j, more=1)
@@ -147,7 +157,8 @@ def texts(n):
     for name, inside in (("calls of nothing, outside", False), ("calls of nothing, inside", True)):
         text, nothing = Text(), "C 1;" * many
         text.symbol([])
-        text.parts += ["DS 2;", text.boxes([metal]), nothing if inside else "", "DF;", "" if inside else nothing, "C 2;" * many]
+        text.parts += ["DS 2;", text.boxes([metal]), nothing if inside else "", "DF;", "" if inside else nothing,
+                       "C 2;" * many]
         yield name, 0, text
 
 
@@ -186,7 +197,8 @@ def main():
                 slow |= name in TWINS and user > 2 * of[TWINS[name], word][1] + 0.2
                 line += f"  {word} {user:6.2f} s {held:4} MB  {said:24}"
             for split in SPLITS:
-                in_one, (took, user, _, said) = of[name, "check"], measured(["check", file, "--tech", TECHS[kind], "--split", str(split)], program)
+                in_one, (took, user, _, said) = of[name, "check"], measured(
+                    ["check", file, "--tech", TECHS[kind], "--split", str(split)], program)
                 slow |= took > 1.5 * in_one[0] + 0.2 and user > 1.5 * in_one[1] + 0.2
                 line += f"  split {split} {min(took / in_one[0], user / max(in_one[1], 0.001)):5.1f}"
             any_slow |= slow
@@ -196,4 +208,7 @@ def main():
 
 
 if __name__ == "__main__":
+    if sys.argv[1:2] in (["--help"], ["-h"]):
+        print(__doc__.strip())
+        sys.exit()
     main()

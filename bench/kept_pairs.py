@@ -1,11 +1,14 @@
 #!/usr/bin/env python3
 """Counts the kept pairs of generated cells, apart from the program: kept_pairs.py
 
-A cell has five by five points, and on each a metal joint, a poly joint, a diffusion contact or nothing, by its number. For each of
-twelve cells and each axis it prints the edges, the size and the kept pairs of a first pass, which crates/run_tests has typed in.
-It tries all pairs of items, and for each candidate all items between.
+A cell has five by five points, and on each a metal joint, a poly joint, a diffusion contact or nothing, by its number.
+For each of twelve cells and each axis it prints the edges, the size and the kept pairs of a first pass, which
+crates/run_tests has typed in. It tries all pairs of items, and for each candidate all items between.
 """
-# The spacing of two classes, in units of the grid, under the technology that comes with the program. Every node is a net of its own.
+import sys
+
+# The spacing of two classes, in units of the grid, under the technology that comes with the program. Every node is a
+# net of its own.
 SPACING = {("M", "M"): 6, ("P", "P"): 4, ("Dc", "Dc"): 6, ("P", "Dm"): 2, ("Dm", "P"): 2, ("C", "C"): 4}
 MARGIN = {"M": 6, "P": 4, "Dc": 6, "Dm": 2, "C": 4}
 # The squares of a node, by class and half size.
@@ -66,6 +69,10 @@ def first_pass(nodes, along, across):
     return 1 + 2 * len(items) + len(kept), size, len(kept)
 
 
-for number in range(12):
-    nodes = nodes_of(number)
-    print(number, *first_pass(nodes, 1, 2), *first_pass(nodes, 2, 1))
+if __name__ == "__main__":
+    if sys.argv[1:2] in (["--help"], ["-h"]):
+        print(__doc__.strip())
+        sys.exit()
+    for number in range(12):
+        nodes = nodes_of(number)
+        print(number, *first_pass(nodes, 1, 2), *first_pass(nodes, 2, 1))

@@ -1,8 +1,9 @@
 #!/usr/bin/env python3
 """Runs the program at its limits and one past them, on texts too large for a test: limits.py [PROGRAM]
 
-Each line has what was tried, how it was answered, the user seconds, and the most memory that the program held, in MB (some 15 MB are those of this script). A line
-that is not answered as it has to be ends with 'WRONG'; the last line is 'N wrong', and the status 1 where N is not 0."""
+Each line has what was tried, how it was answered, the user seconds, and the most memory that the program held, in MB
+(some 15 MB are those of this script). A line that is not answered as it has to be ends with 'WRONG'; the last line is
+'N wrong', and the status 1 where N is not 0."""
 import os, resource, shutil, sys, tempfile
 from compact import PROGRAM, TECH
 
@@ -19,7 +20,8 @@ def one_cell(body):
 
 
 def copies(n):
-    return ("sticks 1\ncell a\n" + joints(n, 16) + "end\ncell b\n" + "".join("use u%d a %d %d\n" % (k, k % 16 * 16, k // 16 * 16) for k in range(256))
+    return ("sticks 1\ncell a\n" + joints(n, 16) + "end\ncell b\n"
+            + "".join("use u%d a %d %d\n" % (k, k % 16 * 16, k // 16 * 16) for k in range(256))
             + "end\ngrid\nrow b\nend\n")
 
 
@@ -38,7 +40,8 @@ def columns(n):
 
 def wires(n):
     """A row of cells of one wire each, from border to border."""
-    return "sticks 1\ncell f\nport l left metal 0\nport r right metal 0\nwire metal l r\nend\ngrid\nrow" + " f" * n + "\nend\n"
+    return ("sticks 1\ncell f\nport l left metal 0\nport r right metal 0\nwire metal l r\nend\ngrid\nrow" + " f" * n
+            + "\nend\n")
 
 
 def filled(text, length, filling):
@@ -65,7 +68,8 @@ def symbols(length):
 
 def apart(n):
     """Metal boxes, each apart from all others, in rows of 1,024."""
-    return "DS 1;L NM;" + "".join("B 900 900 %d 0;" % (2000 * k) for k in range(1024)) + "DF;" + "".join("C 1 T 0 %d;" % (2000 * k) for k in range(n)) + "E"
+    return ("DS 1;L NM;" + "".join("B 900 900 %d 0;" % (2000 * k) for k in range(1024)) + "DF;"
+            + "".join("C 1 T 0 %d;" % (2000 * k) for k in range(n)) + "E")
 
 
 NO_BOXES = (9, b"sticks: too large: boxes\n")
@@ -87,10 +91,12 @@ ROWS = [
     ("67,108,864 bytes of CIF, blanks", CHECK, lambda: filled(("E", ""), CIF, " "), 0, b""),
     ("67,108,865 bytes of CIF", CHECK, lambda: filled(("E", ""), CIF + 1, " "), 5, b"sticks: too long: cif\n"),
     ("67,108,864 bytes of CIF, calls of nothing", CHECK, lambda: filled(("DS1;DF;", "E"), CIF, "C1;"), 0, b""),
-    ("67,108,864 bytes of CIF, boxes of no layer that counts", CHECK, lambda: filled(("LX;", "E"), CIF, "B2 2 0 0;"), 0, b""),
+    ("67,108,864 bytes of CIF, boxes of no layer that counts", CHECK, lambda: filled(("LX;", "E"), CIF, "B2 2 0 0;"),
+     0, b""),
     ("67,108,864 bytes of CIF, boxes", CHECK, lambda: filled(("LNI;", "E"), CIF, "B2 2 0 0;"), *NO_BOXES),
     ("67,108,864 bytes of CIF, symbols", CHECK, lambda: symbols(CIF), 0, b""),
-    ("67,108,864 bytes of CIF, open parentheses", CHECK, lambda: filled(("", ""), CIF, "("), 12, b"sticks: byte 67108864: NoEnd\n"),
+    ("67,108,864 bytes of CIF, open parentheses", CHECK, lambda: filled(("", ""), CIF, "("), 12,
+     b"sticks: byte 67108864: NoEnd\n"),
 ]
 
 
@@ -128,11 +134,15 @@ def main():
             ended, out, err, seconds, megabytes = run(words)
             good = ended == status and err.startswith(report) and (status == 0) == bool(out)
             wrong += not good
-            print("%-58s %3d, %.2f s, %4d MB%s" % (what, ended, seconds, megabytes, "" if good else " WRONG %r" % err[:80]), flush=True)
+            print("%-58s %3d, %.2f s, %4d MB%s" % (what, ended, seconds, megabytes, "" if good else " WRONG %r"
+                                                   % err[:80]), flush=True)
         os.chdir("/")
     print("%d wrong" % wrong)
     return 1 if wrong else 0
 
 
 if __name__ == "__main__":
+    if sys.argv[1:2] in (["--help"], ["-h"]):
+        print(__doc__.strip())
+        sys.exit()
     sys.exit(main())

@@ -1,8 +1,9 @@
 #!/usr/bin/env python3
 """Counts what stands in the crates: lines.py [FOLDER]
 
-For each crate its lines of code, tests, definitions and proofs and its must-fail edits; then the sums, the longest chain of crates,
-and the chain on which most lines stand, which is what a first proof cannot do side by side. FOLDER is a checkout, this one if none is given.
+For each crate its lines of code, tests, definitions and proofs and its must-fail edits; then the sums, the longest
+chain of crates, and the chain on which most lines stand, which is what a first proof cannot do side by side. FOLDER is
+a checkout, this one if none is given.
 """
 import glob, os, sys
 
@@ -17,12 +18,14 @@ def code_and_tests(crate):
     code = tests = 0
     files = lines_of(f"{TOP}/crates/{crate}/src/**/*.rt")
     roots = [lines for path, lines in files.items() if os.path.basename(path) in ("lib.rt", "main.rt")]
-    modules = {lines[k + 1][len("mod "):-1] for lines in roots for k in range(len(lines) - 1) if lines[k] == "#[cfg(test)]" and lines[k + 1].endswith(";")}
+    modules = {lines[k + 1][len("mod "):-1] for lines in roots for k in range(len(lines) - 1)
+               if lines[k] == "#[cfg(test)]" and lines[k + 1].endswith(";")}
     for path, lines in files.items():
         if os.path.relpath(path, f"{TOP}/crates/{crate}/src").removesuffix(".rt").split(os.sep)[0] in modules:
             tests += len(lines)
             continue
-        begin = next((k for k in range(len(lines) - 1) if lines[k] == "#[cfg(test)]" and lines[k + 1].startswith("mod tests {")), len(lines))
+        begin = next((k for k in range(len(lines) - 1) if lines[k] == "#[cfg(test)]"
+                      and lines[k + 1].startswith("mod tests {")), len(lines))
         code += begin
         tests += len(lines) - begin
     return code, tests
@@ -58,7 +61,8 @@ def main():
         rows[name] = (code, tests, count(name, "specs"), count(name, "proofs"), edits)
     print("%-14s %7s %7s %12s %7s %7s %6s" % ("crate", "code", "tests", "definitions", "proofs", "lines", "edits"))
     for name, (code, tests, specs, proofs, edits) in sorted(rows.items()):
-        print("%-14s %7d %7d %12d %7d %7d %6d" % (name, code, tests, specs, proofs, code + tests + specs + proofs, edits))
+        print("%-14s %7d %7d %12d %7d %7d %6d" % (name, code, tests, specs, proofs, code + tests + specs + proofs,
+                                                  edits))
     sums = [sum(row[k] for row in rows.values()) for k in range(5)]
     print("%-14s %7d %7d %12d %7d %7d %6d" % ("all", *sums[:4], sum(sums[:4]), sums[4]))
     known, long = {}, {}
@@ -69,4 +73,7 @@ def main():
 
 
 if __name__ == "__main__":
+    if sys.argv[1:2] in (["--help"], ["-h"]):
+        print(__doc__.strip())
+        sys.exit()
     main()

@@ -1,11 +1,11 @@
 #!/usr/bin/env python3
 """Runs typical mistakes through bin/explain, and holds what it says: mistakes.py [-v] [--keep] [PROGRAM [NAME..]]
 
-PROGRAM is the built program, bin/sticks of this checkout if none is given. The mistakes stand in mistake_texts.py: each is
-the words of a command, the texts that it reads, and what has to stand in the explanation, in this order: the line, the word,
-the rule and the distance to change. NAME is a part of titles; without one all are run. Held besides: the status, the output
-and what the program tells come through as they are, and what it answers is what stands in mistakes.json, with which bin/test
-tries bin/explain without the program.
+PROGRAM is the built program, bin/sticks of this checkout if none is given. The mistakes stand in mistake_texts.py: each
+is the words of a command, the texts that it reads, and what has to stand in the explanation, in this order: the line,
+the word, the rule and the distance to change. NAME is a part of titles; without one all are run. Held besides: the
+status, the output and what the program tells come through as they are, and what it answers is what stands in
+mistakes.json, with which bin/test tries bin/explain without the program.
 
   -v      prints each explanation
   --keep  writes the answers of the program to mistakes.json
@@ -30,7 +30,8 @@ FROM_EXAMPLES = ["nmos.toml", "nmos2.toml", "inverter.sticks", "row.sticks", "in
 
 
 def run(words, folder):
-    ran = subprocess.run([str(it) for it in words], cwd=folder, stdin=subprocess.DEVNULL, capture_output=True, timeout=300)
+    ran = subprocess.run([str(it) for it in words], cwd=folder, stdin=subprocess.DEVNULL, capture_output=True,
+                         timeout=300)
     return ran.returncode, ran.stdout.decode(), ran.stderr.decode()
 
 

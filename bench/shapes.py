@@ -1,8 +1,9 @@
 """Designs near the limits, each made of a size, and the orders in which their lines may stand.
 
-A cell is its name, its nodes or uses, and its wires and limits; each of these lists is put into an order by itself, as what a line names has to stand
-before it. ORDERS are `listed`, as the shape lists them, `reversed` and `shuffled`, the same each time. SHAPES has for each shape what makes
-its cells, its whole size, what the size counts, and the orders that are timed.
+A cell is its name, its nodes or uses, and its wires and limits; each of these lists is put into an order by itself, as
+what a line names has to stand before it. ORDERS are `listed`, as the shape lists them, `reversed` and `shuffled`, the
+same each time. SHAPES has for each shape what makes its cells, its whole size, what the size counts, and the orders
+that are timed.
 """
 import os, random, re
 
@@ -60,7 +61,8 @@ def nets(n):
 def field(n):
     """A node of each kind but transistors, drawn by lot, at each point of a square."""
     draw = random.Random(n)
-    kinds = ["joint %s metal %d %d", "joint %s poly %d %d", "joint %s diff %d %d", "contact %s diff %d %d", "contact %s poly %d %d"]
+    kinds = ["joint %s metal %d %d", "joint %s poly %d %d", "joint %s diff %d %d", "contact %s diff %d %d",
+             "contact %s poly %d %d"]
     side = int(n ** 0.5)
     return [("t", [draw.choice(kinds) % ("n%d_%d" % (c, r), c, r) for r in range(side) for c in range(side)], [])]
 
@@ -88,14 +90,20 @@ def limits(n):
 
 
 def raised(n):
-    """The same row, and the last joint so far off that each limit holds with equality: the joints are raised from right to left."""
-    return [("t", joints_in_row(n), ["limit x j%d j%d <= 20" % (i, i + 1) for i in range(n - 1)] + ["limit x j0 j%d >= %d" % (n - 1, 20 * (n - 1))])]
+    """The same row, and the last joint so far off that each limit holds with equality: the joints are raised from right
+    to left.
+    """
+    return [("t", joints_in_row(n), ["limit x j%d j%d <= 20" % (i, i + 1) for i in range(n - 1)]
+             + ["limit x j0 j%d >= %d" % (n - 1, 20 * (n - 1))])]
 
 
 def edges(n):
-    """Two wired rows, one behind the other, of n and n - 2 joints; with so many limits that n = 1,024 gives as many inequalities as a pass may have."""
+    """Two wired rows, one behind the other, of n and n - 2 joints; with so many limits that n = 1,024 gives as many
+    inequalities as a pass may have.
+    """
     wires = ["wire metal %s%d %s%d" % (r, i, r, i + 1) for r, k in (("a", n), ("b", n - 2)) for i in range(k - 1)]
-    return [("t", joints_in_row(n, "a") + joints_in_row(n - 2, "b", n), wires + ["limit x a0 a1 >= 0"] * (2058 * n // 1024))]
+    return [("t", joints_in_row(n, "a") + joints_in_row(n - 2, "b", n),
+             wires + ["limit x a0 a1 >= 0"] * (2058 * n // 1024))]
 
 
 def heap(n):

@@ -1,9 +1,11 @@
 #!/usr/bin/env python3
 """Compares the greatest places of `slack` with the least ones of the mirrored design: slack.py [SEED [COUNT [PROGRAM]]]
 
-Where a design is mirrored, each cell by itself and each row of its grids from end to end, every inequality of the first pass is turned round: a part that lay at most at G in a cell of size S
-lies at least at S - G there. So the greatest places, which are found by going back from the far borders, have to be those that the other design's rounds find from the origin. Random designs of one
-to three cells, with ports, limits and grids, are mirrored on x (passes xy) and on y (passes yx). The last line is 'N tried, M laid out, K wrong', and the status 1 where K is not 0."""
+Where a design is mirrored, each cell by itself and each row of its grids from end to end, every inequality of the first
+pass is turned round: a part that lay at most at G in a cell of size S lies at least at S - G there. So the greatest
+places, which are found by going back from the far borders, have to be those that the other design's rounds find from
+the origin. Random designs of one to three cells, with ports, limits and grids, are mirrored on x (passes xy) and on y
+(passes yx). The last line is 'N tried, M laid out, K wrong', and the status 1 where K is not 0."""
 import os, random, subprocess, sys, tempfile
 from compact import PROGRAM, TECH
 
@@ -21,20 +23,23 @@ def cell(rng, name, places):
                 kind = rng.choice(["joint"] * 6 + ["contact", "fet"])
                 if kind == "joint":
                     layer = rng.choice(LAYERS[:1] * 3 + LAYERS)
-                    forms.append(["joint", node, layer, col, row] + ([str(rng.choice([8, 10, 12]))] if rng.random() < 0.2 else []))
+                    forms.append(["joint", node, layer, col, row]
+                                 + ([str(rng.choice([8, 10, 12]))] if rng.random() < 0.2 else []))
                     at[col, row] = node, {layer}
                 elif kind == "contact":
                     lower = rng.choice(["diff", "poly"])
                     forms.append(["contact", node, lower, col, row])
                     at[col, row] = node, {"metal", lower}
                 else:
-                    forms.append(["fet", node, rng.choice(["enh", "dep"]), rng.choice("hv"), col, row, str(rng.choice([4, 8])), str(rng.choice([4, 8]))])
+                    forms.append(["fet", node, rng.choice(["enh", "dep"]), rng.choice("hv"), col, row,
+                                  str(rng.choice([4, 8])), str(rng.choice([4, 8]))])
                     at[col, row] = node, set()
     for row in places:  # a wire from border to border, or to a joint
         forms += [["port", f"l{row}", "left", "metal", row], ["port", f"r{row}", "right", "metal", row]]
         ends = sorted(col for (col, r), (_, layers) in at.items() if r == row and "metal" in layers)
         if ends:
-            forms += [["wire", "metal", f"l{row}", at[ends[0], row][0]], ["wire", "metal", at[ends[-1], row][0], f"r{row}"]]
+            forms += [["wire", "metal", f"l{row}", at[ends[0], row][0]],
+                      ["wire", "metal", at[ends[-1], row][0], f"r{row}"]]
         else:
             forms.append(["wire", "metal", f"l{row}", f"r{row}"])
     for (col, row), (node, layers) in at.items():
@@ -84,10 +89,12 @@ def text(cells, rows):
 
 
 def slacks(program, folder, design, passes, axis):
-    """By cell its size, and by name the least and the greatest place, in the first pass; or None where it is refused."""
+    """By cell its size, and by name the least and the greatest place, in the first pass; or None where it is refused.
+    """
     with open(os.path.join(folder, "d"), "w") as file:
         file.write(design)
-    ran = subprocess.run([program, "slack", "d", "--tech", "t", "--passes", passes], cwd=folder, capture_output=True, text=True)
+    ran = subprocess.run([program, "slack", "d", "--tech", "t", "--passes", passes], cwd=folder, capture_output=True,
+                         text=True)
     if ran.returncode:
         return None, ran.stderr
     sizes, places, here = {}, {}, None
@@ -130,7 +137,8 @@ def main():
                     print(f"input {number}: one alone is refused: {said}{told}{text(cells, rows)}")
                 continue
             laid_out += 1
-            turned = {name: (one[0][name.split(":")[0]] - most, one[0][name.split(":")[0]] - least) for name, (least, most) in one[1].items()}
+            turned = {name: (one[0][name.split(":")[0]] - most, one[0][name.split(":")[0]] - least)
+                      for name, (least, most) in one[1].items()}
             if one[0] != other[0] or turned != other[1]:
                 wrong += 1
                 print(f"input {number}, axis {axis}:\n{text(cells, rows)}{one}\n{other}")
@@ -139,4 +147,7 @@ def main():
 
 
 if __name__ == "__main__":
+    if sys.argv[1:2] in (["--help"], ["-h"]):
+        print(__doc__.strip())
+        sys.exit()
     sys.exit(main())

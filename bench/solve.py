@@ -3,14 +3,15 @@
 
 `solve_bench` makes a graph of VARS variables and EDGES edges, of which the last BACK are backward in the order of the
 numbers, always the same one, and solves it. The time is that of the whole process, so the making of the graph is in it.
-The table has for each size 10 backward edges, and then half of those that do not come from the origin.
-Each line gives the least of three times, and what the program printed. PROGRAM is `solve_bench` as `rt run` builds it in its folder; where
-none is given and it is not there yet, it is built first, which proves the crates below it.
+The table has for each size 10 backward edges, and then half of those that do not come from the origin. Each line gives
+the least of three times, and what the program printed. PROGRAM is `solve_bench` as `rt run` builds it in its folder;
+where none is given and it is not there yet, it is built first, which proves the crates below it.
 """
 import os, subprocess, sys, time
 
 HERE = os.path.dirname(os.path.abspath(__file__))
-PROGRAM = os.path.abspath(sys.argv[1]) if len(sys.argv) > 1 else os.path.join(HERE, "..", "crates", "solve_bench", "out", "solve_bench")
+PROGRAM = (os.path.abspath(sys.argv[1]) if len(sys.argv) > 1
+           else os.path.join(HERE, "..", "crates", "solve_bench", "out", "solve_bench"))
 SIZES = ((1000, 100000), (65536, 1000000), (65536, 4194304))
 
 
@@ -36,4 +37,7 @@ def main():
 
 
 if __name__ == "__main__":
+    if sys.argv[1:2] in (["--help"], ["-h"]):
+        print(__doc__.strip())
+        sys.exit()
     main()

@@ -1,19 +1,23 @@
 #!/usr/bin/env python3
 """Times `compact .. --split N` on a row of 64 different cells of about 1,000 items each: split.py [PROGRAM]
 
-For each N it prints the least of three wall times, and how many times as fast it is as N = 1. What it prints speaks of the machine and of what else runs on
-it, and nothing is claimed of it: on four processors that are idle, four pieces may be faster, and the answer is the same, which is compared.
+For each N it prints the least of three wall times, and how many times as fast it is as N = 1. What it prints speaks of
+the machine and of what else runs on it, and nothing is claimed of it: on four processors that are idle, four pieces may
+be faster, and the answer is the same, which is compared.
 """
 import os, random, subprocess, sys, tempfile, time
 
 HERE = os.path.dirname(os.path.abspath(__file__))
 TECH = os.path.join(HERE, "..", "examples", "nmos.toml")
-PROGRAM = os.path.abspath(sys.argv[1]) if len(sys.argv) > 1 else os.path.join(HERE, "..", "crates", "sticks", "out", "sticks")
+PROGRAM = (os.path.abspath(sys.argv[1]) if len(sys.argv) > 1
+           else os.path.join(HERE, "..", "crates", "sticks", "out", "sticks"))
 CELLS, SIDE = 64, 22
 
 
 def cell(number):
-    """Joints of metal, poly and diffusion, drawn by lot, at each point of a square, and wires between neighbours of one layer."""
+    """Joints of metal, poly and diffusion, drawn by lot, at each point of a square, and wires between neighbours of one
+    layer.
+    """
     draw = random.Random(number)
     layers = [[draw.choice(["metal", "poly", "diff"]) for _ in range(SIDE)] for _ in range(SIDE)]
     lines = ["joint n%d_%d %s %d %d" % (c, r, layers[r][c], c, r) for r in range(SIDE) for c in range(SIDE)]
@@ -25,7 +29,8 @@ def cell(number):
 
 
 def design():
-    return "sticks 1\n" + "".join(map(cell, range(CELLS))) + "grid\nrow %s\nend\n" % " ".join("c%d" % n for n in range(CELLS))
+    return ("sticks 1\n" + "".join(map(cell, range(CELLS))) + "grid\nrow %s\nend\n"
+            % " ".join("c%d" % n for n in range(CELLS)))
 
 
 def main():
@@ -38,7 +43,8 @@ def main():
             times = []
             for _ in range(3):
                 begun = time.monotonic()
-                ran = subprocess.run([PROGRAM, "compact", path, "--tech", TECH, "--split", str(pieces)], capture_output=True)
+                ran = subprocess.run([PROGRAM, "compact", path, "--tech", TECH, "--split", str(pieces)],
+                                     capture_output=True)
                 times.append(time.monotonic() - begun)
             told = ran.returncode, ran.stdout, ran.stderr
             first, answer = first or min(times), answer or told
@@ -48,4 +54,7 @@ def main():
 
 
 if __name__ == "__main__":
+    if sys.argv[1:2] in (["--help"], ["-h"]):
+        print(__doc__.strip())
+        sys.exit()
     main()

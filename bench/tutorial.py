@@ -1,21 +1,37 @@
 #!/usr/bin/env python3
-"""Runs every command of a walk in docs/ and compares what it writes: tutorial.py [PROGRAM [FILE]]
+"""Runs every command of a walk in docs/ and compares what it writes: tutorial.py [--write] [PROGRAM [FILE..]]
 
-PROGRAM is the built program, bin/sticks of this checkout if none is given; FILE is docs/TUTORIAL.md if none is given. The walk runs in a
-folder of its own, with this checkout's examples/ and with bin/sticks, bin/picture and bin/explain. In the text
+PROGRAM is the built program, bin/sticks of this checkout if none is given; FILE is docs/TUTORIAL.md and then
+docs/COOKBOOK.md if none is given. Each walk runs in a folder of its own, with this checkout's examples/ and with
+bin/sticks, bin/picture and bin/explain. In the text
 
-- a block ``` sticks NAME is written to the file NAME, so is a block ``` toml NAME;
-- in a block ``` console each line that begins with `$ ` is a command, and the lines below it are what it has to write, standard output
-  and standard error together. A line `...` stands for any number of lines, none included. `$?` is the status of the command before.
-  A command that writes both gives the report or the refusal behind the masks, as the program writes them.
+- a block ``` KIND NAME, as ``` sticks inv.sticks, is written to the file NAME; where NAME begins with examples/, the
+  block has to be the text of that file;
+- in a block ``` console each line that begins with `$ ` is a command, which goes on in the next line where it ends in a
+  backslash, and the lines below it are what it has to write, standard output and standard error together. A line `...`
+  stands for any number of lines, none included. `$?` is the status of the command before. A command that writes both
+  gives the report or the refusal behind the masks, as the program writes them;
+- a block ``` text is neither run nor looked at;
+- a picture from a folder of examples/ has to be what a command of the walk has put into the file of its name, and each
+  picture of that folder has to be shown. With --write the pictures of the walk are put there first.
 
-It also makes the pictures of all examples anew and compares them. The first command that writes something else is told, and the status is 1.
+It also makes the pictures beside the masks in examples/ anew and compares them. The first command of a walk that
+writes something else is told, and each picture that is out of date; then the status is 1.
 """
-import os, re, subprocess, sys, tempfile
+import os
+import re
+import subprocess
+import sys
+import tempfile
 from pathlib import Path
 
 HERE = Path(__file__).resolve().parent.parent
 BLOCK = re.compile(r"^```(\S+)(?: (\S+))?\n(.*?)^```$", re.M | re.S)
+PICTURE = re.compile(r"\]\(\.\./(examples/\w+)/([\w.-]+\.svg)\)")
+
+
+class Wrong(Exception):
+    """What is not as the document says."""
 
 
 def steps(text):
@@ -23,17 +39,17 @@ def steps(text):
     for found in BLOCK.finditer(text):
         kind, name, body = found.groups()
         line = text[: found.start()].count("\n") + 1
-        if kind in ("sticks", "toml") and name:
+        if name and kind != "console":
             yield line, "file", name, body
         elif kind == "console":
             for at, part in enumerate(re.split(r"^\$ ", body, flags=re.M)):
                 if at == 0 and part:
-                    raise SystemExit(f"line {line}: a block of commands begins with something else")
+                    raise Wrong(f"line {line}: a block of commands begins with something else")
                 if at:
-                    command, _, output = part.partition("\n")
-                    yield line, "run", command, output.splitlines()
-        else:
-            raise SystemExit(f"line {line}: a block that this script does not know: {kind}")
+                    command = re.match(r"(?:.*\\\n)*.*", part)[0]
+                    yield line, "run", command, part[len(command) + 1 :].splitlines()
+        elif kind != "text":
+            raise Wrong(f"line {line}: a block that this script does not know: {kind}")
 
 
 def fits(wanted, given):
@@ -42,48 +58,92 @@ def fits(wanted, given):
     return re.fullmatch(form, "".join(it + "\n" for it in given)) is not None
 
 
-def walk(program, path, folder):
-    for name, target in [("bin/sticks", program), ("bin/picture", HERE / "bin/picture"), ("examples", HERE / "examples")]:
-        (folder / name).parent.mkdir(exist_ok=True)
+def set_up(program, folder):
+    """Puts the examples and the programs of bin/ into the folder of a walk."""
+    (folder / "bin").mkdir()
+    targets = {"bin/sticks": program, "bin/picture": HERE / "bin/picture", "examples": HERE / "examples"}
+    for name, target in targets.items():
         (folder / name).symlink_to(target)
     explain = folder / "bin/explain"
-    explain.write_text(f"#!/bin/sh\nexec '{HERE}/bin/explain' --program '{program}' \"$@\"\n", encoding="utf-8")
+    words = f"#!/bin/sh\nexec '{HERE}/bin/explain' --program '{program}' \"$@\"\n"
+    explain.write_text(words, encoding="utf-8")
     explain.chmod(0o755)
+
+
+def walk(text, folder):
+    """Runs the commands of a text in a folder, and gives how many there are."""
     status = runs = 0
-    for line, kind, what, body in steps(path.read_text(encoding="utf-8")):
-        if kind == "file":
+    how = {"stdin": subprocess.DEVNULL, "stdout": subprocess.PIPE, "stderr": subprocess.STDOUT, "text": True}
+    for line, kind, what, body in steps(text):
+        if kind == "run":
+            ran = subprocess.run(["sh", "-c", f"(exit {status}); {what}"], cwd=folder, timeout=60, **how)
+            status, runs = ran.returncode, runs + 1
+            if not fits(body, ran.stdout.splitlines()):
+                given = ran.stdout.rstrip("\n")
+                raise Wrong("\n".join([f"the block at line {line}: {what}", "wanted", *body, "given", given]))
+        elif not what.startswith("examples/"):
             (folder / what).write_text(body, encoding="utf-8")
-            continue
-        ran = subprocess.run(["sh", "-c", f"(exit {status}); {what}"], cwd=folder, stdin=subprocess.DEVNULL, stdout=subprocess.PIPE, stderr=subprocess.STDOUT, text=True, timeout=60)
-        status, runs = ran.returncode, runs + 1
-        if not fits(body, ran.stdout.splitlines()):
-            print(f"{path.name}, the block at line {line}: {what}\nwanted\n" + "\n".join(body) + "\ngiven\n" + ran.stdout.rstrip("\n"))
-            return None
+        elif not (HERE / what).is_file() or (HERE / what).read_text(encoding="utf-8") != body:
+            raise Wrong(f"the block at line {line} is not the text of {what}")
     return runs
 
 
+def pictures(text, folder, write):
+    """Compares the pictures of a text with those that its walk has left; gives how many there are."""
+    shown = dict.fromkeys(PICTURE.findall(text))
+    for room, name in shown:
+        made, stored = folder / name, HERE / room / name
+        if not made.is_file():
+            raise Wrong(f"no command makes the picture {name}")
+        if write:
+            stored.write_bytes(made.read_bytes())
+        if not stored.is_file() or stored.read_bytes() != made.read_bytes():
+            raise Wrong(f"{room}/{name} is out of date: --write puts that of the walk there")
+    for room in {room for room, _ in shown}:
+        for path in sorted((HERE / room).glob("*.svg")):
+            if (room, path.name) not in shown:
+                raise Wrong(f"{room}/{path.name} is not shown")
+    return len(shown)
+
+
 def stale_pictures():
+    """The pictures beside the masks in examples/ that are not what bin/picture makes of these."""
     for cif in sorted((HERE / "examples").glob("*.cif")):
-        words = [cif, "--design", cif.with_suffix(".sticks"), "--report", cif.with_suffix(".report")]
-        ran = subprocess.run([str(it) for it in [HERE / "bin/picture", *words]], stdout=subprocess.PIPE)
+        words = [HERE / "bin/picture", cif, "--design", cif.with_suffix(".sticks")]
+        words += ["--report", cif.with_suffix(".report")]
+        ran = subprocess.run([str(it) for it in words], stdout=subprocess.PIPE)
         if ran.returncode or ran.stdout != cif.with_suffix(".svg").read_bytes():
             yield cif.with_suffix(".svg").name
 
 
 def main(words):
+    if words[:1] in (["--help"], ["-h"]):
+        print(__doc__.strip())
+        return 0
+    write = "--write" in words
+    words = [it for it in words if it != "--write"]
     program = Path(words[0] if words else HERE / "bin/sticks").resolve()
-    path = Path(words[1]).resolve() if len(words) > 1 else HERE / "docs/TUTORIAL.md"
     if not os.access(program, os.X_OK):
         raise SystemExit(f"{program} is no program")
-    with tempfile.TemporaryDirectory() as folder:
-        runs = walk(program, path, Path(folder))
-    stale = list(stale_pictures())
-    for name in stale:
+    paths = [Path(it) for it in words[1:]] or [HERE / "docs/TUTORIAL.md", HERE / "docs/COOKBOOK.md"]
+    wrong = 0
+    for path in paths:
+        text = path.read_text(encoding="utf-8")
+        with tempfile.TemporaryDirectory() as room:
+            folder = Path(room)
+            set_up(program, folder)
+            try:
+                runs = walk(text, folder)
+                shown = pictures(text, folder, write)
+                told = f", and the {shown} pictures are those of its designs" if shown else ""
+                print(f"{path.name}: the {runs} commands write what it says{told}")
+            except Wrong as it:
+                wrong += 1
+                print(f"{path.name}: {it}")
+    for name in stale_pictures():
+        wrong += 1
         print(f"examples/{name} is out of date: bin/picture makes it")
-    if runs is None or stale:
-        return 1
-    print(f"{runs} commands write what {path.name} says, and the pictures of the examples are up to date")
-    return 0
+    return 1 if wrong else 0
 
 
 if __name__ == "__main__":

@@ -1,8 +1,8 @@
 """Reads a design in sticks line by line, and inlines its cells, with the lines that each part comes from.
 
-A text is read as far as it goes: the program judges it, and what is no line of a cell or a grid is kept beside. Numbers of
-wires are those of the inlined cell (docs/FORMATS.md, The inlined cell): each use is replaced, in place, by the nodes and wires
-of the cell that it names, shifted, with its name and a dot before their names.
+A text is read as far as it goes: the program judges it, and what is no line of a cell or a grid is kept beside. Numbers
+of wires are those of the inlined cell (docs/FORMATS.md, The inlined cell): each use is replaced, in place, by the nodes
+and wires of the cell that it names, shifted, with its name and a dot before their names.
 """
 import re
 from dataclasses import dataclass, field
@@ -11,7 +11,8 @@ from program import Refused
 
 NODES = ("joint", "contact", "buried", "fet")
 LAYERS = {"diff": "diffusion", "poly": "poly", "metal": "metal"}
-PLACE = {"joint": 3, "contact": 3, "buried": 2, "fet": 4, "use": 3}  # the word that is a column; the row stands behind it
+# the word that is a column; the row stands behind it
+PLACE = {"joint": 3, "contact": 3, "buried": 2, "fet": 4, "use": 3}
 MOST_DEEP, MOST_PARTS = 16, 200_000
 
 
@@ -39,7 +40,8 @@ class CellText:
 
 @dataclass
 class GridText:
-    """A grid as it stands: its name, empty in version 1, its `grid` line, its rows, and its `end` line, if it has one."""
+    """A grid as it stands: its name, empty in version 1, its `grid` line, its rows, and its `end` line, if it has one.
+    """
 
     name: str
     begin: Line
@@ -49,7 +51,8 @@ class GridText:
 
 @dataclass
 class Part:
-    """A node, a port or a wire of an inlined cell, with its line and the `use` lines that it comes by, the outermost first.
+    """A node, a port or a wire of an inlined cell, with its line and the `use` lines that it comes by, the outermost
+    first.
 
     A wire is `#` and its number; what it joins is in `ends`, by full names.
     """
@@ -182,6 +185,8 @@ class Design:
                 made.ports[name] = Part(name, line, uses)
             elif form == "wire":
                 number = len(made.wires)
-                made.wires.append(Part(f"#{number}", line, uses, ends=(path + words[2], path + words[3]), number=number))
+                made.wires.append(Part(f"#{number}", line, uses, ends=(path + words[2], path + words[3]),
+                                       number=number))
             elif form == "limit":
-                made.limits.append(Part(f"limit {len(made.limits)}", line, uses, ends=(path + words[2], path + words[3])))
+                made.limits.append(Part(f"limit {len(made.limits)}", line, uses,
+                                        ends=(path + words[2], path + words[3])))

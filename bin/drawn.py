@@ -1,7 +1,8 @@
 """The boxes of an inlined cell by its variables, its nets, and the rules between them (docs/FORMATS.md, What is drawn).
 
-Lengths are in u. An end of a box is a variable and how far it lies past it: a variable is "0" for the lower border, "|" for
-the upper one, the name of a node for its centre, and `#K` for the cross coordinate of wire K. Axis 0 is x, axis 1 is y.
+Lengths are in u. An end of a box is a variable and how far it lies past it: a variable is "0" for the lower border, "|"
+for the upper one, the name of a node for its centre, and `#K` for the cross coordinate of wire K. Axis 0 is x, axis 1
+is y.
 """
 import tomllib
 from dataclasses import dataclass
@@ -20,13 +21,16 @@ RULES = [
     ("I", "G", "spacing.implant_channel", False, "an implant and the channel of another transistor"),
     ("B", "G", "spacing.buried_channel", False, "the window of a buried contact and the channel of a transistor"),
 ]
-NAMES = {"M": "metal", "P": "poly", "Dm": "diffusion", "Dc": "diffusion", "C": "cut", "I": "implant", "G": "channel", "B": "buried window"}
+NAMES = {"M": "metal", "P": "poly", "Dm": "diffusion", "Dc": "diffusion", "C": "cut", "I": "implant", "G": "channel",
+         "B": "buried window"}
 CLASS = {"metal": "M", "poly": "P", "diff": "D"}
 
 
 @dataclass
 class Item:
-    """A box of a part: its class, the part's name, its net, its ends on both axes, and the buried contacts at which it stands."""
+    """A box of a part: its class, the part's name, its net, its ends on both axes, and the buried contacts at which it
+    stands.
+    """
 
     kind: str
     owner: str
@@ -46,7 +50,8 @@ class Technology:
         self.numbers = {}
         for key, value in tables.items():
             inner = value.items() if isinstance(value, dict) else []
-            self.numbers.update({f"{key}.{name}": number for name, number in inner} if isinstance(value, dict) else {key: value})
+            self.numbers.update({f"{key}.{name}": number for name, number in inner} if isinstance(value, dict)
+                                else {key: value})
 
     def __getitem__(self, key):
         value = self.numbers.get(key, 0)
@@ -66,7 +71,8 @@ class Technology:
 
     def rule(self, a, b):
         """The rule between boxes of two classes, if there is one."""
-        return next((it for it in RULES if it[:2] in ((a, b), (b, a)) and (it[2] != "spacing.buried_channel" or self["version"] == 2)), None)
+        return next((it for it in RULES if it[:2] in ((a, b), (b, a))
+                     and (it[2] != "spacing.buried_channel" or self["version"] == 2)), None)
 
     def margin(self, kind):
         """How far a box of a class keeps off a border: the widest spacing of its rules, and the key of that."""
@@ -82,8 +88,10 @@ def direction(wire, inlined):
     """The axis along which a wire runs, and its low and its high end, each by name."""
     parts = [inlined.part(it) for it in wire.ends]
     sides = [it.line.words[2] if it.form == "port" else "" for it in parts]
-    along = 0 if {"left", "right"} & set(sides) else 1 if {"bottom", "top"} & set(sides) else int(parts[0].column == parts[1].column)
-    place = lambda k: -1 if sides[k] in ("left", "bottom") else 1 << 20 if sides[k] else (parts[k].column, parts[k].row)[along]
+    along = (0 if {"left", "right"} & set(sides) else 1 if {"bottom", "top"} & set(sides)
+             else int(parts[0].column == parts[1].column))
+    place = (lambda k: -1 if sides[k] in ("left", "bottom") else 1 << 20 if sides[k]
+             else (parts[k].column, parts[k].row)[along])
     low, high = sorted((0, 1), key=place)
     return along, wire.ends[low], wire.ends[high]
 
@@ -207,7 +215,8 @@ class Drawn:
     def bound(self, a, b):
         """The rule that two items have to keep, or None."""
         rule = self.tech.rule(a.kind, b.kind)
-        if not rule or a.owner == b.owner or rule[3] and a.net == b.net or {a.kind, b.kind} == {"P", "Dm"} and a.at & b.at:
+        if (not rule or a.owner == b.owner or rule[3] and a.net == b.net or {a.kind, b.kind} == {"P", "Dm"}
+            and a.at & b.at):
             return None
         return rule
 
@@ -216,13 +225,15 @@ class Drawn:
 
     def start(self):
         """Where each variable lies as drawn, on x and on y."""
-        halves = [abs(off) for it in self.items if it.owner in self.inlined.nodes for ends in it.ends for _, off in ends]
+        ends = [end for it in self.items if it.owner in self.inlined.nodes for both in it.ends for end in both]
+        halves = [abs(off) for _, off in ends]
         halves += [self.width(it) / 2 for it in self.inlined.wires]
         pitch = 2 * max(halves, default=0) + self.tech.widest()
         values = []
         for axis in (0, 1):
             at = {name: (it.column, it.row)[axis] for name, it in self.inlined.nodes.items()}
-            at |= {it.name: cross(it, self.inlined) for it in self.inlined.wires if direction(it, self.inlined)[0] != axis}
+            at |= {it.name: cross(it, self.inlined) for it in self.inlined.wires
+                   if direction(it, self.inlined)[0] != axis}
             sides = ("bottom", "top") if axis == 0 else ("left", "right")
             ports = [it.number_at(4) for it in self.inlined.ports.values() if it.line.words[2] in sides]
             most = max([(it.column, it.row)[axis] for it in self.inlined.nodes.values()] + ports, default=0)
@@ -263,7 +274,8 @@ class Drawn:
         """The items that ask that a variable lies just so far from a border."""
         for it in self.items:
             variable, off = it.ends[axis][1 if is_high else 0]
-            if variable == name and self.tech.margin(it.kind)[0] + abs(off) * (1 if (off > 0) == is_high or off == 0 else -1) == length:
+            if (variable == name and self.tech.margin(it.kind)[0]
+                + abs(off) * (1 if (off > 0) == is_high or off == 0 else -1) == length):
                 yield it
 
 

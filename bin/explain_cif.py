@@ -10,8 +10,10 @@ LAYERS = {"ND": "diffusion", "NP": "poly", "NC": "cut", "NM": "metal", "NI": "im
 LARGEST, MOST_FACTOR = 1 << 30, 65_536
 BLANK = re.compile(r"[^A-Z0-9();-]+")
 FORMS = {
-    "DS": "DS n, or DS n a b: a symbol's number, and its scale", "DF": "DF alone", "L": "L and a name of 1 to 4 capitals or digits",
-    "B": "B and four numbers: length, width, and the centre's x and y", "C": "C n, and any number of T x y, M X, M Y, R a b", "E": "E alone, at the end",
+    "DS": "DS n, or DS n a b: a symbol's number, and its scale", "DF": "DF alone",
+    "L": "L and a name of 1 to 4 capitals or digits",
+    "B": "B and four numbers: length, width, and the centre's x and y",
+    "C": "C n, and any number of T x y, M X, M Y, R a b", "E": "E alone, at the end",
 }
 OTHERS = {"P": "a polygon", "W": "a wire", "R": "a round flash", "DD": "a deletion of symbols"}
 
@@ -32,13 +34,16 @@ def plain(command):
         return command
     while (shorter := re.sub(r"\([^()]*\)", " ", command)) != command:
         command = shorter
-    spaced = re.sub(r"([A-Z])", r" \1 ", BLANK.sub(" ", command)) if not command.lstrip().startswith("L") else BLANK.sub(" ", command)
+    spaced = (re.sub(r"([A-Z])", r" \1 ", BLANK.sub(" ", command)) if not command.lstrip().startswith("L")
+              else BLANK.sub(" ", command))
     spaced = re.sub(r"(?<=[\d ])-", " -", spaced)
     return re.sub(r"^D ([SFD])\b", r"D\1", " ".join(spaced.split()))
 
 
 def commands(text):
-    """Gives the place and the text of each command, its semicolon left out; the last one is what stands behind the last semicolon."""
+    """Gives the place and the text of each command, its semicolon left out; the last one is what stands behind the last
+    semicolon.
+    """
     at, long = 0, len(text)
     while at < long:
         begin = at
@@ -71,7 +76,9 @@ def after_comment(text, at):
 
 
 class Masks:
-    """A CIF text, read up to a place, or to its end: its symbols, and what is open there. Lengths of boxes are in grains."""
+    """A CIF text, read up to a place, or to its end: its symbols, and what is open there. Lengths of boxes are in
+    grains.
+    """
 
     def __init__(self, text, end=None):
         self.text, self.symbols, self.open, self.layer, outside = text, {TOP: Symbol(0)}, TOP, None, None
@@ -96,7 +103,9 @@ class Masks:
                 here.count += self.symbols[int(words[1])].count
 
     def box(self, number):
-        """A box by its number: its layer, its left, right, low and high side, and the places of its command and of its calls."""
+        """A box by its number: its layer, its left, right, low and high side, and the places of its command and of its
+        calls.
+        """
         symbol, turn, places = self.symbols[TOP], IDENTITY, []
         while True:
             for at, what, how in symbol.parts:
@@ -126,7 +135,8 @@ class Masks:
 def sides(numbers, above, below, turn):
     long, wide, x, y = (it * above / below for it in numbers)
     a, b, c, d, e, f = turn
-    ends = [(a * i + c * j + e, b * i + d * j + f) for i, j in ((2 * x - long, 2 * y - wide), (2 * x + long, 2 * y + wide))]
+    corners = ((2 * x - long, 2 * y - wide), (2 * x + long, 2 * y + wide))
+    ends = [(a * i + c * j + e, b * i + d * j + f) for i, j in corners]
     (left, right), (low, high) = (sorted(it) for it in zip(*ends))
     return left, right, low, high
 
@@ -149,7 +159,7 @@ class Fault:
 
     def __init__(self, path, data, offset):
         self.path, self.text, self.at = path, data.decode("latin-1"), offset
-        found = next(((begin, raw) for begin, raw in commands(self.text) if begin <= offset < begin + max(1, len(raw))), (offset, ""))
+        found = next((it for it in commands(self.text) if it[0] <= offset < it[0] + max(1, len(it[1]))), (offset, ""))
         self.raw, self.words = found[1], plain(found[1]).split(" ")
         self.masks = None
 
@@ -167,9 +177,11 @@ class Fault:
                 yield f"check and extract read masks: 'bin/sticks compact {self.path} --tech FILE > OUT.cif' makes them"
             return
         if not what:
-            yield f"{self.path} does not begin as CIF does: with DS, L, B, C, a comment in parentheses, or an extension that begins with a digit"
+            yield (f"{self.path} does not begin as CIF does: with DS, L, B, C, a comment in parentheses, or an "
+                   "extension that begins with a digit")
         self.masks = Masks(self.text, self.at)
-        yield self.shown(self.at) if self.at < len(self.text) else f"{self.path}:{line_of(self.text, self.at)[0]}: the end of the text"
+        yield (self.shown(self.at) if self.at < len(self.text)
+               else f"{self.path}:{line_of(self.text, self.at)[0]}: the end of the text")
         yield from getattr(self, kind)()
         yield from repair(kind)
 
@@ -178,7 +190,8 @@ class Fault:
 
     def BadCommand(self):
         head = self.words[0][:1] if self.words[0].startswith("L") else self.words[0]
-        next_one = next((k for k, it in enumerate(self.words) if k and head in ("B", "DS", "C", "L") and it in ("B", "DS", "DF", "D", "C", "L", "E")), 0)
+        next_one = next((k for k, it in enumerate(self.words) if k and head in ("B", "DS", "C", "L")
+                         and it in ("B", "DS", "DF", "D", "C", "L", "E")), 0)
         strange = next((it for it in self.words[1:] if not re.fullmatch(r"-?\d+", it)), "")
         if self.raw.count("(") > self.raw.count(")"):
             yield "a comment that begins here has no closing parenthesis"
@@ -187,7 +200,8 @@ class Fault:
         elif head in OTHERS:
             yield f"'{head}' is {OTHERS[head]} of CIF, which is not read here: boxes (B) alone are"
         elif head == "B" and len(self.numbers()) > 4:
-            yield f"a box has four numbers, here are {len(self.numbers())}: a box that is turned by a direction is not read"
+            yield (f"a box has four numbers, here are {len(self.numbers())}: a box that is turned by a direction is "
+                   "not read")
         elif head == "DF" and self.masks.open == TOP and len(self.words) == 1:
             yield "no symbol is open here, so DF ends none"
         elif head in ("B", "DS") and strange:
@@ -240,9 +254,11 @@ class Fault:
         if self.masks.open == number:
             yield f"symbol {number} calls itself"
             return
-        later = next((at for at, raw in commands(self.text) if at > self.at and plain(raw).split(" ")[:2] == ["DS", str(number)]), None)
+        later = next((at for at, raw in commands(self.text) if at > self.at
+                      and plain(raw).split(" ")[:2] == ["DS", str(number)]), None)
         known = sorted(it for it in self.masks.symbols if it != TOP)
-        hint = f"it is defined below, and has to stand above its calls: {self.shown(later)}" if later else f"those above are {', '.join(map(str, known[:12]))}" if known else "none is defined above"
+        hint = (f"it is defined below, and has to stand above its calls: {self.shown(later)}" if later
+                else f"those above are {', '.join(map(str, known[:12]))}" if known else "none is defined above")
         yield f"symbol {number} is not defined above; {hint}"
 
     def NoLayer(self):
@@ -257,7 +273,8 @@ class Fault:
         if self.words[0] == "C":
             numbers = shift_of(" ".join(self.words[2:]))
         odd = [it for it in numbers if it * above % below]
-        yield f"the scale of symbol {self.masks.open} is {above}/{below}: {', '.join(map(str, odd))} times {above} is no multiple of {below}: {self.symbol(self.masks.open)}"
+        yield (f"the scale of symbol {self.masks.open} is {above}/{below}: {', '.join(map(str, odd))} times {above} is "
+               f"no multiple of {below}: {self.symbol(self.masks.open)}")
 
     def TooDeep(self):
         yield f"symbol {self.numbers()[0]} is 64 deep already: symbols call symbols at most 63 deep"

@@ -8,14 +8,17 @@ MOST_PLACE, MOST_SIZE, LARGEST = 4095, 4096, 1_000_000
 NAME = r"[A-Za-z][A-Za-z0-9_]{0,31}"
 PATH, NUMBER, COUNT = rf"{NAME}(\.{NAME})*", r"-?[0-9]+", r"-?0+|[0-9]+"
 WORDS = {
-    "NAME": (NAME, "a name"), "CELL": (NAME, "the name of a cell"), "A": (PATH, "a name or a path"), "B": (PATH, "a name or a path"),
-    "LAYER": ("diff|poly|metal", "diff, poly or metal"), "LOWER": ("diff|poly", "diff or poly"), "KIND": ("enh|dep", "enh or dep"),
-    "DIR": ("h|v", "h or v"), "SIDE": ("left|right|bottom|top", "left, right, bottom or top"), "AXIS": ("x|y", "x or y"),
+    "NAME": (NAME, "a name"), "CELL": (NAME, "the name of a cell"),
+    "A": (PATH, "a name or a path"), "B": (PATH, "a name or a path"),
+    "LAYER": ("diff|poly|metal", "diff, poly or metal"), "LOWER": ("diff|poly", "diff or poly"),
+    "KIND": ("enh|dep", "enh or dep"), "DIR": ("h|v", "h or v"), "AXIS": ("x|y", "x or y"),
+    "SIDE": ("left|right|bottom|top", "left, right, bottom or top"),
     "OP": ("<=|>=", "<= or >="), "N": (NUMBER, "a number"), "WAY": ("left|right", "left or right"),
 }
 FORMS = {
-    "joint": "NAME LAYER COL ROW [WIDTH]", "contact": "NAME LOWER COL ROW", "buried": "NAME COL ROW", "fet": "NAME KIND DIR COL ROW W L",
-    "port": "NAME SIDE LAYER PLACE", "use": "NAME CELL COL ROW", "wire": "LAYER A B [WIDTH]", "limit": "AXIS A B OP N", "cell": "NAME",
+    "joint": "NAME LAYER COL ROW [WIDTH]", "contact": "NAME LOWER COL ROW", "buried": "NAME COL ROW",
+    "fet": "NAME KIND DIR COL ROW W L", "port": "NAME SIDE LAYER PLACE", "use": "NAME CELL COL ROW",
+    "wire": "LAYER A B [WIDTH]", "limit": "AXIS A B OP N", "cell": "NAME",
     "end": "", "grid": "[NAME]", "row": "NAME ..", "sticks": "VERSION",
 }
 IN_CELL = ("joint", "contact", "buried", "fet", "port", "use", "wire", "limit")
@@ -34,7 +37,8 @@ def misfit(words, form):
         if at >= len(words):
             return "" if is_free else f"its {what} is missing: {told}"
         if not re.fullmatch(fits, words[at]):
-            return f"'{words[at]}' stands where its {what} is asked for: {told}{near(words[at], fits.split('|')) if '|' in fits else ''}"
+            return (f"'{words[at]}' stands where its {what} is asked for: "
+                    f"{told}{near(words[at], fits.split('|')) if '|' in fits else ''}")
     return f"'{words[len(wanted)]}' is one word too many" if len(words) > len(wanted) else ""
 
 
@@ -80,7 +84,8 @@ class Faults:
         self.words = self.line.words if self.line else words_of(self.raw)
         self.cell = self.design.cell_at(number)
         self.before = [it for it in self.cell.lines if it.number < number] if self.cell else []
-        self.named = {it.words[1]: it for it in self.before if it.words[0] in (*NODES, "port", "use") and len(it.words) > 1}
+        self.named = {it.words[1]: it for it in self.before if it.words[0] in (*NODES, "port", "use")
+                      and len(it.words) > 1}
 
     def at(self, line):
         return f"{self.path}:{line.number}: {line.text}"
@@ -116,11 +121,14 @@ class Faults:
         if form == "sticks":
             return "the version stands in the first line alone" if self.line is not first else "the version is 1 or 2"
         version = first.words[1] if len(first.words) > 1 else ""
-        grid = next((it for it in self.design.grids if it.begin.number < self.number <= (it.end.number if it.end else 1 << 60)), None)
+        grid = next((it for it in self.design.grids
+                     if it.begin.number < self.number <= (it.end.number if it.end else 1 << 60)), None)
         if self.cell and self.cell.begin.number < self.number:
-            return f"a '{form}' line may not stand in a cell: the 'end' of '{self.cell.begin.text}' (line {self.cell.begin.number}) is missing above it"
+            return (f"a '{form}' line may not stand in a cell: the 'end' of '{self.cell.begin.text}' (line "
+                    f"{self.cell.begin.number}) is missing above it")
         if grid:
-            return f"only 'row' lines stand in a grid, and its 'end' closes it: '{grid.begin.text}' is at line {grid.begin.number}"
+            return (f"only 'row' lines stand in a grid, and its 'end' closes it: '{grid.begin.text}' is at line "
+                    f"{grid.begin.number}")
         if form in IN_CELL:
             return f"a '{form}' line stands in a cell, between 'cell NAME' and 'end'; here no cell is open"
         if form == "row":
@@ -132,7 +140,8 @@ class Faults:
         if form == "grid" and len(self.words) == 2 and version.lstrip("0") == "1":
             return "in version 1 the grid has no name: 'grid' alone, or 'sticks 2' in the first line"
         if form == "cell":
-            return f"cells stand before the grids; '{self.design.grids[0].begin.text}' is at line {self.design.grids[0].begin.number}"
+            return (f"cells stand before the grids; '{self.design.grids[0].begin.text}' is at line "
+                    f"{self.design.grids[0].begin.number}")
         return "behind the grid of version 1 nothing more stands; version 2 has several, each with a name"
 
     def Unended(self):
@@ -140,7 +149,8 @@ class Faults:
         if open_ones:
             begin = open_ones[0].begin
             yield f"the text ends here, and '{begin.text}' at line {begin.number} has no 'end'"
-            inner = [it for it in (open_ones[0].lines if begin.words[0] == "cell" else open_ones[0].rows) if it.words[0] in ("cell", "grid")]
+            inner = [it for it in (open_ones[0].lines if begin.words[0] == "cell" else open_ones[0].rows)
+                     if it.words[0] in ("cell", "grid")]
             yield from (f"perhaps it is missing above line {it.number}: {it.text}" for it in inner[:1])
         elif not self.design.lines:
             yield "the text has no line: a design is 'sticks 1', its cells, and a grid"
@@ -155,7 +165,8 @@ class Faults:
     def RepeatedName(self):
         name = self.words[1]
         if self.words[0] in ("cell", "grid"):
-            others = [it.begin for it in (self.design.cells if self.words[0] == "cell" else self.design.grids) if it.name == name]
+            others = [it.begin for it in (self.design.cells if self.words[0] == "cell" else self.design.grids)
+                      if it.name == name]
         else:
             others = [self.named[name]] if name in self.named else []
         yield f"the name '{name}' is given already" + (f": {self.at(others[0])}" if others else "")
@@ -165,7 +176,8 @@ class Faults:
 
     def UnknownName(self):
         if self.words[0] == "use":
-            yield from self.unknown_cell(self.words[2], [it for it in self.design.cells if it.begin.number < self.cell.begin.number])
+            yield from self.unknown_cell(self.words[2],
+                                         [it for it in self.design.cells if it.begin.number < self.cell.begin.number])
             return
         for path in self.paths():
             told = self.unknown(path)
@@ -184,18 +196,24 @@ class Faults:
         for name in path.split("."):
             line = named.get(name)
             if not line:
-                later = next((it for it in cell.lines if len(it.words) > 1 and it.words[0] in (*NODES, "port", "use") and it.words[1] == name), None)
-                hint = f": it stands below, at line {later.number}" if later and cell is self.cell else near(name, named)
+                later = next((it for it in cell.lines if len(it.words) > 1 and it.words[0] in (*NODES, "port", "use")
+                              and it.words[1] == name), None)
+                hint = (f": it stands below, at line {later.number}" if later and cell is self.cell
+                        else near(name, named))
                 inside = f" in cell '{cell.name}', which '{gone}' copies" if gone else ""
-                return f"'{path}': there is no node, port or use '{name}' above{inside}{hint}" if not gone else f"'{path}': there is no '{name}'{inside}{hint}"
+                return (f"'{path}': there is no node, port or use '{name}' above{inside}{hint}" if not gone
+                        else f"'{path}': there is no '{name}'{inside}{hint}")
             if line.words[0] != "use":
                 return ""
             cell, gone = self.design.cell(line.words[2]) or self.cell, name
-            named = {it.words[1]: it for it in cell.lines if it.words[0] in (*NODES, "port", "use") and len(it.words) > 1}
+            named = {it.words[1]: it for it in cell.lines if it.words[0] in (*NODES, "port", "use")
+                     and len(it.words) > 1}
         return ""
 
     def node(self, path):
-        """The line at which a path ends, its column and its row, and the line that stops it, where it is no way to a node."""
+        """The line at which a path ends, its column and its row, and the line that stops it, where it is no way to a
+        node.
+        """
         named, x, y, names, line = self.named, 0, 0, path.split("."), None
         for at, name in enumerate(names, 1):
             line = named.get(name)
@@ -206,7 +224,8 @@ class Faults:
             if line.words[0] != "use":
                 return line, x, y, line if at < len(names) else None
             cell = self.design.cell(line.words[2])
-            named = {it.words[1]: it for it in cell.lines if it.words[0] in (*NODES, "port", "use") and len(it.words) > 1} if cell else {}
+            named = ({it.words[1]: it for it in cell.lines if it.words[0] in (*NODES, "port", "use")
+                      and len(it.words) > 1} if cell else {})
         return line, x, y, line
 
     def WrongTerminal(self):
@@ -216,7 +235,8 @@ class Faults:
                 yield f"'{path}' is a whole copy: {self.at(stop)}"
                 inner = self.design.cell(stop.words[2])
                 names = [it.words[1] for it in inner.lines if it.words[0] in (*NODES, "use")] if inner else []
-                yield f"name a node in it: {', '.join(f'{path}.{it}' for it in names[:6])}{' ..' if len(names) > 6 else ''}"
+                told = ", ".join(f"{path}.{it}" for it in names[:6])
+                yield f"name a node in it: {told}{' ..' if len(names) > 6 else ''}"
             elif stop:
                 yield f"'{path}' goes through '{stop.words[1]}', which is no use: {self.at(stop)}"
 
@@ -232,13 +252,18 @@ class Faults:
             if int(place) > MOST_PLACE:
                 yield f"the {name} {place} is past {MOST_PLACE}"
         if form == "use" and int(self.words[3]) <= MOST_PLACE and int(self.words[4]) <= MOST_PLACE:
-            yield f"the copy is shifted by {self.words[3]} and {self.words[4]}: a node of '{self.words[2]}' would stand past column or row {MOST_PLACE}"
+            yield (f"the copy is shifted by {self.words[3]} and {self.words[4]}: a node of '{self.words[2]}' would "
+                   f"stand past column or row {MOST_PLACE}")
 
     def BadSize(self):
         form, words = self.words[0], self.words
-        for name, word, key in (("W", words[6], "diffusion"), ("L", words[7], "poly")) if form == "fet" else [("width", words[-1], "")]:
+        sizes = [("width", words[-1], "")]
+        if form == "fet":
+            sizes = [("W", words[6], "diffusion"), ("L", words[7], "poly")]
+        for name, word, key in sizes:
             least = self.tech[f"width.{key}"] if key and self.tech else 0
-            why = "is odd" if int(word) % 2 else f"is past {MOST_SIZE}" if int(word) > MOST_SIZE else "is 0" if int(word) == 0 else ""
+            why = ("is odd" if int(word) % 2 else f"is past {MOST_SIZE}" if int(word) > MOST_SIZE else "is 0"
+                   if int(word) == 0 else "")
             why = why or (f"is below width.{key}, which is {least} u" if int(word) < least else "")
             if why:
                 yield f"the {name} {word} {why}; sizes are even, from 2 to {MOST_SIZE}"
@@ -260,7 +285,8 @@ class Faults:
         for path in self.paths():
             line = self.node(path)[0]
             if line and line.words[0] == "buried":
-                yield f"{told} is not that of the pad of the buried contact '{path}', {self.tech.buried_pad} u: {self.at(line)}"
+                yield (f"{told} is not that of the pad of the buried contact '{path}', {self.tech.buried_pad} u: "
+                       f"{self.at(line)}")
                 yield f"a wire that ends there is exactly so wide: give {self.tech.buried_pad}"
                 return
 
@@ -285,7 +311,8 @@ class Faults:
                 yield f"{told} is more than the pad of '{path}', {pad} u ({what}): {self.at(line)}"
 
     def NoBuried(self):
-        yield f"'{self.words[0]} {self.words[1]}' is a buried contact, and the technology is of version {self.tech['version'] if self.tech else 1}, which has none"
+        yield (f"'{self.words[0]} {self.words[1]}' is a buried contact, and the technology is of version "
+               f"{self.tech['version'] if self.tech else 1}, which has none")
         yield "examples/nmos2.toml is one of version 2"
 
     # ---- wires, ports, copies and limits
@@ -300,13 +327,16 @@ class Faults:
         told = []
         for path, line, x, y in self.ends():
             is_port = line.words[0] == "port"
-            told.append(f"'{path}' is at {line.words[2]} place {line.words[4]}" if is_port else f"'{path}' is at column {x}, row {y}")
+            told.append(f"'{path}' is at {line.words[2]} place {line.words[4]}" if is_port
+                        else f"'{path}' is at column {x}, row {y}")
             yield f"{told[-1]}: {self.at(line)}"
-        yield "a wire joins two nodes of one column or one row, or a node and a port in line with it; put a joint where it turns"
+        yield ("a wire joins two nodes of one column or one row, or a node and a port in line with it; put a joint "
+               "where it turns")
 
     def WrongLayer(self):
         layer = self.words[1]
-        takes = {"contact": lambda w: ("metal", w[2]), "fet": lambda w: ("poly", "diff"), "buried": lambda w: ("poly", "diff"),
+        takes = {"contact": lambda w: ("metal", w[2]), "fet": lambda w: ("poly", "diff"),
+                 "buried": lambda w: ("poly", "diff"),
                  "joint": lambda w: (w[2],), "port": lambda w: (w[3],)}
         for path, line, _, _ in self.ends():
             layers = takes[line.words[0]](line.words)
@@ -321,7 +351,8 @@ class Faults:
         for path, line, _, _ in ends:
             if line.words[0] == "fet" and ((line.words[3] == "h") == flat) != (layer == "poly"):
                 way, asked = ("sideways", "up or down") if flat else ("up or down", "sideways")
-                yield f"'{path}' has its gate {'across' if line.words[3] == 'h' else 'upwards'} ({line.words[3]}), so {layer} leaves it {asked}; this wire runs {way}: {self.at(line)}"
+                yield (f"'{path}' has its gate {'across' if line.words[3] == 'h' else 'upwards'} ({line.words[3]}), so "
+                       f"{layer} leaves it {asked}; this wire runs {way}: {self.at(line)}")
             elif line.words[0] == "buried":
                 yield f"at the buried contact '{path}' poly and diffusion may not leave on one side: {self.at(line)}"
 
@@ -340,15 +371,18 @@ class Faults:
                 yield "a port has exactly one wire; a joint takes more"
 
     def UseCycle(self):
-        yield f"'{self.words[2]}' is the cell in which the line stands ({self.path}:{self.cell.begin.number}), and no cell has itself in it"
+        yield (f"'{self.words[2]}' is the cell in which the line stands ({self.path}:{self.cell.begin.number}), and no "
+               "cell has itself in it")
 
     def UsedPorts(self):
         inner = self.design.cell(self.words[2])
         ports = inner.ports() if inner else []
-        yield f"cell '{self.words[2]}' has ports, and a cell with ports cannot be used, only stand in grids: {self.at(ports[0])}"
+        yield (f"cell '{self.words[2]}' has ports, and a cell with ports cannot be used, only stand in grids: "
+               f"{self.at(ports[0])}")
 
     def UseDepth(self):
-        yield f"by the copy of '{self.words[2]}' cell '{self.cell.name}' would be more than 16 deep; use the cells further down directly"
+        yield (f"by the copy of '{self.words[2]}' cell '{self.cell.name}' would be more than 16 deep; use the cells "
+               "further down directly")
 
     def BadLimit(self):
         a, b = self.paths()
@@ -358,4 +392,5 @@ class Faults:
             line, _, _, stop = self.node(path)
             end = stop or line
             if end and end.words[0] in ("port", "use") or stop:
-                yield f"'{path}' is no node" + (f", {'a port' if end.words[0] == 'port' else 'a copy' if end.words[0] == 'use' else 'it goes through one'}: {self.at(end)}")
+                what = {"port": "a port", "use": "a copy"}.get(end.words[0], "it goes through one")
+                yield f"'{path}' is no node, {what}: {self.at(end)}"

@@ -42,13 +42,15 @@ class Grid:
         line = self.grid.rows[int(row)]
         name = line.words[int(column) + 1]
         yield self.at(line)
-        yield f"no cell has the name '{name}', word {int(column) + 2} of the line (row {row}, column {column}){near(name, [it.name for it in self.design.cells])}"
+        yield (f"no cell has the name '{name}', word {int(column) + 2} of the line (row {row}, column "
+               f"{column}){near(name, [it.name for it in self.design.cells])}")
 
     def RaggedRow(self, row):
         first, line = self.grid.rows[0], self.grid.rows[int(row)]
         yield self.at(first)
         yield self.at(line)
-        yield f"names in the first row: {len(first.words) - 1}, in row {row}: {len(line.words) - 1}; all rows have as many"
+        yield (f"names in the first row: {len(first.words) - 1}, in row {row}: {len(line.words) - 1}; all rows have as "
+               "many")
 
     def PortMismatch(self, row, column, side, index):
         row, column, index = int(row), int(column), int(index)
@@ -59,17 +61,22 @@ class Grid:
         for line in dict.fromkeys(it.number for it, _ in ends):
             yield self.at(self.design.line(line))
         place = "to the right of" if side == "right" else "above"
-        yield f"'{ends[1][1]}' (row {beside[0]}, column {beside[1]}) stands {place} '{ends[0][1]}' (row {row}, column {column}); port {index} of the border, counted from 0, does not fit:"
+        yield (f"'{ends[1][1]}' (row {beside[0]}, column {beside[1]}) stands {place} '{ends[0][1]}' (row {row}, column "
+               f"{column}); port {index} of the border, counted from 0, does not fit:")
         for (_, name), where, ports in zip(ends, sides, both):
             if index < len(ports):
                 line, wire, layer, width = ports[index]
-                yield f"{self.at(line)}   port '{line.words[1]}' of '{name}', {layer}, {width} u wide" + (f" by line {wire.number}: {wire.text}" if wire else "")
+                yield (f"{self.at(line)}   port '{line.words[1]}' of '{name}', {layer}, {width} u wide"
+                       + (f" by line {wire.number}: {wire.text}" if wire else ""))
             else:
-                yield f"'{name}' has no port {index} on its {where} side; it has {', '.join(it[0].words[1] for it in ports) or 'none'} there"
+                yield (f"'{name}' has no port {index} on its {where} side; it has "
+                       f"{', '.join(it[0].words[1] for it in ports) or 'none'} there")
         if index < min(map(len, both)):
             (_, _, one, wide), (_, _, other, high) = (it[index] for it in both)
-            told = [f"the layers differ, {one} and {other}"] * (one != other) + [f"the widths differ, {wide} and {high} u"] * (wide != high)
-            yield "; ".join(told) if told else "the ports of a side are in order of place, then layer: diffusion, poly, metal"
+            told = ([f"the layers differ, {one} and {other}"] * (one != other)
+                    + [f"the widths differ, {wide} and {high} u"] * (wide != high))
+            yield ("; ".join(told) if told
+                   else "the ports of a side are in order of place, then layer: diffusion, poly, metal")
 
 
 def script_fault(path, text, number, command):
@@ -83,7 +90,8 @@ def script_fault(path, text, number, command):
     if bad:
         yield bad[0]
     elif words[0] not in forms:
-        other = " is a line of the other command's script" if words[0] in ("jog", "add", "drop") else " begins no line of it"
+        other = (" is a line of the other command's script" if words[0] in ("jog", "add", "drop")
+                 else " begins no line of it")
         yield f"'{words[0]}'{other}{near(words[0], forms)}"
     else:
         yield misfit(words[1:], {"jog": JOG, "add": ADD, "drop": DROP}[words[0]]).replace("its WAY", "left or right")
@@ -94,7 +102,8 @@ def steps(path, text, output, design, design_path, tech):
     """What the lines that `edit` wrote tell of the lines of its script: those that are refused or have no layout."""
     lines = [it for it in lines_of(text) if it.words]
     limits = {it.name: [line for line in it.lines if line.words[0] == "limit"] for it in design.cells}
-    masters, used = design.masters(), {line.words[2] for cell in design.cells for line in cell.lines if line.words[0] == "use"}
+    masters, used = design.masters(), {line.words[2] for cell in design.cells for line in cell.lines
+                                       if line.words[0] == "use"}
     for number, told in re.findall(r"^step (\d+) (.*)$", output, re.M):
         line = lines[int(number)]
         name = line.words[1]
@@ -108,7 +117,8 @@ def steps(path, text, output, design, design_path, tech):
             elif name in used:
                 yield f"the cell '{name}' is used by another cell: only a cell that none uses is edited"
             elif not is_add:
-                yield f"'{name}' has no limit {line.words[2]}: they are counted from 0, and it has {len(limits[name]) or 'none'} here"
+                yield (f"'{name}' has no limit {line.words[2]}: they are counted from 0, and it has "
+                       f"{len(limits[name]) or 'none'} here")
             else:
                 yield from limit_fault(design, design_path, tech, name, line)
             continue
@@ -118,11 +128,14 @@ def steps(path, text, output, design, design_path, tech):
             del limits[name][int(line.words[2])]
         if told.startswith("code"):
             code = int(told.split()[1])
-            why = {11: "with it the inequalities of a pass have no solution", 9: "with it there is too much of something", 5: "with it the design's text is too long"}
+            why = {11: "with it the inequalities of a pass have no solution",
+                   9: "with it there is too much of something", 5: "with it the design's text is too long"}
             yield f"{path}:{line.number}: {line.text}"
-            yield f"{why.get(code, f'with it compact ends with {code}')}; the design goes on with this line, and a later one may mend it"
+            yield (f"{why.get(code, f'with it compact ends with {code}')}; the design goes on with this line, and a "
+                   "later one may mend it")
             if code == 11:
-                yield f"write the limit into {design_path} to see the cycle, or drop it with: drop {name} {len(limits[name]) - 1}" if is_add else "a limit that came before does not fit"
+                yield (f"write the limit into {design_path} to see the cycle, or drop it with: drop {name} "
+                       f"{len(limits[name]) - 1}" if is_add else "a limit that came before does not fit")
 
 
 def limit_fault(design, design_path, tech, name, line):
@@ -140,4 +153,5 @@ def jogs(path, text, told):
     for number, cell in re.findall(r"^jog (\d+) (\S+) rejected$", told, re.M):
         line = lines[int(number)]
         yield f"{path}:{line.number}: {line.text}"
-        yield f"not kept: it made '{cell}' no narrower or another cell wider, or there is no such jog (docs/FORMATS.md, A script of jogs)"
+        yield (f"not kept: it made '{cell}' no narrower or another cell wider, or there is no such jog "
+               "(docs/FORMATS.md, A script of jogs)")

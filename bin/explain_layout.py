@@ -48,7 +48,9 @@ class Layout:
     def what(self, part, inlined):
         """What a part is, and where it is drawn."""
         if part.form != "wire":
-            kinds = {"joint": f"joint on {LAYERS.get(part.layer, part.layer)}", "contact": f"contact of metal to {LAYERS.get(part.layer, '')}", "buried": "buried contact", "fet": "transistor"}
+            kinds = {"joint": f"joint on {LAYERS.get(part.layer, part.layer)}",
+                     "contact": f"contact of metal to {LAYERS.get(part.layer, '')}", "buried": "buried contact",
+                     "fet": "transistor"}
             return f"{kinds[part.form]} at column {part.column}, row {part.row}"
         along, low, high = direction(part, inlined)
         ends = []
@@ -58,7 +60,8 @@ class Layout:
                 ends.append(f"the {end.line.words[2]} border ('{name}')")
             else:
                 ends.append(f"{('column', 'row')[along]} {(end.column, end.row)[along]} ('{name}')")
-        return f"{LAYERS[part.layer]} wire in {('row', 'column')[along]} {cross(part, inlined)}, from {ends[0]} to {ends[1]}"
+        return (f"{LAYERS[part.layer]} wire in {('row', 'column')[along]} {cross(part, inlined)}, from {ends[0]} to "
+                f"{ends[1]}")
 
     def told(self, name, inlined):
         part = inlined.part(name)
@@ -87,13 +90,16 @@ class Layout:
             flat, up = sorted((a, b), key=lambda it: direction(it, inlined)[0])
             if direction(flat, inlined)[0] != direction(up, inlined)[0]:
                 way = "h" if flat.layer == "poly" else "v"
-                yield f"repair: where poly crosses diffusion, a transistor stands: 'fet NAME enh {way} {cross(up, inlined)} {cross(flat, inlined)} W L', and the wires end at it"
+                yield (f"repair: where poly crosses diffusion, a transistor stands: 'fet NAME enh {way} "
+                       f"{cross(up, inlined)} {cross(flat, inlined)} W L', and the wires end at it")
                 yield "or, if none is meant, another column or row for one of the two, or metal and contacts"
                 return
         if any(rule[3] for rule, _ in seen.values()):
-            yield "repair: if the two belong to one net, join them by a wire; else draw one of them in another column or row"
+            yield ("repair: if the two belong to one net, join them by a wire; else draw one of them in another column "
+                   "or row")
         elif "spacing.poly_diffusion" in seen:
-            yield "repair: a 'fet' where poly is to cross diffusion, a 'contact' or 'buried' where they are to be joined; else another column or row for one of the two"
+            yield ("repair: a 'fet' where poly is to cross diffusion, a 'contact' or 'buried' where they are to be "
+                   "joined; else another column or row for one of the two")
         else:
             yield "repair: another column or row for one of the two"
 
@@ -125,14 +131,16 @@ class Layout:
         if step.why == "port":
             return list(self.port(low_cell, low, high_cell, high))
         if step.why == "pitch":
-            word = ("column", "row")[axis]
-            return [f"'{low_cell}' and '{high_cell}' share a {word} of a grid, so they are equally {('wide', 'high')[axis]}"]
+            word, how = (("column", "wide"), ("row", "high"))[axis]
+            return [f"'{low_cell}' and '{high_cell}' share a {word} of a grid, so they are equally {how}"]
         if step.why == "extent":
             return [WHY["extent"], *self.extent(drawn.inlined, low, high, axis)]
         return [WHY[step.why]]
 
     def space(self, drawn, low, high, axis, length, is_first):
-        """The boxes that ask for a spacing; which of them face each other is known of the first pass alone, in the layout as drawn."""
+        """The boxes that ask for a spacing; which of them face each other is known of the first pass alone, in the
+        layout as drawn.
+        """
         found = {}
         values = drawn.start() if is_first else None
         for rule, i, j in drawn.spaces(low, high, axis, length):
@@ -142,7 +150,8 @@ class Layout:
         if len(found) > 1 and not is_first:
             yield "one of these at least:"
         for key, (one, owners, other, others) in found.items():
-            yield f"{NAMES[one]} of {either(owners, low)} and {NAMES[other]} of {either(others, high)}: {key}, {self.tech[key]} u between their boxes"
+            yield (f"{NAMES[one]} of {either(owners, low)} and {NAMES[other]} of {either(others, high)}: {key}, "
+                   f"{self.tech[key]} u between their boxes")
         sides = list(found.values())
         for k, name in ((1, low), (3, high)):
             owners = {owner for it in sides for owner in it[k]}
@@ -154,7 +163,8 @@ class Layout:
         found = list(drawn.margins(name, axis, is_high, length))
         border = (("left", "right"), ("lower", "upper"))[axis][is_high]
         for item in found[:1]:
-            yield f"{NAMES[item.kind]} of {item.owner} keeps off the {border} border by {self.tech.margin(item.kind)[0]} u ({self.tech.margin(item.kind)[1]})"
+            yield (f"{NAMES[item.kind]} of {item.owner} keeps off the {border} border by "
+                   f"{self.tech.margin(item.kind)[0]} u ({self.tech.margin(item.kind)[1]})")
         owners = dict.fromkeys([it.owner for it in found[:1]] or [name])
         for owner in owners:
             yield from self.lines(drawn.inlined.part(owner))
@@ -163,13 +173,15 @@ class Layout:
         """The limits that ask for an inequality: each with whether it is an upper one."""
         for it in inlined.limits:
             words, ends = it.line.words, it.ends
-            if words[1] == AXES[axis] and (ends == (low, high) and words[4] == ">=" and int(words[5]) == length or ends == (high, low) and words[4] == "<=" and -int(words[5]) == length):
+            if (words[1] == AXES[axis] and (ends == (low, high) and words[4] == ">=" and int(words[5]) == length
+                                            or ends == (high, low) and words[4] == "<=" and -int(words[5]) == length)):
                 yield it, words[4] == "<="
 
     def limit(self, inlined, low, high, axis, length):
         for part, is_upper in self.limits(inlined, low, high, axis, length):
             a, b = part.ends
-            yield f"'{b}' lies at {'most' if is_upper else 'least'} {part.line.words[5]} u {('to the right of', 'above')[axis]} '{a}'"
+            yield (f"'{b}' lies at {'most' if is_upper else 'least'} {part.line.words[5]} u "
+                   f"{('to the right of', 'above')[axis]} '{a}'")
             yield from self.lines(part)
             return
 
@@ -214,7 +226,8 @@ class Layout:
     def cycle(self, told):
         last = read_report(told)[-1]
         axis, steps = AXES.index(last.axis), last.cycle
-        yield f"pass {last.number} on {last.axis}: these {len(steps)} inequalities lead from {steps[0].low} round to itself, and ask that it lies {last.excess} u past itself:"
+        yield (f"pass {last.number} on {last.axis}: these {len(steps)} inequalities lead from {steps[0].low} round to "
+               f"itself, and ask that it lies {last.excess} u past itself:")
         for step in steps:
             yield from self.told_step(step, axis, last.number == 1)
         yield from self.way_out(last, steps, axis)
@@ -223,17 +236,22 @@ class Layout:
         is_told = False
         for step in steps:
             (cell, low), (_, high) = self.split(step.low), self.split(step.high)
-            for part, is_upper in self.limits(self.drawn(cell).inlined, low, high, axis, step.length) if step.why == "limit" else ():
+            for part, is_upper in self.limits(self.drawn(cell).inlined, low, high, axis,
+                                              step.length) if step.why == "limit" else ():
                 n = int(part.line.words[5])
                 new = f"<= {n + last.excess}" if is_upper else f">= {n - last.excess}"
-                yield f"{'or' if is_told else 'repair:'} line {part.line.number}: '{new}' in place of '{part.line.words[4]} {n}' opens this cycle (there may be another one that is longer)"
+                yield (f"{'or' if is_told else 'repair:'} line {part.line.number}: '{new}' in place of "
+                       f"'{part.line.words[4]} {n}' opens this cycle (there may be another one that is longer)")
                 is_told = True
         has_port = any(it.why == "port" for it in steps)
         if has_port and last.number > 1:
             other = "yx" if axis == 1 else "xy"
-            yield f"{'or' if is_told else 'repair:'} try --passes {other}, with which the pass on {AXES[axis]} comes first, while the parts still stand as drawn; or draw the ports in other {('columns', 'rows')[axis]}"
+            yield (f"{'or' if is_told else 'repair:'} try --passes {other}, with which the pass on {AXES[axis]} comes "
+                   "first, while the parts still stand as drawn; or draw the ports in other "
+                   f"{('columns', 'rows')[axis]}")
         elif has_port:
-            yield f"{'or' if is_told else 'repair:'} draw the ports that meet in {('columns', 'rows')[axis]} that lie level in both cells"
+            yield (f"{'or' if is_told else 'repair:'} draw the ports that meet in {('columns', 'rows')[axis]} that lie "
+                   "level in both cells")
         elif not is_told:
             yield from repair("11 a cycle")
         yield f"together the lines have to give way by {last.excess} u"
@@ -250,5 +268,6 @@ class Layout:
                 at = 0
                 for step in cell.path:
                     at += step.length
-                    yield f"  {self.variable(step.high, axis)} is at {at} u: {step.length} u past {self.variable(step.low, axis)} ({step.why})"
+                    yield (f"  {self.variable(step.high, axis)} is at {at} u: {step.length} u past "
+                           f"{self.variable(step.low, axis)} ({step.why})")
                     yield from (f"      {it}" for it in self.step(step, axis, is_first))

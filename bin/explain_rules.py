@@ -51,17 +51,19 @@ class Rules:
 
     def pair(self):
         """The poly and the diffusion of the two, as boxes."""
-        return next(it[1] for it in self.named.values() if it[0] == "NP"), next(it[1] for it in self.named.values() if it[0] == "ND")
+        return tuple(next(it[1] for it in self.named.values() if it[0] == wanted) for wanted in ("NP", "ND"))
 
     def past(self, a, b):
         """How far a goes past b on its four sides, in u."""
-        return [(b[0] - a[0]) / self.grains, (a[1] - b[1]) / self.grains, (b[2] - a[2]) / self.grains, (a[3] - b[3]) / self.grains]
+        return [(b[0] - a[0]) / self.grains, (a[1] - b[1]) / self.grains, (b[2] - a[2]) / self.grains,
+                (a[3] - b[3]) / self.grains]
 
     def crosses(self, poly, diff):
         """Whether they cross properly, so that a channel is theirs."""
         p, d = self.past(poly, diff), self.past(diff, poly)
         one, other = self.tech["extension.poly"], self.tech["extension.diffusion"]
-        return overlap(poly, diff) and any(min(p[2 * k : 2 * k + 2]) >= one and min(d[2 - 2 * k : 4 - 2 * k]) >= other for k in (0, 1))
+        return (overlap(poly, diff) and any(min(p[2 * k : 2 * k + 2]) >= one and min(d[2 - 2 * k : 4 - 2 * k]) >= other
+                                            for k in (0, 1)))
 
     def channel(self, diff):
         """The channel of a diffusion box, if poly crosses it."""
@@ -73,10 +75,12 @@ class Rules:
         if rule == 1:
             layer, box, _ = self.named[self.a]
             wide, high = box[1] - box[0], box[3] - box[2]
-            yield f"rule: {LAYERS[layer]} is at least {self.tech[WIDTH[layer]]} u wide and high ({WIDTH[layer]}); this box is {self.in_u(wide)} by {self.in_u(high)} u"
+            yield (f"rule: {LAYERS[layer]} is at least {self.tech[WIDTH[layer]]} u wide and high ({WIDTH[layer]}); "
+                   f"this box is {self.in_u(wide)} by {self.in_u(high)} u")
         elif rule == 2:
             _, box, _ = self.named[self.a]
-            yield f"rule: a cut is {self.tech['cut.size']} by {self.tech['cut.size']} u (cut.size); this one is {self.in_u(box[1] - box[0])} by {self.in_u(box[3] - box[2])} u"
+            yield (f"rule: a cut is {self.tech['cut.size']} by {self.tech['cut.size']} u (cut.size); this one is "
+                   f"{self.in_u(box[1] - box[0])} by {self.in_u(box[3] - box[2])} u")
         elif rule == 3:
             yield from self.improper()
         elif rule == 5:
@@ -101,18 +105,24 @@ class Rules:
         far = f"they lie {self.in_u(gap)} u apart" if gap > 0 else "they touch" if gap == 0 else "they overlap"
         yield f"rule: {what} lie at least {need} u apart ({key}); {far}"
         if gap >= 0:
-            yield f"repair: move one of them {need - gap / self.grains:g} u or more away" + (", or join them to one net" if rule in (6, 7, 8) else "")
+            yield (f"repair: move one of them {need - gap / self.grains:g} u or more away"
+                   + (", or join them to one net" if rule in (6, 7, 8) else ""))
         elif rule == 11:
-            yield f"repair: an implant goes past a channel by {self.tech['extension.implant']} u on all sides, or keeps off it"
+            yield (f"repair: an implant goes past a channel by {self.tech['extension.implant']} u on all sides, or "
+                   "keeps off it")
 
     def improper(self):
         poly, diff = self.pair()
         if self.crosses(poly, diff):
-            others = [n for n, (layer, box) in enumerate(self.masks.boxes()) if (layer == "NP" and overlap(box, diff) or layer == "ND" and overlap(box, poly)) and n not in self.named]
-            yield "rule: they cross as a transistor does, but one of them overlaps a further box of the other's layer" + (f": box {others[0]}" if others else "")
+            others = [n for n, (layer, box) in enumerate(self.masks.boxes())
+                      if (layer == "NP" and overlap(box, diff) or layer == "ND" and overlap(box, poly))
+                      and n not in self.named]
+            yield ("rule: they cross as a transistor does, but one of them overlaps a further box of the other's layer"
+                   + (f": box {others[0]}" if others else ""))
             return
         one, other = self.tech["extension.poly"], self.tech["extension.diffusion"]
-        yield f"rule: poly and diffusion that overlap cross: poly goes past diffusion by {one} u on two opposite sides (extension.poly), and diffusion past poly by {other} u on the two others (extension.diffusion)"
+        yield (f"rule: poly and diffusion that overlap cross: poly goes past diffusion by {one} u on two opposite "
+               f"sides (extension.poly), and diffusion past poly by {other} u on the two others (extension.diffusion)")
         past, beside = self.past(poly, diff), self.past(diff, poly)
         names = ("to the left", "to the right", "below", "above")
         across = 0 if min(past[:2]) + min(beside[2:]) >= min(past[2:]) + min(beside[:2]) else 2
@@ -121,9 +131,11 @@ class Rules:
             has, need = (past[k], one) if is_poly else (beside[k], other)
             if has < need:
                 how = f"goes {has:g} u past" if has > 0 else "ends with" if has == 0 else f"ends {-has:g} u short of"
-                yield f"{name} {'poly' if is_poly else 'diffusion'} {how} {'diffusion' if is_poly else 'poly'}: {need - has:g} u are missing"
+                yield (f"{name} {'poly' if is_poly else 'diffusion'} {how} {'diffusion' if is_poly else 'poly'}: "
+                       f"{need - has:g} u are missing")
         if self.tech["version"] == 2:
-            yield f"or it is a buried contact, where a window (NB) covers what they have in common by {self.tech['extension.buried']} u on all sides"
+            yield ("or it is a buried contact, where a window (NB) covers what they have in common by "
+                   f"{self.tech['extension.buried']} u on all sides")
 
     def enclosure(self):
         _, cut, _ = self.named[self.a]
@@ -132,7 +144,8 @@ class Rules:
             if layer in ("NM", "NP", "ND") and overlap(box, cut):
                 kind = "metal" if layer == "NM" else "poly or diffusion"
                 best[kind] = max(best.get(kind, -1 << 30), min(self.past(box, cut)))
-        yield f"rule: a cut lies inside one box of metal, and inside one of poly or diffusion, by {need} u on all sides (cut.enclosure)"
+        yield (f"rule: a cut lies inside one box of metal, and inside one of poly or diffusion, by {need} u on all "
+               "sides (cut.enclosure)")
         for kind in ("metal", "poly or diffusion"):
             if kind not in best:
                 yield f"no box of {kind} lies over this cut"

@@ -70,7 +70,8 @@ class Fault:
             number = int(told[2]) if told and told[2] else len(self.text.rstrip("\n").split("\n"))
             line = self.text.split("\n")[number - 1].strip()
             yield f"{self.path}:{number}: {line}"
-            yield f"here, at column {told[3] if told and told[3] else 'the end'}, it is no TOML any more: {told[1] if told else it}"
+            yield (f"here, at column {told[3] if told and told[3] else 'the end'}, it is no TOML any more: "
+                   f"{told[1] if told else it}")
             if re.search(r"=\s*\d+\s*[a-zA-Z]", line):
                 yield "write the number alone: lengths are in u"
 
@@ -101,7 +102,8 @@ class Fault:
             yield f"'{table}' has to be a table, in which '{key}' is an integer; here it is something else"
             return
         value = self.numbers.numbers.get(key) if self.numbers else None
-        kind = {float: "a number with a point", str: "a text in quotes", bool: "a truth value", list: "an array"}.get(type(value), "no integer")
+        kind = {float: "a number with a point", str: "a text in quotes", bool: "a truth value",
+                list: "an array"}.get(type(value), "no integer")
         yield f"'{key}' has to be an integer; here it is {kind}"
 
     def unknown(self, key):
@@ -117,7 +119,8 @@ class Fault:
 
     def range(self, key):
         yield from self.told(key)
-        yield "'version' is 1 or 2" if key == "version" else f"'{key}' is a number from 0 to 4096; it is {self.value(key)}"
+        yield ("'version' is 1 or 2" if key == "version"
+               else f"'{key}' is a number from 0 to 4096; it is {self.value(key)}")
 
     def value(self, key):
         return self.numbers[key] if self.numbers else 0
@@ -128,7 +131,8 @@ class Fault:
 
     def odd(self, key):
         yield from self.told(key)
-        yield f"'{key}' has to be even and not 0, it is {self.value(key)}" + ("" if key == "unit" else ": places are those of centres, with half of it on either side")
+        yield (f"'{key}' has to be even and not 0, it is {self.value(key)}"
+               + ("" if key == "unit" else ": places are those of centres, with half of it on either side"))
 
     def zero(self, key):
         yield from self.told(key)
@@ -136,24 +140,31 @@ class Fault:
 
     def short_channel(self):
         keys = ["width.poly", "spacing.poly_diffusion", "spacing.diffusion"]
-        yield from self.sum(keys, "the width of poly and its spacing to diffusion, {0} + {1} u, are below the spacing of diffusion, {2} u")
+        yield from self.sum(
+            keys,
+            "the width of poly and its spacing to diffusion, {0} + {1} u, are below the spacing of diffusion, {2} u")
 
     def short_extension(self):
         for key in ("extension.poly", "extension.diffusion"):
             if self.value(key) <= self.value("spacing.poly_diffusion"):
-                yield from self.sum([key, "spacing.poly_diffusion"], f"'{key}', {{0}} u, has to be more than the spacing of poly to diffusion, {{1}} u")
+                yield from self.sum([key, "spacing.poly_diffusion"],
+                                    f"'{key}', {{0}} u, has to be more than the spacing of poly to diffusion, {{1}} u")
 
     def narrow_fet(self):
-        for width, key, other in (("diffusion", "extension.poly", "poly"), ("poly", "extension.diffusion", "diffusion")):
+        for width, key, other in (("diffusion", "extension.poly", "poly"),
+                                  ("poly", "extension.diffusion", "diffusion")):
             if self.value(f"width.{width}") + 2 * self.value(key) < self.value(f"width.{other}"):
                 keys = [f"width.{width}", key, f"width.{other}"]
-                yield from self.sum(keys, f"the {other} of the smallest transistor would be {{0}} + 2 * {{1}} u wide, and {other} has to be {{2}} u wide")
+                yield from self.sum(
+                    keys, f"the {other} of the smallest transistor would be {{0}} + 2 * {{1}} u wide, and {other} has "
+                          f"to be {{2}} u wide")
 
     def small_pad(self):
         for layer in TABLES["width"]:
             if self.value("cut.size") + 2 * self.value("cut.enclosure") < self.value(f"width.{layer}"):
                 keys = ["cut.size", "cut.enclosure", f"width.{layer}"]
-                yield from self.sum(keys, f"the pad of a contact would be {{0}} + 2 * {{1}} u wide, and {layer} has to be {{2}} u wide")
+                yield from self.sum(
+                    keys, f"the pad of a contact would be {{0}} + 2 * {{1}} u wide, and {layer} has to be {{2}} u wide")
                 return
 
 

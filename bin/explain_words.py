@@ -31,7 +31,8 @@ def near(word, words):
 
 def form_of(command):
     operand, options = COMMANDS[command]
-    return " ".join([command, operand, *(f"--{it} {VALUE[it]}" if it in NEEDED else f"[--{it} {VALUE[it]}]" for it in options)])
+    return " ".join(
+        [command, operand, *(f"--{it} {VALUE[it]}" if it in NEEDED else f"[--{it} {VALUE[it]}]" for it in options)])
 
 
 def kind_of(text):
@@ -50,7 +51,9 @@ def kind_of(text):
 
 
 class Call:
-    """The words of a command, read as the program reads them: its name, its operand, its options, and what is wrong with them."""
+    """The words of a command, read as the program reads them: its name, its operand, its options, and what is wrong
+    with them.
+    """
 
     def __init__(self, words):
         self.command = words[0] if words else ""
@@ -60,9 +63,11 @@ class Call:
         elif not words:
             self.faults.append(f"a command is missing: the first word is one of {', '.join(COMMANDS)}")
         elif self.command.startswith("-"):
-            self.faults.append(f"word 1, '{self.command}', is no command: the command's name is the first word, and options stand behind it")
+            self.faults.append(f"word 1, '{self.command}', is no command: the command's name is the first word, and "
+                               "options stand behind it")
         else:
-            self.faults.append(f"word 1, '{self.command}', is none of {', '.join(COMMANDS)}{near(self.command, COMMANDS)}")
+            self.faults.append(
+                f"word 1, '{self.command}', is none of {', '.join(COMMANDS)}{near(self.command, COMMANDS)}")
 
     def _read(self, words):
         name, options = COMMANDS[self.command]
@@ -76,7 +81,8 @@ class Call:
                 option, has_value, value = word[2:].partition("=")
                 if option not in options:
                     meant = self._other_option(f"--{option}", place, options)
-                    at += bool(meant or option in VALUE) and not has_value and at < len(words) and not words[at].startswith("-")
+                    at += (bool(meant or option in VALUE) and not has_value and at < len(words)
+                           and not words[at].startswith("-"))
                     continue
                 if not has_value:
                     if at == len(words) or words[at].startswith("-") and words[at] != "-":
@@ -89,9 +95,11 @@ class Call:
                     self.faults.append(f"word {place}, '--{option}', stands there for a second time; it is given once")
                 self.options[option] = value
             elif word.startswith("-") and word != "-" and not only_files:
-                at += bool(self._other_option(word, place, options)) and at < len(words) and not words[at].startswith("-")
+                at += (bool(self._other_option(word, place, options)) and at < len(words)
+                       and not words[at].startswith("-"))
             elif self.operand is not None:
-                self.faults.append(f"word {place}, '{word}', is one too many: {self.command} takes one {name}, which is '{self.operand}'")
+                self.faults.append(f"word {place}, '{word}', is one too many: {self.command} takes one {name}, which "
+                                   f"is '{self.operand}'")
             else:
                 self.operand = word
         if self.operand is None:
@@ -116,16 +124,20 @@ class Call:
     def _values(self):
         passes = self.options.get("passes")
         if passes is not None and not re.fullmatch(r"(?=.*x)(?=.*y)[xy]{1,16}", passes):
-            why = "it has other letters than x and y" if re.search("[^xy]", passes) else "it has more than 16 letters" if len(passes) > 16 else ""
+            why = ("it has other letters than x and y" if re.search("[^xy]", passes) else "it has more than 16 letters"
+                   if len(passes) > 16 else "")
             missing = [it for it in "xy" if it not in passes]
             why = why or f"a pass on {' and on '.join(missing)} is missing"
-            self.faults.append(f"--passes '{passes}': {why}; it is a letter for each pass, x or y, 1 to 16, both of them among these, as xy or yx")
+            self.faults.append(f"--passes '{passes}': {why}; it is a letter for each pass, x or y, 1 to 16, both of "
+                               "them among these, as xy or yx")
         count = r"[1-9][0-9]?"
         split = self.options.get("split")
         if split is not None and not (re.fullmatch(count, split) and int(split) <= 64):
-            self.faults.append(f"--split '{split}': it is a number from 1 to 64, without a leading zero")
-        if self.command == "bench" and self.operand is not None and not (re.fullmatch(count, self.operand) and int(self.operand) <= 64):
-            self.faults.append(f"word 2, '{self.operand}', is no N of bench: it is a number from 1 to 64, without a leading zero")
+            self.faults.append(f"--split '{split}': it is a number from 1 to 64, of three digits at most")
+        if (self.command == "bench" and self.operand is not None
+            and not (re.fullmatch(count, self.operand) and int(self.operand) <= 64)):
+            self.faults.append(
+                f"word 2, '{self.operand}', is no N of bench: it is a number from 1 to 64, of three digits at most")
 
     def path(self, kind):
         """The name of a file: of the design, the technology, the cif or the script."""
@@ -143,7 +155,9 @@ class Call:
 
 
 def known_repair(word):
-    """What docs/FORMATS.md says of a kind of fault, or of a status: what to look for, a line that has it, and one that has not."""
+    """What docs/FORMATS.md says of a kind of fault, or of a status: what to look for, a line that has it, and one that
+    has not.
+    """
     try:
         text = (HERE.parent / "docs/FORMATS.md").read_text(encoding="utf-8")
     except OSError:
@@ -177,26 +191,31 @@ def usage(call):
 
 def cannot_read(call, kind):
     path = call.path(kind)
-    where = {"technology": "--tech", "script": "--script"}.get(kind, f"the {COMMANDS[call.command][0]} of {call.command}")
+    operand = f"the {COMMANDS[call.command][0]} of {call.command}"
+    where = {"technology": "--tech", "script": "--script"}.get(kind, operand)
     here = Path(path)
     if not path:
         yield f"{where}: the name is empty"
     elif here.is_dir():
         yield f"{where}: '{path}' is a folder, not a file"
     elif here.exists():
-        yield f"{where}: '{path}' is there, but may not be read" + ("" if os.access(path, os.R_OK) else " by you: look at its permissions")
+        yield (f"{where}: '{path}' is there, but may not be read"
+               + ("" if os.access(path, os.R_OK) else " by you: look at its permissions"))
     elif here.is_symlink():
         yield f"{where}: '{path}' is a link to what is not there"
     else:
         names = [it.name for it in here.parent.iterdir()] if here.parent.is_dir() else []
         yield f"{where}: there is no file '{path}'{near(here.name, names)}"
+        if path == "-":
+            yield "'-' is a name as any other; standard input is the file '/dev/stdin'"
         if not here.parent.is_dir():
             yield f"its folder '{here.parent}' is not there either"
 
 
 def too_long(call, kind):
     size = Path(call.path(kind)).stat().st_size if Path(call.path(kind)).is_file() else 0
-    has = f"has {size:,} bytes, {size - MOST[kind]:,} more than it may" if size > MOST[kind] else "goes on for longer than it may"
+    has = (f"has {size:,} bytes, {size - MOST[kind]:,} more than it may" if size > MOST[kind]
+           else "goes on for longer than it may")
     yield f"'{call.path(kind)}' {has}: a {kind} is at most {MOST[kind]:,} bytes long"
     if kind == "cif":
         yield "a CIF text is shorter with symbols that are called"
@@ -206,7 +225,8 @@ def too_long(call, kind):
 
 def too_large(what):
     tells = {
-        "items": "the cells that grids name have more than 65,536 items, limits and uses together, each cell counted once",
+        "items": "the cells that grids name have more than 65,536 items, limits and uses together, each cell counted "
+                 "once",
         "boxes": "all instances together have more than 1,048,576 mask boxes",
         "edges": "a pass would list more than 4,194,304 inequalities",
         "extent": "the grids together are wider or higher than 2^30 hundredths of a micron",

@@ -102,8 +102,11 @@ class Program:
 
 
 def read_report(text):
-    """Gives the passes of a report, in order; a cycle, if there is one, is that of the last of them."""
-    passes = []
+    """Gives the passes of a report, in order; a cycle, if there is one, is that of the last of them.
+
+    In front of it may stand what bin/try and bin/sticks tell of their builds, on the same stream.
+    """
+    passes, told = [], ""
     for line in text.splitlines():
         if found := PASS.fullmatch(line):
             number, axis, *counts = found.groups()
@@ -118,8 +121,12 @@ def read_report(text):
                 raise Refused(f"no report of passes: '{line[:60]}' stands before a cell")
             steps = here.cycle if here.excess else here.cells[-1].path
             steps.append(Step(found[1], found[2], int(found[3]), found[4]))
+        elif not passes and line.startswith(("try: ", "sticks: ")):
+            told = line
         else:
             raise Refused(f"no report of passes: it has the line '{line[:60]}'")
+    if told and not passes:
+        raise Refused(f"no report of passes: it has the line '{told[:60]}'")
     return passes
 
 

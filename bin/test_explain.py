@@ -1,4 +1,6 @@
-"""Tests of bin/explain: what it says of the stored answers of the program to the mistakes of bench/, which it needs no program for."""
+"""Tests of bin/explain: what it says of the stored answers of the program to the mistakes of bench/, which it needs no
+program for.
+"""
 import json
 import os
 import re
@@ -79,7 +81,8 @@ class Explain(unittest.TestCase):
 
     def test_words_and_what_cannot_be_told(self):
         self.assertIn("explain [--quiet] [--program PATH] WORDS", call("explain", "--help")[1])
-        self.assertEqual(call("explain", "--program", "nothing", "fmt"), (1, "", "explain: nothing: there is no such program\n"))
+        self.assertEqual(call("explain", "--program", "nothing", "fmt"),
+                         (1, "", "explain: nothing: there is no such program\n"))
         told = call("explain", *self.answered(7, "", "sticks: line 3: NewKind\n"), "fmt", EXAMPLES / "row.sticks")[2]
         self.assertIn("explain: no more can be told", told)
         self.assertEqual(call("explain", *self.answered(70, "", "sticks: no\n"), "fmt", "x"), (70, "", "sticks: no\n"))
@@ -88,11 +91,13 @@ class Explain(unittest.TestCase):
         told = run(ROOT / "bin/sticks", "--help")[1]
         for command in COMMANDS:
             self.assertIn(f"  sticks {form_of(command).replace('--script FILE', '--script SCRIPT')}\n", told)
-        for words in ("compact d --tech t", "check c --tech=t --split 64", "fmt -- -d", "bench 64", "jog d --script s --tech t --passes yx", "edit - --script s --tech t"):
+        for words in ("compact d --tech t", "check c --tech=t --split 64", "fmt -- -d", "bench 64",
+                      "jog d --script s --tech t --passes yx", "edit - --script s --tech t"):
             self.assertEqual(Call(words.split()).faults, [], words)
 
     def test_repairs_are_read_out_of_the_manual(self):
-        for word in ("BadByte", "UsedPorts", "PortMismatch", "PadTooSmall", "BadNumber", "9 `too large: ..", "11 a cycle", "14 `not proper", "1 `out of memory", "4 `cannot write output"):
+        for word in ("BadByte", "UsedPorts", "PortMismatch", "PadTooSmall", "BadNumber", "9 `too large: ..",
+                     "11 a cycle", "14 `not proper", "1 `out of memory", "4 `cannot write output"):
             self.assertTrue(known_repair(word), word)
 
 
@@ -122,7 +127,8 @@ end
         cell = Design(self.TEXT).inlined("mid")
         self.assertEqual(list(cell.nodes), ["u.a", "u.b", "k", "v.a", "v.b"])
         self.assertEqual([(it.name, it.line.number, [use.number for use in it.uses], it.ends) for it in cell.wires],
-                         [("#0", 5, [9], ("u.a", "u.b")), ("#1", 11, [], ("u.b", "k")), ("#2", 5, [12], ("v.a", "v.b"))])
+                         [("#0", 5, [9], ("u.a", "u.b")), ("#1", 11, [], ("u.b", "k")),
+                          ("#2", 5, [12], ("v.a", "v.b"))])
         self.assertEqual([(it.column, it.row) for it in cell.nodes.values()], [(0, 1), (2, 1), (4, 1), (0, 2), (2, 2)])
         self.assertEqual([it.ends for it in cell.limits], [("u.a", "u.b"), ("v.a", "v.b")])
 

@@ -94,6 +94,17 @@ class Picture(unittest.TestCase):
         self.assertEqual(re.search(r'd="([^"]*)" fill="none" stroke="#555"', framed)[1].count("Z"), 5)
         self.assertNotIn("frame", self.drawn(EXAMPLES / "inverter.cif", "--design", EXAMPLES / "inverter.sticks"))
 
+    def test_a_report_behind_what_a_build_tells(self):
+        cif, *words = stored("inverter")[:3]
+        passes = (EXAMPLES / "inverter.report").read_text()
+        for before in ("try: nothing is proved of this program\n", "sticks: building\nsticks: it is built\n"):
+            report = self.file("report", before + passes)
+            self.assertEqual(self.drawn(cif, *words, "--report", report), (EXAMPLES / "inverter.svg").read_text())
+        for text in ("sticks: line 1: BadByte\n", passes + "try: behind it\n"):
+            status, told, wrong = call("picture", cif, "--report", self.file("report", text))
+            self.assertEqual((status, told), (1, ""))
+            self.assertIn("no report of passes: it has the line", wrong)
+
     def test_a_cycle(self):
         cif, design, report = self.file("cif", JOINTS), self.file("design", DESIGN), self.file("report", CYCLE)
         told = self.drawn(cif, "--design", design, "--report", report)
