@@ -29,7 +29,8 @@ class Install(InCopy):
         put = files_below(self.prefix)
         wanted = {f"share/sticks/examples/{name}": text for name, text in files_below(EXAMPLES).items()}
         wanted["lib/sticks/bin/sticks"] = (self.copy / PROGRAM).read_bytes()
-        wanted["lib/sticks/docs/FORMATS.md"] = (ROOT / "docs/FORMATS.md").read_bytes()
+        for name in ("FORMATS", "TUTORIAL", "COOKBOOK"):
+            wanted[f"lib/sticks/docs/{name}.md"] = (ROOT / f"docs/{name}.md").read_bytes()
         wanted["share/man/man1/sticks.1"] = (ROOT / "docs/sticks.1").read_bytes()
         companions = [name for name in ("picture", "passes", "explain") if (ROOT / "bin" / name).exists()]
         for name in [*companions, *(it.name for it in (ROOT / "bin").glob("*.py"))]:
