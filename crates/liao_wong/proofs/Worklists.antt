@@ -25,6 +25,7 @@ use Rattle.liao_wong.specs.Marked.{is_marked}
 use Rattle.liao_wong.specs.Worklist.{AppendsNothing, has_ready_tail, IsWorklist, WaitToo, BackwardOnesWait, HasLookedForward, HasNoneReady, HasLookedAtPlace}
 use Rattle.liao_wong.proofs.Marking.{set_here, set_elsewhere, set_only, set_was_not, cleared}
 use Rattle.liao_wong.proofs.Course.{place_at}
+use Rattle.liao_wong.proofs.Steps.{leaving_in_range}
 
 -- ---- looks that append nothing
 
@@ -219,3 +220,16 @@ worklist_trimmed edges order ready waiting floor old new w t =
 -- the edges that leave a variable have it as their tail
 pub leaving_tails : (edges : List Edge) (v : ℕ) → All (λ k. (edge_at edges k).from ≡ v) (leaving edges v)
 leaving_tails edges v k d lt = eqb-true (edge_at edges (get_or (leaving edges v) k d)).from v (In-filter (λ j. eqb (edge_at edges j).from v) (get_or (leaving edges v) k d) (range_with_len 0 (length edges)) (In-at (leaving edges v) k d lt)).1
+
+-- the numbers of the edges that leave a variable, of a list that is the graph's
+pub all_in_range : (edges es : List Edge) (v : ℕ) (ns : List ℕ) → es ≡ edges → ns ≡ leaving edges v → All (λ k. k < length es) ns
+all_in_range edges es v ns same is =
+    let N : List ℕ → Type 0 = λ l. All (λ k. k < length es) l in
+    let E : List Edge → Type 0 = λ l. All (λ k. k < length l) (leaving edges v) in
+    subst N (sym is) (subst E (sym same) (leaving_in_range edges v))
+
+pub backward_wait : (edges es : List Edge) (order : List ℕ) (v : ℕ) (ns : List ℕ) (waiting : List Bool) → es ≡ edges → ns ≡ leaving edges v → BackwardOnesWait es order ns waiting → BackwardOnesWait edges order (leaving edges v) waiting
+backward_wait edges es order v ns waiting same is h =
+    let N : List ℕ → Type 0 = λ l. BackwardOnesWait es order l waiting in
+    let E : List Edge → Type 0 = λ l. BackwardOnesWait l order (leaving edges v) waiting in
+    subst E same (subst N is h)

@@ -7,16 +7,8 @@ use Rattle.round_log.specs.Looks.{look}
 use Rattle.liao_wong.specs.Held.{Held}
 use Rattle.liao_wong.specs.Going.{forward_of}
 use Rattle.liao_wong.specs.Worklist.{IsWorklist, HasLookedForward, HasLookedAtPlace, WaitToo, BackwardOnesWait}
-use Rattle.liao_wong.proofs.Steps.{leaving_in_range}
-use Rattle.liao_wong.proofs.Worklists.{leaving_tails, worklist_waits, worklist_passed, passed_place}
+use Rattle.liao_wong.proofs.Worklists.{all_in_range, backward_wait, leaving_tails, worklist_waits, worklist_passed, passed_place}
 use Rattle.liao_wong.proofs.rounds.look_at_place.Goals as goal
-
--- the numbers of the edges that leave the variable are those of its run
-all_in_range : (edges es : List Edge) (v : ℕ) (ns : List ℕ) → es ≡ edges → ns ≡ leaving edges v → All (λ k. k < length es) ns
-all_in_range edges es v ns same is =
-    let N : List ℕ → Type 0 = λ l. All (λ k. k < length es) l in
-    let E : List Edge → Type 0 = λ l. All (λ k. k < length l) (leaving edges v) in
-    subst N (sym is) (subst E (sym same) (leaving_in_range edges v))
 
 pub look_at_forward-requires-clause-in_range : goal.look_at_forward-requires-clause-in_range
 look_at_forward-requires-clause-in_range c =
@@ -43,12 +35,6 @@ looked_at edges es order v ns old new rs same is h =
     let N : List ℕ → Type 0 = λ l. (tail : ℕ) → All (λ k. (edge_at es k).from ≡ tail) l → HasLookedForward es order l tail old new rs in
     let E : List Edge → Type 0 = λ l. (tail : ℕ) → All (λ k. (edge_at l k).from ≡ tail) (leaving edges v) → HasLookedForward l order (leaving edges v) tail old new rs in
     subst E same (subst N is h) v (leaving_tails edges v)
-
-backward_wait : (edges es : List Edge) (order : List ℕ) (v : ℕ) (ns : List ℕ) (waiting : List Bool) → es ≡ edges → ns ≡ leaving edges v → BackwardOnesWait es order ns waiting → BackwardOnesWait edges order (leaving edges v) waiting
-backward_wait edges es order v ns waiting same is h =
-    let N : List ℕ → Type 0 = λ l. BackwardOnesWait es order l waiting in
-    let E : List Edge → Type 0 = λ l. BackwardOnesWait l order (leaving edges v) waiting in
-    subst E same (subst N is h)
 
 pub returns-clause-worklist : goal.returns-clause-worklist
 returns-clause-worklist c =
