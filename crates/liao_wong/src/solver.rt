@@ -72,11 +72,10 @@ pub fn run_rounds(
 {
     let index = EdgeIndex::new(alloc, g)?;
     let mut rounds = 0u32;
-    // all forward edges are looked at first, and then all backward ones
-    let mut work = Worklist {
-        ready: Marks::new(alloc, order.variables.len(), true)?,
-        waiting: Marks::new(alloc, g.edges().len(), false)?,
-    };
+    // the first round looks at all edges: each variable is ready, so that its backward edges will wait
+    let ready = Marks::new(alloc, order.variables.len(), true)?;
+    let waiting = Marks::new(alloc, g.edges().len(), false)?;
+    let mut work = Worklist { ready, waiting };
     let mut left = floor.unwrap_or(0);
     'rounds: loop {
         look_forward(raises, &mut work, g, &index, order)?;
