@@ -3,10 +3,9 @@ use Rattle.std.proofs.Common.{◌≡◌, ℕ, zero, suc, ◌+◌, ◌-◌, ◌<�
 use Rattle.std.specs.List.{range_with_len, flat_map}
 use Rattle.std.proofs.lemmas.Bool.{cases_Bool, eqb-true, true≢false}
 use Rattle.cons_graph.specs.declared.edges.Edge.{Edge}
-use Rattle.cons_graph.specs.Constraints.{IsConstraintGraph}
 use Rattle.cons_graph.specs.EdgeNumbers.{edge_at, leaving}
 use Rattle.round_log.specs.declared.log.Entry.{Entry}
-use Rattle.round_log.specs.Looks.{look, raise_of, is_forward, place_in}
+use Rattle.round_log.specs.Looks.{look, is_forward, place_in}
 use Rattle.round_log.specs.Orders.{NamesEachOnce}
 use Rattle.round_log.specs.Rounds.{backward_part}
 use Rattle.round_log.proofs.Chains.{In}

@@ -1,11 +1,11 @@
 -- What keeps a worklist one: raises, looks and sweeps.
-use Rattle.std.proofs.Common.{◌≡◌, ◌≢◌, ℕ, suc, ◌+◌, ◌<◌, ◌≤◌, ℤ, ◌+ℤ◌, ◌≤ℤ◌, ◌<ℤ◌, Bool, true, false, cond, eqb, Option, Some, None, List, [], ◌∷◌, ◌⊎◌, inl, inr, length, get_or, set, refl, sym, ap, subst, ◌∙◌, arith, eq-eqb}
+use Rattle.std.proofs.Common.{◌≡◌, ◌≢◌, ℕ, suc, ◌+◌, ◌<◌, ◌≤◌, ℤ, ◌+ℤ◌, ◌≤ℤ◌, ◌<ℤ◌, Bool, true, false, eqb, Option, Some, None, List, [], ◌∷◌, inl, inr, length, get_or, set, refl, sym, ap, subst, ◌∙◌, arith, eq-eqb}
 use Rattle.std.specs.List.{All, range_with_len}
 use Rattle.std.proofs.lemmas.Int.{ints}
 use Rattle.std.proofs.lemmas.Bool.{cases_eq, cases_Bool, ne_eqb, eqb-true, cond-true, cond-false, true≢false}
 use Rattle.std.proofs.lemmas.List.{length-set}
 use Rattle.cons_graph.specs.declared.edges.Edge.{Edge}
-use Rattle.cons_graph.specs.Constraints.{Constraints, IsConstraintGraph}
+use Rattle.cons_graph.specs.Constraints.{IsConstraintGraph}
 use Rattle.cons_graph.specs.EdgeNumbers.{edge_at, leaving}
 use Rattle.round_log.specs.declared.log.Entry.{Entry}
 use Rattle.round_log.specs.Looks.{raise_of, is_forward, place_in}

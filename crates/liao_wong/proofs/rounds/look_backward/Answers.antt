@@ -1,6 +1,5 @@
-use Rattle.std.proofs.Common.{◌≡◌, ℕ, ◌+◌, ◌-◌, ◌<◌, ◌≤◌, true, false, Bool, Some, None, List, [], ◌∷◌, length, set, sym, ap, subst, ◌∙◌, inl, inr, arith}
-use Rattle.std.specs.List.{All, range_with_len}
-use Rattle.std.proofs.lemmas.List.{length-set}
+use Rattle.std.proofs.Common.{◌≡◌, ℕ, ◌+◌, ◌-◌, ◌<◌, ◌≤◌, true, false, Bool, Some, None, List, ◌∷◌, length, set, sym, ap, subst, ◌∙◌, inl, inr, arith}
+use Rattle.std.specs.List.{range_with_len}
 use Rattle.cons_graph.specs.declared.edges.Edge.{Edge}
 use Rattle.round_log.specs.declared.log.Entry.{Entry}
 use Rattle.cons_graph.specs.EdgeNumbers.{edge_at, leaving}
@@ -9,8 +8,8 @@ use Rattle.round_log.specs.Rounds.{backward_part}
 use Rattle.round_log.proofs.Members.{cases_option}
 use Rattle.liao_wong.specs.Held.{Held}
 use Rattle.liao_wong.specs.Going.{IsReady, backward_of}
-use Rattle.liao_wong.specs.Marked.{AreUnmarked, IsNextMark, is_marked}
-use Rattle.liao_wong.specs.Worklist.{IsWorklist, WaitToo, BackwardOnesWait}
+use Rattle.liao_wong.specs.Marked.{AreUnmarked, IsNextMark}
+use Rattle.liao_wong.specs.Worklist.{IsWorklist, WaitToo}
 use Rattle.liao_wong.proofs.Steps.{ready_small, ready_backward, back_leaves, back_raises, back_stops}
 use Rattle.liao_wong.proofs.Worklists.{AheadWait, own_none, all_in_range, backward_wait, worklist_raised, worklist_looked, ahead_looked, ahead_raised}
 use Rattle.round_log.proofs.Least.{edge_among}
