@@ -1,16 +1,15 @@
-ghost use Rattle.std.specs.Prelude.{◌≡◌, ℕ, ◌<◌, Bool, false, List, length, slice_index, fold, All, IfOk, OnOk};
+ghost use Rattle.std.specs.Prelude.{◌≡◌, ℕ, ◌<◌, false, length, slice_index, fold, All, IfOk, OnOk};
 ghost use Rattle.round_log.specs.Looks.{look, backward_numbers};
 ghost use Rattle.cons_graph.specs.EdgeNumbers.{edge_at, leaving};
 ghost use Rattle.round_log.specs.Rounds.{plan_of, forward_part, backward_part};
 ghost use Rattle.edge_index.specs.Runs.{IsIndexOf};
 ghost use Rattle.liao_wong.specs.Going.{IsReady, forward_of, group_of};
 ghost use Rattle.liao_wong.specs.Marked.{is_marked};
-ghost use Rattle.liao_wong.specs.Worklist.{IsWorklist, HasLookedForward, HasNoneReady, HasLookedAtPlace};
+ghost use Rattle.liao_wong.specs.Worklist.{IsWorklist, BackwardOnesWait, HasLookedForward, HasNoneReady, HasLookedAtPlace};
 
 use crate::looks::{goes_up, raise_at};
-use crate::marks::Marks;
 use crate::raises::Raises;
-use crate::worklist::{Order, Worklist, mark_backward};
+use crate::worklist::{Order, Worklist};
 use cons_graph::{Edge, Graph};
 use edge_index::EdgeIndex;
 use std::alloc::AllocError;
@@ -69,18 +68,16 @@ fn look_at_place(
         raises.new.raises) }
     ensures place { OnOk result (HasLookedAtPlace place work.old.ready work.new.ready) }
 {
-    let edges = g.edges();
     let numbers = index.out_of(order.variables[place]);
-    look_at_forward(raises, &mut work.ready, edges, numbers, order)?;
-    mark_backward(&mut work.waiting, edges, numbers, order);
+    look_at_forward(raises, work, g.edges(), numbers, order)?;
     work.ready.clear(place);
     Ok(())
 }
 
-// Looks at those of the edges that are forward, and makes the variables ready that they raise.
+// Looks at those of the edges that are forward, and makes the variables ready that they raise. The others wait.
 fn look_at_forward(
     raises: &mut Raises,
-    ready: &mut Marks,
+    work: &mut Worklist,
     edges: &[Edge],
     numbers: &[u32],
     order: &Order,
@@ -88,25 +85,29 @@ fn look_at_forward(
     requires ready { IsReady raises.old.vars edges.now order.now.variables.now
         order.now.places.items raises.old }
     requires in_range { All (λ k. k < length edges.now) numbers.now }
-    requires room { length ready.old ≡ length order.now.variables.now }
+    requires worklist { IsWorklist edges.now order.now.variables.now work.old.ready work.old.waiting
+        raises.old.raises }
     ensures looks { OnOk result (raises.new ≡ record {
       vars = raises.old.vars;
       raises = fold (look (edge_at edges.now)) raises.old.raises
           (forward_of edges.now order.now.variables.now numbers.now);
     }) }
-    ensures worklist { OnOk result ((waiting : List Bool)
-        → IsWorklist edges.now order.now.variables.now ready.old waiting raises.old.raises
-        → IsWorklist edges.now order.now.variables.now ready.new waiting raises.new.raises) }
+    ensures worklist { OnOk result (IsWorklist edges.now order.now.variables.now work.new.ready work.new.waiting
+        raises.new.raises) }
+    ensures waiting { OnOk result (BackwardOnesWait edges.now order.now.variables.now numbers.now
+        work.new.waiting) }
     ensures looked { OnOk result ((tail : ℕ) → All (λ k. (edge_at edges.now k).from ≡ tail) numbers.now
-        → HasLookedForward edges.now order.now.variables.now numbers.now tail ready.old ready.new
+        → HasLookedForward edges.now order.now.variables.now numbers.now tail work.old.ready work.new.ready
         raises.new.raises) }
 {
     for k in numbers {
         if goes_up(&edges[*k as usize], &order.places) {
             if let Some(raise) = raise_at(raises, edges, *k) {
                 raises.push(raise)?;
-                ready.set(order.place(raise.var));
+                work.ready.set(order.place(raise.var));
             }
+        } else {
+            work.waiting.set(*k as usize);
         }
     }
     Ok(())

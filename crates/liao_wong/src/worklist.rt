@@ -40,7 +40,7 @@ impl Order<'_> {
 }
 
 // Marks those of the edges that do not go up in the order.
-pub fn mark_backward(waiting: &mut Marks, edges: &[Edge], numbers: &[u32], order: &Order)
+fn mark_backward(waiting: &mut Marks, edges: &[Edge], numbers: &[u32], order: &Order)
     requires room { length waiting.old ≡ length edges.now }
     requires in_range { All (λ k. k < length edges.now) numbers.now }
     requires places { ArePlaces order.now.variables.now (length order.now.places.items)
