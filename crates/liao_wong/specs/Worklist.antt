@@ -23,7 +23,7 @@ pub record IsWorklist (edges : List Edge) (order : List ℕ) (ready waiting : Li
   pub forward : (k : ℕ) → k < length edges → is_forward order (edge_at edges k) ≡ true → has_ready_tail edges order ready k ≡ false → AppendsNothing edges raises k
   pub backward : (k : ℕ) → k < length edges → is_forward order (edge_at edges k) ≡ false → has_ready_tail edges order ready k ≡ false → is_marked waiting k ≡ false → AppendsNothing edges raises k
 
--- more backward edges wait than before, and no other
+-- the edges that waited still wait, and those that wait now besides are backward
 pub record WaitToo (edges : List Edge) (order : List ℕ) (old new : List Bool) : Type 0 where
   pub same_length : length new ≡ length old
   pub kept : (k : ℕ) → is_marked old k ≡ true → is_marked new k ≡ true

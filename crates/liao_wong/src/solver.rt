@@ -49,8 +49,7 @@ fn trim(
 
 // Runs the rounds from the log without a raise until they end, and gives the number of the last one; or until a raise
 // stops them, and gives None. With a floor the log is swept between rounds, once it has grown by half. A round costs the
-// looks at edges whose tails were raised since the last look at them, and a 256th of a byte for each other edge and
-// variable.
+// looks at edges whose tails were raised since the last look at them, and one flag for every 256 edges and variables.
 pub fn run_rounds(
     alloc: Global,
     raises: &mut Raises,

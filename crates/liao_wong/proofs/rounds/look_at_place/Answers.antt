@@ -6,7 +6,7 @@ use Rattle.round_log.specs.declared.log.Entry.{Entry}
 use Rattle.round_log.specs.Looks.{look}
 use Rattle.liao_wong.specs.Held.{Held}
 use Rattle.liao_wong.specs.Going.{forward_of}
-use Rattle.liao_wong.specs.Worklist.{IsWorklist, HasLookedForward, HasLookedAtPlace, WaitToo}
+use Rattle.liao_wong.specs.Worklist.{IsWorklist, HasLookedForward, HasLookedAtPlace}
 use Rattle.liao_wong.proofs.Worklists.{all_in_range, backward_wait, leaving_tails, worklist_passed, passed_place}
 use Rattle.liao_wong.proofs.rounds.look_at_place.Goals as goal
 
