@@ -208,7 +208,7 @@ few_backward edges order = omega (arith, filter_le (λ k. not (is_forward order 
 
 -- ---- places
 
-place_at : (order : List ℕ) (j : ℕ) → IsDistinct order → j < length order → place_in order (get_or order j 0) ≡ j
+pub place_at : (order : List ℕ) (j : ℕ) → IsDistinct order → j < length order → place_in order (get_or order j 0) ≡ j
 place_at [] j d lt = absurd (omega arith)
 place_at (u ∷ us) zero d lt = cond-true (eqb u u) 0 (suc (place_in us u)) (eq-eqb u u refl)
 place_at (u ∷ us) (suc j) d lt =

@@ -6,3 +6,7 @@ pub mod Outputs
 pub mod InOrder
 pub mod OneOrder
 pub mod OneAnswer
+pub mod Marking
+pub mod Worklists
+pub mod LeftOut
+pub mod Looked

@@ -4,3 +4,5 @@ pub mod Going
 pub mod Answers
 pub mod Running
 pub mod Sorted
+pub mod Marked
+pub mod Worklist

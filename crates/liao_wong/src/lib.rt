@@ -5,12 +5,14 @@
 
 mod laws;
 mod looks;
+mod marks;
 mod raises;
 mod rounds;
 mod solver;
 mod solving;
 mod sorting;
 mod sweeping;
+mod worklist;
 
 pub use laws::{one_answer, one_cycle, one_order};
 pub use solving::{Solved, Unsolved, solve, solve_reached, solve_with_floor};

@@ -6,8 +6,10 @@ ghost use Rattle.liao_wong.specs.Running.{IsEndLog, IsStoppedLog, StartsEmpty};
 ghost use Rattle.liao_wong.specs.Sweeping.{IsTrimmed};
 
 use crate::looks::goes_up;
+use crate::marks::Marks;
 use crate::raises::Raises;
-use crate::rounds::{Order, look_backward, look_forward};
+use crate::rounds::{look_backward, look_forward};
+use crate::worklist::{Order, Worklist};
 use cons_graph::{Edge, Graph};
 use edge_index::EdgeIndex;
 use std::alloc::{AllocError, Global};
@@ -46,7 +48,8 @@ fn trim(
 }
 
 // Runs the rounds from the log without a raise until they end, and gives the number of the last one; or until a raise
-// stops them, and gives None. With a floor the log is swept between rounds, once it has grown by half.
+// stops them, and gives None. With a floor the log is swept between rounds, once it has grown by half. A round costs the
+// looks at edges whose tails were raised since the last look at them, and one flag for every 256 edges and variables.
 pub fn run_rounds(
     alloc: Global,
     raises: &mut Raises,
@@ -68,11 +71,15 @@ pub fn run_rounds(
 {
     let index = EdgeIndex::new(alloc, g)?;
     let mut rounds = 0u32;
+    // the first round looks at all edges: each variable is ready, so that its backward edges will wait
+    let ready = Marks::new(alloc, order.variables.len(), true)?;
+    let waiting = Marks::new(alloc, g.edges().len(), false)?;
+    let mut work = Worklist { ready, waiting };
     let mut left = floor.unwrap_or(0);
     'rounds: loop {
-        look_forward(raises, g, &index, order)?;
+        look_forward(raises, &mut work, g, &index, order)?;
         let before = raises.len();
-        if look_backward(raises, g, order)? {
+        if look_backward(raises, &mut work, g, &index, order)? {
             return Ok(None);
         }
         rounds += 1;

@@ -10,8 +10,8 @@ ghost use Rattle.liao_wong.specs.Answers.{IfCycle, IsCycleOf, IsWithinLimit};
 ghost use Rattle.liao_wong.specs.Running.{IsEndedHeld, IsStoppedLog, IsReadOut};
 
 use crate::raises::Raises;
-use crate::rounds::Order;
 use crate::solver::{backward_count, places_of, run_rounds};
+use crate::worklist::Order;
 use cons_graph::Graph;
 use lam_list::Seq;
 use round_log::{Log, cycle_of};

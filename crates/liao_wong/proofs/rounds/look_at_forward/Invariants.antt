@@ -1,7 +1,11 @@
-use Rattle.std.proofs.Common.{◌≡◌, drop, fold}
-use Rattle.round_log.specs.Looks.{look}
+use Rattle.std.proofs.Common.{◌≡◌, ℕ, ◌<◌, true, false, drop, fold, get_or}
+use Rattle.std.specs.List.{All}
+use Rattle.round_log.specs.Looks.{look, is_forward}
 use Rattle.cons_graph.specs.EdgeNumbers.{edge_at}
 use Rattle.liao_wong.specs.Going.{IsReady, forward_of}
+use Rattle.liao_wong.specs.Marked.{is_marked}
+use Rattle.liao_wong.specs.Worklist.{IsWorklist}
+use Rattle.liao_wong.proofs.Looked.{HasLookedUpTo}
 use Rattle.liao_wong.proofs.rounds.look_at_forward.Given as goal
 
 abbrev pub invariant-loop-k : goal.invariant-loop-k
@@ -9,4 +13,7 @@ invariant-loop-k l = record {
   ready : IsReady l.initial.raises.vars l.edges l.order.variables.now l.order.places.items l.raises;
   left : fold (look (edge_at l.edges)) l.raises.raises (forward_of l.edges l.order.variables.now (drop l.k-index l.numbers))
       ≡ fold (look (edge_at l.edges)) l.initial.raises.raises (forward_of l.edges l.order.variables.now l.numbers);
+  worklist : IsWorklist l.edges l.order.variables.now l.work.ready l.work.waiting l.raises.raises;
+  wait : (j : ℕ) → j < l.k-index → is_forward l.order.variables.now (edge_at l.edges (get_or l.numbers j 0)) ≡ false → is_marked l.work.waiting (get_or l.numbers j 0) ≡ true;
+  looked : (tail : ℕ) → All (λ k. (edge_at l.edges k).from ≡ tail) l.numbers → HasLookedUpTo l.edges l.order.variables.now l.numbers l.k-index tail l.initial.work.ready l.work.ready l.raises.raises;
 }

@@ -1,36 +1,54 @@
-use Rattle.std.proofs.Common.{◌≡◌, ℕ, ◌+◌, ◌-◌, ◌<◌, true, false, Some, None, List, ◌∷◌, length, sym, ap, subst, ◌∙◌, inl, inr, arith}
+use Rattle.std.proofs.Common.{◌≡◌, ℕ, ◌+◌, ◌-◌, ◌<◌, ◌≤◌, true, false, Bool, Some, None, List, ◌∷◌, length, set, sym, ap, subst, ◌∙◌, inl, inr, arith}
 use Rattle.std.specs.List.{range_with_len}
 use Rattle.cons_graph.specs.declared.edges.Edge.{Edge}
 use Rattle.round_log.specs.declared.log.Entry.{Entry}
-use Rattle.cons_graph.specs.EdgeNumbers.{edge_at}
-use Rattle.round_log.specs.Looks.{is_forward, raise_of, comes_back, backward_numbers}
+use Rattle.cons_graph.specs.EdgeNumbers.{edge_at, leaving}
+use Rattle.round_log.specs.Looks.{is_forward, raise_of, comes_back, backward_numbers, place_in}
 use Rattle.round_log.specs.Rounds.{backward_part}
 use Rattle.round_log.proofs.Members.{cases_option}
-use Rattle.liao_wong.specs.Held.{Held, ArePlaces}
+use Rattle.liao_wong.specs.Held.{Held}
 use Rattle.liao_wong.specs.Going.{IsReady, backward_of}
-use Rattle.liao_wong.proofs.Steps.{ready_small, places_by_length, ready_backward, back_skip, back_leaves, back_raises, back_stops}
+use Rattle.liao_wong.specs.Marked.{AreUnmarked, IsNextMark}
+use Rattle.liao_wong.specs.Worklist.{IsWorklist, WaitToo}
+use Rattle.liao_wong.proofs.Steps.{ready_small, ready_backward, back_leaves, back_raises, back_stops}
+use Rattle.liao_wong.proofs.Worklists.{AheadWait, own_none, all_in_range, backward_wait, worklist_raised, worklist_looked, ahead_looked, ahead_raised}
+use Rattle.round_log.proofs.Least.{edge_among}
+use Rattle.round_log.proofs.Planned.{place_in_range, In-from_contains}
+use Rattle.liao_wong.specs.declared.worklist.Worklist.{Worklist}
+use Rattle.liao_wong.proofs.rounds.look_backward.Goals.{in-Some-raise_at+in_ok-push+else-stops, in_default-raise_at}
+use Rattle.liao_wong.proofs.LeftOut.{left_to_edge}
 use Rattle.liao_wong.proofs.rounds.look_backward.Goals as goal
-use Rattle.liao_wong.proofs.rounds.look_backward.Goals.{then-not-goes_up+in-Some+in_ok-push+else-stops, then-not-goes_up+in_default, else-not-goes_up}
 
 pub raise_at-requires-clause-small : goal.raise_at-requires-clause-small
 raise_at-requires-clause-small c = ready_small c.args.g.now.vars c.args.g.now.edges c.args.order.now.variables.now c.args.order.now.places.items c.loop-k.raises c.loop-k.invariant.ready
+
+pub mark_raised-requires-clause-numbers : goal.mark_raised-requires-clause-numbers
+mark_raised-requires-clause-numbers c =
+    let v : ℕ = c.in-Some-raise_at.raise.var in
+    let vars = c.loop-k.invariant.ready.same_vars in
+    let small = c.in-Some-raise_at.ensures.pushable.0 in
+    all_in_range c.args.g.now.edges c.edges-edges.result.now v c.out_of.result.now c.edges-edges.ensures.value (c.out_of.ensures ∙ c.requires.index.leave v (omega (arith, vars, small)))
 
 pub returns-then-stops-clause-part : goal.returns-then-stops-clause-part
 returns-then-stops-clause-part c =
     let edges : List Edge = c.args.g.now.edges in
     let order : List ℕ = c.args.order.now.variables.now in
-    let places : List ℕ = c.args.order.now.places.items in
-    let k : ℕ = c.loop-k.k in
     let held : Held = c.loop-k.raises in
-    let r : Entry = c.in-Some.raise in
+    let k : ℕ = c.in-Some.k in
+    let at : ℕ = c.loop-k.at in
+    let r : Entry = c.in-Some-raise_at.raise in
+    let ready : List Bool = c.loop-k.work.ready in
+    let waiting : List Bool = c.loop-k.work.waiting in
+    let inv = c.loop-k.invariant in
+    let next : IsNextMark waiting at (length waiting) k = c.in-Some.ensures.next in
+    let one_each = inv.worklist.one_waiting_each in
+    let below = next.below_end in
+    let lt : k < length edges = omega (arith, one_each, below) in
+    let down : is_forward order (edge_at edges k) ≡ false = inv.worklist.only_backward k next.marked in
     let same : c.edges-edges.result.now ≡ edges = c.edges-edges.ensures.value in
-    let lt : k < length edges = (let f = ap length same in omega (arith, f, c.loop-k-test.true)) in
-    let A : List ℕ → Type 0 = λ ps. ArePlaces order (length ps) ps in
-    let at' : ArePlaces order (length c.deref.result.now) c.deref.result.now = subst A (sym c.deref.ensures.value) (places_by_length order places c.args.g.now.vars c.loop-k.invariant.ready.places_are) in
-    let down : is_forward order (edge_at edges k) ≡ false = ap (λ es. is_forward order (edge_at es k)) (sym same) ∙ sym (c.if-not-goes_up.ensures order at') in
-    let e : raise_of (edge_at edges) held.raises k ≡ Some r = ap (λ es. raise_of (edge_at es) held.raises k) (sym same) ∙ sym c.in-Some.ensures.value in
+    let e : raise_of (edge_at edges) held.raises k ≡ Some r = ap (λ es. raise_of (edge_at es) held.raises k) (sym same) ∙ sym c.in-Some-raise_at.ensures.value in
     let back : comes_back held.raises r ≡ true = sym c.comes_back-stops.ensures ∙ c.if-stops.true in
-    ap (λ h. record { raises = h.raises; stopped = true }) c.in_ok-push.ensures.ok ∙ back_stops edges order k held.raises r lt down e back ∙ c.loop-k.invariant.left
+    ap (λ h. record { raises = h.raises; stopped = true }) c.in_ok-push.ensures.ok ∙ back_stops edges order k held.raises r lt down e back ∙ left_to_edge edges order ready waiting held.raises at k inv.worklist inv.ahead next.from_start (omega arith) next.least ∙ inv.left
 
 pub loop-k-preserved : goal.loop-k-preserved
 loop-k-preserved c =
@@ -38,27 +56,89 @@ loop-k-preserved c =
     let edges : List Edge = c.args.g.now.edges in
     let order : List ℕ = c.args.order.now.variables.now in
     let places : List ℕ = c.args.order.now.places.items in
-    let k : ℕ = c.loop-k.k in
     let held : Held = c.loop-k.raises in
-    let ready : IsReady vars edges order places held = c.loop-k.invariant.ready in
-    let same : c.edges-edges.result.now ≡ edges = c.edges-edges.ensures.value in
-    let lt : k < length edges = (let f = ap length same in omega (arith, f, c.loop-k-test.true)) in
-    let A : List ℕ → Type 0 = λ ps. ArePlaces order (length ps) ps in
-    let at' : ArePlaces order (length c.deref.result.now) c.deref.result.now = subst A (sym c.deref.ensures.value) (places_by_length order places vars ready.places_are) in
-    let P : Held → Type 0 = λ h. record { ready : IsReady vars edges order places h; left : backward_part (edge_at edges) (backward_of edges order (range_with_len (k + 1) (length edges - (k + 1)))) h.raises ≡ backward_part (edge_at edges) (backward_numbers edges order) c.args.raises.now.raises } in
-    elim c.if-not-goes_up.branch as (λ _. P c.if-not-goes_up.raises) [
-      | then-not-goes_up+in-Some+in_ok-push+else-stops w ↦ (
-          let r : Entry = w.in-Some.raise in
-          let down : is_forward order (edge_at edges k) ≡ false = ap (λ es. is_forward order (edge_at es k)) (sym same) ∙ sym (w.if-not-goes_up.ensures order at') in
-          let e : raise_of (edge_at edges) held.raises k ≡ Some r = ap (λ es. raise_of (edge_at es) held.raises k) (sym same) ∙ sym w.in-Some.ensures.value in
-          let on : comes_back held.raises r ≡ false = sym w.comes_back-stops.ensures ∙ w.if-stops.false in
-          let now : record { vars = held.vars; raises = r ∷ held.raises } ≡ c.if-not-goes_up.raises = sym (w.raises-is ∙ w.in_ok-push.ensures.ok) in
-          subst P now (record { ready = ready_backward vars edges order places held k r ready lt down e on; left = back_raises edges order k held.raises r lt down e on ∙ c.loop-k.invariant.left }))
-      | then-not-goes_up+in_default w ↦ (
-          let down : is_forward order (edge_at edges k) ≡ false = ap (λ es. is_forward order (edge_at es k)) (sym same) ∙ sym (w.if-not-goes_up.ensures order at') in
-          let none : raise_of (edge_at edges) held.raises k ≡ None = elim (cases_option (raise_of (edge_at edges) held.raises k)) [ inl n ↦ n | inr s ↦ absurd (w.in_default.not-Some s.0 (w.raise_at.ensures.value ∙ ap (λ es. raise_of (edge_at es) held.raises k) same ∙ s.1)) ] in
-          subst P (sym w.raises-is) (record { ready = ready; left = back_leaves edges order k held.raises lt down none ∙ c.loop-k.invariant.left }))
-      | else-not-goes_up w ↦ (
-          let up : is_forward order (edge_at edges k) ≡ true = ap (λ es. is_forward order (edge_at es k)) (sym same) ∙ sym (w.if-not-goes_up.ensures order at') in
-          subst P (sym w.raises-is) (record { ready = ready; left = back_skip edges order k held.raises lt up ∙ c.loop-k.invariant.left }))
-    ]
+    let rs : List Entry = held.raises in
+    let k : ℕ = c.in-Some.k in
+    let at : ℕ = c.loop-k.at in
+    let ready : List Bool = c.loop-k.work.ready in
+    let waiting : List Bool = c.loop-k.work.waiting in
+    let inv = c.loop-k.invariant in
+    let is_ready : IsReady vars edges order places held = inv.ready in
+    let next : IsNextMark waiting at (length waiting) k = c.in-Some.ensures.next in
+    let unchanged : c.next.new.self ≡ waiting = c.in-Some.ensures.same in
+    let one_each = inv.worklist.one_waiting_each in
+    let below = next.below_end in
+    let from : at ≤ k = next.from_start in
+    let lt : k < length edges = omega (arith, one_each, below) in
+    let down : is_forward order (edge_at edges k) ≡ false = inv.worklist.only_backward k next.marked in
+    let es : List Edge = c.edges-edges.result.now in
+    let same : es ≡ edges = c.edges-edges.ensures.value in
+    let end = backward_part (edge_at edges) (backward_numbers edges order) c.args.raises.now.raises in
+    let here : backward_part (edge_at edges) (backward_of edges order (range_with_len k (length edges - k))) rs ≡ end = left_to_edge edges order ready waiting rs at k inv.worklist inv.ahead from (omega arith) next.least ∙ inv.left in
+    let P : Held → List Bool → List Bool → Type 0 = λ h w m. record {
+      ready : IsReady vars edges order places h;
+      left : backward_part (edge_at edges) (backward_of edges order (range_with_len (k + 1) (length edges - (k + 1)))) h.raises ≡ end;
+      worklist : IsWorklist edges order w m h.raises;
+      ahead : AheadWait edges order w m (k + 1);
+      in_list : k + 1 ≤ length edges;
+    } in
+    let C : List Bool → Type 0 = λ m. P c.match-raise_at.raises c.match-raise_at.work.ready m in
+    let H : Held → Type 0 = λ h. P h c.match-raise_at.work.ready (set c.match-raise_at.work.waiting k false) in
+    subst C (sym c.clear.ensures) (elim c.match-raise_at.branch as (λ _. P c.match-raise_at.raises c.match-raise_at.work.ready (set c.match-raise_at.work.waiting k false)) [
+      | in-Some-raise_at+in_ok-push+else-stops w ↦ (
+          let r : Entry = w.in-Some-raise_at.raise in
+          let v : ℕ = r.var in
+          let e : raise_of (edge_at edges) rs k ≡ Some r = ap (λ l. raise_of (edge_at l) rs k) (sym same) ∙ sym w.in-Some-raise_at.ensures.value in
+          let on : comes_back rs r ≡ false = sym w.comes_back-stops.ensures ∙ w.if-stops.false in
+          let pushed : record { vars = held.vars; raises = r ∷ rs } ≡ c.match-raise_at.raises = sym (w.raises-is ∙ w.in_ok-push.ensures.ok) in
+          let var_small = w.in-Some-raise_at.ensures.pushable.0 in
+          let same_vars = is_ready.same_vars in
+          let inside : v < vars = omega (arith, var_small, same_vars) in
+          let small : place_in order v < length order = place_in_range order v (In-from_contains order v (is_ready.names.each v inside)) in
+          let ns : List ℕ = w.out_of.result.now in
+          let is : ns ≡ leaving edges v = w.out_of.ensures ∙ c.requires.index.leave v inside in
+          let now : List Bool = w.mark_raised.new.self.waiting in
+          let M : List Edge → Type 0 = λ l. WaitToo l order c.next.new.self now in
+          let N : List Bool → Type 0 = λ l. WaitToo edges order l now in
+          let more : WaitToo edges order waiting now = subst N unchanged (subst M same w.mark_raised.ensures.grows) in
+          let R : List Bool = set ready (place_in order v) true in
+          let raised : IsWorklist edges order R now (r ∷ rs) = worklist_raised edges order ready waiting now rs k r inv.worklist e small more in
+          let ends = (edge_among (record { vars = vars; edges = edges }) is_ready.shape k lt).ends_differ in
+          let ahead : AheadWait edges order R now at = ahead_raised vars edges order ready waiting now at v is_ready.shape is_ready.names inside inv.ahead more (λ idle. backward_wait edges es order v ns now same is (w.mark_raised.ensures.all idle)) in
+          let W : Worklist → Type 0 = λ x. P (record { vars = held.vars; raises = r ∷ rs }) x.ready (set x.waiting k false) in
+          let T : List Bool → Type 0 = λ l. P (record { vars = held.vars; raises = r ∷ rs }) l (set now k false) in
+          subst H pushed (subst W (sym w.work-is) (subst T (sym w.mark_raised.ensures.ready) (record {
+            ready = ready_backward vars edges order places held k r is_ready lt down e on;
+            left = back_raises edges order k rs r lt down e on ∙ here;
+            worklist = worklist_looked edges order R now (r ∷ rs) k raised lt (own_none edges rs k r ends e);
+            ahead = ahead_looked edges order R now at k ahead from;
+            in_list = omega arith;
+          }))))
+      | in_default-raise_at w ↦ (
+          let none : raise_of (edge_at edges) rs k ≡ None = elim (cases_option (raise_of (edge_at edges) rs k)) [ inl n ↦ n | inr s ↦ absurd (w.in_default-raise_at.not-Some s.0 (c.raise_at.ensures.value ∙ ap (λ l. raise_of (edge_at l) rs k) same ∙ s.1)) ] in
+          let W : Worklist → Type 0 = λ x. P held x.ready (set x.waiting k false) in
+          let T : List Bool → Type 0 = λ l. P held ready (set l k false) in
+          subst H (sym w.raises-is) (subst W (sym w.work-is) (subst T (sym unchanged) (record {
+            ready = is_ready;
+            left = back_leaves edges order k rs lt down none ∙ here;
+            worklist = worklist_looked edges order ready waiting rs k inv.worklist lt none;
+            ahead = ahead_looked edges order ready waiting at k inv.ahead from;
+            in_list = omega arith;
+          }))))
+    ])
+
+pub returns-clause-part : goal.returns-clause-part
+returns-clause-part c =
+    let edges : List Edge = c.args.g.now.edges in
+    let order : List ℕ = c.args.order.now.variables.now in
+    let rs : List Entry = c.loop-k.raises.raises in
+    let at : ℕ = c.loop-k.at in
+    let ready : List Bool = c.loop-k.work.ready in
+    let waiting : List Bool = c.loop-k.work.waiting in
+    let inv = c.loop-k.invariant in
+    let one_each = inv.worklist.one_waiting_each in
+    let none : AreUnmarked waiting at (length waiting) = c.in_default.ensures.next in
+    let N : ℕ → Type 0 = λ n. AreUnmarked waiting at n in
+    let rest : backward_part (edge_at edges) (backward_of edges order (range_with_len (length edges) (length edges - length edges))) rs ≡ backward_part (edge_at edges) (backward_numbers edges order) c.args.raises.now.raises = left_to_edge edges order ready waiting rs at (length edges) inv.worklist inv.ahead inv.in_list (omega arith) (subst N one_each none) ∙ inv.left in
+    let zero_left : length edges - length edges ≡ 0 = omega arith in
+    ap (λ n. backward_part (edge_at edges) (backward_of edges order (range_with_len (length edges) n)) rs) (sym zero_left) ∙ rest

@@ -1,14 +1,22 @@
-use Rattle.std.proofs.Common.{◌≡◌, drop, fold}
+use Rattle.std.proofs.Common.{◌≡◌, ◌-◌, ◌≤◌, drop, fold, length}
 use Rattle.std.specs.List.{flat_map}
 use Rattle.round_log.specs.Looks.{look}
 use Rattle.cons_graph.specs.EdgeNumbers.{edge_at}
 use Rattle.round_log.specs.Rounds.{forward_part, plan_of}
 use Rattle.liao_wong.specs.Going.{IsReady, group_of}
+use Rattle.liao_wong.specs.Marked.{AreUnmarked}
+use Rattle.liao_wong.specs.Worklist.{IsWorklist}
 use Rattle.liao_wong.proofs.rounds.look_forward.Given as goal
 
-abbrev pub invariant-loop-v : goal.invariant-loop-v
-invariant-loop-v l = record {
+abbrev pub invariant-loop-place : goal.invariant-loop-place
+invariant-loop-place l = record {
   ready : IsReady l.g.vars l.g.edges l.order.variables.now l.order.places.items l.raises;
-  left : fold (look (edge_at l.g.edges)) l.raises.raises (flat_map (group_of l.g.edges l.order.variables.now) (drop l.v-index l.order.variables.now))
+  left : fold (look (edge_at l.g.edges)) l.raises.raises (flat_map (group_of l.g.edges l.order.variables.now) (drop l.at l.order.variables.now))
       ≡ forward_part (plan_of l.g.edges l.order.variables.now) l.initial.raises.raises;
+  worklist : IsWorklist l.g.edges l.order.variables.now l.work.ready l.work.waiting l.raises.raises;
+  behind : AreUnmarked l.work.ready 0 l.at;
+  in_order : l.at ≤ length l.order.variables.now;
 }
+
+abbrev pub decreases-loop-place : goal.decreases-loop-place
+decreases-loop-place l = length l.order.variables.now - l.at

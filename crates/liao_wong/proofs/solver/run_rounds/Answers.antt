@@ -1,4 +1,6 @@
-use Rattle.std.proofs.Common.{◌≡◌, ℕ, ◌+◌, Bool, true, false, List, length, sym, ap, subst, ◌∙◌, arith}
+use Rattle.std.proofs.Common.{◌≡◌, ℕ, ◌+◌, ◌<◌, Bool, true, false, List, inl, inr, length, sym, ap, subst, ◌∙◌, arith}
+use Rattle.std.proofs.lemmas.Bool.{cases_lt}
+use Rattle.std.proofs.lemmas.List.{get_or_past}
 use Rattle.round_log.specs.declared.log.Entry.{Entry}
 use Rattle.cons_graph.specs.Constraints.{Constraints}
 use Rattle.round_log.specs.Rounds.{Progress, forward_part, plan_of, round, backward_part}
@@ -6,20 +8,21 @@ use Rattle.cons_graph.specs.EdgeNumbers.{edge_at}
 use Rattle.round_log.specs.Looks.{backward_numbers}
 use Rattle.liao_wong.specs.Held.{Held}
 use Rattle.liao_wong.specs.Going.{IsReady}
+use Rattle.liao_wong.specs.Marked.{is_marked}
+use Rattle.liao_wong.specs.Sweeping.{IsTrimmed}
+use Rattle.liao_wong.proofs.Worklists.{worklist_start, worklist_trimmed}
+use Rattle.round_log.proofs.Ends.{order_length}
 use Rattle.liao_wong.proofs.Course.{has_started, ready_between, stopped_here, ended_here, goes_on, trimmed, few_backward}
 use Rattle.liao_wong.proofs.solver.run_rounds.Goals as goal
 
-pub rounds-init : goal.rounds-init
-rounds-init c = has_started c.args.g.now c.args.order.now.variables.now c.args.floor c.args.raises.now c.requires.start
-
-pub look_backward-requires : goal.look_backward-requires
-look_backward-requires c =
+pub look_backward-requires-clause-ready : goal.look_backward-requires-clause-ready
+look_backward-requires-clause-ready c =
     let P : Held → Type 0 = λ h. IsReady c.args.g.now.vars c.args.g.now.edges c.args.order.now.variables.now c.args.order.now.places.items h in
-    subst P (sym c.in_ok-look_forward.ensures) (ready_between c.args.g.now c.args.order.now.variables.now c.args.order.now.places.items c.rounds.rounds c.args.floor c.rounds.raises c.requires.start.shape c.requires.names c.requires.places c.rounds.invariant)
+    subst P (sym c.in_ok-look_forward.ensures.part) (ready_between c.args.g.now c.args.order.now.variables.now c.args.order.now.places.items c.rounds.rounds c.args.floor c.rounds.raises c.requires.start.shape c.requires.names c.requires.places c.rounds.invariant.come)
 
 pub overflow_add-rounds : goal.overflow_add-rounds
 overflow_add-rounds c =
-    let few = c.rounds.invariant.few in
+    let few = c.rounds.invariant.come.few in
     omega (arith, few, few_backward c.args.g.now.edges c.args.order.now.variables.now, c.requires.few)
 
 -- the two parts of a round are the round
@@ -34,7 +37,7 @@ returns-then-branch-clause-stopped c =
     let order : List ℕ = c.args.order.now.variables.now in
     let held : Held = c.rounds.raises in
     let new : List Entry = c.look_backward.new.raises.raises in
-    stopped_here g order c.rounds.rounds c.args.floor held new c.requires.start.shape c.requires.names c.rounds.invariant (came g order held c.look_forward.new.raises new c.in_ok-look_backward.field-0 true c.if-branch.true c.in_ok-look_backward.ensures.part c.in_ok-look_forward.ensures)
+    stopped_here g order c.rounds.rounds c.args.floor held new c.requires.start.shape c.requires.names c.rounds.invariant.come (came g order held c.look_forward.new.raises new c.in_ok-look_backward.field-0 true c.if-branch.true c.in_ok-look_backward.ensures.part c.in_ok-look_forward.ensures.part)
 
 pub returns-then-len-before-clause-ended : goal.returns-then-len-before-clause-ended
 returns-then-len-before-clause-ended c =
@@ -42,9 +45,28 @@ returns-then-len-before-clause-ended c =
     let order : List ℕ = c.args.order.now.variables.now in
     let held : Held = c.rounds.raises in
     let new : List Entry = c.look_backward.new.raises.raises in
-    ended_here g order c.rounds.rounds c.args.floor held new c.requires.start.shape c.requires.names c.rounds.invariant
-    (came g order held c.look_forward.new.raises new c.in_ok-look_backward.field-0 false c.if-branch.false c.in_ok-look_backward.ensures.part c.in_ok-look_forward.ensures)
-    (sym c.len.ensures ∙ c.if-len-before.true ∙ c.len-before.ensures ∙ ap (λ h. length h.raises) c.in_ok-look_forward.ensures)
+    ended_here g order c.rounds.rounds c.args.floor held new c.requires.start.shape c.requires.names c.rounds.invariant.come
+    (came g order held c.look_forward.new.raises new c.in_ok-look_backward.field-0 false c.if-branch.false c.in_ok-look_backward.ensures.part c.in_ok-look_forward.ensures.part)
+    (sym c.len.ensures ∙ c.if-len-before.true ∙ c.len-before.ensures ∙ ap (λ h. length h.raises) c.in_ok-look_forward.ensures.part)
+
+pub new-requires-2 : goal.new-requires-2
+new-requires-2 c =
+    let few = order_length c.args.order.now.variables.now c.args.g.now.vars c.requires.names in
+    let small = c.requires.start.shape.few_vars in
+    omega (arith, few, small)
+
+-- beyond their bound too no marks are
+none_marked : (flags : List Bool) (bound : ℕ) → length flags ≡ bound → ((n : ℕ) → n < bound → is_marked flags n ≡ false) → (n : ℕ) → is_marked flags n ≡ false
+none_marked flags bound l none n = elim (cases_lt n bound) [ inl lt ↦ none n lt | inr ge ↦ get_or_past flags n false (omega arith) ]
+
+pub rounds-init : goal.rounds-init
+rounds-init c =
+    let g : Constraints = c.args.g.now in
+    let order : List ℕ = c.args.order.now.variables.now in
+    record {
+      come = has_started g order c.args.floor c.args.raises.now c.requires.start;
+      worklist = worklist_start g.vars g.edges order c.in_ok-ready.ready c.in_ok-waiting.waiting c.args.raises.now.raises c.requires.start.shape c.requires.names c.in_ok-ready.ensures.len c.in_ok-ready.ensures.all (c.in_ok-waiting.ensures.len ∙ ap length c.edges.ensures.value) (none_marked c.in_ok-waiting.waiting _ c.in_ok-waiting.ensures.len c.in_ok-waiting.ensures.all);
+    }
 
 pub rounds-preserved : goal.rounds-preserved
 rounds-preserved c =
@@ -52,7 +74,11 @@ rounds-preserved c =
     let order : List ℕ = c.args.order.now.variables.now in
     let held : Held = c.rounds.raises in
     let after : Held = c.look_backward.new.raises in
-    let came_on = goes_on g order c.rounds.rounds after.vars c.args.floor held after.raises c.requires.start.shape c.requires.names c.rounds.invariant c.in_ok-look_backward.ensures.vars
-    (came g order held c.look_forward.new.raises after.raises c.in_ok-look_backward.field-0 false c.if-branch.false c.in_ok-look_backward.ensures.part c.in_ok-look_forward.ensures)
-    (λ same. c.if-len-before.false (c.len.ensures ∙ same ∙ sym (c.len-before.ensures ∙ ap (λ h. length h.raises) c.in_ok-look_forward.ensures))) in
-    trimmed g order (c.rounds.rounds + 1) c.args.floor (record { vars = after.vars; raises = after.raises }) c.trim.new.raises came_on c.in_ok-left.ensures
+    let trim : IsTrimmed c.args.floor after c.trim.new.raises = c.in_ok-left.ensures in
+    let came_on = goes_on g order c.rounds.rounds after.vars c.args.floor held after.raises c.requires.start.shape c.requires.names c.rounds.invariant.come c.in_ok-look_backward.ensures.vars
+    (came g order held c.look_forward.new.raises after.raises c.in_ok-look_backward.field-0 false c.if-branch.false c.in_ok-look_backward.ensures.part c.in_ok-look_forward.ensures.part)
+    (λ same. c.if-len-before.false (c.len.ensures ∙ same ∙ sym (c.len-before.ensures ∙ ap (λ h. length h.raises) c.in_ok-look_forward.ensures.part))) in
+    record {
+      come = trimmed g order (c.rounds.rounds + 1) c.args.floor (record { vars = after.vars; raises = after.raises }) c.trim.new.raises came_on trim;
+      worklist = worklist_trimmed g.edges order c.look_backward.new.work.ready c.look_backward.new.work.waiting c.args.floor after c.trim.new.raises (c.in_ok-look_backward.ensures.worklist c.if-branch.false) trim;
+    }
