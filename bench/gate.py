@@ -1,17 +1,18 @@
 #!/usr/bin/env python3
 """Tells what a run of the gate from nothing costs: gate.py [NAME..]
 
-It runs `rt ci --anew` in a fresh clone of what is committed here, in a folder for the time being (TMPDIR says where: it
-takes up to 10 GB), over all crates, or over the crates NAME.. and those below them. What rt prints goes to standard
-error. Twice a second it looks at each process below rt and notes what processor time it has used: a `rattle` goes to
-its crate, and to edits where it runs on an edited copy, to tests where it was started with --test, and else to proofs;
-what it starts goes with it. The table has a row for each crate, in processor minutes, the most first, and the sums.
-`not noted` is what the system counts for the whole run besides: rt itself, the programs and tests as they run, and what
-was used after the last look at a process. The last lines are the minutes that the clock went on, and rt's own last
-line; the status is that of rt.
+It runs `rt ci`, and where the kit keeps what passed `rt ci --anew`, in a fresh clone of what is committed here, in a
+folder for the time being (TMPDIR says where: it takes up to 10 GB), over all crates, or over the crates NAME.. and
+those below them. What rt prints goes to standard error. Twice a second it looks at each process below rt and notes
+what processor time it has used: a `rattle` goes to its crate, and to edits where it runs on an edited copy, to tests
+where it was started with --test, and else to proofs; what it starts goes with it. The table has a row for each crate,
+in processor minutes, the most first, and the sums. `not noted` is what the system counts for the whole run besides: rt
+itself, the programs and tests as they run, and what was used after the last look at a process. The last lines are the
+minutes that the clock went on, and rt's own last line; the status is that of rt.
 """
 import os
 import re
+import shutil
 import subprocess
 import sys
 import tempfile
@@ -45,7 +46,7 @@ def purpose(pid):
     words = text_of(Path(f"/proc/{pid}/cmdline")).split("\0")
     if os.path.basename(words[0]) != "rattle" or "--crate-name" not in words[:-1]:
         return None
-    is_edit = re.search(r"/rt-edits?-\d+-", f"{room_of(pid)}/ {' '.join(words)}")
+    is_edit = re.search(r"/rt-edits?-\w+", f"{room_of(pid)}/ {' '.join(words)}")
     return words[words.index("--crate-name") + 1], "edits" if is_edit else "tests" if "--test" in words else "proofs"
 
 
@@ -91,13 +92,27 @@ class Notes:
         return rows
 
 
+def keep_crates(names, folder):
+    """Leaves some crates and those below them in a clone, and takes the others away."""
+    lines = (folder / "crates.txt").read_text().splitlines(True)
+    below = {line.split()[0].rstrip(":"): line.partition(":")[2].split() for line in lines if re.match(r"\w", line)}
+    kept = list(names)
+    for name in kept:
+        kept += [it for it in below[name] if it in below and it not in kept]
+    (folder / "crates.txt").write_text("".join(it for it in lines if it.split()[0].rstrip(":") in kept))
+    for name in below.keys() - set(kept):
+        shutil.rmtree(folder / "crates" / name)
+
+
 class Run:
     """A run of rt in a folder, watched from its first to its last process."""
 
-    def __init__(self, names, folder):
+    def __init__(self, folder):
         self.last, self.begun = "", time.time()
+        told = subprocess.run(["rt", "help"], capture_output=True, text=True, errors="replace", check=False)
+        anew = ["--anew"] if "rt ci --anew" in told.stdout + told.stderr else []
         self.child = subprocess.Popen(
-            ["rt", "ci", "--anew", *names], cwd=folder, stdin=subprocess.DEVNULL, stdout=subprocess.PIPE,
+            ["rt", "ci", *anew], cwd=folder, stdin=subprocess.DEVNULL, stdout=subprocess.PIPE,
             stderr=subprocess.STDOUT, text=True, errors="replace"
         )
         self.reader = threading.Thread(target=self.read, daemon=True)
@@ -143,8 +158,11 @@ def main(words):
         print(__doc__.strip())
         return 0 if words in (["--help"], ["-h"]) else 2
     with tempfile.TemporaryDirectory(prefix="gate-") as room:
-        subprocess.run(["git", "clone", "-q", str(HERE), f"{room}/clone"], check=True)
-        run = Run(words, f"{room}/clone")
+        clone = Path(room) / "clone"
+        subprocess.run(["git", "clone", "-q", str(HERE), clone], check=True)
+        if words:
+            keep_crates(words, clone)
+        run = Run(clone)
         notes, status, whole = run.watch()
     show(notes.table(), whole)
     print("%.1f minutes by the clock" % ((time.time() - run.begun) / 60))
