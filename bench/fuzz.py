@@ -77,7 +77,7 @@ def hung(*_):
 class Runner:
     """Runs the program in a folder of its own, in memory where there is such a place."""
 
-    def __init__(self, program):
+    def __init__(self, program, space=4 << 30):
         self.program = program
         self.folder = tempfile.mkdtemp(prefix="fuzz-", dir="/dev/shm" if os.path.isdir("/dev/shm") else None)
         os.chdir(self.folder)
@@ -85,7 +85,7 @@ class Runner:
         self.actions = [(os.POSIX_SPAWN_DUP2, self.streams[0], 1), (os.POSIX_SPAWN_DUP2, self.streams[1], 2)]
         self.runs, self.seconds, self.kilobytes = 0, 0.0, 0
         resource.setrlimit(resource.RLIMIT_CORE, (0, 0))
-        resource.setrlimit(resource.RLIMIT_AS, (4 << 30, 4 << 30))
+        resource.setrlimit(resource.RLIMIT_AS, (space, space))
         signal.signal(signal.SIGALRM, hung)
 
     def put(self, name, text):
