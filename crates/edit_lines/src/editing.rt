@@ -8,7 +8,7 @@ ghost use Rattle.edit_lines.specs.Edits.{cell_in, number_named, HasLinesAfter, H
 
 use crate::limits::changed_lines;
 use crate::script::EditLine;
-use jog_insert::{is_unused, with_cell};
+use design_edits::{is_unused, with_cell};
 use lam_list::Seq;
 use std::alloc::{AllocError, Global};
 use stick_lex::Text;

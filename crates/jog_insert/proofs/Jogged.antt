@@ -14,7 +14,8 @@ use Rattle.stick_cell.specs.declared.cells.Cells.{Cells}
 use Rattle.stick_cell.specs.Known.{known_at}
 use Rattle.stick_cell.specs.Tables.{known_of, IsResolved}
 use Rattle.stick_cell.proofs.TableReads.{length-known_cells}
-use Rattle.jog_insert.specs.Jogs.{IsCopy, IsNearForm, IsBent, IsJogged, cell_text_at, no_cell}
+use Rattle.design_edits.specs.Cells.{cell_text_at, no_cell}
+use Rattle.jog_insert.specs.Jogs.{IsCopy, IsNearForm, IsBent, IsJogged}
 use Rattle.jog_insert.specs.Building.{StandsAlone, IsBentCell}
 use Rattle.jog_insert.proofs.NodeNames.{AreNamed, nodes_named}
 
@@ -33,10 +34,6 @@ cell_named cells design k is of lt whole =
     let before : k < length cells.design.now.cells = omega (arith, lt, ap (λ (d : Design). length d.cells) of) in
     let P : Design → Type 0 = λ d. All (λ (line : Line). IsCopy line.form → ⊥) (cell_text_at d k).lines in
     nodes_named cells.tech cells.design.now.cells (known_of cells) k no_cell is.read before (all_at IsCell cells.design.now.cells no_cell k is.writable.cells before) (subst P (sym of) whole)
-
--- the text that the code reads
-pub text_here : (design : Design) (cells : List CellText) (k : ℕ) (text : CellText) → cells ≡ design.cells → k < length design.cells → text ≡ get_or cells k text → text ≡ cell_text_at design k
-text_here design cells k text e lt is = is ∙ ap (λ (l : List CellText). get_or l k text) e ∙ get_or_default design.cells k text no_cell lt
 
 -- ---- the jog
 

@@ -11,7 +11,8 @@ use Rattle.jog_insert.specs.declared.bending.Place.{Place}
 use Rattle.jog_insert.specs.declared.joints.Joints.{Joints}
 use Rattle.jog_insert.specs.declared.runs.Run.{Run}
 use Rattle.jog_insert.specs.Bends.{Bend}
-use Rattle.jog_insert.specs.Jogs.{lower_name, upper_name, IsTaken, bent_forms, wires_in, IsWireOf, IsBendable, IsBent, IsCopy, IsNearForm, AreWithoutUse, cell_text_at}
+use Rattle.design_edits.specs.Cells.{AreWithoutUse, cell_text_at}
+use Rattle.jog_insert.specs.Jogs.{lower_name, upper_name, IsTaken, bent_forms, wires_in, IsWireOf, IsBendable, IsBent, IsCopy, IsNearForm}
 
 abbrev pub bend_of : Place → Bend
 bend_of place = record { col = place.col; row = place.row; left = place.left }

@@ -11,15 +11,15 @@ ghost use Rattle.cell_model.specs.Sound.{IsSound};
 ghost use Rattle.stick_cell.specs.Counts.{weight_of};
 ghost use Rattle.stick_cell.specs.Known.{cell_of, known_at};
 ghost use Rattle.stick_cell.specs.Tables.{known_of, IsResolved};
-ghost use Rattle.jog_insert.specs.Jogs.{AreWithoutUse, IsBent, IsCopy, IsJogged, IsNearForm, Uses};
+ghost use Rattle.jog_insert.specs.Jogs.{IsBent, IsCopy, IsJogged, IsNearForm};
 ghost use Rattle.jog_insert.specs.Building.{StandsAlone, IsBentCell};
 ghost use Rattle.design_sizes.specs.Sizes.{lines_in};
 
 use crate::bending::Place;
-use crate::copying::{is_short, with_cell};
 use crate::joints::{Joints, are_near, bent_lines, wire_line};
 use crate::naming::free_number;
 use crate::runs::run_of;
+use design_edits::{is_short, is_unused, with_cell};
 use lam_list::Seq;
 use std::alloc::{AllocError, Global};
 use stick_cell::{Cell, Cells};
@@ -32,45 +32,12 @@ fn is_copy(form: &Form) -> bool
     matches!(form, Form::Inst { .. })
 }
 
-fn is_use_of(name: &[u8], form: &Form) -> bool
-    ensures { MatchBool result (Uses name.now form.now) (Uses name.now form.now → ⊥) }
-{
-    match form {
-        Form::Inst { cell, .. } => cell.bytes() == name,
-        _ => false,
-    }
-}
-
 // Whether none of the lines is a use.
 fn is_whole(lines: &[TextLine]) -> bool
     ensures { MatchBool result (All (λ line. IsCopy line.form → ⊥) lines.now) (All (λ line. IsCopy line.form → ⊥) lines.now → ⊥) }
 {
     for line in lines {
         if is_copy(&line.form) {
-            return false;
-        }
-    }
-    true
-}
-
-// Whether none of the lines is a use of the cell with this name.
-fn is_unused_in(name: &[u8], lines: &[TextLine]) -> bool
-    ensures { MatchBool result (All (λ line. Uses name.now line.form → ⊥) lines.now) (All (λ line. Uses name.now line.form → ⊥) lines.now → ⊥) }
-{
-    for line in lines {
-        if is_use_of(name, &line.form) {
-            return false;
-        }
-    }
-    true
-}
-
-/// Whether none of the cells uses the cell with this name.
-pub fn is_unused(name: &[u8], cells: &[CellText]) -> bool
-    ensures { MatchBool result (AreWithoutUse name.now cells.now) (AreWithoutUse name.now cells.now → ⊥) }
-{
-    for cell in cells {
-        if !is_unused_in(name, cell.lines.as_slice()) {
             return false;
         }
     }

@@ -5,8 +5,8 @@ use Rattle.stick_parse.specs.declared.design.CellText.{CellText}
 use Rattle.stick_parse.specs.declared.design.Design.{Design}
 use Rattle.stick_parse.specs.Writable.{IsName, IsLine, IsCell, IsWritable}
 use Rattle.stick_print.specs.ReadBack.{without_line}
-use Rattle.jog_insert.specs.Jogs.{no_cell}
-use Rattle.jog_insert.proofs.Laid.{laid_is_writable, grids_same}
+use Rattle.design_edits.specs.Cells.{no_cell}
+use Rattle.design_edits.proofs.Laid.{laid_is_writable, grids_same}
 use Rattle.edit_lines.specs.Edits.{HasLinesAfter}
 use Rattle.edit_lines.proofs.Lines.{changed_have_text, changed_length, HasLengthAfter}
 use Rattle.edit_lines.proofs.Designs.{text_of_cell, lines_after}

@@ -9,8 +9,9 @@ use Rattle.cell_model.specs.declared.cell.Cell.{Cell}
 use Rattle.stick_cell.specs.Known.{cell_of, known_at}
 use Rattle.stick_cell.specs.Tables.{known_of}
 use Rattle.design_sizes.specs.Sizes.{lines_in}
-use Rattle.jog_insert.proofs.Laid.{laid_is_writable, grids_same, more_lines, few_lines}
-use Rattle.jog_insert.proofs.Jogged.{cells_number, cell_written, cell_named, text_here, none_jogged, jogged_of}
+use Rattle.design_edits.proofs.Laid.{laid_is_writable, grids_same, more_lines, few_lines}
+use Rattle.design_edits.proofs.Laid.{text_here}
+use Rattle.jog_insert.proofs.Jogged.{cells_number, cell_written, cell_named, none_jogged, jogged_of}
 use Rattle.jog_insert.proofs.inserting.insert.Goals as goal
 
 pub stands_alone-requires : goal.stands_alone-requires
