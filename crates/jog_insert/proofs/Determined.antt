@@ -1,5 +1,5 @@
 -- A jog leads to one design.
-use Rattle.std.proofs.Common.{◌≡◌, ℕ, ◌+◌, Bool, true, List, ◌++◌, map, refl, sym, ap, subst, ◌∙◌, arith}
+use Rattle.std.proofs.Common.{◌≡◌, ℕ, Bool, true, List, ◌++◌, map, refl, sym, ap, subst, ◌∙◌, arith}
 use Rattle.std.specs.Prelude.{pos, slice_set}
 use Rattle.stick_parse.specs.declared.design.Layer.{Layer}
 use Rattle.stick_parse.specs.declared.design.Form.{Form}
@@ -12,6 +12,7 @@ use Rattle.cell_model.specs.declared.cell.Cell.{Cell}
 use Rattle.cell_model.specs.Sound.{node_at}
 use Rattle.jog_insert.proofs.Bendable.{same_node}
 use Rattle.design_edits.specs.Cells.{unnumbered, cell_text_at}
+use Rattle.design_edits.proofs.Splits.{same_split}
 use Rattle.jog_insert.specs.Jogs.{moved_line, bent_forms, is_wire, IsWireOf, bend_at, IsJogNumber, IsBent, IsJogged}
 
 -- ---- the parts of a jog

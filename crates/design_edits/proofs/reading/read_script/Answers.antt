@@ -1,4 +1,4 @@
-use Rattle.std.proofs.Common.{◌+◌, length, arith, ap, sym}
+use Rattle.std.proofs.Common.{◌+◌, arith, ap}
 use Rattle.std.specs.Str.Lines.{lines}
 use Rattle.std.proofs.lemmas.Bool.Decides.{nat_tests}
 use Rattle.std.proofs.lemmas.List.{nil_from_length}
