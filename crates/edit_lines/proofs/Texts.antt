@@ -13,11 +13,12 @@ use Rattle.stick_parse.specs.Words.{Word, Path, Number, AtMost, AtLeast, Front, 
 use Rattle.stick_parse.specs.Writable.{IsPath, IsForm}
 use Rattle.stick_parse.specs.Forms.{start, ◌&◌, limit_of}
 use Rattle.stick_parse.proofs.Written.{Holds, then_holds, AreWords}
+use Rattle.design_edits.specs.Scripts.{steps_of}
 use Rattle.design_edits.proofs.Said.{steps_hold}
 use Rattle.edit_lines.specs.declared.script.EditLine.{EditLine}
 use Rattle.edit_lines.specs.declared.script.EditLine.TheVariants.{Take}
 use Rattle.edit_lines.specs.Edits.{HasText}
-use Rattle.edit_lines.specs.Scripts.{added, add_of, take_of, edit_named, edit_of, edits_of}
+use Rattle.edit_lines.specs.Scripts.{added, add_of, take_of, edit_named, edit_of}
 
 -- ---- what stands in front of some words, and the words behind it
 
@@ -120,6 +121,5 @@ edit_holds words h =
 
 -- ---- what is read
 
-pub edits_have_text : (text : List ℕ) (edits : List EditLine) → edits_of text ≡ Ok edits → AllByRecursion HasText edits
-unfolding edits_of
+pub edits_have_text : (text : List ℕ) (edits : List EditLine) → steps_of edit_of text ≡ Ok edits → AllByRecursion HasText edits
 edits_have_text text edits e = subst (Holds (AllByRecursion HasText)) e (steps_hold HasText edit_of edit_holds 1 (lines text))
