@@ -4,6 +4,7 @@ use Rattle.std.specs.Prelude.{sum_by}
 use Rattle.std.specs.List.{AllByRecursion}
 use Rattle.std.proofs.lemmas.List.{get_or_default, length-set}
 use Rattle.std.proofs.lemmas.List.Sums.{sum_by-set, sum_by-cons, get_or-le-sum_by}
+use Rattle.list_facts.proofs.Elements.{all_at}
 use Rattle.stick_parse.specs.declared.design.Line.{Line}
 use Rattle.stick_parse.specs.declared.design.CellText.{CellText}
 use Rattle.stick_parse.specs.declared.design.GridText.{GridText}
@@ -61,13 +62,17 @@ set_written [] k cell is all = tt
 set_written (c ∷ cells) zero cell is all = (is, all.1)
 set_written (c ∷ cells) (suc k) cell is all = (all.0, set_written cells k cell is all.1)
 
-pub laid_is_writable : (design : Design) (k : ℕ) (cell : CellText) → IsWritable design → IsCell cell → IsWritable (laid_out (record design { cells = set design.cells k cell }))
-laid_is_writable design k cell is written = record {
-  cells = cells_written 2 (set design.cells k cell) (set_written design.cells k cell written is.cells);
-  few_cells = omega (arith, length-cells_from 2 (set design.cells k cell), length-set design.cells k cell, is.few_cells);
-  grids = grids_written (behind_cells 2 (set design.cells k cell)) design.grids is.grids;
-  fits = grids_fit design.version (behind_cells 2 (set design.cells k cell)) design.grids is.fits;
-}
+pub laid_is_writable : (design : Design) (k : ℕ) (lines : List Line) → IsWritable design → k < length design.cells → AllByRecursion IsLine lines
+    → IsWritable (laid_out (record design { cells = set design.cells k (record (cell_text_at design k) { lines = lines }) }))
+laid_is_writable design k lines is lt written =
+    let cell : CellText = record (cell_text_at design k) { lines = lines } in
+    let named = (all_at IsCell design.cells no_cell k is.cells lt).0 in
+    record {
+      cells = cells_written 2 (set design.cells k cell) (set_written design.cells k cell (named, written) is.cells);
+      few_cells = omega (arith, length-cells_from 2 (set design.cells k cell), length-set design.cells k cell, is.few_cells);
+      grids = grids_written (behind_cells 2 (set design.cells k cell)) design.grids is.grids;
+      fits = grids_fit design.version (behind_cells 2 (set design.cells k cell)) design.grids is.fits;
+    }
 
 pub grids_same : (n : ℕ) (grids : List GridText) → map without_line (grids_from n grids) ≡ map without_line grids
 grids_same n [] = refl

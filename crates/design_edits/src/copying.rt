@@ -2,6 +2,7 @@
 ghost use Rattle.std.specs.Prelude.{◌≡◌, ◌+◌, ◌^◌, ◌<◌, ◌≤◌, ◌++◌, length, slice_set, sum_by, IfOk, MatchBool, MatchOption, OnOk, [], ◌∷◌};
 ghost use Rattle.stick_print.specs.ReadBack.{lines_from, cells_from, behind_cells, grids_from, laid_out};
 ghost use Rattle.design_sizes.specs.Sizes.{lines_of_cell, lines_of_grid, lines_in};
+ghost use Rattle.design_edits.specs.Cells.{cell_text_at};
 
 use crate::forms::copy_form;
 use lam_list::Seq;
@@ -26,17 +27,21 @@ fn copy_lines(alloc: Global, first: u32, lines: &[Line]) -> Result<Seq<Line>, Al
     Ok(Seq::from_vec(copies))
 }
 
-fn copy_cell(alloc: Global, number: u32, cell: &CellText) -> Result<CellText, AllocError>
-    requires { number + lines_of_cell cell.now < 2 ^ 32 }
-    ensures { IfOk result (λ copy. copy ∷ [] ≡ cells_from number (cell.now ∷ [])) }
+// The cell with these lines, whose own line gets this number.
+fn copy_cell(
+    alloc: Global,
+    number: u32,
+    cell: &CellText,
+    lines: &[Line],
+) -> Result<CellText, AllocError>
+    requires { number + length lines.now + 2 < 2 ^ 32 }
+    ensures { IfOk result (λ copy. copy ∷ [] ≡ cells_from number (record cell.now { lines = lines.now } ∷ [])) }
 {
-    let name = Text::new(alloc, cell.name.bytes())?;
-    let lines = copy_lines(alloc, number + 1, cell.lines.as_slice())?;
     Ok(CellText {
-        name,
+        name: Text::new(alloc, cell.name.bytes())?,
         line: number,
-        end_line: number + 1 + cell.lines.as_slice().len() as u32,
-        lines,
+        end_line: number + 1 + lines.len() as u32,
+        lines: copy_lines(alloc, number + 1, lines)?,
     })
 }
 
@@ -54,9 +59,9 @@ fn push_cells(
 {
     let mut number = first;
     for cell in cells {
-        let copy = copy_cell(alloc, number, cell)?;
-        copies.push(copy)?;
-        number += cell.lines.as_slice().len() as u32 + 2;
+        let lines = cell.lines.as_slice();
+        copies.push(copy_cell(alloc, number, cell, lines)?)?;
+        number += lines.len() as u32 + 2;
     }
     Ok(number)
 }
@@ -161,23 +166,22 @@ pub fn is_short(design: &Design) -> bool
     without_grids(left, design.grids.as_slice()).is_some()
 }
 
-/// The design with another cell in the place of one, its lines numbered as in its canonical text. The only refusal is want
-/// of memory.
-pub fn with_cell(
+/// The design with these lines in a cell, all lines numbered as in its canonical text. The only refusal is want of memory.
+pub fn with_lines(
     alloc: Global,
     design: &Design,
     number: usize,
-    cell: &CellText,
+    lines: &[Line],
 ) -> Result<Design, AllocError>
     requires within { number < length design.now.cells }
-    requires few { lines_in design.now + lines_of_cell cell.now < 2 ^ 32 }
-    ensures { IfOk result (λ new. new ≡ laid_out (record design.now { cells = slice_set design.now.cells number cell.now })) }
+    requires few { lines_in design.now + length lines.now + 2 < 2 ^ 32 }
+    ensures { IfOk result (λ new. new ≡ laid_out (record design.now { cells = slice_set design.now.cells number (record (cell_text_at design.now number) { lines = lines.now }) })) }
 {
     let cells = design.cells.as_slice();
     let mut copies = Vec::new(alloc);
     let first = push_cells(alloc, 2, &cells[..number], &mut copies)?;
-    copies.push(copy_cell(alloc, first, cell)?)?;
-    let first = first + cell.lines.as_slice().len() as u32 + 2;
+    copies.push(copy_cell(alloc, first, &cells[number], lines)?)?;
+    let first = first + lines.len() as u32 + 2;
     let first = push_cells(alloc, first, &cells[number + 1..], &mut copies)?;
     let grids = copy_grids(alloc, first, design.grids.as_slice())?;
     Ok(Design {

@@ -6,12 +6,6 @@ use std::alloc::{AllocError, Global};
 use stick_lex::Text;
 use stick_parse::{Form, Layer, Side};
 
-fn copy_text(alloc: Global, text: &Text) -> Result<Text, AllocError>
-    ensures { IfOk result (λ copy. copy ≡ text.now) }
-{
-    Text::new(alloc, text.bytes())
-}
-
 fn copy_joint(
     alloc: Global,
     name: &Text,
@@ -22,7 +16,7 @@ fn copy_joint(
 ) -> Result<Form, AllocError>
     ensures { IfOk result (λ copy. copy ≡ forms.Joint name.now layer col row width) }
 {
-    let name = copy_text(alloc, name)?;
+    let name = Text::new(alloc, name.bytes())?;
     Ok(Form::Joint {
         name,
         layer,
@@ -41,7 +35,7 @@ fn copy_contact(
 ) -> Result<Form, AllocError>
     ensures { IfOk result (λ copy. copy ≡ forms.Contact name.now lower col row) }
 {
-    let name = copy_text(alloc, name)?;
+    let name = Text::new(alloc, name.bytes())?;
     Ok(Form::Contact {
         name,
         lower,
@@ -53,7 +47,7 @@ fn copy_contact(
 fn copy_buried(alloc: Global, name: &Text, col: u32, row: u32) -> Result<Form, AllocError>
     ensures { IfOk result (λ copy. copy ≡ forms.Buried name.now col row) }
 {
-    let name = copy_text(alloc, name)?;
+    let name = Text::new(alloc, name.bytes())?;
     Ok(Form::Buried { name, col, row })
 }
 
@@ -69,7 +63,7 @@ fn copy_fet(
 ) -> Result<Form, AllocError>
     ensures { IfOk result (λ copy. copy ≡ forms.Fet name.now depletion vertical col row w l) }
 {
-    let name = copy_text(alloc, name)?;
+    let name = Text::new(alloc, name.bytes())?;
     Ok(Form::Fet {
         name,
         depletion,
@@ -90,7 +84,7 @@ fn copy_port(
 ) -> Result<Form, AllocError>
     ensures { IfOk result (λ copy. copy ≡ forms.Port name.now side layer place) }
 {
-    let name = copy_text(alloc, name)?;
+    let name = Text::new(alloc, name.bytes())?;
     Ok(Form::Port {
         name,
         side,
@@ -102,8 +96,8 @@ fn copy_port(
 fn copy_use(alloc: Global, name: &Text, cell: &Text, col: u32, row: u32) -> Result<Form, AllocError>
     ensures { IfOk result (λ copy. copy ≡ forms.Inst name.now cell.now col row) }
 {
-    let name = copy_text(alloc, name)?;
-    let cell = copy_text(alloc, cell)?;
+    let name = Text::new(alloc, name.bytes())?;
+    let cell = Text::new(alloc, cell.bytes())?;
     Ok(Form::Inst {
         name,
         cell,
@@ -121,8 +115,8 @@ fn copy_wire(
 ) -> Result<Form, AllocError>
     ensures { IfOk result (λ copy. copy ≡ forms.Wire layer a.now b.now width) }
 {
-    let a = copy_text(alloc, a)?;
-    let b = copy_text(alloc, b)?;
+    let a = Text::new(alloc, a.bytes())?;
+    let b = Text::new(alloc, b.bytes())?;
     Ok(Form::Wire { layer, a, b, width })
 }
 
@@ -136,8 +130,8 @@ fn copy_limit(
 ) -> Result<Form, AllocError>
     ensures { IfOk result (λ copy. copy ≡ forms.Limit vertical a.now b.now at_most n) }
 {
-    let a = copy_text(alloc, a)?;
-    let b = copy_text(alloc, b)?;
+    let a = Text::new(alloc, a.bytes())?;
+    let b = Text::new(alloc, b.bytes())?;
     Ok(Form::Limit {
         vertical,
         a,

@@ -17,22 +17,14 @@ fn is_use_of(name: &[u8], form: &Form) -> bool
 fn is_unused_in(name: &[u8], lines: &[Line]) -> bool
     ensures { MatchBool result (All (λ line. Uses name.now line.form → ⊥) lines.now) (All (λ line. Uses name.now line.form → ⊥) lines.now → ⊥) }
 {
-    for line in lines {
-        if is_use_of(name, &line.form) {
-            return false;
-        }
-    }
-    true
+    lines.iter().all(|line| !is_use_of(name, &line.form))
 }
 
 /// Whether none of the cells uses the cell with this name.
 pub fn is_unused(name: &[u8], cells: &[CellText]) -> bool
     ensures { MatchBool result (AreWithoutUse name.now cells.now) (AreWithoutUse name.now cells.now → ⊥) }
 {
-    for cell in cells {
-        if !is_unused_in(name, cell.lines.as_slice()) {
-            return false;
-        }
-    }
-    true
+    cells
+        .iter()
+        .all(|cell| is_unused_in(name, cell.lines.as_slice()))
 }

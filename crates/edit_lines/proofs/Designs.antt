@@ -8,8 +8,7 @@ use Rattle.stick_parse.specs.declared.design.CellText.{CellText}
 use Rattle.stick_parse.specs.declared.design.Design.{Design}
 use Rattle.stick_print.specs.ReadBack.{laid_out}
 use Rattle.design_edits.specs.Cells.{no_cell, cell_text_at, AreWithoutUse}
-use Rattle.design_edits.proofs.Laid.{lines_of_laid}
-use Rattle.design_edits.proofs.Laid.{text_here}
+use Rattle.design_edits.proofs.Laid.{lines_of_laid, text_here}
 use Rattle.edit_lines.specs.declared.script.EditLine.{EditLine}
 use Rattle.edit_lines.specs.declared.script.EditLine.TheVariants.{Add, Take}
 use Rattle.edit_lines.specs.Edits.{cell_in, number_named, ChangesTo, HasLinesAfter, IsEdited}

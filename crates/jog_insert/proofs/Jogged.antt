@@ -43,18 +43,10 @@ none_jogged design content own masters cell k row left text e f none new jogged 
     let Q : Cell → Type 0 = λ c. IsBent text c k row left jogged.lines in
     none jogged.lines (subst Q (sym f) (subst P (sym e) jogged.bent)) jogged.near
 
-pub jogged_of : (design : Design) (content own : Cell) (masters : List ℕ) (cell k row : ℕ) (left : Bool) (text bent : CellText) (new : Design) → StandsAlone design masters cell → text ≡ cell_text_at design cell → own ≡ content
-    → IsBentCell text own k row left bent → new ≡ laid_out (record design { cells = slice_set design.cells cell bent }) → IsJogged design content masters cell k row left new
-jogged_of design content own masters cell k row left text bent new alone e f is made =
-    let P : CellText → Type 0 = λ t. IsBent t content k row left bent.lines in
-    let Q : Cell → Type 0 = λ c. IsBent text c k row left bent.lines in
-    let same : bent ≡ record (cell_text_at design cell) { lines = bent.lines } = is.rest ∙ ap (λ (t : CellText). record t { lines = bent.lines }) e in
-    record {
-      master = alone.master;
-      whole = alone.whole;
-      unused = alone.unused;
-      lines = bent.lines;
-      bent = subst P e (subst Q f is.bent);
-      near = is.near;
-      made = made ∙ ap (λ (t : CellText). laid_out (record design { cells = slice_set design.cells cell t })) same;
-    }
+pub jogged_of : (design : Design) (content own : Cell) (masters : List ℕ) (cell k row : ℕ) (left : Bool) (text : CellText) (lines : List Line) (new : Design) → StandsAlone design masters cell → text ≡ cell_text_at design cell
+    → own ≡ content → IsBentCell text own k row left lines → new ≡ laid_out (record design { cells = slice_set design.cells cell (record (cell_text_at design cell) { lines = lines }) })
+    → IsJogged design content masters cell k row left new
+jogged_of design content own masters cell k row left text lines new alone e f is made =
+    let P : CellText → Type 0 = λ t. IsBent t content k row left lines in
+    let Q : Cell → Type 0 = λ c. IsBent text c k row left lines in
+    record { master = alone.master; whole = alone.whole; unused = alone.unused; lines = lines; bent = subst P e (subst Q f is.bent); near = is.near; made = made }

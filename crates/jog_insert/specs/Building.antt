@@ -75,8 +75,7 @@ pub record StandsAlone (design : Design) (masters : List ℕ) (cell : ℕ) : Typ
   pub whole : All (λ line. IsCopy line.form → ⊥) (cell_text_at design cell).lines
   pub unused : AreWithoutUse (cell_text_at design cell).name design.cells
 
--- the text of a cell with other lines, which are those of a jog and lie near
-pub record IsBentCell (text : CellText) (cell : Cell) (k row : ℕ) (left : Bool) (new : CellText) : Type 0 where
-  pub bent : IsBent text cell k row left new.lines
-  pub near : All (λ line. IsNearForm line.form) new.lines
-  pub rest : new ≡ record text { lines = new.lines }
+-- the lines are those of a jog in a cell, and lie near
+pub record IsBentCell (text : CellText) (cell : Cell) (k row : ℕ) (left : Bool) (lines : List Line) : Type 0 where
+  pub bent : IsBent text cell k row left lines
+  pub near : All (λ line. IsNearForm line.form) lines

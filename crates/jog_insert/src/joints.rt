@@ -175,10 +175,5 @@ fn is_near(form: &Form) -> bool
 pub fn are_near(lines: &[Line]) -> bool
     ensures { MatchBool result (All (λ line. IsNearForm line.form) lines.now) (All (λ line. IsNearForm line.form) lines.now → ⊥) }
 {
-    for line in lines {
-        if !is_near(&line.form) {
-            return false;
-        }
-    }
-    true
+    lines.iter().all(|line| is_near(&line.form))
 }
