@@ -7,7 +7,7 @@ use Rattle.stick_lex.proofs.Loop.{width}
 use Rattle.stick_parse.specs.declared.fault.StickKind.{StickKind}
 use Rattle.stick_parse.specs.Words.{Word}
 use Rattle.lam_io.specs.Io.{Bytes, Files}
-use Rattle.jog_insert.specs.Scripts.{step_by, steps_from, steps_of, with_step}
+use Rattle.design_edits.specs.Scripts.{step_by, steps_from, steps_of, with_step}
 use Rattle.edit_lines.specs.declared.script.EditLine.{EditLine}
 use Rattle.edit_lines.specs.Scripts.{edit_of, edits_of}
 use Rattle.compact_run.specs.declared.status.File.TheVariants.{Script}

@@ -2,8 +2,8 @@
 use Rattle.std.specs.Prelude.{List, ℕ, Some, None, Result, Ok, Err}
 use Rattle.pass_run.specs.declared.passes.PassFault.{PassFault}
 use Rattle.pass_run.specs.declared.passes.PassFault.TheVariants as stop
-use Rattle.jog_insert.specs.declared.script.ScriptFault.{ScriptFault}
-use Rattle.jog_insert.specs.declared.script.ScriptFault.TheVariants as script
+use Rattle.design_edits.specs.declared.script.ScriptFault.{ScriptFault}
+use Rattle.design_edits.specs.declared.script.ScriptFault.TheVariants as script
 use Rattle.cif_answers.specs.declared.fault.TextFault.{TextFault}
 use Rattle.cif_answers.specs.declared.fault.TextFault.TheVariants as cif
 use Rattle.run_words.specs.declared.commands.WordsFault.{WordsFault}

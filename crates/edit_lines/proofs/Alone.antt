@@ -18,7 +18,7 @@ use Rattle.stick_cell.specs.Lines.{after_form, after_lines, cells_after, known_c
 use Rattle.stick_cell.specs.Grids.{grids_after, resolved_cells}
 use Rattle.stick_cell.proofs.Accepted.{two_bound, ok_same}
 use Rattle.stick_cell.proofs.Made.{limit_made}
-use Rattle.jog_insert.specs.Jogs.{unnumbered, no_cell, cell_text_at}
+use Rattle.design_edits.specs.Cells.{unnumbered, no_cell, cell_text_at}
 use Rattle.edit_lines.specs.declared.script.EditLine.{EditLine}
 use Rattle.edit_lines.specs.declared.script.EditLine.TheVariants.{Add, Take}
 use Rattle.edit_lines.specs.Edits.{cell_in, number_named, ChangesTo, IsWithoutLimit, IsEdited}

@@ -7,9 +7,8 @@ use Rattle.stick_parse.specs.declared.design.Line.{Line}
 use Rattle.stick_parse.specs.declared.design.CellText.{CellText}
 use Rattle.stick_parse.specs.declared.design.Design.{Design}
 use Rattle.stick_print.specs.ReadBack.{laid_out}
-use Rattle.jog_insert.specs.Jogs.{no_cell, cell_text_at, AreWithoutUse}
-use Rattle.jog_insert.proofs.Laid.{lines_of_laid}
-use Rattle.jog_insert.proofs.Jogged.{text_here}
+use Rattle.design_edits.specs.Cells.{no_cell, cell_text_at, AreWithoutUse}
+use Rattle.design_edits.proofs.Laid.{lines_of_laid, text_here}
 use Rattle.edit_lines.specs.declared.script.EditLine.{EditLine}
 use Rattle.edit_lines.specs.declared.script.EditLine.TheVariants.{Add, Take}
 use Rattle.edit_lines.specs.Edits.{cell_in, number_named, ChangesTo, HasLinesAfter, IsEdited}

@@ -17,7 +17,7 @@ use Rattle.stick_cell.specs.Checks.{demand}
 use Rattle.stick_cell.specs.Lines.{after_form, after_lines, is_wired, is_new_cell, after_cell, cells_after}
 use Rattle.stick_cell.proofs.Accepted.{bound, two_bound, ok_same}
 use Rattle.stick_cell.proofs.Made.{limit_made}
-use Rattle.jog_insert.specs.Jogs.{unnumbered, no_cell}
+use Rattle.design_edits.specs.Cells.{unnumbered, no_cell}
 use Rattle.edit_lines.specs.Edits.{is_limit, IsWithoutLimit}
 use Rattle.edit_lines.proofs.Limitless.{limitless, bare, AreSame, lines_same, cell_same, read_same}
 

@@ -7,8 +7,8 @@ use Rattle.list_facts.proofs.Elements.{all_append, all_parts}
 use Rattle.stick_parse.specs.declared.design.Line.{Line}
 use Rattle.stick_parse.specs.declared.design.Form.TheVariants.{Limit}
 use Rattle.stick_parse.specs.Writable.{IsLine}
-use Rattle.jog_insert.specs.Jogs.{unnumbered}
-use Rattle.jog_insert.proofs.Determined.{same_split}
+use Rattle.design_edits.specs.Cells.{unnumbered}
+use Rattle.design_edits.proofs.Splits.{same_split}
 use Rattle.edit_lines.specs.declared.script.EditLine.{EditLine}
 use Rattle.edit_lines.specs.declared.script.EditLine.TheVariants.{Add, Take}
 use Rattle.edit_lines.specs.Edits.{is_limit, limits_in, HasText, ChangesTo, IsWithoutLimit}

@@ -1,20 +1,20 @@
 -- The limits of a script can stand in a stick text.
-use Rattle.std.proofs.Common.{◌≡◌, ℕ, Bool, true, false, cond, List, [], ◌∷◌, Option, Some, None, Result, Ok, Err, refl, subst, codes}
+use Rattle.std.proofs.Common.{◌≡◌, ℕ, Bool, true, false, cond, List, ◌∷◌, Result, Ok, Err, subst, codes}
+use Rattle.std.specs.List.{AllByRecursion}
 use Rattle.std.specs.Str.{bytes_eq}
-use Rattle.stick_lex.specs.declared.token.Token.{Token}
-use Rattle.stick_lex.specs.declared.token.LexFault.{LexFault}
+use Rattle.std.specs.Str.Lines.{lines}
 use Rattle.stick_lex.specs.Numbers.{IsNumber}
-use Rattle.stick_lex.specs.Tokens.{is_name, tokens_of}
+use Rattle.stick_lex.specs.Tokens.{is_name}
 use Rattle.stick_parse.specs.declared.fault.StickKind.{StickKind}
 use Rattle.stick_parse.specs.declared.fault.StickKind.TheVariants.{BadLine}
 use Rattle.stick_parse.specs.declared.design.Form.{Form}
 use Rattle.stick_parse.specs.declared.design.Form.TheVariants.{Joint, Contact, Buried, Fet, Port, Inst, Wire, Limit}
-use Rattle.stick_parse.specs.Lines.{tokens_or_kind}
 use Rattle.stick_parse.specs.Words.{Word, Path, Number, AtMost, AtLeast, Front, path_at, name_at, number_at, count_at, at_most_at, second_of, either_at, ended}
 use Rattle.stick_parse.specs.Writable.{IsPath, IsForm}
 use Rattle.stick_parse.specs.Forms.{start, ◌&◌, limit_of}
-use Rattle.stick_parse.proofs.Written.{Holds, then_holds, AreWords, words_in_range}
-use Rattle.jog_insert.specs.Scripts.{step_by_words, step_by}
+use Rattle.stick_parse.proofs.Written.{Holds, then_holds, AreWords}
+use Rattle.design_edits.specs.Scripts.{steps_of}
+use Rattle.design_edits.proofs.Said.{steps_hold}
 use Rattle.edit_lines.specs.declared.script.EditLine.{EditLine}
 use Rattle.edit_lines.specs.declared.script.EditLine.TheVariants.{Take}
 use Rattle.edit_lines.specs.Edits.{HasText}
@@ -121,21 +121,5 @@ edit_holds words h =
 
 -- ---- what is read
 
-abbrev IsSaid : Option EditLine → Type 0
-IsSaid None = Unit {0}
-IsSaid (Some edit) = HasText edit
-
-by_words_holds : (words : List Word) → AreWords words → Holds IsSaid (step_by_words edit_of words)
-by_words_holds [] h = tt
-by_words_holds (word ∷ words) h = then_holds HasText IsSaid (edit_of (word ∷ words)) _ (edit_holds (word ∷ words) h) (λ edit k. k)
-
-tokens_hold : (line : List ℕ) (r : Result (List Token) LexFault) → tokens_of line ≡ r → Holds (λ tokens. tokens_of line ≡ Ok tokens) (tokens_or_kind r)
-tokens_hold line (Ok tokens) e = e
-tokens_hold line (Err fault) e = tt
-
-line_holds : (line : List ℕ) → Holds IsSaid (step_by edit_of line)
-line_holds line =
-    then_holds (λ tokens. tokens_of line ≡ Ok tokens) IsSaid (tokens_or_kind (tokens_of line)) _ (tokens_hold line (tokens_of line) refl) (λ tokens e. by_words_holds _ (words_in_range line tokens e))
-
-pub edit_has_text : (line : List ℕ) (edit : EditLine) → step_by edit_of line ≡ Ok (Some edit) → HasText edit
-edit_has_text line edit e = subst (Holds IsSaid) e (line_holds line)
+pub edits_have_text : (text : List ℕ) (edits : List EditLine) → steps_of edit_of text ≡ Ok edits → AllByRecursion HasText edits
+edits_have_text text edits e = subst (Holds (AllByRecursion HasText)) e (steps_hold HasText edit_of edit_holds 1 (lines text))

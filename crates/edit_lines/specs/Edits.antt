@@ -9,7 +9,7 @@ use Rattle.stick_parse.specs.declared.design.Design.{Design}
 use Rattle.stick_parse.specs.Writable.{IsForm}
 use Rattle.stick_print.specs.ReadBack.{laid_out}
 use Rattle.design_sizes.specs.Sizes.{lines_in}
-use Rattle.jog_insert.specs.Jogs.{unnumbered, cell_text_at, AreWithoutUse}
+use Rattle.design_edits.specs.Cells.{unnumbered, cell_text_at, AreWithoutUse}
 use Rattle.edit_lines.specs.declared.script.EditLine.{EditLine}
 use Rattle.edit_lines.specs.declared.script.EditLine.TheVariants.{Add, Take}
 

@@ -8,7 +8,7 @@ use Rattle.stick_parse.specs.declared.design.Form.TheVariants.{Limit}
 use Rattle.stick_parse.specs.Reading.{◌>>=◌}
 use Rattle.stick_parse.specs.Words.{Word, path_at, name_at, count_at, ended}
 use Rattle.stick_parse.specs.Forms.{limit_of}
-use Rattle.jog_insert.specs.Scripts.{steps_of}
+use Rattle.design_edits.specs.Scripts.{steps_of}
 use Rattle.edit_lines.specs.declared.script.EditLine.{EditLine}
 use Rattle.edit_lines.specs.declared.script.EditLine.TheVariants.{Add, Take}
 

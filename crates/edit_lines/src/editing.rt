@@ -8,10 +8,8 @@ ghost use Rattle.edit_lines.specs.Edits.{cell_in, number_named, HasLinesAfter, H
 
 use crate::limits::changed_lines;
 use crate::script::EditLine;
-use jog_insert::{is_unused, with_cell};
-use lam_list::Seq;
+use design_edits::{is_unused, with_lines};
 use std::alloc::{AllocError, Global};
-use stick_lex::Text;
 use stick_parse::{CellText, Design};
 
 impl EditLine {
@@ -64,13 +62,6 @@ pub fn edited(
     let Some(lines) = changed_lines(alloc, text.lines.as_slice(), edit)? else {
         return Ok(None);
     };
-    let name = Text::new(alloc, text.name.bytes())?;
-    let new = CellText {
-        name,
-        line: text.line,
-        end_line: text.end_line,
-        lines: Seq::from_vec(lines),
-    };
-    let new = with_cell(alloc, design, cell, &new)?;
+    let new = with_lines(alloc, design, cell, &lines)?;
     Ok(Some(new))
 }

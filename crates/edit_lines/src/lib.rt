@@ -13,8 +13,8 @@ mod limits;
 mod reading;
 mod script;
 
+pub use design_edits::ScriptFault;
 pub use editing::edited;
-pub use jog_insert::ScriptFault;
 pub use laws::{edits_are_at_fault_alone, edits_are_determined};
 pub use reading::read_edits;
 pub use script::EditLine;

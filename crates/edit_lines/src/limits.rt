@@ -2,12 +2,12 @@
 ghost use Rattle.std.specs.Prelude.{◌≡◌, ◌+◌, ◌<◌, ◌≤◌, ◌++◌, [], ◌∷◌, drop, take, length, IfOk, List, OnOk, MatchOption};
 ghost use Rattle.stick_parse.specs.declared.design.Form.TheVariants as forms;
 ghost use Rattle.stick_parse.specs.declared.design.Line.{Line as SomeLine};
-ghost use Rattle.jog_insert.specs.Jogs.{unnumbered};
+ghost use Rattle.design_edits.specs.Cells.{unnumbered};
 ghost use Rattle.edit_lines.specs.Edits.{is_limit, limits_in, ChangesTo, IsWithoutLimit};
 ghost use Rattle.edit_lines.specs.Building.{IsLimitAt};
 
 use crate::script::EditLine;
-use jog_insert::copy_form;
+use design_edits::copy_form;
 use std::alloc::{AllocError, Global};
 use stick_lex::Text;
 use stick_parse::{Form, Line};

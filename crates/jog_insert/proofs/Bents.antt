@@ -16,7 +16,8 @@ use Rattle.cell_model.specs.Sound.{node_at}
 use Rattle.jog_insert.specs.declared.runs.Run.{Run}
 use Rattle.jog_insert.specs.Bends.{Bend, part_col, moved_form}
 use Rattle.jog_insert.proofs.Alls.{by_all}
-use Rattle.jog_insert.specs.Jogs.{lower_name, upper_name, unnumbered, moved_line, bent_forms, bend_at, IsJogNumber, IsNearForm, IsBent}
+use Rattle.design_edits.specs.Cells.{unnumbered}
+use Rattle.jog_insert.specs.Jogs.{lower_name, upper_name, moved_line, bent_forms, bend_at, IsJogNumber, IsNearForm, IsBent}
 use Rattle.jog_insert.specs.Building.{IsRun, IsWireAt}
 use Rattle.jog_insert.proofs.JogNames.{lower_is_name, upper_is_name}
 

@@ -1,7 +1,6 @@
 -- A jog leads to one design.
-use Rattle.std.proofs.Common.{◌≡◌, ℕ, ◌+◌, Bool, true, cond, List, [], ◌∷◌, ◌++◌, map, refl, sym, ap, subst, ◌∙◌, arith}
-use Rattle.std.specs.Prelude.{pos, slice_set, count_by}
-use Rattle.std.proofs.lemmas.List.Sums.{sum_by-cons}
+use Rattle.std.proofs.Common.{◌≡◌, ℕ, Bool, true, List, ◌++◌, map, refl, sym, ap, subst, ◌∙◌, arith}
+use Rattle.std.specs.Prelude.{pos, slice_set}
 use Rattle.stick_parse.specs.declared.design.Layer.{Layer}
 use Rattle.stick_parse.specs.declared.design.Form.{Form}
 use Rattle.stick_parse.specs.declared.design.Form.TheVariants.{Joint, Contact, Buried, Fet, Port, Inst, Wire, Limit}
@@ -12,7 +11,9 @@ use Rattle.stick_print.specs.ReadBack.{laid_out}
 use Rattle.cell_model.specs.declared.cell.Cell.{Cell}
 use Rattle.cell_model.specs.Sound.{node_at}
 use Rattle.jog_insert.proofs.Bendable.{same_node}
-use Rattle.jog_insert.specs.Jogs.{unnumbered, moved_line, bent_forms, is_wire, IsWireOf, bend_at, cell_text_at, IsJogNumber, IsBent, IsJogged}
+use Rattle.design_edits.specs.Cells.{unnumbered, cell_text_at}
+use Rattle.design_edits.proofs.Splits.{same_split}
+use Rattle.jog_insert.specs.Jogs.{moved_line, bent_forms, is_wire, IsWireOf, bend_at, IsJogNumber, IsBent, IsJogged}
 
 -- ---- the parts of a jog
 
@@ -38,42 +39,6 @@ wire_of own (Fet name depletion vertical col row w l) h = absurd h
 wire_of own (Port name side layer place) h = absurd h
 wire_of own (Inst name cell col row) h = absurd h
 wire_of own (Limit vertical p q at_most n) h = absurd h
-
--- ---- the place of the wire's line, or of the line with some number among those of any kind
-
-abbrev count_of : (Line → Bool) → Line → ℕ
-count_of is line = cond (is line) 1 0
-
-count_cons : (is : Line → Bool) (line : Line) (lines : List Line) → count_by is (line ∷ lines) ≡ count_of is line + count_by is lines
-count_cons is line lines = sum_by-cons (count_of is) line lines
-
-count_one : (is : Line → Bool) (line : Line) → is line ≡ true → count_of is line ≡ 1
-count_one is line e = ap (λ (b : Bool). cond b 1 0) e
-
-head_same : (x y : Line) (xs ys : List Line) → ◌≡◌ {A = List Line} (x ∷ xs) (y ∷ ys) → (x ≡ y) × (xs ≡ ys)
-head_same x y xs ys e = (cc, cc)
-
-pub record AreSameParts (front other : List Line) (line second : Line) (back rest : List Line) : Type 0 where
-  pub fronts : front ≡ other
-  pub lines : line ≡ second
-  pub backs : back ≡ rest
-
-pub same_split : (is : Line → Bool) (front other : List Line) (line second : Line) (back rest : List Line) → front ++ line ∷ back ≡ other ++ second ∷ rest → count_by is front ≡ count_by is other
-    → is line ≡ true → is second ≡ true → AreSameParts front other line second back rest
-same_split is [] [] line second back rest e n w v = let h = head_same line second back rest e in record { fronts = refl; lines = h.0; backs = h.1 }
-same_split is [] (y ∷ other) line second back rest e n w v =
-    let h = head_same line y back (other ++ second ∷ rest) e in
-    let one : count_of is y ≡ 1 = sym (ap (count_of is) h.0) ∙ count_one is line w in
-    absurd (omega (arith, n, count_cons is y other, one))
-same_split is (x ∷ front) [] line second back rest e n w v =
-    let h = head_same x second (front ++ line ∷ back) rest e in
-    let one : count_of is x ≡ 1 = ap (count_of is) h.0 ∙ count_one is second v in
-    absurd (omega (arith, n, count_cons is x front, one))
-same_split is (x ∷ front) (y ∷ other) line second back rest e n w v =
-    let h = head_same x y (front ++ line ∷ back) (other ++ second ∷ rest) e in
-    let fewer : count_by is front ≡ count_by is other = omega (arith, n, count_cons is x front, count_cons is y other, ap (count_of is) h.0) in
-    let parts = same_split is front other line second back rest h.1 fewer w v in
-    record { fronts = ap (λ (l : List Line). x ∷ l) parts.fronts ∙ ap (λ (l : Line). l ∷ other) h.0; lines = parts.lines; backs = parts.backs }
 
 -- ---- the lines of the bent cell
 

@@ -1,8 +1,7 @@
 -- A jog in a design whose names and sizes have been checked.
-use Rattle.std.proofs.Common.{◌≡◌, ℕ, ◌<◌, Bool, List, length, get_or, sym, ap, subst, ◌∙◌, arith}
+use Rattle.std.proofs.Common.{◌≡◌, ℕ, ◌<◌, Bool, List, length, sym, ap, subst, ◌∙◌, arith}
 use Rattle.std.specs.Prelude.{All, slice_set}
 use Rattle.std.specs.List.{AllByRecursion}
-use Rattle.std.proofs.lemmas.List.{get_or_default}
 use Rattle.list_facts.proofs.Elements.{all_at}
 use Rattle.stick_parse.specs.declared.design.Line.{Line}
 use Rattle.stick_parse.specs.declared.design.CellText.{CellText}
@@ -14,7 +13,8 @@ use Rattle.stick_cell.specs.declared.cells.Cells.{Cells}
 use Rattle.stick_cell.specs.Known.{known_at}
 use Rattle.stick_cell.specs.Tables.{known_of, IsResolved}
 use Rattle.stick_cell.proofs.TableReads.{length-known_cells}
-use Rattle.jog_insert.specs.Jogs.{IsCopy, IsNearForm, IsBent, IsJogged, cell_text_at, no_cell}
+use Rattle.design_edits.specs.Cells.{cell_text_at, no_cell}
+use Rattle.jog_insert.specs.Jogs.{IsCopy, IsNearForm, IsBent, IsJogged}
 use Rattle.jog_insert.specs.Building.{StandsAlone, IsBentCell}
 use Rattle.jog_insert.proofs.NodeNames.{AreNamed, nodes_named}
 
@@ -34,10 +34,6 @@ cell_named cells design k is of lt whole =
     let P : Design → Type 0 = λ d. All (λ (line : Line). IsCopy line.form → ⊥) (cell_text_at d k).lines in
     nodes_named cells.tech cells.design.now.cells (known_of cells) k no_cell is.read before (all_at IsCell cells.design.now.cells no_cell k is.writable.cells before) (subst P (sym of) whole)
 
--- the text that the code reads
-pub text_here : (design : Design) (cells : List CellText) (k : ℕ) (text : CellText) → cells ≡ design.cells → k < length design.cells → text ≡ get_or cells k text → text ≡ cell_text_at design k
-text_here design cells k text e lt is = is ∙ ap (λ (l : List CellText). get_or l k text) e ∙ get_or_default design.cells k text no_cell lt
-
 -- ---- the jog
 
 pub none_jogged : (design : Design) (content own : Cell) (masters : List ℕ) (cell k row : ℕ) (left : Bool) (text : CellText) → text ≡ cell_text_at design cell → own ≡ content
@@ -47,18 +43,10 @@ none_jogged design content own masters cell k row left text e f none new jogged 
     let Q : Cell → Type 0 = λ c. IsBent text c k row left jogged.lines in
     none jogged.lines (subst Q (sym f) (subst P (sym e) jogged.bent)) jogged.near
 
-pub jogged_of : (design : Design) (content own : Cell) (masters : List ℕ) (cell k row : ℕ) (left : Bool) (text bent : CellText) (new : Design) → StandsAlone design masters cell → text ≡ cell_text_at design cell → own ≡ content
-    → IsBentCell text own k row left bent → new ≡ laid_out (record design { cells = slice_set design.cells cell bent }) → IsJogged design content masters cell k row left new
-jogged_of design content own masters cell k row left text bent new alone e f is made =
-    let P : CellText → Type 0 = λ t. IsBent t content k row left bent.lines in
-    let Q : Cell → Type 0 = λ c. IsBent text c k row left bent.lines in
-    let same : bent ≡ record (cell_text_at design cell) { lines = bent.lines } = is.rest ∙ ap (λ (t : CellText). record t { lines = bent.lines }) e in
-    record {
-      master = alone.master;
-      whole = alone.whole;
-      unused = alone.unused;
-      lines = bent.lines;
-      bent = subst P e (subst Q f is.bent);
-      near = is.near;
-      made = made ∙ ap (λ (t : CellText). laid_out (record design { cells = slice_set design.cells cell t })) same;
-    }
+pub jogged_of : (design : Design) (content own : Cell) (masters : List ℕ) (cell k row : ℕ) (left : Bool) (text : CellText) (lines : List Line) (new : Design) → StandsAlone design masters cell → text ≡ cell_text_at design cell
+    → own ≡ content → IsBentCell text own k row left lines → new ≡ laid_out (record design { cells = slice_set design.cells cell (record (cell_text_at design cell) { lines = lines }) })
+    → IsJogged design content masters cell k row left new
+jogged_of design content own masters cell k row left text lines new alone e f is made =
+    let P : CellText → Type 0 = λ t. IsBent t content k row left lines in
+    let Q : Cell → Type 0 = λ c. IsBent text c k row left lines in
+    record { master = alone.master; whole = alone.whole; unused = alone.unused; lines = lines; bent = subst P e (subst Q f is.bent); near = is.near; made = made }

@@ -1,11 +1,8 @@
-pub mod ScriptsLeft
 pub mod Alls
-pub mod Copies
 pub mod JogNames
 pub mod Marking
 pub mod Bendable
 pub mod Determined
 pub mod Bents
 pub mod NodeNames
-pub mod Laid
 pub mod Jogged

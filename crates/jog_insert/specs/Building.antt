@@ -11,7 +11,8 @@ use Rattle.jog_insert.specs.declared.bending.Place.{Place}
 use Rattle.jog_insert.specs.declared.joints.Joints.{Joints}
 use Rattle.jog_insert.specs.declared.runs.Run.{Run}
 use Rattle.jog_insert.specs.Bends.{Bend}
-use Rattle.jog_insert.specs.Jogs.{lower_name, upper_name, IsTaken, bent_forms, wires_in, IsWireOf, IsBendable, IsBent, IsCopy, IsNearForm, AreWithoutUse, cell_text_at}
+use Rattle.design_edits.specs.Cells.{AreWithoutUse, cell_text_at}
+use Rattle.jog_insert.specs.Jogs.{lower_name, upper_name, IsTaken, bent_forms, wires_in, IsWireOf, IsBendable, IsBent, IsCopy, IsNearForm}
 
 abbrev pub bend_of : Place → Bend
 bend_of place = record { col = place.col; row = place.row; left = place.left }
@@ -74,8 +75,7 @@ pub record StandsAlone (design : Design) (masters : List ℕ) (cell : ℕ) : Typ
   pub whole : All (λ line. IsCopy line.form → ⊥) (cell_text_at design cell).lines
   pub unused : AreWithoutUse (cell_text_at design cell).name design.cells
 
--- the text of a cell with other lines, which are those of a jog and lie near
-pub record IsBentCell (text : CellText) (cell : Cell) (k row : ℕ) (left : Bool) (new : CellText) : Type 0 where
-  pub bent : IsBent text cell k row left new.lines
-  pub near : All (λ line. IsNearForm line.form) new.lines
-  pub rest : new ≡ record text { lines = new.lines }
+-- the lines are those of a jog in a cell, and lie near
+pub record IsBentCell (text : CellText) (cell : Cell) (k row : ℕ) (left : Bool) (lines : List Line) : Type 0 where
+  pub bent : IsBent text cell k row left lines
+  pub near : All (λ line. IsNearForm line.form) lines

@@ -1,5 +1,5 @@
 -- Jogs: a wire of a cell that runs up is bent to the left or to the right, by two joints and a wire between them in a row of their own.
-use Rattle.std.specs.Prelude.{◌≡◌, ◌≢◌, ℕ, ◌+◌, ◌<◌, ◌≤◌, pos, Bool, true, false, All, Contains, List, [], ◌∷◌, ◌++◌, length, map, count_by, slice_index_or, slice_set, Some, codes, decimal}
+use Rattle.std.specs.Prelude.{◌≡◌, ◌≢◌, ℕ, ◌+◌, ◌<◌, ◌≤◌, pos, Bool, true, false, All, Contains, List, [], ◌∷◌, ◌++◌, length, map, count_by, slice_set, Some, codes, decimal}
 use Rattle.stick_parse.specs.declared.design.Layer.{Layer}
 use Rattle.stick_parse.specs.declared.design.Form.{Form}
 use Rattle.stick_parse.specs.declared.design.Form.TheVariants.{Joint, Contact, Buried, Fet, Port, Inst, Wire, Limit}
@@ -13,6 +13,7 @@ use Rattle.cell_model.specs.declared.cell.Wire.{Wire as CellWire}
 use Rattle.cell_model.specs.declared.cell.WireEnd.{WireEnd}
 use Rattle.cell_model.specs.declared.cell.WireEnd.TheVariants as ends
 use Rattle.cell_model.specs.Sound.{node_at, wire_at, line_at}
+use Rattle.design_edits.specs.Cells.{unnumbered, AreWithoutUse, cell_text_at}
 use Rattle.jog_insert.specs.Bends.{Bend, part_col, moved_form}
 
 -- ---- names
@@ -64,10 +65,6 @@ bent_forms bend n layer low high width =
     ∷ Wire layer (upper_name n) high (Some width)
     ∷ []
 
--- a line of the new cell, which gets its number with all others
-abbrev pub unnumbered : Form → Line
-unnumbered form = record { number = 0; form = form }
-
 abbrev pub moved_line : Bend → Line → Line
 moved_line bend line = unnumbered (moved_form bend line.form)
 
@@ -88,21 +85,6 @@ wires_in lines = count_by (λ line. is_wire line.form) lines
 abbrev pub IsCopy : Form → Type 0
 IsCopy (Inst name cell col row) = Unit {0}
 IsCopy form = ⊥
-
--- the line is a use of the cell with this name
-abbrev pub Uses : List ℕ → Form → Type 0
-Uses used (Inst name cell col row) = cell ≡ used
-Uses used form = ⊥
-
--- no line of these cells is a use of the cell with this name
-abbrev pub AreWithoutUse : List ℕ → List CellText → Type 0
-AreWithoutUse name cells = All (λ (text : CellText). All (λ line. Uses name line.form → ⊥) text.lines) cells
-
-abbrev pub no_cell : CellText
-no_cell = record { name = []; line = 0; end_line = 0; lines = [] }
-
-abbrev pub cell_text_at : Design → ℕ → CellText
-cell_text_at design k = slice_index_or design.cells k no_cell
 
 -- the end is a node, or a port, from which a wire comes from beyond every row; it is at most in this row, or at least
 abbrev pub IsFromBelow : Cell → ℕ → WireEnd → Type 0

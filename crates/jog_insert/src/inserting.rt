@@ -4,26 +4,24 @@ ghost use Rattle.std.specs.List.{AllByRecursion};
 ghost use Rattle.rule_table.specs.declared.technology.Tech.{Tech};
 ghost use Rattle.stick_parse.specs.declared.design.Design.{Design as SomeDesign};
 ghost use Rattle.stick_parse.specs.declared.design.Line.{Line};
-ghost use Rattle.stick_parse.specs.Writable.{IsCell, IsPath, IsWritable};
+ghost use Rattle.stick_parse.specs.Writable.{IsCell, IsLine, IsPath, IsWritable};
 ghost use Rattle.stick_print.specs.ReadBack.{without_line};
 ghost use Rattle.cell_model.specs.Nets.{HasEnds};
 ghost use Rattle.cell_model.specs.Sound.{IsSound};
 ghost use Rattle.stick_cell.specs.Counts.{weight_of};
 ghost use Rattle.stick_cell.specs.Known.{cell_of, known_at};
 ghost use Rattle.stick_cell.specs.Tables.{known_of, IsResolved};
-ghost use Rattle.jog_insert.specs.Jogs.{AreWithoutUse, IsBent, IsCopy, IsJogged, IsNearForm, Uses};
+ghost use Rattle.jog_insert.specs.Jogs.{IsBent, IsCopy, IsJogged, IsNearForm};
 ghost use Rattle.jog_insert.specs.Building.{StandsAlone, IsBentCell};
 ghost use Rattle.design_sizes.specs.Sizes.{lines_in};
 
 use crate::bending::Place;
-use crate::copying::{is_short, with_cell};
 use crate::joints::{Joints, are_near, bent_lines, wire_line};
 use crate::naming::free_number;
 use crate::runs::run_of;
-use lam_list::Seq;
+use design_edits::{is_short, is_unused, with_lines};
 use std::alloc::{AllocError, Global};
 use stick_cell::{Cell, Cells};
-use stick_lex::Text;
 use stick_parse::{CellText, Design, Form, Line as TextLine};
 
 fn is_copy(form: &Form) -> bool
@@ -32,49 +30,11 @@ fn is_copy(form: &Form) -> bool
     matches!(form, Form::Inst { .. })
 }
 
-fn is_use_of(name: &[u8], form: &Form) -> bool
-    ensures { MatchBool result (Uses name.now form.now) (Uses name.now form.now → ⊥) }
-{
-    match form {
-        Form::Inst { cell, .. } => cell.bytes() == name,
-        _ => false,
-    }
-}
-
 // Whether none of the lines is a use.
 fn is_whole(lines: &[TextLine]) -> bool
     ensures { MatchBool result (All (λ line. IsCopy line.form → ⊥) lines.now) (All (λ line. IsCopy line.form → ⊥) lines.now → ⊥) }
 {
-    for line in lines {
-        if is_copy(&line.form) {
-            return false;
-        }
-    }
-    true
-}
-
-// Whether none of the lines is a use of the cell with this name.
-fn is_unused_in(name: &[u8], lines: &[TextLine]) -> bool
-    ensures { MatchBool result (All (λ line. Uses name.now line.form → ⊥) lines.now) (All (λ line. Uses name.now line.form → ⊥) lines.now → ⊥) }
-{
-    for line in lines {
-        if is_use_of(name, &line.form) {
-            return false;
-        }
-    }
-    true
-}
-
-/// Whether none of the cells uses the cell with this name.
-pub fn is_unused(name: &[u8], cells: &[CellText]) -> bool
-    ensures { MatchBool result (AreWithoutUse name.now cells.now) (AreWithoutUse name.now cells.now → ⊥) }
-{
-    for cell in cells {
-        if !is_unused_in(name, cell.lines.as_slice()) {
-            return false;
-        }
-    }
-    true
+    lines.iter().all(|line| !is_copy(&line.form))
 }
 
 // Whether the cell is a master that has no uses and is used by no cell.
@@ -89,7 +49,7 @@ fn stands_alone(design: &Design, masters: &[u32], cell: u32) -> bool
         && is_unused(text.name.bytes(), cells)
 }
 
-// The cell with a jog in its wire `k`, where that can be bent and nothing comes to lie too far out.
+// The lines of the cell with a jog in its wire `k`, where that can be bent and nothing comes to lie too far out.
 fn bent_cell(
     alloc: Global,
     text: &CellText,
@@ -97,7 +57,7 @@ fn bent_cell(
     k: u32,
     r: u32,
     left: bool,
-) -> Result<Option<CellText>, AllocError>
+) -> Result<Option<Vec<TextLine>>, AllocError>
     requires written { IsCell text.now }
     requires few { length text.now.lines < 2 ^ 31 }
     requires sound { (tech : Tech) × IsSound tech content.now }
@@ -105,9 +65,9 @@ fn bent_cell(
     requires named { AllByRecursion (λ node. IsPath node.name) content.now.nodes }
     ensures bent { IfOk result (λ done. MatchOption done
         ((lines : List Line) → IsBent text.now content.now k r left lines → All (λ line. IsNearForm line.form) lines → ⊥)
-        (IsBentCell text.now content.now k r left)) }
-    ensures written { IfOk result (λ done. IfSome done IsCell) }
-    ensures lines { IfOk result (λ done. IfSome done (λ new. length new.lines ≡ length text.now.lines + 4)) }
+        (λ new. IsBentCell text.now content.now k r left new.items)) }
+    ensures written { IfOk result (λ done. IfSome done (λ new. AllByRecursion IsLine new.items)) }
+    ensures lines { IfOk result (λ done. IfSome done (λ new. length new.items ≡ length text.now.lines + 4)) }
 {
     let old = text.lines.as_slice();
     let Some(run) = run_of(content, k, r) else {
@@ -134,13 +94,7 @@ fn bent_cell(
     if !are_near(&lines) {
         return Ok(None);
     }
-    let name = Text::new(alloc, text.name.bytes())?;
-    Ok(Some(CellText {
-        name,
-        line: text.line,
-        end_line: text.end_line,
-        lines: Seq::from_vec(lines),
-    }))
+    Ok(Some(lines))
 }
 
 /// The design with a jog in wire `k` (from 0) of a cell, above row `r`, to the left or else to the right; None exactly
@@ -181,6 +135,6 @@ pub fn insert(
     let Some(bent) = bent_cell(alloc, text, &content, k, r, left)? else {
         return Ok(None);
     };
-    let new = with_cell(alloc, design, cell as usize, &bent)?;
+    let new = with_lines(alloc, design, cell as usize, &bent)?;
     Ok(Some(new))
 }

@@ -3,12 +3,13 @@ ghost use Rattle.std.specs.Prelude.{◌≡◌, ◌↔◌, ◌+◌, ◌<◌, ◌�
 ghost use Rattle.std.specs.List.{AllByRecursion};
 ghost use Rattle.stick_parse.specs.declared.design.Form.TheVariants as forms;
 ghost use Rattle.stick_parse.specs.Writable.{IsLine};
-ghost use Rattle.jog_insert.specs.Jogs.{unnumbered, moved_line, is_wire, wires_in, IsNearForm, IsWireOf};
+ghost use Rattle.design_edits.specs.Cells.{unnumbered};
+ghost use Rattle.jog_insert.specs.Jogs.{moved_line, is_wire, wires_in, IsNearForm, IsWireOf};
 ghost use Rattle.jog_insert.specs.Building.{bend_of, forms_by, IsWireAt};
 
 use crate::bending::Place;
-use crate::forms::copy_form;
 use crate::naming::joint_name;
+use design_edits::copy_form;
 use std::alloc::{AllocError, Global};
 use stick_cell::MOST_PLACE;
 use stick_lex::Text;
@@ -174,10 +175,5 @@ fn is_near(form: &Form) -> bool
 pub fn are_near(lines: &[Line]) -> bool
     ensures { MatchBool result (All (λ line. IsNearForm line.form) lines.now) (All (λ line. IsNearForm line.form) lines.now → ⊥) }
 {
-    for line in lines {
-        if !is_near(&line.form) {
-            return false;
-        }
-    }
-    true
+    lines.iter().all(|line| is_near(&line.form))
 }

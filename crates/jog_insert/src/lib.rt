@@ -3,13 +3,11 @@
 //! What the layer above uses: `insert` gives the design with a jog in a wire of a cell, or None exactly where none can be put there
 //! (`specs/Jogs.antt`, over where the parts of a cell go, `specs/Bends.antt`); `jogs_are_determined` is the law that a jog leads to one
 //! design; `read_jogs` reads a script of jogs (`specs/Scripts.antt`), whose lines and words are those of stick texts. What it means that a
-//! jog leaves the nets of a cell as they were is in `specs/Nets.antt`. Other changes of a design's text take from here a design with another
-//! cell in the place of one (`with_cell`), and their scripts the walk over the lines (`steps_of`, `at_line`). Columns and rows are coarse coordinates; widths are in u, the grid unit.
+//! jog leaves the nets of a cell as they were is in `specs/Nets.antt`. Columns and rows are coarse coordinates; widths are in u, the grid
+//! unit.
 #![tactic(auto)]
 
 mod bending;
-mod copying;
-mod forms;
 mod inserting;
 mod joints;
 mod laws;
@@ -18,9 +16,8 @@ mod reading;
 mod runs;
 mod script;
 
-pub use copying::with_cell;
-pub use forms::copy_form;
-pub use inserting::{insert, is_unused};
+pub use design_edits::ScriptFault;
+pub use inserting::insert;
 pub use laws::jogs_are_determined;
-pub use reading::{at_line, read_jogs};
-pub use script::{JogLine, ScriptFault};
+pub use reading::read_jogs;
+pub use script::JogLine;

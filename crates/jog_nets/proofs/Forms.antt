@@ -12,7 +12,8 @@ use Rattle.stick_parse.specs.declared.design.CellText.{CellText}
 use Rattle.stick_print.specs.ReadBack.{lines_from, cells_from}
 use Rattle.cell_model.specs.declared.cell.Node.{Node}
 use Rattle.jog_insert.specs.Bends.{Bend, moved_form}
-use Rattle.jog_insert.specs.Jogs.{unnumbered, moved_line, is_wire, IsWireOf, wires_in, IsCopy, no_cell}
+use Rattle.design_edits.specs.Cells.{unnumbered, no_cell}
+use Rattle.jog_insert.specs.Jogs.{moved_line, is_wire, IsWireOf, wires_in, IsCopy}
 use Rattle.jog_insert.specs.Nets.{nodes_from, nodes_before}
 use Rattle.jog_nets.proofs.Lines.{nodes_in, sides_in, joins_in, IsNoUse}
 use Rattle.jog_nets.proofs.Turned.{moved_node}

@@ -18,7 +18,8 @@ use Rattle.stick_cell.specs.Known.{Known, cell_of, known_at}
 use Rattle.stick_cell.specs.Tables.{known_of, IsResolved}
 use Rattle.stick_cell.proofs.TableReads.{length-known_cells}
 use Rattle.jog_insert.specs.Bends.{Bend, moved_form}
-use Rattle.jog_insert.specs.Jogs.{unnumbered, moved_line, IsCopy, no_cell, cell_text_at, bend_at, bent_forms, IsBent, IsJogged}
+use Rattle.design_edits.specs.Cells.{unnumbered, no_cell, cell_text_at}
+use Rattle.jog_insert.specs.Jogs.{moved_line, IsCopy, bend_at, bent_forms, IsBent, IsJogged}
 use Rattle.jog_insert.specs.Nets.{nodes_before, KeepsNets}
 use Rattle.jog_nets.specs.Parts.{KeepsParts}
 use Rattle.jog_nets.proofs.Lines.{nodes_in, IsNoUse}

@@ -23,7 +23,7 @@ use Rattle.stick_cell.specs.Tables.{known_of, IsResolved}
 use Rattle.stick_cell.proofs.Accepted.{bound, two_bound, ok_same}
 use Rattle.stick_cell.proofs.Grown.{are_grown-known_cells, grown-begun}
 use Rattle.stick_cell.proofs.TableReads.{length-known_cells}
-use Rattle.jog_insert.specs.Jogs.{no_cell, cell_text_at}
+use Rattle.design_edits.specs.Cells.{no_cell, cell_text_at}
 use Rattle.jog_nets.proofs.Lines.{nodes_in, sides_in, joins_in, IsNoUse, sides, IsJoined, Grew}
 use Rattle.jog_nets.proofs.Grew.{grew_lines}
 

@@ -2,7 +2,8 @@
 ghost use Rattle.std.specs.Prelude.{◌≡◌, ◌<◌, length};
 ghost use Rattle.stick_cell.specs.Known.{cell_of, known_at};
 ghost use Rattle.stick_cell.specs.Tables.{known_of, IsResolved};
-ghost use Rattle.jog_insert.specs.Jogs.{cell_text_at, IsJogged};
+ghost use Rattle.design_edits.specs.Cells.{cell_text_at};
+ghost use Rattle.jog_insert.specs.Jogs.{IsJogged};
 ghost use Rattle.jog_insert.specs.Nets.{nodes_before, KeepsNets};
 ghost use Rattle.jog_nets.specs.Parts.{KeepsParts};
 

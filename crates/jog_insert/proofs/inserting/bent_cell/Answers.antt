@@ -1,8 +1,8 @@
-use Rattle.std.proofs.Common.{ℕ, List, ap, sym, subst, ◌∙◌, arith, length}
+use Rattle.std.proofs.Common.{List, ap, sym, subst, ◌∙◌, arith, length}
 use Rattle.std.specs.Prelude.{All}
 use Rattle.list_facts.proofs.Elements.{all_at}
 use Rattle.stick_parse.specs.declared.design.Line.{Line}
-use Rattle.stick_parse.specs.Writable.{IsName, IsPath}
+use Rattle.stick_parse.specs.Writable.{IsPath}
 use Rattle.cell_model.specs.declared.cell.Node.{Node}
 use Rattle.cell_model.specs.Sound.{no_node}
 use Rattle.jog_insert.specs.Jogs.{IsNearForm, IsJogNumber}
@@ -36,12 +36,11 @@ returns-clause-bent c =
     let low = node_here content c.as_slice-nodes.result.now run.low c.index-nodes-run.result c.as_slice-nodes.ensures c.in-Some.ensures.is_low c.index-nodes-run.is in
     let high = node_here content c.as_slice-nodes.result.now run.high c.index-nodes-run-2.result c.as_slice-nodes.ensures c.in-Some.ensures.is_high c.index-nodes-run-2.is in
     record {
-      bent = bent_made text content c.args.k c.args.r c.in-Some-wire_line.at c.in_ok-number.number c.args.left c.in-Some-wire_line.layer run c.bytes.result.now c.bytes-2.result.now c.from_vec.result
+      bent = bent_made text content c.args.k c.args.r c.in-Some-wire_line.at c.in_ok-number.number c.args.left c.in-Some-wire_line.layer run c.bytes.result.now c.bytes-2.result.now c.in_ok-lines.lines.items
           c.in-Some.ensures (subst (λ (l : List Line). IsJogNumber l c.in_ok-number.number) old c.in_ok-number.ensures.number)
           (subst (λ (l : List Line). IsWireAt l c.args.k c.in-Some-wire_line.at c.in-Some-wire_line.layer) old c.in-Some-wire_line.ensures)
-          (ap (λ (n : Node). n.name) (low ∙ c.index-nodes-run.is) ∙ sym c.bytes.ensures) (ap (λ (n : Node). n.name) (high ∙ c.index-nodes-run-2.is) ∙ sym c.bytes-2.ensures) (c.from_vec.ensures ∙ rw old at c.in_ok-lines.ensures);
-      near = subst (All (λ (line : Line). IsNearForm line.form)) (c.deref.ensures.value ∙ sym c.from_vec.ensures) c.if-not-are_near.ensures;
-      rest = ap (λ (n : List ℕ). record text { name = n; lines = c.from_vec.result }) (c.in_ok-name.ensures ∙ c.bytes-3.ensures);
+          (ap (λ (n : Node). n.name) (low ∙ c.index-nodes-run.is) ∙ sym c.bytes.ensures) (ap (λ (n : Node). n.name) (high ∙ c.index-nodes-run-2.is) ∙ sym c.bytes-2.ensures) (rw old at c.in_ok-lines.ensures);
+      near = subst (All (λ (line : Line). IsNearForm line.form)) c.deref.ensures.value c.if-not-are_near.ensures;
     }
 
 pub returns-clause-written : goal.returns-clause-written
@@ -55,9 +54,7 @@ returns-clause-written c =
     let low_path : IsPath c.bytes.result.now =
     subst IsPath (ap (λ (n : Node). n.name) (low ∙ c.index-nodes-run.is) ∙ sym c.bytes.ensures) (all_at (λ (n : Node). IsPath n.name) content.nodes no_node run.low c.requires.named c.in-Some.ensures.is_low) in
     let high_path : IsPath c.bytes-2.result.now =
-    subst IsPath (ap (λ (n : Node). n.name) (high ∙ c.index-nodes-run-2.is) ∙ sym c.bytes-2.ensures) (all_at (λ (n : Node). IsPath n.name) content.nodes no_node run.high c.requires.named c.in-Some.ensures.is_high) in (
-      subst IsName (sym (c.in_ok-name.ensures ∙ c.bytes-3.ensures)) c.requires.written.0,
-      bent_have_text (record { col = run.col; row = c.args.r; left = c.args.left }) c.in_ok-number.number c.in-Some-wire_line.layer c.bytes.result.now c.bytes-2.result.now run.width c.in-Some-wire_line.at text.lines c.from_vec.result
-          (omega (arith, c.in_ok-number.ensures.within, ap length old, c.requires.few)) low_path high_path c.in-Some.ensures.small c.requires.written.1 (c.from_vec.ensures ∙ rw old at c.in_ok-lines.ensures)
-          (subst (All (λ (line : Line). IsNearForm line.form)) (c.deref.ensures.value ∙ sym c.from_vec.ensures) c.if-not-are_near.ensures),
-    )
+    subst IsPath (ap (λ (n : Node). n.name) (high ∙ c.index-nodes-run-2.is) ∙ sym c.bytes-2.ensures) (all_at (λ (n : Node). IsPath n.name) content.nodes no_node run.high c.requires.named c.in-Some.ensures.is_high) in
+    bent_have_text (record { col = run.col; row = c.args.r; left = c.args.left }) c.in_ok-number.number c.in-Some-wire_line.layer c.bytes.result.now c.bytes-2.result.now run.width c.in-Some-wire_line.at text.lines c.in_ok-lines.lines.items
+    (omega (arith, c.in_ok-number.ensures.within, ap length old, c.requires.few)) low_path high_path c.in-Some.ensures.small c.requires.written.1 (rw old at c.in_ok-lines.ensures)
+    (subst (All (λ (line : Line). IsNearForm line.form)) c.deref.ensures.value c.if-not-are_near.ensures)

@@ -1,0 +1,40 @@
+//! The lines of a script, and why one is not read.
+ghost use Rattle.std.specs.Prelude.{◌≡◌, List, Result};
+ghost use Rattle.stick_parse.specs.declared.fault.StickKind.{StickKind};
+ghost use Rattle.stick_parse.specs.Reading.{GivesLine};
+ghost use Rattle.stick_parse.specs.Words.{Word as SomeWord};
+ghost use Rattle.stick_parse.specs.WordViews.{views};
+ghost use Rattle.design_edits.specs.declared.script.ScriptFault.TheVariants as faults;
+
+use std::alloc::{AllocFailed, Global};
+use stick_parse::{LineFault, Word};
+use thiserror::Error;
+
+/// What a line of a script says.
+pub trait ScriptLine: Sized + Drop {
+    /// What the words of a line say, or why they say nothing.
+    ghost said: { List SomeWord → Result Self StickKind };
+
+    /// The line that these words are.
+    fn of_words(alloc: Global, words: &[Word]) -> Result<Self, LineFault>
+        ensures { GivesLine (λ x. x) result (said (views words.now)) };
+}
+
+/// Why a script was not read.
+#[derive(Clone, Copy, Debug, PartialEq, Eq, Error)]
+pub enum ScriptFault {
+    /// The first line, from 1, that is no line of a script.
+    #[error("a line of the script is wrong")]
+    Line(u32),
+    /// Memory ran out.
+    #[error("out of memory")]
+    OutOfMemory,
+}
+
+impl<T: Drop> From<AllocFailed<T>> for ScriptFault {
+    ghost from_gives = { λ _ e. e ≡ faults.OutOfMemory };
+
+    fn from(_e: AllocFailed<T>) -> ScriptFault {
+        ScriptFault::OutOfMemory
+    }
+}

@@ -1,7 +1,0 @@
-use Rattle.std.proofs.Common.{ℕ, ◌<◌, get_or}
-use Rattle.stick_parse.specs.declared.design.Line.{Line}
-use Rattle.jog_insert.specs.Jogs.{Uses}
-use Rattle.jog_insert.proofs.inserting.is_unused_in.Given as goal
-
-abbrev pub invariant-loop-line : goal.invariant-loop-line
-invariant-loop-line l = (k : ℕ) (d : Line) → k < l.line-index → Uses l.name (get_or l.lines k d).form → ⊥
