@@ -1,5 +1,5 @@
 -- The first item to which some item is too near.
-use Rattle.std.proofs.Common.{◌≡◌, ◌∙◌, ℕ, ◌+◌, ◌<◌, ◌≤◌, ◌⊎◌, Bool, true, false, List, length, get_or, refl, sym, subst, arith, inl, inr}
+use Rattle.std.proofs.Common.{◌≡◌, ◌∙◌, ℕ, ◌+◌, ◌<◌, ◌≤◌, true, false, List, length, get_or, refl, sym, subst, arith, inl, inr}
 use Rattle.rule_table.specs.declared.classes.Class.{Class}
 use Rattle.rule_table.specs.declared.classes.Class.TheVariants.{M, P, Dc, Dm, C, I, G, B}
 use Rattle.rule_table.specs.declared.technology.Tech.{Tech}

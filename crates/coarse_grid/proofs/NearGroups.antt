@@ -1,14 +1,12 @@
 -- Groups none of whose items is too near to an item, and what the tree of a class is asked beside it.
-use Rattle.std.proofs.Common.{◌≡◌, ◌≢◌, ◌∙◌, ℕ, ◌+◌, ◌<◌, ◌≤◌, ◌==◌, ◌||◌, Bool, true, false, cond, if◌then◌else◌, ℤ, pos, ◌-ℤ◌, ◌≤ℤ◌, ◌<ℤ◌, List, length, get_or, All, Option, Some, None, refl, sym, ap, subst, arith}
-use Rattle.std.specs.Prelude.{IsTrue, IfSome, slice_get}
-use Rattle.std.proofs.lemmas.Bool.{or_parts, eqb-true, ne_eqb}
+use Rattle.std.proofs.Common.{◌≡◌, ◌≢◌, ◌∙◌, ℕ, ◌<◌, ◌≤◌, ◌==◌, ◌||◌, Bool, true, false, cond, if◌then◌else◌, ℤ, pos, ◌-ℤ◌, ◌≤ℤ◌, ◌<ℤ◌, List, length, get_or, All, Option, Some, None, refl, sym, ap, subst, arith}
+use Rattle.std.specs.Prelude.{IsTrue}
 use Rattle.std.proofs.lemmas.Int.{ints}
 use Rattle.std.proofs.lemmas.List.{get_or_read}
 use Rattle.lam_geom.specs.declared.boxes.BoxXY.{BoxXY}
 use Rattle.lam_geom.specs.Gaps.{gap_of_boxes}
 use Rattle.box_tree.specs.declared.spots.Group.{Group}
 use Rattle.box_tree.specs.declared.spots.Spot.{Spot}
-use Rattle.box_tree.specs.declared.query.Question.{Question}
 use Rattle.box_tree.specs.declared.query.Question.TheVariants.{NearOfOther, NearOfOtherTag}
 use Rattle.box_tree.specs.declared.query.Query.{Query}
 use Rattle.box_tree.specs.declared.tree.OwnedParts.{OwnedParts}
@@ -23,10 +21,10 @@ use Rattle.sym_items.specs.declared.items.Item.{Item}
 use Rattle.sym_items.specs.declared.items.Coords.{Coords}
 use Rattle.sym_items.specs.Sides.{sides_of, sides_in, gap_of_sides, gap_in}
 use Rattle.sym_items.specs.Standing.{stand_together}
-use Rattle.pair_rules.specs.Bound.{IsBound, item_at, is_joined, is_poly_on_diffusion, bound_spacing, spacing_by}
+use Rattle.pair_rules.specs.Bound.{IsBound, item_at, is_joined, bound_spacing, spacing_by}
 use Rattle.pair_rules.proofs.BoundItems.{out_of_bound}
 use Rattle.coarse_grid.specs.Clash.{is_below, is_near, is_near_at}
-use Rattle.coarse_grid.specs.Nearby.{AreAlike, AreParts, AreSpotsOf, IsFarRun, IsInRun, IsNearOf, IsSpotOf, group_at, item_in, no_group, question_of}
+use Rattle.coarse_grid.specs.Nearby.{AreAlike, AreParts, AreSpotsOf, IsFarRun, IsNearOf, IsSpotOf, group_at, no_group, question_of}
 
 pub not_true : (b : Bool) → (b ≡ true → ⊥) → b ≡ false
 not_true true h = absurd (h refl)

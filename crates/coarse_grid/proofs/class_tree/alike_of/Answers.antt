@@ -1,5 +1,4 @@
-use Rattle.std.proofs.Common.{◌≡◌, ℕ, ◌+◌, ◌<◌, Bool, List, length, sym, subst, arith}
-use Rattle.box_tree.specs.declared.spots.Group.{Group}
+use Rattle.std.proofs.Common.{◌+◌, ◌<◌, length, sym, subst, arith}
 use Rattle.box_tree.proofs.Trees.{group_here}
 use Rattle.coarse_grid.specs.Nearby.{AreFlagged, IsRunAlike}
 use Rattle.coarse_grid.proofs.ClassTrees.{flags_more}

@@ -1,4 +1,4 @@
-use Rattle.std.proofs.Common.{◌≡◌, ℕ, refl, sym, subst, arith}
+use Rattle.std.proofs.Common.{◌≡◌, ℕ, subst, arith}
 use Rattle.sym_items.specs.declared.items.Item.{Item}
 use Rattle.coarse_grid.specs.Nearby.{AreAlike, item_in}
 use Rattle.coarse_grid.proofs.Nears.{by_lt}

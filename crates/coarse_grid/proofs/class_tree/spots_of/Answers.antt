@@ -1,4 +1,4 @@
-use Rattle.std.proofs.Common.{◌≡◌, ◌∙◌, ℕ, ◌+◌, ◌<◌, List, length, Vec, Global, refl, sym, ap, subst, arith}
+use Rattle.std.proofs.Common.{◌∙◌, ◌+◌, ◌<◌, List, length, Vec, Global, refl, sym, ap, subst, arith}
 use Rattle.box_tree.specs.declared.spots.Spot.{Spot}
 use Rattle.pair_rules.specs.Bound.{item_at}
 use Rattle.coarse_grid.specs.Nearby.{AreSpotsOf}

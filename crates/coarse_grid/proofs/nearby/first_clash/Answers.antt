@@ -1,4 +1,4 @@
-use Rattle.std.proofs.Common.{◌≡◌, ◌<◌, length, refl, sym, arith}
+use Rattle.std.proofs.Common.{refl, arith}
 use Rattle.coarse_grid.proofs.FirstNear.{first_more, first_of_all}
 use Rattle.coarse_grid.proofs.nearby.first_clash.Goals as goal
 

@@ -1,4 +1,4 @@
-use Rattle.std.proofs.Common.{◌≡◌, ℕ, ◌<◌, Bool, MatchBool, sym, subst, arith}
+use Rattle.std.proofs.Common.{◌≡◌, ℕ, Bool, MatchBool, subst, arith}
 use Rattle.coarse_grid.specs.Nearby.{HasNear, IsNearOf}
 use Rattle.coarse_grid.proofs.Nears.{by_lt}
 use Rattle.coarse_grid.proofs.nearby.first_of.Goals as goal

@@ -1,9 +1,7 @@
-use Rattle.std.proofs.Common.{◌≡◌, ◌∙◌, ℕ, Option, Some, None, sym, refl, subst}
+use Rattle.std.proofs.Common.{◌∙◌, ℕ, Option, Some, None, sym, subst}
 use Rattle.std.specs.Prelude.{IfNone}
 use Rattle.box_tree.specs.declared.query.Question.{Question}
 use Rattle.box_tree.specs.Queries.{Answers}
-use Rattle.rule_table.specs.Technology.{spacing_of}
-use Rattle.pair_rules.specs.Bound.{item_at}
 use Rattle.coarse_grid.specs.Nearby.{IsNearOf}
 use Rattle.coarse_grid.proofs.NearGroups.{unruled_near, asked}
 use Rattle.coarse_grid.proofs.nearby.query_of.Goals as goal
