@@ -1,5 +1,6 @@
 -- The first item to which some item is too near.
-use Rattle.std.proofs.Common.{◌≡◌, ◌∙◌, ℕ, ◌+◌, ◌<◌, ◌≤◌, true, false, List, length, get_or, refl, sym, subst, arith, inl, inr}
+use Rattle.std.proofs.Common.{◌≡◌, ◌∙◌, ℕ, ◌+◌, ◌<◌, ◌≤◌, true, false, List, length, get_or, refl, sym, subst, arith}
+use Rattle.std.proofs.Common.{inl, inr}
 use Rattle.rule_table.specs.declared.classes.Class.{Class}
 use Rattle.rule_table.specs.declared.classes.Class.TheVariants.{M, P, Dc, Dm, C, I, G, B}
 use Rattle.rule_table.specs.declared.technology.Tech.{Tech}
@@ -22,7 +23,8 @@ pub record IsFirstUpTo (tech : Tech) (c : Coords) (items : List Item) (n first :
   pub near : first < length items → HasNear tech c items first
 
 -- one class more
-pub first_more : (tech : Tech) (c : Coords) (items : List Item) (class : Class) (n end first : ℕ) → IsFirstUpTo tech c items n end → class ≡ get_or all_classes n M → IsFirstOf tech c items class end first
+pub first_more : (tech : Tech) (c : Coords) (items : List Item) (class : Class) (n end first : ℕ)
+    → IsFirstUpTo tech c items n end → class ≡ get_or all_classes n M → IsFirstOf tech c items class end first
     → IsFirstUpTo tech c items (n + 1) first
 first_more tech c items class n end first h class_is is = record {
   within = omega (arith, h.within, is.within);
@@ -31,7 +33,8 @@ first_more tech c items class n end first h class_is is = record {
       (λ at near. let same : n ≡ m = omega (arith, at, lt) in
       is.none i k before (subst (λ (d : Class). IsNearOf tech c items d i k) (sym (class_is ∙ place same)) near));
   near = λ lt. by_lt first end is.near
-      (λ ge. let same : end ≡ first = omega (arith, ge, is.within) in subst (HasNear tech c items) same (h.near (omega (arith, same, lt))));
+      (λ ge. let same : end ≡ first = omega (arith, ge, is.within) in subst (HasNear tech c items) same
+      (h.near (omega (arith, same, lt))));
 }
   where
     place : {m : ℕ} → n ≡ m → get_or all_classes n M ≡ get_or all_classes m M
@@ -60,35 +63,42 @@ at_place G = (omega arith, refl)
 at_place B = (omega arith, refl)
 
 -- all classes
-pub first_of_all : (tech : Tech) (c : Coords) (items : List Item) (n first : ℕ) → 8 ≤ n → IsFirstUpTo tech c items n first → IsFirstNear tech c items first
+pub first_of_all : (tech : Tech) (c : Coords) (items : List Item) (n first : ℕ) → 8 ≤ n
+    → IsFirstUpTo tech c items n first → IsFirstNear tech c items first
 first_of_all tech c items n first all h = record {
   within = h.within;
   none = λ i k before among. not_true (is_near_at tech c items i k) (λ near.
       let class = (item_at items k).class in
       let there = at_place class in
-      h.none (place_of class) i k (omega (arith, there.0, all)) before (record { among = among; class_is = sym there.1; near = near }));
+      h.none (place_of class) i k (omega (arith, there.0, all)) before
+      (record { among = among; class_is = sym there.1; near = near }));
   near = h.near;
 }
 
 -- ---- the pair
 
-pub none_before : (tech : Tech) (c : Coords) (items : List Item) (first : ℕ) → IsFirstNear tech c items first → length items ≤ first → IsClean tech c items
-none_before tech c items first h all = all_clean tech c items (λ i j lt among. h.none i j (omega (arith, all, lt, among)) among)
+pub none_before : (tech : Tech) (c : Coords) (items : List Item) (first : ℕ) → IsFirstNear tech c items first
+    → length items ≤ first → IsClean tech c items
+none_before tech c items first h all = all_clean tech c items
+    (λ i j lt among. h.none i j (omega (arith, all, lt, among)) among)
 
 -- an item that is too near to the first one comes behind it
-pub some_behind : (tech : Tech) (c : Coords) (items : List Item) (first : ℕ) → IsFirstNear tech c items first → first < length items → ((j : ℕ) → first < j → j < length items → is_near_at tech c items first j ≡ false) → ⊥
+pub some_behind : (tech : Tech) (c : Coords) (items : List Item) (first : ℕ) → IsFirstNear tech c items first
+    → first < length items → ((j : ℕ) → first < j → j < length items → is_near_at tech c items first j ≡ false) → ⊥
 some_behind tech c items first h among none =
     let w = h.near among in
     let k : ℕ = w.0 in
     let near : is_near_at tech c items first k ≡ true = w.2 in
     by_lt k first
-    (λ before. let apart = near_either tech c (item_at items k) (item_at items first) (h.none k first before among) in let no : ⊥ = cc in no)
+    (λ before. let apart = near_either tech c (item_at items k) (item_at items first) (h.none k first before among) in
+    let no : ⊥ = cc in no)
     (λ le. by_lt first k
     (λ behind. let apart = none k behind w.1 in let no : ⊥ = cc in no)
     (λ ge. near_other tech c items first k near (omega (arith, le, ge))))
 
 -- the first item behind it that is too near to it makes the first clash
-pub first_pair : (tech : Tech) (c : Coords) (items : List Item) (first j : ℕ) → IsFirstNear tech c items first → first < j → j < length items → is_near_at tech c items first j ≡ true
+pub first_pair : (tech : Tech) (c : Coords) (items : List Item) (first j : ℕ) → IsFirstNear tech c items first
+    → first < j → j < length items → is_near_at tech c items first j ≡ true
     → ((l : ℕ) → first < l → l < j → is_near_at tech c items first l ≡ false) → IsFirstClash tech c items first j
 first_pair tech c items first j h ordered among near least = record {
   ordered = ordered;
@@ -96,6 +106,7 @@ first_pair tech c items first j h ordered among near least = record {
   near = near;
   least = λ k l lt l_among less. elim less [
     | inl before ↦ h.none k l before l_among
-    | inr (same, below) ↦ (let e : first ≡ k = sym same in subst (λ (n : ℕ). n < l → is_near_at tech c items n l ≡ false) e (λ above. least l above below) lt)
+    | inr (same, below) ↦ (let e : first ≡ k = sym same in subst
+        (λ (n : ℕ). n < l → is_near_at tech c items n l ≡ false) e (λ above. least l above below) lt)
   ];
 }

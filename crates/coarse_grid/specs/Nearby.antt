@@ -1,5 +1,6 @@
 -- The items of a class as a tree of their boxes, and the first item that is too near to another.
-use Rattle.std.specs.Prelude.{◌≡◌, ℕ, ◌+◌, ◌<◌, ◌≤◌, Bool, true, false, IsTrue, All, Some, None, pos, ◌-ℤ◌, if◌then◌else◌, List, length, slice_get, slice_index_or}
+use Rattle.std.specs.Prelude.{◌≡◌, ℕ, ◌+◌, ◌<◌, ◌≤◌, Bool, true, false, IsTrue, All, Some, None, pos, ◌-ℤ◌}
+use Rattle.std.specs.Prelude.{if◌then◌else◌, List, length, slice_get, slice_index_or}
 use Rattle.box_tree.specs.declared.query.Question.{Question}
 use Rattle.box_tree.specs.declared.query.Question.TheVariants.{NearOfOther, NearOfOtherTag}
 use Rattle.box_tree.specs.declared.spots.Group.{Group}
@@ -19,7 +20,8 @@ use Rattle.coarse_grid.specs.Clash.{is_near, is_near_at}
 
 -- ---- the tree of a class
 
--- a spot stands for an item of a class: its area is the item's box, its owner the item's number, and its tag the item's net
+-- a spot stands for an item of a class: its area is the item's box, its owner the item's number, and its tag the
+-- item's net
 pub record IsSpotOf (c : Coords) (items : List Item) (class : Class) (spot : Spot) : Type 0 where
   pub among : spot.owner < length items
   pub class_is : (item_at items spot.owner).class ≡ class
@@ -49,7 +51,8 @@ pub record AreParts (items : List Item) (parts : OwnedParts) : Type 0 where
 abbrev pub item_in : List Item → OwnedParts → ℕ → Item
 item_in items parts p = item_at items (spot_at parts.spots.items parts.order.items p).owner
 
--- items are alike that are of one class and one net and stand at the same buried contacts: they are bound to the same items of other owners
+-- items are alike that are of one class and one net and stand at the same buried contacts: they are bound to the same
+-- items of other owners
 abbrev pub AreAlike : Item → Item → Type 0
 AreAlike a b = (a.class ≡ b.class) × (a.net ≡ b.net) × (a.at_low ≡ b.at_low) × (a.at_high ≡ b.at_high)
 
@@ -97,17 +100,20 @@ pub record IsNearOf (tech : Tech) (c : Coords) (items : List Item) (class : Clas
 
 -- what is asked of the spots of a class that has this rule with the class of item i, which is of this net
 abbrev pub question_of : Rule → ℕ → ℕ → Question
-question_of rule i net = if rule.net_exempt then NearOfOtherTag (rule.s -ℤ pos 1) i net else NearOfOther (rule.s -ℤ pos 1) i
+question_of rule i net = if rule.net_exempt then NearOfOtherTag (rule.s -ℤ pos 1) i net else NearOfOther
+    (rule.s -ℤ pos 1) i
 
 -- no item of a group is too near to item i
 abbrev pub IsFarRun : Tech → Coords → List Item → OwnedParts → Group → ℕ → Type 0
-IsFarRun tech c items parts group i = (p : ℕ) → IsInRun group p → is_near tech c (item_at items i) (item_in items parts p) ≡ false
+IsFarRun tech c items parts group i = (p : ℕ) → IsInRun group p
+    → is_near tech c (item_at items i) (item_in items parts p) ≡ false
 
 -- some item is too near to item i
 abbrev pub HasNear : Tech → Coords → List Item → ℕ → Type 0
 HasNear tech c items i = (k : ℕ) × (k < length items) × (is_near_at tech c items i k ≡ true)
 
--- the first item before the item `end` to which one of a class is too near, or `end` where there is none; to this one some item is
+-- the first item before the item `end` to which one of a class is too near, or `end` where there is none; to this one
+-- some item is
 pub record IsFirstOf (tech : Tech) (c : Coords) (items : List Item) (class : Class) (end first : ℕ) : Type 0 where
   pub within : first ≤ end
   pub none : (i k : ℕ) → i < first → IsNearOf tech c items class i k → ⊥

@@ -4,7 +4,8 @@ ghost use Rattle.std.specs.Prelude.{◌≡◌, ◌^◌, ◌+◌, ◌<◌, ◌≤
 ghost use Rattle.box_tree.specs.declared.spots.Group.{Group};
 ghost use Rattle.box_tree.specs.declared.tree.OwnedParts.{OwnedParts};
 ghost use Rattle.sym_items.specs.Boxes.{HasBox};
-ghost use Rattle.coarse_grid.specs.Nearby.{AreAlike, AreFlagged, AreParts, AreSpotsOf, IsClassTree, IsRunAlike, item_in};
+ghost use Rattle.coarse_grid.specs.Nearby.{AreAlike, AreFlagged, AreParts, AreSpotsOf, IsClassTree, IsRunAlike};
+ghost use Rattle.coarse_grid.specs.Nearby.{item_in};
 
 use box_tree::{BoxTree, Group, OwnedParts, Spot};
 use rule_table::Class;

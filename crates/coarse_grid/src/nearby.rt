@@ -1,13 +1,15 @@
 //! The first pair of items that are too near one another in a layout, found by trees of the items of each class.
 
-ghost use Rattle.std.specs.Prelude.{◌≡◌, ◌+◌, ◌<◌, ◌≤◌, ◌^◌, ℕ, pos, ◌≤ℤ◌, true, None, length, All, IsTrue, MatchBool, IfOk, IfNone, IfSome};
+ghost use Rattle.std.specs.Prelude.{◌≡◌, ◌+◌, ◌<◌, ◌≤◌, ◌^◌, ℕ, pos, ◌≤ℤ◌, true, None, length, All, IsTrue, MatchBool};
+ghost use Rattle.std.specs.Prelude.{IfOk, IfNone, IfSome};
 ghost use Rattle.box_tree.specs.declared.spots.Spot.{Spot};
 ghost use Rattle.box_tree.specs.Queries.{Holds, IsQuery, IsQuestion};
 ghost use Rattle.sym_items.specs.Boxes.{HasBox};
 ghost use Rattle.pair_rules.specs.Bound.{item_at, bound_spacing};
 ghost use Rattle.pair_rules.specs.Clean.{IsClean};
 ghost use Rattle.coarse_grid.specs.Clash.{is_near_at, IsFirstClash};
-ghost use Rattle.coarse_grid.specs.Nearby.{AreParts, HasNear, IsClassTree, IsFarRun, IsFirstNear, IsFirstOf, IsInRun, IsNearOf, IsRunAlike, IsSpotOf, group_at, item_in, question_of};
+ghost use Rattle.coarse_grid.specs.Nearby.{AreParts, HasNear, IsClassTree, IsFarRun, IsFirstNear, IsFirstOf, IsInRun};
+ghost use Rattle.coarse_grid.specs.Nearby.{IsNearOf, IsRunAlike, IsSpotOf, group_at, item_in, question_of};
 
 use crate::clash::{first_near, is_near};
 use crate::class_tree::{ClassTree, class_tree, item_in};
@@ -17,13 +19,14 @@ use rule_table::{Class, Rule, Tech};
 use std::alloc::{AllocError, Global};
 use sym_items::{Coords, Item, box_of};
 
-// What the spots of a class hold whose items are too near to item `i`; none where its class has no rule with that class.
+// What the spots of a class hold whose items are too near to item `i`; none where the two classes have no rule.
 fn query_of(tech: &Tech, items: &[Item], coords: &Coords, class: Class, i: u32) -> Option<Query>
     requires boxes { All (HasBox coords.now) items.now }
     requires among { i < length items.now }
     ensures none { IfNone result ((k : ℕ) → IsNearOf tech.now coords.now items.now class i k → ⊥) }
     ensures query { IfSome result IsQuery }
-    ensures some { IfSome result (λ query. (spot : Spot) → IsSpotOf coords.now items.now class spot → is_near_at tech.now coords.now items.now i spot.owner ≡ true → Holds query spot) }
+    ensures some { IfSome result (λ query. (spot : Spot) → IsSpotOf coords.now items.now class spot
+        → is_near_at tech.now coords.now items.now i spot.owner ≡ true → Holds query spot) }
 {
     let item = &items[i as usize];
     let rule = tech.spacing(item.class, class)?;
@@ -51,22 +54,23 @@ fn question_of(rule: Rule, i: u32, net: u32) -> Question
     }
 }
 
-// Whether no item of a group is bound to item `i`, as the first one is not, and all are alike. Where the answer is no, none may be
-// bound all the same.
+// Whether no item of a group is bound to item `i`, as the first one is not, and all are alike. Where the answer is no,
+// none may be bound all the same.
 fn is_unbound(tech: &Tech, items: &[Item], parts: &OwnedParts, group: &Group, i: u32) -> bool
     requires parts { AreParts items.now parts.now }
     requires within { group.now.start + group.now.count ≤ length parts.now.order.items }
     requires alike { IsRunAlike items.now parts.now group.now }
     requires among { i < length items.now }
-    ensures { IsTrue result → (p : ℕ) → IsInRun group.now p → bound_spacing tech.now (item_at items.now i) (item_in items.now parts.now p) ≡ None }
+    ensures { IsTrue result → (p : ℕ) → IsInRun group.now p
+        → bound_spacing tech.now (item_at items.now i) (item_in items.now parts.now p) ≡ None }
 {
     let item = &items[i as usize];
     let first = item_in(items, parts, group.start as usize);
     item.owner != first.owner && is_bound(tech, item, first).is_none()
 }
 
-// Whether it is plain that no item of a group is too near to item `i`: the bounds of the group lie too far off, or none is bound
-// to it. Where the answer is no, none may be too near all the same.
+// Whether it is plain that no item of a group is too near to item `i`: the bounds of the group lie too far off, or none
+// is bound to it. Where the answer is no, none may be too near all the same.
 fn is_left_out(
     tech: &Tech,
     items: &[Item],
@@ -80,7 +84,8 @@ fn is_left_out(
     requires there { at < length tree.now.parts.groups.items }
     requires among { i < length items.now }
     requires query { IsQuery query.now }
-    requires asked { (spot : Spot) → IsSpotOf coords.now items.now tree.now.class spot → is_near_at tech.now coords.now items.now i spot.owner ≡ true → Holds query.now spot }
+    requires asked { (spot : Spot) → IsSpotOf coords.now items.now tree.now.class spot
+        → is_near_at tech.now coords.now items.now i spot.owner ≡ true → Holds query.now spot }
     ensures { IsTrue result → IsFarRun tech.now coords.now items.now tree.now.parts (group_at tree.now.parts at) i }
 {
     let group = &tree.parts.groups[at];
@@ -114,8 +119,8 @@ fn has_near_in(
     false
 }
 
-// Whether an item of a class is too near to item `i`. Groups whose bounds lie too far off, or of which no item is bound to item
-// `i`, are left out whole.
+// Whether an item of a class is too near to item `i`. Groups whose bounds lie too far off, or of which no item is bound
+// to item `i`, are left out whole.
 fn has_near(tech: &Tech, items: &[Item], coords: &Coords, tree: &ClassTree, i: u32) -> bool
     requires boxes { All (HasBox coords.now) items.now }
     requires tree { IsClassTree coords.now items.now tree.now }
@@ -142,7 +147,8 @@ fn has_near(tech: &Tech, items: &[Item], coords: &Coords, tree: &ClassTree, i: u
     false
 }
 
-// The first item before the item `end` to which one of a class is too near, or `end`. The only refusal is want of memory.
+// The first item before the item `end` to which one of a class is too near, or `end`. The only refusal is want of
+// memory.
 fn first_of(
     alloc: Global,
     tech: &Tech,

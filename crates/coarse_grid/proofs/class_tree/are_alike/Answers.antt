@@ -11,5 +11,7 @@ loop-place-preserved c = λ p low high.
     let first = item_in items parts c.args.group.now.start in
     by_lt p c.loop-place.place (λ before. c.loop-place.invariant p low before)
     (λ at. let same : c.loop-place.place ≡ p = omega arith in
-    let here = subst (AreAlike c.item_in.result.now) c.item_in-first.ensures (c.is_alike.ensures.0 c.if-not-is_alike.false) in
-    subst (λ (n : ℕ). AreAlike (item_in items parts n) first) same (subst (λ (a : Item). AreAlike a first) c.item_in.ensures here))
+    let here = subst (AreAlike c.item_in.result.now) c.item_in-first.ensures
+    (c.is_alike.ensures.0 c.if-not-is_alike.false) in
+    subst (λ (n : ℕ). AreAlike (item_in items parts n) first) same
+    (subst (λ (a : Item). AreAlike a first) c.item_in.ensures here))

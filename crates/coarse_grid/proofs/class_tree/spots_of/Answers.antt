@@ -16,8 +16,15 @@ loop-i-preserved c =
       | then-is_of+in_ok-push w ↦
           (let own : Spot = record { area = w.box_of-area.result; owner = i; tag = (item_at items i).net } in
           subst T (sym (ap (λ (v : Vec Spot Global). v.items) w.spots-is ∙ w.in_ok-push.ensures.items))
-          (spots_more c.args.coords.now items c.args.class i c.loop-i.spots.items own c.loop-i.invariant refl w.box_of-area.ensures.placed
-          (record { among = lt; class_is = c.is_of.ensures.0 w.if-is_of.true; tag = refl; sides = w.box_of-area.ensures.sides })))
-      | else-is_of w ↦ subst T (sym (ap (λ (v : Vec Spot Global). v.items) w.spots-is)) (spots_past c.args.coords.now items c.args.class i c.loop-i.spots.items c.loop-i.invariant
+          (spots_more c.args.coords.now items c.args.class i c.loop-i.spots.items own c.loop-i.invariant refl
+          w.box_of-area.ensures.placed
+          (record {
+            among = lt;
+            class_is = c.is_of.ensures.0 w.if-is_of.true;
+            tag = refl;
+            sides = w.box_of-area.ensures.sides;
+          })))
+      | else-is_of w ↦ subst T (sym (ap (λ (v : Vec Spot Global). v.items) w.spots-is))
+          (spots_past c.args.coords.now items c.args.class i c.loop-i.spots.items c.loop-i.invariant
           (λ is. let t = c.is_of.ensures.1 is in let f = w.if-is_of.false in let no : ⊥ = cc in no))
     ]

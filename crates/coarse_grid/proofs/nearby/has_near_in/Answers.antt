@@ -14,4 +14,5 @@ loop-place-preserved c = λ p low high.
     by_lt p c.loop-place.place (λ before. c.loop-place.invariant p low before)
     (λ at. let same : c.loop-place.place ≡ p = omega arith in
     let apart = λ (other : Item). is_near c.args.tech.now c.args.coords.now item other ≡ false in
-    subst (λ (n : ℕ). apart (item_in items parts n)) same (subst apart c.item_in.ensures (sym c.is_near.ensures ∙ c.if-is_near.false)))
+    subst (λ (n : ℕ). apart (item_in items parts n)) same (subst apart c.item_in.ensures
+    (sym c.is_near.ensures ∙ c.if-is_near.false)))

@@ -4,4 +4,5 @@ use Rattle.coarse_grid.specs.Nearby.{item_in}
 use Rattle.coarse_grid.proofs.nearby.has_near_in.Given as goal
 
 abbrev pub invariant-loop-place : goal.invariant-loop-place
-invariant-loop-place l = (p : ℕ) → l.start ≤ p → p < l.place → is_near l.tech l.coords l.item (item_in l.items l.parts p) ≡ false
+invariant-loop-place l = (p : ℕ) → l.start ≤ p → p < l.place
+    → is_near l.tech l.coords l.item (item_in l.items l.parts p) ≡ false

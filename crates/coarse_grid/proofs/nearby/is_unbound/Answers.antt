@@ -20,6 +20,8 @@ returns-then-item-first c = λ t p within.
     let first = item_in items parts c.args.group.now.start in
     let first_is : c.item_in-first.result.now ≡ first = c.item_in-first.ensures in
     let none : c.is_bound.result ≡ None = none_told c.is_bound.result c.is_none.result c.is_none.ensures t in
-    let unbound : bound_spacing c.args.tech.now item first ≡ None = ap (bound_spacing c.args.tech.now item) (sym first_is) ∙ (sym c.is_bound.ensures.value ∙ none) in
-    let owners : (item.owner == first.owner) ≡ false = ap (λ (f : Item). item.owner == f.owner) (sym first_is) ∙ ne_eqb item.owner c.item_in-first.result.now.owner c.if-item-first.true in
+    let unbound : bound_spacing c.args.tech.now item first ≡ None = ap (bound_spacing c.args.tech.now item)
+    (sym first_is) ∙ (sym c.is_bound.ensures.value ∙ none) in
+    let owners : (item.owner == first.owner) ≡ false = ap (λ (f : Item). item.owner == f.owner) (sym first_is) ∙
+    ne_eqb item.owner c.item_in-first.result.now.owner c.if-item-first.true in
     unbound_alike c.args.tech.now item first (item_in items parts p) (c.requires.alike.each p within) owners unbound
