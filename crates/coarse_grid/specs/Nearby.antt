@@ -47,9 +47,12 @@ pub record AreParts (items : List Item) (parts : OwnedParts) : Type 0 where
   pub tree : IsTreeOf parts.spots.items parts.order.items parts.groups.items
   pub owners : All (λ (s : Spot). s.owner < length items) parts.spots.items
 
--- the item at a place of a tree's order
+-- the spot at a place of a tree's order, and its item
+abbrev pub spot_in : OwnedParts → ℕ → Spot
+spot_in parts p = spot_at parts.spots.items parts.order.items p
+
 abbrev pub item_in : List Item → OwnedParts → ℕ → Item
-item_in items parts p = item_at items (spot_at parts.spots.items parts.order.items p).owner
+item_in items parts p = item_at items (spot_in parts p).owner
 
 -- items are alike that are of one class and one net and stand at the same buried contacts: they are bound to the same
 -- items of other owners

@@ -12,7 +12,7 @@ ghost use Rattle.coarse_grid.specs.Nearby.{AreParts, HasNear, IsClassTree, IsFar
 ghost use Rattle.coarse_grid.specs.Nearby.{IsNearOf, IsRunAlike, IsSpotOf, group_at, item_in, question_of};
 
 use crate::clash::{first_near, is_near};
-use crate::class_tree::{ClassTree, class_tree, item_in};
+use crate::class_tree::{ClassTree, class_tree, item_in, spot_in};
 use box_tree::{Group, OwnedParts, Query, Question};
 use pair_rules::is_bound;
 use rule_table::{Class, Rule, Tech};
@@ -97,22 +97,33 @@ fn has_near_in(
     tech: &Tech,
     items: &[Item],
     coords: &Coords,
-    parts: &OwnedParts,
+    tree: &ClassTree,
     group: &Group,
+    query: &Query,
     i: u32,
 ) -> bool
     requires boxes { All (HasBox coords.now) items.now }
-    requires parts { AreParts items.now parts.now }
-    requires within { group.now.start + group.now.count ≤ length parts.now.order.items }
+    requires tree { IsClassTree coords.now items.now tree.now }
+    requires within { group.now.start + group.now.count ≤ length tree.now.parts.order.items }
     requires among { i < length items.now }
+    requires query { IsQuery query.now }
+    requires asked { (spot : Spot) → IsSpotOf coords.now items.now tree.now.class spot
+        → is_near_at tech.now coords.now items.now i spot.owner ≡ true → Holds query.now spot }
     ensures { MatchBool result
         (HasNear tech.now coords.now items.now i)
-        (IsFarRun tech.now coords.now items.now parts.now group.now i) }
+        (IsFarRun tech.now coords.now items.now tree.now.parts group.now i) }
 {
-    let item = &items[i as usize];
     let start = group.start as usize;
     for place in start..start + group.count as usize {
-        if is_near(tech, coords, item, item_in(items, parts, place)) {
+        let spot = spot_in(&tree.parts, place);
+        if query.holds(spot)
+            && is_near(
+                tech,
+                coords,
+                &items[i as usize],
+                &items[spot.owner as usize],
+            )
+        {
             return true;
         }
     }
@@ -140,7 +151,7 @@ fn has_near(tech: &Tech, items: &[Item], coords: &Coords, tree: &ClassTree, i: u
         at += 1;
         if left_out {
             at += group.inside as usize;
-        } else if group.inside == 0 && has_near_in(tech, items, coords, parts, group, i) {
+        } else if group.inside == 0 && has_near_in(tech, items, coords, tree, group, &query, i) {
             return true;
         }
     }
