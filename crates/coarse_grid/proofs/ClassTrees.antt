@@ -42,14 +42,6 @@ spot_last spots own =
       owner = refl;
     }
 
-pub spots_none : (c : Coords) (items : List Item) (class : Class) → AreSpotsOf c items class 0 []
-spots_none c items class = record {
-  few = omega arith;
-  placed = λ k d lt. absurd (omega (arith, lt));
-  sound = λ k d lt. absurd (omega (arith, lt));
-  complete = λ i lt. absurd (omega (arith, lt));
-}
-
 -- one more item, which is of the class
 pub spots_more : (c : Coords) (items : List Item) (class : Class) (n : ℕ) (spots : List Spot) (own : Spot)
     → AreSpotsOf c items class n spots → own.owner ≡ n → IsPlacedBox own.area → IsSpotOf c items class own

@@ -1,6 +1,5 @@
 -- The first item to which some item is too near.
 use Rattle.std.proofs.Common.{◌≡◌, ◌∙◌, ℕ, ◌+◌, ◌<◌, ◌≤◌, true, false, List, length, get_or, refl, sym, subst, arith}
-use Rattle.std.proofs.Common.{inl, inr}
 use Rattle.rule_table.specs.declared.classes.Class.{Class}
 use Rattle.rule_table.specs.declared.classes.Class.TheVariants.{M, P, Dc, Dm, C, I, G, B}
 use Rattle.rule_table.specs.declared.technology.Tech.{Tech}
@@ -9,7 +8,7 @@ use Rattle.sym_items.specs.declared.items.Item.{Item}
 use Rattle.sym_items.specs.declared.items.Coords.{Coords}
 use Rattle.pair_rules.specs.Bound.{item_at}
 use Rattle.pair_rules.specs.Clean.{IsClean}
-use Rattle.coarse_grid.specs.Clash.{is_near_at, IsFirstClash}
+use Rattle.coarse_grid.specs.Clash.{is_near_at}
 use Rattle.coarse_grid.specs.Nearby.{HasNear, IsFirstNear, IsFirstOf, IsNearOf}
 use Rattle.coarse_grid.proofs.Nears.{by_lt, all_clean, near_either}
 use Rattle.coarse_grid.proofs.NearGroups.{near_other, not_true}
@@ -95,18 +94,3 @@ some_behind tech c items first h among none =
     (λ le. by_lt first k
     (λ behind. let apart = none k behind w.1 in let no : ⊥ = cc in no)
     (λ ge. near_other tech c items first k near (omega (arith, le, ge))))
-
--- the first item behind it that is too near to it makes the first clash
-pub first_pair : (tech : Tech) (c : Coords) (items : List Item) (first j : ℕ) → IsFirstNear tech c items first
-    → first < j → j < length items → is_near_at tech c items first j ≡ true
-    → ((l : ℕ) → first < l → l < j → is_near_at tech c items first l ≡ false) → IsFirstClash tech c items first j
-first_pair tech c items first j h ordered among near least = record {
-  ordered = ordered;
-  among = among;
-  near = near;
-  least = λ k l lt l_among less. elim less [
-    | inl before ↦ h.none k l before l_among
-    | inr (same, below) ↦ (let e : first ≡ k = sym same in subst
-        (λ (n : ℕ). n < l → is_near_at tech c items n l ≡ false) e (λ above. least l above below) lt)
-  ];
-}

@@ -52,14 +52,6 @@ unbound_alike tech a first other alike owners none =
     free false true j k o u e f g h = refl
     free false false j k o u e f g h = cc
 
-unbound_far : (gap : ℤ) (o : Option ℤ) → o ≡ None → is_below gap o ≡ false
-unbound_far gap None e = refl
-unbound_far gap (Some s) e = cc
-
-pub unbound_not_near : (tech : Tech) (c : Coords) (a b : Item) → bound_spacing tech a b ≡ None
-    → is_near tech c a b ≡ false
-unbound_not_near tech c a b e = unbound_far (gap_in c a b) (bound_spacing tech a b) e
-
 -- ---- items that are too near one another
 
 -- they are bound, and their gap is below the spacing
