@@ -18,6 +18,8 @@ makes the other designs, each of one cell, and lists some of them in order, reve
           left
   edges   two nets as in `nets`, and limits: with 1,024 joints as many inequalities as a pass may have
   heap    joints of one net on one spot, each wired to one joint
+  weave   3,900 wires of metal across and as many of poly up, which cross
+  buried  10,000 wires of poly and as many of diffusion at one buried contact
   names   13,000 wires between two joints that lie sixteen uses deep
   text    `fmt` of a design of up to 1,048,576 bytes
 grids.py times grids.
@@ -27,6 +29,7 @@ from shapes import EXAMPLES, SHAPES, text_of
 
 HERE = os.path.dirname(os.path.abspath(__file__))
 TECH = os.path.join(EXAMPLES, "nmos.toml")
+TECH2 = os.path.join(EXAMPLES, "nmos2.toml")
 PROGRAM = (os.path.abspath(sys.argv[1]) if len(sys.argv) > 1
            else os.path.join(HERE, "..", "crates", "sticks", "out", "sticks"))
 
@@ -70,11 +73,12 @@ def run(name, size, words, tries=1, before=None):
 
 def run_shape(path, name, order, divisor):
     make, whole, what, _ = SHAPES[name]
+    tech = TECH2 if name == "buried" else TECH
     before = None
     for size in (whole // divisor // 8, whole // divisor):
         with open(path, "w") as f:
             f.write(text_of(make(size), order))
-        before = run(name + " " + order, "%d %s" % (size, what), ["compact", path, "--tech", TECH], 3, before)
+        before = run(name + " " + order, "%d %s" % (size, what), ["compact", path, "--tech", tech], 3, before)
 
 
 def main():

@@ -112,6 +112,21 @@ def heap(n):
     return [("t", joints, ["wire metal j%d c" % i for i in range(n)])]
 
 
+def weave(n):
+    """Metal wires across over poly wires up."""
+    ends = [("metal", "a%d", 0, 1), ("metal", "b%d", n + 1, 1), ("poly", "c%d", 1, 0), ("poly", "d%d", 1, n + 1)]
+    joints = ["joint %s %s %d %d" % (name % i, layer, *((col, row + i) if layer == "metal" else (col + i, row)))
+              for layer, name, col, row in ends for i in range(n)]
+    return [("t", joints, ["wire %s %s%d %s%d" % (layer, low, i, high, i) for layer, low, high in
+                           (("metal", "a", "b"), ("poly", "c", "d")) for i in range(n)])]
+
+
+def buried(n):
+    """Poly wires and diffusion wires at one buried contact, as many of either."""
+    return [("t", ["joint d diff 0 0", "buried b 1 0", "joint p poly 2 0"],
+             ["wire diff d b"] * n + ["wire poly b p"] * n)]
+
+
 ALL = ("listed", "reversed", "shuffled")
 BOTH = ("listed", "reversed")
 SHAPES = {
@@ -127,4 +142,6 @@ SHAPES = {
     "raised": (raised, 4096, "joints", BOTH),
     "edges": (edges, 1024, "joints", BOTH),
     "heap": (heap, 16000, "joints", BOTH),
+    "weave": (weave, 3900, "wires each way", BOTH),
+    "buried": (buried, 10000, "wires each", BOTH),
 }

@@ -2,7 +2,9 @@ pub mod Folds
 pub mod Extents
 pub mod Lines
 pub mod Nears
-pub mod NearItems
+pub mod ClassTrees
+pub mod NearGroups
+pub mod FirstNear
 pub mod FewItems
 pub mod Starts
 pub mod Reaches

@@ -12,7 +12,7 @@ use Rattle.sym_items.specs.declared.items.Coords.{Coords}
 use Rattle.sym_items.specs.Sides.{gap_in}
 use Rattle.pair_rules.specs.Bound.{is_exempt, spacing_by, is_joined, bound_spacing}
 use Rattle.pair_rules.specs.Clean.{IsClean}
-use Rattle.pair_rules.proofs.CleanPairs.{clean_in_order}
+use Rattle.pair_rules.proofs.CleanPairs.{clean_in_order, spaced_either}
 use Rattle.coarse_grid.specs.Clash.{is_below, is_near, is_near_at}
 
 pub by_lt : {P : Type 0} (a b : ℕ) → (a < b → P) → (b ≤ a → P) → P
@@ -34,6 +34,10 @@ all_clean tech c items none = clean_in_order tech c items (λ i j lt among. at_l
 -- and a clean layout has no clash
 pub clean_not_near : (tech : Tech) (c : Coords) (items : List Item) (i j : ℕ) → IsClean tech c items → i < length items → j < length items → is_near_at tech c items i j ≡ false
 clean_not_near tech c items i j clean i_among j_among = not_below _ _ (clean i j i_among j_among)
+
+-- whether two items are too near one another does not depend on their order
+pub near_either : (tech : Tech) (c : Coords) (a b : Item) → is_near tech c a b ≡ false → is_near tech c b a ≡ false
+near_either tech c a b far = not_below _ _ (spaced_either tech c a b (at_least _ _ far))
 
 -- a spacing is at most the widest
 spacing_widest : (tech : Tech) (a b : Item) → IfSome (bound_spacing tech a b) (λ s. s ≤ℤ widest_of tech)

@@ -1,28 +1,129 @@
--- The boxes of a layout's items, among which those that are too near one another are looked for.
-use Rattle.std.specs.Prelude.{◌≡◌, ℕ, ◌<◌, true, Contains, All, Option, Some, List, length, slice_get}
+-- The items of a class as a tree of their boxes, and the first item that is too near to another.
+use Rattle.std.specs.Prelude.{◌≡◌, ℕ, ◌+◌, ◌<◌, ◌≤◌, Bool, true, false, IsTrue, All, Some, None, pos, ◌-ℤ◌}
+use Rattle.std.specs.Prelude.{if◌then◌else◌, List, length, slice_get, slice_index_or}
+use Rattle.box_tree.specs.declared.query.Question.{Question}
+use Rattle.box_tree.specs.declared.query.Question.TheVariants.{NearOfOther, NearOfOtherTag}
+use Rattle.box_tree.specs.declared.spots.Group.{Group}
 use Rattle.box_tree.specs.declared.spots.Spot.{Spot}
+use Rattle.box_tree.specs.declared.tree.OwnedParts.{OwnedParts}
+use Rattle.box_tree.specs.Tree.{IsTreeOf, no_spot, spot_at}
 use Rattle.lam_geom.specs.Places.{IsPlacedBox}
+use Rattle.rule_table.specs.declared.classes.Class.{Class}
+use Rattle.rule_table.specs.declared.classes.Rule.{Rule}
 use Rattle.rule_table.specs.declared.technology.Tech.{Tech}
 use Rattle.sym_items.specs.declared.items.Item.{Item}
 use Rattle.sym_items.specs.declared.items.Coords.{Coords}
 use Rattle.sym_items.specs.Sides.{sides_of, sides_in}
 use Rattle.pair_rules.specs.Bound.{item_at}
-use Rattle.coarse_grid.specs.Clash.{is_near_at}
+use Rattle.coarse_grid.specs.declared.class_tree.ClassTree.{ClassTree}
+use Rattle.coarse_grid.specs.Clash.{is_near, is_near_at}
 
--- there is a spot, and its area is an item's box; its owner stands for nothing
-pub record IsSpotOfItem (c : Coords) (item : Item) (found : Option Spot) : Type 0 where
+-- ---- the tree of a class
+
+-- a spot stands for an item of a class: its area is the item's box, its owner the item's number, and its tag the
+-- item's net
+pub record IsSpotOf (c : Coords) (items : List Item) (class : Class) (spot : Spot) : Type 0 where
+  pub among : spot.owner < length items
+  pub class_is : (item_at items spot.owner).class ≡ class
+  pub tag : spot.tag ≡ (item_at items spot.owner).net
+  pub sides : sides_of spot.area ≡ sides_in c (item_at items spot.owner)
+
+-- some spot stands for item i
+pub record HasSpot (spots : List Spot) (i : ℕ) : Type 0 where
+  pub k : ℕ
   pub spot : Spot
-  pub there : found ≡ Some spot
-  pub owner : spot.owner ≡ 0
-  pub sides : sides_of spot.area ≡ sides_in c item
+  pub there : slice_get spots k ≡ Some spot
+  pub owner : spot.owner ≡ i
 
--- the spots of all items, one by one
-pub record AreSpotsOf (c : Coords) (items : List Item) (spots : List Spot) : Type 0 where
-  pub counted : length spots ≡ length items
+-- the spots of the items of a class among the first n items
+pub record AreSpotsOf (c : Coords) (items : List Item) (class : Class) (n : ℕ) (spots : List Spot) : Type 0 where
+  pub few : length spots ≤ n
   pub placed : All (λ (s : Spot). IsPlacedBox s.area) spots
-  pub each : (k : ℕ) → k < length items → IsSpotOfItem c (item_at items k) (slice_get spots k)
+  pub sound : All (IsSpotOf c items class) spots
+  pub complete : (i : ℕ) → i < n → (item_at items i).class ≡ class → HasSpot spots i
 
--- numbers of items, among them all that are too near to item i
-pub record HasAllNear (tech : Tech) (c : Coords) (items : List Item) (i : ℕ) (found : List ℕ) : Type 0 where
-  pub in_range : All (λ k. k < length items) found
-  pub all : (k : ℕ) → k < length items → is_near_at tech c items i k ≡ true → Contains found k
+-- a tree of spots that stand for items
+pub record AreParts (items : List Item) (parts : OwnedParts) : Type 0 where
+  pub tree : IsTreeOf parts.spots.items parts.order.items parts.groups.items
+  pub owners : All (λ (s : Spot). s.owner < length items) parts.spots.items
+
+-- the spot at a place of a tree's order, and its item
+abbrev pub spot_in : OwnedParts → ℕ → Spot
+spot_in parts p = spot_at parts.spots.items parts.order.items p
+
+abbrev pub item_in : List Item → OwnedParts → ℕ → Item
+item_in items parts p = item_at items (spot_in parts p).owner
+
+-- items are alike that are of one class and one net and stand at the same buried contacts: they are bound to the same
+-- items of other owners
+abbrev pub AreAlike : Item → Item → Type 0
+AreAlike a b = (a.class ≡ b.class) × (a.net ≡ b.net) × (a.at_low ≡ b.at_low) × (a.at_high ≡ b.at_high)
+
+-- a place in the run of a group
+abbrev pub IsInRun : Group → ℕ → Type 0
+IsInRun group p = (group.start ≤ p) × (p < group.start + group.count)
+
+-- a group has items, and all are alike
+pub record IsRunAlike (items : List Item) (parts : OwnedParts) (group : Group) : Type 0 where
+  pub some : 0 < group.count
+  pub each : (p : ℕ) → IsInRun group p → AreAlike (item_in items parts p) (item_in items parts group.start)
+
+-- group number `at` of a tree
+abbrev pub no_group : Group
+no_group = record {
+  outer = no_spot.area;
+  inner = record { x = record { lo = pos 0; hi = pos 0 }; y = record { lo = pos 0; hi = pos 0 } };
+  tag = None;
+  start = 0;
+  count = 0;
+  inside = 0;
+}
+
+abbrev pub group_at : OwnedParts → ℕ → Group
+group_at parts at = slice_index_or parts.groups.items at no_group
+
+-- flags of the first n groups: where one is set, the items of the group are alike
+pub record AreFlagged (items : List Item) (parts : OwnedParts) (n : ℕ) (flags : List Bool) : Type 0 where
+  pub counted : length flags ≡ n
+  pub alike : (at : ℕ) → at < n → IsTrue (slice_index_or flags at false) → IsRunAlike items parts (group_at parts at)
+
+-- the tree of the items of its class
+pub record IsClassTree (c : Coords) (items : List Item) (tree : ClassTree) : Type 0 where
+  pub spots : AreSpotsOf c items tree.class (length items) tree.parts.spots.items
+  pub parts : AreParts items tree.parts
+  pub flags : AreFlagged items tree.parts (length tree.parts.groups.items) tree.alike.items
+
+-- ---- items that are too near to another
+
+-- item k is of a class, and too near to item i
+pub record IsNearOf (tech : Tech) (c : Coords) (items : List Item) (class : Class) (i k : ℕ) : Type 0 where
+  pub among : k < length items
+  pub class_is : (item_at items k).class ≡ class
+  pub near : is_near_at tech c items i k ≡ true
+
+-- what is asked of the spots of a class that has this rule with the class of item i, which is of this net
+abbrev pub question_of : Rule → ℕ → ℕ → Question
+question_of rule i net = if rule.net_exempt then NearOfOtherTag (rule.s -ℤ pos 1) i net else NearOfOther
+    (rule.s -ℤ pos 1) i
+
+-- no item of a group is too near to item i
+abbrev pub IsFarRun : Tech → Coords → List Item → OwnedParts → Group → ℕ → Type 0
+IsFarRun tech c items parts group i = (p : ℕ) → IsInRun group p
+    → is_near tech c (item_at items i) (item_in items parts p) ≡ false
+
+-- some item is too near to item i
+abbrev pub HasNear : Tech → Coords → List Item → ℕ → Type 0
+HasNear tech c items i = (k : ℕ) × (k < length items) × (is_near_at tech c items i k ≡ true)
+
+-- the first item before the item `end` to which one of a class is too near, or `end` where there is none; to this one
+-- some item is
+pub record IsFirstOf (tech : Tech) (c : Coords) (items : List Item) (class : Class) (end first : ℕ) : Type 0 where
+  pub within : first ≤ end
+  pub none : (i k : ℕ) → i < first → IsNearOf tech c items class i k → ⊥
+  pub near : first < end → HasNear tech c items first
+
+-- the first item to which some item is too near, or the number of all items where there is none
+pub record IsFirstNear (tech : Tech) (c : Coords) (items : List Item) (first : ℕ) : Type 0 where
+  pub within : first ≤ length items
+  pub none : (i k : ℕ) → i < first → k < length items → is_near_at tech c items i k ≡ false
+  pub near : first < length items → HasNear tech c items first

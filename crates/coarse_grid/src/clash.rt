@@ -23,7 +23,7 @@ pub(crate) fn is_near(tech: &Tech, coords: &Coords, a: &Item, b: &Item) -> bool
 }
 
 // The first item after item `i` that is too near to it.
-fn first_near(tech: &Tech, items: &[Item], coords: &Coords, i: u32) -> Option<u32>
+pub(crate) fn first_near(tech: &Tech, items: &[Item], coords: &Coords, i: u32) -> Option<u32>
     requires few { length items.now < 2 ^ 32 }
     requires boxes { All (HasBox coords.now) items.now }
     requires among { i < length items.now }

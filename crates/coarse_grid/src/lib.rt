@@ -7,6 +7,7 @@
 #![tactic(auto)]
 
 mod clash;
+mod class_tree;
 mod extent;
 mod laws;
 mod layout;

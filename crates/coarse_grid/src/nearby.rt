@@ -1,88 +1,204 @@
-//! The first pair of items that are too near one another in a layout, found among the items that lie near each item.
+//! The first pair of items that are too near one another in a layout, found by trees of the items of each class.
 
-ghost use Rattle.std.specs.Prelude.{◌≡◌, ◌↔◌, ◌<◌, ◌≤◌, ◌^◌, ℕ, true, false, None, length, All, IsTrue, OnOk, IfOk, IfNone, IfSome};
+ghost use Rattle.std.specs.Prelude.{◌≡◌, ◌+◌, ◌<◌, ◌≤◌, ◌^◌, ℕ, pos, ◌≤ℤ◌, true, None, length, All, IsTrue, MatchBool};
+ghost use Rattle.std.specs.Prelude.{IfOk, IfNone, IfSome};
+ghost use Rattle.box_tree.specs.declared.spots.Spot.{Spot};
+ghost use Rattle.box_tree.specs.Queries.{Holds, IsQuery, IsQuestion};
 ghost use Rattle.sym_items.specs.Boxes.{HasBox};
+ghost use Rattle.pair_rules.specs.Bound.{item_at, bound_spacing};
 ghost use Rattle.pair_rules.specs.Clean.{IsClean};
 ghost use Rattle.coarse_grid.specs.Clash.{is_near_at, IsFirstClash};
-ghost use Rattle.coarse_grid.specs.Nearby.{AreSpotsOf, HasAllNear};
+ghost use Rattle.coarse_grid.specs.Nearby.{AreParts, HasNear, IsClassTree, IsFarRun, IsFirstNear, IsFirstOf, IsInRun};
+ghost use Rattle.coarse_grid.specs.Nearby.{IsNearOf, IsRunAlike, IsSpotOf, group_at, item_in, question_of};
 
-use crate::clash::{find_clash, is_near};
-use box_tree::{BoxTree, Query, Question, Spot};
-use rule_table::Tech;
+use crate::clash::{first_near, is_near};
+use crate::class_tree::{ClassTree, class_tree, item_in, spot_in};
+use box_tree::{Group, OwnedParts, Query, Question};
+use pair_rules::is_bound;
+use rule_table::{Class, Rule, Tech};
 use std::alloc::{AllocError, Global};
 use sym_items::{Coords, Item, box_of};
 
-// How many near items an item may have on average, itself among them, before all pairs are looked at instead.
-const NEAR_ITEMS: usize = 64;
-
-// The spots of all items, by their boxes; owner and tag stand for nothing.
-fn spots_of(alloc: Global, items: &[Item], coords: &Coords) -> Result<Vec<Spot>, AllocError>
+// What the spots of a class hold whose items are too near to item `i`; none where the two classes have no rule.
+fn query_of(tech: &Tech, items: &[Item], coords: &Coords, class: Class, i: u32) -> Option<Query>
     requires boxes { All (HasBox coords.now) items.now }
-    ensures { IfOk result (λ spots. AreSpotsOf coords.now items.now spots.items) }
+    requires among { i < length items.now }
+    ensures none { IfNone result ((k : ℕ) → IsNearOf tech.now coords.now items.now class i k → ⊥) }
+    ensures query { IfSome result IsQuery }
+    ensures some { IfSome result (λ query. (spot : Spot) → IsSpotOf coords.now items.now class spot
+        → is_near_at tech.now coords.now items.now i spot.owner ≡ true → Holds query spot) }
 {
-    let mut spots = Vec::with_capacity(alloc, items.len())?;
-    for item in items {
-        let area = box_of(item, coords);
-        spots.push(Spot {
-            area,
-            owner: 0,
-            tag: 0,
-        })?;
-    }
-    Ok(spots)
+    let item = &items[i as usize];
+    let rule = tech.spacing(item.class, class)?;
+    Some(Query {
+        area: box_of(item, coords),
+        question: question_of(rule, i, item.net),
+    })
 }
 
-// The numbers of items that lie less than the widest spacing from item `i`, in place of what was in `found`.
-fn find_near(
+// What is asked of the spots of a class that has this rule with the class of item `i`, which is of this net.
+fn question_of(rule: Rule, i: u32, net: u32) -> Question
+    requires spacing { (pos 1 ≤ℤ rule.s) × (rule.s ≤ℤ pos 4096) }
+    ensures value { result ≡ question_of rule i net }
+    ensures question { IsQuestion result }
+{
+    let reach = rule.s - 1;
+    if rule.net_exempt {
+        Question::NearOfOtherTag {
+            reach,
+            owner: i,
+            tag: net,
+        }
+    } else {
+        Question::NearOfOther { reach, owner: i }
+    }
+}
+
+// Whether no item of a group is bound to item `i`, as the first one is not, and all are alike. Where the answer is no,
+// none may be bound all the same.
+fn is_unbound(tech: &Tech, items: &[Item], parts: &OwnedParts, group: &Group, i: u32) -> bool
+    requires parts { AreParts items.now parts.now }
+    requires within { group.now.start + group.now.count ≤ length parts.now.order.items }
+    requires alike { IsRunAlike items.now parts.now group.now }
+    requires among { i < length items.now }
+    ensures { IsTrue result → (p : ℕ) → IsInRun group.now p
+        → bound_spacing tech.now (item_at items.now i) (item_in items.now parts.now p) ≡ None }
+{
+    let item = &items[i as usize];
+    let first = item_in(items, parts, group.start as usize);
+    item.owner != first.owner && is_bound(tech, item, first).is_none()
+}
+
+// Whether it is plain that no item of a group is too near to item `i`: the bounds of the group lie too far off, or none
+// is bound to it. Where the answer is no, none may be too near all the same.
+fn is_left_out(
     tech: &Tech,
     items: &[Item],
     coords: &Coords,
-    tree: &BoxTree,
+    tree: &ClassTree,
+    at: usize,
+    query: &Query,
     i: u32,
-    found: &mut Vec<u32>,
-) -> Result<(), AllocError>
-    requires tree { AreSpotsOf coords.now items.now tree.now }
+) -> bool
+    requires tree { IsClassTree coords.now items.now tree.now }
+    requires there { at < length tree.now.parts.groups.items }
     requires among { i < length items.now }
-    ensures { OnOk result (HasAllNear tech.now coords.now items.now i found.new.items) }
+    requires query { IsQuery query.now }
+    requires asked { (spot : Spot) → IsSpotOf coords.now items.now tree.now.class spot
+        → is_near_at tech.now coords.now items.now i spot.owner ≡ true → Holds query.now spot }
+    ensures { IsTrue result → IsFarRun tech.now coords.now items.now tree.now.parts (group_at tree.now.parts at) i }
 {
-    let reach = tech.widest() - 1;
-    let query = Query {
-        area: tree.spots()[i as usize].area,
-        question: Question::NearOfOther { reach, owner: 1 },
-    };
-    tree.all(&query, found)
+    let group = &tree.parts.groups[at];
+    !group.may_hold(query) || tree.alike[at] && is_unbound(tech, items, &tree.parts, group, i)
 }
 
-// Whether number `j` comes after `i`, and before the first one if there is one.
-fn is_between(i: u32, j: u32, first: Option<u32>) -> bool
-    ensures { IsTrue result ↔ ((i < j) × IfSome first (λ k. j < k)) }
-{
-    j > i && first.is_none_or(|k| j < k)
-}
-
-// The first item after item `i` that is too near to it, where all that are too near to it are among those found.
-fn first_found(tech: &Tech, items: &[Item], coords: &Coords, i: u32, found: &[u32]) -> Option<u32>
-    requires few { length items.now < 2 ^ 32 }
+// Whether an item of a group is too near to item `i`.
+fn has_near_in(
+    tech: &Tech,
+    items: &[Item],
+    coords: &Coords,
+    tree: &ClassTree,
+    group: &Group,
+    query: &Query,
+    i: u32,
+) -> bool
     requires boxes { All (HasBox coords.now) items.now }
+    requires tree { IsClassTree coords.now items.now tree.now }
+    requires within { group.now.start + group.now.count ≤ length tree.now.parts.order.items }
     requires among { i < length items.now }
-    requires found { HasAllNear tech.now coords.now items.now i found.now }
-    ensures none { IfNone result ((j : ℕ) → i < j → j < length items.now → is_near_at tech.now coords.now items.now i j ≡ false) }
-    ensures some { IfSome result (λ j. (i < j) × (j < length items.now) × (is_near_at tech.now coords.now items.now i j ≡ true)) }
-    ensures least { IfSome result (λ j. (l : ℕ) → i < l → l < j → is_near_at tech.now coords.now items.now i l ≡ false) }
+    requires query { IsQuery query.now }
+    requires asked { (spot : Spot) → IsSpotOf coords.now items.now tree.now.class spot
+        → is_near_at tech.now coords.now items.now i spot.owner ≡ true → Holds query.now spot }
+    ensures { MatchBool result
+        (HasNear tech.now coords.now items.now i)
+        (IsFarRun tech.now coords.now items.now tree.now.parts group.now i) }
 {
-    let mut first = None;
-    for j in found {
-        if is_between(i, *j, first)
-            && is_near(tech, coords, &items[i as usize], &items[*j as usize])
+    let start = group.start as usize;
+    for place in start..start + group.count as usize {
+        let spot = spot_in(&tree.parts, place);
+        if query.holds(spot)
+            && is_near(
+                tech,
+                coords,
+                &items[i as usize],
+                &items[spot.owner as usize],
+            )
         {
-            first = Some(*j);
+            return true;
         }
     }
-    first
+    false
 }
 
-/// What `find_clash` finds, in about the time of a sort where few items lie near one another; where many do, all pairs are
-/// looked at. The only refusal is want of memory.
+// Whether an item of a class is too near to item `i`. Groups whose bounds lie too far off, or of which no item is bound
+// to item `i`, are left out whole.
+fn has_near(tech: &Tech, items: &[Item], coords: &Coords, tree: &ClassTree, i: u32) -> bool
+    requires boxes { All (HasBox coords.now) items.now }
+    requires tree { IsClassTree coords.now items.now tree.now }
+    requires among { i < length items.now }
+    ensures { MatchBool result
+        (HasNear tech.now coords.now items.now i)
+        ((k : ℕ) → IsNearOf tech.now coords.now items.now tree.now.class i k → ⊥) }
+{
+    let Some(query) = query_of(tech, items, coords, tree.class, i) else {
+        return false;
+    };
+    let parts = &tree.parts;
+    let mut at = 0;
+    while at < parts.groups.len() {
+        let group = &parts.groups[at];
+        let left_out = is_left_out(tech, items, coords, tree, at, &query, i);
+        at += 1;
+        if left_out {
+            at += group.inside as usize;
+        } else if group.inside == 0 && has_near_in(tech, items, coords, tree, group, &query, i) {
+            return true;
+        }
+    }
+    false
+}
+
+// The first item before the item `end` to which one of a class is too near, or `end`. The only refusal is want of
+// memory.
+fn first_of(
+    alloc: Global,
+    tech: &Tech,
+    items: &[Item],
+    coords: &Coords,
+    class: Class,
+    end: u32,
+) -> Result<u32, AllocError>
+    requires few { length items.now ≤ 2 ^ 20 }
+    requires boxes { All (HasBox coords.now) items.now }
+    requires within { end ≤ length items.now }
+    ensures { IfOk result (IsFirstOf tech.now coords.now items.now class end) }
+{
+    let tree = class_tree(alloc, items, coords, class)?;
+    for i in 0..end {
+        if has_near(tech, items, coords, &tree, i) {
+            return Ok(i);
+        }
+    }
+    Ok(end)
+}
+
+// The first pair of items that are too near one another, by the first item to which some item is.
+fn pair_of(tech: &Tech, items: &[Item], coords: &Coords, first: u32) -> Option<(u32, u32)>
+    requires few { length items.now ≤ 2 ^ 20 }
+    requires boxes { All (HasBox coords.now) items.now }
+    requires first { IsFirstNear tech.now coords.now items.now first }
+    ensures none { IfNone result (IsClean tech.now coords.now items.now) }
+    ensures clean { IsClean tech.now coords.now items.now → result ≡ None }
+    ensures clash { IfSome result (λ p. IsFirstClash tech.now coords.now items.now p.0 p.1) }
+{
+    if first as usize == items.len() {
+        return None;
+    }
+    let other = first_near(tech, items, coords, first)?;
+    Some((first, other))
+}
+
+/// What `find_clash` finds, in about the time of a sort. The only refusal is want of memory.
 pub fn first_clash(
     alloc: Global,
     tech: &Tech,
@@ -95,19 +211,18 @@ pub fn first_clash(
     ensures clean { IfOk result (λ found. IsClean tech.now coords.now items.now → found ≡ None) }
     ensures clash { IfOk result (λ found. IfSome found (λ p. IsFirstClash tech.now coords.now items.now p.0 p.1)) }
 {
-    let spots = spots_of(alloc, items, coords)?;
-    let tree = BoxTree::new(alloc, spots)?;
-    let mut left = NEAR_ITEMS * items.len();
-    let mut found = Vec::new(alloc);
-    for i in 0..items.len() as u32 {
-        find_near(tech, items, coords, &tree, i, &mut found)?;
-        if found.len() > left {
-            return Ok(find_clash(tech, items, coords));
-        }
-        left -= found.len();
-        if let Some(j) = first_found(tech, items, coords, i, &found) {
-            return Ok(Some((i, j)));
-        }
+    let mut first = items.len() as u32;
+    for class in [
+        Class::M,
+        Class::P,
+        Class::Dc,
+        Class::Dm,
+        Class::C,
+        Class::I,
+        Class::G,
+        Class::B,
+    ] {
+        first = first_of(alloc, tech, items, coords, class, first)?;
     }
-    Ok(None)
+    Ok(pair_of(tech, items, coords, first))
 }

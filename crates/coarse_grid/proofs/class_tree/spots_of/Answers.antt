@@ -1,0 +1,30 @@
+use Rattle.std.proofs.Common.{◌∙◌, ◌+◌, ◌<◌, List, length, Vec, Global, refl, sym, ap, subst, arith}
+use Rattle.box_tree.specs.declared.spots.Spot.{Spot}
+use Rattle.pair_rules.specs.Bound.{item_at}
+use Rattle.coarse_grid.specs.Nearby.{AreSpotsOf}
+use Rattle.coarse_grid.proofs.ClassTrees.{spots_more, spots_past}
+use Rattle.coarse_grid.proofs.class_tree.spots_of.Goals.{then-is_of+in_ok-push, else-is_of}
+use Rattle.coarse_grid.proofs.class_tree.spots_of.Goals as goal
+
+pub loop-i-preserved : goal.loop-i-preserved
+loop-i-preserved c =
+    let items = c.args.items.now in
+    let i = c.loop-i.i in
+    let T : List Spot → Type 0 = AreSpotsOf c.args.coords.now items c.args.class (i + 1) in
+    let lt : i < length items = omega arith in
+    elim c.if-is_of.branch [
+      | then-is_of+in_ok-push w ↦
+          (let own : Spot = record { area = w.box_of-area.result; owner = i; tag = (item_at items i).net } in
+          subst T (sym (ap (λ (v : Vec Spot Global). v.items) w.spots-is ∙ w.in_ok-push.ensures.items))
+          (spots_more c.args.coords.now items c.args.class i c.loop-i.spots.items own c.loop-i.invariant refl
+          w.box_of-area.ensures.placed
+          (record {
+            among = lt;
+            class_is = c.is_of.ensures.0 w.if-is_of.true;
+            tag = refl;
+            sides = w.box_of-area.ensures.sides;
+          })))
+      | else-is_of w ↦ subst T (sym (ap (λ (v : Vec Spot Global). v.items) w.spots-is))
+          (spots_past c.args.coords.now items c.args.class i c.loop-i.spots.items c.loop-i.invariant
+          (λ is. let t = c.is_of.ensures.1 is in let f = w.if-is_of.false in let no : ⊥ = cc in no))
+    ]

@@ -1,0 +1,42 @@
+use Rattle.std.proofs.Common.{◌≡◌, ◌∙◌, ℕ, ◌<◌, length, true, false, get_or, sym, subst, arith}
+use Rattle.box_tree.specs.declared.spots.Spot.{Spot}
+use Rattle.box_tree.specs.Queries.{Holds}
+use Rattle.box_tree.specs.Tree.{no_spot}
+use Rattle.coarse_grid.specs.Clash.{is_near_at}
+use Rattle.coarse_grid.specs.Nearby.{IsSpotOf, spot_in}
+use Rattle.coarse_grid.proofs.Nears.{by_lt}
+use Rattle.coarse_grid.proofs.NearGroups.{NearSpot, not_true}
+use Rattle.coarse_grid.proofs.nearby.has_near_in.Goals.{
+  else-holds-via-then-holds+else-is_near,
+  else-holds-via-else-holds,
+}
+use Rattle.coarse_grid.proofs.nearby.has_near_in.Goals as goal
+
+pub loop-place-preserved : goal.loop-place-preserved
+loop-place-preserved c = λ p low high.
+    let tech = c.args.tech.now in
+    let coords = c.args.coords.now in
+    let items = c.args.items.now in
+    let parts = c.args.tree.now.parts in
+    let order = parts.order.items in
+    let query = c.args.query.now in
+    let place = c.loop-place.place in
+    let spot : Spot = c.spot_in-spot.result.now in
+    let apart = λ (s : Spot). is_near_at tech coords items c.args.i s.owner ≡ false in
+    let read : spot ≡ spot_in parts place = c.spot_in-spot.ensures.value in
+    by_lt p place (λ before. c.loop-place.invariant p low before)
+    (λ at. let same : place ≡ p = omega arith in
+    let lt : place < length order = omega (arith, c.loop-place-test.true, c.requires.within) in
+    let is : IsSpotOf coords items c.args.tree.now.class (spot_in parts place) =
+    c.requires.tree.spots.sound (get_or order place 0) no_spot (c.requires.tree.parts.tree.order_of.below place 0 lt) in
+    let here : apart spot = elim c.else-holds.branch [
+      | else-holds-via-then-holds+else-is_near w ↦ sym w.is_near.ensures ∙ w.if-is_near.false
+      | else-holds-via-else-holds w ↦
+          not_true (is_near_at tech coords items c.args.i spot.owner)
+          (λ near. let asked = c.requires.asked (spot_in parts place) is
+          (subst (NearSpot tech coords items c.args.i) read near) in
+          let t : c.holds.result ≡ true = c.holds.ensures.1 (subst (Holds query) (sym read) asked) in
+          let f : c.holds.result ≡ false = w.if-holds.false in
+          let no : ⊥ = cc in no)
+    ] in
+    subst (λ (n : ℕ). apart (spot_in parts n)) same (subst apart read here))

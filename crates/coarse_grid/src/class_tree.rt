@@ -1,0 +1,132 @@
+//! The items of a class as a tree of their boxes.
+
+ghost use Rattle.std.specs.Prelude.{◌≡◌, ◌^◌, ◌+◌, ◌<◌, ◌≤◌, ◌↔◌, IfOk, IsTrue, All, length};
+ghost use Rattle.box_tree.specs.declared.spots.Group.{Group};
+ghost use Rattle.box_tree.specs.declared.tree.OwnedParts.{OwnedParts};
+ghost use Rattle.box_tree.specs.Tree.{IsTreeOf};
+ghost use Rattle.lam_geom.specs.Places.{IsPlacedBox};
+ghost use Rattle.sym_items.specs.Boxes.{HasBox};
+ghost use Rattle.coarse_grid.specs.Nearby.{AreAlike, AreFlagged, AreParts, AreSpotsOf, IsClassTree, IsRunAlike};
+ghost use Rattle.coarse_grid.specs.Nearby.{item_in, spot_in};
+
+use box_tree::{BoxTree, Group, OwnedParts, Spot};
+use rule_table::Class;
+use std::alloc::{AllocError, Global};
+use sym_items::{Coords, Item, box_of};
+
+/// A tree of the items of a class, and of each of its groups whether its items are alike.
+#[derive(Debug, Drop)]
+pub struct ClassTree {
+    pub class: Class,
+    pub parts: OwnedParts,
+    pub alike: Vec<bool>,
+}
+
+/// The tree of the items of a class. The only refusal is want of memory.
+pub fn class_tree(
+    alloc: Global,
+    items: &[Item],
+    coords: &Coords,
+    class: Class,
+) -> Result<ClassTree, AllocError>
+    requires few { length items.now ≤ 2 ^ 20 }
+    requires boxes { All (HasBox coords.now) items.now }
+    ensures class { IfOk result (λ tree. tree.class ≡ class) }
+    ensures tree { IfOk result (IsClassTree coords.now items.now) }
+{
+    let spots = spots_of(alloc, items, coords, class)?;
+    let parts = BoxTree::new(alloc, spots)?.into_parts();
+    let alike = alike_of(alloc, items, &parts)?;
+    Ok(ClassTree {
+        class,
+        parts,
+        alike,
+    })
+}
+
+// The spots of the items of a class: the owner is the item's number, the tag its net.
+fn spots_of(
+    alloc: Global,
+    items: &[Item],
+    coords: &Coords,
+    class: Class,
+) -> Result<Vec<Spot>, AllocError>
+    requires few { length items.now ≤ 2 ^ 20 }
+    requires boxes { All (HasBox coords.now) items.now }
+    ensures { IfOk result (λ spots. AreSpotsOf coords.now items.now class (length items.now) spots.items) }
+{
+    let mut spots = Vec::new(alloc);
+    for i in 0..items.len() as u32 {
+        let item = &items[i as usize];
+        if is_of(item, class) {
+            let area = box_of(item, coords);
+            spots.push(Spot {
+                area,
+                owner: i,
+                tag: item.net,
+            })?;
+        }
+    }
+    Ok(spots)
+}
+
+// Whether an item is of a class.
+fn is_of(item: &Item, class: Class) -> bool
+    ensures { IsTrue result ↔ (item.now.class ≡ class) }
+{
+    item.class == class
+}
+
+// Of each group whether its items are alike.
+fn alike_of(alloc: Global, items: &[Item], parts: &OwnedParts) -> Result<Vec<bool>, AllocError>
+    requires parts { AreParts items.now parts.now }
+    ensures { IfOk result (λ alike. AreFlagged items.now parts.now (length parts.now.groups.items) alike.items) }
+{
+    let mut alike = Vec::with_capacity(alloc, parts.groups.len())?;
+    for at in 0..parts.groups.len() {
+        alike.push(are_alike(items, parts, &parts.groups[at]))?;
+    }
+    Ok(alike)
+}
+
+// Whether a group has items, and these are alike.
+fn are_alike(items: &[Item], parts: &OwnedParts, group: &Group) -> bool
+    requires parts { AreParts items.now parts.now }
+    requires within { group.now.start + group.now.count ≤ length parts.now.order.items }
+    ensures { IsTrue result → IsRunAlike items.now parts.now group.now }
+{
+    let start = group.start as usize;
+    for place in start..start + group.count as usize {
+        let first = item_in(items, parts, start);
+        if !is_alike(item_in(items, parts, place), first) {
+            return false;
+        }
+    }
+    group.count > 0
+}
+
+// Whether two items are alike.
+fn is_alike(a: &Item, b: &Item) -> bool
+    ensures { IsTrue result ↔ AreAlike a.now b.now }
+{
+    a.class == b.class && a.net == b.net && a.at_low == b.at_low && a.at_high == b.at_high
+}
+
+/// The item at a place of the tree's order.
+pub fn item_in<'a>(items: &'a [Item], parts: &OwnedParts, place: usize) -> &'a Item
+    requires parts { AreParts items.now parts.now }
+    requires among { place < length parts.now.order.items }
+    ensures { result.now ≡ item_in items.now parts.now place }
+{
+    &items[spot_in(parts, place).owner as usize]
+}
+
+/// The spot at a place of the tree's order.
+pub fn spot_in(parts: &OwnedParts, place: usize) -> &Spot
+    requires tree { IsTreeOf parts.now.spots.items parts.now.order.items parts.now.groups.items }
+    requires among { place < length parts.now.order.items }
+    ensures value { result.now ≡ spot_in parts.now place }
+    ensures placed { IsPlacedBox result.now.area }
+{
+    &parts.spots[parts.order[place] as usize]
+}
