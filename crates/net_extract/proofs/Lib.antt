@@ -3,7 +3,6 @@ pub mod Geometry
 pub mod Areas
 pub mod AllLinks
 pub mod Nodes
-pub mod Spread
 pub mod Walk
 pub mod Shown
 pub mod Steps

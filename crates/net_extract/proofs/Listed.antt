@@ -11,7 +11,8 @@ use Rattle.net_extract.specs.declared.placing.Placed.{Placed}
 use Rattle.net_extract.specs.CutLists.{AreChains, AreCrowdedSpots, AreLists, IsCrowded, IsInList, IsLastOf, IsListOver, IsListed, IsListedOver}
 use Rattle.net_extract.specs.Linking.{AreGathered, IsJoining, IsOver}
 use Rattle.net_extract.specs.Spots.{AreSpots, cut_spot}
-use Rattle.net_extract.proofs.Growth.{below_cases, gathered_more, gathered_none, gathered_push}
+use Rattle.graph_search.proofs.Marks.{below_cases}
+use Rattle.net_extract.proofs.Growth.{gathered_more, gathered_none, gathered_push}
 use Rattle.net_extract.proofs.Shown.{shown_push, shown_skip}
 
 -- ---- one cut after another

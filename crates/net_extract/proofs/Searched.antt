@@ -1,5 +1,5 @@
 -- Searches, as one of their groves is looked through.
-use Rattle.std.proofs.Common.{◌≡◌, ◌⊎◌, ℕ, ◌<◌, All, List, length, sym, ◌∙◌, subst}
+use Rattle.std.proofs.Common.{◌≡◌, ◌⊎◌, ℕ, ◌<◌, All, List, inr, length, sym, ◌∙◌, subst}
 use Rattle.std.specs.Prelude.{ℤ}
 use Rattle.box_tree.specs.declared.query.Query.{Query}
 use Rattle.box_tree.specs.declared.query.Question.TheVariants.{NearOfOther}
@@ -10,6 +10,7 @@ use Rattle.lam_geom.specs.Places.{IsPlacedBox}
 use Rattle.crossings.specs.declared.crossing.Crossing.{Crossing}
 use Rattle.crossings.specs.Boxes.{AreSearchable, area_at, no_box}
 use Rattle.graph_search.specs.Search.{AreKept}
+use Rattle.graph_search.proofs.Marks.{reached_as, reached_more, reached_none}
 use Rattle.box_tree.specs.declared.spots.Spot.{Spot}
 use Rattle.lam_geom.specs.declared.boxes.MaskBox.{MaskBox}
 use Rattle.rule_table.specs.declared.technology.Tech.{Tech}
@@ -23,7 +24,6 @@ use Rattle.net_extract.specs.Pieces.{box_of, area_of, no_piece, piece_at, IsPiec
 use Rattle.net_extract.specs.Spots.{MayBeBuried, box_spot, AreBoxSpots}
 use Rattle.net_extract.specs.Spreading.{IsFrontReached, IsGroveReached, IsGroveOf, IsSearch, IsStep}
 use Rattle.net_extract.proofs.Geometry.{placed_inner}
-use Rattle.net_extract.proofs.Spread.{reached_as, reached_more, reached_none}
 use Rattle.net_extract.proofs.Walk.{grove_kept}
 
 -- the grove that was looked through
@@ -57,7 +57,7 @@ step_diffusion tech boxes pieces Is As net search new front forth back s r =
     let k : IsSearch tech boxes pieces (record search { front = front }) = search_kept tech boxes pieces search front r.reached.counted r.reached.kept s in
     record {
       search = record { counted = k.counted; lists = k.lists; chains = k.chains; diffusion = grown _ Is net search.diffusion new search.front front r s.diffusion; poly = k.poly; metal = k.metal; cuts = k.cuts; under = k.under; over = k.over };
-      reached = reached_as Is As net _ _ _ _ forth back r.reached;
+      reached = reached_as Is As net _ _ _ _ forth (λ y h. inr (back y h)) r.reached;
     }
 
 pub step_poly : (tech : Tech) (boxes : List MaskBox) (pieces : List Placed) (Is As : ℕ → Type 0) (net : ℕ) (search : Search) (new : Grove) (front : Front) → ((y : ℕ) → Is y → As y) → ((y : ℕ) → As y → Is y)
@@ -66,7 +66,7 @@ step_poly tech boxes pieces Is As net search new front forth back s r =
     let k : IsSearch tech boxes pieces (record search { front = front }) = search_kept tech boxes pieces search front r.reached.counted r.reached.kept s in
     record {
       search = record { counted = k.counted; lists = k.lists; chains = k.chains; diffusion = k.diffusion; poly = grown _ Is net search.poly new search.front front r s.poly; metal = k.metal; cuts = k.cuts; under = k.under; over = k.over };
-      reached = reached_as Is As net _ _ _ _ forth back r.reached;
+      reached = reached_as Is As net _ _ _ _ forth (λ y h. inr (back y h)) r.reached;
     }
 
 pub step_metal : (tech : Tech) (boxes : List MaskBox) (pieces : List Placed) (Is As : ℕ → Type 0) (net : ℕ) (search : Search) (new : Grove) (front : Front) → ((y : ℕ) → Is y → As y) → ((y : ℕ) → As y → Is y)
@@ -75,7 +75,7 @@ step_metal tech boxes pieces Is As net search new front forth back s r =
     let k : IsSearch tech boxes pieces (record search { front = front }) = search_kept tech boxes pieces search front r.reached.counted r.reached.kept s in
     record {
       search = record { counted = k.counted; lists = k.lists; chains = k.chains; diffusion = k.diffusion; poly = k.poly; metal = grown _ Is net search.metal new search.front front r s.metal; cuts = k.cuts; under = k.under; over = k.over };
-      reached = reached_as Is As net _ _ _ _ forth back r.reached;
+      reached = reached_as Is As net _ _ _ _ forth (λ y h. inr (back y h)) r.reached;
     }
 
 pub step_cuts : (tech : Tech) (boxes : List MaskBox) (pieces : List Placed) (Is As : ℕ → Type 0) (net : ℕ) (search : Search) (new : Grove) (front : Front) → ((y : ℕ) → Is y → As y) → ((y : ℕ) → As y → Is y)
@@ -84,7 +84,7 @@ step_cuts tech boxes pieces Is As net search new front forth back s r =
     let k : IsSearch tech boxes pieces (record search { front = front }) = search_kept tech boxes pieces search front r.reached.counted r.reached.kept s in
     record {
       search = record { counted = k.counted; lists = k.lists; chains = k.chains; diffusion = k.diffusion; poly = k.poly; metal = k.metal; cuts = grown _ Is net search.cuts new search.front front r s.cuts; under = k.under; over = k.over };
-      reached = reached_as Is As net _ _ _ _ forth back r.reached;
+      reached = reached_as Is As net _ _ _ _ forth (λ y h. inr (back y h)) r.reached;
     }
 
 pub step_under : (tech : Tech) (boxes : List MaskBox) (pieces : List Placed) (Is As : ℕ → Type 0) (net : ℕ) (search : Search) (new : Grove) (front : Front) → ((y : ℕ) → Is y → As y) → ((y : ℕ) → As y → Is y)
@@ -93,7 +93,7 @@ step_under tech boxes pieces Is As net search new front forth back s r =
     let k : IsSearch tech boxes pieces (record search { front = front }) = search_kept tech boxes pieces search front r.reached.counted r.reached.kept s in
     record {
       search = record { counted = k.counted; lists = k.lists; chains = k.chains; diffusion = k.diffusion; poly = k.poly; metal = k.metal; cuts = k.cuts; under = grown _ Is net search.under new search.front front r s.under; over = k.over };
-      reached = reached_as Is As net _ _ _ _ forth back r.reached;
+      reached = reached_as Is As net _ _ _ _ forth (λ y h. inr (back y h)) r.reached;
     }
 
 pub step_over : (tech : Tech) (boxes : List MaskBox) (pieces : List Placed) (Is As : ℕ → Type 0) (net : ℕ) (search : Search) (new : Grove) (front : Front) → ((y : ℕ) → Is y → As y) → ((y : ℕ) → As y → Is y)
@@ -102,7 +102,7 @@ step_over tech boxes pieces Is As net search new front forth back s r =
     let k : IsSearch tech boxes pieces (record search { front = front }) = search_kept tech boxes pieces search front r.reached.counted r.reached.kept s in
     record {
       search = record { counted = k.counted; lists = k.lists; chains = k.chains; diffusion = k.diffusion; poly = k.poly; metal = k.metal; cuts = k.cuts; under = k.under; over = grown _ Is net search.over new search.front front r s.over };
-      reached = reached_as Is As net _ _ _ _ forth back r.reached;
+      reached = reached_as Is As net _ _ _ _ forth (λ y h. inr (back y h)) r.reached;
     }
 
 -- nothing is there to be reached

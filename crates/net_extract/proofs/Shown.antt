@@ -17,7 +17,7 @@ use Rattle.net_extract.specs.declared.placing.Placed.{Placed}
 use Rattle.net_extract.specs.Groves.{spot_of}
 use Rattle.net_extract.specs.Pieces.{Conducts, box_of, no_piece, piece_at, IsPiece, ArePieces}
 use Rattle.net_extract.specs.Spots.{AreSpots}
-use Rattle.net_extract.proofs.Growth.{below_cases}
+use Rattle.graph_search.proofs.Marks.{below_cases}
 
 -- ---- lists that grow
 

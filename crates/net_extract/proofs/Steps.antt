@@ -4,8 +4,8 @@ use Rattle.std.proofs.lemmas.List.Elements.{Contains-get_or}
 use Rattle.box_tree.specs.declared.query.Query.{Query}
 use Rattle.box_tree.specs.declared.spots.Spot.{Spot}
 use Rattle.box_tree.specs.Queries.{Holds}
-use Rattle.graph_search.specs.Search.{AreKept, AreVisited}
-use Rattle.graph_search.proofs.Marks.{mark_cases}
+use Rattle.graph_search.specs.Search.{AreKept, AreReached, AreVisited}
+use Rattle.graph_search.proofs.Marks.{mark_cases, kept_marked, reached_as, taken_earlier, taken_last, taken_cases}
 use Rattle.lam_geom.specs.declared.boxes.MaskBox.{MaskBox}
 use Rattle.rule_table.specs.declared.technology.Tech.{Tech}
 use Rattle.net_extract.specs.declared.groves.Grove.{Grove}
@@ -14,9 +14,8 @@ use Rattle.net_extract.specs.declared.placing.Placed.{Placed}
 use Rattle.net_extract.specs.Groves.{AreTagsWithin, AreSpent, IsGrove, IsOf, IsUnreached}
 use Rattle.net_extract.specs.Linking.{AreGathered, IsPairWith}
 use Rattle.net_extract.specs.Pieces.{box_of}
-use Rattle.net_extract.specs.Spreading.{AreReached, IsBuriedOf, IsOfPair}
-use Rattle.net_extract.proofs.Growth.{gathered_if, taken_earlier, taken_last, taken_cases}
-use Rattle.net_extract.proofs.Spread.{reached_from}
+use Rattle.net_extract.specs.Spreading.{IsBuriedOf, IsOfPair}
+use Rattle.net_extract.proofs.Growth.{gathered_if}
 use Rattle.net_extract.proofs.Walk.{grove_kept}
 
 -- ---- what is found in a grove
@@ -41,7 +40,7 @@ gathered_within Is count found given same within g =
 pub gathered_reached : (Is : ℕ → Type 0) (net : ℕ) (old new : List (Option ℕ)) (before after found given : List ℕ) → given ≡ found → AreGathered Is [] found → AreVisited given net old new before after → AreReached Is net old new before after
 gathered_reached Is net old new before after found given same g v =
     let V : List ℕ → Type 0 = λ xs. AreVisited xs net old new before after in
-    reached_from Is found net old new before after (λ y c. found_is Is found y g c) (λ y is. inr (g.complete y is)) (subst V same v)
+    reached_as (Contains found) Is net old new before after (λ y c. found_is Is found y g c) (λ y is. inr (g.complete y is)) (subst V same v)
 
 tag_within : (spots : List Spot) (query : Query) (marks : List (Option ℕ)) (count : ℕ) → AreTagsWithin count spots → (y : ℕ) → IsUnreached spots query marks y → y < count
 tag_within spots query marks count tags y h = let P : ℕ → Type 0 = λ x. x < count in subst P h.of.tag (tags h.of.k h.of.among)
@@ -56,8 +55,8 @@ pub found_reached : (spots : List Spot) (query : Query) (net : ℕ) (old new : L
     → AreVisited given net old new before after → AreReached (IsOf spots (Holds query)) net old new before after
 found_reached spots query net old new before after found given same g v =
     let V : List ℕ → Type 0 = λ xs. AreVisited xs net old new before after in
-    reached_from (IsOf spots (Holds query)) found net old new before after (λ y c. (found_is (IsUnreached spots query old) found y g c).of)
-    (λ y of. elim (mark_cases old y) [ inl none ↦ inr (g.complete y (record { of = of; unmarked = none })) | inr m ↦ inl m ])
+    reached_as (Contains found) (IsOf spots (Holds query)) net old new before after (λ y c. (found_is (IsUnreached spots query old) found y g c).of)
+    (λ y of. elim (mark_cases old y) [ inl none ↦ inr (g.complete y (record { of = of; unmarked = none })) | inr m ↦ inl (kept_marked old new y v.kept m) ])
     (subst V same v)
 
 -- those of which the boxes are buried pairs with a box
@@ -69,10 +68,10 @@ buried_reached tech boxes pieces box_no spots query net old new before after fou
     let H : List ℕ → Type 0 = λ xs. AreGathered (IsOfPair tech boxes pieces box_no xs) [] kept in
     let E : List ℕ → Type 0 = λ xs. AreGathered (IsOfPair tech boxes pieces box_no looked) xs kept in
     let k : AreGathered (IsOfPair tech boxes pieces box_no found) [] kept = subst H same_found (subst E none h) in
-    reached_from (IsBuriedOf tech boxes pieces box_no spots query) kept net old new before after
+    reached_as (Contains kept) (IsBuriedOf tech boxes pieces box_no spots query) net old new before after
     (λ y c. (let is : IsOfPair tech boxes pieces box_no found y = found_is (IsOfPair tech boxes pieces box_no found) kept y k c in
     record { of = (found_is (IsUnreached spots query old) found y g is.0).of; pair = is.1 }))
-    (λ y is. elim (mark_cases old y) [ inl none ↦ inr (k.complete y (g.complete y (record { of = is.of; unmarked = none }), is.pair)) | inr m ↦ inl m ])
+    (λ y is. elim (mark_cases old y) [ inl none ↦ inr (k.complete y (g.complete y (record { of = is.of; unmarked = none }), is.pair)) | inr m ↦ inl (kept_marked old new y v.kept m) ])
     (subst V same_kept v)
 
 pub kept_within : (tech : Tech) (boxes : List MaskBox) (pieces : List Placed) (box_no : ℕ) (spots : List Spot) (query : Query) (marks : List (Option ℕ)) (count : ℕ) (found looked kept given empty : List ℕ) → looked ≡ found

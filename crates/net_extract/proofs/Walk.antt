@@ -1,6 +1,6 @@
 -- Steps of the walk through a grove.
-use Rattle.std.proofs.Common.{◌≡◌, ◌≢◌, ℕ, ◌+◌, ◌<◌, ◌≤◌, Bool, false, true, Option, None, Some, List, [], ◌∷◌, ◌++◌, length, set, get_or, drop, ◌⊎◌, inl, inr, refl, sym, ◌∙◌, ap, subst, arith, length-drop, length-set, get_or-set_other, get_or-set_same}
-use Rattle.std.specs.Prelude.{IsTrue, ℤ, ◌<ℤ◌, is_some, max, nat_eq, not}
+use Rattle.std.proofs.Common.{◌≡◌, ◌≢◌, ℕ, ◌+◌, ◌<◌, ◌≤◌, Bool, false, true, Option, None, List, [], ◌∷◌, ◌++◌, length, set, get_or, drop, ◌⊎◌, inl, inr, refl, sym, ◌∙◌, ap, subst, arith, length-drop, length-set, get_or-set_other, get_or-set_same}
+use Rattle.std.specs.Prelude.{IsTrue, ℤ, ◌<ℤ◌, max, nat_eq, not}
 use Rattle.std.specs.Int.{int_max}
 use Rattle.std.proofs.lemmas.Int.{ints, clamps}
 use Rattle.std.proofs.lemmas.Bool.{cases_lt, cases_eq, eqb-true}
@@ -18,11 +18,12 @@ use Rattle.box_tree.specs.Tree.{IsBounded, IsGroupOf, IsPlacedGroup, begin_of}
 use Rattle.box_tree.proofs.Trees.{group_here}
 use Rattle.box_tree.proofs.Within.{too_far}
 use Rattle.graph_search.specs.Search.{mark_of, IsMarked, AreKept}
+use Rattle.graph_search.proofs.Marks.{below_cases}
 use Rattle.net_extract.specs.declared.groves.Grove.{Grove}
 use Rattle.net_extract.specs.declared.groves.Plan.{Plan}
 use Rattle.net_extract.specs.Groves.{spot_of, no_group, group_at, spot_in, IsOf, IsPlan, IsInRun, InSpent, IsRunSpent, IsMarkedAt, IsRunMarked, AreSpent, IsGrove, IsUnreached, IsUnreachedWithin}
 use Rattle.net_extract.specs.Linking.{AreGathered}
-use Rattle.net_extract.proofs.Growth.{gathered_as, gathered_more, gathered_none, gathered_if, below_cases}
+use Rattle.net_extract.proofs.Growth.{gathered_as, gathered_more, gathered_none, gathered_if}
 
 -- ---- tests
 
@@ -32,16 +33,6 @@ not_true false t = refl
 
 pub flag_read : (spent : List Bool) (at : ℕ) (b : Bool) → at < length spent → b ≡ get_or spent at b → b ≡ true → IsTrue (get_or spent at false)
 flag_read spent at b lt read t = sym (get_or_read spent at b lt read false) ∙ t
-
-pub none_told : (o : Option ℕ) (b : Bool) → is_some o ≡ not b → b ≡ true → o ≡ None
-none_told None b test answer = refl
-none_told (Some n) true test answer = cc
-none_told (Some n) false test answer = cc
-
-pub some_told : (o : Option ℕ) (b : Bool) → is_some o ≡ not b → b ≡ false → (n : ℕ) × (o ≡ Some n)
-some_told (Some n) b test answer = (n, refl)
-some_told None true test answer = absurd (cc)
-some_told None false test answer = absurd (cc)
 
 -- ---- where runs begin
 

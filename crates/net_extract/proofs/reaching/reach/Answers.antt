@@ -1,8 +1,8 @@
 use Rattle.std.proofs.Common.{[], ℕ, Option, List, length, refl, sym, subst}
 use Rattle.box_tree.specs.Queries.{Holds}
+use Rattle.graph_search.specs.Search.{AreReached}
 use Rattle.net_extract.specs.Groves.{IsOf, IsUnreached, AreTagsWithin, AreSpent}
 use Rattle.net_extract.specs.Linking.{AreGathered}
-use Rattle.net_extract.specs.Spreading.{AreReached}
 use Rattle.net_extract.proofs.Steps.{found_within, grove_reached, found_reached}
 use Rattle.net_extract.proofs.reaching.reach.Goals as goal
 

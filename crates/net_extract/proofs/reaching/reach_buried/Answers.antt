@@ -1,7 +1,8 @@
 use Rattle.std.proofs.Common.{[], ℕ, Option, List, length, refl, sym, subst}
+use Rattle.graph_search.specs.Search.{AreReached}
 use Rattle.net_extract.specs.Groves.{IsUnreached, AreTagsWithin, AreSpent}
 use Rattle.net_extract.specs.Linking.{AreGathered}
-use Rattle.net_extract.specs.Spreading.{AreReached, IsBuriedOf}
+use Rattle.net_extract.specs.Spreading.{IsBuriedOf}
 use Rattle.net_extract.proofs.Steps.{found_within, grove_reached, buried_reached, kept_within}
 use Rattle.net_extract.proofs.reaching.reach_buried.Goals as goal
 

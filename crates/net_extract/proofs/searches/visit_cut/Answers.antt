@@ -1,4 +1,4 @@
-use Rattle.std.proofs.Common.{arith, ℕ, ◌+◌, ◌-◌, inr, List, take, drop, ◌≡◌, ◌<◌, length, get_or, sym, ◌∙◌, ap, subst}
+use Rattle.std.proofs.Common.{arith, ℕ, ◌+◌, ◌-◌, Contains, inr, List, take, drop, ◌≡◌, ◌<◌, length, get_or, sym, ◌∙◌, ap, subst}
 use Rattle.std.specs.Prelude.{negsuc}
 use Rattle.std.proofs.lemmas.List.{get_or_default, get_or_read}
 use Rattle.box_tree.specs.declared.query.Query.{Query}
@@ -8,13 +8,13 @@ use Rattle.lam_geom.specs.declared.boxes.MaskLayer.{MaskLayer}
 use Rattle.lam_geom.specs.declared.boxes.MaskLayer.TheVariants.{ND, NP, NM}
 use Rattle.lam_geom.specs.Places.{IsPlacedBox}
 use Rattle.crossings.specs.Boxes.{area_at, no_box}
+use Rattle.graph_search.proofs.Marks.{reached_as}
 use Rattle.net_extract.specs.declared.searches.Search.{Search}
 use Rattle.net_extract.specs.Linking.{AreBeside, cut_node, IsOver}
 use Rattle.net_extract.specs.Spreading.{IsAnswer, IsStep}
 use Rattle.std.proofs.lemmas.Result.{on_ok_weaker}
 use Rattle.net_extract.proofs.Beside.{beside_over, cut_forth, cut_back, over_beside}
 use Rattle.net_extract.proofs.Listed.{over_part, part_over}
-use Rattle.net_extract.proofs.Spread.{reached_from}
 use Rattle.net_extract.proofs.Steps.{all_among}
 use Rattle.net_extract.proofs.Shown.{over_query}
 use Rattle.net_extract.proofs.Searched.{step_listed, step_three, near_asked}
@@ -130,7 +130,7 @@ returns-then-first-end c =
     let part = take (c.index-2.result.now - c.index.result.now) (drop c.index.result.now c.deref.result.now) in
     on_ok_weaker c.visit.result
     (λ v. step_listed tech boxes pieces (AreBeside tech boxes pieces (cut_node pieces cut)) net search (record search.front { marks = c.visit.new.marks; queue = c.visit.new.queue }) c.requires.search
-    (reached_from (AreBeside tech boxes pieces (cut_node pieces cut)) part net search.front.marks.items c.visit.new.marks.items search.front.queue.items c.visit.new.queue.items
+    (reached_as (Contains part) (AreBeside tech boxes pieces (cut_node pieces cut)) net search.front.marks.items c.visit.new.marks.items search.front.queue.items c.visit.new.queue.items
     (λ y h. over_beside tech boxes pieces cut c.requires.joining y
     (part_over boxes pieces (length boxes) cut c.index.result.now c.index-2.result.now starts lists.nodes.items lists.cuts.items c.deref.result.now c.deref.ensures.value among first end l y h))
     (λ y h. inr (over_part boxes pieces (length boxes) cut c.index.result.now c.index-2.result.now starts lists.nodes.items lists.cuts.items c.deref.result.now c.deref.ensures.value among first end l c.if-first-end.true y
