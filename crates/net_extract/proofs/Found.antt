@@ -12,13 +12,13 @@ use Rattle.net_extract.specs.declared.groves.Plan.{Plan}
 use Rattle.net_extract.specs.declared.over.PieceGroves.{PieceGroves}
 use Rattle.net_extract.specs.declared.placing.Placed.{Placed}
 use Rattle.net_extract.specs.CutLists.{AreFound, AreOfTwo, ArePieceGroves, IsListOver, IsOfAny}
-use Rattle.net_extract.specs.Groves.{AreTagsWithin, IsOf, IsPlan, IsUnreached, IsUnreachedWithin}
+use Rattle.net_extract.specs.Groves.{AreTagsWithin, IsOf, IsPlan, IsRead, IsUnreached, IsUnreachedWithin, begin_at}
 use Rattle.net_extract.specs.Linking.{AreGathered, IsJoining, IsOver}
 use Rattle.net_extract.specs.Pieces.{ArePieces}
 use Rattle.net_extract.proofs.Beside.{answers_forth, answers_back, over_forth, over_back, two_joins, joins_two}
 use Rattle.net_extract.proofs.Shown.{over_query}
 use Rattle.net_extract.proofs.Steps.{all_among}
-use Rattle.net_extract.proofs.Walk.{IsRead, IsWalked, begin_at, walked_leaf, walked_all, within_of}
+use Rattle.net_extract.proofs.Walk.{IsWalked, walked_leaf, walked_all, within_of}
 
 -- ---- in one grove
 

@@ -21,7 +21,7 @@ use Rattle.graph_search.specs.Search.{mark_of, IsMarked, AreKept}
 use Rattle.graph_search.proofs.Marks.{below_cases}
 use Rattle.net_extract.specs.declared.groves.Grove.{Grove}
 use Rattle.net_extract.specs.declared.groves.Plan.{Plan}
-use Rattle.net_extract.specs.Groves.{spot_of, no_group, group_at, spot_in, IsOf, IsPlan, IsInRun, InSpent, IsRunSpent, IsMarkedAt, IsRunMarked, AreSpent, IsGrove, IsUnreached, IsUnreachedWithin}
+use Rattle.net_extract.specs.Groves.{spot_of, no_group, group_at, spot_in, begin_at, IsRead, IsOf, IsPlan, IsInRun, InSpent, IsRunSpent, IsMarkedAt, IsRunMarked, AreSpent, IsGrove, IsUnreached, IsUnreachedWithin}
 use Rattle.net_extract.specs.Linking.{AreGathered}
 use Rattle.net_extract.proofs.Growth.{gathered_as, gathered_more, gathered_none, gathered_if}
 
@@ -36,24 +36,7 @@ flag_read spent at b lt read t = sym (get_or_read spent at b lt read false) ∙ 
 
 -- ---- where runs begin
 
-abbrev groups_of : Plan → List Group
-groups_of plan = plan.groups.items
-
--- where the run of the group at a place begins, or all end
-abbrev pub begin_at : Plan → ℕ → ℕ
-begin_at plan at = begin_of (drop at plan.groups.items) (length plan.order.items)
-
--- a group that was read: its run, and that of the one behind it
-pub record IsRead (plan : Plan) (at : ℕ) (group : Group) : Type 0 where
-  pub is : group_at plan.groups.items at ≡ group
-  pub placed : IsPlacedGroup group
-  pub begins : begin_at plan at ≡ group.start
-  pub closes : begin_at plan (at + 1 + group.inside) ≡ group.start + group.count
-  pub opens : 0 < group.inside → begin_at plan (at + 1) ≡ group.start
-  pub ends : group.start + group.count ≤ length plan.order.items
-  pub within : at + 1 + group.inside ≤ length plan.groups.items
-  pub bounded : (p : ℕ) → group.start ≤ p → p < group.start + group.count → IsBounded group (spot_in plan p)
-
+-- a group that was read
 pub group_read : (plan : Plan) (at : ℕ) (group : Group) → IsPlan plan → at < length plan.groups.items → group ≡ get_or plan.groups.items at group → IsRead plan at group
 group_read plan at group t lt is =
     let groups = plan.groups.items in

@@ -1,10 +1,10 @@
 -- Trees of spots that stand for nodes, marks of nodes, and groups of which all nodes are marked.
-use Rattle.std.specs.Prelude.{◌≡◌, ℕ, ◌+◌, ◌<◌, ◌≤◌, pos, Bool, false, IsTrue, None, Option, List, length, slice_index_or}
+use Rattle.std.specs.Prelude.{◌≡◌, ℕ, ◌+◌, ◌<◌, ◌≤◌, pos, Bool, false, IsTrue, None, Option, List, drop, length, slice_index_or}
 use Rattle.box_tree.specs.declared.query.Query.{Query}
 use Rattle.box_tree.specs.declared.spots.Group.{Group}
 use Rattle.box_tree.specs.declared.spots.Spot.{Spot}
 use Rattle.box_tree.specs.Queries.{Holds}
-use Rattle.box_tree.specs.Tree.{no_spot, spot_at, IsTreeOf}
+use Rattle.box_tree.specs.Tree.{IsBounded, IsPlacedGroup, IsTreeOf, begin_of, no_spot, spot_at}
 use Rattle.graph_search.specs.Search.{mark_of, IsMarked}
 use Rattle.net_extract.specs.declared.groves.Grove.{Grove}
 use Rattle.net_extract.specs.declared.groves.Plan.{Plan}
@@ -33,6 +33,21 @@ spot_in plan p = spot_at plan.spots.items plan.order.items p
 
 abbrev pub IsPlan : Plan → Type 0
 IsPlan plan = IsTreeOf plan.spots.items plan.order.items plan.groups.items
+
+-- where the run of the group at a place begins, or all end
+abbrev pub begin_at : Plan → ℕ → ℕ
+begin_at plan at = begin_of (drop at plan.groups.items) (length plan.order.items)
+
+-- a group that was read: its run, and that of the one behind it
+pub record IsRead (plan : Plan) (at : ℕ) (group : Group) : Type 0 where
+  pub is : group_at plan.groups.items at ≡ group
+  pub placed : IsPlacedGroup group
+  pub begins : begin_at plan at ≡ group.start
+  pub closes : begin_at plan (at + 1 + group.inside) ≡ group.start + group.count
+  pub opens : 0 < group.inside → begin_at plan (at + 1) ≡ group.start
+  pub ends : group.start + group.count ≤ length plan.order.items
+  pub within : at + 1 + group.inside ≤ length plan.groups.items
+  pub bounded : (p : ℕ) → group.start ≤ p → p < group.start + group.count → IsBounded group (spot_in plan p)
 
 -- the tags of spots are numbers of nodes
 abbrev pub AreTagsWithin : ℕ → List Spot → Type 0

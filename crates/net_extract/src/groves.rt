@@ -8,7 +8,7 @@ ghost use Rattle.box_tree.specs.Tree.{IsBounded, IsPlacedGroup};
 ghost use Rattle.lam_geom.specs.Gaps.{gap_of};
 ghost use Rattle.lam_geom.specs.Places.{IsPlacedSpan};
 ghost use Rattle.net_extract.specs.Linking.{AreGathered};
-ghost use Rattle.net_extract.specs.Groves.{group_at, IsPlan, AreSpent, AreTagsWithin, IsUnreached, IsUnreachedWithin, IsRunSpent, IsRunMarked, IsNewGrove};
+ghost use Rattle.net_extract.specs.Groves.{group_at, IsPlan, AreSpent, AreTagsWithin, IsUnreached, IsUnreachedWithin, IsRead, IsRunSpent, IsRunMarked, IsNewGrove};
 
 use box_tree::{BoxTree, Group, Query, Question, Spot};
 use lam_geom::Span;
@@ -63,7 +63,7 @@ pub fn unreached(
     found.clear();
     let mut at = 0;
     while at < plan.groups.len() {
-        let group = &plan.groups[at];
+        let group = group_of(plan, at);
         if spent[at] || is_passed_over(group, query) {
             at += 1 + group.inside as usize;
         } else if group.inside == 0 {
@@ -76,6 +76,15 @@ pub fn unreached(
         }
     }
     Ok(())
+}
+
+/// The group at a place, of which it is said where its run begins and ends, and what lies in it.
+pub fn group_of(plan: &Plan, at: usize) -> &Group
+    requires plan { IsPlan plan.now }
+    requires among { at < length plan.now.groups.items }
+    ensures { IsRead plan.now at result.now }
+{
+    &plan.groups[at]
 }
 
 /// Whether it is plain that no spot within the bounds of a group holds a query. What lies near is asked in most searches, and is
@@ -139,10 +148,10 @@ fn is_spent_inside(plan: &Plan, spent: &[bool], at: usize) -> bool
     requires counted { length spent.now ≡ length plan.now.groups.items }
     ensures { IsTrue result → IsRunSpent plan.now.groups.items spent.now at }
 {
-    let end = at + 1 + plan.groups[at].inside as usize;
+    let end = at + 1 + group_of(plan, at).inside as usize;
     let mut next = at + 1;
     while next < end && spent[next] {
-        next += 1 + plan.groups[next].inside as usize;
+        next += 1 + group_of(plan, next).inside as usize;
     }
     next == end
 }

@@ -8,7 +8,7 @@ ghost use Rattle.net_extract.specs.Groves.{IsOf, IsPlan, IsUnreachedWithin};
 ghost use Rattle.net_extract.specs.Linking.{AreGathered, IsOver};
 ghost use Rattle.net_extract.specs.Pieces.{ArePiecesOf};
 
-use crate::groves::{Grove, Plan, is_passed_over};
+use crate::groves::{Grove, Plan, group_of, is_passed_over};
 use crate::placing::Pieces;
 use box_tree::{Query, Question};
 use lam_geom::{MaskBox, MaskLayer};
@@ -119,7 +119,7 @@ fn find_on(
 {
     let mut at = 0;
     while at < plan.groups.len() {
-        let group = &plan.groups[at];
+        let group = group_of(plan, at);
         if is_passed_over(group, query) {
             at += 1 + group.inside as usize;
         } else if group.inside == 0 {

@@ -2,41 +2,9 @@ use Rattle.std.proofs.Common.{arith, [], ◌≡◌, ℕ, ◌+◌, ◌<◌, ◌�
 use Rattle.box_tree.specs.Queries.{Holds}
 use Rattle.graph_search.specs.Search.{mark_of}
 use Rattle.net_extract.specs.Groves.{spot_in, IsRunSpent}
-use Rattle.net_extract.proofs.Walk.{IsRead, group_read, flag_read, spent_barren, walked_past, walked_leaf, walked_into, walked_all, spent_set, run_spent_marked}
+use Rattle.net_extract.proofs.Walk.{flag_read, spent_barren, walked_past, walked_leaf, walked_into, walked_all, spent_set, run_spent_marked}
 use Rattle.net_extract.proofs.groves.unreached.Goals as goal
 use Rattle.net_extract.proofs.groves.unreached.Goals.{then-index, else-index}
-
-pub is_passed_over-requires-clause-group : goal.is_passed_over-requires-clause-group
-is_passed_over-requires-clause-group c =
-    let g : IsRead c.args.plan.now c.loop-at.at c.index-group.result.now = group_read c.args.plan.now c.loop-at.at c.index-group.result.now c.requires.plan (omega arith) c.index-group.ensures in
-    g.placed
-
-pub overflow_cast-at : goal.overflow_cast-at
-overflow_cast-at c =
-    let g : IsRead c.args.plan.now c.loop-at.at c.index-group.result.now = group_read c.args.plan.now c.loop-at.at c.index-group.result.now c.requires.plan (omega arith) c.index-group.ensures in
-    let w = g.within in
-    let f = c.requires.plan.few_groups in
-    let n = c.requires.plan.few in
-    let o = c.requires.plan.order_of.counted in
-    omega arith
-
-pub overflow_add-at : goal.overflow_add-at
-overflow_add-at c =
-    let g : IsRead c.args.plan.now c.loop-at.at c.index-group.result.now = group_read c.args.plan.now c.loop-at.at c.index-group.result.now c.requires.plan (omega arith) c.index-group.ensures in
-    let w = g.within in
-    let f = c.requires.plan.few_groups in
-    let n = c.requires.plan.few in
-    let o = c.requires.plan.order_of.counted in
-    omega arith
-
-pub overflow_add-at-then-is_passed_over : goal.overflow_add-at-then-is_passed_over
-overflow_add-at-then-is_passed_over c =
-    let g : IsRead c.args.plan.now c.loop-at.at c.index-group.result.now = group_read c.args.plan.now c.loop-at.at c.index-group.result.now c.requires.plan (omega arith) c.index-group.ensures in
-    let w = g.within in
-    let f = c.requires.plan.few_groups in
-    let n = c.requires.plan.few in
-    let o = c.requires.plan.order_of.counted in
-    omega arith
 
 pub loop-at-preserved-then-is_passed_over : goal.loop-at-preserved-then-is_passed_over
 loop-at-preserved-then-is_passed_over c =
@@ -44,9 +12,9 @@ loop-at-preserved-then-is_passed_over c =
     let query = c.args.query.now in
     let marks = c.args.marks.now in
     let at = c.loop-at.at in
-    let group = c.index-group.result.now in
+    let group = c.group_of-group.result.now in
+    let g = c.group_of-group.ensures in
     let inv = c.loop-at.invariant in
-    let g : IsRead plan at group = group_read plan at group c.requires.plan (omega arith) c.index-group.ensures in
     let n = inv.spent.counted in
     let barren : (p : ℕ) → group.start ≤ p → p < group.start + group.count → Holds query (spot_in plan p) → mark_of marks (spot_in plan p).tag ≡ None → ⊥ = elim c.if-index.branch [
       | then-index w ↦ spent_barren plan query marks c.loop-at.spent.items at group g inv.spent (flag_read c.loop-at.spent.items at c.index.result.now (omega arith) c.index.ensures w.if-index.true)
@@ -59,28 +27,15 @@ loop-at-preserved-then-is_passed_over c =
       spent = inv.spent;
     }
 
-pub overflow_add-end : goal.overflow_add-end
-overflow_add-end c =
-    let g : IsRead c.args.plan.now c.loop-at.at c.index-group.result.now = group_read c.args.plan.now c.loop-at.at c.index-group.result.now c.requires.plan (omega arith) c.index-group.ensures in
-    let e = g.ends in
-    let n = c.requires.plan.few in
-    let o = c.requires.plan.order_of.counted in
-    omega arith
-
-pub look_through-requires-clause-within : goal.look_through-requires-clause-within
-look_through-requires-clause-within c =
-    let g : IsRead c.args.plan.now c.loop-at.at c.index-group.result.now = group_read c.args.plan.now c.loop-at.at c.index-group.result.now c.requires.plan (omega arith) c.index-group.ensures in
-    g.ends
-
 pub loop-at-preserved-then-group-eq0 : goal.loop-at-preserved-then-group-eq0
 loop-at-preserved-then-group-eq0 c =
     let plan = c.args.plan.now in
     let query = c.args.query.now in
     let marks = c.args.marks.now in
     let at = c.loop-at.at in
-    let group = c.index-group.result.now in
+    let group = c.group_of-group.result.now in
+    let g = c.group_of-group.ensures in
     let inv = c.loop-at.invariant in
-    let g : IsRead plan at group = group_read plan at group c.requires.plan (omega arith) c.index-group.ensures in
     record {
       walked = walked_leaf plan query marks [] at group (group.start + group.count) c.loop-at.found.items c.look_through.new.found.items g c.if-group-eq0.true (omega arith) c.in_ok-spent.ensures.found inv.walked;
       spent = spent_set plan marks c.loop-at.spent.items at group c.in_ok-spent.field-0 g c.in_ok-spent.ensures.all inv.spent;
@@ -92,9 +47,9 @@ loop-at-preserved c =
     let query = c.args.query.now in
     let marks = c.args.marks.now in
     let at = c.loop-at.at in
-    let group = c.index-group.result.now in
+    let group = c.group_of-group.result.now in
+    let g = c.group_of-group.ensures in
     let inv = c.loop-at.invariant in
-    let g : IsRead plan at group = group_read plan at group c.requires.plan (omega arith) c.index-group.ensures in
     let R : List Bool → Type 0 = λ xs. IsRunSpent plan.groups.items xs at in
     record {
       walked = walked_into plan query marks [] at group c.loop-at.found.items g c.if-group-eq0.false inv.walked;
