@@ -187,7 +187,7 @@ visited_new parts net old new before after i lt in_range none v =
 -- ---- what the code reads
 
 -- a test that finds no mark
-pub none_by_test : (o : Option ℕ) (b : Bool) → is_some o ≡ not b → b ≡ true → o ≡ None
+none_by_test : (o : Option ℕ) (b : Bool) → is_some o ≡ not b → b ≡ true → o ≡ None
 none_by_test None b test answer = refl
 none_by_test (Some n) true test answer = cc
 none_by_test (Some n) false test answer = cc
@@ -197,7 +197,7 @@ pub read_none : (marks : List (Option ℕ)) (k : ℕ) (o : Option ℕ) (b : Bool
 read_none marks k o b lt read test answer = sym (get_or_read marks k o lt read None) ∙ none_by_test o b test answer
 
 -- a test that finds one
-pub some_by_test : (o : Option ℕ) (b : Bool) → is_some o ≡ not b → b ≡ false → (n : ℕ) × (o ≡ Some n)
+some_by_test : (o : Option ℕ) (b : Bool) → is_some o ≡ not b → b ≡ false → (n : ℕ) × (o ≡ Some n)
 some_by_test (Some n) b test answer = (n, refl)
 some_by_test None true test answer = absurd (cc)
 some_by_test None false test answer = absurd (cc)

@@ -14,17 +14,17 @@ use Rattle.graph_search.proofs.Marks.{reached_as, reached_more, reached_none}
 use Rattle.box_tree.specs.declared.spots.Spot.{Spot}
 use Rattle.lam_geom.specs.declared.boxes.MaskBox.{MaskBox}
 use Rattle.rule_table.specs.declared.technology.Tech.{Tech}
-use Rattle.net_extract.specs.declared.groves.Grove.{Grove}
-use Rattle.net_extract.specs.declared.groves.Plan.{Plan}
+use Rattle.box_tree.specs.declared.groves.Grove.{Grove}
+use Rattle.box_tree.specs.declared.tree.Plan.{Plan}
 use Rattle.net_extract.specs.declared.placing.Placed.{Placed}
 use Rattle.net_extract.specs.declared.reaching.Front.{Front}
 use Rattle.net_extract.specs.declared.searches.Search.{Search}
-use Rattle.net_extract.specs.Groves.{spot_of, AreTagsWithin}
+use Rattle.box_tree.specs.Groves.{spot_of, AreTagsWithin}
 use Rattle.net_extract.specs.Pieces.{box_of, area_of, no_piece, piece_at, IsPiece, IsOfBoxes, ArePieces}
 use Rattle.net_extract.specs.Spots.{MayBeBuried, box_spot, AreBoxSpots}
 use Rattle.net_extract.specs.Spreading.{IsFrontReached, IsGroveReached, IsGroveOf, IsSearch, IsStep}
 use Rattle.net_extract.proofs.Geometry.{placed_inner}
-use Rattle.net_extract.proofs.Walk.{grove_kept}
+use Rattle.net_extract.proofs.Steps.{grove_kept}
 
 -- the grove that was looked through
 grown : (Are : List Spot → Type 0) (Is : ℕ → Type 0) (net : ℕ) (grove new : Grove) (old front : Front) → IsGroveReached Is net grove new old front → IsGroveOf Are old grove → IsGroveOf Are front new

@@ -9,12 +9,6 @@ use Rattle.crossings.specs.Crossings.{IsBuriedPair}
 use Rattle.net_extract.specs.declared.placing.Placed.{Placed}
 use Rattle.net_extract.specs.Pieces.{box_of, area_of}
 
--- to a list have been added exactly the numbers with a property
-pub record AreGathered (Is : ℕ → Type 0) (old new : List ℕ) : Type 0 where
-  pub sound : (b : ℕ) → Contains new b → Contains old b ⊎ Is b
-  pub kept : (b : ℕ) → Contains old b → Contains new b
-  pub complete : (b : ℕ) → Is b → Contains new b
-
 -- ---- kinds of links
 
 -- pieces of different boxes

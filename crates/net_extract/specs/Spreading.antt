@@ -8,11 +8,11 @@ use Rattle.box_tree.specs.declared.query.Query.{Query}
 use Rattle.box_tree.specs.declared.spots.Spot.{Spot}
 use Rattle.box_tree.specs.Queries.{Answers, Holds}
 use Rattle.graph_search.specs.Search.{mark_of, AreReached}
-use Rattle.net_extract.specs.declared.groves.Grove.{Grove}
+use Rattle.box_tree.specs.declared.groves.Grove.{Grove}
 use Rattle.net_extract.specs.declared.reaching.Front.{Front}
 use Rattle.net_extract.specs.declared.searches.Search.{Search}
 use Rattle.net_extract.specs.declared.placing.Placed.{Placed}
-use Rattle.net_extract.specs.Groves.{IsGrove, IsOf}
+use Rattle.box_tree.specs.Groves.{IsGrove, IsOf}
 use Rattle.net_extract.specs.Linking.{cut_node, IsPairWith}
 use Rattle.net_extract.specs.Pieces.{box_of}
 use Rattle.net_extract.specs.Spots.{IsPieceOn, piece_spot, cut_spot, ArePieceSpots, AreBoxSpots}

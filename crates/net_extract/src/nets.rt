@@ -14,13 +14,12 @@ ghost use Rattle.net_extract.specs.Spots.{AreBoxSpots};
 ghost use Rattle.net_extract.specs.Spreading.{IsSearch, IsNewSearch, IsNewFront};
 
 use crate::cut_lists::{chains_of, cut_lists};
-use crate::groves::{Grove, new_grove};
 use crate::over::PieceGroves;
 use crate::placing::Pieces;
 use crate::reaching::Front;
 use crate::searches::{Search, spread};
 use crate::spots::{box_spots, piece_spots};
-use box_tree::BoxTree;
+use box_tree::{BoxTree, Grove, new_grove};
 use lam_geom::{MaskBox, MaskLayer};
 use rule_table::Tech;
 use std::alloc::{AllocError, Global};

@@ -11,10 +11,9 @@ ghost use Rattle.net_extract.specs.Pieces.{ArePiecesOf, Conducts};
 ghost use Rattle.net_extract.specs.Spreading.{IsSearch, IsStep, IsAnswer, IsPartner};
 
 use crate::cut_lists::{Chains, CutLists, cuts_of};
-use crate::groves::Grove;
 use crate::placing::Pieces;
 use crate::reaching::{Front, reach, reach_buried};
-use box_tree::{BoxTree, Query, Question};
+use box_tree::{BoxTree, Grove, Query, Question};
 use graph_search::visit;
 use lam_geom::{BoxXY, MaskBox, MaskLayer};
 use rule_table::Tech;

@@ -1,6 +1,6 @@
 use Rattle.std.proofs.Common.{arith, [], ◌+◌, length, refl}
 use Rattle.net_extract.proofs.Found.{found_all, found_enough, leaf_within}
-use Rattle.net_extract.proofs.Walk.{walked_past, walked_leaf, walked_into}
+use Rattle.box_tree.proofs.Walk.{walked_past, walked_leaf, walked_into}
 use Rattle.net_extract.proofs.over.find_on.Goals as goal
 
 pub loop-at-preserved-then-is_passed_over : goal.loop-at-preserved-then-is_passed_over

@@ -6,8 +6,9 @@ use Rattle.box_tree.specs.Queries.{Holds}
 use Rattle.lam_geom.specs.Places.{IsPlacedBox}
 use Rattle.net_extract.specs.declared.placing.Placed.{Placed}
 use Rattle.net_extract.specs.CutLists.{IsListedOver}
-use Rattle.net_extract.specs.Groves.{IsOf}
-use Rattle.net_extract.specs.Linking.{AreGathered, IsOverCut}
+use Rattle.box_tree.specs.Groves.{IsOf}
+use Rattle.box_tree.specs.Found.{AreGathered}
+use Rattle.net_extract.specs.Linking.{IsOverCut}
 use Rattle.net_extract.specs.Pieces.{area_of, box_of, piece_at}
 use Rattle.net_extract.specs.Spreading.{IsCrowdedAnswer}
 use Rattle.net_extract.proofs.Beside.{crowded_forth, crowded_back, crowded_over, listed_over, listed_within, over_cases}

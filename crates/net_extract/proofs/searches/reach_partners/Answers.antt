@@ -7,7 +7,7 @@ use Rattle.lam_geom.specs.declared.boxes.MaskLayer.TheVariants.{ND, NP}
 use Rattle.lam_geom.specs.Places.{IsPlacedBox}
 use Rattle.crossings.specs.Boxes.{area_at, box_at, layer_at, no_box}
 use Rattle.net_extract.specs.declared.placing.Placed.{Placed}
-use Rattle.net_extract.specs.Groves.{AreTagsWithin}
+use Rattle.box_tree.specs.Groves.{AreTagsWithin}
 use Rattle.net_extract.specs.Spreading.{IsBuriedOf, IsGroveReached, IsPartner}
 use Rattle.net_extract.proofs.Beside.{partners_forth, partners_back, no_partner}
 use Rattle.net_extract.proofs.Shown.{over_query}

@@ -1,7 +1,7 @@
 -- Lists that grow by exactly the numbers with a property.
 use Rattle.std.proofs.Common.{◌≡◌, ℕ, List, [], ◌∷◌, ◌++◌, Contains, ◌⊎◌, inl, inr, sym, subst}
 use Rattle.std.proofs.lemmas.List.Elements.{Contains-append_left, Contains-push, Contains-push_cases}
-use Rattle.net_extract.specs.Linking.{AreGathered}
+use Rattle.box_tree.specs.Found.{AreGathered}
 
 pub gathered_none : (Is : ℕ → Type 0) (xs : List ℕ) → ((b : ℕ) → Is b → ⊥) → AreGathered Is xs xs
 gathered_none Is xs none = record { sound = λ b c. inl c; kept = λ b c. c; complete = λ b h. absurd (none b h) }

@@ -1,6 +1,6 @@
 use Rattle.std.proofs.Common.{arith, ◌+◌}
-use Rattle.net_extract.proofs.Walk.{covered_none, covered_more, covered_all, same_number}
-use Rattle.net_extract.proofs.groves.is_spent_inside.Goals as goal
+use Rattle.box_tree.proofs.Walk.{covered_none, covered_more, covered_all, same_number}
+use Rattle.box_tree.proofs.groves.is_spent_inside.Goals as goal
 
 pub loop-next-init : goal.loop-next-init
 loop-next-init c = covered_none c.args.plan.now c.args.spent.now c.args.at c.group_of.result.now c.group_of.ensures c.requires.some

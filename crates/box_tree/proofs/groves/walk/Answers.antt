@@ -1,10 +1,9 @@
 use Rattle.std.proofs.Common.{arith, [], ◌≡◌, ℕ, ◌+◌, ◌<◌, ◌≤◌, Bool, true, None, List, sym, ◌∙◌, subst}
 use Rattle.box_tree.specs.Queries.{Holds}
-use Rattle.graph_search.specs.Search.{mark_of}
-use Rattle.net_extract.specs.Groves.{spot_in, IsRunSpent}
-use Rattle.net_extract.proofs.Walk.{flag_read, spent_barren, walked_past, walked_leaf, walked_into, walked_all, spent_set, run_spent_marked}
-use Rattle.net_extract.proofs.groves.unreached.Goals as goal
-use Rattle.net_extract.proofs.groves.unreached.Goals.{then-index, else-index}
+use Rattle.box_tree.specs.Groves.{IsLeft, IsRunSpent, spot_in}
+use Rattle.box_tree.proofs.Walk.{flag_read, spent_barren, walked_past, walked_leaf, walked_into, walked_all, spent_set, run_spent_visited}
+use Rattle.box_tree.proofs.groves.walk.Goals as goal
+use Rattle.box_tree.proofs.groves.walk.Goals.{then-index, else-index}
 
 pub loop-at-preserved-then-is_passed_over : goal.loop-at-preserved-then-is_passed_over
 loop-at-preserved-then-is_passed_over c =
@@ -16,7 +15,7 @@ loop-at-preserved-then-is_passed_over c =
     let g = c.group_of-group.ensures in
     let inv = c.loop-at.invariant in
     let n = inv.spent.counted in
-    let barren : (p : ℕ) → group.start ≤ p → p < group.start + group.count → Holds query (spot_in plan p) → mark_of marks (spot_in plan p).tag ≡ None → ⊥ = elim c.if-index.branch [
+    let barren : (p : ℕ) → group.start ≤ p → p < group.start + group.count → Holds query (spot_in plan p) → IsLeft marks (spot_in plan p).tag → ⊥ = elim c.if-index.branch [
       | then-index w ↦ spent_barren plan query marks c.loop-at.spent.items at group g inv.spent (flag_read c.loop-at.spent.items at c.index.result.now (omega arith) c.index.ensures w.if-index.true)
       | else-index w ↦
           (let yes : w.is_passed_over.result ≡ true = sym w.value-is ∙ c.if-is_passed_over.true in
@@ -54,7 +53,7 @@ loop-at-preserved c =
     record {
       walked = walked_into plan query marks [] at group c.loop-at.found.items g c.if-group-eq0.false inv.walked;
       spent = spent_set plan marks c.loop-at.spent.items at group c.is_spent_inside.result g
-          (λ t. run_spent_marked plan marks c.loop-at.spent.items at group g inv.spent (subst R c.as_slice.ensures.value (c.is_spent_inside.ensures t))) inv.spent;
+          (λ t. run_spent_visited plan marks c.loop-at.spent.items at group g inv.spent (subst R c.as_slice.ensures.value (c.is_spent_inside.ensures t))) inv.spent;
     }
 
 pub returns-clause-found : goal.returns-clause-found
