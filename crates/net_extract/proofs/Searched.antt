@@ -1,10 +1,5 @@
 -- Searches, as one of their groves is looked through.
 use Rattle.std.proofs.Common.{◌≡◌, ◌⊎◌, ℕ, ◌<◌, All, List, inr, length, sym, ◌∙◌, subst}
-use Rattle.std.specs.Prelude.{ℤ}
-use Rattle.box_tree.specs.declared.query.Query.{Query}
-use Rattle.box_tree.specs.declared.query.Question.TheVariants.{NearOfOther}
-use Rattle.box_tree.specs.Queries.{IsQuery}
-use Rattle.lam_geom.specs.declared.boxes.BoxXY.{BoxXY}
 use Rattle.lam_geom.specs.declared.boxes.MaskLayer.{MaskLayer}
 use Rattle.lam_geom.specs.Places.{IsPlacedBox}
 use Rattle.crossings.specs.declared.crossing.Crossing.{Crossing}
@@ -127,12 +122,7 @@ step_three tech boxes pieces P Q R S net old second third new forth back f g h =
     let QR : ℕ → Type 0 = λ y. Q y ⊎ R y in
     step_two tech boxes pieces P QR S net old second new forth back f (step_two tech boxes pieces Q R QR net second third new (λ y x. x) (λ y x. x) g h)
 
--- ---- which spots and queries
-
-pub near_asked : (area : BoxXY) (reach : ℤ) (owner : ℕ) (query : Query) → query ≡ record { area = area; question = NearOfOther reach owner } → IsPlacedBox area → IsQuery query
-near_asked area reach owner query is placed =
-    let P : Query → Type 0 = IsQuery in
-    subst P (sym is) (record { placed = placed; question = tt })
+-- ---- which spots
 
 -- the tags of boxes' spots are numbers of pieces
 pub box_tags : (tech : Tech) (boxes : List MaskBox) (pieces : List Placed) (layer : MaskLayer) (spots : List Spot) → AreBoxSpots tech boxes pieces layer spots → AreTagsWithin (length pieces) spots

@@ -4,6 +4,7 @@ ghost use Rattle.box_tree.specs.declared.query.Question.TheVariants.{NearOfOther
 ghost use Rattle.box_tree.specs.Queries.{IsQuery};
 ghost use Rattle.crossings.specs.Boxes.{AreSearchable};
 ghost use Rattle.crossings.specs.Spots.{AreBoxesOn};
+ghost use Rattle.lam_geom.specs.Places.{IsPlacedBox};
 ghost use Rattle.lam_geom.specs.declared.boxes.MaskLayer.TheVariants.{NB};
 ghost use Rattle.graph_search.specs.Search.{mark_of, AreReached, IsSpread};
 ghost use Rattle.net_extract.specs.Linking.{AreBeside, IsJoining, IsNode, IsOverCut, cut_node};
@@ -157,7 +158,9 @@ fn visit_cut(
 
 // What lies no farther than so much from an area, and is of another box.
 fn near(area: &BoxXY, reach: i64, owner: u32) -> Query
-    ensures { result ≡ record { area = area.now; question = NearOfOther reach owner } }
+    requires { IsPlacedBox area.now }
+    ensures is { result ≡ record { area = area.now; question = NearOfOther reach owner } }
+    ensures query { IsQuery result }
 {
     Query {
         area: *area,
