@@ -13,10 +13,9 @@ use Rattle.box_tree.specs.declared.query.Question.TheVariants.{NearOfOther}
 use Rattle.box_tree.specs.Queries.{Holds, reach_of}
 use Rattle.lam_geom.specs.declared.boxes.BoxXY.{BoxXY}
 use Rattle.lam_geom.specs.Gaps.{gap_of, gap_of_boxes}
-use Rattle.box_tree.specs.Tree.{IsBounded, IsGroupOf, IsPlacedGroup, begin_of}
+use Rattle.box_tree.specs.Tree.{IsBounded, IsGroupOf, begin_of}
 use Rattle.box_tree.proofs.Trees.{group_here}
 use Rattle.box_tree.proofs.Within.{too_far}
-use Rattle.box_tree.specs.declared.groves.Grove.{Grove}
 use Rattle.box_tree.specs.declared.tree.Plan.{Plan}
 use Rattle.box_tree.specs.Groves.{spot_of, no_group, group_at, spot_in, begin_at, IsRead, IsOf, IsPlan, IsInRun, InSpent, IsLeft, IsRunSpent, IsVisitedAt, IsRunVisited, AreSpent, IsUnvisited, IsUnvisitedWithin}
 use Rattle.box_tree.specs.Found.{AreGathered}

@@ -1,5 +1,5 @@
 -- Which pieces are linked by the areas that they cover, and the nodes of the search: the pieces, and the cuts that join some of them.
-use Rattle.std.specs.Prelude.{◌≡◌, ◌≢◌, ℕ, ◌+◌, ◌<◌, ◌⊎◌, Contains, List, length}
+use Rattle.std.specs.Prelude.{◌≡◌, ◌≢◌, ℕ, ◌+◌, ◌<◌, ◌⊎◌, List, length}
 use Rattle.lam_geom.specs.declared.boxes.MaskBox.{MaskBox}
 use Rattle.lam_geom.specs.declared.boxes.MaskLayer.TheVariants.{NC}
 use Rattle.lam_geom.specs.Gaps.{Touches, Overlaps}

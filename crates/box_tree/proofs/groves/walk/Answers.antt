@@ -1,4 +1,4 @@
-use Rattle.std.proofs.Common.{arith, [], ◌≡◌, ℕ, ◌+◌, ◌<◌, ◌≤◌, Bool, true, None, List, sym, ◌∙◌, subst}
+use Rattle.std.proofs.Common.{arith, [], ◌≡◌, ℕ, ◌+◌, ◌<◌, ◌≤◌, Bool, true, List, sym, ◌∙◌, subst}
 use Rattle.box_tree.specs.Queries.{Holds}
 use Rattle.box_tree.specs.Groves.{IsLeft, IsRunSpent, spot_in}
 use Rattle.box_tree.proofs.Walk.{flag_read, spent_barren, walked_past, walked_leaf, walked_into, walked_all, spent_set, run_spent_visited}

@@ -1,4 +1,4 @@
-use Rattle.std.proofs.Common.{[], ℕ, Option, List, length, refl, sym, subst}
+use Rattle.std.proofs.Common.{[], ℕ, Option, List, length, sym, subst}
 use Rattle.box_tree.specs.Queries.{Holds}
 use Rattle.graph_search.specs.Search.{AreReached}
 use Rattle.box_tree.specs.Groves.{IsOf, IsUnvisited, IsGrove}
