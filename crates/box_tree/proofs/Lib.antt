@@ -2,3 +2,5 @@ pub mod Within
 pub mod Trees
 pub mod Taken
 pub mod Orders
+pub mod Growth
+pub mod Walk

@@ -1,9 +1,15 @@
--- The spots that hold a query.
-use Rattle.std.specs.Prelude.{◌≡◌, ℕ, ◌<◌, ◌≤◌, Contains, List, length, slice_index}
+-- Lists of what is found: numbers with a property, and the spots that hold a query.
+use Rattle.std.specs.Prelude.{◌≡◌, ℕ, ◌<◌, ◌≤◌, ◌⊎◌, Contains, List, length, slice_index}
 use Rattle.box_tree.specs.declared.query.Query.{Query}
 use Rattle.box_tree.specs.declared.spots.Spot.{Spot}
 use Rattle.box_tree.specs.Queries.{HoldsAt}
 use Rattle.box_tree.specs.Tree.{AreDistinct, spot_at}
+
+-- to a list have been added exactly the numbers with a property
+pub record AreGathered (Is : ℕ → Type 0) (old new : List ℕ) : Type 0 where
+  pub sound : (b : ℕ) → Contains new b → Contains old b ⊎ Is b
+  pub kept : (b : ℕ) → Contains old b → Contains new b
+  pub complete : (b : ℕ) → Is b → Contains new b
 
 -- the numbers of the spots that hold a query: all of them, each once, in any order
 pub record AreHolding (spots : List Spot) (query : Query) (found : List ℕ) : Type 0 where

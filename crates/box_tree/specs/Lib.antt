@@ -1,4 +1,5 @@
 pub mod Queries
 pub mod Tree
 pub mod Found
+pub mod Groves
 pub mod Grown

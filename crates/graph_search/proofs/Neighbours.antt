@@ -1,11 +1,15 @@
 -- Lists of neighbours that some links make, and the netting that their numbers are.
-use Rattle.std.proofs.Common.{◌≡◌, ℕ, ◌<◌, List, [], length, get_or, Contains, inl, inr, ◌∙◌, ap, subst, arith}
-use Rattle.std.proofs.lemmas.List.{get_or_past}
+use Rattle.std.proofs.Common.{◌≡◌, ℕ, ◌<◌, Option, List, [], length, get_or, Contains, inl, inr, ◌∙◌, ap, subst, arith}
+use Rattle.std.proofs.lemmas.List.{get_or_past, get_or_read}
+use Rattle.std.proofs.lemmas.List.Elements.{Contains-get_or}
 use Rattle.std.proofs.lemmas.Bool.{cases_lt}
 use Rattle.smallvec.specs.SmallVec.{SmallVec}
 use Rattle.graph_search.specs.Netting.{Attached, IsNetting}
 use Rattle.graph_search.specs.Search.{no_neighbours, neighbours_of, IsBeside, AreMutual, AreNeighbours, AreNumbers}
-use Rattle.graph_search.proofs.Chains.{reaches_weaker, reaches_same}
+use Rattle.graph_search.proofs.Chains.{reaches_one, reaches_weaker, reaches_same}
+use Rattle.graph_search.proofs.Marks.{marked_within}
+use Rattle.graph_search.proofs.Numbering.{IsNumbering, numbering_joined, numbering_same}
+use Rattle.graph_search.proofs.Spreading.{IsSpreading}
 
 -- an empty list has nothing in it
 pub none_in_empty : (k : ℕ) (xs : List ℕ) → xs ≡ [] → Contains xs k → ⊥
@@ -41,3 +45,28 @@ netting_numbers count links lists nets h n =
       same = λ a b la lb r. reaches_same (Attached links) (λ k. get_or nets k 0)
           (λ x y s. (let beside : IsBeside lists x y = h.beside x y s in n.beside x y (beside_within lists x y beside) beside)) a b r;
     }
+
+-- the numbers of all parts, over lists of neighbours
+pub numbers_made : (lists : List (SmallVec ℕ)) (marks : List (Option ℕ)) (nets : List ℕ) (count : ℕ) → AreMutual lists → length nets ≡ length lists
+    → IsNumbering (IsBeside lists) marks nets count → AreNumbers lists nets
+numbers_made lists marks nets count both_ways counted h = record {
+  counted = counted;
+  joined = λ a b la lb e. numbering_joined (IsBeside lists) marks nets count a b h (omega arith) (omega arith) e;
+  beside = λ a b la s. (let lb = both_ways.within a b s in numbering_same (IsBeside lists) marks nets count a b h (omega arith) (omega arith) (reaches_one (IsBeside lists) a b s));
+  in_order = h.in_order;
+}
+
+-- ---- what the code reads
+
+-- a list of neighbours read
+pub read_list : (lists : List (SmallVec ℕ)) (k : ℕ) (list : SmallVec ℕ) → k < length lists → list ≡ get_or lists k list → list.items ≡ neighbours_of lists k
+read_list lists k list lt read = ap (λ (v : SmallVec ℕ). v.items) (get_or_read lists k list lt read no_neighbours)
+
+-- the part of the queue that is next, within the lists
+pub read_queue : (lists : List (SmallVec ℕ)) (start net : ℕ) (old new : List (Option ℕ)) (queue : List ℕ) (passed part : ℕ) → length old ≡ length lists
+    → IsSpreading (IsBeside lists) start net old new queue passed → passed < length queue → part ≡ get_or queue passed part → (part ≡ get_or queue passed 0) × (part < length lists)
+read_queue lists start net old new queue passed part counted s lt read =
+    let e : part ≡ get_or queue passed 0 = get_or_read queue passed part lt read 0 in
+    let w : get_or queue passed 0 < length new = marked_within new (get_or queue passed 0) net (s.queued (get_or queue passed 0) (Contains-get_or queue passed 0 lt)).1 in
+    let c = s.counted in
+    (e, omega arith)

@@ -1,4 +1,4 @@
--- Lists of neighbours, the marks that a search over them leaves, and the numbers that it gives.
+-- Lists of neighbours, the marks that a search over parts leaves, and the numbers that it gives.
 use Rattle.std.specs.Prelude.{◌≡◌, ℕ, ◌+◌, ◌<◌, ◌≤◌, Option, Some, None, is_none, List, [], length, count_by, slice_index, slice_index_or, Contains, ◌⊎◌}
 use Rattle.smallvec.specs.SmallVec.{SmallVec}
 use Rattle.graph_search.specs.Netting.{Attached, Reaches, IsNumberedInOrder}
@@ -42,32 +42,37 @@ unmarked marks = count_by is_none marks
 abbrev pub AreKept : List (Option ℕ) → List (Option ℕ) → Type 0
 AreKept old new = (k net : ℕ) → mark_of old k ≡ Some net → mark_of new k ≡ Some net
 
--- some parts have been looked at: those with no mark, and no others, have been given a net and put at the end of the queue
-pub record AreVisited (parts : List ℕ) (net : ℕ) (old new : List (Option ℕ)) (before after : List ℕ) : Type 0 where
+-- the parts with a property that had no mark, and no others, have been given a net and put at the end of the queue
+pub record AreReached (Is : ℕ → Type 0) (net : ℕ) (old new : List (Option ℕ)) (before after : List ℕ) : Type 0 where
   pub counted : length new ≡ length old
   pub kept : AreKept old new
   pub fresh : (k n : ℕ) → mark_of old k ≡ None → mark_of new k ≡ Some n → (n ≡ net) × Contains after k
-  pub among : (k n : ℕ) → mark_of old k ≡ None → mark_of new k ≡ Some n → Contains parts k
-  pub marked : (k : ℕ) → Contains parts k → IsMarked new k
+  pub among : (k n : ℕ) → mark_of old k ≡ None → mark_of new k ≡ Some n → Is k
+  pub marked : (k : ℕ) → Is k → IsMarked new k
   pub longer : length before ≤ length after
   pub front : (j : ℕ) → j < length before → slice_index after j ≡ slice_index before j
-  pub queued : (k : ℕ) → Contains after k → Contains before k ⊎ ((mark_of old k ≡ None) × (mark_of new k ≡ Some net) × Contains parts k)
+  pub queued : (k : ℕ) → Contains after k → Contains before k ⊎ ((mark_of old k ≡ None) × (mark_of new k ≡ Some net) × Is k)
   pub left : unmarked new + length after ≡ unmarked old + length before
 
+-- the same of the parts of a list
+abbrev pub AreVisited : List ℕ → ℕ → List (Option ℕ) → List (Option ℕ) → List ℕ → List ℕ → Type 0
+AreVisited parts net old new before after = AreReached (Contains parts) net old new before after
+
+-- ---- whole searches, where some parts are beside others
+
 -- all that a part reaches over parts with no mark has been given a net
-pub record IsSpread (lists : List (SmallVec ℕ)) (start net : ℕ) (old new : List (Option ℕ)) : Type 0 where
+pub record IsSpread (Beside : ℕ → ℕ → Type 0) (start net : ℕ) (old new : List (Option ℕ)) : Type 0 where
   pub counted : length new ≡ length old
   pub kept : AreKept old new
-  pub fresh : (k n : ℕ) → mark_of old k ≡ None → mark_of new k ≡ Some n → (n ≡ net) × Reaches (IsBeside lists) start k
+  pub fresh : (k n : ℕ) → mark_of old k ≡ None → mark_of new k ≡ Some n → (n ≡ net) × Reaches Beside start k
   pub begun : mark_of new start ≡ Some net
-  pub closed : (k n b : ℕ) → mark_of old k ≡ None → mark_of new k ≡ Some n → IsBeside lists k b → IsMarked new b
+  pub closed : (k n b : ℕ) → mark_of old k ≡ None → mark_of new k ≡ Some n → Beside k b → IsMarked new b
 
 -- the marks are nets below `next`, each of them whole
-pub record AreWhole (lists : List (SmallVec ℕ)) (next : ℕ) (marks : List (Option ℕ)) : Type 0 where
-  pub counted : length marks ≡ length lists
+pub record AreWhole (Beside : ℕ → ℕ → Type 0) (next : ℕ) (marks : List (Option ℕ)) : Type 0 where
   pub below : (a net : ℕ) → mark_of marks a ≡ Some net → net < next
-  pub joined : (a b net : ℕ) → mark_of marks a ≡ Some net → mark_of marks b ≡ Some net → Reaches (IsBeside lists) a b
-  pub closed : (a b net : ℕ) → mark_of marks a ≡ Some net → IsBeside lists a b → mark_of marks b ≡ Some net
+  pub joined : (a b net : ℕ) → mark_of marks a ≡ Some net → mark_of marks b ≡ Some net → Reaches Beside a b
+  pub closed : (a b net : ℕ) → mark_of marks a ≡ Some net → Beside a b → mark_of marks b ≡ Some net
 
 -- a number for each part: equal ones exactly where neighbours lead from part to part
 pub record AreNumbers (lists : List (SmallVec ℕ)) (nets : List ℕ) : Type 0 where

@@ -2,7 +2,7 @@
 //! Linear in the parts and the lengths of the lists.
 ghost use Rattle.std.specs.Prelude.{◌≡◌, ℕ, ◌+◌, ◌^◌, ◌<◌, ◌≤◌, max, All, None, Some, IfOk, OnOk, length, slice_index_or, List};
 ghost use Rattle.graph_search.specs.Netting.{next_net, IsNetting};
-ghost use Rattle.graph_search.specs.Search.{AreMutual, AreNeighbours, mark_of, AreKept, AreVisited, IsSpread, AreWhole, AreNumbers};
+ghost use Rattle.graph_search.specs.Search.{AreMutual, AreNeighbours, IsBeside, mark_of, AreKept, AreVisited, IsSpread, AreWhole, AreNumbers};
 
 use smallvec::SmallVec;
 use std::alloc::{AllocError, Global};
@@ -40,11 +40,13 @@ fn net_of(
     next: u32,
 ) -> Result<u32, AllocError>
     requires both_ways { AreMutual neighbours.now }
-    requires whole { AreWhole neighbours.now next marks.old.items }
+    requires counted { length marks.old.items ≡ length neighbours.now }
+    requires whole { AreWhole (IsBeside neighbours.now) next marks.old.items }
     requires in_range { part < length neighbours.now }
+    ensures counted { OnOk result (length marks.new.items ≡ length marks.old.items) }
     ensures kept { OnOk result (AreKept marks.old.items marks.new.items) }
     ensures net { IfOk result (λ net. mark_of marks.new.items part ≡ Some net) }
-    ensures whole { IfOk result (λ net. AreWhole neighbours.now (max next (net + 1)) marks.new.items) }
+    ensures whole { IfOk result (λ net. AreWhole (IsBeside neighbours.now) (max next (net + 1)) marks.new.items) }
     ensures below { IfOk result (λ net. net ≤ next) }
 {
     if let Some(net) = marks[part as usize] {
@@ -66,7 +68,7 @@ fn spread(
     requires counted { length marks.old.items ≡ length neighbours.now }
     requires in_range { start < length neighbours.now }
     requires unmarked { mark_of marks.old.items start ≡ None }
-    ensures { OnOk result (IsSpread neighbours.now start net marks.old.items marks.new.items) }
+    ensures { OnOk result (IsSpread (IsBeside neighbours.now) start net marks.old.items marks.new.items) }
 {
     let mut reached = Vec::new(alloc);
     reached.push(start)?;

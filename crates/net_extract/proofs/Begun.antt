@@ -9,10 +9,10 @@ use Rattle.lam_geom.specs.Places.{IsPlacedBox}
 use Rattle.rule_table.specs.declared.technology.Tech.{Tech}
 use Rattle.crossings.specs.declared.crossing.Crossing.{Crossing}
 use Rattle.crossings.specs.Boxes.{AreSearchable, no_box}
-use Rattle.net_extract.specs.declared.groves.Grove.{Grove}
+use Rattle.box_tree.specs.declared.groves.Grove.{Grove}
 use Rattle.net_extract.specs.declared.placing.Placed.{Placed}
 use Rattle.net_extract.specs.declared.reaching.Front.{Front}
-use Rattle.net_extract.specs.Groves.{spot_of, AreTagsWithin, IsNewGrove}
+use Rattle.box_tree.specs.Groves.{spot_of, AreTagsWithin, IsNewGrove}
 use Rattle.net_extract.specs.Pieces.{box_of, no_piece, ArePieces}
 use Rattle.net_extract.specs.Spots.{AreSpots, IsPieceOn, MayBeBuried, piece_spot, box_spot, cut_spot, ArePieceSpots, AreBoxSpots}
 use Rattle.net_extract.specs.CutLists.{AreCrowdedSpots, IsCrowded, IsNewPieceGrove, IsPieceGrove, IsPlanWithin}

@@ -17,7 +17,7 @@ use Rattle.rule_table.specs.Technology.{has_buried_of}
 use Rattle.crossings.specs.declared.crossing.Crossing.{Crossing}
 use Rattle.crossings.specs.Boxes.{IsOn, area_at, layer_at}
 use Rattle.net_extract.specs.declared.placing.Placed.{Placed}
-use Rattle.net_extract.specs.Groves.{spot_of, IsOf}
+use Rattle.box_tree.specs.Groves.{spot_of, IsOf}
 use Rattle.net_extract.specs.Linking.{IsPairWith, IsJoining, IsOverCut, cut_node, AreBeside, IsOver}
 use Rattle.net_extract.specs.Pieces.{box_of, area_of, no_piece, piece_at, IsPiece, ArePieces}
 use Rattle.net_extract.specs.Spots.{IsPieceOn, MayBeBuried, piece_spot, box_spot, cut_spot, AreSpots, ArePieceSpots, AreBoxSpots}

@@ -24,7 +24,7 @@ use Rattle.net_extract.specs.Extraction.{IsOfBox, IsAreaOfPart, IsLowPiece, IsHi
 use Rattle.net_extract.specs.Pieces.{no_piece, box_of, stand_of, Conducts, IsPiece, AreStarts, ArePieces, IsPartOf, IsCursor, diffusion_at}
 use Rattle.net_extract.specs.Placing.{IsOfBoxAt, AreOfBox}
 use Rattle.net_extract.proofs.Areas.{diffusion_read}
-use Rattle.net_extract.proofs.Growth.{below_cases}
+use Rattle.graph_search.proofs.Marks.{below_cases}
 
 -- ---- the crossing of a box
 

@@ -8,17 +8,18 @@ use Rattle.lam_geom.specs.declared.boxes.MaskBox.{MaskBox}
 use Rattle.lam_geom.specs.declared.boxes.MaskLayer.TheVariants.{ND, NP, NC, NM}
 use Rattle.crossings.specs.declared.crossing.Crossing.{Crossing}
 use Rattle.crossings.specs.Boxes.{IsOn, area_at, box_at, layer_at}
-use Rattle.net_extract.specs.declared.groves.Plan.{Plan}
+use Rattle.box_tree.specs.declared.tree.Plan.{Plan}
 use Rattle.net_extract.specs.declared.over.PieceGroves.{PieceGroves}
 use Rattle.net_extract.specs.declared.placing.Placed.{Placed}
 use Rattle.net_extract.specs.CutLists.{AreFound, AreOfTwo, ArePieceGroves, IsListOver, IsOfAny}
-use Rattle.net_extract.specs.Groves.{AreTagsWithin, IsOf, IsPlan, IsUnreached, IsUnreachedWithin}
-use Rattle.net_extract.specs.Linking.{AreGathered, IsJoining, IsOver}
+use Rattle.box_tree.specs.Groves.{AreTagsWithin, IsOf, IsPlan, IsRead, IsUnvisited, IsUnvisitedWithin, begin_at}
+use Rattle.box_tree.specs.Found.{AreGathered}
+use Rattle.net_extract.specs.Linking.{IsJoining, IsOver}
 use Rattle.net_extract.specs.Pieces.{ArePieces}
 use Rattle.net_extract.proofs.Beside.{answers_forth, answers_back, over_forth, over_back, two_joins, joins_two}
 use Rattle.net_extract.proofs.Shown.{over_query}
 use Rattle.net_extract.proofs.Steps.{all_among}
-use Rattle.net_extract.proofs.Walk.{IsRead, IsWalked, begin_at, walked_leaf, walked_all, within_of}
+use Rattle.box_tree.proofs.Walk.{IsWalked, walked_leaf, walked_all, within_of}
 
 -- ---- in one grove
 
@@ -35,7 +36,7 @@ of_within count spots query tags y h = let P : ℕ → Type 0 = λ a. a < count 
 
 -- a leaf, as far as the walk has come
 leaf_walked : (plan : Plan) (query : Query) (at : ℕ) (group : Group) (end : ℕ) (before found new : List ℕ) → IsPlan plan → IsRead plan at group → group.inside ≡ 0 → end ≡ group.start + group.count
-    → AreGathered (IsUnreachedWithin plan query [] group.start end) found new → IsWalked plan query [] before at found → (b : ℕ) → Contains new b → Contains before b ⊎ IsOf plan.spots.items (Holds query) b
+    → AreGathered (IsUnvisitedWithin plan query [] group.start end) found new → IsWalked plan query [] before at found → (b : ℕ) → Contains new b → Contains before b ⊎ IsOf plan.spots.items (Holds query) b
 leaf_walked plan query at group end before found new t g leaf is_end some w b c =
     let walked : IsWalked plan query [] before (at + 1) new = walked_leaf plan query [] before at group end found new g leaf is_end some w in
     let after : begin_at plan (at + 1) ≡ begin_at plan (at + 1 + group.inside) = ap (begin_at plan) (let e : at + 1 ≡ at + 1 + group.inside = omega arith in e) in
@@ -47,14 +48,14 @@ leaf_walked plan query at group end before found new t g leaf is_end some w b c 
     ]
 
 pub leaf_within : (count : ℕ) (plan : Plan) (query : Query) (at : ℕ) (group : Group) (end : ℕ) (before found new given : List ℕ) → given ≡ new → IsPlan plan → AreTagsWithin count plan.spots.items → IsRead plan at group → group.inside ≡ 0
-    → end ≡ group.start + group.count → All (λ a. a < count) before → AreGathered (IsUnreachedWithin plan query [] group.start end) found new → IsWalked plan query [] before at found → All (λ a. a < count) given
+    → end ≡ group.start + group.count → All (λ a. a < count) before → AreGathered (IsUnvisitedWithin plan query [] group.start end) found new → IsWalked plan query [] before at found → All (λ a. a < count) given
 leaf_within count plan query at group end before found new given same t tags g leaf is_end within some w =
     let P : List ℕ → Type 0 = λ xs. All (λ a. a < count) xs in
     subst P (sym same) (all_within (IsOf plan.spots.items (Holds query)) count before new (of_within count plan.spots.items query tags) within (leaf_walked plan query at group end before found new t g leaf is_end some w))
 
 -- enough has been found
 pub found_enough : (pieces : List Placed) (plan : Plan) (query : Query) (at : ℕ) (group : Group) (end : ℕ) (before found new given : List ℕ) → given ≡ new → IsPlan plan → IsRead plan at group → group.inside ≡ 0 → end ≡ group.start + group.count
-    → AreOfTwo pieces given → AreGathered (IsUnreachedWithin plan query [] group.start end) found new → IsWalked plan query [] before at found → AreFound pieces (IsOf plan.spots.items (Holds query)) false before new
+    → AreOfTwo pieces given → AreGathered (IsUnvisitedWithin plan query [] group.start end) found new → IsWalked plan query [] before at found → AreFound pieces (IsOf plan.spots.items (Holds query)) false before new
 found_enough pieces plan query at group end before found new given same t g leaf is_end two some w =
     let P : List ℕ → Type 0 = AreOfTwo pieces in
     record {
@@ -68,11 +69,11 @@ found_enough pieces plan query at group end before found new given same t g leaf
 pub found_all : (pieces : List Placed) (plan : Plan) (query : Query) (at : ℕ) (before found : List ℕ) → IsPlan plan → length plan.groups.items ≤ at → IsWalked plan query [] before at found
     → AreFound pieces (IsOf plan.spots.items (Holds query)) true before found
 found_all pieces plan query at before found t past w =
-    let g : AreGathered (IsUnreached plan.spots.items query []) before found = walked_all plan query [] before at found t past w in
+    let g : AreGathered (IsUnvisited plan.spots.items query []) before found = walked_all plan query [] before at found t past w in
     record {
       sound = λ b c. elim (g.sound b c) [ inl old ↦ inl old | inr h ↦ inr h.of ];
       kept = g.kept;
-      complete = λ _ b h. g.complete b (record { of = h; unmarked = refl });
+      complete = λ _ b h. g.complete b (record { of = h; left = refl });
       two = λ t. absurd (cc);
     }
 

@@ -1,10 +1,7 @@
-pub mod Growth
 pub mod Geometry
 pub mod Areas
 pub mod AllLinks
 pub mod Nodes
-pub mod Spread
-pub mod Walk
 pub mod Shown
 pub mod Steps
 pub mod Beside

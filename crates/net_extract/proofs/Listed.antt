@@ -9,9 +9,11 @@ use Rattle.box_tree.specs.declared.spots.Spot.{Spot}
 use Rattle.lam_geom.specs.declared.boxes.MaskBox.{MaskBox}
 use Rattle.net_extract.specs.declared.placing.Placed.{Placed}
 use Rattle.net_extract.specs.CutLists.{AreChains, AreCrowdedSpots, AreLists, IsCrowded, IsInList, IsLastOf, IsListOver, IsListed, IsListedOver}
-use Rattle.net_extract.specs.Linking.{AreGathered, IsJoining, IsOver}
+use Rattle.box_tree.specs.Found.{AreGathered}
+use Rattle.net_extract.specs.Linking.{IsJoining, IsOver}
 use Rattle.net_extract.specs.Spots.{AreSpots, cut_spot}
-use Rattle.net_extract.proofs.Growth.{below_cases, gathered_more, gathered_none, gathered_push}
+use Rattle.graph_search.proofs.Marks.{below_cases}
+use Rattle.box_tree.proofs.Growth.{gathered_more, gathered_none, gathered_push}
 use Rattle.net_extract.proofs.Shown.{shown_push, shown_skip}
 
 -- ---- one cut after another

@@ -1,30 +1,25 @@
 -- Searches, as one of their groves is looked through.
-use Rattle.std.proofs.Common.{◌≡◌, ◌⊎◌, ℕ, ◌<◌, All, List, length, sym, ◌∙◌, subst}
-use Rattle.std.specs.Prelude.{ℤ}
-use Rattle.box_tree.specs.declared.query.Query.{Query}
-use Rattle.box_tree.specs.declared.query.Question.TheVariants.{NearOfOther}
-use Rattle.box_tree.specs.Queries.{IsQuery}
-use Rattle.lam_geom.specs.declared.boxes.BoxXY.{BoxXY}
+use Rattle.std.proofs.Common.{◌≡◌, ◌⊎◌, ℕ, ◌<◌, All, List, inr, length, sym, ◌∙◌, subst}
 use Rattle.lam_geom.specs.declared.boxes.MaskLayer.{MaskLayer}
 use Rattle.lam_geom.specs.Places.{IsPlacedBox}
 use Rattle.crossings.specs.declared.crossing.Crossing.{Crossing}
 use Rattle.crossings.specs.Boxes.{AreSearchable, area_at, no_box}
 use Rattle.graph_search.specs.Search.{AreKept}
+use Rattle.graph_search.proofs.Marks.{reached_as, reached_more, reached_none}
 use Rattle.box_tree.specs.declared.spots.Spot.{Spot}
 use Rattle.lam_geom.specs.declared.boxes.MaskBox.{MaskBox}
 use Rattle.rule_table.specs.declared.technology.Tech.{Tech}
-use Rattle.net_extract.specs.declared.groves.Grove.{Grove}
-use Rattle.net_extract.specs.declared.groves.Plan.{Plan}
+use Rattle.box_tree.specs.declared.groves.Grove.{Grove}
+use Rattle.box_tree.specs.declared.tree.Plan.{Plan}
 use Rattle.net_extract.specs.declared.placing.Placed.{Placed}
 use Rattle.net_extract.specs.declared.reaching.Front.{Front}
 use Rattle.net_extract.specs.declared.searches.Search.{Search}
-use Rattle.net_extract.specs.Groves.{spot_of, AreTagsWithin}
+use Rattle.box_tree.specs.Groves.{spot_of, AreTagsWithin}
 use Rattle.net_extract.specs.Pieces.{box_of, area_of, no_piece, piece_at, IsPiece, IsOfBoxes, ArePieces}
 use Rattle.net_extract.specs.Spots.{MayBeBuried, box_spot, AreBoxSpots}
 use Rattle.net_extract.specs.Spreading.{IsFrontReached, IsGroveReached, IsGroveOf, IsSearch, IsStep}
 use Rattle.net_extract.proofs.Geometry.{placed_inner}
-use Rattle.net_extract.proofs.Spread.{reached_as, reached_more, reached_none}
-use Rattle.net_extract.proofs.Walk.{grove_kept}
+use Rattle.net_extract.proofs.Steps.{grove_kept}
 
 -- the grove that was looked through
 grown : (Are : List Spot → Type 0) (Is : ℕ → Type 0) (net : ℕ) (grove new : Grove) (old front : Front) → IsGroveReached Is net grove new old front → IsGroveOf Are old grove → IsGroveOf Are front new
@@ -57,7 +52,7 @@ step_diffusion tech boxes pieces Is As net search new front forth back s r =
     let k : IsSearch tech boxes pieces (record search { front = front }) = search_kept tech boxes pieces search front r.reached.counted r.reached.kept s in
     record {
       search = record { counted = k.counted; lists = k.lists; chains = k.chains; diffusion = grown _ Is net search.diffusion new search.front front r s.diffusion; poly = k.poly; metal = k.metal; cuts = k.cuts; under = k.under; over = k.over };
-      reached = reached_as Is As net _ _ _ _ forth back r.reached;
+      reached = reached_as Is As net _ _ _ _ forth (λ y h. inr (back y h)) r.reached;
     }
 
 pub step_poly : (tech : Tech) (boxes : List MaskBox) (pieces : List Placed) (Is As : ℕ → Type 0) (net : ℕ) (search : Search) (new : Grove) (front : Front) → ((y : ℕ) → Is y → As y) → ((y : ℕ) → As y → Is y)
@@ -66,7 +61,7 @@ step_poly tech boxes pieces Is As net search new front forth back s r =
     let k : IsSearch tech boxes pieces (record search { front = front }) = search_kept tech boxes pieces search front r.reached.counted r.reached.kept s in
     record {
       search = record { counted = k.counted; lists = k.lists; chains = k.chains; diffusion = k.diffusion; poly = grown _ Is net search.poly new search.front front r s.poly; metal = k.metal; cuts = k.cuts; under = k.under; over = k.over };
-      reached = reached_as Is As net _ _ _ _ forth back r.reached;
+      reached = reached_as Is As net _ _ _ _ forth (λ y h. inr (back y h)) r.reached;
     }
 
 pub step_metal : (tech : Tech) (boxes : List MaskBox) (pieces : List Placed) (Is As : ℕ → Type 0) (net : ℕ) (search : Search) (new : Grove) (front : Front) → ((y : ℕ) → Is y → As y) → ((y : ℕ) → As y → Is y)
@@ -75,7 +70,7 @@ step_metal tech boxes pieces Is As net search new front forth back s r =
     let k : IsSearch tech boxes pieces (record search { front = front }) = search_kept tech boxes pieces search front r.reached.counted r.reached.kept s in
     record {
       search = record { counted = k.counted; lists = k.lists; chains = k.chains; diffusion = k.diffusion; poly = k.poly; metal = grown _ Is net search.metal new search.front front r s.metal; cuts = k.cuts; under = k.under; over = k.over };
-      reached = reached_as Is As net _ _ _ _ forth back r.reached;
+      reached = reached_as Is As net _ _ _ _ forth (λ y h. inr (back y h)) r.reached;
     }
 
 pub step_cuts : (tech : Tech) (boxes : List MaskBox) (pieces : List Placed) (Is As : ℕ → Type 0) (net : ℕ) (search : Search) (new : Grove) (front : Front) → ((y : ℕ) → Is y → As y) → ((y : ℕ) → As y → Is y)
@@ -84,7 +79,7 @@ step_cuts tech boxes pieces Is As net search new front forth back s r =
     let k : IsSearch tech boxes pieces (record search { front = front }) = search_kept tech boxes pieces search front r.reached.counted r.reached.kept s in
     record {
       search = record { counted = k.counted; lists = k.lists; chains = k.chains; diffusion = k.diffusion; poly = k.poly; metal = k.metal; cuts = grown _ Is net search.cuts new search.front front r s.cuts; under = k.under; over = k.over };
-      reached = reached_as Is As net _ _ _ _ forth back r.reached;
+      reached = reached_as Is As net _ _ _ _ forth (λ y h. inr (back y h)) r.reached;
     }
 
 pub step_under : (tech : Tech) (boxes : List MaskBox) (pieces : List Placed) (Is As : ℕ → Type 0) (net : ℕ) (search : Search) (new : Grove) (front : Front) → ((y : ℕ) → Is y → As y) → ((y : ℕ) → As y → Is y)
@@ -93,7 +88,7 @@ step_under tech boxes pieces Is As net search new front forth back s r =
     let k : IsSearch tech boxes pieces (record search { front = front }) = search_kept tech boxes pieces search front r.reached.counted r.reached.kept s in
     record {
       search = record { counted = k.counted; lists = k.lists; chains = k.chains; diffusion = k.diffusion; poly = k.poly; metal = k.metal; cuts = k.cuts; under = grown _ Is net search.under new search.front front r s.under; over = k.over };
-      reached = reached_as Is As net _ _ _ _ forth back r.reached;
+      reached = reached_as Is As net _ _ _ _ forth (λ y h. inr (back y h)) r.reached;
     }
 
 pub step_over : (tech : Tech) (boxes : List MaskBox) (pieces : List Placed) (Is As : ℕ → Type 0) (net : ℕ) (search : Search) (new : Grove) (front : Front) → ((y : ℕ) → Is y → As y) → ((y : ℕ) → As y → Is y)
@@ -102,7 +97,7 @@ step_over tech boxes pieces Is As net search new front forth back s r =
     let k : IsSearch tech boxes pieces (record search { front = front }) = search_kept tech boxes pieces search front r.reached.counted r.reached.kept s in
     record {
       search = record { counted = k.counted; lists = k.lists; chains = k.chains; diffusion = k.diffusion; poly = k.poly; metal = k.metal; cuts = k.cuts; under = k.under; over = grown _ Is net search.over new search.front front r s.over };
-      reached = reached_as Is As net _ _ _ _ forth back r.reached;
+      reached = reached_as Is As net _ _ _ _ forth (λ y h. inr (back y h)) r.reached;
     }
 
 -- nothing is there to be reached
@@ -127,12 +122,7 @@ step_three tech boxes pieces P Q R S net old second third new forth back f g h =
     let QR : ℕ → Type 0 = λ y. Q y ⊎ R y in
     step_two tech boxes pieces P QR S net old second new forth back f (step_two tech boxes pieces Q R QR net second third new (λ y x. x) (λ y x. x) g h)
 
--- ---- which spots and queries
-
-pub near_asked : (area : BoxXY) (reach : ℤ) (owner : ℕ) (query : Query) → query ≡ record { area = area; question = NearOfOther reach owner } → IsPlacedBox area → IsQuery query
-near_asked area reach owner query is placed =
-    let P : Query → Type 0 = IsQuery in
-    subst P (sym is) (record { placed = placed; question = tt })
+-- ---- which spots
 
 -- the tags of boxes' spots are numbers of pieces
 pub box_tags : (tech : Tech) (boxes : List MaskBox) (pieces : List Placed) (layer : MaskLayer) (spots : List Spot) → AreBoxSpots tech boxes pieces layer spots → AreTagsWithin (length pieces) spots

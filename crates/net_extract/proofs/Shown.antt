@@ -14,10 +14,10 @@ use Rattle.lam_geom.specs.declared.boxes.MaskLayer.TheVariants.{ND, NP, NC, NM, 
 use Rattle.crossings.specs.declared.crossing.Crossing.{Crossing}
 use Rattle.crossings.specs.Boxes.{layer_at, box_at, no_box}
 use Rattle.net_extract.specs.declared.placing.Placed.{Placed}
-use Rattle.net_extract.specs.Groves.{spot_of}
+use Rattle.box_tree.specs.Groves.{spot_of}
 use Rattle.net_extract.specs.Pieces.{Conducts, box_of, no_piece, piece_at, IsPiece, ArePieces}
 use Rattle.net_extract.specs.Spots.{AreSpots}
-use Rattle.net_extract.proofs.Growth.{below_cases}
+use Rattle.graph_search.proofs.Marks.{below_cases}
 
 -- ---- lists that grow
 

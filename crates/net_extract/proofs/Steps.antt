@@ -4,20 +4,18 @@ use Rattle.std.proofs.lemmas.List.Elements.{Contains-get_or}
 use Rattle.box_tree.specs.declared.query.Query.{Query}
 use Rattle.box_tree.specs.declared.spots.Spot.{Spot}
 use Rattle.box_tree.specs.Queries.{Holds}
-use Rattle.graph_search.specs.Search.{AreKept, AreVisited}
-use Rattle.graph_search.proofs.Marks.{mark_cases}
+use Rattle.graph_search.specs.Search.{AreKept, AreReached, AreVisited}
+use Rattle.graph_search.proofs.Marks.{mark_cases, kept_marked, unmarked_before, reached_as, taken_earlier, taken_last, taken_cases}
 use Rattle.lam_geom.specs.declared.boxes.MaskBox.{MaskBox}
 use Rattle.rule_table.specs.declared.technology.Tech.{Tech}
-use Rattle.net_extract.specs.declared.groves.Grove.{Grove}
-use Rattle.net_extract.specs.declared.groves.Plan.{Plan}
+use Rattle.box_tree.specs.declared.groves.Grove.{Grove}
 use Rattle.net_extract.specs.declared.placing.Placed.{Placed}
-use Rattle.net_extract.specs.Groves.{AreTagsWithin, AreSpent, IsGrove, IsOf, IsUnreached}
-use Rattle.net_extract.specs.Linking.{AreGathered, IsPairWith}
+use Rattle.box_tree.specs.Groves.{AreTagsWithin, IsGrove, IsOf, IsUnvisited, spot_in}
+use Rattle.box_tree.specs.Found.{AreGathered}
+use Rattle.net_extract.specs.Linking.{IsPairWith}
 use Rattle.net_extract.specs.Pieces.{box_of}
-use Rattle.net_extract.specs.Spreading.{AreReached, IsBuriedOf, IsOfPair}
-use Rattle.net_extract.proofs.Growth.{gathered_if, taken_earlier, taken_last, taken_cases}
-use Rattle.net_extract.proofs.Spread.{reached_from}
-use Rattle.net_extract.proofs.Walk.{grove_kept}
+use Rattle.net_extract.specs.Spreading.{IsBuriedOf, IsOfPair}
+use Rattle.box_tree.proofs.Growth.{gathered_if}
 
 -- ---- what is found in a grove
 
@@ -41,47 +39,47 @@ gathered_within Is count found given same within g =
 pub gathered_reached : (Is : ℕ → Type 0) (net : ℕ) (old new : List (Option ℕ)) (before after found given : List ℕ) → given ≡ found → AreGathered Is [] found → AreVisited given net old new before after → AreReached Is net old new before after
 gathered_reached Is net old new before after found given same g v =
     let V : List ℕ → Type 0 = λ xs. AreVisited xs net old new before after in
-    reached_from Is found net old new before after (λ y c. found_is Is found y g c) (λ y is. inr (g.complete y is)) (subst V same v)
+    reached_as (Contains found) Is net old new before after (λ y c. found_is Is found y g c) (λ y is. inr (g.complete y is)) (subst V same v)
 
-tag_within : (spots : List Spot) (query : Query) (marks : List (Option ℕ)) (count : ℕ) → AreTagsWithin count spots → (y : ℕ) → IsUnreached spots query marks y → y < count
+tag_within : (spots : List Spot) (query : Query) (marks : List (Option ℕ)) (count : ℕ) → AreTagsWithin count spots → (y : ℕ) → IsUnvisited spots query marks y → y < count
 tag_within spots query marks count tags y h = let P : ℕ → Type 0 = λ x. x < count in subst P h.of.tag (tags h.of.k h.of.among)
 
 -- the nodes of spots within bounds
-pub found_within : (spots : List Spot) (query : Query) (marks : List (Option ℕ)) (count : ℕ) (found given : List ℕ) → given ≡ found → AreTagsWithin count spots → AreGathered (IsUnreached spots query marks) [] found
+pub found_within : (spots : List Spot) (query : Query) (marks : List (Option ℕ)) (count : ℕ) (found given : List ℕ) → given ≡ found → AreTagsWithin count spots → AreGathered (IsUnvisited spots query marks) [] found
     → All (λ y. y < count) given
-found_within spots query marks count found given same tags g = gathered_within (IsUnreached spots query marks) count found given same (tag_within spots query marks count tags) g
+found_within spots query marks count found given same tags g = gathered_within (IsUnvisited spots query marks) count found given same (tag_within spots query marks count tags) g
 
 -- all of them are reached
-pub found_reached : (spots : List Spot) (query : Query) (net : ℕ) (old new : List (Option ℕ)) (before after found given : List ℕ) → given ≡ found → AreGathered (IsUnreached spots query old) [] found
+pub found_reached : (spots : List Spot) (query : Query) (net : ℕ) (old new : List (Option ℕ)) (before after found given : List ℕ) → given ≡ found → AreGathered (IsUnvisited spots query old) [] found
     → AreVisited given net old new before after → AreReached (IsOf spots (Holds query)) net old new before after
 found_reached spots query net old new before after found given same g v =
     let V : List ℕ → Type 0 = λ xs. AreVisited xs net old new before after in
-    reached_from (IsOf spots (Holds query)) found net old new before after (λ y c. (found_is (IsUnreached spots query old) found y g c).of)
-    (λ y of. elim (mark_cases old y) [ inl none ↦ inr (g.complete y (record { of = of; unmarked = none })) | inr m ↦ inl m ])
+    reached_as (Contains found) (IsOf spots (Holds query)) net old new before after (λ y c. (found_is (IsUnvisited spots query old) found y g c).of)
+    (λ y of. elim (mark_cases old y) [ inl none ↦ inr (g.complete y (record { of = of; left = none })) | inr m ↦ inl (kept_marked old new y v.kept m) ])
     (subst V same v)
 
 -- those of which the boxes are buried pairs with a box
 pub buried_reached : (tech : Tech) (boxes : List MaskBox) (pieces : List Placed) (box_no : ℕ) (spots : List Spot) (query : Query) (net : ℕ) (old new : List (Option ℕ)) (before after found looked kept given empty : List ℕ)
-    → looked ≡ found → given ≡ kept → empty ≡ [] → AreGathered (IsUnreached spots query old) [] found → AreGathered (IsOfPair tech boxes pieces box_no looked) empty kept
+    → looked ≡ found → given ≡ kept → empty ≡ [] → AreGathered (IsUnvisited spots query old) [] found → AreGathered (IsOfPair tech boxes pieces box_no looked) empty kept
     → AreVisited given net old new before after → AreReached (IsBuriedOf tech boxes pieces box_no spots query) net old new before after
 buried_reached tech boxes pieces box_no spots query net old new before after found looked kept given empty same_found same_kept none g h v =
     let V : List ℕ → Type 0 = λ xs. AreVisited xs net old new before after in
     let H : List ℕ → Type 0 = λ xs. AreGathered (IsOfPair tech boxes pieces box_no xs) [] kept in
     let E : List ℕ → Type 0 = λ xs. AreGathered (IsOfPair tech boxes pieces box_no looked) xs kept in
     let k : AreGathered (IsOfPair tech boxes pieces box_no found) [] kept = subst H same_found (subst E none h) in
-    reached_from (IsBuriedOf tech boxes pieces box_no spots query) kept net old new before after
+    reached_as (Contains kept) (IsBuriedOf tech boxes pieces box_no spots query) net old new before after
     (λ y c. (let is : IsOfPair tech boxes pieces box_no found y = found_is (IsOfPair tech boxes pieces box_no found) kept y k c in
-    record { of = (found_is (IsUnreached spots query old) found y g is.0).of; pair = is.1 }))
-    (λ y is. elim (mark_cases old y) [ inl none ↦ inr (k.complete y (g.complete y (record { of = is.of; unmarked = none }), is.pair)) | inr m ↦ inl m ])
+    record { of = (found_is (IsUnvisited spots query old) found y g is.0).of; pair = is.1 }))
+    (λ y is. elim (mark_cases old y) [ inl none ↦ inr (k.complete y (g.complete y (record { of = is.of; left = none }), is.pair)) | inr m ↦ inl (kept_marked old new y v.kept m) ])
     (subst V same_kept v)
 
 pub kept_within : (tech : Tech) (boxes : List MaskBox) (pieces : List Placed) (box_no : ℕ) (spots : List Spot) (query : Query) (marks : List (Option ℕ)) (count : ℕ) (found looked kept given empty : List ℕ) → looked ≡ found
-    → given ≡ kept → empty ≡ [] → AreTagsWithin count spots → AreGathered (IsUnreached spots query marks) [] found → AreGathered (IsOfPair tech boxes pieces box_no looked) empty kept → All (λ y. y < count) given
+    → given ≡ kept → empty ≡ [] → AreTagsWithin count spots → AreGathered (IsUnvisited spots query marks) [] found → AreGathered (IsOfPair tech boxes pieces box_no looked) empty kept → All (λ y. y < count) given
 kept_within tech boxes pieces box_no spots query marks count found looked kept given empty same_found same_kept none tags g h =
     let E : List ℕ → Type 0 = λ xs. AreGathered (IsOfPair tech boxes pieces box_no looked) xs kept in
     let H : List ℕ → Type 0 = λ xs. AreGathered (IsOfPair tech boxes pieces box_no xs) [] kept in
     let k : AreGathered (IsOfPair tech boxes pieces box_no found) [] kept = subst H same_found (subst E none h) in
-    gathered_within (IsOfPair tech boxes pieces box_no found) count kept given same_kept (λ y is. tag_within spots query marks count tags y (found_is (IsUnreached spots query marks) found y g is.0)) k
+    gathered_within (IsOfPair tech boxes pieces box_no found) count kept given same_kept (λ y is. tag_within spots query marks count tags y (found_is (IsUnvisited spots query marks) found y g is.0)) k
 
 -- one more of those that were found
 pub pair_more : (tech : Tech) (boxes : List MaskBox) (pieces : List Placed) (box_no : ℕ) (numbers : List ℕ) (i : ℕ) (old middle new : List ℕ) → i < length numbers
@@ -99,8 +97,10 @@ pair_more tech boxes pieces box_no numbers i old middle new lt =
       | inr e ↦ inr (e, subst P e h.1)
     ])
 
--- the grove, with more marks
-pub grove_reached : (old new : List (Option ℕ)) (grove grown : Grove) → IsGrove old grove → grown.plan ≡ grove.plan → AreSpent grove.plan old grown.spent.items → length new ≡ length old → AreKept old new → IsGrove new grown
-grove_reached old new grove grown g plan_is spent counted kept =
-    let P : Plan → Type 0 = λ p. IsGrove old (record { plan = p; spent = grown.spent }) in
-    grove_kept old new grown counted kept (subst P (sym plan_is) (record { plan = g.plan; tags = g.tags; spent = spent }))
+-- a grove, with more marks
+pub grove_kept : (old new : List (Option ℕ)) (grove : Grove) → length new ≡ length old → AreKept old new → IsGrove old grove → IsGrove new grove
+grove_kept old new grove counted kept g = record {
+  plan = g.plan;
+  tags = λ k lt. (let l = g.tags k lt in omega arith);
+  spent = record { counted = g.spent.counted; each = λ p h left. g.spent.each p h (unmarked_before old new (spot_in grove.plan p).tag kept left) };
+}

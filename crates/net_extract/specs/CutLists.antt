@@ -6,11 +6,11 @@ use Rattle.box_tree.specs.Queries.{Holds}
 use Rattle.lam_geom.specs.declared.boxes.MaskBox.{MaskBox}
 use Rattle.lam_geom.specs.declared.boxes.MaskLayer.{MaskLayer}
 use Rattle.lam_geom.specs.declared.boxes.MaskLayer.TheVariants.{ND, NP, NM}
-use Rattle.net_extract.specs.declared.groves.Grove.{Grove}
-use Rattle.net_extract.specs.declared.groves.Plan.{Plan}
+use Rattle.box_tree.specs.declared.groves.Grove.{Grove}
+use Rattle.box_tree.specs.declared.tree.Plan.{Plan}
 use Rattle.net_extract.specs.declared.over.PieceGroves.{PieceGroves}
 use Rattle.net_extract.specs.declared.placing.Placed.{Placed}
-use Rattle.net_extract.specs.Groves.{AreTagsWithin, IsNewGrove, IsOf, IsPlan}
+use Rattle.box_tree.specs.Groves.{AreTagsWithin, IsNewGrove, IsOf, IsPlan}
 use Rattle.net_extract.specs.Linking.{IsJoining, IsOver}
 use Rattle.net_extract.specs.Pieces.{box_of}
 use Rattle.net_extract.specs.Spots.{AreSpots, ArePieceSpots, cut_spot}

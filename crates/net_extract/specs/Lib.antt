@@ -3,7 +3,6 @@ pub mod Netlists
 pub mod Extraction
 pub mod Pieces
 pub mod Linking
-pub mod Groves
 pub mod Spots
 pub mod CutLists
 pub mod Spreading

@@ -1,5 +1,5 @@
 -- Which pieces are linked by the areas that they cover, and the nodes of the search: the pieces, and the cuts that join some of them.
-use Rattle.std.specs.Prelude.{◌≡◌, ◌≢◌, ℕ, ◌+◌, ◌<◌, ◌⊎◌, Contains, List, length}
+use Rattle.std.specs.Prelude.{◌≡◌, ◌≢◌, ℕ, ◌+◌, ◌<◌, ◌⊎◌, List, length}
 use Rattle.lam_geom.specs.declared.boxes.MaskBox.{MaskBox}
 use Rattle.lam_geom.specs.declared.boxes.MaskLayer.TheVariants.{NC}
 use Rattle.lam_geom.specs.Gaps.{Touches, Overlaps}
@@ -8,12 +8,6 @@ use Rattle.crossings.specs.Boxes.{area_at, layer_at, IsOn}
 use Rattle.crossings.specs.Crossings.{IsBuriedPair}
 use Rattle.net_extract.specs.declared.placing.Placed.{Placed}
 use Rattle.net_extract.specs.Pieces.{box_of, area_of}
-
--- to a list have been added exactly the numbers with a property
-pub record AreGathered (Is : ℕ → Type 0) (old new : List ℕ) : Type 0 where
-  pub sound : (b : ℕ) → Contains new b → Contains old b ⊎ Is b
-  pub kept : (b : ℕ) → Contains old b → Contains new b
-  pub complete : (b : ℕ) → Is b → Contains new b
 
 -- ---- kinds of links
 

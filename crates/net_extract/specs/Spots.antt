@@ -7,7 +7,7 @@ use Rattle.rule_table.specs.declared.technology.Tech.{Tech}
 use Rattle.rule_table.specs.Technology.{has_buried_of}
 use Rattle.crossings.specs.Boxes.{area_at, layer_at}
 use Rattle.net_extract.specs.declared.placing.Placed.{Placed}
-use Rattle.net_extract.specs.Groves.{spot_of}
+use Rattle.box_tree.specs.Groves.{spot_of}
 use Rattle.net_extract.specs.Linking.{cut_node}
 use Rattle.net_extract.specs.Pieces.{box_of, area_of}
 

@@ -1,5 +1,5 @@
--- A search over nodes: what one step reaches, what one search reaches, and what all of them leave.
-use Rattle.std.specs.Prelude.{◌≡◌, ℕ, ◌+◌, ◌<◌, ◌≤◌, ◌⊎◌, Option, Some, None, Contains, List, [], ◌∷◌, length, slice_index, slice_set}
+-- A search over nodes: its groves, and what one step reaches.
+use Rattle.std.specs.Prelude.{◌≡◌, ℕ, ◌+◌, ◌<◌, None, Contains, List, length}
 use Rattle.lam_geom.specs.declared.boxes.MaskBox.{MaskBox}
 use Rattle.lam_geom.specs.declared.boxes.MaskLayer.{MaskLayer}
 use Rattle.lam_geom.specs.declared.boxes.MaskLayer.TheVariants.{ND, NP, NM}
@@ -7,13 +7,12 @@ use Rattle.rule_table.specs.declared.technology.Tech.{Tech}
 use Rattle.box_tree.specs.declared.query.Query.{Query}
 use Rattle.box_tree.specs.declared.spots.Spot.{Spot}
 use Rattle.box_tree.specs.Queries.{Answers, Holds}
-use Rattle.graph_search.specs.Netting.{Reaches}
-use Rattle.graph_search.specs.Search.{mark_of, IsMarked, unmarked, AreKept}
-use Rattle.net_extract.specs.declared.groves.Grove.{Grove}
+use Rattle.graph_search.specs.Search.{mark_of, AreReached}
+use Rattle.box_tree.specs.declared.groves.Grove.{Grove}
 use Rattle.net_extract.specs.declared.reaching.Front.{Front}
 use Rattle.net_extract.specs.declared.searches.Search.{Search}
 use Rattle.net_extract.specs.declared.placing.Placed.{Placed}
-use Rattle.net_extract.specs.Groves.{IsGrove, IsOf}
+use Rattle.box_tree.specs.Groves.{IsGrove, IsOf}
 use Rattle.net_extract.specs.Linking.{cut_node, IsPairWith}
 use Rattle.net_extract.specs.Pieces.{box_of}
 use Rattle.net_extract.specs.Spots.{IsPieceOn, piece_spot, cut_spot, ArePieceSpots, AreBoxSpots}
@@ -21,17 +20,7 @@ use Rattle.net_extract.specs.CutLists.{AreLists, AreChains, AreCrowdedSpots, IsC
 
 -- ---- one step
 
--- the nodes with a property that had no mark have been given a net and put at the end of the queue
-pub record AreReached (Is : ℕ → Type 0) (net : ℕ) (old new : List (Option ℕ)) (before after : List ℕ) : Type 0 where
-  pub counted : length new ≡ length old
-  pub kept : AreKept old new
-  pub fresh : (k n : ℕ) → mark_of old k ≡ None → mark_of new k ≡ Some n → (n ≡ net) × Contains after k
-  pub marked : (k : ℕ) → Is k → IsMarked new k
-  pub longer : length before ≤ length after
-  pub front : (j : ℕ) → j < length before → slice_index after j ≡ slice_index before j
-  pub queued : (k : ℕ) → Contains after k → Contains before k ⊎ ((mark_of old k ≡ None) × (mark_of new k ≡ Some net) × Is k)
-  pub left : unmarked new + length after ≡ unmarked old + length before
-
+-- the nodes with a property that had no mark have been given a net and stand in the queue
 abbrev pub IsFrontReached : (ℕ → Type 0) → ℕ → Front → Front → Type 0
 IsFrontReached Is net old new = AreReached Is net old.marks.items new.marks.items old.queue.items new.queue.items
 
@@ -40,11 +29,6 @@ pub record IsGroveReached (Is : ℕ → Type 0) (net : ℕ) (grove grown : Grove
   pub plan : grown.plan ≡ grove.plan
   pub stands : IsGrove new.marks.items grown
   pub reached : IsFrontReached Is net old new
-
--- a search begins at one node
-pub record IsBegun (start net : ℕ) (old new : Front) : Type 0 where
-  pub marks : new.marks.items ≡ slice_set old.marks.items start (Some net)
-  pub queue : new.queue.items ≡ start ∷ []
 
 -- a node of a spot that holds a query, of which the box is a buried pair with this one
 pub record IsBuriedOf (tech : Tech) (boxes : List MaskBox) (pieces : List Placed) (box_no : ℕ) (spots : List Spot) (query : Query) (y : ℕ) : Type 0 where
@@ -104,19 +88,3 @@ pub record IsNewFront (count : ℕ) (front : Front) : Type 0 where
 pub record IsNewSearch (tech : Tech) (boxes : List MaskBox) (pieces : List Placed) (search : Search) : Type 0 where
   pub ready : IsSearch tech boxes pieces search
   pub unmarked : (k : ℕ) → mark_of search.front.marks.items k ≡ None
-
--- ---- whole searches, where some nodes are beside others
-
--- all that a node reaches over nodes with no mark has been given a net
-pub record IsSpread (Beside : ℕ → ℕ → Type 0) (start net : ℕ) (old new : List (Option ℕ)) : Type 0 where
-  pub counted : length new ≡ length old
-  pub kept : AreKept old new
-  pub fresh : (k n : ℕ) → mark_of old k ≡ None → mark_of new k ≡ Some n → (n ≡ net) × Reaches Beside start k
-  pub begun : mark_of new start ≡ Some net
-  pub closed : (k n b : ℕ) → mark_of old k ≡ None → mark_of new k ≡ Some n → Beside k b → IsMarked new b
-
--- the marks are nets below `next`, each of them whole
-pub record AreWhole (Beside : ℕ → ℕ → Type 0) (next : ℕ) (marks : List (Option ℕ)) : Type 0 where
-  pub below : (a net : ℕ) → mark_of marks a ≡ Some net → net < next
-  pub joined : (a b net : ℕ) → mark_of marks a ≡ Some net → mark_of marks b ≡ Some net → Reaches Beside a b
-  pub closed : (a b net : ℕ) → mark_of marks a ≡ Some net → Beside a b → mark_of marks b ≡ Some net

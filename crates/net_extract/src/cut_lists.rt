@@ -2,7 +2,7 @@
 ghost use Rattle.std.specs.Prelude.{◌≡◌, ◌+◌, ◌^◌, ◌<◌, [], All, IfOk, OnOk, length};
 ghost use Rattle.crossings.specs.Boxes.{AreSearchable};
 ghost use Rattle.net_extract.specs.CutLists.{AreChains, AreCrowdedSpots, AreLists, ArePieceGroves, IsListedOver};
-ghost use Rattle.net_extract.specs.Linking.{AreGathered};
+ghost use Rattle.box_tree.specs.Found.{AreGathered};
 ghost use Rattle.net_extract.specs.Pieces.{ArePiecesOf};
 
 use crate::over::{PieceGroves, list_over};

@@ -8,7 +8,6 @@
 mod cut_lists;
 mod devices;
 mod extraction;
-mod groves;
 mod laws;
 mod netlist;
 mod nets;

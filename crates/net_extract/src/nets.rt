@@ -1,7 +1,7 @@
 //! Which pieces are of one net.
 ghost use Rattle.std.specs.Prelude.{◌≡◌, ◌+◌, ◌<◌, ◌≤◌, max, IfOk, OnOk, Some, length};
 ghost use Rattle.graph_search.specs.Netting.{next_net};
-ghost use Rattle.graph_search.specs.Search.{mark_of, AreKept};
+ghost use Rattle.graph_search.specs.Search.{mark_of, AreKept, AreWhole};
 ghost use Rattle.crossings.specs.Boxes.{AreSearchable};
 ghost use Rattle.crossings.specs.Spots.{AreBoxesOn};
 ghost use Rattle.lam_geom.specs.declared.boxes.MaskLayer.TheVariants.{NB};
@@ -11,16 +11,15 @@ ghost use Rattle.net_extract.specs.Linking.{AreBeside};
 ghost use Rattle.net_extract.specs.Pieces.{ArePiecesOf};
 ghost use Rattle.net_extract.specs.CutLists.{IsNewPieceGrove};
 ghost use Rattle.net_extract.specs.Spots.{AreBoxSpots};
-ghost use Rattle.net_extract.specs.Spreading.{IsSearch, IsNewSearch, IsNewFront, AreWhole};
+ghost use Rattle.net_extract.specs.Spreading.{IsSearch, IsNewSearch, IsNewFront};
 
 use crate::cut_lists::{chains_of, cut_lists};
-use crate::groves::{Grove, new_grove};
 use crate::over::PieceGroves;
 use crate::placing::Pieces;
 use crate::reaching::Front;
 use crate::searches::{Search, spread};
 use crate::spots::{box_spots, piece_spots};
-use box_tree::BoxTree;
+use box_tree::{BoxTree, Grove, new_grove};
 use lam_geom::{MaskBox, MaskLayer};
 use rule_table::Tech;
 use std::alloc::{AllocError, Global};

@@ -4,13 +4,13 @@ ghost use Rattle.box_tree.specs.Queries.{Holds, IsQuery};
 ghost use Rattle.crossings.specs.Boxes.{AreSearchable, IsOn};
 ghost use Rattle.lam_geom.specs.declared.boxes.MaskLayer.TheVariants.{NC};
 ghost use Rattle.net_extract.specs.CutLists.{AreFound, AreOfTwo, ArePieceGroves, IsListOver, IsOfAny, IsPlanWithin};
-ghost use Rattle.net_extract.specs.Groves.{IsOf, IsPlan, IsUnreachedWithin};
-ghost use Rattle.net_extract.specs.Linking.{AreGathered, IsOver};
+ghost use Rattle.box_tree.specs.Groves.{IsOf, IsPlan, IsUnvisitedWithin};
+ghost use Rattle.box_tree.specs.Found.{AreGathered};
+ghost use Rattle.net_extract.specs.Linking.{IsOver};
 ghost use Rattle.net_extract.specs.Pieces.{ArePiecesOf};
 
-use crate::groves::{Grove, Plan, is_passed_over};
 use crate::placing::Pieces;
-use box_tree::{Query, Question};
+use box_tree::{Grove, Plan, Query, Question, group_of, is_passed_over};
 use lam_geom::{MaskBox, MaskLayer};
 use std::alloc::AllocError;
 
@@ -119,7 +119,7 @@ fn find_on(
 {
     let mut at = 0;
     while at < plan.groups.len() {
-        let group = &plan.groups[at];
+        let group = group_of(plan, at);
         if is_passed_over(group, query) {
             at += 1 + group.inside as usize;
         } else if group.inside == 0 {
@@ -148,7 +148,7 @@ fn find_within(
     requires plan { IsPlan plan.now }
     requires query { IsQuery query.now }
     requires within { end ≤ length plan.now.order.items }
-    ensures { OnOk result (AreGathered (IsUnreachedWithin plan.now query.now [] first end) found.old.items found.new.items) }
+    ensures { OnOk result (AreGathered (IsUnvisitedWithin plan.now query.now [] first end) found.old.items found.new.items) }
 {
     for place in first..end {
         let spot = &plan.spots[plan.order[place as usize] as usize];

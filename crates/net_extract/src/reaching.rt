@@ -4,14 +4,14 @@ ghost use Rattle.box_tree.specs.Queries.{Holds, IsQuery};
 ghost use Rattle.crossings.specs.Boxes.{AreSearchable};
 ghost use Rattle.crossings.specs.Spots.{AreBoxesOn};
 ghost use Rattle.lam_geom.specs.declared.boxes.MaskLayer.TheVariants.{NB};
-ghost use Rattle.net_extract.specs.Groves.{AreTagsWithin, IsGrove, IsOf};
-ghost use Rattle.net_extract.specs.Linking.{AreGathered, IsPairWith};
+ghost use Rattle.box_tree.specs.Groves.{AreTagsWithin, IsGrove, IsOf};
+ghost use Rattle.box_tree.specs.Found.{AreGathered};
+ghost use Rattle.net_extract.specs.Linking.{IsPairWith};
 ghost use Rattle.net_extract.specs.Pieces.{IsOfBoxes};
 ghost use Rattle.net_extract.specs.Spreading.{IsGroveReached, IsBuriedOf, IsOfPair};
 
-use crate::groves::{Grove, unreached};
 use crate::placing::Placed;
-use box_tree::{BoxTree, Query};
+use box_tree::{BoxTree, Grove, Query};
 use crossings::is_buried;
 use graph_search::visit;
 use lam_geom::MaskBox;
@@ -40,13 +40,7 @@ pub fn reach(
     ensures { OnOk result (IsGroveReached (IsOf grove.old.plan.spots.items (Holds query.now)) net grove.old grove.new front.old front.new) }
 {
     let marks = front.marks.as_slice();
-    unreached(
-        &grove.plan,
-        &mut grove.spent,
-        marks,
-        query,
-        &mut front.found,
-    )?;
+    grove.unvisited(marks, query, &mut front.found)?;
     visit(
         front.found.as_slice(),
         net,
@@ -78,13 +72,7 @@ pub fn reach_buried(
     ensures { OnOk result (IsGroveReached (IsBuriedOf tech.now boxes.now placed.now box_no grove.old.plan.spots.items query.now) net grove.old grove.new front.old front.new) }
 {
     let marks = front.marks.as_slice();
-    unreached(
-        &grove.plan,
-        &mut grove.spent,
-        marks,
-        query,
-        &mut front.found,
-    )?;
+    grove.unvisited(marks, query, &mut front.found)?;
     front.kept.clear();
     keep_buried(
         tech,

@@ -1,20 +1,20 @@
 //! Searches over pieces and cuts: from each node to those that are beside it.
-ghost use Rattle.std.specs.Prelude.{◌≡◌, ◌<◌, OnOk, None, length};
+ghost use Rattle.std.specs.Prelude.{◌≡◌, ◌<◌, OnOk, None, [], length};
 ghost use Rattle.box_tree.specs.declared.query.Question.TheVariants.{NearOfOther};
 ghost use Rattle.box_tree.specs.Queries.{IsQuery};
 ghost use Rattle.crossings.specs.Boxes.{AreSearchable};
 ghost use Rattle.crossings.specs.Spots.{AreBoxesOn};
+ghost use Rattle.lam_geom.specs.Places.{IsPlacedBox};
 ghost use Rattle.lam_geom.specs.declared.boxes.MaskLayer.TheVariants.{NB};
-ghost use Rattle.graph_search.specs.Search.{mark_of};
+ghost use Rattle.graph_search.specs.Search.{mark_of, AreReached, IsSpread};
 ghost use Rattle.net_extract.specs.Linking.{AreBeside, IsJoining, IsNode, IsOverCut, cut_node};
 ghost use Rattle.net_extract.specs.Pieces.{ArePiecesOf, Conducts};
-ghost use Rattle.net_extract.specs.Spreading.{IsSearch, IsStep, IsAnswer, IsPartner, IsSpread, IsBegun};
+ghost use Rattle.net_extract.specs.Spreading.{IsSearch, IsStep, IsAnswer, IsPartner};
 
 use crate::cut_lists::{Chains, CutLists, cuts_of};
-use crate::groves::Grove;
 use crate::placing::Pieces;
 use crate::reaching::{Front, reach, reach_buried};
-use box_tree::{BoxTree, Query, Question};
+use box_tree::{BoxTree, Grove, Query, Question};
 use graph_search::visit;
 use lam_geom::{BoxXY, MaskBox, MaskLayer};
 use rule_table::Tech;
@@ -67,7 +67,8 @@ pub fn spread(
 // Gives a net to the piece from which a search begins.
 fn begin(start: u32, net: u32, front: &mut Front) -> Result<(), AllocError>
     requires in_range { start < length front.old.marks.items }
-    ensures { OnOk result (IsBegun start net front.old front.new) }
+    requires unmarked { mark_of front.old.marks.items start ≡ None }
+    ensures { OnOk result (AreReached (λ k. k ≡ start) net front.old.marks.items front.new.marks.items [] front.new.queue.items) }
 {
     front.queue.clear();
     front.queue.push(start)?;
@@ -157,7 +158,9 @@ fn visit_cut(
 
 // What lies no farther than so much from an area, and is of another box.
 fn near(area: &BoxXY, reach: i64, owner: u32) -> Query
-    ensures { result ≡ record { area = area.now; question = NearOfOther reach owner } }
+    requires { IsPlacedBox area.now }
+    ensures is { result ≡ record { area = area.now; question = NearOfOther reach owner } }
+    ensures query { IsQuery result }
 {
     Query {
         area: *area,

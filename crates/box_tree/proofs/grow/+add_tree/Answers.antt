@@ -1,4 +1,4 @@
-use Rattle.std.proofs.Common.{◌+◌, ◌-◌, ◌/◌, refl, arith}
+use Rattle.std.proofs.Common.{◌-◌, refl, arith}
 use Rattle.box_tree.proofs.Trees.{grown_both}
 use Rattle.box_tree.proofs.grow.+add_tree.Goals as goal
 

@@ -1,7 +1,8 @@
 use Rattle.std.proofs.Common.{ℕ, ◌<◌, List, length, get_or, ◌∙◌, ap, subst, arith, Contains}
 use Rattle.std.proofs.lemmas.List.Elements.{Contains-get_or}
-use Rattle.graph_search.specs.Search.{neighbours_of, AreVisited}
-use Rattle.graph_search.proofs.Marks.{spreading_more, spreading_done, read_list, read_queue}
+use Rattle.graph_search.specs.Search.{neighbours_of, IsBeside, AreVisited}
+use Rattle.graph_search.proofs.Neighbours.{read_list, read_queue}
+use Rattle.graph_search.proofs.Spreading.{spreading_more, spreading_done}
 use Rattle.graph_search.proofs.search.spread.Goals as goal
 
 pub bounds-neighbours-part : goal.bounds-neighbours-part
@@ -28,8 +29,8 @@ loop-passed-preserved c =
     let q = read_queue _ _ _ _ _ _ _ c.index-part.result.now c.requires.counted c.loop-passed.invariant lt c.index-part.ensures in
     let e = c.as_slice.ensures ∙ read_list lists c.index-part.result.now c.index-neighbours-part.result q.1 c.index-neighbours-part.is in
     let P : List ℕ → Type 0 = λ xs. AreVisited xs c.args.net old c.visit.new.marks.items queue c.visit.new.queue.items in
-    spreading_more lists c.args.start c.args.net c.args.marks.now.items old c.visit.new.marks.items queue c.visit.new.queue.items c.loop-passed.passed lt c.loop-passed.invariant
+    spreading_more (IsBeside lists) c.args.start c.args.net c.args.marks.now.items old c.visit.new.marks.items queue c.visit.new.queue.items c.loop-passed.passed lt c.loop-passed.invariant
     (subst P (e ∙ ap (neighbours_of lists) q.0) c.in_ok-visit.ensures)
 
 pub returns : goal.returns
-returns c = spreading_done c.args.neighbours.now c.args.start c.args.net c.args.marks.now.items c.loop-passed.marks.items c.loop-passed.reached.items c.loop-passed.passed (omega arith) c.loop-passed.invariant
+returns c = spreading_done (IsBeside c.args.neighbours.now) c.args.start c.args.net c.args.marks.now.items c.loop-passed.marks.items c.loop-passed.reached.items c.loop-passed.passed (omega arith) c.loop-passed.invariant

@@ -1,37 +1,23 @@
 use Rattle.std.proofs.Common.{arith, [], ◌+◌, length, refl}
 use Rattle.net_extract.proofs.Found.{found_all, found_enough, leaf_within}
-use Rattle.net_extract.proofs.Walk.{IsRead, group_read, walked_past, walked_leaf, walked_into}
+use Rattle.box_tree.proofs.Walk.{walked_past, walked_leaf, walked_into}
 use Rattle.net_extract.proofs.over.find_on.Goals as goal
-
-pub is_passed_over-requires-clause-group : goal.is_passed_over-requires-clause-group
-is_passed_over-requires-clause-group c = (group_read c.args.plan.now c.loop-at.at c.index-group.result.now c.requires.plan.stands (omega arith) c.index-group.ensures).placed
 
 pub loop-at-preserved-then-is_passed_over : goal.loop-at-preserved-then-is_passed_over
 loop-at-preserved-then-is_passed_over c =
     let plan = c.args.plan.now in
     let at = c.loop-at.at in
-    let group = c.index-group.result.now in
-    let g : IsRead plan at group = group_read plan at group c.requires.plan.stands (omega arith) c.index-group.ensures in
+    let group = c.group_of-group.result.now in
+    let g = c.group_of-group.ensures in
     walked_past plan c.args.query.now [] c.args.found.now.items at (at + (1 + group.inside)) group c.loop-at.found.items (omega arith) g
     (λ p low high holds none. c.is_passed_over.ensures c.if-is_passed_over.true _ (g.bounded p low high) holds) c.loop-at.invariant
-
-pub overflow_add-end : goal.overflow_add-end
-overflow_add-end c =
-    let g : IsRead c.args.plan.now c.loop-at.at c.index-group.result.now = group_read c.args.plan.now c.loop-at.at c.index-group.result.now c.requires.plan.stands (omega arith) c.index-group.ensures in
-    let e = g.ends in
-    let n = c.requires.plan.stands.few in
-    let o = c.requires.plan.stands.order_of.counted in
-    omega arith
-
-pub find_within-requires-clause-within : goal.find_within-requires-clause-within
-find_within-requires-clause-within c = (group_read c.args.plan.now c.loop-at.at c.index-group.result.now c.requires.plan.stands (omega arith) c.index-group.ensures).ends
 
 pub is_of_two-requires : goal.is_of_two-requires
 is_of_two-requires c =
     let plan = c.args.plan.now in
     let at = c.loop-at.at in
-    let group = c.index-group.result.now in
-    let g : IsRead plan at group = group_read plan at group c.requires.plan.stands (omega arith) c.index-group.ensures in
+    let group = c.group_of-group.result.now in
+    let g = c.group_of-group.ensures in
     leaf_within (length c.args.pieces.now.placed.items) plan c.args.query.now at group (group.start + group.count) c.args.found.now.items c.loop-at.found.items c.find_within.new.found.items c.as_slice.result.now c.as_slice.ensures.value
     c.requires.plan.stands c.requires.plan.tags g c.if-group-eq0.true refl c.requires.found c.in_ok-find_within.ensures c.loop-at.invariant
 
@@ -39,8 +25,8 @@ pub returns-then-is_of_two : goal.returns-then-is_of_two
 returns-then-is_of_two c =
     let plan = c.args.plan.now in
     let at = c.loop-at.at in
-    let group = c.index-group.result.now in
-    let g : IsRead plan at group = group_read plan at group c.requires.plan.stands (omega arith) c.index-group.ensures in
+    let group = c.group_of-group.result.now in
+    let g = c.group_of-group.ensures in
     found_enough c.args.pieces.now.placed.items plan c.args.query.now at group (group.start + group.count) c.args.found.now.items c.loop-at.found.items c.find_within.new.found.items c.as_slice.result.now c.as_slice.ensures.value
     c.requires.plan.stands g c.if-group-eq0.true refl (c.is_of_two.ensures.0 c.if-is_of_two.true) c.in_ok-find_within.ensures c.loop-at.invariant
 
@@ -48,16 +34,16 @@ pub loop-at-preserved-then-group-eq0 : goal.loop-at-preserved-then-group-eq0
 loop-at-preserved-then-group-eq0 c =
     let plan = c.args.plan.now in
     let at = c.loop-at.at in
-    let group = c.index-group.result.now in
-    let g : IsRead plan at group = group_read plan at group c.requires.plan.stands (omega arith) c.index-group.ensures in
+    let group = c.group_of-group.result.now in
+    let g = c.group_of-group.ensures in
     walked_leaf plan c.args.query.now [] c.args.found.now.items at group (group.start + group.count) c.loop-at.found.items c.find_within.new.found.items g c.if-group-eq0.true refl c.in_ok-find_within.ensures c.loop-at.invariant
 
 pub loop-at-preserved : goal.loop-at-preserved
 loop-at-preserved c =
     let plan = c.args.plan.now in
     let at = c.loop-at.at in
-    let group = c.index-group.result.now in
-    let g : IsRead plan at group = group_read plan at group c.requires.plan.stands (omega arith) c.index-group.ensures in
+    let group = c.group_of-group.result.now in
+    let g = c.group_of-group.ensures in
     walked_into plan c.args.query.now [] c.args.found.now.items at group c.loop-at.found.items g c.if-group-eq0.false c.loop-at.invariant
 
 pub returns : goal.returns

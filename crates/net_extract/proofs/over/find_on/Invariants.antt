@@ -1,5 +1,5 @@
 use Rattle.std.proofs.Common.{◌-◌, [], length}
-use Rattle.net_extract.proofs.Walk.{IsWalked}
+use Rattle.box_tree.proofs.Walk.{IsWalked}
 use Rattle.net_extract.proofs.over.find_on.Given as goal
 
 abbrev pub invariant-loop-at : goal.invariant-loop-at

@@ -2,8 +2,8 @@ use Rattle.std.proofs.Common.{arith, ◌≡◌, ℕ, ◌<◌, Vec, Global, [], l
 use Rattle.std.proofs.lemmas.Bool.{iff_false}
 use Rattle.std.proofs.lemmas.List.{get_or_read}
 use Rattle.box_tree.proofs.Trees.{spot_read}
-use Rattle.net_extract.specs.Groves.{spot_in}
-use Rattle.net_extract.proofs.Walk.{one_within, within_end}
+use Rattle.box_tree.specs.Groves.{spot_in}
+use Rattle.box_tree.proofs.Walk.{one_within, within_end}
 use Rattle.net_extract.proofs.over.find_within.Goals as goal
 use Rattle.net_extract.proofs.over.find_within.Goals.{then-holds+in_ok-push, else-holds}
 

@@ -1,11 +1,11 @@
 use Rattle.std.proofs.Common.{◌≤◌, []}
 use Rattle.std.specs.Prelude.{max}
-use Rattle.net_extract.specs.Linking.{AreGathered}
-use Rattle.net_extract.specs.Groves.{IsUnreachedWithin}
+use Rattle.box_tree.specs.Found.{AreGathered}
+use Rattle.box_tree.specs.Groves.{IsUnvisitedWithin}
 use Rattle.net_extract.proofs.over.find_within.Given as goal
 
 abbrev pub invariant-loop-place : goal.invariant-loop-place
 invariant-loop-place l = record {
   so_far : l.place ≤ max l.first l.end;
-  gathered : AreGathered (IsUnreachedWithin l.plan l.query [] l.first l.place) l.fn.found.items l.found.items;
+  gathered : AreGathered (IsUnvisitedWithin l.plan l.query [] l.first l.place) l.fn.found.items l.found.items;
 }

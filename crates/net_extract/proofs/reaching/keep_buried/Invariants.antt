@@ -1,5 +1,5 @@
 use Rattle.std.proofs.Common.{take}
-use Rattle.net_extract.specs.Linking.{AreGathered}
+use Rattle.box_tree.specs.Found.{AreGathered}
 use Rattle.net_extract.specs.Spreading.{IsOfPair}
 use Rattle.net_extract.proofs.reaching.keep_buried.Given as goal
 

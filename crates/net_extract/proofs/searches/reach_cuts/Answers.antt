@@ -1,29 +1,27 @@
 use Rattle.std.proofs.Common.{arith, ◌≡◌, ℕ, [], length, inl, inr, sym, ◌∙◌, ap, subst}
-use Rattle.std.specs.Prelude.{negsuc}
 use Rattle.std.proofs.lemmas.Result.{on_ok_weaker}
 use Rattle.box_tree.specs.declared.query.Query.{Query}
 use Rattle.box_tree.specs.Queries.{Holds}
 use Rattle.lam_geom.specs.Places.{IsPlacedBox}
 use Rattle.net_extract.specs.declared.placing.Placed.{Placed}
 use Rattle.net_extract.specs.CutLists.{IsListedOver}
-use Rattle.net_extract.specs.Groves.{IsOf}
-use Rattle.net_extract.specs.Linking.{AreGathered, IsOverCut}
-use Rattle.net_extract.specs.Pieces.{area_of, box_of, piece_at}
+use Rattle.box_tree.specs.Groves.{IsOf}
+use Rattle.box_tree.specs.Found.{AreGathered}
+use Rattle.net_extract.specs.Linking.{IsOverCut}
+use Rattle.net_extract.specs.Pieces.{area_of, box_of}
 use Rattle.net_extract.specs.Spreading.{IsCrowdedAnswer}
 use Rattle.net_extract.proofs.Beside.{crowded_forth, crowded_back, crowded_over, listed_over, listed_within, over_cases}
-use Rattle.net_extract.proofs.Searched.{near_asked, piece_placed, step_cuts, step_listed, step_two}
+use Rattle.net_extract.proofs.Searched.{piece_placed, step_cuts, step_listed, step_two}
 use Rattle.net_extract.proofs.Shown.{over_query, piece_read}
 use Rattle.net_extract.proofs.Steps.{gathered_reached, gathered_within}
 use Rattle.net_extract.proofs.searches.reach_cuts.Goals as goal
 
-pub reach-requires-clause-query : goal.reach-requires-clause-query
-reach-requires-clause-query c =
-    let pieces = c.args.pieces.now.placed.items in
-    let piece : Placed = c.index.result.now in
-    let is : piece ≡ piece_at pieces c.args.a = piece_read pieces c.args.a piece c.requires.in_range c.index.ensures in
+pub near-over-requires : goal.near-over-requires
+near-over-requires c =
+    let pieces = c.args.pieces.now in
     let P : Placed → Type 0 = λ p. IsPlacedBox p.area in
-    near_asked piece.area (negsuc 0) piece.box_no c.near-over.result c.near-over.ensures
-    (subst P (sym is) (piece_placed c.args.boxes.now c.args.pieces.now.crossings.items pieces c.args.pieces.now.starts.items c.args.a c.requires.searchable c.requires.pieces c.requires.in_range))
+    subst P (sym (piece_read pieces.placed.items c.args.a c.index.result.now c.requires.in_range c.index.ensures))
+    (piece_placed c.args.boxes.now pieces.crossings.items pieces.placed.items pieces.starts.items c.args.a c.requires.searchable c.requires.pieces c.requires.in_range)
 
 pub visit-requires : goal.visit-requires
 visit-requires c =
@@ -54,7 +52,7 @@ returns c =
     let front = c.reach.new.front in
     let second = record search { cuts = c.reach.new.grove; front = front } in
     let last = record front { marks = c.visit.new.marks; queue = c.visit.new.queue; found = c.cuts_of.new.found } in
-    let is : c.near-over.result ≡ query = c.near-over.ensures ∙ ap (λ (p : Placed). over_query p.area p.box_no) (piece_read pieces a c.index.result.now c.requires.in_range c.index.ensures) in
+    let is : c.near-over.result ≡ query = c.near-over.ensures.is ∙ ap (λ (p : Placed). over_query p.area p.box_no) (piece_read pieces a c.index.result.now c.requires.in_range c.index.ensures) in
     let C : ℕ → Type 0 = IsCrowdedAnswer boxes pieces starts query in
     let L : ℕ → Type 0 = IsListedOver nodes cuts (length pieces) a in
     let same : c.len-count.result ≡ length pieces = omega (arith, c.len-count.ensures, c.args.pieces.now.placed.ok.0) in

@@ -1,5 +1,4 @@
 use Rattle.std.proofs.Common.{◌≡◌, ◌≢◌, List, length, inl, inr, refl, sym, ◌∙◌, ap, subst}
-use Rattle.std.specs.Prelude.{negsuc}
 use Rattle.std.proofs.lemmas.List.{get_or_read}
 use Rattle.std.proofs.lemmas.Result.{on_ok_weaker}
 use Rattle.lam_geom.specs.declared.boxes.MaskBox.{MaskBox}
@@ -7,20 +6,24 @@ use Rattle.lam_geom.specs.declared.boxes.MaskLayer.TheVariants.{ND, NP}
 use Rattle.lam_geom.specs.Places.{IsPlacedBox}
 use Rattle.crossings.specs.Boxes.{area_at, box_at, layer_at, no_box}
 use Rattle.net_extract.specs.declared.placing.Placed.{Placed}
-use Rattle.net_extract.specs.Groves.{AreTagsWithin}
+use Rattle.box_tree.specs.Groves.{AreTagsWithin}
 use Rattle.net_extract.specs.Spreading.{IsBuriedOf, IsGroveReached, IsPartner}
 use Rattle.net_extract.proofs.Beside.{partners_forth, partners_back, no_partner}
 use Rattle.net_extract.proofs.Shown.{over_query}
-use Rattle.net_extract.proofs.Searched.{step_under, step_over, step_none, near_asked, box_tags, all_of_boxes}
+use Rattle.net_extract.proofs.Searched.{step_under, step_over, step_none, box_tags, all_of_boxes}
 use Rattle.net_extract.proofs.searches.reach_partners.Goals as goal
+
+pub near-over-requires : goal.near-over-requires
+near-over-requires c =
+    let boxes = c.args.boxes.now in
+    let P : MaskBox → Type 0 = λ m. IsPlacedBox m.area in
+    subst P (sym (get_or_read boxes c.args.box_no c.index-boxes-box_no.result c.requires.in_range c.index-boxes-box_no.is no_box)) (c.requires.searchable.placed c.args.box_no no_box c.requires.in_range)
 
 pub reach_buried-requires : goal.reach_buried-requires
 reach_buried-requires c =
     let boxes = c.args.boxes.now in
     let pieces = c.args.pieces.now.placed.items in
     let grove = c.args.search.now.under in
-    let read : c.index-boxes-box_no.result ≡ box_at boxes c.args.box_no = get_or_read boxes c.args.box_no c.index-boxes-box_no.result c.requires.in_range c.index-boxes-box_no.is no_box in
-    let P : MaskBox → Type 0 = λ m. IsPlacedBox m.area in
     let T : List Placed → Type 0 = λ ps. AreTagsWithin (length ps) grove.plan.spots.items in
     record {
       searchable = c.requires.searchable;
@@ -29,7 +32,7 @@ reach_buried-requires c =
       box_no = c.requires.in_range;
       grove = c.requires.search.under.stands;
       tags = subst T (sym c.as_slice-placed.ensures.value) (box_tags c.args.tech.now boxes pieces ND grove.plan.spots.items c.requires.search.under.shows);
-      query = near_asked c.index-boxes-box_no.result.area (negsuc 0) c.args.box_no c.near-over.result c.near-over.ensures (subst P (sym read) (c.requires.searchable.placed c.args.box_no no_box c.requires.in_range));
+      query = c.near-over.ensures.query;
     }
 
 pub returns-in-NP : goal.returns-in-NP
@@ -43,7 +46,7 @@ returns-in-NP c =
     let query = c.near-over.result in
     let read : c.index-boxes-box_no.result ≡ box_at boxes box_no = get_or_read boxes box_no c.index-boxes-box_no.result c.requires.in_range c.index-boxes-box_no.is no_box in
     let at : layer_at boxes box_no ≡ NP = sym (ap (λ (m : MaskBox). m.layer) read) ∙ c.in-NP.is in
-    let is : query ≡ over_query (area_at boxes box_no) box_no = c.near-over.ensures ∙ ap (λ (m : MaskBox). over_query m.area box_no) read in
+    let is : query ≡ over_query (area_at boxes box_no) box_no = c.near-over.ensures.is ∙ ap (λ (m : MaskBox). over_query m.area box_no) read in
     let R : List Placed → Type 0 = λ ps. IsGroveReached (IsBuriedOf tech boxes ps box_no spots query) c.args.net search.under c.reach_buried.new.grove search.front c.reach_buried.new.front in
     on_ok_weaker c.reach_buried.result
     (λ r. step_under tech boxes pieces (IsBuriedOf tech boxes pieces box_no spots query) (IsPartner tech boxes pieces box_no) c.args.net search c.reach_buried.new.grove c.reach_buried.new.front
@@ -56,8 +59,6 @@ reach_buried-requires-in-ND c =
     let boxes = c.args.boxes.now in
     let pieces = c.args.pieces.now.placed.items in
     let grove = c.args.search.now.over in
-    let read : c.index-boxes-box_no.result ≡ box_at boxes c.args.box_no = get_or_read boxes c.args.box_no c.index-boxes-box_no.result c.requires.in_range c.index-boxes-box_no.is no_box in
-    let P : MaskBox → Type 0 = λ m. IsPlacedBox m.area in
     let T : List Placed → Type 0 = λ ps. AreTagsWithin (length ps) grove.plan.spots.items in
     record {
       searchable = c.requires.searchable;
@@ -66,7 +67,7 @@ reach_buried-requires-in-ND c =
       box_no = c.requires.in_range;
       grove = c.requires.search.over.stands;
       tags = subst T (sym c.as_slice-placed.ensures.value) (box_tags c.args.tech.now boxes pieces NP grove.plan.spots.items c.requires.search.over.shows);
-      query = near_asked c.index-boxes-box_no.result.area (negsuc 0) c.args.box_no c.near-over.result c.near-over.ensures (subst P (sym read) (c.requires.searchable.placed c.args.box_no no_box c.requires.in_range));
+      query = c.near-over.ensures.query;
     }
 
 pub returns-in-ND : goal.returns-in-ND
@@ -80,7 +81,7 @@ returns-in-ND c =
     let query = c.near-over.result in
     let read : c.index-boxes-box_no.result ≡ box_at boxes box_no = get_or_read boxes box_no c.index-boxes-box_no.result c.requires.in_range c.index-boxes-box_no.is no_box in
     let at : layer_at boxes box_no ≡ ND = sym (ap (λ (m : MaskBox). m.layer) read) ∙ c.in-ND.is in
-    let is : query ≡ over_query (area_at boxes box_no) box_no = c.near-over.ensures ∙ ap (λ (m : MaskBox). over_query m.area box_no) read in
+    let is : query ≡ over_query (area_at boxes box_no) box_no = c.near-over.ensures.is ∙ ap (λ (m : MaskBox). over_query m.area box_no) read in
     let R : List Placed → Type 0 = λ ps. IsGroveReached (IsBuriedOf tech boxes ps box_no spots query) c.args.net search.over c.reach_buried-in-ND.new.grove search.front c.reach_buried-in-ND.new.front in
     on_ok_weaker c.reach_buried-in-ND.result
     (λ r. step_over tech boxes pieces (IsBuriedOf tech boxes pieces box_no spots query) (IsPartner tech boxes pieces box_no) c.args.net search c.reach_buried-in-ND.new.grove c.reach_buried-in-ND.new.front

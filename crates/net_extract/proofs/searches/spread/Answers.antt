@@ -1,10 +1,10 @@
 use Rattle.std.proofs.Common.{arith, ◌≡◌, ℕ, ◌<◌, length, get_or, sym, subst}
 use Rattle.std.proofs.lemmas.List.{get_or_read}
 use Rattle.std.proofs.lemmas.List.Elements.{Contains-get_or}
+use Rattle.graph_search.specs.Search.{AreReached}
+use Rattle.graph_search.proofs.Spreading.{IsSpreading, spreading_begun, spreading_more, spreading_done}
 use Rattle.net_extract.specs.Linking.{AreBeside, IsNode}
-use Rattle.net_extract.specs.Spreading.{AreReached}
 use Rattle.net_extract.proofs.Nodes.{reached_node}
-use Rattle.net_extract.proofs.Spread.{IsSpreading, spreading_begun, spreading_more, spreading_done}
 use Rattle.net_extract.proofs.Searched.{search_kept}
 use Rattle.net_extract.proofs.searches.spread.Goals as goal
 
@@ -12,7 +12,7 @@ pub begin-requires : goal.begin-requires
 begin-requires c =
     let n = c.requires.search.counted in
     let lt = c.requires.in_range in
-    record { in_range = omega arith }
+    record { in_range = omega arith; unmarked = c.requires.unmarked }
 
 pub loop-passed-init : goal.loop-passed-init
 loop-passed-init c =
@@ -21,10 +21,8 @@ loop-passed-init c =
     let pieces = c.args.pieces.now.placed.items in
     let old = c.args.search.now.front.marks.items in
     let new = c.begin.new.front in
-    let n = c.requires.search.counted in
-    let lt = c.requires.in_range in
     let begun : IsSpreading (AreBeside tech boxes pieces) c.args.start c.args.net old new.marks.items new.queue.items 0 =
-    spreading_begun (AreBeside tech boxes pieces) c.args.start c.args.net old new.marks.items new.queue.items (omega arith) c.requires.unmarked c.in_ok-begin.ensures.marks c.in_ok-begin.ensures.queue in
+    spreading_begun (AreBeside tech boxes pieces) c.args.start c.args.net old new.marks.items new.queue.items c.requires.unmarked c.in_ok-begin.ensures in
     record { search = search_kept tech boxes pieces c.args.search.now new begun.counted begun.kept c.requires.search; spreading = begun }
 
 pub visit_node-requires : goal.visit_node-requires

@@ -1,5 +1,4 @@
-use Rattle.std.proofs.Common.{arith, ℕ, ◌+◌, ◌-◌, inr, List, take, drop, ◌≡◌, ◌<◌, length, get_or, sym, ◌∙◌, ap, subst}
-use Rattle.std.specs.Prelude.{negsuc}
+use Rattle.std.proofs.Common.{arith, ℕ, ◌+◌, ◌-◌, Contains, inr, List, take, drop, ◌≡◌, ◌<◌, length, get_or, sym, ◌∙◌, ap, subst}
 use Rattle.std.proofs.lemmas.List.{get_or_default, get_or_read}
 use Rattle.box_tree.specs.declared.query.Query.{Query}
 use Rattle.lam_geom.specs.declared.boxes.BoxXY.{BoxXY}
@@ -8,56 +7,25 @@ use Rattle.lam_geom.specs.declared.boxes.MaskLayer.{MaskLayer}
 use Rattle.lam_geom.specs.declared.boxes.MaskLayer.TheVariants.{ND, NP, NM}
 use Rattle.lam_geom.specs.Places.{IsPlacedBox}
 use Rattle.crossings.specs.Boxes.{area_at, no_box}
+use Rattle.graph_search.proofs.Marks.{reached_as}
 use Rattle.net_extract.specs.declared.searches.Search.{Search}
 use Rattle.net_extract.specs.Linking.{AreBeside, cut_node, IsOver}
 use Rattle.net_extract.specs.Spreading.{IsAnswer, IsStep}
 use Rattle.std.proofs.lemmas.Result.{on_ok_weaker}
 use Rattle.net_extract.proofs.Beside.{beside_over, cut_forth, cut_back, over_beside}
 use Rattle.net_extract.proofs.Listed.{over_part, part_over}
-use Rattle.net_extract.proofs.Spread.{reached_from}
 use Rattle.net_extract.proofs.Steps.{all_among}
 use Rattle.net_extract.proofs.Shown.{over_query}
-use Rattle.net_extract.proofs.Searched.{step_listed, step_three, near_asked}
+use Rattle.net_extract.proofs.Searched.{step_listed, step_three}
 use Rattle.net_extract.proofs.searches.visit_cut.Goals as goal
 
-pub reach_pieces-requires : goal.reach_pieces-requires
-reach_pieces-requires c =
+pub near-over-requires : goal.near-over-requires
+near-over-requires c =
     let boxes = c.args.boxes.now in
     let cut = c.args.cut in
     let among : cut < length boxes = c.requires.joining.2.is_cut.among in
-    let area : (get_or boxes cut c.index-boxes-cut.result).area ≡ area_at boxes cut = ap (λ (m : MaskBox). m.area) (get_or_default boxes cut c.index-boxes-cut.result no_box among) in
-    let P : BoxXY → Type 0 = IsPlacedBox in
-    record {
-      query = near_asked (get_or boxes cut c.index-boxes-cut.result).area (negsuc 0) cut c.near-over.result c.near-over.ensures (subst P (sym area) (c.requires.searchable.placed cut no_box among));
-      conducts = tt;
-      search = c.requires.search;
-    }
-
-pub reach_pieces-requires-2 : goal.reach_pieces-requires-2
-reach_pieces-requires-2 c =
-    let boxes = c.args.boxes.now in
-    let cut = c.args.cut in
-    let among : cut < length boxes = c.requires.joining.2.is_cut.among in
-    let area : (get_or boxes cut c.index-boxes-cut.result).area ≡ area_at boxes cut = ap (λ (m : MaskBox). m.area) (get_or_default boxes cut c.index-boxes-cut.result no_box among) in
-    let P : BoxXY → Type 0 = IsPlacedBox in
-    record {
-      query = near_asked (get_or boxes cut c.index-boxes-cut.result).area (negsuc 0) cut c.near-over.result c.near-over.ensures (subst P (sym area) (c.requires.searchable.placed cut no_box among));
-      conducts = tt;
-      search = c.in_ok-reach_pieces.ensures.search;
-    }
-
-pub reach_pieces-requires-3 : goal.reach_pieces-requires-3
-reach_pieces-requires-3 c =
-    let boxes = c.args.boxes.now in
-    let cut = c.args.cut in
-    let among : cut < length boxes = c.requires.joining.2.is_cut.among in
-    let area : (get_or boxes cut c.index-boxes-cut.result).area ≡ area_at boxes cut = ap (λ (m : MaskBox). m.area) (get_or_default boxes cut c.index-boxes-cut.result no_box among) in
-    let P : BoxXY → Type 0 = IsPlacedBox in
-    record {
-      query = near_asked (get_or boxes cut c.index-boxes-cut.result).area (negsuc 0) cut c.near-over.result c.near-over.ensures (subst P (sym area) (c.requires.searchable.placed cut no_box among));
-      conducts = tt;
-      search = c.in_ok-reach_pieces-2.ensures.search;
-    }
+    let P : MaskBox → Type 0 = λ m. IsPlacedBox m.area in
+    subst P (sym (get_or_default boxes cut c.index-boxes-cut.result no_box among)) (c.requires.searchable.placed cut no_box among)
 
 pub returns : goal.returns
 returns c =
@@ -71,7 +39,7 @@ returns c =
     let crossings = c.args.pieces.now.crossings.items in
     let starts = c.args.pieces.now.starts.items in
     let query = over_query (area_at boxes cut) cut in
-    let is : c.near-over.result ≡ over_query (area_at boxes cut) cut = c.near-over.ensures ∙ ap (λ (s : BoxXY). over_query s cut) area in
+    let is : c.near-over.result ≡ over_query (area_at boxes cut) cut = c.near-over.ensures.is ∙ ap (λ (s : BoxXY). over_query s cut) area in
     let F : MaskLayer → Search → Search → Query → Type 0 = λ layer old new q. IsStep tech boxes pieces (IsAnswer boxes pieces layer q) net old new in
     let first = c.reach_pieces.new.search in
     let second = c.reach_pieces-2.new.search in
@@ -130,7 +98,7 @@ returns-then-first-end c =
     let part = take (c.index-2.result.now - c.index.result.now) (drop c.index.result.now c.deref.result.now) in
     on_ok_weaker c.visit.result
     (λ v. step_listed tech boxes pieces (AreBeside tech boxes pieces (cut_node pieces cut)) net search (record search.front { marks = c.visit.new.marks; queue = c.visit.new.queue }) c.requires.search
-    (reached_from (AreBeside tech boxes pieces (cut_node pieces cut)) part net search.front.marks.items c.visit.new.marks.items search.front.queue.items c.visit.new.queue.items
+    (reached_as (Contains part) (AreBeside tech boxes pieces (cut_node pieces cut)) net search.front.marks.items c.visit.new.marks.items search.front.queue.items c.visit.new.queue.items
     (λ y h. over_beside tech boxes pieces cut c.requires.joining y
     (part_over boxes pieces (length boxes) cut c.index.result.now c.index-2.result.now starts lists.nodes.items lists.cuts.items c.deref.result.now c.deref.ensures.value among first end l y h))
     (λ y h. inr (over_part boxes pieces (length boxes) cut c.index.result.now c.index-2.result.now starts lists.nodes.items lists.cuts.items c.deref.result.now c.deref.ensures.value among first end l c.if-first-end.true y

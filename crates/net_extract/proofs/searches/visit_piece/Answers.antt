@@ -1,4 +1,4 @@
-use Rattle.std.proofs.Common.{◌≡◌, get_or, pos, sym, ◌∙◌, ap, subst}
+use Rattle.std.proofs.Common.{◌≡◌, get_or, sym, ◌∙◌, ap, subst}
 use Rattle.box_tree.specs.declared.query.Query.{Query}
 use Rattle.lam_geom.specs.declared.boxes.MaskBox.{MaskBox}
 use Rattle.lam_geom.specs.declared.boxes.MaskLayer.{MaskLayer}
@@ -10,26 +10,27 @@ use Rattle.net_extract.specs.Pieces.{Conducts, box_of, area_of, no_piece, piece_
 use Rattle.net_extract.specs.Spreading.{IsAnswer, IsPartner, IsStep}
 use Rattle.net_extract.proofs.Beside.{touch_query, piece_forth, piece_back}
 use Rattle.net_extract.proofs.Shown.{piece_read, box_read, in_boxes}
-use Rattle.net_extract.proofs.Searched.{step_three, near_asked, piece_placed}
+use Rattle.net_extract.proofs.Searched.{step_three, piece_placed}
 use Rattle.net_extract.proofs.searches.visit_piece.Goals as goal
 
-pub reach_pieces-requires : goal.reach_pieces-requires
-reach_pieces-requires c =
+pub near-touching-requires : goal.near-touching-requires
+near-touching-requires c =
+    let pieces = c.args.pieces.now in
+    let P : Placed → Type 0 = λ p. IsPlacedBox p.area in
+    subst P (sym (piece_read pieces.placed.items c.args.a c.index.result.now c.requires.in_range c.index.ensures))
+    (piece_placed c.args.boxes.now pieces.crossings.items pieces.placed.items pieces.starts.items c.args.a c.requires.searchable c.requires.pieces c.requires.in_range)
+
+pub reach_pieces-requires-clause-conducts : goal.reach_pieces-requires-clause-conducts
+reach_pieces-requires-clause-conducts c =
     let boxes = c.args.boxes.now in
     let pieces = c.args.pieces.now.placed.items in
     let a = c.args.a in
     let piece : Placed = c.index.result.now in
     let is : piece ≡ piece_at pieces a = piece_read pieces a piece c.requires.in_range c.index.ensures in
-    let crossings = c.args.pieces.now.crossings.items in
-    let starts = c.args.pieces.now.starts.items in
-    let own : get_or boxes piece.box_no c.index-boxes-piece.result ≡ box_at boxes (box_of pieces a) = box_read boxes pieces a piece c.index-boxes-piece.result is (in_boxes boxes crossings pieces starts a piece c.requires.pieces c.requires.in_range is) in
+    let own : get_or boxes piece.box_no c.index-boxes-piece.result ≡ box_at boxes (box_of pieces a) =
+    box_read boxes pieces a piece c.index-boxes-piece.result is (in_boxes boxes c.args.pieces.now.crossings.items pieces c.args.pieces.now.starts.items a piece c.requires.pieces c.requires.in_range is) in
     let C : MaskBox → Type 0 = λ m. Conducts m.layer in
-    let P : Placed → Type 0 = λ p. IsPlacedBox p.area in
-    record {
-      query = near_asked piece.area (pos 0) piece.box_no c.near-touching.result c.near-touching.ensures (subst P (sym is) (piece_placed boxes crossings pieces starts a c.requires.searchable c.requires.pieces c.requires.in_range));
-      conducts = subst C (sym own) (c.requires.pieces.each a no_piece c.requires.in_range).conducts;
-      search = c.requires.search;
-    }
+    subst C (sym own) (c.requires.pieces.each a no_piece c.requires.in_range).conducts
 
 pub reach_partners-requires : goal.reach_partners-requires
 reach_partners-requires c =
@@ -63,7 +64,7 @@ returns c =
     let L : MaskLayer → Type 0 = λ layer. IsStep tech boxes pieces (IsAnswer boxes pieces layer c.near-touching.result) net c.args.search.now first in
     let Q : Query → Type 0 = λ query. IsStep tech boxes pieces (IsAnswer boxes pieces (layer_at boxes (box_of pieces a)) query) net c.args.search.now first in
     let touching : IsStep tech boxes pieces (IsAnswer boxes pieces (layer_at boxes (box_of pieces a)) (touch_query (area_of pieces a) (box_of pieces a))) net c.args.search.now first =
-    subst Q (c.near-touching.ensures ∙ ap (λ (p : Placed). touch_query p.area p.box_no) is) (subst L (ap (λ (m : MaskBox). m.layer) own) c.in_ok-reach_pieces.ensures) in
+    subst Q (c.near-touching.ensures.is ∙ ap (λ (p : Placed). touch_query p.area p.box_no) is) (subst L (ap (λ (m : MaskBox). m.layer) own) c.in_ok-reach_pieces.ensures) in
     let B : Placed → Type 0 = λ p. IsStep tech boxes pieces (IsPartner tech boxes pieces p.box_no) net second c.reach_partners.new.search in
     step_three tech boxes pieces (IsAnswer boxes pieces (layer_at boxes (box_of pieces a)) (touch_query (area_of pieces a) (box_of pieces a))) (IsOverCut boxes pieces a)
     (IsPartner tech boxes pieces (box_of pieces a)) (AreBeside tech boxes pieces a) net c.args.search.now first second c.reach_partners.new.search

@@ -1,10 +1,7 @@
 -- Lists that grow by exactly the numbers with a property.
-use Rattle.std.proofs.Common.{◌≡◌, ℕ, ◌+◌, ◌<◌, List, [], ◌∷◌, ◌++◌, length, take, get_or, Contains, ◌⊎◌, inl, inr, sym, subst, arith}
-use Rattle.std.proofs.lemmas.List.{take_more}
+use Rattle.std.proofs.Common.{◌≡◌, ℕ, List, [], ◌∷◌, ◌++◌, Contains, ◌⊎◌, inl, inr, sym, subst}
 use Rattle.std.proofs.lemmas.List.Elements.{Contains-append_left, Contains-push, Contains-push_cases}
-use Rattle.net_extract.specs.Linking.{AreGathered}
-
--- ---- one list
+use Rattle.box_tree.specs.Found.{AreGathered}
 
 pub gathered_none : (Is : ℕ → Type 0) (xs : List ℕ) → ((b : ℕ) → Is b → ⊥) → AreGathered Is xs xs
 gathered_none Is xs none = record { sound = λ b c. inl c; kept = λ b c. c; complete = λ b h. absurd (none b h) }
@@ -48,22 +45,3 @@ gathered_if P R Here old middle new b forth back case g =
       | inr (not_here, e) ↦ subst F (sym e) (gathered_none Q middle (λ x q. not_here q.1))
     ] in
     gathered_more P Q R old middle new forth back g h
-
--- ---- what the front of a list contains
-
-pub below_cases : (j n : ℕ) → j < n + 1 → (j < n) ⊎ (j ≡ n)
-below_cases j n lt = grind arith
-
-pub taken_earlier : (xs : List ℕ) (i x : ℕ) → i < length xs → Contains (take i xs) x → Contains (take (i + 1) xs) x
-taken_earlier xs i x lt c = let P : List ℕ → Type 0 = λ ys. Contains ys x in subst P (sym (take_more xs i 0 lt)) (Contains-append_left (take i xs) (get_or xs i 0 ∷ []) x c)
-
-pub taken_last : (xs : List ℕ) (i x : ℕ) → i < length xs → x ≡ get_or xs i 0 → Contains (take (i + 1) xs) x
-taken_last xs i x lt e =
-    let P : List ℕ → Type 0 = λ ys. Contains ys x in
-    let Q : ℕ → Type 0 = λ y. Contains (take i xs ++ get_or xs i 0 ∷ []) y in
-    subst P (sym (take_more xs i 0 lt)) (subst Q (sym e) (Contains-push (take i xs) (get_or xs i 0)))
-
-pub taken_cases : (xs : List ℕ) (i x : ℕ) → i < length xs → Contains (take (i + 1) xs) x → Contains (take i xs) x ⊎ (x ≡ get_or xs i 0)
-taken_cases xs i x lt c =
-    let P : List ℕ → Type 0 = λ ys. Contains ys x in
-    elim (Contains-push_cases (take i xs) (get_or xs i 0) x (subst P (take_more xs i 0 lt) c)) [ inl o ↦ inl o | inr e ↦ inr (sym e) ]

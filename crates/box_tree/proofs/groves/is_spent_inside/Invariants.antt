@@ -1,6 +1,6 @@
 use Rattle.std.proofs.Common.{◌-◌}
-use Rattle.net_extract.proofs.Walk.{IsCovered}
-use Rattle.net_extract.proofs.groves.is_spent_inside.Given as goal
+use Rattle.box_tree.proofs.Walk.{IsCovered}
+use Rattle.box_tree.proofs.groves.is_spent_inside.Given as goal
 
 abbrev pub invariant-loop-next : goal.invariant-loop-next
 invariant-loop-next l = IsCovered l.plan l.spent l.at l.next

@@ -1,52 +1,58 @@
-//! Trees of spots from which those that have been reached are left out: as the search goes on, ever fewer groups are walked
-//! through.
+//! Trees of spots from which what has been visited is left out: as a search goes on, ever fewer groups are walked through.
 ghost use Rattle.std.specs.Prelude.{◌≡◌, ◌+◌, ◌<◌, ◌≤◌, ◌<ℤ◌, [], IfOk, IsTrue, OnOk, length};
-ghost use Rattle.box_tree.specs.declared.spots.Group.{Group};
-ghost use Rattle.box_tree.specs.declared.spots.Spot.{Spot};
-ghost use Rattle.box_tree.specs.Queries.{Holds, IsQuery};
-ghost use Rattle.box_tree.specs.Tree.{IsBounded, IsPlacedGroup};
 ghost use Rattle.lam_geom.specs.Gaps.{gap_of};
 ghost use Rattle.lam_geom.specs.Places.{IsPlacedSpan};
-ghost use Rattle.net_extract.specs.Linking.{AreGathered};
-ghost use Rattle.net_extract.specs.Groves.{group_at, IsPlan, AreSpent, AreTagsWithin, IsUnreached, IsUnreachedWithin, IsRunSpent, IsRunMarked, IsNewGrove};
+ghost use Rattle.box_tree.specs.declared.spots.Group.{Group};
+ghost use Rattle.box_tree.specs.declared.spots.Spot.{Spot};
+ghost use Rattle.box_tree.specs.Found.{AreGathered};
+ghost use Rattle.box_tree.specs.Groves.{group_at, IsPlan, AreSpent, AreTagsWithin, IsGrove, IsUnvisited, IsUnvisitedWithin, IsRead, IsRunSpent, IsRunVisited, IsNewGrove};
+ghost use Rattle.box_tree.specs.Queries.{Holds, IsQuery};
+ghost use Rattle.box_tree.specs.Tree.{IsBounded, IsPlacedGroup};
 
-use box_tree::{BoxTree, Group, Query, Question, Spot};
+use crate::query::{Query, Question};
+use crate::spots::{Group, Spot};
+use crate::tree::{BoxTree, Plan};
 use lam_geom::Span;
 use std::alloc::{AllocError, Global};
 
-/// A tree as it stands: its spots, their numbers in the order in which the groups have them, and the groups.
-#[derive(Debug, Drop)]
-pub struct Plan {
-    pub spots: Vec<Spot>,
-    pub order: Vec<u32>,
-    pub groups: Vec<Group>,
-}
-
-/// A tree of spots, of which the tags are numbers of nodes, and of each group whether it is known that all its nodes have been
-/// reached.
+/// A tree of spots, and of each group whether it is known that all its spots have been visited. Which have been is told by marks: a
+/// spot has been visited if its tag has a mark.
 #[derive(Debug, Drop)]
 pub struct Grove {
     pub plan: Plan,
     pub spent: Vec<bool>,
 }
 
-/// A grove of a tree, of which nothing has been reached. Nothing of the tree is copied. The only refusal is want of memory.
+/// A grove of a tree, of which nothing has been visited. Nothing of the tree is copied. The only refusal is want of memory.
 pub fn new_grove(alloc: Global, tree: BoxTree) -> Result<Grove, AllocError>
     ensures { IfOk result (IsNewGrove tree) }
 {
-    let parts = tree.into_parts();
-    let spent = vec![in alloc; false; parts.groups.len()]?;
-    let plan = Plan {
-        spots: parts.spots,
-        order: parts.order,
-        groups: parts.groups,
-    };
+    let plan = tree.into_parts();
+    let spent = vec![in alloc; false; plan.groups.len()]?;
     Ok(Grove { plan, spent })
 }
 
-/// The nodes that have no mark, of spots that hold a query, in place of what was in `found`. The only refusal is want of
-/// memory.
-pub fn unreached(
+impl Grove {
+    /// The tags without a mark of spots that hold a query, in place of what was in `found`. Groups of which all spots have been visited
+    /// are left out. The only refusal is want of memory.
+    pub fn unvisited(
+        &mut self,
+        marks: &[Option<u32>],
+        query: &Query,
+        found: &mut Vec<u32>,
+    ) -> Result<(), AllocError>
+        requires grove { IsGrove marks.now self.old }
+        requires query { IsQuery query.now }
+        ensures plan { self.new.plan ≡ self.old.plan }
+        ensures grove { OnOk result (IsGrove marks.now self.new) }
+        ensures found { OnOk result (AreGathered (IsUnvisited self.old.plan.spots.items query.now marks.now) [] found.new.items) }
+    {
+        walk(&self.plan, &mut self.spent, marks, query, found)
+    }
+}
+
+// The same, of a plan.
+fn walk(
     plan: &Plan,
     spent: &mut Vec<bool>,
     marks: &[Option<u32>],
@@ -57,13 +63,13 @@ pub fn unreached(
     requires tags { AreTagsWithin (length marks.now) plan.now.spots.items }
     requires spent { AreSpent plan.now marks.now spent.old.items }
     requires query { IsQuery query.now }
-    ensures found { OnOk result (AreGathered (IsUnreached plan.now.spots.items query.now marks.now) [] found.new.items) }
+    ensures found { OnOk result (AreGathered (IsUnvisited plan.now.spots.items query.now marks.now) [] found.new.items) }
     ensures spent { OnOk result (AreSpent plan.now marks.now spent.new.items) }
 {
     found.clear();
     let mut at = 0;
     while at < plan.groups.len() {
-        let group = &plan.groups[at];
+        let group = group_of(plan, at);
         if spent[at] || is_passed_over(group, query) {
             at += 1 + group.inside as usize;
         } else if group.inside == 0 {
@@ -76,6 +82,15 @@ pub fn unreached(
         }
     }
     Ok(())
+}
+
+/// The group at a place, of which it is said where its run begins and ends, and what lies in it.
+pub fn group_of(plan: &Plan, at: usize) -> &Group
+    requires plan { IsPlan plan.now }
+    requires among { at < length plan.now.groups.items }
+    ensures { IsRead plan.now at result.now }
+{
+    &plan.groups[at]
 }
 
 /// Whether it is plain that no spot within the bounds of a group holds a query. What lies near is asked in most searches, and is
@@ -102,7 +117,7 @@ fn is_off(outer: Span, span: Span, reach: i64) -> bool
     outer.lo - span.hi > reach || span.lo - outer.hi > reach
 }
 
-// Puts the nodes that have no mark, of spots at some places that hold a query, behind those in `found`. Whether all have one.
+// Puts the tags without a mark of spots at some places that hold a query behind those in `found`. Whether all have one.
 fn look_through(
     plan: &Plan,
     first: u32,
@@ -115,8 +130,8 @@ fn look_through(
     requires tags { AreTagsWithin (length marks.now) plan.now.spots.items }
     requires query { IsQuery query.now }
     requires within { end ≤ length plan.now.order.items }
-    ensures found { OnOk result (AreGathered (IsUnreachedWithin plan.now query.now marks.now first end) found.old.items found.new.items) }
-    ensures all { IfOk result (λ all. IsTrue all → IsRunMarked plan.now marks.now first end) }
+    ensures found { OnOk result (AreGathered (IsUnvisitedWithin plan.now query.now marks.now first end) found.old.items found.new.items) }
+    ensures all { IfOk result (λ all. IsTrue all → IsRunVisited plan.now marks.now first end) }
 {
     let mut all = true;
     for place in first..end {
@@ -131,7 +146,7 @@ fn look_through(
     Ok(all)
 }
 
-// Whether it is known of all groups inside a group that all their nodes have been reached.
+// Whether it is known of all groups inside a group that all their spots have been visited.
 fn is_spent_inside(plan: &Plan, spent: &[bool], at: usize) -> bool
     requires plan { IsPlan plan.now }
     requires among { at < length plan.now.groups.items }
@@ -139,10 +154,10 @@ fn is_spent_inside(plan: &Plan, spent: &[bool], at: usize) -> bool
     requires counted { length spent.now ≡ length plan.now.groups.items }
     ensures { IsTrue result → IsRunSpent plan.now.groups.items spent.now at }
 {
-    let end = at + 1 + plan.groups[at].inside as usize;
+    let end = at + 1 + group_of(plan, at).inside as usize;
     let mut next = at + 1;
     while next < end && spent[next] {
-        next += 1 + plan.groups[next].inside as usize;
+        next += 1 + group_of(plan, next).inside as usize;
     }
     next == end
 }

@@ -1,13 +1,11 @@
-use Rattle.std.proofs.Common.{arith, ◌≡◌, ℕ, ◌<◌, true, false, Vec, Global, length, get_or, inl, inr, sym, ◌∙◌, ap}
+use Rattle.std.proofs.Common.{arith, ◌≡◌, ℕ, ◌<◌, None, true, false, Vec, Global, length, get_or, inl, inr, sym, ◌∙◌, ap}
 use Rattle.std.proofs.lemmas.Bool.{iff_false}
 use Rattle.std.proofs.lemmas.List.{get_or_read}
-use Rattle.std.proofs.lemmas.Option.{none-some}
 use Rattle.box_tree.proofs.Trees.{spot_read}
-use Rattle.graph_search.specs.Search.{mark_of, IsMarked}
-use Rattle.net_extract.specs.Groves.{spot_in}
-use Rattle.net_extract.proofs.Walk.{one_within, none_told, some_told, run_marked_more, within_end}
-use Rattle.net_extract.proofs.groves.look_through.Goals as goal
-use Rattle.net_extract.proofs.groves.look_through.Goals.{then-is_none+then-holds+in_ok-push, then-is_none+else-holds, else-is_none}
+use Rattle.box_tree.specs.Groves.{IsLeft, spot_in}
+use Rattle.box_tree.proofs.Walk.{left_by_test, visited_by_test, one_within, run_visited_more, within_end}
+use Rattle.box_tree.proofs.groves.look_through.Goals as goal
+use Rattle.box_tree.proofs.groves.look_through.Goals.{then-is_none+then-holds+in_ok-push, then-is_none+else-holds, else-is_none}
 
 pub loop-place-preserved : goal.loop-place-preserved
 loop-place-preserved c =
@@ -30,21 +28,21 @@ loop-place-preserved c =
           (elim c.if-is_none.branch [
             | then-is_none+then-holds+in_ok-push w ↦
                 inl (
-                  (w.holds.ensures.0 w.if-holds.true, none_told (mark_of marks spot.tag) c.is_none.result c.is_none.ensures w.if-is_none.true),
+                  (w.holds.ensures.0 w.if-holds.true, left_by_test (get_or marks spot.tag None) c.is_none.result c.is_none.ensures w.if-is_none.true),
                   ap (λ (x : Vec ℕ Global). x.items) w.found-is ∙ w.in_ok-push.ensures.items,
                 )
             | then-is_none+else-holds w ↦ inr (λ h. iff_false w.holds.ensures w.if-holds.false h.0, ap (λ (x : Vec ℕ Global). x.items) w.found-is)
             | else-is_none w ↦
-                (let m : IsMarked marks spot.tag = some_told (mark_of marks spot.tag) c.is_none.result c.is_none.ensures w.if-is_none.false in
-                inr (λ h. none-some m.0 (sym h.1 ∙ m.1), ap (λ (x : Vec ℕ Global). x.items) w.found-is))
+                (let gone : IsLeft marks spot.tag → ⊥ = visited_by_test (get_or marks spot.tag None) c.is_none.result c.is_none.ensures w.if-is_none.false in
+                inr (λ h. gone h.1, ap (λ (x : Vec ℕ Global). x.items) w.found-is))
           ])
           inv.gathered;
       marked = elim c.if-is_none.branch [
         | then-is_none+then-holds+in_ok-push w ↦ (λ all. (let no : false ≡ true = sym w.all-is ∙ all in absurd (cc)))
         | then-is_none+else-holds w ↦ (λ all. (let no : false ≡ true = sym w.all-is ∙ all in absurd (cc)))
         | else-is_none w ↦
-            (let m : IsMarked marks spot.tag = some_told (mark_of marks spot.tag) c.is_none.result c.is_none.ensures w.if-is_none.false in
-            λ all. run_marked_more plan marks first p spot is m (inv.marked (sym w.all-is ∙ all)))
+            (let gone : IsLeft marks spot.tag → ⊥ = visited_by_test (get_or marks spot.tag None) c.is_none.result c.is_none.ensures w.if-is_none.false in
+            λ all. run_visited_more plan marks first p spot is gone (inv.marked (sym w.all-is ∙ all)))
       ];
     }
 

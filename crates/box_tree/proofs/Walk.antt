@@ -5,7 +5,6 @@ use Rattle.std.specs.Int.{int_max}
 use Rattle.std.proofs.lemmas.Int.{ints, clamps}
 use Rattle.std.proofs.lemmas.Bool.{cases_lt, cases_eq, eqb-true}
 use Rattle.std.proofs.lemmas.List.{drop_more, drop_all, drop-drop, get_or_default, get_or_read}
-use Rattle.std.proofs.lemmas.Option.{none-some}
 use Rattle.box_tree.specs.declared.query.Query.{Query}
 use Rattle.box_tree.specs.declared.spots.Group.{Group}
 use Rattle.box_tree.specs.declared.spots.Spot.{Spot}
@@ -14,15 +13,13 @@ use Rattle.box_tree.specs.declared.query.Question.TheVariants.{NearOfOther}
 use Rattle.box_tree.specs.Queries.{Holds, reach_of}
 use Rattle.lam_geom.specs.declared.boxes.BoxXY.{BoxXY}
 use Rattle.lam_geom.specs.Gaps.{gap_of, gap_of_boxes}
-use Rattle.box_tree.specs.Tree.{IsBounded, IsGroupOf, IsPlacedGroup, begin_of}
+use Rattle.box_tree.specs.Tree.{IsBounded, IsGroupOf, begin_of}
 use Rattle.box_tree.proofs.Trees.{group_here}
 use Rattle.box_tree.proofs.Within.{too_far}
-use Rattle.graph_search.specs.Search.{mark_of, IsMarked, AreKept}
-use Rattle.net_extract.specs.declared.groves.Grove.{Grove}
-use Rattle.net_extract.specs.declared.groves.Plan.{Plan}
-use Rattle.net_extract.specs.Groves.{spot_of, no_group, group_at, spot_in, IsOf, IsPlan, IsInRun, InSpent, IsRunSpent, IsMarkedAt, IsRunMarked, AreSpent, IsGrove, IsUnreached, IsUnreachedWithin}
-use Rattle.net_extract.specs.Linking.{AreGathered}
-use Rattle.net_extract.proofs.Growth.{gathered_as, gathered_more, gathered_none, gathered_if, below_cases}
+use Rattle.box_tree.specs.declared.tree.Plan.{Plan}
+use Rattle.box_tree.specs.Groves.{spot_of, no_group, group_at, spot_in, begin_at, IsRead, IsOf, IsPlan, IsInRun, InSpent, IsLeft, IsRunSpent, IsVisitedAt, IsRunVisited, AreSpent, IsUnvisited, IsUnvisitedWithin}
+use Rattle.box_tree.specs.Found.{AreGathered}
+use Rattle.box_tree.proofs.Growth.{gathered_as, gathered_more, gathered_none, gathered_if}
 
 -- ---- tests
 
@@ -33,36 +30,18 @@ not_true false t = refl
 pub flag_read : (spent : List Bool) (at : ℕ) (b : Bool) → at < length spent → b ≡ get_or spent at b → b ≡ true → IsTrue (get_or spent at false)
 flag_read spent at b lt read t = sym (get_or_read spent at b lt read false) ∙ t
 
-pub none_told : (o : Option ℕ) (b : Bool) → is_some o ≡ not b → b ≡ true → o ≡ None
-none_told None b test answer = refl
-none_told (Some n) true test answer = cc
-none_told (Some n) false test answer = cc
+-- a mark that was tested
+pub left_by_test : (o : Option ℕ) (b : Bool) → is_some o ≡ not b → b ≡ true → o ≡ None
+left_by_test None b test answer = refl
+left_by_test (Some n) true test answer = cc
+left_by_test (Some n) false test answer = cc
 
-pub some_told : (o : Option ℕ) (b : Bool) → is_some o ≡ not b → b ≡ false → (n : ℕ) × (o ≡ Some n)
-some_told (Some n) b test answer = (n, refl)
-some_told None true test answer = absurd (cc)
-some_told None false test answer = absurd (cc)
+pub visited_by_test : (o : Option ℕ) (b : Bool) → is_some o ≡ not b → b ≡ false → o ≡ None → ⊥
+visited_by_test o b test answer none = (let e : not b ≡ false = sym test ∙ ap (λ (x : Option ℕ). is_some x) none in cc)
 
 -- ---- where runs begin
 
-abbrev groups_of : Plan → List Group
-groups_of plan = plan.groups.items
-
--- where the run of the group at a place begins, or all end
-abbrev pub begin_at : Plan → ℕ → ℕ
-begin_at plan at = begin_of (drop at plan.groups.items) (length plan.order.items)
-
--- a group that was read: its run, and that of the one behind it
-pub record IsRead (plan : Plan) (at : ℕ) (group : Group) : Type 0 where
-  pub is : group_at plan.groups.items at ≡ group
-  pub placed : IsPlacedGroup group
-  pub begins : begin_at plan at ≡ group.start
-  pub closes : begin_at plan (at + 1 + group.inside) ≡ group.start + group.count
-  pub opens : 0 < group.inside → begin_at plan (at + 1) ≡ group.start
-  pub ends : group.start + group.count ≤ length plan.order.items
-  pub within : at + 1 + group.inside ≤ length plan.groups.items
-  pub bounded : (p : ℕ) → group.start ≤ p → p < group.start + group.count → IsBounded group (spot_in plan p)
-
+-- a group that was read
 pub group_read : (plan : Plan) (at : ℕ) (group : Group) → IsPlan plan → at < length plan.groups.items → group ≡ get_or plan.groups.items at group → IsRead plan at group
 group_read plan at group t lt is =
     let groups = plan.groups.items in
@@ -81,32 +60,32 @@ group_read plan at group t lt is =
       bounded = g.within;
     }
 
--- ---- nodes without a mark, as far as the walk has come
+-- ---- spots that are left, as far as the walk has come
 
 pub record IsWalked (plan : Plan) (query : Query) (marks : List (Option ℕ)) (before : List ℕ) (at : ℕ) (found : List ℕ) : Type 0 where
   pub within : at ≤ length plan.groups.items
-  pub gathered : AreGathered (IsUnreachedWithin plan query marks 0 (begin_at plan at)) before found
+  pub gathered : AreGathered (IsUnvisitedWithin plan query marks 0 (begin_at plan at)) before found
 
 pub walked_none : (plan : Plan) (query : Query) (marks : List (Option ℕ)) (before found : List ℕ) → IsPlan plan → found ≡ before → IsWalked plan query marks before 0 found
 walked_none plan query marks before found t e =
     let f = t.first in
-    let P : List ℕ → Type 0 = λ xs. AreGathered (IsUnreachedWithin plan query marks 0 (begin_at plan 0)) before xs in
-    record { within = omega arith; gathered = subst P (sym e) (gathered_none (IsUnreachedWithin plan query marks 0 (begin_at plan 0)) before (λ y h. (let b = h.before in omega arith))) }
+    let P : List ℕ → Type 0 = λ xs. AreGathered (IsUnvisitedWithin plan query marks 0 (begin_at plan 0)) before xs in
+    record { within = omega arith; gathered = subst P (sym e) (gathered_none (IsUnvisitedWithin plan query marks 0 (begin_at plan 0)) before (λ y h. (let b = h.before in omega arith))) }
 
--- nodes of places up to one more
-more_within : (plan : Plan) (query : Query) (marks : List (Option ℕ)) (first mid end y : ℕ) → mid ≤ end → IsUnreachedWithin plan query marks first mid y → IsUnreachedWithin plan query marks first end y
+-- tags of places up to one more
+more_within : (plan : Plan) (query : Query) (marks : List (Option ℕ)) (first mid end y : ℕ) → mid ≤ end → IsUnvisitedWithin plan query marks first mid y → IsUnvisitedWithin plan query marks first end y
 more_within plan query marks first mid end y le h = record {
   p = h.p;
   from = h.from;
   before = (let b = h.before in omega arith);
   tag = h.tag;
   holds = h.holds;
-  unmarked = h.unmarked;
+  left = h.left;
 }
 
 -- past a group with nothing to be found
 pub walked_past : (plan : Plan) (query : Query) (marks : List (Option ℕ)) (before : List ℕ) (at next : ℕ) (group : Group) (found : List ℕ) → next ≡ at + 1 + group.inside → IsRead plan at group
-    → ((p : ℕ) → group.start ≤ p → p < group.start + group.count → Holds query (spot_in plan p) → mark_of marks (spot_in plan p).tag ≡ None → ⊥)
+    → ((p : ℕ) → group.start ≤ p → p < group.start + group.count → Holds query (spot_in plan p) → IsLeft marks (spot_in plan p).tag → ⊥)
     → IsWalked plan query marks before at found → IsWalked plan query marks before next found
 walked_past plan query marks before at next group found is_next g barren w =
     let here = g.begins in
@@ -114,18 +93,18 @@ walked_past plan query marks before at next group found is_next g barren w =
     let l = g.within in
     record {
       within = omega arith;
-      gathered = gathered_as (IsUnreachedWithin plan query marks 0 (begin_at plan at)) (IsUnreachedWithin plan query marks 0 (begin_at plan next)) before found
+      gathered = gathered_as (IsUnvisitedWithin plan query marks 0 (begin_at plan at)) (IsUnvisitedWithin plan query marks 0 (begin_at plan next)) before found
           (λ y h. more_within plan query marks 0 (begin_at plan at) (begin_at plan next) y (omega arith) h)
           (λ y h. elim (cases_lt h.p group.start) [
-            | inl lt ↦ record { p = h.p; from = h.from; before = omega arith; tag = h.tag; holds = h.holds; unmarked = h.unmarked }
-            | inr ge ↦ (let b = h.before in absurd (barren h.p ge (omega arith) h.holds (ap (mark_of marks) h.tag ∙ h.unmarked)))
+            | inl lt ↦ record { p = h.p; from = h.from; before = omega arith; tag = h.tag; holds = h.holds; left = h.left }
+            | inr ge ↦ (let b = h.before in absurd (barren h.p ge (omega arith) h.holds (subst (IsLeft marks) (sym h.tag) h.left)))
           ])
           w.gathered;
     }
 
 -- past a leaf
 pub walked_leaf : (plan : Plan) (query : Query) (marks : List (Option ℕ)) (before : List ℕ) (at : ℕ) (group : Group) (end : ℕ) (found new : List ℕ) → IsRead plan at group → group.inside ≡ 0 → end ≡ group.start + group.count
-    → AreGathered (IsUnreachedWithin plan query marks group.start end) found new → IsWalked plan query marks before at found → IsWalked plan query marks before (at + 1) new
+    → AreGathered (IsUnvisitedWithin plan query marks group.start end) found new → IsWalked plan query marks before at found → IsWalked plan query marks before (at + 1) new
 walked_leaf plan query marks before at group end found new g leaf is_end some w =
     let here = g.begins in
     let after : begin_at plan (at + 1) ≡ begin_at plan (at + 1 + group.inside) = ap (begin_at plan) (let e : at + 1 ≡ at + 1 + group.inside = omega arith in e) in
@@ -133,14 +112,14 @@ walked_leaf plan query marks before at group end found new g leaf is_end some w 
     let lt = g.within in
     record {
       within = omega arith;
-      gathered = gathered_more (IsUnreachedWithin plan query marks 0 (begin_at plan at)) (IsUnreachedWithin plan query marks group.start end) (IsUnreachedWithin plan query marks 0 (begin_at plan (at + 1))) before found new
+      gathered = gathered_more (IsUnvisitedWithin plan query marks 0 (begin_at plan at)) (IsUnvisitedWithin plan query marks group.start end) (IsUnvisitedWithin plan query marks 0 (begin_at plan (at + 1))) before found new
           (λ y h. elim h [
             | inl before ↦ more_within plan query marks 0 (begin_at plan at) (begin_at plan (at + 1)) y (omega arith) before
-            | inr inside ↦ (let b = inside.before in record { p = inside.p; from = omega arith; before = omega arith; tag = inside.tag; holds = inside.holds; unmarked = inside.unmarked })
+            | inr inside ↦ (let b = inside.before in record { p = inside.p; from = omega arith; before = omega arith; tag = inside.tag; holds = inside.holds; left = inside.left })
           ])
           (λ y h. elim (cases_lt h.p group.start) [
-            | inl lt ↦ inl (record { p = h.p; from = h.from; before = omega arith; tag = h.tag; holds = h.holds; unmarked = h.unmarked })
-            | inr ge ↦ (let b = h.before in inr (record { p = h.p; from = ge; before = omega arith; tag = h.tag; holds = h.holds; unmarked = h.unmarked }))
+            | inl lt ↦ inl (record { p = h.p; from = h.from; before = omega arith; tag = h.tag; holds = h.holds; left = h.left })
+            | inr ge ↦ (let b = h.before in inr (record { p = h.p; from = ge; before = omega arith; tag = h.tag; holds = h.holds; left = h.left }))
           ])
           w.gathered some;
     }
@@ -151,25 +130,25 @@ pub walked_into : (plan : Plan) (query : Query) (marks : List (Option ℕ)) (bef
 walked_into plan query marks before at group found g some w =
     let pos : 0 < group.inside = omega arith in
     let same : begin_at plan at ≡ begin_at plan (at + 1) = g.begins ∙ sym (g.opens pos) in
-    let P : ℕ → Type 0 = λ b. AreGathered (IsUnreachedWithin plan query marks 0 b) before found in
+    let P : ℕ → Type 0 = λ b. AreGathered (IsUnvisitedWithin plan query marks 0 b) before found in
     let l = g.within in
     record { within = omega arith; gathered = subst P same w.gathered }
 
--- a node of a spot at some places
-pub within_of : (plan : Plan) (query : Query) (marks : List (Option ℕ)) (first end y : ℕ) → IsPlan plan → end ≤ length plan.order.items → IsUnreachedWithin plan query marks first end y → IsOf plan.spots.items (Holds query) y
+-- the tag of a spot at some places
+pub within_of : (plan : Plan) (query : Query) (marks : List (Option ℕ)) (first end y : ℕ) → IsPlan plan → end ≤ length plan.order.items → IsUnvisitedWithin plan query marks first end y → IsOf plan.spots.items (Holds query) y
 within_of plan query marks first end y t le h =
     let b = h.before in
     record { k = get_or plan.order.items h.p 0; among = t.order_of.below h.p 0 (omega arith); tag = h.tag; is = h.holds }
 
 -- past all groups
 pub walked_all : (plan : Plan) (query : Query) (marks : List (Option ℕ)) (before : List ℕ) (at : ℕ) (found : List ℕ) → IsPlan plan → length plan.groups.items ≤ at → IsWalked plan query marks before at found
-    → AreGathered (IsUnreached plan.spots.items query marks) before found
+    → AreGathered (IsUnvisited plan.spots.items query marks) before found
 walked_all plan query marks before at found t past w =
     let spots = plan.spots.items in
     let order = plan.order.items in
     let end : begin_at plan at ≡ length order = ap (λ (gs : List Group). begin_of gs (length order)) (drop_all at plan.groups.items past) in
-    gathered_as (IsUnreachedWithin plan query marks 0 (begin_at plan at)) (IsUnreached spots query marks) before found
-    (λ y h. record { of = within_of plan query marks 0 (begin_at plan at) y t (omega arith) h; unmarked = h.unmarked })
+    gathered_as (IsUnvisitedWithin plan query marks 0 (begin_at plan at)) (IsUnvisited spots query marks) before found
+    (λ y h. record { of = within_of plan query marks 0 (begin_at plan at) y t (omega arith) h; left = h.left })
     (λ y h. (let k : ℕ = h.of.k in
     let listed = t.order_of.each k h.of.among in
     let place : ℕ = listed.0 in
@@ -177,55 +156,57 @@ walked_all plan query marks before at found t past w =
     let l = listed.1 in
     let T : ℕ → Type 0 = λ n. (spot_of spots n).tag ≡ y in
     let H : ℕ → Type 0 = λ n. Holds query (spot_of spots n) in
-    record { p = place; from = omega arith; before = omega arith; tag = subst T there h.of.tag; holds = subst H there h.of.is; unmarked = h.unmarked }))
+    record { p = place; from = omega arith; before = omega arith; tag = subst T there h.of.tag; holds = subst H there h.of.is; left = h.left }))
     w.gathered
 
 -- ---- the spots of a leaf
 
-pub none_within : (plan : Plan) (query : Query) (marks : List (Option ℕ)) (first : ℕ) (found : List ℕ) → AreGathered (IsUnreachedWithin plan query marks first first) found found
-none_within plan query marks first found = gathered_none (IsUnreachedWithin plan query marks first first) found (λ y h. (let a = h.from in let b = h.before in omega arith))
+pub none_within : (plan : Plan) (query : Query) (marks : List (Option ℕ)) (first : ℕ) (found : List ℕ) → AreGathered (IsUnvisitedWithin plan query marks first first) found found
+none_within plan query marks first found = gathered_none (IsUnvisitedWithin plan query marks first first) found (λ y h. (let a = h.from in let b = h.before in omega arith))
 
 -- one more spot, which is found or not
 pub one_within : (plan : Plan) (query : Query) (marks : List (Option ℕ)) (first p : ℕ) (spot : Spot) (old middle new : List ℕ) → first ≤ p → spot_in plan p ≡ spot
-    → ((Holds query spot × (mark_of marks spot.tag ≡ None)) × (new ≡ middle ++ spot.tag ∷ [])) ⊎ ((Holds query spot × (mark_of marks spot.tag ≡ None) → ⊥) × (new ≡ middle))
-    → AreGathered (IsUnreachedWithin plan query marks first p) old middle → AreGathered (IsUnreachedWithin plan query marks first (p + 1)) old new
+    → ((Holds query spot × (IsLeft marks spot.tag)) × (new ≡ middle ++ spot.tag ∷ [])) ⊎ ((Holds query spot × (IsLeft marks spot.tag) → ⊥) × (new ≡ middle))
+    → AreGathered (IsUnvisitedWithin plan query marks first p) old middle → AreGathered (IsUnvisitedWithin plan query marks first (p + 1)) old new
 one_within plan query marks first p spot old middle new le is =
-    let H : Spot → Type 0 = λ s. Holds query s × (mark_of marks s.tag ≡ None) in
-    gathered_if (IsUnreachedWithin plan query marks first p) (IsUnreachedWithin plan query marks first (p + 1)) (Holds query spot × (mark_of marks spot.tag ≡ None)) old middle new spot.tag
+    let H : Spot → Type 0 = λ s. Holds query s × (IsLeft marks s.tag) in
+    gathered_if (IsUnvisitedWithin plan query marks first p) (IsUnvisitedWithin plan query marks first (p + 1)) (Holds query spot × (IsLeft marks spot.tag)) old middle new spot.tag
     (λ y h. elim h [
       | inl before ↦ more_within plan query marks first p (p + 1) y (omega arith) before
       | inr here ↦
           (let held : H (spot_in plan p) = subst H (sym is) here.1 in
-          record { p = p; from = le; before = omega arith; tag = ap (λ (s : Spot). s.tag) is ∙ sym here.0; holds = held.0; unmarked = ap (mark_of marks) here.0 ∙ here.1.1 })
+          record { p = p; from = le; before = omega arith; tag = ap (λ (s : Spot). s.tag) is ∙ sym here.0; holds = held.0; left = subst (IsLeft marks) (sym here.0) here.1.1 })
     ])
-    (λ y h. elim (below_cases h.p p h.before) [
-      | inl lt ↦ inl (record { p = h.p; from = h.from; before = lt; tag = h.tag; holds = h.holds; unmarked = h.unmarked })
-      | inr at ↦
-          (let there : spot_in plan h.p ≡ spot = ap (spot_in plan) at ∙ is in
+    (λ y h. elim (cases_lt h.p p) [
+      | inl lt ↦ inl (record { p = h.p; from = h.from; before = lt; tag = h.tag; holds = h.holds; left = h.left })
+      | inr past ↦
+          (let b = h.before in
+          let at : h.p ≡ p = omega arith in
+          let there : spot_in plan h.p ≡ spot = ap (spot_in plan) at ∙ is in
           let tag : y ≡ spot.tag = sym h.tag ∙ ap (λ (s : Spot). s.tag) there in
           let Q : Spot → Type 0 = λ s. Holds query s in
-          inr (tag, (subst Q there h.holds, ap (mark_of marks) (sym tag) ∙ h.unmarked)))
+          inr (tag, (subst Q there h.holds, subst (IsLeft marks) tag h.left)))
     ])
 
--- one more spot with a mark
-pub run_marked_more : (plan : Plan) (marks : List (Option ℕ)) (first p : ℕ) (spot : Spot) → spot_in plan p ≡ spot → IsMarked marks spot.tag → IsRunMarked plan marks first p → IsRunMarked plan marks first (p + 1)
-run_marked_more plan marks first p spot is marked before = λ q le lt. elim (below_cases q p lt) [
+-- one more spot that has been visited
+pub run_visited_more : (plan : Plan) (marks : List (Option ℕ)) (first p : ℕ) (spot : Spot) → spot_in plan p ≡ spot → (IsLeft marks spot.tag → ⊥) → IsRunVisited plan marks first p → IsRunVisited plan marks first (p + 1)
+run_visited_more plan marks first p spot is visited before = λ q le lt. elim (cases_lt q p) [
   | inl below ↦ before q le below
-  | inr at ↦ (let P : Spot → Type 0 = λ s. IsMarked marks s.tag in subst P (sym (ap (spot_in plan) at ∙ is)) marked)
+  | inr past ↦ (let P : Spot → Type 0 = λ s. IsLeft marks s.tag → ⊥ in let at : q ≡ p = omega arith in subst P (sym (ap (spot_in plan) at ∙ is)) visited)
 ]
 
 pub within_end : (plan : Plan) (query : Query) (marks : List (Option ℕ)) (first p end : ℕ) (old new : List ℕ) → p ≤ max first end → end ≤ p
-    → AreGathered (IsUnreachedWithin plan query marks first p) old new → AreGathered (IsUnreachedWithin plan query marks first end) old new
+    → AreGathered (IsUnvisitedWithin plan query marks first p) old new → AreGathered (IsUnvisitedWithin plan query marks first end) old new
 within_end plan query marks first p end old new so_far past =
-    gathered_as (IsUnreachedWithin plan query marks first p) (IsUnreachedWithin plan query marks first end) old new
-    (λ y h. (let a = h.from in let b = h.before in record { p = h.p; from = h.from; before = omega arith; tag = h.tag; holds = h.holds; unmarked = h.unmarked }))
+    gathered_as (IsUnvisitedWithin plan query marks first p) (IsUnvisitedWithin plan query marks first end) old new
+    (λ y h. (let a = h.from in let b = h.before in record { p = h.p; from = h.from; before = omega arith; tag = h.tag; holds = h.holds; left = h.left }))
     (λ y h. more_within plan query marks first end p y past h)
 
 -- ---- groups that are spent
 
--- a group of which it is told whether all its nodes are marked
+-- a group of which it is told whether all its spots have been visited
 pub spent_set : (plan : Plan) (marks : List (Option ℕ)) (spent : List Bool) (at : ℕ) (group : Group) (all : Bool) → IsRead plan at group
-    → (IsTrue all → IsRunMarked plan marks group.start (group.start + group.count)) → AreSpent plan marks spent → AreSpent plan marks (set spent at all)
+    → (IsTrue all → IsRunVisited plan marks group.start (group.start + group.count)) → AreSpent plan marks spent → AreSpent plan marks (set spent at all)
 spent_set plan marks spent at group all g marked s =
     let n = s.counted in
     let w = g.within in
@@ -245,13 +226,13 @@ spent_set plan marks spent at group all g marked s =
       ];
     }
 
--- a group that is spent has no node without a mark
+-- a group that is spent has no spot that is left
 pub spent_barren : (plan : Plan) (query : Query) (marks : List (Option ℕ)) (spent : List Bool) (at : ℕ) (group : Group) → IsRead plan at group → AreSpent plan marks spent → IsTrue (get_or spent at false)
-    → (p : ℕ) → group.start ≤ p → p < group.start + group.count → Holds query (spot_in plan p) → mark_of marks (spot_in plan p).tag ≡ None → ⊥
+    → (p : ℕ) → group.start ≤ p → p < group.start + group.count → Holds query (spot_in plan p) → IsLeft marks (spot_in plan p).tag → ⊥
 spent_barren plan query marks spent at group g s flagged = λ p low high _ none.
     let R : Group → Type 0 = λ x. IsInRun x p in
-    let m : IsMarkedAt plan marks p = s.each p (record { g = at; flagged = flagged; in_run = subst R (sym g.is) (low, high) }) in
-    none-some m.0 (sym none ∙ m.1)
+    let m : IsVisitedAt plan marks p = s.each p (record { g = at; flagged = flagged; in_run = subst R (sym g.is) (low, high) }) in
+    m none
 
 -- the places of a group up to the run of the next one inside it are in groups that are spent
 pub record IsCovered (plan : Plan) (spent : List Bool) (at next : ℕ) : Type 0 where
@@ -288,22 +269,12 @@ covered_all plan spent at next group g e h =
     let n : (group_at plan.groups.items at).count ≡ group.count = ap (λ (x : Group). x.count) g.is in
     λ p run. (let low = run.0 in let high = run.1 in h.covered p run.0 (omega arith))
 
--- so the nodes of that group are marked
-pub run_spent_marked : (plan : Plan) (marks : List (Option ℕ)) (spent : List Bool) (at : ℕ) (group : Group) → IsRead plan at group → AreSpent plan marks spent → IsRunSpent plan.groups.items spent at
-    → IsRunMarked plan marks group.start (group.start + group.count)
-run_spent_marked plan marks spent at group g s run = λ p low high.
+-- so the spots of that group have been visited
+pub run_spent_visited : (plan : Plan) (marks : List (Option ℕ)) (spent : List Bool) (at : ℕ) (group : Group) → IsRead plan at group → AreSpent plan marks spent → IsRunSpent plan.groups.items spent at
+    → IsRunVisited plan marks group.start (group.start + group.count)
+run_spent_visited plan marks spent at group g s run = λ p low high.
     let R : Group → Type 0 = λ x. IsInRun x p in
     s.each p (run p (subst R (sym g.is) (low, high)))
-
--- ---- groves
-
--- groups that were spent stay so as marks are added
-pub grove_kept : (old new : List (Option ℕ)) (grove : Grove) → length new ≡ length old → AreKept old new → IsGrove old grove → IsGrove new grove
-grove_kept old new grove counted kept g = record {
-  plan = g.plan;
-  tags = λ k lt. (let l = g.tags k lt in omega arith);
-  spent = record { counted = g.spent.counted; each = λ p h. (let m = g.spent.each p h in (m.0, kept (spot_in grove.plan p).tag m.0 m.1)) };
-}
 
 pub same_number : (a b : ℕ) → IsTrue (nat_eq a b) → a ≡ b
 same_number a b t = eqb-true a b t

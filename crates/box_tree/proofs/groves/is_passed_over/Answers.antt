@@ -1,7 +1,7 @@
 use Rattle.std.proofs.Common.{arith}
 use Rattle.std.proofs.lemmas.Int.{ints}
-use Rattle.net_extract.proofs.Walk.{off_x, off_y, off_none, not_true}
-use Rattle.net_extract.proofs.groves.is_passed_over.Goals as goal
+use Rattle.box_tree.proofs.Walk.{off_x, off_y, off_none, not_true}
+use Rattle.box_tree.proofs.groves.is_passed_over.Goals as goal
 
 pub returns-then-is_off : goal.returns-then-is_off
 returns-then-is_off c = λ t spot b holds.

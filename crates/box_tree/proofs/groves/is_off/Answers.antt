@@ -1,6 +1,6 @@
 use Rattle.std.proofs.Common.{arith}
 use Rattle.std.proofs.lemmas.Int.{ints, clamps}
-use Rattle.net_extract.proofs.groves.is_off.Goals as goal
+use Rattle.box_tree.proofs.groves.is_off.Goals as goal
 
 pub returns-then-outer-span : goal.returns-then-outer-span
 returns-then-outer-span c = λ t. omega (arith, ints, clamps, t, c.requires.outer, c.requires.span, c.ranges.reach)

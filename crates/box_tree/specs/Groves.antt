@@ -1,13 +1,12 @@
--- Trees of spots that stand for nodes, marks of nodes, and groups of which all nodes are marked.
-use Rattle.std.specs.Prelude.{◌≡◌, ℕ, ◌+◌, ◌<◌, ◌≤◌, pos, Bool, false, IsTrue, None, Option, List, length, slice_index_or}
+-- Trees of spots of which some have been visited, and groups of which all have been.
+use Rattle.std.specs.Prelude.{◌≡◌, ℕ, ◌+◌, ◌<◌, ◌≤◌, pos, Bool, false, IsTrue, None, Option, List, drop, length, slice_index_or}
 use Rattle.box_tree.specs.declared.query.Query.{Query}
 use Rattle.box_tree.specs.declared.spots.Group.{Group}
 use Rattle.box_tree.specs.declared.spots.Spot.{Spot}
 use Rattle.box_tree.specs.Queries.{Holds}
-use Rattle.box_tree.specs.Tree.{no_spot, spot_at, IsTreeOf}
-use Rattle.graph_search.specs.Search.{mark_of, IsMarked}
-use Rattle.net_extract.specs.declared.groves.Grove.{Grove}
-use Rattle.net_extract.specs.declared.groves.Plan.{Plan}
+use Rattle.box_tree.specs.Tree.{IsBounded, IsPlacedGroup, IsTreeOf, begin_of, no_spot, spot_at}
+use Rattle.box_tree.specs.declared.groves.Grove.{Grove}
+use Rattle.box_tree.specs.declared.tree.Plan.{Plan}
 
 -- ---- spots and groups by number
 
@@ -34,11 +33,30 @@ spot_in plan p = spot_at plan.spots.items plan.order.items p
 abbrev pub IsPlan : Plan → Type 0
 IsPlan plan = IsTreeOf plan.spots.items plan.order.items plan.groups.items
 
--- the tags of spots are numbers of nodes
+-- where the run of the group at a place begins, or all end
+abbrev pub begin_at : Plan → ℕ → ℕ
+begin_at plan at = begin_of (drop at plan.groups.items) (length plan.order.items)
+
+-- a group that was read: its run, and that of the one behind it
+pub record IsRead (plan : Plan) (at : ℕ) (group : Group) : Type 0 where
+  pub is : group_at plan.groups.items at ≡ group
+  pub placed : IsPlacedGroup group
+  pub begins : begin_at plan at ≡ group.start
+  pub closes : begin_at plan (at + 1 + group.inside) ≡ group.start + group.count
+  pub opens : 0 < group.inside → begin_at plan (at + 1) ≡ group.start
+  pub ends : group.start + group.count ≤ length plan.order.items
+  pub within : at + 1 + group.inside ≤ length plan.groups.items
+  pub bounded : (p : ℕ) → group.start ≤ p → p < group.start + group.count → IsBounded group (spot_in plan p)
+
+-- the tags of spots are below a number
 abbrev pub AreTagsWithin : ℕ → List Spot → Type 0
 AreTagsWithin count spots = (k : ℕ) → k < length spots → (spot_of spots k).tag < count
 
--- ---- groups of which all nodes are marked
+-- ---- groups of which all spots have been visited
+
+-- a spot has been visited if its tag has a mark; else it is left
+abbrev pub IsLeft : List (Option ℕ) → ℕ → Type 0
+IsLeft marks tag = slice_index_or marks tag None ≡ None
 
 abbrev pub IsInRun : Group → ℕ → Type 0
 IsInRun group p = (group.start ≤ p) × (p < group.start + group.count)
@@ -52,16 +70,16 @@ pub record InSpent (groups : List Group) (spent : List Bool) (p : ℕ) : Type 0 
 abbrev pub IsRunSpent : List Group → List Bool → ℕ → Type 0
 IsRunSpent groups spent at = (p : ℕ) → IsInRun (group_at groups at) p → InSpent groups spent p
 
-abbrev pub IsMarkedAt : Plan → List (Option ℕ) → ℕ → Type 0
-IsMarkedAt plan marks p = IsMarked marks (spot_in plan p).tag
+abbrev pub IsVisitedAt : Plan → List (Option ℕ) → ℕ → Type 0
+IsVisitedAt plan marks p = IsLeft marks (spot_in plan p).tag → ⊥
 
-abbrev pub IsRunMarked : Plan → List (Option ℕ) → ℕ → ℕ → Type 0
-IsRunMarked plan marks first end = (p : ℕ) → first ≤ p → p < end → IsMarkedAt plan marks p
+abbrev pub IsRunVisited : Plan → List (Option ℕ) → ℕ → ℕ → Type 0
+IsRunVisited plan marks first end = (p : ℕ) → first ≤ p → p < end → IsVisitedAt plan marks p
 
--- all nodes of groups that are spent are marked
+-- all spots of groups that are spent have been visited
 pub record AreSpent (plan : Plan) (marks : List (Option ℕ)) (spent : List Bool) : Type 0 where
   pub counted : length spent ≡ length plan.groups.items
-  pub each : (p : ℕ) → InSpent plan.groups.items spent p → IsMarkedAt plan marks p
+  pub each : (p : ℕ) → InSpent plan.groups.items spent p → IsVisitedAt plan marks p
 
 pub record IsGrove (marks : List (Option ℕ)) (grove : Grove) : Type 0 where
   pub plan : IsPlan grove.plan
@@ -77,23 +95,23 @@ pub record IsNewGrove (spots : List Spot) (grove : Grove) : Type 0 where
 
 -- ---- what is found
 
--- the node of a spot that has a property
+-- the tag of a spot that has a property
 pub record IsOf (spots : List Spot) (Is : Spot → Type 0) (y : ℕ) : Type 0 where
   pub k : ℕ
   pub among : k < length spots
   pub tag : (spot_of spots k).tag ≡ y
   pub is : Is (spot_of spots k)
 
--- the node of a spot that holds a query, without a mark
-pub record IsUnreached (spots : List Spot) (query : Query) (marks : List (Option ℕ)) (y : ℕ) : Type 0 where
+-- the tag of a spot that holds a query and is left
+pub record IsUnvisited (spots : List Spot) (query : Query) (marks : List (Option ℕ)) (y : ℕ) : Type 0 where
   pub of : IsOf spots (Holds query) y
-  pub unmarked : mark_of marks y ≡ None
+  pub left : IsLeft marks y
 
 -- the same of a spot at some places
-pub record IsUnreachedWithin (plan : Plan) (query : Query) (marks : List (Option ℕ)) (first end y : ℕ) : Type 0 where
+pub record IsUnvisitedWithin (plan : Plan) (query : Query) (marks : List (Option ℕ)) (first end y : ℕ) : Type 0 where
   pub p : ℕ
   pub from : first ≤ p
   pub before : p < end
   pub tag : (spot_in plan p).tag ≡ y
   pub holds : Holds query (spot_in plan p)
-  pub unmarked : mark_of marks y ≡ None
+  pub left : IsLeft marks y

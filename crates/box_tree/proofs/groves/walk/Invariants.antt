@@ -1,7 +1,7 @@
 use Rattle.std.proofs.Common.{[], ◌-◌, length}
-use Rattle.net_extract.specs.Groves.{AreSpent}
-use Rattle.net_extract.proofs.Walk.{IsWalked}
-use Rattle.net_extract.proofs.groves.unreached.Given as goal
+use Rattle.box_tree.specs.Groves.{AreSpent}
+use Rattle.box_tree.proofs.Walk.{IsWalked}
+use Rattle.box_tree.proofs.groves.walk.Given as goal
 
 abbrev pub invariant-loop-at : goal.invariant-loop-at
 invariant-loop-at l = record {

@@ -1,0 +1,12 @@
+use Rattle.std.proofs.Common.{◌≤◌}
+use Rattle.std.specs.Prelude.{IsTrue, max}
+use Rattle.box_tree.specs.Found.{AreGathered}
+use Rattle.box_tree.specs.Groves.{IsUnvisitedWithin, IsRunVisited}
+use Rattle.box_tree.proofs.groves.look_through.Given as goal
+
+abbrev pub invariant-loop-place : goal.invariant-loop-place
+invariant-loop-place l = record {
+  so_far : l.place ≤ max l.first l.end;
+  gathered : AreGathered (IsUnvisitedWithin l.plan l.query l.marks l.first l.place) l.fn.found.items l.found.items;
+  marked : IsTrue l.all → IsRunVisited l.plan l.marks l.first l.place;
+}
