@@ -1,5 +1,5 @@
 -- Passes lead to one place.
-use Rattle.std.proofs.Common.{Option, None, Some, ◌≡◌, ℕ, ◌<◌, ℤ, List, [], ◌∷◌, ◌++◌, length, refl, sym, ap, ◌∙◌, subst}
+use Rattle.std.proofs.Common.{Option, None, Some, ◌≡◌, ℕ, ◌<◌, ℤ, List, [], ◌∷◌, ◌++◌, length, refl, sym, ap, ◌∙◌, subst, Bool}
 use Rattle.std.specs.List.{All}
 use Rattle.std.specs.Prelude.{IfNone}
 use Rattle.lam_geom.specs.declared.boxes.Axis.{Axis}
@@ -14,18 +14,19 @@ use Rattle.pitch_join.specs.Masters.{ArePlanned}
 use Rattle.pitch_join.specs.Joined.{joint_variables, system_over, list_over}
 use Rattle.pass_run.specs.declared.passes.PassFault.{PassFault}
 use Rattle.pass_run.specs.declared.passes.PassFault.TheVariants.{TooManyEdges, Unsatisfiable, OutOfMemory}
+use Rattle.pass_run.specs.declared.pass.Made.{Made}
 use Rattle.pass_run.specs.declared.step.Step.{Step}
 use Rattle.pass_run.specs.Alike.{most_edges}
-use Rattle.pass_run.specs.Laid.{AreLaidOut, AreSettled}
+use Rattle.pass_run.specs.Laid.{AreLaidOut}
 use Rattle.pass_run.specs.Layouts.{starts_of, moved_by, layouts_after, with_values}
 use Rattle.pass_run.specs.Least.{AreLeastValues, LeadTo, LeadNowhere, StaySettled, LeadToOnePlace}
 use Rattle.pass_run.specs.PassFaults.{IsSolvable, IsCyclicOver, RefusesPasses}
 use Rattle.pass_run.specs.Passes.{IsLeastPass, IsRecorded, ArePasses, axes_of}
-use Rattle.pass_run.proofs.Chain.{first_later, settled_less}
 use Rattle.pass_run.proofs.Determined.{one_least}
 use Rattle.pass_run.proofs.OneRefusal.{made_solvable, many_unsolvable, cyclic_unsolvable}
 use Rattle.pass_run.proofs.Pruning.{solutions_kept}
 use Rattle.pass_run.proofs.Settled.{SolvesPass, boxes_of, laid_next, settled_next}
+use Rattle.pass_run.specs.OnePass.{IsPassMade}
 
 -- the values of a pass that is made are least
 pub made_least : (tech : Tech) (plan : Plan) (masters : List Master) (before : List Coords) (step : Step) → IsLeastPass tech plan masters before step → IsRecorded tech plan masters before step
@@ -112,12 +113,13 @@ pub record AreLeastOn (tech : Tech) (plan : Plan) (masters : List Master) (axis 
   pub x : List ℤ
   pub least : AreLeastValues tech plan masters before axis x
   pub is : after ≡ with_values axis masters before x
+  pub stays : StaySettled tech plan masters before axis after
 
-pub made_on : (tech : Tech) (plan : Plan) (masters : List Master) (axis : Axis) (before after : List Coords) (step : Step) → step.axis ≡ axis → IsLeastPass tech plan masters before step
-    → IsRecorded tech plan masters before step → after ≡ moved_by masters before step → AreLeastOn tech plan masters axis before after
-made_on tech plan masters axis before after step on least recorded is =
-    let L : Axis → Type 0 = λ a. AreLeastOn tech plan masters a before after in
-    subst L on (record { x = step.x; least = made_least tech plan masters before step least recorded; is = is })
+pub made_on : (tech : Tech) (plan : Plan) (masters : List Master) (axis : Axis) (before : List Coords) (pass : ℕ) (told : Bool) (made : Made) → made.step.axis ≡ axis
+    → IsPassMade tech plan masters before pass told made → AreLeastOn tech plan masters axis before made.layouts.items
+made_on tech plan masters axis before pass told made on is =
+    let L : Axis → Type 0 = λ a. AreLeastOn tech plan masters a before made.layouts.items in
+    subst L on (record { x = made.step.x; least = made_least tech plan masters before made.step is.least is.recorded; is = is.layouts; stays = rw is.layouts is.stays })
 
 -- passes lead where those after the first lead from its layouts
 pub lead_first : (tech : Tech) (plan : Plan) (masters : List Master) (axis : Axis) (later : List Axis) (before next after : List Coords) → AreLeastOn tech plan masters axis before next
@@ -141,11 +143,6 @@ many_nowhere tech plan masters axis later before many = λ after lead. many_unso
 pub cyclic_nowhere : (tech : Tech) (plan : Plan) (masters : List Master) (axis : Axis) (later : List Axis) (before : List Coords) (pass : ℕ) (text : List ℕ)
     → IsCyclicOver tech plan masters before pass axis text → LeadNowhere tech plan masters (axis ∷ later) before
 cyclic_nowhere tech plan masters axis later before pass text cyclic = λ after lead. cyclic_unsolvable tech plan masters before pass axis text cyclic lead.1.solvable
-
--- what is settled by the first and then by those after it is settled by all of them
-pub settled_first : (tech : Tech) (plan : Plan) (masters : List Master) (axis : Axis) (later had : List Axis) (after : List Coords) → AreSettled tech plan masters (later ++ axis ∷ had) after
-    → AreSettled tech plan masters ((axis ∷ later) ++ had) after
-settled_first tech plan masters axis later had after s = settled_less tech plan masters (later ++ axis ∷ had) ((axis ∷ later) ++ had) after (first_later axis later had) s
 
 pub none_then : {X : Type 0} (o : Option X) {P Q : Type 0} → IfNone o P → (P → Q) → IfNone o Q
 none_then None holds then = then holds

@@ -10,7 +10,6 @@ pub mod Pruning
 pub mod Shape
 pub mod Solved
 pub mod Going
-pub mod PassesGiven
 pub mod Adding
 pub mod Texts
 pub mod Chain

@@ -29,6 +29,7 @@ use Rattle.pass_run.specs.Alike.{HaveSameSolutions}
 use Rattle.pass_run.specs.Pruning.{PruningLosesNothing}
 use Rattle.pass_run.proofs.Cycles.{the_one, own_list, own_implied}
 use Rattle.pass_run.proofs.Shifted.{implied_shifted, implied_more}
+use Rattle.cons_graph.specs.Solutions.{IsLeastSolution}
 
 -- ---- solutions
 
@@ -130,4 +131,11 @@ pub pruning : (tech : Tech) (plan : Plan) (masters : List Master) → All (IsLaw
 pruning tech plan masters lawful = record {
   same_solutions = solutions_kept tech plan masters lawful;
   same_cycles = λ axis layouts boxes. cycles_alike _ _ (listed_among axis tech plan masters layouts) (system_implied axis tech plan masters layouts lawful boxes);
+}
+
+-- the same solutions, the same least one
+pub least_alike : (vars : ℕ) (es fs : List Edge) (x : ℕ → ℤ) → HaveSameSolutions es fs → IsLeastSolution vars es x → IsLeastSolution vars fs x
+least_alike vars es fs x same least = record {
+  solves = (same x).0 least.solves;
+  below = λ y solves v lt. least.below y ((same y).1 solves) v lt;
 }

@@ -1,6 +1,6 @@
 -- What the rounds over the list of a pass say of the pass.
-use Rattle.std.proofs.Common.{◌≡◌, ℕ, ◌+◌, ◌<◌, ◌≤◌, ℤ, Some, List, [], ◌∷◌, length, map, refl, sym, ap, ◌∙◌, subst, arith}
-use Rattle.std.specs.Prelude.{Contains, slice_index}
+use Rattle.std.proofs.Common.{◌≡◌, ℕ, ◌+◌, ◌<◌, ◌≤◌, ℤ, Some, List, [], ◌∷◌, length, map, refl, sym, ap, ◌∙◌, subst, arith, Bool, false}
+use Rattle.std.specs.Prelude.{Contains, slice_index, IsTrue}
 use Rattle.std.specs.List.{All}
 use Rattle.std.proofs.lemmas.List.{get_or-map, get_or_default, length-map}
 use Rattle.std.proofs.lemmas.List.Elements.{All-map, All-weaker, All-contains}
@@ -15,15 +15,12 @@ use Rattle.cons_graph.specs.Walks.{HasPositiveCycle}
 use Rattle.cons_graph.proofs.CycleTest.{few_without_repeat}
 use Rattle.round_log.specs.declared.log.Log.{Log}
 use Rattle.round_log.specs.declared.log.Entry.{Entry}
-use Rattle.round_log.specs.Logs.{raises_in, IsLogOfRounds}
+use Rattle.round_log.specs.Logs.{raises_in, IsEndedLog}
 use Rattle.round_log.specs.Told.{TellAlike}
 use Rattle.round_log.proofs.Alike.{same_walk}
 use Rattle.round_log.specs.Looks.{label, backward_numbers}
-use Rattle.round_log.specs.Orders.{NamesEachOnce, IsOrder}
-use Rattle.round_log.specs.Rounds.{plan_of, EndsInRound}
+use Rattle.round_log.specs.Orders.{IsOrder}
 use Rattle.liao_wong.specs.declared.solving.Solved.{Solved}
-use Rattle.liao_wong.specs.Answers.{IsWithinLimit, IsCycleOf}
-use Rattle.liao_wong.specs.Sorted.{IsInOrderOf}
 use Rattle.liao_wong.proofs.InOrder.{sorted_is_order}
 use Rattle.sym_items.specs.declared.items.Coords.{Coords}
 use Rattle.expand.specs.declared.master.Master.{Master}
@@ -36,27 +33,35 @@ use Rattle.pitch_join.proofs.Bases.{bases_counted, planned_joined, var_within}
 use Rattle.pitch_join.proofs.Listed.{far_is}
 use Rattle.pass_run.specs.declared.edges.Listed.{Listed}
 use Rattle.pass_run.specs.declared.step.Walk.{Walk}
-use Rattle.pass_run.specs.Alike.{most_edges, HaveSameSolutions}
+use Rattle.pass_run.specs.Alike.{HaveSameSolutions}
 use Rattle.pass_run.specs.Laid.{AreLaidOut, AreSettled}
-use Rattle.pass_run.specs.Layouts.{joint_values, moved_by}
-use Rattle.pass_run.specs.OneStep.{walk_to, walks_to, step_of, HasPath}
+use Rattle.pass_run.specs.Layouts.{joint_values, moved_by, with_values}
+use Rattle.pass_run.specs.OneStep.{walk_to, walks_to, step_of, HasPath, IsListedMost, IsOrderAlong, IsSolvedPass, IsStoppedPass, ReachFar}
 use Rattle.pass_run.specs.PassFaults.{IsCyclicOver}
-use Rattle.pass_run.specs.Passes.{kept_counts, far_walk, IsLeastPass, IsRecorded}
-use Rattle.pass_run.specs.Report.{cycle_text, walk_at}
+use Rattle.pass_run.specs.Passes.{far_walk, IsRecorded}
+use Rattle.pass_run.specs.Report.{cycle_text, walk_at, pass_text}
 use Rattle.pass_run.specs.Theorems.{IsCriticalPath, HasCriticalPath, IsSoundPass}
-use Rattle.pass_run.proofs.Pruning.{listed_among, solutions_kept}
+use Rattle.pass_run.proofs.Pruning.{listed_among, solutions_kept, least_alike}
 use Rattle.pass_run.proofs.Settled as settling
 use Rattle.pass_run.proofs.Values.{joint_length, joint_above}
+use Rattle.slack_pack.specs.Most.{HasWalk, IsMost}
+use Rattle.pass_run.specs.OnePass.{IsFirstOn, IsPassMade}
+use Rattle.pass_run.specs.Told.{IsTightMost}
+use Rattle.pass_run.specs.Least.{StaySettled}
+use Rattle.pass_run.specs.declared.pass.Made.{Made}
+use Rattle.pass_run.specs.declared.step.Step.{Step}
+use Rattle.pass_run.proofs.Tight.{attained_more, most_alike, reached, some_far, walk_more}
+use Rattle.pass_run.proofs.Reach.{reach_far}
+use Rattle.slack_pack.proofs.Walks.{stands}
 
 -- ---- the order
 
 -- the variables sorted by their values are an order, as no value is below the origin's
-pub order_of : (axis : Axis) (tech : Tech) (plan : Plan) (masters : List Master) (before : List Coords) (vars : ℕ) (order : List ℕ) → ArePlanned tech plan masters → AreLaidOut tech masters before
-    → vars ≡ joint_variables axis masters → NamesEachOnce (length (joint_values axis before)) order → IsInOrderOf (value_of (joint_values axis before)) order → IsOrder vars order
-order_of axis tech plan masters before vars order planned laid v names up =
+pub order_of : (axis : Axis) (tech : Tech) (plan : Plan) (masters : List Master) (before : List Coords) (vars : ℕ) (order : List ℕ) → ArePlanned tech plan masters
+    → AreLaidOut tech masters before → vars ≡ joint_variables axis masters → IsOrderAlong axis before order → IsOrder vars order
+order_of axis tech plan masters before vars order planned laid v along =
     let count : length (joint_values axis before) ≡ vars = joint_length axis tech masters before laid ∙ sym v in
-    let N : ℕ → Type 0 = λ n. NamesEachOnce n order in
-    sorted_is_order vars (value_of (joint_values axis before)) order (omega (arith, v)) (subst N count names) up refl
+    sorted_is_order vars (value_of (joint_values axis before)) order (omega (arith, v)) (rw count at along.names) along.in_order refl
     (λ u lt. joint_above axis tech masters before u (planned_joined tech plan masters planned) laid (omega (arith, v, lt)))
 
 -- ---- walks
@@ -127,165 +132,181 @@ walks_listed edges log fars walks are paths =
     let A : List Walk → Type 0 = All L in
     subst A (sym are) (All-map L (walk_to log) fars (λ k d lt. (paths k d lt).passes.in_range))
 
--- ---- solved passes
+-- ---- a solved pass
 
--- The rounds over the list of a pass, in this order, have ended with a solution.
-pub record IsSolvedPass (axis : Axis) (tech : Tech) (plan : Plan) (masters : List Master) (before : List Coords) (listed : Listed) (order : List ℕ) (solved : Solved) : Type 0 where
-  pub vars : listed.graph.vars ≡ joint_variables axis masters
-  pub edges : listed.graph.edges ≡ list_over axis tech plan masters before
-  pub few : length listed.graph.edges ≤ most_edges
-  pub kept : listed.kept.items ≡ kept_counts axis tech masters before
-  pub bases : listed.base ≡ bases_of axis masters
-  pub names : NamesEachOnce (length (joint_values axis before)) order
-  pub in_order : IsInOrderOf (value_of (joint_values axis before)) order
-  pub least : IsLeastSolution listed.graph.vars listed.graph.edges (value_of solved.x)
-  pub one_each : length solved.x ≡ listed.graph.vars
-  pub small : All IsWithinLimit solved.x
-  pub backward : solved.backward ≡ length (backward_numbers listed.graph.edges order)
-  pub of_rounds : IsLogOfRounds listed.graph order solved.rounds solved.log
-  pub labels : (v : ℕ) → v < listed.graph.vars → label (raises_in solved.log) v ≡ Some (value_of solved.x v)
-  pub paths : All (HasPath listed.graph.edges solved.log) listed.base
+module _ {axis : Axis} {tech : Tech} {plan : Plan} {masters : List Master} {before : List Coords} {listed : Listed} {solved : Solved}
+    (planned : ArePlanned tech plan masters) (lawful : All (IsLawful tech) masters) (laid : AreLaidOut tech masters before)
+    (run : IsSolvedPass axis tech plan masters before listed solved) where
 
--- the least solution of the list is that of the system
-least_of_system : (vars : ℕ) (listed system : List Edge) (x : ℕ → ℤ) → HaveSameSolutions listed system → IsLeastSolution vars listed x → IsLeastSolution vars system x
-least_of_system vars listed system x same least = record {
-  solves = (same x).0 least.solves;
-  below = λ y solves v lt. least.below y ((same y).1 solves) v lt;
-}
+  abbrev now : Step
+  now = step_of axis listed solved
 
-solved_least : (axis : Axis) (tech : Tech) (plan : Plan) (masters : List Master) (before : List Coords) (listed : Listed) (order : List ℕ) (solved : Solved) → All (IsLawful tech) masters
-    → AreLaidOut tech masters before → IsSolvedPass axis tech plan masters before listed order solved
-    → IsLeastSolution (joint_variables axis masters) (system_over axis tech plan masters before) (value_of solved.x)
-solved_least axis tech plan masters before listed order solved lawful laid run =
-    let x : ℕ → ℤ = value_of solved.x in
-    let V : ℕ → Type 0 = λ n. IsLeastSolution n listed.graph.edges x in
-    let E : List Edge → Type 0 = λ es. IsLeastSolution (joint_variables axis masters) es x in
-    least_of_system (joint_variables axis masters) (list_over axis tech plan masters before) (system_over axis tech plan masters before) x
-    (solutions_kept tech plan masters lawful axis before (settling.boxes_of tech masters before laid)) (subst E run.edges (subst V run.vars run.least))
+  abbrev listed_edges : List Edge
+  listed_edges = list_over axis tech plan masters before
 
-pub least_pass : (axis : Axis) (tech : Tech) (plan : Plan) (masters : List Master) (before : List Coords) (listed : Listed) (order : List ℕ) (solved : Solved) → All (IsLawful tech) masters
-    → AreLaidOut tech masters before → IsSolvedPass axis tech plan masters before listed order solved → IsLeastPass tech plan masters before (step_of axis listed solved)
-least_pass axis tech plan masters before listed order solved lawful laid run = record {
-  one_each = run.one_each ∙ run.vars;
-  least = solved_least axis tech plan masters before listed order solved lawful laid run;
-}
+  abbrev system : List Edge
+  system = system_over axis tech plan masters before
 
-pub recorded : (axis : Axis) (tech : Tech) (plan : Plan) (masters : List Master) (before : List Coords) (listed : Listed) (order : List ℕ) (solved : Solved) → AreLaidOut tech masters before
-    → IsSolvedPass axis tech plan masters before listed order solved → IsRecorded tech plan masters before (step_of axis listed solved)
-recorded axis tech plan masters before listed order solved laid run =
-    let N : ℕ → Type 0 = λ n. NamesEachOnce n order in
-    let raises : List Entry = run.of_rounds.raises in
-    let P : List Edge → Type 0 = λ es. EndsInRound (plan_of es order) solved.rounds raises in
-    record {
-      kept = run.kept;
-      edges = ap length run.edges;
-      few = run.few;
-      order = order;
-      each_once = subst N (joint_length axis tech masters before laid) run.names;
-      in_order = run.in_order;
-      backward = run.backward ∙ ap (λ es. length (backward_numbers es order)) run.edges;
-      raises = raises;
-      ended = subst P run.edges run.of_rounds.ended;
-      walks = ap (walks_to solved.log) run.bases ∙ walks_are axis masters solved.log raises _ run.of_rounds.alike;
-    }
+  abbrev vars : ℕ
+  vars = joint_variables axis masters
 
--- the values after the pass solve its list
-solves_pass : (axis : Axis) (tech : Tech) (plan : Plan) (masters : List Master) (before : List Coords) (listed : Listed) (order : List ℕ) (solved : Solved)
-    → IsSolvedPass axis tech plan masters before listed order solved → settling.SolvesPass axis tech plan masters before solved.x
-solves_pass axis tech plan masters before listed order solved run =
-    let S : List Edge → Type 0 = λ es. IsSolution es (value_of solved.x) in
-    record { counted = run.one_each ∙ run.vars; small = run.small; solves = subst S run.edges run.least.solves }
+  -- the log of its rounds is one of ended rounds
+  pub ended : IsEndedLog listed.graph solved.log
+  ended = record {
+    order = run.order;
+    rounds = solved.rounds;
+    is_order = order_of axis tech plan masters before listed.graph.vars run.order planned laid run.is_list.vars run.along;
+    of_rounds = run.of_rounds;
+  }
 
-pub laid_next : (axis : Axis) (tech : Tech) (plan : Plan) (masters : List Master) (before : List Coords) (listed : Listed) (order : List ℕ) (solved : Solved) → All (IsLawful tech) masters
-    → AreLaidOut tech masters before → IsSolvedPass axis tech plan masters before listed order solved → AreLaidOut tech masters (moved_by masters before (step_of axis listed solved))
-laid_next axis tech plan masters before listed order solved lawful laid run =
-    settling.laid_next axis tech plan masters before solved.x lawful laid (solves_pass axis tech plan masters before listed order solved run)
+  pub far_reached : ReachFar listed.graph.vars listed.graph.edges listed.base
+  far_reached = rw (run.is_list.vars, run.is_list.edges, run.is_list.bases) (reach_far axis tech plan masters before planned)
 
-pub settled_next : (axis : Axis) (tech : Tech) (plan : Plan) (masters : List Master) (before : List Coords) (listed : Listed) (order : List ℕ) (solved : Solved) → ArePlanned tech plan masters
-    → All (IsLawful tech) masters → AreLaidOut tech masters before → IsSolvedPass axis tech plan masters before listed order solved → (had : List Axis) → AreSettled tech plan masters had before
-    → AreSettled tech plan masters (axis ∷ had) (moved_by masters before (step_of axis listed solved))
-settled_next axis tech plan masters before listed order solved planned lawful laid run had settled =
-    settling.settled_next axis tech plan masters before solved.x planned lawful laid (solves_pass axis tech plan masters before listed order solved run) had settled
+  same : HaveSameSolutions listed_edges system
+  same = solutions_kept tech plan masters lawful axis before (settling.boxes_of tech masters before laid)
 
-critical : (axis : Axis) (tech : Tech) (plan : Plan) (masters : List Master) (before : List Coords) (listed : Listed) (order : List ℕ) (solved : Solved)
-    → IsSolvedPass axis tech plan masters before listed order solved → (m : ℕ) → m < length masters → HasCriticalPath tech plan masters before (step_of axis listed solved) m
-critical axis tech plan masters before listed order solved run m lt =
-    let far : ℕ = far_of axis masters m in
-    let H : List Edge → Type 0 = λ es. HasPath es solved.log far in
-    let F : ℕ → Type 0 = HasPath listed.graph.edges solved.log in
-    let count = bases_counted axis masters listed.base run.bases in
-    let far_at : slice_index listed.base m ≡ far = far_is axis masters listed.base m run.bases lt in
-    let path : HasPath (list_over axis tech plan masters before) solved.log far = subst H run.edges (subst F far_at (run.paths m 0 (omega arith))) in
-    let at = path.as_long in
-    let v = run.vars in
-    let within = var_within axis masters m 1 lt (omega arith) in
-    let there : label (raises_in solved.log) far ≡ Some (value_of solved.x far) = run.labels far (omega arith) in
-    let walk_is : walk_at (step_of axis listed solved) m ≡ walk_to solved.log far = get_or-map (walk_to solved.log) listed.base m 0 (record { edges = [] }) (omega arith) ∙ ap (walk_to solved.log) far_at in
-    let W : Walk → Type 0 = λ walk. IsCriticalPath (list_over axis tech plan masters before) (system_over axis tech plan masters before) far walk (value_of solved.x far) in
-    subst W (sym walk_is) (record {
-      passes = path.passes;
-      of_system = walk_among axis tech plan masters before (walk_to solved.log far).edges path.passes.in_range;
-      simple = path.simple;
-      as_long = cc;
-    })
+  -- the least solution of the list is that of the system
+  solved_least : IsLeastSolution vars system (value_of solved.x)
+  solved_least = least_alike vars listed_edges system (value_of solved.x) same (rw (run.is_list.vars, run.is_list.edges) at run.least)
 
-pub sound_pass : (axis : Axis) (tech : Tech) (plan : Plan) (masters : List Master) (before : List Coords) (listed : Listed) (order : List ℕ) (solved : Solved) → ArePlanned tech plan masters
-    → All (IsLawful tech) masters → AreLaidOut tech masters before → IsSolvedPass axis tech plan masters before listed order solved → (had : List Axis) → AreSettled tech plan masters had before
-    → IsSoundPass tech plan masters had before (step_of axis listed solved)
-sound_pass axis tech plan masters before listed order solved planned lawful laid run had settled =
-    let least = solved_least axis tech plan masters before listed order solved lawful laid run in
-    let stays : Contains had axis → IsSolution (system_over axis tech plan masters before) (value_of (joint_values axis before)) =
-    settling.stays_solved axis tech plan masters had before planned lawful laid settled in
-    record {
-      one_each = length-map listed.base (walk_to solved.log) ∙ bases_counted axis masters listed.base run.bases;
-      paths = critical axis tech plan masters before listed order solved run;
-      solved_before = stays;
-      none_grows = λ among v lt. least.below (value_of (joint_values axis before)) (stays among) v lt;
-      placed = settling.placed_of tech plan masters (moved_by masters before (step_of axis listed solved)) (axis ∷ had) (laid_next axis tech plan masters before listed order solved lawful laid run)
-          (settled_next axis tech plan masters before listed order solved planned lawful laid run had settled);
-    }
+  recorded : IsRecorded tech plan masters before now
+  recorded = record {
+    kept = run.is_list.kept;
+    edges = ap length run.is_list.edges;
+    few = run.is_list.few;
+    order = run.order;
+    each_once = rw (joint_length axis tech masters before laid) at run.along.names;
+    in_order = run.along.in_order;
+    backward = run.backward ∙ ap (λ es. length (backward_numbers es run.order)) run.is_list.edges;
+    raises = run.of_rounds.raises;
+    ended = rw run.is_list.edges at run.of_rounds.ended;
+    walks = ap (walks_to solved.log) run.is_list.bases ∙ walks_are axis masters solved.log run.of_rounds.raises _ run.of_rounds.alike;
+  }
 
--- ---- passes without a solution
+  -- the values after the pass solve its list, so another may be made over the layouts
+  solves : settling.SolvesPass axis tech plan masters before solved.x
+  solves = record {
+    counted = run.one_each ∙ run.is_list.vars;
+    small = run.small;
+    solves = rw run.is_list.edges at run.least.solves;
+  }
 
--- The rounds over the list of a pass, in this order, have stopped at a cycle.
-pub record IsStoppedPass (axis : Axis) (tech : Tech) (plan : Plan) (masters : List Master) (before : List Coords) (listed : Listed) (order cycle : List ℕ) : Type 0 where
-  pub edges : listed.graph.edges ≡ list_over axis tech plan masters before
-  pub names_are : listed.names ≡ joint_names axis masters
-  pub few : length listed.graph.edges ≤ most_edges
-  pub names : NamesEachOnce (length (joint_values axis before)) order
-  pub in_order : IsInOrderOf (value_of (joint_values axis before)) order
-  pub cyclic : HasPositiveCycle listed.graph.edges
-  pub simple : IsSimplePositiveCycle listed.graph.edges cycle
-  pub stops : IsCycleOf listed.graph.edges order cycle
+  settles : StaySettled tech plan masters before axis (moved_by masters before now)
+  settles = record {
+    laid = settling.laid_next axis tech plan masters before solved.x lawful laid solves;
+    settled = settling.settled_next axis tech plan masters before solved.x planned lawful laid solves;
+  }
 
-stopped_cycle : (axis : Axis) (tech : Tech) (plan : Plan) (masters : List Master) (before : List Coords) (listed : Listed) (order cycle : List ℕ)
-    → IsStoppedPass axis tech plan masters before listed order cycle → HasPositiveCycle (system_over axis tech plan masters before)
-stopped_cycle axis tech plan masters before listed order cycle run = cycle_among axis tech plan masters before (subst HasPositiveCycle run.edges run.cyclic)
+  critical : All (HasPath listed.graph.edges solved.log) listed.base → (m : ℕ) → m < length masters
+      → HasCriticalPath tech plan masters before now m
+  critical paths m lt =
+      let far : ℕ = far_of axis masters m in
+      let count = bases_counted axis masters listed.base run.is_list.bases in
+      let far_at : slice_index listed.base m ≡ far = far_is axis masters listed.base m run.is_list.bases lt in
+      let F : ℕ → Type 0 = HasPath listed.graph.edges solved.log in
+      let path : HasPath listed_edges solved.log far = rw run.is_list.edges at (subst F far_at (paths m 0 (omega arith))) in
+      let at = path.as_long in
+      let v = run.is_list.vars in
+      let within = var_within axis masters m 1 lt (omega arith) in
+      let there : label (raises_in solved.log) far ≡ Some (value_of solved.x far) = run.labels far (omega arith) in
+      let read : walk_at now m ≡ walk_to solved.log (slice_index listed.base m) =
+      get_or-map (walk_to solved.log) listed.base m 0 (record { edges = [] }) (omega arith) in
+      let walk_is : walk_at now m ≡ walk_to solved.log far = read ∙ ap (walk_to solved.log) far_at in
+      let W : Walk → Type 0 = λ walk. IsCriticalPath listed_edges system far walk (value_of solved.x far) in
+      subst W (sym walk_is) (record {
+        passes = path.passes;
+        of_system = walk_among axis tech plan masters before (walk_to solved.log far).edges path.passes.in_range;
+        simple = path.simple;
+        as_long = cc;
+      })
 
-pub stopped : (axis : Axis) (tech : Tech) (plan : Plan) (masters : List Master) (before : List Coords) (listed : Listed) (order cycle : List ℕ) (pass : ℕ) (text : List ℕ) → AreLaidOut tech masters before
-    → IsStoppedPass axis tech plan masters before listed order cycle → text ≡ cycle_text listed.names listed.graph.edges pass axis cycle → IsCyclicOver tech plan masters before pass axis text
-stopped axis tech plan masters before listed order cycle pass text laid run says =
-    let N : ℕ → Type 0 = λ n. NamesEachOnce n order in
-    let F : List Edge → Type 0 = λ es. length es ≤ most_edges in
-    let O : List Edge → Type 0 = λ es. IsCycleOf es order cycle in
-    let S : List Edge → Type 0 = λ es. IsSimplePositiveCycle es cycle in
-    let simple : IsSimplePositiveCycle (list_over axis tech plan masters before) cycle = subst S run.edges run.simple in
-    record {
-      few = subst F run.edges run.few;
-      cyclic = stopped_cycle axis tech plan masters before listed order cycle run;
-      order = order;
-      each_once = subst N (joint_length axis tech masters before laid) run.names;
-      in_order = run.in_order;
-      cycle = cycle;
-      stops = subst O run.edges run.stops;
-      simple = simple;
-      of_system = walk_among axis tech plan masters before cycle simple.in_range;
-      says = says ∙ (ap (λ names. cycle_text names listed.graph.edges pass axis cycle) run.names_are ∙ ap (λ es. cycle_text (joint_names axis masters) es pass axis cycle) run.edges);
-    }
+  sound : All (HasPath listed.graph.edges solved.log) listed.base → (had : List Axis) → AreSettled tech plan masters had before
+      → IsSoundPass tech plan masters had before now
+  sound paths had settled =
+      let x : ℕ → ℤ = value_of (joint_values axis before) in
+      let stays : Contains had axis → IsSolution system x = settling.stays_solved axis tech plan masters had before planned lawful laid settled in
+      let after : AreSettled tech plan masters (axis ∷ had) (moved_by masters before now) = settles.settled had settled in
+      record {
+        one_each = length-map listed.base (walk_to solved.log) ∙ bases_counted axis masters listed.base run.is_list.bases;
+        paths = critical paths;
+        solved_before = stays;
+        none_grows = λ among v lt. solved_least.below x (stays among) v lt;
+        placed = settling.placed_of tech plan masters (moved_by masters before now) (axis ∷ had) settles.laid after;
+      }
 
--- this comes only where the axis has had no pass
-pub stopped_first : (axis : Axis) (tech : Tech) (plan : Plan) (masters : List Master) (before : List Coords) (listed : Listed) (order cycle : List ℕ) → ArePlanned tech plan masters
-    → All (IsLawful tech) masters → AreLaidOut tech masters before → IsStoppedPass axis tech plan masters before listed order cycle → (had : List Axis) → AreSettled tech plan masters had before
-    → Contains had axis → ⊥
-stopped_first axis tech plan masters before listed order cycle planned lawful laid run had settled among =
-    settling.no_cycle_again axis tech plan masters had before planned lawful laid (stopped_cycle axis tech plan masters before listed order cycle run) settled among
+  -- the greatest values over the list are those over the system, and the variables that cannot move are those on its critical walks
+  tight_most : (values : List ℤ) → IsListedMost listed.graph.vars listed.graph.edges listed.base solved.x values
+      → IsTightMost tech plan masters before now values
+  tight_most values found =
+      let fars : List ℕ = bases_of axis masters in
+      let x : ℕ → ℤ = value_of solved.x in
+      let own : IsListedMost vars listed_edges fars solved.x values = rw (run.is_list.bases, run.is_list.edges, run.is_list.vars) at found in
+      let most : IsMost vars system fars x (value_of values) = most_alike vars listed_edges system fars x (value_of values) same own.most in
+      let among = listed_among axis tech plan masters before in
+      let walks : (v : ℕ) → v < vars → HasWalk listed_edges 0 v (x v) = λ v lt.
+      let count = run.is_list.vars in
+      let within : v < listed.graph.vars = omega arith in
+      rw run.is_list.edges at (reached listed.graph solved.log x v run.is_list.shape ended within (run.labels v within)) in
+      let within = fars_within axis masters fars vars refl refl in
+      record {
+        most = record { one_each = own.one_each; most = most };
+        tight = λ v from lt. stands vars system fars x (value_of values) (record {
+          solves = (same x).0 solves.solves;
+          reached = λ u below. walk_more listed_edges system 0 u (x u) among (walks u below);
+          some_far = some_far vars listed_edges fars v (reach_far axis tech plan masters before planned) within from lt;
+          most = most;
+          attained = λ u above below. attained_more listed_edges system fars x u (value_of values u) among (own.attained u above below);
+        }) v lt;
+      }
+
+  -- so the pass is made
+  pub pass_made : (pass : ℕ) (told : Bool) (made : Made) (x : List ℤ) → All (HasPath listed.graph.edges solved.log) listed.base
+      → made.step ≡ now → x ≡ made.step.x → made.layouts.items ≡ with_values axis masters before x
+      → made.text.items ≡ pass_text masters listed.graph.edges pass made.step
+      → (IsTrue told → IsListedMost listed.graph.vars listed.graph.edges listed.base x made.most) → (told ≡ false → made.most ≡ [])
+      → IsPassMade tech plan masters before pass told made
+  pass_made pass told made x paths is x_is layouts text most none =
+      let on : x ≡ solved.x = x_is ∙ ap (λ (s : Step). s.x) is in
+      let P : Step → Type 0 = λ s. IsPassMade tech plan masters before pass told (record made { step = s }) in
+      subst P (sym is) (record {
+        least = record { one_each = solves.counted; least = solved_least };
+        recorded = recorded;
+        sound = sound paths;
+        layouts = layouts ∙ ap (with_values axis masters before) on;
+        stays = settles;
+        text = text ∙ (ap (pass_text masters listed.graph.edges pass) is ∙ ap (λ es. pass_text masters es pass now) run.is_list.edges);
+        most = λ asked. tight_most made.most (rw on at (most asked));
+        none = none;
+      })
+
+-- ---- a pass without a solution
+
+module _ {axis : Axis} {tech : Tech} {plan : Plan} {masters : List Master} {before : List Coords} {listed : Listed} {cycle : List ℕ}
+    (laid : AreLaidOut tech masters before) (run : IsStoppedPass axis tech plan masters before listed cycle) where
+
+  stopped_cycle : HasPositiveCycle (system_over axis tech plan masters before)
+  stopped_cycle = cycle_among axis tech plan masters before (rw run.is_list.edges at run.cyclic)
+
+  pub stopped : (pass : ℕ) (text : List ℕ) → text ≡ cycle_text listed.names listed.graph.edges pass axis cycle
+      → IsCyclicOver tech plan masters before pass axis text
+  stopped pass text says =
+      let edges = run.is_list.edges in
+      let simple : IsSimplePositiveCycle (list_over axis tech plan masters before) cycle = rw edges at run.simple in
+      record {
+        few = rw edges at run.is_list.few;
+        cyclic = stopped_cycle;
+        order = run.order;
+        each_once = rw (joint_length axis tech masters before laid) at run.along.names;
+        in_order = run.along.in_order;
+        cycle = cycle;
+        stops = rw edges at run.stops;
+        simple = simple;
+        of_system = walk_among axis tech plan masters before cycle simple.in_range;
+        says = says ∙ (ap (λ names. cycle_text names listed.graph.edges pass axis cycle) run.is_list.names
+            ∙ ap (λ es. cycle_text (joint_names axis masters) es pass axis cycle) edges);
+      }
+
+  -- this comes only where the axis has had no pass
+  pub stopped_first : ArePlanned tech plan masters → All (IsLawful tech) masters → IsFirstOn tech plan masters before axis
+  stopped_first planned lawful had settled among =
+      settling.no_cycle_again axis tech plan masters had before planned lawful laid stopped_cycle settled among
