@@ -25,7 +25,8 @@ axes_counted (s ∷ steps) = ap suc (axes_counted steps)
 none_among : (axis : Axis) → Contains [] axis → ⊥
 none_among axis h = let lt = h.1 in omega arith
 
-first_later : (first : Axis) (later had : List Axis) (axis : Axis) → Contains ((first ∷ later) ++ had) axis → Contains (later ++ first ∷ had) axis
+first_later : (first : Axis) (later had : List Axis) (axis : Axis) → Contains ((first ∷ later) ++ had) axis
+    → Contains (later ++ first ∷ had) axis
 first_later first later had axis h =
     elim (Contains-append_cases (first ∷ []) (later ++ had) axis h) [
       | inl own ↦ Contains-append_right later (first ∷ had) axis (Contains-append_left (first ∷ []) had axis own)

@@ -34,7 +34,7 @@ use Rattle.pass_run.specs.Going.{AreMade, IsGoing, IsToldIfLast, steps_of, text_
 use Rattle.pass_run.specs.OnePass.{EndsPasses, IsFirstOn, IsPassMade, StopsPass}
 use Rattle.pass_run.specs.Told.{IsTightMost, IsTold, AreTold}
 use Rattle.pass_run.proofs.Chain.{none_settled, settled_first, axes_split}
-use Rattle.pass_run.proofs.OneRefusal.{passes_solvable}
+use Rattle.pass_run.proofs.Leading.{passes_solvable}
 use Rattle.pass_run.proofs.Settled.{placed_of}
 
 -- the start layouts are layouts of the masters
@@ -51,7 +51,6 @@ starts_laid tech masters each clean = record {
 -- ---- passes that are made one after another
 
 module _ (tech : Tech) (plan : Plan) (masters : List Master) (with_most : Bool) (coming : List Axis) where
-
   abbrev over : ℕ → List Coords → List Made → Type 0
   over = AreMade tech plan masters with_most coming
 
@@ -63,8 +62,9 @@ module _ (tech : Tech) (plan : Plan) (masters : List Master) (with_most : Bool) 
   passes_made pass before [] all = tt
   passes_made pass before (m ∷ ms) all = (all.2.least, all.2.recorded, passes_made (suc pass) (next before m) ms all.3)
 
-  sound_made : (had : List Axis) (pass : ℕ) (before : List Coords) (ms : List Made) → AreSettled tech plan masters had before
-      → over pass before ms → AreSound tech plan masters had before (steps_of ms)
+  sound_made : (had : List Axis) (pass : ℕ) (before : List Coords) (ms : List Made)
+      → AreSettled tech plan masters had before → over pass before ms
+      → AreSound tech plan masters had before (steps_of ms)
   sound_made had pass before [] settled all = tt
   sound_made had pass before (m ∷ ms) settled all =
       let rest = all.2.stays.settled had settled in
@@ -75,11 +75,13 @@ module _ (tech : Tech) (plan : Plan) (masters : List Master) (with_most : Bool) 
   laid_made pass before [] laid all = laid
   laid_made pass before (m ∷ ms) laid all = laid_made (suc pass) (next before m) ms all.2.stays.laid all.3
 
-  settled_made : (had : List Axis) (pass : ℕ) (before : List Coords) (ms : List Made) → AreSettled tech plan masters had before
-      → over pass before ms → AreSettled tech plan masters (axes_of (steps_of ms) ++ had) (layouts_after masters before (steps_of ms))
+  settled_made : (had : List Axis) (pass : ℕ) (before : List Coords) (ms : List Made)
+      → AreSettled tech plan masters had before → over pass before ms
+      → AreSettled tech plan masters (axes_of (steps_of ms) ++ had) (layouts_after masters before (steps_of ms))
   settled_made had pass before [] settled all = settled
   settled_made had pass before (m ∷ ms) settled all =
-      settled_first tech plan masters m.step.axis (axes_of (steps_of ms)) had (layouts_after masters before (steps_of (m ∷ ms)))
+      settled_first tech plan masters m.step.axis (axes_of (steps_of ms)) had
+      (layouts_after masters before (steps_of (m ∷ ms)))
       (settled_made (m.step.axis ∷ had) (suc pass) (next before m) ms (all.2.stays.settled had settled) all.3)
 
   report_made : (pass : ℕ) (before : List Coords) (ms : List Made) → over pass before ms
@@ -116,10 +118,13 @@ module _ (tech : Tech) (plan : Plan) (masters : List Master) (with_most : Bool) 
   coming_more [] m = refl
   coming_more (first ∷ ms) m = ap (λ (axes : List Axis). first.step.axis ∷ axes) (coming_more ms m)
 
-  made_more : (pass number : ℕ) (before : List Coords) (ms : List Made) (told : Bool) (m : Made) → number ≡ pass + length ms
-      → AreMade tech plan masters with_most (m.step.axis ∷ coming) pass before ms → IsToldIfLast with_most coming m.step.axis told
-      → IsPassMade tech plan masters (layouts_after masters before (steps_of ms)) number told m → over pass before (ms ++ m ∷ [])
-  made_more pass number before [] told m n all is more = let same : number ≡ pass = omega arith in (told, is, rw same at more, tt)
+  made_more : (pass number : ℕ) (before : List Coords) (ms : List Made) (told : Bool) (m : Made)
+      → number ≡ pass + length ms → AreMade tech plan masters with_most (m.step.axis ∷ coming) pass before ms
+      → IsToldIfLast with_most coming m.step.axis told
+      → IsPassMade tech plan masters (layouts_after masters before (steps_of ms)) number told m
+      → over pass before (ms ++ m ∷ [])
+  made_more pass number before [] told m n all is more = let same : number ≡ pass = omega arith in
+      (told, is, rw same at more, tt)
   made_more pass number before (first ∷ ms) told m n all is more =
       let T : List Axis → Type 0 = λ axes. IsToldIfLast with_most axes first.step.axis all.0 in
       let rest = made_more (suc pass) number (next before first) ms told m (omega arith) all.3 is more in
@@ -127,7 +132,8 @@ module _ (tech : Tech) (plan : Plan) (masters : List Master) (with_most : Bool) 
 
 -- ---- the passes so far
 
-pub going_start : (tech : Tech) (plan : Plan) (masters : List Master) (with_most : Bool) (coming : List Axis) (s : SoFar)
+pub going_start : (tech : Tech) (plan : Plan) (masters : List Master) (with_most : Bool) (coming : List Axis)
+    (s : SoFar)
     → All (IsMaster tech) masters → All (StartsClean tech) masters → s.layouts.items ≡ starts_of tech masters
     → s.steps.items ≡ [] → s.report.items ≡ [] → s.mosts.items ≡ [] → IsGoing tech plan masters with_most coming s
 going_start tech plan masters with_most coming s each clean layouts steps report mosts = record {
@@ -141,13 +147,14 @@ going_start tech plan masters with_most coming s each clean layouts steps report
   untold = λ not. mosts;
 }
 
-pub going_more : {tech : Tech} {plan : Plan} {masters : List Master} {with_most told : Bool} {axis : Axis} {coming : List Axis}
-    {s : SoFar} {c : List Coords} {pass : ℕ} {made : Made} (t : SoFar) → IsGoing tech plan masters with_most (axis ∷ coming) s
-    → c ≡ s.layouts.items → pass ≡ suc (length s.steps.items) → made.step.axis ≡ axis → IsToldIfLast with_most coming axis told
-    → IsPassMade tech plan masters c pass told made → t.layouts.items ≡ made.layouts.items
-    → t.steps.items ≡ s.steps.items ++ made.step ∷ [] → t.report.items ≡ s.report.items ++ made.text.items
-    → (IsTrue with_most → t.mosts.items ≡ s.mosts.items ++ made.most ∷ []) → (with_most ≡ false → t.mosts.items ≡ s.mosts.items)
-    → IsGoing tech plan masters with_most coming t
+pub going_more : {tech : Tech} {plan : Plan} {masters : List Master} {with_most told : Bool} {axis : Axis}
+    {coming : List Axis} {s : SoFar} {c : List Coords} {pass : ℕ} {made : Made} (t : SoFar)
+    → IsGoing tech plan masters with_most (axis ∷ coming) s → c ≡ s.layouts.items → pass ≡ suc (length s.steps.items)
+    → made.step.axis ≡ axis → IsToldIfLast with_most coming axis told → IsPassMade tech plan masters c pass told made
+    → t.layouts.items ≡ made.layouts.items → t.steps.items ≡ s.steps.items ++ made.step ∷ []
+    → t.report.items ≡ s.report.items ++ made.text.items
+    → (IsTrue with_most → t.mosts.items ≡ s.mosts.items ++ made.most ∷ [])
+    → (with_most ≡ false → t.mosts.items ≡ s.mosts.items) → IsGoing tech plan masters with_most coming t
 going_more {tech} {plan} {masters} {with_most} {told} {axis} {coming} {s} {c} {pass} {made} t g at number on is more
     layouts steps report asked_more not_more =
     let start : List Coords = starts_of tech masters in
@@ -156,12 +163,14 @@ going_more {tech} {plan} {masters} {with_most} {told} {axis} {coming} {s} {c} {p
     let L : Axis → Type 0 = λ a. IsToldIfLast with_most coming a told in
     let P : List Coords → Type 0 = λ ls. IsPassMade tech plan masters ls pass told made in
     let S : Made → Step = λ (z : Made). z.step in
-    let counted : length s.steps.items ≡ length g.mades = ap (λ (zs : List Step). length zs) g.steps ∙ length-map g.mades S in
+    let counted : length s.steps.items ≡ length g.mades = ap (λ (zs : List Step). length zs) g.steps
+    ∙ length-map g.mades S in
     let after = layouts_more tech plan masters with_most coming start g.mades made in
     record {
       laid = g.laid;
       mades = g.mades ++ made ∷ [];
-      made = made_more tech plan masters with_most coming 1 pass start g.mades told made (omega arith) (subst A (sym on) g.made)
+      made = made_more tech plan masters with_most coming 1 pass start g.mades told made (omega arith)
+          (subst A (sym on) g.made)
           (subst L (sym on) is) (subst P before more);
       steps = rw (steps, g.steps, map-append);
       layouts = layouts ∙ (more.layouts ∙ (ap (λ ls. moved_by masters ls made.step) before ∙ after));
@@ -172,7 +181,6 @@ going_more {tech} {plan} {masters} {with_most} {told} {axis} {coming} {s} {c} {p
 
 module _ {tech : Tech} {plan : Plan} {masters : List Master} {with_most : Bool} {coming : List Axis} {s : SoFar}
     (g : IsGoing tech plan masters with_most coming s) where
-
   abbrev start : List Coords
   start = starts_of tech masters
 
@@ -199,9 +207,11 @@ module _ {tech : Tech} {plan : Plan} {masters : List Master} {with_most : Bool} 
   comes_next pass axis later number = record { made = going_passes; later = later; axes_are = refl; count = number }
 
   -- a pass with a positive cycle refuses these axes, whatever comes after it
-  pub refused_cyclic : (c : List Coords) (pass : ℕ) (axis : Axis) (later : List Axis) (text report : List ℕ) → c ≡ s.layouts.items
-      → pass ≡ suc (length s.steps.items) → IsCyclicOver tech plan masters c pass axis text × IsFirstOn tech plan masters c axis
-      → report ≡ s.report.items ++ text → IsUnsatisfiable tech plan masters (axes_of s.steps.items ++ axis ∷ later) pass report
+  pub refused_cyclic : (c : List Coords) (pass : ℕ) (axis : Axis) (later : List Axis) (text report : List ℕ)
+      → c ≡ s.layouts.items → pass ≡ suc (length s.steps.items)
+      → IsCyclicOver tech plan masters c pass axis text × IsFirstOn tech plan masters c axis
+      → report ≡ s.report.items ++ text
+      → IsUnsatisfiable tech plan masters (axes_of s.steps.items ++ axis ∷ later) pass report
   refused_cyclic c pass axis later text report at number stops says =
       let C : List Coords → Type 0 = λ ls. IsCyclicOver tech plan masters ls pass axis text in
       record {
@@ -236,7 +246,8 @@ module _ {tech : Tech} {plan : Plan} {masters : List Master} {with_most : Bool} 
         passes = rw steps going_passes;
         last = rw (coords, steps) going_after;
         report = rw (report, steps) going_report;
-        sound_passes = rw (steps, g.steps) (sound_made tech plan masters with_most coming [] 1 start g.mades none g.made);
+        sound_passes = rw (steps, g.steps) (sound_made tech plan masters with_most coming [] 1 start g.mades none
+            g.made);
         counted = rw coords going_laid.counted;
         laid = rw coords going_laid;
         placed = rw (coords, ← are) placed;

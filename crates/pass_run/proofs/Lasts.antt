@@ -1,21 +1,15 @@
--- The last pass on an axis among some passes: there is one where the axis is among theirs, and no other.
-use Rattle.std.proofs.Common.{◌≡◌, ℕ, zero, suc, ◌<◌, ◌≤◌, List, [], ◌∷◌, length, get_or, take, drop, ◌⊎◌, inl, inr, refl, ap, arith}
+-- The last pass on an axis among some passes: there is no other.
+use Rattle.std.proofs.Common.{◌≡◌, ℕ, suc, ◌≤◌, List, [], ◌∷◌, ◌⊎◌, inl, inr, refl, ap, arith}
 use Rattle.std.specs.Prelude.{Contains}
 use Rattle.std.proofs.lemmas.List.Elements.{All-nil, All-cons, All-contains, Contains-append_right, Contains-append_cases}
 use Rattle.lam_geom.specs.declared.boxes.Axis.{Axis}
-use Rattle.lam_geom.specs.declared.boxes.Axis.TheVariants.{X, Y}
 use Rattle.sym_items.specs.declared.items.Coords.{Coords}
 use Rattle.expand.specs.declared.master.Master.{Master}
 use Rattle.pass_run.specs.declared.step.Step.{Step}
-use Rattle.pass_run.specs.Layouts.{moved_by, layouts_after}
+use Rattle.pass_run.specs.Layouts.{moved_by}
 use Rattle.pass_run.specs.Passes.{axes_of}
 use Rattle.pass_run.specs.Slack.{IsLastOn, here, later}
-
-same_axis : (a b : Axis) → (a ≡ b) ⊎ (a ≡ b → ⊥)
-same_axis X X = inl refl
-same_axis X Y = inr (λ e. cc)
-same_axis Y X = inr (λ e. cc)
-same_axis Y Y = inl refl
+use Rattle.pass_run.proofs.Settled.{same_axis}
 
 only_one : (a axis : Axis) → Contains (a ∷ []) axis → a ≡ axis
 only_one a axis h = let P : Axis → Type 0 = λ z. a ≡ z in All-contains P (a ∷ []) axis (All-cons P a [] refl (All-nil P)) h
@@ -55,33 +49,3 @@ last_once masters axis start steps number other before between step again (later
 last_once masters axis start steps number other before between step again (later _ first more n _ _ last) (later _ _ _ k _ _ same) =
     let r = last_once masters axis (moved_by masters start first) more n k before between step again last same in
     (ap suc r.0, r.1, r.2)
-
--- the pass with this index is the last on its axis, if no later one is on it
-pub last_at : (masters : List Master) (axis : Axis) (start : List Coords) (steps : List Step) (k : ℕ) (d : Step) → k < length steps → (get_or steps k d).axis ≡ axis
-    → (Contains (axes_of (drop (suc k) steps)) axis → ⊥) → IsLastOn masters axis start steps (suc k) (layouts_after masters start (take k steps)) (get_or steps k d)
-last_at masters axis start [] k d lt on none = absurd (omega arith)
-last_at masters axis start (s ∷ steps) zero d lt on none = here start s steps on none
-last_at masters axis start (s ∷ steps) (suc k) d lt on none =
-    later start s steps (suc k) (layouts_after masters (moved_by masters start s) (take k steps)) (get_or steps k d) (last_at masters axis (moved_by masters start s) steps k d (omega arith) on none)
-
--- the last pass on an axis
-pub record HasLast (masters : List Master) (axis : Axis) (start : List Coords) (steps : List Step) : Type 0 where
-  pub number : ℕ
-  pub before : List Coords
-  pub step : Step
-  pub is : IsLastOn masters axis start steps number before step
-
--- there is one on each axis of the passes
-pub has_last : (masters : List Master) (axis : Axis) (start : List Coords) (steps : List Step) → Contains (axes_of steps) axis → HasLast masters axis start steps
-has_last masters axis start [] among = absurd (let lt = among.1 in omega arith)
-has_last masters axis start (s ∷ steps) among =
-    elim (comes_or_not (axes_of steps) axis) [
-      | inl comes ↦
-          let rest : HasLast masters axis (moved_by masters start s) steps = has_last masters axis (moved_by masters start s) steps comes in
-          record { number = suc rest.number; before = rest.before; step = rest.step; is = later start s steps rest.number rest.before rest.step rest.is }
-      | inr not ↦
-          elim (Contains-append_cases (s.axis ∷ []) (axes_of steps) axis among) [
-            | inl first ↦ record { number = 1; before = start; step = s; is = here start s steps (only_one s.axis axis first) not }
-            | inr after ↦ absurd (not after)
-          ]
-    ]

@@ -70,8 +70,8 @@ pub record AreBared (tech : Tech) (plan : Plan) (bared : List Master) : Type 0 w
   pub are_bare : bare_of bared ≡ bared
   pub clean : All (StartsClean tech) bared
 
-pub are_bared : {tech : Tech} {plan : Plan} (masters bared : List Master) → bared ≡ bare_of masters → ArePlanned tech plan masters
-    → All (StartsClean tech) masters → AreBared tech plan bared
+pub are_bared : {tech : Tech} {plan : Plan} (masters bared : List Master) → bared ≡ bare_of masters
+    → ArePlanned tech plan masters → All (StartsClean tech) masters → AreBared tech plan bared
 are_bared {tech} {plan} masters bared is planned clean =
     subst (λ (ms : List Master). AreBared tech plan ms) (sym is) (record {
       planned = planned_kept tech plan masters planned;
@@ -79,14 +79,14 @@ are_bared {tech} {plan} masters bared is planned clean =
       clean = clean_kept tech masters clean;
     })
 
-pub bared_laid : {tech : Tech} {plan : Plan} {bared : List Master} (starts : List Coords) → AreBared tech plan bared → starts ≡ starts_of tech bared
-    → AreLaidOut tech bared starts
+pub bared_laid : {tech : Tech} {plan : Plan} {bared : List Master} (starts : List Coords) → AreBared tech plan bared
+    → starts ≡ starts_of tech bared → AreLaidOut tech bared starts
 bared_laid {tech} {plan} {bared} starts are is = rw is (starts_laid tech bared are.planned.each are.clean)
 
 -- ---- masters with limits
 
-module _ {tech : Tech} {plan : Plan} {masters : List Master} {first : FirstPass} (more : AreMore tech plan masters first) where
-
+module _ {tech : Tech} {plan : Plan} {masters : List Master} {first : FirstPass}
+    (more : AreMore tech plan masters first) where
   abbrev axis : Axis
   axis = first.axis
 
@@ -113,28 +113,35 @@ module _ {tech : Tech} {plan : Plan} {masters : List Master} {first : FirstPass}
   laid_of = rw starts_are (starts_laid tech masters more.planned.each clean_of)
 
   -- the limits are among the variables of the session
-  pub limits_fit : (limits : List Edge) → limits ≡ joint_limits axis masters → All (IsEdgeAmong first.session.vars) limits
+  pub limits_fit : (limits : List Edge) → limits ≡ joint_limits axis masters
+      → All (IsEdgeAmong first.session.vars) limits
   limits_fit limits is = rw (vars_are, is) (limits_among axis tech plan masters more.planned)
 
   -- Values that are shown to be least for the session's first inequalities and the limits are the least of the pass.
-  pub least_values : (limits : List Edge) (x : List ℤ) → limits ≡ joint_limits axis masters → PruningLosesNothing tech plan masters
-      → IsLeastSolution first.session.vars (listed_with first.listed first.session.edges limits) (value_of x) → length x ≡ first.session.vars
-      → length (listed_with first.listed first.session.edges limits) ≤ most_edges → AreLeastValues tech plan masters first.starts.items axis x
+  pub least_values : (limits : List Edge) (x : List ℤ) → limits ≡ joint_limits axis masters
+      → PruningLosesNothing tech plan masters
+      → IsLeastSolution first.session.vars (listed_with first.listed first.session.edges limits) (value_of x)
+      → length x ≡ first.session.vars → length (listed_with first.listed first.session.edges limits) ≤ most_edges
+      → AreLeastValues tech plan masters first.starts.items axis x
   least_values limits x is pruning least counted few =
       let before : List Coords = first.starts.items in
       let both : List Edge = list_over axis tech first.plan (bare_of masters) before ++ joint_limits axis masters in
       let listed : List Edge = list_over axis tech plan masters before in
       let system : List Edge = system_over axis tech plan masters before in
       let vars : ℕ = joint_variables axis masters in
-      let front = more.is_first.begins ∙ ap (λ (ms : List Master). list_over axis tech first.plan ms before) (sym more.bared) in
+      let front = more.is_first.begins ∙ ap (λ (ms : List Master). list_over axis tech first.plan ms before)
+      (sym more.bared) in
       let are : listed_with first.listed first.session.edges limits ≡ both =
-      ap (λ (es : List Edge). es ++ limits) front ∙ ap (λ (es : List Edge). list_over axis tech first.plan (bare_of masters) before ++ es) is in
+      ap (λ (es : List Edge). es ++ limits) front ∙ ap (λ (es : List Edge). list_over axis tech first.plan
+      (bare_of masters) before ++ es) is in
       let L : List Edge → Type 0 = λ es. IsLeastSolution first.session.vars es (value_of x) in
       let of_both : IsLeastSolution vars both (value_of x) = rw vars_are at (subst L are least) in
-      let of_list = least_alike vars both listed (value_of x) (split_alike axis tech plan first.plan masters before more.ask) of_both in
+      let of_list = least_alike vars both listed (value_of x)
+      (split_alike axis tech plan first.plan masters before more.ask) of_both in
       let same = pruning.same_solutions axis before (boxes_of tech masters before laid_of) in
       let of_system = least_alike vars listed system (value_of x) same of_list in
-      let n : length (listed_with first.listed first.session.edges limits) ≡ length both = ap (λ (es : List Edge). length es) are in
+      let n : length (listed_with first.listed first.session.edges limits) ≡ length both = ap
+      (λ (es : List Edge). length es) are in
       let counts = list_counted axis tech plan first.plan masters before more.ask in
       record {
         solvable = record {

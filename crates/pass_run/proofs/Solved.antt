@@ -57,11 +57,14 @@ use Rattle.slack_pack.proofs.Walks.{stands}
 -- ---- the order
 
 -- the variables sorted by their values are an order, as no value is below the origin's
-pub order_of : (axis : Axis) (tech : Tech) (plan : Plan) (masters : List Master) (before : List Coords) (vars : ℕ) (order : List ℕ) → ArePlanned tech plan masters
-    → AreLaidOut tech masters before → vars ≡ joint_variables axis masters → IsOrderAlong axis before order → IsOrder vars order
+pub order_of : (axis : Axis) (tech : Tech) (plan : Plan) (masters : List Master) (before : List Coords) (vars : ℕ)
+    (order : List ℕ)
+    → ArePlanned tech plan masters → AreLaidOut tech masters before → vars ≡ joint_variables axis masters
+    → IsOrderAlong axis before order → IsOrder vars order
 order_of axis tech plan masters before vars order planned laid v along =
     let count : length (joint_values axis before) ≡ vars = joint_length axis tech masters before laid ∙ sym v in
-    sorted_is_order vars (value_of (joint_values axis before)) order (omega (arith, v)) (rw count at along.names) along.in_order refl
+    sorted_is_order vars (value_of (joint_values axis before)) order (omega (arith, v)) (rw count at along.names)
+    along.in_order refl
     (λ u lt. joint_above axis tech masters before u (planned_joined tech plan masters planned) laid (omega (arith, v, lt)))
 
 -- ---- walks
@@ -134,10 +137,9 @@ walks_listed edges log fars walks are paths =
 
 -- ---- a solved pass
 
-module _ {axis : Axis} {tech : Tech} {plan : Plan} {masters : List Master} {before : List Coords} {listed : Listed} {solved : Solved}
-    (planned : ArePlanned tech plan masters) (lawful : All (IsLawful tech) masters) (laid : AreLaidOut tech masters before)
-    (run : IsSolvedPass axis tech plan masters before listed solved) where
-
+module _ {axis : Axis} {tech : Tech} {plan : Plan} {masters : List Master} {before : List Coords} {listed : Listed}
+    {solved : Solved} (planned : ArePlanned tech plan masters) (lawful : All (IsLawful tech) masters)
+    (laid : AreLaidOut tech masters before) (run : IsSolvedPass axis tech plan masters before listed solved) where
   abbrev now : Step
   now = step_of axis listed solved
 
@@ -155,19 +157,22 @@ module _ {axis : Axis} {tech : Tech} {plan : Plan} {masters : List Master} {befo
   ended = record {
     order = run.order;
     rounds = solved.rounds;
-    is_order = order_of axis tech plan masters before listed.graph.vars run.order planned laid run.is_list.vars run.along;
+    is_order = order_of axis tech plan masters before listed.graph.vars run.order planned laid run.is_list.vars
+        run.along;
     of_rounds = run.of_rounds;
   }
 
   pub far_reached : ReachFar listed.graph.vars listed.graph.edges listed.base
-  far_reached = rw (run.is_list.vars, run.is_list.edges, run.is_list.bases) (reach_far axis tech plan masters before planned)
+  far_reached = rw (run.is_list.vars, run.is_list.edges, run.is_list.bases)
+      (reach_far axis tech plan masters before planned)
 
   same : HaveSameSolutions listed_edges system
   same = solutions_kept tech plan masters lawful axis before (settling.boxes_of tech masters before laid)
 
   -- the least solution of the list is that of the system
   solved_least : IsLeastSolution vars system (value_of solved.x)
-  solved_least = least_alike vars listed_edges system (value_of solved.x) same (rw (run.is_list.vars, run.is_list.edges) at run.least)
+  solved_least = least_alike vars listed_edges system (value_of solved.x) same
+      (rw (run.is_list.vars, run.is_list.edges) at run.least)
 
   recorded : IsRecorded tech plan masters before now
   recorded = record {
@@ -180,7 +185,8 @@ module _ {axis : Axis} {tech : Tech} {plan : Plan} {masters : List Master} {befo
     backward = run.backward ∙ ap (λ es. length (backward_numbers es run.order)) run.is_list.edges;
     raises = run.of_rounds.raises;
     ended = rw run.is_list.edges at run.of_rounds.ended;
-    walks = ap (walks_to solved.log) run.is_list.bases ∙ walks_are axis masters solved.log run.of_rounds.raises _ run.of_rounds.alike;
+    walks = ap (walks_to solved.log) run.is_list.bases ∙ walks_are axis masters solved.log run.of_rounds.raises _
+        run.of_rounds.alike;
   }
 
   -- the values after the pass solve its list, so another may be made over the layouts
@@ -191,11 +197,8 @@ module _ {axis : Axis} {tech : Tech} {plan : Plan} {masters : List Master} {befo
     solves = rw run.is_list.edges at run.least.solves;
   }
 
-  settles : StaySettled tech plan masters before axis (moved_by masters before now)
-  settles = record {
-    laid = settling.laid_next axis tech plan masters before solved.x lawful laid solves;
-    settled = settling.settled_next axis tech plan masters before solved.x planned lawful laid solves;
-  }
+  settled : StaySettled tech plan masters before axis (moved_by masters before now)
+  settled = settling.settles planned lawful laid solves
 
   critical : All (HasPath listed.graph.edges solved.log) listed.base → (m : ℕ) → m < length masters
       → HasCriticalPath tech plan masters before now m
@@ -204,7 +207,8 @@ module _ {axis : Axis} {tech : Tech} {plan : Plan} {masters : List Master} {befo
       let count = bases_counted axis masters listed.base run.is_list.bases in
       let far_at : slice_index listed.base m ≡ far = far_is axis masters listed.base m run.is_list.bases lt in
       let F : ℕ → Type 0 = HasPath listed.graph.edges solved.log in
-      let path : HasPath listed_edges solved.log far = rw run.is_list.edges at (subst F far_at (paths m 0 (omega arith))) in
+      let path : HasPath listed_edges solved.log far = rw run.is_list.edges at
+      (subst F far_at (paths m 0 (omega arith))) in
       let at = path.as_long in
       let v = run.is_list.vars in
       let within = var_within axis masters m 1 lt (omega arith) in
@@ -220,33 +224,39 @@ module _ {axis : Axis} {tech : Tech} {plan : Plan} {masters : List Master} {befo
         as_long = cc;
       })
 
-  sound : All (HasPath listed.graph.edges solved.log) listed.base → (had : List Axis) → AreSettled tech plan masters had before
-      → IsSoundPass tech plan masters had before now
-  sound paths had settled =
+  sound : All (HasPath listed.graph.edges solved.log) listed.base → (had : List Axis)
+      → AreSettled tech plan masters had before → IsSoundPass tech plan masters had before now
+  sound paths had so_far =
       let x : ℕ → ℤ = value_of (joint_values axis before) in
-      let stays : Contains had axis → IsSolution system x = settling.stays_solved axis tech plan masters had before planned lawful laid settled in
-      let after : AreSettled tech plan masters (axis ∷ had) (moved_by masters before now) = settles.settled had settled in
+      let stays : Contains had axis → IsSolution system x = λ among. settling.stays_solved planned lawful laid so_far
+      among in
       record {
-        one_each = length-map listed.base (walk_to solved.log) ∙ bases_counted axis masters listed.base run.is_list.bases;
+        one_each = length-map listed.base (walk_to solved.log)
+            ∙ bases_counted axis masters listed.base run.is_list.bases;
         paths = critical paths;
         solved_before = stays;
         none_grows = λ among v lt. solved_least.below x (stays among) v lt;
-        placed = settling.placed_of tech plan masters (moved_by masters before now) (axis ∷ had) settles.laid after;
+        placed = settling.placed_of tech plan masters (moved_by masters before now) (axis ∷ had) settled.laid
+            (settled.settled had so_far);
       }
 
-  -- the greatest values over the list are those over the system, and the variables that cannot move are those on its critical walks
+  -- the greatest values over the list are those over the system, and the variables that cannot move are those on its
+  -- critical walks
   tight_most : (values : List ℤ) → IsListedMost listed.graph.vars listed.graph.edges listed.base solved.x values
       → IsTightMost tech plan masters before now values
   tight_most values found =
       let fars : List ℕ = bases_of axis masters in
       let x : ℕ → ℤ = value_of solved.x in
-      let own : IsListedMost vars listed_edges fars solved.x values = rw (run.is_list.bases, run.is_list.edges, run.is_list.vars) at found in
-      let most : IsMost vars system fars x (value_of values) = most_alike vars listed_edges system fars x (value_of values) same own.most in
+      let own : IsListedMost vars listed_edges fars solved.x values = rw
+      (run.is_list.bases, run.is_list.edges, run.is_list.vars) at found in
+      let most : IsMost vars system fars x (value_of values) = most_alike vars listed_edges system fars x
+      (value_of values) same own.most in
       let among = listed_among axis tech plan masters before in
       let walks : (v : ℕ) → v < vars → HasWalk listed_edges 0 v (x v) = λ v lt.
       let count = run.is_list.vars in
       let within : v < listed.graph.vars = omega arith in
-      rw run.is_list.edges at (reached listed.graph solved.log x v run.is_list.shape ended within (run.labels v within)) in
+      rw run.is_list.edges at (reached listed.graph solved.log x v run.is_list.shape ended within
+      (run.labels v within)) in
       let within = fars_within axis masters fars vars refl refl in
       record {
         most = record { one_each = own.one_each; most = most };
@@ -255,16 +265,18 @@ module _ {axis : Axis} {tech : Tech} {plan : Plan} {masters : List Master} {befo
           reached = λ u below. walk_more listed_edges system 0 u (x u) among (walks u below);
           some_far = some_far vars listed_edges fars v (reach_far axis tech plan masters before planned) within from lt;
           most = most;
-          attained = λ u above below. attained_more listed_edges system fars x u (value_of values u) among (own.attained u above below);
+          attained = λ u above below. attained_more listed_edges system fars x u (value_of values u) among
+              (own.attained u above below);
         }) v lt;
       }
 
   -- so the pass is made
-  pub pass_made : (pass : ℕ) (told : Bool) (made : Made) (x : List ℤ) → All (HasPath listed.graph.edges solved.log) listed.base
-      → made.step ≡ now → x ≡ made.step.x → made.layouts.items ≡ with_values axis masters before x
+  pub pass_made : (pass : ℕ) (told : Bool) (made : Made) (x : List ℤ)
+      → All (HasPath listed.graph.edges solved.log) listed.base → made.step ≡ now → x ≡ made.step.x
+      → made.layouts.items ≡ with_values axis masters before x
       → made.text.items ≡ pass_text masters listed.graph.edges pass made.step
-      → (IsTrue told → IsListedMost listed.graph.vars listed.graph.edges listed.base x made.most) → (told ≡ false → made.most ≡ [])
-      → IsPassMade tech plan masters before pass told made
+      → (IsTrue told → IsListedMost listed.graph.vars listed.graph.edges listed.base x made.most)
+      → (told ≡ false → made.most ≡ []) → IsPassMade tech plan masters before pass told made
   pass_made pass told made x paths is x_is layouts text most none =
       let on : x ≡ solved.x = x_is ∙ ap (λ (s : Step). s.x) is in
       let P : Step → Type 0 = λ s. IsPassMade tech plan masters before pass told (record made { step = s }) in
@@ -273,17 +285,18 @@ module _ {axis : Axis} {tech : Tech} {plan : Plan} {masters : List Master} {befo
         recorded = recorded;
         sound = sound paths;
         layouts = layouts ∙ ap (with_values axis masters before) on;
-        stays = settles;
-        text = text ∙ (ap (pass_text masters listed.graph.edges pass) is ∙ ap (λ es. pass_text masters es pass now) run.is_list.edges);
+        stays = settled;
+        text = text ∙ (ap (pass_text masters listed.graph.edges pass) is
+            ∙ ap (λ es. pass_text masters es pass now) run.is_list.edges);
         most = λ asked. tight_most made.most (rw on at (most asked));
         none = none;
       })
 
 -- ---- a pass without a solution
 
-module _ {axis : Axis} {tech : Tech} {plan : Plan} {masters : List Master} {before : List Coords} {listed : Listed} {cycle : List ℕ}
-    (laid : AreLaidOut tech masters before) (run : IsStoppedPass axis tech plan masters before listed cycle) where
-
+module _ {axis : Axis} {tech : Tech} {plan : Plan} {masters : List Master} {before : List Coords} {listed : Listed}
+    {cycle : List ℕ} (laid : AreLaidOut tech masters before)
+    (run : IsStoppedPass axis tech plan masters before listed cycle) where
   stopped_cycle : HasPositiveCycle (system_over axis tech plan masters before)
   stopped_cycle = cycle_among axis tech plan masters before (rw run.is_list.edges at run.cyclic)
 
@@ -307,6 +320,7 @@ module _ {axis : Axis} {tech : Tech} {plan : Plan} {masters : List Master} {befo
       }
 
   -- this comes only where the axis has had no pass
-  pub stopped_first : ArePlanned tech plan masters → All (IsLawful tech) masters → IsFirstOn tech plan masters before axis
-  stopped_first planned lawful had settled among =
-      settling.no_cycle_again axis tech plan masters had before planned lawful laid stopped_cycle settled among
+  pub stopped_first : ArePlanned tech plan masters → All (IsLawful tech) masters
+      → IsFirstOn tech plan masters before axis
+  stopped_first planned lawful had settled among = settling.no_cycle_again planned lawful laid settled among
+      stopped_cycle

@@ -57,8 +57,9 @@ told_counted tech plan masters coming start (s ∷ steps) (m ∷ mosts) told = a
 
 -- ---- all of them
 
-pub are_mosts : (tech : Tech) (plan : Plan) (masters : List Master) (start : List Coords) (steps : List Step) (mosts : List (List ℤ)) → AreTold tech plan masters [] start steps mosts
-    → AreMosts tech plan masters start steps mosts
+pub are_mosts : (tech : Tech) (plan : Plan) (masters : List Master) (start : List Coords) (steps : List Step)
+    (mosts : List (List ℤ))
+    → AreTold tech plan masters [] start steps mosts → AreMosts tech plan masters start steps mosts
 are_mosts tech plan masters start steps mosts told = record {
   one_each = told_counted tech plan masters [] start steps mosts told;
   last = λ axis number before step last. (last_told tech plan masters axis start steps number before step mosts last told).most;
@@ -69,6 +70,8 @@ are_mosts tech plan masters start steps mosts told = record {
       ap (λ k. most_at mosts k) (sym is) ∙ others_silent tech plan masters start steps mosts n told (omega arith) (subst N (sym is) none);
 }
 
-pub are_tight : (tech : Tech) (plan : Plan) (masters : List Master) (start : List Coords) (steps : List Step) (mosts : List (List ℤ)) → AreTold tech plan masters [] start steps mosts
-    → AreTight tech plan masters start steps mosts
-are_tight tech plan masters start steps mosts told = λ axis number before step last. (last_told tech plan masters axis start steps number before step mosts last told).tight
+pub are_tight : (tech : Tech) (plan : Plan) (masters : List Master) (start : List Coords) (steps : List Step)
+    (mosts : List (List ℤ))
+    → AreTold tech plan masters [] start steps mosts → AreTight tech plan masters start steps mosts
+are_tight tech plan masters start steps mosts told = λ axis number before step last.
+    (last_told tech plan masters axis start steps number before step mosts last told).tight

@@ -21,13 +21,17 @@ use Rattle.pass_run.specs.Report.{pass_text}
 use Rattle.pass_run.specs.Theorems.{IsSoundPass}
 use Rattle.pass_run.specs.Told.{IsTightMost}
 
--- The pass with this number was made over the layouts before it: its values are least, what is recorded of it is so, and it is
--- sound; these are the layouts after it, over which another may be made, and its text. Its greatest values are told if asked for.
-pub record IsPassMade (tech : Tech) (plan : Plan) (masters : List Master) (before : List Coords) (pass : ℕ) (told : Bool) (made : Made)
-    : Type 0 where
+-- The pass with this number was made over the layouts before it: its values are least, what is recorded of it is so,
+-- and
+-- it is sound. These are the layouts after it, over which another may be made, and its text. Its greatest values are
+-- told
+-- if asked for.
+pub record IsPassMade (tech : Tech) (plan : Plan) (masters : List Master) (before : List Coords) (pass : ℕ)
+    (told : Bool) (made : Made) : Type 0 where
   pub least : IsLeastPass tech plan masters before made.step
   pub recorded : IsRecorded tech plan masters before made.step
-  pub sound : (had : List Axis) → AreSettled tech plan masters had before → IsSoundPass tech plan masters had before made.step
+  pub sound : (had : List Axis) → AreSettled tech plan masters had before
+      → IsSoundPass tech plan masters had before made.step
   pub layouts : made.layouts.items ≡ moved_by masters before made.step
   pub stays : StaySettled tech plan masters before made.step.axis (moved_by masters before made.step)
   pub text : made.text.items ≡ pass_text masters (list_over made.step.axis tech plan masters before) pass made.step
@@ -36,7 +40,8 @@ pub record IsPassMade (tech : Tech) (plan : Plan) (masters : List Master) (befor
 
 -- a cycle comes only where the axis has had no pass
 abbrev pub IsFirstOn : Tech → Plan → List Master → List Coords → Axis → Type 0
-IsFirstOn tech plan masters layouts axis = (had : List Axis) → AreSettled tech plan masters had layouts → Contains had axis → ⊥
+IsFirstOn tech plan masters layouts axis =
+    (had : List Axis) → AreSettled tech plan masters had layouts → Contains had axis → ⊥
 
 -- why there is no pass with this number on an axis over some layouts
 abbrev pub StopsPass : Tech → Plan → List Master → List Coords → ℕ → Axis → Stop → Type 0

@@ -33,7 +33,8 @@ use Rattle.pass_run.specs.Layouts.{joint_values}
 use Rattle.pass_run.specs.Passes.{kept_counts}
 
 -- the list of the pass on an axis over some layouts, of which a constraint graph is made
-pub record IsListOver (axis : Axis) (tech : Tech) (plan : Plan) (masters : List Master) (before : List Coords) (listed : Listed) : Type 0 where
+pub record IsListOver (axis : Axis) (tech : Tech) (plan : Plan) (masters : List Master) (before : List Coords)
+    (listed : Listed) : Type 0 where
   pub vars : listed.graph.vars ≡ joint_variables axis masters
   pub edges : listed.graph.edges ≡ list_over axis tech plan masters before
   pub few : length listed.graph.edges ≤ most_edges
@@ -49,8 +50,8 @@ pub record IsOrderAlong (axis : Axis) (layouts : List Coords) (order : List ℕ)
   pub in_order : IsInOrderOf (value_of (joint_values axis layouts)) order
 
 -- Liao and Wong's rounds over the list of a pass, in order of the values before it, have ended with a solution.
-pub record IsSolvedPass (axis : Axis) (tech : Tech) (plan : Plan) (masters : List Master) (before : List Coords) (listed : Listed) (solved : Solved)
-    : Type 0 where
+pub record IsSolvedPass (axis : Axis) (tech : Tech) (plan : Plan) (masters : List Master) (before : List Coords)
+    (listed : Listed) (solved : Solved) : Type 0 where
   pub is_list : IsListOver axis tech plan masters before listed
   pub order : List ℕ
   pub along : IsOrderAlong axis before order
@@ -62,8 +63,8 @@ pub record IsSolvedPass (axis : Axis) (tech : Tech) (plan : Plan) (masters : Lis
   pub labels : (v : ℕ) → v < listed.graph.vars → label (raises_in solved.log) v ≡ Some (value_of solved.x v)
 
 -- They have stopped at a cycle.
-pub record IsStoppedPass (axis : Axis) (tech : Tech) (plan : Plan) (masters : List Master) (before : List Coords) (listed : Listed) (cycle : List ℕ)
-    : Type 0 where
+pub record IsStoppedPass (axis : Axis) (tech : Tech) (plan : Plan) (masters : List Master) (before : List Coords)
+    (listed : Listed) (cycle : List ℕ) : Type 0 where
   pub is_list : IsListOver axis tech plan masters before listed
   pub order : List ℕ
   pub along : IsOrderAlong axis before order

@@ -92,7 +92,8 @@ fn none_yet(
 ) -> Result<SoFar, AllocError>
     requires planned { ArePlanned tech.now plan.now masters.now }
     requires clean { All (StartsClean tech.now) masters.now }
-    ensures going { IfOk result (λ s. (with_most : Bool) (coming : List SomeAxis) → IsGoing tech.now plan.now masters.now with_most coming s) }
+    ensures going { IfOk result (λ s. (with_most : Bool) (coming : List SomeAxis)
+        → IsGoing tech.now plan.now masters.now with_most coming s) }
     ensures none { IfOk result (λ s. s.steps.items ≡ []) }
 {
     let layouts = starts(alloc, tech, masters)?;

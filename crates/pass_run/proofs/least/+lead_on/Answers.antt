@@ -1,37 +1,30 @@
-use Rattle.std.proofs.Common.{List, ◌∷◌, ◌++◌, sym, subst}
+use Rattle.std.proofs.Common.{◌∷◌, ◌++◌}
 use Rattle.std.proofs.lemmas.Option.{IfSome_then}
 use Rattle.std.proofs.lemmas.Result.{IfOk-weaker}
-use Rattle.lam_geom.specs.declared.boxes.Axis.{Axis}
-use Rattle.sym_items.specs.declared.items.Coords.{Coords}
-use Rattle.pass_run.specs.Laid.{AreSettled}
 use Rattle.pass_run.proofs.Chain.{settled_first}
 use Rattle.pass_run.proofs.Leading.{made_on, lead_first, nowhere_first, none_then}
 use Rattle.pass_run.proofs.least.+lead_on.Goals as goal
 
 pub returns-in-Ok-clause-lead : goal.returns-in-Ok-clause-lead
 returns-in-Ok-clause-lead g t c =
-    let axis = c.in-Some.axis.now in
-    let first = made_on c.args.tech.now c.args.plan.now c.args.masters.now axis c.deref.result.now 1 _ c.in-Ok.made c.in-Ok.ensures.axis c.in-Ok.ensures.made in
-    IfOk-weaker c.lead_on.result _ _
-    (λ o some. IfSome_then o some (λ layouts lead.
-    rw (c.in-Some.ensures.cases.0, ← c.deref.ensures.value) (lead_first c.args.tech.now c.args.plan.now c.args.masters.now axis c.in-Some.later.now c.deref.result.now c.in-Ok.made.layouts.items layouts.items first lead)))
+    let first = made_on c.in-Some.axis.now c.in-Ok.ensures.axis c.in-Ok.ensures.made in
+    IfOk-weaker c.lead_on.result _ _ (λ o some. IfSome_then o some (λ layouts lead.
+    rw (c.in-Some.ensures.cases.0, ← c.deref.ensures.value) (lead_first first c.in-Some.later.now layouts.items lead)))
     c.lead_on.ensures.lead
 
 pub returns-in-Ok-clause-none : goal.returns-in-Ok-clause-none
 returns-in-Ok-clause-none g t c =
-    let axis = c.in-Some.axis.now in
-    let first = made_on c.args.tech.now c.args.plan.now c.args.masters.now axis c.deref.result.now 1 _ c.in-Ok.made c.in-Ok.ensures.axis c.in-Ok.ensures.made in
-    IfOk-weaker c.lead_on.result _ _
-    (λ o none. none_then o none (λ nowhere.
-    rw (c.in-Some.ensures.cases.0, ← c.deref.ensures.value) (nowhere_first c.args.tech.now c.args.plan.now c.args.masters.now axis c.in-Some.later.now c.deref.result.now c.in-Ok.made.layouts.items first nowhere)))
+    let first = made_on c.in-Some.axis.now c.in-Ok.ensures.axis c.in-Ok.ensures.made in
+    IfOk-weaker c.lead_on.result _ _ (λ o none. none_then o none (λ nowhere.
+    rw (c.in-Some.ensures.cases.0, ← c.deref.ensures.value) (nowhere_first first c.in-Some.later.now nowhere)))
     c.lead_on.ensures.none
 
 pub returns-in-Ok-clause-settled : goal.returns-in-Ok-clause-settled
 returns-in-Ok-clause-settled g t c =
-    let axis = c.in-Some.axis.now in
-    let first = made_on c.args.tech.now c.args.plan.now c.args.masters.now axis c.deref.result.now 1 _ c.in-Ok.made c.in-Ok.ensures.axis c.in-Ok.ensures.made in
-    IfOk-weaker c.lead_on.result _ _
-    (λ o some. IfSome_then o some (λ layouts rest had settled.
+    let first = made_on c.in-Some.axis.now c.in-Ok.ensures.axis c.in-Ok.ensures.made in
+    IfOk-weaker c.lead_on.result _ _ (λ o some. IfSome_then o some (λ layouts rest had settled.
     rw c.in-Some.ensures.cases.0
-    (settled_first c.args.tech.now c.args.plan.now c.args.masters.now axis c.in-Some.later.now had layouts.items (rest (axis ∷ had) (first.stays.settled had (rw c.deref.ensures.value settled))))))
+    (settled_first c.args.tech.now c.args.plan.now c.args.masters.now c.in-Some.axis.now c.in-Some.later.now had
+    layouts.items
+    (rest (c.in-Some.axis.now ∷ had) (first.stays.settled had (rw c.deref.ensures.value settled))))))
     c.lead_on.ensures.settled

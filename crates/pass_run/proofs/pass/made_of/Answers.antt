@@ -9,7 +9,8 @@ step_from-requires-clause-ended c = ended c.requires.planned c.requires.lawful c
 
 pub step_from-requires-clause-among : goal.step_from-requires-clause-among
 step_from-requires-clause-among c =
-    fars_within c.args.axis c.args.masters.now c.args.listed.now.base c.args.listed.now.graph.vars c.requires.run.is_list.bases c.requires.run.is_list.vars
+    fars_within c.args.axis c.args.masters.now c.args.listed.now.base c.args.listed.now.graph.vars
+    c.requires.run.is_list.bases c.requires.run.is_list.vars
 
 pub pass_text-requires-clause-walks : goal.pass_text-requires-clause-walks
 pass_text-requires-clause-walks c =
@@ -17,14 +18,22 @@ pass_text-requires-clause-walks c =
 
 pub most_of-requires-clause-among : goal.most_of-requires-clause-among
 most_of-requires-clause-among c =
-    fars_within c.args.axis c.args.masters.now c.args.listed.now.base c.args.listed.now.graph.vars c.requires.run.is_list.bases c.requires.run.is_list.vars
+    fars_within c.args.axis c.args.masters.now c.args.listed.now.base c.args.listed.now.graph.vars
+    c.requires.run.is_list.bases c.requires.run.is_list.vars
 
 pub most_of-requires-clause-reach : goal.most_of-requires-clause-reach
 most_of-requires-clause-reach c = far_reached c.requires.planned c.requires.lawful c.requires.laid c.requires.run
 
 pub returns-clause-made : goal.returns-clause-made
 returns-clause-made c =
-    let made : Made = record { step = c.in_ok-step.step; layouts = c.in_ok-layouts.layouts; text = c.in_ok-text.text; most = c.in_ok-most.most } in
+    let made : Made = record {
+      step = c.in_ok-step.step;
+      layouts = c.in_ok-layouts.layouts;
+      text = c.in_ok-text.text;
+      most = c.in_ok-most.most;
+    } in
     let step = c.in_ok-step.ensures in
-    pass_made c.requires.planned c.requires.lawful c.requires.laid c.requires.run c.args.pass c.args.told made c.as_slice-x.result.now
-    step.paths step.value c.as_slice-x.ensures c.in_ok-layouts.ensures c.in_ok-text.ensures c.in_ok-most.ensures.most c.in_ok-most.ensures.none
+    pass_made c.requires.planned c.requires.lawful c.requires.laid c.requires.run c.args.pass c.args.told made
+    c.as_slice-x.result.now
+    step.paths step.value c.as_slice-x.ensures c.in_ok-layouts.ensures c.in_ok-text.ensures c.in_ok-most.ensures.most
+    c.in_ok-most.ensures.none

@@ -21,14 +21,23 @@ pub solve_reached-requires : goal.solve_reached-requires
 solve_reached-requires g c =
     let O : List ℕ → Type 0 = IsOrder c.in_ok-listed.listed.graph.vars in
     subst O (sym c.deref.ensures.value)
-    (order_of c.args.axis c.args.tech.now c.args.plan.now c.args.masters.now c.args.before.now c.in_ok-listed.listed.graph.vars c.in_ok-order.order.items c.requires.planned c.requires.laid
-    c.in_ok-listed.ensures.listed.vars (record { names = c.in_ok-order.ensures.names; in_order = c.in_ok-order.ensures.in_order }))
+    (order_of c.args.axis c.args.tech.now c.args.plan.now c.args.masters.now c.args.before.now
+    c.in_ok-listed.listed.graph.vars c.in_ok-order.order.items c.requires.planned c.requires.laid
+    c.in_ok-listed.ensures.listed.vars (record {
+      names = c.in_ok-order.ensures.names;
+      in_order =
+          c.in_ok-order.ensures.in_order;
+    }))
 
 pub made_of-requires-clause-run : goal.made_of-requires-clause-run
 made_of-requires-clause-run g c = record {
   is_list = c.in_ok-listed.ensures.listed;
   order = c.deref.result.now;
-  along = rw c.deref.ensures.value (record { names = c.in_ok-order.ensures.names; in_order = c.in_ok-order.ensures.in_order });
+  along = rw c.deref.ensures.value (record {
+    names = c.in_ok-order.ensures.names;
+    in_order =
+        c.in_ok-order.ensures.in_order;
+  });
   least = c.in-Ok.ensures.least;
   one_each = c.in-Ok.ensures.one_each;
   small = c.in-Ok.ensures.small;
@@ -42,7 +51,8 @@ cycle_text-requires-clause-few g c =
     let graph = c.in_ok-listed.listed.graph in
     let P : List ℕ → Type 0 = IsSimplePositiveCycle graph.edges in
     let I : Unsolved → Type 0 = λ u. IfCycle u P in
-    cycle_few graph c.as_slice.result.now c.in_ok-listed.ensures.listed.shape (subst P (sym c.as_slice.ensures) (subst I c.in-Err-Cycle.field-0-is c.in-Err-Cycle.ensures.cycle))
+    cycle_few graph c.as_slice.result.now c.in_ok-listed.ensures.listed.shape
+    (subst P (sym c.as_slice.ensures) (subst I c.in-Err-Cycle.field-0-is c.in-Err-Cycle.ensures.cycle))
 
 pub returns-in-Err-Cycle : goal.returns-in-Err-Cycle
 returns-in-Err-Cycle g c =
@@ -51,10 +61,15 @@ returns-in-Err-Cycle g c =
     let H : Unsolved → Type 0 = λ u. IfCycle u (λ (ns : List ℕ). HasPositiveCycle listed.graph.edges) in
     let I : Unsolved → Type 0 = λ u. IfCycle u (λ (ns : List ℕ). IsSimplePositiveCycle listed.graph.edges ns) in
     let J : Unsolved → Type 0 = λ u. IfCycle u (IsCycleOf listed.graph.edges c.deref.result.now) in
-    let run : IsStoppedPass c.args.axis c.args.tech.now c.args.plan.now c.args.masters.now c.args.before.now listed cycle = record {
+    let run : IsStoppedPass c.args.axis c.args.tech.now c.args.plan.now c.args.masters.now c.args.before.now listed
+    cycle = record {
       is_list = c.in_ok-listed.ensures.listed;
       order = c.deref.result.now;
-      along = rw c.deref.ensures.value (record { names = c.in_ok-order.ensures.names; in_order = c.in_ok-order.ensures.in_order });
+      along = rw c.deref.ensures.value (record {
+        names = c.in_ok-order.ensures.names;
+        in_order =
+            c.in_ok-order.ensures.in_order;
+      });
       cyclic = subst H c.in-Err-Cycle.field-0-is c.in-Err-Cycle.ensures.cyclic;
       simple = subst I c.in-Err-Cycle.field-0-is c.in-Err-Cycle.ensures.cycle;
       stops = subst J c.in-Err-Cycle.field-0-is c.in-Err-Cycle.ensures.stopped;
@@ -64,7 +79,8 @@ returns-in-Err-Cycle g c =
       made = tt;
       stopped = (
         stopped c.requires.laid run c.args.pass c.in_ok-text-in-Err-Cycle.text.items
-        (c.in_ok-text-in-Err-Cycle.ensures ∙ ap (λ ns. cycle_text listed.names listed.graph.edges c.args.pass c.args.axis ns) c.as_slice.ensures),
+            (c.in_ok-text-in-Err-Cycle.ensures ∙ ap (λ ns. cycle_text listed.names listed.graph.edges c.args.pass
+            c.args.axis ns) c.as_slice.ensures),
         stopped_first c.requires.laid run c.requires.planned c.masters_are_lawful.ensures,
       );
     }

@@ -56,7 +56,8 @@ returns-clause-mosts g c = λ asked.
     let e = c.in_ok-given.ensures in
     let test = c.loop-axis-test.false in
     let none = drop_all c.loop-axis.axis-index c.args.axes.now (omega arith) in
-    are_mosts c.args.tech.now c.args.plan.now c.args.masters.now (starts_of c.args.tech.now c.args.masters.now) c.in_ok-given.field-0.steps c.in_ok-given.field-0.mosts
+    are_mosts c.args.tech.now c.args.plan.now c.args.masters.now (starts_of c.args.tech.now c.args.masters.now)
+    c.in_ok-given.field-0.steps c.in_ok-given.field-0.mosts
     (going_told c.loop-axis.invariant.going c.in_ok-given.field-0 none e.steps e.mosts asked)
 
 pub returns-clause-tight : goal.returns-clause-tight
@@ -64,5 +65,6 @@ returns-clause-tight g c = λ asked.
     let e = c.in_ok-given.ensures in
     let test = c.loop-axis-test.false in
     let none = drop_all c.loop-axis.axis-index c.args.axes.now (omega arith) in
-    are_tight c.args.tech.now c.args.plan.now c.args.masters.now (starts_of c.args.tech.now c.args.masters.now) c.in_ok-given.field-0.steps c.in_ok-given.field-0.mosts
+    are_tight c.args.tech.now c.args.plan.now c.args.masters.now (starts_of c.args.tech.now c.args.masters.now)
+    c.in_ok-given.field-0.steps c.in_ok-given.field-0.mosts
     (going_told c.loop-axis.invariant.going c.in_ok-given.field-0 none e.steps e.mosts asked)

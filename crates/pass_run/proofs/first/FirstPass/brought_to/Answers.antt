@@ -9,4 +9,5 @@ pub joint_limits-requires-clause-base : goal.joint_limits-requires-clause-base
 joint_limits-requires-clause-base c = c.as_slice.ensures ∙ bases_are c.requires.more
 
 pub follow-requires-clause-among : goal.follow-requires-clause-among
-follow-requires-clause-among c = limits_fit c.requires.more c.deref-2.result.now (c.deref-2.ensures.value ∙ c.in_ok-limits.ensures)
+follow-requires-clause-among c = limits_fit c.requires.more c.deref-2.result.now
+    (c.deref-2.ensures.value ∙ c.in_ok-limits.ensures)

@@ -10,16 +10,19 @@ use Rattle.pass_run.proofs.first.FirstPass.new.Goals as goal
 
 pub starts-requires : goal.starts-requires
 starts-requires g c =
-    (are_bared c.args.masters.items c.deref.result.now (c.deref.ensures.value ∙ c.in_ok-masters.ensures) c.requires.planned c.requires.clean).planned.each
+    (are_bared c.args.masters.items c.deref.result.now (c.deref.ensures.value ∙ c.in_ok-masters.ensures)
+    c.requires.planned c.requires.clean).planned.each
 
 pub list-requires-clause-planned : goal.list-requires-clause-planned
 list-requires-clause-planned g c = λ κs le.
-    (are_bared c.args.masters.items c.deref-2.result.now (c.deref-2.ensures.value ∙ c.in_ok-masters.ensures) c.requires.planned c.requires.clean).planned
+    (are_bared c.args.masters.items c.deref-2.result.now (c.deref-2.ensures.value ∙ c.in_ok-masters.ensures)
+    c.requires.planned c.requires.clean).planned
 
 pub list-requires-clause-laid : goal.list-requires-clause-laid
 list-requires-clause-laid g c = λ κs le.
     bared_laid c.deref-3.result.now
-    (are_bared c.args.masters.items c.deref-2.result.now (c.deref-2.ensures.value ∙ c.in_ok-masters.ensures) c.requires.planned c.requires.clean)
+    (are_bared c.args.masters.items c.deref-2.result.now (c.deref-2.ensures.value ∙ c.in_ok-masters.ensures)
+    c.requires.planned c.requires.clean)
     (c.deref-3.ensures.value ∙ (c.in_ok-starts.ensures ∙ ap (starts_of c.args.tech.now) (c.deref.ensures.value ∙ sym c.deref-2.ensures.value)))
 
 pub returns-clause-first : goal.returns-clause-first
