@@ -1,7 +1,5 @@
 -- Passes lead to one place.
-use Rattle.std.proofs.Common.{Option, None, Some, ◌≡◌, ℕ, ℤ, List, [], ◌∷◌, ◌++◌, refl, sym, ap, ◌∙◌, subst, Bool, arith}
-use Rattle.std.specs.List.{All}
-use Rattle.std.specs.Prelude.{IfNone}
+use Rattle.std.proofs.Common.{Option, None, Some, ◌≡◌, ℕ, ℤ, List, [], ◌∷◌, ◌++◌, refl, sym, ap, ◌∙◌, subst, Bool, arith, All, IfNone}
 use Rattle.lam_geom.specs.declared.boxes.Axis.{Axis}
 use Rattle.rule_table.specs.declared.technology.Tech.{Tech}
 use Rattle.cons_graph.specs.Solutions.{value_of}
@@ -45,44 +43,40 @@ module _ (tech : Tech) (plan : Plan) (masters : List Master) where
   pub passes_solvable : (before : List Coords) (steps : List Step) → ArePasses tech plan masters before steps
       → AreSolvable tech plan masters before steps
   passes_solvable before [] made = tt
-  passes_solvable before (s ∷ steps) made = (
-    (made_least before s made.0 made.1).solvable,
-    passes_solvable
-        (moved_by masters before s) steps made.2,
-  )
+  passes_solvable before (s ∷ steps) made =
+      let rest = passes_solvable (moved_by masters before s) steps made.2 in
+      ((made_least before s made.0 made.1).solvable, rest)
 
-  -- what refuses some passes names the first of them that has no values
-  abbrev pub many_first : (axes : List Axis) (p : ℕ) → HasManyEdges tech plan masters axes p
-      → IsFirstUnsolvable tech plan masters axes p
-  many_first axes p r = record {
+-- what refuses some passes names the first of them that has no values
+module _ {tech : Tech} {plan : Plan} {masters : List Master} {axes : List Axis} {p : ℕ} where
+  abbrev pub many_first : HasManyEdges tech plan masters axes p → IsFirstUnsolvable tech plan masters axes p
+  many_first r = record {
     axis = r.axis;
     done = r.done;
     comes = r.comes;
-    before = passes_solvable (starts_of tech masters) r.done r.comes.made;
+    before = passes_solvable tech plan masters (starts_of tech masters) r.done r.comes.made;
     not_solvable = λ s. let few = s.few in let many = r.many in omega (arith, many, few);
   }
 
-  abbrev pub cycle_first : (axes : List Axis) (p : ℕ) (t : List ℕ) → IsUnsatisfiable tech plan masters axes p t
+  abbrev pub cycle_first : {t : List ℕ} → IsUnsatisfiable tech plan masters axes p t
       → IsFirstUnsolvable tech plan masters axes p
-  cycle_first axes p t r = record {
+  cycle_first r = record {
     axis = r.axis;
     done = r.done;
     comes = r.comes;
-    before = passes_solvable (starts_of tech masters) r.done r.comes.made;
+    before = passes_solvable tech plan masters (starts_of tech masters) r.done r.comes.made;
     not_solvable = λ s. s.acyclic r.cyclic.cyclic;
   }
 
-  -- ---- the place to which passes lead
+-- ---- the place to which passes lead
 
+module _ (tech : Tech) (plan : Plan) (masters : List Master) where
   pub passes_lead : (before : List Coords) (steps : List Step) → ArePasses tech plan masters before steps
       → LeadTo tech plan masters (axes_of steps) before (layouts_after masters before steps)
   passes_lead before [] made = refl
-  passes_lead before (s ∷ steps) made = (
-    s.x,
-    made_least before s made.0 made.1,
-    passes_lead
-        (moved_by masters before s) steps made.2,
-  )
+  passes_lead before (s ∷ steps) made =
+      let rest = passes_lead (moved_by masters before s) steps made.2 in
+      (s.x, made_least tech plan masters before s made.0 made.1, rest)
 
   -- the least values of an axis are one list
   one_list : (before : List Coords) (axis : Axis) (x y : List ℤ) → AreLeastValues tech plan masters before axis x
@@ -107,7 +101,8 @@ module _ (tech : Tech) (plan : Plan) (masters : List Master) where
   next_solvable before after (s ∷ done) axis later made lead =
       let L : List ℤ → Type 0 = λ x. LeadTo tech plan masters (axes_of done ++ axis ∷ later)
       (with_values s.axis masters before x) after in
-      let x : lead.0 ≡ s.x = one_list before s.axis lead.0 s.x lead.1 (made_least before s made.0 made.1) in
+      let x : lead.0 ≡ s.x = one_list before s.axis lead.0 s.x lead.1
+      (made_least tech plan masters before s made.0 made.1) in
       next_solvable (moved_by masters before s) after done axis later made.2 (subst L x lead.2)
 
   -- so where they lead to a place each of them has values, and they are not refused
@@ -122,8 +117,8 @@ module _ (tech : Tech) (plan : Plan) (masters : List Master) where
   pub not_refused : (axes : List Axis) (after : List Coords) (fault : PassFault) → LeadTo tech plan masters axes (starts_of tech masters) after
       → RefusesPasses tech plan masters axes fault → fault ≡ OutOfMemory
   not_refused axes after OutOfMemory lead r = refl
-  not_refused axes after (TooManyEdges p) lead r = absurd (led_solvable axes p after (many_first axes p r) lead)
-  not_refused axes after (Unsatisfiable p t) lead r = absurd (led_solvable axes p after (cycle_first axes p t r) lead)
+  not_refused axes after (TooManyEdges p) lead r = absurd (led_solvable axes p after (many_first r) lead)
+  not_refused axes after (Unsatisfiable p t) lead r = absurd (led_solvable axes p after (cycle_first r) lead)
 
   pub lead_to_one_place : LeadToOnePlace tech plan masters
   lead_to_one_place = record { steps = passes_lead; one = one_place; not_refused = not_refused }

@@ -16,11 +16,8 @@ pub mod Chain
 pub mod Determined
 pub mod OneRefusal
 pub mod Leading
-mod FoundPairs
 pub mod Reach
-pub mod Tight
 pub mod Lasts
-pub mod Told
 pub mod Cells
 pub mod Masters
 pub mod Equals

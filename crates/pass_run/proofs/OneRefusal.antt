@@ -39,20 +39,21 @@ module _ (tech : Tech) (plan : Plan) (masters : List Master) where
       let first : s.axis ≡ t.axis = ap (λ (axes : List Axis). get_or axes 0 s.axis) same in
       let step : s ≡ t = one_pass tech plan masters before s t (sym first) pa.0 pb.0 pa.1 pb.1 in
       let P : Step → Type 0 = λ z. ArePasses tech plan masters (moved_by masters before z) b in
-      let N : Step → Type 0 = λ z. IsSolvable tech plan masters (layouts_after masters (moved_by masters before z) b) y
-      → ⊥ in
-      let later = one_stop (moved_by masters before s) a b x y u v pa.2 (subst P (sym step) pb.2) (ap (drop 1) same) na
-      (subst N (sym step) nb) in
+      let after : Step → List Coords = λ z. layouts_after masters (moved_by masters before z) b in
+      let N : Step → Type 0 = λ z. IsSolvable tech plan masters (after z) y → ⊥ in
+      let made = subst P (sym step) pb.2 in
+      let none = subst N (sym step) nb in
+      let later = one_stop (moved_by masters before s) a b x y u v pa.2 made (ap (drop 1) same) na none in
       (ap (λ (z : Step). z ∷ a) step ∙ ap (λ (zs : List Step). t ∷ zs) later.0, later.1)
 
   -- so for two refusals of the same axes
-  one_first : (axes : List Axis) (p q : ℕ) (a : IsFirstUnsolvable tech plan masters axes p)
+  one_first : {axes : List Axis} {p q : ℕ} (a : IsFirstUnsolvable tech plan masters axes p)
       (b : IsFirstUnsolvable tech plan masters axes q)
       → (a.done ≡ b.done) × (a.axis ≡ b.axis) × (p ≡ q)
-  one_first axes p q a b =
-      let same = one_stop (starts_of tech masters) a.done b.done a.axis b.axis a.comes.later b.comes.later a.comes.made
-      b.comes.made
-      (sym a.comes.axes_are ∙ b.comes.axes_are) a.not_solvable b.not_solvable in
+  one_first a b =
+      let on = sym a.comes.axes_are ∙ b.comes.axes_are in
+      let same = one_stop (starts_of tech masters) a.done b.done a.axis b.axis a.comes.later b.comes.later
+      a.comes.made b.comes.made on a.not_solvable b.not_solvable in
       (same.0, same.1, a.comes.count ∙ ap (λ (zs : List Step). suc (length zs)) same.0 ∙ sym b.comes.count)
 
   -- the text of a cycle is one
@@ -68,67 +69,60 @@ module _ (tech : Tech) (plan : Plan) (masters : List Master) where
       (subst C (sym order) b.stops) in
       a.says ∙ ap (cycle_text (joint_names axis masters) listed pass axis) cycle ∙ sym b.says
 
+  abbrev after : List Step → List Coords
+  after done = layouts_after masters (starts_of tech masters) done
+
   -- a pass with too many inequalities and one with a cycle do not both come
-  not_both : (axes : List Axis) (p q : ℕ) (report : List ℕ) → HasManyEdges tech plan masters axes p
+  not_both : {axes : List Axis} {p q : ℕ} {report : List ℕ} → HasManyEdges tech plan masters axes p
       → IsUnsatisfiable tech plan masters axes q report → ⊥
-  not_both axes p q report m u =
-      let same = one_first axes p q (many_first tech plan masters axes p m)
-      (cycle_first tech plan masters axes q report u) in
-      let count : List Step → Axis → ℕ = λ done axis. length (list_over axis tech plan masters
-      (layouts_after masters (starts_of tech masters) done)) in
-      let e : count m.done m.axis ≡ count u.done u.axis = ap (λ (z : List Step). count z m.axis) same.0
-      ∙ ap (λ (z : Axis). count u.done z) same.1 in
+  not_both m u =
+      let same = one_first (many_first m) (cycle_first u) in
+      let count : List Step → Axis → ℕ = λ done axis. length (list_over axis tech plan masters (after done)) in
+      let e : count m.done m.axis ≡ count u.done u.axis = ap (λ z. count z m.axis) same.0 ∙ ap (count u.done) same.1 in
       let many = m.many in
       let few = u.cyclic.few in
       omega (arith, e, many, few)
 
-  one_cycle : (axes : List Axis) (p q : ℕ) (r s : List ℕ) → IsUnsatisfiable tech plan masters axes p r
+  one_cycle : {axes : List Axis} {p q : ℕ} {r s : List ℕ} → IsUnsatisfiable tech plan masters axes p r
       → IsUnsatisfiable tech plan masters axes q s → (p ≡ q) × (r ≡ s)
-  one_cycle axes p q r s a b =
-      let start : List Coords = starts_of tech masters in
-      let same = one_first axes p q (cycle_first tech plan masters axes p r a)
-      (cycle_first tech plan masters axes q s b) in
-      let D : List Step → Type 0 = λ done. IsCyclicOver tech plan masters (layouts_after masters start done) q b.axis
-      b.text in
-      let X : Axis → Type 0 = λ axis. IsCyclicOver tech plan masters (layouts_after masters start a.done) q axis b.text
+  one_cycle {axes} {p} {q} a b =
+      let same = one_first (cycle_first a) (cycle_first b) in
+      let C : List Step → Axis → ℕ → Type 0 = λ done axis n. IsCyclicOver tech plan masters (after done) n axis b.text
       in
-      let N : ℕ → Type 0 = λ n. IsCyclicOver tech plan masters (layouts_after masters start a.done) n a.axis b.text in
+      let D : List Step → Type 0 = λ done. C done b.axis q in
+      let X : Axis → Type 0 = λ axis. C a.done axis q in
+      let N : ℕ → Type 0 = λ n. C a.done a.axis n in
       let other = subst N (sym same.2) (subst X (sym same.1) (subst D (sym same.0) b.cyclic)) in
-      let text : a.text ≡ b.text = one_text (layouts_after masters start a.done) p a.axis a.text b.text a.cyclic other
-      in
-      let report : List Step → List ℕ = λ zs. report_of tech plan masters start zs in (
-        same.2,
-        a.says ∙ ap (λ (zs : List Step). report zs ++ a.text) same.0
-            ∙ ap (λ (t : List ℕ). report b.done ++ t) text ∙ sym b.says,
-      )
+      let text : a.text ≡ b.text = one_text (after a.done) p a.axis a.text b.text a.cyclic other in
+      let report : List Step → List ℕ = report_of tech plan masters (starts_of tech masters) in
+      let says = ap (λ zs. report zs ++ a.text) same.0 ∙ ap (λ t. report b.done ++ t) text in
+      (same.2, a.says ∙ says ∙ sym b.says)
 
   one_refusal : (axes : List Axis) (e f : PassFault) → RefusesPasses tech plan masters axes e
       → RefusesPasses tech plan masters axes f → (e ≡ OutOfMemory) ⊎ (f ≡ OutOfMemory) ⊎ (e ≡ f)
   one_refusal axes OutOfMemory f re rf = inl refl
   one_refusal axes (TooManyEdges p) OutOfMemory re rf = inr (inl refl)
   one_refusal axes (Unsatisfiable p r) OutOfMemory re rf = inr (inl refl)
-  one_refusal axes (TooManyEdges p) (Unsatisfiable q s) re rf = absurd (not_both axes p q s re rf)
-  one_refusal axes (Unsatisfiable p r) (TooManyEdges q) re rf = absurd (not_both axes q p r rf re)
+  one_refusal axes (TooManyEdges p) (Unsatisfiable q s) re rf = absurd (not_both re rf)
+  one_refusal axes (Unsatisfiable p r) (TooManyEdges q) re rf = absurd (not_both rf re)
   one_refusal axes (TooManyEdges p) (TooManyEdges q) re rf =
-      let same = one_first axes p q (many_first tech plan masters axes p re) (many_first tech plan masters axes q rf) in
-      inr (inr (ap (λ (n : ℕ). TooManyEdges n) same.2))
+      inr (inr (ap (λ (n : ℕ). TooManyEdges n) (one_first (many_first re) (many_first rf)).2))
   one_refusal axes (Unsatisfiable p r) (Unsatisfiable q s) re rf =
-      let same = one_cycle axes p q r s re rf in
+      let same = one_cycle re rf in
       inr (inr (ap (λ (n : ℕ). Unsatisfiable n r) same.0 ∙ ap (λ (t : List ℕ). Unsatisfiable q t) same.1))
 
   pub refused_in_one_way : (axes : List Axis) → AreRefusedInOneWay tech plan masters axes
   refused_in_one_way axes = record {
     one = one_refusal axes;
     none_made = λ steps e made on.
-        let L : List Axis → Type 0 = λ zs. LeadTo tech plan masters zs (starts_of tech masters)
-        (layouts_after masters (starts_of tech masters) steps) in
-        not_refused tech plan masters axes _ e (subst L on (passes_lead tech plan masters (starts_of tech masters)
-        steps made));
+        let L : List Axis → Type 0 = λ zs. LeadTo tech plan masters zs (starts_of tech masters) (after steps) in
+        let lead = passes_lead tech plan masters (starts_of tech masters) steps made in
+        not_refused tech plan masters axes (after steps) e (subst L on lead);
   }
 
   -- a refusal names the first pass without values
   pub stops_at_first : (axes : List Axis) (e : PassFault) → RefusesPasses tech plan masters axes e
       → StopsAtFirst tech plan masters axes e
   stops_at_first axes OutOfMemory r = tt
-  stops_at_first axes (TooManyEdges p) r = many_first tech plan masters axes p r
-  stops_at_first axes (Unsatisfiable p t) r = cycle_first tech plan masters axes p t r
+  stops_at_first axes (TooManyEdges p) r = many_first r
+  stops_at_first axes (Unsatisfiable p t) r = cycle_first r

@@ -1,7 +1,6 @@
 -- The list of a pass has the solutions of its system, and a positive cycle exactly where the system has one.
-use Rattle.std.proofs.Common.{ℕ, ◌<◌, ℤ, List, length, map, ◌++◌}
-use Rattle.std.specs.Prelude.{Contains}
-use Rattle.std.specs.List.{All, AllByRecursion, flat_map}
+use Rattle.std.proofs.Common.{ℕ, ◌<◌, ℤ, List, length, map, ◌++◌, Contains, All, flat_map}
+use Rattle.std.specs.List.{AllByRecursion}
 use Rattle.std.proofs.lemmas.Bool.{ne_eqb}
 use Rattle.std.proofs.lemmas.List.Elements.{All-append, All-map, All-weaker, All-contains_itself, recursion_from_All}
 use Rattle.lam_geom.specs.declared.boxes.Axis.{Axis}

@@ -1,9 +1,7 @@
 -- What the rounds over the list of a pass say of the pass.
-use Rattle.std.proofs.Common.{◌≡◌, ℕ, ◌+◌, ◌<◌, ◌≤◌, ℤ, Some, List, [], ◌∷◌, length, map, refl, sym, ap, ◌∙◌, subst, arith, Bool, false}
-use Rattle.std.specs.Prelude.{Contains, slice_index, IsTrue}
-use Rattle.std.specs.List.{All}
+use Rattle.std.proofs.Common.{◌≡◌, ℕ, ◌+◌, ◌<◌, ◌≤◌, ℤ, Some, List, [], ◌∷◌, length, map, refl, sym, ap, ◌∙◌, subst, arith, Bool, false, ◌++◌, reverse, append-nil, Contains, slice_index, IsTrue, All, Any}
 use Rattle.std.proofs.lemmas.List.{get_or-map, get_or_default, length-map}
-use Rattle.std.proofs.lemmas.List.Elements.{All-map, All-weaker, All-contains}
+use Rattle.std.proofs.lemmas.List.Elements.{All-map, All-weaker, All-contains, Contains-get_or}
 use Rattle.lam_geom.specs.declared.boxes.Axis.{Axis}
 use Rattle.rule_table.specs.declared.technology.Tech.{Tech}
 use Rattle.cons_graph.specs.declared.edges.Edge.{Edge}
@@ -18,7 +16,7 @@ use Rattle.round_log.specs.declared.log.Entry.{Entry}
 use Rattle.round_log.specs.Logs.{raises_in, IsEndedLog}
 use Rattle.round_log.specs.Told.{TellAlike}
 use Rattle.round_log.proofs.Alike.{same_walk}
-use Rattle.round_log.specs.Looks.{label, backward_numbers}
+use Rattle.round_log.specs.Looks.{label, backward_numbers, latest, chain}
 use Rattle.round_log.specs.Orders.{IsOrder}
 use Rattle.liao_wong.specs.declared.solving.Solved.{Solved}
 use Rattle.liao_wong.proofs.InOrder.{sorted_is_order}
@@ -42,17 +40,62 @@ use Rattle.pass_run.specs.Passes.{far_walk, IsRecorded}
 use Rattle.pass_run.specs.Report.{cycle_text, walk_at, pass_text}
 use Rattle.pass_run.specs.Theorems.{IsCriticalPath, HasCriticalPath, IsSoundPass}
 use Rattle.pass_run.proofs.Pruning.{listed_among, solutions_kept, least_alike}
-use Rattle.pass_run.proofs.Settled as settling
 use Rattle.pass_run.proofs.Values.{joint_length, joint_above}
-use Rattle.slack_pack.specs.Most.{HasWalk, IsMost}
+use Rattle.slack_pack.specs.Most.{HasWalk, IsMost, IsAttained}
 use Rattle.pass_run.specs.OnePass.{IsFirstOn, IsPassMade}
 use Rattle.pass_run.specs.Told.{IsTightMost}
 use Rattle.pass_run.specs.Least.{StaySettled}
 use Rattle.pass_run.specs.declared.pass.Made.{Made}
 use Rattle.pass_run.specs.declared.step.Step.{Step}
-use Rattle.pass_run.proofs.Tight.{attained_more, most_alike, reached, some_far, walk_more}
 use Rattle.pass_run.proofs.Reach.{reach_far}
 use Rattle.slack_pack.proofs.Walks.{stands}
+use Rattle.round_log.proofs.Chains.{chain-zero}
+use Rattle.round_log.proofs.Ends.{numbers}
+use Rattle.round_log.proofs.Walks.{IsCriticalWalk, back_at_origin}
+use Rattle.pair_rules.proofs.BoundItems.{same_some}
+use Rattle.pass_run.proofs.Settled as settling
+
+-- ---- walks
+
+pub walk_more : (some all : List Edge) (a b : ℕ) (long : ℤ) → All (Contains all) some → HasWalk some a b long → HasWalk all a b long
+walk_more some all a b long among h = record {
+  walk = h.walk;
+  of_these = All-weaker (Contains some) (Contains all) (λ e here. All-contains (Contains all) some e among here) h.walk h.of_these;
+  leads = h.leads;
+  as_long = h.as_long;
+}
+
+pub attained_more : (some all : List Edge) (fars : List ℕ) (x : ℕ → ℤ) (v : ℕ) (value : ℤ) → All (Contains all) some → IsAttained some fars x v value → IsAttained all fars x v value
+attained_more some all fars x v value among h = record { end = h.end; is_far = h.is_far; long = h.long; walk = walk_more some all v h.end h.long among h.walk; is = h.is }
+
+-- the walk that a log of ended rounds has to a variable is as long as its value
+pub reached : (g : Constraints) (log : Log) (x : ℕ → ℤ) (v : ℕ) → IsConstraintGraph g → IsEndedLog g log → v < g.vars → label (raises_in log) v ≡ Some (x v) → HasWalk g.edges 0 v (x v)
+reached g log x v shape ended lt is =
+    let raises : List Entry = raises_in log in
+    let back : List ℕ = numbers (chain raises (latest raises v)) in
+    let none : back ++ numbers (chain raises 0) ≡ back = ap (λ es. back ++ numbers es) (chain-zero raises) ∙ append-nil back in
+    let w : IsCriticalWalk g log v (reverse back) = back_at_origin g log v 0 back shape ended lt (omega arith) none in
+    record {
+      walk = edges_of g.edges (reverse back);
+      of_these = All-map (Contains g.edges) (edge_at g.edges) (reverse back) (λ k d among. Contains-get_or g.edges _ _ (w.passes.in_range k d among));
+      leads = w.passes.follows;
+      as_long = same_some _ _ (sym w.as_long ∙ is);
+    }
+
+-- ---- the greatest values
+
+-- those over some inequalities are those over others with the same solutions
+pub most_alike : (vars : ℕ) (some all : List Edge) (fars : List ℕ) (x y : ℕ → ℤ) → HaveSameSolutions some all → IsMost vars some fars x y → IsMost vars all fars x y
+most_alike vars some all fars x y same most = record {
+  is_held = record { solves = (same y).0 most.is_held.solves; held = most.is_held.held };
+  above = λ z h v lt. most.above z (record { solves = (same z).1 h.solves; held = h.held }) v lt;
+}
+
+-- some far border is a variable, if there is another variable than the origin
+pub some_far : (vars : ℕ) (edges : List Edge) (fars : List ℕ) (v : ℕ) → ReachFar vars edges fars → All (λ far. far < vars) fars → 1 ≤ v → v < vars → Any (λ far. far < vars) fars
+some_far vars edges fars v reach within from lt =
+    let far = reach v from lt in
+    (far.1.0, far.0, far.1.1, far.1.2, All-contains (λ f. f < vars) fars far.0 within far.1)
 
 -- ---- the order
 
@@ -67,7 +110,7 @@ order_of axis tech plan masters before vars order planned laid v along =
     along.in_order refl
     (λ u lt. joint_above axis tech masters before u (planned_joined tech plan masters planned) laid (omega (arith, v, lt)))
 
--- ---- walks
+-- ---- walks of listed inequalities
 
 -- each edge of a walk of listed inequalities is one of the system's
 walk_among : (axis : Axis) (tech : Tech) (plan : Plan) (masters : List Master) (before : List Coords) (walk : List ℕ) → All (λ k. k < length (list_over axis tech plan masters before)) walk
@@ -122,18 +165,13 @@ walks_are axis masters log raises (m ∷ more) alike =
 -- the walk that the code has read is the log's
 pub path_of : (edges : List Edge) (log : Log) (far : ℕ) (walk : List ℕ) → walk ≡ (walk_to log far).edges → WalksFromTo edges 0 walk far → HasNoRepeat (0 ∷ heads_of edges walk)
     → label (raises_in log) far ≡ Some (length_of edges walk) → HasPath edges log far
-path_of edges log far walk is passes simple as_long =
-    let W : List ℕ → Type 0 = λ ns. WalksFromTo edges 0 ns far in
-    let R : List ℕ → Type 0 = λ ns. HasNoRepeat (0 ∷ heads_of edges ns) in
-    record { passes = subst W is passes; simple = subst R is simple; as_long = as_long ∙ ap (λ ns. Some (length_of edges ns)) is }
+path_of edges log far walk is passes simple as_long = record { passes = rw is at passes; simple = rw is at simple; as_long = rw is at as_long }
 
 -- the inequalities of walks are listed
 pub walks_listed : (edges : List Edge) (log : Log) (fars : List ℕ) (walks : List Walk) → walks ≡ walks_to log fars → All (HasPath edges log) fars
     → All (λ (walk : Walk). All (λ k. k < length edges) walk.edges) walks
 walks_listed edges log fars walks are paths =
-    let L : Walk → Type 0 = λ walk. All (λ k. k < length edges) walk.edges in
-    let A : List Walk → Type 0 = All L in
-    subst A (sym are) (All-map L (walk_to log) fars (λ k d lt. (paths k d lt).passes.in_range))
+    rw are (All-map (λ (walk : Walk). All (λ k. k < length edges) walk.edges) (walk_to log) fars (λ k d lt. (paths k d lt).passes.in_range))
 
 -- ---- a solved pass
 

@@ -1,5 +1,4 @@
-use Rattle.std.proofs.Common.{ℤ, List, ◌∙◌, subst}
-use Rattle.std.specs.Prelude.{IfOk}
+use Rattle.std.proofs.Common.{ℤ, List, ◌∙◌, subst, IfOk}
 use Rattle.cons_graph.specs.Solutions.{value_of}
 use Rattle.liao_wong.specs.Sorted.{IsInOrderOf}
 use Rattle.pass_run.proofs.pass.order_along.Goals as goal

@@ -8,7 +8,7 @@ use Rattle.pass_run.specs.Passes.{axes_of}
 use Rattle.pass_run.proofs.Chain.{axes_counted}
 use Rattle.pass_run.proofs.Going.{going_told, passes_given, refused_there}
 use Rattle.pass_run.proofs.OneRefusal.{stops_at_first}
-use Rattle.pass_run.proofs.Told.{are_mosts, are_tight}
+use Rattle.pass_run.proofs.Lasts.{are_mosts, are_tight}
 use Rattle.pass_run.proofs.passes.passes_on.Goals as goal
 
 pub loop-axis-init : goal.loop-axis-init
