@@ -27,7 +27,6 @@ use Rattle.pass_run.specs.Report.{pass_text, report_from, report_of}
 use Rattle.pass_run.specs.Theorems.{AreSound}
 use Rattle.pass_run.specs.PassFaults.{ComesTo, IsCyclicOver, IsUnsatisfiable, RefusesPasses}
 use Rattle.pass_run.specs.Laid.{StartsClean, IsLaidOut, AreLaidOut, AreSettled}
-use Rattle.pass_run.specs.Alike.{most_edges}
 use Rattle.pass_run.specs.Going.{AreMade, IsGoing, IsToldIfLast, steps_of, text_of, mosts_of}
 use Rattle.pass_run.specs.OnePass.{EndsPasses, IsFirstOn, IsPassMade, StopsPass}
 use Rattle.pass_run.specs.Told.{IsTightMost, IsTold, AreTold}
@@ -158,8 +157,6 @@ going_more {tech} {plan} {masters} {with_most} {told} {axis} {coming} {s} {c} {p
     let start : List Coords = starts_of tech masters in
     let before : c ≡ layouts_after masters start (steps_of g.mades) = at ∙ g.layouts in
     let A : Axis → Type 0 = λ a. AreMade tech plan masters with_most (a ∷ coming) 1 start g.mades in
-    let L : Axis → Type 0 = λ a. IsToldIfLast with_most coming a told in
-    let P : List Coords → Type 0 = λ ls. IsPassMade tech plan masters ls pass told made in
     let S : Made → Step = λ (z : Made). z.step in
     let counted : length s.steps.items ≡ length g.mades = ap (λ (zs : List Step). length zs) g.steps
     ∙ length-map g.mades S in
@@ -169,7 +166,7 @@ going_more {tech} {plan} {masters} {with_most} {told} {axis} {coming} {s} {c} {p
       mades = g.mades ++ made ∷ [];
       made = made_more tech plan masters with_most coming 1 pass start g.mades told made (omega arith)
           (subst A (sym on) g.made)
-          (subst L (sym on) is) (subst P before more);
+          (rw (← on) at is) (rw before at more);
       steps = rw (steps, g.steps, map-append);
       layouts = layouts ∙ (more.layouts ∙ (ap (λ ls. moved_by masters ls made.step) before ∙ after));
       report = rw (report, g.report, flat_map-append, append-nil made.text.items);
@@ -211,14 +208,13 @@ module _ {tech : Tech} {plan : Plan} {masters : List Master} {with_most : Bool} 
       → report ≡ s.report.items ++ text
       → IsUnsatisfiable tech plan masters (axes_of s.steps.items ++ axis ∷ later) pass report
   refused_cyclic c pass axis later text report at number stops says =
-      let C : List Coords → Type 0 = λ ls. IsCyclicOver tech plan masters ls pass axis text in
       record {
         axis = axis;
         done = s.steps.items;
         comes = comes_next pass axis later number;
         first = stops.1 (axes_of s.steps.items) (rw at going_settled);
         text = text;
-        cyclic = subst C (at ∙ going_after) stops.0;
+        cyclic = rw (at ∙ going_after) at stops.0;
         says = says ∙ ap (λ ns. ns ++ text) going_report;
       }
 
@@ -227,9 +223,8 @@ module _ {tech : Tech} {plan : Plan} {masters : List Master} {with_most : Bool} 
       → c ≡ s.layouts.items → pass ≡ suc (length s.steps.items) → StopsPass tech plan masters c pass axis stop
       → EndsPasses pass stop fault → RefusesPasses tech plan masters (axes_of s.steps.items ++ axis ∷ later) fault
   refused_stopped c pass axis later TooManyEdges fault at number many ends =
-      let M : List Coords → Type 0 = λ ls. most_edges < length (list_over axis tech plan masters ls) in
       let comes = comes_next pass axis later number in
-      rw ends (record { axis = axis; done = s.steps.items; comes = comes; many = subst M (at ∙ going_after) many })
+      rw ends (record { axis = axis; done = s.steps.items; comes = comes; many = rw (at ∙ going_after) at many })
   refused_stopped c pass axis later (Cycle text) fault at number cyclic ends = absurd ends
   refused_stopped c pass axis later OutOfMemory fault at number free ends = rw ends tt
 

@@ -162,9 +162,7 @@ module _ {tech : Tech} {plan : Plan} {masters : List Master} {axis : Axis} {befo
   -- passes lead where those after the first lead from its layouts, and nowhere where those do
   pub lead_first : (after : List Coords) → LeadTo tech plan masters later next after
       → LeadTo tech plan masters (axis ∷ later) before after
-  lead_first after lead =
-      let L : List Coords → Type 0 = λ c. LeadTo tech plan masters later c after in
-      (first.x, first.least, subst L first.is lead)
+  lead_first after lead = (first.x, first.least, rw first.is at lead)
 
   pub nowhere_first : LeadNowhere tech plan masters later next → LeadNowhere tech plan masters (axis ∷ later) before
   nowhere_first none = λ after lead.

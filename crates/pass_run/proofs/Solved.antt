@@ -1,5 +1,5 @@
 -- What the rounds over the list of a pass say of the pass.
-use Rattle.std.proofs.Common.{◌≡◌, ℕ, ◌+◌, ◌<◌, ◌≤◌, ℤ, Some, List, [], ◌∷◌, length, map, refl, sym, ap, ◌∙◌, subst, arith, Bool, false, ◌++◌, reverse, append-nil, Contains, slice_index, IsTrue, All, Any}
+use Rattle.std.proofs.Common.{◌≡◌, ℕ, ◌+◌, ◌<◌, ◌≤◌, ℤ, Some, List, [], ◌∷◌, length, map, refl, sym, ap, ◌∙◌, subst, arith, Bool, false, ◌++◌, reverse, append-nil, Contains, slice_index, IsTrue, All, Any, get_or}
 use Rattle.std.proofs.lemmas.List.{get_or-map, get_or_default, length-map}
 use Rattle.std.proofs.lemmas.List.Elements.{All-map, All-weaker, All-contains, Contains-get_or}
 use Rattle.lam_geom.specs.declared.boxes.Axis.{Axis}
@@ -144,15 +144,14 @@ cycle_few g cycle shape passes =
 
 pub fars_within : (axis : Axis) (masters : List Master) (bases : List ℕ) (vars : ℕ) → bases ≡ bases_of axis masters → vars ≡ joint_variables axis masters → All (λ far. far < vars) bases
 fars_within axis masters bases vars e v =
-    let F : List ℕ → Type 0 = All (λ far. far < vars) in
     let all : List ℕ = bases_of axis masters in
-    let P : ℕ → Type 0 = λ far. far < vars in
     let count = bases_counted axis masters all refl in
-    subst F (sym e) (λ k d lt.
+    rw e (λ k d lt.
     let among : k < length masters = omega arith in
-    let here = get_or_default all k d 0 lt ∙ far_is axis masters all k refl among in
+    let here : get_or all k d ≡ far_of axis masters k = get_or_default all k d 0 lt
+    ∙ far_is axis masters all k refl among in
     let within = var_within axis masters k 1 among (omega arith) in
-    subst P (sym here) (omega arith))
+    omega arith)
 
 walks_are : (axis : Axis) (masters : List Master) (log : Log) (raises : List Entry) (numbers : List ℕ) → TellAlike (raises_in log) raises → map (walk_to log) (map (base_of axis masters) numbers) ≡ map (far_walk axis masters raises) numbers
 walks_are axis masters log raises [] alike = refl
@@ -165,13 +164,18 @@ walks_are axis masters log raises (m ∷ more) alike =
 -- the walk that the code has read is the log's
 pub path_of : (edges : List Edge) (log : Log) (far : ℕ) (walk : List ℕ) → walk ≡ (walk_to log far).edges → WalksFromTo edges 0 walk far → HasNoRepeat (0 ∷ heads_of edges walk)
     → label (raises_in log) far ≡ Some (length_of edges walk) → HasPath edges log far
-path_of edges log far walk is passes simple as_long = record { passes = rw is at passes; simple = rw is at simple; as_long = rw is at as_long }
+path_of edges log far walk is passes simple as_long = record {
+  passes = rw is at passes;
+  simple = rw is at simple;
+  as_long = rw is at as_long;
+}
 
 -- the inequalities of walks are listed
 pub walks_listed : (edges : List Edge) (log : Log) (fars : List ℕ) (walks : List Walk) → walks ≡ walks_to log fars → All (HasPath edges log) fars
     → All (λ (walk : Walk). All (λ k. k < length edges) walk.edges) walks
 walks_listed edges log fars walks are paths =
-    rw are (All-map (λ (walk : Walk). All (λ k. k < length edges) walk.edges) (walk_to log) fars (λ k d lt. (paths k d lt).passes.in_range))
+    rw are (All-map (λ (walk : Walk). All (λ k. k < length edges) walk.edges) (walk_to log) fars
+    (λ k d lt. (paths k d lt).passes.in_range))
 
 -- ---- a solved pass
 

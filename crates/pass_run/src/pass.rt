@@ -2,17 +2,15 @@
 
 ghost use Rattle.std.specs.Prelude.{◌≡◌, ◌<◌, ◌≤◌, ◌^◌, [], false, length, All, IfOk, IfErr, IsTrue};
 ghost use Rattle.round_log.specs.Logs.{IsEndedLog};
-ghost use Rattle.round_log.specs.Orders.{NamesEachOnce};
 ghost use Rattle.cons_graph.specs.Solutions.{value_of, IsSolution};
 ghost use Rattle.liao_wong.specs.Answers.{IsWithinLimit};
-ghost use Rattle.liao_wong.specs.Sorted.{IsInOrderOf};
 ghost use Rattle.expand.specs.Laws.{IsLawful};
 ghost use Rattle.pitch_join.specs.Masters.{ArePlanned};
 ghost use Rattle.pass_run.specs.declared.pass.Stop.TheVariants.{OutOfMemory};
 ghost use Rattle.pass_run.specs.Layouts.{joint_values};
 ghost use Rattle.pass_run.specs.Laid.{AreLaidOut};
 ghost use Rattle.pass_run.specs.OnePass.{IsPassMade, StopsPass};
-ghost use Rattle.pass_run.specs.OneStep.{step_of, walks_to, HasPath, IsListedMost, IsSolvedPass, ReachFar, stop_of};
+ghost use Rattle.pass_run.specs.OneStep.{step_of, walks_to, HasPath, IsListedMost, IsOrderAlong, IsSolvedPass, ReachFar, stop_of};
 
 use crate::edges::{Listed, list};
 use crate::laws::masters_are_lawful;
@@ -74,8 +72,7 @@ impl From<KeptFault> for Stop {
 // The joint variables of an axis in order of their values in the layouts.
 fn order_along(alloc: Global, axis: Axis, layouts: &[Coords]) -> Result<Vec<u32>, AllocError>
     requires few { length (joint_values axis layouts.now) < 2 ^ 32 }
-    ensures names { IfOk result (λ order. NamesEachOnce (length (joint_values axis layouts.now)) order.items) }
-    ensures in_order { IfOk result (λ order. IsInOrderOf (value_of (joint_values axis layouts.now)) order.items) }
+    ensures { IfOk result (λ order. IsOrderAlong axis layouts.now order.items) }
 {
     let values = joint_values(alloc, axis, layouts)?;
     sort_order(alloc, &values)

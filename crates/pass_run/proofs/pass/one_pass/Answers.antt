@@ -1,9 +1,4 @@
-use Rattle.std.proofs.Common.{ℕ, List, length, sym, ap, ◌∙◌, subst, arith}
-use Rattle.cons_graph.specs.SimpleWalks.{IsSimplePositiveCycle}
-use Rattle.cons_graph.specs.Walks.{HasPositiveCycle}
-use Rattle.liao_wong.specs.declared.solving.Unsolved.{Unsolved}
-use Rattle.liao_wong.specs.Answers.{IfCycle, IsCycleOf}
-use Rattle.round_log.specs.Orders.{IsOrder}
+use Rattle.std.proofs.Common.{ap, ◌∙◌, arith}
 use Rattle.pass_run.specs.OneStep.{IsStoppedPass}
 use Rattle.pass_run.specs.Report.{cycle_text}
 use Rattle.pass_run.proofs.Solved.{order_of, cycle_few, stopped, stopped_first}
@@ -19,25 +14,16 @@ order_along-requires g c =
 
 pub solve_reached-requires : goal.solve_reached-requires
 solve_reached-requires g c =
-    let O : List ℕ → Type 0 = IsOrder c.in_ok-listed.listed.graph.vars in
-    subst O (sym c.deref.ensures.value)
+    rw c.deref.ensures.value
     (order_of c.args.axis c.args.tech.now c.args.plan.now c.args.masters.now c.args.before.now
     c.in_ok-listed.listed.graph.vars c.in_ok-order.order.items c.requires.planned c.requires.laid
-    c.in_ok-listed.ensures.listed.vars (record {
-      names = c.in_ok-order.ensures.names;
-      in_order =
-          c.in_ok-order.ensures.in_order;
-    }))
+    c.in_ok-listed.ensures.listed.vars c.in_ok-order.ensures)
 
 pub made_of-requires-clause-run : goal.made_of-requires-clause-run
 made_of-requires-clause-run g c = record {
   is_list = c.in_ok-listed.ensures.listed;
   order = c.deref.result.now;
-  along = rw c.deref.ensures.value (record {
-    names = c.in_ok-order.ensures.names;
-    in_order =
-        c.in_ok-order.ensures.in_order;
-  });
+  along = rw c.deref.ensures.value c.in_ok-order.ensures;
   least = c.in-Ok.ensures.least;
   one_each = c.in-Ok.ensures.one_each;
   small = c.in-Ok.ensures.small;
@@ -48,31 +34,23 @@ made_of-requires-clause-run g c = record {
 
 pub cycle_text-requires-clause-few : goal.cycle_text-requires-clause-few
 cycle_text-requires-clause-few g c =
-    let graph = c.in_ok-listed.listed.graph in
-    let P : List ℕ → Type 0 = IsSimplePositiveCycle graph.edges in
-    let I : Unsolved → Type 0 = λ u. IfCycle u P in
-    cycle_few graph c.as_slice.result.now c.in_ok-listed.ensures.listed.shape
-    (subst P (sym c.as_slice.ensures) (subst I c.in-Err-Cycle.field-0-is c.in-Err-Cycle.ensures.cycle))
+    let cycle = rw c.in-Err-Cycle.field-0-is at c.in-Err-Cycle.ensures.cycle in
+    cycle_few c.in_ok-listed.listed.graph c.as_slice.result.now c.in_ok-listed.ensures.listed.shape
+    (rw c.as_slice.ensures cycle)
 
 pub returns-in-Err-Cycle : goal.returns-in-Err-Cycle
 returns-in-Err-Cycle g c =
     let listed = c.in_ok-listed.listed in
     let cycle = c.in-Err-Cycle.cycle in
-    let H : Unsolved → Type 0 = λ u. IfCycle u (λ (ns : List ℕ). HasPositiveCycle listed.graph.edges) in
-    let I : Unsolved → Type 0 = λ u. IfCycle u (λ (ns : List ℕ). IsSimplePositiveCycle listed.graph.edges ns) in
-    let J : Unsolved → Type 0 = λ u. IfCycle u (IsCycleOf listed.graph.edges c.deref.result.now) in
+    let is = c.in-Err-Cycle.field-0-is in
     let run : IsStoppedPass c.args.axis c.args.tech.now c.args.plan.now c.args.masters.now c.args.before.now listed
     cycle = record {
       is_list = c.in_ok-listed.ensures.listed;
       order = c.deref.result.now;
-      along = rw c.deref.ensures.value (record {
-        names = c.in_ok-order.ensures.names;
-        in_order =
-            c.in_ok-order.ensures.in_order;
-      });
-      cyclic = subst H c.in-Err-Cycle.field-0-is c.in-Err-Cycle.ensures.cyclic;
-      simple = subst I c.in-Err-Cycle.field-0-is c.in-Err-Cycle.ensures.cycle;
-      stops = subst J c.in-Err-Cycle.field-0-is c.in-Err-Cycle.ensures.stopped;
+      along = rw c.deref.ensures.value c.in_ok-order.ensures;
+      cyclic = rw is at c.in-Err-Cycle.ensures.cyclic;
+      simple = rw is at c.in-Err-Cycle.ensures.cycle;
+      stops = rw is at c.in-Err-Cycle.ensures.stopped;
     } in
     record {
       axis = tt;

@@ -1,9 +1,6 @@
-use Rattle.std.proofs.Common.{◌+◌, [], ◌∷◌, ◌++◌, ap, ◌∙◌, subst, arith}
+use Rattle.std.proofs.Common.{◌+◌, [], ◌∷◌, ◌++◌, ap, ◌∙◌, arith}
 use Rattle.std.proofs.lemmas.Result.{err_from_is_err_and}
 use Rattle.lam_geom.specs.declared.boxes.Axis.{Axis}
-use Rattle.pass_run.specs.declared.step.Step.{Step}
-use Rattle.pass_run.specs.declared.pass.Stop.{Stop}
-use Rattle.pass_run.specs.OnePass.{StopsPass}
 use Rattle.pass_run.specs.Passes.{axes_of}
 use Rattle.pass_run.proofs.Chain.{axes_more}
 use Rattle.pass_run.proofs.Going.{going_laid, going_more, refused_cyclic, refused_stopped}
@@ -36,10 +33,8 @@ returns-in_err-text-in-Err-clause-refused g c =
 
 pub returns-in_ok-report-in-Err-clause-refused : goal.returns-in_ok-report-in-Err-clause-refused
 returns-in_ok-report-in-Err-clause-refused g c = λ later.
-    let S : Stop → Type 0 = StopsPass c.args.tech.now c.args.plan.now c.args.masters.now c.deref.result.now
-    (c.len.result + 1) c.args.axis in
     refused_cyclic c.requires.going c.deref.result.now (c.len.result + 1) c.args.axis later
     c.in_ok-text-in-Err.text.items
     c.in_ok-report-in-Err.report c.deref.ensures.value (omega arith)
-    (subst S c.in_ok-text-in-Err.ensures c.in-Err.ensures.stopped)
+    (rw c.in_ok-text-in-Err.ensures at c.in-Err.ensures.stopped)
     (rw (← c.deref-in-Err.ensures.value, ← c.deref-in-Err-2.ensures.value) c.in_ok-report-in-Err.ensures)
