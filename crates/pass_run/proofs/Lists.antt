@@ -40,7 +40,6 @@ holds_read P xs read k d is lt so_far own =
 
 -- what two facts of a result give together
 pub both_if_ok : {X Y : Type 0} (r : Result X Y) (P Q R : X → Type 0) → ((x : X) → P x → Q x → R x) → IfOk r P
-    → IfOk r Q
-    → IfOk r R
+    → IfOk r Q → IfOk r R
 both_if_ok (Ok x) P Q R then p q = then x p q
 both_if_ok (Err e) P Q R then p q = p
