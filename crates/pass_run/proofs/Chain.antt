@@ -40,18 +40,14 @@ first_later first later had axis h =
 pub none_settled : (tech : Tech) (plan : Plan) (masters : List Master) (layouts : List Coords) → AreSettled tech plan masters [] layouts
 none_settled tech plan masters layouts = record { met = λ axis h. absurd (none_among axis h); long = λ axis h. absurd (none_among axis h) }
 
--- what is settled on some axes is so on fewer
-pub settled_less : (tech : Tech) (plan : Plan) (masters : List Master) (more less : List Axis) (layouts : List Coords) → ((axis : Axis) → Contains less axis → Contains more axis)
-    → AreSettled tech plan masters more layouts → AreSettled tech plan masters less layouts
-settled_less tech plan masters more less layouts among s = record {
-  met = λ axis h. s.met axis (among axis h);
-  long = λ axis h. s.long axis (among axis h);
-}
-
 -- what is settled by the first and then by those after it is settled by all of them
-pub settled_first : (tech : Tech) (plan : Plan) (masters : List Master) (axis : Axis) (later had : List Axis) (after : List Coords) → AreSettled tech plan masters (later ++ axis ∷ had) after
+pub settled_first : (tech : Tech) (plan : Plan) (masters : List Master) (axis : Axis) (later had : List Axis)
+    (after : List Coords) → AreSettled tech plan masters (later ++ axis ∷ had) after
     → AreSettled tech plan masters ((axis ∷ later) ++ had) after
-settled_first tech plan masters axis later had after s = settled_less tech plan masters (later ++ axis ∷ had) ((axis ∷ later) ++ had) after (first_later axis later had) s
+settled_first tech plan masters axis later had after s = record {
+  met = λ a h. s.met a (first_later axis later had a h);
+  long = λ a h. s.long a (first_later axis later had a h);
+}
 
 -- where an axis comes next
 pub axes_split : (axes : List Axis) (k : ℕ) (d : Axis) → k < length axes → axes ≡ take k axes ++ (get_or axes k d ∷ drop (suc k) axes)

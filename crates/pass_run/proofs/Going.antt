@@ -120,7 +120,8 @@ module _ (tech : Tech) (plan : Plan) (masters : List Master) (with_most : Bool) 
       → IsToldIfLast with_most coming m.step.axis told
       → IsPassMade tech plan masters (layouts_after masters before (steps_of ms)) number told m
       → over pass before (ms ++ m ∷ [])
-  made_more pass number before [] told m n all is more = let same : number ≡ pass = omega arith in
+  made_more pass number before [] told m n all is more =
+      let same : number ≡ pass = omega arith in
       (told, is, rw same at more, tt)
   made_more pass number before (first ∷ ms) told m n all is more =
       let T : List Axis → Type 0 = λ axes. IsToldIfLast with_most axes first.step.axis all.0 in
@@ -130,9 +131,9 @@ module _ (tech : Tech) (plan : Plan) (masters : List Master) (with_most : Bool) 
 -- ---- the passes so far
 
 pub going_start : (tech : Tech) (plan : Plan) (masters : List Master) (with_most : Bool) (coming : List Axis)
-    (s : SoFar)
-    → All (IsMaster tech) masters → All (StartsClean tech) masters → s.layouts.items ≡ starts_of tech masters
-    → s.steps.items ≡ [] → s.report.items ≡ [] → s.mosts.items ≡ [] → IsGoing tech plan masters with_most coming s
+    (s : SoFar) → All (IsMaster tech) masters → All (StartsClean tech) masters
+    → s.layouts.items ≡ starts_of tech masters → s.steps.items ≡ [] → s.report.items ≡ [] → s.mosts.items ≡ []
+    → IsGoing tech plan masters with_most coming s
 going_start tech plan masters with_most coming s each clean layouts steps report mosts = record {
   laid = starts_laid tech masters each clean;
   mades = [];
@@ -165,8 +166,7 @@ going_more {tech} {plan} {masters} {with_most} {told} {axis} {coming} {s} {c} {p
       laid = g.laid;
       mades = g.mades ++ made ∷ [];
       made = made_more tech plan masters with_most coming 1 pass start g.mades told made (omega arith)
-          (subst A (sym on) g.made)
-          (rw (← on) at is) (rw before at more);
+          (subst A (sym on) g.made) (rw (← on) at is) (rw before at more);
       steps = rw (steps, g.steps, map-append);
       layouts = layouts ∙ (more.layouts ∙ (ap (λ ls. moved_by masters ls made.step) before ∙ after));
       report = rw (report, g.report, flat_map-append, append-nil made.text.items);
@@ -207,16 +207,15 @@ module _ {tech : Tech} {plan : Plan} {masters : List Master} {with_most : Bool} 
       → IsCyclicOver tech plan masters c pass axis text × IsFirstOn tech plan masters c axis
       → report ≡ s.report.items ++ text
       → IsUnsatisfiable tech plan masters (axes_of s.steps.items ++ axis ∷ later) pass report
-  refused_cyclic c pass axis later text report at number stops says =
-      record {
-        axis = axis;
-        done = s.steps.items;
-        comes = comes_next pass axis later number;
-        first = stops.1 (axes_of s.steps.items) (rw at going_settled);
-        text = text;
-        cyclic = rw (at ∙ going_after) at stops.0;
-        says = says ∙ ap (λ ns. ns ++ text) going_report;
-      }
+  refused_cyclic c pass axis later text report at number stops says = record {
+    axis = axis;
+    done = s.steps.items;
+    comes = comes_next pass axis later number;
+    first = stops.1 (axes_of s.steps.items) (rw at going_settled);
+    text = text;
+    cyclic = rw (at ∙ going_after) at stops.0;
+    says = says ∙ ap (λ ns. ns ++ text) going_report;
+  }
 
   -- a pass that stops without a cycle refuses them, too
   pub refused_stopped : (c : List Coords) (pass : ℕ) (axis : Axis) (later : List Axis) (stop : Stop) (fault : PassFault)
@@ -233,14 +232,14 @@ module _ {tech : Tech} {plan : Plan} {masters : List Master} {with_most : Bool} 
       → p.steps ≡ s.steps.items → p.report ≡ s.report.items → ArePassesOn tech plan masters axes p
   passes_given axes p are coords steps report =
       let none = none_settled tech plan masters start in
+      let sound = sound_made tech plan masters with_most coming [] 1 start g.mades none g.made in
       let placed = placed_of tech plan masters s.layouts.items (axes_of s.steps.items) going_laid going_settled in
       record {
         on_axes = rw steps are;
         passes = rw steps going_passes;
         last = rw (coords, steps) going_after;
         report = rw (report, steps) going_report;
-        sound_passes = rw (steps, g.steps) (sound_made tech plan masters with_most coming [] 1 start g.mades none
-            g.made);
+        sound_passes = rw (steps, g.steps) sound;
         counted = rw coords going_laid.counted;
         laid = rw coords going_laid;
         placed = rw (coords, ← are) placed;

@@ -26,8 +26,7 @@ mosts_of mades = map (λ (made : Made). made.most) mades
 abbrev pub IsToldIfLast : Bool → List Axis → Axis → Bool → Type 0
 IsToldIfLast with_most coming axis told = IsTrue with_most → IsTrue told ↔ (Contains coming axis → ⊥)
 
--- Passes are made over some layouts, one after another and counted from this number on, before those on the axes to
--- come.
+-- Passes are made over some layouts, one after another, counted from this number on, before those on axes that come.
 abbrev pub AreMade : Tech → Plan → List Master → Bool → List Axis → ℕ → List Coords → List Made → Type 0
 AreMade tech plan masters with_most coming pass before [] = Unit {0}
 AreMade tech plan masters with_most coming pass before (made ∷ mades) =
@@ -35,9 +34,8 @@ AreMade tech plan masters with_most coming pass before (made ∷ mades) =
     × IsPassMade tech plan masters before pass told made
     × AreMade tech plan masters with_most coming (suc pass) (moved_by masters before made.step) mades
 
--- Passes are made over the start layouts of the masters. These are their steps, the layouts that they leave, the
--- report,
--- and what is told.
+-- Passes are made over the start layouts of the masters. These are their steps, the layouts that they leave, their
+-- report, and what is told.
 pub record IsGoing (tech : Tech) (plan : Plan) (masters : List Master) (with_most : Bool) (coming : List Axis)
     (so_far : SoFar) : Type 0 where
   pub laid : AreLaidOut tech masters (starts_of tech masters)

@@ -22,10 +22,8 @@ use Rattle.pass_run.specs.Theorems.{IsSoundPass}
 use Rattle.pass_run.specs.Told.{IsTightMost}
 
 -- The pass with this number was made over the layouts before it: its values are least, what is recorded of it is so,
--- and
--- it is sound. These are the layouts after it, over which another may be made, and its text. Its greatest values are
--- told
--- if asked for.
+-- and it is sound. These are the layouts after it, over which another may be made, and its text. Its greatest values are
+-- told where that is asked for, and else nothing.
 pub record IsPassMade (tech : Tech) (plan : Plan) (masters : List Master) (before : List Coords) (pass : ℕ)
     (told : Bool) (made : Made) : Type 0 where
   pub least : IsLeastPass tech plan masters before made.step
@@ -45,7 +43,8 @@ IsFirstOn tech plan masters layouts axis =
 
 -- why there is no pass with this number on an axis over some layouts
 abbrev pub StopsPass : Tech → Plan → List Master → List Coords → ℕ → Axis → Stop → Type 0
-StopsPass tech plan masters layouts pass axis TooManyEdges = most_edges < length (list_over axis tech plan masters layouts)
+StopsPass tech plan masters layouts pass axis TooManyEdges =
+    most_edges < length (list_over axis tech plan masters layouts)
 StopsPass tech plan masters layouts pass axis (Cycle text) =
     IsCyclicOver tech plan masters layouts pass axis text.items × IsFirstOn tech plan masters layouts axis
 StopsPass tech plan masters layouts pass axis OutOfMemory = Unit {0}
