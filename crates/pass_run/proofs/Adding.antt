@@ -1,6 +1,6 @@
--- The kept pairs of a master, as they are added to the list.
-use Rattle.std.proofs.Common.{◌≡◌, ℕ, ◌+◌, ◌<◌, ◌≤◌, ◌^◌, List, ◌++◌, length, map, take, get_or, sym, ap, ◌∙◌, subst, arith}
-use Rattle.std.specs.List.{All, flat_map, range_with_len}
+-- The kept pairs of masters, as they are found and added to the list.
+use Rattle.std.proofs.Common.{◌≡◌, ℕ, ◌+◌, ◌<◌, ◌≤◌, ◌^◌, List, ◌++◌, length, map, take, get_or, sym, ap, ◌∙◌, subst, arith, zero, suc, [], ◌∷◌, All, flat_map}
+use Rattle.std.specs.List.{range_with_len, AllZip}
 use Rattle.std.proofs.lemmas.List.{length-append, length-map}
 use Rattle.std.proofs.lemmas.List.Folds.{length-flat_map-take}
 use Rattle.std.proofs.lemmas.List.FromFn.{length-range_with_len, get_or-range_with_len}
@@ -25,21 +25,23 @@ use Rattle.pass_run.specs.Laid.{IsLaidOut, AreLaidOut}
 use Rattle.pass_run.specs.OneMaster.{own_kept_edges}
 use Rattle.pass_run.specs.Passes.{kept_count}
 use Rattle.pass_run.proofs.Lists.{map_twice, first_numbers}
+use Rattle.std.proofs.lemmas.Slice.Zip.{AllZip-long}
+use Rattle.pass_run.specs.declared.finding.Found.{Found}
+use Rattle.pass_run.specs.declared.finding.Found.TheVariants.{Pairs, TooMany}
+use Rattle.pass_run.specs.Alike.{most_edges}
+use Rattle.pass_run.specs.Found.{AreKeptPairs, HasPairs, IsFoundIn, AreFound}
+use Rattle.shadow_prune.specs.declared.keeping.KeptFault.TheVariants as faults
 
 -- what the code has of master m is laid out
 pub own_laid : (tech : Tech) (masters : List Master) (layouts : List Coords) (m : ℕ) (master : Master) (c : Coords) → AreLaidOut tech masters layouts → m < length masters
     → master ≡ master_at masters m → c ≡ layout_at layouts m → IsLaidOut tech master c
-own_laid tech masters layouts m master c laid lt is at =
-    let M : Master → Type 0 = λ x. IsLaidOut tech x c in
-    let C : Coords → Type 0 = IsLaidOut tech (master_at masters m) in
-    subst M (sym is) (subst C (sym at) (laid.each m lt))
+own_laid tech masters layouts m master c laid lt is at = rw (is, at) (laid.each m lt)
 
 -- the joint variables of its items are small
 pub own_below : (axis : Axis) (tech : Tech) (masters : List Master) (m base : ℕ) (master : Master) → joint_variables axis masters ≤ 2 ^ 17 → IsLawful tech (master_at masters m) → m < length masters
     → master ≡ master_at masters m → base ≡ base_of axis masters m → All (EndsBelow base axis) master.items.list
 own_below axis tech masters m base master few lawful lt is at =
-    let M : Master → Type 0 = λ x. All (EndsBelow base axis) x.items.list in
-    subst M (sym is) (λ k d k_lt.
+    rw is (λ k d k_lt.
     let lies = lawful.lie axis k d k_lt in
     let low = lies.low_among.among in
     let high = lies.high_among.among in
@@ -55,15 +57,12 @@ own_added axis tech base master c items pairs old new are kept added =
 
 pub own_listed : (axis : Axis) (tech : Tech) (masters : List Master) (layouts : List Coords) (m base : ℕ) (master : Master) (c : Coords) (old new : List Edge) → master ≡ master_at masters m
     → c ≡ layout_at layouts m → base ≡ base_of axis masters m → new ≡ old ++ own_kept_edges axis tech base master c → new ≡ old ++ kept_edges_at axis tech masters layouts m
-own_listed axis tech masters layouts m base master c old new is at base_is added =
-    let edges : ℕ → Master → Coords → List Edge = λ b x z. old ++ own_kept_edges axis tech b x z in
-    added ∙ (ap (λ b. edges b master c) base_is ∙ (ap (λ z. edges (base_of axis masters m) master z) at ∙ ap (λ x. edges (base_of axis masters m) x (layout_at layouts m)) is))
+own_listed axis tech masters layouts m base master c old new is at base_is added = rw (base_is, at, is) at added
 
 -- as many as are counted
 pub own_counted : (axis : Axis) (tech : Tech) (masters : List Master) (layouts : List Coords) (m : ℕ) (master : Master) (c : Coords) → master ≡ master_at masters m → c ≡ layout_at layouts m
     → length (kept_of axis tech c master.items.list) ≡ kept_count axis tech masters layouts m
-own_counted axis tech masters layouts m master c is at =
-    ap (λ z. length (kept_of axis tech z master.items.list)) at ∙ ap (λ (x : Master). length (kept_of axis tech (layout_at layouts m) x.items.list)) is
+own_counted axis tech masters layouts m master c is at = rw (at, is)
 
 -- ---- refusals
 
@@ -85,3 +84,53 @@ refused_so_far axis tech masters layouts m limit count old now fault lt is is_co
     let now_is : length now ≡ length old + length (flat_map piece (range_with_len 0 m)) = ap (λ es. length es) is ∙ length-append old _ in
     let all_is = length-append old (flat_map piece numbers) in
     more_for limit _ _ fault (omega arith) refused
+
+-- what holds of two lists element by element, at one place
+zipped_at : {A B : Type 0} (R : A → B → Type 0) (xs : List A) (ys : List B) (k : ℕ) (d : A) (e : B) → AllZip R xs ys → k < length xs → R (get_or xs k d) (get_or ys k e)
+zipped_at R [] ys k d e h lt = let no : ⊥ = omega arith in absurd no
+zipped_at R (x ∷ xs) [] k d e h lt = absurd h
+zipped_at R (x ∷ xs) (y ∷ ys) zero d e h lt = h.0
+zipped_at R (x ∷ xs) (y ∷ ys) (suc k) d e h lt = zipped_at R xs ys k d e h.1 (omega arith)
+
+module _ (axis : Axis) (tech : Tech) (room : ℕ) (masters : List Master) (layouts : List Coords) where
+  -- what is found of the masters by their numbers is found of each
+  pub found_of_each : (Q : ℕ → Found → Type 0) → ((m : ℕ) (found : Found) → Q m found → IsFoundIn axis tech room (master_at masters m) (layout_at layouts m) found) → (numbers : List ℕ) (found : List Found)
+      → numbers ≡ master_numbers masters → AllZip Q numbers found → AreFound axis tech room masters layouts found
+  found_of_each Q says numbers found are zipped =
+      let numbered : length (master_numbers masters) ≡ length masters = length-range_with_len 0 (length masters) in
+      let count : length numbers ≡ length masters = ap (λ ns. length ns) are ∙ numbered in
+      record {
+        one_each = AllZip-long Q numbers found zipped ∙ count;
+        each = λ m d lt.
+            let e : 0 + m ≡ m = omega arith in
+            let at : get_or numbers m 0 ≡ m = ap (λ ns. get_or ns m 0) are ∙ (get_or-range_with_len 0 (length masters) m 0 lt ∙ e) in
+            subst (λ k. IsFoundIn axis tech room (master_at masters k) (layout_at layouts k) (get_or found m d)) at
+            (says (get_or numbers m 0) (get_or found m d) (zipped_at Q numbers found m 0 d zipped (omega arith)));
+      }
+
+  own_pairs : (m : ℕ) (found : Found) (pairs : List Pair) → HasPairs found pairs → IsFoundIn axis tech room (master_at masters m) (layout_at layouts m) found
+      → AreKeptPairs axis tech (layout_at layouts m) (master_at masters m).items.list pairs
+  own_pairs m (Pairs own) pairs has is = subst (AreKeptPairs axis tech (layout_at layouts m) (master_at masters m).items.list) has is
+  own_pairs m TooMany pairs has is = absurd has
+
+  -- what the code has of master m: its kept pairs
+  pub pairs_found : (found : List Found) (m : ℕ) (read : Found) (pairs : List Pair) → AreFound axis tech room masters layouts found → m < length masters → read ≡ get_or found m read → HasPairs read pairs
+      → AreKeptPairs axis tech (layout_at layouts m) (master_at masters m).items.list pairs
+  pairs_found found m read pairs are lt at has =
+      let I : Found → Type 0 = IsFoundIn axis tech room (master_at masters m) (layout_at layouts m) in
+      own_pairs m read pairs has (subst I (sym at) (are.each m read lt))
+
+  -- or that they are more than there is room for
+  pub too_many_found : (found : List Found) (m : ℕ) (read : Found) → AreFound axis tech room masters layouts found → m < length masters → read ≡ get_or found m read → read ≡ TooMany
+      → room < kept_count axis tech masters layouts m
+  too_many_found found m read are lt at is =
+      let I : Found → Type 0 = IsFoundIn axis tech room (master_at masters m) (layout_at layouts m) in
+      subst I is (subst I (sym at) (are.each m read lt))
+
+-- where the kept pairs of one master alone are more than the inequalities before all of them leave room for, all are too many
+pub one_too_many : (axis : Axis) (tech : Tech) (masters : List Master) (layouts : List Coords) (m room : ℕ) (old now : List Edge) → m < length masters → most_edges ≤ room + length old
+    → now ≡ old ++ flat_map (kept_edges_at axis tech masters layouts) (range_with_len 0 m) → room < kept_count axis tech masters layouts m
+    → most_edges < length (old ++ flat_map (kept_edges_at axis tech masters layouts) (master_numbers masters))
+one_too_many axis tech masters layouts m room old now lt rest is many =
+    let now_is : length now ≡ length old + length (flat_map (kept_edges_at axis tech masters layouts) (range_with_len 0 m)) = ap (λ es. length es) is ∙ length-append old _ in
+    refused_so_far axis tech masters layouts m most_edges (kept_count axis tech masters layouts m) old now faults.TooMany lt is (λ i. kept_count axis tech masters layouts m) (omega arith)

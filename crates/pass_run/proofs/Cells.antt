@@ -1,14 +1,12 @@
 -- What a cell without its limits has in common with the cell.
-use Rattle.std.proofs.Common.{◌≡◌, ℕ, ◌+◌, ◌≤◌, ℤ, pos, List, [], ◌∷◌, ◌++◌, length, map, append_assoc, refl, sym, ap, ◌∙◌, arith, inl, inr}
-use Rattle.std.specs.List.{flat_map, range_with_len}
-use Rattle.std.specs.Prelude.{if◌then◌else◌}
+use Rattle.std.proofs.Common.{◌≡◌, ℕ, ◌+◌, ◌≤◌, ℤ, pos, List, [], ◌∷◌, ◌++◌, length, map, append_assoc, refl, sym, ap, ◌∙◌, arith, inl, inr, flat_map, if◌then◌else◌}
+use Rattle.std.specs.List.{range_with_len}
 use Rattle.list_facts.proofs.Elements.{all_weaker}
 use Rattle.lam_geom.specs.declared.boxes.Axis.{Axis}
 use Rattle.lam_geom.specs.declared.boxes.Axis.TheVariants.{X, Y}
 use Rattle.rule_table.specs.declared.technology.Tech.{Tech}
 use Rattle.rule_table.specs.declared.classes.Layer.{Layer}
 use Rattle.cons_graph.specs.declared.edges.Edge.{Edge}
-use Rattle.sym_items.specs.declared.items.End.{End}
 use Rattle.sym_items.specs.declared.items.Item.{Item}
 use Rattle.sym_items.specs.declared.items.Items.{Items}
 use Rattle.sym_items.specs.declared.items.Coords.{Coords}
@@ -119,28 +117,24 @@ light_kept cell light =
 
 -- ---- items
 
-low_end_kept : (tech : Tech) (cell : Cell) (wire : Wire) (end : WireEnd) → low_end_of tech (bare_cell cell) wire end ≡ low_end_of tech cell wire end
-low_end_kept tech cell wire (ends.Node k) = refl
-low_end_kept tech cell wire (ends.Port k) = refl
+-- the items of a wire, were these its ends
+abbrev items_between : Tech → Cell → ℕ → ℕ → ℕ → Wire → WireEnd → WireEnd → List Item
+items_between tech c owner net cross wire low high =
+    on_layer wire.layer (item_running wire.along
+    (run_item owner net cross wire.width (low_end_of tech c wire low) (high_end_of tech c wire high) (contact_at c low)
+    (contact_at c high)))
 
-high_end_kept : (tech : Tech) (cell : Cell) (wire : Wire) (end : WireEnd) → high_end_of tech (bare_cell cell) wire end ≡ high_end_of tech cell wire end
-high_end_kept tech cell wire (ends.Node k) = refl
-high_end_kept tech cell wire (ends.Port k) = refl
+ends_kept : (tech : Tech) (cell : Cell) (owner net cross : ℕ) (wire : Wire) (low high : WireEnd)
+    → items_between tech (bare_cell cell) owner net cross wire low high ≡ items_between tech cell owner net cross wire
+    low high
+ends_kept tech cell owner net cross wire (ends.Node j) (ends.Node k) = refl
+ends_kept tech cell owner net cross wire (ends.Node j) (ends.Port k) = refl
+ends_kept tech cell owner net cross wire (ends.Port j) (ends.Node k) = refl
+ends_kept tech cell owner net cross wire (ends.Port j) (ends.Port k) = refl
 
-contact_kept : (cell : Cell) (end : WireEnd) → contact_at (bare_cell cell) end ≡ contact_at cell end
-contact_kept cell (ends.Node k) = refl
-contact_kept cell (ends.Port k) = refl
-
-wire_items_kept : (tech : Tech) (cell : Cell) (owner net cross : ℕ) (wire : Wire) → wire_items tech (bare_cell cell) owner net cross wire ≡ wire_items tech cell owner net cross wire
-wire_items_kept tech cell owner net cross wire =
-    let R : End → End → ℕ → ℕ → List Item = λ low high at_low at_high. on_layer wire.layer (item_running wire.along (run_item owner net cross wire.width low high at_low at_high)) in
-    let bare_high : End = high_end_of tech (bare_cell cell) wire wire.high in
-    let low : End = low_end_of tech cell wire wire.low in
-    let high : End = high_end_of tech cell wire wire.high in
-    ap (λ (e : End). R e bare_high (contact_at (bare_cell cell) wire.low) (contact_at (bare_cell cell) wire.high)) (low_end_kept tech cell wire wire.low)
-    ∙ (ap (λ (e : End). R low e (contact_at (bare_cell cell) wire.low) (contact_at (bare_cell cell) wire.high)) (high_end_kept tech cell wire wire.high)
-    ∙ (ap (λ (n : ℕ). R low high n (contact_at (bare_cell cell) wire.high)) (contact_kept cell wire.low)
-    ∙ ap (λ (n : ℕ). R low high (contact_at cell wire.low) n) (contact_kept cell wire.high)))
+wire_items_kept : (tech : Tech) (cell : Cell) (owner net cross : ℕ) (wire : Wire)
+    → wire_items tech (bare_cell cell) owner net cross wire ≡ wire_items tech cell owner net cross wire
+wire_items_kept tech cell owner net cross wire = ends_kept tech cell owner net cross wire wire.low wire.high
 
 items_of_wire_kept : (tech : Tech) (cell : Cell) (nets : Nets) (k : ℕ) → items_of_wire tech (bare_cell cell) nets k ≡ items_of_wire tech cell nets k
 items_of_wire_kept tech cell nets k = wire_items_kept tech cell _ _ _ _

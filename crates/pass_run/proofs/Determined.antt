@@ -8,10 +8,8 @@ use Rattle.cons_graph.specs.declared.edges.Edge.{Edge}
 use Rattle.cons_graph.specs.Solutions.{IsLeastSolution, value_of}
 use Rattle.round_log.specs.declared.log.Entry.{Entry}
 use Rattle.round_log.specs.Looks.{backward_numbers}
-use Rattle.round_log.specs.Orders.{NamesEachOnce}
 use Rattle.round_log.specs.Rounds.{plan_of, EndsInRound}
 use Rattle.round_log.proofs.OneOutcome.{one_end}
-use Rattle.liao_wong.specs.Sorted.{IsInOrderOf}
 use Rattle.liao_wong.proofs.OneOrder.{has_one_order}
 use Rattle.sym_items.specs.declared.items.Coords.{Coords}
 use Rattle.expand.specs.declared.master.Master.{Master}
@@ -37,18 +35,17 @@ one_pass tech plan masters c s t e least_s least_t rec_s rec_t =
     let vars : Axis → ℕ = λ a. joint_variables a masters in
     let system : Axis → List Edge = λ a. system_over a tech plan masters c in
     let listed : Axis → List Edge = λ a. list_over a tech plan masters c in
-    let L : Axis → Type 0 = λ a. IsLeastSolution (vars a) (system a) (value_of t.x) in
-    let N : Axis → Type 0 = λ a. NamesEachOnce (vars a) rec_t.order in
-    let I : Axis → Type 0 = λ a. IsInOrderOf (value_of (joint_values a c)) rec_t.order in
-    let E : Axis → Type 0 = λ a. EndsInRound (plan_of (listed a) rec_t.order) t.rounds rec_t.raises in
     let O : List ℕ → Type 0 = λ ns. EndsInRound (plan_of (listed s.axis) ns) t.rounds rec_t.raises in
     let walk_by : List Entry → List Walk = far_walks s.axis masters in
-    let x : s.x ≡ t.x = one_least (vars s.axis) (system s.axis) s.x t.x least_s.one_each (least_t.one_each ∙ ap vars e) least_s.least (subst L e least_t.least) in
+    let x : s.x ≡ t.x = one_least (vars s.axis) (system s.axis) s.x t.x least_s.one_each (least_t.one_each ∙ ap vars e)
+    least_s.least (rw e at least_t.least) in
     let kept : s.kept ≡ t.kept = rec_s.kept ∙ sym (rec_t.kept ∙ ap (λ (a : Axis). kept_counts a tech masters c) e) in
     let edges : s.edges ≡ t.edges = rec_s.edges ∙ sym (rec_t.edges ∙ ap (λ (a : Axis). length (listed a)) e) in
-    let order : rec_s.order ≡ rec_t.order = has_one_order (vars s.axis) (value_of (joint_values s.axis c)) rec_s.order rec_t.order rec_s.each_once rec_s.in_order (subst N e rec_t.each_once) (subst I e rec_t.in_order) in
+    let order : rec_s.order ≡ rec_t.order = has_one_order (vars s.axis) (value_of (joint_values s.axis c)) rec_s.order
+    rec_t.order rec_s.each_once rec_s.in_order (rw e at rec_t.each_once) (rw e at rec_t.in_order) in
     let backward : s.backward ≡ t.backward = rec_s.backward ∙ (ap (λ (ns : List ℕ). length (backward_numbers (listed s.axis) ns)) order ∙ sym (rec_t.backward ∙ ap (λ (a : Axis). length (backward_numbers (listed a) rec_t.order)) e)) in
-    let one = one_end (plan_of (listed s.axis) rec_s.order) s.rounds t.rounds rec_s.raises rec_t.raises rec_s.ended (subst O (sym order) (subst E e rec_t.ended)) in
+    let one = one_end (plan_of (listed s.axis) rec_s.order) s.rounds t.rounds rec_s.raises rec_t.raises rec_s.ended
+    (subst O (sym order) (rw e at rec_t.ended)) in
     let walks : s.walks ≡ t.walks = rec_s.walks ∙ (ap walk_by one.1 ∙ sym (rec_t.walks ∙ ap (λ (a : Axis). far_walks a masters rec_t.raises) e)) in
     same_step s t (sym e) x kept edges backward one.0 walks
   where

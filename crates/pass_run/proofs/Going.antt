@@ -1,8 +1,8 @@
--- The passes so far, at the start and with one more.
-use Rattle.std.proofs.Common.{◌≡◌, ℕ, suc, ◌+◌, ◌<◌, List, [], ◌∷◌, ◌++◌, length, take, drop, get_or, refl, sym, ap, ◌∙◌, subst, arith}
-use Rattle.std.specs.Prelude.{Contains}
-use Rattle.std.specs.List.{All}
-use Rattle.std.proofs.lemmas.List.{get_or-map, length-map}
+-- The passes so far, at the start and with one more, and what they give in the end.
+use Rattle.std.proofs.Common.{◌≡◌, ℕ, suc, ◌+◌, ◌<◌, ℤ, Bool, true, false, List, [], ◌∷◌, ◌++◌, length, take, drop, get_or, refl, sym, ap, ◌∙◌, subst, arith, append-nil, ◌↔◌, IsTrue, Contains, All}
+use Rattle.std.proofs.lemmas.Bool.{false≢true}
+use Rattle.std.proofs.lemmas.Grind.{flat_map-append}
+use Rattle.std.proofs.lemmas.List.{get_or-map, length-map, map-append}
 use Rattle.lam_geom.specs.declared.boxes.Axis.{Axis}
 use Rattle.rule_table.specs.declared.technology.Tech.{Tech}
 use Rattle.sym_items.specs.declared.items.Coords.{Coords}
@@ -11,25 +11,28 @@ use Rattle.expand.specs.declared.master.Master.{Master}
 use Rattle.expand.specs.Masters.{IsMaster}
 use Rattle.plan_model.specs.declared.plan.Plan.{Plan}
 use Rattle.coarse_grid.proofs.StartLaid.{start_laid}
+use Rattle.pass_run.specs.declared.pass.Made.{Made}
 use Rattle.pass_run.specs.declared.pass.Stop.{Stop}
 use Rattle.pass_run.specs.declared.pass.Stop.TheVariants.{TooManyEdges, Cycle, OutOfMemory}
 use Rattle.pass_run.specs.declared.step.Step.{Step}
 use Rattle.pass_run.specs.declared.passes.PassFault.{PassFault}
+use Rattle.pass_run.specs.declared.passes.Passes.{Passes}
 use Rattle.pass_run.specs.declared.passes.SoFar.{SoFar}
 use Rattle.pitch_join.specs.Joined.{list_over}
-use Rattle.pitch_join.specs.Layouts.{LayoutsMeet}
 use Rattle.pitch_join.specs.Masters.{master_at, no_master}
 use Rattle.pass_run.specs.Layouts.{start_of_master, starts_of, moved_by, layouts_after}
-use Rattle.pass_run.specs.Passes.{IsLeastPass, IsRecorded, ArePasses, axes_of}
-use Rattle.pass_run.specs.Report.{pass_text, report_of}
-use Rattle.pass_run.specs.Theorems.{IsSoundPass, AreWellPlaced, AreSound}
-use Rattle.pass_run.specs.PassFaults.{IsCyclicOver, IsUnsatisfiable, RefusesPasses}
+use Rattle.pass_run.specs.Passes.{ArePasses, axes_of}
+use Rattle.pass_run.specs.PassesOn.{ArePassesOn}
+use Rattle.pass_run.specs.Report.{pass_text, report_from, report_of}
+use Rattle.pass_run.specs.Theorems.{AreSound}
+use Rattle.pass_run.specs.PassFaults.{ComesTo, IsCyclicOver, IsUnsatisfiable, RefusesPasses}
 use Rattle.pass_run.specs.Laid.{StartsClean, IsLaidOut, AreLaidOut, AreSettled}
-use Rattle.pass_run.specs.Alike.{most_edges}
-use Rattle.pass_run.specs.Going.{IsGoing}
-use Rattle.pass_run.specs.OnePass.{EndsPasses, StopsPass}
+use Rattle.pass_run.specs.Going.{AreMade, IsGoing, IsToldIfLast, steps_of, text_of, mosts_of}
+use Rattle.pass_run.specs.OnePass.{EndsPasses, IsFirstOn, IsPassMade, StopsPass}
+use Rattle.pass_run.specs.Told.{IsTightMost, IsTold, AreTold}
+use Rattle.pass_run.proofs.Chain.{none_settled, settled_first, axes_split}
+use Rattle.pass_run.proofs.Leading.{passes_solvable}
 use Rattle.pass_run.proofs.Settled.{placed_of}
-use Rattle.pass_run.proofs.Chain.{layouts_more, axes_more, passes_more, report_more, had_after, had_first, last_first, none_settled, settled_less, sound_more, axes_split}
 
 -- the start layouts are layouts of the masters
 pub starts_laid : (tech : Tech) (masters : List Master) → All (IsMaster tech) masters → All (StartsClean tech) masters → AreLaidOut tech masters (starts_of tech masters)
@@ -42,113 +45,215 @@ starts_laid tech masters each clean = record {
       subst L (sym at) (record { of_master = start_laid tech master (each m no_master lt); clean = clean m no_master lt });
 }
 
--- no passes are made, and their layouts are the start's
-pub going_start : (tech : Tech) (plan : Plan) (masters : List Master) (s : SoFar) → All (IsMaster tech) masters → All (StartsClean tech) masters
-    → s.layouts.items ≡ starts_of tech masters → s.steps.items ≡ [] → s.report.items ≡ [] → IsGoing tech plan masters s
-going_start tech plan masters s each clean layouts_are steps_are report_is =
+-- ---- passes that are made one after another
+
+module _ (tech : Tech) (plan : Plan) (masters : List Master) (with_most : Bool) (coming : List Axis) where
+  abbrev over : ℕ → List Coords → List Made → Type 0
+  over = AreMade tech plan masters with_most coming
+
+  abbrev next : List Coords → Made → List Coords
+  next before m = moved_by masters before m.step
+
+  passes_made : (pass : ℕ) (before : List Coords) (ms : List Made) → over pass before ms
+      → ArePasses tech plan masters before (steps_of ms)
+  passes_made pass before [] all = tt
+  passes_made pass before (m ∷ ms) all = (all.2.least, all.2.recorded, passes_made (suc pass) (next before m) ms all.3)
+
+  sound_made : (had : List Axis) (pass : ℕ) (before : List Coords) (ms : List Made)
+      → AreSettled tech plan masters had before → over pass before ms
+      → AreSound tech plan masters had before (steps_of ms)
+  sound_made had pass before [] settled all = tt
+  sound_made had pass before (m ∷ ms) settled all =
+      let rest = all.2.stays.settled had settled in
+      (all.2.sound had settled, sound_made (m.step.axis ∷ had) (suc pass) (next before m) ms rest all.3)
+
+  laid_made : (pass : ℕ) (before : List Coords) (ms : List Made) → AreLaidOut tech masters before → over pass before ms
+      → AreLaidOut tech masters (layouts_after masters before (steps_of ms))
+  laid_made pass before [] laid all = laid
+  laid_made pass before (m ∷ ms) laid all = laid_made (suc pass) (next before m) ms all.2.stays.laid all.3
+
+  settled_made : (had : List Axis) (pass : ℕ) (before : List Coords) (ms : List Made)
+      → AreSettled tech plan masters had before → over pass before ms
+      → AreSettled tech plan masters (axes_of (steps_of ms) ++ had) (layouts_after masters before (steps_of ms))
+  settled_made had pass before [] settled all = settled
+  settled_made had pass before (m ∷ ms) settled all =
+      settled_first tech plan masters m.step.axis (axes_of (steps_of ms)) had
+      (layouts_after masters before (steps_of (m ∷ ms)))
+      (settled_made (m.step.axis ∷ had) (suc pass) (next before m) ms (all.2.stays.settled had settled) all.3)
+
+  report_made : (pass : ℕ) (before : List Coords) (ms : List Made) → over pass before ms
+      → text_of ms ≡ report_from tech plan masters pass before (steps_of ms)
+  report_made pass before [] all = refl
+  report_made pass before (m ∷ ms) all =
+      let own : List ℕ = pass_text masters (list_over m.step.axis tech plan masters before) pass m.step in
+      ap (λ ns. ns ++ text_of ms) all.2.text ∙ ap (λ ns. own ++ ns) (report_made (suc pass) (next before m) ms all.3)
+
+  told_one : (before : List Coords) (step : Step) (after : List Axis) (told : Bool) (values : List ℤ)
+      → IsTrue told ↔ (Contains after step.axis → ⊥) → (IsTrue told → IsTightMost tech plan masters before step values)
+      → (told ≡ false → values ≡ []) → IsTold tech plan masters before step after values
+  told_one before step after true values is most none =
+      record { last = λ alone. most refl; others = λ comes. absurd (is.0 refl comes) }
+  told_one before step after false values is most none =
+      record { last = λ alone. absurd (false≢true (is.1 alone)); others = λ comes. none refl }
+
+  told_made : (pass : ℕ) (before : List Coords) (ms : List Made) → IsTrue with_most → over pass before ms
+      → AreTold tech plan masters coming before (steps_of ms) (mosts_of ms)
+  told_made pass before [] asked all = tt
+  told_made pass before (m ∷ ms) asked all = (
+    told_one before m.step (axes_of (steps_of ms) ++ coming) all.0 m.most (all.1 asked) all.2.most all.2.none,
+    told_made (suc pass) (next before m) ms asked all.3,
+  )
+
+  -- one pass more
+  layouts_more : (before : List Coords) (ms : List Made) (m : Made)
+      → next (layouts_after masters before (steps_of ms)) m ≡ layouts_after masters before (steps_of (ms ++ m ∷ []))
+  layouts_more before [] m = refl
+  layouts_more before (first ∷ ms) m = layouts_more (next before first) ms m
+
+  coming_more : (ms : List Made) (m : Made)
+      → axes_of (steps_of ms) ++ (m.step.axis ∷ coming) ≡ axes_of (steps_of (ms ++ m ∷ [])) ++ coming
+  coming_more [] m = refl
+  coming_more (first ∷ ms) m = ap (λ (axes : List Axis). first.step.axis ∷ axes) (coming_more ms m)
+
+  made_more : (pass number : ℕ) (before : List Coords) (ms : List Made) (told : Bool) (m : Made)
+      → number ≡ pass + length ms → AreMade tech plan masters with_most (m.step.axis ∷ coming) pass before ms
+      → IsToldIfLast with_most coming m.step.axis told
+      → IsPassMade tech plan masters (layouts_after masters before (steps_of ms)) number told m
+      → over pass before (ms ++ m ∷ [])
+  made_more pass number before [] told m n all is more =
+      let same : number ≡ pass = omega arith in
+      (told, is, rw same at more, tt)
+  made_more pass number before (first ∷ ms) told m n all is more =
+      let T : List Axis → Type 0 = λ axes. IsToldIfLast with_most axes first.step.axis all.0 in
+      let rest = made_more (suc pass) number (next before first) ms told m (omega arith) all.3 is more in
+      (all.0, subst T (coming_more ms m) all.1, all.2, rest)
+
+-- ---- the passes so far
+
+pub going_start : (tech : Tech) (plan : Plan) (masters : List Master) (with_most : Bool) (coming : List Axis)
+    (s : SoFar) → All (IsMaster tech) masters → All (StartsClean tech) masters
+    → s.layouts.items ≡ starts_of tech masters → s.steps.items ≡ [] → s.report.items ≡ [] → s.mosts.items ≡ []
+    → IsGoing tech plan masters with_most coming s
+going_start tech plan masters with_most coming s each clean layouts steps report mosts = record {
+  laid = starts_laid tech masters each clean;
+  mades = [];
+  made = tt;
+  steps = steps;
+  layouts = layouts;
+  report = report;
+  told = λ asked. mosts;
+  untold = λ not. mosts;
+}
+
+pub going_more : {tech : Tech} {plan : Plan} {masters : List Master} {with_most told : Bool} {axis : Axis}
+    {coming : List Axis} {s : SoFar} {c : List Coords} {pass : ℕ} {made : Made} (t : SoFar)
+    → IsGoing tech plan masters with_most (axis ∷ coming) s → c ≡ s.layouts.items → pass ≡ suc (length s.steps.items)
+    → made.step.axis ≡ axis → IsToldIfLast with_most coming axis told → IsPassMade tech plan masters c pass told made
+    → t.layouts.items ≡ made.layouts.items → t.steps.items ≡ s.steps.items ++ made.step ∷ []
+    → t.report.items ≡ s.report.items ++ made.text.items
+    → (IsTrue with_most → t.mosts.items ≡ s.mosts.items ++ made.most ∷ [])
+    → (with_most ≡ false → t.mosts.items ≡ s.mosts.items) → IsGoing tech plan masters with_most coming t
+going_more {tech} {plan} {masters} {with_most} {told} {axis} {coming} {s} {c} {pass} {made} t g at number on is more
+    layouts steps report asked_more not_more =
     let start : List Coords = starts_of tech masters in
-    let made : List Step → Type 0 = λ zs. ArePasses tech plan masters start zs in
-    let all_sound : List Step → Type 0 = λ zs. AreSound tech plan masters [] start zs in
-    let laid : List Coords → Type 0 = λ c. AreLaidOut tech masters c in
-    let settled : List Step → Type 0 = λ zs. AreSettled tech plan masters (axes_of zs) s.layouts.items in
+    let before : c ≡ layouts_after masters start (steps_of g.mades) = at ∙ g.layouts in
+    let A : Axis → Type 0 = λ a. AreMade tech plan masters with_most (a ∷ coming) 1 start g.mades in
+    let S : Made → Step = λ (z : Made). z.step in
+    let counted : length s.steps.items ≡ length g.mades = ap (λ (zs : List Step). length zs) g.steps
+    ∙ length-map g.mades S in
+    let after = layouts_more tech plan masters with_most coming start g.mades made in
     record {
-      made = subst made (sym steps_are) tt;
-      layouts_are = layouts_are ∙ sym (ap (λ zs. layouts_after masters start zs) steps_are);
-      report_is = report_is ∙ sym (ap (λ zs. report_of tech plan masters start zs) steps_are);
-      sound = subst all_sound (sym steps_are) tt;
-      laid = subst laid (sym layouts_are) (starts_laid tech masters each clean);
-      settled = subst settled (sym steps_are) (none_settled tech plan masters s.layouts.items);
+      laid = g.laid;
+      mades = g.mades ++ made ∷ [];
+      made = made_more tech plan masters with_most coming 1 pass start g.mades told made (omega arith)
+          (subst A (sym on) g.made) (rw (← on) at is) (rw before at more);
+      steps = rw (steps, g.steps, map-append);
+      layouts = layouts ∙ (more.layouts ∙ (ap (λ ls. moved_by masters ls made.step) before ∙ after));
+      report = rw (report, g.report, flat_map-append, append-nil made.text.items);
+      told = λ asked. rw (asked_more asked, g.told asked, map-append);
+      untold = λ not. not_more not ∙ g.untold not;
     }
 
-settled_at : (tech : Tech) (plan : Plan) (masters : List Master) (s : SoFar) (c : List Coords) → IsGoing tech plan masters s → c ≡ s.layouts.items → AreSettled tech plan masters (axes_of s.steps.items) c
-settled_at tech plan masters s c g at = let S : List Coords → Type 0 = AreSettled tech plan masters (axes_of s.steps.items) in subst S (sym at) g.settled
+module _ {tech : Tech} {plan : Plan} {masters : List Master} {with_most : Bool} {coming : List Axis} {s : SoFar}
+    (g : IsGoing tech plan masters with_most coming s) where
+  abbrev start : List Coords
+  start = starts_of tech masters
 
--- one more pass is made
-pub going_more : (tech : Tech) (plan : Plan) (masters : List Master) (s t : SoFar) (c : List Coords) (step : Step) (text : List ℕ) (pass : ℕ) (axis : Axis) → IsGoing tech plan masters s
-    → c ≡ s.layouts.items → pass ≡ suc (length s.steps.items) → step.axis ≡ axis → IsLeastPass tech plan masters c step → IsRecorded tech plan masters c step
-    → ((had : List Axis) → AreSettled tech plan masters had c → IsSoundPass tech plan masters had c step)
-    → AreLaidOut tech masters (moved_by masters c step)
-    → ((had : List Axis) → AreSettled tech plan masters had c → AreSettled tech plan masters (axis ∷ had) (moved_by masters c step))
-    → text ≡ pass_text masters (list_over axis tech plan masters c) pass step
-    → t.layouts.items ≡ moved_by masters c step → t.steps.items ≡ s.steps.items ++ step ∷ [] → t.report.items ≡ s.report.items ++ text → IsGoing tech plan masters t
-going_more tech plan masters s t c step text pass axis g at pass_is axis_is least recorded sound laid settled says layouts_are steps_are report_is =
-    let start : List Coords = starts_of tech masters in
-    let steps : List Step = s.steps.items in
-    let before : c ≡ layouts_after masters start steps = at ∙ g.layouts_are in
-    let settled_before = settled_at tech plan masters s c g at in
-    let L : List Coords → Type 0 = λ ls. IsLeastPass tech plan masters ls step in
-    let R : List Coords → Type 0 = λ ls. IsRecorded tech plan masters ls step in
-    let S : List Coords → Type 0 = λ ls. IsSoundPass tech plan masters (had_after [] steps) ls step in
-    let made : List Step → Type 0 = λ zs. ArePasses tech plan masters start zs in
-    let all_sound : List Step → Type 0 = λ zs. AreSound tech plan masters [] start zs in
-    let is_laid : List Coords → Type 0 = λ ls. AreLaidOut tech masters ls in
-    let C : List Coords → Type 0 = λ ls. AreSettled tech plan masters (axes_of steps ++ step.axis ∷ []) ls in
-    let A : List Axis → Type 0 = λ axes. AreSettled tech plan masters axes t.layouts.items in
-    let B : Axis → Type 0 = λ a. AreSettled tech plan masters (a ∷ axes_of steps) (moved_by masters c step) in
-    let pass_sound = sound (had_after [] steps) (settled_less tech plan masters (axes_of steps) (had_after [] steps) c (had_first steps) settled_before) in
-    let all_settled = settled_less tech plan masters (step.axis ∷ axes_of steps) (axes_of steps ++ step.axis ∷ []) (moved_by masters c step) (last_first (axes_of steps) step.axis)
-    (subst B (sym axis_is) (settled (axes_of steps) settled_before)) in
-    let axes_are : axes_of t.steps.items ≡ axes_of steps ++ step.axis ∷ [] = ap axes_of steps_are ∙ axes_more steps step in
-    let own : ℕ → List Coords → List ℕ = λ n ls. pass_text masters (list_over step.axis tech plan masters ls) n step in
-    let number : pass ≡ 1 + length steps = omega arith in
-    let text_is : text ≡ own (1 + length steps) (layouts_after masters start steps) =
-    says ∙ (ap (λ a. pass_text masters (list_over a tech plan masters c) pass step) (sym axis_is) ∙ (ap (λ n. own n c) number ∙ ap (λ ls. own (1 + length steps) ls) before)) in
-    record {
-      made = subst made (sym steps_are) (passes_more tech plan masters start steps step g.made (subst L before least) (subst R before recorded));
-      layouts_are = layouts_are ∙ (ap (λ ls. moved_by masters ls step) before ∙ (sym (layouts_more masters start steps step) ∙ sym (ap (λ zs. layouts_after masters start zs) steps_are)));
-      report_is = report_is ∙ (ap (λ ns. ns ++ text) g.report_is ∙ (ap (λ ns. report_of tech plan masters start steps ++ ns) text_is
-          ∙ (sym (report_more tech plan masters 1 start steps step) ∙ sym (ap (λ zs. report_of tech plan masters start zs) steps_are))));
-      sound = subst all_sound (sym steps_are) (sound_more tech plan masters [] start steps step g.sound (subst S before pass_sound));
-      laid = subst is_laid (sym layouts_are) laid;
-      settled = subst A (sym axes_are) (subst C (sym layouts_are) all_settled);
-    }
+  going_passes : ArePasses tech plan masters start s.steps.items
+  going_passes = rw g.steps (passes_made tech plan masters with_most coming 1 start g.mades g.made)
 
--- a pass with a positive cycle refuses these axes, whatever comes after it
-pub refused_cyclic : (tech : Tech) (plan : Plan) (masters : List Master) (s : SoFar) (c : List Coords) (pass : ℕ) (axis : Axis) (later : List Axis) (text report : List ℕ) → IsGoing tech plan masters s
-    → c ≡ s.layouts.items → pass ≡ suc (length s.steps.items) → IsCyclicOver tech plan masters c pass axis text → ((had : List Axis) → AreSettled tech plan masters had c → Contains had axis → ⊥)
-    → report ≡ s.report.items ++ text → IsUnsatisfiable tech plan masters (axes_of s.steps.items ++ axis ∷ later) pass report
-refused_cyclic tech plan masters s c pass axis later text report g at pass_is cyclic first says =
-    let C : List Coords → Type 0 = λ ls. IsCyclicOver tech plan masters ls pass axis text in
-    record {
-      axis = axis;
-      done = s.steps.items;
-      comes = record { made = g.made; later = later; axes_are = refl; count = pass_is };
-      first = first (axes_of s.steps.items) (settled_at tech plan masters s c g at);
-      text = text;
-      cyclic = subst C (at ∙ g.layouts_are) cyclic;
-      says = says ∙ ap (λ ns. ns ++ text) g.report_is;
-    }
+  going_after : s.layouts.items ≡ layouts_after masters start s.steps.items
+  going_after = g.layouts ∙ ap (λ (zs : List Step). layouts_after masters start zs) (sym g.steps)
 
--- a pass that stops without a cycle refuses them, too
-pub refused_stopped : (tech : Tech) (plan : Plan) (masters : List Master) (s : SoFar) (c : List Coords) (pass : ℕ) (axis : Axis) (later : List Axis) (stop : Stop) (fault : PassFault)
-    → IsGoing tech plan masters s → c ≡ s.layouts.items → pass ≡ suc (length s.steps.items) → StopsPass tech plan masters c pass axis stop → EndsPasses pass stop fault
-    → RefusesPasses tech plan masters (axes_of s.steps.items ++ axis ∷ later) fault
-refused_stopped tech plan masters s c pass axis later TooManyEdges fault g at pass_is many ends =
-    let R : PassFault → Type 0 = RefusesPasses tech plan masters (axes_of s.steps.items ++ axis ∷ later) in
-    let M : List Coords → Type 0 = λ ls. most_edges < length (list_over axis tech plan masters ls) in
-    subst R (sym ends) (record {
-      axis = axis;
-      done = s.steps.items;
-      comes = record { made = g.made; later = later; axes_are = refl; count = pass_is };
-      many = subst M (at ∙ g.layouts_are) many;
-    })
-refused_stopped tech plan masters s c pass axis later (Cycle text) fault g at pass_is cyclic ends = absurd ends
-refused_stopped tech plan masters s c pass axis later OutOfMemory fault g at pass_is free ends =
-    let R : PassFault → Type 0 = RefusesPasses tech plan masters (axes_of s.steps.items ++ axis ∷ later) in
-    subst R (sym ends) tt
+  going_report : s.report.items ≡ report_of tech plan masters start s.steps.items
+  going_report = rw g.steps (g.report ∙ report_made tech plan masters with_most coming 1 start g.mades g.made)
 
--- what is left of the layouts of all passes
-pub going_placed : (tech : Tech) (plan : Plan) (masters : List Master) (s : SoFar) (axes : List Axis) → IsGoing tech plan masters s → axes_of s.steps.items ≡ axes
-    → AreWellPlaced tech masters s.layouts.items axes
-going_placed tech plan masters s axes g are =
-    let W : List Axis → Type 0 = λ zs. AreWellPlaced tech masters s.layouts.items zs in
-    subst W are (placed_of tech plan masters s.layouts.items (axes_of s.steps.items) g.laid g.settled)
+  pub going_laid : AreLaidOut tech masters s.layouts.items
+  going_laid = rw g.layouts (laid_made tech plan masters with_most coming 1 start g.mades g.laid g.made)
 
-pub going_met : (tech : Tech) (plan : Plan) (masters : List Master) (s : SoFar) (axes : List Axis) → IsGoing tech plan masters s → axes_of s.steps.items ≡ axes
-    → (axis : Axis) → Contains axes axis → LayoutsMeet axis tech plan masters s.layouts.items
-going_met tech plan masters s axes g are =
-    let S : List Axis → Type 0 = λ zs. AreSettled tech plan masters zs s.layouts.items in
-    (subst S are g.settled).met
+  going_settled : AreSettled tech plan masters (axes_of s.steps.items) s.layouts.items
+  going_settled =
+      let none = none_settled tech plan masters start in
+      rw (g.steps, g.layouts, ← append-nil (axes_of (steps_of g.mades)))
+      (settled_made tech plan masters with_most coming [] 1 start g.mades none g.made)
+
+  comes_next : (pass : ℕ) (axis : Axis) (later : List Axis) → pass ≡ suc (length s.steps.items)
+      → ComesTo tech plan masters (axes_of s.steps.items ++ axis ∷ later) pass axis s.steps.items
+  comes_next pass axis later number = record { made = going_passes; later = later; axes_are = refl; count = number }
+
+  -- a pass with a positive cycle refuses these axes, whatever comes after it
+  pub refused_cyclic : (c : List Coords) (pass : ℕ) (axis : Axis) (later : List Axis) (text report : List ℕ)
+      → c ≡ s.layouts.items → pass ≡ suc (length s.steps.items)
+      → IsCyclicOver tech plan masters c pass axis text × IsFirstOn tech plan masters c axis
+      → report ≡ s.report.items ++ text
+      → IsUnsatisfiable tech plan masters (axes_of s.steps.items ++ axis ∷ later) pass report
+  refused_cyclic c pass axis later text report at number stops says = record {
+    axis = axis;
+    done = s.steps.items;
+    comes = comes_next pass axis later number;
+    first = stops.1 (axes_of s.steps.items) (rw at going_settled);
+    text = text;
+    cyclic = rw (at ∙ going_after) at stops.0;
+    says = says ∙ ap (λ ns. ns ++ text) going_report;
+  }
+
+  -- a pass that stops without a cycle refuses them, too
+  pub refused_stopped : (c : List Coords) (pass : ℕ) (axis : Axis) (later : List Axis) (stop : Stop) (fault : PassFault)
+      → c ≡ s.layouts.items → pass ≡ suc (length s.steps.items) → StopsPass tech plan masters c pass axis stop
+      → EndsPasses pass stop fault → RefusesPasses tech plan masters (axes_of s.steps.items ++ axis ∷ later) fault
+  refused_stopped c pass axis later TooManyEdges fault at number many ends =
+      let comes = comes_next pass axis later number in
+      rw ends (record { axis = axis; done = s.steps.items; comes = comes; many = rw (at ∙ going_after) at many })
+  refused_stopped c pass axis later (Cycle text) fault at number cyclic ends = absurd ends
+  refused_stopped c pass axis later OutOfMemory fault at number free ends = rw ends tt
+
+  -- what they give where they are all that are asked for
+  pub passes_given : (axes : List Axis) (p : Passes) → axes_of s.steps.items ≡ axes → p.coords ≡ s.layouts.items
+      → p.steps ≡ s.steps.items → p.report ≡ s.report.items → ArePassesOn tech plan masters axes p
+  passes_given axes p are coords steps report =
+      let none = none_settled tech plan masters start in
+      let sound = sound_made tech plan masters with_most coming [] 1 start g.mades none g.made in
+      let placed = placed_of tech plan masters s.layouts.items (axes_of s.steps.items) going_laid going_settled in
+      record {
+        on_axes = rw steps are;
+        passes = rw steps going_passes;
+        last = rw (coords, steps) going_after;
+        report = rw (report, steps) going_report;
+        sound_passes = rw (steps, g.steps) sound;
+        counted = rw coords going_laid.counted;
+        laid = rw coords going_laid;
+        placed = rw (coords, ← are) placed;
+        met = rw (coords, ← are) going_settled.met;
+        solvable = rw steps (passes_solvable tech plan masters start s.steps.items going_passes);
+      }
+
+  -- and what they tell
+  pub going_told : (p : Passes) → coming ≡ [] → p.steps ≡ s.steps.items → p.mosts ≡ s.mosts.items → IsTrue with_most
+      → AreTold tech plan masters [] start p.steps p.mosts
+  going_told p none steps mosts asked =
+      let C : List Axis → Type 0 = λ axes. AreTold tech plan masters axes start (steps_of g.mades) (mosts_of g.mades) in
+      let told = told_made tech plan masters with_most coming 1 start g.mades asked g.made in
+      rw (steps, g.steps, mosts, g.told asked) (subst C none told)
 
 -- what refuses one more pass refuses these
 pub refused_there : (tech : Tech) (plan : Plan) (masters : List Master) (axes done : List Axis) (k : ℕ) (d : Axis) (fault : PassFault) → k < length axes → done ≡ take k axes

@@ -1,21 +1,17 @@
--- The last pass on an axis among some passes: there is one where the axis is among theirs, and no other.
-use Rattle.std.proofs.Common.{◌≡◌, ℕ, zero, suc, ◌<◌, ◌≤◌, List, [], ◌∷◌, length, get_or, take, drop, ◌⊎◌, inl, inr, refl, ap, arith}
-use Rattle.std.specs.Prelude.{Contains}
-use Rattle.std.proofs.lemmas.List.Elements.{All-nil, All-cons, All-contains, Contains-append_right, Contains-append_cases}
+-- The last pass on an axis among some passes, of which there is no other, and what is told of all passes.
+use Rattle.std.proofs.Common.{◌≡◌, ℕ, suc, ◌≤◌, List, [], ◌∷◌, ◌⊎◌, inl, inr, refl, ap, arith, zero, ◌-◌, ◌<◌, ℤ, length, sym, ◌∙◌, subst, append-nil, Contains, slice_index_or}
+use Rattle.std.proofs.lemmas.List.Elements.{All-nil, All-cons, All-contains, Contains-append_right, Contains-append_cases, Contains-append_left}
 use Rattle.lam_geom.specs.declared.boxes.Axis.{Axis}
-use Rattle.lam_geom.specs.declared.boxes.Axis.TheVariants.{X, Y}
 use Rattle.sym_items.specs.declared.items.Coords.{Coords}
 use Rattle.expand.specs.declared.master.Master.{Master}
 use Rattle.pass_run.specs.declared.step.Step.{Step}
-use Rattle.pass_run.specs.Layouts.{moved_by, layouts_after}
+use Rattle.pass_run.specs.Layouts.{moved_by}
 use Rattle.pass_run.specs.Passes.{axes_of}
-use Rattle.pass_run.specs.Slack.{IsLastOn, here, later}
-
-same_axis : (a b : Axis) → (a ≡ b) ⊎ (a ≡ b → ⊥)
-same_axis X X = inl refl
-same_axis X Y = inr (λ e. cc)
-same_axis Y X = inr (λ e. cc)
-same_axis Y Y = inl refl
+use Rattle.pass_run.specs.Slack.{IsLastOn, here, later, most_at, AreMosts, AreTight}
+use Rattle.pass_run.proofs.Settled.{same_axis}
+use Rattle.rule_table.specs.declared.technology.Tech.{Tech}
+use Rattle.plan_model.specs.declared.plan.Plan.{Plan}
+use Rattle.pass_run.specs.Told.{IsTightMost, AreTold}
 
 only_one : (a axis : Axis) → Contains (a ∷ []) axis → a ≡ axis
 only_one a axis h = let P : Axis → Type 0 = λ z. a ≡ z in All-contains P (a ∷ []) axis (All-cons P a [] refl (All-nil P)) h
@@ -56,32 +52,64 @@ last_once masters axis start steps number other before between step again (later
     let r = last_once masters axis (moved_by masters start first) more n k before between step again last same in
     (ap suc r.0, r.1, r.2)
 
--- the pass with this index is the last on its axis, if no later one is on it
-pub last_at : (masters : List Master) (axis : Axis) (start : List Coords) (steps : List Step) (k : ℕ) (d : Step) → k < length steps → (get_or steps k d).axis ≡ axis
-    → (Contains (axes_of (drop (suc k) steps)) axis → ⊥) → IsLastOn masters axis start steps (suc k) (layouts_after masters start (take k steps)) (get_or steps k d)
-last_at masters axis start [] k d lt on none = absurd (omega arith)
-last_at masters axis start (s ∷ steps) zero d lt on none = here start s steps on none
-last_at masters axis start (s ∷ steps) (suc k) d lt on none =
-    later start s steps (suc k) (layouts_after masters (moved_by masters start s) (take k steps)) (get_or steps k d) (last_at masters axis (moved_by masters start s) steps k d (omega arith) on none)
+-- ---- the last pass on an axis
 
--- the last pass on an axis
-pub record HasLast (masters : List Master) (axis : Axis) (start : List Coords) (steps : List Step) : Type 0 where
-  pub number : ℕ
-  pub before : List Coords
-  pub step : Step
-  pub is : IsLastOn masters axis start steps number before step
+-- what is told of a later pass
+most_later : (m : List ℤ) (mosts : List (List ℤ)) (number : ℕ) → 1 ≤ number → most_at (m ∷ mosts) (suc number) ≡ most_at mosts number
+most_later m mosts number from =
+    let at : suc number - 1 ≡ suc (number - 1) = omega arith in
+    ap (λ k. slice_index_or (m ∷ mosts) k []) at
 
--- there is one on each axis of the passes
-pub has_last : (masters : List Master) (axis : Axis) (start : List Coords) (steps : List Step) → Contains (axes_of steps) axis → HasLast masters axis start steps
-has_last masters axis start [] among = absurd (let lt = among.1 in omega arith)
-has_last masters axis start (s ∷ steps) among =
-    elim (comes_or_not (axes_of steps) axis) [
-      | inl comes ↦
-          let rest : HasLast masters axis (moved_by masters start s) steps = has_last masters axis (moved_by masters start s) steps comes in
-          record { number = suc rest.number; before = rest.before; step = rest.step; is = later start s steps rest.number rest.before rest.step rest.is }
-      | inr not ↦
-          elim (Contains-append_cases (s.axis ∷ []) (axes_of steps) axis among) [
-            | inl first ↦ record { number = 1; before = start; step = s; is = here start s steps (only_one s.axis axis first) not }
-            | inr after ↦ absurd (not after)
-          ]
+last_told : (tech : Tech) (plan : Plan) (masters : List Master) (axis : Axis) (start : List Coords) (steps : List Step) (number : ℕ) (before : List Coords) (step : Step) (mosts : List (List ℤ))
+    → IsLastOn masters axis start steps number before step → AreTold tech plan masters [] start steps mosts → IsTightMost tech plan masters before step (most_at mosts number)
+last_told tech plan masters axis start steps number before step [] (here _ _ _ _ _) told = absurd told
+last_told tech plan masters axis start steps number before step [] (later _ _ _ _ _ _ _) told = absurd told
+last_told tech plan masters axis start steps number before step (m ∷ mosts) (here _ _ more on none) told =
+    told.0.last (λ comes. none (let C : Axis → Type 0 = Contains (axes_of more) in let N : List Axis → Type 0 = λ axes. Contains axes step.axis in subst C on (subst N (append-nil (axes_of more)) comes)))
+last_told tech plan masters axis start steps number before step (m ∷ mosts) (later _ first more n _ _ last) told =
+    let T : List ℤ → Type 0 = λ values. IsTightMost tech plan masters before step values in
+    subst T (sym (most_later m mosts n (last_counted masters axis (moved_by masters start first) more n before step last)))
+    (last_told tech plan masters axis (moved_by masters start first) more n before step mosts last told.1)
+
+-- ---- the others
+
+others_silent : (tech : Tech) (plan : Plan) (masters : List Master) (start : List Coords) (steps : List Step) (mosts : List (List ℤ)) (n : ℕ) → AreTold tech plan masters [] start steps mosts → n < length steps
+    → ((axis : Axis) (before : List Coords) (step : Step) → IsLastOn masters axis start steps (suc n) before step → ⊥) → most_at mosts (suc n) ≡ []
+others_silent tech plan masters start [] mosts n told lt none = absurd (omega arith)
+others_silent tech plan masters start (s ∷ steps) [] n told lt none = absurd told
+others_silent tech plan masters start (s ∷ steps) (m ∷ mosts) zero told lt none =
+    elim (comes_or_not (axes_of steps) s.axis) [
+      | inl comes ↦ told.0.others (Contains-append_left (axes_of steps) [] s.axis comes)
+      | inr not ↦ absurd (none s.axis start s (here start s steps refl not))
     ]
+others_silent tech plan masters start (s ∷ steps) (m ∷ mosts) (suc n) told lt none =
+    most_later m mosts (suc n) (omega arith)
+    ∙ others_silent tech plan masters (moved_by masters start s) steps mosts n told.1 (omega arith) (λ axis before step last. none axis before step (later start s steps (suc n) before step last))
+
+told_counted : (tech : Tech) (plan : Plan) (masters : List Master) (coming : List Axis) (start : List Coords) (steps : List Step) (mosts : List (List ℤ)) → AreTold tech plan masters coming start steps mosts
+    → length mosts ≡ length steps
+told_counted tech plan masters coming start [] [] told = refl
+told_counted tech plan masters coming start [] (m ∷ mosts) told = absurd told
+told_counted tech plan masters coming start (s ∷ steps) [] told = absurd told
+told_counted tech plan masters coming start (s ∷ steps) (m ∷ mosts) told = ap suc (told_counted tech plan masters coming (moved_by masters start s) steps mosts told.1)
+
+-- ---- all of them
+
+pub are_mosts : (tech : Tech) (plan : Plan) (masters : List Master) (start : List Coords) (steps : List Step)
+    (mosts : List (List ℤ))
+    → AreTold tech plan masters [] start steps mosts → AreMosts tech plan masters start steps mosts
+are_mosts tech plan masters start steps mosts told = record {
+  one_each = told_counted tech plan masters [] start steps mosts told;
+  last = λ axis number before step last. (last_told tech plan masters axis start steps number before step mosts last told).most;
+  others = λ number from to none.
+      let n : ℕ = number - 1 in
+      let is : suc n ≡ number = omega arith in
+      let N : ℕ → Type 0 = λ k. (axis : Axis) (before : List Coords) (step : Step) → IsLastOn masters axis start steps k before step → ⊥ in
+      ap (λ k. most_at mosts k) (sym is) ∙ others_silent tech plan masters start steps mosts n told (omega arith) (subst N (sym is) none);
+}
+
+pub are_tight : (tech : Tech) (plan : Plan) (masters : List Master) (start : List Coords) (steps : List Step)
+    (mosts : List (List ℤ))
+    → AreTold tech plan masters [] start steps mosts → AreTight tech plan masters start steps mosts
+are_tight tech plan masters start steps mosts told = λ axis number before step last.
+    (last_told tech plan masters axis start steps number before step mosts last told).tight

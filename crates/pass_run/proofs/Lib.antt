@@ -10,18 +10,14 @@ pub mod Pruning
 pub mod Shape
 pub mod Solved
 pub mod Going
-pub mod PassesGiven
 pub mod Adding
 pub mod Texts
 pub mod Chain
 pub mod Determined
 pub mod OneRefusal
 pub mod Leading
-mod FoundPairs
 pub mod Reach
-pub mod Tight
 pub mod Lasts
-pub mod Told
 pub mod Cells
 pub mod Masters
 pub mod Equals

@@ -1,6 +1,6 @@
 -- Lists of images, and of the first numbers.
-use Rattle.std.proofs.Common.{◌≡◌, ℕ, zero, suc, ◌+◌, ◌<◌, ◌≤◌, List, [], ◌∷◌, ◌++◌, length, take, map, get_or, refl, sym, ap, ◌∙◌, subst, arith}
-use Rattle.std.specs.List.{All, range_with_len}
+use Rattle.std.proofs.Common.{◌≡◌, ℕ, zero, suc, ◌+◌, ◌<◌, ◌≤◌, List, [], ◌∷◌, ◌++◌, length, take, map, get_or, refl, sym, ap, ◌∙◌, subst, arith, All, Result, Ok, Err, IfOk}
+use Rattle.std.specs.List.{range_with_len}
 use Rattle.std.proofs.lemmas.List.{map_more}
 use Rattle.std.proofs.lemmas.List.Elements.{All-more}
 use Rattle.std.proofs.lemmas.List.FromFn.{map-range_with_len_more}
@@ -37,3 +37,9 @@ holds_read P xs read k d is lt so_far own =
     let here : get_or read k d ≡ get_or xs k d = ap (λ ys. get_or ys k d) is in
     let among : length read ≡ length xs = ap (λ ys. length ys) is in
     All-more P xs k d (omega arith) so_far (subst P here own)
+
+-- what two facts of a result give together
+pub both_if_ok : {X Y : Type 0} (r : Result X Y) (P Q R : X → Type 0) → ((x : X) → P x → Q x → R x) → IfOk r P
+    → IfOk r Q → IfOk r R
+both_if_ok (Ok x) P Q R then p q = then x p q
+both_if_ok (Err e) P Q R then p q = p

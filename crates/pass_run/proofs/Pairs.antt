@@ -1,6 +1,5 @@
 -- The pairs of a master: candidates and kept pairs.
-use Rattle.std.proofs.Common.{pos, ◌≤ℤ◌, ◌<◌, List, length}
-use Rattle.std.specs.List.{All}
+use Rattle.std.proofs.Common.{pos, ◌≤ℤ◌, ◌<◌, List, length, All}
 use Rattle.lam_geom.specs.declared.boxes.Axis.{Axis}
 use Rattle.rule_table.specs.declared.technology.Tech.{Tech}
 use Rattle.sym_items.specs.declared.items.Item.{Item}

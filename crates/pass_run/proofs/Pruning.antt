@@ -1,7 +1,6 @@
 -- The list of a pass has the solutions of its system, and a positive cycle exactly where the system has one.
-use Rattle.std.proofs.Common.{ℕ, ◌<◌, ℤ, List, length, map, ◌++◌}
-use Rattle.std.specs.Prelude.{Contains}
-use Rattle.std.specs.List.{All, AllByRecursion, flat_map}
+use Rattle.std.proofs.Common.{ℕ, ◌<◌, ℤ, List, length, map, ◌++◌, Contains, All, flat_map}
+use Rattle.std.specs.List.{AllByRecursion}
 use Rattle.std.proofs.lemmas.Bool.{ne_eqb}
 use Rattle.std.proofs.lemmas.List.Elements.{All-append, All-map, All-weaker, All-contains_itself, recursion_from_All}
 use Rattle.lam_geom.specs.declared.boxes.Axis.{Axis}
@@ -29,6 +28,7 @@ use Rattle.pass_run.specs.Alike.{HaveSameSolutions}
 use Rattle.pass_run.specs.Pruning.{PruningLosesNothing}
 use Rattle.pass_run.proofs.Cycles.{the_one, own_list, own_implied}
 use Rattle.pass_run.proofs.Shifted.{implied_shifted, implied_more}
+use Rattle.cons_graph.specs.Solutions.{IsLeastSolution}
 
 -- ---- solutions
 
@@ -130,4 +130,11 @@ pub pruning : (tech : Tech) (plan : Plan) (masters : List Master) → All (IsLaw
 pruning tech plan masters lawful = record {
   same_solutions = solutions_kept tech plan masters lawful;
   same_cycles = λ axis layouts boxes. cycles_alike _ _ (listed_among axis tech plan masters layouts) (system_implied axis tech plan masters layouts lawful boxes);
+}
+
+-- the same solutions, the same least one
+pub least_alike : (vars : ℕ) (es fs : List Edge) (x : ℕ → ℤ) → HaveSameSolutions es fs → IsLeastSolution vars es x → IsLeastSolution vars fs x
+least_alike vars es fs x same least = record {
+  solves = (same x).0 least.solves;
+  below = λ y solves v lt. least.below y ((same y).1 solves) v lt;
 }

@@ -1,7 +1,5 @@
 -- The layouts after a pass of a plan.
-use Rattle.std.proofs.Common.{◌≡◌, ℕ, zero, suc, ◌+◌, ◌<◌, ℤ, pos, List, ◌∷◌, length, refl, sym, ap, ◌∙◌, subst, arith, ◌⊎◌, inl, inr}
-use Rattle.std.specs.Prelude.{Contains}
-use Rattle.std.specs.List.{All}
+use Rattle.std.proofs.Common.{◌≡◌, ℕ, zero, suc, ◌+◌, ◌<◌, ℤ, pos, List, ◌∷◌, length, refl, sym, ap, ◌∙◌, subst, arith, ◌⊎◌, inl, inr, Contains, All}
 use Rattle.std.proofs.lemmas.List.FromFn.{get_or-map-range_with_len}
 use Rattle.lam_geom.specs.declared.boxes.Axis.{Axis}
 use Rattle.lam_geom.specs.declared.boxes.Axis.TheVariants.{X, Y}
@@ -27,7 +25,7 @@ use Rattle.pitch_join.specs.Meeting.{MeetsPlan, HaveBoxes}
 use Rattle.pitch_join.proofs.Bases.{var_within}
 use Rattle.pitch_join.proofs.Solving.{joining_meets}
 use Rattle.pair_rules.proofs.Pruning.{candidates_apart}
-use Rattle.pass_run.specs.Laid.{IsLaidOut, AreLaidOut, AreSettled}
+use Rattle.pass_run.specs.Laid.{AreLaidOut, AreSettled}
 use Rattle.pass_run.specs.Layouts.{joint_values, local_values, with_values}
 use Rattle.pass_run.specs.Meeting.{IsNextFor}
 use Rattle.pass_run.specs.Theorems.{AreWellPlaced}
@@ -35,6 +33,7 @@ use Rattle.pass_run.proofs.Alike.{AgreeOn, structure_alike, pairs_alike, layouts
 use Rattle.pass_run.proofs.Moved.{stays}
 use Rattle.pass_run.proofs.Pairs.{candidates_among, kept_pairs_among}
 use Rattle.pass_run.proofs.Values.{joint_at, local_length, local_at, layout_with, layouts_counted}
+use Rattle.pass_run.specs.Least.{StaySettled}
 
 -- ---- the values of a solution
 
@@ -56,36 +55,6 @@ local_small axis masters m x counted small lt = λ k d k_lt.
     let at = get_or-map-range_with_len (local_of axis masters m (value_of x)) 0 (variables_of axis (master_at masters m).cell) k k d (omega arith) e in
     subst IsWithinLimit (sym at) (small (var_of axis masters m k) (pos 0) (omega arith))
 
--- the part of each master meets it
-next_of : (axis : Axis) (tech : Tech) (plan : Plan) (masters : List Master) (before : List Coords) (x : List ℤ) (m : ℕ) → All (IsLawful tech) masters → AreLaidOut tech masters before
-    → SolvesPass axis tech plan masters before x → m < length masters → IsNextFor axis tech (master_at masters m) (layout_at before m) (local_values axis masters m x)
-next_of axis tech plan masters before x m lawful laid values lt =
-    let master : Master = master_at masters m in
-    let c : Coords = layout_at before m in
-    let met = ((joining_meets tech plan masters).of_list axis before (value_of x)).0 values.solves in
-    let own = lawful m no_master lt in
-    record {
-      counted = local_length axis masters m x;
-      small = local_small axis masters m x values.counted values.small lt;
-      meets = record {
-        structure = structure_alike axis tech master (local_of axis masters m (value_of x)) _ own (λ v v_lt. sym (local_at axis masters m v x v_lt)) (met.0.structures m lt);
-        kept = pairs_alike axis tech master (local_of axis masters m (value_of x)) _ (kept_of axis tech c master.items.list) own (λ v v_lt. sym (local_at axis masters m v x v_lt))
-            (kept_pairs_among axis tech c master.items.list) (met.1 m lt);
-      };
-    }
-
--- ---- after a pass
-
-pub laid_next : (axis : Axis) (tech : Tech) (plan : Plan) (masters : List Master) (before : List Coords) (x : List ℤ) → All (IsLawful tech) masters → AreLaidOut tech masters before
-    → SolvesPass axis tech plan masters before x → AreLaidOut tech masters (with_values axis masters before x)
-laid_next axis tech plan masters before x lawful laid values = record {
-  counted = layouts_counted axis masters before x;
-  each = λ m lt.
-      let L : Coords → Type 0 = IsLaidOut tech (master_at masters m) in
-      let next = next_of axis tech plan masters before x m lawful laid values lt in
-      subst L (sym (layout_with axis masters before x m lt)) (stays axis tech (master_at masters m) (layout_at before m) _ (lawful m no_master lt) (laid.each m lt) next).laid;
-}
-
 -- the values of the axis of a pass, and of the other
 along_moved : (axis : Axis) (c : Coords) (values : List ℤ) → values_along axis (moved axis c values) ≡ values
 along_moved X c values = refl
@@ -98,26 +67,15 @@ along_other Y X c values differ = refl
 along_other Y Y c values differ = absurd (differ refl)
 
 -- an axis that has had a pass is that of the last one, or has had one before
-is_axis : (axis a : Axis) → (axis ≡ a) ⊎ (axis ≡ a → ⊥)
-is_axis X X = inl refl
-is_axis X Y = inr (λ e. cc)
-is_axis Y X = inr (λ e. cc)
-is_axis Y Y = inl refl
+pub same_axis : (a b : Axis) → (a ≡ b) ⊎ (a ≡ b → ⊥)
+same_axis X X = inl refl
+same_axis X Y = inr (λ e. cc)
+same_axis Y X = inr (λ e. cc)
+same_axis Y Y = inl refl
 
 had_before : (axis a : Axis) (had : List Axis) → (axis ≡ a → ⊥) → Contains (axis ∷ had) a → Contains had a
 had_before axis a had differ (zero, lt, e) = absurd (differ e)
 had_before axis a had differ (suc k, lt, e) = (k, omega arith, e)
-
-met_next : (axis : Axis) (tech : Tech) (plan : Plan) (masters : List Master) (before : List Coords) (x : List ℤ) → ArePlanned tech plan masters → All (IsLawful tech) masters
-    → SolvesPass axis tech plan masters before x → LayoutsMeet axis tech plan masters (with_values axis masters before x)
-met_next axis tech plan masters before x planned lawful values =
-    let now : List Coords = with_values axis masters before x in
-    let met = ((joining_meets tech plan masters).of_list axis before (value_of x)).0 values.solves in
-    let agree : AgreeOn axis masters now (value_of x) = λ m v lt own.
-    let own_are : values_along axis (layout_at now m) ≡ local_values axis masters m x =
-    ap (values_along axis) (layout_with axis masters before x m lt) ∙ along_moved axis (layout_at before m) (local_values axis masters m x) in
-    sym (local_at axis masters m v x own) ∙ ap (λ vs. value_of vs v) (sym own_are) in
-    layouts_meet axis tech plan masters now (value_of x) planned lawful agree met.0
 
 -- the values of some layouts agree with them, and meet the plan where they do
 joint_meets : (axis : Axis) (tech : Tech) (plan : Plan) (masters : List Master) (before : List Coords) → ArePlanned tech plan masters → All (IsLawful tech) masters
@@ -125,31 +83,81 @@ joint_meets : (axis : Axis) (tech : Tech) (plan : Plan) (masters : List Master) 
 joint_meets axis tech plan masters before planned lawful laid met =
     plan_met axis tech plan masters before (value_of (joint_values axis before)) planned lawful (λ m v lt own. joint_at axis tech masters before m v laid lt own) refl met
 
-met_still : (axis a : Axis) (tech : Tech) (plan : Plan) (masters : List Master) (before : List Coords) (x : List ℤ) → ArePlanned tech plan masters → All (IsLawful tech) masters
-    → AreLaidOut tech masters before → (axis ≡ a → ⊥) → LayoutsMeet a tech plan masters before → LayoutsMeet a tech plan masters (with_values axis masters before x)
-met_still axis a tech plan masters before x planned lawful laid differ met =
-    let now : List Coords = with_values axis masters before x in
-    let agree : AgreeOn a masters now (value_of (joint_values a before)) = λ m v lt own.
-    let still : values_along a (layout_at now m) ≡ values_along a (layout_at before m) =
-    ap (values_along a) (layout_with axis masters before x m lt) ∙ along_other axis a (layout_at before m) (local_values axis masters m x) differ in
-    joint_at a tech masters before m v laid lt own ∙ ap (λ vs. value_of vs v) (sym still) in
-    layouts_meet a tech plan masters now (value_of (joint_values a before)) planned lawful agree (joint_meets a tech plan masters before planned lawful laid met)
+-- ---- after a pass
 
-pub settled_next : (axis : Axis) (tech : Tech) (plan : Plan) (masters : List Master) (before : List Coords) (x : List ℤ) → ArePlanned tech plan masters → All (IsLawful tech) masters
-    → AreLaidOut tech masters before → SolvesPass axis tech plan masters before x → (had : List Axis) → AreSettled tech plan masters had before
-    → AreSettled tech plan masters (axis ∷ had) (with_values axis masters before x)
-settled_next axis tech plan masters before x planned lawful laid values had settled =
-    let now : List Coords = with_values axis masters before x in
-    let M : Axis → Type 0 = λ a. LayoutsMeet a tech plan masters now in
-    let met : (a : Axis) → Contains (axis ∷ had) a → M a = λ a among.
-    elim (is_axis axis a) [
-      | inl same ↦ subst M same (met_next axis tech plan masters before x planned lawful values)
-      | inr differ ↦ met_still axis a tech plan masters before x planned lawful laid differ (settled.met a (had_before axis a had differ among))
-    ] in
-    record {
-      met = met;
-      long = λ a among m lt. ((lawful m no_master lt).stands a (value_in a now m) ((met a among).structures m lt)).long;
-    }
+module _ {axis : Axis} {tech : Tech} {plan : Plan} {masters : List Master} {before : List Coords} {x : List ℤ}
+    (planned : ArePlanned tech plan masters) (lawful : All (IsLawful tech) masters)
+    (laid : AreLaidOut tech masters before) (values : SolvesPass axis tech plan masters before x) where
+  abbrev now : List Coords
+  now = with_values axis masters before x
+
+  -- the part of each master meets it
+  next_of : (m : ℕ) → m < length masters
+      → IsNextFor axis tech (master_at masters m) (layout_at before m) (local_values axis masters m x)
+  next_of m lt =
+      let master : Master = master_at masters m in
+      let c : Coords = layout_at before m in
+      let met = ((joining_meets tech plan masters).of_list axis before (value_of x)).0 values.solves in
+      let own = lawful m no_master lt in
+      let local : ℕ → ℤ = local_of axis masters m (value_of x) in
+      record {
+        counted = local_length axis masters m x;
+        small = local_small axis masters m x values.counted values.small lt;
+        meets = record {
+          structure = structure_alike axis tech master local _ own (λ v v_lt. sym (local_at axis masters m v x v_lt))
+              (met.0.structures m lt);
+          kept = pairs_alike axis tech master local _ (kept_of axis tech c master.items.list) own
+              (λ v v_lt. sym (local_at axis masters m v x v_lt))
+              (kept_pairs_among axis tech c master.items.list) (met.1 m lt);
+        };
+      }
+
+  laid_next : AreLaidOut tech masters now
+  laid_next = record {
+    counted = layouts_counted axis masters before x;
+    each = λ m lt. rw (layout_with axis masters before x m lt)
+        (stays axis tech (master_at masters m) (layout_at before m) _ (lawful m no_master lt) (laid.each m lt)
+        (next_of m lt)).laid;
+  }
+
+  met_next : LayoutsMeet axis tech plan masters now
+  met_next =
+      let met = ((joining_meets tech plan masters).of_list axis before (value_of x)).0 values.solves in
+      let agree : AgreeOn axis masters now (value_of x) = λ m v lt own.
+      let own_are : values_along axis (layout_at now m) ≡ local_values axis masters m x =
+      ap (values_along axis) (layout_with axis masters before x m lt)
+      ∙ along_moved axis (layout_at before m) (local_values axis masters m x) in
+      sym (local_at axis masters m v x own) ∙ ap (λ vs. value_of vs v) (sym own_are) in
+      layouts_meet axis tech plan masters now (value_of x) planned lawful agree met.0
+
+  met_still : (a : Axis) → (axis ≡ a → ⊥) → LayoutsMeet a tech plan masters before → LayoutsMeet a tech plan masters now
+  met_still a differ met =
+      let agree : AgreeOn a masters now (value_of (joint_values a before)) = λ m v lt own.
+      let still : values_along a (layout_at now m) ≡ values_along a (layout_at before m) =
+      ap (values_along a) (layout_with axis masters before x m lt)
+      ∙ along_other axis a (layout_at before m) (local_values axis masters m x) differ in
+      joint_at a tech masters before m v laid lt own ∙ ap (λ vs. value_of vs v) (sym still) in
+      layouts_meet a tech plan masters now (value_of (joint_values a before)) planned lawful agree
+      (joint_meets a tech plan masters before planned lawful laid met)
+
+  met_on : (had : List Axis) → AreSettled tech plan masters had before → (a : Axis) → Contains (axis ∷ had) a
+      → LayoutsMeet a tech plan masters now
+  met_on had settled a among =
+      elim (same_axis axis a) [
+        | inl same ↦ rw (← same) met_next
+        | inr differ ↦ met_still a differ (settled.met a (had_before axis a had differ among))
+      ]
+
+  -- another pass may be made over the layouts, which meet the plan on each axis that has had a pass
+  pub settles : StaySettled tech plan masters before axis now
+  settles = record {
+    laid = laid_next;
+    settled = λ had settled. record {
+      met = met_on had settled;
+      long = λ a among m lt. ((lawful m no_master lt).stands a (value_in a now m)
+          ((met_on had settled a among).structures m lt)).long;
+    };
+  }
 
 pub placed_of : (tech : Tech) (plan : Plan) (masters : List Master) (layouts : List Coords) (had : List Axis) → AreLaidOut tech masters layouts → AreSettled tech plan masters had layouts
     → AreWellPlaced tech masters layouts had
@@ -161,23 +169,27 @@ placed_of tech plan masters layouts had laid settled = λ m lt. record {
 
 -- ---- a pass on an axis that has had one
 
--- the values before solve the system
-pub stays_solved : (axis : Axis) (tech : Tech) (plan : Plan) (masters : List Master) (had : List Axis) (before : List Coords) → ArePlanned tech plan masters → All (IsLawful tech) masters
-    → AreLaidOut tech masters before → AreSettled tech plan masters had before → Contains had axis → IsSolution (system_over axis tech plan masters before) (value_of (joint_values axis before))
-stays_solved axis tech plan masters had before planned lawful laid settled among =
-    let x : ℕ → ℤ = value_of (joint_values axis before) in
-    ((joining_meets tech plan masters).of_system axis before x (boxes_of tech masters before laid)).1 (
-      joint_meets axis tech plan masters before planned lawful laid (settled.met axis among),
-      λ m lt.
-          let master : Master = master_at masters m in
-          let c : Coords = layout_at before m in
-          pairs_alike axis tech master (value_in axis before m) (local_of axis masters m x) (candidates_of axis tech c master.items.list) (lawful m no_master lt)
-          (λ v own. sym (joint_at axis tech masters before m v laid lt own)) (candidates_among axis tech c master.items.list) (candidates_apart axis tech c master.items.list),
-    )
+module _ {axis : Axis} {tech : Tech} {plan : Plan} {masters : List Master} {had : List Axis} {before : List Coords}
+    (planned : ArePlanned tech plan masters) (lawful : All (IsLawful tech) masters)
+    (laid : AreLaidOut tech masters before) (settled : AreSettled tech plan masters had before)
+    (among : Contains had axis) where
+  -- the values before solve the system
+  pub stays_solved : IsSolution (system_over axis tech plan masters before) (value_of (joint_values axis before))
+  stays_solved =
+      let x : ℕ → ℤ = value_of (joint_values axis before) in
+      ((joining_meets tech plan masters).of_system axis before x (boxes_of tech masters before laid)).1 (
+        joint_meets axis tech plan masters before planned lawful laid (settled.met axis among),
+        λ m lt.
+            let master : Master = master_at masters m in
+            let c : Coords = layout_at before m in
+            let agree = λ (v : ℕ) (own : v < variables_of axis master.cell). sym
+            (joint_at axis tech masters before m v laid lt own) in
+            pairs_alike axis tech master (value_in axis before m) (local_of axis masters m x)
+            (candidates_of axis tech c master.items.list) (lawful m no_master lt)
+            agree (candidates_among axis tech c master.items.list) (candidates_apart axis tech c master.items.list),
+      )
 
--- so it has no positive cycle
-pub no_cycle_again : (axis : Axis) (tech : Tech) (plan : Plan) (masters : List Master) (had : List Axis) (before : List Coords) → ArePlanned tech plan masters → All (IsLawful tech) masters
-    → AreLaidOut tech masters before → HasPositiveCycle (system_over axis tech plan masters before) → AreSettled tech plan masters had before → Contains had axis → ⊥
-no_cycle_again axis tech plan masters had before planned lawful laid cycle settled among =
-    positive_cycle_excludes (system_over axis tech plan masters before) cycle.0 (value_of (joint_values axis before)) cycle.1
-    (stays_solved axis tech plan masters had before planned lawful laid settled among)
+  -- so it has no positive cycle
+  pub no_cycle_again : HasPositiveCycle (system_over axis tech plan masters before) → ⊥
+  no_cycle_again cycle = positive_cycle_excludes (system_over axis tech plan masters before) cycle.0
+      (value_of (joint_values axis before)) cycle.1 stays_solved

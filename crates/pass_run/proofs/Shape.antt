@@ -1,6 +1,5 @@
 -- A constraint graph can be made of the list of a pass.
-use Rattle.std.proofs.Common.{◌≡◌, ◌≢◌, ℕ, ℤ, pos, ◌≤ℤ◌, List, ◌++◌, length, map, get_or, All, sym, ap, subst, arith}
-use Rattle.std.specs.List.{flat_map}
+use Rattle.std.proofs.Common.{◌≡◌, ◌≢◌, ℕ, ℤ, pos, ◌≤ℤ◌, List, ◌++◌, length, map, get_or, All, ap, arith, flat_map}
 use Rattle.std.proofs.lemmas.Int.{ints}
 use Rattle.std.proofs.lemmas.List.Elements.{All-append, All-map, All-weaker}
 use Rattle.lam_geom.specs.declared.boxes.Axis.{Axis}
@@ -99,6 +98,4 @@ pub graph_shape : (axis : Axis) (tech : Tech) (masters : List Master) (layouts :
     → vars ≡ joint_variables axis masters → IsConstraintGraph (record { vars = vars; edges = edges })
     → now ≡ edges ++ flat_map (kept_edges_at axis tech masters layouts) (master_numbers masters) → IsConstraintGraph (record { vars = vars; edges = now })
 graph_shape axis tech masters layouts vars edges now lawful laid v shape is =
-    let N : List Edge → Type 0 = λ es. IsConstraintGraph (record { vars = vars; edges = es }) in
-    let V : ℕ → Type 0 = λ n. All (IsEdgeAmong n) (flat_map (kept_edges_at axis tech masters layouts) (master_numbers masters)) in
-    subst N (sym is) (more_edges vars edges _ shape (subst V (sym v) (kept_edges_among axis tech masters layouts lawful laid)))
+    rw is (more_edges vars edges _ shape (rw v (kept_edges_among axis tech masters layouts lawful laid)))

@@ -1,9 +1,7 @@
 -- What the rounds over the list of a pass say of the pass.
-use Rattle.std.proofs.Common.{◌≡◌, ℕ, ◌+◌, ◌<◌, ◌≤◌, ℤ, Some, List, [], ◌∷◌, length, map, refl, sym, ap, ◌∙◌, subst, arith}
-use Rattle.std.specs.Prelude.{Contains, slice_index}
-use Rattle.std.specs.List.{All}
+use Rattle.std.proofs.Common.{◌≡◌, ℕ, ◌+◌, ◌<◌, ◌≤◌, ℤ, Some, List, [], ◌∷◌, length, map, refl, sym, ap, ◌∙◌, subst, arith, Bool, false, ◌++◌, reverse, append-nil, Contains, slice_index, IsTrue, All, Any, get_or}
 use Rattle.std.proofs.lemmas.List.{get_or-map, get_or_default, length-map}
-use Rattle.std.proofs.lemmas.List.Elements.{All-map, All-weaker, All-contains}
+use Rattle.std.proofs.lemmas.List.Elements.{All-map, All-weaker, All-contains, Contains-get_or}
 use Rattle.lam_geom.specs.declared.boxes.Axis.{Axis}
 use Rattle.rule_table.specs.declared.technology.Tech.{Tech}
 use Rattle.cons_graph.specs.declared.edges.Edge.{Edge}
@@ -15,15 +13,12 @@ use Rattle.cons_graph.specs.Walks.{HasPositiveCycle}
 use Rattle.cons_graph.proofs.CycleTest.{few_without_repeat}
 use Rattle.round_log.specs.declared.log.Log.{Log}
 use Rattle.round_log.specs.declared.log.Entry.{Entry}
-use Rattle.round_log.specs.Logs.{raises_in, IsLogOfRounds}
+use Rattle.round_log.specs.Logs.{raises_in, IsEndedLog}
 use Rattle.round_log.specs.Told.{TellAlike}
 use Rattle.round_log.proofs.Alike.{same_walk}
-use Rattle.round_log.specs.Looks.{label, backward_numbers}
-use Rattle.round_log.specs.Orders.{NamesEachOnce, IsOrder}
-use Rattle.round_log.specs.Rounds.{plan_of, EndsInRound}
+use Rattle.round_log.specs.Looks.{label, backward_numbers, latest, chain}
+use Rattle.round_log.specs.Orders.{IsOrder}
 use Rattle.liao_wong.specs.declared.solving.Solved.{Solved}
-use Rattle.liao_wong.specs.Answers.{IsWithinLimit, IsCycleOf}
-use Rattle.liao_wong.specs.Sorted.{IsInOrderOf}
 use Rattle.liao_wong.proofs.InOrder.{sorted_is_order}
 use Rattle.sym_items.specs.declared.items.Coords.{Coords}
 use Rattle.expand.specs.declared.master.Master.{Master}
@@ -36,30 +31,86 @@ use Rattle.pitch_join.proofs.Bases.{bases_counted, planned_joined, var_within}
 use Rattle.pitch_join.proofs.Listed.{far_is}
 use Rattle.pass_run.specs.declared.edges.Listed.{Listed}
 use Rattle.pass_run.specs.declared.step.Walk.{Walk}
-use Rattle.pass_run.specs.Alike.{most_edges, HaveSameSolutions}
+use Rattle.pass_run.specs.Alike.{HaveSameSolutions}
 use Rattle.pass_run.specs.Laid.{AreLaidOut, AreSettled}
-use Rattle.pass_run.specs.Layouts.{joint_values, moved_by}
-use Rattle.pass_run.specs.OneStep.{walk_to, walks_to, step_of, HasPath}
+use Rattle.pass_run.specs.Layouts.{joint_values, moved_by, with_values}
+use Rattle.pass_run.specs.OneStep.{walk_to, walks_to, step_of, HasPath, IsListedMost, IsOrderAlong, IsSolvedPass, IsStoppedPass, ReachFar}
 use Rattle.pass_run.specs.PassFaults.{IsCyclicOver}
-use Rattle.pass_run.specs.Passes.{kept_counts, far_walk, IsLeastPass, IsRecorded}
-use Rattle.pass_run.specs.Report.{cycle_text, walk_at}
+use Rattle.pass_run.specs.Passes.{far_walk, IsRecorded}
+use Rattle.pass_run.specs.Report.{cycle_text, walk_at, pass_text}
 use Rattle.pass_run.specs.Theorems.{IsCriticalPath, HasCriticalPath, IsSoundPass}
-use Rattle.pass_run.proofs.Pruning.{listed_among, solutions_kept}
-use Rattle.pass_run.proofs.Settled as settling
+use Rattle.pass_run.proofs.Pruning.{listed_among, solutions_kept, least_alike}
 use Rattle.pass_run.proofs.Values.{joint_length, joint_above}
+use Rattle.slack_pack.specs.Most.{HasWalk, IsMost, IsAttained}
+use Rattle.pass_run.specs.OnePass.{IsFirstOn, IsPassMade}
+use Rattle.pass_run.specs.Told.{IsTightMost}
+use Rattle.pass_run.specs.Least.{StaySettled}
+use Rattle.pass_run.specs.declared.pass.Made.{Made}
+use Rattle.pass_run.specs.declared.step.Step.{Step}
+use Rattle.pass_run.proofs.Reach.{reach_far}
+use Rattle.slack_pack.proofs.Walks.{stands}
+use Rattle.round_log.proofs.Chains.{chain-zero}
+use Rattle.round_log.proofs.Ends.{numbers}
+use Rattle.round_log.proofs.Walks.{IsCriticalWalk, back_at_origin}
+use Rattle.pair_rules.proofs.BoundItems.{same_some}
+use Rattle.pass_run.proofs.Settled as settling
+
+-- ---- walks
+
+pub walk_more : (some all : List Edge) (a b : ℕ) (long : ℤ) → All (Contains all) some → HasWalk some a b long → HasWalk all a b long
+walk_more some all a b long among h = record {
+  walk = h.walk;
+  of_these = All-weaker (Contains some) (Contains all) (λ e here. All-contains (Contains all) some e among here) h.walk h.of_these;
+  leads = h.leads;
+  as_long = h.as_long;
+}
+
+pub attained_more : (some all : List Edge) (fars : List ℕ) (x : ℕ → ℤ) (v : ℕ) (value : ℤ) → All (Contains all) some → IsAttained some fars x v value → IsAttained all fars x v value
+attained_more some all fars x v value among h = record { end = h.end; is_far = h.is_far; long = h.long; walk = walk_more some all v h.end h.long among h.walk; is = h.is }
+
+-- the walk that a log of ended rounds has to a variable is as long as its value
+pub reached : (g : Constraints) (log : Log) (x : ℕ → ℤ) (v : ℕ) → IsConstraintGraph g → IsEndedLog g log → v < g.vars → label (raises_in log) v ≡ Some (x v) → HasWalk g.edges 0 v (x v)
+reached g log x v shape ended lt is =
+    let raises : List Entry = raises_in log in
+    let back : List ℕ = numbers (chain raises (latest raises v)) in
+    let none : back ++ numbers (chain raises 0) ≡ back = ap (λ es. back ++ numbers es) (chain-zero raises) ∙ append-nil back in
+    let w : IsCriticalWalk g log v (reverse back) = back_at_origin g log v 0 back shape ended lt (omega arith) none in
+    record {
+      walk = edges_of g.edges (reverse back);
+      of_these = All-map (Contains g.edges) (edge_at g.edges) (reverse back) (λ k d among. Contains-get_or g.edges _ _ (w.passes.in_range k d among));
+      leads = w.passes.follows;
+      as_long = same_some _ _ (sym w.as_long ∙ is);
+    }
+
+-- ---- the greatest values
+
+-- those over some inequalities are those over others with the same solutions
+pub most_alike : (vars : ℕ) (some all : List Edge) (fars : List ℕ) (x y : ℕ → ℤ) → HaveSameSolutions some all → IsMost vars some fars x y → IsMost vars all fars x y
+most_alike vars some all fars x y same most = record {
+  is_held = record { solves = (same y).0 most.is_held.solves; held = most.is_held.held };
+  above = λ z h v lt. most.above z (record { solves = (same z).1 h.solves; held = h.held }) v lt;
+}
+
+-- some far border is a variable, if there is another variable than the origin
+pub some_far : (vars : ℕ) (edges : List Edge) (fars : List ℕ) (v : ℕ) → ReachFar vars edges fars → All (λ far. far < vars) fars → 1 ≤ v → v < vars → Any (λ far. far < vars) fars
+some_far vars edges fars v reach within from lt =
+    let far = reach v from lt in
+    (far.1.0, far.0, far.1.1, far.1.2, All-contains (λ f. f < vars) fars far.0 within far.1)
 
 -- ---- the order
 
 -- the variables sorted by their values are an order, as no value is below the origin's
-pub order_of : (axis : Axis) (tech : Tech) (plan : Plan) (masters : List Master) (before : List Coords) (vars : ℕ) (order : List ℕ) → ArePlanned tech plan masters → AreLaidOut tech masters before
-    → vars ≡ joint_variables axis masters → NamesEachOnce (length (joint_values axis before)) order → IsInOrderOf (value_of (joint_values axis before)) order → IsOrder vars order
-order_of axis tech plan masters before vars order planned laid v names up =
+pub order_of : (axis : Axis) (tech : Tech) (plan : Plan) (masters : List Master) (before : List Coords) (vars : ℕ)
+    (order : List ℕ)
+    → ArePlanned tech plan masters → AreLaidOut tech masters before → vars ≡ joint_variables axis masters
+    → IsOrderAlong axis before order → IsOrder vars order
+order_of axis tech plan masters before vars order planned laid v along =
     let count : length (joint_values axis before) ≡ vars = joint_length axis tech masters before laid ∙ sym v in
-    let N : ℕ → Type 0 = λ n. NamesEachOnce n order in
-    sorted_is_order vars (value_of (joint_values axis before)) order (omega (arith, v)) (subst N count names) up refl
+    sorted_is_order vars (value_of (joint_values axis before)) order (omega (arith, v)) (rw count at along.names)
+    along.in_order refl
     (λ u lt. joint_above axis tech masters before u (planned_joined tech plan masters planned) laid (omega (arith, v, lt)))
 
--- ---- walks
+-- ---- walks of listed inequalities
 
 -- each edge of a walk of listed inequalities is one of the system's
 walk_among : (axis : Axis) (tech : Tech) (plan : Plan) (masters : List Master) (before : List Coords) (walk : List ℕ) → All (λ k. k < length (list_over axis tech plan masters before)) walk
@@ -93,15 +144,14 @@ cycle_few g cycle shape passes =
 
 pub fars_within : (axis : Axis) (masters : List Master) (bases : List ℕ) (vars : ℕ) → bases ≡ bases_of axis masters → vars ≡ joint_variables axis masters → All (λ far. far < vars) bases
 fars_within axis masters bases vars e v =
-    let F : List ℕ → Type 0 = All (λ far. far < vars) in
     let all : List ℕ = bases_of axis masters in
-    let P : ℕ → Type 0 = λ far. far < vars in
     let count = bases_counted axis masters all refl in
-    subst F (sym e) (λ k d lt.
+    rw e (λ k d lt.
     let among : k < length masters = omega arith in
-    let here = get_or_default all k d 0 lt ∙ far_is axis masters all k refl among in
+    let here : get_or all k d ≡ far_of axis masters k = get_or_default all k d 0 lt
+    ∙ far_is axis masters all k refl among in
     let within = var_within axis masters k 1 among (omega arith) in
-    subst P (sym here) (omega arith))
+    omega arith)
 
 walks_are : (axis : Axis) (masters : List Master) (log : Log) (raises : List Entry) (numbers : List ℕ) → TellAlike (raises_in log) raises → map (walk_to log) (map (base_of axis masters) numbers) ≡ map (far_walk axis masters raises) numbers
 walks_are axis masters log raises [] alike = refl
@@ -114,178 +164,205 @@ walks_are axis masters log raises (m ∷ more) alike =
 -- the walk that the code has read is the log's
 pub path_of : (edges : List Edge) (log : Log) (far : ℕ) (walk : List ℕ) → walk ≡ (walk_to log far).edges → WalksFromTo edges 0 walk far → HasNoRepeat (0 ∷ heads_of edges walk)
     → label (raises_in log) far ≡ Some (length_of edges walk) → HasPath edges log far
-path_of edges log far walk is passes simple as_long =
-    let W : List ℕ → Type 0 = λ ns. WalksFromTo edges 0 ns far in
-    let R : List ℕ → Type 0 = λ ns. HasNoRepeat (0 ∷ heads_of edges ns) in
-    record { passes = subst W is passes; simple = subst R is simple; as_long = as_long ∙ ap (λ ns. Some (length_of edges ns)) is }
+path_of edges log far walk is passes simple as_long = record {
+  passes = rw is at passes;
+  simple = rw is at simple;
+  as_long = rw is at as_long;
+}
 
 -- the inequalities of walks are listed
 pub walks_listed : (edges : List Edge) (log : Log) (fars : List ℕ) (walks : List Walk) → walks ≡ walks_to log fars → All (HasPath edges log) fars
     → All (λ (walk : Walk). All (λ k. k < length edges) walk.edges) walks
 walks_listed edges log fars walks are paths =
-    let L : Walk → Type 0 = λ walk. All (λ k. k < length edges) walk.edges in
-    let A : List Walk → Type 0 = All L in
-    subst A (sym are) (All-map L (walk_to log) fars (λ k d lt. (paths k d lt).passes.in_range))
+    rw are (All-map (λ (walk : Walk). All (λ k. k < length edges) walk.edges) (walk_to log) fars
+    (λ k d lt. (paths k d lt).passes.in_range))
 
--- ---- solved passes
+-- ---- a solved pass
 
--- The rounds over the list of a pass, in this order, have ended with a solution.
-pub record IsSolvedPass (axis : Axis) (tech : Tech) (plan : Plan) (masters : List Master) (before : List Coords) (listed : Listed) (order : List ℕ) (solved : Solved) : Type 0 where
-  pub vars : listed.graph.vars ≡ joint_variables axis masters
-  pub edges : listed.graph.edges ≡ list_over axis tech plan masters before
-  pub few : length listed.graph.edges ≤ most_edges
-  pub kept : listed.kept.items ≡ kept_counts axis tech masters before
-  pub bases : listed.base ≡ bases_of axis masters
-  pub names : NamesEachOnce (length (joint_values axis before)) order
-  pub in_order : IsInOrderOf (value_of (joint_values axis before)) order
-  pub least : IsLeastSolution listed.graph.vars listed.graph.edges (value_of solved.x)
-  pub one_each : length solved.x ≡ listed.graph.vars
-  pub small : All IsWithinLimit solved.x
-  pub backward : solved.backward ≡ length (backward_numbers listed.graph.edges order)
-  pub of_rounds : IsLogOfRounds listed.graph order solved.rounds solved.log
-  pub labels : (v : ℕ) → v < listed.graph.vars → label (raises_in solved.log) v ≡ Some (value_of solved.x v)
-  pub paths : All (HasPath listed.graph.edges solved.log) listed.base
+module _ {axis : Axis} {tech : Tech} {plan : Plan} {masters : List Master} {before : List Coords} {listed : Listed}
+    {solved : Solved} (planned : ArePlanned tech plan masters) (lawful : All (IsLawful tech) masters)
+    (laid : AreLaidOut tech masters before) (run : IsSolvedPass axis tech plan masters before listed solved) where
+  abbrev now : Step
+  now = step_of axis listed solved
 
--- the least solution of the list is that of the system
-least_of_system : (vars : ℕ) (listed system : List Edge) (x : ℕ → ℤ) → HaveSameSolutions listed system → IsLeastSolution vars listed x → IsLeastSolution vars system x
-least_of_system vars listed system x same least = record {
-  solves = (same x).0 least.solves;
-  below = λ y solves v lt. least.below y ((same y).1 solves) v lt;
-}
+  abbrev listed_edges : List Edge
+  listed_edges = list_over axis tech plan masters before
 
-solved_least : (axis : Axis) (tech : Tech) (plan : Plan) (masters : List Master) (before : List Coords) (listed : Listed) (order : List ℕ) (solved : Solved) → All (IsLawful tech) masters
-    → AreLaidOut tech masters before → IsSolvedPass axis tech plan masters before listed order solved
-    → IsLeastSolution (joint_variables axis masters) (system_over axis tech plan masters before) (value_of solved.x)
-solved_least axis tech plan masters before listed order solved lawful laid run =
-    let x : ℕ → ℤ = value_of solved.x in
-    let V : ℕ → Type 0 = λ n. IsLeastSolution n listed.graph.edges x in
-    let E : List Edge → Type 0 = λ es. IsLeastSolution (joint_variables axis masters) es x in
-    least_of_system (joint_variables axis masters) (list_over axis tech plan masters before) (system_over axis tech plan masters before) x
-    (solutions_kept tech plan masters lawful axis before (settling.boxes_of tech masters before laid)) (subst E run.edges (subst V run.vars run.least))
+  abbrev system : List Edge
+  system = system_over axis tech plan masters before
 
-pub least_pass : (axis : Axis) (tech : Tech) (plan : Plan) (masters : List Master) (before : List Coords) (listed : Listed) (order : List ℕ) (solved : Solved) → All (IsLawful tech) masters
-    → AreLaidOut tech masters before → IsSolvedPass axis tech plan masters before listed order solved → IsLeastPass tech plan masters before (step_of axis listed solved)
-least_pass axis tech plan masters before listed order solved lawful laid run = record {
-  one_each = run.one_each ∙ run.vars;
-  least = solved_least axis tech plan masters before listed order solved lawful laid run;
-}
+  abbrev vars : ℕ
+  vars = joint_variables axis masters
 
-pub recorded : (axis : Axis) (tech : Tech) (plan : Plan) (masters : List Master) (before : List Coords) (listed : Listed) (order : List ℕ) (solved : Solved) → AreLaidOut tech masters before
-    → IsSolvedPass axis tech plan masters before listed order solved → IsRecorded tech plan masters before (step_of axis listed solved)
-recorded axis tech plan masters before listed order solved laid run =
-    let N : ℕ → Type 0 = λ n. NamesEachOnce n order in
-    let raises : List Entry = run.of_rounds.raises in
-    let P : List Edge → Type 0 = λ es. EndsInRound (plan_of es order) solved.rounds raises in
-    record {
-      kept = run.kept;
-      edges = ap length run.edges;
-      few = run.few;
-      order = order;
-      each_once = subst N (joint_length axis tech masters before laid) run.names;
-      in_order = run.in_order;
-      backward = run.backward ∙ ap (λ es. length (backward_numbers es order)) run.edges;
-      raises = raises;
-      ended = subst P run.edges run.of_rounds.ended;
-      walks = ap (walks_to solved.log) run.bases ∙ walks_are axis masters solved.log raises _ run.of_rounds.alike;
-    }
+  -- the log of its rounds is one of ended rounds
+  pub ended : IsEndedLog listed.graph solved.log
+  ended = record {
+    order = run.order;
+    rounds = solved.rounds;
+    is_order = order_of axis tech plan masters before listed.graph.vars run.order planned laid run.is_list.vars
+        run.along;
+    of_rounds = run.of_rounds;
+  }
 
--- the values after the pass solve its list
-solves_pass : (axis : Axis) (tech : Tech) (plan : Plan) (masters : List Master) (before : List Coords) (listed : Listed) (order : List ℕ) (solved : Solved)
-    → IsSolvedPass axis tech plan masters before listed order solved → settling.SolvesPass axis tech plan masters before solved.x
-solves_pass axis tech plan masters before listed order solved run =
-    let S : List Edge → Type 0 = λ es. IsSolution es (value_of solved.x) in
-    record { counted = run.one_each ∙ run.vars; small = run.small; solves = subst S run.edges run.least.solves }
+  pub far_reached : ReachFar listed.graph.vars listed.graph.edges listed.base
+  far_reached = rw (run.is_list.vars, run.is_list.edges, run.is_list.bases)
+      (reach_far axis tech plan masters before planned)
 
-pub laid_next : (axis : Axis) (tech : Tech) (plan : Plan) (masters : List Master) (before : List Coords) (listed : Listed) (order : List ℕ) (solved : Solved) → All (IsLawful tech) masters
-    → AreLaidOut tech masters before → IsSolvedPass axis tech plan masters before listed order solved → AreLaidOut tech masters (moved_by masters before (step_of axis listed solved))
-laid_next axis tech plan masters before listed order solved lawful laid run =
-    settling.laid_next axis tech plan masters before solved.x lawful laid (solves_pass axis tech plan masters before listed order solved run)
+  same : HaveSameSolutions listed_edges system
+  same = solutions_kept tech plan masters lawful axis before (settling.boxes_of tech masters before laid)
 
-pub settled_next : (axis : Axis) (tech : Tech) (plan : Plan) (masters : List Master) (before : List Coords) (listed : Listed) (order : List ℕ) (solved : Solved) → ArePlanned tech plan masters
-    → All (IsLawful tech) masters → AreLaidOut tech masters before → IsSolvedPass axis tech plan masters before listed order solved → (had : List Axis) → AreSettled tech plan masters had before
-    → AreSettled tech plan masters (axis ∷ had) (moved_by masters before (step_of axis listed solved))
-settled_next axis tech plan masters before listed order solved planned lawful laid run had settled =
-    settling.settled_next axis tech plan masters before solved.x planned lawful laid (solves_pass axis tech plan masters before listed order solved run) had settled
+  -- the least solution of the list is that of the system
+  solved_least : IsLeastSolution vars system (value_of solved.x)
+  solved_least = least_alike vars listed_edges system (value_of solved.x) same
+      (rw (run.is_list.vars, run.is_list.edges) at run.least)
 
-critical : (axis : Axis) (tech : Tech) (plan : Plan) (masters : List Master) (before : List Coords) (listed : Listed) (order : List ℕ) (solved : Solved)
-    → IsSolvedPass axis tech plan masters before listed order solved → (m : ℕ) → m < length masters → HasCriticalPath tech plan masters before (step_of axis listed solved) m
-critical axis tech plan masters before listed order solved run m lt =
-    let far : ℕ = far_of axis masters m in
-    let H : List Edge → Type 0 = λ es. HasPath es solved.log far in
-    let F : ℕ → Type 0 = HasPath listed.graph.edges solved.log in
-    let count = bases_counted axis masters listed.base run.bases in
-    let far_at : slice_index listed.base m ≡ far = far_is axis masters listed.base m run.bases lt in
-    let path : HasPath (list_over axis tech plan masters before) solved.log far = subst H run.edges (subst F far_at (run.paths m 0 (omega arith))) in
-    let at = path.as_long in
-    let v = run.vars in
-    let within = var_within axis masters m 1 lt (omega arith) in
-    let there : label (raises_in solved.log) far ≡ Some (value_of solved.x far) = run.labels far (omega arith) in
-    let walk_is : walk_at (step_of axis listed solved) m ≡ walk_to solved.log far = get_or-map (walk_to solved.log) listed.base m 0 (record { edges = [] }) (omega arith) ∙ ap (walk_to solved.log) far_at in
-    let W : Walk → Type 0 = λ walk. IsCriticalPath (list_over axis tech plan masters before) (system_over axis tech plan masters before) far walk (value_of solved.x far) in
-    subst W (sym walk_is) (record {
-      passes = path.passes;
-      of_system = walk_among axis tech plan masters before (walk_to solved.log far).edges path.passes.in_range;
-      simple = path.simple;
-      as_long = cc;
-    })
+  recorded : IsRecorded tech plan masters before now
+  recorded = record {
+    kept = run.is_list.kept;
+    edges = ap length run.is_list.edges;
+    few = run.is_list.few;
+    order = run.order;
+    each_once = rw (joint_length axis tech masters before laid) at run.along.names;
+    in_order = run.along.in_order;
+    backward = run.backward ∙ ap (λ es. length (backward_numbers es run.order)) run.is_list.edges;
+    raises = run.of_rounds.raises;
+    ended = rw run.is_list.edges at run.of_rounds.ended;
+    walks = ap (walks_to solved.log) run.is_list.bases ∙ walks_are axis masters solved.log run.of_rounds.raises _
+        run.of_rounds.alike;
+  }
 
-pub sound_pass : (axis : Axis) (tech : Tech) (plan : Plan) (masters : List Master) (before : List Coords) (listed : Listed) (order : List ℕ) (solved : Solved) → ArePlanned tech plan masters
-    → All (IsLawful tech) masters → AreLaidOut tech masters before → IsSolvedPass axis tech plan masters before listed order solved → (had : List Axis) → AreSettled tech plan masters had before
-    → IsSoundPass tech plan masters had before (step_of axis listed solved)
-sound_pass axis tech plan masters before listed order solved planned lawful laid run had settled =
-    let least = solved_least axis tech plan masters before listed order solved lawful laid run in
-    let stays : Contains had axis → IsSolution (system_over axis tech plan masters before) (value_of (joint_values axis before)) =
-    settling.stays_solved axis tech plan masters had before planned lawful laid settled in
-    record {
-      one_each = length-map listed.base (walk_to solved.log) ∙ bases_counted axis masters listed.base run.bases;
-      paths = critical axis tech plan masters before listed order solved run;
-      solved_before = stays;
-      none_grows = λ among v lt. least.below (value_of (joint_values axis before)) (stays among) v lt;
-      placed = settling.placed_of tech plan masters (moved_by masters before (step_of axis listed solved)) (axis ∷ had) (laid_next axis tech plan masters before listed order solved lawful laid run)
-          (settled_next axis tech plan masters before listed order solved planned lawful laid run had settled);
-    }
+  -- the values after the pass solve its list, so another may be made over the layouts
+  solves : settling.SolvesPass axis tech plan masters before solved.x
+  solves = record {
+    counted = run.one_each ∙ run.is_list.vars;
+    small = run.small;
+    solves = rw run.is_list.edges at run.least.solves;
+  }
 
--- ---- passes without a solution
+  settled : StaySettled tech plan masters before axis (moved_by masters before now)
+  settled = settling.settles planned lawful laid solves
 
--- The rounds over the list of a pass, in this order, have stopped at a cycle.
-pub record IsStoppedPass (axis : Axis) (tech : Tech) (plan : Plan) (masters : List Master) (before : List Coords) (listed : Listed) (order cycle : List ℕ) : Type 0 where
-  pub edges : listed.graph.edges ≡ list_over axis tech plan masters before
-  pub names_are : listed.names ≡ joint_names axis masters
-  pub few : length listed.graph.edges ≤ most_edges
-  pub names : NamesEachOnce (length (joint_values axis before)) order
-  pub in_order : IsInOrderOf (value_of (joint_values axis before)) order
-  pub cyclic : HasPositiveCycle listed.graph.edges
-  pub simple : IsSimplePositiveCycle listed.graph.edges cycle
-  pub stops : IsCycleOf listed.graph.edges order cycle
+  critical : All (HasPath listed.graph.edges solved.log) listed.base → (m : ℕ) → m < length masters
+      → HasCriticalPath tech plan masters before now m
+  critical paths m lt =
+      let far : ℕ = far_of axis masters m in
+      let count = bases_counted axis masters listed.base run.is_list.bases in
+      let far_at : slice_index listed.base m ≡ far = far_is axis masters listed.base m run.is_list.bases lt in
+      let F : ℕ → Type 0 = HasPath listed.graph.edges solved.log in
+      let path : HasPath listed_edges solved.log far = rw run.is_list.edges at
+      (subst F far_at (paths m 0 (omega arith))) in
+      let at = path.as_long in
+      let v = run.is_list.vars in
+      let within = var_within axis masters m 1 lt (omega arith) in
+      let there : label (raises_in solved.log) far ≡ Some (value_of solved.x far) = run.labels far (omega arith) in
+      let read : walk_at now m ≡ walk_to solved.log (slice_index listed.base m) =
+      get_or-map (walk_to solved.log) listed.base m 0 (record { edges = [] }) (omega arith) in
+      let walk_is : walk_at now m ≡ walk_to solved.log far = read ∙ ap (walk_to solved.log) far_at in
+      let W : Walk → Type 0 = λ walk. IsCriticalPath listed_edges system far walk (value_of solved.x far) in
+      subst W (sym walk_is) (record {
+        passes = path.passes;
+        of_system = walk_among axis tech plan masters before (walk_to solved.log far).edges path.passes.in_range;
+        simple = path.simple;
+        as_long = cc;
+      })
 
-stopped_cycle : (axis : Axis) (tech : Tech) (plan : Plan) (masters : List Master) (before : List Coords) (listed : Listed) (order cycle : List ℕ)
-    → IsStoppedPass axis tech plan masters before listed order cycle → HasPositiveCycle (system_over axis tech plan masters before)
-stopped_cycle axis tech plan masters before listed order cycle run = cycle_among axis tech plan masters before (subst HasPositiveCycle run.edges run.cyclic)
+  sound : All (HasPath listed.graph.edges solved.log) listed.base → (had : List Axis)
+      → AreSettled tech plan masters had before → IsSoundPass tech plan masters had before now
+  sound paths had so_far =
+      let x : ℕ → ℤ = value_of (joint_values axis before) in
+      let stays : Contains had axis → IsSolution system x = λ among. settling.stays_solved planned lawful laid so_far
+      among in
+      record {
+        one_each = length-map listed.base (walk_to solved.log)
+            ∙ bases_counted axis masters listed.base run.is_list.bases;
+        paths = critical paths;
+        solved_before = stays;
+        none_grows = λ among v lt. solved_least.below x (stays among) v lt;
+        placed = settling.placed_of tech plan masters (moved_by masters before now) (axis ∷ had) settled.laid
+            (settled.settled had so_far);
+      }
 
-pub stopped : (axis : Axis) (tech : Tech) (plan : Plan) (masters : List Master) (before : List Coords) (listed : Listed) (order cycle : List ℕ) (pass : ℕ) (text : List ℕ) → AreLaidOut tech masters before
-    → IsStoppedPass axis tech plan masters before listed order cycle → text ≡ cycle_text listed.names listed.graph.edges pass axis cycle → IsCyclicOver tech plan masters before pass axis text
-stopped axis tech plan masters before listed order cycle pass text laid run says =
-    let N : ℕ → Type 0 = λ n. NamesEachOnce n order in
-    let F : List Edge → Type 0 = λ es. length es ≤ most_edges in
-    let O : List Edge → Type 0 = λ es. IsCycleOf es order cycle in
-    let S : List Edge → Type 0 = λ es. IsSimplePositiveCycle es cycle in
-    let simple : IsSimplePositiveCycle (list_over axis tech plan masters before) cycle = subst S run.edges run.simple in
-    record {
-      few = subst F run.edges run.few;
-      cyclic = stopped_cycle axis tech plan masters before listed order cycle run;
-      order = order;
-      each_once = subst N (joint_length axis tech masters before laid) run.names;
-      in_order = run.in_order;
-      cycle = cycle;
-      stops = subst O run.edges run.stops;
-      simple = simple;
-      of_system = walk_among axis tech plan masters before cycle simple.in_range;
-      says = says ∙ (ap (λ names. cycle_text names listed.graph.edges pass axis cycle) run.names_are ∙ ap (λ es. cycle_text (joint_names axis masters) es pass axis cycle) run.edges);
-    }
+  -- the greatest values over the list are those over the system, and the variables that cannot move are those on its
+  -- critical walks
+  tight_most : (values : List ℤ) → IsListedMost listed.graph.vars listed.graph.edges listed.base solved.x values
+      → IsTightMost tech plan masters before now values
+  tight_most values found =
+      let fars : List ℕ = bases_of axis masters in
+      let x : ℕ → ℤ = value_of solved.x in
+      let own : IsListedMost vars listed_edges fars solved.x values = rw
+      (run.is_list.bases, run.is_list.edges, run.is_list.vars) at found in
+      let most : IsMost vars system fars x (value_of values) = most_alike vars listed_edges system fars x
+      (value_of values) same own.most in
+      let among = listed_among axis tech plan masters before in
+      let walks : (v : ℕ) → v < vars → HasWalk listed_edges 0 v (x v) = λ v lt.
+      let count = run.is_list.vars in
+      let within : v < listed.graph.vars = omega arith in
+      rw run.is_list.edges at (reached listed.graph solved.log x v run.is_list.shape ended within
+      (run.labels v within)) in
+      let within = fars_within axis masters fars vars refl refl in
+      record {
+        most = record { one_each = own.one_each; most = most };
+        tight = λ v from lt. stands vars system fars x (value_of values) (record {
+          solves = (same x).0 solves.solves;
+          reached = λ u below. walk_more listed_edges system 0 u (x u) among (walks u below);
+          some_far = some_far vars listed_edges fars v (reach_far axis tech plan masters before planned) within from lt;
+          most = most;
+          attained = λ u above below. attained_more listed_edges system fars x u (value_of values u) among
+              (own.attained u above below);
+        }) v lt;
+      }
 
--- this comes only where the axis has had no pass
-pub stopped_first : (axis : Axis) (tech : Tech) (plan : Plan) (masters : List Master) (before : List Coords) (listed : Listed) (order cycle : List ℕ) → ArePlanned tech plan masters
-    → All (IsLawful tech) masters → AreLaidOut tech masters before → IsStoppedPass axis tech plan masters before listed order cycle → (had : List Axis) → AreSettled tech plan masters had before
-    → Contains had axis → ⊥
-stopped_first axis tech plan masters before listed order cycle planned lawful laid run had settled among =
-    settling.no_cycle_again axis tech plan masters had before planned lawful laid (stopped_cycle axis tech plan masters before listed order cycle run) settled among
+  -- so the pass is made
+  pub pass_made : (pass : ℕ) (told : Bool) (made : Made) (x : List ℤ)
+      → All (HasPath listed.graph.edges solved.log) listed.base → made.step ≡ now → x ≡ made.step.x
+      → made.layouts.items ≡ with_values axis masters before x
+      → made.text.items ≡ pass_text masters listed.graph.edges pass made.step
+      → (IsTrue told → IsListedMost listed.graph.vars listed.graph.edges listed.base x made.most)
+      → (told ≡ false → made.most ≡ []) → IsPassMade tech plan masters before pass told made
+  pass_made pass told made x paths is x_is layouts text most none =
+      let on : x ≡ solved.x = x_is ∙ ap (λ (s : Step). s.x) is in
+      let P : Step → Type 0 = λ s. IsPassMade tech plan masters before pass told (record made { step = s }) in
+      subst P (sym is) (record {
+        least = record { one_each = solves.counted; least = solved_least };
+        recorded = recorded;
+        sound = sound paths;
+        layouts = layouts ∙ ap (with_values axis masters before) on;
+        stays = settled;
+        text = text ∙ (ap (pass_text masters listed.graph.edges pass) is
+            ∙ ap (λ es. pass_text masters es pass now) run.is_list.edges);
+        most = λ asked. tight_most made.most (rw on at (most asked));
+        none = none;
+      })
+
+-- ---- a pass without a solution
+
+module _ {axis : Axis} {tech : Tech} {plan : Plan} {masters : List Master} {before : List Coords} {listed : Listed}
+    {cycle : List ℕ} (laid : AreLaidOut tech masters before)
+    (run : IsStoppedPass axis tech plan masters before listed cycle) where
+  stopped_cycle : HasPositiveCycle (system_over axis tech plan masters before)
+  stopped_cycle = cycle_among axis tech plan masters before (rw run.is_list.edges at run.cyclic)
+
+  pub stopped : (pass : ℕ) (text : List ℕ) → text ≡ cycle_text listed.names listed.graph.edges pass axis cycle
+      → IsCyclicOver tech plan masters before pass axis text
+  stopped pass text says =
+      let edges = run.is_list.edges in
+      let simple : IsSimplePositiveCycle (list_over axis tech plan masters before) cycle = rw edges at run.simple in
+      record {
+        few = rw edges at run.is_list.few;
+        cyclic = stopped_cycle;
+        order = run.order;
+        each_once = rw (joint_length axis tech masters before laid) at run.along.names;
+        in_order = run.along.in_order;
+        cycle = cycle;
+        stops = rw edges at run.stops;
+        simple = simple;
+        of_system = walk_among axis tech plan masters before cycle simple.in_range;
+        says = says ∙ (ap (λ names. cycle_text names listed.graph.edges pass axis cycle) run.is_list.names
+            ∙ ap (λ es. cycle_text (joint_names axis masters) es pass axis cycle) edges);
+      }
+
+  -- this comes only where the axis has had no pass
+  pub stopped_first : ArePlanned tech plan masters → All (IsLawful tech) masters
+      → IsFirstOn tech plan masters before axis
+  stopped_first planned lawful had settled among = settling.no_cycle_again planned lawful laid settled among
+      stopped_cycle

@@ -1,6 +1,6 @@
 -- The values of the joint variables in some layouts, and what a master has of values of theirs.
-use Rattle.std.proofs.Common.{◌≡◌, ℕ, zero, suc, ◌+◌, ◌-◌, ◌<◌, ◌≤◌, ℤ, pos, ◌≤ℤ◌, List, [], ◌∷◌, ◌++◌, length, take, drop, map, get_or, refl, sym, ap, ◌∙◌, subst, arith, inl, inr, take_all, ext_get_or, length-take-le, get_or-take, get_or-drop}
-use Rattle.std.specs.List.{flat_map, range_with_len, sum_by}
+use Rattle.std.proofs.Common.{◌≡◌, ℕ, zero, suc, ◌+◌, ◌-◌, ◌<◌, ◌≤◌, ℤ, pos, ◌≤ℤ◌, List, [], ◌∷◌, ◌++◌, length, take, drop, map, get_or, refl, sym, ap, ◌∙◌, subst, arith, inl, inr, take_all, ext_get_or, length-take-le, get_or-take, get_or-drop, flat_map, sum_by}
+use Rattle.std.specs.List.{range_with_len}
 use Rattle.std.proofs.lemmas.List.{length-drop}
 use Rattle.std.proofs.lemmas.Grind.{get_or_after_one}
 use Rattle.std.proofs.lemmas.List.Concat.{get_or-flat_map, length-flat_map}
@@ -134,21 +134,13 @@ pub part_built : (x : List ℤ) (base vars n : ℕ) (none first all : List ℤ) 
     → none ≡ [] → first ≡ none ++ take 1 x → all ≡ first ++ take n (drop base x) → all ≡ map (part_from base x) (range_with_len 0 vars)
 part_built [] base vars n none first all some origin within n_is empty begins ends = absurd (omega arith)
 part_built (z ∷ zs) base vars n none first all some origin within n_is empty begins ends =
-    let x : List ℤ = z ∷ zs in
-    ends
-    ∙ (ap (λ ys. ys ++ take n (drop base x)) begins
-    ∙ (ap (λ ys. (ys ++ take 1 x) ++ take n (drop base x)) empty ∙ part_is x base vars n z some within n_is refl))
+    rw (ends, begins, empty) (part_is (z ∷ zs) base vars n z some within n_is refl)
 
 -- the part of a master, and the layout with it
 pub part_own : (axis : Axis) (base vars : ℕ) (master : Master) (x read values : List ℤ) → vars ≡ variables_of axis master.cell → read ≡ x → values ≡ map (part_from base read) (range_with_len 0 vars)
     → values ≡ own_part axis base master x
-part_own axis base vars master x read values v is are =
-    are ∙ (ap (λ n. map (part_from base read) (range_with_len 0 n)) v ∙ ap (λ xs. own_part axis base master xs) is)
+part_own axis base vars master x read values v is are = rw (is, v) at are
 
 pub part_moved : (axis : Axis) (masters : List Master) (before : List Coords) (x : List ℤ) (m base : ℕ) (master : Master) (layout moved_layout : Coords) → master ≡ master_at masters m → layout ≡ layout_at before m
     → base ≡ base_of axis masters m → moved_layout ≡ moved axis layout (own_part axis base master x) → moved_layout ≡ with_values_at axis masters before x m
-part_moved axis masters before x m base master layout moved_layout is at b are =
-    are
-    ∙ (ap (λ z. moved axis z (own_part axis base master x)) at
-    ∙ ap (moved axis (layout_at before m))
-    (ap (λ k. own_part axis k master x) b ∙ ap (λ z. own_part axis (base_of axis masters m) z x) is))
+part_moved axis masters before x m base master layout moved_layout is at b are = rw (b, at, is) at are

@@ -9,13 +9,13 @@ pub mod Least
 pub mod Laid
 pub mod Meeting
 pub mod Pruning
-pub mod OnePass
 pub mod OneStep
 pub mod Going
 pub mod PassesOn
 pub mod Found
 pub mod Slack
 pub mod Told
+pub mod OnePass
 pub mod Bare
 pub mod Following
 pub mod Limits

@@ -1,5 +1,5 @@
--- Why there is no pass over some layouts.
-use Rattle.std.specs.Prelude.{◌≡◌, ℕ, ◌<◌, Contains, List, length}
+-- What it says that a pass over some layouts was made, and why there is none.
+use Rattle.std.specs.Prelude.{◌≡◌, ℕ, ◌<◌, Bool, false, IsTrue, Contains, List, [], length}
 use Rattle.lam_geom.specs.declared.boxes.Axis.{Axis}
 use Rattle.rule_table.specs.declared.technology.Tech.{Tech}
 use Rattle.sym_items.specs.declared.items.Coords.{Coords}
@@ -8,15 +8,45 @@ use Rattle.plan_model.specs.declared.plan.Plan.{Plan}
 use Rattle.pitch_join.specs.Joined.{list_over}
 use Rattle.pass_run.specs.declared.passes.PassFault.{PassFault}
 use Rattle.pass_run.specs.declared.passes.PassFault.TheVariants as faults
+use Rattle.pass_run.specs.declared.pass.Made.{Made}
 use Rattle.pass_run.specs.declared.pass.Stop.{Stop}
 use Rattle.pass_run.specs.declared.pass.Stop.TheVariants.{TooManyEdges, Cycle, OutOfMemory}
 use Rattle.pass_run.specs.Alike.{most_edges}
 use Rattle.pass_run.specs.Laid.{AreSettled}
+use Rattle.pass_run.specs.Layouts.{moved_by}
+use Rattle.pass_run.specs.Least.{StaySettled}
 use Rattle.pass_run.specs.PassFaults.{IsCyclicOver}
+use Rattle.pass_run.specs.Passes.{IsLeastPass, IsRecorded}
+use Rattle.pass_run.specs.Report.{pass_text}
+use Rattle.pass_run.specs.Theorems.{IsSoundPass}
+use Rattle.pass_run.specs.Told.{IsTightMost}
 
+-- The pass with this number was made over the layouts before it: its values are least, what is recorded of it is so,
+-- and it is sound. These are the layouts after it, over which another may be made, and its text. Its greatest values are
+-- told where that is asked for, and else nothing.
+pub record IsPassMade (tech : Tech) (plan : Plan) (masters : List Master) (before : List Coords) (pass : ℕ)
+    (told : Bool) (made : Made) : Type 0 where
+  pub least : IsLeastPass tech plan masters before made.step
+  pub recorded : IsRecorded tech plan masters before made.step
+  pub sound : (had : List Axis) → AreSettled tech plan masters had before
+      → IsSoundPass tech plan masters had before made.step
+  pub layouts : made.layouts.items ≡ moved_by masters before made.step
+  pub stays : StaySettled tech plan masters before made.step.axis (moved_by masters before made.step)
+  pub text : made.text.items ≡ pass_text masters (list_over made.step.axis tech plan masters before) pass made.step
+  pub most : IsTrue told → IsTightMost tech plan masters before made.step made.most
+  pub none : told ≡ false → made.most ≡ []
+
+-- a cycle comes only where the axis has had no pass
+abbrev pub IsFirstOn : Tech → Plan → List Master → List Coords → Axis → Type 0
+IsFirstOn tech plan masters layouts axis =
+    (had : List Axis) → AreSettled tech plan masters had layouts → Contains had axis → ⊥
+
+-- why there is no pass with this number on an axis over some layouts
 abbrev pub StopsPass : Tech → Plan → List Master → List Coords → ℕ → Axis → Stop → Type 0
-StopsPass tech plan masters layouts pass axis TooManyEdges = most_edges < length (list_over axis tech plan masters layouts)
-StopsPass tech plan masters layouts pass axis (Cycle text) = IsCyclicOver tech plan masters layouts pass axis text.items
+StopsPass tech plan masters layouts pass axis TooManyEdges =
+    most_edges < length (list_over axis tech plan masters layouts)
+StopsPass tech plan masters layouts pass axis (Cycle text) =
+    IsCyclicOver tech plan masters layouts pass axis text.items × IsFirstOn tech plan masters layouts axis
 StopsPass tech plan masters layouts pass axis OutOfMemory = Unit {0}
 
 -- The passes end by this fault where one of them, with this number, stops without a cycle.
@@ -30,9 +60,3 @@ abbrev pub HasNoValues : Stop → Type 0
 HasNoValues TooManyEdges = Unit {0}
 HasNoValues (Cycle text) = Unit {0}
 HasNoValues OutOfMemory = ⊥
-
--- a cycle comes only where the axis has had no pass
-abbrev pub IsFirstOn : Tech → Plan → List Master → List Coords → Axis → Stop → Type 0
-IsFirstOn tech plan masters layouts axis TooManyEdges = Unit {0}
-IsFirstOn tech plan masters layouts axis (Cycle text) = (had : List Axis) → AreSettled tech plan masters had layouts → Contains had axis → ⊥
-IsFirstOn tech plan masters layouts axis OutOfMemory = Unit {0}

@@ -1,14 +1,25 @@
--- What a solved pass leaves.
-use Rattle.std.specs.Prelude.{◌≡◌, ℕ, ◌<◌, ◌≤◌, ℤ, Contains, Some, List, ◌∷◌, length, map}
+-- The list of a pass, and what a solved pass leaves.
+use Rattle.std.specs.Prelude.{◌≡◌, ℕ, ◌<◌, ◌≤◌, ℤ, All, Contains, Some, List, ◌∷◌, length, map}
 use Rattle.lam_geom.specs.declared.boxes.Axis.{Axis}
+use Rattle.rule_table.specs.declared.technology.Tech.{Tech}
 use Rattle.cons_graph.specs.declared.edges.Edge.{Edge}
+use Rattle.cons_graph.specs.Constraints.{IsConstraintGraph}
 use Rattle.round_log.specs.declared.log.Log.{Log}
-use Rattle.round_log.specs.Logs.{raises_in}
-use Rattle.round_log.specs.Looks.{label}
-use Rattle.cons_graph.specs.SimpleWalks.{heads_of, length_of, HasNoRepeat, WalksFromTo}
-use Rattle.cons_graph.specs.Solutions.{value_of}
+use Rattle.round_log.specs.Logs.{raises_in, IsLogOfRounds}
+use Rattle.round_log.specs.Looks.{backward_numbers, label}
+use Rattle.round_log.specs.Orders.{NamesEachOnce}
+use Rattle.cons_graph.specs.SimpleWalks.{heads_of, length_of, HasNoRepeat, IsSimplePositiveCycle, WalksFromTo}
+use Rattle.cons_graph.specs.Solutions.{IsLeastSolution, value_of}
+use Rattle.cons_graph.specs.Walks.{HasPositiveCycle}
 use Rattle.round_log.specs.WalksBack.{walk_of}
 use Rattle.liao_wong.specs.declared.solving.Solved.{Solved}
+use Rattle.liao_wong.specs.Answers.{IsCycleOf, IsWithinLimit}
+use Rattle.liao_wong.specs.Sorted.{IsInOrderOf}
+use Rattle.sym_items.specs.declared.items.Coords.{Coords}
+use Rattle.expand.specs.declared.master.Master.{Master}
+use Rattle.plan_model.specs.declared.plan.Plan.{Plan}
+use Rattle.pitch_join.specs.Names.{joint_names}
+use Rattle.pitch_join.specs.Joined.{bases_of, joint_variables, list_over}
 use Rattle.slack_pack.specs.Most.{HasWalk, IsMost, IsAttained}
 use Rattle.shadow_prune.specs.declared.keeping.KeptFault.{KeptFault}
 use Rattle.shadow_prune.specs.declared.keeping.KeptFault.TheVariants as faults
@@ -17,6 +28,49 @@ use Rattle.pass_run.specs.declared.pass.Stop.{Stop}
 use Rattle.pass_run.specs.declared.pass.Stop.TheVariants.{TooManyEdges, OutOfMemory}
 use Rattle.pass_run.specs.declared.step.Step.{Step}
 use Rattle.pass_run.specs.declared.step.Walk.{Walk}
+use Rattle.pass_run.specs.Alike.{most_edges}
+use Rattle.pass_run.specs.Layouts.{joint_values}
+use Rattle.pass_run.specs.Passes.{kept_counts}
+
+-- the list of the pass on an axis over some layouts, of which a constraint graph is made
+pub record IsListOver (axis : Axis) (tech : Tech) (plan : Plan) (masters : List Master) (before : List Coords)
+    (listed : Listed) : Type 0 where
+  pub vars : listed.graph.vars ≡ joint_variables axis masters
+  pub edges : listed.graph.edges ≡ list_over axis tech plan masters before
+  pub few : length listed.graph.edges ≤ most_edges
+  pub shape : IsConstraintGraph listed.graph
+  pub kept : listed.kept.items ≡ kept_counts axis tech masters before
+  pub bases : listed.base ≡ bases_of axis masters
+  pub names : listed.names ≡ joint_names axis masters
+  pub named : length listed.names ≡ listed.graph.vars
+
+-- The variables in order of their values in some layouts.
+pub record IsOrderAlong (axis : Axis) (layouts : List Coords) (order : List ℕ) : Type 0 where
+  pub names : NamesEachOnce (length (joint_values axis layouts)) order
+  pub in_order : IsInOrderOf (value_of (joint_values axis layouts)) order
+
+-- Liao and Wong's rounds over the list of a pass, in order of the values before it, have ended with a solution.
+pub record IsSolvedPass (axis : Axis) (tech : Tech) (plan : Plan) (masters : List Master) (before : List Coords)
+    (listed : Listed) (solved : Solved) : Type 0 where
+  pub is_list : IsListOver axis tech plan masters before listed
+  pub order : List ℕ
+  pub along : IsOrderAlong axis before order
+  pub least : IsLeastSolution listed.graph.vars listed.graph.edges (value_of solved.x)
+  pub one_each : length solved.x ≡ listed.graph.vars
+  pub small : All IsWithinLimit solved.x
+  pub backward : solved.backward ≡ length (backward_numbers listed.graph.edges order)
+  pub of_rounds : IsLogOfRounds listed.graph order solved.rounds solved.log
+  pub labels : (v : ℕ) → v < listed.graph.vars → label (raises_in solved.log) v ≡ Some (value_of solved.x v)
+
+-- They have stopped at a cycle.
+pub record IsStoppedPass (axis : Axis) (tech : Tech) (plan : Plan) (masters : List Master) (before : List Coords)
+    (listed : Listed) (cycle : List ℕ) : Type 0 where
+  pub is_list : IsListOver axis tech plan masters before listed
+  pub order : List ℕ
+  pub along : IsOrderAlong axis before order
+  pub cyclic : HasPositiveCycle listed.graph.edges
+  pub simple : IsSimplePositiveCycle listed.graph.edges cycle
+  pub stops : IsCycleOf listed.graph.edges order cycle
 
 -- the walk of a log to a far border, and those to some
 abbrev pub walk_to : Log → ℕ → Walk

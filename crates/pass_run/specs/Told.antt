@@ -1,13 +1,12 @@
--- What is told of the passes so far. Plumbing: `Slack` has what is told of all of them.
-use Rattle.std.specs.Prelude.{◌≡◌, ℤ, Bool, false, IsTrue, Contains, List, [], ◌∷◌, ◌++◌}
+-- What is told of passes, before more of them come. Plumbing: `Slack` has what is told of all of them.
+use Rattle.std.specs.Prelude.{◌≡◌, ℤ, Contains, List, [], ◌∷◌, ◌++◌}
 use Rattle.lam_geom.specs.declared.boxes.Axis.{Axis}
 use Rattle.rule_table.specs.declared.technology.Tech.{Tech}
 use Rattle.sym_items.specs.declared.items.Coords.{Coords}
 use Rattle.expand.specs.declared.master.Master.{Master}
 use Rattle.plan_model.specs.declared.plan.Plan.{Plan}
-use Rattle.pass_run.specs.declared.passes.SoFar.{SoFar}
 use Rattle.pass_run.specs.declared.step.Step.{Step}
-use Rattle.pass_run.specs.Layouts.{starts_of, moved_by}
+use Rattle.pass_run.specs.Layouts.{moved_by}
 use Rattle.pass_run.specs.Passes.{axes_of}
 use Rattle.pass_run.specs.Slack.{IsMostAfter, IsTightWhereCritical}
 
@@ -28,8 +27,3 @@ AreTold tech plan masters coming before [] (values ∷ mosts) = ⊥
 AreTold tech plan masters coming before (step ∷ steps) [] = ⊥
 AreTold tech plan masters coming before (step ∷ steps) (values ∷ mosts) =
     IsTold tech plan masters before step (axes_of steps ++ coming) values × AreTold tech plan masters coming (moved_by masters before step) steps mosts
-
--- what is told of the passes so far, if anything is to be told
-pub record HasTold (tech : Tech) (plan : Plan) (masters : List Master) (with_most : Bool) (coming : List Axis) (so_far : SoFar) : Type 0 where
-  pub told : IsTrue with_most → AreTold tech plan masters coming (starts_of tech masters) so_far.steps.items so_far.mosts.items
-  pub untold : with_most ≡ false → so_far.mosts.items ≡ []

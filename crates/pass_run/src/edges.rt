@@ -1,19 +1,18 @@
 //! The inequalities of a pass, and the constraint graph of them.
 
 ghost use Rattle.std.specs.Prelude.{◌≡◌, ◌+◌, ◌<◌, ◌≤◌, ◌^◌, ◌++◌, length, slice_index, map, flat_map, All, OnOk, IfOk, IfErr, MatchResult};
-ghost use Rattle.cons_graph.specs.Constraints.{IsConstraintGraph};
 ghost use Rattle.expand.specs.Laws.{IsLawful};
 ghost use Rattle.expand.specs.Masters.{IsMaster};
 ghost use Rattle.expand.specs.Bounds.{IsNearAlong};
 ghost use Rattle.pair_rules.specs.declared.pairs.Pair.{Pair as SomePair};
 ghost use Rattle.pitch_join.specs.Masters.{ArePlanned, master_numbers};
-ghost use Rattle.pitch_join.specs.Names.{joint_names};
 ghost use Rattle.pitch_join.specs.Joined.{bases_of, joint_variables, kept_edges_at, list_over, shifted, space_edge};
 ghost use Rattle.pitch_join.specs.Spaces.{EndsBelow, IsPairAmong};
 ghost use Rattle.shadow_prune.specs.KeptFaults.{RefusesExactly, RefusesKept};
 ghost use Rattle.pass_run.specs.Alike.{most_edges};
 ghost use Rattle.pass_run.specs.Passes.{kept_counts};
 ghost use Rattle.pass_run.specs.Laid.{AreLaidOut};
+ghost use Rattle.pass_run.specs.OneStep.{IsListOver};
 
 use crate::finding::found_in_all;
 use crate::laws::masters_are_lawful;
@@ -140,14 +139,7 @@ pub fn list<H: Threads + Sync, G: Gate>(
     requires planned { ArePlanned tech.now plan.now masters.now }
     requires laid { AreLaidOut tech.now masters.now layouts.now }
     requires split { (1 ≤ split) × (split ≤ 64) }
-    ensures vars { IfOk result (λ l. l.graph.vars ≡ joint_variables axis masters.now) }
-    ensures edges { IfOk result (λ l. l.graph.edges ≡ list_over axis tech.now plan.now masters.now layouts.now) }
-    ensures few { IfOk result (λ l. length l.graph.edges ≤ most_edges) }
-    ensures shape { IfOk result (λ l. IsConstraintGraph l.graph) }
-    ensures kept { IfOk result (λ l. l.kept.items ≡ kept_counts axis tech.now masters.now layouts.now) }
-    ensures bases { IfOk result (λ l. l.base ≡ bases_of axis masters.now) }
-    ensures names { IfOk result (λ l. l.names ≡ joint_names axis masters.now) }
-    ensures named { IfOk result (λ l. length l.names ≡ l.graph.vars) }
+    ensures listed { IfOk result (IsListOver axis tech.now plan.now masters.now layouts.now) }
     ensures fault { IfErr result (RefusesKept most_edges (length (list_over axis tech.now plan.now masters.now layouts.now))) }
 {
     masters_are_lawful(tech, masters);

@@ -1,25 +1,16 @@
 //! One pass over some layouts.
 
-ghost use Rattle.std.specs.Prelude.{◌≡◌, ◌<◌, ◌≤◌, ◌^◌, ◌∷◌, [], false, List, length, map, All, IfOk, IfErr, IsTrue};
-ghost use Rattle.lam_geom.specs.declared.boxes.Axis.{Axis as SomeAxis};
+ghost use Rattle.std.specs.Prelude.{◌≡◌, ◌<◌, ◌≤◌, ◌^◌, [], false, length, All, IfOk, IfErr, IsTrue};
 ghost use Rattle.round_log.specs.Logs.{IsEndedLog};
-ghost use Rattle.round_log.specs.Orders.{NamesEachOnce};
 ghost use Rattle.cons_graph.specs.Solutions.{value_of, IsSolution};
 ghost use Rattle.liao_wong.specs.Answers.{IsWithinLimit};
-ghost use Rattle.liao_wong.specs.Sorted.{IsInOrderOf};
-ghost use Rattle.expand.specs.Masters.{IsMaster};
+ghost use Rattle.expand.specs.Laws.{IsLawful};
 ghost use Rattle.pitch_join.specs.Masters.{ArePlanned};
-ghost use Rattle.pitch_join.specs.Names.{joint_names};
-ghost use Rattle.pitch_join.specs.Joined.{bases_of, joint_variables, list_over};
 ghost use Rattle.pass_run.specs.declared.pass.Stop.TheVariants.{OutOfMemory};
-ghost use Rattle.pass_run.specs.Layouts.{joint_values, moved_by};
-ghost use Rattle.pass_run.specs.Passes.{IsLeastPass, IsRecorded};
-ghost use Rattle.pass_run.specs.Report.{pass_text};
-ghost use Rattle.pass_run.specs.Theorems.{IsSoundPass};
-ghost use Rattle.pass_run.specs.Laid.{AreLaidOut, AreSettled};
-ghost use Rattle.pass_run.specs.OnePass.{StopsPass, IsFirstOn};
-ghost use Rattle.pass_run.specs.OneStep.{step_of, walks_to, HasPath, ReachFar, IsListedMost, stop_of};
-ghost use Rattle.pass_run.specs.Told.{IsTightMost};
+ghost use Rattle.pass_run.specs.Layouts.{joint_values};
+ghost use Rattle.pass_run.specs.Laid.{AreLaidOut};
+ghost use Rattle.pass_run.specs.OnePass.{IsPassMade, StopsPass};
+ghost use Rattle.pass_run.specs.OneStep.{step_of, walks_to, HasPath, IsListedMost, IsOrderAlong, IsSolvedPass, ReachFar, stop_of};
 
 use crate::edges::{Listed, list};
 use crate::laws::masters_are_lawful;
@@ -81,8 +72,7 @@ impl From<KeptFault> for Stop {
 // The joint variables of an axis in order of their values in the layouts.
 fn order_along(alloc: Global, axis: Axis, layouts: &[Coords]) -> Result<Vec<u32>, AllocError>
     requires few { length (joint_values axis layouts.now) < 2 ^ 32 }
-    ensures names { IfOk result (λ order. NamesEachOnce (length (joint_values axis layouts.now)) order.items) }
-    ensures in_order { IfOk result (λ order. IsInOrderOf (value_of (joint_values axis layouts.now)) order.items) }
+    ensures { IfOk result (λ order. IsOrderAlong axis layouts.now order.items) }
 {
     let values = joint_values(alloc, axis, layouts)?;
     sort_order(alloc, &values)
@@ -146,6 +136,7 @@ fn most_of(alloc: Global, told: bool, listed: &Listed, x: &[i64]) -> Result<Seq<
 fn made_of(
     alloc: Global,
     tech: &Tech,
+    plan: &Plan,
     masters: &[Master],
     before: &[Coords],
     pass: u32,
@@ -154,24 +145,12 @@ fn made_of(
     solved: Solved,
     told: bool,
 ) -> Result<Made, AllocError>
-    requires each { All (IsMaster tech.now) masters.now }
-    requires few { length masters.now ≤ 256 }
-    requires counted { length before.now ≡ length masters.now }
-    requires vars { listed.now.graph.vars ≡ joint_variables axis masters.now }
-    requires bases { listed.now.base ≡ bases_of axis masters.now }
-    requires names { listed.now.names ≡ joint_names axis masters.now }
-    requires named { length listed.now.names ≡ listed.now.graph.vars }
-    requires ended { IsEndedLog listed.now.graph solved.log }
-    requires one_each { length solved.x ≡ listed.now.graph.vars }
-    requires solves { IsSolution listed.now.graph.edges (value_of solved.x) }
-    requires small { All IsWithinLimit solved.x }
-    requires reach { ReachFar listed.now.graph.vars listed.now.graph.edges listed.now.base }
-    ensures step { IfOk result (λ m. m.step ≡ step_of axis listed.now solved) }
-    ensures paths { IfOk result (λ _. All (HasPath listed.now.graph.edges solved.log) listed.now.base) }
-    ensures layouts { IfOk result (λ m. m.layouts.items ≡ moved_by masters.now before.now m.step) }
-    ensures text { IfOk result (λ m. m.text.items ≡ pass_text masters.now listed.now.graph.edges pass m.step) }
-    ensures most { IfOk result (λ m. IsTrue told → IsListedMost listed.now.graph.vars listed.now.graph.edges listed.now.base solved.x m.most) }
-    ensures none { IfOk result (λ m. told ≡ false → m.most ≡ []) }
+    requires planned { ArePlanned tech.now plan.now masters.now }
+    requires lawful { All (IsLawful tech.now) masters.now }
+    requires laid { AreLaidOut tech.now masters.now before.now }
+    requires run { IsSolvedPass axis tech.now plan.now masters.now before.now listed.now solved }
+    ensures axis { IfOk result (λ m. m.step.axis ≡ axis) }
+    ensures made { IfOk result (IsPassMade tech.now plan.now masters.now before.now pass told) }
 {
     let step = step_from(alloc, axis, listed, solved)?;
     let base = listed.base.as_slice();
@@ -207,26 +186,15 @@ pub fn one_pass<H: Threads + Sync, G: Gate>(
     requires laid { AreLaidOut tech.now masters.now before.now }
     requires split { (1 ≤ split) × (split ≤ 64) }
     ensures axis { IfOk result (λ m. m.step.axis ≡ axis) }
-    ensures least { IfOk result (λ m. IsLeastPass tech.now plan.now masters.now before.now m.step) }
-    ensures recorded { IfOk result (λ m. IsRecorded tech.now plan.now masters.now before.now m.step) }
-    ensures sound_pass { IfOk result (λ m. (had : List SomeAxis) → AreSettled tech.now plan.now masters.now had before.now
-        → IsSoundPass tech.now plan.now masters.now had before.now m.step) }
-    ensures layouts { IfOk result (λ m. m.layouts.items ≡ moved_by masters.now before.now m.step) }
-    ensures laid { IfOk result (λ m. AreLaidOut tech.now masters.now (moved_by masters.now before.now m.step)) }
-    ensures settled { IfOk result (λ m. (had : List SomeAxis) → AreSettled tech.now plan.now masters.now had before.now
-        → AreSettled tech.now plan.now masters.now (axis ∷ had) (moved_by masters.now before.now m.step)) }
-    ensures text { IfOk result (λ m. m.text.items ≡ pass_text masters.now (list_over axis tech.now plan.now masters.now before.now) pass m.step) }
+    ensures made { IfOk result (IsPassMade tech.now plan.now masters.now before.now pass told) }
     ensures stopped { IfErr result (StopsPass tech.now plan.now masters.now before.now pass axis) }
-    ensures first { IfErr result (IsFirstOn tech.now plan.now masters.now before.now axis) }
-    ensures most { IfOk result (λ m. IsTrue told → IsTightMost tech.now plan.now masters.now before.now m.step m.most) }
-    ensures none { IfOk result (λ m. told ≡ false → m.most ≡ []) }
 {
     masters_are_lawful(tech, masters);
     let listed = list(rt, alloc, gate, axis, tech, plan, masters, before, split)?;
     let order = order_along(alloc, axis, before)?;
     match solve_reached(alloc, &listed.graph, &order) {
         Ok(solved) => Ok(made_of(
-            alloc, tech, masters, before, pass, axis, &listed, solved, told,
+            alloc, tech, plan, masters, before, pass, axis, &listed, solved, told,
         )?),
         Err(Unsolved::Cycle(cycle)) => {
             let text = cycle_text(alloc, &listed, pass, axis, cycle.as_slice())?;

@@ -1,6 +1,6 @@
 //! The passes of a plan, one after another.
 
-ghost use Rattle.std.specs.Prelude.{◌≡◌, ◌↔◌, ◌<◌, ◌≤◌, ◌∷◌, ◌++◌, [], false, List, length, All, Contains, IfOk, IfErr, IsTrue, MatchResult};
+ghost use Rattle.std.specs.Prelude.{◌≡◌, ◌<◌, ◌≤◌, ◌∷◌, ◌++◌, [], Bool, false, List, length, All, IfOk, IfErr, IsTrue, MatchResult};
 ghost use Rattle.lam_geom.specs.declared.boxes.Axis.{Axis as SomeAxis};
 ghost use Rattle.pitch_join.specs.Masters.{ArePlanned};
 ghost use Rattle.pass_run.specs.Layouts.{starts_of};
@@ -8,11 +8,10 @@ ghost use Rattle.pass_run.specs.Passes.{axes_of};
 ghost use Rattle.pass_run.specs.Laid.{StartsClean};
 ghost use Rattle.pass_run.specs.Pruning.{PruningLosesNothing};
 ghost use Rattle.pass_run.specs.PassFaults.{AreRefusedInOneWay, RefusesPasses, StopsAtFirst};
-ghost use Rattle.pass_run.specs.Going.{IsGoing};
+ghost use Rattle.pass_run.specs.Going.{IsGoing, IsToldIfLast};
 ghost use Rattle.pass_run.specs.OnePass.{EndsPasses};
 ghost use Rattle.pass_run.specs.PassesOn.{ArePassesOn};
 ghost use Rattle.pass_run.specs.Slack.{AreMosts, AreTight};
-ghost use Rattle.pass_run.specs.Told.{HasTold};
 ghost use Rattle.pass_run.specs.declared.passes.PassFault.TheVariants.{OutOfMemory};
 
 use crate::laws::{pruning_loses_nothing, refusals_are_determined};
@@ -93,9 +92,9 @@ fn none_yet(
 ) -> Result<SoFar, AllocError>
     requires planned { ArePlanned tech.now plan.now masters.now }
     requires clean { All (StartsClean tech.now) masters.now }
-    ensures going { IfOk result (IsGoing tech.now plan.now masters.now) }
+    ensures going { IfOk result (λ s. (with_most : Bool) (coming : List SomeAxis)
+        → IsGoing tech.now plan.now masters.now with_most coming s) }
     ensures none { IfOk result (λ s. s.steps.items ≡ []) }
-    ensures untold { IfOk result (λ s. s.mosts.items ≡ []) }
 {
     let layouts = starts(alloc, tech, masters)?;
     Ok(SoFar {
@@ -150,7 +149,7 @@ fn cycle_report(alloc: Global, before: &[u8], text: &[u8]) -> Result<Text, Alloc
 
 // Whether a pass on this axis is told, before those that come: if it is the last on its axis, and something is to be told.
 fn is_told(axis: Axis, coming: &[Axis], with_most: bool) -> bool
-    ensures last { IsTrue with_most → (IsTrue result ↔ (Contains coming.now axis → ⊥)) }
+    ensures last { IsToldIfLast with_most coming.now axis result }
     ensures none { with_most ≡ false → result ≡ false }
 {
     with_most && !coming.contains(&axis)
@@ -184,13 +183,11 @@ fn go_on<H: Threads + Sync, G: Gate>(
 ) -> Result<SoFar, PassFault>
     requires planned { ArePlanned tech.now plan.now masters.now }
     requires split { (1 ≤ split) × (split ≤ 64) }
-    requires going { IsGoing tech.now plan.now masters.now so_far }
+    requires going { IsGoing tech.now plan.now masters.now with_most (axis ∷ coming.now) so_far }
     requires few { length so_far.steps.items < 16 }
-    requires told { HasTold tech.now plan.now masters.now with_most (axis ∷ coming.now) so_far }
-    ensures going { IfOk result (IsGoing tech.now plan.now masters.now) }
+    ensures going { IfOk result (IsGoing tech.now plan.now masters.now with_most coming.now) }
     ensures axes { IfOk result (λ s. axes_of s.steps.items ≡ axes_of so_far.steps.items ++ axis ∷ []) }
     ensures refused { IfErr result (λ fault. (later : List SomeAxis) → RefusesPasses tech.now plan.now masters.now (axes_of so_far.steps.items ++ axis ∷ later) fault) }
-    ensures told { IfOk result (HasTold tech.now plan.now masters.now with_most coming.now) }
 {
     let told = is_told(axis, coming, with_most);
     let pass = so_far.steps.len() as u32 + 1;

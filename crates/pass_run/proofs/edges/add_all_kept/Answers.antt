@@ -1,5 +1,4 @@
-use Rattle.std.proofs.Common.{◌≡◌, ◌+◌, ◌≤◌, ◌++◌, List, length, get_or, refl, ap, sym, subst, ◌∙◌, arith}
-use Rattle.std.specs.List.{All, flat_map}
+use Rattle.std.proofs.Common.{◌≡◌, ◌+◌, ◌≤◌, ◌++◌, List, length, get_or, refl, ap, sym, subst, ◌∙◌, arith, All, flat_map}
 use Rattle.std.proofs.lemmas.List.{get_or_default, length-append}
 use Rattle.std.proofs.lemmas.Result.{err_from_is_err_and}
 use Rattle.list_facts.proofs.Pieces.{piece_added}
@@ -18,8 +17,7 @@ use Rattle.pitch_join.proofs.Bases.{base_at, bases_counted}
 use Rattle.pass_run.specs.Alike.{most_edges}
 use Rattle.pass_run.specs.Found.{AreKeptPairs}
 use Rattle.pass_run.specs.Passes.{kept_count}
-use Rattle.pass_run.proofs.Adding.{own_below, own_added, own_listed, refused_so_far}
-use Rattle.pass_run.proofs.FoundPairs.{pairs_found, too_many_found, one_too_many}
+use Rattle.pass_run.proofs.Adding.{own_below, own_added, own_listed, refused_so_far, pairs_found, too_many_found, one_too_many}
 use Rattle.pass_run.proofs.Lists.{image_added}
 use Rattle.pass_run.proofs.edges.add_all_kept.Goals as goal
 use Rattle.pass_run.proofs.edges.add_all_kept.Goals.{In_ok-pairs}

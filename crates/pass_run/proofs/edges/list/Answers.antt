@@ -1,5 +1,4 @@
-use Rattle.std.proofs.Common.{ℕ, sym, ap, subst}
-use Rattle.cons_graph.specs.Constraints.{IsConstraintGraph}
+use Rattle.std.proofs.Common.{ap}
 use Rattle.pitch_join.specs.declared.joint.Joint.{Joint}
 use Rattle.pass_run.proofs.Shape.{graph_shape}
 use Rattle.pass_run.proofs.edges.list.Goals as goal
@@ -8,8 +7,6 @@ pub new-requires : goal.new-requires
 new-requires g c =
     let joint = c.in_ok-joint.joint in
     let now = c.add_all_kept.new.joint in
-    let V : ℕ → Type 0 = λ n. IsConstraintGraph (record { vars = n; edges = now.edges.items }) in
-    let vars = ap (λ (j : Joint). j.vars) c.in_ok-kept.ensures.others in
-    subst V (sym vars)
+    rw (ap (λ (j : Joint). j.vars) c.in_ok-kept.ensures.others)
     (graph_shape c.args.axis c.args.tech.now c.args.masters.now c.args.layouts.now joint.vars joint.edges.items now.edges.items c.masters_are_lawful.ensures c.requires.laid c.in_ok-joint.ensures.vars
     (c.in_ok-joint.ensures.shape c.requires.planned.few_parts) c.in_ok-kept.ensures.edges)

@@ -1,5 +1,4 @@
-use Rattle.std.proofs.Common.{◌≡◌, ℤ, List, refl, ◌∙◌, subst}
-use Rattle.std.specs.Prelude.{IfOk}
+use Rattle.std.proofs.Common.{◌≡◌, ℤ, List, refl, ◌∙◌, subst, IfOk}
 use Rattle.pair_rules.specs.Laws.{moved}
 use Rattle.pass_run.proofs.Values.{part_own}
 use Rattle.pass_run.proofs.layouts.with_part.Goals as goal

@@ -5,6 +5,6 @@ use Rattle.pass_run.proofs.least.with_values.Goals as goal
 pub returns-clause-settled : goal.returns-clause-settled
 returns-clause-settled c =
     IfOk-weaker c.with_parts.result _ _
-    (λ layouts is. stay_settled c.args.axis c.args.tech.now c.args.plan.now c.args.masters.now c.args.before.now layouts.items c.args.x.now c.requires.planned c.masters_are_lawful.ensures c.requires.laid c.requires.least
-    c.requires.small is)
+    (λ layouts is. stay_settled layouts.items c.requires.planned c.masters_are_lawful.ensures c.requires.laid
+    c.requires.least c.requires.small is)
     c.with_parts.ensures

@@ -1,5 +1,4 @@
-use Rattle.std.proofs.Common.{List, [], ◌++◌, map, ap, ◌∙◌, arith}
-use Rattle.std.specs.List.{flat_map}
+use Rattle.std.proofs.Common.{List, [], ◌++◌, map, ap, ◌∙◌, arith, flat_map}
 use Rattle.std.proofs.lemmas.List.{get_or_default}
 use Rattle.cons_graph.specs.declared.edges.Edge.{Edge}
 use Rattle.list_facts.proofs.Pieces.{piece_added}

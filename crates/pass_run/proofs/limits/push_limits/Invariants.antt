@@ -1,5 +1,4 @@
-use Rattle.std.proofs.Common.{◌≡◌, ◌++◌, map, take}
-use Rattle.std.specs.List.{flat_map}
+use Rattle.std.proofs.Common.{◌≡◌, ◌++◌, map, take, flat_map}
 use Rattle.expand.specs.Structure.{limit_edges}
 use Rattle.pitch_join.specs.Joined.{shifted}
 use Rattle.pass_run.proofs.limits.push_limits.Given as goal

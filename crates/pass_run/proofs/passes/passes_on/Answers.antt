@@ -1,4 +1,4 @@
-use Rattle.std.proofs.Common.{◌≡◌, suc, List, length, drop, ap, ◌∙◌, arith}
+use Rattle.std.proofs.Common.{suc, List, length, drop, refl, ap, ◌∙◌, arith}
 use Rattle.std.proofs.lemmas.List.{length-take-le, take_all, drop_all}
 use Rattle.std.proofs.lemmas.Result.{err_from_is_err_and}
 use Rattle.lam_geom.specs.declared.boxes.Axis.{Axis}
@@ -6,11 +6,17 @@ use Rattle.lam_geom.specs.declared.boxes.Axis.TheVariants.{X}
 use Rattle.pass_run.specs.Layouts.{starts_of}
 use Rattle.pass_run.specs.Passes.{axes_of}
 use Rattle.pass_run.proofs.Chain.{axes_counted}
-use Rattle.pass_run.proofs.PassesGiven.{passes_given}
-use Rattle.pass_run.proofs.Going.{refused_there}
+use Rattle.pass_run.proofs.Going.{going_told, passes_given, refused_there}
 use Rattle.pass_run.proofs.OneRefusal.{stops_at_first}
-use Rattle.pass_run.proofs.Told.{mosts_of, told_all, tight_of}
+use Rattle.pass_run.proofs.Lasts.{are_mosts, are_tight}
 use Rattle.pass_run.proofs.passes.passes_on.Goals as goal
+
+pub loop-axis-init : goal.loop-axis-init
+loop-axis-init g c = record {
+  going = c.in_ok-so_far.ensures.going c.args.with_most c.args.axes.now;
+  axes = ap (λ steps. axes_of steps) c.in_ok-so_far.ensures.none;
+  coming = refl;
+}
 
 pub go_on-requires-clause-few : goal.go_on-requires-clause-few
 go_on-requires-clause-few g c =
@@ -33,8 +39,8 @@ pub returns-clause-made : goal.returns-clause-made
 returns-clause-made g c =
     let e = c.in_ok-given.ensures in
     let test = c.loop-axis-test.false in
-    let all : axes_of c.loop-axis.so_far.steps.items ≡ c.args.axes.now = c.loop-axis.invariant.axes ∙ take_all c.loop-axis.axis-index c.args.axes.now (omega arith) in
-    passes_given c.args.tech.now c.args.plan.now c.args.masters.now c.args.axes.now c.loop-axis.so_far c.in_ok-given.field-0 c.loop-axis.invariant.going all e.coords e.steps e.report
+    let all = c.loop-axis.invariant.axes ∙ take_all c.loop-axis.axis-index c.args.axes.now (omega arith) in
+    passes_given c.loop-axis.invariant.going c.args.axes.now c.in_ok-given.field-0 all e.coords e.steps e.report
 
 pub returns-in_err-so_far-2-clause-first : goal.returns-in_err-so_far-2-clause-first
 returns-in_err-so_far-2-clause-first g c =
@@ -47,14 +53,18 @@ returns-in_err-so_far-2-clause-first g c =
 
 pub returns-clause-mosts : goal.returns-clause-mosts
 returns-clause-mosts g c = λ asked.
+    let e = c.in_ok-given.ensures in
     let test = c.loop-axis-test.false in
     let none = drop_all c.loop-axis.axis-index c.args.axes.now (omega arith) in
-    mosts_of c.args.tech.now c.args.plan.now c.args.masters.now (starts_of c.args.tech.now c.args.masters.now) c.in_ok-given.field-0.steps c.in_ok-given.field-0.mosts
-    (told_all c.args.tech.now c.args.plan.now c.args.masters.now c.args.with_most _ c.loop-axis.so_far _ _ c.loop-axis.invariant.told none c.in_ok-given.ensures.steps c.in_ok-given.ensures.mosts asked)
+    are_mosts c.args.tech.now c.args.plan.now c.args.masters.now (starts_of c.args.tech.now c.args.masters.now)
+    c.in_ok-given.field-0.steps c.in_ok-given.field-0.mosts
+    (going_told c.loop-axis.invariant.going c.in_ok-given.field-0 none e.steps e.mosts asked)
 
 pub returns-clause-tight : goal.returns-clause-tight
 returns-clause-tight g c = λ asked.
+    let e = c.in_ok-given.ensures in
     let test = c.loop-axis-test.false in
     let none = drop_all c.loop-axis.axis-index c.args.axes.now (omega arith) in
-    tight_of c.args.tech.now c.args.plan.now c.args.masters.now (starts_of c.args.tech.now c.args.masters.now) c.in_ok-given.field-0.steps c.in_ok-given.field-0.mosts
-    (told_all c.args.tech.now c.args.plan.now c.args.masters.now c.args.with_most _ c.loop-axis.so_far _ _ c.loop-axis.invariant.told none c.in_ok-given.ensures.steps c.in_ok-given.ensures.mosts asked)
+    are_tight c.args.tech.now c.args.plan.now c.args.masters.now (starts_of c.args.tech.now c.args.masters.now)
+    c.in_ok-given.field-0.steps c.in_ok-given.field-0.mosts
+    (going_told c.loop-axis.invariant.going c.in_ok-given.field-0 none e.steps e.mosts asked)

@@ -1,5 +1,4 @@
-use Rattle.std.proofs.Common.{take}
-use Rattle.std.specs.List.{All, Contains}
+use Rattle.std.proofs.Common.{take, All, Contains}
 use Rattle.pass_run.proofs.shown.are_limits.Given as goal
 
 abbrev pub invariant-loop-k : goal.invariant-loop-k

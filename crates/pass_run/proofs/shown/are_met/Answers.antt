@@ -1,5 +1,4 @@
-use Rattle.std.proofs.Common.{List, subst, arith}
-use Rattle.std.specs.List.{All}
+use Rattle.std.proofs.Common.{List, subst, arith, All}
 use Rattle.std.proofs.lemmas.List.{take_all}
 use Rattle.std.proofs.lemmas.List.Elements.{All-more}
 use Rattle.cons_graph.specs.declared.edges.Edge.{Edge}

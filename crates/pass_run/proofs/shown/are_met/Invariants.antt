@@ -1,5 +1,4 @@
-use Rattle.std.proofs.Common.{take}
-use Rattle.std.specs.List.{All}
+use Rattle.std.proofs.Common.{take, All}
 use Rattle.cons_graph.specs.Solutions.{Meets, value_of}
 use Rattle.pass_run.proofs.shown.are_met.Given as goal
 

@@ -1,5 +1,4 @@
-use Rattle.std.proofs.Common.{◌-◌, List, length, take, drop, subst}
-use Rattle.std.specs.List.{All, Contains}
+use Rattle.std.proofs.Common.{◌-◌, List, length, take, drop, subst, All, Contains}
 use Rattle.std.proofs.lemmas.List.{take_rest}
 use Rattle.cons_graph.specs.declared.edges.Edge.{Edge}
 use Rattle.cons_graph.specs.Solutions.{value_of}

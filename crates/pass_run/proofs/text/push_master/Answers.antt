@@ -1,5 +1,4 @@
-use Rattle.std.proofs.Common.{ℕ, List, length, refl, ap, ◌∙◌, arith}
-use Rattle.std.specs.Prelude.{slice_index}
+use Rattle.std.proofs.Common.{ℕ, List, length, refl, ap, ◌∙◌, arith, slice_index}
 use Rattle.std.proofs.lemmas.List.{get_or_default}
 use Rattle.pitch_join.specs.Masters.{no_master}
 use Rattle.pitch_join.proofs.Bases.{bases_counted}

@@ -3,10 +3,11 @@ use Rattle.pass_run.proofs.SamePasses.{bases_are, few_joint, limits_fit}
 use Rattle.pass_run.proofs.first.FirstPass.brought_to.Goals as goal
 
 pub joint_limits-requires-clause-few : goal.joint_limits-requires-clause-few
-joint_limits-requires-clause-few c = few_joint c.args.tech.now c.args.plan.now c.args.masters.now c.args.self.now.axis c.requires.more.planned
+joint_limits-requires-clause-few c = few_joint c.requires.more
 
 pub joint_limits-requires-clause-base : goal.joint_limits-requires-clause-base
-joint_limits-requires-clause-base c = c.as_slice.ensures ∙ bases_are c.args.tech.now c.args.plan.now c.args.masters.now c.args.self.now c.requires.more
+joint_limits-requires-clause-base c = c.as_slice.ensures ∙ bases_are c.requires.more
 
 pub follow-requires-clause-among : goal.follow-requires-clause-among
-follow-requires-clause-among c = limits_fit c.args.tech.now c.args.plan.now c.args.masters.now c.args.self.now c.deref-2.result.now c.requires.more (c.deref-2.ensures.value ∙ c.in_ok-limits.ensures)
+follow-requires-clause-among c = limits_fit c.requires.more c.deref-2.result.now
+    (c.deref-2.ensures.value ∙ c.in_ok-limits.ensures)

@@ -10,15 +10,19 @@ use Rattle.pass_run.proofs.first.FirstPass.new.Goals as goal
 
 pub starts-requires : goal.starts-requires
 starts-requires g c =
-    (are_bared c.args.tech.now c.args.plan c.args.masters.items c.deref.result.now (c.deref.ensures.value ∙ c.in_ok-masters.ensures) c.requires.planned c.requires.clean).planned.each
+    (are_bared c.args.masters.items c.deref.result.now (c.deref.ensures.value ∙ c.in_ok-masters.ensures)
+    c.requires.planned c.requires.clean).planned.each
 
 pub list-requires-clause-planned : goal.list-requires-clause-planned
 list-requires-clause-planned g c = λ κs le.
-    (are_bared c.args.tech.now c.args.plan c.args.masters.items c.deref-2.result.now (c.deref-2.ensures.value ∙ c.in_ok-masters.ensures) c.requires.planned c.requires.clean).planned
+    (are_bared c.args.masters.items c.deref-2.result.now (c.deref-2.ensures.value ∙ c.in_ok-masters.ensures)
+    c.requires.planned c.requires.clean).planned
 
 pub list-requires-clause-laid : goal.list-requires-clause-laid
 list-requires-clause-laid g c = λ κs le.
-    bared_laid c.args.tech.now c.args.plan c.deref-2.result.now c.deref-3.result.now (are_bared c.args.tech.now c.args.plan c.args.masters.items c.deref-2.result.now (c.deref-2.ensures.value ∙ c.in_ok-masters.ensures) c.requires.planned c.requires.clean)
+    bared_laid c.deref-3.result.now
+    (are_bared c.args.masters.items c.deref-2.result.now (c.deref-2.ensures.value ∙ c.in_ok-masters.ensures)
+    c.requires.planned c.requires.clean)
     (c.deref-3.ensures.value ∙ (c.in_ok-starts.ensures ∙ ap (starts_of c.args.tech.now) (c.deref.ensures.value ∙ sym c.deref-2.ensures.value)))
 
 pub returns-clause-first : goal.returns-clause-first
@@ -39,12 +43,12 @@ returns-clause-first g c =
       places = c.new-3.result;
     } in
     first_made tech first c.in-Ok.listed.graph
-    (are_bared c.args.tech.now c.args.plan c.args.masters.items c.in_ok-masters.masters.items (c.in_ok-masters.ensures) c.requires.planned c.requires.clean)
+    (are_bared c.args.masters.items bared c.in_ok-masters.ensures c.requires.planned c.requires.clean)
     (c.in_ok-starts.ensures ∙ ap (starts_of tech) c.deref.ensures.value)
-    (c.in-Ok.ensures.bases ∙ ap (bases_of axis) c.deref-2.ensures.value)
+    (c.in-Ok.ensures.listed.bases ∙ ap (bases_of axis) c.deref-2.ensures.value)
     c.in_ok-session.ensures
-    (c.in-Ok.ensures.vars ∙ ap (joint_variables axis) c.deref-2.ensures.value)
-    (c.in-Ok.ensures.edges
+    (c.in-Ok.ensures.listed.vars ∙ ap (joint_variables axis) c.deref-2.ensures.value)
+    (c.in-Ok.ensures.listed.edges
     ∙ (ap (λ (ms : List Master). list_over axis tech plan ms c.deref-3.result.now) c.deref-2.ensures.value
     ∙ ap (λ (ls : List Coords). list_over axis tech plan bared ls) c.deref-3.ensures.value))
     (ap (λ (es : List Edge). length es) c.edges.ensures.value)
