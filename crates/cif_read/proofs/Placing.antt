@@ -16,12 +16,6 @@ pub placed_in_done : (state : State) (d : Definition) (named : Option Named) (la
     → placed_in state d named l w x y ≡ Ok (record state { begun = Some (record d { boxes = boxes }) })
 placed_in_done state d named layer l w x y boxes e even added = rw (e, ← even, added) refl
 
--- one more box that has an inside
-pub solid_more : (before after : List MaskBox) (box : MaskBox) → after ≡ before ++ box ∷ [] → All (IsSolidWithin (2 ^ 50)) (map drawn_of before) → IsSolidWithin (2 ^ 50) (drawn_of box)
-    → All (IsSolidWithin (2 ^ 50)) (map drawn_of after)
-solid_more before after box e all one =
-    subst (All (IsSolidWithin (2 ^ 50))) (sym (ap (map drawn_of) e ∙ map_push drawn_of before box)) (All-push (IsSolidWithin (2 ^ 50)) (map drawn_of before) (drawn_of box) all one)
-
 pub count_more : {X : Type 0} (before after : List X) (x : X) (count : ℕ) → after ≡ before ++ x ∷ [] → length before ≤ count → length after ≤ count + 1
 count_more before after x count e h = omega (arith, ap length e, length_push before x)
 
