@@ -1,5 +1,5 @@
 -- Boxes that are turned and shifted.
-use Rattle.std.proofs.Common.{◌≡◌, ℕ, zero, suc, ◌+◌, ◌^◌, ◌≤◌, ◌%◌, ℤ, neg_ℤ, ◌+ℤ◌, ◌<ℤ◌, int_lt, nat_lt, Bool, true, false, cond, ◌⊎◌, inl, inr, refl, sym, ap, ◌∙◌, subst, arith}
+use Rattle.std.proofs.Common.{◌≡◌, ℕ, zero, suc, ◌+◌, ◌^◌, ◌%◌, ℤ, neg_ℤ, ◌+ℤ◌, ◌<ℤ◌, int_lt, nat_lt, Bool, true, false, cond, ◌⊎◌, inl, inr, refl, sym, ap, ◌∙◌, subst, arith}
 use Rattle.std.specs.Int.{int_min, int_max}
 use Rattle.std.proofs.lemmas.Int.{ints, clamps}
 use Rattle.lam_geom.specs.declared.boxes.MaskLayer.{MaskLayer}

@@ -1,8 +1,8 @@
 -- Steps, as they are kept.
-use Rattle.std.proofs.Common.{◌≡◌, ℕ, ◌+◌, ◌<◌, ◌≤◌, List, [], ◌∷◌, ◌++◌, All, map, length, get_or, refl, sym, ap, ◌∙◌, subst, arith}
+use Rattle.std.proofs.Common.{◌≡◌, ℕ, ◌<◌, ◌≤◌, List, [], ◌∷◌, ◌++◌, All, map, length, get_or, refl, sym, ap, ◌∙◌, arith}
 use Rattle.std.specs.List.{AllByRecursion}
-use Rattle.std.proofs.lemmas.List.{map_push, length_push, length-map, get_or_append_left, get_or_at, get_or-map, get_or_default}
-use Rattle.std.proofs.lemmas.List.Elements.{All-push, All-weaker, recursion_from_All}
+use Rattle.std.proofs.lemmas.List.{map_push, length_push, length-map, get_or_append_left, get_or_at, get_or-map}
+use Rattle.std.proofs.lemmas.List.Elements.{All-weaker, recursion_from_All}
 use Rattle.lam_geom.specs.declared.boxes.MaskBox.{MaskBox}
 use Rattle.cif_foreign.specs.declared.file.ForeignStep.{ForeignStep}
 use Rattle.cif_foreign.specs.declared.file.ForeignStep.TheVariants as steps

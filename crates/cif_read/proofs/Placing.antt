@@ -1,13 +1,11 @@
 -- What a box adds.
-use Rattle.std.proofs.Common.{◌≡◌, ℕ, ◌+◌, ◌≤◌, ◌^◌, ℤ, false, Option, Some, Ok, List, [], ◌∷◌, ◌++◌, map, length, refl, sym, ap, ◌∙◌, subst, arith}
-use Rattle.std.specs.List.{All}
+use Rattle.std.proofs.Common.{◌≡◌, ℕ, ◌+◌, ◌≤◌, ℤ, false, Option, Some, Ok, List, [], ◌∷◌, ◌++◌, map, length, refl, ap, ◌∙◌, arith}
 use Rattle.std.proofs.lemmas.List.{map_push, length_push}
-use Rattle.std.proofs.lemmas.List.Elements.{All-push}
 use Rattle.lam_geom.specs.declared.boxes.MaskLayer.{MaskLayer}
 use Rattle.lam_geom.specs.declared.boxes.MaskBox.{MaskBox}
 use Rattle.cif_read.specs.Sheets.{Drawn, Step, own}
 use Rattle.cif_read.specs.Acts.{State, Definition, Named, placed, placed_in, is_odd_area, scaled, drawn_box}
-use Rattle.cif_read.specs.Files.{drawn_of, IsSolidWithin}
+use Rattle.cif_read.specs.Files.{drawn_of}
 
 -- in a definition
 pub placed_in_done : (state : State) (d : Definition) (named : Option Named) (layer : MaskLayer) (l w x y : ℤ) (boxes : List Drawn)

@@ -5,13 +5,13 @@ use Rattle.cif_read.specs.Sheets.{Drawn}
 use Rattle.cif_read.specs.Files.{drawn_of, IsSolidWithin}
 use Rattle.cif_read.proofs.Solid.{solid_pushed}
 use Rattle.cif_foreign.specs.declared.file.ForeignStep.{ForeignStep}
-use Rattle.cif_foreign.specs.declared.file.ForeignStep.TheVariants.{Called}
+use Rattle.cif_foreign.specs.declared.file.ForeignStep.TheVariants.{Own, Called}
 use Rattle.cif_foreign.specs.Sheets.{placed_box, boxes_of_steps, boxes_of_symbols, depths_of}
 use Rattle.cif_foreign.specs.Files.{symbol_of, step_of, IsStepOf}
 use Rattle.cif_foreign.specs.Readings.{called_depth}
 use Rattle.cif_foreign.proofs.Symbols.{boxes_at}
 use Rattle.cif_foreign.proofs.Flat.{Adds, adds_all, adds_more, adds_own, adds_called}
-use Rattle.cif_foreign.proofs.Walking.{valid_step, is_called, steps_found, call_near, call_places}
+use Rattle.cif_foreign.proofs.Walking.{valid_as, is_called, steps_found, call_near, call_places}
 use Rattle.cif_foreign.proofs.flattening.+push_steps.Goals as goal
 use Rattle.cif_foreign.proofs.flattening.+push_steps.Goals.{in-Own+in_ok-push-in-Own, in-Called+in_ok-push_steps-in-Called}
 
@@ -20,28 +20,28 @@ placed-requires-clause-near t c = nearer (2 ^ 47 * (64 - c.args.depth)) (2 ^ 54)
 
 pub placed-requires-clause-solid : goal.placed-requires-clause-solid
 placed-requires-clause-solid t c =
-    let n = length c.args.file.now.symbols in
-    subst (IsStepOf n) c.in-Own.is (valid_step n c.args.steps.now c.loop-i.i c.get-step.result c.requires.steps (omega (arith, c.loop-i-test.true, c.len-i-end.ensures)) (c.get-step.ensures c.get-step.result))
+    let lt : c.loop-i.i < length c.args.steps.now = omega (arith, c.loop-i-test.true) in
+    valid_as (length c.args.file.now.symbols) c.args.steps.now c.loop-i.i c.get-step.result (Own c.in-Own.mask) c.requires.steps lt (c.get-step.ensures c.get-step.result) c.in-Own.is
 
 pub bounds-as_slice-symbol : goal.bounds-as_slice-symbol
 bounds-as_slice-symbol t c =
-    let n = length c.args.file.now.symbols in
     let d = c.in-Called in
-    let valid : IsStepOf n (Called d.symbol d.turn d.x d.y) = subst (IsStepOf n) d.is (valid_step n c.args.steps.now c.loop-i.i c.get-step.result c.requires.steps (omega (arith, c.loop-i-test.true, c.len-i-end.ensures)) (c.get-step.ensures c.get-step.result)) in
+    let lt : c.loop-i.i < length c.args.steps.now = omega (arith, c.loop-i-test.true) in
+    let valid = valid_as (length c.args.file.now.symbols) c.args.steps.now c.loop-i.i c.get-step.result (Called d.symbol d.turn d.x d.y) c.requires.steps lt (c.get-step.ensures c.get-step.result) d.is in
     omega (arith, valid.0, ap length c.as_slice.ensures)
 
 pub after-inner-requires-clause-inner_turn : goal.after-inner-requires-clause-inner_turn
 after-inner-requires-clause-inner_turn t c =
-    let n = length c.args.file.now.symbols in
     let d = c.in-Called in
-    let valid : IsStepOf n (Called d.symbol d.turn d.x d.y) = subst (IsStepOf n) d.is (valid_step n c.args.steps.now c.loop-i.i c.get-step.result c.requires.steps (omega (arith, c.loop-i-test.true, c.len-i-end.ensures)) (c.get-step.ensures c.get-step.result)) in
+    let lt : c.loop-i.i < length c.args.steps.now = omega (arith, c.loop-i-test.true) in
+    let valid = valid_as (length c.args.file.now.symbols) c.args.steps.now c.loop-i.i c.get-step.result (Called d.symbol d.turn d.x d.y) c.requires.steps lt (c.get-step.ensures c.get-step.result) d.is in
     valid.1
 
 pub after-inner-requires-clause-inner_near : goal.after-inner-requires-clause-inner_near
 after-inner-requires-clause-inner_near t c =
-    let n = length c.args.file.now.symbols in
     let d = c.in-Called in
-    let valid : IsStepOf n (Called d.symbol d.turn d.x d.y) = subst (IsStepOf n) d.is (valid_step n c.args.steps.now c.loop-i.i c.get-step.result c.requires.steps (omega (arith, c.loop-i-test.true, c.len-i-end.ensures)) (c.get-step.ensures c.get-step.result)) in
+    let lt : c.loop-i.i < length c.args.steps.now = omega (arith, c.loop-i-test.true) in
+    let valid = valid_as (length c.args.file.now.symbols) c.args.steps.now c.loop-i.i c.get-step.result (Called d.symbol d.turn d.x d.y) c.requires.steps lt (c.get-step.ensures c.get-step.result) d.is in
     nearer (2 ^ 47) (2 ^ 61) _ (omega arith) (call_near d.x d.y valid.2 valid.3)
 
 pub overflow_sub-depth : goal.overflow_sub-depth
@@ -59,7 +59,7 @@ push_steps-requires t c =
     let d = c.in-Called in
     let lt : c.loop-i.i < length c.args.steps.now = omega (arith, c.loop-i-test.true) in
     let it = is_called file.symbols c.args.steps.now c.loop-i.i d.symbol d.turn d.x d.y c.get-step.result c.requires.flat.symbols c.requires.steps lt (c.get-step.ensures c.get-step.result) d.is in
-    let valid : IsStepOf n (Called d.symbol d.turn d.x d.y) = subst (IsStepOf n) d.is (valid_step n c.args.steps.now c.loop-i.i c.get-step.result c.requires.steps lt (c.get-step.ensures c.get-step.result)) in
+    let valid = valid_as n c.args.steps.now c.loop-i.i c.get-step.result (Called d.symbol d.turn d.x d.y) c.requires.steps lt (c.get-step.ensures c.get-step.result) d.is in
     let own_steps = (get_or c.as_slice.result.now d.symbol c.index-as_slice-symbol.result).steps in
     let own = steps_found file.symbols c.as_slice.result.now d.symbol c.index-as_slice-symbol.result own_steps it.below c.as_slice.ensures refl in
     let steps : All (IsStepOf n) own_steps = subst (All (IsStepOf n)) (sym own) it.valid in
@@ -95,7 +95,7 @@ loop-i-preserved t c =
       | in-Called+in_ok-push_steps-in-Called w ↦
           let d = w.in-Called in
           let it = is_called file.symbols steps i d.symbol d.turn d.x d.y step c.requires.flat.symbols c.requires.steps lt at d.is in
-          let valid : IsStepOf n (Called d.symbol d.turn d.x d.y) = subst (IsStepOf n) d.is (valid_step n steps i step c.requires.steps lt at) in
+          let valid = valid_as n steps i step (Called d.symbol d.turn d.x d.y) c.requires.steps lt at d.is in
           let own_steps = (get_or w.as_slice.result.now d.symbol w.index-as_slice-symbol.result).steps in
           let own = steps_found file.symbols w.as_slice.result.now d.symbol w.index-as_slice-symbol.result own_steps it.below w.as_slice.ensures refl in
           let same = call_places c.args.place w.after-inner.result d.turn d.x d.y valid.2 valid.3 w.after-inner.ensures.same in

@@ -1,18 +1,16 @@
-use Rattle.std.proofs.Common.{◌≡◌, ◌≤◌, ◌^◌, ℕ, List, [], ◌++◌, map, length, refl, sym, ap, ◌∙◌, subst, arith}
-use Rattle.std.specs.List.{All, AllByRecursion}
+use Rattle.std.proofs.Common.{◌≡◌, ◌^◌, ℕ, List, [], ◌++◌, map, length, refl, sym, ap, ◌∙◌, subst, arith}
+use Rattle.std.specs.List.{AllByRecursion}
 use Rattle.std.proofs.lemmas.List.{length-map}
-use Rattle.std.proofs.lemmas.List.Elements.{recursion_from_All, All-nil}
+use Rattle.std.proofs.lemmas.List.Elements.{recursion_from_All}
 use Rattle.lam_geom.specs.declared.boxes.MaskBox.{MaskBox}
 use Rattle.cif_lex.specs.declared.placement.Placement.{Placement}
 use Rattle.cif_read.specs.Sheets.{Drawn}
-use Rattle.cif_read.specs.Files.{drawn_of, IsSolidWithin}
+use Rattle.cif_read.specs.Files.{drawn_of}
 use Rattle.cif_read.proofs.Solid.{none_solid, all_placed, all_solid}
 use Rattle.cif_foreign.specs.declared.file.ForeignFile.{ForeignFile}
-use Rattle.cif_foreign.specs.declared.file.ForeignStep.{ForeignStep}
-use Rattle.cif_foreign.specs.Sheets.{placed_box, boxes_of_steps, boxes_of_symbols, depths_of, flattened}
-use Rattle.cif_foreign.specs.Files.{symbol_of, step_of, sheet_of, IsStepOf, CanBeFlattened}
-use Rattle.cif_foreign.specs.Counts.{counted, filled_file}
-use Rattle.cif_foreign.specs.Readings.{called_depth}
+use Rattle.cif_foreign.specs.Sheets.{placed_box, boxes_of_symbols, depths_of, flattened}
+use Rattle.cif_foreign.specs.Files.{symbol_of, sheet_of, IsStepOf, CanBeFlattened}
+use Rattle.cif_foreign.specs.Counts.{filled_file}
 use Rattle.cif_foreign.proofs.Symbols.{length_depths}
 use Rattle.cif_foreign.proofs.Filling.{filled_flat, filled_boxes}
 use Rattle.cif_foreign.proofs.Flat.{IsSorted, still, called_within, boxes_stay, steps_sorted}
