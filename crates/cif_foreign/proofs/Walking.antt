@@ -45,7 +45,8 @@ counts_more symbols i symbol steps counts more count lt at same are is e =
 pub valid_step : (n : ℕ) (steps : List ForeignStep) (i : ℕ) (step : ForeignStep) → All (IsStepOf n) steps → i < length steps → step ≡ get_or steps i step → IsStepOf n step
 valid_step n steps i step all lt at = subst (IsStepOf n) (sym at) (all i step lt)
 
-pub valid_as : (n : ℕ) (steps : List ForeignStep) (i : ℕ) (step seen : ForeignStep) → All (IsStepOf n) steps → i < length steps → step ≡ get_or steps i step → step ≡ seen → IsStepOf n seen
+pub valid_as : (n : ℕ) (steps : List ForeignStep) (i : ℕ) (step seen : ForeignStep) → All (IsStepOf n) steps
+    → i < length steps → step ≡ get_or steps i step → step ≡ seen → IsStepOf n seen
 valid_as n steps i step seen all lt at is = subst (IsStepOf n) is (valid_step n steps i step all lt at)
 
 -- what is known of a symbol that is called

@@ -19,8 +19,8 @@ enum Place {
     },
 }
 
-/// Steps in their order, which contracts see as their list. A call takes half as much memory as a `ForeignStep`: its 24 bytes
-/// stand in one list with the positions of boxes, and the boxes, which are larger, in a list of their own.
+/// Steps in their order, which contracts see as their list. A call takes 24 bytes, half as many as a
+/// `ForeignStep`: calls stand in one list with the positions of boxes, and the boxes, which are larger, in another.
 #[derive(Debug, Drop)]
 pub struct Steps {
     places: Vec<Place>,

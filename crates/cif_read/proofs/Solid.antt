@@ -27,18 +27,24 @@ solid_more r s box le h = record {
 -- ---- lists of them
 
 pub none_solid : (reach : ℕ) (boxes : List MaskBox) → boxes ≡ [] → All (IsSolidWithin reach) (map drawn_of boxes)
-none_solid reach boxes e = subst (λ bs. All (IsSolidWithin reach) (map drawn_of bs)) (sym e) (All-nil (IsSolidWithin reach))
+none_solid reach boxes e =
+    subst (λ bs. All (IsSolidWithin reach) (map drawn_of bs)) (sym e) (All-nil (IsSolidWithin reach))
 
 -- one more
-pub solid_pushed : (reach : ℕ) (before after : List MaskBox) (box : MaskBox) → after ≡ before ++ box ∷ [] → IsSolidWithin reach (drawn_of box) → All (IsSolidWithin reach) (map drawn_of before)
+pub solid_pushed : (reach : ℕ) (before after : List MaskBox) (box : MaskBox) → after ≡ before ++ box ∷ []
+    → IsSolidWithin reach (drawn_of box) → All (IsSolidWithin reach) (map drawn_of before)
     → All (IsSolidWithin reach) (map drawn_of after)
 solid_pushed reach before after box e solid all =
-    subst (All (IsSolidWithin reach)) (sym (ap (map drawn_of) e ∙ map_push drawn_of before box)) (All-push (IsSolidWithin reach) (map drawn_of before) (drawn_of box) all solid)
+    let drawn = ap (map drawn_of) e ∙ map_push drawn_of before box in
+    let pushed = All-push (IsSolidWithin reach) (map drawn_of before) (drawn_of box) all solid in
+    subst (All (IsSolidWithin reach)) (sym drawn) pushed
 
-pub solid_at : (reach : ℕ) (boxes : List MaskBox) (i : ℕ) (box : MaskBox) → i < length boxes → box ≡ get_or boxes i box → All (IsSolidWithin reach) (map drawn_of boxes) → IsSolidWithin reach (drawn_of box)
+pub solid_at : (reach : ℕ) (boxes : List MaskBox) (i : ℕ) (box : MaskBox) → i < length boxes
+    → box ≡ get_or boxes i box → All (IsSolidWithin reach) (map drawn_of boxes) → IsSolidWithin reach (drawn_of box)
 solid_at reach boxes i box lt e all =
-    let at : get_or (map drawn_of boxes) i (drawn_of box) ≡ drawn_of box = get_or-map drawn_of boxes i box (drawn_of box) lt ∙ ap drawn_of (sym e) in
-    subst (IsSolidWithin reach) at (All-get_or (IsSolidWithin reach) (map drawn_of boxes) i (drawn_of box) (omega (arith, lt, length-map boxes drawn_of)) all)
+    let at = get_or-map drawn_of boxes i box (drawn_of box) lt ∙ ap drawn_of (sym e) in
+    let below : i < length (map drawn_of boxes) = omega (arith, lt, length-map boxes drawn_of) in
+    subst (IsSolidWithin reach) at (All-get_or (IsSolidWithin reach) (map drawn_of boxes) i (drawn_of box) below all)
 
 -- ---- what a caller is told of them
 
@@ -47,12 +53,19 @@ is_place reach z le h = (omega (arith, ints, le, h.0), omega (arith, ints, le, h
 
 placed_one : (reach : ℕ) (box : MaskBox) → reach ≤ 2 ^ 60 → IsSolidWithin reach (drawn_of box) → IsPlacedBox box.area
 placed_one reach box le h =
-    ((is_place reach box.area.x.lo le h.left, is_place reach box.area.x.hi le h.right), (is_place reach box.area.y.lo le h.bottom, is_place reach box.area.y.hi le h.top))
+    let x = box.area.x in
+    let y = box.area.y in
+    let place = λ (z : ℤ). is_place reach z le in
+    ((place x.lo h.left, place x.hi h.right), (place y.lo h.bottom, place y.hi h.top))
 
-solid_each : (reach : ℕ) (boxes : List MaskBox) → All (IsSolidWithin reach) (map drawn_of boxes) → All (λ box. IsSolidWithin reach (drawn_of box)) boxes
-solid_each reach boxes h = λ k d lt. subst (IsSolidWithin reach) (get_or-map drawn_of boxes k d (drawn_of d) lt) (h k (drawn_of d) (omega (arith, lt, length-map boxes drawn_of)))
+solid_each : (reach : ℕ) (boxes : List MaskBox) → All (IsSolidWithin reach) (map drawn_of boxes)
+    → All (λ box. IsSolidWithin reach (drawn_of box)) boxes
+solid_each reach boxes h = λ k d lt.
+    let below : k < length (map drawn_of boxes) = omega (arith, lt, length-map boxes drawn_of) in
+    subst (IsSolidWithin reach) (get_or-map drawn_of boxes k d (drawn_of d) lt) (h k (drawn_of d) below)
 
-pub all_placed : (reach : ℕ) (boxes : List MaskBox) → reach ≤ 2 ^ 60 → All (IsSolidWithin reach) (map drawn_of boxes) → All (λ box. IsPlacedBox box.area) boxes
+pub all_placed : (reach : ℕ) (boxes : List MaskBox) → reach ≤ 2 ^ 60
+    → All (IsSolidWithin reach) (map drawn_of boxes) → All (λ box. IsPlacedBox box.area) boxes
 all_placed reach boxes le h = λ k d lt. placed_one reach (get_or boxes k d) le (solid_each reach boxes h k d lt)
 
 pub all_solid : (reach : ℕ) (boxes : List MaskBox) → All (IsSolidWithin reach) (map drawn_of boxes) → All IsSolid boxes

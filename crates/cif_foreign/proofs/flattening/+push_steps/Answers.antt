@@ -21,27 +21,42 @@ placed-requires-clause-near t c = nearer (2 ^ 47 * (64 - c.args.depth)) (2 ^ 54)
 pub placed-requires-clause-solid : goal.placed-requires-clause-solid
 placed-requires-clause-solid t c =
     let lt : c.loop-i.i < length c.args.steps.now = omega (arith, c.loop-i-test.true) in
-    valid_as (length c.args.file.now.symbols) c.args.steps.now c.loop-i.i c.get-step.result (Own c.in-Own.mask) c.requires.steps lt (c.get-step.ensures c.get-step.result) c.in-Own.is
+    let step = c.get-step.result in
+    let at = c.get-step.ensures step in
+    let n = length c.args.file.now.symbols in
+    valid_as n c.args.steps.now c.loop-i.i step (Own c.in-Own.mask) c.requires.steps lt at c.in-Own.is
 
 pub bounds-as_slice-symbol : goal.bounds-as_slice-symbol
 bounds-as_slice-symbol t c =
     let d = c.in-Called in
     let lt : c.loop-i.i < length c.args.steps.now = omega (arith, c.loop-i-test.true) in
-    let valid = valid_as (length c.args.file.now.symbols) c.args.steps.now c.loop-i.i c.get-step.result (Called d.symbol d.turn d.x d.y) c.requires.steps lt (c.get-step.ensures c.get-step.result) d.is in
+    let step = c.get-step.result in
+    let at = c.get-step.ensures step in
+    let n = length c.args.file.now.symbols in
+    let seen = Called d.symbol d.turn d.x d.y in
+    let valid = valid_as n c.args.steps.now c.loop-i.i step seen c.requires.steps lt at d.is in
     omega (arith, valid.0, ap length c.as_slice.ensures)
 
 pub after-inner-requires-clause-inner_turn : goal.after-inner-requires-clause-inner_turn
 after-inner-requires-clause-inner_turn t c =
     let d = c.in-Called in
     let lt : c.loop-i.i < length c.args.steps.now = omega (arith, c.loop-i-test.true) in
-    let valid = valid_as (length c.args.file.now.symbols) c.args.steps.now c.loop-i.i c.get-step.result (Called d.symbol d.turn d.x d.y) c.requires.steps lt (c.get-step.ensures c.get-step.result) d.is in
+    let step = c.get-step.result in
+    let at = c.get-step.ensures step in
+    let n = length c.args.file.now.symbols in
+    let seen = Called d.symbol d.turn d.x d.y in
+    let valid = valid_as n c.args.steps.now c.loop-i.i step seen c.requires.steps lt at d.is in
     valid.1
 
 pub after-inner-requires-clause-inner_near : goal.after-inner-requires-clause-inner_near
 after-inner-requires-clause-inner_near t c =
     let d = c.in-Called in
     let lt : c.loop-i.i < length c.args.steps.now = omega (arith, c.loop-i-test.true) in
-    let valid = valid_as (length c.args.file.now.symbols) c.args.steps.now c.loop-i.i c.get-step.result (Called d.symbol d.turn d.x d.y) c.requires.steps lt (c.get-step.ensures c.get-step.result) d.is in
+    let step = c.get-step.result in
+    let at = c.get-step.ensures step in
+    let n = length c.args.file.now.symbols in
+    let seen = Called d.symbol d.turn d.x d.y in
+    let valid = valid_as n c.args.steps.now c.loop-i.i step seen c.requires.steps lt at d.is in
     nearer (2 ^ 47) (2 ^ 61) _ (omega arith) (call_near d.x d.y valid.2 valid.3)
 
 pub overflow_sub-depth : goal.overflow_sub-depth
@@ -59,7 +74,10 @@ push_steps-requires t c =
     let d = c.in-Called in
     let lt : c.loop-i.i < length c.args.steps.now = omega (arith, c.loop-i-test.true) in
     let it = is_called file.symbols c.args.steps.now c.loop-i.i d.symbol d.turn d.x d.y c.get-step.result c.requires.flat.symbols c.requires.steps lt (c.get-step.ensures c.get-step.result) d.is in
-    let valid = valid_as n c.args.steps.now c.loop-i.i c.get-step.result (Called d.symbol d.turn d.x d.y) c.requires.steps lt (c.get-step.ensures c.get-step.result) d.is in
+    let step = c.get-step.result in
+    let at = c.get-step.ensures step in
+    let seen = Called d.symbol d.turn d.x d.y in
+    let valid = valid_as n c.args.steps.now c.loop-i.i step seen c.requires.steps lt at d.is in
     let own_steps = (get_or c.as_slice.result.now d.symbol c.index-as_slice-symbol.result).steps in
     let own = steps_found file.symbols c.as_slice.result.now d.symbol c.index-as_slice-symbol.result own_steps it.below c.as_slice.ensures refl in
     let steps : All (IsStepOf n) own_steps = subst (All (IsStepOf n)) (sym own) it.valid in

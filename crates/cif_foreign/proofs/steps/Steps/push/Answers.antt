@@ -13,5 +13,9 @@ returns-in_ok-push-in-Own-2 c =
     let more = c.push.new.self.items in
     let items = c.in_ok-push-in-Own.ensures.items in
     let at : c.len-own.result ≡ length boxes = omega arith in
-    step_pushed more places c.push-in-Own.new.self.items (Own c.len-own.result) step c.in_ok-push-in-Own-2.ensures.items (last_place boxes more mask c.len-own.result items at ∙ sym c.in-Own.is)
-    ∙ ap (λ (ss : List ForeignStep). ss ++ step ∷ []) (places_kept boxes more mask places items c.self.invariant ∙ c.self.view_is)
+    let last = last_place boxes more mask c.len-own.result items at in
+    let kept = places_kept boxes more mask places items c.self.invariant ∙ c.self.view_is in
+    let own = Own c.len-own.result in
+    let after = c.push-in-Own.new.self.items in
+    step_pushed more places after own step c.in_ok-push-in-Own-2.ensures.items (last ∙ sym c.in-Own.is)
+    ∙ ap (λ (ss : List ForeignStep). ss ++ step ∷ []) kept
