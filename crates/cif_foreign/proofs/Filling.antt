@@ -1,8 +1,8 @@
 -- A file without the steps that have no boxes: its boxes are the same, and it can be flattened as well.
-use Rattle.std.proofs.Common.{◌≡◌, ℕ, zero, suc, ◌+◌, ◌<◌, ◌≤◌, max, Bool, true, false, cond, List, [], ◌∷◌, ◌++◌, All, map, length, fold, get_or, refl, sym, ap, ◌∙◌, subst, arith}
+use Rattle.std.proofs.Common.{◌≡◌, ℕ, zero, suc, ◌+◌, ◌<◌, ◌≤◌, max, Bool, true, false, cond, List, [], ◌∷◌, ◌++◌, All, map, length, take, fold, get_or, refl, sym, ap, ◌∙◌, subst, arith}
 use Rattle.std.specs.List.{AllByRecursion, AllZip, filter}
-use Rattle.std.proofs.lemmas.List.{length_push, length-map, get_or-map}
-use Rattle.std.proofs.lemmas.List.Elements.{All-filter, All-weaker, All-from_recursion, recursion_from_All}
+use Rattle.std.proofs.lemmas.List.{append-nil, take_more, length_push, length-map, get_or-map}
+use Rattle.std.proofs.lemmas.List.Elements.{filter-append, All-filter, All-weaker, All-from_recursion, recursion_from_All}
 use Rattle.std.proofs.lemmas.Bool.{false≢true}
 use Rattle.std.proofs.lemmas.Bool.Decides.{nat_tests}
 use Rattle.cif_read.specs.Sheets.{Drawn}
@@ -141,6 +141,27 @@ filled_boxes counts file flat are size =
     ∙ steps_kept counts all all n file.top are (omega (arith, size)) (λ k lt. refl) (recursion_from_All (IsStepOf n) file.top flat.top)
 
 -- ---- as the code finds them
+
+-- one step more is looked at
+kept_more : (test : ForeignStep → Bool) (steps : List ForeignStep) (i : ℕ) (step : ForeignStep) (kept : Bool)
+    → i < length steps → step ≡ get_or steps i step → test step ≡ kept
+    → filter test (take (i + 1) steps) ≡ filter test (take i steps) ++ cond kept (step ∷ []) []
+kept_more test steps i step kept lt at is =
+    let front = take i steps in
+    ap (filter test) (take_more steps i step lt ∙ ap (λ (s : ForeignStep). front ++ s ∷ []) (sym at))
+    ∙ (filter-append test front (step ∷ []) ∙ ap (λ (b : Bool). filter test front ++ cond b (step ∷ []) []) is)
+
+pub one_kept : (test : ForeignStep → Bool) (steps : List ForeignStep) (i : ℕ) (step : ForeignStep)
+    (now after : List ForeignStep) → i < length steps → step ≡ get_or steps i step → now ≡ filter test (take i steps) → test step ≡ true
+    → after ≡ now ++ step ∷ [] → after ≡ filter test (take (i + 1) steps)
+one_kept test steps i step now after lt at was is e =
+    e ∙ (ap (λ (ss : List ForeignStep). ss ++ step ∷ []) was ∙ sym (kept_more test steps i step true lt at is))
+
+pub one_left_out : (test : ForeignStep → Bool) (steps : List ForeignStep) (i : ℕ) (step : ForeignStep)
+    (now after : List ForeignStep) → i < length steps → step ≡ get_or steps i step → now ≡ filter test (take i steps) → test step ≡ false
+    → after ≡ now → after ≡ filter test (take (i + 1) steps)
+one_left_out test steps i step now after lt at was is e =
+    e ∙ (was ∙ sym (kept_more test steps i step false lt at is ∙ append-nil (filter test (take i steps))))
 
 pub steps_there : (symbols : List ForeignSymbol) (i : ℕ) (symbol : ForeignSymbol) (steps : List ForeignStep) (n : ℕ) → AreInOrder symbols → i < length symbols → symbol ≡ get_or symbols i symbol → steps ≡ symbol.steps
     → n ≡ length symbols → All (IsStepOf n) steps

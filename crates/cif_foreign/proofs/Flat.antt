@@ -1,16 +1,14 @@
 -- All boxes of a file, step by step.
-use Rattle.std.proofs.Common.{◌≡◌, ℕ, zero, suc, ◌+◌, ◌<◌, ◌≤◌, ◌^◌, min, max, ℤ, pos, ◌+ℤ◌, ◌≤ℤ◌, List, [], ◌∷◌, ◌++◌, map, length, get_or, take, fold, refl, sym, ap, ◌∙◌, subst, arith, length-append}
+use Rattle.std.proofs.Common.{◌≡◌, ℕ, zero, suc, ◌+◌, ◌<◌, ◌≤◌, min, max, ℤ, pos, ◌+ℤ◌, ◌≤ℤ◌, List, [], ◌∷◌, ◌++◌, map, length, get_or, take, fold, refl, sym, ap, ◌∙◌, arith, length-append}
 use Rattle.std.specs.List.{All, AllByRecursion, flat_map}
 use Rattle.std.specs.Int.{int_min, int_max}
 use Rattle.std.proofs.lemmas.List.{append-nil, append_assoc, map_push, map-append, length-map, get_or-map}
-use Rattle.std.proofs.lemmas.List.Elements.{All-push}
 use Rattle.std.proofs.lemmas.Int.{ints, clamps}
 use Rattle.lam_geom.specs.declared.boxes.MaskBox.{MaskBox}
-use Rattle.lam_geom.specs.Places.{IsPlace, IsPlacedBox}
 use Rattle.cif_lex.specs.declared.placement.Placement.{Placement}
 use Rattle.cif_lex.specs.Transformations.{Point, placed}
 use Rattle.cif_read.specs.Sheets.{Drawn}
-use Rattle.cif_read.specs.Files.{drawn_of, most_boxes, IsSolid, IsSolidWithin, IsWithin}
+use Rattle.cif_read.specs.Files.{drawn_of, most_boxes}
 use Rattle.cif_read.proofs.Flat.{flat_more, flat_all}
 use Rattle.cif_foreign.specs.declared.file.ForeignStep.{ForeignStep}
 use Rattle.cif_foreign.specs.declared.file.ForeignStep.TheVariants.{Own, Called}
@@ -96,26 +94,6 @@ pub adds_called : (now after : List Drawn) (place all : Placement) (boxes : List
 adds_called now after place all boxes symbol turn x y step is same e =
     e ∙ (ap (λ (zs : List Drawn). now ++ zs) (map_twice place (record { turn = turn; x = x; y = y }) all (get_or boxes symbol []) same) ∙ ap (λ (s : ForeignStep). now ++ map (placed_box place) (drawn_by boxes s)) (sym is))
 
--- ---- sizes
-
-pub solid_pushed : (now after : List MaskBox) (one : MaskBox) → after ≡ now ++ one ∷ [] → IsSolidWithin (2 ^ 55) (drawn_of one) → All (IsSolidWithin (2 ^ 55)) (map drawn_of now) → All (IsSolidWithin (2 ^ 55)) (map drawn_of after)
-solid_pushed now after one e solid all = subst (All (IsSolidWithin (2 ^ 55))) (sym (ap (map drawn_of) e ∙ map_push drawn_of now one)) (All-push (IsSolidWithin (2 ^ 55)) (map drawn_of now) (drawn_of one) all solid)
-
-is_place : (z : ℤ) → IsWithin (2 ^ 55) z → IsPlace z
-is_place z h = (omega (arith, ints, h.0), omega (arith, ints, h.1))
-
-placed_one : (box : MaskBox) → IsSolidWithin (2 ^ 55) (drawn_of box) → IsPlacedBox box.area
-placed_one box h = ((is_place box.area.x.lo h.left, is_place box.area.x.hi h.right), (is_place box.area.y.lo h.bottom, is_place box.area.y.hi h.top))
-
-solid_each : (boxes : List MaskBox) → All (IsSolidWithin (2 ^ 55)) (map drawn_of boxes) → All (λ box. IsSolidWithin (2 ^ 55) (drawn_of box)) boxes
-solid_each boxes h = λ k d lt. subst (IsSolidWithin (2 ^ 55)) (get_or-map drawn_of boxes k d (drawn_of d) lt) (h k (drawn_of d) (omega (arith, lt, length-map boxes drawn_of)))
-
-pub all_placed : (boxes : List MaskBox) → All (IsSolidWithin (2 ^ 55)) (map drawn_of boxes) → All (λ box. IsPlacedBox box.area) boxes
-all_placed boxes h = λ k d lt. placed_one (get_or boxes k d) (solid_each boxes h k d lt)
-
-pub all_solid : (boxes : List MaskBox) → All (IsSolidWithin (2 ^ 55)) (map drawn_of boxes) → All IsSolid boxes
-all_solid boxes h = λ k d lt. let one = solid_each boxes h k d lt in (one.wide, one.high)
-
 -- ---- boxes whose sides are in their order stay where they are not turned nor shifted
 
 abbrev pub IsSorted : Drawn → Type 0
@@ -150,7 +128,7 @@ all_placed_sorted : (place : Placement) (boxes : List Drawn) → AllByRecursion 
 all_placed_sorted place [] = tt
 all_placed_sorted place (box ∷ boxes) = (placed_sorted place box, all_placed_sorted place boxes)
 
-sorted_append : (a b : List Drawn) → AllByRecursion IsSorted a → AllByRecursion IsSorted b → AllByRecursion IsSorted (a ++ b)
+pub sorted_append : (a b : List Drawn) → AllByRecursion IsSorted a → AllByRecursion IsSorted b → AllByRecursion IsSorted (a ++ b)
 sorted_append [] b h k = k
 sorted_append (box ∷ a) b h k = (h.0, sorted_append a b h.1 k)
 

@@ -7,3 +7,4 @@ pub mod Commands
 pub mod Walking
 pub mod Staying
 pub mod Filling
+pub mod Stepping

@@ -1,5 +1,5 @@
 -- Boxes that are turned and shifted.
-use Rattle.std.proofs.Common.{◌≡◌, ℕ, zero, suc, ◌+◌, ◌^◌, ◌≤◌, ◌%◌, ℤ, neg_ℤ, ◌+ℤ◌, ◌<ℤ◌, int_lt, nat_lt, Bool, true, false, cond, ◌⊎◌, inl, inr, refl, sym, ap, ◌∙◌, subst, arith}
+use Rattle.std.proofs.Common.{◌≡◌, ℕ, zero, suc, ◌+◌, ◌^◌, ◌%◌, ℤ, neg_ℤ, ◌+ℤ◌, ◌<ℤ◌, int_lt, nat_lt, Bool, true, false, cond, ◌⊎◌, inl, inr, refl, sym, ap, ◌∙◌, subst, arith}
 use Rattle.std.specs.Int.{int_min, int_max}
 use Rattle.std.proofs.lemmas.Int.{ints, clamps}
 use Rattle.lam_geom.specs.declared.boxes.MaskLayer.{MaskLayer}
@@ -194,16 +194,3 @@ placed_is place box p q left right bottom top e f near solid l r b t =
     let z = corner_is place (box.right, box.top) q f near (high_near (2 ^ 50) box solid) in
     drawn_same box.layer left right bottom top _ _ _ _ l r b t
     ∙ (ap (λ (k : Point). between box.layer k (by_words q)) a ∙ ap (λ (k : Point). between box.layer (placed place (box.left, box.bottom)) k) z)
-
-within_more : (r s : ℕ) (z : ℤ) → r ≤ s → IsWithin r z → IsWithin s z
-within_more r s z le h = (omega (arith, ints, h.0), omega (arith, ints, h.1))
-
-pub solid_more : (r s : ℕ) (box : Drawn) → r ≤ s → IsSolidWithin r box → IsSolidWithin s box
-solid_more r s box le h = record {
-  left = within_more r s box.left le h.left;
-  right = within_more r s box.right le h.right;
-  bottom = within_more r s box.bottom le h.bottom;
-  top = within_more r s box.top le h.top;
-  wide = h.wide;
-  high = h.high;
-}

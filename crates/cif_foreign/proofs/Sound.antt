@@ -1,12 +1,11 @@
 -- What a reader keeps stays sound.
-use Rattle.std.proofs.Common.{◌≡◌, ℕ, unsigned_abs, FitsSigned, of_z, to_z, w64, ◌+◌, ◌<◌, ◌≤◌, ◌^◌, max, ℤ, pos, negsuc, int_lt, ◌*ℤ◌, Result, Ok, Err, OnOk, nat_le, ◌&&◌, Bool, true, false, Option, Some, None, IfSome, is_some, List, [], ◌∷◌, ◌++◌, All, map, fold, length, get_or, refl, sym, ap, ◌∙◌, subst, arith, nat_lt, ◌⊎◌, inl, inr}
+use Rattle.std.proofs.Common.{◌≡◌, ℕ, unsigned_abs, FitsSigned, of_z, to_z, w64, ◌+◌, ◌<◌, ◌≤◌, ◌^◌, max, ℤ, pos, int_lt, ◌*ℤ◌, Result, Ok, Err, OnOk, nat_le, ◌&&◌, Bool, true, false, Option, Some, None, IfSome, is_some, List, [], ◌∷◌, ◌++◌, All, map, fold, length, get_or, refl, sym, ap, ◌∙◌, subst, arith, nat_lt, ◌⊎◌, inl, inr}
 use Rattle.std.specs.Ordering.{nat_cmp}
 use Rattle.std.specs.BTreeMap.{BTreeMap, get, Updates}
 use Rattle.std.proofs.lemmas.Int.{ints, to_z-of_z}
 use Rattle.std.proofs.lemmas.List.{map_push, length_push, length-map, get_or_append_left, get_or_at, get_or_default}
 use Rattle.std.proofs.lemmas.List.Elements.{All-push, All-weaker, recursion_from_All}
 use Rattle.std.proofs.lemmas.List.Sums.{fold-append}
-use Rattle.std.proofs.lemmas.Bool.{false≢true}
 use Rattle.std.proofs.lemmas.Bool.Decides.{nat_tests}
 use Rattle.cif_lex.specs.declared.command.Command.{Command}
 use Rattle.cif_lex.specs.declared.command.Command.TheVariants.{Nothing, Define, Finish, Layer, Area, Call, Extension}
@@ -25,10 +24,12 @@ use Rattle.cif_foreign.specs.declared.state.Begun.{Begun}
 use Rattle.cif_foreign.specs.declared.state.Reading.{Reading}
 use Rattle.cif_foreign.specs.Sheets.{Step, Symbol, own, called, depth_of_step, depth_of_steps, depths_of}
 use Rattle.cif_foreign.specs.Files.{step_of, symbol_of, no_symbol, IsStepOf}
-use Rattle.cif_foreign.specs.Readings.{begun_of, symbols_of, state_of, level_from, called_depth, HasTurn, IsSoundLevel, AreSoundSymbols, IsSound}
+use Rattle.cif_foreign.specs.Readings.{begun_of, definition_of, symbols_of, state_of, level_from, called_depth, HasTurn, IsSoundLevel, AreSoundSymbols, IsSound}
 use Rattle.cif_lex.specs.Commands.{is_far}
 use Rattle.cif_lex.specs.Shifts.{is_odd}
 use Rattle.cif_read.proofs.Scales.{neither}
+use Rattle.cif_read.proofs.Beginnings.{seen_begun}
+use Rattle.cif_read.proofs.Calling.{number_same}
 use Rattle.cif_read.proofs.Sound.{places_added, known_at, place_below}
 use Rattle.lam_geom.specs.declared.boxes.MaskLayer.{MaskLayer}
 use Rattle.cif_read.specs.Files.{IsWithin}
@@ -49,20 +50,6 @@ turn_of (Area l w x y) body is = tt
 turn_of (Call n place bad is_turned divisor) body (inl is) = is.1.2.turn
 turn_of (Call n place bad is_turned divisor) body (inr is) = let e = is.0 in absurd cc
 turn_of Extension body is = tt
-
--- ---- whether a definition is open
-
-pub closed_from : (begun : Option Begun) → false ≡ is_some begun → is_some (begun_of begun) ≡ false
-closed_from None e = refl
-closed_from (Some b) e = absurd (false≢true e)
-
-pub open_from : (begun : Option Begun) → true ≡ is_some begun → is_some (begun_of begun) ≡ true
-open_from None e = absurd (false≢true (sym e))
-open_from (Some b) e = refl
-
-pub seen_begun : (begun : Option Begun) → is_some (begun_of begun) ≡ is_some begun
-seen_begun None = refl
-seen_begun (Some b) = refl
 
 -- ---- more
 
@@ -87,8 +74,8 @@ step_later m n (Called symbol turn x y) le h = (omega (arith, le, h.0), h.1, h.2
 pub level_later : (depths : List ℕ) (depth : ℕ) (d : Drawing) → IsSoundLevel depths d → IsSoundLevel (depths ++ depth ∷ []) d
 level_later depths depth d h = record {
   scale = h.scale;
-  steps = All-weaker (IsStepOf (length depths)) (IsStepOf (length (depths ++ depth ∷ []))) (λ step is. step_later (length depths) (length (depths ++ depth ∷ [])) step (omega (arith, length_push depths depth)) is) d.steps.items h.steps;
-  called = h.called ∙ depths_same (length depths) depths (depths ++ depth ∷ []) d.steps.items (recursion_from_All (IsStepOf (length depths)) d.steps.items h.steps)
+  steps = All-weaker (IsStepOf (length depths)) (IsStepOf (length (depths ++ depth ∷ []))) (λ step is. step_later (length depths) (length (depths ++ depth ∷ [])) step (omega (arith, length_push depths depth)) is) d.steps h.steps;
+  called = h.called ∙ depths_same (length depths) depths (depths ++ depth ∷ []) d.steps (recursion_from_All (IsStepOf (length depths)) d.steps h.steps)
       (λ k below. sym (get_or_append_left depths (depth ∷ []) 0 k below));
 }
 
@@ -99,12 +86,12 @@ depths_push depths steps step =
     ap (λ (ss : List Step). fold max 0 (map (depth_of_step depths) ss)) (map_push step_of steps step)
     ∙ (ap (fold max 0) (map_push (depth_of_step depths) (map step_of steps) (step_of step)) ∙ fold-append max 0 (map (depth_of_step depths) (map step_of steps)) (depth_of_step depths (step_of step) ∷ []))
 
-pub level_step : (depths : List ℕ) (d e : Drawing) (step : ForeignStep) → IsSoundLevel depths d → e.scale ≡ d.scale → e.steps.items ≡ d.steps.items ++ step ∷ [] → IsStepOf (length depths) step
+pub level_step : (depths : List ℕ) (d e : Drawing) (step : ForeignStep) → IsSoundLevel depths d → e.scale ≡ d.scale → e.steps ≡ d.steps ++ step ∷ [] → IsStepOf (length depths) step
     → e.called ≡ max d.called (depth_of_step depths (step_of step)) → IsSoundLevel depths e
 level_step depths d e step h scale steps is deepest = record {
   scale = subst IsScale (sym scale) h.scale;
-  steps = subst (All (IsStepOf (length depths))) (sym steps) (All-push (IsStepOf (length depths)) d.steps.items step h.steps is);
-  called = deepest ∙ (ap (λ (n : ℕ). max n (depth_of_step depths (step_of step))) h.called ∙ sym (ap (λ (ss : List ForeignStep). called_depth depths (map step_of ss)) steps ∙ depths_push depths d.steps.items step));
+  steps = subst (All (IsStepOf (length depths))) (sym steps) (All-push (IsStepOf (length depths)) d.steps step h.steps is);
+  called = deepest ∙ (ap (λ (n : ℕ). max n (depth_of_step depths (step_of step))) h.called ∙ sym (ap (λ (ss : List ForeignStep). called_depth depths (map step_of ss)) steps ∙ depths_push depths d.steps step));
 }
 
 -- ---- one symbol more
@@ -133,7 +120,7 @@ depths_more symbols symbol depths deepest is same =
     ∙ (ap (λ (ds : List ℕ). ds ++ (depth_of_steps ds (map step_of symbol.steps) ∷ [])) (sym is) ∙ ap (λ (d : ℕ). depths ++ (d + 1) ∷ []) (sym same))))
 
 pub symbol_added : (count : ℕ) (symbols : List ForeignSymbol) (more : List ForeignSymbol) (depths deeper : List ℕ) (symbol : ForeignSymbol) (drawing : Drawing)
-    → more ≡ symbols ++ symbol ∷ [] → deeper ≡ depths ++ (drawing.called + 1) ∷ [] → symbol.steps ≡ drawing.steps.items → IsSoundLevel depths drawing → drawing.called < 64
+    → more ≡ symbols ++ symbol ∷ [] → deeper ≡ depths ++ (drawing.called + 1) ∷ [] → symbol.steps ≡ drawing.steps → IsSoundLevel depths drawing → drawing.called < 64
     → AreSoundSymbols count symbols depths → AreSoundSymbols (count + 1) more deeper
 symbol_added count symbols more depths deeper symbol drawing e f same level shallow h =
     let steps : All (IsStepOf (length symbols)) symbol.steps =
@@ -248,7 +235,7 @@ pub deep_is : (r : Reading) (at depth : ℕ) (deep : Bool) → r.depths.items �
     → deep ≡ is_too_deep (state_of r) at
 deep_is r at depth deep told below e is =
     let zero_else : depth ≡ get_or (depths_of (symbols_of r)) at 0 = e ∙ (get_or_default r.depths.items at depth 0 below ∙ ap (λ (ds : List ℕ). get_or ds at 0) told) in
-    is ∙ (ap (λ (b : Bool). b && nat_le 64 depth) (sym (seen_begun r.begun)) ∙ ap (λ (d : ℕ). is_some (begun_of r.begun) && nat_le 64 d) zero_else)
+    is ∙ (ap (λ (b : Bool). b && nat_le 64 depth) (sym (seen_begun definition_of r.begun)) ∙ ap (λ (d : ℕ). is_some (begun_of r.begun) && nat_le 64 d) zero_else)
 
 pub stop_stays : (state : State) (answer : Result Level CifKind) (stop : Stop) → IsCauseOfStop answer stop → IsCauseOfStop (drawn_on state answer) stop
 stop_stays state answer (Refused kind) h = ap (drawn_on state) h
@@ -263,10 +250,6 @@ not_deep_after None old new depth deep e f g h = tt
 not_deep_after (Some b) old new depth deep e f g h =
     let low : depth < 64 = let t : nat_le 64 depth ≡ false = sym e ∙ f in grind (arith, nat_tests, t) in
     omega (arith, g, h, low)
-
-number_same : (n : ℤ) → int_lt n (pos 0) ≡ false → pos (unsigned_abs n) ≡ n
-number_same (pos n) h = refl
-number_same (negsuc n) h = absurd (false≢true (sym h))
 
 pub defined_by_words : (r : Reading) (n above below : ℤ) (dest top : Drawing) → FitsSigned w64 n → FitsSigned w64 above → FitsSigned w64 below → false ≡ is_bad_symbol (to_z w64 (of_z w64 n)) → false ≡ is_bad_factor (to_z w64 (of_z w64 above))
     → false ≡ is_bad_factor (to_z w64 (of_z w64 below)) → is_some (begun_of r.begun) ≡ false → is_known (pos (unsigned_abs (to_z w64 (of_z w64 n)))) (symbols_of r) ≡ false

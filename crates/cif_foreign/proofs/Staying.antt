@@ -23,6 +23,7 @@ use Rattle.cif_read.proofs.Scales.{neither, good_area, even_area, scaled_positiv
 use Rattle.cif_foreign.specs.Sheets.{Step, Symbol, Sheet, own, called, placed_box, boxes_of_step, boxes_of_steps, then_boxes}
 use Rattle.cif_foreign.specs.Acts.{State, Level, is_known, place_of, drawn_on, boxed, called_on, act, defined, finished, named, call}
 use Rattle.cif_foreign.specs.Meaning.{reader, MeaningsStay}
+use Rattle.cif_foreign.proofs.Flat.{IsSorted, sorted_append}
 
 -- ---- a state there, and here
 
@@ -46,10 +47,6 @@ lifted_by symbols steps layer (Some d) = record {
 
 abbrev lifted : flat.State → State
 lifted s = lifted_by s.symbols s.steps s.layer s.begun
-
--- the sides of a box in their order
-abbrev IsSorted : Drawn → Type 0
-IsSorted box = (box.left ≤ℤ box.right) × (box.bottom ≤ℤ box.top)
 
 abbrev AreSorted : List Drawn → Type 0
 AreSorted boxes = AllByRecursion IsSorted boxes
@@ -110,10 +107,6 @@ odd_one n = ap (λ (z : ℤ). not (int_eq z (pos 0))) (left_by_one (n *ℤ pos 1
 all_push : {X : Type 0} (P : X → Type 0) (xs : List X) (x : X) → AllByRecursion P xs → P x → AllByRecursion P (xs ++ x ∷ [])
 all_push P [] x h k = (k, tt)
 all_push P (y ∷ xs) x h k = (h.0, all_push P xs x h.1 k)
-
-sorted_append : (a b : List Drawn) → AreSorted a → AreSorted b → AreSorted (a ++ b)
-sorted_append [] b h k = k
-sorted_append (box ∷ a) b h k = (h.0, sorted_append a b h.1 k)
 
 up_own : (boxes : List Drawn) → map up_step (steps_of boxes) ≡ map own boxes
 up_own [] = refl

@@ -45,6 +45,10 @@ counts_more symbols i symbol steps counts more count lt at same are is e =
 pub valid_step : (n : ℕ) (steps : List ForeignStep) (i : ℕ) (step : ForeignStep) → All (IsStepOf n) steps → i < length steps → step ≡ get_or steps i step → IsStepOf n step
 valid_step n steps i step all lt at = subst (IsStepOf n) (sym at) (all i step lt)
 
+pub valid_as : (n : ℕ) (steps : List ForeignStep) (i : ℕ) (step seen : ForeignStep) → All (IsStepOf n) steps
+    → i < length steps → step ≡ get_or steps i step → step ≡ seen → IsStepOf n seen
+valid_as n steps i step seen all lt at is = subst (IsStepOf n) is (valid_step n steps i step all lt at)
+
 -- what is known of a symbol that is called
 pub record IsCalled (symbols : List ForeignSymbol) (steps : List ForeignStep) (symbol : ℕ) : Type 0 where
   pub below : symbol < length symbols
@@ -54,7 +58,7 @@ pub record IsCalled (symbols : List ForeignSymbol) (steps : List ForeignStep) (s
 pub is_called : (symbols : List ForeignSymbol) (steps : List ForeignStep) (i symbol turn : ℕ) (x y : ℤ) (step : ForeignStep) → AreInOrder symbols → All (IsStepOf (length symbols)) steps → i < length steps → step ≡ get_or steps i step
     → step ≡ Called symbol turn x y → IsCalled symbols steps symbol
 is_called symbols steps i symbol turn x y step order all lt at is =
-    let valid : IsStepOf (length symbols) (Called symbol turn x y) = subst (IsStepOf (length symbols)) is (valid_step (length symbols) steps i step all lt at) in
+    let valid = valid_as (length symbols) steps i step (Called symbol turn x y) all lt at is in
     let below : symbol < length symbols = valid.0 in
     let own = (get_or symbols symbol no_symbol).steps in
     let deep = depth_at symbols symbol order below in

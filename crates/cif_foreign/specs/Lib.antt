@@ -4,3 +4,4 @@ pub mod Meaning
 pub mod Files
 pub mod Readings
 pub mod Counts
+pub mod Steps

@@ -19,7 +19,7 @@ use Rattle.cif_foreign.specs.Files.{step_of, symbol_of, IsStepOf, no_symbol}
 -- ---- as a state
 
 abbrev pub level_from : Drawing → Level
-level_from d = record { above = d.scale.above; below = d.scale.below; layer = d.layer; steps = map step_of d.steps.items }
+level_from d = record { above = d.scale.above; below = d.scale.below; layer = d.layer; steps = map step_of d.steps }
 
 abbrev pub definition_of : Begun → acts.Begun
 definition_of b = record { number = pos b.number; top = level_from b.top }
@@ -47,8 +47,8 @@ called_depth depths steps = fold max 0 (map (depth_of_step depths) steps)
 -- a level whose steps are such, of so many symbols of these depths
 pub record IsSoundLevel (depths : List ℕ) (d : Drawing) : Type 0 where
   pub scale : IsScale d.scale
-  pub steps : All (IsStepOf (length depths)) d.steps.items
-  pub called : d.called ≡ called_depth depths (map step_of d.steps.items)
+  pub steps : All (IsStepOf (length depths)) d.steps
+  pub called : d.called ≡ called_depth depths (map step_of d.steps)
 
 -- at most so many symbols, of these depths, each of which calls those before it alone, and none too deep
 pub record AreSoundSymbols (count : ℕ) (symbols : List ForeignSymbol) (depths : List ℕ) : Type 0 where

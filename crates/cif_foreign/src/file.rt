@@ -1,5 +1,6 @@
 //! What a CIF text draws.
 
+use crate::steps::Steps;
 use lam_geom::MaskBox;
 use lam_list::Seq;
 
@@ -21,12 +22,12 @@ pub enum ForeignStep {
 #[derive(Debug, Drop)]
 pub struct ForeignSymbol {
     pub number: u32,
-    pub steps: Seq<ForeignStep>,
+    pub steps: Steps,
 }
 
 /// Symbols in the order of their definitions, and what stands at the top, in the order of the text.
 #[derive(Debug, Drop)]
 pub struct ForeignFile {
     pub symbols: Seq<ForeignSymbol>,
-    pub top: Seq<ForeignStep>,
+    pub top: Steps,
 }

@@ -14,6 +14,7 @@ ghost use Rattle.cif_foreign.specs.Counts.{counted, AreCounts, has_boxes, filled
 
 use crate::file::{ForeignFile, ForeignStep, ForeignSymbol};
 use crate::state::MOST_DEPTH;
+use crate::steps::Steps;
 use cif_lex::Placement;
 use cif_read::{FlatFault, MOST_BOXES};
 use lam_geom::{BoxXY, MaskBox, Span};
@@ -64,15 +65,15 @@ fn count_step(counts: &[usize], step: ForeignStep) -> usize
 }
 
 // The same for some steps.
-fn count_steps(counts: &[usize], steps: &[ForeignStep]) -> usize
+fn count_steps(counts: &[usize], steps: &Steps) -> usize
     requires steps { All (IsStepOf (length counts.now)) steps.now }
     requires few { All (λ count. count ≤ most_boxes + 1) counts.now }
     ensures value { (boxes : List (List Drawn)) → AreCounts counts.now boxes → result ≡ counted (boxes_of_steps boxes (map step_of steps.now)) }
     ensures few { result ≤ most_boxes + 1 }
 {
     let mut total = 0;
-    for step in steps {
-        total = (total + count_step(counts, *step)).min(MOST_BOXES + 1);
+    for i in 0..steps.len() {
+        total = (total + count_step(counts, steps.get(i))).min(MOST_BOXES + 1);
     }
     total
 }
@@ -87,7 +88,7 @@ fn count_symbols(alloc: Global, file: &ForeignFile) -> Result<Vec<usize>, FlatFa
 {
     let mut counts = Vec::with_capacity(alloc, file.symbols.as_slice().len())?;
     for symbol in file.symbols.as_slice() {
-        let count = count_steps(&counts, symbol.steps.as_slice());
+        let count = count_steps(&counts, &symbol.steps);
         counts.push(count)?;
     }
     Ok(counts)
@@ -105,22 +106,19 @@ fn has_boxes(counts: &[usize], step: ForeignStep) -> bool
 }
 
 // The steps that have boxes.
-fn filled_steps(
-    alloc: Global,
-    counts: &[usize],
-    steps: &[ForeignStep],
-) -> Result<Seq<ForeignStep>, FlatFault>
+fn filled_steps(alloc: Global, counts: &[usize], steps: &Steps) -> Result<Steps, FlatFault>
     requires { All (IsStepOf (length counts.now)) steps.now }
     ensures steps { IfOk result (λ filled. filled ≡ filter (has_boxes counts.now) steps.now) }
     ensures fault { IfErr result (λ fault. fault ≡ OutOfMemory) }
 {
-    let mut filled = Vec::new(alloc);
-    for step in steps {
-        if has_boxes(counts, *step) {
-            filled.push(*step)?;
+    let mut filled = Steps::new(alloc);
+    for i in 0..steps.len() {
+        let step = steps.get(i);
+        if has_boxes(counts, step) {
+            filled.push(step)?;
         }
     }
-    Ok(Seq::from_vec(filled))
+    Ok(filled)
 }
 
 // The file without the steps that have no boxes.
@@ -136,13 +134,13 @@ fn filled_file(
 {
     let mut symbols = Vec::with_capacity(alloc, file.symbols.as_slice().len())?;
     for symbol in file.symbols.as_slice() {
-        let steps = filled_steps(alloc, counts, symbol.steps.as_slice())?;
+        let steps = filled_steps(alloc, counts, &symbol.steps)?;
         symbols.push(ForeignSymbol {
             number: symbol.number,
             steps,
         })?;
     }
-    let top = filled_steps(alloc, counts, file.top.as_slice())?;
+    let top = filled_steps(alloc, counts, &file.top)?;
     Ok(ForeignFile {
         symbols: Seq::from_vec(symbols),
         top,
@@ -153,7 +151,7 @@ fn filled_file(
 fn push_steps(
     out: &mut Vec<MaskBox>,
     file: &ForeignFile,
-    steps: &[ForeignStep],
+    steps: &Steps,
     place: Placement,
     depth: u8,
 ) -> Result<(), FlatFault>
@@ -167,11 +165,12 @@ fn push_steps(
     ensures solid { OnOk result (All (IsSolidWithin (2 ^ 55)) (map drawn_of out.old.items) → All (IsSolidWithin (2 ^ 55)) (map drawn_of out.new.items)) }
     ensures fault { IfErr result (λ fault. fault ≡ OutOfMemory) }
 {
-    for step in steps {
-        match *step {
+    for i in 0..steps.len() {
+        let step = steps.get(i);
+        match step {
             ForeignStep::Own(mask) => out.push(placed(mask, place))?,
             ForeignStep::Called { symbol, turn, x, y } => {
-                let steps = file.symbols.as_slice()[symbol as usize].steps.as_slice();
+                let steps = &file.symbols.as_slice()[symbol as usize].steps;
                 let inner = place.after(Placement { turn, x, y });
                 push_steps(out, file, steps, inner, depth - 1)?;
             }
@@ -197,14 +196,14 @@ fn flatten_counted(
     ensures solid { IfOk result (λ boxes. All IsSolid boxes.items) }
     ensures too_many { IfErr result (λ fault. (fault ≡ TooMany) ↔ (most_boxes < length (flattened (sheet_of file.now)))) }
 {
-    let total = count_steps(counts, file.top.as_slice());
+    let total = count_steps(counts, &file.top);
     if total > MOST_BOXES {
         return Err(FlatFault::TooMany);
     }
     let filled = filled_file(alloc, counts, file)?;
     let mut out = Vec::with_capacity(alloc, total)?;
     let still = Placement::still();
-    push_steps(&mut out, &filled, filled.top.as_slice(), still, MOST_DEPTH)?;
+    push_steps(&mut out, &filled, &filled.top, still, MOST_DEPTH)?;
     Ok(out)
 }
 

@@ -12,8 +12,10 @@ mod flattening;
 mod laws;
 mod reading;
 mod state;
+mod steps;
 
 pub use file::{ForeignFile, ForeignStep, ForeignSymbol};
 pub use flattening::flatten_foreign;
 pub use laws::{foreign_readings_are_determined, meanings_stay};
 pub use reading::read_foreign;
+pub use steps::Steps;

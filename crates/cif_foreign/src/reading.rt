@@ -87,7 +87,7 @@ fn file_of(reading: Reading) -> ForeignFile
 {
     ForeignFile {
         symbols: Seq::from_vec(reading.symbols),
-        top: Seq::from_vec(reading.drawing.steps),
+        top: reading.drawing.steps,
     }
 }
 

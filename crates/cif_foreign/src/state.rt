@@ -10,12 +10,12 @@ ghost use Rattle.cif_foreign.specs.Acts.{start, act, empty, boxed, called_on, de
 ghost use Rattle.cif_foreign.specs.Readings.{state_of, level_from, IsSound, IsSoundLevel, HasTurn};
 
 use crate::file::{ForeignStep, ForeignSymbol};
+use crate::steps::Steps;
 use cif_lex::{Command, Placement};
 use cif_read::{
     CifKind, Scale, Stop, is_bad_area, is_bad_call, is_bad_factor, is_bad_symbol, is_odd, scaled,
 };
 use lam_geom::MaskLayer;
-use lam_list::Seq;
 use std::alloc::Global;
 use std::collections::BTreeMap;
 use std::mem;
@@ -29,7 +29,7 @@ pub const MOST_DEPTH: u8 = 64;
 pub struct Drawing {
     pub scale: Scale,
     pub layer: Option<Option<MaskLayer>>,
-    pub steps: Vec<ForeignStep>,
+    pub steps: Steps,
     pub called: u8,
 }
 
@@ -61,7 +61,7 @@ impl Drawing {
         Drawing {
             scale,
             layer: None,
-            steps: Vec::new(alloc),
+            steps: Steps::new(alloc),
             called: 0,
         }
     }
@@ -83,7 +83,9 @@ impl Drawing {
         }
         if let Some(layer) = named {
             let scaled = self.scale.scaled_box(layer, l, w, x, y);
-            self.steps.push(ForeignStep::Own(scaled))?;
+            let Ok(()) = self.steps.push(ForeignStep::Own(scaled)) else {
+                return Err(Stop::OutOfMemory);
+            };
         }
         Ok(())
     }
@@ -134,12 +136,15 @@ impl Drawing {
         }
         let x = self.in_grains(place.x);
         let y = self.in_grains(place.y);
-        self.steps.push(ForeignStep::Called {
+        let step = ForeignStep::Called {
             symbol,
             turn: place.turn,
             x,
             y,
-        })?;
+        };
+        let Ok(()) = self.steps.push(step) else {
+            return Err(Stop::OutOfMemory);
+        };
         self.called = self.called.max(depth);
         Ok(())
     }
@@ -201,7 +206,7 @@ impl Reading {
         self.depths.push(drawing.called + 1)?;
         self.symbols.push(ForeignSymbol {
             number: begun.number,
-            steps: Seq::from_vec(drawing.steps),
+            steps: drawing.steps,
         })?;
         Ok(())
     }

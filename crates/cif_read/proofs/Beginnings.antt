@@ -1,8 +1,7 @@
 -- What has been read of a text.
-use Rattle.std.proofs.Common.{◌≡◌, ℕ, ◌+◌, ◌≤◌, true, false, Option, Some, None, is_some, Result, Ok, List, [], ◌∷◌, ◌++◌, length, drop, fold, refl, sym, ap, ◌∙◌, subst, arith, length-append, length-drop}
+use Rattle.std.proofs.Common.{◌≡◌, ℕ, ◌+◌, ◌≤◌, Bool, false, Option, Some, None, is_some, option_map, Result, Ok, List, [], ◌∷◌, ◌++◌, length, drop, fold, refl, sym, ap, ◌∙◌, subst, arith, length-append, length-drop}
 use Rattle.std.specs.List.{AllZip}
 use Rattle.std.proofs.lemmas.List.{append-nil, append_assoc, drop_at}
-use Rattle.std.proofs.lemmas.Bool.{false≢true}
 use Rattle.std.proofs.lemmas.List.Concat.{flat_map-append}
 use Rattle.cif_lex.specs.declared.command.Command.{Command}
 use Rattle.cif_lex.specs.declared.command.Next.TheVariants.{Whole, Cut, End}
@@ -11,9 +10,7 @@ use Rattle.cif_lex.specs.Commands.{IsPiece, IsNext, Follows}
 use Rattle.cif_read.specs.declared.fault.CifKind.{CifKind}
 use Rattle.cif_read.specs.declared.fault.Stop.{Stop}
 use Rattle.cif_read.specs.declared.fault.Stop.TheVariants.{Refused, OutOfMemory}
-use Rattle.cif_read.specs.declared.state.Begun.{Begun}
 use Rattle.cif_read.specs.Readers.{Reader, then_act_by, acts_by, BeginsWellBy, MeansBy, joined, refused, cut_and_refused, IsCauseBy, cause_of, IsCauseOfStop}
-use Rattle.cif_read.specs.Readings.{begun_of}
 
 pub begins_none : {S D : Type 0} (reader : Reader S D) (text : List ℕ) → BeginsWellBy reader text 0 reader.start
 begins_none reader text = record { pieces = []; commands = []; spelled = tt; rest = text; cut = refl; counted = refl; done = refl }
@@ -33,13 +30,13 @@ acts_push_from : {S D : Type 0} (reader : Reader S D) (answer : Result S CifKind
 acts_push_from reader answer [] command = refl
 acts_push_from reader answer (first ∷ commands) command = acts_push_from reader (then_act_by reader answer first) commands command
 
-pub closed_from : (begun : Option Begun) → false ≡ is_some begun → is_some (begun_of begun) ≡ false
-closed_from None e = refl
-closed_from (Some b) e = absurd (false≢true e)
+-- whether a definition is open, as it is seen
+pub seen_begun : {A B : Type 0} (f : A → B) (begun : Option A) → is_some (option_map f begun) ≡ is_some begun
+seen_begun f None = refl
+seen_begun f (Some b) = refl
 
-pub open_from : (begun : Option Begun) → true ≡ is_some begun → is_some (begun_of begun) ≡ true
-open_from None e = absurd (false≢true (sym e))
-open_from (Some b) e = refl
+pub begun_from : {A B : Type 0} (f : A → B) (begun : Option A) (is_open : Bool) → is_open ≡ is_some begun → is_some (option_map f begun) ≡ is_open
+begun_from f begun is_open e = seen_begun f begun ∙ sym e
 
 pub acts_push : {S D : Type 0} (reader : Reader S D) (commands : List Command) (command : Command) (state : S) → acts_by reader commands ≡ Ok state → acts_by reader (commands ++ command ∷ []) ≡ reader.act state command
 acts_push reader commands command state e = acts_push_from reader (Ok reader.start) commands command ∙ ap (λ answer. then_act_by reader answer command) e

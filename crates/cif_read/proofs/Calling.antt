@@ -27,7 +27,7 @@ pub record IsGoodCall (n x y : ℤ) : Type 0 where
   pub x_near : IsWithin (2 ^ 30) x
   pub y_near : IsWithin (2 ^ 30) y
 
-number_same : (n : ℤ) → int_lt n (pos 0) ≡ false → pos (unsigned_abs n) ≡ n
+pub number_same : (n : ℤ) → int_lt n (pos 0) ≡ false → pos (unsigned_abs n) ≡ n
 number_same (pos n) h = refl
 number_same (negsuc n) h = absurd (false≢true (sym h))
 

@@ -1,16 +1,13 @@
 -- All boxes of a file, step by step.
-use Rattle.std.proofs.Common.{◌≡◌, ℕ, ◌+◌, ◌<◌, ◌≤◌, ◌^◌, ℤ, List, [], ◌∷◌, ◌++◌, map, length, get_or, take, drop, refl, sym, ap, ◌∙◌, subst, arith, length-append}
-use Rattle.std.specs.List.{All, flat_map}
-use Rattle.std.proofs.lemmas.List.{append-nil, append_assoc, take_more, take_all, take-append-drop, map_push, length-map, get_or-map}
-use Rattle.std.proofs.lemmas.List.Elements.{All-push, All-get_or}
+use Rattle.std.proofs.Common.{◌≡◌, ℕ, ◌+◌, ◌<◌, ◌≤◌, ℤ, List, [], ◌∷◌, ◌++◌, map, length, get_or, take, drop, refl, sym, ap, ◌∙◌, arith, length-append}
+use Rattle.std.specs.List.{flat_map}
+use Rattle.std.proofs.lemmas.List.{append-nil, append_assoc, take_more, take_all, take-append-drop, map_push}
 use Rattle.std.proofs.lemmas.List.Concat.{flat_map-append}
-use Rattle.std.proofs.lemmas.Int.{ints}
 use Rattle.lam_geom.specs.declared.boxes.MaskBox.{MaskBox}
-use Rattle.lam_geom.specs.Places.{IsPlace, IsPlacedBox}
 use Rattle.cif_read.specs.declared.file.CifFile.{CifFile}
 use Rattle.cif_read.specs.declared.file.CifStep.{CifStep}
-use Rattle.cif_read.specs.Sheets.{Drawn, moved, flattened}
-use Rattle.cif_read.specs.Files.{drawn_of, drawn_in_step, sheet_of, IsSolid, IsSolidWithin, IsWithin}
+use Rattle.cif_read.specs.Sheets.{moved, flattened}
+use Rattle.cif_read.specs.Files.{drawn_of, drawn_in_step, sheet_of}
 
 flat_map_map : {X Y Z : Type 0} (f : Y → List Z) (g : X → Y) (xs : List X) → flat_map f (map g xs) ≡ flat_map (λ x. f (g x)) xs
 flat_map_map f g [] = refl
@@ -47,36 +44,6 @@ moved_more before now after boxes x y i box one lt at e is was =
     ∙ (ap (λ zs. zs ++ drawn_of one ∷ []) was
     ∙ (ap (λ d. (map drawn_of before ++ front) ++ d ∷ []) is
     ∙ (append_assoc (map drawn_of before) front (moved x y (drawn_of box) ∷ []) ∙ ap (λ zs. map drawn_of before ++ zs) (sym later)))))
-
-pub solid_pushed : (now after : List MaskBox) (one : MaskBox) → after ≡ now ++ one ∷ [] → IsSolidWithin (2 ^ 51) (drawn_of one) → All (IsSolidWithin (2 ^ 51)) (map drawn_of now) → All (IsSolidWithin (2 ^ 51)) (map drawn_of after)
-solid_pushed now after one e solid all = subst (All (IsSolidWithin (2 ^ 51))) (sym (ap (map drawn_of) e ∙ map_push drawn_of now one)) (All-push (IsSolidWithin (2 ^ 51)) (map drawn_of now) (drawn_of one) all solid)
-
-pub solid_at : (boxes : List MaskBox) (i : ℕ) (box : MaskBox) → i < length boxes → box ≡ get_or boxes i box → All (IsSolidWithin (2 ^ 50)) (map drawn_of boxes) → IsSolidWithin (2 ^ 50) (drawn_of box)
-solid_at boxes i box lt e all =
-    let at : get_or (map drawn_of boxes) i (drawn_of box) ≡ drawn_of box = get_or-map drawn_of boxes i box (drawn_of box) lt ∙ ap drawn_of (sym e) in
-    subst (IsSolidWithin (2 ^ 50)) at (All-get_or (IsSolidWithin (2 ^ 50)) (map drawn_of boxes) i (drawn_of box) (omega (arith, length-map boxes drawn_of)) all)
-
-within_more : (z : ℤ) → IsWithin (2 ^ 50) z → IsWithin (2 ^ 51) z
-within_more z h = (omega (arith, ints), omega (arith, ints))
-
-pub solid_more : (box : Drawn) → IsSolidWithin (2 ^ 50) box → IsSolidWithin (2 ^ 51) box
-solid_more box h = record { left = within_more box.left h.left; right = within_more box.right h.right; bottom = within_more box.bottom h.bottom; top = within_more box.top h.top; wide = h.wide; high = h.high }
-
--- what a caller is told of them
-is_place : (z : ℤ) → IsWithin (2 ^ 51) z → IsPlace z
-is_place z h = (omega (arith, ints), omega (arith, ints))
-
-placed_one : (box : MaskBox) → IsSolidWithin (2 ^ 51) (drawn_of box) → IsPlacedBox box.area
-placed_one box h = ((is_place box.area.x.lo h.left, is_place box.area.x.hi h.right), (is_place box.area.y.lo h.bottom, is_place box.area.y.hi h.top))
-
-solid_each : (boxes : List MaskBox) → All (IsSolidWithin (2 ^ 51)) (map drawn_of boxes) → All (λ box. IsSolidWithin (2 ^ 51) (drawn_of box)) boxes
-solid_each boxes h = λ k d lt. subst (IsSolidWithin (2 ^ 51)) (get_or-map drawn_of boxes k d (drawn_of d) lt) (h k (drawn_of d) (omega (arith, length-map boxes drawn_of)))
-
-pub all_placed : (boxes : List MaskBox) → All (IsSolidWithin (2 ^ 51)) (map drawn_of boxes) → All (λ box. IsPlacedBox box.area) boxes
-all_placed boxes h = λ k d lt. placed_one (get_or boxes k d) (solid_each boxes h k d lt)
-
-pub all_solid : (boxes : List MaskBox) → All (IsSolidWithin (2 ^ 51)) (map drawn_of boxes) → All IsSolid boxes
-all_solid boxes h = λ k d lt. let one = solid_each boxes h k d lt in (one.wide, one.high)
 
 pub step_counted : (file : CifFile) (i n total : ℕ) (step : CifStep) → i < length file.order → step ≡ get_or file.order i step → n ≡ length (drawn_in_step file step)
     → total ≡ length (flat_map (drawn_in_step file) (take i file.order)) → total + n ≤ length (flattened (sheet_of file))

@@ -1,4 +1,5 @@
 pub mod Scales
+pub mod Solid
 pub mod Placing
 pub mod Sound
 pub mod Calling

@@ -1,13 +1,11 @@
 -- What a box adds.
-use Rattle.std.proofs.Common.{◌≡◌, ℕ, ◌+◌, ◌≤◌, ◌^◌, ℤ, false, Option, Some, Ok, List, [], ◌∷◌, ◌++◌, map, length, refl, sym, ap, ◌∙◌, subst, arith}
-use Rattle.std.specs.List.{All}
+use Rattle.std.proofs.Common.{◌≡◌, ℕ, ◌+◌, ◌≤◌, ℤ, false, Option, Some, Ok, List, [], ◌∷◌, ◌++◌, map, length, refl, ap, ◌∙◌, arith}
 use Rattle.std.proofs.lemmas.List.{map_push, length_push}
-use Rattle.std.proofs.lemmas.List.Elements.{All-push}
 use Rattle.lam_geom.specs.declared.boxes.MaskLayer.{MaskLayer}
 use Rattle.lam_geom.specs.declared.boxes.MaskBox.{MaskBox}
 use Rattle.cif_read.specs.Sheets.{Drawn, Step, own}
 use Rattle.cif_read.specs.Acts.{State, Definition, Named, placed, placed_in, is_odd_area, scaled, drawn_box}
-use Rattle.cif_read.specs.Files.{drawn_of, IsSolidWithin}
+use Rattle.cif_read.specs.Files.{drawn_of}
 
 -- in a definition
 pub placed_in_done : (state : State) (d : Definition) (named : Option Named) (layer : MaskLayer) (l w x y : ℤ) (boxes : List Drawn)
@@ -15,12 +13,6 @@ pub placed_in_done : (state : State) (d : Definition) (named : Option Named) (la
     → boxes ≡ d.boxes ++ (drawn_box layer (scaled d.above d.below l) (scaled d.above d.below w) (scaled d.above d.below x) (scaled d.above d.below y) ∷ [])
     → placed_in state d named l w x y ≡ Ok (record state { begun = Some (record d { boxes = boxes }) })
 placed_in_done state d named layer l w x y boxes e even added = rw (e, ← even, added) refl
-
--- one more box that has an inside
-pub solid_more : (before after : List MaskBox) (box : MaskBox) → after ≡ before ++ box ∷ [] → All (IsSolidWithin (2 ^ 50)) (map drawn_of before) → IsSolidWithin (2 ^ 50) (drawn_of box)
-    → All (IsSolidWithin (2 ^ 50)) (map drawn_of after)
-solid_more before after box e all one =
-    subst (All (IsSolidWithin (2 ^ 50))) (sym (ap (map drawn_of) e ∙ map_push drawn_of before box)) (All-push (IsSolidWithin (2 ^ 50)) (map drawn_of before) (drawn_of box) all one)
 
 pub count_more : {X : Type 0} (before after : List X) (x : X) (count : ℕ) → after ≡ before ++ x ∷ [] → length before ≤ count → length after ≤ count + 1
 count_more before after x count e h = omega (arith, ap length e, length_push before x)

@@ -5,7 +5,7 @@ use Rattle.std.specs.Ordering.{nat_cmp, is_eq}
 use Rattle.std.specs.BTreeMap.{BTreeMap, get, Updates}
 use Rattle.std.proofs.lemmas.Grind.{flat_map-append}
 use Rattle.std.proofs.lemmas.List.{append-nil, map_push, length_push, length-map, get_or_append_left, get_or_at}
-use Rattle.std.proofs.lemmas.List.Elements.{All-push, All-nil, All-weaker, recursion_from_All}
+use Rattle.std.proofs.lemmas.List.Elements.{All-push, All-weaker, recursion_from_All}
 use Rattle.std.proofs.lemmas.Bool.{cases_eq, false≢true}
 use Rattle.cif_read.proofs.Scales.{is_no}
 use Rattle.std.proofs.lemmas.Bool.Decides.{Decides-int_eq, nat_tests}
@@ -19,7 +19,7 @@ use Rattle.cif_read.specs.Sheets.{Symbol, Drawn, own}
 use Rattle.cif_read.specs.Acts.{is_known, place_of, has_number}
 use Rattle.cif_read.specs.Files.{drawn_of, symbol_of, step_of, no_box, places_of_step, NamesInOrder, IsSolidWithin, IsStepOf}
 use Rattle.cif_read.specs.Readings.{IsSoundBegun, AreSound, IsSound, HasPlaces, place_among}
-use Rattle.cif_read.proofs.Placing.{solid_more}
+use Rattle.cif_read.proofs.Solid.{solid_pushed}
 
 -- ---- one more
 
@@ -37,9 +37,6 @@ done_more count more symbols boxes order le h = record {
 
 pub done_later : (count : ℕ) (symbols : List CifSymbol) (boxes : List MaskBox) (order : List CifStep) → AreSound count symbols boxes order → AreSound (count + 1) symbols boxes order
 done_later count symbols boxes order h = done_more count (count + 1) symbols boxes order (omega arith) h
-
-pub none_solid : (boxes : List MaskBox) → boxes ≡ [] → All (IsSolidWithin (2 ^ 50)) (map drawn_of boxes)
-none_solid boxes e = subst (λ bs. All (IsSolidWithin (2 ^ 50)) (map drawn_of bs)) (sym e) (All-nil (IsSolidWithin (2 ^ 50)))
 
 pub none_few : (boxes : List MaskBox) (count : ℕ) → boxes ≡ [] → length boxes ≤ count
 none_few boxes count e = omega (arith, ap length e)
@@ -129,7 +126,7 @@ box_added count symbols boxes more_boxes order more_order box e f h solid =
     let longer : length more_order ≡ length order + 1 = ap length f ∙ length_push order (Own (length boxes)) in
     record {
       in_symbols = h.in_symbols;
-      at_top = solid_more boxes more_boxes box e h.at_top solid;
+      at_top = solid_pushed (2 ^ 50) boxes more_boxes box e solid h.at_top;
       steps = subst (All (IsStepOf (length symbols) (length more_boxes))) (sym f)
           (All-push (IsStepOf (length symbols) (length more_boxes)) order (Own (length boxes))
           (steps_later (length symbols) (length symbols) (length boxes) (length more_boxes) order (omega arith) (omega arith) h.steps) (omega arith));

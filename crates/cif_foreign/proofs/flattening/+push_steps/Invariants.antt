@@ -5,9 +5,9 @@ use Rattle.cif_foreign.specs.Files.{symbol_of}
 use Rattle.cif_foreign.proofs.Flat.{Adds}
 use Rattle.cif_foreign.proofs.flattening.+push_steps.Given as goal
 
-abbrev pub invariant-loop-step : goal.invariant-loop-step
-invariant-loop-step l = record {
-  boxes : Adds (map drawn_of l.initial.out.items) (map drawn_of l.out.items) l.place (boxes_of_symbols (map symbol_of l.file.symbols)) (take l.step-index l.steps);
+abbrev pub invariant-loop-i : goal.invariant-loop-i
+invariant-loop-i l = record {
+  boxes : Adds (map drawn_of l.initial.out.items) (map drawn_of l.out.items) l.place (boxes_of_symbols (map symbol_of l.file.symbols)) (take l.i l.steps);
   solid : All (IsSolidWithin (2 ^ 55)) (map drawn_of l.initial.out.items) → All (IsSolidWithin (2 ^ 55)) (map drawn_of l.out.items);
 }
 

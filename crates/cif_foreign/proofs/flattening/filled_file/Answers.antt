@@ -1,4 +1,4 @@
-use Rattle.std.proofs.Common.{◌<◌, length, get_or, ap, ◌∙◌, arith}
+use Rattle.std.proofs.Common.{◌<◌, length, get_or, refl, ap, ◌∙◌, arith}
 use Rattle.cif_foreign.proofs.Filling.{steps_there}
 use Rattle.cif_foreign.proofs.flattening.filled_file.Goals as goal
 
@@ -9,4 +9,4 @@ filled_steps-requires c =
     let symbol = c.symbol-item.result in
     let items = c.as_slice-symbol-items.ensures in
     let lt : i < length file.symbols = omega (arith, c.loop-symbol-test.true, ap length items) in
-    steps_there file.symbols i symbol c.as_slice-in-loop-symbol.result.now (length c.args.counts.now) c.requires.flat.symbols lt (c.symbol-item.is ∙ ap (λ list. get_or list i symbol) items) c.as_slice-in-loop-symbol.ensures c.requires.all
+    steps_there file.symbols i symbol symbol.steps (length c.args.counts.now) c.requires.flat.symbols lt (c.symbol-item.is ∙ ap (λ list. get_or list i symbol) items) refl c.requires.all

@@ -1,20 +1,19 @@
-use Rattle.std.proofs.Common.{◌≡◌, ◌≤◌, ◌^◌, ℕ, List, [], ◌++◌, map, length, refl, sym, ap, ◌∙◌, subst, arith}
-use Rattle.std.specs.List.{All, AllByRecursion}
+use Rattle.std.proofs.Common.{◌≡◌, ◌^◌, ℕ, List, [], ◌++◌, map, length, refl, sym, ap, ◌∙◌, subst, arith}
+use Rattle.std.specs.List.{AllByRecursion}
 use Rattle.std.proofs.lemmas.List.{length-map}
-use Rattle.std.proofs.lemmas.List.Elements.{recursion_from_All, All-nil}
+use Rattle.std.proofs.lemmas.List.Elements.{recursion_from_All}
 use Rattle.lam_geom.specs.declared.boxes.MaskBox.{MaskBox}
 use Rattle.cif_lex.specs.declared.placement.Placement.{Placement}
 use Rattle.cif_read.specs.Sheets.{Drawn}
-use Rattle.cif_read.specs.Files.{drawn_of, IsSolidWithin}
+use Rattle.cif_read.specs.Files.{drawn_of}
+use Rattle.cif_read.proofs.Solid.{none_solid, all_placed, all_solid}
 use Rattle.cif_foreign.specs.declared.file.ForeignFile.{ForeignFile}
-use Rattle.cif_foreign.specs.declared.file.ForeignStep.{ForeignStep}
-use Rattle.cif_foreign.specs.Sheets.{placed_box, boxes_of_steps, boxes_of_symbols, depths_of, flattened}
-use Rattle.cif_foreign.specs.Files.{symbol_of, step_of, sheet_of, IsStepOf, CanBeFlattened}
-use Rattle.cif_foreign.specs.Counts.{counted, filled_file}
-use Rattle.cif_foreign.specs.Readings.{called_depth}
+use Rattle.cif_foreign.specs.Sheets.{placed_box, boxes_of_symbols, depths_of, flattened}
+use Rattle.cif_foreign.specs.Files.{symbol_of, sheet_of, IsStepOf, CanBeFlattened}
+use Rattle.cif_foreign.specs.Counts.{filled_file}
 use Rattle.cif_foreign.proofs.Symbols.{length_depths}
 use Rattle.cif_foreign.proofs.Filling.{filled_flat, filled_boxes}
-use Rattle.cif_foreign.proofs.Flat.{IsSorted, still, called_within, boxes_stay, steps_sorted, all_placed, all_solid}
+use Rattle.cif_foreign.proofs.Flat.{IsSorted, still, called_within, boxes_stay, steps_sorted}
 use Rattle.cif_foreign.proofs.flattening.flatten_counted.Goals as goal
 
 flat_filled : (counts : List ℕ) (file filled : ForeignFile) → CanBeFlattened file → filled ≡ filled_file counts file → CanBeFlattened filled
@@ -27,7 +26,7 @@ pub push_steps-requires-clause-steps : goal.push_steps-requires-clause-steps
 push_steps-requires-clause-steps c =
     let filled = c.in_ok-filled.filled in
     let flat = flat_filled c.args.counts.now c.args.file.now filled c.requires.flat c.in_ok-filled.ensures.file in
-    subst (All (IsStepOf (length filled.symbols))) (sym c.as_slice-2.ensures) flat.top
+    flat.top
 
 pub push_steps-requires-clause-deep : goal.push_steps-requires-clause-deep
 push_steps-requires-clause-deep c =
@@ -35,8 +34,7 @@ push_steps-requires-clause-deep c =
     let flat = flat_filled c.args.counts.now c.args.file.now filled c.requires.flat c.in_ok-filled.ensures.file in
     let depths = depths_of (map symbol_of filled.symbols) in
     let n = length filled.symbols in
-    subst (λ (steps : List ForeignStep). called_depth depths (map step_of steps) ≤ 64) (sym c.as_slice-2.ensures)
-    (called_within 64 n depths filled.top flat.shallow (length_depths filled.symbols) (recursion_from_All (IsStepOf n) filled.top flat.top))
+    called_within 64 n depths filled.top flat.shallow (length_depths filled.symbols) (recursion_from_All (IsStepOf n) filled.top flat.top)
 
 nothing_first : (before now boxes : List Drawn) (out : List MaskBox) (place : Placement) → out ≡ [] → before ≡ map drawn_of out → place ≡ still → AllByRecursion IsSorted boxes → now ≡ before ++ map (placed_box place) boxes → now ≡ boxes
 nothing_first before now boxes out place none is e sorted added =
@@ -53,7 +51,7 @@ returns-clause-boxes c =
     let boxes = boxes_of_symbols (map symbol_of filled.symbols) in
     let sorted = steps_sorted n boxes filled.top (recursion_from_All (IsStepOf n) filled.top flat.top) in
     nothing_first (map drawn_of c.in_ok-out.out.items) (map drawn_of c.push_steps.new.out.items) (flattened (sheet_of filled)) c.in_ok-out.out.items c.still-still.result c.in_ok-out.ensures.items refl c.still-still.ensures sorted
-    (c.in_ok-push_steps.ensures.boxes ∙ ap (λ (ss : List ForeignStep). map drawn_of c.in_ok-out.out.items ++ map (placed_box c.still-still.result) (boxes_of_steps boxes (map step_of ss))) c.as_slice-2.ensures)
+    c.in_ok-push_steps.ensures.boxes
     ∙ (ap (λ (f : ForeignFile). flattened (sheet_of f)) is ∙ filled_boxes counts file c.requires.flat c.requires.counted c.requires.all)
 
 pub returns-clause-few : goal.returns-clause-few
@@ -62,14 +60,11 @@ returns-clause-few c =
     let all = boxes_of_symbols (map symbol_of file.symbols) in
     let boxes : map drawn_of c.push_steps.new.out.items ≡ flattened (sheet_of file) = returns-clause-boxes c in
     let same : length c.push_steps.new.out.items ≡ length (flattened (sheet_of file)) = sym (length-map c.push_steps.new.out.items drawn_of) ∙ ap length boxes in
-    let total = c.count_steps-total.ensures.value all c.requires.counted ∙ ap (λ (ss : List ForeignStep). counted (boxes_of_steps all (map step_of ss))) c.as_slice.ensures in
+    let total = c.count_steps-total.ensures.value all c.requires.counted in
     omega (arith, same, total, c.if-total-gt-MOST_BOXES.false)
 
-none_solid : (out : List MaskBox) → out ≡ [] → All (IsSolidWithin (2 ^ 55)) (map drawn_of out)
-none_solid out e = subst (λ (bs : List MaskBox). All (IsSolidWithin (2 ^ 55)) (map drawn_of bs)) (sym e) (All-nil (IsSolidWithin (2 ^ 55)))
-
 pub returns-clause-placed : goal.returns-clause-placed
-returns-clause-placed c = all_placed c.push_steps.new.out.items (c.in_ok-push_steps.ensures.solid (none_solid c.in_ok-out.out.items c.in_ok-out.ensures.items))
+returns-clause-placed c = all_placed (2 ^ 55) c.push_steps.new.out.items (omega arith) (c.in_ok-push_steps.ensures.solid (none_solid (2 ^ 55) c.in_ok-out.out.items c.in_ok-out.ensures.items))
 
 pub returns-clause-solid : goal.returns-clause-solid
-returns-clause-solid c = all_solid c.push_steps.new.out.items (c.in_ok-push_steps.ensures.solid (none_solid c.in_ok-out.out.items c.in_ok-out.ensures.items))
+returns-clause-solid c = all_solid (2 ^ 55) c.push_steps.new.out.items (c.in_ok-push_steps.ensures.solid (none_solid (2 ^ 55) c.in_ok-out.out.items c.in_ok-out.ensures.items))

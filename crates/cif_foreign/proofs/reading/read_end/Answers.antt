@@ -1,17 +1,16 @@
-use Rattle.std.proofs.Common.{◌+◌, ◌≤◌, length, sym, subst, arith}
+use Rattle.std.proofs.Common.{◌+◌, ◌≤◌, true, false, length, sym, subst, arith}
 use Rattle.cif_read.specs.Readers.{end_inside, filled, unclosed}
 use Rattle.cif_foreign.specs.Meaning.{reader}
 use Rattle.cif_foreign.specs.Files.{IsCauseOf}
-use Rattle.cif_foreign.specs.Readings.{state_of}
-use Rattle.cif_read.proofs.Beginnings.{begin_within, means_whole}
-use Rattle.cif_foreign.proofs.Sound.{closed_from, open_from}
+use Rattle.cif_foreign.specs.Readings.{state_of, definition_of}
+use Rattle.cif_read.proofs.Beginnings.{begin_within, begun_from, means_whole}
 use Rattle.cif_foreign.proofs.reading.read_end.Goals as goal
 
 pub returns-then-is_some-clause-fault : goal.returns-then-is_some-clause-fault
 returns-then-is_some-clause-fault c =
     let r = c.args.reading.now in
     let so_far = c.requires.so_far in
-    let begun = open_from r.begun c.if-is_some.ensures in
+    let begun = begun_from definition_of r.begun true c.if-is_some.ensures in
     subst (IsCauseOf c.args.bytes.now) (sym c.fault_at.ensures)
     (record { read = so_far.read; state = state_of r; well = so_far.reading.well; is_fault = end_inside c.args.begin so_far.ended begun })
 
@@ -25,18 +24,18 @@ pub returns-in-Clean-clause-means : goal.returns-in-Clean-clause-means
 returns-in-Clean-clause-means c =
     let r = c.args.reading.now in
     let so_far = c.requires.so_far in
-    means_whole reader c.args.bytes.now so_far.read c.args.begin (state_of r) so_far.reading.well so_far.ended c.in-Clean.ensures (closed_from r.begun c.if-is_some.ensures)
+    means_whole reader c.args.bytes.now so_far.read c.args.begin (state_of r) so_far.reading.well so_far.ended c.in-Clean.ensures (begun_from definition_of r.begun false c.if-is_some.ensures)
 
 pub returns-in-Filled-clause-fault : goal.returns-in-Filled-clause-fault
 returns-in-Filled-clause-fault c =
     let r = c.args.reading.now in
     let so_far = c.requires.so_far in
     subst (IsCauseOf c.args.bytes.now) (sym c.fault_at-in-Filled.ensures)
-    (record { read = so_far.read; state = state_of r; well = so_far.reading.well; is_fault = filled c.args.begin c.in-Filled.begin so_far.ended (closed_from r.begun c.if-is_some.ensures) c.in-Filled.ensures })
+    (record { read = so_far.read; state = state_of r; well = so_far.reading.well; is_fault = filled c.args.begin c.in-Filled.begin so_far.ended (begun_from definition_of r.begun false c.if-is_some.ensures) c.in-Filled.ensures })
 
 pub returns-in-Unclosed-clause-fault : goal.returns-in-Unclosed-clause-fault
 returns-in-Unclosed-clause-fault c =
     let r = c.args.reading.now in
     let so_far = c.requires.so_far in
     subst (IsCauseOf c.args.bytes.now) (sym c.fault_at-in-Unclosed.ensures)
-    (record { read = so_far.read; state = state_of r; well = so_far.reading.well; is_fault = unclosed c.args.begin so_far.ended (closed_from r.begun c.if-is_some.ensures) c.in-Unclosed.ensures })
+    (record { read = so_far.read; state = state_of r; well = so_far.reading.well; is_fault = unclosed c.args.begin so_far.ended (begun_from definition_of r.begun false c.if-is_some.ensures) c.in-Unclosed.ensures })

@@ -1,8 +1,9 @@
-use Rattle.std.proofs.Common.{◌≡◌, ◌∙◌, map, length, sym, ap, arith}
+use Rattle.std.proofs.Common.{◌≡◌, ◌^◌, ◌∙◌, map, length, sym, ap, arith}
 use Rattle.std.proofs.lemmas.List.{length-map}
 use Rattle.cif_read.specs.Sheets.{flattened}
 use Rattle.cif_read.specs.Files.{drawn_of, drawn_in_step, sheet_of}
-use Rattle.cif_read.proofs.Flat.{flattened_is, flat_all, all_placed, all_solid}
+use Rattle.cif_read.proofs.Flat.{flattened_is, flat_all}
+use Rattle.cif_read.proofs.Solid.{all_placed, all_solid}
 use Rattle.cif_read.proofs.flattening.flatten.Goals as goal
 
 pub returns-clause-boxes : goal.returns-clause-boxes
@@ -19,7 +20,7 @@ returns-clause-few c =
     omega (arith, c.in-Some.ensures.count)
 
 pub returns-clause-placed : goal.returns-clause-placed
-returns-clause-placed c = all_placed c.loop-step.out.items c.loop-step.invariant.solid
+returns-clause-placed c = all_placed (2 ^ 51) c.loop-step.out.items (omega arith) c.loop-step.invariant.solid
 
 pub returns-clause-solid : goal.returns-clause-solid
-returns-clause-solid c = all_solid c.loop-step.out.items c.loop-step.invariant.solid
+returns-clause-solid c = all_solid (2 ^ 51) c.loop-step.out.items c.loop-step.invariant.solid

@@ -1,11 +1,12 @@
-use Rattle.std.proofs.Common.{◌+◌, unsigned_abs, of_z, to_z, w64, map, sym, ap, ◌∙◌, subst, arith}
+use Rattle.std.proofs.Common.{◌+◌, false, unsigned_abs, of_z, to_z, w64, map, sym, ap, ◌∙◌, subst, arith}
 use Rattle.cif_read.specs.Scales.{IsScale}
 use Rattle.cif_read.proofs.Scales.{factor_from}
 use Rattle.cif_read.proofs.Sound.{fresh_from}
+use Rattle.cif_read.proofs.Beginnings.{begun_from}
 use Rattle.cif_foreign.specs.declared.state.Drawing.{Drawing}
 use Rattle.cif_foreign.specs.Acts.{numbered}
-use Rattle.cif_foreign.specs.Readings.{level_from, symbols_of, IsSoundLevel}
-use Rattle.cif_foreign.proofs.Sound.{defined_by_words, closed_from, symbols_more}
+use Rattle.cif_foreign.specs.Readings.{level_from, definition_of, symbols_of, IsSoundLevel}
+use Rattle.cif_foreign.proofs.Sound.{defined_by_words, symbols_more}
 use Rattle.cif_foreign.proofs.state.Reading.define.Goals as goal
 
 pub returns-clause-done : goal.returns-clause-done
@@ -14,7 +15,7 @@ returns-clause-done c =
     let r = a.self.now in
     let fresh = fresh_from r.places (map numbered (symbols_of r)) (unsigned_abs (to_z w64 (of_z w64 a.number))) c.requires.sound.places c.if-contains_key.ensures in
     defined_by_words r a.number a.above a.below c.replace-top.new.dest c.replace-top.result c.ranges.number c.ranges.above c.ranges.below c.if-is_bad_symbol.ensures c.if-is_bad_factor.ensures c.if-is_bad_factor-2.ensures
-    (closed_from r.begun c.if-is_some.ensures) fresh (ap level_from c.replace-top.ensures.after ∙ c.new.ensures.value) c.replace-top.ensures.value
+    (begun_from definition_of r.begun false c.if-is_some.ensures) fresh (ap level_from c.replace-top.ensures.after ∙ c.new.ensures.value) c.replace-top.ensures.value
 
 pub returns-clause-sound : goal.returns-clause-sound
 returns-clause-sound c =

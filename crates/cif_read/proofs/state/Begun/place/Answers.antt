@@ -1,8 +1,9 @@
-use Rattle.std.proofs.Common.{◌∙◌, Some, ap, arith}
+use Rattle.std.proofs.Common.{◌^◌, ◌∙◌, Some, ap, arith}
 use Rattle.cif_read.specs.Acts.{is_odd_area, drawn_box, scaled}
 use Rattle.cif_read.specs.Readings.{definition_of}
 use Rattle.cif_read.proofs.Scales.{seen_all}
-use Rattle.cif_read.proofs.Placing.{placed_in_done, drawn_more, solid_more, count_more}
+use Rattle.cif_read.proofs.Placing.{placed_in_done, drawn_more, count_more}
+use Rattle.cif_read.proofs.Solid.{solid_pushed}
 use Rattle.cif_read.proofs.state.Begun.place.Goals as goal
 
 pub returns-in_ok-push-clause-done : goal.returns-in_ok-push-clause-done
@@ -20,7 +21,7 @@ pub returns-in_ok-push-clause-sound : goal.returns-in_ok-push-clause-sound
 returns-in_ok-push-clause-sound c =
     let b = c.args.self.now in
     let items = c.in_ok-push.ensures.items in
-    λ count h. record { scale = h.scale; boxes = solid_more b.boxes.items _ c.scaled_box-scaled.result items h.boxes c.scaled_box-scaled.ensures.solid; few = count_more b.boxes.items _ c.scaled_box-scaled.result count items h.few }
+    λ count h. record { scale = h.scale; boxes = solid_pushed (2 ^ 50) b.boxes.items _ c.scaled_box-scaled.result items c.scaled_box-scaled.ensures.solid h.boxes; few = count_more b.boxes.items _ c.scaled_box-scaled.result count items h.few }
 
 pub returns-in_default-named-clause-sound : goal.returns-in_default-named-clause-sound
 returns-in_default-named-clause-sound c = λ count h. record { scale = h.scale; boxes = h.boxes; few = omega arith }
