@@ -1,4 +1,5 @@
-//! Trees of spots from which what has been visited is left out: as a search goes on, ever fewer groups are walked through.
+//! Trees of spots from which what has been visited is left out: as a search goes on, ever fewer groups are walked
+//! through.
 ghost use Rattle.std.specs.Prelude.{◌≡◌, ◌+◌, ◌<◌, ◌≤◌, ◌<ℤ◌, [], IfOk, IsTrue, OnOk, length};
 ghost use Rattle.lam_geom.specs.Gaps.{gap_of};
 ghost use Rattle.lam_geom.specs.Places.{IsPlacedSpan};
@@ -15,15 +16,16 @@ use crate::tree::{BoxTree, Plan};
 use lam_geom::Span;
 use std::alloc::{AllocError, Global};
 
-/// A tree of spots, and of each group whether it is known that all its spots have been visited. Which have been is told by marks: a
-/// spot has been visited if its tag has a mark.
+/// A tree of spots, and of each group whether it is known that all its spots have been visited. Which have been is told by
+/// marks: a spot has been visited if its tag has a mark.
 #[derive(Debug, Drop)]
 pub struct Grove {
     pub plan: Plan,
     pub spent: Vec<bool>,
 }
 
-/// A grove of a tree, of which nothing has been visited. Nothing of the tree is copied. The only refusal is want of memory.
+/// A grove of a tree, of which nothing has been visited. Nothing of the tree is copied. The only refusal is want of
+/// memory.
 pub fn new_grove(alloc: Global, tree: BoxTree) -> Result<Grove, AllocError>
     ensures { IfOk result (IsNewGrove tree) }
 {
@@ -33,8 +35,8 @@ pub fn new_grove(alloc: Global, tree: BoxTree) -> Result<Grove, AllocError>
 }
 
 impl Grove {
-    /// The tags without a mark of spots that hold a query, in place of what was in `found`. Groups of which all spots have been visited
-    /// are left out. The only refusal is want of memory.
+    /// The tags without a mark of spots that hold a query, in place of what was in `found`. Groups of which all spots have
+    /// been visited are left out. The only refusal is want of memory.
     pub fn unvisited(
         &mut self,
         marks: &[Option<u32>],

@@ -1,9 +1,9 @@
 //! Whether a box with a property lies among some boxes: a tree over a list of spots, which are areas with an owner and a tag.
 //!
 //! What the layer above uses: `find` gives the number of some spot that holds a query, or finds that there is none, without a
-//! list of all that lie near; `all` gives that list. A `Grove` is a tree of which what has been visited is left out. A group of spots is left out as a whole where its bounds show that none of
-//! them holds the query, so that heaps of equal boxes cost `find` no more than one of them. How the spots are ordered matters
-//! for time alone.
+//! list of all that lie near; `all` gives that list. A `Grove` is a tree from which what has been visited is left out. A group
+//! of spots is left out as a whole where its bounds show that none of them holds the query, so that heaps of equal boxes cost
+//! `find` no more than one of them. How the spots are ordered matters for time alone.
 #![tactic(auto)]
 
 mod bounds;
