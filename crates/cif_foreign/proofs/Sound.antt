@@ -1,7 +1,7 @@
 -- What a reader keeps stays sound.
 use Rattle.std.proofs.Common.{◌≡◌, ℕ, unsigned_abs, FitsSigned, of_z, to_z, w64, ◌+◌, ◌<◌, ◌≤◌, ◌^◌, max, ℤ, pos, int_lt, ◌*ℤ◌, Result, Ok, Err, OnOk, nat_le, ◌&&◌, Bool, true, false, Option, Some, None, IfSome, is_some, List, [], ◌∷◌, ◌++◌, All, map, fold, length, get_or, refl, sym, ap, ◌∙◌, subst, arith, nat_lt, ◌⊎◌, inl, inr}
 use Rattle.std.specs.Ordering.{nat_cmp}
-use Rattle.std.specs.BTreeMap.{BTreeMap, get, Updates}
+use Rattle.std.specs.BTreeMap.{BTreeMap, Updates}
 use Rattle.std.proofs.lemmas.Int.{ints, to_z-of_z}
 use Rattle.std.proofs.lemmas.List.{map_push, length_push, length-map, get_or_append_left, get_or_at, get_or_default}
 use Rattle.std.proofs.lemmas.List.Elements.{All-push, All-weaker, recursion_from_All}
@@ -30,7 +30,7 @@ use Rattle.cif_lex.specs.Shifts.{is_odd}
 use Rattle.cif_read.proofs.Scales.{neither}
 use Rattle.cif_read.proofs.Beginnings.{seen_begun}
 use Rattle.cif_read.proofs.Calling.{number_same}
-use Rattle.cif_read.proofs.Sound.{places_added, known_at, place_below}
+use Rattle.cif_read.proofs.Sound.{places_added}
 use Rattle.lam_geom.specs.declared.boxes.MaskLayer.{MaskLayer}
 use Rattle.cif_read.specs.Files.{IsWithin}
 use Rattle.cif_lex.specs.declared.placement.Placement.{Placement}
@@ -140,7 +140,7 @@ symbol_added count symbols more depths deeper symbol drawing e f same level shal
 numbers_push : (symbols : List ForeignSymbol) (symbol : ForeignSymbol) → map numbered (map symbol_of (symbols ++ symbol ∷ [])) ≡ map numbered (map symbol_of symbols) ++ numbered (symbol_of symbol) ∷ []
 numbers_push symbols symbol = ap (map numbered) (map_push symbol_of symbols symbol) ∙ map_push numbered (map symbol_of symbols) (symbol_of symbol)
 
-numbers_length : (symbols : List ForeignSymbol) → length (map numbered (map symbol_of symbols)) ≡ length symbols
+pub numbers_length : (symbols : List ForeignSymbol) → length (map numbered (map symbol_of symbols)) ≡ length symbols
 numbers_length symbols = length-map (map symbol_of symbols) numbered ∙ length-map symbols symbol_of
 
 pub places_pushed : (places after : BTreeMap ℕ ℕ) (symbols more : List ForeignSymbol) (symbol : ForeignSymbol) (value : ℕ) → more ≡ symbols ++ symbol ∷ [] → value ≡ length symbols
@@ -150,24 +150,6 @@ places_pushed places after symbols more symbol value e same h fresh updates =
     let place : value ≡ length (map numbered (map symbol_of symbols)) = same ∙ sym (numbers_length symbols) in
     subst (HasPlaces after) (sym (ap (λ (ss : List ForeignSymbol). map numbered (map symbol_of ss)) e ∙ numbers_push symbols symbol))
     (places_added places after (map numbered (map symbol_of symbols)) (numbered (symbol_of symbol)) symbol.number h fresh refl (subst (λ v. Updates nat_cmp places after symbol.number (Some v)) place updates))
-
--- the symbol that a call finds
-pub record IsFound (n : ℤ) (symbols : List ForeignSymbol) (at : ℕ) : Type 0 where
-  pub known : is_known n (map symbol_of symbols) ≡ true
-  pub place : place_of n (map symbol_of symbols) ≡ at
-  pub below : at < length symbols
-
-found_is : (places : BTreeMap ℕ ℕ) (symbols : List ForeignSymbol) (m at : ℕ) → HasPlaces places (map numbered (map symbol_of symbols)) → get nat_cmp places m ≡ Some at → IsFound (pos m) symbols at
-found_is places symbols m at h e =
-    let all = map numbered (map symbol_of symbols) in
-    let found = known_at places all m at h e in
-    record { known = found.0; place = found.1; below = omega (arith, place_below (pos m) all found.0, found.1, numbers_length symbols) }
-
-pub found : (places : BTreeMap ℕ ℕ) (symbols : List ForeignSymbol) (n : ℤ) (at : ℕ) → FitsSigned w64 n → pos (unsigned_abs n) ≡ n → HasPlaces places (map numbered (map symbol_of symbols))
-    → get nat_cmp places (unsigned_abs (to_z w64 (of_z w64 n))) ≡ Some at → IsFound n symbols at
-found places symbols n at fits number h e =
-    let same : pos (unsigned_abs (to_z w64 (of_z w64 n))) ≡ n = ap (λ z. pos (unsigned_abs z)) (to_z-of_z w64 n fits) ∙ number in
-    subst (λ z. IsFound z symbols at) same (found_is places symbols (unsigned_abs (to_z w64 (of_z w64 n))) at h e)
 
 -- ---- what a level gains
 

@@ -2,7 +2,7 @@
 use Rattle.std.proofs.Common.{◌≡◌, ℕ, ◌<◌, ◌^◌, ℤ, pos, negsuc, ◌*ℤ◌, Bool, true, false, ◌||◌, int_lt, unsigned_abs, FitsSigned, of_z, to_z, w64, Option, Some, None, is_some, Result, Ok, Err, OnOk, IfErr, List, [], ◌∷◌, ◌++◌, map, length, refl, sym, ap, ◌∙◌, subst, arith}
 use Rattle.std.specs.Ordering.{nat_cmp}
 use Rattle.std.specs.BTreeMap.{BTreeMap, get}
-use Rattle.std.proofs.lemmas.List.{map_push, length-map}
+use Rattle.std.proofs.lemmas.List.{map_push}
 use Rattle.std.proofs.lemmas.Int.{ints, to_z-of_z, fits_signed_mul}
 use Rattle.std.proofs.lemmas.Bool.{false≢true}
 use Rattle.cif_lex.specs.declared.command.Command.TheVariants.{Area}
@@ -10,12 +10,11 @@ use Rattle.cif_lex.specs.Commands.{is_far}
 use Rattle.lam_geom.specs.declared.boxes.MaskBox.{MaskBox}
 use Rattle.cif_read.specs.declared.fault.CifKind.TheVariants.{BadNumber}
 use Rattle.cif_read.specs.declared.state.Begun.{Begun}
-use Rattle.cif_read.specs.declared.file.CifSymbol.{CifSymbol}
 use Rattle.cif_read.specs.declared.file.CifStep.{CifStep}
 use Rattle.cif_read.specs.declared.file.CifStep.TheVariants.{Called}
-use Rattle.cif_read.specs.Sheets.{Step, called}
+use Rattle.cif_read.specs.Sheets.{Symbol, Step, called}
 use Rattle.cif_read.specs.Acts.{State, Definition, act, placed, placed_in, called_at, is_bad_symbol, is_bad_area, is_bad_call, is_known, place_of}
-use Rattle.cif_read.specs.Files.{symbol_of, step_of, IsWithin}
+use Rattle.cif_read.specs.Files.{step_of, IsWithin}
 use Rattle.cif_read.specs.Readings.{HasPlaces, begun_of}
 use Rattle.cif_read.proofs.Scales.{neither, near_from, distance}
 use Rattle.cif_read.proofs.Sound.{known_at, place_below}
@@ -53,21 +52,24 @@ seen_call n x y far fn fx fy = rw (to_z-of_z w64 n fn, to_z-of_z w64 x fx, to_z-
 
 -- ---- the symbol
 
-pub record IsPlaceOf (n : ℤ) (symbols : List CifSymbol) (at : ℕ) : Type 0 where
-  pub known : is_known n (map symbol_of symbols) ≡ true
-  pub place : place_of n (map symbol_of symbols) ≡ at
+pub record IsPlaceOf (n : ℤ) (symbols : List Symbol) (at : ℕ) : Type 0 where
+  pub known : is_known n symbols ≡ true
+  pub place : place_of n symbols ≡ at
   pub below : at < length symbols
 
-place_is : (places : BTreeMap ℕ ℕ) (symbols : List CifSymbol) (m at : ℕ) → HasPlaces places (map symbol_of symbols) → get nat_cmp places m ≡ Some at → IsPlaceOf (pos m) symbols at
+place_is : (places : BTreeMap ℕ ℕ) (symbols : List Symbol) (m at : ℕ) → HasPlaces places symbols
+    → get nat_cmp places m ≡ Some at → IsPlaceOf (pos m) symbols at
 place_is places symbols m at h e =
-    let found = known_at places (map symbol_of symbols) m at h e in
-    record { known = found.0; place = found.1; below = omega (arith, place_below (pos m) (map symbol_of symbols) found.0, found.1, length-map symbols symbol_of) }
+    let found = known_at places symbols m at h e in
+    record { known = found.0; place = found.1; below = omega (arith, place_below (pos m) symbols found.0, found.1) }
 
-pub place_found : (places : BTreeMap ℕ ℕ) (symbols : List CifSymbol) (n : ℤ) (at : ℕ) → FitsSigned w64 n → pos (unsigned_abs n) ≡ n → HasPlaces places (map symbol_of symbols)
+pub place_found : (places : BTreeMap ℕ ℕ) (symbols : List Symbol) (n : ℤ) (at : ℕ) → FitsSigned w64 n
+    → pos (unsigned_abs n) ≡ n → HasPlaces places symbols
     → get nat_cmp places (unsigned_abs (to_z w64 (of_z w64 n))) ≡ Some at → IsPlaceOf n symbols at
 place_found places symbols n at fits number h e =
-    let same : pos (unsigned_abs (to_z w64 (of_z w64 n))) ≡ n = ap (λ z. pos (unsigned_abs z)) (to_z-of_z w64 n fits) ∙ number in
-    subst (λ z. IsPlaceOf z symbols at) same (place_is places symbols (unsigned_abs (to_z w64 (of_z w64 n))) at h e)
+    let same = ap (λ z. pos (unsigned_abs z)) (to_z-of_z w64 n fits) ∙ number in
+    let word = unsigned_abs (to_z w64 (of_z w64 n)) in
+    subst (λ z. IsPlaceOf z symbols at) same (place_is places symbols word at h e)
 
 pub called_done : (state : State) (n x y : ℤ) (far : Bool) (at : ℕ) (steps : List Step) → false ≡ is_some state.begun → is_bad_call n x y far ≡ false
     → is_known n state.symbols ≡ true → place_of n state.symbols ≡ at → steps ≡ state.steps ++ called at (pos 2 *ℤ x) (pos 2 *ℤ y) ∷ []

@@ -1,10 +1,10 @@
-use Rattle.std.proofs.Common.{◌+◌, ◌<◌, length, Bool, FitsSigned, w64, sym, ap, ◌∙◌, subst, arith, rules}
+use Rattle.std.proofs.Common.{◌+◌, ◌<◌, map, length, Bool, FitsSigned, w64, sym, ap, ◌∙◌, subst, arith, rules}
 use Rattle.std.proofs.lemmas.List.{get_or_default}
-use Rattle.cif_read.proofs.Calling.{good_call, seen_call, ok_weaker, err_weaker}
+use Rattle.cif_read.proofs.Calling.{good_call, seen_call, place_found, ok_weaker, err_weaker}
 use Rattle.cif_read.specs.Readers.{IsCauseOfStop}
-use Rattle.cif_foreign.specs.Acts.{called_on, drawn_on}
-use Rattle.cif_foreign.specs.Readings.{state_of, level_from}
-use Rattle.cif_foreign.proofs.Sound.{found, call_found, deep_is, stop_stays, ok_both, not_deep_after, symbols_more}
+use Rattle.cif_foreign.specs.Acts.{numbered, called_on, drawn_on}
+use Rattle.cif_foreign.specs.Readings.{state_of, symbols_of, level_from}
+use Rattle.cif_foreign.proofs.Sound.{numbers_length, call_found, deep_is, stop_stays, ok_both, not_deep_after, symbols_more}
 use Rattle.cif_foreign.proofs.state.Reading.call.Goals as goal
 
 pub index-depth-requires : goal.index-depth-requires
@@ -15,8 +15,8 @@ index-depth-requires c =
     let y : FitsSigned w64 a.place.y = search rules in
     let bad = sym (c.if-is_bad_call.ensures ∙ seen_call a.number a.place.x a.place.y a.bad c.ranges.number x y) in
     let good = good_call a.number a.place.x a.place.y a.bad bad in
-    let it = found r.places r.symbols.items a.number c.in-Some.symbol c.ranges.number good.number c.requires.sound.places (sym (c.in-Some.ensures ∙ c.get.ensures.value)) in
-    omega (arith, it.below, c.requires.sound.symbols.counted)
+    let it = place_found r.places (map numbered (symbols_of r)) a.number c.in-Some.symbol c.ranges.number good.number c.requires.sound.places (sym (c.in-Some.ensures ∙ c.get.ensures.value)) in
+    omega (arith, it.below, numbers_length r.symbols.items, c.requires.sound.symbols.counted)
 
 pub returns-clause-done : goal.returns-clause-done
 returns-clause-done c =
@@ -26,8 +26,8 @@ returns-clause-done c =
     let y : FitsSigned w64 a.place.y = search rules in
     let bad = sym (c.if-is_bad_call.ensures ∙ seen_call a.number a.place.x a.place.y a.bad c.ranges.number x y) in
     let good = good_call a.number a.place.x a.place.y a.bad bad in
-    let it = found r.places r.symbols.items a.number c.in-Some.symbol c.ranges.number good.number c.requires.sound.places (sym (c.in-Some.ensures ∙ c.get.ensures.value)) in
-    let deep = deep_is r c.in-Some.symbol c.index-depth.result.now c.is_too_deep-too_deep.result c.requires.sound.symbols.told (omega (arith, it.below, c.requires.sound.symbols.counted)) c.index-depth.ensures c.is_too_deep-too_deep.ensures in
+    let it = place_found r.places (map numbered (symbols_of r)) a.number c.in-Some.symbol c.ranges.number good.number c.requires.sound.places (sym (c.in-Some.ensures ∙ c.get.ensures.value)) in
+    let deep = deep_is r c.in-Some.symbol c.index-depth.result.now c.is_too_deep-too_deep.result c.requires.sound.symbols.told (omega (arith, it.below, numbers_length r.symbols.items, c.requires.sound.symbols.counted)) c.index-depth.ensures c.is_too_deep-too_deep.ensures in
     let same = call_found (state_of r) a.number a.place a.bad a.divisor c.in-Some.symbol bad it.known it.place in
     ok_weaker c.call.result _ _
     (λ done. same ∙ (ap (λ (t : Bool). drawn_on (state_of r) (called_on (level_from r.drawing) a.divisor t c.in-Some.symbol a.place)) (sym deep) ∙ ap (drawn_on (state_of r)) done)) c.call.ensures.done
@@ -40,8 +40,8 @@ returns-clause-refused c =
     let y : FitsSigned w64 a.place.y = search rules in
     let bad = sym (c.if-is_bad_call.ensures ∙ seen_call a.number a.place.x a.place.y a.bad c.ranges.number x y) in
     let good = good_call a.number a.place.x a.place.y a.bad bad in
-    let it = found r.places r.symbols.items a.number c.in-Some.symbol c.ranges.number good.number c.requires.sound.places (sym (c.in-Some.ensures ∙ c.get.ensures.value)) in
-    let deep = deep_is r c.in-Some.symbol c.index-depth.result.now c.is_too_deep-too_deep.result c.requires.sound.symbols.told (omega (arith, it.below, c.requires.sound.symbols.counted)) c.index-depth.ensures c.is_too_deep-too_deep.ensures in
+    let it = place_found r.places (map numbered (symbols_of r)) a.number c.in-Some.symbol c.ranges.number good.number c.requires.sound.places (sym (c.in-Some.ensures ∙ c.get.ensures.value)) in
+    let deep = deep_is r c.in-Some.symbol c.index-depth.result.now c.is_too_deep-too_deep.result c.requires.sound.symbols.told (omega (arith, it.below, numbers_length r.symbols.items, c.requires.sound.symbols.counted)) c.index-depth.ensures c.is_too_deep-too_deep.ensures in
     let same = call_found (state_of r) a.number a.place a.bad a.divisor c.in-Some.symbol bad it.known it.place ∙ ap (λ (t : Bool). drawn_on (state_of r) (called_on (level_from r.drawing) a.divisor t c.in-Some.symbol a.place)) (sym deep) in
     err_weaker c.call.result _ _
     (λ stop h. subst (λ answer. IsCauseOfStop answer stop) (sym same) (stop_stays (state_of r) (called_on (level_from r.drawing) a.divisor c.is_too_deep-too_deep.result c.in-Some.symbol a.place) stop h)) c.call.ensures.refused
@@ -54,8 +54,8 @@ returns-clause-sound c =
     let y : FitsSigned w64 a.place.y = search rules in
     let bad = sym (c.if-is_bad_call.ensures ∙ seen_call a.number a.place.x a.place.y a.bad c.ranges.number x y) in
     let good = good_call a.number a.place.x a.place.y a.bad bad in
-    let it = found r.places r.symbols.items a.number c.in-Some.symbol c.ranges.number good.number c.requires.sound.places (sym (c.in-Some.ensures ∙ c.get.ensures.value)) in
-    let below : c.in-Some.symbol < length r.depths.items = omega (arith, it.below, c.requires.sound.symbols.counted) in
+    let it = place_found r.places (map numbered (symbols_of r)) a.number c.in-Some.symbol c.ranges.number good.number c.requires.sound.places (sym (c.in-Some.ensures ∙ c.get.ensures.value)) in
+    let below : c.in-Some.symbol < length r.depths.items = omega (arith, it.below, numbers_length r.symbols.items, c.requires.sound.symbols.counted) in
     let depth = c.index-depth.ensures ∙ get_or_default r.depths.items c.in-Some.symbol c.index-depth.result.now 0 below in
     ok_weaker c.call.result _ _
     (λ all count h. record {
