@@ -16,8 +16,8 @@ use Rattle.lam_geom.specs.Gaps.{gap_of, gap_of_boxes}
 use Rattle.box_tree.specs.Tree.{IsBounded, IsGroupOf, begin_of}
 use Rattle.box_tree.proofs.Trees.{group_here}
 use Rattle.box_tree.proofs.Within.{too_far}
-use Rattle.box_tree.specs.declared.tree.Plan.{Plan}
-use Rattle.box_tree.specs.Groves.{spot_of, no_group, group_at, spot_in, begin_at, IsRead, IsOf, IsPlan, IsInRun, InSpent, IsLeft, IsRunSpent, IsVisitedAt, IsRunVisited, AreSpent, IsUnvisited, IsUnvisitedWithin}
+use Rattle.box_tree.specs.declared.tree.OwnedParts.{OwnedParts}
+use Rattle.box_tree.specs.Groves.{spot_of, no_group, group_at, spot_in, begin_at, IsRead, IsOf, AreTreeParts, IsInRun, InSpent, IsLeft, IsRunSpent, IsVisitedAt, IsRunVisited, AreSpent, IsUnvisited, IsUnvisitedWithin}
 use Rattle.box_tree.specs.Found.{AreGathered}
 use Rattle.box_tree.proofs.Growth.{gathered_as, gathered_more, gathered_none, gathered_if}
 
@@ -42,11 +42,11 @@ visited_by_test o b test answer none = (let e : not b ≡ false = sym test ∙ a
 -- ---- where runs begin
 
 -- a group that was read
-pub group_read : (plan : Plan) (at : ℕ) (group : Group) → IsPlan plan → at < length plan.groups.items → group ≡ get_or plan.groups.items at group → IsRead plan at group
-group_read plan at group t lt is =
-    let groups = plan.groups.items in
-    let end : ℕ = length plan.order.items in
-    let g : IsGroupOf plan.spots.items plan.order.items end group (drop (at + 1) groups) = group_here plan.spots.items plan.order.items end at groups group t.groups_of lt is in
+pub group_read : (parts : OwnedParts) (at : ℕ) (group : Group) → AreTreeParts parts → at < length parts.groups.items → group ≡ get_or parts.groups.items at group → IsRead parts at group
+group_read parts at group t lt is =
+    let groups = parts.groups.items in
+    let end : ℕ = length parts.order.items in
+    let g : IsGroupOf parts.spots.items parts.order.items end group (drop (at + 1) groups) = group_here parts.spots.items parts.order.items end at groups group t.groups_of lt is in
     let left : length (drop (at + 1) groups) + (at + 1) ≡ length groups = omega (arith, length-drop (at + 1) groups) in
     let i = g.inside in
     record {
@@ -62,19 +62,19 @@ group_read plan at group t lt is =
 
 -- ---- spots that are left, as far as the walk has come
 
-pub record IsWalked (plan : Plan) (query : Query) (marks : List (Option ℕ)) (before : List ℕ) (at : ℕ) (found : List ℕ) : Type 0 where
-  pub within : at ≤ length plan.groups.items
-  pub gathered : AreGathered (IsUnvisitedWithin plan query marks 0 (begin_at plan at)) before found
+pub record IsWalked (parts : OwnedParts) (query : Query) (marks : List (Option ℕ)) (before : List ℕ) (at : ℕ) (found : List ℕ) : Type 0 where
+  pub within : at ≤ length parts.groups.items
+  pub gathered : AreGathered (IsUnvisitedWithin parts query marks 0 (begin_at parts at)) before found
 
-pub walked_none : (plan : Plan) (query : Query) (marks : List (Option ℕ)) (before found : List ℕ) → IsPlan plan → found ≡ before → IsWalked plan query marks before 0 found
-walked_none plan query marks before found t e =
+pub walked_none : (parts : OwnedParts) (query : Query) (marks : List (Option ℕ)) (before found : List ℕ) → AreTreeParts parts → found ≡ before → IsWalked parts query marks before 0 found
+walked_none parts query marks before found t e =
     let f = t.first in
-    let P : List ℕ → Type 0 = λ xs. AreGathered (IsUnvisitedWithin plan query marks 0 (begin_at plan 0)) before xs in
-    record { within = omega arith; gathered = subst P (sym e) (gathered_none (IsUnvisitedWithin plan query marks 0 (begin_at plan 0)) before (λ y h. (let b = h.before in omega arith))) }
+    let P : List ℕ → Type 0 = λ xs. AreGathered (IsUnvisitedWithin parts query marks 0 (begin_at parts 0)) before xs in
+    record { within = omega arith; gathered = subst P (sym e) (gathered_none (IsUnvisitedWithin parts query marks 0 (begin_at parts 0)) before (λ y h. (let b = h.before in omega arith))) }
 
 -- tags of places up to one more
-more_within : (plan : Plan) (query : Query) (marks : List (Option ℕ)) (first mid end y : ℕ) → mid ≤ end → IsUnvisitedWithin plan query marks first mid y → IsUnvisitedWithin plan query marks first end y
-more_within plan query marks first mid end y le h = record {
+more_within : (parts : OwnedParts) (query : Query) (marks : List (Option ℕ)) (first mid end y : ℕ) → mid ≤ end → IsUnvisitedWithin parts query marks first mid y → IsUnvisitedWithin parts query marks first end y
+more_within parts query marks first mid end y le h = record {
   p = h.p;
   from = h.from;
   before = (let b = h.before in omega arith);
@@ -84,17 +84,17 @@ more_within plan query marks first mid end y le h = record {
 }
 
 -- past a group with nothing to be found
-pub walked_past : (plan : Plan) (query : Query) (marks : List (Option ℕ)) (before : List ℕ) (at next : ℕ) (group : Group) (found : List ℕ) → next ≡ at + 1 + group.inside → IsRead plan at group
-    → ((p : ℕ) → group.start ≤ p → p < group.start + group.count → Holds query (spot_in plan p) → IsLeft marks (spot_in plan p).tag → ⊥)
-    → IsWalked plan query marks before at found → IsWalked plan query marks before next found
-walked_past plan query marks before at next group found is_next g barren w =
+pub walked_past : (parts : OwnedParts) (query : Query) (marks : List (Option ℕ)) (before : List ℕ) (at next : ℕ) (group : Group) (found : List ℕ) → next ≡ at + 1 + group.inside → IsRead parts at group
+    → ((p : ℕ) → group.start ≤ p → p < group.start + group.count → Holds query (spot_in parts p) → IsLeft marks (spot_in parts p).tag → ⊥)
+    → IsWalked parts query marks before at found → IsWalked parts query marks before next found
+walked_past parts query marks before at next group found is_next g barren w =
     let here = g.begins in
-    let after : begin_at plan next ≡ group.start + group.count = ap (begin_at plan) is_next ∙ g.closes in
+    let after : begin_at parts next ≡ group.start + group.count = ap (begin_at parts) is_next ∙ g.closes in
     let l = g.within in
     record {
       within = omega arith;
-      gathered = gathered_as (IsUnvisitedWithin plan query marks 0 (begin_at plan at)) (IsUnvisitedWithin plan query marks 0 (begin_at plan next)) before found
-          (λ y h. more_within plan query marks 0 (begin_at plan at) (begin_at plan next) y (omega arith) h)
+      gathered = gathered_as (IsUnvisitedWithin parts query marks 0 (begin_at parts at)) (IsUnvisitedWithin parts query marks 0 (begin_at parts next)) before found
+          (λ y h. more_within parts query marks 0 (begin_at parts at) (begin_at parts next) y (omega arith) h)
           (λ y h. elim (cases_lt h.p group.start) [
             | inl lt ↦ record { p = h.p; from = h.from; before = omega arith; tag = h.tag; holds = h.holds; left = h.left }
             | inr ge ↦ (let b = h.before in absurd (barren h.p ge (omega arith) h.holds (subst (IsLeft marks) (sym h.tag) h.left)))
@@ -103,18 +103,18 @@ walked_past plan query marks before at next group found is_next g barren w =
     }
 
 -- past a leaf
-pub walked_leaf : (plan : Plan) (query : Query) (marks : List (Option ℕ)) (before : List ℕ) (at : ℕ) (group : Group) (end : ℕ) (found new : List ℕ) → IsRead plan at group → group.inside ≡ 0 → end ≡ group.start + group.count
-    → AreGathered (IsUnvisitedWithin plan query marks group.start end) found new → IsWalked plan query marks before at found → IsWalked plan query marks before (at + 1) new
-walked_leaf plan query marks before at group end found new g leaf is_end some w =
+pub walked_leaf : (parts : OwnedParts) (query : Query) (marks : List (Option ℕ)) (before : List ℕ) (at : ℕ) (group : Group) (end : ℕ) (found new : List ℕ) → IsRead parts at group → group.inside ≡ 0 → end ≡ group.start + group.count
+    → AreGathered (IsUnvisitedWithin parts query marks group.start end) found new → IsWalked parts query marks before at found → IsWalked parts query marks before (at + 1) new
+walked_leaf parts query marks before at group end found new g leaf is_end some w =
     let here = g.begins in
-    let after : begin_at plan (at + 1) ≡ begin_at plan (at + 1 + group.inside) = ap (begin_at plan) (let e : at + 1 ≡ at + 1 + group.inside = omega arith in e) in
+    let after : begin_at parts (at + 1) ≡ begin_at parts (at + 1 + group.inside) = ap (begin_at parts) (let e : at + 1 ≡ at + 1 + group.inside = omega arith in e) in
     let next = g.closes in
     let lt = g.within in
     record {
       within = omega arith;
-      gathered = gathered_more (IsUnvisitedWithin plan query marks 0 (begin_at plan at)) (IsUnvisitedWithin plan query marks group.start end) (IsUnvisitedWithin plan query marks 0 (begin_at plan (at + 1))) before found new
+      gathered = gathered_more (IsUnvisitedWithin parts query marks 0 (begin_at parts at)) (IsUnvisitedWithin parts query marks group.start end) (IsUnvisitedWithin parts query marks 0 (begin_at parts (at + 1))) before found new
           (λ y h. elim h [
-            | inl before ↦ more_within plan query marks 0 (begin_at plan at) (begin_at plan (at + 1)) y (omega arith) before
+            | inl before ↦ more_within parts query marks 0 (begin_at parts at) (begin_at parts (at + 1)) y (omega arith) before
             | inr inside ↦ (let b = inside.before in record { p = inside.p; from = omega arith; before = omega arith; tag = inside.tag; holds = inside.holds; left = inside.left })
           ])
           (λ y h. elim (cases_lt h.p group.start) [
@@ -125,30 +125,30 @@ walked_leaf plan query marks before at group end found new g leaf is_end some w 
     }
 
 -- into a group with others inside
-pub walked_into : (plan : Plan) (query : Query) (marks : List (Option ℕ)) (before : List ℕ) (at : ℕ) (group : Group) (found : List ℕ) → IsRead plan at group → group.inside ≢ 0
-    → IsWalked plan query marks before at found → IsWalked plan query marks before (at + 1) found
-walked_into plan query marks before at group found g some w =
+pub walked_into : (parts : OwnedParts) (query : Query) (marks : List (Option ℕ)) (before : List ℕ) (at : ℕ) (group : Group) (found : List ℕ) → IsRead parts at group → group.inside ≢ 0
+    → IsWalked parts query marks before at found → IsWalked parts query marks before (at + 1) found
+walked_into parts query marks before at group found g some w =
     let pos : 0 < group.inside = omega arith in
-    let same : begin_at plan at ≡ begin_at plan (at + 1) = g.begins ∙ sym (g.opens pos) in
-    let P : ℕ → Type 0 = λ b. AreGathered (IsUnvisitedWithin plan query marks 0 b) before found in
+    let same : begin_at parts at ≡ begin_at parts (at + 1) = g.begins ∙ sym (g.opens pos) in
+    let P : ℕ → Type 0 = λ b. AreGathered (IsUnvisitedWithin parts query marks 0 b) before found in
     let l = g.within in
     record { within = omega arith; gathered = subst P same w.gathered }
 
 -- the tag of a spot at some places
-pub within_of : (plan : Plan) (query : Query) (marks : List (Option ℕ)) (first end y : ℕ) → IsPlan plan → end ≤ length plan.order.items → IsUnvisitedWithin plan query marks first end y → IsOf plan.spots.items (Holds query) y
-within_of plan query marks first end y t le h =
+pub within_of : (parts : OwnedParts) (query : Query) (marks : List (Option ℕ)) (first end y : ℕ) → AreTreeParts parts → end ≤ length parts.order.items → IsUnvisitedWithin parts query marks first end y → IsOf parts.spots.items (Holds query) y
+within_of parts query marks first end y t le h =
     let b = h.before in
-    record { k = get_or plan.order.items h.p 0; among = t.order_of.below h.p 0 (omega arith); tag = h.tag; is = h.holds }
+    record { k = get_or parts.order.items h.p 0; among = t.order_of.below h.p 0 (omega arith); tag = h.tag; is = h.holds }
 
 -- past all groups
-pub walked_all : (plan : Plan) (query : Query) (marks : List (Option ℕ)) (before : List ℕ) (at : ℕ) (found : List ℕ) → IsPlan plan → length plan.groups.items ≤ at → IsWalked plan query marks before at found
-    → AreGathered (IsUnvisited plan.spots.items query marks) before found
-walked_all plan query marks before at found t past w =
-    let spots = plan.spots.items in
-    let order = plan.order.items in
-    let end : begin_at plan at ≡ length order = ap (λ (gs : List Group). begin_of gs (length order)) (drop_all at plan.groups.items past) in
-    gathered_as (IsUnvisitedWithin plan query marks 0 (begin_at plan at)) (IsUnvisited spots query marks) before found
-    (λ y h. record { of = within_of plan query marks 0 (begin_at plan at) y t (omega arith) h; left = h.left })
+pub walked_all : (parts : OwnedParts) (query : Query) (marks : List (Option ℕ)) (before : List ℕ) (at : ℕ) (found : List ℕ) → AreTreeParts parts → length parts.groups.items ≤ at → IsWalked parts query marks before at found
+    → AreGathered (IsUnvisited parts.spots.items query marks) before found
+walked_all parts query marks before at found t past w =
+    let spots = parts.spots.items in
+    let order = parts.order.items in
+    let end : begin_at parts at ≡ length order = ap (λ (gs : List Group). begin_of gs (length order)) (drop_all at parts.groups.items past) in
+    gathered_as (IsUnvisitedWithin parts query marks 0 (begin_at parts at)) (IsUnvisited spots query marks) before found
+    (λ y h. record { of = within_of parts query marks 0 (begin_at parts at) y t (omega arith) h; left = h.left })
     (λ y h. (let k : ℕ = h.of.k in
     let listed = t.order_of.each k h.of.among in
     let place : ℕ = listed.0 in
@@ -161,20 +161,20 @@ walked_all plan query marks before at found t past w =
 
 -- ---- the spots of a leaf
 
-pub none_within : (plan : Plan) (query : Query) (marks : List (Option ℕ)) (first : ℕ) (found : List ℕ) → AreGathered (IsUnvisitedWithin plan query marks first first) found found
-none_within plan query marks first found = gathered_none (IsUnvisitedWithin plan query marks first first) found (λ y h. (let a = h.from in let b = h.before in omega arith))
+pub none_within : (parts : OwnedParts) (query : Query) (marks : List (Option ℕ)) (first : ℕ) (found : List ℕ) → AreGathered (IsUnvisitedWithin parts query marks first first) found found
+none_within parts query marks first found = gathered_none (IsUnvisitedWithin parts query marks first first) found (λ y h. (let a = h.from in let b = h.before in omega arith))
 
 -- one more spot, which is found or not
-pub one_within : (plan : Plan) (query : Query) (marks : List (Option ℕ)) (first p : ℕ) (spot : Spot) (old middle new : List ℕ) → first ≤ p → spot_in plan p ≡ spot
+pub one_within : (parts : OwnedParts) (query : Query) (marks : List (Option ℕ)) (first p : ℕ) (spot : Spot) (old middle new : List ℕ) → first ≤ p → spot_in parts p ≡ spot
     → ((Holds query spot × (IsLeft marks spot.tag)) × (new ≡ middle ++ spot.tag ∷ [])) ⊎ ((Holds query spot × (IsLeft marks spot.tag) → ⊥) × (new ≡ middle))
-    → AreGathered (IsUnvisitedWithin plan query marks first p) old middle → AreGathered (IsUnvisitedWithin plan query marks first (p + 1)) old new
-one_within plan query marks first p spot old middle new le is =
+    → AreGathered (IsUnvisitedWithin parts query marks first p) old middle → AreGathered (IsUnvisitedWithin parts query marks first (p + 1)) old new
+one_within parts query marks first p spot old middle new le is =
     let H : Spot → Type 0 = λ s. Holds query s × (IsLeft marks s.tag) in
-    gathered_if (IsUnvisitedWithin plan query marks first p) (IsUnvisitedWithin plan query marks first (p + 1)) (Holds query spot × (IsLeft marks spot.tag)) old middle new spot.tag
+    gathered_if (IsUnvisitedWithin parts query marks first p) (IsUnvisitedWithin parts query marks first (p + 1)) (Holds query spot × (IsLeft marks spot.tag)) old middle new spot.tag
     (λ y h. elim h [
-      | inl before ↦ more_within plan query marks first p (p + 1) y (omega arith) before
+      | inl before ↦ more_within parts query marks first p (p + 1) y (omega arith) before
       | inr here ↦
-          (let held : H (spot_in plan p) = subst H (sym is) here.1 in
+          (let held : H (spot_in parts p) = subst H (sym is) here.1 in
           record { p = p; from = le; before = omega arith; tag = ap (λ (s : Spot). s.tag) is ∙ sym here.0; holds = held.0; left = subst (IsLeft marks) (sym here.0) here.1.1 })
     ])
     (λ y h. elim (cases_lt h.p p) [
@@ -182,32 +182,32 @@ one_within plan query marks first p spot old middle new le is =
       | inr past ↦
           (let b = h.before in
           let at : h.p ≡ p = omega arith in
-          let there : spot_in plan h.p ≡ spot = ap (spot_in plan) at ∙ is in
+          let there : spot_in parts h.p ≡ spot = ap (spot_in parts) at ∙ is in
           let tag : y ≡ spot.tag = sym h.tag ∙ ap (λ (s : Spot). s.tag) there in
           let Q : Spot → Type 0 = λ s. Holds query s in
           inr (tag, (subst Q there h.holds, subst (IsLeft marks) tag h.left)))
     ])
 
 -- one more spot that has been visited
-pub run_visited_more : (plan : Plan) (marks : List (Option ℕ)) (first p : ℕ) (spot : Spot) → spot_in plan p ≡ spot → (IsLeft marks spot.tag → ⊥) → IsRunVisited plan marks first p → IsRunVisited plan marks first (p + 1)
-run_visited_more plan marks first p spot is visited before = λ q le lt. elim (cases_lt q p) [
+pub run_visited_more : (parts : OwnedParts) (marks : List (Option ℕ)) (first p : ℕ) (spot : Spot) → spot_in parts p ≡ spot → (IsLeft marks spot.tag → ⊥) → IsRunVisited parts marks first p → IsRunVisited parts marks first (p + 1)
+run_visited_more parts marks first p spot is visited before = λ q le lt. elim (cases_lt q p) [
   | inl below ↦ before q le below
-  | inr past ↦ (let P : Spot → Type 0 = λ s. IsLeft marks s.tag → ⊥ in let at : q ≡ p = omega arith in subst P (sym (ap (spot_in plan) at ∙ is)) visited)
+  | inr past ↦ (let P : Spot → Type 0 = λ s. IsLeft marks s.tag → ⊥ in let at : q ≡ p = omega arith in subst P (sym (ap (spot_in parts) at ∙ is)) visited)
 ]
 
-pub within_end : (plan : Plan) (query : Query) (marks : List (Option ℕ)) (first p end : ℕ) (old new : List ℕ) → p ≤ max first end → end ≤ p
-    → AreGathered (IsUnvisitedWithin plan query marks first p) old new → AreGathered (IsUnvisitedWithin plan query marks first end) old new
-within_end plan query marks first p end old new so_far past =
-    gathered_as (IsUnvisitedWithin plan query marks first p) (IsUnvisitedWithin plan query marks first end) old new
+pub within_end : (parts : OwnedParts) (query : Query) (marks : List (Option ℕ)) (first p end : ℕ) (old new : List ℕ) → p ≤ max first end → end ≤ p
+    → AreGathered (IsUnvisitedWithin parts query marks first p) old new → AreGathered (IsUnvisitedWithin parts query marks first end) old new
+within_end parts query marks first p end old new so_far past =
+    gathered_as (IsUnvisitedWithin parts query marks first p) (IsUnvisitedWithin parts query marks first end) old new
     (λ y h. (let a = h.from in let b = h.before in record { p = h.p; from = h.from; before = omega arith; tag = h.tag; holds = h.holds; left = h.left }))
-    (λ y h. more_within plan query marks first end p y past h)
+    (λ y h. more_within parts query marks first end p y past h)
 
 -- ---- groups that are spent
 
 -- a group of which it is told whether all its spots have been visited
-pub spent_set : (plan : Plan) (marks : List (Option ℕ)) (spent : List Bool) (at : ℕ) (group : Group) (all : Bool) → IsRead plan at group
-    → (IsTrue all → IsRunVisited plan marks group.start (group.start + group.count)) → AreSpent plan marks spent → AreSpent plan marks (set spent at all)
-spent_set plan marks spent at group all g marked s =
+pub spent_set : (parts : OwnedParts) (marks : List (Option ℕ)) (spent : List Bool) (at : ℕ) (group : Group) (all : Bool) → IsRead parts at group
+    → (IsTrue all → IsRunVisited parts marks group.start (group.start + group.count)) → AreSpent parts marks spent → AreSpent parts marks (set spent at all)
+spent_set parts marks spent at group all g marked s =
     let n = s.counted in
     let w = g.within in
     record {
@@ -218,7 +218,7 @@ spent_set plan marks spent at group all g marked s =
             let T : Bool → Type 0 = IsTrue in
             let R : Group → Type 0 = λ x. IsInRun x p in
             let yes : IsTrue all = subst T (get_or-set_same spent at all false (omega arith)) (subst F e h.flagged) in
-            let run : IsInRun group p = subst R (ap (group_at plan.groups.items) e ∙ g.is) h.in_run in
+            let run : IsInRun group p = subst R (ap (group_at parts.groups.items) e ∙ g.is) h.in_run in
             marked yes p run.0 run.1)
         | inr ne ↦
             (let T : Bool → Type 0 = IsTrue in
@@ -227,31 +227,31 @@ spent_set plan marks spent at group all g marked s =
     }
 
 -- a group that is spent has no spot that is left
-pub spent_barren : (plan : Plan) (query : Query) (marks : List (Option ℕ)) (spent : List Bool) (at : ℕ) (group : Group) → IsRead plan at group → AreSpent plan marks spent → IsTrue (get_or spent at false)
-    → (p : ℕ) → group.start ≤ p → p < group.start + group.count → Holds query (spot_in plan p) → IsLeft marks (spot_in plan p).tag → ⊥
-spent_barren plan query marks spent at group g s flagged = λ p low high _ none.
+pub spent_barren : (parts : OwnedParts) (query : Query) (marks : List (Option ℕ)) (spent : List Bool) (at : ℕ) (group : Group) → IsRead parts at group → AreSpent parts marks spent → IsTrue (get_or spent at false)
+    → (p : ℕ) → group.start ≤ p → p < group.start + group.count → Holds query (spot_in parts p) → IsLeft marks (spot_in parts p).tag → ⊥
+spent_barren parts query marks spent at group g s flagged = λ p low high _ none.
     let R : Group → Type 0 = λ x. IsInRun x p in
-    let m : IsVisitedAt plan marks p = s.each p (record { g = at; flagged = flagged; in_run = subst R (sym g.is) (low, high) }) in
+    let m : IsVisitedAt parts marks p = s.each p (record { g = at; flagged = flagged; in_run = subst R (sym g.is) (low, high) }) in
     m none
 
 -- the places of a group up to the run of the next one inside it are in groups that are spent
-pub record IsCovered (plan : Plan) (spent : List Bool) (at next : ℕ) : Type 0 where
-  pub within : next ≤ length plan.groups.items
-  pub covered : (p : ℕ) → (group_at plan.groups.items at).start ≤ p → p < begin_at plan next → InSpent plan.groups.items spent p
+pub record IsCovered (parts : OwnedParts) (spent : List Bool) (at next : ℕ) : Type 0 where
+  pub within : next ≤ length parts.groups.items
+  pub covered : (p : ℕ) → (group_at parts.groups.items at).start ≤ p → p < begin_at parts next → InSpent parts.groups.items spent p
 
-pub covered_none : (plan : Plan) (spent : List Bool) (at : ℕ) (group : Group) → IsRead plan at group → 0 < (group_at plan.groups.items at).inside → IsCovered plan spent at (at + 1)
-covered_none plan spent at group g some =
+pub covered_none : (parts : OwnedParts) (spent : List Bool) (at : ℕ) (group : Group) → IsRead parts at group → 0 < (group_at parts.groups.items at).inside → IsCovered parts spent at (at + 1)
+covered_none parts spent at group g some =
     let P : Group → Type 0 = λ x. 0 < x.inside in
     let o = g.opens (subst P g.is some) in
     let w = g.within in
-    let s : (group_at plan.groups.items at).start ≡ group.start = ap (λ (x : Group). x.start) g.is in
+    let s : (group_at parts.groups.items at).start ≡ group.start = ap (λ (x : Group). x.start) g.is in
     record { within = omega arith; covered = λ p low high. absurd (omega arith) }
 
-pub covered_more : (plan : Plan) (spent : List Bool) (at next further : ℕ) (group : Group) → further ≡ next + 1 + group.inside → IsRead plan next group → IsTrue (get_or spent next false) → IsCovered plan spent at next
-    → IsCovered plan spent at further
-covered_more plan spent at next further group e g flagged h =
+pub covered_more : (parts : OwnedParts) (spent : List Bool) (at next further : ℕ) (group : Group) → further ≡ next + 1 + group.inside → IsRead parts next group → IsTrue (get_or spent next false) → IsCovered parts spent at next
+    → IsCovered parts spent at further
+covered_more parts spent at next further group e g flagged h =
     let here = g.begins in
-    let after : begin_at plan further ≡ group.start + group.count = ap (begin_at plan) e ∙ g.closes in
+    let after : begin_at parts further ≡ group.start + group.count = ap (begin_at parts) e ∙ g.closes in
     let l = g.within in
     record {
       within = omega arith;
@@ -261,18 +261,18 @@ covered_more plan spent at next further group e g flagged h =
       ];
     }
 
-pub covered_all : (plan : Plan) (spent : List Bool) (at next : ℕ) (group : Group) → IsRead plan at group → next ≡ at + 1 + group.inside → IsCovered plan spent at next → IsRunSpent plan.groups.items spent at
-covered_all plan spent at next group g e h =
+pub covered_all : (parts : OwnedParts) (spent : List Bool) (at next : ℕ) (group : Group) → IsRead parts at group → next ≡ at + 1 + group.inside → IsCovered parts spent at next → IsRunSpent parts.groups.items spent at
+covered_all parts spent at next group g e h =
     let c = g.closes in
-    let b : begin_at plan next ≡ begin_at plan (at + 1 + group.inside) = ap (begin_at plan) e in
-    let s : (group_at plan.groups.items at).start ≡ group.start = ap (λ (x : Group). x.start) g.is in
-    let n : (group_at plan.groups.items at).count ≡ group.count = ap (λ (x : Group). x.count) g.is in
+    let b : begin_at parts next ≡ begin_at parts (at + 1 + group.inside) = ap (begin_at parts) e in
+    let s : (group_at parts.groups.items at).start ≡ group.start = ap (λ (x : Group). x.start) g.is in
+    let n : (group_at parts.groups.items at).count ≡ group.count = ap (λ (x : Group). x.count) g.is in
     λ p run. (let low = run.0 in let high = run.1 in h.covered p run.0 (omega arith))
 
 -- so the spots of that group have been visited
-pub run_spent_visited : (plan : Plan) (marks : List (Option ℕ)) (spent : List Bool) (at : ℕ) (group : Group) → IsRead plan at group → AreSpent plan marks spent → IsRunSpent plan.groups.items spent at
-    → IsRunVisited plan marks group.start (group.start + group.count)
-run_spent_visited plan marks spent at group g s run = λ p low high.
+pub run_spent_visited : (parts : OwnedParts) (marks : List (Option ℕ)) (spent : List Bool) (at : ℕ) (group : Group) → IsRead parts at group → AreSpent parts marks spent → IsRunSpent parts.groups.items spent at
+    → IsRunVisited parts marks group.start (group.start + group.count)
+run_spent_visited parts marks spent at group g s run = λ p low high.
     let R : Group → Type 0 = λ x. IsInRun x p in
     s.each p (run p (subst R (sym g.is) (low, high)))
 

@@ -6,7 +6,7 @@ use Rattle.box_tree.specs.declared.spots.Spot.{Spot}
 use Rattle.box_tree.specs.Queries.{Holds}
 use Rattle.box_tree.specs.Tree.{IsBounded, IsPlacedGroup, IsTreeOf, begin_of, no_spot, spot_at}
 use Rattle.box_tree.specs.declared.groves.Grove.{Grove}
-use Rattle.box_tree.specs.declared.tree.Plan.{Plan}
+use Rattle.box_tree.specs.declared.tree.OwnedParts.{OwnedParts}
 
 -- ---- spots and groups by number
 
@@ -27,26 +27,26 @@ abbrev pub group_at : List Group → ℕ → Group
 group_at groups g = slice_index_or groups g no_group
 
 -- the spot at a place
-abbrev pub spot_in : Plan → ℕ → Spot
-spot_in plan p = spot_at plan.spots.items plan.order.items p
+abbrev pub spot_in : OwnedParts → ℕ → Spot
+spot_in parts p = spot_at parts.spots.items parts.order.items p
 
-abbrev pub IsPlan : Plan → Type 0
-IsPlan plan = IsTreeOf plan.spots.items plan.order.items plan.groups.items
+abbrev pub AreTreeParts : OwnedParts → Type 0
+AreTreeParts parts = IsTreeOf parts.spots.items parts.order.items parts.groups.items
 
 -- where the run of the group at a place begins, or all end
-abbrev pub begin_at : Plan → ℕ → ℕ
-begin_at plan at = begin_of (drop at plan.groups.items) (length plan.order.items)
+abbrev pub begin_at : OwnedParts → ℕ → ℕ
+begin_at parts at = begin_of (drop at parts.groups.items) (length parts.order.items)
 
 -- a group that was read: its run, and that of the one behind it
-pub record IsRead (plan : Plan) (at : ℕ) (group : Group) : Type 0 where
-  pub is : group_at plan.groups.items at ≡ group
+pub record IsRead (parts : OwnedParts) (at : ℕ) (group : Group) : Type 0 where
+  pub is : group_at parts.groups.items at ≡ group
   pub placed : IsPlacedGroup group
-  pub begins : begin_at plan at ≡ group.start
-  pub closes : begin_at plan (at + 1 + group.inside) ≡ group.start + group.count
-  pub opens : 0 < group.inside → begin_at plan (at + 1) ≡ group.start
-  pub ends : group.start + group.count ≤ length plan.order.items
-  pub within : at + 1 + group.inside ≤ length plan.groups.items
-  pub bounded : (p : ℕ) → group.start ≤ p → p < group.start + group.count → IsBounded group (spot_in plan p)
+  pub begins : begin_at parts at ≡ group.start
+  pub closes : begin_at parts (at + 1 + group.inside) ≡ group.start + group.count
+  pub opens : 0 < group.inside → begin_at parts (at + 1) ≡ group.start
+  pub ends : group.start + group.count ≤ length parts.order.items
+  pub within : at + 1 + group.inside ≤ length parts.groups.items
+  pub bounded : (p : ℕ) → group.start ≤ p → p < group.start + group.count → IsBounded group (spot_in parts p)
 
 -- the tags of spots are below a number
 abbrev pub AreTagsWithin : ℕ → List Spot → Type 0
@@ -70,27 +70,27 @@ pub record InSpent (groups : List Group) (spent : List Bool) (p : ℕ) : Type 0 
 abbrev pub IsRunSpent : List Group → List Bool → ℕ → Type 0
 IsRunSpent groups spent at = (p : ℕ) → IsInRun (group_at groups at) p → InSpent groups spent p
 
-abbrev pub IsVisitedAt : Plan → List (Option ℕ) → ℕ → Type 0
-IsVisitedAt plan marks p = IsLeft marks (spot_in plan p).tag → ⊥
+abbrev pub IsVisitedAt : OwnedParts → List (Option ℕ) → ℕ → Type 0
+IsVisitedAt parts marks p = IsLeft marks (spot_in parts p).tag → ⊥
 
-abbrev pub IsRunVisited : Plan → List (Option ℕ) → ℕ → ℕ → Type 0
-IsRunVisited plan marks first end = (p : ℕ) → first ≤ p → p < end → IsVisitedAt plan marks p
+abbrev pub IsRunVisited : OwnedParts → List (Option ℕ) → ℕ → ℕ → Type 0
+IsRunVisited parts marks first end = (p : ℕ) → first ≤ p → p < end → IsVisitedAt parts marks p
 
 -- all spots of groups that are spent have been visited
-pub record AreSpent (plan : Plan) (marks : List (Option ℕ)) (spent : List Bool) : Type 0 where
-  pub counted : length spent ≡ length plan.groups.items
-  pub each : (p : ℕ) → InSpent plan.groups.items spent p → IsVisitedAt plan marks p
+pub record AreSpent (parts : OwnedParts) (marks : List (Option ℕ)) (spent : List Bool) : Type 0 where
+  pub counted : length spent ≡ length parts.groups.items
+  pub each : (p : ℕ) → InSpent parts.groups.items spent p → IsVisitedAt parts marks p
 
 pub record IsGrove (marks : List (Option ℕ)) (grove : Grove) : Type 0 where
-  pub plan : IsPlan grove.plan
-  pub tags : AreTagsWithin (length marks) grove.plan.spots.items
-  pub spent : AreSpent grove.plan marks grove.spent.items
+  pub parts : AreTreeParts grove.parts
+  pub tags : AreTagsWithin (length marks) grove.parts.spots.items
+  pub spent : AreSpent grove.parts marks grove.spent.items
 
 -- a grove of these spots, of which no group is spent
 pub record IsNewGrove (spots : List Spot) (grove : Grove) : Type 0 where
-  pub plan : IsPlan grove.plan
-  pub spots_are : grove.plan.spots.items ≡ spots
-  pub counted : length grove.spent.items ≡ length grove.plan.groups.items
+  pub parts : AreTreeParts grove.parts
+  pub spots_are : grove.parts.spots.items ≡ spots
+  pub counted : length grove.spent.items ≡ length grove.parts.groups.items
   pub unspent : (g : ℕ) → IsTrue (slice_index_or grove.spent.items g false) → ⊥
 
 -- ---- what is found
@@ -108,10 +108,10 @@ pub record IsUnvisited (spots : List Spot) (query : Query) (marks : List (Option
   pub left : IsLeft marks y
 
 -- the same of a spot at some places
-pub record IsUnvisitedWithin (plan : Plan) (query : Query) (marks : List (Option ℕ)) (first end y : ℕ) : Type 0 where
+pub record IsUnvisitedWithin (parts : OwnedParts) (query : Query) (marks : List (Option ℕ)) (first end y : ℕ) : Type 0 where
   pub p : ℕ
   pub from : first ≤ p
   pub before : p < end
-  pub tag : (spot_in plan p).tag ≡ y
-  pub holds : Holds query (spot_in plan p)
+  pub tag : (spot_in parts p).tag ≡ y
+  pub holds : Holds query (spot_in parts p)
   pub left : IsLeft marks y

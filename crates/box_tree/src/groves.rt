@@ -6,13 +6,13 @@ ghost use Rattle.lam_geom.specs.Places.{IsPlacedSpan};
 ghost use Rattle.box_tree.specs.declared.spots.Group.{Group};
 ghost use Rattle.box_tree.specs.declared.spots.Spot.{Spot};
 ghost use Rattle.box_tree.specs.Found.{AreGathered};
-ghost use Rattle.box_tree.specs.Groves.{group_at, IsPlan, AreSpent, AreTagsWithin, IsGrove, IsUnvisited, IsUnvisitedWithin, IsRead, IsRunSpent, IsRunVisited, IsNewGrove};
+ghost use Rattle.box_tree.specs.Groves.{group_at, AreTreeParts, AreSpent, AreTagsWithin, IsGrove, IsUnvisited, IsUnvisitedWithin, IsRead, IsRunSpent, IsRunVisited, IsNewGrove};
 ghost use Rattle.box_tree.specs.Queries.{Holds, IsQuery};
 ghost use Rattle.box_tree.specs.Tree.{IsBounded, IsPlacedGroup};
 
 use crate::query::{Query, Question};
 use crate::spots::{Group, Spot};
-use crate::tree::{BoxTree, Plan};
+use crate::tree::{BoxTree, OwnedParts};
 use lam_geom::Span;
 use std::alloc::{AllocError, Global};
 
@@ -20,7 +20,7 @@ use std::alloc::{AllocError, Global};
 /// marks: a spot has been visited if its tag has a mark.
 #[derive(Debug, Drop)]
 pub struct Grove {
-    pub plan: Plan,
+    pub parts: OwnedParts,
     pub spent: Vec<bool>,
 }
 
@@ -29,9 +29,9 @@ pub struct Grove {
 pub fn new_grove(alloc: Global, tree: BoxTree) -> Result<Grove, AllocError>
     ensures { IfOk result (IsNewGrove tree) }
 {
-    let plan = tree.into_parts();
-    let spent = vec![in alloc; false; plan.groups.len()]?;
-    Ok(Grove { plan, spent })
+    let parts = tree.into_parts();
+    let spent = vec![in alloc; false; parts.groups.len()]?;
+    Ok(Grove { parts, spent })
 }
 
 impl Grove {
@@ -45,41 +45,41 @@ impl Grove {
     ) -> Result<(), AllocError>
         requires grove { IsGrove marks.now self.old }
         requires query { IsQuery query.now }
-        ensures plan { self.new.plan ≡ self.old.plan }
+        ensures parts { self.new.parts ≡ self.old.parts }
         ensures grove { OnOk result (IsGrove marks.now self.new) }
-        ensures found { OnOk result (AreGathered (IsUnvisited self.old.plan.spots.items query.now marks.now) [] found.new.items) }
+        ensures found { OnOk result (AreGathered (IsUnvisited self.old.parts.spots.items query.now marks.now) [] found.new.items) }
     {
-        walk(&self.plan, &mut self.spent, marks, query, found)
+        walk(&self.parts, &mut self.spent, marks, query, found)
     }
 }
 
-// The same, of a plan.
+// The same, of a parts.
 fn walk(
-    plan: &Plan,
+    parts: &OwnedParts,
     spent: &mut Vec<bool>,
     marks: &[Option<u32>],
     query: &Query,
     found: &mut Vec<u32>,
 ) -> Result<(), AllocError>
-    requires plan { IsPlan plan.now }
-    requires tags { AreTagsWithin (length marks.now) plan.now.spots.items }
-    requires spent { AreSpent plan.now marks.now spent.old.items }
+    requires parts { AreTreeParts parts.now }
+    requires tags { AreTagsWithin (length marks.now) parts.now.spots.items }
+    requires spent { AreSpent parts.now marks.now spent.old.items }
     requires query { IsQuery query.now }
-    ensures found { OnOk result (AreGathered (IsUnvisited plan.now.spots.items query.now marks.now) [] found.new.items) }
-    ensures spent { OnOk result (AreSpent plan.now marks.now spent.new.items) }
+    ensures found { OnOk result (AreGathered (IsUnvisited parts.now.spots.items query.now marks.now) [] found.new.items) }
+    ensures spent { OnOk result (AreSpent parts.now marks.now spent.new.items) }
 {
     found.clear();
     let mut at = 0;
-    while at < plan.groups.len() {
-        let group = group_of(plan, at);
+    while at < parts.groups.len() {
+        let group = group_of(parts, at);
         if spent[at] || is_passed_over(group, query) {
             at += 1 + group.inside as usize;
         } else if group.inside == 0 {
             let end = group.start + group.count;
-            spent[at] = look_through(plan, group.start, end, marks, query, found)?;
+            spent[at] = look_through(parts, group.start, end, marks, query, found)?;
             at += 1;
         } else {
-            spent[at] = is_spent_inside(plan, spent.as_slice(), at);
+            spent[at] = is_spent_inside(parts, spent.as_slice(), at);
             at += 1;
         }
     }
@@ -87,12 +87,12 @@ fn walk(
 }
 
 /// The group at a place, of which it is said where its run begins and ends, and what lies in it.
-pub fn group_of(plan: &Plan, at: usize) -> &Group
-    requires plan { IsPlan plan.now }
-    requires among { at < length plan.now.groups.items }
-    ensures { IsRead plan.now at result.now }
+pub fn group_of(parts: &OwnedParts, at: usize) -> &Group
+    requires parts { AreTreeParts parts.now }
+    requires among { at < length parts.now.groups.items }
+    ensures { IsRead parts.now at result.now }
 {
-    &plan.groups[at]
+    &parts.groups[at]
 }
 
 /// Whether it is plain that no spot within the bounds of a group holds a query. What lies near is asked in most searches, and is
@@ -121,23 +121,23 @@ fn is_off(outer: Span, span: Span, reach: i64) -> bool
 
 // Puts the tags without a mark of spots at some places that hold a query behind those in `found`. Whether all have one.
 fn look_through(
-    plan: &Plan,
+    parts: &OwnedParts,
     first: u32,
     end: u32,
     marks: &[Option<u32>],
     query: &Query,
     found: &mut Vec<u32>,
 ) -> Result<bool, AllocError>
-    requires plan { IsPlan plan.now }
-    requires tags { AreTagsWithin (length marks.now) plan.now.spots.items }
+    requires parts { AreTreeParts parts.now }
+    requires tags { AreTagsWithin (length marks.now) parts.now.spots.items }
     requires query { IsQuery query.now }
-    requires within { end ≤ length plan.now.order.items }
-    ensures found { OnOk result (AreGathered (IsUnvisitedWithin plan.now query.now marks.now first end) found.old.items found.new.items) }
-    ensures all { IfOk result (λ all. IsTrue all → IsRunVisited plan.now marks.now first end) }
+    requires within { end ≤ length parts.now.order.items }
+    ensures found { OnOk result (AreGathered (IsUnvisitedWithin parts.now query.now marks.now first end) found.old.items found.new.items) }
+    ensures all { IfOk result (λ all. IsTrue all → IsRunVisited parts.now marks.now first end) }
 {
     let mut all = true;
     for place in first..end {
-        let spot = &plan.spots[plan.order[place as usize] as usize];
+        let spot = &parts.spots[parts.order[place as usize] as usize];
         if marks[spot.tag as usize].is_none() {
             all = false;
             if query.holds(spot) {
@@ -149,17 +149,17 @@ fn look_through(
 }
 
 // Whether it is known of all groups inside a group that all their spots have been visited.
-fn is_spent_inside(plan: &Plan, spent: &[bool], at: usize) -> bool
-    requires plan { IsPlan plan.now }
-    requires among { at < length plan.now.groups.items }
-    requires some { 0 < (group_at plan.now.groups.items at).inside }
-    requires counted { length spent.now ≡ length plan.now.groups.items }
-    ensures { IsTrue result → IsRunSpent plan.now.groups.items spent.now at }
+fn is_spent_inside(parts: &OwnedParts, spent: &[bool], at: usize) -> bool
+    requires parts { AreTreeParts parts.now }
+    requires among { at < length parts.now.groups.items }
+    requires some { 0 < (group_at parts.now.groups.items at).inside }
+    requires counted { length spent.now ≡ length parts.now.groups.items }
+    ensures { IsTrue result → IsRunSpent parts.now.groups.items spent.now at }
 {
-    let end = at + 1 + group_of(plan, at).inside as usize;
+    let end = at + 1 + group_of(parts, at).inside as usize;
     let mut next = at + 1;
     while next < end && spent[next] {
-        next += 1 + group_of(plan, next).inside as usize;
+        next += 1 + group_of(parts, next).inside as usize;
     }
     next == end
 }

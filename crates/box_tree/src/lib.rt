@@ -18,4 +18,4 @@ mod tree;
 pub use groves::{Grove, group_of, is_passed_over, new_grove};
 pub use query::{Query, Question};
 pub use spots::{Ends, Group, Inner, Spot};
-pub use tree::{BoxTree, Parts, Plan};
+pub use tree::{BoxTree, OwnedParts, Parts};

@@ -34,7 +34,7 @@ pub struct Parts<'a> {
 /// A tree that is taken apart: its spots, their numbers in the order in which the groups have them, and the groups, each before
 /// what is inside it.
 #[derive(Debug, Drop)]
-pub struct Plan {
+pub struct OwnedParts {
     pub spots: Vec<Spot>,
     pub order: Vec<u32>,
     pub groups: Vec<Group>,
@@ -89,11 +89,11 @@ impl BoxTree {
     }
 
     /// The same as a tree no more, with nothing copied.
-    pub fn into_parts(self) -> Plan
+    pub fn into_parts(self) -> OwnedParts
         ensures spots { result.spots.items ≡ self }
         ensures tree { IsTreeOf self result.order.items result.groups.items }
     {
-        Plan {
+        OwnedParts {
             spots: self.spots,
             order: self.order,
             groups: self.groups,

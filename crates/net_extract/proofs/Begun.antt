@@ -15,7 +15,7 @@ use Rattle.net_extract.specs.declared.reaching.Front.{Front}
 use Rattle.box_tree.specs.Groves.{spot_of, AreTagsWithin, IsNewGrove}
 use Rattle.net_extract.specs.Pieces.{box_of, no_piece, ArePieces}
 use Rattle.net_extract.specs.Spots.{AreSpots, IsPieceOn, MayBeBuried, piece_spot, box_spot, cut_spot, ArePieceSpots, AreBoxSpots}
-use Rattle.net_extract.specs.CutLists.{AreCrowdedSpots, IsCrowded, IsNewPieceGrove, IsPieceGrove, IsPlanWithin}
+use Rattle.net_extract.specs.CutLists.{AreCrowdedSpots, IsCrowded, IsNewPieceGrove, IsPieceGrove, ArePartsWithin}
 use Rattle.net_extract.specs.Spreading.{IsGroveOf}
 use Rattle.net_extract.proofs.Searched.{piece_placed}
 
@@ -69,7 +69,7 @@ begun Are spots grove front are tags g =
     let T : List Spot → Type 0 = AreTagsWithin (length front.marks.items) in
     record {
       stands = record {
-        plan = g.plan;
+        parts = g.parts;
         tags = subst T (sym g.spots_are) tags;
         spent = record { counted = g.counted; each = λ p h. absurd (g.unspent h.g h.flagged) };
       };
@@ -79,18 +79,18 @@ begun Are spots grove front are tags g =
 pub begun_pieces : (boxes : List MaskBox) (pieces : List Placed) (layer : MaskLayer) (grove : Grove) (front : Front) → length front.marks.items ≡ length pieces + length boxes
     → IsNewPieceGrove boxes pieces layer grove → IsGroveOf (ArePieceSpots boxes pieces layer) front grove
 begun_pieces boxes pieces layer grove front n h =
-    begun (ArePieceSpots boxes pieces layer) grove.plan.spots.items grove front h.shows
-    (tags_within (length pieces) (length front.marks.items) (IsPieceOn boxes pieces layer) (piece_spot pieces) grove.plan.spots.items (λ a lt. omega arith) h.shows) h.new
+    begun (ArePieceSpots boxes pieces layer) grove.parts.spots.items grove front h.shows
+    (tags_within (length pieces) (length front.marks.items) (IsPieceOn boxes pieces layer) (piece_spot pieces) grove.parts.spots.items (λ a lt. omega arith) h.shows) h.new
 
 -- a new grove of pieces, of which nothing is asked but what it shows
 pub shown_pieces : (boxes : List MaskBox) (pieces : List Placed) (layer : MaskLayer) (grove : Grove) → IsNewPieceGrove boxes pieces layer grove → IsPieceGrove boxes pieces layer grove
-shown_pieces boxes pieces layer grove h = record { plan = h.new.plan; shows = h.shows }
+shown_pieces boxes pieces layer grove h = record { parts = h.new.parts; shows = h.shows }
 
 -- its spots are of pieces
-pub pieces_within : (boxes : List MaskBox) (pieces : List Placed) (layer : MaskLayer) (grove : Grove) → IsPieceGrove boxes pieces layer grove → IsPlanWithin (length pieces) grove.plan
+pub pieces_within : (boxes : List MaskBox) (pieces : List Placed) (layer : MaskLayer) (grove : Grove) → IsPieceGrove boxes pieces layer grove → ArePartsWithin (length pieces) grove.parts
 pieces_within boxes pieces layer grove h = record {
-  stands = h.plan;
-  tags = tags_within (length pieces) (length pieces) (IsPieceOn boxes pieces layer) (piece_spot pieces) grove.plan.spots.items (λ a lt. lt) h.shows;
+  stands = h.parts;
+  tags = tags_within (length pieces) (length pieces) (IsPieceOn boxes pieces layer) (piece_spot pieces) grove.parts.spots.items (λ a lt. lt) h.shows;
 }
 
 pub begun_boxes : (tech : Tech) (boxes : List MaskBox) (pieces : List Placed) (layer : MaskLayer) (spots : List Spot) (grove : Grove) (front : Front) → length front.marks.items ≡ length pieces + length boxes

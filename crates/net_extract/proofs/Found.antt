@@ -8,11 +8,11 @@ use Rattle.lam_geom.specs.declared.boxes.MaskBox.{MaskBox}
 use Rattle.lam_geom.specs.declared.boxes.MaskLayer.TheVariants.{ND, NP, NC, NM}
 use Rattle.crossings.specs.declared.crossing.Crossing.{Crossing}
 use Rattle.crossings.specs.Boxes.{IsOn, area_at, box_at, layer_at}
-use Rattle.box_tree.specs.declared.tree.Plan.{Plan}
+use Rattle.box_tree.specs.declared.tree.OwnedParts.{OwnedParts}
 use Rattle.net_extract.specs.declared.over.PieceGroves.{PieceGroves}
 use Rattle.net_extract.specs.declared.placing.Placed.{Placed}
 use Rattle.net_extract.specs.CutLists.{AreFound, AreOfTwo, ArePieceGroves, IsListOver, IsOfAny}
-use Rattle.box_tree.specs.Groves.{AreTagsWithin, IsOf, IsPlan, IsRead, IsUnvisited, IsUnvisitedWithin, begin_at}
+use Rattle.box_tree.specs.Groves.{AreTagsWithin, IsOf, AreTreeParts, IsRead, IsUnvisited, IsUnvisitedWithin, begin_at}
 use Rattle.box_tree.specs.Found.{AreGathered}
 use Rattle.net_extract.specs.Linking.{IsJoining, IsOver}
 use Rattle.net_extract.specs.Pieces.{ArePieces}
@@ -35,41 +35,41 @@ pub of_within : (count : ℕ) (spots : List Spot) (query : Query) → AreTagsWit
 of_within count spots query tags y h = let P : ℕ → Type 0 = λ a. a < count in subst P h.tag (tags h.k h.among)
 
 -- a leaf, as far as the walk has come
-leaf_walked : (plan : Plan) (query : Query) (at : ℕ) (group : Group) (end : ℕ) (before found new : List ℕ) → IsPlan plan → IsRead plan at group → group.inside ≡ 0 → end ≡ group.start + group.count
-    → AreGathered (IsUnvisitedWithin plan query [] group.start end) found new → IsWalked plan query [] before at found → (b : ℕ) → Contains new b → Contains before b ⊎ IsOf plan.spots.items (Holds query) b
-leaf_walked plan query at group end before found new t g leaf is_end some w b c =
-    let walked : IsWalked plan query [] before (at + 1) new = walked_leaf plan query [] before at group end found new g leaf is_end some w in
-    let after : begin_at plan (at + 1) ≡ begin_at plan (at + 1 + group.inside) = ap (begin_at plan) (let e : at + 1 ≡ at + 1 + group.inside = omega arith in e) in
+leaf_walked : (parts : OwnedParts) (query : Query) (at : ℕ) (group : Group) (end : ℕ) (before found new : List ℕ) → AreTreeParts parts → IsRead parts at group → group.inside ≡ 0 → end ≡ group.start + group.count
+    → AreGathered (IsUnvisitedWithin parts query [] group.start end) found new → IsWalked parts query [] before at found → (b : ℕ) → Contains new b → Contains before b ⊎ IsOf parts.spots.items (Holds query) b
+leaf_walked parts query at group end before found new t g leaf is_end some w b c =
+    let walked : IsWalked parts query [] before (at + 1) new = walked_leaf parts query [] before at group end found new g leaf is_end some w in
+    let after : begin_at parts (at + 1) ≡ begin_at parts (at + 1 + group.inside) = ap (begin_at parts) (let e : at + 1 ≡ at + 1 + group.inside = omega arith in e) in
     let closes = g.closes in
     let ends = g.ends in
     elim (walked.gathered.sound b c) [
       | inl old ↦ inl old
-      | inr h ↦ inr (within_of plan query [] 0 (begin_at plan (at + 1)) b t (omega arith) h)
+      | inr h ↦ inr (within_of parts query [] 0 (begin_at parts (at + 1)) b t (omega arith) h)
     ]
 
-pub leaf_within : (count : ℕ) (plan : Plan) (query : Query) (at : ℕ) (group : Group) (end : ℕ) (before found new given : List ℕ) → given ≡ new → IsPlan plan → AreTagsWithin count plan.spots.items → IsRead plan at group → group.inside ≡ 0
-    → end ≡ group.start + group.count → All (λ a. a < count) before → AreGathered (IsUnvisitedWithin plan query [] group.start end) found new → IsWalked plan query [] before at found → All (λ a. a < count) given
-leaf_within count plan query at group end before found new given same t tags g leaf is_end within some w =
+pub leaf_within : (count : ℕ) (parts : OwnedParts) (query : Query) (at : ℕ) (group : Group) (end : ℕ) (before found new given : List ℕ) → given ≡ new → AreTreeParts parts → AreTagsWithin count parts.spots.items → IsRead parts at group → group.inside ≡ 0
+    → end ≡ group.start + group.count → All (λ a. a < count) before → AreGathered (IsUnvisitedWithin parts query [] group.start end) found new → IsWalked parts query [] before at found → All (λ a. a < count) given
+leaf_within count parts query at group end before found new given same t tags g leaf is_end within some w =
     let P : List ℕ → Type 0 = λ xs. All (λ a. a < count) xs in
-    subst P (sym same) (all_within (IsOf plan.spots.items (Holds query)) count before new (of_within count plan.spots.items query tags) within (leaf_walked plan query at group end before found new t g leaf is_end some w))
+    subst P (sym same) (all_within (IsOf parts.spots.items (Holds query)) count before new (of_within count parts.spots.items query tags) within (leaf_walked parts query at group end before found new t g leaf is_end some w))
 
 -- enough has been found
-pub found_enough : (pieces : List Placed) (plan : Plan) (query : Query) (at : ℕ) (group : Group) (end : ℕ) (before found new given : List ℕ) → given ≡ new → IsPlan plan → IsRead plan at group → group.inside ≡ 0 → end ≡ group.start + group.count
-    → AreOfTwo pieces given → AreGathered (IsUnvisitedWithin plan query [] group.start end) found new → IsWalked plan query [] before at found → AreFound pieces (IsOf plan.spots.items (Holds query)) false before new
-found_enough pieces plan query at group end before found new given same t g leaf is_end two some w =
+pub found_enough : (pieces : List Placed) (parts : OwnedParts) (query : Query) (at : ℕ) (group : Group) (end : ℕ) (before found new given : List ℕ) → given ≡ new → AreTreeParts parts → IsRead parts at group → group.inside ≡ 0 → end ≡ group.start + group.count
+    → AreOfTwo pieces given → AreGathered (IsUnvisitedWithin parts query [] group.start end) found new → IsWalked parts query [] before at found → AreFound pieces (IsOf parts.spots.items (Holds query)) false before new
+found_enough pieces parts query at group end before found new given same t g leaf is_end two some w =
     let P : List ℕ → Type 0 = AreOfTwo pieces in
     record {
-      sound = leaf_walked plan query at group end before found new t g leaf is_end some w;
+      sound = leaf_walked parts query at group end before found new t g leaf is_end some w;
       kept = λ b c. some.kept b (w.gathered.kept b c);
       complete = λ t. absurd (cc);
       two = λ _. subst P same two;
     }
 
 -- all has been found
-pub found_all : (pieces : List Placed) (plan : Plan) (query : Query) (at : ℕ) (before found : List ℕ) → IsPlan plan → length plan.groups.items ≤ at → IsWalked plan query [] before at found
-    → AreFound pieces (IsOf plan.spots.items (Holds query)) true before found
-found_all pieces plan query at before found t past w =
-    let g : AreGathered (IsUnvisited plan.spots.items query []) before found = walked_all plan query [] before at found t past w in
+pub found_all : (pieces : List Placed) (parts : OwnedParts) (query : Query) (at : ℕ) (before found : List ℕ) → AreTreeParts parts → length parts.groups.items ≤ at → IsWalked parts query [] before at found
+    → AreFound pieces (IsOf parts.spots.items (Holds query)) true before found
+found_all pieces parts query at before found t past w =
+    let g : AreGathered (IsUnvisited parts.spots.items query []) before found = walked_all parts query [] before at found t past w in
     record {
       sound = λ b c. elim (g.sound b c) [ inl old ↦ inl old | inr h ↦ inr h.of ];
       kept = g.kept;
@@ -111,15 +111,15 @@ found_over boxes crossings pieces starts groves own k all empty found p g is is_
     record {
       sound = λ b c. elim (h.sound b c) [
         | inl old ↦ inl old
-        | inr (inl d) ↦ inr (over_forth boxes pieces k b (inl (answers_forth boxes pieces ND groves.diffusion.plan.spots.items over g.diffusion.shows b d)))
-        | inr (inr (inl q)) ↦ inr (over_forth boxes pieces k b (inr (inl (answers_forth boxes pieces NP groves.poly.plan.spots.items over g.poly.shows b q))))
-        | inr (inr (inr m)) ↦ inr (over_forth boxes pieces k b (inr (inr (answers_forth boxes pieces NM groves.metal.plan.spots.items over g.metal.shows b m))))
+        | inr (inl d) ↦ inr (over_forth boxes pieces k b (inl (answers_forth boxes pieces ND groves.diffusion.parts.spots.items over g.diffusion.shows b d)))
+        | inr (inr (inl q)) ↦ inr (over_forth boxes pieces k b (inr (inl (answers_forth boxes pieces NP groves.poly.parts.spots.items over g.poly.shows b q))))
+        | inr (inr (inr m)) ↦ inr (over_forth boxes pieces k b (inr (inr (answers_forth boxes pieces NM groves.metal.parts.spots.items over g.metal.shows b m))))
       ];
       kept = h.kept;
       complete = λ t b o. h.complete t b (elim (over_back boxes crossings pieces starts k p is_cut b o) [
-        | inl d ↦ inl (answers_back boxes pieces ND groves.diffusion.plan.spots.items over g.diffusion.shows b d)
-        | inr (inl q) ↦ inr (inl (answers_back boxes pieces NP groves.poly.plan.spots.items over g.poly.shows b q))
-        | inr (inr m) ↦ inr (inr (answers_back boxes pieces NM groves.metal.plan.spots.items over g.metal.shows b m))
+        | inl d ↦ inl (answers_back boxes pieces ND groves.diffusion.parts.spots.items over g.diffusion.shows b d)
+        | inr (inl q) ↦ inr (inl (answers_back boxes pieces NP groves.poly.parts.spots.items over g.poly.shows b q))
+        | inr (inr m) ↦ inr (inr (answers_back boxes pieces NM groves.metal.parts.spots.items over g.metal.shows b m))
       ]);
       two = h.two;
     }

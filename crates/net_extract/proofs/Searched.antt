@@ -10,7 +10,7 @@ use Rattle.box_tree.specs.declared.spots.Spot.{Spot}
 use Rattle.lam_geom.specs.declared.boxes.MaskBox.{MaskBox}
 use Rattle.rule_table.specs.declared.technology.Tech.{Tech}
 use Rattle.box_tree.specs.declared.groves.Grove.{Grove}
-use Rattle.box_tree.specs.declared.tree.Plan.{Plan}
+use Rattle.box_tree.specs.declared.tree.OwnedParts.{OwnedParts}
 use Rattle.net_extract.specs.declared.placing.Placed.{Placed}
 use Rattle.net_extract.specs.declared.reaching.Front.{Front}
 use Rattle.net_extract.specs.declared.searches.Search.{Search}
@@ -24,8 +24,8 @@ use Rattle.net_extract.proofs.Steps.{grove_kept}
 -- the grove that was looked through
 grown : (Are : List Spot → Type 0) (Is : ℕ → Type 0) (net : ℕ) (grove new : Grove) (old front : Front) → IsGroveReached Is net grove new old front → IsGroveOf Are old grove → IsGroveOf Are front new
 grown Are Is net grove new old front r g =
-    let P : Plan → Type 0 = λ p. Are p.spots.items in
-    record { stands = r.stands; shows = subst P (sym r.plan) g.shows }
+    let P : OwnedParts → Type 0 = λ p. Are p.spots.items in
+    record { stands = r.stands; shows = subst P (sym r.parts) g.shows }
 
 -- the others
 pub others : (Are : List Spot → Type 0) (grove : Grove) (old front : Front) → length front.marks.items ≡ length old.marks.items → AreKept old.marks.items front.marks.items → IsGroveOf Are old grove → IsGroveOf Are front grove

@@ -100,7 +100,7 @@ pair_more tech boxes pieces box_no numbers i old middle new lt =
 -- a grove, with more marks
 pub grove_kept : (old new : List (Option ℕ)) (grove : Grove) → length new ≡ length old → AreKept old new → IsGrove old grove → IsGrove new grove
 grove_kept old new grove counted kept g = record {
-  plan = g.plan;
+  parts = g.parts;
   tags = λ k lt. (let l = g.tags k lt in omega arith);
-  spent = record { counted = g.spent.counted; each = λ p h left. g.spent.each p h (unmarked_before old new (spot_in grove.plan p).tag kept left) };
+  spent = record { counted = g.spent.counted; each = λ p h left. g.spent.each p h (unmarked_before old new (spot_in grove.parts p).tag kept left) };
 }

@@ -7,10 +7,10 @@ use Rattle.lam_geom.specs.declared.boxes.MaskBox.{MaskBox}
 use Rattle.lam_geom.specs.declared.boxes.MaskLayer.{MaskLayer}
 use Rattle.lam_geom.specs.declared.boxes.MaskLayer.TheVariants.{ND, NP, NM}
 use Rattle.box_tree.specs.declared.groves.Grove.{Grove}
-use Rattle.box_tree.specs.declared.tree.Plan.{Plan}
+use Rattle.box_tree.specs.declared.tree.OwnedParts.{OwnedParts}
 use Rattle.net_extract.specs.declared.over.PieceGroves.{PieceGroves}
 use Rattle.net_extract.specs.declared.placing.Placed.{Placed}
-use Rattle.box_tree.specs.Groves.{AreTagsWithin, IsNewGrove, IsOf, IsPlan}
+use Rattle.box_tree.specs.Groves.{AreTagsWithin, IsNewGrove, IsOf, AreTreeParts}
 use Rattle.net_extract.specs.Linking.{IsJoining, IsOver}
 use Rattle.net_extract.specs.Pieces.{box_of}
 use Rattle.net_extract.specs.Spots.{AreSpots, ArePieceSpots, cut_spot}
@@ -33,25 +33,25 @@ pub record AreFound (pieces : List Placed) (Is : ℕ → Type 0) (all : Bool) (o
   pub two : IsFalse all → AreOfTwo pieces new
 
 -- a tree of which the tags are below a number, that of the pieces
-pub record IsPlanWithin (count : ℕ) (plan : Plan) : Type 0 where
-  pub stands : IsPlan plan
-  pub tags : AreTagsWithin count plan.spots.items
+pub record ArePartsWithin (count : ℕ) (parts : OwnedParts) : Type 0 where
+  pub stands : AreTreeParts parts
+  pub tags : AreTagsWithin count parts.spots.items
 
 -- a node of a spot of one of three groves that holds a query
 abbrev pub IsOfAny : PieceGroves → Query → ℕ → Type 0
 IsOfAny groves query y =
-    IsOf groves.diffusion.plan.spots.items (Holds query) y
-    ⊎ (IsOf groves.poly.plan.spots.items (Holds query) y ⊎ IsOf groves.metal.plan.spots.items (Holds query) y)
+    IsOf groves.diffusion.parts.spots.items (Holds query) y
+    ⊎ (IsOf groves.poly.parts.spots.items (Holds query) y ⊎ IsOf groves.metal.parts.spots.items (Holds query) y)
 
 -- a grove of the pieces on a layer
 pub record IsPieceGrove (boxes : List MaskBox) (pieces : List Placed) (layer : MaskLayer) (grove : Grove) : Type 0 where
-  pub plan : IsPlan grove.plan
-  pub shows : ArePieceSpots boxes pieces layer grove.plan.spots.items
+  pub parts : AreTreeParts grove.parts
+  pub shows : ArePieceSpots boxes pieces layer grove.parts.spots.items
 
 -- a new one, of which nothing has been reached
 pub record IsNewPieceGrove (boxes : List MaskBox) (pieces : List Placed) (layer : MaskLayer) (grove : Grove) : Type 0 where
-  pub shows : ArePieceSpots boxes pieces layer grove.plan.spots.items
-  pub new : IsNewGrove grove.plan.spots.items grove
+  pub shows : ArePieceSpots boxes pieces layer grove.parts.spots.items
+  pub new : IsNewGrove grove.parts.spots.items grove
 
 pub record ArePieceGroves (boxes : List MaskBox) (pieces : List Placed) (groves : PieceGroves) : Type 0 where
   pub diffusion : IsPieceGrove boxes pieces ND groves.diffusion

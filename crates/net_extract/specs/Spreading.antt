@@ -26,7 +26,7 @@ IsFrontReached Is net old new = AreReached Is net old.marks.items new.marks.item
 
 -- the same of the nodes of a grove
 pub record IsGroveReached (Is : ℕ → Type 0) (net : ℕ) (grove grown : Grove) (old new : Front) : Type 0 where
-  pub plan : grown.plan ≡ grove.plan
+  pub parts : grown.parts ≡ grove.parts
   pub stands : IsGrove new.marks.items grown
   pub reached : IsFrontReached Is net old new
 
@@ -44,7 +44,7 @@ IsOfPair tech boxes pieces box_no numbers y = Contains numbers y × IsPairWith t
 -- a grove of spots of a kind
 pub record IsGroveOf (Are : List Spot → Type 0) (front : Front) (grove : Grove) : Type 0 where
   pub stands : IsGrove front.marks.items grove
-  pub shows : Are grove.plan.spots.items
+  pub shows : Are grove.parts.spots.items
 
 pub record IsSearch (tech : Tech) (boxes : List MaskBox) (pieces : List Placed) (search : Search) : Type 0 where
   pub counted : length search.front.marks.items ≡ length pieces + length boxes

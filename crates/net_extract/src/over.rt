@@ -3,14 +3,14 @@ ghost use Rattle.std.specs.Prelude.{◌<◌, ◌≤◌, ◌↔◌, [], All, IfOk
 ghost use Rattle.box_tree.specs.Queries.{Holds, IsQuery};
 ghost use Rattle.crossings.specs.Boxes.{AreSearchable, IsOn};
 ghost use Rattle.lam_geom.specs.declared.boxes.MaskLayer.TheVariants.{NC};
-ghost use Rattle.net_extract.specs.CutLists.{AreFound, AreOfTwo, ArePieceGroves, IsListOver, IsOfAny, IsPlanWithin};
-ghost use Rattle.box_tree.specs.Groves.{IsOf, IsPlan, IsUnvisitedWithin};
+ghost use Rattle.net_extract.specs.CutLists.{AreFound, AreOfTwo, ArePieceGroves, IsListOver, IsOfAny, ArePartsWithin};
+ghost use Rattle.box_tree.specs.Groves.{IsOf, AreTreeParts, IsUnvisitedWithin};
 ghost use Rattle.box_tree.specs.Found.{AreGathered};
 ghost use Rattle.net_extract.specs.Linking.{IsOver};
 ghost use Rattle.net_extract.specs.Pieces.{ArePiecesOf};
 
 use crate::placing::Pieces;
-use box_tree::{Grove, Plan, Query, Question, group_of, is_passed_over};
+use box_tree::{Grove, OwnedParts, Query, Question, group_of, is_passed_over};
 use lam_geom::{MaskBox, MaskLayer};
 use std::alloc::AllocError;
 
@@ -89,42 +89,42 @@ fn find_all(
     query: &Query,
     found: &mut Vec<u32>,
 ) -> Result<bool, AllocError>
-    requires diffusion { IsPlanWithin (length pieces.now.placed.items) groves.now.diffusion.plan }
-    requires poly { IsPlanWithin (length pieces.now.placed.items) groves.now.poly.plan }
-    requires metal { IsPlanWithin (length pieces.now.placed.items) groves.now.metal.plan }
+    requires diffusion { ArePartsWithin (length pieces.now.placed.items) groves.now.diffusion.parts }
+    requires poly { ArePartsWithin (length pieces.now.placed.items) groves.now.poly.parts }
+    requires metal { ArePartsWithin (length pieces.now.placed.items) groves.now.metal.parts }
     requires query { IsQuery query.now }
     requires found { All (λ a. a < length pieces.now.placed.items) found.old.items }
     ensures { IfOk result (λ all. AreFound pieces.now.placed.items (IsOfAny groves.now query.now) all found.old.items found.new.items) }
 {
-    if !find_on(pieces, &groves.diffusion.plan, query, found)? {
+    if !find_on(pieces, &groves.diffusion.parts, query, found)? {
         return Ok(false);
     }
-    if !find_on(pieces, &groves.poly.plan, query, found)? {
+    if !find_on(pieces, &groves.poly.parts, query, found)? {
         return Ok(false);
     }
-    find_on(pieces, &groves.metal.plan, query, found)
+    find_on(pieces, &groves.metal.parts, query, found)
 }
 
 // The same of the pieces of one layer.
 fn find_on(
     pieces: &Pieces,
-    plan: &Plan,
+    parts: &OwnedParts,
     query: &Query,
     found: &mut Vec<u32>,
 ) -> Result<bool, AllocError>
-    requires plan { IsPlanWithin (length pieces.now.placed.items) plan.now }
+    requires parts { ArePartsWithin (length pieces.now.placed.items) parts.now }
     requires query { IsQuery query.now }
     requires found { All (λ a. a < length pieces.now.placed.items) found.old.items }
-    ensures { IfOk result (λ all. AreFound pieces.now.placed.items (IsOf plan.now.spots.items (Holds query.now)) all found.old.items found.new.items) }
+    ensures { IfOk result (λ all. AreFound pieces.now.placed.items (IsOf parts.now.spots.items (Holds query.now)) all found.old.items found.new.items) }
 {
     let mut at = 0;
-    while at < plan.groups.len() {
-        let group = group_of(plan, at);
+    while at < parts.groups.len() {
+        let group = group_of(parts, at);
         if is_passed_over(group, query) {
             at += 1 + group.inside as usize;
         } else if group.inside == 0 {
             let end = group.start + group.count;
-            find_within(plan, group.start, end, query, found)?;
+            find_within(parts, group.start, end, query, found)?;
             // A box has two pieces at most, so that many are always of two boxes.
             if found.len() > LISTED && is_of_two(pieces, found.as_slice()) {
                 return Ok(false);
@@ -139,19 +139,19 @@ fn find_on(
 
 // Puts the nodes of spots at some places that hold a query behind those in `found`, marks or no marks.
 fn find_within(
-    plan: &Plan,
+    parts: &OwnedParts,
     first: u32,
     end: u32,
     query: &Query,
     found: &mut Vec<u32>,
 ) -> Result<(), AllocError>
-    requires plan { IsPlan plan.now }
+    requires parts { AreTreeParts parts.now }
     requires query { IsQuery query.now }
-    requires within { end ≤ length plan.now.order.items }
-    ensures { OnOk result (AreGathered (IsUnvisitedWithin plan.now query.now [] first end) found.old.items found.new.items) }
+    requires within { end ≤ length parts.now.order.items }
+    ensures { OnOk result (AreGathered (IsUnvisitedWithin parts.now query.now [] first end) found.old.items found.new.items) }
 {
     for place in first..end {
-        let spot = &plan.spots[plan.order[place as usize] as usize];
+        let spot = &parts.spots[parts.order[place as usize] as usize];
         if query.holds(spot) {
             found.push(spot.tag)?;
         }

@@ -37,7 +37,7 @@ pub fn reach(
 ) -> Result<(), AllocError>
     requires grove { IsGrove front.old.marks.items grove.old }
     requires query { IsQuery query.now }
-    ensures { OnOk result (IsGroveReached (IsOf grove.old.plan.spots.items (Holds query.now)) net grove.old grove.new front.old front.new) }
+    ensures { OnOk result (IsGroveReached (IsOf grove.old.parts.spots.items (Holds query.now)) net grove.old grove.new front.old front.new) }
 {
     let marks = front.marks.as_slice();
     grove.unvisited(marks, query, &mut front.found)?;
@@ -67,9 +67,9 @@ pub fn reach_buried(
     requires placed { All (IsOfBoxes boxes.now) placed.now }
     requires box_no { box_no < length boxes.now }
     requires grove { IsGrove front.old.marks.items grove.old }
-    requires tags { AreTagsWithin (length placed.now) grove.old.plan.spots.items }
+    requires tags { AreTagsWithin (length placed.now) grove.old.parts.spots.items }
     requires query { IsQuery query.now }
-    ensures { OnOk result (IsGroveReached (IsBuriedOf tech.now boxes.now placed.now box_no grove.old.plan.spots.items query.now) net grove.old grove.new front.old front.new) }
+    ensures { OnOk result (IsGroveReached (IsBuriedOf tech.now boxes.now placed.now box_no grove.old.parts.spots.items query.now) net grove.old grove.new front.old front.new) }
 {
     let marks = front.marks.as_slice();
     grove.unvisited(marks, query, &mut front.found)?;

@@ -9,7 +9,7 @@ use Rattle.box_tree.proofs.groves.look_through.Goals.{then-is_none+then-holds+in
 
 pub loop-place-preserved : goal.loop-place-preserved
 loop-place-preserved c =
-    let plan = c.args.plan.now in
+    let parts = c.args.parts.now in
     let query = c.args.query.now in
     let marks = c.args.marks.now in
     let first = c.args.first in
@@ -17,14 +17,14 @@ loop-place-preserved c =
     let t = c.loop-place-test.true in
     let w = c.requires.within in
     let le = c.loop-place.auto.place in
-    let lt : p < length plan.order.items = omega arith in
+    let lt : p < length parts.order.items = omega arith in
     let spot = c.index-spot.result.now in
-    let is : spot_in plan p ≡ spot = sym (spot_read plan.spots.items plan.order.items p spot c.requires.plan.order_of.below lt (c.index-spot.ensures ∙ ap (λ (n : ℕ). get_or plan.spots.items n spot) (get_or_read plan.order.items p c.index.result.now lt c.index.ensures 0))) in
+    let is : spot_in parts p ≡ spot = sym (spot_read parts.spots.items parts.order.items p spot c.requires.parts.order_of.below lt (c.index-spot.ensures ∙ ap (λ (n : ℕ). get_or parts.spots.items n spot) (get_or_read parts.order.items p c.index.result.now lt c.index.ensures 0))) in
     let inv = c.loop-place.invariant in
     record {
       so_far = omega arith;
       gathered =
-          one_within plan query marks first p spot c.args.found.now.items c.loop-place.found.items c.if-is_none.found.items le is
+          one_within parts query marks first p spot c.args.found.now.items c.loop-place.found.items c.if-is_none.found.items le is
           (elim c.if-is_none.branch [
             | then-is_none+then-holds+in_ok-push w ↦
                 inl (
@@ -42,11 +42,11 @@ loop-place-preserved c =
         | then-is_none+else-holds w ↦ (λ all. (let no : false ≡ true = sym w.all-is ∙ all in absurd (cc)))
         | else-is_none w ↦
             (let gone : IsLeft marks spot.tag → ⊥ = visited_by_test (get_or marks spot.tag None) c.is_none.result c.is_none.ensures w.if-is_none.false in
-            λ all. run_visited_more plan marks first p spot is gone (inv.marked (sym w.all-is ∙ all)))
+            λ all. run_visited_more parts marks first p spot is gone (inv.marked (sym w.all-is ∙ all)))
       ];
     }
 
 pub returns-clause-found : goal.returns-clause-found
 returns-clause-found c =
-    within_end c.args.plan.now c.args.query.now c.args.marks.now c.args.first c.loop-place.place c.args.end c.args.found.now.items c.loop-place.found.items c.loop-place.invariant.so_far c.loop-place-test.false
+    within_end c.args.parts.now c.args.query.now c.args.marks.now c.args.first c.loop-place.place c.args.end c.args.found.now.items c.loop-place.found.items c.loop-place.invariant.so_far c.loop-place-test.false
     c.loop-place.invariant.gathered

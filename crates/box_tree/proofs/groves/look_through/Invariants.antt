@@ -7,6 +7,6 @@ use Rattle.box_tree.proofs.groves.look_through.Given as goal
 abbrev pub invariant-loop-place : goal.invariant-loop-place
 invariant-loop-place l = record {
   so_far : l.place ≤ max l.first l.end;
-  gathered : AreGathered (IsUnvisitedWithin l.plan l.query l.marks l.first l.place) l.fn.found.items l.found.items;
-  marked : IsTrue l.all → IsRunVisited l.plan l.marks l.first l.place;
+  gathered : AreGathered (IsUnvisitedWithin l.parts l.query l.marks l.first l.place) l.fn.found.items l.found.items;
+  marked : IsTrue l.all → IsRunVisited l.parts l.marks l.first l.place;
 }

@@ -7,7 +7,7 @@ use Rattle.box_tree.proofs.groves.walk.Goals.{then-index, else-index}
 
 pub loop-at-preserved-then-is_passed_over : goal.loop-at-preserved-then-is_passed_over
 loop-at-preserved-then-is_passed_over c =
-    let plan = c.args.plan.now in
+    let parts = c.args.parts.now in
     let query = c.args.query.now in
     let marks = c.args.marks.now in
     let at = c.loop-at.at in
@@ -15,20 +15,20 @@ loop-at-preserved-then-is_passed_over c =
     let g = c.group_of-group.ensures in
     let inv = c.loop-at.invariant in
     let n = inv.spent.counted in
-    let barren : (p : ℕ) → group.start ≤ p → p < group.start + group.count → Holds query (spot_in plan p) → IsLeft marks (spot_in plan p).tag → ⊥ = elim c.if-index.branch [
-      | then-index w ↦ spent_barren plan query marks c.loop-at.spent.items at group g inv.spent (flag_read c.loop-at.spent.items at c.index.result.now (omega arith) c.index.ensures w.if-index.true)
+    let barren : (p : ℕ) → group.start ≤ p → p < group.start + group.count → Holds query (spot_in parts p) → IsLeft marks (spot_in parts p).tag → ⊥ = elim c.if-index.branch [
+      | then-index w ↦ spent_barren parts query marks c.loop-at.spent.items at group g inv.spent (flag_read c.loop-at.spent.items at c.index.result.now (omega arith) c.index.ensures w.if-index.true)
       | else-index w ↦
           (let yes : w.is_passed_over.result ≡ true = sym w.value-is ∙ c.if-is_passed_over.true in
-          λ p low high holds none. w.is_passed_over.ensures yes (spot_in plan p) (g.bounded p low high) holds)
+          λ p low high holds none. w.is_passed_over.ensures yes (spot_in parts p) (g.bounded p low high) holds)
     ] in
     record {
-      walked = walked_past plan query marks [] at (at + (1 + group.inside)) group c.loop-at.found.items (omega arith) g barren inv.walked;
+      walked = walked_past parts query marks [] at (at + (1 + group.inside)) group c.loop-at.found.items (omega arith) g barren inv.walked;
       spent = inv.spent;
     }
 
 pub loop-at-preserved-then-group-eq0 : goal.loop-at-preserved-then-group-eq0
 loop-at-preserved-then-group-eq0 c =
-    let plan = c.args.plan.now in
+    let parts = c.args.parts.now in
     let query = c.args.query.now in
     let marks = c.args.marks.now in
     let at = c.loop-at.at in
@@ -36,25 +36,25 @@ loop-at-preserved-then-group-eq0 c =
     let g = c.group_of-group.ensures in
     let inv = c.loop-at.invariant in
     record {
-      walked = walked_leaf plan query marks [] at group (group.start + group.count) c.loop-at.found.items c.look_through.new.found.items g c.if-group-eq0.true (omega arith) c.in_ok-spent.ensures.found inv.walked;
-      spent = spent_set plan marks c.loop-at.spent.items at group c.in_ok-spent.field-0 g c.in_ok-spent.ensures.all inv.spent;
+      walked = walked_leaf parts query marks [] at group (group.start + group.count) c.loop-at.found.items c.look_through.new.found.items g c.if-group-eq0.true (omega arith) c.in_ok-spent.ensures.found inv.walked;
+      spent = spent_set parts marks c.loop-at.spent.items at group c.in_ok-spent.field-0 g c.in_ok-spent.ensures.all inv.spent;
     }
 
 pub loop-at-preserved : goal.loop-at-preserved
 loop-at-preserved c =
-    let plan = c.args.plan.now in
+    let parts = c.args.parts.now in
     let query = c.args.query.now in
     let marks = c.args.marks.now in
     let at = c.loop-at.at in
     let group = c.group_of-group.result.now in
     let g = c.group_of-group.ensures in
     let inv = c.loop-at.invariant in
-    let R : List Bool → Type 0 = λ xs. IsRunSpent plan.groups.items xs at in
+    let R : List Bool → Type 0 = λ xs. IsRunSpent parts.groups.items xs at in
     record {
-      walked = walked_into plan query marks [] at group c.loop-at.found.items g c.if-group-eq0.false inv.walked;
-      spent = spent_set plan marks c.loop-at.spent.items at group c.is_spent_inside.result g
-          (λ t. run_spent_visited plan marks c.loop-at.spent.items at group g inv.spent (subst R c.as_slice.ensures.value (c.is_spent_inside.ensures t))) inv.spent;
+      walked = walked_into parts query marks [] at group c.loop-at.found.items g c.if-group-eq0.false inv.walked;
+      spent = spent_set parts marks c.loop-at.spent.items at group c.is_spent_inside.result g
+          (λ t. run_spent_visited parts marks c.loop-at.spent.items at group g inv.spent (subst R c.as_slice.ensures.value (c.is_spent_inside.ensures t))) inv.spent;
     }
 
 pub returns-clause-found : goal.returns-clause-found
-returns-clause-found c = walked_all c.args.plan.now c.args.query.now c.args.marks.now [] c.loop-at.at c.loop-at.found.items c.requires.plan (omega arith) c.loop-at.invariant.walked
+returns-clause-found c = walked_all c.args.parts.now c.args.query.now c.args.marks.now [] c.loop-at.at c.loop-at.found.items c.requires.parts (omega arith) c.loop-at.invariant.walked

@@ -5,9 +5,9 @@ use Rattle.box_tree.proofs.groves.walk.Given as goal
 
 abbrev pub invariant-loop-at : goal.invariant-loop-at
 invariant-loop-at l = record {
-  walked : IsWalked l.plan l.query l.marks [] l.at l.found.items;
-  spent : AreSpent l.plan l.marks l.spent.items;
+  walked : IsWalked l.parts l.query l.marks [] l.at l.found.items;
+  spent : AreSpent l.parts l.marks l.spent.items;
 }
 
 abbrev pub decreases-loop-at : goal.decreases-loop-at
-decreases-loop-at l = length l.plan.groups.items - l.at
+decreases-loop-at l = length l.parts.groups.items - l.at

@@ -5,46 +5,46 @@ use Rattle.net_extract.proofs.over.find_on.Goals as goal
 
 pub loop-at-preserved-then-is_passed_over : goal.loop-at-preserved-then-is_passed_over
 loop-at-preserved-then-is_passed_over c =
-    let plan = c.args.plan.now in
+    let parts = c.args.parts.now in
     let at = c.loop-at.at in
     let group = c.group_of-group.result.now in
     let g = c.group_of-group.ensures in
-    walked_past plan c.args.query.now [] c.args.found.now.items at (at + (1 + group.inside)) group c.loop-at.found.items (omega arith) g
+    walked_past parts c.args.query.now [] c.args.found.now.items at (at + (1 + group.inside)) group c.loop-at.found.items (omega arith) g
     (λ p low high holds none. c.is_passed_over.ensures c.if-is_passed_over.true _ (g.bounded p low high) holds) c.loop-at.invariant
 
 pub is_of_two-requires : goal.is_of_two-requires
 is_of_two-requires c =
-    let plan = c.args.plan.now in
+    let parts = c.args.parts.now in
     let at = c.loop-at.at in
     let group = c.group_of-group.result.now in
     let g = c.group_of-group.ensures in
-    leaf_within (length c.args.pieces.now.placed.items) plan c.args.query.now at group (group.start + group.count) c.args.found.now.items c.loop-at.found.items c.find_within.new.found.items c.as_slice.result.now c.as_slice.ensures.value
-    c.requires.plan.stands c.requires.plan.tags g c.if-group-eq0.true refl c.requires.found c.in_ok-find_within.ensures c.loop-at.invariant
+    leaf_within (length c.args.pieces.now.placed.items) parts c.args.query.now at group (group.start + group.count) c.args.found.now.items c.loop-at.found.items c.find_within.new.found.items c.as_slice.result.now c.as_slice.ensures.value
+    c.requires.parts.stands c.requires.parts.tags g c.if-group-eq0.true refl c.requires.found c.in_ok-find_within.ensures c.loop-at.invariant
 
 pub returns-then-is_of_two : goal.returns-then-is_of_two
 returns-then-is_of_two c =
-    let plan = c.args.plan.now in
+    let parts = c.args.parts.now in
     let at = c.loop-at.at in
     let group = c.group_of-group.result.now in
     let g = c.group_of-group.ensures in
-    found_enough c.args.pieces.now.placed.items plan c.args.query.now at group (group.start + group.count) c.args.found.now.items c.loop-at.found.items c.find_within.new.found.items c.as_slice.result.now c.as_slice.ensures.value
-    c.requires.plan.stands g c.if-group-eq0.true refl (c.is_of_two.ensures.0 c.if-is_of_two.true) c.in_ok-find_within.ensures c.loop-at.invariant
+    found_enough c.args.pieces.now.placed.items parts c.args.query.now at group (group.start + group.count) c.args.found.now.items c.loop-at.found.items c.find_within.new.found.items c.as_slice.result.now c.as_slice.ensures.value
+    c.requires.parts.stands g c.if-group-eq0.true refl (c.is_of_two.ensures.0 c.if-is_of_two.true) c.in_ok-find_within.ensures c.loop-at.invariant
 
 pub loop-at-preserved-then-group-eq0 : goal.loop-at-preserved-then-group-eq0
 loop-at-preserved-then-group-eq0 c =
-    let plan = c.args.plan.now in
+    let parts = c.args.parts.now in
     let at = c.loop-at.at in
     let group = c.group_of-group.result.now in
     let g = c.group_of-group.ensures in
-    walked_leaf plan c.args.query.now [] c.args.found.now.items at group (group.start + group.count) c.loop-at.found.items c.find_within.new.found.items g c.if-group-eq0.true refl c.in_ok-find_within.ensures c.loop-at.invariant
+    walked_leaf parts c.args.query.now [] c.args.found.now.items at group (group.start + group.count) c.loop-at.found.items c.find_within.new.found.items g c.if-group-eq0.true refl c.in_ok-find_within.ensures c.loop-at.invariant
 
 pub loop-at-preserved : goal.loop-at-preserved
 loop-at-preserved c =
-    let plan = c.args.plan.now in
+    let parts = c.args.parts.now in
     let at = c.loop-at.at in
     let group = c.group_of-group.result.now in
     let g = c.group_of-group.ensures in
-    walked_into plan c.args.query.now [] c.args.found.now.items at group c.loop-at.found.items g c.if-group-eq0.false c.loop-at.invariant
+    walked_into parts c.args.query.now [] c.args.found.now.items at group c.loop-at.found.items g c.if-group-eq0.false c.loop-at.invariant
 
 pub returns : goal.returns
-returns c = found_all c.args.pieces.now.placed.items c.args.plan.now c.args.query.now c.loop-at.at c.args.found.now.items c.loop-at.found.items c.requires.plan.stands (omega arith) c.loop-at.invariant
+returns c = found_all c.args.pieces.now.placed.items c.args.parts.now c.args.query.now c.loop-at.at c.args.found.now.items c.loop-at.found.items c.requires.parts.stands (omega arith) c.loop-at.invariant

@@ -9,21 +9,21 @@ use Rattle.net_extract.proofs.over.find_within.Goals.{then-holds+in_ok-push, els
 
 pub loop-place-preserved : goal.loop-place-preserved
 loop-place-preserved c =
-    let plan = c.args.plan.now in
+    let parts = c.args.parts.now in
     let query = c.args.query.now in
     let first = c.args.first in
     let p = c.loop-place.place in
     let t = c.loop-place-test.true in
     let w = c.requires.within in
     let le = c.loop-place.auto.place in
-    let lt : p < length plan.order.items = omega arith in
+    let lt : p < length parts.order.items = omega arith in
     let spot = c.index-spot.result.now in
-    let is : spot_in plan p ≡ spot = sym (spot_read plan.spots.items plan.order.items p spot c.requires.plan.order_of.below lt (c.index-spot.ensures ∙ ap (λ (n : ℕ). get_or plan.spots.items n spot) (get_or_read plan.order.items p c.index.result.now lt c.index.ensures 0))) in
+    let is : spot_in parts p ≡ spot = sym (spot_read parts.spots.items parts.order.items p spot c.requires.parts.order_of.below lt (c.index-spot.ensures ∙ ap (λ (n : ℕ). get_or parts.spots.items n spot) (get_or_read parts.order.items p c.index.result.now lt c.index.ensures 0))) in
     let inv = c.loop-place.invariant in
     record {
       so_far = omega arith;
       gathered =
-          one_within plan query [] first p spot c.args.found.now.items c.loop-place.found.items c.if-holds.found.items le is
+          one_within parts query [] first p spot c.args.found.now.items c.loop-place.found.items c.if-holds.found.items le is
           (elim c.if-holds.branch [
             | then-holds+in_ok-push w ↦ inl ((c.holds.ensures.0 w.if-holds.true, refl), ap (λ (x : Vec ℕ Global). x.items) w.found-is ∙ w.in_ok-push.ensures.items)
             | else-holds w ↦ inr (λ h. iff_false c.holds.ensures w.if-holds.false h.0, ap (λ (x : Vec ℕ Global). x.items) w.found-is)
@@ -33,5 +33,5 @@ loop-place-preserved c =
 
 pub returns : goal.returns
 returns c =
-    within_end c.args.plan.now c.args.query.now [] c.args.first c.loop-place.place c.args.end c.args.found.now.items c.loop-place.found.items c.loop-place.invariant.so_far c.loop-place-test.false
+    within_end c.args.parts.now c.args.query.now [] c.args.first c.loop-place.place c.args.end c.args.found.now.items c.loop-place.found.items c.loop-place.invariant.so_far c.loop-place-test.false
     c.loop-place.invariant.gathered

@@ -7,5 +7,5 @@ use Rattle.net_extract.proofs.over.find_within.Given as goal
 abbrev pub invariant-loop-place : goal.invariant-loop-place
 invariant-loop-place l = record {
   so_far : l.place ≤ max l.first l.end;
-  gathered : AreGathered (IsUnvisitedWithin l.plan l.query [] l.first l.place) l.fn.found.items l.found.items;
+  gathered : AreGathered (IsUnvisitedWithin l.parts l.query [] l.first l.place) l.fn.found.items l.found.items;
 }

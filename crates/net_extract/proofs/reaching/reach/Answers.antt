@@ -13,13 +13,13 @@ unvisited-requires c =
 
 pub visit-requires : goal.visit-requires
 visit-requires c =
-    found_within c.args.grove.now.plan.spots.items c.args.query.now c.as_slice-marks.result.now (length c.args.front.now.marks.items) c.unvisited.new.found.items c.as_slice.result.now c.as_slice.ensures.value c.requires.grove.tags
+    found_within c.args.grove.now.parts.spots.items c.args.query.now c.as_slice-marks.result.now (length c.args.front.now.marks.items) c.unvisited.new.found.items c.as_slice.result.now c.as_slice.ensures.value c.requires.grove.tags
     c.in_ok-unvisited.ensures.found
 
 pub returns : goal.returns
 returns c =
     let grove = c.args.grove.now in
-    let spots = grove.plan.spots.items in
+    let spots = grove.parts.spots.items in
     let old = c.args.front.now.marks.items in
     let new = c.visit.new.marks.items in
     let e = c.as_slice-marks.ensures.value in
@@ -29,7 +29,7 @@ returns c =
     found_reached spots c.args.query.now c.args.net old new c.args.front.now.queue.items c.visit.new.queue.items c.unvisited.new.found.items c.as_slice.result.now c.as_slice.ensures.value (subst U e c.in_ok-unvisited.ensures.found)
     c.in_ok-visit.ensures in
     record {
-      plan = c.unvisited.ensures.plan;
+      parts = c.unvisited.ensures.parts;
       stands = grove_kept old new c.unvisited.new.self reached.counted reached.kept (subst G e c.in_ok-unvisited.ensures.grove);
       reached = reached;
     }

@@ -13,7 +13,7 @@ unvisited-requires c =
 
 pub keep_buried-requires : goal.keep_buried-requires
 keep_buried-requires c =
-    let spots = c.args.grove.now.plan.spots.items in
+    let spots = c.args.grove.now.parts.spots.items in
     record {
       searchable = c.requires.searchable;
       windows = c.requires.windows;
@@ -24,7 +24,7 @@ keep_buried-requires c =
 
 pub visit-requires : goal.visit-requires
 visit-requires c =
-    let spots = c.args.grove.now.plan.spots.items in
+    let spots = c.args.grove.now.parts.spots.items in
     let marks = c.args.front.now.marks.items in
     kept_within c.args.tech.now c.args.boxes.now c.args.placed.now c.args.box_no spots c.args.query.now c.as_slice-marks.result.now (length marks) c.unvisited.new.found.items c.as_slice.result.now c.keep_buried.new.kept.items c.as_slice-2.result.now c.clear.new.self.items
     c.as_slice.ensures.value c.as_slice-2.ensures.value c.clear.ensures.items c.requires.grove.tags c.in_ok-unvisited.ensures.found c.in_ok-keep_buried.ensures
@@ -32,7 +32,7 @@ visit-requires c =
 pub returns : goal.returns
 returns c =
     let grove = c.args.grove.now in
-    let spots = grove.plan.spots.items in
+    let spots = grove.parts.spots.items in
     let old = c.args.front.now.marks.items in
     let new = c.visit.new.marks.items in
     let e = c.as_slice-marks.ensures.value in
@@ -42,7 +42,7 @@ returns c =
     buried_reached c.args.tech.now c.args.boxes.now c.args.placed.now c.args.box_no spots c.args.query.now c.args.net old new c.args.front.now.queue.items c.visit.new.queue.items c.unvisited.new.found.items c.as_slice.result.now
     c.keep_buried.new.kept.items c.as_slice-2.result.now c.clear.new.self.items c.as_slice.ensures.value c.as_slice-2.ensures.value c.clear.ensures.items (subst U e c.in_ok-unvisited.ensures.found) c.in_ok-keep_buried.ensures c.in_ok-visit.ensures in
     record {
-      plan = c.unvisited.ensures.plan;
+      parts = c.unvisited.ensures.parts;
       stands = grove_kept old new c.unvisited.new.self reached.counted reached.kept (subst G e c.in_ok-unvisited.ensures.grove);
       reached = reached;
     }

@@ -48,7 +48,7 @@ returns c =
     let nodes = lists.nodes.items in
     let cuts = lists.cuts.items in
     let query = over_query (area_of pieces a) (box_of pieces a) in
-    let spots = search.cuts.plan.spots.items in
+    let spots = search.cuts.parts.spots.items in
     let front = c.reach.new.front in
     let second = record search { cuts = c.reach.new.grove; front = front } in
     let last = record front { marks = c.visit.new.marks; queue = c.visit.new.queue; found = c.cuts_of.new.found } in

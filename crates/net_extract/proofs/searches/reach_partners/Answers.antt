@@ -24,14 +24,14 @@ reach_buried-requires c =
     let boxes = c.args.boxes.now in
     let pieces = c.args.pieces.now.placed.items in
     let grove = c.args.search.now.under in
-    let T : List Placed → Type 0 = λ ps. AreTagsWithin (length ps) grove.plan.spots.items in
+    let T : List Placed → Type 0 = λ ps. AreTagsWithin (length ps) grove.parts.spots.items in
     record {
       searchable = c.requires.searchable;
       windows = c.requires.windows;
       placed = all_of_boxes boxes c.args.pieces.now.crossings.items pieces c.as_slice-placed.result.now c.args.pieces.now.starts.items c.as_slice-placed.ensures.value c.requires.pieces;
       box_no = c.requires.in_range;
       grove = c.requires.search.under.stands;
-      tags = subst T (sym c.as_slice-placed.ensures.value) (box_tags c.args.tech.now boxes pieces ND grove.plan.spots.items c.requires.search.under.shows);
+      tags = subst T (sym c.as_slice-placed.ensures.value) (box_tags c.args.tech.now boxes pieces ND grove.parts.spots.items c.requires.search.under.shows);
       query = c.near-over.ensures.query;
     }
 
@@ -42,7 +42,7 @@ returns-in-NP c =
     let pieces = c.args.pieces.now.placed.items in
     let box_no = c.args.box_no in
     let search = c.args.search.now in
-    let spots = search.under.plan.spots.items in
+    let spots = search.under.parts.spots.items in
     let query = c.near-over.result in
     let read : c.index-boxes-box_no.result ≡ box_at boxes box_no = get_or_read boxes box_no c.index-boxes-box_no.result c.requires.in_range c.index-boxes-box_no.is no_box in
     let at : layer_at boxes box_no ≡ NP = sym (ap (λ (m : MaskBox). m.layer) read) ∙ c.in-NP.is in
@@ -59,14 +59,14 @@ reach_buried-requires-in-ND c =
     let boxes = c.args.boxes.now in
     let pieces = c.args.pieces.now.placed.items in
     let grove = c.args.search.now.over in
-    let T : List Placed → Type 0 = λ ps. AreTagsWithin (length ps) grove.plan.spots.items in
+    let T : List Placed → Type 0 = λ ps. AreTagsWithin (length ps) grove.parts.spots.items in
     record {
       searchable = c.requires.searchable;
       windows = c.requires.windows;
       placed = all_of_boxes boxes c.args.pieces.now.crossings.items pieces c.as_slice-placed.result.now c.args.pieces.now.starts.items c.as_slice-placed.ensures.value c.requires.pieces;
       box_no = c.requires.in_range;
       grove = c.requires.search.over.stands;
-      tags = subst T (sym c.as_slice-placed.ensures.value) (box_tags c.args.tech.now boxes pieces NP grove.plan.spots.items c.requires.search.over.shows);
+      tags = subst T (sym c.as_slice-placed.ensures.value) (box_tags c.args.tech.now boxes pieces NP grove.parts.spots.items c.requires.search.over.shows);
       query = c.near-over.ensures.query;
     }
 
@@ -77,7 +77,7 @@ returns-in-ND c =
     let pieces = c.args.pieces.now.placed.items in
     let box_no = c.args.box_no in
     let search = c.args.search.now in
-    let spots = search.over.plan.spots.items in
+    let spots = search.over.parts.spots.items in
     let query = c.near-over.result in
     let read : c.index-boxes-box_no.result ≡ box_at boxes box_no = get_or_read boxes box_no c.index-boxes-box_no.result c.requires.in_range c.index-boxes-box_no.is no_box in
     let at : layer_at boxes box_no ≡ ND = sym (ap (λ (m : MaskBox). m.layer) read) ∙ c.in-ND.is in

@@ -15,7 +15,7 @@ returns-in-ND c =
     let pieces = c.args.pieces.now.placed.items in
     let search = c.args.search.now in
     let query = c.args.query.now in
-    let spots = search.diffusion.plan.spots.items in
+    let spots = search.diffusion.parts.spots.items in
     let As : MaskLayer → Type 0 = λ layer. IsStep c.args.tech.now boxes pieces (IsAnswer boxes pieces layer query) c.args.net search (record search { diffusion = c.reach.new.grove; front = c.reach.new.front }) in
     on_ok_weaker c.reach.result
     (λ r. subst As (sym c.in-ND.is)
@@ -29,7 +29,7 @@ returns-in-NP c =
     let pieces = c.args.pieces.now.placed.items in
     let search = c.args.search.now in
     let query = c.args.query.now in
-    let spots = search.poly.plan.spots.items in
+    let spots = search.poly.parts.spots.items in
     let As : MaskLayer → Type 0 = λ layer. IsStep c.args.tech.now boxes pieces (IsAnswer boxes pieces layer query) c.args.net search (record search { poly = c.reach-in-NP.new.grove; front = c.reach-in-NP.new.front }) in
     on_ok_weaker c.reach-in-NP.result
     (λ r. subst As (sym c.in-NP.is)
@@ -43,7 +43,7 @@ returns-in-NM c =
     let pieces = c.args.pieces.now.placed.items in
     let search = c.args.search.now in
     let query = c.args.query.now in
-    let spots = search.metal.plan.spots.items in
+    let spots = search.metal.parts.spots.items in
     let As : MaskLayer → Type 0 = λ layer. IsStep c.args.tech.now boxes pieces (IsAnswer boxes pieces layer query) c.args.net search (record search { metal = c.reach-in-NM.new.grove; front = c.reach-in-NM.new.front }) in
     on_ok_weaker c.reach-in-NM.result
     (λ r. subst As (sym c.in-NM.is)
