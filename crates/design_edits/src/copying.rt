@@ -166,7 +166,8 @@ pub fn is_short(design: &Design) -> bool
     without_grids(left, design.grids.as_slice()).is_some()
 }
 
-/// The design with these lines in a cell, all lines numbered as in its canonical text. The only refusal is want of memory.
+/// The design with these lines in a cell, all lines numbered as in its canonical text. The only refusal is want of
+/// memory.
 pub fn with_lines(
     alloc: Global,
     design: &Design,
@@ -175,7 +176,9 @@ pub fn with_lines(
 ) -> Result<Design, AllocError>
     requires within { number < length design.now.cells }
     requires few { lines_in design.now + length lines.now + 2 < 2 ^ 32 }
-    ensures { IfOk result (λ new. new ≡ laid_out (record design.now { cells = slice_set design.now.cells number (record (cell_text_at design.now number) { lines = lines.now }) })) }
+    ensures { IfOk result (λ new. new ≡ laid_out (record design.now {
+      cells = slice_set design.now.cells number (record (cell_text_at design.now number) { lines = lines.now });
+    })) }
 {
     let cells = design.cells.as_slice();
     let mut copies = Vec::new(alloc);

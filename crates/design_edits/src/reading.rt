@@ -38,7 +38,8 @@ fn at_line(number: u32, fault: LineFault) -> ScriptFault
 /// costs time linear in the text.
 pub fn read_script<L: ScriptLine>(alloc: Global, text: &[u8]) -> Result<Vec<L>, ScriptFault>
     requires { length text.now ≤ 65536 }
-    ensures { MatchResult result (λ steps. steps_of L.said text.now ≡ Ok steps.items) (λ fault. IsScriptFault fault (steps_of L.said text.now)) }
+    ensures { MatchResult result (λ steps. steps_of L.said text.now ≡ Ok steps.items)
+        (λ fault. IsScriptFault fault (steps_of L.said text.now)) }
 {
     let mut steps = Vec::new(alloc);
     let mut rest = text;
