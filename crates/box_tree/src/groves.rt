@@ -53,7 +53,7 @@ impl Grove {
     }
 }
 
-// The same, of a parts.
+// The same, of the parts of a tree.
 fn walk(
     parts: &OwnedParts,
     spent: &mut Vec<bool>,

@@ -6,13 +6,14 @@ use Rattle.std.proofs.lemmas.List.{get_or_append_left, get_or_push, length_push}
 use Rattle.std.proofs.lemmas.List.Elements.{All-push}
 use Rattle.std.proofs.lemmas.Option.{get_or_from_slice_get, slice_get_within, slice_get-get_or}
 use Rattle.lam_geom.specs.Places.{IsPlacedBox}
+use Rattle.box_tree.specs.Groves.{group_at}
 use Rattle.box_tree.specs.declared.spots.Spot.{Spot}
 use Rattle.box_tree.specs.declared.tree.OwnedParts.{OwnedParts}
 use Rattle.rule_table.specs.declared.classes.Class.{Class}
 use Rattle.sym_items.specs.declared.items.Item.{Item}
 use Rattle.sym_items.specs.declared.items.Coords.{Coords}
 use Rattle.pair_rules.specs.Bound.{item_at}
-use Rattle.coarse_grid.specs.Nearby.{IsSpotOf, HasSpot, AreSpotsOf, AreFlagged, IsRunAlike, group_at}
+use Rattle.coarse_grid.specs.Nearby.{IsSpotOf, HasSpot, AreSpotsOf, AreFlagged, IsRunAlike}
 use Rattle.coarse_grid.proofs.Nears.{by_lt}
 
 -- ---- spots
@@ -73,7 +74,7 @@ spots_past c items class n spots h other = record {
 
 -- one more flag
 pub flags_more : (items : List Item) (parts : OwnedParts) (n : ℕ) (flags : List Bool) (own : Bool)
-    → AreFlagged items parts n flags → (IsTrue own → IsRunAlike items parts (group_at parts n))
+    → AreFlagged items parts n flags → (IsTrue own → IsRunAlike items parts (group_at parts.groups.items n))
     → AreFlagged items parts (n + 1) (flags ++ own ∷ [])
 flags_more items parts n flags own h is = record {
   counted = omega (arith, h.counted, length_push flags own);
@@ -82,6 +83,6 @@ flags_more items parts n flags own h is = record {
       (omega (arith, before, h.counted))) ∙ flag))
       (λ past. let same : n ≡ at = omega (arith, past, lt) in
       let counted : length flags ≡ at = omega (arith, same, h.counted) in
-      subst (λ (k : ℕ). IsRunAlike items parts (group_at parts k)) same
+      subst (λ (k : ℕ). IsRunAlike items parts (group_at parts.groups.items k)) same
       (is (sym (get_or_push flags own false at counted) ∙ flag)));
 }

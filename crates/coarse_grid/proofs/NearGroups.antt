@@ -7,6 +7,7 @@ use Rattle.std.proofs.lemmas.Int.{ints}
 use Rattle.std.proofs.lemmas.List.{get_or_read}
 use Rattle.lam_geom.specs.declared.boxes.BoxXY.{BoxXY}
 use Rattle.lam_geom.specs.Gaps.{gap_of_boxes}
+use Rattle.box_tree.specs.Groves.{group_at, no_group}
 use Rattle.box_tree.specs.declared.spots.Group.{Group}
 use Rattle.box_tree.specs.declared.spots.Spot.{Spot}
 use Rattle.box_tree.specs.declared.query.Question.TheVariants.{NearOfOther, NearOfOtherTag}
@@ -26,7 +27,7 @@ use Rattle.sym_items.specs.Standing.{stand_together}
 use Rattle.pair_rules.specs.Bound.{IsBound, item_at, is_joined, bound_spacing, spacing_by}
 use Rattle.pair_rules.proofs.BoundItems.{out_of_bound}
 use Rattle.coarse_grid.specs.Clash.{is_below, is_near, is_near_at}
-use Rattle.coarse_grid.specs.Nearby.{AreAlike, AreParts, AreSpotsOf, IsFarRun, IsNearOf, IsSpotOf, group_at, no_group}
+use Rattle.coarse_grid.specs.Nearby.{AreAlike, AreParts, AreSpotsOf, IsFarRun, IsNearOf, IsSpotOf}
 use Rattle.coarse_grid.specs.Nearby.{question_of}
 
 pub not_true : (b : Bool) → (b ≡ true → ⊥) → b ≡ false
@@ -126,7 +127,7 @@ NearSpot tech c items i s = is_near_at tech c items i s.owner ≡ true
 
 -- a group that was read
 pub group_read : (parts : OwnedParts) (at : ℕ) (group : Group) → at < length parts.groups.items
-    → group ≡ get_or parts.groups.items at group → group ≡ group_at parts at
+    → group ≡ get_or parts.groups.items at group → group ≡ group_at parts.groups.items at
 group_read parts at group lt is = get_or_read parts.groups.items at group lt is no_group
 
 -- what its bounds rule out

@@ -6,7 +6,7 @@ use Rattle.box_tree.specs.declared.query.Question.TheVariants.{NearOfOther, Near
 use Rattle.box_tree.specs.declared.spots.Group.{Group}
 use Rattle.box_tree.specs.declared.spots.Spot.{Spot}
 use Rattle.box_tree.specs.declared.tree.OwnedParts.{OwnedParts}
-use Rattle.box_tree.specs.Tree.{IsTreeOf, no_spot, spot_at}
+use Rattle.box_tree.specs.Groves.{AreTreeParts, IsInRun, group_at, spot_in}
 use Rattle.lam_geom.specs.Places.{IsPlacedBox}
 use Rattle.rule_table.specs.declared.classes.Class.{Class}
 use Rattle.rule_table.specs.declared.classes.Rule.{Rule}
@@ -44,13 +44,10 @@ pub record AreSpotsOf (c : Coords) (items : List Item) (class : Class) (n : ℕ)
 
 -- a tree of spots that stand for items
 pub record AreParts (items : List Item) (parts : OwnedParts) : Type 0 where
-  pub tree : IsTreeOf parts.spots.items parts.order.items parts.groups.items
+  pub tree : AreTreeParts parts
   pub owners : All (λ (s : Spot). s.owner < length items) parts.spots.items
 
--- the spot at a place of a tree's order, and its item
-abbrev pub spot_in : OwnedParts → ℕ → Spot
-spot_in parts p = spot_at parts.spots.items parts.order.items p
-
+-- the item at a place of a tree's order
 abbrev pub item_in : List Item → OwnedParts → ℕ → Item
 item_in items parts p = item_at items (spot_in parts p).owner
 
@@ -59,33 +56,16 @@ item_in items parts p = item_at items (spot_in parts p).owner
 abbrev pub AreAlike : Item → Item → Type 0
 AreAlike a b = (a.class ≡ b.class) × (a.net ≡ b.net) × (a.at_low ≡ b.at_low) × (a.at_high ≡ b.at_high)
 
--- a place in the run of a group
-abbrev pub IsInRun : Group → ℕ → Type 0
-IsInRun group p = (group.start ≤ p) × (p < group.start + group.count)
-
 -- a group has items, and all are alike
 pub record IsRunAlike (items : List Item) (parts : OwnedParts) (group : Group) : Type 0 where
   pub some : 0 < group.count
   pub each : (p : ℕ) → IsInRun group p → AreAlike (item_in items parts p) (item_in items parts group.start)
 
--- group number `at` of a tree
-abbrev pub no_group : Group
-no_group = record {
-  outer = no_spot.area;
-  inner = record { x = record { lo = pos 0; hi = pos 0 }; y = record { lo = pos 0; hi = pos 0 } };
-  tag = None;
-  start = 0;
-  count = 0;
-  inside = 0;
-}
-
-abbrev pub group_at : OwnedParts → ℕ → Group
-group_at parts at = slice_index_or parts.groups.items at no_group
-
 -- flags of the first n groups: where one is set, the items of the group are alike
 pub record AreFlagged (items : List Item) (parts : OwnedParts) (n : ℕ) (flags : List Bool) : Type 0 where
   pub counted : length flags ≡ n
-  pub alike : (at : ℕ) → at < n → IsTrue (slice_index_or flags at false) → IsRunAlike items parts (group_at parts at)
+  pub alike : (at : ℕ) → at < n → IsTrue (slice_index_or flags at false)
+      → IsRunAlike items parts (group_at parts.groups.items at)
 
 -- the tree of the items of its class
 pub record IsClassTree (c : Coords) (items : List Item) (tree : ClassTree) : Type 0 where

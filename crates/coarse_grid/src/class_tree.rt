@@ -3,11 +3,12 @@
 ghost use Rattle.std.specs.Prelude.{◌≡◌, ◌^◌, ◌+◌, ◌<◌, ◌≤◌, ◌↔◌, IfOk, IsTrue, All, length};
 ghost use Rattle.box_tree.specs.declared.spots.Group.{Group};
 ghost use Rattle.box_tree.specs.declared.tree.OwnedParts.{OwnedParts};
+ghost use Rattle.box_tree.specs.Groves.{spot_in};
 ghost use Rattle.box_tree.specs.Tree.{IsTreeOf};
 ghost use Rattle.lam_geom.specs.Places.{IsPlacedBox};
 ghost use Rattle.sym_items.specs.Boxes.{HasBox};
 ghost use Rattle.coarse_grid.specs.Nearby.{AreAlike, AreFlagged, AreParts, AreSpotsOf, IsClassTree, IsRunAlike};
-ghost use Rattle.coarse_grid.specs.Nearby.{item_in, spot_in};
+ghost use Rattle.coarse_grid.specs.Nearby.{item_in};
 
 use box_tree::{BoxTree, Group, OwnedParts, Spot};
 use rule_table::Class;

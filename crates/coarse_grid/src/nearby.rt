@@ -3,13 +3,14 @@
 ghost use Rattle.std.specs.Prelude.{◌≡◌, ◌+◌, ◌<◌, ◌≤◌, ◌^◌, ℕ, pos, ◌≤ℤ◌, true, None, length, All, IsTrue, MatchBool};
 ghost use Rattle.std.specs.Prelude.{IfOk, IfNone, IfSome};
 ghost use Rattle.box_tree.specs.declared.spots.Spot.{Spot};
+ghost use Rattle.box_tree.specs.Groves.{IsInRun, group_at};
 ghost use Rattle.box_tree.specs.Queries.{Holds, IsQuery, IsQuestion};
 ghost use Rattle.sym_items.specs.Boxes.{HasBox};
 ghost use Rattle.pair_rules.specs.Bound.{item_at, bound_spacing};
 ghost use Rattle.pair_rules.specs.Clean.{IsClean};
 ghost use Rattle.coarse_grid.specs.Clash.{is_near_at, IsFirstClash};
-ghost use Rattle.coarse_grid.specs.Nearby.{AreParts, HasNear, IsClassTree, IsFarRun, IsFirstNear, IsFirstOf, IsInRun};
-ghost use Rattle.coarse_grid.specs.Nearby.{IsNearOf, IsRunAlike, IsSpotOf, group_at, item_in, question_of};
+ghost use Rattle.coarse_grid.specs.Nearby.{AreParts, HasNear, IsClassTree, IsFarRun, IsFirstNear, IsFirstOf};
+ghost use Rattle.coarse_grid.specs.Nearby.{IsNearOf, IsRunAlike, IsSpotOf, item_in, question_of};
 
 use crate::clash::{first_near, is_near};
 use crate::class_tree::{ClassTree, class_tree, item_in, spot_in};
@@ -86,7 +87,7 @@ fn is_left_out(
     requires query { IsQuery query.now }
     requires asked { (spot : Spot) → IsSpotOf coords.now items.now tree.now.class spot
         → is_near_at tech.now coords.now items.now i spot.owner ≡ true → Holds query.now spot }
-    ensures { IsTrue result → IsFarRun tech.now coords.now items.now tree.now.parts (group_at tree.now.parts at) i }
+    ensures { IsTrue result → IsFarRun tech.now coords.now items.now tree.now.parts (group_at tree.now.parts.groups.items at) i }
 {
     let group = &tree.parts.groups[at];
     !group.may_hold(query) || tree.alike[at] && is_unbound(tech, items, &tree.parts, group, i)

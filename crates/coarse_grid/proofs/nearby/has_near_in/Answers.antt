@@ -3,7 +3,8 @@ use Rattle.box_tree.specs.declared.spots.Spot.{Spot}
 use Rattle.box_tree.specs.Queries.{Holds}
 use Rattle.box_tree.specs.Tree.{no_spot}
 use Rattle.coarse_grid.specs.Clash.{is_near_at}
-use Rattle.coarse_grid.specs.Nearby.{IsSpotOf, spot_in}
+use Rattle.box_tree.specs.Groves.{spot_in}
+use Rattle.coarse_grid.specs.Nearby.{IsSpotOf}
 use Rattle.coarse_grid.proofs.Nears.{by_lt}
 use Rattle.coarse_grid.proofs.NearGroups.{NearSpot, not_true}
 use Rattle.coarse_grid.proofs.nearby.has_near_in.Goals.{
