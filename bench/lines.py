@@ -1,11 +1,11 @@
 #!/usr/bin/env python3
 """Counts what stands in the crates: lines.py [FOLDER]
 
-For each crate its lines of code, tests, definitions and proofs and its must-fail edits; then the sums, the longest
-chain of crates, and the chain on which most lines stand, which is what a first proof cannot do side by side. FOLDER is
-a checkout, this one if none is given.
+For each crate its lines of code, tests, definitions and proofs and its must-fail edits; then the sums, how many of all
+lines are imports, and how many are wider than 120 columns; the longest chain of crates, and the chain on which most
+lines stand, which is what a first proof cannot do side by side. FOLDER is a checkout, this one if none is given.
 """
-import glob, os, sys
+import glob, os, re, sys
 
 TOP = sys.argv[1] if len(sys.argv) > 1 else os.path.join(os.path.dirname(os.path.abspath(__file__)), "..")
 
@@ -65,6 +65,11 @@ def main():
                                                   edits))
     sums = [sum(row[k] for row in rows.values()) for k in range(5)]
     print("%-14s %7d %7d %12d %7d %7d %6d" % ("all", *sums[:4], sum(sums[:4]), sums[4]))
+    texts = [line for name in stands_on for kind in ("rt", "antt") for room in ("src", "specs", "proofs")
+             for lines in lines_of(f"{TOP}/crates/{name}/{room}/**/*.{kind}").values() for line in lines]
+    imports = sum(bool(re.match(r"\s*(pub )?(ghost )?(use|mod|pub mod) ", line)) for line in texts)
+    print("definitions and proofs: %d; imports: %d; wider than 120 columns: %d"
+          % (sums[2] + sums[3], imports, sum(len(line) > 120 for line in texts)))
     known, long = {}, {}
     lines = max(heaviest(name, stands_on, lambda crate: sum(rows[crate][:4]), known) for name in stands_on)
     count_of = max(heaviest(name, stands_on, lambda crate: 1, long) for name in stands_on)
