@@ -1,16 +1,12 @@
 -- The walk that takes all spots with a property.
-use Rattle.std.proofs.Common.{◌≡◌, ℕ, ◌+◌, ◌<◌, ◌≤◌, List, [], ◌∷◌, ◌++◌, length, get_or, drop, Contains, inl, inr, sym, ap, ◌∙◌, subst, arith, length-drop}
-use Rattle.std.proofs.lemmas.Bool.{cases_lt}
-use Rattle.std.proofs.lemmas.List.{drop_all, drop-drop, get_or_append_left, get_or_default, get_or_push, length_push}
+use Rattle.std.proofs.Common.{◌≡◌, ℕ, ◌+◌, ◌<◌, ◌≤◌, List, [], ◌∷◌, ◌++◌, length, get_or, drop, Contains, inl, inr, sym}
+use Rattle.std.proofs.{Common.{ap, ◌∙◌, subst, arith, length-drop}, lemmas.{Bool.cases_lt, List.{drop_all, drop-drop}}}
+use Rattle.std.proofs.lemmas.List.{get_or_append_left, get_or_default, get_or_push, length_push}
 use Rattle.std.proofs.lemmas.List.Elements.{Contains-append_left, Contains-push, Contains-push_cases}
 use Rattle.std.proofs.lemmas.Option.{get_or_from_slice_get, slice_get-get_or, slice_get_within}
-use Rattle.box_tree.specs.declared.query.Query.{Query}
-use Rattle.box_tree.specs.declared.spots.Group.{Group}
-use Rattle.box_tree.specs.declared.spots.Spot.{Spot}
-use Rattle.box_tree.specs.Found.{AreHolding, IsAtPlace, IsTaken}
-use Rattle.box_tree.specs.Queries.{Holds}
-use Rattle.box_tree.specs.Tree.{AreDistinct, IsOrderOf, IsTreeOf, begin_of, no_spot, spot_at}
-use Rattle.box_tree.proofs.Trees.{IsBarren, begin_here, group_here}
+use Rattle.box_tree.specs.{declared.{query.Query.Query, spots.{Group.Group, Spot.Spot}}, Found.{AreHolding, IsAtPlace}}
+use Rattle.box_tree.specs.{Found.IsTaken, Queries.Holds, Tree.{AreDistinct, IsOrderOf, IsTreeOf, begin_of, no_spot}}
+use Rattle.box_tree.{specs.Tree.spot_at, proofs.Trees.{IsBarren, begin_here, group_here}}
 
 -- ---- one place after another
 

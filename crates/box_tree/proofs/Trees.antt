@@ -1,12 +1,11 @@
 -- Groups one behind another, and the walk over them.
-use Rattle.std.proofs.Common.{◌≡◌, ℕ, zero, suc, ◌+◌, ◌-◌, ◌<◌, ◌≤◌, inl, inr, Some, List, [], ◌∷◌, ◌++◌, length, set, get_or, drop, slice_get, All, refl, sym, ap, ◌∙◌, subst, arith, length-append, length-drop, append_assoc}
-use Rattle.std.proofs.lemmas.Bool.{cases_lt}
-use Rattle.std.proofs.lemmas.List.{drop-append-le, drop_more, drop_all, drop-drop, get_or_default, set_at}
-use Rattle.std.proofs.lemmas.Option.{get_or_from_slice_get, slice_get_within}
-use Rattle.box_tree.specs.declared.spots.Group.{Group}
-use Rattle.box_tree.specs.declared.spots.Spot.{Spot}
-use Rattle.box_tree.specs.Tree.{AreGroups, IsBounded, IsGroupOf, IsPlacedGroup, IsTreeOf, begin_of, no_spot, spot_at}
-use Rattle.box_tree.specs.Grown.{IsGrown}
+use Rattle.std.proofs.Common.{◌≡◌, ℕ, zero, suc, ◌+◌, ◌-◌, ◌<◌, ◌≤◌, inl, inr, Some, List, [], ◌∷◌, ◌++◌, length, set}
+use Rattle.std.proofs.Common.{get_or, drop, slice_get, All, refl, sym, ap, ◌∙◌, subst, arith, length-append}
+use Rattle.std.proofs.Common.{length-drop, append_assoc}
+use Rattle.std.proofs.lemmas.{Bool.cases_lt, List.{drop-append-le, drop_more, drop_all, drop-drop, get_or_default}}
+use Rattle.std.proofs.lemmas.{List.set_at, Option.{get_or_from_slice_get, slice_get_within}}
+use Rattle.box_tree.specs.{declared.spots.{Group.Group, Spot.Spot}, Tree.{AreGroups, IsBounded, IsGroupOf}}
+use Rattle.box_tree.specs.{Tree.{IsPlacedGroup, IsTreeOf, begin_of, no_spot, spot_at}, Grown.IsGrown}
 
 -- a spot that was read is the one at its place
 pub spot_read : (spots : List Spot) (order : List ℕ) (p : ℕ) (spot : Spot) → All (λ k. k < length spots) order → p < length order → spot ≡ get_or spots (get_or order p 0) spot → spot ≡ spot_at spots order p

@@ -1,25 +1,18 @@
 -- Steps of the walk through a grove.
-use Rattle.std.proofs.Common.{◌≡◌, ◌≢◌, ℕ, ◌+◌, ◌<◌, ◌≤◌, Bool, false, true, Option, None, Some, List, [], ◌∷◌, ◌++◌, length, set, get_or, drop, ◌⊎◌, inl, inr, refl, sym, ◌∙◌, ap, subst, arith, length-drop, length-set, get_or-set_other, get_or-set_same}
-use Rattle.std.specs.Prelude.{IsTrue, ℤ, ◌<ℤ◌, is_some, max, nat_eq, not}
-use Rattle.std.specs.Int.{int_max}
-use Rattle.std.proofs.lemmas.Int.{ints, clamps}
-use Rattle.std.proofs.lemmas.Bool.{cases_lt, cases_eq, eqb-true}
-use Rattle.std.proofs.lemmas.List.{drop_more, drop_all, drop-drop, get_or_default, get_or_read}
-use Rattle.box_tree.specs.declared.query.Query.{Query}
-use Rattle.box_tree.specs.declared.spots.Group.{Group}
-use Rattle.box_tree.specs.declared.spots.Spot.{Spot}
-use Rattle.box_tree.specs.declared.query.Question.{Question}
-use Rattle.box_tree.specs.declared.query.Question.TheVariants.{NearOfOther}
-use Rattle.box_tree.specs.Queries.{Holds, reach_of}
-use Rattle.lam_geom.specs.declared.boxes.BoxXY.{BoxXY}
-use Rattle.lam_geom.specs.Gaps.{gap_of, gap_of_boxes}
-use Rattle.box_tree.specs.Tree.{IsBounded, IsGroupOf, begin_of}
-use Rattle.box_tree.proofs.Trees.{group_here}
-use Rattle.box_tree.proofs.Within.{too_far}
-use Rattle.box_tree.specs.declared.tree.OwnedParts.{OwnedParts}
-use Rattle.box_tree.specs.Groves.{spot_of, no_group, group_at, spot_in, begin_at, IsRead, IsOf, AreTreeParts, IsInRun, InSpent, IsLeft, IsRunSpent, IsVisitedAt, IsRunVisited, AreSpent, IsUnvisited, IsUnvisitedWithin}
-use Rattle.box_tree.specs.Found.{AreGathered}
-use Rattle.box_tree.proofs.Growth.{gathered_as, gathered_more, gathered_none, gathered_if}
+use Rattle.std.proofs.Common.{◌≡◌, ◌≢◌, ℕ, ◌+◌, ◌<◌, ◌≤◌, Bool, false, true, Option, None, Some, List, [], ◌∷◌, ◌++◌}
+use Rattle.std.proofs.Common.{length, set, get_or, drop, ◌⊎◌, inl, inr, refl, sym, ◌∙◌, ap, subst, arith, length-drop}
+use Rattle.std.proofs.Common.{length-set, get_or-set_other, get_or-set_same}
+use Rattle.std.proofs.lemmas.{Int.{ints, clamps}, Bool.{cases_lt, cases_eq, eqb-true}, List.{drop_more, drop_all}}
+use Rattle.std.proofs.lemmas.List.{drop-drop, get_or_default, get_or_read}
+use Rattle.std.specs.{Prelude.{IsTrue, ℤ, ◌<ℤ◌, is_some, max, nat_eq, not}, Int.int_max}
+use Rattle.box_tree.specs.declared.query.{Query.Query, Question.{Question, TheVariants.NearOfOther}}
+use Rattle.box_tree.specs.{declared.{spots.{Group.Group, Spot.Spot}, tree.OwnedParts.OwnedParts}, Queries.Holds}
+use Rattle.box_tree.specs.{Queries.reach_of, Tree.{IsBounded, IsGroupOf, begin_of}, Groves.{spot_of, no_group}}
+use Rattle.box_tree.specs.Groves.{group_at, spot_in, begin_at, IsRead, IsOf, AreTreeParts, IsInRun, InSpent, IsLeft}
+use Rattle.box_tree.specs.Groves.{IsRunSpent, IsVisitedAt, IsRunVisited, AreSpent, IsUnvisited, IsUnvisitedWithin}
+use Rattle.box_tree.{specs.Found.AreGathered, proofs.{Trees.group_here, Within.too_far, Growth.gathered_as}}
+use Rattle.box_tree.proofs.Growth.{gathered_more, gathered_none, gathered_if}
+use Rattle.lam_geom.specs.{declared.boxes.BoxXY.BoxXY, Gaps.{gap_of, gap_of_boxes}}
 
 -- ---- tests
 

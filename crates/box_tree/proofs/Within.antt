@@ -1,17 +1,12 @@
 -- What the bounds of a group say of the spots within them.
-use Rattle.std.proofs.Common.{◌≡◌, ◌↔◌, ℤ, pos, ◌+ℤ◌, ◌≤ℤ◌, ◌<ℤ◌, Some, Bool, true, false, IsTrue, IsFalse, refl, sym, subst, w64, arith}
-use Rattle.std.specs.Prelude.{not}
-use Rattle.std.specs.Int.{int_max}
-use Rattle.std.proofs.lemmas.Int.{ints, clamps, to_z-of_z}
-use Rattle.lam_geom.specs.declared.boxes.BoxXY.{BoxXY}
-use Rattle.lam_geom.specs.declared.boxes.Span.{Span}
+use Rattle.std.proofs.Common.{◌≡◌, ◌↔◌, ℤ, pos, ◌+ℤ◌, ◌≤ℤ◌, ◌<ℤ◌, Some, Bool, true, false, IsTrue, IsFalse, refl, sym}
+use Rattle.std.proofs.{Common.{subst, w64, arith}, lemmas.Int.{ints, clamps, to_z-of_z}}
+use Rattle.std.specs.{Prelude.not, Int.int_max}
+use Rattle.lam_geom.specs.declared.boxes.{BoxXY.BoxXY, Span.Span}
 use Rattle.lam_geom.specs.Gaps.{gap_of, gap_of_boxes, Overlaps, Encloses, EnclosesSpan}
-use Rattle.box_tree.specs.declared.query.Question.{Question}
-use Rattle.box_tree.specs.declared.query.Question.TheVariants.{NearOfOther, NearOfOtherTag, NearApart, Covers, NearShort, NearOutside}
-use Rattle.box_tree.specs.declared.spots.Ends.{Ends}
-use Rattle.box_tree.specs.declared.spots.Inner.{Inner}
-use Rattle.box_tree.specs.declared.spots.Spot.{Spot}
-use Rattle.box_tree.specs.Queries.{IsNear, Answers, IsMargin, reach_of}
+use Rattle.box_tree.specs.declared.query.Question.{Question, TheVariants.{NearOfOther, NearOfOtherTag, NearApart}}
+use Rattle.box_tree.specs.declared.{query.Question.TheVariants.{Covers, NearShort, NearOutside}, spots.Ends.Ends}
+use Rattle.box_tree.specs.{declared.spots.{Inner.Inner, Spot.Spot}, Queries.{IsNear, Answers, IsMargin, reach_of}}
 use Rattle.box_tree.specs.Tree.{Reaches, ReachesBoth}
 use mir.Val.{to_z, of_z, SFits}
 

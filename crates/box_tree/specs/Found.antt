@@ -1,9 +1,6 @@
 -- Lists of what is found: numbers with a property, and the spots that hold a query.
 use Rattle.std.specs.Prelude.{◌≡◌, ℕ, ◌<◌, ◌≤◌, ◌⊎◌, Contains, List, length, slice_index}
-use Rattle.box_tree.specs.declared.query.Query.{Query}
-use Rattle.box_tree.specs.declared.spots.Spot.{Spot}
-use Rattle.box_tree.specs.Queries.{HoldsAt}
-use Rattle.box_tree.specs.Tree.{AreDistinct, spot_at}
+use Rattle.box_tree.specs.{declared.{query.Query.Query, spots.Spot.Spot}, Queries.HoldsAt, Tree.{AreDistinct, spot_at}}
 
 -- to a list have been added exactly the numbers with a property
 pub record AreGathered (Is : ℕ → Type 0) (old new : List ℕ) : Type 0 where

@@ -1,12 +1,9 @@
 -- Trees of spots of which some have been visited, and groups of which all have been.
-use Rattle.std.specs.Prelude.{◌≡◌, ℕ, ◌+◌, ◌<◌, ◌≤◌, pos, Bool, false, IsTrue, None, Option, List, drop, length, slice_index_or}
-use Rattle.box_tree.specs.declared.query.Query.{Query}
-use Rattle.box_tree.specs.declared.spots.Group.{Group}
-use Rattle.box_tree.specs.declared.spots.Spot.{Spot}
-use Rattle.box_tree.specs.Queries.{Holds}
-use Rattle.box_tree.specs.Tree.{IsBounded, IsPlacedGroup, IsTreeOf, begin_of, no_spot, spot_at}
-use Rattle.box_tree.specs.declared.groves.Grove.{Grove}
+use Rattle.std.specs.Prelude.{◌≡◌, ℕ, ◌+◌, ◌<◌, ◌≤◌, pos, Bool, false, IsTrue, None, Option, List, drop, length}
+use Rattle.std.specs.Prelude.{slice_index_or}
+use Rattle.box_tree.specs.declared.{query.Query.Query, spots.{Group.Group, Spot.Spot}, groves.Grove.Grove}
 use Rattle.box_tree.specs.declared.tree.OwnedParts.{OwnedParts}
+use Rattle.box_tree.specs.{Queries.Holds, Tree.{IsBounded, IsPlacedGroup, IsTreeOf, begin_of, no_spot, spot_at}}
 
 -- ---- spots and groups by number
 

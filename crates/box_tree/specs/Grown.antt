@@ -1,8 +1,6 @@
 -- What the making of a tree adds to its groups.
 use Rattle.std.specs.Prelude.{◌≡◌, ℕ, ◌+◌, List, ◌∷◌, ◌++◌, length}
-use Rattle.box_tree.specs.declared.spots.Group.{Group}
-use Rattle.box_tree.specs.declared.spots.Spot.{Spot}
-use Rattle.box_tree.specs.Tree.{AreGroups}
+use Rattle.box_tree.specs.{declared.spots.{Group.Group, Spot.Spot}, Tree.AreGroups}
 
 -- behind some groups stands one that has the run from a place to another, with the groups inside it
 pub record IsGrown (spots : List Spot) (order : List ℕ) (start end : ℕ) (before after : List Group) (group : Group) : Type 0 where

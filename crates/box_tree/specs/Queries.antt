@@ -1,11 +1,8 @@
 -- What is asked of spots, in words of gaps.
 use Rattle.std.specs.Prelude.{◌≡◌, ◌≢◌, ℕ, ◌^◌, ℤ, pos, ◌≤ℤ◌, List, Option, Some, None, slice_get}
-use Rattle.lam_geom.specs.declared.boxes.BoxXY.{BoxXY}
-use Rattle.lam_geom.specs.Gaps.{gap_of_boxes, Overlaps, Encloses}
-use Rattle.lam_geom.specs.Places.{IsPlacedBox}
-use Rattle.box_tree.specs.declared.query.Query.{Query}
-use Rattle.box_tree.specs.declared.query.Question.{Question}
-use Rattle.box_tree.specs.declared.query.Question.TheVariants.{NearOfOther, NearOfOtherTag, NearApart, Covers, NearShort, NearOutside}
+use Rattle.lam_geom.specs.{declared.boxes.BoxXY.BoxXY, Gaps.{gap_of_boxes, Overlaps, Encloses}, Places.IsPlacedBox}
+use Rattle.box_tree.specs.declared.query.{Query.Query, Question.{Question, TheVariants.{NearOfOther, NearOfOtherTag}}}
+use Rattle.box_tree.specs.declared.query.Question.TheVariants.{NearApart, Covers, NearShort, NearOutside}
 use Rattle.box_tree.specs.declared.spots.Spot.{Spot}
 
 -- no more than so much lies between two areas

@@ -1,13 +1,8 @@
 -- The tree over a list of spots: an order of their numbers, and groups, each of which has a run of them and stands before the groups inside it.
-use Rattle.std.specs.Prelude.{◌≡◌, ℕ, ◌+◌, ◌*◌, ◌^◌, ◌<◌, ◌≤◌, pos, ◌≤ℤ◌, All, Contains, Option, Some, None, List, [], ◌∷◌, length, drop, slice_index, slice_index_or}
-use Rattle.lam_geom.specs.declared.boxes.BoxXY.{BoxXY}
-use Rattle.lam_geom.specs.declared.boxes.Span.{Span}
-use Rattle.lam_geom.specs.Gaps.{Encloses}
-use Rattle.lam_geom.specs.Places.{IsPlace, IsPlacedBox}
-use Rattle.box_tree.specs.declared.spots.Ends.{Ends}
-use Rattle.box_tree.specs.declared.spots.Group.{Group}
-use Rattle.box_tree.specs.declared.spots.Inner.{Inner}
-use Rattle.box_tree.specs.declared.spots.Spot.{Spot}
+use Rattle.std.specs.Prelude.{◌≡◌, ℕ, ◌+◌, ◌*◌, ◌^◌, ◌<◌, ◌≤◌, pos, ◌≤ℤ◌, All, Contains, Option, Some, None, List, []}
+use Rattle.std.specs.Prelude.{◌∷◌, length, drop, slice_index, slice_index_or}
+use Rattle.lam_geom.specs.{declared.boxes.{BoxXY.BoxXY, Span.Span}, Gaps.Encloses, Places.{IsPlace, IsPlacedBox}}
+use Rattle.box_tree.specs.declared.spots.{Ends.Ends, Group.Group, Inner.Inner, Spot.Spot}
 
 -- ---- the bounds of a group
 

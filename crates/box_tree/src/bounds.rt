@@ -1,12 +1,10 @@
 //! The bounds of groups, and what they say of the spots.
 ghost use Rattle.std.specs.Prelude.{◌≡◌, ℕ, ◌+◌, ◌^◌, ◌≤◌, ◌↔◌, pos, ◌<ℤ◌, IsFalse, IsTrue, Some};
-ghost use Rattle.lam_geom.specs.Places.{IsPlacedBox, IsPlacedSpan};
-ghost use Rattle.lam_geom.specs.Gaps.{Encloses, EnclosesSpan, Overlaps, gap_of};
-ghost use Rattle.lam_geom.specs.declared.boxes.BoxXY.{BoxXY};
-ghost use Rattle.lam_geom.specs.declared.boxes.Span.{Span};
-ghost use Rattle.box_tree.specs.declared.spots.Spot.{Spot};
-ghost use Rattle.box_tree.specs.Queries.{Holds, IsMargin, IsQuery, reach_of};
-ghost use Rattle.box_tree.specs.Tree.{ArePlacedEnds, ArePlacedInner, IsBounded, IsOneTag, IsPlacedGroup, Reaches, ReachesBoth};
+ghost use Rattle.lam_geom.specs.{Places.{IsPlacedBox, IsPlacedSpan}, Gaps.{Encloses, EnclosesSpan, Overlaps, gap_of}};
+ghost use Rattle.lam_geom.specs.declared.boxes.{BoxXY.BoxXY, Span.Span};
+ghost use Rattle.box_tree.specs.{declared.spots.Spot.Spot, Queries.{Holds, IsMargin, IsQuery, reach_of}};
+ghost use Rattle.box_tree.specs.Tree.{ArePlacedEnds, ArePlacedInner, IsBounded, IsOneTag, IsPlacedGroup, Reaches};
+ghost use Rattle.box_tree.specs.Tree.{ReachesBoth};
 
 use crate::query::{Query, Question};
 use crate::spots::{Ends, Group, Inner, Spot};

@@ -1,14 +1,11 @@
 //! Trees of spots from which what has been visited is left out: as a search goes on, ever fewer groups are walked
 //! through.
 ghost use Rattle.std.specs.Prelude.{◌≡◌, ◌+◌, ◌<◌, ◌≤◌, ◌<ℤ◌, [], IfOk, IsTrue, OnOk, length};
-ghost use Rattle.lam_geom.specs.Gaps.{gap_of};
-ghost use Rattle.lam_geom.specs.Places.{IsPlacedSpan};
-ghost use Rattle.box_tree.specs.declared.spots.Group.{Group};
-ghost use Rattle.box_tree.specs.declared.spots.Spot.{Spot};
-ghost use Rattle.box_tree.specs.Found.{AreGathered};
-ghost use Rattle.box_tree.specs.Groves.{group_at, AreTreeParts, AreSpent, AreTagsWithin, IsGrove, IsUnvisited, IsUnvisitedWithin, IsRead, IsRunSpent, IsRunVisited, IsNewGrove};
-ghost use Rattle.box_tree.specs.Queries.{Holds, IsQuery};
-ghost use Rattle.box_tree.specs.Tree.{IsBounded, IsPlacedGroup};
+ghost use Rattle.lam_geom.specs.{Gaps.gap_of, Places.IsPlacedSpan};
+ghost use Rattle.box_tree.specs.declared.spots.{Group.Group, Spot.Spot};
+ghost use Rattle.box_tree.specs.{Found.AreGathered, Groves.{group_at, AreTreeParts, AreSpent, AreTagsWithin, IsGrove}};
+ghost use Rattle.box_tree.specs.Groves.{IsUnvisited, IsUnvisitedWithin, IsRead, IsRunSpent, IsRunVisited, IsNewGrove};
+ghost use Rattle.box_tree.specs.{Queries.{Holds, IsQuery}, Tree.{IsBounded, IsPlacedGroup}};
 
 use crate::query::{Query, Question};
 use crate::spots::{Group, Spot};

@@ -1,9 +1,8 @@
 //! The making of the groups.
 ghost use Rattle.std.specs.Prelude.{◌≡◌, ℕ, ◌+◌, ◌*◌, ◌^◌, ◌<◌, ◌≤◌, All, IfOk, OnOk, length};
 ghost use Rattle.lam_geom.specs.Places.{IsPlacedBox};
-ghost use Rattle.box_tree.specs.declared.spots.Spot.{Spot};
-ghost use Rattle.box_tree.specs.Grown.{IsGrown};
-ghost use Rattle.box_tree.specs.Tree.{AreGroups, IsBounded, IsOrderOf, IsPlacedGroup, IsTreeOf, spot_at};
+ghost use Rattle.box_tree.specs.{declared.spots.Spot.Spot, Grown.IsGrown, Tree.{AreGroups, IsBounded, IsOrderOf}};
+ghost use Rattle.box_tree.specs.Tree.{IsPlacedGroup, IsTreeOf, spot_at};
 
 use crate::bounds::{joined, of_spot};
 use crate::spots::{Group, Spot};

@@ -1,10 +1,8 @@
 //! The search for a spot that holds a query, or for all of them.
 ghost use Rattle.std.specs.Prelude.{◌≡◌, ℕ, ◌+◌, ◌<◌, ◌≤◌, [], All, MatchOption, OnOk, length};
 ghost use Rattle.lam_geom.specs.Places.{IsPlacedBox};
-ghost use Rattle.box_tree.specs.declared.spots.Spot.{Spot};
-ghost use Rattle.box_tree.specs.Found.{AreHolding, IsTaken};
-ghost use Rattle.box_tree.specs.Queries.{Holds, HoldsAt, IsQuery};
-ghost use Rattle.box_tree.specs.Tree.{IsOrderOf, IsTreeOf, spot_at};
+ghost use Rattle.box_tree.specs.{declared.spots.Spot.Spot, Found.{AreHolding, IsTaken}, Queries.{Holds, HoldsAt}};
+ghost use Rattle.box_tree.specs.{Queries.IsQuery, Tree.{IsOrderOf, IsTreeOf, spot_at}};
 
 use crate::query::Query;
 use crate::spots::{Group, Spot};

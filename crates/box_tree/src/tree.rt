@@ -1,10 +1,7 @@
 //! The tree: the spots that it is of, and the groups in which one with a property is found.
 ghost use Rattle.std.specs.Prelude.{◌≡◌, ◌↔◌, ℕ, ◌^◌, ◌≤◌, All, IfOk, IsTrue, MatchOption, OnOk, length};
 ghost use Rattle.lam_geom.specs.Places.{IsPlacedBox};
-ghost use Rattle.box_tree.specs.declared.spots.Spot.{Spot};
-ghost use Rattle.box_tree.specs.Found.{AreHolding};
-ghost use Rattle.box_tree.specs.Queries.{HoldsAt, IsQuery};
-ghost use Rattle.box_tree.specs.Tree.{IsTreeOf};
+ghost use Rattle.box_tree.specs.{declared.spots.Spot.Spot, Found.AreHolding, Queries.{HoldsAt, IsQuery}, Tree.IsTreeOf};
 
 use crate::grow::grown;
 use crate::keys::ordered;

@@ -1,51 +1,33 @@
 -- What holds of the items that stand at buried contacts, and of poly and diffusion that overlap.
-use Rattle.std.proofs.Common.{◌≡◌, ◌≢◌, ℕ, ◌<◌, ℤ, pos, ◌+ℤ◌, ◌-ℤ◌, ◌≤ℤ◌, Bool, true, false, not, [], ◌∷◌, length, Option, Some, refl, sym, ap, ◌∙◌, subst, arith, inl, inr, ◌⊎◌}
-use Rattle.std.specs.Prelude.{IsTrue, IfSome, neg_ℤ}
-use Rattle.std.specs.List.{Any, flat_map, range_with_len}
-use Rattle.std.proofs.lemmas.Bool.{cases_Bool, cases_eq}
-use Rattle.std.proofs.lemmas.Int.{ints}
-use Rattle.std.proofs.lemmas.List.{get_or_default}
-use Rattle.lam_geom.specs.declared.boxes.Side.{Side}
-use Rattle.lam_geom.specs.declared.boxes.Side.TheVariants.{Left, Right}
-use Rattle.rule_table.specs.declared.technology.Tech.{Tech}
-use Rattle.rule_table.specs.declared.classes.Class.{Class}
-use Rattle.rule_table.specs.declared.classes.Class.TheVariants.{P, Dm, Dc, G, B}
-use Rattle.rule_table.specs.declared.classes.Layer.TheVariants.{Diffusion, Poly}
-use Rattle.rule_table.specs.declared.classes.Rule.{Rule}
-use Rattle.rule_table.specs.Spacing.{spacing_in}
-use Rattle.rule_table.specs.Technology.{numbers_of, has_buried_of, spacing_of}
-use Rattle.rule_table.proofs.Versions.{buried_spacing}
-use Rattle.sym_items.specs.declared.items.Item.{Item}
-use Rattle.sym_items.specs.declared.items.Items.{Items}
-use Rattle.sym_items.specs.declared.items.Coords.{Coords}
-use Rattle.sym_items.specs.Values.{value_of}
-use Rattle.sym_items.specs.Sides.{Sides, sides_in, gap_in}
-use Rattle.sym_items.specs.Standing.{nowhere, StandsAt, StandTogether, stand_together}
+use Rattle.std.proofs.Common.{◌≡◌, ◌≢◌, ℕ, ◌<◌, ℤ, pos, ◌+ℤ◌, ◌-ℤ◌, ◌≤ℤ◌, Bool, true, false, not, [], ◌∷◌, length}
+use Rattle.std.proofs.Common.{Option, Some, refl, sym, ap, ◌∙◌, subst, arith, inl, inr, ◌⊎◌}
+use Rattle.std.proofs.lemmas.{Bool.{cases_Bool, cases_eq}, Int.ints, List.get_or_default}
+use Rattle.std.specs.{Prelude.{IsTrue, IfSome, neg_ℤ}, List.{Any, flat_map, range_with_len}}
+use Rattle.lam_geom.specs.declared.boxes.Side.{Side, TheVariants.{Left, Right}}
+use Rattle.rule_table.specs.declared.{technology.Tech.Tech, classes.Class.{Class, TheVariants.{P, Dm, Dc, G, B}}}
+use Rattle.rule_table.specs.{declared.classes.{Layer.TheVariants.{Diffusion, Poly}, Rule.Rule}, Spacing.spacing_in}
+use Rattle.rule_table.{specs.Technology.{numbers_of, has_buried_of, spacing_of}, proofs.Versions.buried_spacing}
+use Rattle.sym_items.specs.{declared.items.{Item.Item, Items.Items, Coords.Coords}, Values.value_of, Sides.Sides}
+use Rattle.sym_items.specs.{Sides.{sides_in, gap_in}, Standing.{nowhere, StandsAt, StandTogether, stand_together}}
 use Rattle.sym_items.proofs.Together.{together_exactly}
-use Rattle.cell_model.specs.declared.cell.NodeKind.{NodeKind}
-use Rattle.cell_model.specs.declared.cell.NodeKind.TheVariants.{Joint, Contact, Buried, Fet}
-use Rattle.cell_model.specs.declared.cell.WireEnd.{WireEnd}
+use Rattle.cell_model.specs.declared.cell.NodeKind.{NodeKind, TheVariants.{Joint, Contact, Buried, Fet}}
+use Rattle.cell_model.specs.{declared.cell.{WireEnd.WireEnd, Nets.Nets, Cell.Cell}, Wiring.{buried_pad, axis_of}}
+use Rattle.cell_model.specs.{Wiring.is_low_side, Sound.{node_at, wire_at, IsKind, IsEnd, IsBuriedEnd, LeaveOneSide}}
 use Rattle.cell_model.specs.declared.cell.WireEnd.TheVariants as ends
-use Rattle.cell_model.specs.declared.cell.Nets.{Nets}
-use Rattle.cell_model.specs.declared.cell.Cell.{Cell}
-use Rattle.cell_model.specs.Wiring.{buried_pad, axis_of, is_low_side}
-use Rattle.cell_model.specs.Sound.{node_at, wire_at, IsKind, IsEnd, IsBuriedEnd, LeaveOneSide}
-use Rattle.pair_rules.specs.Bound.{no_item, is_poly_on_diffusion, IsBound, bound_spacing}
-use Rattle.pair_rules.specs.Clean.{IsSpaced}
+use Rattle.pair_rules.specs.{Bound.{no_item, is_poly_on_diffusion, IsBound, bound_spacing}, Clean.IsSpaced}
 use Rattle.pair_rules.proofs.BoundItems.{bound_exactly}
 use Rattle.list_facts.proofs.Some.{any_here, any_there, any_left, any_flat_map, any_range}
-use Rattle.expand.specs.declared.master.Master.{Master}
-use Rattle.expand.specs.Masters.{IsMaster}
-use Rattle.expand.specs.Variables.{half, centre}
-use Rattle.expand.specs.NodeItems.{kind_items}
-use Rattle.expand.specs.Items.{nets_at, items_of_node, items_of_wire, item_list}
+use Rattle.expand.specs.{declared.master.Master.Master, Masters.IsMaster, Variables.{half, centre}}
+use Rattle.expand.specs.{NodeItems.kind_items, Items.{nets_at, items_of_node, items_of_wire, item_list}}
 use Rattle.expand.specs.WireItems.{contact_of_kind, contact_at}
-use Rattle.expand.proofs.Among.{sound_numbers}
-use Rattle.expand.proofs.Cells.{node_sound, wire_sound}
-use Rattle.buried_contacts.specs.Contacts.{IsFinished, item_of, sides_of_item, IsItem, kind_of, IsBuried, square_at, pad_at, window_at, common, end_of_wire, WiresCoverPads, Overlap, IsTransistor, AreOfOneTransistor, HasBox, HaveWindows, HavePads}
-use Rattle.buried_contacts.proofs.Owners.{LayerHas, ContactHas, PadHas, TransistorHas, StandsNowhere, IsSquareAt, IsOfKind, IsBoxOfWire, IsOwned, item_keeps, items_owned, box_of_owner}
-use Rattle.buried_contacts.proofs.Pads.{wire_covers}
-use Rattle.buried_contacts.proofs.Shares.{RunsOn, pad_runs, leaves, along_of, end_of, covers_runs, share_pad, beside, is_beside}
+use Rattle.expand.proofs.{Among.sound_numbers, Cells.{node_sound, wire_sound}}
+use Rattle.buried_contacts.specs.Contacts.{IsFinished, item_of, sides_of_item, IsItem, kind_of, IsBuried, square_at}
+use Rattle.buried_contacts.specs.Contacts.{pad_at, window_at, common, end_of_wire, WiresCoverPads, Overlap}
+use Rattle.buried_contacts.specs.Contacts.{IsTransistor, AreOfOneTransistor, HasBox, HaveWindows, HavePads}
+use Rattle.buried_contacts.proofs.Owners.{LayerHas, ContactHas, PadHas, TransistorHas, StandsNowhere, IsSquareAt}
+use Rattle.buried_contacts.proofs.Owners.{IsOfKind, IsBoxOfWire, IsOwned, item_keeps, items_owned, box_of_owner}
+use Rattle.buried_contacts.proofs.{Pads.wire_covers, Shares.{RunsOn, pad_runs, leaves, along_of, end_of, covers_runs}}
+use Rattle.buried_contacts.proofs.Shares.{share_pad, beside, is_beside}
 
 -- ---- what stands at the square of a contact
 

@@ -1,32 +1,19 @@
 -- Whose each item is: a node's, by its kind, or a wire's.
-use Rattle.std.proofs.Common.{◌≡◌, ℕ, ◌+◌, ◌<◌, ℤ, ◌+ℤ◌, Bool, true, false, List, [], ◌∷◌, length, map, cond, refl, sym, ap, ◌∙◌, subst, arith, inl, inr, ◌⊎◌}
-use Rattle.std.specs.Prelude.{slice_index}
-use Rattle.std.specs.List.{AllByRecursion, All, flat_map, range_with_len}
-use Rattle.rule_table.specs.declared.technology.Tech.{Tech}
-use Rattle.rule_table.specs.declared.classes.Class.{Class}
-use Rattle.rule_table.specs.declared.classes.Class.TheVariants.{M, P, Dc, Dm, C, I, G, B}
-use Rattle.rule_table.specs.declared.classes.Layer.{Layer}
-use Rattle.rule_table.specs.declared.classes.Layer.TheVariants.{Diffusion, Poly, Metal}
+use Rattle.std.proofs.Common.{◌≡◌, ℕ, ◌+◌, ◌<◌, ℤ, ◌+ℤ◌, Bool, true, false, List, [], ◌∷◌, length, map, cond, refl, sym}
+use Rattle.std.proofs.Common.{ap, ◌∙◌, subst, arith, inl, inr, ◌⊎◌}
+use Rattle.std.specs.{Prelude.slice_index, List.{AllByRecursion, All, flat_map, range_with_len}}
+use Rattle.rule_table.specs.declared.{technology.Tech.Tech, classes.Class.{Class, TheVariants.{M, P, Dc, Dm, C, I, G}}}
+use Rattle.rule_table.specs.declared.classes.{Class.TheVariants.B, Layer.{Layer, TheVariants.{Diffusion, Poly, Metal}}}
 use Rattle.rule_table.specs.Technology.{numbers_of}
-use Rattle.sym_items.specs.declared.items.Item.{Item}
-use Rattle.sym_items.specs.declared.items.Items.{Items}
-use Rattle.sym_items.specs.Standing.{nowhere}
-use Rattle.cell_model.specs.declared.cell.Axis2.{Axis2}
-use Rattle.cell_model.specs.declared.cell.Axis2.TheVariants.{Across, Up}
-use Rattle.cell_model.specs.declared.cell.NodeKind.{NodeKind}
-use Rattle.cell_model.specs.declared.cell.NodeKind.TheVariants.{Joint, Contact, Buried, Fet}
-use Rattle.cell_model.specs.declared.cell.NodeNets.{NodeNets}
-use Rattle.cell_model.specs.declared.cell.Nets.{Nets}
-use Rattle.cell_model.specs.declared.cell.Cell.{Cell}
-use Rattle.cell_model.specs.Wiring.{buried_pad}
-use Rattle.cell_model.specs.Sound.{node_at, wire_at}
+use Rattle.sym_items.specs.{declared.items.{Item.Item, Items.Items}, Standing.nowhere}
+use Rattle.cell_model.specs.declared.cell.{Axis2.{Axis2, TheVariants.{Across, Up}}, NodeKind.NodeKind}
+use Rattle.cell_model.specs.declared.cell.{NodeKind.TheVariants.{Joint, Contact, Buried, Fet}, NodeNets.NodeNets}
+use Rattle.cell_model.specs.{declared.cell.{Nets.Nets, Cell.Cell}, Wiring.buried_pad, Sound.{node_at, wire_at}}
 use Rattle.list_facts.proofs.Elements.{all_append, all_flat, all_numbers, all_weaker, all_of}
-use Rattle.expand.specs.declared.master.Master.{Master}
-use Rattle.expand.specs.Masters.{IsMaster}
-use Rattle.expand.specs.Variables.{half, cross_of}
+use Rattle.expand.specs.{declared.master.Master.Master, Masters.IsMaster, Variables.{half, cross_of}}
 use Rattle.expand.specs.NodeItems.{item_running, on_layer, square_round, standing_at, channel_items, kind_items}
-use Rattle.expand.specs.WireItems.{low_end_of, high_end_of, contact_at, run_item}
-use Rattle.expand.specs.Items.{nets_at, items_of_node, items_of_wire, item_list}
+use Rattle.expand.specs.{WireItems.{low_end_of, high_end_of, contact_at, run_item}, Items.{nets_at, items_of_node}}
+use Rattle.expand.specs.Items.{items_of_wire, item_list}
 
 -- ---- the classes of boxes
 

@@ -1,47 +1,27 @@
 -- Wires on the pads of buried contacts. All is said in a layout turned so that the wire runs across.
-use Rattle.std.proofs.Common.{◌≡◌, ℕ, ◌<◌, ℤ, pos, ◌+ℤ◌, ◌-ℤ◌, ◌*ℤ◌, ◌≤ℤ◌, Bool, true, false, List, [], ◌++◌, length, get_or, refl, sym, ap, ◌∙◌, subst, arith, zero-add}
-use Rattle.std.specs.Prelude.{neg_ℤ}
-use Rattle.std.specs.List.{AllByRecursion, All, range_with_len}
-use Rattle.std.proofs.lemmas.Bool.{cond-true}
-use Rattle.std.proofs.lemmas.Int.{ints}
-use Rattle.std.proofs.lemmas.List.FromFn.{length-range_with_len, get_or-range_with_len}
-use Rattle.std.proofs.lemmas.List.Elements.{recursion_from_All}
-use Rattle.lam_geom.specs.declared.boxes.Axis.{Axis}
-use Rattle.lam_geom.specs.declared.boxes.Axis.TheVariants.{X, Y}
-use Rattle.rule_table.specs.declared.technology.Tech.{Tech}
-use Rattle.rule_table.specs.declared.classes.Class.{Class}
-use Rattle.cons_graph.specs.declared.edges.Edge.{Edge}
-use Rattle.cons_graph.specs.Solutions.{Meets}
-use Rattle.sym_items.specs.declared.items.End.{End}
-use Rattle.sym_items.specs.declared.items.Item.{Item}
-use Rattle.sym_items.specs.declared.items.Coords.{Coords}
-use Rattle.sym_items.specs.Values.{value_of, value_at}
-use Rattle.sym_items.specs.Sides.{Sides, sides_in}
-use Rattle.sym_items.specs.Extents.{IsLongUnder}
+use Rattle.std.proofs.Common.{◌≡◌, ℕ, ◌<◌, ℤ, pos, ◌+ℤ◌, ◌-ℤ◌, ◌*ℤ◌, ◌≤ℤ◌, Bool, true, false, List, [], ◌++◌, length}
+use Rattle.std.proofs.{Common.{get_or, refl, sym, ap, ◌∙◌, subst, arith, zero-add}, lemmas.{Bool.cond-true, Int.ints}}
+use Rattle.std.proofs.lemmas.List.{FromFn.{length-range_with_len, get_or-range_with_len}, Elements.recursion_from_All}
+use Rattle.std.specs.{Prelude.neg_ℤ, List.{AllByRecursion, All, range_with_len}}
+use Rattle.lam_geom.specs.declared.boxes.Axis.{Axis, TheVariants.{X, Y}}
+use Rattle.rule_table.specs.declared.{technology.Tech.Tech, classes.Class.Class}
+use Rattle.cons_graph.specs.{declared.edges.Edge.Edge, Solutions.Meets}
+use Rattle.sym_items.specs.declared.items.{End.End, Item.Item, Coords.Coords}
+use Rattle.sym_items.specs.{Values.{value_of, value_at}, Sides.{Sides, sides_in}, Extents.IsLongUnder}
 use Rattle.sym_items.specs.Transposed.{coords_along, values_along, sides_along}
-use Rattle.cell_model.specs.declared.cell.Axis2.{Axis2}
-use Rattle.cell_model.specs.declared.cell.Axis2.TheVariants.{Across, Up}
-use Rattle.cell_model.specs.declared.cell.NodeKind.{NodeKind}
-use Rattle.cell_model.specs.declared.cell.NodeKind.TheVariants.{Buried}
-use Rattle.cell_model.specs.declared.cell.WireEnd.{WireEnd}
+use Rattle.cell_model.specs.declared.cell.{Axis2.{Axis2, TheVariants.{Across, Up}}, NodeKind.NodeKind}
+use Rattle.cell_model.specs.declared.cell.{NodeKind.TheVariants.Buried, WireEnd.WireEnd, Wire.Wire, Cell.Cell}
+use Rattle.cell_model.specs.{Wiring.{is_same_axis, buried_pad, node_pad}, Sound.{node_at, wire_at, IsWithinPad}}
+use Rattle.cell_model.specs.Sound.{FillsKind, FillsPad}
 use Rattle.cell_model.specs.declared.cell.WireEnd.TheVariants as ends
-use Rattle.cell_model.specs.declared.cell.Wire.{Wire}
-use Rattle.cell_model.specs.declared.cell.Cell.{Cell}
-use Rattle.cell_model.specs.Wiring.{is_same_axis, buried_pad, node_pad}
-use Rattle.cell_model.specs.Sound.{node_at, wire_at, IsWithinPad, FillsKind, FillsPad}
 use Rattle.pair_rules.specs.Bound.{no_item}
 use Rattle.list_facts.proofs.Elements.{all_at, all_parts, all_pieces}
-use Rattle.expand.specs.declared.master.Master.{Master}
-use Rattle.expand.specs.Masters.{IsMaster}
-use Rattle.expand.specs.Variables.{half, centre, cross_of, crossing, past}
-use Rattle.expand.specs.NodeItems.{item_running}
-use Rattle.expand.specs.WireItems.{reach, low_end_of, high_end_of}
-use Rattle.expand.specs.Structure.{tied, end_edges, overlap_edges, extents_of, overlaps_of, margins_of, limits_of, structure_of}
-use Rattle.expand.proofs.Among.{buried_size}
-use Rattle.expand.proofs.Cells.{wire_sound}
-use Rattle.expand.proofs.Standing.{stands}
-use Rattle.buried_contacts.specs.Contacts.{IsFinished, item_of, sides_of_item, IsItem, IsBuried, square_at, pad_at, axis_along, CoversFrom, end_of_wire}
-use Rattle.buried_contacts.proofs.Owners.{run_of, IsBoxOfWire}
+use Rattle.expand.specs.{declared.master.Master.Master, Masters.IsMaster, Variables.{half, centre, cross_of, crossing}}
+use Rattle.expand.specs.{Variables.past, NodeItems.item_running, WireItems.{reach, low_end_of, high_end_of}}
+use Rattle.expand.specs.Structure.{tied, end_edges, overlap_edges, extents_of, overlaps_of, margins_of, limits_of}
+use Rattle.expand.{specs.Structure.structure_of, proofs.{Among.buried_size, Cells.wire_sound, Standing.stands}}
+use Rattle.buried_contacts.specs.Contacts.{IsFinished, item_of, sides_of_item, IsItem, IsBuried, square_at, pad_at}
+use Rattle.buried_contacts.{specs.Contacts.{axis_along, CoversFrom, end_of_wire}, proofs.Owners.{run_of, IsBoxOfWire}}
 
 -- ---- at the end of a wire
 

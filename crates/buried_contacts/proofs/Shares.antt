@@ -1,14 +1,9 @@
 -- What two boxes on a pad have in common: each covers the pad and is exact on all sides but one, that on which it runs on.
 use Rattle.std.proofs.Common.{◌≡◌, ◌≢◌, ℤ, ◌≤ℤ◌, Bool, true, false, not, refl, sym, ap, ◌∙◌, arith, inl, inr, ◌⊎◌}
-use Rattle.std.specs.Int.{int_max, int_min}
-use Rattle.std.proofs.lemmas.Int.{ints, clamps}
-use Rattle.lam_geom.specs.declared.boxes.Side.{Side}
-use Rattle.lam_geom.specs.declared.boxes.Side.TheVariants.{Left, Right, Bottom, Top}
-use Rattle.sym_items.specs.Sides.{Sides}
-use Rattle.sym_items.specs.Transposed.{sides_along}
-use Rattle.cell_model.specs.declared.cell.Axis2.{Axis2}
-use Rattle.cell_model.specs.declared.cell.Axis2.TheVariants.{Across, Up}
-use Rattle.cell_model.specs.Wiring.{axis_of, is_low_side}
+use Rattle.std.{proofs.lemmas.Int.{ints, clamps}, specs.Int.{int_max, int_min}}
+use Rattle.lam_geom.specs.declared.boxes.Side.{Side, TheVariants.{Left, Right, Bottom, Top}}
+use Rattle.sym_items.specs.{Sides.Sides, Transposed.sides_along}
+use Rattle.cell_model.specs.{declared.cell.Axis2.{Axis2, TheVariants.{Across, Up}}, Wiring.{axis_of, is_low_side}}
 use Rattle.buried_contacts.specs.Contacts.{common, axis_along, CoversFrom}
 
 -- a box covers a pad, and no side lies past the pad's but this one

@@ -1,31 +1,17 @@
 -- Buried contacts in a layout: their pads, their windows, and the poly and diffusion that they join.
-use Rattle.std.specs.Prelude.{◌≡◌, ℕ, ◌+◌, ◌<◌, ◌⊎◌, ℤ, pos, ◌+ℤ◌, ◌-ℤ◌, ◌≤ℤ◌, ◌<ℤ◌, Bool, true, false, if◌then◌else◌, length}
-use Rattle.std.specs.Int.{int_max, int_min}
-use Rattle.lam_geom.specs.declared.boxes.Axis.{Axis}
-use Rattle.lam_geom.specs.declared.boxes.Axis.TheVariants.{X, Y}
-use Rattle.rule_table.specs.declared.technology.Tech.{Tech}
-use Rattle.rule_table.specs.declared.classes.Class.{Class}
-use Rattle.rule_table.specs.declared.classes.Class.TheVariants.{P, Dm, Dc, G, B}
+use Rattle.std.specs.Prelude.{◌≡◌, ℕ, ◌+◌, ◌<◌, ◌⊎◌, ℤ, pos, ◌+ℤ◌, ◌-ℤ◌, ◌≤ℤ◌, ◌<ℤ◌, Bool, true, false, if◌then◌else◌}
+use Rattle.std.specs.{Prelude.length, Int.{int_max, int_min}}
+use Rattle.lam_geom.specs.declared.boxes.Axis.{Axis, TheVariants.{X, Y}}
+use Rattle.rule_table.specs.declared.{technology.Tech.Tech, classes.Class.{Class, TheVariants.{P, Dm, Dc, G, B}}}
 use Rattle.rule_table.specs.Technology.{numbers_of}
-use Rattle.sym_items.specs.declared.items.Item.{Item}
-use Rattle.sym_items.specs.declared.items.Coords.{Coords}
-use Rattle.sym_items.specs.Values.{value_of}
-use Rattle.sym_items.specs.Transposed.{values_along, sides_along}
-use Rattle.sym_items.specs.Sides.{Sides, sides_in, gap_in}
-use Rattle.sym_items.specs.Standing.{StandsAt, StandTogether}
-use Rattle.pair_rules.specs.Bound.{item_at}
-use Rattle.pair_rules.specs.Clean.{IsClean}
-use Rattle.cell_model.specs.declared.cell.Axis2.{Axis2}
-use Rattle.cell_model.specs.declared.cell.Axis2.TheVariants.{Across, Up}
-use Rattle.cell_model.specs.declared.cell.NodeKind.{NodeKind}
-use Rattle.cell_model.specs.declared.cell.NodeKind.TheVariants.{Joint, Contact, Buried, Fet}
-use Rattle.cell_model.specs.declared.cell.WireEnd.{WireEnd}
+use Rattle.sym_items.specs.{declared.items.{Item.Item, Coords.Coords}, Values.value_of, Transposed.values_along}
+use Rattle.sym_items.specs.{Transposed.sides_along, Sides.{Sides, sides_in, gap_in}, Standing.{StandsAt, StandTogether}}
+use Rattle.pair_rules.specs.{Bound.item_at, Clean.IsClean}
+use Rattle.cell_model.specs.declared.cell.{Axis2.{Axis2, TheVariants.{Across, Up}}, NodeKind.NodeKind}
+use Rattle.cell_model.specs.declared.cell.{NodeKind.TheVariants.{Joint, Contact, Buried, Fet}, WireEnd.WireEnd}
+use Rattle.cell_model.specs.{Sound.{node_at, wire_at}, Wiring.buried_pad}
 use Rattle.cell_model.specs.declared.cell.WireEnd.TheVariants as ends
-use Rattle.cell_model.specs.Sound.{node_at, wire_at}
-use Rattle.cell_model.specs.Wiring.{buried_pad}
-use Rattle.expand.specs.declared.master.Master.{Master}
-use Rattle.expand.specs.Variables.{half, centre}
-use Rattle.expand.specs.Laws.{MeetsStructure}
+use Rattle.expand.specs.{declared.master.Master.Master, Variables.{half, centre}, Laws.MeetsStructure}
 
 -- a layout of a master that meets its structure on both axes, and in which bound items keep their spacings
 pub record IsFinished (tech : Tech) (master : Master) (layout : Coords) : Type 0 where

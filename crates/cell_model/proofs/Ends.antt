@@ -2,9 +2,7 @@
 use Rattle.std.specs.List.{AllByRecursion}
 use Rattle.std.proofs.lemmas.List.Elements.{All-from_recursion, recursion_from_All, All-weaker}
 use Rattle.rule_table.specs.declared.technology.Tech.{Tech}
-use Rattle.cell_model.specs.declared.cell.Cell.{Cell}
-use Rattle.cell_model.specs.Sound.{IsWire, IsSound}
-use Rattle.cell_model.specs.Nets.{HasEnds}
+use Rattle.cell_model.specs.{declared.cell.Cell.Cell, Sound.{IsWire, IsSound}, Nets.HasEnds}
 
 pub ends-sound : (tech : Tech) (cell : Cell) → IsSound tech cell → AllByRecursion (HasEnds cell) cell.wires
 ends-sound tech cell sound = recursion_from_All (HasEnds cell) cell.wires

@@ -1,10 +1,6 @@
 -- The ports of a cell as its neighbours in a grid see them.
 use Rattle.std.specs.Prelude.{List, map}
-use Rattle.cell_model.specs.declared.cell.Cell.{Cell}
-use Rattle.cell_model.specs.declared.cell.CellPort.{CellPort}
-use Rattle.cell_model.specs.declared.cell.Port.{Port}
-use Rattle.cell_model.specs.declared.cell.Wire.{Wire}
-use Rattle.cell_model.specs.Sound.{wire_at}
+use Rattle.cell_model.specs.{declared.cell.{Cell.Cell, CellPort.CellPort, Port.Port, Wire.Wire}, Sound.wire_at}
 
 -- a port, with the width of its wire
 abbrev pub seen_port : List Wire → Port → CellPort

@@ -2,25 +2,16 @@
 -- for them, poly and diffusion leave a buried contact on different sides, each of its ports has one wire, and its limits are between two nodes.
 use Rattle.std.specs.Prelude.{◌≡◌, ℕ, ◌+◌, ◌<◌, ◌≤◌, ℤ, pos, ◌≤ℤ◌, IsTrue, not, ◌⊎◌, List, [], length, slice_index_or}
 use Rattle.std.specs.List.{AllByRecursion}
-use Rattle.rule_table.specs.Bounds.{IsSize}
-use Rattle.rule_table.specs.declared.technology.Tech.{Tech}
-use Rattle.rule_table.specs.declared.classes.Layer.{Layer}
-use Rattle.rule_table.specs.declared.classes.Layer.TheVariants.{Diffusion, Poly, Metal}
-use Rattle.rule_table.specs.Technology.{width_of, has_buried_of}
+use Rattle.rule_table.specs.{Bounds.IsSize, Technology.{width_of, has_buried_of}}
+use Rattle.rule_table.specs.declared.{technology.Tech.Tech, classes.Layer.{Layer, TheVariants.{Diffusion, Poly, Metal}}}
 use Rattle.stick_lex.specs.Numbers.{IsNumber}
-use Rattle.cell_model.specs.declared.cell.Axis2.{Axis2}
-use Rattle.cell_model.specs.declared.cell.Axis2.TheVariants.{Across, Up}
-use Rattle.cell_model.specs.declared.cell.NodeKind.{NodeKind}
-use Rattle.cell_model.specs.declared.cell.NodeKind.TheVariants.{Joint, Contact, Buried, Fet}
-use Rattle.cell_model.specs.declared.cell.Node.{Node}
-use Rattle.cell_model.specs.declared.cell.WireEnd.{WireEnd}
+use Rattle.cell_model.specs.declared.cell.{Axis2.{Axis2, TheVariants.{Across, Up}}, NodeKind.NodeKind}
+use Rattle.cell_model.specs.declared.cell.{NodeKind.TheVariants.{Joint, Contact, Buried, Fet}, Node.Node}
+use Rattle.cell_model.specs.declared.cell.{WireEnd.WireEnd, Wire.Wire, Port.Port, Limit.Limit, Cell.Cell}
+use Rattle.cell_model.specs.Wiring.{axis_of, is_low_side, node_takes, node_takes_along, buried_pad, node_pad}
+use Rattle.cell_model.specs.Wiring.{is_same_layer}
 use Rattle.cell_model.specs.declared.cell.WireEnd.TheVariants as ends
-use Rattle.cell_model.specs.declared.cell.Wire.{Wire}
-use Rattle.cell_model.specs.declared.cell.Port.{Port}
-use Rattle.cell_model.specs.declared.cell.Limit.{Limit}
-use Rattle.cell_model.specs.declared.cell.Cell.{Cell}
 use Rattle.lam_geom.specs.declared.boxes.Side.TheVariants.{Left}
-use Rattle.cell_model.specs.Wiring.{axis_of, is_low_side, node_takes, node_takes_along, buried_pad, node_pad, is_same_layer}
 
 -- node k and port k of some, where there are so many
 abbrev pub no_node : Node

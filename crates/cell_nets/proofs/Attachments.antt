@@ -1,21 +1,17 @@
 -- The lists of neighbours that the wires of a cell make, and the nets of its parts.
-use Rattle.std.proofs.Common.{◌≡◌, ℕ, ◌+◌, ◌*◌, ◌<◌, ◌≤◌, List, [], ◌∷◌, ◌++◌, length, take, get_or, Contains, ◌⊎◌, inl, inr, refl, sym, ◌∙◌, ap, subst, arith, append_assoc}
-use Rattle.std.specs.Prelude.{true, false}
-use Rattle.std.proofs.lemmas.List.{take_more, take_all, length_push, get_or_append_left, get_or_push, get_or_read, append-nil, take-append-le, length-take-le}
-use Rattle.std.proofs.lemmas.List.Elements.{Contains-append_left, Contains-push, Contains-push_cases}
-use Rattle.std.proofs.lemmas.List.Sums.{sum_by-cons, sum_by_push, sum_by-le}
-use Rattle.std.proofs.lemmas.Bool.{cases_eq, cases_order}
+use Rattle.std.proofs.Common.{◌≡◌, ℕ, ◌+◌, ◌*◌, ◌<◌, ◌≤◌, List, [], ◌∷◌, ◌++◌, length, take, get_or, Contains, ◌⊎◌, inl}
+use Rattle.std.proofs.{Common.{inr, refl, sym, ◌∙◌, ap, subst, arith, append_assoc}, lemmas.List.{take_more, take_all}}
+use Rattle.std.proofs.lemmas.List.{length_push, get_or_append_left, get_or_push, get_or_read, append-nil}
+use Rattle.std.proofs.lemmas.List.{take-append-le, length-take-le, Elements.{Contains-append_left, Contains-push}}
+use Rattle.std.proofs.lemmas.List.{Elements.Contains-push_cases, Sums.{sum_by-cons, sum_by_push, sum_by-le}}
+use Rattle.std.{proofs.lemmas.Bool.{cases_eq, cases_order}, specs.Prelude.{true, false}}
 use Rattle.smallvec.specs.SmallVec.{SmallVec}
-use Rattle.cell_model.specs.declared.cell.NodeKind.{NodeKind}
-use Rattle.cell_model.specs.declared.cell.NodeKind.TheVariants.{Joint, Contact, Buried, Fet}
-use Rattle.cell_model.specs.declared.cell.Node.{Node}
-use Rattle.cell_model.specs.declared.cell.Wire.{Wire}
-use Rattle.cell_model.specs.declared.cell.NodeNets.{NodeNets}
-use Rattle.cell_model.specs.Nets.{kind_parts, node_parts, first_part, end_parts, with_each, attachments, nets_of_kind, nets_of_nodes}
-use Rattle.graph_search.specs.Netting.{Attached}
-use Rattle.graph_search.specs.Search.{no_neighbours, neighbours_of, IsBeside, AreNeighbours}
-use Rattle.cell_nets.specs.Attaching.{AreAttached, IsAdded, AreFirstParts}
+use Rattle.cell_model.specs.declared.cell.{NodeKind.{NodeKind, TheVariants.{Joint, Contact, Buried, Fet}}, Node.Node}
+use Rattle.cell_model.specs.{declared.cell.{Wire.Wire, NodeNets.NodeNets}, Nets.{kind_parts, node_parts, first_part}}
+use Rattle.cell_model.specs.Nets.{end_parts, with_each, attachments, nets_of_kind, nets_of_nodes}
+use Rattle.graph_search.specs.{Netting.Attached, Search.{no_neighbours, neighbours_of, IsBeside, AreNeighbours}}
 use Rattle.graph_search.proofs.Neighbours.{none_in_empty, beside_within, attached_back}
+use Rattle.cell_nets.specs.Attaching.{AreAttached, IsAdded, AreFirstParts}
 
 -- ---- parts
 

@@ -1,11 +1,8 @@
 -- A cell has only one value of its nets.
 use Rattle.std.proofs.Common.{◌≡◌, ℕ, List, drop, sym, ◌∙◌, ap}
-use Rattle.cell_model.specs.declared.cell.Cell.{Cell}
-use Rattle.cell_model.specs.declared.cell.NodeNets.{NodeNets}
-use Rattle.cell_model.specs.declared.cell.Nets.{Nets}
+use Rattle.cell_model.specs.declared.cell.{Cell.Cell, NodeNets.NodeNets, Nets.Nets}
 use Rattle.cell_model.specs.Nets.{node_parts, parts_of, attachments_of, nets_of_nodes, AreNets}
-use Rattle.graph_search.specs.Netting.{next_net}
-use Rattle.graph_search.proofs.Determined.{numbers_same}
+use Rattle.graph_search.{specs.Netting.next_net, proofs.Determined.numbers_same}
 
 -- nets with the same parts are the same
 nets_by_parts : (a b : Nets) → a.node ≡ b.node → a.wire ≡ b.wire → a.count ≡ b.count → a ≡ b

@@ -1,8 +1,7 @@
 -- How the wires of a cell are put into lists of neighbours.
 use Rattle.std.specs.Prelude.{◌≡◌, ℕ, ◌+◌, ◌≤◌, ◌≢◌, List, [], ◌∷◌, ◌++◌, length, slice_index}
 use Rattle.smallvec.specs.SmallVec.{SmallVec}
-use Rattle.cell_model.specs.declared.cell.Node.{Node}
-use Rattle.cell_model.specs.Nets.{first_part, with_each}
+use Rattle.cell_model.specs.{declared.cell.Node.Node, Nets.{first_part, with_each}}
 use Rattle.graph_search.specs.Search.{neighbours_of, AreNeighbours}
 
 -- a wire's part and each of some parts have been put into each other's lists

@@ -1,10 +1,7 @@
 //! The nets of a cell.
-ghost use Rattle.std.specs.Prelude.{◌≡◌, ◌+◌, ◌≤◌, IfOk, length};
-ghost use Rattle.std.specs.List.{AllByRecursion};
-ghost use Rattle.cell_model.specs.Sound.{IsLight};
-ghost use Rattle.cell_model.specs.Nets.{kind_parts, node_parts, nets_of_kind, nets_of_nodes, AreNets, HasEnds};
-ghost use Rattle.cell_model.specs.declared.cell.Cell.{Cell};
-ghost use Rattle.cell_model.specs.declared.cell.Nets.{Nets};
+ghost use Rattle.std.specs.{Prelude.{◌≡◌, ◌+◌, ◌≤◌, IfOk, length}, List.AllByRecursion};
+ghost use Rattle.cell_model.specs.{Sound.IsLight, Nets.{kind_parts, node_parts, nets_of_kind, nets_of_nodes, AreNets}};
+ghost use Rattle.cell_model.specs.{Nets.HasEnds, declared.cell.{Cell.Cell, Nets.Nets}};
 
 use crate::attaching::{kind_parts, neighbours};
 use cell_model::{Cell, Nets, Node, NodeKind, NodeNets};

@@ -1,8 +1,6 @@
 //! What no clause of stick_cell says: the inlined cells, counts and ports of typed-in designs.
-ghost use Rattle.std.specs.Prelude.{IfOk};
-ghost use Rattle.std.specs.List.{AllByRecursion};
-ghost use Rattle.cell_model.specs.Sound.{IsLight};
-ghost use Rattle.cell_model.specs.Nets.{HasEnds};
+ghost use Rattle.std.specs.{Prelude.IfOk, List.AllByRecursion};
+ghost use Rattle.cell_model.specs.{Sound.IsLight, Nets.HasEnds};
 ghost use Rattle.stick_cell.specs.Tables.{IsResolved};
 
 use crate::stick_cell_tests::{chain, checked, design};

@@ -4,27 +4,18 @@ use Rattle.std.proofs.lemmas.List.{length-map}
 use Rattle.lam_geom.specs.declared.boxes.MaskBox.{MaskBox}
 use Rattle.rule_table.specs.declared.technology.Tech.{Tech}
 use Rattle.graph_search.specs.Netting.{Reaches}
-use Rattle.cif_read.specs.declared.fault.CifFault.{CifFault}
-use Rattle.cif_read.specs.Files.{drawn_of}
-use Rattle.cif_foreign.specs.Meaning.{IsFirstFault, ForeignReadingsAreDetermined}
-use Rattle.cif_foreign.specs.Sheets.{flattened}
-use Rattle.cif_read.specs.Sheets.{Drawn}
-use Rattle.crossings.specs.declared.crossing.Crossing.{Crossing}
-use Rattle.crossings.specs.Crossings.{AreProper, IsImproper, IsFirstBadPair}
-use Rattle.flat_check.specs.declared.rule.Break.{Break}
-use Rattle.flat_check.specs.declared.rule.Rule.{Rule}
-use Rattle.flat_check.specs.Breaks.{number_of, IsNotAfter, IsFirstBreak}
-use Rattle.net_extract.specs.declared.netlist.Netlist.{Netlist}
-use Rattle.net_extract.specs.Extraction.{IsExtracted, IsLink}
-use Rattle.net_extract.specs.Laws.{IsExtractionDetermined}
-use Rattle.net_extract.specs.Netlists.{IsNetlistOf}
-use Rattle.net_extract.specs.Places.{places_of}
-use Rattle.net_list.specs.Lines.{text_of_netlist}
-use Rattle.cif_answers.specs.declared.fault.TextFault.{TextFault}
-use Rattle.cif_answers.specs.declared.fault.TextFault.TheVariants.{Cif, TooMany, NotProper, Broken, OutOfMemory}
-use Rattle.cif_answers.specs.Texts.{HasBoxes, HasTooManyBoxes, HasNetlist, HasVerdict, RefusesNetlist, RefusesVerdict, AnswersAreDetermined}
-use Rattle.cif_answers.proofs.SameBoxes.{same_boxes}
+use Rattle.cif_read.specs.{declared.fault.CifFault.CifFault, Files.drawn_of, Sheets.Drawn}
+use Rattle.cif_foreign.specs.{Meaning.{IsFirstFault, ForeignReadingsAreDetermined}, Sheets.flattened}
+use Rattle.crossings.specs.{declared.crossing.Crossing.Crossing, Crossings.{AreProper, IsImproper, IsFirstBadPair}}
+use Rattle.flat_check.specs.{declared.rule.{Break.Break, Rule.Rule}, Breaks.{number_of, IsNotAfter, IsFirstBreak}}
 use Rattle.flat_check.proofs.SameCrossings.{crossings_same}
+use Rattle.net_extract.specs.{declared.netlist.Netlist.Netlist, Extraction.{IsExtracted, IsLink}}
+use Rattle.net_extract.specs.{Laws.IsExtractionDetermined, Netlists.IsNetlistOf, Places.places_of}
+use Rattle.net_list.specs.Lines.{text_of_netlist}
+use Rattle.cif_answers.specs.declared.fault.TextFault.{TextFault, TheVariants.{Cif, TooMany, NotProper, Broken}}
+use Rattle.cif_answers.specs.{declared.fault.TextFault.TheVariants.OutOfMemory, Texts.{HasBoxes, HasTooManyBoxes}}
+use Rattle.cif_answers.specs.Texts.{HasNetlist, HasVerdict, RefusesNetlist, RefusesVerdict, AnswersAreDetermined}
+use Rattle.cif_answers.proofs.SameBoxes.{same_boxes}
 
 -- ---- boxes
 

@@ -3,14 +3,9 @@ use Rattle.std.proofs.Common.{ℕ, ◌<◌, List, [], ◌∷◌, length, sym, su
 use Rattle.std.specs.List.{AllByRecursion, range_with_len}
 use Rattle.lam_geom.specs.declared.boxes.MaskBox.{MaskBox}
 use Rattle.rule_table.specs.declared.technology.Tech.{Tech}
-use Rattle.crossings.specs.declared.crossing.Crossing.{Crossing}
-use Rattle.crossings.specs.Boxes.{layer_at}
-use Rattle.net_extract.specs.declared.netlist.Netlist.{Netlist}
-use Rattle.net_extract.specs.declared.netlist.Part.{Part}
-use Rattle.net_extract.specs.declared.netlist.Piece.{Piece}
-use Rattle.net_extract.specs.Extraction.{IsExtracted}
-use Rattle.net_extract.specs.Netlists.{place_of}
-use Rattle.net_extract.specs.Places.{Place, place, parts_on, is_crossed, places_at, places_of}
+use Rattle.crossings.specs.{declared.crossing.Crossing.Crossing, Boxes.layer_at}
+use Rattle.net_extract.specs.{declared.netlist.{Netlist.Netlist, Part.Part, Piece.Piece}, Extraction.IsExtracted}
+use Rattle.net_extract.specs.{Netlists.place_of, Places.{Place, place, parts_on, is_crossed, places_at, places_of}}
 use Rattle.list_facts.proofs.Elements.{all_flat, all_map, all_numbers, all_of, all_unmap}
 
 abbrev IsPlaceBelow : ℕ → Place → Type 0

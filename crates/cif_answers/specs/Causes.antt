@@ -1,12 +1,10 @@
 -- The cause of a refusal by the cause of the step that refused.
-use Rattle.cif_read.specs.declared.fault.CifReadFault.{CifReadFault}
+use Rattle.cif_read.specs.declared.fault.{CifReadFault.CifReadFault, FlatFault.FlatFault}
 use Rattle.cif_read.specs.declared.fault.CifReadFault.TheVariants as reading
-use Rattle.cif_read.specs.declared.fault.FlatFault.{FlatFault}
 use Rattle.cif_read.specs.declared.fault.FlatFault.TheVariants as flattening
 use Rattle.net_extract.specs.declared.netlist.ExtractFault.{ExtractFault}
 use Rattle.net_extract.specs.declared.netlist.ExtractFault.TheVariants as extraction
-use Rattle.cif_answers.specs.declared.fault.TextFault.{TextFault}
-use Rattle.cif_answers.specs.declared.fault.TextFault.TheVariants.{Cif, TooMany, NotProper, OutOfMemory}
+use Rattle.cif_answers.specs.declared.fault.TextFault.{TextFault, TheVariants.{Cif, TooMany, NotProper, OutOfMemory}}
 
 abbrev pub by_reading : CifReadFault → TextFault
 by_reading (reading.Cif fault) = Cif fault

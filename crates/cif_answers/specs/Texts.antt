@@ -3,16 +3,13 @@ use Rattle.std.specs.Prelude.{◌≡◌, ℕ, ◌<◌, ◌≤◌, List, length, 
 use Rattle.lam_geom.specs.declared.boxes.MaskBox.{MaskBox}
 use Rattle.rule_table.specs.declared.technology.Tech.{Tech}
 use Rattle.cif_read.specs.Files.{drawn_of, most_boxes}
-use Rattle.cif_foreign.specs.Meaning.{Means, IsFirstFault}
-use Rattle.cif_foreign.specs.Sheets.{Sheet, flattened}
+use Rattle.cif_foreign.specs.{Meaning.{Means, IsFirstFault}, Sheets.{Sheet, flattened}}
 use Rattle.crossings.specs.Crossings.{IsFirstBadPair}
-use Rattle.net_extract.specs.declared.netlist.Netlist.{Netlist}
-use Rattle.net_extract.specs.Extraction.{IsExtracted}
-use Rattle.flat_check.specs.declared.rule.Break.{Break}
-use Rattle.flat_check.specs.Breaks.{KeepRules, IsFirstBreak}
+use Rattle.net_extract.specs.{declared.netlist.Netlist.Netlist, Extraction.IsExtracted}
+use Rattle.flat_check.specs.{declared.rule.Break.Break, Breaks.{KeepRules, IsFirstBreak}}
 use Rattle.net_list.specs.Lines.{text_of_netlist}
-use Rattle.cif_answers.specs.declared.fault.TextFault.{TextFault}
-use Rattle.cif_answers.specs.declared.fault.TextFault.TheVariants.{Cif, TooMany, NotProper, Broken, OutOfMemory}
+use Rattle.cif_answers.specs.declared.fault.TextFault.{TextFault, TheVariants.{Cif, TooMany, NotProper, Broken}}
+use Rattle.cif_answers.specs.declared.fault.TextFault.TheVariants.{OutOfMemory}
 
 -- the boxes of a text, one by one, which are not too many
 pub record HasBoxes (text : List ℕ) (boxes : List MaskBox) : Type 0 where

@@ -1,9 +1,7 @@
 -- What each command is answered.
-use Rattle.std.proofs.Common.{◌≡◌, ℕ, ℤ, FitsSigned, of_z, to_z, w64, Bool, Ok, refl}
-use Rattle.std.proofs.lemmas.Int.{to_z-of_z}
-use Rattle.cif_lex.specs.declared.command.Command.{Command}
-use Rattle.cif_lex.specs.declared.command.Command.TheVariants.{Nothing, Define, Finish, Layer, Area, Call, Extension}
-use Rattle.cif_lex.specs.declared.placement.Placement.{Placement}
+use Rattle.std.proofs.{Common.{◌≡◌, ℕ, ℤ, FitsSigned, of_z, to_z, w64, Bool, Ok, refl}, lemmas.Int.to_z-of_z}
+use Rattle.cif_lex.specs.declared.command.Command.{Command, TheVariants.{Nothing, Define, Finish, Layer, Area, Call}}
+use Rattle.cif_lex.specs.declared.{command.Command.TheVariants.Extension, placement.Placement.Placement}
 use Rattle.cif_read.specs.Acts.{Named}
 use Rattle.cif_foreign.specs.Acts.{State, act, defined, finished, named, area, call}
 

@@ -1,22 +1,16 @@
 -- A file without the steps that have no boxes: its boxes are the same, and it can be flattened as well.
-use Rattle.std.proofs.Common.{◌≡◌, ℕ, zero, suc, ◌+◌, ◌<◌, ◌≤◌, max, Bool, true, false, cond, List, [], ◌∷◌, ◌++◌, All, map, length, take, fold, get_or, refl, sym, ap, ◌∙◌, subst, arith}
-use Rattle.std.specs.List.{AllByRecursion, AllZip, filter}
-use Rattle.std.proofs.lemmas.List.{append-nil, take_more, length_push, length-map, get_or-map}
-use Rattle.std.proofs.lemmas.List.Elements.{filter-append, All-filter, All-weaker, All-from_recursion, recursion_from_All}
-use Rattle.std.proofs.lemmas.Bool.{false≢true}
-use Rattle.std.proofs.lemmas.Bool.Decides.{nat_tests}
+use Rattle.std.proofs.Common.{◌≡◌, ℕ, zero, suc, ◌+◌, ◌<◌, ◌≤◌, max, Bool, true, false, cond, List, [], ◌∷◌, ◌++◌, All}
+use Rattle.std.proofs.Common.{map, length, take, fold, get_or, refl, sym, ap, ◌∙◌, subst, arith}
+use Rattle.std.proofs.lemmas.List.{append-nil, take_more, length_push, length-map, get_or-map, Elements.filter-append}
+use Rattle.std.proofs.lemmas.List.Elements.{All-filter, All-weaker, All-from_recursion, recursion_from_All}
+use Rattle.std.{proofs.lemmas.Bool.{false≢true, Decides.nat_tests}, specs.List.{AllByRecursion, AllZip, filter}}
 use Rattle.cif_read.specs.Sheets.{Drawn}
-use Rattle.cif_foreign.specs.declared.file.ForeignFile.{ForeignFile}
-use Rattle.cif_foreign.specs.declared.file.ForeignSymbol.{ForeignSymbol}
-use Rattle.cif_foreign.specs.declared.file.ForeignStep.{ForeignStep}
-use Rattle.cif_foreign.specs.declared.file.ForeignStep.TheVariants.{Own, Called}
-use Rattle.cif_foreign.specs.Sheets.{Symbol, placed_box, boxes_of_steps, boxes_of_symbols, then_boxes, depth_of_step, depths_of, then_depth, flattened}
-use Rattle.cif_foreign.specs.Files.{step_of, symbol_of, sheet_of, no_symbol, IsStepOf, CanBeFlattened}
-use Rattle.cif_foreign.specs.Counts.{AreCounts, has_boxes, filled_symbol, filled_file}
-use Rattle.cif_foreign.proofs.Building.{built_kept}
-use Rattle.cif_foreign.proofs.Symbols.{AreInOrder}
-use Rattle.cif_foreign.proofs.Sound.{step_later}
-use Rattle.cif_foreign.proofs.Flat.{drawn_by, none_counted}
+use Rattle.cif_foreign.specs.declared.file.{ForeignFile.ForeignFile, ForeignSymbol.ForeignSymbol}
+use Rattle.cif_foreign.specs.{declared.file.ForeignStep.{ForeignStep, TheVariants.{Own, Called}}, Sheets.Symbol}
+use Rattle.cif_foreign.specs.Sheets.{placed_box, boxes_of_steps, boxes_of_symbols, then_boxes, depth_of_step, depths_of}
+use Rattle.cif_foreign.specs.{Sheets.{then_depth, flattened}, Files.{step_of, symbol_of, sheet_of, no_symbol, IsStepOf}}
+use Rattle.cif_foreign.specs.{Files.CanBeFlattened, Counts.{AreCounts, has_boxes, filled_symbol, filled_file}}
+use Rattle.cif_foreign.proofs.{Building.built_kept, Symbols.AreInOrder, Sound.step_later, Flat.{drawn_by, none_counted}}
 use Rattle.cif_foreign.proofs.Walking.{steps_here}
 
 -- ---- a step that is left out has no boxes

@@ -1,22 +1,14 @@
 -- All boxes of a file, step by step.
-use Rattle.std.proofs.Common.{◌≡◌, ℕ, zero, suc, ◌+◌, ◌<◌, ◌≤◌, min, max, ℤ, pos, ◌+ℤ◌, ◌≤ℤ◌, List, [], ◌∷◌, ◌++◌, map, length, get_or, take, fold, refl, sym, ap, ◌∙◌, arith, length-append}
-use Rattle.std.specs.List.{All, AllByRecursion, flat_map}
-use Rattle.std.specs.Int.{int_min, int_max}
-use Rattle.std.proofs.lemmas.List.{append-nil, append_assoc, map_push, map-append, length-map, get_or-map}
-use Rattle.std.proofs.lemmas.Int.{ints, clamps}
+use Rattle.std.proofs.Common.{◌≡◌, ℕ, zero, suc, ◌+◌, ◌<◌, ◌≤◌, min, max, ℤ, pos, ◌+ℤ◌, ◌≤ℤ◌, List, [], ◌∷◌, ◌++◌, map}
+use Rattle.std.proofs.Common.{length, get_or, take, fold, refl, sym, ap, ◌∙◌, arith, length-append}
+use Rattle.std.proofs.lemmas.{List.{append-nil, append_assoc, map_push, map-append, length-map, get_or-map}, Int.ints}
+use Rattle.std.{proofs.lemmas.Int.clamps, specs.{List.{All, AllByRecursion, flat_map}, Int.{int_min, int_max}}}
 use Rattle.lam_geom.specs.declared.boxes.MaskBox.{MaskBox}
-use Rattle.cif_lex.specs.declared.placement.Placement.{Placement}
-use Rattle.cif_lex.specs.Transformations.{Point, placed}
-use Rattle.cif_read.specs.Sheets.{Drawn}
-use Rattle.cif_read.specs.Files.{drawn_of, most_boxes}
-use Rattle.cif_read.proofs.Flat.{flat_more, flat_all}
-use Rattle.cif_foreign.specs.declared.file.ForeignStep.{ForeignStep}
-use Rattle.cif_foreign.specs.declared.file.ForeignStep.TheVariants.{Own, Called}
-use Rattle.cif_foreign.specs.Sheets.{placed_box, boxes_of_step, boxes_of_steps, depth_of_step}
-use Rattle.cif_foreign.specs.Files.{step_of, IsStepOf}
-use Rattle.cif_foreign.specs.Readings.{called_depth}
-use Rattle.cif_foreign.specs.Counts.{counted, AreCounts}
-use Rattle.cif_foreign.proofs.Placing.{placed_twice}
+use Rattle.cif_lex.specs.{declared.placement.Placement.Placement, Transformations.{Point, placed}}
+use Rattle.cif_read.{specs.{Sheets.Drawn, Files.{drawn_of, most_boxes}}, proofs.Flat.{flat_more, flat_all}}
+use Rattle.cif_foreign.specs.{declared.file.ForeignStep.{ForeignStep, TheVariants.{Own, Called}}, Sheets.placed_box}
+use Rattle.cif_foreign.specs.{Sheets.{boxes_of_step, boxes_of_steps, depth_of_step}, Files.{step_of, IsStepOf}}
+use Rattle.cif_foreign.{specs.{Readings.called_depth, Counts.{counted, AreCounts}}, proofs.Placing.placed_twice}
 
 -- the boxes of a step, where those of the symbols are these
 abbrev pub drawn_by : List (List Drawn) → ForeignStep → List Drawn

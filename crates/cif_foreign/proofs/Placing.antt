@@ -1,13 +1,12 @@
 -- Boxes that are turned and shifted.
-use Rattle.std.proofs.Common.{◌≡◌, ℕ, zero, suc, ◌+◌, ◌^◌, ◌%◌, ℤ, neg_ℤ, ◌+ℤ◌, ◌<ℤ◌, int_lt, nat_lt, Bool, true, false, cond, ◌⊎◌, inl, inr, refl, sym, ap, ◌∙◌, subst, arith}
+use Rattle.std.proofs.Common.{◌≡◌, ℕ, zero, suc, ◌+◌, ◌^◌, ◌%◌, ℤ, neg_ℤ, ◌+ℤ◌, ◌<ℤ◌, int_lt, nat_lt, Bool, true, false}
+use Rattle.std.proofs.{Common.{cond, ◌⊎◌, inl, inr, refl, sym, ap, ◌∙◌, subst, arith}, lemmas.Int.{ints, clamps}}
 use Rattle.std.specs.Int.{int_min, int_max}
-use Rattle.std.proofs.lemmas.Int.{ints, clamps}
 use Rattle.lam_geom.specs.declared.boxes.MaskLayer.{MaskLayer}
-use Rattle.cif_lex.specs.declared.placement.Placement.{Placement}
-use Rattle.cif_lex.specs.Transformations.{Point, shifted, x_mirrored, quarter, quarters, turned, placed, shift_of, IsNear}
+use Rattle.cif_lex.specs.{declared.placement.Placement.Placement, Transformations.{Point, shifted, x_mirrored, quarter}}
+use Rattle.cif_lex.specs.Transformations.{quarters, turned, placed, shift_of, IsNear}
 use Rattle.cif_lex.proofs.Turning.{placed_near, by_words, words_back, nearer}
-use Rattle.cif_read.specs.Sheets.{Drawn}
-use Rattle.cif_read.specs.Files.{IsWithin, IsSolidWithin}
+use Rattle.cif_read.specs.{Sheets.Drawn, Files.{IsWithin, IsSolidWithin}}
 use Rattle.cif_foreign.specs.Sheets.{placed_box}
 
 -- ---- the lower and the higher of two numbers

@@ -1,43 +1,27 @@
 -- What a reader keeps stays sound.
-use Rattle.std.proofs.Common.{◌≡◌, ℕ, unsigned_abs, FitsSigned, of_z, to_z, w64, ◌+◌, ◌<◌, ◌≤◌, ◌^◌, max, ℤ, pos, int_lt, ◌*ℤ◌, Result, Ok, Err, OnOk, nat_le, ◌&&◌, Bool, true, false, Option, Some, None, IfSome, is_some, List, [], ◌∷◌, ◌++◌, All, map, fold, length, get_or, refl, sym, ap, ◌∙◌, subst, arith, nat_lt, ◌⊎◌, inl, inr}
-use Rattle.std.specs.Ordering.{nat_cmp}
-use Rattle.std.specs.BTreeMap.{BTreeMap, Updates}
-use Rattle.std.proofs.lemmas.Int.{ints, to_z-of_z}
-use Rattle.std.proofs.lemmas.List.{map_push, length_push, length-map, get_or_append_left, get_or_at, get_or_default}
-use Rattle.std.proofs.lemmas.List.Elements.{All-push, All-weaker, recursion_from_All}
-use Rattle.std.proofs.lemmas.List.Sums.{fold-append}
-use Rattle.std.proofs.lemmas.Bool.Decides.{nat_tests}
-use Rattle.cif_lex.specs.declared.command.Command.{Command}
-use Rattle.cif_lex.specs.declared.command.Command.TheVariants.{Nothing, Define, Finish, Layer, Area, Call, Extension}
-use Rattle.cif_lex.specs.Commands.{IsBody}
-use Rattle.cif_read.specs.declared.fault.CifKind.{CifKind}
-use Rattle.cif_read.specs.declared.fault.Stop.{Stop}
-use Rattle.cif_read.specs.declared.fault.Stop.TheVariants.{Refused, OutOfMemory}
-use Rattle.cif_read.specs.Readers.{IsCauseOfStop}
-use Rattle.cif_read.specs.Scales.{IsScale}
-use Rattle.cif_read.specs.Readings.{HasPlaces}
-use Rattle.cif_foreign.specs.declared.file.ForeignSymbol.{ForeignSymbol}
-use Rattle.cif_foreign.specs.declared.file.ForeignStep.{ForeignStep}
-use Rattle.cif_foreign.specs.declared.file.ForeignStep.TheVariants.{Own, Called}
-use Rattle.cif_foreign.specs.declared.state.Drawing.{Drawing}
-use Rattle.cif_foreign.specs.declared.state.Begun.{Begun}
-use Rattle.cif_foreign.specs.declared.state.Reading.{Reading}
-use Rattle.cif_foreign.specs.Sheets.{Step, Symbol, own, called, depth_of_step, depth_of_steps, depths_of}
-use Rattle.cif_foreign.specs.Files.{step_of, symbol_of, no_symbol, IsStepOf}
-use Rattle.cif_foreign.specs.Readings.{begun_of, definition_of, symbols_of, state_of, level_from, called_depth, HasTurn, IsSoundLevel, AreSoundSymbols, IsSound}
-use Rattle.cif_lex.specs.Commands.{is_far}
-use Rattle.cif_lex.specs.Shifts.{is_odd}
-use Rattle.cif_read.proofs.Scales.{neither}
-use Rattle.cif_read.proofs.Beginnings.{seen_begun}
-use Rattle.cif_read.proofs.Calling.{number_same}
-use Rattle.cif_read.proofs.Sound.{places_added}
+use Rattle.std.proofs.Common.{◌≡◌, ℕ, unsigned_abs, FitsSigned, of_z, to_z, w64, ◌+◌, ◌<◌, ◌≤◌, ◌^◌, max, ℤ, pos}
+use Rattle.std.proofs.Common.{int_lt, ◌*ℤ◌, Result, Ok, Err, OnOk, nat_le, ◌&&◌, Bool, true, false, Option, Some, None}
+use Rattle.std.proofs.Common.{IfSome, is_some, List, [], ◌∷◌, ◌++◌, All, map, fold, length, get_or, refl, sym, ap, ◌∙◌}
+use Rattle.std.proofs.{Common.{subst, arith, nat_lt, ◌⊎◌, inl, inr}, lemmas.{Int.{ints, to_z-of_z}, List.map_push}}
+use Rattle.std.proofs.lemmas.List.{length_push, length-map, get_or_append_left, get_or_at, get_or_default}
+use Rattle.std.proofs.lemmas.List.{Elements.{All-push, All-weaker, recursion_from_All}, Sums.fold-append}
+use Rattle.std.{proofs.lemmas.Bool.Decides.nat_tests, specs.{Ordering.nat_cmp, BTreeMap.{BTreeMap, Updates}}}
+use Rattle.cif_lex.specs.declared.command.Command.{Command, TheVariants.{Nothing, Define, Finish, Layer, Area, Call}}
+use Rattle.cif_lex.specs.declared.{command.Command.TheVariants.Extension, placement.Placement.Placement}
+use Rattle.cif_lex.specs.{Commands.{IsBody, is_far}, Shifts.is_odd}
+use Rattle.cif_read.specs.declared.fault.{CifKind.CifKind, Stop.{Stop, TheVariants.{Refused, OutOfMemory}}}
+use Rattle.cif_read.specs.{Readers.IsCauseOfStop, Scales.IsScale, Readings.HasPlaces, Files.IsWithin, Acts.Named}
+use Rattle.cif_read.specs.Acts.{is_bad_symbol, is_bad_factor, is_bad_call, is_odd_area, scaled, drawn_box}
+use Rattle.cif_read.proofs.{Scales.neither, Beginnings.seen_begun, Calling.number_same, Sound.places_added}
+use Rattle.cif_foreign.specs.declared.file.{ForeignSymbol.ForeignSymbol, ForeignStep.{ForeignStep, TheVariants.Own}}
+use Rattle.cif_foreign.specs.declared.{file.ForeignStep.TheVariants.Called, state.{Drawing.Drawing, Begun.Begun}}
+use Rattle.cif_foreign.specs.{declared.state.Reading.Reading, Sheets.{Step, Symbol, own, called, depth_of_step}}
+use Rattle.cif_foreign.specs.{Sheets.{depth_of_steps, depths_of}, Files.{step_of, symbol_of, no_symbol, IsStepOf}}
+use Rattle.cif_foreign.specs.Readings.{begun_of, definition_of, symbols_of, state_of, level_from, called_depth, HasTurn}
+use Rattle.cif_foreign.specs.{Readings.{IsSoundLevel, AreSoundSymbols, IsSound}, Acts.{State, Level, empty, numbered}}
+use Rattle.cif_foreign.specs.Acts.{is_known, place_of, boxed, scaled_place, called_on, is_too_deep, drawn_on, defined}
+use Rattle.cif_foreign.{specs.Acts.call, proofs.{Building.built_push, Symbols.{depths_same, AreInOrder}}}
 use Rattle.lam_geom.specs.declared.boxes.MaskLayer.{MaskLayer}
-use Rattle.cif_read.specs.Files.{IsWithin}
-use Rattle.cif_lex.specs.declared.placement.Placement.{Placement}
-use Rattle.cif_read.specs.Acts.{Named, is_bad_symbol, is_bad_factor, is_bad_call, is_odd_area, scaled, drawn_box}
-use Rattle.cif_foreign.specs.Acts.{State, Level, empty, numbered, is_known, place_of, boxed, scaled_place, called_on, is_too_deep, drawn_on, defined, call}
-use Rattle.cif_foreign.proofs.Building.{built_push}
-use Rattle.cif_foreign.proofs.Symbols.{depths_same, AreInOrder}
 
 -- ---- the turn of a command
 

@@ -1,28 +1,24 @@
 -- What means something where calls only shift, and stand at the top alone, means the same here.
-use Rattle.std.proofs.Common.{◌≡◌, ℕ, zero, suc, ◌+◌, ℤ, pos, ◌+ℤ◌, ◌*ℤ◌, ◌≤ℤ◌, int_eq, int_div, int_rem, neg_ℤ, negsuc, not, ◌%◌, div-one, Bool, true, false, cond, ◌||◌, Option, Some, None, IfSome, is_some, Result, Ok, Err, List, [], ◌∷◌, ◌++◌, map, flat_map, fold, get_or, inl, inr, refl, sym, ap, ◌∙◌, subst, arith}
-use Rattle.std.specs.List.{AllByRecursion, AllZip}
-use Rattle.std.specs.Int.{int_min, int_max}
-use Rattle.std.proofs.lemmas.Int.{ints, clamps}
-use Rattle.std.proofs.lemmas.List.{map_push, map-append, append-nil, append_assoc}
-use Rattle.cif_lex.specs.declared.command.Command.{Command}
-use Rattle.cif_lex.specs.declared.command.Command.TheVariants.{Nothing, Define, Finish, Layer, Area, Call, Extension}
-use Rattle.cif_lex.specs.declared.placement.Placement.{Placement}
-use Rattle.cif_lex.specs.Shifts.{is_odd}
-use Rattle.cif_lex.specs.Commands.{IsPiece, IsBody}
-use Rattle.cif_lex.proofs.Turning.{no_turn}
-use Rattle.cif_read.specs.declared.fault.CifKind.{CifKind}
-use Rattle.cif_read.specs.declared.fault.CifKind.TheVariants.{BadNumber, NestedDefinition, RepeatedSymbol, UnknownSymbol, OddScale}
-use Rattle.cif_read.specs.Sheets.{Drawn, moved}
+use Rattle.std.proofs.Common.{◌≡◌, ℕ, zero, suc, ◌+◌, ℤ, pos, ◌+ℤ◌, ◌*ℤ◌, ◌≤ℤ◌, int_eq, int_div, int_rem, neg_ℤ, negsuc}
+use Rattle.std.proofs.Common.{not, ◌%◌, div-one, Bool, true, false, cond, ◌||◌, Option, Some, None, IfSome, is_some}
+use Rattle.std.proofs.Common.{Result, Ok, Err, List, [], ◌∷◌, ◌++◌, map, flat_map, fold, get_or, inl, inr, refl, sym}
+use Rattle.std.proofs.Common.{ap, ◌∙◌, subst, arith}
+use Rattle.std.proofs.lemmas.{Int.{ints, clamps}, List.{map_push, map-append, append-nil, append_assoc}}
+use Rattle.std.specs.{List.{AllByRecursion, AllZip}, Int.{int_min, int_max}}
+use Rattle.cif_lex.specs.declared.command.Command.{Command, TheVariants.{Nothing, Define, Finish, Layer, Area, Call}}
+use Rattle.cif_lex.specs.declared.{command.Command.TheVariants.Extension, placement.Placement.Placement}
+use Rattle.cif_lex.{specs.{Shifts.is_odd, Commands.{IsPiece, IsBody}}, proofs.Turning.no_turn}
+use Rattle.cif_read.specs.declared.fault.CifKind.{CifKind, TheVariants.{BadNumber, NestedDefinition, RepeatedSymbol}}
+use Rattle.cif_read.specs.{declared.fault.CifKind.TheVariants.{UnknownSymbol, OddScale}, Sheets.{Drawn, moved}}
+use Rattle.cif_read.specs.Acts.{Named, is_bad_symbol, is_bad_factor, is_bad_area, is_bad_call, scaled, is_odd_area}
+use Rattle.cif_read.specs.{Acts.{drawn_box, kept, steps_of}, Scales.IsFactor, Readers.then_act_by}
+use Rattle.cif_read.proofs.Scales.{neither, good_area, even_area, scaled_positive, factor_from}
 use Rattle.cif_read.specs.Sheets as sheets
-use Rattle.cif_read.specs.Acts.{Named, is_bad_symbol, is_bad_factor, is_bad_area, is_bad_call, scaled, is_odd_area, drawn_box, kept, steps_of}
 use Rattle.cif_read.specs.Acts as flat
 use Rattle.cif_read.specs.Meaning as flat_meaning
-use Rattle.cif_read.specs.Scales.{IsFactor}
-use Rattle.cif_read.specs.Readers.{then_act_by}
-use Rattle.cif_read.proofs.Scales.{neither, good_area, even_area, scaled_positive, factor_from}
-use Rattle.cif_foreign.specs.Sheets.{Step, Symbol, Sheet, own, called, placed_box, boxes_of_step, boxes_of_steps, then_boxes}
-use Rattle.cif_foreign.specs.Acts.{State, Level, is_known, place_of, drawn_on, boxed, called_on, act, defined, finished, named, call}
-use Rattle.cif_foreign.specs.Meaning.{reader, MeaningsStay}
+use Rattle.cif_foreign.specs.Sheets.{Step, Symbol, Sheet, own, called, placed_box, boxes_of_step, boxes_of_steps}
+use Rattle.cif_foreign.specs.{Sheets.then_boxes, Acts.{State, Level, is_known, place_of, drawn_on, boxed, called_on}}
+use Rattle.cif_foreign.specs.{Acts.{act, defined, finished, named, call}, Meaning.{reader, MeaningsStay}}
 use Rattle.cif_foreign.proofs.Flat.{IsSorted, sorted_append}
 
 -- ---- a state there, and here

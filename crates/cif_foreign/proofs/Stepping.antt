@@ -1,14 +1,11 @@
 -- Steps, as they are kept.
-use Rattle.std.proofs.Common.{◌≡◌, ℕ, ◌<◌, ◌≤◌, List, [], ◌∷◌, ◌++◌, All, map, length, get_or, refl, sym, ap, ◌∙◌, arith}
-use Rattle.std.specs.List.{AllByRecursion}
-use Rattle.std.proofs.lemmas.List.{map_push, length_push, length-map, get_or_append_left, get_or_at, get_or-map}
-use Rattle.std.proofs.lemmas.List.Elements.{All-weaker, recursion_from_All}
+use Rattle.std.proofs.Common.{◌≡◌, ℕ, ◌<◌, ◌≤◌, List, [], ◌∷◌, ◌++◌, All, map, length, get_or, refl, sym, ap, ◌∙◌}
+use Rattle.std.proofs.{Common.arith, lemmas.List.{map_push, length_push, length-map, get_or_append_left, get_or_at}}
+use Rattle.std.{proofs.lemmas.List.{get_or-map, Elements.{All-weaker, recursion_from_All}}, specs.List.AllByRecursion}
 use Rattle.lam_geom.specs.declared.boxes.MaskBox.{MaskBox}
-use Rattle.cif_foreign.specs.declared.file.ForeignStep.{ForeignStep}
-use Rattle.cif_foreign.specs.declared.file.ForeignStep.TheVariants as steps
-use Rattle.cif_foreign.specs.declared.steps.Place.{Place}
-use Rattle.cif_foreign.specs.declared.steps.Place.TheVariants.{Own, Called}
+use Rattle.cif_foreign.specs.declared.{file.ForeignStep.ForeignStep, steps.Place.{Place, TheVariants.{Own, Called}}}
 use Rattle.cif_foreign.specs.Steps.{no_step, step_at, IsPlaceOf}
+use Rattle.cif_foreign.specs.declared.file.ForeignStep.TheVariants as steps
 
 -- one box more changes no step
 place_kept : (boxes : List MaskBox) (box : MaskBox) (place : Place) → IsPlaceOf (length boxes) place

@@ -1,15 +1,12 @@
 -- The boxes and the depth of each symbol of a file, from those of the symbols that it calls.
-use Rattle.std.proofs.Common.{◌≡◌, ℕ, zero, suc, ◌+◌, ◌<◌, ◌≤◌, max, List, [], ◌∷◌, ◌++◌, All, map, length, take, fold, get_or, refl, ap, ◌∙◌, arith}
+use Rattle.std.proofs.Common.{◌≡◌, ℕ, zero, suc, ◌+◌, ◌<◌, ◌≤◌, max, List, [], ◌∷◌, ◌++◌, All, map, length, take, fold}
+use Rattle.std.proofs.{Common.{get_or, refl, ap, ◌∙◌, arith}, lemmas.List.{length-map, Elements.recursion_from_All}}
 use Rattle.std.specs.List.{AllByRecursion}
-use Rattle.std.proofs.lemmas.List.{length-map}
-use Rattle.std.proofs.lemmas.List.Elements.{recursion_from_All}
 use Rattle.cif_read.specs.Sheets.{Drawn}
-use Rattle.cif_foreign.specs.declared.file.ForeignSymbol.{ForeignSymbol}
-use Rattle.cif_foreign.specs.declared.file.ForeignStep.{ForeignStep}
-use Rattle.cif_foreign.specs.declared.file.ForeignStep.TheVariants.{Own, Called}
-use Rattle.cif_foreign.specs.Sheets.{Symbol, placed_box, boxes_of_step, boxes_of_steps, boxes_of_symbols, depth_of_step, depth_of_steps, depths_of}
-use Rattle.cif_foreign.specs.Files.{step_of, symbol_of, no_symbol, IsStepOf}
-use Rattle.cif_foreign.specs.Readings.{called_depth}
+use Rattle.cif_foreign.specs.declared.file.{ForeignSymbol.ForeignSymbol, ForeignStep.{ForeignStep, TheVariants.Own}}
+use Rattle.cif_foreign.specs.{declared.file.ForeignStep.TheVariants.Called, Sheets.{Symbol, placed_box, boxes_of_step}}
+use Rattle.cif_foreign.specs.Sheets.{boxes_of_steps, boxes_of_symbols, depth_of_step, depth_of_steps, depths_of}
+use Rattle.cif_foreign.specs.{Files.{step_of, symbol_of, no_symbol, IsStepOf}, Readings.called_depth}
 use Rattle.cif_foreign.proofs.Building.{length_built, built_at, built_before}
 
 -- ---- steps that call those before a position see those alone

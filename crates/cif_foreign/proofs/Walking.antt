@@ -1,22 +1,14 @@
 -- The walk over the steps of a file.
-use Rattle.std.proofs.Common.{◌≡◌, ℕ, ◌+◌, ◌<◌, ◌≤◌, ◌^◌, of_z, to_z, w64, ℤ, List, [], ◌∷◌, ◌++◌, All, map, length, get_or, take, refl, sym, ap, ◌∙◌, subst, arith}
-use Rattle.std.proofs.lemmas.List.{take_more, map_push, get_or_default}
-use Rattle.std.proofs.lemmas.List.Elements.{All-weaker}
-use Rattle.cif_lex.specs.declared.placement.Placement.{Placement}
-use Rattle.cif_lex.specs.Transformations.{Point, placed, IsNear}
-use Rattle.cif_read.specs.Files.{IsWithin}
-use Rattle.cif_read.specs.Sheets.{Drawn}
-use Rattle.cif_foreign.specs.declared.file.ForeignSymbol.{ForeignSymbol}
-use Rattle.cif_foreign.specs.declared.file.ForeignStep.{ForeignStep}
-use Rattle.cif_foreign.specs.declared.file.ForeignStep.TheVariants.{Called}
-use Rattle.cif_foreign.specs.Sheets.{Symbol, boxes_of_steps, boxes_of_symbols, depths_of}
-use Rattle.cif_foreign.specs.Files.{step_of, symbol_of, no_symbol, IsStepOf}
-use Rattle.cif_foreign.specs.Readings.{called_depth}
-use Rattle.cif_foreign.specs.Counts.{counted, AreCounts}
-use Rattle.cif_foreign.proofs.Building.{built_push}
-use Rattle.cif_foreign.proofs.Symbols.{AreInOrder, depth_at}
-use Rattle.cif_foreign.proofs.Sound.{step_later, word_is, still_within}
-use Rattle.cif_foreign.proofs.Flat.{called_below}
+use Rattle.std.proofs.Common.{◌≡◌, ℕ, ◌+◌, ◌<◌, ◌≤◌, ◌^◌, of_z, to_z, w64, ℤ, List, [], ◌∷◌, ◌++◌, All, map, length}
+use Rattle.std.proofs.Common.{get_or, take, refl, sym, ap, ◌∙◌, subst, arith}
+use Rattle.std.proofs.lemmas.List.{take_more, map_push, get_or_default, Elements.All-weaker}
+use Rattle.cif_lex.specs.{declared.placement.Placement.Placement, Transformations.{Point, placed, IsNear}}
+use Rattle.cif_read.specs.{Files.IsWithin, Sheets.Drawn}
+use Rattle.cif_foreign.specs.declared.file.{ForeignSymbol.ForeignSymbol, ForeignStep.{ForeignStep, TheVariants.Called}}
+use Rattle.cif_foreign.specs.{Sheets.{Symbol, boxes_of_steps, boxes_of_symbols, depths_of}, Files.{step_of, symbol_of}}
+use Rattle.cif_foreign.specs.{Files.{no_symbol, IsStepOf}, Readings.called_depth, Counts.{counted, AreCounts}}
+use Rattle.cif_foreign.proofs.{Building.built_push, Symbols.{AreInOrder, depth_at}, Sound.{step_later, word_is}}
+use Rattle.cif_foreign.proofs.{Sound.still_within, Flat.called_below}
 
 -- ---- counts
 

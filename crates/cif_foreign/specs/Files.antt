@@ -1,14 +1,10 @@
 -- What a file that has been read holds, as a sheet.
 use Rattle.std.specs.Prelude.{ℕ, ◌<◌, ◌≤◌, ◌^◌, pos, All, List, [], map, length, slice_index_or}
-use Rattle.cif_read.specs.declared.fault.CifReadFault.{CifReadFault}
-use Rattle.cif_read.specs.Files.{drawn_of, IsWithin, IsSolidWithin}
+use Rattle.cif_read.specs.{declared.fault.CifReadFault.CifReadFault, Files.{drawn_of, IsWithin, IsSolidWithin}}
 use Rattle.cif_read.specs.Readers.{IsCauseBy}
-use Rattle.cif_foreign.specs.declared.file.ForeignFile.{ForeignFile}
-use Rattle.cif_foreign.specs.declared.file.ForeignSymbol.{ForeignSymbol}
-use Rattle.cif_foreign.specs.declared.file.ForeignStep.{ForeignStep}
-use Rattle.cif_foreign.specs.declared.file.ForeignStep.TheVariants.{Own, Called}
-use Rattle.cif_foreign.specs.Sheets.{Step, own, called, Symbol, Sheet, depths_of, most_depth}
-use Rattle.cif_foreign.specs.Meaning.{reader}
+use Rattle.cif_foreign.specs.declared.file.{ForeignFile.ForeignFile, ForeignSymbol.ForeignSymbol}
+use Rattle.cif_foreign.specs.declared.file.ForeignStep.{ForeignStep, TheVariants.{Own, Called}}
+use Rattle.cif_foreign.specs.{Sheets.{Step, own, called, Symbol, Sheet, depths_of, most_depth}, Meaning.reader}
 
 abbrev pub step_of : ForeignStep → Step
 step_of (Own box) = own (drawn_of box)

@@ -4,8 +4,7 @@ use Rattle.cif_read.specs.declared.fault.CifFault.{CifFault}
 use Rattle.cif_read.specs.Readers.{Reader, BeginsWellBy, MeansBy, IsFirstFaultBy, IsDeterminedBy}
 use Rattle.cif_read.specs.Meaning as flat
 use Rattle.cif_read.specs.Sheets as flat_sheets
-use Rattle.cif_foreign.specs.Sheets.{Sheet, flattened}
-use Rattle.cif_foreign.specs.Acts.{State, start, act}
+use Rattle.cif_foreign.specs.{Sheets.{Sheet, flattened}, Acts.{State, start, act}}
 
 -- the reader to which a call may turn, and may stand in a definition
 abbrev pub reader : Reader State Sheet

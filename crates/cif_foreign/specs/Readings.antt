@@ -1,20 +1,13 @@
 -- What a reader keeps, as a state; and what holds of it.
-use Rattle.std.specs.Prelude.{◌≡◌, ℕ, ◌<◌, ◌≤◌, pos, All, IfSome, false, Option, List, map, max, fold, length, option_map, slice_index_or}
-use Rattle.cif_lex.specs.declared.command.Command.{Command}
-use Rattle.cif_lex.specs.declared.command.Command.TheVariants.{Call}
-use Rattle.cif_lex.specs.declared.command.Next.TheVariants.{End}
-use Rattle.cif_lex.specs.Commands.{IsNext}
-use Rattle.cif_read.specs.Readings.{HasPlaces}
-use Rattle.cif_read.specs.Scales.{IsScale}
-use Rattle.cif_foreign.specs.declared.file.ForeignSymbol.{ForeignSymbol}
-use Rattle.cif_foreign.specs.declared.state.Drawing.{Drawing}
-use Rattle.cif_foreign.specs.declared.state.Begun.{Begun}
-use Rattle.cif_foreign.specs.declared.state.Reading.{Reading}
-use Rattle.cif_foreign.specs.Sheets.{Step, Symbol, depth_of_step, depths_of, most_depth}
-use Rattle.cif_foreign.specs.Acts.{State, Level, numbered, is_known}
-use Rattle.cif_foreign.specs.Acts as acts
-use Rattle.cif_foreign.specs.Meaning.{BeginsWell}
+use Rattle.std.specs.Prelude.{◌≡◌, ℕ, ◌<◌, ◌≤◌, pos, All, IfSome, false, Option, List, map, max, fold, length}
+use Rattle.std.specs.Prelude.{option_map, slice_index_or}
+use Rattle.cif_lex.specs.{declared.command.{Command.{Command, TheVariants.Call}, Next.TheVariants.End}, Commands.IsNext}
+use Rattle.cif_read.specs.{Readings.HasPlaces, Scales.IsScale}
+use Rattle.cif_foreign.specs.declared.{file.ForeignSymbol.ForeignSymbol, state.{Drawing.Drawing, Begun.Begun}}
+use Rattle.cif_foreign.specs.{declared.state.Reading.Reading, Sheets.{Step, Symbol, depth_of_step, depths_of}}
+use Rattle.cif_foreign.specs.{Sheets.most_depth, Acts.{State, Level, numbered, is_known}, Meaning.BeginsWell}
 use Rattle.cif_foreign.specs.Files.{step_of, symbol_of, IsStepOf, no_symbol}
+use Rattle.cif_foreign.specs.Acts as acts
 
 -- ---- as a state
 

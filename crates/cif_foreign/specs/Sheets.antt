@@ -1,8 +1,7 @@
 -- What a CIF text of any tool draws: symbols, and what stands at the top. A call turns and shifts a symbol, and may stand in a symbol. Lengths are in grains.
-use Rattle.std.specs.Prelude.{ℕ, ◌+◌, ℤ, max, List, [], ◌∷◌, ◌++◌, map, flat_map, fold, slice_index_or}
-use Rattle.std.specs.Int.{int_min, int_max}
-use Rattle.cif_lex.specs.declared.placement.Placement.{Placement}
-use Rattle.cif_lex.specs.Transformations.{placed}
+use Rattle.std.specs.{Prelude.{ℕ, ◌+◌, ℤ, max, List, [], ◌∷◌, ◌++◌, map, flat_map, fold, slice_index_or}, Int.int_min}
+use Rattle.std.specs.Int.{int_max}
+use Rattle.cif_lex.specs.{declared.placement.Placement.Placement, Transformations.placed}
 use Rattle.cif_read.specs.Sheets.{Drawn}
 
 -- a box, or the symbol in this position, turned and shifted

@@ -1,10 +1,8 @@
 -- Steps, as they are kept.
 use Rattle.std.specs.Prelude.{ℕ, ◌<◌, pos, List, map, slice_index_or}
 use Rattle.lam_geom.specs.declared.boxes.MaskBox.{MaskBox}
-use Rattle.cif_foreign.specs.declared.file.ForeignStep.{ForeignStep}
+use Rattle.cif_foreign.specs.declared.{file.ForeignStep.ForeignStep, steps.Place.{Place, TheVariants.{Own, Called}}}
 use Rattle.cif_foreign.specs.declared.file.ForeignStep.TheVariants as steps
-use Rattle.cif_foreign.specs.declared.steps.Place.{Place}
-use Rattle.cif_foreign.specs.declared.steps.Place.TheVariants.{Own, Called}
 
 abbrev pub no_step : ForeignStep
 no_step = steps.Called 0 0 (pos 0) (pos 0)

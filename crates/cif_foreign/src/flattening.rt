@@ -1,16 +1,13 @@
 //! All boxes of a file.
-ghost use Rattle.std.specs.Prelude.{◌≡◌, ◌+◌, ◌*◌, ◌-◌, ◌≤◌, ◌<◌, ◌^◌, ◌++◌, ◌↔◌, All, List, IfOk, IfErr, OnOk, length, map};
+ghost use Rattle.std.specs.Prelude.{◌≡◌, ◌+◌, ◌*◌, ◌-◌, ◌≤◌, ◌<◌, ◌^◌, ◌++◌, ◌↔◌, All, List, IfOk, IfErr, OnOk, length};
+ghost use Rattle.std.specs.{Prelude.map, Int.{int_min, int_max}, List.filter};
 ghost use Rattle.lam_geom.specs.Places.{IsPlacedBox};
-ghost use Rattle.std.specs.Int.{int_min, int_max};
 ghost use Rattle.cif_lex.specs.Transformations.{IsNear, shift_of};
-ghost use Rattle.cif_read.specs.declared.fault.FlatFault.TheVariants.{TooMany, OutOfMemory};
-ghost use Rattle.cif_read.specs.Sheets.{Drawn};
+ghost use Rattle.cif_read.specs.{declared.fault.FlatFault.TheVariants.{TooMany, OutOfMemory}, Sheets.Drawn};
 ghost use Rattle.cif_read.specs.Files.{drawn_of, most_boxes, IsSolid, IsSolidWithin};
-ghost use Rattle.cif_foreign.specs.Sheets.{placed_box, boxes_of_step, boxes_of_steps, boxes_of_symbols, flattened, depths_of};
-ghost use Rattle.cif_foreign.specs.Files.{step_of, symbol_of, sheet_of, IsStepOf, CanBeFlattened};
-ghost use Rattle.cif_foreign.specs.Readings.{called_depth};
-ghost use Rattle.std.specs.List.{filter};
-ghost use Rattle.cif_foreign.specs.Counts.{counted, AreCounts, has_boxes, filled_file};
+ghost use Rattle.cif_foreign.specs.Sheets.{placed_box, boxes_of_step, boxes_of_steps, boxes_of_symbols, flattened};
+ghost use Rattle.cif_foreign.specs.{Sheets.depths_of, Files.{step_of, symbol_of, sheet_of, IsStepOf, CanBeFlattened}};
+ghost use Rattle.cif_foreign.specs.{Readings.called_depth, Counts.{counted, AreCounts, has_boxes, filled_file}};
 
 use crate::file::{ForeignFile, ForeignStep, ForeignSymbol};
 use crate::state::MOST_DEPTH;

@@ -2,8 +2,7 @@
 ghost use Rattle.std.specs.Prelude.{◌≡◌, ◌^◌, ◌<◌, ◌≤◌, IfOk, IfErr, OnOk, MatchOption, length};
 ghost use Rattle.cif_lex.specs.declared.command.Next.TheVariants as nexts;
 ghost use Rattle.cif_lex.specs.Commands.{IsNext};
-ghost use Rattle.cif_foreign.specs.Meaning.{reader, Means};
-ghost use Rattle.cif_foreign.specs.Files.{sheet_of, CanBeFlattened, IsCauseOf};
+ghost use Rattle.cif_foreign.specs.{Meaning.{reader, Means}, Files.{sheet_of, CanBeFlattened, IsCauseOf}};
 ghost use Rattle.cif_foreign.specs.Readings.{state_of, IsSound, HasRead, HasReadAll};
 
 use crate::file::ForeignFile;

@@ -1,13 +1,10 @@
 //! What has been read so far, and what each command makes of it.
-ghost use Rattle.std.specs.Prelude.{◌≡◌, ℕ, ◌+◌, ◌<◌, ◌^◌, pos, ◌*ℤ◌, max, List, Ok, OnOk, IfErr, false, length, slice_index_or, is_some, ◌&&◌, nat_le};
+ghost use Rattle.std.specs.Prelude.{◌≡◌, ℕ, ◌+◌, ◌<◌, ◌^◌, pos, ◌*ℤ◌, max, List, Ok, OnOk, IfErr, false, length};
+ghost use Rattle.std.specs.Prelude.{slice_index_or, is_some, ◌&&◌, nat_le};
 ghost use Rattle.cif_lex.specs.Shifts.{is_odd};
-ghost use Rattle.cif_read.specs.Acts.{is_bad_area, scaled};
-ghost use Rattle.cif_read.specs.Files.{IsWithin};
-ghost use Rattle.cif_read.specs.Readers.{IsCauseOfStop};
-ghost use Rattle.cif_read.specs.Scales.{IsScale};
-ghost use Rattle.cif_foreign.specs.Sheets.{most_depth};
-ghost use Rattle.cif_foreign.specs.Acts.{start, act, empty, boxed, called_on, defined, finished, area, call};
-ghost use Rattle.cif_foreign.specs.Readings.{state_of, level_from, IsSound, IsSoundLevel, HasTurn};
+ghost use Rattle.cif_read.specs.{Acts.{is_bad_area, scaled}, Files.IsWithin, Readers.IsCauseOfStop, Scales.IsScale};
+ghost use Rattle.cif_foreign.specs.{Sheets.most_depth, Acts.{start, act, empty, boxed, called_on, defined, finished}};
+ghost use Rattle.cif_foreign.specs.{Acts.{area, call}, Readings.{state_of, level_from, IsSound, IsSoundLevel, HasTurn}};
 
 use crate::file::{ForeignStep, ForeignSymbol};
 use crate::steps::Steps;

@@ -1,20 +1,14 @@
 -- What one byte tells of the command that it begins.
-use Rattle.std.proofs.Common.{◌≡◌, ℕ, zero, suc, ◌-◌, ◌<◌, ◌≤◌, ◌≢◌, true, false, ◌⊎◌, inl, inr, Option, Some, None, List, [], ◌∷◌, ◌++◌, length, get_or, take, drop, refl, sym, ap, ◌∙◌, subst, arith}
-use Rattle.std.specs.List.{All}
-use Rattle.std.specs.Char.{is_ascii_digit}
-use Rattle.std.proofs.lemmas.Bool.{both_ways, false≢true, cases_lt}
-use Rattle.std.proofs.lemmas.List.{take-append-drop, drop_all}
-use Rattle.cif_lex.specs.declared.command.Command.{Command}
-use Rattle.cif_lex.specs.declared.command.Command.TheVariants.{Nothing, Extension}
-use Rattle.cif_lex.specs.declared.forms.Form.{Form}
-use Rattle.cif_lex.specs.Blanks.{IsCutOff, IsFilled}
-use Rattle.cif_lex.specs.Words.{Word, letter}
-use Rattle.cif_lex.specs.Commands.{HasWords, IsExtension}
-use Rattle.cif_lex.specs.Reading.{IsStop, AreRead}
-use Rattle.cif_lex.specs.Forms.{IsLedBy, Ends, MayEnd, Takes, Reaches, IsFormAnswer, IsBodyForm, IsBodyAnswer}
-use Rattle.cif_lex.proofs.CommandWords.{IsHeaded, has_head, four_letters}
-use Rattle.cif_lex.proofs.BracketForm.{led_by_letter}
-use Rattle.cif_lex.proofs.Bodies.{may_end_ends, led_filled, filled_or_cut, takes_reaches, read_stop, IsExtensionOf, reaches_takes}
+use Rattle.std.proofs.Common.{◌≡◌, ℕ, zero, suc, ◌-◌, ◌<◌, ◌≤◌, ◌≢◌, true, false, ◌⊎◌, inl, inr, Option, Some, None}
+use Rattle.std.proofs.Common.{List, [], ◌∷◌, ◌++◌, length, get_or, take, drop, refl, sym, ap, ◌∙◌, subst, arith}
+use Rattle.std.proofs.lemmas.{Bool.{both_ways, false≢true, cases_lt}, List.{take-append-drop, drop_all}}
+use Rattle.std.specs.{List.All, Char.is_ascii_digit}
+use Rattle.cif_lex.specs.declared.{command.Command.{Command, TheVariants.{Nothing, Extension}}, forms.Form.Form}
+use Rattle.cif_lex.specs.{Blanks.{IsCutOff, IsFilled}, Words.{Word, letter}, Commands.{HasWords, IsExtension}}
+use Rattle.cif_lex.specs.{Reading.{IsStop, AreRead}, Forms.{IsLedBy, Ends, MayEnd, Takes, Reaches, IsFormAnswer}}
+use Rattle.cif_lex.{specs.Forms.{IsBodyForm, IsBodyAnswer}, proofs.CommandWords.{IsHeaded, has_head, four_letters}}
+use Rattle.cif_lex.proofs.{BracketForm.led_by_letter, Bodies.{may_end_ends, led_filled, filled_or_cut, takes_reaches}}
+use Rattle.cif_lex.proofs.Bodies.{read_stop, IsExtensionOf, reaches_takes}
 
 -- ---- the first byte of a command
 

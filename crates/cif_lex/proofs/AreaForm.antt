@@ -1,14 +1,9 @@
 -- A box, as the code reads it.
 use Rattle.std.proofs.Common.{◌≡◌, ℕ, ◌+◌, ◌≤◌, ℤ, List, [], ◌∷◌, length, drop, refl, sym, ◌∙◌, subst, arith}
 use Rattle.std.proofs.lemmas.List.{drop-drop, length-drop}
-use Rattle.cif_lex.specs.declared.command.Command.{Command}
-use Rattle.cif_lex.specs.declared.command.Command.TheVariants.{Area}
-use Rattle.cif_lex.specs.declared.numbers.Pair.{Pair}
-use Rattle.cif_lex.specs.Words.{Word, letter, number}
-use Rattle.cif_lex.specs.Reading.{IsRead, AreRead, IsPairRead}
-use Rattle.cif_lex.specs.Forms.{Ends, Takes, IsForm}
-use Rattle.cif_lex.proofs.OneWord.{same_number}
-use Rattle.cif_lex.proofs.CommandWords.{begins, area_words}
+use Rattle.cif_lex.specs.{declared.{command.Command.{Command, TheVariants.Area}, numbers.Pair.Pair}, Words.Word}
+use Rattle.cif_lex.specs.{Words.{letter, number}, Reading.{IsRead, AreRead, IsPairRead}, Forms.{Ends, Takes, IsForm}}
+use Rattle.cif_lex.proofs.{OneWord.same_number, CommandWords.{begins, area_words}}
 
 -- two numbers that a text begins with are its only ones
 pub same_pair : (m n p q : ℤ) (text r s : List ℕ) → AreRead (number m ∷ number n ∷ []) text r → AreRead (number p ∷ number q ∷ []) text s → r ≡ s

@@ -1,20 +1,14 @@
 -- Bodies of commands as they are spelled, and their words as they are read.
-use Rattle.std.proofs.Common.{◌≡◌, ℕ, ◌<◌, Bool, true, false, ◌⊎◌, inl, inr, List, [], ◌∷◌, ◌++◌, length, refl, sym, ap, ◌∙◌, subst, append_assoc, arith}
-use Rattle.std.specs.List.{AllByRecursion, flat_map}
-use Rattle.std.specs.Char.{is_ascii_digit}
-use Rattle.std.proofs.lemmas.Bool.{false≢true}
-use Rattle.cif_lex.specs.declared.command.Command.{Command}
-use Rattle.cif_lex.specs.declared.command.Command.TheVariants.{Nothing, Define, Finish, Layer, Area, Call, Extension}
-use Rattle.cif_lex.specs.Blanks.{is_blank, IsCutOff, IsFilled}
-use Rattle.cif_lex.specs.Words.{Word, letter, number, name, is_name_byte, IsWhole, StopsAt, AreSpelled}
-use Rattle.cif_lex.specs.declared.placement.Transformation.{Transformation}
+use Rattle.std.proofs.Common.{◌≡◌, ℕ, ◌<◌, Bool, true, false, ◌⊎◌, inl, inr, List, [], ◌∷◌, ◌++◌, length, refl, sym, ap}
+use Rattle.std.proofs.{Common.{◌∙◌, subst, append_assoc, arith}, lemmas.Bool.false≢true}
+use Rattle.std.specs.{List.{AllByRecursion, flat_map}, Char.is_ascii_digit}
+use Rattle.cif_lex.specs.declared.command.Command.{Command, TheVariants.{Nothing, Define, Finish, Layer, Area, Call}}
+use Rattle.cif_lex.specs.declared.{command.Command.TheVariants.Extension, placement.Transformation.Transformation}
 use Rattle.cif_lex.specs.declared.placement.Transformation.TheVariants.{Shift, MirrorX, MirrorY, Turn}
-use Rattle.cif_lex.specs.Transformations.{words_of}
-use Rattle.cif_lex.specs.Commands.{HasWords, IsBody, IsExtension}
-use Rattle.cif_lex.specs.Reading.{IsStop, AreRead}
-use Rattle.cif_lex.specs.Forms.{IsLedBy, Ends, MayEnd, Takes, Reaches}
-use Rattle.cif_lex.proofs.OneGap.{filled}
-use Rattle.cif_lex.proofs.OneWord.{IsVisible, word_fills}
+use Rattle.cif_lex.specs.{Blanks.{is_blank, IsCutOff, IsFilled}, Words.{Word, letter, number, name, is_name_byte}}
+use Rattle.cif_lex.specs.{Words.{IsWhole, StopsAt, AreSpelled}, Transformations.words_of, Commands.{HasWords, IsBody}}
+use Rattle.cif_lex.specs.{Commands.IsExtension, Reading.{IsStop, AreRead}, Forms.{IsLedBy, Ends, MayEnd, Takes}}
+use Rattle.cif_lex.{specs.Forms.Reaches, proofs.{OneGap.filled, OneWord.{IsVisible, word_fills}}}
 
 -- ---- where a command may end
 

@@ -1,17 +1,11 @@
 -- How a symbol begins and ends, as the code reads it.
-use Rattle.std.proofs.Common.{◌≡◌, ℕ, ◌+◌, ◌≤◌, ℤ, pos, ◌⊎◌, inl, inr, List, [], ◌∷◌, ◌++◌, length, drop, refl, sym, ap, ◌∙◌, subst, arith}
-use Rattle.std.proofs.lemmas.Bool.{eqb-false}
-use Rattle.std.proofs.lemmas.List.{drop-drop, length-drop}
-use Rattle.cif_lex.specs.declared.command.Command.{Command}
-use Rattle.cif_lex.specs.declared.command.Command.TheVariants.{Define, Finish}
-use Rattle.cif_lex.specs.declared.numbers.Number.{Number}
-use Rattle.cif_lex.specs.declared.numbers.Pair.{Pair}
-use Rattle.cif_lex.specs.Words.{Word, letter, number}
-use Rattle.cif_lex.specs.Reading.{IsRead, AreRead, IsNumberRead, IsPairRead}
-use Rattle.cif_lex.specs.Forms.{IsLedBy, Ends, Takes, IsForm}
-use Rattle.cif_lex.proofs.OneWord.{same_letter, same_number, no_word_ends}
-use Rattle.cif_lex.proofs.CommandWords.{begins, AreBracketWords, bracket_words}
-use Rattle.cif_lex.proofs.AreaForm.{same_pair}
+use Rattle.std.proofs.Common.{◌≡◌, ℕ, ◌+◌, ◌≤◌, ℤ, pos, ◌⊎◌, inl, inr, List, [], ◌∷◌, ◌++◌, length, drop, refl, sym, ap}
+use Rattle.std.proofs.{Common.{◌∙◌, subst, arith}, lemmas.{Bool.eqb-false, List.{drop-drop, length-drop}}}
+use Rattle.cif_lex.specs.declared.{command.Command.{Command, TheVariants.{Define, Finish}}, numbers.Number.Number}
+use Rattle.cif_lex.specs.{declared.numbers.Pair.Pair, Words.{Word, letter, number}, Reading.{IsRead, AreRead}}
+use Rattle.cif_lex.specs.{Reading.{IsNumberRead, IsPairRead}, Forms.{IsLedBy, Ends, Takes, IsForm}}
+use Rattle.cif_lex.proofs.{OneWord.{same_letter, same_number, no_word_ends}, CommandWords.{begins, AreBracketWords}}
+use Rattle.cif_lex.proofs.{CommandWords.bracket_words, AreaForm.same_pair}
 
 -- ---- behind D and S
 

@@ -1,30 +1,17 @@
 -- A call, as the code reads it: transformation by transformation.
-use Rattle.std.proofs.Common.{◌≡◌, ℕ, ◌+◌, ◌*◌, ◌<◌, ◌≤◌, ℤ, pos, ◌+ℤ◌, eqb, Bool, true, false, ◌||◌, List, [], ◌∷◌, ◌++◌, length, drop, refl, sym, ap, ◌∙◌, subst, arith}
-use Rattle.std.specs.List.{flat_map, list_any}
-use Rattle.std.proofs.lemmas.Bool.{eqb-false}
-use Rattle.std.proofs.lemmas.Int.{ints}
-use Rattle.std.proofs.lemmas.List.{drop-drop, length-drop}
-use Rattle.std.proofs.lemmas.List.Folds.{list_any-append}
-use Rattle.cif_lex.specs.declared.command.Command.{Command}
-use Rattle.cif_lex.specs.declared.command.Command.TheVariants.{Call}
-use Rattle.cif_lex.specs.declared.numbers.Number.{Number}
-use Rattle.cif_lex.specs.declared.numbers.Pair.{Pair}
-use Rattle.cif_lex.specs.declared.placement.Placement.{Placement}
-use Rattle.cif_lex.specs.declared.placement.Transformation.{Transformation}
-use Rattle.cif_lex.specs.declared.placement.Transformation.TheVariants.{Shift, MirrorX, MirrorY, Turn}
-use Rattle.cif_lex.specs.declared.calls.Transformed.{Transformed}
-use Rattle.cif_lex.specs.Words.{Word, letter, number}
-use Rattle.cif_lex.specs.Transformations.{Point, words_of, applied, placed, shift_of, IsComposedOf, IsNear}
-use Rattle.cif_lex.specs.Shifts.{is_odd, is_odd_shift, IsOddWhere}
-use Rattle.cif_lex.specs.Commands.{is_bad, is_turn}
-use Rattle.cif_lex.specs.Reading.{IsRead, AreRead, IsNumberRead, IsPairRead, IsTransformationRead}
-use Rattle.cif_lex.specs.Forms.{IsLedBy, Ends, Takes, IsForm}
-use Rattle.cif_lex.proofs.OneWord.{same_letter, same_number, no_word_ends}
-use Rattle.cif_lex.proofs.CommandWords.{begins, call_words}
-use Rattle.cif_lex.proofs.AreaForm.{same_pair}
-use Rattle.cif_lex.proofs.BracketForm.{led_by_letter}
-use Rattle.cif_lex.proofs.Turning.{all_applied_push, nearer, same_point}
-use Rattle.cif_lex.proofs.Divisors.{zero_even}
+use Rattle.std.proofs.Common.{◌≡◌, ℕ, ◌+◌, ◌*◌, ◌<◌, ◌≤◌, ℤ, pos, ◌+ℤ◌, eqb, Bool, true, false, ◌||◌, List, [], ◌∷◌}
+use Rattle.std.proofs.{Common.{◌++◌, length, drop, refl, sym, ap, ◌∙◌, subst, arith}, lemmas.{Bool.eqb-false, Int.ints}}
+use Rattle.std.{proofs.lemmas.List.{drop-drop, length-drop, Folds.list_any-append}, specs.List.{flat_map, list_any}}
+use Rattle.cif_lex.specs.declared.{command.Command.{Command, TheVariants.Call}, numbers.{Number.Number, Pair.Pair}}
+use Rattle.cif_lex.specs.declared.placement.{Placement.Placement, Transformation.{Transformation, TheVariants.Shift}}
+use Rattle.cif_lex.specs.declared.placement.Transformation.TheVariants.{MirrorX, MirrorY, Turn}
+use Rattle.cif_lex.specs.{declared.calls.Transformed.Transformed, Words.{Word, letter, number}, Transformations.Point}
+use Rattle.cif_lex.specs.{Transformations.{words_of, applied, placed, shift_of, IsComposedOf, IsNear}, Shifts.is_odd}
+use Rattle.cif_lex.specs.{Shifts.{is_odd_shift, IsOddWhere}, Commands.{is_bad, is_turn}, Reading.{IsRead, AreRead}}
+use Rattle.cif_lex.specs.{Reading.{IsNumberRead, IsPairRead, IsTransformationRead}, Forms.{IsLedBy, Ends, Takes}}
+use Rattle.cif_lex.{specs.Forms.IsForm, proofs.{OneWord.{same_letter, same_number, no_word_ends}, CommandWords.begins}}
+use Rattle.cif_lex.proofs.{CommandWords.call_words, AreaForm.same_pair, BracketForm.led_by_letter}
+use Rattle.cif_lex.proofs.{Turning.{all_applied_push, nearer, same_point}, Divisors.zero_even}
 
 -- ---- one transformation
 

@@ -1,21 +1,14 @@
 -- The words of commands: how they begin, and that they tell the command.
-use Rattle.std.proofs.Common.{◌≡◌, ℕ, ◌≤◌, ℤ, Bool, true, false, eqb, ◌⊎◌, inl, inr, List, [], ◌∷◌, length, refl, sym, ap, ◌∙◌, subst}
-use Rattle.std.specs.List.{AllByRecursion, flat_map, list_any}
-use Rattle.std.specs.Char.{is_ascii_uppercase}
-use Rattle.std.proofs.lemmas.Bool.{eqb-false}
-use Rattle.cif_lex.specs.declared.command.Command.{Command}
-use Rattle.cif_lex.specs.declared.command.Command.TheVariants.{Nothing, Define, Finish, Layer, Area, Call, Extension}
-use Rattle.cif_lex.specs.Words.{Word, letter, number, name}
-use Rattle.cif_lex.specs.declared.placement.Transformation.{Transformation}
+use Rattle.std.proofs.Common.{◌≡◌, ℕ, ◌≤◌, ℤ, Bool, true, false, eqb, ◌⊎◌, inl, inr, List, [], ◌∷◌, length, refl, sym}
+use Rattle.std.proofs.{Common.{ap, ◌∙◌, subst}, lemmas.Bool.eqb-false}
+use Rattle.std.specs.{List.{AllByRecursion, flat_map, list_any}, Char.is_ascii_uppercase}
+use Rattle.cif_lex.specs.declared.command.Command.{Command, TheVariants.{Nothing, Define, Finish, Layer, Area, Call}}
+use Rattle.cif_lex.specs.declared.{command.Command.TheVariants.Extension, placement.Transformation.Transformation}
 use Rattle.cif_lex.specs.declared.placement.Transformation.TheVariants.{Shift, MirrorX, MirrorY, Turn}
-use Rattle.cif_lex.specs.Transformations.{words_of, IsComposedOf}
-use Rattle.cif_lex.specs.Shifts.{is_odd_shift, IsOddWhere}
-use Rattle.cif_lex.specs.Commands.{HasWords, layer_named, is_bad, is_turn}
-use Rattle.cif_lex.specs.Reading.{IsRead, AreRead}
-use Rattle.cif_lex.specs.Forms.{Ends, Takes}
-use Rattle.cif_lex.proofs.Turning.{one_composed}
-use Rattle.cif_lex.proofs.Divisors.{one_divisor}
-use Rattle.cif_lex.proofs.OneWord.{IsPlain, same_letter, no_word_ends}
+use Rattle.cif_lex.specs.{Words.{Word, letter, number, name}, Transformations.{words_of, IsComposedOf}}
+use Rattle.cif_lex.specs.{Shifts.{is_odd_shift, IsOddWhere}, Commands.{HasWords, layer_named, is_bad, is_turn}}
+use Rattle.cif_lex.specs.{Reading.{IsRead, AreRead}, Forms.{Ends, Takes}}
+use Rattle.cif_lex.proofs.{Turning.one_composed, Divisors.one_divisor, OneWord.{IsPlain, same_letter, no_word_ends}}
 
 -- ---- the first word
 

@@ -1,11 +1,9 @@
 -- A comment, as far as it has been passed.
-use Rattle.std.proofs.Common.{◌≡◌, ℕ, zero, suc, ◌+◌, ◌-◌, ◌<◌, ◌≤◌, Bool, true, false, cond, eqb, inl, inr, List, ◌∷◌, length, get_or, take, refl, sym, ap, ◌∙◌, subst, arith}
+use Rattle.std.proofs.Common.{◌≡◌, ℕ, zero, suc, ◌+◌, ◌-◌, ◌<◌, ◌≤◌, Bool, true, false, cond, eqb, inl, inr, List, ◌∷◌}
+use Rattle.std.proofs.{Common.{length, get_or, take, refl, sym, ap, ◌∙◌, subst, arith}, lemmas.Bool.{cases_lt, ne_eqb}}
+use Rattle.std.proofs.lemmas.List.{length-take-le, take-take, take_all, Sums.{count_by_more_yes, count_by_more_no}}
 use Rattle.std.specs.List.{count_by}
-use Rattle.std.proofs.lemmas.Bool.{cases_lt, ne_eqb}
-use Rattle.std.proofs.lemmas.List.{length-take-le, take-take, take_all}
-use Rattle.std.proofs.lemmas.List.Sums.{count_by_more_yes, count_by_more_no}
-use Rattle.cif_lex.specs.Blanks.{opening, opened, closed, IsComment, IsUnclosed}
-use Rattle.cif_lex.specs.Forms.{IsLedBy}
+use Rattle.cif_lex.specs.{Blanks.{opening, opened, closed, IsComment, IsUnclosed}, Forms.IsLedBy}
 
 -- so many bytes of a comment are passed, in which so many parentheses are open
 pub record Inside (text : List ℕ) (i depth : ℕ) : Type 0 where

@@ -1,15 +1,12 @@
 -- Which scales the greatest common divisor of some numbers tells from whole ones.
-use Rattle.std.proofs.Common.{◌≡◌, ℕ, zero, suc, ◌+◌, ◌*◌, ◌/◌, ◌%◌, ◌<◌, ◌≤◌, ℤ, pos, negsuc, neg_ℤ, ◌*ℤ◌, int_rem, unsigned_abs, [], ◌∷◌, Bool, true, false, not, ◌||◌, ◌↔◌, refl, sym, ap, ◌∙◌, subst, arith}
-use Rattle.std.specs.Int.{◌∣◌}
-use Rattle.std.specs.List.{list_any}
-use Rattle.std.proofs.lemmas.Int.{unsigned_abs-mul}
-use Rattle.std.proofs.lemmas.Bool.{false≢true, or_from, or_parts}
-use Rattle.std.proofs.lemmas.Bool.Decides.{Decides-int_eq}
+use Rattle.std.proofs.Common.{◌≡◌, ℕ, zero, suc, ◌+◌, ◌*◌, ◌/◌, ◌%◌, ◌<◌, ◌≤◌, ℤ, pos, negsuc, neg_ℤ, ◌*ℤ◌, int_rem}
+use Rattle.std.proofs.Common.{unsigned_abs, [], ◌∷◌, Bool, true, false, not, ◌||◌, ◌↔◌, refl, sym, ap, ◌∙◌, subst}
+use Rattle.std.proofs.{Common.arith, Math.{Bool.{or_assoc, or-false}, Nat.{div-add-mod, mod-lt, mul_right_comm}}}
+use Rattle.std.proofs.Math.Nat.{mod-eq_of_lt, dvd-mul_right, dvd-mul_right_of_dvd, dvd-add_iff_right}
+use Rattle.std.proofs.lemmas.{Int.unsigned_abs-mul, Bool.{false≢true, or_from, or_parts, Decides.Decides-int_eq}}
 use Rattle.std.proofs.lemmas.Nat.Gcd.{dvd-zero, dvd_antisymm, dvd_of_mod-eq-zero, mod-eq-zero_of_dvd}
-use Rattle.std.proofs.Math.Bool.{or_assoc, or-false}
-use Rattle.std.proofs.Math.Nat.{div-add-mod, mod-lt, mul_right_comm, mod-eq_of_lt, dvd-mul_right, dvd-mul_right_of_dvd, dvd-add_iff_right}
-use Rattle.cif_lex.specs.declared.placement.Transformation.{Transformation}
-use Rattle.cif_lex.specs.declared.placement.Transformation.TheVariants.{Shift}
+use Rattle.std.specs.{Int.◌∣◌, List.list_any}
+use Rattle.cif_lex.specs.declared.placement.Transformation.{Transformation, TheVariants.Shift}
 use Rattle.cif_lex.specs.Shifts.{is_odd, is_odd_shift, IsOddWhere}
 
 -- ---- tests that are no at the same time

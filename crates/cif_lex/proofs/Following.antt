@@ -1,13 +1,9 @@
 -- What follows the bytes that have been read.
-use Rattle.std.proofs.Common.{◌≡◌, ℕ, ◌+◌, ◌<◌, ◌≤◌, ◌⊎◌, inl, inr, List, [], ◌∷◌, ◌++◌, length, drop, refl, sym, ap, ◌∙◌, subst, arith, length-append}
-use Rattle.std.proofs.lemmas.List.{drop-drop, length-drop}
-use Rattle.cif_lex.specs.declared.command.Command.{Command}
-use Rattle.cif_lex.specs.declared.forms.Form.{Form}
-use Rattle.cif_lex.specs.Blanks.{IsCutOff, IsFilled}
-use Rattle.cif_lex.specs.Commands.{IsCutCommand, IsNoCommand, Follows}
-use Rattle.cif_lex.specs.Reading.{IsBehindGap}
-use Rattle.cif_lex.specs.Forms.{IsLedBy, MayEnd, Reaches, IsBodyForm}
-use Rattle.cif_lex.proofs.Bodies.{filled_or_cut, led_or_cut}
+use Rattle.std.proofs.Common.{◌≡◌, ℕ, ◌+◌, ◌<◌, ◌≤◌, ◌⊎◌, inl, inr, List, [], ◌∷◌, ◌++◌, length, drop, refl, sym, ap}
+use Rattle.std.proofs.{Common.{◌∙◌, subst, arith, length-append}, lemmas.List.{drop-drop, length-drop}}
+use Rattle.cif_lex.specs.{declared.{command.Command.Command, forms.Form.Form}, Blanks.{IsCutOff, IsFilled}}
+use Rattle.cif_lex.specs.{Commands.{IsCutCommand, IsNoCommand, Follows}, Reading.IsBehindGap, Forms.{IsLedBy, MayEnd}}
+use Rattle.cif_lex.{specs.Forms.{Reaches, IsBodyForm}, proofs.Bodies.{filled_or_cut, led_or_cut}}
 
 -- how many bytes a gap has, by what it leaves
 gap_length : (text : List ℕ) (n : ℕ) (is : IsBehindGap text (drop n text)) → n ≤ length text → length is.gap ≡ n

@@ -1,16 +1,11 @@
 -- A layer, as the code reads it.
-use Rattle.std.proofs.Common.{◌≡◌, ℕ, ◌+◌, ◌<◌, ◌≤◌, ◌⊎◌, inl, inr, true, List, [], ◌∷◌, ◌++◌, length, take, drop, refl, sym, ap, ◌∙◌, subst, arith}
-use Rattle.std.specs.List.{All}
-use Rattle.std.proofs.lemmas.List.{drop-drop, length-drop, take-append-drop, length-take-le}
-use Rattle.std.proofs.lemmas.List.Elements.{recursion_from_All}
-use Rattle.cif_lex.specs.declared.command.Command.{Command}
-use Rattle.cif_lex.specs.declared.command.Command.TheVariants.{Layer}
-use Rattle.cif_lex.specs.Words.{Word, letter, name, is_name_byte, StopsAt}
-use Rattle.cif_lex.specs.Commands.{layer_named}
-use Rattle.cif_lex.specs.Reading.{IsBehindGap, IsRead, AreRead}
+use Rattle.std.proofs.Common.{◌≡◌, ℕ, ◌+◌, ◌<◌, ◌≤◌, ◌⊎◌, inl, inr, true, List, [], ◌∷◌, ◌++◌, length, take, drop, refl}
+use Rattle.std.proofs.{Common.{sym, ap, ◌∙◌, subst, arith}, lemmas.List.{drop-drop, length-drop, take-append-drop}}
+use Rattle.std.{proofs.lemmas.List.{length-take-le, Elements.recursion_from_All}, specs.List.All}
+use Rattle.cif_lex.specs.{declared.command.Command.{Command, TheVariants.Layer}, Words.{Word, letter, name}}
+use Rattle.cif_lex.specs.{Words.{is_name_byte, StopsAt}, Commands.layer_named, Reading.{IsBehindGap, IsRead, AreRead}}
 use Rattle.cif_lex.specs.Forms.{Ends, Takes, IsForm}
-use Rattle.cif_lex.proofs.OneWord.{longest_same, same_name}
-use Rattle.cif_lex.proofs.CommandWords.{begins, layer_words}
+use Rattle.cif_lex.proofs.{OneWord.{longest_same, same_name}, CommandWords.{begins, layer_words}}
 
 record IsLayer (mid s : List ℕ) : Type 0 where
   bytes : List ℕ

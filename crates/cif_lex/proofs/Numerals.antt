@@ -1,12 +1,7 @@
 -- The value of digits, cut off past the limit, digit by digit.
 use Rattle.std.proofs.Common.{◌≡◌, ℕ, ◌+◌, ◌*◌, ◌-◌, ◌<◌, true, min, List, length, get_or, take, arith}
-use Rattle.std.specs.List.{All}
-use Rattle.std.specs.Char.{is_ascii_digit, digit_value}
-use Rattle.std.specs.Int.{IsInRange}
-use Rattle.std.specs.Str.Parse.{digits_value}
-use Rattle.std.proofs.lemmas.Int.Digits.{digits_value_more}
-use Rattle.std.proofs.lemmas.Str.{digit_value_digit}
-use Rattle.std.proofs.lemmas.Bool.Decides.{nat_tests}
+use Rattle.std.proofs.lemmas.{Int.Digits.digits_value_more, Str.digit_value_digit, Bool.Decides.nat_tests}
+use Rattle.std.specs.{List.All, Char.{is_ascii_digit, digit_value}, Int.IsInRange, Str.Parse.digits_value}
 
 in_range : (c : ℕ) → is_ascii_digit c ≡ true → IsInRange 48 57 c
 in_range c h = grind (arith, nat_tests)

@@ -1,19 +1,13 @@
 -- At each place of a text there is one answer.
-use Rattle.std.proofs.Common.{◌≡◌, ℕ, ◌+◌, inl, inr, List, [], ◌∷◌, ◌++◌, length, drop, refl, sym, ap, ◌∙◌, subst, arith, length-append}
-use Rattle.std.proofs.lemmas.Bool.{false≢true}
-use Rattle.std.proofs.lemmas.List.{append-nil}
-use Rattle.cif_lex.specs.declared.command.Command.{Command}
-use Rattle.cif_lex.specs.declared.command.Next.{Next}
-use Rattle.cif_lex.specs.declared.command.Next.TheVariants.{Whole, Cut, Bad, End, Missing}
+use Rattle.std.proofs.Common.{◌≡◌, ℕ, ◌+◌, inl, inr, List, [], ◌∷◌, ◌++◌, length, drop, refl, sym, ap, ◌∙◌, subst}
+use Rattle.std.proofs.{Common.{arith, length-append}, lemmas.{Bool.false≢true, List.append-nil}}
+use Rattle.cif_lex.specs.declared.command.{Command.Command, Next.{Next, TheVariants.{Whole, Cut, Bad, End, Missing}}}
+use Rattle.cif_lex.specs.{Blanks.{IsGap, IsUnclosed, IsCutOff, IsFilled}, Commands.{IsBody, IsCutCommand, IsNoCommand}}
+use Rattle.cif_lex.specs.{Commands.{Follows, IsNext, NextIsDetermined, TailIsDetermined}, Reading.IsStop, Forms.IsLedBy}
+use Rattle.cif_lex.specs.Forms.{MayEnd, Reaches}
+use Rattle.cif_lex.proofs.{OneGap.{same_gap, filled}, Bodies.{filled_or_cut, led_filled, led_or_cut, body_fills}}
+use Rattle.cif_lex.proofs.{AnyForm.{IsFirstByte, none_begins}, OneCommand.reaches_same}
 use Rattle.cif_lex.specs.declared.command.Tail.TheVariants as tails
-use Rattle.cif_lex.specs.Blanks.{IsGap, IsUnclosed, IsCutOff, IsFilled}
-use Rattle.cif_lex.specs.Commands.{IsBody, IsCutCommand, IsNoCommand, Follows, IsNext, NextIsDetermined, TailIsDetermined}
-use Rattle.cif_lex.specs.Reading.{IsStop}
-use Rattle.cif_lex.specs.Forms.{IsLedBy, MayEnd, Reaches}
-use Rattle.cif_lex.proofs.OneGap.{same_gap, filled}
-use Rattle.cif_lex.proofs.Bodies.{filled_or_cut, led_filled, led_or_cut, body_fills}
-use Rattle.cif_lex.proofs.AnyForm.{IsFirstByte, none_begins}
-use Rattle.cif_lex.proofs.OneCommand.{reaches_same}
 
 -- ---- where it stands
 

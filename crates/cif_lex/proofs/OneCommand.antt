@@ -1,19 +1,12 @@
 -- A text begins with one command only, which ends at one place.
 use Rattle.std.proofs.Common.{◌≡◌, ℕ, true, false, ◌⊎◌, inl, inr, List, [], ◌∷◌, ◌++◌, refl, sym, ap, ◌∙◌, subst, arith}
-use Rattle.std.specs.List.{AllByRecursion}
-use Rattle.std.specs.Char.{is_ascii_digit, is_ascii_uppercase}
-use Rattle.std.proofs.lemmas.Bool.{both_ways}
-use Rattle.std.proofs.lemmas.List.{append-nil}
-use Rattle.cif_lex.specs.declared.command.Command.{Command}
-use Rattle.cif_lex.specs.Words.{Word, letter, name}
-use Rattle.cif_lex.specs.Commands.{HasWords}
-use Rattle.cif_lex.specs.Reading.{AreRead}
-use Rattle.cif_lex.specs.Forms.{Ends, MayEnd, Takes, Reaches}
-use Rattle.cif_lex.proofs.OneWord.{IsPlain, goes_on, none_more, no_word_ends, same_name}
-use Rattle.cif_lex.proofs.CommandWords.{IsHeaded, has_head, begins, plain_words, layer_words, same_command}
-use Rattle.cif_lex.proofs.BracketForm.{led_by_letter}
-use Rattle.cif_lex.proofs.Bodies.{may_end_ends, IsExtensionOf, reaches_takes}
-use Rattle.cif_lex.proofs.AnyForm.{same_extension}
+use Rattle.std.proofs.lemmas.{Bool.both_ways, List.append-nil}
+use Rattle.std.specs.{List.AllByRecursion, Char.{is_ascii_digit, is_ascii_uppercase}}
+use Rattle.cif_lex.specs.{declared.command.Command.Command, Words.{Word, letter, name}, Commands.HasWords}
+use Rattle.cif_lex.{specs.{Reading.AreRead, Forms.{Ends, MayEnd, Takes, Reaches}}, proofs.OneWord.{IsPlain, goes_on}}
+use Rattle.cif_lex.proofs.{OneWord.{none_more, no_word_ends, same_name}, CommandWords.{IsHeaded, has_head, begins}}
+use Rattle.cif_lex.proofs.{CommandWords.{plain_words, layer_words, same_command}, BracketForm.led_by_letter}
+use Rattle.cif_lex.proofs.{Bodies.{may_end_ends, IsExtensionOf, reaches_takes}, AnyForm.same_extension}
 
 -- ---- by words
 

@@ -1,13 +1,12 @@
 -- Gaps: how they are made, and that a text has one only, up to what stands behind it.
-use Rattle.std.proofs.Common.{◌≡◌, ℕ, ◌+◌, ◌<◌, ◌≤◌, true, false, inl, inr, List, [], ◌∷◌, ◌++◌, length, get_or, take, drop, refl, sym, ap, ◌∙◌, subst, append_assoc, arith, length-append}
+use Rattle.std.proofs.Common.{◌≡◌, ℕ, ◌+◌, ◌<◌, ◌≤◌, true, false, inl, inr, List, [], ◌∷◌, ◌++◌, length, get_or, take}
+use Rattle.std.proofs.Common.{drop, refl, sym, ap, ◌∙◌, subst, append_assoc, arith, length-append}
+use Rattle.std.proofs.lemmas.{Bool.{cases_order, false≢true, both_ways}, List.{append-nil, append_cancel_left, take_at}}
+use Rattle.std.proofs.lemmas.List.{take-append-le, take_all, take_more, Concat.flat_map-append, Elements.All-append}
+use Rattle.std.proofs.{lemmas.List.Elements.{All-cons, All-nil, recursion_from_All}, Math.Seq.take-add}
 use Rattle.std.specs.List.{flat_map, AllByRecursion}
-use Rattle.std.proofs.lemmas.Bool.{cases_order, false≢true, both_ways}
-use Rattle.std.proofs.lemmas.List.{append-nil, append_cancel_left, take_at, take-append-le, take_all, take_more}
-use Rattle.std.proofs.lemmas.List.Concat.{flat_map-append}
-use Rattle.std.proofs.lemmas.List.Elements.{All-append, All-cons, All-nil, recursion_from_All}
-use Rattle.std.proofs.Math.Seq.{take-add}
-use Rattle.cif_lex.specs.Blanks.{opening, is_blank, opened, closed, StaysOpen, IsComment, IsUnclosed, IsFiller, IsGap, IsFilled}
-use Rattle.cif_lex.specs.Reading.{IsStop, IsBehindGap}
+use Rattle.cif_lex.specs.Blanks.{opening, is_blank, opened, closed, StaysOpen, IsComment, IsUnclosed, IsFiller, IsGap}
+use Rattle.cif_lex.specs.{Blanks.IsFilled, Reading.{IsStop, IsBehindGap}}
 
 -- ---- how gaps are made
 

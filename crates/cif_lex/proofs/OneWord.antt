@@ -1,13 +1,10 @@
 -- A text begins with one letter, one number or one name only.
-use Rattle.std.proofs.Common.{◌≡◌, ℕ, ◌<◌, ℤ, Bool, true, false, eqb, ◌||◌, ◌⊎◌, inl, inr, List, [], ◌∷◌, ◌++◌, length, refl, sym, ap, ◌∙◌, subst, arith}
-use Rattle.std.specs.List.{AllByRecursion}
-use Rattle.std.specs.Char.{is_ascii_digit, is_ascii_uppercase}
-use Rattle.std.proofs.lemmas.Bool.{false≢true, both_ways}
-use Rattle.std.proofs.lemmas.List.Elements.{recursion_from_All}
-use Rattle.cif_lex.specs.Blanks.{is_blank, IsFilled}
-use Rattle.cif_lex.specs.Words.{Word, letter, number, name, IsNumeral, capped, signed, is_name_byte, IsSpelled, StopsAt}
-use Rattle.cif_lex.specs.Reading.{IsBehindGap, IsRead, AreRead}
-use Rattle.cif_lex.specs.Forms.{Ends}
+use Rattle.std.proofs.Common.{◌≡◌, ℕ, ◌<◌, ℤ, Bool, true, false, eqb, ◌||◌, ◌⊎◌, inl, inr, List, [], ◌∷◌, ◌++◌, length}
+use Rattle.std.proofs.Common.{refl, sym, ap, ◌∙◌, subst, arith}
+use Rattle.std.proofs.lemmas.{Bool.{false≢true, both_ways}, List.Elements.recursion_from_All}
+use Rattle.std.specs.{List.AllByRecursion, Char.{is_ascii_digit, is_ascii_uppercase}}
+use Rattle.cif_lex.specs.{Blanks.{is_blank, IsFilled}, Words.{Word, letter, number, name, IsNumeral, capped, signed}}
+use Rattle.cif_lex.specs.{Words.{is_name_byte, IsSpelled, StopsAt}, Reading.{IsBehindGap, IsRead, AreRead}, Forms.Ends}
 use Rattle.cif_lex.proofs.OneGap.{same_behind, filled}
 
 -- the longest run of some bytes is one only

@@ -1,17 +1,12 @@
 -- Numbers, as the code reads them.
-use Rattle.std.proofs.Common.{◌≡◌, ℕ, ◌+◌, ◌<◌, ◌≤◌, ℤ, pos, negsuc, ◌-ℤ◌, Bool, true, false, cond, MatchBool, List, [], ◌∷◌, ◌++◌, length, take, drop, refl, sym, ap, ◌∙◌, subst, arith}
+use Rattle.std.proofs.Common.{◌≡◌, ℕ, ◌+◌, ◌<◌, ◌≤◌, ℤ, pos, negsuc, ◌-ℤ◌, Bool, true, false, cond, MatchBool, List, []}
+use Rattle.std.proofs.{Common.{◌∷◌, ◌++◌, length, take, drop, refl, sym, ap, ◌∙◌, subst, arith}, lemmas.Bool.both_ways}
+use Rattle.std.proofs.lemmas.{Int.{ints, to_z-of_z}, List.{take-append-drop, drop-drop, length-drop, length-take-le}}
+use Rattle.std.{proofs.lemmas.List.Elements.recursion_from_All, specs.{List.All, Char.is_ascii_digit}}
 use mir.Syntax.{w64}
 use mir.Val.{to_z, of_z, SFits, bool_byte}
-use Rattle.std.specs.List.{All}
-use Rattle.std.specs.Char.{is_ascii_digit}
-use Rattle.std.proofs.lemmas.Bool.{both_ways}
-use Rattle.std.proofs.lemmas.Int.{ints, to_z-of_z}
-use Rattle.std.proofs.lemmas.List.{take-append-drop, drop-drop, length-drop, length-take-le}
-use Rattle.std.proofs.lemmas.List.Elements.{recursion_from_All}
-use Rattle.cif_lex.specs.declared.numbers.Number.{Number}
-use Rattle.cif_lex.specs.Words.{number, capped, signed, IsNumeral, StopsAt}
-use Rattle.cif_lex.specs.Reading.{IsSmall, IsBehindGap, IsRead, IsNumberRead, IsPairRead}
-use Rattle.cif_lex.specs.Forms.{IsLedBy}
+use Rattle.cif_lex.specs.{declared.numbers.Number.Number, Words.{number, capped, signed, IsNumeral, StopsAt}}
+use Rattle.cif_lex.specs.{Reading.{IsSmall, IsBehindGap, IsRead, IsNumberRead, IsPairRead}, Forms.IsLedBy}
 use Rattle.cif_lex.proofs.OneWord.{no_minus}
 
 -- ---- small numbers in machine words

@@ -1,11 +1,8 @@
 -- What stands behind a gap, by its first byte.
-use Rattle.std.proofs.Common.{◌≡◌, ℕ, ◌<◌, eqb, Bool, MatchBool, inl, inr, List, [], ◌∷◌, length, get_or, take, drop, ◌+◌, ◌-◌, ◌≤◌, sym, ap, subst, arith}
-use Rattle.std.proofs.lemmas.Bool.{ne_eqb}
-use Rattle.std.proofs.lemmas.List.{take_rest, drop-drop, length-drop}
-use Rattle.cif_lex.specs.Blanks.{opening, IsCutOff, IsFilled}
-use Rattle.cif_lex.specs.Words.{letter}
-use Rattle.cif_lex.specs.Reading.{IsStop, IsRead}
-use Rattle.cif_lex.specs.Forms.{IsLedBy}
+use Rattle.std.proofs.Common.{◌≡◌, ℕ, ◌<◌, eqb, Bool, MatchBool, inl, inr, List, [], ◌∷◌, length, get_or, take, drop}
+use Rattle.std.proofs.Common.{◌+◌, ◌-◌, ◌≤◌, sym, ap, subst, arith}
+use Rattle.std.proofs.lemmas.{Bool.ne_eqb, List.{take_rest, drop-drop, length-drop}}
+use Rattle.cif_lex.specs.{Blanks.{opening, IsCutOff, IsFilled}, Words.letter, Reading.{IsStop, IsRead}, Forms.IsLedBy}
 
 pub cut_by_first : (text : List ℕ) → 0 < length text → IsStop text → MatchBool (eqb (get_or text 0 0) 40) (IsCutOff text) (IsFilled text)
 cut_by_first [] some h = absurd (omega arith)

@@ -1,16 +1,14 @@
 -- What turns and shifts come to, one after another.
 use mir.Syntax.{w64}
 use mir.Val.{to_z, of_z}
-use Rattle.std.proofs.Common.{FitsSigned, ◌≡◌, ℕ, zero, suc, ◌+◌, ◌*◌, ◌%◌, ◌/◌, ◌^◌, ◌<◌, ◌≤◌, ℤ, pos, neg_ℤ, ◌+ℤ◌, ◌≤ℤ◌, nat_lt, int_eq, Bool, if◌then◌else◌, true, false, cond, List, [], ◌∷◌, ◌++◌, refl, sym, ap, ◌∙◌, subst, arith}
+use Rattle.std.proofs.Common.{FitsSigned, ◌≡◌, ℕ, zero, suc, ◌+◌, ◌*◌, ◌%◌, ◌/◌, ◌^◌, ◌<◌, ◌≤◌, ℤ, pos, neg_ℤ, ◌+ℤ◌}
+use Rattle.std.proofs.Common.{◌≤ℤ◌, nat_lt, int_eq, Bool, if◌then◌else◌, true, false, cond, List, [], ◌∷◌, ◌++◌, refl}
+use Rattle.std.proofs.{Common.{sym, ap, ◌∙◌, subst, arith}, lemmas.{Int.ints, Bool.{false≢true, Decides.nat_tests}}}
 use Rattle.std.specs.List.{list_any}
-use Rattle.std.proofs.lemmas.Int.{ints}
-use Rattle.std.proofs.lemmas.Bool.{false≢true}
-use Rattle.std.proofs.lemmas.Bool.Decides.{nat_tests}
-use Rattle.cif_lex.specs.declared.placement.Transformation.{Transformation}
-use Rattle.cif_lex.specs.declared.placement.Transformation.TheVariants.{Shift, MirrorX, MirrorY, Turn}
+use Rattle.cif_lex.specs.declared.placement.Transformation.{Transformation, TheVariants.{Shift, MirrorX, MirrorY, Turn}}
 use Rattle.cif_lex.specs.declared.placement.Placement.{Placement}
-use Rattle.cif_lex.specs.Commands.{is_turn}
-use Rattle.cif_lex.specs.Transformations.{Point, shifted, x_mirrored, quarter, quarters, applied, all_applied, turned, placed, shift_of, IsComposedOf, IsNear}
+use Rattle.cif_lex.specs.{Commands.is_turn, Transformations.{Point, shifted, x_mirrored, quarter, quarters, applied}}
+use Rattle.cif_lex.specs.Transformations.{all_applied, turned, placed, shift_of, IsComposedOf, IsNear}
 
 pub same_point : (p q : Point) → p.0 ≡ q.0 → p.1 ≡ q.1 → p ≡ q
 same_point p q e f = ap (λ (x : ℤ). (x, p.1)) e ∙ ap (λ (y : ℤ). (q.0, y)) f

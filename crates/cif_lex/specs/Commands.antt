@@ -1,23 +1,16 @@
 -- The commands of CIF, by their words, and where they stand in a text.
-use Rattle.std.specs.Prelude.{◌≡◌, ◌≢◌, ℕ, ◌+◌, ◌<◌, ◌≤◌, ℤ, pos, nat_abs, nat_lt, Bool, true, false, not, ◌||◌, ◌⊎◌, All, IsTrue, Option, Some, None, List, [], ◌∷◌, ◌++◌, length, codes, flat_map, drop, if◌then◌else◌}
-use Rattle.std.specs.List.{list_any}
-use Rattle.std.specs.Ordering.{int_eq}
-use Rattle.std.specs.Char.{is_ascii_digit}
-use Rattle.std.specs.Str.{bytes_eq}
-use Rattle.lam_geom.specs.declared.boxes.MaskLayer.{MaskLayer}
-use Rattle.lam_geom.specs.declared.boxes.MaskLayer.TheVariants.{ND, NP, NC, NM, NI, NB}
-use Rattle.cif_lex.specs.declared.command.Command.{Command}
-use Rattle.cif_lex.specs.declared.command.Command.TheVariants.{Nothing, Define, Finish, Layer, Area, Call, Extension}
-use Rattle.cif_lex.specs.declared.command.Next.{Next}
-use Rattle.cif_lex.specs.declared.command.Next.TheVariants.{Whole, Cut, Bad, End, Missing}
-use Rattle.cif_lex.specs.declared.command.Tail.{Tail}
+use Rattle.std.specs.Prelude.{◌≡◌, ◌≢◌, ℕ, ◌+◌, ◌<◌, ◌≤◌, ℤ, pos, nat_abs, nat_lt, Bool, true, false, not, ◌||◌, ◌⊎◌}
+use Rattle.std.specs.Prelude.{All, IsTrue, Option, Some, None, List, [], ◌∷◌, ◌++◌, length, codes, flat_map, drop}
+use Rattle.std.specs.{Prelude.if◌then◌else◌, List.list_any, Ordering.int_eq, Char.is_ascii_digit, Str.bytes_eq}
+use Rattle.lam_geom.specs.declared.boxes.MaskLayer.{MaskLayer, TheVariants.{ND, NP, NC, NM, NI, NB}}
+use Rattle.cif_lex.specs.declared.command.Command.{Command, TheVariants.{Nothing, Define, Finish, Layer, Area, Call}}
+use Rattle.cif_lex.specs.declared.command.{Command.TheVariants.Extension, Next.{Next, TheVariants.{Whole, Cut, Bad}}}
+use Rattle.cif_lex.specs.declared.command.{Next.TheVariants.{End, Missing}, Tail.Tail}
+use Rattle.cif_lex.specs.declared.placement.Transformation.{Transformation, TheVariants.{Shift, MirrorX, MirrorY, Turn}}
+use Rattle.cif_lex.specs.{Blanks.{semicolon, IsGap, IsUnclosed, IsCutOff, IsFilled}, Transformations.words_of}
+use Rattle.cif_lex.specs.{Transformations.IsComposedOf, Shifts.{is_odd_shift, IsOddWhere}, Words.{Word, letter, number}}
+use Rattle.cif_lex.specs.Words.{name, limit, AreSpelled}
 use Rattle.cif_lex.specs.declared.command.Tail.TheVariants as tails
-use Rattle.cif_lex.specs.declared.placement.Transformation.{Transformation}
-use Rattle.cif_lex.specs.declared.placement.Transformation.TheVariants.{Shift, MirrorX, MirrorY, Turn}
-use Rattle.cif_lex.specs.Blanks.{semicolon, IsGap, IsUnclosed, IsCutOff, IsFilled}
-use Rattle.cif_lex.specs.Transformations.{words_of, IsComposedOf}
-use Rattle.cif_lex.specs.Shifts.{is_odd_shift, IsOddWhere}
-use Rattle.cif_lex.specs.Words.{Word, letter, number, name, limit, AreSpelled}
 
 -- ---- the layers that are kept
 

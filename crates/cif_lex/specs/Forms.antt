@@ -1,12 +1,8 @@
 -- The forms of commands, as they are read from a text.
 use Rattle.std.specs.Prelude.{◌≡◌, ℕ, ◌≤◌, ◌⊎◌, Option, MatchOption, List, [], ◌∷◌, ◌++◌, length, drop}
-use Rattle.cif_lex.specs.declared.command.Command.{Command}
-use Rattle.cif_lex.specs.declared.command.Command.TheVariants.{Extension}
-use Rattle.cif_lex.specs.declared.forms.Form.{Form}
-use Rattle.cif_lex.specs.Blanks.{semicolon, IsCutOff}
-use Rattle.cif_lex.specs.Words.{Word}
-use Rattle.cif_lex.specs.Commands.{HasWords, IsBody}
-use Rattle.cif_lex.specs.Reading.{AreRead, IsStop}
+use Rattle.cif_lex.specs.declared.{command.Command.{Command, TheVariants.Extension}, forms.Form.Form}
+use Rattle.cif_lex.specs.{Blanks.{semicolon, IsCutOff}, Words.Word, Commands.{HasWords, IsBody}, Reading.AreRead}
+use Rattle.cif_lex.specs.Reading.{IsStop}
 
 -- a text begins with such a byte
 pub record IsLedBy (b : ℕ) (text : List ℕ) : Type 0 where

@@ -1,13 +1,10 @@
 -- How the words of a command are read from a text, each with the gap behind it.
-use Rattle.std.specs.Prelude.{◌≡◌, ℕ, ◌<◌, ◌≤◌, ℤ, pos, neg_ℤ, ◌≤ℤ◌, ◌⊎◌, Option, MatchOption, List, [], ◌∷◌, ◌++◌, length, drop}
-use Rattle.cif_lex.specs.declared.numbers.Number.{Number}
-use Rattle.cif_lex.specs.declared.numbers.Pair.{Pair}
-use Rattle.cif_lex.specs.declared.placement.Transformation.{Transformation}
+use Rattle.std.specs.Prelude.{◌≡◌, ℕ, ◌<◌, ◌≤◌, ℤ, pos, neg_ℤ, ◌≤ℤ◌, ◌⊎◌, Option, MatchOption, List, [], ◌∷◌, ◌++◌}
+use Rattle.std.specs.Prelude.{length, drop}
+use Rattle.cif_lex.specs.declared.{numbers.{Number.Number, Pair.Pair}, placement.Transformation.Transformation}
 use Rattle.cif_lex.specs.declared.placement.Transformation.TheVariants.{Shift, MirrorX, MirrorY, Turn}
-use Rattle.cif_lex.specs.declared.calls.Transformed.{Transformed}
-use Rattle.cif_lex.specs.Blanks.{IsGap, IsCutOff, IsFilled}
-use Rattle.cif_lex.specs.Transformations.{words_of}
-use Rattle.cif_lex.specs.Words.{Word, number, IsSpelled, IsWhole}
+use Rattle.cif_lex.specs.{declared.calls.Transformed.Transformed, Blanks.{IsGap, IsCutOff, IsFilled}}
+use Rattle.cif_lex.specs.{Transformations.words_of, Words.{Word, number, IsSpelled, IsWhole}}
 
 -- what stands behind a gap: the end, a comment that has no end, or something filled
 abbrev pub IsStop : List ℕ → Type 0

@@ -1,8 +1,6 @@
 -- The numbers of shifts by the scale of a definition.
-use Rattle.std.specs.Prelude.{◌≡◌, ℕ, ◌<◌, ℤ, pos, ◌*ℤ◌, int_rem, Bool, false, not, ◌||◌}
-use Rattle.std.specs.Ordering.{int_eq}
-use Rattle.cif_lex.specs.declared.placement.Transformation.{Transformation}
-use Rattle.cif_lex.specs.declared.placement.Transformation.TheVariants.{Shift, MirrorX, MirrorY, Turn}
+use Rattle.std.specs.{Prelude.{◌≡◌, ℕ, ◌<◌, ℤ, pos, ◌*ℤ◌, int_rem, Bool, false, not, ◌||◌}, Ordering.int_eq}
+use Rattle.cif_lex.specs.declared.placement.Transformation.{Transformation, TheVariants.{Shift, MirrorX, MirrorY, Turn}}
 
 -- a number of a definition, times `above`, is no multiple of `below`
 abbrev pub is_odd : ℤ → ℤ → ℤ → Bool

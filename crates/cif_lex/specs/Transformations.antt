@@ -1,9 +1,8 @@
 -- The transformations of a call: their words, and what they do to a point.
-use Rattle.std.specs.Prelude.{◌≡◌, ℕ, zero, suc, ◌%◌, ◌<◌, ℤ, pos, neg_ℤ, ◌+ℤ◌, ◌≤ℤ◌, nat_lt, int_lt, if◌then◌else◌, List, [], ◌∷◌}
-use Rattle.cif_lex.specs.declared.placement.Transformation.{Transformation}
-use Rattle.cif_lex.specs.declared.placement.Transformation.TheVariants.{Shift, MirrorX, MirrorY, Turn}
-use Rattle.cif_lex.specs.declared.placement.Placement.{Placement}
-use Rattle.cif_lex.specs.Words.{Word, letter, number}
+use Rattle.std.specs.Prelude.{◌≡◌, ℕ, zero, suc, ◌%◌, ◌<◌, ℤ, pos, neg_ℤ, ◌+ℤ◌, ◌≤ℤ◌, nat_lt, int_lt, if◌then◌else◌}
+use Rattle.std.specs.Prelude.{List, [], ◌∷◌}
+use Rattle.cif_lex.specs.declared.placement.Transformation.{Transformation, TheVariants.{Shift, MirrorX, MirrorY, Turn}}
+use Rattle.cif_lex.specs.{declared.placement.Placement.Placement, Words.{Word, letter, number}}
 
 abbrev pub Point : Type 0
 Point = ℤ × ℤ

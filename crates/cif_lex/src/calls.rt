@@ -1,9 +1,7 @@
 //! Calls, and their transformations.
 ghost use Rattle.std.specs.Prelude.{◌≡◌, ◌<◌, ◌≤◌, ◌^◌, ◌||◌, pos, length, drop};
-ghost use Rattle.cif_lex.specs.Words.{letter};
-ghost use Rattle.cif_lex.specs.Shifts.{is_odd, is_odd_shift, IsOddWhere};
-ghost use Rattle.cif_lex.specs.Commands.{is_far, is_no_axis, is_bad, is_turn};
-ghost use Rattle.cif_lex.specs.Reading.{HasSmallNumbers, IsRead, IsTransformationAnswer};
+ghost use Rattle.cif_lex.specs.{Words.letter, Shifts.{is_odd, is_odd_shift, IsOddWhere}, Commands.{is_far, is_no_axis}};
+ghost use Rattle.cif_lex.specs.{Commands.{is_bad, is_turn}, Reading.{HasSmallNumbers, IsRead, IsTransformationAnswer}};
 ghost use Rattle.cif_lex.specs.Forms.{IsLedBy, IsFormAnswer};
 
 use crate::command::Command;

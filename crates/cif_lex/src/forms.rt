@@ -1,10 +1,7 @@
 //! The forms of commands.
 ghost use Rattle.std.specs.Prelude.{◌≡◌, ◌+◌, ◌<◌, ◌≤◌, ◌^◌, ◌≢◌, IsTrue, All, take, drop, length, slice_index};
-ghost use Rattle.cif_lex.specs.Blanks.{semicolon, IsFilled};
-ghost use Rattle.cif_lex.specs.Words.{is_name_byte, StopsAt, letter};
-ghost use Rattle.cif_lex.specs.Commands.{layer_named};
-ghost use Rattle.cif_lex.specs.Reading.{IsRead};
-ghost use Rattle.cif_lex.specs.Forms.{IsLedBy, IsFormAnswer, IsBodyAnswer};
+ghost use Rattle.cif_lex.specs.{Blanks.{semicolon, IsFilled}, Words.{is_name_byte, StopsAt, letter}};
+ghost use Rattle.cif_lex.specs.{Commands.layer_named, Reading.IsRead, Forms.{IsLedBy, IsFormAnswer, IsBodyAnswer}};
 
 use crate::calls::call;
 use crate::command::Command;

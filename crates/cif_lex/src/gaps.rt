@@ -1,8 +1,7 @@
 //! Gaps: the blanks and the comments between words.
 ghost use Rattle.std.specs.Prelude.{◌≡◌, ◌<◌, ◌≤◌, take, drop, length, IsSome, MatchOption, MatchBool};
-ghost use Rattle.cif_lex.specs.Blanks.{opening, is_blank, IsComment, IsUnclosed, IsCutOff, IsFilled};
-ghost use Rattle.cif_lex.specs.Reading.{IsStop, IsBehindGap};
-ghost use Rattle.cif_lex.specs.Forms.{IsLedBy};
+ghost use Rattle.cif_lex.specs.{Blanks.{opening, is_blank, IsComment, IsUnclosed, IsCutOff, IsFilled}, Reading.IsStop};
+ghost use Rattle.cif_lex.specs.{Reading.IsBehindGap, Forms.IsLedBy};
 
 fn is_blank(b: u8) -> bool
     ensures { result ≡ is_blank b }

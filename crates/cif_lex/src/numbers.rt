@@ -1,8 +1,6 @@
 //! Numbers.
-ghost use Rattle.std.specs.Prelude.{◌≡◌, ◌+◌, ◌<◌, ◌≤◌, IsTrue, All, take, drop, length};
-ghost use Rattle.std.specs.Char.{is_ascii_digit};
-ghost use Rattle.cif_lex.specs.Words.{capped, StopsAt};
-ghost use Rattle.cif_lex.specs.Reading.{IsNumberAnswer, IsPairAnswer};
+ghost use Rattle.std.specs.{Prelude.{◌≡◌, ◌+◌, ◌<◌, ◌≤◌, IsTrue, All, take, drop, length}, Char.is_ascii_digit};
+ghost use Rattle.cif_lex.specs.{Words.{capped, StopsAt}, Reading.{IsNumberAnswer, IsPairAnswer}};
 
 use crate::gaps::{begins_with, gap_length};
 

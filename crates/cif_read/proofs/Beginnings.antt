@@ -1,16 +1,13 @@
 -- What has been read of a text.
-use Rattle.std.proofs.Common.{◌≡◌, ℕ, ◌+◌, ◌≤◌, Bool, false, Option, Some, None, is_some, option_map, Result, Ok, List, [], ◌∷◌, ◌++◌, length, drop, fold, refl, sym, ap, ◌∙◌, subst, arith, length-append, length-drop}
+use Rattle.std.proofs.Common.{◌≡◌, ℕ, ◌+◌, ◌≤◌, Bool, false, Option, Some, None, is_some, option_map, Result, Ok, List}
+use Rattle.std.proofs.Common.{[], ◌∷◌, ◌++◌, length, drop, fold, refl, sym, ap, ◌∙◌, subst, arith, length-append}
+use Rattle.std.proofs.{Common.length-drop, lemmas.List.{append-nil, append_assoc, drop_at, Concat.flat_map-append}}
 use Rattle.std.specs.List.{AllZip}
-use Rattle.std.proofs.lemmas.List.{append-nil, append_assoc, drop_at}
-use Rattle.std.proofs.lemmas.List.Concat.{flat_map-append}
-use Rattle.cif_lex.specs.declared.command.Command.{Command}
-use Rattle.cif_lex.specs.declared.command.Next.TheVariants.{Whole, Cut, End}
-use Rattle.cif_lex.specs.Blanks.{semicolon, IsGap}
-use Rattle.cif_lex.specs.Commands.{IsPiece, IsNext, Follows}
-use Rattle.cif_read.specs.declared.fault.CifKind.{CifKind}
-use Rattle.cif_read.specs.declared.fault.Stop.{Stop}
-use Rattle.cif_read.specs.declared.fault.Stop.TheVariants.{Refused, OutOfMemory}
-use Rattle.cif_read.specs.Readers.{Reader, then_act_by, acts_by, BeginsWellBy, MeansBy, joined, refused, cut_and_refused, IsCauseBy, cause_of, IsCauseOfStop}
+use Rattle.cif_lex.specs.declared.command.{Command.Command, Next.TheVariants.{Whole, Cut, End}}
+use Rattle.cif_lex.specs.{Blanks.{semicolon, IsGap}, Commands.{IsPiece, IsNext, Follows}}
+use Rattle.cif_read.specs.declared.fault.{CifKind.CifKind, Stop.{Stop, TheVariants.{Refused, OutOfMemory}}}
+use Rattle.cif_read.specs.Readers.{Reader, then_act_by, acts_by, BeginsWellBy, MeansBy, joined, refused}
+use Rattle.cif_read.specs.Readers.{cut_and_refused, IsCauseBy, cause_of, IsCauseOfStop}
 
 pub begins_none : {S D : Type 0} (reader : Reader S D) (text : List ℕ) → BeginsWellBy reader text 0 reader.start
 begins_none reader text = record { pieces = []; commands = []; spelled = tt; rest = text; cut = refl; counted = refl; done = refl }

@@ -1,23 +1,16 @@
 -- What a call adds, and what a command's answer is.
-use Rattle.std.proofs.Common.{◌≡◌, ℕ, ◌<◌, ◌^◌, ℤ, pos, negsuc, ◌*ℤ◌, Bool, true, false, ◌||◌, int_lt, unsigned_abs, FitsSigned, of_z, to_z, w64, Option, Some, None, is_some, Result, Ok, Err, OnOk, IfErr, List, [], ◌∷◌, ◌++◌, map, length, refl, sym, ap, ◌∙◌, subst, arith}
-use Rattle.std.specs.Ordering.{nat_cmp}
-use Rattle.std.specs.BTreeMap.{BTreeMap, get}
-use Rattle.std.proofs.lemmas.List.{map_push}
-use Rattle.std.proofs.lemmas.Int.{ints, to_z-of_z, fits_signed_mul}
-use Rattle.std.proofs.lemmas.Bool.{false≢true}
-use Rattle.cif_lex.specs.declared.command.Command.TheVariants.{Area}
-use Rattle.cif_lex.specs.Commands.{is_far}
+use Rattle.std.proofs.Common.{◌≡◌, ℕ, ◌<◌, ◌^◌, ℤ, pos, negsuc, ◌*ℤ◌, Bool, true, false, ◌||◌, int_lt, unsigned_abs}
+use Rattle.std.proofs.Common.{FitsSigned, of_z, to_z, w64, Option, Some, None, is_some, Result, Ok, Err, OnOk, IfErr}
+use Rattle.std.proofs.Common.{List, [], ◌∷◌, ◌++◌, map, length, refl, sym, ap, ◌∙◌, subst, arith}
+use Rattle.std.proofs.lemmas.{List.map_push, Int.{ints, to_z-of_z, fits_signed_mul}, Bool.false≢true}
+use Rattle.std.specs.{Ordering.nat_cmp, BTreeMap.{BTreeMap, get}}
+use Rattle.cif_lex.specs.{declared.command.Command.TheVariants.Area, Commands.is_far}
 use Rattle.lam_geom.specs.declared.boxes.MaskBox.{MaskBox}
-use Rattle.cif_read.specs.declared.fault.CifKind.TheVariants.{BadNumber}
-use Rattle.cif_read.specs.declared.state.Begun.{Begun}
-use Rattle.cif_read.specs.declared.file.CifStep.{CifStep}
-use Rattle.cif_read.specs.declared.file.CifStep.TheVariants.{Called}
-use Rattle.cif_read.specs.Sheets.{Symbol, Step, called}
-use Rattle.cif_read.specs.Acts.{State, Definition, act, placed, placed_in, called_at, is_bad_symbol, is_bad_area, is_bad_call, is_known, place_of}
-use Rattle.cif_read.specs.Files.{step_of, IsWithin}
-use Rattle.cif_read.specs.Readings.{HasPlaces, begun_of}
-use Rattle.cif_read.proofs.Scales.{neither, near_from, distance}
-use Rattle.cif_read.proofs.Sound.{known_at, place_below}
+use Rattle.cif_read.specs.declared.{fault.CifKind.TheVariants.BadNumber, state.Begun.Begun, file.CifStep.CifStep}
+use Rattle.cif_read.specs.{declared.file.CifStep.TheVariants.Called, Sheets.{Symbol, Step, called}, Acts.State}
+use Rattle.cif_read.specs.Acts.{Definition, act, placed, placed_in, called_at, is_bad_symbol, is_bad_area, is_bad_call}
+use Rattle.cif_read.specs.{Acts.{is_known, place_of}, Files.{step_of, IsWithin}, Readings.{HasPlaces, begun_of}}
+use Rattle.cif_read.proofs.{Scales.{neither, near_from, distance}, Sound.{known_at, place_below}}
 
 -- ---- the numbers of a call
 

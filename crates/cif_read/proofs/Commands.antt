@@ -1,9 +1,8 @@
 -- What each command is answered.
 use Rattle.std.proofs.Common.{◌≡◌, ℕ, ℤ, FitsSigned, of_z, to_z, w64, Bool, true, false, Ok, Err, refl}
 use Rattle.std.proofs.lemmas.Int.{to_z-of_z}
-use Rattle.cif_lex.specs.declared.command.Command.{Command}
-use Rattle.cif_lex.specs.declared.command.Command.TheVariants.{Nothing, Define, Finish, Layer, Call, Extension}
-use Rattle.cif_lex.specs.declared.placement.Placement.{Placement}
+use Rattle.cif_lex.specs.declared.command.Command.{Command, TheVariants.{Nothing, Define, Finish, Layer, Call}}
+use Rattle.cif_lex.specs.declared.{command.Command.TheVariants.Extension, placement.Placement.Placement}
 use Rattle.cif_read.specs.declared.fault.CifKind.TheVariants.{BadCommand}
 use Rattle.cif_read.specs.Acts.{State, Named, act, defined, finished, named, called_at}
 

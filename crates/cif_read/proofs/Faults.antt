@@ -1,19 +1,14 @@
 -- A text means one sheet or has one first fault.
-use Rattle.std.proofs.Common.{◌≡◌, ℕ, ◌+◌, ◌⊎◌, inl, inr, true, false, Ok, Err, List, [], ◌∷◌, ◌++◌, length, drop, refl, sym, ap, ◌∙◌, subst, arith, length-append}
-use Rattle.std.proofs.lemmas.Bool.{false≢true}
-use Rattle.std.proofs.lemmas.List.{drop_at}
-use Rattle.cif_lex.specs.declared.command.Next.{Next}
-use Rattle.cif_lex.specs.declared.command.Next.TheVariants.{Whole, Cut, Bad, End, Missing}
-use Rattle.cif_lex.specs.declared.command.Tail.{Tail}
+use Rattle.std.proofs.Common.{◌≡◌, ℕ, ◌+◌, ◌⊎◌, inl, inr, true, false, Ok, Err, List, [], ◌∷◌, ◌++◌, length, drop, refl}
+use Rattle.std.proofs.{Common.{sym, ap, ◌∙◌, subst, arith, length-append}, lemmas.{Bool.false≢true, List.drop_at}}
+use Rattle.cif_lex.specs.declared.command.{Next.{Next, TheVariants.{Whole, Cut, Bad, End, Missing}}, Tail.Tail}
+use Rattle.cif_lex.specs.{Blanks.IsGap, Commands.{IsNext, IsTail, NextIsDetermined, TailIsDetermined}}
 use Rattle.cif_lex.specs.declared.command.Tail.TheVariants as tails
-use Rattle.cif_lex.specs.Blanks.{IsGap}
-use Rattle.cif_lex.specs.Commands.{IsNext, IsTail, NextIsDetermined, TailIsDetermined}
-use Rattle.cif_read.specs.declared.fault.CifFault.{CifFault}
-use Rattle.cif_read.specs.declared.fault.CifKind.{CifKind}
-use Rattle.cif_read.specs.declared.fault.CifKind.TheVariants.{BadCommand, NestedDefinition, NoEnd, AfterEnd}
-use Rattle.cif_read.specs.Readers.{Reader, joined, BeginsWellBy, MeansBy, IsFaultBy, no_command, refused, cut_and_refused, cut, missing, end_inside, filled, unclosed, IsFirstFaultBy, IsDeterminedBy}
-use Rattle.cif_read.proofs.Beginnings.{end_left, end_length}
-use Rattle.cif_read.proofs.Walks.{walks_well, GoesOn, Compared, compared}
+use Rattle.cif_read.specs.declared.fault.{CifFault.CifFault, CifKind.{CifKind, TheVariants.BadCommand}}
+use Rattle.cif_read.specs.{declared.fault.CifKind.TheVariants.{NestedDefinition, NoEnd, AfterEnd}, Readers.Reader}
+use Rattle.cif_read.specs.Readers.{joined, BeginsWellBy, MeansBy, IsFaultBy, no_command, refused, cut_and_refused, cut}
+use Rattle.cif_read.specs.Readers.{missing, end_inside, filled, unclosed, IsFirstFaultBy, IsDeterminedBy}
+use Rattle.cif_read.proofs.{Beginnings.{end_left, end_length}, Walks.{walks_well, GoesOn, Compared, compared}}
 
 -- ---- where a reading of a meaning ends
 

@@ -1,13 +1,10 @@
 -- All boxes of a file, step by step.
-use Rattle.std.proofs.Common.{◌≡◌, ℕ, ◌+◌, ◌<◌, ◌≤◌, ℤ, List, [], ◌∷◌, ◌++◌, map, length, get_or, take, drop, refl, sym, ap, ◌∙◌, arith, length-append}
-use Rattle.std.specs.List.{flat_map}
-use Rattle.std.proofs.lemmas.List.{append-nil, append_assoc, take_more, take_all, take-append-drop, map_push}
-use Rattle.std.proofs.lemmas.List.Concat.{flat_map-append}
+use Rattle.std.proofs.Common.{◌≡◌, ℕ, ◌+◌, ◌<◌, ◌≤◌, ℤ, List, [], ◌∷◌, ◌++◌, map, length, get_or, take, drop, refl, sym}
+use Rattle.std.proofs.{Common.{ap, ◌∙◌, arith, length-append}, lemmas.List.{append-nil, append_assoc, take_more}}
+use Rattle.std.{proofs.lemmas.List.{take_all, take-append-drop, map_push, Concat.flat_map-append}, specs.List.flat_map}
 use Rattle.lam_geom.specs.declared.boxes.MaskBox.{MaskBox}
-use Rattle.cif_read.specs.declared.file.CifFile.{CifFile}
-use Rattle.cif_read.specs.declared.file.CifStep.{CifStep}
-use Rattle.cif_read.specs.Sheets.{moved, flattened}
-use Rattle.cif_read.specs.Files.{drawn_of, drawn_in_step, sheet_of}
+use Rattle.cif_read.specs.declared.file.{CifFile.CifFile, CifStep.CifStep}
+use Rattle.cif_read.specs.{Sheets.{moved, flattened}, Files.{drawn_of, drawn_in_step, sheet_of}}
 
 flat_map_map : {X Y Z : Type 0} (f : Y → List Z) (g : X → Y) (xs : List X) → flat_map f (map g xs) ≡ flat_map (λ x. f (g x)) xs
 flat_map_map f g [] = refl

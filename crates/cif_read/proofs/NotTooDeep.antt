@@ -1,15 +1,14 @@
 -- No command is refused as too deep.
-use Rattle.std.proofs.Common.{◌≡◌, ℕ, ℤ, Bool, true, false, cond, Option, Some, None, is_some, Result, Ok, Err, IfErr, IsErrAnd, List, ap, sym, subst, ◌∙◌}
-use Rattle.cif_lex.specs.declared.command.Command.{Command}
-use Rattle.cif_lex.specs.declared.command.Command.TheVariants.{Nothing, Define, Finish, Layer, Area, Call, Extension}
-use Rattle.cif_read.specs.declared.fault.CifKind.{CifKind}
-use Rattle.cif_read.specs.declared.fault.CifKind.TheVariants.{BadCommand, BadNumber, NestedDefinition, RepeatedSymbol, UnknownSymbol, NoLayer, OddScale, TooDeep}
-use Rattle.cif_read.specs.declared.fault.CifReadFault.{CifReadFault}
-use Rattle.cif_read.specs.declared.fault.CifReadFault.TheVariants.{Cif, OutOfMemory}
-use Rattle.cif_read.specs.Acts.{State, Definition, Named, act, is_bad_call, is_known, finished, placed, placed_in, boxed, called_at}
-use Rattle.cif_read.specs.Readers.{IsFaultBy, no_command, refused, cut_and_refused, cut, missing, end_inside, filled, unclosed}
-use Rattle.cif_read.specs.Meaning.{reader}
-use Rattle.cif_read.specs.Files.{IsCauseOf, IsNotTooDeep}
+use Rattle.std.proofs.Common.{◌≡◌, ℕ, ℤ, Bool, true, false, cond, Option, Some, None, is_some, Result, Ok, Err, IfErr}
+use Rattle.std.proofs.Common.{IsErrAnd, List, ap, sym, subst, ◌∙◌}
+use Rattle.cif_lex.specs.declared.command.Command.{Command, TheVariants.{Nothing, Define, Finish, Layer, Area, Call}}
+use Rattle.cif_lex.specs.declared.command.Command.TheVariants.{Extension}
+use Rattle.cif_read.specs.declared.fault.CifKind.{CifKind, TheVariants.{BadCommand, BadNumber, NestedDefinition}}
+use Rattle.cif_read.specs.declared.fault.CifKind.TheVariants.{RepeatedSymbol, UnknownSymbol, NoLayer, OddScale, TooDeep}
+use Rattle.cif_read.specs.{declared.fault.CifReadFault.{CifReadFault, TheVariants.{Cif, OutOfMemory}}, Acts.State}
+use Rattle.cif_read.specs.Acts.{Definition, Named, act, is_bad_call, is_known, finished, placed, placed_in, boxed}
+use Rattle.cif_read.specs.{Acts.called_at, Readers.{IsFaultBy, no_command, refused, cut_and_refused, cut, missing}}
+use Rattle.cif_read.specs.{Readers.{end_inside, filled, unclosed}, Meaning.reader, Files.{IsCauseOf, IsNotTooDeep}}
 
 record IsShallow (answer : Result State CifKind) : Type 0 where
   never : answer ≡ Err TooDeep → ⊥

@@ -1,11 +1,9 @@
 -- What a box adds.
-use Rattle.std.proofs.Common.{◌≡◌, ℕ, ◌+◌, ◌≤◌, ℤ, false, Option, Some, Ok, List, [], ◌∷◌, ◌++◌, map, length, refl, ap, ◌∙◌, arith}
-use Rattle.std.proofs.lemmas.List.{map_push, length_push}
-use Rattle.lam_geom.specs.declared.boxes.MaskLayer.{MaskLayer}
-use Rattle.lam_geom.specs.declared.boxes.MaskBox.{MaskBox}
-use Rattle.cif_read.specs.Sheets.{Drawn, Step, own}
-use Rattle.cif_read.specs.Acts.{State, Definition, Named, placed, placed_in, is_odd_area, scaled, drawn_box}
-use Rattle.cif_read.specs.Files.{drawn_of}
+use Rattle.std.proofs.Common.{◌≡◌, ℕ, ◌+◌, ◌≤◌, ℤ, false, Option, Some, Ok, List, [], ◌∷◌, ◌++◌, map, length, refl, ap}
+use Rattle.std.proofs.{Common.{◌∙◌, arith}, lemmas.List.{map_push, length_push}}
+use Rattle.lam_geom.specs.declared.boxes.{MaskLayer.MaskLayer, MaskBox.MaskBox}
+use Rattle.cif_read.specs.{Sheets.{Drawn, Step, own}, Acts.{State, Definition, Named, placed, placed_in, is_odd_area}}
+use Rattle.cif_read.specs.{Acts.{scaled, drawn_box}, Files.drawn_of}
 
 -- in a definition
 pub placed_in_done : (state : State) (d : Definition) (named : Option Named) (layer : MaskLayer) (l w x y : ℤ) (boxes : List Drawn)

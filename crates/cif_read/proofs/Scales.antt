@@ -1,19 +1,14 @@
 -- What the numbers of boxes are in a definition's scale.
-use Rattle.std.proofs.Common.{◌≡◌, ◌≢◌, ℕ, zero, suc, ◌*◌, ◌/◌, ◌%◌, ◌^◌, ◌<◌, ◌≤◌, ℤ, pos, negsuc, neg_ℤ, ◌*ℤ◌, ◌≤ℤ◌, Bool, true, false, not, ◌||◌, eqb, int_lt, unsigned_abs, int_div, int_rem, FitsSigned, of_z, to_z, w64, refl, sym, ap, ◌∙◌, subst, arith}
-use Rattle.std.specs.Ordering.{int_eq}
-use Rattle.std.proofs.lemmas.Int.{ints, to_z-of_z, fits_signed_mul, fits_signed_from_abs, unsigned_abs-mul}
-use Rattle.std.proofs.lemmas.Bool.{false≢true}
-use Rattle.std.proofs.lemmas.Bool.Decides.{Decides-int_eq}
-use Rattle.std.proofs.Math.Nat.{div-le_self, div-add-mod}
+use Rattle.std.proofs.Common.{◌≡◌, ◌≢◌, ℕ, zero, suc, ◌*◌, ◌/◌, ◌%◌, ◌^◌, ◌<◌, ◌≤◌, ℤ, pos, negsuc, neg_ℤ, ◌*ℤ◌, ◌≤ℤ◌}
+use Rattle.std.proofs.Common.{Bool, true, false, not, ◌||◌, eqb, int_lt, unsigned_abs, int_div, int_rem, FitsSigned}
+use Rattle.std.proofs.{Common.{of_z, to_z, w64, refl, sym, ap, ◌∙◌, subst, arith}, lemmas.Int.{ints, to_z-of_z}}
+use Rattle.std.proofs.lemmas.{Int.{fits_signed_mul, fits_signed_from_abs, unsigned_abs-mul}, Bool.false≢true}
+use Rattle.std.{proofs.{lemmas.Bool.Decides.Decides-int_eq, Math.Nat.{div-le_self, div-add-mod}}, specs.Ordering.int_eq}
 use lib.Signed.{mag_rem}
 use borrow.Author.Tests.{eqb-true, ltb-false}
-use Rattle.cif_lex.specs.Words.{limit}
-use Rattle.cif_lex.specs.Commands.{is_far}
-use Rattle.cif_lex.specs.Shifts.{is_odd}
-use Rattle.cif_read.specs.Acts.{scaled, is_odd_area, is_bad_length, is_bad_factor, is_bad_area}
-use Rattle.cif_read.specs.Files.{IsWithin}
-use Rattle.cif_read.specs.Scales.{IsFactor}
-use Rattle.cif_read.specs.Readings.{IsExtent}
+use Rattle.cif_lex.specs.{Words.limit, Commands.is_far, Shifts.is_odd}
+use Rattle.cif_read.specs.{Acts.{scaled, is_odd_area, is_bad_length, is_bad_factor, is_bad_area}, Files.IsWithin}
+use Rattle.cif_read.specs.{Scales.IsFactor, Readings.IsExtent}
 
 pub distance : (reach : ℕ) (z : ℤ) → IsWithin reach z → unsigned_abs z ≤ reach
 distance reach (pos n) h = omega (arith, ints)

@@ -1,13 +1,9 @@
 -- Boxes that have an inside, and whose sides lie within so much of the origin.
-use Rattle.std.proofs.Common.{◌≡◌, ℕ, ◌<◌, ◌≤◌, ◌^◌, ℤ, List, [], ◌∷◌, ◌++◌, map, length, get_or, sym, ap, ◌∙◌, subst, arith}
-use Rattle.std.specs.List.{All}
-use Rattle.std.proofs.lemmas.List.{map_push, length-map, get_or-map}
-use Rattle.std.proofs.lemmas.List.Elements.{All-push, All-nil, All-get_or}
-use Rattle.std.proofs.lemmas.Int.{ints}
-use Rattle.lam_geom.specs.declared.boxes.MaskBox.{MaskBox}
-use Rattle.lam_geom.specs.Places.{IsPlace, IsPlacedBox}
-use Rattle.cif_read.specs.Sheets.{Drawn}
-use Rattle.cif_read.specs.Files.{drawn_of, IsSolid, IsSolidWithin, IsWithin}
+use Rattle.std.proofs.Common.{◌≡◌, ℕ, ◌<◌, ◌≤◌, ◌^◌, ℤ, List, [], ◌∷◌, ◌++◌, map, length, get_or, sym, ap, ◌∙◌, subst}
+use Rattle.std.proofs.{Common.arith, lemmas.List.{map_push, length-map, get_or-map, Elements.{All-push, All-nil}}}
+use Rattle.std.{proofs.lemmas.{List.Elements.All-get_or, Int.ints}, specs.List.All}
+use Rattle.lam_geom.specs.{declared.boxes.MaskBox.MaskBox, Places.{IsPlace, IsPlacedBox}}
+use Rattle.cif_read.specs.{Sheets.Drawn, Files.{drawn_of, IsSolid, IsSolidWithin, IsWithin}}
 
 -- ---- within more
 

@@ -1,25 +1,18 @@
 -- What a reader keeps stays sound.
-use Rattle.std.proofs.Common.{◌≡◌, ◌≢◌, ℕ, zero, suc, ◌+◌, ◌<◌, ◌≤◌, ◌^◌, ℤ, pos, Bool, true, false, cond, ◌||◌, Option, Some, None, IfSome, is_some, List, [], ◌∷◌, ◌++◌, map, length, get_or, refl, sym, ap, ◌∙◌, subst, arith, inl, inr}
-use Rattle.std.specs.List.{All, AllByRecursion, flat_map, range_with_len}
-use Rattle.std.specs.Ordering.{nat_cmp, is_eq}
-use Rattle.std.specs.BTreeMap.{BTreeMap, get, Updates}
-use Rattle.std.proofs.lemmas.Grind.{flat_map-append}
-use Rattle.std.proofs.lemmas.List.{append-nil, map_push, length_push, length-map, get_or_append_left, get_or_at}
-use Rattle.std.proofs.lemmas.List.Elements.{All-push, All-weaker, recursion_from_All}
-use Rattle.std.proofs.lemmas.Bool.{cases_eq, false≢true}
-use Rattle.cif_read.proofs.Scales.{is_no}
-use Rattle.std.proofs.lemmas.Bool.Decides.{Decides-int_eq, nat_tests}
-use Rattle.lam_geom.specs.declared.boxes.MaskBox.{MaskBox}
-use Rattle.cif_read.specs.declared.file.CifSymbol.{CifSymbol}
-use Rattle.cif_read.specs.declared.file.CifStep.{CifStep}
-use Rattle.cif_read.specs.declared.file.CifStep.TheVariants.{Own, Called}
-use Rattle.cif_read.specs.declared.state.Begun.{Begun}
-use Rattle.cif_read.specs.declared.state.Reading.{Reading}
-use Rattle.cif_read.specs.Sheets.{Symbol, Drawn, own}
-use Rattle.cif_read.specs.Acts.{is_known, place_of, has_number}
-use Rattle.cif_read.specs.Files.{drawn_of, symbol_of, step_of, no_box, places_of_step, NamesInOrder, IsSolidWithin, IsStepOf}
+use Rattle.std.proofs.Common.{◌≡◌, ◌≢◌, ℕ, zero, suc, ◌+◌, ◌<◌, ◌≤◌, ◌^◌, ℤ, pos, Bool, true, false, cond, ◌||◌, Option}
+use Rattle.std.proofs.Common.{Some, None, IfSome, is_some, List, [], ◌∷◌, ◌++◌, map, length, get_or, refl, sym, ap, ◌∙◌}
+use Rattle.std.proofs.{Common.{subst, arith, inl, inr}, lemmas.{Grind.flat_map-append, List.{append-nil, map_push}}}
+use Rattle.std.proofs.lemmas.List.{length_push, length-map, get_or_append_left, get_or_at, Elements.All-push}
+use Rattle.std.proofs.lemmas.{List.Elements.{All-weaker, recursion_from_All}, Bool.{cases_eq, false≢true}}
+use Rattle.std.{proofs.lemmas.Bool.Decides.{Decides-int_eq, nat_tests}, specs.List.{All, AllByRecursion, flat_map}}
+use Rattle.std.specs.{List.range_with_len, Ordering.{nat_cmp, is_eq}, BTreeMap.{BTreeMap, get, Updates}}
+use Rattle.cif_read.proofs.{Scales.is_no, Solid.solid_pushed}
+use Rattle.cif_read.specs.declared.file.{CifSymbol.CifSymbol, CifStep.{CifStep, TheVariants.{Own, Called}}}
+use Rattle.cif_read.specs.declared.state.{Begun.Begun, Reading.Reading}
+use Rattle.cif_read.specs.{Sheets.{Symbol, Drawn, own}, Acts.{is_known, place_of, has_number}, Files.drawn_of}
+use Rattle.cif_read.specs.Files.{symbol_of, step_of, no_box, places_of_step, NamesInOrder, IsSolidWithin, IsStepOf}
 use Rattle.cif_read.specs.Readings.{IsSoundBegun, AreSound, IsSound, HasPlaces, place_among}
-use Rattle.cif_read.proofs.Solid.{solid_pushed}
+use Rattle.lam_geom.specs.declared.boxes.MaskBox.{MaskBox}
 
 -- ---- one more
 

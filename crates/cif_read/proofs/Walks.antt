@@ -1,13 +1,10 @@
 -- Two readings of one text go the same way.
-use Rattle.std.proofs.Common.{◌≡◌, ℕ, zero, suc, ◌+◌, ◌≤◌, ◌⊎◌, inl, inr, Result, Ok, Err, List, [], ◌∷◌, ◌++◌, length, drop, fold, refl, sym, ap, ◌∙◌, subst, arith, length-append, length-drop}
-use Rattle.std.specs.List.{AllZip}
-use Rattle.std.proofs.lemmas.List.{append_assoc, drop-drop, drop_at}
-use Rattle.cif_lex.specs.declared.command.Command.{Command}
-use Rattle.cif_lex.specs.declared.command.Next.TheVariants.{Whole}
-use Rattle.cif_lex.specs.Blanks.{semicolon}
+use Rattle.std.proofs.Common.{◌≡◌, ℕ, zero, suc, ◌+◌, ◌≤◌, ◌⊎◌, inl, inr, Result, Ok, Err, List, [], ◌∷◌, ◌++◌, length}
+use Rattle.std.proofs.Common.{drop, fold, refl, sym, ap, ◌∙◌, subst, arith, length-append, length-drop}
+use Rattle.std.{proofs.lemmas.List.{append_assoc, drop-drop, drop_at}, specs.List.AllZip}
+use Rattle.cif_lex.specs.{declared.command.{Command.Command, Next.TheVariants.Whole}, Blanks.semicolon}
 use Rattle.cif_lex.specs.Commands.{IsPiece, IsNext, NextIsDetermined}
-use Rattle.cif_read.specs.declared.fault.CifKind.{CifKind}
-use Rattle.cif_read.specs.Readers.{Reader, then_act_by, joined, BeginsWellBy}
+use Rattle.cif_read.specs.{declared.fault.CifKind.CifKind, Readers.{Reader, then_act_by, joined, BeginsWellBy}}
 use Rattle.cif_read.proofs.Beginnings.{piece_left, piece_length}
 
 -- ---- from a place and a state to others, in so many commands

@@ -1,14 +1,12 @@
 -- What each command of CIF does, and why it may not stand where it stands.
-use Rattle.std.specs.Prelude.{ℕ, ◌+◌, ℤ, pos, ◌+ℤ◌, ◌-ℤ◌, ◌*ℤ◌, int_lt, int_div, Bool, ◌||◌, if◌then◌else◌, Option, Some, None, is_some, Result, Ok, Err, List, [], ◌∷◌, ◌++◌}
-use Rattle.std.specs.List.{list_any}
+use Rattle.std.specs.Prelude.{ℕ, ◌+◌, ℤ, pos, ◌+ℤ◌, ◌-ℤ◌, ◌*ℤ◌, int_lt, int_div, Bool, ◌||◌, if◌then◌else◌, Option}
+use Rattle.std.specs.{Prelude.{Some, None, is_some, Result, Ok, Err, List, [], ◌∷◌, ◌++◌}, List.list_any}
 use Rattle.std.specs.Ordering.{int_eq}
 use Rattle.lam_geom.specs.declared.boxes.MaskLayer.{MaskLayer}
-use Rattle.cif_lex.specs.declared.command.Command.{Command}
-use Rattle.cif_lex.specs.declared.command.Command.TheVariants.{Nothing, Define, Finish, Layer, Area, Call, Extension}
-use Rattle.cif_lex.specs.Commands.{is_far}
-use Rattle.cif_lex.specs.Shifts.{is_odd}
-use Rattle.cif_read.specs.declared.fault.CifKind.{CifKind}
-use Rattle.cif_read.specs.declared.fault.CifKind.TheVariants.{BadCommand, BadNumber, NestedDefinition, RepeatedSymbol, UnknownSymbol, NoLayer, OddScale}
+use Rattle.cif_lex.specs.declared.command.Command.{Command, TheVariants.{Nothing, Define, Finish, Layer, Area, Call}}
+use Rattle.cif_lex.specs.{declared.command.Command.TheVariants.Extension, Commands.is_far, Shifts.is_odd}
+use Rattle.cif_read.specs.declared.fault.CifKind.{CifKind, TheVariants.{BadCommand, BadNumber, NestedDefinition}}
+use Rattle.cif_read.specs.declared.fault.CifKind.TheVariants.{RepeatedSymbol, UnknownSymbol, NoLayer, OddScale}
 use Rattle.cif_read.specs.Sheets.{Drawn, Symbol, Step, own, called}
 
 -- ---- what has been read so far

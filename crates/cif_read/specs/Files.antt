@@ -1,18 +1,11 @@
 -- What a file that has been read holds, as a sheet.
-use Rattle.std.specs.Prelude.{◌≡◌, ℕ, ◌≢◌, ◌<◌, ◌≤◌, ◌^◌, ℤ, pos, neg_ℤ, ◌≤ℤ◌, ◌<ℤ◌, All, List, [], ◌∷◌, map, length, slice_index_or}
-use Rattle.std.specs.List.{flat_map, range_with_len}
-use Rattle.lam_geom.specs.declared.boxes.MaskBox.{MaskBox}
-use Rattle.lam_geom.specs.declared.boxes.MaskLayer.TheVariants.{ND}
-use Rattle.cif_read.specs.declared.fault.CifReadFault.{CifReadFault}
-use Rattle.cif_read.specs.declared.fault.CifReadFault.TheVariants.{Cif, OutOfMemory}
-use Rattle.cif_read.specs.declared.file.CifFile.{CifFile}
-use Rattle.cif_read.specs.declared.file.CifSymbol.{CifSymbol}
-use Rattle.cif_read.specs.declared.file.CifStep.{CifStep}
-use Rattle.cif_read.specs.declared.file.CifStep.TheVariants.{Own, Called}
-use Rattle.cif_read.specs.Sheets.{Drawn, Symbol, Step, own, called, Sheet, boxes_of_step}
-use Rattle.cif_read.specs.declared.fault.CifKind.TheVariants.{TooDeep}
-use Rattle.cif_read.specs.Readers.{IsCauseBy}
-use Rattle.cif_read.specs.Meaning.{reader}
+use Rattle.std.specs.Prelude.{◌≡◌, ℕ, ◌≢◌, ◌<◌, ◌≤◌, ◌^◌, ℤ, pos, neg_ℤ, ◌≤ℤ◌, ◌<ℤ◌, All, List, [], ◌∷◌, map, length}
+use Rattle.std.specs.{Prelude.slice_index_or, List.{flat_map, range_with_len}}
+use Rattle.lam_geom.specs.declared.boxes.{MaskBox.MaskBox, MaskLayer.TheVariants.ND}
+use Rattle.cif_read.specs.declared.fault.CifReadFault.{CifReadFault, TheVariants.{Cif, OutOfMemory}}
+use Rattle.cif_read.specs.declared.{fault.CifKind.TheVariants.TooDeep, file.{CifFile.CifFile, CifSymbol.CifSymbol}}
+use Rattle.cif_read.specs.{declared.file.CifStep.{CifStep, TheVariants.{Own, Called}}, Sheets.{Drawn, Symbol, Step}}
+use Rattle.cif_read.specs.{Sheets.{own, called, Sheet, boxes_of_step}, Readers.IsCauseBy, Meaning.reader}
 
 abbrev pub drawn_of : MaskBox → Drawn
 drawn_of box = record { layer = box.layer; left = box.area.x.lo; right = box.area.x.hi; bottom = box.area.y.lo; top = box.area.y.hi }

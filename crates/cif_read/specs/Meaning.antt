@@ -1,10 +1,7 @@
 -- The meaning of a CIF text, and the first fault of one that has none.
 use Rattle.std.specs.Prelude.{ℕ, is_some, Result, List}
 use Rattle.cif_lex.specs.declared.command.Command.{Command}
-use Rattle.cif_read.specs.declared.fault.CifKind.{CifKind}
-use Rattle.cif_read.specs.declared.fault.CifFault.{CifFault}
-use Rattle.cif_read.specs.Sheets.{Sheet}
-use Rattle.cif_read.specs.Acts.{State, start, act}
+use Rattle.cif_read.specs.{declared.fault.{CifKind.CifKind, CifFault.CifFault}, Sheets.Sheet, Acts.{State, start, act}}
 use Rattle.cif_read.specs.Readers.{Reader, then_act_by, acts_by, BeginsWellBy, MeansBy, IsFirstFaultBy, IsDeterminedBy}
 
 -- The reader of one level of symbols: a call may stand at the top alone, and only shifts.

@@ -1,18 +1,13 @@
 -- What a CIF text means to a reader, and its first fault: the same for every reader, whatever a command does in it.
-use Rattle.std.specs.Prelude.{◌≡◌, ℕ, ◌+◌, ◌^◌, ◌≤◌, Bool, true, false, Result, Ok, Err, List, ◌++◌, ◌∷◌, length, flat_map, fold}
-use Rattle.std.specs.List.{AllZip}
-use Rattle.cif_lex.specs.declared.command.Command.{Command}
-use Rattle.cif_lex.specs.declared.command.Next.TheVariants.{Whole, Cut, Bad, End, Missing}
+use Rattle.std.specs.Prelude.{◌≡◌, ℕ, ◌+◌, ◌^◌, ◌≤◌, Bool, true, false, Result, Ok, Err, List, ◌++◌, ◌∷◌, length}
+use Rattle.std.specs.{Prelude.{flat_map, fold}, List.AllZip}
+use Rattle.cif_lex.specs.declared.command.{Command.Command, Next.TheVariants.{Whole, Cut, Bad, End, Missing}}
+use Rattle.cif_lex.specs.{Blanks.IsGap, Commands.{IsPiece, IsNext, IsTail}}
 use Rattle.cif_lex.specs.declared.command.Tail.TheVariants as tails
-use Rattle.cif_lex.specs.Blanks.{IsGap}
-use Rattle.cif_lex.specs.Commands.{IsPiece, IsNext, IsTail}
-use Rattle.cif_read.specs.declared.fault.CifFault.{CifFault}
-use Rattle.cif_read.specs.declared.fault.CifKind.{CifKind}
-use Rattle.cif_read.specs.declared.fault.CifReadFault.{CifReadFault}
-use Rattle.cif_read.specs.declared.fault.CifReadFault.TheVariants.{Cif, OutOfMemory}
-use Rattle.cif_read.specs.declared.fault.Stop.{Stop}
+use Rattle.cif_read.specs.declared.fault.{CifFault.CifFault, CifKind.{CifKind, TheVariants.BadCommand}}
+use Rattle.cif_read.specs.declared.fault.CifKind.TheVariants.{NestedDefinition, NoEnd, AfterEnd}
+use Rattle.cif_read.specs.declared.fault.{CifReadFault.{CifReadFault, TheVariants.{Cif, OutOfMemory}}, Stop.Stop}
 use Rattle.cif_read.specs.declared.fault.Stop.TheVariants as stops
-use Rattle.cif_read.specs.declared.fault.CifKind.TheVariants.{BadCommand, NestedDefinition, NoEnd, AfterEnd}
 
 -- A reader: what it begins with; what a command makes of what has been read, or the first of its faults; whether a definition is open; and what has been drawn.
 pub record Reader (State Sheet : Type 0) : Type 0 where

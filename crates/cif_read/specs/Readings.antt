@@ -1,19 +1,11 @@
 -- What a reader keeps, as a state; and what holds of it.
-use Rattle.std.specs.Prelude.{◌≡◌, ℕ, ◌≤◌, ◌^◌, ℤ, pos, ◌≤ℤ◌, All, IfSome, false, if◌then◌else◌, Option, Some, None, List, map, length, option_map}
-use Rattle.std.specs.Ordering.{nat_cmp}
-use Rattle.std.specs.BTreeMap.{BTreeMap, get}
+use Rattle.std.specs.Prelude.{◌≡◌, ℕ, ◌≤◌, ◌^◌, ℤ, pos, ◌≤ℤ◌, All, IfSome, false, if◌then◌else◌, Option, Some, None}
+use Rattle.std.specs.{Prelude.{List, map, length, option_map}, Ordering.nat_cmp, BTreeMap.{BTreeMap, get}}
 use Rattle.lam_geom.specs.declared.boxes.MaskBox.{MaskBox}
-use Rattle.cif_lex.specs.declared.command.Next.TheVariants.{End}
-use Rattle.cif_lex.specs.Commands.{IsNext}
-use Rattle.cif_read.specs.declared.file.CifSymbol.{CifSymbol}
-use Rattle.cif_read.specs.declared.file.CifStep.{CifStep}
-use Rattle.cif_read.specs.declared.state.Begun.{Begun}
-use Rattle.cif_read.specs.declared.state.Reading.{Reading}
-use Rattle.cif_read.specs.Sheets.{Symbol, Sheet}
-use Rattle.cif_read.specs.Acts.{State, Definition, is_known, place_of}
-use Rattle.cif_read.specs.Meaning.{BeginsWell}
-use Rattle.cif_read.specs.Scales.{IsScale}
-use Rattle.cif_read.specs.Files.{drawn_of, symbol_of, step_of, NamesInOrder, IsSolidWithin, IsStepOf}
+use Rattle.cif_lex.specs.{declared.command.Next.TheVariants.End, Commands.IsNext}
+use Rattle.cif_read.specs.declared.{file.{CifSymbol.CifSymbol, CifStep.CifStep}, state.{Begun.Begun, Reading.Reading}}
+use Rattle.cif_read.specs.{Sheets.{Symbol, Sheet}, Acts.{State, Definition, is_known, place_of}, Meaning.BeginsWell}
+use Rattle.cif_read.specs.{Scales.IsScale, Files.{drawn_of, symbol_of, step_of, NamesInOrder, IsSolidWithin, IsStepOf}}
 
 -- ---- as a state
 

@@ -1,10 +1,8 @@
 //! The numbers of commands, and the boxes that they make.
 ghost use Rattle.std.specs.Prelude.{◌≡◌, ◌^◌, pos, ◌+ℤ◌, ◌-ℤ◌, ◌*ℤ◌, ◌≤ℤ◌, false};
-ghost use Rattle.cif_lex.specs.Commands.{is_far};
-ghost use Rattle.cif_lex.specs.Shifts.{is_odd};
-ghost use Rattle.cif_read.specs.Acts.{is_bad_symbol, is_bad_factor, is_bad_length, is_bad_area, is_bad_call, scaled, drawn_box};
-ghost use Rattle.cif_read.specs.Files.{IsWithin, IsSolidWithin, drawn_of};
-ghost use Rattle.cif_read.specs.Scales.{IsFactor};
+ghost use Rattle.cif_lex.specs.{Commands.is_far, Shifts.is_odd};
+ghost use Rattle.cif_read.specs.Acts.{is_bad_symbol, is_bad_factor, is_bad_length, is_bad_area, is_bad_call, scaled};
+ghost use Rattle.cif_read.specs.{Acts.drawn_box, Files.{IsWithin, IsSolidWithin, drawn_of}, Scales.IsFactor};
 ghost use Rattle.cif_read.specs.Readings.{IsExtent};
 
 use cif_lex::LARGEST;

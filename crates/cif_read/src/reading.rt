@@ -2,9 +2,8 @@
 ghost use Rattle.std.specs.Prelude.{◌≡◌, ◌^◌, ◌<◌, ◌≤◌, None, IfOk, IfErr, OnOk, MatchOption, length};
 ghost use Rattle.cif_lex.specs.declared.command.Next.TheVariants as nexts;
 ghost use Rattle.cif_lex.specs.Commands.{IsNext};
-ghost use Rattle.cif_read.specs.Meaning.{Means};
-ghost use Rattle.cif_read.specs.Files.{sheet_of, NamesInOrder, CanBeFlattened, IsCauseOf, IsNotTooDeep};
-ghost use Rattle.cif_read.specs.Readings.{state_of, sheet_of_state, IsSound, HasRead, HasReadAll};
+ghost use Rattle.cif_read.specs.{Meaning.Means, Files.{sheet_of, NamesInOrder, CanBeFlattened, IsCauseOf}};
+ghost use Rattle.cif_read.specs.{Files.IsNotTooDeep, Readings.{state_of, sheet_of_state, IsSound, HasRead, HasReadAll}};
 
 use crate::fault::{CifKind, CifReadFault, cause_at, fault_at};
 use crate::file::CifFile;

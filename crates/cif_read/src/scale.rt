@@ -1,7 +1,6 @@
 //! The scale of a definition.
 ghost use Rattle.std.specs.Prelude.{◌≡◌, ◌^◌, false};
-ghost use Rattle.cif_read.specs.Acts.{is_bad_area, is_odd_area, scaled, drawn_box};
-ghost use Rattle.cif_read.specs.Files.{drawn_of, IsSolidWithin};
+ghost use Rattle.cif_read.specs.{Acts.{is_bad_area, is_odd_area, scaled, drawn_box}, Files.{drawn_of, IsSolidWithin}};
 ghost use Rattle.cif_read.specs.Scales.{IsScale};
 
 use crate::numbers::{drawn_box, is_odd, scaled};

@@ -1,9 +1,6 @@
 -- Texts cut one after another.
-use Rattle.std.proofs.Common.{◌≡◌, List, [], ◌∷◌, ◌++◌, ℕ, refl, sym, ap, ◌∙◌}
-use Rattle.std.specs.Prelude.{flat_map}
-use Rattle.std.specs.List.{AllZip}
-use Rattle.std.proofs.lemmas.List.{append-nil}
-use Rattle.std.proofs.lemmas.List.Concat.{flat_map-append}
+use Rattle.std.proofs.{Common.{◌≡◌, List, [], ◌∷◌, ◌++◌, ℕ, refl, sym, ap, ◌∙◌}, lemmas.List.append-nil}
+use Rattle.std.{proofs.lemmas.List.Concat.flat_map-append, specs.{Prelude.flat_map, List.AllZip}}
 use Rattle.cif_text.specs.Cutting.{IsCut, AreCut}
 
 all_zip_push : {A B : Type 0} (R : A → B → Type 0) (xs : List A) (ys : List B) (x : A) (y : B) → AllZip R xs ys → R x y → AllZip R (xs ++ (x ∷ [])) (ys ++ (y ∷ []))

@@ -1,11 +1,10 @@
 -- A text cut piece by piece.
-use Rattle.std.proofs.Common.{◌≡◌, ◌≢◌, ℕ, zero, suc, ◌+◌, ◌-◌, ◌==◌, ◌<◌, ◌≤◌, All, List, [], ◌∷◌, ◌++◌, append_assoc, length, map, take, drop, refl, sym, ap, subst, ◌∙◌, arith, inl, inr}
+use Rattle.std.proofs.Common.{◌≡◌, ◌≢◌, ℕ, zero, suc, ◌+◌, ◌-◌, ◌==◌, ◌<◌, ◌≤◌, All, List, [], ◌∷◌, ◌++◌, append_assoc}
+use Rattle.std.proofs.Common.{length, map, take, drop, refl, sym, ap, subst, ◌∙◌, arith, inl, inr}
+use Rattle.std.proofs.lemmas.{Bool.cases_lt, List.{length-append, append-nil, map-append, length-drop, length-take-le}}
+use Rattle.std.proofs.lemmas.List.{drop-drop, get_or-drop, get_or_append_left, get_or_push, take-append-drop, take_all}
+use Rattle.std.proofs.{lemmas.List.{Concat.flat_map-append, Elements.All-push}, Math.Seq.take-add}
 use Rattle.std.specs.Prelude.{slice_index, flat_map, if◌then◌else◌}
-use Rattle.std.proofs.lemmas.Bool.{cases_lt}
-use Rattle.std.proofs.lemmas.List.{length-append, append-nil, map-append, length-drop, length-take-le, drop-drop, get_or-drop, get_or_append_left, get_or_push, take-append-drop, take_all}
-use Rattle.std.proofs.Math.Seq.{take-add}
-use Rattle.std.proofs.lemmas.List.Concat.{flat_map-append}
-use Rattle.std.proofs.lemmas.List.Elements.{All-push}
 use Rattle.cif_text.specs.Cutting.{most_bytes, EndsLine, first_line, piece_at, IsOfLines, IsCut}
 use Rattle.cif_text.proofs.Lines.{front_ends, feed_among}
 

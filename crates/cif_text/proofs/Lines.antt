@@ -1,10 +1,8 @@
 -- Texts of lines: one behind another, and where their line feeds stand.
-use Rattle.std.proofs.Common.{◌≡◌, ℕ, ◌+◌, ◌-◌, ◌<◌, ◌≤◌, List, [], ◌∷◌, ◌++◌, length, take, refl, sym, ap, ◌∙◌, arith, inl, inr}
-use Rattle.std.specs.Prelude.{slice_index, flat_map}
-use Rattle.std.specs.List.{AllByRecursion}
-use Rattle.std.proofs.lemmas.Bool.{cases_lt}
-use Rattle.std.proofs.lemmas.List.{length-append, append-nil, get_or_append_left, get_or-append_right, get_or_push, take_more}
-use Rattle.std.proofs.lemmas.List.Concat.{flat_map-append}
+use Rattle.std.proofs.Common.{◌≡◌, ℕ, ◌+◌, ◌-◌, ◌<◌, ◌≤◌, List, [], ◌∷◌, ◌++◌, length, take, refl, sym, ap, ◌∙◌, arith}
+use Rattle.std.proofs.{Common.{inl, inr}, lemmas.{Bool.cases_lt, List.{length-append, append-nil, get_or_append_left}}}
+use Rattle.std.proofs.lemmas.List.{get_or-append_right, get_or_push, take_more, Concat.flat_map-append}
+use Rattle.std.specs.{Prelude.{slice_index, flat_map}, List.AllByRecursion}
 use Rattle.list_facts.proofs.Elements.{all_append, by_number, all_of}
 use Rattle.cif_text.specs.Cutting.{most_bytes, EndsLine, IsShortLine, IsOfLines}
 

@@ -1,26 +1,18 @@
 -- The texts of symbols and of calls are of short lines.
-use Rattle.std.proofs.Common.{◌≡◌, ℕ, suc, ◌+◌, ◌^◌, ◌<◌, ◌≤◌, ℤ, pos, Bool, true, false, cond, All, List, [], ◌∷◌, ◌++◌, length, map, filter, refl, subst, arith, append_assoc, FitsSigned, w64}
-use Rattle.std.specs.Prelude.{codes, flat_map, int_div}
-use Rattle.std.specs.List.{AllByRecursion}
+use Rattle.std.proofs.Common.{◌≡◌, ℕ, suc, ◌+◌, ◌^◌, ◌<◌, ◌≤◌, ℤ, pos, Bool, true, false, cond, All, List, [], ◌∷◌}
+use Rattle.std.proofs.Common.{◌++◌, length, map, filter, refl, subst, arith, append_assoc, FitsSigned, w64}
 use Rattle.std.proofs.lemmas.Int.{ints, fits_signed_mul}
+use Rattle.std.specs.{Prelude.{codes, flat_map, int_div}, List.AllByRecursion}
 use Rattle.lam_geom.specs.Places.{IsPlacedBox}
-use Rattle.lam_geom.specs.declared.boxes.MaskLayer.{MaskLayer}
-use Rattle.lam_geom.specs.declared.boxes.MaskLayer.TheVariants.{ND, NP, NC, NM, NI, NB}
-use Rattle.lam_geom.specs.declared.boxes.MaskBox.{MaskBox}
-use Rattle.rule_table.proofs.Sound.{sound}
-use Rattle.rule_table.specs.Bounds.{IsSize}
-use Rattle.rule_table.specs.Technology.{numbers_of}
-use Rattle.rule_table.specs.declared.technology.Tech.{Tech}
+use Rattle.lam_geom.specs.declared.boxes.{MaskLayer.{MaskLayer, TheVariants.{ND, NP, NC, NM, NI, NB}}, MaskBox.MaskBox}
+use Rattle.rule_table.{proofs.Sound.sound, specs.{Bounds.IsSize, Technology.numbers_of, declared.technology.Tech.Tech}}
 use Rattle.list_facts.proofs.Elements.{all_map}
-use Rattle.mask_out.specs.declared.drawing.Call.{Call}
-use Rattle.mask_out.specs.declared.drawing.Symbol.{Symbol}
-use Rattle.mask_out.specs.Masks.{Mask, mask_of, is_same_layer, mask_layers}
-use Rattle.mask_out.specs.Pictures.{IsCallOf}
+use Rattle.mask_out.specs.declared.drawing.{Call.Call, Symbol.Symbol}
+use Rattle.mask_out.specs.{Masks.{Mask, mask_of, is_same_layer, mask_layers}, Pictures.IsCallOf}
 use Rattle.cif_text.specs.Cif.{box_text, layer_name, layer_text, layers_text, scale_line, symbol_text}
-use Rattle.cif_text.specs.Calls.{call_text, calls_text, CanBeWritten}
-use Rattle.cif_text.specs.Cutting.{IsOfLines}
-use Rattle.cif_text.proofs.Lines.{no_line, one_line, lines_append, flat_lines}
-use Rattle.cif_text.proofs.ShortLines.{behind, end_line, of_line, box_short, call_short, scale_short}
+use Rattle.cif_text.specs.{Calls.{call_text, calls_text, CanBeWritten}, Cutting.IsOfLines}
+use Rattle.cif_text.proofs.{Lines.{no_line, one_line, lines_append, flat_lines}, ShortLines.{behind, end_line, of_line}}
+use Rattle.cif_text.proofs.ShortLines.{box_short, call_short, scale_short}
 
 all_every : {X : Type 0} (P : X → Type 0) → ((x : X) → P x) → (xs : List X) → AllByRecursion P xs
 all_every P h [] = tt

@@ -1,7 +1,6 @@
 -- How many pieces a text has.
 use Rattle.std.proofs.Common.{◌≡◌, ℕ, ◌+◌, ◌==◌, ◌<◌, ◌≤◌, Bool, true, false, List, [], ◌∷◌, length, refl, ap, arith}
-use Rattle.std.specs.Prelude.{flat_map, if◌then◌else◌}
-use Rattle.std.proofs.lemmas.List.{length-append}
+use Rattle.std.{proofs.lemmas.List.length-append, specs.Prelude.{flat_map, if◌then◌else◌}}
 use Rattle.cif_text.specs.Cutting.{most_bytes, EndsLine, first_line, IsCut}
 
 chosen_short : (c : Bool) (b : ℕ) (line text : List ℕ) → length line ≤ length text → length (if c then b ∷ [] else b ∷ line) ≤ length text + 1

@@ -1,12 +1,8 @@
 -- The lines of symbols and of calls are short.
-use Rattle.std.proofs.Common.{ℕ, ◌+◌, ◌^◌, ◌<◌, ◌≤◌, ℤ, pos, List, [], ◌∷◌, ◌++◌, length, refl, sym, ap, ◌∙◌, arith, append_assoc, FitsSigned, w64}
-use Rattle.std.specs.Prelude.{codes, decimal, int_div}
-use Rattle.std.specs.Fmt.{signed_decimal}
-use Rattle.std.proofs.lemmas.Fmt.{length-decimal-le, length_signed_le}
-use Rattle.std.proofs.lemmas.List.{length-append}
-use Rattle.cif_text.specs.Cif.{box_line, scale_line}
-use Rattle.cif_text.specs.Calls.{call_line}
-use Rattle.cif_text.specs.Cutting.{most_bytes, EndsLine, IsOfLines}
+use Rattle.std.proofs.Common.{ℕ, ◌+◌, ◌^◌, ◌<◌, ◌≤◌, ℤ, pos, List, [], ◌∷◌, ◌++◌, length, refl, sym, ap, ◌∙◌, arith}
+use Rattle.std.proofs.{Common.{append_assoc, FitsSigned, w64}, lemmas.Fmt.{length-decimal-le, length_signed_le}}
+use Rattle.std.{proofs.lemmas.List.length-append, specs.{Prelude.{codes, decimal, int_div}, Fmt.signed_decimal}}
+use Rattle.cif_text.specs.{Cif.{box_line, scale_line}, Calls.call_line, Cutting.{most_bytes, EndsLine, IsOfLines}}
 use Rattle.cif_text.proofs.Lines.{one_line}
 
 pub signed_short : (z : ℤ) → FitsSigned w64 z → length (signed_decimal z) ≤ 21

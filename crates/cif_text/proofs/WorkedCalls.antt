@@ -1,7 +1,5 @@
 -- The line of a call, against one written by hand: u has 150 hundredths of a micron.
-use Rattle.std.proofs.Common.{◌≡◌, pos, [], ◌∷◌, refl}
-use Rattle.std.specs.Prelude.{codes}
-use Rattle.std.specs.Fmt.{digits}
+use Rattle.std.{proofs.Common.{◌≡◌, pos, [], ◌∷◌, refl}, specs.{Prelude.codes, Fmt.digits}}
 use Rattle.cif_text.specs.Calls.{call_text, calls_text}
 
 worked_call : call_text (pos 150) (record { symbol = 0; x = pos 38; y = pos 0 }) ≡ codes "C 1 T 5700 0;\n"

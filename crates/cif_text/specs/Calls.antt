@@ -1,11 +1,8 @@
 -- The CIF text of a picture: its symbols, numbered from 1, its calls, and the end.
-use Rattle.std.specs.Prelude.{ℕ, ◌+◌, ◌^◌, ◌<◌, ◌≤◌, ℤ, ◌*ℤ◌, All, List, [], ◌∷◌, ◌++◌, length, map, codes, flat_map, decimal, slice_index_or}
-use Rattle.std.specs.Fmt.{signed_decimal}
-use Rattle.std.specs.List.{range_with_len}
+use Rattle.std.specs.Prelude.{ℕ, ◌+◌, ◌^◌, ◌<◌, ◌≤◌, ℤ, ◌*ℤ◌, All, List, [], ◌∷◌, ◌++◌, length, map, codes, flat_map}
+use Rattle.std.specs.{Prelude.{decimal, slice_index_or}, Fmt.signed_decimal, List.range_with_len}
 use Rattle.lam_geom.specs.Places.{IsPlacedBox}
-use Rattle.mask_out.specs.declared.drawing.Call.{Call}
-use Rattle.mask_out.specs.declared.drawing.Picture.{Picture}
-use Rattle.mask_out.specs.declared.drawing.Symbol.{Symbol}
+use Rattle.mask_out.specs.declared.drawing.{Call.Call, Picture.Picture, Symbol.Symbol}
 use Rattle.mask_out.specs.Pictures.{Drawing, no_drawing, IsWithin, IsCallOf}
 use Rattle.cif_text.specs.Cif.{symbol_text}
 

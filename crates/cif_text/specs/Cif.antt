@@ -1,8 +1,7 @@
 -- The CIF text of a symbol.
-use Rattle.std.specs.Prelude.{ℕ, ℤ, pos, int_div, ◌+ℤ◌, ◌-ℤ◌, ◌*ℤ◌, List, [], ◌∷◌, ◌++◌, filter, codes, flat_map, decimal}
-use Rattle.std.specs.Fmt.{signed_decimal}
-use Rattle.lam_geom.specs.declared.boxes.MaskLayer.{MaskLayer}
-use Rattle.lam_geom.specs.declared.boxes.MaskLayer.TheVariants.{ND, NP, NC, NM, NI, NB}
+use Rattle.std.specs.Prelude.{ℕ, ℤ, pos, int_div, ◌+ℤ◌, ◌-ℤ◌, ◌*ℤ◌, List, [], ◌∷◌, ◌++◌, filter, codes, flat_map}
+use Rattle.std.specs.{Prelude.decimal, Fmt.signed_decimal}
+use Rattle.lam_geom.specs.declared.boxes.MaskLayer.{MaskLayer, TheVariants.{ND, NP, NC, NM, NI, NB}}
 use Rattle.mask_out.specs.Masks.{Mask, is_same_layer, mask_layers}
 
 -- a box of CIF: its extents on x and y, and its centre

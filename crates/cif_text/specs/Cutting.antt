@@ -1,7 +1,6 @@
 -- How texts of lines are cut into pieces.
 use Rattle.std.specs.Prelude.{◌≡◌, ℕ, ◌+◌, ◌<◌, ◌≤◌, All, List, [], ◌∷◌, ◌++◌, length, flat_map, slice_index_or}
-use Rattle.std.specs.List.{AllZip}
-use Rattle.std.specs.Io.BufRead.{take_through}
+use Rattle.std.specs.{List.AllZip, Io.BufRead.take_through}
 
 -- the most bytes of a piece
 abbrev pub most_bytes : ℕ

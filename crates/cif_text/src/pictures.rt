@@ -2,8 +2,7 @@
 ghost use Rattle.std.specs.Prelude.{◌≡◌, ◌^◌, ◌<◌, All, length, map, flat_map, IfOk};
 ghost use Rattle.rule_table.specs.Technology.{numbers_of};
 ghost use Rattle.mask_out.specs.Pictures.{drawing_of};
-ghost use Rattle.cif_text.specs.Calls.{texts_of, parts_of, cif_of, CanBeWritten, IsWritable};
-ghost use Rattle.cif_text.specs.Cutting.{AreCut};
+ghost use Rattle.cif_text.specs.{Calls.{texts_of, parts_of, cif_of, CanBeWritten, IsWritable}, Cutting.AreCut};
 
 use crate::calls::text_of_calls;
 use crate::cutting::push_cut;

@@ -1,20 +1,14 @@
 -- The tree of the items of a class: its spots, and the flags of its groups.
 use Rattle.std.proofs.Common.{◌≡◌, ◌∙◌, ℕ, ◌+◌, ◌<◌, Bool, false, List, [], ◌∷◌, ◌++◌, length, Some, refl, sym, ap}
-use Rattle.std.proofs.Common.{subst, arith}
-use Rattle.std.specs.Prelude.{IsTrue}
-use Rattle.std.proofs.lemmas.List.{get_or_append_left, get_or_push, length_push}
-use Rattle.std.proofs.lemmas.List.Elements.{All-push}
-use Rattle.std.proofs.lemmas.Option.{get_or_from_slice_get, slice_get_within, slice_get-get_or}
+use Rattle.std.proofs.{Common.{subst, arith}, lemmas.List.{get_or_append_left, get_or_push, length_push}}
+use Rattle.std.proofs.lemmas.{List.Elements.All-push, Option.{get_or_from_slice_get, slice_get_within}}
+use Rattle.std.{proofs.lemmas.Option.slice_get-get_or, specs.Prelude.IsTrue}
 use Rattle.lam_geom.specs.Places.{IsPlacedBox}
-use Rattle.box_tree.specs.Groves.{group_at}
-use Rattle.box_tree.specs.declared.spots.Spot.{Spot}
-use Rattle.box_tree.specs.declared.tree.OwnedParts.{OwnedParts}
+use Rattle.box_tree.specs.{Groves.group_at, declared.{spots.Spot.Spot, tree.OwnedParts.OwnedParts}}
 use Rattle.rule_table.specs.declared.classes.Class.{Class}
-use Rattle.sym_items.specs.declared.items.Item.{Item}
-use Rattle.sym_items.specs.declared.items.Coords.{Coords}
+use Rattle.sym_items.specs.declared.items.{Item.Item, Coords.Coords}
 use Rattle.pair_rules.specs.Bound.{item_at}
-use Rattle.coarse_grid.specs.Nearby.{IsSpotOf, HasSpot, AreSpotsOf, AreFlagged, IsRunAlike}
-use Rattle.coarse_grid.proofs.Nears.{by_lt}
+use Rattle.coarse_grid.{specs.Nearby.{IsSpotOf, HasSpot, AreSpotsOf, AreFlagged, IsRunAlike}, proofs.Nears.by_lt}
 
 -- ---- spots
 

@@ -1,8 +1,6 @@
 -- Halves of sizes and the greater of two lengths, as 64 bits hold them.
-use Rattle.std.proofs.Common.{◌≡◌, ℤ, pos, negsuc, ◌+ℤ◌, ◌*ℤ◌, ◌≤ℤ◌, to_z, of_z, w64, ap, ◌∙◌, arith}
-use Rattle.std.specs.Int.{int_max}
-use Rattle.std.specs.Int.RustNames.{FitsSigned}
-use Rattle.std.proofs.lemmas.Int.{ints, clamps}
+use Rattle.std.proofs.{Common.{◌≡◌, ℤ, pos, negsuc, ◌+ℤ◌, ◌*ℤ◌, ◌≤ℤ◌, to_z, of_z, w64, ap, ◌∙◌, arith}, lemmas.Int.ints}
+use Rattle.std.{proofs.lemmas.Int.clamps, specs.Int.{int_max, RustNames.FitsSigned}}
 use Rattle.rule_table.specs.Bounds.{IsSize, IsLength}
 use Rattle.expand.specs.Variables.{half}
 

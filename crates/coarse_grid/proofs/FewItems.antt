@@ -1,17 +1,9 @@
 -- A master has few items, so that all pairs that lie near one another can be looked for by their boxes.
-use Rattle.std.proofs.Common.{◌+◌, ◌≤◌, ◌^◌, true, false, length, get_or, arith}
-use Rattle.std.proofs.lemmas.List.Sums.{sum_by-le}
-use Rattle.rule_table.specs.declared.technology.Tech.{Tech}
-use Rattle.rule_table.specs.declared.classes.Layer.{Layer}
-use Rattle.rule_table.specs.declared.classes.Layer.TheVariants.{Diffusion, Poly, Metal}
-use Rattle.cell_model.specs.declared.cell.NodeKind.{NodeKind}
-use Rattle.cell_model.specs.declared.cell.NodeKind.TheVariants.{Joint, Contact, Buried, Fet}
-use Rattle.cell_model.specs.declared.cell.Cell.{Cell}
-use Rattle.cell_model.specs.Counts.{layer_items, kind_items, node_items, wire_items, items_in}
-use Rattle.cell_model.specs.Sound.{IsLight}
-use Rattle.expand.specs.declared.master.Master.{Master}
-use Rattle.expand.specs.Masters.{IsMaster}
-use Rattle.expand.specs.Laws.{IsLawful}
+use Rattle.std.proofs.{Common.{◌+◌, ◌≤◌, ◌^◌, true, false, length, get_or, arith}, lemmas.List.Sums.sum_by-le}
+use Rattle.rule_table.specs.declared.{technology.Tech.Tech, classes.Layer.{Layer, TheVariants.{Diffusion, Poly, Metal}}}
+use Rattle.cell_model.specs.declared.cell.{NodeKind.{NodeKind, TheVariants.{Joint, Contact, Buried, Fet}}, Cell.Cell}
+use Rattle.cell_model.specs.{Counts.{layer_items, kind_items, node_items, wire_items, items_in}, Sound.IsLight}
+use Rattle.expand.specs.{declared.master.Master.Master, Masters.IsMaster, Laws.IsLawful}
 
 layer_few : (layer : Layer) → layer_items layer ≤ 2
 layer_few Metal = omega arith

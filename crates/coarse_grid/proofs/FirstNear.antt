@@ -1,17 +1,11 @@
 -- The first item to which some item is too near.
 use Rattle.std.proofs.Common.{◌≡◌, ◌∙◌, ℕ, ◌+◌, ◌<◌, ◌≤◌, true, false, List, length, get_or, refl, sym, subst, arith}
-use Rattle.rule_table.specs.declared.classes.Class.{Class}
-use Rattle.rule_table.specs.declared.classes.Class.TheVariants.{M, P, Dc, Dm, C, I, G, B}
-use Rattle.rule_table.specs.declared.technology.Tech.{Tech}
-use Rattle.rule_table.specs.Spacing.{all_classes}
-use Rattle.sym_items.specs.declared.items.Item.{Item}
-use Rattle.sym_items.specs.declared.items.Coords.{Coords}
-use Rattle.pair_rules.specs.Bound.{item_at}
-use Rattle.pair_rules.specs.Clean.{IsClean}
-use Rattle.coarse_grid.specs.Clash.{is_near_at}
-use Rattle.coarse_grid.specs.Nearby.{HasNear, IsFirstNear, IsFirstOf, IsNearOf}
-use Rattle.coarse_grid.proofs.Nears.{by_lt, all_clean, near_either}
-use Rattle.coarse_grid.proofs.NearGroups.{near_other, not_true}
+use Rattle.rule_table.specs.declared.classes.Class.{Class, TheVariants.{M, P, Dc, Dm, C, I, G, B}}
+use Rattle.rule_table.specs.{declared.technology.Tech.Tech, Spacing.all_classes}
+use Rattle.sym_items.specs.declared.items.{Item.Item, Coords.Coords}
+use Rattle.pair_rules.specs.{Bound.item_at, Clean.IsClean}
+use Rattle.coarse_grid.specs.{Clash.is_near_at, Nearby.{HasNear, IsFirstNear, IsFirstOf, IsNearOf}}
+use Rattle.coarse_grid.proofs.{Nears.{by_lt, all_clean, near_either}, NearGroups.{near_other, not_true}}
 
 -- ---- class by class
 

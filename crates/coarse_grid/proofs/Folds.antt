@@ -1,9 +1,7 @@
 -- Folds and lists over some elements, as loops make them.
-use Rattle.std.proofs.Common.{◌≡◌, ℕ, ◌+◌, ◌<◌, ◌≤◌, List, [], ◌∷◌, ◌++◌, length, map, fold, get_or, take, sym, ap, ◌∙◌, subst, append_assoc}
-use Rattle.std.specs.List.{flat_map}
-use Rattle.std.proofs.lemmas.List.{take_all, take_more, map_more, append-nil}
-use Rattle.std.proofs.lemmas.List.Sums.{fold-append}
-use Rattle.std.proofs.lemmas.List.Concat.{flat_map-append}
+use Rattle.std.proofs.Common.{◌≡◌, ℕ, ◌+◌, ◌<◌, ◌≤◌, List, [], ◌∷◌, ◌++◌, length, map, fold, get_or, take, sym, ap, ◌∙◌}
+use Rattle.std.proofs.{Common.{subst, append_assoc}, lemmas.List.{take_all, take_more, map_more, append-nil}}
+use Rattle.std.{proofs.lemmas.List.{Sums.fold-append, Concat.flat_map-append}, specs.List.flat_map}
 
 -- a fold that goes on over one more piece
 pub fold_on : {A Z : Type 0} (f : Z → A → Z) (a : Z) (front done piece : List A) (now next : Z)

@@ -1,14 +1,9 @@
 -- The lines of a coarse grid: border, lines and far border, a pitch apart, and ends that lie near one of them.
-use Rattle.std.proofs.Common.{◌≡◌, ℕ, suc, ◌+◌, ◌*◌, ◌<◌, ◌≤◌, ℤ, pos, negsuc, neg_ℤ, ◌+ℤ◌, ◌-ℤ◌, ◌*ℤ◌, ◌≤ℤ◌, List, length, refl, sym, ap, ◌∙◌, inl, inr, arith}
-use Rattle.std.specs.Prelude.{◌^◌, ◌⊎◌}
-use Rattle.std.proofs.lemmas.Int.{ints}
-use Rattle.std.proofs.Math.Nat.{mul-le-mul, mul-suc}
-use Rattle.sym_items.specs.declared.items.End.{End}
-use Rattle.sym_items.specs.Values.{value_of, value_at}
-use Rattle.sym_items.specs.Boxes.{HasSpan}
-use Rattle.coarse_grid.specs.Near.{IsPitch}
-use Rattle.coarse_grid.specs.Start.{place}
-use Rattle.coarse_grid.specs.Ranges.{Lines, only}
+use Rattle.std.proofs.Common.{◌≡◌, ℕ, suc, ◌+◌, ◌*◌, ◌<◌, ◌≤◌, ℤ, pos, negsuc, neg_ℤ, ◌+ℤ◌, ◌-ℤ◌, ◌*ℤ◌, ◌≤ℤ◌, List}
+use Rattle.std.proofs.{Common.{length, refl, sym, ap, ◌∙◌, inl, inr, arith}, lemmas.Int.ints, Math.Nat.mul-le-mul}
+use Rattle.std.{proofs.Math.Nat.mul-suc, specs.Prelude.{◌^◌, ◌⊎◌}}
+use Rattle.sym_items.specs.{declared.items.End.End, Values.{value_of, value_at}, Boxes.HasSpan}
+use Rattle.coarse_grid.specs.{Near.IsPitch, Start.place, Ranges.{Lines, only}}
 
 -- the border is 0, a line one more than its number, the far border one more than the last
 pub grid_at : ℤ → ℕ → ℤ

@@ -1,37 +1,20 @@
 -- The items of a cell in its start layout: each has a box, and those of parts whose coarse ranges share no grid point lie apart.
-use Rattle.std.proofs.Common.{ℕ, ◌<◌, ◌≤◌, max, ℤ, ◌-ℤ◌, ◌≤ℤ◌, length, sym, subst, arith}
+use Rattle.std.proofs.{Common.{ℕ, ◌<◌, ◌≤◌, max, ℤ, ◌-ℤ◌, ◌≤ℤ◌, length, sym, subst, arith}, lemmas.Int.{ints, clamps}}
 use Rattle.std.specs.List.{AllByRecursion, flat_map, range_with_len}
-use Rattle.std.proofs.lemmas.Int.{ints, clamps}
-use Rattle.rule_table.specs.declared.technology.Tech.{Tech}
-use Rattle.rule_table.specs.Technology.{widest_of}
-use Rattle.sym_items.specs.declared.items.Item.{Item}
-use Rattle.sym_items.specs.Sides.{Sides, sides_in, gap_of_sides, gap_in}
-use Rattle.sym_items.specs.Boxes.{HasBox}
+use Rattle.rule_table.specs.{declared.technology.Tech.Tech, Technology.widest_of}
+use Rattle.sym_items.specs.declared.items.{Item.Item, Items.Items}
+use Rattle.sym_items.specs.{Sides.{Sides, sides_in, gap_of_sides, gap_in}, Boxes.HasBox}
 use Rattle.pair_rules.specs.Bound.{item_at, no_item}
-use Rattle.cell_model.specs.declared.cell.Axis2.TheVariants.{Across, Up}
-use Rattle.cell_model.specs.declared.cell.Node.{Node}
-use Rattle.cell_model.specs.declared.cell.Wire.{Wire}
-use Rattle.cell_model.specs.declared.cell.Cell.{Cell}
-use Rattle.cell_model.specs.declared.cell.Nets.{Nets}
+use Rattle.cell_model.specs.declared.cell.{Axis2.TheVariants.{Across, Up}, Node.Node, Wire.Wire, Cell.Cell, Nets.Nets}
 use Rattle.cell_model.specs.Sound.{IsNode, IsWire, IsSound, node_at, no_node, wire_at, no_wire}
-use Rattle.list_facts.proofs.Elements.{all_weaker, all_at, all_append}
-use Rattle.expand.specs.Variables.{half}
-use Rattle.sym_items.specs.declared.items.Items.{Items}
-use Rattle.expand.specs.declared.master.Master.{Master}
-use Rattle.expand.specs.Items.{nets_at, items_of_node, items_of_wire, items_of, item_list}
-use Rattle.expand.specs.Masters.{IsMaster}
-use Rattle.coarse_grid.specs.Extent.{reach_of, half_extent_of, pitch_of}
-use Rattle.coarse_grid.specs.Start.{last_line, start_values, start_of}
-use Rattle.coarse_grid.specs.Ranges.{Lines, lines_of, Covers}
-use Rattle.coarse_grid.specs.Laws.{HasBoxes, KeepsApart, NearShareAPoint}
-use Rattle.coarse_grid.proofs.Nears.{by_lt, near_not_wide}
-use Rattle.list_facts.proofs.Elements.{all_flat, all_numbers, all_of}
-use Rattle.coarse_grid.proofs.Lines.{near_lines}
-use Rattle.coarse_grid.proofs.Reaches.{IsCoarse, coarse}
-use Rattle.coarse_grid.proofs.Grid.{span_has, spans_apart}
-use Rattle.coarse_grid.proofs.NodesLaid.{IsRound, kind_round, half_low}
-use Rattle.coarse_grid.proofs.Laid.{IsLaid, round_laid, wide}
-use Rattle.coarse_grid.proofs.WiresLaid.{wire_laid}
+use Rattle.list_facts.proofs.Elements.{all_weaker, all_at, all_append, all_flat, all_numbers, all_of}
+use Rattle.expand.specs.{Variables.half, declared.master.Master.Master, Items.{nets_at, items_of_node, items_of_wire}}
+use Rattle.expand.specs.{Items.{items_of, item_list}, Masters.IsMaster}
+use Rattle.coarse_grid.specs.{Extent.{reach_of, half_extent_of, pitch_of}, Start.{last_line, start_values, start_of}}
+use Rattle.coarse_grid.specs.{Ranges.{Lines, lines_of, Covers}, Laws.{HasBoxes, KeepsApart, NearShareAPoint}}
+use Rattle.coarse_grid.proofs.{Nears.{by_lt, near_not_wide}, Lines.near_lines, Reaches.{IsCoarse, coarse}}
+use Rattle.coarse_grid.proofs.{Grid.{span_has, spans_apart}, NodesLaid.{IsRound, kind_round, half_low}, Laid.IsLaid}
+use Rattle.coarse_grid.proofs.{Laid.{round_laid, wide}, WiresLaid.wire_laid}
 
 node_laid : (tech : Tech) (cell : Cell) (nets : Nets) (pitch extent : ℤ) (k : ℕ) → IsSound tech cell → IsCoarse tech cell pitch extent → k < length cell.nodes
     → AllByRecursion (IsLaid cell pitch extent) (items_of_node tech cell nets k)

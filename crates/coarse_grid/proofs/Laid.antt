@@ -1,34 +1,18 @@
 -- How an item lies in the start layout: on each axis it spans the lines that its owner takes up.
-use Rattle.std.proofs.Common.{◌≡◌, ℕ, ◌+◌, ◌-◌, ◌<◌, ◌≤◌, max, Bool, true, false, cond, ℤ, List, [], ◌∷◌, ◌++◌, length, map, fold, refl, sym, ap, ◌∙◌, subst, arith}
-use Rattle.std.specs.Prelude.{nat_lt}
-use Rattle.std.specs.List.{AllByRecursion, flat_map}
-use Rattle.std.proofs.lemmas.Bool.Decides.{nat_tests}
-use Rattle.rule_table.specs.declared.technology.Tech.{Tech}
+use Rattle.std.proofs.Common.{◌≡◌, ℕ, ◌+◌, ◌-◌, ◌<◌, ◌≤◌, max, Bool, true, false, cond, ℤ, List, [], ◌∷◌, ◌++◌, length}
+use Rattle.std.proofs.{Common.{map, fold, refl, sym, ap, ◌∙◌, subst, arith}, lemmas.Bool.Decides.nat_tests}
+use Rattle.std.specs.{Prelude.nat_lt, List.{AllByRecursion, flat_map}}
+use Rattle.rule_table.specs.declared.{technology.Tech.Tech, classes.Layer.{Layer, TheVariants.{Diffusion, Poly, Metal}}}
 use Rattle.rule_table.specs.Technology.{widest_of}
-use Rattle.rule_table.specs.declared.classes.Layer.{Layer}
-use Rattle.rule_table.specs.declared.classes.Layer.TheVariants.{Diffusion, Poly, Metal}
-use Rattle.sym_items.specs.declared.items.Item.{Item}
-use Rattle.sym_items.specs.declared.items.End.{End}
-use Rattle.cell_model.specs.declared.cell.Axis2.{Axis2}
-use Rattle.cell_model.specs.declared.cell.Axis2.TheVariants.{Across, Up}
-use Rattle.cell_model.specs.declared.cell.Node.{Node}
-use Rattle.cell_model.specs.declared.cell.Port.{Port}
-use Rattle.cell_model.specs.declared.cell.Cell.{Cell}
-use Rattle.cell_model.specs.Wiring.{is_same_axis, axis_of}
-use Rattle.cell_model.specs.Sound.{no_port}
-use Rattle.cell_model.specs.Sound.{node_at, no_node, wire_at, port_at}
-use Rattle.list_facts.proofs.Elements.{all_at}
-use Rattle.expand.specs.Variables.{centre}
-use Rattle.expand.specs.NodeItems.{on_layer}
-use Rattle.coarse_grid.specs.Near.{AreLinesNear}
-use Rattle.coarse_grid.specs.Start.{node_line, port_lines, last_line, start_values}
-use Rattle.coarse_grid.specs.Ranges.{Lines, only, wire_lines, lines_of}
-use Rattle.coarse_grid.proofs.Lines.{last_near, all_most}
-use Rattle.coarse_grid.proofs.Lookups.{centre_value}
-use Rattle.list_facts.proofs.Elements.{all_parts, all_unmap, all_pieces}
-use Rattle.coarse_grid.proofs.Reaches.{IsCoarse, coarse_pitch}
-use Rattle.coarse_grid.proofs.Grid.{IsWide, IsSpan, IsRoundOn, round_span}
-use Rattle.coarse_grid.proofs.NodesLaid.{IsRound}
+use Rattle.sym_items.specs.declared.items.{Item.Item, End.End}
+use Rattle.cell_model.specs.declared.cell.{Axis2.{Axis2, TheVariants.{Across, Up}}, Node.Node, Port.Port, Cell.Cell}
+use Rattle.cell_model.specs.{Wiring.{is_same_axis, axis_of}, Sound.{no_port, node_at, no_node, wire_at, port_at}}
+use Rattle.list_facts.proofs.Elements.{all_at, all_parts, all_unmap, all_pieces}
+use Rattle.expand.specs.{Variables.centre, NodeItems.on_layer}
+use Rattle.coarse_grid.specs.{Near.AreLinesNear, Start.{node_line, port_lines, last_line, start_values}, Ranges.Lines}
+use Rattle.coarse_grid.specs.Ranges.{only, wire_lines, lines_of}
+use Rattle.coarse_grid.proofs.{Lines.{last_near, all_most}, Lookups.centre_value, Reaches.{IsCoarse, coarse_pitch}}
+use Rattle.coarse_grid.proofs.{Grid.{IsWide, IsSpan, IsRoundOn, round_span}, NodesLaid.IsRound}
 
 -- two ends span the lines of an owner on an axis
 abbrev pub IsSpanOn : Cell → ℤ → ℤ → ℕ → Axis2 → End → End → Type 0

@@ -1,21 +1,12 @@
 -- The parts of a sound cell lie near.
-use Rattle.std.proofs.Common.{◌≡◌, ℕ, ◌<◌, ◌≤◌, max, true, false, List, [], ◌∷◌, ◌++◌, length, map, fold, get_or, cond, sym, subst, arith}
-use Rattle.std.specs.List.{AllByRecursion, flat_map}
-use Rattle.rule_table.specs.Bounds.{IsSize}
-use Rattle.rule_table.specs.declared.technology.Tech.{Tech}
-use Rattle.cell_model.specs.declared.cell.Axis2.{Axis2}
-use Rattle.cell_model.specs.declared.cell.Axis2.TheVariants.{Across, Up}
-use Rattle.cell_model.specs.declared.cell.Node.{Node}
-use Rattle.cell_model.specs.declared.cell.Port.{Port}
-use Rattle.cell_model.specs.declared.cell.Wire.{Wire}
+use Rattle.std.proofs.Common.{◌≡◌, ℕ, ◌<◌, ◌≤◌, max, true, false, List, [], ◌∷◌, ◌++◌, length, map, fold, get_or, cond}
+use Rattle.std.{proofs.Common.{sym, subst, arith}, specs.List.{AllByRecursion, flat_map}}
+use Rattle.rule_table.specs.{Bounds.IsSize, declared.technology.Tech.Tech}
+use Rattle.cell_model.specs.declared.cell.{Axis2.{Axis2, TheVariants.{Across, Up}}, Node.Node, Port.Port, Wire.Wire}
 use Rattle.cell_model.specs.declared.cell.Cell.{Cell}
-use Rattle.cell_model.specs.Wiring.{is_same_axis, axis_of}
-use Rattle.cell_model.specs.Sound.{IsNode, IsWire, IsSound, port_at}
-use Rattle.cell_model.specs.Sound.{no_port}
-use Rattle.list_facts.proofs.Elements.{all_weaker, all_at, all_append, all_map}
-use Rattle.list_facts.proofs.Elements.{by_number, all_flat}
-use Rattle.coarse_grid.specs.Near.{HasLines, StartsIn, AreLinesNear}
-use Rattle.coarse_grid.specs.Start.{node_line, port_lines, last_line}
+use Rattle.cell_model.specs.{Wiring.{is_same_axis, axis_of}, Sound.{IsNode, IsWire, IsSound, port_at, no_port}}
+use Rattle.list_facts.proofs.Elements.{all_weaker, all_at, all_append, all_map, by_number, all_flat}
+use Rattle.coarse_grid.specs.{Near.{HasLines, StartsIn, AreLinesNear}, Start.{node_line, port_lines, last_line}}
 
 pub near_lines : (tech : Tech) (cell : Cell) → IsSound tech cell → AreLinesNear cell
 near_lines tech cell s = record {

@@ -1,18 +1,11 @@
 -- The start values of the borders, of the nodes' centres and of the wires' cross coordinates.
-use Rattle.std.proofs.Common.{◌≡◌, ℕ, zero, suc, ◌+◌, ◌<◌, false, cond, ℤ, pos, List, [], ◌∷◌, ◌++◌, length, map, get_or, take, refl, sym, ◌∙◌, subst, inl, inr, arith}
-use Rattle.std.specs.Prelude.{not}
-use Rattle.std.specs.List.{flat_map}
-use Rattle.std.proofs.lemmas.Bool.{cases_Bool}
+use Rattle.std.proofs.Common.{◌≡◌, ℕ, zero, suc, ◌+◌, ◌<◌, false, cond, ℤ, pos, List, [], ◌∷◌, ◌++◌, length, map}
+use Rattle.std.proofs.{Common.{get_or, take, refl, sym, ◌∙◌, subst, inl, inr, arith}, lemmas.Bool.cases_Bool}
 use Rattle.std.proofs.lemmas.List.{length-append, length-map, get_or-map, get_or_append_left, get_or-append-add}
-use Rattle.std.proofs.lemmas.List.Sums.{sum_by-cons}
+use Rattle.std.{proofs.lemmas.List.Sums.sum_by-cons, specs.{Prelude.not, List.flat_map}}
 use Rattle.sym_items.specs.Values.{value_of}
-use Rattle.cell_model.specs.declared.cell.Axis2.{Axis2}
-use Rattle.cell_model.specs.declared.cell.Axis2.TheVariants.{Across, Up}
-use Rattle.cell_model.specs.declared.cell.Node.{Node}
-use Rattle.cell_model.specs.declared.cell.Wire.{Wire}
-use Rattle.cell_model.specs.declared.cell.Cell.{Cell}
-use Rattle.cell_model.specs.Wiring.{is_same_axis}
-use Rattle.cell_model.specs.Sound.{no_node, node_at, wire_at, line_at}
+use Rattle.cell_model.specs.declared.cell.{Axis2.{Axis2, TheVariants.{Across, Up}}, Node.Node, Wire.Wire, Cell.Cell}
+use Rattle.cell_model.specs.{Wiring.is_same_axis, Sound.{no_node, node_at, wire_at, line_at}}
 use Rattle.expand.specs.Variables.{centre, running, cross_of}
 use Rattle.coarse_grid.specs.Start.{node_line, place, far_border, cross_places, start_values}
 use Rattle.coarse_grid.proofs.Starts.{cross_there, cross_missing, none_more, one_more}

@@ -1,34 +1,19 @@
 -- Groups none of whose items is too near to an item, and what the tree of a class is asked beside it.
 use Rattle.std.proofs.Common.{◌≡◌, ◌≢◌, ◌∙◌, ℕ, ◌<◌, ◌≤◌, ◌==◌, ◌||◌, Bool, true, false, cond, if◌then◌else◌, ℤ, pos}
 use Rattle.std.proofs.Common.{◌-ℤ◌, ◌≤ℤ◌, ◌<ℤ◌, List, length, get_or, All, Option, Some, None, refl, sym, ap, subst}
-use Rattle.std.proofs.Common.{arith}
-use Rattle.std.specs.Prelude.{IsTrue}
-use Rattle.std.proofs.lemmas.Int.{ints}
-use Rattle.std.proofs.lemmas.List.{get_or_read}
-use Rattle.lam_geom.specs.declared.boxes.BoxXY.{BoxXY}
-use Rattle.lam_geom.specs.Gaps.{gap_of_boxes}
-use Rattle.box_tree.specs.Groves.{group_at, no_group}
-use Rattle.box_tree.specs.declared.spots.Group.{Group}
-use Rattle.box_tree.specs.declared.spots.Spot.{Spot}
-use Rattle.box_tree.specs.declared.query.Question.TheVariants.{NearOfOther, NearOfOtherTag}
-use Rattle.box_tree.specs.declared.query.Query.{Query}
-use Rattle.box_tree.specs.declared.tree.OwnedParts.{OwnedParts}
-use Rattle.box_tree.specs.Queries.{Answers, Holds}
-use Rattle.box_tree.specs.Tree.{IsBounded, IsGroupOf, IsTreeOf, no_spot, spot_at}
-use Rattle.box_tree.proofs.Trees.{IsBarren, IsPassed, passed_all}
-use Rattle.rule_table.specs.declared.classes.Class.{Class}
-use Rattle.rule_table.specs.declared.classes.Rule.{Rule}
-use Rattle.rule_table.specs.declared.technology.Tech.{Tech}
-use Rattle.rule_table.specs.Technology.{spacing_of}
-use Rattle.sym_items.specs.declared.items.Item.{Item}
-use Rattle.sym_items.specs.declared.items.Coords.{Coords}
-use Rattle.sym_items.specs.Sides.{sides_of, sides_in, gap_of_sides, gap_in}
-use Rattle.sym_items.specs.Standing.{stand_together}
+use Rattle.std.{proofs.{Common.arith, lemmas.{Int.ints, List.get_or_read}}, specs.Prelude.IsTrue}
+use Rattle.lam_geom.specs.{declared.boxes.BoxXY.BoxXY, Gaps.gap_of_boxes}
+use Rattle.box_tree.specs.{Groves.{group_at, no_group}, declared.spots.{Group.Group, Spot.Spot}}
+use Rattle.box_tree.specs.declared.query.{Question.TheVariants.{NearOfOther, NearOfOtherTag}, Query.Query}
+use Rattle.box_tree.specs.{declared.tree.OwnedParts.OwnedParts, Queries.{Answers, Holds}, Tree.{IsBounded, IsGroupOf}}
+use Rattle.box_tree.{specs.Tree.{IsTreeOf, no_spot, spot_at}, proofs.Trees.{IsBarren, IsPassed, passed_all}}
+use Rattle.rule_table.specs.{declared.{classes.{Class.Class, Rule.Rule}, technology.Tech.Tech}, Technology.spacing_of}
+use Rattle.sym_items.specs.declared.items.{Item.Item, Coords.Coords}
+use Rattle.sym_items.specs.{Sides.{sides_of, sides_in, gap_of_sides, gap_in}, Standing.stand_together}
 use Rattle.pair_rules.specs.Bound.{IsBound, item_at, is_joined, bound_spacing, spacing_by}
 use Rattle.pair_rules.proofs.BoundItems.{out_of_bound}
-use Rattle.coarse_grid.specs.Clash.{is_below, is_near, is_near_at}
-use Rattle.coarse_grid.specs.Nearby.{AreAlike, AreParts, AreSpotsOf, IsFarRun, IsNearOf, IsSpotOf}
-use Rattle.coarse_grid.specs.Nearby.{question_of}
+use Rattle.coarse_grid.specs.{Clash.{is_below, is_near, is_near_at}, Nearby.{AreAlike, AreParts, AreSpotsOf, IsFarRun}}
+use Rattle.coarse_grid.specs.Nearby.{IsNearOf, IsSpotOf, question_of}
 
 pub not_true : (b : Bool) → (b ≡ true → ⊥) → b ≡ false
 not_true true h = absurd (h refl)

@@ -1,17 +1,11 @@
 -- Layouts in which no two items i < j are too near one another are the clean ones.
-use Rattle.std.proofs.Common.{◌≡◌, ◌==◌, ◌||◌, ℕ, ◌<◌, ◌≤◌, Bool, true, false, cond, ℤ, ◌≤ℤ◌, List, length, Option, Some, None, refl, inl, inr, arith}
+use Rattle.std.proofs.Common.{◌≡◌, ◌==◌, ◌||◌, ℕ, ◌<◌, ◌≤◌, Bool, true, false, cond, ℤ, ◌≤ℤ◌, List, length, Option}
+use Rattle.std.proofs.{Common.{Some, None, refl, inl, inr, arith}, lemmas.{Bool.cases_lt, Int.ints}}
 use Rattle.std.specs.Prelude.{IfSome}
-use Rattle.std.proofs.lemmas.Bool.{cases_lt}
-use Rattle.std.proofs.lemmas.Int.{ints}
-use Rattle.rule_table.specs.declared.technology.Tech.{Tech}
-use Rattle.rule_table.specs.declared.classes.Rule.{Rule}
-use Rattle.rule_table.specs.Technology.{numbers_of, spacing_of, margin_of, widest_of}
-use Rattle.rule_table.proofs.Margins.{margin_above, widest_above}
-use Rattle.sym_items.specs.declared.items.Item.{Item}
-use Rattle.sym_items.specs.declared.items.Coords.{Coords}
-use Rattle.sym_items.specs.Sides.{gap_in}
-use Rattle.pair_rules.specs.Bound.{is_exempt, spacing_by, is_joined, bound_spacing}
-use Rattle.pair_rules.specs.Clean.{IsClean}
+use Rattle.rule_table.specs.{declared.{technology.Tech.Tech, classes.Rule.Rule}, Technology.{numbers_of, spacing_of}}
+use Rattle.rule_table.{specs.Technology.{margin_of, widest_of}, proofs.Margins.{margin_above, widest_above}}
+use Rattle.sym_items.specs.{declared.items.{Item.Item, Coords.Coords}, Sides.gap_in}
+use Rattle.pair_rules.specs.{Bound.{is_exempt, spacing_by, is_joined, bound_spacing}, Clean.IsClean}
 use Rattle.pair_rules.proofs.CleanPairs.{clean_in_order, spaced_either}
 use Rattle.coarse_grid.specs.Clash.{is_below, is_near, is_near_at}
 

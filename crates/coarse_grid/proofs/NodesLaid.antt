@@ -1,33 +1,18 @@
 -- The items of a node lie round its centre, no further than the half extent.
 use Rattle.std.proofs.Common.{◌≡◌, ℕ, Bool, true, false, ℤ, pos, neg_ℤ, ◌+ℤ◌, ◌≤ℤ◌, [], ◌∷◌, refl, arith}
-use Rattle.std.specs.Prelude.{if◌then◌else◌}
-use Rattle.std.specs.Int.{int_max}
-use Rattle.std.specs.List.{AllByRecursion}
-use Rattle.std.proofs.lemmas.Int.{ints, clamps}
-use Rattle.rule_table.specs.Bounds.{IsSize}
-use Rattle.rule_table.specs.declared.technology.Tech.{Tech}
-use Rattle.rule_table.specs.declared.classes.Class.{Class}
-use Rattle.rule_table.specs.declared.classes.Class.TheVariants.{M, P, Dc, Dm, C, I, G}
-use Rattle.rule_table.specs.declared.classes.Layer.{Layer}
-use Rattle.rule_table.specs.declared.classes.Layer.TheVariants.{Diffusion, Poly, Metal}
-use Rattle.rule_table.specs.Technology.{numbers_of, pad_of}
-use Rattle.rule_table.proofs.Sound.{sound}
-use Rattle.rule_table.proofs.Widths.{pad_bounds}
+use Rattle.std.{proofs.lemmas.Int.{ints, clamps}, specs.{Prelude.if◌then◌else◌, Int.int_max, List.AllByRecursion}}
+use Rattle.rule_table.specs.{Bounds.IsSize, Technology.{numbers_of, pad_of}}
+use Rattle.rule_table.specs.declared.{technology.Tech.Tech, classes.Class.{Class, TheVariants.{M, P, Dc, Dm, C, I, G}}}
+use Rattle.rule_table.specs.declared.classes.Layer.{Layer, TheVariants.{Diffusion, Poly, Metal}}
+use Rattle.rule_table.proofs.{Sound.sound, Widths.pad_bounds}
 use Rattle.sym_items.specs.declared.items.Item.{Item}
-use Rattle.cell_model.specs.declared.cell.Axis2.{Axis2}
-use Rattle.cell_model.specs.declared.cell.Axis2.TheVariants.{Across, Up}
-use Rattle.cell_model.specs.declared.cell.NodeKind.{NodeKind}
-use Rattle.cell_model.specs.declared.cell.NodeKind.TheVariants.{Joint, Contact, Buried, Fet}
-use Rattle.cell_model.specs.declared.cell.NodeNets.{NodeNets}
-use Rattle.cell_model.specs.Wiring.{buried_pad}
-use Rattle.cell_model.specs.Sound.{IsKind}
+use Rattle.cell_model.specs.declared.cell.{Axis2.{Axis2, TheVariants.{Across, Up}}, NodeKind.NodeKind}
+use Rattle.cell_model.specs.declared.cell.{NodeKind.TheVariants.{Joint, Contact, Buried, Fet}, NodeNets.NodeNets}
+use Rattle.cell_model.specs.{Wiring.buried_pad, Sound.IsKind}
 use Rattle.list_facts.proofs.Elements.{all_weaker, all_map}
-use Rattle.expand.specs.Variables.{half, centre}
-use Rattle.expand.specs.NodeItems.{item_running, on_layer, box_at, box_round, square_round, standing_at, channel_items, kind_items}
-use Rattle.coarse_grid.specs.Extent.{implant_past, fet_reach, reach_of}
-use Rattle.expand.proofs.Among.{half_buried}
-use Rattle.coarse_grid.proofs.Extents.{half_bounds}
-use Rattle.coarse_grid.proofs.Grid.{IsRoundOn}
+use Rattle.expand.specs.{Variables.{half, centre}, NodeItems.{item_running, on_layer, box_at, box_round, square_round}}
+use Rattle.expand.{specs.NodeItems.{standing_at, channel_items, kind_items}, proofs.Among.half_buried}
+use Rattle.coarse_grid.{specs.Extent.{implant_past, fet_reach, reach_of}, proofs.{Extents.half_bounds, Grid.IsRoundOn}}
 
 -- an item of node k lies round its centre
 pub record IsRound (k : ℕ) (extent : ℤ) (item : Item) : Type 0 where

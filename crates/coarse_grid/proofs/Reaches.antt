@@ -1,27 +1,15 @@
 -- The half extent of a sound cell bounds how far its parts reach.
-use Rattle.std.proofs.Common.{◌≡◌, ℤ, pos, ◌+ℤ◌, ◌*ℤ◌, ◌≤ℤ◌, Bool, true, false, List, [], ◌∷◌, ◌++◌, map, fold, refl, arith}
-use Rattle.std.specs.Int.{int_max}
-use Rattle.std.specs.List.{AllByRecursion}
-use Rattle.std.proofs.lemmas.Int.{ints, clamps}
-use Rattle.rule_table.specs.Bounds.{IsSize, IsLength}
-use Rattle.rule_table.specs.Technology.{numbers_of, pad_of, widest_of}
+use Rattle.std.proofs.Common.{◌≡◌, ℤ, pos, ◌+ℤ◌, ◌*ℤ◌, ◌≤ℤ◌, Bool, true, false, List, [], ◌∷◌, ◌++◌, map, fold, refl}
+use Rattle.std.{proofs.{Common.arith, lemmas.Int.{ints, clamps}}, specs.{Int.int_max, List.AllByRecursion}}
+use Rattle.rule_table.specs.{Bounds.{IsSize, IsLength}, Technology.{numbers_of, pad_of, widest_of}}
 use Rattle.rule_table.specs.declared.technology.Tech.{Tech}
-use Rattle.rule_table.proofs.Sound.{sound}
-use Rattle.rule_table.proofs.Margins.{widest_positive, widest_below}
-use Rattle.rule_table.proofs.Widths.{pad_bounds}
-use Rattle.cell_model.specs.declared.cell.NodeKind.{NodeKind}
-use Rattle.cell_model.specs.declared.cell.NodeKind.TheVariants.{Joint, Contact, Buried, Fet}
-use Rattle.cell_model.specs.declared.cell.Node.{Node}
-use Rattle.cell_model.specs.declared.cell.Wire.{Wire}
-use Rattle.cell_model.specs.declared.cell.Cell.{Cell}
-use Rattle.cell_model.specs.Wiring.{buried_pad}
-use Rattle.cell_model.specs.Sound.{IsKind, IsNode, IsWire, IsSound}
-use Rattle.list_facts.proofs.Elements.{all_weaker, all_append, all_map}
-use Rattle.expand.specs.Variables.{half}
-use Rattle.coarse_grid.specs.Extent.{implant_past, reach_of, half_extent_of, pitch_of}
-use Rattle.coarse_grid.specs.Near.{IsPitch}
-use Rattle.list_facts.proofs.Elements.{all_parts, all_unmap}
-use Rattle.expand.proofs.Among.{half_size, buried_size}
+use Rattle.rule_table.proofs.{Sound.sound, Margins.{widest_positive, widest_below}, Widths.pad_bounds}
+use Rattle.cell_model.specs.declared.cell.{NodeKind.{NodeKind, TheVariants.{Joint, Contact, Buried, Fet}}, Node.Node}
+use Rattle.cell_model.specs.declared.cell.{Wire.Wire, Cell.Cell}
+use Rattle.cell_model.specs.{Wiring.buried_pad, Sound.{IsKind, IsNode, IsWire, IsSound}}
+use Rattle.list_facts.proofs.Elements.{all_weaker, all_append, all_map, all_parts, all_unmap}
+use Rattle.expand.{specs.Variables.half, proofs.Among.{half_size, buried_size}}
+use Rattle.coarse_grid.specs.{Extent.{implant_past, reach_of, half_extent_of, pitch_of}, Near.IsPitch}
 use Rattle.coarse_grid.proofs.Extents.{half_bounds, max_within}
 
 from_greatest : (a : ℤ) (zs : List ℤ) → a ≤ℤ fold int_max a zs

@@ -1,33 +1,18 @@
 -- The start layout is a layout of its master.
-use Rattle.std.proofs.Common.{◌≡◌, ℤ, pos, ◌≤ℤ◌, List, length, refl, sym, subst, arith}
+use Rattle.std.proofs.{Common.{◌≡◌, ℤ, pos, ◌≤ℤ◌, List, length, refl, sym, subst, arith}, lemmas.Int.ints}
 use Rattle.std.specs.List.{AllByRecursion, All}
-use Rattle.std.proofs.lemmas.Int.{ints}
-use Rattle.lam_geom.specs.declared.boxes.Axis.{Axis}
-use Rattle.lam_geom.specs.declared.boxes.Axis.TheVariants.{X, Y}
+use Rattle.lam_geom.specs.declared.boxes.Axis.{Axis, TheVariants.{X, Y}}
 use Rattle.rule_table.specs.declared.technology.Tech.{Tech}
-use Rattle.sym_items.specs.declared.items.Item.{Item}
-use Rattle.sym_items.specs.declared.items.Items.{Items}
-use Rattle.sym_items.specs.declared.items.Coords.{Coords}
-use Rattle.sym_items.specs.Values.{value_of}
-use Rattle.sym_items.specs.Transposed.{values_along}
-use Rattle.cell_model.specs.declared.cell.Axis2.TheVariants.{Across, Up}
-use Rattle.cell_model.specs.declared.cell.Cell.{Cell}
-use Rattle.cell_model.specs.Sound.{IsSound}
+use Rattle.sym_items.specs.declared.items.{Item.Item, Items.Items, Coords.Coords}
+use Rattle.sym_items.specs.{Values.value_of, Transposed.values_along}
+use Rattle.cell_model.specs.{declared.cell.{Axis2.TheVariants.{Across, Up}, Cell.Cell}, Sound.IsSound}
 use Rattle.list_facts.proofs.Elements.{all_of, all_weaker}
-use Rattle.expand.specs.declared.master.Master.{Master}
-use Rattle.expand.specs.Items.{item_list}
-use Rattle.expand.specs.Variables.{variables_of}
-use Rattle.expand.specs.Laws.{EndsAbove}
+use Rattle.expand.specs.{declared.master.Master.Master, Items.item_list, Variables.variables_of, Laws.EndsAbove}
 use Rattle.expand.specs.Masters.{IsMaster}
-use Rattle.coarse_grid.specs.Near.{IsNear}
-use Rattle.coarse_grid.specs.Extent.{half_extent_of, pitch_of}
-use Rattle.coarse_grid.specs.Start.{start_values, start_of}
+use Rattle.coarse_grid.specs.{Near.IsNear, Extent.{half_extent_of, pitch_of}, Start.{start_values, start_of}}
 use Rattle.coarse_grid.specs.Laws.{IsLayoutOf}
-use Rattle.coarse_grid.proofs.Lines.{near_lines}
-use Rattle.coarse_grid.proofs.Reaches.{coarse, coarse_pitch}
-use Rattle.coarse_grid.proofs.Starts.{start_near, counted_x, counted_y}
-use Rattle.coarse_grid.proofs.Laid.{IsLaid}
-use Rattle.coarse_grid.proofs.ItemsLaid.{items_laid, has_boxes}
+use Rattle.coarse_grid.proofs.{Lines.near_lines, Reaches.{coarse, coarse_pitch}, Starts.{start_near, counted_x}}
+use Rattle.coarse_grid.proofs.{Starts.counted_y, Laid.IsLaid, ItemsLaid.{items_laid, has_boxes}}
 
 counted : (tech : Tech) (cell : Cell) (axis : Axis) → length (values_along axis (start_of tech cell)) ≡ variables_of axis cell
 counted tech cell X = counted_x (pitch_of tech cell) cell

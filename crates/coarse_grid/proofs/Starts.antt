@@ -1,28 +1,17 @@
 -- The start values of a cell: near ones, one for each variable.
-use Rattle.std.proofs.Common.{◌≡◌, ℕ, suc, ◌+◌, ◌*◌, ◌≤◌, true, false, cond, ℤ, pos, negsuc, to_z, of_z, w64, List, [], ◌∷◌, ◌++◌, length, map, refl, sym, ap, ◌∙◌, inl, inr, arith}
-use Rattle.std.specs.Prelude.{not}
-use Rattle.std.proofs.lemmas.Bool.{cases_Bool}
-use Rattle.std.specs.List.{AllByRecursion, flat_map}
-use Rattle.std.proofs.lemmas.Int.{ints}
-use Rattle.std.proofs.lemmas.List.Sums.{sum_by-cons}
-use Rattle.std.proofs.lemmas.List.{length-append, length-map}
-use Rattle.std.proofs.Math.Nat.{mul-le-mul}
+use Rattle.std.proofs.Common.{◌≡◌, ℕ, suc, ◌+◌, ◌*◌, ◌≤◌, true, false, cond, ℤ, pos, negsuc, to_z, of_z, w64, List, []}
+use Rattle.std.proofs.{Common.{◌∷◌, ◌++◌, length, map, refl, sym, ap, ◌∙◌, inl, inr, arith}, Math.Nat.mul-le-mul}
+use Rattle.std.proofs.lemmas.{Bool.cases_Bool, Int.ints, List.{length-append, length-map, Sums.sum_by-cons}}
+use Rattle.std.specs.{Prelude.not, List.{AllByRecursion, flat_map}}
 use Rattle.lam_geom.specs.declared.boxes.Axis.TheVariants.{X, Y}
-use Rattle.cell_model.specs.declared.cell.Axis2.{Axis2}
-use Rattle.cell_model.specs.declared.cell.Axis2.TheVariants.{Across, Up}
-use Rattle.cell_model.specs.declared.cell.Node.{Node}
-use Rattle.cell_model.specs.declared.cell.Wire.{Wire}
-use Rattle.cell_model.specs.declared.cell.WireEnd.{WireEnd}
+use Rattle.cell_model.specs.declared.cell.{Axis2.{Axis2, TheVariants.{Across, Up}}, Node.Node, Wire.Wire}
+use Rattle.cell_model.specs.declared.cell.{WireEnd.WireEnd, Cell.Cell}
+use Rattle.cell_model.specs.{Wiring.is_same_axis, Sound.{IsEnd, no_node, line_at}}
 use Rattle.cell_model.specs.declared.cell.WireEnd.TheVariants as ends
-use Rattle.cell_model.specs.declared.cell.Cell.{Cell}
-use Rattle.cell_model.specs.Wiring.{is_same_axis}
-use Rattle.cell_model.specs.Sound.{IsEnd, no_node, line_at}
-use Rattle.list_facts.proofs.Elements.{all_weaker, all_at, all_append, all_map}
+use Rattle.list_facts.proofs.Elements.{all_weaker, all_at, all_append, all_map, all_flat}
 use Rattle.expand.specs.Variables.{running, variables_of}
-use Rattle.coarse_grid.specs.Near.{HasLines, StartsIn, AreLinesNear, IsNear, IsPitch}
-use Rattle.coarse_grid.specs.Start.{node_line, last_line, place, cross_places, start_values}
-use Rattle.list_facts.proofs.Elements.{all_flat}
-use Rattle.coarse_grid.proofs.Lines.{line_near, last_near}
+use Rattle.coarse_grid.specs.{Near.{HasLines, StartsIn, AreLinesNear, IsNear, IsPitch}, Start.{node_line, last_line}}
+use Rattle.coarse_grid.{specs.Start.{place, cross_places, start_values}, proofs.Lines.{line_near, last_near}}
 
 -- a near number, as 64 bits hold it
 pub holds_near : (z : ℤ) → IsNear z → to_z w64 (of_z w64 z) ≡ z

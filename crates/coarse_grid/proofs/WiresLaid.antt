@@ -1,38 +1,23 @@
 -- The items of a wire span the lines from terminal to terminal along it, and lie on one line across it.
-use Rattle.std.proofs.Common.{◌≡◌, ℕ, ◌+◌, ◌<◌, ◌≤◌, Bool, true, false, cond, ℤ, pos, neg_ℤ, ◌+ℤ◌, ◌≤ℤ◌, ◌<ℤ◌, List, length, refl, sym, ap, ◌∙◌, subst, inl, inr, arith}
-use Rattle.std.specs.Prelude.{◌^◌, ◌⊎◌}
-use Rattle.std.specs.List.{AllByRecursion}
-use Rattle.std.proofs.lemmas.Int.{ints}
-use Rattle.rule_table.specs.declared.technology.Tech.{Tech}
-use Rattle.rule_table.specs.Technology.{numbers_of, widest_of}
-use Rattle.rule_table.proofs.Sound.{sound}
-use Rattle.sym_items.specs.declared.items.Item.{Item}
-use Rattle.sym_items.specs.Values.{value_of, value_at}
-use Rattle.cell_model.specs.declared.cell.Axis2.{Axis2}
-use Rattle.cell_model.specs.declared.cell.Axis2.TheVariants.{Across, Up}
-use Rattle.cell_model.specs.declared.cell.NodeKind.{NodeKind}
-use Rattle.cell_model.specs.declared.cell.NodeKind.TheVariants.{Joint, Contact, Buried, Fet}
-use Rattle.cell_model.specs.declared.cell.Node.{Node}
-use Rattle.cell_model.specs.declared.cell.WireEnd.{WireEnd}
+use Rattle.std.proofs.Common.{◌≡◌, ℕ, ◌+◌, ◌<◌, ◌≤◌, Bool, true, false, cond, ℤ, pos, neg_ℤ, ◌+ℤ◌, ◌≤ℤ◌, ◌<ℤ◌, List}
+use Rattle.std.proofs.{Common.{length, refl, sym, ap, ◌∙◌, subst, inl, inr, arith}, lemmas.Int.ints}
+use Rattle.std.specs.{Prelude.{◌^◌, ◌⊎◌}, List.AllByRecursion}
+use Rattle.rule_table.{specs.{declared.technology.Tech.Tech, Technology.{numbers_of, widest_of}}, proofs.Sound.sound}
+use Rattle.sym_items.specs.{declared.items.Item.Item, Values.{value_of, value_at}}
+use Rattle.cell_model.specs.declared.cell.{Axis2.{Axis2, TheVariants.{Across, Up}}, NodeKind.NodeKind}
+use Rattle.cell_model.specs.declared.cell.{NodeKind.TheVariants.{Joint, Contact, Buried, Fet}, Node.Node}
+use Rattle.cell_model.specs.{declared.cell.{WireEnd.WireEnd, Wire.Wire, Cell.Cell}, Wiring.is_same_axis, Sound.IsKind}
+use Rattle.cell_model.specs.Sound.{IsNode, IsWire, IsSound, IsEnd, IsInOrder, Takes, node_at, no_node, wire_at, line_at}
 use Rattle.cell_model.specs.declared.cell.WireEnd.TheVariants as ends
-use Rattle.cell_model.specs.declared.cell.Wire.{Wire}
-use Rattle.cell_model.specs.declared.cell.Cell.{Cell}
-use Rattle.cell_model.specs.Wiring.{is_same_axis}
-use Rattle.cell_model.specs.Sound.{IsKind, IsNode, IsWire, IsSound, IsEnd, IsInOrder, Takes, node_at, no_node, wire_at, line_at}
 use Rattle.list_facts.proofs.Elements.{all_at}
-use Rattle.expand.specs.Variables.{half, centre, past, cross_of}
-use Rattle.expand.specs.NodeItems.{item_running}
-use Rattle.expand.specs.WireItems.{half_channel, reach, low_end_of, high_end_of, contact_at, run_item, wire_items}
-use Rattle.coarse_grid.specs.Extent.{reach_of}
-use Rattle.coarse_grid.specs.Near.{AreLinesNear}
-use Rattle.coarse_grid.specs.Start.{node_line, last_line, start_values}
+use Rattle.expand.specs.{Variables.{half, centre, past, cross_of}, NodeItems.item_running, WireItems.half_channel}
+use Rattle.expand.specs.WireItems.{reach, low_end_of, high_end_of, contact_at, run_item, wire_items}
+use Rattle.coarse_grid.specs.{Extent.reach_of, Near.AreLinesNear, Start.{node_line, last_line, start_values}}
 use Rattle.coarse_grid.specs.Ranges.{Lines, only, low_line, high_line, wire_lines, lines_of}
-use Rattle.coarse_grid.proofs.Lines.{last_near}
-use Rattle.coarse_grid.proofs.Lookups.{centre_value, cross_value}
-use Rattle.coarse_grid.proofs.Reaches.{IsCoarse, coarse_pitch}
-use Rattle.coarse_grid.proofs.Grid.{grid_at, at_line, at_border, grid_high, IsNearGrid, IsSpan, near_of, low_in, high_in, in_order, round_span}
-use Rattle.coarse_grid.proofs.NodesLaid.{limits}
-use Rattle.coarse_grid.proofs.Laid.{IsSpanOn, IsLaid, laid_layers, node_within, port_within, lines_of_wire, wide}
+use Rattle.coarse_grid.proofs.{Lines.last_near, Lookups.{centre_value, cross_value}, Reaches.{IsCoarse, coarse_pitch}}
+use Rattle.coarse_grid.proofs.Grid.{grid_at, at_line, at_border, grid_high, IsNearGrid, IsSpan, near_of, low_in}
+use Rattle.coarse_grid.proofs.{Grid.{high_in, in_order, round_span}, NodesLaid.limits, Laid.{IsSpanOn, IsLaid}}
+use Rattle.coarse_grid.proofs.Laid.{laid_layers, node_within, port_within, lines_of_wire, wide}
 
 -- how far past a node's centre a wire ends
 abbrev IsOffset : ℤ → ℤ → Type 0

@@ -1,27 +1,20 @@
 -- The pitch and the start layout of the cells typed in, worked by hand; that these cells meet the checks, and that the boxes are such.
-use Rattle.std.proofs.Common.{◌≡◌, ℕ, zero, suc, ◌<◌, ◌≤◌, Bool, true, false, ◌≤ℤ◌, ℤ, pos, None, List, [], ◌∷◌, length, All, refl, ap, inl, inr, arith}
-use Rattle.std.proofs.lemmas.Int.{ints}
+use Rattle.std.proofs.Common.{◌≡◌, ℕ, zero, suc, ◌<◌, ◌≤◌, Bool, true, false, ◌≤ℤ◌, ℤ, pos, None, List, [], ◌∷◌, length}
+use Rattle.std.proofs.{Common.{All, refl, ap, inl, inr, arith}, lemmas.Int.ints}
 use Rattle.lam_geom.specs.Places.{IsPlace}
-use Rattle.rule_table.specs.declared.technology.Tech.{Tech}
-use Rattle.rule_table.specs.declared.keys.Numbers.{Numbers}
-use Rattle.rule_table.specs.declared.classes.Layer.TheVariants.{Diffusion, Poly, Metal}
-use Rattle.rule_table.specs.Bounds.{IsSize}
-use Rattle.rule_table.specs.Faults.{fault_of}
-use Rattle.rule_table.specs.Keys.{has_buried}
-use Rattle.rule_table.specs.Spacing.{spacing_in, greatest, margin_in, widest_in, width_in, pad_in}
+use Rattle.rule_table.specs.declared.{technology.Tech.Tech, keys.Numbers.Numbers, classes.Layer.TheVariants.Diffusion}
+use Rattle.rule_table.specs.{declared.classes.Layer.TheVariants.{Poly, Metal}, Bounds.IsSize, Faults.fault_of}
+use Rattle.rule_table.specs.{Keys.has_buried, Spacing.{spacing_in, greatest, margin_in, widest_in, width_in, pad_in}}
 use Rattle.rule_table.specs.Technology.{numbers_of, width_of, shipped_numbers, shipped2_numbers}
-use Rattle.sym_items.specs.declared.items.End.{End}
-use Rattle.sym_items.specs.declared.items.Coords.{Coords}
-use Rattle.sym_items.specs.Values.{value_at}
-use Rattle.sym_items.specs.Boxes.{IsPlacedEnd, HasSpan, HasBox}
-use Rattle.cell_model.specs.declared.cell.Axis2.TheVariants.{Across, Up}
-use Rattle.cell_model.specs.declared.cell.Cell.{Cell}
-use Rattle.cell_model.specs.declared.cell.NodeKind.{NodeKind}
+use Rattle.sym_items.specs.declared.items.{End.End, Coords.Coords}
+use Rattle.sym_items.specs.{Values.value_at, Boxes.{IsPlacedEnd, HasSpan, HasBox}}
+use Rattle.cell_model.specs.declared.cell.{Axis2.TheVariants.{Across, Up}, Cell.Cell, NodeKind.NodeKind}
 use Rattle.cell_model.specs.declared.cell.NodeKind.TheVariants.{Contact, Buried}
 use Rattle.cell_model.specs.Sound.{IsKind, IsPort, IsSound, LeaveOneSide, port_at, wire_at}
-use Rattle.coarse_grid.specs.Extent.{half_extent_of, pitch_of}
-use Rattle.coarse_grid.specs.Start.{last_line, place, far_border, start_of}
-use Rattle.coarse_grid.specs.Worked.{IsShipped, IsShipped2, node, fet, cell_of, joints, transistor, long_transistor, window, buried, empty, side_to_side, inverter, bare_inverter, below, above, three, close, spaced}
+use Rattle.coarse_grid.specs.{Extent.{half_extent_of, pitch_of}, Start.{last_line, place, far_border, start_of}}
+use Rattle.coarse_grid.specs.Worked.{IsShipped, IsShipped2, node, fet, cell_of, joints, transistor, long_transistor}
+use Rattle.coarse_grid.specs.Worked.{window, buried, empty, side_to_side, inverter, bare_inverter, below, above, three}
+use Rattle.coarse_grid.specs.Worked.{close, spaced}
 use Rattle.list_facts.proofs.Elements.{all_of}
 
 -- ---- pitches and layouts

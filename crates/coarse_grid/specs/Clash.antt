@@ -1,9 +1,7 @@
 -- The least pair of items that are too near one another.
 use Rattle.std.specs.Prelude.{◌≡◌, ℕ, ◌<◌, ◌⊎◌, ℤ, Bool, true, false, int_lt, Option, Some, None, List, length}
 use Rattle.rule_table.specs.declared.technology.Tech.{Tech}
-use Rattle.sym_items.specs.declared.items.Item.{Item}
-use Rattle.sym_items.specs.declared.items.Coords.{Coords}
-use Rattle.sym_items.specs.Sides.{gap_in}
+use Rattle.sym_items.specs.{declared.items.{Item.Item, Coords.Coords}, Sides.gap_in}
 use Rattle.pair_rules.specs.Bound.{item_at, bound_spacing}
 
 -- a gap is below a spacing, where there is one

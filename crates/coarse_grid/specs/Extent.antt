@@ -1,14 +1,8 @@
 -- How far the parts of a cell reach from their grid points, and the pitch of its coarse grid. Lengths are in u.
-use Rattle.std.specs.Prelude.{ℤ, pos, ◌+ℤ◌, ◌*ℤ◌, Bool, true, false, ◌++◌, map, fold}
-use Rattle.std.specs.Int.{int_max}
-use Rattle.rule_table.specs.declared.technology.Tech.{Tech}
-use Rattle.rule_table.specs.Technology.{numbers_of, pad_of, widest_of}
-use Rattle.cell_model.specs.declared.cell.NodeKind.{NodeKind}
-use Rattle.cell_model.specs.declared.cell.NodeKind.TheVariants.{Joint, Contact, Buried, Fet}
-use Rattle.cell_model.specs.declared.cell.Node.{Node}
-use Rattle.cell_model.specs.declared.cell.Wire.{Wire}
-use Rattle.cell_model.specs.declared.cell.Cell.{Cell}
-use Rattle.cell_model.specs.Wiring.{buried_pad}
+use Rattle.std.specs.{Prelude.{ℤ, pos, ◌+ℤ◌, ◌*ℤ◌, Bool, true, false, ◌++◌, map, fold}, Int.int_max}
+use Rattle.rule_table.specs.{declared.technology.Tech.Tech, Technology.{numbers_of, pad_of, widest_of}}
+use Rattle.cell_model.specs.declared.cell.{NodeKind.{NodeKind, TheVariants.{Joint, Contact, Buried, Fet}}, Node.Node}
+use Rattle.cell_model.specs.{declared.cell.{Wire.Wire, Cell.Cell}, Wiring.buried_pad}
 use Rattle.expand.specs.Variables.{half}
 
 -- how far the implant of a transistor goes past its channel; an enhancement one has none

@@ -1,24 +1,13 @@
 -- What holds of the items of a cell in its start layout.
-use Rattle.std.specs.Prelude.{◌≡◌, ℕ, ◌<◌, pos, ◌≤ℤ◌, true, length}
-use Rattle.std.specs.List.{All}
-use Rattle.rule_table.specs.declared.technology.Tech.{Tech}
-use Rattle.rule_table.specs.Technology.{widest_of}
-use Rattle.sym_items.specs.Sides.{gap_in}
-use Rattle.lam_geom.specs.declared.boxes.Axis.{Axis}
-use Rattle.sym_items.specs.declared.items.Coords.{Coords}
-use Rattle.sym_items.specs.Boxes.{HasBox}
-use Rattle.sym_items.specs.Values.{value_of}
+use Rattle.std.specs.{Prelude.{◌≡◌, ℕ, ◌<◌, pos, ◌≤ℤ◌, true, length}, List.All}
+use Rattle.rule_table.specs.{declared.technology.Tech.Tech, Technology.widest_of}
+use Rattle.sym_items.specs.{Sides.gap_in, declared.items.Coords.Coords, Boxes.HasBox, Values.value_of}
 use Rattle.sym_items.specs.Transposed.{values_along}
+use Rattle.lam_geom.specs.declared.boxes.Axis.{Axis}
 use Rattle.pair_rules.specs.Bound.{item_at}
-use Rattle.cell_model.specs.declared.cell.Cell.{Cell}
-use Rattle.cell_model.specs.declared.cell.Nets.{Nets}
-use Rattle.expand.specs.declared.master.Master.{Master}
-use Rattle.expand.specs.Items.{item_list}
-use Rattle.expand.specs.Variables.{variables_of}
-use Rattle.expand.specs.Laws.{EndsAbove}
-use Rattle.coarse_grid.specs.Start.{start_of}
-use Rattle.coarse_grid.specs.Clash.{is_near_at}
-use Rattle.coarse_grid.specs.Ranges.{AreApart, ShareAPoint}
+use Rattle.cell_model.specs.declared.cell.{Cell.Cell, Nets.Nets}
+use Rattle.expand.specs.{declared.master.Master.Master, Items.item_list, Variables.variables_of, Laws.EndsAbove}
+use Rattle.coarse_grid.specs.{Start.start_of, Clash.is_near_at, Ranges.{AreApart, ShareAPoint}}
 
 -- each item has a box
 abbrev pub HasBoxes : Tech → Cell → Nets → Type 0

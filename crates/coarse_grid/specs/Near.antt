@@ -1,10 +1,6 @@
 -- Cells whose parts lie near, and start values that lie near.
-use Rattle.std.specs.Prelude.{ℕ, ◌<◌, ◌≤◌, ◌^◌, ℤ, pos, ◌≤ℤ◌, length}
-use Rattle.std.specs.List.{AllByRecursion}
-use Rattle.cell_model.specs.declared.cell.Node.{Node}
-use Rattle.cell_model.specs.declared.cell.Wire.{Wire}
-use Rattle.cell_model.specs.declared.cell.Cell.{Cell}
-use Rattle.cell_model.specs.Sound.{port_at, IsEnd}
+use Rattle.std.specs.{Prelude.{ℕ, ◌<◌, ◌≤◌, ◌^◌, ℤ, pos, ◌≤ℤ◌, length}, List.AllByRecursion}
+use Rattle.cell_model.specs.{declared.cell.{Node.Node, Wire.Wire, Cell.Cell}, Sound.{port_at, IsEnd}}
 
 -- a pitch that lets every start value fit
 abbrev pub IsPitch : ℤ → Type 0

@@ -1,22 +1,14 @@
 -- The items of a class as a tree of their boxes, and the first item that is too near to another.
 use Rattle.std.specs.Prelude.{◌≡◌, ℕ, ◌+◌, ◌<◌, ◌≤◌, Bool, true, false, IsTrue, All, Some, None, pos, ◌-ℤ◌}
 use Rattle.std.specs.Prelude.{if◌then◌else◌, List, length, slice_get, slice_index_or}
-use Rattle.box_tree.specs.declared.query.Question.{Question}
-use Rattle.box_tree.specs.declared.query.Question.TheVariants.{NearOfOther, NearOfOtherTag}
-use Rattle.box_tree.specs.declared.spots.Group.{Group}
-use Rattle.box_tree.specs.declared.spots.Spot.{Spot}
-use Rattle.box_tree.specs.declared.tree.OwnedParts.{OwnedParts}
+use Rattle.box_tree.specs.declared.query.Question.{Question, TheVariants.{NearOfOther, NearOfOtherTag}}
+use Rattle.box_tree.specs.declared.{spots.{Group.Group, Spot.Spot}, tree.OwnedParts.OwnedParts}
 use Rattle.box_tree.specs.Groves.{AreTreeParts, IsInRun, group_at, spot_in}
 use Rattle.lam_geom.specs.Places.{IsPlacedBox}
-use Rattle.rule_table.specs.declared.classes.Class.{Class}
-use Rattle.rule_table.specs.declared.classes.Rule.{Rule}
-use Rattle.rule_table.specs.declared.technology.Tech.{Tech}
-use Rattle.sym_items.specs.declared.items.Item.{Item}
-use Rattle.sym_items.specs.declared.items.Coords.{Coords}
-use Rattle.sym_items.specs.Sides.{sides_of, sides_in}
+use Rattle.rule_table.specs.declared.{classes.{Class.Class, Rule.Rule}, technology.Tech.Tech}
+use Rattle.sym_items.specs.{declared.items.{Item.Item, Coords.Coords}, Sides.{sides_of, sides_in}}
 use Rattle.pair_rules.specs.Bound.{item_at}
-use Rattle.coarse_grid.specs.declared.class_tree.ClassTree.{ClassTree}
-use Rattle.coarse_grid.specs.Clash.{is_near, is_near_at}
+use Rattle.coarse_grid.specs.{declared.class_tree.ClassTree.ClassTree, Clash.{is_near, is_near_at}}
 
 -- ---- the tree of a class
 

@@ -1,13 +1,8 @@
 -- Coarse ranges: the grid points that a part takes up on the coarse grid. A grid point is a column and a row.
 use Rattle.std.specs.Prelude.{ℕ, ◌-◌, ◌≤◌, nat_lt, if◌then◌else◌, length}
-use Rattle.cell_model.specs.declared.cell.Axis2.{Axis2}
-use Rattle.cell_model.specs.declared.cell.Axis2.TheVariants.{Across, Up}
-use Rattle.cell_model.specs.declared.cell.WireEnd.{WireEnd}
+use Rattle.cell_model.specs.declared.cell.{Axis2.{Axis2, TheVariants.{Across, Up}}, WireEnd.WireEnd, Wire.Wire}
+use Rattle.cell_model.specs.{declared.cell.Cell.Cell, Wiring.is_same_axis, Sound.{node_at, wire_at, line_at}}
 use Rattle.cell_model.specs.declared.cell.WireEnd.TheVariants as ends
-use Rattle.cell_model.specs.declared.cell.Wire.{Wire}
-use Rattle.cell_model.specs.declared.cell.Cell.{Cell}
-use Rattle.cell_model.specs.Wiring.{is_same_axis}
-use Rattle.cell_model.specs.Sound.{node_at, wire_at, line_at}
 use Rattle.coarse_grid.specs.Start.{node_line, last_line}
 
 -- the lines of an axis from one to another

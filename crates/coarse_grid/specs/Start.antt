@@ -2,14 +2,8 @@
 -- `Across`, which is x, and of `Up`, which is y.
 use Rattle.std.specs.Prelude.{ℕ, ◌+◌, max, ℤ, pos, ◌*ℤ◌, List, [], ◌∷◌, ◌++◌, map, fold, flat_map, if◌then◌else◌}
 use Rattle.rule_table.specs.declared.technology.Tech.{Tech}
-use Rattle.cell_model.specs.declared.cell.Axis2.{Axis2}
-use Rattle.cell_model.specs.declared.cell.Axis2.TheVariants.{Across, Up}
-use Rattle.cell_model.specs.declared.cell.Node.{Node}
-use Rattle.cell_model.specs.declared.cell.Port.{Port}
-use Rattle.cell_model.specs.declared.cell.Wire.{Wire}
-use Rattle.cell_model.specs.declared.cell.Cell.{Cell}
-use Rattle.cell_model.specs.Wiring.{is_same_axis, axis_of}
-use Rattle.cell_model.specs.Sound.{line_at}
+use Rattle.cell_model.specs.declared.cell.{Axis2.{Axis2, TheVariants.{Across, Up}}, Node.Node, Port.Port, Wire.Wire}
+use Rattle.cell_model.specs.{declared.cell.Cell.Cell, Wiring.{is_same_axis, axis_of}, Sound.line_at}
 use Rattle.sym_items.specs.declared.items.Coords.{Coords}
 use Rattle.coarse_grid.specs.Extent.{pitch_of}
 

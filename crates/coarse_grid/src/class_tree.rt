@@ -1,10 +1,8 @@
 //! The items of a class as a tree of their boxes.
 
 ghost use Rattle.std.specs.Prelude.{◌≡◌, ◌^◌, ◌+◌, ◌<◌, ◌≤◌, ◌↔◌, IfOk, IsTrue, All, length};
-ghost use Rattle.box_tree.specs.declared.spots.Group.{Group};
-ghost use Rattle.box_tree.specs.declared.tree.OwnedParts.{OwnedParts};
-ghost use Rattle.box_tree.specs.Groves.{spot_in};
-ghost use Rattle.box_tree.specs.Tree.{IsTreeOf};
+ghost use Rattle.box_tree.specs.declared.{spots.Group.Group, tree.OwnedParts.OwnedParts};
+ghost use Rattle.box_tree.specs.{Groves.spot_in, Tree.IsTreeOf};
 ghost use Rattle.lam_geom.specs.Places.{IsPlacedBox};
 ghost use Rattle.sym_items.specs.Boxes.{HasBox};
 ghost use Rattle.coarse_grid.specs.Nearby.{AreAlike, AreFlagged, AreParts, AreSpotsOf, IsClassTree, IsRunAlike};

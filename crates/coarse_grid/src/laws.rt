@@ -2,8 +2,7 @@
 
 ghost use Rattle.cell_model.specs.Sound.{IsSound};
 ghost use Rattle.expand.specs.Masters.{IsMaster};
-ghost use Rattle.coarse_grid.specs.Start.{start_of};
-ghost use Rattle.coarse_grid.specs.Laws.{HasBoxes, KeepsApart, IsLayoutOf, NearShareAPoint};
+ghost use Rattle.coarse_grid.specs.{Start.start_of, Laws.{HasBoxes, KeepsApart, IsLayoutOf, NearShareAPoint}};
 
 use cell_model::{Cell, Nets};
 use expand::Master;

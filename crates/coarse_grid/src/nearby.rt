@@ -3,14 +3,12 @@
 ghost use Rattle.std.specs.Prelude.{◌≡◌, ◌+◌, ◌<◌, ◌≤◌, ◌^◌, ℕ, pos, ◌≤ℤ◌, true, None, length, All, IsTrue, MatchBool};
 ghost use Rattle.std.specs.Prelude.{IfOk, IfNone, IfSome};
 ghost use Rattle.box_tree.specs.declared.spots.Spot.{Spot};
-ghost use Rattle.box_tree.specs.Groves.{IsInRun, group_at};
-ghost use Rattle.box_tree.specs.Queries.{Holds, IsQuery, IsQuestion};
+ghost use Rattle.box_tree.specs.{Groves.{IsInRun, group_at}, Queries.{Holds, IsQuery, IsQuestion}};
 ghost use Rattle.sym_items.specs.Boxes.{HasBox};
-ghost use Rattle.pair_rules.specs.Bound.{item_at, bound_spacing};
-ghost use Rattle.pair_rules.specs.Clean.{IsClean};
-ghost use Rattle.coarse_grid.specs.Clash.{is_near_at, IsFirstClash};
-ghost use Rattle.coarse_grid.specs.Nearby.{AreParts, HasNear, IsClassTree, IsFarRun, IsFirstNear, IsFirstOf};
-ghost use Rattle.coarse_grid.specs.Nearby.{IsNearOf, IsRunAlike, IsSpotOf, item_in, question_of};
+ghost use Rattle.pair_rules.specs.{Bound.{item_at, bound_spacing}, Clean.IsClean};
+ghost use Rattle.coarse_grid.specs.{Clash.{is_near_at, IsFirstClash}, Nearby.{AreParts, HasNear, IsClassTree}};
+ghost use Rattle.coarse_grid.specs.Nearby.{IsFarRun, IsFirstNear, IsFirstOf, IsNearOf, IsRunAlike, IsSpotOf, item_in};
+ghost use Rattle.coarse_grid.specs.Nearby.{question_of};
 
 use crate::clash::{first_near, is_near};
 use crate::class_tree::{ClassTree, class_tree, item_in, spot_in};

@@ -1,24 +1,18 @@
 -- What the text of an axis is made of: the last pass on it, and the greatest values after this.
 use Rattle.std.proofs.Common.{◌≡◌, ℕ, ◌+◌, ◌-◌, ◌<◌, ℤ, List, [], length, get_or, sym, ap, ◌∙◌, subst, arith}
-use Rattle.std.specs.List.{All}
-use Rattle.std.proofs.lemmas.List.{get_or_default}
-use Rattle.lam_geom.specs.declared.boxes.Axis.{Axis}
-use Rattle.lam_geom.specs.Places.{IsPlace}
+use Rattle.std.{proofs.lemmas.List.get_or_default, specs.List.All}
+use Rattle.lam_geom.specs.{declared.boxes.Axis.Axis, Places.IsPlace}
 use Rattle.lam_io.specs.Io.{Bytes}
 use Rattle.rule_table.specs.declared.technology.Tech.{Tech}
 use Rattle.sym_items.specs.declared.items.Coords.{Coords}
 use Rattle.expand.specs.declared.master.Master.{Master}
 use Rattle.plan_model.specs.declared.plan.Plan.{Plan}
-use Rattle.pitch_join.specs.Masters.{ArePlanned}
-use Rattle.pitch_join.specs.Joined.{joint_variables}
-use Rattle.pass_run.specs.declared.step.Step.{Step}
-use Rattle.pass_run.specs.Layouts.{starts_of}
-use Rattle.pass_run.specs.Slack.{AreMosts, AreTight, IsLastOn, IsMostAfter, IsTightWhereCritical, most_at}
+use Rattle.pitch_join.specs.{Masters.ArePlanned, Joined.joint_variables}
+use Rattle.pass_run.specs.{declared.step.Step.Step, Layouts.starts_of, Slack.{AreMosts, AreTight, IsLastOn}}
+use Rattle.pass_run.specs.Slack.{IsMostAfter, IsTightWhereCritical, most_at}
 use Rattle.slack_text.specs.Slack.{axis_slack}
-use Rattle.compact_run.specs.Designs.{ArePlaced}
-use Rattle.compact_run.specs.Slacks.{HasSlack, step_at}
-use Rattle.compact_run.proofs.LastPass.{last_least, last_on_axis, last_paths}
-use Rattle.compact_run.proofs.SlackBounds.{least_places, most_places}
+use Rattle.compact_run.specs.{Designs.ArePlaced, Slacks.{HasSlack, step_at}}
+use Rattle.compact_run.proofs.{LastPass.{last_least, last_on_axis, last_paths}, SlackBounds.{least_places, most_places}}
 
 -- Pass number k, from 0 on, is the last on an axis, and these are its values and the greatest ones.
 pub record IsLastWith (tech : Tech) (plan : Plan) (masters : List Master) (steps : List Step) (axis : Axis) (k : ℕ) (least most : List ℤ) : Type 0 where

@@ -1,26 +1,19 @@
 -- What holds of each cell that a design's grids name.
-use Rattle.std.proofs.Common.{◌≡◌, ◌≢◌, ℕ, ◌≤◌, Bool, true, false, Option, Some, None, List, [], ◌∷◌, length, get_or, refl, sym, ap, ◌∙◌, subst, arith}
-use Rattle.std.specs.Prelude.{All, nat_le, ◌&&◌, bytes_eq, is_none, unwrap_or, if◌then◌else◌}
-use Rattle.std.specs.List.{AllByRecursion, flat_map, list_all}
-use Rattle.std.specs.Char.{is_ascii_alphabetic}
-use Rattle.std.specs.Option.{option_or}
-use Rattle.std.proofs.lemmas.Bool.{true≢false}
-use Rattle.std.proofs.lemmas.Bool.Decides.{nat_tests}
-use Rattle.std.proofs.lemmas.List.Quantifiers.{position-Some}
-use Rattle.std.proofs.lemmas.Slice.Eq.{bytes_eq-Decides}
+use Rattle.std.proofs.Common.{◌≡◌, ◌≢◌, ℕ, ◌≤◌, Bool, true, false, Option, Some, None, List, [], ◌∷◌, length, get_or}
+use Rattle.std.proofs.{Common.{refl, sym, ap, ◌∙◌, subst, arith}, lemmas.Bool.{true≢false, Decides.nat_tests}}
+use Rattle.std.proofs.lemmas.{List.Quantifiers.position-Some, Slice.Eq.bytes_eq-Decides}
+use Rattle.std.specs.{Prelude.{All, nat_le, ◌&&◌, bytes_eq, is_none, unwrap_or, if◌then◌else◌}, List.AllByRecursion}
+use Rattle.std.specs.{List.{flat_map, list_all}, Char.is_ascii_alphabetic, Option.option_or}
 use Rattle.list_facts.proofs.Elements.{all_at, all_flat, all_map, all_of, by_number}
 use Rattle.stick_lex.specs.Tokens.{is_name_byte}
-use Rattle.stick_parse.specs.declared.design.GridText.{GridText}
-use Rattle.stick_parse.specs.declared.design.RowText.{RowText}
-use Rattle.stick_parse.specs.Writable.{IsName, IsRow, IsGrid}
-use Rattle.stick_cell.specs.Known.{Known, known_at, begun}
-use Rattle.stick_cell.specs.Lines.{number_of}
+use Rattle.stick_parse.specs.{declared.design.{GridText.GridText, RowText.RowText}, Writable.{IsName, IsRow, IsGrid}}
+use Rattle.stick_cell.specs.{Known.{Known, known_at, begun}, Lines.number_of}
 use Rattle.pitch_join.proofs.Lists.{all_firsts}
 use Rattle.grid_plan.specs.declared.fault.GridFault.TheVariants.{UnknownCell}
-use Rattle.grid_plan.specs.Faults.{unknown_cell, unknown_in_row, unknown_in, ragged_in, misfit_in, fault_of_rows, grid_fault, numbered_fault, plan_fault}
-use Rattle.grid_plan.specs.Numbered.{cell_named, numbers_in_row, numbers_in_grid, ports_of_cells, is_same_number, masters_in}
-use Rattle.grid_plan.proofs.GridsFit.{no_image}
-use Rattle.grid_plan.proofs.GridsRead.{both_none, nowhere}
+use Rattle.grid_plan.specs.Faults.{unknown_cell, unknown_in_row, unknown_in, ragged_in, misfit_in, fault_of_rows}
+use Rattle.grid_plan.specs.{Faults.{grid_fault, numbered_fault, plan_fault}, Numbered.{cell_named, numbers_in_row}}
+use Rattle.grid_plan.specs.Numbered.{numbers_in_grid, ports_of_cells, is_same_number, masters_in}
+use Rattle.grid_plan.proofs.{GridsFit.no_image, GridsRead.{both_none, nowhere}}
 
 -- what a name has to give of the cell with the name
 abbrev pub OfNamed : List Known → (ℕ → Type 0) → Type 0

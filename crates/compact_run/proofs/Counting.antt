@@ -1,8 +1,7 @@
 -- Masters and mask boxes, one after another.
-use Rattle.std.proofs.Common.{◌≡◌, ℕ, zero, suc, ◌+◌, ◌<◌, List, [], ◌∷◌, ◌++◌, length, map, take, get_or, sym, ap, subst, ◌∙◌, arith}
-use Rattle.std.specs.Prelude.{All}
-use Rattle.std.proofs.lemmas.List.{length-map, get_or-map, map_more, map-append, take_more}
-use Rattle.std.proofs.lemmas.List.Elements.{All-get_or, All-from_get_or, All-append}
+use Rattle.std.proofs.Common.{◌≡◌, ℕ, zero, suc, ◌+◌, ◌<◌, List, [], ◌∷◌, ◌++◌, length, map, take, get_or, sym, ap}
+use Rattle.std.proofs.{Common.{subst, ◌∙◌, arith}, lemmas.List.{length-map, get_or-map, map_more, map-append}}
+use Rattle.std.{proofs.lemmas.List.{take_more, Elements.{All-get_or, All-from_get_or, All-append}}, specs.Prelude.All}
 
 -- what holds of each image holds of that of each element
 pub among_images : {A B : Type 0} (P : B → Type 0) (f : A → B) (xs : List A) (i : ℕ) (d : A) → i < length xs → All P (map f xs) → P (f (get_or xs i d))

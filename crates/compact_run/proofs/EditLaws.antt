@@ -1,31 +1,21 @@
 -- Laws on all edits.
-use Rattle.std.proofs.Common.{◌≡◌, ◌≤◌, ◌<◌, Some, Ok, List, [], length, refl, sym, ap, ◌∙◌, subst}
-use Rattle.std.specs.FinMap.{get}
+use Rattle.std.{proofs.Common.{◌≡◌, ◌≤◌, ◌<◌, Some, Ok, List, [], length, refl, sym, ap, ◌∙◌, subst}, specs.FinMap.get}
 use Rattle.lam_geom.specs.declared.boxes.Axis.{Axis}
 use Rattle.lam_io.specs.Io.{Bytes, Files}
-use Rattle.rule_table.specs.declared.technology.Tech.{Tech}
-use Rattle.rule_table.specs.Technology.{numbers_of}
+use Rattle.rule_table.specs.{declared.technology.Tech.Tech, Technology.numbers_of}
 use Rattle.tech_file.specs.Technology.{technology_of}
-use Rattle.stick_parse.specs.declared.design.Design.{Design as Sticks}
-use Rattle.stick_parse.specs.Order.{design_of}
+use Rattle.stick_parse.specs.{declared.design.Design.Design as Sticks, Order.design_of}
 use Rattle.stick_print.specs.Canonical.{canonical}
-use Rattle.compact_run.specs.declared.status.File.TheVariants.{Design, Technology}
-use Rattle.compact_run.specs.declared.status.Status.{Status}
-use Rattle.compact_run.specs.declared.status.Status.TheVariants as status
-use Rattle.compact_run.specs.Limits.{most_design_bytes}
-use Rattle.compact_run.specs.Refusal.{line_of}
-use Rattle.compact_run.specs.Designs.{RefusesDesign, last_layouts}
-use Rattle.compact_run.specs.Edits as edits
-use Rattle.compact_run.specs.Edits.{IsAnswered, done, too_long, code_word}
-use Rattle.compact_run.specs.Answers.{IsTechnology, IsDesign, IsCompacted, RefusesCompact, no_technology, no_design, no_masks, RefusesSticks}
-use Rattle.compact_run.specs.EditLaws.{AreEditsJudgedAsTexts, CompactAnswers, compacted, refused}
-use Rattle.compact_run.specs.OneAnswer.{IsDecided}
-use Rattle.compact_run.proofs.OneFile.{read_once, not_both}
-use Rattle.compact_run.proofs.OneMaster.{same_tech}
-use Rattle.compact_run.proofs.LeastLayouts.{placed_least}
-use Rattle.compact_run.proofs.OneEdits.{one_word}
-use Rattle.compact_run.proofs.OneCompact.{tech_read, sticks_read, tech_refused, sticks_refused}
+use Rattle.compact_run.specs.declared.status.{File.TheVariants.{Design, Technology}, Status.Status}
+use Rattle.compact_run.specs.{Limits.most_design_bytes, Refusal.line_of, Designs.{RefusesDesign, last_layouts}}
+use Rattle.compact_run.specs.{Edits.{IsAnswered, done, too_long, code_word}, Answers.{IsTechnology, IsDesign}}
+use Rattle.compact_run.specs.Answers.{IsCompacted, RefusesCompact, no_technology, no_design, no_masks, RefusesSticks}
+use Rattle.compact_run.specs.{EditLaws.{AreEditsJudgedAsTexts, CompactAnswers, compacted, refused}, OneAnswer.IsDecided}
+use Rattle.compact_run.proofs.{OneFile.{read_once, not_both}, OneMaster.same_tech, LeastLayouts.placed_least}
+use Rattle.compact_run.proofs.{OneEdits.one_word, OneCompact.{tech_read, sticks_read, tech_refused, sticks_refused}}
 use Rattle.compact_run.proofs.JogLaws.{reads_itself}
+use Rattle.compact_run.specs.declared.status.Status.TheVariants as status
+use Rattle.compact_run.specs.Edits as edits
 
 -- ---- from an answer
 

@@ -1,43 +1,32 @@
 -- One edit after another.
-use Rattle.std.proofs.Common.{◌≡◌, ℕ, suc, ◌+◌, ◌<◌, ◌≤◌, ℤ, Option, Some, Ok, ◌⊎◌, inl, inr, List, [], ◌∷◌, ◌++◌, length, take, get_or, option_map, refl, sym, ap, ◌∙◌, subst, arith}
-use Rattle.std.specs.Prelude.{codes, flat_map}
-use Rattle.std.specs.Fmt.{signed_decimal}
-use Rattle.std.specs.List.{range_with_len}
-use Rattle.std.proofs.lemmas.List.{append_assoc, append-nil, length-take-le, take_more}
-use Rattle.std.proofs.lemmas.List.Concat.{flat_map-cons}
+use Rattle.std.proofs.Common.{◌≡◌, ℕ, suc, ◌+◌, ◌<◌, ◌≤◌, ℤ, Option, Some, Ok, ◌⊎◌, inl, inr, List, [], ◌∷◌, ◌++◌}
+use Rattle.std.proofs.Common.{length, take, get_or, option_map, refl, sym, ap, ◌∙◌, subst, arith}
+use Rattle.std.proofs.lemmas.List.{append_assoc, append-nil, length-take-le, take_more, Concat.flat_map-cons}
 use Rattle.std.proofs.lemmas.Grind.{flat_map-append}
+use Rattle.std.specs.{Prelude.{codes, flat_map}, Fmt.signed_decimal, List.range_with_len}
 use Rattle.design_gen.proofs.Growing.{range_more}
-use Rattle.lam_geom.specs.declared.boxes.Axis.{Axis}
-use Rattle.lam_geom.specs.declared.boxes.Axis.TheVariants.{X, Y}
+use Rattle.lam_geom.specs.declared.boxes.Axis.{Axis, TheVariants.{X, Y}}
 use Rattle.lam_io.specs.Io.{Bytes, Files, Telling, Asks, with_asked}
 use Rattle.rule_table.specs.declared.technology.Tech.{Tech}
 use Rattle.stick_parse.specs.declared.design.Design.{Design}
-use Rattle.edit_lines.specs.declared.script.EditLine.{EditLine}
-use Rattle.edit_lines.specs.Edits.{IsEdited}
-use Rattle.edit_lines.proofs.Designs.{edited_is_determined}
+use Rattle.edit_lines.{specs.{declared.script.EditLine.EditLine, Edits.IsEdited}, proofs.Designs.edited_is_determined}
 use Rattle.stick_print.specs.Canonical.{canonical}
-use Rattle.stick_cell.specs.Known.{Known}
-use Rattle.stick_cell.specs.Grids.{resolved_cells}
+use Rattle.stick_cell.specs.{Known.Known, Grids.resolved_cells}
 use Rattle.expand.specs.declared.master.Master.{Master}
 use Rattle.plan_model.specs.declared.plan.Plan.{Plan}
 use Rattle.pass_run.specs.declared.step.Step.{Step}
 use Rattle.pitch_join.specs.Masters.{master_at, master_numbers}
-use Rattle.sym_items.specs.declared.items.Coords.{Coords}
-use Rattle.sym_items.specs.Layouts.{size_in}
-use Rattle.compact_run.specs.declared.edit.Stepped.{Stepped}
+use Rattle.sym_items.specs.{declared.items.Coords.Coords, Layouts.size_in}
+use Rattle.compact_run.specs.declared.{edit.Stepped.Stepped, status.{File.File, What.TheVariants.{Items, Boxes, Edges}}}
+use Rattle.compact_run.specs.{declared.status.{What.TheVariants.Extent, Status.Status}, Limits.most_design_bytes}
+use Rattle.compact_run.specs.{Plans.{AreMastersOf, RefusesPlan}, Fetches.{AsksFor, AsksThrough, IsRefusal, ends_over}}
+use Rattle.compact_run.specs.Designs.{ArePlaced, IsBeforePasses, RefusesDesign, RefusesMasters, last_layouts}
+use Rattle.compact_run.specs.{Designs.{no_masters, no_masks}, Edits.{AreLeastLayouts, IsAnswered, done, Changes}}
+use Rattle.compact_run.specs.Edits.{IsStep, AreSteps, IsNextStep, done_word, size_word, step_line}
+use Rattle.compact_run.{specs.Answers.{RefusesTechnology, RefusesSticks}, proofs.LeastLayouts.placed_least}
 use Rattle.run_words.specs.Words.{edit}
-use Rattle.compact_run.specs.declared.status.File.{File}
 use Rattle.compact_run.specs.declared.status.File.TheVariants as file
-use Rattle.compact_run.specs.declared.status.What.TheVariants.{Items, Boxes, Edges, Extent}
-use Rattle.compact_run.specs.declared.status.Status.{Status}
 use Rattle.compact_run.specs.declared.status.Status.TheVariants as status
-use Rattle.compact_run.specs.Limits.{most_design_bytes}
-use Rattle.compact_run.specs.Plans.{AreMastersOf, RefusesPlan}
-use Rattle.compact_run.specs.Fetches.{AsksFor, AsksThrough, IsRefusal, ends_over}
-use Rattle.compact_run.specs.Designs.{ArePlaced, IsBeforePasses, RefusesDesign, RefusesMasters, last_layouts, no_masters, no_masks}
-use Rattle.compact_run.specs.Edits.{AreLeastLayouts, IsAnswered, done, Changes, IsStep, AreSteps, IsNextStep, done_word, size_word, step_line}
-use Rattle.compact_run.specs.Answers.{RefusesTechnology, RefusesSticks}
-use Rattle.compact_run.proofs.LeastLayouts.{placed_least}
 
 -- ---- refusals before the passes
 

@@ -2,17 +2,15 @@
 use Rattle.std.proofs.Common.{◌≡◌, ℕ, List, [], Option, Some, None, ◌⊎◌, inl, inr, refl, sym, ap, ◌∙◌, subst}
 use Rattle.std.proofs.lemmas.List.{append-nil}
 use Rattle.lam_io.specs.Io.{Bytes, Files, Telling, Appends, AppendsPrefix, Rose}
-use Rattle.compact_run.specs.declared.status.File.{File}
-use Rattle.compact_run.specs.declared.status.Side2.{Side2}
+use Rattle.compact_run.specs.declared.status.{File.File, Side2.{Side2, TheVariants.{Output, Report}}, Status.Status}
+use Rattle.compact_run.specs.declared.cif.CifJob.TheVariants.{Extract, Check}
+use Rattle.compact_run.specs.{Refusal.line_of, Fetches.{IsRefusal, IsCounted, AsksFor, AsksThrough, ends_over}}
+use Rattle.compact_run.specs.Answers.{IsAnswer, compacted, measured, jogged, edited, told, formatted, benched, refused}
+use Rattle.compact_run.specs.Answers.{output_failed, report_failed, WordsWrite, RefusesWords, IsFree, NothingRefuses}
+use Rattle.compact_run.specs.Answers.{Writes, Reports, Tells, IsUntouched, write_fault_line}
 use Rattle.compact_run.specs.declared.status.Side2.TheVariants as side
-use Rattle.compact_run.specs.declared.status.Side2.TheVariants.{Output, Report}
-use Rattle.compact_run.specs.declared.status.Status.{Status}
 use Rattle.compact_run.specs.declared.status.Status.TheVariants as status
 use Rattle.run_words.specs.Words.{Command, compact, slack, jog, edit, check, extract, fmt, bench, command_of}
-use Rattle.compact_run.specs.declared.cif.CifJob.TheVariants.{Extract, Check}
-use Rattle.compact_run.specs.Refusal.{line_of}
-use Rattle.compact_run.specs.Fetches.{IsRefusal, IsCounted, AsksFor, AsksThrough, ends_over}
-use Rattle.compact_run.specs.Answers.{IsAnswer, compacted, measured, jogged, edited, told, formatted, benched, refused, output_failed, report_failed, WordsWrite, RefusesWords, IsFree, NothingRefuses, Writes, Reports, Tells, IsUntouched, write_fault_line}
 
 -- an answer, and what it left of the output and the report
 abbrev pub Answered : List Bytes → Files → Status → Option Bytes → Option Bytes → Option Bytes → Option Bytes → ℕ → ℕ → Type 0

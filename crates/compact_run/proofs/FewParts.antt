@@ -1,27 +1,18 @@
 -- A design with few names in its grids has masters of few parts, and few boxes in all instances.
-use Rattle.std.proofs.Common.{◌≡◌, ℕ, ◌^◌, ◌≤◌, List, All, length, map, sym, ap, ◌∙◌, arith}
-use Rattle.std.specs.List.{sum_by}
-use Rattle.std.proofs.lemmas.List.{length-map}
-use Rattle.std.proofs.lemmas.List.Sums.{sum_by-le-sum_by}
-use Rattle.std.proofs.lemmas.Simd.{map-map}
+use Rattle.std.proofs.{Common.{◌≡◌, ℕ, ◌^◌, ◌≤◌, List, All, length, map, sym, ap, ◌∙◌, arith}, lemmas.List.length-map}
+use Rattle.std.{proofs.lemmas.{List.Sums.sum_by-le-sum_by, Simd.map-map}, specs.List.sum_by}
 use Rattle.rule_table.specs.declared.technology.Tech.{Tech}
 use Rattle.cell_model.specs.Counts.{boxes_in}
-use Rattle.stick_parse.specs.declared.design.RowText.{RowText}
-use Rattle.stick_parse.specs.declared.design.GridText.{GridText}
-use Rattle.stick_parse.specs.declared.design.Design.{Design}
-use Rattle.stick_cell.specs.Counts.{weight_of, boxes_of}
-use Rattle.stick_cell.specs.Known.{Known, cell_of, known_at}
+use Rattle.stick_parse.specs.declared.design.{RowText.RowText, GridText.GridText, Design.Design}
+use Rattle.stick_cell.specs.{Counts.{weight_of, boxes_of}, Known.{Known, cell_of, known_at}}
 use Rattle.expand.specs.declared.master.Master.{Master}
 use Rattle.plan_model.specs.declared.plan.Plan.{Plan}
-use Rattle.grid_plan.specs.Numbered.{numbers_in_row, numbers_in_grid, masters_in, master_of}
-use Rattle.grid_plan.specs.Planned.{IsPlanOf}
+use Rattle.grid_plan.specs.{Numbered.{numbers_in_row, numbers_in_grid, masters_in, master_of}, Planned.IsPlanOf}
 use Rattle.design_sizes.specs.Sizes.{names_in_row, names_in_grid, names_in}
 use Rattle.written_masks.specs.Parts.{boxes_of_master, boxes_of_instances, instances_in, HasShortName, HasFewParts}
-use Rattle.written_masks.proofs.Listed.{instances_listed, masters_listed}
-use Rattle.written_masks.proofs.Sums.{sum_every, sum_images}
-use Rattle.compact_run.specs.Limits.{most_boxes}
-use Rattle.compact_run.specs.Plans.{boxes_of_masters, boxes_of_all, IsLightPlan, HaveCells, AreMastersOf}
-use Rattle.compact_run.proofs.Weights.{fewer_boxes}
+use Rattle.written_masks.proofs.{Listed.{instances_listed, masters_listed}, Sums.{sum_every, sum_images}}
+use Rattle.compact_run.specs.{Limits.most_boxes, Plans.{boxes_of_masters, boxes_of_all, IsLightPlan, HaveCells}}
+use Rattle.compact_run.{specs.Plans.AreMastersOf, proofs.Weights.fewer_boxes}
 
 -- ---- instances
 

@@ -5,23 +5,15 @@ use Rattle.cons_graph.specs.Solutions.{value_of}
 use Rattle.lam_geom.specs.declared.boxes.Axis.{Axis}
 use Rattle.lam_io.specs.Io.{Bytes, Files}
 use Rattle.rule_table.specs.declared.technology.Tech.{Tech}
-use Rattle.stick_parse.specs.declared.design.Design.{Design as Sticks}
-use Rattle.stick_parse.specs.Order.{design_of}
-use Rattle.stick_parse.specs.Writable.{IsWritable}
+use Rattle.stick_parse.specs.{declared.design.Design.Design as Sticks, Order.design_of, Writable.IsWritable}
 use Rattle.stick_parse.proofs.Shapes.{design_read}
-use Rattle.stick_print.specs.Canonical.{canonical}
-use Rattle.stick_print.specs.ReadBack.{laid_out}
-use Rattle.stick_print.proofs.Whole.{said_by_canonical}
+use Rattle.stick_print.{specs.{Canonical.canonical, ReadBack.laid_out}, proofs.Whole.said_by_canonical}
 use Rattle.design_sizes.proofs.Numbered.{set_once}
 use Rattle.jog_insert.specs.declared.script.JogLine.{JogLine}
 use Rattle.compact_run.specs.Jogs.{widths_after, IsLaidOutAs, IsNoWider, IsTried, accepted, rejected, AreJogs}
-use Rattle.compact_run.specs.JogLaws.{JogsWidenNoCell, AreJudgedAsTexts}
-use Rattle.compact_run.specs.declared.status.File.TheVariants.{Design}
-use Rattle.compact_run.specs.Answers.{IsTechnology, IsDesign, IsCompacted}
-use Rattle.compact_run.specs.Designs.{masks_text, passes_text}
-use Rattle.compact_run.proofs.OneFile.{read_once}
-use Rattle.compact_run.proofs.OneMaster.{same_tech}
-use Rattle.compact_run.proofs.OneCompact.{tech_read, sticks_read}
+use Rattle.compact_run.specs.{JogLaws.{JogsWidenNoCell, AreJudgedAsTexts}, declared.status.File.TheVariants.Design}
+use Rattle.compact_run.specs.{Answers.{IsTechnology, IsDesign, IsCompacted}, Designs.{masks_text, passes_text}}
+use Rattle.compact_run.proofs.{OneFile.read_once, OneMaster.same_tech, OneCompact.{tech_read, sticks_read}}
 
 below : (a b c : ℤ) → a ≤ℤ b → b ≤ℤ c → a ≤ℤ c
 below a b c p q = omega (arith, ints, p, q)

@@ -1,31 +1,20 @@
 -- One jog after another.
-use Rattle.std.proofs.Common.{◌≡◌, ℕ, suc, ◌+◌, ◌<◌, ◌≤◌, ℤ, ◌<ℤ◌, ◌≤ℤ◌, Option, Some, None, Result, Ok, Err, List, [], ◌∷◌, ◌++◌, length, map, take, get_or, refl, sym, ap, ◌∙◌, subst, arith}
-use Rattle.std.specs.Prelude.{IfOk, IfErr, IfSome, IfNone, ◌==◌, position}
-use Rattle.std.specs.List.{sum_by}
-use Rattle.std.proofs.lemmas.List.{append_assoc, append-nil, length-take-le, take_more}
-use Rattle.std.proofs.lemmas.List.Sums.{sum_by-cons}
+use Rattle.std.proofs.Common.{◌≡◌, ℕ, suc, ◌+◌, ◌<◌, ◌≤◌, ℤ, ◌<ℤ◌, ◌≤ℤ◌, Option, Some, None, Result, Ok, Err, List, []}
+use Rattle.std.proofs.Common.{◌∷◌, ◌++◌, length, map, take, get_or, refl, sym, ap, ◌∙◌, subst, arith}
+use Rattle.std.proofs.lemmas.List.{append_assoc, append-nil, length-take-le, take_more, Sums.sum_by-cons}
+use Rattle.std.specs.{Prelude.{IfOk, IfErr, IfSome, IfNone, ◌==◌, position}, List.sum_by}
 use Rattle.lam_geom.specs.declared.boxes.Axis.{Axis}
 use Rattle.lam_io.specs.Io.{Bytes}
 use Rattle.cons_graph.specs.Solutions.{value_of}
 use Rattle.rule_table.specs.declared.technology.Tech.{Tech}
-use Rattle.stick_parse.specs.declared.design.RowText.{RowText}
-use Rattle.stick_parse.specs.declared.design.GridText.{GridText}
-use Rattle.stick_parse.specs.declared.design.Design.{Design}
-use Rattle.stick_print.specs.Canonical.{canonical}
-use Rattle.stick_print.specs.ReadBack.{without_line}
+use Rattle.stick_parse.specs.declared.design.{RowText.RowText, GridText.GridText, Design.Design}
+use Rattle.stick_print.specs.{Canonical.canonical, ReadBack.without_line}
 use Rattle.design_sizes.specs.Sizes.{names_in, names_in_grid, names_in_row}
-use Rattle.stick_cell.specs.Known.{Known, cell_of, known_at}
-use Rattle.stick_cell.specs.Lines.{number_of}
-use Rattle.stick_cell.specs.Grids.{resolved_cells}
-use Rattle.jog_insert.specs.declared.script.JogLine.{JogLine}
-use Rattle.jog_insert.specs.Jogs.{IsJogged}
-use Rattle.jog_insert.proofs.Determined.{jogged_is_determined}
-use Rattle.compact_run.specs.declared.jog.Accepted.{Accepted}
-use Rattle.compact_run.specs.declared.jog.Bent.{Bent}
-use Rattle.compact_run.specs.declared.jog.Sizes.{Sizes}
-use Rattle.compact_run.specs.declared.output.Output.{Output}
-use Rattle.compact_run.specs.Jogs.{IsLaidOutAs, IsKept, Accepts, IsRejected, IsTried, accepted, rejected, AreJogs, IsNextJog, JogsTo, accepted_line, rejected_line}
-use Rattle.compact_run.specs.Answers.{text_of}
+use Rattle.stick_cell.specs.{Known.{Known, cell_of, known_at}, Lines.number_of, Grids.resolved_cells}
+use Rattle.jog_insert.{specs.{declared.script.JogLine.JogLine, Jogs.IsJogged}, proofs.Determined.jogged_is_determined}
+use Rattle.compact_run.specs.declared.{jog.{Accepted.Accepted, Bent.Bent, Sizes.Sizes}, output.Output.Output}
+use Rattle.compact_run.specs.Jogs.{IsLaidOutAs, IsKept, Accepts, IsRejected, IsTried, accepted, rejected, AreJogs}
+use Rattle.compact_run.specs.{Jogs.{IsNextJog, JogsTo, accepted_line, rejected_line}, Answers.text_of}
 use Rattle.compact_run.proofs.OneLayout.{one_layout}
 
 -- ---- what a new design keeps

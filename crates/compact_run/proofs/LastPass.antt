@@ -1,17 +1,13 @@
 -- The last pass on an axis, by its number, and what is known of it.
-use Rattle.std.proofs.Common.{◌≡◌, ℕ, zero, suc, ◌+◌, ◌<◌, ◌≤◌, List, [], ◌∷◌, length, get_or, inl, inr, refl, sym, ◌∙◌, subst, arith}
-use Rattle.std.specs.Prelude.{Contains}
-use Rattle.std.proofs.lemmas.Bool.{cases_lt}
+use Rattle.std.proofs.Common.{◌≡◌, ℕ, zero, suc, ◌+◌, ◌<◌, ◌≤◌, List, [], ◌∷◌, length, get_or, inl, inr, refl, sym, ◌∙◌}
+use Rattle.std.{proofs.{Common.{subst, arith}, lemmas.Bool.cases_lt}, specs.Prelude.Contains}
 use Rattle.lam_geom.specs.declared.boxes.Axis.{Axis}
 use Rattle.rule_table.specs.declared.technology.Tech.{Tech}
 use Rattle.sym_items.specs.declared.items.Coords.{Coords}
 use Rattle.expand.specs.declared.master.Master.{Master}
 use Rattle.plan_model.specs.declared.plan.Plan.{Plan}
-use Rattle.pass_run.specs.declared.step.Step.{Step}
-use Rattle.pass_run.specs.Layouts.{moved_by}
-use Rattle.pass_run.specs.Passes.{IsLeastPass, ArePasses, axes_of}
-use Rattle.pass_run.specs.Slack.{IsLastOn, here, later}
-use Rattle.pass_run.specs.Theorems.{HasCriticalPath, AreSound}
+use Rattle.pass_run.specs.{declared.step.Step.Step, Layouts.moved_by, Passes.{IsLeastPass, ArePasses, axes_of}}
+use Rattle.pass_run.specs.{Slack.{IsLastOn, here, later}, Theorems.{HasCriticalPath, AreSound}}
 use Rattle.pass_run.proofs.Chain.{axes_counted}
 use Rattle.compact_run.specs.Slacks.{step_at}
 

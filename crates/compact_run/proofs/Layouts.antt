@@ -1,46 +1,28 @@
 -- How masters are laid out, or refused.
-use Rattle.std.proofs.Common.{◌≡◌, ℕ, ◌*◌, ℤ, pos, negsuc, List, [], get_or, take, inl, inr, sym, subst, arith, ◌<◌, ◌≤◌, length}
+use Rattle.std.proofs.Common.{◌≡◌, ℕ, ◌*◌, ℤ, pos, negsuc, List, [], get_or, take, inl, inr, sym, subst, arith, ◌<◌}
+use Rattle.std.proofs.{Common.{◌≤◌, length}, Math.{IntN.pos-*ℤ-pos, Nat.le-mul_of_pos_right}}
+use Rattle.std.proofs.lemmas.{Bool.cases_lt, Int.ints, List.{get_or_default, get_or_past, Elements.All-get_or}}
 use Rattle.std.specs.Prelude.{All, Contains, ◌≤ℤ◌, ◌*ℤ◌, ◌^◌}
-use Rattle.std.proofs.Math.IntN.{pos-*ℤ-pos}
-use Rattle.std.proofs.Math.Nat.{le-mul_of_pos_right}
-use Rattle.std.proofs.lemmas.Bool.{cases_lt}
-use Rattle.std.proofs.lemmas.Int.{ints}
-use Rattle.std.proofs.lemmas.List.{get_or_default, get_or_past}
-use Rattle.std.proofs.lemmas.List.Elements.{All-get_or}
-use Rattle.lam_geom.specs.declared.boxes.Axis.{Axis}
-use Rattle.lam_geom.specs.declared.boxes.Axis.TheVariants.{X, Y}
+use Rattle.lam_geom.specs.declared.boxes.Axis.{Axis, TheVariants.{X, Y}}
 use Rattle.lam_io.specs.Io.{Bytes}
-use Rattle.rule_table.specs.declared.technology.Tech.{Tech}
-use Rattle.rule_table.specs.Technology.{numbers_of}
-use Rattle.rule_table.proofs.Sound.{sound}
-use Rattle.sym_items.specs.declared.items.Coords.{Coords}
-use Rattle.sym_items.specs.Boxes.{HasBox}
-use Rattle.sym_items.specs.Layouts.{layout_at, no_layout, size_in}
-use Rattle.sym_items.specs.Transposed.{values_along}
-use Rattle.sym_items.specs.Values.{value_of}
+use Rattle.rule_table.{specs.{declared.technology.Tech.Tech, Technology.numbers_of}, proofs.Sound.sound}
+use Rattle.sym_items.specs.{declared.items.Coords.Coords, Boxes.HasBox, Layouts.{layout_at, no_layout, size_in}}
+use Rattle.sym_items.specs.{Transposed.values_along, Values.value_of}
 use Rattle.expand.specs.declared.master.Master.{Master}
 use Rattle.pair_rules.specs.Bound.{item_at}
-use Rattle.coarse_grid.specs.Start.{start_of}
-use Rattle.coarse_grid.specs.Clash.{IsFirstClash}
-use Rattle.coarse_grid.specs.Laws.{NearShareAPoint}
+use Rattle.coarse_grid.specs.{Start.start_of, Clash.IsFirstClash, Laws.NearShareAPoint}
 use Rattle.plan_model.specs.declared.plan.Plan.{Plan}
-use Rattle.pitch_join.specs.Layouts.{LayoutsMeet}
-use Rattle.pitch_join.specs.Masters.{master_at, no_master}
+use Rattle.pitch_join.specs.{Layouts.LayoutsMeet, Masters.{master_at, no_master}}
 use Rattle.grid_rules.specs.Rules.{AreFinished}
 use Rattle.mask_out.specs.Pictures.{HaveBoxes}
-use Rattle.pass_run.specs.Laid.{AreLaidOut, StartsClean}
-use Rattle.pass_run.specs.Layouts.{starts_of}
-use Rattle.pass_run.specs.Theorems.{AreSound, AreWellPlaced}
-use Rattle.pass_run.specs.declared.step.Step.{Step}
-use Rattle.pass_run.specs.declared.passes.PassFault.{PassFault}
+use Rattle.pass_run.specs.{Laid.{AreLaidOut, StartsClean}, Layouts.starts_of, Theorems.{AreSound, AreWellPlaced}}
+use Rattle.pass_run.specs.{declared.{step.Step.Step, passes.PassFault.PassFault}, PassFaults.RefusesPasses}
 use Rattle.pass_run.specs.declared.passes.PassFault.TheVariants as stop
-use Rattle.pass_run.specs.PassFaults.{RefusesPasses}
-use Rattle.compact_run.specs.declared.status.What.TheVariants.{Extent}
-use Rattle.compact_run.specs.declared.status.Status.{Status}
+use Rattle.compact_run.specs.declared.status.{What.TheVariants.Extent, Status.Status}
+use Rattle.compact_run.specs.{Clash.clash_text, Refusals.{Refused, plain, refusal_of}, Designs.{AreSizes, ArePassesOn}}
+use Rattle.compact_run.specs.Designs.{HasBothAxes, HasClash, HasLargeExtent, IsFirstUnclean, IsPast, IsWithinExtent}
+use Rattle.compact_run.specs.Designs.{RefusesStart, RefusesMasters, last_layouts}
 use Rattle.compact_run.specs.declared.status.Status.TheVariants as status
-use Rattle.compact_run.specs.Clash.{clash_text}
-use Rattle.compact_run.specs.Refusals.{Refused, plain, refusal_of}
-use Rattle.compact_run.specs.Designs.{AreSizes, ArePassesOn, HasBothAxes, HasClash, HasLargeExtent, IsFirstUnclean, IsPast, IsWithinExtent, RefusesStart, RefusesMasters, last_layouts}
 
 pub clash_of : (tech : Tech) (master : Master) (layout : Coords) (a b : ℕ) (line : Bytes) → NearShareAPoint tech master → layout ≡ start_of tech master.cell
     → IsFirstClash tech layout master.items.list a b → line ≡ clash_text master.cell (item_at master.items.list a).owner (item_at master.items.list b).owner

@@ -1,6 +1,5 @@
 -- Least layouts of masters: what passes place, and one place at most.
-use Rattle.std.proofs.Common.{◌≡◌, List, [], ◌∷◌, refl, sym, subst}
-use Rattle.std.specs.Prelude.{All}
+use Rattle.std.{proofs.Common.{◌≡◌, List, [], ◌∷◌, refl, sym, subst}, specs.Prelude.All}
 use Rattle.lam_geom.specs.declared.boxes.Axis.{Axis}
 use Rattle.lam_io.specs.Io.{Bytes}
 use Rattle.rule_table.specs.declared.technology.Tech.{Tech}
@@ -8,22 +7,15 @@ use Rattle.sym_items.specs.declared.items.Coords.{Coords}
 use Rattle.stick_parse.specs.declared.design.Design.{Design as Sticks}
 use Rattle.expand.specs.declared.master.Master.{Master}
 use Rattle.plan_model.specs.declared.plan.Plan.{Plan}
-use Rattle.pass_run.specs.declared.step.Step.{Step}
-use Rattle.pass_run.specs.declared.passes.PassFault.TheVariants as stop
-use Rattle.pass_run.specs.Laid.{StartsClean}
-use Rattle.pass_run.specs.Layouts.{starts_of}
-use Rattle.pass_run.specs.Least.{LeadTo}
+use Rattle.pass_run.specs.{declared.step.Step.Step, Laid.StartsClean, Layouts.starts_of, Least.LeadTo}
 use Rattle.pass_run.proofs.Leading.{lead_to_one_place}
-use Rattle.compact_run.specs.declared.status.What.TheVariants.{Edges, Extent}
-use Rattle.compact_run.specs.declared.status.Status.{Status}
-use Rattle.compact_run.specs.declared.status.Status.TheVariants as status
-use Rattle.compact_run.specs.Refusal.{line_of}
-use Rattle.compact_run.specs.Plans.{AreMastersOf}
-use Rattle.compact_run.specs.Designs.{ArePassesOn, ArePlaced, IsPast, IsWithin, RefusesDesign, RefusesMasters, last_layouts, no_masters, no_masks}
-use Rattle.compact_run.specs.Edits.{AreLeastLayouts}
-use Rattle.compact_run.proofs.OneLayout.{refused_decided}
-use Rattle.compact_run.proofs.OneMaster.{one_masters, not_all_clean, not_within}
+use Rattle.pass_run.specs.declared.passes.PassFault.TheVariants as stop
+use Rattle.compact_run.specs.{declared.status.{What.TheVariants.{Edges, Extent}, Status.Status}, Refusal.line_of}
+use Rattle.compact_run.specs.{Plans.AreMastersOf, Designs.{ArePassesOn, ArePlaced, IsPast, IsWithin, RefusesDesign}}
+use Rattle.compact_run.specs.{Designs.{RefusesMasters, last_layouts, no_masters, no_masks}, Edits.AreLeastLayouts}
+use Rattle.compact_run.proofs.{OneLayout.refused_decided, OneMaster.{one_masters, not_all_clean, not_within}}
 use Rattle.compact_run.proofs.OnePlan.{plan_refused, has_masters}
+use Rattle.compact_run.specs.declared.status.Status.TheVariants as status
 
 -- ---- passes
 

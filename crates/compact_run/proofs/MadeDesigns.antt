@@ -1,51 +1,35 @@
 -- What holds of the design that is made from a number, and of its masters.
-use Rattle.std.proofs.Common.{◌≡◌, ℕ, ◌+◌, ◌^◌, ◌<◌, ◌≤◌, ℤ, pos, ◌+ℤ◌, ◌≤ℤ◌, List, [], ◌∷◌, length, inl, inr, refl, sym, ap, ◌∙◌, subst, arith}
+use Rattle.std.proofs.Common.{◌≡◌, ℕ, ◌+◌, ◌^◌, ◌<◌, ◌≤◌, ℤ, pos, ◌+ℤ◌, ◌≤ℤ◌, List, [], ◌∷◌, length, inl, inr, refl}
+use Rattle.std.proofs.{Common.{sym, ap, ◌∙◌, subst, arith}, lemmas.{Int.ints, List.length-map}}
 use Rattle.std.specs.Prelude.{IsOk, All, codes, ◌-ℤ◌, ◌*ℤ◌, ◌<ℤ◌}
-use Rattle.std.proofs.lemmas.Int.{ints}
-use Rattle.std.proofs.lemmas.List.{length-map}
-use Rattle.lam_geom.specs.declared.boxes.Axis.{Axis}
-use Rattle.lam_geom.specs.declared.boxes.Axis.TheVariants.{X, Y}
+use Rattle.lam_geom.specs.declared.boxes.Axis.{Axis, TheVariants.{X, Y}}
 use Rattle.lam_io.specs.Io.{Bytes}
-use Rattle.rule_table.specs.declared.technology.Tech.{Tech}
-use Rattle.rule_table.specs.declared.keys.Numbers.{Numbers}
-use Rattle.rule_table.specs.Technology.{widest_of}
-use Rattle.cons_graph.specs.declared.edges.Edge.{Edge}
-use Rattle.cons_graph.specs.Solutions.{value_of}
+use Rattle.rule_table.specs.{declared.{technology.Tech.Tech, keys.Numbers.Numbers}, Technology.widest_of}
+use Rattle.cons_graph.specs.{declared.edges.Edge.Edge, Solutions.value_of}
 use Rattle.design_gen.specs.Made.{made}
 use Rattle.design_sizes.specs.Sizes.{names_in}
-use Rattle.stick_parse.specs.declared.design.Design.{Design}
-use Rattle.stick_parse.specs.declared.fault.StickFault.{StickFault}
-use Rattle.stick_cell.specs.Known.{Known, cell_of, known_at}
-use Rattle.stick_cell.specs.Grids.{resolved_cells}
+use Rattle.stick_parse.specs.declared.{design.Design.Design, fault.StickFault.StickFault}
+use Rattle.stick_cell.specs.{Known.{Known, cell_of, known_at}, Grids.resolved_cells}
 use Rattle.expand.specs.declared.master.Master.{Master}
 use Rattle.plan_model.specs.declared.plan.Plan.{Plan}
-use Rattle.plan_model.specs.Instances.{whole_width, whole_height}
-use Rattle.plan_model.specs.Plan.{AreOfMasters, grids_of}
+use Rattle.plan_model.specs.{Instances.{whole_width, whole_height}, Plan.{AreOfMasters, grids_of}}
 use Rattle.grid_plan.specs.Numbered.{cell_named, master_of, masters_in, planned_rows}
-use Rattle.sym_items.specs.declared.items.Coords.{Coords}
-use Rattle.sym_items.specs.Layouts.{layout_at, size_in}
-use Rattle.sym_items.specs.Transposed.{values_along}
+use Rattle.sym_items.specs.{declared.items.Coords.Coords, Layouts.{layout_at, size_in}, Transposed.values_along}
 use Rattle.pair_rules.specs.Laws.{moved}
-use Rattle.pitch_join.specs.Joined.{far_of, joint_variables, list_over}
-use Rattle.pitch_join.specs.Masters.{ArePlanned, master_ports, ports_of_masters}
-use Rattle.pass_run.specs.declared.step.Step.{Step}
-use Rattle.pass_run.specs.Layouts.{local_values, moved_by, starts_of, with_values}
-use Rattle.pass_run.specs.Passes.{axes_of}
-use Rattle.pass_run.specs.Theorems.{AreSound, HasCriticalPath}
+use Rattle.pitch_join.specs.{Joined.{far_of, joint_variables, list_over}, Masters.{ArePlanned, master_ports}}
+use Rattle.pitch_join.specs.Masters.{ports_of_masters}
+use Rattle.pass_run.specs.{declared.step.Step.Step, Layouts.{local_values, moved_by, starts_of, with_values}}
+use Rattle.pass_run.specs.{Passes.axes_of, Theorems.{AreSound, HasCriticalPath}}
 use Rattle.pass_run.proofs.Values.{layout_with, local_at}
 use Rattle.net_extract.specs.declared.netlist.Netlist.{Netlist}
 use Rattle.grid_rules.specs.Sticks.{IsSticksNetlist}
-use Rattle.compact_run.specs.declared.status.Status.{Status}
-use Rattle.compact_run.specs.declared.status.Status.TheVariants as status
-use Rattle.compact_run.specs.declared.status.What.TheVariants.{Extent}
-use Rattle.compact_run.specs.Limits.{most_extent}
-use Rattle.compact_run.specs.Plans.{AreMastersOf, RefusesPlan}
-use Rattle.compact_run.specs.declared.refusal.Refusal.{Refusal}
-use Rattle.compact_run.specs.Refusals.{Refused}
-use Rattle.compact_run.specs.Designs.{ArePlaced, HasBothAxes, HasLargeExtent, RefusesDesign, RefusesMasters, height_of_all, last_layouts, no_masters, no_masks, unit_of, width_of_all}
+use Rattle.compact_run.specs.declared.{status.{Status.Status, What.TheVariants.Extent}, refusal.Refusal.Refusal}
+use Rattle.compact_run.specs.{Limits.most_extent, Plans.{AreMastersOf, RefusesPlan}, Refusals.Refused}
+use Rattle.compact_run.specs.Designs.{ArePlaced, HasBothAxes, HasLargeExtent, RefusesDesign, RefusesMasters}
+use Rattle.compact_run.specs.Designs.{height_of_all, last_layouts, no_masters, no_masks, unit_of, width_of_all}
 use Rattle.compact_run.specs.Bench.{IsBenched, IsShipped, RefusesBench, bench_line, tally_of, x_then_y}
-use Rattle.compact_run.specs.Refusal.{own_text}
-use Rattle.compact_run.proofs.SlackBounds.{size_under}
+use Rattle.compact_run.{specs.Refusal.own_text, proofs.SlackBounds.size_under}
+use Rattle.compact_run.specs.declared.status.Status.TheVariants as status
 
 -- ---- the design
 

@@ -1,31 +1,26 @@
 -- The answer to some words, over files that decide it, is determined.
 use Rattle.std.proofs.Common.{◌≡◌, List, [], Option, Some, None, refl, sym, ap, ◌∙◌, subst}
 use Rattle.lam_io.specs.Io.{Bytes, Files}
-use Rattle.rule_table.specs.declared.technology.Tech.{Tech}
-use Rattle.rule_table.specs.Technology.{numbers_of}
+use Rattle.rule_table.specs.{declared.technology.Tech.Tech, Technology.numbers_of}
 use Rattle.tech_file.specs.Technology.{technology_of}
-use Rattle.stick_parse.specs.declared.design.Design.{Design as Sticks}
-use Rattle.stick_parse.specs.Order.{design_of}
+use Rattle.stick_parse.specs.{declared.design.Design.Design as Sticks, Order.design_of}
 use Rattle.stick_print.specs.Canonical.{canonical}
-use Rattle.compact_run.specs.declared.status.File.TheVariants.{Design, Technology}
+use Rattle.compact_run.specs.declared.{status.{File.TheVariants.{Design, Technology}, Status.Status}, cif.CifJob.CifJob}
+use Rattle.compact_run.specs.{declared.cif.CifJob.TheVariants.{Extract, Check}, FaultLines.{stick_line, tech_line}}
+use Rattle.compact_run.specs.{Refusal.line_of, Answers.{IsTold, RefusesJob, no_rules, no_cif, RefusesWords, IsAnswer}}
+use Rattle.compact_run.specs.Answers.{compacted, measured, jogged, edited, told, formatted, benched, refused}
+use Rattle.compact_run.specs.{Answers.{output_failed, report_failed}, OneAnswer.{IsDecided, HasOneAnswer}}
+use Rattle.compact_run.proofs.OneCompact.{IsTech, NoTech, AreSticks, NoSticks, tech_read, sticks_read, tech_refused}
+use Rattle.compact_run.proofs.OneCompact.{sticks_refused, Compacts, compacts_once, compacts_refused, compacts_done}
+use Rattle.compact_run.proofs.{OneFile.{read_once, not_both, refused_once}, OneJogs.Jogs as Bends}
+use Rattle.compact_run.proofs.OneJogs.{jogs_once as bends_once, jogs_refused as bends_refused, jogs_done as bends_done}
+use Rattle.compact_run.proofs.{OneEdits.{Steps, steps_once, steps_refused, steps_done}, OneSlack.Slackens}
+use Rattle.compact_run.proofs.{OneSlack.{slackens_once, slackens_refused, slackens_done}, OneMaster.same_tech}
+use Rattle.compact_run.proofs.{OneMaster.AreSame, OneBench.{Benches, bench_done, bench_refused, benches_once}}
+use Rattle.compact_run.proofs.OneOutput.{OneOutput, Over, over_once, file_refused, file_told}
 use Rattle.compact_run.specs.declared.status.Side2.TheVariants as side
-use Rattle.compact_run.specs.declared.status.Status.{Status}
 use Rattle.compact_run.specs.declared.status.Status.TheVariants as status
 use Rattle.run_words.specs.Words.{Command, compact, slack, jog, edit, check, extract, fmt, bench, command_of}
-use Rattle.compact_run.specs.declared.cif.CifJob.{CifJob}
-use Rattle.compact_run.specs.declared.cif.CifJob.TheVariants.{Extract, Check}
-use Rattle.compact_run.specs.FaultLines.{stick_line, tech_line}
-use Rattle.compact_run.specs.Refusal.{line_of}
-use Rattle.compact_run.specs.Answers.{IsTold, RefusesJob, no_rules, no_cif, RefusesWords, IsAnswer, compacted, measured, jogged, edited, told, formatted, benched, refused, output_failed, report_failed}
-use Rattle.compact_run.specs.OneAnswer.{IsDecided, HasOneAnswer}
-use Rattle.compact_run.proofs.OneCompact.{IsTech, NoTech, AreSticks, NoSticks, tech_read, sticks_read, tech_refused, sticks_refused, Compacts, compacts_once, compacts_refused, compacts_done}
-use Rattle.compact_run.proofs.OneFile.{read_once, not_both, refused_once}
-use Rattle.compact_run.proofs.OneJogs.{Jogs as Bends, jogs_once as bends_once, jogs_refused as bends_refused, jogs_done as bends_done}
-use Rattle.compact_run.proofs.OneEdits.{Steps, steps_once, steps_refused, steps_done}
-use Rattle.compact_run.proofs.OneSlack.{Slackens, slackens_once, slackens_refused, slackens_done}
-use Rattle.compact_run.proofs.OneMaster.{same_tech, AreSame}
-use Rattle.compact_run.proofs.OneBench.{Benches, bench_done, bench_refused, benches_once}
-use Rattle.compact_run.proofs.OneOutput.{OneOutput, Over, over_once, file_refused, file_told}
 
 -- ---- `extract` and `check`
 

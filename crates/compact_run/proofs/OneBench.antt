@@ -5,21 +5,17 @@ use Rattle.rule_table.specs.declared.technology.Tech.{Tech}
 use Rattle.expand.specs.declared.master.Master.{Master}
 use Rattle.plan_model.specs.declared.plan.Plan.{Plan}
 use Rattle.pass_run.specs.declared.step.Step.{Step}
-use Rattle.net_extract.specs.declared.netlist.Netlist.{Netlist}
-use Rattle.net_extract.specs.Laws.{IsExtractionDetermined}
+use Rattle.net_extract.specs.{declared.netlist.Netlist.Netlist, Laws.IsExtractionDetermined}
 use Rattle.grid_rules.specs.Sticks.{IsSticksNetlist}
 use Rattle.design_gen.specs.Made.{made}
 use Rattle.cif_answers.proofs.Determined.{extracted_same}
-use Rattle.compact_run.specs.declared.status.What.TheVariants.{Extent}
-use Rattle.compact_run.specs.declared.status.Status.{Status}
+use Rattle.compact_run.specs.{declared.status.{What.TheVariants.Extent, Status.Status}, Refusal.line_of}
+use Rattle.compact_run.specs.{Plans.AreMastersOf, Designs.{ArePlaced, RefusesDesign, no_masters, no_masks}}
+use Rattle.compact_run.specs.{Designs.{last_layouts, masks_text, passes_text}, Bench.{IsBenched, IsMadeRefused}}
+use Rattle.compact_run.specs.{Bench.{RefusesBench, IsShipped, bench_line, tally_of, x_then_y}, OneAnswer.IsDecided}
+use Rattle.compact_run.proofs.{OneDesign.{ends_once, ends_refused, ends_compacted}, OneMaster.{same_tech, one_masters}}
+use Rattle.compact_run.proofs.OneMaster.{one_passes, AreSame}
 use Rattle.compact_run.specs.declared.status.Status.TheVariants as status
-use Rattle.compact_run.specs.Refusal.{line_of}
-use Rattle.compact_run.specs.Plans.{AreMastersOf}
-use Rattle.compact_run.specs.Designs.{ArePlaced, RefusesDesign, no_masters, no_masks, last_layouts, masks_text, passes_text}
-use Rattle.compact_run.specs.Bench.{IsBenched, IsMadeRefused, RefusesBench, IsShipped, bench_line, tally_of, x_then_y}
-use Rattle.compact_run.specs.OneAnswer.{IsDecided}
-use Rattle.compact_run.proofs.OneDesign.{ends_once, ends_refused, ends_compacted}
-use Rattle.compact_run.proofs.OneMaster.{same_tech, one_masters, one_passes, AreSame}
 
 -- The made design is refused, or laid out.
 pub data Benches (n : ℕ) (ended : Status) (output report : Bytes) : Type 0 where

@@ -2,22 +2,17 @@
 use Rattle.std.proofs.Common.{◌≡◌, List, [], refl, sym, ◌∙◌, subst}
 use Rattle.lam_geom.specs.declared.boxes.Axis.{Axis}
 use Rattle.lam_io.specs.Io.{Bytes, Files}
-use Rattle.rule_table.specs.declared.technology.Tech.{Tech}
-use Rattle.rule_table.specs.Technology.{numbers_of}
+use Rattle.rule_table.specs.{declared.technology.Tech.Tech, Technology.numbers_of}
 use Rattle.tech_file.specs.Technology.{technology_of}
-use Rattle.stick_parse.specs.declared.design.Design.{Design as Sticks}
-use Rattle.stick_parse.specs.Order.{design_of}
-use Rattle.compact_run.specs.declared.status.File.TheVariants.{Design, Technology}
-use Rattle.compact_run.specs.declared.status.Status.{Status}
+use Rattle.stick_parse.specs.{declared.design.Design.Design as Sticks, Order.design_of}
+use Rattle.compact_run.specs.declared.status.{File.TheVariants.{Design, Technology}, Status.Status}
+use Rattle.compact_run.specs.{FaultLines.{stick_line, tech_line}, Refusal.line_of, Answers.{IsTechnology, IsDesign}}
+use Rattle.compact_run.specs.Answers.{RefusesTechnology, RefusesSticks, IsCompacted, RefusesCompact, no_technology}
+use Rattle.compact_run.specs.{Answers.{no_design, no_masks}, Designs.{RefusesDesign, no_masters}}
+use Rattle.compact_run.{specs.{Designs.no_masks as not_laid_out, OneAnswer.IsDecided}, proofs.OneFile.IsReadAs}
+use Rattle.compact_run.proofs.{OneFile.{IsNotRead, long, faulty, read_once, not_both, refused_once}, OneDesign.Ends}
+use Rattle.compact_run.proofs.{OneDesign.{ends_once, ends_refused, ends_compacted}, OneMaster.{same_tech, AreSame}}
 use Rattle.compact_run.specs.declared.status.Status.TheVariants as status
-use Rattle.compact_run.specs.FaultLines.{stick_line, tech_line}
-use Rattle.compact_run.specs.Refusal.{line_of}
-use Rattle.compact_run.specs.Answers.{IsTechnology, IsDesign, RefusesTechnology, RefusesSticks, IsCompacted, RefusesCompact, no_technology, no_design, no_masks}
-use Rattle.compact_run.specs.Designs.{RefusesDesign, no_masters, no_masks as not_laid_out}
-use Rattle.compact_run.specs.OneAnswer.{IsDecided}
-use Rattle.compact_run.proofs.OneFile.{IsReadAs, IsNotRead, long, faulty, read_once, not_both, refused_once}
-use Rattle.compact_run.proofs.OneDesign.{Ends, ends_once, ends_refused, ends_compacted}
-use Rattle.compact_run.proofs.OneMaster.{same_tech, AreSame}
 
 -- ---- the files
 

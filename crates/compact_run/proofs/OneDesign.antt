@@ -6,14 +6,11 @@ use Rattle.rule_table.specs.declared.technology.Tech.{Tech}
 use Rattle.stick_parse.specs.declared.design.Design.{Design as Sticks}
 use Rattle.expand.specs.declared.master.Master.{Master}
 use Rattle.plan_model.specs.declared.plan.Plan.{Plan}
-use Rattle.compact_run.specs.declared.status.Status.{Status}
-use Rattle.compact_run.specs.declared.status.Status.TheVariants as status
-use Rattle.compact_run.specs.Refusal.{line_of}
-use Rattle.compact_run.specs.Plans.{AreMastersOf}
-use Rattle.compact_run.specs.Designs.{CompactsTo, RefusesDesign, no_masters, no_masks as not_laid_out}
-use Rattle.compact_run.specs.OneAnswer.{IsDecided}
+use Rattle.compact_run.specs.{declared.status.Status.Status, Refusal.line_of, Plans.AreMastersOf, Designs.CompactsTo}
+use Rattle.compact_run.specs.{Designs.{RefusesDesign, no_masters, no_masks as not_laid_out}, OneAnswer.IsDecided}
 use Rattle.compact_run.proofs.OneMaster.{one_masters, Comes, laid_out, comes_refused, comes_once, AreSame}
 use Rattle.compact_run.proofs.OnePlan.{HasNoMasters, plan_refused, has_masters, refused_once as not_planned_once}
+use Rattle.compact_run.specs.declared.status.Status.TheVariants as status
 
 -- A design has no masters, or they come to something.
 pub data Ends (tech : Tech) (axes : List Axis) (sticks : Sticks) (ended : Status) (output report : Bytes) : Type 0 where

@@ -2,40 +2,30 @@
 use Rattle.std.proofs.Common.{◌≡◌, ℕ, suc, ◌<◌, ◌≤◌, Ok, List, [], ◌∷◌, ◌++◌, All, refl, sym, ap, ◌∙◌, subst, arith}
 use Rattle.lam_geom.specs.declared.boxes.Axis.{Axis}
 use Rattle.lam_io.specs.Io.{Bytes, Files}
-use Rattle.rule_table.specs.declared.technology.Tech.{Tech}
-use Rattle.rule_table.specs.Technology.{numbers_of}
+use Rattle.rule_table.specs.{declared.technology.Tech.Tech, Technology.numbers_of}
 use Rattle.tech_file.specs.Technology.{technology_of}
-use Rattle.stick_parse.specs.declared.design.Design.{Design as Sticks}
-use Rattle.stick_parse.specs.Order.{design_of}
-use Rattle.edit_lines.specs.declared.script.EditLine.{EditLine}
-use Rattle.edit_lines.specs.Edits.{IsEdited}
-use Rattle.edit_lines.specs.Scripts.{edits_of}
+use Rattle.stick_parse.specs.{declared.design.Design.Design as Sticks, Order.design_of}
+use Rattle.edit_lines.specs.{declared.script.EditLine.EditLine, Edits.IsEdited, Scripts.edits_of}
 use Rattle.edit_lines.proofs.Designs.{edited_is_determined}
 use Rattle.expand.specs.declared.master.Master.{Master}
 use Rattle.plan_model.specs.declared.plan.Plan.{Plan}
 use Rattle.sym_items.specs.declared.items.Coords.{Coords}
 use Rattle.pass_run.specs.Laid.{StartsClean}
-use Rattle.compact_run.specs.declared.status.File.TheVariants.{Design, Technology, Script}
-use Rattle.compact_run.specs.declared.status.What.TheVariants.{Edges, Extent}
-use Rattle.compact_run.specs.declared.status.Status.{Status}
-use Rattle.compact_run.specs.declared.status.Status.TheVariants as status
-use Rattle.compact_run.specs.FaultLines.{script_line}
-use Rattle.compact_run.specs.Refusal.{line_of}
-use Rattle.compact_run.specs.Plans.{AreMastersOf}
-use Rattle.compact_run.specs.Designs.{IsBeforePasses, RefusesDesign, RefusesMasters, no_masters, no_masks as not_laid_out}
-use Rattle.compact_run.specs.Answers.{IsTechnology, IsDesign, RefusesCompact, no_technology, no_design, no_masks, RefusesEdits, no_start, no_edits, IsStepped}
-use Rattle.compact_run.specs.Edits as edits
-use Rattle.compact_run.specs.Edits.{AreLeastLayouts, IsAnswered, done, too_long, Changes, IsStep, AreSteps, HasStart, EditsTo, code_word, done_word, step_line}
-use Rattle.compact_run.specs.OneAnswer.{IsDecided}
-use Rattle.compact_run.proofs.OneFile.{read_once, not_both, refused_once}
-use Rattle.compact_run.proofs.OneMaster.{same_tech, one_masters, not_all_clean, AreSame}
-use Rattle.compact_run.proofs.OnePlan.{plan_refused, has_masters}
-use Rattle.compact_run.proofs.OneDesign.{ends_once, ends_refused}
-use Rattle.compact_run.proofs.OneLayout.{refused_decided}
-use Rattle.compact_run.proofs.LeastLayouts.{one_layouts, least_not_refused}
+use Rattle.compact_run.specs.declared.status.{File.TheVariants.{Design, Technology, Script}, What.TheVariants.Edges}
+use Rattle.compact_run.specs.{declared.status.{What.TheVariants.Extent, Status.Status}, FaultLines.script_line}
+use Rattle.compact_run.specs.{Refusal.line_of, Plans.AreMastersOf, Designs.{IsBeforePasses, RefusesDesign}}
+use Rattle.compact_run.specs.{Designs.{RefusesMasters, no_masters, no_masks as not_laid_out}, Answers.IsTechnology}
+use Rattle.compact_run.specs.Answers.{IsDesign, RefusesCompact, no_technology, no_design, no_masks, RefusesEdits}
+use Rattle.compact_run.specs.{Answers.{no_start, no_edits, IsStepped}, Edits.{AreLeastLayouts, IsAnswered, done}}
+use Rattle.compact_run.specs.Edits.{too_long, Changes, IsStep, AreSteps, HasStart, EditsTo, code_word, done_word}
+use Rattle.compact_run.{specs.{Edits.step_line, OneAnswer.IsDecided}, proofs.OneFile.{read_once, not_both}}
+use Rattle.compact_run.proofs.{OneFile.refused_once, OneMaster.{same_tech, one_masters, not_all_clean, AreSame}}
+use Rattle.compact_run.proofs.{OnePlan.{plan_refused, has_masters}, OneDesign.{ends_once, ends_refused}}
+use Rattle.compact_run.proofs.{OneLayout.refused_decided, LeastLayouts.{one_layouts, least_not_refused}}
 use Rattle.compact_run.proofs.OneCompact.{tech_read, sticks_read, tech_refused, sticks_refused}
-use Rattle.compact_run.proofs.OneSlack.{refused_once as unlaid_once}
-use Rattle.compact_run.proofs.Scripts.{script_read, script_refused}
+use Rattle.compact_run.proofs.{OneSlack.refused_once as unlaid_once, Scripts.{script_read, script_refused}}
+use Rattle.compact_run.specs.declared.status.Status.TheVariants as status
+use Rattle.compact_run.specs.Edits as edits
 
 -- The design has no clean start, or there is no script, or the steps are told.
 pub data Steps (design tech script : Bytes) (axes : List Axis) (files : Files) (ended : Status) (output report : Bytes) : Type 0 where

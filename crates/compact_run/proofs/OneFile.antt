@@ -1,11 +1,9 @@
 -- What a file of the shelf is read as is determined.
 use Rattle.std.proofs.Common.{◌≡◌, Result, Ok, Err, length, sym, ap, ◌∙◌, arith}
 use Rattle.lam_io.specs.Io.{Bytes, Files}
-use Rattle.compact_run.specs.declared.status.File.{File}
-use Rattle.compact_run.specs.declared.status.Status.{Status}
+use Rattle.compact_run.specs.declared.status.{File.File, Status.Status}
+use Rattle.compact_run.specs.{Fetches.{HasFile, IsLongFile}, Refusal.too_long_line}
 use Rattle.compact_run.specs.declared.status.Status.TheVariants as status
-use Rattle.compact_run.specs.Fetches.{HasFile, IsLongFile}
-use Rattle.compact_run.specs.Refusal.{too_long_line}
 
 -- The file is read as this.
 pub record IsReadAs {A F : Type 0} (read : Bytes → Result A F) (files : Files) (file : File) (name : Bytes) (x : A) : Type 0 where

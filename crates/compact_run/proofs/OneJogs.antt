@@ -4,33 +4,22 @@ use Rattle.std.specs.Prelude.{◌==◌, position}
 use Rattle.cons_graph.specs.Solutions.{value_of}
 use Rattle.lam_geom.specs.declared.boxes.Axis.{Axis}
 use Rattle.lam_io.specs.Io.{Bytes, Files}
-use Rattle.rule_table.specs.declared.technology.Tech.{Tech}
-use Rattle.rule_table.specs.Technology.{numbers_of}
+use Rattle.rule_table.specs.{declared.technology.Tech.Tech, Technology.numbers_of}
 use Rattle.tech_file.specs.Technology.{technology_of}
-use Rattle.stick_parse.specs.declared.design.Design.{Design as Sticks}
-use Rattle.stick_parse.specs.Order.{design_of}
+use Rattle.stick_parse.specs.{declared.design.Design.Design as Sticks, Order.design_of}
 use Rattle.stick_print.specs.Canonical.{canonical}
-use Rattle.stick_cell.specs.Known.{Known, cell_of, known_at}
-use Rattle.stick_cell.specs.Lines.{number_of}
-use Rattle.jog_insert.specs.declared.script.JogLine.{JogLine}
-use Rattle.jog_insert.specs.Jogs.{IsJogged}
-use Rattle.jog_insert.specs.Scripts.{jogs_of}
+use Rattle.stick_cell.specs.{Known.{Known, cell_of, known_at}, Lines.number_of}
+use Rattle.jog_insert.specs.{declared.script.JogLine.JogLine, Jogs.IsJogged, Scripts.jogs_of}
 use Rattle.jog_insert.proofs.Determined.{jogged_is_determined}
-use Rattle.compact_run.specs.declared.status.File.TheVariants.{Design, Technology, Script}
-use Rattle.compact_run.specs.declared.status.Status.{Status}
+use Rattle.compact_run.specs.declared.status.{File.TheVariants.{Design, Technology, Script}, Status.Status}
+use Rattle.compact_run.specs.{FaultLines.script_line, Refusal.line_of, Answers.{IsTechnology, IsDesign, IsCompacted}}
+use Rattle.compact_run.specs.{Answers.{RefusesCompact, RefusesJogs, no_layout, no_script, IsBent}, Designs.masks_text}
+use Rattle.compact_run.specs.{Designs.passes_text, Jogs.{IsLaidOutAs, Accepts, IsTried, accepted, rejected, AreJogs}}
+use Rattle.compact_run.specs.{Jogs.{JogsTo, accepted_line}, OneAnswer.IsDecided}
+use Rattle.compact_run.proofs.{OneFile.{read_once, not_both, refused_once}, OneMaster.{same_tech, AreSame}}
+use Rattle.compact_run.proofs.{OneLayout.one_layout, Scripts.{script_read, script_refused}, OneCompact.tech_read}
+use Rattle.compact_run.proofs.{OneCompact.sticks_read, OneSlack.{refused_once as unlaid_once, not_refused}}
 use Rattle.compact_run.specs.declared.status.Status.TheVariants as status
-use Rattle.compact_run.specs.FaultLines.{script_line}
-use Rattle.compact_run.specs.Refusal.{line_of}
-use Rattle.compact_run.specs.Answers.{IsTechnology, IsDesign, IsCompacted, RefusesCompact, RefusesJogs, no_layout, no_script, IsBent}
-use Rattle.compact_run.specs.Designs.{masks_text, passes_text}
-use Rattle.compact_run.specs.Jogs.{IsLaidOutAs, Accepts, IsTried, accepted, rejected, AreJogs, JogsTo, accepted_line}
-use Rattle.compact_run.specs.OneAnswer.{IsDecided}
-use Rattle.compact_run.proofs.OneFile.{read_once, not_both, refused_once}
-use Rattle.compact_run.proofs.OneMaster.{same_tech, AreSame}
-use Rattle.compact_run.proofs.OneLayout.{one_layout}
-use Rattle.compact_run.proofs.Scripts.{script_read, script_refused}
-use Rattle.compact_run.proofs.OneCompact.{tech_read, sticks_read}
-use Rattle.compact_run.proofs.OneSlack.{refused_once as unlaid_once, not_refused}
 
 -- The design has no layout, or there is no script, or the jogs are told.
 pub data Jogs (design tech script : Bytes) (axes : List Axis) (files : Files) (ended : Status) (output report : Bytes) : Type 0 where

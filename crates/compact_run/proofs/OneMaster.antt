@@ -1,52 +1,32 @@
 -- What the masters of a design come to is determined.
-use Rattle.std.proofs.Common.{◌≡◌, ℕ, ◌<◌, Option, None, true, false, ℤ, ◌≤ℤ◌, ◌<ℤ◌, List, [], ◌∷◌, length, map, take, inl, inr, refl, sym, ap, ◌∙◌, subst, arith}
+use Rattle.std.proofs.Common.{◌≡◌, ℕ, ◌<◌, Option, None, true, false, ℤ, ◌≤ℤ◌, ◌<ℤ◌, List, [], ◌∷◌, length, map, take}
+use Rattle.std.proofs.{Common.{inl, inr, refl, sym, ap, ◌∙◌, subst, arith}, lemmas.{Int.ints, Bool.cases_order}}
+use Rattle.std.proofs.{lemmas.List.{length-take-le, get_or-take, Elements.{All-get_or, All-tail}}, Props.props}
 use Rattle.std.specs.Prelude.{All}
-use Rattle.std.proofs.lemmas.Int.{ints}
-use Rattle.std.proofs.lemmas.Bool.{cases_order}
-use Rattle.std.proofs.lemmas.List.{length-take-le, get_or-take}
-use Rattle.std.proofs.lemmas.List.Elements.{All-get_or, All-tail}
-use Rattle.std.proofs.Props.{props}
-use Rattle.rule_table.specs.declared.faults.TechFault.{TechFault}
+use Rattle.rule_table.specs.{declared.{faults.TechFault.TechFault, technology.Tech.Tech}, Faults.fault_of}
 use mathlib.Core.HLevel.{is_prop→PathP}
 use Rattle.lam_geom.specs.declared.boxes.Axis.{Axis}
 use Rattle.lam_io.specs.Io.{Bytes}
-use Rattle.rule_table.specs.declared.technology.Tech.{Tech}
-use Rattle.rule_table.specs.Faults.{fault_of}
-use Rattle.sym_items.specs.declared.items.Item.{Item}
-use Rattle.sym_items.specs.declared.items.Items.{Items}
-use Rattle.sym_items.specs.declared.items.Coords.{Coords}
+use Rattle.sym_items.specs.declared.items.{Item.Item, Items.Items, Coords.Coords}
 use Rattle.stick_parse.specs.declared.design.Design.{Design}
 use Rattle.stick_cell.specs.Known.{Known, cell_of, known_at}
-use Rattle.cell_model.specs.declared.cell.Cell.{Cell}
-use Rattle.cell_model.specs.declared.cell.Nets.{Nets}
+use Rattle.cell_model.specs.declared.cell.{Cell.Cell, Nets.Nets}
 use Rattle.cell_nets.proofs.Determined.{nets_same}
-use Rattle.expand.specs.declared.master.Master.{Master}
-use Rattle.expand.specs.Items.{items_of, AreItems}
-use Rattle.pair_rules.specs.Bound.{item_at}
-use Rattle.pair_rules.specs.Clean.{IsClean}
-use Rattle.coarse_grid.specs.Start.{start_of}
-use Rattle.coarse_grid.specs.Clash.{IsFirstClash, is_near_at}
-use Rattle.coarse_grid.proofs.Nears.{clean_not_near}
+use Rattle.expand.specs.{declared.master.Master.Master, Items.{items_of, AreItems}}
+use Rattle.pair_rules.specs.{Bound.item_at, Clean.IsClean}
+use Rattle.coarse_grid.{specs.{Start.start_of, Clash.{IsFirstClash, is_near_at}}, proofs.Nears.clean_not_near}
 use Rattle.plan_model.specs.declared.plan.Plan.{Plan}
-use Rattle.grid_plan.specs.Planned.{IsPlanOf}
-use Rattle.grid_plan.proofs.Determined.{determined}
+use Rattle.grid_plan.{specs.Planned.IsPlanOf, proofs.Determined.determined}
 use Rattle.pitch_join.specs.Masters.{master_at, no_master}
-use Rattle.pass_run.specs.declared.step.Step.{Step}
-use Rattle.pass_run.specs.declared.passes.PassFault.{PassFault}
+use Rattle.pass_run.specs.{declared.{step.Step.Step, passes.PassFault.PassFault}, Layouts.starts_of, Laid.StartsClean}
+use Rattle.pass_run.proofs.{Determined.passes_determined, OneRefusal.refused_in_one_way}
 use Rattle.pass_run.specs.declared.passes.PassFault.TheVariants as stop
-use Rattle.pass_run.specs.Layouts.{starts_of}
-use Rattle.pass_run.proofs.Determined.{passes_determined}
-use Rattle.pass_run.proofs.OneRefusal.{refused_in_one_way}
-use Rattle.compact_run.specs.declared.status.What.TheVariants.{Edges, Extent}
-use Rattle.compact_run.specs.declared.status.Status.{Status}
-use Rattle.compact_run.specs.declared.status.Status.TheVariants as status
-use Rattle.compact_run.specs.Clash.{clash_text}
-use Rattle.compact_run.specs.Refusal.{line_of, own_text, too_large_line}
-use Rattle.compact_run.specs.Refusals.{refusal_of}
-use Rattle.compact_run.specs.Plans.{IsPlanned, AreMastersOf}
-use Rattle.pass_run.specs.Laid.{StartsClean}
-use Rattle.compact_run.specs.Designs.{ArePassesOn, IsWithin, IsPast, IsStopped, HasClash, IsFirstUnclean, RefusesMasters, last_layouts, masks_text, passes_text}
+use Rattle.compact_run.specs.declared.status.{What.TheVariants.{Edges, Extent}, Status.Status}
+use Rattle.compact_run.specs.{Clash.clash_text, Refusal.{line_of, own_text, too_large_line}, Refusals.refusal_of}
+use Rattle.compact_run.specs.{Plans.{IsPlanned, AreMastersOf}, Designs.{ArePassesOn, IsWithin, IsPast, IsStopped}}
+use Rattle.compact_run.specs.Designs.{HasClash, IsFirstUnclean, RefusesMasters, last_layouts, masks_text, passes_text}
 use Rattle.compact_run.specs.OneAnswer.{IsDecided}
+use Rattle.compact_run.specs.declared.status.Status.TheVariants as status
 
 -- that there is no fault has one proof at most
 no_fault_once : (o : Option TechFault) → IsProp (o ≡ None)

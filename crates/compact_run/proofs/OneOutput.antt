@@ -2,27 +2,19 @@
 use Rattle.std.proofs.Common.{◌≡◌, ◌^◌, ◌≤◌, [], length, refl, sym, ap, ◌∙◌, subst}
 use Rattle.lam_io.specs.Io.{Bytes, Files}
 use Rattle.rule_table.specs.declared.technology.Tech.{Tech}
-use Rattle.cif_answers.specs.declared.fault.TextFault.{TextFault}
+use Rattle.cif_answers.specs.{declared.fault.TextFault.TextFault, Texts.{HasNetlist, HasVerdict, RefusesNetlist}}
+use Rattle.cif_answers.specs.Texts.{RefusesVerdict, AnswersAreDetermined, HasTooManyBoxes}
 use Rattle.cif_answers.specs.declared.fault.TextFault.TheVariants as fault
-use Rattle.cif_answers.specs.Texts.{HasNetlist, HasVerdict, RefusesNetlist, RefusesVerdict, AnswersAreDetermined}
-use Rattle.compact_run.specs.Refusals.{status_for}
-use Rattle.compact_run.specs.declared.cif.CifJob.{CifJob}
-use Rattle.compact_run.specs.declared.cif.CifJob.TheVariants.{Extract, Check}
-use Rattle.compact_run.specs.declared.status.File.TheVariants.{Cif}
-use Rattle.compact_run.specs.declared.status.What.TheVariants.{Boxes}
-use Rattle.compact_run.specs.declared.status.Status.{Status}
+use Rattle.compact_run.specs.{Refusals.status_for, declared.cif.CifJob.{CifJob, TheVariants.{Extract, Check}}}
+use Rattle.compact_run.specs.declared.status.{File.TheVariants.Cif, What.TheVariants.Boxes, Status.Status}
+use Rattle.compact_run.specs.{Fetches.{HasFile, IsLongFile}, FaultLines.{cif_line, improper_line, broken_line}}
+use Rattle.compact_run.specs.{Refusal.{line_of, too_large_line, too_long_line}, Answers.{HasOutput, RefusesOutput}}
+use Rattle.compact_run.specs.{Answers.{IsOutputOf, RefusesFile, no_text, no_output}, OneAnswer.IsDecided}
+use Rattle.compact_run.proofs.{OneFile.{one_text, not_long}, OneMaster.AreSame}
 use Rattle.compact_run.specs.declared.status.Status.TheVariants as status
-use Rattle.compact_run.specs.Fetches.{HasFile, IsLongFile}
-use Rattle.compact_run.specs.FaultLines.{cif_line, improper_line, broken_line}
-use Rattle.compact_run.specs.Refusal.{line_of, too_large_line, too_long_line}
-use Rattle.compact_run.specs.Answers.{HasOutput, RefusesOutput, IsOutputOf, RefusesFile, no_text, no_output}
-use Rattle.compact_run.specs.OneAnswer.{IsDecided}
-use Rattle.compact_run.proofs.OneFile.{one_text, not_long}
-use Rattle.compact_run.proofs.OneMaster.{AreSame}
 use Rattle.net_extract.specs.Laws.{IsExtractionDetermined}
 use Rattle.cif_read.specs.declared.fault.CifFault.{CifFault}
 use Rattle.cif_foreign.specs.Meaning.{IsFirstFault}
-use Rattle.cif_answers.specs.Texts.{HasTooManyBoxes}
 
 -- the laws of netlists, of verdicts and of extraction
 abbrev AreDetermined : CifJob → Type 0

@@ -2,24 +2,16 @@
 use Rattle.std.proofs.Common.{◌≡◌, ℕ, ◌<◌, ◌≤◌, Some, Ok, Err, List, [], refl, sym, ap, ◌∙◌, arith}
 use Rattle.lam_io.specs.Io.{Bytes}
 use Rattle.rule_table.specs.declared.technology.Tech.{Tech}
-use Rattle.stick_parse.specs.declared.fault.StickFault.{StickFault}
-use Rattle.stick_parse.specs.declared.design.Design.{Design}
-use Rattle.stick_cell.specs.Grids.{resolved_cells}
-use Rattle.stick_cell.specs.Known.{Known}
+use Rattle.stick_parse.specs.declared.{fault.StickFault.StickFault, design.Design.Design}
+use Rattle.stick_cell.specs.{Grids.resolved_cells, Known.Known}
 use Rattle.expand.specs.declared.master.Master.{Master}
 use Rattle.plan_model.specs.declared.plan.Plan.{Plan}
-use Rattle.grid_plan.specs.declared.fault.GridFault.{GridFault}
-use Rattle.grid_plan.specs.Faults.{plan_fault}
-use Rattle.compact_run.specs.declared.status.What.TheVariants.{Items, Boxes}
-use Rattle.compact_run.specs.declared.status.Status.{Status}
+use Rattle.grid_plan.specs.{declared.fault.GridFault.GridFault, Faults.plan_fault}
+use Rattle.compact_run.specs.{declared.status.{What.TheVariants.{Items, Boxes}, Status.Status}, FaultLines.stick_line}
+use Rattle.compact_run.specs.{GridLines.grid_line, Limits.{most_items, most_boxes}, Refusal.line_of, Plans.IsPlanned}
+use Rattle.compact_run.specs.Plans.{AreMastersOf, RefusesPlan, grid_name, weights_of, boxes_of_all}
+use Rattle.compact_run.{specs.OneAnswer.IsDecided, proofs.OneMaster.{one_cells, one_plan}}
 use Rattle.compact_run.specs.declared.status.Status.TheVariants as status
-use Rattle.compact_run.specs.FaultLines.{stick_line}
-use Rattle.compact_run.specs.GridLines.{grid_line}
-use Rattle.compact_run.specs.Limits.{most_items, most_boxes}
-use Rattle.compact_run.specs.Refusal.{line_of}
-use Rattle.compact_run.specs.Plans.{IsPlanned, AreMastersOf, RefusesPlan, grid_name, weights_of, boxes_of_all}
-use Rattle.compact_run.specs.OneAnswer.{IsDecided}
-use Rattle.compact_run.proofs.OneMaster.{one_cells, one_plan}
 
 -- A name or a size is a fault, or a grid has no plan, or the plan is too large. This is the status, and the line.
 pub data HasNoMasters (tech : Tech) (design : Design) (ended : Status) (line : Bytes) : Type 0 where

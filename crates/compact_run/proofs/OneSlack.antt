@@ -1,33 +1,23 @@
 -- What `slack` answers is determined.
 use Rattle.std.proofs.Common.{◌≡◌, ℕ, List, [], ◌++◌, refl, sym, ap, ◌∙◌, subst}
-use Rattle.lam_geom.specs.declared.boxes.Axis.{Axis}
-use Rattle.lam_geom.specs.declared.boxes.Axis.TheVariants.{X, Y}
+use Rattle.lam_geom.specs.declared.boxes.Axis.{Axis, TheVariants.{X, Y}}
 use Rattle.lam_io.specs.Io.{Bytes, Files}
-use Rattle.rule_table.specs.declared.technology.Tech.{Tech}
-use Rattle.rule_table.specs.Technology.{numbers_of}
+use Rattle.rule_table.specs.{declared.technology.Tech.Tech, Technology.numbers_of}
 use Rattle.tech_file.specs.Technology.{technology_of}
-use Rattle.stick_parse.specs.declared.design.Design.{Design as Sticks}
-use Rattle.stick_parse.specs.Order.{design_of}
+use Rattle.stick_parse.specs.{declared.design.Design.Design as Sticks, Order.design_of}
 use Rattle.sym_items.specs.declared.items.Coords.{Coords}
 use Rattle.expand.specs.declared.master.Master.{Master}
 use Rattle.plan_model.specs.declared.plan.Plan.{Plan}
-use Rattle.pass_run.specs.declared.step.Step.{Step}
-use Rattle.pass_run.specs.Layouts.{starts_of}
-use Rattle.pass_run.specs.Slack.{IsMostAfter}
-use Rattle.pass_run.proofs.Determined.{one_most}
-use Rattle.pass_run.proofs.Lasts.{last_once}
+use Rattle.pass_run.specs.{declared.step.Step.Step, Layouts.starts_of, Slack.IsMostAfter}
+use Rattle.pass_run.proofs.{Determined.one_most, Lasts.last_once}
 use Rattle.slack_text.specs.Slack.{axis_slack}
-use Rattle.compact_run.specs.declared.status.File.TheVariants.{Design, Technology}
-use Rattle.compact_run.specs.declared.status.Status.{Status}
+use Rattle.compact_run.specs.declared.status.{File.TheVariants.{Design, Technology}, Status.Status}
+use Rattle.compact_run.specs.{Refusal.line_of, Answers.{IsCompacted, RefusesCompact, IsSlack}, Designs.ArePlaced}
+use Rattle.compact_run.specs.{Designs.{masks_text, passes_text}, Slacks.{HasSlack, SlacksTo}, OneAnswer.IsDecided}
+use Rattle.compact_run.proofs.{OneFile.read_once, OneMaster.{same_tech, one_masters, one_passes, AreSame}}
+use Rattle.compact_run.proofs.OneCompact.{tech_read, sticks_read, compacts_once, compacts_refused, compacts_done}
+use Rattle.compact_run.proofs.OneCompact.{not_done}
 use Rattle.compact_run.specs.declared.status.Status.TheVariants as status
-use Rattle.compact_run.specs.Refusal.{line_of}
-use Rattle.compact_run.specs.Answers.{IsCompacted, RefusesCompact, IsSlack}
-use Rattle.compact_run.specs.Designs.{ArePlaced, masks_text, passes_text}
-use Rattle.compact_run.specs.Slacks.{HasSlack, SlacksTo}
-use Rattle.compact_run.specs.OneAnswer.{IsDecided}
-use Rattle.compact_run.proofs.OneFile.{read_once}
-use Rattle.compact_run.proofs.OneMaster.{same_tech, one_masters, one_passes, AreSame}
-use Rattle.compact_run.proofs.OneCompact.{tech_read, sticks_read, compacts_once, compacts_refused, compacts_done, not_done}
 
 -- The design has no layout, or it is told how far its parts could move.
 pub data Slackens (design tech : Bytes) (axes : List Axis) (files : Files) (ended : Status) (output report : Bytes) : Type 0 where

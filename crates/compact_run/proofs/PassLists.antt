@@ -1,13 +1,9 @@
 -- The axes of a list of passes.
 use Rattle.std.proofs.Common.{◌≡◌, ℕ, ◌≤◌, Bool, true, false, List, length, get_or, refl, sym, ap, ◌∙◌, subst, arith}
-use Rattle.std.specs.Prelude.{nat_le, ◌&&◌, ◌||◌, Contains, if◌then◌else◌}
-use Rattle.std.specs.List.{list_any, list_all}
-use Rattle.std.proofs.lemmas.Bool.Decides.{nat_tests}
-use Rattle.std.proofs.lemmas.List.{length-map, get_or-map}
-use Rattle.std.proofs.lemmas.List.Elements.{Contains-get_or}
+use Rattle.std.proofs.lemmas.{Bool.Decides.nat_tests, List.{length-map, get_or-map, Elements.Contains-get_or}}
 use Rattle.std.proofs.lemmas.List.Folds.{Any-from_list_any}
-use Rattle.lam_geom.specs.declared.boxes.Axis.{Axis}
-use Rattle.lam_geom.specs.declared.boxes.Axis.TheVariants.{X, Y}
+use Rattle.std.specs.{Prelude.{nat_le, ◌&&◌, ◌||◌, Contains, if◌then◌else◌}, List.{list_any, list_all}}
+use Rattle.lam_geom.specs.declared.boxes.Axis.{Axis, TheVariants.{X, Y}}
 use Rattle.compact_run.specs.Designs.{HasBothAxes}
 use Rattle.run_words.specs.Values.{is_x, is_y, is_pass_list, axis_of, axes_in}
 

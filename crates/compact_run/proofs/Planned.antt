@@ -1,40 +1,24 @@
 -- The masters of a plan.
-use Rattle.std.proofs.Common.{◌≡◌, ℕ, ◌+◌, ◌<◌, ◌≤◌, List, [], ◌∷◌, length, map, sum_by, get_or, refl, sym, ap, ◌∙◌, subst, arith}
-use Rattle.std.specs.Prelude.{All, ◌^◌}
-use Rattle.std.specs.List.{AllByRecursion, zip}
-use Rattle.std.proofs.lemmas.List.{length-map}
-use Rattle.std.proofs.lemmas.List.Elements.{All-get_or}
-use Rattle.std.proofs.lemmas.List.Sums.{sum_by-cons}
-use Rattle.std.proofs.lemmas.Slice.Zip.{length-zip}
+use Rattle.std.proofs.Common.{◌≡◌, ℕ, ◌+◌, ◌<◌, ◌≤◌, List, [], ◌∷◌, length, map, sum_by, get_or, refl, sym, ap, ◌∙◌}
+use Rattle.std.proofs.{Common.{subst, arith}, lemmas.List.{length-map, Elements.All-get_or, Sums.sum_by-cons}}
+use Rattle.std.{proofs.lemmas.Slice.Zip.length-zip, specs.{Prelude.{All, ◌^◌}, List.{AllByRecursion, zip}}}
 use Rattle.list_facts.proofs.Elements.{by_number, all_of}
 use Rattle.rule_table.specs.declared.technology.Tech.{Tech}
 use Rattle.lam_geom.specs.Places.{IsPlacedBox}
 use Rattle.sym_items.specs.declared.items.Coords.{Coords}
-use Rattle.stick_parse.specs.declared.design.Design.{Design}
-use Rattle.stick_parse.specs.declared.design.GridText.{GridText}
-use Rattle.stick_parse.specs.Writable.{IsName, IsWritable}
-use Rattle.stick_cell.specs.Counts.{weight_of}
-use Rattle.stick_cell.specs.Known.{Known, cell_of, known_at}
-use Rattle.stick_cell.specs.Ports.{ports_of}
+use Rattle.stick_parse.specs.{declared.design.{Design.Design, GridText.GridText}, Writable.{IsName, IsWritable}}
+use Rattle.stick_cell.specs.{Counts.weight_of, Known.{Known, cell_of, known_at}, Ports.ports_of}
 use Rattle.stick_cell.proofs.TableReads.{number-lt}
-use Rattle.cell_model.specs.declared.cell.Cell.{Cell}
-use Rattle.cell_model.specs.declared.cell.CellPort.{CellPort}
-use Rattle.cell_model.specs.Ports.{ports_of_cell}
-use Rattle.expand.specs.declared.master.Master.{Master}
-use Rattle.expand.specs.Masters.{IsMaster}
-use Rattle.plan_model.specs.declared.plan.Plan.{Plan}
-use Rattle.plan_model.specs.Plan.{AreOfMasters, IsPlanOver, grids_of}
+use Rattle.cell_model.specs.{declared.cell.{Cell.Cell, CellPort.CellPort}, Ports.ports_of_cell}
+use Rattle.expand.specs.{declared.master.Master.Master, Masters.IsMaster}
+use Rattle.plan_model.specs.{declared.plan.Plan.Plan, Plan.{AreOfMasters, IsPlanOver, grids_of}}
 use Rattle.grid_rules.specs.Planned.{AreOfPlan}
 use Rattle.pitch_join.specs.Masters.{no_master, ArePlanned, master_ports, ports_of_masters, parts_in}
-use Rattle.grid_plan.specs.Numbered.{ports_of_chosen}
-use Rattle.grid_plan.specs.Planned.{IsPlanOf}
-use Rattle.mask_out.specs.declared.drawing.Symbol.{Symbol}
-use Rattle.mask_out.specs.Pictures.{Drawing, drawing_of, drawing_in}
+use Rattle.grid_plan.specs.{Numbered.ports_of_chosen, Planned.IsPlanOf}
+use Rattle.mask_out.specs.{declared.drawing.Symbol.Symbol, Pictures.{Drawing, drawing_of, drawing_in}}
 use Rattle.cif_text.specs.Calls.{CanBeWritten}
-use Rattle.compact_run.specs.Designs.{HasShortName}
-use Rattle.compact_run.specs.Plans.{AreChosen, weights_of}
-use Rattle.compact_run.proofs.Chosen.{chosen, of_own_name}
-use Rattle.compact_run.proofs.Weights.{fewer_parts, light_each}
+use Rattle.compact_run.specs.{Designs.HasShortName, Plans.{AreChosen, weights_of}}
+use Rattle.compact_run.proofs.{Chosen.{chosen, of_own_name}, Weights.{fewer_parts, light_each}}
 
 pub are_chosen : (cells : List Known) (design : Design) (plan : Plan) → IsWritable design → IsPlanOf cells design.grids plan → AreChosen cells plan
 are_chosen cells design plan writable p = record {

@@ -1,23 +1,16 @@
 -- Scripts: how many lines they have, why they are refused, and that their files decide what they are read as.
-use Rattle.std.proofs.Common.{◌≡◌, ℕ, ◌+◌, ◌≤◌, Option, Some, None, Result, Ok, Err, List, [], ◌∷◌, length, refl, sym, ap, ◌∙◌, arith}
-use Rattle.std.specs.Prelude.{◌^◌}
-use Rattle.std.specs.Str.Lines.{lines}
+use Rattle.std.proofs.Common.{◌≡◌, ℕ, ◌+◌, ◌≤◌, Option, Some, None, Result, Ok, Err, List, [], ◌∷◌, length, refl, sym}
+use Rattle.std.{proofs.Common.{ap, ◌∙◌, arith}, specs.{Prelude.◌^◌, Str.Lines.lines}}
 use Rattle.design_sizes.proofs.Lines.{lines_with_ends}
 use Rattle.stick_lex.proofs.Loop.{width}
-use Rattle.stick_parse.specs.declared.fault.StickKind.{StickKind}
-use Rattle.stick_parse.specs.Words.{Word}
+use Rattle.stick_parse.specs.{declared.fault.StickKind.StickKind, Words.Word}
 use Rattle.lam_io.specs.Io.{Bytes, Files}
 use Rattle.design_edits.specs.Scripts.{step_by, steps_from, steps_of, with_step}
-use Rattle.edit_lines.specs.declared.script.EditLine.{EditLine}
-use Rattle.edit_lines.specs.Scripts.{edit_of, edits_of}
-use Rattle.compact_run.specs.declared.status.File.TheVariants.{Script}
-use Rattle.compact_run.specs.declared.status.Status.{Status}
-use Rattle.compact_run.specs.declared.status.Status.TheVariants as status
-use Rattle.compact_run.specs.FaultLines.{script_line}
-use Rattle.compact_run.specs.Refusal.{line_of}
-use Rattle.compact_run.specs.Answers.{Reading, IsScript, RefusesScript}
-use Rattle.compact_run.specs.OneAnswer.{IsDecided}
+use Rattle.edit_lines.specs.{declared.script.EditLine.EditLine, Scripts.{edit_of, edits_of}}
+use Rattle.compact_run.specs.{declared.status.{File.TheVariants.Script, Status.Status}, FaultLines.script_line}
+use Rattle.compact_run.specs.{Refusal.line_of, Answers.{Reading, IsScript, RefusesScript}, OneAnswer.IsDecided}
 use Rattle.compact_run.proofs.OneFile.{IsReadAs, IsNotRead, long, faulty}
+use Rattle.compact_run.specs.declared.status.Status.TheVariants as status
 
 -- ---- the number of lines
 

@@ -1,62 +1,34 @@
 -- How far the values of a pass lie from the origin: none is below it, the far borders are no farther than the walks to them are long, and no other value is
 -- much farther than the far border of its master. So it is with every solution of the pass' system that has the same far borders.
-use Rattle.std.proofs.Common.{◌≡◌, ℕ, suc, ◌+◌, ◌*◌, ◌<◌, ◌≤◌, ◌^◌, ℤ, pos, ◌+ℤ◌, ◌≤ℤ◌, List, [], ◌∷◌, length, get_or, map, inl, inr, refl, sym, ap, ◌∙◌, subst, arith}
-use Rattle.std.specs.Prelude.{Contains}
-use Rattle.std.specs.List.{All, Any, flat_map}
-use Rattle.std.proofs.Math.Nat.{mul-zero, mul-suc}
-use Rattle.std.proofs.lemmas.Int.{ints}
-use Rattle.std.proofs.lemmas.Bool.{cases_eq, eqb-true}
-use Rattle.std.proofs.lemmas.Bool.Decides.{Decides-eqb}
-use Rattle.std.proofs.lemmas.List.{get_or_default, length-map}
-use Rattle.std.proofs.lemmas.List.Elements.{All-append, All-cons, All-contains, All-from_get_or, All-map, All-tail, All-weaker}
-use Rattle.std.proofs.lemmas.Map.Made.{IsDistinct-from_AllPairs}
-use Rattle.std.proofs.lemmas.Map.Steps.{length-le_from_distinct_below}
-use Rattle.std.proofs.lemmas.Map.Views.{Contains-from_any}
-use Rattle.lam_geom.specs.declared.boxes.Axis.{Axis}
-use Rattle.lam_geom.specs.Places.{IsPlace}
-use Rattle.rule_table.specs.declared.technology.Tech.{Tech}
-use Rattle.rule_table.specs.Technology.{numbers_of, margin_of}
+use Rattle.std.proofs.Common.{◌≡◌, ℕ, suc, ◌+◌, ◌*◌, ◌<◌, ◌≤◌, ◌^◌, ℤ, pos, ◌+ℤ◌, ◌≤ℤ◌, List, [], ◌∷◌, length, get_or}
+use Rattle.std.proofs.{Common.{map, inl, inr, refl, sym, ap, ◌∙◌, subst, arith}, Math.Nat.{mul-zero, mul-suc}}
+use Rattle.std.proofs.lemmas.{Int.ints, Bool.{cases_eq, eqb-true, Decides.Decides-eqb}, List.get_or_default}
+use Rattle.std.proofs.lemmas.List.{length-map, Elements.{All-append, All-cons, All-contains, All-from_get_or, All-map}}
+use Rattle.std.proofs.lemmas.{List.Elements.{All-tail, All-weaker}, Map.Made.IsDistinct-from_AllPairs}
+use Rattle.std.proofs.lemmas.Map.{Steps.length-le_from_distinct_below, Views.Contains-from_any}
+use Rattle.std.specs.{Prelude.Contains, List.{All, Any, flat_map}}
+use Rattle.lam_geom.specs.{declared.boxes.Axis.Axis, Places.IsPlace}
+use Rattle.rule_table.specs.{declared.technology.Tech.Tech, Technology.{numbers_of, margin_of}}
 use Rattle.rule_table.proofs.Margins.{margin_low}
-use Rattle.cons_graph.specs.declared.edges.Edge.{Edge}
-use Rattle.cons_graph.specs.declared.edges.Why.TheVariants.{Margin, Size}
-use Rattle.cons_graph.specs.Constraints.{IsEdgeAmong}
-use Rattle.cons_graph.specs.EdgeNumbers.{edge_at}
-use Rattle.cons_graph.specs.SimpleWalks.{heads_of, length_of, HasNoRepeat}
-use Rattle.cons_graph.specs.Solutions.{IsSolution, Meets, value_of}
-use Rattle.sym_items.specs.declared.items.Item.{Item}
-use Rattle.sym_items.specs.declared.items.Coords.{Coords}
-use Rattle.sym_items.specs.Extents.{IsLongUnder}
-use Rattle.sym_items.specs.Layouts.{layout_at}
-use Rattle.sym_items.specs.Transposed.{item_along}
-use Rattle.sym_items.specs.Values.{end_under}
-use Rattle.expand.specs.declared.master.Master.{Master}
-use Rattle.expand.specs.Bounds.{LiesAlong}
-use Rattle.expand.specs.Laws.{MeetsStructure}
-use Rattle.expand.specs.Masters.{IsMaster}
-use Rattle.expand.specs.Structure.{between}
-use Rattle.expand.specs.Variables.{at_origin, at_far_border, variables_of}
-use Rattle.expand.proofs.Among.{items_lie}
-use Rattle.expand.proofs.Between.{between_means}
-use Rattle.expand.proofs.Reached.{BeginsBefore, items_begin}
+use Rattle.cons_graph.specs.{declared.edges.{Edge.Edge, Why.TheVariants.{Margin, Size}}, Constraints.IsEdgeAmong}
+use Rattle.cons_graph.specs.{EdgeNumbers.edge_at, SimpleWalks.{heads_of, length_of, HasNoRepeat}, Solutions.IsSolution}
+use Rattle.cons_graph.specs.Solutions.{Meets, value_of}
+use Rattle.sym_items.specs.declared.items.{Item.Item, Coords.Coords}
+use Rattle.sym_items.specs.{Extents.IsLongUnder, Layouts.layout_at, Transposed.item_along, Values.end_under}
+use Rattle.expand.specs.{declared.master.Master.Master, Bounds.LiesAlong, Laws.MeetsStructure, Masters.IsMaster}
+use Rattle.expand.specs.{Structure.between, Variables.{at_origin, at_far_border, variables_of}}
+use Rattle.expand.proofs.{Among.items_lie, Between.between_means, Reached.{BeginsBefore, items_begin}}
 use Rattle.expand.proofs.Standing.{KeepsMargins, parts_of, stands}
 use Rattle.list_facts.proofs.Elements.{all_parts}
-use Rattle.pair_rules.specs.declared.pairs.Pair.{Pair}
-use Rattle.pair_rules.specs.Bound.{no_item}
-use Rattle.pair_rules.specs.Kept.{kept_of}
+use Rattle.pair_rules.specs.{declared.pairs.Pair.Pair, Bound.no_item, Kept.kept_of}
 use Rattle.plan_model.specs.declared.plan.Plan.{Plan}
-use Rattle.pitch_join.specs.Masters.{ArePlanned, master_at, master_numbers, no_master}
-use Rattle.pitch_join.specs.Joined.{base_of, bases_of, candidate_edges_at, far_of, fixed_of, joint_variables, kept_edges_at, list_over, local_of, shifted, space_edge, system_over}
-use Rattle.pitch_join.proofs.Bases.{bases_counted, joint_few, own_of, planned_few, var_within}
-use Rattle.pitch_join.proofs.Listed.{far_is}
-use Rattle.pitch_join.proofs.Lists.{of_both, of_numbered}
-use Rattle.pitch_join.proofs.Shape.{fixed_shape}
-use Rattle.pitch_join.proofs.Solving.{joining_meets}
-use Rattle.pass_run.specs.declared.step.Step.{Step}
-use Rattle.pass_run.specs.Passes.{IsLeastPass}
-use Rattle.pass_run.specs.Report.{walk_at}
-use Rattle.pass_run.specs.Slack.{IsMostAfter}
-use Rattle.pass_run.specs.Theorems.{HasCriticalPath}
-use Rattle.pass_run.proofs.Pairs.{kept_pairs_among, kept_spaced}
+use Rattle.pitch_join.specs.{Masters.{ArePlanned, master_at, master_numbers, no_master}, Joined.{base_of, bases_of}}
+use Rattle.pitch_join.specs.Joined.{candidate_edges_at, far_of, fixed_of, joint_variables, kept_edges_at, list_over}
+use Rattle.pitch_join.specs.Joined.{local_of, shifted, space_edge, system_over}
+use Rattle.pitch_join.proofs.{Bases.{bases_counted, joint_few, own_of, planned_few, var_within}, Listed.far_is}
+use Rattle.pitch_join.proofs.{Lists.{of_both, of_numbered}, Shape.fixed_shape, Solving.joining_meets}
+use Rattle.pass_run.specs.{declared.step.Step.Step, Passes.IsLeastPass, Report.walk_at, Slack.IsMostAfter}
+use Rattle.pass_run.{specs.Theorems.HasCriticalPath, proofs.Pairs.{kept_pairs_among, kept_spaced}}
 
 -- ---- within a master
 

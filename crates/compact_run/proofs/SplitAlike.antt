@@ -3,10 +3,9 @@ use Rattle.std.proofs.Common.{◌≡◌, ℕ, List, Option, Some, sym, ◌∙◌
 use Rattle.lam_geom.specs.declared.boxes.Axis.{Axis}
 use Rattle.lam_io.specs.Io.{Bytes, Files}
 use Rattle.run_words.specs.Words.{Command, compact, check, command_of}
-use Rattle.compact_run.specs.declared.status.Status.{Status}
-use Rattle.compact_run.specs.declared.cif.CifJob.TheVariants.{Extract, Check}
-use Rattle.compact_run.specs.Answers.{IsAnswer, RefusesWords, WordsWrite, compacted, told, formatted, benched, measured, jogged, edited, refused, output_failed, report_failed}
-use Rattle.compact_run.specs.Splits.{SplitsAnswerAlike}
+use Rattle.compact_run.specs.declared.{status.Status.Status, cif.CifJob.TheVariants.{Extract, Check}}
+use Rattle.compact_run.specs.Answers.{IsAnswer, RefusesWords, WordsWrite, compacted, told, formatted, benched, measured}
+use Rattle.compact_run.specs.{Answers.{jogged, edited, refused, output_failed, report_failed}, Splits.SplitsAnswerAlike}
 
 -- ---- `compact`
 

@@ -1,25 +1,20 @@
 -- Each master of a plan stands at some spot of its grids.
-use Rattle.std.proofs.Common.{◌≡◌, ℕ, zero, suc, ◌+◌, ◌<◌, Bool, true, false, not, cond, eqb, ltb, Some, None, unwrap_or, List, [], ◌∷◌, ◌++◌, length, map, get_or, inl, inr, refl, sym, ap, ◌∙◌, subst, arith}
-use Rattle.std.specs.Prelude.{Contains, slice_index}
-use Rattle.std.specs.List.{IsDistinct, flat_map, fold, list_any, position_or_len}
-use Rattle.std.proofs.lemmas.Bool.{eq-eqb, lt-ltb}
-use Rattle.std.proofs.lemmas.Bool.Decides.{eqb_tells}
-use Rattle.std.proofs.lemmas.List.{get_or_default, length-map}
-use Rattle.std.proofs.lemmas.List.Elements.{Contains-get_or}
-use Rattle.std.proofs.lemmas.Map.Keys.{apart_from_distinct}
+use Rattle.std.proofs.Common.{◌≡◌, ℕ, zero, suc, ◌+◌, ◌<◌, Bool, true, false, not, cond, eqb, ltb, Some, None}
+use Rattle.std.proofs.Common.{unwrap_or, List, [], ◌∷◌, ◌++◌, length, map, get_or, inl, inr, refl, sym, ap, ◌∙◌, subst}
+use Rattle.std.proofs.{Common.arith, lemmas.{Bool.{eq-eqb, lt-ltb, Decides.eqb_tells}, List.get_or_default}}
+use Rattle.std.proofs.lemmas.{List.{length-map, Elements.Contains-get_or}, Map.Keys.apart_from_distinct}
+use Rattle.std.specs.{Prelude.{Contains, slice_index}, List.{IsDistinct, flat_map, fold, list_any, position_or_len}}
 use Rattle.list_facts.proofs.Elements.{all_at, by_number}
 use Rattle.stick_parse.specs.declared.design.GridText.{GridText}
 use Rattle.stick_cell.specs.Known.{Known, cell_of, known_at}
 use Rattle.cell_model.specs.declared.cell.Cell.{Cell}
 use Rattle.expand.specs.declared.master.Master.{Master}
-use Rattle.plan_model.specs.declared.plan.Plan.{Plan}
-use Rattle.plan_model.specs.Instances.{Spot, IsSpot, spot, grid_at, master_at_spot}
+use Rattle.plan_model.specs.{declared.plan.Plan.Plan, Instances.{Spot, IsSpot, spot, grid_at, master_at_spot}}
 use Rattle.plan_model.specs.Rows.{add_new, row_at}
 use Rattle.pitch_join.proofs.Lists.{all_firsts}
 use Rattle.grid_rules.proofs.Lists.{in_map, out_of_flat_map}
-use Rattle.grid_plan.specs.Numbered.{is_same_number, master_of, masters_in, numbers_in_row, numbers_in_grid, planned_rows}
-use Rattle.grid_plan.specs.Planned.{IsPlanOf}
-use Rattle.grid_plan.proofs.Placing.{distinct_more}
+use Rattle.grid_plan.specs.Numbered.{is_same_number, master_of, masters_in, numbers_in_row, numbers_in_grid}
+use Rattle.grid_plan.{specs.{Numbered.planned_rows, Planned.IsPlanOf}, proofs.Placing.distinct_more}
 use Rattle.written_masks.specs.Written.{AllStand}
 
 -- ---- the first places in a list have different numbers

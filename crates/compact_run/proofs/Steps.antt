@@ -1,25 +1,22 @@
 -- What the steps of a command tell of the shelf, and what they come to together.
-use Rattle.std.proofs.Common.{◌≡◌, ℕ, Option, Some, None, refl, Result, Ok, Err, List, [], IfOk, IfErr, inl, inr, sym, ap, subst, ◌∙◌, option_map}
+use Rattle.std.proofs.Common.{◌≡◌, ℕ, Option, Some, None, refl, Result, Ok, Err, List, [], IfOk, IfErr, inl, inr, sym}
+use Rattle.std.proofs.Common.{ap, subst, ◌∙◌, option_map}
 use Rattle.lam_geom.specs.declared.boxes.Axis.{Axis}
 use Rattle.lam_io.specs.Io.{Bytes, Files, Telling, with_asked, Asks}
 use Rattle.rule_table.specs.declared.technology.Tech.{Tech}
 use Rattle.stick_parse.specs.declared.design.Design.{Design as Sticks}
-use Rattle.compact_run.specs.declared.output.Output.{Output}
-use Rattle.compact_run.specs.declared.refusal.Refusal.{Refusal}
-use Rattle.compact_run.specs.declared.status.File.{File}
-use Rattle.compact_run.specs.declared.status.File.TheVariants.{Cif}
-use Rattle.compact_run.specs.declared.status.Status.{Status}
+use Rattle.compact_run.specs.declared.{output.Output.Output, refusal.Refusal.Refusal, status.File.File}
+use Rattle.compact_run.specs.declared.{status.{File.TheVariants.Cif, Status.Status}, cif.CifJob.CifJob}
+use Rattle.compact_run.specs.declared.cif.CifJob.TheVariants.{Extract, Check}
+use Rattle.compact_run.specs.{Fetches.{AsksOnce, AsksFor, AsksThrough, IsRead, ends_over}, Refusals.Refused}
+use Rattle.compact_run.specs.{Refusals.ending_by, Answers.{IsTechnology, IsDesign, IsOutputOf, IsGiven, RefusesFile}}
+use Rattle.compact_run.specs.Answers.{RefusesText, RefusesTechnology, RefusesWords, command_for, text_of}
+use Rattle.compact_run.specs.Designs.{RefusesDesign, CompactsTo}
 use Rattle.compact_run.specs.declared.status.Status.TheVariants as status
 use Rattle.run_words.specs.Words.{Command, compact, slack, jog, edit, check, extract, fmt, bench}
 use Rattle.run_words.specs.declared.commands.WordsFault.{WordsFault}
 use Rattle.run_words.specs.declared.commands.WordsFault.TheVariants as words
-use Rattle.compact_run.specs.declared.cif.CifJob.{CifJob}
-use Rattle.compact_run.specs.declared.cif.CifJob.TheVariants.{Extract, Check}
-use Rattle.compact_run.specs.Fetches.{AsksOnce, AsksFor, AsksThrough, IsRead, ends_over}
-use Rattle.compact_run.specs.Refusals.{Refused, ending_by}
 use Rattle.compact_run.specs.Answers as answers
-use Rattle.compact_run.specs.Answers.{IsTechnology, IsDesign, IsOutputOf, IsGiven, RefusesFile, RefusesText, RefusesTechnology, RefusesWords, command_for, text_of}
-use Rattle.compact_run.specs.Designs.{RefusesDesign, CompactsTo}
 
 done_is_not : status.Done ≡ status.OutOfMemory → ⊥
 done_is_not e = cc

@@ -1,16 +1,11 @@
 -- Sums of lengths, up to a most that is counted.
-use Rattle.std.proofs.Common.{◌≡◌, ℕ, ◌+◌, ◌<◌, ℤ, pos, List, [], ◌∷◌, ◌++◌, map, take, length, get_or, refl, sym, ap, ◌∙◌, arith, int_lt, true, false, ◌⊎◌, inl, inr}
-use Rattle.std.specs.Prelude.{◌≤ℤ◌, ◌<ℤ◌, ◌+ℤ◌, ◌-ℤ◌, int_le, fold}
-use Rattle.std.specs.Int.{int_min, int_max}
-use Rattle.std.proofs.lemmas.Int.{ints, clamps}
-use Rattle.std.proofs.lemmas.List.{map_more, take_all, length-map, map-append, get_or-map}
-use Rattle.std.proofs.lemmas.List.Elements.{All-get_or}
-use Rattle.std.proofs.lemmas.List.Sums.{fold-append}
-use Rattle.std.proofs.lemmas.Int.{fold-int_max_bounds}
-use Rattle.plan_model.specs.declared.plan.PlanRow.{PlanRow}
-use Rattle.plan_model.specs.declared.plan.PlanGrid.{PlanGrid}
-use Rattle.plan_model.specs.Rows.{rows_of}
-use Rattle.plan_model.specs.Instances.{total, grid_width, grid_height, left_of_grid, whole_height}
+use Rattle.std.proofs.Common.{◌≡◌, ℕ, ◌+◌, ◌<◌, ℤ, pos, List, [], ◌∷◌, ◌++◌, map, take, length, get_or, refl, sym, ap}
+use Rattle.std.proofs.Common.{◌∙◌, arith, int_lt, true, false, ◌⊎◌, inl, inr}
+use Rattle.std.proofs.lemmas.{Int.{ints, clamps, fold-int_max_bounds}, List.{map_more, take_all, length-map}}
+use Rattle.std.proofs.lemmas.List.{map-append, get_or-map, Elements.All-get_or, Sums.fold-append}
+use Rattle.std.specs.{Prelude.{◌≤ℤ◌, ◌<ℤ◌, ◌+ℤ◌, ◌-ℤ◌, int_le, fold}, Int.{int_min, int_max}}
+use Rattle.plan_model.specs.declared.plan.{PlanRow.PlanRow, PlanGrid.PlanGrid}
+use Rattle.plan_model.specs.{Rows.rows_of, Instances.{total, grid_width, grid_height, left_of_grid, whole_height}}
 
 -- the sum grows at the end
 pub total_more : (xs : List ℤ) (x : ℤ) → total (xs ++ x ∷ []) ≡ total xs +ℤ x

@@ -1,18 +1,12 @@
 -- How many mask boxes and parts a cell has, against what it weighs.
-use Rattle.std.proofs.Common.{ℕ, ◌+◌, ◌≤◌, List, [], ◌∷◌, length, sum_by, arith}
-use Rattle.std.specs.Prelude.{All}
-use Rattle.std.specs.List.{AllByRecursion}
-use Rattle.std.proofs.lemmas.List.Sums.{sum_by-cons}
+use Rattle.std.proofs.{Common.{ℕ, ◌+◌, ◌≤◌, List, [], ◌∷◌, length, sum_by, arith}, lemmas.List.Sums.sum_by-cons}
+use Rattle.std.specs.{Prelude.All, List.AllByRecursion}
 use Rattle.list_facts.proofs.Elements.{all_of}
-use Rattle.rule_table.specs.declared.classes.Layer.{Layer}
-use Rattle.rule_table.specs.declared.classes.Layer.TheVariants.{Diffusion, Poly, Metal}
-use Rattle.cell_model.specs.declared.cell.Node.{Node}
-use Rattle.cell_model.specs.declared.cell.Wire.{Wire}
-use Rattle.cell_model.specs.declared.cell.NodeKind.{NodeKind}
+use Rattle.rule_table.specs.declared.classes.Layer.{Layer, TheVariants.{Diffusion, Poly, Metal}}
+use Rattle.cell_model.specs.{declared.cell.{Node.Node, Wire.Wire, NodeKind.NodeKind}, Counts.{items_in, boxes_in}}
+use Rattle.cell_model.specs.Counts.{layer_items, kind_items, kind_boxes, node_items, node_boxes, wire_items}
 use Rattle.cell_model.specs.declared.cell.NodeKind.TheVariants as kinds
-use Rattle.cell_model.specs.Counts.{items_in, boxes_in, layer_items, kind_items, kind_boxes, node_items, node_boxes, wire_items}
-use Rattle.stick_cell.specs.Counts.{weight_of, boxes_of}
-use Rattle.stick_cell.specs.Known.{Known, cell_of}
+use Rattle.stick_cell.specs.{Counts.{weight_of, boxes_of}, Known.{Known, cell_of}}
 
 some_layer_items : (layer : Layer) → 1 ≤ layer_items layer
 some_layer_items Diffusion = omega arith

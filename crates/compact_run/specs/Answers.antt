@@ -2,40 +2,25 @@
 use Rattle.std.specs.Prelude.{◌≡◌, ℕ, ℤ, ◌⊎◌, Option, Some, None, Result, Ok, Err, List, [], flat_map, codes}
 use Rattle.lam_geom.specs.declared.boxes.Axis.{Axis}
 use Rattle.lam_io.specs.Io.{Bytes, Files, Appends, AppendsPrefix, Rose}
-use Rattle.rule_table.specs.declared.technology.Tech.{Tech}
-use Rattle.rule_table.specs.Technology.{numbers_of}
+use Rattle.rule_table.specs.{declared.technology.Tech.Tech, Technology.numbers_of}
 use Rattle.cif_foreign.specs.Meaning.{IsFirstFault}
-use Rattle.cif_answers.specs.declared.fault.TextFault.{TextFault}
-use Rattle.cif_answers.specs.Texts.{HasNetlist, HasVerdict, HasTooManyBoxes, IsNotProper, IsBroken, RefusesNetlist, RefusesVerdict}
-use Rattle.tech_file.specs.declared.faults.TechFileFault.{TechFileFault}
-use Rattle.tech_file.specs.Technology.{technology_of}
-use Rattle.stick_parse.specs.declared.design.Design.{Design as Sticks}
-use Rattle.stick_parse.specs.declared.fault.StickFault.{StickFault}
-use Rattle.stick_parse.specs.Order.{design_of}
+use Rattle.cif_answers.specs.{declared.fault.TextFault.TextFault, Texts.{HasNetlist, HasVerdict, HasTooManyBoxes}}
+use Rattle.cif_answers.specs.Texts.{IsNotProper, IsBroken, RefusesNetlist, RefusesVerdict}
+use Rattle.tech_file.specs.{declared.faults.TechFileFault.TechFileFault, Technology.technology_of}
+use Rattle.stick_parse.specs.{declared.{design.Design.Design as Sticks, fault.StickFault.StickFault}, Order.design_of}
 use Rattle.stick_print.specs.Canonical.{canonical}
-use Rattle.compact_run.specs.declared.output.Output.{Output}
-use Rattle.compact_run.specs.declared.refusal.Refusal.{Refusal}
-use Rattle.compact_run.specs.declared.status.File.TheVariants.{Design, Technology, Cif, Script}
+use Rattle.compact_run.specs.declared.{output.Output.Output, refusal.Refusal.Refusal, status.File.TheVariants.Design}
+use Rattle.compact_run.specs.declared.status.{File.TheVariants.{Technology, Cif, Script}, Status.Status}
+use Rattle.compact_run.specs.declared.{status.What.TheVariants.Boxes, cif.CifJob.{CifJob, TheVariants.{Extract, Check}}}
+use Rattle.compact_run.specs.{Fetches.{HasFile, IsLongFile}, FaultLines.{stick_line, tech_line, cif_line}}
+use Rattle.compact_run.specs.{FaultLines.{improper_line, broken_line, script_line}, Refusal.line_of, Refusals.Refused}
+use Rattle.compact_run.specs.{Designs.{CompactsTo, IsBeforePasses, RefusesDesign}, Bench.{IsBenched, RefusesBench}}
+use Rattle.compact_run.specs.{Slacks.SlacksTo, Jogs.{IsLaidOutAs, JogsTo}, Edits.{EditsTo, HasStart}}
 use Rattle.compact_run.specs.declared.status.Side2.TheVariants as side
-use Rattle.compact_run.specs.declared.status.Status.{Status}
 use Rattle.compact_run.specs.declared.status.Status.TheVariants as status
-use Rattle.compact_run.specs.declared.status.What.TheVariants.{Boxes}
-use Rattle.compact_run.specs.declared.cif.CifJob.{CifJob}
-use Rattle.compact_run.specs.declared.cif.CifJob.TheVariants.{Extract, Check}
-use Rattle.jog_insert.specs.declared.script.JogLine.{JogLine}
-use Rattle.jog_insert.specs.Scripts.{jogs_of}
-use Rattle.edit_lines.specs.declared.script.EditLine.{EditLine}
-use Rattle.edit_lines.specs.Scripts.{edits_of}
+use Rattle.jog_insert.specs.{declared.script.JogLine.JogLine, Scripts.jogs_of}
+use Rattle.edit_lines.specs.{declared.script.EditLine.EditLine, Scripts.edits_of}
 use Rattle.run_words.specs.Words.{Command, compact, slack, jog, edit, check, extract, fmt, bench, command_of}
-use Rattle.compact_run.specs.Fetches.{HasFile, IsLongFile}
-use Rattle.compact_run.specs.FaultLines.{stick_line, tech_line, cif_line, improper_line, broken_line, script_line}
-use Rattle.compact_run.specs.Refusal.{line_of}
-use Rattle.compact_run.specs.Refusals.{Refused}
-use Rattle.compact_run.specs.Designs.{CompactsTo, IsBeforePasses, RefusesDesign}
-use Rattle.compact_run.specs.Bench.{IsBenched, RefusesBench}
-use Rattle.compact_run.specs.Slacks.{SlacksTo}
-use Rattle.compact_run.specs.Jogs.{IsLaidOutAs, JogsTo}
-use Rattle.compact_run.specs.Edits.{EditsTo, HasStart}
 
 -- A file of the shelf is this technology.
 pub record IsTechnology (files : Files) (name : Bytes) (tech : Tech) : Type 0 where

@@ -1,13 +1,10 @@
 -- What `bench` writes: a line on the design that is made from a number, laid out under the technology that the program ships with.
 use Rattle.std.specs.Prelude.{◌≡◌, ℕ, List, [], ◌∷◌, ◌++◌, length, map, slice_index, codes, decimal}
 use Rattle.std.specs.Fmt.{signed_decimal}
-use Rattle.lam_geom.specs.declared.boxes.Axis.{Axis}
-use Rattle.lam_geom.specs.declared.boxes.Axis.TheVariants.{X, Y}
+use Rattle.lam_geom.specs.declared.boxes.Axis.{Axis, TheVariants.{X, Y}}
 use Rattle.lam_io.specs.Io.{Bytes}
-use Rattle.rule_table.specs.declared.technology.Tech.{Tech}
-use Rattle.rule_table.specs.Technology.{numbers_of, shipped_numbers}
-use Rattle.sym_items.specs.declared.items.Coords.{Coords}
-use Rattle.sym_items.specs.Layouts.{size_in}
+use Rattle.rule_table.specs.{declared.technology.Tech.Tech, Technology.{numbers_of, shipped_numbers}}
+use Rattle.sym_items.specs.{declared.items.Coords.Coords, Layouts.size_in}
 use Rattle.expand.specs.declared.master.Master.{Master}
 use Rattle.plan_model.specs.declared.plan.Plan.{Plan}
 use Rattle.pitch_join.specs.Masters.{master_at}
@@ -15,12 +12,9 @@ use Rattle.pass_run.specs.declared.step.Step.{Step}
 use Rattle.net_extract.specs.declared.netlist.Netlist.{Netlist}
 use Rattle.grid_rules.specs.Sticks.{IsSticksNetlist}
 use Rattle.design_gen.specs.Made.{made}
-use Rattle.compact_run.specs.declared.bench.Tally.{Tally}
-use Rattle.compact_run.specs.declared.status.What.TheVariants.{Extent}
-use Rattle.compact_run.specs.declared.status.Status.{Status}
+use Rattle.compact_run.specs.declared.{bench.Tally.Tally, status.{What.TheVariants.Extent, Status.Status}}
+use Rattle.compact_run.specs.{Plans.AreMastersOf, Designs.{ArePlaced, RefusesDesign, last_layouts}}
 use Rattle.compact_run.specs.declared.status.Status.TheVariants as status
-use Rattle.compact_run.specs.Plans.{AreMastersOf}
-use Rattle.compact_run.specs.Designs.{ArePlaced, RefusesDesign, last_layouts}
 
 -- it has the numbers that the program ships with
 abbrev pub IsShipped : Tech → Type 0

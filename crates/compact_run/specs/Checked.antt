@@ -1,10 +1,8 @@
 -- That masks pass the program's own check.
-use Rattle.std.specs.Prelude.{◌≡◌, List, Some, codes}
-use Rattle.std.specs.FinMap.{get}
+use Rattle.std.specs.{Prelude.{◌≡◌, List, Some, codes}, FinMap.get}
 use Rattle.lam_geom.specs.declared.boxes.Axis.{Axis}
 use Rattle.lam_io.specs.Io.{Bytes, Files}
-use Rattle.compact_run.specs.declared.cif.CifJob.TheVariants.{Check}
-use Rattle.compact_run.specs.Answers.{IsCompacted, IsTold}
+use Rattle.compact_run.specs.{declared.cif.CifJob.TheVariants.Check, Answers.{IsCompacted, IsTold}}
 
 -- What `compact` writes, put on a shelf with the same technology, under whatever names, is answered `ok` by `check`.
 abbrev pub MasksPassTheCheck : Type 0

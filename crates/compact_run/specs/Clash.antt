@@ -1,7 +1,6 @@
 -- The line of a clash.
 use Rattle.std.specs.Prelude.{ℕ, ◌-◌, List, [], ◌∷◌, ◌++◌, length, codes, decimal, nat_lt, if◌then◌else◌}
-use Rattle.cell_model.specs.declared.cell.Cell.{Cell}
-use Rattle.cell_model.specs.Sound.{node_at}
+use Rattle.cell_model.specs.{declared.cell.Cell.Cell, Sound.node_at}
 
 -- a part of a cell: a node by the path to it, a wire by its number
 abbrev pub part_text : Cell → ℕ → List ℕ

@@ -1,43 +1,28 @@
 -- What `compact` answers over a design and a technology: the masks and the report of its masters, or why there are none.
-use Rattle.std.specs.Prelude.{◌≡◌, ◌≢◌, ℕ, ◌<◌, ◌≤◌, ◌*ℤ◌, ◌≤ℤ◌, ◌<ℤ◌, ◌⊎◌, ℤ, pos, All, Contains, List, [], length, take, flat_map}
-use Rattle.lam_geom.specs.declared.boxes.Axis.{Axis}
-use Rattle.lam_geom.specs.declared.boxes.Axis.TheVariants.{X, Y}
+use Rattle.std.specs.Prelude.{◌≡◌, ◌≢◌, ℕ, ◌<◌, ◌≤◌, ◌*ℤ◌, ◌≤ℤ◌, ◌<ℤ◌, ◌⊎◌, ℤ, pos, All, Contains, List, [], length}
+use Rattle.std.specs.Prelude.{take, flat_map}
+use Rattle.lam_geom.specs.declared.boxes.Axis.{Axis, TheVariants.{X, Y}}
 use Rattle.lam_io.specs.Io.{Bytes}
-use Rattle.rule_table.specs.declared.technology.Tech.{Tech}
-use Rattle.rule_table.specs.Technology.{numbers_of, widest_of}
-use Rattle.sym_items.specs.declared.items.Coords.{Coords}
-use Rattle.sym_items.specs.Layouts.{size_in}
+use Rattle.rule_table.specs.{declared.technology.Tech.Tech, Technology.{numbers_of, widest_of}}
+use Rattle.sym_items.specs.{declared.items.Coords.Coords, Layouts.size_in}
 use Rattle.stick_parse.specs.declared.design.Design.{Design}
 use Rattle.expand.specs.declared.master.Master.{Master}
 use Rattle.pair_rules.specs.Bound.{item_at}
-use Rattle.coarse_grid.specs.Start.{start_of}
-use Rattle.coarse_grid.specs.Clash.{IsFirstClash}
-use Rattle.coarse_grid.specs.Ranges.{ShareAPoint}
-use Rattle.plan_model.specs.declared.plan.Plan.{Plan}
-use Rattle.plan_model.specs.Instances.{whole_width, whole_height}
-use Rattle.plan_model.specs.Plan.{grids_of}
+use Rattle.coarse_grid.specs.{Start.start_of, Clash.IsFirstClash, Ranges.ShareAPoint}
+use Rattle.plan_model.specs.{declared.plan.Plan.Plan, Instances.{whole_width, whole_height}, Plan.grids_of}
 use Rattle.pitch_join.specs.Masters.{master_at}
 use Rattle.flat_check.specs.Breaks.{KeepRules}
 use Rattle.written_masks.specs.Written.{HasSticksNets}
 use Rattle.grid_rules.specs.Rules.{AllKeepSpacing}
-use Rattle.pass_run.specs.declared.step.Step.{Step}
-use Rattle.pass_run.specs.declared.passes.PassFault.{PassFault}
+use Rattle.pass_run.specs.declared.{step.Step.Step, passes.PassFault.PassFault}
+use Rattle.pass_run.specs.{Laid.StartsClean, Layouts.{starts_of, layouts_after}, Passes.{ArePasses, axes_of}}
+use Rattle.pass_run.specs.{Report.report_of, Theorems.AreSound, PassFaults.RefusesPasses}
 use Rattle.pass_run.specs.declared.passes.PassFault.TheVariants as stop
-use Rattle.pass_run.specs.Laid.{StartsClean}
-use Rattle.pass_run.specs.Layouts.{starts_of, layouts_after}
-use Rattle.pass_run.specs.Passes.{ArePasses, axes_of}
-use Rattle.pass_run.specs.Report.{report_of}
-use Rattle.pass_run.specs.Theorems.{AreSound}
-use Rattle.pass_run.specs.PassFaults.{RefusesPasses}
 use Rattle.mask_out.specs.Pictures.{drawings_in, calls_of}
-use Rattle.cif_text.specs.Calls.{parts_of}
-use Rattle.cif_text.specs.Cutting.{AreCut}
-use Rattle.compact_run.specs.declared.status.What.TheVariants.{Edges, Extent}
-use Rattle.compact_run.specs.declared.status.Status.{Status}
+use Rattle.cif_text.specs.{Calls.parts_of, Cutting.AreCut}
+use Rattle.compact_run.specs.{declared.status.{What.TheVariants.{Edges, Extent}, Status.Status}, Limits.most_boxes}
+use Rattle.compact_run.specs.{Limits.{most_cif_bytes, most_extent}, Clash.clash_text, Plans.{AreMastersOf, RefusesPlan}}
 use Rattle.compact_run.specs.declared.status.Status.TheVariants as status
-use Rattle.compact_run.specs.Limits.{most_boxes, most_cif_bytes, most_extent}
-use Rattle.compact_run.specs.Clash.{clash_text}
-use Rattle.compact_run.specs.Plans.{AreMastersOf, RefusesPlan}
 
 -- the passes are on both axes
 abbrev pub HasBothAxes : List Axis → Type 0

@@ -1,18 +1,14 @@
 -- What holds of all edits.
-use Rattle.std.specs.Prelude.{◌≡◌, ◌↔◌, ℕ, List, Some}
-use Rattle.std.specs.FinMap.{get}
+use Rattle.std.specs.{Prelude.{◌≡◌, ◌↔◌, ℕ, List, Some}, FinMap.get}
 use Rattle.lam_geom.specs.declared.boxes.Axis.{Axis}
 use Rattle.lam_io.specs.Io.{Bytes, Files}
 use Rattle.rule_table.specs.declared.technology.Tech.{Tech}
-use Rattle.stick_parse.specs.declared.design.Design.{Design as Sticks}
-use Rattle.stick_parse.specs.Writable.{IsWritable}
+use Rattle.stick_parse.specs.{declared.design.Design.Design as Sticks, Writable.IsWritable}
 use Rattle.stick_print.specs.Canonical.{canonical}
 use Rattle.edit_lines.specs.declared.script.EditLine.{EditLine}
 use Rattle.compact_run.specs.declared.status.Status.{Status}
-use Rattle.compact_run.specs.Designs.{last_layouts}
-use Rattle.compact_run.specs.Edits.{Changes, IsAnswered, code_word, done_word}
-use Rattle.compact_run.specs.Answers.{IsTechnology, IsCompacted, RefusesCompact}
-use Rattle.compact_run.specs.OneAnswer.{IsDecided}
+use Rattle.compact_run.specs.{Designs.last_layouts, Edits.{Changes, IsAnswered, code_word, done_word}}
+use Rattle.compact_run.specs.{Answers.{IsTechnology, IsCompacted, RefusesCompact}, OneAnswer.IsDecided}
 
 -- What `compact` answers over the design of one file under the technology of the other, in a word: the sizes of the masters that it lays out, or why it is refused.
 pub data CompactAnswers (design tech : Bytes) (axes : List Axis) (files : Files) (word : Bytes) : Type 0 where

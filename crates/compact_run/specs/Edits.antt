@@ -1,34 +1,23 @@
 -- What `edit` writes: after each line of a script, what the design so far comes to, in a word.
-use Rattle.std.specs.Prelude.{◌≡◌, ◌≢◌, ℕ, suc, ◌<◌, ◌≤◌, All, List, [], ◌∷◌, ◌++◌, length, flat_map, Bool, true, false, Option, Some, None, Result, Ok, Err, codes, decimal}
-use Rattle.std.specs.Fmt.{signed_decimal}
-use Rattle.lam_geom.specs.declared.boxes.Axis.{Axis}
-use Rattle.lam_geom.specs.declared.boxes.Axis.TheVariants.{X, Y}
+use Rattle.std.specs.Prelude.{◌≡◌, ◌≢◌, ℕ, suc, ◌<◌, ◌≤◌, All, List, [], ◌∷◌, ◌++◌, length, flat_map, Bool, true, false}
+use Rattle.std.specs.{Prelude.{Option, Some, None, Result, Ok, Err, codes, decimal}, Fmt.signed_decimal}
+use Rattle.lam_geom.specs.declared.boxes.Axis.{Axis, TheVariants.{X, Y}}
 use Rattle.lam_io.specs.Io.{Bytes}
 use Rattle.rule_table.specs.declared.technology.Tech.{Tech}
-use Rattle.sym_items.specs.declared.items.Coords.{Coords}
-use Rattle.sym_items.specs.Layouts.{size_in}
-use Rattle.stick_parse.specs.declared.design.Design.{Design}
-use Rattle.stick_parse.specs.declared.fault.ParseFault.{ParseFault}
+use Rattle.sym_items.specs.{declared.items.Coords.Coords, Layouts.size_in}
+use Rattle.stick_parse.specs.declared.{design.Design.Design, fault.ParseFault.ParseFault}
 use Rattle.stick_parse.specs.declared.fault.ParseFault.TheVariants as resolving
 use Rattle.stick_print.specs.Canonical.{canonical}
-use Rattle.stick_cell.specs.Known.{Known}
-use Rattle.stick_cell.specs.Grids.{resolved_cells}
-use Rattle.edit_lines.specs.declared.script.EditLine.{EditLine}
-use Rattle.edit_lines.specs.Edits.{IsEdited}
+use Rattle.stick_cell.specs.{Known.Known, Grids.resolved_cells}
+use Rattle.edit_lines.specs.{declared.script.EditLine.EditLine, Edits.IsEdited}
 use Rattle.expand.specs.declared.master.Master.{Master}
 use Rattle.plan_model.specs.declared.plan.Plan.{Plan}
 use Rattle.pitch_join.specs.Masters.{master_at, master_numbers}
-use Rattle.pass_run.specs.Laid.{StartsClean}
-use Rattle.pass_run.specs.Layouts.{starts_of}
-use Rattle.pass_run.specs.Least.{LeadTo}
-use Rattle.compact_run.specs.declared.edit.Stepped.{Stepped}
+use Rattle.pass_run.specs.{Laid.StartsClean, Layouts.starts_of, Least.LeadTo}
+use Rattle.compact_run.specs.{declared.{edit.Stepped.Stepped, status.Status.Status}, Limits.most_design_bytes}
+use Rattle.compact_run.specs.{Status.code_of, Plans.AreMastersOf, Designs.{IsWithin, RefusesDesign}}
 use Rattle.compact_run.specs.declared.status.File.TheVariants as file
-use Rattle.compact_run.specs.declared.status.Status.{Status}
 use Rattle.compact_run.specs.declared.status.Status.TheVariants as status
-use Rattle.compact_run.specs.Limits.{most_design_bytes}
-use Rattle.compact_run.specs.Status.{code_of}
-use Rattle.compact_run.specs.Plans.{AreMastersOf}
-use Rattle.compact_run.specs.Designs.{IsWithin, RefusesDesign}
 
 -- ---- the word
 

@@ -1,12 +1,10 @@
 -- The lines that say what is wrong with a technology, a design, a script or a CIF text.
 use Rattle.std.specs.Prelude.{ℕ, List, [], ◌∷◌, ◌++◌, codes, decimal, slice_index_or}
-use Rattle.stick_parse.specs.declared.fault.StickKind.{StickKind}
+use Rattle.stick_parse.specs.declared.fault.{StickKind.StickKind, StickFault.StickFault}
 use Rattle.stick_parse.specs.declared.fault.StickKind.TheVariants as kinds
-use Rattle.stick_parse.specs.declared.fault.StickFault.{StickFault}
 use Rattle.rule_table.specs.declared.faults.TechFault.{TechFault}
 use Rattle.rule_table.specs.declared.faults.TechFault.TheVariants as numbers
-use Rattle.cif_read.specs.declared.fault.CifFault.{CifFault}
-use Rattle.cif_read.specs.declared.fault.CifKind.{CifKind}
+use Rattle.cif_read.specs.declared.fault.{CifFault.CifFault, CifKind.CifKind}
 use Rattle.cif_read.specs.declared.fault.CifKind.TheVariants as cif
 use Rattle.tech_file.specs.declared.faults.TechFileFault.{TechFileFault}
 use Rattle.tech_file.specs.declared.faults.TechFileFault.TheVariants as faults

@@ -4,10 +4,8 @@ use Rattle.std.specs.FinMap.{get}
 use Rattle.lam_io.specs.Io.{Bytes, Files, Telling, Asks, Rose, with_asked}
 use Rattle.run_words.specs.Words.{Command, compact, slack, jog, edit, check, extract, fmt, bench}
 use Rattle.compact_run.specs.Limits.{most_design_bytes, most_technology_bytes, most_cif_bytes, most_script_bytes}
-use Rattle.compact_run.specs.declared.status.File.{File}
-use Rattle.compact_run.specs.declared.status.File.TheVariants.{Design, Technology, Cif, Script}
-use Rattle.compact_run.specs.declared.status.What.TheVariants.{Boxes}
-use Rattle.compact_run.specs.declared.status.Status.{Status}
+use Rattle.compact_run.specs.declared.status.File.{File, TheVariants.{Design, Technology, Cif, Script}}
+use Rattle.compact_run.specs.declared.status.{What.TheVariants.Boxes, Status.Status}
 use Rattle.compact_run.specs.declared.status.Status.TheVariants as status
 
 -- the most bytes that a file may have

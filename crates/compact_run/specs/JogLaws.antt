@@ -3,16 +3,12 @@ use Rattle.std.specs.Prelude.{◌↔◌, ℕ, ℤ, Bool, List}
 use Rattle.lam_geom.specs.declared.boxes.Axis.{Axis}
 use Rattle.lam_io.specs.Io.{Bytes, Files}
 use Rattle.rule_table.specs.declared.technology.Tech.{Tech}
-use Rattle.stick_parse.specs.declared.design.Design.{Design as Sticks}
-use Rattle.stick_parse.specs.Writable.{IsWritable}
+use Rattle.stick_parse.specs.{declared.design.Design.Design as Sticks, Writable.IsWritable}
 use Rattle.stick_print.specs.Canonical.{canonical}
 use Rattle.cell_model.specs.declared.cell.Cell.{Cell}
-use Rattle.jog_insert.specs.declared.script.JogLine.{JogLine}
-use Rattle.jog_insert.specs.Jogs.{IsJogged}
-use Rattle.compact_run.specs.declared.status.File.TheVariants.{Design}
-use Rattle.compact_run.specs.Fetches.{HasFile}
-use Rattle.compact_run.specs.Answers.{IsTechnology, IsCompacted}
-use Rattle.compact_run.specs.Jogs.{IsLaidOutAs, IsNoWider, JogsTo}
+use Rattle.jog_insert.specs.{declared.script.JogLine.JogLine, Jogs.IsJogged}
+use Rattle.compact_run.specs.{declared.status.File.TheVariants.Design, Fetches.HasFile, Answers.IsTechnology}
+use Rattle.compact_run.specs.{Answers.IsCompacted, Jogs.{IsLaidOutAs, IsNoWider, JogsTo}}
 
 -- After a script of jogs `compact` lays out the last design, and no master is wider than before them.
 abbrev pub JogsWidenNoCell : Type 0

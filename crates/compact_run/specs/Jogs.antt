@@ -1,27 +1,21 @@
 -- What `jog` writes: the design after a script of jogs, each of which is kept where it makes its cell narrower and no cell wider.
-use Rattle.std.specs.Prelude.{◌≡◌, ℕ, suc, ◌≤◌, ◌==◌, ℤ, ◌<ℤ◌, ◌≤ℤ◌, Some, List, [], ◌∷◌, ◌++◌, length, map, position, Ok, codes, decimal}
-use Rattle.std.specs.Fmt.{signed_decimal}
-use Rattle.lam_geom.specs.declared.boxes.Axis.{Axis}
-use Rattle.lam_geom.specs.declared.boxes.Axis.TheVariants.{X}
+use Rattle.std.specs.Prelude.{◌≡◌, ℕ, suc, ◌≤◌, ◌==◌, ℤ, ◌<ℤ◌, ◌≤ℤ◌, Some, List, [], ◌∷◌, ◌++◌, length, map, position}
+use Rattle.std.specs.{Prelude.{Ok, codes, decimal}, Fmt.signed_decimal}
+use Rattle.lam_geom.specs.declared.boxes.Axis.{Axis, TheVariants.X}
 use Rattle.lam_io.specs.Io.{Bytes}
 use Rattle.cons_graph.specs.Solutions.{value_of}
 use Rattle.rule_table.specs.declared.technology.Tech.{Tech}
 use Rattle.sym_items.specs.Layouts.{size_in}
 use Rattle.stick_parse.specs.declared.design.Design.{Design}
 use Rattle.stick_print.specs.Canonical.{canonical}
-use Rattle.stick_cell.specs.Known.{Known, cell_of, known_at}
-use Rattle.stick_cell.specs.Lines.{number_of}
-use Rattle.stick_cell.specs.Grids.{resolved_cells}
+use Rattle.stick_cell.specs.{Known.{Known, cell_of, known_at}, Lines.number_of, Grids.resolved_cells}
 use Rattle.expand.specs.declared.master.Master.{Master}
 use Rattle.plan_model.specs.declared.plan.Plan.{Plan}
 use Rattle.pitch_join.specs.Masters.{master_numbers}
 use Rattle.pass_run.specs.declared.step.Step.{Step}
-use Rattle.jog_insert.specs.declared.script.JogLine.{JogLine}
-use Rattle.jog_insert.specs.Jogs.{IsJogged}
+use Rattle.jog_insert.specs.{declared.script.JogLine.JogLine, Jogs.IsJogged}
 use Rattle.compact_run.specs.declared.jog.Bent.{Bent}
-use Rattle.compact_run.specs.Plans.{AreMastersOf}
-use Rattle.compact_run.specs.Limits.{most_design_bytes}
-use Rattle.compact_run.specs.Designs.{ArePlaced, last_layouts}
+use Rattle.compact_run.specs.{Plans.AreMastersOf, Limits.most_design_bytes, Designs.{ArePlaced, last_layouts}}
 
 -- the width of each master after passes
 abbrev pub widths_after : Tech → List Master → List Step → List ℤ

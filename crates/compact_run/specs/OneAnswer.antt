@@ -1,9 +1,8 @@
 -- That words and files have one answer.
 use Rattle.std.specs.Prelude.{◌≡◌, List}
 use Rattle.lam_io.specs.Io.{Bytes, Files}
-use Rattle.compact_run.specs.declared.status.Status.{Status}
+use Rattle.compact_run.specs.{declared.status.Status.Status, Answers.IsAnswer}
 use Rattle.compact_run.specs.declared.status.Status.TheVariants as status
-use Rattle.compact_run.specs.Answers.{IsAnswer}
 
 -- The words and the files decide how it ended: memory did not run out, and no file or stream failed.
 abbrev pub IsDecided : Status → Type 0

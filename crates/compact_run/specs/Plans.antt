@@ -1,25 +1,16 @@
 -- The masters of a design: its cells, the plan of its grids, and the masters with their items.
-use Rattle.std.specs.Prelude.{◌≡◌, ℕ, ◌≤◌, ◌<◌, All, List, Option, Some, None, [], Ok, Err, length, map, slice_index, slice_index_or, sum_by}
+use Rattle.std.specs.Prelude.{◌≡◌, ℕ, ◌≤◌, ◌<◌, All, List, Option, Some, None, [], Ok, Err, length, map, slice_index}
+use Rattle.std.specs.Prelude.{slice_index_or, sum_by}
 use Rattle.lam_io.specs.Io.{Bytes}
 use Rattle.rule_table.specs.declared.technology.Tech.{Tech}
-use Rattle.stick_parse.specs.declared.design.Design.{Design}
-use Rattle.stick_parse.specs.declared.design.GridText.{GridText}
-use Rattle.stick_cell.specs.Counts.{weight_of, boxes_of}
-use Rattle.stick_cell.specs.Known.{Known, cell_of, known_at}
-use Rattle.stick_cell.specs.Grids.{resolved_cells}
-use Rattle.expand.specs.declared.master.Master.{Master}
-use Rattle.expand.specs.Items.{AreItems}
-use Rattle.plan_model.specs.declared.plan.Plan.{Plan}
-use Rattle.plan_model.specs.Plan.{grids_of, AreOfMasters}
-use Rattle.grid_plan.specs.declared.fault.GridFault.{GridFault}
-use Rattle.grid_plan.specs.Faults.{plan_fault}
-use Rattle.grid_plan.specs.Planned.{IsPlanOf}
-use Rattle.compact_run.specs.declared.status.What.TheVariants.{Items, Boxes}
-use Rattle.compact_run.specs.declared.status.Status.{Status}
+use Rattle.stick_parse.specs.declared.design.{Design.Design, GridText.GridText}
+use Rattle.stick_cell.specs.{Counts.{weight_of, boxes_of}, Known.{Known, cell_of, known_at}, Grids.resolved_cells}
+use Rattle.expand.specs.{declared.master.Master.Master, Items.AreItems}
+use Rattle.plan_model.specs.{declared.plan.Plan.Plan, Plan.{grids_of, AreOfMasters}}
+use Rattle.grid_plan.specs.{declared.fault.GridFault.GridFault, Faults.plan_fault, Planned.IsPlanOf}
+use Rattle.compact_run.specs.declared.status.{What.TheVariants.{Items, Boxes}, Status.Status}
+use Rattle.compact_run.specs.{FaultLines.stick_line, GridLines.grid_line, Limits.{most_items, most_boxes}}
 use Rattle.compact_run.specs.declared.status.Status.TheVariants as status
-use Rattle.compact_run.specs.FaultLines.{stick_line}
-use Rattle.compact_run.specs.GridLines.{grid_line}
-use Rattle.compact_run.specs.Limits.{most_items, most_boxes}
 
 -- The design's names and sizes have no fault, and its grids have a plan.
 pub record IsPlanned (tech : Tech) (design : Design) (cells : List Known) (plan : Plan) : Type 0 where

@@ -1,10 +1,7 @@
 -- The line of a refused command.
 use Rattle.std.specs.Prelude.{ℕ, List, [], Option, Some, None, codes}
-use Rattle.compact_run.specs.declared.status.File.{File}
-use Rattle.compact_run.specs.declared.status.File.TheVariants.{Design, Technology, Cif, Script}
-use Rattle.compact_run.specs.declared.status.What.{What}
-use Rattle.compact_run.specs.declared.status.What.TheVariants.{Items, Boxes, Edges, Extent}
-use Rattle.compact_run.specs.declared.status.Status.{Status}
+use Rattle.compact_run.specs.declared.status.{File.{File, TheVariants.{Design, Technology, Cif, Script}}, What.What}
+use Rattle.compact_run.specs.declared.status.{What.TheVariants.{Items, Boxes, Edges, Extent}, Status.Status}
 use Rattle.compact_run.specs.declared.status.Status.TheVariants.{OutOfMemory, Usage, ReadFault, TooLong, TooLarge}
 
 abbrev pub read_fault_line : File → List ℕ

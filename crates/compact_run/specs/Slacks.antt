@@ -1,7 +1,6 @@
 -- What `slack` writes: how far each part of each master could move at the found sizes, on x and then on y.
 use Rattle.std.specs.Prelude.{◌≡◌, ℕ, ℤ, List, [], ◌++◌, slice_index_or}
-use Rattle.lam_geom.specs.declared.boxes.Axis.{Axis}
-use Rattle.lam_geom.specs.declared.boxes.Axis.TheVariants.{X, Y}
+use Rattle.lam_geom.specs.declared.boxes.Axis.{Axis, TheVariants.{X, Y}}
 use Rattle.lam_io.specs.Io.{Bytes}
 use Rattle.rule_table.specs.declared.technology.Tech.{Tech}
 use Rattle.sym_items.specs.declared.items.Coords.{Coords}
@@ -9,11 +8,9 @@ use Rattle.stick_parse.specs.declared.design.Design.{Design}
 use Rattle.expand.specs.declared.master.Master.{Master}
 use Rattle.plan_model.specs.declared.plan.Plan.{Plan}
 use Rattle.pass_run.specs.declared.step.Step.{Step}
-use Rattle.pass_run.specs.Layouts.{starts_of}
-use Rattle.pass_run.specs.Slack.{IsLastOn, IsMostAfter, IsTightWhereCritical}
+use Rattle.pass_run.specs.{Layouts.starts_of, Slack.{IsLastOn, IsMostAfter, IsTightWhereCritical}}
 use Rattle.slack_text.specs.Slack.{axis_slack}
-use Rattle.compact_run.specs.Plans.{AreMastersOf}
-use Rattle.compact_run.specs.Designs.{ArePlaced}
+use Rattle.compact_run.specs.{Plans.AreMastersOf, Designs.ArePlaced}
 
 -- the pass with this number, from 0 on, where there is one
 abbrev pub step_at : List Step → ℕ → Step

@@ -1,10 +1,9 @@
 //! The compaction of a design that is made from a number, and the line on it.
 
-ghost use Rattle.std.specs.Prelude.{◌≡◌, ◌≤◌, ◌++◌, length, OnOk, IfOk, IfErr};
-ghost use Rattle.std.specs.Fmt.{signed_decimal};
+ghost use Rattle.std.specs.{Prelude.{◌≡◌, ◌≤◌, ◌++◌, length, OnOk, IfOk, IfErr}, Fmt.signed_decimal};
 ghost use Rattle.pitch_join.specs.Masters.{master_at};
-ghost use Rattle.compact_run.specs.Bench.{IsBenched, RefusesBench, bench_line, head_words, kept_in, kept_words, net_words, size_words, tally_of};
-ghost use Rattle.compact_run.specs.Refusals.{Refused};
+ghost use Rattle.compact_run.specs.Bench.{IsBenched, RefusesBench, bench_line, head_words, kept_in, kept_words};
+ghost use Rattle.compact_run.specs.{Bench.{net_words, size_words, tally_of}, Refusals.Refused};
 
 use crate::extent::{height, width};
 use crate::grid_lines::push_count;

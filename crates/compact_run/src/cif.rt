@@ -4,12 +4,10 @@ ghost use Rattle.std.specs.Prelude.{◌≡◌, ◌^◌, ◌≤◌, length, Some,
 ghost use Rattle.lam_io.specs.Io.{Bytes, Telling};
 ghost use Rattle.rule_table.specs.declared.technology.Tech.{Tech};
 ghost use Rattle.cif_answers.specs.declared.fault.TextFault.TheVariants.{TooMany};
-ghost use Rattle.compact_run.specs.declared.cif.CifJob.{CifJob};
-ghost use Rattle.compact_run.specs.Fetches.{IsCounted, EndsOverCif, AsksOnce};
-ghost use Rattle.compact_run.specs.Refusals.{Refused, ending_of, plain, status_for};
-ghost use Rattle.compact_run.specs.declared.status.Status.TheVariants.{TooLarge};
-ghost use Rattle.compact_run.specs.declared.status.What.TheVariants.{Boxes};
-ghost use Rattle.compact_run.specs.Answers.{HasOutput, RefusesOutput, IsOutputOf, RefusesFile, RefusesText};
+ghost use Rattle.compact_run.specs.declared.{cif.CifJob.CifJob, status.Status.TheVariants.TooLarge};
+ghost use Rattle.compact_run.specs.{declared.status.What.TheVariants.Boxes, Fetches.{IsCounted, EndsOverCif, AsksOnce}};
+ghost use Rattle.compact_run.specs.{Refusals.{Refused, ending_of, plain, status_for}, Answers.HasOutput};
+ghost use Rattle.compact_run.specs.Answers.{RefusesOutput, IsOutputOf, RefusesFile, RefusesText};
 
 use crate::fault_lines::{broken_line, cif_line, improper_line};
 use crate::fetch::fetch;

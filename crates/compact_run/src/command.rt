@@ -3,11 +3,8 @@
 ghost use Rattle.std.specs.Prelude.{◌≡◌, ℕ, ◌≤◌, length, [], Option, Some, IfOk, IfErr};
 ghost use Rattle.lam_io.specs.Io.{Files, Telling};
 ghost use Rattle.run_words.specs.Words.{bench, command_of, compact, edit, fmt, jog, slack, texts_of};
-ghost use Rattle.compact_run.specs.Fetches.{IsRefusal, IsCounted, IsUsage, AsksFor};
-ghost use Rattle.compact_run.specs.Refusals.{ending_of};
-ghost use Rattle.compact_run.specs.Answers.{IsGiven, command_for, text_of};
-ghost use Rattle.compact_run.specs.Designs.{HasBothAxes};
-ghost use Rattle.compact_run.specs.Limits.{most_passes};
+ghost use Rattle.compact_run.specs.{Fetches.{IsRefusal, IsCounted, IsUsage, AsksFor}, Refusals.ending_of};
+ghost use Rattle.compact_run.specs.{Answers.{IsGiven, command_for, text_of}, Designs.HasBothAxes, Limits.most_passes};
 ghost use Rattle.stick_print.specs.Canonical.{canonical};
 
 use crate::bench::bench;

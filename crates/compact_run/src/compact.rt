@@ -8,11 +8,10 @@ ghost use Rattle.rule_table.specs.Technology.{widest_of};
 ghost use Rattle.sym_items.specs.Layouts.{size_in};
 ghost use Rattle.plan_model.specs.Plan.{grids_of, AreOfMasters};
 ghost use Rattle.mask_out.specs.Pictures.{HaveBoxes, IsDrawable};
-ghost use Rattle.compact_run.specs.Limits.{most_passes};
-ghost use Rattle.compact_run.specs.Refusals.{Refused};
-ghost use Rattle.compact_run.specs.Designs.{CompactsTo, HasBothAxes, HasShortName, RefusesDesign, AreMasksIn, last_layouts, masks_parts, masks_text};
+ghost use Rattle.compact_run.specs.{Limits.most_passes, Refusals.Refused, Designs.{CompactsTo, HasBothAxes}};
+ghost use Rattle.compact_run.specs.Designs.{HasShortName, RefusesDesign, AreMasksIn, last_layouts, masks_parts};
+ghost use Rattle.compact_run.specs.{Designs.masks_text, Answers.text_of};
 ghost use Rattle.cif_text.specs.Cutting.{AreCut};
-ghost use Rattle.compact_run.specs.Answers.{text_of};
 
 use crate::layout::lay_out;
 use crate::masters::masters_of;

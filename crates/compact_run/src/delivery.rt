@@ -2,8 +2,7 @@
 
 ghost use Rattle.std.specs.Prelude.{◌≡◌, ◌≤◌, ◌⊎◌};
 ghost use Rattle.lam_io.specs.Io.{Appends, AppendsPrefix, Rose};
-ghost use Rattle.compact_run.specs.Refusal.{line_of, own_text};
-ghost use Rattle.compact_run.specs.Answers.{Reports, write_fault_line, text_of};
+ghost use Rattle.compact_run.specs.{Refusal.{line_of, own_text}, Answers.{Reports, write_fault_line, text_of}};
 
 use crate::output::Output;
 use crate::refusal::Refusal;

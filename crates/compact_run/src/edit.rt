@@ -1,24 +1,20 @@
 //! An edit session: a script adds limits to the cells of a design and drops them, and after each line it is told what the design comes to.
 
-ghost use Rattle.std.specs.Prelude.{◌≡◌, ◌≢◌, ℕ, ℤ, ◌+◌, ◌<◌, ◌≤◌, ◌^◌, ◌↔◌, ◌++◌, All, List, length, codes, OnOk, IfOk, IfErr, IfSome, MatchOption, IsTrue, Ok};
-ghost use Rattle.std.specs.Fmt.{signed_decimal};
+ghost use Rattle.std.specs.Prelude.{◌≡◌, ◌≢◌, ℕ, ℤ, ◌+◌, ◌<◌, ◌≤◌, ◌^◌, ◌↔◌, ◌++◌, All, List, length, codes, OnOk};
+ghost use Rattle.std.specs.{Prelude.{IfOk, IfErr, IfSome, MatchOption, IsTrue, Ok}, Fmt.signed_decimal};
 ghost use Rattle.std.specs.List.{AllByRecursion};
 ghost use Rattle.lam_geom.specs.declared.boxes.Axis.{Axis as SomeAxis};
 ghost use Rattle.design_sizes.specs.Sizes.{lines_in, names_in};
-ghost use Rattle.stick_parse.specs.declared.design.Design.{Design as SomeDesign};
-ghost use Rattle.stick_parse.specs.Writable.{IsWritable};
+ghost use Rattle.stick_parse.specs.{declared.design.Design.Design as SomeDesign, Writable.IsWritable};
 ghost use Rattle.stick_print.specs.ReadBack.{without_line};
-ghost use Rattle.stick_cell.specs.Known.{Known};
-ghost use Rattle.stick_cell.specs.Grids.{resolved_cells};
+ghost use Rattle.stick_cell.specs.{Known.Known, Grids.resolved_cells};
 ghost use Rattle.edit_lines.specs.Edits.{HasText};
 ghost use Rattle.pitch_join.specs.Masters.{ArePlanned};
-ghost use Rattle.pass_run.specs.Laid.{StartsClean};
-ghost use Rattle.pass_run.specs.First.{IsFirstPass};
-ghost use Rattle.compact_run.specs.declared.status.Status.TheVariants.{OutOfMemory};
-ghost use Rattle.compact_run.specs.Limits.{most_passes};
-ghost use Rattle.compact_run.specs.Refusals.{Refused};
-ghost use Rattle.compact_run.specs.Designs.{HasBothAxes, IsBeforePasses, RefusesDesign};
-ghost use Rattle.compact_run.specs.Edits.{Changes, EditsTo, HasStart, IsAnswered, IsNextStep, code_word, done_word, size_word, step_line, was_resolved};
+ghost use Rattle.pass_run.specs.{Laid.StartsClean, First.IsFirstPass};
+ghost use Rattle.compact_run.specs.{declared.status.Status.TheVariants.OutOfMemory, Limits.most_passes};
+ghost use Rattle.compact_run.specs.{Refusals.Refused, Designs.{HasBothAxes, IsBeforePasses, RefusesDesign}};
+ghost use Rattle.compact_run.specs.Edits.{Changes, EditsTo, HasStart, IsAnswered, IsNextStep, code_word, done_word};
+ghost use Rattle.compact_run.specs.Edits.{size_word, step_line, was_resolved};
 
 use crate::extent::{height, width};
 use crate::grid_lines::push_count;

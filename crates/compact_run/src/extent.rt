@@ -1,18 +1,15 @@
 //! How wide and how high masks may be.
 
-ghost use Rattle.std.specs.Prelude.{◌≡◌, ◌||◌, ◌^◌, ◌<◌, ◌≤◌, ℕ, ℤ, pos, ◌≤ℤ◌, ◌+ℤ◌, ◌-ℤ◌, ◌*ℤ◌, int_lt, All, length, map, IfOk, IfErr};
-ghost use Rattle.std.specs.Int.{int_min};
+ghost use Rattle.std.specs.Prelude.{◌≡◌, ◌||◌, ◌^◌, ◌<◌, ◌≤◌, ℕ, ℤ, pos, ◌≤ℤ◌, ◌+ℤ◌, ◌-ℤ◌, ◌*ℤ◌, int_lt, All, length};
+ghost use Rattle.std.specs.{Prelude.{map, IfOk, IfErr}, Int.int_min};
 ghost use Rattle.lam_geom.specs.declared.boxes.Axis.TheVariants.{X, Y};
-ghost use Rattle.sym_items.specs.Values.{value_of};
-ghost use Rattle.sym_items.specs.Layouts.{size_in};
+ghost use Rattle.sym_items.specs.{Values.value_of, Layouts.size_in};
 ghost use Rattle.rule_table.specs.Technology.{widest_of};
-ghost use Rattle.plan_model.specs.declared.plan.PlanGrid.{PlanGrid as SomeGrid};
-ghost use Rattle.plan_model.specs.Rows.{rows_of, first_row};
-ghost use Rattle.plan_model.specs.Instances.{total, row_height, grid_width, grid_height, left_of_grid, whole_width, whole_height};
-ghost use Rattle.compact_run.specs.declared.status.What.TheVariants.{Extent};
-ghost use Rattle.compact_run.specs.declared.status.Status.TheVariants.{TooLarge};
-ghost use Rattle.compact_run.specs.Limits.{most_extent};
-ghost use Rattle.compact_run.specs.Designs.{unit_of, AreSizes, IsWithin, IsPast};
+ghost use Rattle.plan_model.specs.{declared.plan.PlanGrid.PlanGrid as SomeGrid, Rows.{rows_of, first_row}};
+ghost use Rattle.plan_model.specs.Instances.{total, row_height, grid_width, grid_height, left_of_grid, whole_width};
+ghost use Rattle.plan_model.specs.Instances.{whole_height};
+ghost use Rattle.compact_run.specs.declared.status.{What.TheVariants.Extent, Status.TheVariants.TooLarge};
+ghost use Rattle.compact_run.specs.{Limits.most_extent, Designs.{unit_of, AreSizes, IsWithin, IsPast}};
 
 use crate::status::{Status, What};
 use plan_model::{Plan, PlanGrid, PlanRow};

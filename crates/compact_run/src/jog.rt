@@ -1,19 +1,16 @@
 //! Jogs: a script bends wires of a design, and each bend is kept where it makes its cell narrower and no cell wider.
 
-ghost use Rattle.std.specs.Prelude.{◌≡◌, ℕ, ℤ, ◌<◌, ◌≤◌, ◌==◌, ◌<ℤ◌, ◌^◌, ◌↔◌, ◌++◌, List, Ok, length, map, position, OnOk, IfOk, IfErr, IfSome, IfNone, IsTrue};
-ghost use Rattle.std.specs.List.{range_with_len};
+ghost use Rattle.std.specs.Prelude.{◌≡◌, ℕ, ℤ, ◌<◌, ◌≤◌, ◌==◌, ◌<ℤ◌, ◌^◌, ◌↔◌, ◌++◌, List, Ok, length, map, position};
+ghost use Rattle.std.specs.{Prelude.{OnOk, IfOk, IfErr, IfSome, IfNone, IsTrue}, List.range_with_len};
 ghost use Rattle.cons_graph.specs.Solutions.{value_of};
 ghost use Rattle.lam_geom.specs.declared.boxes.Axis.TheVariants.{X};
 ghost use Rattle.sym_items.specs.Layouts.{size_in};
 ghost use Rattle.design_sizes.specs.Sizes.{lines_in, names_in};
 ghost use Rattle.stick_parse.specs.Writable.{IsWritable};
-ghost use Rattle.stick_cell.specs.Grids.{resolved_cells};
-ghost use Rattle.stick_cell.specs.Tables.{IsResolved, known_of};
-ghost use Rattle.compact_run.specs.Limits.{most_passes};
-ghost use Rattle.compact_run.specs.Refusals.{Refused};
-ghost use Rattle.compact_run.specs.Designs.{HasBothAxes, RefusesDesign};
-ghost use Rattle.compact_run.specs.Jogs.{Accepts, IsKept, IsLaidOutAs, IsNoWider, IsRejected, IsNextJog, NamesMaster, JogsTo, accepted_line, jog_head, rejected_line};
-ghost use Rattle.compact_run.specs.Answers.{text_of};
+ghost use Rattle.stick_cell.specs.{Grids.resolved_cells, Tables.{IsResolved, known_of}};
+ghost use Rattle.compact_run.specs.{Limits.most_passes, Refusals.Refused, Designs.{HasBothAxes, RefusesDesign}};
+ghost use Rattle.compact_run.specs.Jogs.{Accepts, IsKept, IsLaidOutAs, IsNoWider, IsRejected, IsNextJog, NamesMaster};
+ghost use Rattle.compact_run.specs.{Jogs.{JogsTo, accepted_line, jog_head, rejected_line}, Answers.text_of};
 
 use crate::extent::width;
 use crate::grid_lines::push_count;

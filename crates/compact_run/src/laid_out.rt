@@ -4,9 +4,7 @@ ghost use Rattle.std.specs.Prelude.{◌≡◌, ◌<◌, ◌≤◌, ◌^◌, ◌�
 ghost use Rattle.design_sizes.specs.Sizes.{names_in};
 ghost use Rattle.stick_parse.specs.Writable.{IsWritable};
 ghost use Rattle.stick_print.specs.Canonical.{canonical};
-ghost use Rattle.compact_run.specs.Limits.{most_design_bytes, most_passes};
-ghost use Rattle.compact_run.specs.Refusals.{Refused};
-ghost use Rattle.compact_run.specs.Plans.{AreMastersOf};
+ghost use Rattle.compact_run.specs.{Limits.{most_design_bytes, most_passes}, Refusals.Refused, Plans.AreMastersOf};
 ghost use Rattle.compact_run.specs.Designs.{ArePlaced, HasBothAxes, RefusesDesign, last_layouts};
 
 use crate::fetch::MOST_DESIGN;

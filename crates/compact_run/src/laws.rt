@@ -2,10 +2,8 @@
 
 ghost use Rattle.lam_io.specs.Io.{Files};
 ghost use Rattle.run_words.specs.Words.{texts_of};
-ghost use Rattle.compact_run.specs.Checked.{MasksPassTheCheck};
-ghost use Rattle.compact_run.specs.EditLaws.{AreEditsJudgedAsTexts};
-ghost use Rattle.compact_run.specs.JogLaws.{AreJudgedAsTexts, JogsWidenNoCell};
-ghost use Rattle.compact_run.specs.OneAnswer.{HasOneAnswer};
+ghost use Rattle.compact_run.specs.{Checked.MasksPassTheCheck, EditLaws.AreEditsJudgedAsTexts};
+ghost use Rattle.compact_run.specs.{JogLaws.{AreJudgedAsTexts, JogsWidenNoCell}, OneAnswer.HasOneAnswer};
 ghost use Rattle.compact_run.specs.Splits.{SplitsAnswerAlike};
 
 use cif_answers::{netlists_are_determined, verdicts_are_determined};

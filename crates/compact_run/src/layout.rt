@@ -1,26 +1,20 @@
 //! Masters laid out together: their passes, and that they are within the extent.
 
 ghost use Rattle.std.specs.Prelude.{◌≡◌, ◌<◌, ◌≤◌, ◌^◌, All, List, length, IfOk, IfErr, IsTrue};
-ghost use Rattle.lam_geom.specs.declared.boxes.Axis.{Axis as SomeAxis};
-ghost use Rattle.plan_model.specs.declared.plan.Plan.{Plan as SomePlan};
+ghost use Rattle.lam_geom.specs.declared.boxes.Axis.{Axis as SomeAxis, TheVariants.{X, Y}};
+ghost use Rattle.plan_model.specs.{declared.plan.Plan.Plan as SomePlan, Plan.grids_of};
 ghost use Rattle.expand.specs.Masters.{IsMaster};
-ghost use Rattle.lam_geom.specs.declared.boxes.Axis.TheVariants.{X, Y};
 ghost use Rattle.rule_table.specs.Technology.{widest_of};
 ghost use Rattle.sym_items.specs.Layouts.{size_in};
-ghost use Rattle.plan_model.specs.Plan.{grids_of};
 ghost use Rattle.pitch_join.specs.Masters.{ArePlanned};
 ghost use Rattle.grid_rules.specs.Rules.{AreFinished};
-ghost use Rattle.pass_run.specs.Laid.{StartsClean};
-ghost use Rattle.pass_run.specs.Layouts.{starts_of};
-ghost use Rattle.pass_run.specs.PassFaults.{RefusesPasses};
-ghost use Rattle.pass_run.specs.PassesOn.{ArePassesOn};
+ghost use Rattle.pass_run.specs.{Laid.StartsClean, Layouts.starts_of, PassFaults.RefusesPasses, PassesOn.ArePassesOn};
 ghost use Rattle.pass_run.specs.Slack.{AreMosts, AreTight};
 ghost use Rattle.mask_out.specs.Pictures.{HaveBoxes, IsDrawable};
-ghost use Rattle.compact_run.specs.Limits.{most_boxes, most_passes};
-ghost use Rattle.compact_run.specs.Refusals.{Refused};
-ghost use Rattle.written_masks.specs.Parts.{boxes_of_instances, HasFewParts};
-ghost use Rattle.written_masks.specs.Written.{AllStand};
-ghost use Rattle.compact_run.specs.Designs.{ArePlaced, HasBothAxes, HasPlainName, IsBeforePasses, RefusesStart, RefusesMasters, last_layouts, passes_text};
+ghost use Rattle.compact_run.specs.{Limits.{most_boxes, most_passes}, Refusals.Refused, Designs.ArePlaced};
+ghost use Rattle.compact_run.specs.Designs.{HasBothAxes, HasPlainName, IsBeforePasses, RefusesStart, RefusesMasters};
+ghost use Rattle.compact_run.specs.Designs.{last_layouts, passes_text};
+ghost use Rattle.written_masks.specs.{Parts.{boxes_of_instances, HasFewParts}, Written.AllStand};
 
 use crate::clash::clash_line;
 use crate::extent::judge_extent;

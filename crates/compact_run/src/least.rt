@@ -2,8 +2,7 @@
 
 ghost use Rattle.std.specs.Prelude.{All, IfOk, IfSome, OnOk};
 ghost use Rattle.pitch_join.specs.Masters.{ArePlanned};
-ghost use Rattle.pass_run.specs.Laid.{StartsClean};
-ghost use Rattle.pass_run.specs.First.{IsFirstPass};
+ghost use Rattle.pass_run.specs.{Laid.StartsClean, First.IsFirstPass};
 ghost use Rattle.compact_run.specs.Edits.{AreLeastLayouts};
 
 use crate::extent::judge_extent;

@@ -1,23 +1,18 @@
 //! The masters of a design: the cells of its plan, with their uses inlined, and their items.
 
-ghost use Rattle.std.specs.Prelude.{◌≡◌, Err, ◌+◌, ◌<◌, ◌≤◌, ◌^◌, All, List, min, length, map, slice_index, sum_by, IfOk, IfErr};
-ghost use Rattle.stick_cell.specs.Counts.{weight_of, boxes_of, capped};
-ghost use Rattle.stick_cell.specs.Known.{cell_of, known_at};
-ghost use Rattle.stick_cell.specs.Tables.{known_of, IsResolved};
-ghost use Rattle.expand.specs.declared.master.Master.{Master as SomeMaster};
-ghost use Rattle.expand.specs.Items.{AreItems};
-ghost use Rattle.expand.specs.Masters.{IsMaster};
+ghost use Rattle.std.specs.Prelude.{◌≡◌, Err, ◌+◌, ◌<◌, ◌≤◌, ◌^◌, All, List, min, length, map, slice_index, sum_by};
+ghost use Rattle.std.specs.Prelude.{IfOk, IfErr};
+ghost use Rattle.stick_cell.specs.{Counts.{weight_of, boxes_of, capped}, Known.{cell_of, known_at}, Tables.known_of};
+ghost use Rattle.stick_cell.specs.Tables.{IsResolved};
+ghost use Rattle.expand.specs.{declared.master.Master.Master as SomeMaster, Items.AreItems, Masters.IsMaster};
 ghost use Rattle.pitch_join.specs.Masters.{ArePlanned};
 ghost use Rattle.plan_model.specs.Rows.{rows_of};
 ghost use Rattle.design_sizes.specs.Sizes.{names_in};
 ghost use Rattle.stick_parse.specs.Writable.{IsWritable};
-ghost use Rattle.written_masks.specs.Parts.{boxes_of_instances, HasFewParts};
-ghost use Rattle.written_masks.specs.Written.{AllStand};
-ghost use Rattle.compact_run.specs.Designs.{HasPlainName, HasShortName};
-ghost use Rattle.compact_run.specs.Plans.{AreChosen, AreMastersOf, IsLightPlan, IsPlanned, RefusesPlan, RefusesSize, weights_of};
-ghost use Rattle.compact_run.specs.Refusals.{Refused, plain};
-ghost use Rattle.compact_run.specs.declared.status.Status.TheVariants.{TooLarge};
-ghost use Rattle.compact_run.specs.declared.status.What.TheVariants.{Items, Boxes};
+ghost use Rattle.written_masks.specs.{Parts.{boxes_of_instances, HasFewParts}, Written.AllStand};
+ghost use Rattle.compact_run.specs.{Designs.{HasPlainName, HasShortName}, Plans.{AreChosen, AreMastersOf, IsLightPlan}};
+ghost use Rattle.compact_run.specs.{Plans.{IsPlanned, RefusesPlan, RefusesSize, weights_of}, Refusals.{Refused, plain}};
+ghost use Rattle.compact_run.specs.declared.status.{Status.TheVariants.TooLarge, What.TheVariants.{Items, Boxes}};
 ghost use Rattle.compact_run.specs.Limits.{most_items, most_boxes, capped_boxes};
 
 use crate::planning::{Planned, plan_of};

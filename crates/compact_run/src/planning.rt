@@ -2,10 +2,8 @@
 
 ghost use Rattle.std.specs.Prelude.{◌≡◌, option_map, Ok, IfOk, IfErr};
 ghost use Rattle.stick_parse.specs.Writable.{IsWritable};
-ghost use Rattle.stick_cell.specs.Grids.{resolved_cells};
-ghost use Rattle.stick_cell.specs.Tables.{known_of, IsResolved};
-ghost use Rattle.compact_run.specs.Plans.{IsPlanned, RefusesPlan, grid_name};
-ghost use Rattle.compact_run.specs.Refusals.{Refused};
+ghost use Rattle.stick_cell.specs.{Grids.resolved_cells, Tables.{known_of, IsResolved}};
+ghost use Rattle.compact_run.specs.{Plans.{IsPlanned, RefusesPlan, grid_name}, Refusals.Refused};
 
 use crate::fault_lines::stick_line;
 use crate::grid_lines::grid_line;

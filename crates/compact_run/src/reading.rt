@@ -1,17 +1,15 @@
 //! Reading a technology, a design and the scripts, each from its file.
 
-ghost use Rattle.std.specs.Prelude.{◌≡◌, ◌≤◌, ◌^◌, length, Some, IfOk, IfErr};
-ghost use Rattle.std.specs.List.{AllByRecursion};
+ghost use Rattle.std.specs.{Prelude.{◌≡◌, ◌≤◌, ◌^◌, length, Some, IfOk, IfErr}, List.AllByRecursion};
 ghost use Rattle.lam_io.specs.Io.{Telling};
 ghost use Rattle.design_sizes.specs.Sizes.{lines_in, names_in};
 ghost use Rattle.stick_parse.specs.Writable.{IsWritable};
 ghost use Rattle.jog_insert.specs.Scripts.{jogs_of};
-ghost use Rattle.edit_lines.specs.Edits.{HasText};
-ghost use Rattle.edit_lines.specs.Scripts.{edits_of};
+ghost use Rattle.edit_lines.specs.{Edits.HasText, Scripts.edits_of};
 ghost use Rattle.compact_run.specs.declared.status.File.TheVariants as file;
-ghost use Rattle.compact_run.specs.Fetches.{IsCounted, EndsOver, AsksOnce};
-ghost use Rattle.compact_run.specs.Refusals.{Refused, ending_of};
-ghost use Rattle.compact_run.specs.Answers.{IsTechnology, RefusesTechnology, IsDesign, RefusesSticks, IsScript, RefusesScript};
+ghost use Rattle.compact_run.specs.{Fetches.{IsCounted, EndsOver, AsksOnce}, Refusals.{Refused, ending_of}};
+ghost use Rattle.compact_run.specs.Answers.{IsTechnology, RefusesTechnology, IsDesign, RefusesSticks, IsScript};
+ghost use Rattle.compact_run.specs.Answers.{RefusesScript};
 
 use crate::fault_lines::{stick_line, tech_line};
 use crate::fetch::fetch;

@@ -1,8 +1,7 @@
 //! Why a command is refused, and the text that says so.
 
 ghost use Rattle.std.specs.Prelude.{◌≡◌, ◌↔◌, IfOk, IsTrue};
-ghost use Rattle.compact_run.specs.declared.status.Status.TheVariants.{OutOfMemory};
-ghost use Rattle.compact_run.specs.Refusal.{line_of, own_text};
+ghost use Rattle.compact_run.specs.{declared.status.Status.TheVariants.OutOfMemory, Refusal.{line_of, own_text}};
 ghost use Rattle.compact_run.specs.Refusals.{plain, ending_by, refusal_of, script_refusal};
 
 use crate::fault_lines::script_line;

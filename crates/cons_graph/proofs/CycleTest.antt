@@ -1,18 +1,11 @@
 -- What the tests of a cycle say together.
-use Rattle.std.proofs.Common.{◌≡◌, ℕ, ◌<◌, ◌≤◌, ℤ, pos, ◌<ℤ◌, Some, List, [], ◌∷◌, length, get_or, refl, sym, ap, subst, arith}
-use Rattle.std.specs.Prelude.{slice_get}
-use Rattle.std.specs.List.{All}
-use Rattle.std.proofs.lemmas.Bool.{eqb-true}
-use Rattle.std.proofs.lemmas.Bool.Decides.{Decides-eqb}
-use Rattle.std.proofs.lemmas.List.Elements.{All-contains, All-map}
-use Rattle.std.proofs.lemmas.Map.Made.{IsDistinct-from_AllPairs}
-use Rattle.std.proofs.lemmas.Map.Steps.{length-le_from_distinct_below}
-use Rattle.std.proofs.lemmas.Map.Views.{Contains-from_any}
-use Rattle.cons_graph.specs.declared.edges.Edge.{Edge}
-use Rattle.cons_graph.specs.declared.edges.Why.TheVariants.{Size}
-use Rattle.cons_graph.specs.Constraints.{Constraints, IsConstraintGraph}
-use Rattle.cons_graph.specs.EdgeNumbers.{edge_at}
-use Rattle.cons_graph.specs.Walks.{IsWalk, IsCycle}
+use Rattle.std.proofs.Common.{◌≡◌, ℕ, ◌<◌, ◌≤◌, ℤ, pos, ◌<ℤ◌, Some, List, [], ◌∷◌, length, get_or, refl, sym, ap, subst}
+use Rattle.std.proofs.{Common.arith, lemmas.{Bool.{eqb-true, Decides.Decides-eqb}, List.Elements.All-contains}}
+use Rattle.std.proofs.lemmas.{List.Elements.All-map, Map.Made.IsDistinct-from_AllPairs}
+use Rattle.std.proofs.lemmas.Map.{Steps.length-le_from_distinct_below, Views.Contains-from_any}
+use Rattle.std.specs.{Prelude.slice_get, List.All}
+use Rattle.cons_graph.specs.declared.edges.{Edge.Edge, Why.TheVariants.Size}
+use Rattle.cons_graph.specs.{Constraints.{Constraints, IsConstraintGraph}, EdgeNumbers.edge_at, Walks.{IsWalk, IsCycle}}
 use Rattle.cons_graph.specs.SimpleWalks.{edges_of, length_of, tails_of, HasNoRepeat, WalksFromTo, IsSimplePositiveCycle}
 use Rattle.cons_graph.proofs.Tests.{length-tails}
 

@@ -1,7 +1,5 @@
-use Rattle.std.proofs.Common.{◌≡◌, ℕ, ◌+◌, ◌<◌, ◌≤◌, List, length, get_or, take, subst, sym}
-use Rattle.std.specs.List.{All}
-use Rattle.std.proofs.lemmas.List.Elements.{All-more}
-use Rattle.std.proofs.lemmas.List.{take_all}
+use Rattle.std.proofs.{Common.{◌≡◌, ℕ, ◌+◌, ◌<◌, ◌≤◌, List, length, get_or, take, subst, sym}, lemmas.List.take_all}
+use Rattle.std.{proofs.lemmas.List.Elements.All-more, specs.List.All}
 
 -- what holds of the elements up to an index, and of the element there, holds of those up to the next index:
 -- `xs` is the list as a loop reads it

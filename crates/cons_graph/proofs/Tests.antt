@@ -1,14 +1,12 @@
 -- The tests of walks and cycles, as they go along a list.
-use Rattle.std.proofs.Common.{◌≡◌, ℕ, zero, suc, ◌+◌, ◌<◌, ◌≤◌, ◌+ℤ◌, Bool, true, eqb, ltb, ◌&&◌, List, [], ◌∷◌, ◌++◌, ◌⊎◌, inl, inr, length, get_or, take, drop, refl, sym, ap, ◌∙◌, arith, eq-eqb}
-use Rattle.std.specs.List.{All, Contains}
-use Rattle.std.proofs.lemmas.Int.{ints}
-use Rattle.std.proofs.lemmas.Bool.{cases_eq, and_parts, and_from, eqb-true, ltb-true, lt-ltb}
-use Rattle.std.proofs.lemmas.List.{get_or_default, length-map, take_more, map-append, drop_more, drop_all, take-map, get_or-take, length-take}
-use Rattle.std.proofs.lemmas.List.Elements.{All-cons, All-head, All-tail, All-nil, All-from_get_or}
-use Rattle.cons_graph.specs.declared.edges.Edge.{Edge}
-use Rattle.cons_graph.specs.Walks.{walk_length}
-use Rattle.cons_graph.specs.EdgeNumbers.{edge_at}
-use Rattle.cons_graph.specs.SimpleWalks.{edges_of, length_of, tails_of, WalksFromTo, HasNoRepeat}
+use Rattle.std.proofs.Common.{◌≡◌, ℕ, zero, suc, ◌+◌, ◌<◌, ◌≤◌, ◌+ℤ◌, Bool, true, eqb, ltb, ◌&&◌, List, [], ◌∷◌, ◌++◌}
+use Rattle.std.proofs.Common.{◌⊎◌, inl, inr, length, get_or, take, drop, refl, sym, ap, ◌∙◌, arith, eq-eqb}
+use Rattle.std.proofs.lemmas.{Int.ints, Bool.{cases_eq, and_parts, and_from, eqb-true, ltb-true, lt-ltb}}
+use Rattle.std.proofs.lemmas.List.{get_or_default, length-map, take_more, map-append, drop_more, drop_all, take-map}
+use Rattle.std.proofs.lemmas.List.{get_or-take, length-take, Elements.{All-cons, All-head, All-tail, All-nil}}
+use Rattle.std.{proofs.lemmas.List.Elements.All-from_get_or, specs.List.{All, Contains}}
+use Rattle.cons_graph.specs.{declared.edges.Edge.Edge, Walks.walk_length, EdgeNumbers.edge_at, SimpleWalks.edges_of}
+use Rattle.cons_graph.specs.SimpleWalks.{length_of, tails_of, WalksFromTo, HasNoRepeat}
 
 -- ---- whether edges lead from one variable to another
 

@@ -1,9 +1,6 @@
-use Rattle.std.specs.Prelude.{ℕ, List, [], ◌++◌, codes, flat_map, slice_index_or}
-use Rattle.std.specs.Fmt.{signed_decimal}
-use Rattle.cons_graph.specs.declared.edges.Edge.{Edge}
-use Rattle.cons_graph.specs.declared.edges.Why.{Why}
-use Rattle.cons_graph.specs.declared.edges.Why.TheVariants.{Size, Extent, Overlap, Margin, Limit, Pitch, Port, Space}
-use Rattle.cons_graph.specs.EdgeNumbers.{edge_at}
+use Rattle.std.specs.{Prelude.{ℕ, List, [], ◌++◌, codes, flat_map, slice_index_or}, Fmt.signed_decimal}
+use Rattle.cons_graph.specs.declared.edges.{Edge.Edge, Why.{Why, TheVariants.{Size, Extent, Overlap, Margin, Limit}}}
+use Rattle.cons_graph.specs.{declared.edges.Why.TheVariants.{Pitch, Port, Space}, EdgeNumbers.edge_at}
 
 -- the word of a reason
 abbrev pub word_of : Why → List ℕ

@@ -1,7 +1,5 @@
 use Rattle.std.specs.Prelude.{◌≢◌, ℕ, ◌<◌, ◌≤◌, ℤ, pos, ◌<ℤ◌, List, map, length, All, AllPairs, slice_index}
-use Rattle.cons_graph.specs.declared.edges.Edge.{Edge}
-use Rattle.cons_graph.specs.Walks.{IsWalk, walk_length, IsCycle}
-use Rattle.cons_graph.specs.EdgeNumbers.{edge_at}
+use Rattle.cons_graph.specs.{declared.edges.Edge.Edge, Walks.{IsWalk, walk_length, IsCycle}, EdgeNumbers.edge_at}
 
 -- the edges with these numbers
 abbrev pub edges_of : List Edge → List ℕ → List Edge

@@ -1,13 +1,9 @@
 -- A buried pair, by a window over what poly and diffusion have in common.
 use Rattle.std.proofs.Common.{◌≡◌, ◌↔◌, ℕ, ℤ, ◌+ℤ◌, ◌≤ℤ◌, ◌<◌, Bool, List, IsTrue, length, sym, ap, ◌∙◌, subst}
-use Rattle.lam_geom.specs.declared.boxes.BoxXY.{BoxXY}
-use Rattle.lam_geom.specs.declared.boxes.MaskBox.{MaskBox}
-use Rattle.lam_geom.specs.declared.boxes.MaskLayer.TheVariants.{ND, NP, NB}
+use Rattle.lam_geom.specs.declared.boxes.{BoxXY.BoxXY, MaskBox.MaskBox, MaskLayer.TheVariants.{ND, NP, NB}}
 use Rattle.lam_geom.specs.Gaps.{Overlaps, Encloses}
-use Rattle.rule_table.specs.declared.technology.Tech.{Tech}
-use Rattle.rule_table.specs.Technology.{numbers_of, has_buried_of}
-use Rattle.crossings.specs.Boxes.{area_at, box_at, IsCommon, grains}
-use Rattle.crossings.specs.Crossings.{IsOverlap, IsBuriedPair}
+use Rattle.rule_table.specs.{declared.technology.Tech.Tech, Technology.{numbers_of, has_buried_of}}
+use Rattle.crossings.specs.{Boxes.{area_at, box_at, IsCommon, grains}, Crossings.{IsOverlap, IsBuriedPair}}
 use Rattle.crossings.specs.Pairs.{IsCovered}
 
 -- what two boxes have in common is one box

@@ -1,14 +1,8 @@
 -- Channels under implants.
 use Rattle.std.proofs.Common.{◌≡◌, ◌↔◌, ℤ, Bool, List, IsTrue, sym, subst}
-use Rattle.lam_geom.specs.declared.boxes.BoxXY.{BoxXY}
-use Rattle.lam_geom.specs.declared.boxes.MaskBox.{MaskBox}
-use Rattle.lam_geom.specs.declared.boxes.MaskLayer.TheVariants.{NI}
-use Rattle.lam_geom.specs.Gaps.{Encloses}
-use Rattle.rule_table.specs.declared.technology.Tech.{Tech}
-use Rattle.rule_table.specs.Technology.{numbers_of}
-use Rattle.crossings.specs.Boxes.{area_at, grains}
-use Rattle.crossings.specs.Crossings.{IsImplanted}
-use Rattle.crossings.specs.Pairs.{IsCovered}
+use Rattle.lam_geom.specs.{declared.boxes.{BoxXY.BoxXY, MaskBox.MaskBox, MaskLayer.TheVariants.NI}, Gaps.Encloses}
+use Rattle.rule_table.specs.{declared.technology.Tech.Tech, Technology.numbers_of}
+use Rattle.crossings.specs.{Boxes.{area_at, grains}, Crossings.IsImplanted, Pairs.IsCovered}
 
 -- a depletion transistor, by an implant over its channel
 pub implanted_by_cover : (tech : Tech) (boxes : List MaskBox) (channel : BoxXY) (margin : ℤ) (b : Bool) → margin ≡ grains tech (numbers_of tech).extension_implant

@@ -1,13 +1,9 @@
 -- Poly and diffusion that overlap, in either order.
 use Rattle.std.proofs.Common.{◌≡◌, ℕ, ◌⊎◌, inl, inr, Some, None, List, refl, sym, ap, ◌∙◌, arith}
 use Rattle.std.proofs.lemmas.Int.{ints, clamps}
-use Rattle.lam_geom.specs.declared.boxes.BoxXY.{BoxXY}
-use Rattle.lam_geom.specs.declared.boxes.MaskBox.{MaskBox}
-use Rattle.lam_geom.specs.declared.boxes.MaskLayer.{MaskLayer}
-use Rattle.lam_geom.specs.declared.boxes.MaskLayer.TheVariants.{ND, NP, NC, NM, NI, NB}
-use Rattle.lam_geom.specs.Gaps.{Overlaps}
-use Rattle.crossings.specs.Boxes.{area_at, layer_at}
-use Rattle.crossings.specs.Pairs.{facing_of, AreFacing, DoOverlap}
+use Rattle.lam_geom.specs.declared.boxes.{BoxXY.BoxXY, MaskBox.MaskBox, MaskLayer.{MaskLayer, TheVariants.{ND, NP, NC}}}
+use Rattle.lam_geom.specs.{declared.boxes.MaskLayer.TheVariants.{NM, NI, NB}, Gaps.Overlaps}
+use Rattle.crossings.specs.{Boxes.{area_at, layer_at}, Pairs.{facing_of, AreFacing, DoOverlap}}
 
 pub overlap_turned : (a b : BoxXY) → Overlaps a b → Overlaps b a
 overlap_turned a b h = omega (arith, ints, clamps)

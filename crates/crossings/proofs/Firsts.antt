@@ -1,7 +1,6 @@
 -- Numbers among the first ones of a list.
-use Rattle.std.proofs.Common.{◌≡◌, ℕ, ◌+◌, ◌<◌, ◌≤◌, ◌⊎◌, inl, inr, List, length, get_or, subst, sym, ◌∙◌, Contains, refl, arith}
-use Rattle.std.proofs.lemmas.Bool.{cases_lt}
-use Rattle.std.proofs.lemmas.List.{get_or_default}
+use Rattle.std.proofs.Common.{◌≡◌, ℕ, ◌+◌, ◌<◌, ◌≤◌, ◌⊎◌, inl, inr, List, length, get_or, subst, sym, ◌∙◌, Contains}
+use Rattle.std.proofs.{Common.{refl, arith}, lemmas.{Bool.cases_lt, List.get_or_default}}
 
 -- k is among the first n numbers of a list
 pub record IsAmongFirst (numbers : List ℕ) (n k : ℕ) : Type 0 where

@@ -1,11 +1,8 @@
 -- A length of the technology in grains is a product of two small numbers.
-use Rattle.std.proofs.Common.{◌≡◌, ◌*◌, ◌^◌, ◌≤◌, ℤ, pos, negsuc, ◌≤ℤ◌, ◌*ℤ◌, sym, ap, ◌∙◌, subst, of_z, to_z, w64, arith}
-use Rattle.std.proofs.Math.Nat.{mul-le-mul}
-use Rattle.std.proofs.lemmas.Int.{ints, to_z-of_z}
-use Rattle.rule_table.specs.Bounds.{IsLength}
-use Rattle.rule_table.specs.declared.technology.Tech.{Tech}
-use Rattle.box_tree.specs.Queries.{IsMargin}
-use Rattle.box_tree.proofs.Within.{margin_held}
+use Rattle.std.proofs.Common.{◌≡◌, ◌*◌, ◌^◌, ◌≤◌, ℤ, pos, negsuc, ◌≤ℤ◌, ◌*ℤ◌, sym, ap, ◌∙◌, subst, of_z, to_z, w64}
+use Rattle.std.proofs.{Common.arith, Math.Nat.mul-le-mul, lemmas.Int.{ints, to_z-of_z}}
+use Rattle.rule_table.specs.{Bounds.IsLength, declared.technology.Tech.Tech}
+use Rattle.box_tree.{specs.Queries.IsMargin, proofs.Within.margin_held}
 use Rattle.crossings.specs.Boxes.{grains}
 use mir.Val.{SFits}
 

@@ -1,13 +1,9 @@
 -- Pairs that are neither buried nor proper crossings, and the one box that a box overlaps.
 use Rattle.std.proofs.Common.{◌≡◌, ℕ, ◌≤◌, ◌⊎◌, inl, inr, List, refl, sym, ◌∙◌, subst, arith}
-use Rattle.lam_geom.specs.declared.boxes.Axis.{Axis}
-use Rattle.lam_geom.specs.declared.boxes.BoxXY.{BoxXY}
-use Rattle.lam_geom.specs.declared.boxes.MaskBox.{MaskBox}
+use Rattle.lam_geom.specs.declared.boxes.{Axis.Axis, BoxXY.BoxXY, MaskBox.MaskBox}
 use Rattle.rule_table.specs.declared.technology.Tech.{Tech}
-use Rattle.crossings.specs.declared.partners.Partners.{Partners}
-use Rattle.crossings.specs.declared.partners.Partners.TheVariants.{Nothing, One, Several}
-use Rattle.crossings.specs.Boxes.{area_at}
-use Rattle.crossings.specs.Crossings.{CrossAlong, CrossProperly, IsBuriedPair, IsImproper, IsOverlap}
+use Rattle.crossings.specs.declared.partners.Partners.{Partners, TheVariants.{Nothing, One, Several}}
+use Rattle.crossings.specs.{Boxes.area_at, Crossings.{CrossAlong, CrossProperly, IsBuriedPair, IsImproper, IsOverlap}}
 use Rattle.crossings.specs.Pairs.{DoOverlap, HowMany, IsBadWith, IsCrossed, IsPairOf, Meets}
 use Rattle.crossings.proofs.Meetings.{diffusion_alone, meets_overlap, poly_alone}
 

@@ -1,14 +1,12 @@
 -- The crossings so far, in order of their diffusion.
-use Rattle.std.proofs.Common.{◌≡◌, ℕ, ◌+◌, ◌<◌, inl, inr, List, [], ◌∷◌, ◌++◌, length, map, get_or, sym, ◌∙◌, subst, ap, All, arith}
-use Rattle.std.proofs.lemmas.Bool.{cases_lt}
-use Rattle.std.proofs.lemmas.List.{map-append, length-append, get_or_append_left, get_or-append-add}
-use Rattle.std.proofs.lemmas.List.Elements.{All-push, All-weaker, All-map, All-get_or, Contains-append_left, Contains-push}
+use Rattle.std.proofs.Common.{◌≡◌, ℕ, ◌+◌, ◌<◌, inl, inr, List, [], ◌∷◌, ◌++◌, length, map, get_or, sym, ◌∙◌, subst, ap}
+use Rattle.std.proofs.{Common.{All, arith}, lemmas.{Bool.cases_lt, List.{map-append, length-append}}}
+use Rattle.std.proofs.lemmas.List.{get_or_append_left, get_or-append-add, Elements.{All-push, All-weaker, All-map}}
+use Rattle.std.proofs.lemmas.List.Elements.{All-get_or, Contains-append_left, Contains-push}
 use Rattle.lam_geom.specs.declared.boxes.MaskBox.{MaskBox}
 use Rattle.rule_table.specs.declared.technology.Tech.{Tech}
-use Rattle.crossings.specs.declared.crossing.Crossing.{Crossing}
-use Rattle.crossings.specs.declared.pairs.Pair.{Pair}
-use Rattle.crossings.specs.Crossings.{IsIncreasing, IsMeeting, IsCrossing, AreCrossings}
-use Rattle.crossings.specs.Pairs.{AreCrossingsBelow, AddsCrossing}
+use Rattle.crossings.specs.{declared.{crossing.Crossing.Crossing, pairs.Pair.Pair}, Crossings.{IsIncreasing, IsMeeting}}
+use Rattle.crossings.specs.{Crossings.{IsCrossing, AreCrossings}, Pairs.{AreCrossingsBelow, AddsCrossing}}
 
 -- one more number, greater than all others
 increasing_push : (numbers : List ℕ) (k : ℕ) → IsIncreasing numbers → All (λ n. n < k) numbers → IsIncreasing (numbers ++ k ∷ [])

@@ -1,7 +1,6 @@
 -- The least number of a list that has a fact, as far as the first ones.
 use Rattle.std.proofs.Common.{◌≡◌, ℕ, ◌+◌, Option, Some, None, List, length, get_or, inl, inr, Contains, arith}
-use Rattle.crossings.specs.Pairs.{Least, IsBelow}
-use Rattle.crossings.proofs.Counts.{FirstWith, with_more, with_on, with_no_more}
+use Rattle.crossings.{specs.Pairs.{Least, IsBelow}, proofs.Counts.{FirstWith, with_more, with_on, with_no_more}}
 use Rattle.crossings.proofs.Firsts.{first_new, contains_first, first_contained}
 
 pub least_alike : (P Q : ℕ → Type 0) (w : Option ℕ) → ((k : ℕ) → P k → Q k) → ((k : ℕ) → Q k → P k) → Least P w → Least Q w

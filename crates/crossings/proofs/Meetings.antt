@@ -1,12 +1,9 @@
 -- Poly and diffusion that meet, in either order.
 use Rattle.std.proofs.Common.{◌≡◌, ◌↔◌, ℕ, inl, inr, Bool, IsTrue, List, sym, ◌∙◌, subst}
-use Rattle.lam_geom.specs.declared.boxes.MaskBox.{MaskBox}
-use Rattle.lam_geom.specs.declared.boxes.MaskLayer.TheVariants.{ND, NP}
-use Rattle.lam_geom.specs.Gaps.{Overlaps}
+use Rattle.lam_geom.specs.{declared.boxes.{MaskBox.MaskBox, MaskLayer.TheVariants.{ND, NP}}, Gaps.Overlaps}
 use Rattle.rule_table.specs.declared.technology.Tech.{Tech}
-use Rattle.crossings.specs.Boxes.{area_at, layer_at, box_at}
-use Rattle.crossings.specs.Crossings.{IsOverlap, CrossProperly}
-use Rattle.crossings.specs.Pairs.{DoOverlap, Meets}
+use Rattle.crossings.specs.{Boxes.{area_at, layer_at, box_at}, Crossings.{IsOverlap, CrossProperly}, Pairs.DoOverlap}
+use Rattle.crossings.specs.Pairs.{Meets}
 
 pub meets_overlap : (tech : Tech) (boxes : List MaskBox) (a b : ℕ) → Meets tech boxes a b → DoOverlap boxes a b
 meets_overlap tech boxes a b (inl h) = inl h.overlap

@@ -1,19 +1,9 @@
 -- How many boxes a box overlaps, by one after another.
-use Rattle.std.proofs.Common.{◌≡◌, ◌≢◌, ℕ, negsuc, ◌≤ℤ◌, inl, inr, List, sym, arith}
-use Rattle.std.proofs.lemmas.Bool.{cases_eq}
-use Rattle.std.proofs.lemmas.Int.{ints}
-use Rattle.lam_geom.specs.declared.boxes.BoxXY.{BoxXY}
-use Rattle.lam_geom.specs.declared.boxes.MaskBox.{MaskBox}
-use Rattle.lam_geom.specs.Gaps.{Overlaps, gap_of_boxes}
-use Rattle.box_tree.specs.declared.query.Question.TheVariants.{NearOfOther}
-use Rattle.box_tree.specs.declared.spots.Spot.{Spot}
-use Rattle.box_tree.specs.Queries.{HoldsAt}
-use Rattle.crossings.specs.Boxes.{area_at}
-use Rattle.crossings.specs.Pairs.{AreTwo, DoOverlap}
-use Rattle.crossings.specs.Spots.{AreSpotsFacing, box_spot}
-use Rattle.crossings.proofs.Facing.{area_overlap}
-use Rattle.crossings.proofs.Meetings.{not_both}
-use Rattle.crossings.proofs.SpotBoxes.{spot_overlaps, overlapped_there}
+use Rattle.std.proofs.{Common.{◌≡◌, ◌≢◌, ℕ, negsuc, ◌≤ℤ◌, inl, inr, List, sym, arith}, lemmas.{Bool.cases_eq, Int.ints}}
+use Rattle.lam_geom.specs.{declared.boxes.{BoxXY.BoxXY, MaskBox.MaskBox}, Gaps.{Overlaps, gap_of_boxes}}
+use Rattle.box_tree.specs.{declared.{query.Question.TheVariants.NearOfOther, spots.Spot.Spot}, Queries.HoldsAt}
+use Rattle.crossings.specs.{Boxes.area_at, Pairs.{AreTwo, DoOverlap}, Spots.{AreSpotsFacing, box_spot}}
+use Rattle.crossings.proofs.{Facing.area_overlap, Meetings.not_both, SpotBoxes.{spot_overlaps, overlapped_there}}
 
 pub not_itself : (boxes : List MaskBox) (a : ℕ) → DoOverlap boxes a a → ⊥
 not_itself boxes a (inl h) = not_both boxes a h.poly.on h.diffusion.on

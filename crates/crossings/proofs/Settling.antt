@@ -1,19 +1,12 @@
 -- One window over what a box and an area have in common: the box meets none that lies inside the area.
-use Rattle.std.proofs.Common.{◌≡◌, ℕ, ℤ, pos, ◌≤ℤ◌, ◌<ℤ◌, inl, inr, IsTrue, List, refl, subst, arith}
-use Rattle.std.specs.Int.{int_max, int_min}
-use Rattle.std.proofs.lemmas.Int.{ints, clamps}
-use Rattle.lam_geom.specs.declared.boxes.BoxXY.{BoxXY}
-use Rattle.lam_geom.specs.declared.boxes.MaskBox.{MaskBox}
-use Rattle.lam_geom.specs.declared.boxes.MaskLayer.TheVariants.{NB}
-use Rattle.lam_geom.specs.declared.boxes.Span.{Span}
+use Rattle.std.proofs.{Common.{◌≡◌, ℕ, ℤ, pos, ◌≤ℤ◌, ◌<ℤ◌, inl, inr, IsTrue, List, refl, subst, arith}, lemmas.Int.ints}
+use Rattle.std.{proofs.lemmas.Int.clamps, specs.Int.{int_max, int_min}}
+use Rattle.lam_geom.specs.declared.boxes.{BoxXY.BoxXY, MaskBox.MaskBox, MaskLayer.TheVariants.NB, Span.Span}
 use Rattle.lam_geom.specs.Gaps.{Encloses, EnclosesSpan, Overlaps, gap_of}
-use Rattle.rule_table.specs.declared.technology.Tech.{Tech}
-use Rattle.rule_table.specs.Technology.{has_buried_of, numbers_of}
-use Rattle.crossings.specs.Boxes.{IsCommon, IsCommonSpan, area_at, grains}
-use Rattle.crossings.specs.Crossings.{IsBuriedPair, IsOverlap}
+use Rattle.rule_table.specs.{declared.technology.Tech.Tech, Technology.{has_buried_of, numbers_of}}
+use Rattle.crossings.specs.{Boxes.{IsCommon, IsCommonSpan, area_at, grains}, Crossings.{IsBuriedPair, IsOverlap}}
 use Rattle.crossings.specs.Pairs.{IsCovered, Meets}
-use Rattle.crossings.proofs.Facing.{area_overlap, overlap_turned}
-use Rattle.crossings.proofs.Meetings.{meets_overlap}
+use Rattle.crossings.proofs.{Facing.{area_overlap, overlap_turned}, Meetings.meets_overlap}
 
 -- ---- what has nothing in common with an area has nothing in common with what lies inside
 

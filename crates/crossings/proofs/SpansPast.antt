@@ -1,7 +1,6 @@
 -- One span goes past another, by other names.
 use Rattle.std.proofs.Common.{◌≡◌, ℤ, subst}
-use Rattle.lam_geom.specs.Gaps.{EnclosesSpan}
-use Rattle.lam_geom.specs.declared.boxes.Span.{Span}
+use Rattle.lam_geom.specs.{Gaps.EnclosesSpan, declared.boxes.Span.Span}
 
 pub past_alike : (a b s t : Span) (m n : ℤ) → a ≡ b → s ≡ t → m ≡ n → EnclosesSpan a s m → EnclosesSpan b t n
 past_alike a b s t m n p q r h =

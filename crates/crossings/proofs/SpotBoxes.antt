@@ -1,19 +1,12 @@
 -- The spots of a tree, by the boxes that they are of.
-use Rattle.std.proofs.Common.{◌≡◌, ◌↔◌, ℕ, ◌^◌, ◌<◌, ◌≤◌, ℤ, Some, Bool, IsTrue, List, length, get_or, map, slice_get, All, Contains, sym, ap, ◌∙◌, subst, arith}
-use Rattle.std.proofs.lemmas.List.{get_or-map, length-map}
+use Rattle.std.proofs.Common.{◌≡◌, ◌↔◌, ℕ, ◌^◌, ◌<◌, ◌≤◌, ℤ, Some, Bool, IsTrue, List, length, get_or, map, slice_get}
+use Rattle.std.proofs.{Common.{All, Contains, sym, ap, ◌∙◌, subst, arith}, lemmas.List.{get_or-map, length-map}}
 use Rattle.std.proofs.lemmas.Option.{get_or_from_slice_get, slice_get_within, slice_get-get_or}
-use Rattle.lam_geom.specs.declared.boxes.BoxXY.{BoxXY}
-use Rattle.lam_geom.specs.declared.boxes.MaskBox.{MaskBox}
-use Rattle.lam_geom.specs.declared.boxes.MaskLayer.{MaskLayer}
-use Rattle.lam_geom.specs.Gaps.{Encloses, Overlaps}
-use Rattle.lam_geom.specs.Places.{IsPlacedBox}
-use Rattle.box_tree.specs.declared.query.Question.TheVariants.{Covers}
-use Rattle.box_tree.specs.declared.spots.Spot.{Spot}
-use Rattle.box_tree.specs.Queries.{HoldsAt}
-use Rattle.box_tree.specs.Tree.{no_spot}
-use Rattle.crossings.specs.Boxes.{AreSearchable, IsOn, area_at, box_at, layer_at, no_box}
-use Rattle.crossings.specs.Pairs.{AreFacing, DoOverlap, IsCovered}
-use Rattle.crossings.specs.Spots.{AreBoxesOn, AreSpotsFacing, box_spot}
+use Rattle.lam_geom.specs.declared.boxes.{BoxXY.BoxXY, MaskBox.MaskBox, MaskLayer.MaskLayer}
+use Rattle.lam_geom.specs.{Gaps.{Encloses, Overlaps}, Places.IsPlacedBox}
+use Rattle.box_tree.specs.{declared.{query.Question.TheVariants.Covers, spots.Spot.Spot}, Queries.HoldsAt, Tree.no_spot}
+use Rattle.crossings.specs.{Boxes.{AreSearchable, IsOn, area_at, box_at, layer_at, no_box}, Pairs.AreFacing}
+use Rattle.crossings.specs.{Pairs.{DoOverlap, IsCovered}, Spots.{AreBoxesOn, AreSpotsFacing, box_spot}}
 use Rattle.crossings.proofs.Facing.{overlap_by_area, overlap_faces}
 
 -- a spot that is of a box on a layer

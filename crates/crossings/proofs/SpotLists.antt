@@ -1,7 +1,6 @@
 -- Lists of the spots of numbers with a property, as far as the numbers have come.
 use Rattle.std.proofs.Common.{◌≡◌, ℕ, ◌+◌, inl, inr, List, [], ◌∷◌, ◌++◌, subst, Contains, arith, length-append}
-use Rattle.std.proofs.lemmas.Bool.{cases_lt}
-use Rattle.std.proofs.lemmas.List.Elements.{All-push, All-nil, Contains-append_left, Contains-push}
+use Rattle.std.proofs.lemmas.{Bool.cases_lt, List.Elements.{All-push, All-nil, Contains-append_left, Contains-push}}
 use Rattle.box_tree.specs.declared.spots.Spot.{Spot}
 use Rattle.crossings.specs.Spots.{AreSpotsBelow}
 

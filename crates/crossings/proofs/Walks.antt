@@ -1,19 +1,12 @@
 -- The walk over the groups of a tree of boxes of the other's layer.
 use Rattle.std.proofs.Common.{◌≡◌, ℕ, ◌<◌, ◌≤◌, pos, List, length, get_or, subst, arith}
 use Rattle.std.proofs.lemmas.Option.{slice_get-get_or}
-use Rattle.lam_geom.specs.declared.boxes.BoxXY.{BoxXY}
-use Rattle.lam_geom.specs.declared.boxes.MaskBox.{MaskBox}
-use Rattle.lam_geom.specs.Gaps.{Encloses}
+use Rattle.lam_geom.specs.{declared.boxes.{BoxXY.BoxXY, MaskBox.MaskBox}, Gaps.Encloses}
 use Rattle.rule_table.specs.declared.technology.Tech.{Tech}
-use Rattle.box_tree.specs.declared.spots.Group.{Group}
-use Rattle.box_tree.specs.declared.spots.Spot.{Spot}
-use Rattle.box_tree.specs.Tree.{IsTreeOf, no_spot, spot_at}
+use Rattle.box_tree.specs.{declared.spots.{Group.Group, Spot.Spot}, Tree.{IsTreeOf, no_spot, spot_at}}
 use Rattle.box_tree.proofs.Trees.{IsBarren, IsPassed, group_here, passed_all}
-use Rattle.crossings.specs.Boxes.{area_at}
-use Rattle.crossings.specs.Pairs.{Meets}
-use Rattle.crossings.specs.Spots.{AreSpotsFacing, box_spot}
-use Rattle.crossings.proofs.Meetings.{meets_overlap}
-use Rattle.crossings.proofs.SpotBoxes.{overlapped_there, spot_area}
+use Rattle.crossings.specs.{Boxes.area_at, Pairs.Meets, Spots.{AreSpotsFacing, box_spot}}
+use Rattle.crossings.proofs.{Meetings.meets_overlap, SpotBoxes.{overlapped_there, spot_area}}
 
 -- box a meets the box of a spot
 abbrev pub MeetsSpot : Tech → List MaskBox → ℕ → Spot → Type 0

@@ -1,17 +1,10 @@
 -- Mask boxes by their numbers, and what boxes have in common. Lengths are in grains, half hundredths of a micron.
 use Rattle.std.specs.Prelude.{◌≡◌, ℕ, ◌^◌, ◌<◌, ◌≤◌, ℤ, pos, ◌-ℤ◌, ◌*ℤ◌, ◌<ℤ◌, All, List, length, slice_index_or}
 use Rattle.std.specs.Int.{int_max, int_min}
-use Rattle.lam_geom.specs.declared.boxes.Axis.{Axis}
-use Rattle.lam_geom.specs.declared.boxes.Axis.TheVariants.{X, Y}
-use Rattle.lam_geom.specs.declared.boxes.BoxXY.{BoxXY}
-use Rattle.lam_geom.specs.declared.boxes.MaskBox.{MaskBox}
-use Rattle.lam_geom.specs.declared.boxes.MaskLayer.{MaskLayer}
-use Rattle.lam_geom.specs.declared.boxes.MaskLayer.TheVariants.{ND}
-use Rattle.lam_geom.specs.declared.boxes.Span.{Span}
-use Rattle.lam_geom.specs.Gaps.{span_along}
-use Rattle.lam_geom.specs.Places.{IsPlacedBox}
-use Rattle.rule_table.specs.declared.technology.Tech.{Tech}
-use Rattle.rule_table.specs.Technology.{numbers_of}
+use Rattle.lam_geom.specs.declared.boxes.{Axis.{Axis, TheVariants.{X, Y}}, BoxXY.BoxXY, MaskBox.MaskBox}
+use Rattle.lam_geom.specs.declared.boxes.{MaskLayer.{MaskLayer, TheVariants.ND}, Span.Span}
+use Rattle.lam_geom.specs.{Gaps.span_along, Places.IsPlacedBox}
+use Rattle.rule_table.specs.{declared.technology.Tech.Tech, Technology.numbers_of}
 
 -- ---- boxes by number
 

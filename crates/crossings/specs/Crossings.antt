@@ -1,15 +1,10 @@
 -- Where poly crosses diffusion: buried pairs, proper crossings, and the first pair that is neither.
 use Rattle.std.specs.Prelude.{◌≡◌, ◌↔◌, ℕ, ◌<◌, ◌≤◌, ◌⊎◌, All, Contains, IsTrue, List, map, length, slice_index}
-use Rattle.lam_geom.specs.declared.boxes.Axis.{Axis}
-use Rattle.lam_geom.specs.declared.boxes.BoxXY.{BoxXY}
-use Rattle.lam_geom.specs.declared.boxes.MaskBox.{MaskBox}
-use Rattle.lam_geom.specs.declared.boxes.MaskLayer.TheVariants.{ND, NP, NI, NB}
-use Rattle.lam_geom.specs.Gaps.{Overlaps, Encloses, EnclosesSpan, span_along}
-use Rattle.rule_table.specs.declared.technology.Tech.{Tech}
-use Rattle.rule_table.specs.Technology.{numbers_of, has_buried_of}
-use Rattle.crossings.specs.declared.crossing.Crossing.{Crossing}
-use Rattle.crossings.specs.declared.crossing.CrossingFault.{CrossingFault}
-use Rattle.crossings.specs.declared.crossing.CrossingFault.TheVariants.{NotProper, OutOfMemory}
+use Rattle.lam_geom.specs.declared.boxes.{Axis.Axis, BoxXY.BoxXY, MaskBox.MaskBox, MaskLayer.TheVariants.{ND, NP, NI}}
+use Rattle.lam_geom.specs.{declared.boxes.MaskLayer.TheVariants.NB, Gaps.{Overlaps, Encloses, EnclosesSpan, span_along}}
+use Rattle.rule_table.specs.{declared.technology.Tech.Tech, Technology.{numbers_of, has_buried_of}}
+use Rattle.crossings.specs.declared.crossing.{Crossing.Crossing, CrossingFault.{CrossingFault, TheVariants.NotProper}}
+use Rattle.crossings.specs.declared.crossing.CrossingFault.TheVariants.{OutOfMemory}
 use Rattle.crossings.specs.Boxes.{area_at, IsOn, other, IsCommon, grains}
 
 -- each number of a list is less than those behind it

@@ -1,23 +1,15 @@
 -- What the search says of boxes, one after another.
-use Rattle.std.specs.Prelude.{◌≡◌, ℕ, ◌<◌, ◌≤◌, ◌⊎◌, ℤ, All, Contains, IsTrue, Option, Some, None, List, [], ◌∷◌, ◌++◌, length}
-use Rattle.lam_geom.specs.declared.boxes.Axis.{Axis}
-use Rattle.lam_geom.specs.declared.boxes.BoxXY.{BoxXY}
-use Rattle.lam_geom.specs.declared.boxes.MaskBox.{MaskBox}
-use Rattle.lam_geom.specs.declared.boxes.MaskLayer.{MaskLayer}
-use Rattle.lam_geom.specs.declared.boxes.MaskLayer.TheVariants.{ND, NP, NC, NM, NI, NB}
-use Rattle.lam_geom.specs.Gaps.{Encloses}
-use Rattle.rule_table.specs.declared.technology.Tech.{Tech}
-use Rattle.rule_table.specs.Technology.{has_buried_of}
-use Rattle.crossings.specs.declared.crossing.Crossing.{Crossing}
-use Rattle.crossings.specs.declared.crossing.CrossingFault.{CrossingFault}
-use Rattle.crossings.specs.declared.crossing.CrossingFault.TheVariants.{NotProper, OutOfMemory}
-use Rattle.crossings.specs.declared.pairs.Pair.{Pair}
-use Rattle.crossings.specs.declared.partners.Partners.{Partners}
-use Rattle.crossings.specs.declared.partners.Partners.TheVariants.{Nothing, One, Several}
-use Rattle.crossings.specs.declared.standings.Standing.{Standing}
-use Rattle.crossings.specs.declared.standings.Standing.TheVariants.{Clear, Crosses, Bad}
-use Rattle.crossings.specs.Boxes.{area_at, layer_at, IsOn, IsCommon}
-use Rattle.crossings.specs.Crossings.{IsOverlap, IsMeeting, CrossAlong, CrossProperly, IsImproper, IsBadPair, IsFirstBadPair, IsCrossing, AreInOrder}
+use Rattle.std.specs.Prelude.{◌≡◌, ℕ, ◌<◌, ◌≤◌, ◌⊎◌, ℤ, All, Contains, IsTrue, Option, Some, None, List, [], ◌∷◌, ◌++◌}
+use Rattle.std.specs.Prelude.{length}
+use Rattle.lam_geom.specs.declared.boxes.{Axis.Axis, BoxXY.BoxXY, MaskBox.MaskBox, MaskLayer.MaskLayer}
+use Rattle.lam_geom.specs.{declared.boxes.MaskLayer.TheVariants.{ND, NP, NC, NM, NI, NB}, Gaps.Encloses}
+use Rattle.rule_table.specs.{declared.technology.Tech.Tech, Technology.has_buried_of}
+use Rattle.crossings.specs.declared.crossing.{Crossing.Crossing, CrossingFault.{CrossingFault, TheVariants.NotProper}}
+use Rattle.crossings.specs.declared.{crossing.CrossingFault.TheVariants.OutOfMemory, pairs.Pair.Pair}
+use Rattle.crossings.specs.declared.partners.Partners.{Partners, TheVariants.{Nothing, One, Several}}
+use Rattle.crossings.specs.declared.standings.Standing.{Standing, TheVariants.{Clear, Crosses, Bad}}
+use Rattle.crossings.specs.{Boxes.{area_at, layer_at, IsOn, IsCommon}, Crossings.{IsOverlap, IsMeeting, CrossAlong}}
+use Rattle.crossings.specs.Crossings.{CrossProperly, IsImproper, IsBadPair, IsFirstBadPair, IsCrossing, AreInOrder}
 
 -- a box of a layer goes past an area by a margin on all sides
 pub record IsCovered (boxes : List MaskBox) (layer : MaskLayer) (area : BoxXY) (margin : ℤ) : Type 0 where

@@ -1,12 +1,8 @@
 -- Trees of the boxes on a layer: what spots they are of.
 use Rattle.std.specs.Prelude.{◌≡◌, ℕ, ◌<◌, ◌≤◌, All, Contains, Some, List, length}
-use Rattle.lam_geom.specs.declared.boxes.MaskBox.{MaskBox}
-use Rattle.lam_geom.specs.declared.boxes.MaskLayer.{MaskLayer}
-use Rattle.lam_geom.specs.declared.boxes.MaskLayer.TheVariants.{ND, NP, NI, NB}
+use Rattle.lam_geom.specs.declared.boxes.{MaskBox.MaskBox, MaskLayer.{MaskLayer, TheVariants.{ND, NP, NI, NB}}}
 use Rattle.box_tree.specs.declared.spots.Spot.{Spot}
-use Rattle.crossings.specs.declared.spots.Trees.{Trees}
-use Rattle.crossings.specs.Boxes.{area_at, layer_at, IsOn}
-use Rattle.crossings.specs.Pairs.{facing_of}
+use Rattle.crossings.specs.{declared.spots.Trees.Trees, Boxes.{area_at, layer_at, IsOn}, Pairs.facing_of}
 
 -- ---- lists of spots
 

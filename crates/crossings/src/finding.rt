@@ -1,9 +1,8 @@
 //! The search for crossings.
 ghost use Rattle.std.specs.Prelude.{◌≡◌, OnOk, IfOk, IfErr};
-ghost use Rattle.crossings.specs.Boxes.{AreSearchable, area_at};
-ghost use Rattle.crossings.specs.Crossings.{AreProper, AreCrossings, CrossAlong, IsMeeting, IsCauseOf};
-ghost use Rattle.crossings.specs.Pairs.{AddsCrossing, EndsSearch};
-ghost use Rattle.crossings.specs.Spots.{AreBoxesOn, AreTreesOf};
+ghost use Rattle.crossings.specs.{Boxes.{AreSearchable, area_at}, Crossings.{AreProper, AreCrossings, CrossAlong}};
+ghost use Rattle.crossings.specs.{Crossings.{IsMeeting, IsCauseOf}, Pairs.{AddsCrossing, EndsSearch}, Spots.AreBoxesOn};
+ghost use Rattle.crossings.specs.Spots.{AreTreesOf};
 ghost use Rattle.lam_geom.specs.declared.boxes.MaskLayer.TheVariants.{NI};
 
 use crate::crossing::{Crossing, CrossingFault};

@@ -1,10 +1,8 @@
 //! Tests of poly and diffusion by their areas alone. Lengths are in grains, half hundredths of a micron.
 ghost use Rattle.std.specs.Prelude.{◌≡◌, ◌↔◌, ◌^◌, pos, ◌≤ℤ◌, ◌<ℤ◌, IsTrue, MatchOption};
 ghost use Rattle.lam_geom.specs.declared.boxes.Axis.{Axis};
-ghost use Rattle.lam_geom.specs.Gaps.{gap_of, Overlaps, EnclosesSpan};
-ghost use Rattle.lam_geom.specs.Places.{IsPlacedSpan, IsPlacedBox};
-ghost use Rattle.crossings.specs.Boxes.{other, IsCommon, IsCommonSpan};
-ghost use Rattle.crossings.specs.Crossings.{CrossAlong};
+ghost use Rattle.lam_geom.specs.{Gaps.{gap_of, Overlaps, EnclosesSpan}, Places.{IsPlacedSpan, IsPlacedBox}};
+ghost use Rattle.crossings.specs.{Boxes.{other, IsCommon, IsCommonSpan}, Crossings.CrossAlong};
 
 use crate::lengths::in_grains;
 use lam_geom::{Axis, BoxXY, Span, span_of};

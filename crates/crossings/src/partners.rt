@@ -1,8 +1,6 @@
 //! What a box of poly or diffusion overlaps on the other's layer.
 ghost use Rattle.std.specs.Prelude.{◌≡◌, ◌≢◌, ℕ, ◌<◌, MatchOption, length};
-ghost use Rattle.crossings.specs.Boxes.{AreSearchable};
-ghost use Rattle.crossings.specs.Pairs.{DoOverlap, HowMany};
-ghost use Rattle.crossings.specs.Spots.{AreSpotsFacing, AreTreesOf};
+ghost use Rattle.crossings.specs.{Boxes.AreSearchable, Pairs.{DoOverlap, HowMany}, Spots.{AreSpotsFacing, AreTreesOf}};
 
 use crate::spots::{Trees, facing_tree};
 use box_tree::{BoxTree, Query, Question};

@@ -1,12 +1,9 @@
 //! Trees of the boxes on a layer, and what lies over an area.
 ghost use Rattle.std.specs.Prelude.{◌≡◌, ◌↔◌, ℕ, ◌<◌, IfOk, IsTrue, List, MatchOption, length};
-ghost use Rattle.lam_geom.specs.Places.{IsPlacedBox};
-ghost use Rattle.lam_geom.specs.declared.boxes.MaskBox.{MaskBox};
-ghost use Rattle.lam_geom.specs.declared.boxes.MaskLayer.{MaskLayer};
+ghost use Rattle.lam_geom.specs.{Places.IsPlacedBox, declared.boxes.{MaskBox.MaskBox, MaskLayer.MaskLayer}};
 ghost use Rattle.box_tree.specs.Queries.{IsMargin};
-ghost use Rattle.crossings.specs.Boxes.{AreSearchable};
-ghost use Rattle.crossings.specs.Pairs.{DoOverlap, IsCovered};
-ghost use Rattle.crossings.specs.Spots.{AreBoxesOn, AreSpotsFacing, AreTreesOf};
+ghost use Rattle.crossings.specs.{Boxes.AreSearchable, Pairs.{DoOverlap, IsCovered}, Spots.AreBoxesOn};
+ghost use Rattle.crossings.specs.Spots.{AreSpotsFacing, AreTreesOf};
 
 use box_tree::{BoxTree, Query, Question, Spot};
 use lam_geom::{BoxXY, MaskBox, MaskLayer};

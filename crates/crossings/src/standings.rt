@@ -1,8 +1,6 @@
 //! How a box of poly or diffusion stands to those that it overlaps.
 ghost use Rattle.std.specs.Prelude.{◌≡◌, ◌<◌, IfOk, length};
-ghost use Rattle.crossings.specs.Boxes.{AreSearchable};
-ghost use Rattle.crossings.specs.Pairs.{DoOverlap, HowMany, StandsAs};
-ghost use Rattle.crossings.specs.Spots.{AreTreesOf};
+ghost use Rattle.crossings.specs.{Boxes.AreSearchable, Pairs.{DoOverlap, HowMany, StandsAs}, Spots.AreTreesOf};
 ghost use Rattle.crossings.specs.declared.partners.Partners.TheVariants.{One};
 
 use crate::pair_tests::crossing_axis;

@@ -1,14 +1,11 @@
 //! Windows over what poly and diffusion have in common.
-ghost use Rattle.std.specs.Prelude.{◌≡◌, ◌↔◌, ℕ, ◌^◌, ◌<◌, pos, ◌≤ℤ◌, All, Contains, IsTrue, IfOk, MatchBool, MatchOption, IfSome, length};
-ghost use Rattle.lam_geom.specs.declared.boxes.MaskLayer.TheVariants.{NB};
-ghost use Rattle.lam_geom.specs.Gaps.{Encloses};
-ghost use Rattle.lam_geom.specs.Places.{IsPlacedBox};
+ghost use Rattle.std.specs.Prelude.{◌≡◌, ◌↔◌, ℕ, ◌^◌, ◌<◌, pos, ◌≤ℤ◌, All, Contains, IsTrue, IfOk, MatchBool};
+ghost use Rattle.std.specs.Prelude.{MatchOption, IfSome, length};
+ghost use Rattle.lam_geom.specs.{declared.boxes.MaskLayer.TheVariants.NB, Gaps.Encloses, Places.IsPlacedBox};
 ghost use Rattle.rule_table.specs.Technology.{numbers_of};
 ghost use Rattle.box_tree.specs.Queries.{IsMargin};
-ghost use Rattle.crossings.specs.Boxes.{AreSearchable, area_at, grains};
-ghost use Rattle.crossings.specs.Crossings.{IsBuriedPair};
-ghost use Rattle.crossings.specs.Pairs.{IsCovered, IsShared};
-ghost use Rattle.crossings.specs.Spots.{AreBoxesOn};
+ghost use Rattle.crossings.specs.{Boxes.{AreSearchable, area_at, grains}, Crossings.IsBuriedPair, Pairs.IsCovered};
+ghost use Rattle.crossings.specs.{Pairs.IsShared, Spots.AreBoxesOn};
 
 use crate::lengths::in_grains;
 use crate::pair_tests::common_box;

@@ -1,14 +1,9 @@
 -- A design with another cell in the place of one, with the numbers of its canonical text.
-use Rattle.std.proofs.Common.{◌≡◌, ℕ, zero, suc, ◌+◌, ◌<◌, List, [], ◌∷◌, length, map, get_or, set, inl, inr, refl, ap, ◌∙◌, arith}
-use Rattle.std.specs.Prelude.{sum_by}
-use Rattle.std.specs.List.{AllByRecursion}
-use Rattle.std.proofs.lemmas.List.{get_or_default, length-set}
-use Rattle.std.proofs.lemmas.List.Sums.{sum_by-set, sum_by-cons, get_or-le-sum_by}
+use Rattle.std.proofs.Common.{◌≡◌, ℕ, zero, suc, ◌+◌, ◌<◌, List, [], ◌∷◌, length, map, get_or, set, inl, inr, refl, ap}
+use Rattle.std.proofs.{Common.{◌∙◌, arith}, lemmas.List.{get_or_default, length-set, Sums.{sum_by-set, sum_by-cons}}}
+use Rattle.std.{proofs.lemmas.List.Sums.get_or-le-sum_by, specs.{Prelude.sum_by, List.AllByRecursion}}
 use Rattle.list_facts.proofs.Elements.{all_at}
-use Rattle.stick_parse.specs.declared.design.Line.{Line}
-use Rattle.stick_parse.specs.declared.design.CellText.{CellText}
-use Rattle.stick_parse.specs.declared.design.GridText.{GridText}
-use Rattle.stick_parse.specs.declared.design.Design.{Design}
+use Rattle.stick_parse.specs.declared.design.{Line.Line, CellText.CellText, GridText.GridText, Design.Design}
 use Rattle.stick_parse.specs.Writable.{IsLine, IsCell, IsGrid, IsOneUnnamed, HasName, AreGridsOf, IsWritable}
 use Rattle.stick_print.specs.ReadBack.{lines_from, cells_from, behind_cells, grids_from, laid_out, without_line}
 use Rattle.design_edits.specs.Cells.{cell_text_at, no_cell}

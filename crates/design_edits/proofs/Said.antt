@@ -1,12 +1,8 @@
 -- What holds of each line that a script says, if it holds of what any words say that can stand in a line.
 use Rattle.std.proofs.Common.{◌≡◌, ℕ, ◌+◌, List, [], ◌∷◌, Option, Some, None, Result, Ok, Err, refl}
 use Rattle.std.specs.List.{AllByRecursion}
-use Rattle.stick_lex.specs.declared.token.Token.{Token}
-use Rattle.stick_lex.specs.declared.token.LexFault.{LexFault}
-use Rattle.stick_lex.specs.Tokens.{tokens_of}
-use Rattle.stick_parse.specs.declared.fault.StickKind.{StickKind}
-use Rattle.stick_parse.specs.Lines.{tokens_or_kind}
-use Rattle.stick_parse.specs.Words.{Word}
+use Rattle.stick_lex.specs.{declared.token.{Token.Token, LexFault.LexFault}, Tokens.tokens_of}
+use Rattle.stick_parse.specs.{declared.fault.StickKind.StickKind, Lines.tokens_or_kind, Words.Word}
 use Rattle.stick_parse.proofs.Written.{Holds, then_holds, AreWords, words_in_range}
 use Rattle.design_edits.specs.Scripts.{step_by_words, step_by, with_step, steps_from}
 

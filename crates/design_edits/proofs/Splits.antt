@@ -1,7 +1,6 @@
 -- The place of a line that has some number among the lines of a kind.
 use Rattle.std.proofs.Common.{◌≡◌, ℕ, ◌+◌, Bool, true, cond, List, [], ◌∷◌, ◌++◌, refl, sym, ap, ◌∙◌, arith}
-use Rattle.std.specs.Prelude.{count_by}
-use Rattle.std.proofs.lemmas.List.Sums.{sum_by-cons}
+use Rattle.std.{proofs.lemmas.List.Sums.sum_by-cons, specs.Prelude.count_by}
 use Rattle.stick_parse.specs.declared.design.Line.{Line}
 
 abbrev count_of : (Line → Bool) → Line → ℕ

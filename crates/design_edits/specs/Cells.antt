@@ -1,9 +1,6 @@
 -- The cells of a design: which one has a number, whether it is used, and the lines of a new one.
 use Rattle.std.specs.Prelude.{◌≡◌, ℕ, All, List, [], slice_index_or}
-use Rattle.stick_parse.specs.declared.design.Form.{Form}
-use Rattle.stick_parse.specs.declared.design.Form.TheVariants.{Inst}
-use Rattle.stick_parse.specs.declared.design.Line.{Line}
-use Rattle.stick_parse.specs.declared.design.CellText.{CellText}
+use Rattle.stick_parse.specs.declared.design.{Form.{Form, TheVariants.Inst}, Line.Line, CellText.CellText}
 use Rattle.stick_parse.specs.declared.design.Design.{Design}
 
 -- a line of the new cell, which gets its number with all others

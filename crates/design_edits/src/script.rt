@@ -1,8 +1,6 @@
 //! The lines of a script, and why one is not read.
 ghost use Rattle.std.specs.Prelude.{◌≡◌, List, Result};
-ghost use Rattle.stick_parse.specs.declared.fault.StickKind.{StickKind};
-ghost use Rattle.stick_parse.specs.Reading.{GivesLine};
-ghost use Rattle.stick_parse.specs.Words.{Word as SomeWord};
+ghost use Rattle.stick_parse.specs.{declared.fault.StickKind.StickKind, Reading.GivesLine, Words.Word as SomeWord};
 ghost use Rattle.stick_parse.specs.WordViews.{views};
 ghost use Rattle.design_edits.specs.declared.script.ScriptFault.TheVariants as faults;
 

@@ -1,14 +1,13 @@
 -- What one more point adds to what is drawn and to the forms, and how many forms there are.
-use Rattle.std.proofs.Common.{◌≡◌, ℕ, ◌+◌, ◌*◌, ◌<◌, ◌≤◌, List, [], ◌∷◌, ◌++◌, length, get_or, map, Option, Some, None, refl, sym, ap, ◌∙◌, add-one, zero-add, append_assoc, suc, arith}
+use Rattle.std.proofs.Common.{◌≡◌, ℕ, ◌+◌, ◌*◌, ◌<◌, ◌≤◌, List, [], ◌∷◌, ◌++◌, length, get_or, map, Option, Some, None}
+use Rattle.std.proofs.Common.{refl, sym, ap, ◌∙◌, add-one, zero-add, append_assoc, suc, arith}
+use Rattle.std.proofs.lemmas.List.{map-id, append-nil, length-append, FromFn.length-range_with_len}
+use Rattle.std.proofs.lemmas.List.FromFn.{map-range_with_len_more, length-map-range_with_len, get_or-map-range_with_len}
+use Rattle.std.proofs.{lemmas.List.Elements.filter_map-append, Math.Nat.mul-le-mul}
 use Rattle.std.specs.List.{range_with_len, filter_map, cons_option, zip}
-use Rattle.std.proofs.lemmas.List.{map-id, append-nil, length-append}
-use Rattle.std.proofs.Math.Nat.{mul-le-mul}
-use Rattle.std.proofs.lemmas.List.FromFn.{length-range_with_len, map-range_with_len_more, length-map-range_with_len, get_or-map-range_with_len}
-use Rattle.std.proofs.lemmas.List.Elements.{filter_map-append}
 use Rattle.stick_parse.specs.declared.design.Form.{Form}
 use Rattle.design_gen.specs.Draws.{next_number, number_after, bits_of, draw, point_at, points}
-use Rattle.design_gen.specs.declared.draws.Point.{Point}
-use Rattle.design_gen.specs.Made.{node_at, wire_at, forms_of, lines_from}
+use Rattle.design_gen.specs.{declared.draws.Point.Point, Made.{node_at, wire_at, forms_of, lines_from}}
 
 pub number_more : (n k : ℕ) → number_after n (k + 1) ≡ next_number (number_after n k)
 unfolding number_after

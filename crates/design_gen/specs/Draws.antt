@@ -1,9 +1,7 @@
 -- What is drawn for the points of a square of n columns and n rows. Point k has column k mod n and row k / n.
 use Rattle.std.specs.Prelude.{ℕ, zero, suc, ◌+◌, ◌*◌, ◌/◌, ◌%◌, ◌^◌, ◌==◌, nat_le, if◌then◌else◌, List}
 use Rattle.std.specs.List.{range_with_len}
-use Rattle.design_gen.specs.declared.draws.Stand.{Stand}
-use Rattle.design_gen.specs.declared.draws.Stand.TheVariants.{Nothing, Metal, Poly, Contact}
-use Rattle.design_gen.specs.declared.draws.Point.{Point}
+use Rattle.design_gen.specs.declared.draws.{Stand.{Stand, TheVariants.{Nothing, Metal, Poly, Contact}}, Point.Point}
 
 -- the number behind x in the linear congruence
 abbrev pub next_number : ℕ → ℕ

@@ -1,15 +1,12 @@
 -- The design that is made from a number n: one cell with a node at each point of a square for which one is drawn, and wires between
 -- neighbours.
-use Rattle.std.specs.Prelude.{ℕ, ◌+◌, ◌-◌, ◌/◌, ◌%◌, nat_lt, Bool, true, false, ◌&&◌, if◌then◌else◌, List, [], ◌∷◌, ◌++◌, length, map, Option, Some, None, codes, decimal}
-use Rattle.std.specs.List.{filter_map, enumerate_from}
+use Rattle.std.specs.Prelude.{ℕ, ◌+◌, ◌-◌, ◌/◌, ◌%◌, nat_lt, Bool, true, false, ◌&&◌, if◌then◌else◌, List, [], ◌∷◌}
+use Rattle.std.specs.{Prelude.{◌++◌, length, map, Option, Some, None, codes, decimal}, List.filter_map}
+use Rattle.std.specs.List.{enumerate_from}
 use Rattle.stick_parse.specs.declared.design.Layer.TheVariants as layers
-use Rattle.stick_parse.specs.declared.design.Form.{Form}
+use Rattle.stick_parse.specs.declared.design.{Form.Form, Line.Line, Design.Design}
 use Rattle.stick_parse.specs.declared.design.Form.TheVariants as forms
-use Rattle.stick_parse.specs.declared.design.Line.{Line}
-use Rattle.stick_parse.specs.declared.design.Design.{Design}
-use Rattle.design_gen.specs.declared.draws.Stand.{Stand}
-use Rattle.design_gen.specs.declared.draws.Stand.TheVariants.{Nothing, Metal, Poly, Contact}
-use Rattle.design_gen.specs.declared.draws.Point.{Point}
+use Rattle.design_gen.specs.declared.draws.{Stand.{Stand, TheVariants.{Nothing, Metal, Poly, Contact}}, Point.Point}
 use Rattle.design_gen.specs.Draws.{point_at, points}
 
 -- the name of point k by its column and its row, such as n3_0

@@ -1,24 +1,15 @@
 -- The links of the nets of one more instance with those of the instance behind it.
-use Rattle.std.proofs.Common.{◌≡◌, ℕ, ◌+◌, ◌<◌, List, length, get_or, Contains, Vec, Global, ◌⊎◌, inl, inr, sym, ap, ◌∙◌, subst, arith}
-use Rattle.std.proofs.lemmas.Bool.{cases_lt}
-use Rattle.std.proofs.lemmas.List.Elements.{All-contains}
-use Rattle.lam_geom.specs.declared.boxes.Axis.{Axis}
-use Rattle.lam_geom.specs.declared.boxes.Axis.TheVariants.{X, Y}
+use Rattle.std.proofs.Common.{◌≡◌, ℕ, ◌+◌, ◌<◌, List, length, get_or, Contains, Vec, Global, ◌⊎◌, inl, inr, sym, ap}
+use Rattle.std.proofs.{Common.{◌∙◌, subst, arith}, lemmas.{Bool.cases_lt, List.Elements.All-contains}}
+use Rattle.lam_geom.specs.declared.boxes.Axis.{Axis, TheVariants.{X, Y}}
 use Rattle.cell_model.specs.declared.cell.Nets.{Nets}
-use Rattle.plan_model.specs.declared.plan.Plan.{Plan}
-use Rattle.plan_model.specs.GridNets.{IsBehind}
-use Rattle.plan_model.specs.Instances.{Spot}
-use Rattle.plan_model.specs.Plan.{grids_of, matches_in}
-use Rattle.design_nets.specs.declared.instances.Instance.{Instance}
-use Rattle.design_nets.specs.declared.meetings.Meeting.{Meeting}
-use Rattle.design_nets.specs.Instances.{no_instance, spot_no, master_no}
-use Rattle.design_nets.specs.Joining.{own_net, IsOwn, HaveNets}
-use Rattle.design_nets.specs.Linking.{AreAdded, IsListedLink, IsMeetLink}
-use Rattle.design_nets.specs.Meetings.{list_in, row_of, meetings_at, IsSquare, IsMatchIn, IsMeeting, AreMeetings}
-use Rattle.design_nets.specs.Nets.{no_nets, nets_no}
-use Rattle.design_nets.proofs.Added.{added_then, added_same}
-use Rattle.design_nets.proofs.Spots.{number_of_spot, instance_stands}
-use Rattle.design_nets.proofs.Table.{row_read, list_read}
+use Rattle.plan_model.specs.{declared.plan.Plan.Plan, GridNets.IsBehind, Instances.Spot, Plan.{grids_of, matches_in}}
+use Rattle.design_nets.specs.declared.{instances.Instance.Instance, meetings.Meeting.Meeting}
+use Rattle.design_nets.specs.{Instances.{no_instance, spot_no, master_no}, Joining.{own_net, IsOwn, HaveNets}}
+use Rattle.design_nets.specs.{Linking.{AreAdded, IsListedLink, IsMeetLink}, Meetings.{list_in, row_of, meetings_at}}
+use Rattle.design_nets.specs.{Meetings.{IsSquare, IsMatchIn, IsMeeting, AreMeetings}, Nets.{no_nets, nets_no}}
+use Rattle.design_nets.proofs.{Added.{added_then, added_same}, Spots.{number_of_spot, instance_stands}, Table.row_read}
+use Rattle.design_nets.proofs.Table.{list_read}
 
 -- ---- what is read in a table
 

@@ -1,23 +1,14 @@
 -- The instance that stands above another one, and the one on its right.
-use Rattle.std.proofs.Common.{◌≡◌, ℕ, ◌+◌, ◌<◌, ◌≤◌, List, [], length, map, get_or, refl, sym, ap, ◌∙◌, subst, arith, length-append}
-use Rattle.std.specs.Prelude.{slice_get}
-use Rattle.std.specs.List.{All}
-use Rattle.std.proofs.lemmas.List.{length-map, get_or-map}
-use Rattle.std.proofs.lemmas.List.FromFn.{length-map-range_with_len}
-use Rattle.lam_geom.specs.declared.boxes.Axis.{Axis}
-use Rattle.lam_geom.specs.declared.boxes.Axis.TheVariants.{X, Y}
-use Rattle.plan_model.specs.declared.plan.Plan.{Plan}
-use Rattle.plan_model.specs.declared.plan.PlanGrid.{PlanGrid}
-use Rattle.plan_model.specs.declared.plan.PlanRow.{PlanRow}
-use Rattle.plan_model.specs.GridNets.{IsBehind}
-use Rattle.plan_model.specs.Instances.{Spot, IsSpot, spot, grid_at, spots_in_row, spots_of}
-use Rattle.plan_model.specs.Plan.{grids_of}
+use Rattle.std.proofs.Common.{◌≡◌, ℕ, ◌+◌, ◌<◌, ◌≤◌, List, [], length, map, get_or, refl, sym, ap, ◌∙◌, subst, arith}
+use Rattle.std.proofs.{Common.length-append, lemmas.List.{length-map, get_or-map, FromFn.length-map-range_with_len}}
+use Rattle.std.specs.{Prelude.slice_get, List.All}
+use Rattle.lam_geom.specs.declared.boxes.Axis.{Axis, TheVariants.{X, Y}}
+use Rattle.plan_model.specs.{declared.plan.{Plan.Plan, PlanGrid.PlanGrid, PlanRow.PlanRow}, GridNets.IsBehind}
+use Rattle.plan_model.specs.{Instances.{Spot, IsSpot, spot, grid_at, spots_in_row, spots_of}, Plan.grids_of}
 use Rattle.plan_model.specs.Rows.{rows_of, row_at, IsRectangular}
-use Rattle.design_nets.specs.declared.instances.Instance.{Instance}
-use Rattle.design_nets.specs.Firsts.{together}
-use Rattle.design_nets.specs.Instances.{instances_of, spot_no}
-use Rattle.design_nets.proofs.Lists.{together_more}
-use Rattle.design_nets.proofs.Spots.{number_of_spot, spot_there, instance_stands, instance_at_spot}
+use Rattle.design_nets.specs.{declared.instances.Instance.Instance, Firsts.together, Instances.{instances_of, spot_no}}
+use Rattle.design_nets.proofs.{Lists.together_more, Spots.{number_of_spot, spot_there, instance_stands}}
+use Rattle.design_nets.proofs.Spots.{instance_at_spot}
 
 -- ---- where a spot's rows are read
 

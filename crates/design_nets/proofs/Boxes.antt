@@ -1,21 +1,16 @@
 -- What is read of masters for the boxes of one more instance, and the pieces of one more box.
 use Rattle.std.proofs.Common.{◌≡◌, ℕ, ◌<◌, ◌≤◌, Bool, true, false, List, length, map, get_or, sym, ap, ◌∙◌, arith}
-use Rattle.std.specs.List.{All}
-use Rattle.std.proofs.lemmas.List.{length-map, get_or-map, get_or_default}
-use Rattle.lam_geom.specs.declared.boxes.MaskLayer.{MaskLayer}
-use Rattle.lam_geom.specs.declared.boxes.MaskLayer.TheVariants.{ND, NP, NC, NM, NI, NB}
+use Rattle.std.{proofs.lemmas.List.{length-map, get_or-map, get_or_default}, specs.List.All}
+use Rattle.lam_geom.specs.declared.boxes.MaskLayer.{MaskLayer, TheVariants.{ND, NP, NC, NM, NI, NB}}
 use Rattle.cell_model.specs.declared.cell.Nets.{Nets}
 use Rattle.expand.specs.declared.master.Master.{Master}
 use Rattle.pair_rules.specs.Bound.{item_at}
 use Rattle.pitch_join.specs.Masters.{master_at, no_master}
 use Rattle.net_extract.specs.Places.{parts_on}
-use Rattle.design_nets.specs.declared.instances.Instance.{Instance}
-use Rattle.design_nets.specs.declared.shapes.Shape.{Shape}
-use Rattle.design_nets.specs.Instances.{no_instance, master_no}
-use Rattle.design_nets.specs.Nets.{no_nets, nets_no, AreNetsOfAll}
-use Rattle.design_nets.specs.Pieces.{layer_shown, is_fet, placed, parts_of_item, pieces_of_item, pieces_in}
-use Rattle.design_nets.specs.Shapes.{shape, shape_no, no_shape, drawn_in, shapes_in}
-use Rattle.design_nets.proofs.Counted.{node_count}
+use Rattle.design_nets.specs.{declared.{instances.Instance.Instance, shapes.Shape.Shape}, Instances.no_instance}
+use Rattle.design_nets.specs.{Instances.master_no, Nets.{no_nets, nets_no, AreNetsOfAll}, Pieces.{layer_shown, is_fet}}
+use Rattle.design_nets.specs.{Pieces.{placed, parts_of_item, pieces_of_item, pieces_in}, Shapes.{shape, shape_no}}
+use Rattle.design_nets.{specs.Shapes.{no_shape, drawn_in, shapes_in}, proofs.Counted.node_count}
 
 -- ---- shapes
 

@@ -1,46 +1,28 @@
 -- Transistors in order of their diffusion, one box after another.
-use Rattle.std.proofs.Common.{◌≡◌, ℕ, ◌+◌, ◌<◌, ℤ, Bool, true, false, All, List, [], ◌∷◌, ◌++◌, length, get_or, map, refl, sym, ap, ◌∙◌, subst, arith, inl, inr}
+use Rattle.std.proofs.Common.{◌≡◌, ℕ, ◌+◌, ◌<◌, ℤ, Bool, true, false, All, List, [], ◌∷◌, ◌++◌, length, get_or, map}
+use Rattle.std.proofs.{Common.{refl, sym, ap, ◌∙◌, subst, arith, inl, inr}, lemmas.{Bool.cases_lt, List.map-append}}
+use Rattle.std.proofs.lemmas.List.{length-map, length_push, get_or-map, get_or_default, get_or_read, get_or_append_left}
+use Rattle.std.proofs.lemmas.{List.{get_or_push, Elements.{All-push, All-weaker}}, Option.slice_get-get_or}
 use Rattle.std.specs.Prelude.{Contains, slice_index}
-use Rattle.std.proofs.lemmas.Bool.{cases_lt}
-use Rattle.std.proofs.lemmas.List.{map-append, length-map, length_push, get_or-map, get_or_default, get_or_read, get_or_append_left, get_or_push}
-use Rattle.std.proofs.lemmas.Option.{slice_get-get_or}
-use Rattle.std.proofs.lemmas.List.Elements.{All-push, All-weaker}
-use Rattle.lam_geom.specs.Places.{IsPlacedBox}
-use Rattle.lam_geom.specs.declared.boxes.MaskLayer.TheVariants.{ND}
-use Rattle.rule_table.specs.declared.technology.Tech.{Tech}
-use Rattle.rule_table.specs.declared.classes.Class.TheVariants.{Dm}
-use Rattle.cell_model.specs.declared.cell.Axis2.{Axis2}
-use Rattle.sym_items.specs.declared.items.Coords.{Coords}
+use Rattle.lam_geom.specs.{Places.IsPlacedBox, declared.boxes.MaskLayer.TheVariants.ND}
+use Rattle.rule_table.specs.declared.{technology.Tech.Tech, classes.Class.TheVariants.Dm}
+use Rattle.cell_model.specs.declared.cell.{Axis2.Axis2, Cell.Cell}
+use Rattle.sym_items.specs.declared.items.{Coords.Coords, Item.Item}
 use Rattle.expand.specs.declared.master.Master.{Master}
-use Rattle.plan_model.specs.declared.plan.Plan.{Plan}
-use Rattle.plan_model.specs.Instances.{Spot}
-use Rattle.crossings.specs.declared.crossing.Crossing.{Crossing}
-use Rattle.crossings.specs.Crossings.{IsIncreasing, AreInOrder}
+use Rattle.plan_model.specs.{declared.plan.Plan.Plan, Instances.{Spot, master_at_spot}, Plan.grids_of}
+use Rattle.crossings.specs.{declared.crossing.Crossing.Crossing, Crossings.{IsIncreasing, AreInOrder}}
 use Rattle.pair_rules.specs.Bound.{no_item, item_at}
-use Rattle.plan_model.specs.Instances.{master_at_spot}
-use Rattle.plan_model.specs.Plan.{grids_of}
 use Rattle.pitch_join.specs.Masters.{no_master, master_at}
-use Rattle.grid_rules.specs.Conductors.{Drawn, item_of}
-use Rattle.grid_rules.specs.Meetings.{at, IsOwned, IsTransistorAt, TransistorsHaveBoxes}
-use Rattle.grid_rules.specs.Shapes.{shapes_of, Shows}
-use Rattle.grid_rules.specs.Sticks.{is_of_transistor, IsTransistor, IsOfNode, AreTransistors}
-use Rattle.grid_rules.proofs.NetlistLists.{has_left, has_right}
-use Rattle.grid_rules.proofs.NetlistPlaces.{has_of_contains, contains_of_has, item_fet}
-use Rattle.grid_rules.proofs.NetlistShapes.{number, shown_below, one_item}
+use Rattle.grid_rules.specs.{Conductors.{Drawn, item_of}, Meetings.{at, IsOwned, IsTransistorAt, TransistorsHaveBoxes}}
+use Rattle.grid_rules.specs.{Shapes.{shapes_of, Shows}, Sticks.{is_of_transistor, IsTransistor, IsOfNode}}
+use Rattle.grid_rules.specs.Sticks.{AreTransistors}
+use Rattle.grid_rules.proofs.{NetlistLists.{has_left, has_right}, NetlistPlaces.{has_of_contains, contains_of_has}}
+use Rattle.grid_rules.proofs.{NetlistPlaces.item_fet, NetlistShapes.{number, shown_below, one_item}}
 use Rattle.mask_out.specs.declared.drawing.Call.{Call}
-use Rattle.cell_model.specs.declared.cell.Cell.{Cell}
-use Rattle.sym_items.specs.declared.items.Item.{Item}
-use Rattle.design_nets.specs.declared.instances.Instance.{Instance}
-use Rattle.design_nets.specs.declared.shapes.Shape.{Shape}
-use Rattle.design_nets.specs.declared.shapes.Shapes.{Shapes}
-use Rattle.design_nets.specs.Instances.{instances_of, master_no}
-use Rattle.design_nets.specs.Pieces.{is_fet}
-use Rattle.design_nets.specs.Shapes.{drawn_by, no_shape, shape_no}
+use Rattle.design_nets.specs.declared.{instances.Instance.Instance, shapes.{Shape.Shape, Shapes.Shapes}}
+use Rattle.design_nets.specs.{Instances.{instances_of, master_no}, Pieces.is_fet, Shapes.{drawn_by, no_shape, shape_no}}
 use Rattle.design_nets.specs.Transistors.{IsLaidOut, cell_shown, item_shown}
-use Rattle.design_nets.proofs.FetReads.{no_call, seen}
-use Rattle.design_nets.proofs.LaidOut.{shape_seen}
-use Rattle.design_nets.proofs.Shown.{shape_shows}
-use Rattle.design_nets.proofs.Spots.{instance_stands}
+use Rattle.design_nets.proofs.{FetReads.{no_call, seen}, LaidOut.shape_seen, Shown.shape_shows, Spots.instance_stands}
 
 -- the box with this number shows the diffusion of a transistor
 pub record ShowsFet (plan : Plan) (masters : List Master) (k : ℕ) : Type 0 where

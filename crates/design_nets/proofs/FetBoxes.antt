@@ -1,55 +1,33 @@
 -- The transistor of which a box shows the diffusion, by its poly and its channel.
 use Rattle.std.proofs.Common.{◌≡◌, ℕ, ◌+◌, ◌<◌, ℤ, ◌+ℤ◌, List, length, Some, refl, sym, ap, ◌∙◌, subst, arith, zero-add}
-use Rattle.std.specs.Prelude.{slice_get, slice_index}
-use Rattle.std.specs.List.{range_with_len}
-use Rattle.std.specs.Int.{int_max, int_min}
-use Rattle.std.proofs.lemmas.Int.{ints, clamps}
-use Rattle.std.proofs.lemmas.List.FromFn.{length-range_with_len, get_or-range_with_len}
+use Rattle.std.proofs.lemmas.{Int.{ints, clamps}, List.FromFn.{length-range_with_len, get_or-range_with_len}}
 use Rattle.std.proofs.lemmas.Option.{slice_get-get_or}
-use Rattle.lam_geom.specs.declared.boxes.Axis.{Axis}
-use Rattle.lam_geom.specs.declared.boxes.Axis.TheVariants.{X, Y}
-use Rattle.lam_geom.specs.declared.boxes.MaskLayer.TheVariants.{NP}
-use Rattle.rule_table.specs.declared.technology.Tech.{Tech}
+use Rattle.std.specs.{Prelude.{slice_get, slice_index}, List.range_with_len, Int.{int_max, int_min}}
+use Rattle.lam_geom.specs.declared.boxes.{Axis.{Axis, TheVariants.{X, Y}}, MaskLayer.TheVariants.NP}
+use Rattle.rule_table.specs.declared.{technology.Tech.Tech, classes.Class.{Class, TheVariants.{P, Dm, G}}}
 use Rattle.rule_table.specs.Technology.{widest_of}
-use Rattle.rule_table.specs.declared.classes.Class.{Class}
-use Rattle.rule_table.specs.declared.classes.Class.TheVariants.{P, Dm, G}
-use Rattle.cell_model.specs.declared.cell.Axis2.{Axis2}
-use Rattle.cell_model.specs.declared.cell.Axis2.TheVariants.{Across, Up}
+use Rattle.cell_model.specs.declared.cell.Axis2.{Axis2, TheVariants.{Across, Up}}
 use Rattle.cell_model.specs.declared.cell.NodeKind.TheVariants as kinds
-use Rattle.sym_items.specs.declared.items.Coords.{Coords}
-use Rattle.sym_items.specs.declared.items.Item.{Item}
-use Rattle.sym_items.specs.Layouts.{layout_at, size_in}
-use Rattle.sym_items.specs.Sides.{Sides, sides_in, sides_of}
-use Rattle.sym_items.specs.Transposed.{sides_along}
+use Rattle.sym_items.specs.declared.items.{Coords.Coords, Item.Item}
+use Rattle.sym_items.specs.{Layouts.{layout_at, size_in}, Sides.{Sides, sides_in, sides_of}, Transposed.sides_along}
 use Rattle.pair_rules.specs.Bound.{item_at}
 use Rattle.expand.specs.declared.master.Master.{Master}
 use Rattle.buried_contacts.specs.Contacts.{axis_along, common, kind_of}
-use Rattle.plan_model.specs.declared.plan.Plan.{Plan}
-use Rattle.plan_model.specs.Instances.{Spot, master_at_spot, left_of, bottom_of}
+use Rattle.plan_model.specs.{declared.plan.Plan.Plan, Instances.{Spot, master_at_spot, left_of, bottom_of}}
 use Rattle.plan_model.specs.Plan.{grids_of}
 use Rattle.pitch_join.specs.Masters.{master_at}
-use Rattle.grid_rules.specs.Rules.{items_at, shifted_sides}
+use Rattle.grid_rules.specs.{Rules.{items_at, shifted_sides}, Conductors.{Drawn, sides_of_drawn}, Meetings.at}
+use Rattle.grid_rules.specs.{Meetings.{IsOwned, IsTransistorAt, HasBoxes, TransistorsHaveBoxes}, Shapes.Shows}
+use Rattle.grid_rules.specs.{Shapes.sides_in_grains, Sticks.IsTransistor}
+use Rattle.grid_rules.proofs.{NetlistCross.channel_extents, NetlistShapes.{number, shown_below, one_item}}
 use Rattle.mask_out.specs.declared.drawing.Call.{Call}
-use Rattle.crossings.specs.Boxes.{extent, other}
-use Rattle.crossings.specs.declared.crossing.Crossing.{Crossing}
-use Rattle.grid_rules.specs.Conductors.{Drawn, sides_of_drawn}
-use Rattle.grid_rules.specs.Meetings.{at, IsOwned, IsTransistorAt, HasBoxes, TransistorsHaveBoxes}
-use Rattle.grid_rules.specs.Shapes.{Shows, sides_in_grains}
-use Rattle.grid_rules.specs.Sticks.{IsTransistor}
-use Rattle.grid_rules.proofs.NetlistCross.{channel_extents}
-use Rattle.grid_rules.proofs.NetlistShapes.{number, shown_below, one_item}
-use Rattle.design_nets.specs.declared.instances.Instance.{Instance}
-use Rattle.design_nets.specs.declared.node_items.NodeItems.{NodeItems}
-use Rattle.design_nets.specs.declared.shapes.Shape.{Shape}
-use Rattle.design_nets.specs.declared.shapes.Shapes.{Shapes}
-use Rattle.design_nets.specs.declared.transistors.Fet.{Fet}
-use Rattle.design_nets.specs.Instances.{instances_of, spot_no, master_no}
-use Rattle.design_nets.specs.Shapes.{drawn_by, drawn_in, no_shape, shape_no}
-use Rattle.design_nets.specs.Transistors.{IsOf, AreNodeItems, AreItemsOfNodes, IsFetItem, LiesNear, IsLaidOut, cell_shown, item_shown}
-use Rattle.design_nets.proofs.Fets.{shape_among}
-use Rattle.design_nets.proofs.LaidOut.{shape_seen, IsCalled}
-use Rattle.design_nets.proofs.NodeItems.{drawn_within}
-use Rattle.design_nets.proofs.Shown.{own_items, shapes_counted, shape_shows, item_shows}
+use Rattle.crossings.specs.{Boxes.{extent, other}, declared.crossing.Crossing.Crossing}
+use Rattle.design_nets.specs.declared.{instances.Instance.Instance, node_items.NodeItems.NodeItems, shapes.Shape.Shape}
+use Rattle.design_nets.specs.{declared.{shapes.Shapes.Shapes, transistors.Fet.Fet}, Instances.{instances_of, spot_no}}
+use Rattle.design_nets.specs.{Instances.master_no, Shapes.{drawn_by, drawn_in, no_shape, shape_no}, Transistors.IsOf}
+use Rattle.design_nets.specs.Transistors.{AreNodeItems, AreItemsOfNodes, IsFetItem, LiesNear, IsLaidOut, cell_shown}
+use Rattle.design_nets.{specs.Transistors.item_shown, proofs.{Fets.shape_among, LaidOut.{shape_seen, IsCalled}}}
+use Rattle.design_nets.proofs.{NodeItems.drawn_within, Shown.{own_items, shapes_counted, shape_shows, item_shows}}
 use Rattle.design_nets.proofs.Spots.{number_of_spot, instance_stands}
 
 -- a box that begins where another one does or behind, and ends where it does or before

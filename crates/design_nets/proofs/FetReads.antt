@@ -1,37 +1,24 @@
 -- What is read of a box of a diffusion, its instance's call, its master's items and the items of its nodes.
 use Rattle.std.proofs.Common.{◌≡◌, ℕ, ◌+◌, ◌<◌, ◌^◌, pos, List, length, get_or, Some, refl, sym, ap, ◌∙◌, subst, arith}
-use Rattle.std.specs.Prelude.{slice_get, slice_index}
-use Rattle.std.proofs.lemmas.List.{get_or_default}
-use Rattle.std.proofs.lemmas.Option.{slice_get-get_or}
+use Rattle.std.{proofs.lemmas.{List.get_or_default, Option.slice_get-get_or}, specs.Prelude.{slice_get, slice_index}}
 use Rattle.rule_table.specs.declared.technology.Tech.{Tech}
-use Rattle.sym_items.specs.declared.items.Coords.{Coords}
-use Rattle.sym_items.specs.declared.items.Item.{Item}
-use Rattle.sym_items.specs.Boxes.{HasBox}
-use Rattle.sym_items.specs.Layouts.{layout_at}
-use Rattle.sym_items.specs.Sides.{sides_in, sides_of}
+use Rattle.sym_items.specs.declared.items.{Coords.Coords, Item.Item}
+use Rattle.sym_items.specs.{Boxes.HasBox, Layouts.layout_at, Sides.{sides_in, sides_of}}
 use Rattle.pair_rules.specs.Bound.{item_at}
 use Rattle.expand.specs.declared.master.Master.{Master}
-use Rattle.plan_model.specs.declared.plan.Plan.{Plan}
-use Rattle.plan_model.specs.Plan.{grids_of}
+use Rattle.plan_model.specs.{declared.plan.Plan.Plan, Plan.grids_of}
 use Rattle.pitch_join.specs.Masters.{master_at, no_master}
-use Rattle.grid_rules.specs.Rules.{shifted_sides}
+use Rattle.grid_rules.specs.{Rules.shifted_sides, Meetings.{at, TransistorsHaveBoxes}, Shapes.sides_in_grains}
+use Rattle.grid_rules.{specs.Sticks.IsTransistor, proofs.NetlistShapes.shown_below}
 use Rattle.mask_out.specs.declared.drawing.Call.{Call}
 use Rattle.crossings.specs.declared.crossing.Crossing.{Crossing}
-use Rattle.grid_rules.specs.Meetings.{at, TransistorsHaveBoxes}
-use Rattle.grid_rules.specs.Shapes.{sides_in_grains}
-use Rattle.grid_rules.specs.Sticks.{IsTransistor}
-use Rattle.grid_rules.proofs.NetlistShapes.{shown_below}
-use Rattle.design_nets.specs.declared.instances.Instance.{Instance}
-use Rattle.design_nets.specs.declared.node_items.NodeItems.{NodeItems}
-use Rattle.design_nets.specs.declared.shapes.Shape.{Shape}
-use Rattle.design_nets.specs.declared.shapes.Shapes.{Shapes}
-use Rattle.design_nets.specs.declared.transistors.Fet.{Fet}
-use Rattle.design_nets.specs.Instances.{instances_of, no_instance, spot_no, master_no}
-use Rattle.design_nets.specs.Shapes.{drawn_in, shape_no}
+use Rattle.design_nets.specs.declared.{instances.Instance.Instance, node_items.NodeItems.NodeItems, shapes.Shape.Shape}
+use Rattle.design_nets.specs.declared.{shapes.Shapes.Shapes, transistors.Fet.Fet}
+use Rattle.design_nets.specs.{Instances.{instances_of, no_instance, spot_no, master_no}, Shapes.{drawn_in, shape_no}}
 use Rattle.design_nets.specs.Transistors.{AreItemsOfNodes, IsFetItem, IsLaidOut, LiesNear, cell_shown, item_shown}
-use Rattle.design_nets.proofs.FetBoxes.{channel_within, polys_counted, channels_counted, poly_shown, channel_near, transistor_is}
-use Rattle.design_nets.proofs.LaidOut.{instances_among, shape_seen, IsCalled, called, calls_counted, has_box}
-use Rattle.design_nets.proofs.Shown.{shapes_counted}
+use Rattle.design_nets.proofs.FetBoxes.{channel_within, polys_counted, channels_counted, poly_shown, channel_near}
+use Rattle.design_nets.proofs.{FetBoxes.transistor_is, LaidOut.{instances_among, shape_seen, IsCalled, called}}
+use Rattle.design_nets.proofs.{LaidOut.{calls_counted, has_box}, Shown.shapes_counted}
 
 abbrev pub no_call : Call
 no_call = record { symbol = 0; x = pos 0; y = pos 0 }

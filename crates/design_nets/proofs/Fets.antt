@@ -1,19 +1,13 @@
 -- The transistor of which a box shows the diffusion: its instance, its poly and its channel.
-use Rattle.std.proofs.Common.{◌≡◌, ℕ, ◌<◌, List, length, refl, sym, ap, ◌∙◌, subst, arith}
-use Rattle.std.specs.Prelude.{slice_index}
-use Rattle.std.specs.List.{All}
-use Rattle.std.proofs.lemmas.List.{length-map, get_or-map}
+use Rattle.std.proofs.{Common.{◌≡◌, ℕ, ◌<◌, List, length, refl, sym, ap, ◌∙◌, subst, arith}, lemmas.List.length-map}
+use Rattle.std.{proofs.lemmas.List.get_or-map, specs.{Prelude.slice_index, List.All}}
 use Rattle.sym_items.specs.declared.items.Item.{Item}
 use Rattle.expand.specs.declared.master.Master.{Master}
 use Rattle.pitch_join.specs.Masters.{master_at}
-use Rattle.design_nets.specs.declared.instances.Instance.{Instance}
-use Rattle.design_nets.specs.declared.shapes.Shape.{Shape}
-use Rattle.design_nets.specs.Firsts.{together}
-use Rattle.design_nets.specs.Instances.{no_instance, master_no}
-use Rattle.design_nets.specs.Pieces.{IsShapeOf}
-use Rattle.design_nets.specs.Shapes.{shape, drawn_in, shapes_in, no_shape, shape_no, AreShapesOf}
-use Rattle.design_nets.proofs.Lists.{together_split, together_read}
-use Rattle.design_nets.proofs.NodeItems.{drawn_within}
+use Rattle.design_nets.specs.declared.{instances.Instance.Instance, shapes.Shape.Shape}
+use Rattle.design_nets.specs.{Firsts.together, Instances.{no_instance, master_no}, Pieces.IsShapeOf, Shapes.shape}
+use Rattle.design_nets.specs.Shapes.{drawn_in, shapes_in, no_shape, shape_no, AreShapesOf}
+use Rattle.design_nets.proofs.{Lists.{together_split, together_read}, NodeItems.drawn_within}
 
 -- ---- shapes are items of instances
 

@@ -1,42 +1,23 @@
 -- There are no more than twice as many nets of instances as boxes, and twice as many pieces.
-use Rattle.std.proofs.Common.{◌≡◌, ℕ, zero, suc, ◌*◌, ◌<◌, ◌≤◌, List, [], ◌∷◌, length, filter, refl, sym, ap, ◌∙◌, arith, length-append, add-one}
+use Rattle.std.proofs.Common.{◌≡◌, ℕ, zero, suc, ◌*◌, ◌<◌, ◌≤◌, List, [], ◌∷◌, length, filter, refl, sym, ap, ◌∙◌}
+use Rattle.std.proofs.Common.{arith, length-append, add-one}
+use Rattle.std.proofs.lemmas.List.{length-map, FromFn.length-map-range_with_len, Sums.sum_by-cons}
 use Rattle.std.specs.List.{All, flat_map, range_with_len, sum_by}
-use Rattle.std.proofs.lemmas.List.{length-map}
-use Rattle.std.proofs.lemmas.List.FromFn.{length-map-range_with_len}
-use Rattle.std.proofs.lemmas.List.Sums.{sum_by-cons}
 use Rattle.lam_geom.specs.declared.boxes.MaskLayer.{MaskLayer}
 use Rattle.rule_table.specs.declared.technology.Tech.{Tech}
-use Rattle.sym_items.specs.declared.items.Coords.{Coords}
-use Rattle.sym_items.specs.declared.items.Item.{Item}
-use Rattle.sym_items.specs.declared.items.Items.{Items}
-use Rattle.sym_items.specs.Layouts.{no_layout}
-use Rattle.cell_model.specs.declared.cell.Cell.{Cell}
-use Rattle.cell_model.specs.declared.cell.Nets.{Nets}
-use Rattle.cell_model.specs.declared.cell.Node.{Node}
-use Rattle.cell_model.specs.declared.cell.NodeKind.{NodeKind}
-use Rattle.cell_model.specs.declared.cell.NodeKind.TheVariants.{Joint, Contact, Buried, Fet}
-use Rattle.cell_model.specs.Counts.{implants, kind_boxes, node_boxes, boxes_in}
-use Rattle.cell_model.specs.Nets.{kind_parts, node_parts, parts_of}
-use Rattle.expand.specs.declared.master.Master.{Master}
-use Rattle.expand.specs.Items.{item_list}
-use Rattle.expand.specs.Masters.{IsMaster}
+use Rattle.sym_items.specs.{declared.items.{Coords.Coords, Item.Item, Items.Items}, Layouts.no_layout}
+use Rattle.cell_model.specs.declared.cell.{Cell.Cell, Nets.Nets, Node.Node, NodeKind.{NodeKind, TheVariants.Joint}}
+use Rattle.cell_model.specs.{declared.cell.NodeKind.TheVariants.{Contact, Buried, Fet}, Counts.{implants, kind_boxes}}
+use Rattle.cell_model.specs.{Counts.{node_boxes, boxes_in}, Nets.{kind_parts, node_parts, parts_of}}
+use Rattle.expand.specs.{declared.master.Master.Master, Items.item_list, Masters.IsMaster}
 use Rattle.pair_rules.specs.Bound.{item_at, no_item}
 use Rattle.pitch_join.specs.Masters.{master_at, no_master}
-use Rattle.mask_out.specs.Masks.{is_drawn, masks_on, mask_layers, masks_in}
-use Rattle.mask_out.proofs.Counted.{boxes_counted}
-use Rattle.grid_rules.specs.Shapes.{items_on, drawn_items}
-use Rattle.grid_rules.proofs.PictureLists.{picked_images, by_numbers}
-use Rattle.design_nets.specs.declared.instances.Instance.{Instance}
-use Rattle.design_nets.specs.declared.shapes.Shape.{Shape}
-use Rattle.design_nets.specs.Firsts.{together}
-use Rattle.design_nets.specs.Instances.{master_no}
-use Rattle.design_nets.specs.Joining.{own_net, net_count, nets_in}
-use Rattle.design_nets.specs.Nets.{nets_no, AreNetsOfAll}
-use Rattle.design_nets.specs.Pieces.{pieces_in}
-use Rattle.design_nets.specs.Shapes.{shape, shape_no, drawn_in, shapes_in}
-use Rattle.design_nets.proofs.Boxes.{few_pieces}
-use Rattle.design_nets.proofs.Counted.{count_few}
-use Rattle.design_nets.proofs.Lists.{together_more}
+use Rattle.mask_out.{specs.Masks.{is_drawn, masks_on, mask_layers, masks_in}, proofs.Counted.boxes_counted}
+use Rattle.grid_rules.{specs.Shapes.{items_on, drawn_items}, proofs.PictureLists.{picked_images, by_numbers}}
+use Rattle.design_nets.specs.{declared.{instances.Instance.Instance, shapes.Shape.Shape}, Firsts.together}
+use Rattle.design_nets.specs.{Instances.master_no, Joining.{own_net, net_count, nets_in}, Nets.{nets_no, AreNetsOfAll}}
+use Rattle.design_nets.specs.{Pieces.pieces_in, Shapes.{shape, shape_no, drawn_in, shapes_in}}
+use Rattle.design_nets.proofs.{Boxes.few_pieces, Counted.count_few, Lists.together_more}
 
 -- ---- lists, one after another
 

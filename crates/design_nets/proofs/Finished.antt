@@ -1,31 +1,18 @@
 -- The boxes of finished layouts that can be drawn lie near.
-use Rattle.std.proofs.Common.{ℕ, ◌^◌, ◌<◌, pos, ◌≤ℤ◌, List, length, get_or, refl, arith}
-use Rattle.std.specs.Prelude.{slice_index}
-use Rattle.std.proofs.lemmas.Int.{ints}
-use Rattle.std.proofs.lemmas.List.Elements.{Contains-get_or}
+use Rattle.std.proofs.{Common.{ℕ, ◌^◌, ◌<◌, pos, ◌≤ℤ◌, List, length, get_or, refl, arith}, lemmas.Int.ints}
+use Rattle.std.{proofs.lemmas.List.Elements.Contains-get_or, specs.Prelude.slice_index}
 use Rattle.lam_geom.specs.declared.boxes.Axis.TheVariants.{X, Y}
-use Rattle.rule_table.specs.declared.technology.Tech.{Tech}
-use Rattle.rule_table.specs.Technology.{widest_of}
-use Rattle.sym_items.specs.declared.items.Coords.{Coords}
-use Rattle.sym_items.specs.declared.items.Item.{Item}
-use Rattle.sym_items.specs.Layouts.{value_in, size_in}
+use Rattle.rule_table.specs.{declared.technology.Tech.Tech, Technology.widest_of}
+use Rattle.sym_items.specs.{declared.items.{Coords.Coords, Item.Item}, Layouts.{value_in, size_in}}
 use Rattle.pair_rules.specs.Bound.{item_at, no_item}
 use Rattle.expand.specs.declared.master.Master.{Master}
-use Rattle.plan_model.specs.declared.plan.Plan.{Plan}
-use Rattle.plan_model.specs.Instances.{grid_at, master_at_spot, row_height}
-use Rattle.plan_model.specs.Plan.{grids_of}
+use Rattle.plan_model.specs.{declared.plan.Plan.Plan, Instances.{grid_at, master_at_spot, row_height}, Plan.grids_of}
 use Rattle.plan_model.specs.Rows.{row_at}
 use Rattle.pitch_join.specs.Masters.{master_at}
-use Rattle.grid_rules.specs.Planned.{AreOfPlan}
-use Rattle.grid_rules.specs.Rules.{AreFinished}
-use Rattle.grid_rules.proofs.Gaps.{grids_laid}
-use Rattle.grid_rules.proofs.InCell.{items_between}
-use Rattle.grid_rules.proofs.Meeting.{master_among, master_is}
-use Rattle.mask_out.specs.Pictures.{IsDrawable}
-use Rattle.mask_out.proofs.Totals.{past_instance, past_row}
-use Rattle.design_nets.specs.Shapes.{drawn_in}
-use Rattle.design_nets.specs.Transistors.{BoxesLieNear}
-use Rattle.design_nets.proofs.NodeItems.{drawn_within}
+use Rattle.grid_rules.specs.{Planned.AreOfPlan, Rules.AreFinished}
+use Rattle.grid_rules.proofs.{Gaps.grids_laid, InCell.items_between, Meeting.{master_among, master_is}}
+use Rattle.mask_out.{specs.Pictures.IsDrawable, proofs.Totals.{past_instance, past_row}}
+use Rattle.design_nets.{specs.{Shapes.drawn_in, Transistors.BoxesLieNear}, proofs.NodeItems.drawn_within}
 
 pub finished_near : (tech : Tech) (plan : Plan) (masters : List Master) (layouts : List Coords) → AreOfPlan tech plan masters → AreFinished tech plan masters layouts
     → IsDrawable (size_in X layouts) (size_in Y layouts) (widest_of tech) (grids_of plan) → BoxesLieNear plan masters layouts

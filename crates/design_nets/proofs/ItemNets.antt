@@ -1,29 +1,16 @@
 -- The nets of the items of a master are among those that are counted, and there are no more than twice as many as boxes.
 use Rattle.std.proofs.Common.{◌≡◌, ℕ, ◌+◌, ◌<◌, ℤ, Bool, true, false, List, [], ◌∷◌, length, map, sym, subst, arith}
-use Rattle.std.specs.Prelude.{slice_index}
-use Rattle.std.specs.List.{flat_map, range_with_len, AllByRecursion}
-use Rattle.rule_table.specs.declared.technology.Tech.{Tech}
-use Rattle.rule_table.specs.declared.classes.Layer.{Layer}
-use Rattle.rule_table.specs.declared.classes.Layer.TheVariants.{Diffusion, Poly, Metal}
-use Rattle.sym_items.specs.declared.items.Item.{Item}
-use Rattle.sym_items.specs.declared.items.Items.{Items}
-use Rattle.cell_model.specs.declared.cell.Axis2.{Axis2}
-use Rattle.cell_model.specs.declared.cell.Axis2.TheVariants.{Across, Up}
-use Rattle.cell_model.specs.declared.cell.Cell.{Cell}
-use Rattle.cell_model.specs.declared.cell.Nets.{Nets}
-use Rattle.cell_model.specs.declared.cell.NodeKind.{NodeKind}
-use Rattle.cell_model.specs.declared.cell.NodeKind.TheVariants.{Joint, Contact, Buried, Fet}
-use Rattle.cell_model.specs.declared.cell.NodeNets.{NodeNets}
-use Rattle.cell_model.specs.declared.cell.Wire.{Wire}
-use Rattle.cell_model.specs.Nets.{kind_parts, first_part, nets_of_kind, AreNets}
-use Rattle.cell_model.specs.Sound.{node_at, wire_at}
+use Rattle.std.specs.{Prelude.slice_index, List.{flat_map, range_with_len, AllByRecursion}}
+use Rattle.rule_table.specs.declared.{technology.Tech.Tech, classes.Layer.{Layer, TheVariants.{Diffusion, Poly, Metal}}}
+use Rattle.sym_items.specs.declared.items.{Item.Item, Items.Items}
+use Rattle.cell_model.specs.declared.cell.{Axis2.{Axis2, TheVariants.{Across, Up}}, Cell.Cell, Nets.Nets}
+use Rattle.cell_model.specs.declared.cell.NodeKind.{NodeKind, TheVariants.{Joint, Contact, Buried, Fet}}
+use Rattle.cell_model.specs.declared.cell.{NodeNets.NodeNets, Wire.Wire}
+use Rattle.cell_model.specs.{Nets.{kind_parts, first_part, nets_of_kind, AreNets}, Sound.{node_at, wire_at}}
 use Rattle.cell_nets.proofs.Determined.{nets_same}
-use Rattle.expand.specs.declared.master.Master.{Master}
-use Rattle.expand.specs.Masters.{IsMaster}
-use Rattle.expand.specs.Items.{nets_at, items_of_node, items_of_wire, item_list}
-use Rattle.expand.specs.NodeItems.{item_running, on_layer, channel_items, kind_items}
-use Rattle.expand.specs.Variables.{half, cross_of}
-use Rattle.expand.specs.WireItems.{low_end_of, high_end_of, contact_at, run_item, wire_items}
+use Rattle.expand.specs.{declared.master.Master.Master, Masters.IsMaster, Items.{nets_at, items_of_node, items_of_wire}}
+use Rattle.expand.specs.{Items.item_list, NodeItems.{item_running, on_layer, channel_items, kind_items}, Variables.half}
+use Rattle.expand.specs.{Variables.cross_of, WireItems.{low_end_of, high_end_of, contact_at, run_item, wire_items}}
 use Rattle.list_facts.proofs.Elements.{all_append, all_flat, all_numbers}
 use Rattle.grid_rules.proofs.ChainParts.{parts_within, node_nets_are}
 use Rattle.design_nets.proofs.Counted.{part_below, wire_below, wire_count}

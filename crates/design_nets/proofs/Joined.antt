@@ -1,24 +1,20 @@
 -- Nets of instances that ports join are those that chains of links reach.
-use Rattle.std.proofs.Common.{◌≡◌, ℕ, zero, suc, ◌+◌, ◌<◌, ◌≤◌, List, [], ◌++◌, length, take, Contains, Some, inl, inr, refl, sym, ap, ◌∙◌, subst, arith, length-append}
-use Rattle.std.specs.Prelude.{slice_get, slice_index}
-use Rattle.std.specs.List.{All}
+use Rattle.std.proofs.Common.{◌≡◌, ℕ, zero, suc, ◌+◌, ◌<◌, ◌≤◌, List, [], ◌++◌, length, take, Contains, Some, inl, inr}
+use Rattle.std.proofs.Common.{refl, sym, ap, ◌∙◌, subst, arith, length-append}
 use Rattle.std.proofs.lemmas.List.{get_or_append_left, get_or-append-add, get_or-take, take-take, length-take-le}
 use Rattle.std.proofs.lemmas.List.FromFn.{length-map-range_with_len, get_or-map-range_with_len}
 use Rattle.std.proofs.lemmas.Option.{slice_get_within, slice_get-get_or, get_or_from_slice_get}
-use Rattle.lam_geom.specs.declared.boxes.Axis.{Axis}
-use Rattle.lam_geom.specs.declared.boxes.Axis.TheVariants.{X, Y}
+use Rattle.std.specs.{Prelude.{slice_get, slice_index}, List.All}
+use Rattle.lam_geom.specs.declared.boxes.Axis.{Axis, TheVariants.{X, Y}}
 use Rattle.cell_model.specs.declared.cell.Nets.{Nets}
 use Rattle.graph_search.specs.Netting.{Attached, Chain, Reaches, next_net, IsNumberedInOrder, IsNetting}
 use Rattle.graph_search.proofs.Chains.{reaches_none, reaches_one, reaches_more, reaches_trans}
 use Rattle.plan_model.specs.declared.plan.Plan.{Plan}
-use Rattle.design_nets.specs.declared.instances.Instance.{Instance}
-use Rattle.design_nets.specs.declared.owners.OwnNet.{OwnNet}
-use Rattle.design_nets.specs.Firsts.{together, AreFirsts}
-use Rattle.design_nets.specs.Joining.{own_net, net_count, nets_in, IsOwn, HaveNets, Meet, AreJoined, same, forth, back, AreNetNumbers}
-use Rattle.design_nets.specs.Linking.{number_of, AreAdded, IsPieceLink, IsMeetLink, IsLink, of_piece, of_ports, AreAllLinks}
-use Rattle.design_nets.proofs.AxisLinks.{meeting_before, meeting_behind}
-use Rattle.design_nets.proofs.Lists.{together_get}
-use Rattle.design_nets.proofs.NetNumbers.{number_within}
+use Rattle.design_nets.specs.declared.{instances.Instance.Instance, owners.OwnNet.OwnNet}
+use Rattle.design_nets.specs.{Firsts.{together, AreFirsts}, Joining.{own_net, net_count, nets_in, IsOwn, HaveNets}}
+use Rattle.design_nets.specs.{Joining.{Meet, AreJoined, same, forth, back, AreNetNumbers}, Linking.number_of}
+use Rattle.design_nets.specs.Linking.{AreAdded, IsPieceLink, IsMeetLink, IsLink, of_piece, of_ports, AreAllLinks}
+use Rattle.design_nets.proofs.{AxisLinks.{meeting_before, meeting_behind}, Lists.together_get, NetNumbers.number_within}
 
 module _ (plan : Plan) (nets : List Nets) (instances : List Instance) where
   -- ---- chains of ports

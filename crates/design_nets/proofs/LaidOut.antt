@@ -1,34 +1,19 @@
 -- What is read of a plan that is laid out: the call and the place of each instance, and that each item has a box.
 use Rattle.std.proofs.Common.{◌≡◌, ℕ, ◌^◌, ◌<◌, pos, ◌≤ℤ◌, List, length, get_or, refl, sym, ap, ◌∙◌, subst, arith}
-use Rattle.std.specs.List.{All}
-use Rattle.std.proofs.lemmas.Int.{ints}
-use Rattle.std.proofs.lemmas.List.{length-map, get_or-map}
-use Rattle.std.proofs.lemmas.List.Elements.{All-from_get_or}
-use Rattle.std.proofs.lemmas.Option.{slice_get_within, get_or_from_slice_get}
+use Rattle.std.proofs.lemmas.{Int.ints, List.{length-map, get_or-map, Elements.All-from_get_or}}
+use Rattle.std.{proofs.lemmas.Option.{slice_get_within, get_or_from_slice_get}, specs.List.All}
 use Rattle.lam_geom.specs.declared.boxes.Axis.TheVariants.{X, Y}
-use Rattle.rule_table.specs.declared.technology.Tech.{Tech}
-use Rattle.rule_table.specs.Technology.{widest_of}
-use Rattle.sym_items.specs.declared.items.Coords.{Coords}
-use Rattle.sym_items.specs.Boxes.{HasBox}
-use Rattle.sym_items.specs.Layouts.{layout_at, size_in}
+use Rattle.rule_table.specs.{declared.technology.Tech.Tech, Technology.widest_of}
+use Rattle.sym_items.specs.{declared.items.Coords.Coords, Boxes.HasBox, Layouts.{layout_at, size_in}}
 use Rattle.pair_rules.specs.Bound.{item_at, no_item}
 use Rattle.expand.specs.declared.master.Master.{Master}
-use Rattle.plan_model.specs.declared.plan.Plan.{Plan}
-use Rattle.plan_model.specs.Instances.{Spot, spots_of}
-use Rattle.plan_model.specs.Plan.{grids_of}
+use Rattle.plan_model.specs.{declared.plan.Plan.Plan, Instances.{Spot, spots_of}, Plan.grids_of}
 use Rattle.pitch_join.specs.Masters.{master_at, no_master}
-use Rattle.grid_rules.specs.Planned.{AreOfPlan}
-use Rattle.grid_rules.proofs.Meeting.{master_among}
-use Rattle.mask_out.specs.declared.drawing.Call.{Call}
-use Rattle.mask_out.specs.Pictures.{call_at}
-use Rattle.design_nets.specs.declared.instances.Instance.{Instance}
-use Rattle.design_nets.specs.declared.shapes.Shapes.{Shapes}
-use Rattle.design_nets.specs.Instances.{instance_at, instances_of, no_instance, spot_no, master_no}
-use Rattle.design_nets.specs.Pieces.{IsShapeOf}
-use Rattle.design_nets.specs.Shapes.{shape_no}
-use Rattle.design_nets.specs.Transistors.{IsLaidOut}
-use Rattle.design_nets.proofs.Fets.{shape_of}
-use Rattle.design_nets.proofs.Spots.{instance_stands}
+use Rattle.grid_rules.{specs.Planned.AreOfPlan, proofs.Meeting.master_among}
+use Rattle.mask_out.specs.{declared.drawing.Call.Call, Pictures.call_at}
+use Rattle.design_nets.specs.{declared.{instances.Instance.Instance, shapes.Shapes.Shapes}, Instances.instance_at}
+use Rattle.design_nets.specs.{Instances.{instances_of, no_instance, spot_no, master_no}, Pieces.IsShapeOf}
+use Rattle.design_nets.{specs.{Shapes.shape_no, Transistors.IsLaidOut}, proofs.{Fets.shape_of, Spots.instance_stands}}
 
 -- the instances are of masters
 pub instances_among : (tech : Tech) (plan : Plan) (masters : List Master) → AreOfPlan tech plan masters → All (λ (i : Instance). i.master < length masters) (instances_of (grids_of plan))

@@ -1,14 +1,10 @@
 -- One more link of a piece, or of a list.
-use Rattle.std.proofs.Common.{◌≡◌, ℕ, ◌+◌, ◌<◌, List, [], ◌∷◌, ◌++◌, length, get_or, take, Contains, Some, inl, inr, refl, sym, ap, ◌∙◌, subst, arith}
-use Rattle.std.specs.Prelude.{slice_get}
-use Rattle.std.proofs.lemmas.Bool.{cases_lt}
-use Rattle.std.proofs.lemmas.List.{take_more}
+use Rattle.std.proofs.Common.{◌≡◌, ℕ, ◌+◌, ◌<◌, List, [], ◌∷◌, ◌++◌, length, get_or, take, Contains, Some, inl, inr}
+use Rattle.std.proofs.{Common.{refl, sym, ap, ◌∙◌, subst, arith}, lemmas.{Bool.cases_lt, List.take_more}}
 use Rattle.std.proofs.lemmas.List.Elements.{Contains-append_left, Contains-push, Contains-push_cases}
-use Rattle.std.proofs.lemmas.Option.{slice_get_within}
-use Rattle.design_nets.specs.declared.meetings.Meeting.{Meeting}
-use Rattle.design_nets.specs.declared.owners.OwnNet.{OwnNet}
-use Rattle.design_nets.specs.Linking.{number_of, AreAdded, IsPieceLink, IsListedLink}
-use Rattle.design_nets.proofs.Added.{added_push, added_same}
+use Rattle.std.{proofs.lemmas.Option.slice_get_within, specs.Prelude.slice_get}
+use Rattle.design_nets.specs.{declared.{meetings.Meeting.Meeting, owners.OwnNet.OwnNet}, Linking.{number_of, AreAdded}}
+use Rattle.design_nets.{specs.Linking.{IsPieceLink, IsListedLink}, proofs.Added.{added_push, added_same}}
 
 -- ---- pieces
 

@@ -1,17 +1,11 @@
 -- The numbers of the nets of instances.
 use Rattle.std.proofs.Common.{◌≡◌, ℕ, ◌+◌, ◌^◌, ◌<◌, List, length, get_or, ap, ◌∙◌, arith, length-append}
-use Rattle.std.specs.Prelude.{slice_index}
-use Rattle.std.specs.List.{All}
-use Rattle.std.proofs.lemmas.List.{get_or_default}
-use Rattle.std.proofs.lemmas.List.FromFn.{length-map-range_with_len}
+use Rattle.std.proofs.lemmas.List.{get_or_default, FromFn.length-map-range_with_len}
+use Rattle.std.specs.{Prelude.slice_index, List.All}
 use Rattle.cell_model.specs.declared.cell.Nets.{Nets}
-use Rattle.design_nets.specs.declared.instances.Instance.{Instance}
-use Rattle.design_nets.specs.declared.owners.OwnNet.{OwnNet}
-use Rattle.design_nets.specs.Firsts.{together, AreFirsts}
-use Rattle.design_nets.specs.Instances.{no_instance, master_no}
-use Rattle.design_nets.specs.Joining.{own_net, net_count, nets_in, IsOwn}
-use Rattle.design_nets.specs.Linking.{number_of, AreNetFirsts}
-use Rattle.design_nets.specs.Nets.{no_nets}
+use Rattle.design_nets.specs.declared.{instances.Instance.Instance, owners.OwnNet.OwnNet}
+use Rattle.design_nets.specs.{Firsts.{together, AreFirsts}, Instances.{no_instance, master_no}, Joining.own_net}
+use Rattle.design_nets.specs.{Joining.{net_count, nets_in, IsOwn}, Linking.{number_of, AreNetFirsts}, Nets.no_nets}
 use Rattle.design_nets.proofs.Lists.{together_more, together_within}
 
 module _ (nets : List Nets) (instances : List Instance) where

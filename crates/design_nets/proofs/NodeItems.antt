@@ -1,12 +1,10 @@
 -- The items of nodes that are found one by one.
-use Rattle.std.proofs.Common.{◌≡◌, ℕ, ◌+◌, ◌<◌, ◌≤◌, Bool, true, false, cond, filter, List, [], ◌∷◌, ◌++◌, length, set, Some, sym, ap, ◌∙◌, subst, arith, inl, inr, get_or-set_same, get_or-set_other}
-use Rattle.std.specs.Prelude.{slice_get, slice_index}
-use Rattle.std.specs.List.{All, AllByRecursion, range_with_len}
-use Rattle.std.proofs.lemmas.Bool.{cases_eq, cases_lt}
-use Rattle.std.proofs.lemmas.List.{length-set, length_push, get_or_append_left, get_or_push}
-use Rattle.std.proofs.lemmas.Option.{slice_get_within, slice_get-get_or, get_or_from_slice_get}
-use Rattle.lam_geom.specs.declared.boxes.MaskLayer.{MaskLayer}
-use Rattle.lam_geom.specs.declared.boxes.MaskLayer.TheVariants.{ND, NP, NC, NM, NI, NB}
+use Rattle.std.proofs.Common.{◌≡◌, ℕ, ◌+◌, ◌<◌, ◌≤◌, Bool, true, false, cond, filter, List, [], ◌∷◌, ◌++◌, length, set}
+use Rattle.std.proofs.Common.{Some, sym, ap, ◌∙◌, subst, arith, inl, inr, get_or-set_same, get_or-set_other}
+use Rattle.std.proofs.lemmas.{Bool.{cases_eq, cases_lt}, List.{length-set, length_push, get_or_append_left}}
+use Rattle.std.proofs.lemmas.{List.get_or_push, Option.{slice_get_within, slice_get-get_or, get_or_from_slice_get}}
+use Rattle.std.specs.{Prelude.{slice_get, slice_index}, List.{All, AllByRecursion, range_with_len}}
+use Rattle.lam_geom.specs.declared.boxes.MaskLayer.{MaskLayer, TheVariants.{ND, NP, NC, NM, NI, NB}}
 use Rattle.rule_table.specs.declared.classes.Class.{Class}
 use Rattle.sym_items.specs.declared.items.Item.{Item}
 use Rattle.list_facts.proofs.Elements.{all_flat, all_numbers, all_of}
@@ -15,8 +13,7 @@ use Rattle.expand.specs.declared.master.Master.{Master}
 use Rattle.pitch_join.specs.Masters.{master_at}
 use Rattle.mask_out.specs.Masks.{is_drawn, mask_layers}
 use Rattle.grid_rules.specs.Shapes.{items_on, drawn_items}
-use Rattle.design_nets.specs.declared.node_items.NodeItems.{NodeItems}
-use Rattle.design_nets.specs.Transistors.{IsOf, AreOfOwners, AreNodeItems}
+use Rattle.design_nets.specs.{declared.node_items.NodeItems.NodeItems, Transistors.{IsOf, AreOfOwners, AreNodeItems}}
 
 -- for each of the first owners that has an item among the first, the position of one
 pub record AreFound (items : List Item) (among : List ℕ) (class : Class) (count passed : ℕ) (places : List ℕ) : Type 0 where

@@ -1,42 +1,24 @@
 -- The net of each piece is one of its instance.
-use Rattle.std.proofs.Common.{◌≡◌, ℕ, ◌<◌, Bool, true, false, List, length, map, get_or, refl, sym, subst, arith, inl, inr}
-use Rattle.std.specs.Prelude.{nat_lt}
-use Rattle.std.specs.List.{All}
-use Rattle.std.proofs.lemmas.Bool.{ltb-true, and_parts}
-use Rattle.std.proofs.lemmas.List.{length-map, get_or-map}
-use Rattle.std.proofs.lemmas.List.Elements.{All-from_get_or}
-use Rattle.std.proofs.lemmas.Option.{slice_get-get_or}
-use Rattle.lam_geom.specs.declared.boxes.MaskLayer.{MaskLayer}
-use Rattle.lam_geom.specs.declared.boxes.MaskLayer.TheVariants.{ND, NP, NC, NM, NI, NB}
+use Rattle.std.proofs.Common.{◌≡◌, ℕ, ◌<◌, Bool, true, false, List, length, map, get_or, refl, sym, subst, arith, inl}
+use Rattle.std.proofs.{Common.inr, lemmas.{Bool.{ltb-true, and_parts}, List.{length-map, get_or-map}}}
+use Rattle.std.proofs.lemmas.{List.Elements.All-from_get_or, Option.slice_get-get_or}
+use Rattle.std.specs.{Prelude.nat_lt, List.All}
+use Rattle.lam_geom.specs.declared.boxes.MaskLayer.{MaskLayer, TheVariants.{ND, NP, NC, NM, NI, NB}}
 use Rattle.rule_table.specs.declared.technology.Tech.{Tech}
-use Rattle.cell_model.specs.declared.cell.Nets.{Nets}
-use Rattle.cell_model.specs.Sound.{node_at}
+use Rattle.cell_model.specs.{declared.cell.Nets.Nets, Sound.node_at}
 use Rattle.sym_items.specs.declared.items.Item.{Item}
-use Rattle.expand.specs.declared.master.Master.{Master}
-use Rattle.expand.specs.Items.{nets_at}
-use Rattle.expand.specs.Masters.{IsMaster}
+use Rattle.expand.specs.{declared.master.Master.Master, Items.nets_at, Masters.IsMaster}
 use Rattle.list_facts.proofs.Elements.{all_at}
 use Rattle.pair_rules.specs.Bound.{item_at, no_item}
-use Rattle.plan_model.specs.declared.plan.Plan.{Plan}
-use Rattle.plan_model.specs.Plan.{grids_of}
+use Rattle.plan_model.specs.{declared.plan.Plan.Plan, Plan.grids_of}
 use Rattle.pitch_join.specs.Masters.{master_at, no_master}
-use Rattle.grid_rules.specs.Planned.{AreOfPlan}
-use Rattle.net_extract.specs.declared.netlist.Part.{Part}
-use Rattle.net_extract.specs.declared.netlist.Part.TheVariants.{Whole, Low, High}
-use Rattle.net_extract.specs.Places.{parts_on}
-use Rattle.grid_rules.specs.Sticks.{is_transistor}
-use Rattle.grid_rules.proofs.NetlistLists.{Has}
-use Rattle.design_nets.specs.declared.instances.Instance.{Instance}
-use Rattle.design_nets.specs.declared.owners.OwnNet.{OwnNet}
-use Rattle.design_nets.specs.declared.pieces.Placed.{Placed}
-use Rattle.design_nets.specs.declared.shapes.Shape.{Shape}
-use Rattle.design_nets.specs.Instances.{instances_of, master_no}
-use Rattle.design_nets.specs.Joining.{IsOwn}
-use Rattle.design_nets.specs.Nets.{nets_no, AreNetsOfAll}
-use Rattle.design_nets.specs.Pieces.{layer_shown, is_fet, part_net, placed, parts_of_item, own_of, ArePiecesOf, IsShapeOf}
-use Rattle.design_nets.specs.Shapes.{shape_no, AreShapesOf}
-use Rattle.design_nets.proofs.ItemNets.{HasNetBelow, AreBelow, node_below, items_below}
-use Rattle.design_nets.proofs.Placed.{piece_is}
+use Rattle.grid_rules.{specs.{Planned.AreOfPlan, Sticks.is_transistor}, proofs.NetlistLists.Has}
+use Rattle.net_extract.specs.{declared.netlist.Part.{Part, TheVariants.{Whole, Low, High}}, Places.parts_on}
+use Rattle.design_nets.specs.declared.{instances.Instance.Instance, owners.OwnNet.OwnNet, pieces.Placed.Placed}
+use Rattle.design_nets.specs.{declared.shapes.Shape.Shape, Instances.{instances_of, master_no}, Joining.IsOwn}
+use Rattle.design_nets.specs.{Nets.{nets_no, AreNetsOfAll}, Pieces.{layer_shown, is_fet, part_net, placed}}
+use Rattle.design_nets.specs.{Pieces.{parts_of_item, own_of, ArePiecesOf, IsShapeOf}, Shapes.{shape_no, AreShapesOf}}
+use Rattle.design_nets.proofs.{ItemNets.{HasNetBelow, AreBelow, node_below, items_below}, Placed.piece_is}
 
 -- only transistors have a low and a high part
 split_crossed : (layer : MaskLayer) (crossed : Bool) (part : Part) → Has (parts_on layer crossed) part → (part ≡ Whole → ⊥) → crossed ≡ true

@@ -1,41 +1,24 @@
 -- The pieces of the boxes stand where those of the sticks do, and are of their nets.
 use Rattle.std.proofs.Common.{◌≡◌, ℕ, ◌<◌, List, length, map, get_or, Option, Some, sym, ap, ◌∙◌, subst, arith}
-use Rattle.std.specs.Prelude.{slice_get, option_map}
-use Rattle.std.specs.List.{range_with_len}
 use Rattle.std.proofs.lemmas.Option.{slice_get_within, slice_get-get_or, slice_get-map, get_or_from_slice_get}
-use Rattle.std.proofs.lemmas.Simd.{map-map}
+use Rattle.std.{proofs.lemmas.Simd.map-map, specs.{Prelude.{slice_get, option_map}, List.range_with_len}}
 use Rattle.cell_model.specs.declared.cell.Nets.{Nets}
 use Rattle.sym_items.specs.declared.items.Item.{Item}
-use Rattle.expand.specs.declared.master.Master.{Master}
-use Rattle.expand.specs.Items.{nets_at}
+use Rattle.expand.specs.{declared.master.Master.Master, Items.nets_at}
 use Rattle.pair_rules.specs.Bound.{item_at}
-use Rattle.plan_model.specs.declared.plan.Plan.{Plan}
-use Rattle.plan_model.specs.Instances.{Spot, master_at_spot}
-use Rattle.plan_model.specs.Plan.{grids_of}
+use Rattle.plan_model.specs.{declared.plan.Plan.Plan, Instances.{Spot, master_at_spot}, Plan.grids_of}
 use Rattle.plan_model.specs.GridNets.{IsOneNet}
 use Rattle.pitch_join.specs.Masters.{master_at, ports_of_masters}
-use Rattle.net_extract.specs.declared.netlist.Part.{Part}
-use Rattle.net_extract.specs.declared.netlist.Part.TheVariants.{Whole, Low, High}
-use Rattle.net_extract.specs.Places.{Place, place}
-use Rattle.grid_rules.specs.Conductors.{Drawn, item_of}
-use Rattle.grid_rules.specs.Shapes.{Shows}
-use Rattle.grid_rules.specs.Sticks.{places_of_shape, places_of_sticks, net_of_part, AreOfOne}
-use Rattle.grid_rules.proofs.NetlistLists.{Has, has_at, from_map}
-use Rattle.grid_rules.proofs.NetlistPlaces.{places_shown}
-use Rattle.grid_rules.proofs.NetlistShapes.{one_item}
-use Rattle.grid_rules.proofs.PictureLists.{image_of_pieces}
-use Rattle.design_nets.specs.declared.instances.Instance.{Instance}
-use Rattle.design_nets.specs.declared.pieces.Placed.{Placed}
-use Rattle.design_nets.specs.declared.shapes.Shape.{Shape}
-use Rattle.design_nets.specs.Firsts.{together}
-use Rattle.design_nets.specs.Instances.{instances_of, spot_no, master_no}
-use Rattle.design_nets.specs.Nets.{nets_no}
+use Rattle.net_extract.specs.{declared.netlist.Part.{Part, TheVariants.{Whole, Low, High}}, Places.{Place, place}}
+use Rattle.grid_rules.specs.{Conductors.{Drawn, item_of}, Shapes.Shows, Sticks.{places_of_shape, places_of_sticks}}
+use Rattle.grid_rules.{specs.Sticks.{net_of_part, AreOfOne}, proofs.NetlistLists.{Has, has_at, from_map}}
+use Rattle.grid_rules.proofs.{NetlistPlaces.places_shown, NetlistShapes.one_item, PictureLists.image_of_pieces}
+use Rattle.design_nets.specs.declared.{instances.Instance.Instance, pieces.Placed.Placed, shapes.Shape.Shape}
+use Rattle.design_nets.specs.{Firsts.together, Instances.{instances_of, spot_no, master_no}, Nets.nets_no}
 use Rattle.design_nets.specs.Pieces.{part_net, placed, parts_of_item, pieces_in, stand_of, ArePiecesOf, IsShapeOf}
-use Rattle.design_nets.specs.Shapes.{drawn_by, shape_no, AreShapesOf}
+use Rattle.design_nets.{specs.Shapes.{drawn_by, shape_no, AreShapesOf}, proofs.Lists.{together_same, together_split}}
+use Rattle.design_nets.proofs.{Lists.together_read, Shown.{shapes_counted, shape_shows}, Spots.instance_stands}
 use Rattle.design_nets.specs.Shapes as own_shapes
-use Rattle.design_nets.proofs.Lists.{together_same, together_split, together_read}
-use Rattle.design_nets.proofs.Shown.{shapes_counted, shape_shows}
-use Rattle.design_nets.proofs.Spots.{instance_stands}
 
 module _ (plan : Plan) (masters : List Master) (nets : List Nets) (instances : List Instance) (are : instances ≡ instances_of (grids_of plan))
     (shapes : List Shape) (firsts : List ℕ) (made : AreShapesOf masters instances shapes firsts) (each : (k : ℕ) → k < length shapes → IsShapeOf masters instances (shape_no shapes k))

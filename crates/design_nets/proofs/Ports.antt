@@ -1,34 +1,22 @@
 -- The ports that a plan matches are those that meet, so nets that its matches join are one net of the grids.
 use Rattle.std.proofs.Common.{◌≡◌, ℕ, ◌<◌, List, length, Contains, refl, sym, ap, ◌∙◌, subst, arith}
-use Rattle.std.specs.List.{All}
-use Rattle.std.proofs.lemmas.List.{get_or_default}
-use Rattle.std.proofs.lemmas.List.Elements.{All-from_get_or, All-weaker}
+use Rattle.std.{proofs.lemmas.List.{get_or_default, Elements.{All-from_get_or, All-weaker}}, specs.List.All}
 use Rattle.lam_geom.specs.declared.boxes.Axis.{Axis}
 use Rattle.rule_table.specs.declared.technology.Tech.{Tech}
-use Rattle.cell_model.specs.declared.cell.CellPort.{CellPort}
-use Rattle.cell_model.specs.declared.cell.Nets.{Nets}
+use Rattle.cell_model.specs.declared.cell.{CellPort.CellPort, Nets.Nets}
 use Rattle.expand.specs.declared.master.Master.{Master}
-use Rattle.plan_model.specs.declared.plan.Match.{Match}
-use Rattle.plan_model.specs.declared.plan.Plan.{Plan}
-use Rattle.plan_model.specs.Borders.{meeting_ports, match_of, matches_at}
+use Rattle.plan_model.specs.{declared.plan.{Match.Match, Plan.Plan}, Borders.{meeting_ports, match_of, matches_at}}
 use Rattle.plan_model.specs.GridNets.{IsBehind, MeetAt, net_of_port, IsOneNet, the_same, met_before, met_behind}
-use Rattle.plan_model.specs.Instances.{Spot, IsSpot, master_at_spot}
-use Rattle.plan_model.specs.Plan.{grids_of, borders_of, matches_in}
+use Rattle.plan_model.specs.{Instances.{Spot, IsSpot, master_at_spot}, Plan.{grids_of, borders_of, matches_in}}
 use Rattle.plan_model.specs.Rows.{firsts, is_pair}
-use Rattle.pitch_join.specs.Among.{IsMatchAmong}
-use Rattle.pitch_join.specs.Masters.{master_at, ports_of_masters}
-use Rattle.grid_rules.specs.Planned.{AreOfPlan}
+use Rattle.pitch_join.specs.{Among.IsMatchAmong, Masters.{master_at, ports_of_masters}}
 use Rattle.pitch_join.proofs.Planned.{matches_of_plan}
-use Rattle.grid_rules.proofs.Lists.{out_of_flat_map, out_of_map}
-use Rattle.grid_rules.proofs.Meeting.{master_among, match_listed}
-use Rattle.design_nets.specs.declared.instances.Instance.{Instance}
-use Rattle.design_nets.specs.declared.meetings.Meeting.{Meeting}
-use Rattle.design_nets.specs.declared.owners.OwnNet.{OwnNet}
-use Rattle.design_nets.specs.Instances.{instances_of, no_instance, spot_no}
-use Rattle.design_nets.specs.Joining.{own_net, HaveNets, Meet, AreJoined, same, forth, back}
-use Rattle.design_nets.specs.Meetings.{wire_net, IsMatchIn}
-use Rattle.design_nets.specs.Nets.{no_nets, nets_no, AreNetsOfAll}
-use Rattle.design_nets.proofs.Counted.{wire_count, wire_below}
+use Rattle.grid_rules.specs.Planned.{AreOfPlan}
+use Rattle.grid_rules.proofs.{Lists.{out_of_flat_map, out_of_map}, Meeting.{master_among, match_listed}}
+use Rattle.design_nets.specs.declared.{instances.Instance.Instance, meetings.Meeting.Meeting, owners.OwnNet.OwnNet}
+use Rattle.design_nets.specs.{Instances.{instances_of, no_instance, spot_no}, Joining.{own_net, HaveNets, Meet}}
+use Rattle.design_nets.specs.{Joining.{AreJoined, same, forth, back}, Meetings.{wire_net, IsMatchIn}, Nets.no_nets}
+use Rattle.design_nets.{specs.Nets.{nets_no, AreNetsOfAll}, proofs.Counted.{wire_count, wire_below}}
 use Rattle.design_nets.proofs.Spots.{number_of_spot, spot_there, instance_stands, instance_at_spot}
 
 -- ---- the nets of the masters of a plan

@@ -1,11 +1,8 @@
 -- A coordinate in grains is a product that fits.
-use Rattle.std.proofs.Common.{◌≡◌, zero, suc, ◌*◌, ◌^◌, ◌≤◌, ℤ, pos, negsuc, neg_ℤ, ◌≤ℤ◌, ◌+ℤ◌, ◌*ℤ◌, ap, ◌∙◌, of_z, to_z, w64, arith}
-use Rattle.std.proofs.Math.Nat.{mul-le-mul}
-use Rattle.std.proofs.lemmas.Int.{ints, to_z-of_z}
+use Rattle.std.proofs.Common.{◌≡◌, zero, suc, ◌*◌, ◌^◌, ◌≤◌, ℤ, pos, negsuc, neg_ℤ, ◌≤ℤ◌, ◌+ℤ◌, ◌*ℤ◌, ap, ◌∙◌, of_z}
+use Rattle.std.proofs.{Common.{to_z, w64, arith}, Math.Nat.mul-le-mul, lemmas.Int.{ints, to_z-of_z}}
 use Rattle.lam_geom.specs.Places.{IsPlace}
-use Rattle.rule_table.specs.Bounds.{IsLength}
-use Rattle.rule_table.specs.declared.technology.Tech.{Tech}
-use Rattle.rule_table.specs.Technology.{numbers_of}
+use Rattle.rule_table.specs.{Bounds.IsLength, declared.technology.Tech.Tech, Technology.numbers_of}
 use Rattle.crossings.specs.Boxes.{grains}
 use Rattle.grid_rules.proofs.NetlistScale.{scaled, scale_positive}
 use mir.Val.{SFits}

@@ -1,25 +1,15 @@
 -- Where the pieces of each box stand among all.
 use Rattle.std.proofs.Common.{◌≡◌, ℕ, ◌+◌, ◌-◌, ◌<◌, ◌≤◌, List, length, map, get_or, sym, ap, ◌∙◌, subst, arith}
-use Rattle.std.specs.Prelude.{slice_index}
-use Rattle.std.proofs.lemmas.List.{length-map, length-append, get_or-map}
+use Rattle.std.{proofs.lemmas.List.{length-map, length-append, get_or-map}, specs.Prelude.slice_index}
 use Rattle.cell_model.specs.declared.cell.Nets.{Nets}
 use Rattle.expand.specs.declared.master.Master.{Master}
 use Rattle.pair_rules.specs.Bound.{item_at}
 use Rattle.pitch_join.specs.Masters.{master_at}
-use Rattle.net_extract.specs.declared.netlist.Part.{Part}
-use Rattle.net_extract.specs.declared.netlist.Part.TheVariants.{Whole}
-use Rattle.net_extract.specs.declared.netlist.Piece.{Piece}
-use Rattle.net_extract.specs.Netlists.{place_of}
-use Rattle.net_extract.specs.Places.{Place}
-use Rattle.net_extract.specs.Devices.{no_netted, box_of_netted, AreRanges}
-use Rattle.design_nets.specs.declared.instances.Instance.{Instance}
-use Rattle.design_nets.specs.declared.pieces.Placed.{Placed}
-use Rattle.design_nets.specs.declared.shapes.Shape.{Shape}
-use Rattle.design_nets.specs.Firsts.{together}
-use Rattle.design_nets.specs.Instances.{master_no}
-use Rattle.design_nets.specs.Nets.{nets_no}
-use Rattle.design_nets.specs.Pieces.{placed, parts_of_item, pieces_in, stand_of, ArePiecesOf}
-use Rattle.design_nets.specs.Shapes.{shape_no}
+use Rattle.net_extract.specs.declared.netlist.{Part.{Part, TheVariants.Whole}, Piece.Piece}
+use Rattle.net_extract.specs.{Netlists.place_of, Places.Place, Devices.{no_netted, box_of_netted, AreRanges}}
+use Rattle.design_nets.specs.declared.{instances.Instance.Instance, pieces.Placed.Placed, shapes.Shape.Shape}
+use Rattle.design_nets.specs.{Firsts.together, Instances.master_no, Nets.nets_no, Pieces.{placed, parts_of_item}}
+use Rattle.design_nets.specs.{Pieces.{pieces_in, stand_of, ArePiecesOf}, Shapes.shape_no}
 use Rattle.design_nets.proofs.Lists.{together_split, together_read, together_longer, together_within, together_more}
 
 module _ (masters : List Master) (nets : List Nets) (instances : List Instance) (shapes : List Shape) (pieces : List Placed) (starts : List ℕ) (all : ArePiecesOf masters nets instances shapes pieces starts)

@@ -1,29 +1,18 @@
 -- The boxes of all instances, one by one, show the items that they are said to show.
-use Rattle.std.proofs.Common.{◌≡◌, ℕ, zero, suc, ◌+◌, ◌<◌, ◌≤◌, List, ◌∷◌, length, map, get_or, Option, Some, refl, sym, ap, ◌∙◌, arith}
-use Rattle.std.specs.Prelude.{slice_get, slice_index, flat_map, option_map}
-use Rattle.std.specs.List.{range_with_len}
-use Rattle.std.proofs.lemmas.List.{length-map}
-use Rattle.std.proofs.lemmas.List.Folds.{flat_map-map}
-use Rattle.std.proofs.lemmas.Option.{slice_get-map, get_or_from_slice_get}
-use Rattle.std.proofs.lemmas.Simd.{map-map}
+use Rattle.std.proofs.Common.{◌≡◌, ℕ, zero, suc, ◌+◌, ◌<◌, ◌≤◌, List, ◌∷◌, length, map, get_or, Option, Some, refl, sym}
+use Rattle.std.proofs.{Common.{ap, ◌∙◌, arith}, lemmas.{List.{length-map, Folds.flat_map-map}, Option.slice_get-map}}
+use Rattle.std.proofs.lemmas.{Option.get_or_from_slice_get, Simd.map-map}
+use Rattle.std.specs.{Prelude.{slice_get, slice_index, flat_map, option_map}, List.range_with_len}
 use Rattle.sym_items.specs.declared.items.Item.{Item}
 use Rattle.expand.specs.declared.master.Master.{Master}
-use Rattle.plan_model.specs.declared.plan.Plan.{Plan}
-use Rattle.plan_model.specs.Instances.{Spot, spot, spots_of}
-use Rattle.plan_model.specs.Plan.{grids_of}
+use Rattle.plan_model.specs.{declared.plan.Plan.Plan, Instances.{Spot, spot, spots_of}, Plan.grids_of}
 use Rattle.pitch_join.specs.Masters.{master_at}
-use Rattle.grid_rules.specs.Rules.{items_at}
-use Rattle.grid_rules.specs.Conductors.{Drawn}
-use Rattle.grid_rules.specs.Meetings.{at}
-use Rattle.grid_rules.specs.Shapes.{drawn_items, shapes_at, shapes_of, Shows}
-use Rattle.grid_rules.proofs.PictureLists.{image_of_pieces, by_numbers}
-use Rattle.design_nets.specs.declared.instances.Instance.{Instance}
-use Rattle.design_nets.specs.declared.shapes.Shape.{Shape}
-use Rattle.design_nets.specs.Firsts.{together}
-use Rattle.design_nets.specs.Instances.{instance_at, instances_of, spot_no, master_no}
-use Rattle.design_nets.specs.Shapes.{shape, drawn_by, drawn_in, shapes_in, AreShapesOf}
-use Rattle.design_nets.proofs.Lists.{together_get, together_same}
-use Rattle.design_nets.proofs.Spots.{instance_stands}
+use Rattle.grid_rules.specs.{Rules.items_at, Conductors.Drawn, Meetings.at, Shapes.{drawn_items, shapes_at, shapes_of}}
+use Rattle.grid_rules.{specs.Shapes.Shows, proofs.PictureLists.{image_of_pieces, by_numbers}}
+use Rattle.design_nets.specs.declared.{instances.Instance.Instance, shapes.Shape.Shape}
+use Rattle.design_nets.specs.{Firsts.together, Instances.{instance_at, instances_of, spot_no, master_no}, Shapes.shape}
+use Rattle.design_nets.specs.Shapes.{drawn_by, drawn_in, shapes_in, AreShapesOf}
+use Rattle.design_nets.proofs.{Lists.{together_get, together_same}, Spots.instance_stands}
 
 module _ (plan : Plan) (masters : List Master) (instances : List Instance) (are : instances ≡ instances_of (grids_of plan)) where
   -- the items of an instance are those of its master

@@ -1,16 +1,14 @@
 -- Instances one by one: that they stand at the spots of the grids, no two at one, and which number each has.
-use Rattle.std.proofs.Common.{◌≡◌, ℕ, ◌+◌, ◌<◌, List, [], ◌∷◌, ◌++◌, length, map, get_or, Option, Some, refl, sym, ap, ◌∙◌, subst, arith, zero-add}
-use Rattle.std.specs.Prelude.{slice_get, option_map}
-use Rattle.std.specs.List.{flat_map, range_with_len}
-use Rattle.std.proofs.lemmas.List.{map-append, length-map}
+use Rattle.std.proofs.Common.{◌≡◌, ℕ, ◌+◌, ◌<◌, List, [], ◌∷◌, ◌++◌, length, map, get_or, Option, Some, refl, sym, ap}
+use Rattle.std.proofs.{Common.{◌∙◌, subst, arith, zero-add}, lemmas.List.{map-append, length-map}}
 use Rattle.std.proofs.lemmas.List.FromFn.{length-map-range_with_len, get_or-map-range_with_len}
 use Rattle.std.proofs.lemmas.Option.{slice_get_within, slice_get-get_or, slice_get-map, get_or_from_slice_get}
-use Rattle.std.proofs.lemmas.Simd.{map-map}
-use Rattle.plan_model.specs.Instances.{Spot, IsSpot, spot, grid_at, master_at_spot, spots_in_row, spots_in_grid, spots_of}
-use Rattle.plan_model.specs.Rows.{row_at}
+use Rattle.std.{proofs.lemmas.Simd.map-map, specs.{Prelude.{slice_get, option_map}, List.{flat_map, range_with_len}}}
+use Rattle.plan_model.specs.Instances.{Spot, IsSpot, spot, grid_at, master_at_spot, spots_in_row, spots_in_grid}
+use Rattle.plan_model.specs.{Instances.spots_of, Rows.row_at}
 use Rattle.design_nets.specs.declared.instances.Instance.{Instance}
-use Rattle.design_nets.specs.Firsts.{together}
-use Rattle.design_nets.specs.Instances.{instance_at, instances_of, spot_of, no_instance, instance_no, spot_no, master_no, instances_in_row_at, instances_in_grid}
+use Rattle.design_nets.specs.{Firsts.together, Instances.{instance_at, instances_of, spot_of, no_instance, instance_no}}
+use Rattle.design_nets.specs.Instances.{spot_no, master_no, instances_in_row_at, instances_in_grid}
 use Rattle.design_nets.proofs.Lists.{together_get, together_split}
 
 -- the image of lists one after another

@@ -1,48 +1,28 @@
 -- The netlist of the sticks, from its pieces with their numbers and its transistors.
-use Rattle.std.proofs.Common.{◌≡◌, ◌↔◌, ℕ, ◌+◌, ◌*◌, ◌^◌, ◌<◌, ◌≤◌, List, length, get_or, map, Option, Some, sym, ap, ◌∙◌, subst, arith}
-use Rattle.std.specs.Prelude.{slice_get, slice_index, option_map}
-use Rattle.std.specs.List.{All}
-use Rattle.std.proofs.lemmas.List.{length-map, get_or_default}
-use Rattle.std.proofs.lemmas.List.Elements.{All-from_get_or}
+use Rattle.std.proofs.Common.{◌≡◌, ◌↔◌, ℕ, ◌+◌, ◌*◌, ◌^◌, ◌<◌, ◌≤◌, List, length, get_or, map, Option, Some, sym, ap}
+use Rattle.std.proofs.{Common.{◌∙◌, subst, arith}, lemmas.List.{length-map, get_or_default, Elements.All-from_get_or}}
 use Rattle.std.proofs.lemmas.Option.{slice_get-get_or, slice_get-map}
+use Rattle.std.specs.{Prelude.{slice_get, slice_index, option_map}, List.All}
 use Rattle.lam_geom.specs.Places.{IsPlacedBox}
 use Rattle.rule_table.specs.declared.technology.Tech.{Tech}
 use Rattle.cell_model.specs.declared.cell.Nets.{Nets}
 use Rattle.sym_items.specs.declared.items.Coords.{Coords}
 use Rattle.expand.specs.declared.master.Master.{Master}
 use Rattle.graph_search.specs.Netting.{next_net, IsNumberedInOrder}
-use Rattle.plan_model.specs.declared.plan.Plan.{Plan}
-use Rattle.plan_model.specs.Plan.{grids_of}
-use Rattle.grid_rules.specs.Planned.{AreOfPlan}
-use Rattle.crossings.specs.declared.crossing.Crossing.{Crossing}
-use Rattle.net_extract.specs.declared.netlist.Device.{Device}
-use Rattle.net_extract.specs.declared.netlist.Part.TheVariants.{Whole}
-use Rattle.net_extract.specs.declared.netlist.Piece.{Piece}
-use Rattle.net_extract.specs.Devices.{HasBoxes}
-use Rattle.net_extract.specs.Netlists.{place_of, nets_of, device_of}
-use Rattle.net_extract.specs.Places.{Place}
-use Rattle.grid_rules.specs.Conductors.{Drawn}
-use Rattle.grid_rules.specs.Meetings.{at}
-use Rattle.grid_rules.specs.Shapes.{shapes_of}
+use Rattle.plan_model.specs.{declared.plan.Plan.Plan, Plan.grids_of}
+use Rattle.grid_rules.specs.{Planned.AreOfPlan, Conductors.Drawn, Meetings.at, Shapes.shapes_of}
 use Rattle.grid_rules.specs.Sticks.{places_of_sticks, AreOfOne, IsTransistor, AreTransistors, IsSticksNetlist}
 use Rattle.grid_rules.proofs.NetlistShapes.{shown_below}
-use Rattle.design_nets.specs.declared.instances.Instance.{Instance}
-use Rattle.design_nets.specs.declared.owners.OwnNet.{OwnNet}
-use Rattle.design_nets.specs.declared.pieces.Placed.{Placed}
-use Rattle.design_nets.specs.declared.shapes.Shape.{Shape}
-use Rattle.design_nets.specs.Firsts.{together}
-use Rattle.design_nets.specs.Instances.{instances_of, no_instance}
-use Rattle.design_nets.specs.Joining.{nets_in, IsOwn, AreNetNumbers}
-use Rattle.design_nets.specs.Nets.{nets_no, AreNetsOfAll}
-use Rattle.design_nets.specs.Pieces.{stand_of, own_of, IsShapeOf, ArePiecesOf}
-use Rattle.design_nets.specs.Shapes.{drawn_by, no_shape, shape_no, shapes_in, AreShapesOf}
-use Rattle.design_nets.proofs.Counted.{number_below, next_few}
-use Rattle.design_nets.proofs.Few.{pieces_few, nets_few}
-use Rattle.design_nets.proofs.Fets.{shape_of}
-use Rattle.design_nets.proofs.Owned.{owners_own}
-use Rattle.design_nets.proofs.Placed.{pieces_stand, one_of_pieces, pieces_of_one}
-use Rattle.design_nets.proofs.Ports.{have_nets, joined_one, one_joined}
-use Rattle.design_nets.proofs.Shown.{all_shown, shapes_counted}
+use Rattle.crossings.specs.declared.crossing.Crossing.{Crossing}
+use Rattle.net_extract.specs.declared.netlist.{Device.Device, Part.TheVariants.Whole, Piece.Piece}
+use Rattle.net_extract.specs.{Devices.HasBoxes, Netlists.{place_of, nets_of, device_of}, Places.Place}
+use Rattle.design_nets.specs.declared.{instances.Instance.Instance, owners.OwnNet.OwnNet, pieces.Placed.Placed}
+use Rattle.design_nets.specs.{declared.shapes.Shape.Shape, Firsts.together, Instances.{instances_of, no_instance}}
+use Rattle.design_nets.specs.{Joining.{nets_in, IsOwn, AreNetNumbers}, Nets.{nets_no, AreNetsOfAll}, Pieces.stand_of}
+use Rattle.design_nets.specs.{Pieces.{own_of, IsShapeOf, ArePiecesOf}, Shapes.{drawn_by, no_shape, shape_no, shapes_in}}
+use Rattle.design_nets.{specs.Shapes.AreShapesOf, proofs.{Counted.{number_below, next_few}, Few.{pieces_few, nets_few}}}
+use Rattle.design_nets.proofs.{Fets.shape_of, Owned.owners_own, Placed.{pieces_stand, one_of_pieces, pieces_of_one}}
+use Rattle.design_nets.proofs.{Ports.{have_nets, joined_one, one_joined}, Shown.{all_shown, shapes_counted}}
 
 -- ---- the same of equal lists
 

@@ -1,6 +1,5 @@
 -- Lists that stand one after another: how many elements stand before each.
-use Rattle.std.specs.Prelude.{◌≡◌, ℕ, ◌+◌, ◌≤◌, List, length, flat_map, slice_index}
-use Rattle.std.specs.List.{range_with_len}
+use Rattle.std.specs.{Prelude.{◌≡◌, ℕ, ◌+◌, ◌≤◌, List, length, flat_map, slice_index}, List.range_with_len}
 
 -- the first n of some lists, one after another
 abbrev pub together : {A : Type 0} → (ℕ → List A) → ℕ → List A

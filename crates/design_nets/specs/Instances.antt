@@ -1,8 +1,6 @@
 -- The instances of all grids, one by one.
-use Rattle.std.specs.Prelude.{ℕ, List, length, map, flat_map, slice_index, slice_index_or}
-use Rattle.std.specs.List.{range_with_len}
-use Rattle.plan_model.specs.Instances.{Spot, master_at_spot, spots_of}
-use Rattle.plan_model.specs.Rows.{row_at}
+use Rattle.std.specs.{Prelude.{ℕ, List, length, map, flat_map, slice_index, slice_index_or}, List.range_with_len}
+use Rattle.plan_model.specs.{Instances.{Spot, master_at_spot, spots_of}, Rows.row_at}
 use Rattle.design_nets.specs.declared.instances.Instance.{Instance}
 
 -- the instance at a spot

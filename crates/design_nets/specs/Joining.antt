@@ -4,15 +4,10 @@ use Rattle.std.specs.List.{range_with_len}
 use Rattle.lam_geom.specs.declared.boxes.Axis.{Axis}
 use Rattle.cell_model.specs.declared.cell.Nets.{Nets}
 use Rattle.graph_search.specs.Netting.{IsNumberedInOrder}
-use Rattle.plan_model.specs.declared.plan.Plan.{Plan}
-use Rattle.plan_model.specs.GridNets.{IsBehind}
-use Rattle.plan_model.specs.Plan.{grids_of, matches_in}
+use Rattle.plan_model.specs.{declared.plan.Plan.Plan, GridNets.IsBehind, Plan.{grids_of, matches_in}}
 use Rattle.plan_model.specs.Rows.{IsRectangular}
-use Rattle.design_nets.specs.declared.instances.Instance.{Instance}
-use Rattle.design_nets.specs.declared.owners.OwnNet.{OwnNet}
-use Rattle.design_nets.specs.Instances.{instances_of, spot_no, master_no}
-use Rattle.design_nets.specs.Meetings.{IsMatchIn, IsMeeting}
-use Rattle.design_nets.specs.Nets.{nets_no}
+use Rattle.design_nets.specs.{declared.{instances.Instance.Instance, owners.OwnNet.OwnNet}, Instances.instances_of}
+use Rattle.design_nets.specs.{Instances.{spot_no, master_no}, Meetings.{IsMatchIn, IsMeeting}, Nets.nets_no}
 
 -- ---- nets of instances
 

@@ -3,11 +3,8 @@ use Rattle.std.specs.Prelude.{◌≡◌, ℕ, ◌+◌, ◌^◌, ◌<◌, ◌⊎�
 use Rattle.lam_geom.specs.declared.boxes.Axis.{Axis}
 use Rattle.cell_model.specs.declared.cell.Nets.{Nets}
 use Rattle.plan_model.specs.declared.plan.Plan.{Plan}
-use Rattle.design_nets.specs.declared.instances.Instance.{Instance}
-use Rattle.design_nets.specs.declared.meetings.Meeting.{Meeting}
-use Rattle.design_nets.specs.declared.owners.OwnNet.{OwnNet}
-use Rattle.design_nets.specs.Firsts.{AreFirsts}
-use Rattle.design_nets.specs.Joining.{nets_in, Meet}
+use Rattle.design_nets.specs.declared.{instances.Instance.Instance, meetings.Meeting.Meeting, owners.OwnNet.OwnNet}
+use Rattle.design_nets.specs.{Firsts.AreFirsts, Joining.{nets_in, Meet}}
 
 -- the number of a net of an instance, from the number of the first net of each instance
 abbrev pub number_of : List ℕ → OwnNet → ℕ

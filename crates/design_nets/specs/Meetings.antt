@@ -3,8 +3,7 @@ use Rattle.std.specs.Prelude.{◌≡◌, ℕ, ◌<◌, Contains, Vec, List, [], 
 use Rattle.std.specs.declared.alloc.Global.{Global}
 use Rattle.cell_model.specs.declared.cell.Nets.{Nets}
 use Rattle.plan_model.specs.declared.plan.Match.{Match}
-use Rattle.design_nets.specs.declared.meetings.Meeting.{Meeting}
-use Rattle.design_nets.specs.Nets.{nets_no}
+use Rattle.design_nets.specs.{declared.meetings.Meeting.Meeting, Nets.nets_no}
 
 -- the nets of the wires of two ports that meet
 abbrev pub wire_net : List Nets → ℕ → ℕ → ℕ

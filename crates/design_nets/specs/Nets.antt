@@ -1,7 +1,6 @@
 -- The nets of masters.
 use Rattle.std.specs.Prelude.{◌≡◌, ℕ, ◌<◌, List, [], length, slice_index_or}
-use Rattle.cell_model.specs.declared.cell.Nets.{Nets}
-use Rattle.cell_model.specs.Nets.{AreNets}
+use Rattle.cell_model.specs.{declared.cell.Nets.Nets, Nets.AreNets}
 use Rattle.expand.specs.declared.master.Master.{Master}
 use Rattle.pitch_join.specs.Masters.{master_at}
 

@@ -1,30 +1,19 @@
 -- The pieces of the sticks, box by box, each with the net of its instance that it belongs to.
-use Rattle.std.specs.Prelude.{◌≡◌, ℕ, ◌<◌, ◌&&◌, nat_lt, Bool, All, List, length, map}
-use Rattle.std.specs.Option.{unwrap_or}
-use Rattle.lam_geom.specs.declared.boxes.MaskLayer.{MaskLayer}
-use Rattle.lam_geom.specs.declared.boxes.MaskLayer.TheVariants.{ND}
+use Rattle.std.specs.{Prelude.{◌≡◌, ℕ, ◌<◌, ◌&&◌, nat_lt, Bool, All, List, length, map}, Option.unwrap_or}
+use Rattle.lam_geom.specs.declared.boxes.MaskLayer.{MaskLayer, TheVariants.ND}
 use Rattle.rule_table.specs.declared.classes.Class.{Class}
-use Rattle.cell_model.specs.declared.cell.Cell.{Cell}
-use Rattle.cell_model.specs.declared.cell.Nets.{Nets}
-use Rattle.cell_model.specs.Sound.{node_at}
+use Rattle.cell_model.specs.{declared.cell.{Cell.Cell, Nets.Nets}, Sound.node_at}
 use Rattle.sym_items.specs.declared.items.Item.{Item}
 use Rattle.pair_rules.specs.Bound.{item_at}
-use Rattle.expand.specs.declared.master.Master.{Master}
-use Rattle.expand.specs.Items.{nets_at}
+use Rattle.expand.specs.{declared.master.Master.Master, Items.nets_at}
 use Rattle.pitch_join.specs.Masters.{master_at}
 use Rattle.mask_out.specs.Masks.{layer_drawn}
-use Rattle.net_extract.specs.declared.netlist.Part.{Part}
-use Rattle.net_extract.specs.declared.netlist.Part.TheVariants.{Whole, Low, High}
+use Rattle.net_extract.specs.declared.netlist.Part.{Part, TheVariants.{Whole, Low, High}}
 use Rattle.net_extract.specs.Places.{Place, place, parts_on}
 use Rattle.grid_rules.specs.Sticks.{is_transistor}
-use Rattle.design_nets.specs.declared.instances.Instance.{Instance}
-use Rattle.design_nets.specs.declared.owners.OwnNet.{OwnNet}
-use Rattle.design_nets.specs.declared.pieces.Placed.{Placed}
-use Rattle.design_nets.specs.declared.shapes.Shape.{Shape}
-use Rattle.design_nets.specs.Firsts.{together, AreFirsts}
-use Rattle.design_nets.specs.Instances.{master_no}
-use Rattle.design_nets.specs.Nets.{nets_no, AreNetsOfAll}
-use Rattle.design_nets.specs.Shapes.{shape_no}
+use Rattle.design_nets.specs.declared.{instances.Instance.Instance, owners.OwnNet.OwnNet, pieces.Placed.Placed}
+use Rattle.design_nets.specs.{declared.shapes.Shape.Shape, Firsts.{together, AreFirsts}, Instances.master_no}
+use Rattle.design_nets.specs.{Nets.{nets_no, AreNetsOfAll}, Shapes.shape_no}
 
 -- the layer of a box that shows an item of this class
 abbrev pub layer_shown : Class → MaskLayer

@@ -2,12 +2,8 @@
 use Rattle.std.specs.Prelude.{◌≡◌, ℕ, List, length, map, slice_index_or}
 use Rattle.expand.specs.declared.master.Master.{Master}
 use Rattle.pitch_join.specs.Masters.{master_at}
-use Rattle.grid_rules.specs.Conductors.{Drawn}
-use Rattle.grid_rules.specs.Meetings.{at}
-use Rattle.grid_rules.specs.Shapes.{drawn_items}
-use Rattle.design_nets.specs.declared.instances.Instance.{Instance}
-use Rattle.design_nets.specs.declared.shapes.Shape.{Shape}
-use Rattle.design_nets.specs.Firsts.{together, AreFirsts}
+use Rattle.grid_rules.specs.{Conductors.Drawn, Meetings.at, Shapes.drawn_items}
+use Rattle.design_nets.specs.{declared.{instances.Instance.Instance, shapes.Shape.Shape}, Firsts.{together, AreFirsts}}
 use Rattle.design_nets.specs.Instances.{spot_no, master_no}
 
 abbrev pub shape : ℕ → ℕ → Shape

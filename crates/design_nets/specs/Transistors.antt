@@ -1,35 +1,22 @@
 -- Which items of a master are of which of its nodes, and what a transistor is by its diffusion.
-use Rattle.std.specs.Prelude.{◌≡◌, ℕ, ◌<◌, ◌≤◌, ◌^◌, ℤ, pos, neg_ℤ, ◌≤ℤ◌, All, List, length, slice_index, slice_get, Some}
-use Rattle.std.specs.List.{range_with_len}
+use Rattle.std.specs.Prelude.{◌≡◌, ℕ, ◌<◌, ◌≤◌, ◌^◌, ℤ, pos, neg_ℤ, ◌≤ℤ◌, All, List, length, slice_index, slice_get}
+use Rattle.std.specs.{Prelude.Some, List.range_with_len}
 use Rattle.lam_geom.specs.declared.boxes.Axis.TheVariants.{X, Y}
-use Rattle.rule_table.specs.declared.classes.Class.{Class}
-use Rattle.rule_table.specs.declared.classes.Class.TheVariants.{P, Dm, G}
-use Rattle.rule_table.specs.declared.technology.Tech.{Tech}
+use Rattle.rule_table.specs.declared.{classes.Class.{Class, TheVariants.{P, Dm, G}}, technology.Tech.Tech}
 use Rattle.rule_table.specs.Technology.{widest_of}
-use Rattle.cell_model.specs.declared.cell.Axis2.{Axis2}
-use Rattle.cell_model.specs.declared.cell.Cell.{Cell}
+use Rattle.cell_model.specs.{declared.cell.{Axis2.Axis2, Cell.Cell}, Sound.node_at}
 use Rattle.cell_model.specs.declared.cell.NodeKind.TheVariants as kinds
-use Rattle.cell_model.specs.Sound.{node_at}
-use Rattle.sym_items.specs.declared.items.Coords.{Coords}
-use Rattle.sym_items.specs.declared.items.Item.{Item}
-use Rattle.sym_items.specs.Layouts.{layout_at, size_in}
-use Rattle.sym_items.specs.Sides.{Sides, sides_in}
+use Rattle.sym_items.specs.declared.items.{Coords.Coords, Item.Item}
+use Rattle.sym_items.specs.{Layouts.{layout_at, size_in}, Sides.{Sides, sides_in}}
 use Rattle.pair_rules.specs.Bound.{item_at}
 use Rattle.expand.specs.declared.master.Master.{Master}
 use Rattle.buried_contacts.specs.Contacts.{axis_along}
-use Rattle.plan_model.specs.declared.plan.Plan.{Plan}
-use Rattle.plan_model.specs.Instances.{Spot, IsSpot, master_at_spot}
-use Rattle.plan_model.specs.Plan.{grids_of}
+use Rattle.plan_model.specs.{declared.plan.Plan.Plan, Instances.{Spot, IsSpot, master_at_spot}, Plan.grids_of}
 use Rattle.pitch_join.specs.Masters.{master_at}
-use Rattle.grid_rules.specs.Planned.{AreOfPlan}
-use Rattle.grid_rules.specs.Rules.{item_in}
-use Rattle.mask_out.specs.declared.drawing.Call.{Call}
-use Rattle.mask_out.specs.Pictures.{HaveBoxes, IsDrawable, calls_of}
-use Rattle.design_nets.specs.declared.node_items.NodeItems.{NodeItems}
-use Rattle.design_nets.specs.declared.shapes.Shapes.{Shapes}
-use Rattle.design_nets.specs.declared.transistors.Fet.{Fet}
-use Rattle.design_nets.specs.Instances.{instances_of, master_no}
-use Rattle.design_nets.specs.Shapes.{drawn_in, shape_no, AreShapesOf}
+use Rattle.grid_rules.specs.{Planned.AreOfPlan, Rules.item_in}
+use Rattle.mask_out.specs.{declared.drawing.Call.Call, Pictures.{HaveBoxes, IsDrawable, calls_of}}
+use Rattle.design_nets.specs.declared.{node_items.NodeItems.NodeItems, shapes.Shapes.Shapes, transistors.Fet.Fet}
+use Rattle.design_nets.specs.{Instances.{instances_of, master_no}, Shapes.{drawn_in, shape_no, AreShapesOf}}
 
 -- ---- the items of nodes
 

@@ -1,11 +1,9 @@
 //! Where channels lie in grains.
 ghost use Rattle.std.specs.Prelude.{◌≡◌, ◌^◌, pos, neg_ℤ, ◌+ℤ◌, ◌≤ℤ◌};
 ghost use Rattle.lam_geom.specs.Places.{IsPlace, IsPlacedSpan, IsPlacedBox};
-ghost use Rattle.sym_items.specs.Boxes.{HasBox};
-ghost use Rattle.sym_items.specs.Sides.{sides_of, sides_in};
-ghost use Rattle.grid_rules.specs.Rules.{shifted_sides};
+ghost use Rattle.sym_items.specs.{Boxes.HasBox, Sides.{sides_of, sides_in}};
+ghost use Rattle.grid_rules.specs.{Rules.shifted_sides, Shapes.sides_in_grains};
 ghost use Rattle.crossings.specs.Boxes.{grains};
-ghost use Rattle.grid_rules.specs.Shapes.{sides_in_grains};
 ghost use Rattle.design_nets.specs.Transistors.{LiesNear};
 
 use lam_geom::{BoxXY, Span};

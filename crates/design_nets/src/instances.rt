@@ -1,7 +1,6 @@
 //! The instances of all grids, one by one.
 ghost use Rattle.std.specs.Prelude.{◌≡◌, ◌++◌, map, OnOk, IfOk};
-ghost use Rattle.plan_model.specs.declared.plan.PlanRow.{PlanRow as SomeRow};
-ghost use Rattle.plan_model.specs.Plan.{grids_of};
+ghost use Rattle.plan_model.specs.{declared.plan.PlanRow.PlanRow as SomeRow, Plan.grids_of};
 ghost use Rattle.design_nets.specs.Instances.{instances_of, instances_in_row, instances_in_grid};
 
 use plan_model::{Plan, PlanRow};

@@ -1,14 +1,10 @@
 //! The links between pieces and nets of instances, by number: pieces first, and then the nets of the instances, one instance
 //! after another.
 ghost use Rattle.std.specs.Prelude.{◌≡◌, ◌+◌, ◌<◌, ◌^◌, ℕ, All, length, slice_index, IfNone, IfSome, OnOk, IfOk};
-ghost use Rattle.plan_model.specs.GridNets.{IsBehind};
-ghost use Rattle.plan_model.specs.Plan.{grids_of, matches_in};
-ghost use Rattle.plan_model.specs.Rows.{IsRectangular};
+ghost use Rattle.plan_model.specs.{GridNets.IsBehind, Plan.{grids_of, matches_in}, Rows.IsRectangular};
 ghost use Rattle.design_nets.specs.declared.instances.Instance.{Instance as SomeInstance};
-ghost use Rattle.design_nets.specs.declared.meetings.Meeting.{Meeting as SomeMeeting};
-ghost use Rattle.design_nets.specs.Firsts.{together, AreFirsts};
-ghost use Rattle.design_nets.specs.Instances.{instances_of, spot_no};
-ghost use Rattle.design_nets.specs.Joining.{nets_in, IsOwn, HaveNets};
+ghost use Rattle.design_nets.specs.{declared.meetings.Meeting.Meeting as SomeMeeting, Firsts.{together, AreFirsts}};
+ghost use Rattle.design_nets.specs.{Instances.{instances_of, spot_no}, Joining.{nets_in, IsOwn, HaveNets}};
 ghost use Rattle.design_nets.specs.Linking.{AreAdded, AreNetFirsts, IsPieceLink, IsListedLink, IsMeetLink};
 
 use crate::instances::Instance;

@@ -4,9 +4,7 @@ ghost use Rattle.lam_geom.specs.declared.boxes.MaskLayer.TheVariants.{ND};
 ghost use Rattle.expand.specs.Masters.{IsMaster};
 ghost use Rattle.mask_out.specs.Masks.{layer_drawn, is_drawn};
 ghost use Rattle.grid_rules.specs.Shapes.{items_on, drawn_items};
-ghost use Rattle.design_nets.specs.Shapes.{drawn_in};
-ghost use Rattle.design_nets.specs.Nets.{AreNetsOfAll};
-ghost use Rattle.design_nets.specs.Pieces.{layer_shown};
+ghost use Rattle.design_nets.specs.{Shapes.drawn_in, Nets.AreNetsOfAll, Pieces.layer_shown};
 
 use cell_model::Nets;
 use cell_nets::nets;

@@ -1,8 +1,6 @@
 //! Where the items of the nodes of masters stand.
-ghost use Rattle.std.specs.Prelude.{◌≡◌, ◌<◌, All, length, map, IfOk};
-ghost use Rattle.std.specs.List.{range_with_len};
-ghost use Rattle.design_nets.specs.Shapes.{drawn_in};
-ghost use Rattle.design_nets.specs.Transistors.{AreOfOwners, AreNodeItems, AreItemsOfNodes};
+ghost use Rattle.std.specs.{Prelude.{◌≡◌, ◌<◌, All, length, map, IfOk}, List.range_with_len};
+ghost use Rattle.design_nets.specs.{Shapes.drawn_in, Transistors.{AreOfOwners, AreNodeItems, AreItemsOfNodes}};
 
 use expand::Master;
 use lam_list::Seq;

@@ -1,8 +1,7 @@
 //! Numbers for the nets of pieces.
 ghost use Rattle.std.specs.Prelude.{◌≡◌, ◌+◌, ◌<◌, ◌^◌, ℕ, All, length, max, IfOk};
 ghost use Rattle.graph_search.specs.Netting.{next_net};
-ghost use Rattle.design_nets.specs.Firsts.{together};
-ghost use Rattle.design_nets.specs.Joining.{nets_in, IsOwn, HaveNets, AreNetNumbers};
+ghost use Rattle.design_nets.specs.{Firsts.together, Joining.{nets_in, IsOwn, HaveNets, AreNetNumbers}};
 ghost use Rattle.design_nets.specs.Linking.{AreAllLinks, AreNetFirsts};
 
 use crate::instances::Instance;

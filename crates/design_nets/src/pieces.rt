@@ -1,8 +1,7 @@
 //! The pieces of the sticks, box by box.
 ghost use Rattle.std.specs.Prelude.{◌≡◌, ◌++◌, ◌≤◌, ◌<◌, ◌^◌, All, length, map, OnOk, IfOk};
 ghost use Rattle.net_extract.specs.Netlists.{place_of, nets_of};
-ghost use Rattle.design_nets.specs.declared.owners.OwnNet.{OwnNet as SomeNet};
-ghost use Rattle.design_nets.specs.declared.pieces.Placed.{Placed as SomePiece};
+ghost use Rattle.design_nets.specs.declared.{owners.OwnNet.OwnNet as SomeNet, pieces.Placed.Placed as SomePiece};
 ghost use Rattle.design_nets.specs.Pieces.{is_fet, pieces_of_item, AreDrawn, ArePiecesOf, stand_of, own_of};
 
 use crate::instances::Instance;

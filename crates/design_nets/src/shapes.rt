@@ -1,7 +1,6 @@
 //! What the boxes of all instances show, one by one.
 ghost use Rattle.std.specs.Prelude.{◌≡◌, ◌++◌, ◌≤◌, ◌<◌, ◌^◌, All, length, map, OnOk, IfOk};
-ghost use Rattle.design_nets.specs.declared.instances.Instance.{Instance as SomeInstance};
-ghost use Rattle.design_nets.specs.Firsts.{together};
+ghost use Rattle.design_nets.specs.{declared.instances.Instance.Instance as SomeInstance, Firsts.together};
 ghost use Rattle.design_nets.specs.Shapes.{shape, drawn_in, shapes_in, AreShapesOf};
 
 use crate::instances::Instance;

@@ -4,10 +4,8 @@ ghost use Rattle.lam_geom.specs.declared.boxes.Axis.TheVariants.{X, Y};
 ghost use Rattle.rule_table.specs.Technology.{widest_of};
 ghost use Rattle.sym_items.specs.Layouts.{size_in};
 ghost use Rattle.plan_model.specs.Plan.{grids_of};
-ghost use Rattle.grid_rules.specs.Planned.{AreOfPlan};
+ghost use Rattle.grid_rules.specs.{Planned.AreOfPlan, Shapes.shapes_of, Sticks.IsSticksNetlist};
 ghost use Rattle.mask_out.specs.Pictures.{HaveBoxes, IsDrawable};
-ghost use Rattle.grid_rules.specs.Shapes.{shapes_of};
-ghost use Rattle.grid_rules.specs.Sticks.{IsSticksNetlist};
 ghost use Rattle.design_nets.specs.Transistors.{BoxesLieNear};
 
 use crate::instances::instances;

@@ -4,9 +4,8 @@ ghost use Rattle.lam_geom.specs.Places.{IsPlacedBox};
 ghost use Rattle.rule_table.specs.declared.classes.Class.TheVariants.{Dm};
 ghost use Rattle.crossings.specs.declared.crossing.Crossing.{Crossing as SomeCrossing};
 ghost use Rattle.grid_rules.specs.Sticks.{IsTransistor, AreTransistors};
-ghost use Rattle.design_nets.specs.Pieces.{is_fet};
-ghost use Rattle.design_nets.specs.Shapes.{drawn_in};
-ghost use Rattle.design_nets.specs.Transistors.{AreItemsOfNodes, IsFetItem, IsLaidOut, cell_shown, item_shown};
+ghost use Rattle.design_nets.specs.{Pieces.is_fet, Shapes.drawn_in, Transistors.{AreItemsOfNodes, IsFetItem}};
+ghost use Rattle.design_nets.specs.Transistors.{IsLaidOut, cell_shown, item_shown};
 
 use crate::channels::channel_at;
 use crate::node_items::{NodeItems, items_of_nodes};

@@ -1,24 +1,15 @@
 -- The lines of a design stand in a text that says it.
-use Rattle.std.proofs.Common.{◌≡◌, ℕ, ◌+◌, ◌*◌, ◌≤◌, List, [], ◌∷◌, ◌++◌, length, map, Option, Some, None, Result, Ok, Err, ap, arith}
-use Rattle.std.specs.List.{sum_by, flat_map}
-use Rattle.std.specs.Str.Lines.{lines}
-use Rattle.std.proofs.lemmas.List.Sums.{sum_by-cons}
+use Rattle.std.proofs.Common.{◌≡◌, ℕ, ◌+◌, ◌*◌, ◌≤◌, List, [], ◌∷◌, ◌++◌, length, map, Option, Some, None, Result, Ok}
+use Rattle.std.proofs.{Common.{Err, ap, arith}, lemmas.List.Sums.sum_by-cons}
+use Rattle.std.specs.{List.{sum_by, flat_map}, Str.Lines.lines}
 use Rattle.stick_lex.proofs.Loop.{width}
-use Rattle.stick_parse.specs.declared.fault.StickKind.{StickKind}
-use Rattle.stick_parse.specs.declared.design.Line.{Line}
-use Rattle.stick_parse.specs.declared.design.CellText.{CellText}
-use Rattle.stick_parse.specs.declared.design.RowText.{RowText}
-use Rattle.stick_parse.specs.declared.design.GridText.{GridText}
-use Rattle.stick_parse.specs.declared.design.Design.{Design}
-use Rattle.stick_parse.specs.declared.design.Statement.{Statement}
-use Rattle.stick_parse.specs.declared.design.Statement.TheVariants.{Row, End}
-use Rattle.stick_parse.specs.Lines.{said_by, Entry, with_entry, entries}
-use Rattle.stick_parse.specs.Order.{design_of}
-use Rattle.stick_parse.specs.Says.{saying, form_line, cell_part, IsGridPart, AreGridParts, AreLinesOf, said_lines}
-use Rattle.stick_parse.proofs.Shapes.{design_said}
+use Rattle.stick_parse.specs.declared.{fault.StickKind.StickKind, design.{Line.Line, CellText.CellText}}
+use Rattle.stick_parse.specs.declared.design.{RowText.RowText, GridText.GridText, Design.Design, Statement.Statement}
+use Rattle.stick_parse.specs.{declared.design.Statement.TheVariants.{Row, End}, Lines.{said_by, Entry, with_entry}}
+use Rattle.stick_parse.specs.{Lines.entries, Order.design_of, Says.{saying, form_line, cell_part, IsGridPart}}
+use Rattle.stick_parse.{specs.Says.{AreGridParts, AreLinesOf, said_lines}, proofs.Shapes.design_said}
 use Rattle.design_sizes.specs.Sizes.{lines_of_cell, lines_of_grid, lines_in}
-use Rattle.design_sizes.proofs.Lines.{lines_with_ends}
-use Rattle.design_sizes.proofs.Long.{IsLong, line_is_long}
+use Rattle.design_sizes.proofs.{Lines.lines_with_ends, Long.{IsLong, line_is_long}}
 
 -- ---- the lines that can be read
 

@@ -1,9 +1,7 @@
 -- The lines of a text together, with an end behind each, are no longer than the text with one more.
 use Rattle.std.proofs.Common.{ℕ, ◌+◌, ◌-◌, ◌≤◌, Bool, true, false, cond, eqb, List, [], ◌∷◌, length, take, arith}
-use Rattle.std.specs.Prelude.{slice_index}
-use Rattle.std.specs.List.{slice_split}
-use Rattle.std.specs.Str.Lines.{lines, lines_of_parts}
 use Rattle.std.proofs.lemmas.List.{length-take}
+use Rattle.std.specs.{Prelude.slice_index, List.slice_split, Str.Lines.{lines, lines_of_parts}}
 use Rattle.stick_lex.proofs.Loop.{width, width-slice_split}
 
 stripped : (b : Bool) (line : List ℕ) → length (cond b (take (length line - 1) line) line) ≤ length line

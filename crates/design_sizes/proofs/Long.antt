@@ -1,22 +1,15 @@
 -- A line that says something has three bytes or more: those of its keyword.
-use Rattle.std.proofs.Common.{◌≡◌, ℕ, ◌-◌, ◌≤◌, ℤ, List, [], ◌∷◌, length, drop, map, Option, Some, Result, Ok, Err, refl, ap, arith}
-use Rattle.std.proofs.lemmas.List.{length-take, length-drop}
-use Rattle.stick_lex.specs.declared.token.Token.{Token}
-use Rattle.stick_lex.specs.declared.token.TokenKind.{TokenKind}
-use Rattle.stick_lex.specs.declared.token.TokenKind.TheVariants as kinds
-use Rattle.stick_lex.specs.declared.token.LexFault.{LexFault}
+use Rattle.std.proofs.Common.{◌≡◌, ℕ, ◌-◌, ◌≤◌, ℤ, List, [], ◌∷◌, length, drop, map, Option, Some, Result, Ok, Err}
+use Rattle.std.proofs.{Common.{refl, ap, arith}, lemmas.List.{length-take, length-drop}}
+use Rattle.stick_lex.specs.declared.token.{Token.Token, TokenKind.TokenKind, LexFault.LexFault}
 use Rattle.stick_lex.specs.Tokens.{text_of, tokens_of}
-use Rattle.stick_parse.specs.declared.fault.StickKind.{StickKind}
-use Rattle.stick_parse.specs.declared.design.Form.{Form}
-use Rattle.stick_parse.specs.declared.design.Form.TheVariants.{Joint, Contact, Buried, Fet, Port, Inst, Wire, Limit}
-use Rattle.stick_parse.specs.declared.design.Statement.{Statement}
-use Rattle.stick_parse.specs.declared.design.Statement.TheVariants.{Version, Cell, Item, Grid, Row, End}
-use Rattle.stick_parse.specs.Reading.{◌>>=◌}
-use Rattle.stick_parse.specs.Words.{Word, Path, word_by, word_of}
-use Rattle.stick_parse.specs.Forms.{statement_of}
+use Rattle.stick_lex.specs.declared.token.TokenKind.TheVariants as kinds
+use Rattle.stick_parse.specs.declared.{fault.StickKind.StickKind, design.Form.{Form, TheVariants.{Joint, Contact}}}
+use Rattle.stick_parse.specs.declared.design.Form.TheVariants.{Buried, Fet, Port, Inst, Wire, Limit}
+use Rattle.stick_parse.specs.declared.design.Statement.{Statement, TheVariants.{Version, Cell, Item, Grid, Row, End}}
+use Rattle.stick_parse.specs.{Reading.◌>>=◌, Words.{Word, Path, word_by, word_of}, Forms.statement_of}
 use Rattle.stick_parse.specs.Lines.{tokens_or_kind, said_by_words, said_by}
-use Rattle.stick_print.specs.Canonical.{form_keyword, keyword_of}
-use Rattle.stick_print.proofs.Taken.{only_words}
+use Rattle.stick_print.{specs.Canonical.{form_keyword, keyword_of}, proofs.Taken.only_words}
 
 form_keyword_is_long : (form : Form) → 3 ≤ length (form_keyword form)
 form_keyword_is_long (Joint name layer col row width) = omega arith

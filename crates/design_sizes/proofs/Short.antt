@@ -1,11 +1,8 @@
 -- A name has at most 32 bytes.
-use Rattle.std.proofs.Common.{◌≡◌, ℕ, ◌≤◌, true, leb, List, [], ◌∷◌, length, arith}
-use Rattle.std.specs.Char.{is_ascii_alphabetic}
-use Rattle.std.specs.List.{All, list_all}
-use Rattle.std.proofs.lemmas.Bool.{and_parts}
+use Rattle.std.proofs.{Common.{◌≡◌, ℕ, ◌≤◌, true, leb, List, [], ◌∷◌, length, arith}, lemmas.Bool.and_parts}
+use Rattle.std.specs.{Char.is_ascii_alphabetic, List.{All, list_all}}
 use Rattle.stick_lex.specs.Tokens.{is_name_byte}
-use Rattle.stick_parse.specs.declared.design.Design.{Design}
-use Rattle.stick_parse.specs.Writable.{IsName, IsCell, IsWritable}
+use Rattle.stick_parse.specs.{declared.design.Design.Design, Writable.{IsName, IsCell, IsWritable}}
 use Rattle.list_facts.proofs.Elements.{all_weaker, all_of}
 
 name_is_short : (name : List ℕ) → IsName name → length name ≤ 32

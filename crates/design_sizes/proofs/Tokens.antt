@@ -1,11 +1,8 @@
 -- A line has a byte for each token, and a blank between two.
 use Rattle.std.proofs.Common.{ℕ, ◌+◌, ◌*◌, ◌≤◌, eqb, List, [], ◌∷◌, length, Result, Ok, Err, arith}
-use Rattle.std.specs.List.{slice_split, position_or_len}
-use Rattle.std.proofs.lemmas.List.{length-take}
-use Rattle.stick_lex.specs.declared.token.Token.{Token}
-use Rattle.stick_lex.specs.declared.token.LexFault.{LexFault}
-use Rattle.stick_lex.specs.Runs.{is_blank, without_comment, runs_of_parts}
-use Rattle.stick_lex.specs.Tokens.{◌>>=◌, token_of, tokens_of_runs, tokens_of}
+use Rattle.std.{proofs.lemmas.List.length-take, specs.List.{slice_split, position_or_len}}
+use Rattle.stick_lex.specs.{declared.token.{Token.Token, LexFault.LexFault}, Runs.{is_blank, without_comment}}
+use Rattle.stick_lex.specs.{Runs.runs_of_parts, Tokens.{◌>>=◌, token_of, tokens_of_runs, tokens_of}}
 use Rattle.stick_lex.proofs.Loop.{width, width-slice_split}
 
 -- twice the tokens that were read, if any were, are at most n

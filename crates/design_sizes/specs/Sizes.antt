@@ -1,10 +1,6 @@
 -- How many names stand in the grids of a design, and how many lines its canonical text has.
-use Rattle.std.specs.Prelude.{ℕ, ◌+◌, length}
-use Rattle.std.specs.List.{sum_by}
-use Rattle.stick_parse.specs.declared.design.CellText.{CellText}
-use Rattle.stick_parse.specs.declared.design.RowText.{RowText}
-use Rattle.stick_parse.specs.declared.design.GridText.{GridText}
-use Rattle.stick_parse.specs.declared.design.Design.{Design}
+use Rattle.std.specs.{Prelude.{ℕ, ◌+◌, length}, List.sum_by}
+use Rattle.stick_parse.specs.declared.design.{CellText.CellText, RowText.RowText, GridText.GridText, Design.Design}
 
 -- ---- names
 

@@ -6,10 +6,8 @@
 #![tactic(auto)]
 
 ghost use Rattle.std.specs.Prelude.{◌≡◌, ◌+◌, ◌*◌, ◌≤◌, length, All, Ok};
-ghost use Rattle.stick_parse.specs.Order.{design_of};
-ghost use Rattle.stick_parse.specs.Writable.{IsWritable};
-ghost use Rattle.stick_print.specs.Canonical.{canonical};
-ghost use Rattle.stick_print.specs.ReadBack.{laid_out};
+ghost use Rattle.stick_parse.specs.{Order.design_of, Writable.IsWritable};
+ghost use Rattle.stick_print.specs.{Canonical.canonical, ReadBack.laid_out};
 ghost use Rattle.design_sizes.specs.Sizes.{names_in, lines_in};
 
 use stick_parse::Design;

@@ -1,32 +1,21 @@
 -- In a design without fault only the limit that an edit adds can have one.
-use Rattle.std.proofs.Common.{◌≡◌, ℕ, ◌<◌, ℤ, Bool, List, [], ◌∷◌, ◌++◌, length, take, get_or, set, Some, Result, Ok, Err, refl, sym, ap, subst, ◌∙◌}
-use Rattle.std.specs.Prelude.{slice_set}
-use Rattle.std.specs.Str.{bytes_eq}
-use Rattle.std.proofs.lemmas.List.Quantifiers.{position-Some}
+use Rattle.std.proofs.Common.{◌≡◌, ℕ, ◌<◌, ℤ, Bool, List, [], ◌∷◌, ◌++◌, length, take, get_or, set, Some, Result, Ok}
+use Rattle.std.proofs.{Common.{Err, refl, sym, ap, subst, ◌∙◌}, lemmas.List.Quantifiers.position-Some}
+use Rattle.std.specs.{Prelude.slice_set, Str.bytes_eq}
 use Rattle.rule_table.specs.declared.technology.Tech.{Tech}
-use Rattle.stick_parse.specs.declared.fault.StickKind.{StickKind}
-use Rattle.stick_parse.specs.declared.fault.StickFault.{StickFault}
-use Rattle.stick_parse.specs.declared.design.Form.{Form}
-use Rattle.stick_parse.specs.declared.design.Form.TheVariants.{Limit}
-use Rattle.stick_parse.specs.declared.design.Line.{Line}
-use Rattle.stick_parse.specs.declared.design.CellText.{CellText}
-use Rattle.stick_parse.specs.declared.design.Design.{Design}
-use Rattle.stick_parse.specs.Reading.{◌>>=◌}
-use Rattle.stick_parse.specs.Order.{at_line}
-use Rattle.stick_cell.specs.Known.{Known, begun, known_at}
-use Rattle.stick_cell.specs.Lines.{after_form, after_lines, cells_after, known_cells}
+use Rattle.stick_parse.specs.declared.{fault.{StickKind.StickKind, StickFault.StickFault}, design.Form.Form}
+use Rattle.stick_parse.specs.declared.design.{Form.TheVariants.Limit, Line.Line, CellText.CellText, Design.Design}
+use Rattle.stick_parse.specs.{Reading.◌>>=◌, Order.at_line}
+use Rattle.stick_cell.specs.{Known.{Known, begun, known_at}, Lines.{after_form, after_lines, cells_after, known_cells}}
 use Rattle.stick_cell.specs.Grids.{grids_after, resolved_cells}
-use Rattle.stick_cell.proofs.Accepted.{two_bound, ok_same}
-use Rattle.stick_cell.proofs.Made.{limit_made}
+use Rattle.stick_cell.proofs.{Accepted.{two_bound, ok_same}, Made.limit_made}
 use Rattle.design_edits.specs.Cells.{unnumbered, no_cell, cell_text_at}
-use Rattle.edit_lines.specs.declared.script.EditLine.{EditLine}
-use Rattle.edit_lines.specs.declared.script.EditLine.TheVariants.{Add, Take}
-use Rattle.edit_lines.specs.Edits.{cell_in, number_named, ChangesTo, IsWithoutLimit, IsEdited}
-use Rattle.edit_lines.specs.Faults.{HasLimitFault, HasFaultOf, IsAtFaultAlone}
-use Rattle.edit_lines.proofs.Limitless.{limitless}
-use Rattle.edit_lines.proofs.Renumbered.{kinded, resolved_renumbered, read_of, fault_of}
-use Rattle.edit_lines.proofs.Judged.{IsRead, with_lines, lines_read, lines_refused, line_more, line_less, cells_read, cells_refused, old_read}
-use Rattle.edit_lines.proofs.Designs.{same_some}
+use Rattle.edit_lines.specs.declared.script.EditLine.{EditLine, TheVariants.{Add, Take}}
+use Rattle.edit_lines.specs.{Edits.{cell_in, number_named, ChangesTo, IsWithoutLimit, IsEdited}, Faults.HasLimitFault}
+use Rattle.edit_lines.specs.Faults.{HasFaultOf, IsAtFaultAlone}
+use Rattle.edit_lines.proofs.{Limitless.limitless, Renumbered.{kinded, resolved_renumbered, read_of, fault_of}}
+use Rattle.edit_lines.proofs.Judged.{IsRead, with_lines, lines_read, lines_refused, line_more, line_less, cells_read}
+use Rattle.edit_lines.proofs.{Judged.{cells_refused, old_read}, Designs.same_some}
 
 -- ---- the cells and the grids of a design
 

@@ -1,16 +1,10 @@
 -- A design with an edited cell.
 use Rattle.std.proofs.Common.{◌≡◌, ℕ, ◌<◌, List, length, get_or, set, Some, sym, ap, subst, ◌∙◌, arith}
-use Rattle.std.specs.Prelude.{Contains, slice_set}
-use Rattle.std.specs.Str.{bytes_eq}
-use Rattle.std.proofs.lemmas.List.Quantifiers.{position-Some}
-use Rattle.stick_parse.specs.declared.design.Line.{Line}
-use Rattle.stick_parse.specs.declared.design.CellText.{CellText}
-use Rattle.stick_parse.specs.declared.design.Design.{Design}
+use Rattle.std.{proofs.lemmas.List.Quantifiers.position-Some, specs.{Prelude.{Contains, slice_set}, Str.bytes_eq}}
+use Rattle.stick_parse.specs.declared.design.{Line.Line, CellText.CellText, Design.Design}
 use Rattle.stick_print.specs.ReadBack.{laid_out}
-use Rattle.design_edits.specs.Cells.{no_cell, cell_text_at, AreWithoutUse}
-use Rattle.design_edits.proofs.Laid.{lines_of_laid, text_here}
-use Rattle.edit_lines.specs.declared.script.EditLine.{EditLine}
-use Rattle.edit_lines.specs.declared.script.EditLine.TheVariants.{Add, Take}
+use Rattle.design_edits.{specs.Cells.{no_cell, cell_text_at, AreWithoutUse}, proofs.Laid.{lines_of_laid, text_here}}
+use Rattle.edit_lines.specs.declared.script.EditLine.{EditLine, TheVariants.{Add, Take}}
 use Rattle.edit_lines.specs.Edits.{cell_in, number_named, ChangesTo, HasLinesAfter, IsEdited}
 use Rattle.edit_lines.proofs.Lines.{changes_are_determined, HasLengthAfter}
 

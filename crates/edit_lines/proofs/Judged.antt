@@ -1,22 +1,16 @@
 -- A cell whose limits are others is read as before, and so are the cells behind it.
-use Rattle.std.proofs.Common.{◌≡◌, ℕ, zero, suc, ◌+◌, ◌<◌, true, List, [], ◌∷◌, ◌++◌, length, map, take, drop, get_or, set, Result, Ok, Err, refl, sym, ap, subst, ◌∙◌, append_assoc, arith}
-use Rattle.std.proofs.lemmas.List.{append-nil, length-append, map-append}
+use Rattle.std.proofs.Common.{◌≡◌, ℕ, zero, suc, ◌+◌, ◌<◌, true, List, [], ◌∷◌, ◌++◌, length, map, take, drop, get_or}
+use Rattle.std.proofs.Common.{set, Result, Ok, Err, refl, sym, ap, subst, ◌∙◌, append_assoc, arith}
 use Rattle.std.proofs.Math.Seq.{take-append_seam, get_or-append_seam}
+use Rattle.std.proofs.lemmas.List.{append-nil, length-append, map-append}
 use Rattle.rule_table.specs.declared.technology.Tech.{Tech}
-use Rattle.stick_parse.specs.declared.fault.StickKind.{StickKind}
-use Rattle.stick_parse.specs.declared.fault.StickKind.TheVariants.{RepeatedName, PortWires}
-use Rattle.stick_parse.specs.declared.fault.StickFault.{StickFault}
-use Rattle.stick_parse.specs.declared.design.Form.{Form}
-use Rattle.stick_parse.specs.declared.design.Form.TheVariants.{Joint, Contact, Buried, Fet, Port, Inst, Wire, Limit}
-use Rattle.stick_parse.specs.declared.design.Line.{Line}
-use Rattle.stick_parse.specs.declared.design.CellText.{CellText}
-use Rattle.stick_parse.specs.Reading.{◌>>=◌}
-use Rattle.stick_parse.specs.Order.{at_line}
-use Rattle.stick_cell.specs.Known.{Known, begun, known_at}
-use Rattle.stick_cell.specs.Checks.{demand}
-use Rattle.stick_cell.specs.Lines.{after_form, after_lines, is_wired, is_new_cell, after_cell, cells_after}
-use Rattle.stick_cell.proofs.Accepted.{bound, two_bound, ok_same}
-use Rattle.stick_cell.proofs.Made.{limit_made}
+use Rattle.stick_parse.specs.declared.fault.StickKind.{StickKind, TheVariants.{RepeatedName, PortWires}}
+use Rattle.stick_parse.specs.declared.{fault.StickFault.StickFault, design.Form.{Form, TheVariants.{Joint, Contact}}}
+use Rattle.stick_parse.specs.declared.design.{Form.TheVariants.{Buried, Fet, Port, Inst, Wire, Limit}, Line.Line}
+use Rattle.stick_parse.specs.{declared.design.CellText.CellText, Reading.◌>>=◌, Order.at_line}
+use Rattle.stick_cell.specs.{Known.{Known, begun, known_at}, Checks.demand, Lines.{after_form, after_lines, is_wired}}
+use Rattle.stick_cell.specs.Lines.{is_new_cell, after_cell, cells_after}
+use Rattle.stick_cell.proofs.{Accepted.{bound, two_bound, ok_same}, Made.limit_made}
 use Rattle.design_edits.specs.Cells.{unnumbered, no_cell}
 use Rattle.edit_lines.specs.Edits.{is_limit, IsWithoutLimit}
 use Rattle.edit_lines.proofs.Limitless.{limitless, bare, AreSame, lines_same, cell_same, read_same}

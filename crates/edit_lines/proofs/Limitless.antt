@@ -1,22 +1,18 @@
 -- No check of a line asks for the limits of a cell.
-use Rattle.std.proofs.Common.{◌≡◌, ℕ, zero, suc, ◌+◌, List, [], ◌∷◌, map, Option, Result, Ok, Err, refl, sym, ap, ◌∙◌, arith}
-use Rattle.std.specs.Prelude.{◌&&◌, ◌==◌, not, nat_lt, is_none, bytes_eq}
-use Rattle.rule_table.specs.declared.technology.Tech.{Tech}
-use Rattle.rule_table.specs.Technology.{has_buried_of}
-use Rattle.stick_parse.specs.declared.fault.StickKind.{StickKind}
-use Rattle.stick_parse.specs.declared.fault.StickKind.TheVariants.{RepeatedName, UseCycle, UseDepth, UsedPorts, FarPlace, BadSize, PortWires, BadLimit, NoBuried}
-use Rattle.stick_parse.specs.declared.design.Form.{Form}
-use Rattle.stick_parse.specs.declared.design.Form.TheVariants.{Joint, Contact, Buried, Fet, Port, Inst, Wire, Limit}
-use Rattle.stick_parse.specs.declared.design.Line.{Line}
-use Rattle.stick_parse.specs.declared.design.CellText.{CellText}
-use Rattle.stick_parse.specs.Reading.{◌>>=◌}
-use Rattle.stick_parse.specs.Order.{at_line}
+use Rattle.std.proofs.Common.{◌≡◌, ℕ, zero, suc, ◌+◌, List, [], ◌∷◌, map, Option, Result, Ok, Err, refl, sym, ap, ◌∙◌}
+use Rattle.std.{proofs.Common.arith, specs.Prelude.{◌&&◌, ◌==◌, not, nat_lt, is_none, bytes_eq}}
+use Rattle.rule_table.specs.{declared.technology.Tech.Tech, Technology.has_buried_of}
+use Rattle.stick_parse.specs.declared.fault.StickKind.{StickKind, TheVariants.{RepeatedName, UseCycle, UseDepth}}
+use Rattle.stick_parse.specs.declared.fault.StickKind.TheVariants.{UsedPorts, FarPlace, BadSize, PortWires, BadLimit}
+use Rattle.stick_parse.specs.declared.{fault.StickKind.TheVariants.NoBuried, design.Form.{Form, TheVariants.Joint}}
+use Rattle.stick_parse.specs.declared.design.Form.TheVariants.{Contact, Buried, Fet, Port, Inst, Wire, Limit}
+use Rattle.stick_parse.specs.{declared.design.{Line.Line, CellText.CellText}, Reading.◌>>=◌, Order.at_line}
 use Rattle.stick_lex.specs.Tokens.{names}
-use Rattle.stick_cell.specs.Known.{Known, begun, known_at, greatest_col, greatest_row}
-use Rattle.stick_cell.specs.Paths.{Names, walk, found_at}
-use Rattle.stick_cell.specs.Checks.{demand, layer_of, is_fresh, is_place, sized, is_channel}
-use Rattle.stick_cell.specs.Wires.{known_name, wire_between, limited}
-use Rattle.stick_cell.specs.Lines.{number_of, known_number, wired_of, is_empty, after_joint, after_contact, after_buried, after_fet, after_port, with_use, after_use, after_wire, after_limit, after_form, after_lines, is_wired, is_new_cell, after_cell}
+use Rattle.stick_cell.specs.{Known.{Known, begun, known_at, greatest_col, greatest_row}, Paths.{Names, walk, found_at}}
+use Rattle.stick_cell.specs.{Checks.{demand, layer_of, is_fresh, is_place, sized, is_channel}, Wires.known_name}
+use Rattle.stick_cell.specs.{Wires.{wire_between, limited}, Lines.{number_of, known_number, wired_of, is_empty}}
+use Rattle.stick_cell.specs.Lines.{after_joint, after_contact, after_buried, after_fet, after_port, with_use, after_use}
+use Rattle.stick_cell.specs.Lines.{after_wire, after_limit, after_form, after_lines, is_wired, is_new_cell, after_cell}
 
 -- what is known of a cell, limits aside
 abbrev pub limitless : Known → Known

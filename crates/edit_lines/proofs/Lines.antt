@@ -1,18 +1,12 @@
 -- The lines of a cell after an edit.
-use Rattle.std.proofs.Common.{◌≡◌, ℕ, ◌+◌, ◌<◌, ◌≤◌, Bool, List, [], ◌∷◌, ◌++◌, length, take, drop, cond, sym, ap, ◌∙◌, append_assoc, arith}
-use Rattle.std.specs.List.{AllByRecursion}
-use Rattle.std.proofs.lemmas.List.{take_at, drop_at, length-append}
-use Rattle.std.proofs.lemmas.List.Sums.{sum_by-cons, sum_by-append}
+use Rattle.std.proofs.Common.{◌≡◌, ℕ, ◌+◌, ◌<◌, ◌≤◌, Bool, List, [], ◌∷◌, ◌++◌, length, take, drop, cond, sym, ap, ◌∙◌}
+use Rattle.std.proofs.{Common.{append_assoc, arith}, lemmas.List.{take_at, drop_at, length-append, Sums.sum_by-cons}}
+use Rattle.std.{proofs.lemmas.List.Sums.sum_by-append, specs.List.AllByRecursion}
 use Rattle.list_facts.proofs.Elements.{all_append, all_parts}
-use Rattle.stick_parse.specs.declared.design.Line.{Line}
-use Rattle.stick_parse.specs.declared.design.Form.TheVariants.{Limit}
-use Rattle.stick_parse.specs.Writable.{IsLine}
-use Rattle.design_edits.specs.Cells.{unnumbered}
-use Rattle.design_edits.proofs.Splits.{same_split}
-use Rattle.edit_lines.specs.declared.script.EditLine.{EditLine}
-use Rattle.edit_lines.specs.declared.script.EditLine.TheVariants.{Add, Take}
-use Rattle.edit_lines.specs.Edits.{is_limit, limits_in, HasText, ChangesTo, IsWithoutLimit}
-use Rattle.edit_lines.specs.Building.{IsLimitAt}
+use Rattle.stick_parse.specs.{declared.design.{Line.Line, Form.TheVariants.Limit}, Writable.IsLine}
+use Rattle.design_edits.{specs.Cells.unnumbered, proofs.Splits.same_split}
+use Rattle.edit_lines.specs.declared.script.EditLine.{EditLine, TheVariants.{Add, Take}}
+use Rattle.edit_lines.specs.{Edits.{is_limit, limits_in, HasText, ChangesTo, IsWithoutLimit}, Building.IsLimitAt}
 
 -- ---- without a limit
 

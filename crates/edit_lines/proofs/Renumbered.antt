@@ -1,20 +1,13 @@
 -- What is read of lines, and the kind of a fault, do not depend on the numbers of the lines.
 use Rattle.std.proofs.Common.{◌≡◌, ℕ, ◌+◌, List, [], ◌∷◌, ◌++◌, length, Result, Ok, Err, refl, sym, ap, ◌∙◌}
 use Rattle.rule_table.specs.declared.technology.Tech.{Tech}
-use Rattle.stick_parse.specs.declared.fault.StickKind.{StickKind}
-use Rattle.stick_parse.specs.declared.fault.StickKind.TheVariants.{RepeatedName, PortWires}
-use Rattle.stick_parse.specs.declared.fault.StickFault.{StickFault}
-use Rattle.stick_parse.specs.declared.design.Line.{Line}
-use Rattle.stick_parse.specs.declared.design.CellText.{CellText}
-use Rattle.stick_parse.specs.declared.design.GridText.{GridText}
-use Rattle.stick_parse.specs.declared.design.Design.{Design}
-use Rattle.stick_parse.specs.Reading.{◌>>=◌}
-use Rattle.stick_parse.specs.Order.{at_line}
+use Rattle.stick_parse.specs.declared.fault.StickKind.{StickKind, TheVariants.{RepeatedName, PortWires}}
+use Rattle.stick_parse.specs.declared.{fault.StickFault.StickFault, design.{Line.Line, CellText.CellText}}
+use Rattle.stick_parse.specs.{declared.design.{GridText.GridText, Design.Design}, Reading.◌>>=◌, Order.at_line}
 use Rattle.stick_print.specs.ReadBack.{lines_from, cells_from, behind_cells, grids_from, laid_out}
-use Rattle.stick_cell.specs.Known.{Known, begun}
-use Rattle.stick_cell.specs.Checks.{demand}
-use Rattle.stick_cell.specs.Lines.{after_form, after_lines, is_wired, is_new_cell, after_cell, cells_after, known_cells}
-use Rattle.stick_cell.specs.Grids.{is_new_grid, with_grid_name, grids_after, resolved_cells}
+use Rattle.stick_cell.specs.{Known.{Known, begun}, Checks.demand, Lines.{after_form, after_lines, is_wired}}
+use Rattle.stick_cell.specs.{Lines.{is_new_cell, after_cell, cells_after, known_cells}, Grids.is_new_grid}
+use Rattle.stick_cell.specs.Grids.{with_grid_name, grids_after, resolved_cells}
 
 -- what is read, or the kind of the fault
 abbrev pub kinded : {A : Type 0} → Result A StickFault → Result A StickKind

@@ -1,17 +1,12 @@
 -- Edits: a cell of a design gets a limit more, or loses one.
-use Rattle.std.specs.Prelude.{◌≡◌, ℕ, ◌+◌, Bool, true, false, Contains, List, [], ◌∷◌, ◌++◌, Option, Some, count_by, position, slice_set}
-use Rattle.std.specs.Str.{bytes_eq}
-use Rattle.stick_parse.specs.declared.design.Form.{Form}
-use Rattle.stick_parse.specs.declared.design.Form.TheVariants.{Limit}
-use Rattle.stick_parse.specs.declared.design.Line.{Line}
-use Rattle.stick_parse.specs.declared.design.CellText.{CellText}
-use Rattle.stick_parse.specs.declared.design.Design.{Design}
-use Rattle.stick_parse.specs.Writable.{IsForm}
+use Rattle.std.specs.Prelude.{◌≡◌, ℕ, ◌+◌, Bool, true, false, Contains, List, [], ◌∷◌, ◌++◌, Option, Some, count_by}
+use Rattle.std.specs.{Prelude.{position, slice_set}, Str.bytes_eq}
+use Rattle.stick_parse.specs.declared.design.{Form.{Form, TheVariants.Limit}, Line.Line, CellText.CellText}
+use Rattle.stick_parse.specs.{declared.design.Design.Design, Writable.IsForm}
 use Rattle.stick_print.specs.ReadBack.{laid_out}
 use Rattle.design_sizes.specs.Sizes.{lines_in}
 use Rattle.design_edits.specs.Cells.{unnumbered, cell_text_at, AreWithoutUse}
-use Rattle.edit_lines.specs.declared.script.EditLine.{EditLine}
-use Rattle.edit_lines.specs.declared.script.EditLine.TheVariants.{Add, Take}
+use Rattle.edit_lines.specs.declared.script.EditLine.{EditLine, TheVariants.{Add, Take}}
 
 -- the name of the cell that is edited
 abbrev pub cell_in : EditLine → List ℕ

@@ -1,14 +1,9 @@
 -- Whether the limit that an edit adds has a fault, and that no other line of the new design has one.
 use Rattle.std.specs.Prelude.{◌≡◌, ℕ, List, Some, take, Ok, Err}
 use Rattle.rule_table.specs.declared.technology.Tech.{Tech}
-use Rattle.stick_parse.specs.declared.fault.StickKind.{StickKind}
-use Rattle.stick_parse.specs.declared.fault.StickFault.{StickFault}
-use Rattle.stick_parse.specs.declared.design.Design.{Design}
-use Rattle.stick_cell.specs.Known.{Known, known_at}
-use Rattle.stick_cell.specs.Lines.{after_limit}
-use Rattle.stick_cell.specs.Grids.{resolved_cells}
-use Rattle.edit_lines.specs.declared.script.EditLine.{EditLine}
-use Rattle.edit_lines.specs.declared.script.EditLine.TheVariants.{Add, Take}
+use Rattle.stick_parse.specs.declared.{fault.{StickKind.StickKind, StickFault.StickFault}, design.Design.Design}
+use Rattle.stick_cell.specs.{Known.{Known, known_at}, Lines.after_limit, Grids.resolved_cells}
+use Rattle.edit_lines.specs.declared.script.EditLine.{EditLine, TheVariants.{Add, Take}}
 use Rattle.edit_lines.specs.Edits.{cell_in, number_named}
 
 -- the limit that is added to cell number k of these, behind all its lines, has a fault of this kind

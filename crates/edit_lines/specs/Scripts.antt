@@ -1,16 +1,10 @@
 -- The script of edits: each line adds a limit to a cell, written as in the cell, or takes one of its limits away.
-use Rattle.std.specs.Prelude.{ℕ, List, if◌then◌else◌, Result, Ok, Err, codes}
-use Rattle.std.specs.Str.{bytes_eq}
-use Rattle.stick_parse.specs.declared.fault.StickKind.{StickKind}
-use Rattle.stick_parse.specs.declared.fault.StickKind.TheVariants.{BadLine}
-use Rattle.stick_parse.specs.declared.design.Form.{Form}
+use Rattle.std.specs.{Prelude.{ℕ, List, if◌then◌else◌, Result, Ok, Err, codes}, Str.bytes_eq}
+use Rattle.stick_parse.specs.declared.{fault.StickKind.{StickKind, TheVariants.BadLine}, design.Form.Form}
 use Rattle.stick_parse.specs.declared.design.Form.TheVariants.{Limit}
-use Rattle.stick_parse.specs.Reading.{◌>>=◌}
-use Rattle.stick_parse.specs.Words.{Word, path_at, name_at, count_at, ended}
-use Rattle.stick_parse.specs.Forms.{limit_of}
+use Rattle.stick_parse.specs.{Reading.◌>>=◌, Words.{Word, path_at, name_at, count_at, ended}, Forms.limit_of}
 use Rattle.design_edits.specs.Scripts.{steps_of}
-use Rattle.edit_lines.specs.declared.script.EditLine.{EditLine}
-use Rattle.edit_lines.specs.declared.script.EditLine.TheVariants.{Add, Take}
+use Rattle.edit_lines.specs.declared.script.EditLine.{EditLine, TheVariants.{Add, Take}}
 
 -- the edit that adds a limit
 abbrev pub added : List ℕ → Form → Result EditLine StickKind

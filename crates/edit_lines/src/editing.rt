@@ -1,7 +1,6 @@
 //! An edit of a design.
 ghost use Rattle.std.specs.Prelude.{◌≡◌, ◌+◌, ◌^◌, ◌≤◌, ◌<◌, Contains, IfOk, IfSome, MatchOption, length, map};
-ghost use Rattle.stick_parse.specs.declared.design.Design.{Design as SomeDesign};
-ghost use Rattle.stick_parse.specs.Writable.{IsWritable};
+ghost use Rattle.stick_parse.specs.{declared.design.Design.Design as SomeDesign, Writable.IsWritable};
 ghost use Rattle.stick_print.specs.ReadBack.{without_line};
 ghost use Rattle.design_sizes.specs.Sizes.{lines_in};
 ghost use Rattle.edit_lines.specs.Edits.{cell_in, number_named, HasLinesAfter, HasText, IsEdited};

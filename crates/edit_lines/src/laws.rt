@@ -1,7 +1,6 @@
 //! What the definitions promise.
 ghost use Rattle.std.specs.Prelude.{◌≡◌};
-ghost use Rattle.edit_lines.specs.Edits.{IsEdited};
-ghost use Rattle.edit_lines.specs.Faults.{IsAtFaultAlone};
+ghost use Rattle.edit_lines.specs.{Edits.IsEdited, Faults.IsAtFaultAlone};
 
 use crate::script::EditLine;
 use rule_table::Tech;

@@ -1,11 +1,8 @@
 //! A script of edits.
-ghost use Rattle.std.specs.Prelude.{◌≡◌, ◌≤◌, length, IfOk, MatchResult, Ok};
-ghost use Rattle.std.specs.List.{AllByRecursion};
-ghost use Rattle.stick_parse.specs.Reading.{GivesLine};
-ghost use Rattle.stick_parse.specs.WordViews.{views};
+ghost use Rattle.std.specs.{Prelude.{◌≡◌, ◌≤◌, length, IfOk, MatchResult, Ok}, List.AllByRecursion};
+ghost use Rattle.stick_parse.specs.{Reading.GivesLine, WordViews.views};
 ghost use Rattle.design_edits.specs.Scripts.{IsScriptFault};
-ghost use Rattle.edit_lines.specs.Edits.{HasText};
-ghost use Rattle.edit_lines.specs.Scripts.{add_of, take_of, edit_named, edit_of, edits_of};
+ghost use Rattle.edit_lines.specs.{Edits.HasText, Scripts.{add_of, take_of, edit_named, edit_of, edits_of}};
 
 use crate::script::EditLine;
 use design_edits::{ScriptFault, ScriptLine, read_script};

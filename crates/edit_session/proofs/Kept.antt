@@ -1,19 +1,13 @@
 -- What a session keeps when an edge comes or goes.
-use Rattle.std.proofs.Common.{◌≡◌, ◌≢◌, ℕ, suc, ◌+◌, ◌-◌, ◌<◌, Bool, inl, inr, ℤ, List, [], ◌∷◌, ◌++◌, length, get_or, sym, ap, subst, ◌∙◌, arith}
-use Rattle.std.specs.List.{Any, remove}
-use Rattle.std.proofs.lemmas.Bool.{cases_lt}
-use Rattle.std.proofs.lemmas.List.{get_or_default}
+use Rattle.std.proofs.Common.{◌≡◌, ◌≢◌, ℕ, suc, ◌+◌, ◌-◌, ◌<◌, Bool, inl, inr, ℤ, List, [], ◌∷◌, ◌++◌, length, get_or}
+use Rattle.std.proofs.{Common.{sym, ap, subst, ◌∙◌, arith}, lemmas.{Bool.cases_lt, List.get_or_default}}
 use Rattle.std.proofs.lemmas.List.Edits.{length-remove, get_or-remove_below, get_or-remove_above}
-use Rattle.std.proofs.lemmas.List.Elements.{All-from_get_or, All-push, Contains-append_left}
-use Rattle.cons_graph.specs.declared.edges.Edge.{Edge}
-use Rattle.cons_graph.specs.Constraints.{IsConstraintGraph, IsEdgeAmong, LeadsFromOrigin}
-use Rattle.cons_graph.specs.EdgeNumbers.{edge_at}
-use Rattle.cons_graph.specs.Solutions.{Meets, IsSolution, IsLeastSolution, value_of}
+use Rattle.std.{proofs.lemmas.List.Elements.{All-from_get_or, All-push, Contains-append_left}, specs.List.{Any, remove}}
+use Rattle.cons_graph.specs.{declared.edges.Edge.Edge, Constraints.{IsConstraintGraph, IsEdgeAmong, LeadsFromOrigin}}
+use Rattle.cons_graph.specs.{EdgeNumbers.edge_at, Solutions.{Meets, IsSolution, IsLeastSolution, value_of}}
 use Rattle.cons_graph.specs.Walks.{HasPositiveCycle}
 use Rattle.round_log.proofs.Least.{edge_among, from_origin, meets_at, positive_cycle_excludes}
-use Rattle.edit_session.specs.Raised.{IsAppended}
-use Rattle.edit_session.proofs.Linked.{none, edge_before, length_more}
-use Rattle.edit_session.proofs.Sizes.{least_small}
+use Rattle.edit_session.{specs.Raised.IsAppended, proofs.{Linked.{none, edge_before, length_more}, Sizes.least_small}}
 
 -- ---- an edge comes
 

@@ -1,11 +1,9 @@
 -- Links between edges of one tail: made one after another.
-use Rattle.std.proofs.Common.{◌≡◌, ◌≢◌, ℕ, suc, ◌<◌, ◌≤◌, pos, List, [], ◌∷◌, ◌++◌, inl, inr, length, get_or, set, refl, sym, ap, subst, ◌∙◌, arith}
-use Rattle.std.proofs.lemmas.Bool.{cases_eq}
-use Rattle.std.proofs.lemmas.List.{length-set, length-append, get_or-set_same, get_or-set_other, get_or_append_left, set-get_or}
-use Rattle.std.proofs.Math.Seq.{get_or-append_seam}
-use Rattle.cons_graph.specs.declared.edges.Edge.{Edge}
-use Rattle.cons_graph.specs.declared.edges.Why.TheVariants.{Size}
-use Rattle.cons_graph.specs.EdgeNumbers.{edge_at}
+use Rattle.std.proofs.Common.{◌≡◌, ◌≢◌, ℕ, suc, ◌<◌, ◌≤◌, pos, List, [], ◌∷◌, ◌++◌, inl, inr, length, get_or, set, refl}
+use Rattle.std.proofs.{Common.{sym, ap, subst, ◌∙◌, arith}, Math.Seq.get_or-append_seam}
+use Rattle.std.proofs.lemmas.{Bool.cases_eq, List.{length-set, length-append, get_or-set_same, get_or-set_other}}
+use Rattle.std.proofs.lemmas.List.{get_or_append_left, set-get_or}
+use Rattle.cons_graph.specs.{declared.edges.{Edge.Edge, Why.TheVariants.Size}, EdgeNumbers.edge_at}
 use Rattle.edit_session.specs.Links.{IsLatest, AreLinksUpTo, AreLinks}
 
 abbrev pub none : Edge

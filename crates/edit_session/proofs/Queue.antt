@@ -1,11 +1,10 @@
 -- The queue of those that wait: what comes and what goes.
-use Rattle.std.proofs.Common.{◌≡◌, ℕ, ◌<◌, ◌≤◌, Bool, true, false, List, [], ◌∷◌, ◌++◌, inl, inr, length, get_or, set, refl, sym, subst, ◌∙◌, arith}
+use Rattle.std.proofs.Common.{◌≡◌, ℕ, ◌<◌, ◌≤◌, Bool, true, false, List, [], ◌∷◌, ◌++◌, inl, inr, length, get_or, set}
+use Rattle.std.proofs.{Common.{refl, sym, subst, ◌∙◌, arith}, lemmas.{Bool.{cases_eq, true≢false}, List.length-set}}
+use Rattle.std.proofs.lemmas.List.{get_or-set_same, get_or-set_other, FromFn.length-range_with_len}
 use Rattle.std.specs.List.{range_with_len}
-use Rattle.std.proofs.lemmas.Bool.{cases_eq, true≢false}
-use Rattle.std.proofs.lemmas.List.{length-set, get_or-set_same, get_or-set_other}
-use Rattle.std.proofs.lemmas.List.FromFn.{length-range_with_len}
-use Rattle.round_log.proofs.Chains.{In}
-use Rattle.round_log.proofs.Members.{In-append, In-append-left, In-append-right, In-range-from, IsDistinct, length_of_distinct}
+use Rattle.round_log.proofs.{Chains.In, Members.{In-append, In-append-left, In-append-right, In-range-from, IsDistinct}}
+use Rattle.round_log.proofs.Members.{length_of_distinct}
 use Rattle.edit_session.specs.Queues.{IsQueueOf}
 
 -- distinct numbers below n are at most n

@@ -1,19 +1,14 @@
 -- Values that rise from those of a least solution: one look at an edge, and the end.
-use Rattle.std.proofs.Common.{◌≡◌, ◌≢◌, ℕ, zero, suc, ◌^◌, ◌<◌, ◌≤◌, Bool, true, false, ◌⊎◌, inl, inr, ℤ, pos, negsuc, neg_ℤ, ◌+ℤ◌, ◌-ℤ◌, ◌≤ℤ◌, ◌<ℤ◌, List, [], ◌∷◌, ◌++◌, length, get_or, set, refl, sym, subst, ◌∙◌, arith}
-use Rattle.std.specs.List.{Contains}
-use Rattle.std.proofs.lemmas.Int.{ints}
-use Rattle.std.proofs.lemmas.Bool.{cases_eq, cases_lt}
-use Rattle.std.proofs.lemmas.List.{length-set, get_or-set_same, get_or-set_other}
-use Rattle.std.proofs.lemmas.List.Elements.{All-from_get_or, All-push, Contains-get_or}
-use Rattle.cons_graph.specs.declared.edges.Edge.{Edge}
-use Rattle.cons_graph.specs.Constraints.{IsEdgeAmong}
-use Rattle.cons_graph.specs.EdgeNumbers.{edge_at}
-use Rattle.cons_graph.specs.Solutions.{Meets, IsLeastSolution, value_of}
-use Rattle.cons_graph.specs.Walks.{IsWalk, walk_length, HasPositiveCycle}
+use Rattle.std.proofs.Common.{◌≡◌, ◌≢◌, ℕ, zero, suc, ◌^◌, ◌<◌, ◌≤◌, Bool, true, false, ◌⊎◌, inl, inr, ℤ, pos, negsuc}
+use Rattle.std.proofs.Common.{neg_ℤ, ◌+ℤ◌, ◌-ℤ◌, ◌≤ℤ◌, ◌<ℤ◌, List, [], ◌∷◌, ◌++◌, length, get_or, set, refl, sym, subst}
+use Rattle.std.proofs.{Common.{◌∙◌, arith}, lemmas.{Int.ints, Bool.{cases_eq, cases_lt}, List.length-set}}
+use Rattle.std.proofs.lemmas.List.{get_or-set_same, get_or-set_other, Elements.{All-from_get_or, All-push}}
+use Rattle.std.{proofs.lemmas.List.Elements.Contains-get_or, specs.List.Contains}
+use Rattle.cons_graph.specs.{declared.edges.Edge.Edge, Constraints.IsEdgeAmong, EdgeNumbers.edge_at, Solutions.Meets}
+use Rattle.cons_graph.specs.{Solutions.{IsLeastSolution, value_of}, Walks.{IsWalk, walk_length, HasPositiveCycle}}
 use Rattle.cons_graph.proofs.CycleTest.{cycle_from_walk}
 use Rattle.round_log.proofs.Least.{edge_among, meets_at}
-use Rattle.edit_session.specs.Links.{IsLatest}
-use Rattle.edit_session.specs.Raised.{IsReached, IsRaised, nat_of, room_of, room_left}
+use Rattle.edit_session.specs.{Links.IsLatest, Raised.{IsReached, IsRaised, nat_of, room_of, room_left}}
 use Rattle.edit_session.proofs.Linked.{none}
 
 -- ---- walks

@@ -1,16 +1,12 @@
 -- How large the values of a least solution are: they have no gap wider than the longest edge, or all values above it could be less.
-use Rattle.std.proofs.Common.{◌≡◌, ℕ, zero, suc, ◌*◌, ◌^◌, ◌<◌, ◌≤◌, ◌⊎◌, inl, inr, ℤ, pos, neg_ℤ, ◌+ℤ◌, ◌-ℤ◌, ◌≤ℤ◌, ◌<ℤ◌, List, [], ◌∷◌, length, get_or, refl, sym, ap, subst, ◌∙◌, arith}
+use Rattle.std.proofs.Common.{◌≡◌, ℕ, zero, suc, ◌*◌, ◌^◌, ◌<◌, ◌≤◌, ◌⊎◌, inl, inr, ℤ, pos, neg_ℤ, ◌+ℤ◌, ◌-ℤ◌, ◌≤ℤ◌}
+use Rattle.std.proofs.Common.{◌<ℤ◌, List, [], ◌∷◌, length, get_or, refl, sym, ap, subst, ◌∙◌, arith}
+use Rattle.std.proofs.lemmas.{Int.{ints, by_lt_z}, Bool.cases_eq, List.FromFn.length-range_with_len}
 use Rattle.std.specs.List.{range_with_len}
-use Rattle.std.proofs.lemmas.Int.{ints, by_lt_z}
-use Rattle.std.proofs.lemmas.Bool.{cases_eq}
-use Rattle.std.proofs.lemmas.List.FromFn.{length-range_with_len}
-use Rattle.cons_graph.specs.declared.edges.Edge.{Edge}
-use Rattle.cons_graph.specs.Constraints.{Constraints, IsConstraintGraph, IsEdgeAmong}
-use Rattle.cons_graph.specs.EdgeNumbers.{edge_at}
-use Rattle.cons_graph.specs.Solutions.{IsSolution, IsLeastSolution}
-use Rattle.round_log.proofs.Chains.{In}
-use Rattle.round_log.proofs.Members.{In-range-from, IsDistinct, length_of_distinct}
-use Rattle.round_log.proofs.Least.{from_origin, meets_at}
+use Rattle.cons_graph.specs.{declared.edges.Edge.Edge, Constraints.{Constraints, IsConstraintGraph, IsEdgeAmong}}
+use Rattle.cons_graph.specs.{EdgeNumbers.edge_at, Solutions.{IsSolution, IsLeastSolution}}
+use Rattle.round_log.proofs.{Chains.In, Members.{In-range-from, IsDistinct, length_of_distinct}, Least.from_origin}
+use Rattle.round_log.proofs.Least.{meets_at}
 use Rattle.liao_wong.specs.Answers.{IsWithinLimit}
 
 -- a value that is at most 2^21 above a level

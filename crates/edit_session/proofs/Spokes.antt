@@ -1,13 +1,9 @@
 -- Graphs of the tests: an edge from the origin to each other variable, one after another.
-use Rattle.std.proofs.Common.{◌≡◌, ℕ, suc, ◌^◌, ◌<◌, ◌≤◌, inl, inr, ℤ, pos, neg_ℤ, ◌≤ℤ◌, List, [], ◌∷◌, ◌++◌, get_or, sym, subst, ◌∙◌, arith}
+use Rattle.std.proofs.Common.{◌≡◌, ℕ, suc, ◌^◌, ◌<◌, ◌≤◌, inl, inr, ℤ, pos, neg_ℤ, ◌≤ℤ◌, List, [], ◌∷◌, ◌++◌, get_or}
+use Rattle.std.proofs.{Common.{sym, subst, ◌∙◌, arith}, lemmas.{Int.ints, Bool.cases_lt, List.length-append}}
+use Rattle.std.proofs.lemmas.List.{get_or_append_left, Elements.{All-nil, All-push}, Quantifiers.Any-push}
 use Rattle.std.specs.List.{Any}
-use Rattle.std.proofs.lemmas.Int.{ints}
-use Rattle.std.proofs.lemmas.Bool.{cases_lt}
-use Rattle.std.proofs.lemmas.List.{length-append, get_or_append_left}
-use Rattle.std.proofs.lemmas.List.Elements.{All-nil, All-push}
-use Rattle.std.proofs.lemmas.List.Quantifiers.{Any-push}
-use Rattle.cons_graph.specs.declared.edges.Edge.{Edge}
-use Rattle.cons_graph.specs.Constraints.{IsConstraintGraph, IsEdgeAmong, LeadsFromOrigin}
+use Rattle.cons_graph.specs.{declared.edges.Edge.Edge, Constraints.{IsConstraintGraph, IsEdgeAmong, LeadsFromOrigin}}
 
 pub graph_first : IsConstraintGraph (record { vars = 1; edges = [] })
 graph_first = record {

@@ -1,18 +1,13 @@
 -- The values when an edge has been appended.
-use Rattle.std.proofs.Common.{◌≡◌, ◌≢◌, ℕ, suc, ◌-◌, ◌^◌, ◌<◌, ◌≤◌, Bool, true, false, ◌⊎◌, inl, inr, ℤ, pos, neg_ℤ, ◌+ℤ◌, ◌-ℤ◌, ◌≤ℤ◌, ◌<ℤ◌, List, [], length, get_or, set, refl, sym, ap, subst, ◌∙◌, arith}
-use Rattle.std.specs.List.{Contains}
-use Rattle.std.proofs.lemmas.Int.{ints}
-use Rattle.std.proofs.lemmas.Bool.{cases_eq}
-use Rattle.std.proofs.lemmas.List.{length-set}
-use Rattle.std.proofs.lemmas.List.Elements.{All-from_get_or, All-nil, Contains-get_or}
+use Rattle.std.proofs.Common.{◌≡◌, ◌≢◌, ℕ, suc, ◌-◌, ◌^◌, ◌<◌, ◌≤◌, Bool, true, false, ◌⊎◌, inl, inr, ℤ, pos, neg_ℤ}
+use Rattle.std.proofs.Common.{◌+ℤ◌, ◌-ℤ◌, ◌≤ℤ◌, ◌<ℤ◌, List, [], length, get_or, set, refl, sym, ap, subst, ◌∙◌, arith}
+use Rattle.std.proofs.lemmas.{Int.ints, Bool.cases_eq, List.{length-set, Elements.{All-from_get_or, All-nil}}}
+use Rattle.std.{proofs.lemmas.List.Elements.Contains-get_or, specs.List.Contains}
 use Rattle.cons_graph.specs.declared.edges.Edge.{Edge}
-use Rattle.cons_graph.specs.Constraints.{IsEdgeAmong}
-use Rattle.cons_graph.specs.EdgeNumbers.{edge_at}
-use Rattle.cons_graph.specs.Solutions.{Meets, IsLeastSolution, value_of}
+use Rattle.cons_graph.specs.{Constraints.IsEdgeAmong, EdgeNumbers.edge_at, Solutions.{Meets, IsLeastSolution, value_of}}
 use Rattle.round_log.proofs.Least.{edge_among, meets_at}
 use Rattle.edit_session.specs.Raised.{IsReached, IsRaised, IsAppended, nat_of}
-use Rattle.edit_session.proofs.Linked.{none}
-use Rattle.edit_session.proofs.Rises.{IsSet, is_set, still_met, nat_of_is, reached_more}
+use Rattle.edit_session.proofs.{Linked.none, Rises.{IsSet, is_set, still_met, nat_of_is, reached_more}}
 
 -- the last edge
 abbrev pub last_of : List Edge → Edge

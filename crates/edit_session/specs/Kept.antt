@@ -1,7 +1,6 @@
 -- What a session keeps true of its fields.
 use Rattle.std.specs.Prelude.{◌≡◌, ℕ, Bool, false, true, ℤ, List, length}
-use Rattle.cons_graph.specs.Constraints.{Constraints, IsSmallGraph}
-use Rattle.cons_graph.specs.Solutions.{IsLeastSolution, value_of}
+use Rattle.cons_graph.specs.{Constraints.{Constraints, IsSmallGraph}, Solutions.{IsLeastSolution, value_of}}
 use Rattle.cons_graph.specs.Walks.{HasPositiveCycle}
 use Rattle.edit_session.specs.Links.{AreLinks}
 

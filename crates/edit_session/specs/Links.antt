@@ -1,7 +1,6 @@
 -- Which edges leave each variable, as links from an edge to the next older one of the same tail. Only private functions cite these.
 use Rattle.std.specs.Prelude.{◌≡◌, ◌≢◌, ℕ, suc, ◌<◌, ◌≤◌, List, length, slice_index}
-use Rattle.cons_graph.specs.declared.edges.Edge.{Edge}
-use Rattle.cons_graph.specs.EdgeNumbers.{edge_at}
+use Rattle.cons_graph.specs.{declared.edges.Edge.Edge, EdgeNumbers.edge_at}
 
 -- the last of the first n edges that leaves v has the number link - 1; where link is 0, none of them does
 pub record IsLatest (edges : List Edge) (v n link : ℕ) : Type 0 where

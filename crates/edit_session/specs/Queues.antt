@@ -1,7 +1,6 @@
 -- Variables that wait. Only private functions cite these.
 use Rattle.std.specs.Prelude.{◌≡◌, ℕ, ◌<◌, ◌≤◌, Bool, false, true, List, length, slice_index_or}
-use Rattle.round_log.proofs.Chains.{In}
-use Rattle.round_log.proofs.Members.{IsDistinct}
+use Rattle.round_log.proofs.{Chains.In, Members.IsDistinct}
 
 -- how many wait, and for each variable whether it does
 pub record Waits : Type 0 where

@@ -1,10 +1,8 @@
 -- Values while they rise after an edge has been appended. Only private functions cite these.
-use Rattle.std.specs.Prelude.{◌≡◌, ◌≢◌, ℕ, suc, ◌+◌, ◌^◌, ◌<◌, ◌≤◌, Bool, false, true, ◌⊎◌, ℤ, pos, negsuc, ◌+ℤ◌, ◌-ℤ◌, ◌≤ℤ◌, List, [], ◌∷◌, length, All, Contains, slice_index_or}
-use Rattle.cons_graph.specs.declared.edges.Edge.{Edge}
-use Rattle.cons_graph.specs.Constraints.{IsConstraintGraph}
-use Rattle.cons_graph.specs.EdgeNumbers.{edge_at}
-use Rattle.cons_graph.specs.Solutions.{Meets, IsSolution, value_of}
-use Rattle.cons_graph.specs.Walks.{IsWalk, walk_length}
+use Rattle.std.specs.Prelude.{◌≡◌, ◌≢◌, ℕ, suc, ◌+◌, ◌^◌, ◌<◌, ◌≤◌, Bool, false, true, ◌⊎◌, ℤ, pos, negsuc, ◌+ℤ◌, ◌-ℤ◌}
+use Rattle.std.specs.Prelude.{◌≤ℤ◌, List, [], ◌∷◌, length, All, Contains, slice_index_or}
+use Rattle.cons_graph.specs.{declared.edges.Edge.Edge, Constraints.IsConstraintGraph, EdgeNumbers.edge_at}
+use Rattle.cons_graph.specs.{Solutions.{Meets, IsSolution, value_of}, Walks.{IsWalk, walk_length}}
 use Rattle.liao_wong.specs.Answers.{IsWithinLimit}
 
 -- a walk along edges of the list, from one variable to another, of this length

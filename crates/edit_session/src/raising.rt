@@ -1,10 +1,8 @@
-ghost use Rattle.std.specs.Prelude.{◌≡◌, ℕ, ◌+◌, ◌*◌, ◌^◌, ◌<◌, ◌≤◌, false, true, ℤ, pos, neg_ℤ, ◌+ℤ◌, ◌≤ℤ◌, ◌<ℤ◌, length, IfSome, IfNone};
-ghost use Rattle.cons_graph.specs.Constraints.{IsEdgeAmong};
-ghost use Rattle.cons_graph.specs.Solutions.{Meets, IsLeastSolution, value_of};
-ghost use Rattle.cons_graph.specs.Walks.{HasPositiveCycle};
-ghost use Rattle.cons_graph.specs.EdgeNumbers.{edge_at};
-ghost use Rattle.edit_session.specs.Links.{AreLinks};
-ghost use Rattle.edit_session.specs.Raised.{IsRaised, IsAppended, room_left};
+ghost use Rattle.std.specs.Prelude.{◌≡◌, ℕ, ◌+◌, ◌*◌, ◌^◌, ◌<◌, ◌≤◌, false, true, ℤ, pos, neg_ℤ, ◌+ℤ◌, ◌≤ℤ◌, ◌<ℤ◌};
+ghost use Rattle.std.specs.Prelude.{length, IfSome, IfNone};
+ghost use Rattle.cons_graph.specs.{Constraints.IsEdgeAmong, Solutions.{Meets, IsLeastSolution, value_of}};
+ghost use Rattle.cons_graph.specs.{Walks.HasPositiveCycle, EdgeNumbers.edge_at};
+ghost use Rattle.edit_session.specs.{Links.AreLinks, Raised.{IsRaised, IsAppended, room_left}};
 
 use crate::links::Links;
 use crate::waiting::Waiting;

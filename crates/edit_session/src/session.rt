@@ -1,9 +1,7 @@
-ghost use Rattle.std.specs.Prelude.{◌≡◌, ◌≢◌, ◌↔◌, ℕ, ◌<◌, ◌≤◌, [], ◌∷◌, ◌++◌, length, All, None, Err, IfOk, OnOk, OnErr, IfSome};
-ghost use Rattle.std.specs.List.{remove};
-ghost use Rattle.cons_graph.specs.Constraints.{IsConstraintGraph, IsEdgeAmong};
-ghost use Rattle.cons_graph.specs.EdgeNumbers.{edge_at};
-ghost use Rattle.cons_graph.specs.Solutions.{IsLeastSolution, value_of};
-ghost use Rattle.cons_graph.specs.Walks.{HasPositiveCycle};
+ghost use Rattle.std.specs.Prelude.{◌≡◌, ◌≢◌, ◌↔◌, ℕ, ◌<◌, ◌≤◌, [], ◌∷◌, ◌++◌, length, All, None, Err, IfOk, OnOk};
+ghost use Rattle.std.specs.{Prelude.{OnErr, IfSome}, List.remove};
+ghost use Rattle.cons_graph.specs.{Constraints.{IsConstraintGraph, IsEdgeAmong}, EdgeNumbers.edge_at};
+ghost use Rattle.cons_graph.specs.{Solutions.{IsLeastSolution, value_of}, Walks.HasPositiveCycle};
 ghost use Rattle.liao_wong.specs.Answers.{IsWithinLimit};
 
 use crate::links::Links;

@@ -1,6 +1,5 @@
 ghost use Rattle.std.specs.Prelude.{◌≡◌, ◌≤◌, length, IfOk, IfSome, IfNone};
-ghost use Rattle.cons_graph.specs.Solutions.{IsLeastSolution, value_of};
-ghost use Rattle.cons_graph.specs.Walks.{HasPositiveCycle};
+ghost use Rattle.cons_graph.specs.{Solutions.{IsLeastSolution, value_of}, Walks.HasPositiveCycle};
 ghost use Rattle.round_log.specs.Orders.{IsOrder};
 
 use cons_graph::Graph;

@@ -1,45 +1,26 @@
 -- The items of a cell lie among its variables, and their lengths are small.
-use Rattle.std.proofs.Common.{◌≡◌, ℕ, zero, suc, ◌+◌, ◌<◌, ◌≤◌, ℤ, pos, ◌+ℤ◌, ◌-ℤ◌, ◌*ℤ◌, ◌≤ℤ◌, Bool, true, false, List, [], ◌∷◌, length, map, take, All, cond, refl, sym, ap, ◌∙◌, subst, arith}
-use Rattle.std.specs.Prelude.{neg_ℤ, slice_index, int_lt}
-use Rattle.std.specs.Int.{int_max}
-use Rattle.std.specs.List.{flat_map, range_with_len, AllByRecursion}
-use Rattle.std.proofs.lemmas.Int.{ints}
-use Rattle.std.proofs.lemmas.List.Elements.{All-from_recursion}
-use Rattle.std.proofs.lemmas.List.Sums.{sum_by-cons}
-use Rattle.lam_geom.specs.declared.boxes.Axis.{Axis}
-use Rattle.lam_geom.specs.declared.boxes.Axis.TheVariants.{X, Y}
-use Rattle.rule_table.specs.declared.technology.Tech.{Tech}
-use Rattle.rule_table.specs.declared.classes.Class.{Class}
-use Rattle.rule_table.specs.declared.classes.Layer.{Layer}
-use Rattle.rule_table.specs.declared.classes.Layer.TheVariants.{Diffusion, Poly, Metal}
-use Rattle.rule_table.specs.Bounds.{IsSize, IsTechnology}
+use Rattle.std.proofs.Common.{◌≡◌, ℕ, zero, suc, ◌+◌, ◌<◌, ◌≤◌, ℤ, pos, ◌+ℤ◌, ◌-ℤ◌, ◌*ℤ◌, ◌≤ℤ◌, Bool, true, false, List}
+use Rattle.std.proofs.Common.{[], ◌∷◌, length, map, take, All, cond, refl, sym, ap, ◌∙◌, subst, arith}
+use Rattle.std.{proofs.lemmas.{Int.ints, List.{Elements.All-from_recursion, Sums.sum_by-cons}}, specs.Prelude.neg_ℤ}
+use Rattle.std.specs.{Prelude.{slice_index, int_lt}, Int.int_max, List.{flat_map, range_with_len, AllByRecursion}}
+use Rattle.lam_geom.specs.declared.boxes.Axis.{Axis, TheVariants.{X, Y}}
+use Rattle.rule_table.specs.declared.{technology.Tech.Tech, classes.{Class.Class, Layer.{Layer, TheVariants.Diffusion}}}
+use Rattle.rule_table.specs.{declared.classes.Layer.TheVariants.{Poly, Metal}, Bounds.{IsSize, IsTechnology}}
 use Rattle.rule_table.specs.Technology.{numbers_of, pad_of, width_of}
-use Rattle.rule_table.proofs.Sound.{sound}
-use Rattle.rule_table.proofs.Widths.{pad_bounds, pad_even}
-use Rattle.sym_items.specs.declared.items.Item.{Item}
-use Rattle.sym_items.specs.declared.items.End.{End}
-use Rattle.sym_items.specs.declared.items.Items.{Items}
-use Rattle.sym_items.specs.Transposed.{transposed_item}
-use Rattle.cell_model.specs.declared.cell.Axis2.{Axis2}
-use Rattle.cell_model.specs.declared.cell.Axis2.TheVariants.{Across, Up}
-use Rattle.cell_model.specs.declared.cell.NodeKind.{NodeKind}
-use Rattle.cell_model.specs.declared.cell.NodeKind.TheVariants.{Joint, Contact, Buried, Fet}
-use Rattle.cell_model.specs.declared.cell.NodeNets.{NodeNets}
-use Rattle.cell_model.specs.declared.cell.WireEnd.{WireEnd}
+use Rattle.rule_table.proofs.{Sound.sound, Widths.{pad_bounds, pad_even}}
+use Rattle.sym_items.specs.{declared.items.{Item.Item, End.End, Items.Items}, Transposed.transposed_item}
+use Rattle.cell_model.specs.declared.cell.{Axis2.{Axis2, TheVariants.{Across, Up}}, NodeKind.NodeKind}
+use Rattle.cell_model.specs.declared.cell.{NodeKind.TheVariants.{Joint, Contact, Buried, Fet}, NodeNets.NodeNets}
+use Rattle.cell_model.specs.{declared.cell.{WireEnd.WireEnd, Wire.Wire, Nets.Nets, Cell.Cell}, Wiring.is_same_axis}
+use Rattle.cell_model.specs.{Wiring.buried_pad, Sound.{IsInOrder, IsKind, IsEnd, IsWire, IsSound, node_at, wire_at}}
 use Rattle.cell_model.specs.declared.cell.WireEnd.TheVariants as ends
-use Rattle.cell_model.specs.declared.cell.Wire.{Wire}
-use Rattle.cell_model.specs.declared.cell.Nets.{Nets}
-use Rattle.cell_model.specs.declared.cell.Cell.{Cell}
-use Rattle.cell_model.specs.Wiring.{is_same_axis, buried_pad}
-use Rattle.cell_model.specs.Sound.{IsInOrder, IsKind, IsEnd, IsWire, IsSound, node_at, wire_at}
-use Rattle.expand.specs.Variables.{half, centre, past, running, cross_of, variables_of}
-use Rattle.expand.specs.NodeItems.{item_running, on_layer, box_at, box_round, square_round, standing_at, channel_items, kind_items}
+use Rattle.expand.specs.{Variables.{half, centre, past, running, cross_of, variables_of}, NodeItems.item_running}
+use Rattle.expand.specs.NodeItems.{on_layer, box_at, box_round, square_round, standing_at, channel_items, kind_items}
 use Rattle.expand.specs.WireItems.{half_channel, reach, low_end_of, high_end_of, contact_at, run_item, wire_items}
-use Rattle.expand.specs.Items.{items_of_node, items_of_wire, item_list, AreItems}
-use Rattle.expand.specs.Bounds.{IsSmall, IsNear, IsEndAmong, IsSpanAmong, IsItemAmong, LiesAlong, IsNearAlong}
+use Rattle.expand.specs.{Items.{items_of_node, items_of_wire, item_list, AreItems}, Bounds.{IsSmall, IsNear}}
+use Rattle.expand.specs.Bounds.{IsEndAmong, IsSpanAmong, IsItemAmong, LiesAlong, IsNearAlong}
+use Rattle.expand.proofs.{Cells.{node_sound, wire_sound}, CrossVariables.running_more}
 use Rattle.list_facts.proofs.Elements.{all_append, all_flat, all_numbers, all_of, all_weaker}
-use Rattle.expand.proofs.Cells.{node_sound, wire_sound}
-use Rattle.expand.proofs.CrossVariables.{running_more}
 
 -- ---- lengths
 

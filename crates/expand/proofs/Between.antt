@@ -1,16 +1,10 @@
 -- What the inequality between two ends says.
-use Rattle.std.proofs.Common.{◌≡◌, ℕ, true, false, eqb, ℤ, ◌+ℤ◌, ◌-ℤ◌, ◌≤ℤ◌, List, [], ◌∷◌, refl, sym, ap, subst, arith, inl, inr}
+use Rattle.std.proofs.Common.{◌≡◌, ℕ, true, false, eqb, ℤ, ◌+ℤ◌, ◌-ℤ◌, ◌≤ℤ◌, List, [], ◌∷◌, refl, sym, ap, subst, arith}
+use Rattle.std.proofs.{Common.{inl, inr}, lemmas.{Int.ints, Bool.{cases_Bool, cases_eq, eq-eqb, ne_eqb}}}
 use Rattle.std.specs.List.{AllByRecursion}
-use Rattle.std.proofs.lemmas.Int.{ints}
-use Rattle.std.proofs.lemmas.Bool.{cases_Bool, cases_eq, eq-eqb, ne_eqb}
-use Rattle.cons_graph.specs.declared.edges.Edge.{Edge}
-use Rattle.cons_graph.specs.declared.edges.Why.{Why}
-use Rattle.cons_graph.specs.Solutions.{Meets}
-use Rattle.sym_items.specs.declared.items.End.{End}
-use Rattle.sym_items.specs.Values.{end_under}
-use Rattle.expand.specs.Structure.{at_least, between}
-use Rattle.expand.specs.Bounds.{FitsOn}
-use Rattle.expand.specs.Laws.{BetweenMeans}
+use Rattle.cons_graph.specs.{declared.edges.{Edge.Edge, Why.Why}, Solutions.Meets}
+use Rattle.sym_items.specs.{declared.items.End.End, Values.end_under}
+use Rattle.expand.specs.{Structure.{at_least, between}, Bounds.FitsOn, Laws.BetweenMeans}
 
 -- there is an inequality between ends on different variables alone
 one_edge : (low high : End) (len : ℤ) (why : Why) → eqb low.var high.var ≡ false → between low high len why ≡ at_least low.var high.var ((len -ℤ high.off) +ℤ low.off) why ∷ []

@@ -1,12 +1,9 @@
 -- What a sound cell has at each of its places.
-use Rattle.std.proofs.Common.{◌≡◌, ℕ, ◌<◌, length, sym, subst}
-use Rattle.std.proofs.lemmas.List.Elements.{All-from_recursion}
+use Rattle.std.proofs.{Common.{◌≡◌, ℕ, ◌<◌, length, sym, subst}, lemmas.List.Elements.All-from_recursion}
 use Rattle.rule_table.specs.declared.technology.Tech.{Tech}
-use Rattle.cell_model.specs.declared.cell.NodeKind.{NodeKind}
-use Rattle.cell_model.specs.declared.cell.WireEnd.{WireEnd}
-use Rattle.cell_model.specs.declared.cell.WireEnd.TheVariants as ends
-use Rattle.cell_model.specs.declared.cell.Cell.{Cell}
+use Rattle.cell_model.specs.declared.cell.{NodeKind.NodeKind, WireEnd.WireEnd, Cell.Cell}
 use Rattle.cell_model.specs.Sound.{IsNode, IsKind, IsWire, IsSound, IsEnd, node_at, wire_at, no_node, no_wire}
+use Rattle.cell_model.specs.declared.cell.WireEnd.TheVariants as ends
 
 pub node_sound : (tech : Tech) (cell : Cell) (k : ℕ) → IsSound tech cell → k < length cell.nodes → IsNode tech (node_at cell.nodes k)
 node_sound tech cell k s lt = All-from_recursion (IsNode tech) cell.nodes s.nodes k no_node lt

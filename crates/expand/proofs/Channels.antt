@@ -1,16 +1,12 @@
 -- The items of transistors and contacts, box by box.
-use Rattle.std.proofs.Common.{◌≡◌, ℕ, ℤ, ◌+ℤ◌, Bool, true, false, List, [], ◌∷◌, ◌++◌, map, refl, ap, ◌∙◌, subst, append_assoc}
-use Rattle.std.specs.Prelude.{neg_ℤ}
-use Rattle.rule_table.specs.declared.technology.Tech.{Tech}
-use Rattle.rule_table.specs.declared.classes.Class.TheVariants.{M, P, Dc, Dm, C, I, G}
-use Rattle.rule_table.specs.declared.classes.Layer.{Layer}
-use Rattle.rule_table.specs.Technology.{numbers_of, pad_of}
+use Rattle.std.proofs.Common.{◌≡◌, ℕ, ℤ, ◌+ℤ◌, Bool, true, false, List, [], ◌∷◌, ◌++◌, map, refl, ap, ◌∙◌, subst}
+use Rattle.std.{proofs.Common.append_assoc, specs.Prelude.neg_ℤ}
+use Rattle.rule_table.specs.declared.{technology.Tech.Tech, classes.Class.TheVariants.{M, P, Dc, Dm, C, I, G}}
+use Rattle.rule_table.specs.{declared.classes.Layer.Layer, Technology.{numbers_of, pad_of}}
 use Rattle.sym_items.specs.declared.items.Item.{Item}
-use Rattle.cell_model.specs.declared.cell.Axis2.{Axis2}
-use Rattle.cell_model.specs.declared.cell.NodeNets.{NodeNets}
-use Rattle.cell_model.specs.declared.cell.NodeKind.TheVariants.{Contact}
-use Rattle.expand.specs.Variables.{half}
-use Rattle.expand.specs.NodeItems.{item_running, on_layer, box_at, box_round, square_round, channel_items, kind_items}
+use Rattle.cell_model.specs.declared.cell.{Axis2.Axis2, NodeNets.NodeNets, NodeKind.TheVariants.Contact}
+use Rattle.expand.specs.{Variables.half, NodeItems.{item_running, on_layer, box_at, box_round, square_round}}
+use Rattle.expand.specs.NodeItems.{channel_items, kind_items}
 
 -- the five boxes that each transistor has
 pub record AreChannelBoxes (tech : Tech) (k : ℕ) (nets : NodeNets) (x y : ℤ) (poly mask low high channel : Item) : Type 0 where

@@ -1,27 +1,16 @@
 -- How many items a cell has.
-use Rattle.std.proofs.Common.{◌≡◌, ℕ, suc, ◌+◌, ◌<◌, ◌≤◌, true, false, List, [], ◌∷◌, length, get_or, zero-add, refl, ap, ◌∙◌, arith}
-use Rattle.std.specs.List.{flat_map, range_with_len, sum_by}
-use Rattle.std.proofs.lemmas.List.{length-append}
-use Rattle.std.proofs.lemmas.List.Sums.{sum_by-cons, sum_by-le}
-use Rattle.rule_table.specs.declared.technology.Tech.{Tech}
-use Rattle.std.specs.Prelude.{slice_index}
-use Rattle.rule_table.specs.Technology.{pad_of}
-use Rattle.rule_table.specs.declared.classes.Class.TheVariants.{M}
-use Rattle.rule_table.specs.declared.classes.Layer.{Layer}
-use Rattle.rule_table.specs.declared.classes.Layer.TheVariants.{Diffusion, Poly, Metal}
+use Rattle.std.proofs.Common.{◌≡◌, ℕ, suc, ◌+◌, ◌<◌, ◌≤◌, true, false, List, [], ◌∷◌, length, get_or, zero-add, refl}
+use Rattle.std.proofs.{Common.{ap, ◌∙◌, arith}, lemmas.List.{length-append, Sums.{sum_by-cons, sum_by-le}}}
+use Rattle.std.specs.{List.{flat_map, range_with_len, sum_by}, Prelude.slice_index}
+use Rattle.rule_table.specs.declared.{technology.Tech.Tech, classes.{Class.TheVariants.M, Layer.Layer}}
+use Rattle.rule_table.specs.{declared.classes.Layer.TheVariants.{Diffusion, Poly, Metal}, Technology.pad_of}
 use Rattle.sym_items.specs.declared.items.Item.{Item}
-use Rattle.cell_model.specs.declared.cell.NodeKind.{NodeKind}
-use Rattle.cell_model.specs.declared.cell.NodeKind.TheVariants.{Joint, Contact, Buried, Fet}
-use Rattle.cell_model.specs.declared.cell.NodeNets.{NodeNets}
-use Rattle.cell_model.specs.declared.cell.Wire.{Wire}
-use Rattle.cell_model.specs.declared.cell.Nets.{Nets}
-use Rattle.cell_model.specs.declared.cell.Cell.{Cell}
-use Rattle.cell_model.specs.Counts.{layer_items, kind_items as kind_count, node_items, wire_items as wire_count, items_in}
+use Rattle.cell_model.specs.declared.cell.NodeKind.{NodeKind, TheVariants.{Joint, Contact, Buried, Fet}}
+use Rattle.cell_model.specs.{declared.cell.{NodeNets.NodeNets, Wire.Wire, Nets.Nets, Cell.Cell}, Counts.layer_items}
+use Rattle.cell_model.specs.Counts.{kind_items as kind_count, node_items, wire_items as wire_count, items_in}
 use Rattle.cell_model.specs.Sound.{IsLight, node_at, no_node, wire_at, no_wire}
-use Rattle.expand.specs.Variables.{half, cross_of}
-use Rattle.expand.specs.WireItems.{wire_items}
-use Rattle.expand.specs.NodeItems.{on_layer, square_round, kind_items}
-use Rattle.expand.specs.Items.{nets_at, items_of_node, items_of_wire, item_list}
+use Rattle.expand.specs.{Variables.{half, cross_of}, WireItems.wire_items, NodeItems.{on_layer, square_round}}
+use Rattle.expand.specs.{NodeItems.kind_items, Items.{nets_at, items_of_node, items_of_wire, item_list}}
 
 layer_counted : (layer : Layer) (i : Item) → length (on_layer layer i) ≡ layer_items layer
 layer_counted Metal i = refl

@@ -1,16 +1,10 @@
 -- Cross coordinates, one wire at a time.
-use Rattle.std.proofs.Common.{◌≡◌, ℕ, ◌+◌, ◌<◌, List, [], ◌∷◌, ◌++◌, length, get_or, take, cond, refl, sym, ap, ◌∙◌, subst, arith, inl, inr, ◌⊎◌}
-use Rattle.std.specs.Prelude.{slice_index}
-use Rattle.std.proofs.lemmas.List.{take_more, get_or_default, length_push, get_or_append_left, get_or_push}
-use Rattle.std.proofs.lemmas.List.Sums.{sum_by_push}
-use Rattle.cell_model.specs.declared.cell.Axis2.{Axis2}
-use Rattle.cell_model.specs.declared.cell.Axis2.TheVariants.{Across, Up}
-use Rattle.cell_model.specs.declared.cell.Wire.{Wire}
-use Rattle.cell_model.specs.declared.cell.Cell.{Cell}
-use Rattle.cell_model.specs.Wiring.{is_same_axis}
-use Rattle.cell_model.specs.Sound.{wire_at, no_wire}
-use Rattle.expand.specs.Variables.{running, cross_of}
-use Rattle.expand.specs.Bounds.{AreCrosses}
+use Rattle.std.proofs.Common.{◌≡◌, ℕ, ◌+◌, ◌<◌, List, [], ◌∷◌, ◌++◌, length, get_or, take, cond, refl, sym, ap, ◌∙◌}
+use Rattle.std.proofs.{Common.{subst, arith, inl, inr, ◌⊎◌}, lemmas.List.{take_more, get_or_default, length_push}}
+use Rattle.std.{proofs.lemmas.List.{get_or_append_left, get_or_push, Sums.sum_by_push}, specs.Prelude.slice_index}
+use Rattle.cell_model.specs.declared.cell.{Axis2.{Axis2, TheVariants.{Across, Up}}, Wire.Wire, Cell.Cell}
+use Rattle.cell_model.specs.{Wiring.is_same_axis, Sound.{wire_at, no_wire}}
+use Rattle.expand.specs.{Variables.{running, cross_of}, Bounds.AreCrosses}
 
 -- one more wire runs along an axis, or does not
 pub running_more : (along : Axis2) (wires : List Wire) (k : ℕ) → k < length wires → running along (take (k + 1) wires) ≡ running along (take k wires) + cond (is_same_axis (wire_at wires k).along along) 1 0

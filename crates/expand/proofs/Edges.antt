@@ -1,20 +1,13 @@
 -- The inequalities of one item, wire or limit, as the code adds them.
 use Rattle.std.proofs.Common.{◌≡◌, ℕ, ℤ, true, false, List, [], ◌∷◌, ◌++◌, refl, sym, ap, ◌∙◌, append_assoc}
-use Rattle.lam_geom.specs.declared.boxes.Axis.{Axis}
-use Rattle.lam_geom.specs.declared.boxes.Axis.TheVariants.{X, Y}
-use Rattle.rule_table.specs.declared.technology.Tech.{Tech}
-use Rattle.rule_table.specs.Technology.{margin_of}
-use Rattle.sym_items.specs.declared.items.End.{End}
-use Rattle.sym_items.specs.declared.items.Item.{Item}
-use Rattle.cons_graph.specs.declared.edges.Edge.{Edge}
-use Rattle.cons_graph.specs.declared.edges.Why.TheVariants.{Margin}
-use Rattle.cell_model.specs.declared.cell.Wire.{Wire}
-use Rattle.cell_model.specs.declared.cell.Limit.{Limit}
-use Rattle.cell_model.specs.declared.cell.Cell.{Cell}
-use Rattle.cell_model.specs.Sound.{wire_at}
-use Rattle.expand.specs.Variables.{cross_of, at_origin, at_far_border}
-use Rattle.sym_items.specs.Transposed.{item_along}
-use Rattle.expand.specs.Structure.{between, margin_edges, wire_edges, overlap_edges, is_limit_of, limit_edge, limit_edges, size_edge, extents_of, overlaps_of, margins_of, limits_of, structure_of}
+use Rattle.lam_geom.specs.declared.boxes.Axis.{Axis, TheVariants.{X, Y}}
+use Rattle.rule_table.specs.{declared.technology.Tech.Tech, Technology.margin_of}
+use Rattle.sym_items.specs.{declared.items.{End.End, Item.Item}, Transposed.item_along}
+use Rattle.cons_graph.specs.declared.edges.{Edge.Edge, Why.TheVariants.Margin}
+use Rattle.cell_model.specs.{declared.cell.{Wire.Wire, Limit.Limit, Cell.Cell}, Sound.wire_at}
+use Rattle.expand.specs.{Variables.{cross_of, at_origin, at_far_border}, Structure.{between, margin_edges, wire_edges}}
+use Rattle.expand.specs.Structure.{overlap_edges, is_limit_of, limit_edge, limit_edges, size_edge, extents_of}
+use Rattle.expand.specs.Structure.{overlaps_of, margins_of, limits_of, structure_of}
 
 pub margin_pushed : (axis : Axis) (tech : Tech) (i : Item) (low high : End) (margin : ℤ) (xs one two : List Edge) → low ≡ (item_along axis i).xl → high ≡ (item_along axis i).xh → margin ≡ margin_of tech i.class
     → one ≡ xs ++ between at_origin low margin Margin → two ≡ one ++ between high at_far_border margin Margin

@@ -1,50 +1,32 @@
 -- A constraint graph can be made of the structure of a cell.
-use Rattle.std.proofs.Common.{◌≡◌, ◌≢◌, ℕ, ◌+◌, ◌<◌, ◌≤◌, false, eqb, ℤ, pos, negsuc, ◌+ℤ◌, ◌-ℤ◌, ◌≤ℤ◌, List, [], ◌∷◌, ◌++◌, length, refl, sym, ap, ◌∙◌, subst, arith, ◌⊎◌, inl, inr}
-use Rattle.std.specs.Prelude.{neg_ℤ}
-use Rattle.std.specs.List.{range_with_len, AllByRecursion, Any}
-use Rattle.std.proofs.lemmas.Bool.{eq-eqb}
-use Rattle.std.proofs.lemmas.Bool.Decides.{nat_tests}
-use Rattle.std.proofs.lemmas.List.Sums.{count_by-le-length}
-use Rattle.std.proofs.lemmas.Int.{ints}
-use Rattle.std.proofs.lemmas.List.Elements.{All-from_recursion, recursion_from_All}
+use Rattle.std.proofs.Common.{◌≡◌, ◌≢◌, ℕ, ◌+◌, ◌<◌, ◌≤◌, false, eqb, ℤ, pos, negsuc, ◌+ℤ◌, ◌-ℤ◌, ◌≤ℤ◌, List, [], ◌∷◌}
+use Rattle.std.proofs.Common.{◌++◌, length, refl, sym, ap, ◌∙◌, subst, arith, ◌⊎◌, inl, inr}
+use Rattle.std.proofs.lemmas.{Bool.{eq-eqb, Decides.nat_tests}, List.Sums.count_by-le-length}
+use Rattle.std.proofs.lemmas.{List.Elements.{All-from_recursion, recursion_from_All}, Int.ints}
+use Rattle.std.specs.{Prelude.neg_ℤ, List.{range_with_len, AllByRecursion, Any}}
 use Rattle.lam_geom.specs.declared.boxes.Axis.{Axis}
-use Rattle.rule_table.specs.declared.technology.Tech.{Tech}
-use Rattle.rule_table.specs.declared.classes.Class.{Class}
-use Rattle.rule_table.specs.declared.classes.Layer.{Layer}
-use Rattle.rule_table.specs.declared.classes.Layer.TheVariants.{Diffusion, Poly, Metal}
-use Rattle.rule_table.specs.Technology.{numbers_of, margin_of, widest_of}
-use Rattle.rule_table.specs.Bounds.{IsSize}
-use Rattle.rule_table.proofs.Margins.{margin_low, margin_below, widest_positive, widest_below}
-use Rattle.rule_table.proofs.Widths.{pad_bounds}
-use Rattle.sym_items.specs.declared.items.End.{End}
-use Rattle.sym_items.specs.declared.items.Item.{Item}
-use Rattle.sym_items.specs.declared.items.Items.{Items}
-use Rattle.sym_items.specs.Transposed.{item_along}
-use Rattle.cons_graph.specs.declared.edges.Edge.{Edge}
-use Rattle.cons_graph.specs.declared.edges.Why.{Why}
-use Rattle.cons_graph.specs.declared.edges.Why.TheVariants.{Extent, Margin, Limit as Limit_}
+use Rattle.rule_table.specs.declared.{technology.Tech.Tech, classes.{Class.Class, Layer.{Layer, TheVariants.Diffusion}}}
+use Rattle.rule_table.specs.declared.classes.Layer.TheVariants.{Poly, Metal}
+use Rattle.rule_table.specs.{Technology.{numbers_of, margin_of, widest_of}, Bounds.IsSize}
+use Rattle.rule_table.proofs.{Margins.{margin_low, margin_below, widest_positive, widest_below}, Widths.pad_bounds}
+use Rattle.sym_items.specs.{declared.items.{End.End, Item.Item, Items.Items}, Transposed.item_along}
+use Rattle.cons_graph.specs.declared.edges.{Edge.Edge, Why.{Why, TheVariants.{Extent, Margin, Limit as Limit_}}}
 use Rattle.cons_graph.specs.Constraints.{IsEdgeAmong, LeadsFromOrigin, IsConstraintGraph}
 use Rattle.stick_lex.specs.Numbers.{IsNumber}
-use Rattle.cell_model.specs.declared.cell.Axis2.{Axis2}
-use Rattle.cell_model.specs.declared.cell.NodeKind.{NodeKind}
-use Rattle.cell_model.specs.declared.cell.NodeKind.TheVariants.{Joint, Contact, Buried, Fet}
-use Rattle.cell_model.specs.declared.cell.WireEnd.{WireEnd}
+use Rattle.cell_model.specs.declared.cell.{Axis2.Axis2, NodeKind.{NodeKind, TheVariants.{Joint, Contact, Buried, Fet}}}
+use Rattle.cell_model.specs.declared.cell.{WireEnd.WireEnd, Wire.Wire, Limit.Limit, Nets.Nets, Cell.Cell}
+use Rattle.cell_model.specs.{Wiring.{is_same_axis, node_pad}, Sound.{IsKind, IsEnd, IsWithinPad, IsWire, IsLimit}}
+use Rattle.cell_model.specs.Sound.{IsSound, IsLight, node_at, wire_at}
 use Rattle.cell_model.specs.declared.cell.WireEnd.TheVariants as ends
-use Rattle.cell_model.specs.declared.cell.Wire.{Wire}
-use Rattle.cell_model.specs.declared.cell.Limit.{Limit}
-use Rattle.cell_model.specs.declared.cell.Nets.{Nets}
-use Rattle.cell_model.specs.declared.cell.Cell.{Cell}
-use Rattle.cell_model.specs.Wiring.{is_same_axis, node_pad}
-use Rattle.cell_model.specs.Sound.{IsKind, IsEnd, IsWithinPad, IsWire, IsLimit, IsSound, IsLight, node_at, wire_at}
 use Rattle.expand.specs.Variables.{half, centre, running, cross_of, crossing, variables_of, at_origin, at_far_border}
-use Rattle.expand.specs.Items.{item_list, AreItems}
-use Rattle.expand.specs.Structure.{at_least, between, extent_edges, margin_edges, tied, end_edges, wire_edges, overlap_edges, is_limit_of, limit_edge, limit_edges, size_edge, extents_of, overlaps_of, margins_of, limits_of, structure_of}
+use Rattle.expand.specs.{Items.{item_list, AreItems}, Structure.{at_least, between, extent_edges, margin_edges, tied}}
+use Rattle.expand.specs.Structure.{end_edges, wire_edges, overlap_edges, is_limit_of, limit_edge, limit_edges}
+use Rattle.expand.specs.Structure.{size_edge, extents_of, overlaps_of, margins_of, limits_of, structure_of}
 use Rattle.expand.specs.Bounds.{IsSmall, IsNear, IsSpanAmong, LiesAlong}
-use Rattle.expand.proofs.Cells.{node_sound, wire_sound}
-use Rattle.list_facts.proofs.Elements.{all_append, all_flat, all_numbers, all_weaker}
-use Rattle.expand.proofs.Among.{sound_numbers, buried_size, list_lies, small_near, cross_among}
-use Rattle.list_facts.proofs.Some.{any_here, any_there, any_left, any_right, any_flat_map}
-use Rattle.expand.proofs.Reached.{by_test, BeginsBefore, items_begin, same_is}
+use Rattle.expand.proofs.{Cells.{node_sound, wire_sound}, Among.{sound_numbers, buried_size, list_lies, small_near}}
+use Rattle.expand.proofs.{Among.cross_among, Reached.{by_test, BeginsBefore, items_begin, same_is}}
+use Rattle.list_facts.proofs.{Elements.{all_append, all_flat, all_numbers, all_weaker}, Some.{any_here, any_there}}
+use Rattle.list_facts.proofs.Some.{any_left, any_right, any_flat_map}
 
 -- ---- inequalities between ends
 

@@ -1,18 +1,11 @@
 -- The items of the node and of the wire that a loop reads.
-use Rattle.std.proofs.Common.{◌≡◌, ℕ, ◌+◌, List, ◌++◌, length, ap, ◌∙◌}
-use Rattle.std.specs.Prelude.{slice_index}
+use Rattle.std.{proofs.Common.{◌≡◌, ℕ, ◌+◌, List, ◌++◌, length, ap, ◌∙◌}, specs.Prelude.slice_index}
 use Rattle.rule_table.specs.declared.technology.Tech.{Tech}
 use Rattle.sym_items.specs.declared.items.Item.{Item}
-use Rattle.cell_model.specs.declared.cell.NodeKind.{NodeKind}
-use Rattle.cell_model.specs.declared.cell.NodeNets.{NodeNets}
-use Rattle.cell_model.specs.declared.cell.Wire.{Wire}
-use Rattle.cell_model.specs.declared.cell.Nets.{Nets}
-use Rattle.cell_model.specs.declared.cell.Cell.{Cell}
+use Rattle.cell_model.specs.declared.cell.{NodeKind.NodeKind, NodeNets.NodeNets, Wire.Wire, Nets.Nets, Cell.Cell}
 use Rattle.cell_model.specs.Sound.{node_at, wire_at}
-use Rattle.expand.specs.Variables.{cross_of}
-use Rattle.expand.specs.NodeItems.{kind_items}
-use Rattle.expand.specs.WireItems.{wire_items}
-use Rattle.expand.specs.Items.{nets_at, items_of_node, items_of_wire}
+use Rattle.expand.specs.{Variables.cross_of, NodeItems.kind_items, WireItems.wire_items, Items.{nets_at, items_of_node}}
+use Rattle.expand.specs.Items.{items_of_wire}
 
 pub node_pushed : (tech : Tech) (cell : Cell) (nets : Nets) (k : ℕ) (kind : NodeKind) (own : NodeNets) (now next : List Item)
     → next ≡ now ++ kind_items tech k kind own → kind ≡ (node_at cell.nodes k).kind → own ≡ nets_at nets.node k

@@ -1,10 +1,7 @@
 -- How many nets a cell has of each kind, and the nets that a loop reads.
 use Rattle.std.proofs.Common.{◌≡◌, ℕ, ◌+◌, ◌<◌, List, [], ◌∷◌, length, get_or, refl, ap, ◌∙◌, arith, length-drop}
 use Rattle.std.proofs.lemmas.List.{get_or_default}
-use Rattle.cell_model.specs.declared.cell.Node.{Node}
-use Rattle.cell_model.specs.declared.cell.NodeNets.{NodeNets}
-use Rattle.cell_model.specs.declared.cell.Nets.{Nets}
-use Rattle.cell_model.specs.declared.cell.Cell.{Cell}
+use Rattle.cell_model.specs.declared.cell.{Node.Node, NodeNets.NodeNets, Nets.Nets, Cell.Cell}
 use Rattle.cell_model.specs.Nets.{kind_parts, node_parts, nets_of_nodes, AreNets}
 use Rattle.expand.specs.Items.{no_nets, nets_at}
 

@@ -1,41 +1,25 @@
 -- From each variable but the borders some item begins: from a centre one of its node, from a cross coordinate one of its wire. So a margin
 -- leads from the origin to it.
-use Rattle.std.proofs.Common.{◌≡◌, ℕ, zero, suc, ◌+◌, ◌-◌, ◌<◌, ◌≤◌, ℤ, pos, ◌+ℤ◌, ◌≤ℤ◌, Bool, true, false, List, [], ◌∷◌, ◌++◌, length, take, cond, refl, sym, ap, subst, arith, inl, inr}
-use Rattle.std.specs.Prelude.{neg_ℤ, slice_index}
-use Rattle.std.specs.List.{flat_map, range_with_len, Any}
-use Rattle.std.proofs.lemmas.Bool.{cases_lt}
-use Rattle.std.proofs.lemmas.Int.{ints}
-use Rattle.std.proofs.lemmas.List.Sums.{sum_by-cons}
-use Rattle.lam_geom.specs.declared.boxes.Axis.{Axis}
-use Rattle.lam_geom.specs.declared.boxes.Axis.TheVariants.{X, Y}
-use Rattle.rule_table.specs.declared.technology.Tech.{Tech}
-use Rattle.rule_table.specs.Bounds.{IsSize}
+use Rattle.std.proofs.Common.{◌≡◌, ℕ, zero, suc, ◌+◌, ◌-◌, ◌<◌, ◌≤◌, ℤ, pos, ◌+ℤ◌, ◌≤ℤ◌, Bool, true, false, List, []}
+use Rattle.std.proofs.Common.{◌∷◌, ◌++◌, length, take, cond, refl, sym, ap, subst, arith, inl, inr}
+use Rattle.std.proofs.lemmas.{Bool.cases_lt, Int.ints, List.Sums.sum_by-cons}
+use Rattle.std.specs.{Prelude.{neg_ℤ, slice_index}, List.{flat_map, range_with_len, Any}}
+use Rattle.lam_geom.specs.declared.boxes.Axis.{Axis, TheVariants.{X, Y}}
+use Rattle.rule_table.specs.declared.{technology.Tech.Tech, classes.{Class.{Class, TheVariants.M}, Layer.Layer}}
+use Rattle.rule_table.specs.{declared.classes.Layer.TheVariants.{Diffusion, Poly, Metal}, Bounds.IsSize}
 use Rattle.rule_table.specs.Technology.{numbers_of, pad_of}
-use Rattle.rule_table.specs.declared.classes.Class.{Class}
-use Rattle.rule_table.specs.declared.classes.Class.TheVariants.{M}
 use Rattle.rule_table.specs.declared.classes.Class.TheVariants as classes
-use Rattle.rule_table.specs.declared.classes.Layer.{Layer}
-use Rattle.rule_table.specs.declared.classes.Layer.TheVariants.{Diffusion, Poly, Metal}
-use Rattle.sym_items.specs.declared.items.Item.{Item}
-use Rattle.sym_items.specs.declared.items.End.{End}
-use Rattle.sym_items.specs.Transposed.{item_along}
-use Rattle.cell_model.specs.declared.cell.Axis2.{Axis2}
-use Rattle.cell_model.specs.declared.cell.Axis2.TheVariants.{Across, Up}
-use Rattle.cell_model.specs.declared.cell.NodeKind.{NodeKind}
-use Rattle.cell_model.specs.declared.cell.NodeKind.TheVariants.{Joint, Contact, Buried, Fet}
-use Rattle.cell_model.specs.declared.cell.NodeNets.{NodeNets}
-use Rattle.cell_model.specs.declared.cell.Wire.{Wire}
-use Rattle.cell_model.specs.declared.cell.Nets.{Nets}
-use Rattle.cell_model.specs.declared.cell.Cell.{Cell}
-use Rattle.cell_model.specs.Wiring.{is_same_axis, buried_pad}
+use Rattle.sym_items.specs.{declared.items.{Item.Item, End.End}, Transposed.item_along}
+use Rattle.cell_model.specs.declared.cell.{Axis2.{Axis2, TheVariants.{Across, Up}}, NodeKind.NodeKind}
+use Rattle.cell_model.specs.declared.cell.{NodeKind.TheVariants.{Joint, Contact, Buried, Fet}, NodeNets.NodeNets}
+use Rattle.cell_model.specs.{declared.cell.{Wire.Wire, Nets.Nets, Cell.Cell}, Wiring.{is_same_axis, buried_pad}}
 use Rattle.cell_model.specs.Sound.{IsKind, IsSound, node_at, wire_at}
-use Rattle.expand.specs.Variables.{half, centre, running, cross_of, crossing, variables_of}
-use Rattle.expand.specs.NodeItems.{item_running, on_layer, square_round, standing_at, kind_items}
-use Rattle.expand.specs.WireItems.{low_end_of, high_end_of, contact_at, run_item, wire_items}
-use Rattle.expand.specs.Items.{nets_at, items_of_node, items_of_wire, item_list}
+use Rattle.expand.specs.{Variables.{half, centre, running, cross_of, crossing, variables_of}, NodeItems.item_running}
+use Rattle.expand.specs.{NodeItems.{on_layer, square_round, standing_at, kind_items}, WireItems.low_end_of}
+use Rattle.expand.specs.{WireItems.{high_end_of, contact_at, run_item, wire_items}, Items.{nets_at, items_of_node}}
+use Rattle.expand.specs.Items.{items_of_wire, item_list}
+use Rattle.expand.proofs.{Cells.{node_sound, wire_sound}, Among.{half_size, half_pad, half_buried, sound_numbers}}
 use Rattle.list_facts.proofs.Some.{any_here, any_left, any_right, any_flat_map, any_range}
-use Rattle.expand.proofs.Cells.{node_sound, wire_sound}
-use Rattle.expand.proofs.Among.{half_size, half_pad, half_buried, sound_numbers}
 
 -- ---- items that begin at a variable
 

@@ -1,31 +1,19 @@
 -- Values that meet the structure of a cell keep its variables and the high ends of its items at or above the origin, and its items long enough.
-use Rattle.std.proofs.Common.{◌≡◌, ◌≢◌, ℕ, ◌<◌, ℤ, pos, ◌+ℤ◌, ◌-ℤ◌, ◌≤ℤ◌, List, ◌++◌, get_or, sym, ap, ◌∙◌, subst, arith, inl, inr}
+use Rattle.std.proofs.Common.{◌≡◌, ◌≢◌, ℕ, ◌<◌, ℤ, pos, ◌+ℤ◌, ◌-ℤ◌, ◌≤ℤ◌, List, ◌++◌, get_or, sym, ap, ◌∙◌, subst}
+use Rattle.std.proofs.{Common.{arith, inl, inr}, lemmas.{Int.ints, Bool.cases_eq, List.Elements.recursion_from_All}}
 use Rattle.std.specs.List.{AllByRecursion, All, Any}
-use Rattle.std.proofs.lemmas.Int.{ints}
-use Rattle.std.proofs.lemmas.Bool.{cases_eq}
-use Rattle.std.proofs.lemmas.List.Elements.{recursion_from_All}
 use Rattle.lam_geom.specs.declared.boxes.Axis.{Axis}
-use Rattle.rule_table.specs.declared.technology.Tech.{Tech}
-use Rattle.rule_table.specs.Technology.{numbers_of, margin_of, widest_of}
+use Rattle.rule_table.specs.{declared.technology.Tech.Tech, Technology.{numbers_of, margin_of, widest_of}}
 use Rattle.rule_table.proofs.Margins.{margin_low, widest_positive}
-use Rattle.cons_graph.specs.declared.edges.Edge.{Edge}
-use Rattle.cons_graph.specs.declared.edges.Why.TheVariants.{Extent, Margin}
-use Rattle.cons_graph.specs.Solutions.{Meets}
-use Rattle.sym_items.specs.declared.items.Item.{Item}
-use Rattle.sym_items.specs.Transposed.{item_along}
-use Rattle.sym_items.specs.Values.{end_under}
-use Rattle.sym_items.specs.Extents.{IsLongUnder}
+use Rattle.cons_graph.specs.{declared.edges.{Edge.Edge, Why.TheVariants.{Extent, Margin}}, Solutions.Meets}
+use Rattle.sym_items.specs.{declared.items.Item.Item, Transposed.item_along, Values.end_under, Extents.IsLongUnder}
 use Rattle.cell_model.specs.declared.cell.Cell.{Cell}
 use Rattle.list_facts.proofs.Elements.{all_of, all_parts, all_pieces}
 use Rattle.expand.specs.declared.master.Master.{Master}
-use Rattle.expand.specs.Variables.{variables_of, at_origin, at_far_border}
-use Rattle.expand.specs.Structure.{between, extent_edges, margin_edges, extents_of, overlaps_of, margins_of, limits_of, structure_of}
-use Rattle.expand.specs.Bounds.{LiesAlong}
-use Rattle.expand.specs.Masters.{IsMaster}
-use Rattle.expand.specs.Laws.{EndsAbove, MeetsStructure, StandsOn}
-use Rattle.expand.proofs.Between.{between_holds}
-use Rattle.expand.proofs.Among.{sound_numbers, items_lie}
-use Rattle.expand.proofs.Reached.{BeginsBefore, items_begin}
+use Rattle.expand.specs.{Variables.{variables_of, at_origin, at_far_border}, Structure.{between, extent_edges}}
+use Rattle.expand.specs.Structure.{margin_edges, extents_of, overlaps_of, margins_of, limits_of, structure_of}
+use Rattle.expand.specs.{Bounds.LiesAlong, Masters.IsMaster, Laws.{EndsAbove, MeetsStructure, StandsOn}}
+use Rattle.expand.proofs.{Between.between_holds, Among.{sound_numbers, items_lie}, Reached.{BeginsBefore, items_begin}}
 
 -- an item keeps its margins
 abbrev pub KeepsMargins : Axis → Tech → (ℕ → ℤ) → Item → Type 0

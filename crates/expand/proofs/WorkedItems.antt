@@ -1,26 +1,14 @@
 -- The items and the structure of the cells typed in, against ends and lengths worked by hand.
-use Rattle.std.proofs.Common.{◌≡◌, ℕ, ℤ, pos, [], ◌∷◌, refl}
-use Rattle.std.specs.Prelude.{neg_ℤ, None}
+use Rattle.std.{proofs.Common.{◌≡◌, ℕ, ℤ, pos, [], ◌∷◌, refl}, specs.Prelude.{neg_ℤ, None}}
 use Rattle.lam_geom.specs.declared.boxes.Axis.TheVariants.{X, Y}
-use Rattle.rule_table.specs.declared.technology.Tech.{Tech}
-use Rattle.rule_table.specs.declared.classes.Class.{Class}
-use Rattle.rule_table.specs.declared.classes.Class.TheVariants.{M, P, Dc, Dm, C, G, B}
-use Rattle.rule_table.specs.Technology.{shipped_numbers, shipped2_numbers}
-use Rattle.rule_table.specs.Keys.{has_buried}
-use Rattle.rule_table.specs.Spacing.{pad_in, margin_in, widest_in, spacing_in, greatest}
-use Rattle.rule_table.specs.Faults.{fault_of}
-use Rattle.sym_items.specs.declared.items.End.{End}
-use Rattle.sym_items.specs.declared.items.Item.{Item}
-use Rattle.sym_items.specs.Standing.{nowhere}
-use Rattle.cons_graph.specs.declared.edges.Edge.{Edge}
-use Rattle.cons_graph.specs.declared.edges.Why.{Why}
-use Rattle.cons_graph.specs.declared.edges.Why.TheVariants.{Size, Extent, Overlap, Margin}
-use Rattle.cell_model.specs.declared.cell.NodeNets.{NodeNets}
-use Rattle.cell_model.specs.declared.cell.Nets.{Nets}
-use Rattle.expand.specs.Variables.{past, variables_of}
-use Rattle.expand.specs.Items.{items_of_node, items_of_wire, item_list}
-use Rattle.expand.specs.Structure.{structure_of}
-use Rattle.expand.specs.Worked.{transistor, column, through, inverter, buried}
+use Rattle.rule_table.specs.declared.{technology.Tech.Tech, classes.Class.{Class, TheVariants.{M, P, Dc, Dm, C, G, B}}}
+use Rattle.rule_table.specs.{Technology.{shipped_numbers, shipped2_numbers}, Keys.has_buried, Spacing.pad_in}
+use Rattle.rule_table.specs.{Spacing.{margin_in, widest_in, spacing_in, greatest}, Faults.fault_of}
+use Rattle.sym_items.specs.{declared.items.{End.End, Item.Item}, Standing.nowhere}
+use Rattle.cons_graph.specs.declared.edges.{Edge.Edge, Why.{Why, TheVariants.{Size, Extent, Overlap, Margin}}}
+use Rattle.cell_model.specs.declared.cell.{NodeNets.NodeNets, Nets.Nets}
+use Rattle.expand.specs.{Variables.{past, variables_of}, Items.{items_of_node, items_of_wire, item_list}}
+use Rattle.expand.specs.{Structure.structure_of, Worked.{transistor, column, through, inverter, buried}}
 
 -- the shipped technology
 abbrev shipped : fault_of shipped_numbers ≡ None → Tech

@@ -3,16 +3,10 @@ use Rattle.std.specs.Prelude.{◌≡◌, ℕ, ◌+◌, List, ◌++◌, length, f
 use Rattle.std.specs.List.{range_with_len}
 use Rattle.lam_geom.specs.declared.boxes.Axis.TheVariants.{X, Y}
 use Rattle.rule_table.specs.declared.technology.Tech.{Tech}
-use Rattle.sym_items.specs.declared.items.Item.{Item}
-use Rattle.sym_items.specs.declared.items.Items.{Items}
-use Rattle.cell_model.specs.declared.cell.NodeNets.{NodeNets}
-use Rattle.cell_model.specs.declared.cell.Nets.{Nets}
-use Rattle.cell_model.specs.declared.cell.Cell.{Cell}
-use Rattle.cell_model.specs.Sound.{node_at, wire_at}
-use Rattle.cell_model.specs.Nets.{AreNets}
-use Rattle.expand.specs.Variables.{cross_of, variables_of}
-use Rattle.expand.specs.NodeItems.{kind_items}
-use Rattle.expand.specs.WireItems.{wire_items}
+use Rattle.sym_items.specs.declared.items.{Item.Item, Items.Items}
+use Rattle.cell_model.specs.declared.cell.{NodeNets.NodeNets, Nets.Nets, Cell.Cell}
+use Rattle.cell_model.specs.{Sound.{node_at, wire_at}, Nets.AreNets}
+use Rattle.expand.specs.{Variables.{cross_of, variables_of}, NodeItems.kind_items, WireItems.wire_items}
 
 -- the nets of node k, where there are so many
 abbrev pub no_nets : NodeNets

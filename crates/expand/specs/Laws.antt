@@ -1,20 +1,12 @@
 -- What holds of every master: of its items, and of all values that meet its structure.
-use Rattle.std.specs.Prelude.{◌≡◌, ◌≢◌, ◌↔◌, ℕ, ◌<◌, ◌^◌, ℤ, pos, ◌+ℤ◌, ◌≤ℤ◌, All, length}
+use Rattle.std.specs.{Prelude.{◌≡◌, ◌≢◌, ◌↔◌, ℕ, ◌<◌, ◌^◌, ℤ, pos, ◌+ℤ◌, ◌≤ℤ◌, All, length}, List.AllByRecursion}
 use Rattle.lam_geom.specs.declared.boxes.Axis.{Axis}
 use Rattle.rule_table.specs.declared.technology.Tech.{Tech}
-use Rattle.std.specs.List.{AllByRecursion}
-use Rattle.sym_items.specs.declared.items.End.{End}
-use Rattle.sym_items.specs.declared.items.Item.{Item}
-use Rattle.sym_items.specs.Transposed.{item_along, vars_along}
-use Rattle.sym_items.specs.Values.{end_under}
-use Rattle.sym_items.specs.Extents.{IsLongUnder}
-use Rattle.cons_graph.specs.Constraints.{IsConstraintGraph}
-use Rattle.cons_graph.specs.declared.edges.Why.{Why}
-use Rattle.cons_graph.specs.Solutions.{Meets}
+use Rattle.sym_items.specs.declared.items.{End.End, Item.Item}
+use Rattle.sym_items.specs.{Transposed.{item_along, vars_along}, Values.end_under, Extents.IsLongUnder}
+use Rattle.cons_graph.specs.{Constraints.IsConstraintGraph, declared.edges.Why.Why, Solutions.Meets}
 use Rattle.cell_model.specs.Counts.{items_in}
-use Rattle.expand.specs.declared.master.Master.{Master}
-use Rattle.expand.specs.Variables.{variables_of}
-use Rattle.expand.specs.Structure.{between, structure_of}
+use Rattle.expand.specs.{declared.master.Master.Master, Variables.variables_of, Structure.{between, structure_of}}
 use Rattle.expand.specs.Bounds.{LiesAlong}
 
 -- The inequality between two ends is met exactly where they lie so far apart, unless both lie on one variable: then there is none.

@@ -1,8 +1,7 @@
 -- A cell that meets the checks, with its items.
 use Rattle.rule_table.specs.declared.technology.Tech.{Tech}
 use Rattle.cell_model.specs.Sound.{IsSound, IsLight}
-use Rattle.expand.specs.declared.master.Master.{Master}
-use Rattle.expand.specs.Items.{AreItems}
+use Rattle.expand.specs.{declared.master.Master.Master, Items.AreItems}
 
 -- the cell is sound and light, and the items are its own
 pub record IsMaster (tech : Tech) (master : Master) : Type 0 where

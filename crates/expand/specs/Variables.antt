@@ -1,16 +1,10 @@
 -- The local variables of a cell on an axis: 0 the origin border, 1 the far border, then the centre of each node in order, and then the
 -- cross coordinate of each wire that runs along the other axis, in order.
-use Rattle.std.specs.Prelude.{ℕ, ◌+◌, ℤ, pos, int_div, List, length, take}
-use Rattle.std.specs.List.{count_by}
-use Rattle.lam_geom.specs.declared.boxes.Axis.{Axis}
-use Rattle.lam_geom.specs.declared.boxes.Axis.TheVariants.{X, Y}
+use Rattle.std.specs.{Prelude.{ℕ, ◌+◌, ℤ, pos, int_div, List, length, take}, List.count_by}
+use Rattle.lam_geom.specs.declared.boxes.Axis.{Axis, TheVariants.{X, Y}}
 use Rattle.sym_items.specs.declared.items.End.{End}
-use Rattle.cell_model.specs.declared.cell.Axis2.{Axis2}
-use Rattle.cell_model.specs.declared.cell.Axis2.TheVariants.{Across, Up}
-use Rattle.cell_model.specs.declared.cell.Wire.{Wire}
-use Rattle.cell_model.specs.declared.cell.Cell.{Cell}
-use Rattle.cell_model.specs.Wiring.{is_same_axis}
-use Rattle.cell_model.specs.Sound.{wire_at}
+use Rattle.cell_model.specs.declared.cell.{Axis2.{Axis2, TheVariants.{Across, Up}}, Wire.Wire, Cell.Cell}
+use Rattle.cell_model.specs.{Wiring.is_same_axis, Sound.wire_at}
 
 -- half of a length
 abbrev pub half : ℤ → ℤ

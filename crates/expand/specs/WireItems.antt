@@ -1,22 +1,11 @@
 -- The items of a wire. All is said of a wire that runs across; one that runs up is the transposed of it.
 use Rattle.std.specs.Prelude.{ℕ, ℤ, pos, ◌+ℤ◌, neg_ℤ, List, if◌then◌else◌}
-use Rattle.rule_table.specs.declared.technology.Tech.{Tech}
-use Rattle.rule_table.specs.declared.classes.Class.TheVariants.{M}
-use Rattle.rule_table.specs.Technology.{numbers_of}
-use Rattle.sym_items.specs.declared.items.End.{End}
-use Rattle.sym_items.specs.declared.items.Item.{Item}
-use Rattle.sym_items.specs.Standing.{nowhere}
-use Rattle.cell_model.specs.declared.cell.Axis2.{Axis2}
-use Rattle.cell_model.specs.declared.cell.NodeKind.{NodeKind}
-use Rattle.cell_model.specs.declared.cell.NodeKind.TheVariants.{Joint, Contact, Buried, Fet}
-use Rattle.cell_model.specs.declared.cell.WireEnd.{WireEnd}
+use Rattle.rule_table.specs.{declared.{technology.Tech.Tech, classes.Class.TheVariants.M}, Technology.numbers_of}
+use Rattle.sym_items.specs.{declared.items.{End.End, Item.Item}, Standing.nowhere}
+use Rattle.cell_model.specs.declared.cell.{Axis2.Axis2, NodeKind.{NodeKind, TheVariants.{Joint, Contact, Buried, Fet}}}
+use Rattle.cell_model.specs.{declared.cell.{WireEnd.WireEnd, Wire.Wire, Cell.Cell}, Wiring.is_same_axis, Sound.node_at}
 use Rattle.cell_model.specs.declared.cell.WireEnd.TheVariants as ends
-use Rattle.cell_model.specs.declared.cell.Wire.{Wire}
-use Rattle.cell_model.specs.declared.cell.Cell.{Cell}
-use Rattle.cell_model.specs.Wiring.{is_same_axis}
-use Rattle.cell_model.specs.Sound.{node_at}
-use Rattle.expand.specs.Variables.{half, centre, past}
-use Rattle.expand.specs.NodeItems.{item_running, on_layer}
+use Rattle.expand.specs.{Variables.{half, centre, past}, NodeItems.{item_running, on_layer}}
 
 -- the half size of a channel on an axis: W runs along the gate, L across it
 abbrev pub half_channel : Axis2 → ℤ → ℤ → Axis2 → ℤ

@@ -3,12 +3,9 @@
 use Rattle.std.specs.Prelude.{ℕ, pos, false, [], ◌∷◌}
 use Rattle.rule_table.specs.declared.classes.Layer.TheVariants.{Diffusion, Poly, Metal}
 use Rattle.lam_geom.specs.declared.boxes.Side.TheVariants.{Left, Right}
-use Rattle.cell_model.specs.declared.cell.Axis2.TheVariants.{Across, Up}
-use Rattle.cell_model.specs.declared.cell.NodeKind.{NodeKind}
-use Rattle.cell_model.specs.declared.cell.NodeKind.TheVariants.{Joint, Contact, Buried, Fet}
-use Rattle.cell_model.specs.declared.cell.Node.{Node}
+use Rattle.cell_model.specs.declared.cell.{Axis2.TheVariants.{Across, Up}, NodeKind.{NodeKind, TheVariants.Joint}}
+use Rattle.cell_model.specs.declared.cell.{NodeKind.TheVariants.{Contact, Buried, Fet}, Node.Node, Cell.Cell}
 use Rattle.cell_model.specs.declared.cell.WireEnd.TheVariants as ends
-use Rattle.cell_model.specs.declared.cell.Cell.{Cell}
 
 abbrev pub node : NodeKind → ℕ → ℕ → Node
 node kind col row = record { name = []; kind = kind; col = col; row = row }

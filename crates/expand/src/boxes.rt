@@ -1,8 +1,7 @@
 //! Boxes round the centre of a node or along a run, and what a layer has there.
 
 ghost use Rattle.std.specs.Prelude.{◌≡◌, ◌+◌, ◌<◌, ◌^◌, ◌++◌, pos, neg_ℤ, ◌+ℤ◌, ◌-ℤ◌, ◌≤ℤ◌, OnOk};
-ghost use Rattle.expand.specs.Bounds.{IsHalfSize, IsSmall, IsNear};
-ghost use Rattle.expand.specs.Variables.{half, centre, past};
+ghost use Rattle.expand.specs.{Bounds.{IsHalfSize, IsSmall, IsNear}, Variables.{half, centre, past}};
 ghost use Rattle.expand.specs.NodeItems.{item_running, on_layer, box_at, box_round, square_round};
 
 use cell_model::Axis2;

@@ -2,10 +2,8 @@
 //! and `y` across it, in u.
 
 ghost use Rattle.std.specs.Prelude.{◌≡◌, ◌<◌, ◌^◌, pos, neg_ℤ, ◌+ℤ◌, ◌≤ℤ◌};
-ghost use Rattle.rule_table.specs.declared.classes.Class.TheVariants.{P, Dm, Dc, G, I};
-ghost use Rattle.rule_table.specs.Technology.{numbers_of};
-ghost use Rattle.expand.specs.NodeItems.{box_at, box_round};
-ghost use Rattle.expand.specs.Bounds.{IsHalfSize};
+ghost use Rattle.rule_table.specs.{declared.classes.Class.TheVariants.{P, Dm, Dc, G, I}, Technology.numbers_of};
+ghost use Rattle.expand.specs.{NodeItems.{box_at, box_round}, Bounds.IsHalfSize};
 
 use crate::boxes::{box_at, box_round, extended, negated};
 use rule_table::{Class, Tech};

@@ -1,12 +1,8 @@
 //! The items of a cell.
 
-ghost use Rattle.std.specs.Prelude.{◌≡◌, ◌≤◌, ◌<◌, ◌^◌, ◌++◌, length, flat_map, All, OnOk, IfOk};
-ghost use Rattle.std.specs.List.{range_with_len};
-ghost use Rattle.cell_model.specs.Sound.{IsSound, IsLight};
-ghost use Rattle.cell_model.specs.Nets.{AreNets};
-ghost use Rattle.cell_model.specs.Counts.{items_in};
-ghost use Rattle.expand.specs.Items.{items_of_node, items_of_wire, items_of};
-ghost use Rattle.expand.specs.Bounds.{AreCrosses, IsItemAmong};
+ghost use Rattle.std.specs.{Prelude.{◌≡◌, ◌≤◌, ◌<◌, ◌^◌, ◌++◌, length, flat_map, All, OnOk, IfOk}, List.range_with_len};
+ghost use Rattle.cell_model.specs.{Sound.{IsSound, IsLight}, Nets.AreNets, Counts.items_in};
+ghost use Rattle.expand.specs.{Items.{items_of_node, items_of_wire, items_of}, Bounds.{AreCrosses, IsItemAmong}};
 
 use crate::nodes::push_kind;
 use crate::variables::{crosses, variables};

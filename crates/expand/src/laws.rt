@@ -1,7 +1,6 @@
 //! What holds of every master.
 
-ghost use Rattle.expand.specs.Masters.{IsMaster};
-ghost use Rattle.expand.specs.Laws.{BetweenMeans, IsLawful};
+ghost use Rattle.expand.specs.{Masters.IsMaster, Laws.{BetweenMeans, IsLawful}};
 
 use crate::master::Master;
 use cons_graph::Why;

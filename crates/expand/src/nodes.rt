@@ -1,14 +1,10 @@
 //! The items of a node.
 
 ghost use Rattle.std.specs.Prelude.{◌≡◌, ◌+ℤ◌, ◌<◌, ◌^◌, ◌++◌, map, OnOk};
-ghost use Rattle.cell_model.specs.declared.cell.NodeKind.TheVariants.{Contact};
-ghost use Rattle.cell_model.specs.Wiring.{buried_pad};
-ghost use Rattle.cell_model.specs.Sound.{IsKind};
-ghost use Rattle.expand.specs.Bounds.{IsHalfSize, IsSmall};
-ghost use Rattle.rule_table.specs.declared.classes.Class.TheVariants.{M, C, B};
-ghost use Rattle.rule_table.specs.Technology.{numbers_of, pad_of};
-ghost use Rattle.expand.specs.Variables.{half};
-ghost use Rattle.expand.specs.NodeItems.{item_running, square_round, standing_at, buried_items, channel_items, kind_items};
+ghost use Rattle.cell_model.specs.{declared.cell.NodeKind.TheVariants.Contact, Wiring.buried_pad, Sound.IsKind};
+ghost use Rattle.expand.specs.{Bounds.{IsHalfSize, IsSmall}, Variables.half, NodeItems.{item_running, square_round}};
+ghost use Rattle.expand.specs.NodeItems.{standing_at, buried_items, channel_items, kind_items};
+ghost use Rattle.rule_table.specs.{declared.classes.Class.TheVariants.{M, C, B}, Technology.{numbers_of, pad_of}};
 
 use crate::boxes::{extended, half, item_running, push_on_layer, square_round};
 use crate::channel::{channel, gate_poly, high_piece, implant, low_piece, mask_diffusion};

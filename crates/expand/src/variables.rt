@@ -1,11 +1,8 @@
 //! The variables of a cell on its axes.
 
 ghost use Rattle.std.specs.Prelude.{◌≡◌, ◌≤◌, length, cond, IfOk};
-ghost use Rattle.cell_model.specs.Sound.{IsLight};
-ghost use Rattle.cell_model.specs.Wiring.{is_same_axis};
-ghost use Rattle.expand.specs.Variables.{running, crossing, variables_of};
-ghost use Rattle.cell_model.specs.declared.cell.Axis2.TheVariants.{Across, Up};
-ghost use Rattle.expand.specs.Bounds.{AreCrosses};
+ghost use Rattle.cell_model.specs.{Sound.IsLight, Wiring.is_same_axis, declared.cell.Axis2.TheVariants.{Across, Up}};
+ghost use Rattle.expand.specs.{Variables.{running, crossing, variables_of}, Bounds.AreCrosses};
 
 use cell_model::{Axis2, Cell, Wire};
 use lam_geom::Axis;

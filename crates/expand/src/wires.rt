@@ -1,12 +1,11 @@
 //! The items of a wire.
 
 ghost use Rattle.std.specs.Prelude.{◌≡◌, ◌<◌, ◌++◌, length, neg_ℤ, ◌+ℤ◌, OnOk};
-ghost use Rattle.rule_table.specs.Bounds.{IsSize};
+ghost use Rattle.rule_table.specs.{Bounds.IsSize, Technology.numbers_of};
 ghost use Rattle.sym_items.specs.Standing.{nowhere};
-ghost use Rattle.rule_table.specs.Technology.{numbers_of};
 ghost use Rattle.cell_model.specs.Sound.{IsKind, IsEnd, IsWire, IsSound, IsLight, node_at};
-ghost use Rattle.expand.specs.Bounds.{IsHalfSize, IsNear};
-ghost use Rattle.expand.specs.WireItems.{half_channel, reach, reach_at, terminal, contact_at, run_item, wire_items};
+ghost use Rattle.expand.specs.{Bounds.{IsHalfSize, IsNear}, WireItems.{half_channel, reach, reach_at, terminal}};
+ghost use Rattle.expand.specs.WireItems.{contact_at, run_item, wire_items};
 
 use crate::boxes::{centre, extended, half, item_running, negated, push_on_layer};
 use cell_model::{Axis2, Cell, NodeKind, Wire, WireEnd};

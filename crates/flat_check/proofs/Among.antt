@@ -1,22 +1,17 @@
 -- Where a rule on pairs is broken, the second box is one of the boxes.
 use Rattle.std.proofs.Common.{◌≡◌, ℕ, ◌<◌, List, Some, ◌⊎◌, inl, inr, length, sym, subst, arith}
-use Rattle.std.specs.Prelude.{slice_get}
-use Rattle.std.specs.List.{AllByRecursion, range_with_len}
 use Rattle.std.proofs.lemmas.Option.{slice_get_within, get_or_from_slice_get}
+use Rattle.std.specs.{Prelude.slice_get, List.{AllByRecursion, range_with_len}}
 use Rattle.list_facts.proofs.Elements.{all_flat, all_map, all_numbers, all_at, by_number}
-use Rattle.lam_geom.specs.declared.boxes.MaskBox.{MaskBox}
-use Rattle.lam_geom.specs.declared.boxes.MaskLayer.{MaskLayer}
-use Rattle.lam_geom.specs.declared.boxes.MaskLayer.TheVariants.{ND, NP}
+use Rattle.lam_geom.specs.declared.boxes.{MaskBox.MaskBox, MaskLayer.{MaskLayer, TheVariants.{ND, NP}}}
 use Rattle.rule_table.specs.declared.technology.Tech.{Tech}
-use Rattle.crossings.specs.declared.crossing.Crossing.{Crossing}
-use Rattle.crossings.specs.Boxes.{layer_at}
-use Rattle.net_extract.specs.declared.netlist.Part.{Part}
-use Rattle.net_extract.specs.declared.netlist.Part.TheVariants.{Whole}
+use Rattle.crossings.specs.{declared.crossing.Crossing.Crossing, Boxes.layer_at}
+use Rattle.net_extract.specs.declared.netlist.Part.{Part, TheVariants.Whole}
 use Rattle.net_extract.specs.Places.{Place, place, parts_on, is_crossed, places_at, places_of}
-use Rattle.flat_check.specs.declared.rule.Rule.{Rule}
-use Rattle.flat_check.specs.declared.rule.Rule.TheVariants.{Width, CutSize, ProperCrossing, PolyToDiffusion, CutCover, MetalSpacing, PolySpacing, DiffusionSpacing, CutSpacing, CutToChannel, ImplantToChannel, WindowToChannel}
-use Rattle.flat_check.specs.Breaks.{ArePiecesTooNear, AreOnBoth, IsBreak}
-use Rattle.flat_check.specs.Sheets.{IsOnPairs}
+use Rattle.flat_check.specs.declared.rule.Rule.{Rule, TheVariants.{Width, CutSize, ProperCrossing, PolyToDiffusion}}
+use Rattle.flat_check.specs.declared.rule.Rule.TheVariants.{CutCover, MetalSpacing, PolySpacing, DiffusionSpacing}
+use Rattle.flat_check.specs.declared.rule.Rule.TheVariants.{CutSpacing, CutToChannel, ImplantToChannel, WindowToChannel}
+use Rattle.flat_check.specs.{Breaks.{ArePiecesTooNear, AreOnBoth, IsBreak}, Sheets.IsOnPairs}
 use Rattle.flat_check.proofs.OneChannel.{channel_among}
 
 -- a piece is of one of the boxes

@@ -1,17 +1,13 @@
 -- The channels of crossings, as spots.
-use Rattle.std.proofs.Common.{◌≡◌, ℕ, zero, suc, ◌^◌, ◌<◌, ◌≤◌, inl, inr, List, length, map, take, get_or, All, sym, ap, ◌∙◌, subst, arith, length-take}
-use Rattle.std.proofs.lemmas.Bool.{cases_lt}
-use Rattle.std.proofs.lemmas.List.{length-map}
-use Rattle.std.proofs.lemmas.List.Elements.{All-map, All-take}
-use Rattle.lam_geom.specs.Places.{IsPlacedBox}
-use Rattle.lam_geom.specs.declared.boxes.MaskBox.{MaskBox}
+use Rattle.std.proofs.Common.{◌≡◌, ℕ, zero, suc, ◌^◌, ◌<◌, ◌≤◌, inl, inr, List, length, map, take, get_or, All, sym, ap}
+use Rattle.std.proofs.Common.{◌∙◌, subst, arith, length-take}
+use Rattle.std.proofs.lemmas.{Bool.cases_lt, List.{length-map, Elements.{All-map, All-take}}}
+use Rattle.lam_geom.specs.{Places.IsPlacedBox, declared.boxes.MaskBox.MaskBox}
 use Rattle.rule_table.specs.declared.technology.Tech.{Tech}
 use Rattle.box_tree.specs.declared.spots.Spot.{Spot}
 use Rattle.crossings.specs.declared.crossing.Crossing.{Crossing}
-use Rattle.crossings.specs.Boxes.{AreSearchable}
-use Rattle.crossings.specs.Crossings.{AreCrossings, IsIncreasing}
-use Rattle.flat_check.specs.Trees.{channel_spot}
-use Rattle.flat_check.proofs.OneChannel.{crossing_placed}
+use Rattle.crossings.specs.{Boxes.AreSearchable, Crossings.{AreCrossings, IsIncreasing}}
+use Rattle.flat_check.{specs.Trees.channel_spot, proofs.OneChannel.crossing_placed}
 
 -- a number of a list that rises is no less than its place
 rises : (xs : List ℕ) → IsIncreasing xs → (k : ℕ) → k < length xs → k ≤ get_or xs k 0

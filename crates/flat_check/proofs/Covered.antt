@@ -1,13 +1,9 @@
 -- Whether a cut is covered.
-use Rattle.std.proofs.Common.{◌≡◌, ◌↔◌, ℕ, ◌<◌, ◌⊎◌, inl, inr, ℤ, Bool, true, false, List, IsTrue, length, refl, sym, ap, ◌∙◌, subst}
-use Rattle.std.specs.Prelude.{not}
-use Rattle.lam_geom.specs.declared.boxes.MaskBox.{MaskBox}
-use Rattle.lam_geom.specs.declared.boxes.MaskLayer.{MaskLayer}
-use Rattle.lam_geom.specs.declared.boxes.MaskLayer.TheVariants.{ND, NP, NC, NM}
-use Rattle.rule_table.specs.declared.technology.Tech.{Tech}
-use Rattle.rule_table.specs.Technology.{numbers_of}
-use Rattle.crossings.specs.Boxes.{area_at, box_at, IsOn, grains}
-use Rattle.crossings.specs.Pairs.{IsCovered}
+use Rattle.std.proofs.Common.{◌≡◌, ◌↔◌, ℕ, ◌<◌, ◌⊎◌, inl, inr, ℤ, Bool, true, false, List, IsTrue, length, refl, sym}
+use Rattle.std.{proofs.Common.{ap, ◌∙◌, subst}, specs.Prelude.not}
+use Rattle.lam_geom.specs.declared.boxes.{MaskBox.MaskBox, MaskLayer.{MaskLayer, TheVariants.{ND, NP, NC, NM}}}
+use Rattle.rule_table.specs.{declared.technology.Tech.Tech, Technology.numbers_of}
+use Rattle.crossings.specs.{Boxes.{area_at, box_at, IsOn, grains}, Pairs.IsCovered}
 use Rattle.flat_check.specs.Breaks.{IsSquare, IsOddCut, IsUncovered}
 
 -- ---- cuts

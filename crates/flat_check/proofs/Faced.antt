@@ -1,28 +1,18 @@
 -- With what a box can break a rule on pairs: spots that the rule's trees have.
-use Rattle.std.proofs.Common.{◌≡◌, ◌≢◌, ℕ, ◌+◌, ◌^◌, ◌<◌, ◌≤◌, ℤ, pos, ◌-ℤ◌, ◌≤ℤ◌, ◌<ℤ◌, ◌⊎◌, inl, inr, List, length, map, get_or, Contains, w64, refl, sym, ap, ◌∙◌, subst, arith}
-use Rattle.std.proofs.lemmas.Int.{ints, clamps, to_z-of_z}
-use Rattle.std.proofs.lemmas.List.{get_or-map, length-map}
-use Rattle.std.proofs.lemmas.List.Elements.{All-contains}
-use Rattle.lam_geom.specs.declared.boxes.BoxXY.{BoxXY}
-use Rattle.lam_geom.specs.declared.boxes.MaskBox.{MaskBox}
-use Rattle.lam_geom.specs.declared.boxes.MaskLayer.{MaskLayer}
-use Rattle.lam_geom.specs.declared.boxes.MaskLayer.TheVariants.{ND, NP}
+use Rattle.std.proofs.Common.{◌≡◌, ◌≢◌, ℕ, ◌+◌, ◌^◌, ◌<◌, ◌≤◌, ℤ, pos, ◌-ℤ◌, ◌≤ℤ◌, ◌<ℤ◌, ◌⊎◌, inl, inr, List, length}
+use Rattle.std.proofs.Common.{map, get_or, Contains, w64, refl, sym, ap, ◌∙◌, subst, arith}
+use Rattle.std.proofs.lemmas.{Int.{ints, clamps, to_z-of_z}, List.{get_or-map, length-map, Elements.All-contains}}
+use Rattle.lam_geom.specs.declared.boxes.{BoxXY.BoxXY, MaskBox.MaskBox, MaskLayer.{MaskLayer, TheVariants.{ND, NP}}}
 use Rattle.lam_geom.specs.Gaps.{gap_of_boxes, Overlaps, Encloses}
 use Rattle.rule_table.specs.declared.technology.Tech.{Tech}
-use Rattle.box_tree.specs.declared.spots.Spot.{Spot}
-use Rattle.box_tree.specs.Queries.{IsMargin}
-use Rattle.crossings.specs.declared.crossing.Crossing.{Crossing}
-use Rattle.crossings.specs.Boxes.{area_at, box_at, layer_at, IsOn}
+use Rattle.box_tree.specs.{declared.spots.Spot.Spot, Queries.IsMargin}
+use Rattle.crossings.specs.{declared.crossing.Crossing.Crossing, Boxes.{area_at, box_at, layer_at, IsOn}}
 use Rattle.crossings.specs.Crossings.{AreProper, AreCrossings, IsCrossing}
 use Rattle.net_extract.specs.Pieces.{box_of}
-use Rattle.flat_check.specs.declared.sheet.Sheet.{Sheet}
-use Rattle.flat_check.specs.Breaks.{AreOnBoth, ArePiecesTooNear, IsChannel}
-use Rattle.flat_check.specs.PiecePairs.{AreNearPieces}
-use Rattle.flat_check.specs.Sheets.{IsSheet}
-use Rattle.flat_check.specs.Trees.{AreChannels, IsPieceOn, channel_spot}
-use Rattle.flat_check.proofs.Among.{pieces_among}
-use Rattle.flat_check.proofs.OneChannel.{channel_at, channel_same}
-use Rattle.flat_check.proofs.PiecePairs.{pieces_on, piece_within, nets_counted, have_near_pieces}
+use Rattle.flat_check.specs.{declared.sheet.Sheet.Sheet, Breaks.{AreOnBoth, ArePiecesTooNear, IsChannel}}
+use Rattle.flat_check.specs.{PiecePairs.AreNearPieces, Sheets.IsSheet, Trees.{AreChannels, IsPieceOn, channel_spot}}
+use Rattle.flat_check.proofs.{Among.pieces_among, OneChannel.{channel_at, channel_same}, PiecePairs.pieces_on}
+use Rattle.flat_check.proofs.PiecePairs.{piece_within, nets_counted, have_near_pieces}
 use mir.Val.{to_z, of_z, SFits}
 
 -- what is below the spacing is within reach

@@ -1,14 +1,10 @@
 -- Poly and diffusion in either order.
 use Rattle.std.proofs.Common.{◌≡◌, ◌↔◌, ℕ, ◌<◌, ◌⊎◌, inl, inr, ◌<ℤ◌, Bool, IsTrue, List, length, refl}
-use Rattle.lam_geom.specs.declared.boxes.MaskBox.{MaskBox}
-use Rattle.lam_geom.specs.declared.boxes.MaskLayer.{MaskLayer}
-use Rattle.lam_geom.specs.declared.boxes.MaskLayer.TheVariants.{ND, NP}
+use Rattle.lam_geom.specs.declared.boxes.{MaskBox.MaskBox, MaskLayer.{MaskLayer, TheVariants.{ND, NP}}}
 use Rattle.lam_geom.specs.Gaps.{gap_of_boxes, Overlaps}
-use Rattle.rule_table.specs.declared.technology.Tech.{Tech}
-use Rattle.rule_table.specs.Technology.{numbers_of}
+use Rattle.rule_table.specs.{declared.technology.Tech.Tech, Technology.numbers_of}
 use Rattle.crossings.specs.Boxes.{box_at, area_at, grains}
-use Rattle.flat_check.specs.Breaks.{AreOnBoth, IsPolyTooNear}
-use Rattle.flat_check.proofs.NearAreas.{on_layer}
+use Rattle.flat_check.{specs.Breaks.{AreOnBoth, IsPolyTooNear}, proofs.NearAreas.on_layer}
 
 -- one layer is poly, the other diffusion
 abbrev pub AreFacing : MaskLayer → MaskLayer → Type 0

@@ -1,17 +1,12 @@
 -- Searches in ranges of boxes, one behind another.
-use Rattle.std.proofs.Common.{◌≡◌, ℕ, ◌+◌, ◌<◌, ◌≤◌, inl, inr, Option, Some, None, List, [], ◌∷◌, ◌++◌, length, get_or, zero, suc, refl, sym, subst, arith}
-use Rattle.std.specs.List.{AllZip}
-use Rattle.std.proofs.lemmas.Bool.{cases_lt}
+use Rattle.std.proofs.Common.{◌≡◌, ℕ, ◌+◌, ◌<◌, ◌≤◌, inl, inr, Option, Some, None, List, [], ◌∷◌, ◌++◌, length, get_or}
+use Rattle.std.{proofs.{Common.{zero, suc, refl, sym, subst, arith}, lemmas.Bool.cases_lt}, specs.List.AllZip}
 use Rattle.lam_geom.specs.declared.boxes.MaskBox.{MaskBox}
 use Rattle.rule_table.specs.declared.technology.Tech.{Tech}
 use Rattle.crossings.specs.Pairs.{Least}
-use Rattle.flat_check.specs.declared.partners.Range.{Range}
-use Rattle.flat_check.specs.declared.rule.Break.{Break}
-use Rattle.flat_check.specs.declared.rule.Rule.{Rule}
-use Rattle.flat_check.specs.Breaks.{number_of, IsBreak}
-use Rattle.flat_check.specs.Order.{IsFoundOf}
-use Rattle.flat_check.specs.Ranges.{AreRanges, IsBrokenBefore, IsFirstIn, IsFirstUnlessBefore, first_or, first_some}
-use Rattle.flat_check.specs.Sheets.{IsByTrees}
+use Rattle.flat_check.specs.declared.{partners.Range.Range, rule.{Break.Break, Rule.Rule}}
+use Rattle.flat_check.specs.{Breaks.{number_of, IsBreak}, Order.IsFoundOf, Ranges.{AreRanges, IsBrokenBefore}}
+use Rattle.flat_check.specs.{Ranges.{IsFirstIn, IsFirstUnlessBefore, first_or, first_some}, Sheets.IsByTrees}
 use Rattle.flat_check.proofs.Searches.{first_among}
 
 -- a range is split into no more than itself

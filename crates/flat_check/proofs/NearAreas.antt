@@ -1,14 +1,10 @@
 -- Boxes that were read, and areas that are near, by the names that the code has.
 use Rattle.std.proofs.Common.{◌≡◌, ◌↔◌, ℕ, ◌<◌, ℤ, ◌<ℤ◌, Bool, IsTrue, List, length, w64, sym, ap, ◌∙◌, subst, arith}
 use Rattle.std.proofs.lemmas.Int.{ints, to_z-of_z}
-use Rattle.lam_geom.specs.declared.boxes.BoxXY.{BoxXY}
-use Rattle.lam_geom.specs.declared.boxes.MaskBox.{MaskBox}
-use Rattle.lam_geom.specs.declared.boxes.MaskLayer.{MaskLayer}
+use Rattle.lam_geom.specs.declared.boxes.{BoxXY.BoxXY, MaskBox.MaskBox, MaskLayer.MaskLayer}
 use Rattle.lam_geom.specs.Gaps.{gap_of_boxes, Encloses}
-use Rattle.rule_table.specs.Bounds.{IsLength}
-use Rattle.rule_table.specs.declared.technology.Tech.{Tech}
-use Rattle.crossings.specs.Boxes.{box_at, IsOn, grains}
-use Rattle.crossings.proofs.Grains.{held}
+use Rattle.rule_table.specs.{Bounds.IsLength, declared.technology.Tech.Tech}
+use Rattle.crossings.{specs.Boxes.{box_at, IsOn, grains}, proofs.Grains.held}
 use mir.Val.{SFits}
 
 -- a length that is passed on stays as it is

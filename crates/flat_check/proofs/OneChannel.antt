@@ -1,26 +1,15 @@
 -- A diffusion box has one channel, which the crossings tell.
-use Rattle.std.proofs.Common.{false, ◌≡◌, ◌↔◌, ℕ, ◌<◌, ◌≤◌, ℤ, pos, ◌<ℤ◌, Bool, IsTrue, List, length, map, get_or, Result, Ok, Err, inl, inr, refl, sym, ap, ◌∙◌, subst, arith}
-use Rattle.std.specs.Prelude.{MatchResult}
-use Rattle.std.specs.List.Sorted.{IsSearchInRange, IsBinarySearchResult, IsNonDecreasingBy}
+use Rattle.std.proofs.Common.{false, ◌≡◌, ◌↔◌, ℕ, ◌<◌, ◌≤◌, ℤ, pos, ◌<ℤ◌, Bool, IsTrue, List, length, map, get_or}
+use Rattle.std.proofs.{Common.{Result, Ok, Err, inl, inr, refl, sym, ap, ◌∙◌, subst, arith}, lemmas.Bool.cases_lt}
+use Rattle.std.proofs.lemmas.{Bool.{false≢true, Decides.nat_tests}, Cmp.ranked, Int.{ints, clamps}, List.length-map}
+use Rattle.std.specs.{Prelude.MatchResult, List.Sorted.{IsSearchInRange, IsBinarySearchResult, IsNonDecreasingBy}}
 use Rattle.std.specs.Ordering.{nat_cmp, ordering_index}
-use Rattle.std.proofs.lemmas.Bool.{cases_lt, false≢true}
-use Rattle.std.proofs.lemmas.Bool.Decides.{nat_tests}
-use Rattle.std.proofs.lemmas.Cmp.{ranked}
-use Rattle.std.proofs.lemmas.Int.{ints, clamps}
-use Rattle.std.proofs.lemmas.List.{length-map}
-use Rattle.lam_geom.specs.declared.boxes.BoxXY.{BoxXY}
-use Rattle.lam_geom.specs.declared.boxes.MaskBox.{MaskBox}
-use Rattle.lam_geom.specs.declared.boxes.MaskLayer.{MaskLayer}
-use Rattle.lam_geom.specs.declared.boxes.MaskLayer.TheVariants.{ND, NI}
-use Rattle.lam_geom.specs.Gaps.{gap_of_boxes, Encloses}
-use Rattle.lam_geom.specs.Places.{IsPlacedBox}
-use Rattle.rule_table.specs.declared.technology.Tech.{Tech}
-use Rattle.rule_table.specs.Technology.{numbers_of}
-use Rattle.crossings.specs.declared.crossing.Crossing.{Crossing}
-use Rattle.crossings.specs.Boxes.{no_box, area_at, IsOn, IsCommon, grains, AreSearchable}
-use Rattle.crossings.specs.Crossings.{AreProper, IsMeeting, IsCrossing, AreInOrder, AreCrossings}
-use Rattle.net_extract.proofs.Areas.{diffusion_read}
-use Rattle.net_extract.proofs.Geometry.{placed_inner}
+use Rattle.lam_geom.specs.declared.boxes.{BoxXY.BoxXY, MaskBox.MaskBox, MaskLayer.{MaskLayer, TheVariants.{ND, NI}}}
+use Rattle.lam_geom.specs.{Gaps.{gap_of_boxes, Encloses}, Places.IsPlacedBox}
+use Rattle.rule_table.specs.{declared.technology.Tech.Tech, Technology.numbers_of}
+use Rattle.crossings.specs.{declared.crossing.Crossing.Crossing, Boxes.{no_box, area_at, IsOn, IsCommon, grains}}
+use Rattle.crossings.specs.{Boxes.AreSearchable, Crossings.{AreProper, IsMeeting, IsCrossing, AreInOrder, AreCrossings}}
+use Rattle.net_extract.proofs.{Areas.diffusion_read, Geometry.placed_inner}
 use Rattle.flat_check.specs.Breaks.{IsChannel, IsNearChannel, IsImplantTooNear}
 use Rattle.flat_check.proofs.SameCrossings.{common_same, common_of}
 

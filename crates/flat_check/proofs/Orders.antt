@@ -1,18 +1,16 @@
 -- The order of the rules, and of breaks.
-use Rattle.std.proofs.Common.{◌≡◌, ℕ, ◌+◌, ◌-◌, ◌<◌, inl, inr, Option, Some, None, Result, Ok, Err, IfOk, OnErr, List, [], ◌∷◌, get_or, refl, sym, ap, ◌∙◌, subst, lit<, arith}
-use Rattle.std.proofs.lemmas.Bool.{cases_lt}
+use Rattle.std.proofs.Common.{◌≡◌, ℕ, ◌+◌, ◌-◌, ◌<◌, inl, inr, Option, Some, None, Result, Ok, Err, IfOk, OnErr, List}
+use Rattle.std.proofs.{Common.{[], ◌∷◌, get_or, refl, sym, ap, ◌∙◌, subst, lit<, arith}, lemmas.Bool.cases_lt}
 use Rattle.lam_geom.specs.declared.boxes.MaskBox.{MaskBox}
 use Rattle.rule_table.specs.declared.technology.Tech.{Tech}
-use Rattle.flat_check.specs.declared.rule.Break.{Break}
-use Rattle.flat_check.specs.declared.rule.Rule.{Rule}
-use Rattle.flat_check.specs.declared.rule.Rule.TheVariants.{Width, CutSize, ProperCrossing, PolyToDiffusion, CutCover, MetalSpacing, PolySpacing, DiffusionSpacing, CutSpacing, CutToChannel, ImplantToChannel, WindowToChannel}
-use Rattle.crossings.specs.declared.crossing.CrossingFault.{CrossingFault}
-use Rattle.crossings.specs.declared.crossing.CrossingFault.TheVariants.{NotProper, OutOfMemory}
+use Rattle.flat_check.specs.declared.rule.{Break.Break, Rule.{Rule, TheVariants.{Width, CutSize, ProperCrossing}}}
+use Rattle.flat_check.specs.declared.rule.Rule.TheVariants.{PolyToDiffusion, CutCover, MetalSpacing, PolySpacing}
+use Rattle.flat_check.specs.declared.rule.Rule.TheVariants.{DiffusionSpacing, CutSpacing, CutToChannel}
+use Rattle.flat_check.specs.declared.rule.Rule.TheVariants.{ImplantToChannel, WindowToChannel}
+use Rattle.flat_check.specs.{Breaks.{number_of, IsBreak, IsFirstBreak, IsNotAfter}, Order.{IsKept, KeepBefore}}
+use Rattle.flat_check.specs.{Order.{IsFirstOf, next_of}, Sheets.IsByTrees, Starts.{AreByTrees, IsStart, start_of}}
+use Rattle.crossings.specs.declared.crossing.CrossingFault.{CrossingFault, TheVariants.{NotProper, OutOfMemory}}
 use Rattle.crossings.specs.Crossings.{IsCauseOf, IsFirstBadPair}
-use Rattle.flat_check.specs.Breaks.{number_of, IsBreak, IsFirstBreak, IsNotAfter}
-use Rattle.flat_check.specs.Order.{IsKept, KeepBefore, IsFirstOf, next_of}
-use Rattle.flat_check.specs.Sheets.{IsByTrees}
-use Rattle.flat_check.specs.Starts.{AreByTrees, IsStart, start_of}
 
 -- ---- rules by number
 

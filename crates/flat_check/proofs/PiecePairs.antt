@@ -1,28 +1,17 @@
 -- Pieces that lie too near one another, by their numbers on a sheet.
-use Rattle.std.proofs.Common.{◌≡◌, ◌↔◌, Bool, IsTrue, ℕ, ◌+◌, ◌<◌, ◌≤◌, inl, inr, ℤ, ◌<ℤ◌, List, Some, length, get_or, sym, ap, ◌∙◌, subst, arith}
-use Rattle.std.specs.Prelude.{slice_get}
-use Rattle.std.proofs.lemmas.Bool.{cases_lt}
-use Rattle.std.proofs.lemmas.Option.{slice_get_within, same_Some}
-use Rattle.lam_geom.specs.declared.boxes.BoxXY.{BoxXY}
-use Rattle.lam_geom.specs.declared.boxes.MaskBox.{MaskBox}
-use Rattle.lam_geom.specs.declared.boxes.MaskLayer.{MaskLayer}
-use Rattle.lam_geom.specs.Gaps.{gap_of_boxes}
-use Rattle.lam_geom.specs.Places.{IsPlacedBox}
+use Rattle.std.proofs.Common.{◌≡◌, ◌↔◌, Bool, IsTrue, ℕ, ◌+◌, ◌<◌, ◌≤◌, inl, inr, ℤ, ◌<ℤ◌, List, Some, length, get_or}
+use Rattle.std.proofs.{Common.{sym, ap, ◌∙◌, subst, arith}, lemmas.{Bool.cases_lt, Option.slice_get_within}}
+use Rattle.std.{proofs.lemmas.Option.same_Some, specs.Prelude.slice_get}
+use Rattle.lam_geom.specs.declared.boxes.{BoxXY.BoxXY, MaskBox.MaskBox, MaskLayer.MaskLayer}
+use Rattle.lam_geom.specs.{Gaps.gap_of_boxes, Places.IsPlacedBox}
 use Rattle.rule_table.specs.declared.technology.Tech.{Tech}
 use Rattle.graph_search.specs.Netting.{Reaches}
-use Rattle.crossings.specs.declared.crossing.Crossing.{Crossing}
-use Rattle.crossings.specs.Boxes.{no_box, area_at, layer_at, grains}
-use Rattle.net_extract.specs.declared.placing.Placed.{Placed}
-use Rattle.net_extract.specs.Places.{Place, places_of}
-use Rattle.net_extract.specs.Extraction.{IsAreaOf, IsLink}
+use Rattle.crossings.specs.{declared.crossing.Crossing.Crossing, Boxes.{no_box, area_at, layer_at, grains}}
+use Rattle.net_extract.specs.{declared.placing.Placed.Placed, Places.{Place, places_of}, Extraction.{IsAreaOf, IsLink}}
 use Rattle.net_extract.specs.Pieces.{no_piece, piece_at, box_of, area_of, stand_of, IsPiece}
-use Rattle.net_extract.proofs.Areas.{area_same}
-use Rattle.net_extract.proofs.AllLinks.{place_there, pieces_counted}
-use Rattle.net_extract.proofs.Geometry.{placed_inner}
-use Rattle.flat_check.specs.declared.sheet.Sheet.{Sheet}
-use Rattle.flat_check.specs.Breaks.{ShapesHold, ArePiecesTooNear, AtNets}
-use Rattle.flat_check.specs.PiecePairs.{IsPieceOf, AreNearPieces, HasNearPiece, HaveNearPieces}
-use Rattle.flat_check.specs.Sheets.{IsSheet}
+use Rattle.net_extract.proofs.{Areas.area_same, AllLinks.{place_there, pieces_counted}, Geometry.placed_inner}
+use Rattle.flat_check.specs.{declared.sheet.Sheet.Sheet, Breaks.{ShapesHold, ArePiecesTooNear, AtNets}}
+use Rattle.flat_check.specs.{PiecePairs.{IsPieceOf, AreNearPieces, HasNearPiece, HaveNearPieces}, Sheets.IsSheet}
 use Rattle.flat_check.proofs.SameCrossings.{crossings_same}
 
 abbrev pub pieces_on : Sheet → List Placed

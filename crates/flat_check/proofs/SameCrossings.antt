@@ -1,21 +1,13 @@
 -- Boxes have one list of crossings.
-use Rattle.std.proofs.Common.{◌≡◌, ℕ, zero, suc, ◌*◌, ◌<◌, ◌≤◌, ◌↔◌, ℤ, pos, negsuc, ◌*ℤ◌, ◌≤ℤ◌, Bool, true, false, IsTrue, List, [], ◌∷◌, length, map, get_or, refl, sym, subst, ap, ◌∙◌, arith, All, Contains}
-use Rattle.std.proofs.Math.Nat.{mul-le-mul}
-use Rattle.std.proofs.lemmas.Int.{ints}
-use Rattle.std.proofs.lemmas.List.{length-map, get_or-map}
-use Rattle.std.proofs.lemmas.List.Elements.{All-contains}
-use Rattle.lam_geom.specs.declared.boxes.Axis.{Axis}
-use Rattle.lam_geom.specs.declared.boxes.Axis.TheVariants.{X, Y}
-use Rattle.lam_geom.specs.declared.boxes.BoxXY.{BoxXY}
-use Rattle.lam_geom.specs.declared.boxes.MaskBox.{MaskBox}
-use Rattle.lam_geom.specs.declared.boxes.Span.{Span}
+use Rattle.std.proofs.Common.{◌≡◌, ℕ, zero, suc, ◌*◌, ◌<◌, ◌≤◌, ◌↔◌, ℤ, pos, negsuc, ◌*ℤ◌, ◌≤ℤ◌, Bool, true, false}
+use Rattle.std.proofs.Common.{IsTrue, List, [], ◌∷◌, length, map, get_or, refl, sym, subst, ap, ◌∙◌, arith, All}
+use Rattle.std.proofs.{Common.Contains, Math.Nat.mul-le-mul}
+use Rattle.std.proofs.lemmas.{Int.ints, List.{length-map, get_or-map, Elements.All-contains}}
+use Rattle.lam_geom.specs.declared.boxes.{Axis.{Axis, TheVariants.{X, Y}}, BoxXY.BoxXY, MaskBox.MaskBox, Span.Span}
 use Rattle.lam_geom.proofs.Spans.{same_span}
-use Rattle.rule_table.specs.declared.technology.Tech.{Tech}
-use Rattle.rule_table.specs.Technology.{numbers_of}
-use Rattle.rule_table.proofs.Sound.{sound}
-use Rattle.crossings.specs.Boxes.{area_at, grains, IsCommon}
-use Rattle.crossings.specs.Crossings.{IsIncreasing, CrossAlong, IsCrossing, IsImplanted, AreCrossings}
-use Rattle.crossings.specs.declared.crossing.Crossing.{Crossing}
+use Rattle.rule_table.{specs.{declared.technology.Tech.Tech, Technology.numbers_of}, proofs.Sound.sound}
+use Rattle.crossings.specs.{Boxes.{area_at, grains, IsCommon}, Crossings.{IsIncreasing, CrossAlong, IsCrossing}}
+use Rattle.crossings.specs.{Crossings.{IsImplanted, AreCrossings}, declared.crossing.Crossing.Crossing}
 
 -- ---- lists in order of their keys that have the same elements are the same
 

@@ -4,12 +4,11 @@ use Rattle.std.proofs.lemmas.Bool.{cases_lt}
 use Rattle.crossings.specs.Pairs.{Least}
 use Rattle.lam_geom.specs.declared.boxes.MaskBox.{MaskBox}
 use Rattle.rule_table.specs.declared.technology.Tech.{Tech}
-use Rattle.flat_check.specs.declared.rule.Rule.{Rule}
-use Rattle.flat_check.specs.declared.rule.Rule.TheVariants.{Width, CutSize, ProperCrossing, PolyToDiffusion, CutCover, MetalSpacing, PolySpacing, DiffusionSpacing, CutSpacing, CutToChannel, ImplantToChannel, WindowToChannel}
-use Rattle.flat_check.specs.Breaks.{number_of, IsBreak, IsUncovered}
-use Rattle.flat_check.specs.Order.{IsOnOne, IsKept, IsFirstOf}
-use Rattle.flat_check.specs.Sheets.{IsByTrees, IsOnPairs}
-use Rattle.flat_check.proofs.Among.{second_among}
+use Rattle.flat_check.specs.declared.rule.Rule.{Rule, TheVariants.{Width, CutSize, ProperCrossing, PolyToDiffusion}}
+use Rattle.flat_check.specs.declared.rule.Rule.TheVariants.{CutCover, MetalSpacing, PolySpacing, DiffusionSpacing}
+use Rattle.flat_check.specs.declared.rule.Rule.TheVariants.{CutSpacing, CutToChannel, ImplantToChannel, WindowToChannel}
+use Rattle.flat_check.specs.{Breaks.{number_of, IsBreak, IsUncovered}, Order.{IsOnOne, IsKept, IsFirstOf}}
+use Rattle.flat_check.{specs.Sheets.{IsByTrees, IsOnPairs}, proofs.Among.second_among}
 
 -- a rule is broken at no first box below n
 abbrev pub IsKeptBelow : Tech → List MaskBox → Rule → ℕ → Type 0

@@ -1,21 +1,13 @@
 -- Widths, and what the rules before those on nets say of the shapes of boxes.
-use Rattle.std.proofs.Common.{◌≡◌, ◌↔◌, ℕ, ◌<◌, ℤ, ◌<ℤ◌, Bool, IsTrue, inl, inr, Some, List, length, refl, sym, ap, ◌∙◌, subst, lit<, arith}
-use Rattle.std.proofs.lemmas.Bool.{cases_lt}
-use Rattle.std.proofs.lemmas.Int.{ints, clamps}
-use Rattle.lam_geom.specs.declared.boxes.Axis.{Axis}
-use Rattle.lam_geom.specs.declared.boxes.BoxXY.{BoxXY}
-use Rattle.lam_geom.specs.declared.boxes.MaskBox.{MaskBox}
-use Rattle.lam_geom.specs.declared.boxes.MaskLayer.{MaskLayer}
-use Rattle.lam_geom.specs.declared.boxes.MaskLayer.TheVariants.{ND, NP}
-use Rattle.lam_geom.specs.Gaps.{gap_of_boxes}
+use Rattle.std.proofs.Common.{◌≡◌, ◌↔◌, ℕ, ◌<◌, ℤ, ◌<ℤ◌, Bool, IsTrue, inl, inr, Some, List, length, refl, sym, ap, ◌∙◌}
+use Rattle.std.proofs.{Common.{subst, lit<, arith}, lemmas.{Bool.cases_lt, Int.{ints, clamps}}}
+use Rattle.lam_geom.specs.declared.boxes.{Axis.Axis, BoxXY.BoxXY, MaskBox.MaskBox, MaskLayer.MaskLayer}
+use Rattle.lam_geom.specs.{declared.boxes.MaskLayer.TheVariants.{ND, NP}, Gaps.gap_of_boxes}
 use Rattle.rule_table.specs.declared.technology.Tech.{Tech}
-use Rattle.crossings.specs.Boxes.{area_at, box_at, layer_at, extent, grains}
-use Rattle.crossings.specs.Crossings.{AreProper}
-use Rattle.flat_check.specs.declared.rule.Rule.{Rule}
-use Rattle.flat_check.specs.declared.rule.Rule.TheVariants.{Width, CutSize, PolyToDiffusion, CutCover}
+use Rattle.crossings.specs.{Boxes.{area_at, box_at, layer_at, extent, grains}, Crossings.AreProper}
+use Rattle.flat_check.specs.declared.rule.Rule.{Rule, TheVariants.{Width, CutSize, PolyToDiffusion, CutCover}}
 use Rattle.flat_check.specs.Breaks.{number_of, width_on, IsNarrow, ArePairOf, AreOnBoth, IsPolyTooNear, ShapesHold}
-use Rattle.flat_check.specs.Order.{IsKept, KeepBefore}
-use Rattle.flat_check.specs.Sheets.{IsOnNets}
+use Rattle.flat_check.specs.{Order.{IsKept, KeepBefore}, Sheets.IsOnNets}
 
 -- ---- poly near diffusion, in either order
 

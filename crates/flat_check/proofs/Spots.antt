@@ -1,13 +1,10 @@
 -- Lists of spots, and what trees over them tell.
-use Rattle.std.proofs.Common.{◌≡◌, ◌↔◌, ℕ, ◌+◌, inl, inr, Bool, true, false, IsTrue, IsFalse, Some, List, [], ◌∷◌, ◌++◌, All, Contains, sym, ap, ◌∙◌, subst, arith}
-use Rattle.std.specs.Prelude.{slice_get}
-use Rattle.std.proofs.lemmas.Bool.{cases_lt}
-use Rattle.std.proofs.lemmas.List.{length_push}
+use Rattle.std.proofs.Common.{◌≡◌, ◌↔◌, ℕ, ◌+◌, inl, inr, Bool, true, false, IsTrue, IsFalse, Some, List, [], ◌∷◌, ◌++◌}
+use Rattle.std.proofs.{Common.{All, Contains, sym, ap, ◌∙◌, subst, arith}, lemmas.{Bool.cases_lt, List.length_push}}
 use Rattle.std.proofs.lemmas.List.Elements.{All-push, All-nil, Contains-push, Contains-append_left}
 use Rattle.std.proofs.lemmas.Option.{get_or_from_slice_get, slice_get-get_or, slice_get_within}
-use Rattle.box_tree.specs.declared.query.Query.{Query}
-use Rattle.box_tree.specs.declared.spots.Spot.{Spot}
-use Rattle.box_tree.specs.Queries.{Holds, HoldsAt}
+use Rattle.std.specs.Prelude.{slice_get}
+use Rattle.box_tree.specs.{declared.{query.Query.Query, spots.Spot.Spot}, Queries.{Holds, HoldsAt}}
 use Rattle.lam_geom.specs.Places.{IsPlacedBox}
 use Rattle.crossings.specs.Spots.{AreSpotsBelow}
 

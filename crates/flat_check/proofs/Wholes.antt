@@ -1,29 +1,17 @@
 -- Boxes of poly and metal are pieces as a whole: what the tree of their pieces tells of boxes.
-use Rattle.std.proofs.Common.{◌≡◌, ◌↔◌, ℕ, inl, inr, ℤ, Bool, Some, List, [], ◌∷◌, map, Contains, IsTrue, length, slice_index, refl, sym, ap, ◌∙◌, subst, arith}
-use Rattle.std.specs.Prelude.{slice_get}
-use Rattle.std.specs.List.{range_with_len, Any}
-use Rattle.std.proofs.lemmas.List.Elements.{All-contains}
-use Rattle.std.proofs.lemmas.Option.{slice_get-get_or}
+use Rattle.std.proofs.Common.{◌≡◌, ◌↔◌, ℕ, inl, inr, ℤ, Bool, Some, List, [], ◌∷◌, map, Contains, IsTrue, length}
+use Rattle.std.proofs.{Common.{slice_index, refl, sym, ap, ◌∙◌, subst, arith}, lemmas.List.Elements.All-contains}
+use Rattle.std.{proofs.lemmas.Option.slice_get-get_or, specs.{Prelude.slice_get, List.{range_with_len, Any}}}
 use Rattle.list_facts.proofs.Some.{any_here, any_flat_map, any_range}
-use Rattle.lam_geom.specs.declared.boxes.BoxXY.{BoxXY}
-use Rattle.lam_geom.specs.declared.boxes.MaskBox.{MaskBox}
-use Rattle.lam_geom.specs.declared.boxes.MaskLayer.{MaskLayer}
-use Rattle.lam_geom.specs.Gaps.{Encloses}
-use Rattle.box_tree.specs.declared.query.Question.TheVariants.{Covers}
-use Rattle.box_tree.specs.declared.spots.Spot.{Spot}
-use Rattle.box_tree.specs.Queries.{HoldsAt}
+use Rattle.lam_geom.specs.{declared.boxes.{BoxXY.BoxXY, MaskBox.MaskBox, MaskLayer.MaskLayer}, Gaps.Encloses}
+use Rattle.box_tree.specs.{declared.{query.Question.TheVariants.Covers, spots.Spot.Spot}, Queries.HoldsAt}
 use Rattle.box_tree.proofs.Within.{encloses_past}
-use Rattle.crossings.specs.declared.crossing.Crossing.{Crossing}
-use Rattle.crossings.specs.Boxes.{area_at, layer_at, IsOn}
-use Rattle.crossings.specs.Pairs.{IsCovered}
-use Rattle.net_extract.specs.declared.netlist.Part.TheVariants.{Whole}
-use Rattle.net_extract.specs.Places.{Place, place, parts_on, is_crossed, places_at, places_of}
-use Rattle.net_extract.specs.Pieces.{no_piece, piece_at, box_of, area_of, IsPiece}
+use Rattle.crossings.specs.{declared.crossing.Crossing.Crossing, Boxes.{area_at, layer_at, IsOn}, Pairs.IsCovered}
+use Rattle.net_extract.specs.{declared.netlist.Part.TheVariants.Whole, Places.{Place, place, parts_on, is_crossed}}
+use Rattle.net_extract.specs.{Places.{places_at, places_of}, Pieces.{no_piece, piece_at, box_of, area_of, IsPiece}}
 use Rattle.flat_check.specs.declared.sheet.Sheet.{Sheet}
-use Rattle.flat_check.specs.Sheets.{IsSheet}
-use Rattle.flat_check.specs.Trees.{ArePiecesOn, IsPieceOn, IsUncut, piece_spot}
-use Rattle.flat_check.proofs.PiecePairs.{pieces_on, nets_counted, placed_at}
-use Rattle.flat_check.proofs.Spots.{contains_there, held_by}
+use Rattle.flat_check.specs.{Sheets.IsSheet, Trees.{ArePiecesOn, IsPieceOn, IsUncut, piece_spot}}
+use Rattle.flat_check.proofs.{PiecePairs.{pieces_on, nets_counted, placed_at}, Spots.{contains_there, held_by}}
 
 parts_whole : (layer : MaskLayer) (crossed : Bool) → IsUncut layer → parts_on layer crossed ≡ Whole ∷ []
 parts_whole layer crossed (inl is) = subst (λ (l : MaskLayer). parts_on l crossed ≡ Whole ∷ []) (sym is) refl

@@ -1,23 +1,16 @@
 -- The rules of a technology on mask boxes, and where they are broken: over all boxes and all pairs of boxes. Lengths are in grains, half hundredths of a micron.
 use Rattle.std.specs.Prelude.{◌≡◌, ℕ, ◌<◌, ◌≤◌, ◌⊎◌, ℤ, ◌<ℤ◌, IsTrue, Option, Some, None, List, length, slice_get}
-use Rattle.lam_geom.specs.declared.boxes.Axis.{Axis}
-use Rattle.lam_geom.specs.declared.boxes.Axis.TheVariants.{X, Y}
-use Rattle.lam_geom.specs.declared.boxes.BoxXY.{BoxXY}
-use Rattle.lam_geom.specs.declared.boxes.MaskBox.{MaskBox}
-use Rattle.lam_geom.specs.declared.boxes.MaskLayer.{MaskLayer}
-use Rattle.lam_geom.specs.declared.boxes.MaskLayer.TheVariants.{ND, NP, NC, NM, NI, NB}
+use Rattle.lam_geom.specs.declared.boxes.{Axis.{Axis, TheVariants.{X, Y}}, BoxXY.BoxXY, MaskBox.MaskBox}
+use Rattle.lam_geom.specs.declared.boxes.MaskLayer.{MaskLayer, TheVariants.{ND, NP, NC, NM, NI, NB}}
 use Rattle.lam_geom.specs.Gaps.{gap_of_boxes, Overlaps, Encloses}
-use Rattle.rule_table.specs.declared.technology.Tech.{Tech}
-use Rattle.rule_table.specs.Technology.{numbers_of, has_buried_of}
+use Rattle.rule_table.specs.{declared.technology.Tech.Tech, Technology.{numbers_of, has_buried_of}}
 use Rattle.graph_search.specs.Netting.{Reaches}
-use Rattle.crossings.specs.declared.crossing.Crossing.{Crossing}
-use Rattle.crossings.specs.Boxes.{area_at, layer_at, IsOn, extent, grains}
-use Rattle.crossings.specs.Crossings.{AreProper, IsBadPair, IsCrossing, AreCrossings}
-use Rattle.crossings.specs.Pairs.{IsCovered}
-use Rattle.net_extract.specs.Places.{Place, places_of}
-use Rattle.net_extract.specs.Extraction.{IsAreaOf, IsLink}
-use Rattle.flat_check.specs.declared.rule.Rule.{Rule}
-use Rattle.flat_check.specs.declared.rule.Rule.TheVariants.{Width, CutSize, ProperCrossing, PolyToDiffusion, CutCover, MetalSpacing, PolySpacing, DiffusionSpacing, CutSpacing, CutToChannel, ImplantToChannel, WindowToChannel}
+use Rattle.crossings.specs.{declared.crossing.Crossing.Crossing, Boxes.{area_at, layer_at, IsOn, extent, grains}}
+use Rattle.crossings.specs.{Crossings.{AreProper, IsBadPair, IsCrossing, AreCrossings}, Pairs.IsCovered}
+use Rattle.net_extract.specs.{Places.{Place, places_of}, Extraction.{IsAreaOf, IsLink}}
+use Rattle.flat_check.specs.declared.rule.Rule.{Rule, TheVariants.{Width, CutSize, ProperCrossing, PolyToDiffusion}}
+use Rattle.flat_check.specs.declared.rule.Rule.TheVariants.{CutCover, MetalSpacing, PolySpacing, DiffusionSpacing}
+use Rattle.flat_check.specs.declared.rule.Rule.TheVariants.{CutSpacing, CutToChannel, ImplantToChannel, WindowToChannel}
 use Rattle.flat_check.specs.declared.rule.Break.{Break}
 
 abbrev pub number_of : Rule → ℕ

@@ -3,11 +3,8 @@ use Rattle.std.specs.Prelude.{◌≡◌, ℕ, ◌<◌, ◌≤◌, ◌⊎◌, Opt
 use Rattle.lam_geom.specs.declared.boxes.MaskBox.{MaskBox}
 use Rattle.rule_table.specs.declared.technology.Tech.{Tech}
 use Rattle.crossings.specs.Pairs.{Least}
-use Rattle.flat_check.specs.declared.partners.Range.{Range}
-use Rattle.flat_check.specs.declared.partners.Standing.{Standing}
-use Rattle.flat_check.specs.declared.partners.Standing.TheVariants.{Keeps, BreaksWith, BrokenBefore}
-use Rattle.flat_check.specs.declared.rule.Break.{Break}
-use Rattle.flat_check.specs.declared.rule.Rule.{Rule}
+use Rattle.flat_check.specs.declared.partners.{Range.Range, Standing.{Standing, TheVariants.{Keeps, BreaksWith}}}
+use Rattle.flat_check.specs.declared.{partners.Standing.TheVariants.BrokenBefore, rule.{Break.Break, Rule.Rule}}
 use Rattle.flat_check.specs.Breaks.{number_of, IsBreak}
 
 -- the first break of a rule whose first box has a number from one on

@@ -1,11 +1,10 @@
 -- Boxes with what is known of them, and the rules on pairs.
 use Rattle.std.specs.Prelude.{◌≡◌, ◌⊎◌}
-use Rattle.crossings.specs.Boxes.{AreSearchable}
-use Rattle.crossings.specs.Crossings.{AreProper, AreCrossings}
-use Rattle.net_extract.specs.Extraction.{AreNets}
-use Rattle.net_extract.specs.Pieces.{ArePiecesOf}
-use Rattle.flat_check.specs.declared.rule.Rule.{Rule}
-use Rattle.flat_check.specs.declared.rule.Rule.TheVariants.{Width, CutSize, ProperCrossing, PolyToDiffusion, CutCover, MetalSpacing, PolySpacing, DiffusionSpacing, CutSpacing, CutToChannel, ImplantToChannel, WindowToChannel}
+use Rattle.crossings.specs.{Boxes.AreSearchable, Crossings.{AreProper, AreCrossings}}
+use Rattle.net_extract.specs.{Extraction.AreNets, Pieces.ArePiecesOf}
+use Rattle.flat_check.specs.declared.rule.Rule.{Rule, TheVariants.{Width, CutSize, ProperCrossing, PolyToDiffusion}}
+use Rattle.flat_check.specs.declared.rule.Rule.TheVariants.{CutCover, MetalSpacing, PolySpacing, DiffusionSpacing}
+use Rattle.flat_check.specs.declared.rule.Rule.TheVariants.{CutSpacing, CutToChannel, ImplantToChannel, WindowToChannel}
 use Rattle.flat_check.specs.declared.sheet.Sheet.{Sheet}
 
 -- The boxes can be searched, poly and diffusion cross properly, and the pieces and their nets are those of the boxes.

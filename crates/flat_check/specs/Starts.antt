@@ -3,19 +3,12 @@ use Rattle.std.specs.Prelude.{ℕ, Option, Some, None, Result, Ok, Err, alloc_er
 use Rattle.std.specs.declared.alloc.AllocError.{AllocError}
 use Rattle.lam_geom.specs.declared.boxes.MaskBox.{MaskBox}
 use Rattle.rule_table.specs.declared.technology.Tech.{Tech}
-use Rattle.crossings.specs.declared.crossing.CrossingFault.{CrossingFault}
-use Rattle.crossings.specs.declared.crossing.CrossingFault.TheVariants.{NotProper, OutOfMemory}
+use Rattle.crossings.specs.declared.crossing.CrossingFault.{CrossingFault, TheVariants.{NotProper, OutOfMemory}}
 use Rattle.crossings.specs.Crossings.{AreProper, AreCrossings}
-use Rattle.net_extract.specs.declared.placing.Pieces.{Pieces}
-use Rattle.net_extract.specs.Extraction.{AreNets}
-use Rattle.net_extract.specs.Pieces.{ArePiecesOf}
-use Rattle.flat_check.specs.declared.rule.Rule.{Rule}
-use Rattle.flat_check.specs.declared.rule.Rule.TheVariants.{ProperCrossing, PolyToDiffusion}
-use Rattle.flat_check.specs.declared.start.Start.{Start}
-use Rattle.flat_check.specs.declared.start.Start.TheVariants.{Broken, Kept}
-use Rattle.flat_check.specs.Breaks.{number_of, IsFirstBreak}
-use Rattle.flat_check.specs.Order.{KeepBefore}
-use Rattle.flat_check.specs.Sheets.{IsByTrees}
+use Rattle.net_extract.specs.{declared.placing.Pieces.Pieces, Extraction.AreNets, Pieces.ArePiecesOf}
+use Rattle.flat_check.specs.declared.rule.Rule.{Rule, TheVariants.{ProperCrossing, PolyToDiffusion}}
+use Rattle.flat_check.specs.declared.start.Start.{Start, TheVariants.{Broken, Kept}}
+use Rattle.flat_check.specs.{Breaks.{number_of, IsFirstBreak}, Order.KeepBefore, Sheets.IsByTrees}
 
 -- no rule up to that on crossings is broken, and these are the pieces and nets of the boxes
 pub record AreKept (tech : Tech) (boxes : List MaskBox) (pieces : Pieces) (nets : List ℕ) : Type 0 where

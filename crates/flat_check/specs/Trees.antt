@@ -1,14 +1,10 @@
 -- The trees by which it is found out whether a box breaks a rule: what spots they are of.
 use Rattle.std.specs.Prelude.{◌≡◌, ℕ, ◌<◌, ◌⊎◌, List, length, map, slice_index}
-use Rattle.lam_geom.specs.declared.boxes.MaskLayer.{MaskLayer}
-use Rattle.lam_geom.specs.declared.boxes.MaskLayer.TheVariants.{ND, NP, NC, NM, NI, NB}
+use Rattle.lam_geom.specs.declared.boxes.MaskLayer.{MaskLayer, TheVariants.{ND, NP, NC, NM, NI, NB}}
 use Rattle.box_tree.specs.declared.spots.Spot.{Spot}
-use Rattle.crossings.specs.declared.crossing.Crossing.{Crossing}
-use Rattle.crossings.specs.Boxes.{layer_at}
-use Rattle.crossings.specs.Spots.{AreBoxesOn, AreSpotsBelow}
+use Rattle.crossings.specs.{declared.crossing.Crossing.Crossing, Boxes.layer_at, Spots.{AreBoxesOn, AreSpotsBelow}}
 use Rattle.net_extract.specs.Pieces.{area_of, box_of}
-use Rattle.flat_check.specs.declared.sheet.Sheet.{Sheet}
-use Rattle.flat_check.specs.declared.trees.Trees.{Trees}
+use Rattle.flat_check.specs.declared.{sheet.Sheet.Sheet, trees.Trees.Trees}
 
 -- ---- spots
 

@@ -1,10 +1,9 @@
 //! Rules on a box and a channel, which goes by its diffusion.
 ghost use Rattle.std.specs.Prelude.{◌↔◌, ◌<◌, IsTrue, IfSome, MatchOption, length};
-ghost use Rattle.lam_geom.specs.Places.{IsPlacedBox};
-ghost use Rattle.lam_geom.specs.declared.boxes.BoxXY.{BoxXY};
+ghost use Rattle.lam_geom.specs.{Places.IsPlacedBox, declared.boxes.BoxXY.BoxXY};
 ghost use Rattle.rule_table.specs.Bounds.{IsLength};
-ghost use Rattle.flat_check.specs.Breaks.{IsChannel, IsNearChannel, IsCutNearChannel, IsImplantTooNear, IsWindowTooNear};
-ghost use Rattle.flat_check.specs.Sheets.{IsSheet};
+ghost use Rattle.flat_check.specs.Breaks.{IsChannel, IsNearChannel, IsCutNearChannel, IsImplantTooNear};
+ghost use Rattle.flat_check.specs.{Breaks.IsWindowTooNear, Sheets.IsSheet};
 
 use crate::nearness::{are_nearer, numbered};
 use crate::sheet::Sheet;

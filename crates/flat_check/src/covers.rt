@@ -1,13 +1,10 @@
 //! Boxes that cover a cut.
 ghost use Rattle.std.specs.Prelude.{◌↔◌, ◌<◌, IsTrue, length};
-ghost use Rattle.lam_geom.specs.Places.{IsPlacedBox};
-ghost use Rattle.lam_geom.specs.declared.boxes.MaskLayer.{MaskLayer};
+ghost use Rattle.lam_geom.specs.{Places.IsPlacedBox, declared.boxes.MaskLayer.MaskLayer};
 ghost use Rattle.box_tree.specs.Queries.{IsMargin};
 ghost use Rattle.crossings.specs.Pairs.{IsCovered};
 ghost use Rattle.flat_check.specs.declared.sheet.Sheet.{Sheet};
-ghost use Rattle.flat_check.specs.Breaks.{IsUncovered};
-ghost use Rattle.flat_check.specs.Sheets.{IsSheet};
-ghost use Rattle.flat_check.specs.Trees.{ArePiecesOn, AreTreesOf, IsUncut};
+ghost use Rattle.flat_check.specs.{Breaks.IsUncovered, Sheets.IsSheet, Trees.{ArePiecesOn, AreTreesOf, IsUncut}};
 
 use crate::nearness::numbered;
 use crate::sheet::Sheet;

@@ -4,11 +4,10 @@ ghost use Rattle.lam_geom.specs.declared.boxes.MaskLayer.TheVariants.{ND, NP, NC
 ghost use Rattle.rule_table.specs.Bounds.{IsLength};
 ghost use Rattle.crossings.specs.Spots.{AreBoxesOn};
 ghost use Rattle.net_extract.specs.Pieces.{box_of};
-ghost use Rattle.flat_check.specs.Breaks.{ArePiecesTooNear, AreCutsTooNear, IsBreak, IsImplantTooNear, IsNearChannel, IsPolyTooNear};
-ghost use Rattle.flat_check.specs.PiecePairs.{AreNearPieces};
-ghost use Rattle.flat_check.specs.Reaches.{extension_of, reach_of, spacing_of_rule};
-ghost use Rattle.flat_check.specs.Sheets.{IsOnPairs, IsSheet};
-ghost use Rattle.flat_check.specs.Trees.{AreChannels, ArePiecesOn, AreTreesOf, IsPieceOn};
+ghost use Rattle.flat_check.specs.Breaks.{ArePiecesTooNear, AreCutsTooNear, IsBreak, IsImplantTooNear, IsNearChannel};
+ghost use Rattle.flat_check.specs.{Breaks.IsPolyTooNear, PiecePairs.AreNearPieces, Reaches.{extension_of, reach_of}};
+ghost use Rattle.flat_check.specs.{Reaches.spacing_of_rule, Sheets.{IsOnPairs, IsSheet}, Trees.AreChannels};
+ghost use Rattle.flat_check.specs.Trees.{ArePiecesOn, AreTreesOf, IsPieceOn};
 
 use crate::channels::channel_at;
 use crate::nearness::numbered;

@@ -2,10 +2,8 @@
 ghost use Rattle.std.specs.Prelude.{◌≤◌, Some, IfOk, MatchOption};
 ghost use Rattle.crossings.specs.Boxes.{AreSearchable};
 ghost use Rattle.flat_check.specs.declared.rule.Rule.TheVariants.{PolyToDiffusion};
-ghost use Rattle.flat_check.specs.Breaks.{IsFirstBreak, KeepRules, ShapesHold};
-ghost use Rattle.flat_check.specs.Order.{IsFound, IsFoundOf, KeepBefore};
-ghost use Rattle.flat_check.specs.Sheets.{IsByTrees, IsOnNets, IsSheet};
-ghost use Rattle.flat_check.specs.Trees.{AreTreesOf};
+ghost use Rattle.flat_check.specs.{Breaks.{IsFirstBreak, KeepRules, ShapesHold}, Order.{IsFound, IsFoundOf}};
+ghost use Rattle.flat_check.specs.{Order.KeepBefore, Sheets.{IsByTrees, IsOnNets, IsSheet}, Trees.AreTreesOf};
 
 use crate::partners::{Range, first_in};
 use crate::ranges::first_in_pieces;

@@ -1,7 +1,6 @@
 //! Boxes by their numbers, and whether areas lie near one another.
 ghost use Rattle.std.specs.Prelude.{◌≡◌, ◌↔◌, ◌<◌, ◌<ℤ◌, IsTrue, length};
-ghost use Rattle.lam_geom.specs.Gaps.{gap_of_boxes};
-ghost use Rattle.lam_geom.specs.Places.{IsPlacedBox};
+ghost use Rattle.lam_geom.specs.{Gaps.gap_of_boxes, Places.IsPlacedBox};
 ghost use Rattle.rule_table.specs.Bounds.{IsLength};
 ghost use Rattle.crossings.specs.Boxes.{AreSearchable, box_at, grains};
 

@@ -1,10 +1,8 @@
 //! The first break of a rule in a range of boxes, found by trees.
 ghost use Rattle.std.specs.Prelude.{◌↔◌, ℕ, ◌<◌, ◌≤◌, IsTrue, length};
 ghost use Rattle.crossings.specs.Pairs.{Least};
-ghost use Rattle.flat_check.specs.Breaks.{IsBreak, ShapesHold};
-ghost use Rattle.flat_check.specs.Ranges.{IsFirstUnlessBefore, StandsTo};
-ghost use Rattle.flat_check.specs.Sheets.{IsByTrees, IsOnNets, IsOnPairs, IsSheet};
-ghost use Rattle.flat_check.specs.Trees.{AreTreesOf};
+ghost use Rattle.flat_check.specs.{Breaks.{IsBreak, ShapesHold}, Ranges.{IsFirstUnlessBefore, StandsTo}};
+ghost use Rattle.flat_check.specs.{Sheets.{IsByTrees, IsOnNets, IsOnPairs, IsSheet}, Trees.AreTreesOf};
 
 use crate::covers::is_uncovered;
 use crate::facing::may_break;

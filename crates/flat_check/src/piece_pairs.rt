@@ -3,8 +3,7 @@ ghost use Rattle.std.specs.Prelude.{◌≡◌, ◌↔◌, ◌<◌, IsTrue, lengt
 ghost use Rattle.lam_geom.specs.Places.{IsPlacedBox};
 ghost use Rattle.rule_table.specs.Bounds.{IsLength};
 ghost use Rattle.net_extract.specs.Pieces.{area_of};
-ghost use Rattle.flat_check.specs.Breaks.{ArePiecesTooNear};
-ghost use Rattle.flat_check.specs.PiecePairs.{AreNearPieces, HasNearPiece, HaveNearPieces};
+ghost use Rattle.flat_check.specs.{Breaks.ArePiecesTooNear, PiecePairs.{AreNearPieces, HasNearPiece, HaveNearPieces}};
 ghost use Rattle.flat_check.specs.Sheets.{IsSheet};
 
 use crate::nearness::{are_nearer, numbered};

@@ -1,10 +1,7 @@
 //! The first break of a rule, found in ranges of boxes that run beside each other.
 ghost use Rattle.std.specs.Prelude.{◌≡◌, ◌^◌, ◌≤◌, IfOk, length};
-ghost use Rattle.flat_check.specs.Breaks.{ShapesHold};
-ghost use Rattle.flat_check.specs.Order.{IsFoundOf};
-ghost use Rattle.flat_check.specs.Ranges.{AreRanges, IsFirstUnlessBefore, first_some};
-ghost use Rattle.flat_check.specs.Sheets.{IsByTrees, IsOnNets, IsSheet};
-ghost use Rattle.flat_check.specs.Trees.{AreTreesOf};
+ghost use Rattle.flat_check.specs.{Breaks.ShapesHold, Order.IsFoundOf, Ranges.{AreRanges, IsFirstUnlessBefore}};
+ghost use Rattle.flat_check.specs.{Ranges.first_some, Sheets.{IsByTrees, IsOnNets, IsSheet}, Trees.AreTreesOf};
 
 use crate::partners::{Range, first_in};
 use crate::rule::{Break, Rule};

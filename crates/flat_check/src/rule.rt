@@ -1,7 +1,6 @@
 //! Rules and breaks.
 ghost use Rattle.std.specs.Prelude.{◌≡◌};
-ghost use Rattle.flat_check.specs.Breaks.{number_of};
-ghost use Rattle.flat_check.specs.Order.{next_of};
+ghost use Rattle.flat_check.specs.{Breaks.number_of, Order.next_of};
 
 /// A rule on mask boxes, after Mead and Conway. Nets are those that the boxes make.
 #[derive(Clone, Copy, Debug, PartialEq, Eq)]

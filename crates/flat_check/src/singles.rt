@@ -1,11 +1,10 @@
 //! Rules on single boxes.
 ghost use Rattle.std.specs.Prelude.{◌≡◌, ◌↔◌, ◌<◌, ◌-ℤ◌, ◌<ℤ◌, IsTrue, IfSome, length};
-ghost use Rattle.lam_geom.specs.declared.boxes.Axis.{Axis};
-ghost use Rattle.lam_geom.specs.Places.{IsPlacedBox, IsPlacedSpan};
+ghost use Rattle.lam_geom.specs.{declared.boxes.Axis.Axis, Places.{IsPlacedBox, IsPlacedSpan}};
 ghost use Rattle.rule_table.specs.Bounds.{IsLength};
 ghost use Rattle.crossings.specs.Boxes.{AreSearchable, extent};
-ghost use Rattle.flat_check.specs.Breaks.{IsBreak, IsNarrow, IsOddCut, IsSquare, width_on};
-ghost use Rattle.flat_check.specs.Order.{IsFoundOf, IsOnOne};
+ghost use Rattle.flat_check.specs.{Breaks.{IsBreak, IsNarrow, IsOddCut, IsSquare, width_on}, Order.IsFoundOf};
+ghost use Rattle.flat_check.specs.Order.{IsOnOne};
 
 use crate::rule::{Break, Rule};
 use crossings::in_grains;

@@ -1,10 +1,8 @@
 //! What is known of boxes before the rules that are checked by trees.
 ghost use Rattle.std.specs.Prelude.{◌≡◌, Some, IfOk, IfErr, OnErr};
-ghost use Rattle.crossings.specs.Boxes.{AreSearchable};
-ghost use Rattle.crossings.specs.Crossings.{AreCrossings, AreProper, IsCauseOf};
+ghost use Rattle.crossings.specs.{Boxes.AreSearchable, Crossings.{AreCrossings, AreProper, IsCauseOf}};
 ghost use Rattle.flat_check.specs.declared.rule.Rule.TheVariants.{ProperCrossing};
-ghost use Rattle.flat_check.specs.Order.{KeepBefore};
-ghost use Rattle.flat_check.specs.Starts.{IsStart, start_of};
+ghost use Rattle.flat_check.specs.{Order.KeepBefore, Starts.{IsStart, start_of}};
 
 use crate::rule::{Break, Rule};
 use crate::singles::first_at_one;

@@ -1,8 +1,7 @@
 //! The trees by which it is found out fast whether a box breaks a rule.
 ghost use Rattle.std.specs.Prelude.{◌≡◌, ◌<◌, IfOk, length};
 ghost use Rattle.lam_geom.specs.Places.{IsPlacedBox};
-ghost use Rattle.flat_check.specs.Sheets.{IsSheet};
-ghost use Rattle.flat_check.specs.Trees.{AreChannels, ArePiecesOn, AreTreesOf, piece_spot};
+ghost use Rattle.flat_check.specs.{Sheets.IsSheet, Trees.{AreChannels, ArePiecesOn, AreTreesOf, piece_spot}};
 
 use crate::nearness::numbered;
 use crate::piece_pairs::piece_area;

@@ -1,9 +1,7 @@
 -- The numbers of parts by links, in order of first parts, are determined.
-use Rattle.std.proofs.Common.{◌≡◌, ℕ, zero, suc, ◌+◌, ◌<◌, ◌≤◌, List, length, take, get_or, inl, inr, refl, sym, ◌∙◌, ap, arith, add-one}
-use Rattle.std.specs.Prelude.{max}
-use Rattle.std.proofs.lemmas.List.{take_all, take_more_same, get_or-take}
-use Rattle.std.proofs.lemmas.List.Sums.{fold_more}
-use Rattle.std.proofs.lemmas.Bool.{cases_lt}
+use Rattle.std.proofs.Common.{◌≡◌, ℕ, zero, suc, ◌+◌, ◌<◌, ◌≤◌, List, length, take, get_or, inl, inr, refl, sym, ◌∙◌}
+use Rattle.std.proofs.{Common.{ap, arith, add-one}, lemmas.List.{take_all, take_more_same, get_or-take, Sums.fold_more}}
+use Rattle.std.{proofs.lemmas.Bool.cases_lt, specs.Prelude.max}
 use Rattle.graph_search.specs.Netting.{IsNetting, IsNumberedInOrder, next_net}
 
 -- the next number after one more part

@@ -1,15 +1,11 @@
 -- Lists of neighbours that some links make, and the netting that their numbers are.
 use Rattle.std.proofs.Common.{◌≡◌, ℕ, ◌<◌, Option, List, [], length, get_or, Contains, inl, inr, ◌∙◌, ap, subst, arith}
-use Rattle.std.proofs.lemmas.List.{get_or_past, get_or_read}
-use Rattle.std.proofs.lemmas.List.Elements.{Contains-get_or}
-use Rattle.std.proofs.lemmas.Bool.{cases_lt}
+use Rattle.std.proofs.lemmas.{List.{get_or_past, get_or_read, Elements.Contains-get_or}, Bool.cases_lt}
 use Rattle.smallvec.specs.SmallVec.{SmallVec}
-use Rattle.graph_search.specs.Netting.{Attached, IsNetting}
-use Rattle.graph_search.specs.Search.{no_neighbours, neighbours_of, IsBeside, AreMutual, AreNeighbours, AreNumbers}
-use Rattle.graph_search.proofs.Chains.{reaches_one, reaches_weaker, reaches_same}
-use Rattle.graph_search.proofs.Marks.{marked_within}
-use Rattle.graph_search.proofs.Numbering.{IsNumbering, numbering_joined, numbering_same}
-use Rattle.graph_search.proofs.Spreading.{IsSpreading}
+use Rattle.graph_search.specs.{Netting.{Attached, IsNetting}, Search.{no_neighbours, neighbours_of, IsBeside}}
+use Rattle.graph_search.specs.Search.{AreMutual, AreNeighbours, AreNumbers}
+use Rattle.graph_search.proofs.{Chains.{reaches_one, reaches_weaker, reaches_same}, Marks.marked_within}
+use Rattle.graph_search.proofs.{Numbering.{IsNumbering, numbering_joined, numbering_same}, Spreading.IsSpreading}
 
 -- an empty list has nothing in it
 pub none_in_empty : (k : ℕ) (xs : List ℕ) → xs ≡ [] → Contains xs k → ⊥

@@ -1,13 +1,10 @@
 -- The numbers of parts by the marks that searches leave.
-use Rattle.std.proofs.Common.{◌≡◌, ℕ, ◌+◌, ◌<◌, ◌≤◌, Option, Some, List, [], ◌∷◌, ◌++◌, length, take, get_or, inl, inr, refl, sym, ◌∙◌, ap, subst, arith}
+use Rattle.std.proofs.Common.{◌≡◌, ℕ, ◌+◌, ◌<◌, ◌≤◌, Option, Some, List, [], ◌∷◌, ◌++◌, length, take, get_or, inl, inr}
+use Rattle.std.proofs.{Common.{refl, sym, ◌∙◌, ap, subst, arith}, lemmas.List.{length_push, get_or_append_left}}
+use Rattle.std.proofs.lemmas.{List.{get_or_push, take-append-le, take_at, Sums.fold_push}, Option.same_Some}
 use Rattle.std.specs.Prelude.{max}
-use Rattle.std.proofs.lemmas.List.{length_push, get_or_append_left, get_or_push, take-append-le, take_at}
-use Rattle.std.proofs.lemmas.List.Sums.{fold_push}
-use Rattle.std.proofs.lemmas.Option.{same_Some}
-use Rattle.graph_search.specs.Netting.{IsNumberedInOrder, Reaches, next_net}
-use Rattle.graph_search.specs.Search.{mark_of, AreKept, AreWhole}
-use Rattle.graph_search.proofs.Marks.{below_cases}
-use Rattle.graph_search.proofs.Spreading.{whole_reaches}
+use Rattle.graph_search.specs.{Netting.{IsNumberedInOrder, Reaches, next_net}, Search.{mark_of, AreKept, AreWhole}}
+use Rattle.graph_search.proofs.{Marks.below_cases, Spreading.whole_reaches}
 
 -- the numbers of the first parts, and how many numbers there are
 pub record IsNumbering (Beside : ℕ → ℕ → Type 0) (marks : List (Option ℕ)) (nets : List ℕ) (count : ℕ) : Type 0 where

@@ -1,12 +1,11 @@
 -- A search over parts of which some are beside others: one search, and all of them.
-use Rattle.std.proofs.Common.{◌≡◌, ℕ, zero, suc, ◌+◌, ◌<◌, ◌≤◌, Option, Some, None, List, [], length, get_or, Contains, inl, inr, refl, sym, ◌∙◌, ap, subst, arith}
-use Rattle.std.proofs.lemmas.List.{get_or_default}
-use Rattle.std.proofs.lemmas.List.Elements.{Contains-get_or}
-use Rattle.std.proofs.lemmas.Option.{none-some}
-use Rattle.graph_search.specs.Netting.{Chain, Reaches}
-use Rattle.graph_search.specs.Search.{mark_of, IsMarked, AreKept, AreReached, IsSpread, AreWhole}
-use Rattle.graph_search.proofs.Chains.{reaches_none, reaches_one, reaches_trans, reaches_back}
-use Rattle.graph_search.proofs.Marks.{below_cases, mark_cases, unmarked_before, same_mark, kept_trans, kept_marked, contains_front}
+use Rattle.std.proofs.Common.{◌≡◌, ℕ, zero, suc, ◌+◌, ◌<◌, ◌≤◌, Option, Some, None, List, [], length, get_or, Contains}
+use Rattle.std.proofs.Common.{inl, inr, refl, sym, ◌∙◌, ap, subst, arith}
+use Rattle.std.proofs.lemmas.{List.{get_or_default, Elements.Contains-get_or}, Option.none-some}
+use Rattle.graph_search.specs.{Netting.{Chain, Reaches}, Search.{mark_of, IsMarked, AreKept, AreReached, IsSpread}}
+use Rattle.graph_search.specs.Search.{AreWhole}
+use Rattle.graph_search.proofs.{Chains.{reaches_none, reaches_one, reaches_trans, reaches_back}, Marks.below_cases}
+use Rattle.graph_search.proofs.Marks.{mark_cases, unmarked_before, same_mark, kept_trans, kept_marked, contains_front}
 
 -- ---- one search
 

@@ -1,16 +1,12 @@
 -- The cells that a design has, and the ports of each.
 use Rattle.std.proofs.Common.{◌≡◌, ℕ, ◌<◌, ◌≤◌, List, [], length, map, get_or, sym, ap, subst, ◌∙◌, arith}
-use Rattle.std.specs.List.{All, AllByRecursion}
-use Rattle.std.proofs.lemmas.List.{get_or-map, length-map}
+use Rattle.std.{proofs.lemmas.List.{get_or-map, length-map}, specs.List.{All, AllByRecursion}}
 use Rattle.lam_geom.specs.declared.boxes.Side.{Side}
 use Rattle.cell_model.specs.declared.cell.CellPort.{CellPort}
 use Rattle.plan_model.specs.Borders.{side_ports}
-use Rattle.stick_cell.specs.declared.cells.Cells.{Cells}
-use Rattle.stick_cell.specs.Known.{Known, Plug, begun, known_at, no_plug}
-use Rattle.stick_cell.specs.Ports.{port_of, ports_of, is_light}
-use Rattle.stick_cell.specs.Tables.{known_of, IsResolved}
-use Rattle.stick_cell.proofs.TableReads.{length-known_cells}
-use Rattle.stick_cell.proofs.StepsInlined.{grown_cells}
+use Rattle.stick_cell.specs.{declared.cells.Cells.Cells, Known.{Known, Plug, begun, known_at, no_plug}, Ports.port_of}
+use Rattle.stick_cell.specs.{Ports.{ports_of, is_light}, Tables.{known_of, IsResolved}}
+use Rattle.stick_cell.proofs.{TableReads.length-known_cells, StepsInlined.grown_cells}
 use Rattle.list_facts.proofs.Elements.{by_number, all_map, all_of}
 use Rattle.grid_plan.specs.Numbered.{ports_of_cells}
 

@@ -3,12 +3,9 @@ use Rattle.std.proofs.Common.{◌≡◌, List, [], ◌∷◌, map, refl, ap, sym
 use Rattle.lam_geom.specs.declared.boxes.Axis.TheVariants.{X, Y}
 use Rattle.stick_parse.specs.declared.design.GridText.{GridText}
 use Rattle.stick_cell.specs.Known.{Known}
-use Rattle.plan_model.specs.declared.plan.PlanGrid.{PlanGrid}
-use Rattle.plan_model.specs.declared.plan.PlanRow.{PlanRow}
-use Rattle.plan_model.specs.Plan.{grids_of, pitch_of, ports_matched}
-use Rattle.plan_model.specs.Rows.{rows_of}
-use Rattle.grid_plan.specs.Numbered.{ports_of_chosen}
-use Rattle.grid_plan.specs.Planned.{PlanIsDetermined}
+use Rattle.plan_model.specs.declared.plan.{PlanGrid.PlanGrid, PlanRow.PlanRow}
+use Rattle.plan_model.specs.{Plan.{grids_of, pitch_of, ports_matched}, Rows.rows_of}
+use Rattle.grid_plan.specs.{Numbered.ports_of_chosen, Planned.PlanIsDetermined}
 
 -- images by a function that takes no two to one
 same_origins : {A B : Type 0} (f : A → B) → ((x y : A) → f x ≡ f y → x ≡ y) → (xs ys : List A) → map f xs ≡ map f ys → xs ≡ ys

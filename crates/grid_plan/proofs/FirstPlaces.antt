@@ -1,7 +1,6 @@
 -- The elements of a list, each at its first place alone, and a table of pairs.
-use Rattle.std.proofs.Common.{◌≡◌, ℕ, zero, suc, ◌+◌, ◌*◌, ◌<◌, ◌==◌, Bool, true, false, ◌||◌, cond, List, [], ◌∷◌, ◌++◌, get_or, replicate, refl, ap, sym, ◌∙◌}
-use Rattle.std.specs.List.{list_any}
-use Rattle.std.proofs.Math.Bool.{and_comm}
+use Rattle.std.proofs.Common.{◌≡◌, ℕ, zero, suc, ◌+◌, ◌*◌, ◌<◌, ◌==◌, Bool, true, false, ◌||◌, cond, List, [], ◌∷◌}
+use Rattle.std.{proofs.{Common.{◌++◌, get_or, replicate, refl, ap, sym, ◌∙◌}, Math.Bool.and_comm}, specs.List.list_any}
 use Rattle.plan_model.specs.Rows.{add_new, is_pair, is_pair_either_way}
 
 -- ---- an element that is there already, and one that is not

@@ -1,20 +1,13 @@
 -- What is known of grids without a fault.
-use Rattle.std.proofs.Common.{◌≡◌, ℕ, ◌<◌, None, List, [], ◌∷◌, length, map, get_or, arith}
-use Rattle.std.specs.List.{AllByRecursion}
-use Rattle.std.specs.Option.{option_or}
-use Rattle.std.proofs.lemmas.List.{length-map}
+use Rattle.std.proofs.{Common.{◌≡◌, ℕ, ◌<◌, None, List, [], ◌∷◌, length, map, get_or, arith}, lemmas.List.length-map}
+use Rattle.std.specs.{List.AllByRecursion, Option.option_or}
 use Rattle.lam_geom.specs.declared.boxes.Axis.{Axis}
-use Rattle.stick_parse.specs.declared.design.GridText.{GridText}
-use Rattle.stick_parse.specs.declared.design.RowText.{RowText}
-use Rattle.stick_parse.specs.Writable.{IsRow, IsGrid}
+use Rattle.stick_parse.specs.{declared.design.{GridText.GridText, RowText.RowText}, Writable.{IsRow, IsGrid}}
 use Rattle.stick_cell.specs.Known.{Known}
-use Rattle.plan_model.specs.Borders.{FitsAt}
-use Rattle.plan_model.specs.Plan.{meeting}
-use Rattle.plan_model.specs.Rows.{IsRectangular}
-use Rattle.grid_plan.specs.Faults.{fault_of_rows, grid_fault, numbered_fault, plan_fault, unknown_in, ragged_in, misfit_in}
-use Rattle.grid_plan.specs.Numbered.{cell_named, numbers_in_row, numbers_in_grid, ports_of_cells}
-use Rattle.grid_plan.proofs.GridsFit.{all_fit, no_image}
-use Rattle.grid_plan.proofs.GridsRead.{both_none, equal_rows, nowhere}
+use Rattle.plan_model.specs.{Borders.FitsAt, Plan.meeting, Rows.IsRectangular}
+use Rattle.grid_plan.specs.Faults.{fault_of_rows, grid_fault, numbered_fault, plan_fault, unknown_in, ragged_in}
+use Rattle.grid_plan.specs.{Faults.misfit_in, Numbered.{cell_named, numbers_in_row, numbers_in_grid, ports_of_cells}}
+use Rattle.grid_plan.proofs.{GridsFit.{all_fit, no_image}, GridsRead.{both_none, equal_rows, nowhere}}
 use Rattle.list_facts.proofs.Elements.{all_at, by_number, all_map}
 
 pub record IsGood (cells : List Known) (rows : List (List ℕ)) : Type 0 where

@@ -1,17 +1,12 @@
 -- Where no misfit is found, the ports fit at each border.
-use Rattle.std.proofs.Common.{◌≡◌, ℕ, suc, ◌+◌, ◌<◌, cond, true, false, Option, Some, None, List, [], ◌∷◌, length, get_or, refl, ap, sym, subst, ◌∙◌, arith}
-use Rattle.std.specs.List.{AllByRecursion, zip}
-use Rattle.std.specs.Option.{option_map}
-use Rattle.std.proofs.lemmas.Bool.{lt-ltb}
-use Rattle.lam_geom.specs.declared.boxes.Axis.{Axis}
-use Rattle.lam_geom.specs.declared.boxes.Axis.TheVariants.{X, Y}
+use Rattle.std.proofs.Common.{◌≡◌, ℕ, suc, ◌+◌, ◌<◌, cond, true, false, Option, Some, None, List, [], ◌∷◌, length}
+use Rattle.std.proofs.{Common.{get_or, refl, ap, sym, subst, ◌∙◌, arith}, lemmas.Bool.lt-ltb}
+use Rattle.std.specs.{List.{AllByRecursion, zip}, Option.option_map}
+use Rattle.lam_geom.specs.declared.boxes.Axis.{Axis, TheVariants.{X, Y}}
 use Rattle.cell_model.specs.declared.cell.CellPort.{CellPort}
-use Rattle.plan_model.specs.Borders.{misfit_at, FitsAt}
-use Rattle.plan_model.specs.Plan.{meeting}
-use Rattle.plan_model.specs.Rows.{neighbours, zipped_rows, row_at}
-use Rattle.grid_plan.specs.declared.fault.GridFault.TheVariants.{PortMismatch}
-use Rattle.grid_plan.specs.Faults.{misfit_on_right, misfit_on_top, misfit_here, misfit_in_row, misfit_in}
-use Rattle.grid_plan.proofs.GridsRead.{nowhere, both_none}
+use Rattle.plan_model.specs.{Borders.{misfit_at, FitsAt}, Plan.meeting, Rows.{neighbours, zipped_rows, row_at}}
+use Rattle.grid_plan.specs.{declared.fault.GridFault.TheVariants.PortMismatch, Faults.{misfit_on_right, misfit_on_top}}
+use Rattle.grid_plan.{specs.Faults.{misfit_here, misfit_in_row, misfit_in}, proofs.GridsRead.{nowhere, both_none}}
 use Rattle.list_facts.proofs.Elements.{by_number, all_flat}
 
 pub no_image : {A B : Type 0} (f : A → B) (o : Option A) → option_map f o ≡ None → o ≡ None

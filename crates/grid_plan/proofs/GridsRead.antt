@@ -1,14 +1,11 @@
 -- Grids without a fault: their rows are equally long.
-use Rattle.std.proofs.Common.{◌≡◌, ℕ, zero, suc, ◌+◌, ◌<◌, Option, Some, None, List, [], ◌∷◌, inl, inr, length, map, get_or, cond, refl, ap, sym, ◌∙◌, arith}
-use Rattle.std.specs.List.{All, AllByRecursion}
-use Rattle.std.specs.Option.{option_or}
-use Rattle.std.proofs.lemmas.Bool.Decides.{eqb_tells}
-use Rattle.std.proofs.lemmas.List.{length-map}
+use Rattle.std.proofs.Common.{◌≡◌, ℕ, zero, suc, ◌+◌, ◌<◌, Option, Some, None, List, [], ◌∷◌, inl, inr, length, map}
+use Rattle.std.proofs.{Common.{get_or, cond, refl, ap, sym, ◌∙◌, arith}, lemmas.Bool.Decides.eqb_tells}
+use Rattle.std.{proofs.lemmas.List.length-map, specs.{List.{All, AllByRecursion}, Option.option_or}}
 use Rattle.stick_parse.specs.declared.design.RowText.{RowText}
 use Rattle.stick_cell.specs.Known.{Known}
 use Rattle.plan_model.specs.Rows.{first_row}
-use Rattle.grid_plan.specs.declared.fault.GridFault.TheVariants.{RaggedRow}
-use Rattle.grid_plan.specs.Faults.{first_found, ragged_row, ragged_in}
+use Rattle.grid_plan.specs.{declared.fault.GridFault.TheVariants.RaggedRow, Faults.{first_found, ragged_row, ragged_in}}
 use Rattle.grid_plan.specs.Numbered.{cell_named, numbers_in_row}
 use Rattle.list_facts.proofs.Elements.{by_number, all_map, all_of}
 

@@ -1,20 +1,14 @@
 -- Where no name is unknown, the numbers are of cells.
-use Rattle.std.proofs.Common.{◌≡◌, ℕ, ◌^◌, ◌<◌, Option, Some, None, is_none, List, [], ◌∷◌, length, map, get_or, unwrap_or, cond, refl, ap, ◌∙◌, arith}
-use Rattle.std.specs.List.{All, AllByRecursion}
-use Rattle.std.specs.Option.{option_or}
-use Rattle.std.proofs.lemmas.List.{get_or-map, length-map}
-use Rattle.stick_parse.specs.declared.design.GridText.{GridText}
-use Rattle.stick_parse.specs.declared.design.RowText.{RowText}
-use Rattle.stick_cell.specs.Known.{Known}
-use Rattle.stick_cell.specs.Lines.{number_of}
-use Rattle.stick_cell.proofs.TableReads.{number-lt}
-use Rattle.grid_plan.specs.declared.fault.GridFault.TheVariants.{UnknownCell}
-use Rattle.grid_plan.specs.Faults.{unknown_cell, unknown_in_row, unknown_in, ragged_in, misfit_in, fault_of_rows, grid_fault, numbered_fault, plan_fault}
-use Rattle.grid_plan.specs.Numbered.{cell_named, numbers_in_row, numbers_in_grid, ports_of_cells}
+use Rattle.std.proofs.Common.{◌≡◌, ℕ, ◌^◌, ◌<◌, Option, Some, None, is_none, List, [], ◌∷◌, length, map, get_or}
+use Rattle.std.proofs.{Common.{unwrap_or, cond, refl, ap, ◌∙◌, arith}, lemmas.List.{get_or-map, length-map}}
+use Rattle.std.specs.{List.{All, AllByRecursion}, Option.option_or}
+use Rattle.stick_parse.specs.declared.design.{GridText.GridText, RowText.RowText}
+use Rattle.stick_cell.{specs.{Known.Known, Lines.number_of}, proofs.TableReads.number-lt}
+use Rattle.grid_plan.specs.{declared.fault.GridFault.TheVariants.UnknownCell, Faults.{unknown_cell, unknown_in_row}}
+use Rattle.grid_plan.specs.Faults.{unknown_in, ragged_in, misfit_in, fault_of_rows, grid_fault, numbered_fault}
+use Rattle.grid_plan.specs.{Faults.plan_fault, Numbered.{cell_named, numbers_in_row, numbers_in_grid, ports_of_cells}}
 use Rattle.grid_plan.specs.Small.{AreFewRows, AreFewCells}
-use Rattle.grid_plan.proofs.GoodGrids.{no_grid}
-use Rattle.grid_plan.proofs.GridsFit.{no_image}
-use Rattle.grid_plan.proofs.GridsRead.{both_none, nowhere, no_text}
+use Rattle.grid_plan.proofs.{GoodGrids.no_grid, GridsFit.no_image, GridsRead.{both_none, nowhere, no_text}}
 use Rattle.list_facts.proofs.Elements.{by_number, all_map, all_of}
 
 -- ---- cells

@@ -1,12 +1,10 @@
 -- Rows whose cells are renumbered: what stands beside and above what is renumbered too.
 use Rattle.std.proofs.Common.{◌≡◌, ℕ, ◌<◌, List, [], ◌∷◌, ◌++◌, length, map, get_or, refl, ap, sym, ◌∙◌, arith}
+use Rattle.std.proofs.{lemmas.List.{map-append, length-map, get_or_default}, Math.ListN.get_or-map}
 use Rattle.std.specs.List.{All, zip, flat_map}
-use Rattle.std.proofs.lemmas.List.{map-append, length-map, get_or_default}
-use Rattle.std.proofs.Math.ListN.{get_or-map}
-use Rattle.lam_geom.specs.declared.boxes.Axis.{Axis}
-use Rattle.lam_geom.specs.declared.boxes.Axis.TheVariants.{X, Y}
-use Rattle.plan_model.specs.Plan.{meeting, borders_of}
-use Rattle.plan_model.specs.Rows.{neighbours, zipped_rows, beside, above, first_row, IsRectangular}
+use Rattle.lam_geom.specs.declared.boxes.Axis.{Axis, TheVariants.{X, Y}}
+use Rattle.plan_model.specs.{Plan.{meeting, borders_of}, Rows.{neighbours, zipped_rows, beside, above, first_row}}
+use Rattle.plan_model.specs.Rows.{IsRectangular}
 
 abbrev pub both : {A B : Type 0} → (A → B) → A × A → B × B
 both f pair = (f pair.0, f pair.1)

@@ -1,9 +1,8 @@
 -- Each cell that grids name has a place among the masters.
-use Rattle.std.proofs.Common.{◌≡◌, ℕ, ◌<◌, Bool, true, false, ◌||◌, cond, Some, None, unwrap_or, List, [], ◌∷◌, ◌++◌, length, map, get_or, refl, ap, sym, subst, ◌∙◌}
+use Rattle.std.proofs.Common.{◌≡◌, ℕ, ◌<◌, Bool, true, false, ◌||◌, cond, Some, None, unwrap_or, List, [], ◌∷◌, ◌++◌}
+use Rattle.std.proofs.{Common.{length, map, get_or, refl, ap, sym, subst, ◌∙◌}, lemmas.Bool.{eq-eqb, eqb-true}}
+use Rattle.std.proofs.lemmas.List.{Folds.{list_any-append, flat_map-map}, Quantifiers.position-Some}
 use Rattle.std.specs.List.{AllByRecursion, list_any, fold, flat_map, position, position_or_len}
-use Rattle.std.proofs.lemmas.Bool.{eq-eqb, eqb-true}
-use Rattle.std.proofs.lemmas.List.Folds.{list_any-append, flat_map-map}
-use Rattle.std.proofs.lemmas.List.Quantifiers.{position-Some}
 use Rattle.stick_parse.specs.declared.design.GridText.{GridText}
 use Rattle.stick_cell.specs.Known.{Known}
 use Rattle.plan_model.specs.Rows.{add_new, firsts}

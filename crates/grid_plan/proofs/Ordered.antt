@@ -1,13 +1,11 @@
 -- A list that is sorted by a rank, as the pieces of each rank, and the ports of a side in order.
-use Rattle.std.proofs.Common.{◌≡◌, ℕ, zero, suc, ◌+◌, ◌*◌, ◌/◌, ◌%◌, ◌<◌, ◌≤◌, ◌==◌, Bool, false, not, ◌&&◌, cond, pos, List, [], ◌∷◌, ◌++◌, inl, inr, get_or, filter, refl, ap, sym, ◌∙◌, arith}
-use Rattle.std.specs.List.{All, AllByRecursion, flat_map, range_with_len}
-use Rattle.std.specs.List.Sorted.{IsPermutation, IsNonDecreasingBy, IsStableByKey, ties}
-use Rattle.std.specs.Ordering.{nat_cmp, is_lt}
-use Rattle.std.proofs.lemmas.Bool.Decides.{eqb_tells, nat_tests}
-use Rattle.std.proofs.lemmas.List.Sorted.{All-permutation}
+use Rattle.std.proofs.Common.{◌≡◌, ℕ, zero, suc, ◌+◌, ◌*◌, ◌/◌, ◌%◌, ◌<◌, ◌≤◌, ◌==◌, Bool, false, not, ◌&&◌, cond, pos}
+use Rattle.std.proofs.Common.{List, [], ◌∷◌, ◌++◌, inl, inr, get_or, filter, refl, ap, sym, ◌∙◌, arith}
+use Rattle.std.proofs.lemmas.{Bool.Decides.{eqb_tells, nat_tests}, List.Sorted.All-permutation}
+use Rattle.std.specs.List.{All, AllByRecursion, flat_map, range_with_len, Sorted.{IsPermutation, IsNonDecreasingBy}}
+use Rattle.std.specs.{List.Sorted.{IsStableByKey, ties}, Ordering.{nat_cmp, is_lt}}
 use Rattle.lam_geom.specs.declared.boxes.Side.TheVariants.{Left}
-use Rattle.rule_table.specs.declared.classes.Layer.{Layer}
-use Rattle.rule_table.specs.declared.classes.Layer.TheVariants.{Diffusion, Poly, Metal}
+use Rattle.rule_table.specs.declared.classes.Layer.{Layer, TheVariants.{Diffusion, Poly, Metal}}
 use Rattle.cell_model.specs.declared.cell.CellPort.{CellPort}
 use Rattle.plan_model.specs.Borders.{layer_rank, port_rank, in_order, port_ranks}
 use Rattle.list_facts.proofs.Elements.{by_number, all_weaker}

@@ -1,12 +1,11 @@
 -- Lists of pairs and of images, one more element at a time.
-use Rattle.std.proofs.Common.{◌≡◌, ℕ, zero, suc, ◌+◌, ◌-◌, ◌<◌, ◌≤◌, min, Bool, true, false, cond, Option, Some, None, List, [], ◌∷◌, ◌++◌, length, map, take, get_or, refl, ap, sym, subst, ◌∙◌, arith, append_assoc, add-one}
-use Rattle.std.specs.List.{zip}
-use Rattle.std.proofs.lemmas.List.{map_more, get_or_default}
+use Rattle.std.proofs.Common.{◌≡◌, ℕ, zero, suc, ◌+◌, ◌-◌, ◌<◌, ◌≤◌, min, Bool, true, false, cond, Option, Some, None}
+use Rattle.std.proofs.Common.{List, [], ◌∷◌, ◌++◌, length, map, take, get_or, refl, ap, sym, subst, ◌∙◌, arith}
+use Rattle.std.proofs.{Common.{append_assoc, add-one}, lemmas.List.{map_more, get_or_default}}
+use Rattle.std.specs.{List.zip, Option.option_map}
 use borrow.Author.Count.{below_more}
-use Rattle.std.specs.Option.{option_map}
 use Rattle.cell_model.specs.declared.cell.CellPort.{CellPort}
-use Rattle.plan_model.specs.Borders.{may_meet, misfit}
-use Rattle.plan_model.specs.Rows.{neighbours}
+use Rattle.plan_model.specs.{Borders.{may_meet, misfit}, Rows.neighbours}
 
 -- the image of one more element
 pub map_step : {X Y : Type 0} (f : X → Y) (front : List Y) (xs : List X) (i : ℕ) (d : X) (now next : List Y) → i < length xs → now ≡ front ++ map f (take i xs)

@@ -1,12 +1,11 @@
 -- The places of numbers in a list of different numbers, as it grows.
-use Rattle.std.proofs.Common.{◌≡◌, ℕ, suc, ◌+◌, ◌<◌, ◌≤◌, Bool, true, false, not, ◌||◌, cond, eqb, ltb, Option, Some, None, is_some, List, [], ◌∷◌, ◌++◌, inl, inr, length, get_or, set, replicate, refl, ap, sym, subst, ◌∙◌, arith, length-append}
+use Rattle.std.proofs.Common.{◌≡◌, ℕ, suc, ◌+◌, ◌<◌, ◌≤◌, Bool, true, false, not, ◌||◌, cond, eqb, ltb, Option, Some}
+use Rattle.std.proofs.Common.{None, is_some, List, [], ◌∷◌, ◌++◌, inl, inr, length, get_or, set, replicate, refl, ap}
+use Rattle.std.proofs.{Common.{sym, subst, ◌∙◌, arith, length-append}, lemmas.Bool.{eq-eqb, eqb-true, lt-ltb}}
+use Rattle.std.proofs.lemmas.{Bool.Decides.{eqb_tells, leb_tells, nat_tests}, List.{get_or-set_same, get_or-set_other}}
+use Rattle.std.proofs.lemmas.List.{get_or-replicate, get_or_default, Folds.{position_or_len_push, Any-from_list_any}}
+use Rattle.std.proofs.lemmas.{List.Sums.prefix_len-le-length, Map.Steps.length-le_from_distinct_below}
 use Rattle.std.specs.List.{All, IsDistinct, list_any, position, position_or_len}
-use Rattle.std.proofs.lemmas.Bool.{eq-eqb, eqb-true, lt-ltb}
-use Rattle.std.proofs.lemmas.Bool.Decides.{eqb_tells, leb_tells, nat_tests}
-use Rattle.std.proofs.lemmas.List.{get_or-set_same, get_or-set_other, get_or-replicate, get_or_default}
-use Rattle.std.proofs.lemmas.List.Folds.{position_or_len_push, Any-from_list_any}
-use Rattle.std.proofs.lemmas.List.Sums.{prefix_len-le-length}
-use Rattle.std.proofs.lemmas.Map.Steps.{length-le_from_distinct_below}
 use Rattle.list_facts.proofs.Elements.{all_append}
 use Rattle.grid_plan.specs.Numbered.{is_same_number}
 

@@ -1,22 +1,14 @@
 -- The plan that is built is that of the grids.
 use Rattle.std.proofs.Common.{◌≡◌, ℕ, ◌<◌, List, [], ◌∷◌, ◌++◌, length, map, get_or, refl, ap, sym, subst, ◌∙◌, arith}
-use Rattle.std.specs.List.{All, AllByRecursion, flat_map, zip}
-use Rattle.std.proofs.lemmas.List.{get_or-map, length-map}
-use Rattle.lam_geom.specs.declared.boxes.Axis.{Axis}
-use Rattle.lam_geom.specs.declared.boxes.Axis.TheVariants.{X, Y}
+use Rattle.std.{proofs.lemmas.List.{get_or-map, length-map}, specs.List.{All, AllByRecursion, flat_map, zip}}
+use Rattle.lam_geom.specs.declared.boxes.Axis.{Axis, TheVariants.{X, Y}}
 use Rattle.cell_model.specs.declared.cell.CellPort.{CellPort}
-use Rattle.stick_cell.specs.Known.{Known, known_at}
-use Rattle.stick_cell.specs.Ports.{ports_of}
-use Rattle.plan_model.specs.Borders.{misfit, FitsAt, matches_at, match_of, side_ports, side_before, side_behind, ports_of_master}
-use Rattle.plan_model.specs.Plan.{meeting, borders_of}
-use Rattle.grid_plan.specs.Numbered.{master_of, ports_of_cells, ports_of_chosen}
-use Rattle.grid_plan.specs.Small.{IsWithin}
-use Rattle.grid_plan.specs.Tables.{side_at, meeting_of}
-use Rattle.grid_plan.proofs.CellPorts.{ports_at}
-use Rattle.grid_plan.proofs.GoodGrids.{IsGood}
-use Rattle.grid_plan.proofs.Mapped.{both, borders_map}
-use Rattle.grid_plan.proofs.MasterPlaces.{HasPlace}
-use Rattle.grid_plan.proofs.PairsWithin.{of_beside, of_above}
+use Rattle.stick_cell.specs.{Known.{Known, known_at}, Ports.ports_of}
+use Rattle.plan_model.specs.Borders.{misfit, FitsAt, matches_at, match_of, side_ports, side_before, side_behind}
+use Rattle.plan_model.specs.{Borders.ports_of_master, Plan.{meeting, borders_of}}
+use Rattle.grid_plan.specs.{Numbered.{master_of, ports_of_cells, ports_of_chosen}, Small.IsWithin, Tables.side_at}
+use Rattle.grid_plan.{specs.Tables.meeting_of, proofs.{CellPorts.ports_at, GoodGrids.IsGood, Mapped.both}}
+use Rattle.grid_plan.proofs.{Mapped.borders_map, MasterPlaces.HasPlace, PairsWithin.{of_beside, of_above}}
 use Rattle.list_facts.proofs.Elements.{all_map, all_of, all_flat, all_weaker}
 
 -- two facts of each element

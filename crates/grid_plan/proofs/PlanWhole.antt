@@ -1,29 +1,18 @@
 -- The plan that is built is that of the grids.
-use Rattle.std.proofs.Common.{◌≡◌, ℕ, ◌<◌, ◌≤◌, None, List, [], length, map, get_or, inl, inr, ap, sym, subst, ◌∙◌, arith}
+use Rattle.std.proofs.Common.{◌≡◌, ℕ, ◌<◌, ◌≤◌, None, List, [], length, map, get_or, inl, inr, ap, sym, subst, ◌∙◌}
+use Rattle.std.proofs.{Common.arith, lemmas.{Simd.map-map, List.length-map}}
 use Rattle.std.specs.List.{All, AllByRecursion, flat_map}
-use Rattle.std.proofs.lemmas.Simd.{map-map}
-use Rattle.std.proofs.lemmas.List.{length-map}
-use Rattle.lam_geom.specs.declared.boxes.Axis.{Axis}
-use Rattle.lam_geom.specs.declared.boxes.Axis.TheVariants.{X, Y}
-use Rattle.stick_parse.specs.declared.design.GridText.{GridText}
-use Rattle.stick_parse.specs.Writable.{IsGrid, AreGridsOf}
-use Rattle.stick_cell.specs.Known.{Known, known_at}
-use Rattle.stick_cell.specs.Ports.{ports_of}
+use Rattle.lam_geom.specs.declared.boxes.Axis.{Axis, TheVariants.{X, Y}}
+use Rattle.stick_parse.specs.{declared.design.GridText.GridText, Writable.{IsGrid, AreGridsOf}}
+use Rattle.stick_cell.specs.{Known.{Known, known_at}, Ports.ports_of}
 use Rattle.plan_model.specs.declared.plan.Plan.{Plan}
-use Rattle.plan_model.specs.Borders.{FitsAt}
-use Rattle.plan_model.specs.Plan.{borders_of, grids_of, pitch_of, pitch_in, matches_in, ports_matched, AreOfMasters}
-use Rattle.plan_model.specs.Rows.{firsts, is_pair, IsRectangular, rows_of}
-use Rattle.grid_plan.specs.declared.scan.Scan.{Scan}
-use Rattle.grid_plan.specs.Building.{IsBuilt}
-use Rattle.grid_plan.specs.Faults.{plan_fault}
-use Rattle.grid_plan.specs.Numbered.{is_same_number, master_of, numbers_in_grid, ports_of_cells, ports_of_chosen}
-use Rattle.grid_plan.specs.Planned.{IsPlanOf}
-use Rattle.grid_plan.specs.Scan.{IsScanOf}
-use Rattle.grid_plan.specs.Small.{IsGridOf, IsWithin}
-use Rattle.grid_plan.proofs.GoodGrids.{IsGood, good_grids}
-use Rattle.grid_plan.proofs.Mapped.{rectangular_map}
-use Rattle.grid_plan.proofs.MasterPlaces.{HasPlace, all_placed, all_numbers_of, firsts_of, same_masters}
-use Rattle.grid_plan.proofs.PairsWithin.{above_within, beside_within, firsts_all, rec_of}
+use Rattle.plan_model.specs.{Borders.FitsAt, Plan.{borders_of, grids_of, pitch_of, pitch_in, matches_in, ports_matched}}
+use Rattle.plan_model.specs.{Plan.AreOfMasters, Rows.{firsts, is_pair, IsRectangular, rows_of}}
+use Rattle.grid_plan.specs.{declared.scan.Scan.Scan, Building.IsBuilt, Faults.plan_fault, Numbered.is_same_number}
+use Rattle.grid_plan.specs.{Numbered.{master_of, numbers_in_grid, ports_of_cells, ports_of_chosen}, Planned.IsPlanOf}
+use Rattle.grid_plan.{specs.{Scan.IsScanOf, Small.{IsGridOf, IsWithin}}, proofs.GoodGrids.{IsGood, good_grids}}
+use Rattle.grid_plan.proofs.{Mapped.rectangular_map, MasterPlaces.{HasPlace, all_placed, all_numbers_of, firsts_of}}
+use Rattle.grid_plan.proofs.{MasterPlaces.same_masters, PairsWithin.{above_within, beside_within, firsts_all, rec_of}}
 use Rattle.grid_plan.proofs.PlanMade.{IsMaster, AreMasters, both_facts, placed_rows, fits_moved, matches_moved}
 use Rattle.list_facts.proofs.Elements.{all_map, all_of, all_flat, all_weaker, by_number}
 

@@ -1,11 +1,8 @@
 -- What is built over rows of masters.
 use Rattle.std.specs.Prelude.{◌≡◌, ℕ, List, flat_map}
 use Rattle.lam_geom.specs.declared.boxes.Axis.TheVariants.{X, Y}
-use Rattle.plan_model.specs.declared.plan.Plan.{Plan}
-use Rattle.plan_model.specs.Plan.{grids_of, pitch_of, borders_of}
-use Rattle.plan_model.specs.Rows.{firsts, is_pair}
-use Rattle.grid_plan.specs.declared.scan.Scan.{Scan}
-use Rattle.grid_plan.specs.Tables.{meeting_of}
+use Rattle.plan_model.specs.{declared.plan.Plan.Plan, Plan.{grids_of, pitch_of, borders_of}, Rows.{firsts, is_pair}}
+use Rattle.grid_plan.specs.{declared.scan.Scan.Scan, Tables.meeting_of}
 
 -- a plan of these masters and rows, whose ports are those on the sides of the scan
 pub record IsBuilt (scan : Scan) (cells : List ℕ) (rows : List (List (List ℕ))) (plan : Plan) : Type 0 where

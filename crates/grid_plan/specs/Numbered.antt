@@ -1,11 +1,8 @@
 -- The cells that grids name, by their numbers, and the masters among them.
 use Rattle.std.specs.Prelude.{ℕ, ◌==◌, Bool, List, map, flat_map, position, unwrap_or}
 use Rattle.cell_model.specs.declared.cell.CellPort.{CellPort}
-use Rattle.stick_parse.specs.declared.design.GridText.{GridText}
-use Rattle.stick_parse.specs.declared.design.RowText.{RowText}
-use Rattle.stick_cell.specs.Known.{Known, known_at}
-use Rattle.stick_cell.specs.Lines.{number_of}
-use Rattle.stick_cell.specs.Ports.{ports_of}
+use Rattle.stick_parse.specs.declared.design.{GridText.GridText, RowText.RowText}
+use Rattle.stick_cell.specs.{Known.{Known, known_at}, Lines.number_of, Ports.ports_of}
 use Rattle.plan_model.specs.Rows.{firsts}
 
 -- the number of the cell with a name; 0 where there is none

@@ -2,10 +2,8 @@
 use Rattle.std.specs.Prelude.{◌≡◌, None, List}
 use Rattle.stick_parse.specs.declared.design.GridText.{GridText}
 use Rattle.stick_cell.specs.Known.{Known}
-use Rattle.plan_model.specs.declared.plan.Plan.{Plan}
-use Rattle.plan_model.specs.Plan.{IsPlanOver, grids_of}
-use Rattle.grid_plan.specs.Numbered.{masters_in, planned_rows, ports_of_chosen}
-use Rattle.grid_plan.specs.Faults.{plan_fault}
+use Rattle.plan_model.specs.{declared.plan.Plan.Plan, Plan.{IsPlanOver, grids_of}}
+use Rattle.grid_plan.specs.{Numbered.{masters_in, planned_rows, ports_of_chosen}, Faults.plan_fault}
 
 -- No grid has a fault, and the plan is that of the masters that the grids name: their rows, and what the ports of the masters make of these.
 pub record IsPlanOf (cells : List Known) (grids : List GridText) (plan : Plan) : Type 0 where

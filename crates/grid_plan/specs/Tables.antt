@@ -1,9 +1,7 @@
 -- What the code keeps: the ports of the cells on the sides of borders.
-use Rattle.std.specs.Prelude.{ℕ, List, [], map, slice_index, slice_index_or}
-use Rattle.std.specs.List.{zip}
+use Rattle.std.specs.{Prelude.{ℕ, List, [], map, slice_index, slice_index_or}, List.zip}
 use Rattle.cell_model.specs.declared.cell.CellPort.{CellPort}
-use Rattle.plan_model.specs.declared.plan.Match.{Match}
-use Rattle.plan_model.specs.Borders.{match_of}
+use Rattle.plan_model.specs.{declared.plan.Match.Match, Borders.match_of}
 
 -- the ports of a cell on a side, from those of each cell
 abbrev pub side_at : List (List CellPort) → ℕ → List CellPort

@@ -1,12 +1,11 @@
 //! What meets at the borders of cells, and where it does not fit.
 
-ghost use Rattle.std.specs.Prelude.{◌≡◌, ℕ, ◌+◌, ◌*◌, ◌^◌, ◌<◌, ◌≤◌, ◌++◌, true, false, None, List, length, map, flat_map, vec_len, slice_index_or, All, OnOk, IfOk};
-ghost use Rattle.std.specs.List.{zip};
+ghost use Rattle.std.specs.Prelude.{◌≡◌, ℕ, ◌+◌, ◌*◌, ◌^◌, ◌<◌, ◌≤◌, ◌++◌, true, false, None, List, length, map};
+ghost use Rattle.std.specs.{Prelude.{flat_map, vec_len, slice_index_or, All, OnOk, IfOk}, List.zip};
 ghost use Rattle.std.proofs.Props.{props};
 ghost use Rattle.plan_model.specs.Borders.{side_before, side_behind, may_meet, misfit, match_of};
 ghost use Rattle.stick_cell.specs.Tables.{known_of, IsResolved};
-ghost use Rattle.grid_plan.specs.Numbered.{ports_of_cells};
-ghost use Rattle.grid_plan.specs.Tables.{side_at, meeting_of};
+ghost use Rattle.grid_plan.specs.{Numbered.ports_of_cells, Tables.{side_at, meeting_of}};
 
 use crate::sides::sides_of;
 use cell_model::CellPort;

@@ -2,10 +2,9 @@
 
 ghost use Rattle.std.specs.Prelude.{◌≡◌, ◌^◌, ◌<◌, length, map};
 ghost use Rattle.stick_cell.specs.Tables.{known_of, IsResolved};
-ghost use Rattle.grid_plan.specs.Numbered.{numbers_in_grid, ports_of_cells};
-ghost use Rattle.grid_plan.specs.Faults.{unknown_in_row, unknown_in, ragged_in, grid_fault, plan_fault, judged};
-ghost use Rattle.grid_plan.specs.Scan.{IsScanOf};
-ghost use Rattle.grid_plan.specs.Small.{AreFewRows, AreFewGrids};
+ghost use Rattle.grid_plan.specs.{Numbered.{numbers_in_grid, ports_of_cells}, Faults.{unknown_in_row, unknown_in}};
+ghost use Rattle.grid_plan.specs.{Faults.{ragged_in, grid_fault, plan_fault, judged}, Scan.IsScanOf, Small.AreFewRows};
+ghost use Rattle.grid_plan.specs.Small.{AreFewGrids};
 
 use crate::fault::{GridFault, PlanFault};
 use crate::scan::Scan;

@@ -1,8 +1,7 @@
 //! The masters: the cells that grids name, each at its first place alone.
 
-ghost use Rattle.std.specs.Prelude.{◌≡◌, ℕ, ◌<◌, ◌++◌, None, [], ◌∷◌, nat_eq, map, flat_map, fold, position, vec_len, slice_index_or, All, OnOk, IfOk};
-ghost use Rattle.std.specs.List.{IsDistinct};
-ghost use Rattle.std.proofs.Props.{props};
+ghost use Rattle.std.specs.Prelude.{◌≡◌, ℕ, ◌<◌, ◌++◌, None, [], ◌∷◌, nat_eq, map, flat_map, fold, position, vec_len};
+ghost use Rattle.std.{specs.{Prelude.{slice_index_or, All, OnOk, IfOk}, List.IsDistinct}, proofs.Props.props};
 ghost use Rattle.plan_model.specs.Rows.{add_new, firsts};
 ghost use Rattle.grid_plan.specs.Numbered.{is_same_number, master_of};
 

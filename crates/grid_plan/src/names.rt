@@ -2,8 +2,7 @@
 
 ghost use Rattle.std.specs.Prelude.{◌≡◌, ◌^◌, ◌<◌, length, map, OnOk, IfOk};
 ghost use Rattle.stick_cell.specs.Tables.{known_of, IsResolved};
-ghost use Rattle.grid_plan.specs.Numbered.{numbers_in_row, numbers_in_grid};
-ghost use Rattle.grid_plan.specs.Small.{AreFewRows, AreFewGrids};
+ghost use Rattle.grid_plan.specs.{Numbered.{numbers_in_row, numbers_in_grid}, Small.{AreFewRows, AreFewGrids}};
 
 use crate::counts::numbered;
 use lam_list::Seq;

@@ -1,10 +1,8 @@
 //! Each pair of a list once: at its first place.
 
-ghost use Rattle.std.specs.Prelude.{◌≡◌, ℕ, ◌+◌, ◌*◌, ◌<◌, ◌++◌, ◌&&◌, not, ◌∷◌, [], All, map, filter, vec_len, false, slice_index_or, OnOk, IfOk};
-ghost use Rattle.std.specs.List.{list_any};
-ghost use Rattle.std.proofs.Props.{props};
-ghost use Rattle.plan_model.specs.Plan.{is_of_two, same_of};
-ghost use Rattle.plan_model.specs.Rows.{firsts, is_pair, is_pair_either_way};
+ghost use Rattle.std.specs.Prelude.{◌≡◌, ℕ, ◌+◌, ◌*◌, ◌<◌, ◌++◌, ◌&&◌, not, ◌∷◌, [], All, map, filter, vec_len, false};
+ghost use Rattle.std.{specs.{Prelude.{slice_index_or, OnOk, IfOk}, List.list_any}, proofs.Props.props};
+ghost use Rattle.plan_model.specs.{Plan.{is_of_two, same_of}, Rows.{firsts, is_pair, is_pair_either_way}};
 ghost use Rattle.grid_plan.specs.Small.{IsSmall};
 
 use plan_model::Same;

@@ -2,13 +2,9 @@
 
 ghost use Rattle.std.specs.Prelude.{◌≡◌, ◌<◌, ◌≤◌, length, map, flat_map, vec_len, All, IfOk, IfErr};
 ghost use Rattle.lam_geom.specs.declared.boxes.Axis.TheVariants.{X, Y};
-ghost use Rattle.plan_model.specs.Plan.{grids_of, pitch_of};
-ghost use Rattle.plan_model.specs.Rows.{firsts, is_pair, rows_of};
+ghost use Rattle.plan_model.specs.{Plan.{grids_of, pitch_of}, Rows.{firsts, is_pair, rows_of}};
 ghost use Rattle.stick_cell.specs.Tables.{known_of, IsResolved};
-ghost use Rattle.grid_plan.specs.Small.{IsGridOf, IsWithin};
-ghost use Rattle.grid_plan.specs.Tables.{meeting_of};
-ghost use Rattle.grid_plan.specs.Planned.{IsPlanOf};
-ghost use Rattle.grid_plan.specs.Faults.{RefusesPlan};
+ghost use Rattle.grid_plan.specs.{Small.{IsGridOf, IsWithin}, Tables.meeting_of, Planned.IsPlanOf, Faults.RefusesPlan};
 ghost use Rattle.grid_plan.specs.Building.{IsBuilt};
 
 use crate::borders::Borders;

@@ -5,8 +5,7 @@ ghost use Rattle.std.specs.Prelude.{◌≡◌, ◌+◌, ◌^◌, ◌<◌, List, 
 ghost use Rattle.cell_model.specs.declared.cell.CellPort.{CellPort};
 ghost use Rattle.plan_model.specs.Rows.{row_at};
 ghost use Rattle.stick_cell.specs.Tables.{known_of, IsResolved};
-ghost use Rattle.grid_plan.specs.Numbered.{ports_of_cells};
-ghost use Rattle.grid_plan.specs.declared.fault.GridFault.TheVariants.{PortMismatch};
+ghost use Rattle.grid_plan.specs.{Numbered.ports_of_cells, declared.fault.GridFault.TheVariants.PortMismatch};
 ghost use Rattle.grid_plan.specs.Faults.{misfit_on_right, misfit_on_top, misfit_of, misfit_in_row, misfit_in};
 ghost use Rattle.grid_plan.specs.Small.{AreRowsOf, IsInstanceOf, AreFewCells};
 

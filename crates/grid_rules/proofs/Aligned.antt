@@ -1,21 +1,17 @@
 -- Masters that share a column or a row have one size on the axis across it, or any other value that is equal where a plan says so.
-use Rattle.std.proofs.Common.{◌≡◌, ℕ, ◌<◌, ℤ, true, not, List, [], length, map, get_or, refl, sym, ap, ◌∙◌, subst, arith, inl, inr, ◌&&◌, ◌==◌, eq-eqb}
-use Rattle.std.specs.Prelude.{slice_index}
-use Rattle.std.specs.List.{AllByRecursion, All, Contains, filter, flat_map, range_with_len}
-use Rattle.std.proofs.lemmas.Bool.{cases_eq, and_from, and_parts, or_cases, eqb-true, ne_eqb}
-use Rattle.std.proofs.lemmas.List.{get_or-map, length-map}
-use Rattle.std.proofs.lemmas.List.Elements.{recursion_from_All, All-contains, Contains-get_or}
-use Rattle.lam_geom.specs.declared.boxes.Axis.{Axis}
-use Rattle.lam_geom.specs.declared.boxes.Axis.TheVariants.{X, Y}
-use Rattle.sym_items.specs.declared.items.Coords.{Coords}
-use Rattle.sym_items.specs.Layouts.{size_in}
+use Rattle.std.proofs.Common.{◌≡◌, ℕ, ◌<◌, ℤ, true, not, List, [], length, map, get_or, refl, sym, ap, ◌∙◌, subst}
+use Rattle.std.proofs.Common.{arith, inl, inr, ◌&&◌, ◌==◌, eq-eqb}
+use Rattle.std.proofs.lemmas.{Bool.{cases_eq, and_from, and_parts, or_cases, eqb-true, ne_eqb}, List.get_or-map}
+use Rattle.std.proofs.lemmas.List.{length-map, Elements.{recursion_from_All, All-contains, Contains-get_or}}
+use Rattle.std.specs.{Prelude.slice_index, List.{AllByRecursion, All, Contains, filter, flat_map, range_with_len}}
+use Rattle.lam_geom.specs.declared.boxes.Axis.{Axis, TheVariants.{X, Y}}
+use Rattle.sym_items.specs.{declared.items.Coords.Coords, Layouts.size_in}
 use Rattle.list_facts.proofs.Elements.{all_unmap, all_pieces, all_of}
 use Rattle.cell_model.specs.declared.cell.CellPort.{CellPort}
-use Rattle.plan_model.specs.declared.plan.Plan.{Plan}
-use Rattle.plan_model.specs.declared.plan.Same.{Same}
-use Rattle.plan_model.specs.Instances.{IsAligned, Spot, IsSpot, grid_at, master_at_spot}
-use Rattle.plan_model.specs.Plan.{grids_of, is_of_two, same_of, sharing, pitch_in, pitch_of, IsPlanOver}
-use Rattle.plan_model.specs.Rows.{neighbours, row_at, column_at, first_row, columns_of, firsts, is_pair, is_pair_either_way, IsRectangular}
+use Rattle.plan_model.specs.declared.plan.{Plan.Plan, Same.Same}
+use Rattle.plan_model.specs.{Instances.{IsAligned, Spot, IsSpot, grid_at, master_at_spot}, Plan.{grids_of, is_of_two}}
+use Rattle.plan_model.specs.{Plan.{same_of, sharing, pitch_in, pitch_of, IsPlanOver}, Rows.{neighbours, row_at}}
+use Rattle.plan_model.specs.Rows.{column_at, first_row, columns_of, firsts, is_pair, is_pair_either_way, IsRectangular}
 use Rattle.grid_rules.specs.InstanceSystem.{StandInLine}
 use Rattle.grid_rules.proofs.Lists.{in_filter, in_firsts, in_map, in_range, as_first}
 

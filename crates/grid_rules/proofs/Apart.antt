@@ -1,39 +1,25 @@
 -- Every two bound items of all instances keep their spacing.
-use Rattle.std.proofs.Common.{◌≡◌, ◌≢◌, ℕ, suc, ◌+◌, ◌<◌, ℤ, ◌+ℤ◌, ◌≤ℤ◌, Bool, true, false, List, refl, sym, ap, ◌∙◌, subst, arith, inl, inr, ◌⊎◌}
-use Rattle.std.specs.Int.{int_max}
-use Rattle.std.proofs.lemmas.Bool.{cases_eq, cases_lt}
-use Rattle.std.proofs.lemmas.Int.{ints, clamps}
-use Rattle.std.proofs.lemmas.List.Elements.{Contains-get_or}
-use Rattle.lam_geom.specs.declared.boxes.Axis.{Axis}
-use Rattle.lam_geom.specs.declared.boxes.Axis.TheVariants.{X, Y}
-use Rattle.lam_geom.specs.Gaps.{gap_between}
-use Rattle.rule_table.specs.declared.technology.Tech.{Tech}
-use Rattle.rule_table.specs.Technology.{numbers_of, widest_of}
+use Rattle.std.proofs.Common.{◌≡◌, ◌≢◌, ℕ, suc, ◌+◌, ◌<◌, ℤ, ◌+ℤ◌, ◌≤ℤ◌, Bool, true, false, List, refl, sym, ap, ◌∙◌}
+use Rattle.std.proofs.{Common.{subst, arith, inl, inr, ◌⊎◌}, lemmas.{Bool.{cases_eq, cases_lt}, Int.{ints, clamps}}}
+use Rattle.std.{proofs.lemmas.List.Elements.Contains-get_or, specs.Int.int_max}
+use Rattle.lam_geom.specs.{declared.boxes.Axis.{Axis, TheVariants.{X, Y}}, Gaps.gap_between}
+use Rattle.rule_table.specs.{declared.technology.Tech.Tech, Technology.{numbers_of, widest_of}}
 use Rattle.rule_table.proofs.Margins.{spacing_in-symmetric}
-use Rattle.sym_items.specs.declared.items.Coords.{Coords}
-use Rattle.sym_items.specs.declared.items.Item.{Item}
-use Rattle.sym_items.specs.Layouts.{layout_at, size_in}
-use Rattle.sym_items.specs.Sides.{Sides, sides_in, gap_of_sides}
-use Rattle.sym_items.specs.Transposed.{item_along}
-use Rattle.cell_model.specs.declared.cell.Cell.{Cell}
-use Rattle.cell_model.specs.declared.cell.Nets.{Nets}
-use Rattle.pair_rules.specs.Bound.{no_item, IsBound}
-use Rattle.pair_rules.proofs.EitherOrder.{lies_either}
+use Rattle.sym_items.specs.declared.items.{Coords.Coords, Item.Item}
+use Rattle.sym_items.specs.{Layouts.{layout_at, size_in}, Sides.{Sides, sides_in, gap_of_sides}, Transposed.item_along}
+use Rattle.cell_model.specs.declared.cell.{Cell.Cell, Nets.Nets}
+use Rattle.pair_rules.{specs.Bound.{no_item, IsBound}, proofs.EitherOrder.lies_either}
 use Rattle.expand.specs.declared.master.Master.{Master}
-use Rattle.plan_model.specs.declared.plan.Plan.{Plan}
-use Rattle.plan_model.specs.GridNets.{IsBehind, IsOneNet, the_same}
-use Rattle.plan_model.specs.Instances.{Spot, master_at_spot, left_of, bottom_of}
-use Rattle.plan_model.specs.Plan.{grids_of}
+use Rattle.plan_model.specs.{declared.plan.Plan.Plan, GridNets.{IsBehind, IsOneNet, the_same}, Instances.Spot}
+use Rattle.plan_model.specs.{Instances.{master_at_spot, left_of, bottom_of}, Plan.grids_of}
 use Rattle.pitch_join.specs.Masters.{ports_of_masters}
-use Rattle.grid_rules.specs.Rules.{IsBoundInGrid, AreNetsOf, AllKeepSpacing, shifted_sides, sides_at_spot, item_in, items_at}
-use Rattle.grid_rules.proofs.AtPorts.{spaced_in}
-use Rattle.grid_rules.proofs.Gaps.{IsDone, IsItemAt, IsRuled, ruled, gap_at, gap_suffices, gap_turned, gap_at_turned, apart_with_cell_between, apart_off_border, apart_in_grids}
-use Rattle.grid_rules.proofs.InCell.{BeginsOnBorder, EndsOnBorder}
-use Rattle.grid_rules.proofs.Meeting.{master_among, master_is, spot_is}
-use Rattle.grid_rules.proofs.OnBorder.{other, EndsAtPort, cross_off, items_border}
-use Rattle.grid_rules.proofs.OneNet.{one_net_back}
-use Rattle.grid_rules.proofs.Pairs.{master_of, apart_at_ports}
-use Rattle.grid_rules.proofs.Places.{place_of}
+use Rattle.grid_rules.specs.Rules.{IsBoundInGrid, AreNetsOf, AllKeepSpacing, shifted_sides, sides_at_spot, item_in}
+use Rattle.grid_rules.specs.Rules.{items_at}
+use Rattle.grid_rules.proofs.{AtPorts.spaced_in, Gaps.{IsDone, IsItemAt, IsRuled, ruled, gap_at, gap_suffices}}
+use Rattle.grid_rules.proofs.Gaps.{gap_turned, gap_at_turned, apart_with_cell_between, apart_off_border, apart_in_grids}
+use Rattle.grid_rules.proofs.{InCell.{BeginsOnBorder, EndsOnBorder}, Meeting.{master_among, master_is, spot_is}}
+use Rattle.grid_rules.proofs.{OnBorder.{other, EndsAtPort, cross_off, items_border}, OneNet.one_net_back}
+use Rattle.grid_rules.proofs.{Pairs.{master_of, apart_at_ports}, Places.place_of}
 
 -- ---- in either order
 

@@ -1,41 +1,20 @@
 -- Boxes of wires of one cell that end on one border of it.
 use Rattle.std.proofs.Common.{◌≡◌, ◌≢◌, ℕ, ℤ, pos, ◌+ℤ◌, ◌≤ℤ◌, List, refl, sym, ap, ◌∙◌, subst, arith, inl, inr, ◌⊎◌}
-use Rattle.std.specs.Prelude.{IfSome, IsTrue, slice_index, neg_ℤ}
-use Rattle.std.specs.List.{Contains}
-use Rattle.std.specs.Int.{int_max}
-use Rattle.std.proofs.lemmas.Int.{ints, clamps}
-use Rattle.std.proofs.lemmas.List.{get_or_default}
-use Rattle.lam_geom.specs.declared.boxes.Axis.{Axis}
-use Rattle.lam_geom.specs.declared.boxes.Axis.TheVariants.{X, Y}
-use Rattle.lam_geom.specs.Gaps.{gap_between}
-use Rattle.rule_table.specs.declared.classes.Class.{Class}
-use Rattle.rule_table.specs.declared.classes.Layer.{Layer}
-use Rattle.rule_table.specs.declared.technology.Tech.{Tech}
-use Rattle.sym_items.specs.declared.items.Coords.{Coords}
-use Rattle.sym_items.specs.declared.items.End.{End}
-use Rattle.sym_items.specs.declared.items.Item.{Item}
-use Rattle.sym_items.specs.Sides.{gap_in}
-use Rattle.sym_items.specs.Standing.{nowhere, StandTogether}
-use Rattle.sym_items.specs.Transposed.{values_along}
-use Rattle.sym_items.specs.Values.{value_of, end_under}
-use Rattle.cell_model.specs.declared.cell.Axis2.{Axis2}
-use Rattle.cell_model.specs.declared.cell.Axis2.TheVariants.{Across, Up}
-use Rattle.cell_model.specs.declared.cell.Cell.{Cell}
-use Rattle.cell_model.specs.declared.cell.Nets.{Nets}
-use Rattle.cell_model.specs.declared.cell.WireEnd.TheVariants as ends
+use Rattle.std.proofs.lemmas.{Int.{ints, clamps}, List.get_or_default}
+use Rattle.std.specs.{Prelude.{IfSome, IsTrue, slice_index, neg_ℤ}, List.Contains, Int.int_max}
+use Rattle.lam_geom.specs.{declared.boxes.Axis.{Axis, TheVariants.{X, Y}}, Gaps.gap_between}
+use Rattle.rule_table.specs.declared.{classes.{Class.Class, Layer.Layer}, technology.Tech.Tech}
+use Rattle.sym_items.specs.{declared.items.{Coords.Coords, End.End, Item.Item}, Sides.gap_in, Standing.nowhere}
+use Rattle.sym_items.specs.{Standing.StandTogether, Transposed.values_along, Values.{value_of, end_under}}
+use Rattle.cell_model.specs.declared.cell.{Axis2.{Axis2, TheVariants.{Across, Up}}, Cell.Cell, Nets.Nets}
 use Rattle.cell_model.specs.Sound.{wire_at, IsBuriedEnd, LeaveOneSide}
-use Rattle.pair_rules.specs.Bound.{no_item, item_at, is_poly_on_diffusion, IsBound, bound_spacing}
-use Rattle.pair_rules.specs.Clean.{IsSpaced, IsClean}
-use Rattle.pair_rules.proofs.BoundItems.{bound_exactly}
-use Rattle.expand.specs.declared.master.Master.{Master}
-use Rattle.expand.specs.Masters.{IsMaster}
-use Rattle.expand.specs.NodeItems.{item_running}
-use Rattle.expand.specs.Variables.{half, cross_of}
-use Rattle.expand.specs.WireItems.{terminal, contact_at}
-use Rattle.buried_contacts.proofs.Contacts.{stands_there}
-use Rattle.buried_contacts.proofs.Owners.{LayerHas, IsBoxOfWire, item_keeps, run_of}
-use Rattle.grid_rules.proofs.InCell.{low_in, high_in, EndsOnBorder, LiesBetween}
-use Rattle.grid_rules.proofs.Layers.{one_layer_only}
+use Rattle.cell_model.specs.declared.cell.WireEnd.TheVariants as ends
+use Rattle.pair_rules.specs.{Bound.{no_item, item_at, is_poly_on_diffusion, IsBound, bound_spacing}, Clean.IsSpaced}
+use Rattle.pair_rules.{specs.Clean.IsClean, proofs.BoundItems.bound_exactly}
+use Rattle.expand.specs.{declared.master.Master.Master, Masters.IsMaster, NodeItems.item_running, Variables.half}
+use Rattle.expand.specs.{Variables.cross_of, WireItems.{terminal, contact_at}}
+use Rattle.buried_contacts.proofs.{Contacts.stands_there, Owners.{LayerHas, IsBoxOfWire, item_keeps, run_of}}
+use Rattle.grid_rules.proofs.{InCell.{low_in, high_in, EndsOnBorder, LiesBetween}, Layers.one_layer_only}
 use Rattle.grid_rules.proofs.OnBorder.{runs_along, other, LiesAsRun, lies_as_run}
 
 -- ---- boxes of wires of one cell

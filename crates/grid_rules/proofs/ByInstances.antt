@@ -1,30 +1,22 @@
 -- What the lists of a plan say of masters, they say of every two instances.
 use Rattle.std.proofs.Common.{◌≡◌, ℕ, suc, ◌<◌, ℤ, List, [], length, get_or, slice_index, refl, sym, subst, arith}
+use Rattle.std.proofs.lemmas.List.{get_or-map, length-map, Elements.{recursion_from_All, All-contains, Contains-get_or}}
 use Rattle.std.specs.List.{AllByRecursion, All, filter, flat_map, range_with_len}
-use Rattle.std.proofs.lemmas.List.{get_or-map, length-map}
-use Rattle.std.proofs.lemmas.List.Elements.{recursion_from_All, All-contains, Contains-get_or}
-use Rattle.lam_geom.specs.declared.boxes.Axis.{Axis}
-use Rattle.lam_geom.specs.declared.boxes.Axis.TheVariants.{X, Y}
+use Rattle.lam_geom.specs.declared.boxes.Axis.{Axis, TheVariants.{X, Y}}
 use Rattle.rule_table.specs.declared.technology.Tech.{Tech}
 use Rattle.list_facts.proofs.Elements.{all_flat, all_map, all_numbers, all_of, by_number}
 use Rattle.cell_model.specs.declared.cell.CellPort.{CellPort}
 use Rattle.expand.specs.declared.master.Master.{Master}
-use Rattle.plan_model.specs.declared.plan.Match.{Match}
-use Rattle.plan_model.specs.declared.plan.Plan.{Plan}
-use Rattle.plan_model.specs.Borders.{match_of, matches_at, meeting_ports}
-use Rattle.plan_model.specs.GridNets.{IsBehind, MeetAt}
-use Rattle.plan_model.specs.Instances.{Spot, IsSpot, spot, grid_at, master_at_spot}
-use Rattle.plan_model.specs.Plan.{grids_of, is_of_two, same_of, sharing, meeting, borders_of, pitch_in, pitch_of, matches_in, ports_matched}
-use Rattle.plan_model.specs.Rows.{neighbours, zipped_rows, row_at, column_at, columns_of, first_row, firsts, is_pair, is_pair_either_way, IsRectangular}
-use Rattle.pitch_join.specs.Joined.{far_of}
-use Rattle.pitch_join.specs.Masters.{ports_of_masters}
-use Rattle.grid_rules.specs.Planned.{AreOfPlan}
-use Rattle.pitch_join.specs.Meeting.{HasOneLine}
+use Rattle.plan_model.specs.{declared.plan.{Match.Match, Plan.Plan}, Borders.{match_of, matches_at, meeting_ports}}
+use Rattle.plan_model.specs.{GridNets.{IsBehind, MeetAt}, Instances.{Spot, IsSpot, spot, grid_at, master_at_spot}}
+use Rattle.plan_model.specs.Plan.{grids_of, is_of_two, same_of, sharing, meeting, borders_of, pitch_in, pitch_of}
+use Rattle.plan_model.specs.{Plan.{matches_in, ports_matched}, Rows.{neighbours, zipped_rows, row_at, column_at}}
+use Rattle.plan_model.specs.Rows.{columns_of, first_row, firsts, is_pair, is_pair_either_way, IsRectangular}
+use Rattle.pitch_join.specs.{Joined.far_of, Masters.ports_of_masters, Meeting.HasOneLine}
 use Rattle.pitch_join.proofs.Lists.{all_firsts, all_kept}
-use Rattle.grid_rules.specs.InstanceSystem.{InstancesMeet, StandInLine, ListsSpeakOfInstances, line_at}
-use Rattle.grid_rules.proofs.Lists.{neighbours_at, zip_at}
-use Rattle.grid_rules.proofs.Aligned.{IsLevel, AreEqual, level_in_line, row_long}
-use Rattle.grid_rules.proofs.Meeting.{match_listed}
+use Rattle.grid_rules.specs.{Planned.AreOfPlan, InstanceSystem.{InstancesMeet, StandInLine, ListsSpeakOfInstances}}
+use Rattle.grid_rules.{specs.InstanceSystem.line_at, proofs.{Lists.{neighbours_at, zip_at}, Aligned.IsLevel}}
+use Rattle.grid_rules.proofs.{Aligned.{AreEqual, level_in_line, row_long}, Meeting.match_listed}
 
 -- ---- pairs of masters next to one another are those of instances
 

@@ -1,40 +1,27 @@
 -- Conductors of one net of one instance are connected, by a chain of attachments between the parts of its cell.
-use Rattle.std.proofs.Common.{◌≡◌, ℕ, zero, suc, ◌+◌, ◌<◌, List, length, refl, sym, ap, ◌∙◌, subst, arith, inl, inr, ◌⊎◌}
-use Rattle.std.specs.Prelude.{slice_index}
-use Rattle.rule_table.specs.declared.technology.Tech.{Tech}
-use Rattle.rule_table.specs.declared.classes.Class.{Class}
-use Rattle.sym_items.specs.declared.items.Coords.{Coords}
-use Rattle.sym_items.specs.declared.items.Item.{Item}
-use Rattle.sym_items.specs.declared.items.Items.{Items}
+use Rattle.std.proofs.Common.{◌≡◌, ℕ, zero, suc, ◌+◌, ◌<◌, List, length, refl, sym, ap, ◌∙◌, subst, arith, inl, inr}
+use Rattle.std.{proofs.Common.◌⊎◌, specs.Prelude.slice_index}
+use Rattle.rule_table.specs.declared.{technology.Tech.Tech, classes.Class.Class}
+use Rattle.sym_items.specs.declared.items.{Coords.Coords, Item.Item, Items.Items}
 use Rattle.graph_search.specs.Netting.{Attached, Chain}
-use Rattle.cell_model.specs.declared.cell.NodeKind.{NodeKind}
-use Rattle.cell_model.specs.declared.cell.NodeNets.{NodeNets}
-use Rattle.cell_model.specs.declared.cell.Cell.{Cell}
-use Rattle.cell_model.specs.declared.cell.Wire.{Wire}
-use Rattle.cell_model.specs.declared.cell.Nets.{Nets}
-use Rattle.cell_model.specs.Nets.{node_parts, parts_of, first_part, joined_part, attachments_of}
-use Rattle.cell_model.specs.Sound.{node_at, wire_at}
+use Rattle.cell_model.specs.declared.cell.{NodeKind.NodeKind, NodeNets.NodeNets, Cell.Cell, Wire.Wire, Nets.Nets}
+use Rattle.cell_model.specs.{Nets.{node_parts, parts_of, first_part, joined_part, attachments_of}, Sound.node_at}
+use Rattle.cell_model.specs.Sound.{wire_at}
 use Rattle.pair_rules.specs.Bound.{item_at}
-use Rattle.expand.specs.declared.master.Master.{Master}
-use Rattle.expand.specs.Masters.{IsMaster}
-use Rattle.expand.specs.NodeItems.{kind_items}
-use Rattle.expand.specs.Items.{nets_at, items_of_node, items_of_wire, item_list}
-use Rattle.expand.proofs.Cells.{wire_sound}
+use Rattle.expand.specs.{declared.master.Master.Master, Masters.IsMaster, NodeItems.kind_items, Items.nets_at}
+use Rattle.expand.{specs.Items.{items_of_node, items_of_wire, item_list}, proofs.Cells.wire_sound}
 use Rattle.buried_contacts.proofs.Owners.{item_keeps, wire_box}
-use Rattle.plan_model.specs.declared.plan.Plan.{Plan}
-use Rattle.plan_model.specs.Instances.{Spot, IsSpot}
-use Rattle.plan_model.specs.Plan.{grids_of}
-use Rattle.grid_rules.proofs.AtPorts.{net_of_box}
-use Rattle.grid_rules.proofs.Gaps.{IsDone}
-use Rattle.grid_rules.proofs.Meeting.{master_is}
-use Rattle.grid_rules.proofs.Pairs.{master_of}
+use Rattle.plan_model.specs.{declared.plan.Plan.Plan, Instances.{Spot, IsSpot}, Plan.grids_of}
+use Rattle.grid_rules.proofs.{AtPorts.net_of_box, Gaps.IsDone, Meeting.master_is, Pairs.master_of}
+use Rattle.grid_rules.proofs.ChainConductors.{class_on, class_has, class_conducts, home_on, Conducting, part_in}
+use Rattle.grid_rules.proofs.ChainConductors.{part_small, node_conducts, node_net, node_owner, one_or_pair}
+use Rattle.grid_rules.proofs.{ChainConductors.wire_conducts, ChainLinks.{linked_back, connected_one, connected_then}}
+use Rattle.grid_rules.proofs.{ChainLinks.connected_same, ChainParts.{parts_within, node_part_is, node_nets_are}}
+use Rattle.grid_rules.proofs.{ChainParts.{wire_net_is, IsAttached, attached_is}, ChainPlaces.{IsNodePlace, IsWirePlace}}
+use Rattle.grid_rules.proofs.{ChainPlaces.{place_of_node, place_of_wire, places_are}, ChainSpot.drawn_at}
+use Rattle.grid_rules.proofs.ChainSpot.{conductor_at, touch_linked, wire_touches, node_drawn, wire_item_drawn}
+use Rattle.grid_rules.proofs.{ChainSpot.{wire_drawn, wire_conductor, pair_linked}, ChainTouch.{item_met, end_among}}
 use Rattle.grid_rules.specs.Conductors.{item_of, Conducts, IsConductor, AreOfOneBox, AreLinked, AreConnected}
-use Rattle.grid_rules.proofs.ChainConductors.{class_on, class_has, class_conducts, home_on, Conducting, part_in, part_small, node_conducts, node_net, node_owner, one_or_pair, wire_conducts}
-use Rattle.grid_rules.proofs.ChainLinks.{linked_back, connected_one, connected_then, connected_same}
-use Rattle.grid_rules.proofs.ChainParts.{parts_within, node_part_is, node_nets_are, wire_net_is, IsAttached, attached_is}
-use Rattle.grid_rules.proofs.ChainPlaces.{IsNodePlace, IsWirePlace, place_of_node, place_of_wire, places_are}
-use Rattle.grid_rules.proofs.ChainSpot.{drawn_at, conductor_at, touch_linked, wire_touches, node_drawn, wire_item_drawn, wire_drawn, wire_conductor, pair_linked}
-use Rattle.grid_rules.proofs.ChainTouch.{item_met, end_among}
 
 -- ---- of which part a conductor is
 

@@ -1,24 +1,14 @@
 -- Which items of a node and of a wire conduct, and their nets.
-use Rattle.std.proofs.Common.{◌≡◌, ◌≢◌, ℕ, zero, suc, ◌+◌, ◌<◌, true, false, List, length, refl, sym, ap, ◌∙◌, subst, arith, inl, inr, ◌⊎◌}
-use Rattle.std.specs.Prelude.{slice_index}
-use Rattle.rule_table.specs.declared.technology.Tech.{Tech}
-use Rattle.rule_table.specs.declared.classes.Class.{Class}
-use Rattle.rule_table.specs.declared.classes.Class.TheVariants.{M, P, Dc}
-use Rattle.rule_table.specs.declared.classes.Layer.{Layer}
-use Rattle.rule_table.specs.declared.classes.Layer.TheVariants.{Diffusion, Poly, Metal}
+use Rattle.std.proofs.Common.{◌≡◌, ◌≢◌, ℕ, zero, suc, ◌+◌, ◌<◌, true, false, List, length, refl, sym, ap, ◌∙◌, subst}
+use Rattle.std.{proofs.Common.{arith, inl, inr, ◌⊎◌}, specs.Prelude.slice_index}
+use Rattle.rule_table.specs.declared.{technology.Tech.Tech, classes.Class.{Class, TheVariants.{M, P, Dc}}}
+use Rattle.rule_table.specs.declared.classes.Layer.{Layer, TheVariants.{Diffusion, Poly, Metal}}
 use Rattle.sym_items.specs.declared.items.Item.{Item}
-use Rattle.cell_model.specs.declared.cell.Axis2.{Axis2}
-use Rattle.cell_model.specs.declared.cell.Axis2.TheVariants.{Across, Up}
-use Rattle.cell_model.specs.declared.cell.NodeKind.{NodeKind}
-use Rattle.cell_model.specs.declared.cell.NodeKind.TheVariants.{Joint, Contact, Buried, Fet}
-use Rattle.cell_model.specs.declared.cell.NodeNets.{NodeNets}
-use Rattle.cell_model.specs.declared.cell.Cell.{Cell}
-use Rattle.cell_model.specs.declared.cell.Nets.{Nets}
-use Rattle.cell_model.specs.Nets.{kind_parts, nets_of_kind}
-use Rattle.cell_model.specs.Sound.{wire_at}
+use Rattle.cell_model.specs.declared.cell.{Axis2.{Axis2, TheVariants.{Across, Up}}, NodeKind.NodeKind}
+use Rattle.cell_model.specs.declared.cell.{NodeKind.TheVariants.{Joint, Contact, Buried, Fet}, NodeNets.NodeNets}
+use Rattle.cell_model.specs.{declared.cell.{Cell.Cell, Nets.Nets}, Nets.{kind_parts, nets_of_kind}, Sound.wire_at}
 use Rattle.pair_rules.specs.Bound.{item_at}
-use Rattle.expand.specs.NodeItems.{item_running, on_layer, kind_items}
-use Rattle.expand.specs.Items.{items_of_wire}
+use Rattle.expand.specs.{NodeItems.{item_running, on_layer, kind_items}, Items.items_of_wire}
 use Rattle.buried_contacts.proofs.Owners.{LayerHas}
 use Rattle.grid_rules.specs.Conductors.{Conducts}
 

@@ -1,31 +1,19 @@
 -- The item of a node that a wire meets which ends there, seen so that the wire runs from left to right.
-use Rattle.std.proofs.Common.{◌≡◌, ℕ, ◌<◌, ℤ, pos, ◌+ℤ◌, ◌-ℤ◌, ◌*ℤ◌, ◌≤ℤ◌, true, false, Bool, length, refl, sym, subst, arith}
-use Rattle.std.specs.Prelude.{IsTrue, neg_ℤ}
-use Rattle.std.proofs.lemmas.Int.{ints}
-use Rattle.rule_table.specs.Bounds.{IsSize}
-use Rattle.rule_table.specs.Technology.{numbers_of, pad_of}
-use Rattle.rule_table.specs.declared.technology.Tech.{Tech}
-use Rattle.rule_table.specs.declared.classes.Layer.{Layer}
-use Rattle.rule_table.specs.declared.classes.Layer.TheVariants.{Diffusion, Poly, Metal}
+use Rattle.std.proofs.Common.{◌≡◌, ℕ, ◌<◌, ℤ, pos, ◌+ℤ◌, ◌-ℤ◌, ◌*ℤ◌, ◌≤ℤ◌, true, false, Bool, length, refl, sym, subst}
+use Rattle.std.{proofs.{Common.arith, lemmas.Int.ints}, specs.Prelude.{IsTrue, neg_ℤ}}
+use Rattle.rule_table.specs.{Bounds.IsSize, Technology.{numbers_of, pad_of}}
+use Rattle.rule_table.specs.declared.{technology.Tech.Tech, classes.Layer.{Layer, TheVariants.{Diffusion, Poly, Metal}}}
 use Rattle.rule_table.proofs.Widths.{pad_even}
-use Rattle.sym_items.specs.declared.items.Item.{Item}
-use Rattle.sym_items.specs.Transposed.{item_along}
-use Rattle.cell_model.specs.declared.cell.Axis2.{Axis2}
-use Rattle.cell_model.specs.declared.cell.Axis2.TheVariants.{Across, Up}
-use Rattle.cell_model.specs.declared.cell.NodeKind.{NodeKind}
-use Rattle.cell_model.specs.declared.cell.NodeKind.TheVariants.{Joint, Contact, Buried, Fet}
-use Rattle.cell_model.specs.declared.cell.NodeNets.{NodeNets}
-use Rattle.cell_model.specs.Nets.{joined_part}
-use Rattle.cell_model.specs.Sound.{IsKind}
-use Rattle.cell_model.specs.Wiring.{node_takes, node_takes_along, node_pad, buried_pad}
+use Rattle.sym_items.specs.{declared.items.Item.Item, Transposed.item_along}
+use Rattle.cell_model.specs.declared.cell.{Axis2.{Axis2, TheVariants.{Across, Up}}, NodeKind.NodeKind}
+use Rattle.cell_model.specs.declared.cell.{NodeKind.TheVariants.{Joint, Contact, Buried, Fet}, NodeNets.NodeNets}
+use Rattle.cell_model.specs.{Nets.joined_part, Sound.IsKind, Wiring.{node_takes, node_takes_along, node_pad}}
+use Rattle.cell_model.specs.Wiring.{buried_pad}
 use Rattle.pair_rules.specs.Bound.{item_at}
-use Rattle.expand.specs.Variables.{half, centre, past}
-use Rattle.expand.specs.NodeItems.{kind_items}
-use Rattle.expand.specs.WireItems.{half_channel, reach}
+use Rattle.expand.specs.{Variables.{half, centre, past}, NodeItems.kind_items, WireItems.{half_channel, reach}}
 use Rattle.expand.proofs.Among.{half_size, half_pad, half_buried, buried_size, sound_numbers}
 use Rattle.buried_contacts.specs.Contacts.{axis_along}
-use Rattle.grid_rules.proofs.OnBorder.{other}
-use Rattle.grid_rules.proofs.ChainConductors.{class_on, part_in}
+use Rattle.grid_rules.proofs.{OnBorder.other, ChainConductors.{class_on, part_in}}
 
 -- ---- lengths
 

@@ -1,15 +1,13 @@
 -- Chains of links between conductors: they lead back, and one goes on where another ends.
-use Rattle.std.proofs.Common.{◌≡◌, ◌≤ℤ◌, List, sym, ap, ◌∙◌, subst}
-use Rattle.std.specs.Prelude.{pos}
-use Rattle.std.specs.Int.{int_max}
+use Rattle.std.{proofs.Common.{◌≡◌, ◌≤ℤ◌, List, sym, ap, ◌∙◌, subst}, specs.{Prelude.pos, Int.int_max}}
 use Rattle.lam_geom.specs.Gaps.{gap_between}
 use Rattle.rule_table.specs.declared.technology.Tech.{Tech}
-use Rattle.sym_items.specs.declared.items.Coords.{Coords}
-use Rattle.sym_items.specs.Sides.{Sides, gap_of_sides}
+use Rattle.sym_items.specs.{declared.items.Coords.Coords, Sides.{Sides, gap_of_sides}}
 use Rattle.expand.specs.declared.master.Master.{Master}
 use Rattle.plan_model.specs.declared.plan.Plan.{Plan}
 use Rattle.grid_rules.proofs.Gaps.{gap_turned}
-use Rattle.grid_rules.specs.Conductors.{Drawn, sides_of_drawn, IsConductor, AreOfOneBox, AreLinked, by_touch, by_cut, by_contact, by_contact_back, AreConnected, here, further}
+use Rattle.grid_rules.specs.Conductors.{Drawn, sides_of_drawn, IsConductor, AreOfOneBox, AreLinked, by_touch, by_cut}
+use Rattle.grid_rules.specs.Conductors.{by_contact, by_contact_back, AreConnected, here, further}
 
 -- two boxes lie as far apart either way round
 gap_back : (u v : Sides) → gap_of_sides u v ≡ gap_of_sides v u

@@ -1,50 +1,28 @@
 -- Conductors of one net of the sticks are connected: within an instance by its cell, and from one to the next by the wires of ports that meet.
 use Rattle.std.proofs.Common.{◌≡◌, ℕ, ◌<◌, ℤ, pos, ◌+ℤ◌, ◌≤ℤ◌, List, length, refl, sym, ap, ◌∙◌, arith}
-use Rattle.std.specs.Prelude.{neg_ℤ, slice_index}
-use Rattle.std.proofs.lemmas.Int.{ints, clamps}
-use Rattle.lam_geom.specs.declared.boxes.Axis.{Axis}
-use Rattle.lam_geom.specs.declared.boxes.Axis.TheVariants.{X, Y}
-use Rattle.lam_geom.specs.Gaps.{gap_between}
-use Rattle.rule_table.specs.declared.technology.Tech.{Tech}
-use Rattle.rule_table.specs.Technology.{widest_of}
-use Rattle.sym_items.specs.declared.items.Coords.{Coords}
-use Rattle.sym_items.specs.declared.items.Item.{Item}
-use Rattle.sym_items.specs.Layouts.{size_in}
-use Rattle.sym_items.specs.Values.{end_under}
-use Rattle.cell_model.specs.declared.cell.Cell.{Cell}
-use Rattle.cell_model.specs.declared.cell.CellPort.{CellPort}
-use Rattle.cell_model.specs.declared.cell.Nets.{Nets}
-use Rattle.cell_model.specs.declared.cell.Wire.{Wire}
-use Rattle.cell_model.specs.declared.cell.WireEnd.{WireEnd}
+use Rattle.std.{proofs.lemmas.Int.{ints, clamps}, specs.Prelude.{neg_ℤ, slice_index}}
+use Rattle.lam_geom.specs.{declared.boxes.Axis.{Axis, TheVariants.{X, Y}}, Gaps.gap_between}
+use Rattle.rule_table.specs.{declared.technology.Tech.Tech, Technology.widest_of}
+use Rattle.sym_items.specs.{declared.items.{Coords.Coords, Item.Item}, Layouts.size_in, Values.end_under}
+use Rattle.cell_model.specs.declared.cell.{Cell.Cell, CellPort.CellPort, Nets.Nets, Wire.Wire, WireEnd.WireEnd}
 use Rattle.cell_model.specs.Sound.{wire_at}
 use Rattle.cell_nets.proofs.Determined.{nets_same}
-use Rattle.expand.specs.declared.master.Master.{Master}
-use Rattle.expand.specs.Masters.{IsMaster}
-use Rattle.expand.specs.Variables.{half, cross_of}
-use Rattle.expand.specs.WireItems.{low_end_of}
-use Rattle.expand.proofs.Among.{half_size}
-use Rattle.expand.proofs.Cells.{wire_sound}
+use Rattle.expand.specs.{declared.master.Master.Master, Masters.IsMaster, Variables.{half, cross_of}}
+use Rattle.expand.{specs.WireItems.low_end_of, proofs.{Among.half_size, Cells.wire_sound}}
 use Rattle.buried_contacts.proofs.Owners.{run_of, wire_box}
-use Rattle.plan_model.specs.declared.plan.Plan.{Plan}
-use Rattle.plan_model.specs.GridNets.{MeetAt, net_of_port, IsOneNet, the_same, met_before, met_behind}
-use Rattle.plan_model.specs.Instances.{Spot, IsSpot, master_at_spot}
-use Rattle.plan_model.specs.Plan.{grids_of}
+use Rattle.plan_model.specs.{declared.plan.Plan.Plan, GridNets.{MeetAt, net_of_port, IsOneNet, the_same, met_before}}
+use Rattle.plan_model.specs.{GridNets.met_behind, Instances.{Spot, IsSpot, master_at_spot}, Plan.grids_of}
 use Rattle.pitch_join.specs.Masters.{ports_of_masters}
-use Rattle.grid_rules.specs.Rules.{AreNetsOf}
-use Rattle.grid_rules.proofs.AtPorts.{net_of_box, lies_along, ends_on_border, low_side, high_side}
-use Rattle.grid_rules.proofs.Gaps.{IsDone, IsItemAt, values_at, gap_at, grids_laid, lies_there}
-use Rattle.grid_rules.proofs.InCell.{low_in}
-use Rattle.grid_rules.proofs.Meeting.{master_among, master_is}
-use Rattle.grid_rules.proofs.OnBorder.{runs_along, other, LiesAsRun, box_among}
-use Rattle.grid_rules.proofs.Pairs.{master_of}
-use Rattle.grid_rules.proofs.Places.{place_of, low_of, stands_level}
-use Rattle.grid_rules.specs.Conductors.{Drawn, item_of, IsConductor, AreLinked, AreConnected, NetsAreConnected}
-use Rattle.grid_rules.proofs.ChainCell.{net_connected}
-use Rattle.grid_rules.proofs.ChainConductors.{class_on, class_has}
-use Rattle.grid_rules.proofs.ChainLinks.{linked_back, connected_one, connected_then}
-use Rattle.grid_rules.proofs.ChainPorts.{AreBeside, are_beside, IsNext, is_next, begins_behind}
-use Rattle.grid_rules.proofs.ChainSpot.{drawn_at, touch_linked, wire_place, wire_drawn, wire_conductor}
-use Rattle.grid_rules.proofs.ChainTouch.{touches, gap_like}
+use Rattle.grid_rules.specs.{Rules.AreNetsOf, Conductors.{Drawn, item_of, IsConductor, AreLinked, AreConnected}}
+use Rattle.grid_rules.specs.Conductors.{NetsAreConnected}
+use Rattle.grid_rules.proofs.{AtPorts.{net_of_box, lies_along, ends_on_border, low_side, high_side}, Gaps.IsDone}
+use Rattle.grid_rules.proofs.{Gaps.{IsItemAt, values_at, gap_at, grids_laid, lies_there}, InCell.low_in}
+use Rattle.grid_rules.proofs.{Meeting.{master_among, master_is}, OnBorder.{runs_along, other, LiesAsRun, box_among}}
+use Rattle.grid_rules.proofs.{Pairs.master_of, Places.{place_of, low_of, stands_level}, ChainCell.net_connected}
+use Rattle.grid_rules.proofs.{ChainConductors.{class_on, class_has}, ChainLinks.{linked_back, connected_one}}
+use Rattle.grid_rules.proofs.{ChainLinks.connected_then, ChainPorts.{AreBeside, are_beside, IsNext, is_next}}
+use Rattle.grid_rules.proofs.{ChainPorts.begins_behind, ChainSpot.{drawn_at, touch_linked, wire_place, wire_drawn}}
+use Rattle.grid_rules.proofs.{ChainSpot.wire_conductor, ChainTouch.{touches, gap_like}}
 
 -- ---- the wires of two ports that meet
 

@@ -1,21 +1,14 @@
 -- The numbers of the parts of a cell: of which node and which of its parts a number is, or of which wire, and the nets of parts.
-use Rattle.std.proofs.Common.{◌≡◌, ℕ, zero, suc, ◌+◌, ◌<◌, ◌≤◌, true, false, Bool, List, [], ◌∷◌, ◌++◌, length, take, refl, sym, ap, ◌∙◌, subst, arith, inl, inr, take_all}
-use Rattle.std.specs.Prelude.{slice_index}
-use Rattle.std.specs.List.{Contains}
-use Rattle.std.proofs.lemmas.Bool.{cases_lt}
-use Rattle.std.proofs.lemmas.List.{get_or-drop}
-use Rattle.std.proofs.lemmas.List.Sums.{sum_by-cons}
-use Rattle.std.proofs.lemmas.List.Elements.{Contains-append_cases}
+use Rattle.std.proofs.Common.{◌≡◌, ℕ, zero, suc, ◌+◌, ◌<◌, ◌≤◌, true, false, Bool, List, [], ◌∷◌, ◌++◌, length, take}
+use Rattle.std.proofs.Common.{refl, sym, ap, ◌∙◌, subst, arith, inl, inr, take_all}
+use Rattle.std.proofs.lemmas.{Bool.cases_lt, List.{get_or-drop, Sums.sum_by-cons, Elements.Contains-append_cases}}
+use Rattle.std.specs.{Prelude.slice_index, List.Contains}
 use Rattle.rule_table.specs.declared.classes.Layer.{Layer}
-use Rattle.cell_model.specs.declared.cell.Node.{Node}
-use Rattle.cell_model.specs.declared.cell.NodeNets.{NodeNets}
-use Rattle.cell_model.specs.declared.cell.Nets.{Nets}
-use Rattle.cell_model.specs.declared.cell.Cell.{Cell}
-use Rattle.cell_model.specs.declared.cell.Wire.{Wire}
+use Rattle.cell_model.specs.declared.cell.{Node.Node, NodeNets.NodeNets, Nets.Nets, Cell.Cell, Wire.Wire}
 use Rattle.cell_model.specs.declared.cell.WireEnd.{WireEnd}
+use Rattle.cell_model.specs.Nets.{kind_parts, node_parts, first_part, joined_part, end_parts, with_each, attachments}
+use Rattle.cell_model.specs.{Nets.{attachments_of, nets_of_kind, nets_of_nodes, AreNets}, Sound.{node_at, wire_at}}
 use Rattle.cell_model.specs.declared.cell.WireEnd.TheVariants as ends
-use Rattle.cell_model.specs.Nets.{kind_parts, node_parts, first_part, joined_part, end_parts, with_each, attachments, attachments_of, nets_of_kind, nets_of_nodes, AreNets}
-use Rattle.cell_model.specs.Sound.{node_at, wire_at}
 use Rattle.expand.specs.Items.{nets_at}
 use Rattle.grid_rules.proofs.OnBorder.{wire_end}
 

@@ -1,12 +1,10 @@
 -- At which number of the list of items each item of a node and of a wire stands.
-use Rattle.std.proofs.Common.{◌≡◌, ℕ, zero, suc, ◌+◌, ◌-◌, ◌<◌, List, length, get_or, refl, sym, ap, ◌∙◌, subst, arith, inl, inr, ◌⊎◌, length-append, zero-add}
-use Rattle.std.specs.List.{flat_map, range_with_len}
-use Rattle.std.proofs.lemmas.Bool.{cases_lt}
-use Rattle.std.proofs.lemmas.List.{get_or_append_left, get_or-append-add}
+use Rattle.std.proofs.Common.{◌≡◌, ℕ, zero, suc, ◌+◌, ◌-◌, ◌<◌, List, length, get_or, refl, sym, ap, ◌∙◌, subst, arith}
+use Rattle.std.proofs.{Common.{inl, inr, ◌⊎◌, length-append, zero-add}, lemmas.{Bool.cases_lt, List.get_or_append_left}}
+use Rattle.std.{proofs.lemmas.List.get_or-append-add, specs.List.{flat_map, range_with_len}}
 use Rattle.rule_table.specs.declared.technology.Tech.{Tech}
 use Rattle.sym_items.specs.declared.items.Item.{Item}
-use Rattle.cell_model.specs.declared.cell.Nets.{Nets}
-use Rattle.cell_model.specs.declared.cell.Cell.{Cell}
+use Rattle.cell_model.specs.declared.cell.{Nets.Nets, Cell.Cell}
 use Rattle.pair_rules.specs.Bound.{no_item, item_at}
 use Rattle.expand.specs.Items.{items_of_node, items_of_wire, item_list}
 

@@ -1,34 +1,25 @@
 -- The wires of two ports that meet are linked.
-use Rattle.std.proofs.Common.{◌≡◌, ℕ, zero, suc, ◌+◌, ◌<◌, ℤ, ◌+ℤ◌, true, false, Bool, List, [], ◌∷◌, length, cond, Option, Some, None, refl, sym, ap, ◌∙◌, subst, arith}
-use Rattle.std.specs.Prelude.{option_map}
-use Rattle.std.specs.List.{Contains, zip}
-use Rattle.std.proofs.lemmas.Int.{ints}
-use Rattle.std.proofs.lemmas.List.{get_or-map}
-use Rattle.std.proofs.lemmas.List.Elements.{All-contains, recursion_from_All}
-use Rattle.lam_geom.specs.declared.boxes.Axis.{Axis}
-use Rattle.lam_geom.specs.declared.boxes.Axis.TheVariants.{X, Y}
+use Rattle.std.proofs.Common.{◌≡◌, ℕ, zero, suc, ◌+◌, ◌<◌, ℤ, ◌+ℤ◌, true, false, Bool, List, [], ◌∷◌, length, cond}
+use Rattle.std.proofs.Common.{Option, Some, None, refl, sym, ap, ◌∙◌, subst, arith}
+use Rattle.std.proofs.lemmas.{Int.ints, List.{get_or-map, Elements.{All-contains, recursion_from_All}}}
+use Rattle.std.specs.{Prelude.option_map, List.{Contains, zip}}
+use Rattle.lam_geom.specs.declared.boxes.Axis.{Axis, TheVariants.{X, Y}}
 use Rattle.rule_table.specs.declared.technology.Tech.{Tech}
 use Rattle.sym_items.specs.declared.items.Coords.{Coords}
-use Rattle.cell_model.specs.declared.cell.CellPort.{CellPort}
-use Rattle.cell_model.specs.Ports.{ports_of_cell}
+use Rattle.cell_model.specs.{declared.cell.CellPort.CellPort, Ports.ports_of_cell}
 use Rattle.expand.specs.declared.master.Master.{Master}
 use Rattle.list_facts.proofs.Elements.{all_of}
-use Rattle.plan_model.specs.declared.plan.Match.{Match}
-use Rattle.plan_model.specs.declared.plan.Plan.{Plan}
-use Rattle.plan_model.specs.Borders.{side_ports, side_before, side_behind, ports_of_master, ports_before, ports_behind, may_meet, misfit, FitsAt, meeting_ports, match_of, matches_at}
-use Rattle.plan_model.specs.GridNets.{IsBehind, MeetAt}
-use Rattle.plan_model.specs.Instances.{Spot, IsSpot, grid_at, master_at_spot}
-use Rattle.plan_model.specs.Plan.{grids_of, borders_of, matches_in, IsPlanOver}
-use Rattle.plan_model.specs.Rows.{firsts, is_pair}
-use Rattle.pitch_join.specs.Layouts.{line_in, LieOnOneLine}
-use Rattle.pitch_join.specs.Masters.{master_at, no_master, master_ports, ports_of_masters}
-use Rattle.pitch_join.proofs.Lists.{all_firsts}
-use Rattle.grid_rules.proofs.Gaps.{IsDone}
-use Rattle.grid_rules.proofs.Lists.{out_of_flat_map, out_of_map}
-use Rattle.grid_rules.proofs.Meeting.{master_among, master_is, match_listed}
-use Rattle.grid_rules.proofs.OnBorder.{other}
-use Rattle.grid_rules.proofs.Places.{place_of, low_of, begin_of, line_of, AreLaid, on_line, size_on_line, lines_of, place_among}
-use Rattle.grid_rules.proofs.Ports.{IsPortOf, wire_of_port, met_alike}
+use Rattle.plan_model.specs.declared.plan.{Match.Match, Plan.Plan}
+use Rattle.plan_model.specs.Borders.{side_ports, side_before, side_behind, ports_of_master, ports_before, ports_behind}
+use Rattle.plan_model.specs.{Borders.{may_meet, misfit, FitsAt, meeting_ports, match_of, matches_at}, GridNets.IsBehind}
+use Rattle.plan_model.specs.{GridNets.MeetAt, Instances.{Spot, IsSpot, grid_at, master_at_spot}, Plan.grids_of}
+use Rattle.plan_model.specs.{Plan.{borders_of, matches_in, IsPlanOver}, Rows.{firsts, is_pair}}
+use Rattle.pitch_join.specs.{Layouts.{line_in, LieOnOneLine}, Masters.{master_at, no_master, master_ports}}
+use Rattle.pitch_join.{specs.Masters.ports_of_masters, proofs.Lists.all_firsts}
+use Rattle.grid_rules.proofs.{Gaps.IsDone, Lists.{out_of_flat_map, out_of_map}, Meeting.{master_among, master_is}}
+use Rattle.grid_rules.proofs.{Meeting.match_listed, OnBorder.other, Places.{place_of, low_of, begin_of, line_of}}
+use Rattle.grid_rules.proofs.{Places.{AreLaid, on_line, size_on_line, lines_of, place_among}, Ports.IsPortOf}
+use Rattle.grid_rules.proofs.Ports.{wire_of_port, met_alike}
 
 -- ---- ports that meet
 

@@ -1,51 +1,28 @@
 -- Conductors of one instance: those of one part are linked, and so are a wire's and that of the node at which it ends.
-use Rattle.std.proofs.Common.{◌≡◌, ◌≢◌, ℕ, suc, ◌<◌, ℤ, pos, ◌+ℤ◌, ◌*ℤ◌, ◌≤ℤ◌, ◌<ℤ◌, Bool, List, length, refl, sym, ap, ◌∙◌, subst, arith, inl}
-use Rattle.std.specs.Prelude.{neg_ℤ}
-use Rattle.std.proofs.lemmas.Int.{ints, clamps}
-use Rattle.lam_geom.specs.declared.boxes.Axis.{Axis}
-use Rattle.lam_geom.specs.declared.boxes.Axis.TheVariants.{X}
-use Rattle.lam_geom.specs.Gaps.{gap_between}
-use Rattle.rule_table.specs.declared.technology.Tech.{Tech}
-use Rattle.rule_table.specs.declared.classes.Class.{Class}
-use Rattle.rule_table.specs.Technology.{numbers_of, pad_of, widest_of}
-use Rattle.rule_table.specs.declared.classes.Class.TheVariants.{M, C}
-use Rattle.rule_table.specs.declared.classes.Layer.{Layer}
+use Rattle.std.proofs.Common.{◌≡◌, ◌≢◌, ℕ, suc, ◌<◌, ℤ, pos, ◌+ℤ◌, ◌*ℤ◌, ◌≤ℤ◌, ◌<ℤ◌, Bool, List, length, refl, sym, ap}
+use Rattle.std.{proofs.{Common.{◌∙◌, subst, arith, inl}, lemmas.Int.{ints, clamps}}, specs.Prelude.neg_ℤ}
+use Rattle.lam_geom.specs.{declared.boxes.Axis.{Axis, TheVariants.X}, Gaps.gap_between}
+use Rattle.rule_table.specs.declared.{technology.Tech.Tech, classes.{Class.{Class, TheVariants.{M, C}}, Layer.Layer}}
 use Rattle.rule_table.specs.declared.classes.Layer.TheVariants.{Diffusion, Poly, Metal}
-use Rattle.sym_items.specs.declared.items.Coords.{Coords}
-use Rattle.sym_items.specs.declared.items.Item.{Item}
-use Rattle.sym_items.specs.declared.items.Items.{Items}
-use Rattle.sym_items.specs.Layouts.{size_in}
-use Rattle.sym_items.specs.Sides.{gap_of_sides}
-use Rattle.sym_items.specs.Standing.{nowhere}
-use Rattle.cell_model.specs.declared.cell.NodeKind.{NodeKind}
-use Rattle.cell_model.specs.declared.cell.NodeKind.TheVariants.{Joint, Contact, Buried, Fet}
-use Rattle.cell_model.specs.declared.cell.Cell.{Cell}
+use Rattle.rule_table.specs.Technology.{numbers_of, pad_of, widest_of}
+use Rattle.sym_items.specs.declared.items.{Coords.Coords, Item.Item, Items.Items}
+use Rattle.sym_items.specs.{Layouts.size_in, Sides.gap_of_sides, Standing.nowhere}
+use Rattle.cell_model.specs.declared.cell.{NodeKind.{NodeKind, TheVariants.{Joint, Contact, Buried, Fet}}, Cell.Cell}
+use Rattle.cell_model.specs.{declared.cell.Nets.Nets, Sound.{node_at, wire_at, IsKind}}
 use Rattle.cell_model.specs.declared.cell.WireEnd.TheVariants as ends
-use Rattle.cell_model.specs.declared.cell.Nets.{Nets}
-use Rattle.cell_model.specs.Sound.{node_at, wire_at, IsKind}
 use Rattle.pair_rules.specs.Bound.{item_at}
-use Rattle.expand.specs.declared.master.Master.{Master}
-use Rattle.expand.specs.Masters.{IsMaster}
-use Rattle.expand.specs.NodeItems.{item_running, square_round, kind_items}
-use Rattle.expand.specs.Items.{nets_at, items_of_node, items_of_wire, item_list}
-use Rattle.expand.specs.Variables.{half}
-use Rattle.expand.proofs.Among.{half_pad, sound_numbers}
-use Rattle.expand.proofs.Cells.{node_sound}
-use Rattle.buried_contacts.specs.Contacts.{axis_along}
-use Rattle.buried_contacts.proofs.Owners.{run_of, wire_box}
-use Rattle.plan_model.specs.declared.plan.Plan.{Plan}
-use Rattle.plan_model.specs.Instances.{Spot, IsSpot, master_at_spot}
-use Rattle.plan_model.specs.Plan.{grids_of}
-use Rattle.grid_rules.specs.Rules.{sides_at_spot, items_at}
-use Rattle.grid_rules.proofs.Gaps.{IsDone, values_at}
-use Rattle.grid_rules.proofs.Meeting.{master_among, master_is}
-use Rattle.grid_rules.proofs.OnBorder.{other, wire_end}
-use Rattle.grid_rules.proofs.Pairs.{master_of}
-use Rattle.grid_rules.proofs.Places.{low_of}
-use Rattle.grid_rules.specs.Conductors.{Drawn, IsDrawn, item_of, gap_of_drawn, Conducts, IsConductor, AreOfOneBox, AreLinked, by_touch, by_cut, by_contact}
-use Rattle.grid_rules.proofs.ChainConductors.{class_on, home_on, home_within, home_is, class_conducts, IsPair}
-use Rattle.grid_rules.proofs.ChainPlaces.{StandsAtPlace, place_of_node, place_of_wire, node_item_stands, wire_item_stands}
-use Rattle.grid_rules.proofs.ChainTouch.{touches, overlaps, item_met, along_meets, across_meets}
+use Rattle.expand.specs.{declared.master.Master.Master, Masters.IsMaster, NodeItems.{item_running, square_round}}
+use Rattle.expand.specs.{NodeItems.kind_items, Items.{nets_at, items_of_node, items_of_wire, item_list}, Variables.half}
+use Rattle.expand.proofs.{Among.{half_pad, sound_numbers}, Cells.node_sound}
+use Rattle.buried_contacts.{specs.Contacts.axis_along, proofs.Owners.{run_of, wire_box}}
+use Rattle.plan_model.specs.{declared.plan.Plan.Plan, Instances.{Spot, IsSpot, master_at_spot}, Plan.grids_of}
+use Rattle.grid_rules.specs.{Rules.{sides_at_spot, items_at}, Conductors.{Drawn, IsDrawn, item_of, gap_of_drawn}}
+use Rattle.grid_rules.specs.Conductors.{Conducts, IsConductor, AreOfOneBox, AreLinked, by_touch, by_cut, by_contact}
+use Rattle.grid_rules.proofs.{Gaps.{IsDone, values_at}, Meeting.{master_among, master_is}, OnBorder.{other, wire_end}}
+use Rattle.grid_rules.proofs.{Pairs.master_of, Places.low_of, ChainConductors.{class_on, home_on, home_within, home_is}}
+use Rattle.grid_rules.proofs.{ChainConductors.{class_conducts, IsPair}, ChainPlaces.{StandsAtPlace, place_of_node}}
+use Rattle.grid_rules.proofs.{ChainPlaces.{place_of_wire, node_item_stands, wire_item_stands}, ChainTouch.touches}
+use Rattle.grid_rules.proofs.ChainTouch.{overlaps, item_met, along_meets, across_meets}
 
 -- item number i of an instance
 abbrev pub drawn_at : Spot → ℕ → Drawn

@@ -1,54 +1,28 @@
 -- A wire touches the part of the node that it joins.
-use Rattle.std.proofs.Common.{◌≡◌, ℕ, ◌<◌, ℤ, pos, ◌+ℤ◌, ◌-ℤ◌, ◌≤ℤ◌, ◌<ℤ◌, true, false, Bool, List, [], ◌∷◌, ◌++◌, length, refl, sym, ap, subst, arith}
-use Rattle.std.specs.Prelude.{neg_ℤ}
-use Rattle.std.specs.List.{Contains, range_with_len}
-use Rattle.std.proofs.lemmas.Bool.{cond-true}
-use Rattle.std.proofs.lemmas.Int.{ints, clamps}
+use Rattle.std.proofs.Common.{◌≡◌, ℕ, ◌<◌, ℤ, pos, ◌+ℤ◌, ◌-ℤ◌, ◌≤ℤ◌, ◌<ℤ◌, true, false, Bool, List, [], ◌∷◌, ◌++◌}
+use Rattle.std.proofs.{Common.{length, refl, sym, ap, subst, arith}, lemmas.{Bool.cond-true, Int.{ints, clamps}}}
 use Rattle.std.proofs.lemmas.List.Elements.{All-contains, Contains-append_left, Contains-append_right}
-use Rattle.lam_geom.specs.declared.boxes.Axis.{Axis}
-use Rattle.lam_geom.specs.declared.boxes.Axis.TheVariants.{X, Y}
-use Rattle.lam_geom.specs.Gaps.{gap_between}
-use Rattle.rule_table.specs.declared.technology.Tech.{Tech}
-use Rattle.rule_table.specs.declared.classes.Class.{Class}
-use Rattle.cons_graph.specs.declared.edges.Edge.{Edge}
-use Rattle.cons_graph.specs.Solutions.{Meets}
-use Rattle.sym_items.specs.declared.items.Coords.{Coords}
-use Rattle.sym_items.specs.declared.items.Item.{Item}
-use Rattle.sym_items.specs.Extents.{IsLongUnder}
-use Rattle.sym_items.specs.Sides.{gap_of_sides}
-use Rattle.sym_items.specs.Transposed.{item_along}
-use Rattle.sym_items.specs.Values.{end_under}
-use Rattle.cell_model.specs.declared.cell.Axis2.{Axis2}
-use Rattle.cell_model.specs.declared.cell.Axis2.TheVariants.{Across, Up}
-use Rattle.cell_model.specs.declared.cell.Cell.{Cell}
-use Rattle.cell_model.specs.declared.cell.Wire.{Wire}
-use Rattle.cell_model.specs.declared.cell.WireEnd.{WireEnd}
+use Rattle.std.specs.{Prelude.neg_ℤ, List.{Contains, range_with_len}}
+use Rattle.lam_geom.specs.{declared.boxes.Axis.{Axis, TheVariants.{X, Y}}, Gaps.gap_between}
+use Rattle.rule_table.specs.declared.{technology.Tech.Tech, classes.Class.Class}
+use Rattle.cons_graph.specs.{declared.edges.Edge.Edge, Solutions.Meets}
+use Rattle.sym_items.specs.declared.items.{Coords.Coords, Item.Item}
+use Rattle.sym_items.specs.{Extents.IsLongUnder, Sides.gap_of_sides, Transposed.item_along, Values.end_under}
+use Rattle.cell_model.specs.declared.cell.{Axis2.{Axis2, TheVariants.{Across, Up}}, Cell.Cell, Wire.Wire}
+use Rattle.cell_model.specs.{declared.cell.{WireEnd.WireEnd, Nets.Nets}, Sound.{node_at, wire_at, IsEnd, Takes}}
+use Rattle.cell_model.specs.{Sound.{IsWithinPad, IsWire}, Wiring.{is_same_axis, node_pad}}
 use Rattle.cell_model.specs.declared.cell.WireEnd.TheVariants as ends
-use Rattle.cell_model.specs.declared.cell.Nets.{Nets}
-use Rattle.cell_model.specs.Sound.{node_at, wire_at, IsEnd, Takes, IsWithinPad, IsWire}
-use Rattle.cell_model.specs.Wiring.{is_same_axis, node_pad}
 use Rattle.pair_rules.specs.Bound.{item_at}
-use Rattle.expand.specs.declared.master.Master.{Master}
-use Rattle.expand.specs.Masters.{IsMaster}
-use Rattle.expand.specs.Laws.{MeetsStructure}
-use Rattle.expand.specs.NodeItems.{item_running}
-use Rattle.expand.specs.Items.{nets_at, items_of_node}
-use Rattle.expand.specs.Structure.{tied, end_edges, overlap_edges, size_edge, extents_of, overlaps_of, margins_of, limits_of, structure_of}
-use Rattle.expand.specs.Variables.{half, centre, cross_of, crossing}
-use Rattle.expand.specs.WireItems.{reach, low_end_of, high_end_of}
-use Rattle.expand.proofs.Cells.{node_sound, wire_sound}
-use Rattle.expand.proofs.Standing.{stands}
-use Rattle.buried_contacts.specs.Contacts.{axis_along}
-use Rattle.buried_contacts.proofs.Owners.{run_of, wire_box}
-use Rattle.plan_model.specs.declared.plan.Plan.{Plan}
-use Rattle.plan_model.specs.Instances.{Spot}
-use Rattle.grid_rules.specs.Rules.{sides_at_spot}
-use Rattle.grid_rules.proofs.AtPorts.{lies_along, low_side, high_side}
-use Rattle.grid_rules.proofs.Gaps.{gap_at}
-use Rattle.grid_rules.proofs.InCell.{low_in, high_in}
-use Rattle.grid_rules.proofs.Lists.{in_flat_map, in_range}
-use Rattle.grid_rules.proofs.OnBorder.{runs_along, other, LiesAsRun, wire_end, box_among}
-use Rattle.grid_rules.proofs.ChainConductors.{class_on, class_has}
+use Rattle.expand.specs.{declared.master.Master.Master, Masters.IsMaster, Laws.MeetsStructure, NodeItems.item_running}
+use Rattle.expand.specs.{Items.{nets_at, items_of_node}, Structure.{tied, end_edges, overlap_edges, size_edge}}
+use Rattle.expand.specs.{Structure.{extents_of, overlaps_of, margins_of, limits_of, structure_of}, Variables.half}
+use Rattle.expand.specs.{Variables.{centre, cross_of, crossing}, WireItems.{reach, low_end_of, high_end_of}}
+use Rattle.expand.proofs.{Cells.{node_sound, wire_sound}, Standing.stands}
+use Rattle.buried_contacts.{specs.Contacts.axis_along, proofs.Owners.{run_of, wire_box}}
+use Rattle.plan_model.specs.{declared.plan.Plan.Plan, Instances.Spot}
+use Rattle.grid_rules.{specs.Rules.sides_at_spot, proofs.{AtPorts.{lies_along, low_side, high_side}, Gaps.gap_at}}
+use Rattle.grid_rules.proofs.{InCell.{low_in, high_in}, Lists.{in_flat_map, in_range}, OnBorder.{runs_along, other}}
+use Rattle.grid_rules.proofs.{OnBorder.{LiesAsRun, wire_end, box_among}, ChainConductors.{class_on, class_has}}
 use Rattle.grid_rules.proofs.ChainEnds.{MeetsEnd, IsMet, EndsAtKind, met_by}
 
 -- ---- gaps

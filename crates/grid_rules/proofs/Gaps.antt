@@ -1,33 +1,19 @@
 -- How far items of instances lie apart on an axis, where lines or margins keep them apart.
 use Rattle.std.proofs.Common.{◌≡◌, ℕ, suc, ◌<◌, ℤ, pos, ◌+ℤ◌, ◌≤ℤ◌, List, [], subst, arith, inl, inr, ◌⊎◌, Option, Some}
-use Rattle.std.specs.Prelude.{IfSome}
-use Rattle.std.specs.List.{All, Contains}
-use Rattle.std.proofs.lemmas.Int.{ints, clamps}
-use Rattle.lam_geom.specs.declared.boxes.Axis.{Axis}
-use Rattle.lam_geom.specs.declared.boxes.Axis.TheVariants.{X, Y}
-use Rattle.lam_geom.specs.Gaps.{gap_between}
-use Rattle.rule_table.specs.declared.classes.Class.{Class}
-use Rattle.rule_table.specs.declared.classes.Rule.{Rule}
-use Rattle.rule_table.specs.declared.technology.Tech.{Tech}
+use Rattle.std.{proofs.lemmas.Int.{ints, clamps}, specs.{Prelude.IfSome, List.{All, Contains}, Int.int_max}}
+use Rattle.lam_geom.specs.{declared.boxes.Axis.{Axis, TheVariants.{X, Y}}, Gaps.gap_between}
+use Rattle.rule_table.specs.declared.{classes.{Class.Class, Rule.Rule}, technology.Tech.Tech}
 use Rattle.rule_table.specs.Technology.{numbers_of, spacing_of, margin_of, widest_of}
 use Rattle.rule_table.proofs.Margins.{IsSpacing, spacing_bounds, within_margins, widest_above, widest_positive}
-use Rattle.sym_items.specs.declared.items.Coords.{Coords}
-use Rattle.sym_items.specs.declared.items.Item.{Item}
-use Rattle.sym_items.specs.Layouts.{value_in, size_in}
-use Rattle.sym_items.specs.Sides.{gap_of_sides}
-use Rattle.expand.specs.declared.master.Master.{Master}
-use Rattle.expand.proofs.Among.{sound_numbers}
-use Rattle.plan_model.specs.declared.plan.Plan.{Plan}
-use Rattle.std.specs.Int.{int_max}
-use Rattle.plan_model.specs.Instances.{Spot, IsSpot, IsAligned, master_at_spot}
+use Rattle.sym_items.specs.{declared.items.{Coords.Coords, Item.Item}, Layouts.{value_in, size_in}, Sides.gap_of_sides}
+use Rattle.expand.{specs.declared.master.Master.Master, proofs.Among.sound_numbers}
+use Rattle.plan_model.specs.{declared.plan.Plan.Plan, Instances.{Spot, IsSpot, IsAligned, master_at_spot}}
 use Rattle.plan_model.specs.Plan.{grids_of}
 use Rattle.pitch_join.specs.Masters.{master_at, ports_of_masters}
-use Rattle.grid_rules.specs.Planned.{AreOfPlan}
-use Rattle.grid_rules.specs.Rules.{AreFinished, sides_at_spot, items_at}
-use Rattle.grid_rules.proofs.Aligned.{all_aligned}
-use Rattle.grid_rules.proofs.InCell.{low_in, high_in, BeginsOnBorder, EndsOnBorder, LiesBetween, items_between, cell_long}
-use Rattle.grid_rules.proofs.Meeting.{master_among, master_is}
-use Rattle.grid_rules.proofs.Places.{place_of, low_of, AreLaid, stands_behind, stands_far_behind, grids_apart}
+use Rattle.grid_rules.specs.{Planned.AreOfPlan, Rules.{AreFinished, sides_at_spot, items_at}}
+use Rattle.grid_rules.proofs.{Aligned.all_aligned, InCell.{low_in, high_in, BeginsOnBorder, EndsOnBorder, LiesBetween}}
+use Rattle.grid_rules.proofs.{InCell.{items_between, cell_long}, Meeting.{master_among, master_is}, Places.place_of}
+use Rattle.grid_rules.proofs.Places.{low_of, AreLaid, stands_behind, stands_far_behind, grids_apart}
 
 -- ---- a plan laid out
 

@@ -1,30 +1,15 @@
 -- Where an item lies between the borders of its cell, on an axis.
-use Rattle.std.proofs.Common.{◌≡◌, ◌≢◌, ℕ, ℤ, pos, ◌+ℤ◌, ◌≤ℤ◌, List, refl, sym, ap, arith, inl, inr}
-use Rattle.std.specs.List.{Contains}
-use Rattle.std.proofs.lemmas.Int.{ints}
-use Rattle.std.proofs.lemmas.Bool.{cases_eq}
-use Rattle.std.proofs.lemmas.List.Elements.{All-contains}
-use Rattle.lam_geom.specs.declared.boxes.Axis.{Axis}
-use Rattle.lam_geom.specs.declared.boxes.Axis.TheVariants.{X, Y}
-use Rattle.rule_table.specs.declared.technology.Tech.{Tech}
-use Rattle.rule_table.specs.Technology.{numbers_of, margin_of, widest_of}
+use Rattle.std.proofs.{Common.{◌≡◌, ◌≢◌, ℕ, ℤ, pos, ◌+ℤ◌, ◌≤ℤ◌, List, refl, sym, ap, arith, inl, inr}, lemmas.Int.ints}
+use Rattle.std.{proofs.lemmas.{Bool.cases_eq, List.Elements.All-contains}, specs.List.Contains}
+use Rattle.lam_geom.specs.declared.boxes.Axis.{Axis, TheVariants.{X, Y}}
+use Rattle.rule_table.specs.{declared.technology.Tech.Tech, Technology.{numbers_of, margin_of, widest_of}}
 use Rattle.rule_table.proofs.Margins.{margin_low}
-use Rattle.cons_graph.specs.declared.edges.Why.TheVariants.{Margin}
-use Rattle.cons_graph.specs.Solutions.{Meets}
-use Rattle.sym_items.specs.declared.items.Item.{Item}
-use Rattle.sym_items.specs.Transposed.{item_along}
-use Rattle.sym_items.specs.Values.{end_under}
-use Rattle.sym_items.specs.Extents.{IsLongUnder}
+use Rattle.cons_graph.specs.{declared.edges.Why.TheVariants.Margin, Solutions.Meets}
+use Rattle.sym_items.specs.{declared.items.Item.Item, Transposed.item_along, Values.end_under, Extents.IsLongUnder}
 use Rattle.list_facts.proofs.Elements.{all_parts}
-use Rattle.expand.specs.declared.master.Master.{Master}
-use Rattle.expand.specs.Variables.{at_origin, at_far_border}
-use Rattle.expand.specs.Structure.{between}
-use Rattle.expand.specs.Bounds.{LiesAlong}
-use Rattle.expand.specs.Masters.{IsMaster}
-use Rattle.expand.specs.Laws.{MeetsStructure}
-use Rattle.expand.proofs.Between.{between_means}
-use Rattle.expand.proofs.Among.{items_lie}
-use Rattle.expand.proofs.Standing.{KeepsMargins, parts_of, stands}
+use Rattle.expand.specs.{declared.master.Master.Master, Variables.{at_origin, at_far_border}, Structure.between}
+use Rattle.expand.specs.{Bounds.LiesAlong, Masters.IsMaster, Laws.MeetsStructure}
+use Rattle.expand.proofs.{Between.between_means, Among.items_lie, Standing.{KeepsMargins, parts_of, stands}}
 
 -- the two ends of an item on an axis, under some values
 abbrev pub low_in : Axis → (ℕ → ℤ) → Item → ℤ

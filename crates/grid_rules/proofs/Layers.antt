@@ -1,11 +1,7 @@
 -- Boxes of one layer: the rules between them free one net, and none are poly and diffusion.
 use Rattle.std.proofs.Common.{◌≡◌, Bool, true, false, Option, Some, None, refl, sym, ap, ◌∙◌}
-use Rattle.rule_table.specs.declared.classes.Class.{Class}
-use Rattle.rule_table.specs.declared.classes.Class.TheVariants.{M, P, Dc, Dm}
-use Rattle.rule_table.specs.declared.classes.Layer.{Layer}
-use Rattle.rule_table.specs.declared.classes.Rule.{Rule}
-use Rattle.rule_table.specs.declared.keys.Numbers.{Numbers}
-use Rattle.rule_table.specs.Spacing.{spacing_in}
+use Rattle.rule_table.specs.declared.classes.{Class.{Class, TheVariants.{M, P, Dc, Dm}}, Layer.Layer, Rule.Rule}
+use Rattle.rule_table.specs.{declared.keys.Numbers.Numbers, Spacing.spacing_in}
 use Rattle.pair_rules.specs.Bound.{is_poly_on_diffusion}
 use Rattle.buried_contacts.proofs.Owners.{LayerHas}
 

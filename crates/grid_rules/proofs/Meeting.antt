@@ -1,30 +1,21 @@
 -- What meets at the border of two instances that stand beside or above one another.
 use Rattle.std.proofs.Common.{◌≡◌, ℕ, suc, ◌<◌, true, false, List, [], length, refl, sym, ap, ◌∙◌, subst, arith, ◌==◌}
-use Rattle.std.specs.List.{All, Contains}
-use Rattle.std.proofs.lemmas.Bool.{and_from, and_parts, eqb-true, eq-eqb}
-use Rattle.std.proofs.lemmas.List.{get_or-map, length-map}
-use Rattle.std.proofs.lemmas.List.Elements.{All-contains, Contains-get_or}
-use Rattle.lam_geom.specs.declared.boxes.Axis.{Axis}
-use Rattle.lam_geom.specs.declared.boxes.Axis.TheVariants.{X, Y}
+use Rattle.std.proofs.lemmas.{Bool.{and_from, and_parts, eqb-true, eq-eqb}, List.{get_or-map, length-map}}
+use Rattle.std.{proofs.lemmas.List.Elements.{All-contains, Contains-get_or}, specs.List.{All, Contains}}
+use Rattle.lam_geom.specs.declared.boxes.Axis.{Axis, TheVariants.{X, Y}}
 use Rattle.rule_table.specs.declared.technology.Tech.{Tech}
 use Rattle.sym_items.specs.declared.items.Coords.{Coords}
-use Rattle.cell_model.specs.declared.cell.CellPort.{CellPort}
-use Rattle.cell_model.specs.Ports.{ports_of_cell}
-use Rattle.expand.specs.declared.master.Master.{Master}
-use Rattle.expand.specs.Masters.{IsMaster}
-use Rattle.plan_model.specs.declared.plan.Match.{Match}
-use Rattle.plan_model.specs.declared.plan.Plan.{Plan}
-use Rattle.plan_model.specs.Borders.{side_ports, side_before, side_behind, ports_of_master, ports_before, ports_behind, FitsAt, meeting_ports, match_of, matches_at}
-use Rattle.plan_model.specs.GridNets.{IsBehind, MeetAt}
-use Rattle.plan_model.specs.Instances.{Spot, IsSpot, grid_at, master_at_spot}
-use Rattle.plan_model.specs.Plan.{grids_of, meeting, borders_of, ports_matched, matches_in, IsPlanOver}
-use Rattle.plan_model.specs.Rows.{neighbours, zipped_rows, row_at, firsts, is_pair}
-use Rattle.pitch_join.specs.Layouts.{line_in, LieOnOneLine}
-use Rattle.pitch_join.specs.Masters.{master_at, no_master, master_ports, ports_of_masters}
-use Rattle.grid_rules.specs.Planned.{AreOfPlan}
-use Rattle.grid_rules.proofs.Lists.{in_flat_map, in_map, in_zip, in_neighbours, in_firsts}
-use Rattle.grid_rules.proofs.OnBorder.{other}
-use Rattle.grid_rules.proofs.Ports.{IsPortOf, wire_of_port, port_met, met_alike}
+use Rattle.cell_model.specs.{declared.cell.CellPort.CellPort, Ports.ports_of_cell}
+use Rattle.expand.specs.{declared.master.Master.Master, Masters.IsMaster}
+use Rattle.plan_model.specs.{declared.plan.{Match.Match, Plan.Plan}, Borders.{side_ports, side_before, side_behind}}
+use Rattle.plan_model.specs.Borders.{ports_of_master, ports_before, ports_behind, FitsAt, meeting_ports, match_of}
+use Rattle.plan_model.specs.{Borders.matches_at, GridNets.{IsBehind, MeetAt}, Instances.{Spot, IsSpot, grid_at}}
+use Rattle.plan_model.specs.{Instances.master_at_spot, Plan.{grids_of, meeting, borders_of, ports_matched, matches_in}}
+use Rattle.plan_model.specs.{Plan.IsPlanOver, Rows.{neighbours, zipped_rows, row_at, firsts, is_pair}}
+use Rattle.pitch_join.specs.{Layouts.{line_in, LieOnOneLine}, Masters.{master_at, no_master, master_ports}}
+use Rattle.pitch_join.specs.Masters.{ports_of_masters}
+use Rattle.grid_rules.{specs.Planned.AreOfPlan, proofs.Lists.{in_flat_map, in_map, in_zip, in_neighbours, in_firsts}}
+use Rattle.grid_rules.proofs.{OnBorder.other, Ports.{IsPortOf, wire_of_port, port_met, met_alike}}
 
 -- ---- masters of instances
 

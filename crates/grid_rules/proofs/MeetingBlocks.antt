@@ -1,28 +1,16 @@
 -- The items of a node or a wire of a master: which classes they have, and where they stand in its list.
-use Rattle.std.proofs.Common.{◌≡◌, ℕ, ◌+◌, ◌<◌, ℤ, Bool, true, false, List, [], ◌∷◌, length, map, cond, refl, sym, ap, ◌∙◌, subst, arith, inl, inr, ◌⊎◌}
-use Rattle.std.specs.List.{AllByRecursion}
-use Rattle.rule_table.specs.declared.technology.Tech.{Tech}
-use Rattle.rule_table.specs.declared.classes.Class.{Class}
-use Rattle.rule_table.specs.declared.classes.Class.TheVariants.{M, P, Dc, Dm}
-use Rattle.rule_table.specs.declared.classes.Layer.{Layer}
-use Rattle.rule_table.specs.declared.classes.Layer.TheVariants.{Diffusion, Poly, Metal}
-use Rattle.sym_items.specs.declared.items.Item.{Item}
-use Rattle.sym_items.specs.declared.items.Items.{Items}
-use Rattle.cell_model.specs.declared.cell.Axis2.{Axis2}
-use Rattle.cell_model.specs.declared.cell.Axis2.TheVariants.{Across, Up}
-use Rattle.cell_model.specs.declared.cell.NodeKind.{NodeKind}
-use Rattle.cell_model.specs.declared.cell.NodeKind.TheVariants.{Joint, Contact, Buried, Fet}
-use Rattle.cell_model.specs.declared.cell.NodeNets.{NodeNets}
-use Rattle.cell_model.specs.declared.cell.Nets.{Nets}
-use Rattle.cell_model.specs.declared.cell.Cell.{Cell}
-use Rattle.cell_model.specs.Sound.{node_at, wire_at, IsKind}
+use Rattle.std.proofs.Common.{◌≡◌, ℕ, ◌+◌, ◌<◌, ℤ, Bool, true, false, List, [], ◌∷◌, length, map, cond, refl, sym, ap}
+use Rattle.std.{proofs.Common.{◌∙◌, subst, arith, inl, inr, ◌⊎◌}, specs.List.AllByRecursion}
+use Rattle.rule_table.specs.declared.{technology.Tech.Tech, classes.Class.{Class, TheVariants.{M, P, Dc, Dm}}}
+use Rattle.rule_table.specs.declared.classes.Layer.{Layer, TheVariants.{Diffusion, Poly, Metal}}
+use Rattle.sym_items.specs.declared.items.{Item.Item, Items.Items}
+use Rattle.cell_model.specs.declared.cell.{Axis2.{Axis2, TheVariants.{Across, Up}}, NodeKind.NodeKind}
+use Rattle.cell_model.specs.declared.cell.{NodeKind.TheVariants.{Joint, Contact, Buried, Fet}, NodeNets.NodeNets}
+use Rattle.cell_model.specs.{declared.cell.{Nets.Nets, Cell.Cell}, Sound.{node_at, wire_at, IsKind}}
 use Rattle.pair_rules.specs.Bound.{no_item, item_at}
-use Rattle.expand.specs.declared.master.Master.{Master}
-use Rattle.expand.specs.Masters.{IsMaster}
-use Rattle.expand.specs.Variables.{half}
-use Rattle.expand.specs.NodeItems.{item_running, on_layer, channel_items, kind_items}
-use Rattle.expand.specs.Items.{nets_at, items_of_node, items_of_wire, item_list}
-use Rattle.expand.proofs.Cells.{node_sound}
+use Rattle.expand.specs.{declared.master.Master.Master, Masters.IsMaster, Variables.half, NodeItems.item_running}
+use Rattle.expand.specs.{NodeItems.{on_layer, channel_items, kind_items}, Items.{nets_at, items_of_node, items_of_wire}}
+use Rattle.expand.{specs.Items.item_list, proofs.Cells.node_sound}
 use Rattle.buried_contacts.proofs.Owners.{layer_boxes, run_of, items_owned, item_keeps, IsOwned}
 use Rattle.grid_rules.proofs.MeetingRuns.{IsRun, HasOwner, run_first, run_second, places, IsIn, IsSingle, found}
 

@@ -1,53 +1,30 @@
 -- The boxes of transistors in all instances, and their implants.
-use Rattle.std.proofs.Common.{◌≡◌, ◌≢◌, ℕ, ◌+◌, ◌<◌, ℤ, pos, ◌+ℤ◌, ◌-ℤ◌, ◌*ℤ◌, ◌≤ℤ◌, ◌<ℤ◌, Bool, true, false, List, [], ◌∷◌, length, Some, refl, sym, ap, ◌∙◌, subst, arith, inl, inr, ◌⊎◌}
-use Rattle.std.specs.Prelude.{IsTrue, neg_ℤ}
-use Rattle.std.specs.Int.{int_max, int_min}
-use Rattle.std.specs.List.{AllByRecursion}
-use Rattle.std.proofs.lemmas.Bool.{cases_Bool}
-use Rattle.std.proofs.lemmas.Int.{ints, clamps}
-use Rattle.rule_table.specs.declared.technology.Tech.{Tech}
-use Rattle.rule_table.specs.declared.classes.Class.{Class}
-use Rattle.rule_table.specs.declared.classes.Class.TheVariants.{P, Dc, Dm, I, G}
+use Rattle.std.proofs.Common.{◌≡◌, ◌≢◌, ℕ, ◌+◌, ◌<◌, ℤ, pos, ◌+ℤ◌, ◌-ℤ◌, ◌*ℤ◌, ◌≤ℤ◌, ◌<ℤ◌, Bool, true, false, List, []}
+use Rattle.std.proofs.Common.{◌∷◌, length, Some, refl, sym, ap, ◌∙◌, subst, arith, inl, inr, ◌⊎◌}
+use Rattle.std.proofs.lemmas.{Bool.cases_Bool, Int.{ints, clamps}}
+use Rattle.std.specs.{Prelude.{IsTrue, neg_ℤ}, Int.{int_max, int_min}, List.AllByRecursion}
+use Rattle.rule_table.specs.declared.{technology.Tech.Tech, classes.Class.{Class, TheVariants.{P, Dc, Dm, I, G}}}
 use Rattle.rule_table.specs.declared.classes.Rule.{Rule}
-use Rattle.rule_table.specs.Bounds.{IsSize}
-use Rattle.rule_table.specs.Spacing.{spacing_in}
-use Rattle.rule_table.specs.Technology.{numbers_of, spacing_of}
-use Rattle.sym_items.specs.declared.items.Coords.{Coords}
-use Rattle.sym_items.specs.declared.items.Item.{Item}
-use Rattle.sym_items.specs.Sides.{Sides, sides_in, gap_of_sides}
-use Rattle.sym_items.specs.Standing.{nowhere}
-use Rattle.sym_items.specs.Transposed.{sides_along}
-use Rattle.sym_items.specs.Values.{value_of}
-use Rattle.cell_model.specs.declared.cell.Axis2.{Axis2}
-use Rattle.cell_model.specs.declared.cell.Axis2.TheVariants.{Across, Up}
-use Rattle.cell_model.specs.declared.cell.NodeKind.{NodeKind}
-use Rattle.cell_model.specs.declared.cell.NodeKind.TheVariants.{Fet}
-use Rattle.cell_model.specs.declared.cell.NodeNets.{NodeNets}
-use Rattle.cell_model.specs.declared.cell.Nets.{Nets}
-use Rattle.cell_model.specs.Sound.{IsKind}
+use Rattle.rule_table.specs.{Bounds.IsSize, Spacing.spacing_in, Technology.{numbers_of, spacing_of}}
+use Rattle.sym_items.specs.{declared.items.{Coords.Coords, Item.Item}, Sides.{Sides, sides_in, gap_of_sides}}
+use Rattle.sym_items.specs.{Standing.nowhere, Transposed.sides_along, Values.value_of}
+use Rattle.cell_model.specs.declared.cell.{Axis2.{Axis2, TheVariants.{Across, Up}}, NodeKind.NodeKind}
+use Rattle.cell_model.specs.{declared.cell.{NodeKind.TheVariants.Fet, NodeNets.NodeNets, Nets.Nets}, Sound.IsKind}
 use Rattle.cell_nets.proofs.Determined.{nets_same}
 use Rattle.list_facts.proofs.Elements.{all_at}
 use Rattle.pair_rules.specs.Bound.{no_item, item_at, is_poly_on_diffusion}
-use Rattle.expand.specs.declared.master.Master.{Master}
-use Rattle.expand.specs.Masters.{IsMaster}
-use Rattle.expand.specs.Items.{nets_at}
-use Rattle.expand.specs.NodeItems.{item_running, box_at, box_round, kind_items}
-use Rattle.expand.specs.Variables.{half, centre}
-use Rattle.expand.proofs.Among.{sound_numbers}
-use Rattle.expand.proofs.Cells.{node_sound}
+use Rattle.expand.specs.{declared.master.Master.Master, Masters.IsMaster, Items.nets_at, NodeItems.item_running}
+use Rattle.expand.specs.{NodeItems.{box_at, box_round, kind_items}, Variables.{half, centre}}
+use Rattle.expand.proofs.{Among.sound_numbers, Cells.node_sound}
 use Rattle.buried_contacts.specs.Contacts.{axis_along}
-use Rattle.plan_model.specs.declared.plan.Plan.{Plan}
-use Rattle.plan_model.specs.Instances.{Spot, master_at_spot}
-use Rattle.plan_model.specs.Plan.{grids_of}
-use Rattle.grid_rules.specs.Rules.{AreNetsOf, shifted_sides, item_in, items_at}
-use Rattle.grid_rules.specs.Planned.{AreOfPlan}
-use Rattle.grid_rules.proofs.Gaps.{IsDone}
-use Rattle.grid_rules.proofs.Meeting.{master_among, master_is}
-use Rattle.grid_rules.specs.Conductors.{Drawn, item_of, sides_of_drawn}
-use Rattle.grid_rules.specs.Meetings.{master_of, at, IsOfClass, IsOwned, EnclosesBy, IsTransistorAt, CrossAt, below, above, seen, HasBoxes, TransistorsHaveBoxes, ImplantsTellDepletion}
-use Rattle.grid_rules.proofs.MeetingRuns.{IsRun, places, IsIn, found}
-use Rattle.grid_rules.proofs.MeetingBlocks.{run_node, owner_running, class_running, only_place}
-use Rattle.grid_rules.proofs.MeetingGaps.{layout_of, x_of, y_of, same_sides, bound_apart, of_classes}
+use Rattle.plan_model.specs.{declared.plan.Plan.Plan, Instances.{Spot, master_at_spot}, Plan.grids_of}
+use Rattle.grid_rules.specs.{Rules.{AreNetsOf, shifted_sides, item_in, items_at}, Planned.AreOfPlan, Conductors.Drawn}
+use Rattle.grid_rules.specs.{Conductors.{item_of, sides_of_drawn}, Meetings.{master_of, at, IsOfClass, IsOwned}}
+use Rattle.grid_rules.specs.Meetings.{EnclosesBy, IsTransistorAt, CrossAt, below, above, seen, HasBoxes}
+use Rattle.grid_rules.specs.Meetings.{TransistorsHaveBoxes, ImplantsTellDepletion}
+use Rattle.grid_rules.proofs.{Gaps.IsDone, Meeting.{master_among, master_is}, MeetingRuns.{IsRun, places, IsIn, found}}
+use Rattle.grid_rules.proofs.{MeetingBlocks.{run_node, owner_running, class_running, only_place}, MeetingGaps.layout_of}
+use Rattle.grid_rules.proofs.MeetingGaps.{x_of, y_of, same_sides, bound_apart, of_classes}
 
 -- ---- the places of a transistor's items in its block
 

@@ -1,50 +1,27 @@
 -- The boxes round a cut, and diffusion of the mask over its conducting pieces.
-use Rattle.std.proofs.Common.{◌≡◌, ℕ, ◌+◌, ◌<◌, ℤ, pos, ◌*ℤ◌, ◌≤ℤ◌, List, length, refl, sym, ap, ◌∙◌, subst, arith, inl, inr}
-use Rattle.std.specs.Prelude.{Bool, true, false}
-use Rattle.std.specs.Int.{int_max, int_min}
-use Rattle.std.specs.List.{AllByRecursion}
-use Rattle.std.proofs.lemmas.Int.{ints, clamps}
-use Rattle.rule_table.specs.declared.technology.Tech.{Tech}
-use Rattle.rule_table.specs.declared.classes.Class.{Class}
-use Rattle.rule_table.specs.declared.classes.Class.TheVariants.{M, P, Dc, Dm, C}
-use Rattle.rule_table.specs.declared.classes.Layer.{Layer}
-use Rattle.rule_table.specs.declared.classes.Layer.TheVariants.{Diffusion, Poly, Metal}
-use Rattle.rule_table.specs.declared.keys.Numbers.{Numbers}
-use Rattle.rule_table.specs.Spacing.{pad_in}
-use Rattle.rule_table.specs.Technology.{numbers_of, pad_of}
-use Rattle.rule_table.proofs.Widths.{pad_even}
-use Rattle.sym_items.specs.declared.items.Coords.{Coords}
-use Rattle.sym_items.specs.declared.items.Item.{Item}
-use Rattle.sym_items.specs.Sides.{Sides, sides_in}
-use Rattle.sym_items.specs.Standing.{nowhere}
-use Rattle.sym_items.specs.Transposed.{sides_along}
-use Rattle.cell_model.specs.declared.cell.Axis2.{Axis2}
-use Rattle.cell_model.specs.declared.cell.Axis2.TheVariants.{Across, Up}
-use Rattle.cell_model.specs.declared.cell.NodeKind.{NodeKind}
-use Rattle.cell_model.specs.declared.cell.NodeKind.TheVariants.{Joint, Contact, Buried, Fet}
-use Rattle.cell_model.specs.declared.cell.NodeNets.{NodeNets}
+use Rattle.std.proofs.Common.{◌≡◌, ℕ, ◌+◌, ◌<◌, ℤ, pos, ◌*ℤ◌, ◌≤ℤ◌, List, length, refl, sym, ap, ◌∙◌, subst, arith, inl}
+use Rattle.std.proofs.{Common.inr, lemmas.Int.{ints, clamps}}
+use Rattle.std.specs.{Prelude.{Bool, true, false}, Int.{int_max, int_min}, List.AllByRecursion}
+use Rattle.rule_table.specs.declared.{technology.Tech.Tech, classes.Class.{Class, TheVariants.{M, P, Dc, Dm, C}}}
+use Rattle.rule_table.specs.declared.{classes.Layer.{Layer, TheVariants.{Diffusion, Poly, Metal}}, keys.Numbers.Numbers}
+use Rattle.rule_table.{specs.{Spacing.pad_in, Technology.{numbers_of, pad_of}}, proofs.Widths.pad_even}
+use Rattle.sym_items.specs.declared.items.{Coords.Coords, Item.Item}
+use Rattle.sym_items.specs.{Sides.{Sides, sides_in}, Standing.nowhere, Transposed.sides_along}
+use Rattle.cell_model.specs.declared.cell.{Axis2.{Axis2, TheVariants.{Across, Up}}, NodeKind.NodeKind}
+use Rattle.cell_model.specs.declared.cell.{NodeKind.TheVariants.{Joint, Contact, Buried, Fet}, NodeNets.NodeNets}
 use Rattle.cell_model.specs.Sound.{wire_at, IsKind}
 use Rattle.pair_rules.specs.Bound.{no_item, item_at}
 use Rattle.list_facts.proofs.Elements.{all_at}
-use Rattle.expand.specs.declared.master.Master.{Master}
-use Rattle.expand.specs.Masters.{IsMaster}
-use Rattle.expand.specs.Items.{nets_at, items_of_wire}
-use Rattle.expand.specs.NodeItems.{on_layer, square_round, kind_items}
-use Rattle.expand.specs.Variables.{half}
-use Rattle.expand.proofs.Among.{sound_numbers}
-use Rattle.expand.proofs.Cells.{node_sound}
+use Rattle.expand.specs.{declared.master.Master.Master, Masters.IsMaster, Items.{nets_at, items_of_wire}}
+use Rattle.expand.specs.{NodeItems.{on_layer, square_round, kind_items}, Variables.half}
+use Rattle.expand.proofs.{Among.sound_numbers, Cells.node_sound}
 use Rattle.buried_contacts.specs.Contacts.{axis_along, kind_of}
-use Rattle.plan_model.specs.declared.plan.Plan.{Plan}
-use Rattle.plan_model.specs.Instances.{Spot}
-use Rattle.grid_rules.specs.Rules.{shifted_sides, items_at}
-use Rattle.grid_rules.proofs.Gaps.{IsDone}
-use Rattle.grid_rules.proofs.Meeting.{master_is}
-use Rattle.grid_rules.specs.Conductors.{Drawn, item_of, sides_of_drawn}
+use Rattle.plan_model.specs.{declared.plan.Plan.Plan, Instances.Spot}
+use Rattle.grid_rules.specs.{Rules.{shifted_sides, items_at}, Conductors.{Drawn, item_of, sides_of_drawn}}
 use Rattle.grid_rules.specs.Meetings.{master_of, at, IsOfClass, IsOwned, EnclosesBy, IsTransistorAt, IsOnePiece, seen}
-use Rattle.grid_rules.proofs.MeetingRuns.{IsRun, found}
-use Rattle.grid_rules.proofs.MeetingBlocks.{run_node, run_wire, stands_in, OwnerOf, a_node, a_wire, owner_of, only_place}
-use Rattle.grid_rules.proofs.MeetingBoxes.{transistors_have}
-use Rattle.grid_rules.proofs.MeetingGaps.{layout_of, x_of, y_of}
+use Rattle.grid_rules.proofs.{Gaps.IsDone, Meeting.master_is, MeetingRuns.{IsRun, found}, MeetingBlocks.run_node}
+use Rattle.grid_rules.proofs.MeetingBlocks.{run_wire, stands_in, OwnerOf, a_node, a_wire, owner_of, only_place}
+use Rattle.grid_rules.proofs.{MeetingBoxes.transistors_have, MeetingGaps.{layout_of, x_of, y_of}}
 use Rattle.grid_rules.proofs.MeetingOwners.{diffusion_conducts, pieces_have_masks}
 
 -- ---- which blocks have cuts

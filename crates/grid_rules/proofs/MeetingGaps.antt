@@ -1,36 +1,22 @@
 -- How far two items of instances lie apart: inside an instance as in the layout of its master, and where they are bound at least 1.
-use Rattle.std.proofs.Common.{◌≡◌, ◌≢◌, ℕ, ◌<◌, ◌≤◌, ℤ, pos, ◌+ℤ◌, ◌≤ℤ◌, ◌<ℤ◌, true, false, List, [], length, Option, Some, refl, sym, ap, ◌∙◌, arith, inl, inr, ◌⊎◌}
-use Rattle.std.specs.Prelude.{IsTrue}
-use Rattle.std.specs.Int.{int_max, int_min}
-use Rattle.std.specs.List.{All}
-use Rattle.std.proofs.lemmas.Bool.{cases_eq, cases_lt}
-use Rattle.std.proofs.lemmas.Int.{ints, clamps}
-use Rattle.lam_geom.specs.declared.boxes.Axis.TheVariants.{X, Y}
-use Rattle.lam_geom.specs.Gaps.{gap_between}
-use Rattle.rule_table.specs.declared.technology.Tech.{Tech}
-use Rattle.rule_table.specs.declared.classes.Class.{Class}
-use Rattle.rule_table.specs.declared.classes.Rule.{Rule}
+use Rattle.std.proofs.Common.{◌≡◌, ◌≢◌, ℕ, ◌<◌, ◌≤◌, ℤ, pos, ◌+ℤ◌, ◌≤ℤ◌, ◌<ℤ◌, true, false, List, [], length, Option}
+use Rattle.std.proofs.{Common.{Some, refl, sym, ap, ◌∙◌, arith, inl, inr, ◌⊎◌}, lemmas.Bool.{cases_eq, cases_lt}}
+use Rattle.std.{proofs.lemmas.Int.{ints, clamps}, specs.{Prelude.IsTrue, Int.{int_max, int_min}, List.All}}
+use Rattle.lam_geom.specs.{declared.boxes.Axis.TheVariants.{X, Y}, Gaps.gap_between}
+use Rattle.rule_table.specs.declared.{technology.Tech.Tech, classes.{Class.Class, Rule.Rule}}
 use Rattle.rule_table.specs.Technology.{spacing_of, widest_of}
-use Rattle.sym_items.specs.declared.items.Coords.{Coords}
-use Rattle.sym_items.specs.Layouts.{layout_at, size_in}
-use Rattle.sym_items.specs.Sides.{Sides, sides_in, gap_in, gap_of_sides}
-use Rattle.sym_items.specs.Standing.{StandTogether}
-use Rattle.cell_model.specs.declared.cell.Nets.{Nets}
-use Rattle.cell_model.specs.Nets.{AreNets}
+use Rattle.sym_items.specs.{declared.items.Coords.Coords, Layouts.{layout_at, size_in}, Sides.{Sides, sides_in, gap_in}}
+use Rattle.sym_items.specs.{Sides.gap_of_sides, Standing.StandTogether}
+use Rattle.cell_model.specs.{declared.cell.Nets.Nets, Nets.AreNets}
 use Rattle.pair_rules.specs.Bound.{is_poly_on_diffusion}
-use Rattle.expand.specs.declared.master.Master.{Master}
-use Rattle.expand.specs.Masters.{IsMaster}
+use Rattle.expand.specs.{declared.master.Master.Master, Masters.IsMaster}
 use Rattle.buried_contacts.specs.Contacts.{IsFinished, common}
-use Rattle.plan_model.specs.declared.plan.Plan.{Plan}
-use Rattle.plan_model.specs.Instances.{Spot, IsSpot, master_at_spot, left_of, bottom_of}
+use Rattle.plan_model.specs.{declared.plan.Plan.Plan, Instances.{Spot, IsSpot, master_at_spot, left_of, bottom_of}}
 use Rattle.plan_model.specs.Plan.{grids_of}
 use Rattle.pitch_join.specs.Masters.{master_at, no_master}
-use Rattle.grid_rules.specs.Rules.{AreNetsOf, shifted_sides, item_in}
-use Rattle.grid_rules.proofs.Apart.{all_apart}
-use Rattle.grid_rules.proofs.Gaps.{IsDone, ruled}
-use Rattle.grid_rules.proofs.Meeting.{master_among, spot_is}
-use Rattle.grid_rules.specs.Conductors.{Drawn, IsDrawn, item_of, gap_of_drawn}
-use Rattle.grid_rules.specs.Meetings.{master_of, at, EnclosesBy}
+use Rattle.grid_rules.specs.{Rules.{AreNetsOf, shifted_sides, item_in}, Conductors.{Drawn, IsDrawn, item_of}}
+use Rattle.grid_rules.specs.{Conductors.gap_of_drawn, Meetings.{master_of, at, EnclosesBy}}
+use Rattle.grid_rules.proofs.{Apart.all_apart, Gaps.{IsDone, ruled}, Meeting.{master_among, spot_is}}
 
 -- ---- instances
 

@@ -1,38 +1,23 @@
 -- What is linked is of one net.
-use Rattle.std.proofs.Common.{◌≡◌, ◌≢◌, ℕ, ℤ, pos, ◌≤ℤ◌, ◌<ℤ◌, Bool, true, false, List, Some, refl, sym, ap, ◌∙◌, subst, arith, inl, inr}
-use Rattle.std.proofs.lemmas.Bool.{cases_eq}
-use Rattle.std.proofs.lemmas.Int.{ints}
-use Rattle.std.proofs.lemmas.List.Elements.{Contains-get_or}
-use Rattle.rule_table.specs.declared.technology.Tech.{Tech}
-use Rattle.rule_table.specs.declared.classes.Class.{Class}
-use Rattle.rule_table.specs.declared.classes.Class.TheVariants.{M, P, Dc, Dm, C}
-use Rattle.rule_table.specs.declared.classes.Rule.{Rule}
-use Rattle.rule_table.specs.Spacing.{spacing_in}
-use Rattle.rule_table.specs.Technology.{numbers_of, spacing_of}
-use Rattle.sym_items.specs.declared.items.Coords.{Coords}
-use Rattle.sym_items.specs.Standing.{StandsAt}
-use Rattle.cell_model.specs.declared.cell.Axis2.{Axis2}
-use Rattle.cell_model.specs.declared.cell.NodeKind.TheVariants.{Contact, Fet}
-use Rattle.cell_model.specs.declared.cell.Nets.{Nets}
+use Rattle.std.proofs.Common.{◌≡◌, ◌≢◌, ℕ, ℤ, pos, ◌≤ℤ◌, ◌<ℤ◌, Bool, true, false, List, Some, refl, sym, ap, ◌∙◌, subst}
+use Rattle.std.proofs.{Common.{arith, inl, inr}, lemmas.{Bool.cases_eq, Int.ints, List.Elements.Contains-get_or}}
+use Rattle.rule_table.specs.declared.{technology.Tech.Tech, classes.Class.{Class, TheVariants.{M, P, Dc, Dm, C}}}
+use Rattle.rule_table.specs.{declared.classes.Rule.Rule, Spacing.spacing_in, Technology.{numbers_of, spacing_of}}
+use Rattle.sym_items.specs.{declared.items.Coords.Coords, Standing.StandsAt}
+use Rattle.cell_model.specs.declared.cell.{Axis2.Axis2, NodeKind.TheVariants.{Contact, Fet}, Nets.Nets}
 use Rattle.pair_rules.specs.Bound.{no_item, is_poly_on_diffusion}
 use Rattle.expand.specs.declared.master.Master.{Master}
 use Rattle.buried_contacts.specs.Contacts.{kind_of}
-use Rattle.plan_model.specs.declared.plan.Plan.{Plan}
-use Rattle.plan_model.specs.GridNets.{IsOneNet, the_same}
-use Rattle.plan_model.specs.Instances.{Spot}
-use Rattle.plan_model.specs.Plan.{grids_of}
+use Rattle.plan_model.specs.{declared.plan.Plan.Plan, GridNets.{IsOneNet, the_same}, Instances.Spot, Plan.grids_of}
 use Rattle.pitch_join.specs.Masters.{ports_of_masters}
-use Rattle.grid_rules.specs.Rules.{AreNetsOf, item_in, items_at}
-use Rattle.grid_rules.proofs.Gaps.{IsDone, IsItemAt, ruled}
-use Rattle.grid_rules.proofs.Meeting.{master_is}
-use Rattle.grid_rules.proofs.OneNet.{one_net_then, one_net_back}
-use Rattle.grid_rules.specs.Conductors.{Drawn, IsDrawn, item_of, sides_of_drawn, gap_of_drawn, Conducts, IsConductor, AreOfOneBox, AreOfOneNet, AreAtOneContact, by_touch, by_cut, by_contact, by_contact_back, LinksKeepNets}
+use Rattle.grid_rules.specs.{Rules.{AreNetsOf, item_in, items_at}, Conductors.{Drawn, IsDrawn, item_of, sides_of_drawn}}
+use Rattle.grid_rules.specs.Conductors.{gap_of_drawn, Conducts, IsConductor, AreOfOneBox, AreOfOneNet, AreAtOneContact}
+use Rattle.grid_rules.specs.Conductors.{by_touch, by_cut, by_contact, by_contact_back, LinksKeepNets}
 use Rattle.grid_rules.specs.Meetings.{master_of, at, IsOfClass, EnclosesBy, IsTransistorAt}
-use Rattle.grid_rules.proofs.MeetingCuts.{IsRoundCut, LowerBoxes, on_poly, on_diffusion, ContactOf, contact_of, under_mask}
-use Rattle.grid_rules.proofs.MeetingGaps.{spots_differ, nearer}
-use Rattle.grid_rules.proofs.MeetingNets.{contact_net}
-use Rattle.grid_rules.proofs.MeetingPoly.{poly_meets}
-use Rattle.grid_rules.proofs.MeetingTouch.{AreRuled, apart_or_one_net, sides_turned}
+use Rattle.grid_rules.proofs.{Gaps.{IsDone, IsItemAt, ruled}, Meeting.master_is, OneNet.{one_net_then, one_net_back}}
+use Rattle.grid_rules.proofs.MeetingCuts.{IsRoundCut, LowerBoxes, on_poly, on_diffusion, ContactOf, contact_of}
+use Rattle.grid_rules.proofs.{MeetingCuts.under_mask, MeetingGaps.{spots_differ, nearer}, MeetingNets.contact_net}
+use Rattle.grid_rules.proofs.{MeetingPoly.poly_meets, MeetingTouch.{AreRuled, apart_or_one_net, sides_turned}}
 
 -- ---- rules of conductors
 

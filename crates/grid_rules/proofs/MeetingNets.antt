@@ -1,40 +1,26 @@
 -- The nets of items that stand at a buried contact.
-use Rattle.std.proofs.Common.{◌≡◌, ℕ, zero, suc, ◌+◌, ◌<◌, Bool, true, false, List, [], ◌∷◌, ◌++◌, length, map, take, cond, Contains, refl, sym, ap, ◌∙◌, subst, arith, inl, inr, ◌⊎◌}
-use Rattle.std.specs.Prelude.{slice_index}
-use Rattle.std.specs.List.{AllByRecursion}
-use Rattle.std.proofs.lemmas.List.{get_or-drop}
-use Rattle.std.proofs.lemmas.List.Elements.{Contains-append_left, Contains-append_right}
-use Rattle.std.proofs.lemmas.List.Sums.{sum_by-cons, sum_by_more_le}
-use Rattle.rule_table.specs.declared.technology.Tech.{Tech}
-use Rattle.rule_table.specs.declared.classes.Layer.{Layer}
-use Rattle.sym_items.specs.declared.items.Item.{Item}
-use Rattle.sym_items.specs.Standing.{nowhere, StandsAt}
-use Rattle.cell_model.specs.declared.cell.Axis2.{Axis2}
-use Rattle.cell_model.specs.declared.cell.Axis2.TheVariants.{Across, Up}
-use Rattle.cell_model.specs.declared.cell.NodeKind.{NodeKind}
-use Rattle.cell_model.specs.declared.cell.NodeKind.TheVariants.{Joint, Contact, Buried, Fet}
-use Rattle.cell_model.specs.declared.cell.Node.{Node}
-use Rattle.cell_model.specs.declared.cell.NodeNets.{NodeNets}
-use Rattle.cell_model.specs.declared.cell.Nets.{Nets}
-use Rattle.cell_model.specs.declared.cell.Cell.{Cell}
-use Rattle.cell_model.specs.declared.cell.Wire.{Wire}
-use Rattle.cell_model.specs.declared.cell.WireEnd.{WireEnd}
+use Rattle.std.proofs.Common.{◌≡◌, ℕ, zero, suc, ◌+◌, ◌<◌, Bool, true, false, List, [], ◌∷◌, ◌++◌, length, map, take}
+use Rattle.std.proofs.Common.{cond, Contains, refl, sym, ap, ◌∙◌, subst, arith, inl, inr, ◌⊎◌}
+use Rattle.std.proofs.lemmas.List.{get_or-drop, Elements.{Contains-append_left, Contains-append_right}}
+use Rattle.std.{proofs.lemmas.List.Sums.{sum_by-cons, sum_by_more_le}, specs.{Prelude.slice_index, List.AllByRecursion}}
+use Rattle.rule_table.specs.declared.{technology.Tech.Tech, classes.Layer.Layer}
+use Rattle.sym_items.specs.{declared.items.Item.Item, Standing.{nowhere, StandsAt}}
+use Rattle.cell_model.specs.declared.cell.{Axis2.{Axis2, TheVariants.{Across, Up}}, NodeKind.NodeKind}
+use Rattle.cell_model.specs.declared.cell.{NodeKind.TheVariants.{Joint, Contact, Buried, Fet}, Node.Node}
+use Rattle.cell_model.specs.declared.cell.{NodeNets.NodeNets, Nets.Nets, Cell.Cell, Wire.Wire, WireEnd.WireEnd}
+use Rattle.cell_model.specs.Nets.{kind_parts, node_parts, first_part, joined_part, end_parts, with_each, attachments}
+use Rattle.cell_model.specs.{Nets.{attachments_of, nets_of_kind, nets_of_nodes, AreNets}, Sound.{node_at, wire_at}}
+use Rattle.cell_model.specs.Sound.{no_node, IsEnd}
 use Rattle.cell_model.specs.declared.cell.WireEnd.TheVariants as ends
-use Rattle.cell_model.specs.Nets.{kind_parts, node_parts, first_part, joined_part, end_parts, with_each, attachments, attachments_of, nets_of_kind, nets_of_nodes, AreNets}
-use Rattle.cell_model.specs.Sound.{node_at, wire_at, no_node, IsEnd}
 use Rattle.graph_search.specs.Netting.{Attached, Reaches}
 use Rattle.pair_rules.specs.Bound.{no_item, item_at}
 use Rattle.list_facts.proofs.Elements.{all_at}
-use Rattle.expand.specs.declared.master.Master.{Master}
-use Rattle.expand.specs.Masters.{IsMaster}
-use Rattle.expand.specs.Items.{nets_at, items_of_node}
-use Rattle.expand.specs.NodeItems.{item_running, channel_items, kind_items}
-use Rattle.expand.specs.Variables.{half}
-use Rattle.expand.proofs.Cells.{wire_sound}
-use Rattle.buried_contacts.proofs.Contacts.{stands_there}
-use Rattle.buried_contacts.proofs.Owners.{layer_boxes, items_owned, item_keeps, box_of_owner, IsBoxOfWire}
-use Rattle.grid_rules.proofs.AtPorts.{net_of_box}
-use Rattle.grid_rules.proofs.MeetingBlocks.{run_node, stands_in, OwnerOf, a_node, a_wire, owner_of}
+use Rattle.expand.specs.{declared.master.Master.Master, Masters.IsMaster, Items.{nets_at, items_of_node}}
+use Rattle.expand.{specs.{NodeItems.{item_running, channel_items, kind_items}, Variables.half}, proofs.Cells.wire_sound}
+use Rattle.buried_contacts.proofs.{Contacts.stands_there, Owners.{layer_boxes, items_owned, item_keeps, box_of_owner}}
+use Rattle.buried_contacts.proofs.Owners.{IsBoxOfWire}
+use Rattle.grid_rules.proofs.{AtPorts.net_of_box, MeetingBlocks.{run_node, stands_in, OwnerOf, a_node, a_wire}}
+use Rattle.grid_rules.proofs.MeetingBlocks.{owner_of}
 
 -- ---- a wire has the net of a buried contact at which it ends
 

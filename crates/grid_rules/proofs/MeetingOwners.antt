@@ -1,22 +1,17 @@
 -- What items each owner has, in all instances.
 use Rattle.std.proofs.Common.{◌≡◌, ℕ, ◌+◌, ◌<◌, ℤ, Bool, List, length, refl, sym, ap, ◌∙◌, arith, inl, inr, ◌⊎◌}
-use Rattle.rule_table.specs.declared.technology.Tech.{Tech}
-use Rattle.rule_table.specs.declared.classes.Class.{Class}
-use Rattle.rule_table.specs.declared.classes.Class.TheVariants.{M, P, Dc, Dm}
-use Rattle.sym_items.specs.declared.items.Coords.{Coords}
-use Rattle.sym_items.specs.declared.items.Item.{Item}
+use Rattle.rule_table.specs.declared.{technology.Tech.Tech, classes.Class.{Class, TheVariants.{M, P, Dc, Dm}}}
+use Rattle.sym_items.specs.declared.items.{Coords.Coords, Item.Item}
 use Rattle.cell_model.specs.declared.cell.Axis2.{Axis2}
 use Rattle.list_facts.proofs.Elements.{all_at}
 use Rattle.pair_rules.specs.Bound.{no_item, item_at}
 use Rattle.expand.specs.declared.master.Master.{Master}
 use Rattle.plan_model.specs.declared.plan.Plan.{Plan}
-use Rattle.grid_rules.specs.Planned.{AreOfPlan}
-use Rattle.grid_rules.specs.Rules.{items_at, sides_at_spot}
-use Rattle.grid_rules.proofs.Meeting.{master_is}
-use Rattle.grid_rules.specs.Conductors.{Drawn, item_of}
-use Rattle.grid_rules.specs.Meetings.{master_of, at, IsOfClass, IsOwned, IsTransistorAt, IsOnePiece, DiffusionConducts, PiecesHaveMasks, OwnersHaveOne}
-use Rattle.grid_rules.proofs.MeetingRuns.{IsRun, HasOwner, places, IsSingle, found, single}
-use Rattle.grid_rules.proofs.MeetingBlocks.{StandsIn, stands_in, class_in, IsOnePieceIn, IsPlaced, IsOfTransistor, placed}
+use Rattle.grid_rules.specs.{Planned.AreOfPlan, Rules.{items_at, sides_at_spot}, Conductors.{Drawn, item_of}}
+use Rattle.grid_rules.specs.Meetings.{master_of, at, IsOfClass, IsOwned, IsTransistorAt, IsOnePiece, DiffusionConducts}
+use Rattle.grid_rules.{specs.Meetings.{PiecesHaveMasks, OwnersHaveOne}, proofs.{Meeting.master_is, MeetingRuns.IsRun}}
+use Rattle.grid_rules.proofs.{MeetingRuns.{HasOwner, places, IsSingle, found, single}, MeetingBlocks.StandsIn}
+use Rattle.grid_rules.proofs.MeetingBlocks.{stands_in, class_in, IsOnePieceIn, IsPlaced, IsOfTransistor, placed}
 
 -- ---- in a list
 

@@ -1,34 +1,23 @@
 -- Where poly lies over diffusion in all instances, and where windows lie.
-use Rattle.std.proofs.Common.{◌≡◌, ℕ, ℤ, pos, ◌+ℤ◌, ◌-ℤ◌, ◌*ℤ◌, ◌≤ℤ◌, ◌<ℤ◌, true, false, List, Some, refl, sym, subst, arith, inl, inr, ◌⊎◌}
-use Rattle.std.proofs.lemmas.Int.{ints}
-use Rattle.rule_table.specs.declared.technology.Tech.{Tech}
-use Rattle.rule_table.specs.declared.classes.Class.TheVariants.{P, Dm, G, B}
-use Rattle.rule_table.specs.declared.classes.Rule.{Rule}
-use Rattle.rule_table.specs.Spacing.{spacing_in}
-use Rattle.rule_table.specs.Technology.{numbers_of, has_buried_of, spacing_of}
-use Rattle.sym_items.specs.declared.items.Coords.{Coords}
-use Rattle.sym_items.specs.Sides.{Sides, sides_in, gap_in, gap_of_sides}
-use Rattle.sym_items.specs.Standing.{StandTogether}
-use Rattle.cell_model.specs.declared.cell.NodeKind.{NodeKind}
-use Rattle.cell_model.specs.declared.cell.NodeKind.TheVariants.{Joint, Contact, Buried, Fet}
-use Rattle.cell_model.specs.Sound.{IsKind}
-use Rattle.cell_model.specs.Wiring.{buried_pad}
-use Rattle.expand.specs.declared.master.Master.{Master}
-use Rattle.expand.specs.Variables.{half, centre}
-use Rattle.sym_items.specs.Values.{value_of}
-use Rattle.expand.proofs.Among.{buried_size}
-use Rattle.expand.proofs.Cells.{node_sound}
+use Rattle.std.proofs.Common.{◌≡◌, ℕ, ℤ, pos, ◌+ℤ◌, ◌-ℤ◌, ◌*ℤ◌, ◌≤ℤ◌, ◌<ℤ◌, true, false, List, Some, refl, sym, subst}
+use Rattle.std.proofs.{Common.{arith, inl, inr, ◌⊎◌}, lemmas.Int.ints}
+use Rattle.rule_table.specs.declared.{technology.Tech.Tech, classes.{Class.TheVariants.{P, Dm, G, B}, Rule.Rule}}
+use Rattle.rule_table.specs.{Spacing.spacing_in, Technology.{numbers_of, has_buried_of, spacing_of}}
+use Rattle.sym_items.specs.{declared.items.Coords.Coords, Sides.{Sides, sides_in, gap_in, gap_of_sides}}
+use Rattle.sym_items.specs.{Standing.StandTogether, Values.value_of}
+use Rattle.cell_model.specs.declared.cell.NodeKind.{NodeKind, TheVariants.{Joint, Contact, Buried, Fet}}
+use Rattle.cell_model.specs.{Sound.IsKind, Wiring.buried_pad}
+use Rattle.expand.specs.{declared.master.Master.Master, Variables.{half, centre}}
+use Rattle.expand.proofs.{Among.buried_size, Cells.node_sound}
 use Rattle.buried_contacts.specs.Contacts.{IsTransistor, common, kind_of, pad_at, window_at, square_at}
 use Rattle.buried_contacts.proofs.Contacts.{overlap_there, shared, have_windows, windows_off}
-use Rattle.plan_model.specs.declared.plan.Plan.{Plan}
-use Rattle.plan_model.specs.Instances.{Spot}
-use Rattle.grid_rules.specs.Rules.{shifted_sides, item_in}
-use Rattle.grid_rules.proofs.Gaps.{IsDone}
-use Rattle.grid_rules.proofs.Meeting.{master_is}
-use Rattle.grid_rules.specs.Conductors.{item_of, gap_of_drawn}
-use Rattle.grid_rules.specs.Meetings.{master_of, at, IsOfClass, EnclosesBy, AreOfOneTransistor, StandAtOne, PolyMeetsDiffusion, IsBuriedContact, ContactsAreBuried, WindowsKeepOff}
-use Rattle.grid_rules.proofs.MeetingBlocks.{IsTransistorKind}
-use Rattle.grid_rules.proofs.MeetingGaps.{spots_differ, layout_of, finished_at, x_of, y_of, gap_inside, common_overlaps, common_shifted, encloses_shifted, apart_elsewhere, of_classes}
+use Rattle.plan_model.specs.{declared.plan.Plan.Plan, Instances.Spot}
+use Rattle.grid_rules.specs.{Rules.{shifted_sides, item_in}, Conductors.{item_of, gap_of_drawn}, Meetings.master_of}
+use Rattle.grid_rules.specs.Meetings.{at, IsOfClass, EnclosesBy, AreOfOneTransistor, StandAtOne, PolyMeetsDiffusion}
+use Rattle.grid_rules.specs.Meetings.{IsBuriedContact, ContactsAreBuried, WindowsKeepOff}
+use Rattle.grid_rules.proofs.{Gaps.IsDone, Meeting.master_is, MeetingBlocks.IsTransistorKind, MeetingGaps.spots_differ}
+use Rattle.grid_rules.proofs.MeetingGaps.{layout_of, finished_at, x_of, y_of, gap_inside, common_overlaps}
+use Rattle.grid_rules.proofs.MeetingGaps.{common_shifted, encloses_shifted, apart_elsewhere, of_classes}
 
 -- ---- rules
 

@@ -1,46 +1,26 @@
 -- Two items of all instances whose classes have a rule keep its spacing, or are of one net.
-use Rattle.std.proofs.Common.{◌≡◌, ◌≢◌, ℕ, suc, ◌+◌, ◌<◌, ℤ, ◌+ℤ◌, ◌≤ℤ◌, true, List, length, Some, refl, sym, ap, ◌∙◌, subst, arith, inl, inr, ◌⊎◌}
-use Rattle.std.specs.Prelude.{IsTrue, slice_index}
-use Rattle.std.specs.Int.{int_max}
-use Rattle.std.proofs.lemmas.Bool.{cases_eq, cases_lt}
-use Rattle.std.proofs.lemmas.Int.{ints, clamps}
-use Rattle.lam_geom.specs.declared.boxes.Axis.{Axis}
-use Rattle.lam_geom.specs.declared.boxes.Axis.TheVariants.{X, Y}
-use Rattle.lam_geom.specs.Gaps.{gap_between}
-use Rattle.rule_table.specs.declared.classes.Layer.{Layer}
-use Rattle.rule_table.specs.declared.classes.Rule.{Rule}
-use Rattle.rule_table.specs.declared.technology.Tech.{Tech}
-use Rattle.rule_table.specs.Technology.{numbers_of, spacing_of, widest_of}
-use Rattle.rule_table.proofs.Margins.{spacing_in-symmetric}
-use Rattle.sym_items.specs.declared.items.Coords.{Coords}
-use Rattle.sym_items.specs.declared.items.Item.{Item}
-use Rattle.sym_items.specs.Layouts.{layout_at, size_in}
-use Rattle.sym_items.specs.Sides.{Sides, sides_in, gap_of_sides}
-use Rattle.sym_items.specs.Standing.{StandTogether}
-use Rattle.sym_items.specs.Transposed.{item_along}
-use Rattle.cell_model.specs.declared.cell.Cell.{Cell}
-use Rattle.cell_model.specs.declared.cell.Nets.{Nets}
-use Rattle.cell_model.specs.Sound.{wire_at}
-use Rattle.pair_rules.specs.Bound.{is_poly_on_diffusion, IsBound}
-use Rattle.pair_rules.proofs.EitherOrder.{lies_either}
+use Rattle.std.proofs.Common.{◌≡◌, ◌≢◌, ℕ, suc, ◌+◌, ◌<◌, ℤ, ◌+ℤ◌, ◌≤ℤ◌, true, List, length, Some, refl, sym, ap, ◌∙◌}
+use Rattle.std.proofs.{Common.{subst, arith, inl, inr, ◌⊎◌}, lemmas.{Bool.{cases_eq, cases_lt}, Int.{ints, clamps}}}
+use Rattle.std.specs.{Prelude.{IsTrue, slice_index}, Int.int_max}
+use Rattle.lam_geom.specs.{declared.boxes.Axis.{Axis, TheVariants.{X, Y}}, Gaps.gap_between}
+use Rattle.rule_table.specs.{declared.{classes.{Layer.Layer, Rule.Rule}, technology.Tech.Tech}, Technology.numbers_of}
+use Rattle.rule_table.{specs.Technology.{spacing_of, widest_of}, proofs.Margins.spacing_in-symmetric}
+use Rattle.sym_items.specs.{declared.items.{Coords.Coords, Item.Item}, Layouts.{layout_at, size_in}, Sides.Sides}
+use Rattle.sym_items.specs.{Sides.{sides_in, gap_of_sides}, Standing.StandTogether, Transposed.item_along}
+use Rattle.cell_model.specs.{declared.cell.{Cell.Cell, Nets.Nets}, Sound.wire_at}
+use Rattle.pair_rules.{specs.Bound.{is_poly_on_diffusion, IsBound}, proofs.EitherOrder.lies_either}
 use Rattle.expand.specs.declared.master.Master.{Master}
 use Rattle.buried_contacts.proofs.Owners.{LayerHas, IsBoxOfWire, item_keeps, wire_box}
 use Rattle.plan_model.specs.declared.plan.Plan.{Plan}
-use Rattle.plan_model.specs.GridNets.{IsBehind, IsOneNet, the_same}
-use Rattle.plan_model.specs.Instances.{Spot, master_at_spot}
-use Rattle.plan_model.specs.Plan.{grids_of}
+use Rattle.plan_model.specs.{GridNets.{IsBehind, IsOneNet, the_same}, Instances.{Spot, master_at_spot}, Plan.grids_of}
 use Rattle.pitch_join.specs.Masters.{ports_of_masters}
-use Rattle.grid_rules.specs.Rules.{AreNetsOf, sides_at_spot, items_at}
-use Rattle.grid_rules.proofs.AtPorts.{spaced_in, net_of_box, not_together, apart_on_other, both_far}
-use Rattle.grid_rules.proofs.Gaps.{IsDone, IsItemAt, IsRuled, ruled, values_at, gap_at, gap_suffices, gap_turned, gap_at_turned, lies_there, grids_laid, apart_with_cell_between, apart_off_border, apart_in_grids}
-use Rattle.grid_rules.proofs.InCell.{BeginsOnBorder, EndsOnBorder}
-use Rattle.grid_rules.proofs.Meeting.{master_among, master_is, port_meets, spot_is}
-use Rattle.grid_rules.proofs.OnBorder.{other, cross_off, items_border}
-use Rattle.grid_rules.proofs.OneNet.{one_net_back}
-use Rattle.grid_rules.proofs.Pairs.{joins, stands_for}
-use Rattle.grid_rules.proofs.Places.{place_of, stands_level}
-use Rattle.grid_rules.proofs.Ports.{port_of_wire}
-use Rattle.grid_rules.specs.Meetings.{master_of}
+use Rattle.grid_rules.specs.{Rules.{AreNetsOf, sides_at_spot, items_at}, Meetings.master_of}
+use Rattle.grid_rules.proofs.{AtPorts.{spaced_in, net_of_box, not_together, apart_on_other, both_far}, Gaps.IsDone}
+use Rattle.grid_rules.proofs.Gaps.{IsItemAt, IsRuled, ruled, values_at, gap_at, gap_suffices, gap_turned, gap_at_turned}
+use Rattle.grid_rules.proofs.Gaps.{lies_there, grids_laid, apart_with_cell_between, apart_off_border, apart_in_grids}
+use Rattle.grid_rules.proofs.{InCell.{BeginsOnBorder, EndsOnBorder}, Meeting.{master_among, master_is, port_meets}}
+use Rattle.grid_rules.proofs.{Meeting.spot_is, OnBorder.{other, cross_off, items_border}, OneNet.one_net_back}
+use Rattle.grid_rules.proofs.{Pairs.{joins, stands_for}, Places.{place_of, stands_level}, Ports.port_of_wire}
 use Rattle.grid_rules.proofs.MeetingGaps.{spots_differ, x_of, y_of, shift_together}
 
 -- Two items have a rule: they have different owners, told apart by instance, their classes have a rule, and no buried contact joins them.

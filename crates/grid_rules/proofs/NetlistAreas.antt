@@ -1,23 +1,14 @@
 -- Where the low and the high piece of crossed diffusion lie.
-use Rattle.std.proofs.Common.{◌≡◌, ℤ, ◌≤ℤ◌, refl, sym, ap, ◌∙◌, subst, arith}
+use Rattle.std.proofs.{Common.{◌≡◌, ℤ, ◌≤ℤ◌, refl, sym, ap, ◌∙◌, subst, arith}, lemmas.Int.{ints, clamps}}
 use Rattle.std.specs.Int.{int_max, int_min}
-use Rattle.std.proofs.lemmas.Int.{ints, clamps}
-use Rattle.lam_geom.specs.declared.boxes.Axis.{Axis}
-use Rattle.lam_geom.specs.declared.boxes.Axis.TheVariants.{X, Y}
-use Rattle.lam_geom.specs.declared.boxes.BoxXY.{BoxXY}
-use Rattle.lam_geom.specs.Gaps.{span_along}
+use Rattle.lam_geom.specs.{declared.boxes.{Axis.{Axis, TheVariants.{X, Y}}, BoxXY.BoxXY}, Gaps.span_along}
 use Rattle.rule_table.specs.declared.technology.Tech.{Tech}
-use Rattle.sym_items.specs.Sides.{Sides, sides_of}
-use Rattle.sym_items.specs.Transposed.{sides_along}
-use Rattle.cell_model.specs.declared.cell.Axis2.{Axis2}
-use Rattle.cell_model.specs.declared.cell.Axis2.TheVariants.{Across, Up}
+use Rattle.sym_items.specs.{Sides.{Sides, sides_of}, Transposed.sides_along}
+use Rattle.cell_model.specs.declared.cell.Axis2.{Axis2, TheVariants.{Across, Up}}
 use Rattle.buried_contacts.specs.Contacts.{axis_along}
-use Rattle.crossings.specs.declared.crossing.Crossing.{Crossing}
-use Rattle.crossings.specs.Boxes.{other, IsCommon, grains}
+use Rattle.crossings.specs.{declared.crossing.Crossing.Crossing, Boxes.{other, IsCommon, grains}}
 use Rattle.net_extract.specs.Extraction.{Spans, IsLowPiece, IsHighPiece}
-use Rattle.grid_rules.specs.Meetings.{below, above}
-use Rattle.grid_rules.specs.Shapes.{sides_in_grains}
-use Rattle.grid_rules.proofs.MeetingGaps.{same_sides}
+use Rattle.grid_rules.{specs.{Meetings.{below, above}, Shapes.sides_in_grains}, proofs.MeetingGaps.same_sides}
 
 -- a piece of a box beside a channel, for a gate along an axis
 abbrev LowAt : Axis → BoxXY → BoxXY → BoxXY → Type 0

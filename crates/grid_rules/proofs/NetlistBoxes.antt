@@ -1,26 +1,21 @@
 -- Boxes that show items, by number: their layers, and how they lie in grains.
 use Rattle.std.proofs.Common.{◌≡◌, ℕ, ◌<◌, ℤ, pos, ◌≤ℤ◌, ◌<ℤ◌, List, length, Some, refl, sym, ap, ◌∙◌, subst, arith}
-use Rattle.std.specs.Option.{unwrap_or}
-use Rattle.std.proofs.lemmas.Int.{ints, clamps}
-use Rattle.lam_geom.specs.declared.boxes.BoxXY.{BoxXY}
-use Rattle.lam_geom.specs.declared.boxes.MaskBox.{MaskBox}
-use Rattle.lam_geom.specs.declared.boxes.MaskLayer.{MaskLayer}
-use Rattle.lam_geom.specs.declared.boxes.MaskLayer.TheVariants.{ND}
+use Rattle.std.{proofs.lemmas.Int.{ints, clamps}, specs.Option.unwrap_or}
+use Rattle.lam_geom.specs.declared.boxes.{BoxXY.BoxXY, MaskBox.MaskBox, MaskLayer.{MaskLayer, TheVariants.ND}}
 use Rattle.lam_geom.specs.Gaps.{Touches, Overlaps, Encloses}
 use Rattle.rule_table.specs.declared.technology.Tech.{Tech}
-use Rattle.sym_items.specs.declared.items.Coords.{Coords}
-use Rattle.sym_items.specs.Sides.{Sides, sides_of, gap_of_sides}
+use Rattle.sym_items.specs.{declared.items.Coords.Coords, Sides.{Sides, sides_of, gap_of_sides}}
 use Rattle.expand.specs.declared.master.Master.{Master}
 use Rattle.buried_contacts.specs.Contacts.{common}
 use Rattle.plan_model.specs.declared.plan.Plan.{Plan}
 use Rattle.mask_out.specs.Masks.{layer_drawn}
 use Rattle.crossings.specs.Boxes.{area_at, layer_at, IsOn, IsCommon, grains}
-use Rattle.grid_rules.specs.Conductors.{Drawn, item_of, sides_of_drawn, gap_of_drawn}
-use Rattle.grid_rules.specs.Meetings.{IsOfClass, EnclosesBy}
-use Rattle.grid_rules.specs.Shapes.{Shows, layer_of, sides_in_grains, AreShapes}
-use Rattle.grid_rules.proofs.MeetingGaps.{same_sides}
-use Rattle.grid_rules.proofs.NetlistScale.{overlap_in_grains, overlap_from_grains, touch_in_grains, touch_from_grains, encloses_in_grains, encloses_from_grains}
-use Rattle.grid_rules.proofs.NetlistShapes.{class_of_layer, class_back, layer_there, shown, number, each_shown, shown_below}
+use Rattle.grid_rules.specs.{Conductors.{Drawn, item_of, sides_of_drawn, gap_of_drawn}, Meetings.IsOfClass}
+use Rattle.grid_rules.specs.{Meetings.EnclosesBy, Shapes.{Shows, layer_of, sides_in_grains, AreShapes}}
+use Rattle.grid_rules.proofs.{MeetingGaps.same_sides, NetlistScale.{overlap_in_grains, overlap_from_grains}}
+use Rattle.grid_rules.proofs.NetlistScale.{touch_in_grains, touch_from_grains, encloses_in_grains, encloses_from_grains}
+use Rattle.grid_rules.proofs.NetlistShapes.{class_of_layer, class_back, layer_there, shown, number, each_shown}
+use Rattle.grid_rules.proofs.NetlistShapes.{shown_below}
 
 -- ---- boxes by their sides
 

@@ -1,23 +1,15 @@
 -- Poly and diffusion of a transistor as they cross: the same seen along either axis, in u and in grains.
-use Rattle.std.proofs.Common.{◌≡◌, ℤ, pos, ◌+ℤ◌, ◌-ℤ◌, ◌≤ℤ◌, ◌<ℤ◌, refl, ap, ◌∙◌, subst, arith}
-use Rattle.std.proofs.lemmas.Int.{ints}
-use Rattle.lam_geom.specs.declared.boxes.Axis.{Axis}
-use Rattle.lam_geom.specs.declared.boxes.Axis.TheVariants.{X, Y}
-use Rattle.lam_geom.specs.declared.boxes.BoxXY.{BoxXY}
-use Rattle.rule_table.specs.declared.technology.Tech.{Tech}
-use Rattle.rule_table.specs.Technology.{numbers_of}
-use Rattle.sym_items.specs.Sides.{Sides, sides_of, gap_of_sides}
-use Rattle.sym_items.specs.Transposed.{sides_along}
-use Rattle.cell_model.specs.declared.cell.Axis2.{Axis2}
-use Rattle.cell_model.specs.declared.cell.Axis2.TheVariants.{Across, Up}
+use Rattle.std.proofs.{Common.{◌≡◌, ℤ, pos, ◌+ℤ◌, ◌-ℤ◌, ◌≤ℤ◌, ◌<ℤ◌, refl, ap, ◌∙◌, subst, arith}, lemmas.Int.ints}
+use Rattle.lam_geom.specs.declared.boxes.{Axis.{Axis, TheVariants.{X, Y}}, BoxXY.BoxXY}
+use Rattle.rule_table.specs.{declared.technology.Tech.Tech, Technology.numbers_of}
+use Rattle.sym_items.specs.{Sides.{Sides, sides_of, gap_of_sides}, Transposed.sides_along}
+use Rattle.cell_model.specs.declared.cell.Axis2.{Axis2, TheVariants.{Across, Up}}
 use Rattle.expand.proofs.Among.{sound_numbers}
 use Rattle.buried_contacts.specs.Contacts.{axis_along, common}
-use Rattle.crossings.specs.Boxes.{extent, other, grains}
-use Rattle.crossings.specs.Crossings.{CrossAlong}
-use Rattle.grid_rules.specs.Meetings.{CrossAt}
-use Rattle.grid_rules.specs.Shapes.{sides_in_grains}
-use Rattle.grid_rules.proofs.MeetingGaps.{same_sides, common_overlaps}
-use Rattle.grid_rules.proofs.NetlistScale.{grains_positive, margin_exact, length_in_grains}
+use Rattle.crossings.specs.{Boxes.{extent, other, grains}, Crossings.CrossAlong}
+use Rattle.grid_rules.specs.{Meetings.CrossAt, Shapes.sides_in_grains}
+use Rattle.grid_rules.proofs.{MeetingGaps.{same_sides, common_overlaps}, NetlistScale.{grains_positive, margin_exact}}
+use Rattle.grid_rules.proofs.NetlistScale.{length_in_grains}
 
 -- the channel is what they have in common, whichever way it is seen
 pub channel_shared : (tech : Tech) (gate : Axis2) (w l : ℤ) (p d c : Sides) → CrossAt tech w l (sides_along (axis_along gate) p) (sides_along (axis_along gate) d) (sides_along (axis_along gate) c) → c ≡ common p d

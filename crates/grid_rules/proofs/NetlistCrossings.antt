@@ -1,34 +1,22 @@
 -- The crossings of boxes that show the instances are their transistors.
 use Rattle.std.proofs.Common.{◌≡◌, ℕ, ℤ, Bool, true, false, List, refl, sym, ap, ◌∙◌, subst}
-use Rattle.std.specs.Prelude.{IsTrue}
-use Rattle.std.proofs.lemmas.List.Elements.{All-weaker, All-contains}
-use Rattle.lam_geom.specs.declared.boxes.Axis.{Axis}
-use Rattle.lam_geom.specs.declared.boxes.BoxXY.{BoxXY}
-use Rattle.lam_geom.specs.declared.boxes.MaskBox.{MaskBox}
-use Rattle.lam_geom.specs.declared.boxes.MaskLayer.TheVariants.{ND, NP, NI}
-use Rattle.rule_table.specs.declared.technology.Tech.{Tech}
-use Rattle.rule_table.specs.declared.classes.Class.TheVariants.{G}
-use Rattle.rule_table.specs.Technology.{numbers_of}
+use Rattle.std.{proofs.lemmas.List.Elements.{All-weaker, All-contains}, specs.Prelude.IsTrue}
+use Rattle.lam_geom.specs.declared.boxes.{Axis.Axis, BoxXY.BoxXY, MaskBox.MaskBox, MaskLayer.TheVariants.{ND, NP, NI}}
+use Rattle.rule_table.specs.{declared.{technology.Tech.Tech, classes.Class.TheVariants.G}, Technology.numbers_of}
 use Rattle.cell_model.specs.declared.cell.Axis2.{Axis2}
-use Rattle.sym_items.specs.declared.items.Coords.{Coords}
-use Rattle.sym_items.specs.Sides.{Sides, sides_of}
+use Rattle.sym_items.specs.{declared.items.Coords.Coords, Sides.{Sides, sides_of}}
 use Rattle.expand.specs.declared.master.Master.{Master}
 use Rattle.buried_contacts.specs.Contacts.{axis_along, common}
-use Rattle.plan_model.specs.declared.plan.Plan.{Plan}
-use Rattle.plan_model.specs.Instances.{Spot}
-use Rattle.crossings.specs.declared.crossing.Crossing.{Crossing}
-use Rattle.crossings.specs.Boxes.{area_at, extent, other}
-use Rattle.crossings.specs.Crossings.{CrossAlong, IsOverlap, IsImplanted, IsCrossing, AreCrossings}
-use Rattle.grid_rules.proofs.Gaps.{IsDone}
-use Rattle.grid_rules.specs.Conductors.{Drawn, sides_of_drawn}
-use Rattle.grid_rules.specs.Meetings.{at, IsOwned, IsTransistorAt}
-use Rattle.grid_rules.specs.Shapes.{Shows, sides_in_grains, AreShapes}
-use Rattle.grid_rules.specs.Sticks.{IsTransistor, IsOfNode, AreTransistors}
-use Rattle.grid_rules.proofs.MeetingBoxes.{knows, implants_tell}
-use Rattle.grid_rules.proofs.NetlistBoxes.{encloses_there, encloses_back, common_sides, is_common, sides_at, on_item, box_of}
-use Rattle.grid_rules.proofs.NetlistCross.{channel_extents, one_axis}
-use Rattle.grid_rules.proofs.NetlistMeetings.{IsFetPair, pair_cross, channel_is, meeting_fet, fet_meeting, pair_along, are_proper}
+use Rattle.plan_model.specs.{declared.plan.Plan.Plan, Instances.Spot}
+use Rattle.crossings.specs.{declared.crossing.Crossing.Crossing, Boxes.{area_at, extent, other}, Crossings.CrossAlong}
+use Rattle.crossings.specs.Crossings.{IsOverlap, IsImplanted, IsCrossing, AreCrossings}
+use Rattle.grid_rules.proofs.{Gaps.IsDone, MeetingBoxes.{knows, implants_tell}, NetlistBoxes.encloses_there}
+use Rattle.grid_rules.proofs.NetlistBoxes.{encloses_back, common_sides, is_common, sides_at, on_item, box_of}
+use Rattle.grid_rules.proofs.{NetlistCross.{channel_extents, one_axis}, NetlistMeetings.{IsFetPair, pair_cross}}
+use Rattle.grid_rules.proofs.NetlistMeetings.{channel_is, meeting_fet, fet_meeting, pair_along, are_proper}
 use Rattle.grid_rules.proofs.NetlistShapes.{one_number}
+use Rattle.grid_rules.specs.{Conductors.{Drawn, sides_of_drawn}, Meetings.{at, IsOwned, IsTransistorAt}, Shapes.Shows}
+use Rattle.grid_rules.specs.{Shapes.{sides_in_grains, AreShapes}, Sticks.{IsTransistor, IsOfNode, AreTransistors}}
 
 pub same_truth : (a b : Bool) → (a ≡ true → b ≡ true) → (b ≡ true → a ≡ true) → a ≡ b
 same_truth true true h k = refl

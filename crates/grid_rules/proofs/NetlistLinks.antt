@@ -1,37 +1,26 @@
 -- Pieces of boxes that show the instances are linked exactly where their conductors are.
-use Rattle.std.proofs.Common.{◌≡◌, ℕ, List, Some, refl, sym, ap, ◌∙◌, subst, inl, inr}
+use Rattle.std.proofs.{Common.{◌≡◌, ℕ, List, Some, refl, sym, ap, ◌∙◌, subst, inl, inr}, lemmas.Bool.cases_Bool}
 use Rattle.std.specs.Option.{unwrap_or}
-use Rattle.std.proofs.lemmas.Bool.{cases_Bool}
-use Rattle.lam_geom.specs.declared.boxes.MaskBox.{MaskBox}
-use Rattle.lam_geom.specs.declared.boxes.MaskLayer.{MaskLayer}
-use Rattle.lam_geom.specs.declared.boxes.MaskLayer.TheVariants.{ND, NP, NC}
-use Rattle.rule_table.specs.declared.technology.Tech.{Tech}
-use Rattle.rule_table.specs.declared.classes.Class.{Class}
-use Rattle.rule_table.specs.declared.classes.Class.TheVariants.{M, P, Dc, Dm, C, I, G, B}
-use Rattle.sym_items.specs.declared.items.Coords.{Coords}
-use Rattle.sym_items.specs.Sides.{Sides}
+use Rattle.lam_geom.specs.declared.boxes.{MaskBox.MaskBox, MaskLayer.{MaskLayer, TheVariants.{ND, NP, NC}}}
+use Rattle.rule_table.specs.declared.{technology.Tech.Tech, classes.Class.{Class, TheVariants.{M, P, Dc, Dm, C, I, G}}}
+use Rattle.rule_table.specs.declared.classes.Class.TheVariants.{B}
+use Rattle.sym_items.specs.{declared.items.Coords.Coords, Sides.Sides}
 use Rattle.expand.specs.declared.master.Master.{Master}
-use Rattle.plan_model.specs.declared.plan.Plan.{Plan}
-use Rattle.plan_model.specs.Instances.{Spot}
+use Rattle.plan_model.specs.{declared.plan.Plan.Plan, Instances.Spot}
 use Rattle.mask_out.specs.Masks.{layer_drawn}
-use Rattle.crossings.specs.declared.crossing.Crossing.{Crossing}
-use Rattle.crossings.specs.Boxes.{area_at, layer_at}
-use Rattle.crossings.specs.Crossings.{IsBuriedPair}
+use Rattle.crossings.specs.{declared.crossing.Crossing.Crossing, Boxes.{area_at, layer_at}, Crossings.IsBuriedPair}
 use Rattle.net_extract.specs.Extraction as extraction
 use Rattle.net_extract.specs.Places.{Place}
-use Rattle.grid_rules.proofs.Gaps.{IsDone}
-use Rattle.grid_rules.specs.Conductors.{Drawn, item_of, sides_of_drawn, Conducts, AreOfOneBox, AreAtOneContact, AreLinked, by_touch, by_cut, by_contact, by_contact_back}
-use Rattle.grid_rules.specs.Meetings.{at, IsOfClass, IsOwned, OwnersHaveOne, StandAtOne}
-use Rattle.grid_rules.specs.Shapes.{Shows, layer_of, AreShapes}
-use Rattle.grid_rules.specs.Sticks.{is_of_transistor, AreTransistors}
-use Rattle.grid_rules.proofs.MeetingBoxes.{knows}
-use Rattle.grid_rules.proofs.MeetingOwners.{owners_have_poly, owners_have_metal}
-use Rattle.grid_rules.proofs.MeetingPoly.{poly_meets}
-use Rattle.grid_rules.proofs.NetlistBoxes.{overlaps_there, overlaps_back, touches_there, touches_back, sides_at, class_shown, on_item, box_of, drawn_overlap}
-use Rattle.grid_rules.proofs.NetlistMeetings.{buried_pair, fet_pair, fet_meeting}
-use Rattle.grid_rules.proofs.NetlistPieces.{conducting, IsPiece, one_piece_at}
-use Rattle.grid_rules.proofs.NetlistPlaces.{fet_item}
-use Rattle.grid_rules.proofs.NetlistShapes.{class_of_layer, class_back, shown, one_number, one_item}
+use Rattle.grid_rules.proofs.{Gaps.IsDone, MeetingBoxes.knows, MeetingOwners.{owners_have_poly, owners_have_metal}}
+use Rattle.grid_rules.proofs.{MeetingPoly.poly_meets, NetlistBoxes.{overlaps_there, overlaps_back, touches_there}}
+use Rattle.grid_rules.proofs.NetlistBoxes.{touches_back, sides_at, class_shown, on_item, box_of, drawn_overlap}
+use Rattle.grid_rules.proofs.{NetlistMeetings.{buried_pair, fet_pair, fet_meeting}, NetlistPieces.{conducting, IsPiece}}
+use Rattle.grid_rules.proofs.{NetlistPieces.one_piece_at, NetlistPlaces.fet_item, NetlistShapes.class_of_layer}
+use Rattle.grid_rules.proofs.NetlistShapes.{class_back, shown, one_number, one_item}
+use Rattle.grid_rules.specs.Conductors.{Drawn, item_of, sides_of_drawn, Conducts, AreOfOneBox, AreAtOneContact}
+use Rattle.grid_rules.specs.{Conductors.{AreLinked, by_touch, by_cut, by_contact, by_contact_back}, Meetings.at}
+use Rattle.grid_rules.specs.{Meetings.{IsOfClass, IsOwned, OwnersHaveOne, StandAtOne}, Shapes.{Shows, layer_of}}
+use Rattle.grid_rules.specs.{Shapes.AreShapes, Sticks.{is_of_transistor, AreTransistors}}
 
 -- the class of the boxes that are conductors of a class
 abbrev pub mask_class : Class → Class

@@ -1,33 +1,24 @@
 -- Poly and diffusion that overlap and are no buried pair are those of one transistor, and cross properly.
-use Rattle.std.proofs.Common.{◌≡◌, ℕ, ℤ, pos, ◌<ℤ◌, Bool, List, sym, ap, ◌∙◌, subst, arith, inl, inr}
-use Rattle.std.proofs.lemmas.Int.{ints}
-use Rattle.lam_geom.specs.declared.boxes.MaskBox.{MaskBox}
-use Rattle.lam_geom.specs.declared.boxes.MaskLayer.TheVariants.{ND, NP, NB}
-use Rattle.rule_table.specs.declared.technology.Tech.{Tech}
-use Rattle.rule_table.specs.declared.classes.Class.TheVariants.{P, Dm, G}
+use Rattle.std.proofs.{Common.{◌≡◌, ℕ, ℤ, pos, ◌<ℤ◌, Bool, List, sym, ap, ◌∙◌, subst, arith, inl, inr}, lemmas.Int.ints}
+use Rattle.lam_geom.specs.declared.boxes.{MaskBox.MaskBox, MaskLayer.TheVariants.{ND, NP, NB}}
+use Rattle.rule_table.specs.declared.{technology.Tech.Tech, classes.Class.TheVariants.{P, Dm, G}}
 use Rattle.rule_table.specs.Technology.{numbers_of}
-use Rattle.sym_items.specs.declared.items.Coords.{Coords}
-use Rattle.sym_items.specs.declared.items.Item.{Item}
-use Rattle.sym_items.specs.Sides.{Sides, sides_of}
-use Rattle.sym_items.specs.Standing.{StandsAt}
+use Rattle.sym_items.specs.{declared.items.{Coords.Coords, Item.Item}, Sides.{Sides, sides_of}, Standing.StandsAt}
 use Rattle.cell_model.specs.declared.cell.Axis2.{Axis2}
-use Rattle.expand.specs.declared.master.Master.{Master}
-use Rattle.expand.proofs.Among.{sound_numbers}
+use Rattle.expand.{specs.declared.master.Master.Master, proofs.Among.sound_numbers}
 use Rattle.buried_contacts.specs.Contacts.{axis_along, common}
-use Rattle.plan_model.specs.declared.plan.Plan.{Plan}
-use Rattle.plan_model.specs.Instances.{Spot}
-use Rattle.crossings.specs.Boxes.{area_at}
-use Rattle.crossings.specs.Crossings.{IsOverlap, IsBuriedPair, IsMeeting, CrossAlong, CrossProperly, AreProper}
-use Rattle.grid_rules.proofs.Gaps.{IsDone}
-use Rattle.grid_rules.specs.Conductors.{Drawn, item_of, sides_of_drawn, gap_of_drawn}
-use Rattle.grid_rules.specs.Meetings.{at, IsOfClass, IsOwned, IsTransistorAt, CrossAt, seen, AreOfOneTransistor, StandAtOne}
-use Rattle.grid_rules.specs.Shapes.{Shows, sides_in_grains, AreShapes}
-use Rattle.grid_rules.proofs.MeetingBoxes.{StandsNowhere, KnowsFet, knows, past_overlaps}
+use Rattle.plan_model.specs.{declared.plan.Plan.Plan, Instances.Spot}
+use Rattle.crossings.specs.{Boxes.area_at, Crossings.{IsOverlap, IsBuriedPair, IsMeeting, CrossAlong, CrossProperly}}
+use Rattle.crossings.specs.Crossings.{AreProper}
+use Rattle.grid_rules.proofs.{Gaps.IsDone, MeetingBoxes.{StandsNowhere, KnowsFet, knows, past_overlaps}}
 use Rattle.grid_rules.proofs.MeetingPoly.{poly_meets, contacts_are_buried, windows_keep_off}
-use Rattle.grid_rules.proofs.NetlistBoxes.{encloses_there, encloses_back, common_sides, is_common, common_box, sides_at, on_item, on_layer_of, box_of, drawn_overlap, boxes_overlap}
+use Rattle.grid_rules.proofs.NetlistBoxes.{encloses_there, encloses_back, common_sides, is_common, common_box, sides_at}
+use Rattle.grid_rules.proofs.NetlistBoxes.{on_item, on_layer_of, box_of, drawn_overlap, boxes_overlap}
 use Rattle.grid_rules.proofs.NetlistCross.{channel_shared, channel_inside, cross_overlap, cross_along}
-use Rattle.grid_rules.proofs.NetlistScale.{common_in_grains}
-use Rattle.grid_rules.proofs.NetlistShapes.{one_number}
+use Rattle.grid_rules.proofs.{NetlistScale.common_in_grains, NetlistShapes.one_number}
+use Rattle.grid_rules.specs.{Conductors.{Drawn, item_of, sides_of_drawn, gap_of_drawn}, Meetings.{at, IsOfClass}}
+use Rattle.grid_rules.specs.Meetings.{IsOwned, IsTransistorAt, CrossAt, seen, AreOfOneTransistor, StandAtOne}
+use Rattle.grid_rules.specs.Shapes.{Shows, sides_in_grains, AreShapes}
 
 -- boxes number p and d are the poly and the diffusion of one transistor
 pub record IsFetPair (plan : Plan) (masters : List Master) (p d : ℕ) : Type 0 where

@@ -7,33 +7,20 @@ use Rattle.cell_model.specs.declared.cell.Nets.{Nets}
 use Rattle.sym_items.specs.declared.items.Coords.{Coords}
 use Rattle.expand.specs.declared.master.Master.{Master}
 use Rattle.graph_search.specs.Netting.{Chain, Reaches}
-use Rattle.plan_model.specs.declared.plan.Plan.{Plan}
-use Rattle.plan_model.specs.GridNets.{IsOneNet, the_same}
-use Rattle.plan_model.specs.Instances.{Spot}
-use Rattle.plan_model.specs.Plan.{grids_of}
+use Rattle.plan_model.specs.{declared.plan.Plan.Plan, GridNets.{IsOneNet, the_same}, Instances.Spot, Plan.grids_of}
 use Rattle.pitch_join.specs.Masters.{ports_of_masters}
 use Rattle.crossings.specs.declared.crossing.Crossing.{Crossing}
 use Rattle.net_extract.specs.declared.netlist.Netlist.{Netlist}
-use Rattle.net_extract.specs.Extraction.{IsLink}
-use Rattle.net_extract.specs.Netlists.{IsNetlistOf}
-use Rattle.net_extract.specs.Places.{Place, place, places_of}
-use Rattle.grid_rules.specs.Rules.{AreNetsOf}
-use Rattle.grid_rules.proofs.Gaps.{IsDone}
-use Rattle.grid_rules.proofs.OneNet.{one_net_then}
-use Rattle.grid_rules.specs.Conductors.{Drawn, item_of, IsConductor, AreOfOneNet, AreLinked, AreConnected, here, further}
-use Rattle.grid_rules.specs.Shapes.{Shows, AreShapes}
+use Rattle.net_extract.specs.{Extraction.IsLink, Netlists.IsNetlistOf, Places.{Place, place, places_of}}
+use Rattle.grid_rules.specs.{Rules.AreNetsOf, Conductors.{Drawn, item_of, IsConductor, AreOfOneNet, AreLinked}}
+use Rattle.grid_rules.specs.{Conductors.{AreConnected, here, further}, Shapes.{Shows, AreShapes}}
 use Rattle.grid_rules.specs.Sticks.{places_of_sticks, net_of_part, AreOfOne, AreTransistors, NetsAreTheSticks}
-use Rattle.grid_rules.proofs.ChainLinks.{end_conducts}
-use Rattle.grid_rules.proofs.ChainNets.{all_connected}
-use Rattle.grid_rules.proofs.MeetingGaps.{nets_there}
-use Rattle.grid_rules.proofs.MeetingLinks.{links_keep}
-use Rattle.grid_rules.proofs.NetlistCrossings.{crossings_are, transistors_are}
-use Rattle.grid_rules.proofs.NetlistLinks.{same_box, link_of_pieces, pieces_of_link}
-use Rattle.grid_rules.proofs.NetlistLists.{at_below}
-use Rattle.grid_rules.proofs.NetlistMeetings.{are_proper}
-use Rattle.grid_rules.proofs.NetlistPieces.{one_part, IsPiece, piece_of_part, piece_there}
-use Rattle.grid_rules.proofs.NetlistPlaces.{place_there, place_back, one_place, places_same}
-use Rattle.grid_rules.proofs.NetlistShapes.{one_item}
+use Rattle.grid_rules.proofs.{Gaps.IsDone, OneNet.one_net_then, ChainLinks.end_conducts, ChainNets.all_connected}
+use Rattle.grid_rules.proofs.{MeetingGaps.nets_there, MeetingLinks.links_keep, NetlistCrossings.crossings_are}
+use Rattle.grid_rules.proofs.{NetlistCrossings.transistors_are, NetlistLinks.{same_box, link_of_pieces, pieces_of_link}}
+use Rattle.grid_rules.proofs.{NetlistLists.at_below, NetlistMeetings.are_proper, NetlistPieces.{one_part, IsPiece}}
+use Rattle.grid_rules.proofs.{NetlistPieces.{piece_of_part, piece_there}, NetlistPlaces.{place_there, place_back}}
+use Rattle.grid_rules.proofs.{NetlistPlaces.{one_place, places_same}, NetlistShapes.one_item}
 
 -- ---- chains, and netlists, of other relations
 

@@ -1,45 +1,27 @@
 -- The pieces of boxes that show the instances are the conductors: each piece is one, and each conductor one piece.
-use Rattle.std.proofs.Common.{◌≡◌, ℕ, ◌<◌, ◌≤◌, ℤ, Bool, true, false, List, Some, refl, sym, ap, ◌∙◌, subst, arith, inl, inr}
-use Rattle.std.specs.Option.{unwrap_or}
-use Rattle.std.proofs.lemmas.Bool.{cases_Bool}
-use Rattle.std.proofs.lemmas.List.Elements.{All-contains}
-use Rattle.lam_geom.specs.declared.boxes.BoxXY.{BoxXY}
-use Rattle.lam_geom.specs.declared.boxes.MaskBox.{MaskBox}
-use Rattle.lam_geom.specs.declared.boxes.MaskLayer.{MaskLayer}
-use Rattle.lam_geom.specs.declared.boxes.MaskLayer.TheVariants.{ND, NP, NC, NM, NI, NB}
-use Rattle.rule_table.specs.declared.technology.Tech.{Tech}
-use Rattle.rule_table.specs.declared.classes.Class.{Class}
-use Rattle.rule_table.specs.declared.classes.Class.TheVariants.{M, P, Dc, Dm, C, I, G, B}
-use Rattle.cell_model.specs.declared.cell.Axis2.{Axis2}
-use Rattle.cell_model.specs.declared.cell.NodeKind.TheVariants.{Fet}
-use Rattle.cell_model.specs.declared.cell.Nets.{Nets}
-use Rattle.sym_items.specs.declared.items.Coords.{Coords}
-use Rattle.sym_items.specs.declared.items.Item.{Item}
-use Rattle.sym_items.specs.Sides.{Sides, sides_of}
-use Rattle.sym_items.specs.Standing.{StandsAt}
+use Rattle.std.proofs.Common.{◌≡◌, ℕ, ◌<◌, ◌≤◌, ℤ, Bool, true, false, List, Some, refl, sym, ap, ◌∙◌, subst, arith, inl}
+use Rattle.std.{proofs.{Common.inr, lemmas.{Bool.cases_Bool, List.Elements.All-contains}}, specs.Option.unwrap_or}
+use Rattle.lam_geom.specs.declared.boxes.{BoxXY.BoxXY, MaskBox.MaskBox, MaskLayer.{MaskLayer, TheVariants.{ND, NP, NC}}}
+use Rattle.lam_geom.specs.declared.boxes.MaskLayer.TheVariants.{NM, NI, NB}
+use Rattle.rule_table.specs.declared.{technology.Tech.Tech, classes.Class.{Class, TheVariants.{M, P, Dc, Dm, C, I, G}}}
+use Rattle.rule_table.specs.declared.classes.Class.TheVariants.{B}
+use Rattle.cell_model.specs.declared.cell.{Axis2.Axis2, NodeKind.TheVariants.Fet, Nets.Nets}
+use Rattle.sym_items.specs.{declared.items.{Coords.Coords, Item.Item}, Sides.{Sides, sides_of}, Standing.StandsAt}
 use Rattle.expand.specs.declared.master.Master.{Master}
 use Rattle.buried_contacts.specs.Contacts.{axis_along, kind_of}
 use Rattle.plan_model.specs.declared.plan.Plan.{Plan}
 use Rattle.mask_out.specs.Masks.{layer_drawn}
-use Rattle.crossings.specs.declared.crossing.Crossing.{Crossing}
-use Rattle.crossings.specs.Boxes.{area_at, IsCommon}
-use Rattle.net_extract.specs.declared.netlist.Part.{Part}
-use Rattle.net_extract.specs.declared.netlist.Part.TheVariants.{Whole, Low, High}
-use Rattle.net_extract.specs.Extraction.{IsOfBox, IsAreaOf}
-use Rattle.net_extract.specs.Places.{Place, place, parts_of_diffusion, parts_on}
-use Rattle.grid_rules.specs.Rules.{AreNetsOf}
-use Rattle.grid_rules.proofs.Gaps.{IsDone}
-use Rattle.grid_rules.specs.Conductors.{Drawn, item_of, sides_of_drawn, Conducts, IsConductor}
+use Rattle.crossings.specs.{declared.crossing.Crossing.Crossing, Boxes.{area_at, IsCommon}}
+use Rattle.net_extract.specs.declared.netlist.Part.{Part, TheVariants.{Whole, Low, High}}
+use Rattle.net_extract.specs.{Extraction.{IsOfBox, IsAreaOf}, Places.{Place, place, parts_of_diffusion, parts_on}}
+use Rattle.grid_rules.specs.{Rules.AreNetsOf, Conductors.{Drawn, item_of, sides_of_drawn, Conducts, IsConductor}}
 use Rattle.grid_rules.specs.Meetings.{at, master_of, IsOfClass, IsOwned, IsTransistorAt, IsOnePiece, OwnersHaveOne}
-use Rattle.grid_rules.specs.Shapes.{Shows, layer_of, sides_in_grains, AreShapes}
-use Rattle.grid_rules.specs.Sticks.{is_of_transistor, net_of_part, IsTransistor, AreTransistors}
-use Rattle.grid_rules.proofs.MeetingBoxes.{KnowsFet, knows}
-use Rattle.grid_rules.proofs.MeetingOwners.{diffusion_conducts, piece_nets, pieces_have_masks, owners_have_poly, owners_have_metal}
-use Rattle.grid_rules.proofs.NetlistAreas.{low_there, high_there, low_lies, high_lies}
-use Rattle.grid_rules.proofs.NetlistBoxes.{sides_at}
-use Rattle.grid_rules.proofs.NetlistCrossings.{transistor_is}
-use Rattle.grid_rules.proofs.NetlistLists.{Has}
-use Rattle.grid_rules.proofs.NetlistMeetings.{stands_none}
+use Rattle.grid_rules.specs.{Shapes.{Shows, layer_of, sides_in_grains, AreShapes}, Sticks.is_of_transistor}
+use Rattle.grid_rules.specs.Sticks.{net_of_part, IsTransistor, AreTransistors}
+use Rattle.grid_rules.proofs.{Gaps.IsDone, MeetingBoxes.{KnowsFet, knows}, MeetingOwners.diffusion_conducts}
+use Rattle.grid_rules.proofs.MeetingOwners.{piece_nets, pieces_have_masks, owners_have_poly, owners_have_metal}
+use Rattle.grid_rules.proofs.{NetlistAreas.{low_there, high_there, low_lies, high_lies}, NetlistBoxes.sides_at}
+use Rattle.grid_rules.proofs.{NetlistCrossings.transistor_is, NetlistLists.Has, NetlistMeetings.stands_none}
 use Rattle.grid_rules.proofs.NetlistPlaces.{IsFetItem, fet_item, item_fet, parts_of_item, fet_crossed}
 use Rattle.grid_rules.proofs.NetlistShapes.{class_of_layer, class_back, layer_there, shown, number, one_item}
 

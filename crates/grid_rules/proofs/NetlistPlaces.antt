@@ -1,36 +1,28 @@
 -- The pieces of boxes that show the instances stand where the sticks' stand.
-use Rattle.std.proofs.Common.{◌≡◌, ℕ, zero, suc, ◌+◌, ◌<◌, ◌≤◌, ℤ, Bool, true, false, List, [], ◌∷◌, ◌++◌, length, Some, refl, sym, ap, ◌∙◌, subst, arith, inl, inr}
-use Rattle.std.specs.Prelude.{Contains, ◌&&◌, nat_lt, map, flat_map, slice_get, slice_index_or}
-use Rattle.std.specs.List.{list_any, range_with_len}
-use Rattle.std.proofs.lemmas.Bool.{ltb-true, lt-ltb, eqb-true, eq-eqb, and_parts, and_from, or_cases, or_left, or_right}
-use Rattle.std.proofs.lemmas.List.Elements.{All-contains}
-use Rattle.std.proofs.lemmas.Option.{slice_get-get_or, slice_get_within, get_or_from_slice_get}
-use Rattle.lam_geom.specs.declared.boxes.MaskBox.{MaskBox}
-use Rattle.lam_geom.specs.declared.boxes.MaskLayer.{MaskLayer}
-use Rattle.lam_geom.specs.declared.boxes.MaskLayer.TheVariants.{ND, NP, NC, NM, NI, NB}
-use Rattle.rule_table.specs.declared.technology.Tech.{Tech}
-use Rattle.rule_table.specs.declared.classes.Class.TheVariants.{Dm}
-use Rattle.cell_model.specs.declared.cell.Axis2.{Axis2}
-use Rattle.cell_model.specs.declared.cell.NodeKind.{NodeKind}
-use Rattle.cell_model.specs.declared.cell.NodeKind.TheVariants.{Joint, Contact, Buried, Fet}
+use Rattle.std.proofs.Common.{◌≡◌, ℕ, zero, suc, ◌+◌, ◌<◌, ◌≤◌, ℤ, Bool, true, false, List, [], ◌∷◌, ◌++◌, length, Some}
+use Rattle.std.proofs.{Common.{refl, sym, ap, ◌∙◌, subst, arith, inl, inr}, lemmas.Bool.{ltb-true, lt-ltb, eqb-true}}
+use Rattle.std.proofs.lemmas.Bool.{eq-eqb, and_parts, and_from, or_cases, or_left, or_right}
+use Rattle.std.proofs.lemmas.{List.Elements.All-contains, Option.{slice_get-get_or, slice_get_within}}
+use Rattle.std.{proofs.lemmas.Option.get_or_from_slice_get, specs.Prelude.{Contains, ◌&&◌, nat_lt, map, flat_map}}
+use Rattle.std.specs.{Prelude.{slice_get, slice_index_or}, List.{list_any, range_with_len}}
+use Rattle.lam_geom.specs.declared.boxes.{MaskBox.MaskBox, MaskLayer.{MaskLayer, TheVariants.{ND, NP, NC, NM, NI, NB}}}
+use Rattle.rule_table.specs.declared.{technology.Tech.Tech, classes.Class.TheVariants.Dm}
+use Rattle.cell_model.specs.declared.cell.{Axis2.Axis2, NodeKind.{NodeKind, TheVariants.{Joint, Contact, Buried, Fet}}}
 use Rattle.sym_items.specs.declared.items.Coords.{Coords}
 use Rattle.expand.specs.declared.master.Master.{Master}
 use Rattle.buried_contacts.specs.Contacts.{kind_of}
 use Rattle.plan_model.specs.declared.plan.Plan.{Plan}
 use Rattle.crossings.specs.declared.crossing.Crossing.{Crossing}
-use Rattle.net_extract.specs.declared.netlist.Part.{Part}
-use Rattle.net_extract.specs.Places.{Place, place, crosses_box, is_crossed, parts_of_diffusion, parts_on, places_at, places_of}
-use Rattle.grid_rules.proofs.Gaps.{IsDone}
-use Rattle.grid_rules.specs.Conductors.{Drawn, IsDrawn, item_of}
-use Rattle.grid_rules.specs.Meetings.{at, master_of, IsOfClass, IsOwned, IsTransistorAt}
-use Rattle.grid_rules.specs.Shapes.{shapes_of, Shows, layer_of, AreShapes}
-use Rattle.grid_rules.specs.Sticks.{is_transistor, is_of_transistor, no_shape, places_of_shape, places_of_sticks, IsTransistor, AreTransistors}
-use Rattle.grid_rules.proofs.MeetingBlocks.{IsTransistorKind}
-use Rattle.grid_rules.proofs.MeetingBoxes.{knows}
-use Rattle.grid_rules.proofs.NetlistBoxes.{class_shown}
-use Rattle.grid_rules.proofs.NetlistCrossings.{same_truth}
-use Rattle.grid_rules.proofs.NetlistLists.{Has, Unique, has_map, from_map, has_flat, from_flat, has_range, from_range, number_of, has_at, same_number, unique_map, unique_flat, unique_range}
-use Rattle.grid_rules.proofs.NetlistShapes.{one_item, one_number, each_shown, shown_below}
+use Rattle.net_extract.specs.{declared.netlist.Part.Part, Places.{Place, place, crosses_box, is_crossed}}
+use Rattle.net_extract.specs.Places.{parts_of_diffusion, parts_on, places_at, places_of}
+use Rattle.grid_rules.proofs.{Gaps.IsDone, MeetingBlocks.IsTransistorKind, MeetingBoxes.knows, NetlistBoxes.class_shown}
+use Rattle.grid_rules.proofs.{NetlistCrossings.same_truth, NetlistLists.{Has, Unique, has_map, from_map, has_flat}}
+use Rattle.grid_rules.proofs.NetlistLists.{from_flat, has_range, from_range, number_of, has_at, same_number, unique_map}
+use Rattle.grid_rules.proofs.{NetlistLists.{unique_flat, unique_range}, NetlistShapes.{one_item, one_number}}
+use Rattle.grid_rules.{proofs.NetlistShapes.{each_shown, shown_below}, specs.Conductors.{Drawn, IsDrawn, item_of}}
+use Rattle.grid_rules.specs.{Meetings.{at, master_of, IsOfClass, IsOwned, IsTransistorAt}, Shapes.{shapes_of, Shows}}
+use Rattle.grid_rules.specs.{Shapes.{layer_of, AreShapes}, Sticks.{is_transistor, is_of_transistor, no_shape}}
+use Rattle.grid_rules.specs.Sticks.{places_of_shape, places_of_sticks, IsTransistor, AreTransistors}
 
 -- ---- lists
 

@@ -1,16 +1,12 @@
 -- Lengths, gaps and boxes in grains: those in u, times a positive number.
-use Rattle.std.proofs.Common.{◌≡◌, ℕ, zero, suc, ℤ, pos, negsuc, ◌+ℤ◌, ◌-ℤ◌, ◌*ℤ◌, ◌≤ℤ◌, ◌<ℤ◌, sym, ap, ◌∙◌, subst, arith}
-use Rattle.std.specs.Int.{int_max, int_min}
-use Rattle.std.proofs.lemmas.Int.{ints, clamps, by_lt_z}
-use Rattle.rule_table.specs.declared.technology.Tech.{Tech}
-use Rattle.rule_table.specs.Technology.{numbers_of}
+use Rattle.std.proofs.Common.{◌≡◌, ℕ, zero, suc, ℤ, pos, negsuc, ◌+ℤ◌, ◌-ℤ◌, ◌*ℤ◌, ◌≤ℤ◌, ◌<ℤ◌, sym, ap, ◌∙◌, subst}
+use Rattle.std.{proofs.{Common.arith, lemmas.Int.{ints, clamps, by_lt_z}}, specs.Int.{int_max, int_min}}
+use Rattle.rule_table.specs.{declared.technology.Tech.Tech, Technology.numbers_of}
 use Rattle.sym_items.specs.Sides.{Sides, gap_of_sides}
 use Rattle.expand.proofs.Among.{sound_numbers}
 use Rattle.buried_contacts.specs.Contacts.{common}
 use Rattle.crossings.specs.Boxes.{grains}
-use Rattle.grid_rules.specs.Meetings.{EnclosesBy}
-use Rattle.grid_rules.specs.Shapes.{sides_in_grains}
-use Rattle.grid_rules.proofs.MeetingGaps.{same_sides}
+use Rattle.grid_rules.{specs.{Meetings.EnclosesBy, Shapes.sides_in_grains}, proofs.MeetingGaps.same_sides}
 
 -- ---- products
 

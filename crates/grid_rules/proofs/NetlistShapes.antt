@@ -1,25 +1,19 @@
 -- The boxes of all instances by number: each item of a class that is drawn has exactly one number.
-use Rattle.std.proofs.Common.{◌≡◌, ℕ, ◌<◌, true, List, [], ◌∷◌, length, Some, refl, sym, ap, ◌∙◌, subst, arith, inl, inr}
-use Rattle.std.specs.List.{range_with_len}
-use Rattle.std.specs.Option.{unwrap_or}
-use Rattle.std.proofs.lemmas.Option.{slice_get_within}
-use Rattle.lam_geom.specs.declared.boxes.MaskLayer.{MaskLayer}
-use Rattle.lam_geom.specs.declared.boxes.MaskLayer.TheVariants.{ND, NP, NC, NM, NI, NB}
-use Rattle.rule_table.specs.declared.classes.Class.{Class}
-use Rattle.rule_table.specs.declared.classes.Class.TheVariants.{M, P, Dc, Dm, C, I, G, B}
+use Rattle.std.proofs.Common.{◌≡◌, ℕ, ◌<◌, true, List, [], ◌∷◌, length, Some, refl, sym, ap, ◌∙◌, subst, arith, inl}
+use Rattle.std.{proofs.{Common.inr, lemmas.Option.slice_get_within}, specs.{List.range_with_len, Option.unwrap_or}}
+use Rattle.lam_geom.specs.declared.boxes.MaskLayer.{MaskLayer, TheVariants.{ND, NP, NC, NM, NI, NB}}
+use Rattle.rule_table.specs.declared.classes.Class.{Class, TheVariants.{M, P, Dc, Dm, C, I, G, B}}
 use Rattle.sym_items.specs.declared.items.Item.{Item}
 use Rattle.pair_rules.specs.Bound.{item_at}
 use Rattle.expand.specs.declared.master.Master.{Master}
-use Rattle.plan_model.specs.declared.plan.Plan.{Plan}
-use Rattle.plan_model.specs.Instances.{Spot, IsSpot, grid_at, spot, spots_in_row, spots_in_grid, spots_of}
-use Rattle.plan_model.specs.Plan.{grids_of}
-use Rattle.plan_model.specs.Rows.{row_at}
+use Rattle.plan_model.specs.{declared.plan.Plan.Plan, Instances.{Spot, IsSpot, grid_at, spot, spots_in_row}}
+use Rattle.plan_model.specs.{Instances.{spots_in_grid, spots_of}, Plan.grids_of, Rows.row_at}
 use Rattle.mask_out.specs.Masks.{layer_drawn, is_same_layer, is_drawn, mask_layers}
-use Rattle.grid_rules.specs.Rules.{items_at}
-use Rattle.grid_rules.specs.Conductors.{Drawn, IsDrawn, item_of}
-use Rattle.grid_rules.specs.Meetings.{at}
-use Rattle.grid_rules.specs.Shapes.{items_on, drawn_items, shapes_at, shapes_of, Shows, layer_of}
-use Rattle.grid_rules.proofs.NetlistLists.{Has, Unique, has_map, from_map, has_flat, from_flat, has_filter, from_filter, has_range, from_range, number_of, has_at, at_below, same_number, unique_map, unique_flat, unique_filter, unique_range}
+use Rattle.grid_rules.specs.{Rules.items_at, Conductors.{Drawn, IsDrawn, item_of}, Meetings.at, Shapes.items_on}
+use Rattle.grid_rules.specs.Shapes.{drawn_items, shapes_at, shapes_of, Shows, layer_of}
+use Rattle.grid_rules.proofs.NetlistLists.{Has, Unique, has_map, from_map, has_flat, from_flat, has_filter, from_filter}
+use Rattle.grid_rules.proofs.NetlistLists.{has_range, from_range, number_of, has_at, at_below, same_number, unique_map}
+use Rattle.grid_rules.proofs.NetlistLists.{unique_flat, unique_filter, unique_range}
 
 -- ---- layers and classes
 

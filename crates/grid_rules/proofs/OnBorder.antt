@@ -1,38 +1,22 @@
 -- Which items have an end on a border: the boxes of wires that end at a port there, and no others.
-use Rattle.std.proofs.Common.{◌≡◌, ◌≢◌, ℕ, zero, suc, ◌+◌, ◌<◌, ℤ, Bool, true, false, List, [], ◌∷◌, length, map, cond, refl, sym, ap, ◌∙◌, subst, arith, inl, inr, ◌⊎◌}
-use Rattle.std.specs.List.{AllByRecursion, Contains, flat_map, range_with_len}
+use Rattle.std.proofs.Common.{◌≡◌, ◌≢◌, ℕ, zero, suc, ◌+◌, ◌<◌, ℤ, Bool, true, false, List, [], ◌∷◌, length, map, cond}
+use Rattle.std.proofs.Common.{refl, sym, ap, ◌∙◌, subst, arith, inl, inr, ◌⊎◌}
 use Rattle.std.proofs.lemmas.List.Elements.{All-contains, Contains-append_right}
-use Rattle.lam_geom.specs.declared.boxes.Axis.{Axis}
-use Rattle.lam_geom.specs.declared.boxes.Axis.TheVariants.{X, Y}
-use Rattle.rule_table.specs.declared.technology.Tech.{Tech}
-use Rattle.rule_table.specs.declared.classes.Class.{Class}
-use Rattle.rule_table.specs.declared.classes.Class.TheVariants.{M, P, Dc, Dm}
+use Rattle.std.specs.List.{AllByRecursion, Contains, flat_map, range_with_len}
+use Rattle.lam_geom.specs.declared.boxes.Axis.{Axis, TheVariants.{X, Y}}
+use Rattle.rule_table.specs.declared.{technology.Tech.Tech, classes.Class.{Class, TheVariants.{M, P, Dc, Dm}}}
 use Rattle.rule_table.specs.declared.classes.Layer.{Layer}
-use Rattle.sym_items.specs.declared.items.End.{End}
-use Rattle.sym_items.specs.declared.items.Item.{Item}
-use Rattle.sym_items.specs.declared.items.Items.{Items}
-use Rattle.sym_items.specs.Transposed.{item_along}
-use Rattle.cell_model.specs.declared.cell.Axis2.{Axis2}
-use Rattle.cell_model.specs.declared.cell.Axis2.TheVariants.{Across, Up}
-use Rattle.cell_model.specs.declared.cell.NodeKind.{NodeKind}
-use Rattle.cell_model.specs.declared.cell.NodeKind.TheVariants.{Joint, Contact, Buried, Fet}
-use Rattle.cell_model.specs.declared.cell.NodeNets.{NodeNets}
-use Rattle.cell_model.specs.declared.cell.Nets.{Nets}
-use Rattle.cell_model.specs.declared.cell.Cell.{Cell}
-use Rattle.cell_model.specs.declared.cell.Wire.{Wire}
-use Rattle.cell_model.specs.declared.cell.WireEnd.{WireEnd}
+use Rattle.sym_items.specs.{declared.items.{End.End, Item.Item, Items.Items}, Transposed.item_along}
+use Rattle.cell_model.specs.declared.cell.{Axis2.{Axis2, TheVariants.{Across, Up}}, NodeKind.NodeKind}
+use Rattle.cell_model.specs.declared.cell.{NodeKind.TheVariants.{Joint, Contact, Buried, Fet}, NodeNets.NodeNets}
+use Rattle.cell_model.specs.{declared.cell.{Nets.Nets, Cell.Cell, Wire.Wire, WireEnd.WireEnd}, Sound.{node_at, wire_at}}
 use Rattle.cell_model.specs.declared.cell.WireEnd.TheVariants as ends
-use Rattle.cell_model.specs.Sound.{node_at, wire_at}
 use Rattle.list_facts.proofs.Elements.{all_of, all_weaker}
-use Rattle.grid_rules.proofs.Lists.{in_flat_map, in_range}
-use Rattle.expand.specs.declared.master.Master.{Master}
-use Rattle.expand.specs.Masters.{IsMaster}
-use Rattle.expand.specs.Variables.{half, past, cross_of}
-use Rattle.expand.specs.NodeItems.{item_running, on_layer, channel_items, kind_items}
-use Rattle.expand.specs.WireItems.{terminal}
+use Rattle.grid_rules.proofs.{Lists.{in_flat_map, in_range}, InCell.{BeginsOnBorder, EndsOnBorder}}
+use Rattle.expand.specs.{declared.master.Master.Master, Masters.IsMaster, Variables.{half, past, cross_of}}
+use Rattle.expand.specs.{NodeItems.{item_running, on_layer, channel_items, kind_items}, WireItems.terminal}
 use Rattle.expand.specs.Items.{nets_at, items_of_node, items_of_wire, item_list}
 use Rattle.buried_contacts.proofs.Owners.{LayerHas, IsBoxOfWire, all_items, layer_boxes, run_of, wire_box}
-use Rattle.grid_rules.proofs.InCell.{BeginsOnBorder, EndsOnBorder}
 
 -- ---- items of nodes
 

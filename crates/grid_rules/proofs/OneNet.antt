@@ -1,9 +1,8 @@
 -- Nets that are one are so either way round.
 use Rattle.std.proofs.Common.{ℕ, List}
-use Rattle.cell_model.specs.declared.cell.CellPort.{CellPort}
-use Rattle.cell_model.specs.declared.cell.Nets.{Nets}
-use Rattle.plan_model.specs.GridNets.{net_of_port, IsOneNet, the_same, met_before, met_behind}
-use Rattle.plan_model.specs.Instances.{Spot, master_at_spot}
+use Rattle.cell_model.specs.declared.cell.{CellPort.CellPort, Nets.Nets}
+use Rattle.plan_model.specs.{GridNets.{net_of_port, IsOneNet, the_same, met_before, met_behind}, Instances.Spot}
+use Rattle.plan_model.specs.Instances.{master_at_spot}
 
 pub one_net_then : (ports : List (List CellPort)) (nets : ℕ → Nets) (grids : List (List (List ℕ))) (p : Spot) (n : ℕ) (q : Spot) (m : ℕ) (r : Spot) (k : ℕ)
     → IsOneNet ports nets grids p n q m → IsOneNet ports nets grids q m r k → IsOneNet ports nets grids p n r k

@@ -1,41 +1,26 @@
 -- Two boxes of wires that end on the border between two instances next to one another: in the cell of the first a box of the wire that meets
 -- the second stands for it.
-use Rattle.std.proofs.Common.{◌≡◌, ℕ, ◌+◌, ℤ, ◌+ℤ◌, ◌≤ℤ◌, true, List, length, refl, sym, ap, ◌∙◌, subst, arith, inl, inr}
-use Rattle.std.specs.Prelude.{slice_index, neg_ℤ}
-use Rattle.std.specs.List.{Contains}
-use Rattle.std.proofs.lemmas.Bool.{cases_eq}
-use Rattle.std.proofs.lemmas.Int.{ints, clamps}
-use Rattle.lam_geom.specs.declared.boxes.Axis.{Axis}
-use Rattle.lam_geom.specs.Gaps.{gap_between}
-use Rattle.rule_table.specs.declared.classes.Layer.{Layer}
-use Rattle.rule_table.specs.declared.technology.Tech.{Tech}
-use Rattle.rule_table.specs.Technology.{numbers_of, widest_of}
-use Rattle.sym_items.specs.declared.items.Coords.{Coords}
-use Rattle.sym_items.specs.declared.items.Item.{Item}
-use Rattle.sym_items.specs.Layouts.{layout_at, size_in}
-use Rattle.cell_model.specs.declared.cell.Cell.{Cell}
-use Rattle.cell_model.specs.declared.cell.CellPort.{CellPort}
-use Rattle.cell_model.specs.declared.cell.Nets.{Nets}
-use Rattle.cell_model.specs.Sound.{wire_at}
+use Rattle.std.proofs.Common.{◌≡◌, ℕ, ◌+◌, ℤ, ◌+ℤ◌, ◌≤ℤ◌, true, List, length, refl, sym, ap, ◌∙◌, subst, arith, inl}
+use Rattle.std.proofs.{Common.inr, lemmas.{Bool.cases_eq, Int.{ints, clamps}}}
+use Rattle.std.specs.{Prelude.{slice_index, neg_ℤ}, List.Contains}
+use Rattle.lam_geom.specs.{declared.boxes.Axis.Axis, Gaps.gap_between}
+use Rattle.rule_table.specs.{declared.{classes.Layer.Layer, technology.Tech.Tech}, Technology.{numbers_of, widest_of}}
+use Rattle.sym_items.specs.{declared.items.{Coords.Coords, Item.Item}, Layouts.{layout_at, size_in}}
+use Rattle.cell_model.specs.{declared.cell.{Cell.Cell, CellPort.CellPort, Nets.Nets}, Sound.wire_at}
 use Rattle.cell_nets.proofs.Determined.{nets_same}
 use Rattle.pair_rules.specs.Bound.{IsBound}
-use Rattle.expand.specs.declared.master.Master.{Master}
-use Rattle.expand.specs.Variables.{half, cross_of}
+use Rattle.expand.specs.{declared.master.Master.Master, Variables.{half, cross_of}}
 use Rattle.buried_contacts.proofs.Owners.{LayerHas, IsBoxOfWire, item_keeps, run_of, wire_box}
-use Rattle.plan_model.specs.declared.plan.Plan.{Plan}
-use Rattle.plan_model.specs.GridNets.{IsBehind, net_of_port, IsOneNet, the_same, met_before}
-use Rattle.plan_model.specs.Instances.{Spot, IsSpot, master_at_spot}
-use Rattle.plan_model.specs.Plan.{grids_of}
+use Rattle.plan_model.specs.{declared.plan.Plan.Plan, GridNets.{IsBehind, net_of_port, IsOneNet, the_same, met_before}}
+use Rattle.plan_model.specs.{Instances.{Spot, IsSpot, master_at_spot}, Plan.grids_of}
 use Rattle.pitch_join.specs.Masters.{master_at, ports_of_masters}
-use Rattle.grid_rules.specs.Rules.{IsBoundInGrid, AreNetsOf, items_at}
-use Rattle.grid_rules.proofs.AtPorts.{spaced_in, net_of_box, not_together, apart_on_other, both_far, lies_along, ends_on_border, low_side, high_side}
-use Rattle.grid_rules.proofs.Gaps.{IsDone, IsItemAt, IsRuled, values_at, gap_at, lies_there, grids_laid}
-use Rattle.grid_rules.proofs.InCell.{low_in, high_in, BeginsOnBorder, EndsOnBorder}
-use Rattle.grid_rules.proofs.Layers.{one_layer_exempt}
-use Rattle.grid_rules.proofs.Meeting.{master_among, master_is, Meets, port_meets}
-use Rattle.grid_rules.proofs.OnBorder.{other, LiesAsRun, EndsAtPort, items_border, box_among}
-use Rattle.grid_rules.proofs.Places.{place_of, stands_level}
-use Rattle.grid_rules.proofs.Ports.{IsPortOf, port_of_wire}
+use Rattle.grid_rules.{specs.Rules.{IsBoundInGrid, AreNetsOf, items_at}, proofs.AtPorts.{spaced_in, net_of_box}}
+use Rattle.grid_rules.proofs.AtPorts.{not_together, apart_on_other, both_far, lies_along, ends_on_border, low_side}
+use Rattle.grid_rules.proofs.{AtPorts.high_side, Gaps.{IsDone, IsItemAt, IsRuled, values_at, gap_at, lies_there}}
+use Rattle.grid_rules.proofs.{Gaps.grids_laid, InCell.{low_in, high_in, BeginsOnBorder, EndsOnBorder}}
+use Rattle.grid_rules.proofs.{Layers.one_layer_exempt, Meeting.{master_among, master_is, Meets, port_meets}}
+use Rattle.grid_rules.proofs.{OnBorder.{other, LiesAsRun, EndsAtPort, items_border, box_among}, Places.place_of}
+use Rattle.grid_rules.proofs.{Places.stands_level, Ports.{IsPortOf, port_of_wire}}
 
 -- the master of an instance
 abbrev pub master_of : Plan → List Master → Spot → Master

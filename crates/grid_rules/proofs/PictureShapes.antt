@@ -1,39 +1,27 @@
 -- The boxes of a picture are those of the items of all instances, one by one.
 use Rattle.std.proofs.Common.{◌≡◌, ℕ, ◌<◌, true, List, [], length, map, filter, refl, sym, ap, ◌∙◌, subst, arith}
-use Rattle.std.specs.List.{AllByRecursion, range_with_len, zip}
-use Rattle.std.specs.Option.{unwrap_or}
-use Rattle.std.proofs.lemmas.List.{length-map, get_or-map}
-use Rattle.std.proofs.lemmas.List.Folds.{flat_map-map}
-use Rattle.std.proofs.lemmas.Simd.{map-map}
-use Rattle.std.proofs.lemmas.Slice.Zip.{get_or-zip, length-zip}
+use Rattle.std.proofs.lemmas.{List.{length-map, get_or-map, Folds.flat_map-map}, Simd.map-map, Slice.Zip.get_or-zip}
+use Rattle.std.proofs.lemmas.Slice.Zip.{length-zip}
+use Rattle.std.specs.{List.{AllByRecursion, range_with_len, zip}, Option.unwrap_or}
 use Rattle.list_facts.proofs.Elements.{all_map, all_flat, all_numbers, all_weaker}
-use Rattle.lam_geom.specs.declared.boxes.MaskLayer.{MaskLayer}
-use Rattle.lam_geom.specs.declared.boxes.MaskLayer.TheVariants.{ND, NP, NC, NM, NI, NB}
+use Rattle.lam_geom.specs.declared.boxes.MaskLayer.{MaskLayer, TheVariants.{ND, NP, NC, NM, NI, NB}}
 use Rattle.lam_geom.specs.declared.boxes.Axis.TheVariants.{X, Y}
-use Rattle.rule_table.specs.declared.technology.Tech.{Tech}
+use Rattle.rule_table.specs.declared.{technology.Tech.Tech, classes.Class.{Class, TheVariants.{M, P, Dm, C, I, B}}}
 use Rattle.rule_table.specs.Technology.{widest_of}
-use Rattle.rule_table.specs.declared.classes.Class.{Class}
-use Rattle.rule_table.specs.declared.classes.Class.TheVariants.{M, P, Dm, C, I, B}
-use Rattle.sym_items.specs.declared.items.Coords.{Coords}
-use Rattle.sym_items.specs.declared.items.Item.{Item}
-use Rattle.sym_items.specs.Layouts.{layout_at, no_layout, size_in}
-use Rattle.sym_items.specs.Sides.{sides_in}
+use Rattle.sym_items.specs.declared.items.{Coords.Coords, Item.Item}
+use Rattle.sym_items.specs.{Layouts.{layout_at, no_layout, size_in}, Sides.sides_in}
 use Rattle.pair_rules.specs.Bound.{item_at, no_item}
 use Rattle.expand.specs.declared.master.Master.{Master}
-use Rattle.plan_model.specs.declared.plan.Plan.{Plan}
-use Rattle.plan_model.specs.Instances.{Spot, IsSpot, spot, grid_at, master_at_spot, spots_in_row, spots_in_grid, spots_of}
-use Rattle.plan_model.specs.Plan.{grids_of}
-use Rattle.plan_model.specs.Rows.{row_at}
+use Rattle.plan_model.specs.{declared.plan.Plan.Plan, Instances.{Spot, IsSpot, spot, grid_at, master_at_spot}}
+use Rattle.plan_model.specs.{Instances.{spots_in_row, spots_in_grid, spots_of}, Plan.grids_of, Rows.row_at}
 use Rattle.pitch_join.specs.Masters.{master_at, no_master, ports_of_masters, master_ports}
-use Rattle.grid_rules.specs.Planned.{AreOfPlan}
-use Rattle.grid_rules.specs.Rules.{items_at}
+use Rattle.grid_rules.specs.{Planned.AreOfPlan, Rules.items_at, Conductors.Drawn, Meetings.at, Shapes.items_on}
+use Rattle.grid_rules.specs.Shapes.{shapes_at, mask_of_shape, PictureShowsShapes}
+use Rattle.grid_rules.proofs.PictureLists.{all_every, same_pieces, same_images, image_of_pieces, picked_images}
+use Rattle.grid_rules.proofs.PictureLists.{picked_pass, by_numbers}
 use Rattle.mask_out.specs.declared.drawing.Call.{Call}
-use Rattle.mask_out.specs.Masks.{Mask, layer_drawn, is_drawn, masks_on, mask_layers, masks_in}
-use Rattle.mask_out.specs.Pictures.{Drawing, drawing_in, drawings_in, call_at, shifted, masks_at, masks_called, no_drawing}
-use Rattle.grid_rules.specs.Conductors.{Drawn}
-use Rattle.grid_rules.specs.Meetings.{at}
-use Rattle.grid_rules.specs.Shapes.{items_on, shapes_at, mask_of_shape, PictureShowsShapes}
-use Rattle.grid_rules.proofs.PictureLists.{all_every, same_pieces, same_images, image_of_pieces, picked_images, picked_pass, by_numbers}
+use Rattle.mask_out.specs.{Masks.{Mask, layer_drawn, is_drawn, masks_on, mask_layers, masks_in}, Pictures.Drawing}
+use Rattle.mask_out.specs.Pictures.{drawing_in, drawings_in, call_at, shifted, masks_at, masks_called, no_drawing}
 
 -- ---- the spots of the grids are instances
 

@@ -1,11 +1,10 @@
 -- Where instances stand on an axis: between lines, one for each column or row, that lie at least the widest spacing apart.
-use Rattle.std.proofs.Common.{◌≡◌, ℕ, zero, suc, ◌+◌, ◌-◌, ◌<◌, ◌≤◌, ℤ, pos, ◌+ℤ◌, ◌≤ℤ◌, List, [], ◌∷◌, length, map, take, get_or, refl, sym, ap, ◌∙◌, subst, arith, take_all}
+use Rattle.std.proofs.Common.{◌≡◌, ℕ, zero, suc, ◌+◌, ◌-◌, ◌<◌, ◌≤◌, ℤ, pos, ◌+ℤ◌, ◌≤ℤ◌, List, [], ◌∷◌, length, map}
+use Rattle.std.proofs.{Common.{take, get_or, refl, sym, ap, ◌∙◌, subst, arith, take_all}, lemmas.Int.ints}
 use Rattle.std.specs.Prelude.{slice_index}
-use Rattle.std.proofs.lemmas.Int.{ints}
-use Rattle.lam_geom.specs.declared.boxes.Axis.{Axis}
-use Rattle.lam_geom.specs.declared.boxes.Axis.TheVariants.{X, Y}
-use Rattle.plan_model.specs.Instances.{Spot, IsSpot, grid_at, master_at_spot, total, row_height, grid_width, left_of_grid, left_of, bottom_of}
-use Rattle.plan_model.specs.Rows.{row_at, first_row, IsRectangular}
+use Rattle.lam_geom.specs.declared.boxes.Axis.{Axis, TheVariants.{X, Y}}
+use Rattle.plan_model.specs.Instances.{Spot, IsSpot, grid_at, master_at_spot, total, row_height, grid_width}
+use Rattle.plan_model.specs.{Instances.{left_of_grid, left_of, bottom_of}, Rows.{row_at, first_row, IsRectangular}}
 use Rattle.grid_rules.proofs.Aligned.{row_long}
 
 -- ---- sums of the first sizes

@@ -1,32 +1,21 @@
 -- The ports of wires that end on a border, and what meets there.
-use Rattle.std.proofs.Common.{◌≡◌, ℕ, zero, suc, ◌<◌, ◌≤◌, Bool, true, false, not, List, [], ◌∷◌, length, cond, Option, Some, None, refl, sym, ap, ◌∙◌, subst, arith, inl, inr}
-use Rattle.std.specs.Prelude.{option_map}
-use Rattle.std.specs.Ordering.{int_eq}
-use Rattle.std.specs.List.{Contains, filter, flat_map, zip}
-use Rattle.std.proofs.lemmas.Bool.{and_parts, eq-eqb}
-use Rattle.std.proofs.lemmas.Bool.Decides.{Decides-int_eq}
-use Rattle.std.proofs.lemmas.List.{get_or_default}
-use Rattle.std.proofs.lemmas.List.Elements.{Contains-get_or}
-use Rattle.lam_geom.specs.declared.boxes.Axis.{Axis}
-use Rattle.lam_geom.specs.declared.boxes.Axis.TheVariants.{X, Y}
-use Rattle.lam_geom.specs.declared.boxes.Side.{Side}
-use Rattle.lam_geom.specs.declared.boxes.Side.TheVariants.{Left, Right, Bottom, Top}
-use Rattle.rule_table.specs.declared.technology.Tech.{Tech}
-use Rattle.rule_table.specs.declared.classes.Layer.{Layer}
-use Rattle.rule_table.specs.declared.classes.Layer.TheVariants.{Diffusion, Poly, Metal}
-use Rattle.cell_model.specs.declared.cell.Cell.{Cell}
-use Rattle.cell_model.specs.declared.cell.CellPort.{CellPort}
-use Rattle.cell_model.specs.declared.cell.Port.{Port}
-use Rattle.cell_model.specs.declared.cell.Wire.{Wire}
-use Rattle.cell_model.specs.declared.cell.WireEnd.{WireEnd}
+use Rattle.std.proofs.Common.{◌≡◌, ℕ, zero, suc, ◌<◌, ◌≤◌, Bool, true, false, not, List, [], ◌∷◌, length, cond, Option}
+use Rattle.std.proofs.{Common.{Some, None, refl, sym, ap, ◌∙◌, subst, arith, inl, inr}, lemmas.Bool.{and_parts, eq-eqb}}
+use Rattle.std.proofs.lemmas.{Bool.Decides.Decides-int_eq, List.{get_or_default, Elements.Contains-get_or}}
+use Rattle.std.specs.{Prelude.option_map, Ordering.int_eq, List.{Contains, filter, flat_map, zip}}
+use Rattle.lam_geom.specs.declared.boxes.{Axis.{Axis, TheVariants.{X, Y}}, Side.{Side, TheVariants.{Left, Right}}}
+use Rattle.lam_geom.specs.declared.boxes.Side.TheVariants.{Bottom, Top}
+use Rattle.rule_table.specs.declared.{technology.Tech.Tech, classes.Layer.{Layer, TheVariants.{Diffusion, Poly, Metal}}}
+use Rattle.cell_model.specs.declared.cell.{Cell.Cell, CellPort.CellPort, Port.Port, Wire.Wire, WireEnd.WireEnd}
+use Rattle.cell_model.specs.{Ports.{seen_port, ports_of_cell}, Sound.{wire_at, port_at, no_port, IsEnd, Takes, EndsAt}}
+use Rattle.cell_model.specs.{Sound.{IsOnLowSide, IsOnHighSide, IsWire, IsSound}, Wiring.{axis_of, is_low_side}}
+use Rattle.cell_model.specs.Wiring.{is_same_layer}
 use Rattle.cell_model.specs.declared.cell.WireEnd.TheVariants as ends
-use Rattle.cell_model.specs.Ports.{seen_port, ports_of_cell}
-use Rattle.cell_model.specs.Sound.{wire_at, port_at, no_port, IsEnd, Takes, EndsAt, IsOnLowSide, IsOnHighSide, IsWire, IsSound}
-use Rattle.cell_model.specs.Wiring.{axis_of, is_low_side, is_same_layer}
 use Rattle.expand.proofs.Cells.{wire_sound}
-use Rattle.plan_model.specs.Borders.{is_same_side, layer_rank, port_rank, port_ranks, has_rank, in_order, is_on_side, side_ports, side_before, side_behind, may_meet, misfit}
-use Rattle.grid_rules.proofs.Lists.{in_flat_map, in_map, in_filter, in_range, out_of_flat_map, out_of_map, out_of_filter}
-use Rattle.grid_rules.proofs.OnBorder.{runs_along, other, wire_end}
+use Rattle.plan_model.specs.Borders.{is_same_side, layer_rank, port_rank, port_ranks, has_rank, in_order, is_on_side}
+use Rattle.plan_model.specs.Borders.{side_ports, side_before, side_behind, may_meet, misfit}
+use Rattle.grid_rules.proofs.Lists.{in_flat_map, in_map, in_filter, in_range, out_of_flat_map, out_of_map}
+use Rattle.grid_rules.proofs.{Lists.out_of_filter, OnBorder.{runs_along, other, wire_end}}
 
 -- ---- sides and layers
 

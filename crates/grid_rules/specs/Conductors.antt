@@ -1,19 +1,13 @@
 -- Conducting items of all instances: metal, poly and conducting pieces of diffusion. Which of them are linked by where they lie, and that these links make the
 -- nets of the sticks.
 use Rattle.std.specs.Prelude.{◌≡◌, ℕ, ◌<◌, ℤ, pos, ◌≤ℤ◌, ◌<ℤ◌, List, length}
-use Rattle.rule_table.specs.declared.technology.Tech.{Tech}
-use Rattle.rule_table.specs.declared.classes.Class.{Class}
-use Rattle.rule_table.specs.declared.classes.Class.TheVariants.{M, P, Dc, Dm, C, I, G, B}
+use Rattle.rule_table.specs.declared.{technology.Tech.Tech, classes.Class.{Class, TheVariants.{M, P, Dc, Dm, C, I, G}}}
+use Rattle.rule_table.specs.declared.classes.Class.TheVariants.{B}
 use Rattle.cell_model.specs.declared.cell.Nets.{Nets}
-use Rattle.sym_items.specs.declared.items.Coords.{Coords}
-use Rattle.sym_items.specs.declared.items.Item.{Item}
-use Rattle.sym_items.specs.Sides.{Sides, gap_of_sides}
-use Rattle.sym_items.specs.Standing.{StandTogether}
+use Rattle.sym_items.specs.declared.items.{Coords.Coords, Item.Item}
+use Rattle.sym_items.specs.{Sides.{Sides, gap_of_sides}, Standing.StandTogether}
 use Rattle.expand.specs.declared.master.Master.{Master}
-use Rattle.plan_model.specs.declared.plan.Plan.{Plan}
-use Rattle.plan_model.specs.GridNets.{IsOneNet}
-use Rattle.plan_model.specs.Instances.{Spot, IsSpot}
-use Rattle.plan_model.specs.Plan.{grids_of}
+use Rattle.plan_model.specs.{declared.plan.Plan.Plan, GridNets.IsOneNet, Instances.{Spot, IsSpot}, Plan.grids_of}
 use Rattle.pitch_join.specs.Masters.{ports_of_masters}
 use Rattle.grid_rules.specs.Rules.{sides_at_spot, item_in, items_at, AreNetsOf}
 

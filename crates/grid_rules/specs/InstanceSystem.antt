@@ -1,17 +1,12 @@
 -- What values of the joint variables satisfy, in words of the instances of a plan.
 use Rattle.std.specs.Prelude.{◌≡◌, ◌↔◌, ℕ, ◌<◌, ℤ, pos, List, length}
-use Rattle.lam_geom.specs.declared.boxes.Axis.{Axis}
-use Rattle.lam_geom.specs.declared.boxes.Axis.TheVariants.{X, Y}
+use Rattle.lam_geom.specs.declared.boxes.Axis.{Axis, TheVariants.{X, Y}}
 use Rattle.rule_table.specs.declared.technology.Tech.{Tech}
 use Rattle.cell_model.specs.declared.cell.CellPort.{CellPort}
-use Rattle.expand.specs.declared.master.Master.{Master}
-use Rattle.expand.specs.Laws.{MeetsStructure}
-use Rattle.plan_model.specs.declared.plan.Plan.{Plan}
-use Rattle.plan_model.specs.GridNets.{MeetAt}
-use Rattle.plan_model.specs.Instances.{Spot, IsSpot, master_at_spot}
+use Rattle.expand.specs.{declared.master.Master.Master, Laws.MeetsStructure}
+use Rattle.plan_model.specs.{declared.plan.Plan.Plan, GridNets.MeetAt, Instances.{Spot, IsSpot, master_at_spot}}
 use Rattle.plan_model.specs.Plan.{grids_of}
-use Rattle.pitch_join.specs.Joined.{far_of, wire_var, local_of}
-use Rattle.pitch_join.specs.Masters.{master_at, ports_of_masters}
+use Rattle.pitch_join.specs.{Joined.{far_of, wire_var, local_of}, Masters.{master_at, ports_of_masters}}
 use Rattle.pitch_join.specs.Meeting.{MeetsPlan}
 
 -- two instances stand in one column of a grid, or on y in one row

@@ -1,21 +1,13 @@
 -- What lies where in a layout of all instances: poly over diffusion in transistors and at buried contacts alone; the boxes of a transistor; and channels,
 -- implants and windows.
 use Rattle.std.specs.Prelude.{◌≡◌, ◌↔◌, ℕ, ◌<◌, ◌⊎◌, ℤ, pos, ◌+ℤ◌, ◌-ℤ◌, ◌≤ℤ◌, ◌<ℤ◌, Bool, IsTrue, List, length}
-use Rattle.rule_table.specs.declared.technology.Tech.{Tech}
+use Rattle.rule_table.specs.declared.{technology.Tech.Tech, classes.Class.{Class, TheVariants.{P, Dc, Dm, I, G, B}}}
 use Rattle.rule_table.specs.Technology.{numbers_of, has_buried_of}
-use Rattle.rule_table.specs.declared.classes.Class.{Class}
-use Rattle.rule_table.specs.declared.classes.Class.TheVariants.{P, Dc, Dm, I, G, B}
-use Rattle.cell_model.specs.declared.cell.Axis2.{Axis2}
-use Rattle.cell_model.specs.declared.cell.NodeKind.TheVariants.{Fet}
-use Rattle.sym_items.specs.declared.items.Coords.{Coords}
-use Rattle.sym_items.specs.Sides.{Sides}
-use Rattle.sym_items.specs.Transposed.{sides_along}
-use Rattle.sym_items.specs.Standing.{StandTogether}
+use Rattle.cell_model.specs.declared.cell.{Axis2.Axis2, NodeKind.TheVariants.Fet}
+use Rattle.sym_items.specs.{declared.items.Coords.Coords, Sides.Sides, Transposed.sides_along, Standing.StandTogether}
 use Rattle.expand.specs.declared.master.Master.{Master}
 use Rattle.buried_contacts.specs.Contacts.{axis_along, common, kind_of}
-use Rattle.plan_model.specs.declared.plan.Plan.{Plan}
-use Rattle.plan_model.specs.Instances.{Spot, IsSpot, master_at_spot}
-use Rattle.plan_model.specs.Plan.{grids_of}
+use Rattle.plan_model.specs.{declared.plan.Plan.Plan, Instances.{Spot, IsSpot, master_at_spot}, Plan.grids_of}
 use Rattle.pitch_join.specs.Masters.{master_at}
 use Rattle.grid_rules.specs.Conductors.{Drawn, IsDrawn, item_of, sides_of_drawn, gap_of_drawn}
 

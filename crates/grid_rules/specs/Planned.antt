@@ -1,9 +1,7 @@
 use Rattle.std.specs.Prelude.{All, List}
 use Rattle.rule_table.specs.declared.technology.Tech.{Tech}
-use Rattle.expand.specs.declared.master.Master.{Master}
-use Rattle.expand.specs.Masters.{IsMaster}
-use Rattle.plan_model.specs.declared.plan.Plan.{Plan}
-use Rattle.plan_model.specs.Plan.{IsPlanOver}
+use Rattle.expand.specs.{declared.master.Master.Master, Masters.IsMaster}
+use Rattle.plan_model.specs.{declared.plan.Plan.Plan, Plan.IsPlanOver}
 use Rattle.pitch_join.specs.Masters.{ports_of_masters}
 
 -- The masters are those of a plan, however many parts they have.

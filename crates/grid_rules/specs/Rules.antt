@@ -1,27 +1,15 @@
 -- Items of all instances, and the spacings that they keep.
 use Rattle.std.specs.Prelude.{◌≡◌, ◌≢◌, ℕ, ◌<◌, ℤ, ◌+ℤ◌, ◌≤ℤ◌, List, Some, length, IsTrue}
-use Rattle.lam_geom.specs.declared.boxes.Axis.{Axis}
-use Rattle.lam_geom.specs.declared.boxes.Axis.TheVariants.{X, Y}
-use Rattle.rule_table.specs.declared.classes.Rule.{Rule}
-use Rattle.rule_table.specs.declared.technology.Tech.{Tech}
-use Rattle.rule_table.specs.Technology.{spacing_of, widest_of}
-use Rattle.cell_model.specs.declared.cell.CellPort.{CellPort}
-use Rattle.cell_model.specs.declared.cell.Nets.{Nets}
-use Rattle.cell_model.specs.Nets.{AreNets}
-use Rattle.sym_items.specs.declared.items.Coords.{Coords}
-use Rattle.sym_items.specs.declared.items.Item.{Item}
-use Rattle.sym_items.specs.Layouts.{layout_at, size_in}
-use Rattle.sym_items.specs.Sides.{Sides, sides_in, gap_of_sides}
-use Rattle.sym_items.specs.Standing.{StandTogether}
+use Rattle.lam_geom.specs.declared.boxes.Axis.{Axis, TheVariants.{X, Y}}
+use Rattle.rule_table.specs.{declared.{classes.Rule.Rule, technology.Tech.Tech}, Technology.{spacing_of, widest_of}}
+use Rattle.cell_model.specs.{declared.cell.{CellPort.CellPort, Nets.Nets}, Nets.AreNets}
+use Rattle.sym_items.specs.declared.items.{Coords.Coords, Item.Item}
+use Rattle.sym_items.specs.{Layouts.{layout_at, size_in}, Sides.{Sides, sides_in, gap_of_sides}, Standing.StandTogether}
 use Rattle.expand.specs.declared.master.Master.{Master}
-use Rattle.pair_rules.specs.Bound.{is_poly_on_diffusion, item_at}
-use Rattle.pair_rules.specs.Clean.{IsClean}
-use Rattle.plan_model.specs.declared.plan.Plan.{Plan}
-use Rattle.plan_model.specs.GridNets.{IsOneNet}
-use Rattle.plan_model.specs.Instances.{Spot, IsSpot, master_at_spot, left_of, bottom_of}
-use Rattle.plan_model.specs.Plan.{grids_of}
-use Rattle.pitch_join.specs.Layouts.{LayoutsMeet}
-use Rattle.pitch_join.specs.Masters.{master_at, ports_of_masters}
+use Rattle.pair_rules.specs.{Bound.{is_poly_on_diffusion, item_at}, Clean.IsClean}
+use Rattle.plan_model.specs.{declared.plan.Plan.Plan, GridNets.IsOneNet, Instances.{Spot, IsSpot, master_at_spot}}
+use Rattle.plan_model.specs.{Instances.{left_of, bottom_of}, Plan.grids_of}
+use Rattle.pitch_join.specs.{Layouts.LayoutsMeet, Masters.{master_at, ports_of_masters}}
 
 -- finished layouts of masters: bound items of a master keep their spacing, and the layouts meet the plan on both axes
 pub record AreFinished (tech : Tech) (plan : Plan) (masters : List Master) (layouts : List Coords) : Type 0 where

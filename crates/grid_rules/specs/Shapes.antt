@@ -1,28 +1,16 @@
 -- The boxes of all instances, one by one, by the items that they show.
-use Rattle.std.specs.Prelude.{◌≡◌, ℕ, Some, List, length, map, filter, flat_map, slice_get}
-use Rattle.std.specs.List.{range_with_len}
+use Rattle.std.specs.{Prelude.{◌≡◌, ℕ, Some, List, length, map, filter, flat_map, slice_get}, List.range_with_len}
 use Rattle.std.specs.Option.{unwrap_or}
-use Rattle.lam_geom.specs.declared.boxes.Axis.TheVariants.{X, Y}
-use Rattle.lam_geom.specs.declared.boxes.MaskBox.{MaskBox}
-use Rattle.lam_geom.specs.declared.boxes.MaskLayer.{MaskLayer}
+use Rattle.lam_geom.specs.declared.boxes.{Axis.TheVariants.{X, Y}, MaskBox.MaskBox, MaskLayer.MaskLayer}
 use Rattle.lam_geom.specs.declared.boxes.MaskLayer.TheVariants.{ND}
-use Rattle.rule_table.specs.declared.technology.Tech.{Tech}
-use Rattle.rule_table.specs.Technology.{widest_of}
-use Rattle.sym_items.specs.declared.items.Coords.{Coords}
-use Rattle.sym_items.specs.declared.items.Item.{Item}
-use Rattle.sym_items.specs.Layouts.{size_in}
-use Rattle.sym_items.specs.Sides.{Sides, sides_of}
+use Rattle.rule_table.specs.{declared.technology.Tech.Tech, Technology.widest_of}
+use Rattle.sym_items.specs.{declared.items.{Coords.Coords, Item.Item}, Layouts.size_in, Sides.{Sides, sides_of}}
 use Rattle.pair_rules.specs.Bound.{item_at}
 use Rattle.expand.specs.declared.master.Master.{Master}
-use Rattle.plan_model.specs.declared.plan.Plan.{Plan}
-use Rattle.plan_model.specs.Instances.{Spot, spots_of}
-use Rattle.plan_model.specs.Plan.{grids_of}
-use Rattle.mask_out.specs.Masks.{Mask, layer_drawn, is_drawn, mask_layers}
-use Rattle.mask_out.specs.Pictures.{drawings_in, calls_of, flat_of}
+use Rattle.plan_model.specs.{declared.plan.Plan.Plan, Instances.{Spot, spots_of}, Plan.grids_of}
+use Rattle.mask_out.specs.{Masks.{Mask, layer_drawn, is_drawn, mask_layers}, Pictures.{drawings_in, calls_of, flat_of}}
 use Rattle.crossings.specs.Boxes.{box_at, grains}
-use Rattle.grid_rules.specs.Rules.{items_at}
-use Rattle.grid_rules.specs.Conductors.{Drawn, item_of, sides_of_drawn}
-use Rattle.grid_rules.specs.Meetings.{at}
+use Rattle.grid_rules.specs.{Rules.items_at, Conductors.{Drawn, item_of, sides_of_drawn}, Meetings.at}
 
 -- ---- the items that are boxes of masks
 

@@ -1,37 +1,24 @@
 -- The netlist of the sticks: the pieces of all instances with the nets of the parts that they belong to, and a device for each transistor.
-use Rattle.std.specs.Prelude.{◌≡◌, ◌↔◌, ℕ, ◌<◌, ◌&&◌, nat_lt, ℤ, Bool, true, false, All, Contains, Some, List, length, map, flat_map, slice_get, slice_index_or}
-use Rattle.std.specs.List.{range_with_len}
+use Rattle.std.specs.Prelude.{◌≡◌, ◌↔◌, ℕ, ◌<◌, ◌&&◌, nat_lt, ℤ, Bool, true, false, All, Contains, Some, List, length}
+use Rattle.std.specs.{Prelude.{map, flat_map, slice_get, slice_index_or}, List.range_with_len}
 use Rattle.lam_geom.specs.declared.boxes.MaskBox.{MaskBox}
-use Rattle.rule_table.specs.declared.technology.Tech.{Tech}
-use Rattle.rule_table.specs.declared.classes.Class.TheVariants.{P, Dm, G}
-use Rattle.cell_model.specs.declared.cell.Axis2.{Axis2}
-use Rattle.cell_model.specs.declared.cell.NodeKind.{NodeKind}
-use Rattle.cell_model.specs.declared.cell.NodeKind.TheVariants.{Joint, Contact, Buried, Fet}
+use Rattle.rule_table.specs.declared.{technology.Tech.Tech, classes.Class.TheVariants.{P, Dm, G}}
+use Rattle.cell_model.specs.declared.cell.{Axis2.Axis2, NodeKind.{NodeKind, TheVariants.{Joint, Contact, Buried, Fet}}}
 use Rattle.cell_model.specs.declared.cell.Nets.{Nets}
-use Rattle.sym_items.specs.declared.items.Coords.{Coords}
-use Rattle.sym_items.specs.Sides.{sides_of}
-use Rattle.expand.specs.declared.master.Master.{Master}
-use Rattle.expand.specs.Items.{nets_at}
+use Rattle.sym_items.specs.{declared.items.Coords.Coords, Sides.sides_of}
+use Rattle.expand.specs.{declared.master.Master.Master, Items.nets_at}
 use Rattle.buried_contacts.specs.Contacts.{axis_along, kind_of}
-use Rattle.plan_model.specs.declared.plan.Plan.{Plan}
-use Rattle.plan_model.specs.GridNets.{IsOneNet}
-use Rattle.plan_model.specs.Instances.{Spot, master_at_spot}
+use Rattle.plan_model.specs.{declared.plan.Plan.Plan, GridNets.IsOneNet, Instances.{Spot, master_at_spot}}
 use Rattle.plan_model.specs.Plan.{grids_of}
 use Rattle.pitch_join.specs.Masters.{ports_of_masters}
 use Rattle.graph_search.specs.Netting.{Reaches}
 use Rattle.crossings.specs.declared.crossing.Crossing.{Crossing}
-use Rattle.crossings.specs.Boxes.{extent, other, grains}
-use Rattle.crossings.specs.Crossings.{AreInOrder, AreProper, AreCrossings}
-use Rattle.net_extract.specs.declared.netlist.Netlist.{Netlist}
-use Rattle.net_extract.specs.declared.netlist.Part.{Part}
-use Rattle.net_extract.specs.declared.netlist.Part.TheVariants.{Whole, Low, High}
-use Rattle.net_extract.specs.Extraction.{IsLink, IsExtracted}
-use Rattle.net_extract.specs.Netlists.{IsNetlistOf}
-use Rattle.net_extract.specs.Places.{Place, place, parts_on, places_of}
-use Rattle.grid_rules.specs.Rules.{AreNetsOf}
-use Rattle.grid_rules.specs.Conductors.{Drawn, item_of, sides_of_drawn}
-use Rattle.grid_rules.specs.Meetings.{at, master_of, IsOwned, IsTransistorAt}
-use Rattle.grid_rules.specs.Shapes.{shapes_of, Shows, layer_of, sides_in_grains}
+use Rattle.crossings.specs.{Boxes.{extent, other, grains}, Crossings.{AreInOrder, AreProper, AreCrossings}}
+use Rattle.net_extract.specs.declared.netlist.{Netlist.Netlist, Part.{Part, TheVariants.{Whole, Low, High}}}
+use Rattle.net_extract.specs.{Extraction.{IsLink, IsExtracted}, Netlists.IsNetlistOf, Places.{Place, place, parts_on}}
+use Rattle.net_extract.specs.Places.{places_of}
+use Rattle.grid_rules.specs.{Rules.AreNetsOf, Conductors.{Drawn, item_of, sides_of_drawn}, Meetings.{at, master_of}}
+use Rattle.grid_rules.specs.{Meetings.{IsOwned, IsTransistorAt}, Shapes.{shapes_of, Shows, layer_of, sides_in_grains}}
 
 -- ---- pieces
 

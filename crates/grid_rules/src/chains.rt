@@ -1,7 +1,5 @@
 //! That the sticks' nets are joined by what lies where.
-ghost use Rattle.grid_rules.specs.Planned.{AreOfPlan};
-ghost use Rattle.grid_rules.specs.Rules.{AreFinished};
-ghost use Rattle.grid_rules.specs.Conductors.{NetsAreConnected};
+ghost use Rattle.grid_rules.specs.{Planned.AreOfPlan, Rules.AreFinished, Conductors.NetsAreConnected};
 
 use expand::Master;
 use plan_model::Plan;

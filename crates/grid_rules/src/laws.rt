@@ -1,13 +1,11 @@
 //! What holds of the layouts of all masters together.
 
 ghost use Rattle.std.specs.Prelude.{All};
-ghost use Rattle.plan_model.specs.Instances.{IsAligned};
-ghost use Rattle.plan_model.specs.Plan.{grids_of};
+ghost use Rattle.plan_model.specs.{Instances.IsAligned, Plan.grids_of};
 ghost use Rattle.sym_items.specs.Layouts.{size_in};
 ghost use Rattle.lam_geom.specs.declared.boxes.Axis.TheVariants.{X, Y};
-ghost use Rattle.grid_rules.specs.Planned.{AreOfPlan};
-ghost use Rattle.grid_rules.specs.InstanceSystem.{ListsSpeakOfInstances};
-ghost use Rattle.grid_rules.specs.Rules.{AreFinished, AllKeepSpacing};
+ghost use Rattle.grid_rules.specs.{Planned.AreOfPlan, InstanceSystem.ListsSpeakOfInstances, Rules.AreFinished};
+ghost use Rattle.grid_rules.specs.Rules.{AllKeepSpacing};
 
 use expand::Master;
 use plan_model::Plan;

@@ -1,9 +1,7 @@
 //! That what is extracted from the boxes of all instances is the sticks' netlist.
 ghost use Rattle.std.specs.Prelude.{◌≡◌, List, length};
 ghost use Rattle.lam_geom.specs.declared.boxes.MaskBox.{MaskBox};
-ghost use Rattle.grid_rules.specs.Planned.{AreOfPlan};
-ghost use Rattle.grid_rules.specs.Rules.{AreFinished};
-ghost use Rattle.grid_rules.specs.Shapes.{PictureShowsShapes, AreShapes};
+ghost use Rattle.grid_rules.specs.{Planned.AreOfPlan, Rules.AreFinished, Shapes.{PictureShowsShapes, AreShapes}};
 ghost use Rattle.grid_rules.specs.Sticks.{NetsAreTheSticks};
 
 use expand::Master;

@@ -1,8 +1,6 @@
 -- What holds of each element, in the two words for it.
-use Rattle.std.proofs.Common.{List, [], ◌∷◌, get_or}
-use Rattle.std.specs.Prelude.{All}
-use Rattle.std.specs.List.{AllByRecursion}
-use Rattle.std.proofs.lemmas.List.Elements.{All-contains, Contains-get_or}
+use Rattle.std.proofs.{Common.{List, [], ◌∷◌, get_or}, lemmas.List.Elements.{All-contains, Contains-get_or}}
+use Rattle.std.specs.{Prelude.All, List.AllByRecursion}
 use Rattle.list_facts.proofs.Elements.{by_number}
 
 pub by_all : {X : Type 0} (P : X → Type 0) (xs : List X) → All P xs → AllByRecursion P xs

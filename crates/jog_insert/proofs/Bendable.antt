@@ -1,26 +1,17 @@
 -- Whether a wire can be bent.
 use Rattle.std.proofs.Common.{◌≡◌, ℕ, ◌<◌, ◌≤◌, ◌≢◌, ℤ, List, length, get_or, refl, sym, ap, subst, ◌∙◌, arith}
-use Rattle.std.specs.Prelude.{pos, ◌≤ℤ◌, false, not}
-use Rattle.std.proofs.lemmas.Int.{ints, to_z-of_z}
-use Rattle.std.proofs.lemmas.List.{get_or_default}
+use Rattle.std.{proofs.lemmas.{Int.{ints, to_z-of_z}, List.get_or_default}, specs.Prelude.{pos, ◌≤ℤ◌, false, not}}
 use Rattle.list_facts.proofs.Elements.{all_at}
-use Rattle.rule_table.specs.declared.technology.Tech.{Tech}
-use Rattle.cell_model.specs.declared.cell.Node.{Node}
+use Rattle.rule_table.specs.{declared.technology.Tech.Tech, Bounds.IsSize}
+use Rattle.cell_model.specs.declared.cell.{Node.Node, Axis2.{Axis2, TheVariants.{Across, Up}}, Cell.Cell, Wire.Wire}
+use Rattle.cell_model.specs.{declared.cell.WireEnd.WireEnd, contracts.cell.Axis2.the_type as axis, Sound.node_at}
+use Rattle.cell_model.specs.Sound.{wire_at, no_node, no_wire, IsEnd, IsNode, IsWire, IsSound}
 use denote.Enum.Bare.{sameb}
 use mir.Val.{to_z, of_z}
 use mir.Syntax.{w64}
-use Rattle.rule_table.specs.Bounds.{IsSize}
 use Rattle.rule_table.specs.declared.classes.Layer.TheVariants as layers
-use Rattle.cell_model.specs.contracts.cell.Axis2.{the_type as axis}
-use Rattle.cell_model.specs.declared.cell.Axis2.{Axis2}
-use Rattle.cell_model.specs.declared.cell.Axis2.TheVariants.{Across, Up}
-use Rattle.cell_model.specs.declared.cell.Cell.{Cell}
-use Rattle.cell_model.specs.declared.cell.Wire.{Wire}
-use Rattle.cell_model.specs.declared.cell.WireEnd.{WireEnd}
 use Rattle.cell_model.specs.declared.cell.WireEnd.TheVariants as ends
-use Rattle.cell_model.specs.Sound.{node_at, wire_at, no_node, no_wire, IsEnd, IsNode, IsWire, IsSound}
-use Rattle.jog_insert.specs.Jogs.{Crosses, IsBendable}
-use Rattle.jog_insert.specs.Building.{IsRun}
+use Rattle.jog_insert.specs.{Jogs.{Crosses, IsBendable}, Building.IsRun}
 
 -- one node
 pub same_node : (i j : ℕ) (end : WireEnd) → end ≡ ends.Node i → end ≡ ends.Node j → i ≡ j

@@ -1,25 +1,17 @@
 -- The lines that are put together are those of the bent cell, and have a text.
-use Rattle.std.proofs.Common.{◌≡◌, ℕ, ◌+◌, ◌<◌, ◌≤◌, Bool, true, false, List, [], ◌∷◌, ◌++◌, map, take, drop, Some, sym, ap, subst, ◌∙◌, append_assoc, arith}
-use Rattle.std.specs.Prelude.{All}
-use Rattle.std.specs.List.{AllByRecursion}
-use Rattle.std.proofs.lemmas.List.{take_at, drop_at, take-append-drop, length-append}
+use Rattle.std.proofs.Common.{◌≡◌, ℕ, ◌+◌, ◌<◌, ◌≤◌, Bool, true, false, List, [], ◌∷◌, ◌++◌, map, take, drop, Some, sym}
+use Rattle.std.proofs.{Common.{ap, subst, ◌∙◌, append_assoc, arith}, lemmas.List.{take_at, drop_at, take-append-drop}}
+use Rattle.std.{proofs.lemmas.List.length-append, specs.{Prelude.All, List.AllByRecursion}}
 use Rattle.list_facts.proofs.Elements.{all_append, all_parts}
-use Rattle.stick_parse.specs.declared.design.Layer.{Layer}
-use Rattle.stick_parse.specs.declared.design.Form.{Form}
-use Rattle.stick_parse.specs.declared.design.Form.TheVariants.{Joint, Contact, Buried, Fet, Port, Inst, Wire, Limit}
-use Rattle.stick_parse.specs.declared.design.Line.{Line}
-use Rattle.stick_parse.specs.declared.design.CellText.{CellText}
+use Rattle.stick_parse.specs.declared.design.{Layer.Layer, Form.{Form, TheVariants.{Joint, Contact, Buried, Fet, Port}}}
+use Rattle.stick_parse.specs.declared.design.{Form.TheVariants.{Inst, Wire, Limit}, Line.Line, CellText.CellText}
 use Rattle.stick_parse.specs.Writable.{IsPath, IsForm, IsLine}
 use Rattle.stick_print.proofs.Spelled.{name_is_path}
-use Rattle.cell_model.specs.declared.cell.Cell.{Cell}
-use Rattle.cell_model.specs.Sound.{node_at}
-use Rattle.jog_insert.specs.declared.runs.Run.{Run}
-use Rattle.jog_insert.specs.Bends.{Bend, part_col, moved_form}
-use Rattle.jog_insert.proofs.Alls.{by_all}
+use Rattle.cell_model.specs.{declared.cell.Cell.Cell, Sound.node_at}
+use Rattle.jog_insert.specs.{declared.runs.Run.Run, Bends.{Bend, part_col, moved_form}, Jogs.{lower_name, upper_name}}
+use Rattle.jog_insert.specs.{Jogs.{moved_line, bent_forms, bend_at, IsJogNumber, IsNearForm, IsBent}, Building.IsRun}
+use Rattle.jog_insert.{specs.Building.IsWireAt, proofs.{Alls.by_all, JogNames.{lower_is_name, upper_is_name}}}
 use Rattle.design_edits.specs.Cells.{unnumbered}
-use Rattle.jog_insert.specs.Jogs.{lower_name, upper_name, moved_line, bent_forms, bend_at, IsJogNumber, IsNearForm, IsBent}
-use Rattle.jog_insert.specs.Building.{IsRun, IsWireAt}
-use Rattle.jog_insert.proofs.JogNames.{lower_is_name, upper_is_name}
 
 -- the lines, given the bend and the names of the nodes at the wire's ends
 made_of : Bend → ℕ → Layer → List ℕ → List ℕ → ℕ → List Line → List Line → List Line

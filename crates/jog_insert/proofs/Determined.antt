@@ -1,19 +1,14 @@
 -- A jog leads to one design.
 use Rattle.std.proofs.Common.{◌≡◌, ℕ, Bool, true, List, ◌++◌, map, refl, sym, ap, subst, ◌∙◌, arith}
 use Rattle.std.specs.Prelude.{pos, slice_set}
-use Rattle.stick_parse.specs.declared.design.Layer.{Layer}
-use Rattle.stick_parse.specs.declared.design.Form.{Form}
-use Rattle.stick_parse.specs.declared.design.Form.TheVariants.{Joint, Contact, Buried, Fet, Port, Inst, Wire, Limit}
-use Rattle.stick_parse.specs.declared.design.Line.{Line}
-use Rattle.stick_parse.specs.declared.design.CellText.{CellText}
+use Rattle.stick_parse.specs.declared.design.{Layer.Layer, Form.{Form, TheVariants.{Joint, Contact, Buried, Fet, Port}}}
+use Rattle.stick_parse.specs.declared.design.{Form.TheVariants.{Inst, Wire, Limit}, Line.Line, CellText.CellText}
 use Rattle.stick_parse.specs.declared.design.Design.{Design}
 use Rattle.stick_print.specs.ReadBack.{laid_out}
-use Rattle.cell_model.specs.declared.cell.Cell.{Cell}
-use Rattle.cell_model.specs.Sound.{node_at}
+use Rattle.cell_model.specs.{declared.cell.Cell.Cell, Sound.node_at}
 use Rattle.jog_insert.proofs.Bendable.{same_node}
-use Rattle.design_edits.specs.Cells.{unnumbered, cell_text_at}
-use Rattle.design_edits.proofs.Splits.{same_split}
 use Rattle.jog_insert.specs.Jogs.{moved_line, bent_forms, is_wire, IsWireOf, bend_at, IsJogNumber, IsBent, IsJogged}
+use Rattle.design_edits.{specs.Cells.{unnumbered, cell_text_at}, proofs.Splits.same_split}
 
 -- ---- the parts of a jog
 

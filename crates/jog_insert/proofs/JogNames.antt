@@ -1,18 +1,12 @@
 -- The names of the joints of jogs.
-use Rattle.std.proofs.Common.{◌≡◌, ℕ, ◌+◌, ◌-◌, ◌<◌, ◌≤◌, true, List, [], ◌∷◌, ◌++◌, length, take, refl, sym, ap, subst, inl, inr, ◌∙◌, arith}
-use Rattle.std.specs.Prelude.{decimal, codes, ◌&&◌, nat_le}
-use Rattle.std.specs.List.{slice_range, list_all}
-use Rattle.std.specs.Char.{is_ascii_digit, digit_value}
-use Rattle.std.specs.Str.Parse.{AllDigits, digits_value}
-use Rattle.std.specs.Int.{IsInRange}
-use Rattle.std.proofs.lemmas.Bool.Decides.{nat_tests}
-use Rattle.std.proofs.lemmas.Fmt.{decimal_is_IsNumeral, length-decimal-le}
-use Rattle.std.proofs.lemmas.List.{take_at, length-append}
-use Rattle.std.proofs.lemmas.Str.Parse.{digit_from_value}
+use Rattle.std.proofs.Common.{◌≡◌, ℕ, ◌+◌, ◌-◌, ◌<◌, ◌≤◌, true, List, [], ◌∷◌, ◌++◌, length, take, refl, sym, ap, subst}
+use Rattle.std.proofs.{Common.{inl, inr, ◌∙◌, arith}, lemmas.{Bool.Decides.nat_tests, Fmt.decimal_is_IsNumeral}}
+use Rattle.std.proofs.lemmas.{Fmt.length-decimal-le, List.{take_at, length-append}, Str.Parse.digit_from_value}
+use Rattle.std.specs.{Prelude.{decimal, codes, ◌&&◌, nat_le}, List.{slice_range, list_all}, Char.is_ascii_digit}
+use Rattle.std.specs.{Char.digit_value, Str.Parse.{AllDigits, digits_value}, Int.IsInRange}
 use Rattle.stick_lex.specs.Tokens.{is_name_byte, is_numeral}
 use Rattle.stick_parse.specs.Writable.{IsName}
-use Rattle.jog_insert.specs.Jogs.{joint_name, lower_name, upper_name}
-use Rattle.jog_insert.specs.Building.{IsNameOf}
+use Rattle.jog_insert.specs.{Jogs.{joint_name, lower_name, upper_name}, Building.IsNameOf}
 
 -- ---- digits
 

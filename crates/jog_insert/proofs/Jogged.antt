@@ -1,21 +1,14 @@
 -- A jog in a design whose names and sizes have been checked.
 use Rattle.std.proofs.Common.{◌≡◌, ℕ, ◌<◌, Bool, List, length, sym, ap, subst, ◌∙◌, arith}
-use Rattle.std.specs.Prelude.{All, slice_set}
-use Rattle.std.specs.List.{AllByRecursion}
+use Rattle.std.specs.{Prelude.{All, slice_set}, List.AllByRecursion}
 use Rattle.list_facts.proofs.Elements.{all_at}
-use Rattle.stick_parse.specs.declared.design.Line.{Line}
-use Rattle.stick_parse.specs.declared.design.CellText.{CellText}
-use Rattle.stick_parse.specs.declared.design.Design.{Design}
-use Rattle.stick_parse.specs.Writable.{IsCell}
+use Rattle.stick_parse.specs.{declared.design.{Line.Line, CellText.CellText, Design.Design}, Writable.IsCell}
 use Rattle.stick_print.specs.ReadBack.{laid_out}
 use Rattle.cell_model.specs.declared.cell.Cell.{Cell}
-use Rattle.stick_cell.specs.declared.cells.Cells.{Cells}
-use Rattle.stick_cell.specs.Known.{known_at}
-use Rattle.stick_cell.specs.Tables.{known_of, IsResolved}
+use Rattle.stick_cell.specs.{declared.cells.Cells.Cells, Known.known_at, Tables.{known_of, IsResolved}}
 use Rattle.stick_cell.proofs.TableReads.{length-known_cells}
 use Rattle.design_edits.specs.Cells.{cell_text_at, no_cell}
-use Rattle.jog_insert.specs.Jogs.{IsCopy, IsNearForm, IsBent, IsJogged}
-use Rattle.jog_insert.specs.Building.{StandsAlone, IsBentCell}
+use Rattle.jog_insert.specs.{Jogs.{IsCopy, IsNearForm, IsBent, IsJogged}, Building.{StandsAlone, IsBentCell}}
 use Rattle.jog_insert.proofs.NodeNames.{AreNamed, nodes_named}
 
 -- ---- the cell

@@ -1,14 +1,13 @@
 -- The numbers of jogs whose joints have names that stand in the cell are marked, line by line.
-use Rattle.std.proofs.Common.{◌≡◌, ℕ, suc, ◌<◌, ◌≤◌, ◌≢◌, Bool, true, false, List, [], ◌∷◌, ◌++◌, length, get_or, set, refl, sym, ap, subst, inl, inr, ◌∙◌, arith}
-use Rattle.std.specs.Prelude.{◌⊎◌, Contains, replicate, slice_index_or, if◌then◌else◌}
-use Rattle.std.proofs.lemmas.Bool.{cases_eq, cases_lt}
+use Rattle.std.proofs.Common.{◌≡◌, ℕ, suc, ◌<◌, ◌≤◌, ◌≢◌, Bool, true, false, List, [], ◌∷◌, ◌++◌, length, get_or, set}
+use Rattle.std.proofs.{Common.{refl, sym, ap, subst, inl, inr, ◌∙◌, arith}, lemmas.Bool.{cases_eq, cases_lt}}
 use Rattle.std.proofs.lemmas.List.{get_or-set_same, get_or-set_other, length-set, length-replicate, get_or-replicate}
 use Rattle.std.proofs.lemmas.List.Elements.{Contains-append_left, Contains-push, Contains-push_cases, at_from_Contains}
-use Rattle.std.proofs.lemmas.List.Folds.{sum_by-replicate}
-use Rattle.std.proofs.lemmas.List.Sums.{sum_by-set, sum_by-cons}
+use Rattle.std.proofs.lemmas.List.{Folds.sum_by-replicate, Sums.{sum_by-set, sum_by-cons}}
+use Rattle.std.specs.Prelude.{◌⊎◌, Contains, replicate, slice_index_or, if◌then◌else◌}
 use Rattle.stick_parse.specs.declared.design.Line.{Line}
-use Rattle.jog_insert.specs.Jogs.{lower_name, upper_name, name_in, IsTaken, IsFree, IsJogNumber}
-use Rattle.jog_insert.specs.Building.{IsNameOf, IsTakenBy, AreMarked, Marks, marks_in}
+use Rattle.jog_insert.specs.{Jogs.{lower_name, upper_name, name_in, IsTaken, IsFree, IsJogNumber}, Building.IsNameOf}
+use Rattle.jog_insert.specs.Building.{IsTakenBy, AreMarked, Marks, marks_in}
 
 -- ---- names that are taken, with one more line
 

@@ -1,28 +1,20 @@
 -- The nodes of a cell without uses have the names of its lines.
-use Rattle.std.proofs.Common.{◌≡◌, ℕ, zero, suc, ◌+◌, ◌<◌, List, [], ◌∷◌, ◌++◌, length, get_or, Result, Ok, refl, sym, ap, subst, ◌∙◌, arith}
-use Rattle.std.specs.Prelude.{All}
-use Rattle.std.specs.List.{AllByRecursion}
-use Rattle.std.proofs.lemmas.List.{length-append, get_or_push, get_or_append_left}
+use Rattle.std.proofs.Common.{◌≡◌, ℕ, zero, suc, ◌+◌, ◌<◌, List, [], ◌∷◌, ◌++◌, length, get_or, Result, Ok, refl, sym}
+use Rattle.std.proofs.{Common.{ap, subst, ◌∙◌, arith}, lemmas.List.{length-append, get_or_push, get_or_append_left}}
+use Rattle.std.specs.{Prelude.All, List.AllByRecursion}
 use Rattle.list_facts.proofs.Elements.{all_append}
 use Rattle.rule_table.specs.declared.technology.Tech.{Tech}
-use Rattle.stick_parse.specs.declared.fault.StickKind.TheVariants.{RepeatedName, PortWires}
-use Rattle.stick_parse.specs.declared.fault.StickFault.{StickFault}
-use Rattle.stick_parse.specs.declared.design.Form.{Form}
-use Rattle.stick_parse.specs.declared.design.Form.TheVariants.{Joint, Contact, Buried, Fet, Port, Inst, Wire, Limit}
-use Rattle.stick_parse.specs.declared.design.Line.{Line}
-use Rattle.stick_parse.specs.declared.design.CellText.{CellText}
-use Rattle.stick_parse.specs.Reading.{◌>>=◌}
-use Rattle.stick_parse.specs.Order.{at_line}
-use Rattle.stick_parse.specs.Writable.{IsName, IsPath, IsForm, IsLine, IsCell}
+use Rattle.stick_parse.specs.declared.fault.{StickKind.TheVariants.{RepeatedName, PortWires}, StickFault.StickFault}
+use Rattle.stick_parse.specs.declared.design.Form.{Form, TheVariants.{Joint, Contact, Buried, Fet, Port, Inst, Wire}}
+use Rattle.stick_parse.specs.declared.design.{Form.TheVariants.Limit, Line.Line, CellText.CellText}
+use Rattle.stick_parse.specs.{Reading.◌>>=◌, Order.at_line, Writable.{IsName, IsPath, IsForm, IsLine, IsCell}}
 use Rattle.stick_print.proofs.Spelled.{name_is_path}
 use Rattle.cell_model.specs.declared.cell.Node.{Node}
-use Rattle.stick_cell.specs.Known.{Known, begun, known_at}
-use Rattle.stick_cell.specs.Checks.{demand}
-use Rattle.stick_cell.specs.Lines.{after_form, after_lines, after_cell, is_new_cell, cells_after, is_wired, known_cells}
-use Rattle.stick_cell.proofs.Accepted.{bound, two_bound, ok_same, at_line_ok}
-use Rattle.stick_cell.proofs.Made.{IsWithNode, joint_made, contact_made, buried_made, fet_made, port_made, wire_made, limit_made}
-use Rattle.jog_insert.proofs.Alls.{by_all}
-use Rattle.jog_insert.specs.Jogs.{IsCopy}
+use Rattle.stick_cell.specs.{Known.{Known, begun, known_at}, Checks.demand, Lines.{after_form, after_lines, after_cell}}
+use Rattle.stick_cell.specs.Lines.{is_new_cell, cells_after, is_wired, known_cells}
+use Rattle.stick_cell.proofs.{Accepted.{bound, two_bound, ok_same, at_line_ok}, Made.{IsWithNode, joint_made}}
+use Rattle.stick_cell.proofs.Made.{contact_made, buried_made, fet_made, port_made, wire_made, limit_made}
+use Rattle.jog_insert.{proofs.Alls.by_all, specs.Jogs.IsCopy}
 
 abbrev pub AreNamed : Known → Type 0
 AreNamed known = AllByRecursion (λ (node : Node). IsPath node.name) known.nodes

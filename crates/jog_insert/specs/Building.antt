@@ -1,18 +1,12 @@
 -- What the code keeps while it bends a cell: these are no part of what a jog is.
-use Rattle.std.specs.Prelude.{◌≡◌, ℕ, ◌+◌, ◌<◌, ◌≤◌, ◌⊎◌, pos, Bool, true, false, All, Contains, List, ◌∷◌, ◌++◌, length, sum_by, slice_index_or, if◌then◌else◌}
-use Rattle.stick_parse.specs.declared.design.Line.{Line}
-use Rattle.stick_parse.specs.declared.design.Layer.{Layer}
-use Rattle.stick_parse.specs.declared.design.Form.{Form}
-use Rattle.stick_parse.specs.declared.design.CellText.{CellText}
-use Rattle.stick_parse.specs.declared.design.Design.{Design}
-use Rattle.cell_model.specs.declared.cell.Cell.{Cell}
-use Rattle.cell_model.specs.Sound.{node_at, wire_at}
-use Rattle.jog_insert.specs.declared.bending.Place.{Place}
-use Rattle.jog_insert.specs.declared.joints.Joints.{Joints}
-use Rattle.jog_insert.specs.declared.runs.Run.{Run}
-use Rattle.jog_insert.specs.Bends.{Bend}
+use Rattle.std.specs.Prelude.{◌≡◌, ℕ, ◌+◌, ◌<◌, ◌≤◌, ◌⊎◌, pos, Bool, true, false, All, Contains, List, ◌∷◌, ◌++◌}
+use Rattle.std.specs.Prelude.{length, sum_by, slice_index_or, if◌then◌else◌}
+use Rattle.stick_parse.specs.declared.design.{Line.Line, Layer.Layer, Form.Form, CellText.CellText, Design.Design}
+use Rattle.cell_model.specs.{declared.cell.Cell.Cell, Sound.{node_at, wire_at}}
+use Rattle.jog_insert.specs.{declared.{bending.Place.Place, joints.Joints.Joints, runs.Run.Run}, Bends.Bend}
+use Rattle.jog_insert.specs.Jogs.{lower_name, upper_name, IsTaken, bent_forms, wires_in, IsWireOf, IsBendable, IsBent}
+use Rattle.jog_insert.specs.Jogs.{IsCopy, IsNearForm}
 use Rattle.design_edits.specs.Cells.{AreWithoutUse, cell_text_at}
-use Rattle.jog_insert.specs.Jogs.{lower_name, upper_name, IsTaken, bent_forms, wires_in, IsWireOf, IsBendable, IsBent, IsCopy, IsNearForm}
 
 abbrev pub bend_of : Place → Bend
 bend_of place = record { col = place.col; row = place.row; left = place.left }

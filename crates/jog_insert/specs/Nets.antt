@@ -1,14 +1,11 @@
 -- A jog leaves the nets of a cell as they were: its parts are of one net where they were, and the new joints and wires are of the net of the bent wire's terminals.
-use Rattle.std.specs.Prelude.{◌≡◌, ◌↔◌, ◌⊎◌, ℕ, zero, suc, ◌+◌, ◌<◌, ◌≤◌, true, false, nat_lt, nat_le, if◌then◌else◌, List, [], ◌∷◌, ◌++◌, length, Contains}
-use Rattle.stick_parse.specs.declared.design.Form.{Form}
-use Rattle.stick_parse.specs.declared.design.Form.TheVariants.{Joint, Contact, Buried, Fet, Port, Inst, Wire, Limit}
-use Rattle.stick_parse.specs.declared.design.Line.{Line}
+use Rattle.std.specs.Prelude.{◌≡◌, ◌↔◌, ◌⊎◌, ℕ, zero, suc, ◌+◌, ◌<◌, ◌≤◌, true, false, nat_lt, nat_le, if◌then◌else◌}
+use Rattle.std.specs.Prelude.{List, [], ◌∷◌, ◌++◌, length, Contains}
+use Rattle.stick_parse.specs.declared.design.Form.{Form, TheVariants.{Joint, Contact, Buried, Fet, Port, Inst, Wire}}
+use Rattle.stick_parse.specs.declared.design.{Form.TheVariants.Limit, Line.Line}
 use Rattle.graph_search.specs.Netting.{Reaches, Attached}
-use Rattle.cell_model.specs.declared.cell.Cell.{Cell}
-use Rattle.cell_model.specs.declared.cell.Node.{Node}
-use Rattle.cell_model.specs.declared.cell.Wire.{Wire as CellWire}
-use Rattle.cell_model.specs.Sound.{wire_at}
-use Rattle.cell_model.specs.Nets.{parts_of, node_parts, first_part, end_parts, attachments_of}
+use Rattle.cell_model.specs.declared.cell.{Cell.Cell, Node.Node, Wire.Wire as CellWire}
+use Rattle.cell_model.specs.{Sound.wire_at, Nets.{parts_of, node_parts, first_part, end_parts, attachments_of}}
 
 -- a chain of attachments joins two parts of a cell
 abbrev pub AreOneNet : Cell → ℕ → ℕ → Type 0

@@ -1,18 +1,13 @@
 //! A jog in a wire of a design.
-ghost use Rattle.std.specs.Prelude.{◌≡◌, ◌+◌, ◌^◌, ◌<◌, ◌≤◌, All, IfOk, IfSome, List, MatchBool, MatchOption, length, map};
-ghost use Rattle.std.specs.List.{AllByRecursion};
+ghost use Rattle.std.specs.Prelude.{◌≡◌, ◌+◌, ◌^◌, ◌<◌, ◌≤◌, All, IfOk, IfSome, List, MatchBool, MatchOption, length};
+ghost use Rattle.std.specs.{Prelude.map, List.AllByRecursion};
 ghost use Rattle.rule_table.specs.declared.technology.Tech.{Tech};
-ghost use Rattle.stick_parse.specs.declared.design.Design.{Design as SomeDesign};
-ghost use Rattle.stick_parse.specs.declared.design.Line.{Line};
+ghost use Rattle.stick_parse.specs.declared.design.{Design.Design as SomeDesign, Line.Line};
 ghost use Rattle.stick_parse.specs.Writable.{IsCell, IsLine, IsPath, IsWritable};
 ghost use Rattle.stick_print.specs.ReadBack.{without_line};
-ghost use Rattle.cell_model.specs.Nets.{HasEnds};
-ghost use Rattle.cell_model.specs.Sound.{IsSound};
-ghost use Rattle.stick_cell.specs.Counts.{weight_of};
-ghost use Rattle.stick_cell.specs.Known.{cell_of, known_at};
-ghost use Rattle.stick_cell.specs.Tables.{known_of, IsResolved};
-ghost use Rattle.jog_insert.specs.Jogs.{IsBent, IsCopy, IsJogged, IsNearForm};
-ghost use Rattle.jog_insert.specs.Building.{StandsAlone, IsBentCell};
+ghost use Rattle.cell_model.specs.{Nets.HasEnds, Sound.IsSound};
+ghost use Rattle.stick_cell.specs.{Counts.weight_of, Known.{cell_of, known_at}, Tables.{known_of, IsResolved}};
+ghost use Rattle.jog_insert.specs.{Jogs.{IsBent, IsCopy, IsJogged, IsNearForm}, Building.{StandsAlone, IsBentCell}};
 ghost use Rattle.design_sizes.specs.Sizes.{lines_in};
 
 use crate::bending::Place;

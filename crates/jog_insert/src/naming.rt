@@ -1,10 +1,8 @@
 //! The least number of a jog whose joints get new names.
-ghost use Rattle.std.specs.Prelude.{◌≡◌, ℕ, ◌-◌, ◌^◌, ◌<◌, ◌≤◌, true, [], ◌∷◌, length, min, slice_index_or, false, IfOk, OnOk, MatchBool, MatchOption};
-ghost use Rattle.std.specs.List.{slice_range};
-ghost use Rattle.std.specs.Str.Parse.{digits_value};
+ghost use Rattle.std.specs.Prelude.{◌≡◌, ℕ, ◌-◌, ◌^◌, ◌<◌, ◌≤◌, true, [], ◌∷◌, length, min, slice_index_or, false};
+ghost use Rattle.std.specs.{Prelude.{IfOk, OnOk, MatchBool, MatchOption}, List.slice_range, Str.Parse.digits_value};
 ghost use Rattle.stick_lex.specs.Tokens.{is_numeral};
-ghost use Rattle.jog_insert.specs.Jogs.{joint_name, name_in, IsJogNumber};
-ghost use Rattle.jog_insert.specs.Building.{IsNameOf, Marks, marks_in};
+ghost use Rattle.jog_insert.specs.{Jogs.{joint_name, name_in, IsJogNumber}, Building.{IsNameOf, Marks, marks_in}};
 
 use std::alloc::{AllocError, Global};
 use stick_lex::{Text, push_decimal};

@@ -1,14 +1,11 @@
 //! The wire that is bent, and whether another one reaches over the bend in its column.
 ghost use Rattle.std.specs.Prelude.{◌≡◌, ◌↔◌, ◌≢◌, ℕ, ◌+◌, ◌<◌, ◌≤◌, pos, length, IsTrue, MatchBool, MatchOption};
 ghost use Rattle.std.specs.List.{AllByRecursion};
-ghost use Rattle.rule_table.specs.Bounds.{IsSize};
-ghost use Rattle.rule_table.specs.declared.technology.Tech.{Tech};
+ghost use Rattle.rule_table.specs.{Bounds.IsSize, declared.technology.Tech.Tech};
 ghost use Rattle.cell_model.specs.declared.cell.Axis2.TheVariants.{Up};
+ghost use Rattle.cell_model.specs.{Nets.HasEnds, Sound.{IsEnd, IsSound, line_at, wire_at}};
 ghost use Rattle.cell_model.specs.declared.cell.WireEnd.TheVariants as ends;
-ghost use Rattle.cell_model.specs.Nets.{HasEnds};
-ghost use Rattle.cell_model.specs.Sound.{IsEnd, IsSound, line_at, wire_at};
-ghost use Rattle.jog_insert.specs.Jogs.{IsFromBelow, IsFromAbove, Crosses, IsBendable};
-ghost use Rattle.jog_insert.specs.Building.{IsRun};
+ghost use Rattle.jog_insert.specs.{Jogs.{IsFromBelow, IsFromAbove, Crosses, IsBendable}, Building.IsRun};
 
 use stick_cell::{Axis2, Cell, Wire, WireEnd};
 

@@ -1,30 +1,22 @@
 -- The links of a cell with a bent wire.
-use Rattle.std.proofs.Common.{◌≡◌, ℕ, zero, suc, ◌+◌, ◌<◌, ◌≤◌, Bool, true, false, List, [], ◌∷◌, ◌++◌, length, map, inl, inr, refl, sym, ap, subst, ◌∙◌, arith}
-use Rattle.std.specs.Prelude.{◌⊎◌, Contains}
-use Rattle.std.specs.List.{AllByRecursion, AllZip}
-use Rattle.std.proofs.lemmas.List.{append_assoc, length-append, length-map, get_or_at}
-use Rattle.std.proofs.lemmas.List.Elements.{length_all_zip}
-use Rattle.std.proofs.lemmas.List.Sums.{sum_by-take-le}
+use Rattle.std.proofs.Common.{◌≡◌, ℕ, zero, suc, ◌+◌, ◌<◌, ◌≤◌, Bool, true, false, List, [], ◌∷◌, ◌++◌, length, map}
+use Rattle.std.proofs.{Common.{inl, inr, refl, sym, ap, subst, ◌∙◌, arith}, lemmas.List.{append_assoc, length-append}}
+use Rattle.std.proofs.lemmas.List.{length-map, get_or_at, Elements.length_all_zip, Sums.sum_by-take-le}
+use Rattle.std.specs.{Prelude.{◌⊎◌, Contains}, List.{AllByRecursion, AllZip}}
 use Rattle.list_facts.proofs.Elements.{all_parts}
-use Rattle.rule_table.specs.declared.technology.Tech.{Tech}
-use Rattle.rule_table.specs.declared.classes.Layer.{Layer}
+use Rattle.rule_table.specs.declared.{technology.Tech.Tech, classes.Layer.Layer}
 use Rattle.stick_parse.specs.declared.design.Layer.{Layer as DrawnLayer}
-use Rattle.cell_model.specs.declared.cell.Node.{Node}
-use Rattle.cell_model.specs.declared.cell.WireEnd.{WireEnd}
-use Rattle.cell_model.specs.declared.cell.WireEnd.TheVariants as ends
-use Rattle.cell_model.specs.declared.cell.Wire.{Wire}
-use Rattle.cell_model.specs.Sound.{node_at, no_node, IsWire}
+use Rattle.cell_model.specs.{declared.cell.{Node.Node, WireEnd.WireEnd, Wire.Wire}, Sound.{node_at, no_node, IsWire}}
 use Rattle.cell_model.specs.Nets.{kind_parts, node_parts, first_part, joined_part, attachments, attachments_of}
-use Rattle.stick_cell.specs.Known.{Known, cell_of}
-use Rattle.stick_cell.specs.Checks.{layer_of}
-use Rattle.jog_insert.specs.Bends.{Bend}
-use Rattle.jog_insert.specs.Nets.{wire_ends}
+use Rattle.cell_model.specs.declared.cell.WireEnd.TheVariants as ends
+use Rattle.stick_cell.specs.{Known.{Known, cell_of}, Checks.layer_of}
+use Rattle.jog_insert.specs.{Bends.Bend, Nets.wire_ends}
 use Rattle.jog_nets.specs.Parts.{node_after}
-use Rattle.jog_nets.proofs.Lines.{Joining, IsEndOf, IsJoined}
-use Rattle.jog_nets.proofs.Links.{both_moved, Five, AreBentLinks}
-use Rattle.jog_nets.proofs.Turned.{moved_node, IsRunOf, run_of_wire, upward}
-use Rattle.jog_nets.proofs.Parts.{AreInserted, node_parts_inserted, parts_before, moved_number, number_back, number_returns, moved_between, moved_above, back_joints, back_wires}
-use Rattle.jog_nets.proofs.Moved.{AreApart, one_end, IsMovedWire, AreWiresBent, part_at_end, links_moved, attachments_append, ends_between, attached_first}
+use Rattle.jog_nets.proofs.{Lines.{Joining, IsEndOf, IsJoined}, Links.{both_moved, Five, AreBentLinks}}
+use Rattle.jog_nets.proofs.{Turned.{moved_node, IsRunOf, run_of_wire, upward}, Parts.{AreInserted, node_parts_inserted}}
+use Rattle.jog_nets.proofs.Parts.{parts_before, moved_number, number_back, number_returns, moved_between, moved_above}
+use Rattle.jog_nets.proofs.{Parts.{back_joints, back_wires}, Moved.{AreApart, one_end, IsMovedWire, AreWiresBent}}
+use Rattle.jog_nets.proofs.Moved.{part_at_end, links_moved, attachments_append, ends_between, attached_first}
 
 -- ---- wires between two nodes
 

@@ -1,22 +1,16 @@
 -- What moved lines bring, and the lines of a design that has been laid out.
-use Rattle.std.proofs.Common.{◌≡◌, ℕ, zero, suc, ◌+◌, cond, List, [], ◌∷◌, ◌++◌, length, map, get_or, Option, refl, sym, ap, ◌∙◌, arith}
+use Rattle.std.proofs.Common.{◌≡◌, ℕ, zero, suc, ◌+◌, cond, List, [], ◌∷◌, ◌++◌, length, map, get_or, Option, refl, sym}
+use Rattle.std.proofs.{Common.{ap, ◌∙◌, arith}, lemmas.List.{map-append, length-append, Sums.sum_by-cons}}
 use Rattle.std.specs.List.{AllByRecursion, flat_map}
-use Rattle.std.proofs.lemmas.List.{map-append, length-append}
-use Rattle.std.proofs.lemmas.List.Sums.{sum_by-cons}
 use Rattle.rule_table.specs.declared.technology.Tech.{Tech}
-use Rattle.stick_parse.specs.declared.design.Layer.{Layer}
-use Rattle.stick_parse.specs.declared.design.Form.{Form}
-use Rattle.stick_parse.specs.declared.design.Form.TheVariants.{Joint, Contact, Buried, Fet, Port, Inst, Wire, Limit}
-use Rattle.stick_parse.specs.declared.design.Line.{Line}
-use Rattle.stick_parse.specs.declared.design.CellText.{CellText}
+use Rattle.stick_parse.specs.declared.design.{Layer.Layer, Form.{Form, TheVariants.{Joint, Contact, Buried, Fet, Port}}}
+use Rattle.stick_parse.specs.declared.design.{Form.TheVariants.{Inst, Wire, Limit}, Line.Line, CellText.CellText}
 use Rattle.stick_print.specs.ReadBack.{lines_from, cells_from}
 use Rattle.cell_model.specs.declared.cell.Node.{Node}
-use Rattle.jog_insert.specs.Bends.{Bend, moved_form}
-use Rattle.design_edits.specs.Cells.{unnumbered, no_cell}
-use Rattle.jog_insert.specs.Jogs.{moved_line, is_wire, IsWireOf, wires_in, IsCopy}
+use Rattle.jog_insert.specs.{Bends.{Bend, moved_form}, Jogs.{moved_line, is_wire, IsWireOf, wires_in, IsCopy}}
 use Rattle.jog_insert.specs.Nets.{nodes_from, nodes_before}
-use Rattle.jog_nets.proofs.Lines.{nodes_in, sides_in, joins_in, IsNoUse}
-use Rattle.jog_nets.proofs.Turned.{moved_node}
+use Rattle.design_edits.specs.Cells.{unnumbered, no_cell}
+use Rattle.jog_nets.proofs.{Lines.{nodes_in, sides_in, joins_in, IsNoUse}, Turned.moved_node}
 
 -- the forms of some lines
 abbrev pub forms_of : List Line → List Form

@@ -1,51 +1,37 @@
 -- Each line of a cell without uses adds to the cell what its form brings.
-use Rattle.std.proofs.Common.{◌≡◌, ℕ, ℤ, pos, Bool, true, false, cond, List, [], ◌∷◌, ◌++◌, length, map, Option, Some, None, Result, Ok, inl, inr, refl, sym, ap, subst, ◌∙◌}
-use Rattle.std.specs.Prelude.{◌⊎◌, ◌&&◌, ◌||◌, ◌==◌, not, nat_lt, bytes_eq, option_map, option_and_then, IsTrue, if◌then◌else◌}
-use Rattle.std.specs.List.{AllByRecursion, AllZip, join_with_byte}
-use Rattle.std.proofs.lemmas.List.{append-nil, map-append}
-use Rattle.std.proofs.lemmas.List.Splits.{join_with_byte-slice_split}
+use Rattle.std.proofs.Common.{◌≡◌, ℕ, ℤ, pos, Bool, true, false, cond, List, [], ◌∷◌, ◌++◌, length, map, Option, Some}
+use Rattle.std.proofs.Common.{None, Result, Ok, inl, inr, refl, sym, ap, subst, ◌∙◌}
+use Rattle.std.proofs.lemmas.List.{append-nil, map-append, Splits.join_with_byte-slice_split}
+use Rattle.std.specs.Prelude.{◌⊎◌, ◌&&◌, ◌||◌, ◌==◌, not, nat_lt, bytes_eq, option_map, option_and_then, IsTrue}
+use Rattle.std.specs.{Prelude.if◌then◌else◌, List.{AllByRecursion, AllZip, join_with_byte}}
 use Rattle.list_facts.proofs.Elements.{all_append}
 use Rattle.lam_geom.specs.declared.boxes.Side.{Side}
-use Rattle.rule_table.specs.declared.technology.Tech.{Tech}
-use Rattle.rule_table.specs.Technology.{has_buried_of}
+use Rattle.rule_table.specs.{declared.technology.Tech.Tech, Technology.has_buried_of}
 use Rattle.stick_lex.specs.Tokens.{names}
-use Rattle.stick_parse.specs.declared.fault.StickKind.{StickKind}
-use Rattle.stick_parse.specs.declared.fault.StickKind.TheVariants.{RepeatedName, FarPlace, BadSize, NoBuried}
-use Rattle.stick_parse.specs.declared.design.Layer.{Layer as DrawnLayer}
-use Rattle.stick_parse.specs.declared.design.Form.{Form}
-use Rattle.stick_parse.specs.declared.design.Form.TheVariants.{Joint, Contact, Buried, Fet, Port, Inst, Wire, Limit}
-use Rattle.stick_parse.specs.declared.design.Line.{Line}
-use Rattle.stick_parse.specs.Writable.{IsForm, IsLine}
-use Rattle.stick_parse.specs.Reading.{◌>>=◌}
-use Rattle.stick_parse.specs.Order.{at_line}
-use Rattle.cell_model.specs.declared.cell.Axis2.{Axis2}
-use Rattle.cell_model.specs.declared.cell.Axis2.TheVariants.{Across, Up}
-use Rattle.cell_model.specs.declared.cell.NodeKind.{NodeKind}
-use Rattle.cell_model.specs.declared.cell.NodeKind.TheVariants as kinds
-use Rattle.cell_model.specs.declared.cell.Node.{Node}
-use Rattle.cell_model.specs.declared.cell.WireEnd.{WireEnd}
-use Rattle.cell_model.specs.declared.cell.Wire.{Wire as CellWire}
+use Rattle.stick_parse.specs.declared.fault.StickKind.{StickKind, TheVariants.{RepeatedName, FarPlace, BadSize}}
+use Rattle.stick_parse.specs.declared.{fault.StickKind.TheVariants.NoBuried, design.Layer.Layer as DrawnLayer}
+use Rattle.stick_parse.specs.declared.design.Form.{Form, TheVariants.{Joint, Contact, Buried, Fet, Port, Inst, Wire}}
+use Rattle.stick_parse.specs.declared.design.{Form.TheVariants.Limit, Line.Line}
+use Rattle.stick_parse.specs.{Writable.{IsForm, IsLine}, Reading.◌>>=◌, Order.at_line}
+use Rattle.cell_model.specs.declared.cell.{Axis2.{Axis2, TheVariants.{Across, Up}}, NodeKind.NodeKind, Node.Node}
+use Rattle.cell_model.specs.declared.cell.{WireEnd.WireEnd, Wire.Wire as CellWire}
 use Rattle.cell_model.specs.Wiring.{axis_of, is_low_side, is_same_axis}
-use Rattle.stick_cell.specs.declared.names.Thing.{Thing}
+use Rattle.cell_model.specs.declared.cell.NodeKind.TheVariants as kinds
+use Rattle.stick_cell.specs.declared.names.{Thing.Thing, Terminal.Terminal, Found.{Found, TheVariants.At}, Run.Run}
+use Rattle.stick_cell.specs.{Known.{Known, Plug, with_node, with_port, with_wire, plugged}, Paths.{Names, named}}
+use Rattle.stick_cell.specs.{Paths.{names_at, behind, walk, found_at}, Checks.{demand, layer_of, is_fresh, is_place}}
+use Rattle.stick_cell.specs.{Checks.{is_channel, sized}, Lines.{axis_where, wired_of, after_joint, after_contact}}
+use Rattle.stick_cell.specs.{Lines.{after_buried, after_fet, after_form, after_lines}, Wires.{line_of, run_along}}
+use Rattle.stick_cell.specs.{Wires.{run_between, end_of}, Grown.{IsGrown, AreGrown}}
+use Rattle.stick_cell.proofs.{Accepted.{bound, two_demanded, demanded, ok_same, at_line_ok}, Made.IsWithPort}
+use Rattle.stick_cell.proofs.{Made.{IsWithWire, IsWithLimit, port_made, wire_made, limit_made}, GrownNames.MorePlugs}
+use Rattle.stick_cell.proofs.{GrownNames.{IsAt, at_end_of, same_nodes, same_plugs, more_plugs}, GrownPlugs.more_plugged}
+use Rattle.stick_cell.proofs.{GrownPlugs.more_plugs_twice, GrownRuns.{accepted_run, run_ends}, Grown.grown-after_form}
 use Rattle.stick_cell.specs.declared.names.Thing.TheVariants as things
-use Rattle.stick_cell.specs.declared.names.Terminal.{Terminal}
 use Rattle.stick_cell.specs.declared.names.Terminal.TheVariants as terminals
-use Rattle.stick_cell.specs.declared.names.Found.{Found}
-use Rattle.stick_cell.specs.declared.names.Found.TheVariants.{At}
-use Rattle.stick_cell.specs.declared.names.Run.{Run}
-use Rattle.stick_cell.specs.Known.{Known, Plug, with_node, with_port, with_wire, plugged}
-use Rattle.stick_cell.specs.Paths.{Names, named, names_at, behind, walk, found_at}
-use Rattle.stick_cell.specs.Checks.{demand, layer_of, is_fresh, is_place, is_channel, sized}
-use Rattle.stick_cell.specs.Lines.{axis_where, wired_of, after_joint, after_contact, after_buried, after_fet, after_form, after_lines}
-use Rattle.stick_cell.specs.Wires.{line_of, run_along, run_between, end_of}
-use Rattle.stick_cell.specs.Grown.{IsGrown, AreGrown}
-use Rattle.stick_cell.proofs.Accepted.{bound, two_demanded, demanded, ok_same, at_line_ok}
-use Rattle.stick_cell.proofs.Made.{IsWithPort, IsWithWire, IsWithLimit, port_made, wire_made, limit_made}
-use Rattle.stick_cell.proofs.GrownNames.{MorePlugs, IsAt, at_end_of, same_nodes, same_plugs, more_plugs}
-use Rattle.stick_cell.proofs.GrownPlugs.{more_plugged, more_plugs_twice}
-use Rattle.stick_cell.proofs.GrownRuns.{accepted_run, run_ends}
-use Rattle.stick_cell.proofs.Grown.{grown-after_form}
-use Rattle.jog_nets.proofs.Lines.{size_or_none, nodes_in, Sided, sides_in, Joining, joins_in, IsNoUse, side_of, sided_entry, sides, side_named, IsOwn, AreOwn, IsEndOf, IsJoined, end_kept, Grew, grew_none, grew_more}
+use Rattle.jog_nets.proofs.Lines.{size_or_none, nodes_in, Sided, sides_in, Joining, joins_in, IsNoUse, side_of}
+use Rattle.jog_nets.proofs.Lines.{sided_entry, sides, side_named, IsOwn, AreOwn, IsEndOf, IsJoined, end_kept, Grew}
+use Rattle.jog_nets.proofs.Lines.{grew_none, grew_more}
 
 -- ---- nodes and ports
 

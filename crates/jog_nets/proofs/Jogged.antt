@@ -1,44 +1,29 @@
 -- A cell with a jog has the nets of the one before.
-use Rattle.std.proofs.Common.{◌≡◌, ℕ, ◌+◌, ◌<◌, ◌≤◌, true, false, List, [], ◌∷◌, ◌++◌, length, map, Option, Some, None, inl, inr, refl, sym, ap, subst, ◌∙◌, arith}
-use Rattle.std.specs.Prelude.{◌⊎◌, Contains}
-use Rattle.std.specs.List.{AllZip, flat_map}
-use Rattle.std.proofs.lemmas.List.{get_or_at}
-use Rattle.std.proofs.lemmas.List.Concat.{flat_map-append}
-use Rattle.std.proofs.lemmas.List.Sums.{sum_by-take-le}
-use Rattle.std.proofs.lemmas.Slice.Zip.{AllZip-long}
-use Rattle.std.proofs.lemmas.Bool.{cases_eq}
-use Rattle.std.proofs.lemmas.Bool.Decides.{nat_tests}
+use Rattle.std.proofs.Common.{◌≡◌, ℕ, ◌+◌, ◌<◌, ◌≤◌, true, false, List, [], ◌∷◌, ◌++◌, length, map, Option, Some, None}
+use Rattle.std.proofs.{Common.{inl, inr, refl, sym, ap, subst, ◌∙◌, arith}, lemmas.List.get_or_at}
+use Rattle.std.proofs.lemmas.{List.{Concat.flat_map-append, Sums.sum_by-take-le}, Slice.Zip.AllZip-long, Bool.cases_eq}
+use Rattle.std.{proofs.lemmas.Bool.Decides.nat_tests, specs.{Prelude.{◌⊎◌, Contains}, List.{AllZip, flat_map}}}
 use Rattle.lam_geom.specs.declared.boxes.Side.{Side}
 use Rattle.rule_table.specs.declared.technology.Tech.{Tech}
-use Rattle.stick_parse.specs.declared.design.Layer.{Layer as DrawnLayer}
-use Rattle.stick_parse.specs.declared.design.Form.{Form}
-use Rattle.stick_parse.specs.declared.design.Form.TheVariants.{Wire}
-use Rattle.stick_parse.specs.declared.design.Line.{Line}
+use Rattle.stick_parse.specs.declared.design.{Layer.Layer as DrawnLayer, Form.{Form, TheVariants.Wire}, Line.Line}
 use Rattle.cell_model.specs.declared.cell.NodeKind.TheVariants as kinds
-use Rattle.cell_model.specs.declared.cell.Node.{Node}
-use Rattle.cell_model.specs.declared.cell.WireEnd.{WireEnd}
+use Rattle.cell_model.specs.declared.cell.{Node.Node, WireEnd.WireEnd, Wire.Wire as CellWire}
+use Rattle.cell_model.specs.{Sound.{node_at, wire_at, no_wire, IsWire}, Nets.{kind_parts, node_parts, first_part}}
+use Rattle.cell_model.specs.Nets.{attachments_of}
 use Rattle.cell_model.specs.declared.cell.WireEnd.TheVariants as ends
-use Rattle.cell_model.specs.declared.cell.Wire.{Wire as CellWire}
-use Rattle.cell_model.specs.Sound.{node_at, wire_at, no_wire, IsWire}
-use Rattle.cell_model.specs.Nets.{kind_parts, node_parts, first_part, attachments_of}
-use Rattle.stick_cell.specs.Known.{Known, cell_of}
-use Rattle.stick_cell.specs.Checks.{layer_of, sized}
-use Rattle.jog_insert.specs.Bends.{Bend, part_col, moved_row, moved_form}
-use Rattle.jog_insert.specs.Jogs.{lower_name, upper_name, bent_forms, IsFree}
-use Rattle.jog_insert.specs.Nets.{wire_ends, terminals_of, AreOneNet, moved_part, IsOfJog, KeepsNets}
-use Rattle.graph_search.specs.Netting.{Attached}
-use Rattle.graph_search.proofs.Chains.{reaches_none, reaches_trans}
+use Rattle.stick_cell.specs.{Known.{Known, cell_of}, Checks.{layer_of, sized}}
+use Rattle.jog_insert.specs.{Bends.{Bend, part_col, moved_row, moved_form}, Jogs.{lower_name, upper_name, bent_forms}}
+use Rattle.jog_insert.specs.{Jogs.IsFree, Nets.{wire_ends, terminals_of, AreOneNet, moved_part, IsOfJog, KeepsNets}}
+use Rattle.graph_search.{specs.Netting.Attached, proofs.Chains.{reaches_none, reaches_trans}}
 use Rattle.jog_nets.specs.Parts.{node_after, KeepsParts}
-use Rattle.jog_nets.proofs.Links.{AreBentLinks, IsOneNet, same_nets, one_net, to_end}
-use Rattle.jog_nets.proofs.Lines.{size_or_none, nodes_in, Sided, sides_in, Joining, joins_in, sides, side_named, IsEndOf, IsJoined}
-use Rattle.jog_nets.proofs.Told.{IsTold}
-use Rattle.jog_nets.proofs.Turned.{moved_node}
-use Rattle.jog_nets.proofs.Parts.{AreInserted, length_new, node_moved, moved_number, moved_between, number_back}
-use Rattle.jog_nets.proofs.Moved.{IsBentOf, node_end, AreWiresBent, moved_wires}
-use Rattle.jog_nets.proofs.Bent.{between_names, upward_names, AreThree, IsOnePart, lower_at, upper_at, five_of, bent_links, HasOne, has_one, HasThree, has_three}
-use Rattle.jog_nets.proofs.KeptParts.{parts_kept}
-use Rattle.jog_nets.proofs.Forms.{forms_of, nodes_of_moved, sides_of_moved, joins_of_moved}
-use Rattle.jog_nets.proofs.Named.{side_inserted, side_of_first, side_of_second, none_named, other_name}
+use Rattle.jog_nets.proofs.{Links.{AreBentLinks, IsOneNet, same_nets, one_net, to_end}, Lines.{size_or_none, nodes_in}}
+use Rattle.jog_nets.proofs.Lines.{Sided, sides_in, Joining, joins_in, sides, side_named, IsEndOf, IsJoined}
+use Rattle.jog_nets.proofs.{Told.IsTold, Turned.moved_node, Parts.{AreInserted, length_new, node_moved, moved_number}}
+use Rattle.jog_nets.proofs.{Parts.{moved_between, number_back}, Moved.{IsBentOf, node_end, AreWiresBent, moved_wires}}
+use Rattle.jog_nets.proofs.Bent.{between_names, upward_names, AreThree, IsOnePart, lower_at, upper_at, five_of}
+use Rattle.jog_nets.proofs.{Bent.{bent_links, HasOne, has_one, HasThree, has_three}, KeptParts.parts_kept}
+use Rattle.jog_nets.proofs.{Forms.{forms_of, nodes_of_moved, sides_of_moved, joins_of_moved}, Named.side_inserted}
+use Rattle.jog_nets.proofs.Named.{side_of_first, side_of_second, none_named, other_name}
 
 -- ---- the links
 

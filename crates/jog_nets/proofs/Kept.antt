@@ -1,31 +1,22 @@
 -- A jog in a design keeps the nets and the parts of its cell.
 use Rattle.std.proofs.Common.{◌≡◌, ℕ, ◌<◌, Bool, List, ◌∷◌, ◌++◌, length, map, get_or, sym, ap, subst, ◌∙◌, arith}
-use Rattle.std.specs.Prelude.{slice_set}
-use Rattle.std.specs.List.{AllByRecursion, flat_map}
-use Rattle.std.proofs.lemmas.List.{map-append, length-set, get_or-set_same}
-use Rattle.std.proofs.lemmas.List.Elements.{recursion_from_All}
+use Rattle.std.proofs.lemmas.List.{map-append, length-set, get_or-set_same, Elements.recursion_from_All}
+use Rattle.std.specs.{Prelude.slice_set, List.{AllByRecursion, flat_map}}
 use Rattle.list_facts.proofs.Elements.{all_append, all_weaker, all_map, all_unmap, all_parts}
 use Rattle.rule_table.specs.declared.technology.Tech.{Tech}
-use Rattle.stick_parse.specs.declared.design.Form.{Form}
-use Rattle.stick_parse.specs.declared.design.Form.TheVariants.{Wire}
-use Rattle.stick_parse.specs.declared.design.Line.{Line}
-use Rattle.stick_parse.specs.declared.design.CellText.{CellText}
+use Rattle.stick_parse.specs.declared.design.{Form.{Form, TheVariants.Wire}, Line.Line, CellText.CellText}
 use Rattle.stick_parse.specs.declared.design.Design.{Design}
 use Rattle.stick_print.specs.ReadBack.{cells_from}
 use Rattle.cell_model.specs.Sound.{node_at}
-use Rattle.stick_cell.specs.declared.cells.Cells.{Cells}
-use Rattle.stick_cell.specs.Known.{Known, cell_of, known_at}
-use Rattle.stick_cell.specs.Tables.{known_of, IsResolved}
-use Rattle.stick_cell.proofs.TableReads.{length-known_cells}
-use Rattle.jog_insert.specs.Bends.{Bend, moved_form}
-use Rattle.design_edits.specs.Cells.{unnumbered, no_cell, cell_text_at}
-use Rattle.jog_insert.specs.Jogs.{moved_line, IsCopy, bend_at, bent_forms, IsBent, IsJogged}
+use Rattle.stick_cell.specs.{declared.cells.Cells.Cells, Known.{Known, cell_of, known_at}, Tables.known_of}
+use Rattle.stick_cell.{specs.Tables.IsResolved, proofs.TableReads.length-known_cells}
+use Rattle.jog_insert.specs.{Bends.{Bend, moved_form}, Jogs.{moved_line, IsCopy, bend_at, bent_forms, IsBent, IsJogged}}
 use Rattle.jog_insert.specs.Nets.{nodes_before, KeepsNets}
+use Rattle.design_edits.specs.Cells.{unnumbered, no_cell, cell_text_at}
 use Rattle.jog_nets.specs.Parts.{KeepsParts}
-use Rattle.jog_nets.proofs.Lines.{nodes_in, IsNoUse}
-use Rattle.jog_nets.proofs.Told.{IsTold, told_at}
-use Rattle.jog_nets.proofs.Forms.{forms_of, no_use_of, no_uses_moved, forms_of_moved, forms_of_unnumbered, forms_laid_out, length_laid_out, wire_form, length_joins, nodes_before_wire}
-use Rattle.jog_nets.proofs.Jogged.{new_forms, kept_of_forms}
+use Rattle.jog_nets.proofs.{Lines.{nodes_in, IsNoUse}, Told.{IsTold, told_at}, Forms.{forms_of, no_use_of}}
+use Rattle.jog_nets.proofs.Forms.{no_uses_moved, forms_of_moved, forms_of_unnumbered, forms_laid_out, length_laid_out}
+use Rattle.jog_nets.proofs.{Forms.{wire_form, length_joins, nodes_before_wire}, Jogged.{new_forms, kept_of_forms}}
 
 -- the forms of lines in two parts, with another between them
 forms_split : (lines front back : List Line) (line : Line) (form : Form) → lines ≡ front ++ line ∷ back → line.form ≡ form → forms_of lines ≡ forms_of front ++ form ∷ forms_of back

@@ -1,22 +1,16 @@
 -- The nodes and the wires of a cell with a jog, and their parts, under the new numbers.
-use Rattle.std.proofs.Common.{◌≡◌, ◌≢◌, ℕ, suc, ◌+◌, ◌-◌, ◌<◌, ◌≤◌, List, ◌∷◌, length, inl, inr, refl, sym, ap, subst, ◌∙◌, arith}
-use Rattle.std.specs.List.{AllZip}
-use Rattle.std.proofs.lemmas.List.{length-append, get_or_append_left, get_or-append_right}
-use Rattle.std.proofs.lemmas.List.Elements.{length_all_zip, AllZip-get_or}
-use Rattle.std.proofs.lemmas.List.Sums.{sum_by-take-le}
-use Rattle.std.proofs.lemmas.Bool.{cases_lt}
-use Rattle.std.proofs.lemmas.Bool.Decides.{nat_tests}
-use Rattle.cell_model.specs.declared.cell.Node.{Node}
-use Rattle.cell_model.specs.declared.cell.WireEnd.{WireEnd}
-use Rattle.cell_model.specs.declared.cell.WireEnd.TheVariants as ends
-use Rattle.cell_model.specs.declared.cell.Wire.{Wire}
-use Rattle.cell_model.specs.Sound.{node_at, wire_at, no_wire}
+use Rattle.std.proofs.Common.{◌≡◌, ◌≢◌, ℕ, suc, ◌+◌, ◌-◌, ◌<◌, ◌≤◌, List, ◌∷◌, length, inl, inr, refl, sym, ap, subst}
+use Rattle.std.proofs.{Common.{◌∙◌, arith}, lemmas.List.{length-append, get_or_append_left, get_or-append_right}}
+use Rattle.std.proofs.lemmas.{List.{Elements.{length_all_zip, AllZip-get_or}, Sums.sum_by-take-le}, Bool.cases_lt}
+use Rattle.std.{proofs.lemmas.Bool.Decides.nat_tests, specs.List.AllZip}
+use Rattle.cell_model.specs.{declared.cell.{Node.Node, WireEnd.WireEnd, Wire.Wire}, Sound.{node_at, wire_at, no_wire}}
 use Rattle.cell_model.specs.Nets.{kind_parts, node_parts, first_part}
+use Rattle.cell_model.specs.declared.cell.WireEnd.TheVariants as ends
 use Rattle.stick_cell.specs.Known.{Known, cell_of}
 use Rattle.jog_insert.specs.Bends.{Bend}
 use Rattle.jog_nets.specs.Parts.{node_after, wire_after, IsEndAfter, IsWireAfter, KeepsParts}
-use Rattle.jog_nets.proofs.Turned.{moved_node, IsMovedEnd}
-use Rattle.jog_nets.proofs.Parts.{AreInserted, length_new, node_moved, part_moved, parts_before, node_parts_inserted, moved_number, moved_between, moved_above}
+use Rattle.jog_nets.proofs.{Turned.{moved_node, IsMovedEnd}, Parts.{AreInserted, length_new, node_moved, part_moved}}
+use Rattle.jog_nets.proofs.Parts.{parts_before, node_parts_inserted, moved_number, moved_between, moved_above}
 use Rattle.jog_nets.proofs.Moved.{IsMovedWire, AreWiresBent}
 
 after_few : (k j : ℕ) → j ≤ k → wire_after k j ≡ j

@@ -1,29 +1,19 @@
 -- What a cell without uses has, told by the forms of its lines: its nodes, which of its names are ports, and between which names its wires run.
-use Rattle.std.proofs.Common.{◌≡◌, ℕ, ◌<◌, ℤ, pos, Bool, true, false, cond, List, [], ◌∷◌, ◌++◌, length, map, Option, Some, None, Result, Ok, Err, inl, inr, sym, ap, subst, ◌∙◌, arith}
-use Rattle.std.specs.Prelude.{◌⊎◌, bytes_eq}
-use Rattle.std.specs.List.{AllByRecursion, AllZip, flat_map}
-use Rattle.std.specs.Map.{lookup}
+use Rattle.std.proofs.Common.{◌≡◌, ℕ, ◌<◌, ℤ, pos, Bool, true, false, cond, List, [], ◌∷◌, ◌++◌, length, map, Option}
+use Rattle.std.proofs.Common.{Some, None, Result, Ok, Err, inl, inr, sym, ap, subst, ◌∙◌, arith}
 use Rattle.std.proofs.lemmas.List.{append_assoc, append-nil}
+use Rattle.std.specs.{Prelude.{◌⊎◌, bytes_eq}, List.{AllByRecursion, AllZip, flat_map}, Map.lookup}
 use Rattle.lam_geom.specs.declared.boxes.Side.{Side}
 use Rattle.rule_table.specs.declared.technology.Tech.{Tech}
-use Rattle.stick_parse.specs.declared.fault.StickKind.{StickKind}
-use Rattle.stick_parse.specs.declared.design.Layer.{Layer as DrawnLayer}
-use Rattle.stick_parse.specs.declared.design.Form.{Form}
+use Rattle.stick_parse.specs.declared.{fault.StickKind.StickKind, design.{Layer.Layer as DrawnLayer, Form.Form}}
 use Rattle.stick_parse.specs.declared.design.Form.TheVariants.{Joint, Contact, Buried, Fet, Port, Inst, Wire, Limit}
 use Rattle.cell_model.specs.declared.cell.NodeKind.TheVariants as kinds
-use Rattle.cell_model.specs.declared.cell.Node.{Node}
-use Rattle.cell_model.specs.declared.cell.WireEnd.{WireEnd}
+use Rattle.cell_model.specs.{declared.cell.{Node.Node, WireEnd.WireEnd, Wire.Wire as CellWire}, Sound.node_at}
 use Rattle.cell_model.specs.declared.cell.WireEnd.TheVariants as ends
-use Rattle.cell_model.specs.declared.cell.Wire.{Wire as CellWire}
-use Rattle.cell_model.specs.Sound.{node_at}
-use Rattle.stick_cell.specs.declared.names.Thing.{Thing}
-use Rattle.stick_cell.specs.declared.names.Thing.TheVariants as things
-use Rattle.stick_cell.specs.Known.{Known, plug_at}
-use Rattle.stick_cell.specs.Paths.{Names}
-use Rattle.stick_cell.specs.Checks.{layer_of, sized}
+use Rattle.stick_cell.specs.{declared.names.Thing.Thing, Known.{Known, plug_at}, Paths.Names, Checks.{layer_of, sized}}
 use Rattle.stick_cell.specs.Lines.{axis_where}
-use Rattle.stick_cell.proofs.GrownNames.{MoreNodes, MorePlugs, more_nodes, same_plugs}
-use Rattle.stick_cell.proofs.GrownPlugs.{more_plugs_twice}
+use Rattle.stick_cell.proofs.{GrownNames.{MoreNodes, MorePlugs, more_nodes, same_plugs}, GrownPlugs.more_plugs_twice}
+use Rattle.stick_cell.specs.declared.names.Thing.TheVariants as things
 
 -- ---- what a form brings
 

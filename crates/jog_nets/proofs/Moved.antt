@@ -1,26 +1,18 @@
 -- The wires beside a bent one end where they did, and attach what they did.
-use Rattle.std.proofs.Common.{◌≡◌, ℕ, suc, ◌+◌, ◌<◌, Bool, true, false, List, [], ◌∷◌, ◌++◌, length, map, Option, Some, None, inl, inr, refl, sym, ap, ◌∙◌, arith}
-use Rattle.std.specs.Prelude.{◌⊎◌}
-use Rattle.std.specs.List.{AllByRecursion, AllZip}
-use Rattle.std.proofs.lemmas.List.{append_assoc, map-append}
+use Rattle.std.proofs.Common.{◌≡◌, ℕ, suc, ◌+◌, ◌<◌, Bool, true, false, List, [], ◌∷◌, ◌++◌, length, map, Option, Some}
+use Rattle.std.proofs.{Common.{None, inl, inr, refl, sym, ap, ◌∙◌, arith}, lemmas.List.{append_assoc, map-append}}
+use Rattle.std.specs.{Prelude.◌⊎◌, List.{AllByRecursion, AllZip}}
 use Rattle.lam_geom.specs.declared.boxes.Side.{Side}
-use Rattle.rule_table.specs.declared.technology.Tech.{Tech}
-use Rattle.rule_table.specs.declared.classes.Layer.{Layer}
-use Rattle.cell_model.specs.declared.cell.NodeKind.{NodeKind}
-use Rattle.cell_model.specs.declared.cell.Node.{Node}
-use Rattle.cell_model.specs.declared.cell.WireEnd.{WireEnd}
+use Rattle.rule_table.specs.declared.{technology.Tech.Tech, classes.Layer.Layer}
+use Rattle.cell_model.specs.declared.cell.{NodeKind.NodeKind, Node.Node, WireEnd.WireEnd, Wire.Wire}
+use Rattle.cell_model.specs.{Sound.{node_at, IsWire}, Nets.{node_parts, first_part, joined_part, end_parts, with_each}}
+use Rattle.cell_model.specs.Nets.{attachments}
 use Rattle.cell_model.specs.declared.cell.WireEnd.TheVariants as ends
-use Rattle.cell_model.specs.declared.cell.Wire.{Wire}
-use Rattle.cell_model.specs.Sound.{node_at, IsWire}
-use Rattle.cell_model.specs.Nets.{node_parts, first_part, joined_part, end_parts, with_each, attachments}
 use Rattle.stick_cell.specs.Known.{Known, cell_of, plug_at}
-use Rattle.jog_insert.specs.Bends.{Bend}
-use Rattle.jog_insert.specs.Nets.{wire_ends}
-use Rattle.jog_nets.specs.Parts.{node_after}
-use Rattle.jog_nets.proofs.Lines.{Joining, sides, side_named, IsEndOf, IsJoined}
-use Rattle.jog_nets.proofs.Links.{both_moved}
-use Rattle.jog_nets.proofs.Turned.{IsMovedEnd, run_of_wire, not_turned}
-use Rattle.jog_nets.proofs.Parts.{AreInserted, node_moved, moved_number, joined_within, part_moved}
+use Rattle.jog_insert.specs.{Bends.Bend, Nets.wire_ends}
+use Rattle.jog_nets.{specs.Parts.node_after, proofs.Lines.{Joining, sides, side_named, IsEndOf, IsJoined}}
+use Rattle.jog_nets.proofs.{Links.both_moved, Turned.{IsMovedEnd, run_of_wire, not_turned}, Parts.AreInserted}
+use Rattle.jog_nets.proofs.Parts.{node_moved, moved_number, joined_within, part_moved}
 
 -- no two nodes have one name
 abbrev pub AreApart : Known → Type 0

@@ -1,15 +1,12 @@
 -- The names of a cell, among which two new ones come in.
-use Rattle.std.proofs.Common.{◌≡◌, ℕ, zero, suc, Bool, true, false, cond, List, [], ◌∷◌, ◌++◌, Option, Some, None, inl, inr, refl, sym, ap, subst, ◌∙◌, arith}
-use Rattle.std.specs.Prelude.{◌⊎◌, Contains, bytes_eq}
-use Rattle.std.specs.List.{flat_map}
-use Rattle.std.proofs.lemmas.Slice.Eq.{bytes_eq-Decides}
+use Rattle.std.proofs.Common.{◌≡◌, ℕ, zero, suc, Bool, true, false, cond, List, [], ◌∷◌, ◌++◌, Option, Some, None, inl}
+use Rattle.std.proofs.{Common.{inr, refl, sym, ap, subst, ◌∙◌, arith}, lemmas.Slice.Eq.bytes_eq-Decides}
+use Rattle.std.specs.{Prelude.{◌⊎◌, Contains, bytes_eq}, List.flat_map}
 use Rattle.lam_geom.specs.declared.boxes.Side.{Side}
-use Rattle.stick_parse.specs.declared.design.Form.{Form}
-use Rattle.stick_parse.specs.declared.design.Form.TheVariants.{Joint, Contact, Buried, Fet, Port, Inst, Wire, Limit}
-use Rattle.stick_parse.specs.declared.design.Line.{Line}
+use Rattle.stick_parse.specs.declared.design.Form.{Form, TheVariants.{Joint, Contact, Buried, Fet, Port, Inst, Wire}}
+use Rattle.stick_parse.specs.declared.design.{Form.TheVariants.Limit, Line.Line}
 use Rattle.jog_insert.specs.Jogs.{name_in, IsTaken}
-use Rattle.jog_nets.proofs.Lines.{Sided, sides_in, side_named, side_more}
-use Rattle.jog_nets.proofs.Forms.{forms_of}
+use Rattle.jog_nets.proofs.{Lines.{Sided, sides_in, side_named, side_more}, Forms.forms_of}
 
 -- ---- names that are taken
 

@@ -1,20 +1,15 @@
 -- The numbers of parts where two nodes of one part each come in among the nodes of a cell.
-use Rattle.std.proofs.Common.{◌≡◌, ℕ, zero, suc, ◌+◌, ◌-◌, ◌<◌, ◌≤◌, Bool, true, false, List, [], ◌∷◌, ◌++◌, length, map, take, inl, inr, refl, sym, ap, ◌∙◌, arith}
-use Rattle.std.specs.Prelude.{nat_lt, nat_le, if◌then◌else◌}
-use Rattle.std.proofs.lemmas.List.{length-append, length-map, get_or_append_left, get_or-append_right, take-append-le, take-map, take-take, take_at, get_or_at, get_or-map}
-use Rattle.std.proofs.lemmas.List.Sums.{sum_by-append, sum_by-cons, sum_by_more, sum_by_more_le, sum_by-take-le}
-use Rattle.std.proofs.lemmas.Bool.{cases_lt, cases_eq, cond_below, cond_above}
-use Rattle.std.proofs.lemmas.Bool.Decides.{nat_tests}
-use Rattle.rule_table.specs.declared.classes.Layer.{Layer}
-use Rattle.rule_table.specs.declared.classes.Layer.TheVariants.{Diffusion, Poly, Metal}
-use Rattle.cell_model.specs.declared.cell.NodeKind.{NodeKind}
-use Rattle.cell_model.specs.declared.cell.NodeKind.TheVariants.{Joint, Contact, Buried, Fet}
-use Rattle.cell_model.specs.declared.cell.Node.{Node}
-use Rattle.cell_model.specs.Sound.{node_at, no_node}
-use Rattle.cell_model.specs.Nets.{kind_parts, node_parts, first_part, joined_part}
+use Rattle.std.proofs.Common.{◌≡◌, ℕ, zero, suc, ◌+◌, ◌-◌, ◌<◌, ◌≤◌, Bool, true, false, List, [], ◌∷◌, ◌++◌, length}
+use Rattle.std.proofs.{Common.{map, take, inl, inr, refl, sym, ap, ◌∙◌, arith}, lemmas.List.{length-append, length-map}}
+use Rattle.std.proofs.lemmas.List.{get_or_append_left, get_or-append_right, take-append-le, take-map, take-take}
+use Rattle.std.proofs.lemmas.List.{take_at, get_or_at, get_or-map, Sums.{sum_by-append, sum_by-cons, sum_by_more}}
+use Rattle.std.proofs.lemmas.{List.Sums.{sum_by_more_le, sum_by-take-le}, Bool.{cases_lt, cases_eq, cond_below}}
+use Rattle.std.{proofs.lemmas.Bool.{cond_above, Decides.nat_tests}, specs.Prelude.{nat_lt, nat_le, if◌then◌else◌}}
+use Rattle.rule_table.specs.declared.classes.Layer.{Layer, TheVariants.{Diffusion, Poly, Metal}}
+use Rattle.cell_model.specs.declared.cell.{NodeKind.{NodeKind, TheVariants.{Joint, Contact, Buried, Fet}}, Node.Node}
+use Rattle.cell_model.specs.{Sound.{node_at, no_node}, Nets.{kind_parts, node_parts, first_part, joined_part}}
 use Rattle.jog_insert.specs.Bends.{Bend}
-use Rattle.jog_nets.specs.Parts.{node_after}
-use Rattle.jog_nets.proofs.Turned.{moved_node}
+use Rattle.jog_nets.{specs.Parts.node_after, proofs.Turned.moved_node}
 
 -- ---- nodes
 

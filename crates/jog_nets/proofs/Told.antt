@@ -1,31 +1,21 @@
 -- What is known of a cell without uses in a design that has been checked.
-use Rattle.std.proofs.Common.{◌≡◌, ℕ, zero, suc, ◌+◌, ◌<◌, ◌≤◌, List, [], ◌∷◌, ◌++◌, length, map, take, get_or, Result, Ok, sym, ap, subst, ◌∙◌, arith}
-use Rattle.std.specs.Prelude.{IsTrue}
-use Rattle.std.specs.List.{AllByRecursion, AllZip, flat_map}
-use Rattle.std.proofs.lemmas.List.{append-nil, append_assoc, length-append, length-take, take_at, get_or_at, get_or-take, take-take}
+use Rattle.std.proofs.Common.{◌≡◌, ℕ, zero, suc, ◌+◌, ◌<◌, ◌≤◌, List, [], ◌∷◌, ◌++◌, length, map, take, get_or, Result}
+use Rattle.std.proofs.{Common.{Ok, sym, ap, subst, ◌∙◌, arith}, lemmas.List.{append-nil, append_assoc, length-append}}
+use Rattle.std.proofs.lemmas.List.{length-take, take_at, get_or_at, get_or-take, take-take}
+use Rattle.std.specs.{Prelude.IsTrue, List.{AllByRecursion, AllZip, flat_map}}
 use Rattle.list_facts.proofs.Elements.{all_at}
 use Rattle.rule_table.specs.declared.technology.Tech.{Tech}
-use Rattle.stick_parse.specs.declared.fault.StickKind.TheVariants.{RepeatedName, PortWires}
-use Rattle.stick_parse.specs.declared.fault.StickFault.{StickFault}
-use Rattle.stick_parse.specs.declared.design.Form.{Form}
-use Rattle.stick_parse.specs.declared.design.Line.{Line}
-use Rattle.stick_parse.specs.declared.design.CellText.{CellText}
-use Rattle.stick_parse.specs.Writable.{IsCell, IsLine}
-use Rattle.stick_parse.specs.Reading.{◌>>=◌}
-use Rattle.stick_parse.specs.Order.{at_line}
+use Rattle.stick_parse.specs.declared.fault.{StickKind.TheVariants.{RepeatedName, PortWires}, StickFault.StickFault}
+use Rattle.stick_parse.specs.declared.design.{Form.Form, Line.Line, CellText.CellText}
+use Rattle.stick_parse.specs.{Writable.{IsCell, IsLine}, Reading.◌>>=◌, Order.at_line}
 use Rattle.cell_model.specs.Sound.{node_at, IsWire}
-use Rattle.stick_cell.specs.declared.cells.Cells.{Cells}
-use Rattle.stick_cell.specs.Known.{Known, begun, cell_of, known_at}
-use Rattle.stick_cell.specs.Checks.{demand}
+use Rattle.stick_cell.specs.{declared.cells.Cells.Cells, Known.{Known, begun, cell_of, known_at}, Checks.demand}
 use Rattle.stick_cell.specs.Lines.{after_lines, after_cell, is_new_cell, is_wired, cells_after, known_cells}
-use Rattle.stick_cell.specs.Grown.{IsGrown, AreGrown}
-use Rattle.stick_cell.specs.Tables.{known_of, IsResolved}
-use Rattle.stick_cell.proofs.Accepted.{bound, two_bound, ok_same}
-use Rattle.stick_cell.proofs.Grown.{are_grown-known_cells, grown-begun}
+use Rattle.stick_cell.specs.{Grown.{IsGrown, AreGrown}, Tables.{known_of, IsResolved}}
+use Rattle.stick_cell.proofs.{Accepted.{bound, two_bound, ok_same}, Grown.{are_grown-known_cells, grown-begun}}
 use Rattle.stick_cell.proofs.TableReads.{length-known_cells}
 use Rattle.design_edits.specs.Cells.{no_cell, cell_text_at}
-use Rattle.jog_nets.proofs.Lines.{nodes_in, sides_in, joins_in, IsNoUse, sides, IsJoined, Grew}
-use Rattle.jog_nets.proofs.Grew.{grew_lines}
+use Rattle.jog_nets.proofs.{Lines.{nodes_in, sides_in, joins_in, IsNoUse, sides, IsJoined, Grew}, Grew.grew_lines}
 
 -- ---- a cell of a design
 

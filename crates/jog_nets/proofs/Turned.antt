@@ -1,21 +1,12 @@
 -- A bend turns no wire round: what lies lower or more to the left still does, as far as a wire can tell.
-use Rattle.std.proofs.Common.{◌≡◌, ℕ, ◌<◌, Bool, true, false, length, refl, sym, ap, ◌∙◌, arith}
-use Rattle.std.specs.Prelude.{nat_lt}
-use Rattle.std.proofs.lemmas.Bool.{not-true, both_ways}
-use Rattle.std.proofs.lemmas.Bool.Decides.{nat_tests}
+use Rattle.std.proofs.{Common.{◌≡◌, ℕ, ◌<◌, Bool, true, false, length, refl, sym, ap, ◌∙◌, arith}, lemmas.Bool.not-true}
+use Rattle.std.{proofs.lemmas.Bool.{both_ways, Decides.nat_tests}, specs.Prelude.nat_lt}
 use Rattle.rule_table.specs.declared.technology.Tech.{Tech}
-use Rattle.cell_model.specs.declared.cell.Axis2.{Axis2}
-use Rattle.cell_model.specs.declared.cell.Axis2.TheVariants.{Across, Up}
-use Rattle.cell_model.specs.declared.cell.Node.{Node}
-use Rattle.cell_model.specs.declared.cell.WireEnd.{WireEnd}
+use Rattle.cell_model.specs.declared.cell.{Axis2.{Axis2, TheVariants.{Across, Up}}, Node.Node, WireEnd.WireEnd}
+use Rattle.cell_model.specs.{declared.cell.{Wire.Wire, Port.Port, Cell.Cell}, Wiring.is_low_side, Sound.node_at}
+use Rattle.cell_model.specs.Sound.{port_at, line_at, IsInOrder, IsOnLowSide, IsOnHighSide, IsWire}
 use Rattle.cell_model.specs.declared.cell.WireEnd.TheVariants as ends
-use Rattle.cell_model.specs.declared.cell.Wire.{Wire}
-use Rattle.cell_model.specs.declared.cell.Port.{Port}
-use Rattle.cell_model.specs.declared.cell.Cell.{Cell}
-use Rattle.cell_model.specs.Wiring.{is_low_side}
-use Rattle.cell_model.specs.Sound.{node_at, port_at, line_at, IsInOrder, IsOnLowSide, IsOnHighSide, IsWire}
-use Rattle.stick_cell.specs.Known.{Known, cell_of, plug_at}
-use Rattle.stick_cell.proofs.GrownWires.{port_of_plug}
+use Rattle.stick_cell.{specs.Known.{Known, cell_of, plug_at}, proofs.GrownWires.port_of_plug}
 use Rattle.jog_nets.specs.Parts.{node_after}
 use Rattle.jog_insert.specs.Bends.{Bend, moved_row, moved_col, node_col}
 

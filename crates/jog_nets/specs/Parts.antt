@@ -1,11 +1,8 @@
 -- What the parts of a cell are after a jog: each node and each wire keeps its own under the new numbers.
 use Rattle.std.specs.Prelude.{◌≡◌, ◌≢◌, ℕ, ◌+◌, ◌<◌, nat_lt, nat_le, if◌then◌else◌, length}
-use Rattle.cell_model.specs.declared.cell.WireEnd.{WireEnd}
-use Rattle.cell_model.specs.declared.cell.WireEnd.TheVariants as ends
-use Rattle.cell_model.specs.declared.cell.Wire.{Wire}
-use Rattle.cell_model.specs.declared.cell.Cell.{Cell}
-use Rattle.cell_model.specs.Sound.{node_at, wire_at}
+use Rattle.cell_model.specs.{declared.cell.{WireEnd.WireEnd, Wire.Wire, Cell.Cell}, Sound.{node_at, wire_at}}
 use Rattle.cell_model.specs.Nets.{kind_parts, node_parts, first_part}
+use Rattle.cell_model.specs.declared.cell.WireEnd.TheVariants as ends
 use Rattle.jog_insert.specs.Nets.{moved_part}
 
 -- the number of a node after two have come in behind so many

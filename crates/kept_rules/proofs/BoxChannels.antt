@@ -1,25 +1,15 @@
 -- Boxes that keep off the channels of all transistors, or go past them.
 use Rattle.std.proofs.Common.{◌≡◌, ℕ, ℤ, List, subst, inl, inr}
-use Rattle.lam_geom.specs.declared.boxes.BoxXY.{BoxXY}
-use Rattle.lam_geom.specs.declared.boxes.MaskBox.{MaskBox}
-use Rattle.lam_geom.specs.declared.boxes.MaskLayer.{MaskLayer}
-use Rattle.lam_geom.specs.declared.boxes.MaskLayer.TheVariants.{NC, NI, NB}
-use Rattle.rule_table.specs.declared.technology.Tech.{Tech}
-use Rattle.rule_table.specs.declared.classes.Class.TheVariants.{G}
-use Rattle.rule_table.specs.Technology.{numbers_of}
-use Rattle.sym_items.specs.declared.items.Coords.{Coords}
-use Rattle.sym_items.specs.Sides.{Sides, sides_of}
+use Rattle.lam_geom.specs.declared.boxes.{BoxXY.BoxXY, MaskBox.MaskBox, MaskLayer.{MaskLayer, TheVariants.{NC, NI, NB}}}
+use Rattle.rule_table.specs.{declared.{technology.Tech.Tech, classes.Class.TheVariants.G}, Technology.numbers_of}
+use Rattle.sym_items.specs.{declared.items.Coords.Coords, Sides.{Sides, sides_of}}
 use Rattle.expand.specs.declared.master.Master.{Master}
 use Rattle.plan_model.specs.declared.plan.Plan.{Plan}
 use Rattle.crossings.specs.Boxes.{area_at}
 use Rattle.flat_check.specs.Breaks.{IsChannel, IsNearChannel, IsCutNearChannel, IsImplantTooNear, IsWindowTooNear}
-use Rattle.grid_rules.proofs.Gaps.{IsDone}
-use Rattle.grid_rules.specs.Conductors.{Drawn, sides_of_drawn}
-use Rattle.grid_rules.specs.Meetings.{at, IsOfClass}
-use Rattle.grid_rules.specs.Shapes.{sides_in_grains, AreShapes}
-use Rattle.grid_rules.proofs.NetlistBoxes.{encloses_there, sides_at, on_item}
-use Rattle.grid_rules.proofs.NetlistCrossings.{crossing_is}
-use Rattle.grid_rules.proofs.NetlistShapes.{class_of_layer}
+use Rattle.grid_rules.proofs.{Gaps.IsDone, NetlistBoxes.{encloses_there, sides_at, on_item}}
+use Rattle.grid_rules.{proofs.{NetlistCrossings.crossing_is, NetlistShapes.class_of_layer}, specs.Conductors.Drawn}
+use Rattle.grid_rules.specs.{Conductors.sides_of_drawn, Meetings.{at, IsOfClass}, Shapes.{sides_in_grains, AreShapes}}
 use Rattle.kept_rules.specs.Items.{KeepOff, CutsKeepOffChannels, ImplantsCoverOrKeepOff, WindowsKeepOff}
 use Rattle.kept_rules.proofs.BoxPlain.{not_nearer}
 

@@ -1,41 +1,23 @@
 -- Pieces of different boxes, on one layer, keep its spacing where no chain of links joins them.
-use Rattle.std.proofs.Common.{◌≡◌, ℕ, ◌<◌, ℤ, List, Some, sym, ap, ◌∙◌, subst, arith}
+use Rattle.std.proofs.{Common.{◌≡◌, ℕ, ◌<◌, ℤ, List, Some, sym, ap, ◌∙◌, subst, arith}, lemmas.Option.slice_get_within}
 use Rattle.std.specs.Prelude.{slice_get}
-use Rattle.std.proofs.lemmas.Option.{slice_get_within}
-use Rattle.lam_geom.specs.declared.boxes.MaskBox.{MaskBox}
-use Rattle.lam_geom.specs.declared.boxes.MaskLayer.{MaskLayer}
-use Rattle.rule_table.specs.declared.technology.Tech.{Tech}
-use Rattle.rule_table.specs.declared.classes.Class.{Class}
+use Rattle.lam_geom.specs.declared.boxes.{MaskBox.MaskBox, MaskLayer.MaskLayer}
+use Rattle.rule_table.specs.declared.{technology.Tech.Tech, classes.Class.Class}
 use Rattle.cell_model.specs.declared.cell.Nets.{Nets}
-use Rattle.sym_items.specs.declared.items.Coords.{Coords}
-use Rattle.sym_items.specs.Sides.{Sides}
+use Rattle.sym_items.specs.{declared.items.Coords.Coords, Sides.Sides}
 use Rattle.expand.specs.declared.master.Master.{Master}
-use Rattle.plan_model.specs.declared.plan.Plan.{Plan}
-use Rattle.plan_model.specs.GridNets.{IsOneNet}
-use Rattle.plan_model.specs.Instances.{Spot}
-use Rattle.plan_model.specs.Plan.{grids_of}
+use Rattle.plan_model.specs.{declared.plan.Plan.Plan, GridNets.IsOneNet, Instances.Spot, Plan.grids_of}
 use Rattle.pitch_join.specs.Masters.{ports_of_masters}
-use Rattle.crossings.specs.declared.crossing.Crossing.{Crossing}
-use Rattle.crossings.specs.Boxes.{layer_at}
-use Rattle.crossings.specs.Crossings.{AreCrossings}
+use Rattle.crossings.specs.{declared.crossing.Crossing.Crossing, Boxes.layer_at, Crossings.AreCrossings}
 use Rattle.graph_search.specs.Netting.{Reaches}
-use Rattle.net_extract.specs.Extraction.{IsLink}
-use Rattle.net_extract.specs.Places.{Place, places_of}
+use Rattle.net_extract.specs.{Extraction.IsLink, Places.{Place, places_of}}
 use Rattle.flat_check.specs.Breaks.{ArePiecesTooNear}
-use Rattle.grid_rules.specs.Rules.{AreNetsOf}
-use Rattle.grid_rules.proofs.Gaps.{IsDone}
-use Rattle.grid_rules.specs.Conductors.{Drawn, item_of, sides_of_drawn, AreOfOneBox, AreOfOneNet}
-use Rattle.grid_rules.specs.Meetings.{IsOfClass}
-use Rattle.grid_rules.specs.Shapes.{AreShapes}
-use Rattle.grid_rules.specs.Sticks.{places_of_sticks, net_of_part, NetsAreTheSticks}
-use Rattle.grid_rules.proofs.MeetingGaps.{nets_there}
-use Rattle.grid_rules.proofs.NetlistBoxes.{class_shown}
-use Rattle.grid_rules.proofs.NetlistLinks.{same_box}
-use Rattle.grid_rules.proofs.NetlistPieces.{conducting, IsPiece, piece_of_part}
-use Rattle.grid_rules.proofs.NetlistPlaces.{place_back}
-use Rattle.grid_rules.proofs.NetlistShapes.{class_of_layer}
-use Rattle.kept_rules.specs.Items.{spacing_of_class, NetsKeepOff}
-use Rattle.kept_rules.proofs.BoxPlain.{not_nearer}
+use Rattle.grid_rules.specs.{Rules.AreNetsOf, Conductors.{Drawn, item_of, sides_of_drawn, AreOfOneBox, AreOfOneNet}}
+use Rattle.grid_rules.specs.{Meetings.IsOfClass, Shapes.AreShapes, Sticks.{places_of_sticks, net_of_part}}
+use Rattle.grid_rules.{specs.Sticks.NetsAreTheSticks, proofs.{Gaps.IsDone, MeetingGaps.nets_there}}
+use Rattle.grid_rules.proofs.{NetlistBoxes.class_shown, NetlistLinks.same_box, NetlistPieces.{conducting, IsPiece}}
+use Rattle.grid_rules.proofs.{NetlistPieces.piece_of_part, NetlistPlaces.place_back, NetlistShapes.class_of_layer}
+use Rattle.kept_rules.{specs.Items.{spacing_of_class, NetsKeepOff}, proofs.BoxPlain.not_nearer}
 
 module _ (tech : Tech) (plan : Plan) (masters : List Master) (layouts : List Coords) (boxes : List MaskBox) (done : IsDone tech plan masters layouts) (shapes : AreShapes tech plan masters layouts boxes)
     (sticks : NetsAreTheSticks tech plan masters layouts boxes) where

@@ -1,30 +1,22 @@
 -- What is said of items in u, of the boxes that show them in grains: widths, cuts and what covers them, poly off diffusion, and cuts apart.
 use Rattle.std.proofs.Common.{◌≡◌, ℕ, ℤ, pos, ◌-ℤ◌, ◌*ℤ◌, ◌≤ℤ◌, ◌<ℤ◌, List, refl, sym, ap, ◌∙◌, subst, arith, inl, inr}
-use Rattle.std.specs.Int.{int_max}
-use Rattle.std.proofs.lemmas.Int.{ints}
-use Rattle.lam_geom.specs.declared.boxes.Axis.{Axis}
-use Rattle.lam_geom.specs.declared.boxes.Axis.TheVariants.{X, Y}
-use Rattle.lam_geom.specs.declared.boxes.BoxXY.{BoxXY}
-use Rattle.lam_geom.specs.declared.boxes.MaskBox.{MaskBox}
-use Rattle.lam_geom.specs.declared.boxes.MaskLayer.{MaskLayer}
-use Rattle.lam_geom.specs.declared.boxes.MaskLayer.TheVariants.{ND, NP, NC, NM, NI, NB}
+use Rattle.std.{proofs.lemmas.Int.ints, specs.Int.int_max}
+use Rattle.lam_geom.specs.declared.boxes.{Axis.{Axis, TheVariants.{X, Y}}, BoxXY.BoxXY, MaskBox.MaskBox}
+use Rattle.lam_geom.specs.declared.boxes.MaskLayer.{MaskLayer, TheVariants.{ND, NP, NC, NM, NI, NB}}
 use Rattle.lam_geom.specs.Gaps.{gap_between, gap_of_boxes, Overlaps}
-use Rattle.rule_table.specs.declared.technology.Tech.{Tech}
-use Rattle.rule_table.specs.Technology.{numbers_of}
-use Rattle.sym_items.specs.declared.items.Coords.{Coords}
-use Rattle.sym_items.specs.Sides.{Sides, sides_of, gap_of_sides}
+use Rattle.rule_table.specs.{declared.technology.Tech.Tech, Technology.numbers_of}
+use Rattle.sym_items.specs.{declared.items.Coords.Coords, Sides.{Sides, sides_of, gap_of_sides}}
 use Rattle.expand.specs.declared.master.Master.{Master}
 use Rattle.plan_model.specs.declared.plan.Plan.{Plan}
-use Rattle.grid_rules.proofs.Gaps.{gap_turned}
-use Rattle.crossings.specs.Boxes.{area_at, layer_at, IsOn, extent, grains}
-use Rattle.crossings.specs.Pairs.{IsCovered}
-use Rattle.grid_rules.specs.Conductors.{Drawn, sides_of_drawn, gap_of_drawn}
-use Rattle.grid_rules.specs.Shapes.{Shows, sides_in_grains, AreShapes}
-use Rattle.grid_rules.proofs.NetlistScale.{scaled, scale_positive, gap_in_grains, length_in_grains}
-use Rattle.grid_rules.proofs.NetlistShapes.{class_of_layer, each_shown, one_number}
-use Rattle.grid_rules.proofs.NetlistBoxes.{encloses_there, sides_at, class_shown, on_item, box_of, boxes_overlap}
+use Rattle.grid_rules.proofs.{Gaps.gap_turned, NetlistScale.{scaled, scale_positive, gap_in_grains, length_in_grains}}
+use Rattle.grid_rules.proofs.{NetlistShapes.{class_of_layer, each_shown, one_number}, NetlistBoxes.encloses_there}
+use Rattle.grid_rules.proofs.NetlistBoxes.{sides_at, class_shown, on_item, box_of, boxes_overlap}
+use Rattle.grid_rules.specs.{Conductors.{Drawn, sides_of_drawn, gap_of_drawn}, Shapes.{Shows, sides_in_grains}}
+use Rattle.grid_rules.specs.Shapes.{AreShapes}
+use Rattle.crossings.specs.{Boxes.{area_at, layer_at, IsOn, extent, grains}, Pairs.IsCovered}
 use Rattle.flat_check.specs.Breaks.{width_on, IsNarrow, IsOddCut, IsUncovered, ArePairOf, IsPolyTooNear, AreCutsTooNear}
-use Rattle.kept_rules.specs.Items.{width_of_class, ConductorsAreWide, CutsAreSquare, IsCoveredBy, CutsAreCovered, PolyKeepsOff, CutsKeepOff}
+use Rattle.kept_rules.specs.Items.{width_of_class, ConductorsAreWide, CutsAreSquare, IsCoveredBy, CutsAreCovered}
+use Rattle.kept_rules.specs.Items.{PolyKeepsOff, CutsKeepOff}
 
 -- ---- lengths and gaps
 

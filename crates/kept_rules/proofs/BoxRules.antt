@@ -1,22 +1,21 @@
 -- Boxes that show the items of all instances keep each rule.
 use Rattle.std.proofs.Common.{ℕ, List, refl, arith, inl, inr}
-use Rattle.lam_geom.specs.declared.boxes.MaskBox.{MaskBox}
-use Rattle.lam_geom.specs.declared.boxes.MaskLayer.TheVariants.{ND, NP, NM}
-use Rattle.rule_table.specs.declared.technology.Tech.{Tech}
-use Rattle.rule_table.specs.Technology.{numbers_of}
+use Rattle.lam_geom.specs.declared.boxes.{MaskBox.MaskBox, MaskLayer.TheVariants.{ND, NP, NM}}
+use Rattle.rule_table.specs.{declared.technology.Tech.Tech, Technology.numbers_of}
 use Rattle.sym_items.specs.declared.items.Coords.{Coords}
 use Rattle.expand.specs.declared.master.Master.{Master}
 use Rattle.plan_model.specs.declared.plan.Plan.{Plan}
 use Rattle.crossings.specs.Crossings.{AreProper, IsBadPair}
-use Rattle.flat_check.specs.declared.rule.Rule.TheVariants.{Width, CutSize, ProperCrossing, PolyToDiffusion, CutCover, MetalSpacing, PolySpacing, DiffusionSpacing, CutSpacing, CutToChannel, ImplantToChannel, WindowToChannel}
+use Rattle.flat_check.specs.declared.rule.Rule.TheVariants.{Width, CutSize, ProperCrossing, PolyToDiffusion, CutCover}
+use Rattle.flat_check.specs.declared.rule.Rule.TheVariants.{MetalSpacing, PolySpacing, DiffusionSpacing, CutSpacing}
+use Rattle.flat_check.specs.declared.rule.Rule.TheVariants.{CutToChannel, ImplantToChannel, WindowToChannel}
 use Rattle.flat_check.specs.Breaks.{AtEither, KeepRules}
-use Rattle.grid_rules.proofs.Gaps.{IsDone}
-use Rattle.grid_rules.specs.Shapes.{AreShapes}
-use Rattle.grid_rules.specs.Sticks.{NetsAreTheSticks}
-use Rattle.kept_rules.specs.Items.{ConductorsAreWide, CutsAreSquare, CutsAreCovered, PolyKeepsOff, NetsKeepOff, CutsKeepOff, CutsKeepOffChannels, ImplantsCoverOrKeepOff, WindowsKeepOff}
+use Rattle.grid_rules.{proofs.Gaps.IsDone, specs.{Shapes.AreShapes, Sticks.NetsAreTheSticks}}
+use Rattle.kept_rules.specs.Items.{ConductorsAreWide, CutsAreSquare, CutsAreCovered, PolyKeepsOff, NetsKeepOff}
+use Rattle.kept_rules.specs.Items.{CutsKeepOff, CutsKeepOffChannels, ImplantsCoverOrKeepOff, WindowsKeepOff}
 use Rattle.kept_rules.proofs.BoxPlain.{none_narrow, none_odd, none_uncovered, poly_keeps_off, cuts_keep_off}
-use Rattle.kept_rules.proofs.BoxPieces.{pieces_keep_off}
-use Rattle.kept_rules.proofs.BoxChannels.{cuts_off_channels, implants_off_channels, windows_off_channels}
+use Rattle.kept_rules.proofs.{BoxPieces.pieces_keep_off, BoxChannels.{cuts_off_channels, implants_off_channels}}
+use Rattle.kept_rules.proofs.BoxChannels.{windows_off_channels}
 
 -- what the rules ask of the items of all instances
 pub record ItemsKeep (tech : Tech) (plan : Plan) (masters : List Master) (layouts : List Coords) : Type 0 where

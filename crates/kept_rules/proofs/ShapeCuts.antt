@@ -1,43 +1,20 @@
 -- The cuts of all instances: squares, one for each contact, inside its boxes by the enclosure.
-use Rattle.std.proofs.Common.{◌≡◌, ℕ, ◌+◌, ◌<◌, ℤ, pos, ◌+ℤ◌, ◌*ℤ◌, List, length, refl, sym, ap, ◌∙◌, subst, arith, inl, inr, ◌⊎◌}
-use Rattle.std.proofs.lemmas.Bool.{cases_lt}
-use Rattle.std.proofs.lemmas.Int.{ints}
-use Rattle.std.proofs.lemmas.List.{get_or_past}
-use Rattle.rule_table.specs.declared.technology.Tech.{Tech}
-use Rattle.rule_table.specs.declared.classes.Class.{Class}
-use Rattle.rule_table.specs.declared.classes.Class.TheVariants.{M, P, Dm, C}
-use Rattle.rule_table.specs.declared.classes.Layer.{Layer}
-use Rattle.rule_table.specs.declared.classes.Layer.TheVariants.{Diffusion, Poly, Metal}
-use Rattle.rule_table.specs.declared.keys.Numbers.{Numbers}
-use Rattle.rule_table.specs.Spacing.{pad_in}
-use Rattle.rule_table.specs.Technology.{numbers_of, pad_of}
-use Rattle.rule_table.proofs.Widths.{pad_even}
-use Rattle.sym_items.specs.declared.items.Coords.{Coords}
-use Rattle.sym_items.specs.declared.items.Item.{Item}
-use Rattle.sym_items.specs.Sides.{sides_in}
-use Rattle.cell_model.specs.declared.cell.Node.{Node}
-use Rattle.cell_model.specs.declared.cell.NodeKind.{NodeKind}
-use Rattle.cell_model.specs.declared.cell.NodeKind.TheVariants.{Joint, Contact}
-use Rattle.cell_model.specs.declared.cell.NodeNets.{NodeNets}
-use Rattle.cell_model.specs.Sound.{IsKind, no_node, node_at}
+use Rattle.std.proofs.Common.{◌≡◌, ℕ, ◌+◌, ◌<◌, ℤ, pos, ◌+ℤ◌, ◌*ℤ◌, List, length, refl, sym, ap, ◌∙◌, subst, arith, inl}
+use Rattle.std.proofs.{Common.{inr, ◌⊎◌}, lemmas.{Bool.cases_lt, Int.ints, List.get_or_past}}
+use Rattle.rule_table.specs.declared.{technology.Tech.Tech, classes.Class.{Class, TheVariants.{M, P, Dm, C}}}
+use Rattle.rule_table.specs.declared.{classes.Layer.{Layer, TheVariants.{Diffusion, Poly, Metal}}, keys.Numbers.Numbers}
+use Rattle.rule_table.{specs.{Spacing.pad_in, Technology.{numbers_of, pad_of}}, proofs.Widths.pad_even}
+use Rattle.sym_items.specs.{declared.items.{Coords.Coords, Item.Item}, Sides.sides_in}
+use Rattle.cell_model.specs.declared.cell.{Node.Node, NodeKind.{NodeKind, TheVariants.{Joint, Contact}}}
+use Rattle.cell_model.specs.{declared.cell.NodeNets.NodeNets, Sound.{IsKind, no_node, node_at}}
 use Rattle.pair_rules.specs.Bound.{item_at}
-use Rattle.expand.specs.declared.master.Master.{Master}
-use Rattle.expand.specs.Masters.{IsMaster}
-use Rattle.expand.specs.Variables.{half}
-use Rattle.expand.specs.NodeItems.{square_round, kind_items}
-use Rattle.expand.specs.Items.{nets_at}
-use Rattle.expand.proofs.Among.{sound_numbers}
-use Rattle.expand.proofs.Cells.{node_sound}
+use Rattle.expand.specs.{declared.master.Master.Master, Masters.IsMaster, Variables.half, NodeItems.square_round}
+use Rattle.expand.{specs.{NodeItems.kind_items, Items.nets_at}, proofs.{Among.sound_numbers, Cells.node_sound}}
 use Rattle.plan_model.specs.declared.plan.Plan.{Plan}
-use Rattle.grid_rules.specs.Rules.{shifted_sides, items_at}
-use Rattle.grid_rules.proofs.Gaps.{IsDone}
-use Rattle.grid_rules.proofs.Meeting.{master_is}
-use Rattle.grid_rules.specs.Conductors.{Drawn, item_of, sides_of_drawn}
-use Rattle.grid_rules.specs.Meetings.{master_of, at, IsOfClass, EnclosesBy}
-use Rattle.grid_rules.proofs.MeetingRuns.{IsRun, found}
-use Rattle.grid_rules.proofs.MeetingBlocks.{run_node, stands_in, only_place}
-use Rattle.grid_rules.proofs.MeetingCuts.{ContactOf, contact_of}
-use Rattle.grid_rules.proofs.MeetingGaps.{layout_of, x_of, y_of}
+use Rattle.grid_rules.specs.{Rules.{shifted_sides, items_at}, Conductors.{Drawn, item_of, sides_of_drawn}}
+use Rattle.grid_rules.{specs.Meetings.{master_of, at, IsOfClass, EnclosesBy}, proofs.{Gaps.IsDone, Meeting.master_is}}
+use Rattle.grid_rules.proofs.{MeetingRuns.{IsRun, found}, MeetingBlocks.{run_node, stands_in, only_place}}
+use Rattle.grid_rules.proofs.{MeetingCuts.{ContactOf, contact_of}, MeetingGaps.{layout_of, x_of, y_of}}
 use Rattle.kept_rules.specs.Items.{IsSquare, CutsAreSquare, IsCoveredBy, CutsAreCovered, OwnersHaveOneCut}
 
 -- ---- in the block of a contact

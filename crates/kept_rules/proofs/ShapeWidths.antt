@@ -1,51 +1,27 @@
 -- Items of diffusion of the mask, poly and metal are as wide as their layer's width in all instances.
-use Rattle.std.proofs.Common.{◌≡◌, ℕ, ℤ, pos, ◌+ℤ◌, ◌-ℤ◌, ◌*ℤ◌, ◌≤ℤ◌, Bool, true, false, List, [], ◌∷◌, length, map, cond, Option, Some, None, refl, sym, ap, ◌∙◌, subst, arith}
-use Rattle.std.specs.Prelude.{neg_ℤ}
-use Rattle.std.specs.Int.{int_max}
-use Rattle.std.specs.List.{flat_map, range_with_len, AllByRecursion}
-use Rattle.std.proofs.lemmas.Int.{ints, clamps}
+use Rattle.std.proofs.Common.{◌≡◌, ℕ, ℤ, pos, ◌+ℤ◌, ◌-ℤ◌, ◌*ℤ◌, ◌≤ℤ◌, Bool, true, false, List, [], ◌∷◌, length, map}
+use Rattle.std.proofs.{Common.{cond, Option, Some, None, refl, sym, ap, ◌∙◌, subst, arith}, lemmas.Int.{ints, clamps}}
+use Rattle.std.specs.{Prelude.neg_ℤ, Int.int_max, List.{flat_map, range_with_len, AllByRecursion}}
 use Rattle.lam_geom.specs.declared.boxes.Axis.TheVariants.{X, Y}
-use Rattle.rule_table.specs.declared.technology.Tech.{Tech}
-use Rattle.rule_table.specs.declared.classes.Class.{Class}
-use Rattle.rule_table.specs.declared.classes.Class.TheVariants.{M, P, Dc, Dm}
-use Rattle.rule_table.specs.declared.classes.Layer.{Layer}
-use Rattle.rule_table.specs.declared.classes.Layer.TheVariants.{Diffusion, Poly, Metal}
-use Rattle.rule_table.specs.Technology.{numbers_of, pad_of, width_of}
-use Rattle.rule_table.proofs.Widths.{width_within, pad_even}
-use Rattle.sym_items.specs.declared.items.Coords.{Coords}
-use Rattle.sym_items.specs.declared.items.Item.{Item}
-use Rattle.sym_items.specs.declared.items.Items.{Items}
-use Rattle.sym_items.specs.Extents.{IsLongUnder}
-use Rattle.sym_items.specs.Sides.{Sides, sides_in}
-use Rattle.sym_items.specs.Values.{value_of}
-use Rattle.cell_model.specs.declared.cell.Axis2.{Axis2}
-use Rattle.cell_model.specs.declared.cell.Axis2.TheVariants.{Across, Up}
-use Rattle.cell_model.specs.declared.cell.NodeKind.{NodeKind}
-use Rattle.cell_model.specs.declared.cell.NodeKind.TheVariants.{Joint, Contact, Buried, Fet}
-use Rattle.cell_model.specs.declared.cell.NodeNets.{NodeNets}
-use Rattle.cell_model.specs.declared.cell.Nets.{Nets}
-use Rattle.cell_model.specs.declared.cell.Wire.{Wire}
-use Rattle.cell_model.specs.declared.cell.Cell.{Cell}
-use Rattle.cell_model.specs.Sound.{IsKind, IsSound}
-use Rattle.cell_model.specs.Wiring.{buried_pad}
+use Rattle.rule_table.specs.declared.{technology.Tech.Tech, classes.Class.{Class, TheVariants.{M, P, Dc, Dm}}}
+use Rattle.rule_table.specs.declared.classes.Layer.{Layer, TheVariants.{Diffusion, Poly, Metal}}
+use Rattle.rule_table.{specs.Technology.{numbers_of, pad_of, width_of}, proofs.Widths.{width_within, pad_even}}
+use Rattle.sym_items.specs.declared.items.{Coords.Coords, Item.Item, Items.Items}
+use Rattle.sym_items.specs.{Extents.IsLongUnder, Sides.{Sides, sides_in}, Values.value_of}
+use Rattle.cell_model.specs.declared.cell.{Axis2.{Axis2, TheVariants.{Across, Up}}, NodeKind.NodeKind}
+use Rattle.cell_model.specs.declared.cell.{NodeKind.TheVariants.{Joint, Contact, Buried, Fet}, NodeNets.NodeNets}
+use Rattle.cell_model.specs.declared.cell.{Nets.Nets, Wire.Wire, Cell.Cell}
+use Rattle.cell_model.specs.{Sound.{IsKind, IsSound}, Wiring.buried_pad}
 use Rattle.list_facts.proofs.Elements.{all_append, all_flat, all_numbers, all_at}
 use Rattle.pair_rules.specs.Bound.{no_item}
-use Rattle.expand.specs.declared.master.Master.{Master}
-use Rattle.expand.specs.Masters.{IsMaster}
-use Rattle.expand.specs.Variables.{half}
-use Rattle.expand.specs.NodeItems.{item_running, on_layer, box_round, square_round, channel_items, kind_items}
-use Rattle.expand.specs.WireItems.{low_end_of, high_end_of, contact_at, run_item, wire_items}
-use Rattle.expand.specs.Items.{items_of_node, items_of_wire, item_list}
-use Rattle.expand.proofs.Among.{sound_numbers, buried_size}
-use Rattle.expand.proofs.Cells.{node_sound, wire_sound}
-use Rattle.expand.proofs.Standing.{stands}
+use Rattle.expand.specs.{declared.master.Master.Master, Masters.IsMaster, Variables.half, NodeItems.item_running}
+use Rattle.expand.specs.{NodeItems.{on_layer, box_round, square_round, channel_items, kind_items}, WireItems.low_end_of}
+use Rattle.expand.specs.{WireItems.{high_end_of, contact_at, run_item, wire_items}, Items.items_of_node}
+use Rattle.expand.specs.Items.{items_of_wire, item_list}
+use Rattle.expand.proofs.{Among.{sound_numbers, buried_size}, Cells.{node_sound, wire_sound}, Standing.stands}
 use Rattle.plan_model.specs.declared.plan.Plan.{Plan}
-use Rattle.grid_rules.specs.Rules.{shifted_sides}
-use Rattle.grid_rules.proofs.Gaps.{IsDone}
-use Rattle.grid_rules.proofs.Meeting.{master_is}
-use Rattle.grid_rules.specs.Conductors.{item_of}
-use Rattle.grid_rules.specs.Meetings.{master_of}
-use Rattle.grid_rules.proofs.MeetingGaps.{layout_of, finished_at, x_of, y_of}
+use Rattle.grid_rules.specs.{Rules.shifted_sides, Conductors.item_of, Meetings.master_of}
+use Rattle.grid_rules.proofs.{Gaps.IsDone, Meeting.master_is, MeetingGaps.{layout_of, finished_at, x_of, y_of}}
 use Rattle.kept_rules.specs.Items.{width_of_class, IsWide, ConductorsAreWide}
 
 -- ---- least extents and widths

@@ -1,36 +1,21 @@
 -- Items of one owner, by their classes: a contact's cut, a transistor's channel and a buried contact's window are never of one owner; a transistor's implant
 -- goes past its channel; and poly and diffusion of one owner overlap.
-use Rattle.std.proofs.Common.{◌≡◌, ℕ, ◌+◌, ◌<◌, ℤ, pos, ◌+ℤ◌, ◌*ℤ◌, ◌<ℤ◌, ◌≤ℤ◌, Bool, true, false, List, [], ◌∷◌, length, sym, ◌∙◌, subst, arith, refl}
-use Rattle.std.proofs.lemmas.Int.{ints, clamps}
-use Rattle.rule_table.specs.declared.technology.Tech.{Tech}
-use Rattle.rule_table.specs.declared.classes.Class.{Class}
-use Rattle.rule_table.specs.declared.classes.Class.TheVariants.{P, Dm, C, I, G, B}
-use Rattle.rule_table.specs.declared.classes.Layer.{Layer}
-use Rattle.rule_table.specs.declared.classes.Layer.TheVariants.{Diffusion, Poly, Metal}
-use Rattle.rule_table.specs.Bounds.{IsSize}
-use Rattle.rule_table.specs.Technology.{numbers_of}
-use Rattle.sym_items.specs.declared.items.Coords.{Coords}
-use Rattle.sym_items.specs.declared.items.Item.{Item}
-use Rattle.sym_items.specs.Sides.{sides_in, gap_of_sides}
-use Rattle.cell_model.specs.declared.cell.Axis2.{Axis2}
-use Rattle.cell_model.specs.declared.cell.Axis2.TheVariants.{Across, Up}
-use Rattle.cell_model.specs.declared.cell.NodeKind.{NodeKind}
-use Rattle.cell_model.specs.declared.cell.NodeKind.TheVariants.{Joint, Contact, Buried, Fet}
-use Rattle.cell_model.specs.declared.cell.NodeNets.{NodeNets}
-use Rattle.cell_model.specs.Sound.{node_at, wire_at, IsKind}
-use Rattle.cell_model.specs.Wiring.{buried_pad}
+use Rattle.std.proofs.Common.{◌≡◌, ℕ, ◌+◌, ◌<◌, ℤ, pos, ◌+ℤ◌, ◌*ℤ◌, ◌<ℤ◌, ◌≤ℤ◌, Bool, true, false, List, [], ◌∷◌}
+use Rattle.std.proofs.{Common.{length, sym, ◌∙◌, subst, arith, refl}, lemmas.Int.{ints, clamps}}
+use Rattle.rule_table.specs.declared.{technology.Tech.Tech, classes.Class.{Class, TheVariants.{P, Dm, C, I, G, B}}}
+use Rattle.rule_table.specs.declared.classes.Layer.{Layer, TheVariants.{Diffusion, Poly, Metal}}
+use Rattle.rule_table.specs.{Bounds.IsSize, Technology.numbers_of}
+use Rattle.sym_items.specs.{declared.items.{Coords.Coords, Item.Item}, Sides.{sides_in, gap_of_sides}}
+use Rattle.cell_model.specs.declared.cell.{Axis2.{Axis2, TheVariants.{Across, Up}}, NodeKind.NodeKind}
+use Rattle.cell_model.specs.declared.cell.{NodeKind.TheVariants.{Joint, Contact, Buried, Fet}, NodeNets.NodeNets}
+use Rattle.cell_model.specs.{Sound.{node_at, wire_at, IsKind}, Wiring.buried_pad}
 use Rattle.pair_rules.specs.Bound.{item_at}
-use Rattle.expand.specs.declared.master.Master.{Master}
-use Rattle.expand.specs.Masters.{IsMaster}
-use Rattle.expand.specs.Items.{nets_at, items_of_node, items_of_wire}
-use Rattle.expand.specs.NodeItems.{item_running, on_layer, box_round, kind_items}
-use Rattle.expand.specs.Variables.{half}
-use Rattle.expand.proofs.Among.{sound_numbers, buried_size}
-use Rattle.expand.proofs.Cells.{node_sound}
-use Rattle.grid_rules.specs.Rules.{shifted_sides}
-use Rattle.grid_rules.specs.Meetings.{EnclosesBy}
-use Rattle.grid_rules.proofs.MeetingRuns.{IsRun, places, IsIn, found}
-use Rattle.grid_rules.proofs.MeetingBlocks.{run_node, run_wire, stands_in, OwnerOf, a_node, a_wire, owner_of, only_place}
+use Rattle.expand.specs.{declared.master.Master.Master, Masters.IsMaster, Items.{nets_at, items_of_node, items_of_wire}}
+use Rattle.expand.specs.{NodeItems.{item_running, on_layer, box_round, kind_items}, Variables.half}
+use Rattle.expand.proofs.{Among.{sound_numbers, buried_size}, Cells.node_sound}
+use Rattle.grid_rules.specs.{Rules.shifted_sides, Meetings.EnclosesBy}
+use Rattle.grid_rules.proofs.{MeetingRuns.{IsRun, places, IsIn, found}, MeetingBlocks.{run_node, run_wire, stands_in}}
+use Rattle.grid_rules.proofs.MeetingBlocks.{OwnerOf, a_node, a_wire, owner_of, only_place}
 
 -- ---- two items of one owner stand in one block
 

@@ -1,32 +1,22 @@
 -- Items of all instances keep the spacings that the rules on boxes ask for.
-use Rattle.std.proofs.Common.{◌≡◌, ◌≢◌, ℕ, ℤ, pos, ◌≤ℤ◌, ◌<ℤ◌, Bool, true, false, List, Some, refl, sym, ap, ◌∙◌, subst, arith, inl, inr}
-use Rattle.std.specs.Prelude.{IsTrue}
-use Rattle.std.proofs.lemmas.Bool.{cases_eq}
-use Rattle.std.proofs.lemmas.Int.{ints, by_lt_z}
-use Rattle.rule_table.specs.declared.technology.Tech.{Tech}
-use Rattle.rule_table.specs.declared.classes.Class.{Class}
-use Rattle.rule_table.specs.declared.classes.Class.TheVariants.{M, P, Dc, Dm, C, I, G, B}
-use Rattle.rule_table.specs.declared.classes.Rule.{Rule}
-use Rattle.rule_table.specs.Spacing.{spacing_in}
+use Rattle.std.proofs.Common.{◌≡◌, ◌≢◌, ℕ, ℤ, pos, ◌≤ℤ◌, ◌<ℤ◌, Bool, true, false, List, Some, refl, sym, ap, ◌∙◌, subst}
+use Rattle.std.{proofs.{Common.{arith, inl, inr}, lemmas.{Bool.cases_eq, Int.{ints, by_lt_z}}}, specs.Prelude.IsTrue}
+use Rattle.rule_table.specs.declared.{technology.Tech.Tech, classes.Class.{Class, TheVariants.{M, P, Dc, Dm, C, I, G}}}
+use Rattle.rule_table.specs.{declared.classes.{Class.TheVariants.B, Rule.Rule}, Spacing.spacing_in}
 use Rattle.rule_table.specs.Technology.{numbers_of, has_buried_of, spacing_of}
 use Rattle.cell_model.specs.declared.cell.Nets.{Nets}
-use Rattle.sym_items.specs.declared.items.Coords.{Coords}
-use Rattle.sym_items.specs.declared.items.Item.{Item}
-use Rattle.sym_items.specs.Standing.{StandTogether}
+use Rattle.sym_items.specs.{declared.items.{Coords.Coords, Item.Item}, Standing.StandTogether}
 use Rattle.pair_rules.specs.Bound.{is_poly_on_diffusion}
 use Rattle.expand.specs.declared.master.Master.{Master}
-use Rattle.plan_model.specs.declared.plan.Plan.{Plan}
-use Rattle.plan_model.specs.Instances.{Spot}
-use Rattle.grid_rules.specs.Rules.{AreNetsOf}
-use Rattle.grid_rules.proofs.Apart.{all_apart}
-use Rattle.grid_rules.proofs.Gaps.{IsDone}
-use Rattle.grid_rules.proofs.Meeting.{master_is}
-use Rattle.grid_rules.specs.Conductors.{Drawn, AreOfOneNet, item_of, sides_of_drawn, gap_of_drawn}
+use Rattle.plan_model.specs.{declared.plan.Plan.Plan, Instances.Spot}
+use Rattle.grid_rules.specs.{Rules.AreNetsOf, Conductors.{Drawn, AreOfOneNet, item_of, sides_of_drawn, gap_of_drawn}}
 use Rattle.grid_rules.specs.Meetings.{master_of, at, IsOfClass, EnclosesBy, OwnersHaveOne}
-use Rattle.grid_rules.proofs.MeetingGaps.{spots_differ, layout_of, x_of, y_of, nets_there, of_classes}
-use Rattle.grid_rules.proofs.MeetingPoly.{contacts_are_buried}
-use Rattle.kept_rules.specs.Items.{PolyKeepsOff, spacing_of_class, NetsKeepOff, CutsKeepOff, CutsKeepOffChannels, WindowsKeepOff, ImplantsCoverOrKeepOff}
-use Rattle.kept_rules.proofs.SpacingOwners.{HoldsInBlocks, of_one_owner, AreNeverBoth, no_cut_with_channel, no_window_with_channel, GoesPast, implant_past_channel, DoCross, poly_crosses_diffusion}
+use Rattle.grid_rules.proofs.{Apart.all_apart, Gaps.IsDone, Meeting.master_is, MeetingGaps.{spots_differ, layout_of}}
+use Rattle.grid_rules.proofs.{MeetingGaps.{x_of, y_of, nets_there, of_classes}, MeetingPoly.contacts_are_buried}
+use Rattle.kept_rules.specs.Items.{PolyKeepsOff, spacing_of_class, NetsKeepOff, CutsKeepOff, CutsKeepOffChannels}
+use Rattle.kept_rules.{specs.Items.{WindowsKeepOff, ImplantsCoverOrKeepOff}, proofs.SpacingOwners.HoldsInBlocks}
+use Rattle.kept_rules.proofs.SpacingOwners.{of_one_owner, AreNeverBoth, no_cut_with_channel, no_window_with_channel}
+use Rattle.kept_rules.proofs.SpacingOwners.{GoesPast, implant_past_channel, DoCross, poly_crosses_diffusion}
 
 -- ---- the rules of classes
 

@@ -1,17 +1,13 @@
 -- What the rules on boxes ask of the items of all instances. Lengths are in u.
 use Rattle.std.specs.Prelude.{◌≡◌, ◌⊎◌, ℕ, ℤ, pos, ◌-ℤ◌, ◌≤ℤ◌, ◌<ℤ◌, IsTrue, Option, Some, None, List}
-use Rattle.rule_table.specs.declared.technology.Tech.{Tech}
-use Rattle.rule_table.specs.Technology.{numbers_of, has_buried_of}
-use Rattle.rule_table.specs.declared.classes.Class.{Class}
-use Rattle.rule_table.specs.declared.classes.Class.TheVariants.{M, P, Dc, Dm, C, I, G, B}
+use Rattle.rule_table.specs.declared.{technology.Tech.Tech, classes.Class.{Class, TheVariants.{M, P, Dc, Dm, C, I, G}}}
+use Rattle.rule_table.specs.{declared.classes.Class.TheVariants.B, Technology.{numbers_of, has_buried_of}}
 use Rattle.cell_model.specs.declared.cell.Nets.{Nets}
-use Rattle.sym_items.specs.declared.items.Coords.{Coords}
-use Rattle.sym_items.specs.Sides.{Sides}
+use Rattle.sym_items.specs.{declared.items.Coords.Coords, Sides.Sides}
 use Rattle.expand.specs.declared.master.Master.{Master}
 use Rattle.plan_model.specs.declared.plan.Plan.{Plan}
-use Rattle.grid_rules.specs.Rules.{AreNetsOf}
-use Rattle.grid_rules.specs.Conductors.{Drawn, AreOfOneBox, AreOfOneNet, sides_of_drawn, gap_of_drawn}
-use Rattle.grid_rules.specs.Meetings.{IsOfClass, EnclosesBy, OwnersHaveOne}
+use Rattle.grid_rules.specs.{Rules.AreNetsOf, Conductors.{Drawn, AreOfOneBox, AreOfOneNet, sides_of_drawn}}
+use Rattle.grid_rules.specs.{Conductors.gap_of_drawn, Meetings.{IsOfClass, EnclosesBy, OwnersHaveOne}}
 
 -- ---- shapes
 

@@ -1,9 +1,7 @@
 //! That boxes keep the rules.
 ghost use Rattle.std.specs.Prelude.{List};
 ghost use Rattle.lam_geom.specs.declared.boxes.MaskBox.{MaskBox};
-ghost use Rattle.grid_rules.specs.Planned.{AreOfPlan};
-ghost use Rattle.grid_rules.specs.Rules.{AreFinished};
-ghost use Rattle.grid_rules.specs.Shapes.{AreShapes};
+ghost use Rattle.grid_rules.specs.{Planned.AreOfPlan, Rules.AreFinished, Shapes.AreShapes};
 ghost use Rattle.flat_check.specs.Breaks.{KeepRules};
 
 use crate::shapes::items_have_shapes;

@@ -1,6 +1,5 @@
 //! How wide items are, and what covers cuts.
-ghost use Rattle.grid_rules.specs.Planned.{AreOfPlan};
-ghost use Rattle.grid_rules.specs.Rules.{AreFinished};
+ghost use Rattle.grid_rules.specs.{Planned.AreOfPlan, Rules.AreFinished};
 ghost use Rattle.kept_rules.specs.Items.{ConductorsAreWide, CutsAreSquare, CutsAreCovered, OwnersHaveOneCut};
 
 use expand::Master;

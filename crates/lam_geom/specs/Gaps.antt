@@ -1,9 +1,5 @@
-use Rattle.std.specs.Prelude.{ℤ, pos, ◌+ℤ◌, ◌-ℤ◌, ◌≤ℤ◌, ◌<ℤ◌}
-use Rattle.std.specs.Int.{int_max}
-use Rattle.lam_geom.specs.declared.boxes.Span.{Span}
-use Rattle.lam_geom.specs.declared.boxes.BoxXY.{BoxXY}
-use Rattle.lam_geom.specs.declared.boxes.Axis.{Axis}
-use Rattle.lam_geom.specs.declared.boxes.Axis.TheVariants.{X, Y}
+use Rattle.std.specs.{Prelude.{ℤ, pos, ◌+ℤ◌, ◌-ℤ◌, ◌≤ℤ◌, ◌<ℤ◌}, Int.int_max}
+use Rattle.lam_geom.specs.declared.boxes.{Span.Span, BoxXY.BoxXY, Axis.{Axis, TheVariants.{X, Y}}}
 
 -- how far a to b and c to d lie apart: the greater of the two one-sided distances.
 -- It is 0 where they share an end, and below 0 where they overlap.

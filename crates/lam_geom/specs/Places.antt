@@ -1,6 +1,5 @@
 use Rattle.std.specs.Prelude.{◌^◌, ℤ, pos, neg_ℤ, ◌≤ℤ◌}
-use Rattle.lam_geom.specs.declared.boxes.Span.{Span}
-use Rattle.lam_geom.specs.declared.boxes.BoxXY.{BoxXY}
+use Rattle.lam_geom.specs.declared.boxes.{Span.Span, BoxXY.BoxXY}
 
 -- a coordinate within 2^60 of the origin, on either side
 abbrev pub IsPlace : ℤ → Type 0

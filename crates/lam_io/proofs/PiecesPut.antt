@@ -1,7 +1,6 @@
 -- What a sink tells after the pieces of a text.
-use Rattle.std.proofs.Common.{◌≡◌, ℕ, suc, ◌<◌, List, [], ◌∷◌, ◌++◌, Option, Some, None, sym, ap, ◌∙◌, append_assoc, take, drop, length, get_or, flat_map}
-use Rattle.std.proofs.Common.{zero, arith}
-use Rattle.std.proofs.lemmas.List.Concat.{flat_map-cons}
+use Rattle.std.proofs.Common.{◌≡◌, ℕ, suc, ◌<◌, List, [], ◌∷◌, ◌++◌, Option, Some, None, sym, ap, ◌∙◌, append_assoc}
+use Rattle.std.proofs.{Common.{take, drop, length, get_or, flat_map, zero, arith}, lemmas.List.Concat.flat_map-cons}
 use Rattle.lam_io.specs.Io.{Bytes, Appends, AppendsPrefix}
 
 appends_both : (a b c : Option Bytes) (x y : Bytes) → Appends a b x → Appends b c y → Appends a c (x ++ y)

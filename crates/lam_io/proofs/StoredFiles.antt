@@ -1,17 +1,10 @@
 -- Looking a name up in the files of a shelf, one file after another.
-use Rattle.std.proofs.Common.{◌≡◌, ℕ, ◌+◌, ◌<◌, ◌≤◌, true, false, cond, List, ◌∷◌, drop, map, length, get_or, ap, sym, ◌∙◌}
-use Rattle.std.specs.Prelude.{Option, Some, None}
-use Rattle.std.specs.Str.{bytes_eq}
-use Rattle.std.specs.String.{string_bytes}
-use Rattle.std.specs.Ordering.{nat_cmp}
-use Rattle.std.specs.Cmp.Lexicographic.{slice_cmp, nat_list_cmp_total}
-use Rattle.std.specs.FinMap.{get, from_entries, get-from_entries}
+use Rattle.std.proofs.Common.{◌≡◌, ℕ, ◌+◌, ◌<◌, ◌≤◌, true, false, cond, List, ◌∷◌, drop, map, length, get_or, ap, sym}
+use Rattle.std.proofs.{Common.◌∙◌, lemmas.{List.{at_drop_more, drop_all}, Map.Text.is_eq-slice_cmp}}
+use Rattle.std.specs.{Prelude.{Option, Some, None}, Str.bytes_eq, String.string_bytes, Ordering.nat_cmp}
+use Rattle.std.specs.{Cmp.Lexicographic.{slice_cmp, nat_list_cmp_total}, FinMap.{get, from_entries, get-from_entries}}
 use Rattle.std.specs.FinMap.Entries.{find}
-use Rattle.std.proofs.lemmas.List.{at_drop_more, drop_all}
-use Rattle.std.proofs.lemmas.Map.Text.{is_eq-slice_cmp}
-use Rattle.lam_io.specs.Io.{Bytes}
-use Rattle.lam_io.specs.ShelfInMemory.{entry_of}
-use Rattle.lam_io.specs.declared.mem_shelf.StoredFile.{StoredFile}
+use Rattle.lam_io.specs.{Io.Bytes, ShelfInMemory.entry_of, declared.mem_shelf.StoredFile.StoredFile}
 
 -- the content of the first of these files that has the name
 abbrev pub found : Bytes → List StoredFile → Option Bytes

@@ -1,8 +1,6 @@
 -- What holds after each answer of a fetch.
 use Rattle.std.specs.Prelude.{ℕ, Result, Ok, Err, ⊤}
-use Rattle.lam_io.specs.Io.{raised}
-use Rattle.lam_io.specs.declared.shelf.Fetch.{Fetch}
-use Rattle.lam_io.specs.declared.shelf.Fetch.TheVariants.{Fault, OutOfMemory}
+use Rattle.lam_io.specs.{Io.raised, declared.shelf.Fetch.{Fetch, TheVariants.{Fault, OutOfMemory}}}
 
 -- P holds if the answer is a fault
 abbrev pub OnFault : {V : Type 0} → Result V Fetch → Type 0 → Type 0

@@ -1,9 +1,6 @@
 -- What shelves and sinks tell, and how their counts of faults grow.
 use Rattle.std.specs.Prelude.{◌≡◌, ℕ, ◌+◌, ◌-◌, ◌^◌, ◌≤◌, min, List, [], ◌∷◌, ◌++◌, take, Option, Some}
-use Rattle.std.specs.Option.{option_map}
-use Rattle.std.specs.Ordering.{nat_cmp}
-use Rattle.std.specs.Cmp.Lexicographic.{slice_cmp}
-use Rattle.std.specs.FinMap.{FinMap, get}
+use Rattle.std.specs.{Option.option_map, Ordering.nat_cmp, Cmp.Lexicographic.slice_cmp, FinMap.{FinMap, get}}
 
 abbrev pub Bytes : Type 0
 Bytes = List ℕ

@@ -1,7 +1,6 @@
 -- The shelf over files and the sink over a writer: what contracts see of them.
 use Rattle.std.specs.Prelude.{ℕ}
-use Rattle.lam_io.specs.declared.file_shelf.FileShelf.{FileShelf}
-use Rattle.lam_io.specs.declared.std_sink.StdSink.{StdSink}
+use Rattle.lam_io.specs.declared.{file_shelf.FileShelf.FileShelf, std_sink.StdSink.StdSink}
 
 -- the faults so far
 abbrev pub file_faults : {R : Type 0} → FileShelf R → ℕ

@@ -1,6 +1,5 @@
 -- Which calls a plan makes fail.
-use Rattle.std.specs.Prelude.{ℕ, Bool, List, ◌==◌}
-use Rattle.std.specs.List.{list_any}
+use Rattle.std.specs.{Prelude.{ℕ, Bool, List, ◌==◌}, List.list_any}
 
 -- whether the plan names the call of this number, counted from 0
 abbrev pub is_planned : List ℕ → ℕ → Bool

@@ -1,10 +1,8 @@
 -- The shelf in memory: what contracts see of it, and what a fetch makes of that.
 use Rattle.std.specs.Prelude.{ℕ, Bool, ◌||◌, List, [], map, length, if◌then◌else◌, is_none, string_bytes}
 use Rattle.std.specs.FinMap.{empty, get, insert, from_entries}
-use Rattle.lam_io.specs.Io.{Bytes, Telling, with_asked, raised}
-use Rattle.lam_io.specs.Planned.{is_planned}
-use Rattle.lam_io.specs.declared.mem_shelf.MemShelf.{MemShelf}
-use Rattle.lam_io.specs.declared.mem_shelf.StoredFile.{StoredFile}
+use Rattle.lam_io.specs.{Io.{Bytes, Telling, with_asked, raised}, Planned.is_planned}
+use Rattle.lam_io.specs.declared.mem_shelf.{MemShelf.MemShelf, StoredFile.StoredFile}
 
 -- what it tells, the fetches that are planned to fail, and its faults so far
 pub record Shelving : Type 0 where

@@ -1,8 +1,7 @@
 -- The sink in memory: what contracts see of it, and what a put makes of that.
-use Rattle.std.specs.Prelude.{ℕ, ◌-◌, ◌/◌, Bool, ◌&&◌, ◌||◌, not, nat_lt, ◌==◌, min, List, [], ◌++◌, length, take, if◌then◌else◌}
-use Rattle.lam_io.specs.Io.{Bytes, raised}
-use Rattle.lam_io.specs.Planned.{is_planned}
-use Rattle.lam_io.specs.declared.mem_sink.MemSink.{MemSink}
+use Rattle.std.specs.Prelude.{ℕ, ◌-◌, ◌/◌, Bool, ◌&&◌, ◌||◌, not, nat_lt, ◌==◌, min, List, [], ◌++◌, length, take}
+use Rattle.std.specs.Prelude.{if◌then◌else◌}
+use Rattle.lam_io.specs.{Io.{Bytes, raised}, Planned.is_planned, declared.mem_sink.MemSink.MemSink}
 
 -- the bytes put so far, how many bytes it can hold, the puts that are planned to fail, the puts of a piece that is not empty so far, and the faults so far
 pub record Sinking : Type 0 where

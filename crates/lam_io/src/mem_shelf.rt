@@ -1,7 +1,6 @@
 // A shelf in memory, whose fetches fail where a plan says.
 ghost use Rattle.std.specs.Prelude.{◌≡◌, ◌^◌, ◌<◌, ◌≤◌, true, false, Some, IfOk, OnOk, OnErr, is_err};
-ghost use Rattle.std.specs.Option.{option_copied};
-ghost use Rattle.std.specs.FinMap.{get};
+ghost use Rattle.std.specs.{Option.option_copied, FinMap.get};
 ghost use Rattle.lam_io.specs.Io.{Asks, IsFetched, IsFileStart, Rose};
 
 use crate::fail_plan::FailPlan;

@@ -1,7 +1,6 @@
 // What gives files by their names.
 ghost use Rattle.std.specs.Prelude.{◌≡◌, ℕ, ◌^◌, ◌<◌, ◌≤◌, Option, IfOk};
-ghost use Rattle.lam_io.specs.declared.shelf.Fetch.TheVariants.{OutOfMemory};
-ghost use Rattle.lam_io.specs.Io.{Telling, Asks, IsFetched, Rose};
+ghost use Rattle.lam_io.specs.{declared.shelf.Fetch.TheVariants.OutOfMemory, Io.{Telling, Asks, IsFetched, Rose}};
 
 use std::alloc::{AllocError, AllocFailed, Global};
 use thiserror::Error;

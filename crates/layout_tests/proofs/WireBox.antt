@@ -1,11 +1,8 @@
 -- The box of the wire that the tests type in, checked against its sides worked by hand.
-use Rattle.std.proofs.Common.{◌≡◌, ◌<◌, pos, ℤ, List, length, refl, arith}
-use Rattle.std.proofs.lemmas.Int.{ints}
+use Rattle.std.proofs.{Common.{◌≡◌, ◌<◌, pos, ℤ, List, length, refl, arith}, lemmas.Int.ints}
 use Rattle.lam_geom.specs.Places.{IsPlace}
 use Rattle.sym_items.specs.declared.items.End.{End}
-use Rattle.sym_items.specs.Values.{value_at}
-use Rattle.sym_items.specs.Sides.{Sides, sides_in}
-use Rattle.sym_items.specs.Boxes.{IsPlacedEnd, HasBox}
+use Rattle.sym_items.specs.{Values.value_at, Sides.{Sides, sides_in}, Boxes.{IsPlacedEnd, HasBox}}
 use Rattle.layout_tests.specs.Wire.{below, above, wire, start}
 
 wire_sides : let s : Sides = record { left = pos 9; right = pos 27; bottom = pos 9; top = pos 15 } in sides_in start wire ≡ s

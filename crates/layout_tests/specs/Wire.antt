@@ -1,10 +1,7 @@
 -- The items and the layout that the tests type in: two metal joints in a row, 12 apart, and the wire between them.
 use Rattle.std.specs.Prelude.{ℕ, pos, neg_ℤ, [], ◌∷◌}
 use Rattle.rule_table.specs.declared.classes.Class.TheVariants.{M}
-use Rattle.sym_items.specs.declared.items.End.{End}
-use Rattle.sym_items.specs.declared.items.Item.{Item}
-use Rattle.sym_items.specs.declared.items.Coords.{Coords}
-use Rattle.sym_items.specs.Standing.{nowhere}
+use Rattle.sym_items.specs.{declared.items.{End.End, Item.Item, Coords.Coords}, Standing.nowhere}
 
 abbrev pub below : ℕ → End
 below v = record { var = v; off = neg_ℤ (pos 3) }

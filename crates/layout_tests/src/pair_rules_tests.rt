@@ -1,7 +1,6 @@
 //! Which items of small layouts are bound and face each other.
 ghost use Rattle.std.specs.Prelude.{◌≡◌, ◌<◌, ◌^◌, IfOk, All, length};
-ghost use Rattle.sym_items.specs.Boxes.{HasBox};
-ghost use Rattle.sym_items.specs.Transposed.{transposed_coords};
+ghost use Rattle.sym_items.specs.{Boxes.HasBox, Transposed.transposed_coords};
 ghost use Rattle.pair_rules.specs.Worked as worked;
 
 use lam_geom::Axis;

@@ -1,13 +1,10 @@
 -- What reading the arrays of a working log gives.
-use Rattle.std.proofs.Common.{◌≡◌, ℕ, ◌<◌, ◌≤◌, pos, true, eqb, ◌||◌, Some, None, List, inl, inr, length, get_or, sym, ap, subst, ◌∙◌, arith}
-use Rattle.std.specs.List.{list_any}
-use Rattle.std.proofs.lemmas.Bool.{cases_eq, cond-true, cond-false, ne_eqb, eq-eqb, or_left}
-use Rattle.std.proofs.lemmas.List.{get_or_read}
-use Rattle.round_log.specs.declared.log.Entry.{Entry}
-use Rattle.round_log.specs.Looks.{label, latest, chain}
-use Rattle.round_log.specs.Logs.{origin_entry}
-use Rattle.round_log.proofs.Raises.{latest_in_log}
-use Rattle.round_log.proofs.Entries.{array_of, length-array, label_by_latest, label_without_latest, IsChainStep, chain_step}
+use Rattle.std.proofs.Common.{◌≡◌, ℕ, ◌<◌, ◌≤◌, pos, true, eqb, ◌||◌, Some, None, List, inl, inr, length, get_or, sym}
+use Rattle.std.proofs.{Common.{ap, subst, ◌∙◌, arith}, lemmas.Bool.{cases_eq, cond-true, cond-false, ne_eqb, eq-eqb}}
+use Rattle.std.{proofs.lemmas.{Bool.or_left, List.get_or_read}, specs.List.list_any}
+use Rattle.round_log.specs.{declared.log.Entry.Entry, Looks.{label, latest, chain}, Logs.origin_entry}
+use Rattle.round_log.proofs.{Raises.latest_in_log, Entries.{array_of, length-array, label_by_latest}}
+use Rattle.round_log.proofs.Entries.{label_without_latest, IsChainStep, chain_step}
 use Rattle.liao_wong.specs.Held.{AreArraysOf}
 
 -- ---- what reading the arrays gives

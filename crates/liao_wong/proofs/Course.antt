@@ -1,30 +1,19 @@
 -- The course of the rounds: one round after another, and how each of them goes on, ends or stops.
-use Rattle.std.proofs.Common.{◌≡◌, ℕ, zero, suc, ◌+◌, ◌<◌, ◌≤◌, Option, Bool, true, false, not, List, [], ◌∷◌, ◌++◌, inl, inr, length, get_or, refl, sym, ap, subst, ◌∙◌, arith, eq-eqb, eqb, length-append}
-use Rattle.std.specs.List.{filter, range_with_len}
+use Rattle.std.proofs.Common.{◌≡◌, ℕ, zero, suc, ◌+◌, ◌<◌, ◌≤◌, Option, Bool, true, false, not, List, [], ◌∷◌, ◌++◌}
+use Rattle.std.proofs.Common.{inl, inr, length, get_or, refl, sym, ap, subst, ◌∙◌, arith, eq-eqb, eqb, length-append}
 use Rattle.std.proofs.lemmas.Bool.{cond-true, cond-false, cases_eq, cond_both, ne_eqb, true≢false}
-use Rattle.std.proofs.lemmas.List.{nil_from_length}
-use Rattle.cons_graph.specs.declared.edges.Edge.{Edge}
-use Rattle.std.proofs.lemmas.List.FromFn.{length-range_with_len}
-use Rattle.round_log.specs.declared.log.Entry.{Entry}
-use Rattle.cons_graph.specs.Constraints.{Constraints, IsConstraintGraph}
-use Rattle.round_log.specs.Orders.{NamesEachOnce}
+use Rattle.std.{proofs.lemmas.List.{nil_from_length, FromFn.length-range_with_len}, specs.List.{filter, range_with_len}}
+use Rattle.cons_graph.specs.{declared.edges.Edge.Edge, Constraints.{Constraints, IsConstraintGraph}}
 use Rattle.cons_graph.specs.EdgeNumbers.{edge_at}
-use Rattle.round_log.specs.Looks.{place_in, is_forward, backward_numbers}
-use Rattle.round_log.specs.Rounds.{Progress, Plan, plan_of, forward_part, round, one_more, after_rounds, IsQuietAfter}
-use Rattle.round_log.proofs.Chains.{In}
-use Rattle.round_log.proofs.Members.{IsDistinct}
-use Rattle.round_log.specs.Kept.{kept_part}
-use Rattle.round_log.specs.Told.{TellAlike}
-use Rattle.round_log.proofs.Parts.{Keeps, forward_keeps, BackwardGives, backward_gives}
-use Rattle.round_log.proofs.Alike.{ProgressAlike, round_alike}
-use Rattle.round_log.proofs.Kept.{part_alike, part_log}
-use Rattle.round_log.proofs.RoundSteps.{going_start, round_gives, IsRoundOn, busy_bound}
-use Rattle.round_log.proofs.Planned.{planned, In-at, place_of_In, In-from_contains, IsDistinct-from_pairs}
-use Rattle.round_log.proofs.Ends.{GoingOf, LogOf, back_of}
-use Rattle.liao_wong.specs.Held.{Held, ArePlaces}
-use Rattle.liao_wong.specs.Going.{IsReady}
-use Rattle.liao_wong.specs.Sweeping.{IsSwept, IsTrimmed}
-use Rattle.liao_wong.specs.Running.{StartsEmpty, IsStoppedLog, IsLogFor, HasCome, IsEndLog}
+use Rattle.round_log.specs.{declared.log.Entry.Entry, Orders.NamesEachOnce, Looks.{place_in, is_forward}}
+use Rattle.round_log.specs.{Looks.backward_numbers, Rounds.{Progress, Plan, plan_of, forward_part, round, one_more}}
+use Rattle.round_log.specs.{Rounds.{after_rounds, IsQuietAfter}, Kept.kept_part, Told.TellAlike}
+use Rattle.round_log.proofs.{Chains.In, Members.IsDistinct, Parts.{Keeps, forward_keeps, BackwardGives, backward_gives}}
+use Rattle.round_log.proofs.{Alike.{ProgressAlike, round_alike}, Kept.{part_alike, part_log}, RoundSteps.going_start}
+use Rattle.round_log.proofs.{RoundSteps.{round_gives, IsRoundOn, busy_bound}, Planned.{planned, In-at, place_of_In}}
+use Rattle.round_log.proofs.{Planned.{In-from_contains, IsDistinct-from_pairs}, Ends.{GoingOf, LogOf, back_of}}
+use Rattle.liao_wong.specs.{Held.{Held, ArePlaces}, Going.IsReady, Sweeping.{IsSwept, IsTrimmed}, Running.StartsEmpty}
+use Rattle.liao_wong.specs.Running.{IsStoppedLog, IsLogFor, HasCome, IsEndLog}
 
 pub has_started : (g : Constraints) (order : List ℕ) (floor : Option ℕ) (held : Held) → StartsEmpty g held → HasCome g order 0 floor held
 has_started g order floor held s =

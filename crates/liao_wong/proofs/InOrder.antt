@@ -1,25 +1,17 @@
 -- The variables sorted by (value, number).
-use Rattle.std.proofs.Common.{◌≡◌, ◌≢◌, ℕ, ◌<◌, ◌≤◌, ℤ, pos, ◌<ℤ◌, ◌≤ℤ◌, true, false, eqb, Some, List, [], ◌∷◌, ◌++◌, ◌+◌, zero, suc, length, get_or, inl, inr, sym, ap, subst, ◌∙◌, arith}
-use Rattle.std.specs.Prelude.{slice_get}
-use Rattle.std.proofs.lemmas.Int.{ints}
-use Rattle.std.specs.Ordering.{is_lt, int_cmp, nat_cmp, ordering_then, MatchOrdering}
-use Rattle.std.specs.declared.cmp.Ordering.{Ordering}
-use Rattle.std.specs.declared.cmp.Ordering.TheVariants.{Less, Equal, Greater}
-use Rattle.std.specs.List.{AllPairs, range_with_len}
-use Rattle.std.specs.List.Sorted.{IsPermutation, IsSortedByKey}
-use Rattle.std.specs.Cmp.{IsTotalOrder, int_ranks, ranks}
-use Rattle.std.proofs.lemmas.Cmp.{then_total, on_total, int_cmp_total, nat_cmp_total}
-use Rattle.std.proofs.lemmas.Bool.{cases_Bool, eqb-true, eqb-false, ne_eqb, eq-eqb}
-use Rattle.std.proofs.lemmas.Bool.Decides.{Decides-eqb}
-use Rattle.std.proofs.lemmas.List.MinMax.{ranks_by}
+use Rattle.std.proofs.Common.{◌≡◌, ◌≢◌, ℕ, ◌<◌, ◌≤◌, ℤ, pos, ◌<ℤ◌, ◌≤ℤ◌, true, false, eqb, Some, List, [], ◌∷◌, ◌++◌}
+use Rattle.std.proofs.{Common.{◌+◌, zero, suc, length, get_or, inl, inr, sym, ap, subst, ◌∙◌, arith}, lemmas.Int.ints}
+use Rattle.std.proofs.lemmas.{Cmp.{then_total, on_total, int_cmp_total, nat_cmp_total}, Bool.{cases_Bool, eqb-true}}
+use Rattle.std.proofs.lemmas.{Bool.{eqb-false, ne_eqb, eq-eqb, Decides.Decides-eqb}, List.MinMax.ranks_by}
 use Rattle.std.proofs.lemmas.List.Sorted.{sorted_far, All-permutation, Contains-permutation}
-use Rattle.std.proofs.lemmas.Map.Keys.{IsDistinct-IsPermutation}
-use Rattle.std.proofs.lemmas.Map.Made.{AllPairs-from_IsDistinct, IsDistinct-from_AllPairs}
-use Rattle.round_log.specs.Orders.{NamesEachOnce, IsOrder}
+use Rattle.std.proofs.lemmas.Map.{Keys.IsDistinct-IsPermutation, Made.AllPairs-from_IsDistinct}
+use Rattle.std.{proofs.lemmas.Map.Made.IsDistinct-from_AllPairs, specs.{Prelude.slice_get, Ordering.{is_lt, int_cmp}}}
+use Rattle.std.specs.{Ordering.{nat_cmp, ordering_then, MatchOrdering}, declared.cmp.Ordering.Ordering}
+use Rattle.std.specs.{declared.cmp.Ordering.TheVariants.{Less, Equal, Greater}, List.{AllPairs, range_with_len}}
+use Rattle.std.specs.{List.Sorted.{IsPermutation, IsSortedByKey}, Cmp.{IsTotalOrder, int_ranks, ranks}}
+use Rattle.round_log.{specs.Orders.{NamesEachOnce, IsOrder}, proofs.Outcomes.every_variable}
 use Rattle.cons_graph.specs.Solutions.{value_of}
-use Rattle.round_log.proofs.Outcomes.{every_variable}
-use Rattle.liao_wong.proofs.Outputs.{range_more}
-use Rattle.liao_wong.specs.Sorted.{Precedes, IsInOrderOf}
+use Rattle.liao_wong.{proofs.Outputs.range_more, specs.Sorted.{Precedes, IsInOrderOf}}
 
 -- the key of a variable, and how two keys compare
 abbrev pub key_of : List ℤ → ℕ → ℤ × ℕ

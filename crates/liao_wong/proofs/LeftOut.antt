@@ -1,22 +1,14 @@
 -- Looks at edges that append nothing may be left out.
-use Rattle.std.proofs.Common.{◌≡◌, ℕ, zero, suc, ◌+◌, ◌-◌, ◌<◌, ◌≤◌, Bool, true, false, eqb, List, [], ◌∷◌, inl, inr, length, get_or, drop, fold, refl, sym, ap, ◌∙◌, arith}
-use Rattle.std.specs.List.{range_with_len, flat_map}
-use Rattle.std.proofs.lemmas.Bool.{cases_Bool, eqb-true, true≢false}
-use Rattle.cons_graph.specs.declared.edges.Edge.{Edge}
-use Rattle.cons_graph.specs.EdgeNumbers.{edge_at, leaving}
-use Rattle.round_log.specs.declared.log.Entry.{Entry}
-use Rattle.round_log.specs.Looks.{look, is_forward, place_in}
-use Rattle.round_log.specs.Orders.{NamesEachOnce}
+use Rattle.std.proofs.Common.{◌≡◌, ℕ, zero, suc, ◌+◌, ◌-◌, ◌<◌, ◌≤◌, Bool, true, false, eqb, List, [], ◌∷◌, inl, inr}
+use Rattle.std.proofs.{Common.{length, get_or, drop, fold, refl, sym, ap, ◌∙◌, arith}, lemmas.Bool.cases_Bool}
+use Rattle.std.{proofs.lemmas.Bool.{eqb-true, true≢false}, specs.List.{range_with_len, flat_map}}
+use Rattle.cons_graph.specs.{declared.edges.Edge.Edge, EdgeNumbers.{edge_at, leaving}}
+use Rattle.round_log.specs.{declared.log.Entry.Entry, Looks.{look, is_forward, place_in}, Orders.NamesEachOnce}
 use Rattle.round_log.specs.Rounds.{backward_part}
-use Rattle.round_log.proofs.Chains.{In}
-use Rattle.round_log.proofs.Members.{In-filter, In-range}
-use Rattle.round_log.proofs.Planned.{IsDistinct-from_pairs}
-use Rattle.liao_wong.specs.Going.{group_of, backward_of}
-use Rattle.liao_wong.specs.Marked.{is_marked, AreUnmarked}
-use Rattle.liao_wong.specs.Worklist.{AppendsNothing, IsWorklist, has_ready_tail}
-use Rattle.liao_wong.proofs.Steps.{look_leaves, left_group, back_skip, back_leaves}
-use Rattle.liao_wong.proofs.Course.{place_at}
-use Rattle.liao_wong.proofs.Worklists.{AheadWait}
+use Rattle.round_log.proofs.{Chains.In, Members.{In-filter, In-range}, Planned.IsDistinct-from_pairs}
+use Rattle.liao_wong.specs.{Going.{group_of, backward_of}, Marked.{is_marked, AreUnmarked}, Worklist.AppendsNothing}
+use Rattle.liao_wong.{specs.Worklist.{IsWorklist, has_ready_tail}, proofs.Steps.{look_leaves, left_group, back_skip}}
+use Rattle.liao_wong.proofs.{Steps.back_leaves, Course.place_at, Worklists.AheadWait}
 
 -- ---- in the forward part
 

@@ -1,18 +1,11 @@
 -- The looks at the forward edges out of one variable, one after another.
-use Rattle.std.proofs.Common.{◌≡◌, ◌≢◌, ℕ, ◌+◌, ◌<◌, ◌≤◌, Bool, true, Some, List, ◌∷◌, inl, inr, length, get_or, set, refl, sym, ap, subst, ◌∙◌, arith}
-use Rattle.std.specs.List.{All}
-use Rattle.std.proofs.lemmas.Bool.{cases_lt, ltb-true}
-use Rattle.std.proofs.lemmas.List.{get_or_default}
-use Rattle.cons_graph.specs.declared.edges.Edge.{Edge}
-use Rattle.cons_graph.specs.Constraints.{IsConstraintGraph}
-use Rattle.cons_graph.specs.EdgeNumbers.{edge_at}
-use Rattle.round_log.specs.declared.log.Entry.{Entry}
-use Rattle.round_log.specs.Looks.{raise_of, is_forward, place_in}
-use Rattle.round_log.proofs.Least.{edge_among}
-use Rattle.liao_wong.specs.Marked.{is_marked}
-use Rattle.liao_wong.specs.Worklist.{AppendsNothing, HasLookedForward}
-use Rattle.liao_wong.proofs.Marking.{set_elsewhere}
-use Rattle.liao_wong.proofs.Worklists.{kept_none, own_none, raised_head}
+use Rattle.std.proofs.Common.{◌≡◌, ◌≢◌, ℕ, ◌+◌, ◌<◌, ◌≤◌, Bool, true, Some, List, ◌∷◌, inl, inr, length, get_or, set}
+use Rattle.std.proofs.{Common.{refl, sym, ap, subst, ◌∙◌, arith}, lemmas.Bool.{cases_lt, ltb-true}}
+use Rattle.std.{proofs.lemmas.List.get_or_default, specs.List.All}
+use Rattle.cons_graph.specs.{declared.edges.Edge.Edge, Constraints.IsConstraintGraph, EdgeNumbers.edge_at}
+use Rattle.round_log.{specs.{declared.log.Entry.Entry, Looks.{raise_of, is_forward, place_in}}, proofs.Least.edge_among}
+use Rattle.liao_wong.specs.{Marked.is_marked, Worklist.{AppendsNothing, HasLookedForward}}
+use Rattle.liao_wong.proofs.{Marking.set_elsewhere, Worklists.{kept_none, own_none, raised_head}}
 
 -- what holds after the looks at the first of these edges
 pub record HasLookedUpTo (edges : List Edge) (order numbers : List ℕ) (i tail : ℕ) (old new : List Bool) (raises : List Entry) : Type 0 where

@@ -1,12 +1,10 @@
 -- Flags that are set and taken away.
-use Rattle.std.proofs.Common.{◌≡◌, ℕ, ◌<◌, ◌≢◌, Bool, true, false, List, ◌⊎◌, inl, inr, length, set, refl, sym, subst, ◌∙◌}
-use Rattle.std.proofs.lemmas.Bool.{cases_eq, true≢false}
-use Rattle.std.proofs.lemmas.List.{get_or-set_same, get_or-set_other, length-set}
-use Rattle.cons_graph.specs.declared.edges.Edge.{Edge}
-use Rattle.cons_graph.specs.EdgeNumbers.{edge_at}
+use Rattle.std.proofs.Common.{◌≡◌, ℕ, ◌<◌, ◌≢◌, Bool, true, false, List, ◌⊎◌, inl, inr, length, set, refl, sym, subst}
+use Rattle.std.proofs.Common.{◌∙◌}
+use Rattle.std.proofs.lemmas.{Bool.{cases_eq, true≢false}, List.{get_or-set_same, get_or-set_other, length-set}}
+use Rattle.cons_graph.specs.{declared.edges.Edge.Edge, EdgeNumbers.edge_at}
 use Rattle.round_log.specs.Looks.{is_forward}
-use Rattle.liao_wong.specs.Marked.{is_marked}
-use Rattle.liao_wong.specs.Worklist.{WaitToo}
+use Rattle.liao_wong.specs.{Marked.is_marked, Worklist.WaitToo}
 
 pub set_here : (flags : List Bool) (n : ℕ) (b : Bool) → n < length flags → is_marked (set flags n b) n ≡ b
 set_here flags n b lt = get_or-set_same flags n b false lt

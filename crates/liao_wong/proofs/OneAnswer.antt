@@ -1,15 +1,9 @@
 -- What rounds answer over a graph and an order is one.
-use Rattle.std.proofs.Common.{◌≡◌, ℕ, ◌<◌, ℤ, pos, ◌≤ℤ◌, List, sym, ◌∙◌, arith}
-use Rattle.std.proofs.lemmas.Int.{ints}
-use Rattle.std.proofs.lemmas.List.{ext_get_or}
-use Rattle.cons_graph.specs.Constraints.{Constraints, IsConstraintGraph}
-use Rattle.cons_graph.specs.Solutions.{IsLeastSolution, value_of}
-use Rattle.round_log.specs.Logs.{raises_in}
-use Rattle.round_log.specs.Orders.{NamesEachOnce}
-use Rattle.round_log.proofs.Alike.{same_walk}
-use Rattle.round_log.proofs.OfRounds.{whole_log, logs_alike}
-use Rattle.liao_wong.specs.Answers.{HasOneAnswer, WholeLogTells}
-use Rattle.liao_wong.proofs.OneOrder.{has_one_cycle}
+use Rattle.std.proofs.{Common.{◌≡◌, ℕ, ◌<◌, ℤ, pos, ◌≤ℤ◌, List, sym, ◌∙◌, arith}, lemmas.{Int.ints, List.ext_get_or}}
+use Rattle.cons_graph.specs.{Constraints.{Constraints, IsConstraintGraph}, Solutions.{IsLeastSolution, value_of}}
+use Rattle.round_log.specs.{Logs.raises_in, Orders.NamesEachOnce}
+use Rattle.round_log.proofs.{Alike.same_walk, OfRounds.{whole_log, logs_alike}}
+use Rattle.liao_wong.{specs.Answers.{HasOneAnswer, WholeLogTells}, proofs.OneOrder.has_one_cycle}
 
 one_value : (g : Constraints) (x y : ℕ → ℤ) (v : ℕ) → v < g.vars → IsLeastSolution g.vars g.edges x → IsLeastSolution g.vars g.edges y → x v ≡ y v
 one_value g x y v lt a b =

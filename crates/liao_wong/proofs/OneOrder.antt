@@ -1,16 +1,10 @@
 -- What values and edges determine: the order by (value, number), and the cycle at which the rounds stop.
 use Rattle.std.proofs.Common.{◌≡◌, ℕ, suc, ◌<◌, ℤ, List, [], ◌∷◌, inl, inr, refl, sym, ap, subst, ◌∙◌, arith}
-use Rattle.std.specs.List.{AllPairs}
-use Rattle.std.proofs.lemmas.Int.{ints}
+use Rattle.std.{proofs.lemmas.Int.ints, specs.List.AllPairs}
 use Rattle.cons_graph.specs.declared.edges.Edge.{Edge}
-use Rattle.round_log.specs.Orders.{NamesEachOnce}
-use Rattle.round_log.specs.Rounds.{plan_of}
-use Rattle.round_log.specs.WalksBack.{cycle_of}
-use Rattle.round_log.proofs.Chains.{In}
-use Rattle.round_log.proofs.OneOutcome.{one_stop}
-use Rattle.round_log.proofs.Planned.{In-from_contains, place_of_In}
-use Rattle.liao_wong.specs.Answers.{HasOneCycle}
-use Rattle.liao_wong.specs.Sorted.{Precedes, HasOneOrder}
+use Rattle.round_log.specs.{Orders.NamesEachOnce, Rounds.plan_of, WalksBack.cycle_of}
+use Rattle.round_log.proofs.{Chains.In, OneOutcome.one_stop, Planned.{In-from_contains, place_of_In}}
+use Rattle.liao_wong.specs.{Answers.HasOneCycle, Sorted.{Precedes, HasOneOrder}}
 
 -- ---- a list in which each element comes before all later ones is determined by its elements
 

@@ -1,36 +1,22 @@
 -- What is read out of a log of ended rounds, or of one that a raise has stopped.
-use Rattle.std.proofs.Common.{◌≡◌, ℕ, zero, suc, ◌+◌, ◌<◌, ◌≤◌, ℤ, pos, Bool, true, false, not, Option, Some, List, [], ◌∷◌, ◌++◌, length, get_or, unwrap_or, refl, sym, ap, subst, ◌∙◌, arith, length-append}
+use Rattle.std.proofs.Common.{◌≡◌, ℕ, zero, suc, ◌+◌, ◌<◌, ◌≤◌, ℤ, pos, Bool, true, false, not, Option, Some, List, []}
+use Rattle.std.proofs.Common.{◌∷◌, ◌++◌, length, get_or, unwrap_or, refl, sym, ap, subst, ◌∙◌, arith, length-append}
+use Rattle.std.proofs.lemmas.{Bool.{cond-true, cond-false, not_from_true, not_from_false}, List.Elements.filter-append}
+use Rattle.std.proofs.lemmas.List.{Elements.All-from_get_or, FromFn.length-range_with_len}
 use Rattle.std.specs.List.{filter, range_with_len}
-use Rattle.std.proofs.lemmas.Bool.{cond-true, cond-false, not_from_true, not_from_false}
-use Rattle.std.proofs.lemmas.List.Elements.{filter-append, All-from_get_or}
-use Rattle.cons_graph.specs.declared.edges.Edge.{Edge}
-use Rattle.std.proofs.lemmas.List.FromFn.{length-range_with_len}
-use Rattle.round_log.specs.declared.log.Entry.{Entry}
-use Rattle.round_log.specs.declared.log.Log.{Log}
-use Rattle.cons_graph.specs.Constraints.{Constraints, IsConstraintGraph}
-use Rattle.round_log.specs.Logs.{HoldsRaises, ComeFromOlder, IsMadeByLooks, IsLogOfLooks, IsLogOfRounds, raises_in}
-use Rattle.round_log.specs.Looks.{label, is_forward}
-use Rattle.cons_graph.specs.EdgeNumbers.{edge_at}
-use Rattle.round_log.specs.Orders.{NamesEachOnce}
-use Rattle.round_log.specs.Rounds.{plan_of, EndsInRound}
-use Rattle.cons_graph.specs.Solutions.{value_of}
-use Rattle.round_log.proofs.Raises.{raise_of-from}
-use Rattle.round_log.proofs.Members.{length_of_distinct, In-range}
-use Rattle.round_log.proofs.Parts.{IsLog, IsStopAt}
-use Rattle.round_log.proofs.Least.{labelled, label_value, label_value-is, least_same}
-use Rattle.round_log.proofs.Planned.{In-from_contains, IsDistinct-from_pairs}
-use Rattle.round_log.proofs.Ends.{back_of, order_length, label_small}
-use Rattle.round_log.proofs.Outcomes.{IsEnded, ended_from_rounds, ended_least, every_variable}
-use Rattle.round_log.specs.Told.{TellAlike}
-use Rattle.round_log.specs.WalksBack.{cycle_of}
-use Rattle.round_log.proofs.Alike.{same_label, same_cycle}
+use Rattle.cons_graph.specs.{declared.edges.Edge.Edge, Constraints.{Constraints, IsConstraintGraph}}
+use Rattle.cons_graph.specs.{EdgeNumbers.edge_at, Solutions.value_of}
+use Rattle.round_log.specs.{declared.log.{Entry.Entry, Log.Log}, Logs.{HoldsRaises, ComeFromOlder, IsMadeByLooks}}
+use Rattle.round_log.specs.{Logs.{IsLogOfLooks, IsLogOfRounds, raises_in}, Looks.{label, is_forward}}
+use Rattle.round_log.specs.{Orders.NamesEachOnce, Rounds.{plan_of, EndsInRound}, Told.TellAlike, WalksBack.cycle_of}
+use Rattle.round_log.proofs.{Raises.raise_of-from, Members.{length_of_distinct, In-range}, Parts.{IsLog, IsStopAt}}
+use Rattle.round_log.proofs.{Least.{labelled, label_value, label_value-is, least_same}, Planned.In-from_contains}
+use Rattle.round_log.proofs.{Planned.IsDistinct-from_pairs, Ends.{back_of, order_length, label_small}, Outcomes.IsEnded}
+use Rattle.round_log.proofs.{Outcomes.{ended_from_rounds, ended_least, every_variable}, Alike.{same_label, same_cycle}}
 use Rattle.round_log.proofs.OfRounds.{log_older}
 use Rattle.liao_wong.proofs.Course.{filter_le}
-use Rattle.liao_wong.specs.declared.solving.Unsolved.{Unsolved}
-use Rattle.liao_wong.specs.declared.solving.Unsolved.TheVariants.{Cycle, OutOfMemory}
-use Rattle.liao_wong.specs.Answers.{IfCycle, IsCycleOf, IsWithinLimit}
-use Rattle.liao_wong.specs.Going.{backward_of}
-use Rattle.liao_wong.specs.Held.{Held}
+use Rattle.liao_wong.specs.declared.solving.Unsolved.{Unsolved, TheVariants.{Cycle, OutOfMemory}}
+use Rattle.liao_wong.specs.{Answers.{IfCycle, IsCycleOf, IsWithinLimit}, Going.backward_of, Held.Held}
 use Rattle.liao_wong.specs.Running.{IsEndedHeld, IsReadOut, IsStoppedLog}
 
 -- an order has as many places as there are variables

@@ -1,22 +1,15 @@
 -- The steps of the two parts of a round: what is left to look at, and what holds after each look.
-use Rattle.std.proofs.Common.{◌≡◌, ℕ, suc, ◌+◌, ◌-◌, ◌<◌, true, false, not, Some, None, List, [], ◌∷◌, ◌++◌, inl, inr, length, get_or, drop, fold, refl, sym, ap, subst, ◌∙◌, arith, nat_eq}
+use Rattle.std.proofs.Common.{◌≡◌, ℕ, suc, ◌+◌, ◌-◌, ◌<◌, true, false, not, Some, None, List, [], ◌∷◌, ◌++◌, inl, inr}
+use Rattle.std.proofs.Common.{length, get_or, drop, fold, refl, sym, ap, subst, ◌∙◌, arith, nat_eq}
+use Rattle.std.proofs.lemmas.{Bool.{cond-true, cond-false, not_from_true, not_from_false, true≢false}, List.drop_more}
 use Rattle.std.specs.List.{range_with_len, flat_map, All}
-use Rattle.std.proofs.lemmas.Bool.{cond-true, cond-false, not_from_true, not_from_false, true≢false}
-use Rattle.std.proofs.lemmas.List.{drop_more}
-use Rattle.cons_graph.specs.declared.edges.Edge.{Edge}
-use Rattle.round_log.specs.declared.log.Entry.{Entry}
-use Rattle.cons_graph.specs.Constraints.{Constraints}
-use Rattle.cons_graph.specs.EdgeNumbers.{edge_at, leaving}
-use Rattle.round_log.specs.Looks.{look, raise_of, with_raise, comes_back, is_forward}
+use Rattle.cons_graph.specs.{declared.edges.Edge.Edge, Constraints.Constraints, EdgeNumbers.{edge_at, leaving}}
+use Rattle.round_log.specs.{declared.log.Entry.Entry, Looks.{look, raise_of, with_raise, comes_back, is_forward}}
 use Rattle.round_log.specs.Rounds.{Progress, after_look, backward_part}
-use Rattle.round_log.proofs.Chains.{In}
-use Rattle.round_log.proofs.Members.{In-filter, In-range}
-use Rattle.round_log.proofs.Parts.{IsForwardEdge, IsBackwardEdge, Keeps, forward_keeps, BackwardGives, backward_gives}
-use Rattle.round_log.proofs.Least.{edge_among}
-use Rattle.round_log.proofs.Planned.{In-at, place_of_In}
-use Rattle.round_log.proofs.Ends.{LogOf, back_of, label_small}
-use Rattle.liao_wong.specs.Held.{Held, HasSmallLabels, ArePlaces}
-use Rattle.liao_wong.specs.Going.{IsReady, forward_of, backward_of}
+use Rattle.round_log.proofs.{Chains.In, Members.{In-filter, In-range}, Parts.{IsForwardEdge, IsBackwardEdge, Keeps}}
+use Rattle.round_log.proofs.{Parts.{forward_keeps, BackwardGives, backward_gives}, Least.edge_among, Planned.In-at}
+use Rattle.round_log.proofs.{Planned.place_of_In, Ends.{LogOf, back_of, label_small}}
+use Rattle.liao_wong.specs.{Held.{Held, HasSmallLabels, ArePlaces}, Going.{IsReady, forward_of, backward_of}}
 
 -- the graph that a part of a round is about
 abbrev graph : ℕ → List Edge → Constraints

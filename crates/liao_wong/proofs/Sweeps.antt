@@ -1,21 +1,16 @@
 -- The steps of a sweep: which entries are kept, their new numbers, and the arrays that are left.
-use Rattle.std.proofs.Common.{◌≡◌, ◌≢◌, ℕ, zero, suc, ◌+◌, ◌-◌, ◌<◌, ◌≤◌, ℤ, Bool, true, false, List, [], ◌∷◌, ◌++◌, take, inl, inr, length, get_or, set, refl, sym, ap, subst, ◌∙◌, arith}
+use Rattle.std.proofs.Common.{◌≡◌, ◌≢◌, ℕ, zero, suc, ◌+◌, ◌-◌, ◌<◌, ◌≤◌, ℤ, Bool, true, false, List, [], ◌∷◌, ◌++◌}
+use Rattle.std.proofs.Common.{take, inl, inr, length, get_or, set, refl, sym, ap, subst, ◌∙◌, arith}
+use Rattle.std.proofs.{Math.Seq.take-suc, lemmas.List.{length-set, take_more_set, take_all, get_or-set_other}}
+use Rattle.std.proofs.lemmas.List.{length-reverse, reverse-append, reverse-reverse, length-take-le}
+use Rattle.std.proofs.lemmas.{List.Elements.All-from_get_or, Bool.{cases_eq, cases_lt, cases_Bool}, Grind.get_or-set_at}
 use Rattle.std.specs.List.{All}
-use Rattle.std.proofs.Math.Seq.{take-suc}
-use Rattle.std.proofs.lemmas.List.Elements.{All-from_get_or}
-use Rattle.std.proofs.lemmas.Bool.{cases_eq, cases_lt, cases_Bool}
-use Rattle.std.proofs.lemmas.Grind.{get_or-set_at}
-use Rattle.std.proofs.lemmas.List.{length-set, take_more_set, take_all, get_or-set_other, length-reverse, reverse-append, reverse-reverse, length-take-le}
-use Rattle.round_log.specs.declared.log.Entry.{Entry}
-use Rattle.round_log.specs.Kept.{new_number, renumbered, kept_part, KeepsBack, KeepsChains}
-use Rattle.round_log.specs.Looks.{latest}
-use Rattle.round_log.specs.Logs.{origin_entry, raises_of, ComeFromOlder}
+use Rattle.round_log.specs.{declared.log.Entry.Entry, Kept.{new_number, renumbered, kept_part, KeepsBack, KeepsChains}}
+use Rattle.round_log.specs.{Looks.latest, Logs.{origin_entry, raises_of, ComeFromOlder}}
 use Rattle.round_log.proofs.Entries.{array_of, length-array, entry-newest, entry-older, IsChainStep, chain_step}
 use Rattle.round_log.proofs.Kept.{number-kept, number-left, part-kept, part-left, part_older, part_latest}
-use Rattle.round_log.proofs.Raises.{latest-other, latest_in_log}
-use Rattle.round_log.proofs.Walking.{reverse-cons}
-use Rattle.liao_wong.specs.Held.{AreArraysOf}
-use Rattle.liao_wong.specs.Sweeping.{keeps_of, AreNewNumbers, AreRenumbered, IsSwept}
+use Rattle.round_log.proofs.{Raises.{latest-other, latest_in_log}, Walking.reverse-cons}
+use Rattle.liao_wong.specs.{Held.AreArraysOf, Sweeping.{keeps_of, AreNewNumbers, AreRenumbered, IsSwept}}
 
 -- ---- flags
 

@@ -1,31 +1,20 @@
 -- What keeps a worklist one: raises, looks and sweeps.
-use Rattle.std.proofs.Common.{◌≡◌, ◌≢◌, ℕ, suc, ◌+◌, ◌<◌, ◌≤◌, ℤ, ◌+ℤ◌, ◌≤ℤ◌, ◌<ℤ◌, Bool, true, false, eqb, Option, Some, None, List, [], ◌∷◌, inl, inr, length, get_or, set, refl, sym, ap, subst, ◌∙◌, arith, eq-eqb}
+use Rattle.std.proofs.Common.{◌≡◌, ◌≢◌, ℕ, suc, ◌+◌, ◌<◌, ◌≤◌, ℤ, ◌+ℤ◌, ◌≤ℤ◌, ◌<ℤ◌, Bool, true, false, eqb, Option}
+use Rattle.std.proofs.Common.{Some, None, List, [], ◌∷◌, inl, inr, length, get_or, set, refl, sym, ap, subst, ◌∙◌}
+use Rattle.std.proofs.{Common.{arith, eq-eqb}, lemmas.{Int.ints, Bool.{cases_eq, cases_Bool, ne_eqb, eqb-true}}}
+use Rattle.std.proofs.lemmas.{Bool.{cond-true, cond-false, true≢false}, List.length-set}
 use Rattle.std.specs.List.{All, range_with_len}
-use Rattle.std.proofs.lemmas.Int.{ints}
-use Rattle.std.proofs.lemmas.Bool.{cases_eq, cases_Bool, ne_eqb, eqb-true, cond-true, cond-false, true≢false}
-use Rattle.std.proofs.lemmas.List.{length-set}
-use Rattle.cons_graph.specs.declared.edges.Edge.{Edge}
-use Rattle.cons_graph.specs.Constraints.{IsConstraintGraph}
-use Rattle.cons_graph.specs.EdgeNumbers.{edge_at, leaving}
-use Rattle.round_log.specs.declared.log.Entry.{Entry}
-use Rattle.round_log.specs.Looks.{raise_of, is_forward, place_in}
-use Rattle.round_log.specs.Orders.{NamesEachOnce}
-use Rattle.round_log.specs.Kept.{kept_part}
-use Rattle.round_log.specs.Told.{TellAlike}
+use Rattle.cons_graph.specs.{declared.edges.Edge.Edge, Constraints.IsConstraintGraph, EdgeNumbers.{edge_at, leaving}}
+use Rattle.round_log.specs.{declared.log.Entry.Entry, Looks.{raise_of, is_forward, place_in}, Orders.NamesEachOnce}
+use Rattle.round_log.specs.{Kept.kept_part, Told.TellAlike}
 use Rattle.round_log.proofs.Raises.{IsRaise, IsQuiet, quiet_after_raise, quiet_kept, raise_of-is, raise_of-quiet}
-use Rattle.round_log.proofs.Chains.{In}
-use Rattle.round_log.proofs.Members.{cases_option, In-filter, In-filter-from, In-range-from}
-use Rattle.round_log.proofs.Least.{edge_among}
-use Rattle.round_log.proofs.Planned.{In-at, place_of_In, place_in_range, In-from_contains, IsDistinct-from_pairs}
-use Rattle.round_log.proofs.Alike.{leaves_too}
-use Rattle.round_log.proofs.Kept.{part_alike}
-use Rattle.liao_wong.specs.Held.{Held}
-use Rattle.liao_wong.specs.Sweeping.{IsSwept, IsTrimmed}
-use Rattle.liao_wong.specs.Marked.{is_marked}
-use Rattle.liao_wong.specs.Worklist.{AppendsNothing, has_ready_tail, IsWorklist, WaitToo, BackwardOnesWait, HasLookedForward, HasNoneReady, HasLookedAtPlace}
-use Rattle.liao_wong.proofs.Marking.{set_here, set_elsewhere, set_only, set_was_not, cleared}
-use Rattle.liao_wong.proofs.Course.{place_at}
-use Rattle.liao_wong.proofs.Steps.{leaving_in_range}
+use Rattle.round_log.proofs.{Chains.In, Members.{cases_option, In-filter, In-filter-from, In-range-from}}
+use Rattle.round_log.proofs.{Least.edge_among, Planned.{In-at, place_of_In, place_in_range, In-from_contains}}
+use Rattle.round_log.proofs.{Planned.IsDistinct-from_pairs, Alike.leaves_too, Kept.part_alike}
+use Rattle.liao_wong.specs.{Held.Held, Sweeping.{IsSwept, IsTrimmed}, Marked.is_marked, Worklist.AppendsNothing}
+use Rattle.liao_wong.specs.Worklist.{has_ready_tail, IsWorklist, WaitToo, BackwardOnesWait, HasLookedForward}
+use Rattle.liao_wong.{specs.Worklist.{HasNoneReady, HasLookedAtPlace}, proofs.Marking.{set_here, set_elsewhere}}
+use Rattle.liao_wong.proofs.{Marking.{set_only, set_was_not, cleared}, Course.place_at, Steps.leaving_in_range}
 
 -- ---- looks that append nothing
 

@@ -1,15 +1,8 @@
 use Rattle.std.specs.Prelude.{◌≡◌, ℕ, ◌^◌, ℤ, pos, neg_ℤ, ◌≤ℤ◌, List, length}
-use Rattle.cons_graph.specs.declared.edges.Edge.{Edge}
-use Rattle.cons_graph.specs.Constraints.{Constraints}
-use Rattle.cons_graph.specs.Solutions.{IsLeastSolution, value_of}
-use Rattle.round_log.specs.declared.log.Entry.{Entry}
-use Rattle.round_log.specs.declared.log.Log.{Log}
-use Rattle.round_log.specs.Logs.{HoldsRaises, IsLogOfRounds, raises_in}
-use Rattle.round_log.specs.Told.{TellAlike}
-use Rattle.round_log.specs.Rounds.{plan_of, EndsInRound, Stops}
-use Rattle.round_log.specs.WalksBack.{cycle_of, walk_of}
-use Rattle.liao_wong.specs.declared.solving.Unsolved.{Unsolved}
-use Rattle.liao_wong.specs.declared.solving.Unsolved.TheVariants.{Cycle, OutOfMemory}
+use Rattle.cons_graph.specs.{declared.edges.Edge.Edge, Constraints.Constraints, Solutions.{IsLeastSolution, value_of}}
+use Rattle.round_log.specs.{declared.log.{Entry.Entry, Log.Log}, Logs.{HoldsRaises, IsLogOfRounds, raises_in}}
+use Rattle.round_log.specs.{Told.TellAlike, Rounds.{plan_of, EndsInRound, Stops}, WalksBack.{cycle_of, walk_of}}
+use Rattle.liao_wong.specs.declared.solving.Unsolved.{Unsolved, TheVariants.{Cycle, OutOfMemory}}
 
 -- a fact of the cycle, where that is the refusal
 abbrev pub IfCycle : Unsolved → (List ℕ → Type 0) → Type 0

@@ -1,10 +1,6 @@
 use Rattle.std.specs.Prelude.{◌≡◌, ℕ, List, filter, not}
-use Rattle.cons_graph.specs.declared.edges.Edge.{Edge}
-use Rattle.cons_graph.specs.Constraints.{IsConstraintGraph}
-use Rattle.round_log.specs.Orders.{NamesEachOnce}
-use Rattle.cons_graph.specs.EdgeNumbers.{edge_at, leaving}
-use Rattle.round_log.specs.Looks.{is_forward}
-use Rattle.round_log.proofs.Ends.{LogOf}
+use Rattle.cons_graph.specs.{declared.edges.Edge.Edge, Constraints.IsConstraintGraph, EdgeNumbers.{edge_at, leaving}}
+use Rattle.round_log.{specs.{Orders.NamesEachOnce, Looks.is_forward}, proofs.Ends.LogOf}
 use Rattle.liao_wong.specs.Held.{Held, ArePlaces}
 
 -- what each part of a round rests on: a constraint graph, an order of its variables with their places, and a log for

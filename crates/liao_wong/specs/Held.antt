@@ -1,7 +1,6 @@
 use Rattle.std.specs.Prelude.{◌≡◌, ℕ, ◌^◌, ◌<◌, ◌≤◌, ℤ, pos, neg_ℤ, ◌≤ℤ◌, Some, List, ◌∷◌, length, reverse, slice_index}
 use Rattle.round_log.specs.declared.log.Entry.{Entry}
-use Rattle.round_log.specs.Looks.{label, latest, place_in}
-use Rattle.round_log.specs.Logs.{origin_entry, ComeFromOlder}
+use Rattle.round_log.specs.{Looks.{label, latest, place_in}, Logs.{origin_entry, ComeFromOlder}}
 
 -- what the working log shows: how many variables it is for, and its raises, the newest first
 pub record Held : Type 0 where

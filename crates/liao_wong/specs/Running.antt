@@ -1,19 +1,11 @@
 use Rattle.std.specs.Prelude.{◌≡◌, ℕ, ◌<◌, ◌≤◌, false, ℤ, Option, None, Some, List, [], length, All}
-use Rattle.round_log.specs.declared.log.Entry.{Entry}
-use Rattle.cons_graph.specs.Constraints.{Constraints, IsConstraintGraph}
-use Rattle.round_log.specs.declared.log.Log.{Log}
-use Rattle.round_log.specs.Logs.{IsLogOfRounds, raises_in}
-use Rattle.round_log.specs.Orders.{NamesEachOnce}
-use Rattle.cons_graph.specs.Solutions.{IsLeastSolution, value_of}
-use Rattle.round_log.specs.Rounds.{plan_of, after_rounds, IsQuietAfter, Stops, EndsInRound}
-use Rattle.round_log.specs.Looks.{label, backward_numbers}
+use Rattle.round_log.specs.{declared.log.{Entry.Entry, Log.Log}, Logs.{IsLogOfRounds, raises_in}, Orders.NamesEachOnce}
+use Rattle.round_log.specs.{Rounds.{plan_of, after_rounds, IsQuietAfter, Stops, EndsInRound}, Looks.label}
+use Rattle.round_log.specs.{Looks.backward_numbers, Told.TellAlike}
+use Rattle.round_log.proofs.{Parts.IsStopAt, Alike.NewestAlike, Ends.{GoingOf, LogOf, back_of}}
+use Rattle.cons_graph.specs.{Constraints.{Constraints, IsConstraintGraph}, Solutions.{IsLeastSolution, value_of}}
 use Rattle.cons_graph.specs.EdgeNumbers.{edge_at}
-use Rattle.round_log.proofs.Parts.{IsStopAt}
-use Rattle.round_log.specs.Told.{TellAlike}
-use Rattle.round_log.proofs.Alike.{NewestAlike}
-use Rattle.round_log.proofs.Ends.{GoingOf, LogOf, back_of}
-use Rattle.liao_wong.specs.Held.{Held}
-use Rattle.liao_wong.specs.Answers.{IsWithinLimit}
+use Rattle.liao_wong.specs.{Held.Held, Answers.IsWithinLimit}
 
 -- a working log for the graph's variables without a raise
 pub record StartsEmpty (g : Constraints) (held : Held) : Type 0 where

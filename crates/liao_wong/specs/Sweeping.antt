@@ -1,9 +1,7 @@
 -- What a working log keeps of its entries when it drops those that no chain reaches.
 use Rattle.std.specs.Prelude.{◌≡◌, ℕ, ◌<◌, ◌⊎◌, Bool, false, Option, None, List, length, slice_index, slice_index_or}
-use Rattle.round_log.specs.declared.log.Entry.{Entry}
-use Rattle.round_log.specs.Kept.{KeepsChains, kept_part, new_number}
-use Rattle.round_log.specs.Logs.{raises_of, ComeFromOlder}
-use Rattle.round_log.proofs.Entries.{array_of}
+use Rattle.round_log.specs.{declared.log.Entry.Entry, Kept.{KeepsChains, kept_part, new_number}, Logs.raises_of}
+use Rattle.round_log.{specs.Logs.ComeFromOlder, proofs.Entries.array_of}
 use Rattle.liao_wong.specs.Held.{Held}
 
 -- the entries that are kept, by a flag for each

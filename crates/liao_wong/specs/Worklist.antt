@@ -1,9 +1,7 @@
 -- What the rounds may leave out: looks that would append nothing.
 use Rattle.std.specs.Prelude.{◌≡◌, ℕ, ◌<◌, ◌≤◌, ◌⊎◌, Bool, true, false, None, List, length, All}
-use Rattle.cons_graph.specs.declared.edges.Edge.{Edge}
-use Rattle.cons_graph.specs.EdgeNumbers.{edge_at}
-use Rattle.round_log.specs.declared.log.Entry.{Entry}
-use Rattle.round_log.specs.Looks.{raise_of, is_forward, place_in}
+use Rattle.cons_graph.specs.{declared.edges.Edge.Edge, EdgeNumbers.edge_at}
+use Rattle.round_log.specs.{declared.log.Entry.Entry, Looks.{raise_of, is_forward, place_in}}
 use Rattle.liao_wong.specs.Marked.{is_marked}
 
 -- a look at edge k appends nothing to the log

@@ -1,9 +1,7 @@
 ghost use Rattle.std.specs.Prelude.{length};
-ghost use Rattle.cons_graph.specs.Solutions.{value_of};
-ghost use Rattle.cons_graph.specs.Constraints.{IsConstraintGraph};
+ghost use Rattle.cons_graph.specs.{Solutions.value_of, Constraints.IsConstraintGraph};
 ghost use Rattle.round_log.specs.Orders.{NamesEachOnce};
-ghost use Rattle.liao_wong.specs.Answers.{HasOneAnswer, HasOneCycle, WholeLogTells};
-ghost use Rattle.liao_wong.specs.Sorted.{HasOneOrder};
+ghost use Rattle.liao_wong.specs.{Answers.{HasOneAnswer, HasOneCycle, WholeLogTells}, Sorted.HasOneOrder};
 
 use cons_graph::Edge;
 

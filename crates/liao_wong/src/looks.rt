@@ -1,7 +1,6 @@
 ghost use Rattle.std.specs.Prelude.{◌≡◌, ℕ, ◌^◌, ◌<◌, ◌≤◌, ℤ, pos, neg_ℤ, ◌≤ℤ◌, length, All, IfSome, List};
-ghost use Rattle.cons_graph.specs.Constraints.{IsEdgeAmong};
+ghost use Rattle.cons_graph.specs.{Constraints.IsEdgeAmong, EdgeNumbers.edge_at};
 ghost use Rattle.round_log.specs.Looks.{raise_by, raise_of, is_forward};
-ghost use Rattle.cons_graph.specs.EdgeNumbers.{edge_at};
 ghost use Rattle.liao_wong.specs.Held.{HasSmallLabels, IsPushable, ArePlaces};
 
 use crate::raises::Raises;

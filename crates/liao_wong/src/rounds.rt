@@ -1,11 +1,9 @@
 ghost use Rattle.std.specs.Prelude.{◌≡◌, ℕ, ◌<◌, false, length, slice_index, fold, All, IfOk, OnOk};
-ghost use Rattle.round_log.specs.Looks.{look, backward_numbers};
+ghost use Rattle.round_log.specs.{Looks.{look, backward_numbers}, Rounds.{plan_of, forward_part, backward_part}};
 ghost use Rattle.cons_graph.specs.EdgeNumbers.{edge_at, leaving};
-ghost use Rattle.round_log.specs.Rounds.{plan_of, forward_part, backward_part};
 ghost use Rattle.edge_index.specs.Runs.{IsIndexOf};
-ghost use Rattle.liao_wong.specs.Going.{IsReady, forward_of, group_of};
-ghost use Rattle.liao_wong.specs.Marked.{is_marked};
-ghost use Rattle.liao_wong.specs.Worklist.{IsWorklist, BackwardOnesWait, HasLookedForward, HasNoneReady, HasLookedAtPlace};
+ghost use Rattle.liao_wong.specs.{Going.{IsReady, forward_of, group_of}, Marked.is_marked, Worklist.IsWorklist};
+ghost use Rattle.liao_wong.specs.Worklist.{BackwardOnesWait, HasLookedForward, HasNoneReady, HasLookedAtPlace};
 
 use crate::looks::{goes_up, raise_at};
 use crate::raises::Raises;

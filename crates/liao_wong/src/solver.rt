@@ -1,9 +1,6 @@
 ghost use Rattle.std.specs.Prelude.{◌≡◌, ◌+◌, ◌^◌, ◌<◌, ◌≤◌, length, All, IfOk, IfSome, IfNone};
-ghost use Rattle.round_log.specs.Orders.{NamesEachOnce};
-ghost use Rattle.round_log.specs.Looks.{backward_numbers};
-ghost use Rattle.liao_wong.specs.Held.{ArePlaces};
-ghost use Rattle.liao_wong.specs.Running.{IsEndLog, IsStoppedLog, StartsEmpty};
-ghost use Rattle.liao_wong.specs.Sweeping.{IsTrimmed};
+ghost use Rattle.round_log.specs.{Orders.NamesEachOnce, Looks.backward_numbers};
+ghost use Rattle.liao_wong.specs.{Held.ArePlaces, Running.{IsEndLog, IsStoppedLog, StartsEmpty}, Sweeping.IsTrimmed};
 
 use crate::looks::goes_up;
 use crate::marks::Marks;

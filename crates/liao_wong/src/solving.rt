@@ -1,13 +1,10 @@
 ghost use Rattle.std.specs.Prelude.{◌≡◌, ℕ, ◌+◌, ◌<◌, ◌≤◌, length, All, Some, None, IfOk, IfErr};
-ghost use Rattle.round_log.specs.Looks.{label, backward_numbers};
-ghost use Rattle.round_log.specs.Logs.{HoldsRaises, IsLogOfRounds, raises_in};
-ghost use Rattle.round_log.specs.Orders.{IsOrder};
-ghost use Rattle.round_log.specs.Rounds.{plan_of, EndsInRound};
-ghost use Rattle.cons_graph.specs.SimpleWalks.{IsSimplePositiveCycle};
-ghost use Rattle.cons_graph.specs.Solutions.{IsLeastSolution, value_of};
+ghost use Rattle.round_log.specs.{Looks.{label, backward_numbers}, Logs.{HoldsRaises, IsLogOfRounds, raises_in}};
+ghost use Rattle.round_log.specs.{Orders.IsOrder, Rounds.{plan_of, EndsInRound}};
+ghost use Rattle.cons_graph.specs.{SimpleWalks.IsSimplePositiveCycle, Solutions.{IsLeastSolution, value_of}};
 ghost use Rattle.cons_graph.specs.Walks.{HasPositiveCycle};
-ghost use Rattle.liao_wong.specs.Answers.{IfCycle, IsCycleOf, IsWithinLimit};
-ghost use Rattle.liao_wong.specs.Running.{IsEndedHeld, IsStoppedLog, IsReadOut};
+ghost use Rattle.liao_wong.specs.{Answers.{IfCycle, IsCycleOf, IsWithinLimit}, Running.{IsEndedHeld, IsStoppedLog}};
+ghost use Rattle.liao_wong.specs.Running.{IsReadOut};
 
 use crate::raises::Raises;
 use crate::solver::{backward_count, places_of, run_rounds};

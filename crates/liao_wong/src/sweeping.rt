@@ -1,9 +1,6 @@
 ghost use Rattle.std.specs.Prelude.{◌≡◌, ◌<◌, length, All, IfOk};
-ghost use Rattle.round_log.specs.Kept.{KeepsChains, kept_part};
-ghost use Rattle.round_log.specs.Logs.{raises_of};
-ghost use Rattle.round_log.proofs.Entries.{array_of};
-ghost use Rattle.liao_wong.specs.Held.{AreArraysOf};
-ghost use Rattle.liao_wong.specs.Sweeping.{keeps_of, AreEntriesOf, AreNewNumbers, AreRenumbered};
+ghost use Rattle.round_log.{specs.{Kept.{KeepsChains, kept_part}, Logs.raises_of}, proofs.Entries.array_of};
+ghost use Rattle.liao_wong.specs.{Held.AreArraysOf, Sweeping.{keeps_of, AreEntriesOf, AreNewNumbers, AreRenumbered}};
 
 use round_log::Entry;
 use std::alloc::{AllocError, Global};

@@ -1,10 +1,7 @@
 ghost use Rattle.std.specs.Prelude.{◌≡◌, ℕ, ◌<◌, ◌≤◌, true, false, length, slice_set, All};
 ghost use Rattle.cons_graph.specs.Constraints.{IsConstraintGraph};
-ghost use Rattle.round_log.specs.Looks.{place_in};
-ghost use Rattle.round_log.specs.Orders.{NamesEachOnce};
-ghost use Rattle.liao_wong.specs.Held.{ArePlaces};
-ghost use Rattle.liao_wong.specs.Marked.{is_marked};
-ghost use Rattle.liao_wong.specs.Worklist.{WaitToo, BackwardOnesWait};
+ghost use Rattle.round_log.specs.{Looks.place_in, Orders.NamesEachOnce};
+ghost use Rattle.liao_wong.specs.{Held.ArePlaces, Marked.is_marked, Worklist.{WaitToo, BackwardOnesWait}};
 
 use crate::looks::goes_up;
 use crate::marks::Marks;

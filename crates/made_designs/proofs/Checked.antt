@@ -1,21 +1,14 @@
 -- The checks find no fault in the whole design.
-use Rattle.std.proofs.Common.{◌≡◌, ℕ, ◌+◌, ◌*◌, ◌≤◌, true, [], ◌∷◌, length, map, Result, Ok, ap, subst, ◌∙◌, zero-add, arith}
-use Rattle.std.specs.Prelude.{IsOk, is_ok, codes}
-use Rattle.std.specs.List.{filter_map, list_all}
+use Rattle.std.proofs.Common.{◌≡◌, ℕ, ◌+◌, ◌*◌, ◌≤◌, true, [], ◌∷◌, length, map, Result, Ok, ap, subst, ◌∙◌, zero-add}
+use Rattle.std.{proofs.Common.arith, specs.{Prelude.{IsOk, is_ok, codes}, List.{filter_map, list_all}}}
 use Rattle.rule_table.specs.declared.technology.Tech.{Tech}
-use Rattle.stick_parse.specs.declared.fault.StickFault.{StickFault}
-use Rattle.stick_parse.specs.Reading.{◌>>=◌}
-use Rattle.stick_parse.specs.Order.{at_line}
-use Rattle.stick_parse.specs.declared.fault.StickKind.TheVariants.{PortWires}
-use Rattle.stick_cell.specs.Checks.{demand}
-use Rattle.stick_cell.specs.Known.{Known, begun, cell_of}
-use Rattle.stick_cell.specs.Lines.{after_lines, after_cell, known_cells, is_wired}
-use Rattle.stick_cell.specs.Grids.{resolved_cells}
-use Rattle.design_gen.specs.Draws.{points}
-use Rattle.design_gen.specs.Made.{wire_at, forms_of, lines_from, made}
-use Rattle.made_designs.proofs.Nodes.{IsAfter, all_nodes, none_before}
-use Rattle.made_designs.proofs.Plain.{IsPlain}
-use Rattle.made_designs.proofs.Wires.{HasJoints, has_joints, all_wires}
+use Rattle.stick_parse.specs.declared.fault.{StickFault.StickFault, StickKind.TheVariants.PortWires}
+use Rattle.stick_parse.specs.{Reading.◌>>=◌, Order.at_line}
+use Rattle.stick_cell.specs.{Checks.demand, Known.{Known, begun, cell_of}, Lines.{after_lines, after_cell, known_cells}}
+use Rattle.stick_cell.specs.{Lines.is_wired, Grids.resolved_cells}
+use Rattle.design_gen.specs.{Draws.points, Made.{wire_at, forms_of, lines_from, made}}
+use Rattle.made_designs.proofs.{Nodes.{IsAfter, all_nodes, none_before}, Plain.IsPlain, Wires.{HasJoints, has_joints}}
+use Rattle.made_designs.proofs.Wires.{all_wires}
 
 -- the lines of the cell are accepted
 all_lines : (tech : Tech) (n : ℕ) → n ≤ 64 → (known : Known) × HasJoints tech n (n * n) known × (after_lines tech [] (begun (codes "bench")) (lines_from 3 (forms_of n)) ≡ Ok known)

@@ -1,19 +1,11 @@
 -- The names of points: each is a name, and no two points have one name.
-use Rattle.std.proofs.Common.{◌≡◌, ℕ, zero, suc, ◌+◌, ◌*◌, ◌/◌, ◌%◌, ◌<◌, ◌≤◌, Bool, true, false, ◌&&◌, eqb, leb, List, [], ◌∷◌, ◌++◌, length, refl, sym, ap, ◌∙◌, arith}
-use Rattle.std.specs.Prelude.{decimal, bytes_eq}
-use Rattle.std.specs.Int.{IsInRange}
-use Rattle.std.specs.List.{list_all, AllByRecursion}
-use Rattle.std.specs.Char.{digit_value}
-use Rattle.std.specs.Str.Parse.{AllDigits}
-use Rattle.std.proofs.lemmas.Fmt.{decimal_is_IsNumeral, decimal_injective, length-decimal-le}
-use Rattle.std.proofs.lemmas.Str.Parse.{digit_from_value}
-use Rattle.std.proofs.lemmas.List.{length-append}
-use Rattle.std.proofs.lemmas.List.Elements.{All-from_recursion}
-use Rattle.std.proofs.lemmas.List.Splits.{slice_split_none}
-use Rattle.std.proofs.lemmas.Nat.{div_below, mod_below, div-add-mod'}
-use Rattle.std.proofs.lemmas.Bool.{le-leb}
-use Rattle.std.proofs.lemmas.Bool.Decides.{nat_tests}
-use Rattle.std.proofs.lemmas.Slice.Eq.{bytes_eq-Decides}
+use Rattle.std.proofs.Common.{◌≡◌, ℕ, zero, suc, ◌+◌, ◌*◌, ◌/◌, ◌%◌, ◌<◌, ◌≤◌, Bool, true, false, ◌&&◌, eqb, leb, List}
+use Rattle.std.proofs.{Common.{[], ◌∷◌, ◌++◌, length, refl, sym, ap, ◌∙◌, arith}, lemmas.Fmt.decimal_is_IsNumeral}
+use Rattle.std.proofs.lemmas.{Fmt.{decimal_injective, length-decimal-le}, Str.Parse.digit_from_value}
+use Rattle.std.proofs.lemmas.{List.{length-append, Elements.All-from_recursion, Splits.slice_split_none}, Nat.div_below}
+use Rattle.std.proofs.lemmas.{Nat.{mod_below, div-add-mod'}, Bool.{le-leb, Decides.nat_tests}}
+use Rattle.std.{proofs.lemmas.Slice.Eq.bytes_eq-Decides, specs.{Prelude.{decimal, bytes_eq}, Int.IsInRange}}
+use Rattle.std.specs.{List.{list_all, AllByRecursion}, Char.digit_value, Str.Parse.AllDigits}
 use Rattle.stick_lex.specs.Tokens.{is_name_byte, is_name, names, is_path}
 use Rattle.design_gen.specs.Made.{name_at}
 

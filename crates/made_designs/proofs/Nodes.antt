@@ -1,38 +1,25 @@
 -- Each node of the cell is accepted, and its name stands for it from then on.
-use Rattle.std.proofs.Common.{◌≡◌, ℕ, zero, suc, ◌+◌, ◌*◌, ◌/◌, ◌%◌, ◌<◌, ◌≤◌, true, false, cond, ◌&&◌, List, [], ◌∷◌, ◌++◌, length, Some, None, Ok, inl, inr, ◌⊎◌, refl, sym, ap, subst, ◌∙◌, add-zero, arith}
-use Rattle.std.specs.Prelude.{bytes_eq, is_none}
-use Rattle.std.specs.List.{filter_map, cons_option, range_with_len}
-use Rattle.std.proofs.lemmas.Bool.{le-leb, cases_lt}
-use Rattle.std.proofs.lemmas.List.{length-append}
+use Rattle.std.proofs.Common.{◌≡◌, ℕ, zero, suc, ◌+◌, ◌*◌, ◌/◌, ◌%◌, ◌<◌, ◌≤◌, true, false, cond, ◌&&◌, List, [], ◌∷◌}
+use Rattle.std.proofs.Common.{◌++◌, length, Some, None, Ok, inl, inr, ◌⊎◌, refl, sym, ap, subst, ◌∙◌, add-zero, arith}
+use Rattle.std.proofs.lemmas.{Bool.{le-leb, cases_lt}, List.length-append}
+use Rattle.std.specs.{Prelude.{bytes_eq, is_none}, List.{filter_map, cons_option, range_with_len}}
 use Rattle.list_facts.proofs.Elements.{all_append}
-use Rattle.rule_table.specs.declared.technology.Tech.{Tech}
+use Rattle.rule_table.specs.{declared.technology.Tech.Tech, Technology.width_of}
 use Rattle.rule_table.specs.declared.classes.Layer.TheVariants as layers
-use Rattle.rule_table.specs.Technology.{width_of}
-use Rattle.cell_model.specs.declared.cell.Node.{Node}
-use Rattle.cell_model.specs.declared.cell.NodeKind.{NodeKind}
+use Rattle.cell_model.specs.declared.cell.{Node.Node, NodeKind.NodeKind}
 use Rattle.cell_model.specs.declared.cell.NodeKind.TheVariants as kinds
 use Rattle.stick_parse.specs.declared.fault.StickKind.TheVariants.{RepeatedName, FarPlace}
-use Rattle.stick_parse.specs.declared.design.Layer.{Layer as DrawnLayer}
+use Rattle.stick_parse.specs.{declared.design.{Layer.Layer as DrawnLayer, Form.Form}, Reading.◌>>=◌, Order.at_line}
 use Rattle.stick_parse.specs.declared.design.Layer.TheVariants as drawn
-use Rattle.stick_parse.specs.Reading.{◌>>=◌}
-use Rattle.stick_parse.specs.declared.design.Form.{Form}
 use Rattle.stick_parse.specs.declared.design.Form.TheVariants as forms
-use Rattle.stick_parse.specs.Order.{at_line}
-use Rattle.stick_cell.specs.declared.names.Thing.{Thing}
+use Rattle.stick_cell.specs.{declared.names.{Thing.Thing, Spot.Spot}, Known.{Known, begun, cell_of, with_node}}
+use Rattle.stick_cell.specs.{Paths.{Names, named}, Checks.{layer_of, is_fresh, is_place, sized}, Lines.after_form}
+use Rattle.stick_cell.specs.Lines.{after_joint, after_contact, after_lines}
 use Rattle.stick_cell.specs.declared.names.Thing.TheVariants as things
-use Rattle.stick_cell.specs.declared.names.Spot.{Spot}
-use Rattle.stick_cell.specs.Known.{Known, begun, cell_of, with_node}
-use Rattle.stick_cell.specs.Paths.{Names, named}
-use Rattle.stick_cell.specs.Checks.{layer_of, is_fresh, is_place, sized}
-use Rattle.stick_cell.specs.Lines.{after_form, after_joint, after_contact, after_lines}
-use Rattle.design_gen.specs.declared.draws.Stand.{Stand}
-use Rattle.design_gen.specs.declared.draws.Stand.TheVariants.{Nothing, Metal, Poly, Contact}
-use Rattle.design_gen.specs.Draws.{point_at}
+use Rattle.design_gen.specs.{declared.draws.Stand.{Stand, TheVariants.{Nothing, Metal, Poly, Contact}}, Draws.point_at}
 use Rattle.design_gen.specs.Made.{name_at, node_of, node_at, is_metal, lines_from}
-use Rattle.made_designs.proofs.Names.{IsPoint, col_below, row_below, other_name, own_name}
-use Rattle.made_designs.proofs.Tables.{found_before, found_behind}
-use Rattle.made_designs.proofs.Passing.{both_pass}
-use Rattle.made_designs.proofs.Plain.{IsPlainKind, IsPlainNode, IsPlain}
+use Rattle.made_designs.proofs.{Names.{IsPoint, col_below, row_below, other_name, own_name}, Tables.found_before}
+use Rattle.made_designs.proofs.{Tables.found_behind, Passing.both_pass, Plain.{IsPlainKind, IsPlainNode, IsPlain}}
 
 -- the metal joint at point k, which is node number i of its cell
 abbrev pub joint_at : Tech → ℕ → ℕ → ℕ → Spot

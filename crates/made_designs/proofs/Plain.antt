@@ -1,13 +1,8 @@
 -- Cells that have nothing but joints, contacts and wires of the least widths.
-use Rattle.std.proofs.Common.{◌≡◌, ℕ, ◌≤◌, [], length}
-use Rattle.std.specs.List.{AllByRecursion}
-use Rattle.rule_table.specs.declared.technology.Tech.{Tech}
-use Rattle.rule_table.specs.Technology.{width_of}
-use Rattle.cell_model.specs.declared.cell.NodeKind.{NodeKind}
-use Rattle.cell_model.specs.declared.cell.NodeKind.TheVariants.{Joint, Contact, Buried, Fet}
-use Rattle.cell_model.specs.declared.cell.Node.{Node}
-use Rattle.cell_model.specs.declared.cell.Wire.{Wire}
-use Rattle.cell_model.specs.declared.cell.Cell.{Cell}
+use Rattle.std.{proofs.Common.{◌≡◌, ℕ, ◌≤◌, [], length}, specs.List.AllByRecursion}
+use Rattle.rule_table.specs.{declared.technology.Tech.Tech, Technology.width_of}
+use Rattle.cell_model.specs.declared.cell.{NodeKind.{NodeKind, TheVariants.{Joint, Contact, Buried, Fet}}, Node.Node}
+use Rattle.cell_model.specs.declared.cell.{Wire.Wire, Cell.Cell}
 
 abbrev pub IsPlainKind : Tech → NodeKind → Type 0
 IsPlainKind tech (Joint layer width) = width ≡ width_of tech layer

@@ -1,55 +1,32 @@
 -- Under the numbers that the program ships with, the inequalities of plain cells are short.
-use Rattle.std.proofs.Common.{◌≡◌, ℕ, ◌<◌, Bool, true, false, cond, ℤ, pos, negsuc, ◌+ℤ◌, ◌-ℤ◌, ◌≤ℤ◌, List, [], ◌∷◌, ◌++◌, length, map, get_or, Some, sym, ap, subst, arith}
-use Rattle.std.specs.Prelude.{◌==◌, IfSome, Option}
-use Rattle.std.specs.List.{All, AllByRecursion, flat_map, range_with_len}
-use Rattle.std.proofs.lemmas.Int.{ints}
-use Rattle.std.proofs.lemmas.List.Elements.{All-append, All-map}
+use Rattle.std.proofs.Common.{◌≡◌, ℕ, ◌<◌, Bool, true, false, cond, ℤ, pos, negsuc, ◌+ℤ◌, ◌-ℤ◌, ◌≤ℤ◌, List, [], ◌∷◌}
+use Rattle.std.proofs.Common.{◌++◌, length, map, get_or, Some, sym, ap, subst, arith}
+use Rattle.std.proofs.lemmas.{Int.ints, List.Elements.{All-append, All-map}}
+use Rattle.std.specs.{Prelude.{◌==◌, IfSome, Option}, List.{All, AllByRecursion, flat_map, range_with_len}}
 use Rattle.list_facts.proofs.Elements.{all_append, all_flat, all_numbers, all_map, all_of, all_at}
 use Rattle.lam_geom.specs.declared.boxes.Axis.{Axis}
-use Rattle.rule_table.specs.declared.classes.Class.{Class}
-use Rattle.rule_table.specs.declared.classes.Rule.{Rule}
-use Rattle.rule_table.specs.declared.technology.Tech.{Tech}
-use Rattle.rule_table.specs.Keys.{has_buried}
-use Rattle.rule_table.specs.Spacing.{spacing_in, greatest, margin_in, widest_in}
-use Rattle.rule_table.specs.Technology.{numbers_of, spacing_of, margin_of, widest_of}
-use Rattle.rule_table.proofs.Margins.{margin_above, widest_above}
-use Rattle.cons_graph.specs.declared.edges.Edge.{Edge}
-use Rattle.cons_graph.specs.declared.edges.Why.{Why}
-use Rattle.cons_graph.specs.declared.edges.Why.TheVariants.{Extent, Margin, Pitch, Port}
-use Rattle.cell_model.specs.declared.cell.Cell.{Cell}
-use Rattle.cell_model.specs.declared.cell.Limit.{Limit}
-use Rattle.cell_model.specs.declared.cell.Wire.{Wire}
-use Rattle.cell_model.specs.declared.cell.WireEnd.{WireEnd}
+use Rattle.rule_table.specs.{declared.{classes.{Class.Class, Rule.Rule}, technology.Tech.Tech}, Keys.has_buried}
+use Rattle.rule_table.specs.{Spacing.{spacing_in, greatest, margin_in, widest_in}, Technology.{numbers_of, spacing_of}}
+use Rattle.rule_table.{specs.Technology.{margin_of, widest_of}, proofs.Margins.{margin_above, widest_above}}
+use Rattle.cons_graph.specs.declared.edges.{Edge.Edge, Why.{Why, TheVariants.{Extent, Margin, Pitch, Port}}}
+use Rattle.cell_model.specs.declared.cell.{Cell.Cell, Limit.Limit, Wire.Wire, WireEnd.WireEnd}
+use Rattle.cell_model.specs.{Sound.{node_at, wire_at, IsWire, IsSound, IsWithinPad}, Wiring.{is_same_axis, node_pad}}
 use Rattle.cell_model.specs.declared.cell.WireEnd.TheVariants as ends
-use Rattle.cell_model.specs.Sound.{node_at, wire_at, IsWire, IsSound, IsWithinPad}
-use Rattle.cell_model.specs.Wiring.{is_same_axis, node_pad}
-use Rattle.sym_items.specs.declared.items.End.{End}
-use Rattle.sym_items.specs.declared.items.Item.{Item}
-use Rattle.sym_items.specs.declared.items.Coords.{Coords}
-use Rattle.sym_items.specs.Layouts.{layout_at}
-use Rattle.sym_items.specs.Transposed.{item_along}
-use Rattle.expand.specs.declared.master.Master.{Master}
-use Rattle.expand.specs.Masters.{IsMaster}
-use Rattle.expand.specs.Structure.{at_least, between, extent_edges, margin_edges, end_edges, wire_edges, overlap_edges, limit_edges, extents_of, overlaps_of, margins_of, limits_of, structure_of}
-use Rattle.expand.specs.Variables.{half, cross_of, crossing, at_origin, at_far_border}
-use Rattle.expand.proofs.Cells.{wire_sound}
-use Rattle.pair_rules.specs.declared.pairs.Pair.{Pair}
-use Rattle.pair_rules.specs.Bound.{item_at, no_item}
-use Rattle.pair_rules.specs.Candidates.{facing_spacing}
-use Rattle.pair_rules.specs.Kept.{kept_of}
-use Rattle.pair_rules.proofs.BoundItems.{out_of_bound}
-use Rattle.pair_rules.proofs.FacingItems.{out_of_facing}
-use Rattle.pair_rules.proofs.PairLists.{all_candidates}
-use Rattle.pair_rules.proofs.Pruning.{kept_among}
-use Rattle.plan_model.specs.declared.plan.Match.{Match}
-use Rattle.plan_model.specs.declared.plan.Plan.{Plan}
-use Rattle.plan_model.specs.declared.plan.Same.{Same}
-use Rattle.plan_model.specs.Plan.{pitch_in, matches_in}
-use Rattle.pitch_join.specs.Masters.{master_at, master_numbers, no_master}
-use Rattle.pitch_join.specs.Joined.{base_of, far_of, shifted, structure_at, equal_edges, pitch_edges, tied_edges, wire_var, port_edges, structures_of, pitches_of, ports_of, fixed_of, space_edge, kept_edges_at, list_over}
+use Rattle.sym_items.specs.declared.items.{End.End, Item.Item, Coords.Coords}
+use Rattle.sym_items.specs.{Layouts.layout_at, Transposed.item_along}
+use Rattle.expand.specs.{declared.master.Master.Master, Masters.IsMaster, Structure.{at_least, between, extent_edges}}
+use Rattle.expand.specs.Structure.{margin_edges, end_edges, wire_edges, overlap_edges, limit_edges, extents_of}
+use Rattle.expand.specs.{Structure.{overlaps_of, margins_of, limits_of, structure_of}, Variables.{half, cross_of}}
+use Rattle.expand.{specs.Variables.{crossing, at_origin, at_far_border}, proofs.Cells.wire_sound}
+use Rattle.pair_rules.specs.{declared.pairs.Pair.Pair, Bound.{item_at, no_item}, Candidates.facing_spacing}
+use Rattle.pair_rules.{specs.Kept.kept_of, proofs.{BoundItems.out_of_bound, FacingItems.out_of_facing}}
+use Rattle.pair_rules.proofs.{PairLists.all_candidates, Pruning.kept_among}
+use Rattle.plan_model.specs.{declared.plan.{Match.Match, Plan.Plan, Same.Same}, Plan.{pitch_in, matches_in}}
+use Rattle.pitch_join.specs.{Masters.{master_at, master_numbers, no_master}, Joined.{base_of, far_of, shifted}}
+use Rattle.pitch_join.specs.Joined.{structure_at, equal_edges, pitch_edges, tied_edges, wire_var, port_edges}
+use Rattle.pitch_join.specs.Joined.{structures_of, pitches_of, ports_of, fixed_of, space_edge, kept_edges_at, list_over}
 use Rattle.pitch_join.proofs.Lists.{of_numbered}
-use Rattle.made_designs.proofs.Plain.{IsPlain}
-use Rattle.made_designs.proofs.Tight.{IsShipped, IsTight, IsTightSpan, tight_along, items_tight}
+use Rattle.made_designs.proofs.{Plain.IsPlain, Tight.{IsShipped, IsTight, IsTightSpan, tight_along, items_tight}}
 
 abbrev pub IsShort : Edge → Type 0
 IsShort e = e.len ≤ℤ pos 32

@@ -1,24 +1,16 @@
 -- The masters of a made design are plain, and a pass on its one master has few variables.
-use Rattle.std.proofs.Common.{◌≡◌, ℕ, zero, suc, ◌+◌, ◌*◌, ◌^◌, ◌≤◌, cond, Bool, true, false, List, [], ◌∷◌, length, map, get_or, Result, Ok, refl, sym, subst, ◌∙◌, arith}
-use Rattle.std.specs.List.{All, sum_by}
-use Rattle.std.proofs.Math.Nat.{mul-le-mul}
-use Rattle.std.proofs.lemmas.List.Sums.{sum_by-cons}
+use Rattle.std.proofs.Common.{◌≡◌, ℕ, zero, suc, ◌+◌, ◌*◌, ◌^◌, ◌≤◌, cond, Bool, true, false, List, [], ◌∷◌, length}
+use Rattle.std.proofs.{Common.{map, get_or, Result, Ok, refl, sym, subst, ◌∙◌, arith}, Math.Nat.mul-le-mul}
+use Rattle.std.{proofs.lemmas.List.Sums.sum_by-cons, specs.List.{All, sum_by}}
 use Rattle.lam_geom.specs.declared.boxes.Axis.{Axis}
 use Rattle.rule_table.specs.declared.technology.Tech.{Tech}
 use Rattle.stick_parse.specs.declared.fault.StickFault.{StickFault}
-use Rattle.cell_model.specs.declared.cell.Axis2.{Axis2}
-use Rattle.cell_model.specs.declared.cell.Cell.{Cell}
-use Rattle.cell_model.specs.declared.cell.Wire.{Wire}
-use Rattle.cell_model.specs.Wiring.{is_same_axis}
-use Rattle.stick_cell.specs.Grids.{resolved_cells}
-use Rattle.stick_cell.specs.Known.{Known, cell_of, known_at}
-use Rattle.expand.specs.declared.master.Master.{Master}
-use Rattle.expand.specs.Variables.{running, crossing}
-use Rattle.pitch_join.specs.Joined.{own_variables, joint_variables}
-use Rattle.pitch_join.proofs.Lists.{of_images}
+use Rattle.cell_model.specs.{declared.cell.{Axis2.Axis2, Cell.Cell, Wire.Wire}, Wiring.is_same_axis}
+use Rattle.stick_cell.specs.{Grids.resolved_cells, Known.{Known, cell_of, known_at}}
+use Rattle.expand.specs.{declared.master.Master.Master, Variables.{running, crossing}}
+use Rattle.pitch_join.{specs.Joined.{own_variables, joint_variables}, proofs.Lists.of_images}
 use Rattle.design_gen.specs.Made.{made}
-use Rattle.made_designs.proofs.Plain.{IsPlain}
-use Rattle.made_designs.proofs.Checked.{design_read}
+use Rattle.made_designs.proofs.{Plain.IsPlain, Checked.design_read}
 
 -- ---- the masters
 

@@ -1,6 +1,5 @@
 -- What is found among names when one more is added behind them.
-use Rattle.std.proofs.Common.{◌≡◌, Bool, true, false, cond, List, [], ◌∷◌, ◌++◌, Some, None, refl}
-use Rattle.std.specs.Map.{lookup}
+use Rattle.std.{proofs.Common.{◌≡◌, Bool, true, false, cond, List, [], ◌∷◌, ◌++◌, Some, None, refl}, specs.Map.lookup}
 
 -- what was found before
 pub found_before : {K X : Type 0} (test : K → Bool) (front behind : List (K × X)) (x : X) → lookup test front ≡ Some x → lookup test (front ++ behind) ≡ Some x

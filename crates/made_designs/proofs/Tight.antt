@@ -1,38 +1,21 @@
 -- Under the numbers that the program ships with, the items of plain cells are small.
-use Rattle.std.proofs.Common.{◌≡◌, ℕ, ◌+◌, ℤ, pos, neg_ℤ, ◌≤ℤ◌, length, sym, subst, arith}
-use Rattle.std.specs.Prelude.{slice_index, flat_map}
-use Rattle.std.specs.List.{AllByRecursion, range_with_len}
-use Rattle.std.proofs.lemmas.Int.{ints}
+use Rattle.std.proofs.{Common.{◌≡◌, ℕ, ◌+◌, ℤ, pos, neg_ℤ, ◌≤ℤ◌, length, sym, subst, arith}, lemmas.Int.ints}
+use Rattle.std.specs.{Prelude.{slice_index, flat_map}, List.{AllByRecursion, range_with_len}}
 use Rattle.list_facts.proofs.Elements.{all_append, all_flat, all_numbers, all_at}
-use Rattle.lam_geom.specs.declared.boxes.Axis.{Axis}
-use Rattle.lam_geom.specs.declared.boxes.Axis.TheVariants.{X, Y}
-use Rattle.rule_table.specs.declared.classes.Class.{Class}
-use Rattle.rule_table.specs.declared.classes.Class.TheVariants.{M, C}
-use Rattle.rule_table.specs.declared.classes.Layer.{Layer}
-use Rattle.rule_table.specs.declared.classes.Layer.TheVariants.{Diffusion, Poly, Metal}
-use Rattle.rule_table.specs.declared.keys.Numbers.{Numbers}
+use Rattle.lam_geom.specs.declared.boxes.Axis.{Axis, TheVariants.{X, Y}}
+use Rattle.rule_table.specs.declared.classes.{Class.{Class, TheVariants.{M, C}}, Layer.{Layer, TheVariants.Diffusion}}
+use Rattle.rule_table.specs.declared.{classes.Layer.TheVariants.{Poly, Metal}, keys.Numbers.Numbers}
 use Rattle.rule_table.specs.declared.technology.Tech.{Tech}
-use Rattle.rule_table.specs.Spacing.{width_in, pad_in}
-use Rattle.rule_table.specs.Technology.{numbers_of, width_of, pad_of, shipped_numbers}
-use Rattle.cell_model.specs.declared.cell.Axis2.{Axis2}
-use Rattle.cell_model.specs.declared.cell.Axis2.TheVariants.{Across, Up}
-use Rattle.cell_model.specs.declared.cell.NodeKind.{NodeKind}
-use Rattle.cell_model.specs.declared.cell.NodeKind.TheVariants.{Joint, Contact, Buried, Fet}
-use Rattle.cell_model.specs.declared.cell.NodeNets.{NodeNets}
-use Rattle.cell_model.specs.declared.cell.Nets.{Nets}
-use Rattle.cell_model.specs.declared.cell.WireEnd.{WireEnd}
-use Rattle.cell_model.specs.declared.cell.WireEnd.TheVariants as ends
-use Rattle.cell_model.specs.declared.cell.Wire.{Wire}
-use Rattle.cell_model.specs.declared.cell.Cell.{Cell}
+use Rattle.rule_table.specs.{Spacing.{width_in, pad_in}, Technology.{numbers_of, width_of, pad_of, shipped_numbers}}
+use Rattle.cell_model.specs.declared.cell.{Axis2.{Axis2, TheVariants.{Across, Up}}, NodeKind.NodeKind}
+use Rattle.cell_model.specs.declared.cell.{NodeKind.TheVariants.{Joint, Contact, Buried, Fet}, NodeNets.NodeNets}
+use Rattle.cell_model.specs.declared.cell.{Nets.Nets, WireEnd.WireEnd, Wire.Wire, Cell.Cell}
 use Rattle.cell_model.specs.Sound.{node_at, no_node, wire_at, no_wire, IsEnd, IsSound}
-use Rattle.sym_items.specs.declared.items.End.{End}
-use Rattle.sym_items.specs.declared.items.Item.{Item}
-use Rattle.sym_items.specs.declared.items.Items.{Items}
-use Rattle.sym_items.specs.Transposed.{item_along}
-use Rattle.expand.specs.Items.{nets_at, items_of_node, items_of_wire, item_list, AreItems}
-use Rattle.expand.specs.NodeItems.{item_running, on_layer, box_round, kind_items}
-use Rattle.expand.specs.Variables.{half, cross_of}
-use Rattle.expand.specs.WireItems.{reach, reach_at, low_end_of, high_end_of, contact_at, run_item, wire_items}
+use Rattle.cell_model.specs.declared.cell.WireEnd.TheVariants as ends
+use Rattle.sym_items.specs.{declared.items.{End.End, Item.Item, Items.Items}, Transposed.item_along}
+use Rattle.expand.specs.{Items.{nets_at, items_of_node, items_of_wire, item_list, AreItems}, NodeItems.item_running}
+use Rattle.expand.specs.{NodeItems.{on_layer, box_round, kind_items}, Variables.{half, cross_of}, WireItems.reach}
+use Rattle.expand.specs.WireItems.{reach_at, low_end_of, high_end_of, contact_at, run_item, wire_items}
 use Rattle.expand.proofs.Cells.{wire_sound}
 use Rattle.made_designs.proofs.Plain.{IsPlainKind, IsPlainNode, IsPlainWire, IsPlain}
 

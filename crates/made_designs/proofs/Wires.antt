@@ -1,42 +1,26 @@
 -- Each wire of the cell is accepted: it runs from a metal joint to the next one of its row.
-use Rattle.std.proofs.Common.{◌≡◌, ℕ, zero, suc, ◌+◌, ◌-◌, ◌*◌, ◌/◌, ◌%◌, ◌<◌, ◌≤◌, ℤ, Bool, true, false, ◌&&◌, List, [], ◌∷◌, Option, Some, None, Ok, refl, sym, ap, subst, ◌∙◌, add-zero, arith}
-use Rattle.std.specs.Prelude.{◌==◌, nat_lt, int_le, option_and_then, if◌then◌else◌}
-use Rattle.std.specs.List.{filter_map, cons_option, range_with_len}
-use Rattle.std.proofs.lemmas.List.{length-append}
-use Rattle.std.proofs.lemmas.Bool.{and_parts}
-use Rattle.std.proofs.lemmas.Bool.Decides.{nat_tests}
-use Rattle.std.proofs.lemmas.Int.{ints}
-use Rattle.std.proofs.lemmas.Nat.{div-add-mod', div-mul-add, mod-mul-add}
+use Rattle.std.proofs.Common.{◌≡◌, ℕ, zero, suc, ◌+◌, ◌-◌, ◌*◌, ◌/◌, ◌%◌, ◌<◌, ◌≤◌, ℤ, Bool, true, false, ◌&&◌, List}
+use Rattle.std.proofs.Common.{[], ◌∷◌, Option, Some, None, Ok, refl, sym, ap, subst, ◌∙◌, add-zero, arith}
+use Rattle.std.proofs.lemmas.{List.length-append, Bool.{and_parts, Decides.nat_tests}, Int.ints, Nat.div-add-mod'}
+use Rattle.std.{proofs.lemmas.Nat.{div-mul-add, mod-mul-add}, specs.Prelude.{◌==◌, nat_lt, int_le, option_and_then}}
+use Rattle.std.specs.{Prelude.if◌then◌else◌, List.{filter_map, cons_option, range_with_len}}
 use Rattle.list_facts.proofs.Elements.{all_append}
-use Rattle.rule_table.specs.declared.technology.Tech.{Tech}
+use Rattle.rule_table.specs.{declared.technology.Tech.Tech, Technology.width_of}
 use Rattle.rule_table.specs.declared.classes.Layer.TheVariants as layers
-use Rattle.rule_table.specs.Technology.{width_of}
-use Rattle.cell_model.specs.declared.cell.Axis2.TheVariants.{Across}
+use Rattle.cell_model.specs.declared.cell.{Axis2.TheVariants.Across, Wire.Wire}
 use Rattle.cell_model.specs.declared.cell.NodeKind.TheVariants as kinds
 use Rattle.cell_model.specs.declared.cell.WireEnd.TheVariants as ends
-use Rattle.cell_model.specs.declared.cell.Wire.{Wire}
-use Rattle.stick_cell.specs.declared.names.Spot.{Spot}
+use Rattle.stick_cell.specs.{declared.names.{Spot.Spot, Found.{Found, TheVariants.At}, Run.Run}, Known.{Known, cell_of}}
+use Rattle.stick_cell.specs.{Known.with_wire, Paths.{named, names_at, behind, walk, found_at}, Checks.sized}
+use Rattle.stick_cell.specs.{Lines.{wired_of, after_form, after_wire, after_lines}, Wires.{known_name, run_between}}
+use Rattle.stick_cell.{specs.Wires.{straight, are_sides_free, wire_where, wire_between}, proofs.Accepted.less_from_test}
 use Rattle.stick_cell.specs.declared.names.Terminal.TheVariants as terminals
-use Rattle.stick_cell.specs.declared.names.Found.{Found}
-use Rattle.stick_cell.specs.declared.names.Found.TheVariants.{At}
-use Rattle.stick_cell.specs.declared.names.Run.{Run}
-use Rattle.stick_parse.specs.declared.fault.StickKind.TheVariants.{WideWire}
+use Rattle.stick_parse.specs.{declared.fault.StickKind.TheVariants.WideWire, Reading.◌>>=◌, Order.at_line}
 use Rattle.stick_parse.specs.declared.design.Form.TheVariants as forms
 use Rattle.stick_parse.specs.declared.design.Layer.TheVariants as drawn
-use Rattle.stick_parse.specs.Reading.{◌>>=◌}
-use Rattle.stick_parse.specs.Order.{at_line}
 use Rattle.stick_cell.specs.declared.names.Thing.TheVariants as things
-use Rattle.stick_cell.specs.Known.{Known, cell_of, with_wire}
-use Rattle.stick_cell.specs.Paths.{named, names_at, behind, walk, found_at}
-use Rattle.stick_cell.specs.Checks.{sized}
-use Rattle.stick_cell.specs.Lines.{wired_of, after_form, after_wire, after_lines}
-use Rattle.stick_cell.specs.Wires.{known_name, run_between, straight, are_sides_free, wire_where, wire_between}
-use Rattle.stick_cell.proofs.Accepted.{less_from_test}
-use Rattle.design_gen.specs.Draws.{point_at}
-use Rattle.design_gen.specs.Made.{name_at, is_metal, are_joined, is_wired, wire_at, lines_from}
-use Rattle.made_designs.proofs.Names.{IsPoint, col_below, one_name}
-use Rattle.made_designs.proofs.Passing.{one_passes}
-use Rattle.made_designs.proofs.Plain.{IsPlainWire, IsPlain}
+use Rattle.design_gen.specs.{Draws.point_at, Made.{name_at, is_metal, are_joined, is_wired, wire_at, lines_from}}
+use Rattle.made_designs.proofs.{Names.{IsPoint, col_below, one_name}, Passing.one_passes, Plain.{IsPlainWire, IsPlain}}
 use Rattle.made_designs.proofs.Nodes.{joint_at, StandsForJoint, IsAfter}
 
 -- ---- two metal joints in one row

@@ -1,24 +1,17 @@
 -- The canonical text of the whole design says it.
-use Rattle.std.proofs.Common.{◌≡◌, ℕ, zero, suc, ◌+◌, ◌*◌, ◌/◌, ◌%◌, ◌-◌, ◌<◌, ◌≤◌, Bool, true, false, List, [], ◌∷◌, length, Option, Some, None, inl, refl, ap, subst, ◌∙◌, arith}
-use Rattle.std.specs.Prelude.{codes, if◌then◌else◌}
-use Rattle.std.specs.List.{filter_map, cons_option, range_with_len, AllByRecursion}
-use Rattle.stick_parse.specs.declared.design.Form.{Form}
+use Rattle.std.proofs.Common.{◌≡◌, ℕ, zero, suc, ◌+◌, ◌*◌, ◌/◌, ◌%◌, ◌-◌, ◌<◌, ◌≤◌, Bool, true, false, List, [], ◌∷◌}
+use Rattle.std.proofs.Common.{length, Option, Some, None, inl, refl, ap, subst, ◌∙◌, arith}
+use Rattle.std.specs.{Prelude.{codes, if◌then◌else◌}, List.{filter_map, cons_option, range_with_len, AllByRecursion}}
+use Rattle.stick_parse.specs.{declared.design.{Form.Form, Line.Line, GridText.GridText, Design.Design}, Says.SaysDesign}
+use Rattle.stick_parse.specs.Writable.{IsForm, IsLine, IsWritable}
 use Rattle.stick_parse.specs.declared.design.Form.TheVariants as forms
 use Rattle.stick_parse.specs.declared.design.Layer.TheVariants as layers
-use Rattle.stick_parse.specs.declared.design.Line.{Line}
-use Rattle.stick_parse.specs.declared.design.GridText.{GridText}
-use Rattle.stick_parse.specs.declared.design.Design.{Design}
-use Rattle.stick_parse.specs.Says.{SaysDesign}
-use Rattle.stick_parse.specs.Writable.{IsForm, IsLine, IsWritable}
-use Rattle.stick_print.specs.Canonical.{canonical}
-use Rattle.stick_print.specs.ReadBack.{laid_out, lines_from as numbered_from}
+use Rattle.stick_print.specs.{Canonical.canonical, ReadBack.{laid_out, lines_from as numbered_from}}
 use Rattle.stick_print.proofs.Whole.{said_by_canonical}
 use Rattle.list_facts.proofs.Elements.{all_append}
-use Rattle.design_gen.specs.declared.draws.Stand.{Stand}
-use Rattle.design_gen.specs.declared.draws.Stand.TheVariants.{Nothing, Metal, Poly, Contact}
-use Rattle.design_gen.specs.Draws.{point_at, points}
-use Rattle.design_gen.specs.Made.{name_at, node_of, node_at, is_wired, wire_at, forms_of, lines_from, made}
-use Rattle.design_gen.proofs.Growing.{length_lines}
+use Rattle.design_gen.specs.{declared.draws.Stand.{Stand, TheVariants.{Nothing, Metal, Poly, Contact}}, Draws.point_at}
+use Rattle.design_gen.specs.{Draws.points, Made.{name_at, node_of, node_at, is_wired, wire_at, forms_of, lines_from}}
+use Rattle.design_gen.{specs.Made.made, proofs.Growing.length_lines}
 use Rattle.made_designs.proofs.Names.{IsPoint, col_below, row_below, name_is, path_is}
 
 -- ---- each form can be written

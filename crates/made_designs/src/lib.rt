@@ -4,17 +4,13 @@
 
 ghost use Rattle.std.specs.Prelude.{◌≡◌, ◌+◌, ◌^◌, ◌≤◌, pos, ◌≤ℤ◌, All, IsOk, List, Ok, length, map};
 ghost use Rattle.lam_geom.specs.declared.boxes.Axis.{Axis};
-ghost use Rattle.rule_table.specs.declared.technology.Tech.{Tech as SomeTech};
-ghost use Rattle.rule_table.specs.Technology.{numbers_of, shipped_numbers};
+ghost use Rattle.rule_table.specs.{declared.technology.Tech.Tech as SomeTech, Technology.{numbers_of, shipped_numbers}};
 ghost use Rattle.sym_items.specs.declared.items.Coords.{Coords};
-ghost use Rattle.expand.specs.declared.master.Master.{Master as SomeMaster};
-ghost use Rattle.expand.specs.Masters.{IsMaster};
+ghost use Rattle.expand.specs.{declared.master.Master.Master as SomeMaster, Masters.IsMaster};
 ghost use Rattle.pitch_join.specs.Joined.{joint_variables, list_over};
-ghost use Rattle.stick_parse.specs.Says.{SaysDesign};
-ghost use Rattle.stick_parse.specs.Writable.{IsWritable};
+ghost use Rattle.stick_parse.specs.{Says.SaysDesign, Writable.IsWritable};
 ghost use Rattle.stick_print.specs.Canonical.{canonical};
-ghost use Rattle.stick_cell.specs.Grids.{resolved_cells};
-ghost use Rattle.stick_cell.specs.Known.{Known, cell_of, known_at};
+ghost use Rattle.stick_cell.specs.{Grids.resolved_cells, Known.{Known, cell_of, known_at}};
 ghost use Rattle.design_gen.specs.Made.{made};
 
 use expand::Master;

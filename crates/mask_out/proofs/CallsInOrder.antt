@@ -1,12 +1,9 @@
 -- The calls of all instances are those of the grids in order, row by row.
-use Rattle.std.proofs.Common.{◌≡◌, ℕ, ℤ, List, [], ◌∷◌, ◌++◌, length, map, refl, ap, ◌∙◌}
+use Rattle.std.proofs.{Common.{◌≡◌, ℕ, ℤ, List, [], ◌∷◌, ◌++◌, length, map, refl, ap, ◌∙◌}, lemmas.List.map-append}
 use Rattle.std.specs.List.{flat_map, range_with_len}
-use Rattle.std.proofs.lemmas.List.{map-append}
-use Rattle.plan_model.specs.Instances.{grid_at, spot, spots_in_row, spots_in_grid, left_of_grid}
-use Rattle.plan_model.specs.Rows.{row_at}
+use Rattle.plan_model.specs.{Instances.{grid_at, spot, spots_in_row, spots_in_grid, left_of_grid}, Rows.row_at}
 use Rattle.mask_out.specs.declared.drawing.Call.{Call}
-use Rattle.mask_out.specs.Pictures.{call_at, calls_of}
-use Rattle.mask_out.specs.RowCalls.{calls_in_row_at, calls_in_grid}
+use Rattle.mask_out.specs.{Pictures.{call_at, calls_of}, RowCalls.{calls_in_row_at, calls_in_grid}}
 
 -- the calls of grid number g
 abbrev pub calls_of_grid : (ℕ → ℤ) → (ℕ → ℤ) → ℤ → List (List (List ℕ)) → ℕ → List Call

@@ -1,13 +1,10 @@
 -- The calls of a plan's instances are of its masters, and their shifts are in reach.
-use Rattle.std.proofs.Common.{◌≡◌, ℕ, ◌<◌, ℤ, All, List, [], length, sym, subst, arith}
+use Rattle.std.proofs.{Common.{◌≡◌, ℕ, ◌<◌, ℤ, All, List, [], length, sym, subst, arith}, lemmas.Int.ints}
 use Rattle.std.specs.List.{AllByRecursion, range_with_len}
-use Rattle.std.proofs.lemmas.Int.{ints}
 use Rattle.list_facts.proofs.Elements.{all_map, all_flat, all_numbers, all_of}
-use Rattle.plan_model.specs.Instances.{Spot, spot, grid_at, spots_in_row, spots_in_grid, spots_of}
-use Rattle.plan_model.specs.Plan.{AreOfMasters}
+use Rattle.plan_model.specs.{Instances.{Spot, spot, grid_at, spots_in_row, spots_in_grid, spots_of}, Plan.AreOfMasters}
 use Rattle.plan_model.specs.Rows.{row_at}
-use Rattle.mask_out.specs.declared.drawing.Call.{Call}
-use Rattle.mask_out.specs.Pictures.{call_at, calls_of, IsDrawable, IsCallOf}
+use Rattle.mask_out.specs.{declared.drawing.Call.Call, Pictures.{call_at, calls_of, IsDrawable, IsCallOf}}
 
 -- the call of one instance
 call_in_reach : (count : ℕ) (width height : ℕ → ℤ) (widest : ℤ) (grids : List (List (List ℕ))) → All (AreOfMasters count) grids → IsDrawable width height widest grids

@@ -1,32 +1,19 @@
 -- How many mask boxes the items of a cell are.
-use Rattle.std.proofs.Common.{◌≡◌, ℕ, ◌+◌, Bool, true, false, cond, List, [], ◌∷◌, ◌++◌, length, zero-add, refl, ap, ◌∙◌, arith}
-use Rattle.std.specs.Prelude.{is_some}
-use Rattle.std.specs.List.{filter, flat_map, range_with_len, sum_by, count_by}
-use Rattle.std.proofs.lemmas.List.{length-append, length-map}
-use Rattle.std.proofs.lemmas.List.Elements.{filter-append}
-use Rattle.std.proofs.lemmas.List.Sums.{sum_by-cons}
+use Rattle.std.proofs.Common.{◌≡◌, ℕ, ◌+◌, Bool, true, false, cond, List, [], ◌∷◌, ◌++◌, length, zero-add, refl, ap}
+use Rattle.std.proofs.Common.{◌∙◌, arith}
+use Rattle.std.proofs.lemmas.List.{length-append, length-map, Elements.filter-append, Sums.sum_by-cons}
+use Rattle.std.specs.{Prelude.is_some, List.{filter, flat_map, range_with_len, sum_by, count_by}}
 use Rattle.lam_geom.specs.declared.boxes.MaskLayer.{MaskLayer}
-use Rattle.rule_table.specs.declared.classes.Class.{Class}
-use Rattle.rule_table.specs.declared.classes.Class.TheVariants.{M, P, Dc, Dm, C, I, G, B}
-use Rattle.rule_table.specs.declared.classes.Layer.{Layer}
-use Rattle.rule_table.specs.declared.classes.Layer.TheVariants.{Diffusion, Poly, Metal}
-use Rattle.rule_table.specs.declared.technology.Tech.{Tech}
+use Rattle.rule_table.specs.declared.classes.{Class.{Class, TheVariants.{M, P, Dc, Dm, C, I, G, B}}, Layer.Layer}
+use Rattle.rule_table.specs.declared.{classes.Layer.TheVariants.{Diffusion, Poly, Metal}, technology.Tech.Tech}
 use Rattle.rule_table.specs.Technology.{pad_of}
-use Rattle.sym_items.specs.declared.items.Item.{Item}
-use Rattle.sym_items.specs.declared.items.Coords.{Coords}
-use Rattle.cell_model.specs.declared.cell.Axis2.TheVariants.{Across, Up}
-use Rattle.cell_model.specs.declared.cell.NodeKind.{NodeKind}
-use Rattle.cell_model.specs.declared.cell.NodeKind.TheVariants.{Joint, Contact, Buried, Fet}
-use Rattle.cell_model.specs.declared.cell.NodeNets.{NodeNets}
-use Rattle.cell_model.specs.declared.cell.Wire.{Wire}
-use Rattle.cell_model.specs.declared.cell.Nets.{Nets}
-use Rattle.cell_model.specs.declared.cell.Cell.{Cell}
-use Rattle.cell_model.specs.Counts.{kind_boxes, node_boxes, boxes_in}
+use Rattle.sym_items.specs.declared.items.{Item.Item, Coords.Coords}
+use Rattle.cell_model.specs.declared.cell.{Axis2.TheVariants.{Across, Up}, NodeKind.{NodeKind, TheVariants.Joint}}
+use Rattle.cell_model.specs.declared.cell.{NodeKind.TheVariants.{Contact, Buried, Fet}, NodeNets.NodeNets, Wire.Wire}
+use Rattle.cell_model.specs.{declared.cell.{Nets.Nets, Cell.Cell}, Counts.{kind_boxes, node_boxes, boxes_in}}
 use Rattle.cell_model.specs.Sound.{node_at, no_node, wire_at, no_wire}
-use Rattle.expand.specs.Variables.{half}
-use Rattle.expand.specs.NodeItems.{on_layer, square_round, kind_items}
-use Rattle.expand.specs.Items.{nets_at, items_of_node, items_of_wire, item_list}
-use Rattle.expand.proofs.Counted.{pieces_counted}
+use Rattle.expand.specs.{Variables.half, NodeItems.{on_layer, square_round, kind_items}, Items.{nets_at, items_of_node}}
+use Rattle.expand.{specs.Items.{items_of_wire, item_list}, proofs.Counted.pieces_counted}
 use Rattle.mask_out.specs.Masks.{layer_drawn, is_drawn, masks_on, mask_layers, masks_in}
 
 -- ---- the boxes of each layer together

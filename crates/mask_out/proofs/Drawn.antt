@@ -1,12 +1,9 @@
 -- The masks of a layer, one item after another.
-use Rattle.std.proofs.Common.{◌≡◌, ℕ, ◌+◌, ◌<◌, true, false, All, cond, get_or, List, subst, [], ◌∷◌, ◌++◌, length, map, filter, take, sym, ap, ◌∙◌, append_assoc}
-use Rattle.std.proofs.lemmas.List.{append-nil, map-append}
-use Rattle.std.proofs.lemmas.List.Elements.{filter_more, All-push}
-use Rattle.lam_geom.specs.declared.boxes.MaskLayer.{MaskLayer}
-use Rattle.lam_geom.specs.declared.boxes.MaskBox.{MaskBox}
-use Rattle.sym_items.specs.declared.items.Item.{Item}
-use Rattle.sym_items.specs.declared.items.Coords.{Coords}
-use Rattle.sym_items.specs.Sides.{sides_of, sides_in}
+use Rattle.std.proofs.Common.{◌≡◌, ℕ, ◌+◌, ◌<◌, true, false, All, cond, get_or, List, subst, [], ◌∷◌, ◌++◌, length, map}
+use Rattle.std.proofs.Common.{filter, take, sym, ap, ◌∙◌, append_assoc}
+use Rattle.std.proofs.lemmas.List.{append-nil, map-append, Elements.{filter_more, All-push}}
+use Rattle.lam_geom.specs.declared.boxes.{MaskLayer.MaskLayer, MaskBox.MaskBox}
+use Rattle.sym_items.specs.{declared.items.{Item.Item, Coords.Coords}, Sides.{sides_of, sides_in}}
 use Rattle.mask_out.specs.Masks.{Mask, mask_of, is_drawn, masks_on}
 
 -- the mask of an item on a layer

@@ -1,9 +1,6 @@
 -- How many boxes a picture has.
-use Rattle.std.proofs.Common.{◌≡◌, List, [], ◌∷◌, length, refl, ◌∙◌, arith}
-use Rattle.std.specs.List.{sum_by}
-use Rattle.std.proofs.lemmas.List.{length-map}
-use Rattle.std.proofs.lemmas.List.Concat.{length-flat_map}
-use Rattle.std.proofs.lemmas.List.Sums.{sum_by-cons}
+use Rattle.std.proofs.{Common.{◌≡◌, List, [], ◌∷◌, length, refl, ◌∙◌, arith}, lemmas.List.length-map}
+use Rattle.std.{proofs.lemmas.List.{Concat.length-flat_map, Sums.sum_by-cons}, specs.List.sum_by}
 use Rattle.mask_out.specs.declared.drawing.Call.{Call}
 use Rattle.mask_out.specs.Pictures.{Drawing, shifted, masks_at, masks_called, flat_of, boxes_called}
 

@@ -1,13 +1,10 @@
 -- The symbols of masters, one after another.
 use Rattle.std.proofs.Common.{◌≡◌, ℕ, ◌+◌, ◌<◌, get_or, List, [], ◌∷◌, ◌++◌, length, map, take, sym, ap, ◌∙◌}
-use Rattle.std.specs.List.{zip}
-use Rattle.std.proofs.lemmas.List.{take_more, map-append}
-use Rattle.std.proofs.lemmas.Slice.Zip.{get_or-zip}
+use Rattle.std.{proofs.lemmas.{List.{take_more, map-append}, Slice.Zip.get_or-zip}, specs.List.zip}
 use Rattle.sym_items.specs.declared.items.Coords.{Coords}
 use Rattle.expand.specs.declared.master.Master.{Master}
 use Rattle.mask_out.specs.declared.drawing.Symbol.{Symbol}
-use Rattle.mask_out.specs.Masks.{Mask, mask_of, masks_in}
-use Rattle.mask_out.specs.Pictures.{Drawing, drawing_of, drawing_in}
+use Rattle.mask_out.specs.{Masks.{Mask, mask_of, masks_in}, Pictures.{Drawing, drawing_of, drawing_in}}
 
 pub symbol_pushed : (masters : List Master) (layouts : List Coords) (m : ℕ) (master : Master) (layout : Coords) (symbol : Symbol) (now next : List Symbol)
     → m < length masters → m < length layouts → m < length (zip masters layouts) → master ≡ get_or masters m master → layout ≡ get_or layouts m layout

@@ -1,14 +1,10 @@
 -- The calls of a row, of a grid and of all grids, with one more instance, row or grid.
-use Rattle.std.proofs.Common.{◌≡◌, ℕ, ◌+◌, ◌<◌, ℤ, ◌+ℤ◌, get_or, zero-add, List, [], ◌∷◌, ◌++◌, length, map, sym, ap, ◌∙◌, append_assoc}
-use Rattle.std.specs.Prelude.{slice_index}
-use Rattle.std.specs.List.{flat_map, range_with_len}
-use Rattle.std.proofs.lemmas.List.{get_or-map}
-use Rattle.std.proofs.lemmas.List.FromFn.{map-range_with_len_more}
+use Rattle.std.proofs.Common.{◌≡◌, ℕ, ◌+◌, ◌<◌, ℤ, ◌+ℤ◌, get_or, zero-add, List, [], ◌∷◌, ◌++◌, length, map, sym, ap}
+use Rattle.std.proofs.{Common.{◌∙◌, append_assoc}, lemmas.List.{get_or-map, FromFn.map-range_with_len_more}}
+use Rattle.std.specs.{Prelude.slice_index, List.{flat_map, range_with_len}}
 use Rattle.list_facts.proofs.Pieces.{piece_added}
-use Rattle.plan_model.specs.Instances.{left_in_row, bottom_in_grid}
-use Rattle.plan_model.specs.Rows.{row_at}
-use Rattle.mask_out.specs.declared.drawing.Call.{Call}
-use Rattle.mask_out.specs.RowCalls.{call_in_row, calls_in_row, calls_in_row_at}
+use Rattle.plan_model.specs.{Instances.{left_in_row, bottom_in_grid}, Rows.row_at}
+use Rattle.mask_out.specs.{declared.drawing.Call.Call, RowCalls.{call_in_row, calls_in_row, calls_in_row_at}}
 
 -- what stands at a place of the images, from the element there
 pub image_at : {X Y : Type 0} (f : X → Y) (xs : List X) (i : ℕ) (x : X) (y d : Y) → i < length xs → x ≡ get_or xs i x → y ≡ f x → get_or (map f xs) i d ≡ y

@@ -1,12 +1,10 @@
 -- Where the whole width and the whole height can be reckoned with, all places can.
-use Rattle.std.proofs.Common.{◌≡◌, ℕ, zero, suc, ◌+◌, ◌^◌, ◌<◌, ℤ, pos, ◌+ℤ◌, ◌≤ℤ◌, List, [], ◌∷◌, All, length, map, take, refl, ap, arith}
-use Rattle.std.specs.Prelude.{slice_index}
-use Rattle.std.proofs.lemmas.Int.{ints, fold-int_max_bounds}
-use Rattle.std.proofs.lemmas.List.{take_all, get_or-map, length-map}
-use Rattle.plan_model.specs.Instances.{total, row_height, grid_width, grid_height, grid_at, left_in_row, left_of_grid, whole_width, whole_height, IsAligned}
-use Rattle.plan_model.specs.Rows.{first_row, row_at, IsRectangular}
-use Rattle.mask_out.specs.Pictures.{IsGridInReach, IsDrawable}
-use Rattle.mask_out.proofs.Totals.{total_more}
+use Rattle.std.proofs.Common.{◌≡◌, ℕ, zero, suc, ◌+◌, ◌^◌, ◌<◌, ℤ, pos, ◌+ℤ◌, ◌≤ℤ◌, List, [], ◌∷◌, All, length, map}
+use Rattle.std.proofs.{Common.{take, refl, ap, arith}, lemmas.{Int.{ints, fold-int_max_bounds}, List.take_all}}
+use Rattle.std.{proofs.lemmas.List.{get_or-map, length-map}, specs.Prelude.slice_index}
+use Rattle.plan_model.specs.Instances.{total, row_height, grid_width, grid_height, grid_at, left_in_row, left_of_grid}
+use Rattle.plan_model.specs.{Instances.{whole_width, whole_height, IsAligned}, Rows.{first_row, row_at, IsRectangular}}
+use Rattle.mask_out.{specs.Pictures.{IsGridInReach, IsDrawable}, proofs.Totals.total_more}
 
 -- ---- sums of the first of some lengths that are not below 0
 

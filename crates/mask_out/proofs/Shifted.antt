@@ -1,13 +1,11 @@
 -- The boxes of a call, one after another, and those of all calls.
-use Rattle.std.proofs.Common.{◌≡◌, ℕ, ◌+◌, ◌^◌, ◌<◌, pos, get_or, List, [], ◌∷◌, ◌++◌, All, length, map, take, refl, sym, ap, subst, ◌∙◌, arith, append_assoc}
-use Rattle.std.proofs.lemmas.List.{take_more, map-append, length-map, append-nil}
-use Rattle.std.proofs.lemmas.List.Concat.{flat_map-append}
+use Rattle.std.proofs.Common.{◌≡◌, ℕ, ◌+◌, ◌^◌, ◌<◌, pos, get_or, List, [], ◌∷◌, ◌++◌, All, length, map, take, refl}
+use Rattle.std.proofs.Common.{sym, ap, subst, ◌∙◌, arith, append_assoc}
+use Rattle.std.proofs.lemmas.List.{take_more, map-append, length-map, append-nil, Concat.flat_map-append}
 use Rattle.lam_geom.specs.declared.boxes.MaskBox.{MaskBox}
-use Rattle.mask_out.specs.declared.drawing.Call.{Call}
-use Rattle.mask_out.specs.declared.drawing.Symbol.{Symbol}
-use Rattle.mask_out.specs.Masks.{Mask, mask_of}
-use Rattle.mask_out.specs.Pictures.{Drawing, drawing_of, no_drawing, shifted, masks_at, masks_called, flat_of, LiesWithin, CanBeFlattened}
-use Rattle.mask_out.proofs.Pushed.{image_at}
+use Rattle.mask_out.specs.{declared.drawing.{Call.Call, Symbol.Symbol}, Masks.{Mask, mask_of}, Pictures.Drawing}
+use Rattle.mask_out.specs.Pictures.{drawing_of, no_drawing, shifted, masks_at, masks_called, flat_of, LiesWithin}
+use Rattle.mask_out.{specs.Pictures.CanBeFlattened, proofs.Pushed.image_at}
 
 -- a box of a symbol lies within so much of the origin
 pub box_within : (boxes : List MaskBox) (i : ℕ) (box : MaskBox) → All (LiesWithin (2 ^ 40)) (map mask_of boxes) → i < length boxes → box ≡ get_or boxes i box → LiesWithin (2 ^ 40) (mask_of box)

@@ -1,10 +1,9 @@
 -- Sums of the first widths or heights, with one more.
-use Rattle.std.proofs.Common.{◌≡◌, ℕ, zero, suc, ◌+◌, ◌^◌, ◌<◌, ℤ, pos, ◌+ℤ◌, ◌≤ℤ◌, get_or, List, [], ◌∷◌, ◌++◌, length, map, take, sym, ap, subst, ◌∙◌, arith}
-use Rattle.std.specs.Prelude.{slice_index}
-use Rattle.std.proofs.lemmas.Int.{ints}
-use Rattle.std.proofs.lemmas.List.{take_more, take_all, map-append}
-use Rattle.plan_model.specs.Instances.{total, row_height, grid_width, grid_at, left_in_row, bottom_in_grid, left_of_grid}
-use Rattle.plan_model.specs.Rows.{first_row, row_at}
+use Rattle.std.proofs.Common.{◌≡◌, ℕ, zero, suc, ◌+◌, ◌^◌, ◌<◌, ℤ, pos, ◌+ℤ◌, ◌≤ℤ◌, get_or, List, [], ◌∷◌, ◌++◌, length}
+use Rattle.std.proofs.{Common.{map, take, sym, ap, subst, ◌∙◌, arith}, lemmas.{Int.ints, List.{take_more, take_all}}}
+use Rattle.std.{proofs.lemmas.List.map-append, specs.Prelude.slice_index}
+use Rattle.plan_model.specs.Instances.{total, row_height, grid_width, grid_at, left_in_row, bottom_in_grid}
+use Rattle.plan_model.specs.{Instances.left_of_grid, Rows.{first_row, row_at}}
 use Rattle.mask_out.specs.Pictures.{IsInReach, IsRowInReach, IsGridInReach, IsDrawable}
 
 total_push : (xs : List ℤ) (y : ℤ) → total (xs ++ y ∷ []) ≡ total xs +ℤ y

@@ -1,8 +1,7 @@
 -- The masks of the items that the tests type in, against sides worked by hand.
 use Rattle.std.proofs.Common.{◌≡◌, pos, [], ◌∷◌, refl}
 use Rattle.lam_geom.specs.declared.boxes.MaskLayer.TheVariants.{ND, NC, NM, NI, NB}
-use Rattle.mask_out.specs.Masks.{masks_in}
-use Rattle.mask_out.specs.Worked.{squares, layout, mask}
+use Rattle.mask_out.specs.{Masks.masks_in, Worked.{squares, layout, mask}}
 
 worked_masks : masks_in layout squares
     ≡ mask ND (pos 8) (pos 16) (pos 8) (pos 16)

@@ -2,8 +2,7 @@
 use Rattle.std.proofs.Common.{◌≡◌, ℤ, pos, List, [], ◌∷◌, refl}
 use Rattle.lam_geom.specs.declared.boxes.MaskLayer.TheVariants.{ND, NM}
 use Rattle.sym_items.specs.Values.{value_of}
-use Rattle.mask_out.specs.Pictures.{calls_of, flat_of}
-use Rattle.mask_out.specs.Worked.{mask, call, drawings, calls}
+use Rattle.mask_out.specs.{Pictures.{calls_of, flat_of}, Worked.{mask, call, drawings, calls}}
 
 -- two masters, 30 and 42 wide and 18 high, where the widest spacing is 6
 abbrev widths : List ℤ

@@ -1,14 +1,9 @@
 -- The mask boxes of a cell's items in a layout: layer by layer, and on each layer in the order of the items.
 use Rattle.std.specs.Prelude.{Bool, true, false, Option, Some, None, List, [], ◌∷◌, map, filter, flat_map}
 use Rattle.std.specs.Option.{option_map_or}
-use Rattle.lam_geom.specs.declared.boxes.MaskLayer.{MaskLayer}
-use Rattle.lam_geom.specs.declared.boxes.MaskLayer.TheVariants.{ND, NP, NC, NM, NI, NB}
-use Rattle.lam_geom.specs.declared.boxes.MaskBox.{MaskBox}
-use Rattle.rule_table.specs.declared.classes.Class.{Class}
-use Rattle.rule_table.specs.declared.classes.Class.TheVariants.{M, P, Dc, Dm, C, I, G, B}
-use Rattle.sym_items.specs.declared.items.Item.{Item}
-use Rattle.sym_items.specs.declared.items.Coords.{Coords}
-use Rattle.sym_items.specs.Sides.{Sides, sides_of, sides_in}
+use Rattle.lam_geom.specs.declared.boxes.{MaskLayer.{MaskLayer, TheVariants.{ND, NP, NC, NM, NI, NB}}, MaskBox.MaskBox}
+use Rattle.rule_table.specs.declared.classes.Class.{Class, TheVariants.{M, P, Dc, Dm, C, I, G, B}}
+use Rattle.sym_items.specs.{declared.items.{Item.Item, Coords.Coords}, Sides.{Sides, sides_of, sides_in}}
 
 -- a mask box by its layer and its four sides
 pub record Mask : Type 0 where

@@ -1,16 +1,11 @@
 -- The picture of a plan: a symbol for each master, and a call for each instance. And its boxes, one by one.
-use Rattle.std.specs.Prelude.{ℕ, ◌^◌, ◌<◌, ◌≤◌, ℤ, pos, neg_ℤ, ◌+ℤ◌, ◌≤ℤ◌, All, List, [], length, map, flat_map, slice_index_or}
-use Rattle.std.specs.List.{sum_by, zip}
-use Rattle.sym_items.specs.declared.items.Coords.{Coords}
-use Rattle.sym_items.specs.Boxes.{HasBox}
-use Rattle.sym_items.specs.Layouts.{layout_at}
-use Rattle.sym_items.specs.Sides.{Sides}
+use Rattle.std.specs.Prelude.{ℕ, ◌^◌, ◌<◌, ◌≤◌, ℤ, pos, neg_ℤ, ◌+ℤ◌, ◌≤ℤ◌, All, List, [], length, map, flat_map}
+use Rattle.std.specs.{Prelude.slice_index_or, List.{sum_by, zip}}
+use Rattle.sym_items.specs.{declared.items.Coords.Coords, Boxes.HasBox, Layouts.layout_at, Sides.Sides}
 use Rattle.expand.specs.declared.master.Master.{Master}
-use Rattle.plan_model.specs.Instances.{Spot, grid_at, master_at_spot, spots_of, left_in_row, bottom_in_grid, left_of_grid, left_of, bottom_of}
-use Rattle.plan_model.specs.Rows.{row_at}
-use Rattle.mask_out.specs.Masks.{Mask, mask_of, masks_in}
-use Rattle.mask_out.specs.declared.drawing.Symbol.{Symbol}
-use Rattle.mask_out.specs.declared.drawing.Call.{Call}
+use Rattle.plan_model.specs.Instances.{Spot, grid_at, master_at_spot, spots_of, left_in_row, bottom_in_grid}
+use Rattle.plan_model.specs.{Instances.{left_of_grid, left_of, bottom_of}, Rows.row_at}
+use Rattle.mask_out.specs.{Masks.{Mask, mask_of, masks_in}, declared.drawing.{Symbol.Symbol, Call.Call}}
 
 -- ---- symbols
 

@@ -1,8 +1,6 @@
 -- The calls of a picture, row by row and grid by grid.
-use Rattle.std.specs.Prelude.{ℕ, ℤ, ◌+ℤ◌, List, length, map, flat_map, slice_index}
-use Rattle.std.specs.List.{range_with_len}
-use Rattle.plan_model.specs.Instances.{left_in_row, bottom_in_grid}
-use Rattle.plan_model.specs.Rows.{row_at}
+use Rattle.std.specs.{Prelude.{ℕ, ℤ, ◌+ℤ◌, List, length, map, flat_map, slice_index}, List.range_with_len}
+use Rattle.plan_model.specs.{Instances.{left_in_row, bottom_in_grid}, Rows.row_at}
 use Rattle.mask_out.specs.declared.drawing.Call.{Call}
 
 -- instance number c of a row, from the left border of the row's grid and the row's bottom

@@ -1,17 +1,10 @@
 -- The items and the layout that the tests type in: a diffusion contact, a metal joint to the right of it, and a window and an implant round
 -- these. And a picture of two symbols and three calls.
 use Rattle.std.specs.Prelude.{ℕ, ℤ, pos, neg_ℤ, List, [], ◌∷◌, codes}
-use Rattle.lam_geom.specs.declared.boxes.MaskLayer.{MaskLayer}
-use Rattle.lam_geom.specs.declared.boxes.MaskLayer.TheVariants.{ND, NM}
-use Rattle.rule_table.specs.declared.classes.Class.{Class}
-use Rattle.rule_table.specs.declared.classes.Class.TheVariants.{M, C, Dm, Dc, I, B}
-use Rattle.sym_items.specs.declared.items.End.{End}
-use Rattle.sym_items.specs.declared.items.Item.{Item}
-use Rattle.sym_items.specs.Standing.{nowhere}
-use Rattle.sym_items.specs.declared.items.Coords.{Coords}
-use Rattle.mask_out.specs.declared.drawing.Call.{Call}
-use Rattle.mask_out.specs.Masks.{Mask}
-use Rattle.mask_out.specs.Pictures.{Drawing}
+use Rattle.lam_geom.specs.declared.boxes.MaskLayer.{MaskLayer, TheVariants.{ND, NM}}
+use Rattle.rule_table.specs.declared.classes.Class.{Class, TheVariants.{M, C, Dm, Dc, I, B}}
+use Rattle.sym_items.specs.{declared.items.{End.End, Item.Item, Coords.Coords}, Standing.nowhere}
+use Rattle.mask_out.specs.{declared.drawing.Call.Call, Masks.Mask, Pictures.Drawing}
 
 abbrev pub below : ℕ → ℕ → End
 below v half = record { var = v; off = neg_ℤ (pos half) }

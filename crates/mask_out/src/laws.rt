@@ -5,11 +5,8 @@ ghost use Rattle.rule_table.specs.Technology.{widest_of};
 ghost use Rattle.cell_model.specs.Counts.{boxes_in};
 ghost use Rattle.sym_items.specs.Layouts.{size_in};
 ghost use Rattle.expand.specs.Items.{item_list};
-ghost use Rattle.plan_model.specs.Instances.{whole_width, whole_height, IsAligned};
-ghost use Rattle.plan_model.specs.Plan.{grids_of};
-ghost use Rattle.plan_model.specs.Rows.{IsRectangular};
-ghost use Rattle.mask_out.specs.Masks.{masks_in};
-ghost use Rattle.mask_out.specs.Pictures.{drawing_of, flat_of, boxes_called, IsDrawable};
+ghost use Rattle.plan_model.specs.{Instances.{whole_width, whole_height, IsAligned}, Plan.grids_of, Rows.IsRectangular};
+ghost use Rattle.mask_out.specs.{Masks.masks_in, Pictures.{drawing_of, flat_of, boxes_called, IsDrawable}};
 
 use crate::drawing::Picture;
 use cell_model::{Cell, Nets};

@@ -1,7 +1,6 @@
 //! The picture of a plan.
 ghost use Rattle.std.specs.Prelude.{◌≡◌, All, length, map, IfOk};
-ghost use Rattle.lam_geom.specs.Places.{IsPlacedBox};
-ghost use Rattle.lam_geom.specs.declared.boxes.Axis.TheVariants.{X, Y};
+ghost use Rattle.lam_geom.specs.{Places.IsPlacedBox, declared.boxes.Axis.TheVariants.{X, Y}};
 ghost use Rattle.rule_table.specs.Technology.{widest_of};
 ghost use Rattle.sym_items.specs.Layouts.{size_in};
 ghost use Rattle.plan_model.specs.Plan.{grids_of, AreOfMasters};

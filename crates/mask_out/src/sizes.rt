@@ -1,10 +1,8 @@
 //! How wide and how high masters, rows and grids are.
 ghost use Rattle.std.specs.Prelude.{◌≡◌, slice_index, slice_index_or, map};
 ghost use Rattle.lam_geom.specs.declared.boxes.Axis.TheVariants.{X, Y};
-ghost use Rattle.sym_items.specs.Layouts.{size_in};
-ghost use Rattle.sym_items.specs.Values.{value_of};
-ghost use Rattle.plan_model.specs.Instances.{total, row_height, grid_width};
-ghost use Rattle.plan_model.specs.Rows.{first_row};
+ghost use Rattle.sym_items.specs.{Layouts.size_in, Values.value_of};
+ghost use Rattle.plan_model.specs.{Instances.{total, row_height, grid_width}, Rows.first_row};
 ghost use Rattle.mask_out.specs.Pictures.{IsRowInReach};
 
 use lam_geom::Axis;

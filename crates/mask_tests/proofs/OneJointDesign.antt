@@ -1,38 +1,22 @@
 -- What the design typed in meets.
-use Rattle.std.proofs.Common.{◌≡◌, ℕ, zero, suc, ◌<◌, ◌≤◌, ◌^◌, pos, List, [], ◌∷◌, length, All, refl, sym, subst, ap, arith}
-use Rattle.std.proofs.lemmas.Int.{ints}
-use Rattle.lam_geom.specs.declared.boxes.Axis.{Axis}
-use Rattle.lam_geom.specs.declared.boxes.Axis.TheVariants.{X, Y}
-use Rattle.rule_table.specs.declared.technology.Tech.{Tech}
-use Rattle.rule_table.specs.declared.keys.Numbers.{Numbers}
-use Rattle.rule_table.specs.declared.classes.Class.TheVariants.{M}
+use Rattle.std.proofs.Common.{◌≡◌, ℕ, zero, suc, ◌<◌, ◌≤◌, ◌^◌, pos, List, [], ◌∷◌, length, All, refl, sym, subst, ap}
+use Rattle.std.proofs.{Common.arith, lemmas.Int.ints}
+use Rattle.lam_geom.specs.declared.boxes.Axis.{Axis, TheVariants.{X, Y}}
+use Rattle.rule_table.specs.declared.{technology.Tech.Tech, keys.Numbers.Numbers, classes.Class.TheVariants.M}
 use Rattle.rule_table.specs.declared.classes.Layer.TheVariants.{Metal}
-use Rattle.rule_table.specs.Spacing.{width_in}
-use Rattle.rule_table.specs.Technology.{numbers_of, width_of, shipped_numbers}
-use Rattle.sym_items.specs.declared.items.Coords.{Coords}
-use Rattle.sym_items.specs.declared.items.Item.{Item}
-use Rattle.sym_items.specs.declared.items.Items.{Items}
-use Rattle.sym_items.specs.Boxes.{HasBox}
-use Rattle.sym_items.specs.Layouts.{layout_at}
-use Rattle.sym_items.specs.Sides.{sides_in}
-use Rattle.cell_model.specs.declared.cell.Cell.{Cell}
-use Rattle.cell_model.specs.Ports.{ports_of_cell}
-use Rattle.cell_model.specs.Sound.{IsSound}
-use Rattle.expand.specs.declared.master.Master.{Master}
-use Rattle.expand.specs.Items.{nets_at, item_list, AreItems}
-use Rattle.expand.specs.Masters.{IsMaster}
+use Rattle.rule_table.specs.{Spacing.width_in, Technology.{numbers_of, width_of, shipped_numbers}}
+use Rattle.sym_items.specs.declared.items.{Coords.Coords, Item.Item, Items.Items}
+use Rattle.sym_items.specs.{Boxes.HasBox, Layouts.layout_at, Sides.sides_in}
+use Rattle.cell_model.specs.{declared.cell.Cell.Cell, Ports.ports_of_cell, Sound.IsSound}
+use Rattle.expand.specs.{declared.master.Master.Master, Items.{nets_at, item_list, AreItems}, Masters.IsMaster}
 use Rattle.expand.specs.NodeItems.{square_round}
 use Rattle.pair_rules.specs.Bound.{item_at}
-use Rattle.plan_model.specs.Borders.{FitsAt}
-use Rattle.plan_model.specs.Plan.{grids_of, borders_of, pitch_in, pitch_of, matches_in, ports_matched, AreOfMasters, IsPlanOver}
-use Rattle.plan_model.specs.Instances.{master_at_spot}
-use Rattle.plan_model.specs.Rows.{IsRectangular}
+use Rattle.plan_model.specs.{Borders.FitsAt, Plan.{grids_of, borders_of, pitch_in, pitch_of, matches_in, ports_matched}}
+use Rattle.plan_model.specs.{Plan.{AreOfMasters, IsPlanOver}, Instances.master_at_spot, Rows.IsRectangular}
 use Rattle.pitch_join.specs.Masters.{master_at}
-use Rattle.grid_rules.specs.Planned.{AreOfPlan}
+use Rattle.grid_rules.specs.{Planned.AreOfPlan, Shapes.{drawn_items, shapes_of}}
 use Rattle.mask_out.specs.Pictures.{HaveBoxes}
-use Rattle.grid_rules.specs.Shapes.{drawn_items, shapes_of}
-use Rattle.design_nets.specs.Shapes.{drawn_in}
-use Rattle.design_nets.specs.Transistors.{LiesNear, BoxesLieNear}
+use Rattle.design_nets.specs.{Shapes.drawn_in, Transistors.{LiesNear, BoxesLieNear}}
 use Rattle.list_facts.proofs.Elements.{all_of}
 use Rattle.mask_tests.specs.OneJoint.{cell, plan, layout}
 

@@ -2,9 +2,7 @@
 use Rattle.std.specs.Prelude.{pos, [], ◌∷◌}
 use Rattle.rule_table.specs.declared.classes.Layer.TheVariants.{Metal}
 use Rattle.sym_items.specs.declared.items.Coords.{Coords}
-use Rattle.cell_model.specs.declared.cell.Cell.{Cell}
-use Rattle.cell_model.specs.declared.cell.Node.{Node}
-use Rattle.cell_model.specs.declared.cell.NodeKind.TheVariants.{Joint}
+use Rattle.cell_model.specs.declared.cell.{Cell.Cell, Node.Node, NodeKind.TheVariants.Joint}
 use Rattle.plan_model.specs.declared.plan.Plan.{Plan}
 
 abbrev pub joint : Node

@@ -1,8 +1,7 @@
 //! The boxes that tests type in, and the words of those that are found. A box goes by its layer, its low corner, and
 //! its width and height in grains.
 ghost use Rattle.std.specs.Prelude.{◌≤◌, ◌<ℤ◌, All, IfOk, length};
-ghost use Rattle.lam_geom.specs.declared.boxes.MaskBox.{MaskBox};
-ghost use Rattle.lam_geom.specs.Places.{IsPlacedBox, IsPlacedSpan};
+ghost use Rattle.lam_geom.specs.{declared.boxes.MaskBox.MaskBox, Places.{IsPlacedBox, IsPlacedSpan}};
 ghost use Rattle.crossings.specs.Boxes.{AreSearchable, IsSolid};
 
 use lam_geom::{BoxXY, MaskBox, MaskLayer, Span};

@@ -1,8 +1,7 @@
 //! The boxes of a typed-in picture.
 ghost use Rattle.std.specs.Prelude.{◌≡◌, pos, map, IfOk};
 ghost use Rattle.lam_geom.specs.declared.boxes.MaskLayer.TheVariants.{ND, NM};
-ghost use Rattle.mask_out.specs.Masks.{mask_of};
-ghost use Rattle.mask_out.specs.Pictures.{drawing_of};
+ghost use Rattle.mask_out.specs.{Masks.mask_of, Pictures.drawing_of};
 ghost use Rattle.mask_out.specs.Worked as worked;
 
 use crate::boxes_of_tests::words_of;

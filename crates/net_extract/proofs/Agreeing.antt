@@ -1,12 +1,11 @@
 -- Numbers of parts, in order of first parts, that are equal for the same parts are the same: both are the nets that the pairs of parts of one number link.
-use Rattle.std.proofs.Common.{◌≡◌, ℕ, zero, suc, ◌<◌, ◌≤◌, Bool, true, false, eqb, cond, List, [], ◌∷◌, ◌++◌, inl, inr, length, get_or, refl, sym, ◌∙◌, ap, subst, arith, eq-eqb}
+use Rattle.std.proofs.Common.{◌≡◌, ℕ, zero, suc, ◌<◌, ◌≤◌, Bool, true, false, eqb, cond, List, [], ◌∷◌, ◌++◌, inl, inr}
+use Rattle.std.proofs.{Common.{length, get_or, refl, sym, ◌∙◌, ap, subst, arith, eq-eqb}, lemmas.Bool.cases_lt}
+use Rattle.std.proofs.lemmas.{Bool.eqb-true, List.Elements.{All-contains, Contains-append_left, Contains-append_right}}
 use Rattle.std.specs.List.{AllByRecursion, Contains}
-use Rattle.std.proofs.lemmas.Bool.{cases_lt, eqb-true}
-use Rattle.std.proofs.lemmas.List.Elements.{All-contains, Contains-append_left, Contains-append_right}
 use Rattle.list_facts.proofs.Elements.{all_append, all_of}
 use Rattle.graph_search.specs.Netting.{Attached, IsNetting, IsNumberedInOrder}
-use Rattle.graph_search.proofs.Chains.{reaches_one, reaches_same}
-use Rattle.graph_search.proofs.Determined.{numbers_same}
+use Rattle.graph_search.proofs.{Chains.{reaches_one, reaches_same}, Determined.numbers_same}
 
 -- two lists of numbers give equal ones to the same parts
 abbrev pub Agree : ℕ → List ℕ → List ℕ → Type 0

@@ -1,21 +1,14 @@
 -- The links of the three kinds are all links.
 use Rattle.std.proofs.Common.{◌≡◌, ℕ, ◌<◌, List, Some, length, map, ◌⊎◌, inl, inr, sym, ◌∙◌, ap, subst, arith}
+use Rattle.std.proofs.lemmas.{List.length-map, Option.{slice_get-map, slice_get-get_or, slice_get_within, same_Some}}
 use Rattle.std.specs.Prelude.{slice_get, option_map}
-use Rattle.std.proofs.lemmas.List.{length-map}
-use Rattle.std.proofs.lemmas.Option.{slice_get-map, slice_get-get_or, slice_get_within, same_Some}
-use Rattle.lam_geom.specs.declared.boxes.BoxXY.{BoxXY}
-use Rattle.lam_geom.specs.declared.boxes.MaskBox.{MaskBox}
-use Rattle.lam_geom.specs.Gaps.{Touches, Overlaps}
+use Rattle.lam_geom.specs.{declared.boxes.{BoxXY.BoxXY, MaskBox.MaskBox}, Gaps.{Touches, Overlaps}}
 use Rattle.rule_table.specs.declared.technology.Tech.{Tech}
-use Rattle.crossings.specs.declared.crossing.Crossing.{Crossing}
-use Rattle.crossings.specs.Boxes.{area_at}
-use Rattle.crossings.specs.Crossings.{AreInOrder}
-use Rattle.net_extract.specs.declared.placing.Placed.{Placed}
-use Rattle.net_extract.specs.Places.{Place, places_of}
-use Rattle.net_extract.specs.Extraction.{AreLinked, by_touch, by_cut, by_contact, by_contact_back, IsLink}
-use Rattle.net_extract.specs.Pieces.{no_piece, piece_at, area_of, stand_of, IsPiece, ArePieces}
-use Rattle.net_extract.specs.Linking.{IsTouch, IsOverBoth, IsContact}
-use Rattle.net_extract.proofs.Areas.{area_same}
+use Rattle.crossings.specs.{declared.crossing.Crossing.Crossing, Boxes.area_at, Crossings.AreInOrder}
+use Rattle.net_extract.specs.{declared.placing.Placed.Placed, Places.{Place, places_of}, Extraction.AreLinked}
+use Rattle.net_extract.specs.{Extraction.{by_touch, by_cut, by_contact, by_contact_back, IsLink}, Pieces.no_piece}
+use Rattle.net_extract.specs.{Pieces.{piece_at, area_of, stand_of, IsPiece, ArePieces}, Linking.{IsTouch, IsOverBoth}}
+use Rattle.net_extract.{specs.Linking.IsContact, proofs.Areas.area_same}
 
 -- where a piece stands
 pub place_there : (boxes : List MaskBox) (crossings : List Crossing) (pieces : List Placed) (a : ℕ) → map stand_of pieces ≡ places_of crossings boxes → a < length pieces

@@ -1,20 +1,10 @@
 -- Pieces have one area each.
 use Rattle.std.proofs.Common.{◌≡◌, ℕ, ◌<◌, List, length, map, get_or, inl, inr, sym, ◌∙◌, ap, subst, arith}
-use Rattle.std.proofs.lemmas.Bool.{cases_order}
-use Rattle.std.proofs.lemmas.List.{get_or-map, get_or_default, length-map}
-use Rattle.lam_geom.specs.declared.boxes.Axis.{Axis}
-use Rattle.lam_geom.specs.declared.boxes.Axis.TheVariants.{X, Y}
-use Rattle.lam_geom.specs.declared.boxes.BoxXY.{BoxXY}
-use Rattle.lam_geom.specs.declared.boxes.MaskBox.{MaskBox}
-use Rattle.lam_geom.specs.declared.boxes.Span.{Span}
-use Rattle.lam_geom.specs.Gaps.{span_along}
-use Rattle.lam_geom.proofs.Spans.{same_span}
-use Rattle.crossings.specs.declared.crossing.Crossing.{Crossing}
-use Rattle.crossings.specs.Boxes.{area_at, other}
-use Rattle.crossings.specs.Crossings.{AreInOrder}
-use Rattle.net_extract.specs.declared.netlist.Part.{Part}
-use Rattle.net_extract.specs.declared.netlist.Part.TheVariants.{Whole, Low, High}
-use Rattle.net_extract.specs.Places.{Place}
+use Rattle.std.proofs.lemmas.{Bool.cases_order, List.{get_or-map, get_or_default, length-map}}
+use Rattle.lam_geom.specs.declared.boxes.{Axis.{Axis, TheVariants.{X, Y}}, BoxXY.BoxXY, MaskBox.MaskBox, Span.Span}
+use Rattle.lam_geom.{specs.Gaps.span_along, proofs.Spans.same_span}
+use Rattle.crossings.specs.{declared.crossing.Crossing.Crossing, Boxes.{area_at, other}, Crossings.AreInOrder}
+use Rattle.net_extract.specs.{declared.netlist.Part.{Part, TheVariants.{Whole, Low, High}}, Places.Place}
 use Rattle.net_extract.specs.Extraction.{IsOfBox, IsAreaOfPart, IsAreaOf, IsLowPiece, IsHighPiece}
 
 -- the diffusion of a crossing, by its number

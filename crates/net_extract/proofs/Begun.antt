@@ -1,22 +1,15 @@
 -- A search that has reached nothing.
 use Rattle.std.proofs.Common.{◌≡◌, ℕ, ◌+◌, ◌^◌, ◌<◌, ◌≤◌, All, List, length, sym, subst, arith}
 use Rattle.std.proofs.lemmas.List.{get_or_default}
-use Rattle.box_tree.specs.declared.spots.Spot.{Spot}
-use Rattle.box_tree.specs.Tree.{no_spot}
-use Rattle.lam_geom.specs.declared.boxes.MaskBox.{MaskBox}
-use Rattle.lam_geom.specs.declared.boxes.MaskLayer.{MaskLayer}
-use Rattle.lam_geom.specs.Places.{IsPlacedBox}
+use Rattle.box_tree.specs.declared.{spots.Spot.Spot, groves.Grove.Grove}
+use Rattle.box_tree.specs.{Tree.no_spot, Groves.{spot_of, AreTagsWithin, IsNewGrove}}
+use Rattle.lam_geom.specs.{declared.boxes.{MaskBox.MaskBox, MaskLayer.MaskLayer}, Places.IsPlacedBox}
 use Rattle.rule_table.specs.declared.technology.Tech.{Tech}
-use Rattle.crossings.specs.declared.crossing.Crossing.{Crossing}
-use Rattle.crossings.specs.Boxes.{AreSearchable, no_box}
-use Rattle.box_tree.specs.declared.groves.Grove.{Grove}
-use Rattle.net_extract.specs.declared.placing.Placed.{Placed}
-use Rattle.net_extract.specs.declared.reaching.Front.{Front}
-use Rattle.box_tree.specs.Groves.{spot_of, AreTagsWithin, IsNewGrove}
-use Rattle.net_extract.specs.Pieces.{box_of, no_piece, ArePieces}
-use Rattle.net_extract.specs.Spots.{AreSpots, IsPieceOn, MayBeBuried, piece_spot, box_spot, cut_spot, ArePieceSpots, AreBoxSpots}
-use Rattle.net_extract.specs.CutLists.{AreCrowdedSpots, IsCrowded, IsNewPieceGrove, IsPieceGrove, ArePartsWithin}
-use Rattle.net_extract.specs.Spreading.{IsGroveOf}
+use Rattle.crossings.specs.{declared.crossing.Crossing.Crossing, Boxes.{AreSearchable, no_box}}
+use Rattle.net_extract.specs.{declared.{placing.Placed.Placed, reaching.Front.Front}, Pieces.{box_of, no_piece}}
+use Rattle.net_extract.specs.{Pieces.ArePieces, Spots.{AreSpots, IsPieceOn, MayBeBuried, piece_spot, box_spot}}
+use Rattle.net_extract.specs.{Spots.{cut_spot, ArePieceSpots, AreBoxSpots}, CutLists.{AreCrowdedSpots, IsCrowded}}
+use Rattle.net_extract.specs.{CutLists.{IsNewPieceGrove, IsPieceGrove, ArePartsWithin}, Spreading.IsGroveOf}
 use Rattle.net_extract.proofs.Searched.{piece_placed}
 
 all_placed : (n : ℕ) (P : ℕ → Type 0) (show : ℕ → Spot) (spots : List Spot) → ((a : ℕ) → a < n → P a → IsPlacedBox (show a).area) → AreSpots n P show spots → All (λ (spot : Spot). IsPlacedBox spot.area) spots

@@ -1,29 +1,19 @@
 -- What is beside a node, by the spots that are found.
-use Rattle.std.proofs.Common.{◌≡◌, ◌≢◌, ℕ, ◌+◌, ◌<◌, All, Contains, List, length, get_or, pos, ◌⊎◌, inl, inr, refl, sym, ◌∙◌, ap, subst, arith}
-use Rattle.std.proofs.lemmas.Bool.{cases_lt}
-use Rattle.std.proofs.lemmas.List.{get_or_default}
+use Rattle.std.proofs.Common.{◌≡◌, ◌≢◌, ℕ, ◌+◌, ◌<◌, All, Contains, List, length, get_or, pos, ◌⊎◌, inl, inr, refl, sym}
+use Rattle.std.proofs.{Common.{◌∙◌, ap, subst, arith}, lemmas.{Bool.cases_lt, List.get_or_default}}
 use Rattle.std.specs.Prelude.{IsTrue}
-use Rattle.box_tree.specs.declared.query.Query.{Query}
-use Rattle.box_tree.specs.declared.query.Question.TheVariants.{NearOfOther}
-use Rattle.box_tree.specs.declared.spots.Spot.{Spot}
-use Rattle.box_tree.specs.Queries.{Holds}
-use Rattle.lam_geom.specs.declared.boxes.BoxXY.{BoxXY}
-use Rattle.lam_geom.specs.declared.boxes.MaskBox.{MaskBox}
-use Rattle.lam_geom.specs.declared.boxes.MaskLayer.{MaskLayer}
-use Rattle.lam_geom.specs.declared.boxes.MaskLayer.TheVariants.{ND, NP, NM, NC}
-use Rattle.lam_geom.specs.Gaps.{gap_of_boxes, Overlaps}
-use Rattle.rule_table.specs.declared.technology.Tech.{Tech}
-use Rattle.rule_table.specs.Technology.{has_buried_of}
-use Rattle.crossings.specs.declared.crossing.Crossing.{Crossing}
-use Rattle.crossings.specs.Boxes.{IsOn, area_at, layer_at}
-use Rattle.net_extract.specs.declared.placing.Placed.{Placed}
-use Rattle.box_tree.specs.Groves.{spot_of, IsOf}
-use Rattle.net_extract.specs.Linking.{IsPairWith, IsJoining, IsOverCut, cut_node, AreBeside, IsOver}
-use Rattle.net_extract.specs.Pieces.{box_of, area_of, no_piece, piece_at, IsPiece, ArePieces}
-use Rattle.net_extract.specs.Spots.{IsPieceOn, MayBeBuried, piece_spot, box_spot, cut_spot, AreSpots, ArePieceSpots, AreBoxSpots}
-use Rattle.net_extract.specs.CutLists.{AreOfTwo, AreLists, IsInList, IsCrowded, AreCrowdedSpots, IsListedOver}
-use Rattle.net_extract.specs.Spreading.{IsAnswer, IsCrowdedAnswer, IsPartner, IsBuriedOf}
-use Rattle.net_extract.proofs.Geometry.{overlaps_back}
+use Rattle.box_tree.specs.declared.{query.{Query.Query, Question.TheVariants.NearOfOther}, spots.Spot.Spot}
+use Rattle.box_tree.specs.{Queries.Holds, Groves.{spot_of, IsOf}}
+use Rattle.lam_geom.specs.declared.boxes.{BoxXY.BoxXY, MaskBox.MaskBox, MaskLayer.{MaskLayer, TheVariants.{ND, NP, NM}}}
+use Rattle.lam_geom.specs.{declared.boxes.MaskLayer.TheVariants.NC, Gaps.{gap_of_boxes, Overlaps}}
+use Rattle.rule_table.specs.{declared.technology.Tech.Tech, Technology.has_buried_of}
+use Rattle.crossings.specs.{declared.crossing.Crossing.Crossing, Boxes.{IsOn, area_at, layer_at}}
+use Rattle.net_extract.specs.{declared.placing.Placed.Placed, Linking.{IsPairWith, IsJoining, IsOverCut, cut_node}}
+use Rattle.net_extract.specs.{Linking.{AreBeside, IsOver}, Pieces.{box_of, area_of, no_piece, piece_at, IsPiece}}
+use Rattle.net_extract.specs.{Pieces.ArePieces, Spots.{IsPieceOn, MayBeBuried, piece_spot, box_spot, cut_spot}}
+use Rattle.net_extract.specs.{Spots.{AreSpots, ArePieceSpots, AreBoxSpots}, CutLists.{AreOfTwo, AreLists, IsInList}}
+use Rattle.net_extract.specs.{CutLists.{IsCrowded, AreCrowdedSpots, IsListedOver}, Spreading.IsAnswer}
+use Rattle.net_extract.{specs.Spreading.{IsCrowdedAnswer, IsPartner, IsBuriedOf}, proofs.Geometry.overlaps_back}
 use Rattle.net_extract.proofs.Shown.{over_query, on_layers, not_a_cut, below_zero, at_most_below}
 
 -- ---- spots and their nodes

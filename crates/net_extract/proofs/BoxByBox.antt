@@ -1,29 +1,20 @@
 -- The pieces of boxes, box by box.
-use Rattle.std.proofs.Common.{◌≡◌, ℕ, ◌+◌, ◌-◌, ◌*◌, ◌<◌, ◌≤◌, Bool, true, false, List, [], ◌∷◌, ◌++◌, All, Option, Some, pos, length, map, get_or, inl, inr, refl, sym, ◌∙◌, ap, subst, arith, append_assoc, length-append}
-use Rattle.std.specs.Prelude.{is_some, IfSome, flat_map}
-use Rattle.std.specs.List.{range_with_len}
-use Rattle.std.proofs.lemmas.Bool.{cases_lt, cases_order, ne_eqb}
-use Rattle.std.proofs.lemmas.List.{get_or_append_left, get_or-append_right, get_or_push, length_push, length-map, map-append}
-use Rattle.std.proofs.lemmas.List.Elements.{All-append, All-cons, All-nil}
-use Rattle.std.proofs.lemmas.List.Folds.{list_any_none}
+use Rattle.std.proofs.Common.{◌≡◌, ℕ, ◌+◌, ◌-◌, ◌*◌, ◌<◌, ◌≤◌, Bool, true, false, List, [], ◌∷◌, ◌++◌, All, Option}
+use Rattle.std.proofs.Common.{Some, pos, length, map, get_or, inl, inr, refl, sym, ◌∙◌, ap, subst, arith, append_assoc}
+use Rattle.std.proofs.{Common.length-append, lemmas.{Bool.{cases_lt, cases_order, ne_eqb}, List.get_or_append_left}}
+use Rattle.std.proofs.lemmas.List.{get_or-append_right, get_or_push, length_push, length-map, map-append}
+use Rattle.std.proofs.lemmas.List.{Elements.{All-append, All-cons, All-nil}, Folds.list_any_none}
+use Rattle.std.specs.{Prelude.{is_some, IfSome, flat_map}, List.range_with_len}
 use Rattle.list_facts.proofs.Pieces.{piece_added}
-use Rattle.lam_geom.specs.declared.boxes.BoxXY.{BoxXY}
-use Rattle.lam_geom.specs.declared.boxes.MaskBox.{MaskBox}
-use Rattle.lam_geom.specs.declared.boxes.MaskLayer.{MaskLayer}
-use Rattle.lam_geom.specs.declared.boxes.MaskLayer.TheVariants.{ND}
-use Rattle.lam_geom.specs.declared.boxes.MaskLayer.TheVariants as layers
+use Rattle.lam_geom.specs.declared.boxes.{BoxXY.BoxXY, MaskBox.MaskBox, MaskLayer.{MaskLayer, TheVariants.ND}}
 use Rattle.lam_geom.specs.Gaps.{Encloses}
-use Rattle.crossings.specs.declared.crossing.Crossing.{Crossing}
-use Rattle.crossings.specs.Boxes.{area_at, layer_at}
-use Rattle.crossings.specs.Crossings.{AreInOrder}
-use Rattle.net_extract.specs.declared.netlist.Part.{Part}
-use Rattle.net_extract.specs.declared.netlist.Part.TheVariants.{Whole, Low, High}
-use Rattle.net_extract.specs.declared.placing.Placed.{Placed}
-use Rattle.net_extract.specs.Places.{Place, place, parts_on, crosses_box, is_crossed, places_at}
-use Rattle.net_extract.specs.Extraction.{IsOfBox, IsAreaOfPart, IsLowPiece, IsHighPiece}
-use Rattle.net_extract.specs.Pieces.{no_piece, box_of, stand_of, Conducts, IsPiece, AreStarts, ArePieces, IsPartOf, IsCursor, diffusion_at}
-use Rattle.net_extract.specs.Placing.{IsOfBoxAt, AreOfBox}
-use Rattle.net_extract.proofs.Areas.{diffusion_read}
+use Rattle.lam_geom.specs.declared.boxes.MaskLayer.TheVariants as layers
+use Rattle.crossings.specs.{declared.crossing.Crossing.Crossing, Boxes.{area_at, layer_at}, Crossings.AreInOrder}
+use Rattle.net_extract.specs.declared.{netlist.Part.{Part, TheVariants.{Whole, Low, High}}, placing.Placed.Placed}
+use Rattle.net_extract.specs.{Places.{Place, place, parts_on, crosses_box, is_crossed, places_at}, Extraction.IsOfBox}
+use Rattle.net_extract.specs.{Extraction.{IsAreaOfPart, IsLowPiece, IsHighPiece}, Pieces.{no_piece, box_of, stand_of}}
+use Rattle.net_extract.specs.Pieces.{Conducts, IsPiece, AreStarts, ArePieces, IsPartOf, IsCursor, diffusion_at}
+use Rattle.net_extract.{specs.Placing.{IsOfBoxAt, AreOfBox}, proofs.Areas.diffusion_read}
 use Rattle.graph_search.proofs.Marks.{below_cases}
 
 -- ---- the crossing of a box

@@ -1,15 +1,10 @@
 -- Pieces of which it is told which are of one net have one netlist.
-use Rattle.std.proofs.Common.{◌≡◌, ℕ, List, [], ◌∷◌, length, map, sym, ◌∙◌, ap}
-use Rattle.std.proofs.lemmas.List.{length-map}
+use Rattle.std.proofs.{Common.{◌≡◌, ℕ, List, [], ◌∷◌, length, map, sym, ◌∙◌, ap}, lemmas.List.length-map}
 use Rattle.graph_search.specs.Netting.{next_net}
 use Rattle.net_extract.proofs.Agreeing.{agreeing_same}
-use Rattle.crossings.specs.declared.crossing.Crossing.{Crossing}
-use Rattle.net_extract.specs.declared.netlist.Device.{Device}
-use Rattle.net_extract.specs.declared.netlist.Netlist.{Netlist}
-use Rattle.net_extract.specs.declared.netlist.Part.{Part}
-use Rattle.net_extract.specs.declared.netlist.Piece.{Piece}
-use Rattle.net_extract.specs.Places.{Place}
+use Rattle.net_extract.specs.{declared.netlist.{Device.Device, Netlist.Netlist, Part.Part, Piece.Piece}, Places.Place}
 use Rattle.net_extract.specs.Netlists.{place_of, nets_of, device_of, IsNetlistOf}
+use Rattle.crossings.specs.declared.crossing.Crossing.{Crossing}
 
 piece_same : (x y : Piece) → place_of x ≡ place_of y → x.net ≡ y.net → x ≡ y
 piece_same x y p n =

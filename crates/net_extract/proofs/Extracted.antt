@@ -1,27 +1,17 @@
 -- What is extracted: from crossings, pieces, links and numbers to the netlist.
 use Rattle.std.proofs.Common.{◌≡◌, ℕ, ◌+◌, ◌<◌, ◌≤◌, List, All, pos, length, map, get_or, sym, ◌∙◌, ap, subst, arith}
-use Rattle.std.proofs.lemmas.Int.{ints, clamps}
-use Rattle.std.proofs.lemmas.List.{get_or-map, length-map}
-use Rattle.lam_geom.specs.declared.boxes.BoxXY.{BoxXY}
-use Rattle.lam_geom.specs.declared.boxes.MaskBox.{MaskBox}
-use Rattle.lam_geom.specs.Gaps.{Encloses}
+use Rattle.std.proofs.lemmas.{Int.{ints, clamps}, List.{get_or-map, length-map}}
+use Rattle.lam_geom.specs.{declared.boxes.{BoxXY.BoxXY, MaskBox.MaskBox}, Gaps.Encloses}
 use Rattle.rule_table.specs.declared.technology.Tech.{Tech}
 use Rattle.graph_search.specs.Netting.{next_net}
-use Rattle.crossings.specs.declared.crossing.Crossing.{Crossing}
-use Rattle.crossings.specs.declared.crossing.CrossingFault.{CrossingFault}
+use Rattle.crossings.specs.{declared.crossing.{Crossing.Crossing, CrossingFault.CrossingFault}, Boxes.AreSearchable}
+use Rattle.crossings.specs.{Boxes.{IsCommon, area_at, no_box}, Crossings.{AreProper, AreCrossings, IsCrossing}}
 use Rattle.crossings.specs.declared.crossing.CrossingFault.TheVariants as crossing
-use Rattle.crossings.specs.Boxes.{AreSearchable, IsCommon, area_at, no_box}
-use Rattle.crossings.specs.Crossings.{AreProper, AreCrossings, IsCrossing}
 use Rattle.crossings.specs.Crossings as found
-use Rattle.net_extract.specs.declared.netlist.Netlist.{Netlist}
-use Rattle.net_extract.specs.declared.netlist.Piece.{Piece}
-use Rattle.net_extract.specs.declared.placing.Placed.{Placed}
-use Rattle.net_extract.specs.Places.{Place}
-use Rattle.net_extract.specs.Netlists.{place_of, nets_of, device_of}
-use Rattle.net_extract.specs.Extraction.{AreNets, IsExtracted, IsCauseOf}
-use Rattle.net_extract.specs.Faults.{fault_of}
-use Rattle.net_extract.specs.Pieces.{no_piece, box_of, stand_of, AreStarts, ArePieces, IsWithinDiffusion}
-use Rattle.net_extract.specs.Devices.{no_netted, box_of_netted, AreRanges, HasBoxes}
+use Rattle.net_extract.specs.{declared.{netlist.{Netlist.Netlist, Piece.Piece}, placing.Placed.Placed}, Places.Place}
+use Rattle.net_extract.specs.{Netlists.{place_of, nets_of, device_of}, Extraction.{AreNets, IsExtracted, IsCauseOf}}
+use Rattle.net_extract.specs.{Faults.fault_of, Pieces.{no_piece, box_of, stand_of, AreStarts, ArePieces}}
+use Rattle.net_extract.specs.{Pieces.IsWithinDiffusion, Devices.{no_netted, box_of_netted, AreRanges, HasBoxes}}
 use Rattle.net_extract.proofs.Geometry.{placed_inner}
 
 -- ---- crossings

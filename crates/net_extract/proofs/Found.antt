@@ -1,25 +1,16 @@
 -- What is found over a cut: from the spots of groves to all pieces over it, or to pieces of two boxes.
-use Rattle.std.proofs.Common.{◌≡◌, ℕ, ◌+◌, ◌<◌, ◌≤◌, All, Bool, true, false, List, [], length, Contains, ◌⊎◌, inl, inr, refl, sym, ap, subst, arith}
-use Rattle.box_tree.specs.declared.query.Query.{Query}
-use Rattle.box_tree.specs.declared.spots.Group.{Group}
-use Rattle.box_tree.specs.declared.spots.Spot.{Spot}
-use Rattle.box_tree.specs.Queries.{Holds}
-use Rattle.lam_geom.specs.declared.boxes.MaskBox.{MaskBox}
-use Rattle.lam_geom.specs.declared.boxes.MaskLayer.TheVariants.{ND, NP, NC, NM}
-use Rattle.crossings.specs.declared.crossing.Crossing.{Crossing}
-use Rattle.crossings.specs.Boxes.{IsOn, area_at, box_at, layer_at}
-use Rattle.box_tree.specs.declared.tree.OwnedParts.{OwnedParts}
-use Rattle.net_extract.specs.declared.over.PieceGroves.{PieceGroves}
-use Rattle.net_extract.specs.declared.placing.Placed.{Placed}
-use Rattle.net_extract.specs.CutLists.{AreFound, AreOfTwo, ArePieceGroves, IsListOver, IsOfAny}
-use Rattle.box_tree.specs.Groves.{AreTagsWithin, IsOf, AreTreeParts, IsRead, IsUnvisited, IsUnvisitedWithin, begin_at}
-use Rattle.box_tree.specs.Found.{AreGathered}
-use Rattle.net_extract.specs.Linking.{IsJoining, IsOver}
-use Rattle.net_extract.specs.Pieces.{ArePieces}
-use Rattle.net_extract.proofs.Beside.{answers_forth, answers_back, over_forth, over_back, two_joins, joins_two}
-use Rattle.net_extract.proofs.Shown.{over_query}
-use Rattle.net_extract.proofs.Steps.{all_among}
+use Rattle.std.proofs.Common.{◌≡◌, ℕ, ◌+◌, ◌<◌, ◌≤◌, All, Bool, true, false, List, [], length, Contains, ◌⊎◌, inl, inr}
+use Rattle.std.proofs.Common.{refl, sym, ap, subst, arith}
+use Rattle.box_tree.specs.declared.{query.Query.Query, spots.{Group.Group, Spot.Spot}, tree.OwnedParts.OwnedParts}
+use Rattle.box_tree.specs.{Queries.Holds, Groves.{AreTagsWithin, IsOf, AreTreeParts, IsRead, IsUnvisited}}
+use Rattle.box_tree.specs.{Groves.{IsUnvisitedWithin, begin_at}, Found.AreGathered}
 use Rattle.box_tree.proofs.Walk.{IsWalked, walked_leaf, walked_all, within_of}
+use Rattle.lam_geom.specs.declared.boxes.{MaskBox.MaskBox, MaskLayer.TheVariants.{ND, NP, NC, NM}}
+use Rattle.crossings.specs.{declared.crossing.Crossing.Crossing, Boxes.{IsOn, area_at, box_at, layer_at}}
+use Rattle.net_extract.specs.{declared.{over.PieceGroves.PieceGroves, placing.Placed.Placed}, CutLists.AreFound}
+use Rattle.net_extract.specs.{CutLists.{AreOfTwo, ArePieceGroves, IsListOver, IsOfAny}, Linking.{IsJoining, IsOver}}
+use Rattle.net_extract.{specs.Pieces.ArePieces, proofs.Beside.{answers_forth, answers_back, over_forth, over_back}}
+use Rattle.net_extract.proofs.{Beside.{two_joins, joins_two}, Shown.over_query, Steps.all_among}
 
 -- ---- in one grove
 

@@ -1,10 +1,7 @@
 -- Boxes that touch and overlap.
-use Rattle.std.proofs.Common.{pos, ◌≤ℤ◌, arith}
-use Rattle.std.proofs.lemmas.Int.{ints, clamps}
-use Rattle.lam_geom.specs.declared.boxes.BoxXY.{BoxXY}
-use Rattle.lam_geom.specs.declared.boxes.Span.{Span}
-use Rattle.lam_geom.specs.Gaps.{gap_of, Touches, Overlaps, Encloses, EnclosesSpan}
-use Rattle.lam_geom.specs.Places.{IsPlacedBox, IsPlacedSpan}
+use Rattle.std.proofs.{Common.{pos, ◌≤ℤ◌, arith}, lemmas.Int.{ints, clamps}}
+use Rattle.lam_geom.specs.declared.boxes.{BoxXY.BoxXY, Span.Span}
+use Rattle.lam_geom.specs.{Gaps.{gap_of, Touches, Overlaps, Encloses, EnclosesSpan}, Places.{IsPlacedBox, IsPlacedSpan}}
 
 -- what touches a span within another touches that one
 span_outer : (a outer inner : Span) → EnclosesSpan outer inner (pos 0) → gap_of a inner ≤ℤ pos 0 → gap_of a outer ≤ℤ pos 0

@@ -1,20 +1,18 @@
 -- Lists of the pieces over cuts, one cut after another, and the chains of their entries.
-use Rattle.std.proofs.Common.{◌≡◌, ℕ, ◌+◌, ◌-◌, ◌<◌, ◌≤◌, Bool, true, false, List, [], ◌∷◌, ◌++◌, length, set, get_or, take, drop, Contains, inl, inr, refl, sym, ◌∙◌, ap, subst, arith, length-append, length-drop, length-set, length-take, get_or-set_other, get_or-set_same}
-use Rattle.std.specs.Prelude.{IsFalse, IsTrue}
-use Rattle.std.proofs.lemmas.Bool.{cases_lt, cases_eq}
-use Rattle.std.proofs.lemmas.Int.{clamps}
-use Rattle.std.proofs.lemmas.List.{get_or-append-add, get_or-drop, get_or-take, get_or_append_left, get_or_default, get_or_push, length_push}
-use Rattle.std.proofs.lemmas.List.Elements.{Contains-get_or}
-use Rattle.box_tree.specs.declared.spots.Spot.{Spot}
-use Rattle.lam_geom.specs.declared.boxes.MaskBox.{MaskBox}
-use Rattle.net_extract.specs.declared.placing.Placed.{Placed}
-use Rattle.net_extract.specs.CutLists.{AreChains, AreCrowdedSpots, AreLists, IsCrowded, IsInList, IsLastOf, IsListOver, IsListed, IsListedOver}
-use Rattle.box_tree.specs.Found.{AreGathered}
-use Rattle.net_extract.specs.Linking.{IsJoining, IsOver}
-use Rattle.net_extract.specs.Spots.{AreSpots, cut_spot}
-use Rattle.graph_search.proofs.Marks.{below_cases}
+use Rattle.std.proofs.Common.{◌≡◌, ℕ, ◌+◌, ◌-◌, ◌<◌, ◌≤◌, Bool, true, false, List, [], ◌∷◌, ◌++◌, length, set, get_or}
+use Rattle.std.proofs.Common.{take, drop, Contains, inl, inr, refl, sym, ◌∙◌, ap, subst, arith, length-append}
+use Rattle.std.proofs.Common.{length-drop, length-set, length-take, get_or-set_other, get_or-set_same}
+use Rattle.std.proofs.lemmas.{Bool.{cases_lt, cases_eq}, Int.clamps, List.{get_or-append-add, get_or-drop, get_or-take}}
+use Rattle.std.proofs.lemmas.List.{get_or_append_left, get_or_default, get_or_push, length_push}
+use Rattle.std.{proofs.lemmas.List.Elements.Contains-get_or, specs.Prelude.{IsFalse, IsTrue}}
+use Rattle.box_tree.specs.{declared.spots.Spot.Spot, Found.AreGathered}
 use Rattle.box_tree.proofs.Growth.{gathered_more, gathered_none, gathered_push}
+use Rattle.lam_geom.specs.declared.boxes.MaskBox.{MaskBox}
+use Rattle.net_extract.specs.{declared.placing.Placed.Placed, CutLists.{AreChains, AreCrowdedSpots, AreLists}}
+use Rattle.net_extract.specs.CutLists.{IsCrowded, IsInList, IsLastOf, IsListOver, IsListed, IsListedOver}
+use Rattle.net_extract.specs.{Linking.{IsJoining, IsOver}, Spots.{AreSpots, cut_spot}}
 use Rattle.net_extract.proofs.Shown.{shown_push, shown_skip}
+use Rattle.graph_search.proofs.Marks.{below_cases}
 
 -- ---- one cut after another
 

@@ -1,14 +1,11 @@
 -- The net of a piece by its place, and pieces with their nets.
-use Rattle.std.proofs.Common.{◌≡◌, ℕ, zero, suc, ◌+◌, ◌<◌, ◌≤◌, true, false, List, [], ◌∷◌, ◌++◌, length, map, take, get_or, inl, inr, refl, sym, ◌∙◌, ap, subst, arith, eq-eqb}
+use Rattle.std.proofs.Common.{◌≡◌, ℕ, zero, suc, ◌+◌, ◌<◌, ◌≤◌, true, false, List, [], ◌∷◌, ◌++◌, length, map, take}
+use Rattle.std.proofs.Common.{get_or, inl, inr, refl, sym, ◌∙◌, ap, subst, arith, eq-eqb}
 use Rattle.std.proofs.lemmas.Bool.{cases_lt, cond-true, cond-false, ne_eqb, and_from, and_left, and_right}
 use Rattle.std.proofs.lemmas.List.{map_push, map_more, take_more}
-use Rattle.net_extract.specs.declared.netlist.Part.{Part}
-use Rattle.net_extract.specs.declared.netlist.Piece.{Piece}
-use Rattle.net_extract.specs.declared.placing.Placed.{Placed}
-use Rattle.net_extract.specs.Places.{Place, place}
-use Rattle.net_extract.specs.Netlists.{place_of, nets_of, is_same_part, stands_at, net_at}
-use Rattle.net_extract.specs.Pieces.{no_piece, stand_of}
-use Rattle.net_extract.specs.Devices.{no_netted, box_of_netted, AreRanges}
+use Rattle.net_extract.specs.declared.{netlist.{Part.Part, Piece.Piece}, placing.Placed.Placed}
+use Rattle.net_extract.specs.{Places.{Place, place}, Netlists.{place_of, nets_of, is_same_part, stands_at, net_at}}
+use Rattle.net_extract.specs.{Pieces.{no_piece, stand_of}, Devices.{no_netted, box_of_netted, AreRanges}}
 
 -- the first piece that stands at a place
 pub net_found : (pieces : List Piece) (p : Place) (j : ℕ) → j < length pieces → stands_at p (get_or pieces j no_netted) ≡ true

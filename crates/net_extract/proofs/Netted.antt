@@ -3,14 +3,9 @@ use Rattle.std.proofs.Common.{◌≡◌, ℕ, Option, List, length, arith}
 use Rattle.lam_geom.specs.declared.boxes.MaskBox.{MaskBox}
 use Rattle.rule_table.specs.declared.technology.Tech.{Tech}
 use Rattle.graph_search.proofs.Numbering.{IsNumbering, numbering_joined, numbering_same}
-use Rattle.crossings.specs.declared.crossing.Crossing.{Crossing}
-use Rattle.crossings.specs.Crossings.{AreInOrder}
-use Rattle.net_extract.specs.declared.placing.Placed.{Placed}
-use Rattle.net_extract.specs.Extraction.{AreNets}
-use Rattle.net_extract.specs.Linking.{AreBeside}
-use Rattle.net_extract.specs.Pieces.{ArePieces}
-use Rattle.net_extract.proofs.AllLinks.{pieces_counted}
-use Rattle.net_extract.proofs.Nodes.{nodes_link, links_nodes}
+use Rattle.crossings.specs.{declared.crossing.Crossing.Crossing, Crossings.AreInOrder}
+use Rattle.net_extract.specs.{declared.placing.Placed.Placed, Extraction.AreNets, Linking.AreBeside, Pieces.ArePieces}
+use Rattle.net_extract.proofs.{AllLinks.pieces_counted, Nodes.{nodes_link, links_nodes}}
 
 -- the numbers of all pieces are their nets
 pub nets_made : (tech : Tech) (boxes : List MaskBox) (crossings : List Crossing) (pieces : List Placed) (starts : List ℕ) (marks : List (Option ℕ)) (nets : List ℕ) (count : ℕ) → AreInOrder crossings

@@ -1,20 +1,14 @@
 -- Chains over nodes lead from piece to piece exactly where chains of links do.
-use Rattle.std.proofs.Common.{◌≡◌, ◌≢◌, ℕ, zero, suc, ◌-◌, ◌<◌, ◌≤◌, List, length, ◌⊎◌, inl, inr, refl, sym, ◌∙◌, subst, arith}
-use Rattle.std.proofs.lemmas.Bool.{cases_eq}
-use Rattle.lam_geom.specs.declared.boxes.MaskBox.{MaskBox}
-use Rattle.lam_geom.specs.Gaps.{Overlaps}
+use Rattle.std.proofs.Common.{◌≡◌, ◌≢◌, ℕ, zero, suc, ◌-◌, ◌<◌, ◌≤◌, List, length, ◌⊎◌, inl, inr, refl, sym, ◌∙◌, subst}
+use Rattle.std.proofs.{Common.arith, lemmas.Bool.cases_eq}
+use Rattle.lam_geom.specs.{declared.boxes.MaskBox.MaskBox, Gaps.Overlaps}
 use Rattle.rule_table.specs.declared.technology.Tech.{Tech}
 use Rattle.graph_search.specs.Netting.{Chain, Reaches}
 use Rattle.graph_search.proofs.Chains.{reaches_none, reaches_one, reaches_more, reaches_trans}
-use Rattle.crossings.specs.declared.crossing.Crossing.{Crossing}
-use Rattle.crossings.specs.Boxes.{area_at}
-use Rattle.crossings.specs.Crossings.{AreInOrder}
-use Rattle.net_extract.specs.declared.placing.Placed.{Placed}
-use Rattle.net_extract.specs.Extraction.{IsLink}
-use Rattle.net_extract.specs.Pieces.{box_of, area_of, ArePieces}
+use Rattle.crossings.specs.{declared.crossing.Crossing.Crossing, Boxes.area_at, Crossings.AreInOrder}
+use Rattle.net_extract.specs.{declared.placing.Placed.Placed, Extraction.IsLink, Pieces.{box_of, area_of, ArePieces}}
 use Rattle.net_extract.specs.Linking.{IsTouch, IsOverBoth, IsContact, IsJoining, cut_node, IsOverCut, IsNode, AreBeside}
-use Rattle.net_extract.proofs.AllLinks.{touch_is_link, cut_is_link, contact_is_link, link_kind}
-use Rattle.net_extract.proofs.Geometry.{touches_back}
+use Rattle.net_extract.proofs.{AllLinks.{touch_is_link, cut_is_link, contact_is_link, link_kind}, Geometry.touches_back}
 
 -- ---- nodes beside each other
 

@@ -1,25 +1,15 @@
 -- Searches, as one of their groves is looked through.
 use Rattle.std.proofs.Common.{◌≡◌, ◌⊎◌, ℕ, ◌<◌, All, List, inr, length, sym, ◌∙◌, subst}
-use Rattle.lam_geom.specs.declared.boxes.MaskLayer.{MaskLayer}
-use Rattle.lam_geom.specs.Places.{IsPlacedBox}
-use Rattle.crossings.specs.declared.crossing.Crossing.{Crossing}
-use Rattle.crossings.specs.Boxes.{AreSearchable, area_at, no_box}
-use Rattle.graph_search.specs.Search.{AreKept}
-use Rattle.graph_search.proofs.Marks.{reached_as, reached_more, reached_none}
-use Rattle.box_tree.specs.declared.spots.Spot.{Spot}
-use Rattle.lam_geom.specs.declared.boxes.MaskBox.{MaskBox}
-use Rattle.rule_table.specs.declared.technology.Tech.{Tech}
-use Rattle.box_tree.specs.declared.groves.Grove.{Grove}
-use Rattle.box_tree.specs.declared.tree.OwnedParts.{OwnedParts}
-use Rattle.net_extract.specs.declared.placing.Placed.{Placed}
-use Rattle.net_extract.specs.declared.reaching.Front.{Front}
-use Rattle.net_extract.specs.declared.searches.Search.{Search}
+use Rattle.lam_geom.specs.{declared.boxes.{MaskLayer.MaskLayer, MaskBox.MaskBox}, Places.IsPlacedBox}
+use Rattle.crossings.specs.{declared.crossing.Crossing.Crossing, Boxes.{AreSearchable, area_at, no_box}}
+use Rattle.graph_search.{specs.Search.AreKept, proofs.Marks.{reached_as, reached_more, reached_none}}
+use Rattle.box_tree.specs.declared.{spots.Spot.Spot, groves.Grove.Grove, tree.OwnedParts.OwnedParts}
 use Rattle.box_tree.specs.Groves.{spot_of, AreTagsWithin}
+use Rattle.rule_table.specs.declared.technology.Tech.{Tech}
+use Rattle.net_extract.specs.declared.{placing.Placed.Placed, reaching.Front.Front, searches.Search.Search}
 use Rattle.net_extract.specs.Pieces.{box_of, area_of, no_piece, piece_at, IsPiece, IsOfBoxes, ArePieces}
-use Rattle.net_extract.specs.Spots.{MayBeBuried, box_spot, AreBoxSpots}
-use Rattle.net_extract.specs.Spreading.{IsFrontReached, IsGroveReached, IsGroveOf, IsSearch, IsStep}
-use Rattle.net_extract.proofs.Geometry.{placed_inner}
-use Rattle.net_extract.proofs.Steps.{grove_kept}
+use Rattle.net_extract.specs.{Spots.{MayBeBuried, box_spot, AreBoxSpots}, Spreading.{IsFrontReached, IsGroveReached}}
+use Rattle.net_extract.{specs.Spreading.{IsGroveOf, IsSearch, IsStep}, proofs.{Geometry.placed_inner, Steps.grove_kept}}
 
 -- the grove that was looked through
 grown : (Are : List Spot → Type 0) (Is : ℕ → Type 0) (net : ℕ) (grove new : Grove) (old front : Front) → IsGroveReached Is net grove new old front → IsGroveOf Are old grove → IsGroveOf Are front new

@@ -1,22 +1,14 @@
 -- Lists of spots: one more, and what lies over a cut.
-use Rattle.std.proofs.Common.{◌≡◌, ◌≢◌, ℕ, ◌+◌, ◌<◌, pos, List, [], ◌∷◌, ◌++◌, length, get_or, ◌⊎◌, inl, inr, refl, sym, ◌∙◌, ap, subst, arith}
-use Rattle.std.specs.Prelude.{negsuc, ◌<ℤ◌, ◌≤ℤ◌, ℤ}
-use Rattle.std.proofs.lemmas.Int.{ints}
-use Rattle.std.proofs.lemmas.List.{get_or_append_left, get_or_default, get_or_push, get_or_read, length_push}
-use Rattle.box_tree.specs.declared.query.Query.{Query}
-use Rattle.box_tree.specs.declared.query.Question.TheVariants.{NearOfOther}
-use Rattle.box_tree.specs.declared.spots.Spot.{Spot}
-use Rattle.box_tree.specs.Tree.{no_spot}
-use Rattle.lam_geom.specs.declared.boxes.BoxXY.{BoxXY}
-use Rattle.lam_geom.specs.declared.boxes.MaskBox.{MaskBox}
-use Rattle.lam_geom.specs.declared.boxes.MaskLayer.{MaskLayer}
-use Rattle.lam_geom.specs.declared.boxes.MaskLayer.TheVariants.{ND, NP, NC, NM, NI, NB}
-use Rattle.crossings.specs.declared.crossing.Crossing.{Crossing}
-use Rattle.crossings.specs.Boxes.{layer_at, box_at, no_box}
+use Rattle.std.proofs.Common.{◌≡◌, ◌≢◌, ℕ, ◌+◌, ◌<◌, pos, List, [], ◌∷◌, ◌++◌, length, get_or, ◌⊎◌, inl, inr, refl, sym}
+use Rattle.std.proofs.{Common.{◌∙◌, ap, subst, arith}, lemmas.{Int.ints, List.{get_or_append_left, get_or_default}}}
+use Rattle.std.{proofs.lemmas.List.{get_or_push, get_or_read, length_push}, specs.Prelude.{negsuc, ◌<ℤ◌, ◌≤ℤ◌, ℤ}}
+use Rattle.box_tree.specs.declared.{query.{Query.Query, Question.TheVariants.NearOfOther}, spots.Spot.Spot}
+use Rattle.box_tree.specs.{Tree.no_spot, Groves.spot_of}
+use Rattle.lam_geom.specs.declared.boxes.{BoxXY.BoxXY, MaskBox.MaskBox, MaskLayer.{MaskLayer, TheVariants.{ND, NP, NC}}}
+use Rattle.lam_geom.specs.declared.boxes.MaskLayer.TheVariants.{NM, NI, NB}
+use Rattle.crossings.specs.{declared.crossing.Crossing.Crossing, Boxes.{layer_at, box_at, no_box}}
 use Rattle.net_extract.specs.declared.placing.Placed.{Placed}
-use Rattle.box_tree.specs.Groves.{spot_of}
-use Rattle.net_extract.specs.Pieces.{Conducts, box_of, no_piece, piece_at, IsPiece, ArePieces}
-use Rattle.net_extract.specs.Spots.{AreSpots}
+use Rattle.net_extract.specs.{Pieces.{Conducts, box_of, no_piece, piece_at, IsPiece, ArePieces}, Spots.AreSpots}
 use Rattle.graph_search.proofs.Marks.{below_cases}
 
 -- ---- lists that grow

@@ -1,21 +1,15 @@
 -- Steps of a search: from the spots that were found to the nodes that they show.
-use Rattle.std.proofs.Common.{◌≡◌, ℕ, ◌+◌, ◌<◌, Option, List, All, [], ◌∷◌, ◌++◌, length, take, get_or, Contains, ◌⊎◌, inl, inr, sym, subst, arith}
-use Rattle.std.proofs.lemmas.List.Elements.{Contains-get_or}
-use Rattle.box_tree.specs.declared.query.Query.{Query}
-use Rattle.box_tree.specs.declared.spots.Spot.{Spot}
-use Rattle.box_tree.specs.Queries.{Holds}
-use Rattle.graph_search.specs.Search.{AreKept, AreReached, AreVisited}
-use Rattle.graph_search.proofs.Marks.{mark_cases, kept_marked, unmarked_before, reached_as, taken_earlier, taken_last, taken_cases}
+use Rattle.std.proofs.Common.{◌≡◌, ℕ, ◌+◌, ◌<◌, Option, List, All, [], ◌∷◌, ◌++◌, length, take, get_or, Contains, ◌⊎◌}
+use Rattle.std.proofs.{Common.{inl, inr, sym, subst, arith}, lemmas.List.Elements.Contains-get_or}
+use Rattle.box_tree.specs.{declared.{query.Query.Query, spots.Spot.Spot, groves.Grove.Grove}, Queries.Holds}
+use Rattle.box_tree.specs.{Groves.{AreTagsWithin, IsGrove, IsOf, IsUnvisited, spot_in}, Found.AreGathered}
+use Rattle.box_tree.proofs.Growth.{gathered_if}
+use Rattle.graph_search.{specs.Search.{AreKept, AreReached, AreVisited}, proofs.Marks.{mark_cases, kept_marked}}
+use Rattle.graph_search.proofs.Marks.{unmarked_before, reached_as, taken_earlier, taken_last, taken_cases}
 use Rattle.lam_geom.specs.declared.boxes.MaskBox.{MaskBox}
 use Rattle.rule_table.specs.declared.technology.Tech.{Tech}
-use Rattle.box_tree.specs.declared.groves.Grove.{Grove}
 use Rattle.net_extract.specs.declared.placing.Placed.{Placed}
-use Rattle.box_tree.specs.Groves.{AreTagsWithin, IsGrove, IsOf, IsUnvisited, spot_in}
-use Rattle.box_tree.specs.Found.{AreGathered}
-use Rattle.net_extract.specs.Linking.{IsPairWith}
-use Rattle.net_extract.specs.Pieces.{box_of}
-use Rattle.net_extract.specs.Spreading.{IsBuriedOf, IsOfPair}
-use Rattle.box_tree.proofs.Growth.{gathered_if}
+use Rattle.net_extract.specs.{Linking.IsPairWith, Pieces.box_of, Spreading.{IsBuriedOf, IsOfPair}}
 
 -- ---- what is found in a grove
 

@@ -1,19 +1,11 @@
 -- The pieces over cuts: what is found over one, lists of them for all cuts, and the entries of each piece.
-use Rattle.std.specs.Prelude.{◌≡◌, ◌≢◌, ℕ, ◌+◌, ◌-◌, ◌*◌, ◌<◌, ◌≤◌, ◌⊎◌, Bool, IsTrue, IsFalse, Contains, List, length, slice_index}
-use Rattle.box_tree.specs.declared.query.Query.{Query}
-use Rattle.box_tree.specs.declared.spots.Spot.{Spot}
-use Rattle.box_tree.specs.Queries.{Holds}
-use Rattle.lam_geom.specs.declared.boxes.MaskBox.{MaskBox}
-use Rattle.lam_geom.specs.declared.boxes.MaskLayer.{MaskLayer}
-use Rattle.lam_geom.specs.declared.boxes.MaskLayer.TheVariants.{ND, NP, NM}
-use Rattle.box_tree.specs.declared.groves.Grove.{Grove}
-use Rattle.box_tree.specs.declared.tree.OwnedParts.{OwnedParts}
-use Rattle.net_extract.specs.declared.over.PieceGroves.{PieceGroves}
-use Rattle.net_extract.specs.declared.placing.Placed.{Placed}
-use Rattle.box_tree.specs.Groves.{AreTagsWithin, IsNewGrove, IsOf, AreTreeParts}
-use Rattle.net_extract.specs.Linking.{IsJoining, IsOver}
-use Rattle.net_extract.specs.Pieces.{box_of}
-use Rattle.net_extract.specs.Spots.{AreSpots, ArePieceSpots, cut_spot}
+use Rattle.std.specs.Prelude.{◌≡◌, ◌≢◌, ℕ, ◌+◌, ◌-◌, ◌*◌, ◌<◌, ◌≤◌, ◌⊎◌, Bool, IsTrue, IsFalse, Contains, List, length}
+use Rattle.std.specs.Prelude.{slice_index}
+use Rattle.box_tree.specs.declared.{query.Query.Query, spots.Spot.Spot, groves.Grove.Grove, tree.OwnedParts.OwnedParts}
+use Rattle.box_tree.specs.{Queries.Holds, Groves.{AreTagsWithin, IsNewGrove, IsOf, AreTreeParts}}
+use Rattle.lam_geom.specs.declared.boxes.{MaskBox.MaskBox, MaskLayer.{MaskLayer, TheVariants.{ND, NP, NM}}}
+use Rattle.net_extract.specs.declared.{over.PieceGroves.PieceGroves, placing.Placed.Placed}
+use Rattle.net_extract.specs.{Linking.{IsJoining, IsOver}, Pieces.box_of, Spots.{AreSpots, ArePieceSpots, cut_spot}}
 
 -- ---- what is found over one cut
 

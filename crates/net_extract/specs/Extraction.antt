@@ -1,22 +1,14 @@
 -- What is extracted from mask boxes: pieces that are linked by touching, by a cut or by a buried contact are of one net.
 use Rattle.std.specs.Prelude.{◌≡◌, ◌≢◌, ◌↔◌, ℕ, ◌<◌, ℤ, Contains, List, length, slice_get, slice_index, Some}
-use Rattle.lam_geom.specs.declared.boxes.BoxXY.{BoxXY}
-use Rattle.lam_geom.specs.declared.boxes.MaskBox.{MaskBox}
-use Rattle.lam_geom.specs.declared.boxes.MaskLayer.TheVariants.{NC}
-use Rattle.lam_geom.specs.declared.boxes.Span.{Span}
+use Rattle.lam_geom.specs.declared.boxes.{BoxXY.BoxXY, MaskBox.MaskBox, MaskLayer.TheVariants.NC, Span.Span}
 use Rattle.lam_geom.specs.Gaps.{Touches, Overlaps, span_along}
 use Rattle.rule_table.specs.declared.technology.Tech.{Tech}
 use Rattle.graph_search.specs.Netting.{Reaches, IsNumberedInOrder}
-use Rattle.crossings.specs.declared.crossing.Crossing.{Crossing}
-use Rattle.crossings.specs.Boxes.{area_at, layer_at, IsOn, other}
+use Rattle.crossings.specs.{declared.crossing.Crossing.Crossing, Boxes.{area_at, layer_at, IsOn, other}}
 use Rattle.crossings.specs.Crossings.{IsBuriedPair, AreProper, AreCrossings, IsFirstBadPair}
-use Rattle.net_extract.specs.declared.netlist.ExtractFault.{ExtractFault}
-use Rattle.net_extract.specs.declared.netlist.ExtractFault.TheVariants.{NotProper, OutOfMemory}
-use Rattle.net_extract.specs.declared.netlist.Netlist.{Netlist}
-use Rattle.net_extract.specs.declared.netlist.Part.{Part}
-use Rattle.net_extract.specs.declared.netlist.Part.TheVariants.{Whole, Low, High}
-use Rattle.net_extract.specs.Places.{Place, places_of}
-use Rattle.net_extract.specs.Netlists.{IsNetlistOf}
+use Rattle.net_extract.specs.declared.netlist.ExtractFault.{ExtractFault, TheVariants.{NotProper, OutOfMemory}}
+use Rattle.net_extract.specs.declared.netlist.{Netlist.Netlist, Part.{Part, TheVariants.{Whole, Low, High}}}
+use Rattle.net_extract.specs.{Places.{Place, places_of}, Netlists.IsNetlistOf}
 
 -- ---- where a piece lies
 

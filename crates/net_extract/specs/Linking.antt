@@ -1,13 +1,9 @@
 -- Which pieces are linked by the areas that they cover, and the nodes of the search: the pieces, and the cuts that join some of them.
 use Rattle.std.specs.Prelude.{◌≡◌, ◌≢◌, ℕ, ◌+◌, ◌<◌, ◌⊎◌, List, length}
-use Rattle.lam_geom.specs.declared.boxes.MaskBox.{MaskBox}
-use Rattle.lam_geom.specs.declared.boxes.MaskLayer.TheVariants.{NC}
-use Rattle.lam_geom.specs.Gaps.{Touches, Overlaps}
+use Rattle.lam_geom.specs.{declared.boxes.{MaskBox.MaskBox, MaskLayer.TheVariants.NC}, Gaps.{Touches, Overlaps}}
 use Rattle.rule_table.specs.declared.technology.Tech.{Tech}
-use Rattle.crossings.specs.Boxes.{area_at, layer_at, IsOn}
-use Rattle.crossings.specs.Crossings.{IsBuriedPair}
-use Rattle.net_extract.specs.declared.placing.Placed.{Placed}
-use Rattle.net_extract.specs.Pieces.{box_of, area_of}
+use Rattle.crossings.specs.{Boxes.{area_at, layer_at, IsOn}, Crossings.IsBuriedPair}
+use Rattle.net_extract.specs.{declared.placing.Placed.Placed, Pieces.{box_of, area_of}}
 
 -- ---- kinds of links
 

@@ -1,15 +1,11 @@
 -- Netlists: pieces with their nets, and devices. What pieces there are, which of them are of one net, and which crossings make the devices is told by
 -- those who use these definitions.
-use Rattle.std.specs.Prelude.{◌≡◌, ◌↔◌, ℕ, ◌<◌, ◌==◌, ◌&&◌, Bool, true, false, if◌then◌else◌, List, [], ◌∷◌, length, map, slice_index}
+use Rattle.std.specs.Prelude.{◌≡◌, ◌↔◌, ℕ, ◌<◌, ◌==◌, ◌&&◌, Bool, true, false, if◌then◌else◌, List, [], ◌∷◌, length}
+use Rattle.std.specs.Prelude.{map, slice_index}
 use Rattle.graph_search.specs.Netting.{next_net, IsNumberedInOrder}
-use Rattle.crossings.specs.declared.crossing.Crossing.{Crossing}
-use Rattle.crossings.specs.Boxes.{extent, other}
-use Rattle.net_extract.specs.declared.netlist.Device.{Device}
-use Rattle.net_extract.specs.declared.netlist.Netlist.{Netlist}
-use Rattle.net_extract.specs.declared.netlist.Part.{Part}
-use Rattle.net_extract.specs.declared.netlist.Part.TheVariants.{Whole, Low, High}
-use Rattle.net_extract.specs.declared.netlist.Piece.{Piece}
-use Rattle.net_extract.specs.Places.{Place, place}
+use Rattle.crossings.specs.{declared.crossing.Crossing.Crossing, Boxes.{extent, other}}
+use Rattle.net_extract.specs.declared.netlist.{Device.Device, Netlist.Netlist, Part.{Part, TheVariants.{Whole, Low}}}
+use Rattle.net_extract.specs.{declared.netlist.{Part.TheVariants.High, Piece.Piece}, Places.{Place, place}}
 
 abbrev pub place_of : Piece → Place
 place_of piece = place piece.box_no piece.part

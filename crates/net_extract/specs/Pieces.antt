@@ -1,18 +1,12 @@
 -- The pieces of boxes with the areas that they cover, and the numbers of the first pieces of boxes.
-use Rattle.std.specs.Prelude.{◌≡◌, ℕ, ◌+◌, ◌*◌, ◌<◌, ◌≤◌, pos, All, List, length, map, Option, Some, slice_index, slice_index_or}
-use Rattle.lam_geom.specs.declared.boxes.BoxXY.{BoxXY}
-use Rattle.lam_geom.specs.declared.boxes.MaskBox.{MaskBox}
-use Rattle.lam_geom.specs.declared.boxes.MaskLayer.{MaskLayer}
-use Rattle.lam_geom.specs.declared.boxes.MaskLayer.TheVariants.{ND, NP, NC, NM, NI, NB}
-use Rattle.lam_geom.specs.Gaps.{Encloses}
-use Rattle.crossings.specs.declared.crossing.Crossing.{Crossing}
-use Rattle.crossings.specs.Boxes.{area_at, layer_at, no_box}
-use Rattle.net_extract.specs.declared.netlist.Part.{Part}
-use Rattle.net_extract.specs.declared.netlist.Part.TheVariants.{Whole, Low, High}
-use Rattle.net_extract.specs.declared.placing.Pieces.{Pieces}
+use Rattle.std.specs.Prelude.{◌≡◌, ℕ, ◌+◌, ◌*◌, ◌<◌, ◌≤◌, pos, All, List, length, map, Option, Some, slice_index}
+use Rattle.std.specs.Prelude.{slice_index_or}
+use Rattle.lam_geom.specs.declared.boxes.{BoxXY.BoxXY, MaskBox.MaskBox, MaskLayer.{MaskLayer, TheVariants.{ND, NP, NC}}}
+use Rattle.lam_geom.specs.{declared.boxes.MaskLayer.TheVariants.{NM, NI, NB}, Gaps.Encloses}
+use Rattle.crossings.specs.{declared.crossing.Crossing.Crossing, Boxes.{area_at, layer_at, no_box}}
+use Rattle.net_extract.specs.declared.{netlist.Part.{Part, TheVariants.{Whole, Low, High}}, placing.Pieces.Pieces}
 use Rattle.net_extract.specs.declared.placing.Placed.{Placed}
-use Rattle.net_extract.specs.Places.{Place, place, places_of}
-use Rattle.net_extract.specs.Extraction.{IsAreaOf, IsLowPiece, IsHighPiece}
+use Rattle.net_extract.specs.{Places.{Place, place, places_of}, Extraction.{IsAreaOf, IsLowPiece, IsHighPiece}}
 
 -- ---- pieces by number
 

@@ -1,13 +1,9 @@
 -- The pieces into which boxes fall, by where they stand: crossed diffusion has two, other diffusion, poly and metal one.
-use Rattle.std.specs.Prelude.{ℕ, ◌==◌, Bool, List, [], ◌∷◌, length, map, flat_map, if◌then◌else◌}
-use Rattle.std.specs.List.{list_any, range_with_len}
-use Rattle.lam_geom.specs.declared.boxes.MaskBox.{MaskBox}
-use Rattle.lam_geom.specs.declared.boxes.MaskLayer.{MaskLayer}
-use Rattle.lam_geom.specs.declared.boxes.MaskLayer.TheVariants.{ND, NP, NC, NM, NI, NB}
-use Rattle.crossings.specs.declared.crossing.Crossing.{Crossing}
-use Rattle.crossings.specs.Boxes.{layer_at}
-use Rattle.net_extract.specs.declared.netlist.Part.{Part}
-use Rattle.net_extract.specs.declared.netlist.Part.TheVariants.{Whole, Low, High}
+use Rattle.std.specs.{Prelude.{ℕ, ◌==◌, Bool, List, [], ◌∷◌, length, map, flat_map, if◌then◌else◌}, List.list_any}
+use Rattle.std.specs.List.{range_with_len}
+use Rattle.lam_geom.specs.declared.boxes.{MaskBox.MaskBox, MaskLayer.{MaskLayer, TheVariants.{ND, NP, NC, NM, NI, NB}}}
+use Rattle.crossings.specs.{declared.crossing.Crossing.Crossing, Boxes.layer_at}
+use Rattle.net_extract.specs.declared.netlist.Part.{Part, TheVariants.{Whole, Low, High}}
 
 -- a piece by the number of its box and its part of it
 pub record Place : Type 0 where

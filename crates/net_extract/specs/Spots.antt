@@ -1,15 +1,10 @@
 -- The spots of nodes.
 use Rattle.std.specs.Prelude.{◌≡◌, ℕ, ◌<◌, ◌≤◌, IsTrue, List, length}
-use Rattle.box_tree.specs.declared.spots.Spot.{Spot}
-use Rattle.lam_geom.specs.declared.boxes.MaskBox.{MaskBox}
-use Rattle.lam_geom.specs.declared.boxes.MaskLayer.{MaskLayer}
-use Rattle.rule_table.specs.declared.technology.Tech.{Tech}
-use Rattle.rule_table.specs.Technology.{has_buried_of}
+use Rattle.box_tree.specs.{declared.spots.Spot.Spot, Groves.spot_of}
+use Rattle.lam_geom.specs.declared.boxes.{MaskBox.MaskBox, MaskLayer.MaskLayer}
+use Rattle.rule_table.specs.{declared.technology.Tech.Tech, Technology.has_buried_of}
 use Rattle.crossings.specs.Boxes.{area_at, layer_at}
-use Rattle.net_extract.specs.declared.placing.Placed.{Placed}
-use Rattle.box_tree.specs.Groves.{spot_of}
-use Rattle.net_extract.specs.Linking.{cut_node}
-use Rattle.net_extract.specs.Pieces.{box_of, area_of}
+use Rattle.net_extract.specs.{declared.placing.Placed.Placed, Linking.cut_node, Pieces.{box_of, area_of}}
 
 -- the spots of the numbers below n that have a property
 pub record AreSpots (n : ℕ) (P : ℕ → Type 0) (spot_at : ℕ → Spot) (spots : List Spot) : Type 0 where

@@ -1,22 +1,14 @@
 -- A search over nodes: its groves, and what one step reaches.
 use Rattle.std.specs.Prelude.{◌≡◌, ℕ, ◌+◌, ◌<◌, None, Contains, List, length}
-use Rattle.lam_geom.specs.declared.boxes.MaskBox.{MaskBox}
-use Rattle.lam_geom.specs.declared.boxes.MaskLayer.{MaskLayer}
-use Rattle.lam_geom.specs.declared.boxes.MaskLayer.TheVariants.{ND, NP, NM}
+use Rattle.lam_geom.specs.declared.boxes.{MaskBox.MaskBox, MaskLayer.{MaskLayer, TheVariants.{ND, NP, NM}}}
 use Rattle.rule_table.specs.declared.technology.Tech.{Tech}
-use Rattle.box_tree.specs.declared.query.Query.{Query}
-use Rattle.box_tree.specs.declared.spots.Spot.{Spot}
-use Rattle.box_tree.specs.Queries.{Answers, Holds}
-use Rattle.graph_search.specs.Search.{mark_of, AreReached}
-use Rattle.box_tree.specs.declared.groves.Grove.{Grove}
-use Rattle.net_extract.specs.declared.reaching.Front.{Front}
-use Rattle.net_extract.specs.declared.searches.Search.{Search}
-use Rattle.net_extract.specs.declared.placing.Placed.{Placed}
+use Rattle.box_tree.specs.{declared.{query.Query.Query, spots.Spot.Spot, groves.Grove.Grove}, Queries.{Answers, Holds}}
 use Rattle.box_tree.specs.Groves.{IsGrove, IsOf}
-use Rattle.net_extract.specs.Linking.{cut_node, IsPairWith}
-use Rattle.net_extract.specs.Pieces.{box_of}
-use Rattle.net_extract.specs.Spots.{IsPieceOn, piece_spot, cut_spot, ArePieceSpots, AreBoxSpots}
-use Rattle.net_extract.specs.CutLists.{AreLists, AreChains, AreCrowdedSpots, IsCrowded}
+use Rattle.graph_search.specs.Search.{mark_of, AreReached}
+use Rattle.net_extract.specs.declared.{reaching.Front.Front, searches.Search.Search, placing.Placed.Placed}
+use Rattle.net_extract.specs.{Linking.{cut_node, IsPairWith}, Pieces.box_of, Spots.{IsPieceOn, piece_spot, cut_spot}}
+use Rattle.net_extract.specs.{Spots.{ArePieceSpots, AreBoxSpots}, CutLists.{AreLists, AreChains, AreCrowdedSpots}}
+use Rattle.net_extract.specs.CutLists.{IsCrowded}
 
 -- ---- one step
 

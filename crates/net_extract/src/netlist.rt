@@ -1,7 +1,6 @@
 //! A netlist.
 ghost use Rattle.std.specs.Prelude.{◌≡◌};
-ghost use Rattle.net_extract.specs.declared.netlist.ExtractFault.TheVariants.{OutOfMemory};
-ghost use Rattle.net_extract.specs.Faults.{fault_of};
+ghost use Rattle.net_extract.specs.{declared.netlist.ExtractFault.TheVariants.OutOfMemory, Faults.fault_of};
 
 use crossings::CrossingFault;
 use lam_geom::BoxXY;

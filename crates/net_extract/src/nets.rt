@@ -1,17 +1,11 @@
 //! Which pieces are of one net.
 ghost use Rattle.std.specs.Prelude.{◌≡◌, ◌+◌, ◌<◌, ◌≤◌, max, IfOk, OnOk, Some, length};
-ghost use Rattle.graph_search.specs.Netting.{next_net};
-ghost use Rattle.graph_search.specs.Search.{mark_of, AreKept, AreWhole};
-ghost use Rattle.crossings.specs.Boxes.{AreSearchable};
-ghost use Rattle.crossings.specs.Spots.{AreBoxesOn};
+ghost use Rattle.graph_search.specs.{Netting.next_net, Search.{mark_of, AreKept, AreWhole}};
+ghost use Rattle.crossings.specs.{Boxes.AreSearchable, Spots.AreBoxesOn, Crossings.AreInOrder};
 ghost use Rattle.lam_geom.specs.declared.boxes.MaskLayer.TheVariants.{NB};
-ghost use Rattle.crossings.specs.Crossings.{AreInOrder};
-ghost use Rattle.net_extract.specs.Extraction.{AreNets};
-ghost use Rattle.net_extract.specs.Linking.{AreBeside};
-ghost use Rattle.net_extract.specs.Pieces.{ArePiecesOf};
-ghost use Rattle.net_extract.specs.CutLists.{IsNewPieceGrove};
-ghost use Rattle.net_extract.specs.Spots.{AreBoxSpots};
-ghost use Rattle.net_extract.specs.Spreading.{IsSearch, IsNewSearch, IsNewFront};
+ghost use Rattle.net_extract.specs.{Extraction.AreNets, Linking.AreBeside, Pieces.ArePiecesOf};
+ghost use Rattle.net_extract.specs.{CutLists.IsNewPieceGrove, Spots.AreBoxSpots, Spreading.{IsSearch, IsNewSearch}};
+ghost use Rattle.net_extract.specs.Spreading.{IsNewFront};
 
 use crate::cut_lists::{chains_of, cut_lists};
 use crate::over::PieceGroves;

@@ -1,13 +1,11 @@
 //! What lies over a cut: all pieces over it, or where they are many, so many that they are of two boxes.
 ghost use Rattle.std.specs.Prelude.{◌<◌, ◌≤◌, ◌↔◌, [], All, IfOk, IsTrue, OnOk, length};
-ghost use Rattle.box_tree.specs.Queries.{Holds, IsQuery};
+ghost use Rattle.box_tree.specs.{Queries.{Holds, IsQuery}, Groves.{IsOf, AreTreeParts, IsUnvisitedWithin}};
+ghost use Rattle.box_tree.specs.Found.{AreGathered};
 ghost use Rattle.crossings.specs.Boxes.{AreSearchable, IsOn};
 ghost use Rattle.lam_geom.specs.declared.boxes.MaskLayer.TheVariants.{NC};
 ghost use Rattle.net_extract.specs.CutLists.{AreFound, AreOfTwo, ArePieceGroves, IsListOver, IsOfAny, ArePartsWithin};
-ghost use Rattle.box_tree.specs.Groves.{IsOf, AreTreeParts, IsUnvisitedWithin};
-ghost use Rattle.box_tree.specs.Found.{AreGathered};
-ghost use Rattle.net_extract.specs.Linking.{IsOver};
-ghost use Rattle.net_extract.specs.Pieces.{ArePiecesOf};
+ghost use Rattle.net_extract.specs.{Linking.IsOver, Pieces.ArePiecesOf};
 
 use crate::placing::Pieces;
 use box_tree::{Grove, OwnedParts, Query, Question, group_of, is_passed_over};

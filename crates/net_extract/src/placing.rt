@@ -1,13 +1,11 @@
 //! The pieces into which boxes fall, with the areas that they cover.
-ghost use Rattle.std.specs.Prelude.{◌≡◌, ◌+◌, ◌^◌, ◌<◌, ◌≤◌, pos, All, IfOk, IfSome, List, OnOk, ◌++◌, cond, is_some, length};
+ghost use Rattle.std.specs.Prelude.{◌≡◌, ◌+◌, ◌^◌, ◌<◌, ◌≤◌, pos, All, IfOk, IfSome, List, OnOk, ◌++◌, cond, is_some};
+ghost use Rattle.std.specs.Prelude.{length};
 ghost use Rattle.lam_geom.specs.Gaps.{Encloses};
-ghost use Rattle.crossings.specs.Boxes.{area_at};
-ghost use Rattle.crossings.specs.Crossings.{AreInOrder};
+ghost use Rattle.crossings.specs.{Boxes.area_at, Crossings.AreInOrder};
 ghost use Rattle.net_extract.specs.declared.placing.Placed.{Placed};
-ghost use Rattle.net_extract.specs.Places.{is_crossed};
-ghost use Rattle.net_extract.specs.Extraction.{IsLowPiece, IsHighPiece, IsOfBox};
-ghost use Rattle.net_extract.specs.Pieces.{ArePieces, IsWithinDiffusion, IsCursor};
-ghost use Rattle.net_extract.specs.Placing.{AreOfBox};
+ghost use Rattle.net_extract.specs.{Places.is_crossed, Extraction.{IsLowPiece, IsHighPiece, IsOfBox}, Pieces.ArePieces};
+ghost use Rattle.net_extract.specs.{Pieces.{IsWithinDiffusion, IsCursor}, Placing.AreOfBox};
 
 use crate::netlist::Part;
 use crossings::Crossing;

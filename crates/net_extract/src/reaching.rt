@@ -1,14 +1,10 @@
 //! One step of a search: the nodes without a mark that some spots show are given a net.
 ghost use Rattle.std.specs.Prelude.{◌<◌, ◌↔◌, All, IsTrue, OnOk, length};
-ghost use Rattle.box_tree.specs.Queries.{Holds, IsQuery};
-ghost use Rattle.crossings.specs.Boxes.{AreSearchable};
-ghost use Rattle.crossings.specs.Spots.{AreBoxesOn};
+ghost use Rattle.box_tree.specs.{Queries.{Holds, IsQuery}, Groves.{AreTagsWithin, IsGrove, IsOf}, Found.AreGathered};
+ghost use Rattle.crossings.specs.{Boxes.AreSearchable, Spots.AreBoxesOn};
 ghost use Rattle.lam_geom.specs.declared.boxes.MaskLayer.TheVariants.{NB};
-ghost use Rattle.box_tree.specs.Groves.{AreTagsWithin, IsGrove, IsOf};
-ghost use Rattle.box_tree.specs.Found.{AreGathered};
-ghost use Rattle.net_extract.specs.Linking.{IsPairWith};
-ghost use Rattle.net_extract.specs.Pieces.{IsOfBoxes};
-ghost use Rattle.net_extract.specs.Spreading.{IsGroveReached, IsBuriedOf, IsOfPair};
+ghost use Rattle.net_extract.specs.{Linking.IsPairWith, Pieces.IsOfBoxes, Spreading.{IsGroveReached, IsBuriedOf}};
+ghost use Rattle.net_extract.specs.Spreading.{IsOfPair};
 
 use crate::placing::Placed;
 use box_tree::{BoxTree, Grove, Query};

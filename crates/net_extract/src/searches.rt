@@ -1,15 +1,11 @@
 //! Searches over pieces and cuts: from each node to those that are beside it.
 ghost use Rattle.std.specs.Prelude.{◌≡◌, ◌<◌, OnOk, None, [], length};
-ghost use Rattle.box_tree.specs.declared.query.Question.TheVariants.{NearOfOther};
-ghost use Rattle.box_tree.specs.Queries.{IsQuery};
-ghost use Rattle.crossings.specs.Boxes.{AreSearchable};
-ghost use Rattle.crossings.specs.Spots.{AreBoxesOn};
-ghost use Rattle.lam_geom.specs.Places.{IsPlacedBox};
-ghost use Rattle.lam_geom.specs.declared.boxes.MaskLayer.TheVariants.{NB};
+ghost use Rattle.box_tree.specs.{declared.query.Question.TheVariants.NearOfOther, Queries.IsQuery};
+ghost use Rattle.crossings.specs.{Boxes.AreSearchable, Spots.AreBoxesOn};
+ghost use Rattle.lam_geom.specs.{Places.IsPlacedBox, declared.boxes.MaskLayer.TheVariants.NB};
 ghost use Rattle.graph_search.specs.Search.{mark_of, AreReached, IsSpread};
-ghost use Rattle.net_extract.specs.Linking.{AreBeside, IsJoining, IsNode, IsOverCut, cut_node};
-ghost use Rattle.net_extract.specs.Pieces.{ArePiecesOf, Conducts};
-ghost use Rattle.net_extract.specs.Spreading.{IsSearch, IsStep, IsAnswer, IsPartner};
+ghost use Rattle.net_extract.specs.{Linking.{AreBeside, IsJoining, IsNode, IsOverCut, cut_node}, Pieces.ArePiecesOf};
+ghost use Rattle.net_extract.specs.{Pieces.Conducts, Spreading.{IsSearch, IsStep, IsAnswer, IsPartner}};
 
 use crate::cut_lists::{Chains, CutLists, cuts_of};
 use crate::placing::Pieces;

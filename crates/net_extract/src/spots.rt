@@ -1,8 +1,7 @@
 //! The spots of pieces, by their areas and by the areas of their boxes.
 ghost use Rattle.std.specs.Prelude.{IfOk};
 ghost use Rattle.crossings.specs.Boxes.{AreSearchable};
-ghost use Rattle.net_extract.specs.Pieces.{ArePiecesOf};
-ghost use Rattle.net_extract.specs.Spots.{ArePieceSpots, AreBoxSpots};
+ghost use Rattle.net_extract.specs.{Pieces.ArePiecesOf, Spots.{ArePieceSpots, AreBoxSpots}};
 
 use crate::placing::{Pieces, Placed};
 use box_tree::Spot;

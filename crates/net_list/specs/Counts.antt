@@ -1,8 +1,6 @@
 -- How many pieces a net has, by layer.
 use Rattle.std.specs.Prelude.{ℕ, ◌+◌, List, [], ◌∷◌, ◌++◌}
-use Rattle.lam_geom.specs.declared.boxes.MaskBox.{MaskBox}
-use Rattle.lam_geom.specs.declared.boxes.MaskLayer.{MaskLayer}
-use Rattle.lam_geom.specs.declared.boxes.MaskLayer.TheVariants.{ND, NP, NC, NM, NI, NB}
+use Rattle.lam_geom.specs.declared.boxes.{MaskBox.MaskBox, MaskLayer.{MaskLayer, TheVariants.{ND, NP, NC, NM, NI, NB}}}
 use Rattle.net_extract.specs.declared.netlist.Piece.{Piece}
 use Rattle.net_list.specs.declared.counting.PieceCounts.{PieceCounts}
 use Rattle.net_list.specs.Lines.{is_diffusion, is_poly, is_metal, pieces_on, net_line}

@@ -1,6 +1,5 @@
 //! How many pieces each net has.
-ghost use Rattle.std.specs.Prelude.{◌≡◌, ◌+◌, ◌<◌, ◌^◌, All, IfOk, length, map};
-ghost use Rattle.std.specs.List.{range_with_len};
+ghost use Rattle.std.specs.{Prelude.{◌≡◌, ◌+◌, ◌<◌, ◌^◌, All, IfOk, length, map}, List.range_with_len};
 ghost use Rattle.net_list.specs.Counts.{one_more, counts_of};
 
 use lam_geom::{MaskBox, MaskLayer};

@@ -1,12 +1,10 @@
 -- The spacing that is computed of two items is there exactly where they are bound with it.
-use Rattle.std.proofs.Common.{◌≡◌, ◌↔◌, ◌≢◌, ℕ, ◌==◌, ℤ, pos, Bool, true, false, cond, ◌||◌, Option, Some, None, refl, sym, ap, ◌∙◌, eq-eqb, unwrap_or}
+use Rattle.std.proofs.Common.{◌≡◌, ◌↔◌, ◌≢◌, ℕ, ◌==◌, ℤ, pos, Bool, true, false, cond, ◌||◌, Option, Some, None, refl}
+use Rattle.std.proofs.{Common.{sym, ap, ◌∙◌, eq-eqb, unwrap_or}, lemmas.Bool.{both_ways, and_parts, and_from, or_parts}}
+use Rattle.std.proofs.lemmas.Bool.{or_from, eqb-true, eqb-false, ne_eqb, cond-false, false_from_ne_true}
 use Rattle.std.specs.Prelude.{IsTrue}
-use Rattle.std.proofs.lemmas.Bool.{both_ways, and_parts, and_from, or_parts, or_from, eqb-true, eqb-false, ne_eqb, cond-false, false_from_ne_true}
-use Rattle.rule_table.specs.declared.classes.Rule.{Rule}
-use Rattle.rule_table.specs.declared.technology.Tech.{Tech}
-use Rattle.rule_table.specs.Technology.{spacing_of}
-use Rattle.sym_items.specs.declared.items.Item.{Item}
-use Rattle.sym_items.specs.Standing.{StandTogether, stand_together}
+use Rattle.rule_table.specs.{declared.{classes.Rule.Rule, technology.Tech.Tech}, Technology.spacing_of}
+use Rattle.sym_items.specs.{declared.items.Item.Item, Standing.{StandTogether, stand_together}}
 use Rattle.sym_items.proofs.Together.{together_exactly}
 use Rattle.pair_rules.specs.Bound.{is_exempt, spacing_by, is_poly_on_diffusion, is_joined, IsBound, bound_spacing}
 

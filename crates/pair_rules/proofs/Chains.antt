@@ -1,20 +1,12 @@
 -- A chain of kept and of rigid pairs stands for each candidate.
 use Rattle.std.proofs.Common.{◌≡◌, ℕ, ℤ, ◌+ℤ◌, ◌≤ℤ◌, List, [], ◌∷◌, ◌++◌, refl, sym, subst, inl, inr, arith}
-use Rattle.std.proofs.lemmas.Int.{ints}
-use Rattle.std.proofs.lemmas.Bool.{eqb-true}
-use Rattle.std.proofs.lemmas.List.Elements.{All-nil, All-cons, All-append}
+use Rattle.std.proofs.lemmas.{Int.ints, Bool.eqb-true, List.Elements.{All-nil, All-cons, All-append}}
 use Rattle.lam_geom.specs.declared.boxes.Axis.{Axis}
 use Rattle.rule_table.specs.declared.technology.Tech.{Tech}
-use Rattle.sym_items.specs.declared.items.Item.{Item}
-use Rattle.sym_items.specs.declared.items.Coords.{Coords}
-use Rattle.pair_rules.specs.declared.pairs.Pair.{Pair}
-use Rattle.pair_rules.specs.Bound.{item_at}
-use Rattle.pair_rules.specs.Candidates.{high_end, low_end}
-use Rattle.pair_rules.specs.Kept.{least_of}
-use Rattle.pair_rules.proofs.FacingItems.{out_of_facing}
+use Rattle.sym_items.specs.declared.items.{Item.Item, Coords.Coords}
+use Rattle.pair_rules.specs.{declared.pairs.Pair.Pair, Bound.item_at, Candidates.{high_end, low_end}, Kept.least_of}
 use Rattle.pair_rules.specs.Chains.{IsLink, LeadsTo, reach_of, IsChained, LeavesChains}
-use Rattle.pair_rules.proofs.PairLists.{all_candidates}
-use Rattle.pair_rules.proofs.Pruning.{shows_of_candidates}
+use Rattle.pair_rules.proofs.{FacingItems.out_of_facing, PairLists.all_candidates, Pruning.shows_of_candidates}
 use Rattle.pair_rules.proofs.KeptPairs.{kept_by_test}
 
 one_link : (axis : Axis) (t : Tech) (c : Coords) (items : List Item) (p : Pair) → IsLink axis t c items p → IsChained axis t c items p.i p.j p.s

@@ -1,14 +1,9 @@
 -- Clean layouts, looked at pair by pair.
-use Rattle.std.proofs.Common.{◌≡◌, ℕ, ◌<◌, ℤ, ◌≤ℤ◌, List, length, Option, None, refl, sym, subst, inl, inr, arith, eq-eqb}
-use Rattle.std.specs.Prelude.{IfSome}
-use Rattle.std.proofs.lemmas.Int.{ints, clamps}
-use Rattle.std.proofs.lemmas.Bool.{cases_lt}
+use Rattle.std.proofs.Common.{◌≡◌, ℕ, ◌<◌, ℤ, ◌≤ℤ◌, List, length, Option, None, refl, sym, subst, inl, inr, arith}
+use Rattle.std.{proofs.{Common.eq-eqb, lemmas.{Int.{ints, clamps}, Bool.cases_lt}}, specs.Prelude.IfSome}
 use Rattle.rule_table.specs.declared.technology.Tech.{Tech}
-use Rattle.sym_items.specs.declared.items.Item.{Item}
-use Rattle.sym_items.specs.declared.items.Coords.{Coords}
-use Rattle.sym_items.specs.Sides.{gap_in}
-use Rattle.pair_rules.specs.Bound.{item_at, bound_spacing}
-use Rattle.pair_rules.specs.Clean.{IsSpaced, IsClean}
+use Rattle.sym_items.specs.{declared.items.{Item.Item, Coords.Coords}, Sides.gap_in}
+use Rattle.pair_rules.specs.{Bound.{item_at, bound_spacing}, Clean.{IsSpaced, IsClean}}
 use Rattle.pair_rules.proofs.EitherOrder.{bound_symmetric}
 
 gap_symmetric : (c : Coords) (a b : Item) → gap_in c a b ≡ gap_in c b a

@@ -1,14 +1,9 @@
 -- Bound items, in either order.
 use Rattle.std.proofs.Common.{◌≡◌, ℕ, ◌==◌, true, cond, ◌&&◌, ◌||◌, Option, Some, None, refl, ap, ◌∙◌, arith}
 use Rattle.std.proofs.lemmas.Bool.Decides.{nat_tests, same_from_decides}
-use Rattle.rule_table.specs.declared.classes.Class.{Class}
-use Rattle.rule_table.specs.declared.classes.Class.TheVariants.{P, Dm}
-use Rattle.rule_table.specs.declared.classes.Rule.{Rule}
-use Rattle.rule_table.specs.declared.technology.Tech.{Tech}
-use Rattle.rule_table.specs.Technology.{numbers_of, spacing_of}
-use Rattle.rule_table.proofs.Margins.{spacing_in-symmetric}
-use Rattle.sym_items.specs.declared.items.Item.{Item}
-use Rattle.sym_items.specs.Standing.{stand_together}
+use Rattle.rule_table.specs.declared.{classes.{Class.{Class, TheVariants.{P, Dm}}, Rule.Rule}, technology.Tech.Tech}
+use Rattle.rule_table.{specs.Technology.{numbers_of, spacing_of}, proofs.Margins.spacing_in-symmetric}
+use Rattle.sym_items.specs.{declared.items.Item.Item, Standing.stand_together}
 use Rattle.sym_items.proofs.Together.{stand_together-symmetric}
 use Rattle.pair_rules.specs.Bound.{spacing_by, is_poly_on_diffusion, is_joined, bound_spacing}
 

@@ -1,17 +1,12 @@
 -- The spacing that is computed of two items is there exactly where they are a candidate.
-use Rattle.std.proofs.Common.{◌≡◌, ◌↔◌, Bool, true, false, ℤ, ◌+ℤ◌, ◌≤ℤ◌, ◌<ℤ◌, Option, Some, None, refl, sym, ap, ◌∙◌, subst, arith}
-use Rattle.std.specs.Prelude.{int_lt, int_le, is_some, IsTrue}
-use Rattle.std.specs.Bool.{then_some}
-use Rattle.std.proofs.lemmas.Int.{ints}
-use Rattle.std.proofs.lemmas.Bool.{and_parts}
+use Rattle.std.proofs.Common.{◌≡◌, ◌↔◌, Bool, true, false, ℤ, ◌+ℤ◌, ◌≤ℤ◌, ◌<ℤ◌, Option, Some, None, refl, sym, ap, ◌∙◌}
+use Rattle.std.proofs.{Common.{subst, arith}, lemmas.{Int.ints, Bool.and_parts}}
+use Rattle.std.specs.{Prelude.{int_lt, int_le, is_some, IsTrue}, Bool.then_some}
 use Rattle.lam_geom.specs.declared.boxes.Axis.{Axis}
 use Rattle.rule_table.specs.declared.technology.Tech.{Tech}
-use Rattle.sym_items.specs.declared.items.Item.{Item}
-use Rattle.sym_items.specs.declared.items.Coords.{Coords}
-use Rattle.sym_items.specs.Sides.{Sides, gap_on_y}
-use Rattle.pair_rules.specs.Bound.{bound_spacing}
-use Rattle.pair_rules.specs.Candidates.{IsCandidate, sides_at, is_before, spacing_before, facing_spacing}
-use Rattle.pair_rules.proofs.BoundItems.{same_some}
+use Rattle.sym_items.specs.{declared.items.{Item.Item, Coords.Coords}, Sides.{Sides, gap_on_y}}
+use Rattle.pair_rules.specs.{Bound.bound_spacing, Candidates.{IsCandidate, sides_at, is_before, spacing_before}}
+use Rattle.pair_rules.{specs.Candidates.facing_spacing, proofs.BoundItems.same_some}
 
 less : (a b : ℤ) → int_lt a b ≡ true → a <ℤ b
 less a b e = grind (arith, ints)

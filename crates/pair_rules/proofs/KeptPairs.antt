@@ -1,26 +1,19 @@
 -- The kept pairs that are computed are exactly the kept ones.
-use Rattle.std.proofs.Common.{◌≡◌, ◌≢◌, ℕ, ◌<◌, Bool, true, false, not, ◌&&◌, ℤ, pos, ◌+ℤ◌, ◌≤ℤ◌, List, length, All, Option, Some, refl, sym, ap, ◌∙◌, subst, arith, get_or, zero-add}
-use Rattle.std.specs.Prelude.{int_le, ◌==◌, Contains}
-use Rattle.std.specs.List.{list_any, filter, range_with_len}
-use Rattle.std.proofs.lemmas.Int.{ints}
-use Rattle.std.proofs.lemmas.Bool.{and_parts, not-true, eqb-true, eqb-false, true≢false}
-use Rattle.std.proofs.lemmas.List.FromFn.{length-range_with_len, get_or-range_with_len}
-use Rattle.std.proofs.lemmas.List.Folds.{list_any_at}
+use Rattle.std.proofs.Common.{◌≡◌, ◌≢◌, ℕ, ◌<◌, Bool, true, false, not, ◌&&◌, ℤ, pos, ◌+ℤ◌, ◌≤ℤ◌, List, length, All}
+use Rattle.std.proofs.Common.{Option, Some, refl, sym, ap, ◌∙◌, subst, arith, get_or, zero-add}
+use Rattle.std.proofs.lemmas.{Int.ints, Bool.{and_parts, not-true, eqb-true, eqb-false, true≢false}}
+use Rattle.std.proofs.lemmas.List.{FromFn.{length-range_with_len, get_or-range_with_len}, Folds.list_any_at}
 use Rattle.std.proofs.lemmas.List.Elements.{All-contains, All-contains_itself, All-filter, filter_passes}
+use Rattle.std.specs.{Prelude.{int_le, ◌==◌, Contains}, List.{list_any, filter, range_with_len}}
 use Rattle.lam_geom.specs.declared.boxes.Axis.{Axis}
 use Rattle.rule_table.specs.declared.technology.Tech.{Tech}
-use Rattle.sym_items.specs.declared.items.Item.{Item}
-use Rattle.sym_items.specs.declared.items.Coords.{Coords}
-use Rattle.sym_items.specs.Values.{value_of}
-use Rattle.sym_items.specs.Transposed.{values_along}
-use Rattle.pair_rules.specs.declared.pairs.Pair.{Pair}
-use Rattle.pair_rules.specs.Bound.{item_at}
-use Rattle.pair_rules.specs.Candidates.{spacing_at, item_numbers, candidates_of, high_end, low_end, Keeps}
-use Rattle.pair_rules.specs.Kept.{Shadows, IsKept, least_of, reaches, shadows, is_constant, is_kept, kept_of}
-use Rattle.pair_rules.proofs.FacingItems.{out_of_facing, candidate_faces}
-use Rattle.pair_rules.proofs.Spacings.{facing_bounds}
-use Rattle.pair_rules.proofs.PairLists.{found_number, of_filtered, all_candidates, is_candidate}
-use Rattle.pair_rules.proofs.Pruning.{reach_of, kept_among, candidates_apart}
+use Rattle.sym_items.specs.{declared.items.{Item.Item, Coords.Coords}, Values.value_of, Transposed.values_along}
+use Rattle.pair_rules.specs.{declared.pairs.Pair.Pair, Bound.item_at, Candidates.{spacing_at, item_numbers}}
+use Rattle.pair_rules.specs.{Candidates.{candidates_of, high_end, low_end, Keeps}, Kept.{Shadows, IsKept, least_of}}
+use Rattle.pair_rules.specs.Kept.{reaches, shadows, is_constant, is_kept, kept_of}
+use Rattle.pair_rules.proofs.{FacingItems.{out_of_facing, candidate_faces}, Spacings.facing_bounds}
+use Rattle.pair_rules.proofs.{PairLists.{found_number, of_filtered, all_candidates, is_candidate}, Pruning.reach_of}
+use Rattle.pair_rules.proofs.Pruning.{kept_among, candidates_apart}
 
 -- an item shadows a pair where the test says so
 does_shadow : (axis : Axis) (t : Tech) (c : Coords) (items : List Item) (p : Pair) (k : ℕ) → shadows axis t c items p k ≡ true → Shadows axis t c items p k

@@ -1,16 +1,13 @@
 -- Lists of candidates and of kept pairs, pair by pair.
-use Rattle.std.proofs.Common.{◌≡◌, ℕ, zero, suc, ◌+◌, ◌<◌, ◌≤◌, Bool, true, false, cond, ℤ, List, [], ◌∷◌, length, All, Option, Some, None, refl, inl, inr, arith}
-use Rattle.std.specs.Prelude.{Contains}
-use Rattle.std.specs.List.{flat_map, filter, list_any, range_with_len}
-use Rattle.std.proofs.lemmas.Bool.{cases_Bool, false≢true}
+use Rattle.std.proofs.Common.{◌≡◌, ℕ, zero, suc, ◌+◌, ◌<◌, ◌≤◌, Bool, true, false, cond, ℤ, List, [], ◌∷◌, length, All}
+use Rattle.std.proofs.{Common.{Option, Some, None, refl, inl, inr, arith}, lemmas.Bool.{cases_Bool, false≢true}}
 use Rattle.std.proofs.lemmas.List.Elements.{All-nil, All-cons, All-head, All-tail, All-append}
+use Rattle.std.specs.{Prelude.Contains, List.{flat_map, filter, list_any, range_with_len}}
 use Rattle.lam_geom.specs.declared.boxes.Axis.{Axis}
 use Rattle.rule_table.specs.declared.technology.Tech.{Tech}
-use Rattle.sym_items.specs.declared.items.Item.{Item}
-use Rattle.sym_items.specs.declared.items.Coords.{Coords}
-use Rattle.pair_rules.specs.declared.pairs.Pair.{Pair}
-use Rattle.pair_rules.specs.Candidates.{spacing_at, pair_with, pairs_at, candidates_to, candidates_of}
-use Rattle.pair_rules.proofs.Pieces.{contains_piece_of, contains_pair}
+use Rattle.sym_items.specs.declared.items.{Item.Item, Coords.Coords}
+use Rattle.pair_rules.specs.{declared.pairs.Pair.Pair, Candidates.{spacing_at, pair_with, pairs_at, candidates_to}}
+use Rattle.pair_rules.{specs.Candidates.candidates_of, proofs.Pieces.{contains_piece_of, contains_pair}}
 
 -- ---- lists
 

@@ -1,10 +1,9 @@
 -- What lists of the pieces of the first numbers contain.
-use Rattle.std.proofs.Common.{◌≡◌, ℕ, zero, suc, ◌+◌, ◌<◌, ◌≤◌, ℤ, List, [], ◌∷◌, ◌++◌, length, get_or, Option, Some, refl, sym, ap, ◌∙◌, subst, append_assoc, zero-add, arith}
-use Rattle.std.specs.List.{flat_map, range_with_len, Contains}
-use Rattle.std.proofs.lemmas.List.FromFn.{length-range_with_len, get_or-range_with_len}
-use Rattle.std.proofs.lemmas.List.Elements.{Contains-append_left, Contains-append_right}
-use Rattle.pair_rules.specs.declared.pairs.Pair.{Pair}
-use Rattle.pair_rules.specs.Candidates.{AddsFirst, pair_with}
+use Rattle.std.proofs.Common.{◌≡◌, ℕ, zero, suc, ◌+◌, ◌<◌, ◌≤◌, ℤ, List, [], ◌∷◌, ◌++◌, length, get_or, Option, Some}
+use Rattle.std.proofs.Common.{refl, sym, ap, ◌∙◌, subst, append_assoc, zero-add, arith}
+use Rattle.std.proofs.lemmas.List.{FromFn.{length-range_with_len, get_or-range_with_len}, Elements.Contains-append_left}
+use Rattle.std.{proofs.lemmas.List.Elements.Contains-append_right, specs.List.{flat_map, range_with_len, Contains}}
+use Rattle.pair_rules.specs.{declared.pairs.Pair.Pair, Candidates.{AddsFirst, pair_with}}
 
 -- what a piece contains, the whole contains
 contains_piece : {X A : Type 0} (f : X → List A) (xs : List X) (k : ℕ) (d : X) (y : A) → k < length xs → Contains (f (get_or xs k d)) y → Contains (flat_map f xs) y

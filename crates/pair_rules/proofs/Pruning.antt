@@ -1,27 +1,18 @@
 -- Pruning loses nothing: by induction on how far the ends of a candidate lie apart in the layout.
-use Rattle.std.proofs.Common.{◌≡◌, ◌≢◌, ℕ, zero, suc, ◌<◌, Bool, true, false, not, ◌&&◌, ℤ, pos, negsuc, ◌+ℤ◌, ◌-ℤ◌, ◌≤ℤ◌, ◌<ℤ◌, ◌⊎◌, inl, inr, List, length, All, Option, Some, None, refl, ap, arith}
-use Rattle.std.specs.Prelude.{int_le}
-use Rattle.std.specs.List.{list_any}
-use Rattle.std.proofs.lemmas.Int.{ints}
-use Rattle.std.proofs.lemmas.Bool.{cases_Bool, and_parts, not-true, eqb-true, eqb-false}
+use Rattle.std.proofs.Common.{◌≡◌, ◌≢◌, ℕ, zero, suc, ◌<◌, Bool, true, false, not, ◌&&◌, ℤ, pos, negsuc, ◌+ℤ◌, ◌-ℤ◌}
+use Rattle.std.proofs.Common.{◌≤ℤ◌, ◌<ℤ◌, ◌⊎◌, inl, inr, List, length, All, Option, Some, None, refl, ap, arith}
+use Rattle.std.proofs.lemmas.{Int.ints, Bool.{cases_Bool, and_parts, not-true, eqb-true, eqb-false}}
 use Rattle.std.proofs.lemmas.List.Elements.{All-contains, All-weaker, All-filter, filter_passes}
-use Rattle.lam_geom.specs.declared.boxes.Axis.{Axis}
-use Rattle.lam_geom.specs.declared.boxes.Axis.TheVariants.{X, Y}
+use Rattle.std.specs.{Prelude.int_le, List.list_any}
+use Rattle.lam_geom.specs.declared.boxes.Axis.{Axis, TheVariants.{X, Y}}
 use Rattle.rule_table.specs.declared.technology.Tech.{Tech}
-use Rattle.sym_items.specs.declared.items.End.{End}
-use Rattle.sym_items.specs.declared.items.Item.{Item}
-use Rattle.sym_items.specs.declared.items.Coords.{Coords}
-use Rattle.sym_items.specs.Boxes.{HasBox}
-use Rattle.sym_items.specs.Values.{value_of, end_under}
-use Rattle.sym_items.specs.Transposed.{item_along, coords_along}
-use Rattle.pair_rules.specs.declared.pairs.Pair.{Pair}
-use Rattle.pair_rules.specs.Bound.{item_at, no_item}
-use Rattle.pair_rules.specs.Candidates.{IsCandidate, spacing_at, item_numbers, candidates_of, high_end, low_end, Keeps}
-use Rattle.pair_rules.specs.Kept.{least_of, reaches, shadows, is_constant, is_kept, kept_of}
-use Rattle.pair_rules.proofs.FacingItems.{out_of_facing}
-use Rattle.pair_rules.specs.Pruning.{LosesNothing}
-use Rattle.pair_rules.proofs.Spacings.{facing_bounds}
-use Rattle.pair_rules.proofs.PairLists.{found_number, of_filtered, all_candidates, is_candidate}
+use Rattle.sym_items.specs.declared.items.{End.End, Item.Item, Coords.Coords}
+use Rattle.sym_items.specs.{Boxes.HasBox, Values.{value_of, end_under}, Transposed.{item_along, coords_along}}
+use Rattle.pair_rules.specs.{declared.pairs.Pair.Pair, Bound.{item_at, no_item}, Candidates.{IsCandidate, spacing_at}}
+use Rattle.pair_rules.specs.{Candidates.{item_numbers, candidates_of, high_end, low_end, Keeps}, Kept.least_of}
+use Rattle.pair_rules.specs.{Kept.{reaches, shadows, is_constant, is_kept, kept_of}, Pruning.LosesNothing}
+use Rattle.pair_rules.proofs.{FacingItems.out_of_facing, Spacings.facing_bounds, PairLists.{found_number, of_filtered}}
+use Rattle.pair_rules.proofs.PairLists.{all_candidates, is_candidate}
 
 -- ---- over plain numbers
 

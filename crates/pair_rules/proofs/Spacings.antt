@@ -1,18 +1,11 @@
 -- How great the spacing of a bound pair is.
-use Rattle.std.proofs.Common.{◌≡◌, ℤ, pos, ◌≤ℤ◌, Option, Some, subst}
-use Rattle.std.specs.Prelude.{IfSome}
+use Rattle.std.{proofs.Common.{◌≡◌, ℤ, pos, ◌≤ℤ◌, Option, Some, subst}, specs.Prelude.IfSome}
 use Rattle.lam_geom.specs.declared.boxes.Axis.{Axis}
-use Rattle.rule_table.specs.declared.classes.Rule.{Rule}
-use Rattle.rule_table.specs.declared.technology.Tech.{Tech}
-use Rattle.rule_table.specs.Technology.{numbers_of, spacing_of}
-use Rattle.rule_table.proofs.Sound.{sound}
-use Rattle.rule_table.proofs.Margins.{IsSpacing, spacing_bounds}
-use Rattle.sym_items.specs.declared.items.Item.{Item}
-use Rattle.sym_items.specs.declared.items.Coords.{Coords}
-use Rattle.pair_rules.specs.Bound.{bound_spacing}
-use Rattle.pair_rules.specs.Candidates.{facing_spacing}
-use Rattle.pair_rules.proofs.BoundItems.{out_of_bound}
-use Rattle.pair_rules.proofs.FacingItems.{out_of_facing}
+use Rattle.rule_table.specs.{declared.{classes.Rule.Rule, technology.Tech.Tech}, Technology.{numbers_of, spacing_of}}
+use Rattle.rule_table.proofs.{Sound.sound, Margins.{IsSpacing, spacing_bounds}}
+use Rattle.sym_items.specs.declared.items.{Item.Item, Coords.Coords}
+use Rattle.pair_rules.specs.{Bound.bound_spacing, Candidates.facing_spacing}
+use Rattle.pair_rules.proofs.{BoundItems.out_of_bound, FacingItems.out_of_facing}
 
 of_rule : (o : Option Rule) (r : Rule) → o ≡ Some r → IfSome o IsSpacing → IsSpacing r
 of_rule o r e h = let P : Option Rule → Type 0 = λ q. IfSome q IsSpacing in subst P e h

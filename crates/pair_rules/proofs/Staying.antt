@@ -1,23 +1,15 @@
 -- A clean layout stays clean where its candidates keep their inequalities.
-use Rattle.std.proofs.Common.{◌≡◌, ℕ, ◌<◌, ℤ, ◌+ℤ◌, ◌-ℤ◌, ◌≤ℤ◌, ◌<ℤ◌, List, length, All, Option, Some, None, refl, sym, ◌∙◌, subst, arith}
+use Rattle.std.proofs.Common.{◌≡◌, ℕ, ◌<◌, ℤ, ◌+ℤ◌, ◌-ℤ◌, ◌≤ℤ◌, ◌<ℤ◌, List, length, All, Option, Some, None, refl, sym}
+use Rattle.std.proofs.{Common.{◌∙◌, subst, arith}, lemmas.{Int.{ints, clamps, by_lt_z}, List.Elements.All-contains}}
 use Rattle.std.specs.Prelude.{IfSome, Contains}
-use Rattle.std.proofs.lemmas.Int.{ints, clamps, by_lt_z}
-use Rattle.std.proofs.lemmas.List.Elements.{All-contains}
-use Rattle.lam_geom.specs.declared.boxes.Axis.{Axis}
-use Rattle.lam_geom.specs.declared.boxes.Axis.TheVariants.{X, Y}
+use Rattle.lam_geom.specs.declared.boxes.Axis.{Axis, TheVariants.{X, Y}}
 use Rattle.rule_table.specs.declared.technology.Tech.{Tech}
-use Rattle.sym_items.specs.declared.items.Item.{Item}
-use Rattle.sym_items.specs.declared.items.Coords.{Coords}
-use Rattle.sym_items.specs.Values.{value_of, value_at}
-use Rattle.sym_items.specs.Sides.{Sides, gap_on_y, gap_of_sides, gap_in}
-use Rattle.sym_items.specs.Transposed.{item_along}
-use Rattle.pair_rules.specs.declared.pairs.Pair.{Pair}
-use Rattle.pair_rules.specs.Bound.{item_at, bound_spacing}
-use Rattle.pair_rules.specs.Candidates.{IsCandidate, sides_at, spacing_at, pairs_at, candidates_to, candidates_of, Keeps}
-use Rattle.pair_rules.specs.Laws.{moved, StaysClean}
-use Rattle.pair_rules.proofs.EitherOrder.{bound_symmetric}
-use Rattle.pair_rules.proofs.FacingItems.{candidate_faces}
-use Rattle.pair_rules.proofs.Pieces.{contains_piece_of, contains_pair}
+use Rattle.sym_items.specs.{declared.items.{Item.Item, Coords.Coords}, Values.{value_of, value_at}, Sides.Sides}
+use Rattle.sym_items.specs.{Sides.{gap_on_y, gap_of_sides, gap_in}, Transposed.item_along}
+use Rattle.pair_rules.specs.{declared.pairs.Pair.Pair, Bound.{item_at, bound_spacing}, Candidates.IsCandidate}
+use Rattle.pair_rules.specs.Candidates.{sides_at, spacing_at, pairs_at, candidates_to, candidates_of, Keeps}
+use Rattle.pair_rules.{specs.Laws.{moved, StaysClean}, proofs.EitherOrder.bound_symmetric}
+use Rattle.pair_rules.proofs.{FacingItems.candidate_faces, Pieces.{contains_piece_of, contains_pair}}
 
 -- boxes that lie so far apart: on y, or the one stands before the other, or the other before the one
 by_cases : {P : Type 0} (s : ℤ) (a b : Sides) → s ≤ℤ gap_of_sides a b → (s ≤ℤ gap_on_y a b → P) → (gap_on_y a b <ℤ s → (a.right +ℤ s) ≤ℤ b.left → P) → (gap_on_y b a <ℤ s → (b.right +ℤ s) ≤ℤ a.left → P) → P

@@ -1,16 +1,11 @@
 -- Candidates and kept pairs of small layouts, checked against lists worked by hand.
 use Rattle.std.proofs.Common.{◌≡◌, ℕ, pos, List, [], ◌∷◌, refl}
 use Rattle.lam_geom.specs.declared.boxes.Axis.TheVariants.{X, Y}
-use Rattle.rule_table.specs.declared.technology.Tech.{Tech}
-use Rattle.rule_table.specs.Technology.{shipped_numbers}
-use Rattle.rule_table.specs.Spacing.{spacing_in}
+use Rattle.rule_table.specs.{declared.technology.Tech.Tech, Technology.shipped_numbers, Spacing.spacing_in}
 use Rattle.rule_table.proofs.Shipped.{shipped_sound}
 use Rattle.sym_items.specs.declared.items.Item.{Item}
-use Rattle.pair_rules.specs.declared.pairs.Pair.{Pair}
-use Rattle.pair_rules.specs.Bound.{bound_spacing}
-use Rattle.pair_rules.specs.Candidates.{facing_spacing, candidates_of}
-use Rattle.pair_rules.specs.Kept.{kept_of}
-use Rattle.pair_rules.specs.Worked.{joint, metal, row_of_three, row_start, two_columns, columns_start}
+use Rattle.pair_rules.specs.{declared.pairs.Pair.Pair, Bound.bound_spacing, Candidates.{facing_spacing, candidates_of}}
+use Rattle.pair_rules.specs.{Kept.kept_of, Worked.{joint, metal, row_of_three, row_start, two_columns, columns_start}}
 
 shipped : Tech
 shipped = record { numbers = shipped_numbers; sound = shipped_sound }

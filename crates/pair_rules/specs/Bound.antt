@@ -1,13 +1,9 @@
 -- Bound pairs: items that have to keep a spacing.
-use Rattle.std.specs.Prelude.{◌≡◌, ◌≢◌, ℕ, ℤ, pos, Bool, true, false, ◌&&◌, ◌||◌, ◌==◌, if◌then◌else◌, IsTrue, Option, Some, None, List, slice_index_or}
-use Rattle.rule_table.specs.declared.classes.Rule.{Rule}
-use Rattle.rule_table.specs.declared.classes.Class.{Class}
-use Rattle.rule_table.specs.declared.classes.Class.TheVariants.{M, P, Dm}
-use Rattle.rule_table.specs.declared.technology.Tech.{Tech}
+use Rattle.std.specs.Prelude.{◌≡◌, ◌≢◌, ℕ, ℤ, pos, Bool, true, false, ◌&&◌, ◌||◌, ◌==◌, if◌then◌else◌, IsTrue, Option}
+use Rattle.std.specs.Prelude.{Some, None, List, slice_index_or}
+use Rattle.rule_table.specs.declared.{classes.{Rule.Rule, Class.{Class, TheVariants.{M, P, Dm}}}, technology.Tech.Tech}
 use Rattle.rule_table.specs.Technology.{spacing_of}
-use Rattle.sym_items.specs.declared.items.End.{End}
-use Rattle.sym_items.specs.declared.items.Item.{Item}
-use Rattle.sym_items.specs.Standing.{StandTogether, stand_together}
+use Rattle.sym_items.specs.{declared.items.{End.End, Item.Item}, Standing.{StandTogether, stand_together}}
 
 -- what is read past the end of a list of items
 abbrev pub no_end : End

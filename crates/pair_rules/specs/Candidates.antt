@@ -1,17 +1,11 @@
 -- Candidates: bound items that face each other along an axis, and what they keep.
-use Rattle.std.specs.Prelude.{◌≡◌, ℕ, ℤ, ◌+ℤ◌, ◌-ℤ◌, ◌≤ℤ◌, ◌<ℤ◌, Bool, ◌&&◌, int_lt, int_le, Option, Some, None, is_some, List, [], ◌∷◌, ◌++◌, length, flat_map}
-use Rattle.std.specs.Bool.{then_some}
-use Rattle.std.specs.List.{range_with_len}
+use Rattle.std.specs.Prelude.{◌≡◌, ℕ, ℤ, ◌+ℤ◌, ◌-ℤ◌, ◌≤ℤ◌, ◌<ℤ◌, Bool, ◌&&◌, int_lt, int_le, Option, Some, None}
+use Rattle.std.specs.{Prelude.{is_some, List, [], ◌∷◌, ◌++◌, length, flat_map}, Bool.then_some, List.range_with_len}
 use Rattle.lam_geom.specs.declared.boxes.Axis.{Axis}
 use Rattle.rule_table.specs.declared.technology.Tech.{Tech}
-use Rattle.sym_items.specs.declared.items.End.{End}
-use Rattle.sym_items.specs.declared.items.Item.{Item}
-use Rattle.sym_items.specs.declared.items.Coords.{Coords}
-use Rattle.sym_items.specs.Values.{end_under}
-use Rattle.sym_items.specs.Sides.{Sides, sides_in, gap_on_y}
-use Rattle.sym_items.specs.Transposed.{item_along, sides_along}
-use Rattle.pair_rules.specs.declared.pairs.Pair.{Pair}
-use Rattle.pair_rules.specs.Bound.{item_at, bound_spacing}
+use Rattle.sym_items.specs.declared.items.{End.End, Item.Item, Coords.Coords}
+use Rattle.sym_items.specs.{Values.end_under, Sides.{Sides, sides_in, gap_on_y}, Transposed.{item_along, sides_along}}
+use Rattle.pair_rules.specs.{declared.pairs.Pair.Pair, Bound.{item_at, bound_spacing}}
 
 -- the sides of an item in a layout, turned so that an axis runs from left to right
 abbrev pub sides_at : Axis → Coords → Item → Sides

@@ -2,13 +2,9 @@
 use Rattle.std.specs.Prelude.{◌≡◌, ◌⊎◌, ℕ, ◌<◌, ℤ, pos, ◌+ℤ◌, ◌≤ℤ◌, List, [], ◌∷◌, length, All}
 use Rattle.lam_geom.specs.declared.boxes.Axis.{Axis}
 use Rattle.rule_table.specs.declared.technology.Tech.{Tech}
-use Rattle.sym_items.specs.declared.items.Item.{Item}
-use Rattle.sym_items.specs.declared.items.Coords.{Coords}
-use Rattle.sym_items.specs.Boxes.{HasBox}
-use Rattle.pair_rules.specs.declared.pairs.Pair.{Pair}
-use Rattle.pair_rules.specs.Bound.{item_at}
-use Rattle.pair_rules.specs.Candidates.{IsCandidate, candidates_of, high_end, low_end}
-use Rattle.pair_rules.specs.Kept.{IsKept, least_of}
+use Rattle.sym_items.specs.{declared.items.{Item.Item, Coords.Coords}, Boxes.HasBox}
+use Rattle.pair_rules.specs.{declared.pairs.Pair.Pair, Bound.item_at, Candidates.{IsCandidate, candidates_of, high_end}}
+use Rattle.pair_rules.specs.{Candidates.low_end, Kept.{IsKept, least_of}}
 
 -- two of the items that are a candidate with the spacing of a pair, and whose ends lie on one variable, so that they never move apart
 pub record IsRigid (axis : Axis) (t : Tech) (c : Coords) (items : List Item) (p : Pair) : Type 0 where

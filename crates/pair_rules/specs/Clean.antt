@@ -1,9 +1,7 @@
 -- Clean layouts.
 use Rattle.std.specs.Prelude.{ℕ, ◌<◌, ◌≤ℤ◌, IfSome, List, length}
 use Rattle.rule_table.specs.declared.technology.Tech.{Tech}
-use Rattle.sym_items.specs.declared.items.Item.{Item}
-use Rattle.sym_items.specs.declared.items.Coords.{Coords}
-use Rattle.sym_items.specs.Sides.{gap_in}
+use Rattle.sym_items.specs.{declared.items.{Item.Item, Coords.Coords}, Sides.gap_in}
 use Rattle.pair_rules.specs.Bound.{item_at, bound_spacing}
 
 -- where two items are bound, their boxes lie at least their spacing apart

@@ -1,14 +1,11 @@
 -- Kept pairs: the candidates whose inequality does not follow from those of two others.
-use Rattle.std.specs.Prelude.{ℕ, ◌<◌, ◌≢◌, ℤ, ◌+ℤ◌, ◌≤ℤ◌, Bool, false, not, ◌&&◌, ◌==◌, int_le, Option, Some, List, length, filter}
-use Rattle.std.specs.List.{list_any}
+use Rattle.std.specs.Prelude.{ℕ, ◌<◌, ◌≢◌, ℤ, ◌+ℤ◌, ◌≤ℤ◌, Bool, false, not, ◌&&◌, ◌==◌, int_le, Option, Some, List}
+use Rattle.std.specs.{Prelude.{length, filter}, List.list_any}
 use Rattle.lam_geom.specs.declared.boxes.Axis.{Axis}
 use Rattle.rule_table.specs.declared.technology.Tech.{Tech}
-use Rattle.sym_items.specs.declared.items.Item.{Item}
-use Rattle.sym_items.specs.declared.items.Coords.{Coords}
-use Rattle.sym_items.specs.Transposed.{item_along}
-use Rattle.pair_rules.specs.declared.pairs.Pair.{Pair}
-use Rattle.pair_rules.specs.Bound.{item_at}
-use Rattle.pair_rules.specs.Candidates.{IsCandidate, spacing_at, item_numbers, candidates_of, high_end, low_end}
+use Rattle.sym_items.specs.{declared.items.{Item.Item, Coords.Coords}, Transposed.item_along}
+use Rattle.pair_rules.specs.{declared.pairs.Pair.Pair, Bound.item_at, Candidates.{IsCandidate, spacing_at}}
+use Rattle.pair_rules.specs.Candidates.{item_numbers, candidates_of, high_end, low_end}
 
 -- the least extent of item k on an axis
 abbrev pub least_of : Axis → List Item → ℕ → ℤ

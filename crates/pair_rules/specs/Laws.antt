@@ -1,13 +1,9 @@
 -- Clean layouts stay clean.
 use Rattle.std.specs.Prelude.{ℤ, All, List}
-use Rattle.lam_geom.specs.declared.boxes.Axis.{Axis}
-use Rattle.lam_geom.specs.declared.boxes.Axis.TheVariants.{X, Y}
+use Rattle.lam_geom.specs.declared.boxes.Axis.{Axis, TheVariants.{X, Y}}
 use Rattle.rule_table.specs.declared.technology.Tech.{Tech}
-use Rattle.sym_items.specs.declared.items.Item.{Item}
-use Rattle.sym_items.specs.declared.items.Coords.{Coords}
-use Rattle.sym_items.specs.Values.{value_of}
-use Rattle.pair_rules.specs.Clean.{IsClean}
-use Rattle.pair_rules.specs.Candidates.{candidates_of, Keeps}
+use Rattle.sym_items.specs.{declared.items.{Item.Item, Coords.Coords}, Values.value_of}
+use Rattle.pair_rules.specs.{Clean.IsClean, Candidates.{candidates_of, Keeps}}
 
 -- a layout with other values on one axis
 abbrev pub moved : Axis → Coords → List ℤ → Coords

@@ -2,12 +2,8 @@
 use Rattle.std.specs.Prelude.{ℕ, ℤ, List, All}
 use Rattle.lam_geom.specs.declared.boxes.Axis.{Axis}
 use Rattle.rule_table.specs.declared.technology.Tech.{Tech}
-use Rattle.sym_items.specs.declared.items.Item.{Item}
-use Rattle.sym_items.specs.declared.items.Coords.{Coords}
-use Rattle.sym_items.specs.Boxes.{HasBox}
-use Rattle.sym_items.specs.Extents.{IsLongUnder}
-use Rattle.pair_rules.specs.Candidates.{candidates_of, Keeps}
-use Rattle.pair_rules.specs.Kept.{kept_of}
+use Rattle.sym_items.specs.{declared.items.{Item.Item, Coords.Coords}, Boxes.HasBox, Extents.IsLongUnder}
+use Rattle.pair_rules.specs.{Candidates.{candidates_of, Keeps}, Kept.kept_of}
 
 -- in a layout that gives each item a box: values that give each item its least extent and keep the kept pairs apart keep all
 -- candidates apart

@@ -2,10 +2,7 @@
 -- them. Variable 0 of an axis is the origin, 1 the far border, then come the centres of the joints, then the places of the wires across it.
 use Rattle.std.specs.Prelude.{ℕ, pos, neg_ℤ, ◌+◌, List, [], ◌∷◌}
 use Rattle.rule_table.specs.declared.classes.Class.TheVariants.{M}
-use Rattle.sym_items.specs.declared.items.End.{End}
-use Rattle.sym_items.specs.declared.items.Item.{Item}
-use Rattle.sym_items.specs.Standing.{nowhere}
-use Rattle.sym_items.specs.declared.items.Coords.{Coords}
+use Rattle.sym_items.specs.{declared.items.{End.End, Item.Item, Coords.Coords}, Standing.nowhere}
 
 -- half a width below the value of a variable, and half a width above
 abbrev pub below : ℕ → End

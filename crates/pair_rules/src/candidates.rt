@@ -2,10 +2,8 @@
 
 ghost use Rattle.std.specs.Prelude.{◌≡◌, ◌↔◌, ◌<◌, ◌^◌, ℤ, pos, ◌≤ℤ◌, int_le, length, All, Some, IsTrue};
 ghost use Rattle.lam_geom.specs.Places.{IsPlacedBox};
-ghost use Rattle.sym_items.specs.Sides.{sides_of};
-ghost use Rattle.sym_items.specs.Boxes.{HasBox};
-ghost use Rattle.pair_rules.specs.Bound.{item_at};
-ghost use Rattle.pair_rules.specs.Candidates.{IsCandidate, is_before, facing_spacing, is_facing};
+ghost use Rattle.sym_items.specs.{Sides.sides_of, Boxes.HasBox};
+ghost use Rattle.pair_rules.specs.{Bound.item_at, Candidates.{IsCandidate, is_before, facing_spacing, is_facing}};
 
 use crate::bound::is_bound;
 use lam_geom::{Axis, BoxXY, gap};

@@ -1,7 +1,6 @@
 //! Pruning loses nothing.
 
-ghost use Rattle.pair_rules.specs.Chains.{LeavesChains};
-ghost use Rattle.pair_rules.specs.Pruning.{LosesNothing};
+ghost use Rattle.pair_rules.specs.{Chains.LeavesChains, Pruning.LosesNothing};
 
 use lam_geom::Axis;
 use rule_table::Tech;

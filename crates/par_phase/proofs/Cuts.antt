@@ -1,13 +1,10 @@
 -- Lists that are split into pieces.
-use Rattle.std.proofs.Common.{◌≡◌, ℕ, zero, suc, ◌+◌, ◌-◌, ◌<◌, ◌≤◌, List, [], ◌∷◌, ◌++◌, length, take, drop, get_or, sym, ap, subst, ◌∙◌, refl, arith, rules}
-use Rattle.std.specs.List.{AllZip, All, flat_map}
-use Rattle.std.specs.Prelude.{Result, Ok, Err, IsOk, IfOk, Vec}
-use Rattle.std.proofs.lemmas.Grind.{take_at_read}
-use Rattle.std.proofs.lemmas.List.{drop-take, take-append-drop, take-take, take_more, flat_map_more}
-use Rattle.std.proofs.Math.Seq.{take-length}
-use Rattle.std.proofs.lemmas.Slice.Zip.{all_zipped_more}
-use Rattle.par_phase.specs.Answers.{answers_in, ArePutTogether}
-use Rattle.par_phase.specs.Pieces.{piece_start, piece_of}
+use Rattle.std.proofs.Common.{◌≡◌, ℕ, zero, suc, ◌+◌, ◌-◌, ◌<◌, ◌≤◌, List, [], ◌∷◌, ◌++◌, length, take, drop, get_or}
+use Rattle.std.proofs.{Common.{sym, ap, subst, ◌∙◌, refl, arith, rules}, Math.Seq.take-length}
+use Rattle.std.proofs.lemmas.{Grind.take_at_read, List.{drop-take, take-append-drop, take-take, take_more}}
+use Rattle.std.proofs.lemmas.{List.flat_map_more, Slice.Zip.all_zipped_more}
+use Rattle.std.specs.{List.{AllZip, All, flat_map}, Prelude.{Result, Ok, Err, IsOk, IfOk, Vec}}
+use Rattle.par_phase.specs.{Answers.{answers_in, ArePutTogether}, Pieces.{piece_start, piece_of}}
 
 -- ---- where pieces begin
 

@@ -1,7 +1,5 @@
 -- What a function answers at the elements of a list.
-use Rattle.std.specs.Prelude.{◌≡◌, List, [], All, Result, Ok, Err, IsOk, Vec, flat_map}
-use Rattle.std.specs.List.{AllZip}
-use Rattle.std.specs.Borrow.{Bor}
+use Rattle.std.specs.{Prelude.{◌≡◌, List, [], All, Result, Ok, Err, IsOk, Vec, flat_map}, List.AllZip, Borrow.Bor}
 use Rattle.std.specs.Fn.{FnReturnsAt, Shared}
 
 module _ {F T U E : Type 0} (g : Shared F (Bor T × Unit {0}) (Result U E)) (f : F) where

@@ -1,8 +1,7 @@
 //! What a function answers at each element of a list, found piece by piece.
 
 ghost use Rattle.std.specs.Prelude.{◌≡◌, ◌+◌, ◌<◌, ◌≤◌, length, IfOk};
-ghost use Rattle.par_phase.specs.Answers.{AcceptsEach, AnswersEach, ArePutTogether};
-ghost use Rattle.par_phase.specs.Pieces.{piece_of};
+ghost use Rattle.par_phase.specs.{Answers.{AcceptsEach, AnswersEach, ArePutTogether}, Pieces.piece_of};
 
 use crate::pieces::piece_of;
 use lam_io::Gate;

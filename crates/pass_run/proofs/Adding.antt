@@ -1,35 +1,21 @@
 -- The kept pairs of masters, as they are found and added to the list.
-use Rattle.std.proofs.Common.{◌≡◌, ℕ, ◌+◌, ◌<◌, ◌≤◌, ◌^◌, List, ◌++◌, length, map, take, get_or, sym, ap, ◌∙◌, subst, arith, zero, suc, [], ◌∷◌, All, flat_map}
-use Rattle.std.specs.List.{range_with_len, AllZip}
-use Rattle.std.proofs.lemmas.List.{length-append, length-map}
-use Rattle.std.proofs.lemmas.List.Folds.{length-flat_map-take}
-use Rattle.std.proofs.lemmas.List.FromFn.{length-range_with_len, get_or-range_with_len}
+use Rattle.std.proofs.Common.{◌≡◌, ℕ, ◌+◌, ◌<◌, ◌≤◌, ◌^◌, List, ◌++◌, length, map, take, get_or, sym, ap, ◌∙◌, subst}
+use Rattle.std.proofs.{Common.{arith, zero, suc, [], ◌∷◌, All, flat_map}, lemmas.List.{length-append, length-map}}
+use Rattle.std.proofs.lemmas.List.{Folds.length-flat_map-take, FromFn.{length-range_with_len, get_or-range_with_len}}
+use Rattle.std.{proofs.lemmas.Slice.Zip.AllZip-long, specs.List.{range_with_len, AllZip}}
 use Rattle.lam_geom.specs.declared.boxes.Axis.{Axis}
 use Rattle.rule_table.specs.declared.technology.Tech.{Tech}
 use Rattle.cons_graph.specs.declared.edges.Edge.{Edge}
-use Rattle.sym_items.specs.declared.items.Item.{Item}
-use Rattle.sym_items.specs.declared.items.Coords.{Coords}
-use Rattle.sym_items.specs.Layouts.{layout_at}
-use Rattle.expand.specs.declared.master.Master.{Master}
-use Rattle.expand.specs.Laws.{IsLawful}
-use Rattle.pair_rules.specs.declared.pairs.Pair.{Pair}
-use Rattle.pair_rules.specs.Kept.{kept_of}
-use Rattle.pitch_join.specs.Masters.{master_at, master_numbers}
-use Rattle.pitch_join.specs.Joined.{base_of, joint_variables, shifted, space_edge, kept_edges_at}
-use Rattle.pitch_join.specs.Spaces.{EndsBelow}
-use Rattle.pitch_join.proofs.Bases.{base_within}
-use Rattle.shadow_prune.specs.declared.keeping.KeptFault.{KeptFault}
-use Rattle.shadow_prune.specs.KeptFaults.{RefusesExactly, RefusesKept}
+use Rattle.sym_items.specs.{declared.items.{Item.Item, Coords.Coords}, Layouts.layout_at}
+use Rattle.expand.specs.{declared.master.Master.Master, Laws.IsLawful}
+use Rattle.pair_rules.specs.{declared.pairs.Pair.Pair, Kept.kept_of}
+use Rattle.pitch_join.specs.{Masters.{master_at, master_numbers}, Joined.{base_of, joint_variables, shifted}}
+use Rattle.pitch_join.{specs.{Joined.{space_edge, kept_edges_at}, Spaces.EndsBelow}, proofs.Bases.base_within}
+use Rattle.shadow_prune.specs.{declared.keeping.KeptFault.KeptFault, KeptFaults.{RefusesExactly, RefusesKept}}
 use Rattle.shadow_prune.proofs.KeptSoFar.{more_for}
-use Rattle.pass_run.specs.Laid.{IsLaidOut, AreLaidOut}
-use Rattle.pass_run.specs.OneMaster.{own_kept_edges}
-use Rattle.pass_run.specs.Passes.{kept_count}
-use Rattle.pass_run.proofs.Lists.{map_twice, first_numbers}
-use Rattle.std.proofs.lemmas.Slice.Zip.{AllZip-long}
-use Rattle.pass_run.specs.declared.finding.Found.{Found}
-use Rattle.pass_run.specs.declared.finding.Found.TheVariants.{Pairs, TooMany}
-use Rattle.pass_run.specs.Alike.{most_edges}
-use Rattle.pass_run.specs.Found.{AreKeptPairs, HasPairs, IsFoundIn, AreFound}
+use Rattle.pass_run.specs.{Laid.{IsLaidOut, AreLaidOut}, OneMaster.own_kept_edges, Passes.kept_count}
+use Rattle.pass_run.specs.{declared.finding.Found.{Found, TheVariants.{Pairs, TooMany}}, Alike.most_edges}
+use Rattle.pass_run.{specs.Found.{AreKeptPairs, HasPairs, IsFoundIn, AreFound}, proofs.Lists.{map_twice, first_numbers}}
 use Rattle.shadow_prune.specs.declared.keeping.KeptFault.TheVariants as faults
 
 -- what the code has of master m is laid out

@@ -1,29 +1,14 @@
 -- Values that agree on the variables of a master meet it alike; and values of the joint variables meet a plan where the layouts that agree with them do.
-use Rattle.std.proofs.Common.{◌≡◌, ℕ, ◌<◌, ℤ, pos, List, length, get_or, sym, ◌∙◌, arith, All}
-use Rattle.std.proofs.lemmas.Int.{ints}
+use Rattle.std.proofs.{Common.{◌≡◌, ℕ, ◌<◌, ℤ, pos, List, length, get_or, sym, ◌∙◌, arith, All}, lemmas.Int.ints}
 use Rattle.lam_geom.specs.declared.boxes.Axis.{Axis}
 use Rattle.rule_table.specs.declared.technology.Tech.{Tech}
-use Rattle.cons_graph.specs.declared.edges.Edge.{Edge}
-use Rattle.cons_graph.specs.Constraints.{IsEdgeAmong}
-use Rattle.cons_graph.specs.Solutions.{Meets}
-use Rattle.sym_items.specs.declared.items.Coords.{Coords}
-use Rattle.sym_items.specs.Layouts.{value_in}
-use Rattle.expand.specs.declared.master.Master.{Master}
-use Rattle.expand.specs.Laws.{MeetsStructure, IsLawful}
-use Rattle.expand.specs.Variables.{variables_of}
-use Rattle.pair_rules.specs.declared.pairs.Pair.{Pair}
-use Rattle.pair_rules.specs.Bound.{no_item}
-use Rattle.pair_rules.specs.Candidates.{Keeps}
-use Rattle.plan_model.specs.declared.plan.Match.{Match}
-use Rattle.plan_model.specs.declared.plan.Plan.{Plan}
-use Rattle.plan_model.specs.declared.plan.Same.{Same}
-use Rattle.plan_model.specs.Plan.{pitch_in, matches_in}
-use Rattle.pitch_join.specs.Masters.{ArePlanned, master_at, no_master}
-use Rattle.pitch_join.specs.Joined.{var_of}
-use Rattle.pitch_join.specs.Layouts.{LayoutsMeet}
-use Rattle.pitch_join.specs.Meeting.{MeetsPlan}
-use Rattle.pitch_join.proofs.Planned.{pitch_among, matches_among}
-use Rattle.pitch_join.proofs.Shape.{cross_own}
+use Rattle.cons_graph.specs.{declared.edges.Edge.Edge, Constraints.IsEdgeAmong, Solutions.Meets}
+use Rattle.sym_items.specs.{declared.items.Coords.Coords, Layouts.value_in}
+use Rattle.expand.specs.{declared.master.Master.Master, Laws.{MeetsStructure, IsLawful}, Variables.variables_of}
+use Rattle.pair_rules.specs.{declared.pairs.Pair.Pair, Bound.no_item, Candidates.Keeps}
+use Rattle.plan_model.specs.{declared.plan.{Match.Match, Plan.Plan, Same.Same}, Plan.{pitch_in, matches_in}}
+use Rattle.pitch_join.specs.{Masters.{ArePlanned, master_at, no_master}, Joined.var_of, Layouts.LayoutsMeet}
+use Rattle.pitch_join.{specs.Meeting.MeetsPlan, proofs.{Planned.{pitch_among, matches_among}, Shape.cross_own}}
 use Rattle.pass_run.proofs.Pairs.{IsAmong}
 
 -- ---- one master

@@ -1,34 +1,23 @@
 -- What a cell without its limits has in common with the cell.
-use Rattle.std.proofs.Common.{◌≡◌, ℕ, ◌+◌, ◌≤◌, ℤ, pos, List, [], ◌∷◌, ◌++◌, length, map, append_assoc, refl, sym, ap, ◌∙◌, arith, inl, inr, flat_map, if◌then◌else◌}
-use Rattle.std.specs.List.{range_with_len}
+use Rattle.std.proofs.Common.{◌≡◌, ℕ, ◌+◌, ◌≤◌, ℤ, pos, List, [], ◌∷◌, ◌++◌, length, map, append_assoc, refl, sym, ap}
+use Rattle.std.{proofs.Common.{◌∙◌, arith, inl, inr, flat_map, if◌then◌else◌}, specs.List.range_with_len}
 use Rattle.list_facts.proofs.Elements.{all_weaker}
-use Rattle.lam_geom.specs.declared.boxes.Axis.{Axis}
-use Rattle.lam_geom.specs.declared.boxes.Axis.TheVariants.{X, Y}
-use Rattle.rule_table.specs.declared.technology.Tech.{Tech}
-use Rattle.rule_table.specs.declared.classes.Layer.{Layer}
+use Rattle.lam_geom.specs.declared.boxes.Axis.{Axis, TheVariants.{X, Y}}
+use Rattle.rule_table.specs.declared.{technology.Tech.Tech, classes.Layer.Layer}
 use Rattle.cons_graph.specs.declared.edges.Edge.{Edge}
-use Rattle.sym_items.specs.declared.items.Item.{Item}
-use Rattle.sym_items.specs.declared.items.Items.{Items}
-use Rattle.sym_items.specs.declared.items.Coords.{Coords}
-use Rattle.cell_model.specs.declared.cell.Axis2.{Axis2}
-use Rattle.cell_model.specs.declared.cell.Axis2.TheVariants.{Across, Up}
-use Rattle.cell_model.specs.declared.cell.WireEnd.{WireEnd}
+use Rattle.sym_items.specs.declared.items.{Item.Item, Items.Items, Coords.Coords}
+use Rattle.cell_model.specs.declared.cell.{Axis2.{Axis2, TheVariants.{Across, Up}}, WireEnd.WireEnd, Node.Node}
+use Rattle.cell_model.specs.{declared.cell.{Wire.Wire, Cell.Cell, Nets.Nets}, Wiring.is_same_axis, Sound.wire_at}
+use Rattle.cell_model.specs.Sound.{IsEnd, Takes, IsOnLowSide, IsOnHighSide, line_at, IsInOrder, IsWithinPad, FillsPad}
+use Rattle.cell_model.specs.Sound.{IsWire, IsBuriedEnd, LeaveOneSide, IsSound, IsLight}
 use Rattle.cell_model.specs.declared.cell.WireEnd.TheVariants as ends
-use Rattle.cell_model.specs.declared.cell.Node.{Node}
-use Rattle.cell_model.specs.declared.cell.Wire.{Wire}
-use Rattle.cell_model.specs.declared.cell.Cell.{Cell}
-use Rattle.cell_model.specs.declared.cell.Nets.{Nets}
-use Rattle.cell_model.specs.Wiring.{is_same_axis}
-use Rattle.cell_model.specs.Sound.{wire_at, IsEnd, Takes, IsOnLowSide, IsOnHighSide, line_at, IsInOrder, IsWithinPad, FillsPad, IsWire, IsBuriedEnd, LeaveOneSide, IsSound, IsLight}
-use Rattle.expand.specs.declared.master.Master.{Master}
-use Rattle.expand.specs.Masters.{IsMaster}
-use Rattle.expand.specs.Variables.{cross_of, crossing, variables_of}
-use Rattle.expand.specs.Items.{items_of_node, items_of_wire, item_list, AreItems}
-use Rattle.expand.specs.NodeItems.{item_running, on_layer}
-use Rattle.expand.specs.WireItems.{run_item, low_end_of, high_end_of, contact_at, wire_items}
-use Rattle.expand.specs.Structure.{end_edges, wire_edges, overlap_edges, overlaps_of, extents_of, margins_of, limits_of, size_edge, structure_of}
-use Rattle.coarse_grid.specs.Extent.{half_extent_of, pitch_of}
-use Rattle.coarse_grid.specs.Start.{node_line, place, last_line, cross_places, start_values, start_of}
+use Rattle.expand.specs.{declared.master.Master.Master, Masters.IsMaster, Variables.{cross_of, crossing, variables_of}}
+use Rattle.expand.specs.{Items.{items_of_node, items_of_wire, item_list, AreItems}, NodeItems.{item_running, on_layer}}
+use Rattle.expand.specs.{WireItems.{run_item, low_end_of, high_end_of, contact_at, wire_items}, Structure.end_edges}
+use Rattle.expand.specs.Structure.{wire_edges, overlap_edges, overlaps_of, extents_of, margins_of, limits_of, size_edge}
+use Rattle.expand.specs.Structure.{structure_of}
+use Rattle.coarse_grid.specs.{Extent.{half_extent_of, pitch_of}, Start.{node_line, place, last_line, cross_places}}
+use Rattle.coarse_grid.specs.Start.{start_values, start_of}
 use Rattle.pass_run.specs.Bare.{bare_cell, bare}
 
 -- ---- the ends of wires

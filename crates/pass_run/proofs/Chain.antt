@@ -1,15 +1,13 @@
 -- The axes of passes, and what is settled on them.
-use Rattle.std.proofs.Common.{◌≡◌, ℕ, suc, ◌<◌, List, [], ◌∷◌, ◌++◌, length, inl, inr, refl, sym, ap, ◌∙◌, take, drop, get_or, arith, drop-cons, Contains}
-use Rattle.std.proofs.lemmas.List.{take-append-drop}
+use Rattle.std.proofs.Common.{◌≡◌, ℕ, suc, ◌<◌, List, [], ◌∷◌, ◌++◌, length, inl, inr, refl, sym, ap, ◌∙◌, take, drop}
+use Rattle.std.proofs.{Common.{get_or, arith, drop-cons, Contains}, lemmas.List.take-append-drop}
 use Rattle.std.proofs.lemmas.List.Elements.{Contains-append_left, Contains-append_right, Contains-append_cases}
 use Rattle.lam_geom.specs.declared.boxes.Axis.{Axis}
 use Rattle.rule_table.specs.declared.technology.Tech.{Tech}
 use Rattle.sym_items.specs.declared.items.Coords.{Coords}
 use Rattle.expand.specs.declared.master.Master.{Master}
 use Rattle.plan_model.specs.declared.plan.Plan.{Plan}
-use Rattle.pass_run.specs.declared.step.Step.{Step}
-use Rattle.pass_run.specs.Passes.{axes_of}
-use Rattle.pass_run.specs.Laid.{AreSettled}
+use Rattle.pass_run.specs.{declared.step.Step.Step, Passes.axes_of, Laid.AreSettled}
 
 pub axes_more : (steps : List Step) (step : Step) → axes_of (steps ++ step ∷ []) ≡ axes_of steps ++ step.axis ∷ []
 axes_more [] step = refl

@@ -1,36 +1,24 @@
 -- Of one master: a walk along inequalities of kept pairs, and along extents of the items between, implies the inequality of each candidate.
-use Rattle.std.proofs.Common.{◌≡◌, ℕ, ◌<◌, Bool, true, false, cond, eqb, ℤ, ◌+ℤ◌, ◌-ℤ◌, ◌≤ℤ◌, List, [], ◌∷◌, ◌++◌, length, map, Some, refl, ap, inl, inr, arith, All, Contains, flat_map}
+use Rattle.std.proofs.Common.{◌≡◌, ℕ, ◌<◌, Bool, true, false, cond, eqb, ℤ, ◌+ℤ◌, ◌-ℤ◌, ◌≤ℤ◌, List, [], ◌∷◌, ◌++◌}
+use Rattle.std.proofs.Common.{length, map, Some, refl, ap, inl, inr, arith, All, Contains, flat_map}
+use Rattle.std.proofs.lemmas.{Int.ints, Bool.{cases_eq, ne_eqb, eqb-true}, List.Elements.{All-nil, All-cons}}
+use Rattle.std.proofs.lemmas.List.Elements.{All-append, All-contains, All-contains_itself, recursion_from_All}
 use Rattle.std.specs.List.{AllByRecursion}
-use Rattle.std.proofs.lemmas.Int.{ints}
-use Rattle.std.proofs.lemmas.Bool.{cases_eq, ne_eqb, eqb-true}
-use Rattle.std.proofs.lemmas.List.Elements.{All-nil, All-cons, All-append, All-contains, All-contains_itself, recursion_from_All}
 use Rattle.lam_geom.specs.declared.boxes.Axis.{Axis}
 use Rattle.rule_table.specs.declared.technology.Tech.{Tech}
-use Rattle.cons_graph.specs.declared.edges.Edge.{Edge}
-use Rattle.cons_graph.specs.declared.edges.Why.{Why}
-use Rattle.cons_graph.specs.declared.edges.Why.TheVariants.{Extent, Space}
-use Rattle.cons_graph.specs.Walks.{IsWalk, walk_length}
-use Rattle.cons_graph.proofs.Tests.{walk_length-append}
-use Rattle.round_log.specs.Implied.{IsImpliedBy}
-use Rattle.round_log.proofs.Walking.{IsWalk-append}
-use Rattle.sym_items.specs.declared.items.End.{End}
-use Rattle.sym_items.specs.declared.items.Item.{Item}
-use Rattle.sym_items.specs.declared.items.Coords.{Coords}
-use Rattle.sym_items.specs.Boxes.{HasBox}
-use Rattle.sym_items.specs.Transposed.{item_along, values_along}
-use Rattle.sym_items.specs.Values.{value_of, end_under}
+use Rattle.cons_graph.specs.{declared.edges.{Edge.Edge, Why.{Why, TheVariants.{Extent, Space}}}, Walks.IsWalk}
+use Rattle.cons_graph.{specs.Walks.walk_length, proofs.Tests.walk_length-append}
+use Rattle.round_log.{specs.Implied.IsImpliedBy, proofs.Walking.IsWalk-append}
+use Rattle.sym_items.specs.declared.items.{End.End, Item.Item, Coords.Coords}
+use Rattle.sym_items.specs.{Boxes.HasBox, Transposed.{item_along, values_along}, Values.{value_of, end_under}}
 use Rattle.cell_model.specs.declared.cell.Cell.{Cell}
 use Rattle.list_facts.proofs.Elements.{all_of, all_parts, all_unmap, all_flat, all_pieces}
-use Rattle.expand.specs.declared.master.Master.{Master}
-use Rattle.expand.specs.Structure.{at_least, between, extent_edges, structure_of}
-use Rattle.expand.specs.Bounds.{FitsOn}
-use Rattle.expand.specs.Laws.{IsLawful}
-use Rattle.pair_rules.specs.declared.pairs.Pair.{Pair}
-use Rattle.pair_rules.specs.Bound.{item_at, no_item}
-use Rattle.pair_rules.specs.Candidates.{spacing_at, candidates_of, high_end, low_end, Keeps}
-use Rattle.pair_rules.specs.Kept.{is_kept, kept_of}
-use Rattle.pair_rules.proofs.PairLists.{of_filtered, all_candidates, is_candidate}
-use Rattle.pair_rules.proofs.Pruning.{shows_of_candidates, candidates_apart}
+use Rattle.expand.specs.{declared.master.Master.Master, Structure.{at_least, between, extent_edges, structure_of}}
+use Rattle.expand.specs.{Bounds.FitsOn, Laws.IsLawful}
+use Rattle.pair_rules.specs.{declared.pairs.Pair.Pair, Bound.{item_at, no_item}, Candidates.{spacing_at, candidates_of}}
+use Rattle.pair_rules.specs.{Candidates.{high_end, low_end, Keeps}, Kept.{is_kept, kept_of}}
+use Rattle.pair_rules.proofs.{PairLists.{of_filtered, all_candidates, is_candidate}, Pruning.shows_of_candidates}
+use Rattle.pair_rules.proofs.Pruning.{candidates_apart}
 use Rattle.pitch_join.specs.Joined.{space_edges, space_edge}
 
 -- the structure of a master, and the inequalities of its kept pairs, over its own variables

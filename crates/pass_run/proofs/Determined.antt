@@ -1,25 +1,18 @@
 -- Passes are determined by their axes and by the layout before the first of them.
 use Rattle.std.proofs.Common.{◌≡◌, ℕ, ℤ, pos, List, [], ◌∷◌, length, get_or, drop, refl, sym, ap, ◌∙◌, subst, arith}
-use Rattle.std.proofs.lemmas.Int.{ints}
-use Rattle.std.proofs.lemmas.List.{ext_get_or}
+use Rattle.std.proofs.lemmas.{Int.ints, List.ext_get_or}
 use Rattle.lam_geom.specs.declared.boxes.Axis.{Axis}
 use Rattle.rule_table.specs.declared.technology.Tech.{Tech}
-use Rattle.cons_graph.specs.declared.edges.Edge.{Edge}
-use Rattle.cons_graph.specs.Solutions.{IsLeastSolution, value_of}
-use Rattle.round_log.specs.declared.log.Entry.{Entry}
-use Rattle.round_log.specs.Looks.{backward_numbers}
-use Rattle.round_log.specs.Rounds.{plan_of, EndsInRound}
+use Rattle.cons_graph.specs.{declared.edges.Edge.Edge, Solutions.{IsLeastSolution, value_of}}
+use Rattle.round_log.specs.{declared.log.Entry.Entry, Looks.backward_numbers, Rounds.{plan_of, EndsInRound}}
 use Rattle.round_log.proofs.OneOutcome.{one_end}
 use Rattle.liao_wong.proofs.OneOrder.{has_one_order}
 use Rattle.sym_items.specs.declared.items.Coords.{Coords}
 use Rattle.expand.specs.declared.master.Master.{Master}
 use Rattle.plan_model.specs.declared.plan.Plan.{Plan}
-use Rattle.pass_run.specs.declared.step.Step.{Step}
-use Rattle.pass_run.specs.declared.step.Walk.{Walk}
-use Rattle.pitch_join.specs.Joined.{joint_variables, system_over, list_over}
-use Rattle.pass_run.specs.Layouts.{joint_values, moved_by}
-use Rattle.pass_run.specs.Slack.{HasOneMost}
+use Rattle.pass_run.specs.{declared.step.{Step.Step, Walk.Walk}, Layouts.{joint_values, moved_by}, Slack.HasOneMost}
 use Rattle.pass_run.specs.Passes.{kept_counts, far_walks, IsLeastPass, IsRecorded, ArePasses, axes_of}
+use Rattle.pitch_join.specs.Joined.{joint_variables, system_over, list_over}
 
 -- least values are one list
 pub one_least : (vars : ℕ) (system : List Edge) (x y : List ℤ) → length x ≡ vars → length y ≡ vars → IsLeastSolution vars system (value_of x) → IsLeastSolution vars system (value_of y) → x ≡ y

@@ -1,21 +1,15 @@
 -- Lists that are equal at each place, and masters whose cells are equal but for their limits.
-use Rattle.std.proofs.Common.{◌≡◌, ℕ, suc, ◌<◌, Bool, true, false, ◌&&◌, eqb, List, [], ◌∷◌, length, get_or, refl, sym, ap, ◌∙◌, subst, arith, All}
+use Rattle.std.proofs.Common.{◌≡◌, ℕ, suc, ◌<◌, Bool, true, false, ◌&&◌, eqb, List, [], ◌∷◌, length, get_or, refl, sym}
+use Rattle.std.proofs.{Common.{ap, ◌∙◌, subst, arith, All}, lemmas.{Bool.eqb-true, List.Elements.{All-head, All-tail}}}
 use Rattle.std.specs.Cmp.Lexicographic.{pointwise}
-use Rattle.std.proofs.lemmas.Bool.{eqb-true}
-use Rattle.std.proofs.lemmas.List.Elements.{All-head, All-tail}
 use Rattle.rule_table.specs.declared.technology.Tech.{Tech}
 use Rattle.sym_items.specs.declared.items.Items.{Items}
-use Rattle.cell_model.specs.declared.cell.Cell.{Cell}
-use Rattle.cell_model.specs.declared.cell.Nets.{Nets}
+use Rattle.cell_model.specs.declared.cell.{Cell.Cell, Nets.Nets}
 use Rattle.cell_nets.proofs.Determined.{nets_same}
-use Rattle.expand.specs.declared.master.Master.{Master}
-use Rattle.expand.specs.Items.{items_of, AreItems}
-use Rattle.expand.specs.Masters.{IsMaster}
-use Rattle.plan_model.specs.declared.plan.Match.{Match}
-use Rattle.plan_model.specs.declared.plan.Same.{Same}
+use Rattle.expand.specs.{declared.master.Master.Master, Items.{items_of, AreItems}, Masters.IsMaster}
+use Rattle.plan_model.specs.declared.plan.{Match.Match, Same.Same}
 use Rattle.pitch_join.specs.Masters.{master_at}
-use Rattle.pass_run.specs.Bare.{bare, bare_cell, bare_of}
-use Rattle.pass_run.proofs.Cells.{items_kept}
+use Rattle.pass_run.{specs.Bare.{bare, bare_cell, bare_of}, proofs.Cells.items_kept}
 
 -- lists of one length that are equal at each place are equal
 pub same_by_places : {X : Type 0} (xs ys : List X) → length xs ≡ length ys → ((k : ℕ) (d : X) → k < length xs → get_or xs k d ≡ get_or ys k d) → xs ≡ ys

@@ -1,38 +1,23 @@
 -- The passes so far, at the start and with one more, and what they give in the end.
-use Rattle.std.proofs.Common.{◌≡◌, ℕ, suc, ◌+◌, ◌<◌, ℤ, Bool, true, false, List, [], ◌∷◌, ◌++◌, length, take, drop, get_or, refl, sym, ap, ◌∙◌, subst, arith, append-nil, ◌↔◌, IsTrue, Contains, All}
-use Rattle.std.proofs.lemmas.Bool.{false≢true}
-use Rattle.std.proofs.lemmas.Grind.{flat_map-append}
-use Rattle.std.proofs.lemmas.List.{get_or-map, length-map, map-append}
+use Rattle.std.proofs.Common.{◌≡◌, ℕ, suc, ◌+◌, ◌<◌, ℤ, Bool, true, false, List, [], ◌∷◌, ◌++◌, length, take, drop}
+use Rattle.std.proofs.Common.{get_or, refl, sym, ap, ◌∙◌, subst, arith, append-nil, ◌↔◌, IsTrue, Contains, All}
+use Rattle.std.proofs.lemmas.{Bool.false≢true, Grind.flat_map-append, List.{get_or-map, length-map, map-append}}
 use Rattle.lam_geom.specs.declared.boxes.Axis.{Axis}
 use Rattle.rule_table.specs.declared.technology.Tech.{Tech}
-use Rattle.sym_items.specs.declared.items.Coords.{Coords}
-use Rattle.sym_items.specs.Layouts.{layout_at, no_layout}
-use Rattle.expand.specs.declared.master.Master.{Master}
-use Rattle.expand.specs.Masters.{IsMaster}
+use Rattle.sym_items.specs.{declared.items.Coords.Coords, Layouts.{layout_at, no_layout}}
+use Rattle.expand.specs.{declared.master.Master.Master, Masters.IsMaster}
 use Rattle.plan_model.specs.declared.plan.Plan.{Plan}
 use Rattle.coarse_grid.proofs.StartLaid.{start_laid}
-use Rattle.pass_run.specs.declared.pass.Made.{Made}
-use Rattle.pass_run.specs.declared.pass.Stop.{Stop}
-use Rattle.pass_run.specs.declared.pass.Stop.TheVariants.{TooManyEdges, Cycle, OutOfMemory}
-use Rattle.pass_run.specs.declared.step.Step.{Step}
-use Rattle.pass_run.specs.declared.passes.PassFault.{PassFault}
-use Rattle.pass_run.specs.declared.passes.Passes.{Passes}
-use Rattle.pass_run.specs.declared.passes.SoFar.{SoFar}
-use Rattle.pitch_join.specs.Joined.{list_over}
-use Rattle.pitch_join.specs.Masters.{master_at, no_master}
-use Rattle.pass_run.specs.Layouts.{start_of_master, starts_of, moved_by, layouts_after}
-use Rattle.pass_run.specs.Passes.{ArePasses, axes_of}
-use Rattle.pass_run.specs.PassesOn.{ArePassesOn}
-use Rattle.pass_run.specs.Report.{pass_text, report_from, report_of}
-use Rattle.pass_run.specs.Theorems.{AreSound}
-use Rattle.pass_run.specs.PassFaults.{ComesTo, IsCyclicOver, IsUnsatisfiable, RefusesPasses}
-use Rattle.pass_run.specs.Laid.{StartsClean, IsLaidOut, AreLaidOut, AreSettled}
-use Rattle.pass_run.specs.Going.{AreMade, IsGoing, IsToldIfLast, steps_of, text_of, mosts_of}
-use Rattle.pass_run.specs.OnePass.{EndsPasses, IsFirstOn, IsPassMade, StopsPass}
+use Rattle.pass_run.specs.declared.pass.{Made.Made, Stop.{Stop, TheVariants.{TooManyEdges, Cycle, OutOfMemory}}}
+use Rattle.pass_run.specs.declared.{step.Step.Step, passes.{PassFault.PassFault, Passes.Passes, SoFar.SoFar}}
+use Rattle.pass_run.specs.{Layouts.{start_of_master, starts_of, moved_by, layouts_after}, Passes.{ArePasses, axes_of}}
+use Rattle.pass_run.specs.{PassesOn.ArePassesOn, Report.{pass_text, report_from, report_of}, Theorems.AreSound}
+use Rattle.pass_run.specs.{PassFaults.{ComesTo, IsCyclicOver, IsUnsatisfiable, RefusesPasses}, Laid.StartsClean}
+use Rattle.pass_run.specs.{Laid.{IsLaidOut, AreLaidOut, AreSettled}, Going.{AreMade, IsGoing, IsToldIfLast, steps_of}}
+use Rattle.pass_run.specs.{Going.{text_of, mosts_of}, OnePass.{EndsPasses, IsFirstOn, IsPassMade, StopsPass}}
 use Rattle.pass_run.specs.Told.{IsTightMost, IsTold, AreTold}
-use Rattle.pass_run.proofs.Chain.{none_settled, settled_first, axes_split}
-use Rattle.pass_run.proofs.Leading.{passes_solvable}
-use Rattle.pass_run.proofs.Settled.{placed_of}
+use Rattle.pass_run.proofs.{Chain.{none_settled, settled_first, axes_split}, Leading.passes_solvable, Settled.placed_of}
+use Rattle.pitch_join.specs.{Joined.list_over, Masters.{master_at, no_master}}
 
 -- the start layouts are layouts of the masters
 pub starts_laid : (tech : Tech) (masters : List Master) → All (IsMaster tech) masters → All (StartsClean tech) masters → AreLaidOut tech masters (starts_of tech masters)

@@ -1,17 +1,15 @@
 -- The last pass on an axis among some passes, of which there is no other, and what is told of all passes.
-use Rattle.std.proofs.Common.{◌≡◌, ℕ, suc, ◌≤◌, List, [], ◌∷◌, ◌⊎◌, inl, inr, refl, ap, arith, zero, ◌-◌, ◌<◌, ℤ, length, sym, ◌∙◌, subst, append-nil, Contains, slice_index_or}
-use Rattle.std.proofs.lemmas.List.Elements.{All-nil, All-cons, All-contains, Contains-append_right, Contains-append_cases, Contains-append_left}
+use Rattle.std.proofs.Common.{◌≡◌, ℕ, suc, ◌≤◌, List, [], ◌∷◌, ◌⊎◌, inl, inr, refl, ap, arith, zero, ◌-◌, ◌<◌, ℤ}
+use Rattle.std.proofs.Common.{length, sym, ◌∙◌, subst, append-nil, Contains, slice_index_or}
+use Rattle.std.proofs.lemmas.List.Elements.{All-nil, All-cons, All-contains, Contains-append_right}
+use Rattle.std.proofs.lemmas.List.Elements.{Contains-append_cases, Contains-append_left}
 use Rattle.lam_geom.specs.declared.boxes.Axis.{Axis}
 use Rattle.sym_items.specs.declared.items.Coords.{Coords}
 use Rattle.expand.specs.declared.master.Master.{Master}
-use Rattle.pass_run.specs.declared.step.Step.{Step}
-use Rattle.pass_run.specs.Layouts.{moved_by}
-use Rattle.pass_run.specs.Passes.{axes_of}
-use Rattle.pass_run.specs.Slack.{IsLastOn, here, later, most_at, AreMosts, AreTight}
-use Rattle.pass_run.proofs.Settled.{same_axis}
+use Rattle.pass_run.specs.{declared.step.Step.Step, Layouts.moved_by, Passes.axes_of, Slack.{IsLastOn, here, later}}
+use Rattle.pass_run.{specs.{Slack.{most_at, AreMosts, AreTight}, Told.{IsTightMost, AreTold}}, proofs.Settled.same_axis}
 use Rattle.rule_table.specs.declared.technology.Tech.{Tech}
 use Rattle.plan_model.specs.declared.plan.Plan.{Plan}
-use Rattle.pass_run.specs.Told.{IsTightMost, AreTold}
 
 only_one : (a axis : Axis) → Contains (a ∷ []) axis → a ≡ axis
 only_one a axis h = let P : Axis → Type 0 = λ z. a ≡ z in All-contains P (a ∷ []) axis (All-cons P a [] refl (All-nil P)) h

@@ -1,28 +1,21 @@
 -- Passes lead to one place.
-use Rattle.std.proofs.Common.{Option, None, Some, ◌≡◌, ℕ, ℤ, List, [], ◌∷◌, ◌++◌, refl, sym, ap, ◌∙◌, subst, Bool, arith, All, IfNone}
+use Rattle.std.proofs.Common.{Option, None, Some, ◌≡◌, ℕ, ℤ, List, [], ◌∷◌, ◌++◌, refl, sym, ap, ◌∙◌, subst, Bool}
+use Rattle.std.proofs.Common.{arith, All, IfNone}
 use Rattle.lam_geom.specs.declared.boxes.Axis.{Axis}
 use Rattle.rule_table.specs.declared.technology.Tech.{Tech}
 use Rattle.cons_graph.specs.Solutions.{value_of}
 use Rattle.liao_wong.specs.Answers.{IsWithinLimit}
 use Rattle.sym_items.specs.declared.items.Coords.{Coords}
-use Rattle.expand.specs.declared.master.Master.{Master}
-use Rattle.expand.specs.Laws.{IsLawful}
+use Rattle.expand.specs.{declared.master.Master.Master, Laws.IsLawful}
 use Rattle.plan_model.specs.declared.plan.Plan.{Plan}
-use Rattle.pitch_join.specs.Masters.{ArePlanned}
-use Rattle.pitch_join.specs.Joined.{joint_variables, system_over}
-use Rattle.pass_run.specs.declared.passes.PassFault.{PassFault}
-use Rattle.pass_run.specs.declared.passes.PassFault.TheVariants.{TooManyEdges, Unsatisfiable, OutOfMemory}
-use Rattle.pass_run.specs.declared.pass.Made.{Made}
-use Rattle.pass_run.specs.declared.step.Step.{Step}
-use Rattle.pass_run.specs.Laid.{AreLaidOut}
-use Rattle.pass_run.specs.Layouts.{starts_of, moved_by, layouts_after, with_values}
-use Rattle.pass_run.specs.Least.{AreLeastValues, LeadTo, LeadNowhere, StaySettled, LeadToOnePlace}
-use Rattle.pass_run.specs.PassFaults.{IsSolvable, RefusesPasses, AreSolvable, HasManyEdges, IsFirstUnsolvable, IsUnsatisfiable}
-use Rattle.pass_run.specs.Passes.{IsLeastPass, IsRecorded, ArePasses, axes_of}
-use Rattle.pass_run.proofs.Determined.{one_least}
-use Rattle.pass_run.proofs.Pruning.{solutions_kept}
-use Rattle.pass_run.proofs.Settled.{SolvesPass, boxes_of, settles}
-use Rattle.pass_run.specs.OnePass.{IsPassMade}
+use Rattle.pitch_join.specs.{Masters.ArePlanned, Joined.{joint_variables, system_over}}
+use Rattle.pass_run.specs.declared.passes.PassFault.{PassFault, TheVariants.{TooManyEdges, Unsatisfiable, OutOfMemory}}
+use Rattle.pass_run.specs.{declared.{pass.Made.Made, step.Step.Step}, Laid.AreLaidOut, Layouts.{starts_of, moved_by}}
+use Rattle.pass_run.specs.{Layouts.{layouts_after, with_values}, Least.{AreLeastValues, LeadTo, LeadNowhere}}
+use Rattle.pass_run.specs.{Least.{StaySettled, LeadToOnePlace}, PassFaults.{IsSolvable, RefusesPasses, AreSolvable}}
+use Rattle.pass_run.specs.{PassFaults.{HasManyEdges, IsFirstUnsolvable, IsUnsatisfiable}, Passes.IsLeastPass}
+use Rattle.pass_run.specs.{Passes.{IsRecorded, ArePasses, axes_of}, OnePass.IsPassMade}
+use Rattle.pass_run.proofs.{Determined.one_least, Pruning.solutions_kept, Settled.{SolvesPass, boxes_of, settles}}
 use Rattle.round_log.proofs.Least.{positive_cycle_excludes}
 
 -- ---- passes that have values

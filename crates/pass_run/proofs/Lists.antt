@@ -1,9 +1,7 @@
 -- Lists of images, and of the first numbers.
-use Rattle.std.proofs.Common.{◌≡◌, ℕ, zero, suc, ◌+◌, ◌<◌, ◌≤◌, List, [], ◌∷◌, ◌++◌, length, take, map, get_or, refl, sym, ap, ◌∙◌, subst, arith, All, Result, Ok, Err, IfOk}
-use Rattle.std.specs.List.{range_with_len}
-use Rattle.std.proofs.lemmas.List.{map_more}
-use Rattle.std.proofs.lemmas.List.Elements.{All-more}
-use Rattle.std.proofs.lemmas.List.FromFn.{map-range_with_len_more}
+use Rattle.std.proofs.Common.{◌≡◌, ℕ, zero, suc, ◌+◌, ◌<◌, ◌≤◌, List, [], ◌∷◌, ◌++◌, length, take, map, get_or, refl}
+use Rattle.std.proofs.{Common.{sym, ap, ◌∙◌, subst, arith, All, Result, Ok, Err, IfOk}, lemmas.List.map_more}
+use Rattle.std.{proofs.lemmas.List.{Elements.All-more, FromFn.map-range_with_len_more}, specs.List.range_with_len}
 
 pub map_twice : {X Y Z : Type 0} (f : Y → Z) (g : X → Y) (xs : List X) → map (λ x. f (g x)) xs ≡ map f (map g xs)
 map_twice f g [] = refl

@@ -1,32 +1,23 @@
 -- What masters without their limits have in common with the masters, and the list of a pass over them.
-use Rattle.std.proofs.Common.{◌≡◌, ℕ, zero, suc, ◌+◌, ◌≤◌, List, [], ◌∷◌, ◌++◌, length, map, take, refl, sym, ap, ◌∙◌, subst, arith, ◌↔◌, All, flat_map, sum_by}
+use Rattle.std.proofs.Common.{◌≡◌, ℕ, zero, suc, ◌+◌, ◌≤◌, List, [], ◌∷◌, ◌++◌, length, map, take, refl, sym, ap, ◌∙◌}
+use Rattle.std.proofs.{Common.{subst, arith, ◌↔◌, All, flat_map, sum_by}, lemmas.List.{length-append, length-map}}
+use Rattle.std.proofs.lemmas.List.{map-append, take-map, Elements.{All-weaker, All-map}, Sums.sum_by-cons}
 use Rattle.std.specs.List.{range_with_len}
-use Rattle.std.proofs.lemmas.List.{length-append, length-map, map-append, take-map}
-use Rattle.std.proofs.lemmas.List.Elements.{All-weaker, All-map}
-use Rattle.std.proofs.lemmas.List.Sums.{sum_by-cons}
 use Rattle.lam_geom.specs.declared.boxes.Axis.{Axis}
 use Rattle.rule_table.specs.declared.technology.Tech.{Tech}
-use Rattle.cons_graph.specs.Constraints.{IsEdgeAmong}
-use Rattle.cons_graph.specs.declared.edges.Edge.{Edge}
-use Rattle.cons_graph.specs.declared.edges.Why.TheVariants.{Pitch}
-use Rattle.sym_items.specs.declared.items.Coords.{Coords}
-use Rattle.sym_items.specs.Layouts.{layout_at}
+use Rattle.cons_graph.specs.{Constraints.IsEdgeAmong, declared.edges.{Edge.Edge, Why.TheVariants.Pitch}}
+use Rattle.sym_items.specs.{declared.items.Coords.Coords, Layouts.layout_at}
 use Rattle.cell_model.specs.declared.cell.CellPort.{CellPort}
-use Rattle.expand.specs.declared.master.Master.{Master}
-use Rattle.expand.specs.Masters.{IsMaster}
-use Rattle.expand.specs.Structure.{structure_of, limits_of}
+use Rattle.expand.specs.{declared.master.Master.Master, Masters.IsMaster, Structure.{structure_of, limits_of}}
 use Rattle.expand.specs.Variables.{cross_of}
 use Rattle.pair_rules.specs.Kept.{kept_of}
-use Rattle.plan_model.specs.declared.plan.Match.{Match}
-use Rattle.plan_model.specs.declared.plan.Plan.{Plan}
-use Rattle.plan_model.specs.declared.plan.Same.{Same}
-use Rattle.plan_model.specs.Plan.{pitch_in, matches_in, IsPlanOver}
+use Rattle.plan_model.specs.{declared.plan.{Match.Match, Plan.Plan, Same.Same}, Plan.{pitch_in, matches_in, IsPlanOver}}
 use Rattle.pitch_join.specs.Masters.{ArePlanned, master_at, master_numbers, parts_in, ports_of_masters}
-use Rattle.pitch_join.specs.Joined.{base_of, bases_of, equal_edges, fixed_of, joined, joint_variables, kept_edges_at, list_over, own_variables, pitches_of, port_edges, ports_of, shifted, space_edge, structure_at, structures_of, tied_edges}
-use Rattle.pitch_join.proofs.Lists.{of_both, of_numbered}
-use Rattle.pitch_join.proofs.Shape.{fixed_shape}
-use Rattle.pass_run.specs.Bare.{bare, bare_of, AskAlike}
-use Rattle.pass_run.specs.Limits.{limits_at, joint_limits}
+use Rattle.pitch_join.specs.Joined.{base_of, bases_of, equal_edges, fixed_of, joined, joint_variables, kept_edges_at}
+use Rattle.pitch_join.specs.Joined.{list_over, own_variables, pitches_of, port_edges, ports_of, shifted, space_edge}
+use Rattle.pitch_join.specs.Joined.{structure_at, structures_of, tied_edges}
+use Rattle.pitch_join.proofs.{Lists.{of_both, of_numbered}, Shape.fixed_shape}
+use Rattle.pass_run.specs.{Bare.{bare, bare_of, AskAlike}, Limits.{limits_at, joint_limits}}
 use Rattle.pass_run.proofs.Cells.{master_kept, structure_kept}
 
 -- ---- the plan of some masters

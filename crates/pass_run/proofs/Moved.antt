@@ -1,27 +1,16 @@
 -- The layout of one master after a pass.
 use Rattle.std.proofs.Common.{◌≡◌, ℕ, ℤ, pos, ◌+ℤ◌, ◌≤ℤ◌, List, length, arith, All}
-use Rattle.std.proofs.lemmas.Int.{ints}
-use Rattle.std.proofs.lemmas.List.Elements.{All-from_get_or}
-use Rattle.lam_geom.specs.declared.boxes.Axis.{Axis}
-use Rattle.lam_geom.specs.declared.boxes.Axis.TheVariants.{X, Y}
+use Rattle.std.proofs.lemmas.{Int.ints, List.Elements.All-from_get_or}
+use Rattle.lam_geom.specs.declared.boxes.Axis.{Axis, TheVariants.{X, Y}}
 use Rattle.rule_table.specs.declared.technology.Tech.{Tech}
 use Rattle.liao_wong.specs.Answers.{IsWithinLimit}
-use Rattle.sym_items.specs.declared.items.End.{End}
-use Rattle.sym_items.specs.declared.items.Item.{Item}
-use Rattle.sym_items.specs.declared.items.Coords.{Coords}
-use Rattle.sym_items.specs.Boxes.{IsPlacedEnd, HasSpan, HasBox}
-use Rattle.sym_items.specs.Transposed.{item_along, values_along}
-use Rattle.sym_items.specs.Values.{value_of, value_at}
-use Rattle.expand.specs.declared.master.Master.{Master}
-use Rattle.expand.specs.Variables.{variables_of}
-use Rattle.expand.specs.Bounds.{IsEndAmong, IsSpanAmong}
+use Rattle.sym_items.specs.{declared.items.{End.End, Item.Item, Coords.Coords}, Boxes.{IsPlacedEnd, HasSpan, HasBox}}
+use Rattle.sym_items.specs.{Transposed.{item_along, values_along}, Values.{value_of, value_at}}
+use Rattle.expand.specs.{declared.master.Master.Master, Variables.variables_of, Bounds.{IsEndAmong, IsSpanAmong}}
 use Rattle.expand.specs.Laws.{EndsAbove, IsLawful}
-use Rattle.pair_rules.specs.Laws.{moved}
-use Rattle.pair_rules.proofs.Staying.{stays_clean}
-use Rattle.pair_rules.specs.Candidates.{candidates_of, Keeps}
-use Rattle.pair_rules.proofs.Pruning.{pruning_loses_nothing}
-use Rattle.pass_run.specs.Laid.{IsLaidOut}
-use Rattle.pass_run.specs.Meeting.{MeetsMaster, IsNextFor, StaysLaidOut}
+use Rattle.pair_rules.specs.{Laws.moved, Candidates.{candidates_of, Keeps}}
+use Rattle.pair_rules.proofs.{Staying.stays_clean, Pruning.pruning_loses_nothing}
+use Rattle.pass_run.specs.{Laid.IsLaidOut, Meeting.{MeetsMaster, IsNextFor, StaysLaidOut}}
 
 -- ---- the axes of a layout with other values on one of them
 

@@ -1,26 +1,20 @@
 -- Passes are refused in one way.
-use Rattle.std.proofs.Common.{◌≡◌, ℕ, suc, List, [], ◌∷◌, ◌++◌, length, get_or, drop, ◌⊎◌, inl, inr, refl, sym, ap, ◌∙◌, subst, arith, ℤ}
+use Rattle.std.proofs.Common.{◌≡◌, ℕ, suc, List, [], ◌∷◌, ◌++◌, length, get_or, drop, ◌⊎◌, inl, inr, refl, sym, ap, ◌∙◌}
+use Rattle.std.proofs.Common.{subst, arith, ℤ}
 use Rattle.lam_geom.specs.declared.boxes.Axis.{Axis}
 use Rattle.rule_table.specs.declared.technology.Tech.{Tech}
-use Rattle.cons_graph.specs.declared.edges.Edge.{Edge}
-use Rattle.cons_graph.specs.Solutions.{value_of}
-use Rattle.liao_wong.specs.Answers.{IsCycleOf}
-use Rattle.liao_wong.proofs.OneOrder.{has_one_order, has_one_cycle}
+use Rattle.cons_graph.specs.{declared.edges.Edge.Edge, Solutions.value_of}
+use Rattle.liao_wong.{specs.Answers.IsCycleOf, proofs.OneOrder.{has_one_order, has_one_cycle}}
 use Rattle.sym_items.specs.declared.items.Coords.{Coords}
 use Rattle.expand.specs.declared.master.Master.{Master}
 use Rattle.plan_model.specs.declared.plan.Plan.{Plan}
-use Rattle.pass_run.specs.declared.passes.PassFault.{PassFault}
-use Rattle.pass_run.specs.declared.passes.PassFault.TheVariants.{TooManyEdges, Unsatisfiable, OutOfMemory}
-use Rattle.pass_run.specs.declared.step.Step.{Step}
-use Rattle.pitch_join.specs.Names.{joint_names}
-use Rattle.pitch_join.specs.Joined.{joint_variables, list_over}
-use Rattle.pass_run.specs.Layouts.{starts_of, joint_values, moved_by, layouts_after}
-use Rattle.pass_run.specs.Passes.{ArePasses, axes_of}
-use Rattle.pass_run.specs.Report.{report_of, cycle_text}
-use Rattle.pass_run.specs.PassFaults.{IsSolvable, HasManyEdges, IsCyclicOver, IsUnsatisfiable, RefusesPasses, AreRefusedInOneWay, StopsAtFirst, IsFirstUnsolvable}
-use Rattle.pass_run.proofs.Determined.{one_pass}
-use Rattle.pass_run.specs.Least.{LeadTo}
+use Rattle.pass_run.specs.declared.passes.PassFault.{PassFault, TheVariants.{TooManyEdges, Unsatisfiable, OutOfMemory}}
+use Rattle.pass_run.specs.{declared.step.Step.Step, Layouts.{starts_of, joint_values, moved_by, layouts_after}}
+use Rattle.pass_run.specs.{Passes.{ArePasses, axes_of}, Report.{report_of, cycle_text}, PassFaults.IsSolvable}
+use Rattle.pass_run.specs.PassFaults.{HasManyEdges, IsCyclicOver, IsUnsatisfiable, RefusesPasses, AreRefusedInOneWay}
+use Rattle.pass_run.{specs.{PassFaults.{StopsAtFirst, IsFirstUnsolvable}, Least.LeadTo}, proofs.Determined.one_pass}
 use Rattle.pass_run.proofs.Leading.{cycle_first, made_least, many_first, not_refused, passes_lead}
+use Rattle.pitch_join.specs.{Names.joint_names, Joined.{joint_variables, list_over}}
 
 module _ (tech : Tech) (plan : Plan) (masters : List Master) where
   -- passes come to one without values in one way

@@ -2,15 +2,9 @@
 use Rattle.std.proofs.Common.{pos, ◌≤ℤ◌, ◌<◌, List, length, All}
 use Rattle.lam_geom.specs.declared.boxes.Axis.{Axis}
 use Rattle.rule_table.specs.declared.technology.Tech.{Tech}
-use Rattle.sym_items.specs.declared.items.Item.{Item}
-use Rattle.sym_items.specs.declared.items.Coords.{Coords}
-use Rattle.pair_rules.specs.declared.pairs.Pair.{Pair}
-use Rattle.pair_rules.specs.Bound.{item_at}
-use Rattle.pair_rules.specs.Candidates.{candidates_of}
-use Rattle.pair_rules.specs.Kept.{kept_of}
-use Rattle.pair_rules.proofs.Spacings.{facing_bounds}
-use Rattle.pair_rules.proofs.PairLists.{all_candidates}
-use Rattle.pair_rules.proofs.Pruning.{kept_among}
+use Rattle.sym_items.specs.declared.items.{Item.Item, Coords.Coords}
+use Rattle.pair_rules.specs.{declared.pairs.Pair.Pair, Bound.item_at, Candidates.candidates_of, Kept.kept_of}
+use Rattle.pair_rules.proofs.{Spacings.facing_bounds, PairLists.all_candidates, Pruning.kept_among}
 
 -- a pair of two of the items
 abbrev pub IsAmong : List Item → Pair → Type 0

@@ -1,34 +1,24 @@
 -- The list of a pass has the solutions of its system, and a positive cycle exactly where the system has one.
-use Rattle.std.proofs.Common.{ℕ, ◌<◌, ℤ, List, length, map, ◌++◌, Contains, All, flat_map}
-use Rattle.std.specs.List.{AllByRecursion}
-use Rattle.std.proofs.lemmas.Bool.{ne_eqb}
+use Rattle.std.proofs.{Common.{ℕ, ◌<◌, ℤ, List, length, map, ◌++◌, Contains, All, flat_map}, lemmas.Bool.ne_eqb}
 use Rattle.std.proofs.lemmas.List.Elements.{All-append, All-map, All-weaker, All-contains_itself, recursion_from_All}
+use Rattle.std.specs.List.{AllByRecursion}
 use Rattle.lam_geom.specs.declared.boxes.Axis.{Axis}
 use Rattle.rule_table.specs.declared.technology.Tech.{Tech}
-use Rattle.cons_graph.specs.declared.edges.Edge.{Edge}
-use Rattle.round_log.specs.Implied.{IsImpliedBy}
-use Rattle.round_log.proofs.Implied.{cycles_alike, implied_by_itself}
-use Rattle.sym_items.specs.declared.items.Item.{Item}
-use Rattle.sym_items.specs.declared.items.Coords.{Coords}
-use Rattle.sym_items.specs.Layouts.{layout_at}
-use Rattle.expand.specs.declared.master.Master.{Master}
-use Rattle.expand.specs.Laws.{IsLawful}
+use Rattle.cons_graph.specs.{declared.edges.Edge.Edge, Solutions.IsLeastSolution}
+use Rattle.round_log.{specs.Implied.IsImpliedBy, proofs.Implied.{cycles_alike, implied_by_itself}}
+use Rattle.sym_items.specs.{declared.items.{Item.Item, Coords.Coords}, Layouts.layout_at}
+use Rattle.expand.specs.{declared.master.Master.Master, Laws.IsLawful}
 use Rattle.list_facts.proofs.Elements.{all_of, all_pieces}
-use Rattle.pair_rules.specs.declared.pairs.Pair.{Pair}
-use Rattle.pair_rules.specs.Candidates.{candidates_of, Keeps}
-use Rattle.pair_rules.specs.Kept.{kept_of}
-use Rattle.plan_model.specs.declared.plan.Plan.{Plan}
-use Rattle.pitch_join.specs.Masters.{master_at, master_numbers, no_master}
-use Rattle.pitch_join.specs.Joined.{base_of, local_of, shifted, space_edge, space_edges, structure_at, structures_of, pitches_of, ports_of, fixed_of, kept_edges_at, candidate_edges_at, system_over, list_over}
-use Rattle.pitch_join.specs.Meeting.{MeetsPlan, KeepsKept, KeepsCandidates, HaveBoxes}
-use Rattle.pitch_join.proofs.Lists.{of_both, of_images, of_numbered}
-use Rattle.pitch_join.proofs.Solving.{joining_meets}
+use Rattle.pair_rules.specs.{declared.pairs.Pair.Pair, Candidates.{candidates_of, Keeps}, Kept.kept_of}
 use Rattle.pair_rules.proofs.Pruning.{pruning_loses_nothing, kept_among, kept_differs}
-use Rattle.pass_run.specs.Alike.{HaveSameSolutions}
-use Rattle.pass_run.specs.Pruning.{PruningLosesNothing}
-use Rattle.pass_run.proofs.Cycles.{the_one, own_list, own_implied}
-use Rattle.pass_run.proofs.Shifted.{implied_shifted, implied_more}
-use Rattle.cons_graph.specs.Solutions.{IsLeastSolution}
+use Rattle.plan_model.specs.declared.plan.Plan.{Plan}
+use Rattle.pitch_join.specs.{Masters.{master_at, master_numbers, no_master}, Joined.{base_of, local_of, shifted}}
+use Rattle.pitch_join.specs.Joined.{space_edge, space_edges, structure_at, structures_of, pitches_of, ports_of}
+use Rattle.pitch_join.specs.Joined.{fixed_of, kept_edges_at, candidate_edges_at, system_over, list_over}
+use Rattle.pitch_join.specs.Meeting.{MeetsPlan, KeepsKept, KeepsCandidates, HaveBoxes}
+use Rattle.pitch_join.proofs.{Lists.{of_both, of_images, of_numbered}, Solving.joining_meets}
+use Rattle.pass_run.specs.{Alike.HaveSameSolutions, Pruning.PruningLosesNothing}
+use Rattle.pass_run.proofs.{Cycles.{the_one, own_list, own_implied}, Shifted.{implied_shifted, implied_more}}
 
 -- ---- solutions
 

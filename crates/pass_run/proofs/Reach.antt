@@ -1,42 +1,27 @@
 -- From each variable of a plan a walk of listed inequalities leads to a far border: within its master, by the extent of an item that begins there, and
 -- by the margin of that item.
-use Rattle.std.proofs.Common.{◌≡◌, ℕ, suc, ◌<◌, ◌≤◌, eqb, List, [], ◌∷◌, ◌++◌, length, map, refl, sym, ap, ◌∙◌, subst, arith, inl, inr, ℤ, All, Any, Contains, flat_map}
+use Rattle.std.proofs.Common.{◌≡◌, ℕ, suc, ◌<◌, ◌≤◌, eqb, List, [], ◌∷◌, ◌++◌, length, map, refl, sym, ap, ◌∙◌, subst}
+use Rattle.std.proofs.Common.{arith, inl, inr, ℤ, All, Any, Contains, flat_map}
+use Rattle.std.proofs.lemmas.{Bool.{cases_eq, ne_eqb}, List.{get_or_default, Elements.{All-nil, All-cons, All-append}}}
+use Rattle.std.proofs.lemmas.List.Elements.{All-contains, All-map, All-weaker, All-contains_itself, recursion_from_All}
 use Rattle.std.specs.List.{AllByRecursion}
-use Rattle.std.proofs.lemmas.Bool.{cases_eq, ne_eqb}
-use Rattle.std.proofs.lemmas.List.{get_or_default}
-use Rattle.std.proofs.lemmas.List.Elements.{All-nil, All-cons, All-append, All-contains, All-map, All-weaker, All-contains_itself, recursion_from_All}
 use Rattle.lam_geom.specs.declared.boxes.Axis.{Axis}
-use Rattle.rule_table.specs.declared.technology.Tech.{Tech}
-use Rattle.rule_table.specs.Technology.{margin_of}
-use Rattle.cons_graph.specs.declared.edges.Edge.{Edge}
-use Rattle.cons_graph.specs.declared.edges.Why.{Why}
-use Rattle.cons_graph.specs.declared.edges.Why.TheVariants.{Extent, Margin}
+use Rattle.rule_table.specs.{declared.technology.Tech.Tech, Technology.margin_of}
+use Rattle.cons_graph.specs.declared.edges.{Edge.Edge, Why.{Why, TheVariants.{Extent, Margin}}}
 use Rattle.cons_graph.specs.Walks.{IsWalk, walk_length}
 use Rattle.round_log.proofs.Walking.{IsWalk-append}
 use Rattle.slack_pack.specs.Most.{HasWalk}
-use Rattle.sym_items.specs.declared.items.End.{End}
-use Rattle.sym_items.specs.declared.items.Item.{Item}
-use Rattle.sym_items.specs.declared.items.Items.{Items}
-use Rattle.sym_items.specs.declared.items.Coords.{Coords}
-use Rattle.sym_items.specs.Transposed.{item_along}
+use Rattle.sym_items.specs.{declared.items.{End.End, Item.Item, Items.Items, Coords.Coords}, Transposed.item_along}
 use Rattle.cell_model.specs.declared.cell.Cell.{Cell}
 use Rattle.list_facts.proofs.Elements.{all_of, all_parts, all_pieces}
-use Rattle.expand.specs.declared.master.Master.{Master}
-use Rattle.expand.specs.Masters.{IsMaster}
-use Rattle.expand.specs.Structure.{between, extent_edges, margin_edges, extents_of, overlaps_of, margins_of, limits_of, structure_of}
-use Rattle.expand.specs.Variables.{at_origin, at_far_border, variables_of}
-use Rattle.expand.proofs.Reached.{BeginsBefore, items_begin}
+use Rattle.expand.specs.{declared.master.Master.Master, Masters.IsMaster, Structure.{between, extent_edges}}
+use Rattle.expand.specs.Structure.{margin_edges, extents_of, overlaps_of, margins_of, limits_of, structure_of}
+use Rattle.expand.{specs.Variables.{at_origin, at_far_border, variables_of}, proofs.Reached.{BeginsBefore, items_begin}}
 use Rattle.plan_model.specs.declared.plan.Plan.{Plan}
-use Rattle.pitch_join.specs.Masters.{ArePlanned, master_at, no_master}
-use Rattle.pitch_join.specs.Joined.{base_of, bases_of, far_of, fixed_of, joined, joint_variables, kept_edges_at, list_over, shifted}
-use Rattle.pitch_join.specs.Masters.{master_numbers}
-use Rattle.pitch_join.proofs.Bases.{bases_counted, own_of}
-use Rattle.pitch_join.proofs.Listed.{far_is}
-use Rattle.pitch_join.proofs.Lists.{of_both, of_images}
-use Rattle.pass_run.specs.OneStep.{ReachFar}
-use Rattle.pass_run.proofs.Cycles.{the_one}
-use Rattle.pass_run.proofs.Pruning.{structure_part}
-use Rattle.pass_run.proofs.Shifted.{walk_shifted}
+use Rattle.pitch_join.specs.{Masters.{ArePlanned, master_at, no_master, master_numbers}, Joined.{base_of, bases_of}}
+use Rattle.pitch_join.specs.Joined.{far_of, fixed_of, joined, joint_variables, kept_edges_at, list_over, shifted}
+use Rattle.pitch_join.proofs.{Bases.{bases_counted, own_of}, Listed.far_is, Lists.{of_both, of_images}}
+use Rattle.pass_run.{specs.OneStep.ReachFar, proofs.{Cycles.the_one, Pruning.structure_part, Shifted.walk_shifted}}
 
 -- ---- walks of any length
 

@@ -1,34 +1,22 @@
 -- The first pass of masters that differ from those of a first pass in their limits alone.
-use Rattle.std.proofs.Common.{◌≡◌, ℕ, ◌≤◌, ℤ, List, [], ◌∷◌, ◌++◌, length, take, refl, sym, ap, ◌∙◌, subst, arith, All, ◌^◌}
-use Rattle.std.proofs.lemmas.List.Elements.{All-map, All-weaker}
-use Rattle.std.proofs.Math.Seq.{take-length}
+use Rattle.std.proofs.Common.{◌≡◌, ℕ, ◌≤◌, ℤ, List, [], ◌∷◌, ◌++◌, length, take, refl, sym, ap, ◌∙◌, subst, arith, All}
+use Rattle.std.proofs.{Common.◌^◌, lemmas.List.Elements.{All-map, All-weaker}, Math.Seq.take-length}
 use Rattle.lam_geom.specs.declared.boxes.Axis.{Axis}
 use Rattle.rule_table.specs.declared.technology.Tech.{Tech}
-use Rattle.cons_graph.specs.declared.edges.Edge.{Edge}
-use Rattle.cons_graph.specs.Constraints.{Constraints, IsEdgeAmong}
+use Rattle.cons_graph.specs.{declared.edges.Edge.Edge, Constraints.{Constraints, IsEdgeAmong}}
 use Rattle.cons_graph.specs.Solutions.{IsLeastSolution, Meets, value_of}
 use Rattle.round_log.proofs.Least.{positive_cycle_excludes}
 use Rattle.sym_items.specs.declared.items.Coords.{Coords}
 use Rattle.expand.specs.declared.master.Master.{Master}
 use Rattle.pair_rules.specs.Clean.{IsClean}
 use Rattle.plan_model.specs.declared.plan.Plan.{Plan}
-use Rattle.pitch_join.specs.Masters.{ArePlanned}
-use Rattle.pitch_join.specs.Joined.{bases_of, joint_variables, list_over, system_over}
-use Rattle.pitch_join.proofs.Bases.{planned_joined}
-use Rattle.pitch_join.proofs.Lists.{of_images}
-use Rattle.pass_run.specs.Alike.{HaveSameSolutions, most_edges}
-use Rattle.pass_run.specs.Laid.{AreLaidOut, StartsClean}
-use Rattle.pass_run.specs.Layouts.{start_of_master, starts_of, with_values}
-use Rattle.pass_run.specs.Least.{AreLeastValues, LeadTo, StaySettled}
-use Rattle.pass_run.specs.Pruning.{PruningLosesNothing}
-use Rattle.pass_run.proofs.Going.{starts_laid}
-use Rattle.pass_run.proofs.Settled.{boxes_of}
-use Rattle.pass_run.specs.declared.first.FirstPass.{FirstPass}
-use Rattle.pass_run.specs.Bare.{bare, bare_of, AskAlike}
-use Rattle.pass_run.specs.First.{AreMore, IsFirstPass}
-use Rattle.pass_run.specs.Following.{listed_with}
-use Rattle.pass_run.specs.Limits.{joint_limits}
-use Rattle.pass_run.proofs.Cells.{start_kept}
+use Rattle.pitch_join.specs.{Masters.ArePlanned, Joined.{bases_of, joint_variables, list_over, system_over}}
+use Rattle.pitch_join.proofs.{Bases.planned_joined, Lists.of_images}
+use Rattle.pass_run.specs.{Alike.{HaveSameSolutions, most_edges}, Laid.{AreLaidOut, StartsClean}}
+use Rattle.pass_run.specs.{Layouts.{start_of_master, starts_of, with_values}, Least.{AreLeastValues, LeadTo}}
+use Rattle.pass_run.specs.{Least.StaySettled, Pruning.PruningLosesNothing, declared.first.FirstPass.FirstPass}
+use Rattle.pass_run.specs.{Bare.{bare, bare_of, AskAlike}, First.{AreMore, IsFirstPass}, Following.listed_with}
+use Rattle.pass_run.{specs.Limits.joint_limits, proofs.{Going.starts_laid, Settled.boxes_of, Cells.start_kept}}
 use Rattle.pass_run.proofs.Masters.{bases_kept, joint_kept, limits_among, list_counted, list_split, planned_kept}
 use Rattle.pass_run.proofs.Pruning.{least_alike}
 

@@ -1,39 +1,23 @@
 -- The layouts after a pass of a plan.
-use Rattle.std.proofs.Common.{◌≡◌, ℕ, zero, suc, ◌+◌, ◌<◌, ℤ, pos, List, ◌∷◌, length, refl, sym, ap, ◌∙◌, subst, arith, ◌⊎◌, inl, inr, Contains, All}
-use Rattle.std.proofs.lemmas.List.FromFn.{get_or-map-range_with_len}
-use Rattle.lam_geom.specs.declared.boxes.Axis.{Axis}
-use Rattle.lam_geom.specs.declared.boxes.Axis.TheVariants.{X, Y}
+use Rattle.std.proofs.Common.{◌≡◌, ℕ, zero, suc, ◌+◌, ◌<◌, ℤ, pos, List, ◌∷◌, length, refl, sym, ap, ◌∙◌, subst, arith}
+use Rattle.std.proofs.{Common.{◌⊎◌, inl, inr, Contains, All}, lemmas.List.FromFn.get_or-map-range_with_len}
+use Rattle.lam_geom.specs.declared.boxes.Axis.{Axis, TheVariants.{X, Y}}
 use Rattle.rule_table.specs.declared.technology.Tech.{Tech}
-use Rattle.cons_graph.specs.Solutions.{IsSolution, value_of}
-use Rattle.cons_graph.specs.Walks.{HasPositiveCycle}
+use Rattle.cons_graph.specs.{Solutions.{IsSolution, value_of}, Walks.HasPositiveCycle}
 use Rattle.round_log.proofs.Least.{positive_cycle_excludes}
 use Rattle.liao_wong.specs.Answers.{IsWithinLimit}
-use Rattle.sym_items.specs.declared.items.Coords.{Coords}
-use Rattle.sym_items.specs.Layouts.{layout_at, value_in}
-use Rattle.sym_items.specs.Transposed.{values_along}
-use Rattle.expand.specs.declared.master.Master.{Master}
-use Rattle.expand.specs.Laws.{IsLawful}
-use Rattle.expand.specs.Variables.{variables_of}
-use Rattle.pair_rules.specs.Candidates.{candidates_of}
-use Rattle.pair_rules.specs.Kept.{kept_of}
-use Rattle.pair_rules.specs.Laws.{moved}
+use Rattle.sym_items.specs.{declared.items.Coords.Coords, Layouts.{layout_at, value_in}, Transposed.values_along}
+use Rattle.expand.specs.{declared.master.Master.Master, Laws.IsLawful, Variables.variables_of}
+use Rattle.pair_rules.{specs.{Candidates.candidates_of, Kept.kept_of, Laws.moved}, proofs.Pruning.candidates_apart}
 use Rattle.plan_model.specs.declared.plan.Plan.{Plan}
-use Rattle.pitch_join.specs.Masters.{ArePlanned, master_at, no_master}
-use Rattle.pitch_join.specs.Joined.{joint_variables, var_of, local_of, list_over, system_over}
-use Rattle.pitch_join.specs.Layouts.{LayoutsMeet}
-use Rattle.pitch_join.specs.Meeting.{MeetsPlan, HaveBoxes}
-use Rattle.pitch_join.proofs.Bases.{var_within}
-use Rattle.pitch_join.proofs.Solving.{joining_meets}
-use Rattle.pair_rules.proofs.Pruning.{candidates_apart}
-use Rattle.pass_run.specs.Laid.{AreLaidOut, AreSettled}
-use Rattle.pass_run.specs.Layouts.{joint_values, local_values, with_values}
-use Rattle.pass_run.specs.Meeting.{IsNextFor}
-use Rattle.pass_run.specs.Theorems.{AreWellPlaced}
-use Rattle.pass_run.proofs.Alike.{AgreeOn, structure_alike, pairs_alike, layouts_meet, plan_met}
-use Rattle.pass_run.proofs.Moved.{stays}
-use Rattle.pass_run.proofs.Pairs.{candidates_among, kept_pairs_among}
-use Rattle.pass_run.proofs.Values.{joint_at, local_length, local_at, layout_with, layouts_counted}
-use Rattle.pass_run.specs.Least.{StaySettled}
+use Rattle.pitch_join.specs.{Masters.{ArePlanned, master_at, no_master}, Joined.{joint_variables, var_of, local_of}}
+use Rattle.pitch_join.specs.{Joined.{list_over, system_over}, Layouts.LayoutsMeet, Meeting.{MeetsPlan, HaveBoxes}}
+use Rattle.pitch_join.proofs.{Bases.var_within, Solving.joining_meets}
+use Rattle.pass_run.specs.{Laid.{AreLaidOut, AreSettled}, Layouts.{joint_values, local_values, with_values}}
+use Rattle.pass_run.specs.{Meeting.IsNextFor, Theorems.AreWellPlaced, Least.StaySettled}
+use Rattle.pass_run.proofs.{Alike.{AgreeOn, structure_alike, pairs_alike, layouts_meet, plan_met}, Moved.stays}
+use Rattle.pass_run.proofs.{Pairs.{candidates_among, kept_pairs_among}, Values.{joint_at, local_length, local_at}}
+use Rattle.pass_run.proofs.Values.{layout_with, layouts_counted}
 
 -- ---- the values of a solution
 

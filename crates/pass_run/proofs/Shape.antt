@@ -1,34 +1,20 @@
 -- A constraint graph can be made of the list of a pass.
 use Rattle.std.proofs.Common.{◌≡◌, ◌≢◌, ℕ, ℤ, pos, ◌≤ℤ◌, List, ◌++◌, length, map, get_or, All, ap, arith, flat_map}
-use Rattle.std.proofs.lemmas.Int.{ints}
-use Rattle.std.proofs.lemmas.List.Elements.{All-append, All-map, All-weaker}
+use Rattle.std.proofs.lemmas.{Int.ints, List.Elements.{All-append, All-map, All-weaker}}
 use Rattle.lam_geom.specs.declared.boxes.Axis.{Axis}
 use Rattle.rule_table.specs.declared.technology.Tech.{Tech}
-use Rattle.cons_graph.specs.declared.edges.Edge.{Edge}
-use Rattle.cons_graph.specs.Constraints.{IsEdgeAmong, LeadsFromOrigin, IsConstraintGraph}
+use Rattle.cons_graph.specs.{declared.edges.Edge.Edge, Constraints.{IsEdgeAmong, LeadsFromOrigin, IsConstraintGraph}}
 use Rattle.cons_graph.specs.Solutions.{value_of}
-use Rattle.sym_items.specs.declared.items.Item.{Item}
-use Rattle.sym_items.specs.declared.items.Coords.{Coords}
-use Rattle.sym_items.specs.Layouts.{layout_at}
-use Rattle.sym_items.specs.Transposed.{values_along}
-use Rattle.sym_items.specs.Values.{end_under}
+use Rattle.sym_items.specs.declared.items.{Item.Item, Coords.Coords}
+use Rattle.sym_items.specs.{Layouts.layout_at, Transposed.values_along, Values.end_under}
 use Rattle.cell_model.specs.declared.cell.Cell.{Cell}
-use Rattle.expand.specs.declared.master.Master.{Master}
-use Rattle.expand.specs.Variables.{variables_of}
-use Rattle.expand.specs.Bounds.{LiesAlong}
-use Rattle.expand.specs.Laws.{IsLawful}
+use Rattle.expand.specs.{declared.master.Master.Master, Variables.variables_of, Bounds.LiesAlong, Laws.IsLawful}
 use Rattle.list_facts.proofs.Some.{any_left}
-use Rattle.pair_rules.specs.declared.pairs.Pair.{Pair}
-use Rattle.pair_rules.specs.Bound.{item_at, no_item}
-use Rattle.pair_rules.specs.Candidates.{high_end, low_end, Keeps}
-use Rattle.pair_rules.specs.Kept.{kept_of}
-use Rattle.pitch_join.specs.Masters.{master_at, master_numbers, no_master}
-use Rattle.pitch_join.specs.Joined.{base_of, joint_variables, shifted, space_edge, kept_edges_at}
-use Rattle.pitch_join.proofs.Lists.{of_numbered}
-use Rattle.pitch_join.proofs.Shape.{shifted_among}
-use Rattle.pair_rules.proofs.Pruning.{kept_among, kept_differs, candidates_apart}
-use Rattle.pass_run.specs.Laid.{IsLaidOut, AreLaidOut}
-use Rattle.pass_run.proofs.Pairs.{IsSpaced, kept_pairs_among, kept_spaced}
+use Rattle.pair_rules.specs.{declared.pairs.Pair.Pair, Bound.{item_at, no_item}, Candidates.{high_end, low_end, Keeps}}
+use Rattle.pair_rules.{specs.Kept.kept_of, proofs.Pruning.{kept_among, kept_differs, candidates_apart}}
+use Rattle.pitch_join.specs.{Masters.{master_at, master_numbers, no_master}, Joined.{base_of, joint_variables, shifted}}
+use Rattle.pitch_join.{specs.Joined.{space_edge, kept_edges_at}, proofs.{Lists.of_numbered, Shape.shifted_among}}
+use Rattle.pass_run.{specs.Laid.{IsLaidOut, AreLaidOut}, proofs.Pairs.{IsSpaced, kept_pairs_among, kept_spaced}}
 
 -- ---- the kept pairs of a master
 

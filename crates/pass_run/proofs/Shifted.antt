@@ -1,12 +1,9 @@
 -- What inequalities imply they imply over joint variables, and with more inequalities.
 use Rattle.std.proofs.Common.{◌≡◌, ℕ, ℤ, ◌+ℤ◌, List, [], ◌∷◌, map, refl, ap, arith, Contains, All}
-use Rattle.std.proofs.lemmas.Int.{ints}
-use Rattle.std.proofs.lemmas.List.Elements.{All-map, All-weaker, All-contains, All-contains_itself}
-use Rattle.cons_graph.specs.declared.edges.Edge.{Edge}
-use Rattle.cons_graph.specs.Walks.{IsWalk, walk_length}
+use Rattle.std.proofs.lemmas.{Int.ints, List.Elements.{All-map, All-weaker, All-contains, All-contains_itself}}
+use Rattle.cons_graph.specs.{declared.edges.Edge.Edge, Walks.{IsWalk, walk_length}}
 use Rattle.round_log.specs.Implied.{IsImpliedBy}
-use Rattle.pitch_join.specs.Joined.{joined, shifted}
-use Rattle.pitch_join.proofs.Lists.{of_images}
+use Rattle.pitch_join.{specs.Joined.{joined, shifted}, proofs.Lists.of_images}
 
 pub walk_shifted : (base a : ℕ) (walk : List Edge) (b : ℕ) → IsWalk a walk b → IsWalk (joined base a) (map (shifted base) walk) (joined base b)
 walk_shifted base a [] b leads = ap (joined base) leads

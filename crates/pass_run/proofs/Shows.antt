@@ -1,9 +1,7 @@
 -- The least solution of what a session lists and some limits.
 use Rattle.std.proofs.Common.{◌≡◌, ℕ, ℤ, List, ◌++◌, take, drop, sym, subst, All, Contains}
-use Rattle.std.proofs.lemmas.List.{take-append-drop}
-use Rattle.std.proofs.lemmas.List.Elements.{All-append, All-contains, All-weaker}
-use Rattle.cons_graph.specs.declared.edges.Edge.{Edge}
-use Rattle.cons_graph.specs.Solutions.{IsLeastSolution, Meets}
+use Rattle.std.proofs.lemmas.List.{take-append-drop, Elements.{All-append, All-contains, All-weaker}}
+use Rattle.cons_graph.specs.{declared.edges.Edge.Edge, Solutions.{IsLeastSolution, Meets}}
 use Rattle.pitch_join.proofs.Lists.{of_both}
 use Rattle.pass_run.specs.Following.{listed_with}
 

@@ -1,57 +1,33 @@
 -- What the rounds over the list of a pass say of the pass.
-use Rattle.std.proofs.Common.{◌≡◌, ℕ, ◌+◌, ◌<◌, ◌≤◌, ℤ, Some, List, [], ◌∷◌, length, map, refl, sym, ap, ◌∙◌, subst, arith, Bool, false, ◌++◌, reverse, append-nil, Contains, slice_index, IsTrue, All, Any, get_or}
-use Rattle.std.proofs.lemmas.List.{get_or-map, get_or_default, length-map}
-use Rattle.std.proofs.lemmas.List.Elements.{All-map, All-weaker, All-contains, Contains-get_or}
+use Rattle.std.proofs.Common.{◌≡◌, ℕ, ◌+◌, ◌<◌, ◌≤◌, ℤ, Some, List, [], ◌∷◌, length, map, refl, sym, ap, ◌∙◌, subst}
+use Rattle.std.proofs.Common.{arith, Bool, false, ◌++◌, reverse, append-nil, Contains, slice_index, IsTrue, All, Any}
+use Rattle.std.proofs.{Common.get_or, lemmas.List.{get_or-map, get_or_default, length-map, Elements.All-map}}
+use Rattle.std.proofs.lemmas.List.Elements.{All-weaker, All-contains, Contains-get_or}
 use Rattle.lam_geom.specs.declared.boxes.Axis.{Axis}
 use Rattle.rule_table.specs.declared.technology.Tech.{Tech}
-use Rattle.cons_graph.specs.declared.edges.Edge.{Edge}
-use Rattle.cons_graph.specs.Constraints.{Constraints, IsConstraintGraph}
-use Rattle.cons_graph.specs.EdgeNumbers.{edge_at}
-use Rattle.cons_graph.specs.SimpleWalks.{edges_of, heads_of, length_of, HasNoRepeat, WalksFromTo, IsSimplePositiveCycle}
-use Rattle.cons_graph.specs.Solutions.{IsSolution, IsLeastSolution, value_of}
-use Rattle.cons_graph.specs.Walks.{HasPositiveCycle}
-use Rattle.cons_graph.proofs.CycleTest.{few_without_repeat}
-use Rattle.round_log.specs.declared.log.Log.{Log}
-use Rattle.round_log.specs.declared.log.Entry.{Entry}
-use Rattle.round_log.specs.Logs.{raises_in, IsEndedLog}
-use Rattle.round_log.specs.Told.{TellAlike}
-use Rattle.round_log.proofs.Alike.{same_walk}
-use Rattle.round_log.specs.Looks.{label, backward_numbers, latest, chain}
-use Rattle.round_log.specs.Orders.{IsOrder}
-use Rattle.liao_wong.specs.declared.solving.Solved.{Solved}
-use Rattle.liao_wong.proofs.InOrder.{sorted_is_order}
+use Rattle.cons_graph.specs.{declared.edges.Edge.Edge, Constraints.{Constraints, IsConstraintGraph}}
+use Rattle.cons_graph.specs.{EdgeNumbers.edge_at, SimpleWalks.{edges_of, heads_of, length_of, HasNoRepeat, WalksFromTo}}
+use Rattle.cons_graph.specs.{SimpleWalks.IsSimplePositiveCycle, Solutions.{IsSolution, IsLeastSolution, value_of}}
+use Rattle.cons_graph.{specs.Walks.HasPositiveCycle, proofs.CycleTest.few_without_repeat}
+use Rattle.round_log.specs.{declared.log.{Log.Log, Entry.Entry}, Logs.{raises_in, IsEndedLog}, Told.TellAlike}
+use Rattle.round_log.specs.{Looks.{label, backward_numbers, latest, chain}, Orders.IsOrder}
+use Rattle.round_log.proofs.{Alike.same_walk, Chains.chain-zero, Ends.numbers, Walks.{IsCriticalWalk, back_at_origin}}
+use Rattle.liao_wong.{specs.declared.solving.Solved.Solved, proofs.InOrder.sorted_is_order}
 use Rattle.sym_items.specs.declared.items.Coords.{Coords}
-use Rattle.expand.specs.declared.master.Master.{Master}
-use Rattle.expand.specs.Laws.{IsLawful}
+use Rattle.expand.specs.{declared.master.Master.Master, Laws.IsLawful}
 use Rattle.plan_model.specs.declared.plan.Plan.{Plan}
-use Rattle.pitch_join.specs.Masters.{ArePlanned}
-use Rattle.pitch_join.specs.Names.{joint_names}
-use Rattle.pitch_join.specs.Joined.{base_of, bases_of, far_of, joint_variables, system_over, list_over}
-use Rattle.pitch_join.proofs.Bases.{bases_counted, planned_joined, var_within}
-use Rattle.pitch_join.proofs.Listed.{far_is}
-use Rattle.pass_run.specs.declared.edges.Listed.{Listed}
-use Rattle.pass_run.specs.declared.step.Walk.{Walk}
-use Rattle.pass_run.specs.Alike.{HaveSameSolutions}
-use Rattle.pass_run.specs.Laid.{AreLaidOut, AreSettled}
-use Rattle.pass_run.specs.Layouts.{joint_values, moved_by, with_values}
-use Rattle.pass_run.specs.OneStep.{walk_to, walks_to, step_of, HasPath, IsListedMost, IsOrderAlong, IsSolvedPass, IsStoppedPass, ReachFar}
-use Rattle.pass_run.specs.PassFaults.{IsCyclicOver}
-use Rattle.pass_run.specs.Passes.{far_walk, IsRecorded}
-use Rattle.pass_run.specs.Report.{cycle_text, walk_at, pass_text}
-use Rattle.pass_run.specs.Theorems.{IsCriticalPath, HasCriticalPath, IsSoundPass}
-use Rattle.pass_run.proofs.Pruning.{listed_among, solutions_kept, least_alike}
-use Rattle.pass_run.proofs.Values.{joint_length, joint_above}
-use Rattle.slack_pack.specs.Most.{HasWalk, IsMost, IsAttained}
-use Rattle.pass_run.specs.OnePass.{IsFirstOn, IsPassMade}
-use Rattle.pass_run.specs.Told.{IsTightMost}
-use Rattle.pass_run.specs.Least.{StaySettled}
-use Rattle.pass_run.specs.declared.pass.Made.{Made}
-use Rattle.pass_run.specs.declared.step.Step.{Step}
-use Rattle.pass_run.proofs.Reach.{reach_far}
-use Rattle.slack_pack.proofs.Walks.{stands}
-use Rattle.round_log.proofs.Chains.{chain-zero}
-use Rattle.round_log.proofs.Ends.{numbers}
-use Rattle.round_log.proofs.Walks.{IsCriticalWalk, back_at_origin}
+use Rattle.pitch_join.specs.{Masters.ArePlanned, Names.joint_names, Joined.{base_of, bases_of, far_of, joint_variables}}
+use Rattle.pitch_join.specs.Joined.{system_over, list_over}
+use Rattle.pitch_join.proofs.{Bases.{bases_counted, planned_joined, var_within}, Listed.far_is}
+use Rattle.pass_run.specs.declared.{edges.Listed.Listed, step.{Walk.Walk, Step.Step}, pass.Made.Made}
+use Rattle.pass_run.specs.{Alike.HaveSameSolutions, Laid.{AreLaidOut, AreSettled}, Layouts.{joint_values, moved_by}}
+use Rattle.pass_run.specs.{Layouts.with_values, OneStep.{walk_to, walks_to, step_of, HasPath, IsListedMost}}
+use Rattle.pass_run.specs.{OneStep.{IsOrderAlong, IsSolvedPass, IsStoppedPass, ReachFar}, PassFaults.IsCyclicOver}
+use Rattle.pass_run.specs.{Passes.{far_walk, IsRecorded}, Report.{cycle_text, walk_at, pass_text}}
+use Rattle.pass_run.specs.{Theorems.{IsCriticalPath, HasCriticalPath, IsSoundPass}, OnePass.{IsFirstOn, IsPassMade}}
+use Rattle.pass_run.{specs.{Told.IsTightMost, Least.StaySettled}, proofs.Pruning.{listed_among, solutions_kept}}
+use Rattle.pass_run.proofs.{Pruning.least_alike, Values.{joint_length, joint_above}, Reach.reach_far}
+use Rattle.slack_pack.{specs.Most.{HasWalk, IsMost, IsAttained}, proofs.Walks.stands}
 use Rattle.pair_rules.proofs.BoundItems.{same_some}
 use Rattle.pass_run.proofs.Settled as settling
 

@@ -1,14 +1,9 @@
 -- The texts of passes and cycles, put together.
 use Rattle.std.proofs.Common.{◌≡◌, ℕ, ℤ, List, ◌++◌, ap, ◌∙◌, append_assoc, slice_index}
-use Rattle.cons_graph.specs.declared.edges.Edge.{Edge}
-use Rattle.cons_graph.specs.Lines.{lines_of}
-use Rattle.cons_graph.specs.Solutions.{value_of}
+use Rattle.cons_graph.specs.{declared.edges.Edge.Edge, Lines.lines_of, Solutions.value_of}
 use Rattle.expand.specs.declared.master.Master.{Master}
-use Rattle.pitch_join.specs.Masters.{master_at}
-use Rattle.pitch_join.specs.Names.{joint_names}
-use Rattle.pitch_join.specs.Joined.{far_of}
-use Rattle.pass_run.specs.declared.step.Step.{Step}
-use Rattle.pass_run.specs.Report.{size_line, walk_at, master_text}
+use Rattle.pitch_join.specs.{Masters.master_at, Names.joint_names, Joined.far_of}
+use Rattle.pass_run.specs.{declared.step.Step.Step, Report.{size_line, walk_at, master_text}}
 
 -- the text of a master, from what the code has of it
 pub master_said : (masters : List Master) (edges : List Edge) (step : Step) (m far : ℕ) (master : Master) (size : ℤ) (kept : ℕ) (names : List (List ℕ)) (walk lines old mid new : List ℕ)

@@ -1,27 +1,21 @@
 -- The values of the joint variables in some layouts, and what a master has of values of theirs.
-use Rattle.std.proofs.Common.{◌≡◌, ℕ, zero, suc, ◌+◌, ◌-◌, ◌<◌, ◌≤◌, ℤ, pos, ◌≤ℤ◌, List, [], ◌∷◌, ◌++◌, length, take, drop, map, get_or, refl, sym, ap, ◌∙◌, subst, arith, inl, inr, take_all, ext_get_or, length-take-le, get_or-take, get_or-drop, flat_map, sum_by}
+use Rattle.std.proofs.Common.{◌≡◌, ℕ, zero, suc, ◌+◌, ◌-◌, ◌<◌, ◌≤◌, ℤ, pos, ◌≤ℤ◌, List, [], ◌∷◌, ◌++◌, length, take}
+use Rattle.std.proofs.Common.{drop, map, get_or, refl, sym, ap, ◌∙◌, subst, arith, inl, inr, take_all, ext_get_or}
+use Rattle.std.proofs.{Common.{length-take-le, get_or-take, get_or-drop, flat_map, sum_by}, lemmas.List.length-drop}
+use Rattle.std.proofs.lemmas.List.{Concat.{get_or-flat_map, length-flat_map}, FromFn.get_or-map-range_with_len}
+use Rattle.std.proofs.lemmas.{List.{FromFn.length-map-range_with_len, Sums.sum_by_more}, Grind.get_or_after_one}
 use Rattle.std.specs.List.{range_with_len}
-use Rattle.std.proofs.lemmas.List.{length-drop}
-use Rattle.std.proofs.lemmas.Grind.{get_or_after_one}
-use Rattle.std.proofs.lemmas.List.Concat.{get_or-flat_map, length-flat_map}
-use Rattle.std.proofs.lemmas.List.FromFn.{get_or-map-range_with_len, length-map-range_with_len}
-use Rattle.std.proofs.lemmas.List.Sums.{sum_by_more}
 use Rattle.lam_geom.specs.declared.boxes.Axis.{Axis}
 use Rattle.rule_table.specs.declared.technology.Tech.{Tech}
 use Rattle.cons_graph.specs.Solutions.{value_of}
-use Rattle.sym_items.specs.declared.items.Coords.{Coords}
-use Rattle.sym_items.specs.Layouts.{layout_at, no_layout, value_in}
+use Rattle.sym_items.specs.{declared.items.Coords.Coords, Layouts.{layout_at, no_layout, value_in}}
 use Rattle.sym_items.specs.Transposed.{values_along}
-use Rattle.expand.specs.declared.master.Master.{Master}
-use Rattle.expand.specs.Variables.{variables_of}
+use Rattle.expand.specs.{declared.master.Master.Master, Variables.variables_of}
 use Rattle.pair_rules.specs.Laws.{moved}
-use Rattle.pitch_join.specs.Masters.{master_at}
-use Rattle.pitch_join.specs.Joined.{own_variables, base_of, joint_variables, var_of, local_of}
-use Rattle.pitch_join.specs.Variables.{VariablesAreJoined}
-use Rattle.pitch_join.proofs.Bases.{base_next, base_end}
-use Rattle.pass_run.specs.Laid.{AreLaidOut}
-use Rattle.pass_run.specs.OneMaster.{part_from, own_part}
-use Rattle.pass_run.specs.Layouts.{own_values, joint_values, local_values, with_values_at, with_values}
+use Rattle.pitch_join.specs.{Masters.master_at, Joined.{own_variables, base_of, joint_variables, var_of, local_of}}
+use Rattle.pitch_join.{specs.Variables.VariablesAreJoined, proofs.Bases.{base_next, base_end}}
+use Rattle.pass_run.specs.{Laid.AreLaidOut, OneMaster.{part_from, own_part}, Layouts.{own_values, joint_values}}
+use Rattle.pass_run.specs.Layouts.{local_values, with_values_at, with_values}
 
 -- ---- the values of some layouts
 

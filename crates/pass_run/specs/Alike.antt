@@ -1,8 +1,6 @@
 -- What the list of a pass and its system have in common, and how long a list may be.
 use Rattle.std.specs.Prelude.{ℕ, ℤ, ◌↔◌, List}
-use Rattle.cons_graph.specs.declared.edges.Edge.{Edge}
-use Rattle.cons_graph.specs.Solutions.{IsSolution}
-use Rattle.cons_graph.specs.Walks.{HasPositiveCycle}
+use Rattle.cons_graph.specs.{declared.edges.Edge.Edge, Solutions.IsSolution, Walks.HasPositiveCycle}
 
 -- the most inequalities in the list of a pass
 abbrev pub most_edges : ℕ

@@ -3,8 +3,7 @@ use Rattle.std.specs.Prelude.{◌≡◌, List, [], map}
 use Rattle.lam_geom.specs.declared.boxes.Axis.{Axis}
 use Rattle.cell_model.specs.declared.cell.Cell.{Cell}
 use Rattle.expand.specs.declared.master.Master.{Master}
-use Rattle.plan_model.specs.declared.plan.Plan.{Plan}
-use Rattle.plan_model.specs.Plan.{pitch_in, matches_in}
+use Rattle.plan_model.specs.{declared.plan.Plan.Plan, Plan.{pitch_in, matches_in}}
 
 abbrev pub bare_cell : Cell → Cell
 bare_cell cell = record cell { limits = [] }

@@ -3,12 +3,9 @@ use Rattle.std.specs.Prelude.{◌≡◌, ◌≤◌, All, List, length, take}
 use Rattle.rule_table.specs.declared.technology.Tech.{Tech}
 use Rattle.expand.specs.declared.master.Master.{Master}
 use Rattle.plan_model.specs.declared.plan.Plan.{Plan}
-use Rattle.pitch_join.specs.Masters.{ArePlanned}
-use Rattle.pitch_join.specs.Joined.{bases_of, joint_variables, list_over}
-use Rattle.pass_run.specs.Laid.{StartsClean}
-use Rattle.pass_run.specs.Layouts.{starts_of}
+use Rattle.pitch_join.specs.{Masters.ArePlanned, Joined.{bases_of, joint_variables, list_over}}
+use Rattle.pass_run.specs.{Laid.StartsClean, Layouts.starts_of, Bare.{bare_of, AskAlike}}
 use Rattle.pass_run.specs.declared.first.FirstPass.{FirstPass}
-use Rattle.pass_run.specs.Bare.{bare_of, AskAlike}
 
 -- Its masters have no limits, and are those of its plan, with clean start layouts. The session is over their joint variables, and its first edges
 -- are the list of their pass. What edges follow is not told: they are tested when its values are used.

@@ -1,7 +1,6 @@
 -- A session whose first inequalities stay while others come and go behind them.
 use Rattle.std.specs.Prelude.{◌≡◌, ℕ, ◌≤◌, List, length, take, ◌++◌}
-use Rattle.cons_graph.specs.declared.edges.Edge.{Edge}
-use Rattle.cons_graph.specs.Constraints.{Constraints}
+use Rattle.cons_graph.specs.{declared.edges.Edge.Edge, Constraints.Constraints}
 
 -- there are as many variables, and the first inequalities, so many, are there and are the same
 pub record Stays (listed : ℕ) (before after : Constraints) : Type 0 where

@@ -2,16 +2,11 @@
 use Rattle.std.specs.Prelude.{◌≡◌, ℕ, ◌<◌, List, All, length, slice_index_or}
 use Rattle.lam_geom.specs.declared.boxes.Axis.{Axis}
 use Rattle.rule_table.specs.declared.technology.Tech.{Tech}
-use Rattle.sym_items.specs.declared.items.Coords.{Coords}
-use Rattle.sym_items.specs.declared.items.Item.{Item}
-use Rattle.sym_items.specs.Layouts.{layout_at}
+use Rattle.sym_items.specs.{declared.items.{Coords.Coords, Item.Item}, Layouts.layout_at}
 use Rattle.expand.specs.declared.master.Master.{Master}
-use Rattle.pair_rules.specs.declared.pairs.Pair.{Pair}
-use Rattle.pair_rules.specs.Kept.{kept_of}
-use Rattle.pitch_join.specs.Masters.{master_at}
-use Rattle.pitch_join.specs.Spaces.{IsPairAmong}
-use Rattle.pass_run.specs.declared.finding.Found.{Found}
-use Rattle.pass_run.specs.declared.finding.Found.TheVariants.{Pairs, TooMany}
+use Rattle.pair_rules.specs.{declared.pairs.Pair.Pair, Kept.kept_of}
+use Rattle.pitch_join.specs.{Masters.master_at, Spaces.IsPairAmong}
+use Rattle.pass_run.specs.declared.finding.Found.{Found, TheVariants.{Pairs, TooMany}}
 
 -- the pairs are the kept pairs of some items in a layout, and are among the items
 pub record AreKeptPairs (axis : Axis) (tech : Tech) (layout : Coords) (items : List Item) (pairs : List Pair) : Type 0 where

@@ -5,13 +5,8 @@ use Rattle.rule_table.specs.declared.technology.Tech.{Tech}
 use Rattle.sym_items.specs.declared.items.Coords.{Coords}
 use Rattle.expand.specs.declared.master.Master.{Master}
 use Rattle.plan_model.specs.declared.plan.Plan.{Plan}
-use Rattle.pass_run.specs.declared.pass.Made.{Made}
-use Rattle.pass_run.specs.declared.passes.SoFar.{SoFar}
-use Rattle.pass_run.specs.declared.step.Step.{Step}
-use Rattle.pass_run.specs.Laid.{AreLaidOut}
-use Rattle.pass_run.specs.Layouts.{starts_of, moved_by, layouts_after}
-use Rattle.pass_run.specs.OnePass.{IsPassMade}
-use Rattle.pass_run.specs.Passes.{axes_of}
+use Rattle.pass_run.specs.{declared.{pass.Made.Made, passes.SoFar.SoFar, step.Step.Step}, Laid.AreLaidOut}
+use Rattle.pass_run.specs.{Layouts.{starts_of, moved_by, layouts_after}, OnePass.IsPassMade, Passes.axes_of}
 
 abbrev pub steps_of : List Made → List Step
 steps_of mades = map (λ (made : Made). made.step) mades

@@ -2,16 +2,13 @@
 use Rattle.std.specs.Prelude.{◌≡◌, ℕ, ◌<◌, All, Contains, List, length}
 use Rattle.lam_geom.specs.declared.boxes.Axis.{Axis}
 use Rattle.rule_table.specs.declared.technology.Tech.{Tech}
-use Rattle.sym_items.specs.declared.items.Coords.{Coords}
-use Rattle.sym_items.specs.Layouts.{layout_at}
+use Rattle.sym_items.specs.{declared.items.Coords.Coords, Layouts.layout_at}
 use Rattle.expand.specs.declared.master.Master.{Master}
 use Rattle.pair_rules.specs.Clean.{IsClean}
 use Rattle.coarse_grid.specs.Laws.{IsLayoutOf}
 use Rattle.plan_model.specs.declared.plan.Plan.{Plan}
-use Rattle.pitch_join.specs.Layouts.{LayoutsMeet}
-use Rattle.pitch_join.specs.Masters.{master_at}
-use Rattle.pass_run.specs.Layouts.{start_of_master}
-use Rattle.pass_run.specs.Theorems.{IsLong}
+use Rattle.pitch_join.specs.{Layouts.LayoutsMeet, Masters.master_at}
+use Rattle.pass_run.specs.{Layouts.start_of_master, Theorems.IsLong}
 
 -- the start layout of a master is clean
 abbrev pub StartsClean : Tech → Master → Type 0

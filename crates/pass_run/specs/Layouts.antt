@@ -1,18 +1,13 @@
 -- The layouts of masters, one each, and the values of the joint variables.
-use Rattle.std.specs.Prelude.{ℕ, ℤ, pos, List, ◌∷◌, map, drop, flat_map, fold}
-use Rattle.std.specs.List.{range_with_len}
+use Rattle.std.specs.{Prelude.{ℕ, ℤ, pos, List, ◌∷◌, map, drop, flat_map, fold}, List.range_with_len}
 use Rattle.lam_geom.specs.declared.boxes.Axis.{Axis}
 use Rattle.rule_table.specs.declared.technology.Tech.{Tech}
 use Rattle.cons_graph.specs.Solutions.{value_of}
-use Rattle.sym_items.specs.declared.items.Coords.{Coords}
-use Rattle.sym_items.specs.Layouts.{layout_at}
-use Rattle.sym_items.specs.Transposed.{values_along}
-use Rattle.expand.specs.declared.master.Master.{Master}
-use Rattle.expand.specs.Variables.{variables_of}
+use Rattle.sym_items.specs.{declared.items.Coords.Coords, Layouts.layout_at, Transposed.values_along}
+use Rattle.expand.specs.{declared.master.Master.Master, Variables.variables_of}
 use Rattle.coarse_grid.specs.Start.{start_of}
 use Rattle.pair_rules.specs.Laws.{moved}
-use Rattle.pitch_join.specs.Masters.{master_at, master_numbers}
-use Rattle.pitch_join.specs.Joined.{local_of}
+use Rattle.pitch_join.specs.{Masters.{master_at, master_numbers}, Joined.local_of}
 use Rattle.pass_run.specs.declared.step.Step.{Step}
 
 -- the start layout of each master

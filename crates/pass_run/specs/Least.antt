@@ -7,13 +7,9 @@ use Rattle.sym_items.specs.declared.items.Coords.{Coords}
 use Rattle.expand.specs.declared.master.Master.{Master}
 use Rattle.plan_model.specs.declared.plan.Plan.{Plan}
 use Rattle.pitch_join.specs.Joined.{joint_variables, system_over}
-use Rattle.pass_run.specs.declared.passes.PassFault.{PassFault}
-use Rattle.pass_run.specs.declared.passes.PassFault.TheVariants.{OutOfMemory}
-use Rattle.pass_run.specs.declared.step.Step.{Step}
-use Rattle.pass_run.specs.Laid.{AreLaidOut, AreSettled}
-use Rattle.pass_run.specs.Layouts.{with_values, starts_of, layouts_after}
-use Rattle.pass_run.specs.PassFaults.{IsSolvable, RefusesPasses}
-use Rattle.pass_run.specs.Passes.{ArePasses, axes_of}
+use Rattle.pass_run.specs.declared.{passes.PassFault.{PassFault, TheVariants.OutOfMemory}, step.Step.Step}
+use Rattle.pass_run.specs.{Laid.{AreLaidOut, AreSettled}, Layouts.{with_values, starts_of, layouts_after}}
+use Rattle.pass_run.specs.{PassFaults.{IsSolvable, RefusesPasses}, Passes.{ArePasses, axes_of}}
 
 -- A pass on an axis over some layouts has values, and these are its least: no solution of the system of all masters has a lesser one anywhere.
 pub record AreLeastValues (tech : Tech) (plan : Plan) (masters : List Master) (before : List Coords) (axis : Axis) (x : List ℤ) : Type 0 where

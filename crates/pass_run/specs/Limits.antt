@@ -4,10 +4,8 @@ use Rattle.lam_geom.specs.declared.boxes.Axis.{Axis}
 use Rattle.stick_lex.specs.Numbers.{IsNumber}
 use Rattle.cons_graph.specs.declared.edges.Edge.{Edge}
 use Rattle.cell_model.specs.declared.cell.Limit.{Limit}
-use Rattle.expand.specs.declared.master.Master.{Master}
-use Rattle.expand.specs.Structure.{limits_of}
-use Rattle.pitch_join.specs.Masters.{master_at, master_numbers}
-use Rattle.pitch_join.specs.Joined.{base_of, shifted}
+use Rattle.expand.specs.{declared.master.Master.Master, Structure.limits_of}
+use Rattle.pitch_join.specs.{Masters.{master_at, master_numbers}, Joined.{base_of, shifted}}
 
 -- those of master m
 abbrev pub limits_at : Axis → List Master → ℕ → List Edge

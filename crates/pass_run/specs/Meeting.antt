@@ -3,15 +3,9 @@ use Rattle.std.specs.Prelude.{◌≡◌, ℕ, ℤ, All, List, length}
 use Rattle.lam_geom.specs.declared.boxes.Axis.{Axis}
 use Rattle.rule_table.specs.declared.technology.Tech.{Tech}
 use Rattle.liao_wong.specs.Answers.{IsWithinLimit}
-use Rattle.sym_items.specs.declared.items.Coords.{Coords}
-use Rattle.sym_items.specs.Values.{value_of}
-use Rattle.expand.specs.declared.master.Master.{Master}
-use Rattle.expand.specs.Variables.{variables_of}
-use Rattle.sym_items.specs.Extents.{IsLongUnder}
-use Rattle.expand.specs.Laws.{MeetsStructure}
-use Rattle.pair_rules.specs.Candidates.{candidates_of, Keeps}
-use Rattle.pair_rules.specs.Kept.{kept_of}
-use Rattle.pair_rules.specs.Laws.{moved}
+use Rattle.sym_items.specs.{declared.items.Coords.Coords, Values.value_of, Extents.IsLongUnder}
+use Rattle.expand.specs.{declared.master.Master.Master, Variables.variables_of, Laws.MeetsStructure}
+use Rattle.pair_rules.specs.{Candidates.{candidates_of, Keeps}, Kept.kept_of, Laws.moved}
 use Rattle.pass_run.specs.Laid.{IsLaidOut}
 
 -- values of an axis meet a master over a layout: its structure, and the inequality of each of its kept pairs

@@ -1,13 +1,10 @@
 -- What a pass has of one master, whose first joint variable beside the origin is known.
-use Rattle.std.specs.Prelude.{ℕ, ℤ, List, map}
-use Rattle.std.specs.List.{range_with_len}
+use Rattle.std.specs.{Prelude.{ℕ, ℤ, List, map}, List.range_with_len}
 use Rattle.lam_geom.specs.declared.boxes.Axis.{Axis}
 use Rattle.rule_table.specs.declared.technology.Tech.{Tech}
-use Rattle.cons_graph.specs.declared.edges.Edge.{Edge}
-use Rattle.cons_graph.specs.Solutions.{value_of}
+use Rattle.cons_graph.specs.{declared.edges.Edge.Edge, Solutions.value_of}
 use Rattle.sym_items.specs.declared.items.Coords.{Coords}
-use Rattle.expand.specs.declared.master.Master.{Master}
-use Rattle.expand.specs.Variables.{variables_of}
+use Rattle.expand.specs.{declared.master.Master.Master, Variables.variables_of}
 use Rattle.pair_rules.specs.Kept.{kept_of}
 use Rattle.pitch_join.specs.Joined.{joined, shifted, space_edge}
 

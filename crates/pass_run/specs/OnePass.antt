@@ -6,20 +6,11 @@ use Rattle.sym_items.specs.declared.items.Coords.{Coords}
 use Rattle.expand.specs.declared.master.Master.{Master}
 use Rattle.plan_model.specs.declared.plan.Plan.{Plan}
 use Rattle.pitch_join.specs.Joined.{list_over}
-use Rattle.pass_run.specs.declared.passes.PassFault.{PassFault}
+use Rattle.pass_run.specs.declared.{passes.PassFault.PassFault, pass.{Made.Made, Stop.{Stop, TheVariants.TooManyEdges}}}
+use Rattle.pass_run.specs.{declared.pass.Stop.TheVariants.{Cycle, OutOfMemory}, Alike.most_edges, Laid.AreSettled}
+use Rattle.pass_run.specs.{Layouts.moved_by, Least.StaySettled, PassFaults.IsCyclicOver, Passes.IsLeastPass}
+use Rattle.pass_run.specs.{Passes.IsRecorded, Report.pass_text, Theorems.IsSoundPass, Told.IsTightMost}
 use Rattle.pass_run.specs.declared.passes.PassFault.TheVariants as faults
-use Rattle.pass_run.specs.declared.pass.Made.{Made}
-use Rattle.pass_run.specs.declared.pass.Stop.{Stop}
-use Rattle.pass_run.specs.declared.pass.Stop.TheVariants.{TooManyEdges, Cycle, OutOfMemory}
-use Rattle.pass_run.specs.Alike.{most_edges}
-use Rattle.pass_run.specs.Laid.{AreSettled}
-use Rattle.pass_run.specs.Layouts.{moved_by}
-use Rattle.pass_run.specs.Least.{StaySettled}
-use Rattle.pass_run.specs.PassFaults.{IsCyclicOver}
-use Rattle.pass_run.specs.Passes.{IsLeastPass, IsRecorded}
-use Rattle.pass_run.specs.Report.{pass_text}
-use Rattle.pass_run.specs.Theorems.{IsSoundPass}
-use Rattle.pass_run.specs.Told.{IsTightMost}
 
 -- The pass with this number was made over the layouts before it: its values are least, what is recorded of it is so,
 -- and it is sound. These are the layouts after it, over which another may be made, and its text. Its greatest values are

@@ -2,35 +2,22 @@
 use Rattle.std.specs.Prelude.{◌≡◌, ℕ, ◌<◌, ◌≤◌, ℤ, All, Contains, Some, List, ◌∷◌, length, map}
 use Rattle.lam_geom.specs.declared.boxes.Axis.{Axis}
 use Rattle.rule_table.specs.declared.technology.Tech.{Tech}
-use Rattle.cons_graph.specs.declared.edges.Edge.{Edge}
-use Rattle.cons_graph.specs.Constraints.{IsConstraintGraph}
-use Rattle.round_log.specs.declared.log.Log.{Log}
-use Rattle.round_log.specs.Logs.{raises_in, IsLogOfRounds}
-use Rattle.round_log.specs.Looks.{backward_numbers, label}
-use Rattle.round_log.specs.Orders.{NamesEachOnce}
-use Rattle.cons_graph.specs.SimpleWalks.{heads_of, length_of, HasNoRepeat, IsSimplePositiveCycle, WalksFromTo}
-use Rattle.cons_graph.specs.Solutions.{IsLeastSolution, value_of}
-use Rattle.cons_graph.specs.Walks.{HasPositiveCycle}
-use Rattle.round_log.specs.WalksBack.{walk_of}
-use Rattle.liao_wong.specs.declared.solving.Solved.{Solved}
-use Rattle.liao_wong.specs.Answers.{IsCycleOf, IsWithinLimit}
-use Rattle.liao_wong.specs.Sorted.{IsInOrderOf}
+use Rattle.cons_graph.specs.{declared.edges.Edge.Edge, Constraints.IsConstraintGraph, SimpleWalks.{heads_of, length_of}}
+use Rattle.cons_graph.specs.{SimpleWalks.{HasNoRepeat, IsSimplePositiveCycle, WalksFromTo}, Solutions.IsLeastSolution}
+use Rattle.cons_graph.specs.{Solutions.value_of, Walks.HasPositiveCycle}
+use Rattle.round_log.specs.{declared.log.Log.Log, Logs.{raises_in, IsLogOfRounds}, Looks.{backward_numbers, label}}
+use Rattle.round_log.specs.{Orders.NamesEachOnce, WalksBack.walk_of}
+use Rattle.liao_wong.specs.{declared.solving.Solved.Solved, Answers.{IsCycleOf, IsWithinLimit}, Sorted.IsInOrderOf}
 use Rattle.sym_items.specs.declared.items.Coords.{Coords}
 use Rattle.expand.specs.declared.master.Master.{Master}
 use Rattle.plan_model.specs.declared.plan.Plan.{Plan}
-use Rattle.pitch_join.specs.Names.{joint_names}
-use Rattle.pitch_join.specs.Joined.{bases_of, joint_variables, list_over}
+use Rattle.pitch_join.specs.{Names.joint_names, Joined.{bases_of, joint_variables, list_over}}
 use Rattle.slack_pack.specs.Most.{HasWalk, IsMost, IsAttained}
 use Rattle.shadow_prune.specs.declared.keeping.KeptFault.{KeptFault}
 use Rattle.shadow_prune.specs.declared.keeping.KeptFault.TheVariants as faults
-use Rattle.pass_run.specs.declared.edges.Listed.{Listed}
-use Rattle.pass_run.specs.declared.pass.Stop.{Stop}
-use Rattle.pass_run.specs.declared.pass.Stop.TheVariants.{TooManyEdges, OutOfMemory}
-use Rattle.pass_run.specs.declared.step.Step.{Step}
-use Rattle.pass_run.specs.declared.step.Walk.{Walk}
-use Rattle.pass_run.specs.Alike.{most_edges}
-use Rattle.pass_run.specs.Layouts.{joint_values}
-use Rattle.pass_run.specs.Passes.{kept_counts}
+use Rattle.pass_run.specs.declared.{edges.Listed.Listed, pass.Stop.{Stop, TheVariants.{TooManyEdges, OutOfMemory}}}
+use Rattle.pass_run.specs.declared.step.{Step.Step, Walk.Walk}
+use Rattle.pass_run.specs.{Alike.most_edges, Layouts.joint_values, Passes.kept_counts}
 
 -- the list of the pass on an axis over some layouts, of which a constraint graph is made
 pub record IsListOver (axis : Axis) (tech : Tech) (plan : Plan) (masters : List Master) (before : List Coords)

@@ -3,23 +3,15 @@ use Rattle.std.specs.Prelude.{◌≡◌, ℕ, suc, ◌<◌, ◌≤◌, ◌⊎◌
 use Rattle.lam_geom.specs.declared.boxes.Axis.{Axis}
 use Rattle.rule_table.specs.declared.technology.Tech.{Tech}
 use Rattle.round_log.specs.Orders.{NamesEachOnce}
-use Rattle.cons_graph.specs.SimpleWalks.{edges_of, IsSimplePositiveCycle}
-use Rattle.cons_graph.specs.Solutions.{value_of}
-use Rattle.cons_graph.specs.Walks.{HasPositiveCycle}
-use Rattle.liao_wong.specs.Answers.{IsCycleOf}
-use Rattle.liao_wong.specs.Sorted.{IsInOrderOf}
+use Rattle.cons_graph.specs.{SimpleWalks.{edges_of, IsSimplePositiveCycle}, Solutions.value_of, Walks.HasPositiveCycle}
+use Rattle.liao_wong.specs.{Answers.IsCycleOf, Sorted.IsInOrderOf}
 use Rattle.sym_items.specs.declared.items.Coords.{Coords}
 use Rattle.expand.specs.declared.master.Master.{Master}
 use Rattle.plan_model.specs.declared.plan.Plan.{Plan}
-use Rattle.pitch_join.specs.Names.{joint_names}
-use Rattle.pitch_join.specs.Joined.{joint_variables, system_over, list_over}
-use Rattle.pass_run.specs.declared.passes.PassFault.{PassFault}
-use Rattle.pass_run.specs.declared.passes.PassFault.TheVariants.{TooManyEdges, Unsatisfiable, OutOfMemory}
-use Rattle.pass_run.specs.declared.step.Step.{Step}
-use Rattle.pass_run.specs.Alike.{most_edges}
-use Rattle.pass_run.specs.Layouts.{starts_of, joint_values, moved_by, layouts_after}
-use Rattle.pass_run.specs.Passes.{ArePasses, axes_of}
-use Rattle.pass_run.specs.Report.{report_of, cycle_text}
+use Rattle.pitch_join.specs.{Names.joint_names, Joined.{joint_variables, system_over, list_over}}
+use Rattle.pass_run.specs.declared.passes.PassFault.{PassFault, TheVariants.{TooManyEdges, Unsatisfiable, OutOfMemory}}
+use Rattle.pass_run.specs.{declared.step.Step.Step, Alike.most_edges, Layouts.{starts_of, joint_values, moved_by}}
+use Rattle.pass_run.specs.{Layouts.layouts_after, Passes.{ArePasses, axes_of}, Report.{report_of, cycle_text}}
 
 -- The passes before this one are made, and its axis comes next. Passes are counted from 1.
 pub record ComesTo (tech : Tech) (plan : Plan) (masters : List Master) (axes : List Axis) (pass : ℕ) (axis : Axis) (done : List Step) : Type 0 where

@@ -2,22 +2,15 @@
 use Rattle.std.specs.Prelude.{◌≡◌, ℕ, ◌≤◌, List, [], ◌∷◌, length, map}
 use Rattle.lam_geom.specs.declared.boxes.Axis.{Axis}
 use Rattle.rule_table.specs.declared.technology.Tech.{Tech}
-use Rattle.round_log.specs.declared.log.Entry.{Entry}
-use Rattle.round_log.specs.Looks.{backward_numbers}
-use Rattle.round_log.specs.Orders.{NamesEachOnce}
-use Rattle.round_log.specs.Rounds.{plan_of, EndsInRound}
+use Rattle.round_log.specs.{declared.log.Entry.Entry, Looks.backward_numbers, Orders.NamesEachOnce, Rounds.plan_of}
+use Rattle.round_log.specs.{Rounds.EndsInRound, WalksBack.walk_of}
 use Rattle.cons_graph.specs.Solutions.{IsLeastSolution, value_of}
-use Rattle.round_log.specs.WalksBack.{walk_of}
 use Rattle.liao_wong.specs.Sorted.{IsInOrderOf}
 use Rattle.sym_items.specs.declared.items.Coords.{Coords}
 use Rattle.expand.specs.declared.master.Master.{Master}
 use Rattle.plan_model.specs.declared.plan.Plan.{Plan}
-use Rattle.pitch_join.specs.Masters.{master_numbers}
-use Rattle.pitch_join.specs.Joined.{joint_variables, far_of, kept_at, system_over, list_over}
-use Rattle.pass_run.specs.declared.step.Step.{Step}
-use Rattle.pass_run.specs.declared.step.Walk.{Walk}
-use Rattle.pass_run.specs.Alike.{most_edges}
-use Rattle.pass_run.specs.Layouts.{joint_values, moved_by}
+use Rattle.pitch_join.specs.{Masters.master_numbers, Joined.{joint_variables, far_of, kept_at, system_over, list_over}}
+use Rattle.pass_run.specs.{declared.step.{Step.Step, Walk.Walk}, Alike.most_edges, Layouts.{joint_values, moved_by}}
 
 -- A pass over the layouts before it: every value of its axis is the least that any solution of the system of all masters has.
 pub record IsLeastPass (tech : Tech) (plan : Plan) (masters : List Master) (before : List Coords) (step : Step) : Type 0 where

@@ -5,8 +5,7 @@ use Rattle.rule_table.specs.declared.technology.Tech.{Tech}
 use Rattle.sym_items.specs.declared.items.Coords.{Coords}
 use Rattle.expand.specs.declared.master.Master.{Master}
 use Rattle.plan_model.specs.declared.plan.Plan.{Plan}
-use Rattle.pitch_join.specs.Joined.{system_over, list_over}
-use Rattle.pitch_join.specs.Meeting.{HaveBoxes}
+use Rattle.pitch_join.specs.{Joined.{system_over, list_over}, Meeting.HaveBoxes}
 use Rattle.pass_run.specs.Alike.{HaveSameSolutions, HaveCyclesAlike}
 
 -- Over layouts that give every item a box, the list of a pass on an axis has the same solutions as its system, and one of them has a positive

@@ -1,23 +1,15 @@
 -- The report of the passes of a plan.
 use Rattle.std.specs.Prelude.{ℕ, suc, ℤ, List, [], ◌∷◌, ◌++◌, codes, decimal, flat_map, slice_index, slice_index_or}
 use Rattle.std.specs.Fmt.{signed_decimal}
-use Rattle.lam_geom.specs.declared.boxes.Axis.{Axis}
-use Rattle.lam_geom.specs.declared.boxes.Axis.TheVariants.{X, Y}
+use Rattle.lam_geom.specs.declared.boxes.Axis.{Axis, TheVariants.{X, Y}}
 use Rattle.rule_table.specs.declared.technology.Tech.{Tech}
-use Rattle.cons_graph.specs.declared.edges.Edge.{Edge}
-use Rattle.cons_graph.specs.Lines.{lines_of}
-use Rattle.cons_graph.specs.SimpleWalks.{length_of}
-use Rattle.cons_graph.specs.Solutions.{value_of}
+use Rattle.cons_graph.specs.{declared.edges.Edge.Edge, Lines.lines_of, SimpleWalks.length_of, Solutions.value_of}
 use Rattle.sym_items.specs.declared.items.Coords.{Coords}
 use Rattle.cell_model.specs.declared.cell.Cell.{Cell}
 use Rattle.expand.specs.declared.master.Master.{Master}
 use Rattle.plan_model.specs.declared.plan.Plan.{Plan}
-use Rattle.pitch_join.specs.Masters.{master_at, master_numbers}
-use Rattle.pitch_join.specs.Names.{joint_names}
-use Rattle.pitch_join.specs.Joined.{far_of, list_over}
-use Rattle.pass_run.specs.declared.step.Step.{Step}
-use Rattle.pass_run.specs.declared.step.Walk.{Walk}
-use Rattle.pass_run.specs.Layouts.{moved_by}
+use Rattle.pitch_join.specs.{Masters.{master_at, master_numbers}, Names.joint_names, Joined.{far_of, list_over}}
+use Rattle.pass_run.specs.{declared.step.{Step.Step, Walk.Walk}, Layouts.moved_by}
 
 abbrev pub letter : Axis → List ℕ
 letter X = codes "x"

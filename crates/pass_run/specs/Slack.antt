@@ -8,9 +8,7 @@ use Rattle.sym_items.specs.declared.items.Coords.{Coords}
 use Rattle.expand.specs.declared.master.Master.{Master}
 use Rattle.plan_model.specs.declared.plan.Plan.{Plan}
 use Rattle.pitch_join.specs.Joined.{bases_of, joint_variables, system_over}
-use Rattle.pass_run.specs.declared.step.Step.{Step}
-use Rattle.pass_run.specs.Layouts.{moved_by}
-use Rattle.pass_run.specs.Passes.{axes_of}
+use Rattle.pass_run.specs.{declared.step.Step.Step, Layouts.moved_by, Passes.axes_of}
 
 -- ---- one pass
 

@@ -2,24 +2,16 @@
 use Rattle.std.specs.Prelude.{◌≡◌, ℕ, ◌<◌, ℤ, ◌≤ℤ◌, All, Contains, List, ◌∷◌, [], length}
 use Rattle.lam_geom.specs.declared.boxes.Axis.{Axis}
 use Rattle.rule_table.specs.declared.technology.Tech.{Tech}
-use Rattle.cons_graph.specs.declared.edges.Edge.{Edge}
-use Rattle.cons_graph.specs.SimpleWalks.{edges_of, heads_of, length_of, HasNoRepeat, WalksFromTo}
-use Rattle.cons_graph.specs.Solutions.{IsSolution, value_of}
-use Rattle.sym_items.specs.declared.items.Item.{Item}
-use Rattle.sym_items.specs.declared.items.Coords.{Coords}
-use Rattle.sym_items.specs.Boxes.{HasBox}
-use Rattle.sym_items.specs.Extents.{IsLongUnder}
-use Rattle.sym_items.specs.Layouts.{layout_at}
-use Rattle.sym_items.specs.Transposed.{values_along}
+use Rattle.cons_graph.specs.{declared.edges.Edge.Edge, SimpleWalks.{edges_of, heads_of, length_of, HasNoRepeat}}
+use Rattle.cons_graph.specs.{SimpleWalks.WalksFromTo, Solutions.{IsSolution, value_of}}
+use Rattle.sym_items.specs.declared.items.{Item.Item, Coords.Coords}
+use Rattle.sym_items.specs.{Boxes.HasBox, Extents.IsLongUnder, Layouts.layout_at, Transposed.values_along}
 use Rattle.expand.specs.declared.master.Master.{Master}
 use Rattle.pair_rules.specs.Clean.{IsClean}
 use Rattle.plan_model.specs.declared.plan.Plan.{Plan}
-use Rattle.pitch_join.specs.Masters.{master_at}
-use Rattle.pitch_join.specs.Joined.{joint_variables, far_of, system_over, list_over}
-use Rattle.pass_run.specs.declared.step.Step.{Step}
-use Rattle.pass_run.specs.declared.step.Walk.{Walk}
-use Rattle.pass_run.specs.Layouts.{joint_values, moved_by}
-use Rattle.pass_run.specs.Report.{walk_at, size_at}
+use Rattle.pitch_join.specs.{Masters.master_at, Joined.{joint_variables, far_of, system_over, list_over}}
+use Rattle.pass_run.specs.declared.step.{Step.Step, Walk.Walk}
+use Rattle.pass_run.specs.{Layouts.{joint_values, moved_by}, Report.{walk_at, size_at}}
 
 -- an item is at least as long on an axis as it has to be
 abbrev pub IsLong : Axis → Coords → Item → Type 0

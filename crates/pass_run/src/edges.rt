@@ -1,18 +1,14 @@
 //! The inequalities of a pass, and the constraint graph of them.
 
-ghost use Rattle.std.specs.Prelude.{◌≡◌, ◌+◌, ◌<◌, ◌≤◌, ◌^◌, ◌++◌, length, slice_index, map, flat_map, All, OnOk, IfOk, IfErr, MatchResult};
-ghost use Rattle.expand.specs.Laws.{IsLawful};
-ghost use Rattle.expand.specs.Masters.{IsMaster};
-ghost use Rattle.expand.specs.Bounds.{IsNearAlong};
+ghost use Rattle.std.specs.Prelude.{◌≡◌, ◌+◌, ◌<◌, ◌≤◌, ◌^◌, ◌++◌, length, slice_index, map, flat_map, All, OnOk, IfOk};
+ghost use Rattle.std.specs.Prelude.{IfErr, MatchResult};
+ghost use Rattle.expand.specs.{Laws.IsLawful, Masters.IsMaster, Bounds.IsNearAlong};
 ghost use Rattle.pair_rules.specs.declared.pairs.Pair.{Pair as SomePair};
-ghost use Rattle.pitch_join.specs.Masters.{ArePlanned, master_numbers};
-ghost use Rattle.pitch_join.specs.Joined.{bases_of, joint_variables, kept_edges_at, list_over, shifted, space_edge};
-ghost use Rattle.pitch_join.specs.Spaces.{EndsBelow, IsPairAmong};
+ghost use Rattle.pitch_join.specs.{Masters.{ArePlanned, master_numbers}, Joined.{bases_of, joint_variables}};
+ghost use Rattle.pitch_join.specs.{Joined.{kept_edges_at, list_over, shifted, space_edge}, Spaces.EndsBelow};
+ghost use Rattle.pitch_join.specs.Spaces.{IsPairAmong};
 ghost use Rattle.shadow_prune.specs.KeptFaults.{RefusesExactly, RefusesKept};
-ghost use Rattle.pass_run.specs.Alike.{most_edges};
-ghost use Rattle.pass_run.specs.Passes.{kept_counts};
-ghost use Rattle.pass_run.specs.Laid.{AreLaidOut};
-ghost use Rattle.pass_run.specs.OneStep.{IsListOver};
+ghost use Rattle.pass_run.specs.{Alike.most_edges, Passes.kept_counts, Laid.AreLaidOut, OneStep.IsListOver};
 
 use crate::finding::found_in_all;
 use crate::laws::masters_are_lawful;

@@ -4,8 +4,7 @@ ghost use Rattle.std.specs.Prelude.{◌≡◌, ◌+◌, ◌<◌, ◌≤◌, leng
 ghost use Rattle.expand.specs.Masters.{IsMaster};
 ghost use Rattle.sym_items.specs.Layouts.{layout_at};
 ghost use Rattle.pitch_join.specs.Masters.{master_at, master_numbers};
-ghost use Rattle.pass_run.specs.Found.{HasPairs, IsFoundIn, AreFound};
-ghost use Rattle.pass_run.specs.Laid.{IsLaidOut, AreLaidOut};
+ghost use Rattle.pass_run.specs.{Found.{HasPairs, IsFoundIn, AreFound}, Laid.{IsLaidOut, AreLaidOut}};
 
 use expand::{Master, master_is_lawful};
 use lam_geom::Axis;

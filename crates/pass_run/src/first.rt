@@ -2,11 +2,8 @@
 
 ghost use Rattle.std.specs.Prelude.{◌≡◌, true, [], ◌∷◌, All, IfOk, IfSome, OnOk};
 ghost use Rattle.pitch_join.specs.Masters.{ArePlanned};
-ghost use Rattle.pass_run.specs.Laid.{StartsClean};
-ghost use Rattle.pass_run.specs.Layouts.{starts_of};
-ghost use Rattle.pass_run.specs.Least.{LeadTo, StaySettled};
-ghost use Rattle.pass_run.specs.First.{AreMore, IsFirstPass};
-ghost use Rattle.pass_run.specs.Limits.{joint_limits};
+ghost use Rattle.pass_run.specs.{Laid.StartsClean, Layouts.starts_of, Least.{LeadTo, StaySettled}, First.AreMore};
+ghost use Rattle.pass_run.specs.{First.IsFirstPass, Limits.joint_limits};
 
 use crate::bared::stripped;
 use crate::compared::{ask_alike, differ_in_limits};

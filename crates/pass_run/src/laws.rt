@@ -1,15 +1,10 @@
 //! What holds of layouts that meet a master, and of passes.
 
-ghost use Rattle.expand.specs.Laws.{IsLawful};
-ghost use Rattle.expand.specs.Masters.{IsMaster};
+ghost use Rattle.expand.specs.{Laws.IsLawful, Masters.IsMaster};
 ghost use Rattle.lam_geom.specs.declared.boxes.Axis.{Axis as SomeAxis};
-ghost use Rattle.pass_run.specs.Passes.{AreDetermined};
-ghost use Rattle.pass_run.specs.PassFaults.{AreRefusedInOneWay};
-ghost use Rattle.pass_run.specs.Slack.{HasOneMost};
+ghost use Rattle.pass_run.specs.{Passes.AreDetermined, PassFaults.AreRefusedInOneWay, Slack.HasOneMost};
+ghost use Rattle.pass_run.specs.{Meeting.MeetingStays, Least.LeadToOnePlace, Pruning.PruningLosesNothing};
 ghost use Rattle.std.specs.Prelude.{List, All};
-ghost use Rattle.pass_run.specs.Meeting.{MeetingStays};
-ghost use Rattle.pass_run.specs.Least.{LeadToOnePlace};
-ghost use Rattle.pass_run.specs.Pruning.{PruningLosesNothing};
 
 use expand::{Master, master_is_lawful};
 use plan_model::Plan;

@@ -1,13 +1,11 @@
 //! The layouts of masters, and the values of the joint variables.
 
-ghost use Rattle.std.specs.Prelude.{◌≡◌, ◌+◌, ◌≤◌, length, map, All, IfOk};
-ghost use Rattle.std.specs.List.{range_with_len};
-ghost use Rattle.expand.specs.Masters.{IsMaster};
-ghost use Rattle.expand.specs.Variables.{variables_of};
+ghost use Rattle.std.specs.{Prelude.{◌≡◌, ◌+◌, ◌≤◌, length, map, All, IfOk}, List.range_with_len};
+ghost use Rattle.expand.specs.{Masters.IsMaster, Variables.variables_of};
 ghost use Rattle.pair_rules.specs.Laws.{moved};
 ghost use Rattle.pitch_join.specs.Joined.{bases_of, joint_variables};
-ghost use Rattle.pass_run.specs.Layouts.{starts_of, own_values, joint_values, with_values};
-ghost use Rattle.pass_run.specs.OneMaster.{part_from, own_part};
+ghost use Rattle.pass_run.specs.{Layouts.{starts_of, own_values, joint_values, with_values}, OneMaster.part_from};
+ghost use Rattle.pass_run.specs.OneMaster.{own_part};
 
 use coarse_grid::start;
 use expand::{Master, master_is_lawful};

@@ -3,12 +3,9 @@
 ghost use Rattle.std.specs.Prelude.{◌≡◌, ◌++◌, List, All, IfNone, IfOk, IfSome, MatchResult};
 ghost use Rattle.lam_geom.specs.declared.boxes.Axis.{Axis as SomeAxis};
 ghost use Rattle.liao_wong.specs.Answers.{IsWithinLimit};
-ghost use Rattle.pitch_join.specs.Masters.{ArePlanned};
-ghost use Rattle.pitch_join.specs.Joined.{bases_of};
-ghost use Rattle.pass_run.specs.Laid.{AreLaidOut, AreSettled};
-ghost use Rattle.pass_run.specs.Least.{AreLeastValues, LeadNowhere, LeadTo, StaySettled};
-ghost use Rattle.pass_run.specs.Layouts.{with_values};
-ghost use Rattle.pass_run.specs.OnePass.{HasNoValues};
+ghost use Rattle.pitch_join.specs.{Masters.ArePlanned, Joined.bases_of};
+ghost use Rattle.pass_run.specs.{Laid.{AreLaidOut, AreSettled}, Least.{AreLeastValues, LeadNowhere, LeadTo}};
+ghost use Rattle.pass_run.specs.{Least.StaySettled, Layouts.with_values, OnePass.HasNoValues};
 
 use crate::laws::masters_are_lawful;
 use crate::layouts::with_parts;

@@ -2,8 +2,7 @@
 
 ghost use Rattle.std.specs.Prelude.{◌≡◌, ◌≤◌, ◌^◌, ◌++◌, neg_ℤ, length, map, flat_map, All, OnOk, IfOk};
 ghost use Rattle.stick_lex.specs.Numbers.{IsNumber};
-ghost use Rattle.expand.specs.Masters.{IsMaster};
-ghost use Rattle.expand.specs.Structure.{is_limit_of, limit_edge, limit_edges};
+ghost use Rattle.expand.specs.{Masters.IsMaster, Structure.{is_limit_of, limit_edge, limit_edges}};
 ghost use Rattle.pitch_join.specs.Joined.{bases_of, joint_variables, shifted};
 ghost use Rattle.pass_run.specs.Limits.{IsNear, joint_limits};
 

@@ -6,11 +6,9 @@ ghost use Rattle.cons_graph.specs.Solutions.{value_of, IsSolution};
 ghost use Rattle.liao_wong.specs.Answers.{IsWithinLimit};
 ghost use Rattle.expand.specs.Laws.{IsLawful};
 ghost use Rattle.pitch_join.specs.Masters.{ArePlanned};
-ghost use Rattle.pass_run.specs.declared.pass.Stop.TheVariants.{OutOfMemory};
-ghost use Rattle.pass_run.specs.Layouts.{joint_values};
-ghost use Rattle.pass_run.specs.Laid.{AreLaidOut};
-ghost use Rattle.pass_run.specs.OnePass.{IsPassMade, StopsPass};
-ghost use Rattle.pass_run.specs.OneStep.{step_of, walks_to, HasPath, IsListedMost, IsOrderAlong, IsSolvedPass, ReachFar, stop_of};
+ghost use Rattle.pass_run.specs.{declared.pass.Stop.TheVariants.OutOfMemory, Layouts.joint_values, Laid.AreLaidOut};
+ghost use Rattle.pass_run.specs.{OnePass.{IsPassMade, StopsPass}, OneStep.{step_of, walks_to, HasPath, IsListedMost}};
+ghost use Rattle.pass_run.specs.OneStep.{IsOrderAlong, IsSolvedPass, ReachFar, stop_of};
 
 use crate::edges::{Listed, list};
 use crate::laws::masters_are_lawful;

@@ -1,18 +1,13 @@
 //! The passes of a plan, one after another.
 
-ghost use Rattle.std.specs.Prelude.{◌≡◌, ◌<◌, ◌≤◌, ◌∷◌, ◌++◌, [], Bool, false, List, length, All, IfOk, IfErr, IsTrue, MatchResult};
+ghost use Rattle.std.specs.Prelude.{◌≡◌, ◌<◌, ◌≤◌, ◌∷◌, ◌++◌, [], Bool, false, List, length, All, IfOk, IfErr, IsTrue};
+ghost use Rattle.std.specs.Prelude.{MatchResult};
 ghost use Rattle.lam_geom.specs.declared.boxes.Axis.{Axis as SomeAxis};
 ghost use Rattle.pitch_join.specs.Masters.{ArePlanned};
-ghost use Rattle.pass_run.specs.Layouts.{starts_of};
-ghost use Rattle.pass_run.specs.Passes.{axes_of};
-ghost use Rattle.pass_run.specs.Laid.{StartsClean};
-ghost use Rattle.pass_run.specs.Pruning.{PruningLosesNothing};
-ghost use Rattle.pass_run.specs.PassFaults.{AreRefusedInOneWay, RefusesPasses, StopsAtFirst};
-ghost use Rattle.pass_run.specs.Going.{IsGoing, IsToldIfLast};
-ghost use Rattle.pass_run.specs.OnePass.{EndsPasses};
-ghost use Rattle.pass_run.specs.PassesOn.{ArePassesOn};
-ghost use Rattle.pass_run.specs.Slack.{AreMosts, AreTight};
-ghost use Rattle.pass_run.specs.declared.passes.PassFault.TheVariants.{OutOfMemory};
+ghost use Rattle.pass_run.specs.{Layouts.starts_of, Passes.axes_of, Laid.StartsClean, Pruning.PruningLosesNothing};
+ghost use Rattle.pass_run.specs.{PassFaults.{AreRefusedInOneWay, RefusesPasses, StopsAtFirst}, Going.IsGoing};
+ghost use Rattle.pass_run.specs.{Going.IsToldIfLast, OnePass.EndsPasses, PassesOn.ArePassesOn, Slack.AreMosts};
+ghost use Rattle.pass_run.specs.{Slack.AreTight, declared.passes.PassFault.TheVariants.OutOfMemory};
 
 use crate::laws::{pruning_loses_nothing, refusals_are_determined};
 use crate::layouts::starts;

@@ -1,11 +1,9 @@
 //! Whether the values of a session are shown to be the least for some limits.
 
 ghost use Rattle.std.specs.Prelude.{◌≡◌, ◌≤◌, ◌≤ℤ◌, true, length, All, Contains, IfSome};
-ghost use Rattle.cons_graph.specs.Constraints.{IsEdgeAmong};
-ghost use Rattle.cons_graph.specs.Solutions.{IsLeastSolution, Meets, value_of};
+ghost use Rattle.cons_graph.specs.{Constraints.IsEdgeAmong, Solutions.{IsLeastSolution, Meets, value_of}};
 ghost use Rattle.liao_wong.specs.Answers.{IsWithinLimit};
-ghost use Rattle.pass_run.specs.Alike.{most_edges};
-ghost use Rattle.pass_run.specs.Following.{listed_with};
+ghost use Rattle.pass_run.specs.{Alike.most_edges, Following.listed_with};
 
 use cons_graph::{Edge, MAX_EDGES};
 use edit_session::Session;

@@ -1,14 +1,11 @@
 //! The texts of a report.
 
-ghost use Rattle.std.specs.Prelude.{◌≡◌, ◌<◌, ◌≤◌, ◌^◌, ◌++◌, ◌∷◌, [], codes, length, decimal, slice_index, All, OnOk, IfOk};
-ghost use Rattle.std.specs.Fmt.{signed_decimal};
-ghost use Rattle.cons_graph.specs.SimpleWalks.{length_of, IsSimplePositiveCycle};
-ghost use Rattle.cons_graph.specs.Solutions.{value_of};
-ghost use Rattle.pitch_join.specs.Masters.{master_at};
-ghost use Rattle.pitch_join.specs.Names.{joint_names};
-ghost use Rattle.pitch_join.specs.Joined.{bases_of};
-ghost use Rattle.pass_run.specs.declared.step.Walk.{Walk as SomeWalk};
-ghost use Rattle.pass_run.specs.Report.{letter, pass_head, count_line, size_line, walk_at, size_at, master_text, pass_text, cycle_text};
+ghost use Rattle.std.specs.Prelude.{◌≡◌, ◌<◌, ◌≤◌, ◌^◌, ◌++◌, ◌∷◌, [], codes, length, decimal, slice_index, All, OnOk};
+ghost use Rattle.std.specs.{Prelude.IfOk, Fmt.signed_decimal};
+ghost use Rattle.cons_graph.specs.{SimpleWalks.{length_of, IsSimplePositiveCycle}, Solutions.value_of};
+ghost use Rattle.pitch_join.specs.{Masters.master_at, Names.joint_names, Joined.bases_of};
+ghost use Rattle.pass_run.specs.{declared.step.Walk.Walk as SomeWalk, Report.{letter, pass_head, count_line}};
+ghost use Rattle.pass_run.specs.Report.{size_line, walk_at, size_at, master_text, pass_text, cycle_text};
 
 use crate::edges::Listed;
 use crate::step::Step;

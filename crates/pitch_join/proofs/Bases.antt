@@ -1,26 +1,18 @@
 -- Where the joint variables of each master begin.
-use Rattle.std.proofs.Common.{◌≡◌, ℕ, zero, suc, ◌+◌, ◌-◌, ◌*◌, ◌<◌, ◌≤◌, List, [], ◌∷◌, ◌++◌, length, get_or, map, refl, sym, ap, ◌∙◌, subst, arith, ◌⊎◌, inl, inr}
-use Rattle.std.specs.List.{All, range_with_len, sum_by}
-use Rattle.std.specs.Prelude.{◌^◌, slice_index}
-use Rattle.std.proofs.Math.Seq.{take-length}
-use Rattle.std.proofs.lemmas.Bool.{cases_lt}
-use Rattle.std.proofs.lemmas.List.Elements.{All-weaker}
-use Rattle.std.proofs.lemmas.List.Sums.{sum_by_more, sum_by_more_le, sum_by-le, count_by-le-length}
-use Rattle.std.proofs.lemmas.List.{get_or_default, length-map}
+use Rattle.std.proofs.Common.{◌≡◌, ℕ, zero, suc, ◌+◌, ◌-◌, ◌*◌, ◌<◌, ◌≤◌, List, [], ◌∷◌, ◌++◌, length, get_or, map}
+use Rattle.std.proofs.{Common.{refl, sym, ap, ◌∙◌, subst, arith, ◌⊎◌, inl, inr}, Math.Seq.take-length}
+use Rattle.std.proofs.lemmas.{Bool.cases_lt, List.{get_or_default, length-map, Elements.All-weaker, Sums.sum_by_more}}
+use Rattle.std.proofs.lemmas.List.Sums.{sum_by_more_le, sum_by-le, count_by-le-length}
 use Rattle.std.proofs.lemmas.List.FromFn.{get_or-map-range_with_len, length-map-range_with_len, map-range_with_len_more}
+use Rattle.std.specs.{List.{All, range_with_len, sum_by}, Prelude.{◌^◌, slice_index}}
 use Rattle.rule_table.specs.declared.technology.Tech.{Tech}
 use Rattle.lam_geom.specs.declared.boxes.Axis.{Axis}
-use Rattle.cell_model.specs.declared.cell.Wire.{Wire}
-use Rattle.cell_model.specs.Wiring.{is_same_axis}
-use Rattle.expand.specs.declared.master.Master.{Master}
-use Rattle.expand.specs.Masters.{IsMaster}
-use Rattle.expand.specs.Variables.{crossing, variables_of}
-use Rattle.plan_model.specs.declared.plan.Plan.{Plan}
-use Rattle.plan_model.specs.Plan.{IsPlanOver}
+use Rattle.cell_model.specs.{declared.cell.Wire.Wire, Wiring.is_same_axis}
+use Rattle.expand.specs.{declared.master.Master.Master, Masters.IsMaster, Variables.{crossing, variables_of}}
+use Rattle.plan_model.specs.{declared.plan.Plan.Plan, Plan.IsPlanOver}
 use Rattle.pitch_join.specs.Masters.{master_at, no_master, parts_in, master_ports, ports_of_masters, ArePlanned}
 use Rattle.pitch_join.specs.Joined.{own_variables, base_of, bases_of, joined, joint_variables, var_of}
-use Rattle.pitch_join.specs.Variables.{IsOfMaster, VariablesAreJoined}
-use Rattle.pitch_join.proofs.Lists.{sum_by_one_more}
+use Rattle.pitch_join.{specs.Variables.{IsOfMaster, VariablesAreJoined}, proofs.Lists.sum_by_one_more}
 
 -- ---- how many there are
 

@@ -1,27 +1,19 @@
 -- The inequalities of borders and ports, as the lists of bases and cross coordinates give them.
 use Rattle.std.proofs.Common.{◌≡◌, ℕ, ◌+◌, ◌<◌, ◌≤◌, List, [], ◌++◌, length, sym, ap, ◌∙◌, subst, arith, append_assoc}
-use Rattle.std.specs.Prelude.{◌^◌, slice_index, slice_index_or}
-use Rattle.std.specs.List.{All, flat_map}
 use Rattle.std.proofs.lemmas.List.Elements.{All-weaker, recursion_from_All}
+use Rattle.std.specs.{Prelude.{◌^◌, slice_index, slice_index_or}, List.{All, flat_map}}
 use Rattle.lam_geom.specs.declared.boxes.Axis.{Axis}
 use Rattle.rule_table.specs.declared.technology.Tech.{Tech}
-use Rattle.cons_graph.specs.declared.edges.Edge.{Edge}
-use Rattle.cons_graph.specs.declared.edges.Why.TheVariants.{Pitch}
+use Rattle.cons_graph.specs.declared.edges.{Edge.Edge, Why.TheVariants.Pitch}
 use Rattle.cell_model.specs.declared.cell.Cell.{Cell}
-use Rattle.expand.specs.declared.master.Master.{Master}
-use Rattle.expand.specs.Masters.{IsMaster}
-use Rattle.expand.specs.Variables.{cross_of}
-use Rattle.plan_model.specs.declared.plan.Match.{Match}
-use Rattle.plan_model.specs.declared.plan.Plan.{Plan}
-use Rattle.plan_model.specs.declared.plan.Same.{Same}
-use Rattle.plan_model.specs.Plan.{IsPlanOver, matches_in, pitch_in}
-use Rattle.pitch_join.specs.Masters.{master_at, ports_of_masters}
-use Rattle.pitch_join.specs.Among.{AreAllCrosses, IsCrossWire, IsListedMatch, IsListedWire, IsMatchAmong, IsSameAmong, listed_pitch, listed_ports, listed_wire}
-use Rattle.pitch_join.specs.Joined.{base_of, bases_of, equal_edges, far_of, fixed_of, joined, joint_variables, pitch_edges, pitches_of, port_edges, ports_of, structures_of, tied_edges, wire_var}
-use Rattle.pitch_join.proofs.Bases.{base_at, base_within, bases_counted, few_of_plan, joint_small}
-use Rattle.pitch_join.proofs.Lists.{flat_same}
-use Rattle.pitch_join.proofs.Planned.{matches_of_plan, pitch_of_plan}
-use Rattle.pitch_join.proofs.Shape.{cross_own}
+use Rattle.expand.specs.{declared.master.Master.Master, Masters.IsMaster, Variables.cross_of}
+use Rattle.plan_model.specs.{declared.plan.{Match.Match, Plan.Plan, Same.Same}, Plan.{IsPlanOver, matches_in, pitch_in}}
+use Rattle.pitch_join.specs.{Masters.{master_at, ports_of_masters}, Among.{AreAllCrosses, IsCrossWire, IsListedMatch}}
+use Rattle.pitch_join.specs.Among.{IsListedWire, IsMatchAmong, IsSameAmong, listed_pitch, listed_ports, listed_wire}
+use Rattle.pitch_join.specs.Joined.{base_of, bases_of, equal_edges, far_of, fixed_of, joined, joint_variables}
+use Rattle.pitch_join.specs.Joined.{pitch_edges, pitches_of, port_edges, ports_of, structures_of, tied_edges, wire_var}
+use Rattle.pitch_join.proofs.{Bases.{base_at, base_within, bases_counted, few_of_plan, joint_small}, Lists.flat_same}
+use Rattle.pitch_join.proofs.{Planned.{matches_of_plan, pitch_of_plan}, Shape.cross_own}
 
 -- ---- borders
 

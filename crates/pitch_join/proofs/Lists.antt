@@ -1,11 +1,10 @@
 -- What holds of each element of lists that are made of others.
-use Rattle.std.proofs.Common.{◌≡◌, ℕ, zero, suc, ◌+◌, ◌<◌, ◌≤◌, Bool, true, false, cond, List, [], ◌∷◌, ◌++◌, length, map, refl, sym, ap, ◌∙◌, subst, arith}
-use Rattle.std.specs.Prelude.{◌↔◌}
+use Rattle.std.proofs.Common.{◌≡◌, ℕ, zero, suc, ◌+◌, ◌<◌, ◌≤◌, Bool, true, false, cond, List, [], ◌∷◌, ◌++◌, length}
+use Rattle.std.proofs.{Common.{map, refl, sym, ap, ◌∙◌, subst, arith}, lemmas.List.Elements.{All-append, All-map}}
+use Rattle.std.{proofs.lemmas.List.{Elements.{All-weaker, recursion_from_All}, Sums.sum_by-cons}, specs.Prelude.◌↔◌}
 use Rattle.std.specs.List.{AllByRecursion, All, Any, flat_map, filter, fold, list_any, range_with_len, sum_by, zip}
-use Rattle.std.proofs.lemmas.List.Elements.{All-append, All-map, All-weaker, recursion_from_All}
-use Rattle.std.proofs.lemmas.List.Sums.{sum_by-cons}
-use Rattle.list_facts.proofs.Elements.{all_append, all_flat, all_pieces, all_numbers, all_of, all_parts, all_unmap, all_weaker}
-use Rattle.list_facts.proofs.Some.{any_here, any_there}
+use Rattle.list_facts.proofs.Elements.{all_append, all_flat, all_pieces, all_numbers, all_of, all_parts, all_unmap}
+use Rattle.list_facts.proofs.{Elements.all_weaker, Some.{any_here, any_there}}
 use Rattle.plan_model.specs.Rows.{add_new, firsts}
 
 -- ---- facts that are two ways of saying one

@@ -1,21 +1,13 @@
 -- There is a name for each joint variable.
 use Rattle.std.proofs.Common.{◌≡◌, ℕ, suc, ◌+◌, ◌<◌, cond, List, [], ◌∷◌, ◌++◌, length, map, refl, sym, ap, ◌∙◌, arith}
+use Rattle.std.proofs.lemmas.List.{length-append, length-map, Sums.sum_by-cons}
 use Rattle.std.specs.List.{flat_map, range_with_len, sum_by}
-use Rattle.std.proofs.lemmas.List.{length-append, length-map}
-use Rattle.std.proofs.lemmas.List.Sums.{sum_by-cons}
-use Rattle.lam_geom.specs.declared.boxes.Axis.{Axis}
-use Rattle.lam_geom.specs.declared.boxes.Axis.TheVariants.{X, Y}
-use Rattle.cell_model.specs.declared.cell.Axis2.{Axis2}
-use Rattle.cell_model.specs.declared.cell.Axis2.TheVariants.{Across, Up}
-use Rattle.cell_model.specs.declared.cell.Node.{Node}
-use Rattle.cell_model.specs.declared.cell.Wire.{Wire}
-use Rattle.cell_model.specs.declared.cell.Cell.{Cell}
-use Rattle.cell_model.specs.Wiring.{is_same_axis}
-use Rattle.cell_model.specs.Sound.{wire_at}
-use Rattle.expand.specs.Variables.{running, crossing}
-use Rattle.expand.specs.declared.master.Master.{Master}
-use Rattle.pitch_join.specs.Joined.{own_variables, joint_variables}
-use Rattle.pitch_join.specs.Names.{within_cell, cross_name_along, cross_name, names_of_master, joint_names}
+use Rattle.lam_geom.specs.declared.boxes.Axis.{Axis, TheVariants.{X, Y}}
+use Rattle.cell_model.specs.declared.cell.{Axis2.{Axis2, TheVariants.{Across, Up}}, Node.Node, Wire.Wire, Cell.Cell}
+use Rattle.cell_model.specs.{Wiring.is_same_axis, Sound.wire_at}
+use Rattle.expand.specs.{Variables.{running, crossing}, declared.master.Master.Master}
+use Rattle.pitch_join.specs.{Joined.{own_variables, joint_variables}, Names.{within_cell, cross_name_along, cross_name}}
+use Rattle.pitch_join.specs.Names.{names_of_master, joint_names}
 
 name_count : (axis : Axis) (cell : Cell) (k : ℕ) (along : Axis2) → length (cross_name_along axis cell k along) ≡ cond (is_same_axis along (crossing axis)) 1 0
 name_count X cell k Across = refl

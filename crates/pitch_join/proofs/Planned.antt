@@ -1,35 +1,25 @@
 -- What a plan names among its masters: two masters whose borders are equal, and wires of ports that meet, which have their cross coordinate
 -- on the axis.
-use Rattle.std.proofs.Common.{◌≡◌, ◌≢◌, ℕ, zero, suc, ◌<◌, true, List, [], ◌∷◌, length, get_or, refl, sym, ap, ◌∙◌, subst, arith, inl, inr}
+use Rattle.std.proofs.Common.{◌≡◌, ◌≢◌, ℕ, zero, suc, ◌<◌, true, List, [], ◌∷◌, length, get_or, refl, sym, ap, ◌∙◌}
+use Rattle.std.proofs.Common.{subst, arith, inl, inr}
+use Rattle.std.proofs.lemmas.{Bool.eq-eqb, List.{length-map, Elements.recursion_from_All}}
 use Rattle.std.specs.List.{AllByRecursion, All, filter, flat_map, range_with_len}
-use Rattle.std.proofs.lemmas.Bool.{eq-eqb}
-use Rattle.std.proofs.lemmas.List.{length-map}
-use Rattle.std.proofs.lemmas.List.Elements.{recursion_from_All}
-use Rattle.lam_geom.specs.declared.boxes.Axis.{Axis}
-use Rattle.lam_geom.specs.declared.boxes.Axis.TheVariants.{X, Y}
-use Rattle.lam_geom.specs.declared.boxes.Side.{Side}
-use Rattle.lam_geom.specs.declared.boxes.Side.TheVariants.{Left, Right, Bottom, Top}
+use Rattle.lam_geom.specs.declared.boxes.{Axis.{Axis, TheVariants.{X, Y}}, Side.{Side, TheVariants.{Left, Right}}}
+use Rattle.lam_geom.specs.declared.boxes.Side.TheVariants.{Bottom, Top}
 use Rattle.rule_table.specs.declared.technology.Tech.{Tech}
-use Rattle.cell_model.specs.declared.cell.Cell.{Cell}
-use Rattle.cell_model.specs.declared.cell.CellPort.{CellPort}
-use Rattle.cell_model.specs.declared.cell.Port.{Port}
-use Rattle.cell_model.specs.declared.cell.Wire.{Wire}
-use Rattle.cell_model.specs.declared.cell.WireEnd.{WireEnd}
-use Rattle.cell_model.specs.declared.cell.WireEnd.TheVariants as ends
-use Rattle.cell_model.specs.Ports.{seen_port, ports_of_cell}
-use Rattle.cell_model.specs.Sound.{IsSound, Takes, no_port, port_at, wire_at}
+use Rattle.cell_model.specs.declared.cell.{Cell.Cell, CellPort.CellPort, Port.Port, Wire.Wire, WireEnd.WireEnd}
+use Rattle.cell_model.specs.{Ports.{seen_port, ports_of_cell}, Sound.{IsSound, Takes, no_port, port_at, wire_at}}
 use Rattle.cell_model.specs.Wiring.{axis_of}
-use Rattle.expand.specs.declared.master.Master.{Master}
-use Rattle.expand.specs.Masters.{IsMaster}
-use Rattle.expand.specs.Variables.{crossing}
-use Rattle.expand.proofs.Cells.{wire_sound}
+use Rattle.cell_model.specs.declared.cell.WireEnd.TheVariants as ends
+use Rattle.expand.{specs.{declared.master.Master.Master, Masters.IsMaster, Variables.crossing}, proofs.Cells.wire_sound}
 use Rattle.list_facts.proofs.Elements.{all_at, all_flat, all_map, all_numbers, all_of, all_weaker, by_number}
-use Rattle.plan_model.specs.declared.plan.Match.{Match}
-use Rattle.plan_model.specs.declared.plan.Plan.{Plan}
-use Rattle.plan_model.specs.declared.plan.Same.{Same}
-use Rattle.plan_model.specs.Borders.{has_rank, in_order, is_on_side, is_same_side, match_of, matches_at, meeting_ports, port_ranks, ports_before, ports_behind, ports_of_master, side_before, side_behind, side_ports}
-use Rattle.plan_model.specs.Plan.{AreOfMasters, borders_of, grids_of, is_of_two, IsPlanOver, matches_in, meeting, pitch_in, pitch_of, ports_matched, same_of, sharing}
-use Rattle.plan_model.specs.Rows.{above, above_by_columns, beside, column_at, columns_of, first_row, firsts, is_pair, is_pair_either_way, IsRectangular, neighbours, zipped_rows}
+use Rattle.plan_model.specs.declared.plan.{Match.Match, Plan.Plan, Same.Same}
+use Rattle.plan_model.specs.Borders.{has_rank, in_order, is_on_side, is_same_side, match_of, matches_at, meeting_ports}
+use Rattle.plan_model.specs.Borders.{port_ranks, ports_before, ports_behind, ports_of_master, side_before, side_behind}
+use Rattle.plan_model.specs.{Borders.side_ports, Plan.{AreOfMasters, borders_of, grids_of, is_of_two, IsPlanOver}}
+use Rattle.plan_model.specs.Plan.{matches_in, meeting, pitch_in, pitch_of, ports_matched, same_of, sharing}
+use Rattle.plan_model.specs.Rows.{above, above_by_columns, beside, column_at, columns_of, first_row, firsts, is_pair}
+use Rattle.plan_model.specs.Rows.{is_pair_either_way, IsRectangular, neighbours, zipped_rows}
 use Rattle.pitch_join.specs.Masters.{ArePlanned, master_at, master_ports, no_master, ports_of_masters}
 use Rattle.pitch_join.specs.Among.{IsCrossWire, IsMatchAmong, IsSameAmong}
 use Rattle.pitch_join.proofs.Lists.{all_firsts, all_kept, all_zip}

@@ -1,36 +1,23 @@
 -- A constraint graph can be made of the inequalities that hold whatever the layouts.
-use Rattle.std.proofs.Common.{◌≡◌, ◌≢◌, ℕ, zero, suc, ◌+◌, ◌<◌, ◌≤◌, eqb, pos, List, [], ◌++◌, length, refl, sym, ap, subst, arith, inl, inr}
-use Rattle.std.specs.Prelude.{◌^◌, neg_ℤ, ◌≤ℤ◌}
-use Rattle.std.specs.List.{AllByRecursion, All, Any}
-use Rattle.std.proofs.lemmas.Bool.{cases_Bool, eq-eqb}
-use Rattle.std.proofs.lemmas.Int.{ints}
-use Rattle.std.proofs.lemmas.List.Elements.{All-append, All-map, All-weaker}
+use Rattle.std.proofs.Common.{◌≡◌, ◌≢◌, ℕ, zero, suc, ◌+◌, ◌<◌, ◌≤◌, eqb, pos, List, [], ◌++◌, length, refl, sym, ap}
+use Rattle.std.proofs.Common.{subst, arith, inl, inr}
+use Rattle.std.proofs.lemmas.{Bool.{cases_Bool, eq-eqb}, Int.ints, List.Elements.{All-append, All-map, All-weaker}}
+use Rattle.std.specs.{Prelude.{◌^◌, neg_ℤ, ◌≤ℤ◌}, List.{AllByRecursion, All, Any}}
 use Rattle.lam_geom.specs.declared.boxes.Axis.{Axis}
 use Rattle.rule_table.specs.declared.technology.Tech.{Tech}
-use Rattle.cons_graph.specs.declared.edges.Edge.{Edge}
-use Rattle.cons_graph.specs.declared.edges.Why.{Why}
-use Rattle.cons_graph.specs.declared.edges.Why.TheVariants.{Pitch, Port}
+use Rattle.cons_graph.specs.declared.edges.{Edge.Edge, Why.{Why, TheVariants.{Pitch, Port}}}
 use Rattle.cons_graph.specs.Constraints.{IsEdgeAmong, LeadsFromOrigin, IsConstraintGraph}
-use Rattle.cell_model.specs.declared.cell.Axis2.{Axis2}
-use Rattle.cell_model.specs.declared.cell.Cell.{Cell}
-use Rattle.expand.specs.declared.master.Master.{Master}
-use Rattle.expand.specs.Masters.{IsMaster}
-use Rattle.expand.specs.Structure.{structure_of}
-use Rattle.expand.specs.Variables.{cross_of, running, variables_of}
-use Rattle.expand.proofs.Among.{cross_among}
-use Rattle.expand.proofs.GraphEdges.{shape_of}
-use Rattle.list_facts.proofs.Elements.{all_of}
-use Rattle.list_facts.proofs.Some.{any_flat_map, any_left, any_range}
-use Rattle.plan_model.specs.declared.plan.Match.{Match}
-use Rattle.plan_model.specs.declared.plan.Plan.{Plan}
-use Rattle.plan_model.specs.declared.plan.Same.{Same}
-use Rattle.plan_model.specs.Plan.{matches_in, pitch_in}
-use Rattle.pitch_join.specs.Masters.{ArePlanned, master_at, master_numbers, no_master}
-use Rattle.pitch_join.specs.Among.{IsCrossWire, IsMatchAmong, IsSameAmong}
-use Rattle.pitch_join.specs.Joined.{base_of, equal_edges, far_of, fixed_of, joined, joint_variables, pitch_edges, pitches_of, port_edges, ports_of, shifted, structure_at, structures_of, tied_edges, wire_var}
+use Rattle.cell_model.specs.declared.cell.{Axis2.Axis2, Cell.Cell}
+use Rattle.expand.specs.{declared.master.Master.Master, Masters.IsMaster, Structure.structure_of, Variables.cross_of}
+use Rattle.expand.{specs.Variables.{running, variables_of}, proofs.{Among.cross_among, GraphEdges.shape_of}}
+use Rattle.list_facts.proofs.{Elements.all_of, Some.{any_flat_map, any_left, any_range}}
+use Rattle.plan_model.specs.{declared.plan.{Match.Match, Plan.Plan, Same.Same}, Plan.{matches_in, pitch_in}}
+use Rattle.pitch_join.specs.{Masters.{ArePlanned, master_at, master_numbers, no_master}, Among.IsCrossWire}
+use Rattle.pitch_join.specs.{Among.{IsMatchAmong, IsSameAmong}, Joined.{base_of, equal_edges, far_of, fixed_of, joined}}
+use Rattle.pitch_join.specs.Joined.{joint_variables, pitch_edges, pitches_of, port_edges, ports_of, shifted}
+use Rattle.pitch_join.specs.Joined.{structure_at, structures_of, tied_edges, wire_var}
 use Rattle.pitch_join.proofs.Bases.{joined_apart, joined_origin, joint_few, own_of, planned_few, var_apart, var_within}
-use Rattle.pitch_join.proofs.Lists.{any_map, of_numbered, of_pieces}
-use Rattle.pitch_join.proofs.Planned.{matches_among, pitch_among}
+use Rattle.pitch_join.proofs.{Lists.{any_map, of_numbered, of_pieces}, Planned.{matches_among, pitch_among}}
 
 -- ---- the structure of a master
 

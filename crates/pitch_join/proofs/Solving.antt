@@ -1,36 +1,20 @@
 -- The solutions of joint inequalities, master by master.
-use Rattle.std.proofs.Common.{◌≡◌, ℕ, ◌<◌, eqb, ℤ, pos, ◌-ℤ◌, ◌≤ℤ◌, List, [], ◌++◌, length, map, refl, sym, ap, subst, arith, inl, inr}
-use Rattle.std.specs.Prelude.{◌↔◌}
-use Rattle.std.specs.List.{All, flat_map}
-use Rattle.std.proofs.lemmas.Bool.{cases_Bool, cases_eq, eqb-true}
-use Rattle.std.proofs.lemmas.Int.{ints}
-use Rattle.std.proofs.lemmas.List.Elements.{recursion_from_All}
+use Rattle.std.proofs.Common.{◌≡◌, ℕ, ◌<◌, eqb, ℤ, pos, ◌-ℤ◌, ◌≤ℤ◌, List, [], ◌++◌, length, map, refl, sym, ap, subst}
+use Rattle.std.proofs.{Common.{arith, inl, inr}, lemmas.{Bool.{cases_Bool, cases_eq, eqb-true}, Int.ints}}
+use Rattle.std.{proofs.lemmas.List.Elements.recursion_from_All, specs.{Prelude.◌↔◌, List.{All, flat_map}}}
 use Rattle.lam_geom.specs.declared.boxes.Axis.{Axis}
 use Rattle.rule_table.specs.declared.technology.Tech.{Tech}
-use Rattle.cons_graph.specs.declared.edges.Edge.{Edge}
-use Rattle.cons_graph.specs.declared.edges.Why.{Why}
-use Rattle.cons_graph.specs.declared.edges.Why.TheVariants.{Pitch, Port, Space}
-use Rattle.cons_graph.specs.Solutions.{Meets}
-use Rattle.sym_items.specs.declared.items.Coords.{Coords}
-use Rattle.sym_items.specs.declared.items.End.{End}
-use Rattle.sym_items.specs.declared.items.Item.{Item}
-use Rattle.sym_items.specs.Layouts.{layout_at}
-use Rattle.sym_items.specs.Transposed.{values_along}
-use Rattle.sym_items.specs.Values.{value_of}
-use Rattle.expand.specs.declared.master.Master.{Master}
-use Rattle.expand.specs.Structure.{structure_of}
-use Rattle.expand.proofs.Between.{between_means}
+use Rattle.cons_graph.specs.{declared.edges.{Edge.Edge, Why.{Why, TheVariants.{Pitch, Port, Space}}}, Solutions.Meets}
+use Rattle.sym_items.specs.declared.items.{Coords.Coords, End.End, Item.Item}
+use Rattle.sym_items.specs.{Layouts.layout_at, Transposed.values_along, Values.value_of}
+use Rattle.expand.{specs.{declared.master.Master.Master, Structure.structure_of}, proofs.Between.between_means}
 use Rattle.list_facts.proofs.Elements.{all_of}
-use Rattle.pair_rules.specs.declared.pairs.Pair.{Pair}
-use Rattle.pair_rules.specs.Candidates.{Keeps, candidates_of, high_end, low_end}
-use Rattle.pair_rules.specs.Kept.{kept_of}
-use Rattle.plan_model.specs.declared.plan.Match.{Match}
-use Rattle.plan_model.specs.declared.plan.Plan.{Plan}
-use Rattle.plan_model.specs.declared.plan.Same.{Same}
-use Rattle.plan_model.specs.Plan.{matches_in, pitch_in}
-use Rattle.pair_rules.proofs.Pruning.{candidates_apart}
-use Rattle.pitch_join.specs.Masters.{master_at, master_numbers}
-use Rattle.pitch_join.specs.Joined.{base_of, candidate_edges_at, equal_edges, far_of, fixed_of, kept_edges_at, local_of, pitch_edges, pitches_of, port_edges, ports_of, shifted, space_edge, space_edges, structures_of, tied_edges, wire_var}
+use Rattle.pair_rules.specs.{declared.pairs.Pair.Pair, Candidates.{Keeps, candidates_of, high_end, low_end}}
+use Rattle.pair_rules.{specs.Kept.kept_of, proofs.Pruning.candidates_apart}
+use Rattle.plan_model.specs.{declared.plan.{Match.Match, Plan.Plan, Same.Same}, Plan.{matches_in, pitch_in}}
+use Rattle.pitch_join.specs.{Masters.{master_at, master_numbers}, Joined.{base_of, candidate_edges_at, equal_edges}}
+use Rattle.pitch_join.specs.Joined.{far_of, fixed_of, kept_edges_at, local_of, pitch_edges, pitches_of, port_edges}
+use Rattle.pitch_join.specs.Joined.{ports_of, shifted, space_edge, space_edges, structures_of, tied_edges, wire_var}
 use Rattle.pitch_join.specs.Meeting.{HasOneBorder, HasOneLine, JoiningIsMeeting, KeepsCandidates, KeepsKept, MeetsPlan}
 use Rattle.pitch_join.proofs.Lists.{of_both, of_each, of_images, of_numbered, of_pieces}
 

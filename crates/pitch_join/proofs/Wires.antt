@@ -1,11 +1,8 @@
 -- The cross coordinates of the wires of each master.
 use Rattle.std.proofs.Common.{◌≡◌, ℕ, ◌+◌, ◌<◌, List, [], ◌∷◌, ◌++◌, length, sym, subst, arith, ◌⊎◌, inl, inr}
-use Rattle.std.specs.Prelude.{slice_index_or}
-use Rattle.std.proofs.lemmas.List.{length_push, get_or_append_left, get_or_push}
-use Rattle.expand.specs.declared.master.Master.{Master}
-use Rattle.expand.specs.Bounds.{AreCrosses}
-use Rattle.pitch_join.specs.Masters.{master_at}
-use Rattle.pitch_join.specs.Among.{AreAllCrosses}
+use Rattle.std.{proofs.lemmas.List.{length_push, get_or_append_left, get_or_push}, specs.Prelude.slice_index_or}
+use Rattle.expand.specs.{declared.master.Master.Master, Bounds.AreCrosses}
+use Rattle.pitch_join.specs.{Masters.master_at, Among.AreAllCrosses}
 
 -- those of a master
 abbrev pub AreCrossesOf : Master → List ℕ → Type 0

@@ -1,16 +1,11 @@
 -- What the parts of a plan name among the masters, and what the joint variables of wires are.
 use Rattle.std.specs.Prelude.{◌≡◌, ◌≢◌, ℕ, ◌+◌, ◌<◌, ◌^◌, List, [], length, slice_index, slice_index_or}
 use Rattle.lam_geom.specs.declared.boxes.Axis.{Axis}
-use Rattle.cons_graph.specs.declared.edges.Edge.{Edge}
-use Rattle.cons_graph.specs.declared.edges.Why.TheVariants.{Pitch}
+use Rattle.cons_graph.specs.declared.edges.{Edge.Edge, Why.TheVariants.Pitch}
 use Rattle.cell_model.specs.Sound.{wire_at}
-use Rattle.expand.specs.declared.master.Master.{Master}
-use Rattle.expand.specs.Bounds.{AreCrosses}
-use Rattle.expand.specs.Variables.{crossing}
-use Rattle.plan_model.specs.declared.plan.Match.{Match}
-use Rattle.plan_model.specs.declared.plan.Same.{Same}
-use Rattle.pitch_join.specs.Masters.{master_at}
-use Rattle.pitch_join.specs.Joined.{joined, equal_edges, tied_edges}
+use Rattle.expand.specs.{declared.master.Master.Master, Bounds.AreCrosses, Variables.crossing}
+use Rattle.plan_model.specs.declared.plan.{Match.Match, Same.Same}
+use Rattle.pitch_join.specs.{Masters.master_at, Joined.{joined, equal_edges, tied_edges}}
 
 -- two of so many masters
 pub record IsSameAmong (count : ℕ) (same : Same) : Type 0 where

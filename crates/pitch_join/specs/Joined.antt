@@ -1,23 +1,14 @@
 -- The joint variables of some masters on an axis, and the inequalities over them.
-use Rattle.std.specs.Prelude.{ℕ, zero, suc, ◌+◌, ◌==◌, ℤ, pos, ◌+ℤ◌, ◌-ℤ◌, List, [], ◌∷◌, ◌++◌, length, map, flat_map, take, sum_by, if◌then◌else◌}
+use Rattle.std.specs.Prelude.{ℕ, zero, suc, ◌+◌, ◌==◌, ℤ, pos, ◌+ℤ◌, ◌-ℤ◌, List, [], ◌∷◌, ◌++◌, length, map, flat_map}
+use Rattle.std.specs.Prelude.{take, sum_by, if◌then◌else◌}
 use Rattle.lam_geom.specs.declared.boxes.Axis.{Axis}
 use Rattle.rule_table.specs.declared.technology.Tech.{Tech}
-use Rattle.cons_graph.specs.declared.edges.Edge.{Edge}
-use Rattle.cons_graph.specs.declared.edges.Why.{Why}
-use Rattle.cons_graph.specs.declared.edges.Why.TheVariants.{Pitch, Port, Space}
-use Rattle.sym_items.specs.declared.items.Item.{Item}
-use Rattle.sym_items.specs.declared.items.Coords.{Coords}
-use Rattle.sym_items.specs.Layouts.{layout_at}
+use Rattle.cons_graph.specs.declared.edges.{Edge.Edge, Why.{Why, TheVariants.{Pitch, Port, Space}}}
+use Rattle.sym_items.specs.{declared.items.{Item.Item, Coords.Coords}, Layouts.layout_at}
 use Rattle.expand.specs.declared.master.Master.{Master}
-use Rattle.expand.specs.Variables.{running, crossing, cross_of}
-use Rattle.expand.specs.Structure.{at_least, between, structure_of}
-use Rattle.pair_rules.specs.declared.pairs.Pair.{Pair}
-use Rattle.pair_rules.specs.Candidates.{candidates_of, high_end, low_end}
-use Rattle.pair_rules.specs.Kept.{kept_of}
-use Rattle.plan_model.specs.declared.plan.Match.{Match}
-use Rattle.plan_model.specs.declared.plan.Plan.{Plan}
-use Rattle.plan_model.specs.declared.plan.Same.{Same}
-use Rattle.plan_model.specs.Plan.{pitch_in, matches_in}
+use Rattle.expand.specs.{Variables.{running, crossing, cross_of}, Structure.{at_least, between, structure_of}}
+use Rattle.pair_rules.specs.{declared.pairs.Pair.Pair, Candidates.{candidates_of, high_end, low_end}, Kept.kept_of}
+use Rattle.plan_model.specs.{declared.plan.{Match.Match, Plan.Plan, Same.Same}, Plan.{pitch_in, matches_in}}
 use Rattle.pitch_join.specs.Masters.{master_at, master_numbers}
 
 -- ---- variables

@@ -2,15 +2,9 @@
 use Rattle.std.specs.Prelude.{◌≡◌, ℕ, ◌<◌, ℤ, All, List, length}
 use Rattle.lam_geom.specs.declared.boxes.Axis.{Axis}
 use Rattle.rule_table.specs.declared.technology.Tech.{Tech}
-use Rattle.sym_items.specs.declared.items.Coords.{Coords}
-use Rattle.sym_items.specs.Layouts.{value_in, size_in}
-use Rattle.expand.specs.declared.master.Master.{Master}
-use Rattle.expand.specs.Laws.{MeetsStructure}
-use Rattle.expand.specs.Variables.{cross_of}
-use Rattle.plan_model.specs.declared.plan.Match.{Match}
-use Rattle.plan_model.specs.declared.plan.Plan.{Plan}
-use Rattle.plan_model.specs.declared.plan.Same.{Same}
-use Rattle.plan_model.specs.Plan.{pitch_in, matches_in}
+use Rattle.sym_items.specs.{declared.items.Coords.Coords, Layouts.{value_in, size_in}}
+use Rattle.expand.specs.{declared.master.Master.Master, Laws.MeetsStructure, Variables.cross_of}
+use Rattle.plan_model.specs.{declared.plan.{Match.Match, Plan.Plan, Same.Same}, Plan.{pitch_in, matches_in}}
 use Rattle.pitch_join.specs.Masters.{master_at}
 
 -- two masters are equally wide, or on y equally high

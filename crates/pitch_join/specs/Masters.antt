@@ -1,15 +1,9 @@
 -- The masters of a plan.
-use Rattle.std.specs.Prelude.{ℕ, ◌+◌, ◌≤◌, All, List, [], length, map, slice_index_or, sum_by}
-use Rattle.std.specs.List.{range_with_len}
+use Rattle.std.specs.{Prelude.{ℕ, ◌+◌, ◌≤◌, All, List, [], length, map, slice_index_or, sum_by}, List.range_with_len}
 use Rattle.rule_table.specs.declared.technology.Tech.{Tech}
-use Rattle.cell_model.specs.declared.cell.Cell.{Cell}
-use Rattle.cell_model.specs.declared.cell.CellPort.{CellPort}
-use Rattle.cell_model.specs.Ports.{ports_of_cell}
-use Rattle.cell_model.specs.Sound.{IsLight}
-use Rattle.expand.specs.declared.master.Master.{Master}
-use Rattle.expand.specs.Masters.{IsMaster}
-use Rattle.plan_model.specs.declared.plan.Plan.{Plan}
-use Rattle.plan_model.specs.Plan.{IsPlanOver}
+use Rattle.cell_model.specs.{declared.cell.{Cell.Cell, CellPort.CellPort}, Ports.ports_of_cell, Sound.IsLight}
+use Rattle.expand.specs.{declared.master.Master.Master, Masters.IsMaster}
+use Rattle.plan_model.specs.{declared.plan.Plan.Plan, Plan.IsPlanOver}
 
 -- master number m
 abbrev pub no_cell : Cell

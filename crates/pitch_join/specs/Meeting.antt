@@ -3,19 +3,11 @@ use Rattle.std.specs.Prelude.{◌≡◌, ◌↔◌, ℕ, ◌<◌, ℤ, pos, All,
 use Rattle.lam_geom.specs.declared.boxes.Axis.{Axis}
 use Rattle.rule_table.specs.declared.technology.Tech.{Tech}
 use Rattle.cons_graph.specs.Solutions.{IsSolution}
-use Rattle.sym_items.specs.declared.items.Coords.{Coords}
-use Rattle.sym_items.specs.Boxes.{HasBox}
-use Rattle.sym_items.specs.Layouts.{layout_at}
-use Rattle.expand.specs.declared.master.Master.{Master}
-use Rattle.expand.specs.Laws.{MeetsStructure}
-use Rattle.pair_rules.specs.Candidates.{candidates_of, Keeps}
-use Rattle.pair_rules.specs.Kept.{kept_of}
-use Rattle.plan_model.specs.declared.plan.Match.{Match}
-use Rattle.plan_model.specs.declared.plan.Plan.{Plan}
-use Rattle.plan_model.specs.declared.plan.Same.{Same}
-use Rattle.plan_model.specs.Plan.{pitch_in, matches_in}
-use Rattle.pitch_join.specs.Masters.{master_at}
-use Rattle.pitch_join.specs.Joined.{far_of, wire_var, local_of, fixed_of, list_over, system_over}
+use Rattle.sym_items.specs.{declared.items.Coords.Coords, Boxes.HasBox, Layouts.layout_at}
+use Rattle.expand.specs.{declared.master.Master.Master, Laws.MeetsStructure}
+use Rattle.pair_rules.specs.{Candidates.{candidates_of, Keeps}, Kept.kept_of}
+use Rattle.plan_model.specs.{declared.plan.{Match.Match, Plan.Plan, Same.Same}, Plan.{pitch_in, matches_in}}
+use Rattle.pitch_join.specs.{Masters.master_at, Joined.{far_of, wire_var, local_of, fixed_of, list_over, system_over}}
 
 -- two masters have one far border
 abbrev pub HasOneBorder : Axis → List Master → (ℕ → ℤ) → Same → Type 0

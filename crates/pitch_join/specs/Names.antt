@@ -2,13 +2,8 @@
 use Rattle.std.specs.Prelude.{ℕ, List, [], ◌∷◌, ◌++◌, length, map, codes, decimal, flat_map, if◌then◌else◌}
 use Rattle.std.specs.List.{range_with_len}
 use Rattle.lam_geom.specs.declared.boxes.Axis.{Axis}
-use Rattle.cell_model.specs.declared.cell.Cell.{Cell}
-use Rattle.cell_model.specs.declared.cell.Node.{Node}
-use Rattle.cell_model.specs.declared.cell.Axis2.{Axis2}
-use Rattle.cell_model.specs.Wiring.{is_same_axis}
-use Rattle.cell_model.specs.Sound.{wire_at}
-use Rattle.expand.specs.declared.master.Master.{Master}
-use Rattle.expand.specs.Variables.{crossing}
+use Rattle.cell_model.specs.{declared.cell.{Cell.Cell, Node.Node, Axis2.Axis2}, Wiring.is_same_axis, Sound.wire_at}
+use Rattle.expand.specs.{declared.master.Master.Master, Variables.crossing}
 
 -- a cell's name, a colon, and a name in it
 abbrev pub within_cell : Cell → List ℕ → List ℕ

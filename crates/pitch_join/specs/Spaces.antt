@@ -1,8 +1,7 @@
 -- The pairs whose inequalities are added.
 use Rattle.std.specs.Prelude.{ℕ, ◌+◌, ◌<◌, ◌^◌, pos, ◌≤ℤ◌, List, length}
 use Rattle.lam_geom.specs.declared.boxes.Axis.{Axis}
-use Rattle.sym_items.specs.declared.items.Item.{Item}
-use Rattle.sym_items.specs.Transposed.{item_along}
+use Rattle.sym_items.specs.{declared.items.Item.Item, Transposed.item_along}
 use Rattle.pair_rules.specs.declared.pairs.Pair.{Pair}
 
 -- the joint variables of an item's ends fit into 32 bits

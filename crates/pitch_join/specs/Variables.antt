@@ -1,10 +1,8 @@
 -- What holds of joint variables.
 use Rattle.std.specs.Prelude.{◌≡◌, ℕ, ◌<◌, ◌≤◌, ◌^◌, ◌⊎◌, List, length}
 use Rattle.lam_geom.specs.declared.boxes.Axis.{Axis}
-use Rattle.expand.specs.declared.master.Master.{Master}
-use Rattle.expand.specs.Variables.{variables_of}
-use Rattle.pitch_join.specs.Masters.{master_at}
-use Rattle.pitch_join.specs.Joined.{joint_variables, var_of}
+use Rattle.expand.specs.{declared.master.Master.Master, Variables.variables_of}
+use Rattle.pitch_join.specs.{Masters.master_at, Joined.{joint_variables, var_of}}
 
 -- a joint variable is a local one of some master
 pub record IsOfMaster (axis : Axis) (masters : List Master) (u : ℕ) : Type 0 where

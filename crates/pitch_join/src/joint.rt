@@ -1,15 +1,14 @@
 //! The joint variables and inequalities of masters.
 
-ghost use Rattle.std.specs.Prelude.{◌≡◌, ◌+◌, ◌<◌, ◌≤◌, ◌^◌, ◌++◌, length, map, slice_index, sum_by, All, OnOk, OnErr, IfOk};
+ghost use Rattle.std.specs.Prelude.{◌≡◌, ◌+◌, ◌<◌, ◌≤◌, ◌^◌, ◌++◌, length, map, slice_index, sum_by, All, OnOk, OnErr};
+ghost use Rattle.std.specs.Prelude.{IfOk};
 ghost use Rattle.cons_graph.specs.Constraints.{IsConstraintGraph};
-ghost use Rattle.expand.specs.Bounds.{IsNearAlong};
-ghost use Rattle.expand.specs.Masters.{IsMaster};
+ghost use Rattle.expand.specs.{Bounds.IsNearAlong, Masters.IsMaster};
 ghost use Rattle.pair_rules.specs.declared.pairs.Pair.{Pair as SomePair};
 ghost use Rattle.plan_model.specs.Plan.{IsPlanOver, matches_in, pitch_in};
-ghost use Rattle.pitch_join.specs.Masters.{parts_in, ports_of_masters};
-ghost use Rattle.pitch_join.specs.Names.{joint_names};
-ghost use Rattle.pitch_join.specs.Joined.{bases_of, joint_variables, shifted, space_edge, fixed_of};
-ghost use Rattle.pitch_join.specs.Spaces.{EndsBelow, IsPairAmong};
+ghost use Rattle.pitch_join.specs.{Masters.{parts_in, ports_of_masters}, Names.joint_names, Joined.bases_of};
+ghost use Rattle.pitch_join.specs.{Joined.{joint_variables, shifted, space_edge, fixed_of}, Spaces.EndsBelow};
+ghost use Rattle.pitch_join.specs.Spaces.{IsPairAmong};
 
 use crate::fixed::{push_pitches, push_ports, push_structures};
 use crate::names::names;

@@ -1,8 +1,6 @@
 //! What holds of the joint variables and inequalities of masters.
 
-ghost use Rattle.pitch_join.specs.Masters.{ArePlanned};
-ghost use Rattle.pitch_join.specs.Meeting.{JoiningIsMeeting};
-ghost use Rattle.pitch_join.specs.Variables.{VariablesAreJoined};
+ghost use Rattle.pitch_join.specs.{Masters.ArePlanned, Meeting.JoiningIsMeeting, Variables.VariablesAreJoined};
 
 use expand::Master;
 use plan_model::Plan;

@@ -2,10 +2,9 @@
 
 ghost use Rattle.std.specs.Prelude.{◌≡◌, ◌++◌, ◌∷◌, [], codes, map, flat_map, length, All, OnOk, IfOk};
 ghost use Rattle.std.specs.List.{range_with_len};
-ghost use Rattle.cell_model.specs.declared.cell.Node.{Node};
-ghost use Rattle.cell_model.specs.Sound.{IsLight};
-ghost use Rattle.pitch_join.specs.Names.{within_cell, cross_name_along, cross_name, own_names, names_of_master, joint_names};
-ghost use Rattle.pitch_join.specs.Masters.{IsLightMaster};
+ghost use Rattle.cell_model.specs.{declared.cell.Node.Node, Sound.IsLight};
+ghost use Rattle.pitch_join.specs.Names.{within_cell, cross_name_along, cross_name, own_names, names_of_master};
+ghost use Rattle.pitch_join.specs.{Names.joint_names, Masters.IsLightMaster};
 
 use cell_model::{Axis2, Cell};
 use cons_graph::Names;

@@ -2,8 +2,7 @@
 
 ghost use Rattle.std.specs.Prelude.{◌≡◌, ◌+◌, ◌<◌, ◌≤◌, ◌^◌, length, All, IfOk};
 ghost use Rattle.expand.specs.Masters.{IsMaster};
-ghost use Rattle.pitch_join.specs.Among.{AreAllCrosses};
-ghost use Rattle.pitch_join.specs.Joined.{bases_of, joined, joint_variables, own_variables};
+ghost use Rattle.pitch_join.specs.{Among.AreAllCrosses, Joined.{bases_of, joined, joint_variables, own_variables}};
 ghost use Rattle.pitch_join.specs.Masters.{IsLightMaster};
 
 use expand::{Master, crosses, master_is_lawful};

@@ -4,8 +4,7 @@ ghost use Rattle.std.specs.Prelude.{◌≡◌, ◌+◌, ◌<◌, ◌≤◌, ◌^
 ghost use Rattle.expand.specs.Bounds.{IsNearAlong};
 ghost use Rattle.sym_items.specs.Transposed.{item_along};
 ghost use Rattle.pair_rules.specs.declared.pairs.Pair.{Pair as SomePair};
-ghost use Rattle.pitch_join.specs.Joined.{shifted, space_edge};
-ghost use Rattle.pitch_join.specs.Spaces.{EndsBelow, IsPairAmong};
+ghost use Rattle.pitch_join.specs.{Joined.{shifted, space_edge}, Spaces.{EndsBelow, IsPairAmong}};
 
 use crate::numbering::joined;
 use cons_graph::{Edge, Why};

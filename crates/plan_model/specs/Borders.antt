@@ -1,16 +1,11 @@
 -- The ports of a side in order, and which of them meet at a border.
-use Rattle.std.specs.Prelude.{◌≡◌, ℕ, ◌==◌, ◌+◌, ◌*◌, ◌&&◌, Option, Some, None, Bool, true, false, suc, List, [], ◌∷◌, map, filter, flat_map, if◌then◌else◌, slice_index_or}
-use Rattle.std.specs.Ordering.{int_eq}
-use Rattle.std.specs.List.{AllZip, range_with_len, zip}
-use Rattle.std.specs.Option.{option_map}
-use Rattle.lam_geom.specs.declared.boxes.Axis.{Axis}
-use Rattle.lam_geom.specs.declared.boxes.Axis.TheVariants.{X, Y}
-use Rattle.lam_geom.specs.declared.boxes.Side.{Side}
-use Rattle.lam_geom.specs.declared.boxes.Side.TheVariants.{Left, Right, Bottom, Top}
-use Rattle.rule_table.specs.declared.classes.Layer.{Layer}
-use Rattle.rule_table.specs.declared.classes.Layer.TheVariants.{Diffusion, Poly, Metal}
-use Rattle.cell_model.specs.declared.cell.CellPort.{CellPort}
-use Rattle.cell_model.specs.Wiring.{is_same_layer}
+use Rattle.std.specs.Prelude.{◌≡◌, ℕ, ◌==◌, ◌+◌, ◌*◌, ◌&&◌, Option, Some, None, Bool, true, false, suc, List, [], ◌∷◌}
+use Rattle.std.specs.{Prelude.{map, filter, flat_map, if◌then◌else◌, slice_index_or}, Ordering.int_eq, List.AllZip}
+use Rattle.std.specs.{List.{range_with_len, zip}, Option.option_map}
+use Rattle.lam_geom.specs.declared.boxes.{Axis.{Axis, TheVariants.{X, Y}}, Side.{Side, TheVariants.{Left, Right}}}
+use Rattle.lam_geom.specs.declared.boxes.Side.TheVariants.{Bottom, Top}
+use Rattle.rule_table.specs.declared.classes.Layer.{Layer, TheVariants.{Diffusion, Poly, Metal}}
+use Rattle.cell_model.specs.{declared.cell.CellPort.CellPort, Wiring.is_same_layer}
 use Rattle.plan_model.specs.declared.plan.Match.{Match}
 
 -- ---- the ports of a side

@@ -1,11 +1,8 @@
 -- The nets over all instances of a plan: nets of instances, joined where ports of them meet.
 use Rattle.std.specs.Prelude.{◌≡◌, ℕ, ◌+◌, Contains, List, slice_index}
-use Rattle.lam_geom.specs.declared.boxes.Axis.{Axis}
-use Rattle.lam_geom.specs.declared.boxes.Axis.TheVariants.{X, Y}
-use Rattle.cell_model.specs.declared.cell.CellPort.{CellPort}
-use Rattle.cell_model.specs.declared.cell.Nets.{Nets}
-use Rattle.plan_model.specs.Borders.{meeting_ports}
-use Rattle.plan_model.specs.Instances.{Spot, IsSpot, master_at_spot}
+use Rattle.lam_geom.specs.declared.boxes.Axis.{Axis, TheVariants.{X, Y}}
+use Rattle.cell_model.specs.declared.cell.{CellPort.CellPort, Nets.Nets}
+use Rattle.plan_model.specs.{Borders.meeting_ports, Instances.{Spot, IsSpot, master_at_spot}}
 
 -- the instance behind another: on x the one above it, on y the one on its right
 abbrev pub IsBehind : Axis → Spot → Spot → Type 0

@@ -1,7 +1,6 @@
 -- The instances of a plan, and where they stand. The widths and the heights of the masters are given by their numbers.
-use Rattle.std.specs.Prelude.{◌≡◌, ℕ, ◌<◌, ℤ, pos, ◌+ℤ◌, ◌-ℤ◌, List, [], ◌∷◌, length, map, fold, take, flat_map, slice_index, slice_index_or}
-use Rattle.std.specs.Int.{int_max}
-use Rattle.std.specs.List.{range_with_len}
+use Rattle.std.specs.Prelude.{◌≡◌, ℕ, ◌<◌, ℤ, pos, ◌+ℤ◌, ◌-ℤ◌, List, [], ◌∷◌, length, map, fold, take, flat_map}
+use Rattle.std.specs.{Prelude.{slice_index, slice_index_or}, Int.int_max, List.range_with_len}
 use Rattle.plan_model.specs.Rows.{row_at, first_row}
 
 -- an instance: the number of its grid, its row, and its column

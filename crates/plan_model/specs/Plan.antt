@@ -1,13 +1,10 @@
 -- What a plan says of its rows and of the ports of its masters.
 use Rattle.std.specs.Prelude.{◌≡◌, ℕ, ◌==◌, ◌<◌, ◌≤◌, not, Bool, All, List, length, map, filter, flat_map}
-use Rattle.lam_geom.specs.declared.boxes.Axis.{Axis}
-use Rattle.lam_geom.specs.declared.boxes.Axis.TheVariants.{X, Y}
+use Rattle.lam_geom.specs.declared.boxes.Axis.{Axis, TheVariants.{X, Y}}
 use Rattle.cell_model.specs.declared.cell.CellPort.{CellPort}
-use Rattle.plan_model.specs.declared.plan.Match.{Match}
-use Rattle.plan_model.specs.declared.plan.Plan.{Plan}
-use Rattle.plan_model.specs.declared.plan.Same.{Same}
-use Rattle.plan_model.specs.Borders.{FitsAt, matches_at}
-use Rattle.plan_model.specs.Rows.{rows_of, beside, above, above_by_columns, firsts, is_pair, is_pair_either_way, IsRectangular}
+use Rattle.plan_model.specs.{declared.plan.{Match.Match, Plan.Plan, Same.Same}, Borders.{FitsAt, matches_at}}
+use Rattle.plan_model.specs.Rows.{rows_of, beside, above, above_by_columns, firsts, is_pair, is_pair_either_way}
+use Rattle.plan_model.specs.Rows.{IsRectangular}
 
 -- the rows of each grid
 abbrev pub grids_of : Plan → List (List (List ℕ))

@@ -1,17 +1,14 @@
 -- Logs that tell alike: what is read of them is the same, and the rounds go on alike from them.
-use Rattle.std.proofs.Common.{◌≡◌, ℕ, ◌+◌, ℤ, Bool, true, eqb, if◌then◌else◌, Option, Some, None, List, [], ◌∷◌, ◌||◌, map, fold, reverse, inl, inr, length, refl, sym, ap, subst, ◌∙◌, arith}
-use Rattle.std.specs.List.{list_any}
-use Rattle.std.proofs.lemmas.Bool.{cases_eq, cond-true, cond-false, cases_Bool, true≢false}
+use Rattle.std.proofs.Common.{◌≡◌, ℕ, ◌+◌, ℤ, Bool, true, eqb, if◌then◌else◌, Option, Some, None, List, [], ◌∷◌, ◌||◌}
+use Rattle.std.proofs.Common.{map, fold, reverse, inl, inr, length, refl, sym, ap, subst, ◌∙◌, arith}
+use Rattle.std.{proofs.lemmas.Bool.{cases_eq, cond-true, cond-false, cases_Bool, true≢false}, specs.List.list_any}
 use Rattle.cons_graph.specs.declared.edges.Edge.{Edge}
-use Rattle.round_log.specs.declared.log.Entry.{Entry}
-use Rattle.round_log.specs.Looks.{label, latest, chain, raise_of, with_raise, look, comes_back}
-use Rattle.round_log.specs.Rounds.{Progress, after_look, backward_part, Plan, forward_part, round}
-use Rattle.round_log.specs.Told.{said, told_by, TellAlike}
-use Rattle.round_log.specs.WalksBack.{walk_of, up_to, loop_back, turned, cycle_of}
-use Rattle.round_log.proofs.Raises.{IsRaise, label-same, label-other, raise_of-is, raise_of-from}
-use Rattle.round_log.proofs.Chains.{trace, trace-same, trace-other, chain-newest}
-use Rattle.round_log.proofs.Members.{cases_option}
-use Rattle.round_log.proofs.Ends.{map-map, numbers}
+use Rattle.round_log.specs.{declared.log.Entry.Entry, Looks.{label, latest, chain, raise_of, with_raise, look}}
+use Rattle.round_log.specs.{Looks.comes_back, Rounds.{Progress, after_look, backward_part, Plan, forward_part, round}}
+use Rattle.round_log.specs.{Told.{said, told_by, TellAlike}, WalksBack.{walk_of, up_to, loop_back, turned, cycle_of}}
+use Rattle.round_log.proofs.{Raises.{IsRaise, label-same, label-other, raise_of-is, raise_of-from}, Chains.trace}
+use Rattle.round_log.proofs.{Chains.{trace-same, trace-other, chain-newest}, Members.cases_option, Ends.map-map}
+use Rattle.round_log.proofs.Ends.{numbers}
 
 abbrev pub Said : Type 0
 Said = ℕ × ℤ × ℕ

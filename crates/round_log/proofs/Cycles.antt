@@ -1,18 +1,14 @@
 -- The loop that a chain closes: a closed walk of positive length that meets no variable twice, and the same turned.
-use Rattle.std.proofs.Common.{◌≡◌, ℕ, suc, ◌<◌, ◌≤◌, ℤ, pos, ◌+ℤ◌, ◌-ℤ◌, ◌<ℤ◌, Bool, true, false, cond, eqb, leb, List, [], ◌∷◌, ◌++◌, map, ◌⊎◌, inl, inr, length, get_or, take, drop, refl, sym, ap, subst, ◌∙◌, arith, eq-eqb}
-use Rattle.std.specs.List.{list_any, list_all}
-use Rattle.std.proofs.lemmas.Int.{ints}
-use Rattle.std.proofs.lemmas.Bool.{cond-true, cond-false, cases_Bool, cases_eq, true≢false, eqb-true, ne_eqb, leb-true, leb-false, and_parts, and_cases}
-use Rattle.std.proofs.lemmas.List.{map-append, take-append-drop}
-use Rattle.cons_graph.specs.declared.edges.Edge.{Edge}
-use Rattle.round_log.specs.declared.log.Entry.{Entry}
-use Rattle.cons_graph.specs.Walks.{IsWalk, walk_length}
-use Rattle.round_log.specs.Looks.{chain, comes_back}
-use Rattle.round_log.specs.WalksBack.{up_to, loop_back, least_place}
-use Rattle.round_log.proofs.Chains.{In, IsLinked, IsRising, top_var, top_value}
-use Rattle.round_log.proofs.Members.{In-map-back, IsDistinct, list_any-true, list_any-false}
-use Rattle.round_log.proofs.Walking.{IsWalk-append, IsWalk-split, entry_edges, vars_of, IsDistinct-turned}
-use Rattle.cons_graph.proofs.Tests.{walk_length-append}
+use Rattle.std.proofs.Common.{◌≡◌, ℕ, suc, ◌<◌, ◌≤◌, ℤ, pos, ◌+ℤ◌, ◌-ℤ◌, ◌<ℤ◌, Bool, true, false, cond, eqb, leb, List}
+use Rattle.std.proofs.Common.{[], ◌∷◌, ◌++◌, map, ◌⊎◌, inl, inr, length, get_or, take, drop, refl, sym, ap, subst, ◌∙◌}
+use Rattle.std.proofs.{Common.{arith, eq-eqb}, lemmas.{Int.ints, Bool.{cond-true, cond-false, cases_Bool, cases_eq}}}
+use Rattle.std.proofs.lemmas.Bool.{true≢false, eqb-true, ne_eqb, leb-true, leb-false, and_parts, and_cases}
+use Rattle.std.{proofs.lemmas.List.{map-append, take-append-drop}, specs.List.{list_any, list_all}}
+use Rattle.cons_graph.{specs.{declared.edges.Edge.Edge, Walks.{IsWalk, walk_length}}, proofs.Tests.walk_length-append}
+use Rattle.round_log.specs.{declared.log.Entry.Entry, Looks.{chain, comes_back}, WalksBack.{up_to, loop_back}}
+use Rattle.round_log.{specs.WalksBack.least_place, proofs.Chains.{In, IsLinked, IsRising, top_var, top_value}}
+use Rattle.round_log.proofs.{Members.{In-map-back, IsDistinct, list_any-true, list_any-false}, Walking.IsWalk-append}
+use Rattle.round_log.proofs.Walking.{IsWalk-split, entry_edges, vars_of, IsDistinct-turned}
 
 -- ---- the raises met going back, as a path in walking order
 

@@ -1,12 +1,11 @@
 -- How many backward raises a chain has: at least as many as the rounds so far, at most as many as there are backward edges.
-use Rattle.std.proofs.Common.{◌≡◌, ℕ, suc, ◌≤◌, ℤ, ◌+ℤ◌, ◌≤ℤ◌, ◌<ℤ◌, Bool, true, cond, Some, List, [], ◌∷◌, ◌++◌, ◌⊎◌, inl, inr, length, refl, sym, ap, subst, ◌∙◌, arith, append_assoc}
-use Rattle.std.proofs.lemmas.Int.{ints}
-use Rattle.std.proofs.lemmas.Bool.{cases_eq, cond-true, cond_both}
+use Rattle.std.proofs.Common.{◌≡◌, ℕ, suc, ◌≤◌, ℤ, ◌+ℤ◌, ◌≤ℤ◌, ◌<ℤ◌, Bool, true, cond, Some, List, [], ◌∷◌, ◌++◌, ◌⊎◌}
+use Rattle.std.proofs.Common.{inl, inr, length, refl, sym, ap, subst, ◌∙◌, arith, append_assoc}
+use Rattle.std.proofs.lemmas.{Int.ints, Bool.{cases_eq, cond-true, cond_both}}
 use Rattle.cons_graph.specs.declared.edges.Edge.{Edge}
-use Rattle.round_log.specs.declared.log.Entry.{Entry}
-use Rattle.round_log.specs.Looks.{label, chain}
-use Rattle.round_log.proofs.Raises.{IsRaise, IsQuiet, IsAtLeast, IsJustified, label_grows, label-other}
-use Rattle.round_log.proofs.Chains.{trace, trace-same, trace-other}
+use Rattle.round_log.specs.{declared.log.Entry.Entry, Looks.{label, chain}}
+use Rattle.round_log.proofs.{Raises.{IsRaise, IsQuiet, IsAtLeast, IsJustified, label_grows, label-other}, Chains.trace}
+use Rattle.round_log.proofs.Chains.{trace-same, trace-other}
 
 -- the variables that backward edges raised, along a chain
 abbrev pub heads : (ℕ → Bool) → List Entry → List ℕ

@@ -1,30 +1,20 @@
 -- What the rounds of a constraint graph give, whole: at the end the least solution and its walks, at a stop a cycle.
-use Rattle.std.proofs.Common.{◌≡◌, ℕ, ◌+◌, ◌-◌, ◌<◌, ◌≤◌, ◌^◌, ℤ, pos, neg_ℤ, ◌≤ℤ◌, Bool, Some, List, [], ◌∷◌, ◌++◌, map, reverse, inl, inr, length, get_or, refl, sym, ap, subst, ◌∙◌, arith}
+use Rattle.std.proofs.Common.{◌≡◌, ℕ, ◌+◌, ◌-◌, ◌<◌, ◌≤◌, ◌^◌, ℤ, pos, neg_ℤ, ◌≤ℤ◌, Bool, Some, List, [], ◌∷◌, ◌++◌}
+use Rattle.std.proofs.Common.{map, reverse, inl, inr, length, get_or, refl, sym, ap, subst, ◌∙◌, arith}
+use Rattle.std.proofs.lemmas.{Bool.{ltb-true, not-false}, List.{map-append, FromFn.length-range_with_len}}
 use Rattle.std.specs.List.{All, range_with_len}
-use Rattle.std.proofs.lemmas.Bool.{ltb-true, not-false}
-use Rattle.std.proofs.lemmas.List.{map-append}
-use Rattle.std.proofs.lemmas.List.FromFn.{length-range_with_len}
-use Rattle.cons_graph.specs.declared.edges.Edge.{Edge}
-use Rattle.round_log.specs.declared.log.Entry.{Entry}
-use Rattle.cons_graph.specs.Constraints.{Constraints, IsConstraintGraph}
-use Rattle.cons_graph.specs.Solutions.{IsSolution}
-use Rattle.cons_graph.specs.Walks.{IsWalk, walk_length}
-use Rattle.cons_graph.specs.SimpleWalks.{edges_of, length_of, heads_of, HasNoRepeat, WalksFromTo}
-use Rattle.round_log.specs.WalksBack.{walk_of}
-use Rattle.round_log.specs.Orders.{NamesEachOnce}
-use Rattle.cons_graph.specs.EdgeNumbers.{edge_at}
-use Rattle.round_log.specs.Looks.{label, latest, place_in, is_forward}
-use Rattle.round_log.specs.Rounds.{plan_of}
-use Rattle.round_log.proofs.Raises.{IsJustified}
-use Rattle.round_log.proofs.Chains.{In, In-chain, IsLinked, IsTraced, trace, trace_is, chain_rising}
-use Rattle.round_log.proofs.Members.{In-map-back, In-range-from, IsDistinct, length_of_distinct}
-use Rattle.round_log.proofs.Parts.{IsLog, log_justified, depth_at_most}
-use Rattle.round_log.proofs.RoundSteps.{IsGoing}
-use Rattle.round_log.proofs.Least.{edge_among, meets_at}
-use Rattle.round_log.proofs.Depths.{depth}
-use Rattle.round_log.proofs.Sizes.{label_within, length_by_depth, small}
-use Rattle.round_log.proofs.Planned.{is_backward, IsDistinct-from_pairs, In-at, In-from_contains, place_of_In, place_in_range}
-use Rattle.round_log.proofs.Walking.{entry_edges, vars_of, chain_walk, chain_length, chain_distinct, In-reverse, IsDistinct-reverse, pairs_from_IsDistinct, reverse-cons}
+use Rattle.cons_graph.specs.{declared.edges.Edge.Edge, Constraints.{Constraints, IsConstraintGraph}}
+use Rattle.cons_graph.specs.{Solutions.IsSolution, Walks.{IsWalk, walk_length}, SimpleWalks.{edges_of, length_of}}
+use Rattle.cons_graph.specs.{SimpleWalks.{heads_of, HasNoRepeat, WalksFromTo}, EdgeNumbers.edge_at}
+use Rattle.round_log.specs.{declared.log.Entry.Entry, WalksBack.walk_of, Orders.NamesEachOnce, Looks.{label, latest}}
+use Rattle.round_log.{specs.{Looks.{place_in, is_forward}, Rounds.plan_of}, proofs.{Raises.IsJustified, Chains.In}}
+use Rattle.round_log.proofs.{Chains.{In-chain, IsLinked, IsTraced, trace, trace_is, chain_rising}, Members.In-map-back}
+use Rattle.round_log.proofs.{Members.{In-range-from, IsDistinct, length_of_distinct}, Parts.{IsLog, log_justified}}
+use Rattle.round_log.proofs.{Parts.depth_at_most, RoundSteps.IsGoing, Least.{edge_among, meets_at}, Depths.depth}
+use Rattle.round_log.proofs.{Sizes.{label_within, length_by_depth, small}, Planned.{is_backward, IsDistinct-from_pairs}}
+use Rattle.round_log.proofs.{Planned.{In-at, In-from_contains, place_of_In, place_in_range}, Walking.entry_edges}
+use Rattle.round_log.proofs.Walking.{vars_of, chain_walk, chain_length, chain_distinct, In-reverse, IsDistinct-reverse}
+use Rattle.round_log.proofs.Walking.{pairs_from_IsDistinct, reverse-cons}
 
 -- the rounds of a graph and an order, by their parts
 abbrev pub back_of : Constraints → List ℕ → ℕ → Bool

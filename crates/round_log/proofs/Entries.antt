@@ -1,14 +1,11 @@
 -- The entries of a log as an array, oldest first: which entry a number names, labels by the latest entries, and one step
 -- along a chain.
-use Rattle.std.proofs.Common.{◌≡◌, ℕ, suc, ◌<◌, ◌≤◌, Some, List, [], ◌∷◌, ◌++◌, reverse, inl, inr, length, get_or, refl, sym, ap, subst, ◌∙◌, arith}
-use Rattle.std.proofs.lemmas.Bool.{cases_eq}
-use Rattle.std.proofs.lemmas.List.{length-reverse, get_or_append_left, get_or_push}
-use Rattle.round_log.specs.declared.log.Entry.{Entry}
-use Rattle.round_log.specs.Looks.{label, latest, chain}
-use Rattle.round_log.specs.Logs.{origin_entry, ComeFromOlder}
+use Rattle.std.proofs.Common.{◌≡◌, ℕ, suc, ◌<◌, ◌≤◌, Some, List, [], ◌∷◌, ◌++◌, reverse, inl, inr, length, get_or, refl}
+use Rattle.std.proofs.Common.{sym, ap, subst, ◌∙◌, arith}
+use Rattle.std.proofs.lemmas.{Bool.cases_eq, List.{length-reverse, get_or_append_left, get_or_push}}
+use Rattle.round_log.specs.{declared.log.Entry.Entry, Looks.{label, latest, chain}, Logs.{origin_entry, ComeFromOlder}}
 use Rattle.round_log.proofs.Raises.{label-same, label-other, latest-same, latest-other, latest_in_log}
-use Rattle.round_log.proofs.Chains.{chain-newest, chain-older}
-use Rattle.round_log.proofs.Walking.{reverse-cons}
+use Rattle.round_log.proofs.{Chains.{chain-newest, chain-older}, Walking.reverse-cons}
 
 -- the array of a log: the origin's entry and the raises from the oldest on
 abbrev pub array_of : List Entry → List Entry

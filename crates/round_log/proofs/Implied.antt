@@ -1,15 +1,10 @@
 -- Edges that others imply: along a walk each gives way to the walk that implies it.
 use Rattle.std.proofs.Common.{◌≡◌, ℕ, pos, ◌≤ℤ◌, ◌<ℤ◌, List, [], ◌∷◌, ◌++◌, get_or, refl, ap, subst, arith}
+use Rattle.std.proofs.lemmas.{Int.ints, List.Elements.{All-append, All-cons, All-nil, All-head, All-tail, All-contains}}
 use Rattle.std.specs.List.{All, Contains}
-use Rattle.std.proofs.lemmas.Int.{ints}
-use Rattle.std.proofs.lemmas.List.Elements.{All-append, All-cons, All-nil, All-head, All-tail, All-contains}
-use Rattle.cons_graph.specs.declared.edges.Edge.{Edge}
-use Rattle.cons_graph.specs.Walks.{IsWalk, walk_length}
-use Rattle.cons_graph.proofs.CycleTest.{cycle_from_walk}
-use Rattle.cons_graph.proofs.Tests.{walk_length-append}
-use Rattle.round_log.specs.Implied.{IsImpliedBy, HaveCyclesAlike}
-use Rattle.round_log.proofs.Least.{cycle_closed}
-use Rattle.round_log.proofs.Walking.{IsWalk-append}
+use Rattle.cons_graph.specs.{declared.edges.Edge.Edge, Walks.{IsWalk, walk_length}}
+use Rattle.cons_graph.proofs.{CycleTest.cycle_from_walk, Tests.walk_length-append}
+use Rattle.round_log.{specs.Implied.{IsImpliedBy, HaveCyclesAlike}, proofs.{Least.cycle_closed, Walking.IsWalk-append}}
 
 -- an edge of the list is implied by itself
 pub implied_by_itself : (edges : List Edge) (e : Edge) → Contains edges e → IsImpliedBy edges e

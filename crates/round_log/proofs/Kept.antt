@@ -1,16 +1,12 @@
 -- A part of a log that keeps what its chains reach tells alike, and is a log of looks too.
-use Rattle.std.proofs.Common.{◌≡◌, ℕ, zero, suc, ◌≤◌, ℤ, ◌≤ℤ◌, ◌<ℤ◌, Bool, true, false, Some, List, [], ◌∷◌, map, inl, inr, length, refl, sym, ap, subst, ◌∙◌, arith}
-use Rattle.std.proofs.lemmas.Int.{ints}
-use Rattle.std.proofs.lemmas.Bool.{cases_eq, cond-true, cond-false, cases_Bool}
+use Rattle.std.proofs.Common.{◌≡◌, ℕ, zero, suc, ◌≤◌, ℤ, ◌≤ℤ◌, ◌<ℤ◌, Bool, true, false, Some, List, [], ◌∷◌, map, inl}
+use Rattle.std.proofs.Common.{inr, length, refl, sym, ap, subst, ◌∙◌, arith}
+use Rattle.std.proofs.lemmas.{Int.ints, Bool.{cases_eq, cond-true, cond-false, cases_Bool}}
 use Rattle.cons_graph.specs.declared.edges.Edge.{Edge}
-use Rattle.round_log.specs.declared.log.Entry.{Entry}
-use Rattle.round_log.specs.Looks.{label, latest, chain}
-use Rattle.round_log.specs.Logs.{ComeFromOlder}
-use Rattle.round_log.specs.Told.{said, told_by, TellAlike}
-use Rattle.round_log.specs.Kept.{new_number, renumbered, kept_part, KeepsBack, KeepsChains}
-use Rattle.round_log.proofs.Raises.{IsRaise, IsAtLeast, label-same, label-other, label_grows, latest-same, latest-other, latest_in_log}
-use Rattle.round_log.proofs.Chains.{chain-newest, chain-older}
-use Rattle.round_log.proofs.Parts.{IsGoodRaise, IsLog}
+use Rattle.round_log.specs.{declared.log.Entry.Entry, Looks.{label, latest, chain}, Logs.ComeFromOlder, Told.said}
+use Rattle.round_log.specs.{Told.{told_by, TellAlike}, Kept.{new_number, renumbered, kept_part, KeepsBack, KeepsChains}}
+use Rattle.round_log.proofs.Raises.{IsRaise, IsAtLeast, label-same, label-other, label_grows, latest-same, latest-other}
+use Rattle.round_log.proofs.{Raises.latest_in_log, Chains.{chain-newest, chain-older}, Parts.{IsGoodRaise, IsLog}}
 use Rattle.round_log.proofs.Alike.{same_label, same_any}
 
 -- ---- numbers

@@ -1,20 +1,15 @@
 -- Labels against solutions: never above one, and at the end the least one; a positive cycle excludes every solution.
-use Rattle.std.proofs.Common.{◌≡◌, ℕ, ◌<◌, ◌≤◌, ℤ, pos, ◌+ℤ◌, ◌-ℤ◌, ◌≤ℤ◌, ◌<ℤ◌, Bool, eqb, Some, None, List, [], ◌∷◌, inl, inr, length, get_or, refl, sym, ap, subst, ◌∙◌, arith, unwrap_or}
+use Rattle.std.proofs.Common.{◌≡◌, ℕ, ◌<◌, ◌≤◌, ℤ, pos, ◌+ℤ◌, ◌-ℤ◌, ◌≤ℤ◌, ◌<ℤ◌, Bool, eqb, Some, None, List, [], ◌∷◌}
+use Rattle.std.proofs.Common.{inl, inr, length, get_or, refl, sym, ap, subst, ◌∙◌, arith, unwrap_or}
+use Rattle.std.proofs.lemmas.{Int.ints, Bool.{cond-true, cond-false, cases_Bool, cases_eq, eqb-true}}
+use Rattle.std.proofs.lemmas.List.{get_or_default, Elements.{All-from_get_or, All-contains, All-head, All-tail}}
 use Rattle.std.specs.List.{All, Contains}
-use Rattle.std.proofs.lemmas.Int.{ints}
-use Rattle.std.proofs.lemmas.Bool.{cond-true, cond-false, cases_Bool, cases_eq, eqb-true}
-use Rattle.std.proofs.lemmas.List.{get_or_default}
-use Rattle.std.proofs.lemmas.List.Elements.{All-from_get_or, All-contains, All-head, All-tail}
-use Rattle.cons_graph.specs.declared.edges.Edge.{Edge}
-use Rattle.cons_graph.specs.declared.edges.Why.TheVariants.{Size}
-use Rattle.round_log.specs.declared.log.Entry.{Entry}
-use Rattle.cons_graph.specs.Constraints.{Constraints, IsConstraintGraph, IsEdgeAmong}
-use Rattle.cons_graph.specs.Solutions.{Meets, IsSolution, IsLeastSolution}
-use Rattle.cons_graph.specs.Walks.{IsWalk, walk_length, IsCycle, IsPositiveCycle}
-use Rattle.round_log.specs.Looks.{label}
+use Rattle.cons_graph.specs.declared.edges.{Edge.Edge, Why.TheVariants.Size}
+use Rattle.cons_graph.specs.{Constraints.{Constraints, IsConstraintGraph, IsEdgeAmong}, Solutions.{Meets, IsSolution}}
+use Rattle.cons_graph.specs.{Solutions.IsLeastSolution, Walks.{IsWalk, walk_length, IsCycle, IsPositiveCycle}}
 use Rattle.cons_graph.specs.EdgeNumbers.{edge_at}
-use Rattle.round_log.proofs.Raises.{IsRaise, IsQuiet, label-same, label-other}
-use Rattle.round_log.proofs.Parts.{IsLog}
+use Rattle.round_log.specs.{declared.log.Entry.Entry, Looks.label}
+use Rattle.round_log.proofs.{Raises.{IsRaise, IsQuiet, label-same, label-other}, Parts.IsLog}
 
 -- the edge of a number in range, and the edge from the origin to a variable
 pub edge_among : (g : Constraints) → IsConstraintGraph g → (k : ℕ) → k < length g.edges → IsEdgeAmong g.vars (edge_at g.edges k)

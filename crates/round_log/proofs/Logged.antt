@@ -1,25 +1,16 @@
 -- The log that a cycle is read from, by its entries.
-use Rattle.std.proofs.Common.{◌≡◌, ℕ, zero, suc, ◌-◌, ◌<◌, ◌≤◌, Some, List, [], ◌∷◌, ◌++◌, map, inl, inr, length, get_or, drop, take, sym, ap, subst, ◌∙◌, arith}
-use Rattle.std.specs.List.{All}
-use Rattle.std.proofs.lemmas.List.{take-append-drop, length-drop}
-use Rattle.cons_graph.specs.declared.edges.Edge.{Edge}
-use Rattle.round_log.specs.declared.log.Entry.{Entry}
-use Rattle.round_log.specs.declared.log.Log.{Log}
-use Rattle.cons_graph.specs.Constraints.{Constraints, IsConstraintGraph}
-use Rattle.round_log.specs.Looks.{chain, raise_of, latest}
-use Rattle.cons_graph.specs.EdgeNumbers.{edge_at}
-use Rattle.round_log.specs.Logs.{IsLogOfLooks, IsMadeByLooks, raises_in, up_to_entry, NewestComesBack, ComeFromOlder}
-use Rattle.cons_graph.specs.SimpleWalks.{IsSimplePositiveCycle}
-use Rattle.round_log.specs.WalksBack as back
-use Rattle.round_log.proofs.Raises.{IsRaise, IsJustified, raise_of-is, latest_in_log}
+use Rattle.std.proofs.Common.{◌≡◌, ℕ, zero, suc, ◌-◌, ◌<◌, ◌≤◌, Some, List, [], ◌∷◌, ◌++◌, map, inl, inr, length}
+use Rattle.std.proofs.{Common.{get_or, drop, take, sym, ap, subst, ◌∙◌, arith}, lemmas.List.take-append-drop}
+use Rattle.std.{proofs.lemmas.List.length-drop, specs.List.All}
+use Rattle.cons_graph.specs.{declared.edges.Edge.Edge, Constraints.{Constraints, IsConstraintGraph}}
+use Rattle.cons_graph.specs.{EdgeNumbers.edge_at, SimpleWalks.IsSimplePositiveCycle}
+use Rattle.round_log.specs.{declared.log.{Entry.Entry, Log.Log}, Looks.{chain, raise_of, latest}, Logs.IsLogOfLooks}
+use Rattle.round_log.specs.Logs.{IsMadeByLooks, raises_in, up_to_entry, NewestComesBack, ComeFromOlder}
+use Rattle.round_log.{specs.Entries.AreEntries, proofs.Raises.{IsRaise, IsJustified, raise_of-is, latest_in_log}}
 use Rattle.round_log.proofs.Chains.{In, In-chain, chain-append, chain-newest, raise_linked, raise_rising}
-use Rattle.round_log.proofs.Ends.{map-map, numbers}
-use Rattle.round_log.proofs.Members.{In-map-back}
-use Rattle.round_log.proofs.Cycles.{IsLoop, loop_of_raise}
-use Rattle.round_log.proofs.Outcomes.{simple_from_loop, In-loop_back}
-use Rattle.round_log.proofs.Least.{edge_among}
-use Rattle.round_log.proofs.Planned.{In-at}
-use Rattle.round_log.specs.Entries.{AreEntries}
+use Rattle.round_log.proofs.{Ends.{map-map, numbers}, Members.In-map-back, Cycles.{IsLoop, loop_of_raise}}
+use Rattle.round_log.proofs.{Outcomes.{simple_from_loop, In-loop_back}, Least.edge_among, Planned.In-at}
+use Rattle.round_log.specs.WalksBack as back
 
 -- a raise of a log of looks, as a raise by its own edge
 raise_is : (edge : ℕ → Edge) (rs : List Entry) (r : Entry) → raise_of edge rs r.edge ≡ Some r → IsRaise edge rs r.edge r

@@ -1,20 +1,10 @@
 -- Logs of rounds that end: one with all their raises is such a log, and any two of one graph and order tell alike.
 use Rattle.std.proofs.Common.{◌≡◌, ℕ, Bool, List, [], ◌∷◌, length, refl, sym, ap, ◌∙◌, arith}
-use Rattle.round_log.specs.declared.log.Entry.{Entry}
-use Rattle.round_log.specs.declared.log.Log.{Log}
-use Rattle.cons_graph.specs.Constraints.{Constraints, IsConstraintGraph}
-use Rattle.cons_graph.specs.EdgeNumbers.{edge_at}
-use Rattle.round_log.specs.Looks.{latest}
-use Rattle.round_log.specs.Logs.{raises_in, ComeFromOlder, HoldsRaises, IsLogOfRounds}
-use Rattle.round_log.specs.Orders.{NamesEachOnce}
-use Rattle.round_log.specs.Rounds.{plan_of, EndsInRound}
-use Rattle.round_log.specs.Told.{told_by, TellAlike}
-use Rattle.round_log.proofs.Raises.{latest_in_log}
-use Rattle.round_log.proofs.Parts.{IsLog}
-use Rattle.round_log.proofs.Least.{edge_among}
-use Rattle.round_log.proofs.Ends.{back_of}
-use Rattle.round_log.proofs.Outcomes.{IsEnded, ended_from_rounds}
-use Rattle.round_log.proofs.OneOutcome.{one_end}
+use Rattle.round_log.specs.{declared.log.{Entry.Entry, Log.Log}, Looks.latest, Logs.{raises_in, ComeFromOlder}}
+use Rattle.round_log.specs.{Logs.{HoldsRaises, IsLogOfRounds}, Orders.NamesEachOnce, Rounds.{plan_of, EndsInRound}}
+use Rattle.round_log.{specs.Told.{told_by, TellAlike}, proofs.{Raises.latest_in_log, Parts.IsLog, Least.edge_among}}
+use Rattle.round_log.proofs.{Ends.back_of, Outcomes.{IsEnded, ended_from_rounds}, OneOutcome.one_end}
+use Rattle.cons_graph.specs.{Constraints.{Constraints, IsConstraintGraph}, EdgeNumbers.edge_at}
 
 -- each raise of a log is of one of the variables and comes from an older entry
 pub log_older : (g : Constraints) (back : ℕ → Bool) (rs : List Entry) → IsConstraintGraph g → IsLog (edge_at g.edges) back (length g.edges) rs → ComeFromOlder g.vars rs

@@ -2,15 +2,10 @@
 use Rattle.std.proofs.Common.{◌≡◌, ℕ, zero, suc, ◌≤◌, true, List, length, inl, inr, sym, ap, ◌∙◌, arith}
 use Rattle.std.proofs.lemmas.Bool.{true≢false, cases_eq, cases_lt, cases_order}
 use Rattle.cons_graph.specs.Constraints.{Constraints, IsConstraintGraph}
-use Rattle.round_log.specs.declared.log.Entry.{Entry}
-use Rattle.round_log.specs.Orders.{NamesEachOnce}
-use Rattle.round_log.specs.Outcomes.{EndInOneWay, StopInOneWay, DoNotEndAndStop}
-use Rattle.round_log.specs.Rounds.{Plan, plan_of, after_rounds, Stops}
-use Rattle.round_log.specs.WalksBack.{cycle_of}
-use Rattle.round_log.proofs.Ends.{back_of}
-use Rattle.round_log.proofs.Least.{label_value, positive_cycle_excludes}
-use Rattle.round_log.proofs.Outcomes.{stop_cycle, has_cycle, ended_from_rounds, ended_least}
-use Rattle.round_log.proofs.Planned.{planned}
+use Rattle.round_log.specs.{declared.log.Entry.Entry, Orders.NamesEachOnce, Outcomes.{EndInOneWay, StopInOneWay}}
+use Rattle.round_log.specs.{Outcomes.DoNotEndAndStop, Rounds.{Plan, plan_of, after_rounds, Stops}, WalksBack.cycle_of}
+use Rattle.round_log.proofs.{Ends.back_of, Least.{label_value, positive_cycle_excludes}, Outcomes.stop_cycle}
+use Rattle.round_log.proofs.{Outcomes.{has_cycle, ended_from_rounds, ended_least}, Planned.planned}
 use Rattle.round_log.proofs.RoundSteps.{rounds_give, one_more_stopped}
 
 pub one_end : (p : Plan) → EndInOneWay p

@@ -1,31 +1,24 @@
 -- The two outcomes of the rounds: a cycle where they stop, the least solution where they end; and one of the two comes.
-use Rattle.std.proofs.Common.{◌≡◌, ℕ, zero, suc, ◌+◌, ◌<◌, ◌≤◌, ℤ, pos, ◌<ℤ◌, Bool, false, eqb, List, [], ◌∷◌, ◌++◌, map, ◌⊎◌, inl, inr, length, get_or, take, drop, refl, sym, ap, subst, ◌∙◌, arith}
-use Rattle.std.specs.List.{All, Contains, range_with_len, list_any}
-use Rattle.std.proofs.lemmas.Bool.{true≢false, cond_both}
-use Rattle.std.proofs.lemmas.List.{map-append, take-map, get_or-drop, get_or_append_left, length-drop, take-append-drop, get_or_default, nil_from_length, length-append}
-use Rattle.cons_graph.specs.declared.edges.Edge.{Edge}
-use Rattle.cons_graph.specs.declared.edges.Why.TheVariants.{Size}
-use Rattle.round_log.specs.declared.log.Entry.{Entry}
-use Rattle.cons_graph.specs.Constraints.{Constraints, IsConstraintGraph}
-use Rattle.cons_graph.specs.Solutions.{IsSolution, IsLeastSolution}
-use Rattle.cons_graph.proofs.CycleTest.{cycle_from_walk}
-use Rattle.cons_graph.specs.Walks.{walk_length, IsCycle, HasPositiveCycle}
-use Rattle.cons_graph.specs.SimpleWalks.{edges_of, tails_of, IsSimplePositiveCycle}
-use Rattle.round_log.specs.WalksBack.{up_to, loop_back, turned, cycle_of, least_place}
-use Rattle.round_log.specs.Orders.{NamesEachOnce}
-use Rattle.cons_graph.specs.EdgeNumbers.{edge_at}
-use Rattle.round_log.specs.Looks.{chain}
-use Rattle.round_log.specs.Rounds.{Progress, Plan, plan_of, forward_part, round, one_more, after_rounds, EndsInRound}
-use Rattle.round_log.proofs.Raises.{IsQuiet, IsJustified}
-use Rattle.round_log.proofs.Chains.{In, In-chain, raise_linked, raise_rising}
-use Rattle.round_log.proofs.Members.{In-map-back, In-append, In-append-left, In-append-right, In-range-from, In-range, IsDistinct}
-use Rattle.round_log.proofs.Parts.{IsStopAt, log_justified, Keeps}
-use Rattle.round_log.proofs.RoundSteps.{IsPlanned, going_start, forward_next, rounds_give, one_more_going, one_more_stopped, all_quiet, round_gives, busy_bound}
-use Rattle.round_log.proofs.Least.{label_value, quiet_least}
-use Rattle.round_log.proofs.Planned.{planned, place_of_In}
-use Rattle.round_log.proofs.Walking.{pairs_from_IsDistinct}
-use Rattle.round_log.proofs.Cycles.{tails, IsLoop, loop_of_raise, turned_loop, least_place_in_range, least_place_least}
-use Rattle.round_log.proofs.Ends.{LogOf, GoingOf, back_of, numbers, map-map, All-from_In, log_entry}
+use Rattle.std.proofs.Common.{◌≡◌, ℕ, zero, suc, ◌+◌, ◌<◌, ◌≤◌, ℤ, pos, ◌<ℤ◌, Bool, false, eqb, List, [], ◌∷◌, ◌++◌}
+use Rattle.std.proofs.Common.{map, ◌⊎◌, inl, inr, length, get_or, take, drop, refl, sym, ap, subst, ◌∙◌, arith}
+use Rattle.std.proofs.lemmas.{Bool.{true≢false, cond_both}, List.{map-append, take-map, get_or-drop}}
+use Rattle.std.proofs.lemmas.List.{get_or_append_left, length-drop, take-append-drop, get_or_default, nil_from_length}
+use Rattle.std.{proofs.lemmas.List.length-append, specs.List.{All, Contains, range_with_len, list_any}}
+use Rattle.cons_graph.specs.{declared.edges.{Edge.Edge, Why.TheVariants.Size}, Constraints.Constraints}
+use Rattle.cons_graph.specs.{Constraints.IsConstraintGraph, Solutions.{IsSolution, IsLeastSolution}, Walks.walk_length}
+use Rattle.cons_graph.specs.{Walks.{IsCycle, HasPositiveCycle}, SimpleWalks.{edges_of, tails_of, IsSimplePositiveCycle}}
+use Rattle.cons_graph.{specs.EdgeNumbers.edge_at, proofs.CycleTest.cycle_from_walk}
+use Rattle.round_log.specs.{declared.log.Entry.Entry, WalksBack.{up_to, loop_back, turned, cycle_of, least_place}}
+use Rattle.round_log.specs.{Orders.NamesEachOnce, Looks.chain, Rounds.{Progress, Plan, plan_of, forward_part, round}}
+use Rattle.round_log.specs.Rounds.{one_more, after_rounds, EndsInRound}
+use Rattle.round_log.proofs.{Raises.{IsQuiet, IsJustified}, Chains.{In, In-chain, raise_linked, raise_rising}}
+use Rattle.round_log.proofs.Members.{In-map-back, In-append, In-append-left, In-append-right, In-range-from, In-range}
+use Rattle.round_log.proofs.{Members.IsDistinct, Parts.{IsStopAt, log_justified, Keeps}, RoundSteps.IsPlanned}
+use Rattle.round_log.proofs.RoundSteps.{going_start, forward_next, rounds_give, one_more_going, one_more_stopped}
+use Rattle.round_log.proofs.{RoundSteps.{all_quiet, round_gives, busy_bound}, Least.{label_value, quiet_least}}
+use Rattle.round_log.proofs.{Planned.{planned, place_of_In}, Walking.pairs_from_IsDistinct, Cycles.{tails, IsLoop}}
+use Rattle.round_log.proofs.{Cycles.{loop_of_raise, turned_loop, least_place_in_range, least_place_least}, Ends.LogOf}
+use Rattle.round_log.proofs.Ends.{GoingOf, back_of, numbers, map-map, All-from_In, log_entry}
 
 -- ---- a turned loop as numbers of edges
 

@@ -1,21 +1,15 @@
 -- The path of a walk back, and the place of the least tail.
-use Rattle.std.proofs.Common.{◌≡◌, ℕ, zero, suc, ◌+◌, ◌-◌, ◌<◌, ◌≤◌, Bool, true, false, eqb, leb, ◌||◌, List, [], ◌∷◌, ◌++◌, reverse, inl, inr, length, get_or, set, max, drop, refl, sym, ap, subst, ◌∙◌, arith, eq-eqb}
+use Rattle.std.proofs.Common.{◌≡◌, ℕ, zero, suc, ◌+◌, ◌-◌, ◌<◌, ◌≤◌, Bool, true, false, eqb, leb, ◌||◌, List, [], ◌∷◌}
+use Rattle.std.proofs.Common.{◌++◌, reverse, inl, inr, length, get_or, set, max, drop, refl, sym, ap, subst, ◌∙◌, arith}
+use Rattle.std.proofs.{Common.eq-eqb, lemmas.Bool.{cases_eq, cases_order, cond-true, cond-false, ne_eqb, or_left}}
+use Rattle.std.proofs.lemmas.{Bool.{or_from, cases_Bool}, List.{length-reverse, reverse-reverse, drop-append-le}}
+use Rattle.std.proofs.lemmas.List.{reverse-append, drop_at, get_or-set_same, get_or-set_other}
 use Rattle.std.specs.List.{list_any, list_all}
-use Rattle.std.proofs.lemmas.Bool.{cases_eq, cases_order, cond-true, cond-false, ne_eqb, or_left, or_from, cases_Bool}
-use Rattle.std.proofs.lemmas.List.{length-reverse, reverse-reverse, drop-append-le, reverse-append, drop_at, get_or-set_same, get_or-set_other}
-use Rattle.cons_graph.specs.declared.edges.Edge.{Edge}
-use Rattle.round_log.specs.declared.log.Entry.{Entry}
-use Rattle.round_log.specs.Looks.{chain, latest}
-use Rattle.cons_graph.specs.SimpleWalks.{tails_of}
-use Rattle.round_log.specs.WalksBack.{up_to, loop_back, least_place}
-use Rattle.round_log.proofs.Raises.{latest-same, latest-other, latest_in_log}
-use Rattle.round_log.proofs.Planned.{In-at}
-use Rattle.round_log.proofs.Cycles.{least_place_least, least_place_in_range, list_all-false}
-use Rattle.round_log.proofs.Walking.{reverse-cons}
-use Rattle.cons_graph.proofs.Tests.{length-tails}
-use Rattle.round_log.proofs.Entries.{IsChainStep, chain_step, entry_var}
-use Rattle.round_log.specs.Entries.{AreEntries}
-use Rattle.round_log.specs.Logs.{raises_of}
+use Rattle.cons_graph.{specs.{declared.edges.Edge.Edge, SimpleWalks.tails_of}, proofs.Tests.length-tails}
+use Rattle.round_log.specs.{declared.log.Entry.Entry, Looks.{chain, latest}, WalksBack.{up_to, loop_back, least_place}}
+use Rattle.round_log.{specs.{Entries.AreEntries, Logs.raises_of}, proofs.Raises.{latest-same, latest-other}}
+use Rattle.round_log.proofs.{Raises.latest_in_log, Planned.In-at, Cycles.{least_place_least, least_place_in_range}}
+use Rattle.round_log.proofs.{Cycles.list_all-false, Walking.reverse-cons, Entries.{IsChainStep, chain_step, entry_var}}
 
 -- ---- the path: the raises met so far, whose latest one of each variable is marked
 

@@ -1,17 +1,13 @@
 -- The rounds of a constraint graph and an order of its variables are planned as the rounds need it.
-use Rattle.std.proofs.Common.{◌≡◌, ◌≢◌, ℕ, zero, suc, ◌<◌, ◌≤◌, Bool, true, not, eqb, List, [], ◌∷◌, ◌++◌, inl, inr, length, get_or, refl, sym, ap, subst, ◌∙◌, arith, eq-eqb}
+use Rattle.std.proofs.Common.{◌≡◌, ◌≢◌, ℕ, zero, suc, ◌<◌, ◌≤◌, Bool, true, not, eqb, List, [], ◌∷◌, ◌++◌, inl, inr}
+use Rattle.std.proofs.{Common.{length, get_or, refl, sym, ap, subst, ◌∙◌, arith, eq-eqb}, lemmas.Bool.cond-true}
+use Rattle.std.proofs.lemmas.Bool.{cond-false, cases_eq, eqb-true, ne_eqb, ltb-true, not-false, not_from_true}
 use Rattle.std.specs.List.{AllPairs, Contains, filter, flat_map}
-use Rattle.std.proofs.lemmas.Bool.{cond-true, cond-false, cases_eq, eqb-true, ne_eqb, ltb-true, not-false, not_from_true}
-use Rattle.cons_graph.specs.declared.edges.Edge.{Edge}
-use Rattle.cons_graph.specs.Constraints.{Constraints, IsConstraintGraph}
-use Rattle.round_log.specs.Orders.{NamesEachOnce}
+use Rattle.cons_graph.specs.{declared.edges.Edge.Edge, Constraints.{Constraints, IsConstraintGraph}}
 use Rattle.cons_graph.specs.EdgeNumbers.{edge_at, all_numbers, leaving}
-use Rattle.round_log.specs.Looks.{place_in, is_forward}
-use Rattle.round_log.specs.Rounds.{plan_of}
-use Rattle.round_log.proofs.Chains.{In}
-use Rattle.round_log.proofs.Members.{In-append, In-filter, In-filter-from, In-range, In-range-from, In-flat_map, In-flat_map-back, IsDistinct}
-use Rattle.round_log.proofs.Parts.{IsInOrder}
-use Rattle.round_log.proofs.RoundSteps.{IsPlanned}
+use Rattle.round_log.specs.{Orders.NamesEachOnce, Looks.{place_in, is_forward}, Rounds.plan_of}
+use Rattle.round_log.proofs.{Chains.In, Members.{In-append, In-filter, In-filter-from, In-range, In-range-from}}
+use Rattle.round_log.proofs.{Members.{In-flat_map, In-flat_map-back, IsDistinct}, Parts.IsInOrder, RoundSteps.IsPlanned}
 use Rattle.round_log.proofs.Least.{edge_among}
 
 -- ---- members by their places

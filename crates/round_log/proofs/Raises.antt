@@ -1,11 +1,9 @@
 -- What one look at an edge does to the labels.
-use Rattle.std.proofs.Common.{◌≡◌, ◌≢◌, ℕ, ◌≤◌, ℤ, ◌+ℤ◌, ◌≤ℤ◌, ◌<ℤ◌, true, false, eqb, Option, Some, None, List, [], ◌∷◌, inl, inr, length, refl, sym, ap, subst, ◌∙◌, arith, eq-eqb}
-use Rattle.std.specs.Prelude.{int_lt}
-use Rattle.std.proofs.lemmas.Int.{ints}
-use Rattle.std.proofs.lemmas.Bool.{cases_eq, cases_Bool, ne_eqb, cond-true, cond-false}
+use Rattle.std.proofs.Common.{◌≡◌, ◌≢◌, ℕ, ◌≤◌, ℤ, ◌+ℤ◌, ◌≤ℤ◌, ◌<ℤ◌, true, false, eqb, Option, Some, None, List, []}
+use Rattle.std.proofs.{Common.{◌∷◌, inl, inr, length, refl, sym, ap, subst, ◌∙◌, arith, eq-eqb}, lemmas.Int.ints}
+use Rattle.std.{proofs.lemmas.Bool.{cases_eq, cases_Bool, ne_eqb, cond-true, cond-false}, specs.Prelude.int_lt}
 use Rattle.cons_graph.specs.declared.edges.Edge.{Edge}
-use Rattle.round_log.specs.declared.log.Entry.{Entry}
-use Rattle.round_log.specs.Looks.{label, latest, raise_by, raise_of}
+use Rattle.round_log.specs.{declared.log.Entry.Entry, Looks.{label, latest, raise_by, raise_of}}
 
 -- the label and the latest raise of a variable, by the newest raise
 pub label-same : (r : Entry) (rs : List Entry) (v : ℕ) → r.var ≡ v → label (r ∷ rs) v ≡ Some r.value

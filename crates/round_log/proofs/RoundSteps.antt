@@ -1,16 +1,14 @@
 -- Whole rounds: what each leaves, and that there are at most as many as backward edges, and one more.
-use Rattle.std.proofs.Common.{◌≡◌, ℕ, zero, suc, ◌<◌, ◌≤◌, Bool, true, false, Some, List, [], ◌∷◌, ◌++◌, map, ◌⊎◌, inl, inr, length, refl, sym, ap, subst, ◌∙◌, arith}
-use Rattle.std.proofs.lemmas.Bool.{cond-true, cond-false, cases_Bool}
-use Rattle.std.proofs.lemmas.List.{length-map}
+use Rattle.std.proofs.Common.{◌≡◌, ℕ, zero, suc, ◌<◌, ◌≤◌, Bool, true, false, Some, List, [], ◌∷◌, ◌++◌, map, ◌⊎◌, inl}
+use Rattle.std.proofs.Common.{inr, length, refl, sym, ap, subst, ◌∙◌, arith}
+use Rattle.std.proofs.lemmas.{Bool.{cond-true, cond-false, cases_Bool}, List.length-map}
 use Rattle.cons_graph.specs.declared.edges.Edge.{Edge}
-use Rattle.round_log.specs.declared.log.Entry.{Entry}
-use Rattle.round_log.specs.Looks.{comes_back, raise_of}
-use Rattle.round_log.specs.Rounds.{Progress, after_look, backward_part, Plan, forward_part, round, one_more, after_rounds}
-use Rattle.round_log.proofs.Raises.{IsQuiet, raise_of-quiet}
-use Rattle.round_log.proofs.Chains.{In}
-use Rattle.round_log.proofs.Members.{cases_option, In-map}
-use Rattle.round_log.proofs.Depths.{depth_of, IsDeep, Extends, Since, since_later}
-use Rattle.round_log.proofs.Parts.{IsLog, IsForwardEdge, IsBackwardEdge, IsInOrder, Keeps, forward_keeps, forward_quiet, backward_gives, IsStopAt, depth_of_at_most}
+use Rattle.round_log.specs.{declared.log.Entry.Entry, Looks.{comes_back, raise_of}, Rounds.{Progress, after_look}}
+use Rattle.round_log.specs.Rounds.{backward_part, Plan, forward_part, round, one_more, after_rounds}
+use Rattle.round_log.proofs.{Raises.{IsQuiet, raise_of-quiet}, Chains.In, Members.{cases_option, In-map}}
+use Rattle.round_log.proofs.{Depths.{depth_of, IsDeep, Extends, Since, since_later}, Parts.{IsLog, IsForwardEdge}}
+use Rattle.round_log.proofs.Parts.{IsBackwardEdge, IsInOrder, Keeps, forward_keeps, forward_quiet, backward_gives}
+use Rattle.round_log.proofs.Parts.{IsStopAt, depth_of_at_most}
 
 -- what the rounds need to know of their edges: each is in one of the parts, by whether it is backward, its ends differ,
 -- and no later forward edge leads into the tail of an earlier one

@@ -1,16 +1,12 @@
 -- How large labels get: a chain has few backward raises, and goes up in the order between them.
-use Rattle.std.proofs.Common.{◌≡◌, ℕ, suc, ◌+◌, ◌*◌, ◌-◌, ◌<◌, ◌≤◌, ◌^◌, ℤ, pos, neg_ℤ, ◌+ℤ◌, ◌≤ℤ◌, Bool, false, eqb, Some, None, List, [], ◌∷◌, inl, inr, length, sym, ap, subst, ◌∙◌, arith}
+use Rattle.std.proofs.Common.{◌≡◌, ℕ, suc, ◌+◌, ◌*◌, ◌-◌, ◌<◌, ◌≤◌, ◌^◌, ℤ, pos, neg_ℤ, ◌+ℤ◌, ◌≤ℤ◌, Bool, false, eqb}
+use Rattle.std.proofs.Common.{Some, None, List, [], ◌∷◌, inl, inr, length, sym, ap, subst, ◌∙◌, arith}
 use Rattle.std.proofs.Math.Nat.{mul-le-mul_left, mul-le-mul_right}
-use Rattle.std.proofs.lemmas.Int.{ints}
-use Rattle.std.proofs.lemmas.Bool.{cond-true, cond-false, cases_Bool, cases_eq, eqb-true}
-use Rattle.cons_graph.specs.declared.edges.Edge.{Edge}
-use Rattle.round_log.specs.declared.log.Entry.{Entry}
-use Rattle.cons_graph.specs.Constraints.{IsEdgeAmong}
-use Rattle.round_log.specs.Looks.{label, chain}
-use Rattle.round_log.proofs.Raises.{IsRaise, label-same, label-other}
-use Rattle.round_log.proofs.Chains.{trace, trace-same, trace-other, chain_is_trace}
-use Rattle.round_log.proofs.Depths.{depth, depth_of, depth_back, depth_grows}
-use Rattle.round_log.proofs.Parts.{IsLog}
+use Rattle.std.proofs.lemmas.{Int.ints, Bool.{cond-true, cond-false, cases_Bool, cases_eq, eqb-true}}
+use Rattle.cons_graph.specs.{declared.edges.Edge.Edge, Constraints.IsEdgeAmong}
+use Rattle.round_log.specs.{declared.log.Entry.Entry, Looks.{label, chain}}
+use Rattle.round_log.proofs.{Raises.{IsRaise, label-same, label-other}, Chains.{trace, trace-same, trace-other}}
+use Rattle.round_log.proofs.{Chains.chain_is_trace, Depths.{depth, depth_of, depth_back, depth_grows}, Parts.IsLog}
 
 -- a number within n times the greatest length of 0
 pub record IsWithin (n : ℕ) (a : ℤ) : Type 0 where

@@ -1,16 +1,12 @@
 -- Walks put together, and the walk that a chain is.
-use Rattle.std.proofs.Common.{◌≡◌, ◌≢◌, ℕ, zero, suc, ◌<◌, ℤ, ◌+ℤ◌, ◌-ℤ◌, ◌≤ℤ◌, ◌<ℤ◌, List, [], ◌∷◌, ◌++◌, map, reverse, ◌⊎◌, inl, inr, length, get_or, refl, sym, ap, subst, ◌∙◌, arith}
-use Rattle.std.specs.List.{AllPairs}
-use Rattle.std.proofs.lemmas.Int.{ints}
-use Rattle.std.proofs.lemmas.List.{reverse-append}
-use Rattle.cons_graph.specs.declared.edges.Edge.{Edge}
-use Rattle.round_log.specs.declared.log.Entry.{Entry}
-use Rattle.cons_graph.specs.Solutions.{Meets}
-use Rattle.cons_graph.specs.Walks.{IsWalk, walk_length}
+use Rattle.std.proofs.Common.{◌≡◌, ◌≢◌, ℕ, zero, suc, ◌<◌, ℤ, ◌+ℤ◌, ◌-ℤ◌, ◌≤ℤ◌, ◌<ℤ◌, List, [], ◌∷◌, ◌++◌, map, reverse}
+use Rattle.std.proofs.{Common.{◌⊎◌, inl, inr, length, get_or, refl, sym, ap, subst, ◌∙◌, arith}, lemmas.Int.ints}
+use Rattle.std.{proofs.lemmas.List.reverse-append, specs.List.AllPairs}
+use Rattle.cons_graph.specs.{declared.edges.Edge.Edge, Solutions.Meets, Walks.{IsWalk, walk_length}}
 use Rattle.cons_graph.proofs.Tests.{walk_length-append}
-use Rattle.round_log.proofs.Chains.{In, IsLinked, IsRising, top_var, top_value}
-use Rattle.round_log.proofs.Planned.{In-at}
-use Rattle.round_log.proofs.Members.{In-map-back, IsDistinct, In-append, In-append-left, In-append-right}
+use Rattle.round_log.specs.declared.log.Entry.{Entry}
+use Rattle.round_log.proofs.{Chains.{In, IsLinked, IsRising, top_var, top_value}, Planned.In-at, Members.In-map-back}
+use Rattle.round_log.proofs.Members.{IsDistinct, In-append, In-append-left, In-append-right}
 
 pub IsWalk-append : (a : ℕ) (xs : List Edge) (b : ℕ) (ys : List Edge) (c : ℕ) → IsWalk a xs b → IsWalk b ys c → IsWalk a (xs ++ ys) c
 IsWalk-append a [] b ys c p q = let P : ℕ → Type 0 = λ x. IsWalk x ys c in subst P (sym p) q

@@ -1,18 +1,13 @@
 -- A walk read out of a log that the rounds leave when they end.
-use Rattle.std.proofs.Common.{◌≡◌, ℕ, ◌<◌, ◌≤◌, Some, List, [], ◌∷◌, ◌++◌, reverse, length, get_or, refl, sym, ap, subst, ◌∙◌, arith, append_assoc, append-nil}
-use Rattle.round_log.specs.declared.log.Entry.{Entry}
-use Rattle.round_log.specs.declared.log.Log.{Log}
-use Rattle.cons_graph.specs.Constraints.{Constraints, IsConstraintGraph}
-use Rattle.cons_graph.specs.SimpleWalks.{heads_of, length_of, HasNoRepeat, WalksFromTo}
-use Rattle.round_log.specs.Looks.{label, latest, chain}
-use Rattle.round_log.specs.Logs.{raises_in, IsEndedLog}
-use Rattle.round_log.specs.WalksBack.{walk_of}
-use Rattle.round_log.proofs.Chains.{chain-zero}
-use Rattle.round_log.proofs.Least.{label_value, labelled}
-use Rattle.round_log.proofs.Ends.{back_of, numbers, walk_is, walk_no_repeat}
-use Rattle.round_log.proofs.Outcomes.{IsEnded, ended_from_rounds, ended_least}
-use Rattle.round_log.proofs.Entries.{array_of, IsChainStep, chain_step}
-use Rattle.round_log.proofs.Alike.{same_label, same_walk}
+use Rattle.std.proofs.Common.{◌≡◌, ℕ, ◌<◌, ◌≤◌, Some, List, [], ◌∷◌, ◌++◌, reverse, length, get_or, refl, sym, ap}
+use Rattle.std.proofs.Common.{subst, ◌∙◌, arith, append_assoc, append-nil}
+use Rattle.round_log.specs.declared.log.{Entry.Entry, Log.Log}
+use Rattle.round_log.specs.{Looks.{label, latest, chain}, Logs.{raises_in, IsEndedLog}, WalksBack.walk_of}
+use Rattle.round_log.proofs.{Chains.chain-zero, Least.{label_value, labelled}, Ends.{back_of, numbers, walk_is}}
+use Rattle.round_log.proofs.{Ends.walk_no_repeat, Outcomes.{IsEnded, ended_from_rounds, ended_least}, Entries.array_of}
+use Rattle.round_log.proofs.{Entries.{IsChainStep, chain_step}, Alike.{same_label, same_walk}}
+use Rattle.cons_graph.specs.{Constraints.{Constraints, IsConstraintGraph}, SimpleWalks.{heads_of, length_of}}
+use Rattle.cons_graph.specs.SimpleWalks.{HasNoRepeat, WalksFromTo}
 
 ended : (g : Constraints) (log : Log) → IsConstraintGraph g → (h : IsEndedLog g log) → IsEnded g h.order h.of_rounds.raises
 ended g log s h = ended_from_rounds g h.order s h.is_order.names h.rounds h.of_rounds.raises h.of_rounds.ended

@@ -1,6 +1,5 @@
 use Rattle.std.specs.Prelude.{◌≡◌, ℕ, List, ◌∷◌, reverse}
-use Rattle.round_log.specs.declared.log.Entry.{Entry}
-use Rattle.round_log.specs.Logs.{origin_entry, raises_of, ComeFromOlder}
+use Rattle.round_log.specs.{declared.log.Entry.Entry, Logs.{origin_entry, raises_of, ComeFromOlder}}
 
 -- entries of a log: the origin's, and then raises of these variables that each come from an older entry
 pub record AreEntries (vars : ℕ) (entries : List Entry) : Type 0 where

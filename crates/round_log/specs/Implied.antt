@@ -1,7 +1,6 @@
 -- Edges that others imply.
 use Rattle.std.specs.Prelude.{◌≤ℤ◌, ◌↔◌, List, All, Contains}
-use Rattle.cons_graph.specs.declared.edges.Edge.{Edge}
-use Rattle.cons_graph.specs.Walks.{IsWalk, walk_length, HasPositiveCycle}
+use Rattle.cons_graph.specs.{declared.edges.Edge.Edge, Walks.{IsWalk, walk_length, HasPositiveCycle}}
 
 -- a walk along edges of the list leads from the edge's tail to its head, and is at least as long as the edge
 pub record IsImpliedBy (edges : List Edge) (e : Edge) : Type 0 where

@@ -1,7 +1,6 @@
 -- A part of a log that keeps what its chains reach.
 use Rattle.std.specs.Prelude.{◌≡◌, ℕ, zero, suc, Bool, true, if◌then◌else◌, List, [], ◌∷◌, length}
-use Rattle.round_log.specs.declared.log.Entry.{Entry}
-use Rattle.round_log.specs.Looks.{latest}
+use Rattle.round_log.specs.{declared.log.Entry.Entry, Looks.latest}
 
 -- how many of the entries 1 to n are kept: the new number of entry n, if it is kept
 abbrev pub new_number : (ℕ → Bool) → ℕ → ℕ

@@ -1,13 +1,7 @@
 use Rattle.std.specs.Prelude.{◌≡◌, ℕ, ◌≤◌, ◌-◌, ◌<◌, true, pos, Some, List, [], ◌∷◌, length, reverse, drop, slice_index}
-use Rattle.round_log.specs.declared.log.Entry.{Entry}
-use Rattle.round_log.specs.declared.log.Log.{Log}
-use Rattle.cons_graph.specs.declared.edges.Edge.{Edge}
-use Rattle.cons_graph.specs.Constraints.{Constraints}
-use Rattle.round_log.specs.Looks.{latest, raise_of, comes_back}
-use Rattle.cons_graph.specs.EdgeNumbers.{edge_at}
-use Rattle.round_log.specs.Orders.{IsOrder}
-use Rattle.round_log.specs.Rounds.{plan_of, EndsInRound}
-use Rattle.round_log.specs.Told.{TellAlike}
+use Rattle.round_log.specs.{declared.log.{Entry.Entry, Log.Log}, Looks.{latest, raise_of, comes_back}, Orders.IsOrder}
+use Rattle.round_log.specs.{Rounds.{plan_of, EndsInRound}, Told.TellAlike}
+use Rattle.cons_graph.specs.{declared.edges.Edge.Edge, Constraints.Constraints, EdgeNumbers.edge_at}
 
 -- entry 0, which stands for the origin
 abbrev pub origin_entry : Entry

@@ -1,7 +1,6 @@
-use Rattle.std.specs.Prelude.{ℕ, suc, ℤ, pos, ◌+ℤ◌, Bool, not, if◌then◌else◌, ◌==◌, nat_lt, Option, Some, None, List, [], ◌∷◌, length, filter, int_lt}
-use Rattle.std.specs.List.{flat_map, list_any}
-use Rattle.cons_graph.specs.declared.edges.Edge.{Edge}
-use Rattle.cons_graph.specs.EdgeNumbers.{edge_at, all_numbers, leaving}
+use Rattle.std.specs.Prelude.{ℕ, suc, ℤ, pos, ◌+ℤ◌, Bool, not, if◌then◌else◌, ◌==◌, nat_lt, Option, Some, None, List}
+use Rattle.std.specs.{Prelude.{[], ◌∷◌, length, filter, int_lt}, List.{flat_map, list_any}}
+use Rattle.cons_graph.specs.{declared.edges.Edge.Edge, EdgeNumbers.{edge_at, all_numbers, leaving}}
 use Rattle.round_log.specs.declared.log.Entry.{Entry}
 
 -- A log is kept as the list of its raises, the newest first. A raise's number is how many raises there are up to it,

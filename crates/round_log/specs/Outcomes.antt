@@ -1,7 +1,6 @@
 -- The rounds of a plan come out in one way.
 use Rattle.std.specs.Prelude.{◌≡◌, ℕ, List}
-use Rattle.round_log.specs.declared.log.Entry.{Entry}
-use Rattle.round_log.specs.Rounds.{Plan, EndsInRound, Stops}
+use Rattle.round_log.specs.{declared.log.Entry.Entry, Rounds.{Plan, EndsInRound, Stops}}
 
 -- they end in one round, with one log
 abbrev pub EndInOneWay : Plan → Type 0

@@ -1,7 +1,6 @@
 -- What a log tells of its variables, whatever numbers its entries have.
 use Rattle.std.specs.Prelude.{◌≡◌, ℕ, ℤ, List, map}
-use Rattle.round_log.specs.declared.log.Entry.{Entry}
-use Rattle.round_log.specs.Looks.{latest, chain}
+use Rattle.round_log.specs.{declared.log.Entry.Entry, Looks.{latest, chain}}
 
 -- what a raise says: its variable, the new value and the edge
 abbrev pub said : Entry → ℕ × ℤ × ℕ

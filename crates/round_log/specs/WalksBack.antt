@@ -1,9 +1,7 @@
 use Rattle.std.specs.Prelude.{ℕ, suc, if◌then◌else◌, ◌==◌, nat_le, List, [], ◌∷◌, ◌++◌, map, reverse, take, drop}
 use Rattle.std.specs.List.{list_any, list_all}
-use Rattle.cons_graph.specs.declared.edges.Edge.{Edge}
-use Rattle.round_log.specs.declared.log.Entry.{Entry}
-use Rattle.cons_graph.specs.EdgeNumbers.{edge_at}
-use Rattle.round_log.specs.Looks.{latest, chain}
+use Rattle.cons_graph.specs.{declared.edges.Edge.Edge, EdgeNumbers.edge_at}
+use Rattle.round_log.specs.{declared.log.Entry.Entry, Looks.{latest, chain}}
 
 -- the walk of a variable: the edges of the raises from its latest one back along `prev`, in reverse
 abbrev pub walk_of : List Entry → ℕ → List ℕ

@@ -1,8 +1,6 @@
 ghost use Rattle.cons_graph.specs.Constraints.{IsConstraintGraph};
-ghost use Rattle.round_log.specs.Implied.{HaveCyclesAlike};
-ghost use Rattle.round_log.specs.Orders.{NamesEachOnce};
-ghost use Rattle.round_log.specs.Outcomes.{EndInOneWay, StopInOneWay, DoNotEndAndStop};
-ghost use Rattle.round_log.specs.Rounds.{plan_of};
+ghost use Rattle.round_log.specs.{Implied.HaveCyclesAlike, Orders.NamesEachOnce, Outcomes.{EndInOneWay, StopInOneWay}};
+ghost use Rattle.round_log.specs.{Outcomes.DoNotEndAndStop, Rounds.plan_of};
 
 use cons_graph::Edge;
 

@@ -1,6 +1,5 @@
 ghost use Rattle.std.specs.Prelude.{◌≡◌, ◌≤◌, length, IfOk};
-ghost use Rattle.cons_graph.specs.SimpleWalks.{IsSimplePositiveCycle};
-ghost use Rattle.cons_graph.specs.Lines.{lines_of};
+ghost use Rattle.cons_graph.specs.{SimpleWalks.IsSimplePositiveCycle, Lines.lines_of};
 
 use cons_graph::{Graph, Names, edge_lines};
 use std::alloc::{AllocError, Global};

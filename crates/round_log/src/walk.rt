@@ -1,9 +1,6 @@
 ghost use Rattle.std.specs.Prelude.{◌≡◌, ◌<◌, ◌≤◌, ◌∷◌, length, All, IfOk, Some};
-ghost use Rattle.round_log.specs.Looks.{label};
-ghost use Rattle.round_log.specs.Logs.{raises_in, IsEndedLog};
-ghost use Rattle.round_log.specs.WalksBack.{walk_of};
-ghost use Rattle.cons_graph.specs.SimpleWalks.{heads_of, length_of, HasNoRepeat, WalksFromTo};
-ghost use Rattle.cons_graph.specs.Lines.{lines_of};
+ghost use Rattle.round_log.specs.{Looks.label, Logs.{raises_in, IsEndedLog}, WalksBack.walk_of};
+ghost use Rattle.cons_graph.specs.{SimpleWalks.{heads_of, length_of, HasNoRepeat, WalksFromTo}, Lines.lines_of};
 
 use crate::log::Log;
 use cons_graph::{Graph, Names, edge_lines};

@@ -1,8 +1,5 @@
 ghost use Rattle.std.specs.Prelude.{◌≡◌, [], ◌≤◌, length, map, reverse, drop, IfOk};
-ghost use Rattle.round_log.specs.Looks.{chain};
-ghost use Rattle.round_log.specs.WalksBack.{loop_back};
-ghost use Rattle.round_log.specs.Entries.{AreEntries};
-ghost use Rattle.round_log.specs.Logs.{raises_of};
+ghost use Rattle.round_log.specs.{Looks.chain, WalksBack.loop_back, Entries.AreEntries, Logs.raises_of};
 
 use crate::log::Entry;
 use std::alloc::{AllocError, Global};

@@ -1,13 +1,11 @@
 -- Numbers that meet each of the conditions have no fault.
-use Rattle.std.proofs.Common.{◌≡◌, ◌⊎◌, ℤ, pos, negsuc, ◌≤ℤ◌, ◌%◌, Bool, true, false, [], ◌∷◌, None, refl, inl, inr, arith}
+use Rattle.std.proofs.Common.{◌≡◌, ◌⊎◌, ℤ, pos, negsuc, ◌≤ℤ◌, ◌%◌, Bool, true, false, [], ◌∷◌, None, refl, inl, inr}
+use Rattle.std.proofs.{Common.arith, lemmas.{Bool.{cases_Bool, Decides.nat_tests}, Int.ints}}
 use Rattle.std.specs.Prelude.{if◌then◌else◌}
-use Rattle.std.proofs.lemmas.Bool.{cases_Bool}
-use Rattle.std.proofs.lemmas.Int.{ints}
-use Rattle.std.proofs.lemmas.Bool.Decides.{nat_tests}
-use Rattle.rule_table.specs.Keys.{sizes, spacings, has_buried, first_key, first_outside, is_outside, is_zero, is_no_size}
-use Rattle.rule_table.specs.Faults.{fault_of, is_version, range_fault, has_short_channel, has_short_extension, has_narrow_fet, has_small_pad, gate_length, diffusion_length}
-use Rattle.rule_table.specs.Bounds.{IsLength, IsSize, IsTechnology}
-use Rattle.rule_table.specs.declared.keys.Numbers.{Numbers}
+use Rattle.rule_table.specs.Keys.{sizes, spacings, has_buried, first_key, first_outside, is_outside, is_zero}
+use Rattle.rule_table.specs.{Keys.is_no_size, Faults.{fault_of, is_version, range_fault, has_short_channel}}
+use Rattle.rule_table.specs.Faults.{has_short_extension, has_narrow_fet, has_small_pad, gate_length, diffusion_length}
+use Rattle.rule_table.specs.{Bounds.{IsLength, IsSize, IsTechnology}, declared.keys.Numbers.Numbers}
 use Rattle.rule_table.proofs.Versions.{version_without_buried, buried_spacing}
 
 inside : (z : ℤ) → IsLength z → is_outside (pos 4096) z ≡ false

@@ -1,17 +1,11 @@
 -- Spacings, margins and the widest spacing of numbers without a fault.
-use Rattle.std.proofs.Common.{◌≡◌, ℤ, pos, ◌≤ℤ◌, true, false, List, [], ◌∷◌, map, Option, Some, None, refl, sym, inl, inr, arith}
-use Rattle.std.specs.Prelude.{◌↔◌, IsTrue, IfSome, fold}
-use Rattle.std.proofs.lemmas.Bool.{cases_Bool}
-use Rattle.std.specs.Int.{int_max}
-use Rattle.std.proofs.lemmas.Int.{ints, clamps}
-use Rattle.rule_table.specs.Keys.{has_buried}
-use Rattle.rule_table.specs.Spacing.{row, either, spacing_in, gap_of, all_classes, has_class, greatest, margin_in, widest_in}
-use Rattle.rule_table.specs.Bounds.{IsTechnology}
-use Rattle.rule_table.specs.declared.keys.Numbers.{Numbers}
-use Rattle.rule_table.specs.declared.classes.Rule.{Rule}
-use Rattle.rule_table.specs.declared.classes.Class.{Class}
-use Rattle.rule_table.specs.declared.classes.Class.TheVariants.{M, P, Dc, Dm, C, I, G, B}
-use Rattle.rule_table.proofs.Versions.{buried_spacing}
+use Rattle.std.proofs.Common.{◌≡◌, ℤ, pos, ◌≤ℤ◌, true, false, List, [], ◌∷◌, map, Option, Some, None, refl, sym, inl}
+use Rattle.std.proofs.{Common.{inr, arith}, lemmas.{Bool.cases_Bool, Int.{ints, clamps}}}
+use Rattle.std.specs.{Prelude.{◌↔◌, IsTrue, IfSome, fold}, Int.int_max}
+use Rattle.rule_table.specs.{Keys.has_buried, Spacing.{row, either, spacing_in, gap_of, all_classes, has_class}}
+use Rattle.rule_table.specs.{Spacing.{greatest, margin_in, widest_in}, Bounds.IsTechnology}
+use Rattle.rule_table.specs.declared.{keys.Numbers.Numbers, classes.{Rule.Rule, Class.{Class, TheVariants.{M, P, Dc}}}}
+use Rattle.rule_table.{specs.declared.classes.Class.TheVariants.{Dm, C, I, G, B}, proofs.Versions.buried_spacing}
 
 -- a spacing is from 1 to 4096
 abbrev pub IsSpacing : Rule → Type 0

@@ -1,13 +1,10 @@
 -- What it means that a test of single numbers finds none.
-use Rattle.std.proofs.Common.{◌≡◌, ℕ, ℤ, pos, negsuc, ◌≤ℤ◌, Bool, true, false, List, [], ◌∷◌, Option, Some, None, refl, ap, ◌%◌, ◌≤◌, arith, inl, inr}
-use Rattle.std.specs.Option.{option_or}
-use Rattle.std.specs.Prelude.{if◌then◌else◌}
-use Rattle.std.proofs.lemmas.Int.{ints}
-use Rattle.std.proofs.lemmas.Bool.{cases_Bool}
-use Rattle.std.proofs.lemmas.Bool.Decides.{nat_tests}
-use Rattle.rule_table.specs.Keys.{common_numbers, buried_numbers, sizes, spacings, has_buried, most_of_buried, first_key, first_outside, is_outside, is_zero, is_no_size}
-use Rattle.rule_table.specs.Bounds.{IsLength, IsSize, IsInRange, HasSpacings}
-use Rattle.rule_table.specs.declared.keys.Numbers.{Numbers}
+use Rattle.std.proofs.Common.{◌≡◌, ℕ, ℤ, pos, negsuc, ◌≤ℤ◌, Bool, true, false, List, [], ◌∷◌, Option, Some, None, refl}
+use Rattle.std.proofs.{Common.{ap, ◌%◌, ◌≤◌, arith, inl, inr}, lemmas.{Int.ints, Bool.{cases_Bool, Decides.nat_tests}}}
+use Rattle.std.specs.{Option.option_or, Prelude.if◌then◌else◌}
+use Rattle.rule_table.specs.Keys.{common_numbers, buried_numbers, sizes, spacings, has_buried, most_of_buried}
+use Rattle.rule_table.specs.{Keys.{first_key, first_outside, is_outside, is_zero, is_no_size}, Bounds.IsLength}
+use Rattle.rule_table.specs.{Bounds.{IsSize, IsInRange, HasSpacings}, declared.keys.Numbers.Numbers}
 use Rattle.rule_table.proofs.Versions.{buried_in_version_2}
 
 -- each number passes the test

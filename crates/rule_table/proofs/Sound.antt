@@ -1,16 +1,13 @@
 -- Numbers without a fault meet each of the facts.
-use Rattle.std.proofs.Common.{◌≡◌, ℕ, ℤ, pos, ◌⊎◌, ◌+ℤ◌, ◌≤ℤ◌, ◌<ℤ◌, Bool, true, false, List, [], ◌∷◌, Option, Some, None, option_map, refl, arith, inl, inr}
+use Rattle.std.proofs.Common.{◌≡◌, ℕ, ℤ, pos, ◌⊎◌, ◌+ℤ◌, ◌≤ℤ◌, ◌<ℤ◌, Bool, true, false, List, [], ◌∷◌, Option, Some}
+use Rattle.std.proofs.{Common.{None, option_map, refl, arith, inl, inr}, lemmas.{Int.ints, Bool.cases_Bool}}
 use Rattle.std.specs.Ordering.{int_eq}
-use Rattle.std.proofs.lemmas.Int.{ints}
-use Rattle.std.proofs.lemmas.Bool.{cases_Bool}
-use Rattle.rule_table.specs.Keys.{first_outside}
-use Rattle.rule_table.specs.Faults.{is_version, first_fault, fault_if, tests, fault_of, range_fault, has_short_channel, has_short_extension, has_narrow_fet, has_small_pad, gate_length, diffusion_length}
-use Rattle.rule_table.specs.Bounds.{IsTechnology}
-use Rattle.rule_table.specs.Spacing.{pad_in}
-use Rattle.rule_table.specs.declared.keys.Numbers.{Numbers}
-use Rattle.rule_table.specs.declared.faults.TechFault.{TechFault}
-use Rattle.rule_table.proofs.Versions.{none_in_version_1}
-use Rattle.rule_table.proofs.Ranges.{in_range, none_buried, even_sizes, size_here, positive_spacings}
+use Rattle.rule_table.specs.{Keys.first_outside, Faults.{is_version, first_fault, fault_if, tests, fault_of}}
+use Rattle.rule_table.specs.Faults.{range_fault, has_short_channel, has_short_extension, has_narrow_fet, has_small_pad}
+use Rattle.rule_table.specs.{Faults.{gate_length, diffusion_length}, Bounds.IsTechnology, Spacing.pad_in}
+use Rattle.rule_table.specs.declared.{keys.Numbers.Numbers, faults.TechFault.TechFault}
+use Rattle.rule_table.proofs.{Versions.none_in_version_1, Ranges.{in_range, none_buried, even_sizes, size_here}}
+use Rattle.rule_table.proofs.Ranges.{positive_spacings}
 
 -- no test of the list finds a fault
 abbrev pub AllNone : List (Option TechFault) → Type 0

@@ -1,9 +1,6 @@
 -- What the version says of buried contacts.
-use Rattle.std.proofs.Common.{◌≡◌, pos, ◌≤ℤ◌, true, false, inl, inr, arith}
-use Rattle.std.proofs.lemmas.Int.{ints}
-use Rattle.rule_table.specs.Keys.{has_buried}
-use Rattle.rule_table.specs.Bounds.{IsTechnology}
-use Rattle.rule_table.specs.declared.keys.Numbers.{Numbers}
+use Rattle.std.proofs.{Common.{◌≡◌, pos, ◌≤ℤ◌, true, false, inl, inr, arith}, lemmas.Int.ints}
+use Rattle.rule_table.specs.{Keys.has_buried, Bounds.IsTechnology, declared.keys.Numbers.Numbers}
 
 pub version_with_buried : (n : Numbers) → has_buried n ≡ true → n.version ≡ pos 2
 unfolding has_buried

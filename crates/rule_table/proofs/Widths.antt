@@ -1,12 +1,8 @@
 -- Widths and the pad of numbers without a fault.
-use Rattle.std.proofs.Common.{◌≡◌, ℤ, pos, negsuc, ◌+ℤ◌, ◌*ℤ◌, ◌≤ℤ◌, arith, ap}
+use Rattle.std.proofs.{Common.{◌≡◌, ℤ, pos, negsuc, ◌+ℤ◌, ◌*ℤ◌, ◌≤ℤ◌, arith, ap}, lemmas.Int.ints}
 use Rattle.std.specs.Prelude.{int_div}
-use Rattle.std.proofs.lemmas.Int.{ints}
-use Rattle.rule_table.specs.Spacing.{width_in, pad_in}
-use Rattle.rule_table.specs.Bounds.{IsSize, IsLength, IsTechnology}
-use Rattle.rule_table.specs.declared.keys.Numbers.{Numbers}
-use Rattle.rule_table.specs.declared.classes.Layer.{Layer}
-use Rattle.rule_table.specs.declared.classes.Layer.TheVariants.{Diffusion, Poly, Metal}
+use Rattle.rule_table.specs.{Spacing.{width_in, pad_in}, Bounds.{IsSize, IsLength, IsTechnology}}
+use Rattle.rule_table.specs.declared.{keys.Numbers.Numbers, classes.Layer.{Layer, TheVariants.{Diffusion, Poly, Metal}}}
 
 pub size_of_width : (n : Numbers) → IsTechnology n → (l : Layer) → IsSize (width_in n l)
 size_of_width n h Diffusion = h.width_diffusion

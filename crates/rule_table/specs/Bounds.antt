@@ -1,7 +1,6 @@
 -- What the numbers of a technology meet, fact by fact.
 use Rattle.std.specs.Prelude.{◌≡◌, ◌⊎◌, ℤ, pos, ◌+ℤ◌, ◌*ℤ◌, ◌≤ℤ◌, ◌<ℤ◌, int_div}
-use Rattle.rule_table.specs.Spacing.{pad_in}
-use Rattle.rule_table.specs.declared.keys.Numbers.{Numbers}
+use Rattle.rule_table.specs.{Spacing.pad_in, declared.keys.Numbers.Numbers}
 
 -- a number from 0 to 4096
 abbrev pub IsLength : ℤ → Type 0

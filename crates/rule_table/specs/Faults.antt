@@ -1,12 +1,10 @@
 -- The eight conditions that the numbers of a technology meet, and the first that they break.
-use Rattle.std.specs.Prelude.{ℤ, pos, ◌+ℤ◌, ◌*ℤ◌, Bool, ◌||◌, int_lt, int_le, if◌then◌else◌, List, [], ◌∷◌, Option, Some, None, option_map}
-use Rattle.std.specs.List.{list_any}
-use Rattle.std.specs.Ordering.{int_eq}
-use Rattle.rule_table.specs.Keys.{sizes, spacings, first_key, first_outside, is_no_size, is_zero}
-use Rattle.rule_table.specs.Spacing.{pad_in}
-use Rattle.rule_table.specs.declared.keys.Numbers.{Numbers}
-use Rattle.rule_table.specs.declared.faults.TechFault.{TechFault}
-use Rattle.rule_table.specs.declared.faults.TechFault.TheVariants.{OutOfRange, OddGrid, OddWidth, ZeroSpacing, ShortChannel, ShortExtension, NarrowFet, PadTooSmall}
+use Rattle.std.specs.Prelude.{ℤ, pos, ◌+ℤ◌, ◌*ℤ◌, Bool, ◌||◌, int_lt, int_le, if◌then◌else◌, List, [], ◌∷◌, Option}
+use Rattle.std.specs.{Prelude.{Some, None, option_map}, List.list_any, Ordering.int_eq}
+use Rattle.rule_table.specs.{Keys.{sizes, spacings, first_key, first_outside, is_no_size, is_zero}, Spacing.pad_in}
+use Rattle.rule_table.specs.declared.{keys.Numbers.Numbers, faults.TechFault.{TechFault, TheVariants.OutOfRange}}
+use Rattle.rule_table.specs.declared.faults.TechFault.TheVariants.{OddGrid, OddWidth, ZeroSpacing, ShortChannel}
+use Rattle.rule_table.specs.declared.faults.TechFault.TheVariants.{ShortExtension, NarrowFet, PadTooSmall}
 
 -- the fault, where the test passes
 abbrev pub fault_if : Bool → TechFault → Option TechFault

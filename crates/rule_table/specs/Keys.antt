@@ -1,7 +1,6 @@
 -- The numbers of a technology, each with the place of its key, and the tests of single numbers.
-use Rattle.std.specs.Prelude.{ℕ, ℤ, pos, Bool, not, ◌||◌, if◌then◌else◌, int_lt, int_rem, List, [], ◌∷◌, Option, option_map, find}
-use Rattle.std.specs.Option.{option_or}
-use Rattle.std.specs.Ordering.{int_eq}
+use Rattle.std.specs.Prelude.{ℕ, ℤ, pos, Bool, not, ◌||◌, if◌then◌else◌, int_lt, int_rem, List, [], ◌∷◌, Option}
+use Rattle.std.specs.{Prelude.{option_map, find}, Option.option_or, Ordering.int_eq}
 use Rattle.rule_table.specs.declared.keys.Numbers.{Numbers}
 
 -- the technology has buried contacts: its version is 2

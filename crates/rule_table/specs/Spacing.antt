@@ -1,13 +1,8 @@
 -- The spacing table of the numbers of a technology, and the lengths that follow from the numbers.
-use Rattle.std.specs.Prelude.{ℤ, pos, ◌+ℤ◌, ◌*ℤ◌, Bool, true, false, if◌then◌else◌, List, [], ◌∷◌, map, Option, Some, None}
-use Rattle.std.specs.Prelude.{fold}
-use Rattle.std.specs.Int.{int_max}
-use Rattle.rule_table.specs.Keys.{has_buried}
-use Rattle.rule_table.specs.declared.keys.Numbers.{Numbers}
-use Rattle.rule_table.specs.declared.classes.Rule.{Rule}
-use Rattle.rule_table.specs.declared.classes.Class.{Class}
-use Rattle.rule_table.specs.declared.classes.Class.TheVariants.{M, P, Dc, Dm, C, I, G, B}
-use Rattle.rule_table.specs.declared.classes.Layer.{Layer}
+use Rattle.std.specs.Prelude.{ℤ, pos, ◌+ℤ◌, ◌*ℤ◌, Bool, true, false, if◌then◌else◌, List, [], ◌∷◌, map, Option, Some}
+use Rattle.std.specs.{Prelude.{None, fold}, Int.int_max}
+use Rattle.rule_table.specs.{Keys.has_buried, declared.{keys.Numbers.Numbers, classes.{Rule.Rule, Class.Class}}}
+use Rattle.rule_table.specs.declared.classes.{Class.TheVariants.{M, P, Dc, Dm, C, I, G, B}, Layer.Layer}
 use Rattle.rule_table.specs.declared.classes.Layer.TheVariants.{Diffusion, Poly, Metal}
 
 -- the row of two classes, in the order in which the table names them; only version 2 has that of buried contacts

@@ -1,11 +1,7 @@
 -- What a technology shows of its numbers.
 use Rattle.std.specs.Prelude.{ℤ, pos, Bool, Option}
-use Rattle.rule_table.specs.Keys.{has_buried}
-use Rattle.rule_table.specs.Spacing.{spacing_in, has_class, margin_in, widest_in, width_in, pad_in}
-use Rattle.rule_table.specs.declared.keys.Numbers.{Numbers}
-use Rattle.rule_table.specs.declared.classes.Rule.{Rule}
-use Rattle.rule_table.specs.declared.classes.Class.{Class}
-use Rattle.rule_table.specs.declared.classes.Layer.{Layer}
+use Rattle.rule_table.specs.{Keys.has_buried, Spacing.{spacing_in, has_class, margin_in, widest_in, width_in, pad_in}}
+use Rattle.rule_table.specs.declared.{keys.Numbers.Numbers, classes.{Rule.Rule, Class.Class, Layer.Layer}}
 use Rattle.rule_table.specs.declared.technology.Tech.{Tech}
 
 abbrev pub numbers_of : Tech → Numbers

@@ -1,12 +1,9 @@
 -- What `clap` answers, as what it finds.
 use Rattle.std.proofs.Common.{◌≡◌, ◌∙◌, refl, sym, ap, List, [], ◌∷◌, Some, None, Result, Ok, Err, IsErrAnd, inl, inr}
 use Rattle.clap.specs.Words.{App, HasKind, IsAmong, Kinds, Row, Text, fault_of, kind_of, matches_of}
-use Rattle.clap.specs.declared.error.Error.{Error}
-use Rattle.clap.specs.declared.error.kind.ErrorKind.{ErrorKind}
-use Rattle.run_words.specs.Faults.{fault_by}
-use Rattle.run_words.specs.Lines.{found_in, without_fault}
-use Rattle.run_words.specs.declared.commands.WordsFault.{WordsFault}
-use Rattle.run_words.specs.declared.commands.WordsFault.TheVariants.{Usage, OutOfMemory}
+use Rattle.clap.specs.declared.error.{Error.Error, kind.ErrorKind.ErrorKind}
+use Rattle.run_words.specs.{Faults.fault_by, Lines.{found_in, without_fault}}
+use Rattle.run_words.specs.declared.commands.WordsFault.{WordsFault, TheVariants.{Usage, OutOfMemory}}
 
 -- where there is no fault, the matches are found
 pub taken : (app : App) (words : List Text) (rows : List Row) → fault_of app words ≡ [] → rows ≡ matches_of app words → found_in app words ≡ Some rows

@@ -1,24 +1,15 @@
 -- A required argument has a text wherever `clap` finds matches.
-use Rattle.std.proofs.Common.{◌≡◌, ◌∙◌, ◌<◌, ◌≤◌, ◌&&◌, ℕ, Bool, true, false, not, refl, sym, ap, subst, arith, List, [], ◌∷◌, zero, suc, map, length, codes, Some, is_some, Result, IfOk, inl, inr, true≢false}
-use Rattle.std.specs.List.{list_all, slice_index_or}
-use Rattle.std.specs.Str.{bytes_eq}
-use Rattle.std.proofs.lemmas.List.{get_or-map, length-map}
-use Rattle.std.proofs.lemmas.Result.{IfOk-weaker}
-use Rattle.std.proofs.lemmas.Slice.Eq.{bytes_eq-Decides}
-use Rattle.clap.specs.Words.{App, IsParsedFrom, IsPlain, Rule, Text, app_of, args_of, first_of, found_of, rows_of, rule_of, shape_of}
-use Rattle.clap.specs.Facts.{unwrap_or_range}
-use Rattle.clap.specs.Simple.{HasReadyLeaves, is_ready, is_ready_leaf}
-use Rattle.clap.specs.Faults.{has_free_rules}
-use Rattle.clap.specs.declared.builder.action.ArgAction.TheVariants.{Set}
-use Rattle.clap.specs.declared.builder.arg.Arg.{Arg}
-use Rattle.clap.specs.declared.builder.command.Command.{Command}
-use Rattle.clap.specs.declared.parser.matches.ArgMatches.{ArgMatches}
-use Rattle.clap.proofs.CallerLemmas.{required_has_value}
-use Rattle.clap.proofs.FaultLemmas.{free_args}
-use Rattle.clap.proofs.SimpleLemmas.{all_simple, ready_simple, simple_groups}
-use Rattle.clap.proofs.WalkLemmas.{both, first_value-rows}
-use Rattle.run_words.specs.Lines.{HasText}
-use Rattle.run_words.specs.declared.commands.WordsFault.{WordsFault}
+use Rattle.std.proofs.Common.{◌≡◌, ◌∙◌, ◌<◌, ◌≤◌, ◌&&◌, ℕ, Bool, true, false, not, refl, sym, ap, subst, arith, List}
+use Rattle.std.proofs.Common.{[], ◌∷◌, zero, suc, map, length, codes, Some, is_some, Result, IfOk, inl, inr, true≢false}
+use Rattle.std.proofs.lemmas.{List.{get_or-map, length-map}, Result.IfOk-weaker, Slice.Eq.bytes_eq-Decides}
+use Rattle.std.specs.{List.{list_all, slice_index_or}, Str.bytes_eq}
+use Rattle.clap.specs.Words.{App, IsParsedFrom, IsPlain, Rule, Text, app_of, args_of, first_of, found_of, rows_of}
+use Rattle.clap.specs.{Words.{rule_of, shape_of}, Facts.unwrap_or_range, Simple.{HasReadyLeaves, is_ready}}
+use Rattle.clap.specs.{Simple.is_ready_leaf, Faults.has_free_rules, declared.builder.action.ArgAction.TheVariants.Set}
+use Rattle.clap.specs.declared.{builder.{arg.Arg.Arg, command.Command.Command}, parser.matches.ArgMatches.ArgMatches}
+use Rattle.clap.proofs.{CallerLemmas.required_has_value, FaultLemmas.free_args, SimpleLemmas.{all_simple, ready_simple}}
+use Rattle.clap.proofs.{SimpleLemmas.simple_groups, WalkLemmas.{both, first_value-rows}}
+use Rattle.run_words.specs.{Lines.HasText, declared.commands.WordsFault.WordsFault}
 
 -- no rule but the one at place k has the id
 abbrev pub is_alone : Text → ℕ → List Rule → Bool

@@ -1,11 +1,8 @@
 -- A number of three digits fits.
 use Rattle.std.proofs.Common.{◌≡◌, ◌<◌, ◌≤◌, ◌&&◌, ℕ, true, arith, rules, List, length, Result, Ok}
-use Rattle.std.specs.Prelude.{◌^◌, nat_le}
-use Rattle.std.specs.Char.{is_ascii_digit}
-use Rattle.std.specs.List.{list_all}
-use Rattle.std.specs.Str.Parse.{ParsesUnsigned, digits_value}
 use Rattle.std.proofs.lemmas.Str.Parse.{IsNumeralModel, digits_value_short, numerals_by_value, parse_gives}
-use Rattle.std.proofs.lemmas.Bool.Decides.{nat_tests}
+use Rattle.std.{proofs.lemmas.Bool.Decides.nat_tests, specs.{Prelude.{◌^◌, nat_le}, Char.is_ascii_digit, List.list_all}}
+use Rattle.std.specs.Str.Parse.{ParsesUnsigned, digits_value}
 use Rattle.clap.proofs.WalkLemmas.{both}
 use Rattle.run_words.specs.Values.{is_number}
 

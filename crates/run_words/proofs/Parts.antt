@@ -1,24 +1,19 @@
 -- What `clap` finds in a line of parts: a row for each, in their order.
-use Rattle.std.proofs.Common.{◌≡◌, ◌∙◌, ◌||◌, ℕ, Bool, true, false, not, codes, refl, sym, ap, subst, List, [], ◌∷◌, ◌++◌, map, fold, find, Option, Some, None, is_some, option_map, append_assoc, true≢false}
-use Rattle.std.specs.Prelude.{flat_map, if◌then◌else◌, option_and_then, slice_get}
-use Rattle.std.specs.List.{list_all, list_any}
-use Rattle.std.specs.Option.{option_map_or}
-use Rattle.std.specs.Str.{bytes_eq}
-use Rattle.std.proofs.Math.Bool.{or-true}
-use Rattle.std.proofs.lemmas.List.{append-nil, map-append}
-use Rattle.std.proofs.lemmas.List.Folds.{list_any-append}
-use Rattle.clap.specs.Words.{App, Kinds, Row, Rule, Text, fault_of, first_of, matches_of}
-use Rattle.clap.specs.Walk.{Held, Walk, arg_by_index, default_rows, finished, has_row, is_empty, nothing_held, reading_by, rows_after, settled, walk, with_default}
-use Rattle.clap.specs.Simple.{Shape, argument_words, built, label_of, names_of}
-use Rattle.clap.specs.Facts.{explicit_source}
-use Rattle.clap.specs.Kinds.{or_else}
-use Rattle.clap.specs.Takes.{is_given}
-use Rattle.clap.specs.Faults.{built_fault, check_fault, default_fault, given_default_fault, defaults_fault, settle_fault}
-use Rattle.clap.proofs.FaultLemmas.{leaf_fault}
-use Rattle.clap.proofs.WalkLemmas.{both, find-map, list_any-map}
-use Rattle.run_words.specs.Lines.{found_in, without_fault}
-use Rattle.run_words.specs.PlainLines.{Part, alone, apart, joined, are_new, begins_with_dash, is_plain, is_plain_line, name_of, value_at, value_of, words_of}
-use Rattle.run_words.proofs.Steps.{IsOperand, IsOption, Reads, Settles, between, free_settles, held_settles, reads_alone, reads_apart, reads_joined, reads_none, row_for}
+use Rattle.std.proofs.Common.{◌≡◌, ◌∙◌, ◌||◌, ℕ, Bool, true, false, not, codes, refl, sym, ap, subst, List, [], ◌∷◌}
+use Rattle.std.proofs.Common.{◌++◌, map, fold, find, Option, Some, None, is_some, option_map, append_assoc, true≢false}
+use Rattle.std.proofs.{Math.Bool.or-true, lemmas.List.{append-nil, map-append, Folds.list_any-append}}
+use Rattle.std.specs.{Prelude.{flat_map, if◌then◌else◌, option_and_then, slice_get}, List.{list_all, list_any}}
+use Rattle.std.specs.{Option.option_map_or, Str.bytes_eq}
+use Rattle.clap.specs.{Words.{App, Kinds, Row, Rule, Text, fault_of, first_of, matches_of}, Walk.{Held, Walk}}
+use Rattle.clap.specs.Walk.{arg_by_index, default_rows, finished, has_row, is_empty, nothing_held, reading_by}
+use Rattle.clap.specs.{Walk.{rows_after, settled, walk, with_default}, Simple.{Shape, argument_words, built, label_of}}
+use Rattle.clap.specs.{Simple.names_of, Facts.explicit_source, Kinds.or_else, Takes.is_given, Faults.built_fault}
+use Rattle.clap.specs.Faults.{check_fault, default_fault, given_default_fault, defaults_fault, settle_fault}
+use Rattle.clap.proofs.{FaultLemmas.leaf_fault, WalkLemmas.{both, find-map, list_any-map}}
+use Rattle.run_words.specs.{Lines.{found_in, without_fault}, PlainLines.{Part, alone, apart, joined, are_new}}
+use Rattle.run_words.specs.PlainLines.{begins_with_dash, is_plain, is_plain_line, name_of, value_at, value_of, words_of}
+use Rattle.run_words.proofs.Steps.{IsOperand, IsOption, Reads, Settles, between, free_settles, held_settles}
+use Rattle.run_words.proofs.Steps.{reads_alone, reads_apart, reads_joined, reads_none, row_for}
 
 abbrev pub row_of_part : Part → Row
 row_of_part part = row_for (name_of part) (value_of part)

@@ -1,24 +1,21 @@
 -- The commands, read from lines of parts.
-use Rattle.std.proofs.Common.{◌≡◌, ◌∙◌, ◌||◌, Bool, true, false, not, codes, refl, sym, ap, subst, List, [], ◌∷◌, ◌++◌, map, Option, Some, None, is_some, unwrap_or, option_map, true≢false}
-use Rattle.std.specs.Prelude.{flat_map, if◌then◌else◌, option_and_then}
-use Rattle.std.specs.List.{list_any}
-use Rattle.std.specs.Str.{bytes_eq}
+use Rattle.std.proofs.Common.{◌≡◌, ◌∙◌, ◌||◌, Bool, true, false, not, codes, refl, sym, ap, subst, List, [], ◌∷◌, ◌++◌}
+use Rattle.std.proofs.Common.{map, Option, Some, None, is_some, unwrap_or, option_map, true≢false}
 use Rattle.std.proofs.lemmas.Slice.Eq.{bytes_eq-Decides}
-use Rattle.clap.specs.Words.{App, Kinds, Row, Rule, Text}
-use Rattle.clap.specs.Lexer.{long_of}
-use Rattle.clap.specs.Walk.{arg_by_id, arg_by_index, arg_by_long}
-use Rattle.clap.specs.Simple.{Shape, built, filled, with_index}
-use Rattle.clap.specs.Kinds.{check_kinds}
-use Rattle.clap.specs.Takes.{is_given}
-use Rattle.clap.specs.Faults.{check_fault}
+use Rattle.std.specs.{Prelude.{flat_map, if◌then◌else◌, option_and_then}, List.list_any, Str.bytes_eq}
+use Rattle.clap.specs.{Words.{App, Kinds, Row, Rule, Text}, Lexer.long_of, Walk.{arg_by_id, arg_by_index, arg_by_long}}
+use Rattle.clap.specs.{Simple.{Shape, built, filled, with_index}, Kinds.check_kinds, Takes.is_given, Faults.check_fault}
 use Rattle.clap.specs.declared.builder.action.ArgAction.TheVariants.{Set}
 use Rattle.clap.specs.declared.builder.value_parser.ValueParser.TheVariants as vp
-use Rattle.run_words.specs.Lines.{check_line, compact_line, extract_line, found_in, operand, operand_line, passes, script, script_line, slack_line, split, tech, text_of, without_fault}
-use Rattle.run_words.specs.Words.{Command, Scripted, bench_as, bench_of, check_as, check_of, check_with, compact_as, compact_of, compact_with, extract, extract_of, fmt, fmt_of, operand_of, passes_of, script_as, script_with, slack_as, slack_of, slack_with, split_of, tech_of}
-use Rattle.run_words.specs.PlainLines.{Part, are_new, bench_from, check_from, compact_from, extract_from, fmt_from, is_plain_line, script_from, slack_from, value_at, where_new, words_of}
-use Rattle.run_words.proofs.Steps.{IsOperand, IsOption}
-use Rattle.run_words.proofs.Refusals.{line_refused}
-use Rattle.run_words.proofs.Parts.{IsLine, first_is, given_is, line_found, row_of_part}
+use Rattle.run_words.specs.Lines.{check_line, compact_line, extract_line, found_in, operand, operand_line, passes}
+use Rattle.run_words.specs.{Lines.{script, script_line, slack_line, split, tech, text_of, without_fault}, Words.Command}
+use Rattle.run_words.specs.Words.{Scripted, bench_as, bench_of, check_as, check_of, check_with, compact_as, compact_of}
+use Rattle.run_words.specs.Words.{compact_with, extract, extract_of, fmt, fmt_of, operand_of, passes_of, script_as}
+use Rattle.run_words.specs.{Words.{script_with, slack_as, slack_of, slack_with, split_of, tech_of}, PlainLines.Part}
+use Rattle.run_words.specs.PlainLines.{are_new, bench_from, check_from, compact_from, extract_from, fmt_from}
+use Rattle.run_words.specs.PlainLines.{is_plain_line, script_from, slack_from, value_at, where_new, words_of}
+use Rattle.run_words.proofs.{Steps.{IsOperand, IsOption}, Refusals.line_refused, Parts.{IsLine, first_is, given_is}}
+use Rattle.run_words.proofs.Parts.{line_found, row_of_part}
 
 abbrev Options : Shape → List Text → Type 0
 Options s [] = Unit {0}

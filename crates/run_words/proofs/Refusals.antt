@@ -1,24 +1,21 @@
 -- A line in which a name stands twice is refused.
-use Rattle.std.proofs.Common.{◌≡◌, ◌∙◌, ◌⊎◌, ◌&&◌, ◌||◌, ℕ, Bool, true, false, not, codes, refl, sym, ap, subst, List, [], ◌∷◌, ◌++◌, map, fold, Option, None, inl, inr, true≢false}
-use Rattle.std.specs.Prelude.{flat_map, if◌then◌else◌}
-use Rattle.std.specs.List.{list_all, list_any}
-use Rattle.std.specs.Option.{option_map_or}
-use Rattle.std.specs.Str.{bytes_eq}
-use Rattle.std.proofs.Math.Bool.{or-false}
-use Rattle.std.proofs.lemmas.Slice.Eq.{bytes_eq-Decides}
-use Rattle.std.proofs.lemmas.List.Folds.{list_any-append}
-use Rattle.clap.specs.Words.{App, Kinds, Row, Rule, Text, fault_of}
-use Rattle.clap.specs.Walk.{Held, Step, Walk, has_row, idle, nothing_held, option, value, walk, walk_from, walked}
-use Rattle.clap.specs.Simple.{Shape, argument_words, built}
-use Rattle.clap.specs.Kinds.{or_else}
-use Rattle.clap.specs.Faults.{built_fault, level_fault, positional_fault, react_fault, settle_fault, step_fault, stray_fault, turn_fault, use_fault, walk_fault, word_fault}
-use Rattle.clap.specs.declared.error.kind.ErrorKind.TheVariants.{InvalidSubcommand as subcommand, UnknownArgument as unknown}
-use Rattle.clap.proofs.FaultLemmas.{leaf_fault}
-use Rattle.clap.proofs.WalkLemmas.{both, list_any-map}
-use Rattle.run_words.specs.Lines.{found_in, without_fault}
-use Rattle.run_words.specs.PlainLines.{Part, alone, apart, joined, are_new, begins_with_dash, is_plain, name_of, words_of}
-use Rattle.run_words.proofs.Steps.{Settles, TakesOne, alone_passes, alone_walks, between, free, free_settles, held_settles, holding, joined_passes, joined_walks, name_passes, name_walks, plain_met, row_for, state, value_walks}
-use Rattle.run_words.proofs.Parts.{Fits, IsLine, is_operand_part, not_true, once_only, row_of_part, rows_more, still_first}
+use Rattle.std.proofs.Common.{◌≡◌, ◌∙◌, ◌⊎◌, ◌&&◌, ◌||◌, ℕ, Bool, true, false, not, codes, refl, sym, ap, subst, List}
+use Rattle.std.proofs.{Common.{[], ◌∷◌, ◌++◌, map, fold, Option, None, inl, inr, true≢false}, Math.Bool.or-false}
+use Rattle.std.proofs.lemmas.{Slice.Eq.bytes_eq-Decides, List.Folds.list_any-append}
+use Rattle.std.specs.{Prelude.{flat_map, if◌then◌else◌}, List.{list_all, list_any}, Option.option_map_or, Str.bytes_eq}
+use Rattle.clap.specs.{Words.{App, Kinds, Row, Rule, Text, fault_of}, Walk.{Held, Step, Walk, has_row, idle}}
+use Rattle.clap.specs.{Walk.{nothing_held, option, value, walk, walk_from, walked}, Simple.{Shape, argument_words}}
+use Rattle.clap.specs.{Simple.built, Kinds.or_else, Faults.{built_fault, level_fault, positional_fault, react_fault}}
+use Rattle.clap.specs.Faults.{settle_fault, step_fault, stray_fault, turn_fault, use_fault, walk_fault, word_fault}
+use Rattle.clap.specs.declared.error.kind.ErrorKind.TheVariants.{InvalidSubcommand as subcommand}
+use Rattle.clap.specs.declared.error.kind.ErrorKind.TheVariants.{UnknownArgument as unknown}
+use Rattle.clap.proofs.{FaultLemmas.leaf_fault, WalkLemmas.{both, list_any-map}}
+use Rattle.run_words.specs.{Lines.{found_in, without_fault}, PlainLines.{Part, alone, apart, joined, are_new}}
+use Rattle.run_words.specs.PlainLines.{begins_with_dash, is_plain, name_of, words_of}
+use Rattle.run_words.proofs.Steps.{Settles, TakesOne, alone_passes, alone_walks, between, free, free_settles}
+use Rattle.run_words.proofs.Steps.{held_settles, holding, joined_passes, joined_walks, name_passes, name_walks}
+use Rattle.run_words.proofs.{Steps.{plain_met, row_for, state, value_walks}, Parts.{Fits, IsLine, is_operand_part}}
+use Rattle.run_words.proofs.Parts.{not_true, once_only, row_of_part, rows_more, still_first}
 
 -- some kind of error comes
 abbrev pub fails : Kinds → Bool

@@ -1,20 +1,18 @@
 -- How `clap` walks over the words of a plain command line, part by part.
-use Rattle.std.proofs.Common.{◌≡◌, ◌∙◌, ◌&&◌, ◌||◌, ℕ, Bool, true, false, codes, refl, sym, ap, List, [], ◌∷◌, ◌++◌, fold, Option, Some, None, true≢false}
-use Rattle.std.specs.Prelude.{if◌then◌else◌}
-use Rattle.std.specs.Str.{bytes_eq}
-use Rattle.std.specs.Option.{option_map_or}
-use Rattle.std.proofs.lemmas.List.{append-nil}
-use Rattle.std.proofs.lemmas.Slice.Eq.{bytes_eq-Decides}
-use Rattle.clap.specs.Lexer.{long_of}
-use Rattle.clap.specs.Words.{Row, Rule, Text, Kinds}
-use Rattle.clap.specs.Walk.{Held, Step, Waiting, Walk, after_step, arg_by_id, arg_by_index, arg_by_long, at_row, has_row, idle, more_values, next, option, option_word, plain_word, positional, positional_held, pushed, reacted, settled, takes_values, takes_several, is_multiple, is_pending, to_positional, used, used_by_id, value, walked, word_met}
-use Rattle.clap.specs.Simple.{Shape}
-use Rattle.clap.specs.Kinds.{or_else}
-use Rattle.clap.specs.Faults.{other_fault, positional_fault, react_fault, settle_fault, step_fault, stray_fault, turn_fault, use_fault, walk_fault, word_fault}
-use Rattle.clap.specs.declared.builder.action.ArgAction.TheVariants.{Set}
+use Rattle.std.proofs.Common.{◌≡◌, ◌∙◌, ◌&&◌, ◌||◌, ℕ, Bool, true, false, codes, refl, sym, ap, List, [], ◌∷◌, ◌++◌}
+use Rattle.std.proofs.Common.{fold, Option, Some, None, true≢false}
+use Rattle.std.proofs.lemmas.{List.append-nil, Slice.Eq.bytes_eq-Decides}
+use Rattle.std.specs.{Prelude.if◌then◌else◌, Str.bytes_eq, Option.option_map_or}
+use Rattle.clap.specs.{Lexer.long_of, Words.{Row, Rule, Text, Kinds}, Walk.{Held, Step, Waiting, Walk, after_step}}
+use Rattle.clap.specs.Walk.{arg_by_id, arg_by_index, arg_by_long, at_row, has_row, idle, more_values, next, option}
+use Rattle.clap.specs.Walk.{option_word, plain_word, positional, positional_held, pushed, reacted, settled}
+use Rattle.clap.specs.Walk.{takes_values, takes_several, is_multiple, is_pending, to_positional, used, used_by_id}
+use Rattle.clap.specs.{Walk.{value, walked, word_met}, Simple.Shape, Kinds.or_else, Faults.other_fault}
+use Rattle.clap.specs.Faults.{positional_fault, react_fault, settle_fault, step_fault, stray_fault, turn_fault}
+use Rattle.clap.specs.{Faults.{use_fault, walk_fault, word_fault}, declared.builder.action.ArgAction.TheVariants.Set}
+use Rattle.clap.specs.declared.parser.matches.ValueSource.TheVariants.{CommandLine}
 use Rattle.clap.specs.declared.builder.value_parser.ValueParser.TheVariants as vp
 use Rattle.clap.specs.declared.builder.value_parser.Reading.TheVariants as reading
-use Rattle.clap.specs.declared.parser.matches.ValueSource.TheVariants.{CommandLine}
 use Rattle.run_words.specs.PlainLines.{begins_with_dash}
 
 -- ---- one value of an argument

@@ -1,9 +1,7 @@
 -- The texts that the getters of matches read, in their rows.
 use Rattle.std.proofs.Common.{◌≡◌, ◌∙◌, true, sym, ap, [], Option, Some, None, is_some, unwrap_or, option_map, rules}
-use Rattle.std.specs.Prelude.{IsSome}
-use Rattle.std.specs.Borrow.{Bor}
-use Rattle.clap.specs.Words.{Text, first_of, first_value, rows_of}
-use Rattle.clap.specs.declared.parser.matches.Found.{Found}
+use Rattle.std.specs.{Prelude.IsSome, Borrow.Bor}
+use Rattle.clap.specs.{Words.{Text, first_of, first_value, rows_of}, declared.parser.matches.Found.Found}
 use Rattle.clap.proofs.WalkLemmas.{first_value-rows}
 use Rattle.run_words.specs.Lines.{text_of}
 

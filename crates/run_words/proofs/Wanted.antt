@@ -1,15 +1,11 @@
 -- The arguments that each line wants, and that the lines are simple.
 use Rattle.std.proofs.Common.{◌≡◌, ◌<◌, ◌≤◌, ℕ, true, false, refl, arith, [], length, codes, Some}
-use Rattle.std.specs.List.{list_all, slice_index_or}
-use Rattle.std.specs.Str.{bytes_eq}
-use Rattle.clap.specs.Words.{App, Rule, is_simple_and_free}
-use Rattle.clap.specs.Facts.{unwrap_or_range}
-use Rattle.clap.specs.Simple.{is_ready, is_ready_leaf}
-use Rattle.clap.specs.Faults.{has_free_rules}
-use Rattle.clap.specs.declared.builder.action.ArgAction.TheVariants.{Set}
+use Rattle.std.specs.{List.{list_all, slice_index_or}, Str.bytes_eq}
+use Rattle.clap.specs.{Words.{App, Rule, is_simple_and_free}, Facts.unwrap_or_range, Simple.{is_ready, is_ready_leaf}}
+use Rattle.clap.specs.{Faults.has_free_rules, declared.builder.action.ArgAction.TheVariants.Set}
 use Rattle.clap.proofs.SimpleLemmas.{all_simple}
-use Rattle.run_words.specs.Lines.{check_line, compact_line, extract_line, operand, operand_line, script, script_line, slack_line, tech}
-use Rattle.run_words.proofs.Given.{IsWanted, is_alone}
+use Rattle.run_words.specs.Lines.{check_line, compact_line, extract_line, operand, operand_line, script, script_line}
+use Rattle.run_words.{specs.Lines.{slack_line, tech}, proofs.Given.{IsWanted, is_alone}}
 
 pub operand_is_simple : is_simple_and_free operand_line ≡ true
 operand_is_simple = refl

@@ -1,9 +1,8 @@
 -- A command without where its words lie in memory.
 use Rattle.std.specs.Prelude.{◌≡◌, ℕ, ◌≤◌, true, List}
 use Rattle.lam_geom.specs.declared.boxes.Axis.{Axis}
-use Rattle.run_words.specs.declared.commands.Command.{Command}
-use Rattle.run_words.specs.declared.commands.Command.TheVariants.{Compact, Slack, Jog, Edit, Check, Extract, Fmt, Bench}
-use Rattle.run_words.specs.Values.{axes_in, is_pass_list}
+use Rattle.run_words.specs.declared.commands.Command.{Command, TheVariants.{Compact, Slack, Jog, Edit, Check, Extract}}
+use Rattle.run_words.specs.{declared.commands.Command.TheVariants.{Fmt, Bench}, Values.{axes_in, is_pass_list}}
 use Rattle.run_words.specs.Words as commands
 
 abbrev pub command_from : Command → commands.Command

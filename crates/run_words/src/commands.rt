@@ -2,8 +2,7 @@
 
 ghost use Rattle.std.specs.Prelude.{◌≡◌};
 ghost use Rattle.clap.specs.Words.{kind_of};
-ghost use Rattle.run_words.specs.Faults.{fault_by};
-ghost use Rattle.run_words.specs.declared.commands.WordsFault.TheVariants.{OutOfMemory};
+ghost use Rattle.run_words.specs.{Faults.fault_by, declared.commands.WordsFault.TheVariants.OutOfMemory};
 
 use clap::error::ErrorKind;
 use lam_geom::Axis;

@@ -1,12 +1,9 @@
 -- The first items of pairs, one pair after the other.
 use Rattle.std.proofs.Common.{◌≡◌, ℕ, ◌+◌, ◌<◌, List, [], ◌∷◌, ◌++◌, length, get_or, take, map, sym, ap, ◌∙◌}
-use Rattle.std.proofs.lemmas.List.{take_more, map-append}
-use Rattle.std.proofs.lemmas.List.Elements.{All-nil, All-push}
+use Rattle.std.proofs.lemmas.List.{take_more, map-append, Elements.{All-nil, All-push}}
 use Rattle.sym_items.specs.declared.items.Item.{Item}
-use Rattle.pair_rules.specs.declared.pairs.Pair.{Pair}
-use Rattle.pair_rules.specs.Bound.{item_at}
-use Rattle.scan_line.specs.declared.scan.Near.{Near}
-use Rattle.scan_line.specs.Scan.{AreFirstOf}
+use Rattle.pair_rules.specs.{declared.pairs.Pair.Pair, Bound.item_at}
+use Rattle.scan_line.specs.{declared.scan.Near.Near, Scan.AreFirstOf}
 
 pub none_yet : (items : List Item) (pairs : List Pair) (near : List Near) → near ≡ [] → AreFirstOf items (take 0 pairs) near
 none_yet items pairs near e = record { numbers = ap (map (λ (n : Near). n.number)) e; spacings = ap (map (λ (n : Near). n.s)) e; each = rw e (All-nil (λ (n : Near). n.item.now ≡ item_at items n.number)) }

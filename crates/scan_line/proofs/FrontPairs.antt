@@ -1,28 +1,20 @@
 -- The candidates along a line of items, nearest first, and where a front of them may end.
-use Rattle.std.proofs.Common.{◌≡◌, ℕ, ◌+◌, ◌-◌, ◌<◌, ◌≤◌, ℤ, ◌⊎◌, inl, inr, List, [], ◌∷◌, ◌++◌, length, get_or, take, reverse, Some, true, refl, sym, ap, ◌∙◌, subst, arith}
-use Rattle.std.specs.Prelude.{is_some}
-use Rattle.std.specs.List.{All, AllPairs, Contains, flat_map}
-use Rattle.std.proofs.lemmas.Bool.{cases_lt}
-use Rattle.std.proofs.lemmas.List.{get_or-take, get_or-reverse, get_or_default, length-reverse, length-take-le, flat_map_more, take_more}
-use Rattle.std.proofs.lemmas.List.Sorted.{IsPermutation-reverse, All-permutation, Contains-permutation}
+use Rattle.std.proofs.Common.{◌≡◌, ℕ, ◌+◌, ◌-◌, ◌<◌, ◌≤◌, ℤ, ◌⊎◌, inl, inr, List, [], ◌∷◌, ◌++◌, length, get_or, take}
+use Rattle.std.proofs.Common.{reverse, Some, true, refl, sym, ap, ◌∙◌, subst, arith}
+use Rattle.std.proofs.lemmas.{Bool.cases_lt, List.{get_or-take, get_or-reverse, get_or_default, length-reverse}}
+use Rattle.std.proofs.lemmas.List.{length-take-le, flat_map_more, take_more, Sorted.IsPermutation-reverse}
+use Rattle.std.proofs.lemmas.List.Sorted.{All-permutation, Contains-permutation}
+use Rattle.std.specs.{Prelude.is_some, List.{All, AllPairs, Contains, flat_map}}
 use Rattle.lam_geom.specs.declared.boxes.Axis.{Axis}
 use Rattle.rule_table.specs.declared.technology.Tech.{Tech}
-use Rattle.sym_items.specs.declared.items.Item.{Item}
-use Rattle.sym_items.specs.declared.items.Coords.{Coords}
-use Rattle.sym_items.specs.Boxes.{HasBox}
-use Rattle.pair_rules.specs.declared.pairs.Pair.{Pair}
-use Rattle.pair_rules.specs.Bound.{item_at, no_item}
-use Rattle.pair_rules.specs.Candidates.{spacing_at, is_facing, pairs_at, candidates_to}
-use Rattle.pair_rules.specs.Clean.{IsClean}
-use Rattle.scan_line.specs.declared.covering.Cover.{Cover}
-use Rattle.scan_line.specs.declared.covering.Cover.TheVariants.{Nothing, One, Two}
-use Rattle.scan_line.specs.Order.{ComesBefore}
-use Rattle.scan_line.specs.Lines.{IsLineTo}
-use Rattle.scan_line.specs.Front.{IsShadowed, IsNearer, IsBehind, IsFront}
+use Rattle.sym_items.specs.{declared.items.{Item.Item, Coords.Coords}, Boxes.HasBox}
+use Rattle.pair_rules.specs.{declared.pairs.Pair.Pair, Bound.{item_at, no_item}, Candidates.{spacing_at, is_facing}}
+use Rattle.pair_rules.specs.{Candidates.{pairs_at, candidates_to}, Clean.IsClean}
+use Rattle.scan_line.specs.declared.covering.Cover.{Cover, TheVariants.{Nothing, One, Two}}
+use Rattle.scan_line.specs.{Order.ComesBefore, Lines.IsLineTo, Front.{IsShadowed, IsNearer, IsBehind, IsFront}}
 use Rattle.scan_line.specs.Cover.{Covers, AreForeign, IsIn, IsMixed, IsClosedBy}
-use Rattle.scan_line.proofs.MetalItems.{cover_shadows, one_of_three}
-use Rattle.scan_line.proofs.Reach.{some_there}
-use Rattle.scan_line.proofs.PairRuns.{pairs_of, all_pairs_of, in_order_of, contains_pair_of, pair_to, candidate_of}
+use Rattle.scan_line.proofs.{MetalItems.{cover_shadows, one_of_three}, Reach.some_there, PairRuns.pairs_of}
+use Rattle.scan_line.proofs.PairRuns.{all_pairs_of, in_order_of, contains_pair_of, pair_to, candidate_of}
 
 -- ---- lines
 

@@ -1,17 +1,11 @@
 -- Which lanes an item meets.
-use Rattle.std.proofs.Common.{◌≡◌, ℕ, ◌+◌, ◌-◌, ◌<◌, Bool, cond, leb, ◌&&◌, List, [], ◌∷◌, ◌++◌, length, take, get_or, sym, ap, ◌∙◌, arith}
+use Rattle.std.proofs.Common.{◌≡◌, ℕ, ◌+◌, ◌-◌, ◌<◌, Bool, cond, leb, ◌&&◌, List, [], ◌∷◌, ◌++◌, length, take, get_or}
+use Rattle.std.proofs.{Common.{sym, ap, ◌∙◌, arith}, lemmas.{Bool.Decides.nat_tests, List.Elements.filter_more}}
 use Rattle.std.specs.List.{filter}
-use Rattle.std.proofs.lemmas.Bool.Decides.{nat_tests}
-use Rattle.std.proofs.lemmas.List.Elements.{filter_more}
 use Rattle.lam_geom.specs.declared.boxes.Axis.{Axis}
-use Rattle.sym_items.specs.declared.items.Item.{Item}
-use Rattle.sym_items.specs.declared.items.Coords.{Coords}
-use Rattle.sym_items.specs.Sides.{Sides}
-use Rattle.pair_rules.specs.Bound.{item_at}
-use Rattle.pair_rules.specs.Candidates.{sides_at}
-use Rattle.scan_line.specs.declared.stretches.Stretches.{Stretches}
-use Rattle.scan_line.specs.Stretches.{stretch_of}
-use Rattle.scan_line.specs.Levels.{meets_lane, lane_of}
+use Rattle.sym_items.specs.{declared.items.{Item.Item, Coords.Coords}, Sides.Sides}
+use Rattle.pair_rules.specs.{Bound.item_at, Candidates.sides_at}
+use Rattle.scan_line.specs.{declared.stretches.Stretches.Stretches, Stretches.stretch_of, Levels.{meets_lane, lane_of}}
 
 one_lower : (n t : ℕ) → leb (n - 1) t ≡ leb n (t + 1)
 one_lower n t = grind (arith, nat_tests)

@@ -1,32 +1,17 @@
 -- Metal that covers metal: what stands far behind three such items, one of them shadows.
-use Rattle.std.proofs.Common.{◌≡◌, ◌≢◌, ℕ, ◌<◌, true, ℤ, pos, ◌+ℤ◌, ◌≤ℤ◌, ◌<ℤ◌, ◌⊎◌, inl, inr, List, length, Option, Some, refl, sym, ap, ◌∙◌, subst, unwrap_or, arith}
-use Rattle.std.specs.Prelude.{IfSome, ◌==◌}
-use Rattle.std.proofs.lemmas.Bool.{cases_Bool, eqb-true, eqb-false}
-use Rattle.std.proofs.lemmas.Int.{ints, clamps}
-use Rattle.lam_geom.specs.declared.boxes.Axis.{Axis}
-use Rattle.lam_geom.specs.declared.boxes.Axis.TheVariants.{X, Y}
-use Rattle.rule_table.specs.declared.keys.Numbers.{Numbers}
-use Rattle.rule_table.specs.declared.classes.Class.{Class}
-use Rattle.rule_table.specs.declared.classes.Class.TheVariants.{M}
-use Rattle.rule_table.specs.declared.classes.Rule.{Rule}
-use Rattle.rule_table.specs.declared.technology.Tech.{Tech}
-use Rattle.rule_table.specs.Technology.{numbers_of}
-use Rattle.rule_table.specs.Spacing.{spacing_in}
-use Rattle.sym_items.specs.declared.items.Item.{Item}
-use Rattle.sym_items.specs.declared.items.Coords.{Coords}
-use Rattle.sym_items.specs.Boxes.{HasBox}
-use Rattle.sym_items.specs.Sides.{Sides, gap_on_y, gap_of_sides, gap_in}
-use Rattle.pair_rules.specs.declared.pairs.Pair.{Pair}
-use Rattle.pair_rules.specs.Bound.{item_at, is_poly_on_diffusion, bound_spacing}
-use Rattle.pair_rules.specs.Candidates.{IsCandidate, sides_at, spacing_at}
-use Rattle.pair_rules.specs.Clean.{IsClean}
-use Rattle.pair_rules.specs.Kept.{Shadows, least_of}
-use Rattle.pair_rules.proofs.BoundItems.{out_of_bound, bound_exactly}
-use Rattle.pair_rules.proofs.EitherOrder.{bound_symmetric}
+use Rattle.std.proofs.Common.{◌≡◌, ◌≢◌, ℕ, ◌<◌, true, ℤ, pos, ◌+ℤ◌, ◌≤ℤ◌, ◌<ℤ◌, ◌⊎◌, inl, inr, List, length, Option}
+use Rattle.std.proofs.{Common.{Some, refl, sym, ap, ◌∙◌, subst, unwrap_or, arith}, lemmas.Bool.{cases_Bool, eqb-true}}
+use Rattle.std.{proofs.lemmas.{Bool.eqb-false, Int.{ints, clamps}}, specs.Prelude.{IfSome, ◌==◌}}
+use Rattle.lam_geom.specs.declared.boxes.Axis.{Axis, TheVariants.{X, Y}}
+use Rattle.rule_table.specs.declared.{keys.Numbers.Numbers, classes.{Class.{Class, TheVariants.M}, Rule.Rule}}
+use Rattle.rule_table.specs.{declared.technology.Tech.Tech, Technology.numbers_of, Spacing.spacing_in}
+use Rattle.sym_items.specs.declared.items.{Item.Item, Coords.Coords}
+use Rattle.sym_items.specs.{Boxes.HasBox, Sides.{Sides, gap_on_y, gap_of_sides, gap_in}}
+use Rattle.pair_rules.specs.{declared.pairs.Pair.Pair, Bound.{item_at, is_poly_on_diffusion, bound_spacing}}
+use Rattle.pair_rules.specs.{Candidates.{IsCandidate, sides_at, spacing_at}, Clean.IsClean, Kept.{Shadows, least_of}}
+use Rattle.pair_rules.proofs.{BoundItems.{out_of_bound, bound_exactly}, EitherOrder.bound_symmetric}
 use Rattle.pair_rules.proofs.FacingItems.{out_of_facing}
-use Rattle.scan_line.specs.Order.{begin_of, ComesBefore}
-use Rattle.scan_line.specs.Cover.{Covers, AreForeign}
-use Rattle.scan_line.proofs.Spacings.{positive}
+use Rattle.scan_line.{specs.{Order.{begin_of, ComesBefore}, Cover.{Covers, AreForeign}}, proofs.Spacings.positive}
 
 -- ---- bound metal
 

@@ -1,26 +1,15 @@
 -- Items near another lie in its lane.
-use Rattle.std.proofs.Common.{◌≡◌, ℕ, zero, suc, ◌+◌, ◌/◌, ◌<◌, ◌≤◌, ℤ, pos, negsuc, ◌+ℤ◌, ◌-ℤ◌, ◌≤ℤ◌, ◌<ℤ◌, Bool, true, false, cond, leb, ◌&&◌, List, [], ◌∷◌, length, sym, ap, ◌∙◌, subst, arith}
-use Rattle.std.specs.Int.{int_max}
-use Rattle.std.specs.Int.RustNames.{unsigned_abs}
-use Rattle.std.specs.List.{Contains, filter}
-use Rattle.std.proofs.Math.Nat.{div-mul-le_self}
-use Rattle.std.proofs.lemmas.Bool.Decides.{nat_tests}
-use Rattle.std.proofs.lemmas.Int.{ints, clamps}
-use Rattle.std.proofs.lemmas.List.Elements.{All-filter}
-use Rattle.std.proofs.lemmas.List.Kept.{AllPairs-filter}
-use Rattle.std.proofs.lemmas.Nat.{le-div}
+use Rattle.std.proofs.Common.{◌≡◌, ℕ, zero, suc, ◌+◌, ◌/◌, ◌<◌, ◌≤◌, ℤ, pos, negsuc, ◌+ℤ◌, ◌-ℤ◌, ◌≤ℤ◌, ◌<ℤ◌, Bool, true}
+use Rattle.std.proofs.Common.{false, cond, leb, ◌&&◌, List, [], ◌∷◌, length, sym, ap, ◌∙◌, subst, arith}
+use Rattle.std.proofs.{Math.Nat.div-mul-le_self, lemmas.{Bool.Decides.nat_tests, Int.{ints, clamps}}}
+use Rattle.std.proofs.lemmas.{List.{Elements.All-filter, Kept.AllPairs-filter}, Nat.le-div}
+use Rattle.std.specs.{Int.{int_max, RustNames.unsigned_abs}, List.{Contains, filter}}
 use Rattle.lam_geom.specs.declared.boxes.Axis.{Axis}
-use Rattle.sym_items.specs.declared.items.Item.{Item}
-use Rattle.sym_items.specs.declared.items.Coords.{Coords}
-use Rattle.sym_items.specs.Sides.{Sides, gap_on_y}
-use Rattle.pair_rules.specs.Bound.{item_at}
-use Rattle.pair_rules.specs.Candidates.{sides_at}
-use Rattle.scan_line.specs.declared.stretches.Stretches.{Stretches}
-use Rattle.scan_line.specs.Stretches.{height_above, stretch_of}
-use Rattle.scan_line.specs.declared.level.Level.{Level}
-use Rattle.scan_line.specs.Levels.{meets_lane, IsLevelOf, IsLaneOver}
-use Rattle.scan_line.specs.Lanes.{IsListNear}
-use Rattle.scan_line.specs.Order.{ComesBefore, IsScanOrder}
+use Rattle.sym_items.specs.{declared.items.{Item.Item, Coords.Coords}, Sides.{Sides, gap_on_y}}
+use Rattle.pair_rules.specs.{Bound.item_at, Candidates.sides_at}
+use Rattle.scan_line.specs.declared.{stretches.Stretches.Stretches, level.Level.Level}
+use Rattle.scan_line.specs.{Stretches.{height_above, stretch_of}, Levels.{meets_lane, IsLevelOf, IsLaneOver}}
+use Rattle.scan_line.specs.{Lanes.IsListNear, Order.{ComesBefore, IsScanOrder}}
 
 -- a higher place lies in the same stretch or a later one
 

@@ -1,16 +1,14 @@
 -- The candidates that end at one item, in the order of any list of items.
-use Rattle.std.proofs.Common.{◌≡◌, ℕ, zero, suc, ◌<◌, ℤ, List, [], ◌∷◌, ◌++◌, length, get_or, Option, Some, None, refl, sym, ◌∙◌, subst, zero-add, arith}
+use Rattle.std.proofs.Common.{◌≡◌, ℕ, zero, suc, ◌<◌, ℤ, List, [], ◌∷◌, ◌++◌, length, get_or, Option, Some, None, refl}
+use Rattle.std.proofs.Common.{sym, ◌∙◌, subst, zero-add, arith}
+use Rattle.std.proofs.lemmas.List.{FromFn.{length-range_with_len, get_or-range_with_len}, Elements.{All-nil, All-cons}}
+use Rattle.std.proofs.lemmas.List.{Elements.All-contains, Kept.AllPairs-cons}
 use Rattle.std.specs.List.{All, AllPairs, Any, Contains, flat_map, range_with_len}
-use Rattle.std.proofs.lemmas.List.FromFn.{length-range_with_len, get_or-range_with_len}
-use Rattle.std.proofs.lemmas.List.Elements.{All-nil, All-cons, All-contains}
-use Rattle.std.proofs.lemmas.List.Kept.{AllPairs-cons}
 use Rattle.list_facts.proofs.Some.{any_flat_map}
 use Rattle.lam_geom.specs.declared.boxes.Axis.{Axis}
 use Rattle.rule_table.specs.declared.technology.Tech.{Tech}
-use Rattle.sym_items.specs.declared.items.Item.{Item}
-use Rattle.sym_items.specs.declared.items.Coords.{Coords}
-use Rattle.pair_rules.specs.declared.pairs.Pair.{Pair}
-use Rattle.pair_rules.specs.Candidates.{spacing_at, pair_with, pairs_at, candidates_to}
+use Rattle.sym_items.specs.declared.items.{Item.Item, Coords.Coords}
+use Rattle.pair_rules.specs.{declared.pairs.Pair.Pair, Candidates.{spacing_at, pair_with, pairs_at, candidates_to}}
 use Rattle.pair_rules.proofs.Pieces.{contains_piece_of, contains_pair}
 
 -- the pairs of some items with item j, in their order

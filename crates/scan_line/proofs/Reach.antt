@@ -1,20 +1,13 @@
 -- What faces an item lies near it, and before it.
-use Rattle.std.proofs.Common.{◌≡◌, ℕ, true, ℤ, ◌<ℤ◌, List, Option, Some, None, refl, arith}
+use Rattle.std.proofs.{Common.{◌≡◌, ℕ, true, ℤ, ◌<ℤ◌, List, Option, Some, None, refl, arith}, lemmas.Int.ints}
 use Rattle.std.specs.Prelude.{is_some}
-use Rattle.std.proofs.lemmas.Int.{ints}
 use Rattle.lam_geom.specs.declared.boxes.Axis.{Axis}
-use Rattle.rule_table.specs.declared.technology.Tech.{Tech}
-use Rattle.rule_table.specs.Technology.{widest_of}
-use Rattle.sym_items.specs.declared.items.Item.{Item}
-use Rattle.sym_items.specs.declared.items.Coords.{Coords}
-use Rattle.sym_items.specs.Boxes.{HasBox}
-use Rattle.sym_items.specs.Sides.{gap_on_y}
-use Rattle.pair_rules.specs.Bound.{item_at}
-use Rattle.pair_rules.specs.Candidates.{sides_at, spacing_at, is_facing}
+use Rattle.rule_table.specs.{declared.technology.Tech.Tech, Technology.widest_of}
+use Rattle.sym_items.specs.{declared.items.{Item.Item, Coords.Coords}, Boxes.HasBox, Sides.gap_on_y}
+use Rattle.pair_rules.specs.{Bound.item_at, Candidates.{sides_at, spacing_at, is_facing}}
 use Rattle.pair_rules.proofs.FacingItems.{out_of_facing}
 use Rattle.scan_line.specs.Order.{ComesBefore}
-use Rattle.scan_line.proofs.Spacings.{positive, within_widest}
-use Rattle.scan_line.proofs.MetalItems.{ordered, comes_before}
+use Rattle.scan_line.proofs.{Spacings.{positive, within_widest}, MetalItems.{ordered, comes_before}}
 
 pub some_there : (o : Option ℤ) → is_some o ≡ true → (s : ℤ) × (o ≡ Some s)
 some_there None e = cc

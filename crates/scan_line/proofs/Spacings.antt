@@ -1,15 +1,10 @@
 -- How great the spacing of a bound pair is.
-use Rattle.std.proofs.Common.{◌≡◌, ℤ, pos, ◌≤ℤ◌, Option, Some, subst, arith}
-use Rattle.std.specs.Prelude.{IfSome}
-use Rattle.std.proofs.lemmas.Int.{ints}
-use Rattle.rule_table.specs.declared.classes.Rule.{Rule}
-use Rattle.rule_table.specs.declared.technology.Tech.{Tech}
+use Rattle.std.{proofs.{Common.{◌≡◌, ℤ, pos, ◌≤ℤ◌, Option, Some, subst, arith}, lemmas.Int.ints}, specs.Prelude.IfSome}
+use Rattle.rule_table.specs.declared.{classes.Rule.Rule, technology.Tech.Tech}
 use Rattle.rule_table.specs.Technology.{numbers_of, spacing_of, margin_of, widest_of}
-use Rattle.rule_table.proofs.Sound.{sound}
-use Rattle.rule_table.proofs.Margins.{IsSpacing, spacing_bounds, margin_above, widest_above}
+use Rattle.rule_table.proofs.{Sound.sound, Margins.{IsSpacing, spacing_bounds, margin_above, widest_above}}
 use Rattle.sym_items.specs.declared.items.Item.{Item}
-use Rattle.pair_rules.specs.Bound.{bound_spacing}
-use Rattle.pair_rules.proofs.BoundItems.{out_of_bound}
+use Rattle.pair_rules.{specs.Bound.bound_spacing, proofs.BoundItems.out_of_bound}
 
 at_rule : (P : Rule → Type 0) (o : Option Rule) (r : Rule) → o ≡ Some r → IfSome o P → P r
 at_rule P o r e h = let Q : Option Rule → Type 0 = λ q. IfSome q P in subst Q e h

@@ -2,13 +2,9 @@
 use Rattle.std.specs.Prelude.{◌≡◌, ◌≢◌, ℕ, ◌⊎◌, pos, ◌≤ℤ◌, List}
 use Rattle.lam_geom.specs.declared.boxes.Axis.{Axis}
 use Rattle.rule_table.specs.declared.classes.Class.TheVariants.{M}
-use Rattle.sym_items.specs.declared.items.Item.{Item}
-use Rattle.sym_items.specs.declared.items.Coords.{Coords}
-use Rattle.pair_rules.specs.Bound.{item_at}
-use Rattle.pair_rules.specs.Candidates.{sides_at}
-use Rattle.pair_rules.specs.Kept.{least_of}
-use Rattle.scan_line.specs.declared.covering.Cover.{Cover}
-use Rattle.scan_line.specs.declared.covering.Cover.TheVariants.{Nothing, One, Two}
+use Rattle.sym_items.specs.declared.items.{Item.Item, Coords.Coords}
+use Rattle.pair_rules.specs.{Bound.item_at, Candidates.sides_at, Kept.least_of}
+use Rattle.scan_line.specs.declared.covering.Cover.{Cover, TheVariants.{Nothing, One, Two}}
 
 -- item k covers item j: it is metal, it reaches across the axis over all of j, and its least extent is not negative
 pub record Covers (axis : Axis) (c : Coords) (items : List Item) (k j : ℕ) : Type 0 where

@@ -1,15 +1,10 @@
 -- Lanes over stretches of one length.
-use Rattle.std.specs.Prelude.{◌≡◌, ℕ, ◌+◌, ◌<◌, ◌≤◌, ℤ, Bool, ◌&&◌, nat_le, Vec, List, [], length, map, filter, slice_index_or}
-use Rattle.std.specs.declared.alloc.Global.{Global}
+use Rattle.std.specs.Prelude.{◌≡◌, ℕ, ◌+◌, ◌<◌, ◌≤◌, ℤ, Bool, ◌&&◌, nat_le, Vec, List, [], length, map, filter}
+use Rattle.std.specs.{Prelude.slice_index_or, declared.alloc.Global.Global}
 use Rattle.lam_geom.specs.declared.boxes.Axis.{Axis}
-use Rattle.sym_items.specs.declared.items.Item.{Item}
-use Rattle.sym_items.specs.declared.items.Coords.{Coords}
-use Rattle.sym_items.specs.Sides.{Sides}
-use Rattle.pair_rules.specs.Bound.{item_at}
-use Rattle.pair_rules.specs.Candidates.{sides_at}
-use Rattle.scan_line.specs.declared.stretches.Stretches.{Stretches}
-use Rattle.scan_line.specs.declared.level.Level.{Level}
-use Rattle.scan_line.specs.Stretches.{stretch_of, IsCut}
+use Rattle.sym_items.specs.{declared.items.{Item.Item, Coords.Coords}, Sides.Sides}
+use Rattle.pair_rules.specs.{Bound.item_at, Candidates.sides_at}
+use Rattle.scan_line.specs.{declared.{stretches.Stretches.Stretches, level.Level.Level}, Stretches.{stretch_of, IsCut}}
 
 -- the list of a number
 abbrev pub list_at : List (Vec ℕ Global) → ℕ → List ℕ

@@ -1,10 +1,7 @@
 -- The order in which a scan along an axis comes to items.
 use Rattle.std.specs.Prelude.{◌≡◌, ℕ, ◌<◌, ◌⊎◌, ℤ, ◌<ℤ◌, List, length, All, AllPairs, Contains}
 use Rattle.lam_geom.specs.declared.boxes.Axis.{Axis}
-use Rattle.sym_items.specs.declared.items.Item.{Item}
-use Rattle.sym_items.specs.declared.items.Coords.{Coords}
-use Rattle.sym_items.specs.Values.{value_at}
-use Rattle.sym_items.specs.Transposed.{values_along}
+use Rattle.sym_items.specs.{declared.items.{Item.Item, Coords.Coords}, Values.value_at, Transposed.values_along}
 use Rattle.pair_rules.specs.Candidates.{low_end}
 
 -- where item k begins on an axis: the value of its low end

@@ -1,17 +1,11 @@
 -- A scan that stands somewhere: which item it has come to, and what it lends of the candidates that end there.
-use Rattle.std.specs.Prelude.{◌≡◌, ℕ, ◌+◌, ◌<◌, ◌≤◌, ◌^◌, Option, Some, None, List, [], length, map, All, slice_get, min}
+use Rattle.std.specs.Prelude.{◌≡◌, ℕ, ◌+◌, ◌<◌, ◌≤◌, ◌^◌, Option, Some, None, List, [], length, map, All, slice_get}
+use Rattle.std.specs.Prelude.{min}
 use Rattle.lam_geom.specs.declared.boxes.Axis.{Axis}
 use Rattle.rule_table.specs.declared.technology.Tech.{Tech}
-use Rattle.sym_items.specs.declared.items.Item.{Item}
-use Rattle.sym_items.specs.declared.items.Coords.{Coords}
-use Rattle.sym_items.specs.Boxes.{HasBox}
-use Rattle.pair_rules.specs.declared.pairs.Pair.{Pair}
-use Rattle.pair_rules.specs.Bound.{item_at}
-use Rattle.pair_rules.specs.Candidates.{candidates_to}
-use Rattle.scan_line.specs.declared.scan.Near.{Near}
-use Rattle.scan_line.specs.declared.scan.Scan.{Scan}
-use Rattle.scan_line.specs.Order.{IsScanOrder}
-use Rattle.scan_line.specs.Lanes.{AreLanesOf}
+use Rattle.sym_items.specs.{declared.items.{Item.Item, Coords.Coords}, Boxes.HasBox}
+use Rattle.pair_rules.specs.{declared.pairs.Pair.Pair, Bound.item_at, Candidates.candidates_to}
+use Rattle.scan_line.specs.{declared.scan.{Near.Near, Scan.Scan}, Order.IsScanOrder, Lanes.AreLanesOf}
 
 -- the first items of some pairs, with the spacings of the pairs, in their order
 pub record AreFirstOf (items : List Item) (pairs : List Pair) (near : List Near) : Type 0 where

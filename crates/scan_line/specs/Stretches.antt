@@ -1,7 +1,5 @@
 -- The stretches into which a layout is cut.
-use Rattle.std.specs.Prelude.{ℕ, ◌^◌, ◌/◌, ◌<◌, min, ℤ, ◌-ℤ◌}
-use Rattle.std.specs.Int.{int_max}
-use Rattle.std.specs.Int.RustNames.{unsigned_abs}
+use Rattle.std.specs.{Prelude.{ℕ, ◌^◌, ◌/◌, ◌<◌, min, ℤ, ◌-ℤ◌}, Int.{int_max, RustNames.unsigned_abs}}
 use Rattle.scan_line.specs.declared.stretches.Stretches.{Stretches}
 
 -- how far a place lies above a base: 0 where it lies below

@@ -2,11 +2,8 @@
 
 ghost use Rattle.std.specs.Prelude.{◌≡◌, ◌<◌, ◌^◌, ◌++◌, length, All, OnOk, IfOk};
 ghost use Rattle.sym_items.specs.Boxes.{HasBox};
-ghost use Rattle.pair_rules.specs.Candidates.{candidates_to, pairs_at, is_facing};
-ghost use Rattle.pair_rules.specs.Clean.{IsClean};
-ghost use Rattle.scan_line.specs.Front.{IsFront};
-ghost use Rattle.scan_line.specs.Lanes.{AreLanesOf};
-ghost use Rattle.scan_line.specs.Lines.{IsLineTo};
+ghost use Rattle.pair_rules.specs.{Candidates.{candidates_to, pairs_at, is_facing}, Clean.IsClean};
+ghost use Rattle.scan_line.specs.{Front.IsFront, Lanes.AreLanesOf, Lines.IsLineTo};
 
 use crate::covering::{Cover, covers};
 use crate::lanes::Lanes;

@@ -2,15 +2,9 @@
 
 ghost use Rattle.std.specs.Prelude.{◌≡◌, ℕ, ◌<◌, ◌^◌, ℤ, pos, ◌≤ℤ◌, ◌<ℤ◌, length, All, AllPairs, Contains, IfOk, List};
 ghost use Rattle.lam_geom.specs.declared.boxes.Axis.{Axis};
-ghost use Rattle.sym_items.specs.declared.items.Item.{Item};
-ghost use Rattle.sym_items.specs.declared.items.Coords.{Coords};
-ghost use Rattle.sym_items.specs.Boxes.{HasBox};
-ghost use Rattle.sym_items.specs.Sides.{gap_on_y};
-ghost use Rattle.pair_rules.specs.Bound.{item_at};
-ghost use Rattle.pair_rules.specs.Candidates.{sides_at};
-ghost use Rattle.scan_line.specs.Order.{ComesBefore, IsScanOrder};
-ghost use Rattle.scan_line.specs.Levels.{IsLevelOf};
-ghost use Rattle.scan_line.specs.Lanes.{AreLanesOf, IsListNear};
+ghost use Rattle.sym_items.specs.{declared.items.{Item.Item, Coords.Coords}, Boxes.HasBox, Sides.gap_on_y};
+ghost use Rattle.pair_rules.specs.{Bound.item_at, Candidates.sides_at};
+ghost use Rattle.scan_line.specs.{Order.{ComesBefore, IsScanOrder}, Levels.IsLevelOf, Lanes.{AreLanesOf, IsListNear}};
 
 use crate::level::Level;
 use crate::sorting::{begins_of, part_before, sort_order};

@@ -1,39 +1,26 @@
 -- What a front tells of the kept pairs.
-use Rattle.std.proofs.Common.{◌≡◌, ◌≢◌, ℕ, suc, ◌<◌, Bool, true, false, not, ℤ, pos, ◌≤ℤ◌, ◌<ℤ◌, inl, inr, List, [], ◌∷◌, ◌++◌, length, get_or, take, drop, Some, refl, sym, ap, ◌∙◌, subst, arith}
-use Rattle.std.specs.List.{All, AllPairs, Contains, filter, list_any}
-use Rattle.std.specs.List.Sorted.{IsPermutation, IsNonDecreasingBy}
-use Rattle.std.proofs.lemmas.Int.{ints}
-use Rattle.std.proofs.lemmas.Bool.{and_parts, not-true, true≢false}
-use Rattle.std.proofs.lemmas.Bool.Decides.{same_from_decides}
-use Rattle.std.proofs.lemmas.List.Elements.{All-contains, All-weaker, Contains-append_left, Contains-append_right, Contains-append_cases}
-use Rattle.std.proofs.Math.Seq.{drop-cons}
-use Rattle.std.proofs.lemmas.List.{take-append-drop}
-use Rattle.std.proofs.lemmas.List.Folds.{Any-from_list_any, list_any_at}
-use Rattle.std.proofs.lemmas.List.Kept.{AllPairs-filter}
-use Rattle.std.proofs.lemmas.List.Sorted.{Contains-permutation, IsPermutation-sym}
-use Rattle.lam_geom.specs.declared.boxes.Axis.{Axis}
-use Rattle.lam_geom.specs.declared.boxes.Axis.TheVariants.{X, Y}
+use Rattle.std.proofs.Common.{◌≡◌, ◌≢◌, ℕ, suc, ◌<◌, Bool, true, false, not, ℤ, pos, ◌≤ℤ◌, ◌<ℤ◌, inl, inr, List, []}
+use Rattle.std.proofs.Common.{◌∷◌, ◌++◌, length, get_or, take, drop, Some, refl, sym, ap, ◌∙◌, subst, arith}
+use Rattle.std.proofs.lemmas.{Int.ints, Bool.{and_parts, not-true, true≢false, Decides.same_from_decides}}
+use Rattle.std.proofs.lemmas.List.{take-append-drop, Elements.{All-contains, All-weaker, Contains-append_left}}
+use Rattle.std.proofs.lemmas.List.{Elements.{Contains-append_right, Contains-append_cases}, Folds.Any-from_list_any}
+use Rattle.std.proofs.lemmas.List.{Folds.list_any_at, Kept.AllPairs-filter, Sorted.Contains-permutation}
+use Rattle.std.proofs.{lemmas.List.Sorted.IsPermutation-sym, Math.Seq.drop-cons}
+use Rattle.std.specs.List.{All, AllPairs, Contains, filter, list_any, Sorted.{IsPermutation, IsNonDecreasingBy}}
+use Rattle.lam_geom.specs.declared.boxes.Axis.{Axis, TheVariants.{X, Y}}
 use Rattle.rule_table.specs.declared.technology.Tech.{Tech}
-use Rattle.sym_items.specs.declared.items.Item.{Item}
-use Rattle.sym_items.specs.declared.items.Coords.{Coords}
-use Rattle.sym_items.specs.Boxes.{HasBox}
-use Rattle.sym_items.specs.Values.{value_at}
+use Rattle.sym_items.specs.{declared.items.{Item.Item, Coords.Coords}, Boxes.HasBox, Values.value_at}
 use Rattle.sym_items.specs.Transposed.{item_along, values_along}
-use Rattle.pair_rules.specs.declared.pairs.Pair.{Pair}
-use Rattle.pair_rules.specs.Bound.{item_at, no_item}
-use Rattle.pair_rules.specs.Candidates.{IsCandidate, spacing_at, pairs_at, item_numbers, candidates_to}
-use Rattle.pair_rules.specs.Kept.{least_of, reaches, shadows, is_constant, is_kept}
-use Rattle.pair_rules.proofs.FacingItems.{out_of_facing}
-use Rattle.pair_rules.proofs.Pieces.{contains_piece_of, contains_pair}
-use Rattle.pair_rules.proofs.Spacings.{facing_bounds}
-use Rattle.pair_rules.proofs.PairLists.{found_number}
-use Rattle.pair_rules.proofs.Pruning.{reach_of}
+use Rattle.pair_rules.specs.{declared.pairs.Pair.Pair, Bound.{item_at, no_item}, Candidates.{IsCandidate, spacing_at}}
+use Rattle.pair_rules.specs.{Candidates.{pairs_at, item_numbers, candidates_to}, Kept.{least_of, reaches, shadows}}
+use Rattle.pair_rules.{specs.Kept.{is_constant, is_kept}, proofs.{FacingItems.out_of_facing, Pieces.contains_piece_of}}
+use Rattle.pair_rules.proofs.{Pieces.contains_pair, Spacings.facing_bounds, PairLists.found_number, Pruning.reach_of}
 use Rattle.pair_rules.proofs.KeptPairs.{any_number, test_shadows}
-use Rattle.scan_line.specs.Order.{begin_of, ComesBefore}
-use Rattle.scan_line.specs.Front.{IsShadowed, IsNearer, IsFront}
+use Rattle.scan_line.specs.{Order.{begin_of, ComesBefore}, Front.{IsShadowed, IsNearer, IsFront}}
 use Rattle.shadow_prune.specs.Fronts.{IsPairOf, IsFrontOfOne, StandsBehind, shadows_by}
-use Rattle.shadow_prune.proofs.Near.{EndsAt, all_end_there, BeginsFirst, candidates_in_order}
-use Rattle.shadow_prune.proofs.SameLists.{pairs_tail, before_later, here, one_or_later, same_list, of_kept, is_left, all_pairs_weaker, sorted_strictly}
+use Rattle.shadow_prune.proofs.{Near.{EndsAt, all_end_there, BeginsFirst, candidates_in_order}, SameLists.pairs_tail}
+use Rattle.shadow_prune.proofs.SameLists.{before_later, here, one_or_later, same_list, of_kept, is_left}
+use Rattle.shadow_prune.proofs.SameLists.{all_pairs_weaker, sorted_strictly}
 
 -- ---- the pairs of a front
 

@@ -1,12 +1,10 @@
 -- The kept pairs so far.
-use Rattle.std.proofs.Common.{◌≡◌, ℕ, zero, suc, ◌+◌, ◌<◌, ◌≤◌, Bool, true, List, [], ◌++◌, length, get_or, take, drop, cond, refl, sym, ap, ◌∙◌, arith}
+use Rattle.std.proofs.Common.{◌≡◌, ℕ, zero, suc, ◌+◌, ◌<◌, ◌≤◌, Bool, true, List, [], ◌++◌, length, get_or, take, drop}
+use Rattle.std.proofs.Common.{cond, refl, sym, ap, ◌∙◌, arith}
+use Rattle.std.proofs.lemmas.List.{length-append, take-append-drop, Elements.filter-append, Filters.length-filter_more}
 use Rattle.std.specs.List.{filter, flat_map, range_with_len}
-use Rattle.std.proofs.lemmas.List.{length-append, take-append-drop}
-use Rattle.std.proofs.lemmas.List.Elements.{filter-append}
-use Rattle.std.proofs.lemmas.List.Filters.{length-filter_more}
 use Rattle.list_facts.proofs.Pieces.{piece_added}
-use Rattle.shadow_prune.specs.declared.keeping.KeptFault.{KeptFault}
-use Rattle.shadow_prune.specs.declared.keeping.KeptFault.TheVariants.{TooMany, OutOfMemory}
+use Rattle.shadow_prune.specs.declared.keeping.KeptFault.{KeptFault, TheVariants.{TooMany, OutOfMemory}}
 use Rattle.shadow_prune.specs.KeptFaults.{RefusesExactly, RefusesKept}
 
 -- a count that is past the limit stays so where it grows

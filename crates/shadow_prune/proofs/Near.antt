@@ -1,17 +1,12 @@
 -- What is known of the candidates that end at one item.
-use Rattle.std.proofs.Common.{◌≡◌, ℕ, ◌+◌, ◌<◌, zero, suc, ℤ, pos, ◌≤ℤ◌, List, [], ◌++◌, length, Option, Some, None, refl, arith}
+use Rattle.std.proofs.Common.{◌≡◌, ℕ, ◌+◌, ◌<◌, zero, suc, ℤ, pos, ◌≤ℤ◌, List, [], ◌++◌, length, Option, Some, None}
+use Rattle.std.proofs.{Common.{refl, arith}, lemmas.List.{Elements.{All-nil, All-cons}, Kept.AllPairs-cons}}
 use Rattle.std.specs.List.{All, AllPairs, flat_map, range_with_len}
-use Rattle.std.proofs.lemmas.List.Elements.{All-nil, All-cons}
-use Rattle.std.proofs.lemmas.List.Kept.{AllPairs-cons}
 use Rattle.lam_geom.specs.declared.boxes.Axis.{Axis}
 use Rattle.rule_table.specs.declared.technology.Tech.{Tech}
-use Rattle.sym_items.specs.declared.items.Item.{Item}
-use Rattle.sym_items.specs.declared.items.Coords.{Coords}
-use Rattle.pair_rules.specs.declared.pairs.Pair.{Pair}
-use Rattle.pair_rules.specs.Bound.{item_at}
-use Rattle.pair_rules.specs.Candidates.{pair_with, pairs_at, spacing_at, candidates_to}
-use Rattle.pair_rules.proofs.PairLists.{all_pieces_from}
-use Rattle.pair_rules.proofs.Spacings.{facing_bounds}
+use Rattle.sym_items.specs.declared.items.{Item.Item, Coords.Coords}
+use Rattle.pair_rules.specs.{declared.pairs.Pair.Pair, Bound.item_at, Candidates.{pair_with, pairs_at, spacing_at}}
+use Rattle.pair_rules.{specs.Candidates.candidates_to, proofs.{PairLists.all_pieces_from, Spacings.facing_bounds}}
 
 -- a candidate that ends at item j
 pub record EndsAt (axis : Axis) (t : Tech) (c : Coords) (items : List Item) (j : ℕ) (p : Pair) : Type 0 where

@@ -1,14 +1,11 @@
 -- Lists in which each element comes before all later ones.
-use Rattle.std.proofs.Common.{◌≡◌, ◌≢◌, ℕ, zero, suc, ◌<◌, ◌⊎◌, inl, inr, Bool, true, List, [], ◌∷◌, map, length, get_or, refl, sym, ap, subst, ◌∙◌, arith, eqb}
-use Rattle.std.specs.List.{AllPairs, Contains, filter}
-use Rattle.std.specs.List.Sorted.{IsPermutation, IsNonDecreasingBy}
-use Rattle.std.proofs.lemmas.Bool.{cases_Bool, eqb-true, eqb-false, eq-eqb, ne_eqb}
-use Rattle.std.proofs.lemmas.Bool.Decides.{Decides-eqb}
-use Rattle.std.proofs.lemmas.List.{length-map, get_or-map}
+use Rattle.std.proofs.Common.{◌≡◌, ◌≢◌, ℕ, zero, suc, ◌<◌, ◌⊎◌, inl, inr, Bool, true, List, [], ◌∷◌, map, length}
+use Rattle.std.proofs.{Common.{get_or, refl, sym, ap, subst, ◌∙◌, arith, eqb}, lemmas.Bool.{cases_Bool, eqb-true}}
+use Rattle.std.proofs.lemmas.{Bool.{eqb-false, eq-eqb, ne_eqb, Decides.Decides-eqb}, List.{length-map, get_or-map}}
 use Rattle.std.proofs.lemmas.List.Elements.{All-contains, All-contains_itself, All-filter, filter_passes}
-use Rattle.std.proofs.lemmas.List.Sorted.{IsPermutation-map}
-use Rattle.std.proofs.lemmas.Map.Keys.{IsDistinct-IsPermutation}
+use Rattle.std.proofs.lemmas.{List.Sorted.IsPermutation-map, Map.Keys.IsDistinct-IsPermutation}
 use Rattle.std.proofs.lemmas.Map.Made.{AllPairs-from_IsDistinct, IsDistinct-from_AllPairs}
+use Rattle.std.specs.List.{AllPairs, Contains, filter, Sorted.{IsPermutation, IsNonDecreasingBy}}
 use Rattle.pair_rules.proofs.PairLists.{of_filtered}
 
 -- ---- such a list is determined by its elements

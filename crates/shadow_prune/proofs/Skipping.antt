@@ -1,24 +1,15 @@
 -- Items of one class other than cuts and of one net are not bound: none shadows a pair of another, so a run of them may be passed.
-use Rattle.std.proofs.Common.{◌≡◌, ◌≢◌, ℕ, ◌+◌, ◌==◌, ◌<◌, ◌≤◌, ◌||◌, Bool, true, false, cond, ℤ, List, length, get_or, Option, Some, None, refl, sym, ◌∙◌, subst, inl, inr, arith, eq-eqb}
-use Rattle.std.specs.List.{list_any}
-use Rattle.std.proofs.lemmas.Bool.{cases_lt}
-use Rattle.std.proofs.lemmas.List.{get_or_default}
-use Rattle.std.proofs.lemmas.List.Folds.{list_any_none}
+use Rattle.std.proofs.Common.{◌≡◌, ◌≢◌, ℕ, ◌+◌, ◌==◌, ◌<◌, ◌≤◌, ◌||◌, Bool, true, false, cond, ℤ, List, length, get_or}
+use Rattle.std.proofs.Common.{Option, Some, None, refl, sym, ◌∙◌, subst, inl, inr, arith, eq-eqb}
+use Rattle.std.{proofs.lemmas.{Bool.cases_lt, List.{get_or_default, Folds.list_any_none}}, specs.List.list_any}
 use Rattle.lam_geom.specs.declared.boxes.Axis.{Axis}
-use Rattle.rule_table.specs.declared.classes.Class.{Class}
-use Rattle.rule_table.specs.declared.classes.Class.TheVariants.{M, P, Dc, Dm, C, I, G, B}
-use Rattle.rule_table.specs.declared.keys.Numbers.{Numbers}
-use Rattle.rule_table.specs.declared.technology.Tech.{Tech}
-use Rattle.rule_table.specs.Spacing.{spacing_in}
+use Rattle.rule_table.specs.declared.classes.Class.{Class, TheVariants.{M, P, Dc, Dm, C, I, G, B}}
+use Rattle.rule_table.specs.{declared.{keys.Numbers.Numbers, technology.Tech.Tech}, Spacing.spacing_in}
 use Rattle.rule_table.specs.Technology.{numbers_of, spacing_of}
-use Rattle.sym_items.specs.declared.items.Item.{Item}
-use Rattle.sym_items.specs.declared.items.Coords.{Coords}
-use Rattle.pair_rules.specs.declared.pairs.Pair.{Pair}
-use Rattle.pair_rules.specs.Bound.{item_at, spacing_by, is_joined, bound_spacing}
-use Rattle.pair_rules.specs.Kept.{least_of, reaches}
-use Rattle.pair_rules.proofs.FacingItems.{not_bound}
-use Rattle.shadow_prune.specs.Fronts.{shadows_by}
-use Rattle.shadow_prune.specs.Runs.{AreAlike, AreFree, IsRun}
+use Rattle.sym_items.specs.declared.items.{Item.Item, Coords.Coords}
+use Rattle.pair_rules.specs.{declared.pairs.Pair.Pair, Bound.{item_at, spacing_by, is_joined, bound_spacing}}
+use Rattle.pair_rules.{specs.Kept.{least_of, reaches}, proofs.FacingItems.not_bound}
+use Rattle.shadow_prune.specs.{Fronts.shadows_by, Runs.{AreAlike, AreFree, IsRun}}
 
 -- a rule on one class other than cuts leaves items of one net free
 free_of : (q : Bool) (n : Numbers) (a : Class) (k l : ℕ) → a ≢ C → k ≡ l → cond q None (spacing_by (spacing_in n a a) k l) ≡ None

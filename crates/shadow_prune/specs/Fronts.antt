@@ -2,11 +2,8 @@
 use Rattle.std.specs.Prelude.{ℕ, ◌<◌, pos, ◌≤ℤ◌, Bool, Some, List, ◌∷◌, ◌++◌, length}
 use Rattle.lam_geom.specs.declared.boxes.Axis.{Axis}
 use Rattle.rule_table.specs.declared.technology.Tech.{Tech}
-use Rattle.sym_items.specs.declared.items.Item.{Item}
-use Rattle.sym_items.specs.declared.items.Coords.{Coords}
-use Rattle.pair_rules.specs.declared.pairs.Pair.{Pair}
-use Rattle.pair_rules.specs.Candidates.{spacing_at}
-use Rattle.pair_rules.specs.Kept.{least_of, reaches}
+use Rattle.sym_items.specs.declared.items.{Item.Item, Coords.Coords}
+use Rattle.pair_rules.specs.{declared.pairs.Pair.Pair, Candidates.spacing_at, Kept.{least_of, reaches}}
 use Rattle.scan_line.specs.Front.{IsFront}
 
 -- a pair that begins with one of the items, with a spacing from 1 to 4096

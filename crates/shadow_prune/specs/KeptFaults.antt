@@ -1,7 +1,6 @@
 -- Why there is no list of kept pairs.
 use Rattle.std.specs.Prelude.{ℕ, ◌<◌, ◌≤◌}
-use Rattle.shadow_prune.specs.declared.keeping.KeptFault.{KeptFault}
-use Rattle.shadow_prune.specs.declared.keeping.KeptFault.TheVariants.{TooMany, OutOfMemory}
+use Rattle.shadow_prune.specs.declared.keeping.KeptFault.{KeptFault, TheVariants.{TooMany, OutOfMemory}}
 
 -- there are more than the limit; that memory runs out may come whatever their number
 abbrev pub RefusesKept : ℕ → ℕ → KeptFault → Type 0

@@ -2,8 +2,7 @@
 use Rattle.std.specs.Prelude.{◌≡◌, ◌≢◌, ℕ, ◌<◌, ◌≤◌, List, length, slice_index, slice_index_or}
 use Rattle.rule_table.specs.declared.classes.Class.TheVariants.{C}
 use Rattle.sym_items.specs.declared.items.Item.{Item}
-use Rattle.pair_rules.specs.declared.pairs.Pair.{Pair}
-use Rattle.pair_rules.specs.Bound.{item_at}
+use Rattle.pair_rules.specs.{declared.pairs.Pair.Pair, Bound.item_at}
 
 -- two items of one class and one net
 abbrev pub AreAlike : Item → Item → Type 0

@@ -1,17 +1,12 @@
 //! The kept pairs of a layout.
 
-ghost use Rattle.std.specs.Prelude.{◌≡◌, ◌<◌, ◌≤◌, ◌^◌, ◌+◌, ◌++◌, pos, ◌≤ℤ◌, ◌+ℤ◌, int_le, Some, length, filter, All, OnOk, IfOk, IfErr};
-ghost use Rattle.std.specs.List.{Contains, list_any};
-ghost use Rattle.sym_items.specs.Boxes.{HasBox};
-ghost use Rattle.sym_items.specs.Values.{value_of};
-ghost use Rattle.sym_items.specs.Transposed.{values_along};
-ghost use Rattle.pair_rules.specs.declared.pairs.Pair.{Pair};
-ghost use Rattle.pair_rules.specs.Candidates.{spacing_at, Keeps};
-ghost use Rattle.pair_rules.specs.Clean.{IsClean};
+ghost use Rattle.std.specs.Prelude.{◌≡◌, ◌<◌, ◌≤◌, ◌^◌, ◌+◌, ◌++◌, pos, ◌≤ℤ◌, ◌+ℤ◌, int_le, Some, length, filter, All};
+ghost use Rattle.std.specs.{Prelude.{OnOk, IfOk, IfErr}, List.{Contains, list_any}};
+ghost use Rattle.sym_items.specs.{Boxes.HasBox, Values.value_of, Transposed.values_along};
+ghost use Rattle.pair_rules.specs.{declared.pairs.Pair.Pair, Candidates.{spacing_at, Keeps}, Clean.IsClean};
 ghost use Rattle.pair_rules.specs.Kept.{IsKept, least_of, reaches, is_constant, is_kept, kept_of};
-ghost use Rattle.shadow_prune.specs.declared.keeping.KeptFault.TheVariants.{OutOfMemory};
-ghost use Rattle.shadow_prune.specs.KeptFaults.{RefusesExactly, RefusesKept};
-ghost use Rattle.shadow_prune.specs.Fronts.{IsPairOf, IsFrontOfOne, StandsBehind, shadows_by};
+ghost use Rattle.shadow_prune.specs.{declared.keeping.KeptFault.TheVariants.OutOfMemory, KeptFaults.RefusesExactly};
+ghost use Rattle.shadow_prune.specs.{KeptFaults.RefusesKept, Fronts.{IsPairOf, IsFrontOfOne, StandsBehind, shadows_by}};
 ghost use Rattle.shadow_prune.specs.Runs.{AreRuns};
 
 use crate::runs::{are_free, mark_runs};

@@ -1,23 +1,15 @@
 -- A slack that falls to what an edge allows, and a round of them.
-use Rattle.std.proofs.Common.{◌≡◌, ℕ, ◌+◌, ◌*◌, ◌^◌, ◌<◌, ◌≤◌, Bool, true, false, cond, ltb, eqb, inl, inr, ℤ, pos, neg_ℤ, ◌+ℤ◌, ◌-ℤ◌, ◌≤ℤ◌, List, length, get_or, set, refl, sym, ap, subst, ◌∙◌, arith}
-use Rattle.std.specs.List.{All, Contains, sum}
-use Rattle.std.proofs.lemmas.Int.{ints}
-use Rattle.std.proofs.lemmas.Bool.{cases_eq, cases_lt, cond-true, cond-false, lt-ltb, le-ltb, eq-eqb, eqb-true}
-use Rattle.std.proofs.lemmas.List.{length-set, get_or-set_same, get_or-set_other}
-use Rattle.std.proofs.lemmas.List.Elements.{All-set, Contains-get_or}
-use Rattle.std.proofs.lemmas.List.Sums.{sum_by-set}
-use Rattle.cons_graph.specs.declared.edges.Edge.{Edge}
-use Rattle.cons_graph.specs.declared.edges.Why.TheVariants.{Size}
-use Rattle.cons_graph.specs.Constraints.{Constraints, IsConstraintGraph, IsEdgeAmong}
-use Rattle.cons_graph.specs.EdgeNumbers.{edge_at, all_numbers, leaving}
-use Rattle.round_log.proofs.Chains.{In}
-use Rattle.round_log.proofs.Least.{edge_among}
-use Rattle.round_log.proofs.Members.{In-filter, In-filter-from, In-range, In-range-from}
+use Rattle.std.proofs.Common.{◌≡◌, ℕ, ◌+◌, ◌*◌, ◌^◌, ◌<◌, ◌≤◌, Bool, true, false, cond, ltb, eqb, inl, inr, ℤ, pos}
+use Rattle.std.proofs.Common.{neg_ℤ, ◌+ℤ◌, ◌-ℤ◌, ◌≤ℤ◌, List, length, get_or, set, refl, sym, ap, subst, ◌∙◌, arith}
+use Rattle.std.proofs.lemmas.{Int.ints, Bool.{cases_eq, cases_lt, cond-true, cond-false, lt-ltb, le-ltb, eq-eqb}}
+use Rattle.std.proofs.lemmas.{Bool.eqb-true, List.{length-set, get_or-set_same, get_or-set_other, Elements.All-set}}
+use Rattle.std.{proofs.lemmas.List.{Elements.Contains-get_or, Sums.sum_by-set}, specs.List.{All, Contains, sum}}
+use Rattle.cons_graph.specs.{declared.edges.{Edge.Edge, Why.TheVariants.Size}, Constraints.Constraints}
+use Rattle.cons_graph.specs.{Constraints.{IsConstraintGraph, IsEdgeAmong}, EdgeNumbers.{edge_at, all_numbers, leaving}}
+use Rattle.round_log.proofs.{Chains.In, Least.edge_among, Members.{In-filter, In-filter-from, In-range, In-range-from}}
 use Rattle.round_log.proofs.Planned.{In-at, place_of_In}
-use Rattle.slack_pack.specs.Most.{IsAttained}
-use Rattle.slack_pack.specs.Slacks.{none_yet, room_of, Allows, Grants, IsLeastAllowed, reached, AreSlacks, IsLowered, IsQuietAt}
-use Rattle.slack_pack.proofs.Least.{allows_less}
-use Rattle.slack_pack.proofs.Walks.{walk_more}
+use Rattle.slack_pack.specs.{Most.IsAttained, Slacks.{none_yet, room_of, Allows, Grants, IsLeastAllowed, reached}}
+use Rattle.slack_pack.{specs.Slacks.{AreSlacks, IsLowered, IsQuietAt}, proofs.{Least.allows_less, Walks.walk_more}}
 
 -- the edges that leave a variable, by their places in its run
 pub leaving_at : (edges : List Edge) (v j : ℕ) → j < length (leaving edges v) → (get_or (leaving edges v) j 0 < length edges) × ((edge_at edges (get_or (leaving edges v) j 0)).from ≡ v)

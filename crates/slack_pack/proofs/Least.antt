@@ -1,10 +1,7 @@
 -- The least of a number and of what some edges allow.
-use Rattle.std.proofs.Common.{◌≡◌, ℕ, ◌+◌, ◌<◌, ◌≤◌, ◌⊎◌, inl, inr, ℤ, pos, ◌+ℤ◌, ◌≤ℤ◌, List, get_or, refl, sym, subst, arith}
-use Rattle.std.specs.Prelude.{min}
-use Rattle.std.proofs.lemmas.Int.{ints}
-use Rattle.std.proofs.lemmas.Bool.{cases_eq, cases_lt}
-use Rattle.cons_graph.specs.declared.edges.Edge.{Edge}
-use Rattle.cons_graph.specs.EdgeNumbers.{edge_at}
+use Rattle.std.proofs.Common.{◌≡◌, ℕ, ◌+◌, ◌<◌, ◌≤◌, ◌⊎◌, inl, inr, ℤ, pos, ◌+ℤ◌, ◌≤ℤ◌, List, get_or, refl, sym, subst}
+use Rattle.std.{proofs.{Common.arith, lemmas.{Int.ints, Bool.{cases_eq, cases_lt}}}, specs.Prelude.min}
+use Rattle.cons_graph.specs.{declared.edges.Edge.Edge, EdgeNumbers.edge_at}
 use Rattle.slack_pack.specs.Slacks.{none_yet, room_of, Allows, Grants, IsLeastAllowed}
 
 pub allows_less : (slacks : List ℕ) (x : ℕ → ℤ) (e : Edge) (a b : ℕ) → b ≤ a → Allows slacks x e a → Allows slacks x e b

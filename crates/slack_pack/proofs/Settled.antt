@@ -1,20 +1,15 @@
 -- Slacks at the start, and slacks that no round lowers.
-use Rattle.std.proofs.Common.{◌≡◌, ℕ, ◌+◌, ◌*◌, ◌^◌, ◌<◌, ◌≤◌, ◌⊎◌, false, inl, inr, ltb, ℤ, pos, neg_ℤ, ◌+ℤ◌, ◌-ℤ◌, ◌≤ℤ◌, List, [], ◌∷◌, ◌++◌, length, get_or, set, take, sym, ap, subst, ◌∙◌, arith}
-use Rattle.std.specs.List.{All, Contains}
-use Rattle.std.proofs.lemmas.Int.{ints}
-use Rattle.std.proofs.lemmas.Bool.{cases_eq}
-use Rattle.std.proofs.lemmas.List.{length-set, get_or-set_same, get_or-set_other, get_or_default, take_more}
-use Rattle.std.proofs.lemmas.List.Elements.{All-contains, All-head, All-tail, All-from_get_or, Contains-push, Contains-push_cases, Contains-append_left}
-use Rattle.std.proofs.lemmas.List.Sums.{count_by-le-length}
-use Rattle.cons_graph.specs.declared.edges.Edge.{Edge}
-use Rattle.cons_graph.specs.declared.edges.Why.TheVariants.{Size}
-use Rattle.cons_graph.specs.Constraints.{Constraints, IsConstraintGraph, IsEdgeAmong}
-use Rattle.cons_graph.specs.EdgeNumbers.{edge_at}
-use Rattle.cons_graph.specs.Solutions.{value_of}
-use Rattle.cons_graph.specs.Walks.{IsWalk}
-use Rattle.slack_pack.specs.Most.{IsHeld, IsMost, HasWalk, IsAttained}
-use Rattle.slack_pack.specs.Slacks.{none_yet, IsPlaced, Allows, reached, AreSlacks, IsLowered, IsQuietAt, AreFirst}
-use Rattle.slack_pack.proofs.Walks.{no_walk, attained_above}
+use Rattle.std.proofs.Common.{◌≡◌, ℕ, ◌+◌, ◌*◌, ◌^◌, ◌<◌, ◌≤◌, ◌⊎◌, false, inl, inr, ltb, ℤ, pos, neg_ℤ, ◌+ℤ◌, ◌-ℤ◌}
+use Rattle.std.proofs.Common.{◌≤ℤ◌, List, [], ◌∷◌, ◌++◌, length, get_or, set, take, sym, ap, subst, ◌∙◌, arith}
+use Rattle.std.proofs.lemmas.{Int.ints, Bool.cases_eq, List.{length-set, get_or-set_same, get_or-set_other}}
+use Rattle.std.proofs.lemmas.List.{get_or_default, take_more, Elements.{All-contains, All-head, All-tail}}
+use Rattle.std.proofs.lemmas.List.Elements.{All-from_get_or, Contains-push, Contains-push_cases, Contains-append_left}
+use Rattle.std.{proofs.lemmas.List.Sums.count_by-le-length, specs.List.{All, Contains}}
+use Rattle.cons_graph.specs.declared.edges.{Edge.Edge, Why.TheVariants.Size}
+use Rattle.cons_graph.specs.{Constraints.{Constraints, IsConstraintGraph, IsEdgeAmong}, EdgeNumbers.edge_at}
+use Rattle.cons_graph.specs.{Solutions.value_of, Walks.IsWalk}
+use Rattle.slack_pack.specs.{Most.{IsHeld, IsMost, HasWalk, IsAttained}, Slacks.{none_yet, IsPlaced, Allows, reached}}
+use Rattle.slack_pack.{specs.Slacks.{AreSlacks, IsLowered, IsQuietAt, AreFirst}, proofs.Walks.{no_walk, attained_above}}
 
 -- ---- the start
 

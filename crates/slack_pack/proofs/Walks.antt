@@ -1,12 +1,8 @@
 -- Walks against solutions.
-use Rattle.std.proofs.Common.{◌≡◌, ℕ, ◌<◌, ℤ, pos, ◌+ℤ◌, ◌-ℤ◌, ◌≤ℤ◌, List, [], ◌∷◌, get_or, refl, sym, ap, subst, inl, inr, arith}
-use Rattle.std.specs.List.{Contains}
-use Rattle.std.proofs.lemmas.Int.{ints}
-use Rattle.std.proofs.lemmas.Bool.{cases_eq}
-use Rattle.std.proofs.lemmas.List.Elements.{All-contains, All-cons, All-nil}
-use Rattle.cons_graph.specs.declared.edges.Edge.{Edge}
-use Rattle.cons_graph.specs.Solutions.{Meets, IsSolution}
-use Rattle.cons_graph.specs.Walks.{walk_length}
+use Rattle.std.proofs.Common.{◌≡◌, ℕ, ◌<◌, ℤ, pos, ◌+ℤ◌, ◌-ℤ◌, ◌≤ℤ◌, List, [], ◌∷◌, get_or, refl, sym, ap, subst, inl}
+use Rattle.std.proofs.{Common.{inr, arith}, lemmas.{Int.ints, Bool.cases_eq, List.Elements.{All-contains, All-cons}}}
+use Rattle.std.{proofs.lemmas.List.Elements.All-nil, specs.List.Contains}
+use Rattle.cons_graph.specs.{declared.edges.Edge.Edge, Solutions.{Meets, IsSolution}, Walks.walk_length}
 use Rattle.round_log.proofs.Least.{walk_rises}
 use Rattle.slack_pack.specs.Most.{IsHeld, HasWalk, IsAttained, IsOnCriticalWalk, AreLeastAndMost}
 

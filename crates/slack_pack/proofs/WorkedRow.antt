@@ -1,12 +1,9 @@
 -- The test's edges make a constraint graph, and a walk leads from each variable to the far border.
 use Rattle.std.proofs.Common.{◌≡◌, ℕ, zero, suc, ◌<◌, ◌≤◌, ℤ, pos, neg_ℤ, ◌+ℤ◌, List, refl, arith, rules}
-use Rattle.std.specs.List.{Any, Contains}
-use Rattle.std.proofs.lemmas.List.Elements.{All-from_recursion}
+use Rattle.std.{proofs.lemmas.List.Elements.All-from_recursion, specs.List.{Any, Contains}}
 use Rattle.cons_graph.specs.declared.edges.Why.TheVariants.{Size, Margin, Limit, Space}
 use Rattle.cons_graph.specs.Constraints.{IsConstraintGraph, IsEdgeAmong, LeadsFromOrigin}
-use Rattle.slack_pack.specs.Most.{HasWalk}
-use Rattle.slack_pack.specs.Worked.{edge, row_edges}
-use Rattle.slack_pack.proofs.Walks.{no_walk, walk_more}
+use Rattle.slack_pack.{specs.{Most.HasWalk, Worked.{edge, row_edges}}, proofs.Walks.{no_walk, walk_more}}
 
 origin_leads : (v : ℕ) → 1 ≤ v → v < 5 → Any (LeadsFromOrigin v) row_edges
 origin_leads zero lo hi = absurd (omega arith)

@@ -1,8 +1,6 @@
 -- How far each variable could move while some far variables stay where they are.
 use Rattle.std.specs.Prelude.{◌≡◌, ◌↔◌, ℕ, ◌<◌, ◌≤◌, ℤ, ◌+ℤ◌, ◌-ℤ◌, ◌≤ℤ◌, List, All, Any, Contains}
-use Rattle.cons_graph.specs.declared.edges.Edge.{Edge}
-use Rattle.cons_graph.specs.Solutions.{IsSolution}
-use Rattle.cons_graph.specs.Walks.{IsWalk, walk_length}
+use Rattle.cons_graph.specs.{declared.edges.Edge.Edge, Solutions.IsSolution, Walks.{IsWalk, walk_length}}
 
 -- a solution in which each far variable has its value in x
 pub record IsHeld (edges : List Edge) (far : List ℕ) (x y : ℕ → ℤ) : Type 0 where

@@ -1,9 +1,8 @@
 -- Slacks while they are lowered: how far each variable could move, as far as is known. Only private functions cite these.
-use Rattle.std.specs.Prelude.{◌≡◌, ℕ, ◌+◌, ◌*◌, ◌^◌, ◌<◌, ◌≤◌, Bool, true, false, nat_lt, ◌⊎◌, ℤ, pos, neg_ℤ, ◌+ℤ◌, ◌-ℤ◌, ◌≤ℤ◌, List, length, sum, count_by, All, Contains, slice_index}
-use Rattle.cons_graph.specs.declared.edges.Edge.{Edge}
-use Rattle.cons_graph.specs.Constraints.{Constraints, IsConstraintGraph}
-use Rattle.cons_graph.specs.EdgeNumbers.{edge_at}
-use Rattle.cons_graph.specs.Solutions.{IsSolution, value_of}
+use Rattle.std.specs.Prelude.{◌≡◌, ℕ, ◌+◌, ◌*◌, ◌^◌, ◌<◌, ◌≤◌, Bool, true, false, nat_lt, ◌⊎◌, ℤ, pos, neg_ℤ, ◌+ℤ◌}
+use Rattle.std.specs.Prelude.{◌-ℤ◌, ◌≤ℤ◌, List, length, sum, count_by, All, Contains, slice_index}
+use Rattle.cons_graph.specs.{declared.edges.Edge.Edge, Constraints.{Constraints, IsConstraintGraph}}
+use Rattle.cons_graph.specs.{EdgeNumbers.edge_at, Solutions.{IsSolution, value_of}}
 use Rattle.slack_pack.specs.Most.{IsAttained}
 
 -- above each slack: what a variable has while no walk to a far one is known

@@ -1,7 +1,5 @@
 use Rattle.std.specs.Prelude.{ℕ, ℤ, pos, neg_ℤ, List, [], ◌∷◌}
-use Rattle.cons_graph.specs.declared.edges.Edge.{Edge}
-use Rattle.cons_graph.specs.declared.edges.Why.{Why}
-use Rattle.cons_graph.specs.declared.edges.Why.TheVariants.{Size, Margin, Limit, Space}
+use Rattle.cons_graph.specs.declared.edges.{Edge.Edge, Why.{Why, TheVariants.{Size, Margin, Limit, Space}}}
 
 -- What the test types in: variable 0 is the origin, variable 1 the far border, and then come the joints a, b and c.
 

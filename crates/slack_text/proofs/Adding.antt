@@ -1,17 +1,14 @@
 -- Lines of variables, put together.
-use Rattle.std.proofs.Common.{◌≡◌, ℕ, suc, zero, ◌+◌, ◌<◌, ◌≤◌, ◌^◌, ℤ, pos, negsuc, neg_ℤ, ◌-ℤ◌, ◌≤ℤ◌, codes, List, [], ◌∷◌, ◌++◌, length, get_or, map, take, refl, sym, ap, ◌∙◌, append_assoc, add-zero, zero-add, arith}
+use Rattle.std.proofs.Common.{◌≡◌, ℕ, suc, zero, ◌+◌, ◌<◌, ◌≤◌, ◌^◌, ℤ, pos, negsuc, neg_ℤ, ◌-ℤ◌, ◌≤ℤ◌, codes, List, []}
+use Rattle.std.proofs.Common.{◌∷◌, ◌++◌, length, get_or, map, take, refl, sym, ap, ◌∙◌, append_assoc, add-zero}
+use Rattle.std.proofs.{Common.{zero-add, arith}, lemmas.{Result.on_ok_weaker, Int.{ints, to_z-of_z}, List.append-nil}}
+use Rattle.std.proofs.lemmas.List.{length-append, length-map, length-take-le, map_more}
+use Rattle.std.specs.{Fmt.signed_decimal, List.{flat_map, range_with_len}, Prelude.{Result, OnOk}}
 use mir.Syntax.{w64}
 use mir.Val.{to_z, of_z, SFits}
-use Rattle.std.specs.Fmt.{signed_decimal}
-use Rattle.std.specs.List.{flat_map, range_with_len}
-use Rattle.std.specs.Prelude.{Result, OnOk}
-use Rattle.std.proofs.lemmas.Result.{on_ok_weaker}
-use Rattle.std.proofs.lemmas.Int.{ints, to_z-of_z}
-use Rattle.std.proofs.lemmas.List.{append-nil, length-append, length-map, length-take-le, map_more}
 use Rattle.lam_geom.specs.Places.{IsPlace}
 use Rattle.cons_graph.specs.Solutions.{value_of}
-use Rattle.cell_model.specs.declared.cell.Node.{Node}
-use Rattle.cell_model.specs.declared.cell.Cell.{Cell}
+use Rattle.cell_model.specs.declared.cell.{Node.Node, Cell.Cell}
 use Rattle.list_facts.proofs.Pieces.{piece_added}
 use Rattle.pitch_join.specs.Names.{within_cell}
 use Rattle.slack_text.specs.Slack.{places_text, slack_line, slack_lines}

@@ -1,21 +1,15 @@
 -- The text of each master among those of all.
-use Rattle.std.proofs.Common.{◌≡◌, ℕ, suc, ◌+◌, ◌<◌, ◌≤◌, ℤ, List, [], ◌∷◌, ◌++◌, length, get_or, map, sym, ap, ◌∙◌, append_assoc, append-nil, arith}
-use Rattle.std.specs.Prelude.{drop}
-use Rattle.std.specs.List.{flat_map, range_with_len}
-use Rattle.std.proofs.lemmas.List.{get_or_default, length-map}
-use Rattle.std.proofs.lemmas.List.Sums.{sum_by-cons}
+use Rattle.std.proofs.Common.{◌≡◌, ℕ, suc, ◌+◌, ◌<◌, ◌≤◌, ℤ, List, [], ◌∷◌, ◌++◌, length, get_or, map, sym, ap, ◌∙◌}
+use Rattle.std.proofs.{Common.{append_assoc, append-nil, arith}, lemmas.List.{get_or_default, length-map}}
+use Rattle.std.{proofs.lemmas.List.Sums.sum_by-cons, specs.{Prelude.drop, List.{flat_map, range_with_len}}}
 use Rattle.lam_geom.specs.declared.boxes.Axis.{Axis}
 use Rattle.cons_graph.specs.Solutions.{value_of}
-use Rattle.cell_model.specs.declared.cell.Cell.{Cell}
-use Rattle.cell_model.specs.declared.cell.Node.{Node}
+use Rattle.cell_model.specs.declared.cell.{Cell.Cell, Node.Node}
 use Rattle.expand.specs.declared.master.Master.{Master}
-use Rattle.pitch_join.specs.Masters.{master_at, no_master}
-use Rattle.pitch_join.specs.Joined.{own_variables, base_of, far_of, joint_variables}
+use Rattle.pitch_join.specs.{Masters.{master_at, no_master}, Joined.{own_variables, base_of, far_of, joint_variables}}
 use Rattle.pitch_join.specs.Names.{within_cell, cross_name, own_names}
-use Rattle.pitch_join.proofs.Bases.{base_next, base_within}
-use Rattle.pitch_join.proofs.NamesCounted.{names_counted}
-use Rattle.slack_text.specs.Slack.{size_line, slack_lines, master_slack}
-use Rattle.slack_text.proofs.Adding.{slack_lines-append}
+use Rattle.pitch_join.proofs.{Bases.{base_next, base_within}, NamesCounted.names_counted}
+use Rattle.slack_text.{specs.Slack.{size_line, slack_lines, master_slack}, proofs.Adding.slack_lines-append}
 
 -- there is a name for each variable of a master
 own_counted : (axis : Axis) (master : Master) → length (own_names axis master.cell) ≡ own_variables axis master

@@ -1,13 +1,10 @@
 -- What is told of how far each part of some masters could move on an axis.
 use Rattle.std.specs.Prelude.{ℕ, suc, ℤ, ◌-ℤ◌, List, [], ◌∷◌, ◌++◌, codes, decimal, drop, flat_map}
 use Rattle.std.specs.Fmt.{signed_decimal}
-use Rattle.lam_geom.specs.declared.boxes.Axis.{Axis}
-use Rattle.lam_geom.specs.declared.boxes.Axis.TheVariants.{X, Y}
+use Rattle.lam_geom.specs.declared.boxes.Axis.{Axis, TheVariants.{X, Y}}
 use Rattle.cons_graph.specs.Solutions.{value_of}
 use Rattle.expand.specs.declared.master.Master.{Master}
-use Rattle.pitch_join.specs.Masters.{master_at, master_numbers}
-use Rattle.pitch_join.specs.Names.{own_names}
-use Rattle.pitch_join.specs.Joined.{base_of, far_of}
+use Rattle.pitch_join.specs.{Masters.{master_at, master_numbers}, Names.own_names, Joined.{base_of, far_of}}
 
 abbrev pub letter : Axis → List ℕ
 letter X = codes "x"

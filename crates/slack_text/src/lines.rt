@@ -1,13 +1,10 @@
 //! The lines of the text: that of the axis, that of a master's size, and those of its variables.
 
 ghost use Rattle.std.specs.Prelude.{◌≡◌, ◌+◌, ◌<◌, ◌≤◌, ◌++◌, ◌∷◌, [], length, map, flat_map, decimal, All, OnOk, IfOk};
-ghost use Rattle.std.specs.List.{range_with_len};
-ghost use Rattle.std.specs.Fmt.{signed_decimal};
+ghost use Rattle.std.specs.{List.range_with_len, Fmt.signed_decimal};
 ghost use Rattle.lam_geom.specs.Places.{IsPlace};
 ghost use Rattle.cons_graph.specs.Solutions.{value_of};
-ghost use Rattle.cell_model.specs.declared.cell.Node.{Node as SomeNode};
-ghost use Rattle.cell_model.specs.Sound.{wire_at};
-ghost use Rattle.cell_model.specs.Wiring.{is_same_axis};
+ghost use Rattle.cell_model.specs.{declared.cell.Node.Node as SomeNode, Sound.wire_at, Wiring.is_same_axis};
 ghost use Rattle.expand.specs.Variables.{crossing};
 ghost use Rattle.pitch_join.specs.Names.{within_cell, cross_name};
 ghost use Rattle.slack_text.specs.Slack.{letter, axis_line, size_line, places_text, slack_line, slack_lines};

@@ -3,8 +3,7 @@
 ghost use Rattle.std.specs.Prelude.{◌≡◌, ◌+◌, ◌≤◌, ◌++◌, length, drop, All, OnOk, IfOk};
 ghost use Rattle.lam_geom.specs.Places.{IsPlace};
 ghost use Rattle.cons_graph.specs.Solutions.{value_of};
-ghost use Rattle.pitch_join.specs.Joined.{joint_variables};
-ghost use Rattle.pitch_join.specs.Names.{own_names};
+ghost use Rattle.pitch_join.specs.{Joined.joint_variables, Names.own_names};
 ghost use Rattle.slack_text.specs.Slack.{size_line, slack_lines, axis_slack};
 
 use crate::lines::{push_axis, push_nodes, push_size, push_wires, value};

@@ -1,15 +1,10 @@
 -- Edges that make a constraint graph: those from the origin, and one more.
-use Rattle.std.proofs.Common.{◌≡◌, ℕ, zero, suc, ◌+◌, ◌<◌, ◌≤◌, List, [], ◌∷◌, ◌++◌, pos, neg_ℤ, ◌≤ℤ◌, refl, sym, subst, ◌∙◌, inl, inr, arith, rules}
-use Rattle.std.specs.Prelude.{◌^◌}
-use Rattle.std.specs.List.{All, Any, range_with_len}
-use Rattle.std.proofs.lemmas.Bool.{cases_lt}
-use Rattle.std.proofs.lemmas.List.{length-append, get_or_append_left}
-use Rattle.std.proofs.lemmas.List.Elements.{All-nil, All-cons, All-append}
-use Rattle.std.proofs.lemmas.List.Quantifiers.{Any-push}
-use Rattle.cons_graph.specs.declared.edges.Edge.{Edge}
-use Rattle.cons_graph.specs.Constraints.{IsConstraintGraph, IsEdgeAmong, LeadsFromOrigin}
-use Rattle.round_log.specs.Orders.{IsOrder}
-use Rattle.round_log.proofs.Outcomes.{every_variable}
+use Rattle.std.proofs.Common.{◌≡◌, ℕ, zero, suc, ◌+◌, ◌<◌, ◌≤◌, List, [], ◌∷◌, ◌++◌, pos, neg_ℤ, ◌≤ℤ◌, refl, sym, subst}
+use Rattle.std.proofs.{Common.{◌∙◌, inl, inr, arith, rules}, lemmas.{Bool.cases_lt, List.length-append}}
+use Rattle.std.proofs.lemmas.List.{get_or_append_left, Elements.{All-nil, All-cons, All-append}, Quantifiers.Any-push}
+use Rattle.std.specs.{Prelude.◌^◌, List.{All, Any, range_with_len}}
+use Rattle.cons_graph.specs.{declared.edges.Edge.Edge, Constraints.{IsConstraintGraph, IsEdgeAmong, LeadsFromOrigin}}
+use Rattle.round_log.{specs.Orders.IsOrder, proofs.Outcomes.every_variable}
 
 any_left : {X : Type 0} (P : X → Type 0) (xs ys : List X) → Any P xs → Any P (xs ++ ys)
 any_left P xs ys h = (h.0, h.1, omega (arith, h.2, length-append xs ys), get_or_append_left xs ys h.1 h.0 h.2 ∙ h.3, h.4)

@@ -1,17 +1,11 @@
 -- Graphs and orders that are typed in: what they have to be is a test that computes.
-use Rattle.std.proofs.Common.{◌≡◌, ℕ, ◌-◌, ◌<◌, ◌^◌, ℤ, pos, neg_ℤ, ◌≤ℤ◌, Bool, true, not, ◌&&◌, eqb, ltb, leb, Some, List, [], ◌∷◌, inl, inr, refl, sym, ap, ◌∙◌, arith}
-use Rattle.std.specs.Prelude.{int_lt, slice_get}
-use Rattle.std.specs.List.{range_with_len, list_any, list_all}
-use Rattle.std.proofs.lemmas.Bool.{and_parts, ltb-true, leb-true, eqb-true, eqb-false, not-true}
-use Rattle.std.proofs.lemmas.Int.{ints}
-use Rattle.cons_graph.specs.declared.edges.Edge.{Edge}
-use Rattle.cons_graph.specs.Constraints.{Constraints, IsConstraintGraph, IsEdgeAmong}
-use Rattle.round_log.specs.Orders.{IsOrder}
-use Rattle.round_log.proofs.Chains.{In}
-use Rattle.round_log.proofs.Members.{In-range-from, list_any-false, list_any-true, IsDistinct}
-use Rattle.round_log.proofs.Planned.{place_of_In}
-use Rattle.round_log.proofs.Walking.{pairs_from_IsDistinct}
-use Rattle.round_log.proofs.Ends.{All-from_In}
+use Rattle.std.proofs.Common.{◌≡◌, ℕ, ◌-◌, ◌<◌, ◌^◌, ℤ, pos, neg_ℤ, ◌≤ℤ◌, Bool, true, not, ◌&&◌, eqb, ltb, leb, Some}
+use Rattle.std.proofs.Common.{List, [], ◌∷◌, inl, inr, refl, sym, ap, ◌∙◌, arith}
+use Rattle.std.proofs.lemmas.{Bool.{and_parts, ltb-true, leb-true, eqb-true, eqb-false, not-true}, Int.ints}
+use Rattle.std.specs.{Prelude.{int_lt, slice_get}, List.{range_with_len, list_any, list_all}}
+use Rattle.cons_graph.specs.{declared.edges.Edge.Edge, Constraints.{Constraints, IsConstraintGraph, IsEdgeAmong}}
+use Rattle.round_log.{specs.Orders.IsOrder, proofs.{Chains.In, Members.{In-range-from, list_any-false, list_any-true}}}
+use Rattle.round_log.proofs.{Members.IsDistinct, Planned.place_of_In, Walking.pairs_from_IsDistinct, Ends.All-from_In}
 
 list_all-In : {X : Type 0} (p : X → Bool) (xs : List X) (x : X) → list_all p xs ≡ true → In x xs → p x ≡ true
 list_all-In p [] x h i = absurd i

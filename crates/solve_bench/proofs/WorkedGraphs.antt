@@ -2,8 +2,7 @@
 use Rattle.std.proofs.Common.{◌≡◌, ℕ, ℤ, pos, neg_ℤ, [], ◌∷◌, refl, sym, ap, subst}
 use Rattle.cons_graph.specs.Constraints.{Constraints, IsConstraintGraph}
 use Rattle.round_log.specs.Orders.{IsOrder}
-use Rattle.solve_bench.proofs.TypedIn.{graph_typed, order_typed}
-use Rattle.solve_bench.specs.Worked.{pair_graph, row_graph}
+use Rattle.solve_bench.{proofs.TypedIn.{graph_typed, order_typed}, specs.Worked.{pair_graph, row_graph}}
 
 pub wide_is_graph : IsConstraintGraph (pair_graph (neg_ℤ (pos 12)))
 wide_is_graph = graph_typed (pair_graph (neg_ℤ (pos 12))) refl

@@ -1,7 +1,5 @@
 use Rattle.std.specs.Prelude.{ℕ, ℤ, pos, [], ◌∷◌, neg_ℤ}
-use Rattle.cons_graph.specs.declared.edges.Edge.{Edge}
-use Rattle.cons_graph.specs.declared.edges.Why.{Why}
-use Rattle.cons_graph.specs.declared.edges.Why.TheVariants.{Size, Margin, Limit, Space}
+use Rattle.cons_graph.specs.declared.edges.{Edge.Edge, Why.{Why, TheVariants.{Size, Margin, Limit, Space}}}
 use Rattle.cons_graph.specs.Constraints.{Constraints}
 
 -- What the tests type in. In both graphs variable 0 is the origin, variable 1 the far border, and then come the joints.

@@ -1,7 +1,6 @@
 //! Worked graphs, from their edges through the rounds to the lines of a walk or a cycle.
 ghost use Rattle.std.specs.Prelude.{◌≡◌, ◌+◌, ◌≤◌, length, IfOk, IfSome};
-ghost use Rattle.cons_graph.specs.Constraints.{IsConstraintGraph, IsEdgeAmong};
-ghost use Rattle.cons_graph.specs.SimpleWalks.{IsSimplePositiveCycle};
+ghost use Rattle.cons_graph.specs.{Constraints.{IsConstraintGraph, IsEdgeAmong}, SimpleWalks.IsSimplePositiveCycle};
 ghost use Rattle.solve_bench.specs.Worked.{pair_graph, row_graph};
 
 use crate::made::{backward_edge, draw, edges_of, push_edge, variables};

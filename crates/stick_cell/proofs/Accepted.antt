@@ -1,20 +1,12 @@
 -- What holds where a chain of demands is met, and what its tests say.
 use Rattle.std.proofs.Common.{◌≡◌, ℕ, ◌<◌, ◌≤◌, ℤ, Bool, true, false, Option, Some, None, Result, Ok, Err, refl, arith}
+use Rattle.std.proofs.lemmas.{Bool.Decides.nat_tests, Int.ints}
 use Rattle.std.specs.Prelude.{◌&&◌, ◌==◌, not, nat_lt, int_le, ◌≤ℤ◌, IsTrue}
-use Rattle.std.proofs.lemmas.Bool.Decides.{nat_tests}
-use Rattle.std.proofs.lemmas.Int.{ints}
-use Rattle.stick_parse.specs.declared.fault.StickKind.{StickKind}
-use Rattle.stick_parse.specs.Reading.{◌>>=◌}
-use Rattle.stick_parse.specs.Order.{at_line}
-use Rattle.stick_cell.specs.declared.names.Terminal.{Terminal}
+use Rattle.stick_parse.specs.{declared.fault.StickKind.StickKind, Reading.◌>>=◌, Order.at_line}
+use Rattle.stick_cell.specs.declared.names.{Terminal.Terminal, Spot.Spot, Found.{Found, TheVariants.{At, AtCopy}}}
+use Rattle.stick_cell.specs.{declared.names.{Found.TheVariants.Through, Run.Run}, Checks.{demand, is_place}}
+use Rattle.stick_cell.specs.{Wires.{known_name, terminal, straight, limited}, Lines.known_number}
 use Rattle.stick_cell.specs.declared.names.Terminal.TheVariants as terminals
-use Rattle.stick_cell.specs.declared.names.Spot.{Spot}
-use Rattle.stick_cell.specs.declared.names.Found.{Found}
-use Rattle.stick_cell.specs.declared.names.Found.TheVariants.{At, AtCopy, Through}
-use Rattle.stick_cell.specs.declared.names.Run.{Run}
-use Rattle.stick_cell.specs.Checks.{demand, is_place}
-use Rattle.stick_cell.specs.Wires.{known_name, terminal, straight, limited}
-use Rattle.stick_cell.specs.Lines.{known_number}
 
 -- a step that was taken
 pub bound : {A B E : Type 0} (r : Result A E) (f : A → Result B E) (x : B) → (r >>= f) ≡ Ok x → (a : A) × (r ≡ Ok a) × (f a ≡ Ok x)

@@ -1,28 +1,17 @@
 -- The cells of a design, one by one.
-use Rattle.std.proofs.Common.{◌≡◌, ℕ, ◌+◌, ◌<◌, ◌≤◌, ◌≢◌, List, [], ◌∷◌, ◌++◌, length, map, take, get_or, drop, Result, Ok, Err, sym, ap, subst, inl, inr, ◌∙◌, arith}
-use Rattle.std.specs.Prelude.{◌⊎◌}
-use Rattle.std.specs.List.{AllByRecursion}
-use Rattle.std.proofs.lemmas.List.{drop_more, drop_all, map-append, length-map, get_or_push, get_or_append_left, take_at, take-append-le}
-use Rattle.std.proofs.lemmas.Bool.{cases_eq}
+use Rattle.std.proofs.Common.{◌≡◌, ℕ, ◌+◌, ◌<◌, ◌≤◌, ◌≢◌, List, [], ◌∷◌, ◌++◌, length, map, take, get_or, drop, Result}
+use Rattle.std.proofs.{Common.{Ok, Err, sym, ap, subst, inl, inr, ◌∙◌, arith}, lemmas.List.{drop_more, drop_all}}
+use Rattle.std.proofs.lemmas.List.{map-append, length-map, get_or_push, get_or_append_left, take_at, take-append-le}
+use Rattle.std.{proofs.lemmas.Bool.cases_eq, specs.{Prelude.◌⊎◌, List.AllByRecursion, Result.IsErrAnd}}
 use Rattle.rule_table.specs.declared.technology.Tech.{Tech}
-use Rattle.stick_parse.specs.declared.fault.StickFault.{StickFault}
-use Rattle.stick_parse.specs.declared.fault.ParseFault.{ParseFault}
-use Rattle.stick_parse.specs.declared.fault.ParseFault.TheVariants.{Stick, OutOfMemory}
-use Rattle.stick_parse.specs.declared.design.CellText.{CellText}
-use Rattle.stick_parse.specs.Reading.{◌>>=◌, Fails, Gives}
-use Rattle.stick_parse.specs.Writable.{IsCell}
+use Rattle.stick_parse.specs.declared.fault.{StickFault.StickFault, ParseFault.{ParseFault, TheVariants.Stick}}
+use Rattle.stick_parse.specs.declared.{fault.ParseFault.TheVariants.OutOfMemory, design.CellText.CellText}
+use Rattle.stick_parse.specs.{Reading.{◌>>=◌, Fails, Gives}, Writable.IsCell}
 use Rattle.list_facts.proofs.Elements.{all_at}
-use Rattle.stick_cell.specs.declared.table.Table.{Table}
-use Rattle.stick_cell.specs.declared.steps.Step.{Step}
-use Rattle.stick_cell.specs.Known.{Known, known_at}
-use Rattle.stick_cell.specs.Steps.{AreStepsOf}
-use Rattle.stick_cell.specs.Lines.{after_cell, cells_after}
-use Rattle.std.specs.Result.{IsErrAnd}
-use Rattle.stick_cell.specs.declared.cells.Cells.{Cells}
-use Rattle.stick_cell.specs.Tables.{IsTableOf, AreTables, steps_at, HaveSteps, known_of}
-use Rattle.stick_cell.specs.Sides.{HaveSides}
-use Rattle.stick_cell.proofs.TableReads.{length-tables}
-use Rattle.stick_cell.proofs.Grown.{k_within, known_before, known_last}
+use Rattle.stick_cell.specs.declared.{table.Table.Table, steps.Step.Step, cells.Cells.Cells}
+use Rattle.stick_cell.specs.{Known.{Known, known_at}, Steps.AreStepsOf, Lines.{after_cell, cells_after}}
+use Rattle.stick_cell.specs.{Tables.{IsTableOf, AreTables, steps_at, HaveSteps, known_of}, Sides.HaveSides}
+use Rattle.stick_cell.proofs.{TableReads.length-tables, Grown.{k_within, known_before, known_last}}
 
 -- the cells from one on: that cell, and the cells behind it
 cells_at : (tech : Tech) (cells : List Known) (texts : List CellText) (i : ℕ) (text : CellText) (r : Result Known StickFault) → i < length texts → text ≡ get_or texts i text

@@ -1,18 +1,12 @@
 -- Paths walked name by name, over what the code keeps of the names.
-use Rattle.std.proofs.Common.{◌≡◌, ℕ, ◌+◌, ◌<◌, ◌==◌, min, List, [], ◌∷◌, length, Option, Some, None, option_map, option_and_then, refl, sym, ap, ◌∙◌, arith}
-use Rattle.std.proofs.lemmas.List.Splits.{length-slice_split}
+use Rattle.std.proofs.Common.{◌≡◌, ℕ, ◌+◌, ◌<◌, ◌==◌, min, List, [], ◌∷◌, length, Option, Some, None, option_map}
+use Rattle.std.proofs.{Common.{option_and_then, refl, sym, ap, ◌∙◌, arith}, lemmas.List.Splits.length-slice_split}
 use Rattle.stick_lex.specs.Tokens.{names}
-use Rattle.stick_cell.specs.declared.names.Spot.{Spot}
-use Rattle.stick_cell.specs.declared.names.Pin.{Pin}
-use Rattle.stick_cell.specs.declared.names.Copied.{Copied}
-use Rattle.stick_cell.specs.declared.names.Thing.{Thing}
+use Rattle.stick_cell.specs.declared.names.{Spot.Spot, Pin.Pin, Copied.Copied, Thing.Thing, Found.Found}
+use Rattle.stick_cell.specs.{declared.names.Found.TheVariants.{At, AtCopy, Through}, Counts.capped, Paths.Names}
+use Rattle.stick_cell.specs.{Paths.{named, names_at, seen_through, behind, walk}, Kept.{ended, kept_found}}
 use Rattle.stick_cell.specs.declared.names.Thing.TheVariants as things
 use Rattle.stick_cell.specs.declared.names.Terminal.TheVariants as terminals
-use Rattle.stick_cell.specs.declared.names.Found.{Found}
-use Rattle.stick_cell.specs.declared.names.Found.TheVariants.{At, AtCopy, Through}
-use Rattle.stick_cell.specs.Counts.{capped}
-use Rattle.stick_cell.specs.Paths.{Names, named, names_at, seen_through, behind, walk}
-use Rattle.stick_cell.specs.Kept.{ended, kept_found}
 
 -- a path has a first name
 has_name : (path : List ℕ) → 0 < length (names path)

@@ -1,17 +1,15 @@
 -- How counts change with a line.
-use Rattle.std.proofs.Common.{◌≡◌, ℕ, ◌+◌, ◌<◌, max, ◌==◌, Bool, false, if◌then◌else◌, List, [], ◌∷◌, ◌++◌, length, map, fold, sum_by, refl, sym, ap, ◌∙◌, arith}
-use Rattle.std.proofs.lemmas.List.{length_push, length-append, length-map, append-nil}
-use Rattle.std.proofs.lemmas.List.Sums.{sum_by_push, sum_by-append, sum_by-cons, fold-append}
-use Rattle.std.proofs.lemmas.Bool.Decides.{nat_tests}
+use Rattle.std.proofs.Common.{◌≡◌, ℕ, ◌+◌, ◌<◌, max, ◌==◌, Bool, false, if◌then◌else◌, List, [], ◌∷◌, ◌++◌, length, map}
+use Rattle.std.proofs.Common.{fold, sum_by, refl, sym, ap, ◌∙◌, arith}
+use Rattle.std.proofs.lemmas.List.{length_push, length-append, length-map, append-nil, Sums.sum_by_push}
+use Rattle.std.proofs.lemmas.{List.Sums.{sum_by-append, sum_by-cons, fold-append}, Bool.Decides.nat_tests}
 use Rattle.lam_geom.specs.declared.boxes.Side.{Side}
 use Rattle.rule_table.specs.declared.classes.Layer.{Layer}
-use Rattle.cell_model.specs.declared.cell.NodeKind.{NodeKind}
-use Rattle.cell_model.specs.declared.cell.Node.{Node}
-use Rattle.cell_model.specs.declared.cell.Wire.{Wire}
-use Rattle.cell_model.specs.declared.cell.Limit.{Limit}
-use Rattle.stick_cell.specs.Known.{Known, with_node, with_port, with_copy, with_wire, with_limit, greatest_col, greatest_row, copied_node, copied_wire, copied_limit}
-use Rattle.stick_cell.specs.Counts.{weight_of, boxes_of, capped}
-use Rattle.cell_model.specs.Counts.{items_in, boxes_in, node_items, wire_items, node_boxes, layer_items, kind_items, kind_boxes}
+use Rattle.cell_model.specs.{declared.cell.{NodeKind.NodeKind, Node.Node, Wire.Wire, Limit.Limit}, Counts.items_in}
+use Rattle.cell_model.specs.Counts.{boxes_in, node_items, wire_items, node_boxes, layer_items, kind_items, kind_boxes}
+use Rattle.stick_cell.specs.Known.{Known, with_node, with_port, with_copy, with_wire, with_limit, greatest_col}
+use Rattle.stick_cell.specs.{Known.{greatest_row, copied_node, copied_wire, copied_limit}, Counts.{weight_of, boxes_of}}
+use Rattle.stick_cell.specs.Counts.{capped}
 
 -- one more node
 pub weight-with_node : (known : Known) (name : List ℕ) (kind : NodeKind) (col row : ℕ) → weight_of (with_node known name kind col row) ≡ weight_of known + kind_items kind

@@ -1,11 +1,9 @@
 -- The entries of a map: looked up by the bytes of their keys, added at the end, and put in place of one with the same key.
-use Rattle.std.proofs.Common.{◌≡◌, ℕ, Bool, true, false, cond, is_none, IsTrue, List, [], ◌∷◌, ◌++◌, map, Option, Some, refl, sym, ap, ◌∙◌}
-use Rattle.std.specs.Map.{lookup}
-use Rattle.std.specs.Str.{bytes_eq}
-use Rattle.std.proofs.lemmas.Slice.Eq.{bytes_eq-Decides}
+use Rattle.std.proofs.Common.{◌≡◌, ℕ, Bool, true, false, cond, is_none, IsTrue, List, [], ◌∷◌, ◌++◌, map, Option, Some}
+use Rattle.std.proofs.{Common.{refl, sym, ap, ◌∙◌}, lemmas.Slice.Eq.bytes_eq-Decides}
+use Rattle.std.specs.{Map.lookup, Str.bytes_eq}
 use Rattle.indexmap.specs.IndexMap.{insert_entry}
-use Rattle.stick_cell.specs.declared.names.Thing.{Thing}
-use Rattle.stick_cell.specs.Paths.{named}
+use Rattle.stick_cell.specs.{declared.names.Thing.Thing, Paths.named}
 
 -- keys and what they stand for, seen by the bytes of the keys
 abbrev pub seen : {K V : Type 0} → (K → List ℕ) → List (K × V) → List (List ℕ × V)

@@ -1,18 +1,11 @@
 -- The ports of a cell after its last line.
-use Rattle.std.proofs.Common.{◌≡◌, ℕ, ◌<◌, ◌≤◌, true, false, List, [], ◌∷◌, map, length, sum_by, refl, sym, ap, ◌∙◌, arith}
+use Rattle.std.proofs.Common.{◌≡◌, ℕ, ◌<◌, ◌≤◌, true, false, List, [], ◌∷◌, map, length, sum_by, refl, sym, ap, ◌∙◌}
+use Rattle.std.proofs.{Common.arith, lemmas.{Bool.Decides.nat_tests, List.Sums.sum_by-cons}}
 use Rattle.std.specs.List.{AllByRecursion}
-use Rattle.std.proofs.lemmas.Bool.Decides.{nat_tests}
-use Rattle.std.proofs.lemmas.List.Sums.{sum_by-cons}
-use Rattle.rule_table.specs.declared.classes.Layer.{Layer}
-use Rattle.rule_table.specs.declared.classes.Layer.TheVariants.{Diffusion, Poly, Metal}
-use Rattle.cell_model.specs.declared.cell.Wire.{Wire}
+use Rattle.rule_table.specs.declared.classes.Layer.{Layer, TheVariants.{Diffusion, Poly, Metal}}
+use Rattle.cell_model.specs.{declared.cell.{Wire.Wire, CellPort.CellPort}, Counts.{items_in, layer_items, wire_items}}
 use Rattle.stick_cell.specs.declared.growing.Growing.{Growing}
-use Rattle.cell_model.specs.declared.cell.CellPort.{CellPort}
-use Rattle.stick_cell.specs.Known.{Known, Plug}
-use Rattle.cell_model.specs.Counts.{items_in}
-use Rattle.stick_cell.specs.Counts.{weight_of, capped}
-use Rattle.cell_model.specs.Counts.{layer_items, wire_items}
-use Rattle.stick_cell.specs.Ports.{port_of, ports_of, is_light}
+use Rattle.stick_cell.specs.{Known.{Known, Plug}, Counts.{weight_of, capped}, Ports.{port_of, ports_of, is_light}}
 use Rattle.stick_cell.specs.Growing.{IsGrowing, IsWiredBelow, port_so_far, without_wire}
 
 forgotten_plugs : (plugs : List Plug) → map without_wire (map port_so_far plugs) ≡ map (port_of false) plugs

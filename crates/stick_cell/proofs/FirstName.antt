@@ -1,9 +1,7 @@
 -- The first name of a path, at its first dot.
-use Rattle.std.proofs.Common.{◌≡◌, ℕ, ◌+◌, ◌<◌, ◌≤◌, Bool, not, eqb, List, [], ◌∷◌, length, take, drop, sym, ap, ◌∙◌, arith}
-use Rattle.std.specs.List.{slice_split, before_first, after_first, position_or_len}
-use Rattle.std.proofs.lemmas.List.Splits.{slice_split_first, slice_split_none}
-use Rattle.std.proofs.lemmas.List.Sums.{prefix_len_passes}
-use Rattle.std.proofs.lemmas.Bool.{not-true}
+use Rattle.std.proofs.Common.{◌≡◌, ℕ, ◌+◌, ◌<◌, ◌≤◌, Bool, not, eqb, List, [], ◌∷◌, length, take, drop, sym, ap, ◌∙◌}
+use Rattle.std.proofs.{Common.arith, lemmas.List.{Splits.{slice_split_first, slice_split_none}, Sums.prefix_len_passes}}
+use Rattle.std.{proofs.lemmas.Bool.not-true, specs.List.{slice_split, before_first, after_first, position_or_len}}
 use Rattle.stick_lex.specs.Tokens.{names}
 
 abbrev pub is_dot : ℕ → Bool

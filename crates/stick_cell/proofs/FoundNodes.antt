@@ -1,18 +1,12 @@
 -- What the law of what is found tells of nodes that paths come to: that they lie near, and that different paths come to different nodes.
 use Rattle.std.proofs.Common.{◌≡◌, ℕ, ◌<◌, ◌==◌, List, length, refl, sym, ap, ◌∙◌, arith}
-use Rattle.std.specs.List.{AllByRecursion}
-use Rattle.std.specs.Str.{bytes_eq}
-use Rattle.std.proofs.lemmas.Bool.Decides.{same_from_decides, Decides-eqb}
-use Rattle.std.proofs.lemmas.Slice.Eq.{bytes_eq-Decides}
+use Rattle.std.proofs.lemmas.{Bool.Decides.{same_from_decides, Decides-eqb}, Slice.Eq.bytes_eq-Decides}
+use Rattle.std.specs.{List.AllByRecursion, Str.bytes_eq}
 use Rattle.rule_table.specs.declared.technology.Tech.{Tech}
-use Rattle.cell_model.specs.declared.cell.Node.{Node as CellNode}
-use Rattle.stick_cell.specs.declared.names.Spot.{Spot}
-use Rattle.stick_cell.specs.declared.names.Terminal.TheVariants.{Node, Port}
-use Rattle.stick_cell.specs.declared.names.Found.{Found}
-use Rattle.stick_cell.specs.declared.names.Found.TheVariants.{At, AtCopy, Through}
+use Rattle.cell_model.specs.{declared.cell.Node.Node as CellNode, Sound.{IsNode, node_at, no_node}}
+use Rattle.stick_cell.specs.declared.names.{Spot.Spot, Terminal.TheVariants.{Node, Port}, Found.{Found, TheVariants.At}}
+use Rattle.stick_cell.specs.{declared.names.Found.TheVariants.{AtCopy, Through}, Kept.IsNearFound}
 use Rattle.list_facts.proofs.Elements.{all_at}
-use Rattle.stick_cell.specs.Kept.{IsNearFound}
-use Rattle.cell_model.specs.Sound.{IsNode, node_at, no_node}
 
 -- the node of this name at this spot is the spot's number among the nodes
 pub record IsNodeOf (nodes : List CellNode) (path : List ℕ) (spot : Spot) : Type 0 where

@@ -1,17 +1,10 @@
 -- The names of grids, and the cells of a design whose grids have been checked.
 use Rattle.std.proofs.Common.{◌≡◌, ℕ, ◌||◌, List, [], ◌∷◌, map, Result, Ok, refl, sym, ap, subst, ◌∙◌}
-use Rattle.std.specs.Prelude.{bytes_eq}
-use Rattle.std.specs.List.{list_any}
+use Rattle.std.specs.{Prelude.bytes_eq, List.list_any}
 use Rattle.rule_table.specs.declared.technology.Tech.{Tech}
-use Rattle.stick_parse.specs.declared.fault.StickFault.{StickFault}
-use Rattle.stick_parse.specs.declared.fault.ParseFault.{ParseFault}
-use Rattle.stick_parse.specs.declared.design.GridText.{GridText}
-use Rattle.stick_parse.specs.declared.design.Design.{Design}
-use Rattle.stick_parse.specs.Reading.{◌>>=◌, Fails}
-use Rattle.stick_parse.proofs.Together.{fails_on}
-use Rattle.stick_cell.specs.Known.{Known}
-use Rattle.stick_cell.specs.Lines.{known_cells}
-use Rattle.stick_cell.specs.Grids.{grids_after, resolved_cells}
+use Rattle.stick_parse.specs.declared.{fault.{StickFault.StickFault, ParseFault.ParseFault}, design.GridText.GridText}
+use Rattle.stick_parse.{specs.{declared.design.Design.Design, Reading.{◌>>=◌, Fails}}, proofs.Together.fails_on}
+use Rattle.stick_cell.specs.{Known.Known, Lines.known_cells, Grids.{grids_after, resolved_cells}}
 
 -- a name among keys, seen by their bytes
 pub any_seen : {K : Type 0} (bytes : K → List ℕ) (name : List ℕ) (ks : List K) → list_any (λ k. bytes_eq name (bytes k)) ks ≡ list_any (bytes_eq name) (map bytes ks)

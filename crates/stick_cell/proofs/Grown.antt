@@ -1,43 +1,26 @@
 -- A cell keeps what it has with each line, and each cell of a design is sound.
-use Rattle.std.proofs.Common.{◌≡◌, ℕ, ◌+◌, ◌<◌, ◌≤◌, ◌≢◌, true, List, [], ◌∷◌, ◌++◌, length, take, Some, Result, Ok, sym, subst, inl, inr, arith}
-use Rattle.std.specs.Prelude.{IsTrue, ◌⊎◌, fold, sum_by}
-use Rattle.std.specs.List.{AllByRecursion}
-use Rattle.std.proofs.lemmas.List.{length-append, length-map, get_or_push, get_or_append_left, take_at, take-append-le}
-use Rattle.std.proofs.lemmas.Bool.{cases_eq}
-use Rattle.rule_table.specs.declared.technology.Tech.{Tech}
-use Rattle.rule_table.specs.declared.classes.Layer.{Layer}
+use Rattle.std.proofs.Common.{◌≡◌, ℕ, ◌+◌, ◌<◌, ◌≤◌, ◌≢◌, true, List, [], ◌∷◌, ◌++◌, length, take, Some, Result, Ok}
+use Rattle.std.proofs.{Common.{sym, subst, inl, inr, arith}, lemmas.List.{length-append, length-map, get_or_push}}
+use Rattle.std.proofs.lemmas.{List.{get_or_append_left, take_at, take-append-le}, Bool.cases_eq}
+use Rattle.std.specs.{Prelude.{IsTrue, ◌⊎◌, fold, sum_by}, List.AllByRecursion}
+use Rattle.rule_table.specs.declared.{technology.Tech.Tech, classes.Layer.Layer}
 use Rattle.rule_table.specs.declared.classes.Layer.TheVariants as layers
-use Rattle.stick_parse.specs.declared.fault.StickKind.TheVariants.{RepeatedName, PortWires}
-use Rattle.stick_parse.specs.declared.fault.StickFault.{StickFault}
-use Rattle.stick_parse.specs.declared.design.Form.{Form}
+use Rattle.stick_parse.specs.declared.fault.{StickKind.TheVariants.{RepeatedName, PortWires}, StickFault.StickFault}
+use Rattle.stick_parse.specs.declared.design.{Form.Form, Line.Line, CellText.CellText}
+use Rattle.stick_parse.specs.{Writable.{IsForm, IsLine, IsCell, IsPath}, Reading.◌>>=◌, Order.at_line}
 use Rattle.stick_parse.specs.declared.design.Form.TheVariants as forms
-use Rattle.stick_parse.specs.declared.design.Line.{Line}
-use Rattle.stick_parse.specs.declared.design.CellText.{CellText}
-use Rattle.stick_parse.specs.Writable.{IsForm, IsLine, IsCell, IsPath}
-use Rattle.stick_parse.specs.Reading.{◌>>=◌}
-use Rattle.stick_parse.specs.Order.{at_line}
-use Rattle.cell_model.specs.declared.cell.NodeKind.{NodeKind}
+use Rattle.cell_model.specs.declared.cell.{NodeKind.NodeKind, Node.Node, Wire.Wire}
+use Rattle.cell_model.specs.{Counts.{items_in, layer_items, kind_items, node_items, wire_items}, Sound.node_at}
+use Rattle.cell_model.specs.Sound.{port_at, IsPort, IsSound, IsLight}
 use Rattle.cell_model.specs.declared.cell.NodeKind.TheVariants as kinds
-use Rattle.cell_model.specs.declared.cell.Node.{Node}
-use Rattle.cell_model.specs.declared.cell.Wire.{Wire}
-use Rattle.stick_cell.specs.declared.names.Spot.{Spot}
-use Rattle.stick_cell.specs.declared.names.Terminal.TheVariants.{Node as NodeEnd}
-use Rattle.stick_cell.specs.declared.names.Found.TheVariants.{At}
-use Rattle.stick_cell.specs.Known.{Known, Plug, begun, cell_of, known_at, plug_at}
-use Rattle.stick_cell.specs.Paths.{found_at}
-use Rattle.stick_cell.specs.Checks.{demand, layer_of}
-use Rattle.stick_cell.specs.Lines.{after_form, after_lines, after_cell, is_new_cell, cells_after, is_wired, known_cells}
-use Rattle.stick_cell.specs.Counts.{weight_of}
-use Rattle.cell_model.specs.Counts.{items_in, layer_items, kind_items, node_items, wire_items}
-use Rattle.cell_model.specs.Sound.{node_at, port_at, IsPort, IsSound, IsLight}
-use Rattle.stick_cell.specs.Grown.{IsSpot, IsPlug, IsGrown, AreGrown}
-use Rattle.stick_cell.proofs.Accepted.{bound, two_bound, ok_same, at_line_ok, true_from_demand}
-use Rattle.stick_cell.proofs.GrownNames.{at_end_of}
-use Rattle.stick_cell.proofs.GrownWires.{port_of_plug}
-use Rattle.stick_cell.proofs.GrownForms.{with_node_grown, port_grown, use_grown, wire_grown, limit_grown}
-use Rattle.stick_cell.proofs.Made.{joint_made, contact_made, buried_made, fet_made, port_made, use_made, wire_made, limit_made}
-use Rattle.stick_cell.proofs.PathsApart.{apart_none}
-use Rattle.stick_cell.proofs.GrownPlugs.{all_wired}
+use Rattle.stick_cell.specs.declared.names.{Spot.Spot, Terminal.TheVariants.Node as NodeEnd, Found.TheVariants.At}
+use Rattle.stick_cell.specs.{Known.{Known, Plug, begun, cell_of, known_at, plug_at}, Paths.found_at, Checks.demand}
+use Rattle.stick_cell.specs.{Checks.layer_of, Lines.{after_form, after_lines, after_cell, is_new_cell, cells_after}}
+use Rattle.stick_cell.specs.{Lines.{is_wired, known_cells}, Counts.weight_of, Grown.{IsSpot, IsPlug, IsGrown, AreGrown}}
+use Rattle.stick_cell.proofs.{Accepted.{bound, two_bound, ok_same, at_line_ok, true_from_demand}, GrownNames.at_end_of}
+use Rattle.stick_cell.proofs.{GrownWires.port_of_plug, GrownForms.{with_node_grown, port_grown, use_grown, wire_grown}}
+use Rattle.stick_cell.proofs.{GrownForms.limit_grown, Made.{joint_made, contact_made, buried_made, fet_made, port_made}}
+use Rattle.stick_cell.proofs.{Made.{use_made, wire_made, limit_made}, PathsApart.apart_none, GrownPlugs.all_wired}
 
 -- a cell before its first line
 pub grown-begun : (tech : Tech) (cells : List Known) (name : List ℕ) → IsGrown tech cells (begun name)

@@ -1,41 +1,32 @@
 -- Each form of line keeps what a cell has.
-use Rattle.std.proofs.Common.{◌≡◌, ℕ, ◌+◌, ◌<◌, ◌≤◌, ℤ, pos, false, List, [], ◌∷◌, ◌++◌, length, take, map, Option, Some, refl, sym, ap, subst, ◌∙◌, arith}
-use Rattle.std.specs.Prelude.{IsTrue, ◌&&◌}
-use Rattle.std.specs.List.{AllByRecursion}
+use Rattle.std.proofs.Common.{◌≡◌, ℕ, ◌+◌, ◌<◌, ◌≤◌, ℤ, pos, false, List, [], ◌∷◌, ◌++◌, length, take, map, Option}
+use Rattle.std.proofs.Common.{Some, refl, sym, ap, subst, ◌∙◌, arith}
 use Rattle.std.proofs.lemmas.List.{length-append, length-map, get_or-append-add, get_or-map, get_or_push}
-use Rattle.rule_table.specs.declared.technology.Tech.{Tech}
-use Rattle.rule_table.specs.declared.classes.Layer.{Layer}
-use Rattle.stick_parse.specs.declared.design.Layer.{Layer as DrawnLayer}
+use Rattle.std.specs.{Prelude.{IsTrue, ◌&&◌}, List.AllByRecursion}
+use Rattle.rule_table.specs.declared.{technology.Tech.Tech, classes.Layer.Layer}
+use Rattle.stick_parse.specs.{declared.design.Layer.Layer as DrawnLayer, Writable.IsName}
 use Rattle.lam_geom.specs.declared.boxes.Side.{Side}
 use Rattle.stick_lex.specs.Numbers.{IsNumber}
-use Rattle.stick_parse.specs.Writable.{IsName}
-use Rattle.cell_model.specs.declared.cell.NodeKind.{NodeKind}
-use Rattle.cell_model.specs.declared.cell.Node.{Node}
-use Rattle.cell_model.specs.declared.cell.Wire.{Wire}
-use Rattle.cell_model.specs.declared.cell.Limit.{Limit}
-use Rattle.stick_cell.specs.declared.names.Copied.{Copied}
-use Rattle.stick_cell.specs.declared.names.Thing.{Thing}
-use Rattle.stick_cell.specs.declared.names.Thing.TheVariants as things
-use Rattle.stick_cell.specs.declared.names.Terminal.{Terminal}
-use Rattle.stick_cell.specs.declared.names.Terminal.TheVariants.{Node as NodeEnd}
-use Rattle.stick_cell.specs.declared.names.Found.{Found}
-use Rattle.stick_cell.specs.declared.names.Found.TheVariants.{At}
-use Rattle.stick_cell.specs.Known.{Known, Plug, cell_of, known_at, with_node, with_port, with_wire, with_limit, with_copy, plugged, plug_at, no_plug, copied_node, copied_wire, copied_limit, greatest_col, greatest_row}
-use Rattle.stick_cell.specs.Paths.{Names}
-use Rattle.stick_cell.specs.Checks.{layer_of, is_fresh, is_place}
-use Rattle.stick_cell.specs.Lines.{wired_of}
+use Rattle.cell_model.specs.declared.cell.{NodeKind.NodeKind, Node.Node, Wire.Wire, Limit.Limit}
 use Rattle.cell_model.specs.Sound.{node_at, no_node, IsNode, IsKind, IsWire, IsLimit}
-use Rattle.stick_cell.specs.Grown.{IsSpot, IsCopy, IsRight, IsGrown, AreGrown}
-use Rattle.stick_cell.proofs.Accepted.{both, place_from_test}
+use Rattle.stick_cell.specs.declared.names.{Copied.Copied, Thing.Thing, Terminal.Terminal}
+use Rattle.stick_cell.specs.declared.names.{Terminal.TheVariants.Node as NodeEnd, Found.{Found, TheVariants.At}}
+use Rattle.stick_cell.specs.Known.{Known, Plug, cell_of, known_at, with_node, with_port, with_wire, with_limit}
+use Rattle.stick_cell.specs.Known.{with_copy, plugged, plug_at, no_plug, copied_node, copied_wire, copied_limit}
+use Rattle.stick_cell.specs.{Known.{greatest_col, greatest_row}, Paths.Names, Checks.{layer_of, is_fresh, is_place}}
+use Rattle.stick_cell.specs.{Lines.wired_of, Grown.{IsSpot, IsCopy, IsRight, IsGrown, AreGrown}}
+use Rattle.stick_cell.proofs.{Accepted.{both, place_from_test}, GrownLists.{within_greatest_col, within_greatest_row}}
+use Rattle.stick_cell.proofs.GrownNames.{MoreNodes, MorePlugs, same_nodes, more_nodes, same_plugs, more_plugs}
+use Rattle.stick_cell.proofs.GrownNames.{same_cells, copy_of_same, AreRight, all_right_kept, IsAt, at_end_of}
+use Rattle.stick_cell.proofs.GrownWires.{Holds, more_of, wire_kept, limit_kept, wire_copied, limit_copied, NoneEndsAt}
+use Rattle.stick_cell.proofs.{GrownWires.{none_past_ports, none_of_copies}, GrownRuns.{accepted_run, run_of_paths}}
+use Rattle.stick_cell.proofs.{GrownRuns.{is_wire, EndsFree, ends_free}, GrownSides.{AreSidesApart, sides_append}}
+use Rattle.stick_cell.proofs.GrownSides.{sides_more, sides_copied, sides_elsewhere, sides_new, sides_one}
+use Rattle.stick_cell.proofs.{PathsApart.{apart_node, apart_named, apart_copied}, Made.{IsWithNode, IsWithPort}}
+use Rattle.stick_cell.proofs.{Made.{IsWithCopy, IsWithWire, IsWithLimit}, GrownPlugs.{plugs_kept, plugs_pushed}}
+use Rattle.stick_cell.proofs.GrownPlugs.{more_plugged, plugs_wired, more_plugs_twice}
+use Rattle.stick_cell.specs.declared.names.Thing.TheVariants as things
 use Rattle.list_facts.proofs.Elements.{all_append, all_weaker, all_map}
-use Rattle.stick_cell.proofs.GrownLists.{within_greatest_col, within_greatest_row}
-use Rattle.stick_cell.proofs.GrownNames.{MoreNodes, MorePlugs, same_nodes, more_nodes, same_plugs, more_plugs, same_cells, copy_of_same, AreRight, all_right_kept, IsAt, at_end_of}
-use Rattle.stick_cell.proofs.GrownWires.{Holds, more_of, wire_kept, limit_kept, wire_copied, limit_copied, NoneEndsAt, none_past_ports, none_of_copies}
-use Rattle.stick_cell.proofs.GrownRuns.{accepted_run, run_of_paths, is_wire, EndsFree, ends_free}
-use Rattle.stick_cell.proofs.GrownSides.{AreSidesApart, sides_append, sides_more, sides_copied, sides_elsewhere, sides_new, sides_one}
-use Rattle.stick_cell.proofs.PathsApart.{apart_node, apart_named, apart_copied}
-use Rattle.stick_cell.proofs.Made.{IsWithNode, IsWithPort, IsWithCopy, IsWithWire, IsWithLimit}
-use Rattle.stick_cell.proofs.GrownPlugs.{plugs_kept, plugs_pushed, more_plugged, plugs_wired, more_plugs_twice}
 
 -- ---- what a cell keeps where there is more
 

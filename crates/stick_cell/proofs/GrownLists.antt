@@ -1,7 +1,5 @@
 -- The greatest column and row of some nodes.
-use Rattle.std.proofs.Common.{ℕ, ◌≤◌, max, List, [], ◌∷◌, arith}
-use Rattle.std.specs.Prelude.{fold}
-use Rattle.std.specs.List.{AllByRecursion}
+use Rattle.std.{proofs.Common.{ℕ, ◌≤◌, max, List, [], ◌∷◌, arith}, specs.{Prelude.fold, List.AllByRecursion}}
 use Rattle.cell_model.specs.declared.cell.Node.{Node}
 use Rattle.stick_cell.specs.Known.{greatest_col, greatest_row}
 

@@ -1,27 +1,19 @@
 -- Names stand for what is there, and still do where there is more; a path that comes to a node is the node's name.
-use Rattle.std.proofs.Common.{◌≡◌, ℕ, ◌+◌, ◌<◌, ◌≤◌, Bool, true, false, cond, List, [], ◌∷◌, ◌++◌, length, take, map, Option, Some, None, refl, sym, ap, subst, ◌∙◌, arith}
-use Rattle.std.specs.Prelude.{option_map, option_and_then, bytes_eq}
-use Rattle.std.specs.List.{AllByRecursion, join_with_byte}
+use Rattle.std.proofs.Common.{◌≡◌, ℕ, ◌+◌, ◌<◌, ◌≤◌, Bool, true, false, cond, List, [], ◌∷◌, ◌++◌, length, take, map}
+use Rattle.std.proofs.{Common.{Option, Some, None, refl, sym, ap, subst, ◌∙◌, arith}, Math.ListN.get_or-map}
 use Rattle.std.proofs.lemmas.List.{get_or_append_left, get_or-take, length-append, length-take}
-use Rattle.std.proofs.Math.ListN.{get_or-map}
-use Rattle.std.proofs.lemmas.List.Splits.{join_with_byte-slice_split}
-use Rattle.std.proofs.lemmas.Slice.Eq.{bytes_eq-Decides}
+use Rattle.std.proofs.lemmas.{List.Splits.join_with_byte-slice_split, Slice.Eq.bytes_eq-Decides}
+use Rattle.std.specs.{Prelude.{option_map, option_and_then, bytes_eq}, List.{AllByRecursion, join_with_byte}}
 use Rattle.rule_table.specs.declared.technology.Tech.{Tech}
 use Rattle.stick_lex.specs.Tokens.{names}
-use Rattle.cell_model.specs.declared.cell.Node.{Node}
-use Rattle.stick_cell.specs.declared.names.Thing.{Thing}
+use Rattle.cell_model.specs.{declared.cell.Node.Node, Sound.{node_at, no_node}}
+use Rattle.stick_cell.specs.declared.names.{Thing.Thing, Terminal.Terminal, Found.{Found, TheVariants.{At, AtCopy}}}
+use Rattle.stick_cell.specs.declared.names.{Found.TheVariants.Through, Spot.Spot, Pin.Pin, Copied.Copied}
+use Rattle.stick_cell.specs.{Known.{Known, Plug, known_at, plug_at, begun, prefixed, copied_node}, Paths.{Names, named}}
+use Rattle.stick_cell.specs.{Paths.{names_at, spot_in_copy, seen_through, behind, walk, found_at}, Grown.IsSpot}
+use Rattle.stick_cell.specs.Grown.{IsPin, IsCopy, IsRight, AreGrown}
 use Rattle.stick_cell.specs.declared.names.Thing.TheVariants as things
-use Rattle.stick_cell.specs.declared.names.Terminal.{Terminal}
 use Rattle.stick_cell.specs.declared.names.Terminal.TheVariants as terminals
-use Rattle.stick_cell.specs.declared.names.Found.{Found}
-use Rattle.stick_cell.specs.declared.names.Found.TheVariants.{At, AtCopy, Through}
-use Rattle.stick_cell.specs.declared.names.Spot.{Spot}
-use Rattle.stick_cell.specs.declared.names.Pin.{Pin}
-use Rattle.stick_cell.specs.declared.names.Copied.{Copied}
-use Rattle.stick_cell.specs.Known.{Known, Plug, known_at, plug_at, begun, prefixed, copied_node}
-use Rattle.stick_cell.specs.Paths.{Names, named, names_at, spot_in_copy, seen_through, behind, walk, found_at}
-use Rattle.cell_model.specs.Sound.{node_at, no_node}
-use Rattle.stick_cell.specs.Grown.{IsSpot, IsPin, IsCopy, IsRight, AreGrown}
 
 -- ---- more nodes and ports
 

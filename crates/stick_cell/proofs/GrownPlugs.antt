@@ -1,19 +1,13 @@
 -- Ports as wires come to end at them.
-use Rattle.std.proofs.Common.{◌≡◌, ℕ, zero, suc, ◌-◌, ◌<◌, ◌≤◌, ◌≢◌, ℤ, true, false, List, [], ◌∷◌, ◌++◌, length, set, map, refl, sym, ap, subst, ◌∙◌, inl, inr, arith}
-use Rattle.std.specs.Prelude.{IsTrue, ◌⊎◌}
-use Rattle.std.specs.List.{list_all}
-use Rattle.std.proofs.lemmas.List.{length-set, length-append, get_or_append_left, get_or-append_right, get_or-set_same, get_or-set_other, get_or_push}
-use Rattle.std.proofs.lemmas.Bool.{cases_eq, cases_lt}
-use Rattle.cell_model.specs.declared.cell.WireEnd.{WireEnd}
+use Rattle.std.proofs.Common.{◌≡◌, ℕ, zero, suc, ◌-◌, ◌<◌, ◌≤◌, ◌≢◌, ℤ, true, false, List, [], ◌∷◌, ◌++◌, length, set}
+use Rattle.std.proofs.Common.{map, refl, sym, ap, subst, ◌∙◌, inl, inr, arith}
+use Rattle.std.proofs.lemmas.List.{length-set, length-append, get_or_append_left, get_or-append_right, get_or-set_same}
+use Rattle.std.proofs.lemmas.{List.{get_or-set_other, get_or_push}, Bool.{cases_eq, cases_lt}}
+use Rattle.std.specs.{Prelude.{IsTrue, ◌⊎◌}, List.list_all}
+use Rattle.cell_model.specs.{declared.cell.{WireEnd.WireEnd, Wire.Wire}, Sound.{wire_at, no_wire, EndsAt}}
 use Rattle.cell_model.specs.declared.cell.WireEnd.TheVariants as ends
-use Rattle.cell_model.specs.declared.cell.Wire.{Wire}
-use Rattle.stick_cell.specs.Known.{Plug, no_plug, plug_at, plugged}
-use Rattle.cell_model.specs.Sound.{wire_at, no_wire, EndsAt}
-use Rattle.stick_cell.specs.Grown.{IsPlug}
-use Rattle.stick_cell.proofs.Accepted.{both}
-use Rattle.stick_cell.proofs.GrownNames.{MorePlugs}
-use Rattle.stick_cell.proofs.GrownWires.{NoneEndsAt}
-use Rattle.stick_cell.proofs.GrownRuns.{EndsFree}
+use Rattle.stick_cell.specs.{Known.{Plug, no_plug, plug_at, plugged}, Grown.IsPlug}
+use Rattle.stick_cell.proofs.{Accepted.both, GrownNames.MorePlugs, GrownWires.NoneEndsAt, GrownRuns.EndsFree}
 
 -- each port is near, and its wire alone ends there
 abbrev pub ArePlugs : List Wire → List Plug → Type 0

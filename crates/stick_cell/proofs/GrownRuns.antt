@@ -1,42 +1,29 @@
 -- A wire that was accepted runs straight between two terminals that take it, and ends at no port that had a wire.
-use Rattle.std.proofs.Common.{◌≡◌, ℕ, ◌<◌, ℤ, Bool, true, false, List, length, map, Option, Some, None, Result, Ok, refl, sym, ap, subst, ◌∙◌, inl, inr, arith}
+use Rattle.std.proofs.Common.{◌≡◌, ℕ, ◌<◌, ℤ, Bool, true, false, List, length, map, Option, Some, None, Result, Ok}
+use Rattle.std.proofs.{Common.{refl, sym, ap, subst, ◌∙◌, inl, inr, arith}, Math.ListN.get_or-map}
+use Rattle.std.proofs.lemmas.{List.length-map, Bool.not-true}
 use Rattle.std.specs.Prelude.{IsTrue, ◌≤ℤ◌, int_le, not, ◌&&◌, ◌||◌, ◌==◌, nat_lt, if◌then◌else◌}
-use Rattle.std.proofs.lemmas.List.{length-map}
-use Rattle.std.proofs.lemmas.Bool.{not-true}
-use Rattle.std.proofs.Math.ListN.{get_or-map}
-use Rattle.rule_table.specs.Bounds.{IsSize}
-use Rattle.rule_table.specs.Technology.{width_of}
-use Rattle.rule_table.specs.declared.technology.Tech.{Tech}
-use Rattle.rule_table.specs.declared.classes.Layer.{Layer}
-use Rattle.stick_parse.specs.declared.fault.StickKind.{StickKind}
-use Rattle.stick_parse.specs.declared.fault.StickKind.TheVariants.{WrongLayer, WrongSide, PortWires, NarrowWire, WideWire}
+use Rattle.rule_table.specs.{Bounds.IsSize, Technology.width_of, declared.{technology.Tech.Tech, classes.Layer.Layer}}
+use Rattle.stick_parse.specs.declared.fault.StickKind.{StickKind, TheVariants.{WrongLayer, WrongSide, PortWires}}
+use Rattle.stick_parse.specs.{declared.fault.StickKind.TheVariants.{NarrowWire, WideWire}, Reading.◌>>=◌}
 use Rattle.lam_geom.specs.declared.boxes.Side.{Side}
-use Rattle.stick_parse.specs.Reading.{◌>>=◌}
-use Rattle.cell_model.specs.declared.cell.Axis2.{Axis2}
-use Rattle.cell_model.specs.declared.cell.Axis2.TheVariants.{Across, Up}
-use Rattle.cell_model.specs.declared.cell.NodeKind.{NodeKind}
+use Rattle.cell_model.specs.declared.cell.{Axis2.{Axis2, TheVariants.{Across, Up}}, NodeKind.NodeKind, Node.Node}
+use Rattle.cell_model.specs.{declared.cell.{Wire.Wire, Port.Port, Cell.Cell}, Wiring.{is_same_axis, axis_of}}
+use Rattle.cell_model.specs.Wiring.{is_low_side, is_same_layer, node_takes, node_takes_along, buried_pad, node_pad}
+use Rattle.cell_model.specs.Sound.{node_at, port_at, IsEnd, Takes, IsOnLowSide, IsOnHighSide, line_at, IsInOrder}
+use Rattle.cell_model.specs.Sound.{IsWithinPad, FillsKind, FillsPad, IsWire, EndsAt}
 use Rattle.cell_model.specs.declared.cell.NodeKind.TheVariants as kinds
-use Rattle.cell_model.specs.declared.cell.Node.{Node}
 use Rattle.cell_model.specs.declared.cell.WireEnd.TheVariants as ends
-use Rattle.cell_model.specs.declared.cell.Wire.{Wire}
-use Rattle.cell_model.specs.declared.cell.Port.{Port}
-use Rattle.cell_model.specs.declared.cell.Cell.{Cell}
-use Rattle.stick_cell.specs.declared.names.Spot.{Spot}
-use Rattle.stick_cell.specs.declared.names.Pin.{Pin}
-use Rattle.stick_cell.specs.declared.names.Terminal.{Terminal}
+use Rattle.stick_cell.specs.declared.names.{Spot.Spot, Pin.Pin, Terminal.Terminal, Found.{Found, TheVariants.At}}
+use Rattle.stick_cell.specs.{declared.names.Run.Run, Known.{Known, Plug, cell_of, no_plug, plug_at}, Checks.demand}
+use Rattle.stick_cell.specs.{Checks.sized, Wires.{terminal, line_of, run_along, run_from_port, run_to_port}}
+use Rattle.stick_cell.specs.Wires.{run_between, straight, run_of, takes_layer, takes_along, is_buried, are_sides_free}
+use Rattle.stick_cell.specs.Wires.{is_free, fills_pad, is_within_pad, end_of, at_both, wire_along, wire_where}
+use Rattle.stick_cell.{specs.Wires.wire_between, proofs.Accepted.{bound, two_bound, demanded, two_demanded, both}}
+use Rattle.stick_cell.proofs.Accepted.{terminal_ok, straight_ok, ok_same, eq_from_test, less_from_test, more_from_test}
+use Rattle.stick_cell.proofs.{Accepted.le_from_test, GrownNames.IsAt, GrownWires.{order_to_port, order_from_port}}
+use Rattle.stick_cell.proofs.{GrownWires.port_of_plug, GrownSizes.size_of_sized}
 use Rattle.stick_cell.specs.declared.names.Terminal.TheVariants as terminals
-use Rattle.stick_cell.specs.declared.names.Found.{Found}
-use Rattle.stick_cell.specs.declared.names.Found.TheVariants.{At}
-use Rattle.stick_cell.specs.declared.names.Run.{Run}
-use Rattle.stick_cell.specs.Known.{Known, Plug, cell_of, no_plug, plug_at}
-use Rattle.stick_cell.specs.Checks.{demand, sized}
-use Rattle.stick_cell.specs.Wires.{terminal, line_of, run_along, run_from_port, run_to_port, run_between, straight, run_of, takes_layer, takes_along, is_buried, are_sides_free, is_free, fills_pad, is_within_pad, end_of, at_both, wire_along, wire_where, wire_between}
-use Rattle.cell_model.specs.Wiring.{is_same_axis, axis_of, is_low_side, is_same_layer, node_takes, node_takes_along, buried_pad, node_pad}
-use Rattle.cell_model.specs.Sound.{node_at, port_at, IsEnd, Takes, IsOnLowSide, IsOnHighSide, line_at, IsInOrder, IsWithinPad, FillsKind, FillsPad, IsWire, EndsAt}
-use Rattle.stick_cell.proofs.Accepted.{bound, two_bound, demanded, two_demanded, both, terminal_ok, straight_ok, ok_same, eq_from_test, less_from_test, more_from_test, le_from_test}
-use Rattle.stick_cell.proofs.GrownNames.{IsAt}
-use Rattle.stick_cell.proofs.GrownWires.{order_to_port, order_from_port, port_of_plug}
-use Rattle.stick_cell.proofs.GrownSizes.{size_of_sized}
 
 -- ---- terminals
 

@@ -1,32 +1,19 @@
 -- No poly wire leaves a buried contact where a diffusion wire does: in more nodes, in a copy, and with a new wire whose sides are free.
-use Rattle.std.proofs.Common.{◌≡◌, ℕ, zero, suc, ◌+◌, ◌<◌, ◌≤◌, Bool, true, false, List, [], ◌∷◌, ◌++◌, length, map, get_or, refl, sym, ap, subst, ◌∙◌, inl, inr, arith}
-use Rattle.std.specs.Prelude.{IsTrue, not, ◌&&◌, ◌||◌, ◌⊎◌, if◌then◌else◌}
-use Rattle.std.specs.List.{AllByRecursion, list_all}
-use Rattle.std.proofs.lemmas.List.{length-map, get_or-map}
-use Rattle.std.proofs.lemmas.Bool.Decides.{Decides-eqb}
-use Rattle.rule_table.specs.declared.technology.Tech.{Tech}
-use Rattle.rule_table.specs.declared.classes.Layer.{Layer}
-use Rattle.rule_table.specs.declared.classes.Layer.TheVariants.{Diffusion, Poly, Metal}
-use Rattle.cell_model.specs.declared.cell.Axis2.{Axis2}
-use Rattle.cell_model.specs.declared.cell.Axis2.TheVariants.{Across, Up}
-use Rattle.cell_model.specs.declared.cell.Node.{Node}
-use Rattle.cell_model.specs.declared.cell.WireEnd.{WireEnd}
+use Rattle.std.proofs.Common.{◌≡◌, ℕ, zero, suc, ◌+◌, ◌<◌, ◌≤◌, Bool, true, false, List, [], ◌∷◌, ◌++◌, length, map}
+use Rattle.std.proofs.Common.{get_or, refl, sym, ap, subst, ◌∙◌, inl, inr, arith}
+use Rattle.std.proofs.lemmas.{List.{length-map, get_or-map}, Bool.Decides.Decides-eqb}
+use Rattle.std.specs.{Prelude.{IsTrue, not, ◌&&◌, ◌||◌, ◌⊎◌, if◌then◌else◌}, List.{AllByRecursion, list_all}}
+use Rattle.rule_table.specs.declared.{technology.Tech.Tech, classes.Layer.{Layer, TheVariants.{Diffusion, Poly, Metal}}}
+use Rattle.cell_model.specs.declared.cell.{Axis2.{Axis2, TheVariants.{Across, Up}}, Node.Node, WireEnd.WireEnd}
+use Rattle.cell_model.specs.{declared.cell.{Wire.Wire, Cell.Cell}, Wiring.{is_same_axis, is_same_layer}, Sound.wire_at}
+use Rattle.cell_model.specs.Sound.{no_wire, IsEnd, IsWire, IsBuriedEnd, LeaveOneSide}
 use Rattle.cell_model.specs.declared.cell.WireEnd.TheVariants as ends
-use Rattle.cell_model.specs.declared.cell.Wire.{Wire}
-use Rattle.cell_model.specs.declared.cell.Cell.{Cell}
-use Rattle.cell_model.specs.Wiring.{is_same_axis, is_same_layer}
-use Rattle.cell_model.specs.Sound.{wire_at, no_wire, IsEnd, IsWire, IsBuriedEnd, LeaveOneSide}
 use Rattle.list_facts.proofs.Elements.{all_at}
-use Rattle.stick_cell.specs.declared.names.Terminal.{Terminal}
-use Rattle.stick_cell.specs.declared.names.Terminal.TheVariants as terminals
-use Rattle.stick_cell.specs.declared.names.Run.{Run}
-use Rattle.stick_cell.specs.Known.{copied_end, copied_wire}
+use Rattle.stick_cell.specs.{declared.names.{Terminal.Terminal, Run.Run}, Known.{copied_end, copied_wire}}
 use Rattle.stick_cell.specs.Wires.{is_buried, is_node, leaves, is_side_free, are_sides_free, end_of}
-use Rattle.stick_cell.proofs.Accepted.{both}
-use Rattle.stick_cell.proofs.GrownNames.{MoreNodes}
-use Rattle.stick_cell.proofs.GrownWires.{Holds}
-use Rattle.stick_cell.proofs.GrownRuns.{IsTerminalOf}
+use Rattle.stick_cell.proofs.{Accepted.both, GrownNames.MoreNodes, GrownWires.Holds, GrownRuns.IsTerminalOf}
 use Rattle.stick_cell.proofs.PathsApart.{IsOfFirst, IsOfSecond, of_either}
+use Rattle.stick_cell.specs.declared.names.Terminal.TheVariants as terminals
 
 -- where one of the first wires and one of the others leave a buried contact on one side, they are of one layer
 abbrev pub AreSidesApart : Cell → List Wire → List Wire → Type 0

@@ -1,27 +1,18 @@
 -- Wires and limits end where they did where there is more, and in a copy; no wire of a copy ends at a port.
 use Rattle.std.proofs.Common.{◌≡◌, ℕ, ◌+◌, ◌<◌, ◌≤◌, List, [], length, map, refl, sym, ap, subst, ◌∙◌, inl, inr, arith}
-use Rattle.std.specs.Prelude.{IsTrue, not, ◌≤ℤ◌}
-use Rattle.std.specs.List.{AllByRecursion}
-use Rattle.std.proofs.lemmas.List.{length-map}
-use Rattle.std.proofs.Math.ListN.{get_or-map}
-use Rattle.rule_table.specs.declared.technology.Tech.{Tech}
-use Rattle.rule_table.specs.declared.classes.Layer.{Layer}
+use Rattle.std.proofs.{lemmas.List.length-map, Math.ListN.get_or-map}
+use Rattle.std.specs.{Prelude.{IsTrue, not, ◌≤ℤ◌}, List.AllByRecursion}
+use Rattle.rule_table.specs.declared.{technology.Tech.Tech, classes.Layer.Layer}
 use Rattle.lam_geom.specs.declared.boxes.Side.{Side}
-use Rattle.cell_model.specs.declared.cell.Axis2.{Axis2}
-use Rattle.cell_model.specs.declared.cell.Axis2.TheVariants.{Across, Up}
-use Rattle.cell_model.specs.declared.cell.NodeKind.{NodeKind}
-use Rattle.cell_model.specs.declared.cell.Node.{Node}
-use Rattle.cell_model.specs.declared.cell.WireEnd.{WireEnd}
-use Rattle.cell_model.specs.declared.cell.WireEnd.TheVariants as ends
-use Rattle.cell_model.specs.declared.cell.Wire.{Wire}
-use Rattle.cell_model.specs.declared.cell.Port.{Port}
-use Rattle.cell_model.specs.declared.cell.Limit.{Limit}
-use Rattle.cell_model.specs.declared.cell.Cell.{Cell}
-use Rattle.stick_cell.specs.Known.{Known, Plug, cell_of, no_plug, plug_at, copied_node, copied_end, copied_wire, copied_limit}
+use Rattle.cell_model.specs.declared.cell.{Axis2.{Axis2, TheVariants.{Across, Up}}, NodeKind.NodeKind, Node.Node}
+use Rattle.cell_model.specs.declared.cell.{WireEnd.WireEnd, Wire.Wire, Port.Port, Limit.Limit, Cell.Cell}
 use Rattle.cell_model.specs.Wiring.{axis_of, is_low_side, node_takes, node_takes_along, node_pad, is_same_layer}
-use Rattle.cell_model.specs.Sound.{node_at, port_at, wire_at, no_wire, IsEnd, Takes, IsOnLowSide, IsOnHighSide, line_at, IsInOrder, IsWithinPad, FillsKind, FillsPad, IsWire, EndsAt, IsLimit}
+use Rattle.cell_model.specs.Sound.{node_at, port_at, wire_at, no_wire, IsEnd, Takes, IsOnLowSide, IsOnHighSide, line_at}
+use Rattle.cell_model.specs.Sound.{IsInOrder, IsWithinPad, FillsKind, FillsPad, IsWire, EndsAt, IsLimit}
+use Rattle.cell_model.specs.declared.cell.WireEnd.TheVariants as ends
+use Rattle.stick_cell.specs.Known.{Known, Plug, cell_of, no_plug, plug_at, copied_node, copied_end, copied_wire}
+use Rattle.stick_cell.{specs.Known.copied_limit, proofs.GrownNames.{MoreNodes, MorePlugs}}
 use Rattle.list_facts.proofs.Elements.{all_map, all_weaker, all_at}
-use Rattle.stick_cell.proofs.GrownNames.{MoreNodes, MorePlugs}
 
 -- ---- ends that are seen in another cell
 

@@ -1,13 +1,10 @@
 -- A result and what would be wrong: where it is refused that is so, and where it is not that is not.
-use Rattle.std.proofs.Common.{◌≡◌, ◌≢◌, ℕ, ◌<◌, ◌≤◌, ◌==◌, ◌%◌, nat_lt, nat_le, suc, Bool, true, false, not, ◌&&◌, ℤ, List, [], ◌∷◌, length, get_or, Result, Ok, Err, IsTrue, refl, sym, ap, subst, inl, inr, arith}
-use Rattle.std.specs.Prelude.{◌⊎◌, int_le, ◌<ℤ◌}
-use Rattle.std.specs.List.{list_all}
-use Rattle.std.proofs.lemmas.Bool.Decides.{nat_tests}
-use Rattle.std.proofs.lemmas.Int.{ints}
-use Rattle.stick_parse.specs.declared.fault.StickKind.{StickKind}
-use Rattle.stick_parse.specs.Reading.{◌>>=◌}
-use Rattle.stick_cell.specs.Checks.{demand}
-use Rattle.stick_cell.specs.Lines.{is_empty}
+use Rattle.std.proofs.Common.{◌≡◌, ◌≢◌, ℕ, ◌<◌, ◌≤◌, ◌==◌, ◌%◌, nat_lt, nat_le, suc, Bool, true, false, not, ◌&&◌, ℤ}
+use Rattle.std.proofs.Common.{List, [], ◌∷◌, length, get_or, Result, Ok, Err, IsTrue, refl, sym, ap, subst, inl, inr}
+use Rattle.std.proofs.{Common.arith, lemmas.{Bool.Decides.nat_tests, Int.ints}}
+use Rattle.std.specs.{Prelude.{◌⊎◌, int_le, ◌<ℤ◌}, List.list_all}
+use Rattle.stick_parse.specs.{declared.fault.StickKind.StickKind, Reading.◌>>=◌}
+use Rattle.stick_cell.specs.{Checks.demand, Lines.is_empty}
 use Rattle.stick_cell.proofs.Accepted.{eq_from_test, apart_from_test, both, ok_same}
 
 -- ---- tests

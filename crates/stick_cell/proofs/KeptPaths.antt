@@ -1,22 +1,14 @@
 -- Paths walked over what the code keeps of the names: what they come to is what they come to over the names themselves, as far as the code keeps it.
-use Rattle.std.proofs.Common.{◌≡◌, ℕ, ◌+◌, List, [], ◌∷◌, map, Option, Some, None, option_map, option_and_then, refl, sym, ap, ◌∙◌, arith}
-use Rattle.std.proofs.Math.ListN.{get_or-map}
+use Rattle.std.proofs.Common.{◌≡◌, ℕ, ◌+◌, List, [], ◌∷◌, map, Option, Some, None, option_map, option_and_then, refl}
+use Rattle.std.proofs.{Common.{sym, ap, ◌∙◌, arith}, Math.ListN.get_or-map}
 use Rattle.stick_lex.specs.Tokens.{names}
-use Rattle.stick_cell.specs.declared.names.Copied.{Copied}
-use Rattle.stick_cell.specs.declared.names.Thing.{Thing}
+use Rattle.stick_cell.specs.declared.names.{Copied.Copied, Thing.Thing, Found.{Found, TheVariants.{At, AtCopy}}}
+use Rattle.stick_cell.specs.{declared.{names.Found.TheVariants.Through, table.Table.Table}, Known.Known, Counts.capped}
+use Rattle.stick_cell.specs.{Paths.{Names, named, names_at, seen_through, behind, walk, found_at}, Kept.capped_thing}
+use Rattle.stick_cell.specs.{Kept.{capped_names, ended, kept_found}, NameEntries.entries_of, Tables.AreTables}
+use Rattle.stick_cell.proofs.{LineSteps.named-capped, Composed.kept_all_through}
 use Rattle.stick_cell.specs.declared.names.Thing.TheVariants as things
 use Rattle.stick_cell.specs.declared.names.Terminal.TheVariants as terminals
-use Rattle.stick_cell.specs.declared.names.Found.{Found}
-use Rattle.stick_cell.specs.declared.names.Found.TheVariants.{At, AtCopy, Through}
-use Rattle.stick_cell.specs.declared.table.Table.{Table}
-use Rattle.stick_cell.specs.Known.{Known}
-use Rattle.stick_cell.specs.Counts.{capped}
-use Rattle.stick_cell.specs.Paths.{Names, named, names_at, seen_through, behind, walk, found_at}
-use Rattle.stick_cell.specs.Kept.{capped_thing, capped_names, ended, kept_found}
-use Rattle.stick_cell.specs.NameEntries.{entries_of}
-use Rattle.stick_cell.specs.Tables.{AreTables}
-use Rattle.stick_cell.proofs.LineSteps.{named-capped}
-use Rattle.stick_cell.proofs.Composed.{kept_all_through}
 
 -- ---- what a path comes to
 

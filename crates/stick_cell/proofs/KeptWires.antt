@@ -1,25 +1,18 @@
 -- Wires and limits over what the code keeps of the things that are found: for things that lie near, they are those of the definition, with the
 -- numbers of nodes capped.
-use Rattle.std.proofs.Common.{◌≡◌, ℕ, ◌≤◌, nat_lt, Bool, true, false, not, cond, ◌==◌, ◌&&◌, ◌||◌, ℤ, List, Option, Some, None, option_map, Result, Ok, Err, refl, ap, ◌∙◌, arith}
-use Rattle.rule_table.specs.declared.technology.Tech.{Tech}
-use Rattle.rule_table.specs.declared.classes.Layer.{Layer}
-use Rattle.stick_parse.specs.declared.fault.StickKind.{StickKind}
-use Rattle.stick_parse.specs.declared.fault.StickKind.TheVariants.{WrongLayer, WrongSide, PortWires, NarrowWire, WideWire}
-use Rattle.stick_parse.specs.Reading.{◌>>=◌}
-use Rattle.cell_model.specs.declared.cell.Axis2.{Axis2}
-use Rattle.cell_model.specs.declared.cell.Axis2.TheVariants.{Across, Up}
-use Rattle.cell_model.specs.declared.cell.Wire.{Wire}
-use Rattle.stick_cell.specs.declared.names.Pin.{Pin}
-use Rattle.stick_cell.specs.declared.names.Spot.{Spot}
-use Rattle.stick_cell.specs.declared.names.Terminal.{Terminal}
-use Rattle.stick_cell.specs.declared.names.Terminal.TheVariants.{Node, Port}
-use Rattle.stick_cell.specs.declared.names.Found.{Found}
-use Rattle.stick_cell.specs.declared.names.Found.TheVariants.{At, AtCopy, Through}
-use Rattle.stick_cell.specs.declared.names.Run.{Run}
-use Rattle.stick_cell.specs.Checks.{demand, sized}
-use Rattle.stick_cell.specs.Wires.{terminal, line_of, run_along, run_from_port, run_to_port, run_between, straight, run_of, takes_layer, takes_along, is_free, fills_pad, is_within_pad, end_of, at_both, wire_along, wire_where, limited}
+use Rattle.std.proofs.Common.{◌≡◌, ℕ, ◌≤◌, nat_lt, Bool, true, false, not, cond, ◌==◌, ◌&&◌, ◌||◌, ℤ, List, Option}
+use Rattle.std.proofs.Common.{Some, None, option_map, Result, Ok, Err, refl, ap, ◌∙◌, arith}
+use Rattle.rule_table.specs.declared.{technology.Tech.Tech, classes.Layer.Layer}
+use Rattle.stick_parse.specs.declared.fault.StickKind.{StickKind, TheVariants.{WrongLayer, WrongSide, PortWires}}
+use Rattle.stick_parse.specs.{declared.fault.StickKind.TheVariants.{NarrowWire, WideWire}, Reading.◌>>=◌}
+use Rattle.cell_model.specs.declared.cell.{Axis2.{Axis2, TheVariants.{Across, Up}}, Wire.Wire}
 use Rattle.cell_model.specs.Wiring.{axis_of, is_low_side, is_same_axis}
-use Rattle.stick_cell.specs.Kept.{ended, kept_spot, kept_found, capped_spot, capped_end, capped_wire, IsNearFound}
+use Rattle.stick_cell.specs.declared.names.{Pin.Pin, Spot.Spot, Terminal.{Terminal, TheVariants.{Node, Port}}}
+use Rattle.stick_cell.specs.declared.names.{Found.{Found, TheVariants.{At, AtCopy, Through}}, Run.Run}
+use Rattle.stick_cell.specs.{Checks.{demand, sized}, Wires.{terminal, line_of, run_along, run_from_port, run_to_port}}
+use Rattle.stick_cell.specs.Wires.{run_between, straight, run_of, takes_layer, takes_along, is_free, fills_pad}
+use Rattle.stick_cell.specs.{Wires.{is_within_pad, end_of, at_both, wire_along, wire_where, limited}, Kept.ended}
+use Rattle.stick_cell.specs.Kept.{kept_spot, kept_found, capped_spot, capped_end, capped_wire, IsNearFound}
 
 -- an `Ok` seen by view
 abbrev pub result_map : {A B E : Type 0} → (A → B) → Result A E → Result B E

@@ -1,30 +1,18 @@
 -- The lines of a cell, one by one.
-use Rattle.std.proofs.Common.{◌≡◌, ℕ, ◌+◌, ◌<◌, ◌≤◌, Bool, true, not, is_none, is_some, List, ◌∷◌, length, get_or, drop, Option, Some, None, Result, Ok, Err, refl, sym, ap, subst, ◌∙◌}
-use Rattle.std.specs.Prelude.{bytes_eq, position}
-use Rattle.std.specs.List.{AllByRecursion}
-use Rattle.std.proofs.lemmas.List.{drop_more, drop_all}
-use Rattle.std.specs.Result.{IsErrAnd}
+use Rattle.std.proofs.Common.{◌≡◌, ℕ, ◌+◌, ◌<◌, ◌≤◌, Bool, true, not, is_none, is_some, List, ◌∷◌, length, get_or, drop}
+use Rattle.std.proofs.{Common.{Option, Some, None, Result, Ok, Err, refl, sym, ap, subst, ◌∙◌}, lemmas.List.drop_more}
+use Rattle.std.{proofs.lemmas.List.drop_all, specs.{Prelude.{bytes_eq, position}, List.AllByRecursion, Result.IsErrAnd}}
 use Rattle.rule_table.specs.declared.technology.Tech.{Tech}
-use Rattle.stick_parse.specs.declared.fault.StickFault.{StickFault}
-use Rattle.stick_parse.specs.declared.fault.LineFault.{LineFault}
-use Rattle.stick_parse.specs.declared.fault.LineFault.TheVariants as line_faults
-use Rattle.stick_parse.specs.declared.fault.ParseFault.{ParseFault}
+use Rattle.stick_parse.specs.declared.fault.{StickFault.StickFault, LineFault.LineFault, ParseFault.ParseFault}
 use Rattle.stick_parse.specs.declared.fault.ParseFault.TheVariants.{Stick, OutOfMemory}
-use Rattle.stick_parse.specs.declared.fault.StickKind.TheVariants.{RepeatedName, PortWires}
-use Rattle.stick_parse.specs.declared.design.Line.{Line}
+use Rattle.stick_parse.specs.declared.{fault.StickKind.TheVariants.{RepeatedName, PortWires}, design.Line.Line}
 use Rattle.stick_parse.specs.declared.design.CellText.{CellText}
-use Rattle.stick_parse.specs.Reading.{◌>>=◌, Fails}
-use Rattle.stick_parse.specs.Order.{at_line}
-use Rattle.stick_parse.specs.Writable.{IsForm, IsLine}
+use Rattle.stick_parse.specs.{Reading.{◌>>=◌, Fails}, Order.at_line, Writable.{IsForm, IsLine}}
+use Rattle.stick_parse.specs.declared.fault.LineFault.TheVariants as line_faults
 use Rattle.list_facts.proofs.Elements.{all_at}
-use Rattle.stick_cell.specs.Known.{Known, begun}
-use Rattle.stick_cell.specs.Lines.{after_form, after_lines, is_wired, is_new_cell, after_cell}
-use Rattle.stick_cell.specs.Checks.{demand}
-use Rattle.stick_cell.specs.declared.table.Table.{Table}
-use Rattle.stick_cell.specs.Tables.{AreTables}
-use Rattle.stick_cell.specs.Growing.{RefusesLine}
-use Rattle.stick_cell.specs.Resolving.{fault_at_line, TellsTable}
-use Rattle.stick_cell.proofs.TableReads.{position-name}
+use Rattle.stick_cell.specs.{Known.{Known, begun}, Lines.{after_form, after_lines, is_wired, is_new_cell, after_cell}}
+use Rattle.stick_cell.specs.{Checks.demand, declared.table.Table.Table, Tables.AreTables, Growing.RefusesLine}
+use Rattle.stick_cell.{specs.Resolving.{fault_at_line, TellsTable}, proofs.TableReads.position-name}
 
 -- the lines from one on: that line, and the lines behind it
 pub lines-at : (tech : Tech) (cells : List Known) (known : Known) (lines : List Line) (i : ℕ) (line : Line) → i < length lines → line ≡ get_or lines i line

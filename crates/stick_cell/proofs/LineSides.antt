@@ -1,28 +1,18 @@
 -- A line that is no wire takes no side.
 use Rattle.std.proofs.Common.{◌≡◌, ℕ, ◌+◌, ◌<◌, List, [], ◌∷◌, length, map, Result, Ok, Err, refl, sym, subst, ◌∙◌}
 use Rattle.std.proofs.lemmas.List.{get_or-append-add, get_or-map}
-use Rattle.rule_table.specs.declared.technology.Tech.{Tech}
-use Rattle.rule_table.specs.declared.classes.Layer.{Layer}
+use Rattle.rule_table.specs.declared.{technology.Tech.Tech, classes.Layer.Layer}
 use Rattle.lam_geom.specs.declared.boxes.Side.{Side}
-use Rattle.stick_parse.specs.declared.fault.LineFault.{LineFault}
-use Rattle.stick_parse.specs.declared.design.Form.{Form}
+use Rattle.stick_parse.specs.{declared.{fault.LineFault.LineFault, design.Form.Form}, Writable.{IsForm, IsName}}
 use Rattle.stick_parse.specs.declared.design.Form.TheVariants as forms
-use Rattle.stick_parse.specs.Writable.{IsForm, IsName}
-use Rattle.cell_model.specs.declared.cell.Node.{Node}
-use Rattle.cell_model.specs.declared.cell.Limit.{Limit}
-use Rattle.cell_model.specs.Sound.{node_at, no_node}
+use Rattle.cell_model.specs.{declared.cell.{Node.Node, Limit.Limit}, Sound.{node_at, no_node}}
 use Rattle.stick_cell.specs.declared.names.Thing.TheVariants as things
-use Rattle.stick_cell.specs.declared.growing.Growing.{Growing}
-use Rattle.stick_cell.specs.declared.sides.SideMap.{SideMap}
-use Rattle.stick_cell.specs.Known.{Known, known_at, with_node, with_port, with_limit, with_copy, copied_node}
-use Rattle.stick_cell.specs.Checks.{layer_of}
-use Rattle.stick_cell.specs.Lines.{after_form}
-use Rattle.stick_cell.specs.Grown.{IsGrown, AreGrown}
-use Rattle.stick_cell.specs.Growing.{Grows, GrowsWith}
-use Rattle.stick_cell.specs.Sides.{TakenAt, side_entries, AreSidesOf}
-use Rattle.stick_cell.proofs.GrownNames.{more_nodes, same_nodes}
-use Rattle.stick_cell.proofs.Made.{IsWithNode, IsWithPort, IsWithCopy, joint_made, contact_made, buried_made, fet_made, port_made, use_made, limit_made}
-use Rattle.stick_cell.proofs.SidesKept.{sides_with, sides_copy}
+use Rattle.stick_cell.specs.{declared.{growing.Growing.Growing, sides.SideMap.SideMap}, Known.{Known, known_at}}
+use Rattle.stick_cell.specs.{Known.{with_node, with_port, with_limit, with_copy, copied_node}, Checks.layer_of}
+use Rattle.stick_cell.specs.{Lines.after_form, Grown.{IsGrown, AreGrown}, Growing.{Grows, GrowsWith}, Sides.TakenAt}
+use Rattle.stick_cell.{specs.Sides.{side_entries, AreSidesOf}, proofs.GrownNames.{more_nodes, same_nodes}}
+use Rattle.stick_cell.proofs.Made.{IsWithNode, IsWithPort, IsWithCopy, joint_made, contact_made, buried_made, fet_made}
+use Rattle.stick_cell.proofs.{Made.{port_made, use_made, limit_made}, SidesKept.{sides_with, sides_copy}}
 
 sides_node : (tech : Tech) (cells : List Known) (known : Known) (name : List ℕ) (col row : ℕ) (next : Known) (entries : TakenAt) → IsGrown tech cells known → IsWithNode tech known name col row next
     → AreSidesOf cells known entries → AreSidesOf cells next entries

@@ -1,27 +1,19 @@
 -- What is kept of a cell while it grows is that of its lines.
-use Rattle.std.proofs.Common.{◌≡◌, ℕ, ◌≤◌, Bool, true, false, ◌&&◌, cond, is_none, List, [], ◌∷◌, ◌++◌, Option, Some, None, option_map, Result, Ok, Err, refl, sym, ap, subst, ◌∙◌, arith}
-use Rattle.std.specs.List.{AllByRecursion}
-use Rattle.std.specs.Result.{IsErrAnd}
-use Rattle.std.specs.Str.{bytes_eq}
-use Rattle.stick_parse.specs.declared.fault.StickKind.{StickKind}
-use Rattle.stick_parse.specs.declared.fault.StickKind.TheVariants.{RepeatedName, FarPlace, BadSize, NoBuried}
-use Rattle.stick_parse.specs.declared.fault.LineFault.{LineFault}
-use Rattle.stick_parse.specs.declared.fault.LineFault.TheVariants.{Kind, OutOfMemory}
+use Rattle.std.proofs.Common.{◌≡◌, ℕ, ◌≤◌, Bool, true, false, ◌&&◌, cond, is_none, List, [], ◌∷◌, ◌++◌, Option, Some}
+use Rattle.std.proofs.Common.{None, option_map, Result, Ok, Err, refl, sym, ap, subst, ◌∙◌, arith}
+use Rattle.std.specs.{List.AllByRecursion, Result.IsErrAnd, Str.bytes_eq, Prelude.{ℤ, pos}}
+use Rattle.stick_parse.specs.declared.fault.StickKind.{StickKind, TheVariants.{RepeatedName, FarPlace, BadSize}}
+use Rattle.stick_parse.specs.declared.fault.{StickKind.TheVariants.NoBuried, LineFault.{LineFault, TheVariants.Kind}}
+use Rattle.stick_parse.specs.declared.{fault.LineFault.TheVariants.OutOfMemory, design.Layer.Layer as DrawnLayer}
 use Rattle.stick_parse.specs.Reading.{◌>>=◌}
-use Rattle.stick_cell.specs.declared.growing.Growing.{Growing}
-use Rattle.stick_cell.specs.declared.names.Thing.{Thing}
-use Rattle.std.specs.Prelude.{ℤ, pos}
-use Rattle.rule_table.specs.declared.technology.Tech.{Tech}
-use Rattle.rule_table.specs.Technology.{has_buried_of}
-use Rattle.stick_parse.specs.declared.design.Layer.{Layer as DrawnLayer}
+use Rattle.stick_cell.specs.declared.{growing.Growing.Growing, names.Thing.Thing}
+use Rattle.stick_cell.specs.{Checks.{demand, is_fresh, is_place, layer_of, sized, is_channel}, Known.{Known, Plug}}
+use Rattle.stick_cell.specs.{Known.{with_node, with_port}, Lines.{axis_where, after_joint, after_contact, after_buried}}
+use Rattle.stick_cell.specs.{Lines.{after_fet, after_port}, Paths.{Names, named}, Kept.{capped_thing, capped_names}}
+use Rattle.stick_cell.specs.Growing.{Grows, RefusesLine, IsWiredBelow, placed}
+use Rattle.rule_table.specs.{declared.technology.Tech.Tech, Technology.has_buried_of}
 use Rattle.lam_geom.specs.declared.boxes.Side.{Side}
 use Rattle.cell_model.specs.declared.cell.NodeKind.TheVariants as kinds
-use Rattle.stick_cell.specs.Checks.{demand, is_fresh, is_place, layer_of, sized, is_channel}
-use Rattle.stick_cell.specs.Known.{Known, Plug, with_node, with_port}
-use Rattle.stick_cell.specs.Lines.{axis_where, after_joint, after_contact, after_buried, after_fet, after_port}
-use Rattle.stick_cell.specs.Paths.{Names, named}
-use Rattle.stick_cell.specs.Kept.{capped_thing, capped_names}
-use Rattle.stick_cell.specs.Growing.{Grows, RefusesLine, IsWiredBelow, placed}
 
 -- two steps and a third
 pub bind_assoc : {A B C E : Type 0} (m : Result A E) (f : A → Result B E) (g : B → Result C E) → ((m >>= f) >>= g) ≡ (m >>= (λ x. f x >>= g))

@@ -1,35 +1,25 @@
 -- What a line that is not refused makes of its cell.
-use Rattle.std.proofs.Common.{◌≡◌, ℕ, ◌+◌, ◌<◌, ◌≤◌, ℤ, pos, Bool, List, [], ◌∷◌, length, Option, Some, Result, Ok, refl, ap, ◌∙◌}
+use Rattle.std.proofs.Common.{◌≡◌, ℕ, ◌+◌, ◌<◌, ◌≤◌, ℤ, pos, Bool, List, [], ◌∷◌, length, Option, Some, Result, Ok}
+use Rattle.std.proofs.{Common.{refl, ap, ◌∙◌, arith}, lemmas.{List.Quantifiers.position-Some, Bool.Decides.nat_tests}}
 use Rattle.std.specs.Prelude.{IsTrue, ◌&&◌, ◌==◌, not, nat_lt, bytes_eq}
-use Rattle.std.proofs.lemmas.List.Quantifiers.{position-Some}
-use Rattle.std.proofs.lemmas.Bool.Decides.{nat_tests}
-use Rattle.std.proofs.Common.{arith}
-use Rattle.rule_table.specs.declared.technology.Tech.{Tech}
-use Rattle.rule_table.specs.declared.classes.Layer.{Layer}
+use Rattle.rule_table.specs.{declared.{technology.Tech.Tech, classes.Layer.Layer}, Technology.has_buried_of}
 use Rattle.rule_table.specs.declared.classes.Layer.TheVariants as layers
-use Rattle.rule_table.specs.Technology.{has_buried_of}
-use Rattle.stick_parse.specs.declared.fault.StickKind.{StickKind}
-use Rattle.stick_parse.specs.declared.fault.StickKind.TheVariants.{RepeatedName, UseCycle, UseDepth, UsedPorts, FarPlace, BadSize, BadLimit, NoBuried}
-use Rattle.stick_parse.specs.declared.design.Layer.{Layer as DrawnLayer}
+use Rattle.stick_parse.specs.declared.fault.StickKind.{StickKind, TheVariants.{RepeatedName, UseCycle, UseDepth}}
+use Rattle.stick_parse.specs.declared.fault.StickKind.TheVariants.{UsedPorts, FarPlace, BadSize, BadLimit, NoBuried}
+use Rattle.stick_parse.specs.{declared.design.Layer.Layer as DrawnLayer, Writable.IsLower, Reading.◌>>=◌}
 use Rattle.stick_parse.specs.declared.design.Layer.TheVariants as drawn
 use Rattle.lam_geom.specs.declared.boxes.Side.{Side}
-use Rattle.stick_parse.specs.Writable.{IsLower}
-use Rattle.stick_parse.specs.Reading.{◌>>=◌}
-use Rattle.cell_model.specs.declared.cell.NodeKind.{NodeKind}
+use Rattle.cell_model.specs.{declared.cell.{NodeKind.NodeKind, Wire.Wire, Limit.Limit}, Sound.IsKind}
 use Rattle.cell_model.specs.declared.cell.NodeKind.TheVariants as kinds
-use Rattle.cell_model.specs.declared.cell.Wire.{Wire}
-use Rattle.cell_model.specs.Sound.{IsKind}
-use Rattle.stick_cell.specs.declared.names.Found.{Found}
-use Rattle.stick_cell.specs.declared.names.Found.TheVariants.{At}
-use Rattle.stick_cell.specs.declared.names.Spot.{Spot}
-use Rattle.stick_cell.specs.declared.names.Terminal.TheVariants.{Node as NodeEnd}
-use Rattle.cell_model.specs.declared.cell.Limit.{Limit}
-use Rattle.stick_cell.specs.Known.{Known, Plug, begun, known_at, with_node, with_port, with_wire, with_limit, with_copy, greatest_col, greatest_row}
-use Rattle.stick_cell.specs.Paths.{found_at}
-use Rattle.stick_cell.specs.Checks.{demand, layer_of, is_fresh, is_place, is_channel, sized}
-use Rattle.stick_cell.specs.Wires.{known_name, wire_between, limited}
-use Rattle.stick_cell.specs.Lines.{axis_where, number_of, known_number, is_empty, wired_of, after_joint, after_contact, after_buried, after_fet, after_port, with_use, after_use, after_wire, after_limit}
-use Rattle.stick_cell.proofs.Accepted.{bound, two_bound, demanded, two_demanded, both, ok_same, known_name_ok, known_number_ok, limited_ok, less_from_test, apart_from_test, place_from_test}
+use Rattle.stick_cell.specs.declared.names.{Found.{Found, TheVariants.At}, Spot.Spot}
+use Rattle.stick_cell.specs.{declared.names.Terminal.TheVariants.Node as NodeEnd, Known.{Known, Plug, begun, known_at}}
+use Rattle.stick_cell.specs.Known.{with_node, with_port, with_wire, with_limit, with_copy, greatest_col, greatest_row}
+use Rattle.stick_cell.specs.{Paths.found_at, Checks.{demand, layer_of, is_fresh, is_place, is_channel, sized}}
+use Rattle.stick_cell.specs.{Wires.{known_name, wire_between, limited}, Lines.{axis_where, number_of, known_number}}
+use Rattle.stick_cell.specs.Lines.{is_empty, wired_of, after_joint, after_contact, after_buried, after_fet, after_port}
+use Rattle.stick_cell.specs.Lines.{with_use, after_use, after_wire, after_limit}
+use Rattle.stick_cell.proofs.Accepted.{bound, two_bound, demanded, two_demanded, both, ok_same, known_name_ok}
+use Rattle.stick_cell.proofs.Accepted.{known_number_ok, limited_ok, less_from_test, apart_from_test, place_from_test}
 use Rattle.stick_cell.proofs.GrownSizes.{size_of_sized, sizes_of_channel}
 
 -- ---- a node

@@ -1,22 +1,16 @@
 -- The names of nodes are paths into their cell, and stay apart with more names; a single name has no dot.
-use Rattle.std.proofs.Common.{◌≡◌, ℕ, ◌+◌, ◌<◌, ◌≤◌, ◌==◌, Bool, true, false, cond, List, [], ◌∷◌, ◌++◌, length, map, get_or, Option, Some, None, is_none, refl, sym, ap, subst, ◌∙◌, inl, inr, arith}
-use Rattle.std.specs.Prelude.{IsTrue, ◌&&◌, ◌⊎◌, ◌-◌, nat_le, bytes_eq}
-use Rattle.std.specs.List.{AllByRecursion, list_all}
-use Rattle.std.specs.Char.{is_ascii_alphabetic}
-use Rattle.std.proofs.lemmas.List.{length-append, length-map, get_or_append_left, get_or-append_right, get_or-map, append_cancel_left}
-use Rattle.std.proofs.lemmas.List.Splits.{slice_split_none, slice_split_at}
-use Rattle.std.proofs.lemmas.Bool.{cases_lt}
-use Rattle.std.proofs.lemmas.Slice.Eq.{bytes_eq-Decides}
+use Rattle.std.proofs.Common.{◌≡◌, ℕ, ◌+◌, ◌<◌, ◌≤◌, ◌==◌, Bool, true, false, cond, List, [], ◌∷◌, ◌++◌, length, map}
+use Rattle.std.proofs.Common.{get_or, Option, Some, None, is_none, refl, sym, ap, subst, ◌∙◌, inl, inr, arith}
+use Rattle.std.proofs.lemmas.List.{length-append, length-map, get_or_append_left, get_or-append_right, get_or-map}
+use Rattle.std.proofs.lemmas.{List.{append_cancel_left, Splits.{slice_split_none, slice_split_at}}, Bool.cases_lt}
+use Rattle.std.{proofs.lemmas.Slice.Eq.bytes_eq-Decides, specs.Prelude.{IsTrue, ◌&&◌, ◌⊎◌, ◌-◌, nat_le, bytes_eq}}
+use Rattle.std.specs.{List.{AllByRecursion, list_all}, Char.is_ascii_alphabetic}
 use Rattle.list_facts.proofs.Elements.{all_of}
 use Rattle.stick_lex.specs.Tokens.{is_name_byte, names}
 use Rattle.stick_parse.specs.Writable.{IsName}
-use Rattle.cell_model.specs.declared.cell.Node.{Node}
-use Rattle.cell_model.specs.Sound.{node_at, no_node}
-use Rattle.stick_cell.specs.declared.names.Thing.{Thing}
-use Rattle.stick_cell.specs.Known.{prefixed, copied_node}
-use Rattle.stick_cell.specs.Paths.{Names, named, first_of, first_name}
-use Rattle.stick_cell.specs.Checks.{is_fresh}
-use Rattle.stick_cell.specs.Grown.{ArePathsApart}
+use Rattle.cell_model.specs.{declared.cell.Node.Node, Sound.{node_at, no_node}}
+use Rattle.stick_cell.specs.{declared.names.Thing.Thing, Known.{prefixed, copied_node}, Paths.{Names, named, first_of}}
+use Rattle.stick_cell.specs.{Paths.first_name, Checks.is_fresh, Grown.ArePathsApart}
 use Rattle.stick_cell.proofs.Accepted.{both, eq_from_test}
 
 -- ---- an element of one list behind another

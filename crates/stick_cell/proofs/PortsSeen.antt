@@ -1,20 +1,11 @@
 -- The ports that are kept of a cell are those of the inlined cell.
 use Rattle.std.proofs.Common.{◌≡◌, ℕ, suc, ◌<◌, ◌≤◌, ℤ, true, List, [], ◌∷◌, length, map, refl, sym, ap, ◌∙◌, arith}
-use Rattle.std.specs.Prelude.{Bool}
-use Rattle.std.proofs.lemmas.Bool.Decides.{nat_tests}
-use Rattle.cell_model.specs.declared.cell.CellPort.{CellPort}
-use Rattle.cell_model.specs.declared.cell.Port.{Port}
-use Rattle.cell_model.specs.declared.cell.Wire.{Wire}
-use Rattle.cell_model.specs.Sound.{wire_at}
-use Rattle.cell_model.specs.Ports.{seen_port, ports_of_cell}
-use Rattle.stick_cell.specs.declared.cells.Cells.{Cells}
-use Rattle.stick_cell.specs.Known.{Known, Plug, cell_of, known_at, plug_at}
-use Rattle.stick_cell.specs.Counts.{weight_of}
-use Rattle.stick_cell.specs.Growing.{without_wire}
-use Rattle.stick_cell.specs.Ports.{is_light, port_of, ports_of}
-use Rattle.stick_cell.specs.Tables.{known_of, IsResolved}
-use Rattle.stick_cell.proofs.GrownPlugs.{all_wired}
-use Rattle.stick_cell.proofs.StepsInlined.{grown_cells}
+use Rattle.std.{proofs.lemmas.Bool.Decides.nat_tests, specs.Prelude.Bool}
+use Rattle.cell_model.specs.declared.cell.{CellPort.CellPort, Port.Port, Wire.Wire}
+use Rattle.cell_model.specs.{Sound.wire_at, Ports.{seen_port, ports_of_cell}}
+use Rattle.stick_cell.specs.{declared.cells.Cells.Cells, Known.{Known, Plug, cell_of, known_at, plug_at}}
+use Rattle.stick_cell.specs.{Counts.weight_of, Growing.without_wire, Ports.{is_light, port_of, ports_of}}
+use Rattle.stick_cell.{specs.Tables.{known_of, IsResolved}, proofs.{GrownPlugs.all_wired, StepsInlined.grown_cells}}
 
 -- each port has the width of its wire
 abbrev HaveWidths : List Wire → List Plug → Type 0

@@ -1,42 +1,36 @@
 -- A line or a cell that is refused breaks the rule of its kind, and one that is not refused breaks none.
-use Rattle.std.proofs.Common.{◌≡◌, ◌≢◌, ℕ, ◌+◌, ◌==◌, ◌%◌, nat_lt, nat_le, Bool, true, false, not, ◌&&◌, ◌||◌, cond, ℤ, pos, List, [], ◌∷◌, ◌++◌, Option, Some, None, Result, Ok, Err, refl, sym, ap, subst, ◌∙◌, inl, inr}
-use Rattle.std.specs.Prelude.{◌⊎◌, IsTrue, int_le, ◌<ℤ◌, bytes_eq}
-use Rattle.std.specs.List.{list_all}
-use Rattle.rule_table.specs.declared.technology.Tech.{Tech}
-use Rattle.rule_table.specs.declared.classes.Layer.{Layer}
-use Rattle.rule_table.specs.declared.classes.Layer.TheVariants.{Diffusion, Poly, Metal}
+use Rattle.std.proofs.Common.{◌≡◌, ◌≢◌, ℕ, ◌+◌, ◌==◌, ◌%◌, nat_lt, nat_le, Bool, true, false, not, ◌&&◌, ◌||◌, cond, ℤ}
+use Rattle.std.proofs.Common.{pos, List, [], ◌∷◌, ◌++◌, Option, Some, None, Result, Ok, Err, refl, sym, ap, subst, ◌∙◌}
+use Rattle.std.{proofs.Common.{inl, inr}, specs.{Prelude.{◌⊎◌, IsTrue, int_le, ◌<ℤ◌, bytes_eq}, List.list_all}}
+use Rattle.rule_table.specs.declared.{technology.Tech.Tech, classes.Layer.{Layer, TheVariants.{Diffusion, Poly, Metal}}}
 use Rattle.rule_table.specs.Technology.{width_of, has_buried_of}
-use Rattle.lam_geom.specs.declared.boxes.Side.{Side}
-use Rattle.lam_geom.specs.declared.boxes.Side.TheVariants.{Left, Right, Bottom, Top}
-use Rattle.stick_parse.specs.declared.fault.StickKind.{StickKind}
-use Rattle.stick_parse.specs.declared.fault.StickKind.TheVariants.{WrongTerminal, NotStraight, WrongLayer, WrongSide, PortWires, BadSize, NarrowWire, WideWire, RepeatedName, UnknownName, UseCycle, UseDepth, UsedPorts, FarPlace, BadLimit, NoBuried}
-use Rattle.stick_parse.specs.declared.fault.StickFault.{StickFault}
-use Rattle.stick_parse.specs.declared.design.Form.{Form}
+use Rattle.lam_geom.specs.declared.boxes.Side.{Side, TheVariants.{Left, Right, Bottom, Top}}
+use Rattle.stick_parse.specs.declared.fault.StickKind.{StickKind, TheVariants.{WrongTerminal, NotStraight, WrongLayer}}
+use Rattle.stick_parse.specs.declared.fault.StickKind.TheVariants.{WrongSide, PortWires, BadSize, NarrowWire, WideWire}
+use Rattle.stick_parse.specs.declared.fault.StickKind.TheVariants.{RepeatedName, UnknownName, UseCycle, UseDepth}
+use Rattle.stick_parse.specs.declared.fault.StickKind.TheVariants.{UsedPorts, FarPlace, BadLimit, NoBuried}
+use Rattle.stick_parse.specs.declared.{fault.StickFault.StickFault, design.{Form.Form, Line.Line, CellText.CellText}}
+use Rattle.stick_parse.specs.{Reading.◌>>=◌, Order.at_line}
 use Rattle.stick_parse.specs.declared.design.Form.TheVariants as forms
-use Rattle.stick_parse.specs.declared.design.Line.{Line}
-use Rattle.stick_parse.specs.declared.design.CellText.{CellText}
-use Rattle.stick_parse.specs.Reading.{◌>>=◌}
-use Rattle.stick_parse.specs.Order.{at_line}
-use Rattle.cell_model.specs.declared.cell.Axis2.{Axis2}
-use Rattle.cell_model.specs.declared.cell.Wire.{Wire}
-use Rattle.cell_model.specs.Wiring.{axis_of, is_low_side, is_same_axis, is_same_layer}
-use Rattle.cell_model.specs.Sound.{wire_at, no_wire}
-use Rattle.stick_cell.specs.declared.names.Spot.{Spot}
-use Rattle.stick_cell.specs.declared.names.Terminal.{Terminal}
-use Rattle.stick_cell.specs.declared.names.Terminal.TheVariants.{Node, Port}
-use Rattle.stick_cell.specs.declared.names.Found.{Found}
-use Rattle.stick_cell.specs.declared.names.Found.TheVariants.{At, AtCopy, Through}
-use Rattle.stick_cell.specs.declared.names.Run.{Run}
-use Rattle.stick_cell.specs.Known.{Known, begun, known_at, greatest_col, greatest_row}
-use Rattle.stick_cell.specs.Paths.{found_at}
-use Rattle.stick_cell.specs.Checks.{demand, is_fresh, is_place, is_even_size, is_channel, layer_of, sized}
-use Rattle.stick_cell.specs.Wires.{known_name, line_of, run_between, straight, takes_layer, takes_along, is_buried, leaves, is_side_free, are_sides_free, is_free, fills_pad, is_within_pad, at_both, wire_where, wire_between, limited}
-use Rattle.stick_cell.specs.Lines.{number_of, known_number, is_empty, wired_of, is_wired, is_new_cell, with_use, after_joint, after_contact, after_buried, after_fet, after_port, after_use, after_wire, after_limit, after_form, after_lines, after_cell}
-use Rattle.stick_cell.specs.Refusals.{IsTaken, IsFar, IsOddOrLarge, IsWrongWidth, IsWrongChannel, IsOpposite, IsNotStraight, IsRefusedAtEnd, IsTakenSide, IsWrongRun, IsRefusedWire, IsWrongLimit, IsWrongCopy, IsWrongUse, IsWrongBetween, IsWrongLine, IsAt, IsWrongAmong, IsWrongCell}
-use Rattle.stick_cell.proofs.Accepted.{bound, ok_same, at_line_ok, eq_from_test, apart_from_test, known_number_ok, straight_ok}
-use Rattle.stick_cell.proofs.GrownSides.{passes_at, layer_same}
-use Rattle.stick_cell.proofs.SidesFree.{is_kind}
-use Rattle.stick_cell.proofs.Judged.{Denies, Judges, fails_at, both_deny, test_denies, not_denies, even_denies, at_most_denies, below_denies, some_denies, apart_denies, wide_denies, empty_denies, fails, passes, tested, then, then_with, last}
+use Rattle.cell_model.specs.declared.cell.{Axis2.Axis2, Wire.Wire}
+use Rattle.cell_model.specs.{Wiring.{axis_of, is_low_side, is_same_axis, is_same_layer}, Sound.{wire_at, no_wire}}
+use Rattle.stick_cell.specs.declared.names.{Spot.Spot, Terminal.{Terminal, TheVariants.{Node, Port}}, Found.Found}
+use Rattle.stick_cell.specs.{declared.names.{Found.TheVariants.{At, AtCopy, Through}, Run.Run}, Known.{Known, begun}}
+use Rattle.stick_cell.specs.{Known.{known_at, greatest_col, greatest_row}, Paths.found_at, Checks.{demand, is_fresh}}
+use Rattle.stick_cell.specs.{Checks.{is_place, is_even_size, is_channel, layer_of, sized}, Wires.{known_name, line_of}}
+use Rattle.stick_cell.specs.Wires.{run_between, straight, takes_layer, takes_along, is_buried, leaves, is_side_free}
+use Rattle.stick_cell.specs.Wires.{are_sides_free, is_free, fills_pad, is_within_pad, at_both, wire_where, wire_between}
+use Rattle.stick_cell.specs.{Wires.limited, Lines.{number_of, known_number, is_empty, wired_of, is_wired, is_new_cell}}
+use Rattle.stick_cell.specs.Lines.{with_use, after_joint, after_contact, after_buried, after_fet, after_port, after_use}
+use Rattle.stick_cell.specs.{Lines.{after_wire, after_limit, after_form, after_lines, after_cell}, Refusals.IsTaken}
+use Rattle.stick_cell.specs.Refusals.{IsFar, IsOddOrLarge, IsWrongWidth, IsWrongChannel, IsOpposite, IsNotStraight}
+use Rattle.stick_cell.specs.Refusals.{IsRefusedAtEnd, IsTakenSide, IsWrongRun, IsRefusedWire, IsWrongLimit, IsWrongCopy}
+use Rattle.stick_cell.specs.Refusals.{IsWrongUse, IsWrongBetween, IsWrongLine, IsAt, IsWrongAmong, IsWrongCell}
+use Rattle.stick_cell.proofs.Accepted.{bound, ok_same, at_line_ok, eq_from_test, apart_from_test, known_number_ok}
+use Rattle.stick_cell.proofs.{Accepted.straight_ok, GrownSides.{passes_at, layer_same}, SidesFree.is_kind}
+use Rattle.stick_cell.proofs.Judged.{Denies, Judges, fails_at, both_deny, test_denies, not_denies, even_denies}
+use Rattle.stick_cell.proofs.Judged.{at_most_denies, below_denies, some_denies, apart_denies, wide_denies, empty_denies}
+use Rattle.stick_cell.proofs.Judged.{fails, passes, tested, then, then_with, last}
 
 -- ---- names, places and sizes
 

@@ -1,16 +1,11 @@
 -- The sides that are kept, with one more.
 use Rattle.std.proofs.Common.{◌≡◌, ℕ, Bool, true, false, cond, List, Option, Some, refl, sym, ap, ◌∙◌}
+use Rattle.std.proofs.{Math.Bool.{or-true, or-false}, lemmas.Slice.Eq.bytes_eq-Decides}
 use Rattle.std.specs.Prelude.{◌&&◌, ◌||◌, bytes_eq}
-use Rattle.std.proofs.Math.Bool.{or-true, or-false}
-use Rattle.std.proofs.lemmas.Slice.Eq.{bytes_eq-Decides}
-use Rattle.rule_table.specs.declared.classes.Layer.{Layer}
-use Rattle.rule_table.specs.declared.classes.Layer.TheVariants.{Diffusion, Poly, Metal}
-use Rattle.cell_model.specs.declared.cell.Axis2.{Axis2}
-use Rattle.cell_model.specs.declared.cell.Axis2.TheVariants.{Across, Up}
-use Rattle.cell_model.specs.Wiring.{is_same_layer}
-use Rattle.stick_cell.specs.declared.sides.Sides.{Sides}
-use Rattle.stick_cell.specs.declared.sides.Taken.{Taken}
-use Rattle.stick_cell.specs.Sides.{has_side, with_side, has, with_taken, is_same_side, TakenAt, taken_or_none, taken_at, IsMarked, IsMarkedIf}
+use Rattle.rule_table.specs.declared.classes.Layer.{Layer, TheVariants.{Diffusion, Poly, Metal}}
+use Rattle.cell_model.specs.{declared.cell.Axis2.{Axis2, TheVariants.{Across, Up}}, Wiring.is_same_layer}
+use Rattle.stick_cell.specs.{declared.sides.{Sides.Sides, Taken.Taken}, Sides.{has_side, with_side, has, with_taken}}
+use Rattle.stick_cell.specs.Sides.{is_same_side, TakenAt, taken_or_none, taken_at, IsMarked, IsMarkedIf}
 use Rattle.stick_cell.proofs.Entries.{under}
 
 -- a side that is marked, among those that were

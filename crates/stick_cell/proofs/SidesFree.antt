@@ -1,36 +1,21 @@
 -- Where the code finds the sides of a run's ends open, they are free; and the sides that are kept with a wire along the run.
 use Rattle.std.proofs.Common.{◌≡◌, ℕ, ◌==◌, Bool, true, false, List, [], ◌∷◌, refl, sym, ap, subst, ◌∙◌}
-use Rattle.std.specs.Prelude.{IsTrue, not, ◌&&◌, ◌||◌, ℤ, bytes_eq, if◌then◌else◌}
-use Rattle.std.specs.List.{AllByRecursion, list_all, list_any}
-use Rattle.std.proofs.lemmas.Bool.{false_from_ne_true}
-use Rattle.std.proofs.lemmas.Bool.Decides.{Decides-eqb}
-use Rattle.std.proofs.lemmas.Slice.Eq.{bytes_eq-Decides}
-use Rattle.rule_table.specs.declared.technology.Tech.{Tech}
-use Rattle.rule_table.specs.declared.classes.Layer.{Layer}
-use Rattle.rule_table.specs.declared.classes.Layer.TheVariants.{Diffusion, Poly, Metal}
-use Rattle.cell_model.specs.declared.cell.Axis2.{Axis2}
-use Rattle.cell_model.specs.declared.cell.Node.{Node}
-use Rattle.cell_model.specs.declared.cell.NodeKind.{NodeKind}
-use Rattle.cell_model.specs.declared.cell.NodeKind.TheVariants as kinds
-use Rattle.cell_model.specs.declared.cell.WireEnd.{WireEnd}
-use Rattle.cell_model.specs.declared.cell.WireEnd.TheVariants as ends
-use Rattle.cell_model.specs.declared.cell.Wire.{Wire}
+use Rattle.std.proofs.lemmas.{Bool.{false_from_ne_true, Decides.Decides-eqb}, Slice.Eq.bytes_eq-Decides}
+use Rattle.std.specs.{Prelude.{IsTrue, not, ◌&&◌, ◌||◌, ℤ, bytes_eq, if◌then◌else◌}, List.{AllByRecursion, list_all}}
+use Rattle.std.specs.List.{list_any}
+use Rattle.rule_table.specs.declared.{technology.Tech.Tech, classes.Layer.{Layer, TheVariants.{Diffusion, Poly, Metal}}}
+use Rattle.cell_model.specs.declared.cell.{Axis2.Axis2, Node.Node, NodeKind.NodeKind, WireEnd.WireEnd, Wire.Wire}
 use Rattle.cell_model.specs.declared.cell.Cell.{Cell}
-use Rattle.cell_model.specs.Wiring.{is_same_axis, is_same_layer, node_takes}
-use Rattle.cell_model.specs.Sound.{node_at, IsEnd, Takes, IsWire}
-use Rattle.stick_cell.specs.declared.names.Spot.{Spot}
-use Rattle.stick_cell.specs.declared.names.Run.{Run}
-use Rattle.stick_cell.specs.declared.names.Terminal.{Terminal}
+use Rattle.cell_model.specs.{Wiring.{is_same_axis, is_same_layer, node_takes}, Sound.{node_at, IsEnd, Takes, IsWire}}
+use Rattle.cell_model.specs.declared.cell.NodeKind.TheVariants as kinds
+use Rattle.cell_model.specs.declared.cell.WireEnd.TheVariants as ends
+use Rattle.stick_cell.specs.{declared.names.{Spot.Spot, Run.Run, Terminal.Terminal}, Known.{Known, cell_of, with_wire}}
+use Rattle.stick_cell.specs.{Grown.{IsSpot, ArePathsApart, IsGrown}, Wires.{is_buried, is_node, leaves, is_side_free}}
+use Rattle.stick_cell.specs.{Wires.{are_sides_free, wire_along}, Sides.{is_buried_at, leaves_at, is_taken}}
+use Rattle.stick_cell.specs.Sides.{is_buried_end, is_open, are_open, TakenAt, IsMarkedIf, AreMarked, AreSidesOf}
+use Rattle.stick_cell.proofs.{Accepted.eq_from_test, GrownNames.IsAt, GrownRuns.IsRunBetween, KeptWires.capped_terminal}
+use Rattle.stick_cell.proofs.{KeptWires.capped_run, SidesKept.{and_false, sides_wire}}
 use Rattle.stick_cell.specs.declared.names.Terminal.TheVariants as terminals
-use Rattle.stick_cell.specs.Known.{Known, cell_of, with_wire}
-use Rattle.stick_cell.specs.Grown.{IsSpot, ArePathsApart, IsGrown}
-use Rattle.stick_cell.specs.Wires.{is_buried, is_node, leaves, is_side_free, are_sides_free, wire_along}
-use Rattle.stick_cell.specs.Sides.{is_buried_at, leaves_at, is_taken, is_buried_end, is_open, are_open, TakenAt, IsMarkedIf, AreMarked, AreSidesOf}
-use Rattle.stick_cell.proofs.Accepted.{eq_from_test}
-use Rattle.stick_cell.proofs.GrownNames.{IsAt}
-use Rattle.stick_cell.proofs.GrownRuns.{IsRunBetween}
-use Rattle.stick_cell.proofs.KeptWires.{capped_terminal, capped_run}
-use Rattle.stick_cell.proofs.SidesKept.{and_false, sides_wire}
 
 -- ---- one wire
 

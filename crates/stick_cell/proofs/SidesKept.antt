@@ -1,41 +1,26 @@
 -- The sides that are kept tell of a cell's wires after each form of line.
-use Rattle.std.proofs.Common.{◌≡◌, ℕ, ◌+◌, ◌<◌, ◌==◌, Bool, true, false, List, [], ◌∷◌, ◌++◌, length, map, Option, Some, None, refl, sym, ap, subst, ◌∙◌, arith}
-use Rattle.std.specs.Prelude.{IsTrue, ◌&&◌, ◌||◌, bytes_eq}
-use Rattle.std.specs.List.{AllByRecursion, list_any, join_with_byte}
-use Rattle.std.proofs.Math.Bool.{or-true, or-false}
-use Rattle.std.proofs.lemmas.Bool.{false_from_ne_true}
-use Rattle.std.proofs.lemmas.Bool.Decides.{same_from_decides}
-use Rattle.std.proofs.lemmas.List.Folds.{list_any-append}
-use Rattle.std.proofs.lemmas.List.Splits.{join_with_byte-slice_split, length-slice_split}
-use Rattle.std.proofs.lemmas.Slice.Eq.{bytes_eq-Decides}
-use Rattle.rule_table.specs.declared.technology.Tech.{Tech}
-use Rattle.rule_table.specs.declared.classes.Layer.{Layer}
-use Rattle.rule_table.specs.declared.classes.Layer.TheVariants.{Metal}
+use Rattle.std.proofs.Common.{◌≡◌, ℕ, ◌+◌, ◌<◌, ◌==◌, Bool, true, false, List, [], ◌∷◌, ◌++◌, length, map, Option, Some}
+use Rattle.std.proofs.{Common.{None, refl, sym, ap, subst, ◌∙◌, arith}, Math.Bool.{or-true, or-false}}
+use Rattle.std.proofs.lemmas.{Bool.{false_from_ne_true, Decides.same_from_decides}, List.Folds.list_any-append}
+use Rattle.std.proofs.lemmas.{List.Splits.{join_with_byte-slice_split, length-slice_split}, Slice.Eq.bytes_eq-Decides}
+use Rattle.std.specs.{Prelude.{IsTrue, ◌&&◌, ◌||◌, bytes_eq}, List.{AllByRecursion, list_any, join_with_byte}}
+use Rattle.rule_table.specs.declared.{technology.Tech.Tech, classes.Layer.{Layer, TheVariants.Metal}}
 use Rattle.rule_table.specs.declared.classes.Layer.TheVariants as layers
-use Rattle.cell_model.specs.declared.cell.Axis2.TheVariants.{Across, Up}
+use Rattle.cell_model.specs.declared.cell.{Axis2.{Axis2, TheVariants.{Across, Up}}, Node.Node, WireEnd.WireEnd}
+use Rattle.cell_model.specs.declared.cell.{Wire.Wire, Cell.Cell}
+use Rattle.cell_model.specs.{Wiring.{is_same_axis, is_same_layer}, Sound.{node_at, IsEnd, IsWire}}
 use Rattle.stick_lex.specs.Tokens.{names}
 use Rattle.stick_parse.specs.Writable.{IsName}
-use Rattle.cell_model.specs.declared.cell.Axis2.{Axis2}
-use Rattle.cell_model.specs.declared.cell.Node.{Node}
-use Rattle.cell_model.specs.declared.cell.WireEnd.{WireEnd}
 use Rattle.cell_model.specs.declared.cell.WireEnd.TheVariants as ends
-use Rattle.cell_model.specs.declared.cell.Wire.{Wire}
-use Rattle.cell_model.specs.declared.cell.Cell.{Cell}
-use Rattle.cell_model.specs.Wiring.{is_same_axis, is_same_layer}
-use Rattle.cell_model.specs.Sound.{node_at, IsEnd, IsWire}
-use Rattle.stick_cell.specs.declared.names.Thing.{Thing}
+use Rattle.stick_cell.specs.{declared.names.{Thing.Thing, Copied.Copied, Terminal.Terminal}, Known.{Known, Plug, begun}}
+use Rattle.stick_cell.specs.Known.{cell_of, known_at, with_wire, prefixed, copied_node, copied_end, copied_wire}
+use Rattle.stick_cell.specs.{Paths.{Names, named, copy_of}, Checks.is_fresh, Wires.{is_buried, end_of}}
+use Rattle.stick_cell.specs.Sides.{is_buried_at, leaves_at, is_left, is_left_in, is_left_inside, is_buried_end}
+use Rattle.stick_cell.specs.Sides.{is_same_side, has, none_taken, TakenAt, taken_at, IsMarkedIf, AreSidesOf}
+use Rattle.stick_cell.proofs.{GrownNames.{MoreNodes, IsAt}, PathsApart.{names_prefixed, rest_same, none_from}}
+use Rattle.stick_cell.proofs.{PathsApart.{named_other, named_new}, SideMarks.marked_if}
 use Rattle.stick_cell.specs.declared.names.Thing.TheVariants as things
-use Rattle.stick_cell.specs.declared.names.Copied.{Copied}
-use Rattle.stick_cell.specs.declared.names.Terminal.{Terminal}
 use Rattle.stick_cell.specs.declared.names.Terminal.TheVariants as terminals
-use Rattle.stick_cell.specs.Known.{Known, Plug, begun, cell_of, known_at, with_wire, prefixed, copied_node, copied_end, copied_wire}
-use Rattle.stick_cell.specs.Paths.{Names, named, copy_of}
-use Rattle.stick_cell.specs.Checks.{is_fresh}
-use Rattle.stick_cell.specs.Wires.{is_buried, end_of}
-use Rattle.stick_cell.specs.Sides.{is_buried_at, leaves_at, is_left, is_left_in, is_left_inside, is_buried_end, is_same_side, has, none_taken, TakenAt, taken_at, IsMarkedIf, AreSidesOf}
-use Rattle.stick_cell.proofs.GrownNames.{MoreNodes, IsAt}
-use Rattle.stick_cell.proofs.PathsApart.{names_prefixed, rest_same, none_from, named_other, named_new}
-use Rattle.stick_cell.proofs.SideMarks.{marked_if}
 
 -- ---- tests
 

@@ -1,25 +1,18 @@
 -- The sides that are kept of each cell, with those of one more.
-use Rattle.std.proofs.Common.{◌≡◌, ℕ, ◌<◌, ◌≤◌, ◌≢◌, Bool, List, [], ◌∷◌, ◌++◌, length, map, get_or, Option, Some, None, refl, sym, ap, subst, inl, inr, ◌∙◌, arith}
-use Rattle.std.specs.Prelude.{◌⊎◌, ◌||◌}
-use Rattle.std.specs.List.{join_with_byte}
-use Rattle.std.proofs.lemmas.List.{map-append, length-map, length-append, get_or_push, get_or_append_left}
-use Rattle.std.proofs.lemmas.Bool.{cases_eq}
-use Rattle.rule_table.specs.declared.technology.Tech.{Tech}
-use Rattle.rule_table.specs.declared.classes.Layer.{Layer}
+use Rattle.std.proofs.Common.{◌≡◌, ℕ, ◌<◌, ◌≤◌, ◌≢◌, Bool, List, [], ◌∷◌, ◌++◌, length, map, get_or, Option, Some, None}
+use Rattle.std.proofs.{Common.{refl, sym, ap, subst, inl, inr, ◌∙◌, arith}, lemmas.List.{map-append, length-map}}
+use Rattle.std.proofs.lemmas.{List.{length-append, get_or_push, get_or_append_left}, Bool.cases_eq}
+use Rattle.std.specs.{Prelude.{◌⊎◌, ◌||◌}, List.join_with_byte}
+use Rattle.rule_table.specs.declared.{technology.Tech.Tech, classes.Layer.Layer}
 use Rattle.stick_lex.specs.Tokens.{names}
 use Rattle.cell_model.specs.declared.cell.Axis2.{Axis2}
-use Rattle.stick_cell.specs.declared.names.Copied.{Copied}
-use Rattle.stick_cell.specs.declared.names.Thing.{Thing}
-use Rattle.stick_cell.specs.declared.names.Thing.TheVariants as things
-use Rattle.stick_cell.specs.declared.table.Table.{Table}
-use Rattle.stick_cell.specs.Known.{Known, begun, known_at}
-use Rattle.stick_cell.specs.Paths.{named, copy_of}
-use Rattle.stick_cell.specs.Grown.{IsGrown, AreGrown}
-use Rattle.stick_cell.specs.Tables.{AreTables}
-use Rattle.stick_cell.specs.Sides.{is_left, is_left_in, is_left_inside, has, TakenAt, taken_at, side_entries, AreSidesOf, sides_at, HaveSides}
-use Rattle.stick_cell.proofs.GrownNames.{MoreCells, AreRight, right_named, cells_are_right}
-use Rattle.stick_cell.proofs.TableReads.{length-tables}
+use Rattle.stick_cell.specs.declared.{names.{Copied.Copied, Thing.Thing}, table.Table.Table}
+use Rattle.stick_cell.specs.{Known.{Known, begun, known_at}, Paths.{named, copy_of}, Grown.{IsGrown, AreGrown}}
+use Rattle.stick_cell.specs.{Tables.AreTables, Sides.{is_left, is_left_in, is_left_inside, has, TakenAt, taken_at}}
+use Rattle.stick_cell.specs.Sides.{side_entries, AreSidesOf, sides_at, HaveSides}
+use Rattle.stick_cell.proofs.{GrownNames.{MoreCells, AreRight, right_named, cells_are_right}, TableReads.length-tables}
 use Rattle.stick_cell.proofs.Grown.{k_within, known_before, known_last}
+use Rattle.stick_cell.specs.declared.names.Thing.TheVariants as things
 
 -- ---- more cells
 

@@ -1,24 +1,17 @@
 -- What the code reads of the sides that are kept.
-use Rattle.std.proofs.Common.{◌≡◌, ℕ, ◌<◌, ◌≤◌, Bool, false, List, [], ◌∷◌, length, get_or, Option, Some, None, option_map, option_copied, Bor, refl, sym, ap, subst, ◌∙◌, arith}
-use Rattle.std.specs.Prelude.{◌||◌, ◌==◌}
-use Rattle.std.specs.List.{join_with_byte}
-use Rattle.std.proofs.lemmas.List.{get_or_past, get_or-map}
-use Rattle.std.proofs.lemmas.List.Splits.{join_with_byte-slice_split, length-slice_split}
-use Rattle.rule_table.specs.declared.classes.Layer.{Layer}
-use Rattle.rule_table.specs.declared.classes.Layer.TheVariants.{Metal}
+use Rattle.std.proofs.Common.{◌≡◌, ℕ, ◌<◌, ◌≤◌, Bool, false, List, [], ◌∷◌, length, get_or, Option, Some, None}
+use Rattle.std.proofs.Common.{option_map, option_copied, Bor, refl, sym, ap, subst, ◌∙◌, arith}
+use Rattle.std.proofs.lemmas.List.{get_or_past, get_or-map, Splits.{join_with_byte-slice_split, length-slice_split}}
+use Rattle.std.specs.{Prelude.{◌||◌, ◌==◌}, List.join_with_byte}
+use Rattle.rule_table.specs.declared.classes.Layer.{Layer, TheVariants.Metal}
 use Rattle.stick_lex.specs.Tokens.{names}
 use Rattle.cell_model.specs.declared.cell.Axis2.{Axis2}
-use Rattle.stick_cell.specs.declared.names.Thing.{Thing}
+use Rattle.stick_cell.specs.{declared.{names.{Thing.Thing, Copied.Copied}, table.Table.Table}, Known.{Known, begun}}
+use Rattle.stick_cell.specs.{Known.known_at, Paths.{Names, named, copy_of, names_behind}, Kept.capped_thing}
+use Rattle.stick_cell.specs.{Kept.capped_names, Tables.{IsTableOf, AreTables}, Sides.{is_left, is_left_in}}
+use Rattle.stick_cell.specs.Sides.{is_left_inside, has, TakenAt, taken_at, side_entries, AreSidesOf, sides_at}
+use Rattle.stick_cell.{specs.Sides.HaveSides, proofs.{LineSteps.named-capped, TableReads.{length-tables, table_at}}}
 use Rattle.stick_cell.specs.declared.names.Thing.TheVariants as things
-use Rattle.stick_cell.specs.declared.names.Copied.{Copied}
-use Rattle.stick_cell.specs.declared.table.Table.{Table}
-use Rattle.stick_cell.specs.Known.{Known, begun, known_at}
-use Rattle.stick_cell.specs.Paths.{Names, named, copy_of, names_behind}
-use Rattle.stick_cell.specs.Kept.{capped_thing, capped_names}
-use Rattle.stick_cell.specs.Tables.{IsTableOf, AreTables}
-use Rattle.stick_cell.specs.Sides.{is_left, is_left_in, is_left_inside, has, TakenAt, taken_at, side_entries, AreSidesOf, sides_at, HaveSides}
-use Rattle.stick_cell.proofs.LineSteps.{named-capped}
-use Rattle.stick_cell.proofs.TableReads.{length-tables, table_at}
 
 -- the rest of a path is behind its first name
 pub inside_behind : (cells : List Known) (table : Names) (first : List ℕ) (rest : List (List ℕ)) (layer : Layer) (along : Axis2) (is_low : Bool) → 0 < length rest

@@ -1,14 +1,11 @@
 -- The steps of a cell, one by one.
 use Rattle.std.proofs.Common.{◌≡◌, ℕ, ◌≤◌, List, [], ◌∷◌, ◌++◌, fold, refl, sym, ap, subst, ◌∙◌, arith}
-use Rattle.std.specs.List.{AllByRecursion}
-use Rattle.std.proofs.lemmas.List.Sums.{fold-append}
-use Rattle.stick_cell.specs.declared.steps.Step.{Step}
+use Rattle.std.{proofs.lemmas.List.Sums.fold-append, specs.List.AllByRecursion}
+use Rattle.stick_cell.specs.{declared.steps.Step.Step, Known.{Known, begun, known_at}, Counts.weight_of, Steps.apply}
+use Rattle.stick_cell.{specs.Steps.{made_by, IsStep, AreStepsOf}, proofs.Counting.{weight-with_node, weight-with_port}}
+use Rattle.stick_cell.proofs.Counting.{weight-with_copy, weight-with_wire, weight-with_limit}
 use Rattle.stick_cell.specs.declared.steps.Step.TheVariants as steps
-use Rattle.stick_cell.specs.Known.{Known, begun, known_at}
-use Rattle.stick_cell.specs.Counts.{weight_of}
-use Rattle.stick_cell.specs.Steps.{apply, made_by, IsStep, AreStepsOf}
 use Rattle.list_facts.proofs.Elements.{all_append}
-use Rattle.stick_cell.proofs.Counting.{weight-with_node, weight-with_port, weight-with_copy, weight-with_wire, weight-with_limit}
 
 -- no steps
 pub steps-none : (cells : List Known) (name : List ℕ) (added : List Step) → added ≡ [] → AreStepsOf cells (begun name) added

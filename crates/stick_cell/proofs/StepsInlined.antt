@@ -1,29 +1,20 @@
 -- What the steps of a cell give when it is inlined: the first of those that are left leads to the others, and what is copied has room.
-use Rattle.std.proofs.Common.{◌≡◌, ℕ, ◌+◌, ◌<◌, ◌≤◌, List, [], length, map, drop, fold, get_or, vec_len, sym, ap, subst, ◌∙◌, arith}
+use Rattle.std.proofs.Common.{◌≡◌, ℕ, ◌+◌, ◌<◌, ◌≤◌, List, [], length, map, drop, fold, get_or, vec_len, sym, ap, subst}
+use Rattle.std.proofs.{Common.{◌∙◌, arith}, lemmas.List.{drop_more, drop_all, length-take-le, get_or-take}}
+use Rattle.std.proofs.{lemmas.List.{get_or_default, length-append, length-map}, Math.ListN.get_or-map}
 use Rattle.std.specs.List.{AllByRecursion}
-use Rattle.std.proofs.lemmas.List.{drop_more, drop_all, length-take-le, get_or-take, get_or_default, length-append, length-map}
-use Rattle.std.proofs.Math.ListN.{get_or-map}
 use Rattle.rule_table.specs.declared.technology.Tech.{Tech}
-use Rattle.cell_model.specs.declared.cell.WireEnd.{WireEnd}
+use Rattle.cell_model.specs.declared.cell.{WireEnd.WireEnd, Cell.Cell}
+use Rattle.cell_model.specs.{Sound.{IsNode, IsEnd, IsWire, IsLimit, IsSound}, Nets.HasEnds}
 use Rattle.cell_model.specs.declared.cell.WireEnd.TheVariants as ends
-use Rattle.cell_model.specs.declared.cell.Cell.{Cell}
-use Rattle.cell_model.specs.Sound.{IsNode, IsEnd, IsWire, IsLimit, IsSound}
-use Rattle.cell_model.specs.Nets.{HasEnds}
-use Rattle.stick_cell.specs.declared.table.Table.{Table}
-use Rattle.stick_cell.specs.declared.steps.Step.{Step}
-use Rattle.stick_cell.specs.declared.cells.Cells.{Cells}
-use Rattle.stick_cell.specs.declared.parts.Parts.{Parts}
-use Rattle.stick_cell.specs.Known.{Known, begun, known_at, cell_of, with_copy, copied_node}
-use Rattle.stick_cell.specs.Counts.{weight_of}
-use Rattle.stick_cell.specs.Steps.{apply, IsStep, AreStepsOf}
-use Rattle.stick_cell.specs.Tables.{known_of, steps_at, IsResolved}
-use Rattle.stick_cell.specs.Inlining.{ArePartsOf, IsAtStep, cells_before, HasPlace, HasNumber, HasNumbers, LimitsNumbers}
+use Rattle.stick_cell.specs.declared.{table.Table.Table, steps.Step.Step, cells.Cells.Cells, parts.Parts.Parts}
+use Rattle.stick_cell.specs.{Known.{Known, begun, known_at, cell_of, with_copy, copied_node}, Counts.weight_of}
+use Rattle.stick_cell.specs.{Steps.{apply, IsStep, AreStepsOf}, Tables.{known_of, steps_at, IsResolved}}
+use Rattle.stick_cell.specs.Inlining.{ArePartsOf, IsAtStep, cells_before, HasPlace, HasNumber, HasNumbers}
+use Rattle.stick_cell.specs.{Inlining.LimitsNumbers, Grown.AreGrown}
+use Rattle.stick_cell.proofs.{Counting.weight-with_copy, Grown.{light-cell_of, are_grown-known_cells}}
+use Rattle.stick_cell.proofs.{Stepping.weight-made, TableReads.length-tables}
 use Rattle.list_facts.proofs.Elements.{all_at, all_weaker}
-use Rattle.stick_cell.proofs.Counting.{weight-with_copy}
-use Rattle.stick_cell.proofs.Grown.{light-cell_of, are_grown-known_cells}
-use Rattle.stick_cell.specs.Grown.{AreGrown}
-use Rattle.stick_cell.proofs.Stepping.{weight-made}
-use Rattle.stick_cell.proofs.TableReads.{length-tables}
 
 -- each cell of a design is grown over those before it
 pub grown_cells : (cells : Cells) → IsResolved cells → AreGrown cells.tech (known_of cells)

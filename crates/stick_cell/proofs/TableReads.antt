@@ -1,16 +1,13 @@
 -- What reading the tables of a design's cells gives.
-use Rattle.std.proofs.Common.{◌≡◌, ℕ, zero, suc, ◌+◌, ◌<◌, ◌≤◌, cond, not, List, [], ◌∷◌, ◌++◌, length, get_or, vec_len, Ok, Option, Some, refl, sym, ap, subst, ◌∙◌, arith, length-append}
-use Rattle.std.specs.Prelude.{position, bytes_eq}
-use Rattle.std.specs.List.{position_or_len}
+use Rattle.std.proofs.Common.{◌≡◌, ℕ, zero, suc, ◌+◌, ◌<◌, ◌≤◌, cond, not, List, [], ◌∷◌, ◌++◌, length, get_or, vec_len}
+use Rattle.std.proofs.Common.{Ok, Option, Some, refl, sym, ap, subst, ◌∙◌, arith, length-append}
 use Rattle.std.proofs.lemmas.List.Quantifiers.{position-Some}
+use Rattle.std.specs.{Prelude.{position, bytes_eq}, List.position_or_len}
 use Rattle.rule_table.specs.declared.technology.Tech.{Tech}
 use Rattle.stick_parse.specs.declared.design.CellText.{CellText}
-use Rattle.stick_cell.specs.declared.table.Table.{Table}
-use Rattle.stick_cell.specs.declared.cells.Cells.{Cells}
-use Rattle.stick_cell.specs.Known.{Known, begun, known_at}
-use Rattle.stick_cell.specs.Lines.{number_of, after_cell, cells_after, known_cells}
-use Rattle.stick_cell.specs.Tables.{IsTableOf, AreTables, known_of, IsResolved}
-use Rattle.stick_cell.proofs.Accepted.{bound}
+use Rattle.stick_cell.specs.{declared.{table.Table.Table, cells.Cells.Cells}, Known.{Known, begun, known_at}}
+use Rattle.stick_cell.specs.{Lines.{number_of, after_cell, cells_after, known_cells}, Tables.{IsTableOf, AreTables}}
+use Rattle.stick_cell.{specs.Tables.{known_of, IsResolved}, proofs.Accepted.bound}
 
 -- there are as many tables as cells
 pub length-tables : (cells : List Known) (tables : List Table) → AreTables cells tables → length tables ≡ length cells

@@ -1,21 +1,14 @@
 -- What the line of a use gives, by its tests.
-use Rattle.std.proofs.Common.{◌≡◌, ℕ, ◌+◌, ◌<◌, nat_lt, Bool, true, false, not, ◌&&◌, ◌==◌, List, length, get_or, Option, Some, Result, Ok, refl, sym, ap, ◌∙◌}
+use Rattle.std.proofs.Common.{◌≡◌, ℕ, ◌+◌, ◌<◌, nat_lt, Bool, true, false, not, ◌&&◌, ◌==◌, List, length, get_or}
+use Rattle.std.proofs.{Common.{Option, Some, Result, Ok, refl, sym, ap, ◌∙◌}, lemmas.List.length-map}
 use Rattle.std.specs.Prelude.{bytes_eq, position}
-use Rattle.std.proofs.lemmas.List.{length-map}
-use Rattle.stick_parse.specs.declared.fault.StickKind.{StickKind}
-use Rattle.stick_parse.specs.declared.fault.StickKind.TheVariants.{RepeatedName, UseCycle, UseDepth, UsedPorts, FarPlace}
-use Rattle.stick_parse.specs.Reading.{◌>>=◌}
-use Rattle.stick_cell.specs.declared.growing.Growing.{Growing}
-use Rattle.stick_cell.specs.declared.table.Table.{Table}
-use Rattle.stick_cell.specs.Checks.{demand, is_fresh, is_place}
-use Rattle.stick_cell.specs.Known.{Known, known_at, with_copy, greatest_col, greatest_row}
-use Rattle.stick_cell.specs.Lines.{number_of, known_number, is_empty, with_use, after_use}
-use Rattle.stick_cell.specs.Ports.{port_of, is_light}
-use Rattle.stick_cell.specs.Tables.{IsTableOf, AreTables}
-use Rattle.stick_cell.specs.NameEntries.{entries_of}
-use Rattle.stick_cell.specs.Growing.{IsGrowing, usable}
-use Rattle.stick_cell.proofs.TableReads.{table_at, position-name, number-lt}
-use Rattle.stick_cell.proofs.LineSteps.{is_fresh-capped}
+use Rattle.stick_parse.specs.declared.fault.StickKind.{StickKind, TheVariants.{RepeatedName, UseCycle, UseDepth}}
+use Rattle.stick_parse.specs.{declared.fault.StickKind.TheVariants.{UsedPorts, FarPlace}, Reading.◌>>=◌}
+use Rattle.stick_cell.specs.{declared.{growing.Growing.Growing, table.Table.Table}, Checks.{demand, is_fresh, is_place}}
+use Rattle.stick_cell.specs.{Known.{Known, known_at, with_copy, greatest_col, greatest_row}, Lines.number_of}
+use Rattle.stick_cell.specs.{Lines.{known_number, is_empty, with_use, after_use}, Ports.{port_of, is_light}}
+use Rattle.stick_cell.specs.{Tables.{IsTableOf, AreTables}, NameEntries.entries_of, Growing.{IsGrowing, usable}}
+use Rattle.stick_cell.proofs.{TableReads.{table_at, position-name, number-lt}, LineSteps.is_fresh-capped}
 
 -- a use by what its first three tests give
 pub use-by : (cells : List Known) (known : Known) (name cell : List ℕ) (col row : ℕ) (fresh other : Bool) (number : Option ℕ)

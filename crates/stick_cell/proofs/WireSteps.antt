@@ -1,54 +1,29 @@
 -- What the lines of wires and limits give, by what their paths come to.
-use Rattle.std.proofs.Common.{◌≡◌, ℕ, zero, suc, ◌<◌, ◌≤◌, ℤ, Bool, true, not, ◌==◌, List, [], ◌∷◌, length, map, get_or, set, Option, Some, None, option_map, Result, Ok, Err, refl, sym, ap, subst, ◌∙◌, arith}
-use Rattle.std.specs.Prelude.{bytes_eq}
-use Rattle.std.specs.List.{AllByRecursion}
-use Rattle.std.specs.Option.{ok_or}
+use Rattle.std.proofs.Common.{◌≡◌, ℕ, zero, suc, ◌<◌, ◌≤◌, ℤ, Bool, true, not, ◌==◌, List, [], ◌∷◌, length, map, get_or}
+use Rattle.std.proofs.Common.{set, Option, Some, None, option_map, Result, Ok, Err, refl, sym, ap, subst, ◌∙◌, arith}
 use Rattle.std.proofs.lemmas.List.{map-set}
-use Rattle.stick_parse.specs.declared.fault.StickKind.{StickKind}
-use Rattle.stick_parse.specs.declared.fault.StickKind.TheVariants.{UnknownName, BadLimit}
-use Rattle.cell_model.specs.declared.cell.Wire.{Wire}
-use Rattle.cell_model.specs.declared.cell.WireEnd.{WireEnd}
+use Rattle.std.specs.{Prelude.bytes_eq, List.AllByRecursion, Option.ok_or, Result.IsErrAnd}
+use Rattle.stick_parse.specs.declared.fault.StickKind.{StickKind, TheVariants.{UnknownName, BadLimit}}
+use Rattle.stick_parse.specs.declared.fault.LineFault.{LineFault, TheVariants.{Kind, OutOfMemory}}
+use Rattle.stick_parse.specs.{declared.design.Layer.Layer as DrawnLayer, Reading.◌>>=◌, Writable.IsPath}
+use Rattle.cell_model.specs.declared.cell.{Wire.Wire, WireEnd.WireEnd, CellPort.CellPort, Limit.Limit, Axis2.Axis2}
+use Rattle.cell_model.specs.{declared.cell.Cell.Cell, Sound.{IsEnd, IsWire}, Nets.HasEnds}
 use Rattle.cell_model.specs.declared.cell.WireEnd.TheVariants as ends
-use Rattle.cell_model.specs.declared.cell.CellPort.{CellPort}
-use Rattle.stick_cell.specs.declared.names.Found.{Found}
-use Rattle.stick_cell.specs.declared.names.Run.{Run}
-use Rattle.stick_cell.specs.declared.names.Terminal.{Terminal}
-use Rattle.rule_table.specs.declared.classes.Layer.{Layer}
-use Rattle.rule_table.specs.declared.technology.Tech.{Tech}
-use Rattle.stick_parse.specs.declared.design.Layer.{Layer as DrawnLayer}
-use Rattle.stick_parse.specs.Reading.{◌>>=◌}
-use Rattle.std.specs.Result.{IsErrAnd}
-use Rattle.stick_parse.specs.declared.fault.LineFault.{LineFault}
-use Rattle.stick_parse.specs.declared.fault.LineFault.TheVariants.{Kind, OutOfMemory}
-use Rattle.stick_cell.specs.declared.sides.SideMap.{SideMap}
-use Rattle.stick_parse.specs.Writable.{IsPath}
-use Rattle.stick_cell.specs.declared.names.Found.TheVariants.{At}
-use Rattle.stick_cell.specs.declared.names.Terminal.TheVariants.{Node}
-use Rattle.stick_cell.specs.declared.names.Spot.{Spot}
-use Rattle.stick_cell.specs.declared.growing.Growing.{Growing}
-use Rattle.cell_model.specs.declared.cell.Limit.{Limit}
-use Rattle.stick_cell.specs.Checks.{demand, layer_of}
-use Rattle.stick_cell.specs.Wires.{known_name, run_of, are_sides_free, wire_where, wire_between, limited}
-use Rattle.stick_cell.specs.Paths.{found_at}
-use Rattle.stick_cell.specs.Lines.{axis_where, wired_of, after_wire, after_limit}
-use Rattle.stick_cell.specs.Grown.{IsGrown, AreGrown}
-use Rattle.stick_cell.proofs.Accepted.{limited_ok}
-use Rattle.cell_model.specs.declared.cell.Axis2.{Axis2}
-use Rattle.cell_model.specs.declared.cell.Cell.{Cell}
-use Rattle.cell_model.specs.Sound.{IsEnd, IsWire}
-use Rattle.cell_model.specs.Nets.{HasEnds}
+use Rattle.stick_cell.specs.declared.names.{Found.{Found, TheVariants.At}, Run.Run, Terminal.Terminal}
+use Rattle.stick_cell.specs.declared.{names.{Terminal.TheVariants.Node, Spot.Spot}, sides.SideMap.SideMap}
+use Rattle.stick_cell.specs.{declared.growing.Growing.Growing, Checks.{demand, layer_of}, Wires.{known_name, run_of}}
+use Rattle.stick_cell.specs.{Wires.{are_sides_free, wire_where, wire_between, limited}, Paths.found_at}
+use Rattle.stick_cell.specs.{Lines.{axis_where, wired_of, after_wire, after_limit}, Grown.{IsGrown, AreGrown}}
+use Rattle.stick_cell.specs.{Tables.Tells, Known.{Known, Plug, cell_of, no_plug, plug_at, plugged, with_wire}}
+use Rattle.stick_cell.specs.{Known.with_limit, Counts.{weight_of, capped}, Kept.{kept_found, capped_end, capped_wire}}
+use Rattle.stick_cell.specs.{Kept.{capped_spot, IsNearFound}, Growing.{IsGrowing, GrowsWith, port_so_far, IsWiredBelow}}
+use Rattle.stick_cell.specs.Growing.{plugged_ports, plugged_marks, found_or_unknown, RefusesLine}
+use Rattle.stick_cell.proofs.{Accepted.limited_ok, Grown.{spot-found_at, light-cell_of}, FoundNodes.IsNodeOf}
+use Rattle.stick_cell.proofs.{FoundNodes.{near-found, same_number}, GrownNames.at_end_of, GrownRuns.IsRunBetween}
+use Rattle.stick_cell.proofs.{GrownRuns.run_between_paths, LineSteps.bind_assoc, KeptWires.{result_map, capped_run}}
+use Rattle.stick_cell.proofs.KeptWires.{run_of-kept, wire_where-capped, limited-kept}
+use Rattle.rule_table.specs.declared.{classes.Layer.Layer, technology.Tech.Tech}
 use Rattle.list_facts.proofs.Elements.{all_parts}
-use Rattle.stick_cell.proofs.Grown.{spot-found_at, light-cell_of}
-use Rattle.stick_cell.proofs.FoundNodes.{IsNodeOf, near-found, same_number}
-use Rattle.stick_cell.proofs.GrownNames.{at_end_of}
-use Rattle.stick_cell.proofs.GrownRuns.{IsRunBetween, run_between_paths}
-use Rattle.stick_cell.proofs.LineSteps.{bind_assoc}
-use Rattle.stick_cell.specs.Tables.{Tells}
-use Rattle.stick_cell.proofs.KeptWires.{result_map, capped_run, run_of-kept, wire_where-capped, limited-kept}
-use Rattle.stick_cell.specs.Known.{Known, Plug, cell_of, no_plug, plug_at, plugged, with_wire, with_limit}
-use Rattle.stick_cell.specs.Counts.{weight_of, capped}
-use Rattle.stick_cell.specs.Kept.{kept_found, capped_end, capped_wire, capped_spot, IsNearFound}
-use Rattle.stick_cell.specs.Growing.{IsGrowing, GrowsWith, port_so_far, IsWiredBelow, plugged_ports, plugged_marks, found_or_unknown, RefusesLine}
 
 -- what a path comes to, or that its name is unknown
 pub found-known : (found : Option Found) (kept : Option Found) (r : Result Found StickKind) → r ≡ ok_or kept UnknownName → kept ≡ option_map kept_found found → r ≡ found_or_unknown found

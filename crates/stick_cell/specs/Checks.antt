@@ -1,14 +1,11 @@
 -- The checks on names, places and sizes.
-use Rattle.std.specs.Prelude.{ℕ, ◌%◌, ◌==◌, ◌&&◌, Bool, true, false, nat_le, nat_lt, ℤ, pos, int_le, List, Option, Some, None, is_none, Result, Ok, Err}
-use Rattle.rule_table.specs.declared.technology.Tech.{Tech}
-use Rattle.rule_table.specs.declared.classes.Layer.{Layer}
-use Rattle.rule_table.specs.declared.classes.Layer.TheVariants.{Diffusion, Poly, Metal}
+use Rattle.std.specs.Prelude.{ℕ, ◌%◌, ◌==◌, ◌&&◌, Bool, true, false, nat_le, nat_lt, ℤ, pos, int_le, List, Option, Some}
+use Rattle.std.specs.Prelude.{None, is_none, Result, Ok, Err}
+use Rattle.rule_table.specs.declared.{technology.Tech.Tech, classes.Layer.{Layer, TheVariants.{Diffusion, Poly, Metal}}}
 use Rattle.rule_table.specs.Technology.{width_of}
-use Rattle.stick_parse.specs.declared.fault.StickKind.{StickKind}
-use Rattle.stick_parse.specs.declared.fault.StickKind.TheVariants.{BadSize, NarrowWire}
-use Rattle.stick_parse.specs.declared.design.Layer.{Layer as DrawnLayer}
+use Rattle.stick_parse.specs.declared.fault.StickKind.{StickKind, TheVariants.{BadSize, NarrowWire}}
+use Rattle.stick_parse.specs.{declared.design.Layer.Layer as DrawnLayer, Reading.◌>>=◌}
 use Rattle.stick_parse.specs.declared.design.Layer.TheVariants as drawn
-use Rattle.stick_parse.specs.Reading.{◌>>=◌}
 use Rattle.stick_cell.specs.Paths.{Names, named}
 
 -- refused with this kind where the test fails

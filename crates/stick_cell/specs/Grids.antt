@@ -2,16 +2,9 @@
 use Rattle.std.specs.Prelude.{ℕ, Bool, true, not, bytes_eq, List, [], ◌∷◌, ◌++◌, map, Option, Some, None, Result, Ok}
 use Rattle.std.specs.List.{list_any}
 use Rattle.rule_table.specs.declared.technology.Tech.{Tech}
-use Rattle.stick_parse.specs.declared.fault.StickKind.TheVariants.{RepeatedName}
-use Rattle.stick_parse.specs.declared.fault.StickFault.{StickFault}
-use Rattle.stick_parse.specs.declared.design.GridText.{GridText}
-use Rattle.stick_parse.specs.declared.design.Design.{Design}
-use Rattle.stick_parse.specs.Reading.{◌>>=◌}
-use Rattle.stick_parse.specs.Order.{at_line}
-use Rattle.stick_cell.specs.declared.grids.GridNames.{GridNames}
-use Rattle.stick_cell.specs.Known.{Known}
-use Rattle.stick_cell.specs.Checks.{demand}
-use Rattle.stick_cell.specs.Lines.{known_cells}
+use Rattle.stick_parse.specs.declared.fault.{StickKind.TheVariants.RepeatedName, StickFault.StickFault}
+use Rattle.stick_parse.specs.{declared.design.{GridText.GridText, Design.Design}, Reading.◌>>=◌, Order.at_line}
+use Rattle.stick_cell.specs.{declared.grids.GridNames.GridNames, Known.Known, Checks.demand, Lines.known_cells}
 
 -- the name is none of these
 abbrev pub is_new_name : List (List ℕ) → List ℕ → Bool

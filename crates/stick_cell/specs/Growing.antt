@@ -1,25 +1,15 @@
 -- What the code keeps of a cell while its lines are read.
-use Rattle.std.specs.Prelude.{◌≡◌, ℕ, ◌≤◌, nat_lt, ℤ, Bool, true, ◌&&◌, List, length, map, slice_index_or, slice_set, Option, None, Some, Result, Ok, Err}
-use Rattle.std.specs.List.{AllByRecursion}
-use Rattle.stick_parse.specs.declared.fault.StickKind.{StickKind}
-use Rattle.stick_parse.specs.declared.fault.StickKind.TheVariants.{RepeatedName, UnknownName, UseDepth, UsedPorts, FarPlace}
-use Rattle.stick_parse.specs.declared.fault.LineFault.{LineFault}
-use Rattle.stick_parse.specs.declared.fault.LineFault.TheVariants as line_faults
+use Rattle.std.specs.Prelude.{◌≡◌, ℕ, ◌≤◌, nat_lt, ℤ, Bool, true, ◌&&◌, List, length, map, slice_index_or, slice_set}
+use Rattle.std.specs.{Prelude.{Option, None, Some, Result, Ok, Err}, List.AllByRecursion}
+use Rattle.stick_parse.specs.declared.fault.StickKind.{StickKind, TheVariants.{RepeatedName, UnknownName, UseDepth}}
+use Rattle.stick_parse.specs.declared.fault.{StickKind.TheVariants.{UsedPorts, FarPlace}, LineFault.LineFault}
 use Rattle.stick_parse.specs.Reading.{◌>>=◌}
-use Rattle.cell_model.specs.declared.cell.CellPort.{CellPort}
-use Rattle.cell_model.specs.declared.cell.WireEnd.{WireEnd}
+use Rattle.stick_parse.specs.declared.fault.LineFault.TheVariants as line_faults
+use Rattle.cell_model.specs.declared.cell.{CellPort.CellPort, WireEnd.WireEnd}
 use Rattle.cell_model.specs.declared.cell.WireEnd.TheVariants as ends
-use Rattle.stick_cell.specs.declared.names.Found.{Found}
-use Rattle.stick_cell.specs.declared.growing.Growing.{Growing}
-use Rattle.stick_cell.specs.Checks.{demand, is_fresh, is_place}
-use Rattle.stick_cell.specs.Known.{Known, Plug, no_plug}
-use Rattle.stick_cell.specs.Paths.{Names}
-use Rattle.stick_cell.specs.Lines.{wired_of}
-use Rattle.stick_cell.specs.Counts.{capped}
-use Rattle.stick_cell.specs.Kept.{kept_found}
-use Rattle.stick_cell.specs.Steps.{AreStepsOf}
-use Rattle.stick_cell.specs.Tables.{Tells}
-use Rattle.stick_cell.specs.Sides.{side_entries, AreSidesOf}
+use Rattle.stick_cell.specs.{declared.{names.Found.Found, growing.Growing.Growing}, Checks.{demand, is_fresh, is_place}}
+use Rattle.stick_cell.specs.{Known.{Known, Plug, no_plug}, Paths.Names, Lines.wired_of, Counts.capped, Kept.kept_found}
+use Rattle.stick_cell.specs.{Steps.AreStepsOf, Tables.Tells, Sides.{side_entries, AreSidesOf}}
 
 -- a port before the last line of its cell: the number of its wire is capped
 abbrev pub port_so_far : Plug → CellPort

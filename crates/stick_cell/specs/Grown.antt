@@ -3,18 +3,13 @@
 use Rattle.std.specs.Prelude.{◌≡◌, ℕ, ◌+◌, ◌<◌, ◌≤◌, true, false, List, [], length, take, Some, IsTrue}
 use Rattle.std.specs.List.{AllByRecursion}
 use Rattle.rule_table.specs.declared.technology.Tech.{Tech}
-use Rattle.cell_model.specs.declared.cell.Node.{Node}
-use Rattle.cell_model.specs.declared.cell.WireEnd.TheVariants as ends
-use Rattle.cell_model.specs.declared.cell.Wire.{Wire}
-use Rattle.stick_cell.specs.declared.names.Thing.{Thing}
-use Rattle.stick_cell.specs.declared.names.Thing.TheVariants as things
-use Rattle.stick_cell.specs.declared.names.Spot.{Spot}
-use Rattle.stick_cell.specs.declared.names.Pin.{Pin}
-use Rattle.stick_cell.specs.declared.names.Copied.{Copied}
-use Rattle.stick_cell.specs.Known.{Known, Plug, cell_of, known_at, plug_at, copied_node}
-use Rattle.stick_cell.specs.Paths.{Names, named, first_name}
-use Rattle.stick_cell.specs.Lines.{is_wired}
+use Rattle.cell_model.specs.declared.cell.{Node.Node, Wire.Wire}
 use Rattle.cell_model.specs.Sound.{node_at, wire_at, IsNode, IsWire, IsLimit, LeaveOneSide, EndsAt}
+use Rattle.cell_model.specs.declared.cell.WireEnd.TheVariants as ends
+use Rattle.stick_cell.specs.declared.names.{Thing.Thing, Spot.Spot, Pin.Pin, Copied.Copied}
+use Rattle.stick_cell.specs.{Known.{Known, Plug, cell_of, known_at, plug_at, copied_node}, Paths.{Names, named}}
+use Rattle.stick_cell.specs.{Paths.first_name, Lines.is_wired}
+use Rattle.stick_cell.specs.declared.names.Thing.TheVariants as things
 
 -- the node of this number has the name, and is what the spot says
 pub record IsSpot (nodes : List Node) (name : List ℕ) (spot : Spot) : Type 0 where

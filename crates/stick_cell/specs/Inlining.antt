@@ -1,17 +1,9 @@
 -- Where the parts of a cell stand while its lines are inlined.
 use Rattle.std.specs.Prelude.{◌≡◌, ℕ, ◌+◌, ◌<◌, ◌≤◌, ◌^◌, List, map, take}
-use Rattle.cell_model.specs.declared.cell.Node.{Node}
-use Rattle.cell_model.specs.declared.cell.WireEnd.{WireEnd}
+use Rattle.cell_model.specs.declared.cell.{Node.Node, WireEnd.WireEnd, Wire.Wire, Limit.Limit}
 use Rattle.cell_model.specs.declared.cell.WireEnd.TheVariants as ends
-use Rattle.cell_model.specs.declared.cell.Wire.{Wire}
-use Rattle.cell_model.specs.declared.cell.Limit.{Limit}
-use Rattle.stick_cell.specs.declared.cells.Cells.{Cells}
-use Rattle.stick_cell.specs.declared.parts.Parts.{Parts}
-use Rattle.stick_cell.specs.declared.steps.Step.{Step}
-use Rattle.stick_cell.specs.Known.{Known}
-use Rattle.stick_cell.specs.Counts.{weight_of}
-use Rattle.stick_cell.specs.Steps.{apply, IsStep}
-use Rattle.stick_cell.specs.Tables.{known_of}
+use Rattle.stick_cell.specs.declared.{cells.Cells.Cells, parts.Parts.Parts, steps.Step.Step}
+use Rattle.stick_cell.specs.{Known.Known, Counts.weight_of, Steps.{apply, IsStep}, Tables.known_of}
 
 -- the parts are those of the lines so far
 pub record ArePartsOf (known : Known) (parts : Parts) : Type 0 where

@@ -1,18 +1,12 @@
 -- What the code keeps of names and of what paths come to: numbers of nodes are capped, and columns and rows end at 32 bits. In a cell that
 -- may be inlined, and whose nodes lie near, this is the thing itself.
 use Rattle.std.specs.Prelude.{ℕ, ◌≤◌, min, map}
-use Rattle.cell_model.specs.declared.cell.WireEnd.{WireEnd}
+use Rattle.cell_model.specs.declared.cell.{WireEnd.WireEnd, Wire.Wire}
 use Rattle.cell_model.specs.declared.cell.WireEnd.TheVariants as ends
-use Rattle.cell_model.specs.declared.cell.Wire.{Wire}
-use Rattle.stick_cell.specs.declared.names.Spot.{Spot}
-use Rattle.stick_cell.specs.declared.names.Thing.{Thing}
+use Rattle.stick_cell.specs.declared.names.{Spot.Spot, Thing.Thing, Terminal.Terminal, Found.{Found, TheVariants.At}}
+use Rattle.stick_cell.specs.{declared.names.Found.TheVariants.{AtCopy, Through}, Counts.capped, Paths.Names}
 use Rattle.stick_cell.specs.declared.names.Thing.TheVariants as things
-use Rattle.stick_cell.specs.declared.names.Terminal.{Terminal}
 use Rattle.stick_cell.specs.declared.names.Terminal.TheVariants as terminals
-use Rattle.stick_cell.specs.declared.names.Found.{Found}
-use Rattle.stick_cell.specs.declared.names.Found.TheVariants.{At, AtCopy, Through}
-use Rattle.stick_cell.specs.Counts.{capped}
-use Rattle.stick_cell.specs.Paths.{Names}
 
 -- what a name stands for, with the number of a node capped
 abbrev pub capped_thing : Thing → Thing

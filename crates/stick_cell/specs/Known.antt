@@ -1,16 +1,11 @@
 -- What is known of a cell after its lines so far: its names, and its content with each use replaced by what it stands for.
-use Rattle.std.specs.Prelude.{ℕ, ◌+◌, max, ℤ, pos, Bool, true, false, List, [], ◌∷◌, ◌++◌, length, map, fold, slice_set, slice_index_or}
+use Rattle.std.specs.Prelude.{ℕ, ◌+◌, max, ℤ, pos, Bool, true, false, List, [], ◌∷◌, ◌++◌, length, map, fold, slice_set}
+use Rattle.std.specs.Prelude.{slice_index_or}
 use Rattle.rule_table.specs.declared.classes.Layer.{Layer}
 use Rattle.lam_geom.specs.declared.boxes.Side.{Side}
-use Rattle.cell_model.specs.declared.cell.NodeKind.{NodeKind}
-use Rattle.cell_model.specs.declared.cell.Node.{Node}
-use Rattle.cell_model.specs.declared.cell.WireEnd.{WireEnd}
+use Rattle.cell_model.specs.declared.cell.{NodeKind.NodeKind, Node.Node, WireEnd.WireEnd, Wire.Wire, Port.Port}
+use Rattle.cell_model.specs.{declared.cell.{Limit.Limit, Cell.Cell}, Sound.no_port}
 use Rattle.cell_model.specs.declared.cell.WireEnd.TheVariants as ends
-use Rattle.cell_model.specs.declared.cell.Wire.{Wire}
-use Rattle.cell_model.specs.declared.cell.Port.{Port}
-use Rattle.cell_model.specs.declared.cell.Limit.{Limit}
-use Rattle.cell_model.specs.declared.cell.Cell.{Cell}
-use Rattle.cell_model.specs.Sound.{no_port}
 use Rattle.stick_cell.specs.declared.names.Thing.{Thing}
 use Rattle.stick_cell.specs.declared.names.Thing.TheVariants as things
 

@@ -1,27 +1,20 @@
 -- Each line of a design against the lines before it: what is known after it, or the kind of its fault. The kinds of a line are tested in
 -- the order in which they stand here.
-use Rattle.std.specs.Prelude.{ℕ, ◌+◌, ◌==◌, ◌&&◌, not, Bool, nat_lt, ℤ, pos, List, [], ◌∷◌, ◌++◌, length, map, Option, Some, None, is_none, position, bytes_eq, Result, Ok, Err, if◌then◌else◌}
-use Rattle.std.specs.List.{list_all}
-use Rattle.rule_table.specs.declared.technology.Tech.{Tech}
-use Rattle.rule_table.specs.Technology.{has_buried_of}
-use Rattle.stick_parse.specs.declared.fault.StickKind.{StickKind}
-use Rattle.stick_parse.specs.declared.fault.StickKind.TheVariants.{RepeatedName, UnknownName, UseCycle, UseDepth, UsedPorts, FarPlace, BadSize, PortWires, BadLimit, NoBuried}
-use Rattle.stick_parse.specs.declared.fault.StickFault.{StickFault}
-use Rattle.stick_parse.specs.declared.design.Layer.{Layer as DrawnLayer}
+use Rattle.std.specs.Prelude.{ℕ, ◌+◌, ◌==◌, ◌&&◌, not, Bool, nat_lt, ℤ, pos, List, [], ◌∷◌, ◌++◌, length, map, Option}
+use Rattle.std.specs.{Prelude.{Some, None, is_none, position, bytes_eq, Result, Ok, Err, if◌then◌else◌}, List.list_all}
+use Rattle.rule_table.specs.{declared.technology.Tech.Tech, Technology.has_buried_of}
+use Rattle.stick_parse.specs.declared.fault.StickKind.{StickKind, TheVariants.{RepeatedName, UnknownName, UseCycle}}
+use Rattle.stick_parse.specs.declared.fault.StickKind.TheVariants.{UseDepth, UsedPorts, FarPlace, BadSize, PortWires}
+use Rattle.stick_parse.specs.declared.fault.{StickKind.TheVariants.{BadLimit, NoBuried}, StickFault.StickFault}
+use Rattle.stick_parse.specs.declared.design.{Layer.Layer as DrawnLayer, Form.{Form, TheVariants.{Joint, Contact}}}
+use Rattle.stick_parse.specs.declared.design.{Form.TheVariants.{Buried, Fet, Port, Inst, Wire, Limit}, Line.Line}
+use Rattle.stick_parse.specs.{declared.design.CellText.CellText, Reading.◌>>=◌, Order.at_line}
 use Rattle.lam_geom.specs.declared.boxes.Side.{Side}
-use Rattle.stick_parse.specs.declared.design.Form.{Form}
-use Rattle.stick_parse.specs.declared.design.Form.TheVariants.{Joint, Contact, Buried, Fet, Port, Inst, Wire, Limit}
-use Rattle.stick_parse.specs.declared.design.Line.{Line}
-use Rattle.stick_parse.specs.declared.design.CellText.{CellText}
-use Rattle.stick_parse.specs.Reading.{◌>>=◌}
-use Rattle.stick_parse.specs.Order.{at_line}
-use Rattle.cell_model.specs.declared.cell.Axis2.{Axis2}
-use Rattle.cell_model.specs.declared.cell.Axis2.TheVariants.{Across, Up}
+use Rattle.cell_model.specs.declared.cell.Axis2.{Axis2, TheVariants.{Across, Up}}
 use Rattle.cell_model.specs.declared.cell.NodeKind.TheVariants as kinds
-use Rattle.stick_cell.specs.Known.{Known, begun, known_at, with_node, with_port, with_wire, with_limit, with_copy, greatest_col, greatest_row}
-use Rattle.stick_cell.specs.Paths.{found_at}
-use Rattle.stick_cell.specs.Checks.{demand, layer_of, is_fresh, is_place, sized, is_channel}
-use Rattle.stick_cell.specs.Wires.{known_name, wire_between, limited}
+use Rattle.stick_cell.specs.Known.{Known, begun, known_at, with_node, with_port, with_wire, with_limit, with_copy}
+use Rattle.stick_cell.specs.{Known.{greatest_col, greatest_row}, Paths.found_at, Checks.{demand, layer_of, is_fresh}}
+use Rattle.stick_cell.specs.{Checks.{is_place, sized, is_channel}, Wires.{known_name, wire_between, limited}}
 
 abbrev pub axis_where : Bool → Axis2
 axis_where vertical = if vertical then Up else Across

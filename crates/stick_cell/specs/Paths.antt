@@ -1,15 +1,11 @@
 -- What a path comes to: it goes through uses, and ends at a node, a port or a use.
-use Rattle.std.specs.Prelude.{ℕ, ◌+◌, List, [], ◌∷◌, map, slice_index_or, Option, Some, None, option_map, option_and_then, bytes_eq}
-use Rattle.std.specs.Map.{lookup}
+use Rattle.std.specs.Prelude.{ℕ, ◌+◌, List, [], ◌∷◌, map, slice_index_or, Option, Some, None, option_map}
+use Rattle.std.specs.{Prelude.{option_and_then, bytes_eq}, Map.lookup}
 use Rattle.stick_lex.specs.Tokens.{names}
-use Rattle.stick_cell.specs.declared.names.Spot.{Spot}
-use Rattle.stick_cell.specs.declared.names.Copied.{Copied}
-use Rattle.stick_cell.specs.declared.names.Thing.{Thing}
+use Rattle.stick_cell.specs.declared.names.{Spot.Spot, Copied.Copied, Thing.Thing, Found.{Found, TheVariants.At}}
+use Rattle.stick_cell.specs.{declared.names.Found.TheVariants.{AtCopy, Through}, Known.Known}
 use Rattle.stick_cell.specs.declared.names.Thing.TheVariants as things
 use Rattle.stick_cell.specs.declared.names.Terminal.TheVariants as terminals
-use Rattle.stick_cell.specs.declared.names.Found.{Found}
-use Rattle.stick_cell.specs.declared.names.Found.TheVariants.{At, AtCopy, Through}
-use Rattle.stick_cell.specs.Known.{Known}
 
 -- the names of a cell, with what they stand for
 abbrev pub Names : Type 0

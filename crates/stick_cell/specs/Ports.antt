@@ -1,8 +1,7 @@
 -- The ports of a cell as its neighbours see them.
 use Rattle.std.specs.Prelude.{nat_le, Bool, List, map, if◌then◌else◌}
 use Rattle.cell_model.specs.declared.cell.CellPort.{CellPort}
-use Rattle.stick_cell.specs.Known.{Known, Plug}
-use Rattle.stick_cell.specs.Counts.{weight_of}
+use Rattle.stick_cell.specs.{Known.{Known, Plug}, Counts.weight_of}
 
 -- whether the cell may be inlined
 abbrev pub is_light : Known → Bool

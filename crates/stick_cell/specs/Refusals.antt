@@ -1,33 +1,22 @@
 -- Why a line or a cell is refused, in the words of the rules: what is broken where a line is refused with a kind.
-use Rattle.std.specs.Prelude.{◌≡◌, ◌≢◌, ℕ, ◌+◌, ◌<◌, ◌≤◌, ◌%◌, ℤ, pos, ◌<ℤ◌, Bool, not, IsTrue, bytes_eq, ◌⊎◌, true, false, List, [], ◌∷◌, ◌++◌, length, Option, Some, None, Ok}
-use Rattle.rule_table.specs.declared.technology.Tech.{Tech}
-use Rattle.rule_table.specs.declared.classes.Layer.{Layer}
-use Rattle.rule_table.specs.declared.classes.Layer.TheVariants.{Diffusion, Poly}
+use Rattle.std.specs.Prelude.{◌≡◌, ◌≢◌, ℕ, ◌+◌, ◌<◌, ◌≤◌, ◌%◌, ℤ, pos, ◌<ℤ◌, Bool, not, IsTrue, bytes_eq, ◌⊎◌, true}
+use Rattle.std.specs.Prelude.{false, List, [], ◌∷◌, ◌++◌, length, Option, Some, None, Ok}
+use Rattle.rule_table.specs.declared.{technology.Tech.Tech, classes.Layer.{Layer, TheVariants.{Diffusion, Poly}}}
 use Rattle.rule_table.specs.Technology.{width_of, has_buried_of}
-use Rattle.lam_geom.specs.declared.boxes.Side.{Side}
-use Rattle.lam_geom.specs.declared.boxes.Side.TheVariants.{Left, Right, Bottom, Top}
-use Rattle.stick_parse.specs.declared.fault.StickKind.{StickKind}
-use Rattle.stick_parse.specs.declared.fault.StickKind.TheVariants.{WrongTerminal, NotStraight, WrongLayer, WrongSide, PortWires, BadSize, NarrowWire, WideWire, RepeatedName, UnknownName, UseCycle, UseDepth, UsedPorts, FarPlace, BadLimit, NoBuried}
-use Rattle.stick_parse.specs.declared.fault.StickFault.{StickFault}
-use Rattle.stick_parse.specs.declared.design.Form.{Form}
+use Rattle.lam_geom.specs.declared.boxes.Side.{Side, TheVariants.{Left, Right, Bottom, Top}}
+use Rattle.stick_parse.specs.declared.fault.StickKind.{StickKind, TheVariants.{WrongTerminal, NotStraight, WrongLayer}}
+use Rattle.stick_parse.specs.declared.fault.StickKind.TheVariants.{WrongSide, PortWires, BadSize, NarrowWire, WideWire}
+use Rattle.stick_parse.specs.declared.fault.StickKind.TheVariants.{RepeatedName, UnknownName, UseCycle, UseDepth}
+use Rattle.stick_parse.specs.declared.fault.StickKind.TheVariants.{UsedPorts, FarPlace, BadLimit, NoBuried}
+use Rattle.stick_parse.specs.declared.{fault.StickFault.StickFault, design.{Form.Form, Line.Line, CellText.CellText}}
 use Rattle.stick_parse.specs.declared.design.Form.TheVariants as forms
-use Rattle.stick_parse.specs.declared.design.Line.{Line}
-use Rattle.stick_parse.specs.declared.design.CellText.{CellText}
-use Rattle.cell_model.specs.declared.cell.Axis2.{Axis2}
-use Rattle.cell_model.specs.declared.cell.NodeKind.TheVariants.{Buried}
-use Rattle.cell_model.specs.declared.cell.Wire.{Wire}
-use Rattle.cell_model.specs.Sound.{wire_at}
-use Rattle.cell_model.specs.Wiring.{axis_of}
-use Rattle.stick_cell.specs.declared.names.Terminal.{Terminal}
-use Rattle.stick_cell.specs.declared.names.Terminal.TheVariants.{Node, Port}
-use Rattle.stick_cell.specs.declared.names.Found.{Found}
-use Rattle.stick_cell.specs.declared.names.Found.TheVariants.{At}
-use Rattle.stick_cell.specs.declared.names.Run.{Run}
-use Rattle.stick_cell.specs.Known.{Known, begun, known_at, greatest_col, greatest_row}
-use Rattle.stick_cell.specs.Paths.{found_at}
-use Rattle.stick_cell.specs.Checks.{is_fresh, layer_of, sized}
-use Rattle.stick_cell.specs.Lines.{number_of, wired_of, is_wired, is_new_cell, after_lines}
-use Rattle.stick_cell.specs.Wires.{line_of, run_between, takes_layer, takes_along, leaves, is_free, fills_pad, is_within_pad}
+use Rattle.cell_model.specs.declared.cell.{Axis2.Axis2, NodeKind.TheVariants.Buried, Wire.Wire}
+use Rattle.cell_model.specs.{Sound.wire_at, Wiring.axis_of}
+use Rattle.stick_cell.specs.declared.names.{Terminal.{Terminal, TheVariants.{Node, Port}}, Found.Found}
+use Rattle.stick_cell.specs.{declared.names.{Found.TheVariants.At, Run.Run}, Known.{Known, begun, known_at}}
+use Rattle.stick_cell.specs.{Known.{greatest_col, greatest_row}, Paths.found_at, Checks.{is_fresh, layer_of, sized}}
+use Rattle.stick_cell.specs.{Lines.{number_of, wired_of, is_wired, is_new_cell, after_lines}, Wires.line_of}
+use Rattle.stick_cell.specs.Wires.{run_between, takes_layer, takes_along, leaves, is_free, fills_pad, is_within_pad}
 
 -- ---- names, places and sizes
 

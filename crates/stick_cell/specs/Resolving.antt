@@ -1,18 +1,10 @@
 -- What the code tells of a cell's lines, and of the whole cell.
 use Rattle.std.specs.Prelude.{◌≡◌, ℕ, List, Result, Ok, Err}
-use Rattle.stick_parse.specs.declared.fault.StickFault.{StickFault}
-use Rattle.stick_parse.specs.declared.fault.LineFault.{LineFault}
+use Rattle.stick_parse.specs.declared.fault.{StickFault.StickFault, LineFault.LineFault, ParseFault.ParseFault}
+use Rattle.stick_parse.specs.{declared.fault.ParseFault.TheVariants.{Stick, OutOfMemory}, Reading.Fails}
 use Rattle.stick_parse.specs.declared.fault.LineFault.TheVariants as line_faults
-use Rattle.stick_parse.specs.declared.fault.ParseFault.{ParseFault}
-use Rattle.stick_parse.specs.declared.fault.ParseFault.TheVariants.{Stick, OutOfMemory}
-use Rattle.stick_parse.specs.Reading.{Fails}
-use Rattle.stick_cell.specs.declared.growing.Growing.{Growing}
-use Rattle.stick_cell.specs.declared.table.Table.{Table}
-use Rattle.stick_cell.specs.Known.{Known}
-use Rattle.stick_cell.specs.Steps.{AreStepsOf}
-use Rattle.stick_cell.specs.Tables.{IsTableOf}
-use Rattle.stick_cell.specs.Growing.{IsGrowing}
-use Rattle.stick_cell.specs.Sides.{side_entries, AreSidesOf}
+use Rattle.stick_cell.specs.{declared.{growing.Growing.Growing, table.Table.Table}, Known.Known, Steps.AreStepsOf}
+use Rattle.stick_cell.specs.{Tables.IsTableOf, Growing.IsGrowing, Sides.{side_entries, AreSidesOf}}
 
 -- the fault of a line, with the line's number
 abbrev pub fault_at_line : ℕ → LineFault → ParseFault

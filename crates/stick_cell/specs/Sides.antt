@@ -1,29 +1,16 @@
 -- On which sides wires leave the buried contacts of a cell: what is so, by the names of the contacts, and what the code keeps of it.
-use Rattle.std.specs.Prelude.{◌≡◌, ℕ, ◌<◌, ◌&&◌, ◌||◌, not, Bool, true, false, List, [], ◌∷◌, length, map, Option, Some, None, slice_index_or, bytes_eq, if◌then◌else◌}
-use Rattle.std.specs.List.{list_any, join_with_byte}
+use Rattle.std.specs.Prelude.{◌≡◌, ℕ, ◌<◌, ◌&&◌, ◌||◌, not, Bool, true, false, List, [], ◌∷◌, length, map, Option, Some}
+use Rattle.std.specs.{Prelude.{None, slice_index_or, bytes_eq, if◌then◌else◌}, List.{list_any, join_with_byte}}
 use Rattle.std.specs.Map.{lookup}
-use Rattle.rule_table.specs.declared.classes.Layer.{Layer}
-use Rattle.rule_table.specs.declared.classes.Layer.TheVariants.{Diffusion, Poly, Metal}
+use Rattle.rule_table.specs.declared.classes.Layer.{Layer, TheVariants.{Diffusion, Poly, Metal}}
 use Rattle.stick_lex.specs.Tokens.{names}
-use Rattle.cell_model.specs.declared.cell.Axis2.{Axis2}
-use Rattle.cell_model.specs.declared.cell.Axis2.TheVariants.{Across, Up}
-use Rattle.cell_model.specs.declared.cell.Node.{Node}
-use Rattle.cell_model.specs.declared.cell.WireEnd.{WireEnd}
+use Rattle.cell_model.specs.declared.cell.{Axis2.{Axis2, TheVariants.{Across, Up}}, Node.Node, WireEnd.WireEnd}
+use Rattle.cell_model.specs.{declared.cell.Wire.Wire, Sound.node_at, Wiring.{is_same_axis, is_same_layer}}
 use Rattle.cell_model.specs.declared.cell.WireEnd.TheVariants as ends
-use Rattle.cell_model.specs.declared.cell.Wire.{Wire}
-use Rattle.cell_model.specs.Sound.{node_at}
-use Rattle.cell_model.specs.Wiring.{is_same_axis, is_same_layer}
-use Rattle.stick_cell.specs.declared.names.Copied.{Copied}
-use Rattle.stick_cell.specs.declared.names.Run.{Run}
-use Rattle.stick_cell.specs.declared.names.Terminal.{Terminal}
+use Rattle.stick_cell.specs.declared.{names.{Copied.Copied, Run.Run, Terminal.Terminal}, sides.Sides.Sides}
+use Rattle.stick_cell.specs.declared.{sides.{Taken.Taken, SideMap.SideMap}, table.Table.Table}
+use Rattle.stick_cell.specs.{Known.{Known, known_at}, Paths.{Names, named, copy_of}, Wires.is_buried}
 use Rattle.stick_cell.specs.declared.names.Terminal.TheVariants as terminals
-use Rattle.stick_cell.specs.declared.sides.Sides.{Sides}
-use Rattle.stick_cell.specs.declared.sides.Taken.{Taken}
-use Rattle.stick_cell.specs.declared.sides.SideMap.{SideMap}
-use Rattle.stick_cell.specs.declared.table.Table.{Table}
-use Rattle.stick_cell.specs.Known.{Known, known_at}
-use Rattle.stick_cell.specs.Paths.{Names, named, copy_of}
-use Rattle.stick_cell.specs.Wires.{is_buried}
 
 -- ---- what is so
 

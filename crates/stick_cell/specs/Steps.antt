@@ -1,10 +1,8 @@
 -- What the lines of a cell add to it, and the cell that they make.
-use Rattle.std.specs.Prelude.{◌≡◌, ℕ, ◌<◌, ◌≤◌, List, length, fold}
-use Rattle.std.specs.List.{AllByRecursion}
-use Rattle.stick_cell.specs.declared.steps.Step.{Step}
+use Rattle.std.specs.{Prelude.{◌≡◌, ℕ, ◌<◌, ◌≤◌, List, length, fold}, List.AllByRecursion}
+use Rattle.stick_cell.specs.{declared.steps.Step.Step, Known.{Known, begun, known_at, with_node, with_port, with_copy}}
+use Rattle.stick_cell.specs.{Known.{with_wire, with_limit}, Counts.weight_of}
 use Rattle.stick_cell.specs.declared.steps.Step.TheVariants as steps
-use Rattle.stick_cell.specs.Known.{Known, begun, known_at, with_node, with_port, with_copy, with_wire, with_limit}
-use Rattle.stick_cell.specs.Counts.{weight_of}
 
 -- a cell with what a line adds to it
 abbrev pub apply : List Known → Known → Step → Known

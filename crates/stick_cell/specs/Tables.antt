@@ -1,18 +1,10 @@
 -- What the code keeps of the cells of a design: a table for each, which tells of the cell what later lines and cells ask for. Numbers of
 -- nodes are exact in a cell that may be inlined.
 use Rattle.std.specs.Prelude.{◌≡◌, ℕ, ◌<◌, List, [], ◌∷◌, length, map, take, slice_index_or, Result, Ok, Err}
-use Rattle.stick_parse.specs.declared.fault.StickFault.{StickFault}
-use Rattle.stick_parse.specs.Writable.{IsWritable}
-use Rattle.stick_cell.specs.declared.table.Table.{Table}
-use Rattle.stick_cell.specs.declared.cells.Cells.{Cells}
-use Rattle.stick_cell.specs.Known.{Known, known_at, greatest_col, greatest_row}
-use Rattle.stick_cell.specs.Lines.{known_cells}
-use Rattle.stick_cell.specs.Counts.{weight_of, boxes_of, capped}
-use Rattle.stick_cell.specs.Kept.{capped_names}
-use Rattle.stick_cell.specs.Ports.{ports_of}
-use Rattle.stick_cell.specs.NameEntries.{entries_of}
-use Rattle.stick_cell.specs.declared.steps.Step.{Step}
-use Rattle.stick_cell.specs.Steps.{AreStepsOf}
+use Rattle.stick_parse.specs.{declared.fault.StickFault.StickFault, Writable.IsWritable}
+use Rattle.stick_cell.specs.{declared.{table.Table.Table, cells.Cells.Cells, steps.Step.Step}, Known.{Known, known_at}}
+use Rattle.stick_cell.specs.{Known.{greatest_col, greatest_row}, Lines.known_cells, Counts.{weight_of, boxes_of}}
+use Rattle.stick_cell.specs.{Counts.capped, Kept.capped_names, Ports.ports_of, NameEntries.entries_of, Steps.AreStepsOf}
 
 -- the table tells of the cell what its lines and its ports do not
 pub record Tells (known : Known) (table : Table) : Type 0 where

@@ -1,26 +1,17 @@
 -- Where wires run, and which terminals take them.
-use Rattle.std.specs.List.{list_all}
-use Rattle.std.specs.Prelude.{ℕ, ◌==◌, ◌&&◌, ◌||◌, not, Bool, true, false, nat_lt, ℤ, int_le, List, slice_index_or, Option, Some, None, Result, Ok, Err, if◌then◌else◌}
-use Rattle.rule_table.specs.declared.technology.Tech.{Tech}
-use Rattle.rule_table.specs.declared.classes.Layer.{Layer}
-use Rattle.stick_parse.specs.declared.fault.StickKind.{StickKind}
-use Rattle.stick_parse.specs.declared.fault.StickKind.TheVariants.{UnknownName, WrongTerminal, NotStraight, WrongLayer, WrongSide, PortWires, NarrowWire, WideWire, BadLimit}
-use Rattle.stick_parse.specs.Reading.{◌>>=◌}
-use Rattle.cell_model.specs.declared.cell.Axis2.{Axis2}
-use Rattle.cell_model.specs.declared.cell.Axis2.TheVariants.{Across, Up}
-use Rattle.cell_model.specs.declared.cell.NodeKind.{NodeKind}
+use Rattle.std.specs.{List.list_all, Prelude.{ℕ, ◌==◌, ◌&&◌, ◌||◌, not, Bool, true, false, nat_lt, ℤ, int_le, List}}
+use Rattle.std.specs.Prelude.{slice_index_or, Option, Some, None, Result, Ok, Err, if◌then◌else◌}
+use Rattle.rule_table.specs.declared.{technology.Tech.Tech, classes.Layer.Layer}
+use Rattle.stick_parse.specs.declared.fault.StickKind.{StickKind, TheVariants.{UnknownName, WrongTerminal, NotStraight}}
+use Rattle.stick_parse.specs.declared.fault.StickKind.TheVariants.{WrongLayer, WrongSide, PortWires, NarrowWire}
+use Rattle.stick_parse.specs.{declared.fault.StickKind.TheVariants.{WideWire, BadLimit}, Reading.◌>>=◌}
+use Rattle.cell_model.specs.declared.cell.{Axis2.{Axis2, TheVariants.{Across, Up}}, NodeKind.NodeKind, WireEnd.WireEnd}
+use Rattle.cell_model.specs.{declared.cell.Wire.Wire, Wiring.{axis_of, is_low_side, is_same_axis, is_same_layer}}
+use Rattle.cell_model.specs.Wiring.{node_takes, node_takes_along, buried_pad, node_pad}
 use Rattle.cell_model.specs.declared.cell.NodeKind.TheVariants as kinds
-use Rattle.cell_model.specs.declared.cell.WireEnd.{WireEnd}
 use Rattle.cell_model.specs.declared.cell.WireEnd.TheVariants as ends
-use Rattle.cell_model.specs.declared.cell.Wire.{Wire}
-use Rattle.cell_model.specs.Wiring.{axis_of, is_low_side, is_same_axis, is_same_layer, node_takes, node_takes_along, buried_pad, node_pad}
-use Rattle.stick_cell.specs.declared.names.Pin.{Pin}
-use Rattle.stick_cell.specs.declared.names.Spot.{Spot}
-use Rattle.stick_cell.specs.declared.names.Terminal.{Terminal}
-use Rattle.stick_cell.specs.declared.names.Terminal.TheVariants.{Node, Port}
-use Rattle.stick_cell.specs.declared.names.Found.{Found}
-use Rattle.stick_cell.specs.declared.names.Found.TheVariants.{At, AtCopy, Through}
-use Rattle.stick_cell.specs.declared.names.Run.{Run}
+use Rattle.stick_cell.specs.declared.names.{Pin.Pin, Spot.Spot, Terminal.{Terminal, TheVariants.{Node, Port}}}
+use Rattle.stick_cell.specs.declared.names.{Found.{Found, TheVariants.{At, AtCopy, Through}}, Run.Run}
 use Rattle.stick_cell.specs.Checks.{demand, sized}
 
 abbrev pub known_name : Option Found → Result Found StickKind

@@ -1,10 +1,7 @@
 //! The cells of a design.
 ghost use Rattle.std.specs.Prelude.{◌≡◌, ◌<◌, ◌≤◌, length, position, bytes_eq, IfSome};
-ghost use Rattle.stick_cell.specs.Known.{known_at};
-ghost use Rattle.stick_cell.specs.Lines.{number_of};
-ghost use Rattle.stick_cell.specs.Counts.{weight_of, boxes_of, capped};
-ghost use Rattle.stick_cell.specs.Ports.{ports_of};
-ghost use Rattle.stick_cell.specs.Tables.{known_of, IsResolved};
+ghost use Rattle.stick_cell.specs.{Known.known_at, Lines.number_of, Counts.{weight_of, boxes_of, capped}};
+ghost use Rattle.stick_cell.specs.{Ports.ports_of, Tables.{known_of, IsResolved}};
 
 use crate::table::Table;
 use cell_model::CellPort;

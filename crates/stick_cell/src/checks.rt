@@ -1,7 +1,6 @@
 //! The checks on places and sizes.
 ghost use Rattle.std.specs.Prelude.{◌≡◌};
-ghost use Rattle.stick_cell.specs.Checks.{layer_of, is_place, is_even_size, sized, is_channel};
-ghost use Rattle.stick_cell.specs.Lines.{axis_where};
+ghost use Rattle.stick_cell.specs.{Checks.{layer_of, is_place, is_even_size, sized, is_channel}, Lines.axis_where};
 
 use cell_model::Axis2;
 use rule_table::{Layer, Tech};

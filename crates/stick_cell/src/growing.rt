@@ -1,14 +1,9 @@
 //! A cell while its lines are read.
-ghost use Rattle.std.specs.Prelude.{◌≡◌, List, [], map, IsTrue, IfOk, OnOk};
-ghost use Rattle.stick_cell.specs.Checks.{is_fresh};
-ghost use Rattle.stick_cell.specs.NameEntries.{entries_of};
-ghost use Rattle.stick_cell.specs.Known.{Known, begun, with_node, with_port};
+ghost use Rattle.std.specs.{Prelude.{◌≡◌, List, [], map, IsTrue, IfOk, OnOk}, List.list_all};
+ghost use Rattle.stick_cell.specs.{Checks.is_fresh, NameEntries.entries_of, Known.{Known, begun, with_node, with_port}};
 ghost use Rattle.stick_cell.specs.Lines.{is_wired, after_joint, after_contact, after_buried, after_fet, after_port};
-ghost use Rattle.std.specs.List.{list_all};
-ghost use Rattle.stick_cell.specs.Steps.{AreStepsOf};
-ghost use Rattle.stick_cell.specs.Tables.{IsTableOf};
-ghost use Rattle.stick_cell.specs.Sides.{side_entries};
-ghost use Rattle.stick_cell.specs.Growing.{IsGrowing, Grows, placed, without_wire};
+ghost use Rattle.stick_cell.specs.{Steps.AreStepsOf, Tables.IsTableOf, Sides.side_entries, Growing.{IsGrowing, Grows}};
+ghost use Rattle.stick_cell.specs.Growing.{placed, without_wire};
 
 use crate::checks::{axis_where, is_channel, is_place, layer_of, sized};
 use crate::counts::{capped_sum, kind_boxes, kind_items};

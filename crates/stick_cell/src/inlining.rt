@@ -1,13 +1,8 @@
 //! A cell with its uses replaced by what they stand for.
-ghost use Rattle.std.specs.Prelude.{◌≡◌, ◌<◌, ◌≤◌, length, IfOk, OnOk};
-ghost use Rattle.std.specs.List.{AllByRecursion};
-ghost use Rattle.cell_model.specs.Nets.{HasEnds};
-ghost use Rattle.stick_cell.specs.Known.{Known, known_at, cell_of};
-ghost use Rattle.stick_cell.specs.Counts.{weight_of};
-ghost use Rattle.cell_model.specs.Sound.{IsSound, IsLight};
-ghost use Rattle.stick_cell.specs.Steps.{apply};
-ghost use Rattle.stick_cell.specs.Tables.{known_of, IsResolved};
-ghost use Rattle.stick_cell.specs.Inlining.{ArePartsOf, IsAtStep, cells_before};
+ghost use Rattle.std.specs.{Prelude.{◌≡◌, ◌<◌, ◌≤◌, length, IfOk, OnOk}, List.AllByRecursion};
+ghost use Rattle.cell_model.specs.{Nets.HasEnds, Sound.{IsSound, IsLight}};
+ghost use Rattle.stick_cell.specs.{Known.{Known, known_at, cell_of}, Counts.weight_of, Steps.apply, Tables.known_of};
+ghost use Rattle.stick_cell.specs.{Tables.IsResolved, Inlining.{ArePartsOf, IsAtStep, cells_before}};
 
 use crate::cells::Cells;
 use crate::parts::Parts;

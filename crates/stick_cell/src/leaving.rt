@@ -1,11 +1,9 @@
 //! Whether wires of other layers leave a buried contact where a wire is to leave it.
 ghost use Rattle.std.specs.Prelude.{◌≡◌, List, OnOk, if◌then◌else◌};
 ghost use Rattle.rule_table.specs.declared.classes.Layer.TheVariants.{Metal};
-ghost use Rattle.stick_cell.specs.Known.{Known};
-ghost use Rattle.stick_cell.specs.Kept.{capped_names};
-ghost use Rattle.stick_cell.specs.NameEntries.{entries_of};
-ghost use Rattle.stick_cell.specs.Tables.{AreTables};
-ghost use Rattle.stick_cell.specs.Sides.{is_left, is_open, are_open, is_buried_end, side_entries, AreSidesOf, HaveSides, IsMarkedIf, AreMarked};
+ghost use Rattle.stick_cell.specs.{Known.Known, Kept.capped_names, NameEntries.entries_of, Tables.AreTables};
+ghost use Rattle.stick_cell.specs.Sides.{is_left, is_open, are_open, is_buried_end, side_entries, AreSidesOf};
+ghost use Rattle.stick_cell.specs.Sides.{HaveSides, IsMarkedIf, AreMarked};
 
 use crate::names::{Run, Terminal};
 use crate::paths::split_first;

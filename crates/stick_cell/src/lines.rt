@@ -1,12 +1,8 @@
 //! The lines of a cell.
 ghost use Rattle.std.specs.Prelude.{◌≤◌, List, length};
 ghost use Rattle.stick_parse.specs.Writable.{IsForm};
-ghost use Rattle.stick_cell.specs.Known.{Known};
-ghost use Rattle.stick_cell.specs.Lines.{after_form};
-ghost use Rattle.stick_cell.specs.Grown.{IsGrown, AreGrown};
-ghost use Rattle.stick_cell.specs.Tables.{AreTables};
-ghost use Rattle.stick_cell.specs.Growing.{IsGrowing, GrowsWith};
-ghost use Rattle.stick_cell.specs.Sides.{side_entries, AreSidesOf, HaveSides};
+ghost use Rattle.stick_cell.specs.{Known.Known, Lines.after_form, Grown.{IsGrown, AreGrown}, Tables.AreTables};
+ghost use Rattle.stick_cell.specs.{Growing.{IsGrowing, GrowsWith}, Sides.{side_entries, AreSidesOf, HaveSides}};
 
 use crate::growing::Growing;
 use crate::table::Table;

@@ -1,8 +1,7 @@
 //! What a path comes to.
 ghost use Rattle.std.specs.Prelude.{◌≡◌, ◌∷◌, ◌<◌, [], length, map, option_map, option_copied, IfSome, Some, None};
 ghost use Rattle.stick_lex.specs.Tokens.{names};
-ghost use Rattle.stick_cell.specs.NameEntries.{entries_of};
-ghost use Rattle.stick_cell.specs.Paths.{walk, behind, seen_through, names_behind};
+ghost use Rattle.stick_cell.specs.{NameEntries.entries_of, Paths.{walk, behind, seen_through, names_behind}};
 ghost use Rattle.stick_cell.specs.Kept.{kept_found};
 
 use crate::counts::{TOO_MANY, capped_sum};

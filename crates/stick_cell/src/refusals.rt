@@ -1,13 +1,9 @@
 //! Laws: why a line or a cell is refused.
 ghost use Rattle.std.specs.Prelude.{◌≡◌, List, Err};
 ghost use Rattle.rule_table.specs.declared.technology.Tech.{Tech};
-ghost use Rattle.stick_parse.specs.declared.design.Form.{Form};
-ghost use Rattle.stick_parse.specs.declared.fault.StickKind.{StickKind};
-ghost use Rattle.stick_parse.specs.declared.design.CellText.{CellText};
+ghost use Rattle.stick_parse.specs.declared.{design.{Form.Form, CellText.CellText}, fault.StickKind.StickKind};
 ghost use Rattle.stick_parse.specs.declared.fault.StickFault.{StickFault};
-ghost use Rattle.stick_cell.specs.Known.{Known};
-ghost use Rattle.stick_cell.specs.Lines.{after_form, after_cell};
-ghost use Rattle.stick_cell.specs.Refusals.{IsWrongLine, IsWrongCell};
+ghost use Rattle.stick_cell.specs.{Known.Known, Lines.{after_form, after_cell}, Refusals.{IsWrongLine, IsWrongCell}};
 
 /// A line of a cell that is refused breaks the rule of the kind that it is refused with, and one that breaks a rule is refused.
 pub fn a_refused_line_breaks_a_rule()

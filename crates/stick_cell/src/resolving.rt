@@ -1,16 +1,11 @@
 //! The checks on the names and sizes of a design.
 ghost use Rattle.std.specs.Prelude.{◌≡◌, ◌≤◌, List, length, All, IfOk};
 ghost use Rattle.stick_parse.specs.declared.fault.ParseFault.TheVariants.{Stick};
-ghost use Rattle.stick_parse.specs.Reading.{Gives};
-ghost use Rattle.stick_parse.specs.Writable.{IsCell, IsWritable};
+ghost use Rattle.stick_parse.specs.{Reading.Gives, Writable.{IsCell, IsWritable}};
 ghost use Rattle.cell_model.specs.Sound.{IsSound};
-ghost use Rattle.stick_cell.specs.Known.{Known, begun, cell_of};
-ghost use Rattle.stick_cell.specs.Lines.{after_lines, after_cell, known_cells};
-ghost use Rattle.stick_cell.specs.Grids.{resolved_cells};
-ghost use Rattle.stick_cell.specs.Grown.{AreGrown};
-ghost use Rattle.stick_cell.specs.Tables.{AreTables, known_of, IsResolved};
-ghost use Rattle.stick_cell.specs.Sides.{HaveSides};
-ghost use Rattle.stick_cell.specs.Resolving.{fault_at_line, GrowsTo, TellsTable};
+ghost use Rattle.stick_cell.specs.{Known.{Known, begun, cell_of}, Lines.{after_lines, after_cell, known_cells}};
+ghost use Rattle.stick_cell.specs.{Grids.resolved_cells, Grown.AreGrown, Tables.{AreTables, known_of, IsResolved}};
+ghost use Rattle.stick_cell.specs.{Sides.HaveSides, Resolving.{fault_at_line, GrowsTo, TellsTable}};
 
 use crate::cells::{Cells, place_of};
 use crate::grids::check_grids;

@@ -1,11 +1,8 @@
 //! The uses of a cell.
 ghost use Rattle.std.specs.Prelude.{◌≡◌, ◌+◌, ◌<◌, ◌≤◌, ◌==◌, max, if◌then◌else◌, List, length, IsTrue, IfOk, OnOk};
-ghost use Rattle.stick_cell.specs.Checks.{is_fresh, is_place};
-ghost use Rattle.stick_cell.specs.NameEntries.{entries_of};
-ghost use Rattle.stick_cell.specs.Known.{Known, known_at, with_copy};
-ghost use Rattle.stick_cell.specs.Lines.{after_use};
-ghost use Rattle.stick_cell.specs.Tables.{IsTableOf, AreTables};
-ghost use Rattle.stick_cell.specs.Growing.{IsGrowing, Grows, usable};
+ghost use Rattle.stick_cell.specs.{Checks.{is_fresh, is_place}, NameEntries.entries_of, Known.{Known, known_at}};
+ghost use Rattle.stick_cell.specs.{Known.with_copy, Lines.after_use, Tables.{IsTableOf, AreTables}, Growing.IsGrowing};
+ghost use Rattle.stick_cell.specs.Growing.{Grows, usable};
 
 use crate::cells::place_of;
 use crate::checks::MOST_PLACE;

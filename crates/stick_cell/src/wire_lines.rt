@@ -2,15 +2,10 @@
 ghost use Rattle.std.specs.Prelude.{◌≡◌, List, OnOk};
 ghost use Rattle.rule_table.specs.declared.technology.Tech.{Tech};
 ghost use Rattle.stick_parse.specs.Writable.{IsPath};
-ghost use Rattle.cell_model.specs.declared.cell.Wire.{Wire};
-ghost use Rattle.cell_model.specs.Nets.{HasEnds};
-ghost use Rattle.stick_cell.specs.Known.{Known, cell_of, with_wire};
-ghost use Rattle.stick_cell.specs.Paths.{found_at};
-ghost use Rattle.stick_cell.specs.Lines.{after_wire, after_limit};
-ghost use Rattle.stick_cell.specs.Kept.{capped_wire};
-ghost use Rattle.stick_cell.specs.Grown.{IsGrown, AreGrown};
-ghost use Rattle.stick_cell.specs.Tables.{AreTables};
-ghost use Rattle.stick_cell.specs.Growing.{IsGrowing, Grows, GrowsWith, plugged_ports, plugged_marks, found_or_unknown};
+ghost use Rattle.cell_model.specs.{declared.cell.Wire.Wire, Nets.HasEnds};
+ghost use Rattle.stick_cell.specs.{Known.{Known, cell_of, with_wire}, Paths.found_at, Lines.{after_wire, after_limit}};
+ghost use Rattle.stick_cell.specs.{Kept.capped_wire, Grown.{IsGrown, AreGrown}, Tables.AreTables, Growing.IsGrowing};
+ghost use Rattle.stick_cell.specs.Growing.{Grows, GrowsWith, plugged_ports, plugged_marks, found_or_unknown};
 ghost use Rattle.stick_cell.specs.Sides.{side_entries, AreSidesOf, HaveSides};
 
 use crate::checks::{axis_where, layer_of};

@@ -1,13 +1,12 @@
 //! Where wires run, and which terminals take them.
 ghost use Rattle.std.specs.Prelude.{◌≡◌, ◌==◌, ℕ, Bool, List, Option, Some, None, Err, if◌then◌else◌};
-ghost use Rattle.rule_table.specs.declared.technology.Tech.{Tech};
-ghost use Rattle.rule_table.specs.declared.classes.Layer.{Layer};
+ghost use Rattle.rule_table.specs.declared.{technology.Tech.Tech, classes.Layer.Layer};
 ghost use Rattle.stick_parse.specs.declared.fault.StickKind.{StickKind};
 ghost use Rattle.stick_cell.specs.declared.names.Found.{Found};
-ghost use Rattle.stick_cell.specs.Refusals.{IsRefusedWire};
-ghost use Rattle.cell_model.specs.Wiring.{axis_of};
-ghost use Rattle.cell_model.specs.declared.cell.Wire.{Wire};
-ghost use Rattle.stick_cell.specs.Wires.{wire_between, wire_where, run_of, terminal, line_of, run_along, run_between, takes_layer, takes_along, is_buried, is_free, fills_pad, is_within_pad, end_of, at_both, limited};
+ghost use Rattle.stick_cell.specs.{Refusals.IsRefusedWire, Wires.{wire_between, wire_where, run_of, terminal, line_of}};
+ghost use Rattle.stick_cell.specs.Wires.{run_along, run_between, takes_layer, takes_along, is_buried, is_free};
+ghost use Rattle.stick_cell.specs.Wires.{fills_pad, is_within_pad, end_of, at_both, limited};
+ghost use Rattle.cell_model.specs.{Wiring.axis_of, declared.cell.Wire.Wire};
 
 use crate::checks::sized;
 use crate::names::{Found, Pin, Run, Spot, Terminal};

@@ -1,13 +1,11 @@
 -- The parts between blanks, taken one after the other.
-use Rattle.std.proofs.Common.{◌≡◌, ℕ, ◌+◌, ◌<◌, ◌≤◌, Bool, true, false, cond, List, [], ◌∷◌, ◌++◌, length, get_or, drop, Result, Ok, Err, refl, sym, ap, subst, ◌∙◌, append_assoc, arith}
+use Rattle.std.proofs.Common.{◌≡◌, ℕ, ◌+◌, ◌<◌, ◌≤◌, Bool, true, false, cond, List, [], ◌∷◌, ◌++◌, length, get_or, drop}
+use Rattle.std.proofs.Common.{Result, Ok, Err, refl, sym, ap, subst, ◌∙◌, append_assoc, arith}
+use Rattle.std.proofs.lemmas.List.{append-nil, drop_more, drop_all, Splits.length-slice_split}
 use Rattle.std.specs.List.{slice_split, onto_first}
-use Rattle.std.proofs.lemmas.List.{append-nil, drop_more, drop_all}
-use Rattle.std.proofs.lemmas.List.Splits.{length-slice_split}
-use Rattle.stick_lex.specs.declared.token.Token.{Token}
-use Rattle.stick_lex.specs.declared.token.LexFault.{LexFault}
-use Rattle.stick_lex.specs.declared.token.LexFault.TheVariants.{BadByte, NumberTooLarge, OutOfMemory}
-use Rattle.stick_lex.specs.Runs.{runs_of_parts}
-use Rattle.stick_lex.specs.Tokens.{◌>>=◌, Fails, token_of, tokens_of_runs}
+use Rattle.stick_lex.specs.declared.token.{Token.Token, LexFault.{LexFault, TheVariants.{BadByte, NumberTooLarge}}}
+use Rattle.stick_lex.specs.declared.token.LexFault.TheVariants.{OutOfMemory}
+use Rattle.stick_lex.specs.{Runs.runs_of_parts, Tokens.{◌>>=◌, Fails, token_of, tokens_of_runs}}
 
 -- how far the parts reach, with a blank behind each
 abbrev pub width : List (List ℕ) → ℕ

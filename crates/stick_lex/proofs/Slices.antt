@@ -1,15 +1,13 @@
 -- Each token is what its slice of the line stands for.
-use Rattle.std.proofs.Common.{◌≡◌, ℕ, ◌+◌, ◌-◌, ◌<◌, ◌≤◌, ℤ, pos, Bool, true, false, cond, eqb, leb, List, [], ◌∷◌, ◌++◌, length, take, drop, Result, Ok, Err, refl, sym, ap, subst, ◌∙◌, append_assoc, arith, codes}
-use Rattle.std.specs.List.{slice_split, slice_range, onto_first, position_or_len, AllByRecursion}
-use Rattle.std.specs.Str.{bytes_eq}
-use Rattle.std.proofs.lemmas.List.{drop_at, take-append-drop, length-append}
-use Rattle.stick_lex.specs.declared.token.Token.{Token}
-use Rattle.stick_lex.specs.declared.token.TokenKind.{TokenKind}
-use Rattle.stick_lex.specs.declared.token.TokenKind.TheVariants.{Path, Number, AtMost, AtLeast}
-use Rattle.stick_lex.specs.declared.token.LexFault.{LexFault}
-use Rattle.stick_lex.specs.declared.token.LexFault.TheVariants.{BadByte, NumberTooLarge}
-use Rattle.stick_lex.specs.Runs.{Run, is_blank, without_comment, runs_of_parts}
-use Rattle.stick_lex.specs.Tokens.{◌>>=◌, is_path, is_number, magnitude, value_of, spanning, token_of, tokens_of_runs, tokens_of, IsTokenOf}
+use Rattle.std.proofs.Common.{◌≡◌, ℕ, ◌+◌, ◌-◌, ◌<◌, ◌≤◌, ℤ, pos, Bool, true, false, cond, eqb, leb, List, [], ◌∷◌}
+use Rattle.std.proofs.Common.{◌++◌, length, take, drop, Result, Ok, Err, refl, sym, ap, subst, ◌∙◌, append_assoc, arith}
+use Rattle.std.proofs.{Common.codes, lemmas.List.{drop_at, take-append-drop, length-append}}
+use Rattle.std.specs.{List.{slice_split, slice_range, onto_first, position_or_len, AllByRecursion}, Str.bytes_eq}
+use Rattle.stick_lex.specs.declared.token.{Token.Token, TokenKind.{TokenKind, TheVariants.{Path, Number, AtMost}}}
+use Rattle.stick_lex.specs.declared.token.{TokenKind.TheVariants.AtLeast, LexFault.{LexFault, TheVariants.BadByte}}
+use Rattle.stick_lex.specs.declared.token.LexFault.TheVariants.{NumberTooLarge}
+use Rattle.stick_lex.specs.{Runs.{Run, is_blank, without_comment, runs_of_parts}, Tokens.{◌>>=◌, is_path, is_number}}
+use Rattle.stick_lex.specs.Tokens.{magnitude, value_of, spanning, token_of, tokens_of_runs, tokens_of, IsTokenOf}
 
 -- ---- the parts lie in the line
 

@@ -1,15 +1,10 @@
 -- Names and numbers, as the code walks them.
-use Rattle.std.proofs.Common.{◌≡◌, ℕ, ◌+◌, ◌*◌, ◌-◌, ◌<◌, ◌≤◌, Bool, true, false, ◌&&◌, cond, eqb, ltb, leb, min, List, [], ◌∷◌, length, get_or, take, drop, Some, None, unwrap_or, refl, arith}
-use Rattle.std.specs.List.{list_all, position_or_len}
-use Rattle.std.specs.Char.{is_ascii_alphabetic, is_ascii_digit, digit_value}
-use Rattle.std.specs.Int.{IsInRange}
-use Rattle.std.specs.Str.Parse.{digits_value}
-use Rattle.std.proofs.lemmas.List.Elements.{All-get_or}
-use Rattle.std.proofs.lemmas.List.Sums.{AllPass-from_list_all, prefix_len-le-length}
-use Rattle.std.proofs.lemmas.Int.Digits.{digits_value_more}
-use Rattle.std.proofs.lemmas.Str.{digit_value_digit}
-use Rattle.std.proofs.lemmas.Bool.{le-leb}
-use Rattle.std.proofs.lemmas.Bool.Decides.{nat_tests}
+use Rattle.std.proofs.Common.{◌≡◌, ℕ, ◌+◌, ◌*◌, ◌-◌, ◌<◌, ◌≤◌, Bool, true, false, ◌&&◌, cond, eqb, ltb, leb, min, List}
+use Rattle.std.proofs.Common.{[], ◌∷◌, length, get_or, take, drop, Some, None, unwrap_or, refl, arith}
+use Rattle.std.proofs.lemmas.List.{Elements.All-get_or, Sums.{AllPass-from_list_all, prefix_len-le-length}}
+use Rattle.std.proofs.lemmas.{Int.Digits.digits_value_more, Str.digit_value_digit, Bool.{le-leb, Decides.nat_tests}}
+use Rattle.std.specs.{List.{list_all, position_or_len}, Char.{is_ascii_alphabetic, is_ascii_digit, digit_value}}
+use Rattle.std.specs.{Int.IsInRange, Str.Parse.digits_value}
 use Rattle.stick_lex.specs.Tokens.{is_name, is_name_byte, is_numeral}
 
 -- a text that is not empty, by its first byte and the rest

@@ -1,6 +1,5 @@
 -- The runs of a line: what stands between its blanks, before its comment.
-use Rattle.std.specs.Prelude.{ℕ, ◌+◌, Bool, ◌||◌, ◌==◌, List, [], ◌∷◌, length}
-use Rattle.std.specs.List.{slice_split, before_first}
+use Rattle.std.specs.{Prelude.{ℕ, ◌+◌, Bool, ◌||◌, ◌==◌, List, [], ◌∷◌, length}, List.{slice_split, before_first}}
 
 -- a space or a tab
 abbrev pub is_blank : ℕ → Bool

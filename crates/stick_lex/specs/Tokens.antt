@@ -1,15 +1,11 @@
 -- What a run stands for, and the tokens of a line.
-use Rattle.std.specs.Prelude.{◌≡◌, ℕ, ◌+◌, ◌<◌, ◌≤◌, ℤ, pos, neg_ℤ, Bool, false, ◌&&◌, ◌||◌, ◌==◌, nat_le, if◌then◌else◌, List, [], ◌∷◌, length, codes, Result, Ok, Err}
-use Rattle.std.specs.List.{slice_split, slice_range, list_all}
-use Rattle.std.specs.Char.{is_ascii_digit, is_ascii_alphabetic, is_ascii_alphanumeric}
-use Rattle.std.specs.Str.{bytes_eq}
-use Rattle.std.specs.Str.Parse.{digits_value}
-use Rattle.stick_lex.specs.declared.token.TokenKind.{TokenKind}
-use Rattle.stick_lex.specs.declared.token.TokenKind.TheVariants.{Path, Number, AtMost, AtLeast}
-use Rattle.stick_lex.specs.declared.token.Token.{Token}
-use Rattle.stick_lex.specs.declared.token.LexFault.{LexFault}
-use Rattle.stick_lex.specs.declared.token.LexFault.TheVariants.{BadByte, NumberTooLarge, OutOfMemory}
-use Rattle.stick_lex.specs.Runs.{Run, runs}
+use Rattle.std.specs.Prelude.{◌≡◌, ℕ, ◌+◌, ◌<◌, ◌≤◌, ℤ, pos, neg_ℤ, Bool, false, ◌&&◌, ◌||◌, ◌==◌, nat_le}
+use Rattle.std.specs.{Prelude.{if◌then◌else◌, List, [], ◌∷◌, length, codes, Result, Ok, Err}, List.slice_split}
+use Rattle.std.specs.{List.{slice_range, list_all}, Char.{is_ascii_digit, is_ascii_alphabetic, is_ascii_alphanumeric}}
+use Rattle.std.specs.Str.{bytes_eq, Parse.digits_value}
+use Rattle.stick_lex.specs.declared.token.TokenKind.{TokenKind, TheVariants.{Path, Number, AtMost, AtLeast}}
+use Rattle.stick_lex.specs.declared.token.{Token.Token, LexFault.{LexFault, TheVariants.{BadByte, NumberTooLarge}}}
+use Rattle.stick_lex.specs.{declared.token.LexFault.TheVariants.OutOfMemory, Runs.{Run, runs}}
 
 -- ---- names and paths
 

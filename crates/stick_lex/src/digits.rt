@@ -1,6 +1,5 @@
 //! Numbers in texts.
-ghost use Rattle.std.specs.Prelude.{◌≡◌, ◌++◌, decimal, OnOk, OnErr};
-ghost use Rattle.std.specs.Fmt.{signed_decimal};
+ghost use Rattle.std.specs.{Prelude.{◌≡◌, ◌++◌, decimal, OnOk, OnErr}, Fmt.signed_decimal};
 
 use std::alloc::AllocError;
 

@@ -1,21 +1,14 @@
 -- Lines that a design begins with, as a walk from spot to spot.
-use Rattle.std.proofs.Common.{◌≡◌, inl, inr, ℕ, Bool, true, false, cond, List, [], ◌∷◌, ◌++◌, map, Option, Some, None, Result, Ok, Err, refl, sym, ap, subst, ◌∙◌, append_assoc, arith}
-use Rattle.std.specs.Prelude.{IfSome, flat_map}
-use Rattle.std.specs.Option.{option_and_then}
-use Rattle.stick_parse.specs.declared.fault.StickKind.{StickKind}
-use Rattle.stick_parse.specs.declared.design.Line.{Line}
-use Rattle.stick_parse.specs.declared.design.CellText.{CellText}
-use Rattle.stick_parse.specs.declared.design.RowText.{RowText}
-use Rattle.stick_parse.specs.declared.design.GridText.{GridText}
-use Rattle.stick_parse.specs.declared.design.Design.{Design}
-use Rattle.stick_parse.specs.declared.design.Statement.{Statement}
+use Rattle.std.proofs.Common.{◌≡◌, inl, inr, ℕ, Bool, true, false, cond, List, [], ◌∷◌, ◌++◌, map, Option, Some, None}
+use Rattle.std.proofs.Common.{Result, Ok, Err, refl, sym, ap, subst, ◌∙◌, append_assoc, arith}
+use Rattle.std.specs.{Prelude.{IfSome, flat_map}, Option.option_and_then}
+use Rattle.stick_parse.specs.declared.{fault.StickKind.StickKind, design.{Line.Line, CellText.CellText}}
+use Rattle.stick_parse.specs.declared.design.{RowText.RowText, GridText.GridText, Design.Design, Statement.Statement}
 use Rattle.stick_parse.specs.declared.design.Statement.TheVariants.{Version, Row, Grid, End}
-use Rattle.stick_parse.specs.Lines.{Entry}
-use Rattle.stick_parse.specs.Order.{Rest, nothing, with_line, design_in}
-use Rattle.stick_parse.specs.Says.{saying, form_line, cell_part, IsGridPart, AreGridParts}
-use Rattle.stick_parse.specs.Writable.{AreGridsOf}
-use Rattle.stick_parse.specs.FirstFault.{BeginDesign}
-use Rattle.stick_parse.proofs.Shapes.{Spot, Head, Between, Inside, Rows, Done, turn, From, MoreGrids, AllGrids, CellsPart, regroup, step_on, lines_of}
+use Rattle.stick_parse.specs.{Lines.Entry, Order.{Rest, nothing, with_line, design_in}, Says.{saying, form_line}}
+use Rattle.stick_parse.specs.{Says.{cell_part, IsGridPart, AreGridParts}, Writable.AreGridsOf, FirstFault.BeginDesign}
+use Rattle.stick_parse.proofs.Shapes.{Spot, Head, Between, Inside, Rows, Done, turn, From, MoreGrids, AllGrids}
+use Rattle.stick_parse.proofs.Shapes.{CellsPart, regroup, step_on, lines_of}
 
 abbrev pub turn_on : Spot → Result Statement StickKind → Option Spot
 turn_on p (Ok s) = turn p s

@@ -1,25 +1,20 @@
 -- A text is refused with its first fault.
-use Rattle.std.proofs.Common.{◌≡◌, ◌≢◌, ℕ, ◌+◌, ◌≤◌, ◌⊎◌, inl, inr, Bool, true, false, cond, eqb, List, [], ◌∷◌, ◌++◌, Option, Some, None, Result, Ok, Err, refl, sym, ap, subst, ◌∙◌, arith}
-use Rattle.std.specs.Prelude.{IfSome, IfErr}
-use Rattle.std.specs.Option.{option_and_then}
-use Rattle.std.proofs.lemmas.List.{append-nil}
-use Rattle.std.proofs.lemmas.List.Sums.{sum_by-append}
-use Rattle.stick_parse.specs.declared.fault.StickKind.{StickKind}
-use Rattle.stick_parse.specs.declared.fault.StickKind.TheVariants.{BadLine, Unended, TooManyCells}
-use Rattle.stick_parse.specs.declared.fault.StickFault.{StickFault}
-use Rattle.stick_parse.specs.declared.design.Design.{Design}
-use Rattle.stick_parse.specs.declared.design.Statement.{Statement}
-use Rattle.stick_parse.specs.declared.design.Statement.TheVariants.{Version, Cell, Item, Grid, Row, End}
-use Rattle.stick_parse.specs.declared.fault.ParseFault.{ParseFault}
+use Rattle.std.proofs.Common.{◌≡◌, ◌≢◌, ℕ, ◌+◌, ◌≤◌, ◌⊎◌, inl, inr, Bool, true, false, cond, eqb, List, [], ◌∷◌, ◌++◌}
+use Rattle.std.proofs.Common.{Option, Some, None, Result, Ok, Err, refl, sym, ap, subst, ◌∙◌, arith}
+use Rattle.std.proofs.lemmas.List.{append-nil, Sums.sum_by-append}
+use Rattle.std.specs.{Prelude.{IfSome, IfErr}, Option.option_and_then}
+use Rattle.stick_parse.specs.declared.fault.StickKind.{StickKind, TheVariants.{BadLine, Unended, TooManyCells}}
+use Rattle.stick_parse.specs.declared.{fault.{StickFault.StickFault, ParseFault.ParseFault}, design.Design.Design}
+use Rattle.stick_parse.specs.declared.design.Statement.{Statement, TheVariants.{Version, Cell, Item, Grid, Row, End}}
+use Rattle.stick_parse.specs.{Reading.{◌>>=◌, Gives}, Lines.Entry, Order.{Place, AtHead, Behind, InCell, InGrid, AtEnd}}
+use Rattle.stick_parse.specs.Order.{behind_header, place_after, Rest, with_line, at_line, at_end, rest_from, last_line}
+use Rattle.stick_parse.specs.{Order.{design_in, design_of}, Says.{said_lines, SaysDesign}, FirstFault.says_cell}
+use Rattle.stick_parse.specs.FirstFault.{cell_lines, BeginDesign, AreSound, IsUnreadable, IsMisplaced, IsOneTooMany}
+use Rattle.stick_parse.specs.FirstFault.{BreaksAt, IsUnended, IsFirstFault, Tells}
+use Rattle.stick_parse.proofs.{Written.Holds, Shapes.{Spot, Head, Inside, spot_of, turn_head, turn, turns, room_left}}
+use Rattle.stick_parse.proofs.{Shapes.{design_said, design_read}, Begun.{turn_on, walk, turned, then_some, some_mono}}
+use Rattle.stick_parse.proofs.Begun.{walk-append, begun_walks, walk_begins}
 use Rattle.stick_parse.specs.declared.fault.ParseFault.TheVariants as faults
-use Rattle.stick_parse.specs.Reading.{◌>>=◌, Gives}
-use Rattle.stick_parse.specs.Lines.{Entry}
-use Rattle.stick_parse.specs.Order.{Place, AtHead, Behind, InCell, InGrid, AtEnd, behind_header, place_after, Rest, with_line, at_line, at_end, rest_from, last_line, design_in, design_of}
-use Rattle.stick_parse.specs.Says.{said_lines, SaysDesign}
-use Rattle.stick_parse.specs.FirstFault.{says_cell, cell_lines, BeginDesign, AreSound, IsUnreadable, IsMisplaced, IsOneTooMany, BreaksAt, IsUnended, IsFirstFault, Tells}
-use Rattle.stick_parse.proofs.Written.{Holds}
-use Rattle.stick_parse.proofs.Shapes.{Spot, Head, Inside, spot_of, turn_head, turn, turns, room_left, design_said, design_read}
-use Rattle.stick_parse.proofs.Begun.{turn_on, walk, turned, then_some, some_mono, walk-append, begun_walks, walk_begins}
 
 -- ---- places that lines lead to, and how many `cell` lines stand in front
 

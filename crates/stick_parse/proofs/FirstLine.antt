@@ -1,10 +1,9 @@
 -- The first line of a text, at its first line end.
-use Rattle.std.proofs.Common.{◌≡◌, ℕ, ◌+◌, ◌<◌, ◌≤◌, Bool, true, false, cond, not, eqb, List, [], ◌∷◌, length, take, drop, Some, None, refl, sym, ap, ◌∙◌, arith}
-use Rattle.std.specs.List.{slice_split, before_first, after_first, position_or_len}
-use Rattle.std.specs.Str.Lines.{lines, lines_of_parts, strip_carriage_return}
-use Rattle.std.proofs.lemmas.List.Splits.{slice_split_first, slice_split_none, length-slice_split}
-use Rattle.std.proofs.lemmas.List.Sums.{prefix_len_passes}
-use Rattle.std.proofs.lemmas.Bool.Decides.{nat_tests}
+use Rattle.std.proofs.Common.{◌≡◌, ℕ, ◌+◌, ◌<◌, ◌≤◌, Bool, true, false, cond, not, eqb, List, [], ◌∷◌, length, take}
+use Rattle.std.proofs.{Common.{drop, Some, None, refl, sym, ap, ◌∙◌, arith}, lemmas.List.Splits.slice_split_first}
+use Rattle.std.proofs.lemmas.List.{Splits.{slice_split_none, length-slice_split}, Sums.prefix_len_passes}
+use Rattle.std.{proofs.lemmas.Bool.Decides.nat_tests, specs.List.{slice_split, before_first, after_first}}
+use Rattle.std.specs.{List.position_or_len, Str.Lines.{lines, lines_of_parts, strip_carriage_return}}
 
 abbrev pub is_end : ℕ → Bool
 is_end b = eqb b 10

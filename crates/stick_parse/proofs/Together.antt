@@ -1,19 +1,12 @@
 -- The parts of a text, read one after the other, give its design, or its fault.
-use Rattle.std.proofs.Common.{◌≡◌, ℕ, ◌+◌, List, [], ◌∷◌, ◌++◌, length, Option, Result, Ok, Err, sym, ap, subst, ◌∙◌, arith}
-use Rattle.std.specs.Prelude.{max}
-use Rattle.std.specs.Str.Lines.{lines}
-use Rattle.std.proofs.lemmas.List.{append-nil}
-use Rattle.stick_parse.specs.declared.fault.StickFault.{StickFault}
-use Rattle.stick_parse.specs.declared.fault.ParseFault.{ParseFault}
+use Rattle.std.proofs.Common.{◌≡◌, ℕ, ◌+◌, List, [], ◌∷◌, ◌++◌, length, Option, Result, Ok, Err, sym, ap, subst, ◌∙◌}
+use Rattle.std.{proofs.{Common.arith, lemmas.List.append-nil}, specs.{Prelude.max, Str.Lines.lines}}
+use Rattle.stick_parse.specs.declared.{fault.{StickFault.StickFault, ParseFault.ParseFault}, design.CellText.CellText}
+use Rattle.stick_parse.specs.declared.{design.{GridText.GridText, Design.Design}, cursor.Lines.Lines}
+use Rattle.stick_parse.specs.{Reading.{◌>>=◌, Fails}, Lines.entries, Order.{AtHead, Rest, nothing, rest_from}}
+use Rattle.stick_parse.specs.{Order.{design_in, design_of}, Parts.{rest_at, with_version, with_cells, with_grid}}
+use Rattle.stick_parse.specs.Parts.{with_grids, grids_alone}
 use Rattle.stick_parse.specs.declared.fault.ParseFault.TheVariants as faults
-use Rattle.stick_parse.specs.declared.design.CellText.{CellText}
-use Rattle.stick_parse.specs.declared.design.GridText.{GridText}
-use Rattle.stick_parse.specs.declared.design.Design.{Design}
-use Rattle.stick_parse.specs.declared.cursor.Lines.{Lines}
-use Rattle.stick_parse.specs.Reading.{◌>>=◌, Fails}
-use Rattle.stick_parse.specs.Lines.{entries}
-use Rattle.stick_parse.specs.Order.{AtHead, Rest, nothing, rest_from, design_in, design_of}
-use Rattle.stick_parse.specs.Parts.{rest_at, with_version, with_cells, with_grid, with_grids, grids_alone}
 
 abbrev pub design_from : Result Rest StickFault → Result Design StickFault
 design_from read = read >>= λ rest. Ok (design_in rest)

@@ -1,34 +1,28 @@
 -- What is read is made of names, paths and numbers that are not too large.
-use Rattle.std.proofs.Common.{◌≡◌, ℕ, zero, suc, ◌+◌, ◌<◌, ◌≤◌, ℤ, pos, negsuc, neg_ℤ, Bool, true, false, cond, eqb, leb, List, [], ◌∷◌, length, map, Option, Some, None, Result, Ok, Err, refl, sym, subst, arith, codes}
-use Rattle.std.specs.List.{AllByRecursion}
-use Rattle.std.specs.Str.{bytes_eq}
-use Rattle.stick_lex.specs.declared.token.Token.{Token}
+use Rattle.std.proofs.Common.{◌≡◌, ℕ, zero, suc, ◌+◌, ◌<◌, ◌≤◌, ℤ, pos, negsuc, neg_ℤ, Bool, true, false, cond, eqb}
+use Rattle.std.proofs.Common.{leb, List, [], ◌∷◌, length, map, Option, Some, None, Result, Ok, Err, refl, sym, subst}
+use Rattle.std.{proofs.Common.{arith, codes}, specs.{List.AllByRecursion, Str.{bytes_eq, Lines.lines}, Prelude.◌≢◌}}
+use Rattle.stick_lex.specs.{declared.token.{Token.Token, LexFault.LexFault}, Runs.{Run, runs}, Tokens.tokens_of_runs}
+use Rattle.stick_lex.specs.Tokens.{is_name, is_path, is_number, is_minus, magnitude, value_of, spanning, token_of}
+use Rattle.stick_lex.{specs.{Tokens.{text_of, tokens_of, IsTokenOf}, Numbers.IsNumber}, proofs.Slices.tokens_are_slices}
 use Rattle.stick_lex.specs.declared.token.TokenKind.TheVariants as kinds
-use Rattle.stick_lex.specs.declared.token.LexFault.{LexFault}
 use Rattle.stick_lex.specs.declared.token.LexFault.TheVariants as lex_faults
-use Rattle.stick_lex.specs.Runs.{Run, runs}
 use Rattle.stick_lex.specs.Tokens as Lexed
-use Rattle.stick_lex.specs.Tokens.{tokens_of_runs, is_name, is_path, is_number, is_minus, magnitude, value_of, spanning, token_of, text_of, tokens_of, IsTokenOf}
-use Rattle.stick_lex.proofs.Slices.{tokens_are_slices}
-use Rattle.stick_parse.specs.declared.fault.StickKind.{StickKind}
-use Rattle.stick_parse.specs.declared.fault.StickKind.TheVariants.{BadLine}
-use Rattle.stick_parse.specs.declared.design.Layer.TheVariants.{Diffusion, Poly}
-use Rattle.stick_parse.specs.Reading.{◌>>=◌}
-use Rattle.stick_parse.specs.Words.{Word, Path, Number, AtMost, AtLeast, word_by, word_of, Front, path_at, name_at, number_at, count_of, count_at, optional_count_at, at_most_at, value_at, layer_named, layer_at, lower_named, lower_at, side_named, side_at, second_of, either_at, ended}
-use Rattle.stick_parse.specs.Forms.{start, ◌&◌, whole, joint_of, contact_of, buried_of, fet_of, port_of, use_of, wire_of, limit_of, version_of, cell_of, grid_of, names_of, row_of, end_of, form_named, item_named, statement_named, statement_of}
-use Rattle.stick_parse.specs.Lines.{tokens_or_kind, said_by_words, said_by, Entry, with_entry, entries}
-use Rattle.stick_parse.specs.Order.{Place, AtHead, Behind, InCell, InGrid, AtEnd, place_after, Rest, with_line, at_line, at_end, rest_from, last_line, design_of}
-use Rattle.std.specs.Str.Lines.{lines}
-use Rattle.std.specs.Prelude.{◌≢◌}
-use Rattle.stick_parse.specs.declared.fault.StickKind.TheVariants.{TooManyCells}
-use Rattle.stick_parse.specs.declared.design.CellText.{CellText}
+use Rattle.stick_parse.specs.declared.fault.StickKind.{StickKind, TheVariants.{BadLine, TooManyCells}}
+use Rattle.stick_parse.specs.declared.design.{Layer.TheVariants.{Diffusion, Poly}, CellText.CellText}
 use Rattle.stick_parse.specs.declared.design.Form.TheVariants.{Joint, Contact, Buried, Fet, Port, Inst, Wire, Limit}
-use Rattle.stick_parse.specs.declared.design.Design.{Design}
-use Rattle.stick_parse.specs.declared.design.Statement.{Statement}
-use Rattle.stick_parse.specs.declared.design.Statement.TheVariants.{Version, Cell, Item, Grid, Row, End}
-use Rattle.stick_parse.specs.Laws.{IsWord}
-use Rattle.stick_parse.specs.Writable.{IsName, IsPath, IsCount, IsWidth, IsLower, IsForm, IsLine, IsRow, IsStatement, IsCell, IsGridName, IsGrid}
-use Rattle.stick_lex.specs.Numbers.{IsNumber}
+use Rattle.stick_parse.specs.declared.design.{Design.Design, Statement.{Statement, TheVariants.{Version, Cell, Item}}}
+use Rattle.stick_parse.specs.{declared.design.Statement.TheVariants.{Grid, Row, End}, Reading.◌>>=◌, Words.{Word, Path}}
+use Rattle.stick_parse.specs.Words.{Number, AtMost, AtLeast, word_by, word_of, Front, path_at, name_at, number_at}
+use Rattle.stick_parse.specs.Words.{count_of, count_at, optional_count_at, at_most_at, value_at, layer_named, layer_at}
+use Rattle.stick_parse.specs.Words.{lower_named, lower_at, side_named, side_at, second_of, either_at, ended}
+use Rattle.stick_parse.specs.Forms.{start, ◌&◌, whole, joint_of, contact_of, buried_of, fet_of, port_of, use_of}
+use Rattle.stick_parse.specs.Forms.{wire_of, limit_of, version_of, cell_of, grid_of, names_of, row_of, end_of}
+use Rattle.stick_parse.specs.{Forms.{form_named, item_named, statement_named, statement_of}, Lines.tokens_or_kind}
+use Rattle.stick_parse.specs.{Lines.{said_by_words, said_by, Entry, with_entry, entries}, Order.{Place, AtHead, Behind}}
+use Rattle.stick_parse.specs.Order.{InCell, InGrid, AtEnd, place_after, Rest, with_line, at_line, at_end, rest_from}
+use Rattle.stick_parse.specs.{Order.{last_line, design_of}, Laws.IsWord, Writable.{IsName, IsPath, IsCount, IsWidth}}
+use Rattle.stick_parse.specs.Writable.{IsLower, IsForm, IsLine, IsRow, IsStatement, IsCell, IsGridName, IsGrid}
 
 -- P holds of what was read, if anything was
 abbrev pub Holds : {A E : Type 0} → (A → Type 0) → Result A E → Type 0

@@ -1,14 +1,10 @@
 -- What a line of words says: a keyword, and what stands behind it.
-use Rattle.std.specs.Prelude.{ℕ, if◌then◌else◌, List, [], ◌∷◌, Some, None, Result, Ok, Err, codes}
-use Rattle.std.specs.Str.{bytes_eq}
-use Rattle.stick_parse.specs.declared.fault.StickKind.{StickKind}
-use Rattle.stick_parse.specs.declared.fault.StickKind.TheVariants.{BadLine}
-use Rattle.stick_parse.specs.declared.design.Form.{Form}
+use Rattle.std.specs.{Prelude.{ℕ, if◌then◌else◌, List, [], ◌∷◌, Some, None, Result, Ok, Err, codes}, Str.bytes_eq}
+use Rattle.stick_parse.specs.declared.{fault.StickKind.{StickKind, TheVariants.BadLine}, design.Form.Form}
 use Rattle.stick_parse.specs.declared.design.Form.TheVariants.{Joint, Contact, Buried, Fet, Port, Inst, Wire, Limit}
-use Rattle.stick_parse.specs.declared.design.Statement.{Statement}
-use Rattle.stick_parse.specs.declared.design.Statement.TheVariants.{Version, Cell, Item, Grid, Row, End}
-use Rattle.stick_parse.specs.Reading.{◌>>=◌}
-use Rattle.stick_parse.specs.Words.{Word, Front, path_at, name_at, number_at, count_at, optional_count_at, at_most_at, layer_at, lower_at, side_at, either_at, ended}
+use Rattle.stick_parse.specs.declared.design.Statement.{Statement, TheVariants.{Version, Cell, Item, Grid, Row, End}}
+use Rattle.stick_parse.specs.{Reading.◌>>=◌, Words.{Word, Front, path_at, name_at, number_at, count_at}}
+use Rattle.stick_parse.specs.Words.{optional_count_at, at_most_at, layer_at, lower_at, side_at, either_at, ended}
 
 -- ---- a line word by word
 

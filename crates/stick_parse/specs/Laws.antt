@@ -1,17 +1,10 @@
 -- What the definitions of a text's design, of its first fault and of a line's words say of each other.
-use Rattle.std.specs.Prelude.{◌≡◌, ◌⊎◌, ℕ, List, map, Ok, Err}
-use Rattle.std.specs.List.{AllByRecursion}
-use Rattle.stick_lex.specs.declared.token.Token.{Token}
+use Rattle.std.specs.{Prelude.{◌≡◌, ◌⊎◌, ℕ, List, map, Ok, Err}, List.AllByRecursion}
+use Rattle.stick_lex.specs.{declared.token.Token.Token, Numbers.IsNumber, Tokens.tokens_of}
 use Rattle.stick_lex.specs.declared.token.LexFault.TheVariants as lex_faults
-use Rattle.stick_lex.specs.Numbers.{IsNumber}
-use Rattle.stick_lex.specs.Tokens.{tokens_of}
-use Rattle.stick_parse.specs.declared.fault.StickFault.{StickFault}
-use Rattle.stick_parse.specs.declared.design.Design.{Design}
-use Rattle.stick_parse.specs.Words.{Word, Path, Number, AtMost, AtLeast, word_of}
-use Rattle.stick_parse.specs.Order.{design_of}
-use Rattle.stick_parse.specs.Writable.{IsPath}
-use Rattle.stick_parse.specs.Says.{SaysDesign}
-use Rattle.stick_parse.specs.FirstFault.{IsFirstFault}
+use Rattle.stick_parse.specs.declared.{fault.StickFault.StickFault, design.Design.Design}
+use Rattle.stick_parse.specs.{Words.{Word, Path, Number, AtMost, AtLeast, word_of}, Order.design_of, Writable.IsPath}
+use Rattle.stick_parse.specs.{Says.SaysDesign, FirstFault.IsFirstFault}
 
 -- a design is read where the text says it, and no other
 pub record ReadsWhatIsSaid (text : List ℕ) : Type 0 where

@@ -1,14 +1,9 @@
 -- The lines of a text that say something.
 use Rattle.std.specs.Prelude.{ℕ, ◌+◌, List, [], ◌∷◌, map, Option, Some, None, Result, Ok, Err}
-use Rattle.stick_lex.specs.declared.token.Token.{Token}
-use Rattle.stick_lex.specs.declared.token.LexFault.{LexFault}
+use Rattle.stick_lex.specs.{declared.token.{Token.Token, LexFault.LexFault}, Tokens.tokens_of}
 use Rattle.stick_lex.specs.declared.token.LexFault.TheVariants as lex_faults
-use Rattle.stick_lex.specs.Tokens.{tokens_of}
-use Rattle.stick_parse.specs.declared.fault.StickKind.{StickKind}
-use Rattle.stick_parse.specs.declared.fault.StickKind.TheVariants.{BadByte, NumberTooLarge}
-use Rattle.stick_parse.specs.declared.design.Statement.{Statement}
-use Rattle.stick_parse.specs.Reading.{◌>>=◌}
-use Rattle.stick_parse.specs.Words.{Word, word_of}
+use Rattle.stick_parse.specs.declared.fault.StickKind.{StickKind, TheVariants.{BadByte, NumberTooLarge}}
+use Rattle.stick_parse.specs.{declared.design.Statement.Statement, Reading.◌>>=◌, Words.{Word, word_of}}
 use Rattle.stick_parse.specs.Forms.{statement_of}
 
 -- a fault of a line's tokens as a fault of the text; a law says that tokens have no third fault

@@ -1,10 +1,8 @@
 -- Reading step by step, up to the first fault.
 use Rattle.std.specs.Prelude.{◌≡◌, Result, Ok, Err}
-use Rattle.stick_parse.specs.declared.fault.StickKind.{StickKind}
-use Rattle.stick_parse.specs.declared.fault.StickFault.{StickFault}
-use Rattle.stick_parse.specs.declared.fault.LineFault.{LineFault}
-use Rattle.stick_parse.specs.declared.fault.LineFault.TheVariants as line_faults
+use Rattle.stick_parse.specs.declared.fault.{StickKind.StickKind, StickFault.StickFault, LineFault.LineFault}
 use Rattle.stick_parse.specs.declared.fault.ParseFault.{ParseFault}
+use Rattle.stick_parse.specs.declared.fault.LineFault.TheVariants as line_faults
 use Rattle.stick_parse.specs.declared.fault.ParseFault.TheVariants as faults
 
 infixl 10 ◌>>=◌

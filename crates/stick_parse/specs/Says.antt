@@ -1,14 +1,8 @@
 -- The design that a text says: what lines it has, one behind the other.
-use Rattle.std.specs.Prelude.{◌≡◌, ℕ, ◌≤◌, List, [], ◌∷◌, ◌++◌, map, length, Ok, flat_map}
-use Rattle.std.specs.Str.Lines.{lines}
-use Rattle.stick_parse.specs.declared.design.Line.{Line}
-use Rattle.stick_parse.specs.declared.design.CellText.{CellText}
-use Rattle.stick_parse.specs.declared.design.GridText.{GridText}
-use Rattle.stick_parse.specs.declared.design.Design.{Design}
-use Rattle.stick_parse.specs.declared.design.Statement.{Statement}
-use Rattle.stick_parse.specs.declared.design.Statement.TheVariants.{Version, Cell, Item, Grid, Row, End}
-use Rattle.stick_parse.specs.Lines.{Entry, entries}
-use Rattle.stick_parse.specs.Writable.{AreGridsOf}
+use Rattle.std.specs.{Prelude.{◌≡◌, ℕ, ◌≤◌, List, [], ◌∷◌, ◌++◌, map, length, Ok, flat_map}, Str.Lines.lines}
+use Rattle.stick_parse.specs.declared.design.{Line.Line, CellText.CellText, GridText.GridText, Design.Design}
+use Rattle.stick_parse.specs.declared.design.Statement.{Statement, TheVariants.{Version, Cell, Item, Grid, Row, End}}
+use Rattle.stick_parse.specs.{Lines.{Entry, entries}, Writable.AreGridsOf}
 
 -- the line with this number says this
 abbrev pub saying : ℕ → Statement → Entry

@@ -1,19 +1,12 @@
 -- What a design is made of: names, paths, and numbers that are not too large.
 use Rattle.std.specs.Prelude.{◌≡◌, ◌⊎◌, ℕ, ◌≤◌, ◌<◌, List, [], ◌∷◌, length, Option, Some, None, IsTrue}
 use Rattle.std.specs.List.{AllByRecursion}
-use Rattle.stick_lex.specs.Tokens.{is_name, is_path}
-use Rattle.stick_parse.specs.declared.design.Layer.{Layer}
-use Rattle.stick_parse.specs.declared.design.Layer.TheVariants.{Diffusion, Poly, Metal}
-use Rattle.stick_parse.specs.declared.design.Form.{Form}
+use Rattle.stick_lex.specs.{Tokens.{is_name, is_path}, Numbers.IsNumber}
+use Rattle.stick_parse.specs.declared.design.{Layer.{Layer, TheVariants.{Diffusion, Poly, Metal}}, Form.Form}
 use Rattle.stick_parse.specs.declared.design.Form.TheVariants.{Joint, Contact, Buried, Fet, Port, Inst, Wire, Limit}
-use Rattle.stick_parse.specs.declared.design.Line.{Line}
-use Rattle.stick_parse.specs.declared.design.CellText.{CellText}
-use Rattle.stick_parse.specs.declared.design.RowText.{RowText}
-use Rattle.stick_parse.specs.declared.design.GridText.{GridText}
-use Rattle.stick_parse.specs.declared.design.Design.{Design}
-use Rattle.stick_parse.specs.declared.design.Statement.{Statement}
-use Rattle.stick_parse.specs.declared.design.Statement.TheVariants.{Version, Cell, Item, Grid, Row, End}
-use Rattle.stick_lex.specs.Numbers.{IsNumber}
+use Rattle.stick_parse.specs.declared.design.{Line.Line, CellText.CellText, RowText.RowText, GridText.GridText}
+use Rattle.stick_parse.specs.declared.design.{Design.Design, Statement.{Statement, TheVariants.{Version, Cell, Item}}}
+use Rattle.stick_parse.specs.declared.design.Statement.TheVariants.{Grid, Row, End}
 
 abbrev pub IsName : List ℕ → Type 0
 IsName text = IsTrue (is_name text)

@@ -1,9 +1,8 @@
 //! The lines of a text, taken one after the other.
 ghost use Rattle.std.specs.Prelude.{◌≡◌, ◌+◌, ◌^◌, ◌<◌, ◌≤◌, [], ◌∷◌, length, MatchOption, IfOk, IfErr, Ok};
 ghost use Rattle.std.specs.Str.Lines.{lines, strip_carriage_return};
-ghost use Rattle.stick_parse.specs.Reading.{GivesLine};
-ghost use Rattle.stick_parse.specs.Lines.{said_by, Entry};
-ghost use Rattle.stick_parse.specs.LinesLeft.{left, last_of, BeginsWith, fault_at};
+ghost use Rattle.stick_parse.specs.{Reading.GivesLine, Lines.{said_by, Entry}, LinesLeft.{left, last_of, BeginsWith}};
+ghost use Rattle.stick_parse.specs.LinesLeft.{fault_at};
 
 use crate::cursor::Lines;
 use crate::design::Statement;

@@ -1,13 +1,10 @@
 //! The parts of a text: its first line, its cells and its grids.
 ghost use Rattle.std.specs.Prelude.{◌≡◌, ◌==◌, ◌^◌, ◌<◌, ◌≤◌, ℕ, Bool, [], ◌∷◌, length, max, Ok, IfOk, IfErr, OnOk};
-ghost use Rattle.stick_parse.specs.declared.fault.ParseFault.TheVariants.{Stick};
-ghost use Rattle.stick_parse.specs.declared.fault.StickKind.TheVariants.{Unended};
-ghost use Rattle.stick_parse.specs.Reading.{Gives, Fails};
-ghost use Rattle.stick_parse.specs.Order.{AtHead, Behind, InCell, InGrid, AtEnd, design_of};
-ghost use Rattle.stick_parse.specs.FirstFault.{Tells};
-ghost use Rattle.stick_parse.specs.Writable.{IsWritable};
-ghost use Rattle.stick_parse.specs.LinesLeft.{last_of};
-ghost use Rattle.stick_parse.specs.Parts.{rest_at, with_cell_lines, with_version, with_cells, with_grid, with_grids, AreRowsOf, grids_alone};
+ghost use Rattle.stick_parse.specs.declared.fault.{ParseFault.TheVariants.Stick, StickKind.TheVariants.Unended};
+ghost use Rattle.stick_parse.specs.{Reading.{Gives, Fails}, Order.{AtHead, Behind, InCell, InGrid, AtEnd, design_of}};
+ghost use Rattle.stick_parse.specs.{FirstFault.Tells, Writable.IsWritable, LinesLeft.last_of, Parts.rest_at};
+ghost use Rattle.stick_parse.specs.Parts.{with_cell_lines, with_version, with_cells, with_grid, with_grids, AreRowsOf};
+ghost use Rattle.stick_parse.specs.Parts.{grids_alone};
 
 use crate::cursor::Lines;
 use crate::design::{CellText, Design, GridText, Line, RowText, Statement};

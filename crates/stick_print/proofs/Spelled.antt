@@ -1,20 +1,14 @@
 -- What is printed as a word is that word again.
-use Rattle.std.proofs.Common.{◌≡◌, ℕ, suc, ◌<◌, ◌≤◌, ◌^◌, ℤ, pos, negsuc, Bool, true, false, ◌&&◌, cond, eqb, leb, List, [], ◌∷◌, ◌++◌, length, Ok, refl, ap, subst, ◌∙◌, arith, codes, lit<, lit≤}
-use Rattle.std.specs.Prelude.{decimal, IsTrue}
-use Rattle.std.specs.Fmt.{signed_decimal}
-use Rattle.std.specs.Int.{IsInRange}
-use Rattle.std.specs.List.{slice_split, list_all, join_with_byte, AllByRecursion}
-use Rattle.std.specs.Char.{is_ascii_alphabetic, is_ascii_digit, digit_value}
-use Rattle.std.specs.Str.Parse.{AllDigits, digits_value}
-use Rattle.std.proofs.lemmas.Fmt.{decimal_is_IsNumeral}
-use Rattle.std.proofs.lemmas.Str.Parse.{digit_from_value}
-use Rattle.std.proofs.lemmas.List.Elements.{All-from_recursion}
-use Rattle.std.proofs.lemmas.List.Splits.{slice_split_none, join_with_byte-slice_split}
-use Rattle.std.proofs.lemmas.Bool.{le-leb}
-use Rattle.std.proofs.lemmas.Bool.Decides.{nat_tests}
+use Rattle.std.proofs.Common.{◌≡◌, ℕ, suc, ◌<◌, ◌≤◌, ◌^◌, ℤ, pos, negsuc, Bool, true, false, ◌&&◌, cond, eqb, leb, List}
+use Rattle.std.proofs.Common.{[], ◌∷◌, ◌++◌, length, Ok, refl, ap, subst, ◌∙◌, arith, codes, lit<, lit≤}
+use Rattle.std.proofs.lemmas.{Fmt.decimal_is_IsNumeral, Str.Parse.digit_from_value, List.Elements.All-from_recursion}
+use Rattle.std.proofs.lemmas.{List.Splits.{slice_split_none, join_with_byte-slice_split}, Bool.le-leb}
+use Rattle.std.{proofs.lemmas.Bool.Decides.nat_tests, specs.{Prelude.{decimal, IsTrue}, Fmt.signed_decimal}}
+use Rattle.std.specs.{Int.IsInRange, List.{slice_split, list_all, join_with_byte, AllByRecursion}}
+use Rattle.std.specs.{Char.{is_ascii_alphabetic, is_ascii_digit, digit_value}, Str.Parse.{AllDigits, digits_value}}
 use Rattle.stick_lex.specs.declared.token.TokenKind.TheVariants as kinds
-use Rattle.stick_lex.specs.Tokens.{is_name_byte, is_name, names, is_path, is_numeral, is_minus, digits_of_number, is_number, magnitude, value_of, spanning, token_of}
-use Rattle.stick_lex.specs.Numbers.{IsNumber}
+use Rattle.stick_lex.specs.Tokens.{is_name_byte, is_name, names, is_path, is_numeral, is_minus, digits_of_number}
+use Rattle.stick_lex.specs.{Tokens.{is_number, magnitude, value_of, spanning, token_of}, Numbers.IsNumber}
 use Rattle.stick_parse.specs.Words.{Path, Number, AtMost, AtLeast}
 use Rattle.stick_print.proofs.Split.{IsPlain, Says}
 

@@ -1,16 +1,13 @@
 -- A line of words, cut into its words again.
-use Rattle.std.proofs.Common.{◌≡◌, ℕ, zero, suc, ◌+◌, ◌-◌, ◌<◌, ◌≤◌, ◌≢◌, ℤ, false, eqb, List, [], ◌∷◌, ◌++◌, length, get_or, take, drop, map, Result, Ok, refl, sym, ap, ◌∙◌, append_assoc, arith}
-use Rattle.std.specs.List.{slice_split, slice_range, position_or_len, AllByRecursion}
-use Rattle.std.proofs.lemmas.List.{append-nil, drop_at, take_at, take_all, length-append}
-use Rattle.std.proofs.lemmas.List.Elements.{All-from_recursion}
-use Rattle.std.proofs.lemmas.List.Splits.{slice_split_at, slice_split_none}
-use Rattle.std.proofs.lemmas.List.Sums.{position_or_len_is}
+use Rattle.std.proofs.Common.{◌≡◌, ℕ, zero, suc, ◌+◌, ◌-◌, ◌<◌, ◌≤◌, ◌≢◌, ℤ, false, eqb, List, [], ◌∷◌, ◌++◌, length}
+use Rattle.std.proofs.Common.{get_or, take, drop, map, Result, Ok, refl, sym, ap, ◌∙◌, append_assoc, arith}
+use Rattle.std.proofs.lemmas.List.{append-nil, drop_at, take_at, take_all, length-append, Elements.All-from_recursion}
+use Rattle.std.proofs.lemmas.List.{Splits.{slice_split_at, slice_split_none}, Sums.position_or_len_is}
 use Rattle.std.proofs.lemmas.Bool.Decides.{nat_tests}
-use Rattle.stick_lex.specs.declared.token.Token.{Token}
-use Rattle.stick_lex.specs.declared.token.TokenKind.{TokenKind}
-use Rattle.stick_lex.specs.declared.token.LexFault.{LexFault}
-use Rattle.stick_lex.specs.Runs.{Run, is_blank, without_comment, runs_of_parts}
-use Rattle.stick_lex.specs.Tokens.{◌>>=◌, spanning, token_of, tokens_of_runs, tokens_of}
+use Rattle.std.specs.List.{slice_split, slice_range, position_or_len, AllByRecursion}
+use Rattle.stick_lex.specs.declared.token.{Token.Token, TokenKind.TokenKind, LexFault.LexFault}
+use Rattle.stick_lex.specs.{Runs.{Run, is_blank, without_comment, runs_of_parts}, Tokens.{◌>>=◌, spanning, token_of}}
+use Rattle.stick_lex.specs.Tokens.{tokens_of_runs, tokens_of}
 use Rattle.stick_parse.specs.Words.{Word, word_by, word_of}
 use Rattle.stick_print.specs.Canonical.{spaced}
 

@@ -1,29 +1,24 @@
 -- A printed line says what it was printed from.
-use Rattle.std.proofs.Common.{◌≡◌, ℕ, ◌<◌, ◌≤◌, ℤ, pos, Bool, true, false, cond, leb, List, [], ◌∷◌, ◌++◌, length, map, Option, Some, None, Result, Ok, refl, ap, ◌∙◌, arith, codes}
-use Rattle.std.specs.List.{AllByRecursion}
-use Rattle.std.specs.Str.{bytes_eq}
-use Rattle.std.proofs.lemmas.Bool.{le-leb}
-use Rattle.stick_lex.specs.declared.token.Token.{Token}
-use Rattle.stick_lex.specs.declared.token.LexFault.{LexFault}
-use Rattle.stick_lex.specs.Tokens.{is_name, is_path}
-use Rattle.stick_parse.specs.declared.fault.StickKind.{StickKind}
-use Rattle.stick_parse.specs.declared.design.Layer.{Layer}
-use Rattle.stick_parse.specs.declared.design.Layer.TheVariants.{Diffusion, Poly, Metal}
-use Rattle.lam_geom.specs.declared.boxes.Side.{Side}
-use Rattle.lam_geom.specs.declared.boxes.Side.TheVariants.{Left, Right, Bottom, Top}
-use Rattle.stick_parse.specs.declared.design.Form.{Form}
-use Rattle.stick_parse.specs.declared.design.Form.TheVariants.{Joint, Contact, Buried, Fet, Port, Inst, Wire, Limit}
-use Rattle.stick_parse.specs.declared.design.Statement.{Statement}
-use Rattle.stick_parse.specs.declared.design.Statement.TheVariants.{Version, Cell, Item, Grid, Row, End}
-use Rattle.stick_parse.specs.Reading.{◌>>=◌}
-use Rattle.stick_parse.specs.Words.{Word, Path, Number, word_of, path_at, name_at, number_at, count_at, optional_count_at, at_most_at, layer_at, lower_at, side_at, either_at, ended}
-use Rattle.stick_parse.specs.Forms.{joint_of, contact_of, buried_of, fet_of, port_of, use_of, wire_of, limit_of, version_of, cell_of, grid_of, names_of, row_of, end_of, form_named, item_named, statement_named, statement_of}
-use Rattle.stick_parse.specs.Lines.{tokens_or_kind, said_by_words, said_by}
+use Rattle.std.proofs.Common.{◌≡◌, ℕ, ◌<◌, ◌≤◌, ℤ, pos, Bool, true, false, cond, leb, List, [], ◌∷◌, ◌++◌, length, map}
+use Rattle.std.proofs.{Common.{Option, Some, None, Result, Ok, refl, ap, ◌∙◌, arith, codes}, lemmas.Bool.le-leb}
+use Rattle.std.specs.{List.AllByRecursion, Str.bytes_eq}
+use Rattle.stick_lex.specs.{declared.token.{Token.Token, LexFault.LexFault}, Tokens.{is_name, is_path}}
+use Rattle.stick_parse.specs.declared.{fault.StickKind.StickKind, design.Layer.{Layer, TheVariants.{Diffusion, Poly}}}
+use Rattle.stick_parse.specs.declared.design.{Layer.TheVariants.Metal, Form.{Form, TheVariants.{Joint, Contact}}}
+use Rattle.stick_parse.specs.declared.design.Form.TheVariants.{Buried, Fet, Port, Inst, Wire, Limit}
+use Rattle.stick_parse.specs.declared.design.Statement.{Statement, TheVariants.{Version, Cell, Item, Grid, Row, End}}
+use Rattle.stick_parse.specs.{Reading.◌>>=◌, Words.{Word, Path, Number, word_of, path_at, name_at, number_at, count_at}}
+use Rattle.stick_parse.specs.Words.{optional_count_at, at_most_at, layer_at, lower_at, side_at, either_at, ended}
+use Rattle.stick_parse.specs.Forms.{joint_of, contact_of, buried_of, fet_of, port_of, use_of, wire_of, limit_of}
+use Rattle.stick_parse.specs.Forms.{version_of, cell_of, grid_of, names_of, row_of, end_of, form_named, item_named}
+use Rattle.stick_parse.specs.{Forms.{statement_named, statement_of}, Lines.{tokens_or_kind, said_by_words, said_by}}
 use Rattle.stick_parse.specs.Writable.{IsName, IsCount, IsGridName, IsWidth, IsLower, IsForm, IsStatement}
-use Rattle.stick_print.specs.Canonical.{layer_word, side_word, kind_word, direction_word, axis_word, bound_word, width_words, name_words, form_keyword, form_words, keyword_of, words_of, spaced}
+use Rattle.lam_geom.specs.declared.boxes.Side.{Side, TheVariants.{Left, Right, Bottom, Top}}
+use Rattle.stick_print.specs.Canonical.{layer_word, side_word, kind_word, direction_word, axis_word, bound_word}
+use Rattle.stick_print.specs.Canonical.{width_words, name_words, form_keyword, form_words, keyword_of, words_of, spaced}
 use Rattle.stick_print.specs.Said.{width_said, name_said, bound_said, form_said, said}
-use Rattle.stick_print.proofs.Split.{IsPlain, Says, AllSay, plain_texts, words_again}
-use Rattle.stick_print.proofs.Spelled.{first_branch, says_name, says_path, says_count, says_number, says_at_most, says_at_least}
+use Rattle.stick_print.proofs.{Split.{IsPlain, Says, AllSay, plain_texts, words_again}, Spelled.first_branch}
+use Rattle.stick_print.proofs.Spelled.{says_name, says_path, says_count, says_number, says_at_most, says_at_least}
 
 -- ---- each word says it
 

@@ -1,28 +1,20 @@
 -- The whole canonical text says the design again, each line behind the one before it.
-use Rattle.std.proofs.Common.{◌≡◌, inl, inr, ℕ, suc, ◌+◌, ◌-◌, ◌<◌, ◌≤◌, false, eqb, List, [], ◌∷◌, ◌++◌, length, get_or, take, map, Option, Result, Ok, refl, sym, ap, subst, ◌∙◌, append_assoc, arith}
-use Rattle.std.specs.List.{slice_split, flat_map, AllByRecursion}
-use Rattle.std.specs.Str.Lines.{lines, lines_of_parts, strip_carriage_return}
-use Rattle.std.proofs.lemmas.List.Elements.{All-from_recursion}
-use Rattle.std.proofs.lemmas.List.Splits.{slice_split_at, length-slice_split}
-use Rattle.std.proofs.lemmas.List.{length-append}
-use Rattle.std.proofs.lemmas.Bool.Decides.{nat_tests}
-use Rattle.stick_parse.specs.declared.fault.StickKind.{StickKind}
-use Rattle.stick_parse.specs.declared.design.Line.{Line}
-use Rattle.stick_parse.specs.declared.design.CellText.{CellText}
-use Rattle.stick_parse.specs.declared.design.RowText.{RowText}
-use Rattle.stick_parse.specs.declared.design.GridText.{GridText}
-use Rattle.stick_parse.specs.declared.design.Design.{Design}
-use Rattle.stick_parse.specs.declared.design.Statement.{Statement}
+use Rattle.std.proofs.Common.{◌≡◌, inl, inr, ℕ, suc, ◌+◌, ◌-◌, ◌<◌, ◌≤◌, false, eqb, List, [], ◌∷◌, ◌++◌, length}
+use Rattle.std.proofs.Common.{get_or, take, map, Option, Result, Ok, refl, sym, ap, subst, ◌∙◌, append_assoc, arith}
+use Rattle.std.proofs.lemmas.List.{length-append, Elements.All-from_recursion, Splits.slice_split_at}
+use Rattle.std.{proofs.lemmas.{List.Splits.length-slice_split, Bool.Decides.nat_tests}, specs.List.slice_split}
+use Rattle.std.specs.{List.{flat_map, AllByRecursion}, Str.Lines.{lines, lines_of_parts, strip_carriage_return}}
+use Rattle.stick_parse.specs.declared.{fault.StickKind.StickKind, design.{Line.Line, CellText.CellText}}
+use Rattle.stick_parse.specs.declared.design.{RowText.RowText, GridText.GridText, Design.Design, Statement.Statement}
 use Rattle.stick_parse.specs.declared.design.Statement.TheVariants.{Version, Cell, Item, Grid, Row, End}
-use Rattle.stick_parse.specs.Lines.{Entry, with_entry, entries}
-use Rattle.stick_parse.specs.Says.{saying, form_line, cell_part, AreGridParts, AreLinesOf, said_lines, SaysDesign}
-use Rattle.stick_parse.proofs.FirstLine.{line_of_parts}
-use Rattle.stick_parse.proofs.Shapes.{regroup, design_read}
-use Rattle.stick_parse.specs.Writable.{IsCount, IsLine, IsRow, IsStatement, IsCell, IsGrid, HasName, AreGridsOf, IsWritable}
-use Rattle.stick_print.specs.Canonical.{keyword_of, words_of, spaced, line_of, item_line, row_line, cell_lines, grid_lines, canonical}
-use Rattle.stick_print.specs.ReadBack.{without_number, without_numbers, without_line, lines_from, cells_from, behind_cells, grids_from, laid_out, ReadsAs}
-use Rattle.stick_print.proofs.Spelled.{else_branch}
-use Rattle.stick_print.proofs.Split.{IsInner, inner_line, inner_at}
+use Rattle.stick_parse.specs.{Lines.{Entry, with_entry, entries}, Says.{saying, form_line, cell_part, AreGridParts}}
+use Rattle.stick_parse.specs.{Says.{AreLinesOf, said_lines, SaysDesign}, Writable.{IsCount, IsLine, IsRow, IsStatement}}
+use Rattle.stick_parse.specs.Writable.{IsCell, IsGrid, HasName, AreGridsOf, IsWritable}
+use Rattle.stick_parse.proofs.{FirstLine.line_of_parts, Shapes.{regroup, design_read}}
+use Rattle.stick_print.specs.Canonical.{keyword_of, words_of, spaced, line_of, item_line, row_line, cell_lines}
+use Rattle.stick_print.specs.{Canonical.{grid_lines, canonical}, ReadBack.{without_number, without_numbers}}
+use Rattle.stick_print.specs.ReadBack.{without_line, lines_from, cells_from, behind_cells, grids_from, laid_out}
+use Rattle.stick_print.{specs.ReadBack.ReadsAs, proofs.{Spelled.else_branch, Split.{IsInner, inner_line, inner_at}}}
 use Rattle.stick_print.proofs.Statements.{body, line_again, plain_words, plain_keyword, some_keyword}
 
 -- ---- the lines of the text

@@ -1,12 +1,7 @@
 -- The design that the canonical text of a design says.
 use Rattle.std.specs.Prelude.{◌≡◌, ℕ, ◌+◌, List, [], ◌∷◌, map, length, Ok}
-use Rattle.stick_parse.specs.declared.design.Line.{Line}
-use Rattle.stick_parse.specs.declared.design.CellText.{CellText}
-use Rattle.stick_parse.specs.declared.design.GridText.{GridText}
-use Rattle.stick_parse.specs.declared.design.Design.{Design}
-use Rattle.stick_parse.specs.Order.{design_of}
-use Rattle.stick_parse.specs.Says.{SaysDesign}
-use Rattle.stick_parse.specs.Writable.{IsWritable}
+use Rattle.stick_parse.specs.declared.design.{Line.Line, CellText.CellText, GridText.GridText, Design.Design}
+use Rattle.stick_parse.specs.{Order.design_of, Says.SaysDesign, Writable.IsWritable}
 use Rattle.stick_print.specs.Canonical.{canonical}
 
 -- ---- the same design, line numbers aside

@@ -1,7 +1,6 @@
 //! What the definitions of lines and of the canonical text promise.
 
-ghost use Rattle.stick_print.specs.ReadBack.{IsSaidByCanonical};
-ghost use Rattle.stick_print.specs.Said.{EachHasItsWords};
+ghost use Rattle.stick_print.specs.{ReadBack.IsSaidByCanonical, Said.EachHasItsWords};
 
 use stick_parse::Design;
 

@@ -2,8 +2,7 @@
 ghost use Rattle.std.specs.Prelude.{◌≡◌, ◌++◌, IfOk, OnOk};
 ghost use Rattle.stick_parse.specs.declared.design.Statement.TheVariants.{Version, Cell, Grid, Row};
 ghost use Rattle.stick_parse.specs.Writable.{IsWritable};
-ghost use Rattle.stick_print.specs.ReadBack.{ReadsAs};
-ghost use Rattle.stick_print.specs.Canonical.{line_of, row_line, cell_lines, grid_lines, canonical};
+ghost use Rattle.stick_print.specs.{ReadBack.ReadsAs, Canonical.{line_of, row_line, cell_lines, grid_lines, canonical}};
 
 use crate::lines::put_form;
 use crate::words::{put_count, put_name, put_word};

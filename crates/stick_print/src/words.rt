@@ -1,6 +1,5 @@
 //! The words of a line.
-ghost use Rattle.std.specs.Prelude.{◌≡◌, if◌then◌else◌, ◌++◌, ◌∷◌, [], decimal, OnOk};
-ghost use Rattle.std.specs.Fmt.{signed_decimal};
+ghost use Rattle.std.specs.{Prelude.{◌≡◌, if◌then◌else◌, ◌++◌, ◌∷◌, [], decimal, OnOk}, Fmt.signed_decimal};
 ghost use Rattle.stick_print.specs.Canonical.{layer_word, side_word, width_words, name_words, spaced};
 
 use std::alloc::AllocError;

@@ -1,10 +1,7 @@
 -- The items that have a box in a layout.
 use Rattle.std.specs.Prelude.{ℤ, ◌<◌, ◌≤ℤ◌, List, length}
 use Rattle.lam_geom.specs.Places.{IsPlace}
-use Rattle.sym_items.specs.declared.items.End.{End}
-use Rattle.sym_items.specs.declared.items.Item.{Item}
-use Rattle.sym_items.specs.declared.items.Coords.{Coords}
-use Rattle.sym_items.specs.Values.{value_at}
+use Rattle.sym_items.specs.{declared.items.{End.End, Item.Item, Coords.Coords}, Values.value_at}
 
 -- an end lies on one of the variables, within 2^60 of the origin
 pub record IsPlacedEnd (values : List ℤ) (e : End) : Type 0 where

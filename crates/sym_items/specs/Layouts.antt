@@ -1,9 +1,7 @@
 -- The layouts of several cells.
 use Rattle.std.specs.Prelude.{ℕ, ℤ, List, [], slice_index_or}
 use Rattle.lam_geom.specs.declared.boxes.Axis.{Axis}
-use Rattle.sym_items.specs.declared.items.Coords.{Coords}
-use Rattle.sym_items.specs.Values.{value_of}
-use Rattle.sym_items.specs.Transposed.{values_along}
+use Rattle.sym_items.specs.{declared.items.Coords.Coords, Values.value_of, Transposed.values_along}
 
 -- the layout of cell number m
 abbrev pub no_layout : Coords

@@ -1,11 +1,7 @@
 -- The sides of items in a layout, and how far items lie apart.
-use Rattle.std.specs.Prelude.{ℤ}
-use Rattle.std.specs.Int.{int_max}
-use Rattle.lam_geom.specs.declared.boxes.BoxXY.{BoxXY}
-use Rattle.lam_geom.specs.Gaps.{gap_between}
-use Rattle.sym_items.specs.declared.items.Item.{Item}
-use Rattle.sym_items.specs.declared.items.Coords.{Coords}
-use Rattle.sym_items.specs.Values.{value_at}
+use Rattle.std.specs.{Prelude.ℤ, Int.int_max}
+use Rattle.lam_geom.specs.{declared.boxes.BoxXY.BoxXY, Gaps.gap_between}
+use Rattle.sym_items.specs.{declared.items.{Item.Item, Coords.Coords}, Values.value_at}
 
 -- the four sides of a box
 pub record Sides : Type 0 where

@@ -1,14 +1,8 @@
 -- What exchanges x and y, so that what is said of axis x is said of axis y too.
 use Rattle.std.specs.Prelude.{◌≡◌, ◌↔◌, ℕ, ℤ, List}
-use Rattle.lam_geom.specs.declared.boxes.BoxXY.{BoxXY}
-use Rattle.lam_geom.specs.declared.boxes.Axis.{Axis}
-use Rattle.lam_geom.specs.declared.boxes.Axis.TheVariants.{X, Y}
-use Rattle.lam_geom.specs.Gaps.{transposed}
-use Rattle.sym_items.specs.declared.items.Item.{Item}
-use Rattle.sym_items.specs.declared.items.Items.{Items}
-use Rattle.sym_items.specs.declared.items.Coords.{Coords}
-use Rattle.sym_items.specs.Sides.{Sides, sides_of, sides_in}
-use Rattle.sym_items.specs.Boxes.{HasBox}
+use Rattle.lam_geom.specs.{declared.boxes.{BoxXY.BoxXY, Axis.{Axis, TheVariants.{X, Y}}}, Gaps.transposed}
+use Rattle.sym_items.specs.declared.items.{Item.Item, Items.Items, Coords.Coords}
+use Rattle.sym_items.specs.{Sides.{Sides, sides_of, sides_in}, Boxes.HasBox}
 
 -- an item, a layout and the sides of a box with x and y exchanged
 abbrev pub transposed_item : Item → Item

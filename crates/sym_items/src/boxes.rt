@@ -2,9 +2,7 @@
 
 ghost use Rattle.std.specs.Prelude.{◌≡◌};
 ghost use Rattle.lam_geom.specs.Places.{IsPlacedBox};
-ghost use Rattle.sym_items.specs.Values.{value_at};
-ghost use Rattle.sym_items.specs.Sides.{sides_of, sides_in};
-ghost use Rattle.sym_items.specs.Boxes.{IsPlacedEnd, HasBox};
+ghost use Rattle.sym_items.specs.{Values.value_at, Sides.{sides_of, sides_in}, Boxes.{IsPlacedEnd, HasBox}};
 ghost use Rattle.sym_items.specs.Transposed.{TransposesBoxes, sides_along};
 
 use crate::items::{Coords, End, Item};

@@ -1,17 +1,12 @@
 -- What the definition says of a table, fault by fault, and of a text by its table.
 use Rattle.std.proofs.Common.{◌≡◌, ℕ, List, Some, None, Ok, Err, sym}
 use Rattle.toml.specs.Data.{Members}
-use Rattle.rule_table.specs.declared.keys.Numbers.{Numbers}
-use Rattle.rule_table.specs.declared.faults.TechFault.{TechFault}
-use Rattle.rule_table.specs.Keys.{has_buried}
-use Rattle.rule_table.specs.Faults.{fault_of}
-use Rattle.tech_file.specs.declared.faults.TechFileFault.{TechFileFault}
-use Rattle.tech_file.specs.declared.faults.TechFileFault.TheVariants.{Unknown, Numbers as Unfit}
-use Rattle.tech_file.specs.declared.faults.ReadTechFault.{ReadTechFault}
-use Rattle.tech_file.specs.declared.faults.ReadTechFault.TheVariants.{File, OutOfMemory}
-use Rattle.tech_file.specs.Numbers.{numbers_in}
-use Rattle.tech_file.specs.Unknown.{unknown_keys, least}
-use Rattle.tech_file.specs.Technology.{table_of, unless, technology_in, technology_of, Refuses}
+use Rattle.rule_table.specs.declared.{keys.Numbers.Numbers, faults.TechFault.TechFault}
+use Rattle.rule_table.specs.{Keys.has_buried, Faults.fault_of}
+use Rattle.tech_file.specs.declared.faults.TechFileFault.{TechFileFault, TheVariants.{Unknown, Numbers as Unfit}}
+use Rattle.tech_file.specs.declared.faults.ReadTechFault.{ReadTechFault, TheVariants.{File, OutOfMemory}}
+use Rattle.tech_file.specs.{Numbers.numbers_in, Unknown.{unknown_keys, least}, Technology.{table_of, unless}}
+use Rattle.tech_file.specs.Technology.{technology_in, technology_of, Refuses}
 
 pub keys_refused : (top : Members) (f : TechFileFault) → Err f ≡ numbers_in top → technology_in top ≡ Err f
 unfolding technology_in

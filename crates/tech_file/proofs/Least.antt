@@ -1,12 +1,9 @@
 -- The least unknown key, part by part.
-use Rattle.std.proofs.Common.{◌≡◌, ℕ, suc, Bool, true, false, List, [], ◌∷◌, Option, Some, None, Ordering, Less, Equal, Greater, nat_cmp, is_lt, fold, codes, refl, sym, inl, inr, ◌⊎◌, arith}
-use Rattle.std.specs.Prelude.{Contains, All}
-use Rattle.std.specs.Ordering.{ordering_reverse}
-use Rattle.std.specs.Cmp.Lexicographic.{slice_cmp}
-use Rattle.std.proofs.lemmas.Bool.{cases_Bool}
-use Rattle.std.proofs.lemmas.List.Elements.{All-nil, All-cons}
+use Rattle.std.proofs.Common.{◌≡◌, ℕ, suc, Bool, true, false, List, [], ◌∷◌, Option, Some, None, Ordering, Less, Equal}
+use Rattle.std.proofs.Common.{Greater, nat_cmp, is_lt, fold, codes, refl, sym, inl, inr, ◌⊎◌, arith}
+use Rattle.std.proofs.lemmas.{Bool.cases_Bool, List.{Elements.{All-nil, All-cons}, Sums.fold-append}}
 use Rattle.std.proofs.lemmas.Cmp.{nat_list_cmp_total}
-use Rattle.std.proofs.lemmas.List.Sums.{fold-append}
+use Rattle.std.specs.{Prelude.{Contains, All}, Ordering.ordering_reverse, Cmp.Lexicographic.slice_cmp}
 use Rattle.toml.specs.Data.{Data, Members, get_member}
 use Rattle.tech_file.specs.Unknown.{unknown_in, unknown_at, unknown_keys, lesser, least, NamesLeast}
 use Rattle.tech_file.specs.declared.sections.Section.TheVariants.{Top, Width, Spacing, Extension, Cut}

@@ -1,12 +1,8 @@
 -- A text as a table: what the reader of TOML says of it.
-use Rattle.std.proofs.Common.{◌≡◌, ℕ, List, Some, None, Ok, Err, inl, inr}
-use Rattle.std.proofs.lemmas.Bool.{cases_Bool}
-use Rattle.std.proofs.lemmas.Str.{IsUtf8-from_is_utf8, is_utf8-from_IsUtf8}
-use Rattle.std.specs.Str.{IsUtf8, is_utf8}
-use Rattle.toml.specs.Data.{Members}
-use Rattle.toml.specs.Parse.{parse_document}
-use Rattle.tech_file.specs.declared.faults.TechFileFault.TheVariants.{NotToml}
-use Rattle.tech_file.specs.Technology.{table_of}
+use Rattle.std.proofs.{Common.{◌≡◌, ℕ, List, Some, None, Ok, Err, inl, inr}, lemmas.Bool.cases_Bool}
+use Rattle.std.{proofs.lemmas.Str.{IsUtf8-from_is_utf8, is_utf8-from_IsUtf8}, specs.Str.{IsUtf8, is_utf8}}
+use Rattle.toml.specs.{Data.Members, Parse.parse_document}
+use Rattle.tech_file.specs.{declared.faults.TechFileFault.TheVariants.NotToml, Technology.table_of}
 
 pub table_read : (text : List ℕ) (top : Members) → IsUtf8 text → parse_document text ≡ Some top → table_of text ≡ Ok top
 unfolding table_of

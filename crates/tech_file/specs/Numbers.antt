@@ -1,10 +1,8 @@
 -- The numbers of a technology file's table, or the first key at which there is none.
 use Rattle.std.specs.Prelude.{ℕ, ◌+◌, ℤ, pos, if◌then◌else◌, List, codes, Option, Some, None, Result, Ok, Err}
 use Rattle.toml.specs.Data.{Data, Members, integer, table, get_member}
-use Rattle.rule_table.specs.Keys.{has_buried}
-use Rattle.rule_table.specs.declared.keys.Numbers.{Numbers}
-use Rattle.tech_file.specs.declared.faults.TechFileFault.{TechFileFault}
-use Rattle.tech_file.specs.declared.faults.TechFileFault.TheVariants.{Missing, WrongType}
+use Rattle.rule_table.specs.{Keys.has_buried, declared.keys.Numbers.Numbers}
+use Rattle.tech_file.specs.declared.faults.TechFileFault.{TechFileFault, TheVariants.{Missing, WrongType}}
 
 infixl 10 ◌>>=◌
 abbrev pub ◌>>=◌ : {A B : Type 0} → Result A TechFileFault → (A → Result B TechFileFault) → Result B TechFileFault

@@ -1,7 +1,6 @@
 -- The parts of a technology file, and the keys that each may have.
 use Rattle.std.specs.Prelude.{ℕ, List, [], ◌∷◌, codes}
-use Rattle.tech_file.specs.declared.sections.Section.{Section}
-use Rattle.tech_file.specs.declared.sections.Section.TheVariants.{Top, Width, Spacing, Extension, Cut}
+use Rattle.tech_file.specs.declared.sections.Section.{Section, TheVariants.{Top, Width, Spacing, Extension, Cut}}
 
 -- what stands before a key of the part, with the dot
 unfoldable pub prefix_of : Section → List ℕ

@@ -1,17 +1,11 @@
 -- The technology that a text is, or the first of its faults.
 use Rattle.std.specs.Prelude.{◌≡◌, ℕ, if◌then◌else◌, List, Option, Some, None, option_map, Result, Ok, Err}
-use Rattle.std.specs.Option.{ok_or}
-use Rattle.std.specs.Str.{is_utf8}
-use Rattle.toml.specs.Data.{Members}
-use Rattle.toml.specs.Parse.{parse_document}
-use Rattle.rule_table.specs.declared.keys.Numbers.{Numbers}
-use Rattle.rule_table.specs.Keys.{has_buried}
-use Rattle.rule_table.specs.Faults.{fault_of}
-use Rattle.tech_file.specs.declared.faults.TechFileFault.{TechFileFault}
-use Rattle.tech_file.specs.declared.faults.TechFileFault.TheVariants.{NotToml, Unknown, Numbers as Unfit}
-use Rattle.tech_file.specs.declared.faults.ReadTechFault.{ReadTechFault}
-use Rattle.tech_file.specs.declared.faults.ReadTechFault.TheVariants.{File, OutOfMemory}
-use Rattle.tech_file.specs.Numbers.{◌>>=◌, numbers_in}
+use Rattle.std.specs.{Option.ok_or, Str.is_utf8}
+use Rattle.toml.specs.{Data.Members, Parse.parse_document}
+use Rattle.rule_table.specs.{declared.keys.Numbers.Numbers, Keys.has_buried, Faults.fault_of}
+use Rattle.tech_file.specs.declared.faults.TechFileFault.{TechFileFault, TheVariants.{NotToml, Unknown}}
+use Rattle.tech_file.specs.declared.faults.{TechFileFault.TheVariants.Numbers as Unfit, ReadTechFault.ReadTechFault}
+use Rattle.tech_file.specs.{declared.faults.ReadTechFault.TheVariants.{File, OutOfMemory}, Numbers.{◌>>=◌, numbers_in}}
 use Rattle.tech_file.specs.Unknown.{unknown_keys, least}
 
 -- the table that a text is: UTF-8, and TOML

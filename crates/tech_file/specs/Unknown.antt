@@ -1,13 +1,10 @@
 -- The keys of a technology file's table that no technology has, and the least of them.
-use Rattle.std.specs.Prelude.{◌≡◌, ℕ, Bool, false, ◌&&◌, ◌||◌, All, Contains, if◌then◌else◌, List, [], ◌∷◌, ◌++◌, fold, codes, Option, Some, None}
-use Rattle.std.specs.List.{list_any}
-use Rattle.std.specs.Str.{bytes_eq}
-use Rattle.std.specs.Ordering.{nat_cmp, is_lt}
+use Rattle.std.specs.Prelude.{◌≡◌, ℕ, Bool, false, ◌&&◌, ◌||◌, All, Contains, if◌then◌else◌, List, [], ◌∷◌, ◌++◌, fold}
+use Rattle.std.specs.{Prelude.{codes, Option, Some, None}, List.list_any, Str.bytes_eq, Ordering.{nat_cmp, is_lt}}
 use Rattle.std.specs.Cmp.Lexicographic.{slice_cmp}
 use Rattle.toml.specs.Data.{Data, table, Members, no_members, member, get_member}
 use Rattle.tech_file.specs.Sections.{prefix_of, names_of, buried_names_of}
-use Rattle.tech_file.specs.declared.sections.Section.{Section}
-use Rattle.tech_file.specs.declared.sections.Section.TheVariants.{Top, Width, Spacing, Extension, Cut}
+use Rattle.tech_file.specs.declared.sections.Section.{Section, TheVariants.{Top, Width, Spacing, Extension, Cut}}
 
 -- the part has this key, in a technology with or without buried contacts
 unfoldable pub knows : Bool → Section → List ℕ → Bool

@@ -1,7 +1,6 @@
 //! The numbers of a technology file's table.
 ghost use Rattle.std.specs.Prelude.{◌≡◌, ◌<◌, option_map};
-ghost use Rattle.toml.specs.Data.{get_member};
-ghost use Rattle.toml.specs.View.{view, table_view};
+ghost use Rattle.toml.specs.{Data.get_member, View.{view, table_view}};
 ghost use Rattle.tech_file.specs.Numbers.{integer_at, integer_in, three_in, common_in, with_buried, numbers_in};
 
 use crate::faults::TechFileFault;

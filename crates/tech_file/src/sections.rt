@@ -1,9 +1,6 @@
 //! The parts of a technology file.
-ghost use Rattle.std.specs.Prelude.{◌≡◌};
-ghost use Rattle.std.specs.List.{list_any};
-ghost use Rattle.std.specs.Str.{bytes_eq};
-ghost use Rattle.tech_file.specs.Sections.{prefix_of, names_of, buried_names_of};
-ghost use Rattle.tech_file.specs.Unknown.{knows};
+ghost use Rattle.std.specs.{Prelude.◌≡◌, List.list_any, Str.bytes_eq};
+ghost use Rattle.tech_file.specs.{Sections.{prefix_of, names_of, buried_names_of}, Unknown.knows};
 
 /// A part of a technology file: its top, or one of the four tables there.
 #[derive(Clone, Copy)]

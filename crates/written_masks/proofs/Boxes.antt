@@ -1,28 +1,22 @@
 -- The text of finished layouts means boxes that show the items of all instances.
-use Rattle.std.proofs.Common.{◌≡◌, ℕ, zero, suc, ◌<◌, ℤ, pos, negsuc, ◌+ℤ◌, ◌*ℤ◌, ◌≤ℤ◌, List, [], ◌∷◌, length, map, get_or, refl, sym, ap, ◌∙◌, arith}
+use Rattle.std.proofs.Common.{◌≡◌, ℕ, zero, suc, ◌<◌, ℤ, pos, negsuc, ◌+ℤ◌, ◌*ℤ◌, ◌≤ℤ◌, List, [], ◌∷◌, length, map}
+use Rattle.std.proofs.{Common.{get_or, refl, sym, ap, ◌∙◌, arith}, lemmas.{Int.ints, List.{get_or-map, length-map}}}
+use Rattle.std.proofs.lemmas.{List.Elements.recursion_from_All, Option.{slice_get_within, get_or_from_slice_get}}
 use Rattle.std.specs.List.{AllByRecursion}
-use Rattle.std.proofs.lemmas.Int.{ints}
-use Rattle.std.proofs.lemmas.List.{get_or-map, length-map}
-use Rattle.std.proofs.lemmas.List.Elements.{recursion_from_All}
-use Rattle.std.proofs.lemmas.Option.{slice_get_within, get_or_from_slice_get}
 use Rattle.list_facts.proofs.Elements.{all_map, all_flat, all_weaker}
-use Rattle.lam_geom.specs.declared.boxes.MaskBox.{MaskBox}
-use Rattle.lam_geom.specs.declared.boxes.Span.{Span}
+use Rattle.lam_geom.specs.declared.boxes.{MaskBox.MaskBox, Span.Span}
 use Rattle.rule_table.specs.declared.technology.Tech.{Tech}
-use Rattle.sym_items.specs.declared.items.Coords.{Coords}
-use Rattle.sym_items.specs.Sides.{Sides}
+use Rattle.sym_items.specs.{declared.items.Coords.Coords, Sides.Sides}
 use Rattle.expand.specs.declared.master.Master.{Master}
 use Rattle.plan_model.specs.declared.plan.Plan.{Plan}
 use Rattle.mask_out.specs.declared.drawing.Call.{Call}
-use Rattle.mask_out.specs.Masks.{Mask}
-use Rattle.mask_out.specs.Pictures.{Drawing, no_drawing, shifted, masks_at, masks_called, flat_of}
+use Rattle.mask_out.specs.{Masks.Mask, Pictures.{Drawing, no_drawing, shifted, masks_at, masks_called, flat_of}}
 use Rattle.crossings.specs.Boxes.{no_box, box_at}
 use Rattle.cif_read.specs.Files.{drawn_of}
 use Rattle.cif_read.specs.Sheets as sheets
-use Rattle.written_masks.specs.TextMeanings.{IsUnit, IsWritableMask, IsWritableCall, IsWritablePicture, in_grains, drawn_mask}
-use Rattle.grid_rules.specs.Conductors.{Drawn}
-use Rattle.grid_rules.specs.Shapes.{shapes_of, mask_of_shape, AreShapes}
-use Rattle.written_masks.specs.Written.{unit_of}
+use Rattle.written_masks.specs.TextMeanings.{IsUnit, IsWritableMask, IsWritableCall, IsWritablePicture, in_grains}
+use Rattle.written_masks.specs.{TextMeanings.drawn_mask, Written.unit_of}
+use Rattle.grid_rules.specs.{Conductors.Drawn, Shapes.{shapes_of, mask_of_shape, AreShapes}}
 
 -- ---- masks whose sides are in order
 

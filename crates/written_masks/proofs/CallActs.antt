@@ -1,19 +1,15 @@
 -- What the calls of a picture add to what has been read.
-use Rattle.std.proofs.Common.{◌≡◌, ℕ, zero, suc, ◌+◌, ◌^◌, ◌<◌, ◌≤◌, ℤ, pos, ◌*ℤ◌, int_eq, Bool, true, false, cond, ◌||◌, Result, Ok, List, [], ◌∷◌, ◌++◌, map, length, refl, sym, ap, ◌∙◌, subst, append_assoc, append-nil, arith, All}
-use Rattle.std.specs.List.{AllByRecursion, range_with_len}
-use Rattle.std.proofs.lemmas.Bool.Decides.{Decides-int_eq}
-use Rattle.std.proofs.lemmas.List.Elements.{recursion_from_All}
+use Rattle.std.proofs.Common.{◌≡◌, ℕ, zero, suc, ◌+◌, ◌^◌, ◌<◌, ◌≤◌, ℤ, pos, ◌*ℤ◌, int_eq, Bool, true, false, cond}
+use Rattle.std.proofs.Common.{◌||◌, Result, Ok, List, [], ◌∷◌, ◌++◌, map, length, refl, sym, ap, ◌∙◌, subst}
+use Rattle.std.proofs.{Common.{append_assoc, append-nil, arith, All}, lemmas.Bool.Decides.Decides-int_eq}
+use Rattle.std.{proofs.lemmas.List.Elements.recursion_from_All, specs.List.{AllByRecursion, range_with_len}}
 use Rattle.mask_out.specs.declared.drawing.Call as drawn
 use Rattle.mask_out.specs.Pictures.{Drawing}
-use Rattle.cif_lex.specs.declared.command.Command.TheVariants.{Call}
-use Rattle.cif_lex.specs.Commands.{is_far}
-use Rattle.cif_read.specs.declared.fault.CifKind.{CifKind}
-use Rattle.cif_read.specs.Sheets.{Symbol, Step, called}
-use Rattle.cif_read.specs.Acts.{State, has_number, is_known, place_of, is_bad_call, is_bad_symbol, act}
+use Rattle.cif_lex.specs.{declared.command.Command.TheVariants.Call, Commands.is_far}
+use Rattle.cif_read.specs.{declared.fault.CifKind.CifKind, Sheets.{Symbol, Step, called}, Acts.{State, has_number}}
+use Rattle.cif_read.specs.Acts.{is_known, place_of, is_bad_call, is_bad_symbol, act}
 use Rattle.written_masks.specs.TextMeanings.{IsWritableCall, symbol_at, step_of_call}
-use Rattle.written_masks.proofs.Numbers.{shift}
-use Rattle.written_masks.proofs.Spelled.{not_far}
-use Rattle.written_masks.proofs.Commands.{shift_by, call_command}
+use Rattle.written_masks.proofs.{Numbers.shift, Spelled.not_far, Commands.{shift_by, call_command}}
 use Rattle.written_masks.proofs.DefinitionActs.{going, then_goes, if_not, outside, none_of_four}
 use Rattle.written_masks.proofs.SymbolActs.{fine_symbol, all_symbols, other_number}
 

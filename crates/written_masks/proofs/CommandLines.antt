@@ -1,24 +1,17 @@
 -- Each line of the text of a picture is a command, its semicolon and a line feed.
-use Rattle.std.proofs.Common.{◌≡◌, ◌≢◌, ℕ, ◌^◌, ◌≤◌, ℤ, pos, Bool, true, false, ◌||◌, inl, inr, Some, List, [], ◌∷◌, ◌++◌, refl, sym, ap, ◌∙◌, subst, append_assoc, append-nil, arith, codes, decimal, IsTrue}
-use Rattle.std.specs.Fmt.{signed_decimal}
-use Rattle.std.specs.List.{All}
-use Rattle.std.proofs.lemmas.Fmt.{decimal_digit}
-use Rattle.std.proofs.lemmas.List.Elements.{All-nil, All-cons}
-use Rattle.lam_geom.specs.declared.boxes.MaskLayer.{MaskLayer}
-use Rattle.lam_geom.specs.declared.boxes.MaskLayer.TheVariants.{ND, NP, NC, NM, NI, NB}
-use Rattle.cif_lex.specs.declared.command.Command.{Command}
-use Rattle.cif_lex.specs.declared.command.Command.TheVariants.{Define, Finish, Layer, Area, Call, Extension}
-use Rattle.cif_lex.specs.Blanks.{is_blank, IsFiller, IsGap}
-use Rattle.cif_lex.specs.Words.{Word, letter, number, name, is_name_byte, AreSpelled}
-use Rattle.cif_lex.specs.Commands.{is_far, HasWords, IsBody}
-use Rattle.cif_text.specs.Cif.{box_line, layer_name}
-use Rattle.cif_text.specs.Calls.{call_line}
-use Rattle.written_masks.specs.TextMeanings.{IsNumber}
-use Rattle.written_masks.proofs.Spelled.{is_spelled, not_far, small_number}
+use Rattle.std.proofs.Common.{◌≡◌, ◌≢◌, ℕ, ◌^◌, ◌≤◌, ℤ, pos, Bool, true, false, ◌||◌, inl, inr, Some, List, [], ◌∷◌}
+use Rattle.std.proofs.Common.{◌++◌, refl, sym, ap, ◌∙◌, subst, append_assoc, append-nil, arith, codes, decimal, IsTrue}
+use Rattle.std.proofs.lemmas.{Fmt.decimal_digit, List.Elements.{All-nil, All-cons}}
+use Rattle.std.specs.{Fmt.signed_decimal, List.All}
+use Rattle.lam_geom.specs.declared.boxes.MaskLayer.{MaskLayer, TheVariants.{ND, NP, NC, NM, NI, NB}}
+use Rattle.cif_lex.specs.declared.command.Command.{Command, TheVariants.{Define, Finish, Layer, Area, Call, Extension}}
 use Rattle.cif_lex.specs.declared.placement.Transformation.TheVariants.{Shift}
-use Rattle.cif_lex.specs.Transformations.{IsComposedOf}
+use Rattle.cif_lex.specs.{Blanks.{is_blank, IsFiller, IsGap}, Words.{Word, letter, number, name, is_name_byte}}
+use Rattle.cif_lex.specs.{Words.AreSpelled, Commands.{is_far, HasWords, IsBody}, Transformations.IsComposedOf}
 use Rattle.cif_lex.proofs.Divisors.{divisor_of_shift, one_shift_odd}
-use Rattle.written_masks.proofs.Commands.{shift_by}
+use Rattle.cif_text.specs.{Cif.{box_line, layer_name}, Calls.call_line}
+use Rattle.written_masks.specs.TextMeanings.{IsNumber}
+use Rattle.written_masks.proofs.{Spelled.{is_spelled, not_far, small_number}, Commands.shift_by}
 
 -- ---- gaps
 

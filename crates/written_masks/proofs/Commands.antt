@@ -1,13 +1,11 @@
 -- The commands of a picture, line by line.
-use Rattle.std.proofs.Common.{ℕ, ◌+◌, ℤ, pos, ◌+ℤ◌, ◌-ℤ◌, ◌*ℤ◌, false, Some, List, [], ◌∷◌, ◌++◌, length, map, filter, flat_map, get_or}
-use Rattle.std.specs.List.{range_with_len}
+use Rattle.std.proofs.Common.{ℕ, ◌+◌, ℤ, pos, ◌+ℤ◌, ◌-ℤ◌, ◌*ℤ◌, false, Some, List, [], ◌∷◌, ◌++◌, length, map, filter}
+use Rattle.std.{proofs.Common.{flat_map, get_or}, specs.List.range_with_len}
 use Rattle.lam_geom.specs.declared.boxes.MaskLayer.{MaskLayer}
 use Rattle.mask_out.specs.declared.drawing.Call as drawn
-use Rattle.mask_out.specs.Masks.{Mask, is_same_layer, mask_layers}
-use Rattle.mask_out.specs.Pictures.{Drawing, no_drawing}
-use Rattle.cif_lex.specs.declared.placement.Placement.{Placement}
-use Rattle.cif_lex.specs.declared.command.Command.{Command}
-use Rattle.cif_lex.specs.declared.command.Command.TheVariants.{Define, Finish, Layer, Area, Call, Extension}
+use Rattle.mask_out.specs.{Masks.{Mask, is_same_layer, mask_layers}, Pictures.{Drawing, no_drawing}}
+use Rattle.cif_lex.specs.declared.{placement.Placement.Placement, command.Command.{Command, TheVariants.Define}}
+use Rattle.cif_lex.specs.declared.command.Command.TheVariants.{Finish, Layer, Area, Call, Extension}
 use Rattle.cif_lex.proofs.Divisors.{divisor_of_shift}
 
 abbrev pub box_command : Mask → Command

@@ -1,22 +1,15 @@
 -- What the commands of a symbol's boxes make of a definition that has begun.
-use Rattle.std.proofs.Common.{◌≡◌, ℤ, pos, ◌+ℤ◌, ◌-ℤ◌, ◌*ℤ◌, ◌≤ℤ◌, ◌<ℤ◌, int_lt, int_eq, Bool, false, not, ◌||◌, cond, Option, Some, None, Result, Ok, List, [], ◌∷◌, ◌++◌, map, flat_map, fold, refl, sym, ap, ◌∙◌, append_assoc, append-nil, arith}
-use Rattle.std.specs.List.{AllByRecursion}
-use Rattle.std.proofs.lemmas.Int.{ints}
-use Rattle.std.proofs.lemmas.List.{map-append}
-use Rattle.std.proofs.lemmas.List.Sums.{fold-append}
+use Rattle.std.proofs.Common.{◌≡◌, ℤ, pos, ◌+ℤ◌, ◌-ℤ◌, ◌*ℤ◌, ◌≤ℤ◌, ◌<ℤ◌, int_lt, int_eq, Bool, false, not, ◌||◌, cond}
+use Rattle.std.proofs.Common.{Option, Some, None, Result, Ok, List, [], ◌∷◌, ◌++◌, map, flat_map, fold, refl, sym, ap}
+use Rattle.std.proofs.{Common.{◌∙◌, append_assoc, append-nil, arith}, lemmas.{Int.ints, List.map-append}}
+use Rattle.std.{proofs.lemmas.List.Sums.fold-append, specs.List.AllByRecursion}
 use Rattle.lam_geom.specs.declared.boxes.MaskLayer.{MaskLayer}
 use Rattle.mask_out.specs.Masks.{Mask}
-use Rattle.cif_lex.specs.declared.command.Command.{Command}
-use Rattle.cif_lex.specs.declared.command.Command.TheVariants.{Layer, Area}
-use Rattle.cif_lex.specs.Commands.{is_far}
-use Rattle.cif_read.specs.declared.fault.CifKind.{CifKind}
-use Rattle.cif_read.specs.Sheets.{Drawn, Symbol, Step}
-use Rattle.cif_lex.specs.Shifts.{is_odd}
-use Rattle.cif_read.specs.Acts.{Named, State, is_bad_length, is_bad_area, scaled, is_odd_area, drawn_box, act}
-use Rattle.cif_read.specs.Meaning.{then_act}
+use Rattle.cif_lex.specs.{declared.command.Command.{Command, TheVariants.{Layer, Area}}, Commands.is_far, Shifts.is_odd}
+use Rattle.cif_read.specs.{declared.fault.CifKind.CifKind, Sheets.{Drawn, Symbol, Step}, Acts.{Named, State}}
+use Rattle.cif_read.specs.{Acts.{is_bad_length, is_bad_area, scaled, is_odd_area, drawn_box, act}, Meaning.then_act}
 use Rattle.written_masks.specs.TextMeanings.{IsNumber, IsUnit, IsWritableMask, drawn_mask}
-use Rattle.written_masks.proofs.Numbers.{over_one, left_by_one, not_below, lower, upper}
-use Rattle.written_masks.proofs.Spelled.{not_far}
+use Rattle.written_masks.proofs.{Numbers.{over_one, left_by_one, not_below, lower, upper}, Spelled.not_far}
 use Rattle.written_masks.proofs.Commands.{box_command, layer_commands, on_layer, layers_commands}
 
 -- ---- commands one after another, from a state

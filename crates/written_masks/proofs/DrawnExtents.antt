@@ -1,10 +1,8 @@
 -- Masks and calls within an extent have numbers that fit into a text.
 use Rattle.std.proofs.Common.{ℕ, ◌*◌, ◌^◌, ◌<◌, ◌≤◌, ℤ, pos, negsuc, ◌+ℤ◌, ◌-ℤ◌, ◌*ℤ◌, ◌≤ℤ◌, ◌<ℤ◌, int_div, sym, arith}
-use Rattle.std.proofs.lemmas.Int.{ints}
-use Rattle.std.proofs.Math.Nat.{mul-le-mul}
+use Rattle.std.proofs.{lemmas.Int.ints, Math.Nat.mul-le-mul}
 use Rattle.rule_table.specs.Bounds.{IsSize}
-use Rattle.mask_out.specs.declared.drawing.Call.{Call}
-use Rattle.mask_out.specs.Masks.{Mask}
+use Rattle.mask_out.specs.{declared.drawing.Call.Call, Masks.Mask}
 use Rattle.written_masks.specs.TextMeanings.{IsNumber, IsUnit, IsWritableMask, IsWritableCall}
 
 pub unit_of_size : (unit : ℤ) → IsSize unit → IsUnit unit

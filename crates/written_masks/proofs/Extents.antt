@@ -1,38 +1,21 @@
 -- Each item of a master has to be at least 1 long on both axes.
-use Rattle.std.proofs.Common.{◌≡◌, ℕ, ℤ, pos, ◌+ℤ◌, ◌-ℤ◌, ◌*ℤ◌, ◌≤ℤ◌, Bool, true, false, List, [], ◌∷◌, length, map, cond, sym, subst, arith}
-use Rattle.std.specs.Prelude.{neg_ℤ}
-use Rattle.std.specs.List.{flat_map, range_with_len, AllByRecursion}
-use Rattle.std.proofs.lemmas.Int.{ints}
-use Rattle.lam_geom.specs.declared.boxes.Axis.{Axis}
-use Rattle.lam_geom.specs.declared.boxes.Axis.TheVariants.{X, Y}
-use Rattle.rule_table.specs.declared.technology.Tech.{Tech}
-use Rattle.rule_table.specs.declared.classes.Class.{Class}
-use Rattle.rule_table.specs.declared.classes.Layer.{Layer}
-use Rattle.rule_table.specs.declared.classes.Layer.TheVariants.{Diffusion, Poly, Metal}
-use Rattle.rule_table.specs.Bounds.{IsSize}
-use Rattle.rule_table.specs.Technology.{numbers_of, pad_of}
-use Rattle.rule_table.proofs.Widths.{pad_bounds, pad_even}
-use Rattle.sym_items.specs.declared.items.Item.{Item}
-use Rattle.sym_items.specs.declared.items.Items.{Items}
-use Rattle.sym_items.specs.Transposed.{item_along}
-use Rattle.cell_model.specs.declared.cell.Axis2.{Axis2}
-use Rattle.cell_model.specs.declared.cell.Axis2.TheVariants.{Across, Up}
-use Rattle.cell_model.specs.declared.cell.NodeKind.{NodeKind}
-use Rattle.cell_model.specs.declared.cell.NodeKind.TheVariants.{Joint, Contact, Buried, Fet}
-use Rattle.cell_model.specs.declared.cell.NodeNets.{NodeNets}
-use Rattle.cell_model.specs.declared.cell.Wire.{Wire}
-use Rattle.cell_model.specs.declared.cell.Nets.{Nets}
-use Rattle.cell_model.specs.declared.cell.Cell.{Cell}
-use Rattle.cell_model.specs.Wiring.{buried_pad}
-use Rattle.cell_model.specs.Sound.{IsKind, IsSound}
-use Rattle.expand.specs.declared.master.Master.{Master}
-use Rattle.expand.specs.Masters.{IsMaster}
-use Rattle.expand.specs.Variables.{half}
-use Rattle.expand.specs.NodeItems.{item_running, on_layer, box_round, square_round, standing_at, channel_items, kind_items}
-use Rattle.expand.specs.WireItems.{low_end_of, high_end_of, contact_at, run_item, wire_items}
-use Rattle.expand.specs.Items.{items_of_node, items_of_wire, item_list}
-use Rattle.expand.proofs.Among.{sound_numbers, buried_size}
-use Rattle.expand.proofs.Cells.{node_sound, wire_sound}
+use Rattle.std.proofs.Common.{◌≡◌, ℕ, ℤ, pos, ◌+ℤ◌, ◌-ℤ◌, ◌*ℤ◌, ◌≤ℤ◌, Bool, true, false, List, [], ◌∷◌, length, map}
+use Rattle.std.proofs.{Common.{cond, sym, subst, arith}, lemmas.Int.ints}
+use Rattle.std.specs.{Prelude.neg_ℤ, List.{flat_map, range_with_len, AllByRecursion}}
+use Rattle.lam_geom.specs.declared.boxes.Axis.{Axis, TheVariants.{X, Y}}
+use Rattle.rule_table.specs.declared.{technology.Tech.Tech, classes.{Class.Class, Layer.{Layer, TheVariants.Diffusion}}}
+use Rattle.rule_table.specs.{declared.classes.Layer.TheVariants.{Poly, Metal}, Bounds.IsSize, Technology.numbers_of}
+use Rattle.rule_table.{specs.Technology.pad_of, proofs.Widths.{pad_bounds, pad_even}}
+use Rattle.sym_items.specs.{declared.items.{Item.Item, Items.Items}, Transposed.item_along}
+use Rattle.cell_model.specs.declared.cell.{Axis2.{Axis2, TheVariants.{Across, Up}}, NodeKind.NodeKind}
+use Rattle.cell_model.specs.declared.cell.{NodeKind.TheVariants.{Joint, Contact, Buried, Fet}, NodeNets.NodeNets}
+use Rattle.cell_model.specs.declared.cell.{Wire.Wire, Nets.Nets, Cell.Cell}
+use Rattle.cell_model.specs.{Wiring.buried_pad, Sound.{IsKind, IsSound}}
+use Rattle.expand.specs.{declared.master.Master.Master, Masters.IsMaster, Variables.half, NodeItems.item_running}
+use Rattle.expand.specs.NodeItems.{on_layer, box_round, square_round, standing_at, channel_items, kind_items}
+use Rattle.expand.specs.{WireItems.{low_end_of, high_end_of, contact_at, run_item, wire_items}, Items.items_of_node}
+use Rattle.expand.specs.Items.{items_of_wire, item_list}
+use Rattle.expand.proofs.{Among.{sound_numbers, buried_size}, Cells.{node_sound, wire_sound}}
 use Rattle.list_facts.proofs.Elements.{all_append, all_flat, all_numbers}
 
 pub record HasExtents (i : Item) : Type 0 where

@@ -1,17 +1,14 @@
 -- The boxes that are meant, one by one, are those of the picture.
-use Rattle.std.proofs.Common.{◌≡◌, ℕ, ◌<◌, ℤ, pos, ◌*ℤ◌, List, [], ◌∷◌, ◌++◌, map, flat_map, length, refl, sym, ap, ◌∙◌, arith}
-use Rattle.std.specs.List.{AllByRecursion}
-use Rattle.std.proofs.lemmas.List.{map-append}
-use Rattle.std.proofs.lemmas.List.Elements.{recursion_from_All}
-use Rattle.std.proofs.lemmas.List.FromFn.{get_or-map-range_with_len}
+use Rattle.std.proofs.Common.{◌≡◌, ℕ, ◌<◌, ℤ, pos, ◌*ℤ◌, List, [], ◌∷◌, ◌++◌, map, flat_map, length, refl, sym, ap, ◌∙◌}
+use Rattle.std.proofs.{Common.arith, lemmas.List.{map-append, Elements.recursion_from_All}}
+use Rattle.std.{proofs.lemmas.List.FromFn.get_or-map-range_with_len, specs.List.AllByRecursion}
 use Rattle.lam_geom.specs.declared.boxes.MaskLayer.{MaskLayer}
 use Rattle.mask_out.specs.declared.drawing.Call as drawn
-use Rattle.mask_out.specs.Masks.{Mask}
-use Rattle.mask_out.specs.Pictures.{Drawing, shifted, masks_at, masks_called, flat_of}
+use Rattle.mask_out.specs.{Masks.Mask, Pictures.{Drawing, shifted, masks_at, masks_called, flat_of}}
 use Rattle.cif_read.specs.Sheets.{Drawn, Symbol, moved, no_symbol, boxes_of_symbol, boxes_of_step, flattened}
-use Rattle.written_masks.specs.TextMeanings.{in_grains, drawn_mask, symbol_at, step_of_call, IsWritableCall, IsWritablePicture, sheet_of_picture}
-use Rattle.written_masks.proofs.Numbers.{moved_side}
-use Rattle.written_masks.proofs.SymbolActs.{all_symbols}
+use Rattle.written_masks.specs.TextMeanings.{in_grains, drawn_mask, symbol_at, step_of_call, IsWritableCall}
+use Rattle.written_masks.specs.TextMeanings.{IsWritablePicture, sheet_of_picture}
+use Rattle.written_masks.proofs.{Numbers.moved_side, SymbolActs.all_symbols}
 
 same_sides : (layer : MaskLayer) (a b c d e f g h : ℤ) → a ≡ e → b ≡ f → c ≡ g → d ≡ h
     → (let x : Drawn = record { layer = layer; left = a; right = b; bottom = c; top = d } in x) ≡ (record { layer = layer; left = e; right = f; bottom = g; top = h })

@@ -1,33 +1,19 @@
 -- The picture has the boxes of all instances.
-use Rattle.std.proofs.Common.{◌≡◌, ℕ, ◌<◌, List, length, map, sym, ap, ◌∙◌}
-use Rattle.std.proofs.lemmas.List.{length-map}
+use Rattle.std.proofs.{Common.{◌≡◌, ℕ, ◌<◌, List, length, map, sym, ap, ◌∙◌}, lemmas.List.length-map}
 use Rattle.list_facts.proofs.Elements.{all_weaker}
-use Rattle.lam_geom.specs.declared.boxes.Axis.TheVariants.{X, Y}
-use Rattle.lam_geom.specs.declared.boxes.MaskBox.{MaskBox}
-use Rattle.rule_table.specs.declared.technology.Tech.{Tech}
-use Rattle.rule_table.specs.Technology.{widest_of}
+use Rattle.lam_geom.specs.declared.boxes.{Axis.TheVariants.{X, Y}, MaskBox.MaskBox}
+use Rattle.rule_table.specs.{declared.technology.Tech.Tech, Technology.widest_of}
 use Rattle.cell_model.specs.Counts.{boxes_in}
-use Rattle.sym_items.specs.declared.items.Coords.{Coords}
-use Rattle.sym_items.specs.declared.items.Items.{Items}
-use Rattle.sym_items.specs.Layouts.{layout_at, size_in}
-use Rattle.expand.specs.declared.master.Master.{Master}
-use Rattle.expand.specs.Items.{AreItems}
-use Rattle.plan_model.specs.declared.plan.Plan.{Plan}
-use Rattle.plan_model.specs.Instances.{Spot, IsSpot, master_at_spot, spots_of}
-use Rattle.plan_model.specs.Plan.{grids_of}
+use Rattle.sym_items.specs.{declared.items.{Coords.Coords, Items.Items}, Layouts.{layout_at, size_in}}
+use Rattle.expand.specs.{declared.master.Master.Master, Items.AreItems}
+use Rattle.plan_model.specs.{declared.plan.Plan.Plan, Instances.{Spot, IsSpot, master_at_spot, spots_of}, Plan.grids_of}
 use Rattle.pitch_join.specs.Masters.{master_at, no_master}
-use Rattle.grid_rules.specs.Planned.{AreOfPlan}
-use Rattle.mask_out.specs.declared.drawing.Call.{Call}
-use Rattle.mask_out.specs.Masks.{masks_in}
-use Rattle.mask_out.specs.Pictures.{Drawing, drawings_in, call_at, masks_at}
-use Rattle.mask_out.proofs.Counted.{boxes_counted}
-use Rattle.mask_out.proofs.FlatCounted.{flat_counted}
-use Rattle.grid_rules.specs.Conductors.{Drawn}
-use Rattle.grid_rules.specs.Shapes.{shapes_of, mask_of_shape, AreShapes}
+use Rattle.grid_rules.specs.{Planned.AreOfPlan, Conductors.Drawn, Shapes.{shapes_of, mask_of_shape, AreShapes}}
 use Rattle.grid_rules.proofs.PictureShapes.{spots_are, master_there, masks_drawn, picture_shows}
+use Rattle.mask_out.specs.{declared.drawing.Call.Call, Masks.masks_in, Pictures.{Drawing, drawings_in, call_at}}
+use Rattle.mask_out.{specs.Pictures.masks_at, proofs.{Counted.boxes_counted, FlatCounted.flat_counted}}
 use Rattle.written_masks.specs.Parts.{boxes_of_picture, boxes_at, boxes_of_instances}
-use Rattle.written_masks.proofs.Sums.{sum_same, sum_images}
-use Rattle.written_masks.proofs.InstanceSums.{instance_sum}
+use Rattle.written_masks.proofs.{Sums.{sum_same, sum_images}, InstanceSums.instance_sum}
 
 -- the masks of a master in any layout
 items_counted : (tech : Tech) (master : Master) (c : Coords) → AreItems tech master.cell master.items → length (masks_in c master.items.list) ≡ boxes_in master.cell

@@ -1,6 +1,5 @@
 -- Sums over all instances, by the masters that stand in the rows.
-use Rattle.std.proofs.Common.{◌≡◌, ℕ, List, [], length, sym, ◌∙◌}
-use Rattle.std.specs.List.{range_with_len, sum_by}
+use Rattle.std.{proofs.Common.{◌≡◌, ℕ, List, [], length, sym, ◌∙◌}, specs.List.{range_with_len, sum_by}}
 use Rattle.plan_model.specs.Instances.{Spot, spot, grid_at, master_at_spot, spots_in_row, spots_in_grid, spots_of}
 use Rattle.plan_model.specs.Rows.{row_at}
 use Rattle.written_masks.proofs.Sums.{sum_every, sum_images, sum_joined, sum_numbers, sum_ones}

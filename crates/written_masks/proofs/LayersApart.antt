@@ -1,11 +1,8 @@
 -- The masks of a layout stand layer by layer.
-use Rattle.std.proofs.Common.{◌≡◌, Bool, true, false, cond, List, [], ◌∷◌, ◌++◌, map, filter, flat_map, refl, sym, ap, ◌∙◌, append-nil}
-use Rattle.std.proofs.lemmas.List.Elements.{filter-append}
-use Rattle.lam_geom.specs.declared.boxes.MaskLayer.{MaskLayer}
-use Rattle.lam_geom.specs.declared.boxes.MaskLayer.TheVariants.{ND, NP, NC, NM, NI, NB}
-use Rattle.sym_items.specs.declared.items.Item.{Item}
-use Rattle.sym_items.specs.declared.items.Coords.{Coords}
-use Rattle.sym_items.specs.Sides.{sides_in}
+use Rattle.std.proofs.Common.{◌≡◌, Bool, true, false, cond, List, [], ◌∷◌, ◌++◌, map, filter, flat_map, refl, sym, ap}
+use Rattle.std.proofs.{Common.{◌∙◌, append-nil}, lemmas.List.Elements.filter-append}
+use Rattle.lam_geom.specs.declared.boxes.MaskLayer.{MaskLayer, TheVariants.{ND, NP, NC, NM, NI, NB}}
+use Rattle.sym_items.specs.{declared.items.{Item.Item, Coords.Coords}, Sides.sides_in}
 use Rattle.mask_out.specs.Masks.{Mask, is_same_layer, is_drawn, masks_on, mask_layers, masks_in}
 use Rattle.written_masks.proofs.Commands.{on_layer}
 

@@ -1,11 +1,9 @@
 -- The sums over masters and instances, where the boxes of each master stand in a list.
 use Rattle.std.proofs.Common.{◌≡◌, ℕ, zero, suc, List, [], ◌∷◌, map, refl, ap, ◌∙◌}
-use Rattle.std.specs.Prelude.{slice_index}
-use Rattle.std.specs.List.{sum_by}
+use Rattle.std.specs.{Prelude.slice_index, List.sum_by}
 use Rattle.cell_model.specs.Counts.{boxes_in}
 use Rattle.expand.specs.declared.master.Master.{Master}
-use Rattle.plan_model.specs.declared.plan.Plan.{Plan}
-use Rattle.plan_model.specs.Plan.{grids_of}
+use Rattle.plan_model.specs.{declared.plan.Plan.Plan, Plan.grids_of}
 use Rattle.written_masks.specs.Parts.{boxes_of_master, boxes_at, boxes_of_instances}
 use Rattle.written_masks.proofs.Sums.{sum_every, sum_images}
 

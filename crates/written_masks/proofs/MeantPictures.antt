@@ -3,15 +3,11 @@ use Rattle.std.proofs.Common.{◌≡◌, ℕ, ℤ, Ok, List, [], ◌∷◌, ◌+
 use Rattle.mask_out.specs.declared.drawing.Call as drawn
 use Rattle.mask_out.specs.Pictures.{Drawing}
 use Rattle.cif_text.specs.Calls.{cif_of}
-use Rattle.cif_read.specs.Readers.{joined}
-use Rattle.cif_read.specs.Meaning.{Means, acts}
+use Rattle.cif_read.specs.{Readers.joined, Meaning.{Means, acts}}
 use Rattle.written_masks.specs.TextMeanings.{IsWritablePicture, step_of_call, sheet_of_picture}
-use Rattle.written_masks.proofs.CommandLines.{no_gap, one_blank}
-use Rattle.written_masks.proofs.Commands.{symbols_commands, call_command, picture_commands}
-use Rattle.written_masks.proofs.TextLines.{cut}
-use Rattle.written_masks.proofs.PictureLines.{picture_lines}
-use Rattle.written_masks.proofs.DefinitionActs.{goes_on, outside}
-use Rattle.written_masks.proofs.SymbolActs.{all_symbols, symbols_act}
+use Rattle.written_masks.proofs.{CommandLines.{no_gap, one_blank}, Commands.{symbols_commands, call_command}}
+use Rattle.written_masks.proofs.{Commands.picture_commands, TextLines.cut, PictureLines.picture_lines}
+use Rattle.written_masks.proofs.{DefinitionActs.{goes_on, outside}, SymbolActs.{all_symbols, symbols_act}}
 use Rattle.written_masks.proofs.CallActs.{calls_act}
 
 picture_acts : (unit : ℤ) (drawings : List Drawing) (calls : List drawn.Call) (is : IsWritablePicture unit drawings calls)

@@ -1,24 +1,15 @@
 -- The text of finished layouts has the sticks' nets.
 use Rattle.std.proofs.Common.{ℤ, List, map, sym, ap, ◌∙◌}
-use Rattle.lam_geom.specs.declared.boxes.Axis.TheVariants.{X, Y}
-use Rattle.lam_geom.specs.declared.boxes.MaskBox.{MaskBox}
-use Rattle.rule_table.specs.declared.technology.Tech.{Tech}
-use Rattle.rule_table.specs.Technology.{widest_of}
-use Rattle.sym_items.specs.declared.items.Coords.{Coords}
-use Rattle.sym_items.specs.Layouts.{size_in}
+use Rattle.lam_geom.specs.declared.boxes.{Axis.TheVariants.{X, Y}, MaskBox.MaskBox}
+use Rattle.rule_table.specs.{declared.technology.Tech.Tech, Technology.widest_of}
+use Rattle.sym_items.specs.{declared.items.Coords.Coords, Layouts.size_in}
 use Rattle.expand.specs.declared.master.Master.{Master}
-use Rattle.plan_model.specs.declared.plan.Plan.{Plan}
-use Rattle.plan_model.specs.Plan.{grids_of}
-use Rattle.mask_out.specs.declared.drawing.Call.{Call}
-use Rattle.mask_out.specs.Pictures.{Drawing, drawings_in, calls_of}
-use Rattle.written_masks.specs.TextMeanings.{drawn_mask, TextsMeanTheirPicturesToOthers}
-use Rattle.grid_rules.specs.Shapes.{AreShapes}
-use Rattle.grid_rules.specs.Sticks.{NetsAreTheSticks}
-use Rattle.written_masks.specs.Written.{unit_of, text_of_layouts, HasSticksNets}
-use Rattle.grid_rules.proofs.PictureShapes.{picture_shows}
-use Rattle.written_masks.proofs.Boxes.{picture_drawn, boxes_show}
-use Rattle.written_masks.proofs.Pictures.{picture_writable}
-use Rattle.written_masks.proofs.Symbols.{FitFinished}
+use Rattle.plan_model.specs.{declared.plan.Plan.Plan, Plan.grids_of}
+use Rattle.mask_out.specs.{declared.drawing.Call.Call, Pictures.{Drawing, drawings_in, calls_of}}
+use Rattle.written_masks.specs.{TextMeanings.{drawn_mask, TextsMeanTheirPicturesToOthers}, Written.unit_of}
+use Rattle.written_masks.specs.Written.{text_of_layouts, HasSticksNets}
+use Rattle.written_masks.proofs.{Boxes.{picture_drawn, boxes_show}, Pictures.picture_writable, Symbols.FitFinished}
+use Rattle.grid_rules.{specs.{Shapes.AreShapes, Sticks.NetsAreTheSticks}, proofs.PictureShapes.picture_shows}
 
 -- where boxes that show the items of all instances have the sticks' nets
 pub text_has_nets : (tech : Tech) (plan : Plan) (masters : List Master) (layouts : List Coords) → FitFinished tech plan masters layouts → TextsMeanTheirPicturesToOthers

@@ -1,24 +1,23 @@
 -- The text of a picture is lines of its commands, and behind them the end.
-use Rattle.std.proofs.Common.{◌≡◌, ◌≢◌, ℕ, ◌+◌, ◌^◌, ◌<◌, ◌≤◌, ℤ, pos, ◌*ℤ◌, int_div, List, [], ◌∷◌, ◌++◌, length, map, flat_map, get_or, refl, sym, ap, ◌∙◌, subst, append_assoc, append-nil, arith, codes, All, decimal}
-use Rattle.std.specs.Fmt.{signed_decimal}
-use Rattle.std.specs.List.{AllByRecursion, range_with_len}
-use Rattle.std.proofs.lemmas.Int.{ints}
-use Rattle.std.proofs.lemmas.List.Concat.{flat_map-append}
-use Rattle.std.proofs.lemmas.List.Folds.{flat_map-map}
+use Rattle.std.proofs.Common.{◌≡◌, ◌≢◌, ℕ, ◌+◌, ◌^◌, ◌<◌, ◌≤◌, ℤ, pos, ◌*ℤ◌, int_div, List, [], ◌∷◌, ◌++◌, length, map}
+use Rattle.std.proofs.Common.{flat_map, get_or, refl, sym, ap, ◌∙◌, subst, append_assoc, append-nil, arith, codes, All}
+use Rattle.std.proofs.{Common.decimal, lemmas.{Int.ints, List.{Concat.flat_map-append, Folds.flat_map-map}}}
 use Rattle.std.proofs.lemmas.List.Elements.{All-filter, recursion_from_All}
+use Rattle.std.specs.{Fmt.signed_decimal, List.{AllByRecursion, range_with_len}}
 use Rattle.list_facts.proofs.Elements.{all_weaker, all_numbers}
 use Rattle.lam_geom.specs.declared.boxes.MaskLayer.{MaskLayer}
 use Rattle.mask_out.specs.declared.drawing.Call as drawn
-use Rattle.mask_out.specs.Masks.{Mask, is_same_layer, mask_layers}
-use Rattle.mask_out.specs.Pictures.{Drawing, no_drawing}
+use Rattle.mask_out.specs.{Masks.{Mask, is_same_layer, mask_layers}, Pictures.{Drawing, no_drawing}}
 use Rattle.cif_lex.specs.declared.command.Command.TheVariants.{Define, Finish}
 use Rattle.cif_text.specs.Cif.{box_text, layer_name, layer_text, layers_text, scale_line, symbol_text}
 use Rattle.cif_text.specs.Calls.{call_text, text_at, texts_of, cif_of}
-use Rattle.written_masks.specs.TextMeanings.{IsNumber, IsUnit, IsWritableMask, IsWritableDrawing, IsWritableCall, IsWritablePicture}
-use Rattle.written_masks.proofs.Numbers.{half_of}
-use Rattle.written_masks.proofs.CommandLines.{IsLineOf, box_is_line, call_is_line, layer_is_line, define_is_line, finish_is_line, extension_is_line}
-use Rattle.written_masks.proofs.TextLines.{AreLines, one_line, lines_append, flat_lines, each_line}
-use Rattle.written_masks.proofs.Commands.{box_command, layer_commands, on_layer, layers_commands, symbol_commands, commands_at, symbols_commands, call_command, picture_commands}
+use Rattle.written_masks.specs.TextMeanings.{IsNumber, IsUnit, IsWritableMask, IsWritableDrawing, IsWritableCall}
+use Rattle.written_masks.specs.TextMeanings.{IsWritablePicture}
+use Rattle.written_masks.proofs.{Numbers.half_of, CommandLines.{IsLineOf, box_is_line, call_is_line, layer_is_line}}
+use Rattle.written_masks.proofs.{CommandLines.{define_is_line, finish_is_line, extension_is_line}, TextLines.AreLines}
+use Rattle.written_masks.proofs.{TextLines.{one_line, lines_append, flat_lines, each_line}, Commands.box_command}
+use Rattle.written_masks.proofs.Commands.{layer_commands, on_layer, layers_commands, symbol_commands, commands_at}
+use Rattle.written_masks.proofs.Commands.{symbols_commands, call_command, picture_commands}
 
 pub all_every : {X : Type 0} (P : X → Type 0) → ((x : X) → P x) → (xs : List X) → AllByRecursion P xs
 all_every P h [] = tt

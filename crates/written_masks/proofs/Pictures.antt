@@ -1,27 +1,18 @@
 -- The picture of finished layouts can be written into a text.
-use Rattle.std.proofs.Common.{◌≡◌, ◌<◌, List, All, length, get_or, min, sym, ap, ◌∙◌, subst, arith}
-use Rattle.std.specs.List.{zip}
-use Rattle.std.proofs.lemmas.Int.{ints}
-use Rattle.std.proofs.lemmas.List.{get_or-map, length-map}
-use Rattle.std.proofs.lemmas.Slice.Zip.{get_or-zip, length-zip}
+use Rattle.std.proofs.{Common.{◌≡◌, ◌<◌, List, All, length, get_or, min, sym, ap, ◌∙◌, subst, arith}, lemmas.Int.ints}
+use Rattle.std.{proofs.lemmas.{List.{get_or-map, length-map}, Slice.Zip.{get_or-zip, length-zip}}, specs.List.zip}
 use Rattle.list_facts.proofs.Elements.{all_map, all_of, all_weaker}
 use Rattle.lam_geom.specs.declared.boxes.Axis.TheVariants.{X, Y}
-use Rattle.rule_table.specs.declared.technology.Tech.{Tech}
-use Rattle.rule_table.specs.Technology.{widest_of}
-use Rattle.sym_items.specs.declared.items.Coords.{Coords}
-use Rattle.sym_items.specs.Layouts.{layout_at, no_layout, size_in}
+use Rattle.rule_table.specs.{declared.technology.Tech.Tech, Technology.widest_of}
+use Rattle.sym_items.specs.{declared.items.Coords.Coords, Layouts.{layout_at, no_layout, size_in}}
 use Rattle.expand.specs.declared.master.Master.{Master}
-use Rattle.plan_model.specs.declared.plan.Plan.{Plan}
-use Rattle.plan_model.specs.Instances.{Spot, IsSpot, master_at_spot, spots_of}
-use Rattle.plan_model.specs.Plan.{grids_of}
+use Rattle.plan_model.specs.{declared.plan.Plan.Plan, Instances.{Spot, IsSpot, master_at_spot, spots_of}, Plan.grids_of}
 use Rattle.pitch_join.specs.Masters.{master_at, no_master, ports_of_masters, master_ports}
-use Rattle.mask_out.specs.declared.drawing.Call.{Call}
-use Rattle.mask_out.specs.Pictures.{drawing_in, drawings_in, call_at, calls_of}
-use Rattle.written_masks.specs.TextMeanings.{IsWritableDrawing, IsWritableCall, IsWritablePicture}
-use Rattle.written_masks.proofs.DrawnExtents.{StaysInside, call_inside}
-use Rattle.written_masks.specs.Written.{unit_of}
+use Rattle.mask_out.specs.{declared.drawing.Call.Call, Pictures.{drawing_in, drawings_in, call_at, calls_of}}
+use Rattle.written_masks.specs.{TextMeanings.{IsWritableDrawing, IsWritableCall, IsWritablePicture}, Written.unit_of}
+use Rattle.written_masks.proofs.{DrawnExtents.{StaysInside, call_inside}, Symbols.{FitFinished, width_of_whole}}
+use Rattle.written_masks.proofs.Symbols.{height_of_whole, is_unit, size_low, all_inside, symbol_writable}
 use Rattle.grid_rules.proofs.PictureShapes.{spots_are, master_there}
-use Rattle.written_masks.proofs.Symbols.{FitFinished, width_of_whole, height_of_whole, is_unit, size_low, all_inside, symbol_writable}
 
 pub drawings_counted : (masters : List Master) (layouts : List Coords) → length layouts ≡ length masters → length (drawings_in masters layouts) ≡ length masters
 drawings_counted masters layouts counted =

@@ -1,12 +1,8 @@
 -- Lines whose numbers are within 2^30 have few bytes.
 use Rattle.std.proofs.Common.{ℕ, ◌+◌, ◌≤◌, ℤ, pos, negsuc, List, ◌++◌, length, arith}
-use Rattle.std.specs.Prelude.{codes, decimal, int_div}
-use Rattle.std.specs.Fmt.{signed_decimal}
-use Rattle.std.proofs.lemmas.Fmt.{length-decimal-le, length_signed_le}
-use Rattle.std.proofs.lemmas.Int.{ints}
-use Rattle.std.proofs.lemmas.List.{length-append}
-use Rattle.cif_text.specs.Cif.{box_line, scale_line}
-use Rattle.cif_text.specs.Calls.{call_line}
+use Rattle.std.proofs.lemmas.{Fmt.{length-decimal-le, length_signed_le}, Int.ints, List.length-append}
+use Rattle.std.specs.{Prelude.{codes, decimal, int_div}, Fmt.signed_decimal}
+use Rattle.cif_text.specs.{Cif.{box_line, scale_line}, Calls.call_line}
 use Rattle.written_masks.specs.TextMeanings.{IsNumber}
 
 -- one text behind another

@@ -1,21 +1,14 @@
 -- The text of a symbol is short where its name is short and its boxes are few.
-use Rattle.std.proofs.Common.{◌≡◌, ℕ, ◌+◌, ◌*◌, ◌≤◌, ℤ, pos, int_div, All, List, [], ◌∷◌, ◌++◌, length, flat_map, sym, ap, ◌∙◌, subst, arith, codes}
-use Rattle.std.specs.List.{AllByRecursion, sum_by}
-use Rattle.std.proofs.lemmas.Int.{ints}
-use Rattle.std.proofs.lemmas.List.Concat.{length-flat_map}
-use Rattle.std.proofs.lemmas.List.Elements.{All-filter, recursion_from_All}
+use Rattle.std.proofs.Common.{◌≡◌, ℕ, ◌+◌, ◌*◌, ◌≤◌, ℤ, pos, int_div, All, List, [], ◌∷◌, ◌++◌, length, flat_map, sym}
+use Rattle.std.proofs.{Common.{ap, ◌∙◌, subst, arith, codes}, lemmas.{Int.ints, List.Concat.length-flat_map}}
+use Rattle.std.{proofs.lemmas.List.Elements.{All-filter, recursion_from_All}, specs.List.{AllByRecursion, sum_by}}
 use Rattle.list_facts.proofs.Elements.{all_weaker}
-use Rattle.lam_geom.specs.declared.boxes.MaskLayer.{MaskLayer}
-use Rattle.lam_geom.specs.declared.boxes.MaskLayer.TheVariants.{ND, NP, NC, NM, NI, NB}
-use Rattle.mask_out.specs.Masks.{Mask, is_same_layer, mask_layers}
-use Rattle.mask_out.specs.Pictures.{Drawing}
+use Rattle.lam_geom.specs.declared.boxes.MaskLayer.{MaskLayer, TheVariants.{ND, NP, NC, NM, NI, NB}}
+use Rattle.mask_out.specs.{Masks.{Mask, is_same_layer, mask_layers}, Pictures.Drawing}
 use Rattle.cif_text.specs.Cif.{box_text, layer_name, layer_text, layers_text, scale_line, symbol_text}
 use Rattle.written_masks.specs.TextMeanings.{IsNumber, IsUnit, IsWritableMask, IsWritableDrawing}
-use Rattle.written_masks.proofs.Commands.{on_layer}
-use Rattle.written_masks.proofs.Numbers.{half_of}
-use Rattle.written_masks.proofs.PictureLines.{all_every}
-use Rattle.written_masks.proofs.Sums.{pieces_short, sum_of_parts, sum_ones}
-use Rattle.written_masks.proofs.ShortLines.{behind, box_line_short, scale_line_short}
+use Rattle.written_masks.proofs.{Commands.on_layer, Numbers.half_of, PictureLines.all_every, Sums.pieces_short}
+use Rattle.written_masks.proofs.{Sums.{sum_of_parts, sum_ones}, ShortLines.{behind, box_line_short, scale_line_short}}
 
 -- ---- boxes
 

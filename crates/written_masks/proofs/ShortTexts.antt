@@ -1,35 +1,24 @@
 -- The text of finished layouts is short where their parts are few.
-use Rattle.std.proofs.Common.{◌≡◌, ℕ, ◌+◌, ◌*◌, ◌^◌, ◌<◌, ◌≤◌, ℤ, List, [], ◌∷◌, ◌++◌, length, flat_map, get_or, sym, ap, ◌∙◌, subst, append-nil, arith, codes}
+use Rattle.std.proofs.Common.{◌≡◌, ℕ, ◌+◌, ◌*◌, ◌^◌, ◌<◌, ◌≤◌, ℤ, List, [], ◌∷◌, ◌++◌, length, flat_map, get_or, sym}
+use Rattle.std.proofs.Common.{ap, ◌∙◌, subst, append-nil, arith, codes}
+use Rattle.std.proofs.lemmas.List.{get_or-map, length-map, Concat.flat_map-append, Elements.recursion_from_All}
+use Rattle.std.proofs.lemmas.{List.Folds.flat_map-map, Slice.Zip.{get_or-zip, length-zip}}
 use Rattle.std.specs.List.{AllByRecursion, range_with_len, sum_by, zip}
-use Rattle.std.proofs.lemmas.List.{get_or-map, length-map}
-use Rattle.std.proofs.lemmas.List.Concat.{flat_map-append}
-use Rattle.std.proofs.lemmas.List.Elements.{recursion_from_All}
-use Rattle.std.proofs.lemmas.List.Folds.{flat_map-map}
-use Rattle.std.proofs.lemmas.Slice.Zip.{get_or-zip, length-zip}
 use Rattle.list_facts.proofs.Elements.{all_weaker, all_numbers}
 use Rattle.lam_geom.specs.declared.boxes.Axis.TheVariants.{X, Y}
-use Rattle.rule_table.specs.declared.technology.Tech.{Tech}
-use Rattle.rule_table.specs.Technology.{widest_of}
-use Rattle.sym_items.specs.declared.items.Coords.{Coords}
-use Rattle.sym_items.specs.Layouts.{layout_at, no_layout, size_in}
+use Rattle.rule_table.specs.{declared.technology.Tech.Tech, Technology.widest_of}
+use Rattle.sym_items.specs.{declared.items.Coords.Coords, Layouts.{layout_at, no_layout, size_in}}
 use Rattle.expand.specs.declared.master.Master.{Master}
-use Rattle.plan_model.specs.declared.plan.Plan.{Plan}
-use Rattle.plan_model.specs.Instances.{spots_of}
-use Rattle.plan_model.specs.Plan.{grids_of}
+use Rattle.plan_model.specs.{declared.plan.Plan.Plan, Instances.spots_of, Plan.grids_of}
 use Rattle.pitch_join.specs.Masters.{master_at, no_master, ports_of_masters, master_ports}
 use Rattle.mask_out.specs.declared.drawing.Call.{Call}
 use Rattle.mask_out.specs.Pictures.{Drawing, no_drawing, drawing_in, drawings_in, call_at, calls_of}
 use Rattle.cif_text.specs.Calls.{call_text, calls_text, text_at, texts_of}
-use Rattle.written_masks.specs.TextMeanings.{IsWritableCall, IsWritablePicture}
-use Rattle.written_masks.specs.Written.{unit_of, text_of_layouts}
-use Rattle.written_masks.proofs.Pictures.{drawings_counted, picture_writable}
-use Rattle.written_masks.proofs.Symbols.{FitFinished}
-use Rattle.written_masks.specs.Parts.{boxes_of_master, HasFewParts}
-use Rattle.written_masks.proofs.InstanceBoxes.{symbol_counted}
-use Rattle.written_masks.proofs.InstanceSums.{spots_counted}
-use Rattle.written_masks.proofs.ShortLines.{behind, call_line_short}
-use Rattle.written_masks.proofs.ShortSymbols.{symbol_short}
-use Rattle.written_masks.proofs.Sums.{pieces_short, sum_numbers, sum_of_parts, sum_ones}
+use Rattle.written_masks.specs.{TextMeanings.{IsWritableCall, IsWritablePicture}, Written.{unit_of, text_of_layouts}}
+use Rattle.written_masks.{specs.Parts.{boxes_of_master, HasFewParts}, proofs.Pictures.drawings_counted}
+use Rattle.written_masks.proofs.{Pictures.picture_writable, Symbols.FitFinished, InstanceBoxes.symbol_counted}
+use Rattle.written_masks.proofs.{InstanceSums.spots_counted, ShortLines.{behind, call_line_short}}
+use Rattle.written_masks.proofs.{ShortSymbols.symbol_short, Sums.{pieces_short, sum_numbers, sum_of_parts, sum_ones}}
 
 -- ---- calls
 

@@ -1,17 +1,10 @@
 -- The numbers of a picture are written as CIF spells them, and none is past the limit.
-use Rattle.std.proofs.Common.{◌≡◌, ℕ, suc, ◌^◌, ◌≤◌, ℤ, pos, negsuc, neg_ℤ, nat_lt, true, false, List, get_or, refl, sym, ap, arith, IsTrue, decimal}
-use Rattle.std.specs.Fmt.{signed_decimal}
-use Rattle.std.specs.Int.{IsInRange}
-use Rattle.std.specs.List.{All}
-use Rattle.std.specs.Char.{is_ascii_digit}
-use Rattle.std.specs.Str.Parse.{AllDigits, digits_value}
-use Rattle.std.proofs.lemmas.Fmt.{decimal_is_IsNumeral}
-use Rattle.std.proofs.lemmas.Int.{ints}
-use Rattle.std.proofs.lemmas.List.Elements.{All-from_get_or}
-use Rattle.std.proofs.lemmas.Str.Parse.{digit_at}
-use Rattle.std.proofs.lemmas.Bool.Decides.{nat_tests}
-use Rattle.cif_lex.specs.Words.{number, IsSpelled, capped}
-use Rattle.cif_lex.specs.Commands.{is_far}
+use Rattle.std.proofs.Common.{◌≡◌, ℕ, suc, ◌^◌, ◌≤◌, ℤ, pos, negsuc, neg_ℤ, nat_lt, true, false, List, get_or, refl}
+use Rattle.std.proofs.{Common.{sym, ap, arith, IsTrue, decimal}, lemmas.{Fmt.decimal_is_IsNumeral, Int.ints}}
+use Rattle.std.proofs.lemmas.{List.Elements.All-from_get_or, Str.Parse.digit_at, Bool.Decides.nat_tests}
+use Rattle.std.specs.{Fmt.signed_decimal, Int.IsInRange, List.All, Char.is_ascii_digit, Str.Parse.AllDigits}
+use Rattle.std.specs.Str.Parse.{digits_value}
+use Rattle.cif_lex.specs.{Words.{number, IsSpelled, capped}, Commands.is_far}
 use Rattle.written_masks.specs.TextMeanings.{IsNumber}
 
 digit : (c : ℕ) → IsInRange 48 57 c → is_ascii_digit c ≡ true

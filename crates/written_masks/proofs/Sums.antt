@@ -1,9 +1,7 @@
 -- Sums over joined lists, over images and over lists that are read by number.
 use Rattle.std.proofs.Common.{◌≡◌, ℕ, ◌+◌, ◌*◌, ◌≤◌, List, [], ◌∷◌, length, map, get_or, refl, sym, ap, ◌∙◌, arith}
+use Rattle.std.proofs.{lemmas.List.{Concat.length-flat_map, Sums.{sum_by-cons, sum_by-append}}, Math.Nat.add-mul}
 use Rattle.std.specs.List.{AllByRecursion, flat_map, range_with_len, sum_by}
-use Rattle.std.proofs.lemmas.List.Concat.{length-flat_map}
-use Rattle.std.proofs.lemmas.List.Sums.{sum_by-cons, sum_by-append}
-use Rattle.std.proofs.Math.Nat.{add-mul}
 use Rattle.grid_rules.proofs.PictureLists.{by_numbers}
 
 -- of the same terms

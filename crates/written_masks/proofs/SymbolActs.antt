@@ -1,24 +1,19 @@
 -- What the commands of the symbols add to what has been read.
-use Rattle.std.proofs.Common.{◌≡◌, ℕ, zero, suc, ◌+◌, ◌^◌, ◌<◌, ◌≤◌, ℤ, pos, ◌≤ℤ◌, int_lt, int_eq, Bool, true, false, ◌||◌, Option, None, Ok, List, [], ◌∷◌, ◌++◌, map, flat_map, length, get_or, refl, sym, ap, ◌∙◌, append_assoc, append-nil, arith, All}
+use Rattle.std.proofs.Common.{◌≡◌, ℕ, zero, suc, ◌+◌, ◌^◌, ◌<◌, ◌≤◌, ℤ, pos, ◌≤ℤ◌, int_lt, int_eq, Bool, true, false}
+use Rattle.std.proofs.Common.{◌||◌, Option, None, Ok, List, [], ◌∷◌, ◌++◌, map, flat_map, length, get_or, refl, sym, ap}
+use Rattle.std.proofs.{Common.{◌∙◌, append_assoc, append-nil, arith, All}, lemmas.{Int.ints, Bool.Decides.nat_tests}}
+use Rattle.std.proofs.lemmas.List.{Elements.{All-filter, filter_passes, recursion_from_All}, Folds.list_any-append}
 use Rattle.std.specs.List.{AllByRecursion, range_with_len}
-use Rattle.std.proofs.lemmas.Int.{ints}
-use Rattle.std.proofs.lemmas.Bool.Decides.{nat_tests}
-use Rattle.std.proofs.lemmas.List.Elements.{All-filter, filter_passes, recursion_from_All}
-use Rattle.std.proofs.lemmas.List.Folds.{list_any-append}
-use Rattle.lam_geom.specs.declared.boxes.MaskLayer.{MaskLayer}
-use Rattle.lam_geom.specs.declared.boxes.MaskLayer.TheVariants.{ND, NP, NC, NM, NI, NB}
-use Rattle.mask_out.specs.Masks.{Mask, is_same_layer, mask_layers}
-use Rattle.mask_out.specs.Pictures.{Drawing, no_drawing}
-use Rattle.cif_lex.specs.declared.command.Command.{Command}
-use Rattle.cif_lex.specs.declared.command.Command.TheVariants.{Define, Finish, Extension}
-use Rattle.cif_lex.specs.Commands.{is_far}
-use Rattle.cif_read.specs.Sheets.{Drawn, Symbol}
-use Rattle.cif_read.specs.Acts.{Named, has_number, is_known, is_bad_symbol, is_bad_factor, act}
+use Rattle.lam_geom.specs.declared.boxes.MaskLayer.{MaskLayer, TheVariants.{ND, NP, NC, NM, NI, NB}}
+use Rattle.mask_out.specs.{Masks.{Mask, is_same_layer, mask_layers}, Pictures.{Drawing, no_drawing}}
+use Rattle.cif_lex.specs.{declared.command.Command.{Command, TheVariants.{Define, Finish, Extension}}, Commands.is_far}
+use Rattle.cif_read.specs.{Sheets.{Drawn, Symbol}, Acts.{Named, has_number, is_known, is_bad_symbol, is_bad_factor}}
+use Rattle.cif_read.specs.Acts.{act}
 use Rattle.written_masks.specs.TextMeanings.{IsUnit, IsWritableMask, IsWritableDrawing, drawn_mask, symbol_at}
-use Rattle.written_masks.proofs.Numbers.{not_below}
-use Rattle.written_masks.proofs.Spelled.{not_far, small_number}
-use Rattle.written_masks.proofs.Commands.{on_layer, layers_commands, symbol_commands, commands_at}
-use Rattle.written_masks.proofs.DefinitionActs.{going, then_goes, goes_on, if_not, outside, inside, none_of_two, IsMaskOn, layers_add}
+use Rattle.written_masks.proofs.{Numbers.not_below, Spelled.{not_far, small_number}, Commands.on_layer}
+use Rattle.written_masks.proofs.{Commands.{layers_commands, symbol_commands, commands_at}, DefinitionActs.going}
+use Rattle.written_masks.proofs.DefinitionActs.{then_goes, goes_on, if_not, outside, inside, none_of_two, IsMaskOn}
+use Rattle.written_masks.proofs.DefinitionActs.{layers_add}
 
 -- ---- the masks of a layer
 

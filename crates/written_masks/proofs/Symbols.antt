@@ -1,46 +1,26 @@
 -- The symbols of masters in finished layouts can be written into a text.
-use Rattle.std.proofs.Common.{◌≡◌, ℕ, ◌<◌, ℤ, pos, ◌≤ℤ◌, ◌<ℤ◌, List, length, filter, refl, ap, ◌∙◌, subst, arith, inl, inr}
-use Rattle.std.specs.List.{AllByRecursion}
-use Rattle.std.proofs.lemmas.Bool.{cases_lt}
-use Rattle.std.proofs.lemmas.Int.{ints}
-use Rattle.std.proofs.lemmas.List.{get_or_past}
-use Rattle.std.proofs.lemmas.List.Elements.{All-filter, Contains-get_or, recursion_from_All}
+use Rattle.std.proofs.Common.{◌≡◌, ℕ, ◌<◌, ℤ, pos, ◌≤ℤ◌, ◌<ℤ◌, List, length, filter, refl, ap, ◌∙◌, subst, arith, inl}
+use Rattle.std.proofs.{Common.inr, lemmas.{Bool.cases_lt, Int.ints, List.{get_or_past, Elements.All-filter}}}
+use Rattle.std.{proofs.lemmas.List.Elements.{Contains-get_or, recursion_from_All}, specs.List.AllByRecursion}
 use Rattle.list_facts.proofs.Elements.{all_map, all_flat, all_of, by_number}
-use Rattle.lam_geom.specs.declared.boxes.Axis.{Axis}
-use Rattle.lam_geom.specs.declared.boxes.Axis.TheVariants.{X, Y}
-use Rattle.lam_geom.specs.declared.boxes.MaskLayer.{MaskLayer}
-use Rattle.rule_table.specs.declared.technology.Tech.{Tech}
-use Rattle.rule_table.specs.Technology.{numbers_of, widest_of}
+use Rattle.lam_geom.specs.declared.boxes.{Axis.{Axis, TheVariants.{X, Y}}, MaskLayer.MaskLayer}
+use Rattle.rule_table.specs.{declared.technology.Tech.Tech, Technology.{numbers_of, widest_of}}
 use Rattle.rule_table.proofs.Margins.{widest_positive}
-use Rattle.sym_items.specs.declared.items.Coords.{Coords}
-use Rattle.sym_items.specs.declared.items.Item.{Item}
-use Rattle.sym_items.specs.Layouts.{layout_at, no_layout, value_in, size_in}
-use Rattle.sym_items.specs.Sides.{sides_in}
-use Rattle.sym_items.specs.Transposed.{values_along}
-use Rattle.sym_items.specs.Values.{value_of}
+use Rattle.sym_items.specs.{declared.items.{Coords.Coords, Item.Item}, Layouts.{layout_at, no_layout, value_in}}
+use Rattle.sym_items.specs.{Layouts.size_in, Sides.sides_in, Transposed.values_along, Values.value_of}
 use Rattle.pair_rules.specs.Bound.{item_at, no_item}
-use Rattle.expand.specs.declared.master.Master.{Master}
-use Rattle.expand.specs.Masters.{IsMaster}
-use Rattle.expand.specs.Laws.{MeetsStructure}
-use Rattle.expand.proofs.Among.{sound_numbers}
-use Rattle.expand.proofs.Standing.{stands}
-use Rattle.plan_model.specs.declared.plan.Plan.{Plan}
-use Rattle.plan_model.specs.Instances.{Spot, IsSpot, whole_width, whole_height}
+use Rattle.expand.specs.{declared.master.Master.Master, Masters.IsMaster, Laws.MeetsStructure}
+use Rattle.expand.proofs.{Among.sound_numbers, Standing.stands}
+use Rattle.plan_model.specs.{declared.plan.Plan.Plan, Instances.{Spot, IsSpot, whole_width, whole_height}}
 use Rattle.plan_model.specs.Plan.{grids_of}
 use Rattle.pitch_join.specs.Masters.{master_at, no_master, ports_of_masters}
-use Rattle.grid_rules.specs.Planned.{AreOfPlan}
-use Rattle.grid_rules.specs.Rules.{AreFinished}
-use Rattle.grid_rules.proofs.Aligned.{all_aligned}
-use Rattle.grid_rules.proofs.InCell.{low_in, high_in, LiesBetween, items_between, cell_long}
-use Rattle.mask_out.specs.Masks.{Mask, is_drawn, masks_on, mask_layers, masks_in}
-use Rattle.mask_out.specs.Pictures.{drawing_in}
-use Rattle.written_masks.specs.TextMeanings.{IsUnit, IsWritableMask, IsWritableDrawing}
-use Rattle.written_masks.proofs.DrawnExtents.{unit_of_size, LiesInside, mask_inside}
-use Rattle.written_masks.proofs.LayersApart.{masks_by_layer}
-use Rattle.written_masks.proofs.PictureLines.{all_every}
-use Rattle.written_masks.specs.Written.{unit_of, FitIntoText}
-use Rattle.written_masks.proofs.Extents.{HasExtents, long_along, items_long}
-use Rattle.written_masks.proofs.Wholes.{StandsInside, stands_inside}
+use Rattle.grid_rules.specs.{Planned.AreOfPlan, Rules.AreFinished}
+use Rattle.grid_rules.proofs.{Aligned.all_aligned, InCell.{low_in, high_in, LiesBetween, items_between, cell_long}}
+use Rattle.mask_out.specs.{Masks.{Mask, is_drawn, masks_on, mask_layers, masks_in}, Pictures.drawing_in}
+use Rattle.written_masks.specs.{TextMeanings.{IsUnit, IsWritableMask, IsWritableDrawing}, Written.unit_of}
+use Rattle.written_masks.{specs.Written.FitIntoText, proofs.DrawnExtents.{unit_of_size, LiesInside, mask_inside}}
+use Rattle.written_masks.proofs.{LayersApart.masks_by_layer, PictureLines.all_every, Extents.{HasExtents, long_along}}
+use Rattle.written_masks.proofs.{Extents.items_long, Wholes.{StandsInside, stands_inside}}
 
 -- finished layouts that fit into a text
 pub record FitFinished (tech : Tech) (plan : Plan) (masters : List Master) (layouts : List Coords) : Type 0 where

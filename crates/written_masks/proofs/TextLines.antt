@@ -1,9 +1,7 @@
 -- Texts that are lines of commands, and the pieces of such a text: a line feed stands in front of the command behind it.
 use Rattle.std.proofs.Common.{◌≡◌, ℕ, List, [], ◌∷◌, ◌++◌, map, flat_map, refl, sym, ap, ◌∙◌, append_assoc, append-nil}
 use Rattle.std.specs.List.{AllByRecursion, AllZip}
-use Rattle.cif_lex.specs.declared.command.Command.{Command}
-use Rattle.cif_lex.specs.Blanks.{IsGap}
-use Rattle.cif_lex.specs.Commands.{IsPiece}
+use Rattle.cif_lex.specs.{declared.command.Command.Command, Blanks.IsGap, Commands.IsPiece}
 use Rattle.cif_read.specs.Readers.{joined}
 use Rattle.written_masks.proofs.CommandLines.{IsLineOf, one_blank}
 

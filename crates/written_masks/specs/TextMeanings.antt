@@ -1,14 +1,12 @@
 -- What the text of a picture means: its boxes, in grains, half hundredths of a micron.
-use Rattle.std.specs.Prelude.{◌≡◌, ℕ, ◌+◌, ◌^◌, ◌<◌, ℤ, pos, neg_ℤ, ◌+ℤ◌, ◌-ℤ◌, ◌*ℤ◌, ◌≤ℤ◌, ◌<ℤ◌, ◌≢◌, All, List, length, map, filter, flat_map, slice_index_or}
-use Rattle.std.specs.List.{range_with_len}
+use Rattle.std.specs.Prelude.{◌≡◌, ℕ, ◌+◌, ◌^◌, ◌<◌, ℤ, pos, neg_ℤ, ◌+ℤ◌, ◌-ℤ◌, ◌*ℤ◌, ◌≤ℤ◌, ◌<ℤ◌, ◌≢◌, All, List}
+use Rattle.std.specs.{Prelude.{length, map, filter, flat_map, slice_index_or}, List.range_with_len}
 use Rattle.mask_out.specs.declared.drawing.Call.{Call}
-use Rattle.mask_out.specs.Masks.{Mask, is_same_layer, mask_layers}
-use Rattle.mask_out.specs.Pictures.{Drawing, no_drawing, flat_of}
+use Rattle.mask_out.specs.{Masks.{Mask, is_same_layer, mask_layers}, Pictures.{Drawing, no_drawing, flat_of}}
 use Rattle.cif_text.specs.Calls.{cif_of}
 use Rattle.cif_foreign.specs.Sheets as foreign
 use Rattle.cif_foreign.specs.Meaning as foreign_meaning
-use Rattle.cif_read.specs.Meaning.{Means}
-use Rattle.cif_read.specs.Sheets.{Drawn, Symbol, Step, called, Sheet, flattened}
+use Rattle.cif_read.specs.{Meaning.Means, Sheets.{Drawn, Symbol, Step, called, Sheet, flattened}}
 
 -- ---- pictures whose numbers fit into a text
 

@@ -1,22 +1,16 @@
 -- What the text of the masks of finished layouts means: boxes that show all items, and whose extracted nets are the sticks'.
 use Rattle.std.specs.Prelude.{◌≡◌, ◌≢◌, ℕ, ◌^◌, ◌<◌, ℤ, pos, ◌*ℤ◌, ◌≤ℤ◌, All, List, length, map}
-use Rattle.lam_geom.specs.declared.boxes.Axis.TheVariants.{X, Y}
-use Rattle.lam_geom.specs.declared.boxes.MaskBox.{MaskBox}
-use Rattle.rule_table.specs.declared.technology.Tech.{Tech}
-use Rattle.rule_table.specs.Technology.{numbers_of, widest_of}
-use Rattle.sym_items.specs.declared.items.Coords.{Coords}
-use Rattle.sym_items.specs.Layouts.{size_in}
+use Rattle.lam_geom.specs.declared.boxes.{Axis.TheVariants.{X, Y}, MaskBox.MaskBox}
+use Rattle.rule_table.specs.{declared.technology.Tech.Tech, Technology.{numbers_of, widest_of}}
+use Rattle.sym_items.specs.{declared.items.Coords.Coords, Layouts.size_in}
 use Rattle.expand.specs.declared.master.Master.{Master}
 use Rattle.plan_model.specs.declared.plan.Plan.{Plan}
-use Rattle.plan_model.specs.Instances.{Spot, IsSpot, master_at_spot, whole_width, whole_height}
-use Rattle.plan_model.specs.Plan.{grids_of}
+use Rattle.plan_model.specs.{Instances.{Spot, IsSpot, master_at_spot, whole_width, whole_height}, Plan.grids_of}
 use Rattle.mask_out.specs.Pictures.{drawings_in, calls_of}
 use Rattle.cif_text.specs.Calls.{cif_of}
 use Rattle.cif_read.specs.Files.{drawn_of}
-use Rattle.cif_foreign.specs.Meaning.{Means}
-use Rattle.cif_foreign.specs.Sheets.{Sheet, flattened}
-use Rattle.grid_rules.specs.Shapes.{AreShapes}
-use Rattle.grid_rules.specs.Sticks.{NetsAreTheSticks}
+use Rattle.cif_foreign.specs.{Meaning.Means, Sheets.{Sheet, flattened}}
+use Rattle.grid_rules.specs.{Shapes.AreShapes, Sticks.NetsAreTheSticks}
 
 -- u in hundredths of a micron
 abbrev pub unit_of : Tech → ℤ

@@ -1,8 +1,7 @@
 //! How many boxes masks have.
 ghost use Rattle.std.specs.Prelude.{◌≡◌, List, length};
 ghost use Rattle.lam_geom.specs.declared.boxes.MaskBox.{MaskBox};
-ghost use Rattle.grid_rules.specs.Planned.{AreOfPlan};
-ghost use Rattle.grid_rules.specs.Shapes.{AreShapes};
+ghost use Rattle.grid_rules.specs.{Planned.AreOfPlan, Shapes.AreShapes};
 ghost use Rattle.written_masks.specs.Parts.{boxes_of_picture, boxes_of_instances};
 
 use expand::Master;

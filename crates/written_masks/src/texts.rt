@@ -1,9 +1,7 @@
 //! How long texts are.
 ghost use Rattle.std.specs.Prelude.{◌≤◌, ◌^◌, length};
-ghost use Rattle.grid_rules.specs.Planned.{AreOfPlan};
-ghost use Rattle.grid_rules.specs.Rules.{AreFinished};
-ghost use Rattle.written_masks.specs.Written.{FitIntoText, text_of_layouts};
-ghost use Rattle.written_masks.specs.Parts.{HasFewParts};
+ghost use Rattle.grid_rules.specs.{Planned.AreOfPlan, Rules.AreFinished};
+ghost use Rattle.written_masks.specs.{Written.{FitIntoText, text_of_layouts}, Parts.HasFewParts};
 
 use expand::Master;
 use plan_model::Plan;

@@ -1,6 +1,5 @@
 //! That the written text has the sticks' nets.
-ghost use Rattle.grid_rules.specs.Planned.{AreOfPlan};
-ghost use Rattle.grid_rules.specs.Rules.{AreFinished};
+ghost use Rattle.grid_rules.specs.{Planned.AreOfPlan, Rules.AreFinished};
 ghost use Rattle.written_masks.specs.Written.{FitIntoText, HasSticksNets, text_of_layouts};
 
 use crate::meanings::texts_mean_their_pictures_to_others;

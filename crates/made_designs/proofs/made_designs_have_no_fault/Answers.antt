@@ -1,5 +1,4 @@
-use Rattle.made_designs.proofs.Checked.{design_accepted}
-use Rattle.made_designs.proofs.Written.{is_writable, said}
+use Rattle.made_designs.proofs.{Checked.design_accepted, Written.{is_writable, said}}
 use Rattle.made_designs.proofs.made_designs_have_no_fault.Goals as goal
 
 pub returns : goal.returns

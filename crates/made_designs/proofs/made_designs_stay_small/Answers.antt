@@ -1,6 +1,5 @@
 use Rattle.std.proofs.Common.{◌^◌}
-use Rattle.made_designs.proofs.Short.{list_short}
-use Rattle.made_designs.proofs.Small.{masters_plain, few_variables}
+use Rattle.made_designs.proofs.{Short.list_short, Small.{masters_plain, few_variables}}
 use Rattle.made_designs.proofs.made_designs_stay_small.Goals as goal
 
 pub returns-clause-short : goal.returns-clause-short

@@ -1,5 +1,4 @@
-use Rattle.std.proofs.Common.{arith}
-use Rattle.std.proofs.lemmas.Int.{ints, clamps}
+use Rattle.std.proofs.{Common.arith, lemmas.Int.{ints, clamps}}
 use Rattle.box_tree.proofs.bounds.spanning.Goals as goal
 
 pub returns-clause-placed : goal.returns-clause-placed

@@ -1,5 +1,4 @@
-use Rattle.std.proofs.Common.{arith}
-use Rattle.std.proofs.lemmas.Int.{ints, clamps}
+use Rattle.std.proofs.{Common.arith, lemmas.Int.{ints, clamps}}
 use Rattle.box_tree.proofs.groves.is_off.Goals as goal
 
 pub returns-then-outer-span : goal.returns-then-outer-span

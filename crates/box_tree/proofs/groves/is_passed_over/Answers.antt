@@ -1,5 +1,4 @@
-use Rattle.std.proofs.Common.{arith}
-use Rattle.std.proofs.lemmas.Int.{ints}
+use Rattle.std.proofs.{Common.arith, lemmas.Int.ints}
 use Rattle.box_tree.proofs.Walk.{off_x, off_y, off_none, not_true}
 use Rattle.box_tree.proofs.groves.is_passed_over.Goals as goal
 

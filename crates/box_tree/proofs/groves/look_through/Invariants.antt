@@ -1,7 +1,5 @@
-use Rattle.std.proofs.Common.{◌≤◌}
-use Rattle.std.specs.Prelude.{IsTrue, max}
-use Rattle.box_tree.specs.Found.{AreGathered}
-use Rattle.box_tree.specs.Groves.{IsUnvisitedWithin, IsRunVisited}
+use Rattle.std.{proofs.Common.◌≤◌, specs.Prelude.{IsTrue, max}}
+use Rattle.box_tree.specs.{Found.AreGathered, Groves.{IsUnvisitedWithin, IsRunVisited}}
 use Rattle.box_tree.proofs.groves.look_through.Given as goal
 
 abbrev pub invariant-loop-place : goal.invariant-loop-place

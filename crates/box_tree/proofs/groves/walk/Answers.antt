@@ -1,9 +1,8 @@
 use Rattle.std.proofs.Common.{arith, [], ◌≡◌, ℕ, ◌+◌, ◌<◌, ◌≤◌, Bool, true, List, sym, ◌∙◌, subst}
-use Rattle.box_tree.specs.Queries.{Holds}
-use Rattle.box_tree.specs.Groves.{IsLeft, IsRunSpent, spot_in}
-use Rattle.box_tree.proofs.Walk.{flag_read, spent_barren, walked_past, walked_leaf, walked_into, walked_all, spent_set, run_spent_visited}
+use Rattle.box_tree.specs.{Queries.Holds, Groves.{IsLeft, IsRunSpent, spot_in}}
+use Rattle.box_tree.proofs.Walk.{flag_read, spent_barren, walked_past, walked_leaf, walked_into, walked_all, spent_set}
+use Rattle.box_tree.proofs.{Walk.run_spent_visited, groves.walk.Goals.{then-index, else-index}}
 use Rattle.box_tree.proofs.groves.walk.Goals as goal
-use Rattle.box_tree.proofs.groves.walk.Goals.{then-index, else-index}
 
 pub loop-at-preserved-then-is_passed_over : goal.loop-at-preserved-then-is_passed_over
 loop-at-preserved-then-is_passed_over c =

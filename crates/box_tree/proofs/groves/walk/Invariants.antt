@@ -1,6 +1,5 @@
 use Rattle.std.proofs.Common.{[], ◌-◌, length}
-use Rattle.box_tree.specs.Groves.{AreSpent}
-use Rattle.box_tree.proofs.Walk.{IsWalked}
+use Rattle.box_tree.{specs.Groves.AreSpent, proofs.Walk.IsWalked}
 use Rattle.box_tree.proofs.groves.walk.Given as goal
 
 abbrev pub invariant-loop-at : goal.invariant-loop-at

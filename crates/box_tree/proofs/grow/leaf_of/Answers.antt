@@ -1,8 +1,5 @@
-use Rattle.std.proofs.Common.{◌≡◌, ℕ, inl, inr, ◌∙◌, subst, arith}
-use Rattle.std.proofs.lemmas.Bool.{cases_lt}
-use Rattle.box_tree.specs.declared.spots.Spot.{Spot}
-use Rattle.box_tree.specs.Tree.{IsBounded, spot_at}
-use Rattle.box_tree.proofs.Trees.{spot_read}
+use Rattle.std.proofs.{Common.{◌≡◌, ℕ, inl, inr, ◌∙◌, subst, arith}, lemmas.Bool.cases_lt}
+use Rattle.box_tree.{specs.{declared.spots.Spot.Spot, Tree.{IsBounded, spot_at}}, proofs.Trees.spot_read}
 use Rattle.box_tree.proofs.grow.leaf_of.Goals as goal
 
 pub loop-place-init : goal.loop-place-init

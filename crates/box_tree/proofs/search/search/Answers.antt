@@ -1,5 +1,4 @@
-use Rattle.std.proofs.Common.{◌≡◌, ℕ, ◌+◌, ◌<◌, Option, length, drop, subst, arith}
-use Rattle.std.specs.Prelude.{MatchOption}
+use Rattle.std.{proofs.Common.{◌≡◌, ℕ, ◌+◌, ◌<◌, Option, length, drop, subst, arith}, specs.Prelude.MatchOption}
 use Rattle.box_tree.specs.Queries.{Holds, HoldsAt}
 use Rattle.box_tree.proofs.Trees.{IsBarren, IsPassed, group_here, barren_bounds, passed_group, passed_into, passed_all}
 use Rattle.box_tree.proofs.search.search.Goals as goal

@@ -1,6 +1,5 @@
 use Rattle.std.proofs.Common.{◌-◌, length}
-use Rattle.box_tree.specs.Queries.{Holds}
-use Rattle.box_tree.proofs.Trees.{IsPassed}
+use Rattle.box_tree.{specs.Queries.Holds, proofs.Trees.IsPassed}
 use Rattle.box_tree.proofs.search.search.Given as goal
 
 abbrev pub invariant-loop-at : goal.invariant-loop-at

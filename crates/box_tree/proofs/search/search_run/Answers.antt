@@ -1,9 +1,6 @@
 use Rattle.std.proofs.Common.{◌≡◌, ℕ, Some, inl, inr, true, false, get_or, sym, ap, ◌∙◌, subst, arith}
-use Rattle.std.proofs.lemmas.Bool.{cases_lt}
-use Rattle.std.proofs.lemmas.Option.{slice_get-get_or}
-use Rattle.box_tree.specs.Queries.{Holds}
-use Rattle.box_tree.specs.Tree.{spot_at}
-use Rattle.box_tree.proofs.Trees.{spot_read}
+use Rattle.std.proofs.lemmas.{Bool.cases_lt, Option.slice_get-get_or}
+use Rattle.box_tree.{specs.{Queries.Holds, Tree.spot_at}, proofs.Trees.spot_read}
 use Rattle.box_tree.proofs.search.search_run.Goals as goal
 
 pub returns-then-holds : goal.returns-then-holds

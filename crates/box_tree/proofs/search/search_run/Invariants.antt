@@ -1,6 +1,5 @@
 use Rattle.std.proofs.Common.{ℕ, ◌<◌, ◌≤◌}
-use Rattle.box_tree.specs.Queries.{Holds}
-use Rattle.box_tree.specs.Tree.{spot_at}
+use Rattle.box_tree.specs.{Queries.Holds, Tree.spot_at}
 use Rattle.box_tree.proofs.search.search_run.Given as goal
 
 abbrev pub invariant-loop-place : goal.invariant-loop-place

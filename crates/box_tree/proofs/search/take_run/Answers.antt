@@ -1,12 +1,8 @@
 use Rattle.std.proofs.Common.{◌≡◌, ℕ, ◌+◌, ◌<◌, List, length, Vec, Global, get_or, refl, sym, ap, ◌∙◌, subst, arith}
 use Rattle.std.proofs.lemmas.Bool.{iff_false}
-use Rattle.box_tree.specs.Found.{IsTaken}
-use Rattle.box_tree.specs.Queries.{Holds}
-use Rattle.box_tree.specs.Tree.{spot_at}
-use Rattle.box_tree.proofs.Taken.{taken_past, taken_push}
-use Rattle.box_tree.proofs.Trees.{spot_read}
+use Rattle.box_tree.{specs.{Found.IsTaken, Queries.Holds, Tree.spot_at}, proofs.Taken.{taken_past, taken_push}}
+use Rattle.box_tree.proofs.{Trees.spot_read, search.take_run.Goals.{then-holds+in_ok-push, else-holds}}
 use Rattle.box_tree.proofs.search.take_run.Goals as goal
-use Rattle.box_tree.proofs.search.take_run.Goals.{then-holds+in_ok-push, else-holds}
 
 pub loop-place-preserved : goal.loop-place-preserved
 loop-place-preserved c =

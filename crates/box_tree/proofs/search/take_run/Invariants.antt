@@ -1,5 +1,4 @@
-use Rattle.box_tree.specs.Found.{IsTaken}
-use Rattle.box_tree.specs.Queries.{Holds}
+use Rattle.box_tree.specs.{Found.IsTaken, Queries.Holds}
 use Rattle.box_tree.proofs.search.take_run.Given as goal
 
 abbrev pub invariant-loop-place : goal.invariant-loop-place

@@ -1,7 +1,5 @@
-use Rattle.std.proofs.Common.{ℕ, Option, sym, subst}
-use Rattle.std.specs.Prelude.{option_to_list}
-use Rattle.cell_nets.specs.Attaching.{AreAttached}
-use Rattle.cell_nets.proofs.Attachments.{attached_one}
+use Rattle.std.{proofs.Common.{ℕ, Option, sym, subst}, specs.Prelude.option_to_list}
+use Rattle.cell_nets.{specs.Attaching.AreAttached, proofs.Attachments.attached_one}
 use Rattle.cell_nets.proofs.attaching.attach.Goals as goal
 
 pub returns-clause-attached : goal.returns-clause-attached

@@ -1,10 +1,7 @@
-use Rattle.std.proofs.Common.{◌≡◌, List, length, ap, arith, pos}
-use Rattle.std.specs.Prelude.{option_to_list}
-use Rattle.cell_model.specs.declared.cell.Wire.{Wire}
+use Rattle.std.{proofs.Common.{◌≡◌, List, length, ap, arith, pos}, specs.Prelude.option_to_list}
+use Rattle.cell_model.specs.{declared.cell.{Wire.Wire, Axis2.TheVariants.Across}, Nets.parts_of}
 use Rattle.rule_table.specs.declared.classes.Layer.TheVariants.{Diffusion}
-use Rattle.cell_model.specs.declared.cell.Axis2.TheVariants.{Across}
 use Rattle.cell_model.specs.declared.cell.WireEnd.TheVariants as ends
-use Rattle.cell_model.specs.Nets.{parts_of}
 use Rattle.cell_nets.proofs.Attachments.{node_parts_few, first_parts_end, neighbours_read}
 use Rattle.cell_nets.proofs.attaching.neighbours.Goals as goal
 

@@ -1,10 +1,7 @@
-use Rattle.std.proofs.Common.{◌≡◌, ℕ, ◌-◌, List, length, drop, sym, ◌∙◌, ap, subst, arith}
+use Rattle.std.proofs.{Common.{◌≡◌, ℕ, ◌-◌, List, length, drop, sym, ◌∙◌, ap, subst, arith}, lemmas.List.take_rest}
 use Rattle.smallvec.specs.SmallVec.{SmallVec}
-use Rattle.std.proofs.lemmas.List.{take_rest}
-use Rattle.cell_model.specs.declared.cell.Wire.{Wire}
-use Rattle.cell_model.specs.Nets.{node_parts, parts_of, attachments_of, nets_of_nodes}
-use Rattle.graph_search.specs.Netting.{IsNetting}
-use Rattle.graph_search.specs.Search.{AreMutual, AreNeighbours}
+use Rattle.cell_model.specs.{declared.cell.Wire.Wire, Nets.{node_parts, parts_of, attachments_of, nets_of_nodes}}
+use Rattle.graph_search.specs.{Netting.IsNetting, Search.{AreMutual, AreNeighbours}}
 use Rattle.graph_search.proofs.Neighbours.{mutual_neighbours}
 use Rattle.cell_nets.proofs.Attachments.{node_parts_few}
 use Rattle.cell_nets.proofs.netting.nets.Goals as goal

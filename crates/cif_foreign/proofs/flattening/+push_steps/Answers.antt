@@ -1,19 +1,14 @@
-use Rattle.std.proofs.Common.{◌≡◌, ◌+◌, ◌*◌, ◌-◌, ◌<◌, ◌≤◌, ◌^◌, All, List, [], ◌++◌, map, length, get_or, take, refl, sym, ap, ◌∙◌, subst, arith}
-use Rattle.cif_lex.specs.Transformations.{shift_of, IsNear}
-use Rattle.cif_lex.proofs.Turning.{nearer}
-use Rattle.cif_read.specs.Sheets.{Drawn}
-use Rattle.cif_read.specs.Files.{drawn_of, IsSolidWithin}
-use Rattle.cif_read.proofs.Solid.{solid_pushed}
-use Rattle.cif_foreign.specs.declared.file.ForeignStep.{ForeignStep}
-use Rattle.cif_foreign.specs.declared.file.ForeignStep.TheVariants.{Own, Called}
-use Rattle.cif_foreign.specs.Sheets.{placed_box, boxes_of_steps, boxes_of_symbols, depths_of}
-use Rattle.cif_foreign.specs.Files.{symbol_of, step_of, IsStepOf}
-use Rattle.cif_foreign.specs.Readings.{called_depth}
-use Rattle.cif_foreign.proofs.Symbols.{boxes_at}
-use Rattle.cif_foreign.proofs.Flat.{Adds, adds_all, adds_more, adds_own, adds_called}
-use Rattle.cif_foreign.proofs.Walking.{valid_as, is_called, steps_found, call_near, call_places}
+use Rattle.std.proofs.Common.{◌≡◌, ◌+◌, ◌*◌, ◌-◌, ◌<◌, ◌≤◌, ◌^◌, All, List, [], ◌++◌, map, length, get_or, take, refl}
+use Rattle.std.proofs.Common.{sym, ap, ◌∙◌, subst, arith}
+use Rattle.cif_lex.{specs.Transformations.{shift_of, IsNear}, proofs.Turning.nearer}
+use Rattle.cif_read.{specs.{Sheets.Drawn, Files.{drawn_of, IsSolidWithin}}, proofs.Solid.solid_pushed}
+use Rattle.cif_foreign.specs.{declared.file.ForeignStep.{ForeignStep, TheVariants.{Own, Called}}, Sheets.placed_box}
+use Rattle.cif_foreign.specs.{Sheets.{boxes_of_steps, boxes_of_symbols, depths_of}, Files.{symbol_of, step_of}}
+use Rattle.cif_foreign.{specs.{Files.IsStepOf, Readings.called_depth}, proofs.{Symbols.boxes_at, Flat.{Adds, adds_all}}}
+use Rattle.cif_foreign.proofs.{Flat.{adds_more, adds_own, adds_called}, Walking.{valid_as, is_called, steps_found}}
+use Rattle.cif_foreign.proofs.{Walking.{call_near, call_places}, flattening.+push_steps.Goals.in-Own+in_ok-push-in-Own}
+use Rattle.cif_foreign.proofs.flattening.+push_steps.Goals.{in-Called+in_ok-push_steps-in-Called}
 use Rattle.cif_foreign.proofs.flattening.+push_steps.Goals as goal
-use Rattle.cif_foreign.proofs.flattening.+push_steps.Goals.{in-Own+in_ok-push-in-Own, in-Called+in_ok-push_steps-in-Called}
 
 pub placed-requires-clause-near : goal.placed-requires-clause-near
 placed-requires-clause-near t c = nearer (2 ^ 47 * (64 - c.args.depth)) (2 ^ 54) (shift_of c.args.place) (omega arith) c.requires.near

@@ -1,8 +1,6 @@
 use Rattle.std.proofs.Common.{◌^◌, All, map, take}
 use Rattle.cif_read.specs.Files.{drawn_of, IsSolidWithin}
-use Rattle.cif_foreign.specs.Sheets.{boxes_of_symbols}
-use Rattle.cif_foreign.specs.Files.{symbol_of}
-use Rattle.cif_foreign.proofs.Flat.{Adds}
+use Rattle.cif_foreign.{specs.{Sheets.boxes_of_symbols, Files.symbol_of}, proofs.Flat.Adds}
 use Rattle.cif_foreign.proofs.flattening.+push_steps.Given as goal
 
 abbrev pub invariant-loop-i : goal.invariant-loop-i

@@ -1,7 +1,6 @@
 use Rattle.std.proofs.Common.{◌<◌, length, ap, sym, ◌∙◌, arith}
 use Rattle.cif_read.proofs.Flat.{flat_all}
-use Rattle.cif_foreign.specs.Counts.{counted}
-use Rattle.cif_foreign.proofs.Flat.{drawn_by, steps_counted, steps_flat}
+use Rattle.cif_foreign.{specs.Counts.counted, proofs.Flat.{drawn_by, steps_counted, steps_flat}}
 use Rattle.cif_foreign.proofs.flattening.count_steps.Goals as goal
 
 pub loop-i-preserved : goal.loop-i-preserved

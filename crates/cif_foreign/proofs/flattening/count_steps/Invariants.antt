@@ -1,9 +1,6 @@
-use Rattle.std.proofs.Common.{◌≡◌, ◌+◌, ◌≤◌, List, take}
-use Rattle.std.specs.List.{flat_map}
-use Rattle.cif_read.specs.Sheets.{Drawn}
-use Rattle.cif_read.specs.Files.{most_boxes}
-use Rattle.cif_foreign.specs.Counts.{counted, AreCounts}
-use Rattle.cif_foreign.proofs.Flat.{drawn_by}
+use Rattle.std.{proofs.Common.{◌≡◌, ◌+◌, ◌≤◌, List, take}, specs.List.flat_map}
+use Rattle.cif_read.specs.{Sheets.Drawn, Files.most_boxes}
+use Rattle.cif_foreign.{specs.Counts.{counted, AreCounts}, proofs.Flat.drawn_by}
 use Rattle.cif_foreign.proofs.flattening.count_steps.Given as goal
 
 abbrev pub invariant-loop-i : goal.invariant-loop-i

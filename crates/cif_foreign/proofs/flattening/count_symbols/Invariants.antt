@@ -1,8 +1,6 @@
 use Rattle.std.proofs.Common.{◌≡◌, ◌+◌, ◌≤◌, All, map, length, take}
 use Rattle.cif_read.specs.Files.{most_boxes}
-use Rattle.cif_foreign.specs.Sheets.{boxes_of_symbols}
-use Rattle.cif_foreign.specs.Files.{symbol_of}
-use Rattle.cif_foreign.specs.Counts.{AreCounts}
+use Rattle.cif_foreign.specs.{Sheets.boxes_of_symbols, Files.symbol_of, Counts.AreCounts}
 use Rattle.cif_foreign.proofs.flattening.count_symbols.Given as goal
 
 abbrev pub invariant-loop-symbol : goal.invariant-loop-symbol

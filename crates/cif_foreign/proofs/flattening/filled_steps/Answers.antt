@@ -1,9 +1,7 @@
 use Rattle.std.proofs.Common.{◌<◌, length, sym, ◌∙◌, arith}
-use Rattle.cif_foreign.specs.Counts.{has_boxes}
-use Rattle.cif_foreign.proofs.Walking.{valid_step}
-use Rattle.cif_foreign.proofs.Filling.{one_kept, one_left_out}
-use Rattle.cif_foreign.proofs.flattening.filled_steps.Goals as goal
+use Rattle.cif_foreign.{specs.Counts.has_boxes, proofs.{Walking.valid_step, Filling.{one_kept, one_left_out}}}
 use Rattle.cif_foreign.proofs.flattening.filled_steps.Goals.{then-has_boxes+in_ok-push, else-has_boxes}
+use Rattle.cif_foreign.proofs.flattening.filled_steps.Goals as goal
 
 pub has_boxes-requires : goal.has_boxes-requires
 has_boxes-requires c =

@@ -1,18 +1,11 @@
 use Rattle.std.proofs.Common.{◌≡◌, ◌^◌, ℕ, List, [], ◌++◌, map, length, refl, sym, ap, ◌∙◌, subst, arith}
-use Rattle.std.specs.List.{AllByRecursion}
-use Rattle.std.proofs.lemmas.List.{length-map}
-use Rattle.std.proofs.lemmas.List.Elements.{recursion_from_All}
+use Rattle.std.{proofs.lemmas.List.{length-map, Elements.recursion_from_All}, specs.List.AllByRecursion}
 use Rattle.lam_geom.specs.declared.boxes.MaskBox.{MaskBox}
 use Rattle.cif_lex.specs.declared.placement.Placement.{Placement}
-use Rattle.cif_read.specs.Sheets.{Drawn}
-use Rattle.cif_read.specs.Files.{drawn_of}
-use Rattle.cif_read.proofs.Solid.{none_solid, all_placed, all_solid}
-use Rattle.cif_foreign.specs.declared.file.ForeignFile.{ForeignFile}
-use Rattle.cif_foreign.specs.Sheets.{placed_box, boxes_of_symbols, depths_of, flattened}
-use Rattle.cif_foreign.specs.Files.{symbol_of, sheet_of, IsStepOf, CanBeFlattened}
-use Rattle.cif_foreign.specs.Counts.{filled_file}
-use Rattle.cif_foreign.proofs.Symbols.{length_depths}
-use Rattle.cif_foreign.proofs.Filling.{filled_flat, filled_boxes}
+use Rattle.cif_read.{specs.{Sheets.Drawn, Files.drawn_of}, proofs.Solid.{none_solid, all_placed, all_solid}}
+use Rattle.cif_foreign.specs.{declared.file.ForeignFile.ForeignFile, Sheets.{placed_box, boxes_of_symbols, depths_of}}
+use Rattle.cif_foreign.specs.{Sheets.flattened, Files.{symbol_of, sheet_of, IsStepOf, CanBeFlattened}}
+use Rattle.cif_foreign.{specs.Counts.filled_file, proofs.{Symbols.length_depths, Filling.{filled_flat, filled_boxes}}}
 use Rattle.cif_foreign.proofs.Flat.{IsSorted, still, called_within, boxes_stay, steps_sorted}
 use Rattle.cif_foreign.proofs.flattening.flatten_counted.Goals as goal
 

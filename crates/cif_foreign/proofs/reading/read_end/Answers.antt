@@ -1,9 +1,7 @@
 use Rattle.std.proofs.Common.{◌+◌, ◌≤◌, true, false, length, sym, subst, arith}
 use Rattle.cif_read.specs.Readers.{end_inside, filled, unclosed}
-use Rattle.cif_foreign.specs.Meaning.{reader}
-use Rattle.cif_foreign.specs.Files.{IsCauseOf}
-use Rattle.cif_foreign.specs.Readings.{state_of, definition_of}
 use Rattle.cif_read.proofs.Beginnings.{begin_within, begun_from, means_whole}
+use Rattle.cif_foreign.specs.{Meaning.reader, Files.IsCauseOf, Readings.{state_of, definition_of}}
 use Rattle.cif_foreign.proofs.reading.read_end.Goals as goal
 
 pub returns-then-is_some-clause-fault : goal.returns-then-is_some-clause-fault

@@ -1,16 +1,10 @@
 use Rattle.std.proofs.Common.{◌≡◌, ℕ, ◌+◌, ◌*◌, ◌^◌, ℤ, Bool, false, ◌||◌, List, drop, sym, ap, ◌∙◌, subst, arith}
 use Rattle.std.proofs.lemmas.List.{take_rest}
-use Rattle.cif_lex.specs.declared.placement.Placement.{Placement}
-use Rattle.cif_lex.specs.declared.command.Command.TheVariants.{Call}
-use Rattle.cif_lex.specs.Transformations.{Point, words_of, applied, placed, shift_of}
-use Rattle.cif_lex.specs.Commands.{is_bad}
-use Rattle.cif_lex.specs.Words.{number}
-use Rattle.cif_lex.specs.Reading.{IsRead, AreRead, IsNumberRead, IsTransformationRead}
-use Rattle.cif_lex.specs.Forms.{IsForm, IsFormAnswer}
-use Rattle.cif_lex.proofs.Stops.{led_letter}
-use Rattle.cif_lex.proofs.ReadNumbers.{small_back}
-use Rattle.cif_lex.proofs.Turning.{nearer}
-use Rattle.cif_lex.proofs.CallForm.{SoFar, no_called, so_far_none, so_far_more, call_form}
+use Rattle.cif_lex.specs.declared.{placement.Placement.Placement, command.Command.TheVariants.Call}
+use Rattle.cif_lex.specs.{Transformations.{Point, words_of, applied, placed, shift_of}, Commands.is_bad, Words.number}
+use Rattle.cif_lex.specs.{Reading.{IsRead, AreRead, IsNumberRead, IsTransformationRead}, Forms.{IsForm, IsFormAnswer}}
+use Rattle.cif_lex.proofs.{Stops.led_letter, ReadNumbers.small_back, Turning.nearer, CallForm.{SoFar, no_called}}
+use Rattle.cif_lex.proofs.CallForm.{so_far_none, so_far_more, call_form}
 use Rattle.cif_lex.proofs.calls.call.Goals as goal
 
 pub returns-in_err-symbol : goal.returns-in_err-symbol

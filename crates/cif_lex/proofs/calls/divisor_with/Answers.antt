@@ -1,5 +1,4 @@
-use Rattle.std.proofs.Common.{unsigned_abs, FitsSigned, w64, ap, ◌∙◌, rules}
-use Rattle.std.proofs.lemmas.Int.{to_z-of_z}
+use Rattle.std.proofs.{Common.{unsigned_abs, FitsSigned, w64, ap, ◌∙◌, rules}, lemmas.Int.to_z-of_z}
 use Rattle.cif_lex.proofs.Divisors.{shift_counted}
 use Rattle.cif_lex.proofs.calls.divisor_with.Goals as goal
 

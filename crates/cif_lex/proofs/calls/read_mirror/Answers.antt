@@ -1,8 +1,6 @@
-use Rattle.std.proofs.Common.{drop, sym, subst}
-use Rattle.std.proofs.lemmas.List.{take_rest}
-use Rattle.cif_lex.specs.Forms.{IsLedBy}
-use Rattle.cif_lex.proofs.Stops.{led_letter, letter_there, within_rest}
-use Rattle.cif_lex.proofs.CallForm.{no_mirror, mirror_x_read, mirror_y_read}
+use Rattle.std.proofs.{Common.{drop, sym, subst}, lemmas.List.take_rest}
+use Rattle.cif_lex.{specs.Forms.IsLedBy, proofs.{Stops.{led_letter, letter_there, within_rest}, CallForm.no_mirror}}
+use Rattle.cif_lex.proofs.CallForm.{mirror_x_read, mirror_y_read}
 use Rattle.cif_lex.proofs.calls.read_mirror.Goals as goal
 
 pub returns-then-begins_with : goal.returns-then-begins_with

@@ -1,14 +1,9 @@
 use mir.Syntax.{w64}
 use mir.Val.{to_z, of_z}
-use Rattle.std.proofs.Common.{◌≡◌, ℕ, ◌+◌, List, [], ◌∷◌, drop, sym, subst}
-use Rattle.std.proofs.lemmas.List.{take_rest}
-use Rattle.cif_lex.specs.declared.placement.Transformation.{Transformation}
-use Rattle.cif_lex.specs.declared.placement.Transformation.TheVariants.{Shift}
-use Rattle.cif_lex.specs.Words.{number}
+use Rattle.std.proofs.{Common.{◌≡◌, ℕ, ◌+◌, List, [], ◌∷◌, drop, sym, subst}, lemmas.List.take_rest}
+use Rattle.cif_lex.specs.{declared.placement.Transformation.{Transformation, TheVariants.Shift}, Words.number}
 use Rattle.cif_lex.specs.Reading.{AreRead, IsPairRead, IsTransformationRead, IsTransformationAnswer}
-use Rattle.cif_lex.proofs.ReadNumbers.{small_back}
-use Rattle.cif_lex.proofs.Stops.{led_letter}
-use Rattle.cif_lex.proofs.CallForm.{no_shift, shift_read}
+use Rattle.cif_lex.proofs.{ReadNumbers.small_back, Stops.led_letter, CallForm.{no_shift, shift_read}}
 use Rattle.cif_lex.proofs.calls.read_shift.Goals as goal
 
 pub returns-in_err-shift : goal.returns-in_err-shift

@@ -1,15 +1,9 @@
 use mir.Syntax.{w64}
 use mir.Val.{to_z, of_z}
-use Rattle.std.proofs.Common.{◌≡◌, ℕ, ◌+◌, List, [], ◌∷◌, drop, sym, subst}
-use Rattle.std.proofs.lemmas.List.{take_rest, drop-drop}
-use Rattle.cif_lex.specs.declared.command.Command.{Command}
-use Rattle.cif_lex.specs.declared.command.Command.TheVariants.{Area}
-use Rattle.cif_lex.specs.Words.{number}
-use Rattle.cif_lex.specs.Reading.{AreRead, IsPairRead}
-use Rattle.cif_lex.specs.Forms.{IsForm, IsFormAnswer}
-use Rattle.cif_lex.proofs.ReadNumbers.{small_back}
-use Rattle.cif_lex.proofs.AreaForm.{no_size, no_centre, area_form}
-use Rattle.cif_lex.proofs.Stops.{led_letter}
+use Rattle.std.proofs.{Common.{◌≡◌, ℕ, ◌+◌, List, [], ◌∷◌, drop, sym, subst}, lemmas.List.{take_rest, drop-drop}}
+use Rattle.cif_lex.specs.declared.command.Command.{Command, TheVariants.Area}
+use Rattle.cif_lex.specs.{Words.number, Reading.{AreRead, IsPairRead}, Forms.{IsForm, IsFormAnswer}}
+use Rattle.cif_lex.proofs.{ReadNumbers.small_back, AreaForm.{no_size, no_centre, area_form}, Stops.led_letter}
 use Rattle.cif_lex.proofs.forms.area.Goals as goal
 
 pub returns-in_err-size : goal.returns-in_err-size

@@ -1,8 +1,6 @@
-use Rattle.std.proofs.Common.{◌+◌, drop, sym, subst}
-use Rattle.std.proofs.lemmas.List.{take_rest}
+use Rattle.std.proofs.{Common.{◌+◌, drop, sym, subst}, lemmas.List.take_rest}
 use Rattle.cif_lex.specs.Forms.{IsLedBy}
-use Rattle.cif_lex.proofs.Stops.{led_letter, letter_there, within_rest}
-use Rattle.cif_lex.proofs.BracketForm.{finish_form, no_bracket}
+use Rattle.cif_lex.proofs.{Stops.{led_letter, letter_there, within_rest}, BracketForm.{finish_form, no_bracket}}
 use Rattle.cif_lex.proofs.forms.bracket.Goals as goal
 
 pub returns-then-begins_with-2 : goal.returns-then-begins_with-2

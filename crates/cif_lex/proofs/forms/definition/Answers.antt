@@ -1,14 +1,9 @@
 use mir.Syntax.{w64}
 use mir.Val.{to_z, of_z}
-use Rattle.std.proofs.Common.{◌≡◌, ℕ, ◌+◌, ℤ, pos, List, [], ◌∷◌, drop, sym, subst}
-use Rattle.std.proofs.lemmas.List.{take_rest}
-use Rattle.cif_lex.specs.declared.command.Command.{Command}
-use Rattle.cif_lex.specs.declared.command.Command.TheVariants.{Define}
-use Rattle.cif_lex.specs.Words.{number}
-use Rattle.cif_lex.specs.Reading.{IsRead, AreRead, IsNumberRead, IsPairRead}
-use Rattle.cif_lex.specs.Forms.{IsForm, IsFormAnswer}
-use Rattle.cif_lex.proofs.ReadNumbers.{small_back}
-use Rattle.cif_lex.proofs.BracketForm.{no_symbol, definition_scaled, definition_alone}
+use Rattle.std.proofs.{Common.{◌≡◌, ℕ, ◌+◌, ℤ, pos, List, [], ◌∷◌, drop, sym, subst}, lemmas.List.take_rest}
+use Rattle.cif_lex.specs.{declared.command.Command.{Command, TheVariants.Define}, Words.number, Reading.IsRead}
+use Rattle.cif_lex.specs.{Reading.{AreRead, IsNumberRead, IsPairRead}, Forms.{IsForm, IsFormAnswer}}
+use Rattle.cif_lex.proofs.{ReadNumbers.small_back, BracketForm.{no_symbol, definition_scaled, definition_alone}}
 use Rattle.cif_lex.proofs.Stops.{letter_there, within_rest}
 use Rattle.cif_lex.proofs.forms.definition.Goals as goal
 

@@ -1,15 +1,10 @@
-use Rattle.std.proofs.Common.{◌≡◌, ℕ, true, ◌+◌, ◌-◌, ◌≤◌, inl, inr, List, length, take, drop, sym, ap, ◌∙◌, subst, arith}
-use Rattle.std.specs.List.{All}
-use Rattle.std.proofs.lemmas.List.{take_rest, drop-drop}
-use Rattle.cif_lex.specs.declared.command.Command.TheVariants.{Layer}
-use Rattle.cif_lex.specs.Words.{is_name_byte, StopsAt}
-use Rattle.cif_lex.specs.Commands.{layer_named}
-use Rattle.cif_lex.specs.Reading.{IsBehindGap}
-use Rattle.cif_lex.specs.Forms.{IsForm}
-use Rattle.cif_lex.proofs.Stops.{led_letter}
-use Rattle.cif_lex.proofs.LayerForm.{no_name, layer_form}
+use Rattle.std.proofs.Common.{◌≡◌, ℕ, true, ◌+◌, ◌-◌, ◌≤◌, inl, inr, List, length, take, drop, sym, ap, ◌∙◌, subst}
+use Rattle.std.{proofs.{Common.arith, lemmas.List.{take_rest, drop-drop}}, specs.List.All}
+use Rattle.cif_lex.specs.{declared.command.Command.TheVariants.Layer, Words.{is_name_byte, StopsAt}}
+use Rattle.cif_lex.{specs.{Commands.layer_named, Reading.IsBehindGap, Forms.IsForm}, proofs.Stops.led_letter}
+use Rattle.cif_lex.proofs.{LayerForm.{no_name, layer_form}, forms.layer.Goals.then-length-eq0-via-then-length-eq0}
+use Rattle.cif_lex.proofs.forms.layer.Goals.{then-length-eq0-via-else-length-eq0+then-length-gt-LONGEST_NAME}
 use Rattle.cif_lex.proofs.forms.layer.Goals as goal
-use Rattle.cif_lex.proofs.forms.layer.Goals.{then-length-eq0-via-then-length-eq0, then-length-eq0-via-else-length-eq0+then-length-gt-LONGEST_NAME}
 
 -- what is known of the name
 abbrev Name : List ℕ → ℕ → ℕ → Type 0

@@ -1,5 +1,4 @@
-use Rattle.std.proofs.Common.{◌≡◌, ℕ, true, ◌∙◌, sym, arith}
-use Rattle.std.proofs.lemmas.List.Elements.{All-more}
+use Rattle.std.proofs.{Common.{◌≡◌, ℕ, true, ◌∙◌, sym, arith}, lemmas.List.Elements.All-more}
 use Rattle.cif_lex.specs.Words.{is_name_byte}
 use Rattle.cif_lex.proofs.forms.name_length.Goals as goal
 

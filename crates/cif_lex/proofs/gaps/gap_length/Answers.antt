@@ -1,7 +1,6 @@
 use Rattle.std.proofs.Common.{ℕ, List, ◌-◌, length, take, drop, sym, subst, ◌∙◌, arith}
 use Rattle.std.proofs.lemmas.List.{take_rest, length-take, length-drop}
-use Rattle.cif_lex.specs.Blanks.{IsComment}
-use Rattle.cif_lex.proofs.OneGap.{gap_with_blank, gap_with_comment}
+use Rattle.cif_lex.{specs.Blanks.IsComment, proofs.OneGap.{gap_with_blank, gap_with_comment}}
 use Rattle.cif_lex.proofs.gaps.gap_length.Goals as goal
 
 pub loop-at-preserved-then-is_blank : goal.loop-at-preserved-then-is_blank

@@ -1,5 +1,4 @@
-use Rattle.std.proofs.Common.{length, arith, sym, ◌∙◌}
-use Rattle.std.proofs.lemmas.Bool.{eqb-false}
+use Rattle.std.proofs.{Common.{length, arith, sym, ◌∙◌}, lemmas.Bool.eqb-false}
 use Rattle.cif_lex.proofs.Stops.{cut_by_first}
 use Rattle.cif_lex.proofs.gaps.is_cut.Goals as goal
 

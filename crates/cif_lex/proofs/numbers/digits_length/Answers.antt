@@ -1,6 +1,5 @@
-use Rattle.std.proofs.Common.{◌≡◌, ℕ, true, ◌∙◌, sym, arith}
+use Rattle.std.proofs.{Common.{◌≡◌, ℕ, true, ◌∙◌, sym, arith}, lemmas.List.Elements.All-more}
 use Rattle.std.specs.Char.{is_ascii_digit}
-use Rattle.std.proofs.lemmas.List.Elements.{All-more}
 use Rattle.cif_lex.proofs.numbers.digits_length.Goals as goal
 
 pub loop-i-preserved : goal.loop-i-preserved

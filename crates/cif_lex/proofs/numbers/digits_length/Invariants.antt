@@ -1,5 +1,4 @@
-use Rattle.std.proofs.Common.{IsTrue, All, take}
-use Rattle.std.specs.Char.{is_ascii_digit}
+use Rattle.std.{proofs.Common.{IsTrue, All, take}, specs.Char.is_ascii_digit}
 use Rattle.cif_lex.proofs.numbers.digits_length.Given as goal
 
 abbrev pub invariant-loop-i : goal.invariant-loop-i

@@ -1,14 +1,11 @@
 use mir.Syntax.{w64}
 use mir.Val.{to_z}
 use Rattle.std.proofs.Common.{◌≡◌, ℕ, Bool, true, ◌+◌, ◌-◌, ◌≤◌, List, sym, ap, ◌∙◌, subst, length, take, drop, arith}
-use Rattle.std.specs.List.{All}
-use Rattle.std.specs.Char.{is_ascii_digit}
-use Rattle.std.proofs.lemmas.List.{take_rest}
-use Rattle.cif_lex.specs.Words.{StopsAt, capped, signed}
-use Rattle.cif_lex.specs.Reading.{IsBehindGap}
+use Rattle.std.{proofs.lemmas.List.take_rest, specs.{List.All, Char.is_ascii_digit}}
+use Rattle.cif_lex.specs.{Words.{StopsAt, capped, signed}, Reading.IsBehindGap}
 use Rattle.cif_lex.proofs.ReadNumbers.{no_digit, number_there, negative_back, positive_back, behind_both}
-use Rattle.cif_lex.proofs.numbers.read_number.Goals as goal
 use Rattle.cif_lex.proofs.numbers.read_number.Goals.{then-negative, else-negative}
+use Rattle.cif_lex.proofs.numbers.read_number.Goals as goal
 
 pub returns-then-length-eq0 : goal.returns-then-length-eq0
 returns-then-length-eq0 c =

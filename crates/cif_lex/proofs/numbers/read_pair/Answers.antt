@@ -1,9 +1,6 @@
-use Rattle.std.proofs.Common.{ℕ, List, sym, ◌∙◌, subst, drop}
-use Rattle.std.proofs.lemmas.List.{take_rest}
-use Rattle.cif_lex.specs.Words.{number}
-use Rattle.cif_lex.specs.Reading.{IsRead, IsNumberRead, IsPairAnswer}
-use Rattle.cif_lex.proofs.OneWord.{same_number}
-use Rattle.cif_lex.proofs.ReadNumbers.{both_read}
+use Rattle.std.proofs.{Common.{ℕ, List, sym, ◌∙◌, subst, drop}, lemmas.List.take_rest}
+use Rattle.cif_lex.specs.{Words.number, Reading.{IsRead, IsNumberRead, IsPairAnswer}}
+use Rattle.cif_lex.proofs.{OneWord.same_number, ReadNumbers.both_read}
 use Rattle.cif_lex.proofs.numbers.read_pair.Goals as goal
 
 pub returns-in_err-first : goal.returns-in_err-first

@@ -1,8 +1,6 @@
 use Rattle.std.proofs.Common.{ℕ, ◌+◌, ◌-◌, List, ◌∷◌, ◌++◌, length, take, drop, sym, ap, ◌∙◌, subst, arith}
 use Rattle.std.proofs.lemmas.List.{take_rest, length-drop}
-use Rattle.cif_lex.specs.Blanks.{IsCutOff, IsFilled}
-use Rattle.cif_lex.specs.Reading.{IsStop}
-use Rattle.cif_lex.specs.Forms.{IsLedBy, Reaches, IsBodyForm}
+use Rattle.cif_lex.specs.{Blanks.{IsCutOff, IsFilled}, Reading.IsStop, Forms.{IsLedBy, Reaches, IsBodyForm}}
 use Rattle.cif_lex.proofs.Following.{behind, none_read, none_ends, cut_read, body_length, whole_read, follows_same}
 use Rattle.cif_lex.proofs.reading.next.Goals as goal
 

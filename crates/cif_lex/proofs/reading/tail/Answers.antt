@@ -1,9 +1,6 @@
-use Rattle.std.proofs.Common.{◌≡◌, ℕ, ◌+◌, ◌-◌, ◌<◌, inl, inr, List, [], ◌++◌, length, take, drop, sym, ap, ◌∙◌, subst, arith}
-use Rattle.std.proofs.lemmas.Bool.{eqb-true, eqb-false}
-use Rattle.std.proofs.lemmas.List.{take_rest, nil_from_length, append-nil}
-use Rattle.cif_lex.specs.Blanks.{IsGap, IsUnclosed, IsCutOff, IsFilled}
-use Rattle.cif_lex.specs.Commands.{Follows}
-use Rattle.cif_lex.proofs.Following.{behind}
+use Rattle.std.proofs.Common.{◌≡◌, ℕ, ◌+◌, ◌-◌, ◌<◌, inl, inr, List, [], ◌++◌, length, take, drop, sym, ap, ◌∙◌, subst}
+use Rattle.std.proofs.{Common.arith, lemmas.{Bool.{eqb-true, eqb-false}, List.{take_rest, nil_from_length, append-nil}}}
+use Rattle.cif_lex.{specs.{Blanks.{IsGap, IsUnclosed, IsCutOff, IsFilled}, Commands.Follows}, proofs.Following.behind}
 use Rattle.cif_lex.proofs.reading.tail.Goals as goal
 
 only_gap : (bytes text : List ℕ) (read begin : ℕ) → Follows bytes read begin text → text ≡ [] → IsGap (drop read bytes)

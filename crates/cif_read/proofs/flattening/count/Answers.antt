@@ -1,7 +1,5 @@
-use Rattle.std.proofs.Common.{◌≡◌, ◌∙◌, ◌<◌, ap, length, get_or, sym, arith}
-use Rattle.std.proofs.lemmas.List.{get_or_default}
-use Rattle.cif_read.specs.declared.file.CifStep.TheVariants.{Own}
-use Rattle.cif_read.specs.Files.{drawn_in_step}
+use Rattle.std.proofs.{Common.{◌≡◌, ◌∙◌, ◌<◌, ap, length, get_or, sym, arith}, lemmas.List.get_or_default}
+use Rattle.cif_read.specs.{declared.file.CifStep.TheVariants.Own, Files.drawn_in_step}
 use Rattle.cif_read.proofs.Flat.{step_counted, flattened_is, flat_all}
 use Rattle.cif_read.proofs.flattening.count.Goals as goal
 

@@ -1,5 +1,4 @@
-use Rattle.std.proofs.Common.{◌≡◌, ◌≤◌, length, take}
-use Rattle.std.specs.List.{flat_map}
+use Rattle.std.{proofs.Common.{◌≡◌, ◌≤◌, length, take}, specs.List.flat_map}
 use Rattle.cif_read.specs.Files.{drawn_in_step, most_boxes}
 use Rattle.cif_read.proofs.flattening.count.Given as goal
 

@@ -1,9 +1,6 @@
-use Rattle.std.proofs.Common.{◌≡◌, ◌^◌, ◌∙◌, map, length, sym, ap, arith}
-use Rattle.std.proofs.lemmas.List.{length-map}
-use Rattle.cif_read.specs.Sheets.{flattened}
-use Rattle.cif_read.specs.Files.{drawn_of, drawn_in_step, sheet_of}
-use Rattle.cif_read.proofs.Flat.{flattened_is, flat_all}
-use Rattle.cif_read.proofs.Solid.{all_placed, all_solid}
+use Rattle.std.proofs.{Common.{◌≡◌, ◌^◌, ◌∙◌, map, length, sym, ap, arith}, lemmas.List.length-map}
+use Rattle.cif_read.specs.{Sheets.flattened, Files.{drawn_of, drawn_in_step, sheet_of}}
+use Rattle.cif_read.proofs.{Flat.{flattened_is, flat_all}, Solid.{all_placed, all_solid}}
 use Rattle.cif_read.proofs.flattening.flatten.Goals as goal
 
 pub returns-clause-boxes : goal.returns-clause-boxes

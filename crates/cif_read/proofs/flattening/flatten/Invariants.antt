@@ -1,5 +1,4 @@
-use Rattle.std.proofs.Common.{◌≡◌, ◌^◌, map, take}
-use Rattle.std.specs.List.{All, flat_map}
+use Rattle.std.{proofs.Common.{◌≡◌, ◌^◌, map, take}, specs.List.{All, flat_map}}
 use Rattle.cif_read.specs.Files.{drawn_of, drawn_in_step, IsSolidWithin}
 use Rattle.cif_read.proofs.flattening.flatten.Given as goal
 

@@ -1,8 +1,5 @@
-use Rattle.std.proofs.Common.{◌^◌, ◌∙◌, refl, w64, arith}
-use Rattle.std.proofs.lemmas.List.{take_all}
-use Rattle.std.proofs.lemmas.Int.{to_z-of_z}
-use Rattle.cif_read.proofs.Flat.{moved_more}
-use Rattle.cif_read.proofs.Solid.{solid_pushed, solid_at}
+use Rattle.std.proofs.{Common.{◌^◌, ◌∙◌, refl, w64, arith}, lemmas.{List.take_all, Int.to_z-of_z}}
+use Rattle.cif_read.proofs.{Flat.moved_more, Solid.{solid_pushed, solid_at}}
 use Rattle.cif_read.proofs.flattening.push_moved.Goals as goal
 
 pub moved-requires-clause-solid : goal.moved-requires-clause-solid

@@ -1,6 +1,5 @@
 use Rattle.std.proofs.Common.{◌<◌, ◌^◌, ◌∙◌, ap, get_or, length, subst, arith}
-use Rattle.cif_read.specs.Files.{drawn_of, IsStepOf}
-use Rattle.cif_read.proofs.Solid.{solid_pushed, solid_at, solid_more}
+use Rattle.cif_read.{specs.Files.{drawn_of, IsStepOf}, proofs.Solid.{solid_pushed, solid_at, solid_more}}
 use Rattle.cif_read.proofs.flattening.push_step.Goals as goal
 
 pub returns-in_ok-push-in-Own-clause-solid : goal.returns-in_ok-push-in-Own-clause-solid

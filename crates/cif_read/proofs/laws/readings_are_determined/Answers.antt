@@ -1,5 +1,4 @@
-use Rattle.cif_read.specs.Meaning.{reader}
-use Rattle.cif_read.proofs.Faults.{determined}
+use Rattle.cif_read.{specs.Meaning.reader, proofs.Faults.determined}
 use Rattle.cif_read.proofs.laws.readings_are_determined.Goals as goal
 
 pub returns : goal.returns

@@ -1,7 +1,5 @@
 use Rattle.std.proofs.Common.{sym, subst, arith}
-use Rattle.cif_read.specs.Meaning.{reader, BeginsWell}
-use Rattle.cif_read.proofs.NotTooDeep.{handed_on}
-use Rattle.cif_read.proofs.Beginnings.{begins_none}
+use Rattle.cif_read.{specs.Meaning.{reader, BeginsWell}, proofs.{NotTooDeep.handed_on, Beginnings.begins_none}}
 use Rattle.cif_read.proofs.reading.read_cif.Goals as goal
 
 pub read_commands-requires-clause-so_far : goal.read_commands-requires-clause-so_far

@@ -1,10 +1,6 @@
 use Rattle.std.proofs.Common.{◌+◌, ◌≤◌, sym, subst, arith}
-use Rattle.cif_read.specs.Readers.{no_command, cut, missing}
-use Rattle.cif_read.specs.Meaning.{reader}
-use Rattle.cif_read.specs.Files.{IsCauseOf}
-use Rattle.cif_read.specs.Readings.{state_of}
-use Rattle.cif_read.proofs.Sound.{sound_more}
-use Rattle.cif_read.proofs.Beginnings.{begins_more, cause_of_whole, cause_of_cut}
+use Rattle.cif_read.specs.{Readers.{no_command, cut, missing}, Meaning.reader, Files.IsCauseOf, Readings.state_of}
+use Rattle.cif_read.proofs.{Sound.sound_more, Beginnings.{begins_more, cause_of_whole, cause_of_cut}}
 use Rattle.cif_read.proofs.reading.read_next.Goals as goal
 
 pub returns-in-Err-clause-fault : goal.returns-in-Err-clause-fault

@@ -1,10 +1,8 @@
-use Rattle.std.proofs.Common.{pos, get_or, [], ◌++◌, ap, ◌∙◌, arith}
+use Rattle.std.proofs.{Common.{pos, get_or, [], ◌++◌, ap, ◌∙◌, arith}, lemmas.List.take_all}
 use Rattle.std.specs.Prelude.{codes, flat_map}
-use Rattle.std.proofs.lemmas.List.{take_all}
 use Rattle.rule_table.specs.Technology.{numbers_of}
 use Rattle.mask_out.specs.declared.drawing.Call.{Call}
-use Rattle.cif_text.specs.Calls.{call_text}
-use Rattle.cif_text.proofs.Pieces.{piece_added}
+use Rattle.cif_text.{specs.Calls.call_text, proofs.Pieces.piece_added}
 use Rattle.cif_text.proofs.calls.text_of_calls.Goals as goal
 
 abbrev no_call : Call

@@ -1,5 +1,4 @@
-use Rattle.std.proofs.Common.{◌≡◌, take}
-use Rattle.std.specs.Prelude.{flat_map}
+use Rattle.std.{proofs.Common.{◌≡◌, take}, specs.Prelude.flat_map}
 use Rattle.rule_table.specs.Technology.{numbers_of}
 use Rattle.cif_text.specs.Calls.{call_text}
 use Rattle.cif_text.proofs.calls.text_of_calls.Given as goal

@@ -1,6 +1,5 @@
 use Rattle.std.proofs.Common.{◌-◌, length, arith}
-use Rattle.cif_text.proofs.Lines.{feed_last}
-use Rattle.cif_text.proofs.Cuts.{line_too_long, steps_back}
+use Rattle.cif_text.proofs.{Lines.feed_last, Cuts.{line_too_long, steps_back}}
 use Rattle.cif_text.proofs.cutting.end_of_piece.Goals as goal
 
 pub returns-then-text-start-le-MAX_PIECE-clause-line : goal.returns-then-text-start-le-MAX_PIECE-clause-line

@@ -1,5 +1,4 @@
-use Rattle.std.proofs.Common.{◌≢◌, ℕ, ◌+◌, ◌<◌, ◌≤◌}
-use Rattle.std.specs.Prelude.{slice_index}
+use Rattle.std.{proofs.Common.{◌≢◌, ℕ, ◌+◌, ◌<◌, ◌≤◌}, specs.Prelude.slice_index}
 use Rattle.cif_text.specs.Cutting.{most_bytes}
 use Rattle.cif_text.proofs.cutting.end_of_piece.Given as goal
 

@@ -1,5 +1,4 @@
-use Rattle.std.proofs.Common.{Vec, Global, ℕ, ◌∙◌, map, sym}
-use Rattle.std.proofs.lemmas.List.{length-map}
+use Rattle.std.proofs.{Common.{Vec, Global, ℕ, ◌∙◌, map, sym}, lemmas.List.length-map}
 use Rattle.cif_text.proofs.PiecesCounted.{one_piece, two_pieces}
 use Rattle.cif_text.proofs.laws.pieces_are_counted.Goals as goal
 

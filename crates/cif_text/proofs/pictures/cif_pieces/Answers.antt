@@ -1,11 +1,8 @@
-use Rattle.std.proofs.Common.{Vec, Global, ℕ, length, map, subst, sym, ap, ◌∙◌}
-use Rattle.std.proofs.lemmas.List.Folds.{flat_map-map}
+use Rattle.std.proofs.{Common.{Vec, Global, ℕ, length, map, subst, sym, ap, ◌∙◌}, lemmas.List.Folds.flat_map-map}
 use Rattle.rule_table.specs.Technology.{numbers_of}
 use Rattle.mask_out.specs.Pictures.{drawing_of}
-use Rattle.cif_text.specs.Calls.{texts_of, calls_text, parts_of}
-use Rattle.cif_text.specs.Cutting.{IsOfLines, IsCut, AreCut}
-use Rattle.cif_text.proofs.AllCut.{text_cut, all_joined}
-use Rattle.cif_text.proofs.PictureLines.{calls_lines, unit_size}
+use Rattle.cif_text.specs.{Calls.{texts_of, calls_text, parts_of}, Cutting.{IsOfLines, IsCut, AreCut}}
+use Rattle.cif_text.proofs.{AllCut.{text_cut, all_joined}, PictureLines.{calls_lines, unit_size}}
 use Rattle.cif_text.proofs.pictures.cif_pieces.Goals as goal
 
 pub push_cut-requires : goal.push_cut-requires

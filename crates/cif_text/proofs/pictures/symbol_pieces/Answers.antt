@@ -1,14 +1,9 @@
 use Rattle.std.proofs.Common.{Vec, Global, ◌≡◌, ℕ, ◌+◌, map, subst, sym, ap, ◌∙◌, zero-add, arith}
-use Rattle.std.specs.List.{range_with_len}
-use Rattle.std.proofs.lemmas.List.{get_or-map}
-use Rattle.std.proofs.lemmas.List.FromFn.{map-range_with_len_more}
+use Rattle.std.{proofs.lemmas.List.{get_or-map, FromFn.map-range_with_len_more}, specs.List.range_with_len}
 use Rattle.rule_table.specs.Technology.{numbers_of}
 use Rattle.mask_out.specs.Pictures.{Drawing, no_drawing, drawing_of}
-use Rattle.cif_text.specs.Cif.{symbol_text}
-use Rattle.cif_text.specs.Calls.{text_at, CanBeWritten}
-use Rattle.cif_text.specs.Cutting.{IsOfLines, IsCut, AreCut}
-use Rattle.cif_text.proofs.AllCut.{text_cut}
-use Rattle.cif_text.proofs.PictureLines.{symbol_lines, unit_size}
+use Rattle.cif_text.specs.{Cif.symbol_text, Calls.{text_at, CanBeWritten}, Cutting.{IsOfLines, IsCut, AreCut}}
+use Rattle.cif_text.proofs.{AllCut.text_cut, PictureLines.{symbol_lines, unit_size}}
 use Rattle.cif_text.proofs.pictures.symbol_pieces.Goals as goal
 
 pub push_cut-requires : goal.push_cut-requires

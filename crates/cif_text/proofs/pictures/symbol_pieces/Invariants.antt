@@ -1,9 +1,7 @@
-use Rattle.std.proofs.Common.{map}
-use Rattle.std.specs.List.{range_with_len}
+use Rattle.std.{proofs.Common.map, specs.List.range_with_len}
 use Rattle.rule_table.specs.Technology.{numbers_of}
 use Rattle.mask_out.specs.Pictures.{drawing_of}
-use Rattle.cif_text.specs.Calls.{text_at}
-use Rattle.cif_text.specs.Cutting.{AreCut}
+use Rattle.cif_text.specs.{Calls.text_at, Cutting.AreCut}
 use Rattle.cif_text.proofs.pictures.symbol_pieces.Given as goal
 
 abbrev pub invariant-loop-k : goal.invariant-loop-k

@@ -1,7 +1,6 @@
 use Rattle.std.proofs.Common.{map, arith}
 use Rattle.mask_out.specs.Masks.{mask_of, mask_layers}
-use Rattle.cif_text.specs.Cif.{layer_text}
-use Rattle.cif_text.proofs.Pieces.{masks_of, piece_added}
+use Rattle.cif_text.{specs.Cif.layer_text, proofs.Pieces.{masks_of, piece_added}}
 use Rattle.cif_text.proofs.symbols.push_layers.Goals as goal
 
 pub loop-layer-preserved : goal.loop-layer-preserved

@@ -1,6 +1,5 @@
 use Rattle.std.proofs.Common.{◌≡◌, ◌∙◌, ℕ, true, false, sym, arith, ◌<◌, subst}
-use Rattle.coarse_grid.specs.Clash.{is_near_at}
-use Rattle.coarse_grid.proofs.Nears.{by_lt, all_clean, clean_not_near}
+use Rattle.coarse_grid.{specs.Clash.is_near_at, proofs.Nears.{by_lt, all_clean, clean_not_near}}
 use Rattle.coarse_grid.proofs.clash.find_clash.Goals as goal
 
 pub loop-i-preserved : goal.loop-i-preserved

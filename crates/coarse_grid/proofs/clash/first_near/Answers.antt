@@ -1,6 +1,5 @@
 use Rattle.std.proofs.Common.{◌≡◌, ap, ◌∙◌, sym, arith}
-use Rattle.coarse_grid.specs.Clash.{is_near_at}
-use Rattle.coarse_grid.proofs.Nears.{by_lt}
+use Rattle.coarse_grid.{specs.Clash.is_near_at, proofs.Nears.by_lt}
 use Rattle.coarse_grid.proofs.clash.first_near.Goals as goal
 
 pub loop-j-preserved : goal.loop-j-preserved

@@ -1,8 +1,6 @@
 use Rattle.std.proofs.Common.{◌+◌, ◌<◌, length, sym, subst, arith}
 use Rattle.box_tree.proofs.Trees.{group_here}
-use Rattle.coarse_grid.specs.Nearby.{AreFlagged, IsRunAlike}
-use Rattle.coarse_grid.proofs.ClassTrees.{flags_more}
-use Rattle.coarse_grid.proofs.NearGroups.{group_read}
+use Rattle.coarse_grid.{specs.Nearby.{AreFlagged, IsRunAlike}, proofs.{ClassTrees.flags_more, NearGroups.group_read}}
 use Rattle.coarse_grid.proofs.class_tree.alike_of.Goals as goal
 
 pub are_alike-requires-clause-within : goal.are_alike-requires-clause-within

@@ -1,7 +1,6 @@
 use Rattle.std.proofs.Common.{◌≡◌, ℕ, subst, arith}
 use Rattle.sym_items.specs.declared.items.Item.{Item}
-use Rattle.coarse_grid.specs.Nearby.{AreAlike, item_in}
-use Rattle.coarse_grid.proofs.Nears.{by_lt}
+use Rattle.coarse_grid.{specs.Nearby.{AreAlike, item_in}, proofs.Nears.by_lt}
 use Rattle.coarse_grid.proofs.class_tree.are_alike.Goals as goal
 
 pub loop-place-preserved : goal.loop-place-preserved

@@ -1,8 +1,7 @@
 use Rattle.std.proofs.Common.{◌∙◌, ◌+◌, ◌<◌, List, length, Vec, Global, refl, sym, ap, subst, arith}
 use Rattle.box_tree.specs.declared.spots.Spot.{Spot}
 use Rattle.pair_rules.specs.Bound.{item_at}
-use Rattle.coarse_grid.specs.Nearby.{AreSpotsOf}
-use Rattle.coarse_grid.proofs.ClassTrees.{spots_more, spots_past}
+use Rattle.coarse_grid.{specs.Nearby.AreSpotsOf, proofs.ClassTrees.{spots_more, spots_past}}
 use Rattle.coarse_grid.proofs.class_tree.spots_of.Goals.{then-is_of+in_ok-push, else-is_of}
 use Rattle.coarse_grid.proofs.class_tree.spots_of.Goals as goal
 

@@ -1,8 +1,5 @@
-use Rattle.std.proofs.Common.{◌∙◌, ℤ, ◌+ℤ◌, ap}
-use Rattle.std.specs.Int.{int_max}
-use Rattle.rule_table.specs.declared.keys.Numbers.{Numbers}
-use Rattle.rule_table.specs.Bounds.{IsLength}
-use Rattle.rule_table.specs.Technology.{numbers_of}
+use Rattle.std.{proofs.Common.{◌∙◌, ℤ, ◌+ℤ◌, ap}, specs.Int.int_max}
+use Rattle.rule_table.specs.{declared.keys.Numbers.Numbers, Bounds.IsLength, Technology.numbers_of}
 use Rattle.expand.specs.Variables.{half}
 use Rattle.coarse_grid.proofs.Extents.{held, greatest_side, side}
 use Rattle.coarse_grid.proofs.extent.fet_reach.Goals as goal

@@ -1,12 +1,8 @@
-use Rattle.std.proofs.Common.{◌∙◌, ◌++◌, ap, map, fold, pos}
-use Rattle.std.specs.Int.{int_max}
-use Rattle.cell_model.specs.declared.cell.Node.{Node}
-use Rattle.cell_model.specs.declared.cell.Wire.{Wire}
+use Rattle.std.{proofs.Common.{◌∙◌, ◌++◌, ap, map, fold, pos}, specs.Int.int_max}
+use Rattle.cell_model.specs.declared.cell.{Node.Node, Wire.Wire}
 use Rattle.expand.specs.Variables.{half}
 use Rattle.coarse_grid.specs.Extent.{reach_of, half_extent_of}
-use Rattle.coarse_grid.proofs.Extents.{widened}
-use Rattle.coarse_grid.proofs.Folds.{fold_map_on, all_read}
-use Rattle.coarse_grid.proofs.Lines.{wire_size}
+use Rattle.coarse_grid.proofs.{Extents.widened, Folds.{fold_map_on, all_read}, Lines.wire_size}
 use Rattle.coarse_grid.proofs.extent.half_extent.Goals as goal
 
 pub loop-wire-preserved : goal.loop-wire-preserved

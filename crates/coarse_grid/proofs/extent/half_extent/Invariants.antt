@@ -1,7 +1,5 @@
-use Rattle.std.proofs.Common.{◌≡◌, pos, ◌≤ℤ◌, [], ◌++◌, map, take, fold}
-use Rattle.std.specs.Int.{int_max}
-use Rattle.cell_model.specs.declared.cell.Node.{Node}
-use Rattle.cell_model.specs.declared.cell.Wire.{Wire}
+use Rattle.std.{proofs.Common.{◌≡◌, pos, ◌≤ℤ◌, [], ◌++◌, map, take, fold}, specs.Int.int_max}
+use Rattle.cell_model.specs.declared.cell.{Node.Node, Wire.Wire}
 use Rattle.expand.specs.Variables.{half}
 use Rattle.coarse_grid.specs.Extent.{reach_of}
 use Rattle.coarse_grid.proofs.extent.half_extent.Given as goal

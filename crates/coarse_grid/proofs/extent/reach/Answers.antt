@@ -1,12 +1,8 @@
-use Rattle.std.proofs.Common.{◌∙◌, ap, sym, arith, rules, pos, ◌+ℤ◌, ◌≤ℤ◌}
-use Rattle.std.specs.Int.{int_max}
-use Rattle.std.proofs.lemmas.Int.{ints}
-use Rattle.rule_table.specs.declared.keys.Numbers.{Numbers}
-use Rattle.rule_table.specs.Technology.{pad_of}
+use Rattle.std.{proofs.{Common.{◌∙◌, ap, sym, arith, rules, pos, ◌+ℤ◌, ◌≤ℤ◌}, lemmas.Int.ints}, specs.Int.int_max}
+use Rattle.rule_table.specs.{declared.keys.Numbers.Numbers, Technology.pad_of}
 use Rattle.cell_model.specs.Wiring.{buried_pad}
 use Rattle.expand.specs.Variables.{half}
-use Rattle.coarse_grid.specs.Extent.{reach_of}
-use Rattle.coarse_grid.proofs.Extents.{halves, past}
+use Rattle.coarse_grid.{specs.Extent.reach_of, proofs.Extents.{halves, past}}
 use Rattle.coarse_grid.proofs.extent.reach.Goals as goal
 
 pub returns-in-Contact : goal.returns-in-Contact

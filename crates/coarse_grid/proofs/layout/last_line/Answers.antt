@@ -1,7 +1,5 @@
-use Rattle.std.proofs.Common.{◌∙◌, ◌++◌, ap, map, fold, max}
-use Rattle.std.specs.List.{flat_map}
-use Rattle.coarse_grid.specs.Start.{node_line, port_lines, last_line}
-use Rattle.coarse_grid.proofs.Folds.{all_read}
+use Rattle.std.{proofs.Common.{◌∙◌, ◌++◌, ap, map, fold, max}, specs.List.flat_map}
+use Rattle.coarse_grid.{specs.Start.{node_line, port_lines, last_line}, proofs.Folds.all_read}
 use Rattle.coarse_grid.proofs.layout.last_line.Goals as goal
 
 pub returns-clause-value : goal.returns-clause-value

@@ -1,5 +1,4 @@
-use Rattle.std.proofs.Common.{◌≡◌, ◌≤◌, max, [], ◌++◌, map, fold, take}
-use Rattle.std.specs.List.{flat_map}
+use Rattle.std.{proofs.Common.{◌≡◌, ◌≤◌, max, [], ◌++◌, map, fold, take}, specs.List.flat_map}
 use Rattle.coarse_grid.specs.Start.{node_line, port_lines}
 use Rattle.coarse_grid.proofs.layout.last_line.Given as goal
 

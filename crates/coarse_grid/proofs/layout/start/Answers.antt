@@ -1,10 +1,8 @@
 use Rattle.std.proofs.Common.{◌∙◌, All, ℤ, List, length, ap, sym, subst}
 use Rattle.cell_model.specs.declared.cell.Axis2.TheVariants.{Across, Up}
-use Rattle.coarse_grid.specs.Near.{IsNear, IsPitch}
-use Rattle.coarse_grid.specs.Start.{start_values}
+use Rattle.coarse_grid.specs.{Near.{IsNear, IsPitch}, Start.start_values}
+use Rattle.coarse_grid.proofs.{Lines.near_lines, Starts.{holds_pitch, start_near, counted_x, counted_y}}
 use Rattle.list_facts.proofs.Elements.{all_of}
-use Rattle.coarse_grid.proofs.Lines.{near_lines}
-use Rattle.coarse_grid.proofs.Starts.{holds_pitch, start_near, counted_x, counted_y}
 use Rattle.coarse_grid.proofs.layout.start.Goals as goal
 
 pub returns-clause-near_x : goal.returns-clause-near_x

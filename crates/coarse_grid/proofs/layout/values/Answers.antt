@@ -1,16 +1,12 @@
 use Rattle.std.proofs.Common.{List, ℤ, ◌≡◌, ◌∙◌, ◌++◌, ◌∷◌, [], ap, map, pos, sym, to_z, of_z, w64, get_or, true, false}
-use Rattle.std.specs.List.{flat_map}
-use Rattle.std.proofs.lemmas.List.{append-nil}
+use Rattle.std.{proofs.lemmas.List.append-nil, specs.List.flat_map}
 use Rattle.rule_table.specs.declared.classes.Layer.TheVariants.{Diffusion}
-use Rattle.cell_model.specs.declared.cell.Axis2.TheVariants.{Across}
-use Rattle.cell_model.specs.declared.cell.Node.{Node}
-use Rattle.cell_model.specs.declared.cell.Wire.{Wire}
+use Rattle.cell_model.specs.{declared.cell.{Axis2.TheVariants.Across, Node.Node, Wire.Wire}, Wiring.is_same_axis}
 use Rattle.cell_model.specs.declared.cell.WireEnd.TheVariants as ends
-use Rattle.cell_model.specs.Wiring.{is_same_axis}
 use Rattle.coarse_grid.specs.Start.{node_line, place, far_border, cross_places, start_values}
-use Rattle.coarse_grid.proofs.Folds.{all_read, list_map_on, list_flat_on}
-use Rattle.coarse_grid.proofs.Starts.{holds_near, holds_pitch, cross_there, cross_missing}
-use Rattle.coarse_grid.proofs.layout.values.Goals.{then-not-is_same+in_ok-push-4, else-not-is_same}
+use Rattle.coarse_grid.proofs.{Folds.{all_read, list_map_on, list_flat_on}, Starts.{holds_near, holds_pitch}}
+use Rattle.coarse_grid.proofs.{Starts.{cross_there, cross_missing}, layout.values.Goals.then-not-is_same+in_ok-push-4}
+use Rattle.coarse_grid.proofs.layout.values.Goals.{else-not-is_same}
 use Rattle.coarse_grid.proofs.layout.values.Goals as goal
 
 -- what a wire past the end would be read as

@@ -1,5 +1,4 @@
-use Rattle.std.proofs.Common.{◌≡◌, ◌++◌, ◌∷◌, [], take, map, pos}
-use Rattle.std.specs.List.{flat_map}
+use Rattle.std.{proofs.Common.{◌≡◌, ◌++◌, ◌∷◌, [], take, map, pos}, specs.List.flat_map}
 use Rattle.cell_model.specs.declared.cell.Node.{Node}
 use Rattle.coarse_grid.specs.Start.{node_line, place, far_border, cross_places}
 use Rattle.coarse_grid.proofs.layout.values.Given as goal

@@ -1,6 +1,5 @@
 use Rattle.std.proofs.Common.{◌≡◌, ℕ, Bool, MatchBool, subst, arith}
-use Rattle.coarse_grid.specs.Nearby.{HasNear, IsNearOf}
-use Rattle.coarse_grid.proofs.Nears.{by_lt}
+use Rattle.coarse_grid.{specs.Nearby.{HasNear, IsNearOf}, proofs.Nears.by_lt}
 use Rattle.coarse_grid.proofs.nearby.first_of.Goals as goal
 
 pub loop-i-preserved : goal.loop-i-preserved

@@ -1,6 +1,5 @@
 use Rattle.std.proofs.Common.{◌≡◌, ℕ, ◌+◌, ◌<◌, Bool, MatchBool, length, sym, subst, arith}
-use Rattle.box_tree.specs.declared.spots.Group.{Group}
-use Rattle.box_tree.proofs.Trees.{IsPassed, group_here, passed_group, passed_into}
+use Rattle.box_tree.{specs.declared.spots.Group.Group, proofs.Trees.{IsPassed, group_here, passed_group, passed_into}}
 use Rattle.coarse_grid.specs.Nearby.{HasNear, IsFarRun}
 use Rattle.coarse_grid.proofs.NearGroups.{NearSpot, barren_run, group_read, none_passed}
 use Rattle.coarse_grid.proofs.nearby.has_near.Goals.{else-group-eq0-via-then-group-eq0+else-has_near_in}

@@ -1,12 +1,7 @@
 use Rattle.std.proofs.Common.{◌≡◌, ◌∙◌, ℕ, ◌<◌, length, true, false, get_or, sym, subst, arith}
-use Rattle.box_tree.specs.declared.spots.Spot.{Spot}
-use Rattle.box_tree.specs.Queries.{Holds}
-use Rattle.box_tree.specs.Tree.{no_spot}
-use Rattle.coarse_grid.specs.Clash.{is_near_at}
-use Rattle.box_tree.specs.Groves.{spot_in}
-use Rattle.coarse_grid.specs.Nearby.{IsSpotOf}
-use Rattle.coarse_grid.proofs.Nears.{by_lt}
-use Rattle.coarse_grid.proofs.NearGroups.{NearSpot, not_true}
+use Rattle.box_tree.specs.{declared.spots.Spot.Spot, Queries.Holds, Tree.no_spot, Groves.spot_in}
+use Rattle.coarse_grid.specs.{Clash.is_near_at, Nearby.IsSpotOf}
+use Rattle.coarse_grid.proofs.{Nears.by_lt, NearGroups.{NearSpot, not_true}}
 use Rattle.coarse_grid.proofs.nearby.has_near_in.Goals.{
   else-holds-via-then-holds+else-is_near,
   else-holds-via-else-holds,

@@ -1,9 +1,6 @@
-use Rattle.std.proofs.Common.{◌∙◌, ◌+◌, false, length, drop, sym, subst, arith}
-use Rattle.std.proofs.lemmas.List.{get_or_read}
-use Rattle.box_tree.specs.declared.spots.Group.{Group}
-use Rattle.box_tree.proofs.Trees.{group_here}
-use Rattle.coarse_grid.specs.Nearby.{IsFarRun, IsRunAlike}
-use Rattle.coarse_grid.proofs.NearGroups.{far_by_bounds, group_read}
+use Rattle.std.proofs.{Common.{◌∙◌, ◌+◌, false, length, drop, sym, subst, arith}, lemmas.List.get_or_read}
+use Rattle.box_tree.{specs.declared.spots.Group.Group, proofs.Trees.group_here}
+use Rattle.coarse_grid.{specs.Nearby.{IsFarRun, IsRunAlike}, proofs.NearGroups.{far_by_bounds, group_read}}
 use Rattle.coarse_grid.proofs.nearby.is_left_out.Goals as goal
 
 pub may_hold-requires-clause-group : goal.may_hold-requires-clause-group

@@ -1,10 +1,8 @@
 use Rattle.std.proofs.Common.{◌≡◌, ◌∙◌, ◌==◌, ℤ, Bool, true, false, Option, Some, None, refl, sym, ap}
-use Rattle.std.specs.Prelude.{is_some, not}
-use Rattle.std.proofs.lemmas.Bool.{ne_eqb}
+use Rattle.std.{proofs.lemmas.Bool.ne_eqb, specs.Prelude.{is_some, not}}
 use Rattle.sym_items.specs.declared.items.Item.{Item}
 use Rattle.pair_rules.specs.Bound.{bound_spacing, item_at}
-use Rattle.coarse_grid.specs.Nearby.{item_in}
-use Rattle.coarse_grid.proofs.NearGroups.{unbound_alike}
+use Rattle.coarse_grid.{specs.Nearby.item_in, proofs.NearGroups.unbound_alike}
 use Rattle.coarse_grid.proofs.nearby.is_unbound.Goals as goal
 
 none_told : (o : Option ℤ) (b : Bool) → is_some o ≡ not b → b ≡ true → o ≡ None

@@ -1,7 +1,5 @@
 use Rattle.std.proofs.Common.{◌≡◌, ◌∙◌, true, false, sym, arith}
-use Rattle.coarse_grid.specs.Clash.{is_near_at}
-use Rattle.coarse_grid.proofs.Nears.{clean_not_near}
-use Rattle.coarse_grid.proofs.FirstNear.{none_before, some_behind}
+use Rattle.coarse_grid.{specs.Clash.is_near_at, proofs.{Nears.clean_not_near, FirstNear.{none_before, some_behind}}}
 use Rattle.coarse_grid.proofs.nearby.pair_of.Goals as goal
 
 pub returns-then-first-items-clause-none : goal.returns-then-first-items-clause-none

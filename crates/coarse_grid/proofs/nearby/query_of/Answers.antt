@@ -1,9 +1,6 @@
-use Rattle.std.proofs.Common.{◌∙◌, ℕ, Option, Some, None, sym, subst}
-use Rattle.std.specs.Prelude.{IfNone}
-use Rattle.box_tree.specs.declared.query.Question.{Question}
-use Rattle.box_tree.specs.Queries.{Answers}
-use Rattle.coarse_grid.specs.Nearby.{IsNearOf}
-use Rattle.coarse_grid.proofs.NearGroups.{unruled_near, asked}
+use Rattle.std.{proofs.Common.{◌∙◌, ℕ, Option, Some, None, sym, subst}, specs.Prelude.IfNone}
+use Rattle.box_tree.specs.{declared.query.Question.Question, Queries.Answers}
+use Rattle.coarse_grid.{specs.Nearby.IsNearOf, proofs.NearGroups.{unruled_near, asked}}
 use Rattle.coarse_grid.proofs.nearby.query_of.Goals as goal
 
 if_none : {A : Type 0} (o : Option A) (T : Type 0) → T → IfNone o T

@@ -1,15 +1,11 @@
-use Rattle.std.proofs.Common.{List, sym, ap, ◌∙◌, subst, ◌^◌, ◌≤◌}
-use Rattle.std.proofs.lemmas.Result.{err_from_is_err_and}
+use Rattle.std.proofs.{Common.{List, sym, ap, ◌∙◌, subst, ◌^◌, ◌≤◌}, lemmas.Result.err_from_is_err_and}
 use Rattle.design_sizes.specs.Sizes.{names_in}
 use Rattle.stick_parse.specs.declared.design.Design.{Design}
 use Rattle.expand.specs.declared.master.Master.{Master}
-use Rattle.compact_run.specs.declared.bench.Tally.{Tally}
-use Rattle.compact_run.specs.Bench.{bench_line, tally_of}
-use Rattle.compact_run.specs.Plans.{AreMastersOf}
-use Rattle.compact_run.proofs.FewParts.{few_parts, few_in_all}
-use Rattle.compact_run.proofs.MadeDesigns.{benched, both_axes, few_names, masters_refused, one_master, plan_refused}
+use Rattle.compact_run.specs.{declared.bench.Tally.Tally, Bench.{bench_line, tally_of}, Plans.AreMastersOf}
+use Rattle.compact_run.proofs.{FewParts.{few_parts, few_in_all}, MadeDesigns.{benched, both_axes, few_names}}
+use Rattle.compact_run.proofs.{MadeDesigns.{masters_refused, one_master, plan_refused}, Planned.of_plan}
 use Rattle.design_nets.proofs.Finished.{finished_near}
-use Rattle.compact_run.proofs.Planned.{of_plan}
 use Rattle.compact_run.proofs.bench.bench.Goals as goal
 
 pub returns-in_err-design-clause-refused : goal.returns-in_err-design-clause-refused

@@ -1,12 +1,9 @@
-use Rattle.std.proofs.Common.{Option, Some, None, Err, List, sym, ap, ◌∙◌, subst}
-use Rattle.std.proofs.lemmas.Result.{err_from_is_err_and}
+use Rattle.std.proofs.{Common.{Option, Some, None, Err, List, sym, ap, ◌∙◌, subst}, lemmas.Result.err_from_is_err_and}
 use Rattle.lam_geom.specs.declared.boxes.Axis.{Axis}
-use Rattle.run_words.specs.Commands.{command_from}
+use Rattle.run_words.specs.{Commands.command_from, Words.{command_of, texts_of}}
 use Rattle.run_words.specs.Words as words
-use Rattle.run_words.specs.Words.{command_of, texts_of}
 use Rattle.compact_run.specs.Answers.{IsGiven}
-use Rattle.compact_run.proofs.PassLists.{passes_mean}
-use Rattle.compact_run.proofs.Steps.{words_refused, not_usage, is_command}
+use Rattle.compact_run.proofs.{PassLists.passes_mean, Steps.{words_refused, not_usage, is_command}}
 use Rattle.compact_run.proofs.command.answer.Goals as goal
 
 pub returns-in_err-design-clause-given : goal.returns-in_err-design-clause-given

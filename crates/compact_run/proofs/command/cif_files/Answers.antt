@@ -1,6 +1,5 @@
 use Rattle.std.proofs.lemmas.Result.{err_from_is_err_and}
-use Rattle.compact_run.specs.Answers.{no_rules, no_cif}
-use Rattle.compact_run.proofs.Steps.{asked, telling_after, job_refused, job_told}
+use Rattle.compact_run.{specs.Answers.{no_rules, no_cif}, proofs.Steps.{asked, telling_after, job_refused, job_told}}
 use Rattle.compact_run.proofs.command.cif_files.Goals as goal
 
 pub returns-in_err-rules-clause-given : goal.returns-in_err-rules-clause-given

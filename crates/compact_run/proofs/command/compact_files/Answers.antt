@@ -1,6 +1,5 @@
 use Rattle.std.proofs.lemmas.Result.{err_from_is_err_and}
-use Rattle.compact_run.specs.Answers.{no_technology, no_design}
-use Rattle.compact_run.proofs.Steps.{asked, telling_after, given}
+use Rattle.compact_run.{specs.Answers.{no_technology, no_design}, proofs.Steps.{asked, telling_after, given}}
 use Rattle.compact_run.proofs.command.compact_files.Goals as goal
 
 pub returns-in_err-technology-clause-given : goal.returns-in_err-technology-clause-given

@@ -1,10 +1,8 @@
-use Rattle.std.proofs.Common.{List, sym, subst}
-use Rattle.std.proofs.lemmas.Result.{err_from_is_err_and}
+use Rattle.std.proofs.{Common.{List, sym, subst}, lemmas.Result.err_from_is_err_and}
 use Rattle.edit_lines.specs.declared.script.EditLine.{EditLine}
-use Rattle.compact_run.specs.Edits.{EditsTo, HasStart}
-use Rattle.compact_run.specs.Answers.{no_technology, no_design, no_masks, no_start, no_edits}
-use Rattle.compact_run.proofs.Editing.{technology_early, sticks_early, design_judged, start_asks}
-use Rattle.compact_run.proofs.Steps.{asked, telling_after}
+use Rattle.compact_run.specs.{Edits.{EditsTo, HasStart}, Answers.{no_technology, no_design, no_masks, no_start}}
+use Rattle.compact_run.{specs.Answers.no_edits, proofs.Editing.{technology_early, sticks_early, design_judged}}
+use Rattle.compact_run.proofs.{Editing.start_asks, Steps.{asked, telling_after}}
 use Rattle.compact_run.proofs.command.edit_files.Goals as goal
 
 pub returns-in_err-technology-clause-given : goal.returns-in_err-technology-clause-given

@@ -1,9 +1,7 @@
-use Rattle.std.proofs.Common.{List, subst}
-use Rattle.std.proofs.lemmas.Result.{err_from_is_err_and}
+use Rattle.std.proofs.{Common.{List, subst}, lemmas.Result.err_from_is_err_and}
 use Rattle.jog_insert.specs.declared.script.JogLine.{JogLine}
-use Rattle.compact_run.specs.Jogs.{JogsTo}
-use Rattle.compact_run.specs.Answers.{IsLaidOut, text_of, no_technology, no_design, no_masks, no_layout, no_script}
-use Rattle.compact_run.proofs.Steps.{asked, telling_after}
+use Rattle.compact_run.specs.{Jogs.JogsTo, Answers.{IsLaidOut, text_of, no_technology, no_design, no_masks, no_layout}}
+use Rattle.compact_run.{specs.Answers.no_script, proofs.Steps.{asked, telling_after}}
 use Rattle.compact_run.proofs.command.jog_files.Goals as goal
 
 pub returns-in_err-technology-clause-given : goal.returns-in_err-technology-clause-given

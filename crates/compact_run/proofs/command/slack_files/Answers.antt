@@ -1,8 +1,5 @@
-use Rattle.std.proofs.Common.{sym, subst}
-use Rattle.std.proofs.lemmas.Result.{err_from_is_err_and}
-use Rattle.compact_run.specs.Answers.{no_design, no_masks}
-use Rattle.compact_run.specs.Slacks.{SlacksTo}
-use Rattle.compact_run.proofs.Steps.{asked, telling_after}
+use Rattle.std.proofs.{Common.{sym, subst}, lemmas.Result.err_from_is_err_and}
+use Rattle.compact_run.{specs.{Answers.{no_design, no_masks}, Slacks.SlacksTo}, proofs.Steps.{asked, telling_after}}
 use Rattle.compact_run.proofs.command.slack_files.Goals as goal
 
 pub returns-in_err-sticks-clause-given : goal.returns-in_err-sticks-clause-given

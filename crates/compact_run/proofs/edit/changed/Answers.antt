@@ -1,8 +1,5 @@
-use Rattle.std.proofs.Common.{sym, ◌∙◌}
-use Rattle.std.specs.Prelude.{◌^◌}
-use Rattle.std.proofs.lemmas.Bool.{true≢false}
-use Rattle.compact_run.proofs.Editing.{not_edited, at_fault}
-use Rattle.compact_run.proofs.Jogging.{few_names}
+use Rattle.std.{proofs.{Common.{sym, ◌∙◌}, lemmas.Bool.true≢false}, specs.Prelude.◌^◌}
+use Rattle.compact_run.proofs.{Editing.{not_edited, at_fault}, Jogging.few_names}
 use Rattle.compact_run.proofs.edit.changed.Goals as goal
 
 pub returns-in_default-clause-changed : goal.returns-in_default-clause-changed

@@ -1,7 +1,5 @@
-use Rattle.std.proofs.Common.{◌≡◌, ◌∙◌, ap, sym, arith, to_z, of_z, w64}
+use Rattle.std.proofs.{Common.{◌≡◌, ◌∙◌, ap, sym, arith, to_z, of_z, w64}, lemmas.{Int.ints, List.get_or_default}}
 use Rattle.std.specs.Prelude.{codes}
-use Rattle.std.proofs.lemmas.Int.{ints}
-use Rattle.std.proofs.lemmas.List.{get_or_default}
 use Rattle.expand.specs.declared.master.Master.{Master}
 use Rattle.pitch_join.specs.Masters.{no_master}
 use Rattle.compact_run.proofs.Editing.{size_more, size_all}

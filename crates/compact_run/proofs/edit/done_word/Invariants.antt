@@ -1,6 +1,4 @@
-use Rattle.std.proofs.Common.{◌≡◌, ◌++◌}
-use Rattle.std.specs.Prelude.{codes, flat_map}
-use Rattle.std.specs.List.{range_with_len}
+use Rattle.std.{proofs.Common.{◌≡◌, ◌++◌}, specs.{Prelude.{codes, flat_map}, List.range_with_len}}
 use Rattle.compact_run.specs.Edits.{size_word}
 use Rattle.compact_run.proofs.edit.done_word.Given as goal
 

@@ -1,11 +1,8 @@
-use Rattle.std.proofs.Common.{ℕ, ◌≤◌, ◌+◌, List, take, sym, ◌∙◌, subst, arith}
+use Rattle.std.proofs.{Common.{ℕ, ◌≤◌, ◌+◌, List, take, sym, ◌∙◌, subst, arith}, lemmas.List.{get_or_default, take_all}}
 use Rattle.std.specs.Prelude.{◌^◌}
-use Rattle.std.proofs.lemmas.List.{get_or_default, take_all}
 use Rattle.list_facts.proofs.Elements.{all_at}
-use Rattle.edit_lines.specs.declared.script.EditLine.{EditLine}
-use Rattle.edit_lines.specs.Edits.{HasText}
-use Rattle.compact_run.specs.Edits.{AreSteps, HasStart, IsNextStep}
-use Rattle.compact_run.proofs.Editing.{steps_next}
+use Rattle.edit_lines.specs.{declared.script.EditLine.EditLine, Edits.HasText}
+use Rattle.compact_run.{specs.Edits.{AreSteps, HasStart, IsNextStep}, proofs.Editing.steps_next}
 use Rattle.compact_run.proofs.edit.edit.Goals as goal
 
 pub go_on-requires-clause-written : goal.go_on-requires-clause-written

@@ -1,5 +1,4 @@
-use Rattle.std.proofs.Common.{◌+◌, ◌≤◌, take}
-use Rattle.std.specs.Prelude.{◌^◌, IfSome}
+use Rattle.std.{proofs.Common.{◌+◌, ◌≤◌, take}, specs.Prelude.{◌^◌, IfSome}}
 use Rattle.stick_parse.specs.Writable.{IsWritable}
 use Rattle.pass_run.specs.First.{IsFirstPass}
 use Rattle.design_sizes.specs.Sizes.{lines_in, names_in}

@@ -1,5 +1,4 @@
-use Rattle.std.proofs.Common.{◌≡◌, w64, to_z, of_z}
-use Rattle.std.proofs.lemmas.Int.{to_z-of_z}
+use Rattle.std.proofs.{Common.{◌≡◌, w64, to_z, of_z}, lemmas.Int.to_z-of_z}
 use Rattle.compact_run.proofs.Jogging.{put_in_six}
 use Rattle.compact_run.proofs.edit.push_size.Goals as goal
 

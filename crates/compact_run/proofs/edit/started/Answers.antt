@@ -1,9 +1,7 @@
-use Rattle.std.proofs.Common.{All, List, refl, subst}
-use Rattle.std.proofs.lemmas.Result.{err_from_is_err_and}
+use Rattle.std.proofs.{Common.{All, List, refl, subst}, lemmas.Result.err_from_is_err_and}
 use Rattle.expand.specs.declared.master.Master.{Master}
 use Rattle.pass_run.specs.Laid.{StartsClean}
-use Rattle.compact_run.specs.Designs.{no_masters, no_masks}
-use Rattle.compact_run.proofs.Editing.{plan_early}
+use Rattle.compact_run.{specs.Designs.{no_masters, no_masks}, proofs.Editing.plan_early}
 use Rattle.compact_run.proofs.edit.started.Goals as goal
 
 pub returns-in_err-made-clause-refused : goal.returns-in_err-made-clause-refused

@@ -1,10 +1,8 @@
-use Rattle.std.proofs.Common.{◌≡◌, List, subst}
-use Rattle.std.proofs.lemmas.Result.{IfOk-weaker}
+use Rattle.std.proofs.{Common.{◌≡◌, List, subst}, lemmas.Result.IfOk-weaker}
 use Rattle.sym_items.specs.declared.items.Coords.{Coords}
 use Rattle.expand.specs.declared.master.Master.{Master}
-use Rattle.compact_run.specs.Refusal.{own_text}
-use Rattle.compact_run.specs.Designs.{ArePlaced, RefusesMasters, last_layouts, no_masters, no_masks as not_laid_out}
-use Rattle.compact_run.specs.Edits.{AreLeastLayouts, no_masks}
+use Rattle.compact_run.specs.{Refusal.own_text, Designs.{ArePlaced, RefusesMasters, last_layouts, no_masters}}
+use Rattle.compact_run.specs.{Designs.no_masks as not_laid_out, Edits.{AreLeastLayouts, no_masks}}
 use Rattle.compact_run.proofs.Editing.{laid_word, least_word}
 use Rattle.compact_run.proofs.edit.word_on.Goals as goal
 

@@ -1,12 +1,8 @@
-use Rattle.std.proofs.Common.{◌≡◌, ◌∙◌, ℕ, ℤ, pos, map, length, ap, arith, to_z, of_z, w64}
-use Rattle.std.specs.Prelude.{◌+ℤ◌, ◌-ℤ◌}
-use Rattle.std.proofs.lemmas.Int.{ints, to_z-of_z}
-use Rattle.std.specs.Int.{int_min}
-use Rattle.std.proofs.lemmas.List.{length-map}
+use Rattle.std.proofs.{Common.{◌≡◌, ◌∙◌, ℕ, ℤ, pos, map, length, ap, arith, to_z, of_z, w64}, lemmas.Int.ints}
+use Rattle.std.{proofs.lemmas.{Int.to_z-of_z, List.length-map}, specs.{Prelude.{◌+ℤ◌, ◌-ℤ◌}, Int.int_min}}
 use Rattle.lam_geom.specs.declared.boxes.Axis.TheVariants.{X}
 use Rattle.sym_items.specs.Layouts.{size_in}
-use Rattle.plan_model.specs.Rows.{rows_of}
-use Rattle.plan_model.specs.Instances.{left_of_grid, whole_width}
+use Rattle.plan_model.specs.{Rows.rows_of, Instances.{left_of_grid, whole_width}}
 use Rattle.compact_run.proofs.Sums.{capped_past}
 use Rattle.compact_run.proofs.extent.are_too_wide.Goals as goal
 

@@ -1,11 +1,8 @@
-use Rattle.std.proofs.Common.{◌<◌, ◌≤◌, ℤ, pos, List, length, take, map, ap, arith}
-use Rattle.std.specs.Prelude.{◌≤ℤ◌}
-use Rattle.std.proofs.lemmas.Int.{ints, clamps}
-use Rattle.std.proofs.lemmas.List.{take_all}
+use Rattle.std.proofs.{Common.{◌<◌, ◌≤◌, ℤ, pos, List, length, take, map, ap, arith}, lemmas.Int.{ints, clamps}}
+use Rattle.std.{proofs.lemmas.List.take_all, specs.Prelude.◌≤ℤ◌}
 use Rattle.lam_geom.specs.declared.boxes.Axis.TheVariants.{Y}
-use Rattle.plan_model.specs.declared.plan.PlanRow.{PlanRow}
+use Rattle.plan_model.specs.{declared.plan.PlanRow.PlanRow, Instances.{total, row_height}}
 use Rattle.sym_items.specs.Layouts.{size_in}
-use Rattle.plan_model.specs.Instances.{total, row_height}
 use Rattle.compact_run.proofs.Sums.{total_next, total_positive, rows_total}
 use Rattle.compact_run.proofs.extent.grid_height.Goals as goal
 

@@ -1,5 +1,4 @@
-use Rattle.std.proofs.Common.{◌≡◌, pos, ◌≤ℤ◌, map, take}
-use Rattle.std.specs.Int.{int_min}
+use Rattle.std.{proofs.Common.{◌≡◌, pos, ◌≤ℤ◌, map, take}, specs.Int.int_min}
 use Rattle.lam_geom.specs.declared.boxes.Axis.TheVariants.{Y}
 use Rattle.sym_items.specs.Layouts.{size_in}
 use Rattle.plan_model.specs.Instances.{total, row_height}

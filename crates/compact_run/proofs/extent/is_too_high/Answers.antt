@@ -1,9 +1,7 @@
-use Rattle.std.proofs.Common.{arith, ap, map}
-use Rattle.std.proofs.lemmas.Int.{ints, clamps}
+use Rattle.std.proofs.{Common.{arith, ap, map}, lemmas.Int.{ints, clamps}}
 use Rattle.lam_geom.specs.declared.boxes.Axis.TheVariants.{Y}
 use Rattle.sym_items.specs.Layouts.{size_in}
-use Rattle.plan_model.specs.Rows.{rows_of}
-use Rattle.plan_model.specs.Instances.{grid_height, whole_height}
+use Rattle.plan_model.specs.{Rows.rows_of, Instances.{grid_height, whole_height}}
 use Rattle.compact_run.proofs.Sums.{highest_above, past_most}
 use Rattle.compact_run.proofs.extent.is_too_high.Goals as goal
 

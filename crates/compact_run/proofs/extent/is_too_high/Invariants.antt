@@ -1,8 +1,7 @@
 use Rattle.std.proofs.Common.{◌≤ℤ◌, map, take}
 use Rattle.lam_geom.specs.declared.boxes.Axis.TheVariants.{Y}
 use Rattle.sym_items.specs.Layouts.{size_in}
-use Rattle.plan_model.specs.Rows.{rows_of}
-use Rattle.plan_model.specs.Instances.{whole_height}
+use Rattle.plan_model.specs.{Rows.rows_of, Instances.whole_height}
 use Rattle.compact_run.proofs.extent.is_too_high.Given as goal
 
 abbrev pub invariant-loop-grid : goal.invariant-loop-grid

@@ -1,5 +1,4 @@
-use Rattle.std.proofs.Common.{arith}
-use Rattle.std.proofs.lemmas.Int.{ints, clamps}
+use Rattle.std.proofs.{Common.arith, lemmas.Int.{ints, clamps}}
 use Rattle.compact_run.proofs.extent.longer.Goals as goal
 
 pub returns-clause-value : goal.returns-clause-value

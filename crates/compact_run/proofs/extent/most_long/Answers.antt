@@ -1,9 +1,7 @@
-use Rattle.std.proofs.Common.{◌≡◌, ℕ, ℤ, pos, ◌∙◌, ap, arith, to_z, of_z, w64}
-use Rattle.std.specs.Prelude.{int_lt, int_div, ◌*ℤ◌}
-use Rattle.std.proofs.lemmas.Int.{ints, quot_fits, to_z-of_z}
+use Rattle.std.proofs.{Common.{◌≡◌, ℕ, ℤ, pos, ◌∙◌, ap, arith, to_z, of_z, w64}, lemmas.Int.{ints, quot_fits}}
+use Rattle.std.{proofs.lemmas.Int.to_z-of_z, specs.Prelude.{int_lt, int_div, ◌*ℤ◌}}
 use Rattle.rule_table.specs.declared.keys.Numbers.{Numbers}
-use Rattle.compact_run.specs.Designs.{unit_of}
-use Rattle.compact_run.proofs.Extents.{past_quotient, quotient_from_zero}
+use Rattle.compact_run.{specs.Designs.unit_of, proofs.Extents.{past_quotient, quotient_from_zero}}
 use Rattle.compact_run.proofs.extent.most_long.Goals as goal
 
 pub nonzero_div-result : goal.nonzero_div-result

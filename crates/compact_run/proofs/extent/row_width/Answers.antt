@@ -1,5 +1,4 @@
-use Rattle.std.proofs.Common.{ℕ, ℤ, take, get_or, arith}
-use Rattle.std.proofs.lemmas.Int.{ints, clamps}
+use Rattle.std.proofs.{Common.{ℕ, ℤ, take, get_or, arith}, lemmas.Int.{ints, clamps}}
 use Rattle.lam_geom.specs.declared.boxes.Axis.TheVariants.{X}
 use Rattle.sym_items.specs.Layouts.{size_in}
 use Rattle.compact_run.proofs.Sums.{total_next, total_positive}

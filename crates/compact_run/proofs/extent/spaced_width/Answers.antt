@@ -1,12 +1,8 @@
-use Rattle.std.proofs.Common.{◌≡◌, ℤ, pos, List, take, map, ap, arith, to_z, of_z, w64}
-use Rattle.std.specs.Prelude.{◌+ℤ◌, ◌≤ℤ◌}
-use Rattle.std.proofs.lemmas.Int.{ints, clamps, to_z-of_z}
-use Rattle.std.proofs.lemmas.List.{take_all}
+use Rattle.std.proofs.{Common.{◌≡◌, ℤ, pos, List, take, map, ap, arith, to_z, of_z, w64}, lemmas.Int.{ints, clamps}}
+use Rattle.std.{proofs.lemmas.{Int.to_z-of_z, List.take_all}, specs.Prelude.{◌+ℤ◌, ◌≤ℤ◌}}
 use Rattle.lam_geom.specs.declared.boxes.Axis.TheVariants.{X}
-use Rattle.plan_model.specs.declared.plan.PlanGrid.{PlanGrid}
+use Rattle.plan_model.specs.{declared.plan.PlanGrid.PlanGrid, Rows.{rows_of, first_row}, Instances.{total, grid_width}}
 use Rattle.sym_items.specs.Layouts.{size_in}
-use Rattle.plan_model.specs.Rows.{rows_of, first_row}
-use Rattle.plan_model.specs.Instances.{total, grid_width}
 use Rattle.compact_run.proofs.Sums.{total_next, total_positive, grids_total}
 use Rattle.compact_run.proofs.extent.spaced_width.Goals as goal
 

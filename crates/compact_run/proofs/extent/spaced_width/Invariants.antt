@@ -1,9 +1,7 @@
-use Rattle.std.proofs.Common.{◌≡◌, pos, ◌≤ℤ◌, ◌+ℤ◌, map, take}
-use Rattle.std.specs.Int.{int_min}
+use Rattle.std.{proofs.Common.{◌≡◌, pos, ◌≤ℤ◌, ◌+ℤ◌, map, take}, specs.Int.int_min}
 use Rattle.lam_geom.specs.declared.boxes.Axis.TheVariants.{X}
 use Rattle.sym_items.specs.Layouts.{size_in}
-use Rattle.plan_model.specs.Rows.{rows_of}
-use Rattle.plan_model.specs.Instances.{total, grid_width}
+use Rattle.plan_model.specs.{Rows.rows_of, Instances.{total, grid_width}}
 use Rattle.compact_run.proofs.extent.spaced_width.Given as goal
 
 abbrev pub invariant-loop-grid : goal.invariant-loop-grid

@@ -1,6 +1,5 @@
-use Rattle.std.proofs.Common.{◌++◌, ap, ◌∙◌, OnOk, Result, Ok, Err}
+use Rattle.std.proofs.{Common.{◌++◌, ap, ◌∙◌, OnOk, Result, Ok, Err}, lemmas.List.append_assoc}
 use Rattle.std.specs.Prelude.{codes, decimal}
-use Rattle.std.proofs.lemmas.List.{append_assoc}
 use Rattle.compact_run.specs.GridLines.{border_word, place_words}
 use Rattle.compact_run.proofs.grid_lines.push_fault.Goals as goal
 

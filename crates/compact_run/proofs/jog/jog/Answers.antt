@@ -1,5 +1,4 @@
-use Rattle.std.proofs.Common.{take, ◌∙◌}
-use Rattle.std.proofs.lemmas.List.{get_or_default, take_all}
+use Rattle.std.proofs.{Common.{take, ◌∙◌}, lemmas.List.{get_or_default, take_all}}
 use Rattle.compact_run.proofs.Jogging.{jogs_next, jogs_to}
 use Rattle.compact_run.proofs.jog.jog.Goals as goal
 

@@ -1,5 +1,4 @@
-use Rattle.std.proofs.Common.{◌≤◌, take}
-use Rattle.std.specs.Prelude.{◌^◌}
+use Rattle.std.{proofs.Common.{◌≤◌, take}, specs.Prelude.◌^◌}
 use Rattle.stick_parse.specs.Writable.{IsWritable}
 use Rattle.design_sizes.specs.Sizes.{lines_in, names_in}
 use Rattle.compact_run.specs.Jogs.{AreJogs, IsLaidOutAs}

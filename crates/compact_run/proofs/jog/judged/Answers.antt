@@ -1,8 +1,5 @@
-use Rattle.std.proofs.Common.{sym, ◌∙◌}
-use Rattle.std.proofs.lemmas.Bool.{true≢false}
-use Rattle.compact_run.specs.Refusal.{own_text}
-use Rattle.compact_run.proofs.Jogging.{not_better}
-use Rattle.compact_run.proofs.OneLayout.{not_laid_out_too}
+use Rattle.std.proofs.{Common.{sym, ◌∙◌}, lemmas.Bool.true≢false}
+use Rattle.compact_run.{specs.Refusal.own_text, proofs.{Jogging.not_better, OneLayout.not_laid_out_too}}
 use Rattle.compact_run.proofs.jog.judged.Goals as goal
 
 pub returns-in-Ok-clause-dropped : goal.returns-in-Ok-clause-dropped

@@ -1,12 +1,10 @@
-use Rattle.std.proofs.Common.{ℕ, ◌≤◌, ◌^◌, List, Some, None, subst}
-use Rattle.std.specs.Prelude.{◌==◌, position}
+use Rattle.std.{proofs.Common.{ℕ, ◌≤◌, ◌^◌, List, Some, None, subst}, specs.Prelude.{◌==◌, position}}
 use Rattle.design_sizes.specs.Sizes.{names_in}
 use Rattle.stick_parse.specs.declared.design.Design.{Design}
-use Rattle.stick_cell.specs.Known.{Known, cell_of, known_at}
-use Rattle.stick_cell.specs.Lines.{number_of}
-use Rattle.stick_cell.specs.Tables.{known_of}
+use Rattle.stick_cell.specs.{Known.{Known, cell_of, known_at}, Lines.number_of, Tables.known_of}
 use Rattle.jog_insert.specs.Jogs.{IsJogged}
-use Rattle.compact_run.proofs.Jogging.{of_call, few_names, no_cell, no_master, no_jog, not_kept, kept_with, none_kept, accepts, if_wanted}
+use Rattle.compact_run.proofs.Jogging.{of_call, few_names, no_cell, no_master, no_jog, not_kept, kept_with, none_kept}
+use Rattle.compact_run.proofs.Jogging.{accepts, if_wanted}
 use Rattle.compact_run.proofs.jog.tried_in.Goals as goal
 
 pub returns-in_default-clause-rejected : goal.returns-in_default-clause-rejected

@@ -1,8 +1,6 @@
 use Rattle.std.proofs.Common.{◌≡◌, ℕ, ℤ, List, [], ◌∷◌, ◌++◌, map, sym, ap, ◌∙◌, arith, to_z, of_z, w64}
-use Rattle.std.proofs.Math.Nat.{zero-add}
+use Rattle.std.proofs.{Math.Nat.zero-add, lemmas.{Int.ints, List.FromFn.map-range_with_len_more}}
 use Rattle.std.specs.List.{range_with_len}
-use Rattle.std.proofs.lemmas.Int.{ints}
-use Rattle.std.proofs.lemmas.List.FromFn.{map-range_with_len_more}
 use Rattle.lam_geom.specs.declared.boxes.Axis.TheVariants.{X}
 use Rattle.sym_items.specs.Layouts.{size_in}
 use Rattle.compact_run.proofs.jog.widths.Goals as goal

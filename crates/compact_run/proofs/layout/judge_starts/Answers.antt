@@ -1,11 +1,8 @@
-use Rattle.std.proofs.Common.{subst, ◌∙◌}
-use Rattle.std.proofs.lemmas.Result.{err_from_is_err_and}
+use Rattle.std.proofs.{Common.{subst, ◌∙◌}, lemmas.{Result.err_from_is_err_and, List.{get_or_default, take_all}}}
 use Rattle.std.specs.Prelude.{All}
-use Rattle.std.proofs.lemmas.List.{get_or_default, take_all}
 use Rattle.pitch_join.specs.Masters.{no_master}
 use Rattle.pass_run.specs.Laid.{StartsClean}
-use Rattle.compact_run.proofs.Counting.{all_next}
-use Rattle.compact_run.proofs.Layouts.{start_refused}
+use Rattle.compact_run.proofs.{Counting.all_next, Layouts.start_refused}
 use Rattle.compact_run.proofs.layout.judge_starts.Goals as goal
 
 pub returns-in_err-judge_start-clause-refused : goal.returns-in_err-judge_start-clause-refused

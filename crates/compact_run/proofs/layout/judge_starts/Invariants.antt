@@ -1,5 +1,4 @@
-use Rattle.std.proofs.Common.{take}
-use Rattle.std.specs.Prelude.{All}
+use Rattle.std.{proofs.Common.take, specs.Prelude.All}
 use Rattle.pass_run.specs.Laid.{StartsClean}
 use Rattle.compact_run.proofs.layout.judge_starts.Given as goal
 

@@ -1,19 +1,13 @@
 use Rattle.std.proofs.Common.{◌≡◌, ◌^◌, ◌≤◌, List, length, refl, ap, ◌∙◌, subst, arith}
-use Rattle.std.proofs.lemmas.Int.{ints}
-use Rattle.std.proofs.lemmas.Result.{err_from_is_err_and}
-use Rattle.lam_geom.specs.declared.boxes.Axis.TheVariants.{X, Y}
-use Rattle.rule_table.proofs.Margins.{widest_positive}
-use Rattle.rule_table.proofs.Sound.{sound}
+use Rattle.std.proofs.lemmas.{Int.ints, Result.err_from_is_err_and}
+use Rattle.lam_geom.specs.declared.boxes.{Axis.TheVariants.{X, Y}, MaskBox.MaskBox}
+use Rattle.rule_table.proofs.{Margins.widest_positive, Sound.sound}
 use Rattle.sym_items.specs.declared.items.Coords.{Coords}
-use Rattle.grid_rules.specs.Rules.{AllKeepSpacing}
-use Rattle.lam_geom.specs.declared.boxes.MaskBox.{MaskBox}
-use Rattle.grid_rules.specs.Shapes.{AreShapes}
+use Rattle.grid_rules.specs.{Rules.AllKeepSpacing, Shapes.AreShapes}
 use Rattle.flat_check.specs.Breaks.{KeepRules}
-use Rattle.written_masks.specs.Parts.{boxes_of_instances}
-use Rattle.written_masks.specs.Written.{HasSticksNets, text_of_layouts}
-use Rattle.compact_run.specs.Designs.{IsWithin}
-use Rattle.compact_run.proofs.Layouts.{stopped, too_large, finished, sizes_above, boxed, within_length}
-use Rattle.compact_run.proofs.Planned.{of_plan}
+use Rattle.written_masks.specs.{Parts.boxes_of_instances, Written.{HasSticksNets, text_of_layouts}}
+use Rattle.compact_run.{specs.Designs.IsWithin, proofs.Layouts.{stopped, too_large, finished, sizes_above, boxed}}
+use Rattle.compact_run.proofs.{Layouts.within_length, Planned.of_plan}
 use Rattle.compact_run.proofs.layout.lay_out.Goals as goal
 
 pub returns-in_err-passes-clause-refused : goal.returns-in_err-passes-clause-refused

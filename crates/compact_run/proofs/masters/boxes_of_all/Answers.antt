@@ -1,7 +1,5 @@
-use Rattle.std.proofs.Common.{ℕ, ◌<◌, List, length, sym, subst}
-use Rattle.std.specs.Prelude.{All}
-use Rattle.plan_model.specs.declared.plan.PlanGrid.{PlanGrid}
-use Rattle.plan_model.specs.Rows.{rows_of}
+use Rattle.std.{proofs.Common.{ℕ, ◌<◌, List, length, sym, subst}, specs.Prelude.All}
+use Rattle.plan_model.specs.{declared.plan.PlanGrid.PlanGrid, Rows.rows_of}
 use Rattle.compact_run.proofs.Counting.{among_images}
 use Rattle.compact_run.proofs.masters.boxes_of_all.Goals as goal
 

@@ -1,12 +1,7 @@
-use Rattle.std.proofs.Common.{◌≡◌, ◌≤◌, [], ◌∷◌, get_or, sym, subst, ◌∙◌, arith}
-use Rattle.std.specs.Prelude.{All}
-use Rattle.std.proofs.lemmas.List.Elements.{All-get_or, All-append}
-use Rattle.stick_cell.specs.Counts.{boxes_of, weight_of}
-use Rattle.stick_cell.specs.Known.{known_at}
-use Rattle.stick_cell.specs.Tables.{known_of}
-use Rattle.compact_run.specs.Limits.{most_items}
-use Rattle.compact_run.proofs.Counting.{push_mapped, all_of_one}
-use Rattle.compact_run.proofs.Weights.{fewer_boxes}
+use Rattle.std.proofs.{Common.{◌≡◌, ◌≤◌, [], ◌∷◌, get_or, sym, subst, ◌∙◌, arith}, lemmas.List.Elements.All-get_or}
+use Rattle.std.{proofs.lemmas.List.Elements.All-append, specs.Prelude.All}
+use Rattle.stick_cell.specs.{Counts.{boxes_of, weight_of}, Known.known_at, Tables.known_of}
+use Rattle.compact_run.{specs.Limits.most_items, proofs.{Counting.{push_mapped, all_of_one}, Weights.fewer_boxes}}
 use Rattle.compact_run.proofs.masters.boxes_of_each.Goals as goal
 
 pub loop-master-preserved : goal.loop-master-preserved

@@ -1,8 +1,5 @@
-use Rattle.std.proofs.Common.{◌≡◌, ◌≤◌, map, take}
-use Rattle.std.specs.Prelude.{All}
-use Rattle.stick_cell.specs.Counts.{boxes_of}
-use Rattle.stick_cell.specs.Known.{known_at}
-use Rattle.stick_cell.specs.Tables.{known_of}
+use Rattle.std.{proofs.Common.{◌≡◌, ◌≤◌, map, take}, specs.Prelude.All}
+use Rattle.stick_cell.specs.{Counts.boxes_of, Known.known_at, Tables.known_of}
 use Rattle.compact_run.specs.Limits.{most_items}
 use Rattle.compact_run.proofs.masters.boxes_of_each.Given as goal
 

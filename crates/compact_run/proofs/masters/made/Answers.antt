@@ -1,11 +1,7 @@
-use Rattle.std.proofs.Common.{[], ◌∷◌, map, sym, subst, ap, ◌∙◌}
-use Rattle.std.specs.Prelude.{All}
-use Rattle.std.proofs.lemmas.List.Elements.{All-append}
+use Rattle.std.{proofs.{Common.{[], ◌∷◌, map, sym, subst, ap, ◌∙◌}, lemmas.List.Elements.All-append}, specs.Prelude.All}
 use Rattle.cell_model.specs.declared.cell.Cell.{Cell}
-use Rattle.stick_cell.specs.Known.{known_at, cell_of}
-use Rattle.stick_cell.specs.Tables.{known_of}
-use Rattle.expand.specs.declared.master.Master.{Master}
-use Rattle.expand.specs.Masters.{IsMaster}
+use Rattle.stick_cell.specs.{Known.{known_at, cell_of}, Tables.known_of}
+use Rattle.expand.specs.{declared.master.Master.Master, Masters.IsMaster}
 use Rattle.compact_run.proofs.Counting.{images_next, all_of_one}
 use Rattle.compact_run.proofs.masters.made.Goals as goal
 

@@ -1,9 +1,6 @@
-use Rattle.std.proofs.Common.{◌≡◌, map, take}
-use Rattle.std.specs.Prelude.{All}
-use Rattle.stick_cell.specs.Known.{known_at, cell_of}
-use Rattle.stick_cell.specs.Tables.{known_of}
-use Rattle.expand.specs.declared.master.Master.{Master}
-use Rattle.expand.specs.Masters.{IsMaster}
+use Rattle.std.{proofs.Common.{◌≡◌, map, take}, specs.Prelude.All}
+use Rattle.stick_cell.specs.{Known.{known_at, cell_of}, Tables.known_of}
+use Rattle.expand.specs.{declared.master.Master.Master, Masters.IsMaster}
 use Rattle.compact_run.proofs.masters.made.Given as goal
 
 abbrev pub invariant-loop-number : goal.invariant-loop-number

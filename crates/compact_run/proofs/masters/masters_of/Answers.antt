@@ -1,10 +1,7 @@
-use Rattle.std.proofs.Common.{◌≢◌, ℕ, ◌<◌, ◌≤◌, List, length, sym, subst}
-use Rattle.std.specs.Prelude.{All}
-use Rattle.stick_parse.specs.declared.design.Design.{Design}
-use Rattle.stick_parse.specs.Writable.{IsWritable}
+use Rattle.std.{proofs.Common.{◌≢◌, ℕ, ◌<◌, ◌≤◌, List, length, sym, subst}, specs.Prelude.All}
+use Rattle.stick_parse.specs.{declared.design.Design.Design, Writable.IsWritable}
 use Rattle.stick_cell.specs.Tables.{known_of}
-use Rattle.compact_run.proofs.Chosen.{short_name, plain_name}
-use Rattle.compact_run.proofs.Planned.{are_chosen, are_planned, are_named}
+use Rattle.compact_run.proofs.{Chosen.{short_name, plain_name}, Planned.{are_chosen, are_planned, are_named}}
 use Rattle.compact_run.proofs.Standing.{all_stand}
 use Rattle.compact_run.proofs.masters.masters_of.Goals as goal
 

@@ -1,8 +1,5 @@
-use Rattle.std.proofs.Common.{◌≡◌, take}
-use Rattle.std.specs.Prelude.{sum_by}
-use Rattle.stick_cell.specs.Counts.{weight_of, capped}
-use Rattle.stick_cell.specs.Known.{known_at}
-use Rattle.stick_cell.specs.Tables.{known_of}
+use Rattle.std.{proofs.Common.{◌≡◌, take}, specs.Prelude.sum_by}
+use Rattle.stick_cell.specs.{Counts.{weight_of, capped}, Known.known_at, Tables.known_of}
 use Rattle.compact_run.proofs.masters.weight_of_all.Given as goal
 
 abbrev pub invariant-loop-master : goal.invariant-loop-master

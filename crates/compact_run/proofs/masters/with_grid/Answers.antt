@@ -1,5 +1,4 @@
-use Rattle.std.proofs.Common.{ℕ, ◌<◌, List, length, sym, subst}
-use Rattle.std.specs.Prelude.{All}
+use Rattle.std.{proofs.Common.{ℕ, ◌<◌, List, length, sym, subst}, specs.Prelude.All}
 use Rattle.plan_model.specs.declared.plan.PlanRow.{PlanRow}
 use Rattle.compact_run.proofs.Counting.{among_images}
 use Rattle.compact_run.proofs.masters.with_grid.Goals as goal

@@ -1,5 +1,4 @@
-use Rattle.std.proofs.Common.{◌≡◌, ◌+◌, take}
-use Rattle.std.specs.Prelude.{sum_by, slice_index}
+use Rattle.std.{proofs.Common.{◌≡◌, ◌+◌, take}, specs.Prelude.{sum_by, slice_index}}
 use Rattle.compact_run.specs.Limits.{capped_boxes}
 use Rattle.compact_run.proofs.masters.with_row.Given as goal
 

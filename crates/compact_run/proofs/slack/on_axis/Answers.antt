@@ -1,7 +1,6 @@
 use Rattle.std.proofs.Common.{Result, Ok, Err, IfOk, ◌∙◌}
-use Rattle.compact_run.proofs.AxisSlack.{IsLastWith, read_last, has_slack}
+use Rattle.compact_run.proofs.{AxisSlack.{IsLastWith, read_last, has_slack}, slack.on_axis.Goals.After-as_slice-most}
 use Rattle.compact_run.proofs.slack.on_axis.Goals as goal
-use Rattle.compact_run.proofs.slack.on_axis.Goals.{After-as_slice-most}
 
 -- what the code has read is the last pass on the axis, with its greatest values
 last_read : (c : After-as_slice-most) → IsLastWith c.args.tech.now c.args.plan.now c.args.masters.now c.args.passes.now.steps c.args.axis c.last_on-last.result c.as_slice-least.result.now c.as_slice-most.result.now

@@ -1,19 +1,12 @@
 use Rattle.std.proofs.Common.{◌≡◌, ◌≤◌, ℤ, List, length, refl, sym, ap, ◌∙◌, subst, arith}
-use Rattle.std.specs.Prelude.{Contains}
-use Rattle.std.proofs.lemmas.Result.{err_from_is_err_and}
-use Rattle.lam_geom.specs.declared.boxes.Axis.{Axis}
-use Rattle.lam_geom.specs.declared.boxes.Axis.TheVariants.{X, Y}
+use Rattle.std.{proofs.lemmas.Result.err_from_is_err_and, specs.Prelude.Contains}
+use Rattle.lam_geom.specs.declared.boxes.Axis.{Axis, TheVariants.{X, Y}}
 use Rattle.rule_table.specs.declared.technology.Tech.{Tech}
 use Rattle.expand.specs.declared.master.Master.{Master}
 use Rattle.plan_model.specs.declared.plan.Plan.{Plan}
-use Rattle.pass_run.specs.declared.step.Step.{Step}
-use Rattle.pass_run.specs.Layouts.{starts_of}
-use Rattle.pass_run.specs.Passes.{axes_of}
-use Rattle.pass_run.specs.Slack.{AreTight}
+use Rattle.pass_run.specs.{declared.step.Step.Step, Layouts.starts_of, Passes.axes_of, Slack.AreTight}
 use Rattle.pass_run.proofs.Chain.{axes_counted}
-use Rattle.compact_run.specs.Limits.{most_passes}
-use Rattle.compact_run.specs.Designs.{no_masks}
-use Rattle.compact_run.proofs.FewParts.{few_parts, few_in_all}
+use Rattle.compact_run.{specs.{Limits.most_passes, Designs.no_masks}, proofs.FewParts.{few_parts, few_in_all}}
 use Rattle.compact_run.proofs.slack.slack.Goals as goal
 
 pub lay_out-requires-clause-few_parts : goal.lay_out-requires-clause-few_parts

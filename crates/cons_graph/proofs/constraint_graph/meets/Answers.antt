@@ -1,5 +1,4 @@
-use Rattle.std.proofs.Common.{◌^◌, w64, ℤ, pos, neg_ℤ, ◌-ℤ◌, ◌≤ℤ◌, to_z, of_z, arith, get_or}
-use Rattle.std.proofs.lemmas.Int.{ints}
+use Rattle.std.proofs.{Common.{◌^◌, w64, ℤ, pos, neg_ℤ, ◌-ℤ◌, ◌≤ℤ◌, to_z, of_z, arith, get_or}, lemmas.Int.ints}
 use Rattle.cons_graph.proofs.constraint_graph.meets.Goals as goal
 
 -- a value that the condition puts within 2^60 of 0

@@ -1,5 +1,4 @@
-use Rattle.std.proofs.Common.{◌≤ℤ◌, arith}
-use Rattle.std.proofs.lemmas.Int.{ints}
+use Rattle.std.proofs.{Common.{◌≤ℤ◌, arith}, lemmas.Int.ints}
 use Rattle.cons_graph.proofs.laws.one_least_solution.Goals as goal
 
 pub returns : goal.returns

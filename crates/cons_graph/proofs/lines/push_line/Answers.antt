@@ -1,5 +1,4 @@
-use Rattle.std.proofs.Common.{◌≡◌, [], sym, rules, append_assoc}
-use Rattle.std.proofs.lemmas.Option.{get_or_from_slice_get}
+use Rattle.std.proofs.{Common.{◌≡◌, [], sym, rules, append_assoc}, lemmas.Option.get_or_from_slice_get}
 use Rattle.cons_graph.specs.Lines.{name_of}
 use Rattle.cons_graph.proofs.lines.push_line.Goals as goal
 

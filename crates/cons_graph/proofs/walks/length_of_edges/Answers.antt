@@ -1,8 +1,6 @@
-use Rattle.std.proofs.Common.{◌≡◌, ℕ, ◌+◌, ◌*◌, ◌<◌, ◌≤◌, w64, to_z, of_z, ℤ, pos, neg_ℤ, ◌+ℤ◌, ◌≤ℤ◌, ◌^◌, length, get_or, sym, ap, subst, ◌∙◌, arith}
-use Rattle.std.proofs.lemmas.Int.{ints}
-use Rattle.cons_graph.specs.Constraints.{IsShort}
-use Rattle.cons_graph.specs.EdgeNumbers.{edge_at}
-use Rattle.cons_graph.specs.declared.edges.Why.TheVariants.{Size}
+use Rattle.std.proofs.Common.{◌≡◌, ℕ, ◌+◌, ◌*◌, ◌<◌, ◌≤◌, w64, to_z, of_z, ℤ, pos, neg_ℤ, ◌+ℤ◌, ◌≤ℤ◌, ◌^◌, length}
+use Rattle.std.proofs.{Common.{get_or, sym, ap, subst, ◌∙◌, arith}, lemmas.Int.ints}
+use Rattle.cons_graph.specs.{Constraints.IsShort, EdgeNumbers.edge_at, declared.edges.Why.TheVariants.Size}
 use Rattle.cons_graph.proofs.Tests.{length_of-more}
 use Rattle.cons_graph.proofs.walks.length_of_edges.Goals as goal
 

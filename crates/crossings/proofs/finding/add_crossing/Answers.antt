@@ -1,10 +1,7 @@
-use Rattle.std.proofs.Common.{of_z, to_z, w64, refl, ap}
-use Rattle.std.proofs.lemmas.List.{get_or_default}
+use Rattle.std.proofs.{Common.{of_z, to_z, w64, refl, ap}, lemmas.List.get_or_default}
 use Rattle.lam_geom.specs.declared.boxes.MaskLayer.TheVariants.{NI}
-use Rattle.crossings.specs.Boxes.{no_box}
-use Rattle.crossings.proofs.Buried.{common_read}
-use Rattle.crossings.proofs.Covered.{implanted_by_cover}
-use Rattle.crossings.proofs.Grains.{grains_held, margin_of_grains, margin_passed}
+use Rattle.crossings.{specs.Boxes.no_box, proofs.{Buried.common_read, Covered.implanted_by_cover, Grains.grains_held}}
+use Rattle.crossings.proofs.Grains.{margin_of_grains, margin_passed}
 use Rattle.crossings.proofs.finding.add_crossing.Goals as goal
 
 pub is_covered-depletion-requires-clause-margin : goal.is_covered-depletion-requires-clause-margin

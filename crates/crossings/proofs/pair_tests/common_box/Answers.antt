@@ -1,5 +1,4 @@
-use Rattle.std.proofs.Common.{arith}
-use Rattle.std.proofs.lemmas.Int.{ints, clamps}
+use Rattle.std.proofs.{Common.arith, lemmas.Int.{ints, clamps}}
 use Rattle.crossings.proofs.pair_tests.common_box.Goals as goal
 
 pub common_span-requires-clause-overlap : goal.common_span-requires-clause-overlap

@@ -1,5 +1,4 @@
-use Rattle.std.proofs.Common.{arith}
-use Rattle.std.proofs.lemmas.Int.{ints, clamps}
+use Rattle.std.proofs.{Common.arith, lemmas.Int.{ints, clamps}}
 use Rattle.crossings.proofs.pair_tests.common_span.Goals as goal
 
 pub invariant_of-result : goal.invariant_of-result

@@ -1,8 +1,6 @@
-use Rattle.std.proofs.Common.{◌≡◌, false, true, refl, sym, ap, ◌∙◌, arith}
-use Rattle.std.proofs.lemmas.Int.{ints}
+use Rattle.std.proofs.{Common.{◌≡◌, false, true, refl, sym, ap, ◌∙◌, arith}, lemmas.Int.ints}
 use Rattle.lam_geom.specs.Gaps.{span_along}
-use Rattle.crossings.proofs.Grains.{grains_held}
-use Rattle.crossings.proofs.SpansPast.{past_alike}
+use Rattle.crossings.proofs.{Grains.grains_held, SpansPast.past_alike}
 use Rattle.crossings.proofs.pair_tests.cross_along.Goals as goal
 
 pub goes_past-requires-clause-within : goal.goes_past-requires-clause-within

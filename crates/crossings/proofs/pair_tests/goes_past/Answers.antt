@@ -1,5 +1,4 @@
-use Rattle.std.proofs.Common.{◌≡◌, false, true, refl, arith}
-use Rattle.std.proofs.lemmas.Int.{ints}
+use Rattle.std.proofs.{Common.{◌≡◌, false, true, refl, arith}, lemmas.Int.ints}
 use Rattle.crossings.proofs.pair_tests.goes_past.Goals as goal
 
 pub returns-then-is_at_most : goal.returns-then-is_at_most

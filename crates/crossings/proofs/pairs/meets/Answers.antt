@@ -1,8 +1,6 @@
-use Rattle.std.proofs.Common.{false, true, refl}
-use Rattle.std.proofs.lemmas.List.{get_or_default}
+use Rattle.std.proofs.{Common.{false, true, refl}, lemmas.List.get_or_default}
 use Rattle.crossings.specs.Boxes.{no_box}
-use Rattle.crossings.proofs.Facing.{overlap_by_area, area_overlap}
-use Rattle.crossings.proofs.Meetings.{meets_overlap, overlaps_read}
+use Rattle.crossings.proofs.{Facing.{overlap_by_area, area_overlap}, Meetings.{meets_overlap, overlaps_read}}
 use Rattle.crossings.proofs.pairs.meets.Goals as goal
 
 pub returns-then-not-overlaps : goal.returns-then-not-overlaps

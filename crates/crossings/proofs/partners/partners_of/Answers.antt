@@ -1,6 +1,5 @@
 use Rattle.std.proofs.Common.{ℕ, subst}
-use Rattle.crossings.specs.Pairs.{DoOverlap}
-use Rattle.crossings.proofs.Overlapped.{not_itself, two_overlap}
+use Rattle.crossings.{specs.Pairs.DoOverlap, proofs.Overlapped.{not_itself, two_overlap}}
 use Rattle.crossings.proofs.partners.partners_of.Goals as goal
 
 pub returns-in_default : goal.returns-in_default

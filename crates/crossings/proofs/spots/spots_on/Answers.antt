@@ -1,13 +1,10 @@
 use denote.Enum.Bare.{same_false, same_true}
 use Rattle.std.proofs.Common.{◌≡◌, ℕ, ◌+◌, Vec, Global, length, sym, ap, ◌∙◌, subst, arith, rules}
 use Rattle.std.proofs.lemmas.List.{get_or_read}
-use Rattle.lam_geom.specs.contracts.boxes.MaskLayer.{the_type}
-use Rattle.lam_geom.specs.declared.boxes.MaskBox.{MaskBox}
+use Rattle.lam_geom.specs.{contracts.boxes.MaskLayer.the_type, declared.boxes.MaskBox.MaskBox}
 use Rattle.box_tree.specs.declared.spots.Spot.{Spot}
-use Rattle.crossings.specs.Boxes.{IsOn, no_box}
-use Rattle.crossings.specs.Spots.{AreSpotsBelow, box_spot}
-use Rattle.crossings.proofs.SpotBoxes.{spot_is}
-use Rattle.crossings.proofs.SpotLists.{spots_none, spots_skip, spots_push}
+use Rattle.crossings.specs.{Boxes.{IsOn, no_box}, Spots.{AreSpotsBelow, box_spot}}
+use Rattle.crossings.proofs.{SpotBoxes.spot_is, SpotLists.{spots_none, spots_skip, spots_push}}
 use Rattle.crossings.proofs.spots.spots_on.Goals.{then-eq+in_ok-push, else-eq}
 use Rattle.crossings.proofs.spots.spots_on.Goals as goal
 

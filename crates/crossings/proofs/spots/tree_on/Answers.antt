@@ -1,8 +1,6 @@
-use Rattle.std.proofs.Common.{◌≡◌, List, subst, sym}
-use Rattle.std.proofs.lemmas.Result.{IfOk-weaker}
+use Rattle.std.proofs.{Common.{◌≡◌, List, subst, sym}, lemmas.Result.IfOk-weaker}
 use Rattle.box_tree.specs.declared.spots.Spot.{Spot}
-use Rattle.crossings.specs.Spots.{AreBoxesOn}
-use Rattle.crossings.proofs.SpotBoxes.{spots_few, spots_placed}
+use Rattle.crossings.{specs.Spots.AreBoxesOn, proofs.SpotBoxes.{spots_few, spots_placed}}
 use Rattle.crossings.proofs.spots.tree_on.Goals as goal
 
 pub new-requires-clause-few : goal.new-requires-clause-few

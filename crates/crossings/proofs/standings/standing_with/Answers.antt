@@ -1,8 +1,6 @@
-use Rattle.std.proofs.Common.{◌≡◌, false, true, sym, ap}
-use Rattle.std.proofs.lemmas.List.{get_or_default}
+use Rattle.std.proofs.{Common.{◌≡◌, false, true, sym, ap}, lemmas.List.get_or_default}
 use Rattle.lam_geom.specs.declared.boxes.MaskBox.{MaskBox}
-use Rattle.crossings.specs.Boxes.{no_box}
-use Rattle.crossings.specs.Crossings.{CrossProperly, IsBuriedPair}
+use Rattle.crossings.specs.{Boxes.no_box, Crossings.{CrossProperly, IsBuriedPair}}
 use Rattle.crossings.proofs.Improper.{IsOnlyPair, along_alike, only_bad, only_crosses, several_improper}
 use Rattle.crossings.proofs.standings.standing_with.Goals as goal
 

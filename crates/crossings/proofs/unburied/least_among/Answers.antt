@@ -1,13 +1,12 @@
-use Rattle.std.proofs.Common.{◌≡◌, ℕ, ◌+◌, ◌<◌, get_or, Option, Some, length, true, false, Contains, sym, ap, ◌∙◌, subst, arith}
-use Rattle.std.proofs.lemmas.Option.{slice_get-get_or}
-use Rattle.std.proofs.lemmas.List.{length-map}
+use Rattle.std.proofs.Common.{◌≡◌, ℕ, ◌+◌, ◌<◌, get_or, Option, Some, length, true, false, Contains, sym, ap, ◌∙◌}
+use Rattle.std.proofs.{Common.{subst, arith}, lemmas.{Option.slice_get-get_or, List.length-map}}
 use Rattle.box_tree.specs.declared.spots.Spot.{Spot}
 use Rattle.crossings.specs.Pairs.{Least, Meets, IsBelow}
-use Rattle.crossings.proofs.Counts.{FirstWith}
-use Rattle.crossings.proofs.Leasts.{least_kept, least_stays, least_falls, least_all, least_alike}
-use Rattle.crossings.proofs.Meetings.{meets_overlap}
-use Rattle.crossings.proofs.SpotBoxes.{owners, owner_read, met_is_owner, spot_faces}
-use Rattle.crossings.proofs.unburied.least_among.Goals.{then-is_below+then-meets, else-is_below, else-is_below-via-then-is_below+else-meets, else-is_below-via-else-is_below}
+use Rattle.crossings.proofs.{Counts.FirstWith, Leasts.{least_kept, least_stays, least_falls, least_all, least_alike}}
+use Rattle.crossings.proofs.{Meetings.meets_overlap, SpotBoxes.{owners, owner_read, met_is_owner, spot_faces}}
+use Rattle.crossings.proofs.unburied.least_among.Goals.{then-is_below+then-meets, else-is_below}
+use Rattle.crossings.proofs.unburied.least_among.Goals.{else-is_below-via-then-is_below+else-meets}
+use Rattle.crossings.proofs.unburied.least_among.Goals.{else-is_below-via-else-is_below}
 use Rattle.crossings.proofs.unburied.least_among.Goals as goal
 
 pub meets-requires-clause-facing : goal.meets-requires-clause-facing

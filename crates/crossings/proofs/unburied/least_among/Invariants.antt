@@ -1,6 +1,4 @@
-use Rattle.crossings.specs.Pairs.{Least, Meets}
-use Rattle.crossings.proofs.Counts.{FirstWith}
-use Rattle.crossings.proofs.SpotBoxes.{owners}
+use Rattle.crossings.{specs.Pairs.{Least, Meets}, proofs.{Counts.FirstWith, SpotBoxes.owners}}
 use Rattle.crossings.proofs.unburied.least_among.Given as goal
 
 abbrev pub invariant-loop-spot : goal.invariant-loop-spot

@@ -1,12 +1,9 @@
 use Rattle.std.proofs.Common.{◌≡◌, ℕ, ◌+◌, ◌<◌, Bool, List, MatchBool, length, get_or, sym, ap, subst, arith}
-use Rattle.box_tree.specs.declared.spots.Group.{Group}
-use Rattle.box_tree.specs.declared.spots.Spot.{Spot}
-use Rattle.box_tree.specs.Tree.{IsTreeOf}
+use Rattle.box_tree.specs.{declared.spots.{Group.Group, Spot.Spot}, Tree.IsTreeOf}
 use Rattle.box_tree.proofs.Trees.{IsBarren, IsPassed, group_here, passed_none, passed_group, passed_into}
-use Rattle.crossings.specs.Pairs.{Meets}
-use Rattle.crossings.specs.Spots.{AreSpotsFacing}
-use Rattle.crossings.proofs.Walks.{MeetsSpot, barren_inside, meets_none}
-use Rattle.crossings.proofs.unburied.meets_in.Goals.{else-group-eq0-via-then-group-eq0+else-meets_spot, else-group-eq0-via-else-group-eq0}
+use Rattle.crossings.{specs.{Pairs.Meets, Spots.AreSpotsFacing}, proofs.Walks.{MeetsSpot, barren_inside, meets_none}}
+use Rattle.crossings.proofs.unburied.meets_in.Goals.{else-group-eq0-via-then-group-eq0+else-meets_spot}
+use Rattle.crossings.proofs.unburied.meets_in.Goals.{else-group-eq0-via-else-group-eq0}
 use Rattle.crossings.proofs.unburied.meets_in.Goals as goal
 
 pub loop-at-init : goal.loop-at-init

@@ -1,12 +1,8 @@
-use Rattle.std.proofs.Common.{◌≡◌, false, true, of_z, to_z, w64, sym, ◌∙◌, subst}
-use Rattle.std.proofs.lemmas.List.{get_or_default}
-use Rattle.lam_geom.specs.declared.boxes.MaskBox.{MaskBox}
-use Rattle.lam_geom.specs.declared.boxes.MaskLayer.TheVariants.{NB}
-use Rattle.lam_geom.specs.Gaps.{Overlaps}
+use Rattle.std.proofs.{Common.{◌≡◌, false, true, of_z, to_z, w64, sym, ◌∙◌, subst}, lemmas.List.get_or_default}
+use Rattle.lam_geom.specs.{declared.boxes.{MaskBox.MaskBox, MaskLayer.TheVariants.NB}, Gaps.Overlaps}
 use Rattle.box_tree.proofs.Within.{margin_held}
 use Rattle.crossings.specs.Boxes.{IsCommon, area_at, no_box}
-use Rattle.crossings.proofs.Grains.{margin_passed}
-use Rattle.crossings.proofs.Settling.{apart_meets_none, settled_meets_none}
+use Rattle.crossings.proofs.{Grains.margin_passed, Settling.{apart_meets_none, settled_meets_none}}
 use Rattle.crossings.proofs.unburied.meets_none_inside.Goals as goal
 
 pub returns-then-not-overlaps : goal.returns-then-not-overlaps

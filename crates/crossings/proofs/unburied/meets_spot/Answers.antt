@@ -1,11 +1,7 @@
 use Rattle.std.proofs.Common.{◌≡◌, ℕ, ◌<◌, false, true, inl, inr, length, get_or, refl, sym, ◌∙◌, subst, arith}
-use Rattle.std.proofs.lemmas.Bool.{cases_lt}
-use Rattle.std.proofs.lemmas.Option.{slice_get-get_or}
-use Rattle.box_tree.specs.declared.spots.Spot.{Spot}
-use Rattle.box_tree.specs.Tree.{spot_at}
-use Rattle.box_tree.proofs.Trees.{spot_read}
-use Rattle.crossings.specs.Pairs.{Meets}
-use Rattle.crossings.proofs.SpotBoxes.{spot_faces}
+use Rattle.std.proofs.lemmas.{Bool.cases_lt, Option.slice_get-get_or}
+use Rattle.box_tree.{specs.{declared.spots.Spot.Spot, Tree.spot_at}, proofs.Trees.spot_read}
+use Rattle.crossings.{specs.Pairs.Meets, proofs.SpotBoxes.spot_faces}
 use Rattle.crossings.proofs.unburied.meets_spot.Goals as goal
 
 pub meets-requires-clause-facing : goal.meets-requires-clause-facing

@@ -1,8 +1,7 @@
 use Rattle.std.proofs.Common.{of_z, to_z, w64, ◌∙◌}
 use Rattle.lam_geom.specs.declared.boxes.MaskLayer.TheVariants.{NB}
 use Rattle.box_tree.proofs.Within.{margin_held}
-use Rattle.crossings.proofs.Buried.{buried_by_window}
-use Rattle.crossings.proofs.Grains.{margin_passed}
+use Rattle.crossings.proofs.{Buried.buried_by_window, Grains.margin_passed}
 use Rattle.crossings.proofs.windows.is_buried.Goals as goal
 
 pub is_covered-requires-clause-margin : goal.is_covered-requires-clause-margin

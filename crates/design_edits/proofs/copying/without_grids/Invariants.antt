@@ -1,5 +1,4 @@
-use Rattle.std.proofs.Common.{◌≡◌, ◌+◌, drop}
-use Rattle.std.specs.Prelude.{sum_by}
+use Rattle.std.{proofs.Common.{◌≡◌, ◌+◌, drop}, specs.Prelude.sum_by}
 use Rattle.design_sizes.specs.Sizes.{lines_of_grid}
 use Rattle.design_edits.proofs.copying.without_grids.Given as goal
 

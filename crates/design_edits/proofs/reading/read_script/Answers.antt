@@ -1,7 +1,5 @@
-use Rattle.std.proofs.Common.{◌+◌, arith, ap}
+use Rattle.std.proofs.{Common.{◌+◌, arith, ap}, lemmas.{Bool.Decides.nat_tests, List.nil_from_length}}
 use Rattle.std.specs.Str.Lines.{lines}
-use Rattle.std.proofs.lemmas.Bool.Decides.{nat_tests}
-use Rattle.std.proofs.lemmas.List.{nil_from_length}
 use Rattle.design_edits.specs.Scripts.{step_by, steps_from}
 use Rattle.design_edits.proofs.ScriptsLeft.{front_none, next_line, read_one, read_none, read_bad, read_all}
 use Rattle.design_edits.proofs.reading.read_script.Goals as goal

@@ -1,7 +1,5 @@
-use Rattle.std.proofs.Common.{◌≡◌, ◌+◌, ◌≤◌, length}
-use Rattle.std.specs.Str.Lines.{lines}
-use Rattle.design_edits.specs.Scripts.{steps_from}
-use Rattle.design_edits.proofs.ScriptsLeft.{with_front}
+use Rattle.std.{proofs.Common.{◌≡◌, ◌+◌, ◌≤◌, length}, specs.Str.Lines.lines}
+use Rattle.design_edits.{specs.Scripts.steps_from, proofs.ScriptsLeft.with_front}
 use Rattle.design_edits.proofs.reading.read_script.Given as goal
 
 abbrev pub invariant-lines : goal.invariant-lines

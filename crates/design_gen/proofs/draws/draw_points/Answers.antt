@@ -1,6 +1,5 @@
 use Rattle.std.proofs.Common.{◌≡◌, ◌∷◌, ◌++◌, [], map, refl, sym, ap, ◌∙◌, zero-add, arith, rules}
-use Rattle.std.specs.List.{range_with_len}
-use Rattle.std.proofs.lemmas.List.FromFn.{map-range_with_len_more}
+use Rattle.std.{proofs.lemmas.List.FromFn.map-range_with_len_more, specs.List.range_with_len}
 use Rattle.design_gen.specs.Draws.{number_after, next_number, point_of, point_at, bits_of}
 use Rattle.design_gen.proofs.Growing.{number_more, draw_here}
 use Rattle.design_gen.proofs.draws.draw_points.Goals as goal

@@ -1,5 +1,4 @@
-use Rattle.std.proofs.Common.{◌≡◌, ◌<◌, ◌^◌, map}
-use Rattle.std.specs.List.{range_with_len}
+use Rattle.std.{proofs.Common.{◌≡◌, ◌<◌, ◌^◌, map}, specs.List.range_with_len}
 use Rattle.design_gen.specs.Draws.{number_after, point_at}
 use Rattle.design_gen.proofs.draws.draw_points.Given as goal
 

@@ -1,8 +1,7 @@
 use Rattle.std.proofs.Common.{◌≡◌, ◌/◌, ◌%◌, sym, ap, ◌∙◌, arith}
-use Rattle.design_gen.specs.Made.{node_at, node_of, name_at}
-use Rattle.design_gen.proofs.Growing.{some_more, none_more, length_drawn, drawn_at}
+use Rattle.design_gen.{specs.Made.{node_at, node_of, name_at}, proofs.Growing.{some_more, none_more, length_drawn}}
+use Rattle.design_gen.proofs.{Growing.drawn_at, lines.push_nodes.Goals.{in-Some+in_ok-push, in_default}}
 use Rattle.design_gen.proofs.lines.push_nodes.Goals as goal
-use Rattle.design_gen.proofs.lines.push_nodes.Goals.{in-Some+in_ok-push, in_default}
 
 pub bounds-drawn-k : goal.bounds-drawn-k
 bounds-drawn-k c = omega (arith, length_drawn c.args.n c.args.drawn.now c.requires.drawn)

@@ -1,8 +1,7 @@
 use Rattle.std.proofs.Common.{◌≡◌, sym, ap, ◌∙◌}
 use Rattle.design_gen.specs.Made.{wire_at}
-use Rattle.design_gen.proofs.Growing.{some_more, none_more}
+use Rattle.design_gen.proofs.{Growing.{some_more, none_more}, lines.push_wires.Goals.{in-Some+in_ok-push, in_default}}
 use Rattle.design_gen.proofs.lines.push_wires.Goals as goal
-use Rattle.design_gen.proofs.lines.push_wires.Goals.{in-Some+in_ok-push, in_default}
 
 pub loop-k-preserved : goal.loop-k-preserved
 loop-k-preserved c =

@@ -1,5 +1,4 @@
-use Rattle.std.proofs.Common.{◌≡◌, ◌++◌}
-use Rattle.std.specs.List.{filter_map, range_with_len}
+use Rattle.std.{proofs.Common.{◌≡◌, ◌++◌}, specs.List.{filter_map, range_with_len}}
 use Rattle.design_gen.specs.Made.{wire_at}
 use Rattle.design_gen.proofs.lines.push_wires.Given as goal
 

@@ -1,13 +1,11 @@
 use Rattle.std.proofs.Common.{◌≡◌, ◌-◌, ◌<◌, ◌*◌, ℕ, List, map, get_or, Some, None, sym, ap, ◌∙◌, arith}
 use Rattle.stick_parse.specs.declared.design.Form.TheVariants as forms
 use Rattle.stick_parse.specs.declared.design.Layer.TheVariants as layers
-use Rattle.design_gen.specs.declared.draws.Point.{Point}
-use Rattle.design_gen.specs.Draws.{point_at, points}
-use Rattle.design_gen.specs.Made.{name_at, are_joined}
-use Rattle.design_gen.proofs.Growing.{length_drawn, drawn_at}
-use Rattle.design_gen.proofs.Wires.{wire_there, none_first, none_apart}
+use Rattle.design_gen.specs.{declared.draws.Point.Point, Draws.{point_at, points}, Made.{name_at, are_joined}}
+use Rattle.design_gen.proofs.{Growing.{length_drawn, drawn_at}, Wires.{wire_there, none_first, none_apart}}
+use Rattle.design_gen.proofs.lines.wire_at.Goals.{then-k-n-eq0-via-then-k-n-eq0}
+use Rattle.design_gen.proofs.lines.wire_at.Goals.{then-k-n-eq0-via-else-k-n-eq0+then-not-are_joined}
 use Rattle.design_gen.proofs.lines.wire_at.Goals as goal
-use Rattle.design_gen.proofs.lines.wire_at.Goals.{then-k-n-eq0-via-then-k-n-eq0, then-k-n-eq0-via-else-k-n-eq0+then-not-are_joined}
 
 -- what the code reads of a point and its left neighbour is what is drawn for them
 read : (n k : ℕ) (drawn : List Point) (d e : Point) → drawn ≡ map (point_at n) (points n) → k < n * n → are_joined (get_or drawn (k - 1) d) (get_or drawn k e) ≡ are_joined (point_at n (k - 1)) (point_at n k)

@@ -1,8 +1,6 @@
-use Rattle.std.proofs.Common.{◌≡◌, List, [], ◌++◌, ap, ◌∙◌}
-use Rattle.std.specs.List.{filter_map}
+use Rattle.std.{proofs.Common.{◌≡◌, List, [], ◌++◌, ap, ◌∙◌}, specs.List.filter_map}
 use Rattle.stick_parse.specs.declared.design.Form.{Form}
-use Rattle.design_gen.specs.Draws.{points}
-use Rattle.design_gen.specs.Made.{wire_at, node_at, forms_of}
+use Rattle.design_gen.specs.{Draws.points, Made.{wire_at, node_at, forms_of}}
 use Rattle.design_gen.proofs.making.forms_of.Goals as goal
 
 joined : (front nodes wires now next : List Form) → front ≡ [] → now ≡ front ++ nodes → next ≡ now ++ wires → next ≡ nodes ++ wires

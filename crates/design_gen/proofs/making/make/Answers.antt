@@ -1,11 +1,6 @@
-use Rattle.std.proofs.Common.{◌≡◌, ℕ, ◌+◌, None, List, [], ◌∷◌, length, ap, ◌∙◌, arith}
-use Rattle.std.specs.Prelude.{codes}
-use Rattle.stick_parse.specs.declared.design.Form.{Form}
-use Rattle.stick_parse.specs.declared.design.CellText.{CellText}
-use Rattle.stick_parse.specs.declared.design.GridText.{GridText}
-use Rattle.stick_parse.specs.declared.design.Design.{Design}
-use Rattle.design_gen.specs.Made.{forms_of, lines_from, made}
-use Rattle.design_gen.proofs.Growing.{few_forms}
+use Rattle.std.{proofs.Common.{◌≡◌, ℕ, ◌+◌, None, List, [], ◌∷◌, length, ap, ◌∙◌, arith}, specs.Prelude.codes}
+use Rattle.stick_parse.specs.declared.design.{Form.Form, CellText.CellText, GridText.GridText, Design.Design}
+use Rattle.design_gen.{specs.Made.{forms_of, lines_from, made}, proofs.Growing.few_forms}
 use Rattle.design_gen.proofs.making.make.Goals as goal
 
 abbrev cell_with : ℕ → List Form → CellText

@@ -1,5 +1,4 @@
-use Rattle.std.proofs.Common.{◌*ℤ◌, ℤ, pos, ap, ◌∙◌, sym, subst, of_z, to_z, w64, arith}
-use Rattle.std.proofs.lemmas.Int.{ints}
+use Rattle.std.proofs.{Common.{◌*ℤ◌, ℤ, pos, ap, ◌∙◌, sym, subst, of_z, to_z, w64, arith}, lemmas.Int.ints}
 use Rattle.lam_geom.specs.Places.{IsPlace}
 use Rattle.design_nets.proofs.Products.{near_product, near_held, near_fits}
 use Rattle.design_nets.proofs.channels.in_grains.Goals as goal

@@ -1,5 +1,4 @@
-use Rattle.std.proofs.Common.{◌+ℤ◌, ◌≤ℤ◌, ℤ, of_z, to_z, w64, sym, subst, arith}
-use Rattle.std.proofs.lemmas.Int.{ints}
+use Rattle.std.proofs.{Common.{◌+ℤ◌, ◌≤ℤ◌, ℤ, of_z, to_z, w64, sym, subst, arith}, lemmas.Int.ints}
 use Rattle.crossings.specs.Boxes.{grains}
 use Rattle.design_nets.proofs.Products.{shifted_held, grains_ordered}
 use Rattle.design_nets.proofs.channels.span_in_grains.Goals as goal

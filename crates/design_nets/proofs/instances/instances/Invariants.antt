@@ -1,8 +1,5 @@
-use Rattle.std.proofs.Common.{◌≡◌}
-use Rattle.std.specs.Prelude.{flat_map}
-use Rattle.std.specs.List.{range_with_len}
-use Rattle.plan_model.specs.Instances.{grid_at}
-use Rattle.plan_model.specs.Plan.{grids_of}
+use Rattle.std.{proofs.Common.◌≡◌, specs.{Prelude.flat_map, List.range_with_len}}
+use Rattle.plan_model.specs.{Instances.grid_at, Plan.grids_of}
 use Rattle.design_nets.specs.Instances.{instances_in_grid}
 use Rattle.design_nets.proofs.instances.instances.Given as goal
 

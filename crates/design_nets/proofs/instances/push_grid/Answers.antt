@@ -1,5 +1,4 @@
-use Rattle.std.proofs.Common.{List, map, ap, ◌∙◌, ◌++◌, sym, []}
-use Rattle.std.proofs.lemmas.List.{get_or-map}
+use Rattle.std.proofs.{Common.{List, map, ap, ◌∙◌, ◌++◌, sym, []}, lemmas.List.get_or-map}
 use Rattle.list_facts.proofs.Pieces.{piece_added}
 use Rattle.plan_model.specs.declared.plan.PlanRow.{PlanRow}
 use Rattle.design_nets.specs.Instances.{instances_in_row, instances_in_row_at}

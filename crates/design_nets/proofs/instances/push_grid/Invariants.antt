@@ -1,6 +1,4 @@
-use Rattle.std.proofs.Common.{◌≡◌, ◌++◌, map}
-use Rattle.std.specs.Prelude.{flat_map}
-use Rattle.std.specs.List.{range_with_len}
+use Rattle.std.{proofs.Common.{◌≡◌, ◌++◌, map}, specs.{Prelude.flat_map, List.range_with_len}}
 use Rattle.plan_model.specs.declared.plan.PlanRow.{PlanRow}
 use Rattle.design_nets.specs.Instances.{instances_in_row_at}
 use Rattle.design_nets.proofs.instances.push_grid.Given as goal

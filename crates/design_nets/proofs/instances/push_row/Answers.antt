@@ -1,5 +1,4 @@
-use Rattle.design_nets.specs.Instances.{instance_in_row}
-use Rattle.design_nets.proofs.Lists.{image_added}
+use Rattle.design_nets.{specs.Instances.instance_in_row, proofs.Lists.image_added}
 use Rattle.design_nets.proofs.instances.push_row.Goals as goal
 
 pub loop-col-preserved : goal.loop-col-preserved

@@ -1,13 +1,8 @@
-use Rattle.std.proofs.Common.{ℕ, ◌+◌, length, arith, ap, sym, subst}
-use Rattle.std.proofs.lemmas.List.{length-map}
-use Rattle.lam_geom.specs.declared.boxes.Axis.{Axis}
-use Rattle.lam_geom.specs.declared.boxes.Axis.TheVariants.{X}
-use Rattle.plan_model.specs.GridNets.{IsBehind}
-use Rattle.plan_model.specs.Plan.{grids_of}
-use Rattle.plan_model.specs.Rows.{rows_of}
-use Rattle.design_nets.specs.Instances.{spot_no}
-use Rattle.design_nets.proofs.Behind.{rows_read, row_read, above, beside, none_above, none_beside}
-use Rattle.design_nets.proofs.Spots.{instance_stands}
+use Rattle.std.proofs.{Common.{ℕ, ◌+◌, length, arith, ap, sym, subst}, lemmas.List.length-map}
+use Rattle.lam_geom.specs.declared.boxes.Axis.{Axis, TheVariants.X}
+use Rattle.plan_model.specs.{GridNets.IsBehind, Plan.grids_of, Rows.rows_of}
+use Rattle.design_nets.{specs.Instances.spot_no, proofs.Behind.{rows_read, row_read, above, beside, none_above}}
+use Rattle.design_nets.proofs.{Behind.none_beside, Spots.instance_stands}
 use Rattle.design_nets.proofs.linking.behind.Goals as goal
 
 pub bounds-as_slice-instance : goal.bounds-as_slice-instance

@@ -1,8 +1,6 @@
 use Rattle.std.proofs.Common.{ℕ, List, sym, subst, length, arith, ◌+◌}
-use Rattle.design_nets.specs.Firsts.{AreFirsts}
-use Rattle.design_nets.specs.Joining.{nets_in}
-use Rattle.design_nets.proofs.Lists.{together_longer, firsts_more}
-use Rattle.design_nets.proofs.NetNumbers.{next_number, count_read}
+use Rattle.design_nets.specs.{Firsts.AreFirsts, Joining.nets_in}
+use Rattle.design_nets.proofs.{Lists.{together_longer, firsts_more}, NetNumbers.{next_number, count_read}}
 use Rattle.design_nets.proofs.linking.first_nets.Goals as goal
 
 pub overflow_add-next : goal.overflow_add-next

@@ -1,6 +1,5 @@
 use Rattle.std.proofs.Common.{◌≡◌, ◌+◌, length}
-use Rattle.design_nets.specs.Firsts.{together, AreFirsts}
-use Rattle.design_nets.specs.Joining.{nets_in}
+use Rattle.design_nets.specs.{Firsts.{together, AreFirsts}, Joining.nets_in}
 use Rattle.design_nets.proofs.linking.first_nets.Given as goal
 
 abbrev pub invariant-loop-instance : goal.invariant-loop-instance

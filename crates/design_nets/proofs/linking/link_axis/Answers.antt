@@ -1,16 +1,11 @@
 use Rattle.std.proofs.Common.{ℕ, ◌+◌, List, length, get_or, Contains, Vec, Global, ap, ◌∙◌, sym, subst, arith}
 use Rattle.std.proofs.lemmas.List.Elements.{Contains-get_or}
-use Rattle.plan_model.specs.declared.plan.Match.{Match}
-use Rattle.plan_model.specs.Plan.{matches_in}
-use Rattle.design_nets.specs.declared.meetings.Meeting.{Meeting}
-use Rattle.design_nets.specs.Instances.{master_no}
-use Rattle.design_nets.specs.Joining.{own_net}
-use Rattle.design_nets.specs.Linking.{AreAdded, IsMeetLink}
-use Rattle.design_nets.specs.Meetings.{AreMeetings}
-use Rattle.design_nets.proofs.AxisLinks.{read_row, read_list, master_lt, meeting_before, meeting_behind, none_linked, axis_linked}
-use Rattle.design_nets.proofs.NetNumbers.{number_small}
+use Rattle.plan_model.specs.{declared.plan.Match.Match, Plan.matches_in}
+use Rattle.design_nets.specs.{declared.meetings.Meeting.Meeting, Instances.master_no, Joining.own_net, Linking.AreAdded}
+use Rattle.design_nets.{specs.{Linking.IsMeetLink, Meetings.AreMeetings}, proofs.AxisLinks.{read_row, read_list}}
+use Rattle.design_nets.proofs.AxisLinks.{master_lt, meeting_before, meeting_behind, none_linked, axis_linked}
+use Rattle.design_nets.proofs.{NetNumbers.number_small, linking.link_axis.Goals.{in-Some+in_ok-link_listed, in_default}}
 use Rattle.design_nets.proofs.linking.link_axis.Goals as goal
-use Rattle.design_nets.proofs.linking.link_axis.Goals.{in-Some+in_ok-link_listed, in_default}
 
 abbrev row_items : Vec (Vec Meeting Global) Global → List (Vec Meeting Global)
 row_items v = v.items

@@ -1,8 +1,6 @@
-use Rattle.std.proofs.Common.{get_or, arith}
-use Rattle.std.proofs.lemmas.Option.{slice_get-get_or}
+use Rattle.std.proofs.{Common.{get_or, arith}, lemmas.Option.slice_get-get_or}
 use Rattle.design_nets.specs.declared.owners.OwnNet.{OwnNet}
-use Rattle.design_nets.proofs.Linked.{piece_linked, pieces_linked}
-use Rattle.design_nets.proofs.NetNumbers.{number_small}
+use Rattle.design_nets.proofs.{Linked.{piece_linked, pieces_linked}, NetNumbers.number_small}
 use Rattle.design_nets.proofs.linking.link_pieces.Goals as goal
 
 pub overflow_add-firsts : goal.overflow_add-firsts

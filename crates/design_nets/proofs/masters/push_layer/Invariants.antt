@@ -1,5 +1,4 @@
-use Rattle.std.proofs.Common.{◌≡◌, ◌++◌, filter}
-use Rattle.std.specs.List.{range_with_len}
+use Rattle.std.{proofs.Common.{◌≡◌, ◌++◌, filter}, specs.List.range_with_len}
 use Rattle.mask_out.specs.Masks.{is_drawn}
 use Rattle.pair_rules.specs.Bound.{item_at}
 use Rattle.design_nets.proofs.masters.push_layer.Given as goal

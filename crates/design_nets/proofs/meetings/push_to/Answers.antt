@@ -1,6 +1,5 @@
 use Rattle.std.proofs.Common.{List, ◌∷◌, [], ◌++◌, Vec, Global, ap, ◌∙◌}
-use Rattle.design_nets.specs.declared.meetings.Meeting.{Meeting}
-use Rattle.design_nets.proofs.Table.{list_here, list_other, list_read}
+use Rattle.design_nets.{specs.declared.meetings.Meeting.Meeting, proofs.Table.{list_here, list_other, list_read}}
 use Rattle.design_nets.proofs.meetings.push_to.Goals as goal
 
 pub returns-clause-grown : goal.returns-clause-grown

@@ -1,5 +1,4 @@
-use Rattle.std.proofs.Common.{ℕ, List, take, sym, subst}
-use Rattle.std.proofs.lemmas.List.{take_more}
+use Rattle.std.proofs.{Common.{ℕ, List, take, sym, subst}, lemmas.List.take_more}
 use Rattle.graph_search.specs.Search.{AreNeighbours}
 use Rattle.cell_nets.proofs.Attachments.{neighbours_push}
 use Rattle.design_nets.proofs.neighbours.neighbours.Goals as goal

@@ -1,5 +1,4 @@
-use Rattle.std.proofs.Common.{◌≡◌}
-use Rattle.std.specs.List.{range_with_len}
+use Rattle.std.{proofs.Common.◌≡◌, specs.List.range_with_len}
 use Rattle.design_nets.proofs.node_items.first_numbers.Given as goal
 
 abbrev pub invariant-loop-n : goal.invariant-loop-n

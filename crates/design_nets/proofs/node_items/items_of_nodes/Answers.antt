@@ -1,9 +1,7 @@
-use Rattle.std.proofs.Common.{◌+◌, List, sym, subst}
-use Rattle.std.proofs.lemmas.List.{get_or_read}
+use Rattle.std.proofs.{Common.{◌+◌, List, sym, subst}, lemmas.List.get_or_read}
 use Rattle.expand.specs.declared.master.Master.{Master}
 use Rattle.pitch_join.specs.Masters.{no_master}
-use Rattle.design_nets.specs.declared.node_items.NodeItems.{NodeItems}
-use Rattle.design_nets.specs.Transistors.{AreNodeItems}
+use Rattle.design_nets.specs.{declared.node_items.NodeItems.NodeItems, Transistors.AreNodeItems}
 use Rattle.design_nets.proofs.NodeItems.{AreFirstItems, items_more}
 use Rattle.design_nets.proofs.node_items.items_of_nodes.Goals as goal
 

@@ -1,10 +1,8 @@
-use Rattle.std.proofs.Common.{List, length, ap, ◌∙◌}
-use Rattle.std.specs.List.{range_with_len}
+use Rattle.std.{proofs.Common.{List, length, ap, ◌∙◌}, specs.List.range_with_len}
 use Rattle.rule_table.specs.declared.classes.Class.TheVariants.{P, G}
 use Rattle.cell_model.specs.declared.cell.Node.{Node}
 use Rattle.sym_items.specs.declared.items.Item.{Item}
-use Rattle.design_nets.specs.Shapes.{drawn_in}
-use Rattle.design_nets.proofs.NodeItems.{drawn_within, numbers_within, of_owners_at}
+use Rattle.design_nets.{specs.Shapes.drawn_in, proofs.NodeItems.{drawn_within, numbers_within, of_owners_at}}
 use Rattle.design_nets.proofs.node_items.node_items.Goals as goal
 
 pub of_owners-requires : goal.of_owners-requires

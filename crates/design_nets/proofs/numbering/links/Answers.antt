@@ -1,6 +1,5 @@
 use Rattle.std.proofs.Common.{ℕ, List, subst}
-use Rattle.design_nets.specs.Linking.{AreAdded, IsPieceLink}
-use Rattle.design_nets.proofs.Joined.{all_links}
+use Rattle.design_nets.{specs.Linking.{AreAdded, IsPieceLink}, proofs.Joined.all_links}
 use Rattle.design_nets.proofs.numbering.links.Goals as goal
 
 pub returns : goal.returns

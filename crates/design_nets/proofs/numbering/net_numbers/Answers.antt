@@ -1,14 +1,9 @@
-use Rattle.std.proofs.Common.{◌≡◌, ℕ, List, length, get_or, Contains, ◌∙◌, sym, subst, arith}
-use Rattle.std.specs.Prelude.{slice_index}
-use Rattle.std.proofs.lemmas.List.{get_or_read}
-use Rattle.std.proofs.lemmas.List.Elements.{Contains-get_or}
+use Rattle.std.proofs.{Common.{◌≡◌, ℕ, List, length, get_or, Contains, ◌∙◌, sym, subst, arith}, lemmas.List.get_or_read}
+use Rattle.std.{proofs.lemmas.List.Elements.Contains-get_or, specs.Prelude.slice_index}
 use Rattle.smallvec.specs.SmallVec.{SmallVec}
-use Rattle.graph_search.specs.Netting.{IsNetting}
-use Rattle.graph_search.specs.Search.{AreMutual, AreNeighbours}
+use Rattle.graph_search.specs.{Netting.IsNetting, Search.{AreMutual, AreNeighbours}}
 use Rattle.graph_search.proofs.Neighbours.{mutual_neighbours}
-use Rattle.design_nets.specs.Joining.{AreNetNumbers}
-use Rattle.design_nets.specs.Linking.{AreAllLinks}
-use Rattle.design_nets.proofs.Joined.{link_within, numbers_are}
+use Rattle.design_nets.{specs.{Joining.AreNetNumbers, Linking.AreAllLinks}, proofs.Joined.{link_within, numbers_are}}
 use Rattle.design_nets.proofs.numbering.net_numbers.Goals as goal
 
 pub neighbours-requires : goal.neighbours-requires

@@ -1,12 +1,7 @@
-use Rattle.std.proofs.Common.{ℕ, ◌+◌, List, ◌++◌, length, ap, ◌∙◌, sym, subst, arith}
-use Rattle.std.proofs.lemmas.List.{length-append}
-use Rattle.design_nets.specs.declared.pieces.Placed.{Placed}
-use Rattle.design_nets.specs.Firsts.{AreFirsts}
-use Rattle.design_nets.specs.Instances.{master_no}
-use Rattle.design_nets.specs.Pieces.{pieces_of_item, pieces_in}
-use Rattle.design_nets.specs.Shapes.{shape_no, no_shape}
-use Rattle.design_nets.proofs.Boxes.{few_pieces, pieces_read, pieces_same}
-use Rattle.design_nets.proofs.Lists.{together_pushed, firsts_more}
+use Rattle.std.proofs.{Common.{ℕ, ◌+◌, List, ◌++◌, length, ap, ◌∙◌, sym, subst, arith}, lemmas.List.length-append}
+use Rattle.design_nets.specs.{declared.pieces.Placed.Placed, Firsts.AreFirsts, Instances.master_no}
+use Rattle.design_nets.specs.{Pieces.{pieces_of_item, pieces_in}, Shapes.{shape_no, no_shape}}
+use Rattle.design_nets.proofs.{Boxes.{few_pieces, pieces_read, pieces_same}, Lists.{together_pushed, firsts_more}}
 use Rattle.design_nets.proofs.pieces.pieces_of.Goals as goal
 
 pub push_pieces-requires-clause-nodes : goal.push_pieces-requires-clause-nodes

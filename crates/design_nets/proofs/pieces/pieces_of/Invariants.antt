@@ -1,6 +1,5 @@
 use Rattle.std.proofs.Common.{◌≡◌, ◌*◌, ◌≤◌, length}
-use Rattle.design_nets.specs.Firsts.{together, AreFirsts}
-use Rattle.design_nets.specs.Pieces.{pieces_in}
+use Rattle.design_nets.specs.{Firsts.{together, AreFirsts}, Pieces.pieces_in}
 use Rattle.design_nets.proofs.pieces.pieces_of.Given as goal
 
 abbrev pub invariant-loop-k : goal.invariant-loop-k

@@ -1,9 +1,6 @@
 use Rattle.std.proofs.Common.{ℕ, ◌+◌, List, ◌++◌, length, ap, ◌∙◌, sym, subst, arith}
-use Rattle.design_nets.specs.declared.shapes.Shape.{Shape}
-use Rattle.design_nets.specs.Firsts.{AreFirsts}
-use Rattle.design_nets.specs.Shapes.{shapes_in}
-use Rattle.design_nets.proofs.Boxes.{shapes_read}
-use Rattle.design_nets.proofs.Lists.{together_longer, together_pushed, firsts_more}
+use Rattle.design_nets.specs.{declared.shapes.Shape.Shape, Firsts.AreFirsts, Shapes.shapes_in}
+use Rattle.design_nets.proofs.{Boxes.shapes_read, Lists.{together_longer, together_pushed, firsts_more}}
 use Rattle.design_nets.proofs.shapes.shapes_of.Goals as goal
 
 pub overflow_cast-len : goal.overflow_cast-len

@@ -1,6 +1,5 @@
 use Rattle.std.proofs.Common.{◌≡◌}
-use Rattle.design_nets.specs.Firsts.{together, AreFirsts}
-use Rattle.design_nets.specs.Shapes.{shapes_in}
+use Rattle.design_nets.specs.{Firsts.{together, AreFirsts}, Shapes.shapes_in}
 use Rattle.design_nets.proofs.shapes.shapes_of.Given as goal
 
 abbrev pub invariant-loop-instance : goal.invariant-loop-instance

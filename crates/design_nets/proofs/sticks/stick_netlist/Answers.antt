@@ -5,20 +5,13 @@ use Rattle.graph_search.specs.Netting.{next_net}
 use Rattle.plan_model.specs.Plan.{grids_of, AreOfMasters}
 use Rattle.pitch_join.specs.Masters.{master_ports}
 use Rattle.net_extract.specs.declared.netlist.Piece.{Piece}
-use Rattle.net_extract.specs.Devices.{AreRanges, HasBoxes}
-use Rattle.net_extract.specs.Netlists.{place_of, nets_of, device_of}
-use Rattle.design_nets.specs.declared.instances.Instance.{Instance}
-use Rattle.design_nets.specs.declared.owners.OwnNet.{OwnNet}
-use Rattle.design_nets.specs.declared.pieces.Placed.{Placed}
-use Rattle.design_nets.specs.declared.shapes.Shape.{Shape}
-use Rattle.design_nets.specs.Joining.{IsOwn}
-use Rattle.design_nets.specs.Nets.{AreNetsOfAll}
-use Rattle.design_nets.specs.Pieces.{stand_of, own_of, IsShapeOf}
-use Rattle.design_nets.specs.Shapes.{AreShapesOf}
-use Rattle.design_nets.proofs.Ports.{have_nets}
-use Rattle.design_nets.proofs.Ranges.{ranges}
-use Rattle.design_nets.proofs.Shown.{shapes_counted}
-use Rattle.design_nets.proofs.SticksNetlist.{pieces_moved, numbers_moved, masters_among, all_counted, shapes_are, own, few_together, numbers_small, netlist_is, boxes_there}
+use Rattle.net_extract.specs.{Devices.{AreRanges, HasBoxes}, Netlists.{place_of, nets_of, device_of}}
+use Rattle.design_nets.specs.declared.{instances.Instance.Instance, owners.OwnNet.OwnNet, pieces.Placed.Placed}
+use Rattle.design_nets.specs.{declared.shapes.Shape.Shape, Joining.IsOwn, Nets.AreNetsOfAll, Pieces.{stand_of, own_of}}
+use Rattle.design_nets.specs.{Pieces.IsShapeOf, Shapes.AreShapesOf}
+use Rattle.design_nets.proofs.{Ports.have_nets, Ranges.ranges, Shown.shapes_counted, SticksNetlist.pieces_moved}
+use Rattle.design_nets.proofs.SticksNetlist.{numbers_moved, masters_among, all_counted, shapes_are, own, few_together}
+use Rattle.design_nets.proofs.SticksNetlist.{numbers_small, netlist_is, boxes_there}
 use Rattle.design_nets.proofs.sticks.stick_netlist.Goals as goal
 
 pub shapes_of-requires-clause-among : goal.shapes_of-requires-clause-among

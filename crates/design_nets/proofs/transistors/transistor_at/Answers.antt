@@ -1,18 +1,12 @@
 use Rattle.std.proofs.Common.{ℕ, ◌+◌, length, get_or, List, sym, subst, refl, arith, ap, ◌∙◌}
 use Rattle.std.proofs.lemmas.List.{get_or_read, get_or_default}
-use Rattle.sym_items.specs.Boxes.{HasBox}
-use Rattle.sym_items.specs.Layouts.{layout_at, no_layout}
-use Rattle.sym_items.specs.declared.items.Item.{Item}
+use Rattle.sym_items.specs.{Boxes.HasBox, Layouts.{layout_at, no_layout}, Sides.sides_in}
+use Rattle.sym_items.specs.declared.items.{Item.Item, Coords.Coords}
 use Rattle.expand.specs.declared.master.Master.{Master}
 use Rattle.pitch_join.specs.Masters.{no_master}
-use Rattle.sym_items.specs.Sides.{sides_in}
-use Rattle.sym_items.specs.declared.items.Coords.{Coords}
 use Rattle.pair_rules.specs.Bound.{item_at}
-use Rattle.grid_rules.specs.Shapes.{sides_in_grains}
-use Rattle.grid_rules.specs.Rules.{shifted_sides}
-use Rattle.design_nets.specs.Shapes.{no_shape}
-use Rattle.design_nets.specs.Transistors.{LiesNear}
-use Rattle.design_nets.proofs.FetReads.{no_call, seen, read}
+use Rattle.grid_rules.specs.{Shapes.sides_in_grains, Rules.shifted_sides}
+use Rattle.design_nets.{specs.{Shapes.no_shape, Transistors.LiesNear}, proofs.FetReads.{no_call, seen, read}}
 use Rattle.design_nets.proofs.transistors.transistor_at.Goals as goal
 
 pub bounds-calls-instance : goal.bounds-calls-instance

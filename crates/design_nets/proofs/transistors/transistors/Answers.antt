@@ -4,16 +4,12 @@ use Rattle.cell_model.specs.declared.cell.Cell.{Cell}
 use Rattle.sym_items.specs.declared.items.Item.{Item}
 use Rattle.pair_rules.specs.Bound.{no_item}
 use Rattle.crossings.specs.declared.crossing.Crossing.{Crossing}
-use Rattle.design_nets.specs.declared.shapes.Shapes.{Shapes}
-use Rattle.design_nets.specs.Instances.{instances_of}
-use Rattle.design_nets.specs.Shapes.{no_shape}
-use Rattle.design_nets.specs.Transistors.{IsFetItem, cell_shown}
+use Rattle.design_nets.specs.{declared.shapes.Shapes.Shapes, Instances.instances_of, Shapes.no_shape}
+use Rattle.design_nets.{specs.Transistors.{IsFetItem, cell_shown}, proofs.{FetReads.seen, Crossed.AreCrossedBelow}}
+use Rattle.design_nets.proofs.Crossed.{one_crossed, one_passed, all_crossed, none_shown, cell_read}
+use Rattle.design_nets.proofs.{Shown.shapes_counted, transistors.transistors.Goals.{in-Some+in_ok-push, in_default}}
 use Rattle.plan_model.specs.Plan.{grids_of}
-use Rattle.design_nets.proofs.FetReads.{seen}
-use Rattle.design_nets.proofs.Crossed.{AreCrossedBelow, one_crossed, one_passed, all_crossed, none_shown, cell_read}
-use Rattle.design_nets.proofs.Shown.{shapes_counted}
 use Rattle.design_nets.proofs.transistors.transistors.Goals as goal
-use Rattle.design_nets.proofs.transistors.transistors.Goals.{in-Some+in_ok-push, in_default}
 
 among : (shapes : Shapes) (k n : ℕ) → k < n → n ≡ shapes.all.len → k < length shapes.all.items
 among shapes k n lt e = (let h = shapes.all.ok in omega (arith, lt, e, h))

@@ -1,14 +1,9 @@
-use Rattle.std.proofs.Common.{◌≡◌, ℕ, get_or, map, ap, sym, subst, ◌∙◌, length}
-use Rattle.std.specs.List.{AllByRecursion}
+use Rattle.std.{proofs.Common.{◌≡◌, ℕ, get_or, map, ap, sym, subst, ◌∙◌, length}, specs.List.AllByRecursion}
 use Rattle.list_facts.proofs.Elements.{all_at}
-use Rattle.stick_parse.specs.declared.design.CellText.{CellText}
-use Rattle.stick_parse.specs.declared.design.Design.{Design}
-use Rattle.stick_parse.specs.Writable.{IsLine, IsCell, IsWritable}
+use Rattle.stick_parse.specs.{declared.design.{CellText.CellText, Design.Design}, Writable.{IsLine, IsCell, IsWritable}}
 use Rattle.stick_print.specs.ReadBack.{without_line}
-use Rattle.design_edits.specs.Cells.{no_cell}
-use Rattle.design_edits.proofs.Laid.{laid_is_writable, grids_same}
-use Rattle.edit_lines.specs.Edits.{HasLinesAfter}
-use Rattle.edit_lines.proofs.Lines.{changed_have_text, changed_length, HasLengthAfter}
+use Rattle.design_edits.{specs.Cells.no_cell, proofs.Laid.{laid_is_writable, grids_same}}
+use Rattle.edit_lines.{specs.Edits.HasLinesAfter, proofs.Lines.{changed_have_text, changed_length, HasLengthAfter}}
 use Rattle.edit_lines.proofs.Designs.{text_of_cell, lines_after}
 use Rattle.edit_lines.proofs.editing.edited.Goals as goal
 

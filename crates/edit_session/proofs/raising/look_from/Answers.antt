@@ -1,10 +1,7 @@
-use Rattle.std.proofs.Common.{◌≡◌, ℕ, suc, ◌+◌, ◌-◌, ◌<◌, ◌≤◌, Bool, ℤ, List, length, get_or, sym, subst, ◌∙◌, refl, arith}
-use Rattle.std.proofs.lemmas.List.{get_or_read}
-use Rattle.cons_graph.specs.declared.edges.Edge.{Edge}
-use Rattle.cons_graph.specs.EdgeNumbers.{edge_at}
-use Rattle.edit_session.specs.Links.{IsLatest}
-use Rattle.edit_session.specs.Raised.{IsRaised}
-use Rattle.edit_session.proofs.Rises.{look_on}
+use Rattle.std.proofs.Common.{◌≡◌, ℕ, suc, ◌+◌, ◌-◌, ◌<◌, ◌≤◌, Bool, ℤ, List, length, get_or, sym, subst, ◌∙◌, refl}
+use Rattle.std.proofs.{Common.arith, lemmas.List.get_or_read}
+use Rattle.cons_graph.specs.{declared.edges.Edge.Edge, EdgeNumbers.edge_at}
+use Rattle.edit_session.{specs.{Links.IsLatest, Raised.IsRaised}, proofs.Rises.look_on}
 use Rattle.edit_session.proofs.raising.look_from.Goals as goal
 
 -- what the loop keeps, from what the links say

@@ -1,10 +1,8 @@
-use Rattle.std.proofs.Common.{◌≡◌, ℕ, w64, rules, ℤ, ◌+ℤ◌, ◌<ℤ◌, FitsSigned, to_z, of_z, List, length, sym, subst, ◌∙◌, refl}
-use Rattle.std.proofs.lemmas.Int.{to_z-of_z}
-use Rattle.cons_graph.specs.declared.edges.Edge.{Edge}
-use Rattle.cons_graph.specs.Solutions.{Meets, value_of}
+use Rattle.std.proofs.Common.{◌≡◌, ℕ, w64, rules, ℤ, ◌+ℤ◌, ◌<ℤ◌, FitsSigned, to_z, of_z, List, length, sym, subst, ◌∙◌}
+use Rattle.std.proofs.{Common.refl, lemmas.Int.to_z-of_z}
+use Rattle.cons_graph.specs.{declared.edges.Edge.Edge, Solutions.{Meets, value_of}}
 use Rattle.edit_session.specs.Raised.{IsRaised}
-use Rattle.edit_session.proofs.Rises.{look_next, look_done, settled}
-use Rattle.edit_session.proofs.Starts.{last_of, last_met, last_raised}
+use Rattle.edit_session.proofs.{Rises.{look_next, look_done, settled}, Starts.{last_of, last_met, last_raised}}
 use Rattle.edit_session.proofs.raising.raise_last.Goals as goal
 
 pub returns-in_default-clause-least : goal.returns-in_default-clause-least

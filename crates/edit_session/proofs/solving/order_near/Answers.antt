@@ -1,7 +1,6 @@
-use Rattle.std.proofs.Common.{◌≡◌, ℕ, ◌^◌, ◌<◌, ◌≤◌, inl, inr, ℤ, pos, neg_ℤ, ◌≤ℤ◌, Some, Ok, Err, Result, List, [], ◌∷◌, length, get_or, ap, subst, arith}
+use Rattle.std.proofs.Common.{◌≡◌, ℕ, ◌^◌, ◌<◌, ◌≤◌, inl, inr, ℤ, pos, neg_ℤ, ◌≤ℤ◌, Some, Ok, Err, Result, List, []}
+use Rattle.std.proofs.{Common.{◌∷◌, length, get_or, ap, subst, arith}, lemmas.{Int.ints, Bool.cases_eq}}
 use Rattle.std.specs.Prelude.{IfOk, slice_get}
-use Rattle.std.proofs.lemmas.Int.{ints}
-use Rattle.std.proofs.lemmas.Bool.{cases_eq}
 use Rattle.cons_graph.specs.Solutions.{value_of}
 use Rattle.round_log.specs.Orders.{NamesEachOnce, IsOrder}
 use Rattle.liao_wong.specs.Sorted.{Precedes, IsInOrderOf}

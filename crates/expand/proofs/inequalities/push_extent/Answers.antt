@@ -1,5 +1,4 @@
-use Rattle.std.proofs.Common.{◌≡◌, to_z, of_z, w64, sym, subst, arith}
-use Rattle.std.proofs.lemmas.Int.{ints}
+use Rattle.std.proofs.{Common.{◌≡◌, to_z, of_z, w64, sym, subst, arith}, lemmas.Int.ints}
 use Rattle.sym_items.specs.declared.items.End.{End}
 use Rattle.expand.specs.Bounds.{IsNear}
 use Rattle.expand.proofs.inequalities.push_extent.Goals as goal

@@ -1,8 +1,6 @@
-use Rattle.std.proofs.Common.{◌≡◌, to_z, of_z, w64, sym, ◌∙◌, subst, arith}
-use Rattle.std.proofs.lemmas.Int.{ints}
+use Rattle.std.proofs.{Common.{◌≡◌, to_z, of_z, w64, sym, ◌∙◌, subst, arith}, lemmas.Int.ints}
 use Rattle.sym_items.specs.declared.items.End.{End}
-use Rattle.expand.specs.Bounds.{IsNear}
-use Rattle.expand.proofs.Edges.{margin_pushed}
+use Rattle.expand.{specs.Bounds.IsNear, proofs.Edges.margin_pushed}
 use Rattle.expand.proofs.inequalities.push_margin.Goals as goal
 
 pub push_between-requires-clause-high : goal.push_between-requires-clause-high

@@ -1,7 +1,5 @@
-use Rattle.std.proofs.Common.{◌≡◌, ◌++◌, take}
-use Rattle.std.specs.List.{flat_map}
-use Rattle.sym_items.specs.declared.items.Item.{Item}
-use Rattle.sym_items.specs.Transposed.{item_along}
+use Rattle.std.{proofs.Common.{◌≡◌, ◌++◌, take}, specs.List.flat_map}
+use Rattle.sym_items.specs.{declared.items.Item.Item, Transposed.item_along}
 use Rattle.expand.specs.Structure.{margin_edges}
 use Rattle.expand.proofs.inequalities.push_margins.Given as goal
 

@@ -1,8 +1,6 @@
 use Rattle.std.proofs.Common.{◌<◌, List, length, ap, arith}
 use Rattle.cell_model.specs.declared.cell.Wire.{Wire}
-use Rattle.expand.specs.Structure.{overlap_edges}
-use Rattle.expand.proofs.CrossVariables.{wire_read}
-use Rattle.expand.proofs.Edges.{overlap_pushed}
+use Rattle.expand.{specs.Structure.overlap_edges, proofs.{CrossVariables.wire_read, Edges.overlap_pushed}}
 use Rattle.list_facts.proofs.Pieces.{piece_added}
 use Rattle.expand.proofs.inequalities.push_overlaps.Goals as goal
 

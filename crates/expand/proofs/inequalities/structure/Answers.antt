@@ -1,8 +1,5 @@
 use Rattle.std.proofs.Common.{◌≡◌}
-use Rattle.expand.specs.Structure.{structure_of}
-use Rattle.expand.proofs.Among.{items_near}
-use Rattle.expand.proofs.Edges.{structure_pushed}
-use Rattle.expand.proofs.GraphEdges.{shape_of}
+use Rattle.expand.{specs.Structure.structure_of, proofs.{Among.items_near, Edges.structure_pushed, GraphEdges.shape_of}}
 use Rattle.expand.proofs.inequalities.structure.Goals as goal
 
 pub push_extents-requires : goal.push_extents-requires

@@ -2,11 +2,9 @@ use Rattle.std.proofs.Common.{◌≡◌, ℕ, ◌<◌, List, [], ◌++◌, lengt
 use Rattle.std.specs.List.{flat_map, range_with_len}
 use Rattle.sym_items.specs.declared.items.Item.{Item}
 use Rattle.expand.specs.Items.{items_of_node, items_of_wire, item_list}
-use Rattle.expand.proofs.Among.{among_of}
-use Rattle.expand.proofs.Counted.{list_counted, items_few}
+use Rattle.expand.proofs.{Among.among_of, Counted.{list_counted, items_few}}
 use Rattle.rule_table.specs.declared.technology.Tech.{Tech}
-use Rattle.cell_model.specs.declared.cell.Cell.{Cell}
-use Rattle.cell_model.specs.declared.cell.Nets.{Nets}
+use Rattle.cell_model.specs.declared.cell.{Cell.Cell, Nets.Nets}
 use Rattle.expand.proofs.items.items_of.Goals as goal
 
 -- the nodes' items and then the wires'

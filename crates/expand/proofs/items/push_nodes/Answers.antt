@@ -1,9 +1,6 @@
 use Rattle.std.proofs.Common.{◌<◌, List, length, ap, arith}
-use Rattle.cell_model.specs.declared.cell.Node.{Node}
-use Rattle.cell_model.specs.declared.cell.NodeNets.{NodeNets}
-use Rattle.expand.specs.Items.{items_of_node}
-use Rattle.expand.proofs.NetsRead.{node_nets_count, nets_read}
-use Rattle.expand.proofs.ItemsRead.{node_pushed}
+use Rattle.cell_model.specs.declared.cell.{Node.Node, NodeNets.NodeNets}
+use Rattle.expand.{specs.Items.items_of_node, proofs.{NetsRead.{node_nets_count, nets_read}, ItemsRead.node_pushed}}
 use Rattle.list_facts.proofs.Pieces.{piece_added}
 use Rattle.expand.proofs.items.push_nodes.Goals as goal
 

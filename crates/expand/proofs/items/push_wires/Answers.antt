@@ -1,9 +1,6 @@
 use Rattle.std.proofs.Common.{ℕ, ◌<◌, List, length, get_or, ap, arith}
-use Rattle.cell_model.specs.declared.cell.Node.{Node}
-use Rattle.cell_model.specs.declared.cell.Wire.{Wire}
-use Rattle.expand.specs.Items.{items_of_wire}
-use Rattle.expand.proofs.CrossVariables.{wire_read}
-use Rattle.expand.proofs.ItemsRead.{wire_pushed}
+use Rattle.cell_model.specs.declared.cell.{Node.Node, Wire.Wire}
+use Rattle.expand.{specs.Items.items_of_wire, proofs.{CrossVariables.wire_read, ItemsRead.wire_pushed}}
 use Rattle.list_facts.proofs.Pieces.{piece_added}
 use Rattle.expand.proofs.items.push_wires.Goals as goal
 

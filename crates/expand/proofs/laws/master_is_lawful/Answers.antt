@@ -1,16 +1,10 @@
 use Rattle.std.proofs.Common.{◌≡◌, length, refl, ap, ◌∙◌, arith}
-use Rattle.lam_geom.specs.declared.boxes.Axis.{Axis}
-use Rattle.lam_geom.specs.declared.boxes.Axis.TheVariants.{X, Y}
+use Rattle.lam_geom.specs.declared.boxes.Axis.{Axis, TheVariants.{X, Y}}
 use Rattle.rule_table.specs.declared.technology.Tech.{Tech}
 use Rattle.sym_items.specs.Transposed.{vars_along}
 use Rattle.cell_model.specs.Counts.{items_in}
-use Rattle.expand.specs.declared.master.Master.{Master}
-use Rattle.expand.specs.Variables.{variables_of}
-use Rattle.expand.specs.Masters.{IsMaster}
-use Rattle.expand.proofs.Among.{items_lie}
-use Rattle.expand.proofs.Counted.{list_counted, items_few}
-use Rattle.expand.proofs.GraphEdges.{shape_of}
-use Rattle.expand.proofs.Standing.{stands}
+use Rattle.expand.specs.{declared.master.Master.Master, Variables.variables_of, Masters.IsMaster}
+use Rattle.expand.proofs.{Among.items_lie, Counted.{list_counted, items_few}, GraphEdges.shape_of, Standing.stands}
 use Rattle.expand.proofs.laws.master_is_lawful.Goals as goal
 
 vars_counted : (tech : Tech) (master : Master) → IsMaster tech master → (axis : Axis) → vars_along axis master.items ≡ variables_of axis master.cell

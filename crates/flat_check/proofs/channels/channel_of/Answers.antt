@@ -1,7 +1,5 @@
-use Rattle.std.proofs.Common.{List, get_or, Ok, Err, sym, subst, rules}
-use Rattle.std.proofs.lemmas.List.Sorted.{answers_always}
-use Rattle.crossings.specs.declared.crossing.Crossing.{Crossing}
-use Rattle.crossings.specs.Crossings.{AreCrossings}
+use Rattle.std.proofs.{Common.{List, get_or, Ok, Err, sym, subst, rules}, lemmas.List.Sorted.answers_always}
+use Rattle.crossings.specs.{declared.crossing.Crossing.Crossing, Crossings.AreCrossings}
 use Rattle.flat_check.proofs.OneChannel.{channel_at, crossing_placed, no_channel, searched}
 use Rattle.flat_check.proofs.channels.channel_of.Goals as goal
 

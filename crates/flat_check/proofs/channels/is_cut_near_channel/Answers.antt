@@ -1,8 +1,7 @@
 use Rattle.std.proofs.Common.{◌↔◌, ℤ, IsTrue, ap, subst}
 use Rattle.lam_geom.specs.declared.boxes.MaskLayer.TheVariants.{NC}
 use Rattle.rule_table.specs.declared.keys.Numbers.{Numbers}
-use Rattle.flat_check.specs.Breaks.{IsNearChannel}
-use Rattle.flat_check.proofs.NearAreas.{length_held}
+use Rattle.flat_check.{specs.Breaks.IsNearChannel, proofs.NearAreas.length_held}
 use Rattle.flat_check.proofs.channels.is_cut_near_channel.Goals as goal
 
 pub returns : goal.returns

@@ -1,14 +1,11 @@
 use denote.Enum.Bare.{differs_false}
-use Rattle.std.proofs.Common.{◌≡◌, true, false, refl, sym, ap, rules}
-use Rattle.std.proofs.lemmas.Bool.{iff_false}
+use Rattle.std.proofs.{Common.{◌≡◌, true, false, refl, sym, ap, rules}, lemmas.Bool.iff_false}
 use Rattle.lam_geom.specs.contracts.boxes.MaskLayer.{the_type}
-use Rattle.lam_geom.specs.declared.boxes.MaskBox.{MaskBox}
-use Rattle.lam_geom.specs.declared.boxes.MaskLayer.TheVariants.{NI}
+use Rattle.lam_geom.specs.declared.boxes.{MaskBox.MaskBox, MaskLayer.TheVariants.NI}
 use Rattle.rule_table.specs.declared.keys.Numbers.{Numbers}
-use Rattle.crossings.specs.Boxes.{area_at}
-use Rattle.crossings.proofs.Grains.{grains_held, held}
-use Rattle.flat_check.proofs.NearAreas.{nearer_read, on_layer, past_read}
-use Rattle.flat_check.proofs.OneChannel.{implant_if_found, no_implant_near, past_is_not_near}
+use Rattle.crossings.{specs.Boxes.area_at, proofs.Grains.{grains_held, held}}
+use Rattle.flat_check.proofs.{NearAreas.{nearer_read, on_layer, past_read}, OneChannel.implant_if_found}
+use Rattle.flat_check.proofs.OneChannel.{no_implant_near, past_is_not_near}
 use Rattle.flat_check.proofs.channels.is_implant_too_near.Goals as goal
 
 pub returns-in_default : goal.returns-in_default

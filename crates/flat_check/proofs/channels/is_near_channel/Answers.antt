@@ -1,10 +1,8 @@
 use denote.Enum.Bare.{differs_false}
 use Rattle.std.proofs.Common.{◌≡◌, refl, sym, ap, rules}
-use Rattle.lam_geom.specs.contracts.boxes.MaskLayer.{the_type}
-use Rattle.lam_geom.specs.declared.boxes.MaskBox.{MaskBox}
+use Rattle.lam_geom.specs.{contracts.boxes.MaskLayer.the_type, declared.boxes.MaskBox.MaskBox}
 use Rattle.crossings.specs.Boxes.{area_at}
-use Rattle.flat_check.proofs.NearAreas.{nearer_read, on_layer}
-use Rattle.flat_check.proofs.OneChannel.{near_if_found, none_near}
+use Rattle.flat_check.proofs.{NearAreas.{nearer_read, on_layer}, OneChannel.{near_if_found, none_near}}
 use Rattle.flat_check.proofs.channels.is_near_channel.Goals as goal
 
 pub returns-in_default : goal.returns-in_default

@@ -1,9 +1,7 @@
 use Rattle.std.proofs.Common.{◌≡◌, ◌↔◌, ℤ, IsTrue, true, sym, ap, ◌∙◌, subst}
 use Rattle.lam_geom.specs.declared.boxes.MaskLayer.TheVariants.{NB}
-use Rattle.rule_table.specs.declared.keys.Numbers.{Numbers}
-use Rattle.rule_table.specs.Technology.{has_buried_of}
-use Rattle.flat_check.specs.Breaks.{IsNearChannel}
-use Rattle.flat_check.proofs.NearAreas.{length_held}
+use Rattle.rule_table.specs.{declared.keys.Numbers.Numbers, Technology.has_buried_of}
+use Rattle.flat_check.{specs.Breaks.IsNearChannel, proofs.NearAreas.length_held}
 use Rattle.flat_check.proofs.channels.is_window_too_near.Goals as goal
 
 pub returns : goal.returns

@@ -1,8 +1,7 @@
 use Rattle.std.proofs.Common.{sym}
 use Rattle.crossings.specs.Boxes.{grains}
 use Rattle.flat_check.specs.Reaches.{spacing_of_rule}
-use Rattle.flat_check.proofs.Faced.{reach_held, channel_listed, read_near}
-use Rattle.flat_check.proofs.Spots.{none_holds}
+use Rattle.flat_check.proofs.{Faced.{reach_held, channel_listed, read_near}, Spots.none_holds}
 use Rattle.flat_check.proofs.facing.box_faces_channel.Goals as goal
 
 pub returns : goal.returns

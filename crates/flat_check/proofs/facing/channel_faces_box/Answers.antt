@@ -1,9 +1,6 @@
 use Rattle.std.proofs.Common.{sym}
-use Rattle.crossings.specs.Boxes.{area_at, grains}
-use Rattle.crossings.specs.Spots.{box_spot}
-use Rattle.flat_check.specs.Reaches.{spacing_of_rule}
-use Rattle.flat_check.proofs.Faced.{reach_held, channel_near}
-use Rattle.flat_check.proofs.Spots.{none_holds}
+use Rattle.crossings.specs.{Boxes.{area_at, grains}, Spots.box_spot}
+use Rattle.flat_check.{specs.Reaches.spacing_of_rule, proofs.{Faced.{reach_held, channel_near}, Spots.none_holds}}
 use Rattle.flat_check.proofs.facing.channel_faces_box.Goals as goal
 
 pub returns-in-Some : goal.returns-in-Some

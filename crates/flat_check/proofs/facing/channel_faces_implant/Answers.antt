@@ -1,9 +1,6 @@
-use Rattle.crossings.specs.Boxes.{area_at, grains}
-use Rattle.crossings.specs.Spots.{box_spot}
-use Rattle.flat_check.specs.Reaches.{extension_of, spacing_of_rule}
-use Rattle.flat_check.specs.declared.rule.Rule.TheVariants.{ImplantToChannel}
-use Rattle.flat_check.proofs.Faced.{reach_held, margin_held, channel_near, channel_short}
-use Rattle.flat_check.proofs.Spots.{none_holds}
+use Rattle.crossings.specs.{Boxes.{area_at, grains}, Spots.box_spot}
+use Rattle.flat_check.specs.{Reaches.{extension_of, spacing_of_rule}, declared.rule.Rule.TheVariants.ImplantToChannel}
+use Rattle.flat_check.proofs.{Faced.{reach_held, margin_held, channel_near, channel_short}, Spots.none_holds}
 use Rattle.flat_check.proofs.facing.channel_faces_implant.Goals as goal
 
 pub returns-in-Some : goal.returns-in-Some

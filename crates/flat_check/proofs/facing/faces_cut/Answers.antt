@@ -1,10 +1,7 @@
 use Rattle.std.proofs.Common.{sym}
-use Rattle.crossings.specs.Boxes.{area_at, grains}
-use Rattle.crossings.specs.Spots.{box_spot}
-use Rattle.flat_check.specs.Reaches.{spacing_of_rule}
-use Rattle.flat_check.specs.declared.rule.Rule.TheVariants.{CutSpacing}
-use Rattle.flat_check.proofs.Faced.{reach_held, read_near}
-use Rattle.flat_check.proofs.Spots.{none_holds}
+use Rattle.crossings.specs.{Boxes.{area_at, grains}, Spots.box_spot}
+use Rattle.flat_check.specs.{Reaches.spacing_of_rule, declared.rule.Rule.TheVariants.CutSpacing}
+use Rattle.flat_check.proofs.{Faced.{reach_held, read_near}, Spots.none_holds}
 use Rattle.flat_check.proofs.facing.faces_cut.Goals as goal
 
 pub returns : goal.returns

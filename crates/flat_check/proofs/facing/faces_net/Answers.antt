@@ -1,9 +1,6 @@
-use Rattle.std.proofs.Common.{◌≡◌, ◌≢◌, ℕ, inl, inr, subst, arith}
-use Rattle.std.proofs.lemmas.Bool.{cases_lt}
+use Rattle.std.proofs.{Common.{◌≡◌, ◌≢◌, ℕ, inl, inr, subst, arith}, lemmas.Bool.cases_lt}
 use Rattle.net_extract.specs.Pieces.{box_of}
-use Rattle.flat_check.specs.PiecePairs.{AreNearPieces}
-use Rattle.flat_check.specs.Reaches.{spacing_of_rule}
-use Rattle.flat_check.proofs.Faced.{no_net_near}
+use Rattle.flat_check.{specs.{PiecePairs.AreNearPieces, Reaches.spacing_of_rule}, proofs.Faced.no_net_near}
 use Rattle.flat_check.proofs.facing.faces_net.Goals as goal
 
 pub loop-i-preserved : goal.loop-i-preserved

@@ -1,8 +1,6 @@
 use Rattle.std.proofs.Common.{◌≢◌, ℕ, ◌<◌, ◌≤◌}
 use Rattle.net_extract.specs.Pieces.{box_of}
-use Rattle.flat_check.specs.PiecePairs.{AreNearPieces}
-use Rattle.flat_check.specs.Reaches.{spacing_of_rule}
-use Rattle.flat_check.specs.Trees.{IsPieceOn}
+use Rattle.flat_check.specs.{PiecePairs.AreNearPieces, Reaches.spacing_of_rule, Trees.IsPieceOn}
 use Rattle.flat_check.proofs.facing.faces_net.Given as goal
 
 abbrev pub invariant-loop-i : goal.invariant-loop-i

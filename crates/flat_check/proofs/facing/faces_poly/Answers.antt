@@ -1,12 +1,8 @@
 use Rattle.std.proofs.Common.{inl, refl, ap, sym, ◌∙◌}
-use Rattle.lam_geom.specs.declared.boxes.MaskBox.{MaskBox}
-use Rattle.lam_geom.specs.declared.boxes.MaskLayer.TheVariants.{NP}
-use Rattle.crossings.specs.Boxes.{area_at, grains}
-use Rattle.crossings.specs.Spots.{box_spot}
-use Rattle.flat_check.specs.Reaches.{spacing_of_rule}
-use Rattle.flat_check.specs.declared.rule.Rule.TheVariants.{PolyToDiffusion}
-use Rattle.flat_check.proofs.Faced.{reach_held, poly_other, diffusion_other, read_near, read_apart}
-use Rattle.flat_check.proofs.Spots.{none_holds}
+use Rattle.lam_geom.specs.declared.boxes.{MaskBox.MaskBox, MaskLayer.TheVariants.NP}
+use Rattle.crossings.specs.{Boxes.{area_at, grains}, Spots.box_spot}
+use Rattle.flat_check.specs.{Reaches.spacing_of_rule, declared.rule.Rule.TheVariants.PolyToDiffusion}
+use Rattle.flat_check.proofs.{Faced.{reach_held, poly_other, diffusion_other, read_near, read_apart}, Spots.none_holds}
 use Rattle.flat_check.proofs.Wholes.{whole_listed}
 use Rattle.flat_check.proofs.facing.faces_poly.Goals as goal
 

@@ -1,6 +1,5 @@
 use Rattle.crossings.specs.Boxes.{grains}
-use Rattle.flat_check.specs.Reaches.{extension_of, spacing_of_rule}
-use Rattle.flat_check.specs.declared.rule.Rule.TheVariants.{ImplantToChannel}
+use Rattle.flat_check.specs.{Reaches.{extension_of, spacing_of_rule}, declared.rule.Rule.TheVariants.ImplantToChannel}
 use Rattle.flat_check.proofs.Faced.{reach_held, margin_held, margin_kept, channel_listed, read_near, read_short}
 use Rattle.flat_check.proofs.Spots.{none_holds}
 use Rattle.flat_check.proofs.facing.implant_faces_channel.Goals as goal

@@ -1,10 +1,8 @@
 use Rattle.std.proofs.Common.{◌⊎◌, inl, inr, sym, subst}
 use Rattle.lam_geom.specs.declared.boxes.MaskLayer.TheVariants.{ND, NP, NC, NM, NB}
 use Rattle.rule_table.specs.Technology.{numbers_of}
-use Rattle.flat_check.specs.Breaks.{ArePiecesTooNear, IsBreak, IsNearChannel}
-use Rattle.flat_check.specs.Reaches.{spacing_of_rule}
-use Rattle.flat_check.specs.declared.rule.Rule.{Rule}
-use Rattle.flat_check.proofs.Faced.{two}
+use Rattle.flat_check.specs.{Breaks.{ArePiecesTooNear, IsBreak, IsNearChannel}, Reaches.spacing_of_rule}
+use Rattle.flat_check.{specs.declared.rule.Rule.Rule, proofs.Faced.two}
 use Rattle.flat_check.proofs.facing.may_break.Goals as goal
 
 pub returns-in-MetalSpacing : goal.returns-in-MetalSpacing

@@ -1,12 +1,8 @@
 use Rattle.std.proofs.Common.{of_z, to_z, w64, sym, subst}
-use Rattle.box_tree.specs.declared.query.Question.TheVariants.{NearOfOtherTag}
-use Rattle.box_tree.specs.declared.spots.Spot.{Spot}
-use Rattle.box_tree.specs.Queries.{Holds}
-use Rattle.flat_check.specs.Trees.{piece_spot}
+use Rattle.box_tree.specs.{declared.{query.Question.TheVariants.NearOfOtherTag, spots.Spot.Spot}, Queries.Holds}
+use Rattle.flat_check.specs.{Trees.piece_spot, Reaches.spacing_of_rule}
+use Rattle.flat_check.proofs.{Faced.{reach_held, within_reach}, Spots.none_holds}
 use Rattle.crossings.specs.Boxes.{grains}
-use Rattle.flat_check.specs.Reaches.{spacing_of_rule}
-use Rattle.flat_check.proofs.Faced.{reach_held, within_reach}
-use Rattle.flat_check.proofs.Spots.{none_holds}
 use Rattle.flat_check.proofs.facing.piece_faces_net.Goals as goal
 
 pub returns : goal.returns

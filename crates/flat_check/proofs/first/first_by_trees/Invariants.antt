@@ -1,6 +1,4 @@
-use Rattle.flat_check.specs.Order.{KeepBefore}
-use Rattle.flat_check.specs.Starts.{AreByTrees}
-use Rattle.flat_check.proofs.Orders.{left_from}
+use Rattle.flat_check.{specs.{Order.KeepBefore, Starts.AreByTrees}, proofs.Orders.left_from}
 use Rattle.flat_check.proofs.first.first_by_trees.Given as goal
 
 abbrev pub decreases-loop-next : goal.decreases-loop-next

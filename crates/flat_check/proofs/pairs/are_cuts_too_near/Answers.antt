@@ -1,8 +1,7 @@
 use denote.Enum.Bare.{differs_false}
 use Rattle.std.proofs.Common.{◌≡◌, sym, ap, rules}
 use Rattle.lam_geom.specs.contracts.boxes.MaskLayer.{the_type}
-use Rattle.lam_geom.specs.declared.boxes.MaskBox.{MaskBox}
-use Rattle.lam_geom.specs.declared.boxes.MaskLayer.TheVariants.{NC}
+use Rattle.lam_geom.specs.declared.boxes.{MaskBox.MaskBox, MaskLayer.TheVariants.NC}
 use Rattle.rule_table.specs.declared.keys.Numbers.{Numbers}
 use Rattle.flat_check.proofs.NearAreas.{nearer_read, on_layer}
 use Rattle.flat_check.proofs.pairs.are_cuts_too_near.Goals as goal

@@ -1,10 +1,8 @@
 use Rattle.std.proofs.Common.{◌↔◌, inl, inr, IsTrue, sym, ap, subst}
 use Rattle.lam_geom.specs.declared.boxes.MaskLayer.TheVariants.{ND, NP, NM}
 use Rattle.rule_table.specs.declared.keys.Numbers.{Numbers}
-use Rattle.flat_check.specs.declared.rule.Rule.{Rule}
-use Rattle.flat_check.specs.Breaks.{IsBreak}
-use Rattle.flat_check.proofs.NearAreas.{length_held}
-use Rattle.flat_check.proofs.PiecePairs.{at_nets}
+use Rattle.flat_check.specs.{declared.rule.Rule.Rule, Breaks.IsBreak}
+use Rattle.flat_check.proofs.{NearAreas.length_held, PiecePairs.at_nets}
 use Rattle.flat_check.proofs.pairs.is_broken.Goals as goal
 
 pub returns-in-MetalSpacing : goal.returns-in-MetalSpacing

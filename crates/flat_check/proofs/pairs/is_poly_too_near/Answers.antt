@@ -1,11 +1,8 @@
 use Rattle.std.proofs.Common.{◌≡◌, refl, sym, ap, subst, true, false}
-use Rattle.lam_geom.specs.declared.boxes.BoxXY.{BoxXY}
-use Rattle.lam_geom.specs.declared.boxes.MaskBox.{MaskBox}
-use Rattle.lam_geom.specs.Gaps.{Overlaps}
+use Rattle.lam_geom.specs.{declared.boxes.{BoxXY.BoxXY, MaskBox.MaskBox}, Gaps.Overlaps}
 use Rattle.rule_table.specs.declared.keys.Numbers.{Numbers}
 use Rattle.crossings.specs.Boxes.{area_at}
-use Rattle.flat_check.proofs.FacingPairs.{facing_from, poly_if_near}
-use Rattle.flat_check.proofs.NearAreas.{nearer_read}
+use Rattle.flat_check.proofs.{FacingPairs.{facing_from, poly_if_near}, NearAreas.nearer_read}
 use Rattle.flat_check.proofs.pairs.is_poly_too_near.Goals as goal
 
 pub returns : goal.returns

@@ -1,6 +1,5 @@
 use Rattle.std.proofs.Common.{subst, arith}
-use Rattle.flat_check.specs.Ranges.{StandsTo}
-use Rattle.flat_check.proofs.InRanges.{none_more, first_there}
+use Rattle.flat_check.{specs.Ranges.StandsTo, proofs.InRanges.{none_more, first_there}}
 use Rattle.flat_check.proofs.partners.first_in.Goals as goal
 
 pub returns-in-BreaksWith : goal.returns-in-BreaksWith

@@ -1,5 +1,4 @@
-use Rattle.std.proofs.Common.{◌≡◌, ℕ, true, false, inl, inr, refl, subst, arith}
-use Rattle.std.proofs.lemmas.Bool.{cases_lt}
+use Rattle.std.proofs.{Common.{◌≡◌, ℕ, true, false, inl, inr, refl, subst, arith}, lemmas.Bool.cases_lt}
 use Rattle.flat_check.specs.Breaks.{IsBreak}
 use Rattle.flat_check.proofs.partners.is_broken_before.Goals as goal
 

@@ -1,7 +1,5 @@
-use Rattle.std.proofs.Common.{◌≡◌, ℕ, true, false, inl, inr, subst, arith}
-use Rattle.std.proofs.lemmas.Bool.{cases_lt}
-use Rattle.flat_check.specs.Breaks.{IsBreak}
-use Rattle.flat_check.proofs.Searches.{at_two_boxes}
+use Rattle.std.proofs.{Common.{◌≡◌, ℕ, true, false, inl, inr, subst, arith}, lemmas.Bool.cases_lt}
+use Rattle.flat_check.{specs.Breaks.IsBreak, proofs.Searches.at_two_boxes}
 use Rattle.flat_check.proofs.partners.least_behind.Goals as goal
 
 pub loop-b-init : goal.loop-b-init

@@ -1,7 +1,6 @@
 use Rattle.std.proofs.Common.{refl}
 use Rattle.net_extract.specs.Pieces.{area_of}
-use Rattle.flat_check.proofs.NearAreas.{nearer_read}
-use Rattle.flat_check.proofs.PiecePairs.{pieces_on}
+use Rattle.flat_check.proofs.{NearAreas.nearer_read, PiecePairs.pieces_on}
 use Rattle.flat_check.proofs.piece_pairs.are_near_pieces.Goals as goal
 
 pub returns : goal.returns

@@ -2,8 +2,7 @@ use denote.Enum.Bare.{differs_false}
 use Rattle.std.proofs.Common.{◌≡◌, ◌↔◌, ℤ, IsTrue, refl, sym, subst, rules}
 use Rattle.lam_geom.specs.contracts.boxes.MaskLayer.{the_type}
 use Rattle.flat_check.specs.PiecePairs.{HaveNearPieces}
-use Rattle.flat_check.proofs.NearAreas.{length_held, on_layer}
-use Rattle.flat_check.proofs.PiecePairs.{pieces_too_near, have_near_pieces}
+use Rattle.flat_check.proofs.{NearAreas.{length_held, on_layer}, PiecePairs.{pieces_too_near, have_near_pieces}}
 use Rattle.flat_check.proofs.piece_pairs.are_pieces_too_near.Goals as goal
 
 pub returns : goal.returns

@@ -1,8 +1,6 @@
-use Rattle.std.proofs.Common.{get_or, of_z, to_z, w64, refl}
-use Rattle.std.proofs.lemmas.Bool.{false≢true, iff_false}
+use Rattle.std.proofs.{Common.{get_or, of_z, to_z, w64, refl}, lemmas.Bool.{false≢true, iff_false}}
 use Rattle.flat_check.specs.PiecePairs.{AreNearPieces}
-use Rattle.flat_check.proofs.NearAreas.{length_held}
-use Rattle.flat_check.proofs.PiecePairs.{none_more, no_near_piece}
+use Rattle.flat_check.proofs.{NearAreas.length_held, PiecePairs.{none_more, no_near_piece}}
 use Rattle.flat_check.proofs.piece_pairs.has_near_piece.Goals as goal
 
 pub loop-j-preserved : goal.loop-j-preserved

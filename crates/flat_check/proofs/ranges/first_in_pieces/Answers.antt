@@ -1,6 +1,5 @@
 use Rattle.std.proofs.Common.{◌≤◌, List, length, sym, ap, ◌∙◌, subst}
-use Rattle.flat_check.specs.declared.partners.Range.{Range}
-use Rattle.flat_check.specs.Ranges.{AreRanges, IsFirstUnlessBefore, first_some}
+use Rattle.flat_check.specs.{declared.partners.Range.Range, Ranges.{AreRanges, IsFirstUnlessBefore, first_some}}
 use Rattle.flat_check.proofs.InRanges.{ranges_within, first_in_all, found_in_all}
 use Rattle.flat_check.proofs.ranges.first_in_pieces.Goals as goal
 

@@ -1,7 +1,5 @@
 use Rattle.std.proofs.Common.{◌≤◌, List, sym, subst, arith}
-use Rattle.flat_check.specs.declared.partners.Range.{Range}
-use Rattle.flat_check.specs.Ranges.{AreRanges}
-use Rattle.flat_check.proofs.InRanges.{ranges_more}
+use Rattle.flat_check.{specs.{declared.partners.Range.Range, Ranges.AreRanges}, proofs.InRanges.ranges_more}
 use Rattle.flat_check.proofs.ranges.ranges.Goals as goal
 
 pub loop-from-preserved : goal.loop-from-preserved

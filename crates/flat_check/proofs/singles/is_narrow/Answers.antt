@@ -1,7 +1,5 @@
-use Rattle.std.proofs.Common.{refl, sym}
-use Rattle.std.proofs.lemmas.List.{get_or_read}
-use Rattle.crossings.specs.Boxes.{no_box}
-use Rattle.crossings.proofs.Grains.{grains_held}
+use Rattle.std.proofs.{Common.{refl, sym}, lemmas.List.get_or_read}
+use Rattle.crossings.{specs.Boxes.no_box, proofs.Grains.grains_held}
 use Rattle.flat_check.proofs.Shapes.{narrow_by_width}
 use Rattle.flat_check.proofs.singles.is_narrow.Goals as goal
 

@@ -1,6 +1,5 @@
 use Rattle.std.proofs.Common.{subst}
-use Rattle.flat_check.specs.declared.rule.Rule.TheVariants.{Width, CutSize}
-use Rattle.flat_check.specs.Order.{IsFoundOf}
+use Rattle.flat_check.specs.{declared.rule.Rule.TheVariants.{Width, CutSize}, Order.IsFoundOf}
 use Rattle.flat_check.proofs.Orders.{keep_before_all, keep_next, first_of_all, where_kept}
 use Rattle.flat_check.proofs.start.check_first_rules.Goals as goal
 

@@ -1,11 +1,7 @@
 use Rattle.std.proofs.Common.{Result, IfOk, IfErr, Vec, Global, sym, subst}
 use Rattle.std.specs.declared.alloc.AllocError.{AllocError}
-use Rattle.crossings.specs.declared.crossing.Crossing.{Crossing}
-use Rattle.crossings.specs.declared.crossing.CrossingFault.{CrossingFault}
-use Rattle.crossings.specs.Crossings.{IsCauseOf}
-use Rattle.flat_check.specs.declared.start.Start.{Start}
-use Rattle.flat_check.specs.Starts.{IsStart}
-use Rattle.flat_check.proofs.Orders.{fault_starts}
+use Rattle.crossings.specs.{declared.crossing.{Crossing.Crossing, CrossingFault.CrossingFault}, Crossings.IsCauseOf}
+use Rattle.flat_check.{specs.{declared.start.Start.Start, Starts.IsStart}, proofs.Orders.fault_starts}
 use Rattle.flat_check.proofs.start.start_with.Goals as goal
 
 pub returns-in-Err-clause-start : goal.returns-in-Err-clause-start

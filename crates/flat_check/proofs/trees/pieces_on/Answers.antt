@@ -1,14 +1,11 @@
 use denote.Enum.Bare.{same_true, same_false}
 use Rattle.std.proofs.Common.{◌≡◌, ◌+◌, List, Vec, Global, refl, sym, ap, ◌∙◌, subst, arith, rules}
-use Rattle.lam_geom.specs.contracts.boxes.MaskLayer.{the_type}
-use Rattle.lam_geom.specs.declared.boxes.MaskBox.{MaskBox}
+use Rattle.lam_geom.specs.{contracts.boxes.MaskLayer.the_type, declared.boxes.MaskBox.MaskBox}
 use Rattle.box_tree.specs.declared.spots.Spot.{Spot}
-use Rattle.crossings.specs.Boxes.{layer_at}
+use Rattle.crossings.specs.{Boxes.layer_at, Spots.AreSpotsBelow}
 use Rattle.net_extract.specs.Pieces.{no_piece}
-use Rattle.crossings.specs.Spots.{AreSpotsBelow}
 use Rattle.flat_check.specs.Trees.{IsPieceOn, piece_spot}
-use Rattle.flat_check.proofs.PiecePairs.{nets_counted, piece_placed}
-use Rattle.flat_check.proofs.Spots.{below_more, below_skip, below_placed}
+use Rattle.flat_check.proofs.{PiecePairs.{nets_counted, piece_placed}, Spots.{below_more, below_skip, below_placed}}
 use Rattle.flat_check.proofs.trees.pieces_on.Goals.{then-eq+in_ok-push, else-eq}
 use Rattle.flat_check.proofs.trees.pieces_on.Goals as goal
 

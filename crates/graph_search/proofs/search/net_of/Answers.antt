@@ -1,8 +1,5 @@
-use Rattle.std.proofs.Common.{◌≡◌, ℕ, ◌+◌, None, sym, ◌∙◌, subst, arith}
-use Rattle.std.specs.Prelude.{max}
-use Rattle.std.proofs.lemmas.List.{get_or_read}
-use Rattle.graph_search.specs.Search.{IsBeside, AreWhole}
-use Rattle.graph_search.proofs.Spreading.{whole_more}
+use Rattle.std.{proofs.{Common.{◌≡◌, ℕ, ◌+◌, None, sym, ◌∙◌, subst, arith}, lemmas.List.get_or_read}, specs.Prelude.max}
+use Rattle.graph_search.{specs.Search.{IsBeside, AreWhole}, proofs.Spreading.whole_more}
 use Rattle.graph_search.proofs.search.net_of.Goals as goal
 
 pub returns-in-Some-clause-below : goal.returns-in-Some-clause-below

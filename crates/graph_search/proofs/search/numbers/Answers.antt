@@ -1,6 +1,5 @@
 use Rattle.std.proofs.Common.{arith, length}
-use Rattle.graph_search.specs.Search.{AreNumbers}
-use Rattle.graph_search.proofs.Neighbours.{netting_numbers, numbers_made}
+use Rattle.graph_search.{specs.Search.AreNumbers, proofs.Neighbours.{netting_numbers, numbers_made}}
 use Rattle.graph_search.proofs.search.numbers.Goals as goal
 
 pub returns-clause-numbers : goal.returns-clause-numbers

@@ -1,6 +1,5 @@
 use Rattle.std.proofs.Common.{◌≡◌, length}
-use Rattle.graph_search.specs.Search.{IsBeside}
-use Rattle.graph_search.proofs.Numbering.{IsNumbering}
+use Rattle.graph_search.{specs.Search.IsBeside, proofs.Numbering.IsNumbering}
 use Rattle.graph_search.proofs.search.numbers.Given as goal
 
 abbrev pub invariant-loop-part : goal.invariant-loop-part

@@ -1,8 +1,7 @@
 use Rattle.std.proofs.Common.{ℕ, ◌<◌, List, length, get_or, ◌∙◌, ap, subst, arith, Contains}
 use Rattle.std.proofs.lemmas.List.Elements.{Contains-get_or}
 use Rattle.graph_search.specs.Search.{neighbours_of, IsBeside, AreVisited}
-use Rattle.graph_search.proofs.Neighbours.{read_list, read_queue}
-use Rattle.graph_search.proofs.Spreading.{spreading_more, spreading_done}
+use Rattle.graph_search.proofs.{Neighbours.{read_list, read_queue}, Spreading.{spreading_more, spreading_done}}
 use Rattle.graph_search.proofs.search.spread.Goals as goal
 
 pub bounds-neighbours-part : goal.bounds-neighbours-part

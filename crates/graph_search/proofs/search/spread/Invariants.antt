@@ -1,6 +1,5 @@
 use Rattle.std.proofs.Common.{◌+◌, ◌-◌, length}
-use Rattle.graph_search.specs.Search.{IsBeside, unmarked}
-use Rattle.graph_search.proofs.Spreading.{IsSpreading}
+use Rattle.graph_search.{specs.Search.{IsBeside, unmarked}, proofs.Spreading.IsSpreading}
 use Rattle.graph_search.proofs.search.spread.Given as goal
 
 abbrev pub invariant-loop-passed : goal.invariant-loop-passed

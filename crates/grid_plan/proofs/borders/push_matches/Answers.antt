@@ -1,6 +1,5 @@
-use Rattle.std.proofs.Common.{◌++◌, ◌∙◌, ◌∷◌, [], ap, map, take, get_or, arith}
+use Rattle.std.proofs.{Common.{◌++◌, ◌∙◌, ◌∷◌, [], ap, map, take, get_or, arith}, lemmas.List.map-append}
 use Rattle.std.specs.List.{zip}
-use Rattle.std.proofs.lemmas.List.{map-append}
 use Rattle.plan_model.specs.Borders.{match_of}
 use Rattle.grid_plan.proofs.Pieces.{zip_more, zip_all, behind}
 use Rattle.grid_plan.proofs.borders.push_matches.Goals as goal

@@ -1,5 +1,4 @@
-use Rattle.std.proofs.Common.{◌≡◌, ◌++◌, map, take}
-use Rattle.std.specs.List.{zip}
+use Rattle.std.{proofs.Common.{◌≡◌, ◌++◌, map, take}, specs.List.zip}
 use Rattle.plan_model.specs.Borders.{match_of}
 use Rattle.grid_plan.proofs.borders.push_matches.Given as goal
 

@@ -1,15 +1,10 @@
 use Rattle.std.proofs.Common.{◌≡◌, ◌<◌, ◌∙◌, List, ℕ, None, length, map, vec_len, ap, sym, subst, arith}
 use Rattle.std.specs.List.{All}
 use Rattle.stick_cell.specs.Tables.{known_of}
-use Rattle.plan_model.specs.Borders.{side_before}
+use Rattle.plan_model.specs.{Borders.side_before, Rows.first_row}
 use Rattle.lam_geom.specs.declared.boxes.Axis.TheVariants.{Y}
-use Rattle.grid_plan.specs.Faults.{unknown_in, ragged_in}
-use Rattle.grid_plan.specs.Numbered.{numbers_in_row}
-use Rattle.grid_plan.specs.Small.{AreFewCells}
-use Rattle.plan_model.specs.Rows.{first_row}
-use Rattle.grid_plan.proofs.CellPorts.{side_count}
-use Rattle.grid_plan.proofs.GridsRead.{equal_rows}
-use Rattle.grid_plan.proofs.KnownNames.{rows_known, few_cells}
+use Rattle.grid_plan.specs.{Faults.{unknown_in, ragged_in}, Numbered.numbers_in_row, Small.AreFewCells}
+use Rattle.grid_plan.proofs.{CellPorts.side_count, GridsRead.equal_rows, KnownNames.{rows_known, few_cells}}
 use Rattle.grid_plan.proofs.judging.fault_in.Goals as goal
 
 pub misfit-requires : goal.misfit-requires

@@ -1,10 +1,7 @@
-use Rattle.std.proofs.Common.{◌∙◌, ℕ, List, length, ap, sym, subst, arith}
-use Rattle.std.proofs.lemmas.List.{length-map}
+use Rattle.std.proofs.{Common.{◌∙◌, ℕ, List, length, ap, sym, subst, arith}, lemmas.List.length-map}
 use Rattle.stick_parse.specs.declared.design.GridText.{GridText}
 use Rattle.stick_cell.specs.Tables.{known_of}
-use Rattle.grid_plan.specs.Numbered.{numbers_in_grid}
-use Rattle.grid_plan.specs.Small.{AreFewRows}
-use Rattle.grid_plan.proofs.KnownNames.{numbers_at}
+use Rattle.grid_plan.{specs.{Numbered.numbers_in_grid, Small.AreFewRows}, proofs.KnownNames.numbers_at}
 use Rattle.grid_plan.proofs.judging.judge_grids.Goals as goal
 
 pub bounds-numbers-grid : goal.bounds-numbers-grid

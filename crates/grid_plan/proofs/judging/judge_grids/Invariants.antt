@@ -1,8 +1,6 @@
 use Rattle.std.proofs.Common.{◌≡◌, drop}
 use Rattle.stick_cell.specs.Tables.{known_of}
-use Rattle.grid_plan.specs.Numbered.{ports_of_cells}
-use Rattle.grid_plan.specs.Scan.{IsScanOf}
-use Rattle.grid_plan.specs.Faults.{first_found, numbered_fault}
+use Rattle.grid_plan.specs.{Numbered.ports_of_cells, Scan.IsScanOf, Faults.{first_found, numbered_fault}}
 use Rattle.grid_plan.proofs.judging.judge_grids.Given as goal
 
 abbrev pub invariant-loop-grid : goal.invariant-loop-grid

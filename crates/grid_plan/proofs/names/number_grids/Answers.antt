@@ -1,8 +1,6 @@
-use Rattle.std.proofs.Common.{arith}
-use Rattle.std.proofs.lemmas.Grind.{common_steps}
+use Rattle.std.proofs.{Common.arith, lemmas.Grind.common_steps}
 use Rattle.stick_parse.specs.declared.design.GridText.{GridText}
-use Rattle.grid_plan.specs.Small.{AreFewRows}
-use Rattle.grid_plan.proofs.Pieces.{one_further}
+use Rattle.grid_plan.{specs.Small.AreFewRows, proofs.Pieces.one_further}
 use Rattle.grid_plan.proofs.names.number_grids.Goals as goal
 
 pub loop-grid-preserved : goal.loop-grid-preserved

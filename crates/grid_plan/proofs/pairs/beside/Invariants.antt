@@ -1,5 +1,4 @@
-use Rattle.std.proofs.Common.{◌≡◌, take}
-use Rattle.std.specs.List.{flat_map}
+use Rattle.std.{proofs.Common.{◌≡◌, take}, specs.List.flat_map}
 use Rattle.plan_model.specs.Rows.{beside}
 use Rattle.grid_plan.proofs.pairs.beside.Given as goal
 

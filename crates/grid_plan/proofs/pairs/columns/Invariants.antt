@@ -1,5 +1,4 @@
-use Rattle.std.proofs.Common.{◌≡◌, map}
-use Rattle.std.specs.List.{range_with_len}
+use Rattle.std.{proofs.Common.{◌≡◌, map}, specs.List.range_with_len}
 use Rattle.plan_model.specs.Rows.{column_at}
 use Rattle.grid_plan.proofs.pairs.columns.Given as goal
 

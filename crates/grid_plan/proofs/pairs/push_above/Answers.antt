@@ -1,7 +1,5 @@
 use Rattle.std.proofs.Common.{◌≡◌, ◌-◌, ◌++◌, ◌∙◌, ◌∷◌, [], List, ℕ, ap, take, get_or, arith}
-use Rattle.std.specs.List.{zip, flat_map}
-use Rattle.std.proofs.lemmas.Grind.{flat_map-append}
-use Rattle.std.proofs.lemmas.List.{append-nil, get_or_read}
+use Rattle.std.{proofs.lemmas.{Grind.flat_map-append, List.{append-nil, get_or_read}}, specs.List.{zip, flat_map}}
 use Rattle.plan_model.specs.Rows.{neighbours, zipped_rows}
 use Rattle.grid_plan.proofs.Pieces.{neighbours_more, behind}
 use Rattle.grid_plan.proofs.pairs.push_above.Goals as goal

@@ -1,5 +1,4 @@
-use Rattle.std.proofs.Common.{◌++◌, ◌∙◌, ap, take, arith}
-use Rattle.std.specs.List.{zip}
+use Rattle.std.{proofs.Common.{◌++◌, ◌∙◌, ap, take, arith}, specs.List.zip}
 use Rattle.grid_plan.proofs.Pieces.{zip_more, zip_all, behind}
 use Rattle.grid_plan.proofs.pairs.push_zipped.Goals as goal
 

@@ -1,5 +1,4 @@
-use Rattle.std.proofs.Common.{◌≡◌, ◌++◌, take}
-use Rattle.std.specs.List.{zip}
+use Rattle.std.{proofs.Common.{◌≡◌, ◌++◌, take}, specs.List.zip}
 use Rattle.grid_plan.proofs.pairs.push_zipped.Given as goal
 
 abbrev pub invariant-loop-c : goal.invariant-loop-c

@@ -1,5 +1,4 @@
-use Rattle.std.proofs.Common.{◌∙◌, List, ℕ, length, ap}
-use Rattle.std.specs.List.{flat_map}
+use Rattle.std.{proofs.Common.{◌∙◌, List, ℕ, length, ap}, specs.List.flat_map}
 use Rattle.plan_model.specs.Rows.{above, beside}
 use Rattle.grid_plan.proofs.PairsWithin.{above_within, beside_within, lent_within}
 use Rattle.grid_plan.proofs.planning.build.Goals as goal

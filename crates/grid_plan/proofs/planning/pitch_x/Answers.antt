@@ -1,10 +1,7 @@
 use Rattle.std.proofs.Common.{◌≡◌, ◌∙◌, List, ℕ, All, ap, sym, subst, map, filter, IfOk}
-use Rattle.std.specs.List.{flat_map}
-use Rattle.std.proofs.lemmas.List.Folds.{flat_map-map}
-use Rattle.plan_model.specs.Plan.{same_of, is_of_two}
-use Rattle.plan_model.specs.Rows.{beside, columns_of, firsts, is_pair_either_way}
-use Rattle.grid_plan.specs.Small.{IsSmall}
-use Rattle.grid_plan.proofs.PairsWithin.{columns_within}
+use Rattle.std.{proofs.lemmas.List.Folds.flat_map-map, specs.List.flat_map}
+use Rattle.plan_model.specs.{Plan.{same_of, is_of_two}, Rows.{beside, columns_of, firsts, is_pair_either_way}}
+use Rattle.grid_plan.{specs.Small.IsSmall, proofs.PairsWithin.columns_within}
 use Rattle.grid_plan.proofs.planning.pitch_x.Goals as goal
 
 pub each_same-requires : goal.each_same-requires

@@ -1,6 +1,5 @@
 use Rattle.std.proofs.Common.{◌∙◌, List, ℕ, All, sym, subst}
-use Rattle.grid_plan.specs.Small.{IsSmall}
-use Rattle.grid_plan.proofs.PairsWithin.{beside_within}
+use Rattle.grid_plan.{specs.Small.IsSmall, proofs.PairsWithin.beside_within}
 use Rattle.grid_plan.proofs.planning.pitch_y.Goals as goal
 
 pub each_same-requires : goal.each_same-requires

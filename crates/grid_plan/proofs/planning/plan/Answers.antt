@@ -1,19 +1,13 @@
 use Rattle.std.proofs.Common.{◌≡◌, ◌∙◌, ◌<◌, List, ℕ, None, IfErr, All, length, map, vec_len, ap, sym, subst, arith}
 use Rattle.std.specs.List.{AllByRecursion}
-use Rattle.stick_parse.specs.declared.design.Design.{Design}
-use Rattle.stick_parse.specs.declared.design.GridText.{GridText}
-use Rattle.stick_parse.specs.Writable.{IsGrid}
+use Rattle.stick_parse.specs.{declared.design.{Design.Design, GridText.GridText}, Writable.IsGrid}
 use Rattle.stick_cell.specs.Tables.{known_of}
 use Rattle.plan_model.specs.Borders.{side_before}
 use Rattle.lam_geom.specs.declared.boxes.Axis.TheVariants.{Y}
-use Rattle.grid_plan.specs.Faults.{plan_fault, RefusesPlan}
-use Rattle.grid_plan.specs.Numbered.{numbers_in_grid}
-use Rattle.grid_plan.proofs.CellPorts.{few_known, side_count}
-use Rattle.grid_plan.proofs.Judged.{passed, refused, small_numbers}
-use Rattle.grid_plan.proofs.KnownNames.{grids_known}
-use Rattle.grid_plan.proofs.MasterPlaces.{firsts_of}
-use Rattle.grid_plan.proofs.Placing.{few_distinct}
-use Rattle.grid_plan.proofs.PlanWhole.{places_of, masters_known, some_grids, grids_built, plan_built}
+use Rattle.grid_plan.specs.{Faults.{plan_fault, RefusesPlan}, Numbered.numbers_in_grid}
+use Rattle.grid_plan.proofs.{CellPorts.{few_known, side_count}, Judged.{passed, refused, small_numbers}}
+use Rattle.grid_plan.proofs.{KnownNames.grids_known, MasterPlaces.firsts_of, Placing.few_distinct, PlanWhole.places_of}
+use Rattle.grid_plan.proofs.PlanWhole.{masters_known, some_grids, grids_built, plan_built}
 use Rattle.grid_plan.proofs.planning.plan.Goals as goal
 
 pub of-requires : goal.of-requires

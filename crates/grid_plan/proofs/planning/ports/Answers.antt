@@ -1,7 +1,6 @@
 use Rattle.std.proofs.Common.{◌∙◌, List, ℕ, All, length, sym, subst}
 use Rattle.plan_model.specs.Rows.{is_pair}
-use Rattle.grid_plan.specs.Small.{IsWithin}
-use Rattle.grid_plan.proofs.PairsWithin.{firsts_all}
+use Rattle.grid_plan.{specs.Small.IsWithin, proofs.PairsWithin.firsts_all}
 use Rattle.grid_plan.proofs.planning.ports.Goals as goal
 
 pub matches-requires-clause-masters : goal.matches-requires-clause-masters

@@ -1,6 +1,5 @@
 use Rattle.std.proofs.Common.{◌≡◌, ◌≤◌, ◌∙◌, All, List, ap, sym, subst, filter, rules}
-use Rattle.std.proofs.lemmas.List.Elements.{All-filter}
-use Rattle.std.proofs.lemmas.List.Sorted.{IsNonDecreasingBy-from_sort_by_key, answers_always}
+use Rattle.std.proofs.lemmas.List.{Elements.All-filter, Sorted.{IsNonDecreasingBy-from_sort_by_key, answers_always}}
 use Rattle.cell_model.specs.declared.cell.CellPort.{CellPort}
 use Rattle.plan_model.specs.Borders.{port_rank, is_on_side, in_order}
 use Rattle.grid_plan.proofs.Ordered.{sorted_in_order}

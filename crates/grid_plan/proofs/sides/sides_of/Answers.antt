@@ -1,14 +1,10 @@
 use Rattle.std.proofs.Common.{◌≡◌, ◌^◌, All, ◌++◌, ◌∙◌, ◌∷◌, [], List, ap, sym, subst, map, ◌<◌, length, get_or, arith}
-use Rattle.std.proofs.lemmas.List.{take_all, length-map}
-use Rattle.std.proofs.lemmas.List.Elements.{All-push}
+use Rattle.std.proofs.lemmas.List.{take_all, length-map, Elements.All-push}
 use Rattle.cell_model.specs.declared.cell.CellPort.{CellPort}
 use Rattle.plan_model.specs.Borders.{side_ports}
-use Rattle.stick_cell.specs.Ports.{ports_of}
-use Rattle.stick_cell.specs.Tables.{known_of}
-use Rattle.stick_cell.proofs.TableReads.{vec_len-tables}
+use Rattle.stick_cell.{specs.{Ports.ports_of, Tables.known_of}, proofs.TableReads.vec_len-tables}
 use Rattle.grid_plan.specs.Numbered.{ports_of_cells}
-use Rattle.grid_plan.proofs.CellPorts.{few_known, near_ports, ports_at}
-use Rattle.grid_plan.proofs.Pieces.{map_step}
+use Rattle.grid_plan.proofs.{CellPorts.{few_known, near_ports, ports_at}, Pieces.map_step}
 use Rattle.grid_plan.proofs.sides.sides_of.Goals as goal
 
 pub overflow_cast-k-end : goal.overflow_cast-k-end

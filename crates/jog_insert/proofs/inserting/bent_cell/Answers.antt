@@ -1,15 +1,9 @@
-use Rattle.std.proofs.Common.{List, ap, sym, subst, ◌∙◌, arith, length}
-use Rattle.std.specs.Prelude.{All}
+use Rattle.std.{proofs.Common.{List, ap, sym, subst, ◌∙◌, arith, length}, specs.Prelude.All}
 use Rattle.list_facts.proofs.Elements.{all_at}
-use Rattle.stick_parse.specs.declared.design.Line.{Line}
-use Rattle.stick_parse.specs.Writable.{IsPath}
-use Rattle.cell_model.specs.declared.cell.Node.{Node}
-use Rattle.cell_model.specs.Sound.{no_node}
-use Rattle.jog_insert.specs.Jogs.{IsNearForm, IsJogNumber}
-use Rattle.jog_insert.specs.Building.{IsWireAt}
-use Rattle.jog_insert.proofs.Bendable.{node_here}
-use Rattle.jog_insert.proofs.Bents.{bent_made, bent_have_text}
-use Rattle.jog_insert.proofs.Determined.{bent_is_determined}
+use Rattle.stick_parse.specs.{declared.design.Line.Line, Writable.IsPath}
+use Rattle.cell_model.specs.{declared.cell.Node.Node, Sound.no_node}
+use Rattle.jog_insert.specs.{Jogs.{IsNearForm, IsJogNumber}, Building.IsWireAt}
+use Rattle.jog_insert.proofs.{Bendable.node_here, Bents.{bent_made, bent_have_text}, Determined.bent_is_determined}
 use Rattle.jog_insert.proofs.inserting.bent_cell.Goals as goal
 
 pub returns-then-not-are_near-clause-bent : goal.returns-then-not-are_near-clause-bent

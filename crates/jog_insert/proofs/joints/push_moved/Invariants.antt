@@ -1,6 +1,5 @@
 use Rattle.std.proofs.Common.{◌≡◌, ◌++◌, drop, map}
-use Rattle.jog_insert.specs.Jogs.{moved_line}
-use Rattle.jog_insert.specs.Building.{bend_of}
+use Rattle.jog_insert.specs.{Jogs.moved_line, Building.bend_of}
 use Rattle.jog_insert.proofs.joints.push_moved.Given as goal
 
 abbrev pub invariant-loop-line : goal.invariant-loop-line

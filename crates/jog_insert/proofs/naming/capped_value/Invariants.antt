@@ -1,5 +1,4 @@
-use Rattle.std.proofs.Common.{◌≡◌, min, take}
-use Rattle.std.specs.Str.Parse.{digits_value}
+use Rattle.std.{proofs.Common.{◌≡◌, min, take}, specs.Str.Parse.digits_value}
 use Rattle.jog_insert.proofs.naming.capped_value.Given as goal
 
 abbrev pub invariant-loop-digit : goal.invariant-loop-digit

@@ -1,6 +1,4 @@
-use Rattle.std.proofs.Common.{◌≡◌, true, ap, ◌∙◌, arith}
-use Rattle.std.specs.Prelude.{decimal}
-use Rattle.std.specs.Str.Parse.{digits_value}
+use Rattle.std.{proofs.Common.{◌≡◌, true, ap, ◌∙◌, arith}, specs.{Prelude.decimal, Str.Parse.digits_value}}
 use Rattle.stick_lex.specs.Tokens.{is_numeral}
 use Rattle.jog_insert.proofs.JogNames.{middle_of_name, numeral_of, value_of_numeral}
 use Rattle.jog_insert.proofs.naming.number_in.Goals as goal

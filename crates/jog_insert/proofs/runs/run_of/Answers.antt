@@ -1,12 +1,9 @@
 use Rattle.std.proofs.Common.{◌≡◌, ◌<◌, ap, sym, ◌∙◌, subst, arith, ℕ, length}
 use Rattle.rule_table.specs.Bounds.{IsSize}
-use Rattle.cell_model.specs.declared.cell.Axis2.TheVariants.{Up}
-use Rattle.cell_model.specs.declared.cell.Node.{Node}
-use Rattle.cell_model.specs.declared.cell.Wire.{Wire}
+use Rattle.cell_model.specs.{declared.cell.{Axis2.TheVariants.Up, Node.Node, Wire.Wire}, Sound.wire_at}
 use Rattle.cell_model.specs.declared.cell.WireEnd.TheVariants as ends
-use Rattle.cell_model.specs.Sound.{wire_at}
-use Rattle.jog_insert.specs.Jogs.{Crosses}
-use Rattle.jog_insert.proofs.Bendable.{unread, is_crossed_out, wire_here, node_here, wire_of_sound, low_within, high_within, size_read, size_is, is_up, is_run}
+use Rattle.jog_insert.{specs.Jogs.Crosses, proofs.Bendable.{unread, is_crossed_out, wire_here, node_here}}
+use Rattle.jog_insert.proofs.Bendable.{wire_of_sound, low_within, high_within, size_read, size_is, is_up, is_run}
 use Rattle.jog_insert.proofs.runs.run_of.Goals as goal
 
 pub returns-then-is_crossed : goal.returns-then-is_crossed

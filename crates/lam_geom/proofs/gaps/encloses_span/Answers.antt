@@ -1,5 +1,4 @@
-use Rattle.std.proofs.Common.{◌≡◌, false, true, refl, arith}
-use Rattle.std.proofs.lemmas.Int.{ints}
+use Rattle.std.proofs.{Common.{◌≡◌, false, true, refl, arith}, lemmas.Int.ints}
 use Rattle.lam_geom.proofs.gaps.encloses_span.Goals as goal
 
 pub returns-then-is_at_most : goal.returns-then-is_at_most

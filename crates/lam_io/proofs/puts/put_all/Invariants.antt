@@ -1,5 +1,4 @@
-use Rattle.std.proofs.Common.{◌≤◌, take}
-use Rattle.std.specs.Prelude.{flat_map}
+use Rattle.std.{proofs.Common.{◌≤◌, take}, specs.Prelude.flat_map}
 use Rattle.lam_io.specs.Io.{Appends}
 use Rattle.lam_io.proofs.puts.put_all.Given as goal
 

@@ -1,6 +1,5 @@
 use Rattle.std.proofs.Common.{ℕ, List, sym, subst, ◌∙◌}
-use Rattle.cons_graph.specs.declared.edges.Edge.{Edge}
-use Rattle.cons_graph.specs.Constraints.{IsConstraintGraph}
+use Rattle.cons_graph.specs.{declared.edges.Edge.Edge, Constraints.IsConstraintGraph}
 use Rattle.layout_tests.proofs.edit_session_tests.agrees.Goals as goal
 
 pub new-requires : goal.new-requires

@@ -1,7 +1,5 @@
-use Rattle.std.proofs.Common.{◌+◌, pos, List, sym, subst, arith}
-use Rattle.std.proofs.lemmas.Int.{ints}
-use Rattle.cons_graph.specs.declared.edges.Edge.{Edge}
-use Rattle.cons_graph.specs.declared.edges.Why.TheVariants.{Space}
+use Rattle.std.proofs.{Common.{◌+◌, pos, List, sym, subst, arith}, lemmas.Int.ints}
+use Rattle.cons_graph.specs.declared.edges.{Edge.Edge, Why.TheVariants.Space}
 use Rattle.cons_graph.specs.Constraints.{IsConstraintGraph, IsEdgeAmong}
 use Rattle.edit_session.proofs.Kept.{graph_more}
 use Rattle.layout_tests.proofs.edit_session_tests.chain.Goals as goal

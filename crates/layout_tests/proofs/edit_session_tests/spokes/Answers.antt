@@ -1,6 +1,5 @@
 use Rattle.std.proofs.Common.{◌+◌, List, sym, ap, subst, arith}
-use Rattle.cons_graph.specs.declared.edges.Edge.{Edge}
-use Rattle.cons_graph.specs.Constraints.{IsConstraintGraph}
+use Rattle.cons_graph.specs.{declared.edges.Edge.Edge, Constraints.IsConstraintGraph}
 use Rattle.edit_session.proofs.Spokes.{graph_wider}
 use Rattle.layout_tests.proofs.edit_session_tests.spokes.Goals as goal
 

@@ -1,5 +1,4 @@
-use Rattle.std.proofs.Common.{ℕ, ◌≤◌, Bool, List, inl, inr, length, arith}
-use Rattle.std.proofs.lemmas.Bool.{cases_lt}
+use Rattle.std.proofs.{Common.{ℕ, ◌≤◌, Bool, List, inl, inr, length, arith}, lemmas.Bool.cases_lt}
 use Rattle.liao_wong.specs.Marked.{AreUnmarked, IsNextMark}
 use Rattle.liao_wong.proofs.marks.next_marked.Goals as goal
 

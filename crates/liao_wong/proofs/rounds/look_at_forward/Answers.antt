@@ -1,23 +1,17 @@
-use Rattle.std.proofs.Common.{◌≡◌, ℕ, ◌+◌, ◌<◌, true, false, Bool, Some, None, List, ◌∷◌, drop, fold, get_or, length, set, sym, ap, subst, ◌∙◌, inl, inr, arith, below_more}
-use Rattle.std.specs.List.{All}
-use Rattle.std.proofs.lemmas.Bool.{true≢false}
-use Rattle.std.proofs.lemmas.List.{get_or_default}
-use Rattle.cons_graph.specs.declared.edges.Edge.{Edge}
-use Rattle.round_log.specs.declared.log.Entry.{Entry}
-use Rattle.round_log.specs.Looks.{look, is_forward, raise_of, place_in}
-use Rattle.cons_graph.specs.EdgeNumbers.{edge_at}
+use Rattle.std.proofs.Common.{◌≡◌, ℕ, ◌+◌, ◌<◌, true, false, Bool, Some, None, List, ◌∷◌, drop, fold, get_or, length}
+use Rattle.std.proofs.{Common.{set, sym, ap, subst, ◌∙◌, inl, inr, arith, below_more}, lemmas.Bool.true≢false}
+use Rattle.std.{proofs.lemmas.List.get_or_default, specs.List.All}
+use Rattle.cons_graph.specs.{declared.edges.Edge.Edge, EdgeNumbers.edge_at}
+use Rattle.round_log.specs.{declared.log.Entry.Entry, Looks.{look, is_forward, raise_of, place_in}}
 use Rattle.round_log.proofs.Members.{cases_option}
-use Rattle.liao_wong.specs.Held.{Held, ArePlaces}
-use Rattle.liao_wong.specs.Going.{IsReady, forward_of}
-use Rattle.liao_wong.specs.Worklist.{IsWorklist}
-use Rattle.liao_wong.proofs.Marking.{set_here, set_keeps, wait_none_more, wait_one_more}
-use Rattle.liao_wong.proofs.Worklists.{worklist_raised, worklist_waits}
-use Rattle.liao_wong.specs.Marked.{is_marked}
-use Rattle.liao_wong.specs.declared.worklist.Worklist.{Worklist}
-use Rattle.liao_wong.proofs.Looked.{HasLookedUpTo, looked_quietly, looked_raising, looked_all}
-use Rattle.liao_wong.proofs.Steps.{ready_small, places_by_length, ready_forward, left_look, left_skip, look_raises, look_leaves}
+use Rattle.liao_wong.specs.{Held.{Held, ArePlaces}, Going.{IsReady, forward_of}, Worklist.IsWorklist, Marked.is_marked}
+use Rattle.liao_wong.{specs.declared.worklist.Worklist.Worklist, proofs.Marking.{set_here, set_keeps, wait_none_more}}
+use Rattle.liao_wong.proofs.{Marking.wait_one_more, Worklists.{worklist_raised, worklist_waits}, Looked.HasLookedUpTo}
+use Rattle.liao_wong.proofs.{Looked.{looked_quietly, looked_raising, looked_all}, Steps.{ready_small, places_by_length}}
+use Rattle.liao_wong.proofs.Steps.{ready_forward, left_look, left_skip, look_raises, look_leaves}
+use Rattle.liao_wong.proofs.rounds.look_at_forward.Goals.{then-goes_up+in-Some+in_ok-push, then-goes_up+in_default}
+use Rattle.liao_wong.proofs.rounds.look_at_forward.Goals.{else-goes_up}
 use Rattle.liao_wong.proofs.rounds.look_at_forward.Goals as goal
-use Rattle.liao_wong.proofs.rounds.look_at_forward.Goals.{then-goes_up+in-Some+in_ok-push, then-goes_up+in_default, else-goes_up}
 
 pub raise_at-requires-clause-small : goal.raise_at-requires-clause-small
 raise_at-requires-clause-small c = ready_small c.args.raises.now.vars c.args.edges.now c.args.order.now.variables.now c.args.order.now.places.items c.loop-k.raises c.loop-k.invariant.ready

@@ -1,10 +1,7 @@
-use Rattle.std.proofs.Common.{◌≡◌, ℕ, ◌<◌, true, false, drop, fold, get_or}
-use Rattle.std.specs.List.{All}
+use Rattle.std.{proofs.Common.{◌≡◌, ℕ, ◌<◌, true, false, drop, fold, get_or}, specs.List.All}
 use Rattle.round_log.specs.Looks.{look, is_forward}
 use Rattle.cons_graph.specs.EdgeNumbers.{edge_at}
-use Rattle.liao_wong.specs.Going.{IsReady, forward_of}
-use Rattle.liao_wong.specs.Marked.{is_marked}
-use Rattle.liao_wong.specs.Worklist.{IsWorklist}
+use Rattle.liao_wong.specs.{Going.{IsReady, forward_of}, Marked.is_marked, Worklist.IsWorklist}
 use Rattle.liao_wong.proofs.Looked.{HasLookedUpTo}
 use Rattle.liao_wong.proofs.rounds.look_at_forward.Given as goal
 

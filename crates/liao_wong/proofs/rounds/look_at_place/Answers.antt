@@ -1,12 +1,7 @@
-use Rattle.std.proofs.Common.{◌≡◌, ℕ, Bool, List, fold, get_or, sym, ap, subst, ◌∙◌}
-use Rattle.std.specs.List.{All}
-use Rattle.cons_graph.specs.declared.edges.Edge.{Edge}
-use Rattle.cons_graph.specs.EdgeNumbers.{edge_at, leaving}
-use Rattle.round_log.specs.declared.log.Entry.{Entry}
-use Rattle.round_log.specs.Looks.{look}
-use Rattle.liao_wong.specs.Held.{Held}
-use Rattle.liao_wong.specs.Going.{forward_of}
-use Rattle.liao_wong.specs.Worklist.{IsWorklist, HasLookedForward, HasLookedAtPlace}
+use Rattle.std.{proofs.Common.{◌≡◌, ℕ, Bool, List, fold, get_or, sym, ap, subst, ◌∙◌}, specs.List.All}
+use Rattle.cons_graph.specs.{declared.edges.Edge.Edge, EdgeNumbers.{edge_at, leaving}}
+use Rattle.round_log.specs.{declared.log.Entry.Entry, Looks.look}
+use Rattle.liao_wong.specs.{Held.Held, Going.forward_of, Worklist.{IsWorklist, HasLookedForward, HasLookedAtPlace}}
 use Rattle.liao_wong.proofs.Worklists.{all_in_range, backward_wait, leaving_tails, worklist_passed, passed_place}
 use Rattle.liao_wong.proofs.rounds.look_at_place.Goals as goal
 

@@ -1,20 +1,14 @@
-use Rattle.std.proofs.Common.{◌≡◌, ℕ, ◌+◌, ◌-◌, ◌<◌, ◌≤◌, true, false, Bool, Some, None, List, ◌∷◌, length, set, sym, ap, subst, ◌∙◌, inl, inr, arith}
-use Rattle.std.specs.List.{range_with_len}
-use Rattle.cons_graph.specs.declared.edges.Edge.{Edge}
+use Rattle.std.proofs.Common.{◌≡◌, ℕ, ◌+◌, ◌-◌, ◌<◌, ◌≤◌, true, false, Bool, Some, None, List, ◌∷◌, length, set, sym}
+use Rattle.std.{proofs.Common.{ap, subst, ◌∙◌, inl, inr, arith}, specs.List.range_with_len}
+use Rattle.cons_graph.specs.{declared.edges.Edge.Edge, EdgeNumbers.{edge_at, leaving}}
 use Rattle.round_log.specs.declared.log.Entry.{Entry}
-use Rattle.cons_graph.specs.EdgeNumbers.{edge_at, leaving}
-use Rattle.round_log.specs.Looks.{is_forward, raise_of, comes_back, backward_numbers, place_in}
-use Rattle.round_log.specs.Rounds.{backward_part}
-use Rattle.round_log.proofs.Members.{cases_option}
-use Rattle.liao_wong.specs.Held.{Held}
-use Rattle.liao_wong.specs.Going.{IsReady, backward_of}
-use Rattle.liao_wong.specs.Marked.{AreUnmarked, IsNextMark}
-use Rattle.liao_wong.specs.Worklist.{IsWorklist, WaitToo}
+use Rattle.round_log.specs.{Looks.{is_forward, raise_of, comes_back, backward_numbers, place_in}, Rounds.backward_part}
+use Rattle.round_log.proofs.{Members.cases_option, Least.edge_among, Planned.{place_in_range, In-from_contains}}
+use Rattle.liao_wong.specs.{Held.Held, Going.{IsReady, backward_of}, Marked.{AreUnmarked, IsNextMark}}
+use Rattle.liao_wong.specs.{Worklist.{IsWorklist, WaitToo}, declared.worklist.Worklist.Worklist}
 use Rattle.liao_wong.proofs.Steps.{ready_small, ready_backward, back_leaves, back_raises, back_stops}
-use Rattle.liao_wong.proofs.Worklists.{AheadWait, own_none, all_in_range, backward_wait, worklist_raised, worklist_looked, ahead_looked, ahead_raised}
-use Rattle.round_log.proofs.Least.{edge_among}
-use Rattle.round_log.proofs.Planned.{place_in_range, In-from_contains}
-use Rattle.liao_wong.specs.declared.worklist.Worklist.{Worklist}
+use Rattle.liao_wong.proofs.Worklists.{AheadWait, own_none, all_in_range, backward_wait, worklist_raised}
+use Rattle.liao_wong.proofs.Worklists.{worklist_looked, ahead_looked, ahead_raised}
 use Rattle.liao_wong.proofs.rounds.look_backward.Goals.{in-Some-raise_at+in_ok-push+else-stops, in_default-raise_at}
 use Rattle.liao_wong.proofs.LeftOut.{left_to_edge}
 use Rattle.liao_wong.proofs.rounds.look_backward.Goals as goal

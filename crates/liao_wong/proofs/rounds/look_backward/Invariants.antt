@@ -1,11 +1,7 @@
-use Rattle.std.proofs.Common.{◌≡◌, ◌-◌, ◌≤◌, length}
-use Rattle.std.specs.List.{range_with_len}
+use Rattle.std.{proofs.Common.{◌≡◌, ◌-◌, ◌≤◌, length}, specs.List.range_with_len}
 use Rattle.cons_graph.specs.EdgeNumbers.{edge_at}
-use Rattle.round_log.specs.Looks.{backward_numbers}
-use Rattle.round_log.specs.Rounds.{backward_part}
-use Rattle.liao_wong.specs.Going.{IsReady, backward_of}
-use Rattle.liao_wong.specs.Worklist.{IsWorklist}
-use Rattle.liao_wong.proofs.Worklists.{AheadWait}
+use Rattle.round_log.specs.{Looks.backward_numbers, Rounds.backward_part}
+use Rattle.liao_wong.{specs.{Going.{IsReady, backward_of}, Worklist.IsWorklist}, proofs.Worklists.AheadWait}
 use Rattle.liao_wong.proofs.rounds.look_backward.Given as goal
 
 abbrev pub invariant-loop-k : goal.invariant-loop-k

@@ -1,17 +1,10 @@
-use Rattle.std.proofs.Common.{◌≡◌, ℕ, ◌+◌, ◌<◌, ◌≤◌, false, Bool, List, drop, fold, get_or, length, inl, inr, sym, ap, subst, ◌∙◌, arith}
-use Rattle.std.specs.List.{flat_map}
-use Rattle.std.proofs.lemmas.Bool.{cases_lt}
-use Rattle.std.proofs.lemmas.List.{drop_all}
-use Rattle.cons_graph.specs.declared.edges.Edge.{Edge}
-use Rattle.cons_graph.specs.EdgeNumbers.{edge_at, leaving}
-use Rattle.round_log.specs.Looks.{look}
-use Rattle.round_log.specs.Rounds.{forward_part, plan_of}
-use Rattle.liao_wong.specs.Held.{Held}
-use Rattle.liao_wong.specs.Going.{IsReady, group_of}
-use Rattle.liao_wong.specs.Marked.{AreUnmarked, IsNextMark, is_marked}
+use Rattle.std.proofs.Common.{◌≡◌, ℕ, ◌+◌, ◌<◌, ◌≤◌, false, Bool, List, drop, fold, get_or, length, inl, inr, sym, ap}
+use Rattle.std.{proofs.{Common.{subst, ◌∙◌, arith}, lemmas.{Bool.cases_lt, List.drop_all}}, specs.List.flat_map}
+use Rattle.cons_graph.specs.{declared.edges.Edge.Edge, EdgeNumbers.{edge_at, leaving}}
+use Rattle.round_log.specs.{Looks.look, Rounds.{forward_part, plan_of}}
+use Rattle.liao_wong.specs.{Held.Held, Going.{IsReady, group_of}, Marked.{AreUnmarked, IsNextMark, is_marked}}
 use Rattle.liao_wong.specs.Worklist.{HasLookedAtPlace}
-use Rattle.liao_wong.proofs.Steps.{ready_looks, left_group, leaving_in_range}
-use Rattle.liao_wong.proofs.LeftOut.{left_to_place}
+use Rattle.liao_wong.proofs.{Steps.{ready_looks, left_group, leaving_in_range}, LeftOut.left_to_place}
 use Rattle.liao_wong.proofs.rounds.look_forward.Goals as goal
 
 -- behind the next mark none is left, once it is taken away too

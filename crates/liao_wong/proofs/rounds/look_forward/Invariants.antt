@@ -1,11 +1,7 @@
-use Rattle.std.proofs.Common.{◌≡◌, ◌-◌, ◌≤◌, drop, fold, length}
-use Rattle.std.specs.List.{flat_map}
-use Rattle.round_log.specs.Looks.{look}
+use Rattle.std.{proofs.Common.{◌≡◌, ◌-◌, ◌≤◌, drop, fold, length}, specs.List.flat_map}
+use Rattle.round_log.specs.{Looks.look, Rounds.{forward_part, plan_of}}
 use Rattle.cons_graph.specs.EdgeNumbers.{edge_at}
-use Rattle.round_log.specs.Rounds.{forward_part, plan_of}
-use Rattle.liao_wong.specs.Going.{IsReady, group_of}
-use Rattle.liao_wong.specs.Marked.{AreUnmarked}
-use Rattle.liao_wong.specs.Worklist.{IsWorklist}
+use Rattle.liao_wong.specs.{Going.{IsReady, group_of}, Marked.AreUnmarked, Worklist.IsWorklist}
 use Rattle.liao_wong.proofs.rounds.look_forward.Given as goal
 
 abbrev pub invariant-loop-place : goal.invariant-loop-place

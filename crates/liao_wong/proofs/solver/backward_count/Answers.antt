@@ -1,11 +1,8 @@
-use Rattle.std.proofs.Common.{◌≡◌, ℕ, ◌+◌, List, length, sym, ap, subst, ◌∙◌, arith}
-use Rattle.std.specs.List.{range_with_len}
+use Rattle.std.{proofs.Common.{◌≡◌, ℕ, ◌+◌, List, length, sym, ap, subst, ◌∙◌, arith}, specs.List.range_with_len}
 use Rattle.cons_graph.specs.declared.edges.Edge.{Edge}
-use Rattle.liao_wong.specs.Held.{ArePlaces}
-use Rattle.liao_wong.specs.Going.{backward_of}
-use Rattle.liao_wong.proofs.Outputs.{count_one, count_none, count_low}
-use Rattle.liao_wong.proofs.solver.backward_count.Goals as goal
+use Rattle.liao_wong.{specs.{Held.ArePlaces, Going.backward_of}, proofs.Outputs.{count_one, count_none, count_low}}
 use Rattle.liao_wong.proofs.solver.backward_count.Goals.{then-not-goes_up, else-not-goes_up}
+use Rattle.liao_wong.proofs.solver.backward_count.Goals as goal
 
 pub overflow_add-count : goal.overflow_add-count
 overflow_add-count c = omega (arith, c.loop-edge.invariant, count_low c.args.edges.now c.args.order.now.variables.now c.loop-edge.edge-index, c.loop-edge-test.true, c.requires.few)

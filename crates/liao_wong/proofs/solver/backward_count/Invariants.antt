@@ -1,5 +1,4 @@
-use Rattle.std.proofs.Common.{◌≡◌, length}
-use Rattle.std.specs.List.{range_with_len}
+use Rattle.std.{proofs.Common.{◌≡◌, length}, specs.List.range_with_len}
 use Rattle.liao_wong.specs.Going.{backward_of}
 use Rattle.liao_wong.proofs.solver.backward_count.Given as goal
 

@@ -1,18 +1,11 @@
 use Rattle.std.proofs.Common.{◌≡◌, ℕ, ◌+◌, ◌<◌, Bool, true, false, List, inl, inr, length, sym, ap, subst, ◌∙◌, arith}
-use Rattle.std.proofs.lemmas.Bool.{cases_lt}
-use Rattle.std.proofs.lemmas.List.{get_or_past}
-use Rattle.round_log.specs.declared.log.Entry.{Entry}
-use Rattle.cons_graph.specs.Constraints.{Constraints}
-use Rattle.round_log.specs.Rounds.{Progress, forward_part, plan_of, round, backward_part}
-use Rattle.cons_graph.specs.EdgeNumbers.{edge_at}
-use Rattle.round_log.specs.Looks.{backward_numbers}
-use Rattle.liao_wong.specs.Held.{Held}
-use Rattle.liao_wong.specs.Going.{IsReady}
-use Rattle.liao_wong.specs.Marked.{is_marked}
-use Rattle.liao_wong.specs.Sweeping.{IsTrimmed}
-use Rattle.liao_wong.proofs.Worklists.{worklist_start, worklist_trimmed}
-use Rattle.round_log.proofs.Ends.{order_length}
-use Rattle.liao_wong.proofs.Course.{has_started, ready_between, stopped_here, ended_here, goes_on, trimmed, few_backward}
+use Rattle.std.proofs.lemmas.{Bool.cases_lt, List.get_or_past}
+use Rattle.round_log.specs.{declared.log.Entry.Entry, Rounds.{Progress, forward_part, plan_of, round, backward_part}}
+use Rattle.round_log.{specs.Looks.backward_numbers, proofs.Ends.order_length}
+use Rattle.cons_graph.specs.{Constraints.Constraints, EdgeNumbers.edge_at}
+use Rattle.liao_wong.specs.{Held.Held, Going.IsReady, Marked.is_marked, Sweeping.IsTrimmed}
+use Rattle.liao_wong.proofs.{Worklists.{worklist_start, worklist_trimmed}, Course.{has_started, ready_between}}
+use Rattle.liao_wong.proofs.Course.{stopped_here, ended_here, goes_on, trimmed, few_backward}
 use Rattle.liao_wong.proofs.solver.run_rounds.Goals as goal
 
 pub look_backward-requires-clause-ready : goal.look_backward-requires-clause-ready

@@ -1,7 +1,6 @@
 use Rattle.std.proofs.Common.{◌-◌, suc, length}
 use Rattle.round_log.specs.Looks.{backward_numbers}
-use Rattle.liao_wong.specs.Running.{HasCome}
-use Rattle.liao_wong.specs.Worklist.{IsWorklist}
+use Rattle.liao_wong.specs.{Running.HasCome, Worklist.IsWorklist}
 use Rattle.liao_wong.proofs.solver.run_rounds.Given as goal
 
 abbrev pub invariant-rounds : goal.invariant-rounds

@@ -1,6 +1,5 @@
 use Rattle.std.proofs.Common.{◌≡◌, ◌-◌, ℕ, List, length, drop, sym, ap, ◌∙◌, arith}
-use Rattle.round_log.specs.declared.log.Entry.{Entry}
-use Rattle.round_log.specs.Logs.{raises_in, up_to_entry}
+use Rattle.round_log.specs.{declared.log.Entry.Entry, Logs.{raises_in, up_to_entry}}
 use Rattle.round_log.specs.WalksBack as back
 use Rattle.liao_wong.proofs.Outputs.{stop_looks, cycle_is}
 use Rattle.liao_wong.proofs.solving.cycle_at.Goals as goal

@@ -1,6 +1,5 @@
 use Rattle.std.proofs.Common.{ℤ, List, sym, subst}
-use Rattle.liao_wong.specs.Running.{IsReadOut}
-use Rattle.liao_wong.proofs.Outputs.{read_is}
+use Rattle.liao_wong.{specs.Running.IsReadOut, proofs.Outputs.read_is}
 use Rattle.liao_wong.proofs.solving.read_out.Goals as goal
 
 pub returns : goal.returns

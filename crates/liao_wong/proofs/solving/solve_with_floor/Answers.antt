@@ -1,13 +1,7 @@
-use Rattle.std.proofs.Common.{ℕ, ◌<◌, List, length, sym, subst, arith}
-use Rattle.std.specs.List.{All}
-use Rattle.cons_graph.specs.declared.edges.Edge.{Edge}
-use Rattle.round_log.specs.Orders.{NamesEachOnce}
-use Rattle.cons_graph.specs.SimpleWalks.{IsSimplePositiveCycle}
-use Rattle.cons_graph.specs.Walks.{HasPositiveCycle}
-use Rattle.round_log.proofs.Least.{positive_cycle_excludes}
-use Rattle.round_log.proofs.Outcomes.{has_cycle}
-use Rattle.liao_wong.specs.Held.{ArePlaces}
-use Rattle.liao_wong.proofs.Outputs.{order_is_long, IfCycle-map}
+use Rattle.std.{proofs.Common.{ℕ, ◌<◌, List, length, sym, subst, arith}, specs.List.All}
+use Rattle.cons_graph.specs.{declared.edges.Edge.Edge, SimpleWalks.IsSimplePositiveCycle, Walks.HasPositiveCycle}
+use Rattle.round_log.{specs.Orders.NamesEachOnce, proofs.{Least.positive_cycle_excludes, Outcomes.has_cycle}}
+use Rattle.liao_wong.{specs.Held.ArePlaces, proofs.Outputs.{order_is_long, IfCycle-map}}
 use Rattle.liao_wong.proofs.solving.solve_with_floor.Goals as goal
 
 pub places_of-requires-clause-names : goal.places_of-requires-clause-names

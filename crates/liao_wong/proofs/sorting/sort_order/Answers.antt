@@ -1,7 +1,5 @@
-use Rattle.std.proofs.Common.{◌≡◌, ℕ, List, length, ap, subst, ◌∙◌, arith, rules}
-use Rattle.std.specs.List.{range_with_len}
-use Rattle.std.specs.List.Sorted.{IsPermutation}
-use Rattle.std.proofs.lemmas.Fn.{always_returns_same}
+use Rattle.std.proofs.{Common.{◌≡◌, ℕ, List, length, ap, subst, ◌∙◌, arith, rules}, lemmas.Fn.always_returns_same}
+use Rattle.std.specs.List.{range_with_len, Sorted.IsPermutation}
 use Rattle.round_log.specs.Orders.{NamesEachOnce}
 use Rattle.liao_wong.proofs.InOrder.{key_of, in_order, names_sorted, range_ends}
 use Rattle.liao_wong.proofs.sorting.sort_order.Goals as goal

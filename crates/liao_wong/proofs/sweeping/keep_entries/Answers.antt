@@ -1,9 +1,8 @@
 use Rattle.std.proofs.Common.{ℕ, ◌+◌, ◌<◌, List, length, get_or, refl, sym, ap, subst, arith}
 use Rattle.round_log.specs.declared.log.Entry.{Entry}
-use Rattle.liao_wong.specs.Sweeping.{keeps_of}
-use Rattle.liao_wong.proofs.Sweeps.{IsCompacted, compact_older, compact_keep, compact_drop}
-use Rattle.liao_wong.proofs.sweeping.keep_entries.Goals as goal
+use Rattle.liao_wong.{specs.Sweeping.keeps_of, proofs.Sweeps.{IsCompacted, compact_older, compact_keep, compact_drop}}
 use Rattle.liao_wong.proofs.sweeping.keep_entries.Goals.{then-keeps-n, else-keeps-n}
+use Rattle.liao_wong.proofs.sweeping.keep_entries.Goals as goal
 
 pub offset_bounds-numbers-entry : goal.offset_bounds-numbers-entry
 offset_bounds-numbers-entry c =

@@ -1,5 +1,4 @@
-use Rattle.liao_wong.proofs.Sweeps.{IsCompacted}
-use Rattle.liao_wong.specs.Sweeping.{keeps_of}
+use Rattle.liao_wong.{proofs.Sweeps.IsCompacted, specs.Sweeping.keeps_of}
 use Rattle.liao_wong.proofs.sweeping.keep_entries.Given as goal
 
 abbrev pub invariant-loop-n : goal.invariant-loop-n

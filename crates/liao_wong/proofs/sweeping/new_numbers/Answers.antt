@@ -1,7 +1,5 @@
-use Rattle.std.proofs.Common.{◌-◌, arith}
-use Rattle.std.proofs.lemmas.List.{get_or_read}
-use Rattle.liao_wong.specs.Sweeping.{keeps_of}
-use Rattle.liao_wong.proofs.Sweeps.{number_low}
+use Rattle.std.proofs.{Common.{◌-◌, arith}, lemmas.List.get_or_read}
+use Rattle.liao_wong.{specs.Sweeping.keeps_of, proofs.Sweeps.number_low}
 use Rattle.liao_wong.proofs.sweeping.new_numbers.Goals as goal
 
 pub overflow_add-before : goal.overflow_add-before

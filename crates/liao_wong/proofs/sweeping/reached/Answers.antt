@@ -1,11 +1,10 @@
-use Rattle.std.proofs.Common.{◌≡◌, ℕ, ◌-◌, ◌<◌, Bool, true, false, List, inl, inr, length, get_or, set, sym, ap, subst, ◌∙◌, arith}
-use Rattle.std.proofs.lemmas.Bool.{cases_eq, true≢false}
-use Rattle.std.proofs.lemmas.List.{length-set, get_or_read}
+use Rattle.std.proofs.Common.{◌≡◌, ℕ, ◌-◌, ◌<◌, Bool, true, false, List, inl, inr, length, get_or, set, sym, ap, subst}
+use Rattle.std.proofs.{Common.{◌∙◌, arith}, lemmas.{Bool.{cases_eq, true≢false}, List.{length-set, get_or_read}}}
 use Rattle.round_log.specs.Logs.{origin_entry}
 use Rattle.liao_wong.specs.Sweeping.{keeps_of}
-use Rattle.liao_wong.proofs.Sweeps.{IsMarked, set_keeps, set_here, comes_from_older, last_inside, mark_back, mark_skip, keeps_chains}
+use Rattle.liao_wong.proofs.Sweeps.{IsMarked, set_keeps, set_here, comes_from_older, last_inside, mark_back, mark_skip}
+use Rattle.liao_wong.proofs.{Sweeps.keeps_chains, sweeping.reached.Goals.{then-index, else-index}}
 use Rattle.liao_wong.proofs.sweeping.reached.Goals as goal
-use Rattle.liao_wong.proofs.sweeping.reached.Goals.{then-index, else-index}
 
 pub index_mut-requires-in-loop-latest : goal.index_mut-requires-in-loop-latest
 index_mut-requires-in-loop-latest c =

@@ -1,6 +1,5 @@
 use Rattle.std.proofs.Common.{◌≡◌, ℕ, ◌<◌, true, length, get_or}
-use Rattle.liao_wong.specs.Sweeping.{keeps_of}
-use Rattle.liao_wong.proofs.Sweeps.{IsMarked}
+use Rattle.liao_wong.{specs.Sweeping.keeps_of, proofs.Sweeps.IsMarked}
 use Rattle.liao_wong.proofs.sweeping.reached.Given as goal
 
 abbrev pub invariant-loop-latest : goal.invariant-loop-latest

@@ -1,8 +1,7 @@
 use Rattle.std.proofs.Common.{◌≡◌, ℕ, ◌<◌, true, false, get_or}
 use Rattle.cons_graph.specs.EdgeNumbers.{edge_at}
 use Rattle.round_log.specs.Looks.{is_forward}
-use Rattle.liao_wong.specs.Marked.{is_marked}
-use Rattle.liao_wong.specs.Worklist.{WaitToo}
+use Rattle.liao_wong.specs.{Marked.is_marked, Worklist.WaitToo}
 use Rattle.liao_wong.proofs.worklist.mark_backward.Given as goal
 
 abbrev pub invariant-loop-k : goal.invariant-loop-k

@@ -1,21 +1,13 @@
 use Rattle.std.proofs.Common.{◌≡◌, ℕ, ◌<◌, ℤ, get_or, length, map, List, [], ◌++◌, arith, ap, sym, subst, ◌∙◌}
-use Rattle.std.specs.List.{flat_map, range_with_len}
-use Rattle.std.proofs.lemmas.Int.{ints}
-use Rattle.std.proofs.lemmas.List.{length-map}
+use Rattle.std.{proofs.lemmas.{Int.ints, List.length-map}, specs.List.{flat_map, range_with_len}}
 use Rattle.lam_geom.specs.declared.boxes.Axis.TheVariants.{X, Y}
 use Rattle.rule_table.specs.Technology.{widest_of}
 use Rattle.sym_items.specs.Layouts.{size_in}
 use Rattle.list_facts.proofs.Pieces.{piece_added}
-use Rattle.plan_model.specs.declared.plan.PlanGrid.{PlanGrid}
-use Rattle.plan_model.specs.declared.plan.PlanRow.{PlanRow}
-use Rattle.plan_model.specs.Instances.{grid_at, left_of_grid}
-use Rattle.plan_model.specs.Plan.{grids_of}
-use Rattle.plan_model.specs.Rows.{rows_of}
-use Rattle.mask_out.specs.Pictures.{IsGridInReach}
-use Rattle.mask_out.specs.RowCalls.{calls_in_grid}
-use Rattle.mask_out.proofs.Totals.{past_grid, first_in_reach}
-use Rattle.mask_out.proofs.CallsInOrder.{calls_of_grid, calls_in_order}
-use Rattle.mask_out.proofs.Pushed.{image_at}
+use Rattle.plan_model.specs.declared.plan.{PlanGrid.PlanGrid, PlanRow.PlanRow}
+use Rattle.plan_model.specs.{Instances.{grid_at, left_of_grid}, Plan.grids_of, Rows.rows_of}
+use Rattle.mask_out.{specs.{Pictures.IsGridInReach, RowCalls.calls_in_grid}, proofs.Totals.{past_grid, first_in_reach}}
+use Rattle.mask_out.proofs.{CallsInOrder.{calls_of_grid, calls_in_order}, Pushed.image_at}
 use Rattle.mask_out.proofs.calls.calls_in.Goals as goal
 
 abbrev cells : PlanRow → List ℕ

@@ -1,11 +1,8 @@
-use Rattle.std.proofs.Common.{◌≡◌}
-use Rattle.std.specs.Prelude.{flat_map}
-use Rattle.std.specs.List.{range_with_len}
+use Rattle.std.{proofs.Common.◌≡◌, specs.{Prelude.flat_map, List.range_with_len}}
 use Rattle.lam_geom.specs.declared.boxes.Axis.TheVariants.{X, Y}
 use Rattle.rule_table.specs.Technology.{widest_of}
 use Rattle.sym_items.specs.Layouts.{size_in}
-use Rattle.plan_model.specs.Instances.{left_of_grid}
-use Rattle.plan_model.specs.Plan.{grids_of}
+use Rattle.plan_model.specs.{Instances.left_of_grid, Plan.grids_of}
 use Rattle.mask_out.proofs.CallsInOrder.{calls_of_grid}
 use Rattle.mask_out.proofs.calls.calls_in.Given as goal
 

@@ -1,14 +1,10 @@
 use Rattle.std.proofs.Common.{◌≡◌, ℕ, ◌<◌, ℤ, length, map, List, [], ◌++◌, arith, ap, subst, ◌∙◌, w64}
-use Rattle.std.specs.List.{flat_map, range_with_len}
-use Rattle.std.proofs.lemmas.Int.{ints, to_z-of_z}
-use Rattle.std.proofs.lemmas.List.{length-map}
+use Rattle.std.{proofs.lemmas.{Int.{ints, to_z-of_z}, List.length-map}, specs.List.{flat_map, range_with_len}}
 use Rattle.lam_geom.specs.declared.boxes.Axis.TheVariants.{X, Y}
 use Rattle.sym_items.specs.Layouts.{size_in}
 use Rattle.plan_model.specs.declared.plan.PlanRow.{PlanRow}
-use Rattle.mask_out.specs.Pictures.{IsRowInReach}
-use Rattle.mask_out.specs.RowCalls.{calls_in_row_at}
-use Rattle.mask_out.proofs.Totals.{past_row}
-use Rattle.mask_out.proofs.Pushed.{image_at, row_pushed}
+use Rattle.mask_out.specs.{Pictures.IsRowInReach, RowCalls.calls_in_row_at}
+use Rattle.mask_out.proofs.{Totals.past_row, Pushed.{image_at, row_pushed}}
 use Rattle.mask_out.proofs.calls.push_grid.Goals as goal
 
 abbrev cells : PlanRow → List ℕ

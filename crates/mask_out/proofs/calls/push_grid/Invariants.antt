@@ -1,10 +1,7 @@
-use Rattle.std.proofs.Common.{◌≡◌, ◌++◌, map}
-use Rattle.std.specs.Prelude.{flat_map}
-use Rattle.std.specs.List.{range_with_len}
+use Rattle.std.{proofs.Common.{◌≡◌, ◌++◌, map}, specs.{Prelude.flat_map, List.range_with_len}}
 use Rattle.lam_geom.specs.declared.boxes.Axis.TheVariants.{X, Y}
 use Rattle.sym_items.specs.Layouts.{size_in}
-use Rattle.plan_model.specs.Instances.{bottom_in_grid}
-use Rattle.plan_model.specs.declared.plan.PlanRow.{PlanRow}
+use Rattle.plan_model.specs.{Instances.bottom_in_grid, declared.plan.PlanRow.PlanRow}
 use Rattle.mask_out.specs.RowCalls.{calls_in_row_at}
 use Rattle.mask_out.proofs.calls.push_grid.Given as goal
 

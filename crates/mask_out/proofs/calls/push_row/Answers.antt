@@ -1,9 +1,7 @@
-use Rattle.std.proofs.Common.{arith, refl}
-use Rattle.std.proofs.lemmas.Int.{ints}
+use Rattle.std.proofs.{Common.{arith, refl}, lemmas.Int.ints}
 use Rattle.lam_geom.specs.declared.boxes.Axis.TheVariants.{X}
 use Rattle.sym_items.specs.Layouts.{size_in}
-use Rattle.mask_out.proofs.Totals.{past_instance}
-use Rattle.mask_out.proofs.Pushed.{call_pushed}
+use Rattle.mask_out.proofs.{Totals.past_instance, Pushed.call_pushed}
 use Rattle.mask_out.proofs.calls.push_row.Goals as goal
 
 pub overflow_add-x : goal.overflow_add-x

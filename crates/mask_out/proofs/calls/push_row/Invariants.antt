@@ -1,5 +1,4 @@
-use Rattle.std.proofs.Common.{◌≡◌, ◌++◌, map, ◌+ℤ◌}
-use Rattle.std.specs.List.{range_with_len}
+use Rattle.std.{proofs.Common.{◌≡◌, ◌++◌, map, ◌+ℤ◌}, specs.List.range_with_len}
 use Rattle.lam_geom.specs.declared.boxes.Axis.TheVariants.{X}
 use Rattle.sym_items.specs.Layouts.{size_in}
 use Rattle.plan_model.specs.Instances.{left_in_row}

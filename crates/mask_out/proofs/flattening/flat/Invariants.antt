@@ -1,7 +1,6 @@
 use Rattle.std.proofs.Common.{◌≡◌, All, map, take}
 use Rattle.lam_geom.specs.Places.{IsPlacedBox}
-use Rattle.mask_out.specs.Masks.{mask_of}
-use Rattle.mask_out.specs.Pictures.{drawing_of, flat_of}
+use Rattle.mask_out.specs.{Masks.mask_of, Pictures.{drawing_of, flat_of}}
 use Rattle.mask_out.proofs.flattening.flat.Given as goal
 
 abbrev pub invariant-loop-call : goal.invariant-loop-call

@@ -1,7 +1,5 @@
-use Rattle.lam_geom.specs.declared.boxes.MaskBox.{MaskBox}
-use Rattle.lam_geom.specs.Places.{IsPlacedBox}
-use Rattle.mask_out.proofs.Drawn.{one_more}
-use Rattle.mask_out.proofs.Shifted.{box_within, box_pushed}
+use Rattle.lam_geom.specs.{declared.boxes.MaskBox.MaskBox, Places.IsPlacedBox}
+use Rattle.mask_out.proofs.{Drawn.one_more, Shifted.{box_within, box_pushed}}
 use Rattle.mask_out.proofs.flattening.push_called.Goals as goal
 
 pub shifted_box-requires-clause-within : goal.shifted_box-requires-clause-within

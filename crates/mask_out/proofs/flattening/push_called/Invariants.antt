@@ -1,7 +1,6 @@
 use Rattle.std.proofs.Common.{◌≡◌, ◌++◌, All, map, take}
 use Rattle.lam_geom.specs.Places.{IsPlacedBox}
-use Rattle.mask_out.specs.Masks.{mask_of}
-use Rattle.mask_out.specs.Pictures.{shifted}
+use Rattle.mask_out.specs.{Masks.mask_of, Pictures.shifted}
 use Rattle.mask_out.proofs.flattening.push_called.Given as goal
 
 abbrev pub invariant-loop-mask : goal.invariant-loop-mask

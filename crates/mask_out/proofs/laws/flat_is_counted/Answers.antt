@@ -1,6 +1,5 @@
 use Rattle.std.proofs.Common.{map}
-use Rattle.mask_out.specs.Pictures.{drawing_of}
-use Rattle.mask_out.proofs.FlatCounted.{flat_counted}
+use Rattle.mask_out.{specs.Pictures.drawing_of, proofs.FlatCounted.flat_counted}
 use Rattle.mask_out.proofs.laws.flat_is_counted.Goals as goal
 
 pub returns : goal.returns

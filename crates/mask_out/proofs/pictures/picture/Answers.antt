@@ -1,13 +1,10 @@
-use Rattle.std.proofs.Common.{◌≡◌, length, sym, ap, ◌∙◌, arith}
+use Rattle.std.proofs.{Common.{◌≡◌, length, sym, ap, ◌∙◌, arith}, lemmas.{List.length-map, Slice.Zip.length-zip}}
 use Rattle.std.specs.List.{zip}
-use Rattle.std.proofs.lemmas.List.{length-map}
-use Rattle.std.proofs.lemmas.Slice.Zip.{length-zip}
 use Rattle.lam_geom.specs.declared.boxes.Axis.TheVariants.{X, Y}
 use Rattle.rule_table.specs.Technology.{widest_of}
 use Rattle.sym_items.specs.Layouts.{size_in}
 use Rattle.plan_model.specs.Plan.{grids_of}
-use Rattle.mask_out.specs.Pictures.{drawing_of, drawing_in}
-use Rattle.mask_out.proofs.CallsInReach.{calls_in_reach, carried_over}
+use Rattle.mask_out.{specs.Pictures.{drawing_of, drawing_in}, proofs.CallsInReach.{calls_in_reach, carried_over}}
 use Rattle.mask_out.proofs.pictures.picture.Goals as goal
 
 pub returns-clause-called : goal.returns-clause-called

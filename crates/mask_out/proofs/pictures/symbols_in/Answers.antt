@@ -1,12 +1,8 @@
-use Rattle.std.proofs.Common.{map, All, arith, ap, ◌∙◌}
+use Rattle.std.proofs.{Common.{map, All, arith, ap, ◌∙◌}, lemmas.{List.take_all, Slice.Zip.length-zip}}
 use Rattle.std.specs.List.{zip}
-use Rattle.std.proofs.lemmas.List.{take_all}
-use Rattle.std.proofs.lemmas.Slice.Zip.{length-zip}
 use Rattle.lam_geom.specs.Places.{IsPlacedBox}
-use Rattle.mask_out.specs.declared.drawing.Symbol.{Symbol}
-use Rattle.mask_out.specs.Pictures.{drawing_in}
-use Rattle.mask_out.proofs.Drawn.{one_more}
-use Rattle.mask_out.proofs.MasterSymbols.{symbol_pushed}
+use Rattle.mask_out.specs.{declared.drawing.Symbol.Symbol, Pictures.drawing_in}
+use Rattle.mask_out.proofs.{Drawn.one_more, MasterSymbols.symbol_pushed}
 use Rattle.mask_out.proofs.pictures.symbols_in.Goals as goal
 
 pub loop-m-preserved : goal.loop-m-preserved

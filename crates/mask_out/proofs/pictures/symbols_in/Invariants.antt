@@ -1,5 +1,4 @@
-use Rattle.std.proofs.Common.{◌≡◌, All, map, take}
-use Rattle.std.specs.List.{zip}
+use Rattle.std.{proofs.Common.{◌≡◌, All, map, take}, specs.List.zip}
 use Rattle.lam_geom.specs.Places.{IsPlacedBox}
 use Rattle.mask_out.specs.Pictures.{drawing_of, drawing_in}
 use Rattle.mask_out.proofs.pictures.symbols_in.Given as goal

@@ -1,5 +1,4 @@
-use Rattle.std.proofs.Common.{arith}
-use Rattle.std.proofs.lemmas.Int.{ints}
+use Rattle.std.proofs.{Common.arith, lemmas.Int.ints}
 use Rattle.lam_geom.specs.declared.boxes.Axis.TheVariants.{X}
 use Rattle.sym_items.specs.Layouts.{size_in}
 use Rattle.mask_out.proofs.Totals.{past_instance}

@@ -1,11 +1,8 @@
-use Rattle.std.proofs.Common.{All, map, ap, sym, subst, refl, ◌∙◌}
-use Rattle.lam_geom.specs.declared.boxes.MaskBox.{MaskBox}
-use Rattle.std.specs.Prelude.{List}
-use Rattle.lam_geom.specs.Places.{IsPlacedBox}
-use Rattle.mask_out.specs.Masks.{mask_of}
-use Rattle.mask_out.proofs.Drawn.{item_drawn, item_passed, one_more}
-use Rattle.mask_out.proofs.symbols.push_layer.Goals as goal
+use Rattle.std.{proofs.Common.{All, map, ap, sym, subst, refl, ◌∙◌}, specs.Prelude.List}
+use Rattle.lam_geom.specs.{declared.boxes.MaskBox.MaskBox, Places.IsPlacedBox}
+use Rattle.mask_out.{specs.Masks.mask_of, proofs.Drawn.{item_drawn, item_passed, one_more}}
 use Rattle.mask_out.proofs.symbols.push_layer.Goals.{then-is_drawn+in_ok-push, else-is_drawn}
+use Rattle.mask_out.proofs.symbols.push_layer.Goals as goal
 
 pub loop-item-preserved : goal.loop-item-preserved
 loop-item-preserved c =

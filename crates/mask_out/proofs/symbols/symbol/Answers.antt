@@ -1,6 +1,4 @@
-use Rattle.std.proofs.Common.{arith, ◌∙◌, ap, map}
-use Rattle.std.specs.Prelude.{flat_map}
-use Rattle.std.proofs.lemmas.List.{take_all}
+use Rattle.std.{proofs.{Common.{arith, ◌∙◌, ap, map}, lemmas.List.take_all}, specs.Prelude.flat_map}
 use Rattle.mask_out.specs.Masks.{mask_of, masks_on, masks_in, mask_layers}
 use Rattle.mask_out.proofs.symbols.symbol.Goals as goal
 

@@ -1,5 +1,4 @@
-use Rattle.std.proofs.Common.{◌≡◌, All, map, take}
-use Rattle.std.specs.Prelude.{flat_map}
+use Rattle.std.{proofs.Common.{◌≡◌, All, map, take}, specs.Prelude.flat_map}
 use Rattle.lam_geom.specs.Places.{IsPlacedBox}
 use Rattle.mask_out.specs.Masks.{mask_of, masks_on, mask_layers}
 use Rattle.mask_out.proofs.symbols.symbol.Given as goal

@@ -1,5 +1,4 @@
-use Rattle.std.proofs.Common.{◌≡◌, length}
-use Rattle.std.specs.List.{All}
+use Rattle.std.{proofs.Common.{◌≡◌, length}, specs.List.All}
 use Rattle.lam_geom.specs.Places.{IsPlacedBox}
 use Rattle.box_tree.specs.declared.spots.Spot.{Spot}
 use Rattle.mask_tests.proofs.box_tree_tests.squares.Given as goal

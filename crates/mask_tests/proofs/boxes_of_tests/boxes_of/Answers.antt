@@ -1,7 +1,5 @@
-use Rattle.std.proofs.Common.{◌∷◌, [], ◌++◌, arith}
-use Rattle.std.proofs.lemmas.List.Elements.{All-push, All-same}
-use Rattle.lam_geom.specs.declared.boxes.MaskBox.{MaskBox}
-use Rattle.lam_geom.specs.Places.{IsPlacedBox}
+use Rattle.std.proofs.{Common.{◌∷◌, [], ◌++◌, arith}, lemmas.List.Elements.{All-push, All-same}}
+use Rattle.lam_geom.specs.{declared.boxes.MaskBox.MaskBox, Places.IsPlacedBox}
 use Rattle.crossings.specs.Boxes.{IsSolid}
 use Rattle.mask_tests.proofs.boxes_of_tests.boxes_of.Goals as goal
 

@@ -1,6 +1,5 @@
 use Rattle.std.proofs.Common.{◌≡◌, length, All}
-use Rattle.lam_geom.specs.declared.boxes.MaskBox.{MaskBox}
-use Rattle.lam_geom.specs.Places.{IsPlacedBox}
+use Rattle.lam_geom.specs.{declared.boxes.MaskBox.MaskBox, Places.IsPlacedBox}
 use Rattle.crossings.specs.Boxes.{IsSolid}
 use Rattle.mask_tests.proofs.boxes_of_tests.boxes_of.Given as goal
 

@@ -1,5 +1,4 @@
-use Rattle.std.proofs.Common.{◌≡◌, ◌++◌, ◌∷◌, [], get_or, refl, ap, ◌∙◌, ◌<◌, length, arith}
-use Rattle.std.proofs.lemmas.List.{get_or_read}
+use Rattle.std.proofs.{Common.{◌≡◌, ◌++◌, ◌∷◌, [], get_or, refl, ap, ◌∙◌, ◌<◌, length, arith}, lemmas.List.get_or_read}
 use Rattle.net_extract.proofs.Listed.{chains_more}
 use Rattle.net_extract.proofs.cut_lists.chains_of.Goals as goal
 

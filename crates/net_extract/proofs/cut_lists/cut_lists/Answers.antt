@@ -1,13 +1,12 @@
-use Rattle.std.proofs.Common.{arith, ◌≡◌, ℕ, ◌+◌, ◌++◌, ◌∷◌, [], List, Vec, Global, length, get_or, refl, sym, ◌∙◌, ap, subst, length-append}
-use Rattle.std.proofs.lemmas.List.{get_or_default}
+use Rattle.std.proofs.Common.{arith, ◌≡◌, ℕ, ◌+◌, ◌++◌, ◌∷◌, [], List, Vec, Global, length, get_or, refl, sym, ◌∙◌, ap}
+use Rattle.std.proofs.{Common.{subst, length-append}, lemmas.List.get_or_default}
 use Rattle.box_tree.specs.declared.spots.Spot.{Spot}
 use Rattle.lam_geom.specs.declared.boxes.MaskBox.{MaskBox}
 use Rattle.crossings.specs.Boxes.{box_at, no_box}
 use Rattle.net_extract.specs.CutLists.{AreCrowdedSpots}
-use Rattle.net_extract.proofs.Listed.{AreCutsMore, crowded_push, crowded_skip, lists_more}
-use Rattle.net_extract.proofs.Shown.{spot_is}
-use Rattle.net_extract.proofs.cut_lists.cut_lists.Goals as goal
+use Rattle.net_extract.proofs.{Listed.{AreCutsMore, crowded_push, crowded_skip, lists_more}, Shown.spot_is}
 use Rattle.net_extract.proofs.cut_lists.cut_lists.Goals.{then-crowded+in_ok-push-3, else-crowded}
+use Rattle.net_extract.proofs.cut_lists.cut_lists.Goals as goal
 
 pub loop-k-preserved : goal.loop-k-preserved
 loop-k-preserved c =

@@ -1,5 +1,4 @@
-use Rattle.std.proofs.Common.{◌≡◌, ℕ, ◌+◌, ◌-◌, ◌++◌, ◌∷◌, [], get_or, ap, ◌∙◌, ◌<◌, arith}
-use Rattle.std.proofs.lemmas.List.{get_or_read}
+use Rattle.std.proofs.{Common.{◌≡◌, ℕ, ◌+◌, ◌-◌, ◌++◌, ◌∷◌, [], get_or, ap, ◌∙◌, ◌<◌, arith}, lemmas.List.get_or_read}
 use Rattle.net_extract.proofs.Listed.{down_more, down_all}
 use Rattle.net_extract.proofs.cut_lists.cuts_of.Goals as goal
 

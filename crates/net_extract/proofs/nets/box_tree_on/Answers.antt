@@ -1,7 +1,6 @@
 use Rattle.std.proofs.Common.{List, sym, subst}
 use Rattle.box_tree.specs.declared.spots.Spot.{Spot}
-use Rattle.net_extract.specs.Spots.{AreBoxSpots}
-use Rattle.net_extract.proofs.Begun.{boxes_fit}
+use Rattle.net_extract.{specs.Spots.AreBoxSpots, proofs.Begun.boxes_fit}
 use Rattle.net_extract.proofs.nets.box_tree_on.Goals as goal
 
 pub new-requires-clause-few : goal.new-requires-clause-few

@@ -1,10 +1,7 @@
-use Rattle.std.proofs.Common.{arith, ◌≡◌, ℕ, ◌+◌, ◌<◌, None, Some, sym, ◌∙◌, subst}
+use Rattle.std.proofs.{Common.{arith, ◌≡◌, ℕ, ◌+◌, ◌<◌, None, Some, sym, ◌∙◌, subst}, lemmas.List.get_or_read}
 use Rattle.std.specs.Prelude.{max}
-use Rattle.std.proofs.lemmas.List.{get_or_read}
-use Rattle.graph_search.specs.Search.{mark_of, AreWhole}
-use Rattle.graph_search.proofs.Spreading.{whole_more, whole_below}
-use Rattle.net_extract.specs.Linking.{AreBeside}
-use Rattle.net_extract.proofs.Nodes.{beside_back}
+use Rattle.graph_search.{specs.Search.{mark_of, AreWhole}, proofs.Spreading.{whole_more, whole_below}}
+use Rattle.net_extract.{specs.Linking.AreBeside, proofs.Nodes.beside_back}
 use Rattle.net_extract.proofs.nets.net_of.Goals as goal
 
 pub returns-in-Some : goal.returns-in-Some

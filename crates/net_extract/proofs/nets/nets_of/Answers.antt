@@ -1,11 +1,8 @@
 use Rattle.std.proofs.Common.{arith, ◌≡◌, ℕ, ◌+◌, Some, List, [], ◌∷◌, ◌++◌, length, sym, ap, subst}
-use Rattle.std.specs.Prelude.{max}
-use Rattle.std.proofs.lemmas.List.{length_push}
+use Rattle.std.{proofs.lemmas.List.length_push, specs.Prelude.max}
 use Rattle.graph_search.specs.Search.{mark_of}
-use Rattle.graph_search.proofs.Numbering.{IsNumbering, numbering_none, numbering_more}
-use Rattle.graph_search.proofs.Spreading.{whole_none}
-use Rattle.net_extract.specs.Linking.{AreBeside}
-use Rattle.net_extract.proofs.Netted.{nets_made}
+use Rattle.graph_search.proofs.{Numbering.{IsNumbering, numbering_none, numbering_more}, Spreading.whole_none}
+use Rattle.net_extract.{specs.Linking.AreBeside, proofs.Netted.nets_made}
 use Rattle.net_extract.proofs.nets.nets_of.Goals as goal
 
 pub loop-a-init : goal.loop-a-init

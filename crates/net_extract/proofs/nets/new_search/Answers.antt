@@ -2,8 +2,7 @@ use Rattle.std.proofs.Common.{arith, ◌≡◌, ℕ, ◌+◌, List, length, sym,
 use Rattle.box_tree.specs.declared.spots.Spot.{Spot}
 use Rattle.lam_geom.specs.declared.boxes.MaskLayer.TheVariants.{ND, NP, NM}
 use Rattle.net_extract.specs.CutLists.{AreChains, AreCrowdedSpots}
-use Rattle.net_extract.proofs.Beside.{nodes_within}
-use Rattle.net_extract.proofs.Begun.{begun_pieces, begun_boxes, begun_cuts, crowded_fit}
+use Rattle.net_extract.proofs.{Beside.nodes_within, Begun.{begun_pieces, begun_boxes, begun_cuts, crowded_fit}}
 use Rattle.net_extract.proofs.nets.new_search.Goals as goal
 
 pub chains_of-requires-clause-within : goal.chains_of-requires-clause-within

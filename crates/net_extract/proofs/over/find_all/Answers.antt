@@ -1,7 +1,5 @@
-use Rattle.std.proofs.Common.{ℕ, ◌⊎◌, length}
-use Rattle.std.proofs.lemmas.Result.{IfOk-weaker}
-use Rattle.box_tree.specs.Queries.{Holds}
-use Rattle.box_tree.specs.Groves.{IsOf}
+use Rattle.std.proofs.{Common.{ℕ, ◌⊎◌, length}, lemmas.Result.IfOk-weaker}
+use Rattle.box_tree.specs.{Queries.Holds, Groves.IsOf}
 use Rattle.net_extract.proofs.Found.{all_within, of_within, found_more}
 use Rattle.net_extract.proofs.over.find_all.Goals as goal
 

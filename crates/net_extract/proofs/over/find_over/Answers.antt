@@ -1,10 +1,7 @@
-use Rattle.std.proofs.Common.{get_or}
-use Rattle.std.proofs.lemmas.List.{get_or_default}
-use Rattle.std.proofs.lemmas.Result.{IfOk-weaker}
+use Rattle.std.proofs.{Common.get_or, lemmas.{List.get_or_default, Result.IfOk-weaker}}
 use Rattle.lam_geom.specs.declared.boxes.MaskLayer.TheVariants.{ND, NP, NM}
 use Rattle.crossings.specs.Boxes.{no_box}
-use Rattle.net_extract.proofs.Begun.{pieces_within}
-use Rattle.net_extract.proofs.Found.{found_over}
+use Rattle.net_extract.proofs.{Begun.pieces_within, Found.found_over}
 use Rattle.net_extract.proofs.over.find_over.Goals as goal
 
 pub find_all-requires-clause-diffusion : goal.find_all-requires-clause-diffusion

@@ -1,9 +1,6 @@
 use Rattle.std.proofs.Common.{arith, ◌≡◌, ℕ, ◌<◌, Vec, Global, [], length, get_or, inl, inr, refl, sym, ◌∙◌, ap}
-use Rattle.std.proofs.lemmas.Bool.{iff_false}
-use Rattle.std.proofs.lemmas.List.{get_or_read}
-use Rattle.box_tree.proofs.Trees.{spot_read}
-use Rattle.box_tree.specs.Groves.{spot_in}
-use Rattle.box_tree.proofs.Walk.{one_within, within_end}
+use Rattle.std.proofs.lemmas.{Bool.iff_false, List.get_or_read}
+use Rattle.box_tree.{proofs.{Trees.spot_read, Walk.{one_within, within_end}}, specs.Groves.spot_in}
 use Rattle.net_extract.proofs.over.find_within.Goals as goal
 use Rattle.net_extract.proofs.over.find_within.Goals.{then-holds+in_ok-push, else-holds}
 

@@ -1,7 +1,5 @@
-use Rattle.std.proofs.Common.{◌≤◌, []}
-use Rattle.std.specs.Prelude.{max}
-use Rattle.box_tree.specs.Found.{AreGathered}
-use Rattle.box_tree.specs.Groves.{IsUnvisitedWithin}
+use Rattle.std.{proofs.Common.{◌≤◌, []}, specs.Prelude.max}
+use Rattle.box_tree.specs.{Found.AreGathered, Groves.IsUnvisitedWithin}
 use Rattle.net_extract.proofs.over.find_within.Given as goal
 
 abbrev pub invariant-loop-place : goal.invariant-loop-place

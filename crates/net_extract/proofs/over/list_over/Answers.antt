@@ -1,10 +1,8 @@
 use Rattle.std.proofs.Common.{arith, rules, All, ◌≡◌, ℕ, ◌<◌, List, ap, ◌∙◌, length, subst, sym}
+use Rattle.std.proofs.lemmas.{Bool.iff_false, List.get_or_default}
 use denote.Enum.Bare.{differs_false}
-use Rattle.std.proofs.lemmas.Bool.{iff_false}
-use Rattle.std.proofs.lemmas.List.{get_or_default}
 use Rattle.lam_geom.specs.contracts.boxes.MaskLayer.{the_type}
-use Rattle.lam_geom.specs.declared.boxes.MaskBox.{MaskBox}
-use Rattle.lam_geom.specs.declared.boxes.MaskLayer.TheVariants.{NC}
+use Rattle.lam_geom.specs.declared.boxes.{MaskBox.MaskBox, MaskLayer.TheVariants.NC}
 use Rattle.crossings.specs.Boxes.{layer_at, no_box}
 use Rattle.net_extract.specs.CutLists.{AreOfTwo}
 use Rattle.net_extract.proofs.Found.{over_within, joins_found, list_none, list_few, list_many}

@@ -1,10 +1,8 @@
 use mir.Val.{bool_byte}
-use Rattle.std.proofs.Common.{arith, ◌≡◌, ℕ, ◌+◌, ◌^◌, ◌<◌, Bool, true, false, List, [], ◌∷◌, ◌++◌, length, refl, sym, ◌∙◌, ap, subst}
-use Rattle.std.specs.Prelude.{cond, is_some, IfSome}
+use Rattle.std.proofs.Common.{arith, ◌≡◌, ℕ, ◌+◌, ◌^◌, ◌<◌, Bool, true, false, List, [], ◌∷◌, ◌++◌, length, refl, sym}
+use Rattle.std.{proofs.Common.{◌∙◌, ap, subst}, specs.Prelude.{cond, is_some, IfSome}}
 use Rattle.crossings.specs.declared.crossing.Crossing.{Crossing}
-use Rattle.net_extract.specs.Extraction.{IsOfBox}
-use Rattle.net_extract.specs.Places.{is_crossed}
-use Rattle.net_extract.specs.Pieces.{IsCursor}
+use Rattle.net_extract.specs.{Extraction.IsOfBox, Places.is_crossed, Pieces.IsCursor}
 use Rattle.net_extract.proofs.BoxByBox.{ArePiecesBelow, pieces_more}
 use Rattle.net_extract.proofs.placing.pieces_of.Goals as goal
 

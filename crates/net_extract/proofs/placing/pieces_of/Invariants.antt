@@ -1,5 +1,4 @@
-use Rattle.net_extract.specs.Pieces.{IsCursor}
-use Rattle.net_extract.proofs.BoxByBox.{ArePiecesBelow}
+use Rattle.net_extract.{specs.Pieces.IsCursor, proofs.BoxByBox.ArePiecesBelow}
 use Rattle.net_extract.proofs.placing.pieces_of.Given as goal
 
 abbrev pub invariant-loop-k : goal.invariant-loop-k

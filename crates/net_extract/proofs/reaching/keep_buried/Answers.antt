@@ -1,12 +1,9 @@
 use Rattle.std.proofs.Common.{arith, ℕ, ap, ◌∙◌, inl, inr, ◌<◌, length, get_or, subst, Vec, Global}
-use Rattle.std.proofs.lemmas.Bool.{iff_false}
-use Rattle.std.proofs.lemmas.List.{get_or_default}
-use Rattle.net_extract.specs.declared.placing.Placed.{Placed}
-use Rattle.net_extract.specs.Linking.{IsPairWith}
-use Rattle.net_extract.specs.Pieces.{no_piece}
-use Rattle.net_extract.proofs.Steps.{pair_more}
+use Rattle.std.proofs.lemmas.{Bool.iff_false, List.get_or_default}
+use Rattle.net_extract.specs.{declared.placing.Placed.Placed, Linking.IsPairWith, Pieces.no_piece}
+use Rattle.net_extract.proofs.{Steps.pair_more, reaching.keep_buried.Goals.then-is_pair_with+in_ok-push}
+use Rattle.net_extract.proofs.reaching.keep_buried.Goals.{else-is_pair_with}
 use Rattle.net_extract.proofs.reaching.keep_buried.Goals as goal
-use Rattle.net_extract.proofs.reaching.keep_buried.Goals.{then-is_pair_with+in_ok-push, else-is_pair_with}
 
 pub loop-y-preserved : goal.loop-y-preserved
 loop-y-preserved c =

@@ -1,8 +1,6 @@
 use Rattle.std.proofs.Common.{[], ℕ, Option, List, length, sym, subst}
-use Rattle.box_tree.specs.Queries.{Holds}
+use Rattle.box_tree.specs.{Queries.Holds, Groves.{IsOf, IsUnvisited, IsGrove}, Found.AreGathered}
 use Rattle.graph_search.specs.Search.{AreReached}
-use Rattle.box_tree.specs.Groves.{IsOf, IsUnvisited, IsGrove}
-use Rattle.box_tree.specs.Found.{AreGathered}
 use Rattle.net_extract.proofs.Steps.{found_within, grove_kept, found_reached}
 use Rattle.net_extract.proofs.reaching.reach.Goals as goal
 

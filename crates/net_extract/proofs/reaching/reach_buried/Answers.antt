@@ -1,7 +1,6 @@
 use Rattle.std.proofs.Common.{[], ℕ, Option, List, length, sym, subst}
 use Rattle.graph_search.specs.Search.{AreReached}
-use Rattle.box_tree.specs.Groves.{IsUnvisited, IsGrove}
-use Rattle.box_tree.specs.Found.{AreGathered}
+use Rattle.box_tree.specs.{Groves.{IsUnvisited, IsGrove}, Found.AreGathered}
 use Rattle.net_extract.specs.Spreading.{IsBuriedOf}
 use Rattle.net_extract.proofs.Steps.{found_within, grove_kept, buried_reached, kept_within}
 use Rattle.net_extract.proofs.reaching.reach_buried.Goals as goal

@@ -1,6 +1,5 @@
 use Rattle.std.proofs.Common.{◌≡◌, ℕ, Some, List, [], ◌∷◌, ◌++◌, set, sym, ◌∙◌, ap, subst}
-use Rattle.graph_search.specs.Search.{AreReached}
-use Rattle.graph_search.proofs.Marks.{reached_one}
+use Rattle.graph_search.{specs.Search.AreReached, proofs.Marks.reached_one}
 use Rattle.net_extract.proofs.searches.begin.Goals as goal
 
 pub returns : goal.returns

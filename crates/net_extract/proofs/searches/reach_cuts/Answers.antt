@@ -1,19 +1,11 @@
-use Rattle.std.proofs.Common.{arith, ◌≡◌, ℕ, [], length, inl, inr, sym, ◌∙◌, ap, subst}
-use Rattle.std.proofs.lemmas.Result.{on_ok_weaker}
-use Rattle.box_tree.specs.declared.query.Query.{Query}
-use Rattle.box_tree.specs.Queries.{Holds}
+use Rattle.std.proofs.{Common.{arith, ◌≡◌, ℕ, [], length, inl, inr, sym, ◌∙◌, ap, subst}, lemmas.Result.on_ok_weaker}
+use Rattle.box_tree.specs.{declared.query.Query.Query, Queries.Holds, Groves.IsOf, Found.AreGathered}
 use Rattle.lam_geom.specs.Places.{IsPlacedBox}
-use Rattle.net_extract.specs.declared.placing.Placed.{Placed}
-use Rattle.net_extract.specs.CutLists.{IsListedOver}
-use Rattle.box_tree.specs.Groves.{IsOf}
-use Rattle.box_tree.specs.Found.{AreGathered}
-use Rattle.net_extract.specs.Linking.{IsOverCut}
-use Rattle.net_extract.specs.Pieces.{area_of, box_of}
-use Rattle.net_extract.specs.Spreading.{IsCrowdedAnswer}
+use Rattle.net_extract.specs.{declared.placing.Placed.Placed, CutLists.IsListedOver, Linking.IsOverCut, Pieces.area_of}
+use Rattle.net_extract.specs.{Pieces.box_of, Spreading.IsCrowdedAnswer}
 use Rattle.net_extract.proofs.Beside.{crowded_forth, crowded_back, crowded_over, listed_over, listed_within, over_cases}
-use Rattle.net_extract.proofs.Searched.{piece_placed, step_cuts, step_listed, step_two}
-use Rattle.net_extract.proofs.Shown.{over_query, piece_read}
-use Rattle.net_extract.proofs.Steps.{gathered_reached, gathered_within}
+use Rattle.net_extract.proofs.{Searched.{piece_placed, step_cuts, step_listed, step_two}, Shown.over_query}
+use Rattle.net_extract.proofs.{Shown.piece_read, Steps.{gathered_reached, gathered_within}}
 use Rattle.net_extract.proofs.searches.reach_cuts.Goals as goal
 
 pub near-over-requires : goal.near-over-requires

@@ -1,16 +1,11 @@
 use Rattle.std.proofs.Common.{◌≡◌, ◌≢◌, List, length, inl, inr, refl, sym, ◌∙◌, ap, subst}
-use Rattle.std.proofs.lemmas.List.{get_or_read}
-use Rattle.std.proofs.lemmas.Result.{on_ok_weaker}
-use Rattle.lam_geom.specs.declared.boxes.MaskBox.{MaskBox}
-use Rattle.lam_geom.specs.declared.boxes.MaskLayer.TheVariants.{ND, NP}
-use Rattle.lam_geom.specs.Places.{IsPlacedBox}
+use Rattle.std.proofs.lemmas.{List.get_or_read, Result.on_ok_weaker}
+use Rattle.lam_geom.specs.{declared.boxes.{MaskBox.MaskBox, MaskLayer.TheVariants.{ND, NP}}, Places.IsPlacedBox}
 use Rattle.crossings.specs.Boxes.{area_at, box_at, layer_at, no_box}
-use Rattle.net_extract.specs.declared.placing.Placed.{Placed}
-use Rattle.box_tree.specs.Groves.{AreTagsWithin}
-use Rattle.net_extract.specs.Spreading.{IsBuriedOf, IsGroveReached, IsPartner}
-use Rattle.net_extract.proofs.Beside.{partners_forth, partners_back, no_partner}
-use Rattle.net_extract.proofs.Shown.{over_query}
+use Rattle.net_extract.specs.{declared.placing.Placed.Placed, Spreading.{IsBuriedOf, IsGroveReached, IsPartner}}
+use Rattle.net_extract.proofs.{Beside.{partners_forth, partners_back, no_partner}, Shown.over_query}
 use Rattle.net_extract.proofs.Searched.{step_under, step_over, step_none, box_tags, all_of_boxes}
+use Rattle.box_tree.specs.Groves.{AreTagsWithin}
 use Rattle.net_extract.proofs.searches.reach_partners.Goals as goal
 
 pub near-over-requires : goal.near-over-requires

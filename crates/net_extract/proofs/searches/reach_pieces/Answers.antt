@@ -1,12 +1,8 @@
-use Rattle.std.proofs.Common.{sym, subst}
-use Rattle.std.proofs.lemmas.Result.{on_ok_weaker}
-use Rattle.box_tree.specs.Queries.{Holds}
-use Rattle.lam_geom.specs.declared.boxes.MaskLayer.{MaskLayer}
-use Rattle.lam_geom.specs.declared.boxes.MaskLayer.TheVariants.{ND, NP, NM}
-use Rattle.box_tree.specs.Groves.{IsOf}
+use Rattle.std.proofs.{Common.{sym, subst}, lemmas.Result.on_ok_weaker}
+use Rattle.box_tree.specs.{Queries.Holds, Groves.IsOf}
+use Rattle.lam_geom.specs.declared.boxes.MaskLayer.{MaskLayer, TheVariants.{ND, NP, NM}}
 use Rattle.net_extract.specs.Spreading.{IsAnswer, IsStep}
-use Rattle.net_extract.proofs.Beside.{answers_forth, answers_back}
-use Rattle.net_extract.proofs.Searched.{step_diffusion, step_poly, step_metal}
+use Rattle.net_extract.proofs.{Beside.{answers_forth, answers_back}, Searched.{step_diffusion, step_poly, step_metal}}
 use Rattle.net_extract.proofs.searches.reach_pieces.Goals as goal
 
 pub returns-in-ND : goal.returns-in-ND

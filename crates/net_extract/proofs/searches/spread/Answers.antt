@@ -1,11 +1,8 @@
 use Rattle.std.proofs.Common.{arith, ◌≡◌, ℕ, ◌<◌, length, get_or, sym, subst}
-use Rattle.std.proofs.lemmas.List.{get_or_read}
-use Rattle.std.proofs.lemmas.List.Elements.{Contains-get_or}
+use Rattle.std.proofs.lemmas.List.{get_or_read, Elements.Contains-get_or}
 use Rattle.graph_search.specs.Search.{AreReached}
 use Rattle.graph_search.proofs.Spreading.{IsSpreading, spreading_begun, spreading_more, spreading_done}
-use Rattle.net_extract.specs.Linking.{AreBeside, IsNode}
-use Rattle.net_extract.proofs.Nodes.{reached_node}
-use Rattle.net_extract.proofs.Searched.{search_kept}
+use Rattle.net_extract.{specs.Linking.{AreBeside, IsNode}, proofs.{Nodes.reached_node, Searched.search_kept}}
 use Rattle.net_extract.proofs.searches.spread.Goals as goal
 
 pub begin-requires : goal.begin-requires

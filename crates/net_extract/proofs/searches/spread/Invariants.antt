@@ -1,8 +1,6 @@
 use Rattle.std.proofs.Common.{◌+◌, ◌-◌, length}
-use Rattle.graph_search.specs.Search.{unmarked}
-use Rattle.graph_search.proofs.Spreading.{IsSpreading}
-use Rattle.net_extract.specs.Linking.{AreBeside}
-use Rattle.net_extract.specs.Spreading.{IsSearch}
+use Rattle.graph_search.{specs.Search.unmarked, proofs.Spreading.IsSpreading}
+use Rattle.net_extract.specs.{Linking.AreBeside, Spreading.IsSearch}
 use Rattle.net_extract.proofs.searches.spread.Given as goal
 
 abbrev pub invariant-loop-passed : goal.invariant-loop-passed

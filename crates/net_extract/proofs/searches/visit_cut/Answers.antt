@@ -1,22 +1,14 @@
-use Rattle.std.proofs.Common.{arith, ℕ, ◌+◌, ◌-◌, Contains, inr, List, take, drop, ◌≡◌, ◌<◌, length, get_or, sym, ◌∙◌, ap, subst}
-use Rattle.std.proofs.lemmas.List.{get_or_default, get_or_read}
+use Rattle.std.proofs.Common.{arith, ℕ, ◌+◌, ◌-◌, Contains, inr, List, take, drop, ◌≡◌, ◌<◌, length, get_or, sym, ◌∙◌}
+use Rattle.std.proofs.{Common.{ap, subst}, lemmas.{List.{get_or_default, get_or_read}, Result.on_ok_weaker}}
 use Rattle.box_tree.specs.declared.query.Query.{Query}
-use Rattle.lam_geom.specs.declared.boxes.BoxXY.{BoxXY}
-use Rattle.lam_geom.specs.declared.boxes.MaskBox.{MaskBox}
-use Rattle.lam_geom.specs.declared.boxes.MaskLayer.{MaskLayer}
-use Rattle.lam_geom.specs.declared.boxes.MaskLayer.TheVariants.{ND, NP, NM}
+use Rattle.lam_geom.specs.declared.boxes.{BoxXY.BoxXY, MaskBox.MaskBox, MaskLayer.{MaskLayer, TheVariants.{ND, NP, NM}}}
 use Rattle.lam_geom.specs.Places.{IsPlacedBox}
 use Rattle.crossings.specs.Boxes.{area_at, no_box}
 use Rattle.graph_search.proofs.Marks.{reached_as}
-use Rattle.net_extract.specs.declared.searches.Search.{Search}
-use Rattle.net_extract.specs.Linking.{AreBeside, cut_node, IsOver}
+use Rattle.net_extract.specs.{declared.searches.Search.Search, Linking.{AreBeside, cut_node, IsOver}}
 use Rattle.net_extract.specs.Spreading.{IsAnswer, IsStep}
-use Rattle.std.proofs.lemmas.Result.{on_ok_weaker}
-use Rattle.net_extract.proofs.Beside.{beside_over, cut_forth, cut_back, over_beside}
-use Rattle.net_extract.proofs.Listed.{over_part, part_over}
-use Rattle.net_extract.proofs.Steps.{all_among}
-use Rattle.net_extract.proofs.Shown.{over_query}
-use Rattle.net_extract.proofs.Searched.{step_listed, step_three}
+use Rattle.net_extract.proofs.{Beside.{beside_over, cut_forth, cut_back, over_beside}, Listed.{over_part, part_over}}
+use Rattle.net_extract.proofs.{Steps.all_among, Shown.over_query, Searched.{step_listed, step_three}}
 use Rattle.net_extract.proofs.searches.visit_cut.Goals as goal
 
 pub near-over-requires : goal.near-over-requires

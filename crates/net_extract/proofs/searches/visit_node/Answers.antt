@@ -1,8 +1,5 @@
-use Rattle.std.proofs.Common.{arith, ℕ, subst}
-use Rattle.std.proofs.lemmas.Result.{on_ok_weaker}
-use Rattle.net_extract.specs.Linking.{AreBeside}
-use Rattle.net_extract.specs.Spreading.{IsStep}
-use Rattle.net_extract.proofs.Nodes.{node_cut}
+use Rattle.std.proofs.{Common.{arith, ℕ, subst}, lemmas.Result.on_ok_weaker}
+use Rattle.net_extract.{specs.{Linking.AreBeside, Spreading.IsStep}, proofs.Nodes.node_cut}
 use Rattle.net_extract.proofs.searches.visit_node.Goals as goal
 
 pub visit_piece-requires : goal.visit_piece-requires

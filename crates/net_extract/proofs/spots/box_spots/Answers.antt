@@ -1,16 +1,15 @@
 use Rattle.std.proofs.Common.{arith, rules, ◌≡◌, ◌+◌, ◌<◌, List, Vec, Global, length, refl, sym, ◌∙◌, ap, subst}
 use Rattle.std.proofs.lemmas.Bool.{false≢true}
 use denote.Enum.Bare.{same_true, same_false}
-use Rattle.lam_geom.specs.contracts.boxes.MaskLayer.{the_type}
+use Rattle.lam_geom.specs.{contracts.boxes.MaskLayer.the_type, declared.boxes.MaskBox.MaskBox}
 use Rattle.box_tree.specs.declared.spots.Spot.{Spot}
-use Rattle.lam_geom.specs.declared.boxes.MaskBox.{MaskBox}
 use Rattle.crossings.specs.Boxes.{layer_at}
-use Rattle.net_extract.specs.declared.placing.Placed.{Placed}
-use Rattle.net_extract.specs.Pieces.{box_of}
-use Rattle.net_extract.specs.Spots.{AreSpots, MayBeBuried, box_spot}
+use Rattle.net_extract.specs.{declared.placing.Placed.Placed, Pieces.box_of, Spots.{AreSpots, MayBeBuried, box_spot}}
 use Rattle.net_extract.proofs.Shown.{shown_push, shown_skip, piece_read, box_read, in_boxes, spot_is}
+use Rattle.net_extract.proofs.spots.box_spots.Goals.{then-has_buried+then-eq+in_ok-push, else-has_buried}
+use Rattle.net_extract.proofs.spots.box_spots.Goals.{else-has_buried-via-then-has_buried+else-eq}
+use Rattle.net_extract.proofs.spots.box_spots.Goals.{else-has_buried-via-else-has_buried}
 use Rattle.net_extract.proofs.spots.box_spots.Goals as goal
-use Rattle.net_extract.proofs.spots.box_spots.Goals.{then-has_buried+then-eq+in_ok-push, else-has_buried, else-has_buried-via-then-has_buried+else-eq, else-has_buried-via-else-has_buried}
 
 pub loop-a-preserved : goal.loop-a-preserved
 loop-a-preserved c =

@@ -1,14 +1,11 @@
 use Rattle.std.proofs.Common.{◌≡◌, ◌<◌, ◌≤◌, length, set, get_or, length-set, ap, sym, ◌∙◌, arith}
-use Rattle.std.proofs.lemmas.List.{take_all, get_or_read}
-use Rattle.std.proofs.lemmas.List.FromFn.{fill_by_all}
+use Rattle.std.proofs.lemmas.List.{take_all, get_or_read, FromFn.fill_by_all}
 use Rattle.lam_geom.specs.declared.boxes.MaskBox.{MaskBox}
 use Rattle.crossings.specs.Boxes.{no_box, layer_at}
-use Rattle.net_extract.specs.declared.netlist.Part.TheVariants.{Whole}
-use Rattle.net_extract.specs.declared.netlist.Piece.{Piece}
-use Rattle.net_list.specs.Counts.{no_pieces, one_more, counts_of}
-use Rattle.net_list.proofs.Counted.{table_here, table_elsewhere}
-use Rattle.net_list.proofs.counting.counts_of.Goals as goal
+use Rattle.net_extract.specs.declared.netlist.{Part.TheVariants.Whole, Piece.Piece}
+use Rattle.net_list.{specs.Counts.{no_pieces, one_more, counts_of}, proofs.Counted.{table_here, table_elsewhere}}
 use Rattle.net_list.proofs.counting.counts_of.Goals.{then-net-len, else-net-len}
+use Rattle.net_list.proofs.counting.counts_of.Goals as goal
 
 abbrev no_piece : Piece
 no_piece = record { box_no = 0; part = Whole; net = 0 }

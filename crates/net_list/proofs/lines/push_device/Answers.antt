@@ -1,6 +1,5 @@
 use Rattle.std.proofs.Common.{◌++◌, ap, ◌∙◌}
-use Rattle.net_list.specs.Lines.{place_words, size_words, terminal_words}
-use Rattle.net_list.proofs.Joined.{three_added}
+use Rattle.net_list.{specs.Lines.{place_words, size_words, terminal_words}, proofs.Joined.three_added}
 use Rattle.net_list.proofs.lines.push_device.Goals as goal
 
 pub returns : goal.returns

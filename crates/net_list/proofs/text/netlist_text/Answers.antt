@@ -1,11 +1,7 @@
-use Rattle.std.proofs.Common.{◌≡◌, ◌++◌, ap, ◌∙◌}
-use Rattle.std.specs.Prelude.{length}
-use Rattle.std.specs.List.{flat_map, range_with_len}
-use Rattle.std.proofs.lemmas.Result.{IfOk-weaker}
-use Rattle.net_list.specs.Lines.{text_of_netlist, head_line, device_lines, line_of_net}
-use Rattle.net_list.specs.Counts.{counts_of, counts_lines}
-use Rattle.net_list.proofs.Counted.{lines_by_number}
-use Rattle.net_list.proofs.Joined.{two_added}
+use Rattle.std.proofs.{Common.{◌≡◌, ◌++◌, ap, ◌∙◌}, lemmas.Result.IfOk-weaker}
+use Rattle.std.specs.{Prelude.length, List.{flat_map, range_with_len}}
+use Rattle.net_list.specs.{Lines.{text_of_netlist, head_line, device_lines, line_of_net}, Counts.counts_of}
+use Rattle.net_list.{specs.Counts.counts_lines, proofs.{Counted.lines_by_number, Joined.two_added}}
 use Rattle.net_list.proofs.text.netlist_text.Goals as goal
 
 pub returns : goal.returns

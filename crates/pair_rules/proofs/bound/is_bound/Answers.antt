@@ -1,7 +1,5 @@
 use Rattle.std.proofs.Common.{◌≡◌, ℤ, Option, Some, None, ◌∙◌, to_z, of_z, w64, rules}
-use Rattle.pair_rules.specs.Bound.{bound_spacing}
-use Rattle.pair_rules.proofs.EitherOrder.{bound_symmetric}
-use Rattle.pair_rules.proofs.BoundItems.{bound_exactly}
+use Rattle.pair_rules.{specs.Bound.bound_spacing, proofs.{EitherOrder.bound_symmetric, BoundItems.bound_exactly}}
 use Rattle.pair_rules.proofs.bound.is_bound.Goals as goal
 
 pub returns-then-a-b-clause-meaning : goal.returns-then-a-b-clause-meaning

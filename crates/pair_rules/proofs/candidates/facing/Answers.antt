@@ -1,7 +1,5 @@
-use Rattle.std.specs.Prelude.{is_some}
-use Rattle.std.proofs.Common.{ap, ◌∙◌}
-use Rattle.pair_rules.specs.Bound.{item_at}
-use Rattle.pair_rules.proofs.FacingItems.{is_facing_exactly}
+use Rattle.std.{specs.Prelude.is_some, proofs.Common.{ap, ◌∙◌}}
+use Rattle.pair_rules.{specs.Bound.item_at, proofs.FacingItems.is_facing_exactly}
 use Rattle.pair_rules.proofs.candidates.facing.Goals as goal
 
 pub returns-clause-candidate : goal.returns-clause-candidate

@@ -1,10 +1,7 @@
-use Rattle.std.proofs.Common.{◌≡◌, sym, ap, ◌∙◌, to_z, of_z, w64, arith}
-use Rattle.std.specs.Bool.{then_some}
-use Rattle.std.proofs.lemmas.Int.{ints}
+use Rattle.std.{proofs.{Common.{◌≡◌, sym, ap, ◌∙◌, to_z, of_z, w64, arith}, lemmas.Int.ints}, specs.Bool.then_some}
 use Rattle.sym_items.specs.Sides.{sides_of}
-use Rattle.pair_rules.specs.Candidates.{is_before, facing_spacing}
-use Rattle.pair_rules.proofs.FacingItems.{faces_exactly, facing_by, not_bound}
-use Rattle.pair_rules.proofs.candidates.facing_spacing.Goals.{After-then_some}
+use Rattle.pair_rules.{specs.Candidates.{is_before, facing_spacing}, proofs.FacingItems.{faces_exactly, facing_by}}
+use Rattle.pair_rules.proofs.{FacingItems.not_bound, candidates.facing_spacing.Goals.After-then_some}
 use Rattle.pair_rules.proofs.candidates.facing_spacing.Goals as goal
 
 pub returns-in_err-spacing-clause-value : goal.returns-in_err-spacing-clause-value

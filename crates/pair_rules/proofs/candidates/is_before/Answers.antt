@@ -1,6 +1,5 @@
-use Rattle.std.proofs.Common.{◌≡◌, Bool, true, ◌&&◌, refl, ◌∙◌, ℤ, ◌+ℤ◌, to_z, of_z, w64, arith}
+use Rattle.std.proofs.{Common.{◌≡◌, Bool, true, ◌&&◌, refl, ◌∙◌, ℤ, ◌+ℤ◌, to_z, of_z, w64, arith}, lemmas.Int.ints}
 use Rattle.std.specs.Prelude.{int_lt, int_le}
-use Rattle.std.proofs.lemmas.Int.{ints}
 use Rattle.lam_geom.specs.Gaps.{gap_of}
 use Rattle.pair_rules.proofs.candidates.is_before.Goals as goal
 

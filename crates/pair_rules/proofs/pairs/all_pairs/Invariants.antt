@@ -1,5 +1,4 @@
-use Rattle.std.proofs.Common.{◌≡◌}
-use Rattle.std.specs.List.{flat_map, range_with_len}
+use Rattle.std.{proofs.Common.◌≡◌, specs.List.{flat_map, range_with_len}}
 use Rattle.pair_rules.specs.Candidates.{candidates_to}
 use Rattle.pair_rules.proofs.pairs.all_pairs.Given as goal
 

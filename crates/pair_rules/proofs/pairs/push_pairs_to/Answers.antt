@@ -1,12 +1,9 @@
 use mir.Val.{SFits}
-use Rattle.std.proofs.Common.{◌≡◌, ℕ, ℤ, ◌∙◌, ◌++◌, [], ◌∷◌, length, refl, ap, sym, to_z, of_z, w64, Option, Some, None, Result, Ok, Err, OnErr, rules, arith}
-use Rattle.std.proofs.lemmas.Int.{to_z-of_z}
-use Rattle.std.proofs.lemmas.List.{append-nil}
-use Rattle.pair_rules.specs.declared.pairs.Pair.{Pair}
-use Rattle.pair_rules.specs.Candidates.{pair_with, pairs_at}
+use Rattle.std.proofs.Common.{◌≡◌, ℕ, ℤ, ◌∙◌, ◌++◌, [], ◌∷◌, length, refl, ap, sym, to_z, of_z, w64, Option, Some, None}
+use Rattle.std.proofs.{Common.{Result, Ok, Err, OnErr, rules, arith}, lemmas.{Int.to_z-of_z, List.append-nil}}
+use Rattle.pair_rules.specs.{declared.pairs.Pair.Pair, Candidates.{pair_with, pairs_at}}
+use Rattle.pair_rules.proofs.{Pieces.first_pieces, pairs.push_pairs_to.Goals.{in-Some+in_ok-push, in_default}}
 use Rattle.list_facts.proofs.Pieces.{piece_added}
-use Rattle.pair_rules.proofs.Pieces.{first_pieces}
-use Rattle.pair_rules.proofs.pairs.push_pairs_to.Goals.{in-Some+in_ok-push, in_default}
 use Rattle.pair_rules.proofs.pairs.push_pairs_to.Goals as goal
 
 one_pair : (o : Option ℤ) (s z : ℤ) (i j : ℕ) → o ≡ Some z → s ≡ z → let p : Pair = record { i = i; j = j; s = s } in pair_with o i j ≡ p ∷ []

@@ -1,5 +1,4 @@
-use Rattle.std.proofs.Common.{◌≡◌, ◌++◌}
-use Rattle.std.specs.List.{flat_map, range_with_len}
+use Rattle.std.{proofs.Common.{◌≡◌, ◌++◌}, specs.List.{flat_map, range_with_len}}
 use Rattle.pair_rules.specs.Candidates.{pairs_at}
 use Rattle.pair_rules.proofs.pairs.push_pairs_to.Given as goal
 

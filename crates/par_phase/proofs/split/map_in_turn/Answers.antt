@@ -1,7 +1,5 @@
-use Rattle.std.proofs.Common.{arith}
-use Rattle.std.proofs.lemmas.Fn.{says_at}
-use Rattle.par_phase.specs.Answers.{AnswersAt}
-use Rattle.par_phase.proofs.Cuts.{one_more}
+use Rattle.std.proofs.{Common.arith, lemmas.Fn.says_at}
+use Rattle.par_phase.{specs.Answers.AnswersAt, proofs.Cuts.one_more}
 use Rattle.par_phase.proofs.split.map_in_turn.Goals as goal
 
 pub loop-item-preserved : goal.loop-item-preserved

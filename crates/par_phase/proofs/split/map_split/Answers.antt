@@ -1,10 +1,7 @@
-use Rattle.std.proofs.Common.{sym, ◌∙◌}
-use Rattle.std.proofs.lemmas.Result.{IfOk-weaker}
-use Rattle.std.proofs.lemmas.Slice.Zip.{AllZip-long}
+use Rattle.std.proofs.{Common.{sym, ◌∙◌}, lemmas.{Result.IfOk-weaker, Slice.Zip.AllZip-long}}
 use Rattle.par_phase.specs.Answers.{AnswersAt, AnswersEach, ArePutTogether}
-use Rattle.par_phase.proofs.Cuts.{FitPieces, whole}
+use Rattle.par_phase.proofs.{Cuts.{FitPieces, whole}, split.map_split.Goals.After-put_together}
 use Rattle.par_phase.proofs.split.map_split.Goals as goal
-use Rattle.par_phase.proofs.split.map_split.Goals.{After-put_together}
 
 -- each piece has the answers of its elements, so all have those of all elements
 all_answers : (g : _) (c : After-put_together g) (all : _) → ArePutTogether c.in_ok-parts.parts.items all → AnswersEach g.F.Fn c.args.f.now c.args.items.now all

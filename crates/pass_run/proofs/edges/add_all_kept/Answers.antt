@@ -1,26 +1,17 @@
-use Rattle.std.proofs.Common.{◌≡◌, ◌+◌, ◌≤◌, ◌++◌, List, length, get_or, refl, ap, sym, subst, ◌∙◌, arith, All, flat_map}
-use Rattle.std.proofs.lemmas.List.{get_or_default, length-append}
-use Rattle.std.proofs.lemmas.Result.{err_from_is_err_and}
+use Rattle.std.proofs.Common.{◌≡◌, ◌+◌, ◌≤◌, ◌++◌, List, length, get_or, refl, ap, sym, subst, ◌∙◌, arith, All}
+use Rattle.std.proofs.{Common.flat_map, lemmas.{List.{get_or_default, length-append}, Result.err_from_is_err_and}}
 use Rattle.list_facts.proofs.Pieces.{piece_added}
 use Rattle.cons_graph.specs.declared.edges.Edge.{Edge}
 use Rattle.sym_items.specs.Layouts.{layout_at}
 use Rattle.expand.specs.declared.master.Master.{Master}
-use Rattle.pair_rules.specs.declared.pairs.Pair.{Pair}
-use Rattle.pair_rules.specs.Kept.{kept_of}
-use Rattle.pitch_join.specs.declared.joint.Joint.{Joint}
-use Rattle.shadow_prune.specs.declared.keeping.KeptFault.{KeptFault}
-use Rattle.shadow_prune.specs.KeptFaults.{RefusesKept}
-use Rattle.pitch_join.specs.Masters.{master_at, master_numbers, no_master}
-use Rattle.pitch_join.specs.Joined.{kept_edges_at}
-use Rattle.pitch_join.specs.Spaces.{IsPairAmong}
-use Rattle.pitch_join.proofs.Bases.{base_at, bases_counted}
-use Rattle.pass_run.specs.Alike.{most_edges}
-use Rattle.pass_run.specs.Found.{AreKeptPairs}
-use Rattle.pass_run.specs.Passes.{kept_count}
-use Rattle.pass_run.proofs.Adding.{own_below, own_added, own_listed, refused_so_far, pairs_found, too_many_found, one_too_many}
-use Rattle.pass_run.proofs.Lists.{image_added}
+use Rattle.pair_rules.specs.{declared.pairs.Pair.Pair, Kept.kept_of}
+use Rattle.pitch_join.specs.{declared.joint.Joint.Joint, Masters.{master_at, master_numbers, no_master}}
+use Rattle.pitch_join.{specs.{Joined.kept_edges_at, Spaces.IsPairAmong}, proofs.Bases.{base_at, bases_counted}}
+use Rattle.shadow_prune.specs.{declared.keeping.KeptFault.KeptFault, KeptFaults.RefusesKept}
+use Rattle.pass_run.specs.{Alike.most_edges, Found.AreKeptPairs, Passes.kept_count}
+use Rattle.pass_run.proofs.Adding.{own_below, own_added, own_listed, refused_so_far, pairs_found, too_many_found}
+use Rattle.pass_run.proofs.{Adding.one_too_many, Lists.image_added, edges.add_all_kept.Goals.In_ok-pairs}
 use Rattle.pass_run.proofs.edges.add_all_kept.Goals as goal
-use Rattle.pass_run.proofs.edges.add_all_kept.Goals.{In_ok-pairs}
 
 -- the master that the code reads, and what it has of its pairs
 master_is : (g : _) (c : In_ok-pairs g) → get_or c.args.masters.now c.loop-m.m c.index-masters-m.result ≡ master_at c.args.masters.now c.loop-m.m

@@ -1,5 +1,4 @@
-use Rattle.std.proofs.Common.{◌≡◌, ◌++◌, map, flat_map}
-use Rattle.std.specs.List.{range_with_len}
+use Rattle.std.{proofs.Common.{◌≡◌, ◌++◌, map, flat_map}, specs.List.range_with_len}
 use Rattle.pitch_join.specs.Joined.{kept_edges_at}
 use Rattle.pass_run.specs.Passes.{kept_count}
 use Rattle.pass_run.proofs.edges.add_all_kept.Given as goal

@@ -1,10 +1,8 @@
 use Rattle.std.proofs.Common.{◌≡◌, ℕ, ◌+◌, List, length, get_or, ap, ◌∙◌, subst, arith}
-use Rattle.std.proofs.lemmas.List.FromFn.{length-range_with_len, get_or-range_with_len}
-use Rattle.std.proofs.lemmas.Result.{IfOk-weaker}
+use Rattle.std.proofs.lemmas.{List.FromFn.{length-range_with_len, get_or-range_with_len}, Result.IfOk-weaker}
 use Rattle.sym_items.specs.Layouts.{layout_at}
 use Rattle.pitch_join.specs.Masters.{master_at, master_numbers}
-use Rattle.pass_run.specs.Found.{IsFoundIn}
-use Rattle.pass_run.proofs.Adding.{found_of_each}
+use Rattle.pass_run.{specs.Found.IsFoundIn, proofs.Adding.found_of_each}
 use Rattle.pass_run.proofs.finding.found_in_all.Goals as goal
 
 pub map_split-requires-clause-accepts : goal.map_split-requires-clause-accepts

@@ -1,5 +1,4 @@
-use Rattle.std.proofs.Common.{length, arith}
-use Rattle.std.proofs.lemmas.Iterator.{items_from_collect, YieldsList-from_range}
+use Rattle.std.proofs.{Common.{length, arith}, lemmas.Iterator.{items_from_collect, YieldsList-from_range}}
 use Rattle.pass_run.proofs.finding.numbers.Goals as goal
 
 pub returns : goal.returns

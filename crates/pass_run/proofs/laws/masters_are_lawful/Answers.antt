@@ -1,7 +1,5 @@
-use Rattle.std.proofs.Common.{List, All, subst, take_all, arith}
-use Rattle.std.proofs.lemmas.List.Elements.{All-more}
-use Rattle.expand.specs.declared.master.Master.{Master}
-use Rattle.expand.specs.Laws.{IsLawful}
+use Rattle.std.proofs.{Common.{List, All, subst, take_all, arith}, lemmas.List.Elements.All-more}
+use Rattle.expand.specs.{declared.master.Master.Master, Laws.IsLawful}
 use Rattle.pass_run.proofs.laws.masters_are_lawful.Goals as goal
 
 pub loop-master-preserved : goal.loop-master-preserved

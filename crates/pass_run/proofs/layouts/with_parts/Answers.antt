@@ -1,13 +1,8 @@
-use Rattle.std.proofs.Common.{ap, ◌∙◌, arith}
-use Rattle.std.proofs.lemmas.List.{get_or_default}
+use Rattle.std.proofs.{Common.{ap, ◌∙◌, arith}, lemmas.List.get_or_default}
 use Rattle.sym_items.specs.Layouts.{no_layout}
-use Rattle.expand.specs.declared.master.Master.{Master}
-use Rattle.expand.specs.Variables.{variables_of}
-use Rattle.pitch_join.specs.Masters.{no_master}
-use Rattle.pitch_join.proofs.Bases.{base_at, base_within, bases_counted}
-use Rattle.pass_run.specs.Layouts.{with_values_at}
-use Rattle.pass_run.proofs.Lists.{image_added}
-use Rattle.pass_run.proofs.Values.{part_moved}
+use Rattle.expand.specs.{declared.master.Master.Master, Variables.variables_of}
+use Rattle.pitch_join.{specs.Masters.no_master, proofs.Bases.{base_at, base_within, bases_counted}}
+use Rattle.pass_run.{specs.Layouts.with_values_at, proofs.{Lists.image_added, Values.part_moved}}
 use Rattle.pass_run.proofs.layouts.with_parts.Goals as goal
 
 pub bounds-base-m : goal.bounds-base-m

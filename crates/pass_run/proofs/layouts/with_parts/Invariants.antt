@@ -1,5 +1,4 @@
-use Rattle.std.proofs.Common.{◌≡◌, map}
-use Rattle.std.specs.List.{range_with_len}
+use Rattle.std.{proofs.Common.{◌≡◌, map}, specs.List.range_with_len}
 use Rattle.pass_run.specs.Layouts.{with_values_at}
 use Rattle.pass_run.proofs.layouts.with_parts.Given as goal
 

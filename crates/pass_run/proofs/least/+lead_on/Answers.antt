@@ -1,8 +1,5 @@
-use Rattle.std.proofs.Common.{◌∷◌}
-use Rattle.std.proofs.lemmas.Option.{IfSome_then}
-use Rattle.std.proofs.lemmas.Result.{IfOk-weaker}
-use Rattle.pass_run.proofs.Chain.{settled_first}
-use Rattle.pass_run.proofs.Leading.{made_on, lead_first, nowhere_first, none_then}
+use Rattle.std.proofs.{Common.◌∷◌, lemmas.{Option.IfSome_then, Result.IfOk-weaker}}
+use Rattle.pass_run.proofs.{Chain.settled_first, Leading.{made_on, lead_first, nowhere_first, none_then}}
 use Rattle.pass_run.proofs.least.+lead_on.Goals as goal
 
 pub returns-in-Ok-clause-lead : goal.returns-in-Ok-clause-lead

@@ -1,12 +1,9 @@
-use Rattle.std.proofs.Common.{List, [], ◌++◌, map, ap, ◌∙◌, arith, flat_map}
-use Rattle.std.proofs.lemmas.List.{get_or_default}
+use Rattle.std.proofs.{Common.{List, [], ◌++◌, map, ap, ◌∙◌, arith, flat_map}, lemmas.List.get_or_default}
 use Rattle.cons_graph.specs.declared.edges.Edge.{Edge}
 use Rattle.list_facts.proofs.Pieces.{piece_added}
-use Rattle.expand.specs.declared.master.Master.{Master}
+use Rattle.expand.specs.{declared.master.Master.Master, Structure.{limit_edges, limits_of}}
 use Rattle.cell_model.specs.declared.cell.Limit.{Limit}
-use Rattle.expand.specs.Structure.{limit_edges, limits_of}
-use Rattle.pitch_join.specs.Masters.{no_master}
-use Rattle.pitch_join.specs.Joined.{base_of, shifted}
+use Rattle.pitch_join.specs.{Masters.no_master, Joined.{base_of, shifted}}
 use Rattle.pitch_join.proofs.Bases.{base_at, base_within, bases_counted}
 use Rattle.pass_run.specs.Limits.{limits_at}
 use Rattle.pass_run.proofs.limits.joint_limits.Goals as goal

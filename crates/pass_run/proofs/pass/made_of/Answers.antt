@@ -1,6 +1,5 @@
 use Rattle.std.proofs.Common.{ap}
-use Rattle.pass_run.specs.declared.pass.Made.{Made}
-use Rattle.pass_run.specs.declared.step.Step.{Step}
+use Rattle.pass_run.specs.declared.{pass.Made.Made, step.Step.Step}
 use Rattle.pass_run.proofs.Solved.{ended, far_reached, fars_within, pass_made, walks_listed}
 use Rattle.pass_run.proofs.pass.made_of.Goals as goal
 

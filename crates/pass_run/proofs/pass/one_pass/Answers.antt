@@ -1,8 +1,6 @@
 use Rattle.std.proofs.Common.{ap, ◌∙◌, arith}
-use Rattle.pass_run.specs.OneStep.{IsStoppedPass}
-use Rattle.pass_run.specs.Report.{cycle_text}
-use Rattle.pass_run.proofs.Solved.{order_of, cycle_few, stopped, stopped_first}
-use Rattle.pass_run.proofs.Values.{joint_length}
+use Rattle.pass_run.specs.{OneStep.IsStoppedPass, Report.cycle_text}
+use Rattle.pass_run.proofs.{Solved.{order_of, cycle_few, stopped, stopped_first}, Values.joint_length}
 use Rattle.pass_run.proofs.pass.one_pass.Goals as goal
 
 pub order_along-requires : goal.order_along-requires

@@ -1,8 +1,6 @@
 use Rattle.std.proofs.Common.{◌++◌, ◌∷◌, [], ap, ◌∙◌}
-use Rattle.pass_run.specs.declared.step.Walk.{Walk}
-use Rattle.pass_run.specs.OneStep.{walk_to, HasPath}
-use Rattle.pass_run.proofs.Lists.{image_read, holds_read}
-use Rattle.pass_run.proofs.Solved.{path_of}
+use Rattle.pass_run.specs.{declared.step.Walk.Walk, OneStep.{walk_to, HasPath}}
+use Rattle.pass_run.proofs.{Lists.{image_read, holds_read}, Solved.path_of}
 use Rattle.pass_run.proofs.pass.walks_to.Goals as goal
 
 pub loop-far-preserved : goal.loop-far-preserved

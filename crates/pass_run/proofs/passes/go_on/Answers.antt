@@ -1,9 +1,7 @@
-use Rattle.std.proofs.Common.{◌+◌, [], ◌∷◌, ◌++◌, ap, ◌∙◌, arith}
-use Rattle.std.proofs.lemmas.Result.{err_from_is_err_and}
+use Rattle.std.proofs.{Common.{◌+◌, [], ◌∷◌, ◌++◌, ap, ◌∙◌, arith}, lemmas.Result.err_from_is_err_and}
 use Rattle.lam_geom.specs.declared.boxes.Axis.{Axis}
 use Rattle.pass_run.specs.Passes.{axes_of}
-use Rattle.pass_run.proofs.Chain.{axes_more}
-use Rattle.pass_run.proofs.Going.{going_laid, going_more, refused_cyclic, refused_stopped}
+use Rattle.pass_run.proofs.{Chain.axes_more, Going.{going_laid, going_more, refused_cyclic, refused_stopped}}
 use Rattle.pass_run.proofs.passes.go_on.Goals as goal
 
 pub one_pass-requires-clause-laid : goal.one_pass-requires-clause-laid

@@ -1,14 +1,9 @@
 use Rattle.std.proofs.Common.{suc, List, length, drop, refl, ap, ◌∙◌, arith}
-use Rattle.std.proofs.lemmas.List.{length-take-le, take_all, drop_all}
-use Rattle.std.proofs.lemmas.Result.{err_from_is_err_and}
-use Rattle.lam_geom.specs.declared.boxes.Axis.{Axis}
-use Rattle.lam_geom.specs.declared.boxes.Axis.TheVariants.{X}
-use Rattle.pass_run.specs.Layouts.{starts_of}
-use Rattle.pass_run.specs.Passes.{axes_of}
-use Rattle.pass_run.proofs.Chain.{axes_counted}
-use Rattle.pass_run.proofs.Going.{going_told, passes_given, refused_there}
-use Rattle.pass_run.proofs.OneRefusal.{stops_at_first}
-use Rattle.pass_run.proofs.Lasts.{are_mosts, are_tight}
+use Rattle.std.proofs.lemmas.{List.{length-take-le, take_all, drop_all}, Result.err_from_is_err_and}
+use Rattle.lam_geom.specs.declared.boxes.Axis.{Axis, TheVariants.X}
+use Rattle.pass_run.specs.{Layouts.starts_of, Passes.axes_of}
+use Rattle.pass_run.proofs.{Chain.axes_counted, Going.{going_told, passes_given, refused_there}}
+use Rattle.pass_run.proofs.{OneRefusal.stops_at_first, Lasts.{are_mosts, are_tight}}
 use Rattle.pass_run.proofs.passes.passes_on.Goals as goal
 
 pub loop-axis-init : goal.loop-axis-init

@@ -1,6 +1,5 @@
 use Rattle.std.proofs.Common.{◌≡◌, take, drop}
-use Rattle.pass_run.specs.Passes.{axes_of}
-use Rattle.pass_run.specs.Going.{IsGoing}
+use Rattle.pass_run.specs.{Passes.axes_of, Going.IsGoing}
 use Rattle.pass_run.proofs.passes.passes_on.Given as goal
 
 abbrev pub invariant-loop-axis : goal.invariant-loop-axis

@@ -1,5 +1,4 @@
-use Rattle.std.proofs.Common.{refl}
-use Rattle.std.proofs.lemmas.Result.{IfOk-weaker}
+use Rattle.std.proofs.{Common.refl, lemmas.Result.IfOk-weaker}
 use Rattle.pass_run.proofs.passes.run_passes.Goals as goal
 
 pub returns-clause-untold : goal.returns-clause-untold

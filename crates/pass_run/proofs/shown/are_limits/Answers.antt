@@ -1,6 +1,4 @@
-use Rattle.std.proofs.Common.{List, subst, arith, All, Contains}
-use Rattle.std.proofs.lemmas.List.{take_all}
-use Rattle.std.proofs.lemmas.List.Elements.{All-more}
+use Rattle.std.proofs.{Common.{List, subst, arith, All, Contains}, lemmas.List.{take_all, Elements.All-more}}
 use Rattle.cons_graph.specs.declared.edges.Edge.{Edge}
 use Rattle.pass_run.proofs.shown.are_limits.Goals as goal
 

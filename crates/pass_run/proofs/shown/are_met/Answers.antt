@@ -1,8 +1,5 @@
-use Rattle.std.proofs.Common.{List, subst, arith, All}
-use Rattle.std.proofs.lemmas.List.{take_all}
-use Rattle.std.proofs.lemmas.List.Elements.{All-more}
-use Rattle.cons_graph.specs.declared.edges.Edge.{Edge}
-use Rattle.cons_graph.specs.Solutions.{Meets, value_of}
+use Rattle.std.proofs.{Common.{List, subst, arith, All}, lemmas.List.{take_all, Elements.All-more}}
+use Rattle.cons_graph.specs.{declared.edges.Edge.Edge, Solutions.{Meets, value_of}}
 use Rattle.pass_run.proofs.shown.are_met.Goals as goal
 
 pub loop-edge-preserved : goal.loop-edge-preserved

@@ -1,5 +1,4 @@
-use Rattle.std.proofs.Common.{◌∙◌}
-use Rattle.std.proofs.lemmas.List.{get_or_default}
+use Rattle.std.proofs.{Common.◌∙◌, lemmas.List.get_or_default}
 use Rattle.pass_run.proofs.shown.is_limit.Goals as goal
 
 pub returns-then-number-limits : goal.returns-then-number-limits

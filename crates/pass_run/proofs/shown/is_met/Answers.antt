@@ -1,5 +1,4 @@
-use Rattle.std.proofs.Common.{◌^◌, w64, ℤ, pos, neg_ℤ, ◌-ℤ◌, ◌≤ℤ◌, to_z, of_z, arith, get_or}
-use Rattle.std.proofs.lemmas.Int.{ints}
+use Rattle.std.proofs.{Common.{◌^◌, w64, ℤ, pos, neg_ℤ, ◌-ℤ◌, ◌≤ℤ◌, to_z, of_z, arith, get_or}, lemmas.Int.ints}
 use Rattle.pass_run.proofs.shown.is_met.Goals as goal
 
 -- a value within 2^60 of 0

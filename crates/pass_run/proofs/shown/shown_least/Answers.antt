@@ -1,7 +1,5 @@
-use Rattle.std.proofs.Common.{◌-◌, List, length, take, drop, subst, All, Contains}
-use Rattle.std.proofs.lemmas.List.{take_rest}
-use Rattle.cons_graph.specs.declared.edges.Edge.{Edge}
-use Rattle.cons_graph.specs.Solutions.{value_of}
+use Rattle.std.proofs.{Common.{◌-◌, List, length, take, drop, subst, All, Contains}, lemmas.List.take_rest}
+use Rattle.cons_graph.specs.{declared.edges.Edge.Edge, Solutions.value_of}
 use Rattle.pass_run.proofs.Shows.{least_shown}
 use Rattle.pass_run.proofs.shown.shown_least.Goals as goal
 

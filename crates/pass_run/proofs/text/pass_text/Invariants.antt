@@ -1,5 +1,4 @@
-use Rattle.std.proofs.Common.{◌≡◌, ◌++◌, flat_map}
-use Rattle.std.specs.List.{range_with_len}
+use Rattle.std.{proofs.Common.{◌≡◌, ◌++◌, flat_map}, specs.List.range_with_len}
 use Rattle.pass_run.specs.Report.{master_text}
 use Rattle.pass_run.proofs.text.pass_text.Given as goal
 

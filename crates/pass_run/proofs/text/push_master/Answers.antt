@@ -1,8 +1,5 @@
-use Rattle.std.proofs.Common.{ℕ, List, length, refl, ap, ◌∙◌, arith, slice_index}
-use Rattle.std.proofs.lemmas.List.{get_or_default}
-use Rattle.pitch_join.specs.Masters.{no_master}
-use Rattle.pitch_join.proofs.Bases.{bases_counted}
-use Rattle.pitch_join.proofs.Listed.{far_is}
+use Rattle.std.proofs.{Common.{ℕ, List, length, refl, ap, ◌∙◌, arith, slice_index}, lemmas.List.get_or_default}
+use Rattle.pitch_join.{specs.Masters.no_master, proofs.{Bases.bases_counted, Listed.far_is}}
 use Rattle.pass_run.proofs.Texts.{master_said}
 use Rattle.pass_run.proofs.text.push_master.Goals as goal
 

@@ -1,5 +1,4 @@
-use Rattle.std.proofs.Common.{◌≡◌, ◌++◌, take}
-use Rattle.std.specs.List.{flat_map}
+use Rattle.std.{proofs.Common.{◌≡◌, ◌++◌, take}, specs.List.flat_map}
 use Rattle.pitch_join.specs.Among.{listed_pitch}
 use Rattle.pitch_join.proofs.fixed.push_pitches.Given as goal
 

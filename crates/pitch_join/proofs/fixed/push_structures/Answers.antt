@@ -1,11 +1,8 @@
-use Rattle.std.proofs.Common.{◌≡◌, List, ◌++◌, map, ap, ◌∙◌, arith}
-use Rattle.std.proofs.lemmas.List.{get_or_default}
+use Rattle.std.proofs.{Common.{◌≡◌, List, ◌++◌, map, ap, ◌∙◌, arith}, lemmas.List.get_or_default}
 use Rattle.cons_graph.specs.declared.edges.Edge.{Edge}
-use Rattle.expand.specs.declared.master.Master.{Master}
-use Rattle.expand.specs.Structure.{structure_of}
+use Rattle.expand.specs.{declared.master.Master.Master, Structure.structure_of}
 use Rattle.list_facts.proofs.Pieces.{piece_added}
-use Rattle.pitch_join.specs.Masters.{master_at, no_master}
-use Rattle.pitch_join.specs.Joined.{base_of, shifted, structure_at}
+use Rattle.pitch_join.specs.{Masters.{master_at, no_master}, Joined.{base_of, shifted, structure_at}}
 use Rattle.pitch_join.proofs.Bases.{base_at, base_within, bases_counted, joint_small}
 use Rattle.pitch_join.proofs.fixed.push_structures.Goals as goal
 

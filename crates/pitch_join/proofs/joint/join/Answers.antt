@@ -1,8 +1,6 @@
 use Rattle.std.proofs.Common.{ℕ, List, length, ap, sym, ◌∙◌, subst}
-use Rattle.pitch_join.specs.Among.{AreAllCrosses}
-use Rattle.pitch_join.proofs.Listed.{fixed_pushed, pitch_listed, pitches_are, ports_are, ports_listed}
-use Rattle.pitch_join.proofs.NamesCounted.{names_counted}
-use Rattle.pitch_join.proofs.Shape.{joint_shape}
+use Rattle.pitch_join.{specs.Among.AreAllCrosses, proofs.Listed.{fixed_pushed, pitch_listed, pitches_are, ports_are}}
+use Rattle.pitch_join.proofs.{Listed.ports_listed, NamesCounted.names_counted, Shape.joint_shape}
 use Rattle.pitch_join.proofs.joint.join.Goals as goal
 
 pub push_pitches-requires : goal.push_pitches-requires

@@ -1,7 +1,5 @@
-use Rattle.std.proofs.Common.{List, ◌++◌, length, ap, ◌∙◌, arith}
-use Rattle.cell_model.specs.declared.cell.Wire.{Wire}
-use Rattle.std.proofs.lemmas.List.{get_or_default}
-use Rattle.cell_model.specs.Sound.{wire_at, no_wire}
+use Rattle.std.proofs.{Common.{List, ◌++◌, length, ap, ◌∙◌, arith}, lemmas.List.get_or_default}
+use Rattle.cell_model.specs.{declared.cell.Wire.Wire, Sound.{wire_at, no_wire}}
 use Rattle.list_facts.proofs.Pieces.{piece_added}
 use Rattle.pitch_join.specs.Names.{cross_name_along, cross_name}
 use Rattle.pitch_join.proofs.names.push_wires.Goals as goal

@@ -1,5 +1,4 @@
-use Rattle.std.proofs.Common.{◌≡◌, map}
-use Rattle.std.specs.List.{range_with_len}
+use Rattle.std.{proofs.Common.{◌≡◌, map}, specs.List.range_with_len}
 use Rattle.pitch_join.specs.Joined.{base_of}
 use Rattle.pitch_join.proofs.numbering.number.Given as goal
 

@@ -1,5 +1,4 @@
-use Rattle.round_log.specs.Rounds.{plan_of}
-use Rattle.round_log.proofs.OneOutcome.{one_end, one_stop}
+use Rattle.round_log.{specs.Rounds.plan_of, proofs.OneOutcome.{one_end, one_stop}}
 use Rattle.round_log.proofs.laws.rounds_come_out_one_way.Goals as goal
 
 pub returns-clause-one_end : goal.returns-clause-one_end

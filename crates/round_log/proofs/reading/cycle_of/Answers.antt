@@ -1,15 +1,9 @@
 use Rattle.std.proofs.Common.{Vec, Global, Result, Ok, Err, ◌≡◌, ℕ, ◌<◌, List, [], map, length, sym, ap, subst, ◌∙◌}
-use Rattle.std.specs.List.{All}
-use Rattle.std.specs.Result.{IfOk}
-use Rattle.cons_graph.specs.declared.edges.Edge.{Edge}
-use Rattle.round_log.specs.declared.log.Entry.{Entry}
-use Rattle.round_log.specs.Looks.{chain}
-use Rattle.round_log.specs.Logs.{raises_in, up_to_entry}
-use Rattle.cons_graph.specs.SimpleWalks.{IsSimplePositiveCycle}
+use Rattle.std.specs.{List.All, Result.IfOk}
+use Rattle.cons_graph.specs.{declared.edges.Edge.Edge, SimpleWalks.IsSimplePositiveCycle}
+use Rattle.round_log.specs.{declared.log.Entry.Entry, Looks.chain, Logs.{raises_in, up_to_entry, raises_of}}
+use Rattle.round_log.{specs.Entries.AreEntries, proofs.Logged.{entries_are, cycle_is, loop_in_range, cycle_simple}}
 use Rattle.round_log.specs.WalksBack as back
-use Rattle.round_log.specs.Entries.{AreEntries}
-use Rattle.round_log.specs.Logs.{raises_of}
-use Rattle.round_log.proofs.Logged.{entries_are, cycle_is, loop_in_range, cycle_simple}
 use Rattle.round_log.proofs.reading.cycle_of.Goals as goal
 
 pub loop_from-requires-clause-entries_are : goal.loop_from-requires-clause-entries_are

@@ -1,10 +1,7 @@
 use Rattle.std.proofs.Common.{◌≡◌, ℕ, ◌<◌, List, ◌++◌, slice_index_or, get_or, sym, ap, subst, ◌∙◌, arith}
-use Rattle.round_log.specs.declared.log.Entry.{Entry}
-use Rattle.round_log.specs.Looks.{latest, chain}
-use Rattle.round_log.specs.Logs.{raises_in, origin_entry}
-use Rattle.round_log.proofs.Raises.{latest_in_log}
-use Rattle.round_log.proofs.Ends.{numbers}
-use Rattle.round_log.proofs.Walks.{IsNextBack, next_back, IsCriticalWalk, back_at_origin}
+use Rattle.round_log.specs.{declared.log.Entry.Entry, Looks.{latest, chain}, Logs.{raises_in, origin_entry}}
+use Rattle.round_log.proofs.{Raises.latest_in_log, Ends.numbers, Walks.{IsNextBack, next_back, IsCriticalWalk}}
+use Rattle.round_log.proofs.Walks.{back_at_origin}
 use Rattle.round_log.proofs.walk.walk_to.Goals as goal
 
 pub loop-n-init : goal.loop-n-init

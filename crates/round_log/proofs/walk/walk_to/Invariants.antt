@@ -1,7 +1,5 @@
 use Rattle.std.proofs.Common.{◌≡◌, ◌≤◌, ◌++◌, length}
-use Rattle.round_log.specs.Looks.{chain, latest}
-use Rattle.round_log.specs.Logs.{raises_in}
-use Rattle.round_log.proofs.Ends.{numbers}
+use Rattle.round_log.{specs.{Looks.{chain, latest}, Logs.raises_in}, proofs.Ends.numbers}
 use Rattle.round_log.proofs.walk.walk_to.Given as goal
 
 abbrev pub invariant-loop-n : goal.invariant-loop-n

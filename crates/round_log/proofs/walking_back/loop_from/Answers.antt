@@ -1,12 +1,8 @@
-use Rattle.std.proofs.Common.{◌≡◌, ℕ, ◌+◌, ◌-◌, ◌<◌, ◌≤◌, pos, List, [], ◌∷◌, ◌++◌, map, reverse, length, get_or, set, drop, sym, ap, subst, ◌∙◌, arith}
+use Rattle.std.proofs.Common.{◌≡◌, ℕ, ◌+◌, ◌-◌, ◌<◌, ◌≤◌, pos, List, [], ◌∷◌, ◌++◌, map, reverse, length, get_or, set}
+use Rattle.std.proofs.{Common.{drop, sym, ap, subst, ◌∙◌, arith}, lemmas.List.{length-set, get_or_read}}
 use Rattle.std.specs.Result.{IfOk}
-use Rattle.std.proofs.lemmas.List.{length-set, get_or_read}
-use Rattle.round_log.specs.declared.log.Entry.{Entry}
-use Rattle.round_log.specs.Looks.{chain, latest}
-use Rattle.round_log.specs.WalksBack.{loop_back}
-use Rattle.round_log.proofs.Chains.{chain-zero}
-use Rattle.round_log.specs.Logs.{raises_of}
-use Rattle.round_log.proofs.Paths.{IsBack, back_at, marks_more, mark_low, loop_at_mark, loop_past}
+use Rattle.round_log.specs.{declared.log.Entry.Entry, Looks.{chain, latest}, WalksBack.loop_back, Logs.raises_of}
+use Rattle.round_log.proofs.{Chains.chain-zero, Paths.{IsBack, back_at, marks_more, mark_low, loop_at_mark, loop_past}}
 use Rattle.round_log.proofs.walking_back.loop_from.Goals as goal
 
 pub index-place-requires : goal.index-place-requires

@@ -1,7 +1,5 @@
 use Rattle.std.proofs.Common.{◌≡◌, ℕ, ◌<◌, ◌≤◌, [], length, reverse, get_or}
-use Rattle.round_log.specs.Looks.{chain, latest}
-use Rattle.round_log.specs.WalksBack.{loop_back}
-use Rattle.round_log.specs.Logs.{raises_of}
+use Rattle.round_log.specs.{Looks.{chain, latest}, WalksBack.loop_back, Logs.raises_of}
 use Rattle.round_log.proofs.walking_back.loop_from.Given as goal
 
 abbrev pub invariant-loop-n : goal.invariant-loop-n

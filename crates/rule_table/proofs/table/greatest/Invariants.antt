@@ -1,5 +1,4 @@
-use Rattle.std.proofs.Common.{◌≡◌, pos, take, fold}
-use Rattle.std.specs.Int.{int_max}
+use Rattle.std.{proofs.Common.{◌≡◌, pos, take, fold}, specs.Int.int_max}
 use Rattle.rule_table.proofs.table.greatest.Given as goal
 
 abbrev pub invariant-loop-length : goal.invariant-loop-length

@@ -1,6 +1,5 @@
 use Rattle.run_words.specs.Lines.{check_line, operand, tech}
-use Rattle.run_words.proofs.Given.{has_text_on_ok}
-use Rattle.run_words.proofs.Wanted.{check_wants_operand, check_wants_tech}
+use Rattle.run_words.proofs.{Given.has_text_on_ok, Wanted.{check_wants_operand, check_wants_tech}}
 use Rattle.run_words.proofs.lines.check.Goals as goal
 
 pub returns-clause-operand : goal.returns-clause-operand

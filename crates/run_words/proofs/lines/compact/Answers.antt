@@ -1,6 +1,5 @@
 use Rattle.run_words.specs.Lines.{compact_line, operand, tech}
-use Rattle.run_words.proofs.Given.{has_text_on_ok}
-use Rattle.run_words.proofs.Wanted.{compact_wants_operand, compact_wants_tech}
+use Rattle.run_words.proofs.{Given.has_text_on_ok, Wanted.{compact_wants_operand, compact_wants_tech}}
 use Rattle.run_words.proofs.lines.compact.Goals as goal
 
 pub returns-clause-operand : goal.returns-clause-operand

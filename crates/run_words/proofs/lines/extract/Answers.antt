@@ -1,6 +1,5 @@
 use Rattle.run_words.specs.Lines.{extract_line, operand, tech}
-use Rattle.run_words.proofs.Given.{has_text_on_ok}
-use Rattle.run_words.proofs.Wanted.{extract_wants_operand, extract_wants_tech}
+use Rattle.run_words.proofs.{Given.has_text_on_ok, Wanted.{extract_wants_operand, extract_wants_tech}}
 use Rattle.run_words.proofs.lines.extract.Goals as goal
 
 pub returns-clause-operand : goal.returns-clause-operand

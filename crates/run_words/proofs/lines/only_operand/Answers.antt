@@ -1,6 +1,4 @@
-use Rattle.run_words.specs.Lines.{operand_line, operand}
-use Rattle.run_words.proofs.Given.{has_text_on_ok}
-use Rattle.run_words.proofs.Wanted.{operand_wants_operand}
+use Rattle.run_words.{specs.Lines.{operand_line, operand}, proofs.{Given.has_text_on_ok, Wanted.operand_wants_operand}}
 use Rattle.run_words.proofs.lines.only_operand.Goals as goal
 
 pub returns-clause-operand : goal.returns-clause-operand

@@ -1,5 +1,4 @@
-use Rattle.run_words.specs.Lines.{script_line, operand, script, tech}
-use Rattle.run_words.proofs.Given.{has_text_on_ok}
+use Rattle.run_words.{specs.Lines.{script_line, operand, script, tech}, proofs.Given.has_text_on_ok}
 use Rattle.run_words.proofs.Wanted.{script_wants_operand, script_wants_script, script_wants_tech}
 use Rattle.run_words.proofs.lines.script.Goals as goal
 

@@ -1,6 +1,5 @@
 use Rattle.run_words.specs.Lines.{slack_line, operand, tech}
-use Rattle.run_words.proofs.Given.{has_text_on_ok}
-use Rattle.run_words.proofs.Wanted.{slack_wants_operand, slack_wants_tech}
+use Rattle.run_words.proofs.{Given.has_text_on_ok, Wanted.{slack_wants_operand, slack_wants_tech}}
 use Rattle.run_words.proofs.lines.slack.Goals as goal
 
 pub returns-clause-operand : goal.returns-clause-operand

@@ -1,5 +1,4 @@
-use Rattle.std.proofs.Common.{◌∙◌, ap, List, ℕ}
-use Rattle.std.specs.Borrow.{Bor}
+use Rattle.std.{proofs.Common.{◌∙◌, ap, List, ℕ}, specs.Borrow.Bor}
 use Rattle.clap.specs.Words.{found_of}
 use Rattle.run_words.proofs.Texts.{text_or_read}
 use Rattle.run_words.proofs.lines.text_or.Goals as goal

@@ -1,10 +1,6 @@
 use Rattle.std.proofs.Common.{◌≡◌, ◌∙◌, Bool, true, length, arith, rules, tests}
-use Rattle.std.specs.Prelude.{◌&&◌, nat_le}
-use Rattle.std.specs.Char.{is_ascii_digit}
-use Rattle.std.specs.List.{list_all}
-use Rattle.std.proofs.lemmas.Iterator.{YieldsList-from_slice}
-use Rattle.std.proofs.lemmas.Iterator.Search.{all_from_yields_List}
-use Rattle.std.proofs.lemmas.Bool.Decides.{nat_tests}
+use Rattle.std.proofs.lemmas.{Iterator.{YieldsList-from_slice, Search.all_from_yields_List}, Bool.Decides.nat_tests}
+use Rattle.std.specs.{Prelude.{◌&&◌, nat_le}, Char.is_ascii_digit, List.list_all}
 use Rattle.run_words.proofs.values.is_number.Goals as goal
 
 -- the last of three tests

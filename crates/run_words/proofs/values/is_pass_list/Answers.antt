@@ -1,9 +1,6 @@
 use Rattle.std.proofs.Common.{◌≡◌, Bool, true, false, length, sym, ◌∙◌, arith, rules, tests}
-use Rattle.std.specs.Prelude.{◌&&◌, ◌||◌, nat_le}
-use Rattle.std.specs.List.{list_any, list_all}
-use Rattle.std.proofs.lemmas.Iterator.{YieldsList-from_slice}
-use Rattle.std.proofs.lemmas.Iterator.Search.{all_from_yields_List, any_from_yields_List}
-use Rattle.std.proofs.lemmas.Bool.Decides.{nat_tests}
+use Rattle.std.proofs.lemmas.Iterator.{YieldsList-from_slice, Search.{all_from_yields_List, any_from_yields_List}}
+use Rattle.std.{proofs.lemmas.Bool.Decides.nat_tests, specs.{Prelude.{◌&&◌, ◌||◌, nat_le}, List.{list_any, list_all}}}
 use Rattle.run_words.specs.Values.{is_x, is_y}
 use Rattle.run_words.proofs.values.is_pass_list.Goals as goal
 

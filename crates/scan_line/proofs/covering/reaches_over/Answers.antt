@@ -1,5 +1,4 @@
-use Rattle.std.proofs.Common.{arith}
-use Rattle.std.proofs.lemmas.Int.{ints}
+use Rattle.std.proofs.{Common.arith, lemmas.Int.ints}
 use Rattle.scan_line.proofs.covering.reaches_over.Goals as goal
 
 pub returns-then-is_at_most : goal.returns-then-is_at_most

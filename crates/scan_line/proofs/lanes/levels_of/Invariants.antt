@@ -1,6 +1,5 @@
 use Rattle.std.specs.List.{All}
-use Rattle.scan_line.specs.Stretches.{IsCut}
-use Rattle.scan_line.specs.Levels.{IsLevelOf}
+use Rattle.scan_line.specs.{Stretches.IsCut, Levels.IsLevelOf}
 use Rattle.scan_line.proofs.lanes.levels_of.Given as goal
 
 abbrev pub invariant-loop : goal.invariant-loop

@@ -1,8 +1,7 @@
 use Rattle.std.proofs.Common.{◌≡◌, pos, get_or, take, refl, subst, arith, rules}
 use Rattle.std.proofs.lemmas.List.{take_all, get_or_default}
 use Rattle.pair_rules.specs.declared.pairs.Pair.{Pair}
-use Rattle.scan_line.specs.Scan.{AreFirstOf}
-use Rattle.scan_line.proofs.FirstItems.{none_yet, one_more_first}
+use Rattle.scan_line.{specs.Scan.AreFirstOf, proofs.FirstItems.{none_yet, one_more_first}}
 use Rattle.scan_line.proofs.scan.take_first.Goals as goal
 
 pub loop-pair-init : goal.loop-pair-init

@@ -1,6 +1,5 @@
-use Rattle.std.proofs.Common.{sym, ◌∙◌, arith}
+use Rattle.std.proofs.{Common.{sym, ◌∙◌, arith}, lemmas.List.Elements.Contains-get_or}
 use Rattle.shadow_prune.proofs.Fronts.{of_pair, of_nearer, shadowed_in_front, kept_unless}
-use Rattle.std.proofs.lemmas.List.Elements.{Contains-get_or}
 use Rattle.shadow_prune.proofs.keeping.is_kept.Goals as goal
 
 pub is_constant-requires-clause-i_among : goal.is_constant-requires-clause-i_among

@@ -1,7 +1,5 @@
-use Rattle.std.proofs.Common.{sym, ◌∙◌, arith}
-use Rattle.std.proofs.lemmas.Int.{ints}
-use Rattle.pair_rules.specs.Bound.{item_at}
-use Rattle.pair_rules.proofs.Spacings.{facing_bounds}
+use Rattle.std.proofs.{Common.{sym, ◌∙◌, arith}, lemmas.Int.ints}
+use Rattle.pair_rules.{specs.Bound.item_at, proofs.Spacings.facing_bounds}
 use Rattle.shadow_prune.proofs.keeping.is_shadowed_by.Goals as goal
 
 pub reaches-requires-clause-before : goal.reaches-requires-clause-before

@@ -1,5 +1,4 @@
-use Rattle.std.proofs.Common.{◌≡◌, take}
-use Rattle.std.specs.List.{filter}
+use Rattle.std.{proofs.Common.{◌≡◌, take}, specs.List.filter}
 use Rattle.pair_rules.specs.Kept.{is_kept}
 use Rattle.shadow_prune.proofs.keeping.keep_front.Given as goal
 

@@ -1,13 +1,9 @@
 use Rattle.std.proofs.Common.{◌≡◌, ℕ, ◌<◌, Bool, ◌+◌, ◌++◌, List, length, ap, ◌∙◌, subst, sym, arith, rules}
+use Rattle.std.proofs.lemmas.{Result.err_from_is_err_and, List.Sorted.IsNonDecreasingBy-from_sort_by_key}
 use Rattle.std.specs.List.{All, filter, flat_map, range_with_len}
-use Rattle.std.proofs.lemmas.Result.{err_from_is_err_and}
-use Rattle.std.proofs.lemmas.List.Sorted.{IsNonDecreasingBy-from_sort_by_key}
-use Rattle.pair_rules.specs.declared.pairs.Pair.{Pair}
-use Rattle.pair_rules.specs.Candidates.{candidates_to}
-use Rattle.pair_rules.specs.Kept.{is_kept, kept_of}
+use Rattle.pair_rules.specs.{declared.pairs.Pair.Pair, Candidates.candidates_to, Kept.{is_kept, kept_of}}
 use Rattle.pair_rules.proofs.KeptPairs.{AreKept, are_kept}
-use Rattle.shadow_prune.proofs.Fronts.{front_pairs, kept_of_front}
-use Rattle.shadow_prune.proofs.KeptSoFar.{more_for, kept_added, kept_so_far}
+use Rattle.shadow_prune.proofs.{Fronts.{front_pairs, kept_of_front}, KeptSoFar.{more_for, kept_added, kept_so_far}}
 use Rattle.shadow_prune.proofs.keeping.kept.Goals.{After-deref-in-loop-j-3, After-drop-lanes-2}
 use Rattle.shadow_prune.proofs.keeping.kept.Goals as goal
 

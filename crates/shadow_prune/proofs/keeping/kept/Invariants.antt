@@ -1,7 +1,5 @@
-use Rattle.std.proofs.Common.{◌≡◌, ◌≤◌, length}
-use Rattle.std.specs.List.{filter, flat_map, range_with_len}
-use Rattle.pair_rules.specs.Candidates.{candidates_to}
-use Rattle.pair_rules.specs.Kept.{is_kept}
+use Rattle.std.{proofs.Common.{◌≡◌, ◌≤◌, length}, specs.List.{filter, flat_map, range_with_len}}
+use Rattle.pair_rules.specs.{Candidates.candidates_to, Kept.is_kept}
 use Rattle.shadow_prune.proofs.keeping.kept.Given as goal
 
 abbrev pub invariant-loop-j : goal.invariant-loop-j

@@ -1,6 +1,4 @@
-use Rattle.std.proofs.Common.{◌≡◌, ℤ, ◌+ℤ◌, ◌-ℤ◌, to_z, of_z, w64, arith}
-use Rattle.std.specs.Prelude.{int_le}
-use Rattle.std.proofs.lemmas.Int.{ints}
+use Rattle.std.{proofs.{Common.{◌≡◌, ℤ, ◌+ℤ◌, ◌-ℤ◌, to_z, of_z, w64, arith}, lemmas.Int.ints}, specs.Prelude.int_le}
 use Rattle.shadow_prune.proofs.keeping.reaches.Goals as goal
 
 moved : (s a l b : ℤ) → int_le ((s -ℤ a) -ℤ b) l ≡ int_le s ((a +ℤ l) +ℤ b)

@@ -1,7 +1,6 @@
 use Rattle.std.proofs.Common.{ℕ, ◌+◌, sym, subst}
 use Rattle.cons_graph.specs.Solutions.{value_of}
-use Rattle.slack_pack.specs.Slacks.{IsLeastAllowed}
-use Rattle.slack_pack.proofs.Least.{least_more}
+use Rattle.slack_pack.{specs.Slacks.IsLeastAllowed, proofs.Least.least_more}
 use Rattle.slack_pack.proofs.lowering.least_allowed.Goals as goal
 
 pub loop-k-preserved : goal.loop-k-preserved

@@ -1,8 +1,6 @@
-use Rattle.std.proofs.Common.{◌≡◌, ℕ, ◌≤◌, true, false, length, get_or, subst, ◌∙◌, arith}
-use Rattle.std.proofs.lemmas.List.{get_or_default}
+use Rattle.std.proofs.{Common.{◌≡◌, ℕ, ◌≤◌, true, false, length, get_or, subst, ◌∙◌, arith}, lemmas.List.get_or_default}
 use Rattle.cons_graph.specs.Solutions.{value_of}
-use Rattle.slack_pack.specs.Slacks.{IsQuietAt}
-use Rattle.slack_pack.proofs.Falls.{fell_more}
+use Rattle.slack_pack.{specs.Slacks.IsQuietAt, proofs.Falls.fell_more}
 use Rattle.slack_pack.proofs.lowering.lower_all.Goals as goal
 
 pub loop-k-preserved-then-lower_at : goal.loop-k-preserved-then-lower_at

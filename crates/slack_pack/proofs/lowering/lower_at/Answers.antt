@@ -1,12 +1,8 @@
-use Rattle.std.proofs.Common.{◌≡◌, ℕ, ℤ, ◌<◌, arith, List, length, get_or, sym, subst, ◌∙◌}
+use Rattle.std.proofs.{Common.{◌≡◌, ℕ, ℤ, ◌<◌, arith, List, length, get_or, sym, subst, ◌∙◌}, lemmas.List.get_or_read}
 use Rattle.std.specs.List.{All}
-use Rattle.std.proofs.lemmas.List.{get_or_read}
-use Rattle.cons_graph.specs.declared.edges.Edge.{Edge}
-use Rattle.cons_graph.specs.Solutions.{value_of}
-use Rattle.cons_graph.specs.EdgeNumbers.{leaving}
+use Rattle.cons_graph.specs.{declared.edges.Edge.Edge, Solutions.value_of, EdgeNumbers.leaving}
 use Rattle.liao_wong.proofs.Steps.{leaving_in_range}
-use Rattle.slack_pack.specs.Slacks.{IsLeastAllowed}
-use Rattle.slack_pack.proofs.Falls.{falls, stays}
+use Rattle.slack_pack.{specs.Slacks.IsLeastAllowed, proofs.Falls.{falls, stays}}
 use Rattle.slack_pack.proofs.lowering.lower_at.Goals as goal
 
 pub least_allowed-least-requires-clause-in_range : goal.least_allowed-least-requires-clause-in_range

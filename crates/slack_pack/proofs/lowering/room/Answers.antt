@@ -1,9 +1,6 @@
-use Rattle.std.proofs.Common.{◌≡◌, ℕ, ◌<◌, ◌^◌, length, sym, subst, w64, ℤ, pos, neg_ℤ, ◌-ℤ◌, ◌≤ℤ◌, to_z, of_z, FitsSigned, arith, List}
-use Rattle.std.specs.List.{All}
-use Rattle.std.proofs.lemmas.Int.{ints}
-use Rattle.cons_graph.specs.declared.edges.Edge.{Edge}
-use Rattle.cons_graph.specs.Constraints.{IsEdgeAmong}
-use Rattle.cons_graph.specs.Solutions.{Meets, value_of}
+use Rattle.std.proofs.Common.{◌≡◌, ℕ, ◌<◌, ◌^◌, length, sym, subst, w64, ℤ, pos, neg_ℤ, ◌-ℤ◌, ◌≤ℤ◌, to_z, of_z}
+use Rattle.std.{proofs.{Common.{FitsSigned, arith, List}, lemmas.Int.ints}, specs.List.All}
+use Rattle.cons_graph.specs.{declared.edges.Edge.Edge, Constraints.IsEdgeAmong, Solutions.{Meets, value_of}}
 use Rattle.slack_pack.specs.Slacks.{room_of}
 use Rattle.slack_pack.proofs.lowering.room.Goals as goal
 

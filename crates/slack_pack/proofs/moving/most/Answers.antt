@@ -1,11 +1,9 @@
-use Rattle.std.proofs.Common.{◌≡◌, ℕ, ◌^◌, ◌<◌, ◌≤◌, ℤ, pos, ◌+ℤ◌, List, length, get_or, Vec, Global, refl, sym, subst, arith}
-use Rattle.std.specs.List.{All}
-use Rattle.std.proofs.lemmas.Result.{IfOk-weaker}
-use Rattle.cons_graph.specs.Constraints.{IsConstraintGraph}
-use Rattle.cons_graph.specs.Solutions.{value_of}
-use Rattle.slack_pack.specs.Most.{IsMost, IsAttained}
-use Rattle.slack_pack.specs.Slacks.{IsPlaced, AreFirst}
-use Rattle.slack_pack.proofs.Settled.{IsSettled, settled_after, first_capped, first_slacks_are, all_small, settled_most, settled_attained}
+use Rattle.std.proofs.Common.{◌≡◌, ℕ, ◌^◌, ◌<◌, ◌≤◌, ℤ, pos, ◌+ℤ◌, List, length, get_or, Vec, Global, refl, sym, subst}
+use Rattle.std.{proofs.{Common.arith, lemmas.Result.IfOk-weaker}, specs.List.All}
+use Rattle.cons_graph.specs.{Constraints.IsConstraintGraph, Solutions.value_of}
+use Rattle.slack_pack.specs.{Most.{IsMost, IsAttained}, Slacks.{IsPlaced, AreFirst}}
+use Rattle.slack_pack.proofs.Settled.{IsSettled, settled_after, first_capped, first_slacks_are, all_small, settled_most}
+use Rattle.slack_pack.proofs.Settled.{settled_attained}
 use Rattle.slack_pack.proofs.moving.most.Goals as goal
 
 pub sort_order-requires : goal.sort_order-requires

@@ -1,5 +1,4 @@
-use Rattle.std.proofs.Common.{◌≡◌, ◌≤◌, All, length}
-use Rattle.std.specs.List.{sum}
+use Rattle.std.{proofs.Common.{◌≡◌, ◌≤◌, All, length}, specs.List.sum}
 use Rattle.cons_graph.specs.Solutions.{value_of}
 use Rattle.slack_pack.specs.Slacks.{none_yet, AreSlacks}
 use Rattle.slack_pack.proofs.moving.most.Given as goal

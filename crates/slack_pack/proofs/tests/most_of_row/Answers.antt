@@ -1,9 +1,6 @@
-use Rattle.std.proofs.Common.{ℕ, ℤ, ◌<◌, ◌≤◌, List, sym, subst}
-use Rattle.std.specs.List.{Contains}
-use Rattle.cons_graph.specs.declared.edges.Edge.{Edge}
-use Rattle.cons_graph.specs.Constraints.{Constraints, IsConstraintGraph}
-use Rattle.slack_pack.specs.Most.{HasWalk}
-use Rattle.slack_pack.proofs.WorkedRow.{row_is_graph, row_reaches}
+use Rattle.std.{proofs.Common.{ℕ, ℤ, ◌<◌, ◌≤◌, List, sym, subst}, specs.List.Contains}
+use Rattle.cons_graph.specs.{declared.edges.Edge.Edge, Constraints.{Constraints, IsConstraintGraph}}
+use Rattle.slack_pack.{specs.Most.HasWalk, proofs.WorkedRow.{row_is_graph, row_reaches}}
 use Rattle.slack_pack.proofs.tests.most_of_row.Goals as goal
 
 pub new-requires : goal.new-requires

@@ -1,5 +1,4 @@
-use Rattle.std.proofs.Common.{◌≡◌, ◌+◌, ◌++◌, length}
-use Rattle.std.specs.List.{flat_map, range_with_len}
+use Rattle.std.{proofs.Common.{◌≡◌, ◌+◌, ◌++◌, length}, specs.List.{flat_map, range_with_len}}
 use Rattle.pitch_join.specs.Names.{cross_name}
 use Rattle.slack_text.specs.Slack.{slack_lines}
 use Rattle.slack_text.proofs.lines.push_wires.Given as goal

@@ -1,7 +1,6 @@
 use Rattle.std.proofs.Common.{arith}
 use Rattle.list_facts.proofs.Pieces.{piece_added}
-use Rattle.slack_text.specs.Slack.{master_slack}
-use Rattle.slack_text.proofs.Cells.{master_added, master_read, names_end, names_within}
+use Rattle.slack_text.{specs.Slack.master_slack, proofs.Cells.{master_added, master_read, names_end, names_within}}
 use Rattle.slack_text.proofs.text.axis_slack.Goals as goal
 
 pub push_cell-requires-clause-in_least : goal.push_cell-requires-clause-in_least

@@ -1,5 +1,4 @@
-use Rattle.std.proofs.Common.{◌≡◌, ◌++◌}
-use Rattle.std.specs.List.{flat_map, range_with_len}
+use Rattle.std.{proofs.Common.{◌≡◌, ◌++◌}, specs.List.{flat_map, range_with_len}}
 use Rattle.pitch_join.specs.Joined.{base_of}
 use Rattle.slack_text.specs.Slack.{master_slack}
 use Rattle.slack_text.proofs.text.axis_slack.Given as goal

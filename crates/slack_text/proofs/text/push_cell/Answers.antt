@@ -1,13 +1,9 @@
-use Rattle.std.proofs.Common.{◌≡◌, ◌+◌, ◌++◌, List, length, ap, ◌∙◌}
-use Rattle.std.specs.Prelude.{drop}
-use Rattle.std.specs.List.{flat_map, range_with_len}
-use Rattle.std.proofs.lemmas.Result.{on_ok_weaker}
+use Rattle.std.proofs.{Common.{◌≡◌, ◌+◌, ◌++◌, List, length, ap, ◌∙◌}, lemmas.Result.on_ok_weaker}
+use Rattle.std.specs.{Prelude.drop, List.{flat_map, range_with_len}}
 use Rattle.cons_graph.specs.Solutions.{value_of}
 use Rattle.cell_model.specs.declared.cell.Node.{Node}
 use Rattle.pitch_join.specs.Names.{cross_name, own_names}
-use Rattle.slack_text.specs.Slack.{size_line, slack_lines}
-use Rattle.slack_text.proofs.Adding.{place_back}
-use Rattle.slack_text.proofs.Cells.{cell_added}
+use Rattle.slack_text.{specs.Slack.{size_line, slack_lines}, proofs.{Adding.place_back, Cells.cell_added}}
 use Rattle.slack_text.proofs.text.push_cell.Goals as goal
 
 pub returns-clause-text : goal.returns-clause-text

@@ -1,6 +1,5 @@
 use Rattle.std.proofs.Common.{List, sym, subst}
-use Rattle.cons_graph.specs.declared.edges.Edge.{Edge}
-use Rattle.cons_graph.specs.Constraints.{IsConstraintGraph}
+use Rattle.cons_graph.specs.{declared.edges.Edge.Edge, Constraints.IsConstraintGraph}
 use Rattle.solve_bench.proofs.Reaching.{one_more}
 use Rattle.solve_bench.proofs.made.push_edge.Goals as goal
 

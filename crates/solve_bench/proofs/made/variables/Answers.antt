@@ -1,5 +1,4 @@
-use Rattle.std.proofs.Common.{◌≡◌, ℕ, List, sym, ap, subst, ◌∙◌, arith}
-use Rattle.std.specs.List.{range_with_len}
+use Rattle.std.{proofs.Common.{◌≡◌, ℕ, List, sym, ap, subst, ◌∙◌, arith}, specs.List.range_with_len}
 use Rattle.round_log.specs.Orders.{IsOrder}
 use Rattle.liao_wong.proofs.InOrder.{range_ends}
 use Rattle.solve_bench.proofs.Reaching.{numbers_order}

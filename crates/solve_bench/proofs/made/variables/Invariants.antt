@@ -1,5 +1,4 @@
-use Rattle.std.proofs.Common.{◌≡◌}
-use Rattle.std.specs.List.{range_with_len}
+use Rattle.std.{proofs.Common.◌≡◌, specs.List.range_with_len}
 use Rattle.solve_bench.proofs.made.variables.Given as goal
 
 abbrev pub invariant-loop-v : goal.invariant-loop-v

@@ -1,6 +1,5 @@
 use Rattle.std.proofs.Common.{List, subst, sym}
-use Rattle.cons_graph.specs.declared.edges.Edge.{Edge}
-use Rattle.cons_graph.specs.Constraints.{IsConstraintGraph}
+use Rattle.cons_graph.specs.{declared.edges.Edge.Edge, Constraints.IsConstraintGraph}
 use Rattle.solve_bench.proofs.WorkedGraphs.{row_is_graph}
 use Rattle.solve_bench.proofs.tests.row.Goals as goal
 

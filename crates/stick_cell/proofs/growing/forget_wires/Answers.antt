@@ -1,10 +1,8 @@
-use Rattle.std.proofs.Common.{◌<◌, ◌≤◌, length, get_or, set, ap, ◌∙◌, arith}
-use Rattle.std.specs.Prelude.{pos}
+use Rattle.std.{proofs.Common.{◌<◌, ◌≤◌, length, get_or, set, ap, ◌∙◌, arith}, specs.Prelude.pos}
 use Rattle.rule_table.specs.declared.classes.Layer.TheVariants.{Diffusion}
 use Rattle.lam_geom.specs.declared.boxes.Side.TheVariants.{Left}
 use Rattle.cell_model.specs.declared.cell.CellPort.{CellPort}
-use Rattle.stick_cell.specs.Growing.{without_wire}
-use Rattle.stick_cell.proofs.Forgetting.{forgotten-step, forgotten-back}
+use Rattle.stick_cell.{specs.Growing.without_wire, proofs.Forgetting.{forgotten-step, forgotten-back}}
 use Rattle.stick_cell.proofs.growing.forget_wires.Goals as goal
 
 pub loop-port-init : goal.loop-port-init

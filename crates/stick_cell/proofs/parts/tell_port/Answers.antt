@@ -1,7 +1,6 @@
 use Rattle.std.proofs.Common.{◌≡◌, ℕ, ◌<◌, ℤ, true, List, length, map, get_or, set, sym, ap, ◌∙◌, arith}
 use Rattle.std.proofs.lemmas.List.{map-set, get_or-map, length-map}
-use Rattle.cell_model.specs.declared.cell.Port.{Port}
-use Rattle.cell_model.specs.declared.cell.WireEnd.{WireEnd}
+use Rattle.cell_model.specs.declared.cell.{Port.Port, WireEnd.WireEnd}
 use Rattle.cell_model.specs.declared.cell.WireEnd.TheVariants as ends
 use Rattle.stick_cell.specs.Known.{Plug, no_plug, plug_at, plugged}
 use Rattle.stick_cell.proofs.parts.tell_port.Goals as goal

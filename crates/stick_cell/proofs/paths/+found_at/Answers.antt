@@ -1,9 +1,8 @@
-use Rattle.std.proofs.Common.{◌≡◌, ℕ, ◌<◌, ◌≤◌, List, [], ◌∷◌, length, get_or, map, Option, option_map, option_copied, Some, None, Bor, inl, inr, sym, ap, ◌∙◌, arith}
+use Rattle.std.proofs.Common.{◌≡◌, ℕ, ◌<◌, ◌≤◌, List, [], ◌∷◌, length, get_or, map, Option, option_map, option_copied}
+use Rattle.std.proofs.Common.{Some, None, Bor, inl, inr, sym, ap, ◌∙◌, arith}
 use Rattle.std.proofs.lemmas.List.{get_or_past, get_or-map, length-map}
 use Rattle.stick_lex.specs.Tokens.{names}
-use Rattle.stick_cell.specs.declared.table.Table.{Table}
-use Rattle.stick_cell.specs.Paths.{Names, names_at, names_behind}
-use Rattle.stick_cell.specs.NameEntries.{entries_of}
+use Rattle.stick_cell.specs.{declared.table.Table.Table, Paths.{Names, names_at, names_behind}, NameEntries.entries_of}
 use Rattle.stick_cell.specs.Kept.{kept_found}
 use Rattle.stick_cell.proofs.Composed.{walk_nothing, found_in_copy, found_behind_node, found_behind_port}
 use Rattle.stick_cell.proofs.paths.+found_at.Goals as goal

@@ -1,15 +1,11 @@
-use Rattle.std.proofs.Common.{◌≡◌, ℕ, ◌+◌, cond, ltb, length, take, List, ◌∷◌, Some, None, sym, ap, ◌∙◌, arith, rules, tests}
-use Rattle.std.specs.List.{position_or_len}
-use Rattle.std.proofs.lemmas.Bool.{ltb-false}
+use Rattle.std.proofs.Common.{◌≡◌, ℕ, ◌+◌, cond, ltb, length, take, List, ◌∷◌, Some, None, sym, ap, ◌∙◌, arith, rules}
+use Rattle.std.proofs.{Common.tests, lemmas.{Bool.ltb-false, List.take_rest, Iterator.YieldsList-from_slice}}
+use Rattle.std.{proofs.lemmas.Iterator.Search.position_from_yields_List, specs.List.position_or_len}
 use borrow.Author.Tests.{ltb-true}
-use Rattle.std.proofs.lemmas.List.{take_rest}
-use Rattle.std.proofs.lemmas.Iterator.{YieldsList-from_slice}
-use Rattle.std.proofs.lemmas.Iterator.Search.{position_from_yields_List}
 use Rattle.stick_lex.specs.Tokens.{names}
 use Rattle.stick_parse.proofs.FirstLine.{found_at, not_found}
-use Rattle.stick_cell.proofs.FirstName.{is_dot, first_of, whole_of}
+use Rattle.stick_cell.proofs.{FirstName.{is_dot, first_of, whole_of}, paths.split_first.Goals.After-position}
 use Rattle.stick_cell.proofs.paths.split_first.Goals as goal
-use Rattle.stick_cell.proofs.paths.split_first.Goals.{After-position}
 
 found : (c : After-position) → c.position.result ≡ cond (ltb (position_or_len is_dot c.args.path.now) (length c.args.path.now)) (Some (position_or_len is_dot c.args.path.now)) None
 found c = position_from_yields_List is_dot _ _ c.position.result c.position.ensures.ran (YieldsList-from_slice c.args.path.now cc) (λ x b q k. search (rules, tests))

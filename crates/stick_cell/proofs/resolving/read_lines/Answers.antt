@@ -1,10 +1,6 @@
 use Rattle.std.proofs.Common.{ℕ, ◌≤◌, List, length, refl, sym, ap, subst, ◌∙◌, arith}
-use Rattle.stick_cell.specs.Known.{begun}
-use Rattle.stick_cell.specs.Growing.{IsGrowing}
-use Rattle.stick_cell.specs.Sides.{side_entries}
-use Rattle.stick_cell.proofs.SidesKept.{sides_none}
-use Rattle.stick_cell.proofs.Grown.{grown-begun, grown-after_form}
-use Rattle.stick_cell.proofs.TableReads.{element_at}
+use Rattle.stick_cell.specs.{Known.begun, Growing.IsGrowing, Sides.side_entries}
+use Rattle.stick_cell.proofs.{SidesKept.sides_none, Grown.{grown-begun, grown-after_form}, TableReads.element_at}
 use Rattle.stick_cell.proofs.LineLoop.{lines-next, lines-refused, lines-end, form-at}
 use Rattle.stick_cell.proofs.resolving.read_lines.Goals as goal
 

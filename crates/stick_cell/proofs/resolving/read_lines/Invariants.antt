@@ -1,10 +1,6 @@
 use Rattle.std.proofs.Common.{◌≡◌, List, drop}
-use Rattle.stick_cell.specs.Known.{Known, begun}
-use Rattle.stick_cell.specs.Lines.{after_lines}
-use Rattle.stick_cell.specs.Grown.{IsGrown, AreGrown}
-use Rattle.stick_cell.specs.Tables.{AreTables}
-use Rattle.stick_cell.specs.Growing.{IsGrowing}
-use Rattle.stick_cell.specs.Sides.{side_entries, AreSidesOf, HaveSides}
+use Rattle.stick_cell.specs.{Known.{Known, begun}, Lines.after_lines, Grown.{IsGrown, AreGrown}, Tables.AreTables}
+use Rattle.stick_cell.specs.{Growing.IsGrowing, Sides.{side_entries, AreSidesOf, HaveSides}}
 use Rattle.stick_cell.proofs.resolving.read_lines.Given as goal
 
 abbrev pub invariant-loop-line : goal.invariant-loop-line

@@ -1,6 +1,5 @@
 use Rattle.stick_cell.specs.Grids.{resolved_cells}
-use Rattle.stick_cell.proofs.CellLoop.{gives-residual}
-use Rattle.stick_cell.proofs.GridNames.{cells-fail, grids-fail, no-fault}
+use Rattle.stick_cell.proofs.{CellLoop.gives-residual, GridNames.{cells-fail, grids-fail, no-fault}}
 use Rattle.stick_cell.proofs.resolving.resolve.Goals as goal
 
 pub returns-in_err-cells-clause-cells : goal.returns-in_err-cells-clause-cells

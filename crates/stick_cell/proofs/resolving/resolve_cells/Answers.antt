@@ -1,17 +1,13 @@
 use Rattle.std.proofs.Common.{◌≡◌, ◌<◌, Ok, List, [], ◌∷◌, ◌++◌, length, get_or, refl, sym, ap, subst, ◌∙◌, arith}
-use Rattle.std.proofs.lemmas.List.{length_push}
-use Rattle.stick_cell.specs.declared.table.Table.{Table}
-use Rattle.std.specs.Prelude.{All}
+use Rattle.std.{proofs.lemmas.List.length_push, specs.Prelude.All}
+use Rattle.stick_cell.specs.{declared.table.Table.Table, Known.{Known, begun, cell_of}, Lines.known_cells}
+use Rattle.stick_cell.specs.{Tables.{AreTables, HaveSteps, cells_or_none}, Sides.HaveSides}
+use Rattle.stick_cell.proofs.{SidesLoop.have_sides-push, Grown.{are_grown-none, are_grown-append, grown-after_cell}}
+use Rattle.stick_cell.proofs.{Grown.sound-known_at, TableReads.{length-known_cells, element_at}}
+use Rattle.stick_cell.proofs.CellLoop.{gives-residual, lent_tables, cells-refused, cells-next, cells-end, cell-at}
+use Rattle.stick_cell.proofs.CellLoop.{tables-push, have_steps-push}
 use Rattle.cell_model.specs.Sound.{IsSound}
 use Rattle.list_facts.proofs.Elements.{all_of, by_number}
-use Rattle.stick_cell.specs.Known.{Known, begun, cell_of}
-use Rattle.stick_cell.specs.Lines.{known_cells}
-use Rattle.stick_cell.specs.Tables.{AreTables, HaveSteps, cells_or_none}
-use Rattle.stick_cell.specs.Sides.{HaveSides}
-use Rattle.stick_cell.proofs.SidesLoop.{have_sides-push}
-use Rattle.stick_cell.proofs.Grown.{are_grown-none, are_grown-append, grown-after_cell, sound-known_at}
-use Rattle.stick_cell.proofs.TableReads.{length-known_cells, element_at}
-use Rattle.stick_cell.proofs.CellLoop.{gives-residual, lent_tables, cells-refused, cells-next, cells-end, cell-at, tables-push, have_steps-push}
 use Rattle.stick_cell.proofs.resolving.resolve_cells.Goals as goal
 
 pub loop-text-init : goal.loop-text-init

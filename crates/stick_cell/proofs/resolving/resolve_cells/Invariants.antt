@@ -1,9 +1,6 @@
 use Rattle.std.proofs.Common.{◌≡◌, List, length, drop}
-use Rattle.stick_cell.specs.Known.{Known}
-use Rattle.stick_cell.specs.Lines.{cells_after, known_cells}
-use Rattle.stick_cell.specs.Grown.{AreGrown}
-use Rattle.stick_cell.specs.Tables.{AreTables, HaveSteps}
-use Rattle.stick_cell.specs.Sides.{HaveSides}
+use Rattle.stick_cell.specs.{Known.Known, Lines.{cells_after, known_cells}, Grown.AreGrown, Tables.AreTables}
+use Rattle.stick_cell.specs.{Tables.HaveSteps, Sides.HaveSides}
 use Rattle.stick_cell.proofs.resolving.resolve_cells.Given as goal
 
 abbrev pub invariant-loop-text : goal.invariant-loop-text

@@ -1,10 +1,6 @@
-use Rattle.std.proofs.Common.{◌≡◌, ◌≤◌, length, drop, ap, sym, ◌∙◌, arith, rules, tests}
-use Rattle.std.specs.List.{list_all}
-use Rattle.std.proofs.lemmas.List.{take_rest}
-use Rattle.std.proofs.lemmas.Iterator.{YieldsList-from_slice}
-use Rattle.std.proofs.lemmas.Iterator.Search.{all_from_yields_List}
-use Rattle.stick_lex.specs.Tokens.{is_name_byte}
-use Rattle.stick_lex.proofs.Words.{name_by_rest}
+use Rattle.std.proofs.{Common.{◌≡◌, ◌≤◌, length, drop, ap, sym, ◌∙◌, arith, rules, tests}, lemmas.List.take_rest}
+use Rattle.std.{proofs.lemmas.Iterator.{YieldsList-from_slice, Search.all_from_yields_List}, specs.List.list_all}
+use Rattle.stick_lex.{specs.Tokens.is_name_byte, proofs.Words.name_by_rest}
 use Rattle.stick_lex.proofs.lexing.is_name.Goals as goal
 
 pub returns-then-rest-lt-LONGEST_NAME : goal.returns-then-rest-lt-LONGEST_NAME

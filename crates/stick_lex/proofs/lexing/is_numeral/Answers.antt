@@ -1,8 +1,5 @@
-use Rattle.std.proofs.Common.{◌≡◌, sym, ◌∙◌, rules, tests}
-use Rattle.std.specs.List.{list_all}
-use Rattle.std.specs.Char.{is_ascii_digit}
-use Rattle.std.proofs.lemmas.Iterator.{YieldsList-from_slice}
-use Rattle.std.proofs.lemmas.Iterator.Search.{all_from_yields_List}
+use Rattle.std.proofs.{Common.{◌≡◌, sym, ◌∙◌, rules, tests}, lemmas.Iterator.YieldsList-from_slice}
+use Rattle.std.{proofs.lemmas.Iterator.Search.all_from_yields_List, specs.{List.list_all, Char.is_ascii_digit}}
 use Rattle.stick_lex.proofs.Words.{numeral_by_all}
 use Rattle.stick_lex.proofs.lexing.is_numeral.Goals as goal
 

@@ -1,6 +1,5 @@
 use Rattle.std.proofs.Common.{ℕ, eqb, rules, tests}
-use Rattle.std.proofs.lemmas.Iterator.Splits.{YieldsList-from_slice_split}
-use Rattle.std.proofs.lemmas.Iterator.Search.{all_from_yields_List}
+use Rattle.std.proofs.lemmas.Iterator.{Splits.YieldsList-from_slice_split, Search.all_from_yields_List}
 use Rattle.stick_lex.specs.Tokens.{is_name}
 use Rattle.stick_lex.proofs.lexing.is_path.Goals as goal
 

@@ -1,16 +1,13 @@
-use Rattle.std.proofs.Common.{◌≡◌, ℕ, ◌+◌, ◌<◌, ◌≤◌, ◌^◌, eqb, List, length, get_or, Bool, true, false, Ok, ◌≢◌, eqb-true, false-eqb, is_ok, sym, ap, subst, ◌∙◌, refl, arith, rules, tests}
+use Rattle.std.proofs.Common.{◌≡◌, ℕ, ◌+◌, ◌<◌, ◌≤◌, ◌^◌, eqb, List, length, get_or, Bool, true, false, Ok, ◌≢◌}
+use Rattle.std.proofs.Common.{eqb-true, false-eqb, is_ok, sym, ap, subst, ◌∙◌, refl, arith, rules, tests}
+use Rattle.std.proofs.{ResultArms.chosen, lemmas.{List.{length_push, length-take}, Result.err_from_is_err_and}}
+use Rattle.std.proofs.lemmas.Iterator.{Splits.YieldsList-from_slice_split, Consumers.{YieldsList-turn, YieldsList-end}}
 use Rattle.std.specs.List.{slice_split, position_or_len}
-use Rattle.std.proofs.ResultArms.{chosen}
-use Rattle.std.proofs.lemmas.List.{length_push, length-take}
-use Rattle.std.proofs.lemmas.Result.{err_from_is_err_and}
-use Rattle.std.proofs.lemmas.Iterator.Splits.{YieldsList-from_slice_split}
-use Rattle.std.proofs.lemmas.Iterator.Consumers.{YieldsList-turn, YieldsList-end}
-use Rattle.stick_lex.specs.Runs.{is_blank, without_comment}
-use Rattle.stick_lex.specs.Tokens.{tokens_of}
+use Rattle.stick_lex.specs.{Runs.{is_blank, without_comment}, Tokens.tokens_of}
 use Rattle.stick_lex.proofs.Loop.{width-slice_split, Walks, starts, within, skips, takes, stops, ends}
-use Rattle.stick_lex.proofs.Slices.{tokens_are_slices}
+use Rattle.stick_lex.proofs.{Slices.tokens_are_slices, lexing.lex_line.Goals.{After-is_empty, In-None}}
+use Rattle.stick_lex.proofs.lexing.lex_line.Goals.{then-not-is_empty+in_ok-token_of+in_ok-push, else-not-is_empty}
 use Rattle.stick_lex.proofs.lexing.lex_line.Goals as goal
-use Rattle.stick_lex.proofs.lexing.lex_line.Goals.{After-is_empty, In-None, then-not-is_empty+in_ok-token_of+in_ok-push, else-not-is_empty}
 
 abbrev parts : List ℕ → List (List ℕ)
 parts line = slice_split is_blank (without_comment line)

@@ -1,8 +1,5 @@
-use Rattle.std.proofs.Common.{length}
-use Rattle.std.specs.List.{slice_split}
-use Rattle.stick_lex.specs.Runs.{is_blank, without_comment}
-use Rattle.stick_lex.specs.Tokens.{tokens_of}
-use Rattle.stick_lex.proofs.Loop.{Walks}
+use Rattle.std.{proofs.Common.length, specs.List.slice_split}
+use Rattle.stick_lex.{specs.{Runs.{is_blank, without_comment}, Tokens.tokens_of}, proofs.Loop.Walks}
 use Rattle.stick_lex.proofs.lexing.lex_line.Given as goal
 
 abbrev pub invariant-loop-run : goal.invariant-loop-run

@@ -1,7 +1,6 @@
 use Rattle.std.proofs.Common.{◌≡◌, ℕ, eqb, cond, ltb, length, Some, None, take, unwrap_or, ap, ◌∙◌, rules, tests}
+use Rattle.std.proofs.lemmas.Iterator.{YieldsList-from_slice, Search.position_from_yields_List}
 use Rattle.std.specs.List.{position_or_len}
-use Rattle.std.proofs.lemmas.Iterator.{YieldsList-from_slice}
-use Rattle.std.proofs.lemmas.Iterator.Search.{position_from_yields_List}
 use Rattle.stick_lex.proofs.Words.{position_place}
 use Rattle.stick_lex.proofs.lexing.without_comment.Goals as goal
 

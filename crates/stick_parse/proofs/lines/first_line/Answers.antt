@@ -1,14 +1,11 @@
-use Rattle.std.proofs.Common.{◌≡◌, ℕ, ◌+◌, ◌-◌, cond, ltb, length, take, drop, List, ◌∷◌, [], Some, None, refl, sym, ap, ◌∙◌, arith, rules, tests}
-use Rattle.std.specs.List.{position_or_len}
-use Rattle.std.specs.Str.Lines.{lines}
-use Rattle.std.proofs.lemmas.Bool.{ltb-false}
+use Rattle.std.proofs.Common.{◌≡◌, ℕ, ◌+◌, ◌-◌, cond, ltb, length, take, drop, List, ◌∷◌, [], Some, None, refl, sym, ap}
+use Rattle.std.proofs.{Common.{◌∙◌, arith, rules, tests}, lemmas.{Bool.ltb-false, List.{take_rest, drop_all}}}
+use Rattle.std.proofs.lemmas.Iterator.{YieldsList-from_slice, Search.position_from_yields_List}
+use Rattle.std.specs.{List.position_or_len, Str.Lines.lines}
 use borrow.Author.Tests.{ltb-true}
-use Rattle.std.proofs.lemmas.List.{take_rest, drop_all}
-use Rattle.std.proofs.lemmas.Iterator.{YieldsList-from_slice}
-use Rattle.std.proofs.lemmas.Iterator.Search.{position_from_yields_List}
 use Rattle.stick_parse.proofs.FirstLine.{is_end, found_at, not_found, first_of, whole_of}
-use Rattle.stick_parse.proofs.lines.first_line.Goals as goal
 use Rattle.stick_parse.proofs.lines.first_line.Goals.{After-position}
+use Rattle.stick_parse.proofs.lines.first_line.Goals as goal
 
 found : (c : After-position) → c.position.result ≡ cond (ltb (position_or_len is_end c.args.text.now) (length c.args.text.now)) (Some (position_or_len is_end c.args.text.now)) None
 found c = position_from_yields_List is_end _ _ c.position.result c.position.ensures.ran (YieldsList-from_slice c.args.text.now cc) (λ x b q k. search (rules, tests))

@@ -1,7 +1,5 @@
-use Rattle.std.proofs.Common.{Ok, sym, subst, ◌∙◌}
-use Rattle.std.proofs.lemmas.Result.{err_from_is_err_and}
-use Rattle.stick_parse.specs.Reading.{Fails}
-use Rattle.stick_parse.specs.Order.{design_in}
+use Rattle.std.proofs.{Common.{Ok, sym, subst, ◌∙◌}, lemmas.Result.err_from_is_err_and}
+use Rattle.stick_parse.specs.{Reading.Fails, Order.design_in}
 use Rattle.stick_parse.proofs.Together.{from_head, whole_design, fails_on, fails_in_cells, fails_in_grids}
 use Rattle.stick_parse.proofs.parsing.design_of.Goals as goal
 

@@ -1,6 +1,5 @@
 use Rattle.std.proofs.Common.{◌≡◌, map, take}
-use Rattle.stick_parse.specs.Words.{word_of}
-use Rattle.stick_parse.specs.WordViews.{views}
+use Rattle.stick_parse.specs.{Words.word_of, WordViews.views}
 use Rattle.stick_parse.proofs.words.words_of.Given as goal
 
 abbrev pub invariant-loop-token : goal.invariant-loop-token

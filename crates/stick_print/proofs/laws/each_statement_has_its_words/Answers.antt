@@ -1,5 +1,4 @@
-use Rattle.stick_print.proofs.Statements.{statement_again}
-use Rattle.stick_print.proofs.Taken.{only_words}
+use Rattle.stick_print.proofs.{Statements.statement_again, Taken.only_words}
 use Rattle.stick_print.proofs.laws.each_statement_has_its_words.Goals as goal
 
 pub returns : goal.returns

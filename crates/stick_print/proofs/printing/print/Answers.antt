@@ -1,9 +1,6 @@
-use Rattle.std.proofs.Common.{◌≡◌, List, ℕ, sym, subst}
-use Rattle.std.proofs.lemmas.Result.{IfOk-weaker}
+use Rattle.std.proofs.{Common.{◌≡◌, List, ℕ, sym, subst}, lemmas.Result.IfOk-weaker}
 use Rattle.stick_parse.specs.Writable.{IsWritable}
-use Rattle.stick_print.specs.Canonical.{canonical}
-use Rattle.stick_print.specs.ReadBack.{ReadsAs}
-use Rattle.stick_print.proofs.Whole.{reads_back}
+use Rattle.stick_print.{specs.{Canonical.canonical, ReadBack.ReadsAs}, proofs.Whole.reads_back}
 use Rattle.stick_print.proofs.printing.print.Goals as goal
 
 pub returns-clause-reads_back : goal.returns-clause-reads_back

@@ -1,5 +1,4 @@
-use Rattle.std.proofs.Common.{◌≡◌, ◌++◌, take}
-use Rattle.std.specs.Prelude.{codes}
+use Rattle.std.{proofs.Common.{◌≡◌, ◌++◌, take}, specs.Prelude.codes}
 use Rattle.stick_print.specs.Canonical.{spaced}
 use Rattle.stick_print.proofs.printing.put_row.Given as goal
 

@@ -1,5 +1,4 @@
-use Rattle.std.proofs.Common.{◌≡◌, ◌∙◌}
-use Rattle.std.proofs.lemmas.Result.{err_from_is_err_and}
+use Rattle.std.proofs.{Common.{◌≡◌, ◌∙◌}, lemmas.Result.err_from_is_err_and}
 use Rattle.tech_file.proofs.Judged.{keys_refused, unknown_refused, unfit_refused, accepted}
 use Rattle.tech_file.proofs.reading.technology.Goals as goal
 

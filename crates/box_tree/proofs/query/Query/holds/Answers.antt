@@ -1,7 +1,5 @@
-use Rattle.std.proofs.Common.{subst, arith}
-use Rattle.std.proofs.lemmas.Int.{ints}
-use Rattle.box_tree.specs.Queries.{IsQuestion}
-use Rattle.box_tree.proofs.Within.{margin_held, covers_asked, short_asked, outside_asked}
+use Rattle.std.proofs.{Common.{subst, arith}, lemmas.Int.ints}
+use Rattle.box_tree.{specs.Queries.IsQuestion, proofs.Within.{margin_held, covers_asked, short_asked, outside_asked}}
 use Rattle.box_tree.proofs.query.Query.holds.Goals as goal
 
 pub returns-in-Covers : goal.returns-in-Covers

@@ -1,6 +1,5 @@
 use Rattle.std.proofs.Common.{subst}
-use Rattle.box_tree.specs.Queries.{IsQuestion}
-use Rattle.box_tree.proofs.Within.{margin_held, none_covers, none_short, none_outside}
+use Rattle.box_tree.{specs.Queries.IsQuestion, proofs.Within.{margin_held, none_covers, none_short, none_outside}}
 use Rattle.box_tree.proofs.spots.Group.may_answer.Goals as goal
 
 pub returns-in-Covers : goal.returns-in-Covers

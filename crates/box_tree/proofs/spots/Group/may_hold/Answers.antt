@@ -1,5 +1,4 @@
-use Rattle.std.proofs.Common.{sym, ◌∙◌, arith}
-use Rattle.std.proofs.lemmas.Int.{ints}
+use Rattle.std.proofs.{Common.{sym, ◌∙◌, arith}, lemmas.Int.ints}
 use Rattle.box_tree.proofs.Within.{too_far}
 use Rattle.box_tree.proofs.spots.Group.may_hold.Goals as goal
 

@@ -1,5 +1,4 @@
-use Rattle.std.proofs.Common.{◌≡◌, ◌↔◌, ℕ, Bool, Option, Some, None, IsTrue}
-use Rattle.std.specs.Prelude.{MatchOption, is_some}
+use Rattle.std.{proofs.Common.{◌≡◌, ◌↔◌, ℕ, Bool, Option, Some, None, IsTrue}, specs.Prelude.{MatchOption, is_some}}
 use Rattle.box_tree.specs.Queries.{HoldsAt}
 use Rattle.box_tree.proofs.tree.BoxTree.any.Goals as goal
 

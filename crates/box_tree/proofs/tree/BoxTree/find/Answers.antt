@@ -1,7 +1,5 @@
-use Rattle.std.proofs.Common.{◌≡◌, ℕ, List, subst}
-use Rattle.std.specs.Prelude.{MatchOption}
-use Rattle.box_tree.specs.declared.spots.Spot.{Spot}
-use Rattle.box_tree.specs.Queries.{HoldsAt}
+use Rattle.std.{proofs.Common.{◌≡◌, ℕ, List, subst}, specs.Prelude.MatchOption}
+use Rattle.box_tree.specs.{declared.spots.Spot.Spot, Queries.HoldsAt}
 use Rattle.box_tree.proofs.tree.BoxTree.find.Goals as goal
 
 pub returns : goal.returns

@@ -1,9 +1,6 @@
 use Rattle.std.proofs.Common.{◌∙◌, Some, ap, refl, arith}
-use Rattle.cif_read.specs.Acts.{is_odd_area, drawn_box, scaled}
-use Rattle.cif_read.proofs.Scales.{seen_all}
-use Rattle.cif_foreign.specs.declared.file.ForeignStep.TheVariants.{Own}
-use Rattle.cif_foreign.specs.Sheets.{own}
-use Rattle.cif_foreign.specs.Readings.{level_from}
+use Rattle.cif_read.{specs.Acts.{is_odd_area, drawn_box, scaled}, proofs.Scales.seen_all}
+use Rattle.cif_foreign.specs.{declared.file.ForeignStep.TheVariants.Own, Sheets.own, Readings.level_from}
 use Rattle.cif_foreign.proofs.Sound.{boxed_done, steps_more, level_step}
 use Rattle.cif_foreign.proofs.state.Drawing.area.Goals as goal
 

@@ -1,7 +1,6 @@
 use Rattle.std.proofs.Common.{◌≡◌, ◌∙◌, max, ℕ, pos, false, sym, ap, refl, of_z, to_z, w64, arith}
 use Rattle.cif_lex.specs.Shifts.{is_odd}
-use Rattle.cif_foreign.specs.declared.file.ForeignStep.TheVariants.{Called}
-use Rattle.cif_foreign.specs.Readings.{level_from}
+use Rattle.cif_foreign.specs.{declared.file.ForeignStep.TheVariants.Called, Readings.level_from}
 use Rattle.cif_foreign.proofs.Sound.{divisor_word, seen_shift, called_done, steps_called, still_within, level_step}
 use Rattle.cif_foreign.proofs.state.Drawing.call.Goals as goal
 

@@ -1,7 +1,6 @@
 use Rattle.std.proofs.Common.{◌∙◌, sym, subst, FitsSigned, w64, ⊎_elim, rules}
-use Rattle.cif_read.specs.Readers.{IsCauseOfStop}
+use Rattle.cif_read.{specs.Readers.IsCauseOfStop, proofs.Calling.{ok_weaker, err_weaker}}
 use Rattle.cif_foreign.specs.Readings.{state_of}
-use Rattle.cif_read.proofs.Calling.{ok_weaker, err_weaker}
 use Rattle.cif_foreign.proofs.Commands.{nothing_is, extension_is, define_is, finish_is, layer_is, area_is, call_is}
 use Rattle.cif_foreign.proofs.state.Reading.act.Goals as goal
 

@@ -1,12 +1,7 @@
 use Rattle.std.proofs.Common.{◌+◌, false, unsigned_abs, of_z, to_z, w64, map, sym, ap, ◌∙◌, subst, arith}
-use Rattle.cif_read.specs.Scales.{IsScale}
-use Rattle.cif_read.proofs.Scales.{factor_from}
-use Rattle.cif_read.proofs.Sound.{fresh_from}
-use Rattle.cif_read.proofs.Beginnings.{begun_from}
-use Rattle.cif_foreign.specs.declared.state.Drawing.{Drawing}
-use Rattle.cif_foreign.specs.Acts.{numbered}
-use Rattle.cif_foreign.specs.Readings.{level_from, definition_of, symbols_of, IsSoundLevel}
-use Rattle.cif_foreign.proofs.Sound.{defined_by_words, symbols_more}
+use Rattle.cif_read.{specs.Scales.IsScale, proofs.{Scales.factor_from, Sound.fresh_from, Beginnings.begun_from}}
+use Rattle.cif_foreign.specs.{declared.state.Drawing.Drawing, Acts.numbered, Readings.{level_from, definition_of}}
+use Rattle.cif_foreign.{specs.Readings.{symbols_of, IsSoundLevel}, proofs.Sound.{defined_by_words, symbols_more}}
 use Rattle.cif_foreign.proofs.state.Reading.define.Goals as goal
 
 pub returns-clause-done : goal.returns-clause-done

@@ -1,10 +1,9 @@
-use Rattle.std.proofs.Common.{◌≡◌, ℕ, ◌+◌, ◌<◌, pos, Some, false, List, [], ◌∷◌, ◌++◌, length, sym, ap, ◌∙◌, subst, arith}
-use Rattle.cif_foreign.specs.declared.file.ForeignSymbol.{ForeignSymbol}
-use Rattle.cif_foreign.specs.declared.state.Drawing.{Drawing}
-use Rattle.cif_foreign.specs.Acts.{is_known}
+use Rattle.std.proofs.Common.{◌≡◌, ℕ, ◌+◌, ◌<◌, pos, Some, false, List, [], ◌∷◌, ◌++◌, length, sym, ap, ◌∙◌, subst}
+use Rattle.std.proofs.Common.{arith}
+use Rattle.cif_foreign.specs.{declared.{file.ForeignSymbol.ForeignSymbol, state.Drawing.Drawing}, Acts.is_known}
 use Rattle.cif_foreign.specs.Readings.{symbols_of, IsSoundLevel}
-use Rattle.cif_read.proofs.Sound.{some_holds, none_holds}
 use Rattle.cif_foreign.proofs.Sound.{symbol_added, places_pushed, level_later}
+use Rattle.cif_read.proofs.Sound.{some_holds, none_holds}
 use Rattle.cif_foreign.proofs.state.Reading.finish.Goals as goal
 
 pub returns-clause-sound : goal.returns-clause-sound

@@ -1,6 +1,5 @@
 use Rattle.std.proofs.Common.{◌≡◌, ◌++◌, ◌∷◌, [], List, ap, sym, ◌∙◌, length, arith}
-use Rattle.cif_foreign.specs.declared.file.ForeignStep.{ForeignStep}
-use Rattle.cif_foreign.specs.declared.steps.Place.TheVariants.{Own}
+use Rattle.cif_foreign.specs.declared.{file.ForeignStep.ForeignStep, steps.Place.TheVariants.Own}
 use Rattle.cif_foreign.proofs.Stepping.{places_kept, last_place, step_pushed}
 use Rattle.cif_foreign.proofs.steps.Steps.push.Goals as goal
 

@@ -1,9 +1,6 @@
 use Rattle.std.proofs.Common.{◌^◌, ◌∙◌, Some, ap, arith}
-use Rattle.cif_read.specs.Acts.{is_odd_area, drawn_box, scaled}
-use Rattle.cif_read.specs.Readings.{definition_of}
-use Rattle.cif_read.proofs.Scales.{seen_all}
-use Rattle.cif_read.proofs.Placing.{placed_in_done, drawn_more, count_more}
-use Rattle.cif_read.proofs.Solid.{solid_pushed}
+use Rattle.cif_read.specs.{Acts.{is_odd_area, drawn_box, scaled}, Readings.definition_of}
+use Rattle.cif_read.proofs.{Scales.seen_all, Placing.{placed_in_done, drawn_more, count_more}, Solid.solid_pushed}
 use Rattle.cif_read.proofs.state.Begun.place.Goals as goal
 
 pub returns-in_ok-push-clause-done : goal.returns-in_ok-push-clause-done

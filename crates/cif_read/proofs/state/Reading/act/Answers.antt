@@ -1,7 +1,5 @@
 use Rattle.std.proofs.Common.{◌∙◌, ap, sym, subst, Ok, FitsSigned, w64, ⊎_elim, rules}
-use Rattle.cif_read.specs.Readers.{IsCauseOfStop}
-use Rattle.cif_read.specs.Readings.{state_of}
-use Rattle.cif_read.proofs.Calling.{ok_weaker, err_weaker}
+use Rattle.cif_read.{specs.{Readers.IsCauseOfStop, Readings.state_of}, proofs.Calling.{ok_weaker, err_weaker}}
 use Rattle.cif_read.proofs.Commands.{nothing_is, extension_is, define_is, finish_is, layer_is, call_is, turned_is}
 use Rattle.cif_read.proofs.state.Reading.act.Goals as goal
 

@@ -1,11 +1,8 @@
 use Rattle.std.proofs.Common.{◌≡◌, ◌∙◌, sym, ap, subst, pos, false, map}
-use Rattle.cif_read.specs.Acts.{placed, placed_in, is_bad_area, is_known}
-use Rattle.cif_read.specs.Files.{symbol_of}
-use Rattle.cif_read.specs.Readers.{IsCauseOfStop}
+use Rattle.cif_read.specs.{Acts.{placed, placed_in, is_bad_area, is_known}, Files.symbol_of, Readers.IsCauseOfStop}
 use Rattle.cif_read.specs.Readings.{state_of, definition_of, begun_of, IsSoundBegun}
-use Rattle.cif_read.proofs.Scales.{seen_all}
-use Rattle.cif_read.proofs.Sound.{done_later, some_holds}
-use Rattle.cif_read.proofs.Calling.{area_bad, area_in, area_at_top, ok_weaker, err_weaker}
+use Rattle.cif_read.proofs.{Scales.seen_all, Sound.{done_later, some_holds}, Calling.{area_bad, area_in, area_at_top}}
+use Rattle.cif_read.proofs.Calling.{ok_weaker, err_weaker}
 use Rattle.cif_read.proofs.state.Reading.area.Goals as goal
 
 pub returns-then-is_bad_area-clause-refused : goal.returns-then-is_bad_area-clause-refused

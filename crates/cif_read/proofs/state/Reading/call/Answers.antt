@@ -1,9 +1,7 @@
-use Rattle.std.proofs.Common.{◌∙◌, ◌^◌, ◌<◌, map, length, refl, sym, subst, pos, ◌*ℤ◌, arith}
-use Rattle.std.proofs.lemmas.List.{length-map}
-use Rattle.cif_read.specs.Files.{IsWithin, symbol_of}
-use Rattle.cif_read.specs.Readings.{state_of}
-use Rattle.cif_read.proofs.Sound.{step_added, begun_later}
-use Rattle.cif_read.proofs.Calling.{good_call, seen_call, doubled, doubled_within, place_found, called_done, call_drawn, none_begun}
+use Rattle.std.proofs.{Common.{◌∙◌, ◌^◌, ◌<◌, map, length, refl, sym, subst, pos, ◌*ℤ◌, arith}, lemmas.List.length-map}
+use Rattle.cif_read.specs.{Files.{IsWithin, symbol_of}, Readings.state_of}
+use Rattle.cif_read.proofs.{Sound.{step_added, begun_later}, Calling.{good_call, seen_call, doubled, doubled_within}}
+use Rattle.cif_read.proofs.Calling.{place_found, called_done, call_drawn, none_begun}
 use Rattle.cif_read.proofs.state.Reading.call.Goals as goal
 
 pub returns-clause-done : goal.returns-clause-done

@@ -1,8 +1,6 @@
 use Rattle.std.proofs.Common.{◌+◌, ◌^◌, sym, map}
 use Rattle.cif_read.specs.Files.{symbol_of}
-use Rattle.cif_read.proofs.Scales.{factor_from}
-use Rattle.cif_read.proofs.Sound.{done_later, none_few, fresh_from}
-use Rattle.cif_read.proofs.Solid.{none_solid}
+use Rattle.cif_read.proofs.{Scales.factor_from, Sound.{done_later, none_few, fresh_from}, Solid.none_solid}
 use Rattle.cif_read.proofs.state.Reading.define.Goals as goal
 
 pub returns-clause-sound : goal.returns-clause-sound

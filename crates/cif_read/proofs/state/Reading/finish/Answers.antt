@@ -1,8 +1,6 @@
 use Rattle.std.proofs.Common.{◌≡◌, ◌+◌, ◌^◌, pos, Some, false, sym, subst, ◌∙◌, map, ap, length, arith}
 use Rattle.std.specs.List.{All}
-use Rattle.cif_read.specs.Acts.{is_known}
-use Rattle.cif_read.specs.Files.{symbol_of, drawn_of, IsSolidWithin}
-use Rattle.cif_read.specs.Readings.{IsSoundBegun}
+use Rattle.cif_read.specs.{Acts.is_known, Files.{symbol_of, drawn_of, IsSolidWithin}, Readings.IsSoundBegun}
 use Rattle.cif_read.proofs.Sound.{symbol_added, places_pushed, some_holds, none_holds}
 use Rattle.cif_read.proofs.state.Reading.finish.Goals as goal
 

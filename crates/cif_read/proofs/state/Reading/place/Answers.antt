@@ -1,10 +1,6 @@
 use Rattle.std.proofs.Common.{◌≡◌, ◌∙◌, Some, [], ◌∷◌, ◌++◌, ap, length, arith}
-use Rattle.cif_read.specs.declared.file.CifStep.TheVariants.{Own}
-use Rattle.cif_read.specs.Acts.{drawn_box}
-use Rattle.cif_read.specs.Readings.{state_of}
-use Rattle.cif_read.proofs.Scales.{seen_all}
-use Rattle.cif_read.proofs.Placing.{placed_done}
-use Rattle.cif_read.proofs.Sound.{box_drawn, box_added, begun_later}
+use Rattle.cif_read.specs.{declared.file.CifStep.TheVariants.Own, Acts.drawn_box, Readings.state_of}
+use Rattle.cif_read.proofs.{Scales.seen_all, Placing.placed_done, Sound.{box_drawn, box_added, begun_later}}
 use Rattle.cif_read.proofs.state.Reading.place.Goals as goal
 
 pub returns-in_ok-push-2-clause-done : goal.returns-in_ok-push-2-clause-done

@@ -1,11 +1,8 @@
 use lib.Signed.{lt_z}
-use Rattle.std.proofs.Common.{◌≡◌, ℕ, ◌<◌, ◌≤◌, List, length, ℤ, pos, ◌<ℤ◌, w64, to_z, of_z, IsTrue, FitsSigned, rules, refl, sym, ap, subst, ◌∙◌, arith}
-use Rattle.std.proofs.lemmas.Int.{ints, to_z-of_z}
+use Rattle.std.proofs.Common.{◌≡◌, ℕ, ◌<◌, ◌≤◌, List, length, ℤ, pos, ◌<ℤ◌, w64, to_z, of_z, IsTrue, FitsSigned, rules}
+use Rattle.std.proofs.{Common.{refl, sym, ap, subst, ◌∙◌, arith}, lemmas.{Int.{ints, to_z-of_z}, List.get_or_read}}
 use Rattle.std.specs.List.{All}
-use Rattle.std.proofs.lemmas.List.{get_or_read}
-use Rattle.cons_graph.specs.declared.edges.Why.TheVariants.{Size}
-use Rattle.cons_graph.specs.declared.edges.Edge.{Edge}
-use Rattle.cons_graph.specs.EdgeNumbers.{edge_at}
+use Rattle.cons_graph.specs.{declared.edges.{Why.TheVariants.Size, Edge.Edge}, EdgeNumbers.edge_at}
 use Rattle.cons_graph.specs.SimpleWalks.{tails_of, length_of, HasNoRepeat, WalksFromTo, IsSimplePositiveCycle}
 use Rattle.cons_graph.proofs.CycleTest.{few_without_repeat, cycle_says}
 use Rattle.cons_graph.proofs.constraint_graph.Graph.check_cycle.Goals as goal

@@ -1,6 +1,5 @@
 use Rattle.std.proofs.Common.{refl, ap, ◌∙◌}
-use Rattle.cons_graph.specs.Solutions.{Meets, value_of}
-use Rattle.cons_graph.proofs.Lists.{All-take_more_of, All-take_end_of}
+use Rattle.cons_graph.{specs.Solutions.{Meets, value_of}, proofs.Lists.{All-take_more_of, All-take_end_of}}
 use Rattle.cons_graph.proofs.constraint_graph.Graph.holds.Goals as goal
 
 pub loop-edge-preserved : goal.loop-edge-preserved

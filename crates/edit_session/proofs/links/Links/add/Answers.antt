@@ -1,7 +1,6 @@
 use Rattle.std.proofs.Common.{◌≡◌, ℕ, suc, List, [], ◌∷◌, ◌++◌, length, get_or, set, sym, subst, arith}
 use Rattle.std.proofs.lemmas.List.{get_or_read}
-use Rattle.edit_session.specs.Links.{AreLinks}
-use Rattle.edit_session.proofs.Linked.{links_more}
+use Rattle.edit_session.{specs.Links.AreLinks, proofs.Linked.links_more}
 use Rattle.edit_session.proofs.links.Links.add.Goals as goal
 
 pub returns-clause-ok : goal.returns-clause-ok

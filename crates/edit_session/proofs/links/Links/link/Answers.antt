@@ -1,9 +1,7 @@
 use Rattle.std.proofs.Common.{◌≡◌, ℕ, suc, ◌+◌, ◌<◌, List, length, get_or, set, subst, sym, ap, ◌∙◌, arith}
 use Rattle.std.proofs.lemmas.List.{get_or_read}
-use Rattle.cons_graph.specs.declared.edges.Edge.{Edge}
-use Rattle.cons_graph.specs.EdgeNumbers.{edge_at}
-use Rattle.edit_session.specs.Links.{AreLinksUpTo}
-use Rattle.edit_session.proofs.Linked.{links_none, links_one, none}
+use Rattle.cons_graph.specs.{declared.edges.Edge.Edge, EdgeNumbers.edge_at}
+use Rattle.edit_session.{specs.Links.AreLinksUpTo, proofs.Linked.{links_none, links_one, none}}
 use Rattle.edit_session.proofs.links.Links.link.Goals as goal
 
 pub loop-k-init : goal.loop-k-init

@@ -1,14 +1,9 @@
-use Rattle.std.proofs.Common.{◌≡◌, ℕ, suc, ◌<◌, Bool, true, false, not, ℤ, List, [], ◌∷◌, ◌++◌, length, sym, ap, subst, ◌∙◌, refl, arith}
-use Rattle.std.proofs.lemmas.Bool.{true≢false}
-use Rattle.cons_graph.specs.declared.edges.Edge.{Edge}
-use Rattle.cons_graph.specs.Constraints.{IsConstraintGraph, IsSmallGraph, IsEdgeAmong}
-use Rattle.cons_graph.specs.Solutions.{IsLeastSolution, value_of}
-use Rattle.cons_graph.specs.Walks.{HasPositiveCycle}
-use Rattle.edit_session.specs.Links.{AreLinks}
-use Rattle.edit_session.specs.Raised.{IsAppended}
-use Rattle.edit_session.specs.Kept.{IsKept}
-use Rattle.edit_session.proofs.Linked.{length_more}
-use Rattle.edit_session.proofs.Kept.{graph_more, appended, cycle_more}
+use Rattle.std.proofs.Common.{◌≡◌, ℕ, suc, ◌<◌, Bool, true, false, not, ℤ, List, [], ◌∷◌, ◌++◌, length, sym, ap, subst}
+use Rattle.std.proofs.{Common.{◌∙◌, refl, arith}, lemmas.Bool.true≢false}
+use Rattle.cons_graph.specs.{declared.edges.Edge.Edge, Constraints.{IsConstraintGraph, IsSmallGraph, IsEdgeAmong}}
+use Rattle.cons_graph.specs.{Solutions.{IsLeastSolution, value_of}, Walks.HasPositiveCycle}
+use Rattle.edit_session.specs.{Links.AreLinks, Raised.IsAppended, Kept.IsKept}
+use Rattle.edit_session.proofs.{Linked.length_more, Kept.{graph_more, appended, cycle_more}}
 use Rattle.edit_session.proofs.session.Session.add.Goals as goal
 
 -- what is kept of a list with one more edge

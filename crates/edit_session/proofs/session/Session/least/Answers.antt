@@ -1,12 +1,8 @@
-use Rattle.std.proofs.Common.{◌≡◌, ℤ, pos, List, length, sym, ap, subst, arith}
+use Rattle.std.proofs.{Common.{◌≡◌, ℤ, pos, List, length, sym, ap, subst, arith}, lemmas.List.Elements.All-from_get_or}
 use Rattle.std.specs.List.{All}
-use Rattle.std.proofs.lemmas.List.Elements.{All-from_get_or}
-use Rattle.cons_graph.specs.declared.edges.Edge.{Edge}
-use Rattle.cons_graph.specs.Walks.{HasPositiveCycle}
-use Rattle.cons_graph.specs.Solutions.{value_of}
+use Rattle.cons_graph.specs.{declared.edges.Edge.Edge, Walks.HasPositiveCycle, Solutions.value_of}
 use Rattle.liao_wong.specs.Answers.{IsWithinLimit}
-use Rattle.edit_session.proofs.Kept.{no_cycle}
-use Rattle.edit_session.proofs.Sizes.{least_small}
+use Rattle.edit_session.proofs.{Kept.no_cycle, Sizes.least_small}
 use Rattle.edit_session.proofs.session.Session.least.Goals as goal
 
 pub returns-clause-small : goal.returns-clause-small

@@ -1,8 +1,5 @@
-use Rattle.std.proofs.Common.{◌≢◌, ◌<◌, List, length, sym, ap, subst, ◌∙◌}
-use Rattle.std.specs.List.{remove}
-use Rattle.cons_graph.specs.declared.edges.Edge.{Edge}
-use Rattle.cons_graph.specs.Constraints.{IsConstraintGraph}
-use Rattle.cons_graph.specs.EdgeNumbers.{edge_at}
+use Rattle.std.{proofs.Common.{◌≢◌, ◌<◌, List, length, sym, ap, subst, ◌∙◌}, specs.List.remove}
+use Rattle.cons_graph.specs.{declared.edges.Edge.Edge, Constraints.IsConstraintGraph, EdgeNumbers.edge_at}
 use Rattle.edit_session.proofs.Kept.{graph_less}
 use Rattle.edit_session.proofs.session.Session.take.Goals as goal
 

@@ -1,7 +1,6 @@
 use Rattle.std.proofs.Common.{ℕ, false, List, ◌∷◌, length, set, sym, ap, subst, ◌<◌, refl, inl, arith}
 use Rattle.std.specs.VecDeque.{deque_capacity}
-use Rattle.edit_session.specs.Queues.{IsQueueOf}
-use Rattle.edit_session.proofs.Queue.{queue_pop}
+use Rattle.edit_session.{specs.Queues.IsQueueOf, proofs.Queue.queue_pop}
 use Rattle.edit_session.proofs.waiting.Waiting.pop.Goals as goal
 
 pub index_mut-requires : goal.index_mut-requires

@@ -1,8 +1,6 @@
 use Rattle.std.proofs.Common.{◌≡◌, ℕ, false, true, List, length, get_or, set, sym, ap, subst, ◌∙◌, ◌<◌, arith}
-use Rattle.std.proofs.lemmas.List.{get_or_read}
-use Rattle.std.specs.VecDeque.{deque_capacity}
-use Rattle.edit_session.specs.Queues.{IsQueueOf}
-use Rattle.edit_session.proofs.Queue.{room_for, queue_push}
+use Rattle.std.{proofs.lemmas.List.get_or_read, specs.VecDeque.deque_capacity}
+use Rattle.edit_session.{specs.Queues.IsQueueOf, proofs.Queue.{room_for, queue_push}}
 use Rattle.edit_session.proofs.waiting.Waiting.push.Goals as goal
 
 pub push_back_reserved-requires : goal.push_back_reserved-requires

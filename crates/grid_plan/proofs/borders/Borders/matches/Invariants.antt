@@ -1,5 +1,4 @@
-use Rattle.std.proofs.Common.{◌≡◌, take}
-use Rattle.std.specs.List.{flat_map}
+use Rattle.std.{proofs.Common.{◌≡◌, take}, specs.List.flat_map}
 use Rattle.grid_plan.specs.Tables.{meeting_of}
 use Rattle.grid_plan.proofs.borders.Borders.matches.Given as goal
 

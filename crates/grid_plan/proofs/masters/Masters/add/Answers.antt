@@ -1,8 +1,6 @@
 use Rattle.std.proofs.Common.{◌∙◌, ℕ, Option, is_some, ap, sym}
-use Rattle.grid_plan.specs.Numbered.{is_same_number}
-use Rattle.grid_plan.proofs.FirstPlaces.{there_before, there_anew}
-use Rattle.grid_plan.proofs.MastersRead.{read_of}
-use Rattle.grid_plan.proofs.Placing.{is_there, not_there, none_of}
+use Rattle.grid_plan.{specs.Numbered.is_same_number, proofs.FirstPlaces.{there_before, there_anew}}
+use Rattle.grid_plan.proofs.{MastersRead.read_of, Placing.{is_there, not_there, none_of}}
 use Rattle.grid_plan.proofs.masters.Masters.add.Goals as goal
 
 pub returns-in_ok-push : goal.returns-in_ok-push

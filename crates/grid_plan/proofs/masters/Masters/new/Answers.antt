@@ -1,6 +1,4 @@
-use Rattle.std.proofs.Common.{List, ℕ, sym, subst, rules}
-use Rattle.std.proofs.Common.{nat_eq}
-use Rattle.std.specs.List.{IsDistinct}
+use Rattle.std.{proofs.Common.{List, ℕ, sym, subst, rules, nat_eq}, specs.List.IsDistinct}
 use Rattle.grid_plan.proofs.Placing.{none_placed}
 use Rattle.grid_plan.proofs.masters.Masters.new.Goals as goal
 

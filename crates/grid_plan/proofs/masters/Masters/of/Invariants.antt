@@ -1,5 +1,4 @@
-use Rattle.std.proofs.Common.{◌≡◌, [], fold, take}
-use Rattle.std.specs.List.{flat_map}
+use Rattle.std.{proofs.Common.{◌≡◌, [], fold, take}, specs.List.flat_map}
 use Rattle.plan_model.specs.Rows.{add_new}
 use Rattle.grid_plan.specs.Numbered.{is_same_number}
 use Rattle.grid_plan.proofs.masters.Masters.of.Given as goal

@@ -1,6 +1,5 @@
 use Rattle.std.proofs.Common.{◌≡◌, ◌++◌, ◌∙◌, ◌∷◌, [], ap, get_or}
-use Rattle.grid_plan.specs.Numbered.{master_of}
-use Rattle.grid_plan.proofs.Pieces.{map_step}
+use Rattle.grid_plan.{specs.Numbered.master_of, proofs.Pieces.map_step}
 use Rattle.grid_plan.proofs.masters.Masters.place_row.Goals as goal
 
 pub loop-cell-preserved : goal.loop-cell-preserved

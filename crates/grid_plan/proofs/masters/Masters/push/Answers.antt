@@ -1,6 +1,5 @@
 use Rattle.std.proofs.Common.{◌≡◌, ◌<◌, ◌++◌, ◌∷◌, [], List, ℕ, nat_eq, length, Some, set, sym, subst, rules, arith}
-use Rattle.std.specs.List.{All, IsDistinct}
-use Rattle.std.proofs.lemmas.List.Elements.{All-push}
+use Rattle.std.{proofs.lemmas.List.Elements.All-push, specs.List.{All, IsDistinct}}
 use Rattle.grid_plan.proofs.Placing.{Placed, distinct_more, few_distinct, not_there, placed_more}
 use Rattle.grid_plan.proofs.masters.Masters.push.Goals as goal
 

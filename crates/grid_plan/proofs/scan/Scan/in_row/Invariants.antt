@@ -1,8 +1,7 @@
 use Rattle.std.proofs.Common.{◌≡◌, List, drop, vec_len}
 use Rattle.cell_model.specs.declared.cell.CellPort.{CellPort}
 use Rattle.plan_model.specs.Rows.{row_at}
-use Rattle.grid_plan.specs.Faults.{first_found, misfit_here}
-use Rattle.grid_plan.specs.Scan.{IsScanOf}
+use Rattle.grid_plan.specs.{Faults.{first_found, misfit_here}, Scan.IsScanOf}
 use Rattle.grid_plan.proofs.scan.Scan.in_row.Given as goal
 
 abbrev pub invariant-loop-c : goal.invariant-loop-c

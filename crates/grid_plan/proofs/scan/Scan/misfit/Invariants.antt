@@ -1,7 +1,6 @@
 use Rattle.std.proofs.Common.{◌≡◌, List, drop, vec_len}
 use Rattle.cell_model.specs.declared.cell.CellPort.{CellPort}
-use Rattle.grid_plan.specs.Faults.{first_found, misfit_in_row}
-use Rattle.grid_plan.specs.Scan.{IsScanOf}
+use Rattle.grid_plan.specs.{Faults.{first_found, misfit_in_row}, Scan.IsScanOf}
 use Rattle.grid_plan.proofs.scan.Scan.misfit.Given as goal
 
 abbrev pub invariant-loop-r : goal.invariant-loop-r

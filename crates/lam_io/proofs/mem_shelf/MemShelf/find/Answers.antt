@@ -1,6 +1,4 @@
-use Rattle.std.proofs.Common.{◌≡◌, ap, sym, ◌∙◌, get_or, arith}
-use Rattle.std.specs.Prelude.{Some}
-use Rattle.std.specs.Str.{bytes_eq}
+use Rattle.std.{proofs.Common.{◌≡◌, ap, sym, ◌∙◌, get_or, arith}, specs.{Prelude.Some, Str.bytes_eq}}
 use Rattle.lam_io.proofs.StoredFiles.{get-files, found-here, found-later, found-end}
 use Rattle.lam_io.proofs.mem_shelf.MemShelf.find.Goals as goal
 

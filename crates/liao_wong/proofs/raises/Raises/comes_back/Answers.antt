@@ -1,12 +1,8 @@
 use Rattle.std.proofs.Common.{◌≡◌, ℕ, ◌<◌, ◌≤◌, Bool, ◌==◌, List, length, get_or, sym, ap, subst, ◌∙◌, arith}
 use Rattle.std.specs.List.{list_any}
-use Rattle.round_log.specs.declared.log.Entry.{Entry}
-use Rattle.round_log.specs.Looks.{chain}
-use Rattle.round_log.proofs.Chains.{chain-zero}
-use Rattle.liao_wong.specs.Held.{Held, AreArraysOf}
-use Rattle.round_log.specs.Logs.{raises_of}
-use Rattle.round_log.proofs.Entries.{IsChainStep}
-use Rattle.liao_wong.proofs.Arrays.{chain_read, found_in_chain, not_found_yet}
+use Rattle.round_log.specs.{declared.log.Entry.Entry, Looks.chain, Logs.raises_of}
+use Rattle.round_log.proofs.{Chains.chain-zero, Entries.IsChainStep}
+use Rattle.liao_wong.{specs.Held.{Held, AreArraysOf}, proofs.Arrays.{chain_read, found_in_chain, not_found_yet}}
 use Rattle.liao_wong.proofs.raises.Raises.comes_back.Goals as goal
 
 -- the entry that is read is the next one of the chain

@@ -1,5 +1,4 @@
-use Rattle.std.proofs.Common.{◌≡◌, ◌≤◌, ◌==◌, length}
-use Rattle.std.specs.List.{list_any}
+use Rattle.std.{proofs.Common.{◌≡◌, ◌≤◌, ◌==◌, length}, specs.List.list_any}
 use Rattle.round_log.specs.Looks.{chain}
 use Rattle.liao_wong.proofs.raises.Raises.comes_back.Given as goal
 

@@ -1,11 +1,9 @@
 use Rattle.std.proofs.Common.{◌≡◌, List, w64, FitsSigned, Some, None, length, rules, ap, subst, ◌∙◌, arith}
 use Rattle.std.proofs.lemmas.Int.{to_z-of_z}
-use Rattle.round_log.specs.declared.log.Entry.{Entry}
-use Rattle.round_log.specs.Looks.{label}
-use Rattle.round_log.specs.Logs.{raises_of}
+use Rattle.round_log.specs.{declared.log.Entry.Entry, Looks.label, Logs.raises_of}
 use Rattle.liao_wong.proofs.Arrays.{latest_low, in_entries, label_missing, label_found}
-use Rattle.liao_wong.proofs.raises.Raises.label.Goals as goal
 use Rattle.liao_wong.proofs.raises.Raises.label.Goals.{else-n-eq0-via-then-n-eq0+else-v-ne0, else-n-eq0-via-else-n-eq0}
+use Rattle.liao_wong.proofs.raises.Raises.label.Goals as goal
 
 pub returns-then-v-ne0 : goal.returns-then-v-ne0
 returns-then-v-ne0 c =

@@ -1,6 +1,5 @@
 use Rattle.std.proofs.Common.{◌≤◌, List, length, ap, subst, arith}
-use Rattle.round_log.specs.declared.log.Entry.{Entry}
-use Rattle.round_log.specs.Logs.{raises_of}
+use Rattle.round_log.specs.{declared.log.Entry.Entry, Logs.raises_of}
 use Rattle.liao_wong.proofs.Arrays.{latest_low}
 use Rattle.liao_wong.proofs.raises.Raises.latest.Goals as goal
 

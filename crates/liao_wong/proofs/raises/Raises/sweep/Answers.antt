@@ -1,9 +1,6 @@
-use Rattle.std.proofs.Common.{ℕ, ◌<◌, Bool, List, length, refl, sym, ap, subst, ◌∙◌}
-use Rattle.std.specs.List.{All}
-use Rattle.round_log.specs.declared.log.Entry.{Entry}
-use Rattle.round_log.specs.Logs.{raises_of}
-use Rattle.liao_wong.specs.Held.{Held, AreArraysOf}
-use Rattle.liao_wong.specs.Sweeping.{AreNewNumbers, IsSwept}
+use Rattle.std.{proofs.Common.{ℕ, ◌<◌, Bool, List, length, refl, sym, ap, subst, ◌∙◌}, specs.List.All}
+use Rattle.round_log.specs.{declared.log.Entry.Entry, Logs.raises_of}
+use Rattle.liao_wong.specs.{Held.{Held, AreArraysOf}, Sweeping.{AreNewNumbers, IsSwept}}
 use Rattle.liao_wong.proofs.Sweeps.{AreLeft, left_by, last_numbered}
 use Rattle.liao_wong.proofs.raises.Raises.sweep.Goals as goal
 

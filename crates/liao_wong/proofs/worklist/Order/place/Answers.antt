@@ -1,7 +1,5 @@
-use Rattle.std.proofs.Common.{◌≡◌, ◌<◌, length, ◌∙◌, arith}
-use Rattle.std.proofs.lemmas.List.{get_or_read}
-use Rattle.round_log.specs.Looks.{place_in}
-use Rattle.round_log.proofs.Planned.{In-from_contains, place_in_range}
+use Rattle.std.proofs.{Common.{◌≡◌, ◌<◌, length, ◌∙◌, arith}, lemmas.List.get_or_read}
+use Rattle.round_log.{specs.Looks.place_in, proofs.Planned.{In-from_contains, place_in_range}}
 use Rattle.liao_wong.proofs.worklist.Order.place.Goals as goal
 
 pub returns-clause-in_order : goal.returns-clause-in_order

@@ -3,8 +3,7 @@ use Rattle.cons_graph.specs.declared.edges.Edge.{Edge}
 use Rattle.sym_items.specs.declared.items.Coords.{Coords}
 use Rattle.expand.specs.declared.master.Master.{Master}
 use Rattle.pitch_join.specs.Joined.{bases_of, joint_variables, list_over}
-use Rattle.pass_run.specs.Layouts.{starts_of}
-use Rattle.pass_run.specs.declared.first.FirstPass.{FirstPass}
+use Rattle.pass_run.specs.{Layouts.starts_of, declared.first.FirstPass.FirstPass}
 use Rattle.pass_run.proofs.SamePasses.{are_bared, bared_laid, first_made}
 use Rattle.pass_run.proofs.first.FirstPass.new.Goals as goal
 

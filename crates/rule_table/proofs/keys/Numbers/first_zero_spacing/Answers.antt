@@ -1,11 +1,9 @@
 use Rattle.std.proofs.Common.{◌≡◌, ℕ, ℤ, Bool, List, [], ◌∷◌, ◌++◌, take, drop, Option, refl, sym, inl, inr}
-use Rattle.std.specs.Prelude.{if◌then◌else◌}
-use Rattle.std.specs.Option.{option_or}
-use Rattle.std.proofs.lemmas.Bool.{cases_Bool}
+use Rattle.std.{proofs.lemmas.Bool.cases_Bool, specs.{Prelude.if◌then◌else◌, Option.option_or}}
 use Rattle.rule_table.specs.Keys.{common_numbers, buried_numbers, has_buried, first_key, spacings, is_zero}
 use Rattle.rule_table.specs.declared.keys.Numbers.{Numbers}
-use Rattle.rule_table.proofs.keys.Numbers.first_zero_spacing.Goals as goal
 use Rattle.rule_table.proofs.keys.Numbers.first_zero_spacing.Goals.{then-has_buried, else-has_buried}
+use Rattle.rule_table.proofs.keys.Numbers.first_zero_spacing.Goals as goal
 
 first_of_two : (fails : ℤ → Bool) (ks rest : List (ℕ × ℤ)) → first_key fails (ks ++ rest) ≡ option_or (first_key fails ks) (first_key fails rest)
 unfolding first_key

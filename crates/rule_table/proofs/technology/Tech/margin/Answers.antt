@@ -1,8 +1,6 @@
-use Rattle.std.proofs.Common.{arith, rules, to_z-of_z, w64}
+use Rattle.std.proofs.{Common.{arith, rules, to_z-of_z, w64}, lemmas.Int.ints}
 use mir.Val.{SFits}
-use Rattle.std.proofs.lemmas.Int.{ints}
-use Rattle.rule_table.proofs.Sound.{sound}
-use Rattle.rule_table.proofs.Margins.{margin_low, margin_exactly, margin_below, widest_above}
+use Rattle.rule_table.proofs.{Sound.sound, Margins.{margin_low, margin_exactly, margin_below, widest_above}}
 use Rattle.rule_table.proofs.technology.Tech.margin.Goals as goal
 
 pub returns-clause-bounds : goal.returns-clause-bounds

@@ -1,7 +1,5 @@
 use Rattle.std.proofs.Common.{◌≡◌, None, refl, sym, ◌∙◌}
-use Rattle.rule_table.specs.Faults.{fault_of}
-use Rattle.rule_table.proofs.Sound.{sound}
-use Rattle.rule_table.proofs.Complete.{complete}
+use Rattle.rule_table.{specs.Faults.fault_of, proofs.{Sound.sound, Complete.complete}}
 use Rattle.rule_table.proofs.technology.Tech.new.Goals as goal
 
 pub returns-in-Some-clause-exactly : goal.returns-in-Some-clause-exactly

@@ -1,8 +1,6 @@
-use Rattle.std.proofs.Common.{arith, rules, to_z-of_z, w64}
+use Rattle.std.proofs.{Common.{arith, rules, to_z-of_z, w64}, lemmas.Int.ints}
 use mir.Val.{SFits}
-use Rattle.std.proofs.lemmas.Int.{ints}
-use Rattle.rule_table.proofs.Sound.{sound}
-use Rattle.rule_table.proofs.Widths.{pad_bounds, pad_even, width_within}
+use Rattle.rule_table.proofs.{Sound.sound, Widths.{pad_bounds, pad_even, width_within}}
 use Rattle.rule_table.proofs.technology.Tech.pad.Goals as goal
 
 pub pad-requires : goal.pad-requires

@@ -1,6 +1,5 @@
 use Rattle.std.proofs.Common.{◌∙◌}
-use Rattle.rule_table.proofs.Sound.{sound}
-use Rattle.rule_table.proofs.Margins.{spacing_bounds, spacing_in-symmetric, within_margins}
+use Rattle.rule_table.proofs.{Sound.sound, Margins.{spacing_bounds, spacing_in-symmetric, within_margins}}
 use Rattle.rule_table.proofs.technology.Tech.spacing.Goals as goal
 
 pub returns-clause-either_order : goal.returns-clause-either_order

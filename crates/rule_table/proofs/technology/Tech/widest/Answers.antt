@@ -1,7 +1,5 @@
-use Rattle.std.proofs.Common.{arith}
-use Rattle.std.proofs.lemmas.Int.{ints}
-use Rattle.rule_table.proofs.Sound.{sound}
-use Rattle.rule_table.proofs.Margins.{widest_positive, widest_below, widest_above}
+use Rattle.std.proofs.{Common.arith, lemmas.Int.ints}
+use Rattle.rule_table.proofs.{Sound.sound, Margins.{widest_positive, widest_below, widest_above}}
 use Rattle.rule_table.proofs.technology.Tech.widest.Goals as goal
 
 pub returns-clause-bounds : goal.returns-clause-bounds

@@ -1,8 +1,6 @@
-use Rattle.std.proofs.Common.{arith, rules, to_z-of_z, w64}
+use Rattle.std.proofs.{Common.{arith, rules, to_z-of_z, w64}, lemmas.Int.ints}
 use mir.Val.{SFits}
-use Rattle.std.proofs.lemmas.Int.{ints}
-use Rattle.rule_table.proofs.Sound.{sound}
-use Rattle.rule_table.proofs.Widths.{size_of_width, width_within}
+use Rattle.rule_table.proofs.{Sound.sound, Widths.{size_of_width, width_within}}
 use Rattle.rule_table.proofs.technology.Tech.width.Goals as goal
 
 pub returns-clause-size : goal.returns-clause-size

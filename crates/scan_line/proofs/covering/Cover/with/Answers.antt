@@ -1,6 +1,5 @@
 use Rattle.std.proofs.Common.{refl, sym, subst}
-use Rattle.scan_line.specs.Cover.{IsIn}
-use Rattle.scan_line.specs.declared.covering.Cover.{Cover}
+use Rattle.scan_line.specs.{Cover.IsIn, declared.covering.Cover.Cover}
 use Rattle.scan_line.proofs.covering.Cover.with.Goals as goal
 
 pub bounds-items-a : goal.bounds-items-a

@@ -1,7 +1,5 @@
 use Rattle.std.proofs.Common.{◌≡◌, ℕ, length, take, reverse}
-use Rattle.scan_line.specs.Cover.{IsIn, IsMixed}
-use Rattle.scan_line.proofs.PairRuns.{pairs_of}
-use Rattle.scan_line.proofs.FrontPairs.{IsTaken}
+use Rattle.scan_line.{specs.Cover.{IsIn, IsMixed}, proofs.{PairRuns.pairs_of, FrontPairs.IsTaken}}
 use Rattle.scan_line.proofs.lanes.Lanes.front.Given as goal
 
 abbrev pub invariant-loop-i : goal.invariant-loop-i

@@ -1,5 +1,4 @@
-use Rattle.std.proofs.Common.{arith}
-use Rattle.std.proofs.lemmas.Int.{ints}
+use Rattle.std.proofs.{Common.arith, lemmas.Int.ints}
 use Rattle.pair_rules.specs.Bound.{no_item}
 use Rattle.scan_line.proofs.Reach.{near_and_before}
 use Rattle.scan_line.proofs.lanes.Lanes.line_facing.Goals as goal

@@ -1,5 +1,4 @@
-use Rattle.std.proofs.Common.{◌≡◌, ◌∙◌, w64}
-use Rattle.std.proofs.lemmas.Int.{to_z-of_z}
+use Rattle.std.proofs.{Common.{◌≡◌, ◌∙◌, w64}, lemmas.Int.to_z-of_z}
 use Rattle.scan_line.specs.Begins.{begins_of}
 use Rattle.scan_line.proofs.Scanned.{order_by_begins, begins_before, IsPartBefore, part_in_order, part_before}
 use Rattle.scan_line.proofs.lanes.Lanes.line_to.Goals as goal

@@ -1,14 +1,9 @@
-use Rattle.std.proofs.Common.{◌≡◌, ℕ, List, ap, subst, sym, arith}
+use Rattle.std.proofs.{Common.{◌≡◌, ℕ, List, ap, subst, sym, arith}, lemmas.{Int.ints, List.Elements.All-same}}
 use Rattle.std.specs.List.{All}
-use Rattle.std.proofs.lemmas.Int.{ints}
-use Rattle.std.proofs.lemmas.List.Elements.{All-same}
-use Rattle.scan_line.specs.declared.level.Level.{Level}
-use Rattle.scan_line.specs.Levels.{IsLevelOf}
-use Rattle.sym_items.specs.Sides.{Sides}
-use Rattle.pair_rules.specs.Bound.{item_at}
-use Rattle.pair_rules.specs.Candidates.{sides_at}
-use Rattle.scan_line.specs.Lanes.{IsListNear}
+use Rattle.scan_line.specs.{declared.level.Level.Level, Levels.IsLevelOf, Lanes.IsListNear}
 use Rattle.scan_line.proofs.NearAcross.{order_near, lane_near}
+use Rattle.sym_items.specs.Sides.{Sides}
+use Rattle.pair_rules.specs.{Bound.item_at, Candidates.sides_at}
 use Rattle.scan_line.proofs.lanes.Lanes.list_near.Goals as goal
 
 pub returns-in-Some : goal.returns-in-Some

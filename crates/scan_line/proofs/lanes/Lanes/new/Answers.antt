@@ -1,8 +1,5 @@
-use Rattle.std.proofs.Common.{arith, subst, List, ℕ, ℤ}
-use Rattle.std.specs.List.{All}
-use Rattle.scan_line.specs.Begins.{IsOrderOf}
-use Rattle.scan_line.specs.Order.{IsScanOrder}
-use Rattle.scan_line.specs.Levels.{IsLevelOf}
+use Rattle.std.{proofs.Common.{arith, subst, List, ℕ, ℤ}, specs.List.All}
+use Rattle.scan_line.specs.{Begins.IsOrderOf, Order.IsScanOrder, Levels.IsLevelOf}
 use Rattle.scan_line.proofs.Scanned.{begins_len, scan_order}
 use Rattle.scan_line.proofs.lanes.Lanes.new.Goals as goal
 

@@ -1,10 +1,7 @@
 use Rattle.std.proofs.Common.{◌≡◌, ◌<◌, List, length, refl, sym, ap, ◌∙◌, subst, arith}
-use Rattle.std.proofs.lemmas.Option.{slice_get_within}
-use Rattle.std.proofs.lemmas.List.Elements.{All-same, All-weaker}
-use Rattle.pair_rules.specs.declared.pairs.Pair.{Pair}
-use Rattle.pair_rules.specs.Candidates.{candidates_to}
-use Rattle.scan_line.specs.declared.scan.Near.{Near}
-use Rattle.scan_line.specs.Scan.{AreFirstOf, order_of, come_to}
+use Rattle.std.proofs.lemmas.{Option.slice_get_within, List.Elements.{All-same, All-weaker}}
+use Rattle.pair_rules.specs.{declared.pairs.Pair.Pair, Candidates.candidates_to}
+use Rattle.scan_line.specs.{declared.scan.Near.Near, Scan.{AreFirstOf, order_of, come_to}}
 use Rattle.scan_line.proofs.PairRuns.{IsPairTo, all_to}
 use Rattle.scan_line.proofs.scan.Scan.advance.Goals as goal
 

@@ -1,7 +1,5 @@
-use Rattle.std.proofs.Common.{List, All, subst, take_all, arith}
-use Rattle.std.proofs.lemmas.List.Elements.{All-more}
-use Rattle.sym_items.specs.declared.items.Item.{Item}
-use Rattle.sym_items.specs.Boxes.{HasBox}
+use Rattle.std.proofs.{Common.{List, All, subst, take_all, arith}, lemmas.List.Elements.All-more}
+use Rattle.sym_items.specs.{declared.items.Item.Item, Boxes.HasBox}
 use Rattle.scan_tests.proofs.tests.boxed.have_boxes.Goals as goal
 
 pub loop-item-preserved : goal.loop-item-preserved

@@ -1,14 +1,10 @@
 use Rattle.std.proofs.Common.{◌≡◌, ℕ, ◌+◌, ◌≤◌, length, vec_len, sym, ap, subst, ◌∙◌, arith}
-use Rattle.stick_cell.specs.Known.{known_at, cell_of}
-use Rattle.stick_cell.specs.Counts.{weight_of}
+use Rattle.stick_cell.specs.{Known.{known_at, cell_of}, Counts.weight_of, Steps.{apply, IsStep}, Tables.known_of}
+use Rattle.stick_cell.{specs.Inlining.cells_before, proofs.Grown.{sound-known_at, light-cell_of}}
+use Rattle.stick_cell.proofs.{Stepping.weight-apply, TableReads.{vec_len-tables, table_read}, StepsInlined.grown_cells}
+use Rattle.stick_cell.proofs.StepsInlined.{steps_read, none_read, at_step_read, step_was_read, all_read, IsCopyOf}
+use Rattle.stick_cell.proofs.StepsInlined.{copy_of, room_for, places_fit, wires_fit, limits_fit, ends_of_sound}
 use Rattle.cell_model.specs.Sound.{IsSound, IsLight}
-use Rattle.stick_cell.specs.Steps.{apply, IsStep}
-use Rattle.stick_cell.specs.Tables.{known_of}
-use Rattle.stick_cell.specs.Inlining.{cells_before}
-use Rattle.stick_cell.proofs.Grown.{sound-known_at, light-cell_of}
-use Rattle.stick_cell.proofs.Stepping.{weight-apply}
-use Rattle.stick_cell.proofs.TableReads.{vec_len-tables, table_read}
-use Rattle.stick_cell.proofs.StepsInlined.{grown_cells, steps_read, none_read, at_step_read, step_was_read, all_read, IsCopyOf, copy_of, room_for, places_fit, wires_fit, limits_fit, ends_of_sound}
 use Rattle.stick_cell.proofs.cells.Cells.+inlining.Goals as goal
 
 -- ---- one more line

@@ -1,8 +1,5 @@
-use Rattle.std.proofs.Common.{◌≡◌, Some, sym, ◌∙◌, arith}
-use Rattle.std.proofs.Math.Facts.{Fits-of_lt}
-use Rattle.stick_cell.specs.Lines.{number_of}
-use Rattle.stick_cell.specs.Tables.{known_of}
-use Rattle.stick_cell.proofs.TableReads.{number_found, number-lt, few_known}
+use Rattle.std.proofs.{Common.{◌≡◌, Some, sym, ◌∙◌, arith}, Math.Facts.Fits-of_lt}
+use Rattle.stick_cell.{specs.{Lines.number_of, Tables.known_of}, proofs.TableReads.{number_found, number-lt, few_known}}
 use Rattle.stick_cell.proofs.cells.Cells.find.Goals as goal
 
 -- the place is the cell's number

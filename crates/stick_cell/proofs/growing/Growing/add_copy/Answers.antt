@@ -1,13 +1,9 @@
-use Rattle.std.proofs.Common.{◌≡◌, ℕ, ◌+◌, map, length, refl, ap, ◌∙◌, arith}
-use Rattle.std.proofs.lemmas.List.{length-append, length-map}
-use Rattle.stick_cell.specs.declared.names.Thing.{Thing}
-use Rattle.stick_cell.specs.declared.names.Thing.TheVariants as things
-use Rattle.stick_cell.specs.Known.{known_at, with_copy, copied_node, copied_wire}
-use Rattle.stick_cell.specs.Counts.{weight_of, boxes_of}
-use Rattle.stick_cell.specs.NameEntries.{entries_of}
+use Rattle.std.proofs.{Common.{◌≡◌, ℕ, ◌+◌, map, length, refl, ap, ◌∙◌, arith}, lemmas.List.{length-append, length-map}}
+use Rattle.stick_cell.specs.{declared.names.Thing.Thing, Known.{known_at, with_copy, copied_node, copied_wire}}
+use Rattle.stick_cell.specs.{Counts.{weight_of, boxes_of}, NameEntries.entries_of}
 use Rattle.stick_cell.proofs.Counting.{counted, counted_copy, weight-with_copy, boxes-with_copy, most-copies}
-use Rattle.stick_cell.proofs.LineSteps.{names-push, below-more}
-use Rattle.stick_cell.proofs.Stepping.{steps-push}
+use Rattle.stick_cell.proofs.{LineSteps.{names-push, below-more}, Stepping.steps-push}
+use Rattle.stick_cell.specs.declared.names.Thing.TheVariants as things
 use Rattle.stick_cell.proofs.growing.Growing.add_copy.Goals as goal
 
 pub returns-clause-grows : goal.returns-clause-grows

@@ -1,15 +1,10 @@
-use Rattle.std.proofs.Common.{ℕ, ◌+◌, max, length, refl, sym, ap, ◌∙◌, arith}
-use Rattle.std.proofs.lemmas.List.{length_push}
-use Rattle.cell_model.specs.declared.cell.Node.{Node}
-use Rattle.stick_cell.specs.declared.names.Thing.{Thing}
-use Rattle.stick_cell.specs.declared.names.Thing.TheVariants as things
-use Rattle.stick_cell.specs.Known.{with_node}
-use Rattle.stick_cell.specs.Counts.{weight_of, boxes_of, capped}
-use Rattle.cell_model.specs.Counts.{kind_items, kind_boxes}
+use Rattle.std.proofs.{Common.{ℕ, ◌+◌, max, length, refl, sym, ap, ◌∙◌, arith}, lemmas.List.length_push}
+use Rattle.cell_model.specs.{declared.cell.Node.Node, Counts.{kind_items, kind_boxes}}
+use Rattle.stick_cell.specs.{declared.names.Thing.Thing, Known.with_node, Counts.{weight_of, boxes_of, capped}}
 use Rattle.stick_cell.specs.NameEntries.{entries_of}
 use Rattle.stick_cell.proofs.Counting.{counted, weight-with_node, boxes-with_node, greatest_col-push, greatest_row-push}
-use Rattle.stick_cell.proofs.LineSteps.{names-push}
-use Rattle.stick_cell.proofs.Stepping.{steps-push}
+use Rattle.stick_cell.proofs.{LineSteps.names-push, Stepping.steps-push}
+use Rattle.stick_cell.specs.declared.names.Thing.TheVariants as things
 use Rattle.stick_cell.proofs.growing.Growing.add_node.Goals as goal
 
 pub returns-clause-grows : goal.returns-clause-grows

@@ -1,15 +1,9 @@
-use Rattle.std.proofs.Common.{◌≡◌, ℕ, [], ◌∷◌, ◌++◌, false, length, refl, sym, ap, ◌∙◌, arith}
-use Rattle.std.specs.Prelude.{pos}
-use Rattle.std.proofs.lemmas.List.{map-append, length-map}
-use Rattle.stick_cell.specs.declared.names.Thing.{Thing}
+use Rattle.std.proofs.{Common.{◌≡◌, ℕ, [], ◌∷◌, ◌++◌, false, length, refl, sym, ap, ◌∙◌, arith}, lemmas.List.map-append}
+use Rattle.std.{proofs.lemmas.List.length-map, specs.Prelude.pos}
+use Rattle.stick_cell.specs.{declared.names.Thing.Thing, Known.{Plug, with_port}, Counts.capped, NameEntries.entries_of}
+use Rattle.stick_cell.{specs.Growing.port_so_far, proofs.Counting.{weight-with_port, boxes-with_port}}
+use Rattle.stick_cell.proofs.{LineSteps.{names-push, below-push}, Stepping.steps-push}
 use Rattle.stick_cell.specs.declared.names.Thing.TheVariants as things
-use Rattle.stick_cell.specs.Known.{Plug, with_port}
-use Rattle.stick_cell.specs.Counts.{capped}
-use Rattle.stick_cell.specs.NameEntries.{entries_of}
-use Rattle.stick_cell.specs.Growing.{port_so_far}
-use Rattle.stick_cell.proofs.Counting.{weight-with_port, boxes-with_port}
-use Rattle.stick_cell.proofs.LineSteps.{names-push, below-push}
-use Rattle.stick_cell.proofs.Stepping.{steps-push}
 use Rattle.stick_cell.proofs.growing.Growing.add_port.Goals as goal
 
 pub returns-clause-grows : goal.returns-clause-grows

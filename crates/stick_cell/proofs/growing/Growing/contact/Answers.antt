@@ -1,10 +1,7 @@
 use Rattle.std.proofs.Common.{Ok, Err, sym, ap, subst, ◌∙◌}
 use Rattle.cell_model.specs.declared.cell.NodeKind.{NodeKind}
 use Rattle.cell_model.specs.declared.cell.NodeKind.TheVariants as kinds
-use Rattle.stick_cell.specs.Growing.{IsGrowing}
-use Rattle.stick_cell.specs.Checks.{layer_of}
-use Rattle.stick_cell.specs.Known.{with_node}
-use Rattle.stick_cell.specs.NameEntries.{entries_of}
+use Rattle.stick_cell.specs.{Growing.IsGrowing, Checks.layer_of, Known.with_node, NameEntries.entries_of}
 use Rattle.stick_cell.proofs.LineSteps.{grows-memory, grows-residual, placed-kept, contact-by}
 use Rattle.stick_cell.proofs.growing.Growing.contact.Goals as goal
 

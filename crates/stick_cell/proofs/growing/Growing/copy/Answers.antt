@@ -1,11 +1,6 @@
-use Rattle.std.proofs.Common.{◌≡◌, true, false, not, None, Ok, Err, refl, sym, ap, ◌∙◌, rules}
-use Rattle.std.specs.Prelude.{bytes_eq}
-use Rattle.stick_cell.specs.Checks.{is_fresh}
-use Rattle.stick_cell.specs.Known.{known_at, with_copy}
-use Rattle.stick_cell.specs.Lines.{number_of}
-use Rattle.stick_cell.specs.NameEntries.{entries_of}
-use Rattle.stick_cell.proofs.TableReads.{position-name}
-use Rattle.stick_cell.proofs.LineSteps.{grows-memory, grows-residual, is_fresh-capped}
+use Rattle.std.{proofs.Common.{◌≡◌, true, false, not, None, Ok, Err, refl, sym, ap, ◌∙◌, rules}, specs.Prelude.bytes_eq}
+use Rattle.stick_cell.specs.{Checks.is_fresh, Known.{known_at, with_copy}, Lines.number_of, NameEntries.entries_of}
+use Rattle.stick_cell.proofs.{TableReads.position-name, LineSteps.{grows-memory, grows-residual, is_fresh-capped}}
 use Rattle.stick_cell.proofs.UseSteps.{use-by, use-found}
 use Rattle.stick_cell.proofs.growing.Growing.copy.Goals as goal
 

@@ -2,10 +2,7 @@ use Rattle.std.proofs.Common.{◌≡◌, true, false, Ok, Err, refl, sym, ap, su
 use Rattle.std.specs.Prelude.{pos}
 use Rattle.cell_model.specs.declared.cell.NodeKind.{NodeKind}
 use Rattle.cell_model.specs.declared.cell.NodeKind.TheVariants as kinds
-use Rattle.stick_cell.specs.Growing.{IsGrowing}
-use Rattle.stick_cell.specs.Checks.{is_channel}
-use Rattle.stick_cell.specs.Lines.{axis_where}
-use Rattle.stick_cell.specs.Known.{with_node}
+use Rattle.stick_cell.specs.{Growing.IsGrowing, Checks.is_channel, Lines.axis_where, Known.with_node}
 use Rattle.stick_cell.specs.NameEntries.{entries_of}
 use Rattle.stick_cell.proofs.LineSteps.{grows-memory, grows-residual, placed-kept, fet-by}
 use Rattle.stick_cell.proofs.growing.Growing.fet.Goals as goal

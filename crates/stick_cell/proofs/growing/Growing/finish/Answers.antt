@@ -1,10 +1,8 @@
 use Rattle.std.proofs.Common.{sym, subst}
-use Rattle.stick_cell.specs.declared.table.Table.{Table}
-use Rattle.stick_cell.specs.Steps.{AreStepsOf}
-use Rattle.stick_cell.specs.Tables.{IsTableOf}
+use Rattle.stick_cell.specs.{declared.table.Table.Table, Steps.AreStepsOf, Tables.IsTableOf}
 use Rattle.stick_cell.proofs.Finishing.{ports-forgotten, ports-told}
-use Rattle.stick_cell.proofs.growing.Growing.finish.Goals as goal
 use Rattle.stick_cell.proofs.growing.Growing.finish.Goals.{then-table-gt-MOST_ITEMS, else-table-gt-MOST_ITEMS}
+use Rattle.stick_cell.proofs.growing.Growing.finish.Goals as goal
 
 pub returns-clause-table : goal.returns-clause-table
 returns-clause-table c = λ cells known is.

@@ -1,8 +1,6 @@
 use Rattle.std.proofs.Common.{◌∙◌}
-use Rattle.stick_cell.specs.Paths.{found_at}
-use Rattle.stick_cell.specs.NameEntries.{entries_of}
-use Rattle.stick_cell.proofs.KeptPaths.{found_at-kept}
-use Rattle.stick_cell.proofs.WireSteps.{found-known}
+use Rattle.stick_cell.specs.{Paths.found_at, NameEntries.entries_of}
+use Rattle.stick_cell.proofs.{KeptPaths.found_at-kept, WireSteps.found-known}
 use Rattle.stick_cell.proofs.growing.Growing.found.Goals as goal
 
 pub returns : goal.returns

@@ -1,10 +1,7 @@
 use Rattle.std.proofs.Common.{◌≡◌, Ok, Err, refl, sym, ap, subst, ◌∙◌, rules, w64, to_z, of_z}
 use Rattle.cell_model.specs.declared.cell.NodeKind.{NodeKind}
 use Rattle.cell_model.specs.declared.cell.NodeKind.TheVariants as kinds
-use Rattle.stick_cell.specs.Growing.{IsGrowing}
-use Rattle.stick_cell.specs.Checks.{layer_of, sized}
-use Rattle.stick_cell.specs.Known.{with_node}
-use Rattle.stick_cell.specs.NameEntries.{entries_of}
+use Rattle.stick_cell.specs.{Growing.IsGrowing, Checks.{layer_of, sized}, Known.with_node, NameEntries.entries_of}
 use Rattle.stick_cell.proofs.LineSteps.{grows-memory, grows-residual, placed-kept, joint-by}
 use Rattle.stick_cell.proofs.growing.Growing.joint.Goals as goal
 

@@ -1,16 +1,10 @@
-use Rattle.std.proofs.Common.{◌≡◌, true, false, not, Ok, refl, sym, ap, ◌∙◌, arith, rules}
-use Rattle.std.specs.Prelude.{bytes_eq}
-use Rattle.stick_parse.specs.declared.fault.StickKind.TheVariants.{BadLimit}
-use Rattle.stick_parse.specs.Reading.{◌>>=◌}
+use Rattle.std.{proofs.Common.{◌≡◌, true, false, not, Ok, refl, sym, ap, ◌∙◌, arith, rules}, specs.Prelude.bytes_eq}
+use Rattle.stick_parse.specs.{declared.fault.StickKind.TheVariants.BadLimit, Reading.◌>>=◌}
 use Rattle.cell_model.specs.declared.cell.Limit.{Limit}
-use Rattle.stick_cell.specs.Checks.{demand}
-use Rattle.stick_cell.specs.Wires.{limited}
-use Rattle.stick_cell.specs.Known.{with_limit}
-use Rattle.stick_cell.specs.Kept.{capped_spot}
-use Rattle.stick_cell.specs.Counts.{weight_of, capped}
-use Rattle.stick_cell.proofs.Counting.{counted, weight-with_limit, boxes-with_limit}
-use Rattle.stick_cell.proofs.LineSteps.{grows-memory, grows-residual}
-use Rattle.stick_cell.proofs.WireSteps.{limit-unknown, limit-unknown_end, limit-ends, limit_of, limits_of, limit-exact, result_map-err, result_map-ok}
+use Rattle.stick_cell.specs.{Checks.demand, Wires.limited, Known.with_limit, Kept.capped_spot, Counts.weight_of}
+use Rattle.stick_cell.{specs.Counts.capped, proofs.Counting.{counted, weight-with_limit, boxes-with_limit}}
+use Rattle.stick_cell.proofs.{LineSteps.{grows-memory, grows-residual}, WireSteps.{limit-unknown, limit-unknown_end}}
+use Rattle.stick_cell.proofs.WireSteps.{limit-ends, limit_of, limits_of, limit-exact, result_map-err, result_map-ok}
 use Rattle.stick_cell.proofs.Stepping.{steps-push}
 use Rattle.stick_cell.proofs.growing.Growing.limit.Goals as goal
 

@@ -1,7 +1,5 @@
 use Rattle.std.proofs.Common.{sym, subst, rules}
-use Rattle.stick_cell.specs.Lines.{after_form}
-use Rattle.stick_cell.specs.Growing.{Grows}
-use Rattle.stick_cell.proofs.LineSides.{IsNoWire, grows_with}
+use Rattle.stick_cell.{specs.{Lines.after_form, Growing.Grows}, proofs.LineSides.{IsNoWire, grows_with}}
 use Rattle.stick_cell.proofs.growing.Growing.line.Goals as goal
 
 pub returns-in-Joint : goal.returns-in-Joint

@@ -1,9 +1,6 @@
 use Rattle.std.proofs.Common.{Ok, Err, sym, subst, ◌∙◌}
 use Rattle.rule_table.specs.declared.classes.Layer.{Layer}
-use Rattle.stick_cell.specs.Growing.{IsGrowing}
-use Rattle.stick_cell.specs.Checks.{layer_of}
-use Rattle.stick_cell.specs.Known.{with_port}
-use Rattle.stick_cell.specs.NameEntries.{entries_of}
+use Rattle.stick_cell.specs.{Growing.IsGrowing, Checks.layer_of, Known.with_port, NameEntries.entries_of}
 use Rattle.stick_cell.proofs.LineSteps.{grows-memory, grows-residual, placed-kept, port-by}
 use Rattle.stick_cell.proofs.growing.Growing.port.Goals as goal
 

@@ -1,27 +1,16 @@
 use Rattle.std.proofs.Common.{◌≡◌, List, Ok, sym, ap, subst, ◌∙◌}
-use Rattle.stick_parse.specs.Reading.{◌>>=◌}
+use Rattle.stick_parse.specs.{Reading.◌>>=◌, Writable.IsPath}
 use Rattle.rule_table.specs.declared.classes.Layer.{Layer}
 use Rattle.cell_model.specs.declared.cell.Wire.{Wire}
-use Rattle.stick_cell.specs.declared.names.Run.{Run}
-use Rattle.stick_cell.specs.declared.sides.SideMap.{SideMap}
-use Rattle.stick_cell.specs.Checks.{layer_of}
-use Rattle.stick_cell.specs.Wires.{are_sides_free, wire_where}
-use Rattle.stick_cell.specs.Lines.{wired_of, after_wire}
-use Rattle.stick_cell.specs.Known.{Known, with_wire}
-use Rattle.stick_cell.specs.Kept.{capped_wire}
-use Rattle.stick_cell.specs.Sides.{side_entries, AreSidesOf, HaveSides, AreMarked}
-use Rattle.stick_cell.proofs.GrownForms.{wire_grown}
-use Rattle.stick_cell.proofs.GrownRuns.{IsRunBetween, checks_met}
-use Rattle.stick_cell.proofs.Made.{wire_made}
-use Rattle.stick_cell.proofs.KeptWires.{result_map, capped_run}
-use Rattle.stick_cell.proofs.SidesFree.{open-free, sides_marked}
-use Rattle.stick_cell.proofs.WireSteps.{wire-unknown, wire-unknown_end, wire-run, wire-along, wired_along, other_sides, with-memory, with-residual, ends_of_added, result_map-err, result_map-ok}
-use Rattle.stick_parse.specs.Writable.{IsPath}
-use Rattle.stick_cell.specs.Grown.{IsGrown, AreGrown}
-use Rattle.stick_cell.specs.Tables.{AreTables}
-use Rattle.stick_cell.specs.Growing.{IsGrowing}
+use Rattle.stick_cell.specs.{declared.{names.Run.Run, sides.SideMap.SideMap}, Checks.layer_of, Wires.are_sides_free}
+use Rattle.stick_cell.specs.{Wires.wire_where, Lines.{wired_of, after_wire}, Known.{Known, with_wire}, Kept.capped_wire}
+use Rattle.stick_cell.specs.{Sides.{side_entries, AreSidesOf, HaveSides, AreMarked}, Grown.{IsGrown, AreGrown}}
+use Rattle.stick_cell.{specs.{Tables.AreTables, Growing.IsGrowing}, proofs.GrownForms.wire_grown}
+use Rattle.stick_cell.proofs.{GrownRuns.{IsRunBetween, checks_met}, Made.wire_made, KeptWires.{result_map, capped_run}}
+use Rattle.stick_cell.proofs.{SidesFree.{open-free, sides_marked}, WireSteps.{wire-unknown, wire-unknown_end, wire-run}}
+use Rattle.stick_cell.proofs.WireSteps.{wire-along, wired_along, other_sides, with-memory, with-residual, ends_of_added}
+use Rattle.stick_cell.proofs.{WireSteps.{result_map-err, result_map-ok}, growing.Growing.wire.Goals.After-wire_where}
 use Rattle.stick_cell.proofs.growing.Growing.wire.Goals as goal
-use Rattle.stick_cell.proofs.growing.Growing.wire.Goals.{After-wire_where}
 
 pub returns-in_err-from : goal.returns-in_err-from
 returns-in_err-from c = λ cells known are tables have path_a path_b grown is sides.

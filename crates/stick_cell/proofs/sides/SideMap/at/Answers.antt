@@ -1,6 +1,5 @@
 use Rattle.std.proofs.Common.{sym, ap, ◌∙◌}
-use Rattle.stick_cell.specs.Sides.{taken_or_none}
-use Rattle.stick_cell.proofs.Entries.{lookup-seen}
+use Rattle.stick_cell.{specs.Sides.taken_or_none, proofs.Entries.lookup-seen}
 use Rattle.stick_cell.proofs.sides.SideMap.at.Goals as goal
 
 pub returns-in-Some : goal.returns-in-Some

@@ -1,9 +1,6 @@
-use Rattle.std.proofs.Common.{◌≡◌, cond, map, Some, ap, ◌∙◌}
-use Rattle.std.specs.Prelude.{bytes_eq}
-use Rattle.stick_cell.specs.declared.sides.Taken.{Taken}
-use Rattle.stick_cell.specs.Sides.{TakenAt, side_entries, with_taken, taken_at}
-use Rattle.stick_cell.proofs.Entries.{under, under-insert_entry}
-use Rattle.stick_cell.proofs.SideMarks.{marked}
+use Rattle.std.{proofs.Common.{◌≡◌, cond, map, Some, ap, ◌∙◌}, specs.Prelude.bytes_eq}
+use Rattle.stick_cell.specs.{declared.sides.Taken.Taken, Sides.{TakenAt, side_entries, with_taken, taken_at}}
+use Rattle.stick_cell.proofs.{Entries.{under, under-insert_entry}, SideMarks.marked}
 use Rattle.stick_cell.proofs.sides.SideMap.mark.Goals as goal
 
 pub returns : goal.returns

@@ -1,7 +1,5 @@
-use Rattle.std.proofs.Common.{rules}
-use Rattle.std.proofs.lemmas.Bool.Decides.{Decides-at}
-use Rattle.sym_items.specs.Standing.{stand_together}
-use Rattle.sym_items.proofs.Together.{together_exactly}
+use Rattle.std.proofs.{Common.rules, lemmas.Bool.Decides.Decides-at}
+use Rattle.sym_items.{specs.Standing.stand_together, proofs.Together.together_exactly}
 use Rattle.sym_items.proofs.items.Item.stands_with.Goals as goal
 
 pub returns-then-stands_at-clause-meaning : goal.returns-then-stands_at-clause-meaning

@@ -1,14 +1,10 @@
-use Rattle.std.proofs.Common.{◌≡◌, ◌∙◌, sym, subst, arith, IfOk}
-use Rattle.std.proofs.lemmas.List.{get_or_default}
-use Rattle.sym_items.specs.declared.items.Coords.{Coords}
-use Rattle.sym_items.specs.Layouts.{layout_at, no_layout}
-use Rattle.expand.specs.declared.master.Master.{Master}
-use Rattle.expand.specs.Masters.{IsMaster}
+use Rattle.std.proofs.{Common.{◌≡◌, ◌∙◌, sym, subst, arith, IfOk}, lemmas.List.get_or_default}
+use Rattle.sym_items.specs.{declared.items.Coords.Coords, Layouts.{layout_at, no_layout}}
+use Rattle.expand.specs.{declared.master.Master.Master, Masters.IsMaster}
 use Rattle.pitch_join.specs.Masters.{master_at, no_master}
 use Rattle.pass_run.specs.Found.{IsFoundIn}
-use Rattle.pass_run.proofs.Adding.{own_laid}
+use Rattle.pass_run.proofs.{Adding.own_laid, finding.fn.found_in_all.find.Goals.After-index-layouts-m}
 use Rattle.pass_run.proofs.finding.fn.found_in_all.find.Goals as goal
-use Rattle.pass_run.proofs.finding.fn.found_in_all.find.Goals.{After-index-layouts-m}
 
 -- what the code reads is master m and its layout
 master_is : (c : After-index-layouts-m) → c.index-masters-m.result ≡ master_at c.captures.masters.now c.args.m.now
