@@ -75,20 +75,6 @@ pub record IsTakenTo (spots : List Spot) (order : List ℕ) (groups : List Group
   pub within : at ≤ length groups
   pub taken : IsTaken spots order P (begin_of (drop at groups) (length order)) found
 
-pub taken_none : (spots : List Spot) (order : List ℕ) (groups : List Group) (P : Spot → Type 0) (found : List ℕ) → IsTreeOf spots order groups → found ≡ [] → IsTakenTo spots order groups P 0 found
-taken_none spots order groups P found t none =
-    let F : List ℕ → Type 0 = IsTakenTo spots order groups P 0 in
-    let first = t.first in
-    subst F (sym none) (record {
-      within = omega arith;
-      taken = record {
-        within = omega arith;
-        sound = λ k (i, lt, e). absurd (omega arith);
-        complete = λ k h. (let b = h.before in absurd (omega arith));
-        once = λ i j lt. absurd (omega arith);
-      };
-    })
-
 -- past a group of which the run has been looked at
 pub taken_group : (spots : List Spot) (order : List ℕ) (groups : List Group) (P : Spot → Type 0) (at next : ℕ) (group : Group) (found : List ℕ) → IsTreeOf spots order groups → at < length groups → group ≡ get_or groups at group
     → next ≡ at + 1 + group.inside → IsTaken spots order P (group.start + group.count) found → IsTakenTo spots order groups P next found

@@ -32,28 +32,6 @@ groups_append spots order (x ∷ xs) ys mid end le e h k =
       groups_append spots order xs ys mid end le e h.1 k,
     )
 
--- a leaf behind some groups
-pub grown_leaf : (spots : List Spot) (order : List ℕ) (start end : ℕ) (before : List Group) (leaf : Group) → IsPlacedGroup leaf → leaf.start ≡ start → start + leaf.count ≡ end → leaf.inside ≡ 0
-    → ((p : ℕ) → start ≤ p → p < end → IsBounded leaf (spot_at spots order p)) → IsGrown spots order start end before (before ++ leaf ∷ []) leaf
-grown_leaf spots order start end before leaf placed starts ends none within = record {
-  inner = [];
-  after_is = refl;
-  groups = (
-    record {
-      placed = placed;
-      inside = omega (arith, none);
-      opens = λ lt. absurd (omega (arith, none, lt));
-      closes = subst (λ (n : ℕ). begin_of (drop n []) end ≡ leaf.start + leaf.count) (sym none) (omega (arith, starts, ends));
-      ends = omega (arith, starts, ends);
-      within = λ p low high. within p (omega (arith, starts, low)) (omega (arith, starts, ends, high));
-    },
-    tt,
-  );
-  starts = starts;
-  ends = ends;
-  inside = none;
-}
-
 -- a group that was opened before two others is put round them
 pub grown_both : (spots : List Spot) (order : List ℕ) (start middle end place : ℕ) (before opened mid after final : List Group) (empty left right group : Group)
     → opened ≡ before ++ empty ∷ [] → place ≡ length before → IsGrown spots order start middle opened mid left → IsGrown spots order middle end mid after right

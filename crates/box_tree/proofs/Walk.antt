@@ -6,12 +6,12 @@ use Rattle.std.proofs.lemmas.{Int.{ints, clamps}, Bool.{cases_lt, cases_eq, eqb-
 use Rattle.std.proofs.lemmas.List.{drop-drop, get_or_default, get_or_read}
 use Rattle.std.specs.{Prelude.{IsTrue, ℤ, ◌<ℤ◌, is_some, max, nat_eq, not}, Int.int_max}
 use Rattle.box_tree.specs.declared.query.{Query.Query, Question.{Question, TheVariants.NearOfOther}}
-use Rattle.box_tree.specs.{declared.{spots.{Group.Group, Spot.Spot}, tree.OwnedParts.OwnedParts}, Queries.Holds}
-use Rattle.box_tree.specs.{Queries.reach_of, Tree.{IsBounded, IsGroupOf, begin_of}, Groves.{spot_of, no_group}}
+use Rattle.box_tree.specs.declared.{spots.{Group.Group, Spot.Spot}, tree.OwnedParts.OwnedParts}
+use Rattle.box_tree.specs.{Queries.{Holds, reach_of}, Tree.{IsBounded, IsGroupOf, begin_of}, Groves.{spot_of, no_group}}
 use Rattle.box_tree.specs.Groves.{group_at, spot_in, begin_at, IsRead, IsOf, AreTreeParts, IsInRun, InSpent, IsLeft}
 use Rattle.box_tree.specs.Groves.{IsRunSpent, IsVisitedAt, IsRunVisited, AreSpent, IsUnvisited, IsUnvisitedWithin}
-use Rattle.box_tree.{specs.Found.AreGathered, proofs.{Trees.group_here, Within.too_far, Growth.gathered_as}}
-use Rattle.box_tree.proofs.Growth.{gathered_more, gathered_none, gathered_if}
+use Rattle.box_tree.specs.Found.{AreGathered}
+use Rattle.box_tree.proofs.{Trees.group_here, Within.too_far, Growth.{gathered_as, gathered_more, gathered_if}}
 use Rattle.lam_geom.specs.{declared.boxes.BoxXY.BoxXY, Gaps.{gap_of, gap_of_boxes}}
 
 -- ---- tests
@@ -58,12 +58,6 @@ group_read parts at group t lt is =
 pub record IsWalked (parts : OwnedParts) (query : Query) (marks : List (Option ℕ)) (before : List ℕ) (at : ℕ) (found : List ℕ) : Type 0 where
   pub within : at ≤ length parts.groups.items
   pub gathered : AreGathered (IsUnvisitedWithin parts query marks 0 (begin_at parts at)) before found
-
-pub walked_none : (parts : OwnedParts) (query : Query) (marks : List (Option ℕ)) (before found : List ℕ) → AreTreeParts parts → found ≡ before → IsWalked parts query marks before 0 found
-walked_none parts query marks before found t e =
-    let f = t.first in
-    let P : List ℕ → Type 0 = λ xs. AreGathered (IsUnvisitedWithin parts query marks 0 (begin_at parts 0)) before xs in
-    record { within = omega arith; gathered = subst P (sym e) (gathered_none (IsUnvisitedWithin parts query marks 0 (begin_at parts 0)) before (λ y h. (let b = h.before in omega arith))) }
 
 -- tags of places up to one more
 more_within : (parts : OwnedParts) (query : Query) (marks : List (Option ℕ)) (first mid end y : ℕ) → mid ≤ end → IsUnvisitedWithin parts query marks first mid y → IsUnvisitedWithin parts query marks first end y
@@ -153,9 +147,6 @@ walked_all parts query marks before at found t past w =
     w.gathered
 
 -- ---- the spots of a leaf
-
-pub none_within : (parts : OwnedParts) (query : Query) (marks : List (Option ℕ)) (first : ℕ) (found : List ℕ) → AreGathered (IsUnvisitedWithin parts query marks first first) found found
-none_within parts query marks first found = gathered_none (IsUnvisitedWithin parts query marks first first) found (λ y h. (let a = h.from in let b = h.before in omega arith))
 
 -- one more spot, which is found or not
 pub one_within : (parts : OwnedParts) (query : Query) (marks : List (Option ℕ)) (first p : ℕ) (spot : Spot) (old middle new : List ℕ) → first ≤ p → spot_in parts p ≡ spot

@@ -73,9 +73,6 @@ both_less a b h k = omega (arith, ints, clamps)
 pub overlap_both : (area own : BoxXY) → gap_of area.x own.x <ℤ pos 0 → gap_of area.y own.y <ℤ pos 0 → Overlaps area own
 overlap_both area own h k = both_less (gap_of area.x own.x) (gap_of area.y own.y) h k
 
-pub enclose_all : (ends : Ends) (span own : Span) (margin : ℤ) → (ends.lo +ℤ margin) ≤ℤ span.lo → (span.hi +ℤ margin) ≤ℤ ends.hi → Reaches ends own → EnclosesSpan own span margin
-enclose_all ends span own margin h k r = (omega (arith, ints, h, r.0), omega (arith, ints, k, r.1))
-
 -- ---- what is asked of a spot, by tests
 
 pub covers_asked : (question : Question) (area : BoxXY) (spot : Spot) (margin held : ℤ) (r : Bool) → question ≡ Covers margin → held ≡ margin → IsTrue r ↔ Encloses spot.area area held → IsTrue r ↔ Answers question area spot

@@ -2,22 +2,18 @@
 use Rattle.std.proofs.Common.{◌≡◌, ℕ, ◌+◌, ◌*◌, ◌<◌, ◌≤◌, List, [], ◌∷◌, ◌++◌, length, take, get_or, Contains, ◌⊎◌, inl}
 use Rattle.std.proofs.{Common.{inr, refl, sym, ◌∙◌, ap, subst, arith, append_assoc}, lemmas.List.{take_more, take_all}}
 use Rattle.std.proofs.lemmas.List.{length_push, get_or_append_left, get_or_push, get_or_read, append-nil}
-use Rattle.std.proofs.lemmas.List.{take-append-le, length-take-le, Elements.{Contains-append_left, Contains-push}}
-use Rattle.std.proofs.lemmas.List.{Elements.Contains-push_cases, Sums.{sum_by-cons, sum_by_push, sum_by-le}}
-use Rattle.std.{proofs.lemmas.Bool.{cases_eq, cases_order}, specs.Prelude.{true, false}}
+use Rattle.std.proofs.lemmas.List.{length-take-le, Elements.{Contains-append_left, Contains-push, Contains-push_cases}}
+use Rattle.std.proofs.lemmas.{List.Sums.{sum_by-cons, sum_by_push, sum_by-le}, Bool.{cases_eq, cases_order}}
+use Rattle.std.specs.Prelude.{true, false}
 use Rattle.smallvec.specs.SmallVec.{SmallVec}
 use Rattle.cell_model.specs.declared.cell.{NodeKind.{NodeKind, TheVariants.{Joint, Contact, Buried, Fet}}, Node.Node}
-use Rattle.cell_model.specs.{declared.cell.{Wire.Wire, NodeNets.NodeNets}, Nets.{kind_parts, node_parts, first_part}}
-use Rattle.cell_model.specs.Nets.{end_parts, with_each, attachments, nets_of_kind, nets_of_nodes}
+use Rattle.cell_model.specs.{declared.cell.{Wire.Wire, NodeNets.NodeNets}, Nets.{kind_parts, node_parts, end_parts}}
+use Rattle.cell_model.specs.Nets.{with_each, attachments, nets_of_kind, nets_of_nodes}
 use Rattle.graph_search.specs.{Netting.Attached, Search.{no_neighbours, neighbours_of, IsBeside, AreNeighbours}}
 use Rattle.graph_search.proofs.Neighbours.{none_in_empty, beside_within, attached_back}
 use Rattle.cell_nets.specs.Attaching.{AreAttached, IsAdded, AreFirstParts}
 
 -- ---- parts
-
--- at most n + 1 is at most n, or n + 1
-at_most_cases : (j n : ℕ) → j ≤ n + 1 → (j ≤ n) ⊎ (j ≡ n + 1)
-at_most_cases j n le = grind arith
 
 -- a kind has at most three parts
 kind_parts_few : (kind : NodeKind) → kind_parts kind ≤ 3
@@ -34,26 +30,6 @@ node_parts_few nodes = sum_by-le (λ (node : Node). kind_parts node.kind) 3 node
 pub node_parts_push : (nodes : List Node) (node : Node) → node_parts (nodes ++ node ∷ []) ≡ node_parts nodes + kind_parts node.kind
 node_parts_push nodes node = sum_by_push (λ (node : Node). kind_parts node.kind) nodes node
 
--- no node
-pub first_parts_none : AreFirstParts [] (0 ∷ [])
-first_parts_none = record { counted = refl; each = λ k le. (let e : k ≡ 0 = omega arith in let P : ℕ → Type 0 = λ x. get_or (0 ∷ []) x 0 ≡ first_part [] x in subst P (sym e) refl) }
-
--- one more node
-pub first_parts_push : (nodes : List Node) (node : Node) (firsts : List ℕ) → AreFirstParts nodes firsts
-    → AreFirstParts (nodes ++ node ∷ []) (firsts ++ node_parts (nodes ++ node ∷ []) ∷ [])
-first_parts_push nodes node firsts h =
-    let all : List Node = nodes ++ node ∷ [] in
-    let l = length_push nodes node in
-    let m = length_push firsts (node_parts all) in
-    let n = h.counted in
-    record {
-      counted = omega arith;
-      each = λ k le. elim (at_most_cases k (length nodes) (omega arith)) [
-        | inl lt ↦ get_or_append_left firsts (node_parts all ∷ []) 0 k (omega arith) ∙ h.each k lt ∙ ap node_parts (sym (take-append-le k nodes (node ∷ []) lt))
-        | inr e ↦ get_or_push firsts (node_parts all) 0 k (omega arith) ∙ ap node_parts (sym (take_all k all (omega arith)))
-      ];
-    }
-
 -- the last number, read, is that of all parts
 pub first_parts_end : (nodes of at : List Node) (firsts : List ℕ) (n : ℕ) → of ≡ nodes → AreFirstParts of firsts → at ≡ nodes → n ≡ get_or firsts (length at) n → n ≡ node_parts nodes
 first_parts_end nodes of at firsts n same h there read =
@@ -62,14 +38,6 @@ first_parts_end nodes of at firsts n same h there read =
     get_or_read firsts (length at) n (omega arith) read 0 ∙ ap (λ (k : ℕ). get_or firsts k 0) e ∙ h.each (length of) (omega arith) ∙ ap node_parts (take_all (length of) of (omega arith) ∙ same)
 
 -- ---- lists
-
--- no lists
-pub empty_none : AreNeighbours 0 [] []
-empty_none = record {
-  counted = refl;
-  attached = λ a b c. absurd (let lt = beside_within [] a b c in omega arith);
-  beside = λ a b h. elim h [ inl (k, lt, _) ↦ absurd (omega arith) | inr (k, lt, _) ↦ absurd (omega arith) ];
-}
 
 -- one more list, with nothing in it
 pub empty_more : (count : ℕ) (lists : List (SmallVec ℕ)) (list : SmallVec ℕ) → list.items ≡ [] → AreNeighbours count [] lists → AreNeighbours (count + 1) [] (lists ++ list ∷ [])
@@ -144,10 +112,6 @@ neighbours_push count links a b old middle new first second h =
         ]
       ];
     }
-
--- nothing put
-pub attached_none : (wire : ℕ) (lists : List (SmallVec ℕ)) → AreAttached wire [] lists lists
-attached_none wire lists = λ links h. (let P : List (ℕ × ℕ) → Type 0 = λ ls. AreNeighbours (length lists) ls lists in subst P (sym (append-nil links)) h)
 
 -- a wire's part and the part at its end
 pub attached_one : (wire part : ℕ) (old middle new : List (SmallVec ℕ)) → IsAdded wire part old middle → IsAdded part wire middle new → AreAttached wire (part ∷ []) old new

@@ -1,18 +1,15 @@
 -- A comment, as far as it has been passed.
-use Rattle.std.proofs.Common.{◌≡◌, ℕ, zero, suc, ◌+◌, ◌-◌, ◌<◌, ◌≤◌, Bool, true, false, cond, eqb, inl, inr, List, ◌∷◌}
-use Rattle.std.proofs.{Common.{length, get_or, take, refl, sym, ap, ◌∙◌, subst, arith}, lemmas.Bool.{cases_lt, ne_eqb}}
-use Rattle.std.proofs.lemmas.List.{length-take-le, take-take, take_all, Sums.{count_by_more_yes, count_by_more_no}}
+use Rattle.std.proofs.Common.{◌≡◌, ℕ, zero, suc, ◌+◌, ◌-◌, ◌<◌, ◌≤◌, Bool, true, false, cond, eqb, List, ◌∷◌, length}
+use Rattle.std.proofs.Common.{get_or, take, refl, sym, ap, ◌∙◌, subst, arith}
+use Rattle.std.proofs.lemmas.{Bool.ne_eqb, List.{length-take-le, take-take, Sums.{count_by_more_yes, count_by_more_no}}}
 use Rattle.std.specs.List.{count_by}
-use Rattle.cif_lex.specs.{Blanks.{opening, opened, closed, IsComment, IsUnclosed}, Forms.IsLedBy}
+use Rattle.cif_lex.specs.{Blanks.{opening, opened, closed, IsComment}, Forms.IsLedBy}
 
 -- so many bytes of a comment are passed, in which so many parentheses are open
 pub record Inside (text : List ℕ) (i depth : ℕ) : Type 0 where
   pub counted : closed (take i text) + depth ≡ opened (take i text)
   pub stays : (k : ℕ) → 0 < k → k ≤ i → closed (take k text) < opened (take k text)
   pub small : depth ≤ i
-
-pub inside_none : (text : List ℕ) → Inside text 0 0
-inside_none text = record { counted = refl; stays = λ k more le. absurd (omega arith); small = omega arith }
 
 -- one byte more, behind which the depth is new
 pub record IsPassed (text : List ℕ) (i depth : ℕ) : Type 0 where
@@ -53,17 +50,6 @@ passes_other text i depth b lt at is no_opening no_closing =
     let c = count_by_more_no (λ (c : ℕ). eqb c 41) text i 0 lt (ap (λ (c : ℕ). eqb c 41) at ∙ ne_eqb b 41 no_closing) in
     passed text i depth depth b lt at is (omega (arith, o, c, is.counted)) (omega arith)
 
--- still open
-pub stays_inside : (text : List ℕ) (i depth : ℕ) → IsPassed text i depth → 0 < depth → Inside text (i + 1) depth
-stays_inside text i depth is some = record {
-  counted = is.counted;
-  stays = λ k more le. elim (cases_lt k (i + 1)) [
-    | inl less ↦ is.before k more less
-    | inr last ↦ let e : k ≡ i + 1 = omega arith in subst (λ (j : ℕ). closed (take j text) < opened (take j text)) (sym e) (omega (arith, is.counted))
-  ];
-  small = is.small;
-}
-
 -- what is taken of a text that begins with a parenthesis does too
 begun_by : (text : List ℕ) (n : ℕ) → IsLedBy 40 text → (inside : List ℕ) × (take (n + 1) text ≡ opening ∷ inside)
 begun_by text n led = (take n led.more, ap (λ (t : List ℕ). take (n + 1) t) led.begun ∙ (let e : n + 1 ≡ suc n = omega arith in ap (λ (k : ℕ). take k (40 ∷ led.more)) e))
@@ -80,18 +66,6 @@ comment_ends text i depth led lt is none =
           let len = length-take-le (i + 1) text (omega arith) in
           let short : k < i + 1 = omega (arith, len) in
           subst (λ (t : List ℕ). closed t < opened t) (sym (take-take k (i + 1) text (omega arith))) (is.before k more short);
-    }
-
--- the text has ended, and the first parenthesis is open
-pub comment_stays : (text : List ℕ) (i depth : ℕ) → IsLedBy 40 text → length text ≤ i → Inside text i depth → IsUnclosed text
-comment_stays text i depth led ended is =
-    let all = take_all i text ended in
-    let some = ap (λ (t : List ℕ). length t) led.begun in
-    record {
-      inside = led.more;
-      begun = led.begun;
-      unbalanced = subst (λ (t : List ℕ). closed t < opened t) all (is.stays i (omega (arith, some)) (omega arith));
-      open_inside = λ k more less. is.stays k more (omega arith);
     }
 
 -- where a parenthesis closes, one is open

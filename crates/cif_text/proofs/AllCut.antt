@@ -9,9 +9,6 @@ all_zip_push R [] (b ∷ ys) x y h r = absurd h
 all_zip_push R (a ∷ xs) [] x y h r = absurd h
 all_zip_push R (a ∷ xs) (b ∷ ys) x y h r = (h.0, all_zip_push R xs ys x y h.1 r)
 
-pub none_cut : AreCut [] []
-none_cut = record { cuts = []; together = refl; each = tt }
-
 pub text_cut : (texts pieces : List (List ℕ)) (text : List ℕ) (cut next : List (List ℕ)) → AreCut texts pieces → IsCut text cut → next ≡ pieces ++ cut → AreCut (texts ++ (text ∷ [])) next
 text_cut texts pieces text cut next so is grown = record {
   cuts = so.cuts ++ (cut ∷ []);

@@ -2,10 +2,10 @@
 use Rattle.std.proofs.Common.{◌≡◌, ◌≢◌, ℕ, zero, suc, ◌+◌, ◌-◌, ◌==◌, ◌<◌, ◌≤◌, All, List, [], ◌∷◌, ◌++◌, append_assoc}
 use Rattle.std.proofs.Common.{length, map, take, drop, refl, sym, ap, subst, ◌∙◌, arith, inl, inr}
 use Rattle.std.proofs.lemmas.{Bool.cases_lt, List.{length-append, append-nil, map-append, length-drop, length-take-le}}
-use Rattle.std.proofs.lemmas.List.{drop-drop, get_or-drop, get_or_append_left, get_or_push, take-append-drop, take_all}
+use Rattle.std.proofs.lemmas.List.{drop-drop, get_or-drop, get_or_append_left, get_or_push, take-append-drop}
 use Rattle.std.proofs.{lemmas.List.{Concat.flat_map-append, Elements.All-push}, Math.Seq.take-add}
 use Rattle.std.specs.Prelude.{slice_index, flat_map, if◌then◌else◌}
-use Rattle.cif_text.specs.Cutting.{most_bytes, EndsLine, first_line, piece_at, IsOfLines, IsCut}
+use Rattle.cif_text.specs.Cutting.{most_bytes, EndsLine, first_line, piece_at, IsOfLines}
 use Rattle.cif_text.proofs.Lines.{front_ends, feed_among}
 
 -- ---- the first line
@@ -33,15 +33,6 @@ pub record CutTo (text : List ℕ) (place : ℕ) (cut : List (List ℕ)) : Type 
   pub short : All (λ piece. length piece ≤ most_bytes) cut
   pub full : (k : ℕ) → k + 1 < length cut → most_bytes < length (piece_at cut k) + length (first_line (piece_at cut (k + 1)))
   pub last : (k : ℕ) → k + 1 ≡ length cut → place < length text → most_bytes < length (piece_at cut k) + length (first_line (drop place text))
-
-pub cut_none : (text : List ℕ) → CutTo text 0 []
-cut_none text = record {
-  joined = refl;
-  whole_lines = λ k d lt. absurd (omega (arith, lt));
-  short = λ k d lt. absurd (omega (arith, lt));
-  full = λ k lt. absurd (omega (arith, lt));
-  last = λ k e lt. absurd (omega (arith, e));
-}
 
 -- the next piece
 pub record IsPiece (text : List ℕ) (start end : ℕ) : Type 0 where
@@ -101,14 +92,6 @@ cut_on text start end cut so is =
       ];
       last = λ k e lt. omega (arith, is.full lt, size, ap length (behind k (omega (arith, counted, e))));
     }
-
-pub cut_whole : (text : List ℕ) (place : ℕ) (cut : List (List ℕ)) → CutTo text place cut → length text ≤ place → IsCut text cut
-cut_whole text place cut so le = record {
-  joined = so.joined ∙ take_all place text le;
-  whole_lines = so.whole_lines;
-  short = so.short;
-  full = so.full;
-}
 
 -- where no line feed stands among the bytes that would still fit, the next line does not fit
 pub line_too_long : (text : List ℕ) (start end : ℕ) → start < end → start + most_bytes < length text → end ≤ start + most_bytes → ((k : ℕ) → end ≤ k → k < start + most_bytes → slice_index text k ≢ 10)

@@ -36,12 +36,6 @@ pub fold_map_on : {A X Z : Type 0} (f : Z → A → Z) (a : Z) (g : X → A) (fr
 fold_map_on f a g front read xs i d now next e lt was is =
     fold_on f a front (map g (take i xs)) (g (get_or read i d) ∷ []) now next was is ∙ ap (λ zs. fold f a (front ++ zs)) (sym (map_read g read xs i d e lt))
 
-pub fold_flat_on : {A X Z : Type 0} (f : Z → A → Z) (a : Z) (g : X → List A) (front : List A) (read xs : List X) (i : ℕ) (d : X) (now next : Z)
-    → read ≡ xs → i < length read → now ≡ fold f a (front ++ flat_map g (take i xs)) → next ≡ fold f now (g (get_or read i d))
-    → next ≡ fold f a (front ++ flat_map g (take (i + 1) xs))
-fold_flat_on f a g front read xs i d now next e lt was is =
-    fold_on f a front (flat_map g (take i xs)) (g (get_or read i d)) now next was is ∙ ap (λ zs. fold f a (front ++ zs)) (sym (flat_read g read xs i d e lt))
-
 -- and of a list that grows at its end
 pub list_flat_on : {X Y : Type 0} (g : X → List Y) (front : List Y) (read xs : List X) (i : ℕ) (d : X) (now next : List Y)
     → read ≡ xs → i < length read → now ≡ front ++ flat_map g (take i xs) → next ≡ now ++ g (get_or read i d)

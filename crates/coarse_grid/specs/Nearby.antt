@@ -1,6 +1,6 @@
 -- The items of a class as a tree of their boxes, and the first item that is too near to another.
-use Rattle.std.specs.Prelude.{◌≡◌, ℕ, ◌+◌, ◌<◌, ◌≤◌, Bool, true, false, IsTrue, All, Some, None, pos, ◌-ℤ◌}
-use Rattle.std.specs.Prelude.{if◌then◌else◌, List, length, slice_get, slice_index_or}
+use Rattle.std.specs.Prelude.{◌≡◌, ℕ, ◌+◌, ◌<◌, ◌≤◌, Bool, true, false, IsTrue, All, Some, pos, ◌-ℤ◌, if◌then◌else◌}
+use Rattle.std.specs.Prelude.{List, length, slice_get, slice_index_or}
 use Rattle.box_tree.specs.declared.query.Question.{Question, TheVariants.{NearOfOther, NearOfOtherTag}}
 use Rattle.box_tree.specs.declared.{spots.{Group.Group, Spot.Spot}, tree.OwnedParts.OwnedParts}
 use Rattle.box_tree.specs.Groves.{AreTreeParts, IsInRun, group_at, spot_in}

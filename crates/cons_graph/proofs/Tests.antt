@@ -69,14 +69,6 @@ leads_end edges at' start walk end i inv le =
     let same : eqb at' end ≡ leads_by edges start walk end = ap (λ l. leads_by edges at' l end) (sym (drop_all i walk le)) ∙ inv in
     (λ t. leads_by-true edges start walk end (sym same ∙ t), λ w. same ∙ leads_by-from edges start walk end w)
 
--- the step over an edge that goes on
-pub leads_next : (edges : List Edge) (at' : ℕ) (walk : List ℕ) (end i : ℕ) → i < length walk → get_or walk i 0 < length edges → (edge_at edges (get_or walk i 0)).from ≡ at' → leads_by edges (edge_at edges (get_or walk i 0)).to (drop (i + 1) walk) end ≡ leads_by edges at' (drop i walk) end
-leads_next edges at' walk end i lt in' e =
-    let k : ℕ = get_or walk i 0 in
-    let rest : Bool = leads_by edges (edge_at edges k).to (drop (i + 1) walk) end in
-    let here : (ltb k (length edges) && eqb (edge_at edges k).from at') ≡ true = and_from (ltb k (length edges)) (eqb (edge_at edges k).from at') (lt-ltb k (length edges) in') (eq-eqb (edge_at edges k).from at' e) in
-    sym (ap (λ b. b && rest) here) ∙ ap (λ l. leads_by edges at' l end) (sym (drop_more walk i 0 lt))
-
 -- ---- the exits of the tests of tails
 
 pub all_tails_from : (edges : List Edge) (walk : List ℕ) (v i : ℕ) → length walk ≤ i → ((j : ℕ) → j < i → v ≤ get_or (tails_of edges walk) j 0) → All (λ u. v ≤ u) (tails_of edges walk)

@@ -3,10 +3,6 @@ use Rattle.std.proofs.Common.{◌≡◌, ℕ, List, [], ◌∷◌, ◌++◌, Con
 use Rattle.std.proofs.lemmas.List.Elements.{Contains-append_left, Contains-push, Contains-push_cases}
 use Rattle.design_nets.specs.Linking.{AreAdded}
 
--- nothing added
-pub added_none : (L : ℕ → ℕ → Type 0) (links : List (ℕ × ℕ)) → ((x y : ℕ) → L x y → ⊥) → AreAdded L links links
-added_none L links none = record { sound = λ u v h. inl h; kept = λ u v h. h; complete = λ u v l. absurd (none u v l) }
-
 -- one link more
 pub added_push : (L M : ℕ → ℕ → Type 0) (old now new : List (ℕ × ℕ)) (u v : ℕ) → AreAdded L old now → new ≡ now ++ (u, v) ∷ []
     → ((x y : ℕ) → L x y → M x y) → M u v → ((x y : ℕ) → M x y → L x y ⊎ ((x ≡ u) × (y ≡ v))) → AreAdded M old new

@@ -1,12 +1,12 @@
 -- Lists that stand one after another, and the numbers of their first elements.
-use Rattle.std.proofs.Common.{◌≡◌, ℕ, zero, suc, ◌+◌, ◌-◌, ◌<◌, ◌≤◌, Bool, true, false, cond, filter, List, [], ◌∷◌, ◌++◌, length, get_or, take, map, Some, refl, sym, ap, ◌∙◌, subst, arith, inl, inr, add-zero, zero-add, append_assoc, length-append}
-use Rattle.std.specs.Prelude.{slice_get}
-use Rattle.std.specs.List.{flat_map, range_with_len}
-use Rattle.std.proofs.lemmas.Bool.{cases_lt}
-use Rattle.std.proofs.lemmas.List.{map-id, append-nil, length_push, get_or_append_left, get_or_push}
-use Rattle.std.proofs.lemmas.List.Concat.{get_or-flat_map}
-use Rattle.std.proofs.lemmas.List.FromFn.{take-map-range_with_len, length-range_with_len, get_or-range_with_len, map-range_with_len_more, filter_of_map_range_with_len_more}
+use Rattle.std.proofs.Common.{◌≡◌, ℕ, zero, suc, ◌+◌, ◌-◌, ◌<◌, ◌≤◌, Bool, true, false, cond, filter, List, [], ◌∷◌}
+use Rattle.std.proofs.Common.{◌++◌, length, get_or, take, map, Some, refl, sym, ap, ◌∙◌, subst, arith, inl, inr}
+use Rattle.std.proofs.{Common.{zero-add, append_assoc, length-append}, lemmas.{Bool.cases_lt, List.map-id}}
+use Rattle.std.proofs.lemmas.List.{append-nil, length_push, get_or_append_left, get_or_push, Concat.get_or-flat_map}
+use Rattle.std.proofs.lemmas.List.FromFn.{take-map-range_with_len, length-range_with_len, get_or-range_with_len}
+use Rattle.std.proofs.lemmas.List.FromFn.{map-range_with_len_more, filter_of_map_range_with_len_more}
 use Rattle.std.proofs.lemmas.Option.{slice_get_within, slice_get-get_or, get_or_from_slice_get}
+use Rattle.std.specs.{Prelude.slice_get, List.{flat_map, range_with_len}}
 use Rattle.list_facts.proofs.Pieces.{piece_added}
 use Rattle.design_nets.specs.Firsts.{together, AreFirsts}
 
@@ -65,13 +65,6 @@ together_get lists n i j x lt there =
     ∙ ap Some (together_read lists n i j x lt among ∙ get_or_from_slice_get (lists i) j x x there)
 
 -- ---- the numbers of their first elements
-
-pub firsts_begun : {A : Type 0} (lists : ℕ → List A) (first : ℕ) → AreFirsts lists 0 first (first ∷ [])
-firsts_begun lists first = record {
-  counted = refl;
-  each = λ n le. (let e : n ≡ 0 = omega arith in
-      let P : ℕ → Type 0 = λ k. get_or (first ∷ []) k 0 ≡ first + length (together lists k) in subst P (sym e) (sym (add-zero first)));
-}
 
 pub firsts_more : {A : Type 0} (lists : ℕ → List A) (count first next : ℕ) (firsts : List ℕ) → AreFirsts lists count first firsts → next ≡ first + length (together lists (count + 1))
     → AreFirsts lists (count + 1) first (firsts ++ next ∷ [])

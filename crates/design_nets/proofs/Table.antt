@@ -1,12 +1,12 @@
 -- A table of lists, and how one of its lists grows.
-use Rattle.std.proofs.Common.{◌≡◌, ◌≢◌, ℕ, ◌<◌, List, [], ◌∷◌, ◌++◌, length, map, get_or, set, Contains, Vec, Global, sym, ap, ◌∙◌, subst, arith, inl, inr, ◌⊎◌, get_or-set_same, get_or-set_other}
-use Rattle.std.proofs.lemmas.Bool.{cases_eq}
-use Rattle.std.proofs.lemmas.List.{map-set, length-map, length-set, get_or-map}
+use Rattle.std.proofs.Common.{◌≡◌, ◌≢◌, ℕ, ◌<◌, List, [], ◌∷◌, ◌++◌, length, map, get_or, set, Contains, Vec, Global}
+use Rattle.std.proofs.Common.{sym, ap, ◌∙◌, subst, arith, inl, inr, ◌⊎◌, get_or-set_same, get_or-set_other}
+use Rattle.std.proofs.lemmas.{Bool.cases_eq, List.{map-set, length-map, length-set, get_or-map}}
 use Rattle.std.proofs.lemmas.List.Elements.{Contains-append_left, Contains-push, Contains-push_cases}
 use Rattle.cell_model.specs.declared.cell.Nets.{Nets}
 use Rattle.plan_model.specs.declared.plan.Match.{Match}
 use Rattle.design_nets.specs.declared.meetings.Meeting.{Meeting}
-use Rattle.design_nets.specs.Meetings.{list_in, row_of, meetings_at, meeting_of, IsSquare, IsMeeting, AreMeetings}
+use Rattle.design_nets.specs.Meetings.{list_in, row_of, meetings_at, meeting_of, IsMeeting, AreMeetings}
 
 -- ---- a list of a row
 
@@ -72,14 +72,6 @@ table_grown table a b row m lt h =
         ]
       ];
     }
-
--- an empty table has no ports
-pub no_meetings : (nets : List Nets) (table : List (Vec (Vec Meeting Global) Global)) → IsSquare (length nets) table → ((a b : ℕ) → meetings_at table a b ≡ []) → AreMeetings nets [] table
-no_meetings nets table square empty = record {
-  square = square;
-  sound = λ a b m h. absurd (let lt = (subst (λ (ms : List Meeting). Contains ms m) (empty a b) h).1 in omega (arith, lt));
-  complete = λ met h. absurd (let lt = h.1 in omega (arith, lt));
-}
 
 -- the ports of one more match
 pub meetings_more : (nets : List Nets) (matches : List Match) (met : Match) (old new : List (Vec (Vec Meeting Global) Global)) → AreMeetings nets matches old → IsTableGrown old new met.a met.b (meeting_of nets met)

@@ -1,11 +1,11 @@
 -- A design with an edited cell.
 use Rattle.std.proofs.Common.{◌≡◌, ℕ, ◌<◌, List, length, get_or, set, Some, sym, ap, subst, ◌∙◌, arith}
-use Rattle.std.{proofs.lemmas.List.Quantifiers.position-Some, specs.{Prelude.{Contains, slice_set}, Str.bytes_eq}}
+use Rattle.std.{proofs.lemmas.List.Quantifiers.position-Some, specs.{Prelude.slice_set, Str.bytes_eq}}
 use Rattle.stick_parse.specs.declared.design.{Line.Line, CellText.CellText, Design.Design}
 use Rattle.stick_print.specs.ReadBack.{laid_out}
-use Rattle.design_edits.{specs.Cells.{no_cell, cell_text_at, AreWithoutUse}, proofs.Laid.{lines_of_laid, text_here}}
+use Rattle.design_edits.{specs.Cells.{no_cell, cell_text_at}, proofs.Laid.{lines_of_laid, text_here}}
 use Rattle.edit_lines.specs.declared.script.EditLine.{EditLine, TheVariants.{Add, Take}}
-use Rattle.edit_lines.specs.Edits.{cell_in, number_named, ChangesTo, HasLinesAfter, IsEdited}
+use Rattle.edit_lines.specs.Edits.{number_named, ChangesTo, HasLinesAfter, IsEdited}
 use Rattle.edit_lines.proofs.Lines.{changes_are_determined, HasLengthAfter}
 
 pub same_some : (a b : ℕ) → Some a ≡ Some b → a ≡ b
@@ -23,12 +23,6 @@ edited_is_determined design masters edit new other a b =
     a.made ∙ ap (with_lines design a.cell) lines ∙ ap (λ (k : ℕ). with_lines design k b.lines) (sym cells) ∙ sym b.made
 
 -- ---- where there is none
-
-pub not_named : (design : Design) (masters : List ℕ) (edit : EditLine) (new : Design) (k : ℕ) → number_named design.cells (cell_in edit) ≡ Some k → IsEdited design masters edit new
-    → (Contains masters k) × AreWithoutUse (cell_in edit) design.cells × ((lines : List Line) × ChangesTo edit (cell_text_at design k).lines lines)
-not_named design masters edit new k e is =
-    let same : is.cell ≡ k = same_some is.cell k (sym is.named ∙ e) in
-    (subst (Contains masters) same is.master, is.unused, (is.lines, (let P : ℕ → Type 0 = λ i. ChangesTo edit (cell_text_at design i).lines is.lines in subst P same is.changed)))
 
 -- ---- the cell that the code reads
 

@@ -1,29 +1,14 @@
 -- The lines of a cell after an edit.
-use Rattle.std.proofs.Common.{◌≡◌, ℕ, ◌+◌, ◌<◌, ◌≤◌, Bool, List, [], ◌∷◌, ◌++◌, length, take, drop, cond, sym, ap, ◌∙◌}
-use Rattle.std.proofs.{Common.{append_assoc, arith}, lemmas.List.{take_at, drop_at, length-append, Sums.sum_by-cons}}
-use Rattle.std.{proofs.lemmas.List.Sums.sum_by-append, specs.List.AllByRecursion}
+use Rattle.std.proofs.Common.{◌≡◌, ℕ, ◌+◌, ◌<◌, ◌≤◌, List, [], ◌∷◌, ◌++◌, length, take, drop, sym, ap, ◌∙◌}
+use Rattle.std.proofs.{Common.{append_assoc, arith}, lemmas.List.{take_at, drop_at, length-append}}
+use Rattle.std.specs.List.{AllByRecursion}
 use Rattle.list_facts.proofs.Elements.{all_append, all_parts}
 use Rattle.stick_parse.specs.{declared.design.{Line.Line, Form.TheVariants.Limit}, Writable.IsLine}
 use Rattle.design_edits.{specs.Cells.unnumbered, proofs.Splits.same_split}
 use Rattle.edit_lines.specs.declared.script.EditLine.{EditLine, TheVariants.{Add, Take}}
-use Rattle.edit_lines.specs.{Edits.{is_limit, limits_in, HasText, ChangesTo, IsWithoutLimit}, Building.IsLimitAt}
+use Rattle.edit_lines.specs.{Edits.{is_limit, HasText, ChangesTo, IsWithoutLimit}, Building.IsLimitAt}
 
 -- ---- without a limit
-
--- a limit has fewer limits before it than there are
-pub some_limit : (lines new : List Line) (k : ℕ) → limits_in lines ≤ k → IsWithoutLimit lines k new → ⊥
-some_limit lines new k few is =
-    let all : limits_in lines ≡ limits_in (is.front ++ is.limit ∷ is.back) = ap limits_in is.split in
-    let here : ◌≡◌ {A = ℕ} (cond (is_limit is.limit.form) 1 0) 1 = ap (λ (b : Bool). cond b 1 0) is.of_limit in
-    omega (
-      arith,
-      all,
-      here,
-      few,
-      is.count,
-      sum_by-append (λ (line : Line). cond (is_limit line.form) 1 0) is.front (is.limit ∷ is.back),
-      sum_by-cons (λ (line : Line). cond (is_limit line.form) 1 0) is.limit is.back,
-    )
 
 -- the lines before it and behind it
 pub without_limit : (lines : List Line) (k at : ℕ) (new : List Line) → IsLimitAt lines k at → new ≡ take at lines ++ drop (at + 1) lines → IsWithoutLimit lines k new
@@ -40,9 +25,6 @@ without_limit lines k at new is e =
       of_limit = is.of_limit;
       kept = e ∙ ap (λ (l : List Line). l ++ drop (at + 1) lines) fronts ∙ ap (λ (l : List Line). is.front ++ l) backs;
     }
-
-pub limit_within : (lines : List Line) (k at : ℕ) → IsLimitAt lines k at → at < length lines
-limit_within lines k at is = omega (arith, ap length is.split, length-append is.front (is.limit ∷ is.back), is.place)
 
 -- ---- after an edit
 

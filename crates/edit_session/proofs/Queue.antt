@@ -81,7 +81,3 @@ queue_pop queue marks room v h =
       once = h.once.1;
       enough = (let e : length marks ≤ room = h.enough in omega (arith, e, same));
     }
-
--- where none is left, none is marked
-pub queue_empty : (queue : List ℕ) (marks : List Bool) (room : ℕ) → IsQueueOf queue marks room → queue ≡ [] → (u : ℕ) → get_or marks u false ≡ true → ⊥
-queue_empty queue marks room h e u m = let P : List ℕ → Type 0 = λ q. In u q in subst P e (h.listed u m)

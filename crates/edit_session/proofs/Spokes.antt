@@ -1,17 +1,8 @@
 -- Graphs of the tests: an edge from the origin to each other variable, one after another.
 use Rattle.std.proofs.Common.{◌≡◌, ℕ, suc, ◌^◌, ◌<◌, ◌≤◌, inl, inr, ℤ, pos, neg_ℤ, ◌≤ℤ◌, List, [], ◌∷◌, ◌++◌, get_or}
 use Rattle.std.proofs.{Common.{sym, subst, ◌∙◌, arith}, lemmas.{Int.ints, Bool.cases_lt, List.length-append}}
-use Rattle.std.proofs.lemmas.List.{get_or_append_left, Elements.{All-nil, All-push}, Quantifiers.Any-push}
-use Rattle.std.specs.List.{Any}
+use Rattle.std.{proofs.lemmas.List.{get_or_append_left, Elements.All-push, Quantifiers.Any-push}, specs.List.Any}
 use Rattle.cons_graph.specs.{declared.edges.Edge.Edge, Constraints.{IsConstraintGraph, IsEdgeAmong, LeadsFromOrigin}}
-
-pub graph_first : IsConstraintGraph (record { vars = 1; edges = [] })
-graph_first = record {
-  has_origin = omega arith;
-  few_vars = omega arith;
-  edges_among = All-nil (IsEdgeAmong 1);
-  all_from_origin = λ v a b. absurd (let f : 1 ≤ v = a in let g : v < 1 = b in omega (arith, f, g));
-}
 
 -- one more variable, and the edge to it
 pub graph_wider : (n m : ℕ) (edges : List Edge) (e : Edge) → m ≡ suc n → m ≤ 65536 → e.from ≡ 0 → e.to ≡ n → e.len ≡ pos 0 → IsConstraintGraph (record { vars = n; edges = edges }) → IsConstraintGraph (record { vars = m; edges = edges ++ e ∷ [] })

@@ -16,14 +16,6 @@ last_of edges = edge_at edges (length edges - 1)
 pub last_among : (edges : List Edge) (x : List ℤ) (marks : List Bool) → IsAppended edges x marks → IsEdgeAmong (length x) (last_of edges)
 last_among edges x marks h = edge_among (record { vars = length x; edges = edges }) h.shape (length edges - 1) (let s : 1 ≤ length edges = h.some in omega arith)
 
--- the value of its tail is small
-pub last_small : (edges : List Edge) (x : List ℤ) (marks : List Bool) → IsAppended edges x marks → (neg_ℤ (pos (2 ^ 60)) ≤ℤ value_of x (last_of edges).from) × (value_of x (last_of edges).from ≤ℤ pos (2 ^ 60))
-last_small edges x marks h =
-    let w = h.small (last_of edges).from (last_among edges x marks h).from_in_range in
-    let a : neg_ℤ (pos (2 ^ 55)) ≤ℤ value_of x (last_of edges).from = w.0 in
-    let b : value_of x (last_of edges).from ≤ℤ pos (2 ^ 55) = w.1 in
-    (omega (arith, ints), omega (arith, ints))
-
 -- each edge is the last one or one before it
 old_or_last : (edges : List Edge) (k : ℕ) → k < length edges → (suc k < length edges) ⊎ (k ≡ length edges - 1)
 old_or_last edges k lt = elim (cases_eq k (length edges - 1)) as (λ _. (suc k < length edges) ⊎ (k ≡ length edges - 1)) [ inl e ↦ inr e | inr d ↦ inl (omega arith) ]

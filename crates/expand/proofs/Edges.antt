@@ -1,5 +1,5 @@
 -- The inequalities of one item, wire or limit, as the code adds them.
-use Rattle.std.proofs.Common.{◌≡◌, ℕ, ℤ, true, false, List, [], ◌∷◌, ◌++◌, refl, sym, ap, ◌∙◌, append_assoc}
+use Rattle.std.proofs.Common.{◌≡◌, ℕ, ℤ, true, List, [], ◌∷◌, ◌++◌, refl, sym, ap, ◌∙◌, append_assoc}
 use Rattle.lam_geom.specs.declared.boxes.Axis.{Axis, TheVariants.{X, Y}}
 use Rattle.rule_table.specs.{declared.technology.Tech.Tech, Technology.margin_of}
 use Rattle.sym_items.specs.{declared.items.{End.End, Item.Item}, Transposed.item_along}
@@ -29,9 +29,6 @@ overlap_pushed axis tech cell k cross wire now next e ec ew =
 
 pub limit_kept : (axis : Axis) (limit : Limit) → is_limit_of axis limit.axis ≡ true → limit_edges axis limit ≡ limit_edge limit ∷ []
 limit_kept axis limit e = rw e refl
-
-pub limit_dropped : (axis : Axis) (limit : Limit) → is_limit_of axis limit.axis ≡ false → limit_edges axis limit ≡ []
-limit_dropped axis limit e = rw e refl
 
 -- the five parts, one after another
 pub structure_pushed : (axis : Axis) (tech : Tech) (cell : Cell) (read list : List Item) (size : Edge) (none one two three four five : List Edge) → read ≡ list → size ≡ size_edge tech

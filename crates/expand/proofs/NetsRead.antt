@@ -1,8 +1,8 @@
 -- How many nets a cell has of each kind, and the nets that a loop reads.
-use Rattle.std.proofs.Common.{◌≡◌, ℕ, ◌+◌, ◌<◌, List, [], ◌∷◌, length, get_or, refl, ap, ◌∙◌, arith, length-drop}
+use Rattle.std.proofs.Common.{◌≡◌, ℕ, ◌+◌, ◌<◌, List, [], ◌∷◌, length, get_or, refl, ap, ◌∙◌, arith}
 use Rattle.std.proofs.lemmas.List.{get_or_default}
 use Rattle.cell_model.specs.declared.cell.{Node.Node, NodeNets.NodeNets, Nets.Nets, Cell.Cell}
-use Rattle.cell_model.specs.Nets.{kind_parts, node_parts, nets_of_nodes, AreNets}
+use Rattle.cell_model.specs.Nets.{kind_parts, nets_of_nodes, AreNets}
 use Rattle.expand.specs.Items.{no_nets, nets_at}
 
 nets_of_nodes_count : (numbers : List ℕ) (k : ℕ) (nodes : List Node) → length (nets_of_nodes numbers k nodes) ≡ length nodes
@@ -11,13 +11,6 @@ nets_of_nodes_count numbers k (node ∷ nodes) = let h = nets_of_nodes_count num
 
 pub node_nets_count : (cell : Cell) (nets : Nets) → AreNets cell nets → length nets.node ≡ length cell.nodes
 node_nets_count cell nets h = ap (λ (ns : List NodeNets). length ns) h.nodes ∙ nets_of_nodes_count h.numbers 0 cell.nodes
-
-pub wire_nets_count : (cell : Cell) (nets : Nets) → AreNets cell nets → length nets.wire ≡ length cell.wires
-wire_nets_count cell nets h =
-    let e = ap (λ (ns : List ℕ). length ns) h.wires in
-    let d = length-drop (node_parts cell.nodes) h.numbers in
-    let n = h.netting.counted in
-    omega arith
 
 pub nets_read : (ns nets : List NodeNets) (k : ℕ) (d : NodeNets) → ns ≡ nets → k < length ns → get_or ns k d ≡ nets_at nets k
 nets_read ns nets k d e lt = get_or_default ns k d no_nets lt ∙ ap (λ (ms : List NodeNets). nets_at ms k) e

@@ -53,14 +53,6 @@ same_layer NI NI e = refl
 same_layer NB NB e = refl
 same_layer a b e = absurd cc
 
-same_itself : (a : MaskLayer) → is_same_layer a a ≡ true
-same_itself ND = refl
-same_itself NP = refl
-same_itself NC = refl
-same_itself NM = refl
-same_itself NI = refl
-same_itself NB = refl
-
 drawn_on : (layer : MaskLayer) (c : Class) → is_drawn layer c ≡ true → layer_drawn c ≡ Some layer
 drawn_on layer Dm e = ap Some (sym (same_layer layer ND e))
 drawn_on layer P e = ap Some (sym (same_layer layer NP e))

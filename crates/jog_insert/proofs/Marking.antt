@@ -1,10 +1,9 @@
 -- The numbers of jogs whose joints have names that stand in the cell are marked, line by line.
 use Rattle.std.proofs.Common.{◌≡◌, ℕ, suc, ◌<◌, ◌≤◌, ◌≢◌, Bool, true, false, List, [], ◌∷◌, ◌++◌, length, get_or, set}
 use Rattle.std.proofs.{Common.{refl, sym, ap, subst, inl, inr, ◌∙◌, arith}, lemmas.Bool.{cases_eq, cases_lt}}
-use Rattle.std.proofs.lemmas.List.{get_or-set_same, get_or-set_other, length-set, length-replicate, get_or-replicate}
-use Rattle.std.proofs.lemmas.List.Elements.{Contains-append_left, Contains-push, Contains-push_cases, at_from_Contains}
-use Rattle.std.proofs.lemmas.List.{Folds.sum_by-replicate, Sums.{sum_by-set, sum_by-cons}}
-use Rattle.std.specs.Prelude.{◌⊎◌, Contains, replicate, slice_index_or, if◌then◌else◌}
+use Rattle.std.proofs.lemmas.List.{get_or-set_same, get_or-set_other, length-set, Elements.Contains-append_left}
+use Rattle.std.proofs.lemmas.List.{Elements.{Contains-push, Contains-push_cases, at_from_Contains}, Sums.sum_by-set}
+use Rattle.std.{proofs.lemmas.List.Sums.sum_by-cons, specs.Prelude.{◌⊎◌, Contains, slice_index_or, if◌then◌else◌}}
 use Rattle.stick_parse.specs.declared.design.Line.{Line}
 use Rattle.jog_insert.specs.{Jogs.{lower_name, upper_name, name_in, IsTaken, IsFree, IsJogNumber}, Building.IsNameOf}
 use Rattle.jog_insert.specs.Building.{IsTakenBy, AreMarked, Marks, marks_in}
@@ -52,20 +51,6 @@ taken_or_own lines line name own is t = by (taken_cases lines line name t)
     by (inr here) = inr (only_name own name (subst (λ (names : List (List ℕ)). Contains names name) is here))
 
 -- ---- marks
-
--- before the first line
-pub marked_none : (size : ℕ) → AreMarked [] (replicate size false)
-marked_none size = record {
-  marked = λ n lt t. absurd (nothing n t);
-  only = λ n lt e. let f : get_or (replicate size false) n false ≡ false = get_or-replicate size n false false (omega (arith, lt, length-replicate size false)) in absurd (cc);
-}
-  where
-    nothing : (n : ℕ) → IsTakenBy [] n → ⊥
-    nothing n (inl t) = none_in t.0 t.1
-    nothing n (inr t) = none_in t.0 t.1
-
-pub no_marks : (size : ℕ) → marks_in (replicate size false) ≡ 0
-no_marks size = sum_by-replicate (λ (b : Bool). if b then 1 else 0) size false ∙ omega arith
 
 -- a line without a name
 pub marked_before : (lines : List Line) (line : Line) (taken : List Bool) → name_in line.form ≡ [] → AreMarked lines taken → AreMarked (lines ++ line ∷ []) taken
@@ -127,10 +112,6 @@ marks_set name old number lt is same = record {
     own : (n : ℕ) → n < length old → (n ≡ number) ⊎ (n ≢ number) → get_or (set old number true) n false ≡ true → (get_or old n false ≡ true) ⊎ IsNameOf n name
     own n low (inl e) h = inr (subst (λ (k : ℕ). IsNameOf k name) (sym e) is)
     own n low (inr ne) h = inl (sym (get_or-set_other old number n true false ne) ∙ h)
-
--- a name that is that of no joint
-pub marks_none : (name : List ℕ) (old : List Bool) → ((n : ℕ) → n < length old → IsNameOf n name → ⊥) → Marks name old old
-marks_none name old none = record { size = refl; kept = λ n lt e. e; marked = λ n lt is. absurd (none n lt is); only = λ n lt e. inl e; count = omega arith }
 
 -- where all are marked
 pub all_marked : (taken : List Bool) → ((k : ℕ) → k < length taken → get_or taken k false ≡ true) → marks_in taken ≡ length taken

@@ -28,9 +28,6 @@ has_started g order floor held s =
       few = omega arith;
     }
 
-pub ready_at : (g : Constraints) (order places : List ℕ) (n : ℕ) (floor : Option ℕ) (held : Held) → IsConstraintGraph g → NamesEachOnce g.vars order → ArePlaces order g.vars places → HasCome g order n floor held → IsReady g.vars g.edges order places held
-ready_at g order places n floor held s o p h = record { shape = s; names = o; places_are = p; same_vars = h.vars; log = h.held_for.log }
-
 -- the forward part of a round keeps a log one
 forward_log : (g : Constraints) (order : List ℕ) (rs : List Entry) → IsConstraintGraph g → NamesEachOnce g.vars order → LogOf g order rs → LogOf g order (forward_part (plan_of g.edges order) rs)
 forward_log g order rs s o l =

@@ -1,7 +1,7 @@
 -- The looks at the forward edges out of one variable, one after another.
 use Rattle.std.proofs.Common.{◌≡◌, ◌≢◌, ℕ, ◌+◌, ◌<◌, ◌≤◌, Bool, true, Some, List, ◌∷◌, inl, inr, length, get_or, set}
-use Rattle.std.proofs.{Common.{refl, sym, ap, subst, ◌∙◌, arith}, lemmas.Bool.{cases_lt, ltb-true}}
-use Rattle.std.{proofs.lemmas.List.get_or_default, specs.List.All}
+use Rattle.std.proofs.{Common.{sym, ap, subst, ◌∙◌, arith}, lemmas.{Bool.{cases_lt, ltb-true}, List.get_or_default}}
+use Rattle.std.specs.List.{All}
 use Rattle.cons_graph.specs.{declared.edges.Edge.Edge, Constraints.IsConstraintGraph, EdgeNumbers.edge_at}
 use Rattle.round_log.{specs.{declared.log.Entry.Entry, Looks.{raise_of, is_forward, place_in}}, proofs.Least.edge_among}
 use Rattle.liao_wong.specs.{Marked.is_marked, Worklist.{AppendsNothing, HasLookedForward}}
@@ -11,9 +11,6 @@ use Rattle.liao_wong.proofs.{Marking.set_elsewhere, Worklists.{kept_none, own_no
 pub record HasLookedUpTo (edges : List Edge) (order numbers : List ℕ) (i tail : ℕ) (old new : List Bool) (raises : List Entry) : Type 0 where
   pub quiet : (j : ℕ) → j < i → is_forward order (edge_at edges (get_or numbers j 0)) ≡ true → AppendsNothing edges raises (get_or numbers j 0)
   pub behind : (n : ℕ) → n ≤ place_in order tail → is_marked new n ≡ is_marked old n
-
-pub looked_none : (edges : List Edge) (order numbers : List ℕ) (tail : ℕ) (old : List Bool) (rs : List Entry) → HasLookedUpTo edges order numbers 0 tail old old rs
-looked_none edges order numbers tail old rs = record { quiet = λ j lt up. absurd (omega arith); behind = λ n le. refl }
 
 -- a look that appends nothing, or no look
 pub looked_quietly : (edges : List Edge) (order numbers : List ℕ) (i tail : ℕ) (old new : List Bool) (rs : List Entry) → HasLookedUpTo edges order numbers i tail old new rs → (is_forward order (edge_at edges (get_or numbers i 0)) ≡ true → AppendsNothing edges rs (get_or numbers i 0)) → HasLookedUpTo edges order numbers (i + 1) tail old new rs

@@ -1,10 +1,9 @@
 -- The steps of a sweep: which entries are kept, their new numbers, and the arrays that are left.
 use Rattle.std.proofs.Common.{◌≡◌, ◌≢◌, ℕ, zero, suc, ◌+◌, ◌-◌, ◌<◌, ◌≤◌, ℤ, Bool, true, false, List, [], ◌∷◌, ◌++◌}
 use Rattle.std.proofs.Common.{take, inl, inr, length, get_or, set, refl, sym, ap, subst, ◌∙◌, arith}
-use Rattle.std.proofs.{Math.Seq.take-suc, lemmas.List.{length-set, take_more_set, take_all, get_or-set_other}}
-use Rattle.std.proofs.lemmas.List.{length-reverse, reverse-append, reverse-reverse, length-take-le}
-use Rattle.std.proofs.lemmas.{List.Elements.All-from_get_or, Bool.{cases_eq, cases_lt, cases_Bool}, Grind.get_or-set_at}
-use Rattle.std.specs.List.{All}
+use Rattle.std.proofs.{Math.Seq.take-suc, lemmas.List.{length-set, take_more_set, get_or-set_other, length-reverse}}
+use Rattle.std.proofs.lemmas.List.{reverse-append, reverse-reverse, length-take-le, Elements.All-from_get_or}
+use Rattle.std.{proofs.lemmas.{Bool.{cases_eq, cases_lt, cases_Bool}, Grind.get_or-set_at}, specs.List.All}
 use Rattle.round_log.specs.{declared.log.Entry.Entry, Kept.{new_number, renumbered, kept_part, KeepsBack, KeepsChains}}
 use Rattle.round_log.specs.{Looks.latest, Logs.{origin_entry, raises_of, ComeFromOlder}}
 use Rattle.round_log.proofs.Entries.{array_of, length-array, entry-newest, entry-older, IsChainStep, chain_step}
@@ -161,11 +160,6 @@ pub record IsCompacted (keeps : ℕ → Bool) (es now : List Entry) (n kept : �
   pub front : take kept now ≡ array_of (kept_part keeps (raises_of (take n es)))
   pub rest : (k : ℕ) (d : Entry) → n ≤ k → get_or now k d ≡ get_or es k d
 
-pub compact_start : (keeps : ℕ → Bool) (es : List Entry) → es ≡ array_of (raises_of es) → IsCompacted keeps es es 1 1
-compact_start keeps es e =
-    let P : List Entry → Type 0 = λ l. take 1 l ≡ array_of (kept_part keeps (raises_of (take 1 l))) in
-    record { same_length = refl; some = omega arith; low = omega arith; front = subst P (sym e) refl; rest = λ k d le. refl }
-
 pub compact_keep : (keeps : ℕ → Bool) (es now : List Entry) (n kept prev : ℕ) (value : ℤ) (e : Entry) → IsCompacted keeps es now n kept → n < length es → keeps n ≡ true → e ≡ get_or now n e → prev ≡ new_number keeps e.prev → value ≡ e.value → IsCompacted keeps es (set now kept (record { var = e.var; value = value; edge = e.edge; prev = prev })) (n + 1) (kept + 1)
 compact_keep keeps es now n kept prev value e c lt t q p z =
     let new : Entry = record { var = e.var; value = value; edge = e.edge; prev = prev } in
@@ -191,9 +185,6 @@ compact_drop keeps es now n kept c lt f =
       front = kept_same keeps es (take kept now) n (omega (arith, some, low)) lt f c.front;
       rest = λ k d le. c.rest k d (omega arith);
     }
-
-pub compact_end : (keeps : ℕ → Bool) (es now : List Entry) (n kept : ℕ) → IsCompacted keeps es now n kept → length es ≤ n → take kept now ≡ array_of (kept_part keeps (raises_of es))
-compact_end keeps es now n kept c le = c.front ∙ ap (λ l. array_of (kept_part keeps (raises_of l))) (take_all n es le)
 
 -- ---- the arrays that are left
 

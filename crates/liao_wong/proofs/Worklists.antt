@@ -13,8 +13,8 @@ use Rattle.round_log.proofs.{Least.edge_among, Planned.{In-at, place_of_In, plac
 use Rattle.round_log.proofs.{Planned.IsDistinct-from_pairs, Alike.leaves_too, Kept.part_alike}
 use Rattle.liao_wong.specs.{Held.Held, Sweeping.{IsSwept, IsTrimmed}, Marked.is_marked, Worklist.AppendsNothing}
 use Rattle.liao_wong.specs.Worklist.{has_ready_tail, IsWorklist, WaitToo, BackwardOnesWait, HasLookedForward}
-use Rattle.liao_wong.{specs.Worklist.{HasNoneReady, HasLookedAtPlace}, proofs.Marking.{set_here, set_elsewhere}}
-use Rattle.liao_wong.proofs.{Marking.{set_only, set_was_not, cleared}, Course.place_at, Steps.leaving_in_range}
+use Rattle.liao_wong.{specs.Worklist.HasLookedAtPlace, proofs.Marking.{set_here, set_elsewhere, set_only, set_was_not}}
+use Rattle.liao_wong.proofs.{Marking.cleared, Course.place_at, Steps.leaving_in_range}
 
 -- ---- looks that append nothing
 
@@ -164,9 +164,6 @@ passed_place order vars place edges numbers old mid rs o lt l h =
 -- the backward edges from a number on whose tails are ready wait
 abbrev pub AheadWait : List Edge → List ℕ → List Bool → List Bool → ℕ → Type 0
 AheadWait edges order ready waiting at = (k : ℕ) → at ≤ k → k < length edges → is_forward order (edge_at edges k) ≡ false → has_ready_tail edges order ready k ≡ true → is_marked waiting k ≡ true
-
-pub ahead_start : (edges : List Edge) (order : List ℕ) (ready waiting : List Bool) → HasNoneReady ready → AheadWait edges order ready waiting 0
-ahead_start edges order ready waiting none k low lt down t = absurd (true≢false (sym t ∙ none (place_in order (edge_at edges k).from)))
 
 pub ahead_looked : (edges : List Edge) (order : List ℕ) (ready waiting : List Bool) (at k : ℕ) → AheadWait edges order ready waiting at → at ≤ k → AheadWait edges order ready (set waiting k false) (k + 1)
 ahead_looked edges order ready waiting at k a le j low lt down t =

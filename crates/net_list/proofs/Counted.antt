@@ -2,7 +2,7 @@
 use Rattle.std.proofs.Common.{◌≡◌, ℕ, zero, suc, ◌+◌, ◌<◌, ◌≤◌, ◌&&◌, Bool, true, false, cond, eqb, get_or, List, ◌++◌}
 use Rattle.std.proofs.Common.{length, map, take, refl, sym, ap, ◌∙◌, add-zero, arith, inl, inr, set, get_or-set_same}
 use Rattle.std.proofs.{Common.{get_or-set_other, eq-eqb}, lemmas.{Bool.{cases_eq, ne_eqb}, List.Sums.sum_by_more}}
-use Rattle.std.{proofs.lemmas.List.Sums.count_by-le-length, specs.List.{flat_map, range_with_len}}
+use Rattle.std.specs.List.{flat_map, range_with_len}
 use Rattle.lam_geom.specs.declared.boxes.{MaskBox.MaskBox, MaskLayer.{MaskLayer, TheVariants.{ND, NP, NC, NM, NI, NB}}}
 use Rattle.crossings.specs.Boxes.{layer_at}
 use Rattle.net_extract.specs.declared.netlist.Piece.{Piece}
@@ -51,10 +51,6 @@ counted_elsewhere : (boxes : List MaskBox) (pieces : List Piece) (i : ℕ) (x : 
 counted_elsewhere boxes pieces i x net lt other =
     same_counts (counts_of boxes (take (i + 1) pieces) net) (counts_of boxes (take i pieces) net)
     (other_net is_diffusion boxes pieces i x net lt other) (other_net is_poly boxes pieces i x net lt other) (other_net is_metal boxes pieces i x net lt other)
-
--- no count is more than there are pieces
-pub counted_few : (is_layer : MaskLayer → Bool) (boxes : List MaskBox) (pieces : List Piece) (net : ℕ) → pieces_on is_layer boxes pieces net ≤ length pieces
-counted_few is_layer boxes pieces net = count_by-le-length (λ (p : Piece). eqb p.net net && is_layer (layer_at boxes p.box_no)) pieces
 
 -- ---- a table of counts
 

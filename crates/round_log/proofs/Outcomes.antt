@@ -2,23 +2,22 @@
 use Rattle.std.proofs.Common.{◌≡◌, ℕ, zero, suc, ◌+◌, ◌<◌, ◌≤◌, ℤ, pos, ◌<ℤ◌, Bool, false, eqb, List, [], ◌∷◌, ◌++◌}
 use Rattle.std.proofs.Common.{map, ◌⊎◌, inl, inr, length, get_or, take, drop, refl, sym, ap, subst, ◌∙◌, arith}
 use Rattle.std.proofs.lemmas.{Bool.{true≢false, cond_both}, List.{map-append, take-map, get_or-drop}}
-use Rattle.std.proofs.lemmas.List.{get_or_append_left, length-drop, take-append-drop, get_or_default, nil_from_length}
-use Rattle.std.{proofs.lemmas.List.length-append, specs.List.{All, Contains, range_with_len, list_any}}
+use Rattle.std.proofs.lemmas.List.{get_or_append_left, length-drop, take-append-drop, get_or_default}
+use Rattle.std.specs.List.{All, Contains, range_with_len, list_any}
 use Rattle.cons_graph.specs.{declared.edges.{Edge.Edge, Why.TheVariants.Size}, Constraints.Constraints}
-use Rattle.cons_graph.specs.{Constraints.IsConstraintGraph, Solutions.{IsSolution, IsLeastSolution}, Walks.walk_length}
-use Rattle.cons_graph.specs.{Walks.{IsCycle, HasPositiveCycle}, SimpleWalks.{edges_of, tails_of, IsSimplePositiveCycle}}
+use Rattle.cons_graph.specs.{Constraints.IsConstraintGraph, Solutions.IsLeastSolution, Walks.{walk_length, IsCycle}}
+use Rattle.cons_graph.specs.{Walks.HasPositiveCycle, SimpleWalks.{edges_of, tails_of, IsSimplePositiveCycle}}
 use Rattle.cons_graph.{specs.EdgeNumbers.edge_at, proofs.CycleTest.cycle_from_walk}
 use Rattle.round_log.specs.{declared.log.Entry.Entry, WalksBack.{up_to, loop_back, turned, cycle_of, least_place}}
 use Rattle.round_log.specs.{Orders.NamesEachOnce, Looks.chain, Rounds.{Progress, Plan, plan_of, forward_part, round}}
 use Rattle.round_log.specs.Rounds.{one_more, after_rounds, EndsInRound}
 use Rattle.round_log.proofs.{Raises.{IsQuiet, IsJustified}, Chains.{In, In-chain, raise_linked, raise_rising}}
 use Rattle.round_log.proofs.Members.{In-map-back, In-append, In-append-left, In-append-right, In-range-from, In-range}
-use Rattle.round_log.proofs.{Members.IsDistinct, Parts.{IsStopAt, log_justified, Keeps}, RoundSteps.IsPlanned}
-use Rattle.round_log.proofs.RoundSteps.{going_start, forward_next, rounds_give, one_more_going, one_more_stopped}
-use Rattle.round_log.proofs.{RoundSteps.{all_quiet, round_gives, busy_bound}, Least.{label_value, quiet_least}}
-use Rattle.round_log.proofs.{Planned.{planned, place_of_In}, Walking.pairs_from_IsDistinct, Cycles.{tails, IsLoop}}
-use Rattle.round_log.proofs.{Cycles.{loop_of_raise, turned_loop, least_place_in_range, least_place_least}, Ends.LogOf}
-use Rattle.round_log.proofs.Ends.{GoingOf, back_of, numbers, map-map, All-from_In, log_entry}
+use Rattle.round_log.proofs.{Members.IsDistinct, Parts.{IsStopAt, log_justified, Keeps}, RoundSteps.forward_next}
+use Rattle.round_log.proofs.{RoundSteps.{rounds_give, one_more_going, one_more_stopped, all_quiet}, Least.label_value}
+use Rattle.round_log.proofs.{Least.quiet_least, Planned.{planned, place_of_In}, Walking.pairs_from_IsDistinct}
+use Rattle.round_log.proofs.Cycles.{tails, IsLoop, loop_of_raise, turned_loop, least_place_in_range, least_place_least}
+use Rattle.round_log.proofs.Ends.{LogOf, GoingOf, back_of, numbers, map-map, All-from_In, log_entry}
 
 -- ---- a turned loop as numbers of edges
 
@@ -169,38 +168,3 @@ every_variable vars = record {
     range_distinct : (a n : ℕ) → IsDistinct (range_with_len a n)
     range_distinct a zero = tt
     range_distinct a (suc n) = (λ i. let h = In-range a (a + 1) n i in let le = h.0 in omega (arith, le), range_distinct (a + 1) n)
-
-nil_or_not : {X : Type 0} (xs : List X) → (xs ≡ []) ⊎ (xs ≡ [] → ⊥)
-nil_or_not [] = inl refl
-nil_or_not (x ∷ xs) = inr (λ e. absurd cc)
-
-nil_from_same : {X : Type 0} (xs ys : List X) → xs ++ ys ≡ ys → xs ≡ []
-nil_from_same xs ys e = nil_from_length xs (let h = ap length e in omega (arith, h, length-append xs ys))
-
-abbrev SolvedOrCyclic : Constraints → Type 0
-SolvedOrCyclic g = ((x : ℕ → ℤ) × IsSolution g.edges x) ⊎ HasPositiveCycle g.edges
-
--- rounds from d on, as long as there may be busy ones
-decide : (g : Constraints) (order : List ℕ) → IsConstraintGraph g → NamesEachOnce g.vars order → (fuel d : ℕ) (rs : List Entry) → GoingOf g order d rs → d ≤ length (plan_of g.edges order).backward → length (plan_of g.edges order).backward < d + fuel → SolvedOrCyclic g
-decide g order s o zero d rs going le lt = absurd (omega arith)
-decide g order s o (suc fuel) d rs going le lt =
-    let p : Plan = plan_of g.edges order in
-    let h : IsPlanned p (back_of g order) (length g.edges) = planned g order s o in
-    elim (round_gives p (back_of g order) (length g.edges) d rs h going) as (λ _. SolvedOrCyclic g) [
-      | inl on ↦ elim (nil_or_not on.1.extends.new) as (λ _. SolvedOrCyclic g) [
-        | inl e ↦ (
-            let end : IsEnded g order (forward_part p rs) = ended_from_quiet g order s o d rs going (on.1.extends.split ∙ ap (λ x. x ++ forward_part p rs) e) in
-            inl (label_value (forward_part p rs), (ended_least g order (forward_part p rs) s end).solves))
-        | inr n ↦ (
-            let busy : suc d ≤ length p.backward = busy_bound p (back_of g order) (length g.edges) d rs (round p rs).raises h on.1 (λ e. n (nil_from_same on.1.extends.new (forward_part p rs) (sym on.1.extends.split ∙ e))) in
-            decide g order s o fuel (suc d) (round p rs).raises on.1.going busy (omega arith))
-      ]
-      | inr t ↦ inr (has_cycle g.edges (cycle_of g.edges (round p rs).raises) (stop_cycle g (back_of g order) (round p rs).raises t.1))
-    ]
-
--- where no cycle of a graph is positive, it has a solution
-pub solution_or_cycle : (g : Constraints) → IsConstraintGraph g → ((x : ℕ → ℤ) × IsSolution g.edges x) ⊎ HasPositiveCycle g.edges
-solution_or_cycle g s =
-    let order : List ℕ = range_with_len 0 g.vars in
-    let p : Plan = plan_of g.edges order in
-    decide g order s (every_variable g.vars) (suc (length p.backward)) 0 [] (going_start p (back_of g order) (length g.edges)) (omega arith) (omega arith)

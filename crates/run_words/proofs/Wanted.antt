@@ -1,29 +1,11 @@
 -- The arguments that each line wants, and that the lines are simple.
 use Rattle.std.proofs.Common.{◌≡◌, ◌<◌, ◌≤◌, ℕ, true, false, refl, arith, [], length, codes, Some}
 use Rattle.std.specs.{List.{list_all, slice_index_or}, Str.bytes_eq}
-use Rattle.clap.specs.{Words.{App, Rule, is_simple_and_free}, Facts.unwrap_or_range, Simple.{is_ready, is_ready_leaf}}
+use Rattle.clap.specs.{Words.{App, Rule}, Facts.unwrap_or_range, Simple.{is_ready, is_ready_leaf}}
 use Rattle.clap.specs.{Faults.has_free_rules, declared.builder.action.ArgAction.TheVariants.Set}
 use Rattle.clap.proofs.SimpleLemmas.{all_simple}
 use Rattle.run_words.specs.Lines.{check_line, compact_line, extract_line, operand, operand_line, script, script_line}
 use Rattle.run_words.{specs.Lines.{slack_line, tech}, proofs.Given.{IsWanted, is_alone}}
-
-pub operand_is_simple : is_simple_and_free operand_line ≡ true
-operand_is_simple = refl
-
-pub extract_is_simple : is_simple_and_free extract_line ≡ true
-extract_is_simple = refl
-
-pub check_is_simple : is_simple_and_free check_line ≡ true
-check_is_simple = refl
-
-pub slack_is_simple : is_simple_and_free slack_line ≡ true
-slack_is_simple = refl
-
-pub compact_is_simple : is_simple_and_free compact_line ≡ true
-compact_is_simple = refl
-
-pub script_is_simple : is_simple_and_free script_line ≡ true
-script_is_simple = refl
 
 -- what holds of a line, whatever it wants
 record MayWant (app : App) : Type 0 where

@@ -139,9 +139,6 @@ stays edges x slacks v least h le = λ i lt f.
 
 -- ---- a round
 
-pub none_fell : (g : Constraints) (x : ℕ → ℤ) (slacks : List ℕ) → length slacks ≡ g.vars → All (λ s. s ≤ none_yet) slacks → IsLowered g x slacks slacks false
-none_fell g x slacks counted capped = record { counted = counted; capped = capped; kept = λ far h. h; less = λ t. (let d : false ≡ true = t in absurd (cc)); same = λ f. refl }
-
 -- one more fell
 pub fell_more : (g : Constraints) (x : ℕ → ℤ) (a b c : List ℕ) (some : Bool) → IsLowered g x a b some → IsLowered g x b c true → IsLowered g x a c true
 fell_more g x a b c some h k = record {
@@ -155,7 +152,3 @@ fell_more g x a b c some h k = record {
     lower : (r : Bool) → IsLowered g x a b r → sum c < sum b → sum c < sum a
     lower true h lt = (let first : sum b < sum a = h.less refl in omega (arith, first, lt))
     lower false h lt = (let same : sum b ≡ sum a = ap sum (h.same refl) in omega (arith, same, lt))
-
--- one more did not
-pub fell_no_more : (g : Constraints) (x : ℕ → ℤ) (a b c : List ℕ) (some : Bool) → IsLowered g x a b some → IsLowered g x b c false → IsLowered g x a c some
-fell_no_more g x a b c some h k = let P : List ℕ → Type 0 = λ l. IsLowered g x a l some in subst P (sym (k.same refl)) h

@@ -1,6 +1,6 @@
 -- The least of a number and of what some edges allow.
-use Rattle.std.proofs.Common.{◌≡◌, ℕ, ◌+◌, ◌<◌, ◌≤◌, ◌⊎◌, inl, inr, ℤ, pos, ◌+ℤ◌, ◌≤ℤ◌, List, get_or, refl, sym, subst}
-use Rattle.std.{proofs.{Common.arith, lemmas.{Int.ints, Bool.{cases_eq, cases_lt}}}, specs.Prelude.min}
+use Rattle.std.proofs.Common.{◌≡◌, ℕ, ◌+◌, ◌<◌, ◌≤◌, ◌⊎◌, inl, inr, ℤ, pos, ◌+ℤ◌, ◌≤ℤ◌, List, get_or, sym, subst, arith}
+use Rattle.std.{proofs.lemmas.{Int.ints, Bool.{cases_eq, cases_lt}}, specs.Prelude.min}
 use Rattle.cons_graph.specs.{declared.edges.Edge.Edge, EdgeNumbers.edge_at}
 use Rattle.slack_pack.specs.Slacks.{none_yet, room_of, Allows, Grants, IsLeastAllowed}
 
@@ -10,9 +10,6 @@ allows_less slacks x e a b le h = λ lt.
     let room : ℤ = room_of x e in
     let far' : pos a ≤ℤ (pos (get_or slacks e.to 0) +ℤ room) = far in
     omega (arith, ints)
-
-pub least_start : (edges : List Edge) (x : ℕ → ℤ) (slacks numbers : List ℕ) (start : ℕ) → IsLeastAllowed edges x slacks numbers 0 start start
-least_start edges x slacks numbers start = record { at_most = omega arith; allowed = λ j lt. absurd (omega arith); granted = inl refl }
 
 pub least_more : (edges : List Edge) (x : ℕ → ℤ) (slacks numbers : List ℕ) (n start least a : ℕ) → start ≤ none_yet → IsLeastAllowed edges x slacks numbers n start least → Allows slacks x (edge_at edges (get_or numbers n 0)) a → (a ≡ none_yet) ⊎ Grants slacks x (edge_at edges (get_or numbers n 0)) a → IsLeastAllowed edges x slacks numbers (n + 1) start (min least a)
 least_more edges x slacks numbers n start least a cap h allows grants =

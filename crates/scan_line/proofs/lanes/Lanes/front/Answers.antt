@@ -1,10 +1,10 @@
 use Rattle.std.proofs.Common.{◌≡◌, ℕ, ◌+◌, ◌<◌, ◌≤◌, List, length, get_or, reverse, refl, sym, ◌∙◌, subst, arith}
-use Rattle.std.proofs.lemmas.List.{length_push}
-use Rattle.std.proofs.lemmas.Iterator.Adapters.{YieldsList-from_rev_slice}
+use Rattle.std.proofs.lemmas.{List.length_push, Iterator.Adapters.YieldsList-from_rev_slice}
 use Rattle.std.proofs.lemmas.Iterator.Consumers.{YieldsList-turn, YieldsList-end}
 use Rattle.scan_line.specs.Front.{IsFront}
-use Rattle.scan_line.proofs.FrontPairs.{IsLineBack, line_back, front_of, three_shadow, one_more, taken_more, this_taken, all_taken}
-use Rattle.scan_line.proofs.lanes.Lanes.front.Goals.{After-into_iter-i-iterator, In-Some, Then-is_closed_by, else-faces-via-then-faces+else-covers, else-faces-via-else-faces}
+use Rattle.scan_line.proofs.FrontPairs.{IsLineBack, line_back, front_of, three_shadow, one_more, taken_more, this_taken}
+use Rattle.scan_line.proofs.{FrontPairs.all_taken, lanes.Lanes.front.Goals.{After-into_iter-i-iterator, In-Some}}
+use Rattle.scan_line.proofs.lanes.Lanes.front.Goals.{else-faces-via-then-faces+else-covers}
 use Rattle.scan_line.proofs.lanes.Lanes.front.Goals as goal
 
 -- the line, turned round
