@@ -1,9 +1,9 @@
 -- What a line of words says: a keyword, and what stands behind it.
-use Rattle.std.specs.{Prelude.{ℕ, if◌then◌else◌, List, [], ◌∷◌, Some, None, Result, Ok, Err, codes}, Str.bytes_eq}
+use Rattle.std.specs.{Prelude.{◌≡◌, ◌⊎◌, ℕ, if◌then◌else◌, List, [], ◌∷◌, Some, None, Result, Ok, Err, codes}, Str.bytes_eq}
 use Rattle.stick_parse.specs.declared.{fault.StickKind.{StickKind, TheVariants.BadLine}, design.Form.Form}
 use Rattle.stick_parse.specs.declared.design.Form.TheVariants.{Joint, Contact, Buried, Fet, Port, Inst, Wire, Limit}
 use Rattle.stick_parse.specs.declared.design.Statement.{Statement, TheVariants.{Version, Cell, Item, Grid, Row, End}}
-use Rattle.stick_parse.specs.{Reading.◌>>=◌, Words.{Word, Front, path_at, name_at, number_at, count_at}}
+use Rattle.stick_parse.specs.{declared.fault.LineFault.LineFault, Reading.{◌>>=◌, FailsLine}, Words.{Word, Front, path_at, name_at, number_at, count_at}}
 use Rattle.stick_parse.specs.Words.{optional_count_at, at_most_at, layer_at, lower_at, side_at, either_at, ended}
 
 -- ---- a line word by word
@@ -26,6 +26,15 @@ whole made = do
   line ← made
   done ← ended line.1
   Ok line.0
+
+-- two numbers stand in front, and these words behind them
+abbrev pub AreCounts : List Word → ℕ → ℕ → List Word → Type 0
+AreCounts words first second rest = (between : List Word) × (count_at words ≡ Ok (first, between)) × (count_at between ≡ Ok (second, rest))
+
+-- no two numbers stand in front, unless memory ran out
+abbrev pub LacksCounts : LineFault → List Word → Type 0
+LacksCounts fault words = FailsLine fault (count_at words)
+    ⊎ ((first : ℕ) × (between : List Word) × (count_at words ≡ Ok (first, between)) × FailsLine fault (count_at between))
 
 -- ---- the lines of a cell, behind their keyword
 

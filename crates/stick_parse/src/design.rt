@@ -116,7 +116,7 @@ pub struct Design {
 }
 
 /// What one line of stick text says.
-#[derive(Debug, Drop)]
+#[derive(Drop)]
 pub enum Statement {
     /// `sticks N`
     Version(u32),

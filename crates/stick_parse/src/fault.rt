@@ -4,62 +4,78 @@ ghost use Rattle.stick_parse.specs.declared.fault.LineFault.TheVariants as line_
 ghost use Rattle.stick_parse.specs.declared.fault.ParseFault.TheVariants as faults;
 
 use std::alloc::{AllocError, AllocFailed};
+use std::fmt;
 use stick_lex::LexFault;
 use thiserror::Error;
 
 /// The kinds of faults of a stick text, numbered from 1 in this order. The first five are faults of syntax, which
 /// `parse` tells; the others are faults of names and sizes, and the last that the technology lacks what a line asks for.
-#[derive(Clone, Copy, Debug, PartialEq, Eq, Error)]
+#[derive(Clone, Copy, Debug, PartialEq, Eq)]
 pub enum StickKind {
     /// A run of bytes that is no token.
-    #[error("not a token")]
     BadByte = 1,
     /// A number past 1,000,000 either side of 0.
-    #[error("a number is too large")]
     NumberTooLarge,
     /// The tokens form no line that may stand here.
-    #[error("no line that may stand here")]
     BadLine,
     /// The text ends before the first grid's `end`, or inside a grid. It is told at the last line, or at line 1 of an empty
     /// text.
-    #[error("the text ends before a grid does")]
     Unended,
     /// The 257th `cell` line.
-    #[error("too many cells")]
     TooManyCells,
-    #[error("a name is repeated")]
     RepeatedName,
-    #[error("a name is unknown")]
     UnknownName,
-    #[error("a cell uses itself")]
     UseCycle,
-    #[error("uses are nested too deep")]
     UseDepth,
-    #[error("a cell with ports is used")]
     UsedPorts,
-    #[error("a place is too far out")]
     FarPlace,
-    #[error("a size is wrong")]
     BadSize,
-    #[error("narrower than its layer or its pad allows")]
     NarrowWire,
-    #[error("a path ends at no terminal")]
     WrongTerminal,
-    #[error("a wire is not straight")]
     NotStraight,
-    #[error("a terminal is on another layer")]
     WrongLayer,
-    #[error("a wire leaves a part on the wrong side")]
     WrongSide,
-    #[error("a wire is wider than a pad")]
     WideWire,
-    #[error("a port has no wire or several")]
     PortWires,
-    #[error("a limit between wrong ends")]
     BadLimit,
-    #[error("the technology has no buried contacts")]
     NoBuried,
 }
+
+impl StickKind {
+    fn words(self) -> &'static str {
+        match self {
+            StickKind::BadByte => "not a token",
+            StickKind::NumberTooLarge => "a number is too large",
+            StickKind::BadLine => "no line that may stand here",
+            StickKind::Unended => "the text ends before a grid does",
+            StickKind::TooManyCells => "too many cells",
+            StickKind::RepeatedName => "a name is repeated",
+            StickKind::UnknownName => "a name is unknown",
+            StickKind::UseCycle => "a cell uses itself",
+            StickKind::UseDepth => "uses are nested too deep",
+            StickKind::UsedPorts => "a cell with ports is used",
+            StickKind::FarPlace => "a place is too far out",
+            StickKind::BadSize => "a size is wrong",
+            StickKind::NarrowWire => "narrower than its layer or its pad allows",
+            StickKind::WrongTerminal => "a path ends at no terminal",
+            StickKind::NotStraight => "a wire is not straight",
+            StickKind::WrongLayer => "a terminal is on another layer",
+            StickKind::WrongSide => "a wire leaves a part on the wrong side",
+            StickKind::WideWire => "a wire is wider than a pad",
+            StickKind::PortWires => "a port has no wire or several",
+            StickKind::BadLimit => "a limit between wrong ends",
+            StickKind::NoBuried => "the technology has no buried contacts",
+        }
+    }
+}
+
+impl fmt::Display for StickKind {
+    fn fmt<W: fmt::Write>(&self, f: &mut fmt::Formatter<W>) -> fmt::Result {
+        f.write_str(self.words())
+    }
+}
+
+impl std::error::Error for StickKind {}
 
 /// A fault, and the number of its line, from 1.
 #[derive(Clone, Copy, Debug, PartialEq, Eq, Error)]

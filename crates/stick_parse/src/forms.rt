@@ -1,13 +1,15 @@
 //! What a line of words says.
-ghost use Rattle.std.specs.Prelude.{◌≡◌};
-ghost use Rattle.stick_parse.specs.Reading.{GivesLine};
+ghost use Rattle.std.specs.Prelude.{◌≡◌, Ok, IfOk, IfErr};
+ghost use Rattle.stick_parse.specs.Reading.{GivesLine, FailsLine};
+ghost use Rattle.stick_parse.specs.Words.{count_at, ended};
+ghost use Rattle.stick_parse.specs.Forms.{AreCounts, LacksCounts};
 ghost use Rattle.stick_parse.specs.WordViews.{views};
 ghost use Rattle.stick_parse.specs.Forms.{joint_of, contact_of, buried_of, fet_of, port_of, use_of, wire_of, limit_of, version_of, cell_of, grid_of, names_of, row_of, end_of, form_named, item_named, statement_named, statement_of};
 
 use crate::design::{Form, RowText, Statement};
 use crate::fault::{LineFault, StickKind};
 use crate::words::{
-    Word, at_most_at, count_at, either_at, ended, layer_at, lower_at, name_at, number_at,
+    Front, Word, at_most_at, count_at, either_at, ended, layer_at, lower_at, name_at, number_at,
     optional_count_at, path_at, side_at,
 };
 use lam_list::Seq;
@@ -16,17 +18,44 @@ use stick_lex::Text;
 
 const BAD_LINE: LineFault = LineFault::Kind(StickKind::BadLine);
 
+// Two numbers.
+fn counts_at<'w, 'a>(words: &'w [Word<'a>]) -> Front<'w, 'a, (u32, u32)>
+    ensures counts { IfOk result (λ x. AreCounts (views words.now) x.0.0 x.0.1 (views x.1.now)) }
+    ensures fault { IfErr result (λ fault. LacksCounts fault (views words.now)) }
+{
+    let (first, rest) = count_at(words)?;
+    let (second, rest) = count_at(rest)?;
+    Ok(((first, second), rest))
+}
+
+// The text, where no word is left.
+fn alone(alloc: Global, text: &[u8], rest: &[Word]) -> Result<Text, LineFault>
+    ensures text { IfOk result (λ made. (made ≡ text.now) × (ended (views rest.now) ≡ Ok tt)) }
+    ensures fault { IfErr result (λ fault. FailsLine fault (ended (views rest.now))) }
+{
+    ended(rest)?;
+    Ok(Text::new(alloc, text)?)
+}
+
+// Both texts, where no word is left.
+fn both(alloc: Global, a: &[u8], b: &[u8], rest: &[Word]) -> Result<(Text, Text), LineFault>
+    ensures texts { IfOk result (λ made. (made.0 ≡ a.now) × (made.1 ≡ b.now) × (ended (views rest.now) ≡ Ok tt)) }
+    ensures fault { IfErr result (λ fault. FailsLine fault (ended (views rest.now))) }
+{
+    let a = alone(alloc, a, rest)?;
+    let b = Text::new(alloc, b)?;
+    Ok((a, b))
+}
+
 #[tactic(auto, unfolding(crate::specs::Forms::joint_of))]
 fn joint_of(alloc: Global, words: &[Word]) -> Result<Form, LineFault>
     ensures { GivesLine (λ x. x) result (joint_of (views words.now)) }
 {
     let (name, rest) = name_at(words)?;
     let (layer, rest) = layer_at(rest)?;
-    let (col, rest) = count_at(rest)?;
-    let (row, rest) = count_at(rest)?;
+    let ((col, row), rest) = counts_at(rest)?;
     let (width, rest) = optional_count_at(rest)?;
-    ended(rest)?;
-    let name = Text::new(alloc, name)?;
+    let name = alone(alloc, name, rest)?;
     Ok(Form::Joint {
         name,
         layer,
@@ -42,10 +71,8 @@ fn contact_of(alloc: Global, words: &[Word]) -> Result<Form, LineFault>
 {
     let (name, rest) = name_at(words)?;
     let (lower, rest) = lower_at(rest)?;
-    let (col, rest) = count_at(rest)?;
-    let (row, rest) = count_at(rest)?;
-    ended(rest)?;
-    let name = Text::new(alloc, name)?;
+    let ((col, row), rest) = counts_at(rest)?;
+    let name = alone(alloc, name, rest)?;
     Ok(Form::Contact {
         name,
         lower,
@@ -59,10 +86,8 @@ fn buried_of(alloc: Global, words: &[Word]) -> Result<Form, LineFault>
     ensures { GivesLine (λ x. x) result (buried_of (views words.now)) }
 {
     let (name, rest) = name_at(words)?;
-    let (col, rest) = count_at(rest)?;
-    let (row, rest) = count_at(rest)?;
-    ended(rest)?;
-    let name = Text::new(alloc, name)?;
+    let ((col, row), rest) = counts_at(rest)?;
+    let name = alone(alloc, name, rest)?;
     Ok(Form::Buried { name, col, row })
 }
 
@@ -73,12 +98,9 @@ fn fet_of(alloc: Global, words: &[Word]) -> Result<Form, LineFault>
     let (name, rest) = name_at(words)?;
     let (depletion, rest) = either_at(b"enh", b"dep", rest)?;
     let (vertical, rest) = either_at(b"h", b"v", rest)?;
-    let (col, rest) = count_at(rest)?;
-    let (row, rest) = count_at(rest)?;
-    let (w, rest) = count_at(rest)?;
-    let (l, rest) = count_at(rest)?;
-    ended(rest)?;
-    let name = Text::new(alloc, name)?;
+    let ((col, row), rest) = counts_at(rest)?;
+    let ((w, l), rest) = counts_at(rest)?;
+    let name = alone(alloc, name, rest)?;
     Ok(Form::Fet {
         name,
         depletion,
@@ -98,8 +120,7 @@ fn port_of(alloc: Global, words: &[Word]) -> Result<Form, LineFault>
     let (side, rest) = side_at(rest)?;
     let (layer, rest) = layer_at(rest)?;
     let (place, rest) = count_at(rest)?;
-    ended(rest)?;
-    let name = Text::new(alloc, name)?;
+    let name = alone(alloc, name, rest)?;
     Ok(Form::Port {
         name,
         side,
@@ -114,11 +135,8 @@ fn use_of(alloc: Global, words: &[Word]) -> Result<Form, LineFault>
 {
     let (name, rest) = name_at(words)?;
     let (cell, rest) = name_at(rest)?;
-    let (col, rest) = count_at(rest)?;
-    let (row, rest) = count_at(rest)?;
-    ended(rest)?;
-    let name = Text::new(alloc, name)?;
-    let cell = Text::new(alloc, cell)?;
+    let ((col, row), rest) = counts_at(rest)?;
+    let (name, cell) = both(alloc, name, cell, rest)?;
     Ok(Form::Inst {
         name,
         cell,
@@ -135,9 +153,7 @@ fn wire_of(alloc: Global, words: &[Word]) -> Result<Form, LineFault>
     let (a, rest) = path_at(rest)?;
     let (b, rest) = path_at(rest)?;
     let (width, rest) = optional_count_at(rest)?;
-    ended(rest)?;
-    let a = Text::new(alloc, a)?;
-    let b = Text::new(alloc, b)?;
+    let (a, b) = both(alloc, a, b, rest)?;
     Ok(Form::Wire { layer, a, b, width })
 }
 
@@ -150,9 +166,7 @@ fn limit_of(alloc: Global, words: &[Word]) -> Result<Form, LineFault>
     let (b, rest) = path_at(rest)?;
     let (at_most, rest) = at_most_at(rest)?;
     let (n, rest) = number_at(rest)?;
-    ended(rest)?;
-    let a = Text::new(alloc, a)?;
-    let b = Text::new(alloc, b)?;
+    let (a, b) = both(alloc, a, b, rest)?;
     Ok(Form::Limit {
         vertical,
         a,
@@ -176,8 +190,7 @@ fn cell_of(alloc: Global, words: &[Word]) -> Result<Statement, LineFault>
     ensures { GivesLine (λ x. x) result (cell_of (views words.now)) }
 {
     let (name, rest) = name_at(words)?;
-    ended(rest)?;
-    let name = Text::new(alloc, name)?;
+    let name = alone(alloc, name, rest)?;
     Ok(Statement::Cell(name))
 }
 
@@ -189,8 +202,7 @@ fn grid_of(alloc: Global, words: &[Word]) -> Result<Statement, LineFault>
         return Ok(Statement::Grid(None));
     };
     let (name, rest) = name_at(words)?;
-    ended(rest)?;
-    let name = Text::new(alloc, name)?;
+    let name = alone(alloc, name, rest)?;
     Ok(Statement::Grid(Some(name)))
 }
 
