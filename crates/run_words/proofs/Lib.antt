@@ -1,9 +1,7 @@
 pub mod Found
-pub mod Given
 pub mod Numbers
 pub mod Parts
 pub mod PlainLines
 pub mod Refusals
 pub mod Steps
 pub mod Texts
-pub mod Wanted

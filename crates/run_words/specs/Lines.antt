@@ -1,7 +1,6 @@
 -- The words after a command's name, as `clap` reads them.
-use Rattle.std.specs.Prelude.{◌≡◌, true, is_some, List, [], ◌∷◌, fold, Option, Some, None, codes, unwrap_or}
-use Rattle.clap.specs.Words.{App, Kinds, Row, Rule, Text, fault_of, first_of, found_of, matches_of, new_app, new_rule, rows_of, with_rule}
-use Rattle.clap.specs.declared.parser.matches.ArgMatches.{ArgMatches}
+use Rattle.std.specs.Prelude.{true, List, [], ◌∷◌, fold, Option, Some, None, codes, unwrap_or}
+use Rattle.clap.specs.Words.{App, Kinds, Row, Rule, Text, fault_of, first_of, matches_of, new_app, new_rule, with_rule}
 use Rattle.clap.specs.declared.builder.action.ArgAction.TheVariants.{Set}
 
 -- the operand: the one argument without a name, which has to be there
@@ -72,7 +71,3 @@ found_in app words = without_fault (fault_of app words) (matches_of app words)
 -- the text of a required argument, which is there wherever `clap` takes the words
 abbrev pub text_of : Text → List Row → Text
 text_of id rows = unwrap_or (first_of id rows) []
-
--- the argument has a text in the matches
-abbrev pub HasText : Text → ArgMatches → Type 0
-HasText id m = is_some (first_of id (rows_of (found_of m))) ≡ true

@@ -8,7 +8,10 @@ ghost use Rattle.run_words.specs.Commands.{command_from, AreOfPassList, HasPassL
 ghost use Rattle.run_words.specs.declared.commands.WordsFault.TheVariants.{Usage};
 
 use crate::commands::{Command, WordsFault};
-use crate::lines::{self, text_of, text_or};
+use crate::lines::{
+    check_line, compact_line, extract_line, found_in, operand_line, script_line, slack_line,
+    text_of, text_or,
+};
 use crate::values::{axes, count, is_pass_list};
 use clap::ArgMatches;
 use lam_geom::Axis;
@@ -44,7 +47,7 @@ fn read_compact<'a>(alloc: Global, words: &'a [&'a str]) -> Result<Command<'a>, 
     ensures limits { IfOk result IsWithinLimits }
     ensures usage { result ≡ Err Usage → compact_of (texts_of words.now) ≡ None }
 {
-    let found = lines::compact(alloc, words)?;
+    let found = found_in(compact_line(alloc)?, words)?;
     let passes = passes_of(alloc, &found)?;
     let split = split_of(&found)?;
     Ok(Command::Compact {
@@ -61,7 +64,7 @@ fn read_slack<'a>(alloc: Global, words: &'a [&'a str]) -> Result<Command<'a>, Wo
     ensures limits { IfOk result IsWithinLimits }
     ensures usage { result ≡ Err Usage → slack_of (texts_of words.now) ≡ None }
 {
-    let found = lines::slack(alloc, words)?;
+    let found = found_in(slack_line(alloc)?, words)?;
     Ok(Command::Slack {
         design: text_of(&found, "operand"),
         tech: text_of(&found, "tech"),
@@ -75,7 +78,7 @@ fn read_jog<'a>(alloc: Global, words: &'a [&'a str]) -> Result<Command<'a>, Word
     ensures limits { IfOk result IsWithinLimits }
     ensures usage { result ≡ Err Usage → jog_of (texts_of words.now) ≡ None }
 {
-    let found = lines::script(alloc, words)?;
+    let found = found_in(script_line(alloc)?, words)?;
     Ok(Command::Jog {
         design: text_of(&found, "operand"),
         tech: text_of(&found, "tech"),
@@ -90,7 +93,7 @@ fn read_edit<'a>(alloc: Global, words: &'a [&'a str]) -> Result<Command<'a>, Wor
     ensures limits { IfOk result IsWithinLimits }
     ensures usage { result ≡ Err Usage → edit_of (texts_of words.now) ≡ None }
 {
-    let found = lines::script(alloc, words)?;
+    let found = found_in(script_line(alloc)?, words)?;
     Ok(Command::Edit {
         design: text_of(&found, "operand"),
         tech: text_of(&found, "tech"),
@@ -105,7 +108,7 @@ fn read_check<'a>(alloc: Global, words: &'a [&'a str]) -> Result<Command<'a>, Wo
     ensures limits { IfOk result IsWithinLimits }
     ensures usage { result ≡ Err Usage → check_of (texts_of words.now) ≡ None }
 {
-    let found = lines::check(alloc, words)?;
+    let found = found_in(check_line(alloc)?, words)?;
     let split = split_of(&found)?;
     Ok(Command::Check {
         cif: text_of(&found, "operand"),
@@ -120,7 +123,7 @@ fn read_extract<'a>(alloc: Global, words: &'a [&'a str]) -> Result<Command<'a>, 
     ensures limits { IfOk result IsWithinLimits }
     ensures usage { result ≡ Err Usage → extract_of (texts_of words.now) ≡ None }
 {
-    let found = lines::extract(alloc, words)?;
+    let found = found_in(extract_line(alloc)?, words)?;
     Ok(Command::Extract {
         cif: text_of(&found, "operand"),
         tech: text_of(&found, "tech"),
@@ -133,7 +136,7 @@ fn read_fmt<'a>(alloc: Global, words: &'a [&'a str]) -> Result<Command<'a>, Word
     ensures limits { IfOk result IsWithinLimits }
     ensures usage { result ≡ Err Usage → fmt_of (texts_of words.now) ≡ None }
 {
-    let found = lines::only_operand(alloc, words)?;
+    let found = found_in(operand_line(alloc)?, words)?;
     Ok(Command::Fmt {
         design: text_of(&found, "operand"),
     })
@@ -145,7 +148,7 @@ fn read_bench<'a>(alloc: Global, words: &'a [&'a str]) -> Result<Command<'a>, Wo
     ensures limits { IfOk result IsWithinLimits }
     ensures usage { result ≡ Err Usage → bench_of (texts_of words.now) ≡ None }
 {
-    let found = lines::only_operand(alloc, words)?;
+    let found = found_in(operand_line(alloc)?, words)?;
     let n = count(text_of(&found, "operand")).ok_or(WordsFault::Usage)?;
     Ok(Command::Bench { n })
 }

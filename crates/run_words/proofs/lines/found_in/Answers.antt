@@ -1,6 +1,6 @@
 use Rattle.clap.proofs.WalkLemmas.{both}
 use Rattle.run_words.proofs.Found.{refused, taken}
-use Rattle.run_words.proofs.lines.found.Goals as goal
+use Rattle.run_words.proofs.lines.found_in.Goals as goal
 
 pub returns-in_err-try_get_matches_from-clause-usage : goal.returns-in_err-try_get_matches_from-clause-usage
 returns-in_err-try_get_matches_from-clause-usage c =

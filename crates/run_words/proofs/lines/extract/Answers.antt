@@ -1,9 +1,0 @@
-use Rattle.run_words.specs.Lines.{extract_line, operand, tech}
-use Rattle.run_words.proofs.{Given.has_text_on_ok, Wanted.{extract_wants_operand, extract_wants_tech}}
-use Rattle.run_words.proofs.lines.extract.Goals as goal
-
-pub returns-clause-operand : goal.returns-clause-operand
-returns-clause-operand c = has_text_on_ok _ c.found.result extract_line 0 operand c.in_ok-extract_line.ensures extract_wants_operand c.found.ensures.parsed
-
-pub returns-clause-tech : goal.returns-clause-tech
-returns-clause-tech c = has_text_on_ok _ c.found.result extract_line 1 tech c.in_ok-extract_line.ensures extract_wants_tech c.found.ensures.parsed
