@@ -5,39 +5,54 @@ ghost use Rattle.rule_table.specs.Faults.{fault_of, range_fault, has_short_chann
 ghost use Rattle.rule_table.specs.Spacing.{pad_in};
 
 use crate::keys::{Numbers, is_no_size};
-use thiserror::Error;
+use std::fmt;
 
 /// The first condition that some numbers break, in the order in which they are tested. A `u8` is the place of the key
 /// in the order of `Numbers`, and the least one that breaks the condition.
-#[derive(Clone, Copy, Debug, PartialEq, Eq, Error)]
+#[derive(Clone, Copy, Debug, PartialEq, Eq)]
 pub enum TechFault {
     /// A number is below 0 or above 4096, the version is other than 1 or 2, or the version is 1 and a number of buried
     /// contacts is other than 0.
-    #[error("a number is out of range")]
     OutOfRange(u8),
     /// The unit is odd or 0.
-    #[error("the unit is odd or 0")]
     OddGrid,
     /// A width or the cut's size is odd or 0.
-    #[error("a width is odd or 0")]
     OddWidth(u8),
     /// A spacing is 0; that of buried contacts counts in version 2 alone.
-    #[error("a spacing is 0")]
     ZeroSpacing(u8),
     /// Poly width plus poly to diffusion spacing is below diffusion spacing.
-    #[error("the channel of the least transistor is too short")]
     ShortChannel,
     /// The poly or the diffusion extension is at most the poly to diffusion spacing.
-    #[error("an extension is too short")]
     ShortExtension,
     /// Diffusion width plus twice the poly extension is below poly width, or poly width plus twice the diffusion
     /// extension is below diffusion width.
-    #[error("the least transistor is too narrow")]
     NarrowFet,
     /// Cut size plus twice the enclosure is below one of the three widths.
-    #[error("the pad of a contact is too small")]
     PadTooSmall,
 }
+
+impl TechFault {
+    fn words(self) -> &'static str {
+        match self {
+            TechFault::OutOfRange(_) => "a number is out of range",
+            TechFault::OddGrid => "the unit is odd or 0",
+            TechFault::OddWidth(_) => "a width is odd or 0",
+            TechFault::ZeroSpacing(_) => "a spacing is 0",
+            TechFault::ShortChannel => "the channel of the least transistor is too short",
+            TechFault::ShortExtension => "an extension is too short",
+            TechFault::NarrowFet => "the least transistor is too narrow",
+            TechFault::PadTooSmall => "the pad of a contact is too small",
+        }
+    }
+}
+
+impl fmt::Display for TechFault {
+    fn fmt<W: fmt::Write>(&self, f: &mut fmt::Formatter<W>) -> fmt::Result {
+        f.write_str(self.words())
+    }
+}
+
+impl std::error::Error for TechFault {}
 
 impl Numbers {
     /// The first fault of the numbers, or `None` where they are those of a technology.
