@@ -167,6 +167,25 @@ fn name_in_copy(
     Text::new(alloc, buffer.as_slice())
 }
 
+// A node as it stands in a copy.
+fn copied_node(
+    alloc: Global,
+    buffer: &mut Vec<u8>,
+    use_name: &[u8],
+    shift: (u32, u32),
+    node: &Node,
+) -> Result<Node, AllocError>
+    requires { HasPlace shift.0 shift.1 node.now }
+    ensures { IfOk result (λ copy. copy ≡ copied_node use_name.now shift.0 shift.1 node.now) }
+{
+    Ok(Node {
+        name: name_in_copy(alloc, buffer, use_name, node.name.bytes())?,
+        kind: node.kind,
+        col: shift.0 + node.col,
+        row: shift.1 + node.row,
+    })
+}
+
 fn copy_nodes(
     alloc: Global,
     nodes: &mut Vec<Node>,
@@ -179,13 +198,7 @@ fn copy_nodes(
 {
     let mut buffer = Vec::new(alloc);
     for node in copied {
-        let name = name_in_copy(alloc, &mut buffer, use_name, node.name.bytes())?;
-        nodes.push(Node {
-            name,
-            kind: node.kind,
-            col: shift.0 + node.col,
-            row: shift.1 + node.row,
-        })?;
+        nodes.push(copied_node(alloc, &mut buffer, use_name, shift, node)?)?;
     }
     Ok(())
 }
