@@ -1,5 +1,6 @@
 //! The lines of the bent cell.
-ghost use Rattle.std.specs.Prelude.{◌≡◌, ◌↔◌, ◌+◌, ◌<◌, ◌≤◌, ◌++◌, All, false, Some, IsTrue, IfOk, OnOk, MatchBool, MatchOption, drop, length, map, take};
+ghost use Rattle.std.specs.Prelude.{◌≡◌, ◌↔◌, ◌+◌, ◌<◌, ◌≤◌, ◌++◌, [], ◌∷◌, All, false, Some, IsTrue, IfOk, OnOk};
+ghost use Rattle.std.specs.Prelude.{MatchBool, MatchOption, drop, length, map, take};
 ghost use Rattle.std.specs.List.{AllByRecursion};
 ghost use Rattle.stick_parse.specs.declared.design.Form.TheVariants as forms;
 ghost use Rattle.stick_parse.specs.Writable.{IsLine};
@@ -34,37 +35,51 @@ fn unnumbered(form: Form) -> Line
     Line { number: 0, form }
 }
 
-fn joint(
+// Appends a joint.
+fn push_joint(
     alloc: Global,
     name: &Text,
     layer: Layer,
     col: u32,
     row: u32,
     width: u32,
-) -> Result<Line, AllocError>
-    ensures { IfOk result (λ line. line ≡ unnumbered (forms.Joint name.now layer col row (Some width))) }
+    lines: &mut Vec<Line>,
+) -> Result<(), AllocError>
+    ensures { OnOk result (lines.new.items
+        ≡ lines.old.items ++ unnumbered (forms.Joint name.now layer col row (Some width)) ∷ []) }
 {
     let name = Text::new(alloc, name.bytes())?;
-    Ok(unnumbered(Form::Joint {
+    lines.push(unnumbered(Form::Joint {
         name,
         layer,
         col,
         row,
         width: Some(width),
-    }))
+    }))?;
+    Ok(())
 }
 
-fn wire(alloc: Global, layer: Layer, a: &[u8], b: &[u8], width: u32) -> Result<Line, AllocError>
-    ensures { IfOk result (λ line. line ≡ unnumbered (forms.Wire layer a.now b.now (Some width))) }
+// Appends a wire.
+fn push_wire(
+    alloc: Global,
+    layer: Layer,
+    a: &[u8],
+    b: &[u8],
+    width: u32,
+    lines: &mut Vec<Line>,
+) -> Result<(), AllocError>
+    ensures { OnOk result (lines.new.items
+        ≡ lines.old.items ++ unnumbered (forms.Wire layer a.now b.now (Some width)) ∷ []) }
 {
     let a = Text::new(alloc, a)?;
     let b = Text::new(alloc, b)?;
-    Ok(unnumbered(Form::Wire {
+    lines.push(unnumbered(Form::Wire {
         layer,
         a,
         b,
         width: Some(width),
-    }))
+    }))?;
+    Ok(())
 }
 
 // Appends the two joints and the three wires.
@@ -84,12 +99,27 @@ fn push_joints(alloc: Global, joints: Joints, lines: &mut Vec<Line>) -> Result<(
     let lower = joint_name(alloc, number, b'a')?;
     let upper = joint_name(alloc, number, b'b')?;
     let row = place.row + 1;
-    lines.push(joint(alloc, &lower, layer, place.part_col(false), row, width)?)?;
-    lines.push(joint(alloc, &upper, layer, place.part_col(true), row, width)?)?;
-    lines.push(wire(alloc, layer, low, lower.bytes(), width)?)?;
-    lines.push(wire(alloc, layer, lower.bytes(), upper.bytes(), width)?)?;
-    lines.push(wire(alloc, layer, upper.bytes(), high, width)?)?;
-    Ok(())
+    push_joint(
+        alloc,
+        &lower,
+        layer,
+        place.part_col(false),
+        row,
+        width,
+        lines,
+    )?;
+    push_joint(
+        alloc,
+        &upper,
+        layer,
+        place.part_col(true),
+        row,
+        width,
+        lines,
+    )?;
+    push_wire(alloc, layer, low, lower.bytes(), width, lines)?;
+    push_wire(alloc, layer, lower.bytes(), upper.bytes(), width, lines)?;
+    push_wire(alloc, layer, upper.bytes(), high, width, lines)
 }
 
 // Appends lines where the bend has them go.
