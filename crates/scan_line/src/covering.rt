@@ -1,7 +1,9 @@
 //! Items that cover another.
 
-ghost use Rattle.std.specs.Prelude.{◌≡◌, ◌↔◌, ◌<◌, ◌⊎◌, ℕ, ◌≤ℤ◌, length, All, IsTrue};
-ghost use Rattle.sym_items.specs.Boxes.{HasBox};
+ghost use Rattle.std.specs.Prelude.{◌≡◌, ◌↔◌, ◌<◌, ◌⊎◌, ℕ, pos, ◌≤ℤ◌, length, All, IsTrue};
+ghost use Rattle.rule_table.specs.declared.classes.Class.TheVariants.{M};
+ghost use Rattle.pair_rules.specs.Candidates.{sides_at};
+ghost use Rattle.sym_items.specs.{Boxes.HasBox, Transposed.item_along};
 ghost use Rattle.scan_line.specs.Cover.{Covers, AreForeign, IsIn, IsMixed, IsClosedBy};
 
 use lam_geom::{Axis, Span};
@@ -71,6 +73,26 @@ fn reaches_over(outer: Span, inner: Span) -> bool
     is_at_most(outer.lo, inner.lo) && is_at_most(inner.hi, outer.hi)
 }
 
+// Whether an item is metal, and its least extent is not negative.
+fn may_cover(axis: Axis, item: &Item) -> bool
+    ensures { IsTrue result ↔ ((item.now.class ≡ M) × (pos 0 ≤ℤ (item_along axis item.now).least_x)) }
+{
+    item.class == Class::M && is_at_most(0, item.least(axis))
+}
+
+// Whether one item reaches across the axis over all of another.
+fn reaches_over_item(axis: Axis, coords: &Coords, outer: &Item, inner: &Item) -> bool
+    requires outer { HasBox coords.now outer.now }
+    requires inner { HasBox coords.now inner.now }
+    ensures { IsTrue result
+        ↔ (((sides_at axis coords.now outer.now).bottom ≤ℤ (sides_at axis coords.now inner.now).bottom)
+        × ((sides_at axis coords.now inner.now).top ≤ℤ (sides_at axis coords.now outer.now).top)) }
+{
+    let outer = box_along(axis, outer, coords);
+    let inner = box_along(axis, inner, coords);
+    reaches_over(outer.y, inner.y)
+}
+
 /// Whether item `k` covers item `j`: it is metal, it reaches across the axis over all of `j`, and its least extent is not
 /// negative.
 pub(crate) fn covers(axis: Axis, items: &[Item], coords: &Coords, k: u32, j: u32) -> bool
@@ -80,10 +102,5 @@ pub(crate) fn covers(axis: Axis, items: &[Item], coords: &Coords, k: u32, j: u32
     ensures { IsTrue result ↔ Covers axis coords.now items.now k j }
 {
     let over = &items[k as usize];
-    if over.class != Class::M || !is_at_most(0, over.least(axis)) {
-        return false;
-    }
-    let outer = box_along(axis, over, coords);
-    let inner = box_along(axis, &items[j as usize], coords);
-    reaches_over(outer.y, inner.y)
+    may_cover(axis, over) && reaches_over_item(axis, coords, over, &items[j as usize])
 }
