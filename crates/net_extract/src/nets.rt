@@ -1,15 +1,13 @@
 //! Which pieces are of one net.
-ghost use Rattle.std.specs.Prelude.{◌≡◌, ◌+◌, ◌<◌, ◌≤◌, max, IfOk, List, OnOk, Some, length};
-ghost use Rattle.box_tree.specs.{declared.spots.Spot.Spot, Groves.IsNewGrove};
+ghost use Rattle.std.specs.Prelude.{◌≡◌, ◌+◌, ◌<◌, ◌≤◌, max, IfOk, OnOk, Some, length};
 ghost use Rattle.graph_search.specs.{Netting.next_net, Search.{mark_of, AreKept, AreWhole}};
 ghost use Rattle.crossings.specs.{Boxes.AreSearchable, Spots.AreBoxesOn, Crossings.AreInOrder};
-ghost use Rattle.lam_geom.specs.declared.boxes.MaskLayer.TheVariants.{NB, ND, NP, NM};
+ghost use Rattle.lam_geom.specs.declared.boxes.MaskLayer.TheVariants.{NB};
 ghost use Rattle.net_extract.specs.{Extraction.AreNets, Linking.AreBeside, Pieces.ArePiecesOf};
-ghost use Rattle.net_extract.specs.CutLists.{IsNewPieceGrove, ArePieceGroves, AreLists, AreChains, AreCrowdedSpots};
-ghost use Rattle.net_extract.specs.{Spots.AreBoxSpots, Spreading.{IsSearch, IsNewSearch}};
+ghost use Rattle.net_extract.specs.{CutLists.IsNewPieceGrove, Spots.AreBoxSpots, Spreading.{IsSearch, IsNewSearch}};
 ghost use Rattle.net_extract.specs.Spreading.{IsNewFront};
 
-use crate::cut_lists::{Chains, CutLists, chains_of, cut_lists};
+use crate::cut_lists::{chains_of, cut_lists};
 use crate::over::PieceGroves;
 use crate::placing::Pieces;
 use crate::reaching::Front;
@@ -37,30 +35,10 @@ pub fn nets_of(
 {
     let windows = crossings::tree_on(alloc, boxes, MaskLayer::NB)?;
     let mut search = new_search(alloc, tech, boxes, pieces)?;
-    nets_by(alloc, tech, boxes, &windows, pieces, &mut search)
-}
-
-// The same by a search that has reached nothing.
-fn nets_by(
-    alloc: Global,
-    tech: &Tech,
-    boxes: &[MaskBox],
-    windows: &BoxTree,
-    pieces: &Pieces,
-    search: &mut Search,
-) -> Result<(Vec<u32>, u32), AllocError>
-    requires searchable { AreSearchable boxes.now }
-    requires in_order { AreInOrder pieces.now.crossings.items }
-    requires windows { AreBoxesOn boxes.now NB windows.now }
-    requires pieces { ArePiecesOf boxes.now pieces.now }
-    requires new { IsNewSearch tech.now boxes.now pieces.now.placed.items search.old }
-    ensures nets { IfOk result (λ nets. AreNets tech.now boxes.now pieces.now.crossings.items nets.0.items) }
-    ensures count { IfOk result (λ nets. nets.1 ≡ next_net nets.0.items) }
-{
     let mut nets = Vec::with_capacity(alloc, pieces.placed.len())?;
     let mut count = 0;
     for a in 0..pieces.placed.len() {
-        let net = net_of(tech, boxes, windows, pieces, a as u32, count, search)?;
+        let net = net_of(tech, boxes, &windows, pieces, a as u32, count, &mut search)?;
         nets.push(net)?;
         count = count.max(net + 1);
     }
@@ -109,10 +87,16 @@ fn new_search(
 {
     let count = pieces.placed.len() + boxes.len();
     let front = new_front(alloc, count)?;
-    let groves = piece_groves(alloc, boxes, pieces)?;
-    let (lists, chains, cuts) = new_cuts(alloc, boxes, pieces, &groves)?;
-    let under = box_grove_on(alloc, tech, boxes, pieces, MaskLayer::ND)?;
-    let over = box_grove_on(alloc, tech, boxes, pieces, MaskLayer::NP)?;
+    let groves = PieceGroves {
+        diffusion: grove_on(alloc, boxes, pieces, MaskLayer::ND)?,
+        poly: grove_on(alloc, boxes, pieces, MaskLayer::NP)?,
+        metal: grove_on(alloc, boxes, pieces, MaskLayer::NM)?,
+    };
+    let (lists, spots) = cut_lists(alloc, boxes, pieces, &groves)?;
+    let chains = chains_of(alloc, pieces.placed.len(), lists.nodes.as_slice())?;
+    let cuts = BoxTree::new(alloc, spots)?;
+    let under = box_tree_on(alloc, tech, boxes, pieces, MaskLayer::ND)?;
+    let over = box_tree_on(alloc, tech, boxes, pieces, MaskLayer::NP)?;
     let PieceGroves {
         diffusion,
         poly,
@@ -124,55 +108,11 @@ fn new_search(
         metal,
         lists,
         chains,
-        cuts,
-        under,
-        over,
+        cuts: new_grove(alloc, cuts)?,
+        under: new_grove(alloc, under)?,
+        over: new_grove(alloc, over)?,
         front,
     })
-}
-
-// The groves of the pieces on the layers that conduct.
-fn piece_groves(
-    alloc: Global,
-    boxes: &[MaskBox],
-    pieces: &Pieces,
-) -> Result<PieceGroves, AllocError>
-    requires searchable { AreSearchable boxes.now }
-    requires pieces { ArePiecesOf boxes.now pieces.now }
-    ensures diffusion { IfOk result (λ groves. IsNewPieceGrove boxes.now pieces.now.placed.items ND groves.diffusion) }
-    ensures poly { IfOk result (λ groves. IsNewPieceGrove boxes.now pieces.now.placed.items NP groves.poly) }
-    ensures metal { IfOk result (λ groves. IsNewPieceGrove boxes.now pieces.now.placed.items NM groves.metal) }
-{
-    Ok(PieceGroves {
-        diffusion: grove_on(alloc, boxes, pieces, MaskLayer::ND)?,
-        poly: grove_on(alloc, boxes, pieces, MaskLayer::NP)?,
-        metal: grove_on(alloc, boxes, pieces, MaskLayer::NM)?,
-    })
-}
-
-// The lists of all cuts with the chains of their entries, and a grove of the cuts that are crowded.
-fn new_cuts(
-    alloc: Global,
-    boxes: &[MaskBox],
-    pieces: &Pieces,
-    groves: &PieceGroves,
-) -> Result<(CutLists, Chains, Grove), AllocError>
-    requires searchable { AreSearchable boxes.now }
-    requires pieces { ArePiecesOf boxes.now pieces.now }
-    requires groves { ArePieceGroves boxes.now pieces.now.placed.items groves.now }
-    ensures lists { IfOk result (λ made. AreLists boxes.now pieces.now.placed.items (length boxes.now)
-        made.0.starts.items made.0.nodes.items made.0.cuts.items) }
-    ensures chains { IfOk result (λ made. AreChains (length pieces.now.placed.items)
-        made.0.nodes.items (length made.0.nodes.items) made.1.heads.items made.1.nexts.items) }
-    ensures cuts { IfOk result (λ made. (spots : List Spot)
-        × AreCrowdedSpots boxes.now pieces.now.placed.items made.0.starts.items (length boxes.now) spots
-        × IsNewGrove spots made.2) }
-{
-    let (lists, spots) = cut_lists(alloc, boxes, pieces, groves)?;
-    let chains = chains_of(alloc, pieces.placed.len(), lists.nodes.as_slice())?;
-    let tree = BoxTree::new(alloc, spots)?;
-    let cuts = new_grove(alloc, tree)?;
-    Ok((lists, chains, cuts))
 }
 
 // A grove of the pieces on a layer.
@@ -191,22 +131,21 @@ fn grove_on(
     new_grove(alloc, tree)
 }
 
-// A grove of the pieces on a layer by the areas of their boxes.
-fn box_grove_on(
+// A tree of the pieces on a layer by the areas of their boxes.
+fn box_tree_on(
     alloc: Global,
     tech: &Tech,
     boxes: &[MaskBox],
     pieces: &Pieces,
     layer: MaskLayer,
-) -> Result<Grove, AllocError>
+) -> Result<BoxTree, AllocError>
     requires searchable { AreSearchable boxes.now }
     requires pieces { ArePiecesOf boxes.now pieces.now }
-    ensures { IfOk result (λ grove. (spots : List Spot)
-        × AreBoxSpots tech.now boxes.now pieces.now.placed.items layer spots × IsNewGrove spots grove) }
+    ensures { IfOk result (AreBoxSpots tech.now boxes.now pieces.now.placed.items layer) }
 {
     let spots = box_spots(alloc, tech, boxes, pieces, layer)?;
     let tree = BoxTree::new(alloc, spots)?;
-    new_grove(alloc, tree)
+    Ok(tree)
 }
 
 // Marks for so many nodes, none of which has been reached.

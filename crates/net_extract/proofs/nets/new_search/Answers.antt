@@ -1,18 +1,18 @@
-use Rattle.std.proofs.Common.{arith, ◌≡◌, ◌+◌, length}
+use Rattle.std.proofs.Common.{arith, ◌≡◌, ℕ, ◌+◌, List, length, sym, subst}
+use Rattle.box_tree.specs.declared.spots.Spot.{Spot}
 use Rattle.lam_geom.specs.declared.boxes.MaskLayer.TheVariants.{ND, NP, NM}
-use Rattle.net_extract.proofs.Begun.{begun_pieces, begun_boxes, begun_cuts, shown_pieces}
+use Rattle.net_extract.specs.CutLists.{AreChains, AreCrowdedSpots}
+use Rattle.net_extract.proofs.{Beside.nodes_within, Begun.{begun_pieces, begun_boxes, begun_cuts, crowded_fit}}
 use Rattle.net_extract.proofs.nets.new_search.Goals as goal
 
-pub new_cuts-requires-clause-groves : goal.new_cuts-requires-clause-groves
-new_cuts-requires-clause-groves c =
-    let boxes = c.args.boxes.now in
-    let pieces = c.args.pieces.now.placed.items in
-    let groves = c.in_ok-groves.groves in
-    record {
-      diffusion = shown_pieces boxes pieces ND groves.diffusion c.in_ok-groves.ensures.diffusion;
-      poly = shown_pieces boxes pieces NP groves.poly c.in_ok-groves.ensures.poly;
-      metal = shown_pieces boxes pieces NM groves.metal c.in_ok-groves.ensures.metal;
-    }
+pub chains_of-requires-clause-within : goal.chains_of-requires-clause-within
+chains_of-requires-clause-within c =
+    let lists = c.in_ok-lists.lists in
+    nodes_within c.args.boxes.now c.args.pieces.now.placed.items lists.starts.items lists.nodes.items lists.cuts.items c.as_slice.result.now c.len-2.result (omega (arith, c.len-2.ensures, c.args.pieces.now.placed.ok.0))
+    c.as_slice.ensures.value c.in_ok-lists.ensures.lists
+
+pub new-requires-clause-placed : goal.new-requires-clause-placed
+new-requires-clause-placed c = (crowded_fit c.args.boxes.now c.args.pieces.now.placed.items c.in_ok-lists.lists.starts.items c.in_ok-lists.spots.items c.requires.searchable c.in_ok-lists.ensures.spots).1
 
 pub returns : goal.returns
 returns c =
@@ -20,25 +20,27 @@ returns c =
     let boxes = c.args.boxes.now in
     let pieces = c.args.pieces.now.placed.items in
     let front = c.in_ok-front.front in
-    let groves = c.in_ok-groves in
-    let made = c.in_ok-lists in
-    let cuts = made.ensures.cuts in
-    let under = c.in_ok-under.ensures in
-    let over = c.in_ok-over.ensures in
+    let lists = c.in_ok-lists.lists in
     let l = c.len.ensures in
     let m = c.in_ok-front.ensures.counted in
     let n : length front.marks.items ≡ length pieces + length boxes = omega (arith, c.args.pieces.now.placed.ok.0) in
+    let count : c.len-2.result ≡ length pieces = omega (arith, c.len-2.ensures, c.args.pieces.now.placed.ok.0) in
+    let heads = c.in_ok-chains.chains.heads.items in
+    let nexts = c.in_ok-chains.chains.nexts.items in
+    let N : List ℕ → Type 0 = λ nodes. AreChains c.len-2.result nodes (length nodes) heads nexts in
+    let C : ℕ → Type 0 = λ k. AreChains k lists.nodes.items (length lists.nodes.items) heads nexts in
+    let S : List Spot → Type 0 = AreCrowdedSpots boxes pieces lists.starts.items (length boxes) in
     record {
       ready = record {
         counted = n;
-        diffusion = begun_pieces boxes pieces ND groves.groves.diffusion front n groves.ensures.diffusion;
-        poly = begun_pieces boxes pieces NP groves.groves.poly front n groves.ensures.poly;
-        metal = begun_pieces boxes pieces NM groves.groves.metal front n groves.ensures.metal;
-        lists = made.ensures.lists;
-        chains = made.ensures.chains;
-        cuts = begun_cuts boxes pieces made.lists.starts.items cuts.0 made.cuts front n cuts.1 cuts.2;
-        under = begun_boxes tech boxes pieces ND under.0 c.in_ok-under.under front n under.1 under.2;
-        over = begun_boxes tech boxes pieces NP over.0 c.in_ok-over.over front n over.1 over.2;
+        diffusion = begun_pieces boxes pieces ND c.in_ok-grove_on.field-0 front n c.in_ok-grove_on.ensures;
+        poly = begun_pieces boxes pieces NP c.in_ok-grove_on-2.field-0 front n c.in_ok-grove_on-2.ensures;
+        metal = begun_pieces boxes pieces NM c.in_ok-grove_on-3.field-0 front n c.in_ok-grove_on-3.ensures;
+        lists = c.in_ok-lists.ensures.lists;
+        chains = subst C count (subst N c.as_slice.ensures.value c.in_ok-chains.ensures);
+        cuts = begun_cuts boxes pieces lists.starts.items c.in_ok-cuts.cuts c.in_ok-new_grove.field-0 front n (subst S (sym c.in_ok-cuts.ensures) c.in_ok-lists.ensures.spots) c.in_ok-new_grove.ensures;
+        under = begun_boxes tech boxes pieces ND c.in_ok-under.under c.in_ok-new_grove-2.field-0 front n c.in_ok-under.ensures c.in_ok-new_grove-2.ensures;
+        over = begun_boxes tech boxes pieces NP c.in_ok-over.over c.in_ok-new_grove-3.field-0 front n c.in_ok-over.ensures c.in_ok-new_grove-3.ensures;
       };
       unmarked = c.in_ok-front.ensures.unmarked;
     }

@@ -1,8 +1,7 @@
 use Rattle.std.proofs.Common.{List, sym, subst}
-use Rattle.std.proofs.lemmas.Result.{IfOk-weaker}
-use Rattle.box_tree.specs.{declared.spots.Spot.Spot, Groves.IsNewGrove}
+use Rattle.box_tree.specs.declared.spots.Spot.{Spot}
 use Rattle.net_extract.{specs.Spots.AreBoxSpots, proofs.Begun.boxes_fit}
-use Rattle.net_extract.proofs.nets.box_grove_on.Goals as goal
+use Rattle.net_extract.proofs.nets.box_tree_on.Goals as goal
 
 pub new-requires-clause-few : goal.new-requires-clause-few
 new-requires-clause-few c = (boxes_fit c.args.tech.now c.args.boxes.now c.args.pieces.now.crossings.items c.args.pieces.now.placed.items c.args.pieces.now.starts.items c.args.layer c.in_ok-spots.spots.items c.requires.searchable c.requires.pieces c.in_ok-spots.ensures).0
@@ -13,5 +12,4 @@ new-requires-clause-placed c = (boxes_fit c.args.tech.now c.args.boxes.now c.arg
 pub returns : goal.returns
 returns c =
     let P : List Spot → Type 0 = λ spots. AreBoxSpots c.args.tech.now c.args.boxes.now c.args.pieces.now.placed.items c.args.layer spots in
-    let are = subst P (sym c.in_ok-tree.ensures) c.in_ok-spots.ensures in
-    IfOk-weaker c.new_grove.result (IsNewGrove c.in_ok-tree.tree) (λ grove. (spots : List Spot) × P spots × IsNewGrove spots grove) (λ grove new. (c.in_ok-tree.tree, are, new)) c.new_grove.ensures
+    subst P (sym c.in_ok-tree.ensures) c.in_ok-spots.ensures

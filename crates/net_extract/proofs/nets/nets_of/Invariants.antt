@@ -1,7 +1,7 @@
 use Rattle.std.proofs.Common.{◌≡◌, length}
 use Rattle.graph_search.proofs.Numbering.{IsNumbering}
 use Rattle.net_extract.specs.{Linking.AreBeside, Spreading.IsSearch}
-use Rattle.net_extract.proofs.nets.nets_by.Given as goal
+use Rattle.net_extract.proofs.nets.nets_of.Given as goal
 
 abbrev pub invariant-loop-a : goal.invariant-loop-a
 invariant-loop-a l = record {

@@ -3,15 +3,15 @@ use Rattle.std.{proofs.lemmas.List.length_push, specs.Prelude.max}
 use Rattle.graph_search.specs.Search.{mark_of}
 use Rattle.graph_search.proofs.{Numbering.{IsNumbering, numbering_none, numbering_more}, Spreading.whole_none}
 use Rattle.net_extract.{specs.Linking.AreBeside, proofs.Netted.nets_made}
-use Rattle.net_extract.proofs.nets.nets_by.Goals as goal
+use Rattle.net_extract.proofs.nets.nets_of.Goals as goal
 
 pub loop-a-init : goal.loop-a-init
 loop-a-init c =
     let Beside : ℕ → ℕ → Type 0 = AreBeside c.args.tech.now c.args.boxes.now c.args.pieces.now.placed.items in
-    let marks = c.args.search.now.front.marks.items in
+    let marks = c.in_ok-search.search.front.marks.items in
     record {
-      search = c.requires.new.ready;
-      numbering = numbering_none Beside marks c.in_ok-nets.nets.items (whole_none Beside marks c.requires.new.unmarked) c.in_ok-nets.ensures.items;
+      search = c.in_ok-search.ensures.ready;
+      numbering = numbering_none Beside marks c.in_ok-nets.nets.items (whole_none Beside marks c.in_ok-search.ensures.unmarked) c.in_ok-nets.ensures.items;
       counted = ap (λ (xs : List ℕ). length xs) c.in_ok-nets.ensures.items;
     }
 
@@ -21,7 +21,7 @@ net_of-requires c =
     let t = c.loop-a-test.true in
     record {
       searchable = c.requires.searchable;
-      windows = c.requires.windows;
+      windows = c.in_ok-windows.ensures;
       pieces = c.requires.pieces;
       search = c.loop-a.invariant.search;
       whole = c.loop-a.invariant.numbering.whole;
