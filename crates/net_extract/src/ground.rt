@@ -6,7 +6,7 @@ use lam_geom::MaskBox;
 use rule_table::Tech;
 
 /// Boxes under a technology, with a tree of their windows and the pieces into which they fall.
-#[derive(Clone, Copy, Debug)]
+#[derive(Clone, Copy)]
 pub struct Ground<'a> {
     pub tech: &'a Tech,
     pub boxes: &'a [MaskBox],
