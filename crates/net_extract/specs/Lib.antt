@@ -6,6 +6,7 @@ pub mod Linking
 pub mod Spots
 pub mod CutLists
 pub mod Spreading
+pub mod Grounds
 pub mod Placing
 pub mod Devices
 pub mod Faults

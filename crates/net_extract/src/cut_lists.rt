@@ -1,14 +1,12 @@
 //! The pieces over each cut, in lists, and the cuts over each piece.
 ghost use Rattle.std.specs.Prelude.{◌≡◌, ◌+◌, ◌^◌, ◌<◌, [], All, IfOk, OnOk, length};
-ghost use Rattle.crossings.specs.Boxes.{AreSearchable};
 ghost use Rattle.net_extract.specs.CutLists.{AreChains, AreCrowdedSpots, AreLists, ArePieceGroves, IsListedOver};
+ghost use Rattle.net_extract.specs.Grounds.{IsGround, placed_on};
 ghost use Rattle.box_tree.specs.Found.{AreGathered};
-ghost use Rattle.net_extract.specs.Pieces.{ArePiecesOf};
 
+use crate::ground::Ground;
 use crate::over::{PieceGroves, list_over};
-use crate::placing::Pieces;
 use box_tree::Spot;
-use lam_geom::MaskBox;
 use std::alloc::{AllocError, Global};
 
 /// The pieces over cuts: over cut k lie `nodes[starts[k]..starts[k + 1]]`. A cut that joins nothing has none here, and one that is
@@ -31,16 +29,17 @@ pub struct Chains {
 /// The lists of all cuts, and the spots of those that are crowded. The only refusal is want of memory.
 pub fn cut_lists(
     alloc: Global,
-    boxes: &[MaskBox],
-    pieces: &Pieces,
+    ground: &Ground,
     groves: &PieceGroves,
 ) -> Result<(CutLists, Vec<Spot>), AllocError>
-    requires searchable { AreSearchable boxes.now }
-    requires pieces { ArePiecesOf boxes.now pieces.now }
-    requires groves { ArePieceGroves boxes.now pieces.now.placed.items groves.now }
-    ensures lists { IfOk result (λ made. AreLists boxes.now pieces.now.placed.items (length boxes.now) made.0.starts.items made.0.nodes.items made.0.cuts.items) }
-    ensures spots { IfOk result (λ made. AreCrowdedSpots boxes.now pieces.now.placed.items made.0.starts.items (length boxes.now) made.1.items) }
+    requires ground { IsGround ground.now }
+    requires groves { ArePieceGroves ground.now.boxes.now (placed_on ground.now) groves.now }
+    ensures lists { let boxes = ground.now.boxes.now in IfOk result (λ made.
+        AreLists boxes (placed_on ground.now) (length boxes) made.0.starts.items made.0.nodes.items made.0.cuts.items) }
+    ensures spots { let boxes = ground.now.boxes.now in IfOk result (λ made.
+        AreCrowdedSpots boxes (placed_on ground.now) made.0.starts.items (length boxes) made.1.items) }
 {
+    let boxes = ground.boxes;
     let mut starts = Vec::with_capacity(alloc, boxes.len() + 1)?;
     let mut nodes = Vec::new(alloc);
     let mut cuts = Vec::new(alloc);
@@ -49,12 +48,12 @@ pub fn cut_lists(
     starts.push(0)?;
     for k in 0..boxes.len() {
         let owner = k as u32;
-        let crowded = list_over(boxes, pieces, groves, owner, &mut found)?;
+        let crowded = list_over(ground, groves, owner, &mut found)?;
         nodes.extend_from_slice(found.as_slice())?;
         cuts.resize(nodes.len(), owner)?;
         starts.push(nodes.len() as u32)?;
         if crowded {
-            let tag = pieces.placed.len() as u32 + owner;
+            let tag = ground.pieces.placed.len() as u32 + owner;
             spots.push(Spot {
                 area: boxes[k].area,
                 owner,

@@ -8,6 +8,7 @@
 mod cut_lists;
 mod devices;
 mod extraction;
+mod ground;
 mod laws;
 mod netlist;
 mod nets;

@@ -2,14 +2,15 @@
 ghost use Rattle.std.specs.Prelude.{◌<◌, ◌≤◌, ◌↔◌, [], All, IfOk, IsTrue, OnOk, length};
 ghost use Rattle.box_tree.specs.{Queries.{Holds, IsQuery}, Groves.{IsOf, AreTreeParts, IsUnvisitedWithin}};
 ghost use Rattle.box_tree.specs.Found.{AreGathered};
-ghost use Rattle.crossings.specs.Boxes.{AreSearchable, IsOn};
+ghost use Rattle.crossings.specs.Boxes.{IsOn};
 ghost use Rattle.lam_geom.specs.declared.boxes.MaskLayer.TheVariants.{NC};
 ghost use Rattle.net_extract.specs.CutLists.{AreFound, AreOfTwo, ArePieceGroves, IsListOver, IsOfAny, ArePartsWithin};
-ghost use Rattle.net_extract.specs.{Linking.IsOver, Pieces.ArePiecesOf};
+ghost use Rattle.net_extract.specs.{Linking.IsOver, Grounds.{IsGround, placed_on}};
 
+use crate::ground::Ground;
 use crate::placing::Pieces;
 use box_tree::{Grove, OwnedParts, Query, Question, group_of, is_passed_over};
-use lam_geom::{MaskBox, MaskLayer};
+use lam_geom::MaskLayer;
 use std::alloc::AllocError;
 
 // At most so many pieces are listed over a cut.
@@ -27,24 +28,24 @@ pub struct PieceGroves {
 /// the cut is crowded: that is true, and `found` is empty. For any other box `found` is empty. The only refusal is want of
 /// memory.
 pub fn list_over(
-    boxes: &[MaskBox],
-    pieces: &Pieces,
+    ground: &Ground,
     groves: &PieceGroves,
     box_no: u32,
     found: &mut Vec<u32>,
 ) -> Result<bool, AllocError>
-    requires searchable { AreSearchable boxes.now }
-    requires pieces { ArePiecesOf boxes.now pieces.now }
-    requires groves { ArePieceGroves boxes.now pieces.now.placed.items groves.now }
-    requires in_range { box_no < length boxes.now }
-    ensures { IfOk result (λ crowded. IsListOver boxes.now pieces.now.placed.items box_no crowded found.new.items) }
+    requires ground { IsGround ground.now }
+    requires groves { ArePieceGroves ground.now.boxes.now (placed_on ground.now) groves.now }
+    requires in_range { box_no < length ground.now.boxes.now }
+    ensures { IfOk result (λ crowded.
+        IsListOver ground.now.boxes.now (placed_on ground.now) box_no crowded found.new.items) }
 {
+    let boxes = ground.boxes;
     if boxes[box_no as usize].layer != MaskLayer::NC {
         found.clear();
         return Ok(false);
     }
-    let all = find_over(boxes, pieces, groves, box_no, found)?;
-    if !is_of_two(pieces, found.as_slice()) {
+    let all = find_over(ground, groves, box_no, found)?;
+    if !is_of_two(ground.pieces, found.as_slice()) {
         found.clear();
         return Ok(false);
     }
@@ -57,18 +58,18 @@ pub fn list_over(
 
 // Puts the pieces over a cut in place of what was in `found`, until they are many and of two boxes. Whether these are all.
 fn find_over(
-    boxes: &[MaskBox],
-    pieces: &Pieces,
+    ground: &Ground,
     groves: &PieceGroves,
     cut: u32,
     found: &mut Vec<u32>,
 ) -> Result<bool, AllocError>
-    requires searchable { AreSearchable boxes.now }
-    requires pieces { ArePiecesOf boxes.now pieces.now }
-    requires groves { ArePieceGroves boxes.now pieces.now.placed.items groves.now }
-    requires cut { IsOn boxes.now NC cut }
-    ensures { IfOk result (λ all. AreFound pieces.now.placed.items (IsOver boxes.now pieces.now.placed.items cut) all [] found.new.items) }
+    requires ground { IsGround ground.now }
+    requires groves { ArePieceGroves ground.now.boxes.now (placed_on ground.now) groves.now }
+    requires cut { IsOn ground.now.boxes.now NC cut }
+    ensures { let placed = placed_on ground.now in
+        IfOk result (λ all. AreFound placed (IsOver ground.now.boxes.now placed cut) all [] found.new.items) }
 {
+    let boxes = ground.boxes;
     found.clear();
     let query = Query {
         area: boxes[cut as usize].area,
@@ -77,7 +78,7 @@ fn find_over(
             owner: cut,
         },
     };
-    find_all(pieces, groves, &query, found)
+    find_all(ground.pieces, groves, &query, found)
 }
 
 // The same of the pieces on all layers that hold a query, behind those in `found`.

@@ -1,17 +1,13 @@
 //! One step of a search: the nodes without a mark that some spots show are given a net.
 ghost use Rattle.std.specs.Prelude.{◌<◌, ◌↔◌, All, IsTrue, OnOk, length};
 ghost use Rattle.box_tree.specs.{Queries.{Holds, IsQuery}, Groves.{AreTagsWithin, IsGrove, IsOf}, Found.AreGathered};
-ghost use Rattle.crossings.specs.{Boxes.AreSearchable, Spots.AreBoxesOn};
-ghost use Rattle.lam_geom.specs.declared.boxes.MaskLayer.TheVariants.{NB};
-ghost use Rattle.net_extract.specs.{Linking.IsPairWith, Pieces.IsOfBoxes, Spreading.{IsGroveReached, IsBuriedOf}};
-ghost use Rattle.net_extract.specs.Spreading.{IsOfPair};
+ghost use Rattle.net_extract.specs.{Linking.IsPairWith, Spreading.{IsGroveReached, IsBuriedOf, IsOfPair}};
+ghost use Rattle.net_extract.specs.Grounds.{IsGround, placed_on};
 
-use crate::placing::Placed;
-use box_tree::{BoxTree, Grove, Query};
+use crate::ground::Ground;
+use box_tree::{Grove, Query};
 use crossings::is_buried;
 use graph_search::visit;
-use lam_geom::MaskBox;
-use rule_table::Tech;
 use std::alloc::AllocError;
 
 /// How far a search has come: the net of each node that has one, and the nodes that this search has reached, in order. The
@@ -48,37 +44,26 @@ pub fn reach(
 
 /// The same of those of which the boxes are buried pairs with a box. The only refusal is want of memory.
 pub fn reach_buried(
-    tech: &Tech,
-    boxes: &[MaskBox],
-    windows: &BoxTree,
-    placed: &[Placed],
+    ground: &Ground,
     box_no: u32,
     grove: &mut Grove,
     query: &Query,
     net: u32,
     front: &mut Front,
 ) -> Result<(), AllocError>
-    requires searchable { AreSearchable boxes.now }
-    requires windows { AreBoxesOn boxes.now NB windows.now }
-    requires placed { All (IsOfBoxes boxes.now) placed.now }
-    requires box_no { box_no < length boxes.now }
+    requires ground { IsGround ground.now }
+    requires box_no { box_no < length ground.now.boxes.now }
     requires grove { IsGrove front.old.marks.items grove.old }
-    requires tags { AreTagsWithin (length placed.now) grove.old.parts.spots.items }
+    requires tags { AreTagsWithin (length (placed_on ground.now)) grove.old.parts.spots.items }
     requires query { IsQuery query.now }
-    ensures { OnOk result (IsGroveReached (IsBuriedOf tech.now boxes.now placed.now box_no grove.old.parts.spots.items query.now) net grove.old grove.new front.old front.new) }
+    ensures { let spots = grove.old.parts.spots.items in
+        let Is = IsBuriedOf ground.now.tech.now ground.now.boxes.now (placed_on ground.now) box_no spots query.now in
+        OnOk result (IsGroveReached Is net grove.old grove.new front.old front.new) }
 {
     let marks = front.marks.as_slice();
     grove.unvisited(marks, query, &mut front.found)?;
     front.kept.clear();
-    keep_buried(
-        tech,
-        boxes,
-        windows,
-        placed,
-        box_no,
-        front.found.as_slice(),
-        &mut front.kept,
-    )?;
+    keep_buried(ground, box_no, front.found.as_slice(), &mut front.kept)?;
     visit(
         front.kept.as_slice(),
         net,
@@ -90,24 +75,20 @@ pub fn reach_buried(
 
 // Puts those of some pieces of which the boxes are buried pairs with a box behind those in `kept`.
 fn keep_buried(
-    tech: &Tech,
-    boxes: &[MaskBox],
-    windows: &BoxTree,
-    placed: &[Placed],
+    ground: &Ground,
     box_no: u32,
     numbers: &[u32],
     kept: &mut Vec<u32>,
 ) -> Result<(), AllocError>
-    requires searchable { AreSearchable boxes.now }
-    requires windows { AreBoxesOn boxes.now NB windows.now }
-    requires placed { All (IsOfBoxes boxes.now) placed.now }
-    requires box_no { box_no < length boxes.now }
-    requires numbers { All (λ y. y < length placed.now) numbers.now }
-    ensures { OnOk result (AreGathered (IsOfPair tech.now boxes.now placed.now box_no numbers.now) kept.old.items kept.new.items) }
+    requires ground { IsGround ground.now }
+    requires box_no { box_no < length ground.now.boxes.now }
+    requires numbers { All (λ y. y < length (placed_on ground.now)) numbers.now }
+    ensures { let Is = IsOfPair ground.now.tech.now ground.now.boxes.now (placed_on ground.now) box_no numbers.now in
+        OnOk result (AreGathered Is kept.old.items kept.new.items) }
 {
     for &y in numbers {
-        let other = placed[y as usize].box_no;
-        if is_pair_with(tech, boxes, windows, box_no, other) {
+        let other = ground.pieces.placed[y as usize].box_no;
+        if is_pair_with(ground, box_no, other) {
             kept.push(y)?;
         }
     }
@@ -115,12 +96,17 @@ fn keep_buried(
 }
 
 // Whether two boxes, in either order, are a buried pair.
-fn is_pair_with(tech: &Tech, boxes: &[MaskBox], windows: &BoxTree, a: u32, b: u32) -> bool
-    requires searchable { AreSearchable boxes.now }
-    requires windows { AreBoxesOn boxes.now NB windows.now }
-    requires first { a < length boxes.now }
-    requires second { b < length boxes.now }
-    ensures { IsTrue result ↔ IsPairWith tech.now boxes.now a b }
+fn is_pair_with(ground: &Ground, a: u32, b: u32) -> bool
+    requires ground { IsGround ground.now }
+    requires first { a < length ground.now.boxes.now }
+    requires second { b < length ground.now.boxes.now }
+    ensures { IsTrue result ↔ IsPairWith ground.now.tech.now ground.now.boxes.now a b }
 {
+    let Ground {
+        tech,
+        boxes,
+        windows,
+        ..
+    } = *ground;
     is_buried(tech, boxes, windows, a, b) || is_buried(tech, boxes, windows, b, a)
 }

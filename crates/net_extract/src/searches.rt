@@ -1,19 +1,18 @@
 //! Searches over pieces and cuts: from each node to those that are beside it.
 ghost use Rattle.std.specs.Prelude.{◌≡◌, ◌<◌, OnOk, None, [], length};
 ghost use Rattle.box_tree.specs.{declared.query.Question.TheVariants.NearOfOther, Queries.IsQuery};
-ghost use Rattle.crossings.specs.{Boxes.AreSearchable, Spots.AreBoxesOn};
-ghost use Rattle.lam_geom.specs.{Places.IsPlacedBox, declared.boxes.MaskLayer.TheVariants.NB};
+ghost use Rattle.lam_geom.specs.Places.{IsPlacedBox};
 ghost use Rattle.graph_search.specs.Search.{mark_of, AreReached, IsSpread};
-ghost use Rattle.net_extract.specs.{Linking.{AreBeside, IsJoining, IsNode, IsOverCut, cut_node}, Pieces.ArePiecesOf};
-ghost use Rattle.net_extract.specs.{Pieces.Conducts, Spreading.{IsSearch, IsStep, IsAnswer, IsPartner}};
+ghost use Rattle.net_extract.specs.{Linking.{IsJoining, IsNode, IsOverCut, cut_node}, Pieces.Conducts};
+ghost use Rattle.net_extract.specs.{Spreading.{IsAnswer, IsPartner}, Grounds.{IsGround, IsSearchOn, AreBesideOn}};
+ghost use Rattle.net_extract.specs.Grounds.{IsStepOn, placed_on};
 
 use crate::cut_lists::{Chains, CutLists, cuts_of};
-use crate::placing::Pieces;
+use crate::ground::Ground;
 use crate::reaching::{Front, reach, reach_buried};
-use box_tree::{BoxTree, Grove, Query, Question};
+use box_tree::{Grove, Query, Question};
 use graph_search::visit;
-use lam_geom::{BoxXY, MaskBox, MaskLayer};
-use rule_table::Tech;
+use lam_geom::{BoxXY, MaskLayer};
 use std::alloc::AllocError;
 
 /// The nodes of some pieces: pieces on each layer by their areas, cuts that join, in lists or, where they are crowded, by their
@@ -32,29 +31,20 @@ pub struct Search {
 }
 
 /// Gives a net to a piece that has none and to all nodes that it reaches. The only refusal is want of memory.
-pub fn spread(
-    tech: &Tech,
-    boxes: &[MaskBox],
-    windows: &BoxTree,
-    pieces: &Pieces,
-    start: u32,
-    net: u32,
-    search: &mut Search,
-) -> Result<(), AllocError>
-    requires searchable { AreSearchable boxes.now }
-    requires windows { AreBoxesOn boxes.now NB windows.now }
-    requires pieces { ArePiecesOf boxes.now pieces.now }
-    requires search { IsSearch tech.now boxes.now pieces.now.placed.items search.old }
-    requires in_range { start < length pieces.now.placed.items }
+pub fn spread(ground: &Ground, start: u32, net: u32, search: &mut Search) -> Result<(), AllocError>
+    requires ground { IsGround ground.now }
+    requires search { IsSearchOn ground.now search.old }
+    requires in_range { start < length (placed_on ground.now) }
     requires unmarked { mark_of search.old.front.marks.items start ≡ None }
-    ensures search { OnOk result (IsSearch tech.now boxes.now pieces.now.placed.items search.new) }
-    ensures spread { OnOk result (IsSpread (AreBeside tech.now boxes.now pieces.now.placed.items) start net search.old.front.marks.items search.new.front.marks.items) }
+    ensures search { OnOk result (IsSearchOn ground.now search.new) }
+    ensures spread { let old = search.old.front.marks.items in
+        OnOk result (IsSpread (AreBesideOn ground.now) start net old search.new.front.marks.items) }
 {
     begin(start, net, &mut search.front)?;
     let mut passed = 0;
     while passed < search.front.queue.len() {
         let node = search.front.queue[passed];
-        visit_node(tech, boxes, windows, pieces, node, net, search)?;
+        visit_node(ground, node, net, search)?;
         passed += 1;
     }
     Ok(())
@@ -73,70 +63,43 @@ fn begin(start: u32, net: u32, front: &mut Front) -> Result<(), AllocError>
 }
 
 // Gives a net to the nodes without one that are beside a node.
-fn visit_node(
-    tech: &Tech,
-    boxes: &[MaskBox],
-    windows: &BoxTree,
-    pieces: &Pieces,
-    node: u32,
-    net: u32,
-    search: &mut Search,
-) -> Result<(), AllocError>
-    requires searchable { AreSearchable boxes.now }
-    requires windows { AreBoxesOn boxes.now NB windows.now }
-    requires pieces { ArePiecesOf boxes.now pieces.now }
-    requires search { IsSearch tech.now boxes.now pieces.now.placed.items search.old }
-    requires node { IsNode boxes.now pieces.now.placed.items node }
-    ensures { OnOk result (IsStep tech.now boxes.now pieces.now.placed.items (AreBeside tech.now boxes.now pieces.now.placed.items node) net search.old search.new) }
+fn visit_node(ground: &Ground, node: u32, net: u32, search: &mut Search) -> Result<(), AllocError>
+    requires ground { IsGround ground.now }
+    requires search { IsSearchOn ground.now search.old }
+    requires node { IsNode ground.now.boxes.now (placed_on ground.now) node }
+    ensures { OnOk result (IsStepOn ground.now (AreBesideOn ground.now node) net search.old search.new) }
 {
-    let count = pieces.placed.len() as u32;
+    let count = ground.pieces.placed.len() as u32;
     if node < count {
-        visit_piece(tech, boxes, windows, pieces, node, net, search)
+        visit_piece(ground, node, net, search)
     } else {
-        visit_cut(tech, boxes, pieces, node - count, net, search)
+        visit_cut(ground, node - count, net, search)
     }
 }
 
 // The same beside a piece.
-fn visit_piece(
-    tech: &Tech,
-    boxes: &[MaskBox],
-    windows: &BoxTree,
-    pieces: &Pieces,
-    a: u32,
-    net: u32,
-    search: &mut Search,
-) -> Result<(), AllocError>
-    requires searchable { AreSearchable boxes.now }
-    requires windows { AreBoxesOn boxes.now NB windows.now }
-    requires pieces { ArePiecesOf boxes.now pieces.now }
-    requires search { IsSearch tech.now boxes.now pieces.now.placed.items search.old }
-    requires in_range { a < length pieces.now.placed.items }
-    ensures { OnOk result (IsStep tech.now boxes.now pieces.now.placed.items (AreBeside tech.now boxes.now pieces.now.placed.items a) net search.old search.new) }
+fn visit_piece(ground: &Ground, a: u32, net: u32, search: &mut Search) -> Result<(), AllocError>
+    requires ground { IsGround ground.now }
+    requires search { IsSearchOn ground.now search.old }
+    requires in_range { a < length (placed_on ground.now) }
+    ensures { OnOk result (IsStepOn ground.now (AreBesideOn ground.now a) net search.old search.new) }
 {
-    let piece = pieces.placed[a as usize];
-    let layer = boxes[piece.box_no as usize].layer;
+    let piece = ground.pieces.placed[a as usize];
+    let layer = ground.boxes[piece.box_no as usize].layer;
     let touching = near(&piece.area, 0, piece.box_no);
-    reach_pieces(tech, boxes, pieces, layer, &touching, net, search)?;
-    reach_cuts(tech, boxes, pieces, a, net, search)?;
-    reach_partners(tech, boxes, windows, pieces, piece.box_no, net, search)?;
+    reach_pieces(ground, layer, &touching, net, search)?;
+    reach_cuts(ground, a, net, search)?;
+    reach_partners(ground, piece.box_no, net, search)?;
     Ok(())
 }
 
 // The same beside a cut that joins.
-fn visit_cut(
-    tech: &Tech,
-    boxes: &[MaskBox],
-    pieces: &Pieces,
-    cut: u32,
-    net: u32,
-    search: &mut Search,
-) -> Result<(), AllocError>
-    requires searchable { AreSearchable boxes.now }
-    requires pieces { ArePiecesOf boxes.now pieces.now }
-    requires search { IsSearch tech.now boxes.now pieces.now.placed.items search.old }
-    requires joining { IsJoining boxes.now pieces.now.placed.items cut }
-    ensures { OnOk result (IsStep tech.now boxes.now pieces.now.placed.items (AreBeside tech.now boxes.now pieces.now.placed.items (cut_node pieces.now.placed.items cut)) net search.old search.new) }
+fn visit_cut(ground: &Ground, cut: u32, net: u32, search: &mut Search) -> Result<(), AllocError>
+    requires ground { IsGround ground.now }
+    requires search { IsSearchOn ground.now search.old }
+    requires joining { IsJoining ground.now.boxes.now (placed_on ground.now) cut }
+    ensures { let node = cut_node (placed_on ground.now) cut in
+        OnOk result (IsStepOn ground.now (AreBesideOn ground.now node) net search.old search.new) }
 {
     let first = search.lists.starts[cut as usize] as usize;
     let end = search.lists.starts[cut as usize + 1] as usize;
@@ -145,10 +108,10 @@ fn visit_cut(
         let nodes = &search.lists.nodes[first..end];
         return visit(nodes, net, &mut front.marks, &mut front.queue);
     }
-    let over = near(&boxes[cut as usize].area, -1, cut);
-    reach_pieces(tech, boxes, pieces, MaskLayer::ND, &over, net, search)?;
-    reach_pieces(tech, boxes, pieces, MaskLayer::NP, &over, net, search)?;
-    reach_pieces(tech, boxes, pieces, MaskLayer::NM, &over, net, search)?;
+    let over = near(&ground.boxes[cut as usize].area, -1, cut);
+    reach_pieces(ground, MaskLayer::ND, &over, net, search)?;
+    reach_pieces(ground, MaskLayer::NP, &over, net, search)?;
+    reach_pieces(ground, MaskLayer::NM, &over, net, search)?;
     Ok(())
 }
 
@@ -166,9 +129,7 @@ fn near(area: &BoxXY, reach: i64, owner: u32) -> Query
 
 // Gives a net to the pieces without one on a layer that hold a query.
 fn reach_pieces(
-    tech: &Tech,
-    boxes: &[MaskBox],
-    pieces: &Pieces,
+    ground: &Ground,
     layer: MaskLayer,
     query: &Query,
     net: u32,
@@ -176,8 +137,9 @@ fn reach_pieces(
 ) -> Result<(), AllocError>
     requires query { IsQuery query.now }
     requires conducts { Conducts layer }
-    requires search { IsSearch tech.now boxes.now pieces.now.placed.items search.old }
-    ensures { OnOk result (IsStep tech.now boxes.now pieces.now.placed.items (IsAnswer boxes.now pieces.now.placed.items layer query.now) net search.old search.new) }
+    requires search { IsSearchOn ground.now search.old }
+    ensures { let Is = IsAnswer ground.now.boxes.now (placed_on ground.now) layer query.now in
+        OnOk result (IsStepOn ground.now Is net search.old search.new) }
 {
     match layer {
         MaskLayer::ND => reach(&mut search.diffusion, query, net, &mut search.front),
@@ -188,25 +150,18 @@ fn reach_pieces(
 }
 
 // Gives a net to the cuts without one that join and are over a piece.
-fn reach_cuts(
-    tech: &Tech,
-    boxes: &[MaskBox],
-    pieces: &Pieces,
-    a: u32,
-    net: u32,
-    search: &mut Search,
-) -> Result<(), AllocError>
-    requires searchable { AreSearchable boxes.now }
-    requires pieces { ArePiecesOf boxes.now pieces.now }
-    requires search { IsSearch tech.now boxes.now pieces.now.placed.items search.old }
-    requires in_range { a < length pieces.now.placed.items }
-    ensures { OnOk result (IsStep tech.now boxes.now pieces.now.placed.items (IsOverCut boxes.now pieces.now.placed.items a) net search.old search.new) }
+fn reach_cuts(ground: &Ground, a: u32, net: u32, search: &mut Search) -> Result<(), AllocError>
+    requires ground { IsGround ground.now }
+    requires search { IsSearchOn ground.now search.old }
+    requires in_range { a < length (placed_on ground.now) }
+    ensures { let Is = IsOverCut ground.now.boxes.now (placed_on ground.now) a in
+        OnOk result (IsStepOn ground.now Is net search.old search.new) }
 {
-    let piece = pieces.placed[a as usize];
+    let piece = ground.pieces.placed[a as usize];
     let over = near(&piece.area, -1, piece.box_no);
     let front = &mut search.front;
     reach(&mut search.cuts, &over, net, front)?;
-    let count = pieces.placed.len() as u32;
+    let count = ground.pieces.placed.len() as u32;
     cuts_of(&search.lists, &search.chains, count, a, &mut front.found)?;
     visit(
         front.found.as_slice(),
@@ -218,48 +173,24 @@ fn reach_cuts(
 
 // Gives a net to the pieces without one of which the boxes are buried pairs with a box.
 fn reach_partners(
-    tech: &Tech,
-    boxes: &[MaskBox],
-    windows: &BoxTree,
-    pieces: &Pieces,
+    ground: &Ground,
     box_no: u32,
     net: u32,
     search: &mut Search,
 ) -> Result<(), AllocError>
-    requires searchable { AreSearchable boxes.now }
-    requires windows { AreBoxesOn boxes.now NB windows.now }
-    requires pieces { ArePiecesOf boxes.now pieces.now }
-    requires search { IsSearch tech.now boxes.now pieces.now.placed.items search.old }
-    requires in_range { box_no < length boxes.now }
-    ensures { OnOk result (IsStep tech.now boxes.now pieces.now.placed.items (IsPartner tech.now boxes.now pieces.now.placed.items box_no) net search.old search.new) }
+    requires ground { IsGround ground.now }
+    requires search { IsSearchOn ground.now search.old }
+    requires in_range { box_no < length ground.now.boxes.now }
+    ensures { let Is = IsPartner ground.now.tech.now ground.now.boxes.now (placed_on ground.now) box_no in
+        OnOk result (IsStepOn ground.now Is net search.old search.new) }
 {
+    let boxes = ground.boxes;
     let own = boxes[box_no as usize];
     let over = near(&own.area, -1, box_no);
-    let placed = pieces.placed.as_slice();
     let front = &mut search.front;
     match own.layer {
-        MaskLayer::NP => reach_buried(
-            tech,
-            boxes,
-            windows,
-            placed,
-            box_no,
-            &mut search.under,
-            &over,
-            net,
-            front,
-        ),
-        MaskLayer::ND => reach_buried(
-            tech,
-            boxes,
-            windows,
-            placed,
-            box_no,
-            &mut search.over,
-            &over,
-            net,
-            front,
-        ),
+        MaskLayer::NP => reach_buried(ground, box_no, &mut search.under, &over, net, front),
+        MaskLayer::ND => reach_buried(ground, box_no, &mut search.over, &over, net, front),
         MaskLayer::NM | MaskLayer::NC | MaskLayer::NI | MaskLayer::NB => Ok(()),
     }
 }

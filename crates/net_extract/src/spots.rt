@@ -1,25 +1,23 @@
 //! The spots of pieces, by their areas and by the areas of their boxes.
 ghost use Rattle.std.specs.Prelude.{IfOk};
-ghost use Rattle.crossings.specs.Boxes.{AreSearchable};
-ghost use Rattle.net_extract.specs.{Pieces.ArePiecesOf, Spots.{ArePieceSpots, AreBoxSpots}};
+ghost use Rattle.net_extract.specs.{Spots.{ArePieceSpots, AreBoxSpots}, Grounds.{IsGround, placed_on}};
 
-use crate::placing::{Pieces, Placed};
+use crate::ground::Ground;
+use crate::placing::Placed;
 use box_tree::Spot;
-use lam_geom::{MaskBox, MaskLayer};
-use rule_table::Tech;
+use lam_geom::MaskLayer;
 use std::alloc::{AllocError, Global};
 
 /// The spots of the pieces on a layer. The only refusal is want of memory.
 pub fn piece_spots(
     alloc: Global,
-    boxes: &[MaskBox],
-    pieces: &Pieces,
+    ground: &Ground,
     layer: MaskLayer,
 ) -> Result<Vec<Spot>, AllocError>
-    requires searchable { AreSearchable boxes.now }
-    requires pieces { ArePiecesOf boxes.now pieces.now }
-    ensures { IfOk result (λ spots. ArePieceSpots boxes.now pieces.now.placed.items layer spots.items) }
+    requires { IsGround ground.now }
+    ensures { IfOk result (λ spots. ArePieceSpots ground.now.boxes.now (placed_on ground.now) layer spots.items) }
 {
+    let Ground { boxes, pieces, .. } = *ground;
     let mut spots = Vec::new(alloc);
     for a in 0..pieces.placed.len() {
         let Placed { box_no, area, .. } = pieces.placed[a];
@@ -37,18 +35,13 @@ pub fn piece_spots(
 
 /// The spots of the pieces on a layer by the areas of their boxes, if the technology has buried contacts, and otherwise
 /// none. The only refusal is want of memory.
-pub fn box_spots(
-    alloc: Global,
-    tech: &Tech,
-    boxes: &[MaskBox],
-    pieces: &Pieces,
-    layer: MaskLayer,
-) -> Result<Vec<Spot>, AllocError>
-    requires searchable { AreSearchable boxes.now }
-    requires pieces { ArePiecesOf boxes.now pieces.now }
-    ensures { IfOk result (λ spots. AreBoxSpots tech.now boxes.now pieces.now.placed.items layer spots.items) }
+pub fn box_spots(alloc: Global, ground: &Ground, layer: MaskLayer) -> Result<Vec<Spot>, AllocError>
+    requires { IsGround ground.now }
+    ensures { IfOk result (λ spots.
+        AreBoxSpots ground.now.tech.now ground.now.boxes.now (placed_on ground.now) layer spots.items) }
 {
-    let has_buried = tech.has_buried();
+    let Ground { boxes, pieces, .. } = *ground;
+    let has_buried = ground.tech.has_buried();
     let mut spots = Vec::new(alloc);
     for a in 0..pieces.placed.len() {
         let owner = pieces.placed[a].box_no;

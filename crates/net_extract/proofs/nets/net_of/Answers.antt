@@ -1,7 +1,7 @@
 use Rattle.std.proofs.{Common.{arith, ◌≡◌, ℕ, ◌+◌, ◌<◌, None, Some, sym, ◌∙◌, subst}, lemmas.List.get_or_read}
 use Rattle.std.specs.Prelude.{max}
 use Rattle.graph_search.{specs.Search.{mark_of, AreWhole}, proofs.Spreading.{whole_more, whole_below}}
-use Rattle.net_extract.{specs.Linking.AreBeside, proofs.Nodes.beside_back}
+use Rattle.net_extract.{proofs.Nodes.beside_back, specs.Grounds.AreBesideOn}
 use Rattle.net_extract.proofs.nets.net_of.Goals as goal
 
 pub returns-in-Some : goal.returns-in-Some
@@ -15,7 +15,7 @@ returns-in-Some c =
       search = c.requires.search;
       kept = λ k m e. e;
       net = there;
-      whole = whole_below (AreBeside c.args.tech.now c.args.boxes.now c.args.pieces.now.placed.items) c.args.next (max c.args.next (c.in-Some.net + 1)) marks (omega arith) c.requires.whole;
+      whole = whole_below (AreBesideOn c.args.ground.now) c.args.next (max c.args.next (c.in-Some.net + 1)) marks (omega arith) c.requires.whole;
       below = omega arith;
     }
 
@@ -25,9 +25,7 @@ spread-requires c =
     let n = c.requires.search.counted in
     let lt = c.requires.in_range in
     record {
-      searchable = c.requires.searchable;
-      windows = c.requires.windows;
-      pieces = c.requires.pieces;
+      ground = c.requires.ground;
       search = c.requires.search;
       in_range = c.requires.in_range;
       unmarked = sym (get_or_read marks c.args.a c.index.result.now (omega arith) c.index.ensures None) ∙ c.in_default.is;
@@ -35,7 +33,7 @@ spread-requires c =
 
 pub returns : goal.returns
 returns c =
-    let Beside : ℕ → ℕ → Type 0 = AreBeside c.args.tech.now c.args.boxes.now c.args.pieces.now.placed.items in
+    let Beside : ℕ → ℕ → Type 0 = AreBesideOn c.args.ground.now in
     let new = c.spread.new.search.front.marks.items in
     let P : ℕ → Type 0 = λ n. AreWhole Beside n new in
     let e : c.args.next + 1 ≡ max c.args.next (c.args.next + 1) = omega arith in
@@ -44,6 +42,6 @@ returns c =
       search = c.in_ok-spread.ensures.search;
       kept = s.kept;
       net = s.begun;
-      whole = subst P e (whole_more Beside c.args.a c.args.next c.args.search.now.front.marks.items new (beside_back c.args.tech.now c.args.boxes.now c.args.pieces.now.placed.items) c.requires.whole s);
+      whole = subst P e (whole_more Beside c.args.a c.args.next c.args.search.now.front.marks.items new (beside_back c.args.ground.now.tech.now c.args.ground.now.boxes.now c.args.ground.now.pieces.now.placed.items) c.requires.whole s);
       below = omega arith;
     }

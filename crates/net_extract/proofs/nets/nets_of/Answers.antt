@@ -20,9 +20,11 @@ net_of-requires c =
     let n = c.len-a-end.ensures in
     let t = c.loop-a-test.true in
     record {
-      searchable = c.requires.searchable;
-      windows = c.in_ok-windows.ensures;
-      pieces = c.requires.pieces;
+      ground = record {
+        searchable = c.requires.searchable;
+        windows = c.in_ok-windows.ensures;
+        pieces = c.requires.pieces;
+      };
       search = c.loop-a.invariant.search;
       whole = c.loop-a.invariant.numbering.whole;
       in_range = omega (arith, c.args.pieces.now.placed.ok.0);

@@ -8,23 +8,23 @@ use Rattle.net_extract.proofs.nets.new_search.Goals as goal
 pub chains_of-requires-clause-within : goal.chains_of-requires-clause-within
 chains_of-requires-clause-within c =
     let lists = c.in_ok-lists.lists in
-    nodes_within c.args.boxes.now c.args.pieces.now.placed.items lists.starts.items lists.nodes.items lists.cuts.items c.as_slice.result.now c.len-2.result (omega (arith, c.len-2.ensures, c.args.pieces.now.placed.ok.0))
+    nodes_within c.args.ground.now.boxes.now c.args.ground.now.pieces.now.placed.items lists.starts.items lists.nodes.items lists.cuts.items c.as_slice.result.now c.len-2.result (omega (arith, c.len-2.ensures, c.args.ground.now.pieces.now.placed.ok.0))
     c.as_slice.ensures.value c.in_ok-lists.ensures.lists
 
 pub new-requires-clause-placed : goal.new-requires-clause-placed
-new-requires-clause-placed c = (crowded_fit c.args.boxes.now c.args.pieces.now.placed.items c.in_ok-lists.lists.starts.items c.in_ok-lists.spots.items c.requires.searchable c.in_ok-lists.ensures.spots).1
+new-requires-clause-placed c = (crowded_fit c.args.ground.now.boxes.now c.args.ground.now.pieces.now.placed.items c.in_ok-lists.lists.starts.items c.in_ok-lists.spots.items c.requires.searchable c.in_ok-lists.ensures.spots).1
 
 pub returns : goal.returns
 returns c =
-    let tech = c.args.tech.now in
-    let boxes = c.args.boxes.now in
-    let pieces = c.args.pieces.now.placed.items in
+    let tech = c.args.ground.now.tech.now in
+    let boxes = c.args.ground.now.boxes.now in
+    let pieces = c.args.ground.now.pieces.now.placed.items in
     let front = c.in_ok-front.front in
     let lists = c.in_ok-lists.lists in
     let l = c.len.ensures in
     let m = c.in_ok-front.ensures.counted in
-    let n : length front.marks.items ≡ length pieces + length boxes = omega (arith, c.args.pieces.now.placed.ok.0) in
-    let count : c.len-2.result ≡ length pieces = omega (arith, c.len-2.ensures, c.args.pieces.now.placed.ok.0) in
+    let n : length front.marks.items ≡ length pieces + length boxes = omega (arith, c.args.ground.now.pieces.now.placed.ok.0) in
+    let count : c.len-2.result ≡ length pieces = omega (arith, c.len-2.ensures, c.args.ground.now.pieces.now.placed.ok.0) in
     let heads = c.in_ok-chains.chains.heads.items in
     let nexts = c.in_ok-chains.chains.nexts.items in
     let N : List ℕ → Type 0 = λ nodes. AreChains c.len-2.result nodes (length nodes) heads nexts in

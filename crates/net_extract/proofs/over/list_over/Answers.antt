@@ -10,14 +10,14 @@ use Rattle.net_extract.proofs.over.list_over.Goals as goal
 
 pub is_of_two-requires : goal.is_of_two-requires
 is_of_two-requires c =
-    let pieces = c.args.pieces.now.placed.items in
+    let pieces = c.args.ground.now.pieces.now.placed.items in
     let W : List ℕ → Type 0 = All (λ a. a < length pieces) in
-    subst W (sym c.as_slice.ensures.value) (over_within c.args.boxes.now pieces c.args.box_no c.in_ok-all.all c.find_over.new.found.items c.in_ok-all.ensures)
+    subst W (sym c.as_slice.ensures.value) (over_within c.args.ground.now.boxes.now pieces c.args.box_no c.in_ok-all.all c.find_over.new.found.items c.in_ok-all.ensures)
 
 pub returns-then-not-is_of_two : goal.returns-then-not-is_of_two
 returns-then-not-is_of_two c =
-    let boxes = c.args.boxes.now in
-    let pieces = c.args.pieces.now.placed.items in
+    let boxes = c.args.ground.now.boxes.now in
+    let pieces = c.args.ground.now.pieces.now.placed.items in
     let k = c.args.box_no in
     let T : List ℕ → Type 0 = AreOfTwo pieces in
     list_none boxes pieces k c.clear-then-not-is_of_two.new.self.items c.clear-then-not-is_of_two.ensures.items
@@ -25,8 +25,8 @@ returns-then-not-is_of_two c =
 
 pub returns-then-len-le-LISTED : goal.returns-then-len-le-LISTED
 returns-then-len-le-LISTED c =
-    let boxes = c.args.boxes.now in
-    let pieces = c.args.pieces.now.placed.items in
+    let boxes = c.args.ground.now.boxes.now in
+    let pieces = c.args.ground.now.pieces.now.placed.items in
     let k = c.args.box_no in
     let at : layer_at boxes k ≡ NC = sym (ap (λ (m : MaskBox). m.layer) (get_or_default boxes k c.index-boxes-box_no.result no_box c.requires.in_range)) ∙ differs_false the_type (search rules) _ NC (sym c.if-ne.ensures) in
     let T : List ℕ → Type 0 = AreOfTwo pieces in
@@ -35,8 +35,8 @@ returns-then-len-le-LISTED c =
 
 pub returns : goal.returns
 returns c =
-    let boxes = c.args.boxes.now in
-    let pieces = c.args.pieces.now.placed.items in
+    let boxes = c.args.ground.now.boxes.now in
+    let pieces = c.args.ground.now.pieces.now.placed.items in
     let k = c.args.box_no in
     let at : layer_at boxes k ≡ NC = sym (ap (λ (m : MaskBox). m.layer) (get_or_default boxes k c.index-boxes-box_no.result no_box c.requires.in_range)) ∙ differs_false the_type (search rules) _ NC (sym c.if-ne.ensures) in
     let T : List ℕ → Type 0 = AreOfTwo pieces in

@@ -10,18 +10,18 @@ use Rattle.net_extract.proofs.searches.reach_cuts.Goals as goal
 
 pub near-over-requires : goal.near-over-requires
 near-over-requires c =
-    let pieces = c.args.pieces.now in
+    let pieces = c.args.ground.now.pieces.now in
     let P : Placed → Type 0 = λ p. IsPlacedBox p.area in
     subst P (sym (piece_read pieces.placed.items c.args.a c.index.result.now c.requires.in_range c.index.ensures))
-    (piece_placed c.args.boxes.now pieces.crossings.items pieces.placed.items pieces.starts.items c.args.a c.requires.searchable c.requires.pieces c.requires.in_range)
+    (piece_placed c.args.ground.now.boxes.now pieces.crossings.items pieces.placed.items pieces.starts.items c.args.a c.requires.ground.searchable c.requires.ground.pieces c.requires.in_range)
 
 pub visit-requires : goal.visit-requires
 visit-requires c =
-    let boxes = c.args.boxes.now in
-    let pieces = c.args.pieces.now.placed.items in
+    let boxes = c.args.ground.now.boxes.now in
+    let pieces = c.args.ground.now.pieces.now.placed.items in
     let lists = c.args.search.now.lists in
     let count = c.len-count.result in
-    let same : count ≡ length pieces = omega (arith, c.len-count.ensures, c.args.pieces.now.placed.ok.0) in
+    let same : count ≡ length pieces = omega (arith, c.len-count.ensures, c.args.ground.now.pieces.now.placed.ok.0) in
     let n = c.in_ok-reach.ensures.reached.counted in
     let m = c.requires.search.counted in
     gathered_within (IsListedOver lists.nodes.items lists.cuts.items count c.args.a) (length c.reach.new.front.marks.items) c.cuts_of.new.found.items c.as_slice.result.now c.as_slice.ensures.value
@@ -29,9 +29,9 @@ visit-requires c =
 
 pub returns : goal.returns
 returns c =
-    let tech = c.args.tech.now in
-    let boxes = c.args.boxes.now in
-    let pieces = c.args.pieces.now.placed.items in
+    let tech = c.args.ground.now.tech.now in
+    let boxes = c.args.ground.now.boxes.now in
+    let pieces = c.args.ground.now.pieces.now.placed.items in
     let a = c.args.a in
     let net = c.args.net in
     let search = c.args.search.now in
@@ -47,7 +47,7 @@ returns c =
     let is : c.near-over.result ≡ query = c.near-over.ensures.is ∙ ap (λ (p : Placed). over_query p.area p.box_no) (piece_read pieces a c.index.result.now c.requires.in_range c.index.ensures) in
     let C : ℕ → Type 0 = IsCrowdedAnswer boxes pieces starts query in
     let L : ℕ → Type 0 = IsListedOver nodes cuts (length pieces) a in
-    let same : c.len-count.result ≡ length pieces = omega (arith, c.len-count.ensures, c.args.pieces.now.placed.ok.0) in
+    let same : c.len-count.result ≡ length pieces = omega (arith, c.len-count.ensures, c.args.ground.now.pieces.now.placed.ok.0) in
     let G : ℕ → Type 0 = λ count. AreGathered (IsListedOver nodes cuts count a) [] c.cuts_of.new.found.items in
     let crowded = step_cuts tech boxes pieces (IsOf spots (Holds c.near-over.result)) C net search c.reach.new.grove front
     (λ y h. crowded_forth boxes pieces starts spots query c.requires.search.cuts.shows y (let P : Query → Type 0 = λ q. IsOf spots (Holds q) y in subst P is h))
@@ -59,7 +59,7 @@ returns c =
       | inl o ↦ crowded_over boxes pieces starts a y c.requires.in_range o
       | inr o ↦ listed_over boxes pieces starts nodes cuts a y c.requires.search.lists o
     ])
-    (λ y h. over_cases boxes c.args.pieces.now.crossings.items pieces c.args.pieces.now.starts.items starts nodes cuts a y c.requires.pieces c.requires.in_range c.requires.search.lists h)
+    (λ y h. over_cases boxes c.args.ground.now.pieces.now.crossings.items pieces c.args.ground.now.pieces.now.starts.items starts nodes cuts a y c.requires.ground.pieces c.requires.in_range c.requires.search.lists h)
     crowded
     (step_listed tech boxes pieces L net second last crowded.search
     (gathered_reached L net front.marks.items c.visit.new.marks.items front.queue.items c.visit.new.queue.items c.cuts_of.new.found.items c.as_slice.result.now c.as_slice.ensures.value (subst G same c.in_ok-cuts_of.ensures) v)))

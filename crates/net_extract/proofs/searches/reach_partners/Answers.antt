@@ -1,40 +1,34 @@
-use Rattle.std.proofs.Common.{◌≡◌, ◌≢◌, List, length, inl, inr, refl, sym, ◌∙◌, ap, subst}
+use Rattle.std.proofs.Common.{◌≡◌, ◌≢◌, inl, inr, refl, sym, ◌∙◌, ap, subst}
 use Rattle.std.proofs.lemmas.{List.get_or_read, Result.on_ok_weaker}
 use Rattle.lam_geom.specs.{declared.boxes.{MaskBox.MaskBox, MaskLayer.TheVariants.{ND, NP}}, Places.IsPlacedBox}
 use Rattle.crossings.specs.Boxes.{area_at, box_at, layer_at, no_box}
-use Rattle.net_extract.specs.{declared.placing.Placed.Placed, Spreading.{IsBuriedOf, IsGroveReached, IsPartner}}
+use Rattle.net_extract.specs.Spreading.{IsBuriedOf, IsPartner}
 use Rattle.net_extract.proofs.{Beside.{partners_forth, partners_back, no_partner}, Shown.over_query}
-use Rattle.net_extract.proofs.Searched.{step_under, step_over, step_none, box_tags, all_of_boxes}
-use Rattle.box_tree.specs.Groves.{AreTagsWithin}
+use Rattle.net_extract.proofs.Searched.{step_under, step_over, step_none, box_tags}
 use Rattle.net_extract.proofs.searches.reach_partners.Goals as goal
 
 pub near-over-requires : goal.near-over-requires
 near-over-requires c =
-    let boxes = c.args.boxes.now in
+    let boxes = c.args.ground.now.boxes.now in
     let P : MaskBox → Type 0 = λ m. IsPlacedBox m.area in
-    subst P (sym (get_or_read boxes c.args.box_no c.index-boxes-box_no.result c.requires.in_range c.index-boxes-box_no.is no_box)) (c.requires.searchable.placed c.args.box_no no_box c.requires.in_range)
+    subst P (sym (get_or_read boxes c.args.box_no c.index-boxes-box_no.result c.requires.in_range c.index-boxes-box_no.is no_box)) (c.requires.ground.searchable.placed c.args.box_no no_box c.requires.in_range)
 
 pub reach_buried-requires : goal.reach_buried-requires
 reach_buried-requires c =
-    let boxes = c.args.boxes.now in
-    let pieces = c.args.pieces.now.placed.items in
-    let grove = c.args.search.now.under in
-    let T : List Placed → Type 0 = λ ps. AreTagsWithin (length ps) grove.parts.spots.items in
+    let ground = c.args.ground.now in
     record {
-      searchable = c.requires.searchable;
-      windows = c.requires.windows;
-      placed = all_of_boxes boxes c.args.pieces.now.crossings.items pieces c.as_slice-placed.result.now c.args.pieces.now.starts.items c.as_slice-placed.ensures.value c.requires.pieces;
+      ground = c.requires.ground;
       box_no = c.requires.in_range;
       grove = c.requires.search.under.stands;
-      tags = subst T (sym c.as_slice-placed.ensures.value) (box_tags c.args.tech.now boxes pieces ND grove.parts.spots.items c.requires.search.under.shows);
+      tags = box_tags ground.tech.now ground.boxes.now ground.pieces.now.placed.items ND c.args.search.now.under.parts.spots.items c.requires.search.under.shows;
       query = c.near-over.ensures.query;
     }
 
 pub returns-in-NP : goal.returns-in-NP
 returns-in-NP c =
-    let tech = c.args.tech.now in
-    let boxes = c.args.boxes.now in
-    let pieces = c.args.pieces.now.placed.items in
+    let tech = c.args.ground.now.tech.now in
+    let boxes = c.args.ground.now.boxes.now in
+    let pieces = c.args.ground.now.pieces.now.placed.items in
     let box_no = c.args.box_no in
     let search = c.args.search.now in
     let spots = search.under.parts.spots.items in
@@ -42,34 +36,27 @@ returns-in-NP c =
     let read : c.index-boxes-box_no.result ≡ box_at boxes box_no = get_or_read boxes box_no c.index-boxes-box_no.result c.requires.in_range c.index-boxes-box_no.is no_box in
     let at : layer_at boxes box_no ≡ NP = sym (ap (λ (m : MaskBox). m.layer) read) ∙ c.in-NP.is in
     let is : query ≡ over_query (area_at boxes box_no) box_no = c.near-over.ensures.is ∙ ap (λ (m : MaskBox). over_query m.area box_no) read in
-    let R : List Placed → Type 0 = λ ps. IsGroveReached (IsBuriedOf tech boxes ps box_no spots query) c.args.net search.under c.reach_buried.new.grove search.front c.reach_buried.new.front in
     on_ok_weaker c.reach_buried.result
     (λ r. step_under tech boxes pieces (IsBuriedOf tech boxes pieces box_no spots query) (IsPartner tech boxes pieces box_no) c.args.net search c.reach_buried.new.grove c.reach_buried.new.front
-    (partners_forth tech boxes pieces ND box_no spots query c.requires.search.under.shows) (partners_back tech boxes pieces NP ND box_no spots query (inl (refl, refl)) at is c.requires.search.under.shows) c.requires.search
-    (subst R c.as_slice-placed.ensures.value r))
+    (partners_forth tech boxes pieces ND box_no spots query c.requires.search.under.shows) (partners_back tech boxes pieces NP ND box_no spots query (inl (refl, refl)) at is c.requires.search.under.shows) c.requires.search r)
     c.reach_buried.ensures
 
 pub reach_buried-requires-in-ND : goal.reach_buried-requires-in-ND
 reach_buried-requires-in-ND c =
-    let boxes = c.args.boxes.now in
-    let pieces = c.args.pieces.now.placed.items in
-    let grove = c.args.search.now.over in
-    let T : List Placed → Type 0 = λ ps. AreTagsWithin (length ps) grove.parts.spots.items in
+    let ground = c.args.ground.now in
     record {
-      searchable = c.requires.searchable;
-      windows = c.requires.windows;
-      placed = all_of_boxes boxes c.args.pieces.now.crossings.items pieces c.as_slice-placed.result.now c.args.pieces.now.starts.items c.as_slice-placed.ensures.value c.requires.pieces;
+      ground = c.requires.ground;
       box_no = c.requires.in_range;
       grove = c.requires.search.over.stands;
-      tags = subst T (sym c.as_slice-placed.ensures.value) (box_tags c.args.tech.now boxes pieces NP grove.parts.spots.items c.requires.search.over.shows);
+      tags = box_tags ground.tech.now ground.boxes.now ground.pieces.now.placed.items NP c.args.search.now.over.parts.spots.items c.requires.search.over.shows;
       query = c.near-over.ensures.query;
     }
 
 pub returns-in-ND : goal.returns-in-ND
 returns-in-ND c =
-    let tech = c.args.tech.now in
-    let boxes = c.args.boxes.now in
-    let pieces = c.args.pieces.now.placed.items in
+    let tech = c.args.ground.now.tech.now in
+    let boxes = c.args.ground.now.boxes.now in
+    let pieces = c.args.ground.now.pieces.now.placed.items in
     let box_no = c.args.box_no in
     let search = c.args.search.now in
     let spots = search.over.parts.spots.items in
@@ -77,16 +64,14 @@ returns-in-ND c =
     let read : c.index-boxes-box_no.result ≡ box_at boxes box_no = get_or_read boxes box_no c.index-boxes-box_no.result c.requires.in_range c.index-boxes-box_no.is no_box in
     let at : layer_at boxes box_no ≡ ND = sym (ap (λ (m : MaskBox). m.layer) read) ∙ c.in-ND.is in
     let is : query ≡ over_query (area_at boxes box_no) box_no = c.near-over.ensures.is ∙ ap (λ (m : MaskBox). over_query m.area box_no) read in
-    let R : List Placed → Type 0 = λ ps. IsGroveReached (IsBuriedOf tech boxes ps box_no spots query) c.args.net search.over c.reach_buried-in-ND.new.grove search.front c.reach_buried-in-ND.new.front in
     on_ok_weaker c.reach_buried-in-ND.result
     (λ r. step_over tech boxes pieces (IsBuriedOf tech boxes pieces box_no spots query) (IsPartner tech boxes pieces box_no) c.args.net search c.reach_buried-in-ND.new.grove c.reach_buried-in-ND.new.front
-    (partners_forth tech boxes pieces NP box_no spots query c.requires.search.over.shows) (partners_back tech boxes pieces ND NP box_no spots query (inr (refl, refl)) at is c.requires.search.over.shows) c.requires.search
-    (subst R c.as_slice-placed.ensures.value r))
+    (partners_forth tech boxes pieces NP box_no spots query c.requires.search.over.shows) (partners_back tech boxes pieces ND NP box_no spots query (inr (refl, refl)) at is c.requires.search.over.shows) c.requires.search r)
     c.reach_buried-in-ND.ensures
 
 pub returns-in-NM : goal.returns-in-NM
 returns-in-NM c =
-    let boxes = c.args.boxes.now in
+    let boxes = c.args.ground.now.boxes.now in
     let box_no = c.args.box_no in
     let read : c.index-boxes-box_no.result ≡ box_at boxes box_no = get_or_read boxes box_no c.index-boxes-box_no.result c.requires.in_range c.index-boxes-box_no.is no_box in
     let layer : layer_at boxes box_no ≡ c.index-boxes-box_no.result.layer = sym (ap (λ (m : MaskBox). m.layer) read) in
@@ -96,5 +81,5 @@ returns-in-NM c =
       | inr (inr (inl e)) ↦ (λ f. (cc), λ f. (cc))
       | inr (inr (inr e)) ↦ (λ f. (cc), λ f. (cc))
     ] in
-    step_none c.args.tech.now boxes c.args.pieces.now.placed.items (IsPartner c.args.tech.now boxes c.args.pieces.now.placed.items box_no) c.args.net c.args.search.now
-    (no_partner c.args.tech.now boxes c.args.pieces.now.placed.items box_no neither.0 neither.1) c.requires.search
+    step_none c.args.ground.now.tech.now boxes c.args.ground.now.pieces.now.placed.items (IsPartner c.args.ground.now.tech.now boxes c.args.ground.now.pieces.now.placed.items box_no) c.args.net c.args.search.now
+    (no_partner c.args.ground.now.tech.now boxes c.args.ground.now.pieces.now.placed.items box_no neither.0 neither.1) c.requires.search

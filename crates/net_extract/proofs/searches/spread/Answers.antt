@@ -2,7 +2,8 @@ use Rattle.std.proofs.Common.{arith, ◌≡◌, ℕ, ◌<◌, length, get_or, sy
 use Rattle.std.proofs.lemmas.List.{get_or_read, Elements.Contains-get_or}
 use Rattle.graph_search.specs.Search.{AreReached}
 use Rattle.graph_search.proofs.Spreading.{IsSpreading, spreading_begun, spreading_more, spreading_done}
-use Rattle.net_extract.{specs.Linking.{AreBeside, IsNode}, proofs.{Nodes.reached_node, Searched.search_kept}}
+use Rattle.net_extract.specs.{Linking.{AreBeside, IsNode}, Grounds.AreBesideOn}
+use Rattle.net_extract.proofs.{Nodes.reached_node, Searched.search_kept}
 use Rattle.net_extract.proofs.searches.spread.Goals as goal
 
 pub begin-requires : goal.begin-requires
@@ -13,9 +14,9 @@ begin-requires c =
 
 pub loop-passed-init : goal.loop-passed-init
 loop-passed-init c =
-    let tech = c.args.tech.now in
-    let boxes = c.args.boxes.now in
-    let pieces = c.args.pieces.now.placed.items in
+    let tech = c.args.ground.now.tech.now in
+    let boxes = c.args.ground.now.boxes.now in
+    let pieces = c.args.ground.now.pieces.now.placed.items in
     let old = c.args.search.now.front.marks.items in
     let new = c.begin.new.front in
     let begun : IsSpreading (AreBeside tech boxes pieces) c.args.start c.args.net old new.marks.items new.queue.items 0 =
@@ -24,18 +25,16 @@ loop-passed-init c =
 
 pub visit_node-requires : goal.visit_node-requires
 visit_node-requires c =
-    let tech = c.args.tech.now in
-    let boxes = c.args.boxes.now in
-    let pieces = c.args.pieces.now.placed.items in
+    let tech = c.args.ground.now.tech.now in
+    let boxes = c.args.ground.now.boxes.now in
+    let pieces = c.args.ground.now.pieces.now.placed.items in
     let queue = c.loop-passed.search.front.queue.items in
     let n = c.len.ensures in
     let lt : c.loop-passed.passed < length queue = omega arith in
     let read : c.index-node.result.now ≡ get_or queue c.loop-passed.passed 0 = get_or_read queue c.loop-passed.passed c.index-node.result.now lt c.index-node.ensures 0 in
     let P : ℕ → Type 0 = IsNode boxes pieces in
     record {
-      searchable = c.requires.searchable;
-      windows = c.requires.windows;
-      pieces = c.requires.pieces;
+      ground = c.requires.ground;
       search = c.loop-passed.invariant.search;
       node = subst P (sym read)
           (reached_node tech boxes pieces c.args.start (get_or queue c.loop-passed.passed 0) c.requires.in_range (c.loop-passed.invariant.spreading.queued (get_or queue c.loop-passed.passed 0) (Contains-get_or queue c.loop-passed.passed 0 lt)).2);
@@ -43,9 +42,9 @@ visit_node-requires c =
 
 pub loop-passed-preserved : goal.loop-passed-preserved
 loop-passed-preserved c =
-    let tech = c.args.tech.now in
-    let boxes = c.args.boxes.now in
-    let pieces = c.args.pieces.now.placed.items in
+    let tech = c.args.ground.now.tech.now in
+    let boxes = c.args.ground.now.boxes.now in
+    let pieces = c.args.ground.now.pieces.now.placed.items in
     let front = c.loop-passed.search.front in
     let new = c.visit_node.new.search.front in
     let queue = front.queue.items in
@@ -71,5 +70,5 @@ pub returns-clause-spread : goal.returns-clause-spread
 returns-clause-spread c =
     let n = c.len.ensures in
     let past = c.loop-passed-test.false in
-    spreading_done (AreBeside c.args.tech.now c.args.boxes.now c.args.pieces.now.placed.items) c.args.start c.args.net c.args.search.now.front.marks.items c.loop-passed.search.front.marks.items c.loop-passed.search.front.queue.items
+    spreading_done (AreBesideOn c.args.ground.now) c.args.start c.args.net c.args.search.now.front.marks.items c.loop-passed.search.front.marks.items c.loop-passed.search.front.queue.items
     c.loop-passed.passed (omega arith) c.loop-passed.invariant.spreading

@@ -13,23 +13,23 @@ use Rattle.net_extract.proofs.searches.visit_cut.Goals as goal
 
 pub near-over-requires : goal.near-over-requires
 near-over-requires c =
-    let boxes = c.args.boxes.now in
+    let boxes = c.args.ground.now.boxes.now in
     let cut = c.args.cut in
     let among : cut < length boxes = c.requires.joining.2.is_cut.among in
     let P : MaskBox → Type 0 = λ m. IsPlacedBox m.area in
-    subst P (sym (get_or_default boxes cut c.index-boxes-cut.result no_box among)) (c.requires.searchable.placed cut no_box among)
+    subst P (sym (get_or_default boxes cut c.index-ground-cut.result no_box among)) (c.requires.ground.searchable.placed cut no_box among)
 
 pub returns : goal.returns
 returns c =
-    let boxes = c.args.boxes.now in
+    let boxes = c.args.ground.now.boxes.now in
     let cut = c.args.cut in
     let among : cut < length boxes = c.requires.joining.2.is_cut.among in
-    let area : (get_or boxes cut c.index-boxes-cut.result).area ≡ area_at boxes cut = ap (λ (m : MaskBox). m.area) (get_or_default boxes cut c.index-boxes-cut.result no_box among) in
-    let tech = c.args.tech.now in
-    let pieces = c.args.pieces.now.placed.items in
+    let area : (get_or boxes cut c.index-ground-cut.result).area ≡ area_at boxes cut = ap (λ (m : MaskBox). m.area) (get_or_default boxes cut c.index-ground-cut.result no_box among) in
+    let tech = c.args.ground.now.tech.now in
+    let pieces = c.args.ground.now.pieces.now.placed.items in
     let net = c.args.net in
-    let crossings = c.args.pieces.now.crossings.items in
-    let starts = c.args.pieces.now.starts.items in
+    let crossings = c.args.ground.now.pieces.now.crossings.items in
+    let starts = c.args.ground.now.pieces.now.starts.items in
     let query = over_query (area_at boxes cut) cut in
     let is : c.near-over.result ≡ over_query (area_at boxes cut) cut = c.near-over.ensures.is ∙ ap (λ (s : BoxXY). over_query s cut) area in
     let F : MaskLayer → Search → Search → Query → Type 0 = λ layer old new q. IsStep tech boxes pieces (IsAnswer boxes pieces layer q) net old new in
@@ -37,7 +37,7 @@ returns c =
     let second = c.reach_pieces-2.new.search in
     let third = c.reach_pieces-3.new.search in
     step_three tech boxes pieces (IsAnswer boxes pieces ND query) (IsAnswer boxes pieces NP query) (IsAnswer boxes pieces NM query) (AreBeside tech boxes pieces (cut_node pieces cut)) net c.args.search.now first second third
-    (cut_forth tech boxes pieces cut c.requires.joining) (cut_back tech boxes crossings pieces starts cut c.requires.pieces c.requires.joining)
+    (cut_forth tech boxes pieces cut c.requires.joining) (cut_back tech boxes crossings pieces starts cut c.requires.ground.pieces c.requires.joining)
     (subst (F ND c.args.search.now first) is c.in_ok-reach_pieces.ensures) (subst (F NP first second) is c.in_ok-reach_pieces-2.ensures) (subst (F NM second third) is c.in_ok-reach_pieces-3.ensures)
 
 pub slice_bounds-nodes-end : goal.slice_bounds-nodes-end
@@ -46,7 +46,7 @@ slice_bounds-nodes-end c =
     let starts = lists.starts.items in
     let cut = c.args.cut in
     let l = c.requires.search.lists in
-    let among : cut < length c.args.boxes.now = c.requires.joining.2.is_cut.among in
+    let among : cut < length c.args.ground.now.boxes.now = c.requires.joining.2.is_cut.among in
     let counted = l.counted in
     let end : c.index-2.result.now ≡ get_or starts (cut + 1) 0 = get_or_read starts (cut + 1) c.index-2.result.now (omega arith) c.index-2.ensures 0 in
     let w = l.within (cut + 1) (omega arith) in
@@ -55,8 +55,8 @@ slice_bounds-nodes-end c =
 
 pub visit-requires : goal.visit-requires
 visit-requires c =
-    let boxes = c.args.boxes.now in
-    let pieces = c.args.pieces.now.placed.items in
+    let boxes = c.args.ground.now.boxes.now in
+    let pieces = c.args.ground.now.pieces.now.placed.items in
     let lists = c.args.search.now.lists in
     let starts = lists.starts.items in
     let cut = c.args.cut in
@@ -74,9 +74,9 @@ visit-requires c =
 
 pub returns-then-first-end : goal.returns-then-first-end
 returns-then-first-end c =
-    let tech = c.args.tech.now in
-    let boxes = c.args.boxes.now in
-    let pieces = c.args.pieces.now.placed.items in
+    let tech = c.args.ground.now.tech.now in
+    let boxes = c.args.ground.now.boxes.now in
+    let pieces = c.args.ground.now.pieces.now.placed.items in
     let search = c.args.search.now in
     let lists = search.lists in
     let starts = lists.starts.items in

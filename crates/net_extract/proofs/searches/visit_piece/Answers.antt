@@ -10,52 +10,50 @@ use Rattle.net_extract.proofs.searches.visit_piece.Goals as goal
 
 pub near-touching-requires : goal.near-touching-requires
 near-touching-requires c =
-    let pieces = c.args.pieces.now in
+    let pieces = c.args.ground.now.pieces.now in
     let P : Placed → Type 0 = λ p. IsPlacedBox p.area in
     subst P (sym (piece_read pieces.placed.items c.args.a c.index.result.now c.requires.in_range c.index.ensures))
-    (piece_placed c.args.boxes.now pieces.crossings.items pieces.placed.items pieces.starts.items c.args.a c.requires.searchable c.requires.pieces c.requires.in_range)
+    (piece_placed c.args.ground.now.boxes.now pieces.crossings.items pieces.placed.items pieces.starts.items c.args.a c.requires.ground.searchable c.requires.ground.pieces c.requires.in_range)
 
 pub reach_pieces-requires-clause-conducts : goal.reach_pieces-requires-clause-conducts
 reach_pieces-requires-clause-conducts c =
-    let boxes = c.args.boxes.now in
-    let pieces = c.args.pieces.now.placed.items in
+    let boxes = c.args.ground.now.boxes.now in
+    let pieces = c.args.ground.now.pieces.now.placed.items in
     let a = c.args.a in
     let piece : Placed = c.index.result.now in
     let is : piece ≡ piece_at pieces a = piece_read pieces a piece c.requires.in_range c.index.ensures in
-    let own : get_or boxes piece.box_no c.index-boxes-piece.result ≡ box_at boxes (box_of pieces a) =
-    box_read boxes pieces a piece c.index-boxes-piece.result is (in_boxes boxes c.args.pieces.now.crossings.items pieces c.args.pieces.now.starts.items a piece c.requires.pieces c.requires.in_range is) in
+    let own : get_or boxes piece.box_no c.index-ground-piece.result ≡ box_at boxes (box_of pieces a) =
+    box_read boxes pieces a piece c.index-ground-piece.result is (in_boxes boxes c.args.ground.now.pieces.now.crossings.items pieces c.args.ground.now.pieces.now.starts.items a piece c.requires.ground.pieces c.requires.in_range is) in
     let C : MaskBox → Type 0 = λ m. Conducts m.layer in
-    subst C (sym own) (c.requires.pieces.each a no_piece c.requires.in_range).conducts
+    subst C (sym own) (c.requires.ground.pieces.each a no_piece c.requires.in_range).conducts
 
 pub reach_partners-requires : goal.reach_partners-requires
 reach_partners-requires c =
-    let boxes = c.args.boxes.now in
-    let pieces = c.args.pieces.now.placed.items in
+    let boxes = c.args.ground.now.boxes.now in
+    let pieces = c.args.ground.now.pieces.now.placed.items in
     let a = c.args.a in
     let piece : Placed = c.index.result.now in
     let is : piece ≡ piece_at pieces a = piece_read pieces a piece c.requires.in_range c.index.ensures in
     record {
-      searchable = c.requires.searchable;
-      windows = c.requires.windows;
-      pieces = c.requires.pieces;
+      ground = c.requires.ground;
       search = c.in_ok-reach_cuts.ensures.search;
-      in_range = in_boxes boxes c.args.pieces.now.crossings.items pieces c.args.pieces.now.starts.items a piece c.requires.pieces c.requires.in_range is;
+      in_range = in_boxes boxes c.args.ground.now.pieces.now.crossings.items pieces c.args.ground.now.pieces.now.starts.items a piece c.requires.ground.pieces c.requires.in_range is;
     }
 
 pub returns : goal.returns
 returns c =
-    let boxes = c.args.boxes.now in
-    let pieces = c.args.pieces.now.placed.items in
+    let boxes = c.args.ground.now.boxes.now in
+    let pieces = c.args.ground.now.pieces.now.placed.items in
     let a = c.args.a in
     let piece : Placed = c.index.result.now in
     let is : piece ≡ piece_at pieces a = piece_read pieces a piece c.requires.in_range c.index.ensures in
-    let tech = c.args.tech.now in
+    let tech = c.args.ground.now.tech.now in
     let net = c.args.net in
-    let crossings = c.args.pieces.now.crossings.items in
-    let starts = c.args.pieces.now.starts.items in
+    let crossings = c.args.ground.now.pieces.now.crossings.items in
+    let starts = c.args.ground.now.pieces.now.starts.items in
     let first = c.reach_pieces.new.search in
     let second = c.reach_cuts.new.search in
-    let own : get_or boxes piece.box_no c.index-boxes-piece.result ≡ box_at boxes (box_of pieces a) = box_read boxes pieces a piece c.index-boxes-piece.result is (in_boxes boxes crossings pieces starts a piece c.requires.pieces c.requires.in_range is) in
+    let own : get_or boxes piece.box_no c.index-ground-piece.result ≡ box_at boxes (box_of pieces a) = box_read boxes pieces a piece c.index-ground-piece.result is (in_boxes boxes crossings pieces starts a piece c.requires.ground.pieces c.requires.in_range is) in
     let L : MaskLayer → Type 0 = λ layer. IsStep tech boxes pieces (IsAnswer boxes pieces layer c.near-touching.result) net c.args.search.now first in
     let Q : Query → Type 0 = λ query. IsStep tech boxes pieces (IsAnswer boxes pieces (layer_at boxes (box_of pieces a)) query) net c.args.search.now first in
     let touching : IsStep tech boxes pieces (IsAnswer boxes pieces (layer_at boxes (box_of pieces a)) (touch_query (area_of pieces a) (box_of pieces a))) net c.args.search.now first =

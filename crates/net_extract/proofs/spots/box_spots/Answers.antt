@@ -13,18 +13,18 @@ use Rattle.net_extract.proofs.spots.box_spots.Goals as goal
 
 pub loop-a-preserved : goal.loop-a-preserved
 loop-a-preserved c =
-    let tech = c.args.tech.now in
-    let boxes = c.args.boxes.now in
-    let pieces = c.args.pieces.now.placed.items in
+    let tech = c.args.ground.now.tech.now in
+    let boxes = c.args.ground.now.boxes.now in
+    let pieces = c.args.ground.now.pieces.now.placed.items in
     let layer = c.args.layer in
     let a = c.loop-a.a in
     let n = c.len-a-end.ensures in
     let t = c.loop-a-test.true in
-    let lt : a < length pieces = omega (arith, c.args.pieces.now.placed.ok.0) in
+    let lt : a < length pieces = omega (arith, c.args.ground.now.pieces.now.placed.ok.0) in
     let piece = c.index.result.now in
     let is = piece_read pieces a piece lt c.index.ensures in
     let read : MaskBox = c.index-boxes-owner.result in
-    let own = c.index-boxes-owner.is ∙ box_read boxes pieces a piece c.index-boxes-owner.result is (in_boxes boxes c.args.pieces.now.crossings.items pieces c.args.pieces.now.starts.items a piece c.requires.pieces lt is) in
+    let own = c.index-boxes-owner.is ∙ box_read boxes pieces a piece c.index-boxes-owner.result is (in_boxes boxes c.args.ground.now.pieces.now.crossings.items pieces c.args.ground.now.pieces.now.starts.items a piece c.requires.pieces lt is) in
     let at : read.layer ≡ layer_at boxes (box_of pieces a) = ap (λ (m : MaskBox). m.layer) own in
     let P : List Spot → Type 0 = λ xs. AreSpots (a + 1) (MayBeBuried tech boxes pieces layer) (box_spot boxes pieces) xs in
     elim c.if-has_buried.branch [

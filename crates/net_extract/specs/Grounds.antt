@@ -1,0 +1,24 @@
+-- What a search for nets goes over, and the search on it.
+use Rattle.std.specs.Prelude.{ℕ, List}
+use Rattle.lam_geom.specs.declared.boxes.MaskLayer.TheVariants.{NB}
+use Rattle.crossings.specs.{Boxes.AreSearchable, Spots.AreBoxesOn}
+use Rattle.net_extract.specs.declared.{ground.Ground.Ground, placing.Placed.Placed, searches.Search.Search}
+use Rattle.net_extract.specs.{Linking.AreBeside, Pieces.ArePiecesOf, Spreading.{IsSearch, IsStep}}
+
+-- The boxes can be searched, the tree is that of their windows, and the pieces are theirs.
+pub record IsGround (g : Ground) : Type 0 where
+  pub searchable : AreSearchable g.boxes.now
+  pub windows : AreBoxesOn g.boxes.now NB g.windows.now
+  pub pieces : ArePiecesOf g.boxes.now g.pieces.now
+
+abbrev pub placed_on : Ground → List Placed
+placed_on g = g.pieces.now.placed.items
+
+abbrev pub AreBesideOn : Ground → ℕ → ℕ → Type 0
+AreBesideOn g = AreBeside g.tech.now g.boxes.now (placed_on g)
+
+abbrev pub IsSearchOn : Ground → Search → Type 0
+IsSearchOn g = IsSearch g.tech.now g.boxes.now (placed_on g)
+
+abbrev pub IsStepOn : Ground → (ℕ → Type 0) → ℕ → Search → Search → Type 0
+IsStepOn g = IsStep g.tech.now g.boxes.now (placed_on g)
